@@ -1,0 +1,64 @@
+//! The exact numbers of the definitions: fractions of whole numbers in lowest terms, finite sums of
+//! them, floors and ceilings. Nothing here runs: each law is the contract of a function with an empty
+//! body, and the crates above cite its lemmas.
+#![tactic(auto)]
+
+ghost use Rattle.std.specs.Prelude.{◌≡◌, ◌⊎◌, ℕ, suc, ◌+◌, ◌*◌, ◌/◌, ◌<◌, ◌≤◌};
+ghost use Rattle.std.specs.Int.{div_ceil};
+ghost use Rattle.dl_exact.specs.Fraction.{Fraction, whole, ◌over◌, ◌+ℚ◌, ◌-ℚ◌, ◌*ℚ◌, ◌/ℚ◌, ◌≤ℚ◌, ◌<ℚ◌};
+ghost use Rattle.dl_exact.specs.Rounding.{IsFloor, IsCeiling};
+ghost use Rattle.dl_exact.specs.Sum.{sum_to, sum_pairs};
+
+/// The parts of `n` over `d` stand to each other as `n` and `d` do.
+pub fn law_over()
+    ensures { (n d : ℕ) → 0 < d → (n over d).num * d ≡ n * (n over d).den }
+{}
+
+/// Fractions that are equal by cross multiplication are one.
+pub fn law_equal()
+    ensures { (n d m e : ℕ) → 0 < d → 0 < e → n * e ≡ m * d → n over d ≡ m over e }
+{}
+
+/// Sums and products are free of order and brackets, and a product goes over a sum.
+pub fn law_sums_and_products()
+    ensures plus_comm { (x y : Fraction) → x +ℚ y ≡ y +ℚ x }
+    ensures plus_assoc { (x y z : Fraction) → x +ℚ y +ℚ z ≡ x +ℚ (y +ℚ z) }
+    ensures times_comm { (x y : Fraction) → x *ℚ y ≡ y *ℚ x }
+    ensures times_assoc { (x y z : Fraction) → x *ℚ y *ℚ z ≡ x *ℚ (y *ℚ z) }
+    ensures times_plus { (x y z : Fraction) → x *ℚ (y +ℚ z) ≡ x *ℚ y +ℚ x *ℚ z }
+    ensures plus_zero { (x : Fraction) → x +ℚ whole 0 ≡ x }
+    ensures times_one { (x : Fraction) → x *ℚ whole 1 ≡ x }
+{}
+
+/// What was taken off comes back by a sum, and what was divided off by a product.
+pub fn law_back()
+    ensures minus { (x y : Fraction) → y ≤ℚ x → x -ℚ y +ℚ y ≡ x }
+    ensures divided { (x y : Fraction) → whole 0 <ℚ y → x /ℚ y *ℚ y ≡ x }
+{}
+
+/// The order is one of a line, and sums and products keep it.
+pub fn law_order()
+    ensures decided { (x y : Fraction) → (x <ℚ y) ⊎ (y ≤ℚ x) }
+    ensures both_ways { (x y : Fraction) → x ≤ℚ y → y ≤ℚ x → x ≡ y }
+    ensures chain { (x y z : Fraction) → x ≤ℚ y → y ≤ℚ z → x ≤ℚ z }
+    ensures plus { (x y z : Fraction) → x ≤ℚ y → x +ℚ z ≤ℚ y +ℚ z }
+    ensures times { (x y z : Fraction) → x ≤ℚ y → x *ℚ z ≤ℚ y *ℚ z }
+{}
+
+/// A quotient of whole numbers rounded down is the floor of their fraction, and rounded up its ceiling.
+pub fn law_rounding()
+    ensures down { (n d : ℕ) → 0 < d → IsFloor (n over d) (n / d) }
+    ensures up { (n d : ℕ) → 0 < d → IsCeiling (n over d) (div_ceil n d) }
+{}
+
+/// Two finite sums, one inside the other, may change places.
+pub fn law_sum_swap()
+    ensures { (n m : ℕ) (f : ℕ → ℕ → Fraction) → sum_to n (λ i. sum_to m (λ j. f i j)) ≡ sum_to m (λ j. sum_to n (λ i. f i j)) }
+{}
+
+/// A sum over the pairs that add up to `n` may be taken from either end, and in three parts in either order.
+pub fn law_pairs()
+    ensures turn { (n : ℕ) (f : ℕ → ℕ → Fraction) → sum_pairs n (λ i j. f j i) ≡ sum_pairs n f }
+    ensures three { (n : ℕ) (f : ℕ → ℕ → ℕ → Fraction)
+        → sum_pairs n (λ i j. sum_pairs i (λ k l. f k l j)) ≡ sum_pairs n (λ k m. sum_pairs m (λ l j. f k l j)) }
+{}
