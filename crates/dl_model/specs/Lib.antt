@@ -1,0 +1,4 @@
+pub mod Series
+pub mod Compound
+pub mod Listed
+pub mod Program
