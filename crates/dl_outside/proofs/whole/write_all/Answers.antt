@@ -1,0 +1,27 @@
+use Rattle.std.proofs.Common.{◌≡◌, ℕ, ◌+◌, ◌-◌, length, List, take, drop, arith, Option, None, Some, take-add, append_assoc, length-drop}
+use Rattle.std.specs.Io.KnownBytes.{Appends}
+use Rattle.std.proofs.lemmas.List.{take_all}
+use Rattle.dl_outside.proofs.whole.write_all.Goals as goal
+
+-- two pieces that follow each other are one
+Appends-take : (before mid after : Option (List ℕ)) (xs : List ℕ) (i n : ℕ)
+    → Appends before mid (take i xs) → Appends mid after (take n (drop i xs)) → Appends before after (take (i + n) xs)
+Appends-take None mid after xs i n p q = tt
+Appends-take (Some a) None after xs i n p q = absurd p
+Appends-take (Some a) (Some b) None xs i n p q = absurd q
+Appends-take (Some a) (Some b) (Some c) xs i n p q = rw (q, p, take-add i n xs) (append_assoc a (take i xs) (take n (drop i xs)))
+
+-- `&xs[i..]` is what follows
+rest_of : (xs : List ℕ) (i : ℕ) → take (length xs - i) (drop i xs) ≡ drop i xs
+rest_of xs i = take_all _ _ (omega (arith, length-drop i xs))
+
+pub writing-preserved : goal.writing-preserved
+writing-preserved g c =
+    let piece = rw (rest_of c.args.bytes.now c.writing.done) at c.in-Ok.ensures.bytes in
+    let bound = rw (rest_of c.args.bytes.now c.writing.done) at c.in-Ok.ensures.bound in
+    record {
+      within = omega (arith, length-drop c.writing.done c.args.bytes.now);
+      written = Appends-take _ _ _ c.args.bytes.now c.writing.done c.in-Ok.count c.writing.invariant.written piece;
+      unused = λ none. absurd (omega arith);
+      later = omega (arith, c.in-Ok.ensures.later);
+    }

@@ -1,0 +1,15 @@
+-- What was written so far.
+use Rattle.std.proofs.Common.{◌≡◌, ◌-◌, ◌≤◌, length, take}
+use Rattle.std.specs.Io.KnownBytes.{Appends}
+use Rattle.dl_outside.proofs.whole.write_all.Given as goal
+
+abbrev pub invariant-writing : goal.invariant-writing
+invariant-writing g l = record {
+  within : l.done ≤ length l.bytes;
+  written : Appends (g.K.Sink.held l.fn.sink) (g.K.Sink.held l.sink) (take l.done l.bytes);
+  unused : length l.bytes ≡ 0 → l.sink ≡ l.fn.sink;
+  later : g.K.Sink.faults l.fn.sink ≤ g.K.Sink.faults l.sink;
+}
+
+abbrev pub decreases-writing : goal.decreases-writing
+decreases-writing g l = length l.bytes - l.done

@@ -1,0 +1,73 @@
+//! Where bytes come from and where they go to.
+//!
+//! A [`Source`] is read and a [`Sink`] is written, a piece at a time, and either may fail. Each has a
+//! count of faults, which shows that a failure had its cause, and may tell its bytes. [`read_all`] and
+//! [`write_all`] are all that the rest of the program uses. Over memory stand [`MemSource`],
+//! [`SteadySource`] and [`MemSink`], for callers without an operating system and for tests;
+//! [`StdSource`] and [`StdSink`] stand over std's readers and writers.
+#![tactic(auto)]
+
+mod drop_sink;
+mod memory;
+mod schedule;
+mod system;
+mod whole;
+
+ghost use Rattle.std.specs.Prelude.{◌≡◌, ℕ, ◌≤◌, List, [], Option, OnErr};
+ghost use Rattle.std.specs.Io.{ReadsAtMost, WritesAtMost};
+ghost use Rattle.std.specs.Io.KnownBytes.{ReadConsumes, WriteAppends};
+ghost use Rattle.dl_outside.specs.Faults.{Rose};
+
+pub use drop_sink::DropSink;
+pub use memory::{MemSink, MemSource, SteadySource};
+pub use system::{StdSink, StdSource};
+use thiserror::Error;
+pub use whole::{ReadEnd, WriteFault, read_all, write_all};
+
+/// The answer of a read that failed.
+#[derive(Clone, Copy, Debug, PartialEq, Eq, Error)]
+#[error("the read failed")]
+pub struct ReadFailed;
+
+/// The answer of a write that failed.
+#[derive(Clone, Copy, Debug, PartialEq, Eq, Error)]
+#[error("the write failed")]
+pub struct WriteFailed;
+
+/// Where bytes come from.
+pub trait Source {
+    /// The bytes that are left, where the source tells them.
+    ghost left: { Self → Option (List ℕ) };
+
+    /// How many reads have failed. It clings to the greatest `u64`.
+    ghost faults: { Self → ℕ };
+
+    /// Puts the next bytes at the front of `buf`, and says how many.
+    ///
+    /// `Ok(0)` for a buffer with room is the end of the input. After an `Err` the bytes left are what
+    /// they were.
+    fn read(&mut self, buf: &mut [u8]) -> Result<usize, ReadFailed>
+        ensures bound { ReadsAtMost result buf.new }
+        ensures bytes { ReadConsumes (left self.old) (left self.new) result buf.new }
+        ensures later { faults self.old ≤ faults self.new }
+        ensures cause { OnErr result (Rose (faults self.old) (faults self.new)) };
+}
+
+/// Where bytes go to.
+pub trait Sink {
+    /// The bytes that it holds, where the sink tells them.
+    ghost held: { Self → Option (List ℕ) };
+
+    /// How many writes have failed. It clings to the greatest `u64`.
+    ghost faults: { Self → ℕ };
+
+    /// Appends the first bytes of `piece`, and says how many: none only of an empty piece.
+    ///
+    /// After an `Err` nothing was appended.
+    fn write(&mut self, piece: &[u8]) -> Result<usize, WriteFailed>
+        ensures bound { WritesAtMost result piece.now }
+        ensures progress { result ≡ Ok 0 → piece.now ≡ [] }
+        ensures bytes { WriteAppends (held self.old) (held self.new) result piece.now }
+        ensures later { faults self.old ≤ faults self.new }
+        ensures cause { OnErr result (Rose (faults self.old) (faults self.new)) };
+}
