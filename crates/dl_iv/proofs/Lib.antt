@@ -1,0 +1,5 @@
+pub mod FractionLaws
+pub mod Rounding
+pub mod Operations
+pub mod Lesser
+pub mod SumLaws

@@ -1,0 +1,9 @@
+use Rattle.std.proofs.lemmas.Nat.{pow_pos}
+use Rattle.dl_iv.proofs.Lesser.{clamp_low, clamp_high}
+use Rattle.dl_iv.proofs.interval.Iv.clamp_to.Goals as goal
+
+pub returns-clause-holds : goal.returns-clause-holds
+returns-clause-holds g c x p = record {
+  low = rw c.min.ensures (clamp_low _ _ _ x (pow_pos g.row.B) p.low);
+  high = rw c.min-2.ensures (clamp_high _ _ _ x (pow_pos g.row.B) p.high);
+}

@@ -1,0 +1,64 @@
+use Rattle.std.proofs.Common.{◌≡◌, ℕ, ◌+◌, ◌*◌, ◌/◌, ◌%◌, ◌^◌, ◌<◌, ◌≤◌, arith, sym, subst}
+use Rattle.std.proofs.Math.Nat.{mul-le-mul_right, div-le_of_le-mul, le_refl, one-le-pow}
+use Rattle.std.specs.Int.{div_ceil}
+use Rattle.std.proofs.lemmas.Nat.{pow_pos}
+use Rattle.dl_exact.specs.Fraction.{Fraction, ◌over◌, ◌≤ℚ◌}
+use Rattle.dl_exact.proofs.RoundingLaws.{div_ceil_least}
+use Rattle.dl_iv.proofs.Rounding.{two_le, floor_by_step, ceiling_by_step}
+use Rattle.dl_iv.proofs.Operations.{print_low, print_high}
+use Rattle.dl_iv.proofs.interval.Iv.print_ends.Goals as goal
+
+ten_pos : (k : ℕ) → 0 < 10 ^ k
+ten_pos k = one-le-pow k 10 (omega arith)
+
+-- the numbers that the code makes are within the bound
+low_fits : (lo hi one f : ℕ) → 0 < one → lo ≤ hi → hi * f ≤ 2 ^ 127 * one → lo / one * f + lo % one * f / one ≤ 2 ^ 127
+low_fits lo hi one f h below fits =
+    rw (← floor_by_step lo one f h) (div-le_of_le-mul one (omega (arith, mul-le-mul_right f below)))
+
+high_fits : (hi one f r : ℕ) → 0 < one → r ≡ div_ceil (hi % one * f) one → hi * f ≤ 2 ^ 127 * one → hi / one * f + r ≤ 2 ^ 127
+high_fits hi one f r h e fits = rw (e, ← ceiling_by_step hi one f h) (div_ceil_least _ _ (2 ^ 127) h fits)
+
+pub overflow_add-result : goal.overflow_add-result
+overflow_add-result g c =
+    let two : 2 ≤ c.units_of_one-one.result = two_le g.row.B _ c.args.self.scale_above c.units_of_one-one.ensures in
+    let fits : c.args.self.hi * c.pow-factor.result ≤ 2 ^ 127 * c.units_of_one-one.result = rw (c.units_of_one-one.ensures, c.pow-factor.ensures) c.requires.fits in
+    omega (arith, low_fits _ _ _ _ (omega arith) c.args.self.ordered fits)
+
+pub overflow_mul-result : goal.overflow_mul-result
+overflow_mul-result g c =
+    let two : 2 ≤ c.units_of_one-one.result = two_le g.row.B _ c.args.self.scale_above c.units_of_one-one.ensures in
+    let fits : c.args.self.hi * c.pow-factor.result ≤ 2 ^ 127 * c.units_of_one-one.result = rw (c.units_of_one-one.ensures, c.pow-factor.ensures) c.requires.fits in
+    omega (arith, low_fits _ _ _ _ (omega arith) c.args.self.ordered fits)
+
+pub overflow_mul-result-2 : goal.overflow_mul-result-2
+overflow_mul-result-2 g c =
+    let two : 2 ≤ c.units_of_one-one.result = two_le g.row.B _ c.args.self.scale_above c.units_of_one-one.ensures in
+    let fits : c.args.self.hi * c.pow-factor.result ≤ 2 ^ 127 * c.units_of_one-one.result = rw (c.units_of_one-one.ensures, c.pow-factor.ensures) c.requires.fits in
+    omega (arith, high_fits _ _ _ _ (omega arith) c.div_ceil-high.ensures fits)
+
+pub overflow_add-result-2 : goal.overflow_add-result-2
+overflow_add-result-2 g c =
+    let two : 2 ≤ c.units_of_one-one.result = two_le g.row.B _ c.args.self.scale_above c.units_of_one-one.ensures in
+    let fits : c.args.self.hi * c.pow-factor.result ≤ 2 ^ 127 * c.units_of_one-one.result = rw (c.units_of_one-one.ensures, c.pow-factor.ensures) c.requires.fits in
+    omega (arith, high_fits _ _ _ _ (omega arith) c.div_ceil-high.ensures fits)
+
+pub returns-clause-low : goal.returns-clause-low
+returns-clause-low g c =
+    rw (← c.units_of_one-one.ensures, ← c.pow-factor.ensures)
+    (sym (floor_by_step _ _ _ (rw c.units_of_one-one.ensures (pow_pos g.row.B))))
+
+pub returns-clause-high : goal.returns-clause-high
+returns-clause-high g c =
+    rw (c.div_ceil-high.ensures, ← c.units_of_one-one.ensures, ← c.pow-factor.ensures)
+    (sym (ceiling_by_step _ _ _ (rw c.units_of_one-one.ensures (pow_pos g.row.B))))
+
+pub returns-clause-below : goal.returns-clause-below
+returns-clause-below g c x p =
+    subst (λ n. n over 10 ^ c.args.digits ≤ℚ x) (sym (returns-clause-low g c))
+    (print_low _ (pow_pos g.row.B) _ _ x (ten_pos c.args.digits) p.low)
+
+pub returns-clause-above : goal.returns-clause-above
+returns-clause-above g c x p =
+    subst (λ n. x ≤ℚ n over 10 ^ c.args.digits) (sym (returns-clause-high g c))
+    (print_high _ (pow_pos g.row.B) _ _ x (ten_pos c.args.digits) p.high)

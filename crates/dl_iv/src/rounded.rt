@@ -1,0 +1,100 @@
+ghost use Rattle.std.specs.Prelude.{◌≡◌, ℕ, ◌*◌, ◌/◌, ◌^◌, ◌<◌, ◌≤◌};
+ghost use Rattle.std.specs.Int.{div_ceil};
+ghost use Rattle.dl_exact.specs.Fraction.{Fraction, ◌over◌, ◌*ℚ◌, ◌/ℚ◌, ◌≤ℚ◌};
+ghost use Rattle.dl_iv.specs.Enclosure.{LiesIn};
+
+use crate::exact::units_of_one;
+use crate::interval::Iv;
+
+/// The floor of the first quotient, and the ceiling of the second.
+macro_rules! rounded_outward {
+    ($low:expr, $low_by:expr; $high:expr, $high_by:expr) => {
+        ($low / $low_by, ($high).div_ceil($high_by))
+    };
+}
+
+/// The operations whose ends are rounded: the low end down to a whole number of units, the high end up.
+impl<const B: u32> Iv<B> {
+    /// The number `num / den`.
+    pub fn enclose(num: u128, den: u128) -> Self
+        requires scale_above { 1 ≤ B }
+        requires scale_below { B ≤ 56 }
+        requires positive { 0 < den }
+        requires den { den < 2 ^ 80 }
+        requires num { num < 2 ^ 100 }
+        requires fits { div_ceil (2 ^ B * num) den ≤ 2 ^ 127 }
+        ensures low { result.lo ≡ 2 ^ B * num / den }
+        ensures high { result.hi ≡ div_ceil (2 ^ B * num) den }
+        ensures holds { LiesIn (num over den) result }
+    {
+        // long division, of which each half of the scale is one step: the whole product may pass 128 bits
+        let first = units_of_one(B / 2);
+        let second = units_of_one(B - B / 2);
+        let rest = num % den * first;
+        let above = (num / den * first + rest / den) * second;
+        let left = rest % den * second;
+        let (low, high) = rounded_outward!(left, den; left, den);
+        Iv {
+            lo: above + low,
+            hi: above + high,
+        }
+    }
+
+    /// The products of a value of each.
+    pub fn mul(self, o: Self) -> Self
+        requires product { self.hi * o.hi < 2 ^ 128 }
+        ensures low { result.lo ≡ self.entry.lo * o.entry.lo / 2 ^ B }
+        ensures high { result.hi ≡ div_ceil (self.entry.hi * o.entry.hi) (2 ^ B) }
+        ensures holds { (x y : Fraction) → LiesIn x self.entry → LiesIn y o.entry → LiesIn (x *ℚ y) result }
+    {
+        let one = units_of_one(B);
+        let (lo, hi) = rounded_outward!(self.lo * o.lo, one; self.hi * o.hi, one);
+        Iv { lo, hi }
+    }
+
+    /// The values times `num / den`.
+    pub fn scale(self, num: u64, den: u64) -> Self
+        requires positive { 0 < den }
+        requires product { self.hi * num < 2 ^ 128 }
+        requires fits { div_ceil (self.hi * num) den ≤ 2 ^ 127 }
+        ensures low { result.lo ≡ self.entry.lo * num / den }
+        ensures high { result.hi ≡ div_ceil (self.entry.hi * num) den }
+        ensures holds { (x : Fraction) → LiesIn x self.entry → LiesIn (x *ℚ num over den) result }
+    {
+        let (num, den) = (u128::from(num), u128::from(den));
+        let (lo, hi) = rounded_outward!(self.lo * num, den; self.hi * num, den);
+        Iv { lo, hi }
+    }
+
+    /// The quotients of a value by a value of `o`, none of which is 0.
+    pub fn div(self, o: Self) -> Self
+        requires positive { 0 < o.lo }
+        requires product { self.hi * 2 ^ B < 2 ^ 128 }
+        requires fits { div_ceil (self.hi * 2 ^ B) o.lo ≤ 2 ^ 127 }
+        ensures low { result.lo ≡ self.entry.lo * 2 ^ B / o.entry.hi }
+        ensures high { result.hi ≡ div_ceil (self.entry.hi * 2 ^ B) o.entry.lo }
+        ensures holds { (x y : Fraction) → LiesIn x self.entry → LiesIn y o.entry → LiesIn (x /ℚ y) result }
+    {
+        let one = units_of_one(B);
+        let (lo, hi) = rounded_outward!(self.lo * one, o.hi; self.hi * one, o.lo);
+        Iv { lo, hi }
+    }
+
+    /// The ends as decimals, in units of the last of `digits` digits: the low end rounded down, the
+    /// high end up.
+    pub fn print_ends(self, digits: u32) -> (u128, u128)
+        requires digits { digits ≤ 9 }
+        requires fits { self.hi * 10 ^ digits ≤ 2 ^ 127 * 2 ^ B }
+        ensures low { result.0 ≡ self.entry.lo * 10 ^ digits / 2 ^ B }
+        ensures high { result.1 ≡ div_ceil (self.entry.hi * 10 ^ digits) (2 ^ B) }
+        ensures below { (x : Fraction) → LiesIn x self.entry → result.0 over 10 ^ digits ≤ℚ x }
+        ensures above { (x : Fraction) → LiesIn x self.entry → x ≤ℚ result.1 over 10 ^ digits }
+    {
+        // the whole part apart, since the whole product may pass 128 bits
+        let one = units_of_one(B);
+        let factor = 10u128.pow(digits);
+        let (low, high) =
+            rounded_outward!(self.lo % one * factor, one; self.hi % one * factor, one);
+        (self.lo / one * factor + low, self.hi / one * factor + high)
+    }
+}
