@@ -1,10 +1,9 @@
 -- Laws of fractions: numbers over one denominator, and how the order goes with products, quotients and differences.
-use Rattle.std.proofs.Common.{◌≡◌, ℕ, ◌+◌, ◌-◌, ◌*◌, ◌<◌, ◌≤◌, min, arith, inl, inr, sym, ap, subst, subst₂, ◌∙◌, mul-pos, mul_comm, mul-le-mul_right}
+use Rattle.std.proofs.Common.{◌≡◌, ℕ, ◌+◌, ◌-◌, ◌*◌, ◌<◌, ◌≤◌, arith, inl, inr, sym, ap, subst, subst₂, ◌∙◌, mul-pos, mul_comm, mul-le-mul_right}
 use Rattle.std.proofs.Math.Nat.{mul-sub}
-use Rattle.std.proofs.lemmas.Bool.{cases_lt}
 use Rattle.dl_exact.specs.Fraction.{Fraction, whole, ◌over◌, ◌+ℚ◌, ◌-ℚ◌, ◌*ℚ◌, ◌/ℚ◌, ◌≤ℚ◌, ◌<ℚ◌}
-use Rattle.dl_exact.proofs.Over.{over_same, over_add, over_sub, over_le, over_lt, le_over, over_self}
-use Rattle.dl_exact.proofs.Laws.{by_two, one_pos, le_refl, le_trans, le_of_eq, le_of_lt, lt_or_le, lt_of_lt_of_le, zero_le, times_comm, times_le_times, plus_le_plus, plus_comm, sub_plus, le_sub, le_div, div_times}
+use Rattle.dl_exact.proofs.Over.{over_same, over_add, over_sub, over_le, over_lt, le_over}
+use Rattle.dl_exact.proofs.Laws.{by_two, one_pos, le_trans, le_of_lt, lt_or_le, lt_of_lt_of_le, zero_le, times_comm, times_le_times, plus_le_plus, plus_comm, sub_plus, le_sub, le_div, div_times}
 
 -- ---- numbers over one denominator
 

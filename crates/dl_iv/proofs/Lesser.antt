@@ -1,5 +1,5 @@
 -- The lesser of two fractions is one of them.
-use Rattle.std.proofs.Common.{◌≡◌, ℕ, ◌*◌, ◌<◌, ◌≤◌, min, arith, inl, inr, sym, ap, subst, ◌∙◌, mul-pos}
+use Rattle.std.proofs.Common.{◌≡◌, ℕ, ◌*◌, ◌<◌, min, arith, inl, inr, sym, ap, subst, ◌∙◌, mul-pos}
 use Rattle.std.proofs.lemmas.Bool.{cases_lt}
 use Rattle.dl_exact.specs.Fraction.{Fraction, ◌over◌, ◌≤ℚ◌}
 use Rattle.dl_exact.proofs.Over.{over_same, over_self}

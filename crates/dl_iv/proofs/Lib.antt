@@ -3,3 +3,4 @@ pub mod Rounding
 pub mod Operations
 pub mod Lesser
 pub mod SumLaws
+pub mod Conditions

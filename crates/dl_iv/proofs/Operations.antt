@@ -1,11 +1,10 @@
 -- For each operation on ends the law that its result holds the values, with d units to 1.
-use Rattle.std.proofs.Common.{ℕ, ◌≡◌, ◌+◌, ◌-◌, ◌*◌, ◌/◌, ◌<◌, ◌≤◌, min, arith, inl, inr, sym, subst, ◌∙◌, mul-pos}
+use Rattle.std.proofs.Common.{ℕ, ◌≡◌, ◌+◌, ◌-◌, ◌*◌, ◌/◌, ◌<◌, arith, sym, subst, ◌∙◌, mul-pos}
 use Rattle.std.specs.Int.{div_ceil}
-use Rattle.std.proofs.lemmas.Bool.{cases_lt}
 use Rattle.dl_exact.specs.Fraction.{Fraction, whole, ◌over◌, ◌+ℚ◌, ◌-ℚ◌, ◌*ℚ◌, ◌/ℚ◌, ◌≤ℚ◌, ◌<ℚ◌}
 use Rattle.dl_exact.proofs.Over.{over_same, over_mul, over_div}
-use Rattle.dl_exact.proofs.Laws.{le_refl, le_trans, le_of_eq, plus_le_both, lt_of_lt_of_le}
-use Rattle.dl_iv.proofs.FractionLaws.{over_le_over, over_plus, over_minus, over_one, over_pos, times_le_both, sub_le_both, div_le_both}
+use Rattle.dl_exact.proofs.Laws.{le_refl, le_of_eq, plus_le_both, lt_of_lt_of_le}
+use Rattle.dl_iv.proofs.FractionLaws.{over_plus, over_minus, over_one, over_pos, times_le_both, sub_le_both, div_le_both}
 use Rattle.dl_iv.proofs.Rounding.{round_down, round_up}
 
 module _ (d : ℕ) (pos : 0 < d) where

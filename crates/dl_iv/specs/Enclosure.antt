@@ -9,10 +9,10 @@ pub record LiesIn {B : ℕ} (x : Fraction) (interval : Iv B) : Type 0 where
   pub high : x ≤ℚ interval.hi over 2 ^ B
 
 -- each fraction of a list lies in the interval at its place in another
-pub data LieIn {B : ℕ} : List Fraction → List (Iv B) → Type 0 where
-  nothing : LieIn [] []
+pub data EachLiesIn {B : ℕ} : List Fraction → List (Iv B) → Type 0 where
+  nothing : EachLiesIn [] []
   then : {x : Fraction} {xs : List Fraction} {interval : Iv B} {intervals : List (Iv B)}
-      → LiesIn x interval → LieIn xs intervals → LieIn (x ∷ xs) (interval ∷ intervals)
+      → LiesIn x interval → EachLiesIn xs intervals → EachLiesIn (x ∷ xs) (interval ∷ intervals)
 
 -- the lesser of two fractions
 unfoldable pub lesser : Fraction → Fraction → Fraction

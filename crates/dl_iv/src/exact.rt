@@ -1,7 +1,7 @@
 ghost use Rattle.std.specs.Prelude.{◌≡◌, ℕ, ◌+◌, ◌-◌, ◌^◌, ◌≤◌, min, List, sum_by};
 ghost use Rattle.dl_exact.specs.Fraction.{Fraction, whole, ◌over◌, ◌+ℚ◌, ◌-ℚ◌, ◌≤ℚ◌};
 ghost use Rattle.dl_exact.specs.Sum.{sum_over};
-ghost use Rattle.dl_iv.specs.Enclosure.{LiesIn, LieIn, lesser};
+ghost use Rattle.dl_iv.specs.Enclosure.{LiesIn, EachLiesIn, lesser};
 
 use crate::interval::Iv;
 
@@ -87,7 +87,7 @@ impl<const B: u32> Iv<B> {
         requires fits { sum_by (λ i. i.hi) items.now ≤ 2 ^ 127 }
         ensures low { result.lo ≡ sum_by (λ i. i.lo) items.now }
         ensures high { result.hi ≡ sum_by (λ i. i.hi) items.now }
-        ensures holds { (xs : List Fraction) → LieIn xs items.now → LiesIn (sum_over xs (λ x. x)) result }
+        ensures holds { (xs : List Fraction) → EachLiesIn xs items.now → LiesIn (sum_over xs (λ x. x)) result }
     {
         let mut total = Iv::point(0);
         for item in items {

@@ -1,12 +1,15 @@
 //! Intervals at every scale: an interval holds the numbers between two whole numbers of units, of
-//! which `2^B` make 1. Each operation rounds its low end down and its high end up, so that its result
-//! holds each value that the operands' values give, and is no wider than it has to be.
+//! which `2^B` make 1. Each operation rounds its low end down to whole units and its high end up, so
+//! that its result holds each value that the operands' values give. None takes memory or refuses: what
+//! it needs of its operands, it asks by a condition.
 #![tactic(auto)]
 
 mod exact;
 mod interval;
 mod laws;
 mod rounded;
+#[cfg(test)]
+mod tests;
 
 pub use interval::Iv;
 pub use laws::{law_lesser, law_wider};

@@ -1,8 +1,8 @@
 use Rattle.std.proofs.Common.{◌≡◌, ℕ, ◌+◌, ◌*◌, ◌/◌, ◌%◌, ◌^◌, ◌<◌, ◌≤◌, arith, sym, subst}
-use Rattle.std.proofs.Math.Nat.{mul-le-mul_right, div-le_of_le-mul, le_refl, one-le-pow}
+use Rattle.std.proofs.Math.Nat.{mul-le-mul_right, div-le_of_le-mul, one-le-pow}
 use Rattle.std.specs.Int.{div_ceil}
 use Rattle.std.proofs.lemmas.Nat.{pow_pos}
-use Rattle.dl_exact.specs.Fraction.{Fraction, ◌over◌, ◌≤ℚ◌}
+use Rattle.dl_exact.specs.Fraction.{◌over◌, ◌≤ℚ◌}
 use Rattle.dl_exact.proofs.RoundingLaws.{div_ceil_least}
 use Rattle.dl_iv.proofs.Rounding.{two_le, floor_by_step, ceiling_by_step}
 use Rattle.dl_iv.proofs.Operations.{print_low, print_high}

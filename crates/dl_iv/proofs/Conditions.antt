@@ -1,0 +1,21 @@
+-- Plainer bounds from which the conditions of the rounded operations follow.
+use Rattle.std.proofs.Common.{ℕ, ◌+◌, ◌*◌, ◌/◌, ◌^◌, ◌<◌, ◌≤◌, arith}
+use Rattle.std.proofs.Math.Nat.{lt-div-mul-add, le-mul_of_pos_right, mul-le-mul_right, le_trans}
+use Rattle.std.specs.Int.{div_ceil}
+use Rattle.std.proofs.lemmas.Nat.{pow_pos}
+use Rattle.dl_exact.proofs.RoundingLaws.{div_ceil_least}
+use Rattle.dl_iv.proofs.Rounding.{power_le}
+use Rattle.std.proofs.Common.{refl}
+
+-- a fraction below 2^71 can be enclosed
+pub enclose_fits : (b n d : ℕ) → b ≤ 56 → 0 < d → n / d < 2 ^ 71 → div_ceil (2 ^ b * n) d ≤ 2 ^ 127
+enclose_fits b n d small pos below =
+    let part : n < n / d * d + d = lt-div-mul-add pos in
+    let whole : (n / d + 1) * d ≤ 2 ^ 71 * d = mul-le-mul_right d (omega arith) in
+    let bound : n ≤ 2 ^ 71 * d = omega arith in
+    let scaled : 2 ^ b * n ≤ 2 ^ 56 * n = mul-le-mul_right n (power_le b (2 ^ b) 56 refl small) in
+    div_ceil_least (2 ^ b * n) d (2 ^ 127) pos (omega arith)
+
+-- an end whose digits fit can be printed
+pub print_fits : (n b : ℕ) → n ≤ 2 ^ 127 → n ≤ 2 ^ 127 * 2 ^ b
+print_fits n b h = le_trans h (le-mul_of_pos_right (2 ^ 127) (pow_pos b))
