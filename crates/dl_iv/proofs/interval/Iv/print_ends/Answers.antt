@@ -4,7 +4,7 @@ use Rattle.std.specs.Int.{div_ceil}
 use Rattle.std.proofs.lemmas.Nat.{pow_pos}
 use Rattle.dl_exact.specs.Fraction.{◌over◌, ◌≤ℚ◌}
 use Rattle.dl_exact.proofs.RoundingLaws.{div_ceil_least}
-use Rattle.dl_iv.proofs.Rounding.{two_le, floor_by_step, ceiling_by_step}
+use Rattle.dl_iv.proofs.Rounding.{floor_by_step, ceiling_by_step}
 use Rattle.dl_iv.proofs.Operations.{print_low, print_high}
 use Rattle.dl_iv.proofs.interval.Iv.print_ends.Goals as goal
 
@@ -12,36 +12,25 @@ ten_pos : (k : ℕ) → 0 < 10 ^ k
 ten_pos k = one-le-pow k 10 (omega arith)
 
 -- the numbers that the code makes are within the bound
-low_fits : (lo hi one f : ℕ) → 0 < one → lo ≤ hi → hi * f ≤ 2 ^ 127 * one → lo / one * f + lo % one * f / one ≤ 2 ^ 127
-low_fits lo hi one f h below fits =
-    rw (← floor_by_step lo one f h) (div-le_of_le-mul one (omega (arith, mul-le-mul_right f below)))
+low_fits : (lo hi one f s t : ℕ) → one ≡ s → f ≡ t → 0 < s → lo ≤ hi → hi * t ≤ 2 ^ 127 * s → lo / one * f + lo % one * f / one ≤ 2 ^ 127
+low_fits lo hi one f s t e k h below fits =
+    rw (e, k, ← floor_by_step lo s t h) (div-le_of_le-mul s (omega (arith, mul-le-mul_right t below)))
 
-high_fits : (hi one f r : ℕ) → 0 < one → r ≡ div_ceil (hi % one * f) one → hi * f ≤ 2 ^ 127 * one → hi / one * f + r ≤ 2 ^ 127
-high_fits hi one f r h e fits = rw (e, ← ceiling_by_step hi one f h) (div_ceil_least _ _ (2 ^ 127) h fits)
+high_fits : (hi one f s t r : ℕ) → one ≡ s → f ≡ t → 0 < s → r ≡ div_ceil (hi % one * f) one → hi * t ≤ 2 ^ 127 * s → hi / one * f + r ≤ 2 ^ 127
+high_fits hi one f s t r e k h up fits =
+    rw (up, e, k, ← ceiling_by_step hi s t h) (div_ceil_least _ _ (2 ^ 127) h fits)
 
 pub overflow_add-result : goal.overflow_add-result
-overflow_add-result g c =
-    let two : 2 ≤ c.units_of_one-one.result = two_le g.row.B _ c.args.self.scale_above c.units_of_one-one.ensures in
-    let fits : c.args.self.hi * c.pow-factor.result ≤ 2 ^ 127 * c.units_of_one-one.result = rw (c.units_of_one-one.ensures, c.pow-factor.ensures) c.requires.fits in
-    omega (arith, low_fits _ _ _ _ (omega arith) c.args.self.ordered fits)
+overflow_add-result g c = omega (arith, low_fits _ _ _ _ _ _ c.units_of_one-one.ensures c.pow-factor.ensures (pow_pos g.row.B) c.args.self.ordered c.requires.fits)
 
 pub overflow_mul-result : goal.overflow_mul-result
-overflow_mul-result g c =
-    let two : 2 ≤ c.units_of_one-one.result = two_le g.row.B _ c.args.self.scale_above c.units_of_one-one.ensures in
-    let fits : c.args.self.hi * c.pow-factor.result ≤ 2 ^ 127 * c.units_of_one-one.result = rw (c.units_of_one-one.ensures, c.pow-factor.ensures) c.requires.fits in
-    omega (arith, low_fits _ _ _ _ (omega arith) c.args.self.ordered fits)
-
-pub overflow_mul-result-2 : goal.overflow_mul-result-2
-overflow_mul-result-2 g c =
-    let two : 2 ≤ c.units_of_one-one.result = two_le g.row.B _ c.args.self.scale_above c.units_of_one-one.ensures in
-    let fits : c.args.self.hi * c.pow-factor.result ≤ 2 ^ 127 * c.units_of_one-one.result = rw (c.units_of_one-one.ensures, c.pow-factor.ensures) c.requires.fits in
-    omega (arith, high_fits _ _ _ _ (omega arith) c.div_ceil-high.ensures fits)
+overflow_mul-result g c = omega (arith, low_fits _ _ _ _ _ _ c.units_of_one-one.ensures c.pow-factor.ensures (pow_pos g.row.B) c.args.self.ordered c.requires.fits)
 
 pub overflow_add-result-2 : goal.overflow_add-result-2
-overflow_add-result-2 g c =
-    let two : 2 ≤ c.units_of_one-one.result = two_le g.row.B _ c.args.self.scale_above c.units_of_one-one.ensures in
-    let fits : c.args.self.hi * c.pow-factor.result ≤ 2 ^ 127 * c.units_of_one-one.result = rw (c.units_of_one-one.ensures, c.pow-factor.ensures) c.requires.fits in
-    omega (arith, high_fits _ _ _ _ (omega arith) c.div_ceil-high.ensures fits)
+overflow_add-result-2 g c = omega (arith, high_fits _ _ _ _ _ _ c.units_of_one-one.ensures c.pow-factor.ensures (pow_pos g.row.B) c.div_ceil-high.ensures c.requires.fits)
+
+pub overflow_mul-result-2 : goal.overflow_mul-result-2
+overflow_mul-result-2 g c = omega (arith, high_fits _ _ _ _ _ _ c.units_of_one-one.ensures c.pow-factor.ensures (pow_pos g.row.B) c.div_ceil-high.ensures c.requires.fits)
 
 pub returns-clause-low : goal.returns-clause-low
 returns-clause-low g c =
