@@ -13,7 +13,7 @@ macro_rules! rounded_outward {
     };
 }
 
-/// The operations whose ends are rounded: the low end down to a whole number of units, the high end up.
+/// The operations whose ends are rounded: the low end down to whole units, the high end up.
 impl<const B: u32> Iv<B> {
     /// The number `num / den`.
     pub fn enclose(num: u128, den: u128) -> Self
@@ -27,7 +27,7 @@ impl<const B: u32> Iv<B> {
         ensures high { result.hi ≡ div_ceil (2 ^ B * num) den }
         ensures holds { LiesIn (num over den) result }
     {
-        // long division, of which each half of the scale is one step: the whole product may pass 128 bits
+        // long division, a half of the scale a step: the whole product may pass 128 bits
         let first = units_of_one(B / 2);
         let second = units_of_one(B - B / 2);
         let rest = num % den * first;
