@@ -4,3 +4,4 @@ pub mod Operations
 pub mod Lesser
 pub mod SumLaws
 pub mod Conditions
+pub mod Enclosures
