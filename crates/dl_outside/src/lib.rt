@@ -71,3 +71,69 @@ pub trait Sink {
         ensures later { faults self.old ≤ faults self.new }
         ensures cause { OnErr result (Rose (faults self.old) (faults self.new)) };
 }
+
+#[cfg(test)]
+mod tests {
+    use super::*;
+    use std::test::Fail;
+
+    #[test]
+    fn reads_whole_inputs(rt: HostRuntime) -> Result<(), Fail> {
+        // the bytes, the piece, the call that fails, the limit, the answer, and what is left then
+        let rows = [
+            (b"".as_slice(), 1, 9, 4, Ok(b"".as_slice()), b"".as_slice()),
+            (b"abcd", 1, 9, 4, Ok(b"abcd"), b""),
+            (b"abcd", 9, 9, 4, Ok(b"abcd"), b""),
+            (b"abcde", 2, 5, 9, Ok(b"abcde"), b""),
+            (b"abcde", 1, 9, 4, Err(ReadEnd::TooLong), b""),
+            (b"abcdefg", 3, 9, 4, Err(ReadEnd::TooLong), b"fg"),
+            (b"a", 3, 9, 0, Err(ReadEnd::TooLong), b""),
+            (b"abcde", 2, 0, 9, Err(ReadEnd::Fault), b"abcde"),
+            (b"abcde", 2, 1, 9, Err(ReadEnd::Fault), b"cde"),
+            (b"abcde", 2, 3, 9, Err(ReadEnd::Fault), b""),
+        ];
+        for (bytes, piece, fails, limit, wanted, left) in rows {
+            let fails = [fails].to_vec(rt.alloc())?;
+            let mut source = MemSource::new(bytes.to_vec(rt.alloc())?, piece, fails);
+            match (read_all(rt.alloc(), &mut source, limit), wanted) {
+                (Ok(read), Ok(wanted)) => assert_eq!(rt; read.as_slice(), wanted, "of {bytes:?}"),
+                (Err(end), Err(wanted)) => assert_eq!(rt; end, wanted, "of {bytes:?}"),
+                _ => return Err("the other answer".into()),
+            }
+            let rest = read_all(rt.alloc(), &mut source, 9)?;
+            assert_eq!(rt; rest.as_slice(), left, "after {bytes:?}");
+        }
+        let mut steady = SteadySource::new(b"abcde".to_vec(rt.alloc())?, 2);
+        let read = read_all(rt.alloc(), &mut steady, 5)?;
+        assert_eq!(rt; read.as_slice(), b"abcde".as_slice());
+        Ok(())
+    }
+
+    #[test]
+    fn writes_whole_texts(rt: HostRuntime) -> Result<(), Fail> {
+        // the room, the piece, the call that fails, the bytes, whether all are written, what is held
+        let rows = [
+            (0, 1, 9, b"".as_slice(), true, b"".as_slice()),
+            (10, 1, 10, b"abcdefghij", true, b"abcdefghij"),
+            (64, 99, 1, b"abcdefghij", true, b"abcdefghij"),
+            (64, 7, 2, b"abcdefghij", true, b"abcdefghij"),
+            (64, 7, 1, b"abcdefghij", false, b"abcdefg"),
+            (64, 7, 0, b"abcdefghij", false, b""),
+            (64, 7, 0, b"", true, b""),
+            (9, 4, 9, b"abcdefghij", false, b"abcdefghi"),
+            (0, 4, 9, b"a", false, b""),
+        ];
+        for (room, piece, fails, bytes, all, held) in rows {
+            let fails = [fails].to_vec(rt.alloc())?;
+            let mut sink = MemSink::new(rt.alloc(), room, piece, fails)?;
+            assert_eq!(rt;
+                write_all(&mut sink, bytes).is_ok(),
+                all,
+                "of {bytes:?} into {room}"
+            );
+            assert_eq!(rt; sink.held(), held, "of {bytes:?} into {room}");
+        }
+        write_all(&mut DropSink::new(), b"abc")?;
+        Ok(())
+    }
+}

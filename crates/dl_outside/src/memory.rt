@@ -55,7 +55,8 @@ impl Source for SteadySource {
 
         // It never fails, and gives as much as a piece, the buffer and the bytes left allow.
         ensures ok { IsOk result }
-        ensures count { IfOk result (λ n. n ≡ min (min self.old.piece (length buf.old)) (length self.old.left)) }
+        ensures count { IfOk result (λ n.
+            n ≡ min (min self.old.piece (length buf.old)) (length self.old.left)) }
         ensures piece { self.new.piece ≡ self.old.piece }
     {
         let count = self.piece.min(buf.len()).min(self.bytes.len() - self.at);
@@ -109,7 +110,8 @@ impl Source for MemSource {
         // It fails exactly at the chosen calls, and else gives as much as a piece, the buffer and the
         // bytes left allow.
         ensures fails { IsErr result ↔ FailsNext self.old.calls }
-        ensures count { IfOk result (λ n. n ≡ min (min self.old.piece (length buf.old)) (length self.old.left)) }
+        ensures count { IfOk result (λ n.
+            n ≡ min (min self.old.piece (length buf.old)) (length self.old.left)) }
         ensures calls { MatchResult result
             (λ _. self.new.calls ≡ after_success self.old.calls)
             (λ _. self.new.calls ≡ after_failure self.old.calls) }
@@ -140,9 +142,15 @@ impl Model for MemSink {
 
     ghost Value = { SinkView };
 
-    ghost view = { λ s. record { held = s.bytes.items; room = s.room - vec_len s.bytes; piece = s.piece; calls = s.schedule } };
+    ghost view = { λ s. record {
+      held = s.bytes.items;
+      room = s.room - vec_len s.bytes;
+      piece = s.piece;
+      calls = s.schedule;
+    } };
 
-    ghost invariant = { λ s. (vec_len s.bytes ≤ s.room) × (s.room ≤ vec_capacity s.bytes) × (0 < s.piece) };
+    ghost invariant = { λ s.
+        (vec_len s.bytes ≤ s.room) × (s.room ≤ vec_capacity s.bytes) × (0 < s.piece) };
 }
 
 impl MemSink {
@@ -191,8 +199,10 @@ impl Sink for MemSink {
 
         // It fails exactly at the chosen calls and where it is full, and else takes as much as a piece
         // and the room left allow.
-        ensures fails { IsErr result ↔ (FailsNext self.old.calls ⊎ ((self.old.room ≡ 0) × (0 < length piece.now))) }
-        ensures count { IfOk result (λ n. n ≡ min (min self.old.piece (length piece.now)) self.old.room) }
+        ensures fails { IsErr result
+            ↔ (FailsNext self.old.calls ⊎ ((self.old.room ≡ 0) × (0 < length piece.now))) }
+        ensures count { IfOk result (λ n.
+            n ≡ min (min self.old.piece (length piece.now)) self.old.room) }
         ensures calls { MatchResult result
             (λ _. self.new.calls ≡ after_success self.old.calls)
             (λ _. self.new.calls ≡ after_failure self.old.calls) }

@@ -41,7 +41,8 @@ impl<R: Read> Source for StdSource<R> {
         ensures cause { OnErr result (Rose (source_faults self.old) (source_faults self.new)) }
 
         // The reader gave these bytes, and each of its errors is counted.
-        ensures reader { ReadConsumes (R.remaining (source_reader self.old)) (R.remaining (source_reader self.new)) result buf.new }
+        ensures reader { ReadConsumes (R.remaining (source_reader self.old))
+            (R.remaining (source_reader self.new)) result buf.new }
         ensures faults { MatchResult result
             (λ _. source_faults self.new ≡ source_faults self.old)
             (λ _. source_faults self.new ≡ next_count (source_faults self.old)) }
@@ -91,7 +92,8 @@ impl<W: Write> Sink for StdSink<W> {
         ensures cause { OnErr result (Rose (sink_faults self.old) (sink_faults self.new)) }
 
         // The writer took these bytes, and each of its errors is counted.
-        ensures writer { WriteAppends (W.contents (sink_writer self.old)) (W.contents (sink_writer self.new)) result piece.now }
+        ensures writer { WriteAppends (W.contents (sink_writer self.old))
+            (W.contents (sink_writer self.new)) result piece.now }
         ensures faults { MatchResult result
             (λ _. sink_faults self.new ≡ sink_faults self.old)
             (λ _. sink_faults self.new ≡ next_count (sink_faults self.old)) }
@@ -103,5 +105,60 @@ impl<W: Write> Sink for StdSink<W> {
                 Err(WriteFailed)
             }
         }
+    }
+}
+
+#[cfg(test)]
+mod tests {
+    use super::*;
+    use crate::{ReadEnd, read_all, write_all};
+    use std::io;
+    use std::test::Fail;
+
+    /// A reader that fails and a writer that is full.
+    #[derive(Drop)]
+    struct Broken;
+
+    impl Read for Broken {
+        fn read(&mut self, _buf: &mut [u8]) -> io::Result<usize> {
+            Err(io::Error::from(io::ErrorKind::BrokenPipe))
+        }
+    }
+
+    impl Write for Broken {
+        fn write(&mut self, _buf: &[u8]) -> io::Result<usize> {
+            Ok(0)
+        }
+
+        fn flush(&mut self) -> io::Result<()> {
+            Ok(())
+        }
+    }
+
+    #[test]
+    fn stands_over_std(rt: HostRuntime) -> Result<(), Fail> {
+        let mut source = StdSource::new(b"abc".as_slice());
+        let bytes = read_all(rt.alloc(), &mut source, 3)?;
+        assert_eq!(rt; bytes.as_slice(), b"abc".as_slice());
+        assert_eq!(rt; source.faults, 0);
+
+        let mut broken = StdSource::new(Broken);
+        assert_eq!(rt;
+            read_all(rt.alloc(), &mut broken, 3).err(),
+            Some(ReadEnd::Fault)
+        );
+        assert_eq!(rt; broken.faults, 1);
+
+        let mut sink = StdSink::new(Vec::new(rt.alloc()));
+        write_all(&mut sink, b"abc")?;
+        write_all(&mut sink, b"de")?;
+        assert_eq!(rt; sink.inner.as_slice(), b"abcde".as_slice());
+        assert_eq!(rt; sink.faults, 0);
+
+        let mut full = StdSink::new(Broken);
+        assert_eq!(rt; full.write(b""), Ok(0));
+        assert!(rt; write_all(&mut full, b"a").is_err());
+        assert_eq!(rt; full.faults, 1);
+        Ok(())
     }
 }
