@@ -1,3 +1,4 @@
+-- The words of this crate's contracts.
 pub mod Faults
 pub mod Bytes
 pub mod Memory

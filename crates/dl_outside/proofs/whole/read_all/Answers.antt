@@ -1,3 +1,4 @@
+-- An error leaves the input as the bytes taken so far leave it.
 use Rattle.std.proofs.Common.{◌≡◌, arith, rules}
 use Rattle.std.proofs.lemmas.List.{length-take}
 use Rattle.dl_outside.specs.declared.whole.ReadEnd.TheVariants.{Fault}

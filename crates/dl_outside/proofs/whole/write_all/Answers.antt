@@ -1,3 +1,4 @@
+-- Two pieces written one after the other are one piece.
 use Rattle.std.proofs.Common.{◌≡◌, ℕ, ◌+◌, ◌-◌, length, List, take, drop, arith, Option, None, Some, take-add, append_assoc, length-drop}
 use Rattle.std.specs.Io.KnownBytes.{Appends}
 use Rattle.std.proofs.lemmas.List.{take_all}

@@ -1,3 +1,4 @@
+-- The bytes given and the bytes left are the bytes that were left.
 use Rattle.std.proofs.Common.{◌≡◌, ℕ, ◌+◌, ◌-◌, ◌<◌, ◌≤◌, length, List, [], ◌++◌, take, drop, arith, refl, length-drop, length-append, min}
 use Rattle.std.proofs.lemmas.List.{take-append-drop, drop-drop, take_at, length-take, drop_all}
 use Rattle.dl_outside.proofs.memory.SteadySourceSource.read.Goals as goal
