@@ -70,8 +70,10 @@ pub fn read_all<R: Source>(alloc: Global, src: &mut R, limit: usize) -> Result<V
     ensures end { OnOk result (IsAtEnd (R.left src.new)) }
 
     // `TooLong` comes where `limit + 1` bytes were taken, and `Fault` before.
-    ensures too_long { IsErrOf result ReadEnd.TooLong → Takes (R.left src.old) (R.left src.new) (limit + 1) }
-    ensures before { IsErrOf result ReadEnd.Fault → TakesAtMost (R.left src.old) (R.left src.new) limit }
+    ensures too_long { IsErrOf result ReadEnd.TooLong
+        → Takes (R.left src.old) (R.left src.new) (limit + 1) }
+    ensures before { IsErrOf result ReadEnd.Fault
+        → TakesAtMost (R.left src.old) (R.left src.new) limit }
     ensures taken { TakesAtMost (R.left src.old) (R.left src.new) (limit + 1) }
 
     // A fault has its cause.
