@@ -1,0 +1,51 @@
+-- Where a blank stands no token begins.
+use Rattle.std.proofs.Common.{ℕ, zero, suc, ◌≡◌, ◌≢◌, ◌∙◌, ◌+◌, ◌<◌, ◌≤◌, List, [], ◌∷◌, length, take, Bool, true, false, ◌||◌, ◌==◌, cond, refl, ap, arith, Some, slice_get}
+use Rattle.std.specs.List.{prefix_len}
+use Rattle.std.proofs.lemmas.Bool.Decides.{nat_tests}
+use Rattle.dl_lexer.specs.declared.token.Sign.{Sign}
+use Rattle.dl_lexer.specs.declared.token.Sign.TheVariants.{Open, Close, Colon, Comma, Bang}
+use Rattle.dl_lexer.specs.Bytes.{is_letter, is_digit, is_white, is_comment_byte}
+use Rattle.dl_lexer.specs.Numerals.{IsNumeral}
+use Rattle.dl_lexer.specs.Tokens.{sign_byte}
+use Rattle.dl_lexer.specs.Cutting.{NoToken, blank_length}
+use Rattle.dl_lexer.proofs.Longest.{longest_none}
+use Rattle.dl_lexer.proofs.TokenKinds.{begins_numeral, numeral_begins, longest_nothing}
+
+-- what a blank begins with
+blank_first : (b : ℕ) (bytes : List ℕ) → 0 < blank_length (b ∷ bytes) → (is_white b || b == 35) ≡ true
+blank_first b bytes some = here (is_white b) (b == 35) (1 + prefix_len is_comment_byte bytes) some
+  where
+    here : (white mark : Bool) (n : ℕ) → 0 < cond white 1 (cond mark n 0) → (white || mark) ≡ true
+    here true mark n some = refl
+    here false true n some = refl
+    here false false n some = absurd (omega arith)
+
+no_letter : (b : ℕ) → (is_white b || b == 35) ≡ true → is_letter b ≡ false
+no_letter b h = grind (arith, nat_tests)
+
+no_numeral : (b : ℕ) → (is_white b || b == 35) ≡ true → (is_digit b || b == 46) ≡ false
+no_numeral b h = grind (arith, nat_tests)
+
+no_sign : (s : Sign) → (is_white (sign_byte s) || sign_byte s == 35) ≡ false
+no_sign Open = refl
+no_sign Close = refl
+no_sign Colon = refl
+no_sign Comma = refl
+no_sign Bang = refl
+
+pub blank_no_token : (bytes : List ℕ) → 0 < blank_length bytes → NoToken bytes
+blank_no_token [] some = absurd (omega arith)
+blank_no_token (b ∷ bytes) some =
+    let first : (is_white b || b == 35) ≡ true = blank_first b bytes some in
+    longest_nothing (b ∷ bytes) (no_letter b first) (longest_none IsNumeral (b ∷ bytes) (numeral first)) (sign first)
+  where
+    numeral : (is_white b || b == 35) ≡ true → (m : ℕ) → m ≤ length (b ∷ bytes) → IsNumeral (take m (b ∷ bytes)) → ⊥
+    numeral first zero h t = let begins : begins_numeral [] ≡ true = numeral_begins [] t in cc
+    numeral first (suc m) h t =
+        let begins : (is_digit b || b == 46) ≡ true = numeral_begins (b ∷ take m bytes) t in
+        let begins_not : (is_digit b || b == 46) ≡ false = no_numeral b first in cc
+
+    sign : (is_white b || b == 35) ≡ true → (s : Sign) → slice_get (b ∷ bytes) 0 ≢ Some (sign_byte s)
+    sign first s e =
+        let same : b ≡ sign_byte s = cc in
+        let other : (is_white b || b == 35) ≡ false = ap (λ n. is_white n || n == 35) same ∙ no_sign s in cc

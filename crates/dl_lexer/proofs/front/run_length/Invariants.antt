@@ -1,0 +1,8 @@
+-- The bytes so far are all of the class, and the rest goes on with the run.
+use Rattle.std.proofs.Common.{◌≡◌, ◌+◌, drop}
+use Rattle.std.specs.List.{prefix_len}
+use Rattle.dl_lexer.specs.Classes.{is_in}
+use Rattle.dl_lexer.proofs.front.run_length.Given as goal
+
+abbrev pub invariant-loop-i : goal.invariant-loop-i
+invariant-loop-i l = l.i + prefix_len (is_in l.class) (drop l.i l.bytes) ≡ prefix_len (is_in l.class) l.bytes

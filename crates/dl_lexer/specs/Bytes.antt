@@ -1,0 +1,26 @@
+-- The classes of bytes.
+use Rattle.std.specs.Prelude.{ℕ, Bool, ◌==◌, nat_le, ◌&&◌, ◌||◌, not}
+
+-- a tab, a newline, a carriage return or a space
+abbrev pub is_white : ℕ → Bool
+is_white b = b == 9 || b == 10 || b == 13 || b == 32
+
+-- `A` to `Z` or `a` to `z`
+abbrev pub is_letter : ℕ → Bool
+is_letter b = (nat_le 65 b && nat_le b 90) || (nat_le 97 b && nat_le b 122)
+
+-- `0` to `9`
+abbrev pub is_digit : ℕ → Bool
+is_digit b = nat_le 48 b && nat_le b 57
+
+-- what a word goes on with: a letter, a digit, `_` or `-`
+abbrev pub is_word_byte : ℕ → Bool
+is_word_byte b = is_letter b || is_digit b || b == 95 || b == 45
+
+-- what stands in a note: any byte but `{` and `}`
+abbrev pub is_note_byte : ℕ → Bool
+is_note_byte b = not (b == 123 || b == 125)
+
+-- what stands in a comment: any byte but a newline
+abbrev pub is_comment_byte : ℕ → Bool
+is_comment_byte b = not (b == 10)

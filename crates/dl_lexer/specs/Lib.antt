@@ -1,0 +1,7 @@
+pub mod Bytes
+pub mod Classes
+pub mod Cutting
+pub mod Keywords
+pub mod Lines
+pub mod Numerals
+pub mod Tokens

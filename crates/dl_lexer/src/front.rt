@@ -1,0 +1,167 @@
+//! How many bytes the thing takes that stands at the front of some bytes.
+
+ghost use Rattle.std.specs.Prelude.{◌≡◌, ◌≢◌, ◌+◌, ◌<◌, ◌≤◌, ◌↔◌, IsTrue, IfSome, IfNone, Some, length, drop, slice_get};
+ghost use Rattle.dl_lexer.specs.Bytes.{is_digit};
+ghost use Rattle.std.specs.List.{prefix_len};
+ghost use Rattle.dl_lexer.specs.Classes.{is_in};
+ghost use Rattle.dl_lexer.specs.Cutting.{IsLongest, blank_length};
+ghost use Rattle.dl_lexer.specs.Numerals.{IsDecimal, IsPercent, IsFraction, IsNumeral};
+ghost use Rattle.dl_lexer.specs.Tokens.{begins_with_letter, IsWord, IsNote};
+
+/// What a run of bytes is made of.
+#[derive(Clone, Copy)]
+pub(crate) enum Class {
+    Digit,
+    Word,
+    Note,
+    Comment,
+}
+
+fn is_in(byte: u8, class: Class) -> bool
+    ensures { result ≡ is_in class byte }
+{
+    match class {
+        Class::Digit => byte.is_ascii_digit(),
+        Class::Word => byte.is_ascii_alphanumeric() || byte == b'_' || byte == b'-',
+        Class::Note => byte != b'{' && byte != b'}',
+        Class::Comment => byte != b'\n',
+    }
+}
+
+/// How many bytes of a class the bytes begin with.
+fn run_length(bytes: &[u8], class: Class) -> usize
+    ensures run { result ≡ prefix_len (is_in class) bytes.now }
+    ensures within { result ≤ length bytes.now }
+{
+    for (i, byte) in bytes.iter().enumerate() {
+        if !is_in(*byte, class) {
+            return i;
+        }
+    }
+    bytes.len()
+}
+
+/// Whether this byte stands at a place.
+fn is_at(bytes: &[u8], at: usize, byte: u8) -> bool
+    ensures is { IsTrue result ↔ (slice_get bytes.now at ≡ Some byte) }
+    ensures inside { IsTrue result → at < length bytes.now }
+{
+    match bytes.get(at) {
+        Some(found) => *found == byte,
+        None => false,
+    }
+}
+
+/// The length of the blank that begins the bytes, 0 where none does.
+pub(crate) fn blank_length(bytes: &[u8]) -> usize
+    ensures length { result ≡ blank_length bytes.now }
+    ensures within { result ≤ length bytes.now }
+{
+    match bytes.first() {
+        Some(b'\t' | b'\n' | b'\r' | b' ') => 1,
+        Some(b'#') => 1 + run_length(&bytes[1..], Class::Comment),
+        _ => 0,
+    }
+}
+
+/// Whether a letter begins the bytes.
+pub(crate) fn begins_with_letter(bytes: &[u8]) -> bool
+    ensures { result ≡ begins_with_letter bytes.now }
+{
+    match bytes.first() {
+        Some(byte) => byte.is_ascii_alphabetic(),
+        None => false,
+    }
+}
+
+/// The length of the word that begins the bytes, 0 where none does.
+pub(crate) fn word_length(bytes: &[u8]) -> usize
+    ensures { IsLongest IsWord bytes.now result }
+{
+    if begins_with_letter(bytes) {
+        run_length(bytes, Class::Word)
+    } else {
+        0
+    }
+}
+
+/// The length of the note that begins the bytes, 0 where none does.
+pub(crate) fn note_length(bytes: &[u8]) -> usize
+    ensures { IsLongest IsNote bytes.now result }
+{
+    let Some(text) = bytes.strip_prefix(b"note{") else {
+        return 0;
+    };
+    let length = run_length(text, Class::Note);
+    if is_at(text, length, b'}') {
+        length + 6
+    } else {
+        0
+    }
+}
+
+/// Where a mark stands right behind the digits that begin the bytes: how many digits stand before
+/// it and how many right behind it.
+fn digits_round(bytes: &[u8], mark: u8) -> Option<(usize, usize)>
+    ensures before { IfSome result (λ r. r.0 ≡ prefix_len is_digit bytes.now) }
+    ensures mark { IfSome result (λ r. slice_get bytes.now r.0 ≡ Some mark) }
+    ensures behind { IfSome result (λ r. r.1 ≡ prefix_len is_digit (drop (r.0 + 1) bytes.now)) }
+    ensures inside { IfSome result (λ r. r.0 + 1 + r.1 ≤ length bytes.now) }
+    ensures none { IfNone result (slice_get bytes.now (prefix_len is_digit bytes.now) ≢ Some mark) }
+{
+    let before = run_length(bytes, Class::Digit);
+    if is_at(bytes, before, mark) {
+        Some((before, run_length(&bytes[before + 1..], Class::Digit)))
+    } else {
+        None
+    }
+}
+
+/// The length of the longest decimal that begins the bytes, 0 where none does.
+fn decimal_length(bytes: &[u8]) -> usize
+    ensures { IsLongest IsDecimal bytes.now result }
+{
+    let Some((whole, part)) = digits_round(bytes, b'.') else {
+        return run_length(bytes, Class::Digit);
+    };
+    if whole + part == 0 {
+        0
+    } else {
+        whole + 1 + part
+    }
+}
+
+/// The length of the percent that begins the bytes, 0 where none does.
+fn percent_length(bytes: &[u8]) -> usize
+    ensures { IsLongest IsPercent bytes.now result }
+{
+    let decimal = decimal_length(bytes);
+    if decimal > 0 && is_at(bytes, decimal, b'%') {
+        decimal + 1
+    } else {
+        0
+    }
+}
+
+/// The length of the fraction that begins the bytes, 0 where none does.
+fn fraction_length(bytes: &[u8]) -> usize
+    ensures { IsLongest IsFraction bytes.now result }
+{
+    let Some((above, below)) = digits_round(bytes, b'/') else {
+        return 0;
+    };
+    if above == 0 || below == 0 {
+        0
+    } else {
+        above + 1 + below
+    }
+}
+
+/// The length of the longest numeral that begins the bytes, 0 where none does.
+pub(crate) fn numeral_length(bytes: &[u8]) -> usize
+    ensures { IsLongest IsNumeral bytes.now result }
+{
+    decimal_length(bytes)
+        .max(percent_length(bytes))
+        .max(fraction_length(bytes))
+}

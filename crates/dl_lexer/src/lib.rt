@@ -1,0 +1,18 @@
+//! The tokens of a text: its bytes are cut from the left into blanks and tokens, each token with
+//! its place, or the first place where none begins is told.
+#![tactic(auto)]
+
+pub mod cut;
+mod front;
+pub mod law;
+pub mod place;
+pub mod text;
+pub mod token;
+
+pub use cut::{LexFault, lex};
+pub use place::line_col;
+pub use text::Text;
+pub use token::{Keyword, Kind, Sign, Span, Token};
+
+#[cfg(test)]
+mod tests;
