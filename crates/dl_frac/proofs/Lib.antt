@@ -1,0 +1,4 @@
+pub mod GcdMore
+pub mod FractionLaws
+pub mod NumeralLaws
+pub mod SpellingLaws

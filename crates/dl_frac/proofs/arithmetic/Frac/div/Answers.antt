@@ -1,0 +1,15 @@
+-- The quotient by its definition: the product with the second fraction turned over.
+use Rattle.std.proofs.Common.{◌<◌, subst, sym}
+use Rattle.dl_exact.specs.Fraction.{Fraction}
+use Rattle.dl_frac.proofs.GcdMore.{lowest_swap}
+use Rattle.dl_frac.proofs.FractionLaws.{quotient_is, num_pos}
+use Rattle.dl_frac.proofs.arithmetic.Frac.div.Goals as goal
+
+pub product-requires-clause-right : goal.product-requires-clause-right
+product-requires-clause-right c = subst (λ (x : Fraction). 0 < x.num) (sym c.o.view_is) (num_pos c.args.o c.requires)
+
+pub product-requires-clause-right_lowest : goal.product-requires-clause-right_lowest
+product-requires-clause-right_lowest c = lowest_swap _ _ c.o.inside.lowest
+
+pub returns : goal.returns
+returns c = rw (← quotient_is c.args.self c.args.o, ← c.self.view_is, ← c.o.view_is) c.product.ensures

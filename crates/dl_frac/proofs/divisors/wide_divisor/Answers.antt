@@ -1,0 +1,18 @@
+-- One step of Euclid, and the end where nothing is left or both numbers are narrow.
+use Rattle.std.proofs.Common.{◌<◌, ◌∙◌, sym, subst}
+use Rattle.dl_exact.proofs.GcdLaws.{gcd_pos}
+use Rattle.dl_frac.proofs.GcdMore.{gcd-zero, gcd-mod}
+use Rattle.dl_frac.proofs.divisors.wide_divisor.Goals as goal
+
+pub steps-preserved : goal.steps-preserved
+steps-preserved c = gcd-mod c.steps.x c.steps.y ∙ c.steps.invariant
+
+pub returns-then-y-eq0 : goal.returns-then-y-eq0
+returns-then-y-eq0 c =
+    let same = sym (gcd-zero c.steps.x c.steps.y c.if-y-eq0.true) ∙ c.steps.invariant in
+    record { value = same; positive = λ h. subst (λ n. 0 < n) (sym same) (gcd_pos c.args.a c.args.b h) }
+
+pub returns : goal.returns
+returns c =
+    let same = c.divisor.ensures.value ∙ gcd-mod c.steps.x c.steps.y ∙ c.steps.invariant in
+    record { value = same; positive = λ h. subst (λ n. 0 < n) (sym same) (gcd_pos c.args.a c.args.b h) }

@@ -1,0 +1,4 @@
+pub mod Exact
+pub mod Multiples
+pub mod Numerals
+pub mod Reads

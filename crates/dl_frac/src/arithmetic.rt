@@ -1,0 +1,173 @@
+//! The fractions and their arithmetic.
+
+ghost use Rattle.std.specs.Prelude.{◌≡◌, ℕ, ◌*◌, ◌<◌, ◌≤◌, ◌^◌, ◌↔◌};
+ghost use Rattle.std.specs.Ordering.{MatchOrdering};
+ghost use Rattle.dl_exact.specs.Gcd.{gcd};
+ghost use Rattle.dl_exact.specs.Fraction.{Fraction, whole, ◌over◌, ◌+ℚ◌, ◌*ℚ◌, ◌/ℚ◌, ◌<ℚ◌};
+ghost use Rattle.dl_exact.specs.Rounding.{IsFloor, IsCeiling};
+ghost use Rattle.dl_frac.specs.Exact.{Gives};
+
+use crate::divisors::{divisor, wide_divisor};
+use std::cmp::Ordering;
+use std::marker::Model;
+use thiserror::Error;
+
+/// A part of the exact result is 2^62 or more.
+#[derive(Debug, Drop, Error)]
+#[error("a part of the exact result is 2^62 or more")]
+pub struct TooFine;
+
+/// A fraction of at least 0 in lowest terms, both parts below 2^62. Contracts see the `Fraction`.
+#[derive(Clone, Copy, Debug, PartialEq, Eq)]
+pub struct Frac {
+    num: u64,
+    den: u64,
+    ghost positive: { 0 < den },
+    ghost lowest: { gcd num den ≡ 1 },
+}
+
+impl Model for Frac {
+    ghost use Rattle.std.specs.Prelude.{◌<◌, ◌^◌};
+    ghost use Rattle.dl_exact.specs.Fraction.{Fraction};
+
+    ghost Value = { Fraction };
+
+    ghost view = { λ f. record { num = f.num; den = f.den; positive = f.positive; lowest = f.lowest } };
+
+    ghost inverse = { λ x. record { num = x.num; den = x.den; positive = x.positive; lowest = x.lowest } };
+
+    ghost invariant = { λ f. (f.num < 2 ^ 62) × (f.den < 2 ^ 62) };
+}
+
+impl Frac {
+    /// The first part, in lowest terms.
+    pub fn num(self) -> u64
+        ensures part { result ≡ self.num }
+        ensures above { (0 < result) ↔ (whole 0 <ℚ self) }
+        ensures fits { result < 2 ^ 62 }
+    {
+        self.num
+    }
+
+    /// The second part, in lowest terms.
+    pub fn den(self) -> u64
+        ensures part { result ≡ self.den }
+        ensures positive { 0 < result }
+        ensures fits { result < 2 ^ 62 }
+    {
+        self.den
+    }
+
+    /// `num` over `den`, which is above 0. `TooFine` exactly where a part of it in lowest terms is
+    /// 2^62 or more.
+    pub fn make(num: u128, den: u128) -> Result<Frac, TooFine>
+        requires { 0 < den }
+        ensures { Gives result (num over den) }
+    {
+        let common = wide_divisor(num, den);
+        fit(num / common, den / common)
+    }
+
+    /// The sum. `TooFine` exactly where a part of it in lowest terms is 2^62 or more.
+    pub fn add(self, o: Frac) -> Result<Frac, TooFine>
+        ensures { Gives result (self +ℚ o) }
+    {
+        // A divisor that the sum's parts share divides both denominators, so one more step reduces it.
+        let shared = divisor(self.den, o.den);
+        let left = self.num as u128 * (o.den / shared) as u128;
+        let right = o.num as u128 * (self.den / shared) as u128;
+        let cut = wide_divisor(left + right, shared as u128);
+        fit(
+            (left + right) / cut,
+            (self.den / shared) as u128 * (o.den as u128 / cut),
+        )
+    }
+
+    /// The product. `TooFine` exactly where a part of it in lowest terms is 2^62 or more.
+    pub fn mul(self, o: Frac) -> Result<Frac, TooFine>
+        ensures { Gives result (self *ℚ o) }
+    {
+        product(self.num, self.den, o.num, o.den)
+    }
+
+    /// The quotient by `o`, which is above 0. `TooFine` exactly where a part of it in lowest terms is
+    /// 2^62 or more.
+    pub fn div(self, o: Frac) -> Result<Frac, TooFine>
+        requires { whole 0 <ℚ o }
+        ensures { Gives result (self /ℚ o) }
+    {
+        product(self.num, self.den, o.den, o.num)
+    }
+
+    /// The order of the two values.
+    pub fn compare(self, o: Frac) -> Ordering
+        ensures { MatchOrdering result (self <ℚ o) (self ≡ o) (o <ℚ self) }
+    {
+        let left = self.num as u128 * o.den as u128;
+        let right = o.num as u128 * self.den as u128;
+        left.cmp(&right)
+    }
+
+    /// The greatest whole number of units of 1 / 2^B that is not above the value.
+    pub fn floor_scaled<const B: u32>(self) -> u128
+        requires { B ≤ 56 }
+        ensures { IsFloor (whole (2 ^ B) *ℚ self) result }
+    {
+        self.num as u128 * (1u128 << B) / self.den as u128
+    }
+
+    /// The least whole number of units of 1 / 2^B that is not below the value.
+    pub fn ceil_scaled<const B: u32>(self) -> u128
+        requires { B ≤ 56 }
+        ensures { IsCeiling (whole (2 ^ B) *ℚ self) result }
+    {
+        (self.num as u128 * (1u128 << B)).div_ceil(self.den as u128)
+    }
+}
+
+/// `a` over `b` times `c` over `d`, both in lowest terms: cut across first, the product is in lowest
+/// terms.
+fn product(a: u64, b: u64, c: u64, d: u64) -> Result<Frac, TooFine>
+    requires left { 0 < b }
+    requires right { 0 < d }
+    requires left_lowest { gcd a b ≡ 1 }
+    requires right_lowest { gcd c d ≡ 1 }
+    ensures { Gives result ((a * c) over (b * d)) }
+{
+    let down = divisor(a, d);
+    let up = divisor(c, b);
+    fit(
+        (a / down) as u128 * (c / up) as u128,
+        (b / up) as u128 * (d / down) as u128,
+    )
+}
+
+/// Two parts in lowest terms as a fraction, where they fit.
+fn fit(num: u128, den: u128) -> Result<Frac, TooFine>
+    requires positive { 0 < den }
+    requires lowest { gcd num den ≡ 1 }
+    ensures { Gives result (num over den) }
+{
+    if num < 1 << 62 && den < 1 << 62 {
+        Ok(Frac {
+            num: num as u64,
+            den: den as u64,
+        })
+    } else {
+        Err(TooFine)
+    }
+}
+
+/// Two small numbers, the second above 0, as a fraction.
+pub(crate) fn reduced(num: u64, den: u64) -> Frac
+    requires positive { 0 < den }
+    requires small_num { num < 2 ^ 62 }
+    requires small_den { den < 2 ^ 62 }
+    ensures { result ≡ num over den }
+{
+    let common = divisor(num, den);
+    Frac {
+        num: num / common,
+        den: den / common,
+    }
+}

@@ -1,0 +1,54 @@
+//! Greatest common divisors and least common multiples.
+
+ghost use Rattle.std.specs.Prelude.{◌≡◌, ◌<◌, ◌≤◌};
+ghost use Rattle.std.specs.Option.{SomeIff};
+ghost use Rattle.dl_exact.specs.Gcd.{gcd};
+ghost use Rattle.dl_frac.specs.Multiples.{lcm};
+
+/// The greatest common divisor, by Euclid's steps.
+pub(crate) fn divisor(a: u64, b: u64) -> u64
+    ensures value { result ≡ gcd a b }
+    ensures positive { 0 < b → 0 < result }
+{
+    let mut x = a;
+    let mut y = b;
+    'steps: while y != 0 {
+        let rest = x % y;
+        x = y;
+        y = rest;
+    }
+    x
+}
+
+/// The greatest common divisor of wide numbers: wide steps only until the second fits 64 bits.
+pub(crate) fn wide_divisor(a: u128, b: u128) -> u128
+    ensures value { result ≡ gcd a b }
+    ensures positive { 0 < b → 0 < result }
+{
+    let mut x = a;
+    let mut y = b;
+    'steps: while y > u64::MAX as u128 {
+        let rest = x % y;
+        x = y;
+        y = rest;
+    }
+    if y == 0 {
+        return x;
+    }
+    divisor(y as u64, (x % y) as u64) as u128
+}
+
+/// The least common multiple of two numbers above 0; `None` exactly where it passes `limit`.
+#[tactic(auto, unfolding(crate::specs::Multiples::lcm))]
+pub fn lcm_to(a: u64, b: u64, limit: u64) -> Option<u64>
+    requires first { 0 < a }
+    requires second { 0 < b }
+    ensures { SomeIff result (lcm a b ≤ limit) (lcm a b) }
+{
+    let multiple = (a / divisor(a, b)) as u128 * b as u128;
+    if multiple <= limit as u128 {
+        Some(multiple as u64)
+    } else {
+        None
+    }
+}

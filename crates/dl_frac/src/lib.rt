@@ -1,0 +1,19 @@
+//! Exact fractions with parts below 2^62, least common multiples, and the numerals that are read as
+//! such fractions. A result is exact, or it is refused because a part of it would be 2^62 or more.
+//! Nothing here takes memory.
+#![tactic(auto)]
+
+mod arithmetic;
+mod divisors;
+mod laws;
+mod numerals;
+mod reading;
+mod spelling;
+#[cfg(test)]
+mod tests;
+
+pub use arithmetic::{Frac, TooFine};
+pub use divisors::lcm_to;
+pub use laws::{law_bad_numerals, law_fits, law_lcm, law_numeral_values};
+pub use numerals::{BadNumeral, numeral};
+pub use spelling::is_numeral;

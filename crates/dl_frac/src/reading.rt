@@ -1,0 +1,22 @@
+//! What the bytes of a numeral have shown so far.
+
+ghost use Rattle.std.specs.Prelude.{◌<◌, ◌≤◌, ◌^◌};
+
+/// What the bytes of a numeral have shown so far: at most 11 digits, and numbers that they can write.
+#[derive(Clone, Copy)]
+pub(crate) struct Reading {
+    /// The number of the digits, without the point.
+    pub(crate) number: u64,
+    /// How many digits there were.
+    pub(crate) digits: u32,
+    /// 10 for each digit after the point, multiplied.
+    pub(crate) scale: u64,
+    /// There was a point.
+    pub(crate) pointed: bool,
+    /// There was a percent sign.
+    pub(crate) percent: bool,
+    ghost few: { digits ≤ 11 },
+    ghost small: { number < 10 ^ digits },
+    ghost fine: { scale ≤ 10 ^ digits },
+    ghost positive: { 0 < scale },
+}

@@ -1,0 +1,199 @@
+//! Values worked outside the program, by exact fractions.
+
+use crate::{Frac, TooFine, is_numeral, lcm_to, numeral};
+use std::cmp::Ordering;
+
+const TOP: u64 = (1 << 62) - 1;
+
+const HALF: u64 = 1 << 61;
+
+fn of(parts: (u64, u64)) -> Option<Frac> {
+    if parts.1 == 0 {
+        return None;
+    }
+    Frac::make(parts.0 as u128, parts.1 as u128).ok()
+}
+
+fn shown(answer: Result<Frac, TooFine>) -> Option<(u64, u64)> {
+    let value = answer.ok()?;
+    Some((value.num(), value.den()))
+}
+
+fn quotient(x: Frac, y: Frac) -> Option<(u64, u64)> {
+    if y.num() == 0 {
+        return None;
+    }
+    shown(x.div(y))
+}
+
+fn read(text: &[u8], limit: u32) -> Option<(u64, u64)> {
+    if limit > 11 {
+        return None;
+    }
+    if is_numeral(text) {
+        let value = numeral(text, limit).ok()?;
+        return Some((value.num(), value.den()));
+    }
+    None
+}
+
+#[test]
+fn near_the_top(rt: HostRuntime) {
+    // two fractions; their sum, product and quotient where they fit; their order
+    let table = [
+        (
+            (1, 2),
+            (1, 3),
+            Some((5, 6)),
+            Some((1, 6)),
+            Some((3, 2)),
+            Ordering::Greater,
+        ),
+        (
+            (1, 6),
+            (1, 10),
+            Some((4, 15)),
+            Some((1, 60)),
+            Some((5, 3)),
+            Ordering::Greater,
+        ),
+        (
+            (0, 1),
+            (5, 7),
+            Some((5, 7)),
+            Some((0, 1)),
+            Some((0, 1)),
+            Ordering::Less,
+        ),
+        (
+            (TOP - 1, 1),
+            (1, 1),
+            Some((TOP, 1)),
+            Some((TOP - 1, 1)),
+            Some((TOP - 1, 1)),
+            Ordering::Greater,
+        ),
+        (
+            (TOP, 1),
+            (1, 1),
+            None,
+            Some((TOP, 1)),
+            Some((TOP, 1)),
+            Ordering::Greater,
+        ),
+        (
+            (HALF - 1, HALF),
+            (1, HALF),
+            Some((1, 1)),
+            None,
+            Some((HALF - 1, 1)),
+            Ordering::Greater,
+        ),
+        (
+            (1, TOP),
+            (1, TOP - 1),
+            None,
+            None,
+            Some((TOP - 1, TOP)),
+            Ordering::Less,
+        ),
+        (
+            (TOP, 2),
+            (2, 3),
+            None,
+            Some((1537228672809129301, 1)),
+            None,
+            Ordering::Greater,
+        ),
+        (
+            (1 << 31, 1),
+            (1 << 31, 1),
+            Some((1 << 32, 1)),
+            None,
+            Some((1, 1)),
+            Ordering::Equal,
+        ),
+        (
+            (HALF - 2, HALF - 1),
+            (HALF - 1, HALF - 2),
+            None,
+            Some((1, 1)),
+            None,
+            Ordering::Less,
+        ),
+    ];
+    for (first, second, sum, product, over, order) in table {
+        if let (Some(x), Some(y)) = (of(first), of(second)) {
+            assert_eq!(rt; shown(x.add(y)), sum);
+            assert_eq!(rt; shown(x.mul(y)), product);
+            assert_eq!(rt; quotient(x, y), over);
+            assert_eq!(rt; x.compare(y), order);
+            assert_eq!(rt; x == y, order == Ordering::Equal);
+        }
+    }
+}
+
+#[test]
+fn made_and_scaled(rt: HostRuntime) {
+    assert_eq!(rt; shown(Frac::make(1 << 100, 1 << 99)), Some((2, 1)));
+    assert_eq!(rt; shown(Frac::make(1 << 62, 2)), Some((HALF, 1)));
+    assert_eq!(rt; shown(Frac::make(1 << 127, 3 << 126)), Some((2, 3)));
+    assert_eq!(rt; shown(Frac::make(1 << 62, 1)), None);
+    assert_eq!(rt; shown(Frac::make(1, 1 << 62)), None);
+    // a fraction, its floor and its ceiling in units of 1 / 2^56
+    let table = [
+        ((1, 3), 24019198012642645, 24019198012642646),
+        ((1, 2), 36028797018963968, 36028797018963968),
+        ((1, TOP), 0, 1),
+        (
+            (TOP, 1),
+            332306998946228968153894171032158208,
+            332306998946228968153894171032158208,
+        ),
+        ((TOP, TOP - 1), 72057594037927936, 72057594037927937),
+    ];
+    for (parts, floor, ceiling) in table {
+        if let Some(x) = of(parts) {
+            assert_eq!(rt; x.floor_scaled::<56>(), floor);
+            assert_eq!(rt; x.ceil_scaled::<56>(), ceiling);
+        }
+    }
+    assert_eq!(rt; lcm_to(4, 6, 12), Some(12));
+    assert_eq!(rt; lcm_to(4, 6, 11), None);
+    assert_eq!(rt; lcm_to(1 << 63, 1 << 62, 1 << 63), Some(1 << 63));
+    assert_eq!(rt; lcm_to(u64::MAX, u64::MAX - 1, u64::MAX), None);
+}
+
+#[test]
+fn numerals(rt: HostRuntime) {
+    // a numeral, the limit of its digits, and its value where it is not bad
+    let table = [
+        ("0", 11, Some((0, 1))),
+        ("007", 3, Some((7, 1))),
+        ("007", 2, None),
+        ("99999999999", 11, Some((99999999999, 1))),
+        ("099999999999", 11, None),
+        ("5.", 1, Some((5, 1))),
+        (".5", 1, Some((1, 2))),
+        ("12.50", 4, Some((25, 2))),
+        ("12.50", 3, None),
+        ("12%", 4, Some((3, 25))),
+        ("12%", 3, None),
+        (".5%", 3, Some((1, 200))),
+        ("0%", 1, None),
+        ("0/5", 1, Some((0, 1))),
+        ("5/0", 11, None),
+        ("6/04", 2, Some((3, 2))),
+        ("6/04", 1, None),
+        ("06/4", 1, None),
+    ];
+    for (text, limit, value) in table {
+        assert!(rt; is_numeral(text.as_bytes()), "{text}");
+        assert_eq!(rt; read(text.as_bytes(), limit), value, "{text}");
+    }
+    for text in [
+        "", ".", "%", "1.2.3", "1/", "/2", "1/2%", "1.5/2", "-1", "1e3", "5%%", "1 ",
+    ] {
+        assert!(rt; !is_numeral(text.as_bytes()), "{text}");
+    }
+}
