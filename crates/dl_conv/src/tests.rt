@@ -1,0 +1,129 @@
+ghost use Rattle.std.specs.Prelude.{◌≤◌};
+
+use super::convolve;
+use dl_grid::{Grid, units_of_one};
+use dl_iv::Iv;
+use std::alloc::{AllocError, Global};
+
+/// How many of the 36 throws of two dice come to each sum from 0 to 12.
+const WAYS: [usize; 13] = [0, 0, 1, 2, 3, 4, 5, 6, 5, 4, 3, 2, 1];
+
+/// The ends of a cell by the number of its throws, at one scale, and the spread of the whole grid.
+#[derive(Clone, Copy, Debug)]
+struct Sums {
+    by_ways: [(u128, u128); 7],
+    spread: u128,
+}
+
+/// Worked out by whole numbers of any size, from 1/6 rounded down and up at each scale.
+const AT_1: Sums = Sums {
+    by_ways: [(0, 0), (0, 1), (0, 1), (0, 2), (0, 2), (0, 2), (0, 2)],
+    spread: 18,
+};
+
+const AT_48: Sums = Sums {
+    by_ways: [
+        (0, 0),
+        (7818749353073, 7818749353074),
+        (15637498706147, 15637498706148),
+        (23456248059220, 23456248059222),
+        (31274997412294, 31274997412296),
+        (39093746765367, 39093746765370),
+        (46912496118441, 46912496118444),
+    ],
+    spread: 21,
+};
+
+const AT_56: Sums = Sums {
+    by_ways: [
+        (0, 0),
+        (2001599834386886, 2001599834386888),
+        (4003199668773773, 4003199668773775),
+        (6004799503160660, 6004799503160662),
+        (8006399337547547, 8006399337547549),
+        (10007999171934434, 10007999171934437),
+        (12009599006321321, 12009599006321324),
+    ],
+    spread: 25,
+};
+
+/// Writes a cell, where the grid stays one.
+fn write<const B: u32>(g: &mut Grid<B>, x: u32, v: Iv<B>) -> bool
+    requires scale_above { 1 ≤ B }
+    requires scale_below { B ≤ 56 }
+{
+    let one = units_of_one(B);
+    if v.hi > one {
+        return false;
+    }
+    if x >= g.cells() {
+        return false;
+    }
+    let others = g.mass_low().saturating_sub(g.at(x).lo);
+    if others + v.lo > one {
+        return false;
+    }
+    g.set(x, v);
+    true
+}
+
+/// One die on 13 cells, each face enclosed on its own.
+fn die<const B: u32>(alloc: Global) -> Result<Option<Grid<B>>, AllocError>
+    requires scale_above { 1 ≤ B }
+    requires scale_below { B ≤ 56 }
+{
+    let mut g = Grid::<B>::zero(alloc, 13)?;
+    if !write(&mut g, 0, Iv::point(0)) {
+        return Ok(None);
+    }
+    let one = units_of_one(B);
+    for face in 1..7 {
+        let v = Iv {
+            lo: one / 6,
+            hi: one.div_ceil(6),
+        };
+        if !write(&mut g, face, v) {
+            return Ok(None);
+        }
+    }
+    Ok(Some(g))
+}
+
+/// Whether two dice, on the first `cells` cells, have the ends that were worked out.
+fn agrees<const B: u32>(alloc: Global, cells: u32, want: &Sums) -> Result<bool, AllocError>
+    requires scale_above { 1 ≤ B }
+    requires scale_below { B ≤ 56 }
+{
+    let Some(g) = die::<B>(alloc)? else {
+        return Ok(false);
+    };
+    if cells == 0 || cells > g.cells() {
+        return Ok(false);
+    }
+    let both = convolve(alloc, &g, &g, cells)?;
+    let mut same = both.cells() == cells;
+    for (cell, ways) in both.as_slice().iter().zip(&WAYS) {
+        let ends = want.by_ways.get(*ways);
+        same = same && ends == Some(&(cell.lo, cell.hi));
+    }
+    Ok(same && (cells < 13 || both.spread() == want.spread))
+}
+
+#[test]
+fn two_dice(rt: HostRuntime) {
+    // on fewer cells what lies past them is left out, and the others are the same
+    for cells in [1, 7, 12, 13] {
+        let alloc = rt.alloc();
+        assert_eq!(rt; agrees::<1>(alloc, cells, &AT_1), Ok(true), "{cells} cells");
+        assert_eq!(rt;
+            agrees::<48>(alloc, cells, &AT_48),
+            Ok(true),
+            "{cells} cells"
+        );
+        assert_eq!(rt;
+            agrees::<56>(alloc, cells, &AT_56),
+            Ok(true),
+            "{cells} cells"
+        );
+    }
+}

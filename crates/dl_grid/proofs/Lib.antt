@@ -1,0 +1,4 @@
+pub mod CellLaws
+pub mod WidthLaws
+pub mod PairLaws
+pub mod PlaceSums
