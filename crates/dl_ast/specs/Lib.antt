@@ -1,0 +1,4 @@
+pub mod Lexemes
+pub mod Rules
+pub mod Grammar
+pub mod WellFormed

@@ -1,0 +1,33 @@
+//! The syntax of a program: its types, with the bytes of the text that each node stands on; the
+//! grammar that says which tokens spell which program; and what a well-formed program is. Nothing
+//! here reads a text: each law is the contract of a function with an empty body.
+#![tactic(auto)]
+
+ghost use Rattle.std.specs.Prelude.{ℕ, List, All};
+ghost use Rattle.dl_lexer.specs.declared.token.Kind.{Kind};
+ghost use Rattle.dl_lexer.specs.Tokens.{IsSpelled};
+ghost use Rattle.dl_ast.specs.Lexemes.{Lexeme, IsReal};
+ghost use Rattle.dl_ast.specs.Rules.{Spells};
+ghost use Rattle.dl_ast.specs.Grammar.{program};
+ghost use Rattle.dl_ast.specs.WellFormed.{IsWellFormed};
+
+pub mod ast;
+pub mod items;
+#[cfg(test)]
+mod tests;
+
+pub use ast::{
+    Atom, CededLayer, Cession, CountAst, Exposure, FreqAst, Layer, LimitAst, ListAst, ListItem,
+    NameAst, Numeral, PortHead, Program, SevAst, Share, UnitAst,
+};
+pub use items::Items;
+
+/// Each kind has a token: some text is spelled so.
+pub fn law_each_kind()
+    ensures { (k : Kind) → (text : List ℕ) × IsSpelled k text }
+{}
+
+/// What real tokens spell is well formed.
+pub fn law_well_formed()
+    ensures { (p : Program) (ts : List Lexeme) → All IsReal ts → Spells program p ts → IsWellFormed p }
+{}

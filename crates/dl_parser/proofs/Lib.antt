@@ -1,0 +1,11 @@
+mod Sets
+mod Starts
+mod ReadsBack
+mod Took
+mod Stopped
+mod Plain
+mod Loops
+mod Steps
+mod Written
+mod Whole
+mod Covered

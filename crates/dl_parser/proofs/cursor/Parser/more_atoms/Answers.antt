@@ -1,0 +1,31 @@
+-- The loop over atoms reads as many as there are.
+use Rattle.std.proofs.Common.{rules, sym, [], ◌∷◌, ◌++◌, ap, ◌∙◌, append_assoc}
+use Rattle.std.proofs.lemmas.List.{append-nil}
+use Rattle.dl_parser.specs.Factored.{atom}
+use Rattle.dl_parser.proofs.Loops.{loop_at_start, loop_goes_on, loop_ends}
+use Rattle.dl_parser.proofs.Plain.{plain_atoms}
+use Rattle.dl_parser.proofs.Steps.{fewer_tokens}
+use Rattle.dl_parser.proofs.cursor.Parser.more_atoms.Goals as goal
+
+pub atoms-init : goal.atoms-init
+atoms-init c = record { source = search rules; so_far = ([], sym (append-nil _), loop_at_start _) }
+
+pub atoms-smaller : goal.atoms-smaller
+atoms-smaller c = fewer_tokens atom plain_atoms c.atoms.self c.atom.new.self c.in_ok-atom.field-0 c.in_ok-atom.ensures.reads
+
+pub atoms-preserved : goal.atoms-preserved
+atoms-preserved c =
+    let before = c.atoms.invariant.so_far in
+    record {
+      source = search rules;
+      so_far = (
+        before.0 ++ c.in_ok-atom.field-0 ∷ [],
+        c.in_ok-push.ensures.items ∙ ap (λ xs. xs ++ c.in_ok-atom.field-0 ∷ []) before.1 ∙ append_assoc _ before.0 _,
+        loop_goes_on atom plain_atoms _ _ _ _ _ before.2 (sym c.atoms-test.ensures) c.in_ok-atom.ensures.reads,
+      );
+    }
+
+pub returns-clause-reads : goal.returns-clause-reads
+returns-clause-reads c =
+    let so_far = c.atoms.invariant.so_far in
+    (so_far.0, so_far.1, loop_ends atom _ _ _ so_far.2 (sym c.atoms-test.ensures))

@@ -1,0 +1,38 @@
+-- What the parser's methods say.
+use Rattle.std.specs.Prelude.{◌≡◌, List, ◌++◌, Result, Ok, Err}
+use Rattle.dl_lexer.specs.declared.token.Kind.{Kind}
+use Rattle.dl_lexer.specs.declared.token.Token.{Token}
+use Rattle.dl_parser.specs.declared.cursor.Parser.{Parser}
+use Rattle.dl_parser.specs.declared.stop.Stop.{Stop}
+use Rattle.dl_parser.specs.declared.stop.Stop.TheVariants.{Wanted, OutOfMemory}
+use Rattle.dl_ast.specs.Lexemes.{lexeme, lexemes}
+use Rattle.dl_ast.specs.Rules.{Rule, one}
+use Rattle.dl_parser.specs.Reading.{Place, got, stuck, read}
+
+-- where a parser stands
+abbrev pub place : Parser → Place
+place p = record { end = p.end; rest = lexemes p.source.now p.rest.now }
+
+-- What a method returns is what reading by the rule gives, and the parser stands where reading does.
+abbrev pub Reads : {X : Type 0} → Rule X → Parser → Parser → Result X Stop → Type 0
+Reads r old new (Ok x) = read r (place old) ≡ got x (place new)
+Reads r old new (Err (Wanted kind)) = read r (place old) ≡ stuck kind (place new)
+Reads r old new (Err OutOfMemory) = Unit {0}
+
+-- the same of a token
+abbrev pub Takes : Kind → Parser → Parser → Result Token Stop → Type 0
+Takes kind old new (Ok t) = read (one kind) (place old) ≡ got (lexeme old.source.now t) (place new)
+Takes kind old new (Err (Wanted k)) = read (one kind) (place old) ≡ stuck k (place new)
+Takes kind old new (Err OutOfMemory) = ⊥
+
+-- the same where what is read comes behind what is there
+abbrev pub Adds : {A : Type 0} → Rule (List A) → Parser → Parser → List A → List A → Result Unit Stop → Type 0
+Adds {A} r old new xs ys (Ok _) = (zs : List A) × (ys ≡ xs ++ zs) × (read r (place old) ≡ got zs (place new))
+Adds r old new xs ys (Err (Wanted k)) = read r (place old) ≡ stuck k (place new)
+Adds r old new xs ys (Err OutOfMemory) = Unit {0}
+
+-- the same, and something more behind it
+abbrev pub AddsAnd : {A B : Type 0} → Rule (List A × B) → Parser → Parser → List A → List A → Result B Stop → Type 0
+AddsAnd {A} r old new xs ys (Ok y) = (zs : List A) × (ys ≡ xs ++ zs) × (read r (place old) ≡ got (zs, y) (place new))
+AddsAnd r old new xs ys (Err (Wanted k)) = read r (place old) ≡ stuck k (place new)
+AddsAnd r old new xs ys (Err OutOfMemory) = Unit {0}

@@ -1,0 +1,63 @@
+//! Layers.
+
+ghost use Rattle.std.specs.Prelude.{◌≡◌};
+ghost use Rattle.dl_ast.specs.Rules.{maybe};
+ghost use Rattle.dl_ast.specs.Grammar.{limit, layer};
+ghost use Rattle.dl_parser.specs.Reading.{begins, first};
+ghost use Rattle.dl_parser.specs.Parsing.{place, Reads};
+
+use crate::cursor::Parser;
+use crate::stop::Stop;
+use dl_ast::{Layer, LimitAst};
+use dl_lexer::{Keyword, Kind};
+
+impl<'a> Parser<'a> {
+    /// `NUMERAL | 'inf'`
+    #[tactic(auto, unfolding(dl_ast::specs::Grammar::limit, dl_ast::specs::Grammar::numeral))]
+    fn limit(&mut self) -> Result<LimitAst, Stop>
+        ensures source { self.new.source ≡ self.old.source }
+        ensures reads { Reads limit self.old self.new result }
+    {
+        if self.is_next(Kind::Numeral) {
+            return Ok(LimitAst::Finite(self.numeral()?));
+        }
+        self.take(Kind::Word(Keyword::Inf))?;
+        Ok(LimitAst::Infinite)
+    }
+
+    /// `limit 'xs' NUMERAL`
+    #[tactic(auto, unfolding(dl_ast::specs::Grammar::layer))]
+    pub(crate) fn layer(&mut self) -> Result<Layer, Stop>
+        ensures source { self.new.source ≡ self.old.source }
+        ensures reads { Reads layer self.old self.new result }
+    {
+        let start = self.start();
+        let limit = self.limit()?;
+        self.take(Kind::Word(Keyword::Xs))?;
+        let attach = self.numeral()?;
+        Ok(Layer {
+            limit,
+            attach,
+            span: self.since(start),
+        })
+    }
+
+    /// Whether a layer follows.
+    #[tactic(auto, unfolding(dl_ast::specs::Grammar::layer, dl_ast::specs::Grammar::limit, dl_ast::specs::Grammar::numeral))]
+    fn is_layer_next(&self) -> bool
+        ensures { result ≡ begins (first layer) (place self.now).rest }
+    {
+        self.is_next(Kind::Numeral) || self.is_next(Kind::Word(Keyword::Inf))
+    }
+
+    /// `layer?`
+    pub(crate) fn layer_option(&mut self) -> Result<Option<Layer>, Stop>
+        ensures source { self.new.source ≡ self.old.source }
+        ensures reads { Reads (maybe layer) self.old self.new result }
+    {
+        if !self.is_layer_next() {
+            return Ok(None);
+        }
+        Ok(Some(self.layer()?))
+    }
+}

@@ -1,0 +1,47 @@
+//! Reads a program from the tokens of a text. Tokens spell one program and no other, or they are
+//! refused at the first one with which no program goes on.
+#![tactic(auto)]
+
+ghost use Rattle.std.specs.Prelude.{◌≡◌, ℕ, List};
+ghost use Rattle.dl_ast.specs.declared.ast.Program.{Program};
+ghost use Rattle.dl_ast.specs.Lexemes.{Lexeme};
+ghost use Rattle.dl_ast.specs.Rules.{Spells};
+ghost use Rattle.dl_ast.specs.Grammar.{item, mixture, cession, exposure, unit, program};
+ghost use Rattle.dl_parser.specs.Factored as factored;
+ghost use Rattle.dl_parser.specs.Factored.{SpellAlike};
+ghost use Rattle.dl_parser.specs.Viable.{Stops};
+
+mod cede;
+mod cursor;
+mod layers;
+mod lists;
+mod severity;
+mod stop;
+pub mod syntax;
+mod take;
+#[cfg(test)]
+mod tests;
+mod units;
+
+pub use syntax::{ParseFault, parse};
+
+/// The same tokens spell at most one program.
+pub fn law_one_program()
+    ensures { (p q : Program) (ts : List Lexeme) → Spells program p ts → Spells program q ts → p ≡ q }
+{}
+
+/// Tokens stop at one place at most.
+pub fn law_one_place()
+    ensures { (ts : List Lexeme) (j k : ℕ) → Stops ts j → Stops ts k → j ≡ k }
+{}
+
+/// The lines that the parser reads with their shared beginnings read once spell the same as they
+/// are written, and so does the whole grammar.
+pub fn law_as_written()
+    ensures item { SpellAlike factored.item item }
+    ensures mixture { SpellAlike factored.mixture mixture }
+    ensures cession { SpellAlike factored.cession cession }
+    ensures exposure { SpellAlike factored.exposure exposure }
+    ensures unit { SpellAlike factored.unit unit }
+    ensures program { SpellAlike factored.program program }
+{}

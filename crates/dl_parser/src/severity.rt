@@ -1,0 +1,98 @@
+//! Severities.
+
+ghost use Rattle.std.specs.Prelude.{◌≡◌};
+ghost use Rattle.dl_ast.specs.Rules.{many};
+ghost use Rattle.dl_parser.specs.Factored.{atom, weighted, sev};
+ghost use Rattle.dl_parser.specs.Reading.{begins, first};
+ghost use Rattle.dl_parser.specs.Parsing.{place, Reads, Adds, AddsAnd};
+
+use crate::cursor::Parser;
+use crate::stop::Stop;
+use dl_ast::{Atom, Items, ListAst, SevAst};
+use dl_lexer::{Keyword, Kind, Sign};
+
+impl<'a> Parser<'a> {
+    /// `'dsev' list list? | 'sev' 'dhistogram' 'xps' list list?`
+    #[tactic(auto, unfolding(crate::specs::Factored::atom))]
+    fn atom(&mut self) -> Result<Atom, Stop>
+        ensures source { self.new.source ≡ self.old.source }
+        ensures reads { Reads atom self.old self.new result }
+    {
+        if self.is_next(Kind::Word(Keyword::Dsev)) {
+            self.take(Kind::Word(Keyword::Dsev))?;
+        } else {
+            self.take(Kind::Word(Keyword::Sev))?;
+            self.take(Kind::Word(Keyword::Dhistogram))?;
+            self.take(Kind::Word(Keyword::Xps))?;
+        }
+        let values = self.list()?;
+        let probs = self.list_option()?;
+        Ok(Atom { values, probs })
+    }
+
+    /// Whether an atom follows.
+    #[tactic(auto, unfolding(crate::specs::Factored::atom))]
+    fn is_atom_next(&self) -> bool
+        ensures { result ≡ begins (first atom) (place self.now).rest }
+    {
+        self.is_next(Kind::Word(Keyword::Dsev)) || self.is_next(Kind::Word(Keyword::Sev))
+    }
+
+    /// Whether further atoms follow, or the weights.
+    #[tactic(auto, unfolding(crate::specs::Factored::weighted, crate::specs::Factored::atom))]
+    fn is_weighted_next(&self) -> bool
+        ensures { result ≡ begins (first weighted) (place self.now).rest }
+    {
+        self.is_next(Kind::Word(Keyword::Dsev))
+            || self.is_next(Kind::Word(Keyword::Sev))
+            || self.is_next(Kind::Word(Keyword::Wts))
+    }
+
+    /// `atom*`, behind those that are there.
+    fn more_atoms(&mut self, atoms: &mut Vec<Atom>) -> Result<(), Stop>
+        ensures source { self.new.source ≡ self.old.source }
+        ensures reads { Adds (many atom) self.old self.new atoms.old.items atoms.new.items result }
+    {
+        'atoms: while self.is_atom_next() {
+            atoms.push(self.atom()?)?;
+        }
+        Ok(())
+    }
+
+    /// `atom* 'wts' list`, behind the atoms that are there; the weights.
+    #[tactic(auto, unfolding(crate::specs::Factored::weighted))]
+    fn weighted(&mut self, atoms: &mut Vec<Atom>) -> Result<ListAst, Stop>
+        ensures source { self.new.source ≡ self.old.source }
+        ensures reads { AddsAnd weighted self.old self.new atoms.old.items atoms.new.items result }
+    {
+        self.more_atoms(atoms)?;
+        self.take(Kind::Word(Keyword::Wts))?;
+        self.list()
+    }
+
+    /// `(atom | atom atom* 'wts' list) '!'?`
+    #[tactic(auto, unfolding(crate::specs::Factored::sev, crate::specs::Factored::mixture))]
+    pub(crate) fn sev(&mut self) -> Result<SevAst, Stop>
+        ensures source { self.new.source ≡ self.old.source }
+        ensures reads { Reads sev self.old self.new result }
+    {
+        let start = self.start();
+        let mut atoms = Vec::new(self.alloc);
+        atoms.push(self.atom()?)?;
+        let weights = if self.is_weighted_next() {
+            Some(self.weighted(&mut atoms)?)
+        } else {
+            None
+        };
+        let bang = self.is_next(Kind::Sign(Sign::Bang));
+        if bang {
+            self.take(Kind::Sign(Sign::Bang))?;
+        }
+        Ok(SevAst {
+            atoms: Items::from_vec(atoms),
+            weights,
+            bang,
+            span: self.since(start),
+        })
+    }
+}

@@ -1,0 +1,137 @@
+//! One token at a time.
+
+ghost use Rattle.std.specs.Prelude.{◌≡◌, ◌-◌, [], ◌∷◌, IfOk, IfErr, take, drop};
+ghost use Rattle.dl_ast.specs.Rules.{maybe};
+ghost use Rattle.dl_ast.specs.Grammar.{numeral, name, note};
+ghost use Rattle.dl_parser.specs.Reading.{among, begins, start_of};
+ghost use Rattle.dl_parser.specs.Placed.{Inside};
+ghost use Rattle.dl_parser.specs.Parsing.{place, Reads, Takes};
+
+use crate::cursor::Parser;
+use crate::stop::Stop;
+use dl_ast::{NameAst, Numeral};
+use dl_lexer::{Kind, Span, Text, Token};
+
+/// Whether a kind is one of these.
+fn is_among(kind: Kind, kinds: &[Kind]) -> bool
+    ensures { result ≡ among kind kinds.now }
+{
+    kinds.iter().any(|other| kind == *other)
+}
+
+impl<'a> Parser<'a> {
+    /// Whether the next token is of this kind.
+    pub(crate) fn is_next(&self, kind: Kind) -> bool
+        ensures { result ≡ begins (kind ∷ []) (place self.now).rest }
+    {
+        match self.rest.first() {
+            Some(token) => token.kind == kind,
+            None => false,
+        }
+    }
+
+    /// Whether the next token is of one of these kinds.
+    pub(crate) fn is_any_next(&self, kinds: &[Kind]) -> bool
+        ensures { result ≡ begins kinds.now (place self.now).rest }
+    {
+        match self.rest.first() {
+            Some(token) => is_among(token.kind, kinds),
+            None => false,
+        }
+    }
+
+    /// Where the next token starts.
+    pub(crate) fn start(&self) -> u32
+        ensures { result ≡ start_of (place self.now).end (place self.now).rest }
+    {
+        match self.rest.first() {
+            Some(token) => token.span.start,
+            None => self.end,
+        }
+    }
+
+    /// From there to the end of the last token taken.
+    pub(crate) fn since(&self, start: u32) -> Span
+        ensures { result ≡ record { start = start; end = self.now.end } }
+    {
+        Span {
+            start,
+            end: self.end,
+        }
+    }
+
+    /// Takes a token of this kind.
+    pub(crate) fn take(&mut self, kind: Kind) -> Result<Token, Stop>
+        ensures source { self.new.source ≡ self.old.source }
+        ensures reads { Takes kind self.old self.new result }
+        ensures inside { IfOk result (λ t. Inside self.old.source.now t.span) }
+    {
+        match self.rest.split_first() {
+            Some((token, rest)) if token.kind == kind => {
+                self.rest = rest;
+                self.end = token.span.end;
+                Ok(*token)
+            }
+            _ => Err(Stop::Wanted(kind)),
+        }
+    }
+
+    /// The text of a token.
+    fn text(&self, span: Span) -> Result<Text, Stop>
+        requires { Inside self.now.source.now span }
+        ensures reads { IfOk result
+            (λ text. text ≡ take (span.end - span.start) (drop span.start self.now.source.now)) }
+        ensures err { IfErr result (λ e. e ≡ Stop.OutOfMemory) }
+    {
+        let bytes = &self.source[span.start as usize..span.end as usize];
+        Ok(Text::copy(self.alloc, bytes)?)
+    }
+
+    /// `NUMERAL`
+    #[tactic(auto, unfolding(dl_ast::specs::Grammar::numeral))]
+    pub(crate) fn numeral(&mut self) -> Result<Numeral, Stop>
+        ensures source { self.new.source ≡ self.old.source }
+        ensures reads { Reads numeral self.old self.new result }
+    {
+        let token = self.take(Kind::Numeral)?;
+        Ok(Numeral {
+            text: self.text(token.span)?,
+            span: token.span,
+        })
+    }
+
+    /// `NAME`
+    #[tactic(auto, unfolding(dl_ast::specs::Grammar::name))]
+    pub(crate) fn name(&mut self) -> Result<NameAst, Stop>
+        ensures source { self.new.source ≡ self.old.source }
+        ensures reads { Reads name self.old self.new result }
+    {
+        let token = self.take(Kind::Name)?;
+        Ok(NameAst {
+            text: self.text(token.span)?,
+            span: token.span,
+        })
+    }
+
+    /// `NOTE`
+    #[tactic(auto, unfolding(dl_ast::specs::Grammar::note))]
+    fn note(&mut self) -> Result<Text, Stop>
+        ensures source { self.new.source ≡ self.old.source }
+        ensures reads { Reads note self.old self.new result }
+    {
+        let token = self.take(Kind::Note)?;
+        self.text(token.span)
+    }
+
+    /// `NOTE?`
+    #[tactic(auto, unfolding(dl_ast::specs::Grammar::note))]
+    pub(crate) fn note_option(&mut self) -> Result<Option<Text>, Stop>
+        ensures source { self.new.source ≡ self.old.source }
+        ensures reads { Reads (maybe note) self.old self.new result }
+    {
+        if !self.is_next(Kind::Note) {
+            return Ok(None);
+        }
+        Ok(Some(self.note()?))
+    }
+}
