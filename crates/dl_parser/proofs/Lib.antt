@@ -7,5 +7,5 @@ mod Plain
 mod Loops
 mod Steps
 mod Written
-mod Whole
-mod Covered
+pub mod Whole
+pub mod Covered
