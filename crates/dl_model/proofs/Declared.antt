@@ -81,7 +81,10 @@ at_least_plus Q Q' R l l' r r' a a' n u b =
     let two : l' *ℚ R n +ℚ l *ℚ R n ≤ℚ u = at_least_shifted Q' R l' a' (l *ℚ R n) u one n in
     subst (λ t. t ≤ℚ u) (simp ring) two
 
--- ---- a factor, and a quotient over a third series
+-- ---- a series over itself, a factor, and a quotient over a third series
+
+pub self_holds : (R : Series) → Holds R R (whole 1) (whole 1)
+self_holds R = ((λ n u b. subst (λ t. t ≤ℚ u) (sym (one_times (R n))) (b n)), (λ n u b. subst (λ t. R n ≤ℚ t) (sym (one_times u)) (b n)))
 
 pub scaled : (k : Fraction) (Q R : Series) (l h : Fraction) → Holds Q R l h → Holds (λ N. k *ℚ Q N) R (k *ℚ l) (k *ℚ h)
 unfolding Under

@@ -1,4 +1,10 @@
 pub mod Series
 pub mod Compound
+pub mod Severity
+pub mod Ways
 pub mod Listed
 pub mod Program
+pub mod Counts
+pub mod Recursion
+pub mod Measures
+pub mod Family

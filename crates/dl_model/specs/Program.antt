@@ -1,9 +1,10 @@
 -- What independent units declare of their total.
-use Rattle.std.specs.Prelude.{ℕ, ◌*◌, Bool, true, false, nat_eq, List, [], ◌∷◌, sum}
-use Rattle.dl_exact.specs.Fraction.{Fraction, whole, ◌*ℚ◌}
+use Rattle.std.specs.Prelude.{ℕ, ◌-◌, ◌*◌, ◌≤◌, min, Bool, true, false, nat_eq, nat_le, Option, None, Some, List, [], ◌∷◌, sum, get_or}
+use Rattle.dl_exact.specs.Fraction.{Fraction, whole, ◌+ℚ◌, ◌-ℚ◌, ◌*ℚ◌, ◌/ℚ◌}
 use Rattle.dl_exact.specs.Sum.{sum_to}
 use Rattle.dl_model.specs.Series.{Series}
 use Rattle.dl_model.specs.Compound.{cell}
+use Rattle.dl_model.specs.Severity.{IsSeverity}
 use Rattle.dl_model.specs.Listed.{Weighted, probability, greatest}
 
 -- x where the test holds, else 0
@@ -23,15 +24,31 @@ pub record Aggregate : Type 0 where
 abbrev pub outcome : Aggregate → ℕ → Series
 outcome u y N = sum_to (N * u.most) (λ s. where_true (nat_eq (u.clause s) y) (cell u.count u.severity s N))
 
--- what is asked of the total
+-- What is asked of the total: that it is there at all, that it is x, that it is at most x, its mean, its part in the layer of a
+-- limit above an attachment, its tail mean at p where q is the quantile, and the outcome of unit i where the total is x.
 pub data Quantity : Type 0 where
   One : Quantity
   Point : ℕ → Quantity
+  Cdf : ℕ → Quantity
+  Mean : Quantity
+  Layer : Option ℕ → ℕ → Quantity
+  Tail : Fraction → ℕ → Quantity
+  Joint : ℕ → ℕ → Quantity
+
+-- the part of a loss above the attachment, at most the limit where there is one
+abbrev pub in_layer : Option ℕ → ℕ → ℕ → ℕ
+in_layer None attachment x = x - attachment
+in_layer (Some limit) attachment x = min (x - attachment) limit
 
 -- what a list of outcomes, one of each unit, counts for
 abbrev pub score : Quantity → List ℕ → Fraction
 score One ys = whole 1
 score (Point x) ys = where_true (nat_eq (sum ys) x) (whole 1)
+score (Cdf x) ys = where_true (nat_le (sum ys) x) (whole 1)
+score Mean ys = whole (sum ys)
+score (Layer limit attachment) ys = whole (in_layer limit attachment (sum ys))
+score (Tail p q) ys = whole q +ℚ whole (sum ys - q) /ℚ (whole 1 -ℚ p)
+score (Joint i x) ys = where_true (nat_eq (sum ys) x) (whole (get_or ys i 0))
 
 -- the sum, over all lists of one outcome from 0 to N times the greatest amount for each unit, of the value times the product of the outcomes' parts
 unfoldable pub sum_over_outcomes : List Aggregate → (List ℕ → Fraction) → Series
@@ -45,3 +62,13 @@ partial_sums units quantity = sum_over_outcomes units (score quantity)
 -- a unit of listed counts and listed amounts, without an aggregate clause
 abbrev pub listed : Weighted → Weighted → Aggregate
 listed counts amounts = record { count = probability counts; severity = probability amounts; most = greatest amounts; clause = λ s. s }
+
+-- a unit that can be declared: its probabilities add up to 1, and its aggregate clause raises no sum
+pub record IsUnit (u : Aggregate) : Type 0 where
+  pub severity : IsSeverity u.severity u.most
+  pub clause : (s : ℕ) → u.clause s ≤ s
+
+-- each of them can be
+abbrev pub AreUnits : List Aggregate → Type 0
+AreUnits [] = Unit {0}
+AreUnits (u ∷ us) = IsUnit u × AreUnits us

@@ -2,12 +2,12 @@
 //! contract of a function with an empty body.
 #![tactic(auto)]
 
-ghost use Rattle.std.specs.Prelude.{ℕ};
-ghost use Rattle.dl_exact.specs.Fraction.{Fraction, ◌≤ℚ◌};
-ghost use Rattle.dl_model.specs.Series.{Series, Holds};
-ghost use Rattle.dl_model.specs.Program.{Aggregate};
-
-/// A value that lies in an interval lies in each wider one.
-pub fn law_wider()
-    ensures { (Q R : Series) (l l' h h' : Fraction) → l' ≤ℚ l → h ≤ℚ h' → Holds Q R l h → Holds Q R l' h' }
-{}
+pub mod counts;
+pub mod families;
+pub mod listed;
+pub mod measures;
+pub mod programs;
+pub mod recursion;
+pub mod slow;
+pub mod totals;
+pub mod values;

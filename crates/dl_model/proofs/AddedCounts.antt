@@ -1,0 +1,160 @@
+-- Counts added up: exact counts and trials.
+use Rattle.std.proofs.Common.{◌≡◌, inl, inr, ℕ, suc, zero, ◌+◌, ◌-◌, ◌*◌, ◌^◌, ◌<◌, ◌≤◌, arith, refl, sym, ap, ap₂, ◌∙◌, ne_eqb, eq-eqb, mul-pos, pow-suc}
+use mathlib.Core.Path.{fun_ext}
+use Rattle.std.proofs.Math.Nat.{one-le-pow, pow-zero}
+use Rattle.std.proofs.lemmas.Bool.{cases_lt, cases_eq}
+use Rattle.dl_exact.specs.Fraction.{Fraction, ◌over◌, ◌+ℚ◌, ◌*ℚ◌, whole}
+use Rattle.dl_exact.specs.Power.{choose}
+use Rattle.dl_exact.specs.Sum.{sum_to, sum_pairs}
+use Rattle.dl_exact.proofs.Over.{over_same, over_mul}
+use Rattle.dl_exact.proofs.Laws.{one_pos, zero_times, zero_plus, plus_zero, one_times}
+use Rattle.dl_exact.proofs.Sums.{sum_pairs_same}
+use Rattle.dl_model.specs.Compound.{convolve, at_zero, power}
+use Rattle.dl_model.specs.Program.{where_true}
+use Rattle.dl_model.specs.Counts.{fixed, binomial}
+use Rattle.dl_model.specs.Severity.{IsSeverity}
+use Rattle.dl_model.proofs.SumLaws.{over_plus, sum_pairs_none}
+
+-- at most one claim
+module _ (h : ℕ → Fraction) (few : (i : ℕ) → h (suc (suc i)) ≡ whole 0) (g : ℕ → Fraction) where
+  pub none_or_one_zero : convolve h g zero ≡ h zero *ℚ g zero
+  unfolding sum_pairs
+  none_or_one_zero = refl
+
+  pub none_or_one : (n : ℕ) → convolve h g (suc n) ≡ h zero *ℚ g (suc n) +ℚ h 1 *ℚ g n
+  unfolding sum_pairs
+  none_or_one zero = refl
+  none_or_one (suc n) = ap (λ t. h zero *ℚ g (suc (suc n)) +ℚ t)
+      (ap (λ t. h 1 *ℚ g (suc n) +ℚ t) (sum_pairs_same n _ _ (λ i j e. ap (λ t. t *ℚ g j) (few i) ∙ zero_times _) ∙ sum_pairs_none n) ∙ plus_zero _)
+
+-- ---- exactly m claims
+
+fixed_is : (m n : ℕ) → n ≡ m → fixed m n ≡ whole 1
+fixed_is m n e = ap (λ b. where_true b (whole 1)) (eq-eqb n m e)
+
+fixed_is_not : (m n : ℕ) → (n ≡ m → ⊥) → fixed m n ≡ whole 0
+fixed_is_not m n e = ap (λ b. where_true b (whole 1)) (ne_eqb n m e)
+
+pub fixed_past : (m n : ℕ) → m < n → fixed m n ≡ whole 0
+fixed_past m n h = fixed_is_not m n (λ e. omega (arith, e))
+
+fixed_shift : (m n : ℕ) → fixed m n ≡ fixed (suc m) (suc n)
+fixed_shift m n = elim (cases_eq n m) [
+  | inl e ↦ fixed_is m n e ∙ sym (fixed_is (suc m) (suc n) (omega arith))
+  | inr e ↦ fixed_is_not m n e ∙ sym (fixed_is_not (suc m) (suc n) (omega arith))
+]
+
+pub fixed_power : (m : ℕ) → power (fixed 1) m ≡ fixed m
+unfolding power at_zero
+fixed_power zero = fun_ext start
+  where
+    start : (n : ℕ) → at_zero n ≡ fixed zero n
+    start zero = sym (fixed_is zero zero refl)
+    start (suc n) = sym (fixed_is_not zero (suc n) (λ e. omega (arith, e)))
+fixed_power (suc m) = ap (convolve (fixed 1)) (fixed_power m) ∙ fun_ext next
+  where
+    few : (i : ℕ) → fixed 1 (suc (suc i)) ≡ whole 0
+    few i = fixed_is_not 1 (suc (suc i)) (λ e. omega (arith, e))
+
+    next : (n : ℕ) → convolve (fixed 1) (fixed m) n ≡ fixed (suc m) n
+    next zero =
+        none_or_one_zero (fixed 1) few (fixed m) ∙ ap (λ t. t *ℚ fixed m zero) (fixed_is_not 1 zero (λ e. omega (arith, e))) ∙ zero_times _
+        ∙ sym (fixed_is_not (suc m) zero (λ e. omega (arith, e)))
+    next (suc n) =
+        none_or_one (fixed 1) few (fixed m) n
+        ∙ ap₂ (λ s t. s +ℚ t) (ap (λ t. t *ℚ fixed m (suc n)) (fixed_is_not 1 zero (λ e. omega (arith, e))) ∙ zero_times _) (ap (λ t. t *ℚ fixed m n) (fixed_is 1 1 refl) ∙ one_times _)
+        ∙ zero_plus _ ∙ fixed_shift m n
+
+-- ---- m trials
+
+choose-above : (m k : ℕ) → m < k → choose m k ≡ 0
+unfolding choose
+choose-above m zero h = absurd (omega (arith, h))
+choose-above zero (suc k) h = refl
+choose-above (suc m) (suc k) h = omega (arith, choose-above m k (omega arith), choose-above m (suc k) (omega arith))
+
+module _ (a b : ℕ) (pos : 0 < b) where
+  -- the numerator: the ways to choose the claims, times those of each trial
+  numerator : ℕ → ℕ → ℕ
+  numerator m n = choose m n * a ^ n * (b - a) ^ (m - n)
+
+  numerator_zero : (m : ℕ) → numerator (suc m) zero ≡ (b - a) * numerator m zero
+  unfolding numerator choose
+  numerator_zero m =
+      let q = b - a in
+      let d : suc m - zero ≡ suc m = omega arith in
+      let e : m - zero ≡ m = omega arith in
+      rw (d, e, pow-suc q m) (omega arith)
+
+  numerator_next : (m n : ℕ) → numerator (suc m) (suc n) ≡ (b - a) * numerator m (suc n) + a * numerator m n
+  unfolding numerator choose
+  numerator_next m n =
+      let q = b - a in
+      let d : suc m - suc n ≡ m - n = omega arith in
+      rw (d, pow-suc a n) (elim (cases_lt n m) [
+        | inl l ↦
+            let e : m - n ≡ suc (m - suc n) = omega arith in
+            rw (e, pow-suc q (m - suc n)) (omega arith)
+        | inr l ↦ omega (arith, ap (λ t. t * (a ^ n * a)) (choose-above m (suc n) (omega arith)), ap (λ t. q * (t * (a ^ n * a) * q ^ (m - suc n))) (choose-above m (suc n) (omega arith)), ap (λ t. t * (a ^ n * a) * q ^ (m - n)) (choose-above m (suc n) (omega arith)))
+      ])
+
+  below : (m : ℕ) → 0 < b ^ m
+  below m = one-le-pow m b pos
+
+  no_trial : (n : ℕ) → at_zero n ≡ binomial zero a b n
+  unfolding at_zero choose
+  no_trial zero = sym (over_same _ _ 1 1 (below zero) one_pos (rw (pow-zero a, pow-zero b) (omega (arith, pow-zero (b - a)))))
+  no_trial (suc n) = sym (over_same _ _ 0 1 (below zero) one_pos (omega arith))
+
+  power_of_one : (x : ℕ) → x ^ 1 ≡ x
+  power_of_one x = pow-suc x zero ∙ ap (λ t. t * x) (pow-zero x) ∙ omega arith
+
+  pub one_trial_none : binomial 1 a b zero ≡ (b - a) over b
+  unfolding choose
+  one_trial_none =
+      let alone : choose 1 0 * a ^ 0 * (b - a) ^ (1 - 0) ≡ b - a = ap₂ (λ s t. 1 * s * t) (pow-zero a) (power_of_one (b - a)) ∙ omega arith in
+      over_same _ _ _ _ (below 1) pos (ap₂ (λ s t. s * t) alone (sym (power_of_one b)))
+
+  pub one_trial_one : binomial 1 a b 1 ≡ a over b
+  unfolding choose
+  one_trial_one =
+      let alone : choose 1 1 * a ^ 1 * (b - a) ^ (1 - 1) ≡ a = ap₂ (λ s t. 1 * s * t) (power_of_one a) (pow-zero (b - a)) ∙ omega arith in
+      over_same _ _ _ _ (below 1) pos (ap₂ (λ s t. s * t) alone (sym (power_of_one b)))
+
+  one_trial_more : (i : ℕ) → binomial 1 a b (suc (suc i)) ≡ whole 0
+  one_trial_more i = over_same _ _ 0 1 (below 1) one_pos (omega (arith, ap (λ c. c * a ^ suc (suc i) * (b - a) ^ (1 - suc (suc i))) (choose-above 1 (suc (suc i)) (omega arith))))
+
+  pub binomial_power : (m : ℕ) → power (binomial 1 a b) m ≡ binomial m a b
+  unfolding power numerator
+  binomial_power zero = fun_ext no_trial
+  binomial_power (suc m) = ap (convolve (binomial 1 a b)) (binomial_power m) ∙ fun_ext next
+    where
+      more : b ^ suc m ≡ b * b ^ m
+      more = pow-suc b m ∙ omega arith
+
+      next : (n : ℕ) → convolve (binomial 1 a b) (binomial m a b) n ≡ binomial (suc m) a b n
+      next zero =
+          none_or_one_zero (binomial 1 a b) one_trial_more (binomial m a b)
+          ∙ ap (λ t. t *ℚ binomial m a b zero) one_trial_none
+          ∙ over_mul _ _ _ _ pos (below m)
+          ∙ ap₂ (λ s t. s over t) (sym (numerator_zero m)) (sym more)
+      next (suc n) =
+          none_or_one (binomial 1 a b) one_trial_more (binomial m a b) n
+          ∙ ap₂ (λ s t. s +ℚ t)
+          (ap (λ t. t *ℚ binomial m a b (suc n)) one_trial_none ∙ over_mul _ _ _ _ pos (below m))
+          (ap (λ t. t *ℚ binomial m a b n) one_trial_one ∙ over_mul _ _ _ _ pos (below m))
+          ∙ over_plus _ _ (b * b ^ m) (mul-pos pos (below m))
+          ∙ ap₂ (λ s t. s over t) (sym (numerator_next m n)) (sym more)
+
+  -- one trial is a severity of the amounts 0 and 1
+  pub trial : a ≤ b → IsSeverity (binomial 1 a b) 1
+  unfolding sum_to
+  trial h = record {
+    add_up = ap₂ (λ s t. s +ℚ t) one_trial_none one_trial_one ∙ over_plus (b - a) a b pos ∙ over_same _ _ 1 1 pos one_pos (omega arith);
+    past = λ j far. binomial_past j far;
+  }
+    where
+      binomial_past : (j : ℕ) → 1 < j → binomial 1 a b j ≡ whole 0
+      binomial_past zero far = absurd (omega (arith, far))
+      binomial_past (suc zero) far = absurd (omega (arith, far))
+      binomial_past (suc (suc i)) far = one_trial_more i

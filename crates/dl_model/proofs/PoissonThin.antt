@@ -1,0 +1,58 @@
+-- Thinning: claims of amount 0 can be left out of a Poisson count.
+use Rattle.std.proofs.Common.{◌≡◌, ℕ, zero, ◌+◌, sym, ap, ap₂, subst, ◌∙◌}
+use Rattle.std.proofs.Math.Nat.{zero-lt-suc}
+use Rattle.dl_exact.specs.Fraction.{Fraction, ◌*ℚ◌, ◌≤ℚ◌, ◌<ℚ◌, whole}
+use Rattle.dl_exact.specs.Sum.{sum_to}
+use Rattle.dl_model.specs.Series.{Series, times, SameValue}
+use Rattle.dl_model.specs.Compound.{convolve, power, cell}
+use Rattle.dl_model.specs.Counts.{poisson}
+use Rattle.dl_model.specs.Severity.{IsPositivePart}
+use Rattle.dl_exact.proofs.Laws.{ring, times_assoc, times_left_comm, times_plus, times_one, whole_pos}
+use Rattle.dl_exact.proofs.Sums.{sum_to_same, sum_pairs_same}
+use Rattle.dl_model.proofs.Cauchy.{cauchy_low, cauchy_high}
+use Rattle.dl_model.proofs.PoissonWeights.{next_of, poisson_zero, poisson_plus, poisson_bound}
+use Rattle.dl_model.proofs.Thin.{split}
+use Rattle.dl_model.proofs.Alike.{same_value, value_trans, cancel_value}
+use Rattle.dl_model.proofs.FamilyLaws.{sum_rises_to}
+
+module _ (v : Fraction) (f : ℕ → Fraction) (p : Fraction) (g : ℕ → Fraction) (h : IsPositivePart f p g) where
+  none : ℕ → Fraction
+  none = poisson (v *ℚ f zero)
+
+  some : ℕ → Fraction
+  some = poisson (v *ℚ p)
+
+  split_poisson : (n y : ℕ) → poisson v n *ℚ power f n y ≡ convolve none (λ j. some j *ℚ power g j y) n
+  unfolding none some
+  split_poisson n y =
+      split f p g h (poisson v) (λ n. v) (λ i j. poisson (v *ℚ f zero) i *ℚ poisson (v *ℚ p) j)
+      (poisson_zero v ∙ sym (ap₂ (λ s t. s *ℚ t) (poisson_zero _) (poisson_zero _) ∙ times_one _))
+      (next_of v)
+      (λ i j. sym (times_assoc _ _ _) ∙ ap (λ s. s *ℚ poisson (v *ℚ p) j) (next_of (v *ℚ f zero) i) ∙ simp ring)
+      (λ i j. times_left_comm _ _ _ ∙ ap (λ s. poisson (v *ℚ f zero) i *ℚ s) (next_of (v *ℚ p) j) ∙ simp ring)
+      n y
+      ∙ sum_pairs_same n _ _ (λ i j e. times_assoc _ _ _)
+
+  split_all : (n : ℕ) → poisson v n ≡ convolve none some n
+  unfolding none some
+  split_all n =
+      ap (λ t. poisson t n) (sym (times_one v) ∙ ap (λ t. v *ℚ t) (sym h.share) ∙ times_plus v (f zero) p)
+      ∙ poisson_plus (v *ℚ f zero) (v *ℚ p) n
+
+  -- thinning: claims of amount 0 can be left out of a Poisson count
+  pub thin_poisson : (y : ℕ) → SameValue (cell (poisson v) f y) (λ N. sum_to N (poisson v)) (cell (poisson (v *ℚ p)) g y) (λ N. sum_to N (poisson (v *ℚ p)))
+  unfolding none some sum_to
+  thin_poisson y =
+      let E : Series = λ N. sum_to N none in
+      let Q : Series = cell (poisson (v *ℚ p)) g y in
+      let R : Series = λ N. sum_to N some in
+      let q : ℕ → Fraction = λ j. some j *ℚ power g j y in
+      let cells : (N : ℕ) → cell (poisson v) f y N ≡ sum_to N (convolve none q) = λ N. sum_to_same N _ _ (λ n b. split_poisson n y) in
+      let all : (N : ℕ) → sum_to N (poisson v) ≡ sum_to N (convolve none some) = λ N. sum_to_same N _ _ (λ n b. split_all n) in
+      value_trans _ _ (times E Q) (times E R) _ _
+      (same_value _ _ (times E Q) (times E R)
+      (λ N. (N, subst (λ t. t ≤ℚ E N *ℚ Q N) (sym (cells N)) (cauchy_low N none q)))
+      (λ N. (N + N, subst (λ t. E N *ℚ Q N ≤ℚ t) (sym (cells (N + N))) (cauchy_high N none q)))
+      (λ N. (N, subst (λ t. t ≤ℚ E N *ℚ R N) (sym (all N)) (cauchy_low N none some)))
+      (λ N. (N + N, subst (λ t. E N *ℚ R N ≤ℚ t) (sym (all (N + N))) (cauchy_high N none some))))
+      (cancel_value E (sum_rises_to none) _ zero (poisson_bound (v *ℚ f zero)) (subst (λ t. whole 0 <ℚ t) (sym (poisson_zero (v *ℚ f zero))) (whole_pos 1 (zero-lt-suc zero))) Q R (sum_rises_to q) (sum_rises_to some))

@@ -1,0 +1,122 @@
+-- Sums of gamma weights settle.
+use Rattle.std.proofs.Common.{◌≡◌, ℕ, suc, zero, ◌+◌, max, arith, refl, sym, ap, ap₂, subst, subst₂, ◌∙◌}
+use Rattle.std.proofs.Math.Nat.{zero-lt-suc, le-max_left, le-max_right}
+use Rattle.dl_exact.specs.Fraction.{Fraction, ◌+ℚ◌, ◌*ℚ◌, ◌/ℚ◌, ◌≤ℚ◌, ◌<ℚ◌, whole}
+use Rattle.dl_exact.specs.Sum.{sum_to}
+use Rattle.dl_model.specs.Series.{Series, Rises, times, Settles}
+use Rattle.dl_model.specs.Compound.{convolve}
+use Rattle.dl_model.specs.Counts.{gamma}
+use Rattle.dl_exact.proofs.Laws.{ring, plus_comm, times_comm, plus_times, plus_assoc, times_plus, one_times, times_one, whole_suc, whole_plus, whole_pos, le_refl, le_trans, le_of_eq, le_of_lt, le_plus, plus_le_both, plus_le_cancel, times_le_cancel, times_le_times, times_pos, archimedes, div_times, div_pos}
+use Rattle.dl_model.proofs.Declared.{times_le_both, rises_to}
+use Rattle.dl_exact.proofs.Sums.{sum_to_same}
+use Rattle.dl_model.proofs.FamilyLaws.{sum_rises_to}
+use Rattle.dl_model.proofs.Cauchy.{cauchy_low, cauchy_high}
+use Rattle.dl_model.proofs.Alike.{IsUnder}
+use Rattle.dl_model.proofs.Gamma.{gamma_zero, geometric_next, geometric_low, gamma_one_more}
+
+-- half of a fraction
+half_of : (q : Fraction) → q /ℚ whole 2 +ℚ q /ℚ whole 2 ≡ q
+half_of q =
+    let x = q /ℚ whole 2 in
+    ap₂ (λ s t. s +ℚ t) (sym (times_one x)) (sym (times_one x)) ∙ sym (times_plus x (whole 1) (whole 1)) ∙ ap (λ t. x *ℚ t) (sym (whole_plus 1 1))
+    ∙ div_times q (whole 2) (whole_pos 2 (omega arith))
+
+pub settles_from : (Q R : Series) → IsUnder R Q → IsUnder Q R → Settles Q → Settles R
+settles_from Q R a b s p q one qp =
+    let k = s p q one qp in
+    ((b k.0).0, λ n. le_trans _ _ _ (times_le_both p p _ _ (le_refl p) (a n).1) (le_trans _ _ _ (k.1 (a n).0) (b k.0).1))
+
+pub settles_times : (Q R : Series) → Rises Q → Rises R → Settles Q → Settles R → Settles (times Q R)
+settles_times Q R q r s t p e one ep =
+    let h = e /ℚ whole 2 in
+    let hp : whole 0 <ℚ h = div_pos e (whole 2) ep (whole_pos 2 (omega arith)) in
+    let c = p +ℚ h in
+    let c_one : c +ℚ h ≡ whole 1 = plus_assoc p h h ∙ ap (λ x. p +ℚ x) (half_of e) ∙ one in
+    let c_le : c ≤ℚ whole 1 = subst (λ x. c ≤ℚ x) c_one (le_plus c h) in
+    let square : p ≤ℚ c *ℚ c = square_above p h c refl c_one c_le in
+    let i = (s c h c_one hp).0 in
+    let j = (t c h c_one hp).0 in
+    let m = max i j in (
+      m,
+      λ n.
+          le_trans _ _ _ (times_le_times _ _ (Q n *ℚ R n) square)
+          (subst (λ x. x ≤ℚ Q m *ℚ R m) (turn c (Q n) (R n))
+          (times_le_both _ _ _ _
+          (le_trans _ _ _ ((s c h c_one hp).1 n) (rises_to Q q i m (le-max_left i j)))
+          (le_trans _ _ _ ((t c h c_one hp).1 n) (rises_to R r j m (le-max_right i j))))),
+    )
+  where
+    turn : (a b c : Fraction) → a *ℚ b *ℚ (a *ℚ c) ≡ a *ℚ a *ℚ (b *ℚ c)
+    turn a b c = simp ring
+
+    square_above : (p h c : Fraction) → p +ℚ h ≡ c → c +ℚ h ≡ whole 1 → c ≤ℚ whole 1 → p ≤ℚ c *ℚ c
+    square_above p h c e one l =
+        plus_le_cancel p (c *ℚ c) h
+        (subst₂ (λ s t. s ≤ℚ t) (sym (times_plus c c h) ∙ ap (λ x. c *ℚ x) one ∙ times_one c ∙ sym e) refl
+        (plus_le_both _ _ _ _ (le_refl (c *ℚ c)) (subst (λ t. c *ℚ h ≤ℚ t) (one_times h) (times_le_times _ _ h l))))
+
+module _ (x d : Fraction) (one : x +ℚ d ≡ whole 1) (dp : whole 0 <ℚ d) where
+  pub S : Series
+  S N = sum_to N (gamma 1 x)
+
+  x_le : x ≤ℚ whole 1
+  x_le = subst (λ t. x ≤ℚ t) one (le_plus x d)
+
+  identity : (N : ℕ) → d *ℚ S N +ℚ gamma 1 x (suc N) ≡ whole 1
+  unfolding S sum_to
+  identity zero = ap₂ (λ s t. d *ℚ s +ℚ t) (gamma_zero zero x) (geometric_next x zero ∙ ap (λ t. x *ℚ t) (gamma_zero zero x)) ∙ ap₂ (λ s t. s +ℚ t) (times_one d) (times_one x) ∙ plus_comm d x ∙ one
+  identity (suc N) =
+      let g = gamma 1 x (suc N) in
+      ap (λ t. d *ℚ (sum_to N (gamma 1 x) +ℚ g) +ℚ t) (geometric_next x (suc N))
+      ∙ turn d (sum_to N (gamma 1 x)) g x ∙ ap (λ t. d *ℚ sum_to N (gamma 1 x) +ℚ t *ℚ g) one ∙ ap (λ t. d *ℚ sum_to N (gamma 1 x) +ℚ t) (one_times g) ∙ identity N
+    where
+      turn : (d s g x : Fraction) → d *ℚ (s +ℚ g) +ℚ x *ℚ g ≡ d *ℚ s +ℚ (x +ℚ d) *ℚ g
+      turn d s g x = simp ring
+
+  -- the sum holds n + 1 items that are at least the last
+  many : (N : ℕ) → whole (suc N) *ℚ gamma 1 x N ≤ℚ S N
+  unfolding S sum_to
+  many zero = le_of_eq _ _ (one_times _)
+  many (suc N) =
+      let g = gamma 1 x (suc N) in
+      let falls : g ≤ℚ gamma 1 x N = subst₂ (λ s t. s ≤ℚ t) (sym (geometric_next x N)) (one_times _) (times_le_times _ _ (gamma 1 x N) x_le) in
+      subst (λ t. t ≤ℚ sum_to N (gamma 1 x) +ℚ g) (sym (ap (λ t. t *ℚ g) (whole_suc (suc N)) ∙ plus_times _ _ g ∙ ap (λ t. whole (suc N) *ℚ g +ℚ t) (one_times g)))
+      (plus_le_both _ _ _ _ (le_trans _ _ _ (times_le_both _ _ _ _ (le_refl (whole (suc N))) falls) (many N)) (le_refl g))
+
+  pub geometric_settles : Settles S
+  unfolding S
+  geometric_settles p q e qp =
+      let a = archimedes (whole 1) (d *ℚ q) (times_pos d q dp qp) in
+      let K = a.0 in
+      let g = gamma 1 x (suc K) in
+      let k = whole (suc K) in
+      let small : gamma 1 x K ≤ℚ q =
+      times_le_cancel _ _ (k *ℚ d) (times_pos k d (whole_pos (suc K) (zero-lt-suc K)) dp)
+      (le_trans _ _ _ (subst₂ (λ s t. s ≤ℚ t) (turn d k (gamma 1 x K)) refl (times_le_both d d _ _ (le_refl d) (many K)))
+      (le_trans _ _ _ (geometric_low x d one K) (le_trans _ _ _ (le_of_lt _ _ a.1)
+      (subst₂ (λ s t. s ≤ℚ t) refl (turn' k d q) (times_le_times _ _ (d *ℚ q) (subst (λ t. whole K ≤ℚ t) (sym (whole_suc K)) (le_plus (whole K) (whole 1)))))))) in
+      let next : g ≤ℚ q = le_trans _ _ _ (subst₂ (λ s t. s ≤ℚ t) (sym (geometric_next x K)) (one_times _) (times_le_times _ _ (gamma 1 x K) x_le)) small in
+      let p_le : p ≤ℚ d *ℚ S K = plus_le_cancel _ _ q (subst (λ t. t ≤ℚ d *ℚ S K +ℚ q) (identity K ∙ sym e) (plus_le_both _ _ _ _ (le_refl (d *ℚ S K)) next)) in (
+        K,
+        λ n. times_le_cancel _ _ d dp
+            (subst₂ (λ s t. s ≤ℚ t) (back p d (S n)) (times_one _ ∙ times_comm d (S K)) (times_le_both _ _ _ _ p_le (geometric_low x d one n))),
+      )
+    where
+      turn : (a b c : Fraction) → a *ℚ (b *ℚ c) ≡ c *ℚ (b *ℚ a)
+      turn a b c = simp ring
+
+      turn' : (a b c : Fraction) → a *ℚ (b *ℚ c) ≡ c *ℚ (a *ℚ b)
+      turn' a b c = simp ring
+
+      back : (a b c : Fraction) → a *ℚ (b *ℚ c) ≡ a *ℚ c *ℚ b
+      back a b c = simp ring
+
+  pub gamma_settles : (s : ℕ) → Settles (λ N. sum_to N (gamma (suc s) x))
+  unfolding S
+  gamma_settles zero = geometric_settles
+  gamma_settles (suc s) =
+      let w : (N : ℕ) → sum_to N (convolve (gamma 1 x) (gamma (suc s) x)) ≡ sum_to N (gamma (suc (suc s)) x) = λ N. sum_to_same N _ _ (λ n b. sym (gamma_one_more s x n)) in
+      settles_from (times (λ N. sum_to N (gamma 1 x)) (λ N. sum_to N (gamma (suc s) x))) _
+      (λ N. (N, subst (λ t. t ≤ℚ sum_to N (gamma 1 x) *ℚ sum_to N (gamma (suc s) x)) (w N) (cauchy_low N (gamma 1 x) (gamma (suc s) x))))
+      (λ N. (N + N, subst (λ t. sum_to N (gamma 1 x) *ℚ sum_to N (gamma (suc s) x) ≤ℚ t) (w (N + N)) (cauchy_high N (gamma 1 x) (gamma (suc s) x))))
+      (settles_times _ _ (sum_rises_to (gamma 1 x)) (sum_rises_to (gamma (suc s) x)) geometric_settles (gamma_settles s))

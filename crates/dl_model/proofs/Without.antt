@@ -1,0 +1,24 @@
+-- The units without one of them.
+use Rattle.std.proofs.Common.{◌≡◌, ℕ, suc, zero, ◌+◌, ◌<◌, arith, refl, sym, ap, ◌∙◌, List, [], ◌∷◌, ◌++◌, length, take, drop, get_or, add-one}
+use Rattle.dl_model.specs.Program.{Aggregate, AreUnits}
+use Rattle.dl_model.specs.Family.{mapped}
+use Rattle.dl_model.specs.Measures.{unit_of, without}
+
+without_suc : (us : List Aggregate) (i : ℕ) → without us i ≡ take i us ++ drop (suc i) us
+without_suc [] zero = refl
+without_suc [] (suc i) = refl
+without_suc (u ∷ us) zero = refl
+without_suc (u ∷ us) (suc i) = ap (λ vs. u ∷ vs) (without_suc us i)
+
+pub without_is : (us : List Aggregate) (i : ℕ) → without us i ≡ take i us ++ drop (i + 1) us
+without_is us i = without_suc us i ∙ ap (λ n. take i us ++ drop n us) (sym (add-one i))
+
+pub unit_is : (us : List Aggregate) (i : ℕ) (d : Aggregate) → i < length us → unit_of us i ≡ mapped (get_or us i d)
+unit_is [] i d h = absurd (omega arith)
+unit_is (u ∷ us) zero d h = refl
+unit_is (u ∷ us) (suc i) d h = unit_is us i d (omega arith)
+
+pub without_units : (us : List Aggregate) (i : ℕ) → AreUnits us → AreUnits (without us i)
+without_units [] i h = h
+without_units (u ∷ us) zero h = h.1
+without_units (u ∷ us) (suc i) h = (h.0, without_units us i h.1)

@@ -1,0 +1,14 @@
+-- Sums and compound sums of whole numbers.
+use Rattle.std.specs.Prelude.{ℕ, zero, suc, ◌+◌, ◌*◌}
+use Rattle.dl_grid.specs.Pairs.{count_pairs}
+
+-- f 0 + .. + f (n - 1)
+unfoldable pub count_below : ℕ → (ℕ → ℕ) → ℕ
+count_below zero f = 0
+count_below (suc n) f = count_below n f + f n
+
+-- the weighted ways in which n claims add up to s, where w j is the weight of amount j
+unfoldable pub ways : (ℕ → ℕ) → ℕ → ℕ → ℕ
+ways w zero zero = 1
+ways w zero (suc s) = 0
+ways w (suc n) s = count_pairs s (λ i j. w i * ways w n j)

@@ -1,0 +1,14 @@
+use Rattle.std.proofs.Common.{ℕ, ◌≡◌, ◌*◌, ◌/◌, ◌^◌, ◌<◌, ◌≤◌, length, take}
+use Rattle.std.specs.Int.{div_ceil}
+use Rattle.dl_grid.specs.Cells.{low_at, high_at, mass_low, spread}
+use Rattle.dl_plan.specs.Weighted.{weight_at, weight_sum}
+use Rattle.dl_power.proofs.claims.claim_grid.Given as goal
+
+abbrev pub invariant-loop-item : goal.invariant-loop-item
+invariant-loop-item g l = record {
+  cells : length l.grid ≡ l.cells;
+  low : (y : ℕ) → y < l.cells → low_at l.grid y ≡ 2 ^ g.row.B * weight_at (take l.item-index l.amounts) y / l.total;
+  high : (y : ℕ) → y < l.cells → high_at l.grid y ≡ div_ceil (2 ^ g.row.B * weight_at (take l.item-index l.amounts) y) l.total;
+  mass : mass_low l.grid * l.total ≤ 2 ^ g.row.B * weight_sum (take l.item-index l.amounts);
+  spread : spread l.grid ≤ l.item-index;
+}

@@ -1,0 +1,44 @@
+//! The grid of one claim.
+
+ghost use Rattle.std.specs.Prelude.{◌≡◌, ℕ, ◌*◌, ◌/◌, ◌^◌, ◌<◌, ◌≤◌, length, IfOk};
+ghost use Rattle.std.specs.Int.{div_ceil};
+ghost use Rattle.std.specs.List.Sorted.{IsStrictlyIncreasing};
+ghost use Rattle.dl_grid.specs.Cells.{low_at, high_at, spread};
+ghost use Rattle.dl_model.specs.Listed.{probability};
+ghost use Rattle.dl_model.specs.Counts.{fixed};
+ghost use Rattle.dl_model.specs.Family.{compound, GridEncloses};
+ghost use Rattle.dl_plan.specs.Weighted.{amounts_of, weight_at, weight_sum};
+ghost use Rattle.dl_power.specs.Listed.{weighted};
+
+use crate::shares::{nowhere, put, share};
+use dl_grid::Grid;
+use dl_plan::Item;
+use std::alloc::{AllocError, Global};
+
+/// The first `cells` cells of one claim: each holds the probability of its amount, its weight over the
+/// total, rounded outward once. The amounts rise; those past the grid are left out.
+pub fn claim_grid<const B: u32>(
+    alloc: Global,
+    amounts: &[Item],
+    total: u32,
+    cells: u32,
+) -> Result<Grid<B>, AllocError>
+    requires scale_above { 1 ≤ B }
+    requires scale_below { B ≤ 56 }
+    requires rising { IsStrictlyIncreasing (amounts_of amounts.now) }
+    requires sum { weight_sum amounts.now ≡ total }
+    requires positive { 0 < total }
+    requires some { 1 ≤ cells }
+    requires few { cells ≤ 16384 }
+    ensures cells { IfOk result (λ g. length g ≡ cells) }
+    ensures low { IfOk result (λ g. (x : ℕ) → x < cells → low_at g x ≡ 2 ^ B * weight_at amounts.now x / total) }
+    ensures high { IfOk result (λ g. (x : ℕ) → x < cells → high_at g x ≡ div_ceil (2 ^ B * weight_at amounts.now x) total) }
+    ensures encloses { IfOk result (λ g. GridEncloses g (compound (fixed 1) (probability (weighted amounts.now)))) }
+    ensures spread { IfOk result (λ g. spread g ≤ length amounts.now) }
+{
+    let mut grid = nowhere(alloc, cells)?;
+    for item in amounts {
+        put(&mut grid, item.amount, share(item.weight, total));
+    }
+    Ok(grid)
+}

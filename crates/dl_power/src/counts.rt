@@ -1,0 +1,98 @@
+//! A listed number of claims, by Horner's rule.
+
+ghost use Rattle.std.specs.Prelude.{◌≡◌, ℕ, suc, ◌+◌, ◌-◌, ◌*◌, ◌/◌, ◌^◌, ◌<◌, ◌≤◌, min, length, IfOk};
+ghost use Rattle.std.specs.Int.{div_ceil};
+ghost use Rattle.dl_exact.specs.Fraction.{Fraction};
+ghost use Rattle.dl_grid.specs.Cells.{low_at, high_at, mass_low, spread, all_at_zero};
+ghost use Rattle.dl_grid.specs.Pairs.{count_pairs};
+ghost use Rattle.dl_grid.specs.Width.{cv};
+ghost use Rattle.dl_model.specs.Listed.{probability, greatest};
+ghost use Rattle.dl_model.specs.Counts.{fixed};
+ghost use Rattle.dl_model.specs.Severity.{IsWithinOne};
+ghost use Rattle.dl_model.specs.Family.{compound, GridEncloses};
+ghost use Rattle.dl_plan.specs.Weighted.{weight_sum};
+ghost use Rattle.dl_power.specs.Listed.{weighted};
+ghost use Rattle.dl_power.specs.Spread.{mixed_spread};
+
+use crate::shares::{greatest_of, nowhere, share, weight_of, well_made};
+use dl_conv::convolve;
+use dl_grid::{Grid, units_of_one};
+use dl_iv::Iv;
+use dl_plan::Item;
+use std::alloc::{AllocError, Global};
+
+/// Adds an interval to cell 0, and lowers its high end to 1 where it is above.
+fn add_at_zero<const B: u32>(grid: &mut Grid<B>, more: Iv<B>)
+    requires some { 1 ≤ length grid.old }
+    requires small { more.hi ≤ 2 ^ B }
+    requires mass { mass_low grid.old + more.lo ≤ 2 ^ B }
+    ensures cells { length grid.new ≡ length grid.old }
+    ensures low { (x : ℕ) → low_at grid.new x ≡ low_at grid.old x + all_at_zero more.entry.lo x }
+    ensures high { high_at grid.new 0 ≡ min (high_at grid.old 0 + more.entry.hi) (2 ^ B) }
+    ensures others { (x : ℕ) → high_at grid.new (suc x) ≡ high_at grid.old (suc x) }
+    ensures mass { mass_low grid.new ≡ mass_low grid.old + more.entry.lo }
+    ensures spread { spread grid.new ≤ spread grid.old + (more.entry.hi - more.entry.lo) }
+{
+    let both = grid.at(0).add(more);
+    grid.set(0, both.clamp_to(units_of_one(B)));
+}
+
+/// One step of Horner's rule: one claim more before each of the counts so far, and the next lower
+/// count's share, which leaves no claim, at 0.
+fn one_claim_more<const B: u32>(
+    alloc: Global,
+    base: &Grid<B>,
+    later: &Grid<B>,
+    share: Iv<B>,
+    cells: u32,
+) -> Result<Grid<B>, AllocError>
+    requires some { 1 ≤ cells }
+    requires in_base { cells ≤ length base.now }
+    requires in_later { cells ≤ length later.now }
+    requires small { share.hi ≤ 2 ^ B }
+    requires mass { mass_low later.now + share.lo ≤ 2 ^ B }
+    ensures cells { IfOk result (λ g. length g ≡ cells) }
+    ensures low { IfOk result (λ g. (s : ℕ) → s < cells → low_at g s
+        ≡ count_pairs s (λ i j. low_at base.now i * low_at later.now j) / 2 ^ B + all_at_zero share.entry.lo s) }
+    ensures high { IfOk result (λ g. (s : ℕ) → s < cells → high_at g s
+        ≡ min (min (2 ^ B) (div_ceil (count_pairs s (λ i j. high_at base.now i * high_at later.now j)) (2 ^ B)) + all_at_zero share.entry.hi s) (2 ^ B)) }
+    ensures mass { IfOk result (λ g. mass_low g ≤ mass_low later.now + share.entry.lo) }
+    ensures spread { IfOk result (λ g. spread g ≤ cv (2 ^ B) cells (spread base.now) (spread later.now) + (share.entry.hi - share.entry.lo)) }
+{
+    well_made(base);
+    let mut grid = convolve(alloc, base, later, cells)?;
+    add_at_zero(&mut grid, share);
+    Ok(grid)
+}
+
+/// The first `cells` cells of the sum of a listed number of claims: `table` has the numbers of claims,
+/// each with its weight out of `total`, and `base` is the grid of one claim. Horner's rule goes from
+/// the greatest number down, with one convolution for each number below it; besides the base two grids
+/// are held at a time.
+pub fn mix_counts<const B: u32>(
+    alloc: Global,
+    base: &Grid<B>,
+    table: &[Item],
+    total: u32,
+    cells: u32,
+) -> Result<Grid<B>, AllocError>
+    requires sum { weight_sum table.now ≡ total }
+    requires positive { 0 < total }
+    requires some { 1 ≤ cells }
+    requires within { cells ≤ length base.now }
+    ensures cells { IfOk result (λ g. length g ≡ cells) }
+    ensures encloses { IfOk result (λ g. (f : ℕ → Fraction) → IsWithinOne f → GridEncloses base.now (compound (fixed 1) f)
+        → GridEncloses g (compound (probability (weighted table.now)) f)) }
+    ensures spread { IfOk result (λ g. spread g ≤ mixed_spread (2 ^ B) cells (spread base.now) (greatest (weighted table.now))) }
+{
+    well_made(base);
+    let greatest = greatest_of(table);
+    let mut grid = nowhere(alloc, cells)?;
+    add_at_zero(&mut grid, share(weight_of(table, greatest), total));
+    for step in 0..greatest {
+        let count = greatest - step - 1;
+        let share = share(weight_of(table, count), total);
+        grid = one_claim_more(alloc, base, &grid, share, cells)?;
+    }
+    Ok(grid)
+}

@@ -1,0 +1,16 @@
+//! Sums of claims: the grid of one claim, of a fixed number of claims, and of a listed number of
+//! claims. Each cell holds the declared probability of its sum, and how far its ends lie apart follows
+//! from the width rule.
+#![tactic(auto)]
+
+mod claims;
+mod counts;
+mod powers;
+mod shares;
+#[cfg(test)]
+mod tests;
+
+pub use claims::claim_grid;
+pub use counts::mix_counts;
+pub use powers::power;
+pub use shares::law_weighted;

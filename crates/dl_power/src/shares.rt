@@ -1,0 +1,97 @@
+//! The weights of a list, and each as its share of the total.
+
+ghost use Rattle.std.specs.Prelude.{◌≡◌, ℕ, ◌+◌, ◌-◌, ◌*◌, ◌/◌, ◌^◌, ◌==◌, ◌<◌, ◌≤◌, if◌then◌else◌, length, List, IfOk};
+ghost use Rattle.std.specs.Int.{div_ceil};
+ghost use Rattle.dl_grid.specs.Cells.{low_at, high_at, mass_low, spread, IsGrid};
+ghost use Rattle.dl_model.specs.Listed.{weight_of, total_weight, greatest};
+ghost use Rattle.dl_plan.specs.declared.item.Item.{Item};
+ghost use Rattle.dl_plan.specs.Weighted.{weight_at, weight_sum};
+ghost use Rattle.dl_power.specs.Listed.{weighted};
+
+use dl_grid::Grid;
+use dl_iv::Iv;
+use dl_plan::Item;
+use std::alloc::{AllocError, Global};
+
+/// The model's weights are those of the list.
+pub fn law_weighted()
+    ensures each { (items : List Item) (x : ℕ) → weight_of (weighted items) x ≡ weight_at items x }
+    ensures all { (items : List Item) → total_weight (weighted items) ≡ weight_sum items }
+{}
+
+/// The weight of `x`, 0 where it is not listed.
+pub(crate) fn weight_of(items: &[Item], x: u32) -> u32
+    requires fits { weight_sum items.now < 2 ^ 32 }
+    ensures { result ≡ weight_at items.now x }
+{
+    let mut weight = 0;
+    for item in items {
+        if item.amount == x {
+            weight += item.weight;
+        }
+    }
+    weight
+}
+
+/// The greatest number of a list, 0 of none.
+pub(crate) fn greatest_of(items: &[Item]) -> u32
+    ensures { result ≡ greatest (weighted items.now) }
+{
+    let mut most: u32 = 0;
+    for item in items {
+        most = most.max(item.amount);
+    }
+    most
+}
+
+/// A weight over the total, rounded outward.
+pub(crate) fn share<const B: u32>(weight: u32, total: u32) -> Iv<B>
+    requires scale_above { 1 ≤ B }
+    requires scale_below { B ≤ 56 }
+    requires positive { 0 < total }
+    requires within { weight ≤ total }
+    ensures low { result.lo ≡ 2 ^ B * weight / total }
+    ensures high { result.hi ≡ div_ceil (2 ^ B * weight) total }
+    ensures small { result.hi ≤ 2 ^ B }
+{
+    Iv::enclose(u128::from(weight), u128::from(total))
+}
+
+/// Every grid is well made: it reads the grid and changes nothing.
+pub(crate) fn well_made<const B: u32>(grid: &Grid<B>)
+    ensures { IsGrid grid.now }
+{
+    grid.as_slice();
+}
+
+/// The grid whose cells are all 0.
+pub(crate) fn nowhere<const B: u32>(alloc: Global, cells: u32) -> Result<Grid<B>, AllocError>
+    requires scale_above { 1 ≤ B }
+    requires scale_below { B ≤ 56 }
+    requires some { 1 ≤ cells }
+    requires few { cells ≤ 16384 }
+    ensures cells { IfOk result (λ g. length g ≡ cells) }
+    ensures low { IfOk result (λ g. (x : ℕ) → low_at g x ≡ 0) }
+    ensures high { IfOk result (λ g. (x : ℕ) → high_at g x ≡ 0) }
+    ensures mass { IfOk result (λ g. mass_low g ≡ 0) }
+    ensures spread { IfOk result (λ g. spread g ≡ 0) }
+{
+    let mut grid = Grid::zero(alloc, cells)?;
+    grid.set(0, Iv::point(0));
+    Ok(grid)
+}
+
+/// Writes one cell where the grid has it.
+pub(crate) fn put<const B: u32>(grid: &mut Grid<B>, x: u32, v: Iv<B>)
+    requires small { v.hi ≤ 2 ^ B }
+    requires mass { mass_low grid.old + v.lo ≤ 2 ^ B }
+    ensures cells { length grid.new ≡ length grid.old }
+    ensures low { (y : ℕ) → y < length grid.old → low_at grid.new y ≡ (if x == y then v.entry.lo else low_at grid.old y) }
+    ensures high { (y : ℕ) → y < length grid.old → high_at grid.new y ≡ (if x == y then v.entry.hi else high_at grid.old y) }
+    ensures mass { mass_low grid.new ≤ mass_low grid.old + v.entry.lo }
+    ensures spread { spread grid.new ≤ spread grid.old + (v.entry.hi - v.entry.lo) }
+{
+    if x < grid.cells() {
+        grid.set(x, v);
+    }
+}
