@@ -1,0 +1,5 @@
+mod Digits
+mod ReplyLaws
+mod RunLaws
+mod SimpleLists
+mod Values

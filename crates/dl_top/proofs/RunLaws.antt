@@ -1,0 +1,71 @@
+-- What a call leaves behind once the text of a fault was written, whole or in part.
+use Rattle.std.proofs.Common.{ℕ, ◌≡◌, List, [], ◌++◌, Option, None, Some, arith, refl, sym, subst}
+use Rattle.std.proofs.lemmas.List.{append-nil}
+use Rattle.std.specs.Io.KnownBytes.{Appends}
+use Rattle.dl_outside.specs.Bytes.{AppendsPartOf}
+use Rattle.dl_lexer.specs.declared.token.Token.{Token}
+use Rattle.dl_top.specs.declared.status.Status.{Status}
+use Rattle.dl_top.specs.declared.status.Status.TheVariants as statuses
+use Rattle.dl_top.specs.declared.fault.Fault.{Fault}
+use Rattle.dl_top.specs.declared.fault.Fault.TheVariants.{Usage, Read, TooLong, BadByte, Syntax, Continuous, NotBuilt}
+use Rattle.dl_top.specs.Faults.{status_of, fault_line}
+use Rattle.dl_top.specs.Statuses.{IsAnswerEnd}
+use Rattle.dl_top.specs.Answers.{Answers, Refuses, IsAccepted, refused}
+use Rattle.dl_top.specs.Runs.{Answered, PartOfMessage}
+use Rattle.dl_top.proofs.ReplyLaws.{accepted}
+
+appends_nothing : (held : Option (List ℕ)) → Appends held held []
+appends_nothing None = tt
+appends_nothing (Some bytes) = sym (append-nil bytes)
+
+-- the fault that a text was made of
+abbrev pub IsTold : List (List ℕ) → List ℕ → Fault → List ℕ → Type 0
+IsTold words input fault text = (tokens : List Token) × Refuses words input fault tokens × (text ≡ fault_line fault input tokens)
+
+told_answer : (words : List (List ℕ)) (input : List ℕ) (fault : Fault) (text : List ℕ) → IsTold words input fault text → Answers words input (status_of fault) [] text
+told_answer words input fault text (tokens, refuses, is) = rw is (refused fault tokens refuses)
+
+pub message : (words : List (List ℕ)) (input : List ℕ) (fault : Fault) (text : List ℕ) (status : Status) (out err err' : Option (List ℕ))
+    → IsTold words input fault text → status ≡ status_of fault → Appends err err' text → Answered words input status out out err err'
+message words input fault text status out err err' is e gains = record {
+  report = [];
+  message = text;
+  answer = rw e (told_answer words input fault text is);
+  out_gains = appends_nothing out;
+  err_gains = gains;
+}
+
+read_of_status : (fault : Fault) → status_of fault ≡ statuses.ReadFault → fault ≡ Read
+read_of_status Usage e = grind (arith, e)
+read_of_status Read e = refl
+read_of_status TooLong e = grind (arith, e)
+read_of_status (BadByte at) e = grind (arith, e)
+read_of_status (Syntax k) e = grind (arith, e)
+read_of_status (Continuous k) e = grind (arith, e)
+read_of_status NotBuilt e = grind (arith, e)
+
+pub usage_of_status : (fault : Fault) → status_of fault ≡ statuses.Usage → fault ≡ Usage
+usage_of_status Usage e = refl
+usage_of_status Read e = grind (arith, e)
+usage_of_status TooLong e = grind (arith, e)
+usage_of_status (BadByte at) e = grind (arith, e)
+usage_of_status (Syntax k) e = grind (arith, e)
+usage_of_status (Continuous k) e = grind (arith, e)
+usage_of_status NotBuilt e = grind (arith, e)
+
+pub part : (words : List (List ℕ)) (input : List ℕ) (fault : Fault) (text : List ℕ) (err err' : Option (List ℕ)) {ReadFailed : Type 0}
+    → IsTold words input fault text → (fault ≡ Read → ReadFailed) → AppendsPartOf err err' text → PartOfMessage words input ReadFailed err err'
+part words input fault text err err' is read gains = record {
+  status = status_of fault;
+  message = text;
+  answer = told_answer words input fault text is;
+  gains = gains;
+  read = λ e. read (read_of_status fault e);
+}
+
+-- an accepted text ends well
+pub ends_well : (words : List (List ℕ)) (input : List ℕ) (fault : Fault) (text : List ℕ) (status : Status) → IsTold words input fault text → status ≡ status_of fault
+    → IsAccepted words input → IsAnswerEnd status
+ends_well words input fault text status (tokens, refuses, is) e a =
+    let read : fault ≡ Read = accepted words input fault tokens a refuses in
+    rw (e, read) tt

@@ -1,0 +1,24 @@
+-- A refusal, written whole or in part.
+use Rattle.std.proofs.Common.{refl, inr, sym, ◌∙◌}
+use Rattle.dl_top.proofs.ReplyLaws.{told}
+use Rattle.dl_top.proofs.RunLaws.{IsTold, message, usage_of_status, part, ends_well}
+use Rattle.dl_top.proofs.run.Goals as goal
+
+pub returns-in-Ok-write_all-clause-answer : goal.returns-in-Ok-write_all-clause-answer
+returns-in-Ok-write_all-clause-answer g c = told _ {P = λ input. IsTold _ input c.in-Refusal.fault c.in-Refusal.text.items} c.in-Refusal.ensures.reply (λ input is written.
+    message _ input _ _ c.status.result _ _ _ is c.status.ensures (rw c.as_slice-in-Refusal.ensures.value at c.in-Ok-write_all.ensures.whole))
+
+pub returns-in-Ok-write_all-clause-complete : goal.returns-in-Ok-write_all-clause-complete
+returns-in-Ok-write_all-clause-complete g c = told _ {P = λ input. IsTold _ input c.in-Refusal.fault c.in-Refusal.text.items} c.in-Refusal.ensures.reply (λ input is accepted.
+    ends_well _ input _ _ c.status.result is c.status.ensures accepted)
+
+pub returns-in-Ok-write_all-clause-usage : goal.returns-in-Ok-write_all-clause-usage
+returns-in-Ok-write_all-clause-usage g c e = c.in-Refusal.ensures.usage (usage_of_status c.in-Refusal.fault (sym c.status.ensures ∙ e))
+
+pub returns-in-Refusal-clause-write_cause : goal.returns-in-Refusal-clause-write_cause
+returns-in-Refusal-clause-write_cause g c e = inr (
+  c.in-Err-write_all.ensures.fault,
+  refl,
+  told _ {P = λ input. IsTold _ input c.in-Refusal.fault c.in-Refusal.text.items} c.in-Refusal.ensures.reply (λ input is.
+      part _ input _ _ _ _ is c.in-Refusal.ensures.read_cause (rw c.as_slice-in-Refusal.ensures.value at c.in-Err-write_all.ensures.part)),
+)

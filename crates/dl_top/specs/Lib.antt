@@ -1,0 +1,9 @@
+pub mod Words
+pub mod Lines
+pub mod Statuses
+pub mod Faults
+pub mod Simple
+pub mod Reports
+pub mod Answers
+pub mod Replies
+pub mod Runs

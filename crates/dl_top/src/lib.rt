@@ -1,0 +1,84 @@
+//! The top call: from the words and the bytes read to the bytes written.
+//!
+//! [`run`] answers one ask about one program. Everything that it writes is made in memory first, and
+//! goes to one of two sinks: a report to the one, the text of a fault to the other.
+#![tactic(auto)]
+
+mod fault;
+mod print;
+mod reply;
+mod simple;
+mod status;
+#[cfg(test)]
+mod tests;
+mod value;
+mod words;
+
+ghost use Rattle.std.specs.Prelude.{◌≡◌, ◌⊎◌, ℕ, List, [], IfSome, map};
+ghost use Rattle.std.specs.Io.KnownBytes.{Appends};
+ghost use Rattle.std.specs.String.{string_bytes};
+ghost use Rattle.dl_outside.specs.Faults.{Rose};
+ghost use Rattle.dl_top.specs.Words.{AskNothing};
+ghost use Rattle.dl_top.specs.Faults.{fault_line};
+ghost use Rattle.dl_top.specs.Statuses.{IsWritten, IsRefusal, IsUsageEnd, IsAnswerEnd};
+ghost use Rattle.dl_top.specs.Answers.{AskSome, IsAccepted};
+ghost use Rattle.dl_top.specs.Runs.{Answered, PartOfReport, PartOfMessage};
+
+use crate::reply::{Reply, reply_to};
+use dl_outside::{Sink, Source, write_all};
+pub use fault::{Fault, fault_text};
+pub use status::Status;
+use std::alloc::Global;
+
+/// Answers the words over what the source has left. The report goes to `out`, and the text of a
+/// fault to `err`.
+pub fn run<R: Source, O: Sink, E: Sink>(
+    alloc: Global,
+    words: &[String],
+    src: &mut R,
+    out: &mut O,
+    err: &mut E,
+) -> Status
+    // What is written is the answer to the words and the input, where the source tells its bytes:
+    // a report whose interval holds the declared probability, or the first fault.
+    ensures answer { IfSome (R.left src.old) (λ input. IsWritten result →
+        Answered (map string_bytes words.now) input result (O.held out.old) (O.held out.new) (E.held err.old) (E.held err.new)) }
+
+    // Words that ask for something and a text that declares a simple program are answered.
+    ensures complete { IfSome (R.left src.old) (λ input.
+        IsAccepted (map string_bytes words.now) input → IsAnswerEnd result) }
+
+    // One sink is written at most, and the other stays as it was.
+    ensures done { result ≡ Status.Done → err.new ≡ err.old }
+    ensures refused { IsRefusal result → out.new ≡ out.old }
+    ensures memory { result ≡ Status.OutOfMemory → (out.new ≡ out.old) × (err.new ≡ err.old) }
+
+    // A fault of the words comes from the words alone, and the source is not read.
+    ensures usage { result ≡ Status.Usage → AskNothing (map string_bytes words.now) }
+    ensures unread { AskNothing (map string_bytes words.now) → IsUsageEnd result × (src.new ≡ src.old) }
+
+    // A failed read has its cause, and is told.
+    ensures read_cause { result ≡ Status.ReadFault → Rose (R.faults src.old) (R.faults src.new) }
+    ensures read_words { result ≡ Status.ReadFault → AskSome (map string_bytes words.now) }
+    ensures read_text { result ≡ Status.ReadFault →
+        Appends (E.held err.old) (E.held err.new) (fault_line Fault.Read [] []) }
+
+    // A failed write has its cause: one sink holds a part of the answer, and the other is as it was.
+    ensures write_cause { result ≡ Status.WriteFault →
+        (Rose (O.faults out.old) (O.faults out.new) × (err.new ≡ err.old)
+        × IfSome (R.left src.old) (λ input. PartOfReport (map string_bytes words.now) input (O.held out.old) (O.held out.new)))
+        ⊎ (Rose (E.faults err.old) (E.faults err.new) × (out.new ≡ out.old)
+        × IfSome (R.left src.old) (λ input. PartOfMessage (map string_bytes words.now) input (Rose (R.faults src.old) (R.faults src.new)) (E.held err.old) (E.held err.new))) }
+{
+    match reply_to(alloc, words, src) {
+        Reply::Report(text) => match write_all(out, text.as_slice()) {
+            Ok(()) => Status::Done,
+            Err(_) => Status::WriteFault,
+        },
+        Reply::Refusal(fault, text) => match write_all(err, text.as_slice()) {
+            Ok(()) => fault.status(),
+            Err(_) => Status::WriteFault,
+        },
+        Reply::OutOfMemory => Status::OutOfMemory,
+    }
+}
