@@ -1,0 +1,9 @@
+pub mod Fits
+pub mod Sums
+pub mod Common
+pub mod Cessions
+pub mod Apart
+pub mod Weights
+pub mod Shares
+pub mod Means
+pub mod NumeralLaws

@@ -1,0 +1,147 @@
+-- Lists of weights and their greatest common divisor.
+use Rattle.std.proofs.Common.{ℕ, ◌≡◌, ◌∙◌, ◌*◌, ◌/◌, ◌<◌, ◌≤◌, ◌^◌, List, [], ◌∷◌, length, map, fold, Bool, true, false, cond, ◌==◌, refl, sym, ap, ap₂, subst, arith, inl, inr}
+use Rattle.std.proofs.Math.Nat.{div-mul_cancel, mul-div_cancel, pos_of_dvd_of_pos, eq_of_mul-eq-mul_right, div-le_self}
+use Prim.Native.Nat.{◌∣◌}
+use Rattle.std.proofs.lemmas.Bool.{cases_lt}
+use Rattle.std.proofs.lemmas.Nat.Gcd.{dvd_trans, dvd_refl}
+use Rattle.std.specs.List.{All}
+use Rattle.std.specs.List.Sorted.{IsStrictlyIncreasing}
+use Rattle.std.proofs.lemmas.List.{length-map}
+use Rattle.std.proofs.lemmas.Simd.{map-map}
+use Rattle.std.proofs.lemmas.List.Elements.{All-cons, All-nil, All-tail}
+use Rattle.std.proofs.lemmas.List.Sums.{sum_by-cons}
+use Rattle.dl_exact.specs.Gcd.{gcd}
+use Rattle.dl_exact.specs.Fraction.{◌over◌}
+use Rattle.dl_exact.proofs.GcdLaws.{gcd_is, gcd-scale}
+use Rattle.dl_exact.proofs.Over.{over_same}
+use Rattle.dl_plan.specs.declared.item.Item.{Item}
+use Rattle.dl_plan.specs.Weighted.{amounts_of, weight_sum, weight_at, common_weight, divided_by, IsWeighted}
+
+le_zero : {n : ℕ} → n ≤ 0 → n ≡ 0
+le_zero h = omega (arith, h)
+
+nought_times : (k : ℕ) → 0 * k ≡ 0
+nought_times k = omega arith
+
+one_times : (k : ℕ) → k ≡ 1 * k
+one_times k = omega arith
+
+cancel : (a b k : ℕ) → 0 < k → a * k ≡ b * k → a ≡ b
+cancel a b k h e = eq_of_mul-eq-mul_right k h a b e
+
+pos_of_times : (a k : ℕ) → 0 < a * k → 0 < a
+pos_of_times a k h = elim (cases_lt 0 a) [ inl p ↦ p | inr p ↦ absurd (omega (arith, h, ap (λ n. n * k) (le_zero p))) ]
+
+swap_in : (a b k : ℕ) → a * (b * k) ≡ a * k * b
+swap_in a b k = omega arith
+
+-- the item with g times its weight
+abbrev pub times : ℕ → Item → Item
+times g item = record { amount = item.amount; weight = item.weight * g }
+
+pub weight_sum-times : (g : ℕ) (xs : List Item) → weight_sum (map (times g) xs) ≡ weight_sum xs * g
+weight_sum-times g [] = omega arith
+weight_sum-times g (x ∷ xs) =
+    rw (sum_by-cons (λ (i : Item). i.weight) (times g x) (map (times g) xs), sum_by-cons (λ (i : Item). i.weight) x xs, weight_sum-times g xs) (omega arith)
+
+weight_of_one : (b : Bool) (w g : ℕ) → cond b (w * g) 0 ≡ cond b w 0 * g
+weight_of_one true w g = refl
+weight_of_one false w g = omega arith
+
+pub weight_at-times : (g : ℕ) (xs : List Item) (y : ℕ) → weight_at (map (times g) xs) y ≡ weight_at xs y * g
+weight_at-times g [] y = omega arith
+weight_at-times g (x ∷ xs) y =
+    let f : Item → ℕ = λ i. cond (i.amount == y) i.weight 0 in
+    rw (sum_by-cons f (times g x) (map (times g) xs), sum_by-cons f x xs, weight_at-times g xs y, weight_of_one (x.amount == y) x.weight g) (omega arith)
+
+-- the divisor of d and the weights
+abbrev pub common_from : ℕ → List Item → ℕ
+common_from d xs = fold (λ c (i : Item). gcd c i.weight) d xs
+
+pub common-times : (g d : ℕ) (xs : List Item) → 0 < g → common_from (d * g) (map (times g) xs) ≡ common_from d xs * g
+common-times g d [] h = refl
+common-times g d (x ∷ xs) h =
+    ap (λ c. common_from c (map (times g) xs)) (gcd-scale d x.weight g h) ∙ common-times g (gcd d x.weight) xs h
+
+pub common-divides_start : (d : ℕ) (xs : List Item) → common_from d xs ∣ d
+common-divides_start d [] = dvd_refl d
+common-divides_start d (x ∷ xs) = dvd_trans _ (common-divides_start (gcd d x.weight) xs) (gcd_is d x.weight).0
+
+pub common-divides : (d : ℕ) (xs : List Item) → All (λ (i : Item). common_from d xs ∣ i.weight) xs
+common-divides d [] = All-nil (λ (i : Item). d ∣ i.weight)
+common-divides d (x ∷ xs) =
+    All-cons (λ (i : Item). common_from d (x ∷ xs) ∣ i.weight) x xs
+    (dvd_trans _ (common-divides_start (gcd d x.weight) xs) (gcd_is d x.weight).1)
+    (common-divides (gcd d x.weight) xs)
+
+pub common_pos : (xs : List Item) → 0 < length xs → All (λ (i : Item). 0 < i.weight) xs → 0 < common_weight xs
+common_pos [] some positive = absurd (omega (arith, some))
+common_pos (x ∷ xs) some positive = pos_of_dvd_of_pos (common-divides 0 (x ∷ xs) 0 x (omega arith)) (positive 0 x (omega arith))
+
+-- a common divisor taken out and put back changes nothing
+pub times-divided : (g : ℕ) (xs : List Item) → All (λ (i : Item). g ∣ i.weight) xs → map (times g) (map (divided_by g) xs) ≡ xs
+times-divided g [] d = refl
+times-divided g (x ∷ xs) d =
+    ap₂ (λ (w : ℕ) (ys : List Item). record { amount = x.amount; weight = w } ∷ ys)
+    (div-mul_cancel g (d 0 x (omega arith)))
+    (times-divided g xs (All-tail (λ (i : Item). g ∣ i.weight) x xs d))
+
+pub weight_sum_pos : (xs : List Item) → 0 < length xs → All (λ (i : Item). 0 < i.weight) xs → 0 < weight_sum xs
+weight_sum_pos [] some positive = absurd (omega (arith, some))
+weight_sum_pos (x ∷ xs) some positive = omega (arith, sum_by-cons (λ (i : Item). i.weight) x xs, positive 0 x (omega arith))
+
+divided_pos : (g : ℕ) (xs : List Item) → All (λ (i : Item). g ∣ i.weight) xs → All (λ (i : Item). 0 < i.weight) xs → All (λ (i : Item). 0 < i.weight) (map (divided_by g) xs)
+divided_pos g [] d positive = All-nil (λ (i : Item). 0 < i.weight)
+divided_pos g (x ∷ xs) d positive =
+    let back : x.weight / g * g ≡ x.weight = div-mul_cancel g (d 0 x (omega arith)) in
+    let one : 0 < x.weight / g = elim (cases_lt 0 (x.weight / g)) [
+      | inl h ↦ h
+      | inr h ↦ absurd (omega (arith, positive 0 x (omega arith), back, ap (λ q. q * g) (le_zero h)))
+    ] in
+    All-cons (λ (i : Item). 0 < i.weight) (divided_by g x) (map (divided_by g) xs) one
+    (divided_pos g xs (All-tail (λ (i : Item). g ∣ i.weight) x xs d) (All-tail (λ (i : Item). 0 < i.weight) x xs positive))
+
+module _ (xs : List Item) (some : 0 < length xs) (positive : All (λ (i : Item). 0 < i.weight) xs) where
+  abbrev g : ℕ
+  g = common_weight xs
+
+  abbrev ys : List Item
+  ys = map (divided_by g) xs
+
+  g_pos : 0 < g
+  g_pos = common_pos xs some positive
+
+  back : map (times g) ys ≡ xs
+  back = times-divided g xs (common-divides 0 xs)
+
+  sum_back : weight_sum ys * g ≡ weight_sum xs
+  sum_back = sym (weight_sum-times g ys) ∙ ap weight_sum back
+
+  pub total_is : weight_sum xs / g ≡ weight_sum ys
+  total_is = ap (λ n. n / g) (sym sum_back) ∙ mul-div_cancel (weight_sum ys) g_pos
+
+  lowest : common_weight ys ≡ 1
+  lowest =
+      let e : common_weight ys * g ≡ 1 * g =
+      sym (common-times g 0 ys g_pos) ∙ ap (λ d. common_from d (map (times g) ys)) (nought_times g) ∙ ap common_weight back ∙ one_times g in
+      cancel (common_weight ys) 1 g g_pos e
+
+  -- the greatest common divisor taken out
+  pub divided_is : IsStrictlyIncreasing (amounts_of xs) → weight_sum xs ≤ 2 ^ 30 → IsWeighted ys (weight_sum xs / g)
+  divided_is rising within = record {
+    some = rw (length-map xs (divided_by g)) some;
+    rising = subst IsStrictlyIncreasing (sym (map-map (λ (i : Item). i.amount) (divided_by g) xs)) rising;
+    positive = divided_pos g xs (common-divides 0 xs) positive;
+    sum = sym total_is;
+    within = omega (arith, div-le_self (weight_sum xs) g, within);
+    lowest = lowest;
+  }
+
+  pub divided_means : (y : ℕ) → weight_at ys y over (weight_sum xs / g) ≡ weight_at xs y over weight_sum xs
+  divided_means y =
+      let at_back : weight_at ys y * g ≡ weight_at xs y = sym (weight_at-times g ys y) ∙ ap (λ zs. weight_at zs y) back in
+      let total : 0 < weight_sum xs = weight_sum_pos xs some positive in
+      let part : 0 < weight_sum ys = pos_of_times (weight_sum ys) g (subst (λ n. 0 < n) (sym sum_back) total) in
+      ap (λ n. weight_at ys y over n) total_is
+      ∙ over_same (weight_at ys y) (weight_sum ys) (weight_at xs y) (weight_sum xs) part total
+      (ap (λ n. weight_at ys y * n) (sym sum_back) ∙ swap_in (weight_at ys y) (weight_sum ys) g ∙ ap (λ n. n * weight_sum ys) at_back)

@@ -1,0 +1,10 @@
+-- The sum over the items read so far.
+use Rattle.std.proofs.Common.{◌≡◌, ◌≤◌, ◌*◌, ◌^◌, take}
+use Rattle.dl_plan.specs.Weighted.{weight_sum, weighted_sum}
+use Rattle.dl_plan.proofs.totals.weighted_sum.Given as goal
+
+abbrev pub invariant-items : goal.invariant-items
+invariant-items l = record {
+  so_far : l.sum ≡ weighted_sum (take l.item-index l.items);
+  small : l.sum ≤ 2 ^ 20 * weight_sum (take l.item-index l.items);
+}

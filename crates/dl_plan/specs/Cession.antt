@@ -1,0 +1,72 @@
+-- Reinsurance clauses: what is ceded of an amount, what is kept, and how far the map goes.
+use Rattle.std.specs.Prelude.{ℕ, ◌≡◌, ◌+◌, ◌-◌, ◌<◌, ◌≤◌, ◌⊎◌, ⊤, min, max, Bool, if◌then◌else◌, Option, Some, None, List, length, map, All, AllPairs}
+use Rattle.dl_exact.specs.Fraction.{Fraction, whole, ◌-ℚ◌, ◌*ℚ◌, ◌≤ℚ◌}
+use Rattle.dl_exact.specs.Sum.{sum_over}
+use Rattle.dl_plan.specs.declared.cede.CedeLayer.{CedeLayer}
+use Rattle.dl_plan.specs.Fine.{IsFine}
+
+-- what of x lies above the attachment a and within the limit, if there is one
+abbrev pub layer : Option ℕ → ℕ → ℕ → ℕ
+layer None a x = x - a
+layer (Some limit) a x = min (x - a) limit
+
+-- the sum over the layers of share times layer of x
+abbrev pub ceded : List CedeLayer → ℕ → Fraction
+ceded layers x = sum_over layers (λ l. l.share *ℚ whole (layer l.limit l.attach x))
+
+abbrev pub layer_shares : List CedeLayer → List Fraction
+layer_shares layers = map (λ l. l.share) layers
+
+-- a side, and layers with their shares
+abbrev pub Clause : Type 0
+Clause = Bool × List CedeLayer
+
+-- the clause's map: net of what is ceded of x, or that itself
+abbrev pub kept : Clause → ℕ → Fraction
+kept clause x = if clause.0 then whole x -ℚ ceded clause.1 x else ceded clause.1 x
+
+-- x lies below the top of a layer from a, where it has one
+abbrev pub IsBelowTop : Option ℕ → ℕ → ℕ → Type 0
+IsBelowTop None a x = ⊤
+IsBelowTop (Some limit) a x = x < a + limit
+
+-- the greater attachment lies below both tops
+abbrev pub Overlap : CedeLayer → CedeLayer → Type 0
+Overlap l m =
+    let greater : ℕ = max l.attach m.attach in
+    IsBelowTop l.limit l.attach greater × IsBelowTop m.limit m.attach greater
+
+-- 1 to 16 layers that do not overlap, with fine shares of at most 1
+pub record IsCession (clause : Clause) : Type 0 where
+  pub some : 1 ≤ length clause.1
+  pub few : length clause.1 ≤ 16
+  pub apart : AllPairs (λ l m. ¬ Overlap l m) clause.1
+  pub within : All (λ l. l.share ≤ℚ whole 1) clause.1
+  pub fine : IsFine (layer_shares clause.1)
+
+-- where a layer from a ends; where it has no top, where it begins
+abbrev pub edge_of : Option ℕ → ℕ → ℕ
+edge_of None a = a
+edge_of (Some limit) a = a + limit
+
+abbrev pub edge : CedeLayer → ℕ
+edge l = edge_of l.limit l.attach
+
+-- at s the map has reached h, or it is constant from there on
+abbrev pub IsSettled : Clause → ℕ → ℕ → Type 0
+IsSettled clause h s = (whole h ≤ℚ kept clause s) ⊎ ((r : ℕ) → s ≤ r → kept clause r ≡ kept clause s)
+
+-- s is at least 1 and at least each edge, and the map is settled there
+pub record IsPast (clause : Clause) (h : ℕ) (s : ℕ) : Type 0 where
+  pub from_one : 1 ≤ s
+  pub edges : All (λ l. edge l ≤ s) clause.1
+  pub settled : IsSettled clause h s
+
+-- the horizon on h cells: h itself without a clause; else the least number that is at least 1 and each edge and at which the map is settled
+pub record IsHorizon (clause : Clause) (h : ℕ) (k : ℕ) : Type 0 where
+  pub past : IsPast clause h k
+  pub least : (s : ℕ) → IsPast clause h s → k ≤ s
+
+abbrev pub IsHorizonOf : Option Clause → ℕ → ℕ → Type 0
+IsHorizonOf None h k = k ≡ h
+IsHorizonOf (Some clause) h k = IsHorizon clause h k

@@ -1,0 +1,39 @@
+-- Claim counts.
+use Rattle.std.specs.Prelude.{◌≤◌, ⊤, All}
+use Rattle.dl_exact.specs.Fraction.{Fraction, whole, ◌over◌, ◌*ℚ◌, ◌≤ℚ◌}
+use Rattle.dl_plan.specs.declared.plan.Freq.{Freq}
+use Rattle.dl_plan.specs.declared.plan.Freq.TheVariants.{Fixed, Table, Bernoulli, Binomial, Poisson, Gamma}
+use Rattle.dl_plan.specs.Fine.{IsAdmitted}
+use Rattle.dl_plan.specs.Weighted.{IsWeighted, weighted_sum}
+
+-- the expected number of claims
+abbrev pub expected_count : Freq → Fraction
+expected_count (Fixed m) = whole m
+expected_count (Table counts total) = weighted_sum counts over total
+expected_count (Bernoulli q) = q
+expected_count (Binomial trials q) = whole trials *ℚ q
+expected_count (Poisson mean) = mean
+expected_count (Gamma shape mean) = mean
+
+-- a Poisson or a gamma count: there is no greatest number of claims
+abbrev pub IsUnbounded : Freq → Type 0
+IsUnbounded (Fixed m) = ⊥
+IsUnbounded (Table counts total) = ⊥
+IsUnbounded (Bernoulli q) = ⊥
+IsUnbounded (Binomial trials q) = ⊥
+IsUnbounded (Poisson mean) = ⊤
+IsUnbounded (Gamma shape mean) = ⊤
+
+-- at most 1, with both parts below 2^48
+pub record IsProbability (q : Fraction) : Type 0 where
+  pub within : q ≤ℚ whole 1
+  pub admitted : IsAdmitted q
+
+-- a listed count is made like a severity, with numbers of at most 256; fixed counts and trials are at most 65,536; a shape is from 1 to 10,000
+abbrev pub IsCount : Freq → Type 0
+IsCount (Fixed m) = m ≤ 65536
+IsCount (Table counts total) = IsWeighted counts total × All (λ item. item.amount ≤ 256) counts
+IsCount (Bernoulli q) = IsProbability q
+IsCount (Binomial trials q) = (trials ≤ 65536) × IsProbability q
+IsCount (Poisson mean) = ⊤
+IsCount (Gamma shape mean) = (1 ≤ shape) × (shape ≤ 10000)

@@ -1,0 +1,23 @@
+//! What a program means: a plan of units, each with a severity in buckets, a claim count and an
+//! aggregate clause; the settings of a run, and what it asks.
+#![tactic(auto)]
+
+mod cede;
+mod item;
+mod law;
+mod lowest;
+mod many;
+mod plan;
+mod settings;
+mod severity;
+mod totals;
+mod unit;
+
+pub use cede::{Cede, CedeLayer};
+pub use item::Item;
+pub use law::law_numerals;
+pub use many::Many;
+pub use plan::{Freq, Plan, Unit};
+pub use settings::{Ask, Asked, Form, Format, Settings};
+pub use severity::Sev;
+pub use totals::weighted_sum;

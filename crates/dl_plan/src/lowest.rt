@@ -1,0 +1,100 @@
+//! Severities of rising amounts, and the part of a severity above an amount.
+
+ghost use Rattle.std.specs.Prelude.{◌≡◌, ◌/◌, ◌<◌, ◌≤◌, ◌^◌, ℕ, nat_lt, List, filter, length, map, All, IfOk, MatchOption};
+ghost use Rattle.std.specs.List.Sorted.{IsStrictlyIncreasing};
+ghost use Rattle.dl_exact.specs.Gcd.{gcd};
+ghost use Rattle.dl_exact.specs.Fraction.{◌over◌};
+ghost use Rattle.dl_plan.specs.Weighted.{amounts_of, weight_sum, weight_at, common_weight, divided_by};
+ghost use Rattle.dl_plan.specs.Severity.{probability_of, pairs_of, conditioned, Means};
+
+use crate::item::Item;
+use crate::many::Many;
+use crate::severity::Sev;
+use crate::totals::total_weight;
+use std::alloc::{AllocError, Global};
+
+impl Sev {
+    /// The severity of rising amounts with weights above 0: their greatest common divisor is taken out.
+    /// Takes no memory.
+    pub fn from_rising(items: Vec<Item>) -> Sev
+        requires some { 0 < length items.items }
+        requires rising { IsStrictlyIncreasing (amounts_of items.items) }
+        requires positive { All (λ item. 0 < item.weight) items.items }
+        requires within { weight_sum items.items ≤ 2 ^ 30 }
+        ensures { (x : ℕ) → probability_of result x ≡ weight_at items.items x over weight_sum items.items }
+    {
+        let common = divisor_of_weights(&items);
+        let total = total_weight(&items) / common;
+        Sev {
+            items: Many::from_vec(divided(items, common)),
+            total,
+        }
+    }
+
+    /// The severity conditioned on amounts above `attach`; `None` exactly where there is none.
+    pub fn exceeding(&self, alloc: Global, attach: u32) -> Result<Option<Sev>, AllocError>
+        ensures { IfOk result (λ made. MatchOption made (All (λ item. item.amount ≤ attach) self.now.items) (λ sev. Means sev (conditioned attach (pairs_of self.now)))) }
+    {
+        let kept = items_above(alloc, self.items.as_slice(), attach)?;
+        if kept.is_empty() {
+            return Ok(None);
+        }
+        Ok(Some(Sev::from_rising(kept)))
+    }
+
+    /// The severity conditioned on amounts above 0; `None` exactly where there is none.
+    pub fn positive(&self, alloc: Global) -> Result<Option<Sev>, AllocError>
+        ensures { IfOk result (λ made. MatchOption made (All (λ item. item.amount ≤ 0) self.now.items) (λ sev. Means sev (conditioned 0 (pairs_of self.now)))) }
+    {
+        self.exceeding(alloc, 0)
+    }
+}
+
+/// The items above an amount.
+fn items_above(alloc: Global, items: &[Item], attach: u32) -> Result<Vec<Item>, AllocError>
+    ensures { IfOk result (λ kept. kept.items ≡ filter (λ item. nat_lt attach item.amount) items.now) }
+{
+    let mut kept = Vec::new(alloc);
+    'items: for &item in items {
+        if item.amount > attach {
+            kept.push(item)?;
+        }
+    }
+    Ok(kept)
+}
+
+/// The greatest common divisor of the weights.
+fn divisor_of_weights(items: &[Item]) -> u32
+    ensures { result ≡ common_weight items.now }
+{
+    let mut common = 0;
+    'items: for item in items {
+        common = divisor(common, item.weight);
+    }
+    common
+}
+
+/// Each weight divided by a number.
+fn divided(mut items: Vec<Item>, common: u32) -> Vec<Item>
+    requires { 0 < common }
+    ensures { result.items ≡ map (divided_by common) items.items }
+{
+    'items: for item in items.iter_mut() {
+        item.weight /= common;
+    }
+    items
+}
+
+/// The greatest common divisor, by Euclid's steps.
+fn divisor(a: u32, b: u32) -> u32
+    ensures { result ≡ gcd a b }
+{
+    let mut x = a;
+    let mut y = b;
+    'steps: while y != 0 {
+        let rest = x % y;
+        x = y;
+        y = rest;
+    }
+    x
+}

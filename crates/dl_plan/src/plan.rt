@@ -1,0 +1,64 @@
+//! Units and plans.
+
+use crate::cede::Cede;
+use crate::item::Item;
+use crate::many::Many;
+use crate::severity::Sev;
+use dl_frac::Frac;
+use dl_lexer::Text;
+
+/// The claim count of a unit.
+#[derive(Drop)]
+pub enum Freq {
+    /// Exactly so many claims.
+    Fixed(u32),
+    /// Listed numbers of claims, rising, each with a whole weight.
+    Table {
+        /// The numbers of claims.
+        counts: Many<Item>,
+        /// The sum of their weights.
+        total: u32,
+    },
+    /// One claim with this probability, else none.
+    Bernoulli(Frac),
+    /// Binomial: so many trials, each a claim with probability `q`.
+    Binomial {
+        /// The number of trials.
+        trials: u32,
+        /// The probability of each.
+        q: Frac,
+    },
+    /// Poisson with this mean.
+    Poisson(Frac),
+    /// Poisson mixed by a gamma factor of whole shape: negative binomial.
+    Gamma {
+        /// The shape of the factor.
+        shape: u32,
+        /// The expected number of claims.
+        mean: Frac,
+    },
+}
+
+/// One unit: the sum of a random number of independent claims, mapped once by its aggregate clause.
+#[derive(Drop)]
+pub struct Unit {
+    /// The unit's name.
+    pub name: Text,
+    /// The severity of one claim, after its layer and its occurrence clause.
+    pub sev: Sev,
+    /// The claim count.
+    pub freq: Freq,
+    /// The aggregate clause, where there is one.
+    pub cede: Option<Cede>,
+}
+
+/// What a program means.
+#[derive(Drop)]
+pub struct Plan {
+    /// The bucket size, in money.
+    pub bs: Frac,
+    /// How many cells the grid has.
+    pub cells: u32,
+    /// The units in the order of the text.
+    pub units: Many<Unit>,
+}

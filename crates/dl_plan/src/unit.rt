@@ -1,0 +1,84 @@
+//! What a unit's claims come to.
+
+ghost use Rattle.std.specs.Prelude.{◌≡◌, ◌<◌, ◌≤◌, ◌^◌, All, length};
+ghost use Rattle.std.specs.List.Sorted.{IsStrictlyIncreasing};
+ghost use Rattle.dl_exact.specs.Fraction.{◌over◌, ◌*ℚ◌};
+ghost use Rattle.dl_plan.specs.Fine.{IsAdmitted};
+ghost use Rattle.dl_plan.specs.Weighted.{amounts_of, weight_at};
+ghost use Rattle.dl_plan.specs.Severity.{pairs_of, mean_amount};
+ghost use Rattle.dl_plan.specs.Count.{expected_count, IsCount};
+ghost use Rattle.dl_plan.specs.Valid.{thinned_mean};
+
+use crate::item::Item;
+use crate::plan::{Freq, Unit};
+use crate::totals::weighted_sum;
+use dl_frac::Frac;
+
+impl Freq {
+    /// The expected number of claims, of a count of a valid plan.
+    pub fn expected(&self) -> Frac
+        requires count { IsCount self.now }
+        requires admitted { IsAdmitted (expected_count self.now) }
+        ensures { result ≡ expected_count self.now }
+    {
+        match self {
+            Freq::Fixed(claims) => Frac::make(*claims as u128, 1).unwrap(),
+            Freq::Table { counts, total } => Frac::make(
+                weighted_sum(counts.as_slice()) as u128,
+                *total as u128,
+            ).unwrap(),
+            Freq::Bernoulli(q) => *q,
+            Freq::Binomial { trials, q } => Frac::make(
+                *trials as u128 * q.num() as u128,
+                q.den() as u128,
+            ).unwrap(),
+            Freq::Poisson(mean) => *mean,
+            Freq::Gamma { mean, .. } => *mean,
+        }
+    }
+}
+
+impl Unit {
+    /// The expected number of claims above 0 of a unit of a valid plan: the expected count times the
+    /// probability of a positive amount.
+    pub fn thinned(&self) -> Frac
+        requires count { IsCount self.now.freq }
+        requires expected { IsAdmitted (expected_count self.now.freq) }
+        requires admitted { IsAdmitted (thinned_mean self.now) }
+        ensures { result ≡ thinned_mean self.now }
+    {
+        let total = self.sev.total;
+        let positive = total - weight_of_zero(self.sev.items.as_slice());
+        let share = Frac::make(positive as u128, total as u128).unwrap();
+        self.freq.expected().mul(share).unwrap()
+    }
+
+    /// A numerator below 2^100 and a denominator below 2^80 of the mean in buckets, before the
+    /// aggregate clause, of a unit of a valid plan.
+    pub fn mean_parts(&self) -> (u128, u128)
+        requires count { IsCount self.now.freq }
+        requires expected { IsAdmitted (expected_count self.now.freq) }
+        requires near { All (λ item. item.amount ≤ 2 ^ 20) self.now.sev.items }
+        ensures value { result.0 over result.1 ≡ expected_count self.now.freq *ℚ mean_amount (pairs_of self.now.sev) }
+        ensures num { result.0 < 2 ^ 100 }
+        ensures den { result.1 < 2 ^ 80 }
+        ensures positive { 0 < result.1 }
+    {
+        let count = self.freq.expected();
+        let sum = weighted_sum(self.sev.items.as_slice());
+        (
+            count.num() as u128 * sum as u128,
+            count.den() as u128 * self.sev.total as u128,
+        )
+    }
+}
+
+/// The weight of amount 0 in a list of rising amounts.
+fn weight_of_zero(items: &[Item]) -> u32
+    requires some { 0 < length items.now }
+    requires rising { IsStrictlyIncreasing (amounts_of items.now) }
+    ensures { result ≡ weight_at items.now 0 }
+{
+    let first = items[0];
+    if first.amount == 0 { first.weight } else { 0 }
+}

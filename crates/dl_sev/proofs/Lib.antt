@@ -1,0 +1,6 @@
+pub mod Gathering
+pub mod Mapped
+pub mod Mixed
+pub mod Ranged
+pub mod Sharing
+pub mod Whole

@@ -1,0 +1,114 @@
+-- Atoms one after another, with their amounts and their probabilities apart.
+use Rattle.std.proofs.Common.{ℕ, ◌≡◌, ◌∙◌, ◌+◌, ◌*◌, ◌<◌, ◌≤◌, ◌^◌, List, [], ◌∷◌, ◌++◌, length, map, zip, get_or, take, refl, sym, ap, ap₂, subst, arith, append_assoc, mul-pos, mul-le-mul}
+use Rattle.std.proofs.lemmas.List.{length-take-le, take_more, map-append, map_more, append-nil, take_all}
+use Rattle.std.proofs.lemmas.List.Sums.{sum_by_more_le}
+use Rattle.dl_exact.specs.Fraction.{Fraction, whole, ◌over◌, ◌*ℚ◌}
+use Rattle.dl_exact.proofs.Over.{over_mul}
+use Rattle.dl_frac.specs.Exact.{FitsFrac}
+use Rattle.dl_plan.specs.declared.item.Item.{Item}
+use Rattle.dl_plan.specs.declared.severity.Sev.{Sev}
+use Rattle.dl_plan.specs.Weighted.{amounts_of}
+use Rattle.dl_plan.specs.Severity.{Pairs, shares, pairs_of}
+use Rattle.dl_plan.proofs.Fits.{over_fits}
+use Rattle.dl_sev.specs.declared.weights.Weights.{Weights}
+use Rattle.dl_sev.specs.Steps.{scaled, mixture_of, share_of, weighed}
+use Rattle.dl_sev.proofs.Mapped.{total_pos}
+
+abbrev pub firsts : Pairs → List ℕ
+firsts ps = map (λ pair. pair.0) ps
+
+abbrev pub seconds : Pairs → List Fraction
+seconds ps = map (λ pair. pair.1) ps
+
+firsts-scaled : (s : Fraction) (t : ℕ) (items : List Item) → firsts (scaled s (shares items t)) ≡ amounts_of items
+firsts-scaled s t [] = refl
+firsts-scaled s t (x ∷ xs) = ap (λ ns. x.amount ∷ ns) (firsts-scaled s t xs)
+
+seconds-scaled : (s : Fraction) (t : ℕ) (items : List Item) → seconds (scaled s (shares items t)) ≡ map (share_of s t) items
+seconds-scaled s t [] = refl
+seconds-scaled s t (x ∷ xs) = ap (λ ys. share_of s t x ∷ ys) (seconds-scaled s t xs)
+
+mixture-push : (t : ℕ) (atoms : List Sev) (ws : List ℕ) (a : Sev) (w : ℕ) → length atoms ≡ length ws
+    → mixture_of t (atoms ++ a ∷ []) (ws ++ w ∷ []) ≡ mixture_of t atoms ws ++ scaled (w over t) (pairs_of a)
+mixture-push t [] [] a w e = append-nil (scaled (w over t) (pairs_of a))
+mixture-push t [] (v ∷ ws) a w e = absurd (omega (arith, e))
+mixture-push t (b ∷ atoms) [] a w e = absurd (omega (arith, e))
+mixture-push t (b ∷ atoms) (v ∷ ws) a w e =
+    ap (λ ps. scaled (v over t) (pairs_of b) ++ ps) (mixture-push t atoms ws a w (omega (arith, e)))
+    ∙ sym (append_assoc (scaled (v over t) (pairs_of b)) (mixture_of t atoms ws) (scaled (w over t) (pairs_of a)))
+
+mixture-more : (t : ℕ) (atoms : List Sev) (ws : List ℕ) (i d : ℕ) (a : Sev) → i < length atoms → length atoms ≡ length ws → a ≡ get_or atoms i a
+    → mixture_of t (take (i + 1) atoms) (take (i + 1) ws) ≡ mixture_of t (take i atoms) (take i ws) ++ scaled (get_or ws i d over t) (pairs_of a)
+mixture-more t atoms ws i d a h e is =
+    let below : i < length ws = omega (arith, h, e) in
+    ap₂ (mixture_of t) (take_more atoms i a h) (take_more ws i d below)
+    ∙ mixture-push t (take i atoms) (take i ws) (get_or atoms i a) (get_or ws i d) (length-take-le i atoms (omega (arith, h)) ∙ sym (length-take-le i ws (omega (arith, below))))
+    ∙ ap (λ (b : Sev). mixture_of t (take i atoms) (take i ws) ++ scaled (get_or ws i d over t) (pairs_of b)) (sym is)
+
+-- ---- one atom more
+
+module _ (t : ℕ) (atoms : List Sev) (ws : List ℕ) (i d : ℕ) (a : Sev) (h : i < length atoms) (e : length atoms ≡ length ws) (is : a ≡ get_or atoms i a) where
+  so_far : Pairs
+  so_far = mixture_of t (take i atoms) (take i ws)
+
+  pub amounts-more : (old new : List ℕ) → old ≡ firsts (mixture_of t (take i atoms) (take i ws)) → new ≡ old ++ amounts_of a.items → new ≡ firsts (mixture_of t (take (i + 1) atoms) (take (i + 1) ws))
+  amounts-more old new before pushed =
+      pushed ∙ ap₂ (λ xs ys. xs ++ ys) before (sym (firsts-scaled (get_or ws i d over t) a.total a.items))
+      ∙ sym (map-append (λ pair. pair.0) (mixture_of t (take i atoms) (take i ws)) (scaled (get_or ws i d over t) (pairs_of a)))
+      ∙ ap firsts (sym (mixture-more t atoms ws i d a h e is))
+
+  pub probs-more : (old new : List Fraction) → old ≡ seconds (mixture_of t (take i atoms) (take i ws)) → new ≡ old ++ map (share_of (get_or ws i d over t) a.total) a.items → new ≡ seconds (mixture_of t (take (i + 1) atoms) (take (i + 1) ws))
+  probs-more old new before pushed =
+      pushed ∙ ap₂ (λ xs ys. xs ++ ys) before (sym (seconds-scaled (get_or ws i d over t) a.total a.items))
+      ∙ sym (map-append (λ pair. pair.1) (mixture_of t (take i atoms) (take i ws)) (scaled (get_or ws i d over t) (pairs_of a)))
+      ∙ ap seconds (sym (mixture-more t atoms ws i d a h e is))
+
+-- ---- pairs put together again
+
+zip-over : (t : ℕ) (xs ws : List ℕ) → map (λ pair. (pair.0, pair.1 over t)) (zip xs ws) ≡ zip xs (map (λ w. w over t) ws)
+zip-over t [] ws = refl
+zip-over t (x ∷ xs) [] = refl
+zip-over t (x ∷ xs) (w ∷ ws) = ap (λ ps. (x, w over t) ∷ ps) (zip-over t xs ws)
+
+zip-apart : (ps : Pairs) → zip (firsts ps) (seconds ps) ≡ ps
+zip-apart [] = refl
+zip-apart (p ∷ ps) = ap (λ qs. p ∷ qs) (zip-apart ps)
+
+pub weighed-back : (ps : Pairs) (xs : List ℕ) (whole : Weights) → xs ≡ firsts ps → map (λ w. w over whole.total) whole.weights ≡ seconds ps → weighed xs whole ≡ ps
+weighed-back ps xs whole amounts probs =
+    zip-over whole.total xs whole.weights ∙ ap₂ (λ ys zs. zip ys zs) amounts probs ∙ zip-apart ps
+
+-- ---- one product
+
+pub product_fits : (w t : ℕ) (atom : Sev) (i : ℕ) (d : Item) → i < length atom.items → w < 2 ^ 32 → 0 < t → t ≤ 2 ^ 30
+    → FitsFrac ((w * (get_or atom.items i d).weight) over (t * atom.total))
+product_fits w t atom i d h small pos within =
+    let weight : (get_or atom.items i d).weight ≤ 2 ^ 30 = omega (arith, sum_by_more_le (λ (j : Item). j.weight) atom.items i d h, atom.weighted.sum, atom.weighted.within) in
+    over_fits _ _ (mul-pos pos (total_pos atom))
+    (omega (arith, small_product w (get_or atom.items i d).weight small weight))
+    (omega (arith, mul-le-mul within atom.weighted.within))
+  where
+    small_product : (a b : ℕ) → a < 2 ^ 32 → b ≤ 2 ^ 30 → a * b ≤ 4294967295 * 2 ^ 30
+    small_product a b p q =
+        let below : a ≤ 4294967295 = omega (arith, p) in
+        mul-le-mul below q
+
+pub fits_at : (w t : ℕ) (atom : Sev) (slice : List Item) (i : ℕ) (d : Item) → slice ≡ atom.items → i < length slice → w < 2 ^ 32 → 0 < t → t ≤ 2 ^ 30
+    → FitsFrac ((w * (get_or slice i d).weight) over (t * atom.total))
+fits_at w t atom slice i d same h small pos within =
+    subst (λ (xs : List Item). FitsFrac ((w * (get_or xs i d).weight) over (t * atom.total))) (sym same)
+    (product_fits w t atom i d (subst (λ (xs : List Item). i < length xs) same h) small pos within)
+
+pub product_is : (w v t u : ℕ) → 0 < t → 0 < u → (w * v) over (t * u) ≡ w over t *ℚ v over u
+product_is w v t u p q = sym (over_mul w t v u p q)
+
+pub shares-more : (s : Fraction) (t i : ℕ) (items : List Item) (d : Item) (start old new : List Fraction) (x : Fraction) → i < length items
+    → old ≡ start ++ map (share_of s t) (take i items) → new ≡ old ++ x ∷ [] → x ≡ share_of s t (get_or items i d)
+    → new ≡ start ++ map (share_of s t) (take (i + 1) items)
+shares-more s t i items d start old new x h before pushed value =
+    pushed ∙ ap₂ (λ ys y. ys ++ y ∷ []) before value
+    ∙ append_assoc start (map (share_of s t) (take i items)) (share_of s t (get_or items i d) ∷ [])
+    ∙ ap (λ ys. start ++ ys) (sym (map_more (share_of s t) items i d h))
+
+pub mixture_whole : (t : ℕ) (atoms : List Sev) (ws : List ℕ) (i : ℕ) → length atoms ≤ i → length atoms ≡ length ws → mixture_of t (take i atoms) (take i ws) ≡ mixture_of t atoms ws
+mixture_whole t atoms ws i h e = ap₂ (mixture_of t) (take_all i atoms h) (take_all i ws (subst (λ n. n ≤ i) e h))

@@ -1,0 +1,77 @@
+-- Fractions over their common denominator.
+use Rattle.std.proofs.Common.{ℕ, ◌≡◌, ◌∙◌, ◌+◌, ◌*◌, ◌/◌, ◌<◌, ◌≤◌, List, [], ◌∷◌, length, map, sum, get_or, take, refl, sym, ap, ap₂, arith}
+use Rattle.std.specs.List.{All, sum_by}
+use Rattle.std.proofs.Math.Nat.{div-mul_cancel}
+use Prim.Native.Nat.{◌∣◌}
+use Rattle.std.proofs.lemmas.List.{take_all}
+use Rattle.std.proofs.lemmas.List.Elements.{All-head, All-tail}
+use Rattle.std.proofs.lemmas.List.Sums.{fold_more, sum_by-cons, sum_by-take-le}
+use Rattle.dl_exact.specs.Fraction.{Fraction, whole, ◌over◌, ◌+ℚ◌}
+use Rattle.dl_exact.specs.Sum.{sum_over}
+use Rattle.dl_exact.proofs.Over.{over_self, over_same, le_over}
+use Rattle.dl_exact.proofs.Laws.{le_of_eq}
+use Rattle.dl_frac.specs.Multiples.{lcm}
+use Rattle.dl_plan.specs.Fine.{common_denominator}
+use Rattle.dl_plan.proofs.Common.{common_from_pos, den_divides}
+use Rattle.dl_plan.proofs.Sums.{sum_over_common}
+use Rattle.dl_sev.specs.Weighing.{weight_of, sum_of}
+
+pub common_pos : (xs : List Fraction) → 0 < common_denominator xs
+common_pos xs = common_from_pos 1 xs (omega arith)
+
+-- one fraction more
+pub common_step : (xs : List Fraction) (i : ℕ) (x : Fraction) (common d : ℕ) → i < length xs → x ≡ get_or xs i x → d ≡ x.den
+    → common ≡ common_denominator (take i xs) → common_denominator (take (i + 1) xs) ≡ lcm common d
+common_step xs i x common d h is den so_far =
+    rw (so_far, den) (fold_more (λ m (y : Fraction). lcm m y.den) 1 xs i x h ∙ ap (λ (y : Fraction). lcm (common_denominator (take i xs)) y.den) (sym is))
+
+pub share_is : (x : Fraction) (c : ℕ) → 0 < c → x.den ∣ c → weight_of c x over c ≡ x
+share_is x c h d =
+    over_same (weight_of c x) c x.num x.den h x.positive (turn x.num (c / x.den) x.den ∙ ap (λ k. x.num * k) (div-mul_cancel x.den d)) ∙ over_self x
+  where
+    turn : (n q e : ℕ) → n * q * e ≡ n * (q * e)
+    turn n q e = omega arith
+
+-- each weight over c is its fraction
+shares_are : (xs : List Fraction) (c : ℕ) → 0 < c → All (λ x. x.den ∣ c) xs → map (λ w. w over c) (map (weight_of c) xs) ≡ xs
+shares_are [] c h d = refl
+shares_are (x ∷ xs) c h d =
+    ap₂ (λ y ys. y ∷ ys) (share_is x c h (All-head (λ y. y.den ∣ c) x xs d)) (shares_are xs c h (All-tail (λ y. y.den ∣ c) x xs d))
+
+pub shares_back : (xs : List Fraction) → map (λ w. w over common_denominator xs) (map (weight_of (common_denominator xs)) xs) ≡ xs
+shares_back xs = shares_are xs (common_denominator xs) (common_pos xs) (den_divides 1 xs)
+
+sums_are : (xs : List Fraction) (c : ℕ) → 0 < c → All (λ x. x.den ∣ c) xs → sum_of xs ≡ sum_over xs (λ x. weight_of c x over c)
+unfolding sum_over
+sums_are [] c h d = refl
+sums_are (x ∷ xs) c h d =
+    ap₂ (λ y s. y +ℚ s) (sym (share_is x c h (All-head (λ y. y.den ∣ c) x xs d))) (sums_are xs c h (All-tail (λ y. y.den ∣ c) x xs d))
+
+pub sum_is : (xs : List Fraction) → sum_of xs ≡ sum_by (weight_of (common_denominator xs)) xs over common_denominator xs
+sum_is xs =
+    let c = common_denominator xs in
+    sums_are xs c (common_pos xs) (den_divides 1 xs) ∙ sum_over_common (weight_of c) c xs (common_pos xs)
+
+one_only : (n c : ℕ) → 0 < c → n over c ≡ whole 1 → n ≡ c
+one_only n c h e =
+    let below : n * 1 ≤ 1 * c = le_over n c 1 1 h (omega arith) (le_of_eq (n over c) (whole 1) e) in
+    let above : 1 * c ≤ n * 1 = le_over 1 1 n c (omega arith) h (le_of_eq (whole 1) (n over c) (sym e)) in
+    omega (arith, below, above)
+
+-- a sum of 1 has weights that sum to the common denominator
+pub sum_one : (xs : List Fraction) (c : ℕ) → c ≡ common_denominator xs → sum_of xs ≡ whole 1 → sum_by (weight_of c) xs ≡ c
+sum_one xs c common e = rw common (one_only _ (common_denominator xs) (common_pos xs) (sym (sum_is xs) ∙ e))
+
+pub sum_map : (f : Fraction → ℕ) (xs : List Fraction) → sum (map f xs) ≡ sum_by f xs
+sum_map f [] = refl
+sum_map f (x ∷ xs) = sum_by-cons (λ n. n) (f x) (map f xs) ∙ ap (λ n. f x + n) (sum_map f xs) ∙ sym (sum_by-cons f x xs)
+
+-- so no part of the list has weights that sum to more
+pub part_within : (xs : List Fraction) (c i : ℕ) → c ≡ common_denominator xs → sum_of xs ≡ whole 1 → sum_by (weight_of c) (take i xs) ≤ c
+part_within xs c i common e = omega (arith, sum_one xs c common e, sum_by-take-le (weight_of c) xs i)
+
+pub whole_within : (xs : List Fraction) (c i : ℕ) → length xs ≤ i → c ≡ common_denominator xs → sum_of xs ≡ whole 1 → sum_by (weight_of c) (take i xs) ≡ c
+whole_within xs c i h common e = ap (sum_by (weight_of c)) (take_all i xs h) ∙ sum_one xs c common e
+
+pub weighed_shares : (xs : List Fraction) (ws : List ℕ) (c : ℕ) → ws ≡ map (weight_of c) xs → c ≡ common_denominator xs → map (λ w. w over c) ws ≡ xs
+weighed_shares xs ws c made common = rw (made, common) (shares_back xs)

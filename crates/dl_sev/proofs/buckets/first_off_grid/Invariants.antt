@@ -1,0 +1,9 @@
+-- The values read so far are whole.
+use Rattle.std.proofs.Common.{ℕ, ◌<◌, get_or}
+use Rattle.dl_exact.specs.Fraction.{Fraction}
+use Rattle.dl_plan.specs.Fine.{IsWhole}
+use Rattle.dl_sev.specs.Buckets.{buckets}
+use Rattle.dl_sev.proofs.buckets.first_off_grid.Given as goal
+
+abbrev pub invariant-values : goal.invariant-values
+invariant-values l = (k : ℕ) (d : Fraction) → k < l.at → IsWhole (buckets l.fn.bs (get_or l.values k d))

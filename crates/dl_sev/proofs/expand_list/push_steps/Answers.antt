@@ -1,0 +1,68 @@
+-- Each step is one value more.
+use Rattle.std.proofs.Common.{ℕ, ◌≡◌, ◌∙◌, ◌+◌, ◌-◌, ◌*◌, ◌/◌, ◌<◌, ◌≤◌, ◌++◌, length, map, ap, ap₂, sym, arith}
+use Rattle.std.proofs.Common.{List, length-append}
+use Rattle.std.specs.List.{range_with_len}
+use Rattle.std.proofs.lemmas.List.FromFn.{length-map-range_with_len}
+use Rattle.dl_exact.specs.Fraction.{Fraction, ◌over◌}
+use Rattle.dl_plan.proofs.Fits.{given_ok, given_value}
+use Rattle.dl_sev.specs.Weighing.{weight_of}
+use Rattle.dl_sev.specs.Ranges.{steps_in, value_at}
+use Rattle.dl_sev.proofs.Ranged.{pos, rising, step_pos, steps_are, value_is, value_fits, values_length, steps_more}
+use Rattle.dl_sev.proofs.expand_list.push_steps.Goals as goal
+
+pub overflow_sub-steps : goal.overflow_sub-steps
+overflow_sub-steps c = rw (c.numerator-from.ensures, c.numerator.ensures) (rising c.args.range.now c.requires.range c.args.den c.requires.den)
+
+pub nonzero_div-steps : goal.nonzero_div-steps
+nonzero_div-steps c = rw c.numerator-step.ensures (step_pos c.args.range.now c.requires.range c.args.den c.requires.den)
+
+pub returns-then-steps-len-clause-long : goal.returns-then-steps-len-clause-long
+returns-then-steps-len-clause-long c =
+    let steps = steps_are c.args.range.now c.requires.range c.args.den c.requires.den in
+    let count : 1024 - c.len.result ≤ steps_in c.args.range.now = rw steps (rw (c.numerator.ensures, c.numerator-from.ensures, c.numerator-step.ensures) at c.if-steps-len.true) in
+    omega (arith, count, values_length c.args.range.now, c.len.ensures, c.args.values.now.ok.0, c.requires.room)
+
+pub make-requires : goal.make-requires
+make-requires c = pos c.args.range.now c.requires.range c.args.den c.requires.den
+
+step_within : (k n : ℕ) → k < n + 1 → k ≤ n
+step_within k n h = omega (arith, h)
+
+pub unwrap-value-requires : goal.unwrap-value-requires
+unwrap-value-requires c =
+    let h : c.steps.k ≤ (weight_of c.args.den c.args.range.now.to - weight_of c.args.den c.args.range.now.from) / weight_of c.args.den c.args.range.now.step =
+    rw (c.numerator.ensures, c.numerator-from.ensures, c.numerator-step.ensures) at (step_within c.steps.k ((c.numerator.result - c.numerator-from.result) / c.numerator-step.result) c.steps-test.true) in
+    given_ok _ _ c.make.ensures
+    (rw (c.numerator-from.ensures, c.numerator-step.ensures) (value_fits c.args.range.now c.requires.range c.args.den c.requires.den c.steps.k c.requires.shared h))
+
+pub steps-preserved : goal.steps-preserved
+steps-preserved c =
+    let value = given_value _ _ c.unwrap-value.result c.make.ensures c.unwrap-value.ensures
+    ∙ ap₂ (λ a b. (a + c.steps.k * b) over c.args.den) c.numerator-from.ensures c.numerator-step.ensures
+    ∙ sym (value_is c.args.range.now c.requires.range c.args.den c.requires.den c.steps.k) in
+    steps_more c.args.range.now c.args.values.now.items c.steps.values.items _ c.steps.k c.unwrap-value.result c.steps.invariant c.in_ok-push.ensures.items value
+
+all_steps : (k n : ℕ) → n + 1 ≤ k → k ≤ n + 1 → k ≡ n + 1
+all_steps k n p q = omega (arith, p, q)
+
+pub returns-clause-values : goal.returns-clause-values
+returns-clause-values c =
+    let steps : (c.numerator.result - c.numerator-from.result) / c.numerator-step.result ≡ steps_in c.args.range.now =
+    rw (c.numerator.ensures, c.numerator-from.ensures, c.numerator-step.ensures) (sym (steps_are c.args.range.now c.requires.range c.args.den c.requires.den)) in
+    let count = all_steps c.steps.k ((c.numerator.result - c.numerator-from.result) / c.numerator-step.result) c.steps-test.false c.steps.auto.k-end ∙ ap (λ n. n + 1) steps in
+    c.steps.invariant ∙ ap (λ n. c.args.values.now.items ++ map (value_at c.args.range.now) (range_with_len 0 n)) count
+
+pub returns-clause-few : goal.returns-clause-few
+returns-clause-few c =
+    let count = all_steps c.steps.k ((c.numerator.result - c.numerator-from.result) / c.numerator-step.result) c.steps-test.false c.steps.auto.k-end in
+    omega (
+      arith,
+      ap (λ (xs : List Fraction). length xs) c.steps.invariant,
+      length-append c.args.values.now.items (map (value_at c.args.range.now) (range_with_len 0 c.steps.k)),
+      length-map-range_with_len (value_at c.args.range.now) 0 c.steps.k,
+      count,
+      c.if-steps-len.false,
+      c.len.ensures,
+      c.args.values.now.ok.0,
+      c.requires.room,
+    )

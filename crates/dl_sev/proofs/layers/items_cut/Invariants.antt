@@ -1,0 +1,8 @@
+-- The items read so far, with their amounts cut.
+use Rattle.std.proofs.Common.{◌≡◌, map, take}
+use Rattle.dl_plan.specs.Cession.{layer}
+use Rattle.dl_sev.specs.Steps.{with_amount}
+use Rattle.dl_sev.proofs.layers.items_cut.Given as goal
+
+abbrev pub invariant-items : goal.invariant-items
+invariant-items l = l.made.items ≡ map (with_amount (layer l.fn.limit l.fn.attach)) (take l.item-index l.items)

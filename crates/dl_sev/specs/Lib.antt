@@ -1,0 +1,6 @@
+pub mod Steps
+pub mod Refusals
+pub mod Weighing
+pub mod Weighed
+pub mod Buckets
+pub mod Ranges

@@ -1,0 +1,50 @@
+-- The values of a list: a, a + s, a + 2s, and so on, as long as the value does not pass b.
+use Rattle.std.specs.Prelude.{ℕ, ◌≡◌, ◌⊎◌, ◌+◌, ◌<◌, ◌≤◌, ◌/◌, ◌^◌, ⊤, List, [], ◌∷◌, length, map, flat_map}
+use Rattle.std.specs.List.{range_with_len}
+use Rattle.dl_exact.specs.Fraction.{Fraction, whole, ◌+ℚ◌, ◌-ℚ◌, ◌*ℚ◌, ◌/ℚ◌, ◌≤ℚ◌, ◌<ℚ◌}
+use Rattle.dl_plan.specs.Fine.{common_denominator}
+use Rattle.dl_sev.specs.declared.range.Range.{Range}
+use Rattle.dl_sev.specs.declared.fault.ExpandFault.{ExpandFault}
+use Rattle.dl_sev.specs.declared.fault.ExpandFault.TheVariants.{TooLong, OutOfMemory}
+
+-- the greatest whole number that is not above x
+abbrev pub floor_of : Fraction → ℕ
+floor_of x = x.num / x.den
+
+-- how many steps lead from the first value to the last
+abbrev pub steps_in : Range → ℕ
+steps_in r = floor_of ((r.to -ℚ r.from) /ℚ r.step)
+
+abbrev pub value_at : Range → ℕ → Fraction
+value_at r k = r.from +ℚ whole k *ℚ r.step
+
+abbrev pub range_values : Range → List Fraction
+range_values r = map (value_at r) (range_with_len 0 (steps_in r + 1))
+
+-- the values of a list of ranges, in order
+abbrev pub list_values : List Range → List Fraction
+list_values ranges = flat_map range_values ranges
+
+-- the common denominator of the three numbers; it is at most 1,000,000
+abbrev pub range_denominator : Range → ℕ
+range_denominator r = common_denominator (r.from ∷ r.to ∷ r.step ∷ [])
+
+abbrev pub IsShared : Range → Type 0
+IsShared r = range_denominator r ≤ 1000000
+
+-- a step above 0 from the first value up to the last, which has at most 11 digits in its first part; one number, or numbers with a small common denominator
+pub record IsRange (r : Range) : Type 0 where
+  pub rising : r.from ≤ℚ r.to
+  pub step : whole 0 <ℚ r.step
+  pub digits : r.to.num < 10 ^ 11
+  pub shared : (r.from ≡ r.to) ⊎ IsShared r
+
+-- there are more than 1,024 values
+abbrev pub RefusesRanges : List Range → ExpandFault → Type 0
+RefusesRanges ranges TooLong = 1024 < length (list_values ranges)
+RefusesRanges ranges OutOfMemory = ⊤
+
+-- with the values of the range there are more than 1,024, of which there are some already
+abbrev pub PassesRoom : ℕ → Range → ExpandFault → Type 0
+PassesRoom already r TooLong = 1024 < already + length (range_values r)
+PassesRoom already r OutOfMemory = ⊤

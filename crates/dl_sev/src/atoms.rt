@@ -1,0 +1,93 @@
+//! Atoms and their mixture.
+
+ghost use Rattle.std.specs.Prelude.{◌≡◌, ◌++◌, ◌≤◌, ◌<◌, ◌^◌, length, map, sum, zip, IfOk, IfErr, MatchResult};
+ghost use Rattle.dl_exact.specs.Fraction.{◌over◌};
+ghost use Rattle.dl_plan.specs.Weighted.{amounts_of};
+ghost use Rattle.dl_plan.specs.Severity.{Means};
+ghost use Rattle.dl_sev.specs.Steps.{weighed, items_of, mixture, share_of};
+ghost use Rattle.dl_sev.specs.declared.fault.MixFault.TheVariants.{OutOfMemory};
+ghost use Rattle.dl_sev.specs.Refusals.{RefusesMixture};
+
+use crate::fault::{MixFault, WeighFault};
+use crate::gather::gathered;
+use crate::weighing::weigh;
+use crate::weights::Weights;
+use dl_frac::Frac;
+use dl_plan::{Item, Sev};
+use std::alloc::{AllocError, Global};
+
+/// The severity of amounts with whole weights: equal amounts are added up, and weights of 0 dropped.
+/// The weights sum to their total, which is from 1 to 2^30.
+pub fn merge(alloc: Global, amounts: &[u32], weights: &Weights) -> Result<Sev, AllocError>
+    requires lengths { length amounts.now ≡ length weights.now.weights }
+    requires sum { sum weights.now.weights ≡ weights.now.total }
+    requires some { 1 ≤ weights.now.total }
+    requires within { weights.now.total ≤ 2 ^ 30 }
+    ensures { IfOk result (λ sev. Means sev (weighed amounts.now weights.now)) }
+{
+    gathered(alloc, items_of(alloc, amounts, weights.weights.as_slice())?)
+}
+
+/// Amounts and weights, item by item.
+fn items_of(alloc: Global, amounts: &[u32], weights: &[u32]) -> Result<Vec<Item>, AllocError>
+    requires { length amounts.now ≡ length weights.now }
+    ensures { IfOk result (λ items. items.items ≡ items_of amounts.now weights.now) }
+{
+    let mut items = Vec::new(alloc);
+    'amounts: for (at, &amount) in amounts.iter().enumerate() {
+        items.push(Item {
+            amount,
+            weight: weights[at],
+        })?;
+    }
+    Ok(items)
+}
+
+/// The mixture of atoms: the probabilities of each times its weight over the total, which is from 1 to
+/// 2^30. `TooFine` exactly where these products have a common denominator above 2^30.
+pub fn mix(alloc: Global, atoms: &[Sev], weights: &Weights) -> Result<Sev, MixFault>
+    requires lengths { length atoms.now ≡ length weights.now.weights }
+    requires sum { sum weights.now.weights ≡ weights.now.total }
+    requires some { 1 ≤ weights.now.total }
+    requires within { weights.now.total ≤ 2 ^ 30 }
+    ensures { MatchResult result (λ made. Means made (mixture atoms.now weights.now)) (RefusesMixture atoms.now weights.now) }
+{
+    let mut amounts = Vec::new(alloc);
+    let mut probs = Vec::new(alloc);
+    let parts = weights.weights.as_slice();
+    'atoms: for (at, atom) in atoms.iter().enumerate() {
+        push_amounts(&mut amounts, atom.items.as_slice())?;
+        push_probs(&mut probs, atom, parts[at], weights.total)?;
+    }
+    match weigh(alloc, &probs) {
+        Ok(whole) => Ok(merge(alloc, &amounts, &whole)?),
+        Err(WeighFault::TooFine) => Err(MixFault::TooFine),
+        Err(_) => Err(MixFault::OutOfMemory),
+    }
+}
+
+/// The amounts of an atom put behind others.
+fn push_amounts(amounts: &mut Vec<u32>, items: &[Item]) -> Result<(), MixFault>
+    ensures ok { IfOk result (λ _. amounts.new.items ≡ amounts.old.items ++ amounts_of items.now) }
+    ensures refused { IfErr result (λ fault. fault ≡ OutOfMemory) }
+{
+    'items: for item in items {
+        amounts.push(item.amount)?;
+    }
+    Ok(())
+}
+
+/// The probabilities of an atom, times `weight` over `total`, put behind others.
+fn push_probs(probs: &mut Vec<Frac>, atom: &Sev, weight: u32, total: u32) -> Result<(), MixFault>
+    requires some { 0 < total }
+    requires within { total ≤ 2 ^ 30 }
+    ensures ok { IfOk result (λ _. probs.new.items ≡ probs.old.items ++ map (share_of (weight over total) atom.now.total) atom.now.items) }
+    ensures refused { IfErr result (λ fault. fault ≡ OutOfMemory) }
+{
+    'items: for item in atom.items.as_slice() {
+        let num = weight as u128 * item.weight as u128;
+        let den = total as u128 * atom.total as u128;
+        probs.push(Frac::make(num, den).unwrap())?;
+    }
+    Ok(())
+}

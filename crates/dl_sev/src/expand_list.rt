@@ -1,0 +1,96 @@
+//! The values of a list.
+
+ghost use Rattle.std.specs.Prelude.{◌≡◌, ◌≢◌, ◌++◌, ◌≤◌, All, length, IfOk, IfErr, MatchResult};
+ghost use Rattle.dl_sev.specs.Weighing.{weight_of};
+ghost use Rattle.dl_sev.specs.Ranges.{IsRange, IsShared, RefusesRanges, PassesRoom, list_values, range_values, range_denominator};
+
+use crate::fault::ExpandFault;
+use crate::range::Range;
+use dl_frac::{Frac, lcm_to};
+use std::alloc::Global;
+
+/// The values of the ranges in order. `TooLong` exactly where there are more than 1,024.
+pub fn expand(alloc: Global, items: &[Range]) -> Result<Vec<Frac>, ExpandFault>
+    requires { All IsRange items.now }
+    ensures values { MatchResult result (λ values. values.items ≡ list_values items.now) (RefusesRanges items.now) }
+    ensures few { IfOk result (λ values. length values.items ≤ 1024) }
+{
+    let mut values = Vec::new(alloc);
+    'items: for item in items {
+        if let Err(fault) = push_range(&mut values, item) {
+            return Err(fault);
+        }
+    }
+    Ok(values)
+}
+
+/// The values of a range put behind others.
+fn push_range(values: &mut Vec<Frac>, range: &Range) -> Result<(), ExpandFault>
+    requires range { IsRange range.now }
+    requires room { length values.old.items ≤ 1024 }
+    ensures values { IfOk result (λ _. values.new.items ≡ values.old.items ++ range_values range.now) }
+    ensures few { IfOk result (λ _. length values.new.items ≤ 1024) }
+    ensures long { IfErr result (PassesRoom (length values.old.items) range.now) }
+{
+    if range.from == range.to {
+        return push_one(values, range);
+    }
+    push_steps(values, range, shared_denominator(range))
+}
+
+/// The one value of a range from a number to itself put behind others.
+fn push_one(values: &mut Vec<Frac>, range: &Range) -> Result<(), ExpandFault>
+    requires range { IsRange range.now }
+    requires one { range.now.from ≡ range.now.to }
+    requires room { length values.old.items ≤ 1024 }
+    ensures values { IfOk result (λ _. values.new.items ≡ values.old.items ++ range_values range.now) }
+    ensures few { IfOk result (λ _. length values.new.items ≤ 1024) }
+    ensures long { IfErr result (PassesRoom (length values.old.items) range.now) }
+{
+    if values.len() >= 1024 {
+        return Err(ExpandFault::TooLong);
+    }
+    values.push(range.from)?;
+    Ok(())
+}
+
+/// The values of a range over one denominator put behind others.
+fn push_steps(values: &mut Vec<Frac>, range: &Range, den: u64) -> Result<(), ExpandFault>
+    requires range { IsRange range.now }
+    requires den { den ≡ range_denominator range.now }
+    requires shared { den ≤ 1000000 }
+    requires room { length values.old.items ≤ 1024 }
+    ensures values { IfOk result (λ _. values.new.items ≡ values.old.items ++ range_values range.now) }
+    ensures few { IfOk result (λ _. length values.new.items ≤ 1024) }
+    ensures long { IfErr result (PassesRoom (length values.old.items) range.now) }
+{
+    let from = numerator(range.from, den);
+    let step = numerator(range.step, den);
+    let steps = (numerator(range.to, den) - from) / step;
+    if steps >= 1024 - values.len() as u128 {
+        return Err(ExpandFault::TooLong);
+    }
+    'steps: for k in 0..steps as u64 + 1 {
+        let value = Frac::make(from + k as u128 * step, den as u128).unwrap();
+        values.push(value)?;
+    }
+    Ok(())
+}
+
+/// The common denominator of the numbers of a range.
+fn shared_denominator(range: &Range) -> u64
+    requires { IsShared range.now }
+    ensures { result ≡ range_denominator range.now }
+{
+    let most = 1_000_000;
+    let first = lcm_to(1, range.from.den(), most).unwrap();
+    let second = lcm_to(first, range.to.den(), most).unwrap();
+    lcm_to(second, range.step.den(), most).unwrap()
+}
+
+/// The numerator of a fraction over a multiple of its denominator.
+fn numerator(x: Frac, den: u64) -> u128
+    ensures { result ≡ weight_of den x }
+{
+    x.num() as u128 * (den / x.den()) as u128
+}

@@ -1,0 +1,93 @@
+//! The part of a severity above an attachment, its layer and its occurrence clause.
+
+ghost use Rattle.std.specs.Prelude.{◌≡◌, Option, map, All, IfOk, OnOk, MatchResult};
+ghost use Rattle.dl_plan.specs.Fine.{IsWhole};
+ghost use Rattle.dl_plan.specs.Severity.{pairs_of, conditioned, Means};
+ghost use Rattle.dl_plan.specs.Cession.{layer, kept, IsCession};
+ghost use Rattle.dl_sev.specs.Steps.{layered, ceded_each, with_amount};
+ghost use Rattle.dl_sev.specs.Refusals.{RefusesAbove, RefusesCession};
+
+use crate::fault::{AboveFault, CedeFault};
+use crate::gather::gathered;
+use dl_plan::{Cede, Item, Sev};
+use std::alloc::{AllocError, Global};
+
+/// The severity conditioned on exceeding `attach` buckets. `NoneAbove` exactly where no amount does.
+pub fn above(alloc: Global, sev: &Sev, attach: u32) -> Result<Sev, AboveFault>
+    ensures { MatchResult result (λ made. Means made (conditioned attach (pairs_of sev.now))) (RefusesAbove sev.now attach) }
+{
+    match sev.exceeding(alloc, attach)? {
+        Some(made) => Ok(made),
+        None => Err(AboveFault::NoneAbove),
+    }
+}
+
+/// What of each amount lies above `attach` and within the limit, if there is one; in buckets.
+pub fn cut(alloc: Global, sev: &Sev, limit: Option<u32>, attach: u32) -> Result<Sev, AllocError>
+    ensures { IfOk result (λ made. Means made (layered limit attach (pairs_of sev.now))) }
+{
+    gathered(
+        alloc,
+        items_cut(alloc, sev.items.as_slice(), limit, attach)?,
+    )
+}
+
+/// The items with their amounts cut.
+fn items_cut(
+    alloc: Global,
+    items: &[Item],
+    limit: Option<u32>,
+    attach: u32,
+) -> Result<Vec<Item>, AllocError>
+    ensures { IfOk result (λ made. made.items ≡ map (with_amount (layer limit attach)) items.now) }
+{
+    let mut made = Vec::new(alloc);
+    'items: for item in items {
+        made.push(Item {
+            amount: cut_amount(item.amount, limit, attach),
+            weight: item.weight,
+        })?;
+    }
+    Ok(made)
+}
+
+/// What of an amount lies above the attachment and within the limit.
+fn cut_amount(amount: u32, limit: Option<u32>, attach: u32) -> u32
+    ensures { result ≡ layer limit attach amount }
+{
+    let excess = amount.saturating_sub(attach);
+    match limit {
+        Some(most) => excess.min(most),
+        None => excess,
+    }
+}
+
+/// What the clause keeps of each amount. `OffGrid` exactly where that of an amount is no whole number
+/// of buckets.
+pub fn cede_each(alloc: Global, sev: &Sev, cede: &Cede) -> Result<Sev, CedeFault>
+    requires { IsCession cede.now }
+    ensures step { MatchResult result (λ made. Means made (ceded_each cede.now (pairs_of sev.now))) (RefusesCession sev.now.items cede.now) }
+    ensures whole { OnOk result (All (λ item. IsWhole (kept cede.now item.amount)) sev.now.items) }
+{
+    let items = items_ceded(alloc, sev.items.as_slice(), cede)?;
+    Ok(gathered(alloc, items)?)
+}
+
+/// The items with what the clause keeps of their amounts.
+fn items_ceded(alloc: Global, items: &[Item], cede: &Cede) -> Result<Vec<Item>, CedeFault>
+    requires { IsCession cede.now }
+    ensures step { MatchResult result (λ made. made.items ≡ map (with_amount (λ x. (kept cede.now x).num)) items.now) (RefusesCession items.now cede.now) }
+    ensures whole { OnOk result (All (λ item. IsWhole (kept cede.now item.amount)) items.now) }
+{
+    let mut made = Vec::new(alloc);
+    'items: for item in items {
+        let Some(amount) = cede.at(item.amount as u64) else {
+            return Err(CedeFault::OffGrid);
+        };
+        made.push(Item {
+            amount: amount as u32,
+            weight: item.weight,
+        })?;
+    }
+    Ok(made)
+}

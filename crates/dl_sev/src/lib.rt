@@ -1,0 +1,27 @@
+//! The steps of a severity, from the lists of a program to the amounts and whole weights of a plan:
+//! the values of a list, whole buckets, whole weights, the mixture, the conditioning on exceeding an
+//! attachment, the layer and the occurrence clause. Each is exact, or refused.
+#![tactic(auto)]
+
+mod atoms;
+mod buckets;
+mod expand_list;
+mod fault;
+mod gather;
+mod layers;
+mod means;
+mod range;
+#[cfg(test)]
+mod tests;
+mod weighing;
+mod weights;
+
+pub use atoms::{merge, mix};
+pub use buckets::amounts;
+pub use expand_list::expand;
+pub use fault::{AboveFault, AmountFault, CedeFault, ExpandFault, MixFault, WeighFault};
+pub use layers::{above, cede_each, cut};
+pub use means::mean;
+pub use range::Range;
+pub use weighing::weigh;
+pub use weights::Weights;
