@@ -1,5 +1,5 @@
 -- The last decimal digits of a number, one after another.
-use Rattle.std.proofs.Common.{ℕ, ◌≡◌, ◌+◌, ◌-◌, ◌/◌, ◌%◌, ◌^◌, ◌<◌, ◌++◌, zero, suc, List, [], ◌∷◌, arith, refl, subst}
+use Rattle.std.proofs.Common.{ℕ, ◌≡◌, ◌+◌, ◌-◌, ◌/◌, ◌%◌, ◌^◌, ◌<◌, suc, ◌∷◌, arith, refl}
 use Rattle.dl_top.specs.Lines.{last_digits}
 
 -- the next of them, and those behind it

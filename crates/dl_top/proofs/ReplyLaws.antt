@@ -1,5 +1,5 @@
 -- What follows of a reply, and why an accepted text is not refused.
-use Rattle.std.proofs.Common.{ℕ, ◌≡◌, ◌<◌, ◌≤◌, List, [], length, Option, None, Some, IfSome, arith, refl, sym, ap, subst, ◌∙◌}
+use Rattle.std.proofs.Common.{ℕ, ◌≡◌, ◌≤◌, List, length, Option, None, Some, IfSome, arith, refl, sym, ap, subst, ◌∙◌}
 use Rattle.dl_outside.specs.Bytes.{Takes}
 use Rattle.dl_lexer.specs.declared.token.Token.{Token}
 use Rattle.dl_lexer.proofs.CoverLaws.{cover_one, covered_not_bad}
@@ -14,8 +14,8 @@ use Rattle.dl_top.specs.declared.reply.Reply.{Reply}
 use Rattle.dl_top.specs.declared.reply.Reply.TheVariants.{Report, Refusal, OutOfMemory}
 use Rattle.dl_top.specs.Faults.{fault_line}
 use Rattle.dl_top.specs.Simple.{simple_of}
-use Rattle.dl_top.specs.Answers.{HasTokens, SpellsProgram, Declares, IsAccepted, Refuses, usage, not_read, too_long, bad_byte, continuous, syntax, not_built}
-use Rattle.dl_top.specs.Replies.{IsReply, Tells, IsAnswer}
+use Rattle.dl_top.specs.Answers.{HasTokens, SpellsProgram, IsAccepted, Refuses, usage, not_read, too_long, bad_byte, continuous, syntax, not_built}
+use Rattle.dl_top.specs.Replies.{IsReply, Tells}
 
 -- a refusal is the reply where the words and the input give its fault, and its text needs no more of the text than its place
 pub refused : (words : List (List ℕ)) (input source : List ℕ) (tokens : List Token) (r : Reply) (fault : Fault) → Tells r fault source tokens

@@ -1,5 +1,5 @@
 -- From the grid of a unit to the printed ends of one probability.
-use Rattle.std.proofs.Common.{refl, ℕ, ◌≡◌, ◌+◌, ◌-◌, ◌*◌, ◌/◌, ◌^◌, ◌<◌, ◌≤◌, zero, suc, List, [], ◌∷◌, length, map, arith, sym, ap, ap₂, ◌∙◌, subst, subst₂, mod-lt, ◌%◌, div-add-mod', le_of_mul-le-mul_right}
+use Rattle.std.proofs.Common.{refl, ℕ, ◌≡◌, ◌+◌, ◌*◌, ◌/◌, ◌^◌, ◌<◌, ◌≤◌, zero, suc, List, [], ◌∷◌, length, map, arith, sym, ap, ap₂, ◌∙◌, subst, subst₂, mod-lt, ◌%◌, div-add-mod', le_of_mul-le-mul_right}
 use Rattle.std.specs.Prelude.{Result, Ok, Err, IfOk, Bool, true, false, if◌then◌else◌, ◌==◌, zip, replicate, All}
 use Rattle.std.specs.Int.{div_ceil}
 use Rattle.std.proofs.Math.Nat.{min-le_left, div-mul-le_self, mul-le-mul}
@@ -7,7 +7,7 @@ use Rattle.std.proofs.lemmas.Grind.{div_ceil_times}
 use Rattle.std.proofs.lemmas.List.Sums.{sum_by-cons}
 use Rattle.std.proofs.lemmas.List.Elements.{All-head, All-tail}
 use mathlib.Core.Path.{fun_ext}
-use Rattle.dl_exact.specs.Fraction.{Fraction, whole, ◌over◌, ◌+ℚ◌, ◌≤ℚ◌}
+use Rattle.dl_exact.specs.Fraction.{Fraction, whole, ◌over◌, ◌+ℚ◌}
 use Rattle.dl_exact.specs.Sum.{sum_to, sum_over}
 use Rattle.dl_exact.proofs.RoundingLaws.{div_ceil_least}
 use Rattle.dl_iv.specs.declared.interval.Iv.{Iv}

@@ -1,5 +1,5 @@
 -- What the program answers to words and an input: how it ends, and what it writes.
-use Rattle.std.specs.Prelude.{◌≡◌, ℕ, ◌<◌, ◌≤◌, List, [], ◌∷◌, length, Option, Some, None}
+use Rattle.std.specs.Prelude.{◌≡◌, ℕ, ◌<◌, ◌≤◌, List, [], length, Some, None}
 use Rattle.dl_lexer.specs.declared.token.Token.{Token}
 use Rattle.dl_lexer.specs.Cutting.{Covers, IsBad}
 use Rattle.dl_ast.specs.declared.ast.Program.{Program}

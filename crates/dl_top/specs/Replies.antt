@@ -2,7 +2,7 @@
 use Rattle.std.specs.Prelude.{◌≡◌, ◌≢◌, ℕ, List, [], ⊤}
 use Rattle.dl_lexer.specs.declared.token.Token.{Token}
 use Rattle.dl_top.specs.declared.fault.Fault.{Fault}
-use Rattle.dl_top.specs.declared.fault.Fault.TheVariants.{Usage, Read, TooLong, BadByte, Syntax, Continuous, NotBuilt}
+use Rattle.dl_top.specs.declared.fault.Fault.TheVariants.{Usage, Read}
 use Rattle.dl_top.specs.declared.reply.Reply.{Reply}
 use Rattle.dl_top.specs.declared.reply.Reply.TheVariants.{Report, Refusal, OutOfMemory}
 use Rattle.dl_top.specs.declared.status.Status.TheVariants as statuses

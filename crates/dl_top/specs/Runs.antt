@@ -1,7 +1,6 @@
 -- What a call of the program leaves behind.
-use Rattle.std.specs.Prelude.{◌≡◌, ℕ, List, [], Option, IfSome}
+use Rattle.std.specs.Prelude.{◌≡◌, ℕ, List, [], Option}
 use Rattle.std.specs.Io.KnownBytes.{Appends}
-use Rattle.dl_outside.specs.Faults.{Rose}
 use Rattle.dl_outside.specs.Bytes.{AppendsPartOf}
 use Rattle.dl_top.specs.declared.status.Status.{Status}
 use Rattle.dl_top.specs.declared.status.Status.TheVariants as statuses

@@ -1,5 +1,5 @@
 -- The reply to what the source has left.
-use Rattle.std.proofs.Common.{◌≡◌, ◌+◌, ◌≤◌, Err, refl, arith, length}
+use Rattle.std.proofs.Common.{◌≡◌, ◌+◌, ◌≤◌, refl, arith, length}
 use Rattle.dl_top.specs.Answers.{usage, not_read, too_long}
 use Rattle.dl_top.proofs.ReplyLaws.{refused, told, taken, always}
 use Rattle.dl_top.proofs.reply.reply_to.Goals as goal

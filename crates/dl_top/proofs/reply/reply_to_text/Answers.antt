@@ -1,5 +1,5 @@
 -- A text with a bad place is refused at it.
-use Rattle.std.proofs.Common.{◌≡◌, Err, refl, arith}
+use Rattle.std.proofs.Common.{refl, arith}
 use Rattle.dl_lexer.specs.Cutting.{IsBad}
 use Rattle.dl_top.specs.Answers.{bad_byte}
 use Rattle.dl_top.proofs.ReplyLaws.{refused}

@@ -1,5 +1,5 @@
 -- The grid of one claim, the table of counts, and the cell that is asked.
-use Rattle.std.proofs.Common.{◌≡◌, ◌+◌, ◌*◌, ◌^◌, ◌<◌, ◌≤◌, length, arith, ap, sym, ◌∙◌}
+use Rattle.std.proofs.Common.{◌≡◌, ◌*◌, ◌^◌, ◌≤◌, length, arith, ap, ◌∙◌}
 use Rattle.std.proofs.lemmas.List.{length-map}
 use mathlib.Core.Path.{fun_ext}
 use Rattle.dl_grid.specs.Cells.{spread}
