@@ -1,0 +1,21 @@
+use Rattle.std.proofs.Common.{◌+◌, ◌*◌, ◌^◌, ◌≤◌}
+use Rattle.dl_exact.specs.Fraction.{whole, ◌*ℚ◌, ◌≤ℚ◌}
+use Rattle.dl_exp.specs.Exponential.{exponential_term, exponential_sum}
+use Rattle.dl_exp.proofs.Roundings.{fall}
+use Rattle.dl_exp.proofs.exponential.Given as goal
+
+abbrev pub invariant-loop-n : goal.invariant-loop-n
+invariant-loop-n l = record {
+  low_term : whole l.low_term ≤ℚ whole (2 ^ 63) *ℚ exponential_term l.fn.x l.n;
+  high_term : whole (2 ^ 63) *ℚ exponential_term l.fn.x l.n ≤ℚ whole l.high_term;
+  low : whole l.low ≤ℚ whole (2 ^ 63) *ℚ exponential_sum l.fn.x l.n;
+  high : whole (2 ^ 63) *ℚ exponential_sum l.fn.x l.n ≤ℚ whole l.high;
+  terms : l.low_term ≤ l.high_term;
+  near : l.high_term ≤ l.low_term + 4;
+  falls : l.high_term * fall l.n ≤ 2 ^ 63 + 2 * fall l.n;
+  small : l.high_term ≤ 2 ^ 63;
+  one : 2 ^ 63 ≤ l.low;
+  order : l.low ≤ l.high;
+  apart : l.high ≤ l.low + 4 * l.n;
+  within : l.high ≤ (l.n + 1) * 2 ^ 63;
+}

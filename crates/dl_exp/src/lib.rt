@@ -1,0 +1,72 @@
+//! The exponential of a small number, enclosed: the sums of its series in whole units, rounded down and
+//! up, what is left of the series bounded by its last term, and the reciprocals of both.
+#![tactic(auto)]
+
+ghost use Rattle.std.specs.Prelude.{◌≡◌, ℕ, ◌+◌, ◌^◌, ◌≤◌};
+ghost use Rattle.dl_exact.specs.Fraction.{Fraction, whole, ◌over◌, ◌*ℚ◌, ◌≤ℚ◌};
+ghost use Rattle.dl_exp.specs.Exponential.{exponential_sum, EnclosesExp};
+
+use dl_frac::Frac;
+use dl_iv::Iv;
+
+#[cfg(test)]
+mod tests;
+
+/// How many units make 1 in the sums of the series: 2^63, so that a unit times a part of a fraction
+/// fits.
+const ONE: u128 = 1 << 63;
+
+/// How many terms are added up after the first. With `x` at most 1/2 the last is below a unit.
+const TERMS: u64 = 18;
+
+/// The sum of the series of `exp(x)` in units of 1 / 2^63.
+#[derive(Clone, Copy)]
+struct Sums {
+    /// At most the sum of all terms, at least 1.
+    low: u128,
+    /// At least the sum of all terms.
+    high: u128,
+}
+
+/// `exp(-x)` for `x` from 0 to 1/2, at most 64 units of 1 / 2^B wide. The series is that of Taylor.
+pub fn exp_neg<const B: u32>(x: Frac) -> Iv<B>
+    requires scale_above { 1 ≤ B }
+    requires scale_below { B ≤ 56 }
+    requires half { x ≤ℚ 1 over 2 }
+    ensures encloses { EnclosesExp x result }
+    ensures narrow { result.hi ≤ result.lo + 64 }
+{
+    let sums = exponential(x);
+    let top = (1u128 << B) * ONE;
+    Iv {
+        lo: top / sums.high,
+        hi: top.div_ceil(sums.low),
+    }
+}
+
+/// The sums of the terms rounded down and of those rounded up; the last term once more stands for all
+/// that follow, since each is at most half of the one before.
+fn exponential(x: Frac) -> Sums
+    requires { x ≤ℚ 1 over 2 }
+    ensures one { 2 ^ 63 ≤ result.low }
+    ensures order { result.low ≤ result.high }
+    ensures near { result.high ≤ result.low + 128 }
+    ensures below { (u : Fraction) → ((N : ℕ) → exponential_sum x N ≤ℚ u) → whole result.low ≤ℚ whole (2 ^ 63) *ℚ u }
+    ensures above { (N : ℕ) → whole (2 ^ 63) *ℚ exponential_sum x N ≤ℚ whole result.high }
+{
+    let num = x.num() as u128;
+    let den = x.den() as u128;
+    let (mut low_term, mut high_term) = (ONE, ONE);
+    let (mut low, mut high) = (ONE, ONE);
+    for n in 0..TERMS {
+        let divisor = den * (n + 1) as u128;
+        low_term = low_term * num / divisor;
+        high_term = (high_term * num).div_ceil(divisor);
+        low += low_term;
+        high += high_term;
+    }
+    Sums {
+        low,
+        high: high + high_term,
+    }
+}

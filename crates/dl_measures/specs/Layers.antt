@@ -1,0 +1,12 @@
+-- Layers of a total: how far up they ask for the distribution, and how wide their means may be.
+use Rattle.std.specs.Prelude.{ℕ, ◌+◌, ◌*◌, Option, Some, None}
+
+-- the number of cells that the mean of a layer is made from, besides the mean of the total where there is no limit
+abbrev pub cells_under : Option ℕ → ℕ → ℕ
+cells_under None attachment = attachment
+cells_under (Some limit) attachment = attachment + limit
+
+-- how wide the mean of a layer may be, from the width of the mean of the total and from the spread of its grid
+abbrev pub layer_width : (limit : Option ℕ) (attachment mean spread : ℕ) → ℕ
+layer_width None attachment mean spread = mean + attachment * spread
+layer_width (Some limit) attachment mean spread = limit * spread

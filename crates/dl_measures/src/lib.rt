@@ -1,0 +1,12 @@
+//! Quantities of a total, from the grid of its distribution: the bracket of a quantile, and the mean of
+//! a layer. Each holds the declared value, and how far its ends lie apart follows from the spread of
+//! the grid. Each is one walk over the grid, and takes no memory.
+#![tactic(auto)]
+
+mod layers;
+mod quantiles;
+#[cfg(test)]
+mod tests;
+
+pub use layers::layer_mean;
+pub use quantiles::{Bracket, quantile};

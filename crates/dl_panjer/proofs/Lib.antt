@@ -1,0 +1,11 @@
+pub mod ItemSums
+pub mod Severities
+pub mod Reading
+pub mod Steps
+pub mod Sequences
+pub mod Recursions
+pub mod Mass
+pub mod Spreads
+pub mod Starts
+pub mod Grids
+pub mod TestLaws

@@ -1,0 +1,37 @@
+use Rattle.std.proofs.Common.{◌≡◌, ◌-◌, ◌≤◌, ◌^◌, eqb, List, [], ◌∷◌, length, arith, refl, subst, ◌∙◌}
+use Rattle.std.specs.Prelude.{not}
+use Rattle.std.proofs.lemmas.List.Elements.{All-nil, All-push}
+use Rattle.dl_iv.specs.declared.interval.Iv.{Iv}
+use Rattle.dl_grid.specs.Cells.{low_at, high_at}
+use Rattle.dl_grid.proofs.PlaceSums.{low_at_front, high_at_front, low_at_pushed, high_at_pushed}
+use Rattle.dl_panjer.specs.Cells.{low_next, high_next}
+use Rattle.dl_panjer.proofs.Steps.{follows_pushed}
+use Rattle.dl_panjer.proofs.follow.follow.Goals as goal
+
+pub loop-s-init : goal.loop-s-init
+loop-s-init g c = rw (c.in_ok-push.ensures.items, c.in_ok-list.ensures.items) (record {
+  cells = refl;
+  small = All-push (λ (cell : Iv g.row.B). cell.hi ≤ 2 ^ g.row.B) [] c.args.start (All-nil _) c.requires.small;
+  start_low = low_at_pushed [] c.args.start 0 refl;
+  start_high = high_at_pushed [] c.args.start 0 refl;
+  follows = record { low = λ s inside. absurd (omega arith); high = λ s inside. absurd (omega arith) };
+})
+
+pub loop-s-preserved : goal.loop-s-preserved
+loop-s-preserved g c =
+    let i = c.loop-s.invariant in
+    let b = not (eqb g.row.BY_AMOUNT 0) in
+    let list = c.loop-s.list.items in
+    let cell = c.next_cell-cell.result in
+    let some : 1 ≤ c.loop-s.s = omega arith in
+    let low : cell.lo ≡ low_next b c.args.items.now c.args.total c.args.rate (low_at list) (length list - 1) =
+    subst (λ (xs : List (Iv g.row.B)). cell.lo ≡ low_next b c.args.items.now c.args.total c.args.rate (low_at xs) (length xs - 1)) c.deref.ensures.value c.next_cell-cell.ensures.low in
+    let high : cell.hi ≡ high_next (2 ^ g.row.B) b c.args.items.now c.args.total c.args.rate (high_at list) (length list - 1) =
+    subst (λ (xs : List (Iv g.row.B)). cell.hi ≡ high_next (2 ^ g.row.B) b c.args.items.now c.args.total c.args.rate (high_at xs) (length xs - 1)) c.deref.ensures.value c.next_cell-cell.ensures.high in
+    rw c.in_ok-push-2.ensures.items (record {
+      cells = grind arith;
+      small = All-push (λ (x : Iv g.row.B). x.hi ≤ 2 ^ g.row.B) list cell i.small (omega (arith, high));
+      start_low = low_at_front list (cell ∷ []) 0 (omega (arith, i.cells, some)) ∙ i.start_low;
+      start_high = high_at_front list (cell ∷ []) 0 (omega (arith, i.cells, some)) ∙ i.start_high;
+      follows = follows_pushed b c.args.items.now c.args.total c.args.rate list cell c.loop-s.s i.cells some i.follows low high;
+    })

@@ -1,0 +1,14 @@
+use Rattle.std.proofs.Common.{◌≡◌, ◌^◌, ◌≤◌, eqb, length}
+use Rattle.std.specs.Prelude.{not, All}
+use Rattle.dl_grid.specs.Cells.{low_at, high_at}
+use Rattle.dl_panjer.specs.Cells.{Follows}
+use Rattle.dl_panjer.proofs.follow.follow.Given as goal
+
+abbrev pub invariant-loop-s : goal.invariant-loop-s
+invariant-loop-s g l = record {
+  cells : length l.list.items ≡ l.s;
+  small : All (λ cell. cell.hi ≤ 2 ^ g.row.B) l.list.items;
+  start_low : low_at l.list.items 0 ≡ l.fn.start.lo;
+  start_high : high_at l.list.items 0 ≡ l.fn.start.hi;
+  follows : Follows (2 ^ g.row.B) (not (eqb g.row.BY_AMOUNT 0)) l.items l.total l.rate (low_at l.list.items) (high_at l.list.items) l.s;
+}

@@ -1,0 +1,109 @@
+use Rattle.std.proofs.Common.{ℕ, ◌≡◌, ◌*◌, ◌%◌, ◌^◌, ◌<◌, ◌≤◌, true, arith, sym, ap, ap₂, subst, ◌∙◌, mul-le-mul}
+use Rattle.std.proofs.Math.Nat.{pow-le-pow_right, mod-eq_of_lt, zero-lt-suc}
+use Rattle.std.proofs.lemmas.Nat.{pow_pos}
+use Rattle.dl_exact.specs.Fraction.{Fraction, ◌over◌, ◌/ℚ◌, ◌≤ℚ◌, whole}
+use Rattle.dl_exact.proofs.Over.{over_le}
+use Rattle.dl_exact.proofs.Laws.{one_pos, le_trans}
+use Rattle.dl_grid.specs.Cells.{low_at, high_at}
+use Rattle.dl_exp.specs.Exponential.{EnclosesExp}
+use Rattle.dl_exp.proofs.Terms.{half_parts}
+use Rattle.dl_panjer.proofs.Recursions.{divided}
+use Rattle.dl_panjer.proofs.Starts.{poisson_start, clamped_near}
+use Rattle.dl_panjer.proofs.Grids.{made_of, poisson_is_base, poisson_grid, poisson_encloses, poisson_widths, items_positive, items_weighted}
+use Rattle.dl_panjer.proofs.poisson.poisson_base.Goals as goal
+
+few_halvings : (h : ℕ) → h ≤ 13 → 2 ^ h ≤ 2 ^ 13
+few_halvings h few = pow-le-pow_right (zero-lt-suc 1) few
+
+shifted : (h : ℕ) → h ≤ 13 → 1 * 2 ^ h % 2 ^ 64 ≡ 2 ^ h
+shifted h few =
+    let e : 1 * 2 ^ h ≡ 2 ^ h = omega arith in
+    ap (λ n. n % 2 ^ 64) e ∙ mod-eq_of_lt (omega (arith, few_halvings h few))
+
+rate_is : (r mean : Fraction) (num den h : ℕ) → h ≤ 13 → num ≡ mean.num → den ≡ mean.den → r ≡ num over (den * (1 * 2 ^ h % 2 ^ 64)) → r ≡ mean /ℚ whole (2 ^ h)
+rate_is r mean num den h few p q e = e ∙ ap₂ (λ s t. s over t) p (ap₂ (λ s t. s * t) q (shifted h few)) ∙ divided mean (2 ^ h) (pow_pos h)
+
+small_den : (den h : ℕ) → h ≤ 13 → den < 2 ^ 48 → den * (1 * 2 ^ h % 2 ^ 64) < 2 ^ 62
+small_den den h few small =
+    let least : den ≤ 2 ^ 48 = omega (arith, small) in
+    let product : den * 2 ^ h ≤ 2 ^ 48 * 2 ^ 13 = mul-le-mul least (few_halvings h few) in
+    rw (shifted h few) (omega (arith, product))
+
+half_le_one : (x : Fraction) → x ≤ℚ 1 over 2 → x ≤ℚ whole 1
+half_le_one x h = le_trans _ _ _ h (over_le 1 2 1 1 (zero-lt-suc 1) one_pos (omega arith))
+
+pub fraction-rate-requires-clause-small_den : goal.fraction-rate-requires-clause-small_den
+fraction-rate-requires-clause-small_den g c = small_den c.den.result c.args.halvings c.requires.halvings (omega (arith, c.den.ensures.part, c.requires.den))
+
+pub exp_neg-requires : goal.exp_neg-requires
+exp_neg-requires g c =
+    let half : c.fraction-rate.result ≤ℚ 1 over 2 =
+    subst (λ t. t ≤ℚ 1 over 2) (sym (rate_is c.fraction-rate.result c.args.mean c.num.result c.den.result c.args.halvings c.requires.halvings c.num.ensures.part c.den.ensures.part c.fraction-rate.ensures.value)) c.requires.half in
+    (omega arith, (c.requires.scale_above, (c.requires.scale_below, half)))
+
+pub follow-requires : goal.follow-requires
+follow-requires g c =
+    let half : c.fraction-rate.result ≤ℚ 1 over 2 =
+    subst (λ t. t ≤ℚ 1 over 2) (sym (rate_is c.fraction-rate.result c.args.mean c.num.result c.den.result c.args.halvings c.requires.halvings c.num.ensures.part c.den.ensures.part c.fraction-rate.ensures.value)) c.requires.half in
+    let top : c.clamp_to-start.result.hi ≤ 2 ^ g.row.B = omega (arith, c.clamp_to-start.ensures.high, c.units_of_one.ensures) in
+    let small : c.fraction-rate.result.num < 2 ^ 48 = omega (arith, c.fraction-rate.ensures.num, c.num.ensures.part, c.requires.num) in (
+      omega arith,
+      (
+        c.requires.some,
+        (
+          c.requires.few,
+          (
+            top,
+            (
+              items_weighted c.args.sev.now c.as_slice.result.now c.as_slice.ensures,
+              (
+                items_positive c.args.sev.now c.as_slice.result.now c.as_slice.ensures c.requires.no_zero,
+                (half_le_one c.fraction-rate.result half, small),
+              ),
+            ),
+          ),
+        ),
+      ),
+    )
+
+pub from_cells-requires : goal.from_cells-requires
+from_cells-requires g c =
+    let e = rate_is c.fraction-rate.result c.args.mean c.num.result c.den.result c.args.halvings c.requires.halvings c.num.ensures.part c.den.ensures.part c.fraction-rate.ensures.value in
+    let v = c.args.mean /ℚ whole (2 ^ c.args.halvings) in
+    let made = made_of true c.args.sev.now c.as_slice.result.now v c.fraction-rate.result c.in_ok-list.list.items c.args.cells c.as_slice.ensures e c.requires.some c.requires.few
+    c.in_ok-list.ensures.cells c.in_ok-list.ensures.small c.in_ok-list.ensures.follows c.requires.no_zero in (
+      omega arith,
+      (
+        omega arith,
+        poisson_grid c.args.sev.now.items c.args.sev.now.total v c.in_ok-list.list.items c.args.cells made
+            (poisson_start v c.exp_neg.result (low_at c.in_ok-list.list.items 0) (high_at c.in_ok-list.list.items 0) (subst (λ t. EnclosesExp t c.exp_neg.result) e c.exp_neg.ensures.encloses)
+            (c.in_ok-list.ensures.start_low ∙ rw c.units_of_one.ensures at c.clamp_to-start.ensures.low) (c.in_ok-list.ensures.start_high ∙ rw c.units_of_one.ensures at c.clamp_to-start.ensures.high)),
+      ),
+    )
+
+pub returns-clause-follows : goal.returns-clause-follows
+returns-clause-follows g c =
+    let e = rate_is c.fraction-rate.result c.args.mean c.num.result c.den.result c.args.halvings c.requires.halvings c.num.ensures.part c.den.ensures.part c.fraction-rate.ensures.value in
+    let v = c.args.mean /ℚ whole (2 ^ c.args.halvings) in
+    rw c.from_cells.ensures (poisson_is_base c.args.sev.now v c.in_ok-list.list.items c.args.cells
+    (made_of true c.args.sev.now c.as_slice.result.now v c.fraction-rate.result c.in_ok-list.list.items c.args.cells c.as_slice.ensures e c.requires.some c.requires.few
+    c.in_ok-list.ensures.cells c.in_ok-list.ensures.small c.in_ok-list.ensures.follows c.requires.no_zero))
+
+pub returns-clause-encloses : goal.returns-clause-encloses
+returns-clause-encloses g c =
+    let e = rate_is c.fraction-rate.result c.args.mean c.num.result c.den.result c.args.halvings c.requires.halvings c.num.ensures.part c.den.ensures.part c.fraction-rate.ensures.value in
+    let v = c.args.mean /ℚ whole (2 ^ c.args.halvings) in
+    let made = made_of true c.args.sev.now c.as_slice.result.now v c.fraction-rate.result c.in_ok-list.list.items c.args.cells c.as_slice.ensures e c.requires.some c.requires.few
+    c.in_ok-list.ensures.cells c.in_ok-list.ensures.small c.in_ok-list.ensures.follows c.requires.no_zero in
+    rw c.from_cells.ensures (poisson_encloses c.args.sev.now.items c.args.sev.now.total v c.in_ok-list.list.items c.args.cells made
+    (poisson_start v c.exp_neg.result (low_at c.in_ok-list.list.items 0) (high_at c.in_ok-list.list.items 0) (subst (λ t. EnclosesExp t c.exp_neg.result) e c.exp_neg.ensures.encloses)
+    (c.in_ok-list.ensures.start_low ∙ rw c.units_of_one.ensures at c.clamp_to-start.ensures.low) (c.in_ok-list.ensures.start_high ∙ rw c.units_of_one.ensures at c.clamp_to-start.ensures.high)))
+
+pub returns-clause-spread : goal.returns-clause-spread
+returns-clause-spread g c =
+    let e = rate_is c.fraction-rate.result c.args.mean c.num.result c.den.result c.args.halvings c.requires.halvings c.num.ensures.part c.den.ensures.part c.fraction-rate.ensures.value in
+    let v = c.args.mean /ℚ whole (2 ^ c.args.halvings) in
+    let made = made_of true c.args.sev.now c.as_slice.result.now v c.fraction-rate.result c.in_ok-list.list.items c.args.cells c.as_slice.ensures e c.requires.some c.requires.few
+    c.in_ok-list.ensures.cells c.in_ok-list.ensures.small c.in_ok-list.ensures.follows c.requires.no_zero in
+    rw c.from_cells.ensures (poisson_widths c.args.sev.now.items c.args.sev.now.total v c.in_ok-list.list.items c.args.cells made (half_parts v c.requires.half)
+    (rw (c.in_ok-list.ensures.start_low, c.in_ok-list.ensures.start_high, c.clamp_to-start.ensures.low, c.clamp_to-start.ensures.high) (clamped_near c.exp_neg.result.lo c.exp_neg.result.hi c.units_of_one.result c.exp_neg.ensures.narrow)))

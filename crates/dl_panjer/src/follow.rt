@@ -1,0 +1,87 @@
+//! The recursion, from cell 0 on.
+
+ghost use Rattle.std.specs.Prelude.{◌≡◌, ℕ, suc, ◌+◌, ◌-◌, ◌*◌, ◌^◌, ◌<◌, ◌≤◌, length, All, IfOk};
+ghost use Rattle.dl_exact.specs.Fraction.{whole, ◌≤ℚ◌};
+ghost use Rattle.dl_grid.specs.Cells.{low_at, high_at};
+ghost use Rattle.dl_plan.specs.Weighted.{weight_sum, IsWeighted};
+ghost use Rattle.dl_panjer.specs.Cells.{share, coefficient, low_next, high_next, Follows};
+
+use crate::sums::sums_before;
+use dl_frac::Frac;
+use dl_grid::units_of_one;
+use dl_iv::Iv;
+use dl_plan::Item;
+use std::alloc::{AllocError, Global};
+
+/// The next cell: each sum over the total weight, times `rate`, which for weights by amount is divided
+/// by the cell's number too. Both steps are rounded outward, and the high end is at most 1.
+fn next_cell<const B: u32, const BY_AMOUNT: bool>(
+    items: &[Item],
+    total: u32,
+    rate: Frac,
+    cells: &[Iv<B>],
+) -> Iv<B>
+    requires scale_above { 1 ≤ B }
+    requires scale_below { B ≤ 56 }
+    requires some { 1 ≤ length cells.now }
+    requires few { length cells.now ≤ 16384 }
+    requires small { All (λ cell. cell.hi ≤ 2 ^ B) cells.now }
+    requires weighted { IsWeighted items.now total }
+    requires no_zero { All (λ item. 0 < item.amount) items.now }
+    requires rate { rate ≤ℚ whole 1 }
+    requires rate_num { rate.num < 2 ^ 48 }
+    ensures low { result.lo ≡ low_next BY_AMOUNT items.now total rate (low_at cells.now) (length cells.now - 1) }
+    ensures high { result.hi ≡ high_next (2 ^ B) BY_AMOUNT items.now total rate (high_at cells.now) (length cells.now - 1) }
+{
+    let (low, high) = sums_before::<B, BY_AMOUNT>(items, cells);
+    let total = u128::from(total);
+    let num = u128::from(rate.num());
+    let den = divisor::<BY_AMOUNT>(rate.den(), cells.len());
+    Iv {
+        lo: low / total * num / den,
+        hi: units_of_one(B).min((high.div_ceil(total) * num).div_ceil(den)),
+    }
+}
+
+/// By what the rate's first part is divided at cell `number`.
+fn divisor<const BY_AMOUNT: bool>(den: u64, number: usize) -> u128
+    requires { number ≤ 16384 }
+    ensures { result ≡ share BY_AMOUNT number den }
+{
+    if BY_AMOUNT {
+        number as u128 * u128::from(den)
+    } else {
+        u128::from(den)
+    }
+}
+
+/// The cells that follow from cell 0. It takes memory once, for exactly these cells.
+pub(crate) fn follow<const B: u32, const BY_AMOUNT: bool>(
+    alloc: Global,
+    items: &[Item],
+    total: u32,
+    rate: Frac,
+    start: Iv<B>,
+    cells: u32,
+) -> Result<Vec<Iv<B>>, AllocError>
+    requires some { 1 ≤ cells }
+    requires few { cells ≤ 16384 }
+    requires small { start.hi ≤ 2 ^ B }
+    requires weighted { IsWeighted items.now total }
+    requires no_zero { All (λ item. 0 < item.amount) items.now }
+    requires rate { rate ≤ℚ whole 1 }
+    requires rate_num { rate.num < 2 ^ 48 }
+    ensures cells { IfOk result (λ list. length list.items ≡ cells) }
+    ensures start_low { IfOk result (λ list. low_at list.items 0 ≡ start.entry.lo) }
+    ensures start_high { IfOk result (λ list. high_at list.items 0 ≡ start.entry.hi) }
+    ensures small { IfOk result (λ list. All (λ cell. cell.hi ≤ 2 ^ B) list.items) }
+    ensures follows { IfOk result (λ list. Follows (2 ^ B) BY_AMOUNT items.now total rate (low_at list.items) (high_at list.items) cells) }
+{
+    let mut list = Vec::with_capacity(alloc, cells as usize)?;
+    list.push(start)?;
+    for s in 1..cells as usize {
+        let cell = next_cell::<B, BY_AMOUNT>(items, total, rate, &list);
+        list.push(cell)?;
+    }
+    Ok(list)
+}

@@ -1,0 +1,17 @@
+//! Grids of compound Poisson and compound geometric sums by Panjer's recursion: cell 0 encloses the
+//! probability of no claim, and each later cell is made from those before it, with two outward
+//! roundings for each end.
+#![tactic(auto)]
+
+mod follow;
+mod geometric;
+mod laws;
+mod poisson;
+mod rates;
+mod sums;
+#[cfg(test)]
+mod tests;
+
+pub use geometric::geometric_base;
+pub use laws::law_stands;
+pub use poisson::poisson_base;

@@ -1,0 +1,67 @@
+//! The sums from which one cell is made.
+
+ghost use Rattle.std.specs.Prelude.{◌≡◌, ℕ, suc, ◌+◌, ◌-◌, ◌*◌, ◌^◌, ◌<◌, ◌≤◌, length, All, slice_index_or};
+ghost use Rattle.std.specs.List.Sorted.{IsStrictlyIncreasing};
+ghost use Rattle.dl_grid.specs.Cells.{low_at, high_at};
+ghost use Rattle.dl_plan.specs.Weighted.{amounts_of, weight_sum, weight_at};
+ghost use Rattle.dl_panjer.specs.Cells.{share, coefficient, weighed};
+
+use dl_iv::Iv;
+use dl_plan::Item;
+
+/// How many of the amounts are at most `most`: the first ones.
+fn reached(items: &[Item], most: usize) -> usize
+    requires rising { IsStrictlyIncreasing (amounts_of items.now) }
+    ensures bound { result ≤ length items.now }
+    ensures before { (k : ℕ) (d : Item) → k < result → (slice_index_or items.now k d).amount ≤ most }
+    ensures after { (k : ℕ) (d : Item) → result ≤ k → k < length items.now → most < (slice_index_or items.now k d).amount }
+{
+    items.partition_point(|item| item.amount as usize <= most)
+}
+
+/// What an item counts for: its amount times its weight, or its weight alone.
+fn factor<const BY_AMOUNT: bool>(item: &Item) -> u64
+    ensures { result ≡ share BY_AMOUNT item.now.amount item.now.weight }
+{
+    if BY_AMOUNT {
+        u64::from(item.amount) * u64::from(item.weight)
+    } else {
+        u64::from(item.weight)
+    }
+}
+
+/// The product of a factor and an end of at most 1: one multiplication of 64 bits by 64 bits.
+fn product(factor: u64, end: u128) -> u128
+    requires { end ≤ 2 ^ 56 }
+    ensures { result ≡ factor * end }
+{
+    u128::from(factor) * u128::from(end as u64)
+}
+
+/// The sums of the products of each amount's factor and the low end, and the high end, of the cell
+/// that the amount leaves of the next cell's number.
+pub(crate) fn sums_before<const B: u32, const BY_AMOUNT: bool>(
+    items: &[Item],
+    cells: &[Iv<B>],
+) -> (u128, u128)
+    requires scale { B ≤ 56 }
+    requires some { 1 ≤ length cells.now }
+    requires few { length cells.now ≤ 16384 }
+    requires small { All (λ cell. cell.hi ≤ 2 ^ B) cells.now }
+    requires rising { IsStrictlyIncreasing (amounts_of items.now) }
+    requires no_zero { All (λ item. 0 < item.amount) items.now }
+    requires within { weight_sum items.now ≤ 2 ^ 30 }
+    ensures low { result.0 ≡ weighed (coefficient BY_AMOUNT items.now) (low_at cells.now) (length cells.now - 1) }
+    ensures high { result.1 ≡ weighed (coefficient BY_AMOUNT items.now) (high_at cells.now) (length cells.now - 1) }
+{
+    let next = cells.len();
+    let mut low = 0;
+    let mut high = 0;
+    'items: for item in &items[..reached(items, next)] {
+        let cell = &cells[next - item.amount as usize];
+        let factor = factor::<BY_AMOUNT>(item);
+        low += product(factor, cell.lo);
+        high += product(factor, cell.hi);
+    }
+    (low, high)
+}

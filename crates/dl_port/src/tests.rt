@@ -1,0 +1,124 @@
+ghost use Rattle.std.specs.Prelude.{◌≡◌, ◌≤◌, length, IfOk};
+
+use super::{others, total};
+use dl_grid::{Grid, units_of_one};
+use dl_iv::Iv;
+use std::alloc::{AllocError, Global};
+
+/// The cells of each grid: the greatest total is 6.
+const CELLS: u32 = 7;
+
+/// Three units: how many sixths each outcome from 0 to 3 has.
+const UNITS: [[u8; 4]; 3] = [[2, 4, 0, 0], [3, 0, 3, 0], [1, 2, 2, 1]];
+
+/// How many of the units are taken, the one that is left out of the sum, and the probability of each
+/// total from 0 to 6, in parts of 216, worked out by exact fractions.
+#[derive(Clone, Copy, Debug)]
+struct Case {
+    taken: usize,
+    without: Option<u32>,
+    want: [u8; 7],
+}
+
+/// Writes a cell, where the grid stays one.
+fn write<const B: u32>(g: &mut Grid<B>, x: u32, v: Iv<B>)
+    requires scale_above { 1 ≤ B }
+    requires scale_below { B ≤ 56 }
+    ensures { length g.new ≡ length g.old }
+{
+    let one = units_of_one(B);
+    if v.hi > one || x >= g.cells() {
+        return;
+    }
+    let others = g.mass_low().saturating_sub(g.at(x).lo);
+    if others + v.lo <= one {
+        g.set(x, v);
+    }
+}
+
+/// A unit, each outcome enclosed on its own.
+fn unit<const B: u32>(alloc: Global, sixths: [u8; 4]) -> Result<Grid<B>, AllocError>
+    requires scale_above { 1 ≤ B }
+    requires scale_below { B ≤ 56 }
+    ensures { IfOk result (λ g. length g ≡ 7) }
+{
+    let mut g = Grid::<B>::zero(alloc, CELLS)?;
+    for x in 0..4 {
+        let v = Iv::enclose(u128::from(sixths[x].min(6)), 6);
+        write(&mut g, x as u32, v);
+    }
+    Ok(g)
+}
+
+/// Whether each cell holds its probability, and is narrow.
+fn holds<const B: u32>(g: &Grid<B>, want: [u8; 7]) -> bool
+    requires scale_below { B ≤ 56 }
+{
+    let one = units_of_one(B);
+    let mut same = g.cells() == CELLS;
+    for (cell, part) in g.as_slice().iter().zip(&want) {
+        let exact = u128::from(*part) * one;
+        let low = cell.lo.min(one);
+        let high = cell.hi.min(one);
+        same = same && low * 216 <= exact && exact <= high * 216 && high - low < 60;
+    }
+    same
+}
+
+fn answer<const B: u32>(alloc: Global, case: Case) -> Result<bool, AllocError>
+    requires scale_above { 1 ≤ B }
+    requires scale_below { B ≤ 56 }
+{
+    let units = [
+        unit::<B>(alloc, UNITS[0])?,
+        unit::<B>(alloc, UNITS[1])?,
+        unit::<B>(alloc, UNITS[2])?,
+    ];
+    let taken = &units[..case.taken.clamp(1, 3)];
+    let sum = match case.without {
+        Some(i) if (i as usize) < taken.len() => others(alloc, taken, i, CELLS)?,
+        _ => total(alloc, taken, CELLS)?,
+    };
+    Ok(holds(&sum, case.want))
+}
+
+#[test]
+fn sums_of_units(rt: HostRuntime) {
+    let cases = [
+        Case {
+            taken: 3,
+            without: None,
+            want: [6, 24, 42, 54, 48, 30, 12],
+        },
+        Case {
+            taken: 3,
+            without: Some(0),
+            want: [18, 36, 54, 54, 36, 18, 0],
+        },
+        Case {
+            taken: 3,
+            without: Some(1),
+            want: [12, 48, 72, 60, 24, 0, 0],
+        },
+        Case {
+            taken: 3,
+            without: Some(2),
+            want: [36, 72, 36, 72, 0, 0, 0],
+        },
+        Case {
+            taken: 1,
+            without: None,
+            want: [72, 144, 0, 0, 0, 0, 0],
+        },
+        Case {
+            taken: 1,
+            without: Some(0),
+            want: [216, 0, 0, 0, 0, 0, 0],
+        },
+    ];
+    for case in &cases {
+        let alloc = rt.alloc();
+        assert_eq!(rt; answer::<48>(alloc, *case), Ok(true), "{case:?}");
+        assert_eq!(rt; answer::<56>(alloc, *case), Ok(true), "{case:?}");
+    }
+}
