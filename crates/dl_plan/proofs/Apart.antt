@@ -1,5 +1,5 @@
 -- Layers that do not overlap take, together, at most what there is.
-use Rattle.std.proofs.Common.{ℕ, zero, suc, ◌≡◌, ◌∙◌, ◌+◌, ◌*◌, ◌≤◌, ◌⊎◌, max, List, [], ◌∷◌, Option, Some, None, true, false, refl, sym, ap, ap₂, subst, arith, inl, inr, mul-le-mul_right}
+use Rattle.std.proofs.Common.{ℕ, zero, suc, ◌≡◌, ◌∙◌, ◌+◌, ◌*◌, ◌/◌, ◌≤◌, ◌⊎◌, max, List, [], ◌∷◌, Option, Some, None, true, false, refl, sym, ap, ap₂, subst, arith, inl, inr}
 use Rattle.std.specs.List.{All, AllPairs, sum_by}
 use Rattle.std.proofs.lemmas.Bool.{cases_lt}
 use Rattle.std.proofs.lemmas.List.Elements.{All-head, All-tail}
@@ -49,60 +49,83 @@ grows l x = elim (grows_by l.limit l.attach x) [
   | inr e ↦ inr (e.0, record { attached = e.1; below = e.2 })
 ]
 
+part_same : (c x y : ℕ) (l : CedeLayer) → taken y l ≡ taken x l → part_of c y l ≡ part_of c x l
+part_same c x y l e = ap (λ n. l.share.num * (c / l.share.den) * n) e
+
 -- a bucket of a layer adds nothing to layers that are apart from it
-others_same : (l : CedeLayer) (ls : List CedeLayer) (x : ℕ) → IsIn x l → All (λ m. ¬ Overlap l m) ls → sum_by (taken (x + 1)) ls ≡ sum_by (taken x) ls
-others_same l [] x p apart = refl
-others_same l (m ∷ ms) x p apart =
-    sum_by-cons (taken (x + 1)) m ms
-    ∙ ap₂ (λ a b. a + b) (same_one (grows m x)) (others_same l ms x p (All-tail (λ k. ¬ Overlap l k) m ms apart))
-    ∙ sym (sum_by-cons (taken x) m ms)
+others_same : (c : ℕ) (l : CedeLayer) (ls : List CedeLayer) (x : ℕ) → IsIn x l → All (λ m. ¬ Overlap l m) ls → sum_by (part_of c (x + 1)) ls ≡ sum_by (part_of c x) ls
+others_same c l [] x p apart = refl
+others_same c l (m ∷ ms) x p apart =
+    sum_by-cons (part_of c (x + 1)) m ms
+    ∙ ap₂ (λ a b. a + b) (same_one (grows m x)) (others_same c l ms x p (All-tail (λ k. ¬ Overlap l k) m ms apart))
+    ∙ sym (sum_by-cons (part_of c x) m ms)
   where
-    same_one : (taken (x + 1) m ≡ taken x m) ⊎ ((taken (x + 1) m ≡ taken x m + 1) × IsIn x m) → taken (x + 1) m ≡ taken x m
-    same_one (inl e) = e
+    same_one : (taken (x + 1) m ≡ taken x m) ⊎ ((taken (x + 1) m ≡ taken x m + 1) × IsIn x m) → part_of c (x + 1) m ≡ part_of c x m
+    same_one (inl e) = part_same c x (x + 1) m e
     same_one (inr e) = absurd (All-head (λ k. ¬ Overlap l k) m ms apart (overlap l m x p e.1))
 
-first_apart : (l : CedeLayer) (ls : List CedeLayer) → AllPairs (λ k m. ¬ Overlap k m) (l ∷ ls) → All (λ m. ¬ Overlap l m) ls
+pub first_apart : (l : CedeLayer) (ls : List CedeLayer) → AllPairs (λ k m. ¬ Overlap k m) (l ∷ ls) → All (λ m. ¬ Overlap l m) ls
 first_apart l ls apart = λ k d h. apart zero (suc k) d (omega arith) (omega (arith, h))
 
-rest_apart : (l : CedeLayer) (ls : List CedeLayer) → AllPairs (λ k m. ¬ Overlap k m) (l ∷ ls) → AllPairs (λ k m. ¬ Overlap k m) ls
+pub rest_apart : (l : CedeLayer) (ls : List CedeLayer) → AllPairs (λ k m. ¬ Overlap k m) (l ∷ ls) → AllPairs (λ k m. ¬ Overlap k m) ls
 rest_apart l ls apart = λ i j d p q. apart (suc i) (suc j) d (omega (arith, p)) (omega (arith, q))
 
-one_more : (ls : List CedeLayer) (x : ℕ) → AllPairs (λ k m. ¬ Overlap k m) ls → sum_by (taken (x + 1)) ls ≤ sum_by (taken x) ls + 1
-one_more [] x apart = omega arith
-one_more (l ∷ ls) x apart = elim (grows l x) [
-  | inl e ↦ omega (arith, sum_by-cons (taken (x + 1)) l ls, sum_by-cons (taken x) l ls, e, one_more ls x (rest_apart l ls apart))
-  | inr e ↦ omega (arith, sum_by-cons (taken (x + 1)) l ls, sum_by-cons (taken x) l ls, e.0, others_same l ls x e.1 (first_apart l ls apart))
-]
+-- one bucket more: what is ceded does not fall, and grows by one bucket's parts at most
+ceded_more : (c x : ℕ) (ls : List CedeLayer) → AllPairs (λ k m. ¬ Overlap k m) ls → All (λ l. l.share ≤ℚ whole 1) ls
+    → (sum_by (part_of c x) ls ≤ sum_by (part_of c (x + 1)) ls) × (sum_by (part_of c (x + 1)) ls ≤ sum_by (part_of c x) ls + c)
+ceded_more c x [] apart within = (omega arith, omega arith)
+ceded_more c x (l ∷ ls) apart within =
+    let now = sum_by-cons (part_of c x) l ls in
+    let next = sum_by-cons (part_of c (x + 1)) l ls in
+    elim (grows l x) [
+      | inl e ↦
+          let one = part_same c x (x + 1) l e in
+          let more = ceded_more c x ls (rest_apart l ls apart) (All-tail (λ k. k.share ≤ℚ whole 1) l ls within) in
+          (omega (arith, now, next, one, more.0), omega (arith, now, next, one, more.1))
+      | inr e ↦
+          let one : part_of c (x + 1) l ≡ part_of c x l + l.share.num * (c / l.share.den) =
+          ap (λ n. l.share.num * (c / l.share.den) * n) e.0 ∙ omega arith in
+          let same = others_same c l ls x e.1 (first_apart l ls apart) in
+          let most = scaled_le l.share c (All-head (λ k. k.share ≤ℚ whole 1) l ls within) in
+          (omega (arith, now, next, one, same), omega (arith, now, next, one, same, most))
+    ]
 
 taken_none : (limit : Option ℕ) (a : ℕ) → layer limit a 0 ≡ 0
 taken_none None a = omega arith
 taken_none (Some l) a = omega arith
 
-none_taken : (ls : List CedeLayer) → sum_by (taken 0) ls ≡ 0
-none_taken [] = refl
-none_taken (l ∷ ls) = sum_by-cons (taken 0) l ls ∙ ap₂ (λ a b. a + b) (taken_none l.limit l.attach) (none_taken ls)
-
-pub taken_le : (ls : List CedeLayer) (x : ℕ) → AllPairs (λ k m. ¬ Overlap k m) ls → sum_by (taken x) ls ≤ x
-taken_le ls zero apart = omega (arith, none_taken ls)
-taken_le ls (suc x) apart =
-    let step : sum_by (taken (suc x)) ls ≤ sum_by (taken x) ls + 1 = subst (λ n. sum_by (taken n) ls ≤ sum_by (taken x) ls + 1) (omega arith) (one_more ls x apart) in
-    omega (arith, step, taken_le ls x apart)
-
-parts_le : (c x : ℕ) (ls : List CedeLayer) → All (λ l. l.share ≤ℚ whole 1) ls → sum_by (part_of c x) ls ≤ c * sum_by (taken x) ls
-parts_le c x [] within = omega arith
-parts_le c x (l ∷ ls) within =
-    omega (
-      arith,
-      sum_by-cons (part_of c x) l ls,
-      ap (λ n. c * n) (sum_by-cons (taken x) l ls),
-      parts_le c x ls (All-tail (λ k. k.share ≤ℚ whole 1) l ls within),
-      mul-le-mul_right (taken x l) (scaled_le l.share c (All-head (λ k. k.share ≤ℚ whole 1) l ls within)),
-    )
+none_ceded : (c : ℕ) (ls : List CedeLayer) → sum_by (part_of c 0) ls ≡ 0
+none_ceded c [] = refl
+none_ceded c (l ∷ ls) =
+    let none : part_of c 0 l ≡ 0 = ap (λ n. l.share.num * (c / l.share.den) * n) (taken_none l.limit l.attach) ∙ omega arith in
+    sum_by-cons (part_of c 0) l ls ∙ ap₂ (λ a b. a + b) none (none_ceded c ls)
 
 -- what is ceded of x is at most x
 pub ceded_le : (clause : Clause) (c x : ℕ) → IsCession clause → sum_by (part_of c x) clause.1 ≤ x * c
-ceded_le clause c x cession = omega (arith, parts_le c x clause.1 cession.within, mul-le-mul_right c (taken_le clause.1 x cession.apart))
+ceded_le clause c zero cession = omega (arith, none_ceded c clause.1)
+ceded_le clause c (suc x) cession =
+    let more : sum_by (part_of c (suc x)) clause.1 ≤ sum_by (part_of c x) clause.1 + c =
+    subst (λ n. sum_by (part_of c n) clause.1 ≤ sum_by (part_of c x) clause.1 + c) (omega arith) (ceded_more c x clause.1 cession.apart cession.within).1 in
+    omega (arith, more, ceded_le clause c x cession)
 
 pub kept_le : (clause : Clause) (c x : ℕ) → IsCession clause → kept_parts clause c x ≤ x * c
 kept_le (true, layers) c x cession = omega arith
 kept_le (false, layers) c x cession = ceded_le (false, layers) c x cession
+
+pub kept_none : (clause : Clause) (c : ℕ) → kept_parts clause c 0 ≡ 0
+kept_none (true, layers) c = omega arith
+kept_none (false, layers) c = none_ceded c layers
+
+kept_more : (clause : Clause) (c x : ℕ) → IsCession clause → kept_parts clause c x ≤ kept_parts clause c (x + 1)
+kept_more (true, layers) c x cession =
+    omega (arith, (ceded_more c x layers cession.apart cession.within).1, ceded_le (true, layers) c x cession)
+kept_more (false, layers) c x cession = (ceded_more c x layers cession.apart cession.within).0
+
+-- what is kept never falls
+pub kept_rises : (clause : Clause) (c x n : ℕ) → IsCession clause → kept_parts clause c x ≤ kept_parts clause c (x + n)
+kept_rises clause c x zero cession =
+    let none : x + 0 ≡ x = omega arith in
+    omega (arith, ap (λ y. kept_parts clause c y) none)
+kept_rises clause c x (suc n) cession =
+    let next : x + suc n ≡ x + n + 1 = omega arith in
+    omega (arith, ap (λ y. kept_parts clause c y) next, kept_more clause c (x + n) cession, kept_rises clause c x n cession)

@@ -1,53 +1,23 @@
 -- What a clause cedes, over the common denominator of its shares.
-use Rattle.std.proofs.Common.{ℕ, ◌≡◌, ◌∙◌, ◌+◌, ◌-◌, ◌*◌, ◌/◌, ◌%◌, ◌<◌, ◌≤◌, true, false, List, [], ◌∷◌, length, map, get_or, take, drop, fold, Option, Some, None, refl, sym, ap, ap₂, subst, arith, mul-pos, mul-le-mul_right}
+use Rattle.std.proofs.Common.{ℕ, ◌≡◌, ◌∙◌, ◌-◌, ◌*◌, ◌/◌, ◌%◌, ◌<◌, ◌≤◌, true, false, List, [], ◌∷◌, Option, Some, None, sym, ap, ap₂, subst, arith, mul-pos, mul-le-mul_right}
 use Rattle.std.specs.List.{All, sum_by}
-use Rattle.std.proofs.lemmas.List.{take-append-drop, map-append}
 use Rattle.std.proofs.lemmas.List.Elements.{All-nil, All-cons, All-tail}
-use Rattle.std.proofs.lemmas.List.Sums.{fold-append, fold_more, sum_by-cons}
+use Rattle.std.proofs.lemmas.List.Sums.{sum_by-cons}
 use Rattle.std.proofs.Math.Nat.{div-mul-le_self, div-mul_cancel, div-add-mod}
-use Rattle.std.proofs.lemmas.Nat.Gcd.{le_of_dvd, mod-eq-zero_of_dvd}
+use Rattle.std.proofs.lemmas.Nat.Gcd.{mod-eq-zero_of_dvd}
 use Prim.Native.Nat.{◌∣◌}
 use Rattle.dl_exact.specs.Gcd.{gcd}
 use Rattle.dl_exact.specs.Fraction.{Fraction, whole, ◌over◌, ◌+ℚ◌, ◌-ℚ◌, ◌*ℚ◌, ◌≤ℚ◌}
 use Rattle.dl_exact.specs.Sum.{sum_over}
 use Rattle.dl_exact.proofs.GcdLaws.{gcd_is, cut_right}
 use Rattle.dl_exact.proofs.Over.{over_self, over_same, over_mul, over_sub, le_over}
-use Rattle.dl_frac.specs.Multiples.{lcm}
 use Rattle.dl_plan.specs.declared.cede.CedeLayer.{CedeLayer}
-use Rattle.dl_plan.specs.Fine.{common_denominator, IsWhole}
+use Rattle.dl_plan.specs.Fine.{IsWhole}
 use Rattle.dl_plan.specs.Cession.{Clause, layer, layer_shares, ceded, kept}
 use Rattle.dl_plan.specs.Parts.{part_of, kept_parts, parts_in_bucket}
-use Rattle.dl_plan.proofs.Common.{den_divides, common_from, common_from_pos, common_from_divides}
+use Rattle.dl_plan.proofs.Common.{den_divides, common_from_pos}
 use Rattle.dl_plan.proofs.Fits.{den_of_over}
 use Rattle.dl_plan.proofs.Sums.{zero_over, over_plus}
-
-pub fold_map : {A B C : Type 0} (f : B → C → B) (g : A → C) (b : B) (xs : List A) → fold f b (map g xs) ≡ fold (λ c x. f c (g x)) b xs
-fold_map f g b [] = refl
-fold_map f g b (x ∷ xs) = fold_map f g (f b (g x)) xs
-
--- one layer more
-pub common_more : (layers : List CedeLayer) (i : ℕ) (d : CedeLayer) → i < length layers
-    → common_denominator (layer_shares (take (i + 1) layers)) ≡ lcm (common_denominator (layer_shares (take i layers))) (get_or layers i d).share.den
-common_more layers i d h =
-    let f : ℕ → CedeLayer → ℕ = λ k l. lcm k l.share.den in
-    fold_map (λ k x. lcm k x.den) (λ l. l.share) 1 (take (i + 1) layers)
-    ∙ fold_more f 1 layers i d h
-    ∙ ap (λ k. lcm k (get_or layers i d).share.den) (sym (fold_map (λ k x. lcm k x.den) (λ l. l.share) 1 (take i layers)))
-
-pub common_part-le : (layers : List CedeLayer) (i : ℕ) → common_denominator (layer_shares (take i layers)) ≤ common_denominator (layer_shares layers)
-common_part-le layers i =
-    let first = layer_shares (take i layers) in
-    let rest = layer_shares (drop i layers) in
-    let parts : common_denominator (layer_shares layers) ≡ common_from (common_denominator first) rest =
-    ap (λ ls. common_denominator (layer_shares ls)) (sym (take-append-drop i layers))
-    ∙ ap common_denominator (map-append (λ l. l.share) (take i layers) (drop i layers))
-    ∙ fold-append (λ k x. lcm k x.den) 1 first rest in
-    rw parts (le_of_dvd (common_from_pos _ rest (common_from_pos 1 first (omega arith))) (common_from_divides (common_denominator first) rest))
-
-pub common_step : (layers : List CedeLayer) (i : ℕ) (l : CedeLayer) (common d : ℕ) → i < length layers → l ≡ get_or layers i l → d ≡ l.share.den
-    → common ≡ common_denominator (layer_shares (take i layers)) → common_denominator (layer_shares (take (i + 1) layers)) ≡ lcm common d
-common_step layers i l common d h is den so_far =
-    rw (so_far, den) (common_more layers i l h ∙ ap (λ (k : CedeLayer). lcm (common_denominator (layer_shares (take i layers))) k.share.den) (sym is))
 
 -- ---- one layer
 

@@ -1,10 +1,10 @@
 -- The common denominator of a list of fractions.
-use Rattle.std.proofs.Common.{ℕ, ◌≡◌, ◌∙◌, ◌*◌, ◌<◌, ◌≤◌, List, [], ◌∷◌, take, drop, fold, sym, ap, arith, mul-pos, inl, inr}
+use Rattle.std.proofs.Common.{ℕ, ◌≡◌, ◌∙◌, ◌+◌, ◌*◌, ◌<◌, ◌≤◌, List, [], ◌∷◌, length, get_or, take, drop, fold, sym, ap, arith, mul-pos, inl, inr}
 use Rattle.std.proofs.Math.Nat.{eq-zero-or-pos}
 use Rattle.std.specs.List.{All}
 use Rattle.std.proofs.lemmas.List.{take-append-drop}
 use Rattle.std.proofs.lemmas.List.Elements.{All-cons, All-nil}
-use Rattle.std.proofs.lemmas.List.Sums.{fold-append}
+use Rattle.std.proofs.lemmas.List.Sums.{fold-append, fold_more}
 use Prim.Native.Nat.{◌∣◌}
 use Rattle.std.proofs.lemmas.Nat.Gcd.{dvd_trans, dvd_refl, le_of_dvd}
 use Rattle.dl_exact.specs.Gcd.{gcd}
@@ -46,3 +46,12 @@ common_take-le xs i =
     let whole_list : common_denominator xs ≡ common_from (common_denominator (take i xs)) (drop i xs) =
     ap common_denominator (sym (take-append-drop i xs)) ∙ fold-append (λ k x. lcm k x.den) 1 (take i xs) (drop i xs) in
     rw whole_list (le_of_dvd (common_from_pos _ (drop i xs) (common_from_pos 1 (take i xs) (omega arith))) (common_from_divides (common_denominator (take i xs)) (drop i xs)))
+
+-- one fraction more
+pub common_step : (xs : List Fraction) (i : ℕ) (x : Fraction) (common d : ℕ) → i < length xs → x ≡ get_or xs i x → d ≡ x.den
+    → common ≡ common_denominator (take i xs) → common_denominator (take (i + 1) xs) ≡ lcm common d
+common_step xs i x common d h is den so_far =
+    rw (so_far, den) (fold_more (λ m (y : Fraction). lcm m y.den) 1 xs i x h ∙ ap (λ (y : Fraction). lcm (common_denominator (take i xs)) y.den) (sym is))
+
+pub common_pos : (xs : List Fraction) → 0 < common_denominator xs
+common_pos xs = common_from_pos 1 xs (omega arith)

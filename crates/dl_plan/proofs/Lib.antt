@@ -3,6 +3,9 @@ pub mod Sums
 pub mod Common
 pub mod Cessions
 pub mod Apart
+pub mod Straight
+pub mod Reach
+pub mod Horizons
 pub mod Weights
 pub mod Shares
 pub mod Means

@@ -1,5 +1,5 @@
--- Reinsurance clauses: what is ceded of an amount, what is kept, and how far the map goes.
-use Rattle.std.specs.Prelude.{ℕ, ◌≡◌, ◌+◌, ◌-◌, ◌<◌, ◌≤◌, ◌⊎◌, ⊤, min, max, Bool, if◌then◌else◌, Option, Some, None, List, length, map, All, AllPairs}
+-- Reinsurance clauses: what is ceded of an amount, and what is kept.
+use Rattle.std.specs.Prelude.{ℕ, ◌+◌, ◌-◌, ◌<◌, ◌≤◌, ⊤, min, max, Bool, if◌then◌else◌, Option, Some, None, List, length, map, All, AllPairs}
 use Rattle.dl_exact.specs.Fraction.{Fraction, whole, ◌-ℚ◌, ◌*ℚ◌, ◌≤ℚ◌}
 use Rattle.dl_exact.specs.Sum.{sum_over}
 use Rattle.dl_plan.specs.declared.cede.CedeLayer.{CedeLayer}
@@ -43,30 +43,3 @@ pub record IsCession (clause : Clause) : Type 0 where
   pub apart : AllPairs (λ l m. ¬ Overlap l m) clause.1
   pub within : All (λ l. l.share ≤ℚ whole 1) clause.1
   pub fine : IsFine (layer_shares clause.1)
-
--- where a layer from a ends; where it has no top, where it begins
-abbrev pub edge_of : Option ℕ → ℕ → ℕ
-edge_of None a = a
-edge_of (Some limit) a = a + limit
-
-abbrev pub edge : CedeLayer → ℕ
-edge l = edge_of l.limit l.attach
-
--- at s the map has reached h, or it is constant from there on
-abbrev pub IsSettled : Clause → ℕ → ℕ → Type 0
-IsSettled clause h s = (whole h ≤ℚ kept clause s) ⊎ ((r : ℕ) → s ≤ r → kept clause r ≡ kept clause s)
-
--- s is at least 1 and at least each edge, and the map is settled there
-pub record IsPast (clause : Clause) (h : ℕ) (s : ℕ) : Type 0 where
-  pub from_one : 1 ≤ s
-  pub edges : All (λ l. edge l ≤ s) clause.1
-  pub settled : IsSettled clause h s
-
--- the horizon on h cells: h itself without a clause; else the least number that is at least 1 and each edge and at which the map is settled
-pub record IsHorizon (clause : Clause) (h : ℕ) (k : ℕ) : Type 0 where
-  pub past : IsPast clause h k
-  pub least : (s : ℕ) → IsPast clause h s → k ≤ s
-
-abbrev pub IsHorizonOf : Option Clause → ℕ → ℕ → Type 0
-IsHorizonOf None h k = k ≡ h
-IsHorizonOf (Some clause) h k = IsHorizon clause h k

@@ -2,6 +2,8 @@ pub mod Fine
 pub mod Weighted
 pub mod Severity
 pub mod Cession
+pub mod Horizon
 pub mod Parts
 pub mod Count
 pub mod Valid
+pub mod Ranges

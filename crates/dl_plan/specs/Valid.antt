@@ -8,7 +8,8 @@ use Rattle.dl_plan.specs.declared.plan.Plan.{Plan}
 use Rattle.dl_plan.specs.Fine.{IsAdmitted, IsWhole}
 use Rattle.dl_plan.specs.Weighted.{common_amount}
 use Rattle.dl_plan.specs.Severity.{probability_of}
-use Rattle.dl_plan.specs.Cession.{Clause, kept, IsCession, IsHorizon}
+use Rattle.dl_plan.specs.Cession.{Clause, kept, IsCession}
+use Rattle.dl_plan.specs.Horizon.{IsHorizon}
 use Rattle.dl_plan.specs.Count.{expected_count, IsUnbounded, IsCount}
 
 -- the expected number of claims above 0: the expected count times the probability of a positive amount

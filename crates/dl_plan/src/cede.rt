@@ -1,13 +1,16 @@
 //! Reinsurance clauses: a side, and layers with shares.
 
-ghost use Rattle.std.specs.Prelude.{◌≡◌, ◌<◌, ◌≤◌, ◌^◌, ◌*◌, Bool, List, None, All, length, sum_by, IfOk, OnOk, IfSome, MatchOption};
+ghost use Rattle.std.specs.Prelude.{◌≡◌, ◌<◌, ◌≤◌, ◌^◌, ◌*◌, ◌↔◌, IsTrue, Bool, List, None, All, AllPairs, length, sum_by, IfOk, OnOk, IfSome, MatchOption};
 ghost use Rattle.dl_exact.specs.Fraction.{whole, ◌≤ℚ◌};
 ghost use Rattle.dl_plan.specs.declared.cede.CedeLayer.{CedeLayer};
 ghost use Rattle.dl_plan.specs.Fine.{IsFine, IsWhole, common_denominator};
-ghost use Rattle.dl_plan.specs.Cession.{layer, kept, layer_shares, IsCession};
+ghost use Rattle.dl_plan.specs.Cession.{layer, kept, layer_shares, IsBelowTop, Overlap, IsCession};
+ghost use Rattle.dl_plan.specs.Horizon.{edge, last_edge, IsHorizon};
 ghost use Rattle.dl_plan.specs.Parts.{part_of, kept_parts, parts_in_bucket};
 
-use dl_frac::{Frac, lcm_to};
+use crate::cession::{are_apart, shares_within};
+use crate::fine::common_denominator_of;
+use dl_frac::Frac;
 use smallvec::SmallVec;
 use std::alloc::{AllocError, Global};
 use std::marker::Model;
@@ -49,6 +52,32 @@ impl CedeLayer {
             None => above,
         }
     }
+
+    /// Whether `x` lies below the top of the layer, where it has one.
+    fn is_below_top(&self, x: u32) -> bool
+        ensures { IsTrue result ↔ IsBelowTop self.now.limit self.now.attach x }
+    {
+        match self.limit {
+            Some(limit) => (x as u64) < self.attach as u64 + limit as u64,
+            None => true,
+        }
+    }
+
+    /// Whether the two layers overlap: the greater attachment lies below both tops.
+    pub fn overlaps(&self, other: &CedeLayer) -> bool
+        ensures { IsTrue result ↔ Overlap self.now other.now }
+    {
+        let greater = self.attach.max(other.attach);
+        self.is_below_top(greater) && other.is_below_top(greater)
+    }
+
+    /// Where the layer ends, in buckets; where it has no limit, where it begins.
+    pub fn edge(&self) -> u64
+        ensures value { result ≡ edge self.now }
+        ensures small { result < 2 ^ 33 }
+    {
+        self.attach as u64 + self.limit.unwrap_or(0) as u64
+    }
 }
 
 /// A reinsurance clause: what of an amount is kept. Contracts see the side and the list of layers.
@@ -56,12 +85,13 @@ impl CedeLayer {
 pub struct Cede {
     net: bool,
     layers: SmallVec<CedeLayer, 4>,
-    /// The common denominator of the shares where it is at most 2^30.
-    common: u32,
+    /// The common denominator of the shares; none where it passes 2^30.
+    common: Option<u32>,
 }
 
 impl Model for Cede {
-    ghost use Rattle.std.specs.Prelude.{Bool, List, ◌≡◌};
+    ghost use Rattle.std.specs.Prelude.{Bool, List};
+    ghost use Rattle.std.specs.Option.{SomeIff};
     ghost use Rattle.dl_plan.specs.declared.cede.CedeLayer.{CedeLayer};
     ghost use Rattle.dl_plan.specs.Fine.{IsFine, common_denominator};
     ghost use Rattle.dl_plan.specs.Cession.{layer_shares};
@@ -70,19 +100,31 @@ impl Model for Cede {
 
     ghost view = { λ clause. (clause.net, clause.layers.items) };
 
-    ghost invariant = { λ clause. IsFine (layer_shares clause.layers.items) → clause.common ≡ common_denominator (layer_shares clause.layers.items) };
+    ghost invariant = { λ clause. SomeIff clause.common (IsFine (layer_shares clause.layers.items)) (common_denominator (layer_shares clause.layers.items)) };
 }
 
 impl Cede {
     /// The clause of these layers: `net` of what they take, or ceded to them.
+    pub fn from_parts(
+        alloc: Global,
+        net: bool,
+        layers: SmallVec<CedeLayer, 4>,
+    ) -> Result<Cede, AllocError>
+        ensures { IfOk result (λ clause. clause ≡ (net, layers.items)) }
+    {
+        let shares = shares_of(alloc, layers.as_slice())?;
+        Ok(Cede {
+            net,
+            layers,
+            common: common_denominator_of(&shares),
+        })
+    }
+
+    /// The clause of a copy of these layers: `net` of what they take, or ceded to them.
     pub fn from_slice(alloc: Global, net: bool, layers: &[CedeLayer]) -> Result<Cede, AllocError>
         ensures { IfOk result (λ clause. clause ≡ (net, layers.now)) }
     {
-        Ok(Cede {
-            net,
-            layers: SmallVec::from_slice(alloc, layers)?,
-            common: common_share(layers),
-        })
+        Cede::from_parts(alloc, net, SmallVec::from_slice(alloc, layers)?)
     }
 
     /// Whether what the layers take is left out; else it is what is kept.
@@ -97,6 +139,18 @@ impl Cede {
         ensures { result.now ≡ self.now.1 }
     {
         self.layers.as_slice()
+    }
+
+    /// Whether `at` can be asked: there are 1 to 16 layers that do not overlap, with shares of at most 1
+    /// that have a common denominator of at most 2^30.
+    pub fn is_cession(&self) -> bool
+        ensures { IsTrue result ↔ IsCession self.now }
+    {
+        let layers = self.layers();
+        if layers.is_empty() || layers.len() > 16 || self.common.is_none() {
+            return false;
+        }
+        shares_within(layers) && are_apart(layers)
     }
 
     /// What the clause keeps of an amount of `x` buckets; `None` exactly where that is not whole.
@@ -115,14 +169,32 @@ impl Cede {
         }
     }
 
+    /// The horizon on so many cells: the greatest of 1, each edge, and the least amount at which what is
+    /// kept has reached the cells, or is constant from there on.
+    pub fn horizon(&self, cells: u32) -> u128
+        requires { IsCession self.now }
+        ensures { IsHorizon self.now cells result }
+    {
+        let edge = last_edge(self.layers());
+        let kept = self.parts(edge);
+        let rise = self.parts(edge + 1) - kept;
+        let missing = (cells as u128 * self.common() as u128).saturating_sub(kept);
+        if rise == 0 {
+            edge as u128
+        } else {
+            edge as u128 + missing.div_ceil(rise)
+        }
+    }
+
     /// How many parts make a bucket: the common denominator of the shares.
+    #[tactic(auto, using(crate::proofs::Cessions::bucket_pos))]
     fn common(&self) -> u32
         requires { IsCession self.now }
         ensures value { result ≡ parts_in_bucket self.now }
         ensures positive { 0 < result }
         ensures small { result ≤ 2 ^ 30 }
     {
-        self.common
+        self.common.unwrap()
     }
 
     /// What the clause keeps of an amount of `x` buckets, in parts.
@@ -142,18 +214,28 @@ impl Cede {
     }
 }
 
-/// The common denominator of the shares, where it is at most 2^30.
-fn common_share(layers: &[CedeLayer]) -> u32
-    ensures { IsFine (layer_shares layers.now) → result ≡ common_denominator (layer_shares layers.now) }
+/// The greatest of 1 and each edge: where a layer ends, or begins if it has no limit.
+fn last_edge(layers: &[CedeLayer]) -> u64
+    ensures value { result ≡ last_edge layers.now }
+    ensures positive { 1 ≤ result }
+    ensures small { result < 2 ^ 33 }
 {
-    let mut common = 1;
+    let mut last = 1;
     'layers: for layer in layers {
-        match lcm_to(common, layer.share.den(), 1 << 30) {
-            Some(multiple) => common = multiple,
-            None => return 0,
-        }
+        last = last.max(layer.edge());
     }
-    common as u32
+    last
+}
+
+/// The shares of the layers.
+fn shares_of(alloc: Global, layers: &[CedeLayer]) -> Result<Vec<Frac>, AllocError>
+    ensures { IfOk result (λ shares. shares.items ≡ layer_shares layers.now) }
+{
+    let mut shares = Vec::new(alloc);
+    'layers: for layer in layers {
+        shares.push(layer.share)?;
+    }
+    Ok(shares)
 }
 
 /// What is ceded of `x`, in parts of which `common` make a bucket.

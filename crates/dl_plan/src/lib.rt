@@ -3,6 +3,8 @@
 #![tactic(auto)]
 
 mod cede;
+mod cession;
+mod fine;
 mod item;
 mod law;
 mod lowest;
@@ -10,12 +12,15 @@ mod many;
 mod plan;
 mod settings;
 mod severity;
+#[cfg(test)]
+mod tests;
 mod totals;
 mod unit;
 
 pub use cede::{Cede, CedeLayer};
+pub use fine::common_denominator_of;
 pub use item::Item;
-pub use law::law_numerals;
+pub use law::{law_horizon, law_numerals, law_valid_units};
 pub use many::Many;
 pub use plan::{Freq, Plan, Unit};
 pub use settings::{Ask, Asked, Form, Format, Settings};

@@ -1,12 +1,14 @@
 //! What a unit's claims come to.
 
-ghost use Rattle.std.specs.Prelude.{◌≡◌, ◌<◌, ◌≤◌, ◌^◌, All, length};
+ghost use Rattle.std.specs.Prelude.{◌≡◌, ◌<◌, ◌≤◌, ◌^◌, All, length, IfSome, MatchOption};
 ghost use Rattle.std.specs.List.Sorted.{IsStrictlyIncreasing};
 ghost use Rattle.dl_exact.specs.Fraction.{◌over◌, ◌*ℚ◌};
 ghost use Rattle.dl_plan.specs.Fine.{IsAdmitted};
 ghost use Rattle.dl_plan.specs.Weighted.{amounts_of, weight_at};
 ghost use Rattle.dl_plan.specs.Severity.{pairs_of, mean_amount};
 ghost use Rattle.dl_plan.specs.Count.{expected_count, IsCount};
+ghost use Rattle.dl_plan.specs.Cession.{IsCession};
+ghost use Rattle.dl_plan.specs.Horizon.{IsHorizonOf, HorizonPasses};
 ghost use Rattle.dl_plan.specs.Valid.{thinned_mean};
 
 use crate::item::Item;
@@ -70,6 +72,24 @@ impl Unit {
             count.num() as u128 * sum as u128,
             count.den() as u128 * self.sev.total as u128,
         )
+    }
+
+    /// The horizon of the unit's sums on so many cells: the cells without an aggregate clause; else the
+    /// greatest of 1, each edge of the clause, and the least sum at which what it keeps has reached the
+    /// cells, or is constant from there on. `None` exactly where it passes 16,384. Takes no memory.
+    pub fn horizon(&self, cells: u32) -> Option<u32>
+        requires { IfSome self.now.cede IsCession }
+        ensures { MatchOption result (HorizonPasses self.now.cede cells) (λ k. IsHorizonOf self.now.cede cells k × (k ≤ 16384)) }
+    {
+        let horizon = match &self.cede {
+            Some(cede) => cede.horizon(cells),
+            None => cells as u128,
+        };
+        if horizon <= 16_384 {
+            Some(horizon as u32)
+        } else {
+            None
+        }
     }
 }
 

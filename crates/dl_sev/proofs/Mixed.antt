@@ -1,16 +1,20 @@
 -- Atoms one after another, with their amounts and their probabilities apart.
-use Rattle.std.proofs.Common.{ℕ, ◌≡◌, ◌∙◌, ◌+◌, ◌*◌, ◌<◌, ◌≤◌, ◌^◌, List, [], ◌∷◌, ◌++◌, length, map, zip, get_or, take, refl, sym, ap, ap₂, subst, arith, append_assoc, mul-pos, mul-le-mul}
+use Rattle.std.proofs.Common.{ℕ, ◌≡◌, ◌∙◌, ◌+◌, ◌*◌, ◌<◌, ◌≤◌, ◌^◌, List, [], ◌∷◌, ◌++◌, length, map, zip, get_or, take, sum, refl, sym, ap, ap₂, subst, arith, append_assoc, mul-pos, mul-le-mul}
 use Rattle.std.proofs.lemmas.List.{length-take-le, take_more, map-append, map_more, append-nil, take_all}
-use Rattle.std.proofs.lemmas.List.Sums.{sum_by_more_le}
-use Rattle.dl_exact.specs.Fraction.{Fraction, whole, ◌over◌, ◌*ℚ◌}
-use Rattle.dl_exact.proofs.Over.{over_mul}
+use Rattle.std.proofs.lemmas.List.Sums.{sum_by_more_le, sum_by-cons}
+use Rattle.dl_exact.specs.Fraction.{Fraction, whole, ◌over◌, ◌+ℚ◌, ◌*ℚ◌}
+use Rattle.dl_exact.proofs.Over.{over_mul, over_same}
+use Rattle.dl_exact.proofs.Laws.{zero_plus, plus_assoc, times_plus, times_zero, times_one}
+use Rattle.dl_exact.specs.Sum.{sum_over}
 use Rattle.dl_frac.specs.Exact.{FitsFrac}
 use Rattle.dl_plan.specs.declared.item.Item.{Item}
 use Rattle.dl_plan.specs.declared.severity.Sev.{Sev}
-use Rattle.dl_plan.specs.Weighted.{amounts_of}
+use Rattle.dl_plan.specs.Weighted.{amounts_of, weight_sum}
 use Rattle.dl_plan.specs.Severity.{Pairs, shares, pairs_of}
 use Rattle.dl_plan.proofs.Fits.{over_fits}
+use Rattle.dl_plan.proofs.Sums.{zero_over, over_plus}
 use Rattle.dl_sev.specs.declared.weights.Weights.{Weights}
+use Rattle.dl_sev.specs.Weighing.{sum_of}
 use Rattle.dl_sev.specs.Steps.{scaled, mixture_of, share_of, weighed}
 use Rattle.dl_sev.proofs.Mapped.{total_pos}
 
@@ -112,3 +116,41 @@ shares-more s t i items d start old new x h before pushed value =
 
 pub mixture_whole : (t : ℕ) (atoms : List Sev) (ws : List ℕ) (i : ℕ) → length atoms ≤ i → length atoms ≡ length ws → mixture_of t (take i atoms) (take i ws) ≡ mixture_of t atoms ws
 mixture_whole t atoms ws i h e = ap₂ (mixture_of t) (take_all i atoms h) (take_all i ws (subst (λ n. n ≤ i) e h))
+
+-- ---- the probabilities of a mixture sum to 1
+
+sum_of-append : (xs ys : List Fraction) → sum_of (xs ++ ys) ≡ sum_of xs +ℚ sum_of ys
+unfolding sum_over
+sum_of-append [] ys = sym (zero_plus (sum_of ys))
+sum_of-append (x ∷ xs) ys = ap (λ s. x +ℚ s) (sum_of-append xs ys) ∙ sym (plus_assoc x (sum_of xs) (sum_of ys))
+
+sum_of-shares : (s : Fraction) (t : ℕ) (items : List Item) → 0 < t → sum_of (map (share_of s t) items) ≡ s *ℚ (weight_sum items over t)
+unfolding sum_over
+sum_of-shares s t [] h = sym (ap (λ y. s *ℚ y) (zero_over t h) ∙ times_zero s)
+sum_of-shares s t (x ∷ xs) h =
+    ap (λ y. share_of s t x +ℚ y) (sum_of-shares s t xs h)
+    ∙ sym (times_plus s (x.weight over t) (weight_sum xs over t))
+    ∙ ap (λ y. s *ℚ y) (over_plus x.weight (weight_sum xs) t h ∙ ap (λ n. n over t) (sym (sum_by-cons (λ (i : Item). i.weight) x xs)))
+
+sum_of-atom : (s : Fraction) (a : Sev) → sum_of (map (share_of s a.total) a.items) ≡ s
+sum_of-atom s a =
+    let pos = total_pos a in
+    sum_of-shares s a.total a.items pos
+    ∙ ap (λ y. s *ℚ y) (ap (λ n. n over a.total) a.weighted.sum ∙ over_same a.total a.total 1 1 pos (omega arith) (omega arith))
+    ∙ times_one s
+
+sum_of-mixture : (t : ℕ) (atoms : List Sev) (ws : List ℕ) → 0 < t → length atoms ≡ length ws → sum_of (seconds (mixture_of t atoms ws)) ≡ sum ws over t
+unfolding sum_over
+sum_of-mixture t [] [] h e = sym (zero_over t h)
+sum_of-mixture t [] (w ∷ ws) h e = absurd (omega (arith, e))
+sum_of-mixture t (a ∷ atoms) [] h e = absurd (omega (arith, e))
+sum_of-mixture t (a ∷ atoms) (w ∷ ws) h e =
+    ap sum_of (map-append (λ pair. pair.1) (scaled (w over t) (pairs_of a)) (mixture_of t atoms ws))
+    ∙ sum_of-append (seconds (scaled (w over t) (pairs_of a))) (seconds (mixture_of t atoms ws))
+    ∙ ap₂ (λ x y. x +ℚ y) (ap sum_of (seconds-scaled (w over t) a.total a.items) ∙ sum_of-atom (w over t) a) (sum_of-mixture t atoms ws h (omega (arith, e)))
+    ∙ over_plus w (sum ws) t h
+    ∙ ap (λ n. n over t) (sym (sum_by-cons (λ n. n) w ws))
+
+pub mixture_one : (t : ℕ) (atoms : List Sev) (ws : List ℕ) → 0 < t → length atoms ≡ length ws → sum ws ≡ t → sum_of (seconds (mixture_of t atoms ws)) ≡ whole 1
+mixture_one t atoms ws h e all =
+    sum_of-mixture t atoms ws h e ∙ ap (λ n. n over t) all ∙ over_same t t 1 1 h (omega arith) (omega arith)

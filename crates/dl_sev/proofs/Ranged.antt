@@ -12,7 +12,7 @@ use Rattle.dl_exact.specs.Rounding.{IsFloor}
 use Rattle.dl_exact.proofs.Over.{same, over_self, over_same, over_mul, over_sub, over_div, le_over, lt_over}
 use Rattle.dl_exact.proofs.RoundingLaws.{floor_div, floor_one}
 use Rattle.dl_frac.specs.Exact.{FitsFrac}
-use Rattle.dl_plan.proofs.Common.{den_divides}
+use Rattle.dl_plan.proofs.Common.{common_pos, den_divides}
 use Rattle.dl_plan.proofs.Sums.{over_plus}
 use Rattle.dl_plan.proofs.Fits.{over_fits}
 use Rattle.dl_sev.specs.declared.range.Range.{Range}
@@ -20,7 +20,7 @@ use Rattle.dl_sev.specs.declared.fault.ExpandFault.{ExpandFault}
 use Rattle.dl_sev.specs.declared.fault.ExpandFault.TheVariants.{TooLong, OutOfMemory}
 use Rattle.dl_sev.specs.Weighing.{weight_of}
 use Rattle.dl_sev.specs.Ranges.{floor_of, steps_in, value_at, range_values, list_values, range_denominator, IsRange, RefusesRanges, PassesRoom}
-use Rattle.dl_sev.proofs.Sharing.{common_pos, share_is}
+use Rattle.dl_sev.proofs.Sharing.{share_is}
 
 floor_over : (n d : ℕ) → 0 < d → floor_of (n over d) ≡ n / d
 floor_over n d h =

@@ -5,25 +5,15 @@ use Rattle.std.proofs.Math.Nat.{div-mul_cancel}
 use Prim.Native.Nat.{◌∣◌}
 use Rattle.std.proofs.lemmas.List.{take_all}
 use Rattle.std.proofs.lemmas.List.Elements.{All-head, All-tail}
-use Rattle.std.proofs.lemmas.List.Sums.{fold_more, sum_by-cons, sum_by-take-le}
+use Rattle.std.proofs.lemmas.List.Sums.{sum_by-cons, sum_by_more, sum_by-take-le}
 use Rattle.dl_exact.specs.Fraction.{Fraction, whole, ◌over◌, ◌+ℚ◌}
 use Rattle.dl_exact.specs.Sum.{sum_over}
 use Rattle.dl_exact.proofs.Over.{over_self, over_same, le_over}
 use Rattle.dl_exact.proofs.Laws.{le_of_eq}
-use Rattle.dl_frac.specs.Multiples.{lcm}
 use Rattle.dl_plan.specs.Fine.{common_denominator}
-use Rattle.dl_plan.proofs.Common.{common_from_pos, den_divides}
+use Rattle.dl_plan.proofs.Common.{common_pos, den_divides}
 use Rattle.dl_plan.proofs.Sums.{sum_over_common}
 use Rattle.dl_sev.specs.Weighing.{weight_of, sum_of}
-
-pub common_pos : (xs : List Fraction) → 0 < common_denominator xs
-common_pos xs = common_from_pos 1 xs (omega arith)
-
--- one fraction more
-pub common_step : (xs : List Fraction) (i : ℕ) (x : Fraction) (common d : ℕ) → i < length xs → x ≡ get_or xs i x → d ≡ x.den
-    → common ≡ common_denominator (take i xs) → common_denominator (take (i + 1) xs) ≡ lcm common d
-common_step xs i x common d h is den so_far =
-    rw (so_far, den) (fold_more (λ m (y : Fraction). lcm m y.den) 1 xs i x h ∙ ap (λ (y : Fraction). lcm (common_denominator (take i xs)) y.den) (sym is))
 
 pub share_is : (x : Fraction) (c : ℕ) → 0 < c → x.den ∣ c → weight_of c x over c ≡ x
 share_is x c h d =
@@ -61,6 +51,15 @@ one_only n c h e =
 -- a sum of 1 has weights that sum to the common denominator
 pub sum_one : (xs : List Fraction) (c : ℕ) → c ≡ common_denominator xs → sum_of xs ≡ whole 1 → sum_by (weight_of c) xs ≡ c
 sum_one xs c common e = rw common (one_only _ (common_denominator xs) (common_pos xs) (sym (sum_is xs) ∙ e))
+
+-- and back
+pub one_sum : (xs : List Fraction) (c : ℕ) → c ≡ common_denominator xs → sum_by (weight_of c) xs ≡ c → sum_of xs ≡ whole 1
+one_sum xs c common e =
+    let all : sum_by (weight_of (common_denominator xs)) xs ≡ common_denominator xs = rw (sym common) e in
+    sum_is xs ∙ ap (λ n. n over common_denominator xs) all ∙ over_same _ _ 1 1 (common_pos xs) (omega arith) (omega arith)
+
+pub weight_more : (xs : List Fraction) (c i : ℕ) (x : Fraction) → i < length xs → x ≡ get_or xs i x → sum_by (weight_of c) (take (i + 1) xs) ≡ sum_by (weight_of c) (take i xs) + weight_of c x
+weight_more xs c i x h is = sum_by_more (weight_of c) xs i x h ∙ ap (λ y. sum_by (weight_of c) (take i xs) + weight_of c y) (sym is)
 
 pub sum_map : (f : Fraction → ℕ) (xs : List Fraction) → sum (map f xs) ≡ sum_by f xs
 sum_map f [] = refl

@@ -10,10 +10,10 @@ use Rattle.dl_plan.proofs.Fits.{whole_den}
 use Rattle.dl_plan.proofs.Cessions.{whole_if, whole_only}
 use Rattle.dl_sev.specs.Buckets.{buckets}
 
-zero_test : (a : ℕ) → IsTrue (nat_eq a 0) → a ≡ 0
+pub zero_test : (a : ℕ) → IsTrue (nat_eq a 0) → a ≡ 0
 zero_test a e = grind arith
 
-test_zero : (a : ℕ) → a ≡ 0 → IsTrue (nat_eq a 0)
+pub test_zero : (a : ℕ) → a ≡ 0 → IsTrue (nat_eq a 0)
 test_zero a e = rw e refl
 
 module _ (x bs : Fraction) (n d e m : ℕ) (h : whole 0 <ℚ bs) (pn : n ≡ x.num) (pd : d ≡ bs.den) (pe : e ≡ x.den) (pm : m ≡ bs.num) where

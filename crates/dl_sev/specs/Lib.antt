@@ -4,3 +4,4 @@ pub mod Weighing
 pub mod Weighed
 pub mod Buckets
 pub mod Ranges
+pub mod Fits

@@ -18,9 +18,3 @@ abbrev pub RefusesWeights : List Fraction → WeighFault → Type 0
 RefusesWeights probs TooFine = ¬ IsFine probs
 RefusesWeights probs NotOne = IsFine probs × (sum_of probs ≢ whole 1)
 RefusesWeights probs OutOfMemory = ⊤
-
--- the second alone
-abbrev pub NotOneOf : List Fraction → WeighFault → Type 0
-NotOneOf probs TooFine = ⊥
-NotOneOf probs NotOne = sum_of probs ≢ whole 1
-NotOneOf probs OutOfMemory = ⊤

@@ -8,12 +8,11 @@ ghost use Rattle.dl_sev.specs.Steps.{weighed, items_of, mixture, share_of};
 ghost use Rattle.dl_sev.specs.declared.fault.MixFault.TheVariants.{OutOfMemory};
 ghost use Rattle.dl_sev.specs.Refusals.{RefusesMixture};
 
-use crate::fault::{MixFault, WeighFault};
+use crate::fault::MixFault;
 use crate::gather::gathered;
-use crate::weighing::weigh;
-use crate::weights::Weights;
+use crate::weights::{Weights, over_common};
 use dl_frac::Frac;
-use dl_plan::{Item, Sev};
+use dl_plan::{Item, Sev, common_denominator_of};
 use std::alloc::{AllocError, Global};
 
 /// The severity of amounts with whole weights: equal amounts are added up, and weights of 0 dropped.
@@ -59,11 +58,11 @@ pub fn mix(alloc: Global, atoms: &[Sev], weights: &Weights) -> Result<Sev, MixFa
         push_amounts(&mut amounts, atom.items.as_slice())?;
         push_probs(&mut probs, atom, parts[at], weights.total)?;
     }
-    match weigh(alloc, &probs) {
-        Ok(whole) => Ok(merge(alloc, &amounts, &whole)?),
-        Err(WeighFault::TooFine) => Err(MixFault::TooFine),
-        Err(_) => Err(MixFault::OutOfMemory),
-    }
+    let Some(common) = common_denominator_of(&probs) else {
+        return Err(MixFault::TooFine);
+    };
+    let whole = over_common(alloc, &probs, common)?;
+    Ok(merge(alloc, &amounts, &whole)?)
 }
 
 /// The amounts of an atom put behind others.

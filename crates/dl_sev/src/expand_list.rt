@@ -1,11 +1,11 @@
 //! The values of a list.
 
 ghost use Rattle.std.specs.Prelude.{◌≡◌, ◌≢◌, ◌++◌, ◌≤◌, All, length, IfOk, IfErr, MatchResult};
-ghost use Rattle.dl_sev.specs.Weighing.{weight_of};
 ghost use Rattle.dl_sev.specs.Ranges.{IsRange, IsShared, RefusesRanges, PassesRoom, list_values, range_values, range_denominator};
 
 use crate::fault::ExpandFault;
 use crate::range::Range;
+use crate::weights::numerator;
 use dl_frac::{Frac, lcm_to};
 use std::alloc::Global;
 
@@ -86,11 +86,4 @@ fn shared_denominator(range: &Range) -> u64
     let first = lcm_to(1, range.from.den(), most).unwrap();
     let second = lcm_to(first, range.to.den(), most).unwrap();
     lcm_to(second, range.step.den(), most).unwrap()
-}
-
-/// The numerator of a fraction over a multiple of its denominator.
-fn numerator(x: Frac, den: u64) -> u128
-    ensures { result ≡ weight_of den x }
-{
-    x.num() as u128 * (den / x.den()) as u128
 }

@@ -1,13 +1,13 @@
 //! The weighing of probabilities.
 
-ghost use Rattle.std.specs.Prelude.{◌≡◌, MatchResult};
+ghost use Rattle.std.specs.Prelude.{MatchResult};
 ghost use Rattle.dl_sev.specs.Weighing.{RefusesWeights};
 ghost use Rattle.dl_sev.specs.Weighed.{IsWeighing};
 
 use crate::fault::WeighFault;
-use crate::weights::{Weights, common_of, whole_weights};
+use crate::weights::{Weights, over_common, sum_to_one};
 use dl_frac::Frac;
-use dl_plan::Many;
+use dl_plan::common_denominator_of;
 use std::alloc::Global;
 
 /// Whole weights over the common denominator of probabilities that sum to 1. `TooFine` exactly where
@@ -15,12 +15,11 @@ use std::alloc::Global;
 pub fn weigh(alloc: Global, probs: &[Frac]) -> Result<Weights, WeighFault>
     ensures { MatchResult result (IsWeighing probs.now) (RefusesWeights probs.now) }
 {
-    let Some(common) = common_of(probs) else {
+    let Some(common) = common_denominator_of(probs) else {
         return Err(WeighFault::TooFine);
     };
-    let weights = whole_weights(alloc, probs, common)?;
-    Ok(Weights {
-        weights: Many::from_vec(weights),
-        total: common,
-    })
+    if !sum_to_one(probs, common) {
+        return Err(WeighFault::NotOne);
+    }
+    Ok(over_common(alloc, probs, common)?)
 }

@@ -1,14 +1,14 @@
 //! Whole weights of a list of probabilities.
 
-ghost use Rattle.std.specs.Prelude.{◌≡◌, ◌≤◌, ◌^◌, map, sum, IfOk, IfErr};
-ghost use Rattle.std.specs.Option.{SomeIff};
-ghost use Rattle.dl_plan.specs.Fine.{IsFine, common_denominator};
-ghost use Rattle.dl_sev.specs.Weighing.{weight_of, NotOneOf};
+ghost use Rattle.std.specs.Prelude.{◌≡◌, ◌≤◌, ◌^◌, ◌↔◌, IfOk, IsTrue};
+ghost use Rattle.dl_exact.specs.Fraction.{whole};
+ghost use Rattle.dl_plan.specs.Fine.{common_denominator};
+ghost use Rattle.dl_sev.specs.Weighing.{weight_of, sum_of};
+ghost use Rattle.dl_sev.specs.Weighed.{IsWeighing};
 
-use crate::fault::WeighFault;
-use dl_frac::{Frac, lcm_to};
+use dl_frac::Frac;
 use dl_plan::Many;
-use std::alloc::Global;
+use std::alloc::{AllocError, Global};
 
 /// Whole weights, each of which has itself over the total as its probability.
 #[derive(Drop)]
@@ -19,44 +19,42 @@ pub struct Weights {
     pub total: u32,
 }
 
-/// The common denominator of the fractions; `None` exactly where it passes 2^30.
-pub(crate) fn common_of(probs: &[Frac]) -> Option<u32>
-    ensures { SomeIff result (IsFine probs.now) (common_denominator probs.now) }
+/// The numerator of a fraction over a multiple of its denominator.
+pub(crate) fn numerator(x: Frac, den: u64) -> u128
+    ensures { result ≡ weight_of den x }
 {
-    let mut common = 1;
-    'probs: for prob in probs {
-        match lcm_to(common, prob.den(), 1 << 30) {
-            Some(multiple) => common = multiple,
-            None => return None,
-        }
-    }
-    Some(common as u32)
+    x.num() as u128 * (den / x.den()) as u128
 }
 
-/// The numerators over a common denominator that they sum to; `NotOne` exactly where they do not.
-pub(crate) fn whole_weights(
-    alloc: Global,
-    probs: &[Frac],
-    common: u32,
-) -> Result<Vec<u32>, WeighFault>
-    requires common { common ≡ common_denominator probs.now }
-    requires fine { common ≤ 2 ^ 30 }
-    ensures weights { IfOk result (λ made. made.items ≡ map (weight_of common) probs.now) }
-    ensures sum { IfOk result (λ made. sum made.items ≡ common) }
-    ensures not_one { IfErr result (NotOneOf probs.now) }
+/// Whether fractions sum to 1, by their numerators over their common denominator.
+pub(crate) fn sum_to_one(probs: &[Frac], common: u32) -> bool
+    requires { common ≡ common_denominator probs.now }
+    ensures { IsTrue result ↔ (sum_of probs.now ≡ whole 1) }
 {
-    let mut weights = Vec::new(alloc);
     let mut left = common as u128;
-    'probs: for prob in probs {
-        let weight = prob.num() as u128 * (common as u64 / prob.den()) as u128;
+    'probs: for &prob in probs {
+        let weight = numerator(prob, common as u64);
         if weight > left {
-            return Err(WeighFault::NotOne);
+            return false;
         }
         left -= weight;
-        weights.push(weight as u32)?;
     }
-    if left > 0 {
-        return Err(WeighFault::NotOne);
+    left == 0
+}
+
+/// The whole weights of probabilities that sum to 1, over their common denominator.
+pub(crate) fn over_common(alloc: Global, probs: &[Frac], common: u32) -> Result<Weights, AllocError>
+    requires common { common ≡ common_denominator probs.now }
+    requires fine { common ≤ 2 ^ 30 }
+    requires one { sum_of probs.now ≡ whole 1 }
+    ensures { IfOk result (IsWeighing probs.now) }
+{
+    let mut weights = Vec::new(alloc);
+    'probs: for &prob in probs {
+        weights.push(numerator(prob, common as u64) as u32)?;
     }
-    Ok(weights)
+    Ok(Weights {
+        weights: Many::from_vec(weights),
+        total: common,
+    })
 }

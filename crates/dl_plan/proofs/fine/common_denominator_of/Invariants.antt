@@ -1,11 +1,11 @@
 -- The common multiple is that of the fractions read so far.
 use Rattle.std.proofs.Common.{◌≡◌, ◌<◌, ◌≤◌, ◌^◌, take}
 use Rattle.dl_plan.specs.Fine.{common_denominator}
-use Rattle.dl_sev.proofs.weights.common_of.Given as goal
+use Rattle.dl_plan.proofs.fine.common_denominator_of.Given as goal
 
-abbrev pub invariant-probs : goal.invariant-probs
-invariant-probs l = record {
-  so_far : l.common ≡ common_denominator (take l.prob-index l.probs);
+abbrev pub invariant-fracs : goal.invariant-fracs
+invariant-fracs l = record {
+  so_far : l.common ≡ common_denominator (take l.frac-index l.fracs);
   positive : 0 < l.common;
   within : l.common ≤ 2 ^ 30;
 }

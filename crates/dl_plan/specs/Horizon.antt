@@ -1,0 +1,39 @@
+-- How far the map of a reinsurance clause goes before it has reached a grid, or stays as it is.
+use Rattle.std.specs.Prelude.{ℕ, ◌≡◌, ◌+◌, ◌<◌, ◌≤◌, ◌⊎◌, max, Option, Some, None, List, fold}
+use Rattle.dl_exact.specs.Fraction.{whole, ◌≤ℚ◌}
+use Rattle.dl_plan.specs.declared.cede.CedeLayer.{CedeLayer}
+use Rattle.dl_plan.specs.Cession.{Clause, kept}
+
+-- where a layer from a ends; where it has no top, where it begins
+abbrev pub edge_of : Option ℕ → ℕ → ℕ
+edge_of None a = a
+edge_of (Some limit) a = a + limit
+
+abbrev pub edge : CedeLayer → ℕ
+edge l = edge_of l.limit l.attach
+
+-- the greatest of 1 and each edge
+abbrev pub last_edge : List CedeLayer → ℕ
+last_edge layers = fold (λ m l. max m (edge l)) 1 layers
+
+-- at s the map has reached h, or it is constant from there on
+abbrev pub IsSettled : Clause → ℕ → ℕ → Type 0
+IsSettled clause h s = (whole h ≤ℚ kept clause s) ⊎ ((r : ℕ) → s ≤ r → kept clause r ≡ kept clause s)
+
+-- the least number at which the map is settled
+pub record IsReach (clause : Clause) (h : ℕ) (s : ℕ) : Type 0 where
+  pub settled : IsSettled clause h s
+  pub least : (r : ℕ) → IsSettled clause h r → s ≤ r
+
+-- the greatest of 1, each edge, and the least number at which the map is settled
+abbrev pub IsHorizon : Clause → ℕ → ℕ → Type 0
+IsHorizon clause h k = (s : ℕ) × IsReach clause h s × (k ≡ max (last_edge clause.1) s)
+
+-- the horizon of sums on h cells: h itself where no clause maps them
+abbrev pub IsHorizonOf : Option Clause → ℕ → ℕ → Type 0
+IsHorizonOf None h k = k ≡ h
+IsHorizonOf (Some clause) h k = IsHorizon clause h k
+
+-- the horizon passes 16,384
+abbrev pub HorizonPasses : Option Clause → ℕ → Type 0
+HorizonPasses clause h = (k : ℕ) × IsHorizonOf clause h k × (16384 < k)

@@ -1,0 +1,41 @@
+-- The ranges of the settings, as the command line gives them.
+use Rattle.std.specs.Prelude.{ℕ, ◌^◌, ◌<◌, ◌≤◌, ⊤, length, All}
+use Rattle.dl_exact.specs.Fraction.{Fraction, whole, ◌<ℚ◌}
+use Rattle.dl_plan.specs.declared.settings.Ask.{Ask}
+use Rattle.dl_plan.specs.declared.settings.Ask.TheVariants.{Pmf, Cdf, Mean, Quantile, LayerMean, Tail, Joint, Kappa}
+use Rattle.dl_plan.specs.declared.settings.Settings.{Settings}
+
+-- a bucket size above 0, as a numeral of at most 11 digits gives it
+pub record IsBucket (bs : Fraction) : Type 0 where
+  pub above : whole 0 <ℚ bs
+  pub num : bs.num < 10 ^ 11
+  pub den : bs.den ≤ 10 ^ 11
+
+-- a probability below 1, as a numeral of at most 9 digits gives it
+pub record IsLevel (p : Fraction) : Type 0 where
+  pub below : p <ℚ whole 1
+  pub num : p.num ≤ 10 ^ 9
+  pub den : p.den ≤ 10 ^ 9
+
+-- the probability of the ask, if it has one, is such
+abbrev pub HasLevel : Ask → Type 0
+HasLevel (Pmf x) = ⊤
+HasLevel (Cdf x) = ⊤
+HasLevel Mean = ⊤
+HasLevel (Quantile p) = IsLevel p
+HasLevel (LayerMean limit attach) = ⊤
+HasLevel (Tail p) = IsLevel p
+HasLevel (Joint unit at) = ⊤
+HasLevel (Kappa unit at) = ⊤
+
+-- a bucket size; from 2 to 4,096 cells; from 1 to 9 digits; widths of at least 1; and at most 256 asks
+pub record AreInRange (settings : Settings) : Type 0 where
+  pub bucket : IsBucket settings.bs
+  pub some_cells : 1 ≤ settings.log2
+  pub few_cells : settings.log2 ≤ 12
+  pub some_digits : 1 ≤ settings.digits
+  pub few_digits : settings.digits ≤ 9
+  pub width : 1 ≤ settings.width
+  pub mwidth : 1 ≤ settings.mwidth
+  pub levels : All (λ asked. HasLevel asked.ask) settings.asks
+  pub few_asks : length settings.asks ≤ 256

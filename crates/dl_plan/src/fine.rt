@@ -1,0 +1,20 @@
+//! Lists of fractions with a common denominator.
+
+ghost use Rattle.std.specs.Option.{SomeIff};
+ghost use Rattle.dl_plan.specs.Fine.{IsFine, common_denominator};
+
+use dl_frac::{Frac, lcm_to};
+
+/// The common denominator of the fractions; `None` exactly where it passes 2^30. Takes no memory.
+pub fn common_denominator_of(fracs: &[Frac]) -> Option<u32>
+    ensures { SomeIff result (IsFine fracs.now) (common_denominator fracs.now) }
+{
+    let mut common = 1;
+    'fracs: for frac in fracs {
+        match lcm_to(common, frac.den(), 1 << 30) {
+            Some(multiple) => common = multiple,
+            None => return None,
+        }
+    }
+    Some(common as u32)
+}

@@ -1,0 +1,237 @@
+//! Values worked by hand, in exact fractions.
+
+use crate::{Cede, CedeLayer, Freq, Item, Sev, Unit};
+use dl_frac::Frac;
+use dl_lexer::Text;
+use std::alloc::{AllocError, Global};
+
+/// The two parts of a share, a limit and an attachment.
+#[derive(Clone, Copy)]
+struct Layer(u64, u64, Option<u32>, u32);
+
+/// A clause of one or two layers.
+fn clause(
+    alloc: Global,
+    net: bool,
+    first: Layer,
+    second: Option<Layer>,
+) -> Result<Cede, AllocError> {
+    let mut layers = Vec::new(alloc);
+    push_layer(&mut layers, first)?;
+    if let Some(layer) = second {
+        push_layer(&mut layers, layer)?;
+    }
+    Cede::from_slice(alloc, net, &layers)
+}
+
+fn push_layer(layers: &mut Vec<CedeLayer>, layer: Layer) -> Result<(), AllocError> {
+    if layer.1 > 0 {
+        if let Ok(share) = Frac::make(layer.0 as u128, layer.1 as u128) {
+            layers.push(CedeLayer {
+                share,
+                limit: layer.2,
+                attach: layer.3,
+            })?;
+        }
+    }
+    Ok(())
+}
+
+/// What the clause keeps of `x`; none also where it is no clause.
+fn kept(cede: &Cede, x: u64) -> Option<u64> {
+    if x < 1 << 40 && cede.is_cession() {
+        cede.at(x)
+    } else {
+        None
+    }
+}
+
+/// A unit of one claim of one bucket.
+fn unit_under(alloc: Global, cede: Option<Cede>) -> Result<Unit, AllocError> {
+    let items = Vec::from_array(
+        alloc,
+        [Item {
+            amount: 1,
+            weight: 1,
+        }],
+    )?;
+    Ok(Unit {
+        name: Text::from_vec(Vec::new(alloc)),
+        sev: Sev::from_rising(items),
+        freq: Freq::Fixed(1),
+        cede,
+    })
+}
+
+/// The unit's horizon; none also where its clause is none.
+fn horizon_of(unit: &Unit, cells: u32) -> Option<u32> {
+    if let Some(cede) = &unit.cede {
+        if !cede.is_cession() {
+            return None;
+        }
+    }
+    unit.horizon(cells)
+}
+
+#[test]
+fn what_clauses_keep(rt: HostRuntime) -> Result<(), AllocError> {
+    let alloc = rt.alloc();
+    let half = Layer(1, 2, Some(4), 2);
+    let third = Layer(1, 3, None, 0);
+    let upper = Layer(1, 1, None, 10);
+    let table = [
+        // a layer not reached, half used up, used up; an odd amount of half buckets
+        (true, half, None, 2, Some(2)),
+        (true, half, None, 4, Some(3)),
+        (true, half, None, 10, Some(8)),
+        (true, half, None, 3, None),
+        // the other side, and no limit
+        (false, half, None, 10, Some(2)),
+        (false, third, None, 48, Some(16)),
+        (false, third, None, 49, None),
+        // two layers: 2 of the first, 3 of the second
+        (false, half, Some(upper), 13, Some(5)),
+        (true, half, Some(upper), 13, Some(8)),
+        // layers that overlap in one bucket, and layers that meet
+        (false, half, Some(Layer(1, 1, Some(1), 5)), 8, None),
+        (false, half, Some(Layer(1, 1, Some(1), 6)), 8, Some(3)),
+        // a share of 1, and one above
+        (true, Layer(1, 1, Some(5), 5), None, 7, Some(5)),
+        (true, Layer(4, 3, Some(6), 5), None, 11, None),
+        // a common denominator of 2^30, and above
+        (false, Layer(1, 1 << 30, None, 0), None, 1 << 30, Some(1)),
+        (false, Layer(1, (1 << 30) + 1, None, 0), None, 0, None),
+    ];
+    for (net, first, second, x, wanted) in table {
+        let cede = clause(alloc, net, first, second)?;
+        assert_eq!(rt; kept(&cede, x), wanted);
+    }
+    Ok(())
+}
+
+#[test]
+fn horizons(rt: HostRuntime) -> Result<(), AllocError> {
+    let alloc = rt.alloc();
+    let half = Layer(1, 2, Some(4), 2);
+    let third = Layer(1, 3, None, 0);
+    let upper = Layer(1, 1, None, 10);
+    let table = [
+        // the edge 6, at which 4 is kept; past it s - 2
+        (true, half, None, 1, Some(6)),
+        (true, half, None, 4, Some(6)),
+        (true, half, None, 5, Some(7)),
+        (true, half, None, 16, Some(18)),
+        (true, half, None, 16_382, Some(16_384)),
+        (true, half, None, 16_383, None),
+        // 30 at the edge 50, past it s - 20
+        (true, Layer(1, 1, Some(20), 30), None, 1_024, Some(1_044)),
+        // constant from the edge on
+        (false, half, None, 16, Some(6)),
+        (true, Layer(1, 1, None, 7), None, 16, Some(7)),
+        // nothing is kept, from the start
+        (true, Layer(1, 1, None, 0), None, 16, Some(1)),
+        // a third of s
+        (false, third, None, 16, Some(48)),
+        (false, third, None, 5_461, Some(16_383)),
+        (false, third, None, 5_462, None),
+        // two layers: 2 at the edge 10, past it s - 8
+        (false, half, Some(upper), 16, Some(24)),
+        // an edge at 16,384, and past it
+        (false, Layer(1, 1, Some(1), 16_383), None, 16, Some(16_384)),
+        (false, Layer(1, 1, Some(1), 16_384), None, 16, None),
+    ];
+    for (net, first, second, cells, wanted) in table {
+        let cede = clause(alloc, net, first, second)?;
+        let unit = unit_under(alloc, Some(cede))?;
+        assert_eq!(rt; horizon_of(&unit, cells), wanted);
+    }
+    let plain = unit_under(alloc, None)?;
+    assert_eq!(rt; horizon_of(&plain, 16_384), Some(16_384));
+    assert_eq!(rt; horizon_of(&plain, 16_385), None);
+    Ok(())
+}
+
+/// Amounts 0, 1 and 4 with probabilities 1/4, 1/4 and 1/2.
+fn some_claims(alloc: Global) -> Result<Sev, AllocError> {
+    let items = [
+        Item {
+            amount: 0,
+            weight: 3,
+        },
+        Item {
+            amount: 1,
+            weight: 3,
+        },
+        Item {
+            amount: 4,
+            weight: 6,
+        },
+    ];
+    Ok(Sev::from_rising(Vec::from_array(alloc, items)?))
+}
+
+fn shows(sev: &Sev, items: &[(u32, u32)], total: u32) -> bool {
+    let mut same = sev.total == total && sev.items.as_slice().len() == items.len();
+    for (item, &(amount, weight)) in sev.items.as_slice().iter().zip(items) {
+        same = same && *item == Item { amount, weight };
+    }
+    same
+}
+
+#[test]
+fn above_zero(rt: HostRuntime) -> Result<(), AllocError> {
+    let alloc = rt.alloc();
+    let claims = some_claims(alloc)?;
+    assert!(rt; shows(&claims, &[(0, 1), (1, 1), (4, 2)], 4));
+    let positive = claims.positive(alloc)?;
+    assert!(rt; positive.is_some_and(|sev| shows(&sev, &[(1, 1), (4, 2)], 3)));
+    let none = Sev::from_rising(Vec::from_array(
+        alloc,
+        [Item {
+            amount: 0,
+            weight: 5,
+        }],
+    )?);
+    assert!(rt; none.positive(alloc)?.is_none());
+    Ok(())
+}
+
+/// The thinned mean and the mean of claims of a Poisson count of small mean, each as two numbers.
+fn means_of(alloc: Global, sev: Sev, num: u32, den: u32) -> Option<((u64, u64), (u128, u128))> {
+    if den == 0
+        || !sev
+            .items
+            .as_slice()
+            .iter()
+            .all(|item| item.amount <= 1 << 20)
+    {
+        return None;
+    }
+    let mean = Frac::make(num as u128, den as u128).ok()?;
+    if mean.num() >= 1 << 17 || mean.den() >= 1 << 17 {
+        return None;
+    }
+    let unit = Unit {
+        name: Text::from_vec(Vec::new(alloc)),
+        sev,
+        freq: Freq::Poisson(mean),
+        cede: None,
+    };
+    let thinned = unit.thinned();
+    Some(((thinned.num(), thinned.den()), unit.mean_parts()))
+}
+
+#[test]
+fn means(rt: HostRuntime) -> Result<(), AllocError> {
+    let alloc = rt.alloc();
+    // 4/3 claims: 1 of them above 0; the mean is 4/3 of 9/4
+    assert_eq!(rt;
+        means_of(alloc, some_claims(alloc)?, 4, 3),
+        Some(((1, 1), (36, 12)))
+    );
+    assert_eq!(rt;
+        means_of(alloc, some_claims(alloc)?, 0, 1),
+        Some(((0, 1), (0, 4)))
+    );
+    Ok(())
+}
