@@ -46,3 +46,9 @@ pub mod Clauses
 pub mod Means
 pub mod CountMeans
 pub mod Beginnings
+pub mod ItemWeights
+pub mod PlanUnits
+pub mod PlanMeans
+pub mod PlanThin
+pub mod SlowCounts
+pub mod Multiples

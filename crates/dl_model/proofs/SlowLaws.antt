@@ -60,7 +60,7 @@ ways_next w (suc n) s h =
     sym (count_below_pairs s (λ i j. w i * ways w n j)) ∙ ap (λ k. count_below (suc s) (λ i. w i * ways w k (s - i))) (omega arith)
 
 module _ (amounts : Weighted) (there : 0 < total_weight amounts) where
-  all_ways : (n s : ℕ) → ways (weight_of amounts) n s ≤ total_weight amounts ^ n
+  pub all_ways : (n s : ℕ) → ways (weight_of amounts) n s ≤ total_weight amounts ^ n
   all_ways = ways_le (weight_of amounts) (total_weight amounts) there (λ n. probabilities_le amounts n there)
 
   -- the ways found so far, and those of one more amount

@@ -8,3 +8,4 @@ pub mod Counts
 pub mod Recursion
 pub mod Measures
 pub mod Family
+pub mod Plans

@@ -1,10 +1,15 @@
 -- Listed counts and listed amounts: whole numbers, each with a whole weight.
-use Rattle.std.specs.Prelude.{◌==◌, if◌then◌else◌, ℕ, max, List, [], ◌∷◌, sum_by}
+use Rattle.std.specs.Prelude.{◌==◌, if◌then◌else◌, ℕ, max, List, [], ◌∷◌, map, sum_by}
 use Rattle.dl_exact.specs.Fraction.{Fraction, ◌over◌}
+use Rattle.dl_plan.specs.declared.item.Item.{Item}
 
 -- numbers, each with its weight; a number may stand there more than once
 abbrev pub Weighted : Type 0
 Weighted = List (ℕ × ℕ)
+
+-- the amounts of a plan's items, or their numbers of claims, each with its weight
+abbrev pub weighted : List Item → Weighted
+weighted items = map (λ item. (item.amount, item.weight)) items
 
 -- the weight of x
 abbrev pub weight_of : Weighted → ℕ → ℕ

@@ -6,7 +6,9 @@ ghost use Rattle.dl_exact.specs.Sum.{sum_to};
 ghost use Rattle.dl_model.specs.Series.{Holds};
 ghost use Rattle.dl_model.specs.Compound.{convolve, at_zero, cell, cell_from};
 ghost use Rattle.dl_grid.specs.Pairs.{count_pairs};
-ghost use Rattle.dl_model.specs.Listed.{Weighted, weight_of, total_weight, probability, greatest};
+ghost use Rattle.dl_plan.specs.declared.item.Item.{Item};
+ghost use Rattle.dl_plan.specs.Weighted.{weight_at, weight_sum};
+ghost use Rattle.dl_model.specs.Listed.{Weighted, weighted, weight_of, total_weight, probability, greatest};
 ghost use Rattle.dl_model.specs.Program.{One, Point, partial_sums, listed};
 
 /// The probabilities of listed numbers add up to 1 from the greatest number on, and to at most 1 before it.
@@ -14,6 +16,12 @@ pub fn law_probabilities()
     ensures all { (items : Weighted) (n : ℕ) → 0 < total_weight items → greatest items ≤ n → sum_to n (probability items) ≡ whole 1 }
     ensures before { (items : Weighted) (n : ℕ) → 0 < total_weight items → sum_to n (probability items) ≤ℚ whole 1 }
     ensures past { (items : Weighted) (x : ℕ) → 0 < total_weight items → greatest items < x → probability items x ≡ whole 0 }
+{}
+
+/// The model's weights of a plan's items are those of the plan.
+pub fn law_weighted()
+    ensures each { (items : List Item) (x : ℕ) → weight_of (weighted items) x ≡ weight_at items x }
+    ensures all { (items : List Item) → total_weight (weighted items) ≡ weight_sum items }
 {}
 
 /// Of equally likely numbers the weight of `x` is how often it stands there, and the whole weight is how many there are.

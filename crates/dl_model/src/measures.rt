@@ -51,7 +51,7 @@ pub fn law_tight()
 {}
 
 /// A bracket holds each quantile, and there is at most one.
-pub fn law_quantile()
+pub fn law_units_quantile()
     ensures inside { (us : List Aggregate) (bound p : Fraction) (level q lo : ℕ) (hi : Option ℕ) → AreUnits us → IsBound (partial_sums us One) bound
         → whole 0 <ℚ partial_sums us One level → IsQuantile us q p → IsBracketed us lo hi p → (lo ≤ q) × ((x : ℕ) → hi ≡ Some x → q ≤ x) }
     ensures one { (us : List Aggregate) (bound p : Fraction) (level q q' : ℕ) → AreUnits us → IsBound (partial_sums us One) bound

@@ -18,17 +18,17 @@ pub fn law_counts()
 {}
 
 /// Some fraction is a bound of every quantity that can be asked.
-pub fn law_bounded()
+pub fn law_units_bounded()
     ensures { (us : List Aggregate) (quantity : Quantity) → AreDeclared us → IsAsked quantity → (u : Fraction) × IsBound (partial_sums us quantity) u }
 {}
 
 /// The whole weight is above 0 at some level.
-pub fn law_positive()
+pub fn law_units_positive()
     ensures { (us : List Aggregate) → AreDeclared us → (N : ℕ) × (whole 0 <ℚ partial_sums us One N) }
 {}
 
 /// The declared probabilities add up to 1: for each part `p` of 1, with `q` for the rest, the distribution is at least `p` somewhere.
-pub fn law_whole()
+pub fn law_units_whole()
     ensures { (us : List Aggregate) (p q : Fraction) → AreDeclared us → p +ℚ q ≡ whole 1 → whole 0 <ℚ q
         → (x : ℕ) × AtLeast (partial_sums us (Cdf x)) (partial_sums us One) p }
 {}

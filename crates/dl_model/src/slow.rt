@@ -7,7 +7,7 @@ ghost use Rattle.dl_model.specs.Ways.{ways};
 ghost use Rattle.dl_model.specs.Listed.{weight_of, total_weight, probability};
 
 /// The weight of all listed numbers.
-fn total(items: &[(u32, u32)]) -> u128
+pub(crate) fn total(items: &[(u32, u32)]) -> u128
     requires fits { total_weight items.now < 2 ^ 128 }
     ensures { result ≡ total_weight items.now }
 {
@@ -33,7 +33,7 @@ fn weight(items: &[(u32, u32)], x: u32) -> u128
 }
 
 /// The weighted ways in which `claims` claims add up to `sum`.
-fn ways_of(amounts: &[(u32, u32)], claims: u32, sum: u32) -> u128
+pub(crate) fn ways_of(amounts: &[(u32, u32)], claims: u32, sum: u32) -> u128
     requires there { 0 < total_weight amounts.now }
     requires fits { total_weight amounts.now ^ claims < 2 ^ 128 }
     ensures { result ≡ ways (weight_of amounts.now) claims sum }

@@ -1,6 +1,10 @@
 //! Totals of a program's units: from one grid for each unit, the grid of the sum of all units, and of
 //! the sum of all units but one. The units are independent, so that each unit is taken in by one
 //! convolution.
+//!
+//! The clauses speak of every list of units whose probabilities add up to 1 and whose aggregate clauses
+//! raise no sum (`AreUnits`). Of a valid plan these are its units, `aggregates_of plan`, by
+//! `dl_model::plans::law_declared`.
 #![tactic(auto)]
 
 #[cfg(test)]

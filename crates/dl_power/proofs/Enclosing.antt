@@ -15,16 +15,15 @@ use Rattle.dl_grid.specs.Cells.{low_at, high_at, all_at_zero}
 use Rattle.dl_grid.specs.Pairs.{count_pairs}
 use Rattle.dl_model.specs.Series.{Holds}
 use Rattle.dl_model.specs.Program.{where_true}
-use Rattle.dl_model.specs.Listed.{probability}
+use Rattle.dl_model.specs.Listed.{weighted, probability}
 use Rattle.dl_model.specs.Counts.{fixed}
 use Rattle.dl_model.specs.Family.{Family, compound, product, nothing, times_itself, IsProper, Encloses, GridEncloses}
 use Rattle.dl_model.proofs.FamilyLaws.{encloses_rounded, encloses_same, encloses_power, itself_none, itself_one, itself_proper}
 use Rattle.dl_model.proofs.FiniteCounts.{nothing_encloses, finite_encloses, fixed_sum, fixed_cell, power_one}
 use Rattle.dl_plan.specs.declared.item.Item.{Item}
 use Rattle.dl_plan.specs.Weighted.{weight_at, weight_sum}
-use Rattle.dl_power.specs.Listed.{weighted}
 use Rattle.dl_power.proofs.CellSets.{low_take, high_take}
-use Rattle.dl_power.proofs.WeightLists.{probability_is}
+use Rattle.dl_model.proofs.ItemWeights.{probability_is}
 
 -- a grid with the ends that a convolution rounds to encloses the product
 pub convolved : {B : ℕ} (a b g : List (Iv B)) (n : ℕ) (F G : Family) → IsProper F → IsProper G → n ≤ length a → n ≤ length b → length g ≡ n

@@ -8,7 +8,7 @@ use Rattle.dl_grid.specs.Cells.{low_at, high_at, all_at_zero}
 use Rattle.dl_grid.specs.Pairs.{count_pairs}
 use Rattle.dl_model.specs.Compound.{cell, cell_from}
 use Rattle.dl_model.specs.Severity.{IsWithinOne}
-use Rattle.dl_model.specs.Listed.{probability, greatest}
+use Rattle.dl_model.specs.Listed.{weighted, probability, greatest}
 use Rattle.dl_model.specs.Counts.{fixed}
 use Rattle.dl_model.specs.Family.{compound, GridEncloses}
 use Rattle.dl_model.proofs.FiniteCounts.{finite_encloses, severity_between}
@@ -16,8 +16,8 @@ use Rattle.dl_model.proofs.Horner.{horner_end}
 use Rattle.dl_model.proofs.WeightLaws.{probabilities_all, probability-past}
 use Rattle.dl_plan.specs.declared.item.Item.{Item}
 use Rattle.dl_plan.specs.Weighted.{weight_at, weight_sum}
-use Rattle.dl_power.specs.Listed.{weighted}
-use Rattle.dl_power.proofs.WeightLists.{probability_is, probabilities_within, total_same}
+use Rattle.dl_model.proofs.ItemWeights.{total_same, probability_is}
+use Rattle.dl_power.proofs.WeightLists.{probabilities_within}
 use Rattle.dl_power.proofs.Enclosing.{share_low, share_high}
 use Rattle.dl_power.proofs.HornerSteps.{LieBetween, starts, goes_on}
 

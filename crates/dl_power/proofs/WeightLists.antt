@@ -1,5 +1,5 @@
 -- The weights of a list as the model reads them, and as a loop adds them up.
-use Rattle.std.proofs.Common.{ℕ, zero, suc, ◌≡◌, ◌≢◌, ◌+◌, ◌*◌, ◌/◌, ◌<◌, ◌≤◌, List, [], ◌∷◌, length, get_or, take, arith, refl, sym, ap, ap₂, inl, inr, ◌∙◌, add-one}
+use Rattle.std.proofs.Common.{ℕ, zero, suc, ◌≡◌, ◌≢◌, ◌+◌, ◌*◌, ◌/◌, ◌<◌, ◌≤◌, List, [], ◌∷◌, length, get_or, take, arith, refl, sym, ap, inl, inr, ◌∙◌, add-one}
 use mathlib.Core.Path.{fun_ext}
 use Rattle.std.specs.Prelude.{◌==◌, if◌then◌else◌, max}
 use Rattle.std.specs.List.Sorted.{IsStrictlyIncreasing}
@@ -8,45 +8,20 @@ use Rattle.std.proofs.Math.Nat.{div-mul-le_self, mul-le-mul_left, mul-le-mul_rig
 use Rattle.std.proofs.lemmas.Bool.{ne_eqb}
 use Rattle.std.proofs.lemmas.Bool.Decides.{eqb_tells}
 use Rattle.std.proofs.lemmas.List.Kept.{AllPairs-from_increasing}
-use Rattle.std.proofs.lemmas.List.Sums.{sum_by-cons, sum_by_more}
-use Rattle.dl_exact.specs.Fraction.{◌over◌}
+use Rattle.std.proofs.lemmas.List.Sums.{sum_by_more}
 use Rattle.dl_grid.proofs.PairLaws.{count_below, below_nothing, below_more, below_le, below_times}
-use Rattle.dl_model.specs.Listed.{weight_of, total_weight, greatest, probability}
+use Rattle.dl_model.specs.Listed.{weighted, weight_of, greatest, probability}
 use Rattle.dl_model.specs.Severity.{IsWithinOne}
-use Rattle.dl_model.proofs.WeightLaws.{weight_of-cons, total_weight-cons, weights_le, probabilities_le}
+use Rattle.dl_model.proofs.WeightLaws.{weights_le, probabilities_le}
+use Rattle.dl_model.proofs.ItemWeights.{part_of, weight_same, total_same}
 use Rattle.dl_plan.specs.declared.item.Item.{Item}
 use Rattle.dl_plan.specs.Weighted.{amounts_of, weight_at, weight_sum}
-use Rattle.dl_power.specs.Listed.{weighted}
-
--- the weight that an item gives to x
-abbrev pub part_of : ℕ → Item → ℕ
-part_of x item = if item.amount == x then item.weight else 0
-
-pub weight_same : (items : List Item) (x : ℕ) → weight_of (weighted items) x ≡ weight_at items x
-weight_same [] x = refl
-weight_same (item ∷ items) x =
-    weight_of-cons (item.amount, item.weight) (weighted items) x
-    ∙ ap (λ t. part_of x item + t) (weight_same items x)
-    ∙ sym (sum_by-cons (part_of x) item items)
-
-pub total_same : (items : List Item) → total_weight (weighted items) ≡ weight_sum items
-total_same [] = refl
-total_same (item ∷ items) =
-    total_weight-cons (item.amount, item.weight) (weighted items)
-    ∙ ap (λ t. item.weight + t) (total_same items)
-    ∙ sym (sum_by-cons (λ (i : Item). i.weight) item items)
 
 pub part_le : (x : ℕ) (item : Item) → part_of x item ≤ item.weight
 part_le x item = elim (eqb_tells item.amount x) [
   | inl p ↦ rw p.0 (omega arith)
   | inr p ↦ rw p.0 (omega arith)
 ]
-
--- no weight is above the total
-pub weight_le : (items : List Item) (x : ℕ) → weight_at items x ≤ weight_sum items
-weight_le [] x = omega arith
-weight_le (item ∷ items) x =
-    omega (arith, sum_by-cons (part_of x) item items, sum_by-cons (λ (i : Item). i.weight) item items, part_le x item, weight_le items x)
 
 greatest_front : (items : List Item) (i : ℕ) (d : Item) → i < length items
     → greatest (weighted (take (suc i) items)) ≡ max (greatest (weighted (take i items))) (get_or items i d).amount
@@ -148,10 +123,6 @@ pub mass_next : (S total mass fresh before w new after : ℕ) → 0 < total → 
 mass_next S total mass fresh before w new after pos h e grown sum =
     omega (arith, mass_more S total mass fresh before w pos h e, mul-le-mul_right total grown, ap (λ t. S * t) sum)
 
--- the model's probabilities are shares of the total
-pub probability_is : (items : List Item) (total : ℕ) → weight_sum items ≡ total → (x : ℕ) → probability (weighted items) x ≡ weight_at items x over total
-probability_is items total e x = ap₂ (λ u v. u over v) (weight_same items x) (total_same items ∙ e)
-
--- they add up to at most 1
+-- the model's probabilities add up to at most 1
 pub probabilities_within : (items : List Item) (total : ℕ) → weight_sum items ≡ total → 0 < total → IsWithinOne (probability (weighted items))
 probabilities_within items total e pos n = probabilities_le (weighted items) n (omega (arith, total_same items))

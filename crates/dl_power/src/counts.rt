@@ -6,12 +6,11 @@ ghost use Rattle.dl_exact.specs.Fraction.{Fraction};
 ghost use Rattle.dl_grid.specs.Cells.{low_at, high_at, mass_low, spread, all_at_zero};
 ghost use Rattle.dl_grid.specs.Pairs.{count_pairs};
 ghost use Rattle.dl_grid.specs.Width.{cv};
-ghost use Rattle.dl_model.specs.Listed.{probability, greatest};
+ghost use Rattle.dl_model.specs.Listed.{weighted, probability, greatest};
 ghost use Rattle.dl_model.specs.Counts.{fixed};
 ghost use Rattle.dl_model.specs.Severity.{IsWithinOne};
 ghost use Rattle.dl_model.specs.Family.{compound, GridEncloses};
 ghost use Rattle.dl_plan.specs.Weighted.{weight_sum};
-ghost use Rattle.dl_power.specs.Listed.{weighted};
 ghost use Rattle.dl_power.specs.Spread.{mixed_spread};
 
 use crate::shares::{greatest_of, nowhere, share, weight_of, well_made};

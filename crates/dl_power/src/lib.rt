@@ -13,4 +13,3 @@ mod tests;
 pub use claims::claim_grid;
 pub use counts::mix_counts;
 pub use powers::power;
-pub use shares::law_weighted;

@@ -3,21 +3,14 @@
 ghost use Rattle.std.specs.Prelude.{◌≡◌, ℕ, ◌+◌, ◌-◌, ◌*◌, ◌/◌, ◌^◌, ◌==◌, ◌<◌, ◌≤◌, if◌then◌else◌, length, List, IfOk};
 ghost use Rattle.std.specs.Int.{div_ceil};
 ghost use Rattle.dl_grid.specs.Cells.{low_at, high_at, mass_low, spread, IsGrid};
-ghost use Rattle.dl_model.specs.Listed.{weight_of, total_weight, greatest};
+ghost use Rattle.dl_model.specs.Listed.{weighted, weight_of, total_weight, greatest};
 ghost use Rattle.dl_plan.specs.declared.item.Item.{Item};
 ghost use Rattle.dl_plan.specs.Weighted.{weight_at, weight_sum};
-ghost use Rattle.dl_power.specs.Listed.{weighted};
 
 use dl_grid::Grid;
 use dl_iv::Iv;
 use dl_plan::Item;
 use std::alloc::{AllocError, Global};
-
-/// The model's weights are those of the list.
-pub fn law_weighted()
-    ensures each { (items : List Item) (x : ℕ) → weight_of (weighted items) x ≡ weight_at items x }
-    ensures all { (items : List Item) → total_weight (weighted items) ≡ weight_sum items }
-{}
 
 /// The weight of `x`, 0 where it is not listed.
 pub(crate) fn weight_of(items: &[Item], x: u32) -> u32

@@ -6,7 +6,8 @@ use Rattle.dl_grid.specs.Cells.{low_at, high_at, mass_low, spread}
 use Rattle.dl_grid.proofs.CellLaws.{scale_of}
 use Rattle.dl_plan.specs.Weighted.{weight_at}
 use Rattle.dl_power.proofs.CellSets.{high_joined, at_zero_small}
-use Rattle.dl_power.proofs.WeightLists.{weight_le, shares_below, shares_next, shares_fit}
+use Rattle.dl_model.proofs.ItemWeights.{weight_within}
+use Rattle.dl_power.proofs.WeightLists.{shares_below, shares_next, shares_fit}
 use Rattle.dl_power.proofs.HornerGrids.{starts_at, goes_on_at, one_between, ends}
 use Rattle.dl_power.proofs.Spreads.{mixed_none, mixed_more}
 use Rattle.dl_power.proofs.counts.mix_counts.Goals as goal
@@ -19,13 +20,13 @@ nowhere-requires g c =
 pub share-requires : goal.share-requires
 share-requires g c =
     let scale = scale_of c.args.base.now c.well_made.ensures.some in
-    (omega arith, (scale.0, (scale.1, (c.requires.positive, omega (arith, c.weight_of.ensures, weight_le c.args.table.now c.greatest_of-greatest.result, c.requires.sum)))))
+    (omega arith, (scale.0, (scale.1, (c.requires.positive, omega (arith, c.weight_of.ensures, weight_within c.args.table.now c.greatest_of-greatest.result, c.requires.sum)))))
 
 pub share-share-requires : goal.share-share-requires
 share-share-requires g c =
     let scale = scale_of c.args.base.now c.well_made.ensures.some in (
       omega arith,
-      (scale.0, (scale.1, (c.requires.positive, omega (arith, c.weight_of-in-loop-step.ensures, weight_le c.args.table.now (c.greatest_of-greatest.result - c.loop-step.step - 1), c.requires.sum)))),
+      (scale.0, (scale.1, (c.requires.positive, omega (arith, c.weight_of-in-loop-step.ensures, weight_within c.args.table.now (c.greatest_of-greatest.result - c.loop-step.step - 1), c.requires.sum)))),
     )
 
 pub loop-step-init : goal.loop-step-init

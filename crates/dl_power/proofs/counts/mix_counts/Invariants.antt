@@ -3,8 +3,7 @@ use Rattle.dl_exact.specs.Fraction.{Fraction}
 use Rattle.dl_grid.specs.Cells.{low_at, high_at, mass_low, spread}
 use Rattle.dl_model.specs.Compound.{cell_from}
 use Rattle.dl_model.specs.Severity.{IsWithinOne}
-use Rattle.dl_model.specs.Listed.{probability}
-use Rattle.dl_power.specs.Listed.{weighted}
+use Rattle.dl_model.specs.Listed.{weighted, probability}
 use Rattle.dl_power.specs.Spread.{mixed_spread}
 use Rattle.dl_power.proofs.WeightLists.{shares_below}
 use Rattle.dl_power.proofs.HornerSteps.{LieBetween}

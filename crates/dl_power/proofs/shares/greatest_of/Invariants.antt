@@ -1,6 +1,5 @@
 use Rattle.std.proofs.Common.{◌≡◌, take}
-use Rattle.dl_model.specs.Listed.{greatest}
-use Rattle.dl_power.specs.Listed.{weighted}
+use Rattle.dl_model.specs.Listed.{weighted, greatest}
 use Rattle.dl_power.proofs.shares.greatest_of.Given as goal
 
 abbrev pub invariant-loop-item : goal.invariant-loop-item

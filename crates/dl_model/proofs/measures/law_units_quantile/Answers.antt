@@ -1,5 +1,5 @@
 use Rattle.dl_model.proofs.Bracket.{quantile_inside, quantile_one}
-use Rattle.dl_model.proofs.measures.law_quantile.Goals as goal
+use Rattle.dl_model.proofs.measures.law_units_quantile.Goals as goal
 
 pub returns-clause-inside : goal.returns-clause-inside
 returns-clause-inside c = quantile_inside

@@ -1,0 +1,75 @@
+-- The expected counts of a plan's units, and their means.
+use Rattle.std.proofs.Common.{ℕ, zero, suc, ◌≡◌, List, [], ◌∷◌, map, None, arith, refl, sym, ap, subst, subst₂, ◌∙◌}
+use Rattle.std.specs.Prelude.{All}
+use Rattle.std.proofs.Math.Nat.{le_refl as le_refl_n}
+use Rattle.std.proofs.lemmas.List.Elements.{All-head, All-tail}
+use Rattle.dl_exact.specs.Fraction.{Fraction, whole, ◌*ℚ◌, ◌≤ℚ◌}
+use Rattle.dl_exact.specs.Sum.{sum_to, sum_over}
+use Rattle.dl_exact.proofs.Over.{over_self}
+use Rattle.dl_exact.proofs.Laws.{times_comm, one_times, zero_times, zero_le, le_refl}
+use Rattle.dl_plan.specs.declared.plan.Freq.{Freq}
+use Rattle.dl_plan.specs.declared.plan.Freq.TheVariants.{Fixed, Table, Bernoulli, Binomial, Poisson, Gamma}
+use Rattle.dl_plan.specs.declared.plan.Unit.{Unit as UnitOfPlan}
+use Rattle.dl_plan.specs.Severity.{pairs_of, mean_amount}
+use Rattle.dl_plan.specs.Count.{expected_count, IsCount as IsCountOfPlan}
+use Rattle.dl_plan.specs.Valid.{IsValidUnit}
+use Rattle.dl_plan.proofs.Cessions.{num_le_den}
+use Rattle.dl_plan.proofs.Means.{total_pos}
+use Rattle.dl_model.specs.Series.{Series, Holds}
+use Rattle.dl_model.specs.Listed.{weighted, greatest}
+use Rattle.dl_model.specs.Program.{One, Mean, sum_over_outcomes, partial_sums}
+use Rattle.dl_model.specs.Plans.{count_weights, clause_of, aggregate_of}
+use Rattle.dl_model.proofs.CountMeans.{finite_mean, fixed_mean, binomial_mean, poisson_mean, gamma_mean}
+use Rattle.dl_model.proofs.Means.{mean_of_unit, mean_of_total}
+use Rattle.dl_model.proofs.Bounded.{are_units}
+use Rattle.dl_model.proofs.ItemWeights.{shares_severity, shares_mean, severity_mean}
+use Rattle.dl_model.proofs.PlanUnits.{unit_declared, units_declared}
+
+-- the declared mean of a number of claims is v
+abbrev HasMean : (ℕ → Fraction) → Fraction → Type 0
+HasMean w v = Holds (λ N. sum_to N (λ n. whole n *ℚ w n)) (λ N. sum_to N w) v v
+
+pub count_mean : (freq : Freq) → IsCountOfPlan freq → HasMean (count_weights freq) (expected_count freq)
+count_mean (Fixed m) h = fixed_mean m
+count_mean (Table counts total) h =
+    let far = greatest (weighted counts) in
+    subst (λ v. HasMean (count_weights (Table counts total)) v) (shares_mean counts total far (total_pos counts total h.0) (le_refl_n far))
+    (finite_mean _ far (shares_severity counts total h.0))
+count_mean (Bernoulli q) h =
+    subst (λ v. HasMean (count_weights (Bernoulli q)) v) (one_times _ ∙ over_self q) (binomial_mean 1 q.num q.den q.positive (num_le_den q h.within))
+count_mean (Binomial trials q) h =
+    subst (λ v. HasMean (count_weights (Binomial trials q)) v) (ap (λ x. whole trials *ℚ x) (over_self q)) (binomial_mean trials q.num q.den q.positive (num_le_den q h.1.within))
+count_mean (Poisson mean) h = poisson_mean mean
+count_mean (Gamma zero mean) h = absurd (omega (arith, h))
+count_mean (Gamma (suc q) mean) h = gamma_mean q mean
+
+-- the declared mean of units lies from l to h
+abbrev MeanHolds : List UnitOfPlan → Fraction → Fraction → Type 0
+MeanHolds units l h = Holds (partial_sums (map aggregate_of units) Mean) (partial_sums (map aggregate_of units) One) l h
+
+pub unit_mean : (cells : ℕ) (u : UnitOfPlan) → IsValidUnit cells u → u.cede ≡ None
+    → MeanHolds (u ∷ []) (expected_count u.freq *ℚ mean_amount (pairs_of u.sev)) (expected_count u.freq *ℚ mean_amount (pairs_of u.sev))
+unit_mean cells u h none =
+    let e = expected_count u.freq in
+    let value : sum_to (greatest (weighted u.sev.items)) (λ j. whole j *ℚ (aggregate_of u).severity j) *ℚ e ≡ e *ℚ mean_amount (pairs_of u.sev) =
+    ap (λ m. m *ℚ e) (severity_mean u.sev) ∙ times_comm _ e in
+    subst (λ v. MeanHolds (u ∷ []) v v) value
+    (mean_of_unit (aggregate_of u) (unit_declared cells u h).unit (λ s. ap (λ cede. clause_of cede s) none) e e (count_mean u.freq h.count))
+
+-- a total of no units is 0
+no_mean : (Q R : Series) → ((N : ℕ) → Q N ≡ whole 0) → Holds Q R (whole 0) (whole 0)
+no_mean Q R none = (
+  (λ N u b. subst (λ t. t ≤ℚ u) (sym (zero_times (R N))) (zero_le u)),
+  (λ N u b. subst₂ (λ s t. s ≤ℚ t) (sym (none N)) (sym (zero_times u)) (le_refl (whole 0))),
+)
+
+pub units_mean : (cells : ℕ) (l h : UnitOfPlan → Fraction) (units : List UnitOfPlan) → All (IsValidUnit cells) units
+    → All (λ u. MeanHolds (u ∷ []) (l u) (h u)) units → MeanHolds units (sum_over units l) (sum_over units h)
+unfolding sum_over sum_over_outcomes
+units_mean cells l h [] valid each = no_mean (partial_sums [] Mean) (partial_sums [] One) (λ N. refl)
+units_mean cells l h (u ∷ us) valid each =
+    let rest = All-tail (IsValidUnit cells) u us valid in
+    mean_of_total (aggregate_of u) (map aggregate_of us) (unit_declared cells u (All-head (IsValidUnit cells) u us valid)).unit
+    (are_units (map aggregate_of us) (units_declared cells us rest)) (l u) (h u) (sum_over us l) (sum_over us h)
+    (All-head (λ v. MeanHolds (v ∷ []) (l v) (h v)) u us each)
+    (units_mean cells l h us rest (All-tail (λ v. MeanHolds (v ∷ []) (l v) (h v)) u us each))

@@ -1,0 +1,73 @@
+-- The units of a valid plan can be declared.
+use Rattle.std.proofs.Common.{ℕ, zero, suc, ◌*◌, ◌/◌, ◌≤◌, List, [], ◌∷◌, map, Option, Some, None, arith, sym, subst}
+use Rattle.std.specs.Prelude.{IfSome, All}
+use Rattle.std.proofs.Math.Nat.{div-le_of_le-mul, le_refl as le_refl_n}
+use Rattle.std.proofs.lemmas.List.Elements.{All-head, All-tail}
+use Rattle.dl_exact.specs.Fraction.{Fraction, whole, ◌≤ℚ◌}
+use Rattle.dl_exact.proofs.Over.{over_self, over_le, le_over}
+use Rattle.dl_plan.specs.declared.severity.Sev.{Sev}
+use Rattle.dl_plan.specs.declared.plan.Freq.{Freq}
+use Rattle.dl_plan.specs.declared.plan.Freq.TheVariants.{Fixed, Table, Bernoulli, Binomial, Poisson, Gamma}
+use Rattle.dl_plan.specs.declared.plan.Unit.{Unit as UnitOfPlan}
+use Rattle.dl_plan.specs.declared.plan.Plan.{Plan}
+use Rattle.dl_plan.specs.Cession.{Clause, kept, IsCession}
+use Rattle.dl_plan.specs.Parts.{kept_parts, parts_in_bucket}
+use Rattle.dl_plan.specs.Count.{IsCount as IsCountOfPlan}
+use Rattle.dl_plan.specs.Valid.{IsAggregate, IsValidUnit, IsValid}
+use Rattle.dl_plan.proofs.Cessions.{kept_is, bucket_pos, num_le_den}
+use Rattle.dl_plan.proofs.Apart.{kept_le}
+use Rattle.dl_model.specs.Listed.{weighted, greatest}
+use Rattle.dl_model.specs.Counts.{IsCount}
+use Rattle.dl_model.specs.Program.{AreUnits}
+use Rattle.dl_model.specs.Measures.{IsDeclared, AreDeclared}
+use Rattle.dl_model.specs.Plans.{count_weights, clause_of, aggregate_of, aggregates_of}
+use Rattle.dl_model.proofs.CountBounds.{finite_count, fixed_count, binomial_count, poisson_count, gamma_of_count}
+use Rattle.dl_model.proofs.Bounded.{are_units}
+use Rattle.dl_model.proofs.ItemWeights.{shares_severity}
+
+-- ---- the clause raises no sum
+
+floor_le : (x : Fraction) (n : ℕ) → x ≤ℚ whole n → x.num / x.den ≤ n
+floor_le x n h =
+    let cross : x.num * 1 ≤ n * x.den = le_over x.num x.den n 1 x.positive (omega arith) (subst (λ y. y ≤ℚ whole n) (sym (over_self x)) h) in
+    div-le_of_le-mul x.den (omega (arith, cross))
+
+kept_within : (clause : Clause) (s : ℕ) → IsCession clause → kept clause s ≤ℚ whole s
+kept_within clause s h =
+    let c = parts_in_bucket clause in
+    subst (λ y. y ≤ℚ whole s) (sym (kept_is clause s))
+    (over_le (kept_parts clause c s) c s 1 (bucket_pos clause) (omega arith) (omega (arith, kept_le clause c s h)))
+
+pub clause_within : (cells : ℕ) (sev : Sev) (cede : Option Clause) → IfSome cede (IsAggregate cells sev) → (s : ℕ) → clause_of cede s ≤ s
+clause_within cells sev None h s = le_refl_n s
+clause_within cells sev (Some clause) h s = floor_le (kept clause s) s (kept_within clause s h.cession)
+
+-- ---- the count can be declared
+
+pub count_declared : (freq : Freq) → IsCountOfPlan freq → IsCount (count_weights freq)
+count_declared (Fixed m) h = fixed_count m
+count_declared (Table counts total) h = finite_count _ (greatest (weighted counts)) (shares_severity counts total h.0)
+count_declared (Bernoulli q) h = binomial_count 1 q.num q.den q.positive (num_le_den q h.within)
+count_declared (Binomial trials q) h = binomial_count trials q.num q.den q.positive (num_le_den q h.1.within)
+count_declared (Poisson mean) h = poisson_count mean
+count_declared (Gamma zero mean) h = absurd (omega (arith, h))
+count_declared (Gamma (suc q) mean) h = gamma_of_count q mean
+
+-- ---- the unit
+
+pub unit_declared : (cells : ℕ) (u : UnitOfPlan) → IsValidUnit cells u → IsDeclared (aggregate_of u)
+unit_declared cells u h = record {
+  unit = record { severity = shares_severity u.sev.items u.sev.total u.sev.weighted; clause = clause_within cells u.sev u.cede h.clause };
+  count = count_declared u.freq h.count;
+}
+
+pub units_declared : (cells : ℕ) (units : List UnitOfPlan) → All (IsValidUnit cells) units → AreDeclared (map aggregate_of units)
+units_declared cells [] h = tt
+units_declared cells (u ∷ us) h =
+    (unit_declared cells u (All-head (IsValidUnit cells) u us h), units_declared cells us (All-tail (IsValidUnit cells) u us h))
+
+pub plan_declared : (plan : Plan) → IsValid plan → AreDeclared (aggregates_of plan)
+plan_declared plan h = units_declared plan.cells plan.units h.units
+
+pub plan_units : (plan : Plan) → IsValid plan → AreUnits (aggregates_of plan)
+plan_units plan h = are_units (aggregates_of plan) (plan_declared plan h)

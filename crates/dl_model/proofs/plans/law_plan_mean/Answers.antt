@@ -1,0 +1,8 @@
+use Rattle.dl_model.proofs.PlanMeans.{unit_mean, units_mean}
+use Rattle.dl_model.proofs.plans.law_plan_mean.Goals as goal
+
+pub returns-clause-unit : goal.returns-clause-unit
+returns-clause-unit c = unit_mean
+
+pub returns-clause-total : goal.returns-clause-total
+returns-clause-total c = λ plan l h valid each. units_mean plan.cells l h plan.units valid.units each

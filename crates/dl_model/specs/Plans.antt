@@ -1,0 +1,55 @@
+-- What the units of a plan declare.
+use Rattle.std.specs.Prelude.{ℕ, ◌/◌, Option, None, Some, List, map}
+use Rattle.dl_exact.specs.Fraction.{Fraction, ◌over◌}
+use Rattle.dl_plan.specs.declared.severity.Sev.{Sev}
+use Rattle.dl_plan.specs.declared.plan.Freq.{Freq}
+use Rattle.dl_plan.specs.declared.plan.Freq.TheVariants.{Fixed, Table, Bernoulli, Binomial, Poisson, Gamma}
+use Rattle.dl_plan.specs.declared.plan.Unit.{Unit as UnitOfPlan}
+use Rattle.dl_plan.specs.declared.plan.Plan.{Plan}
+use Rattle.dl_plan.specs.Weighted.{weight_at}
+use Rattle.dl_plan.specs.Severity.{probability_of}
+use Rattle.dl_plan.specs.Cession.{Clause, kept}
+use Rattle.dl_model.specs.Listed.{weighted, greatest}
+use Rattle.dl_model.specs.Counts.{fixed, binomial, poisson, gamma_of}
+use Rattle.dl_model.specs.Program.{Aggregate}
+use Rattle.dl_model.specs.Family.{Family, compound, mapped, total}
+
+-- the weight of each number of claims
+abbrev pub count_weights : Freq → ℕ → Fraction
+count_weights (Fixed m) = fixed m
+count_weights (Table counts all) = λ n. weight_at counts n over all
+count_weights (Bernoulli q) = binomial 1 q.num q.den
+count_weights (Binomial trials q) = binomial trials q.num q.den
+count_weights (Poisson mean) = poisson mean
+count_weights (Gamma shape mean) = gamma_of shape mean
+
+-- What an aggregate clause makes of a sum. A sum of claims is a multiple of the common divisor of the amounts, and there the clause of
+-- a valid plan keeps a whole number; the floor gives a value at each other number, which no sum is.
+abbrev pub clause_of : Option Clause → ℕ → ℕ
+clause_of None s = s
+clause_of (Some clause) s = (kept clause s).num / (kept clause s).den
+
+-- the aggregate loss of a unit
+abbrev pub aggregate_of : UnitOfPlan → Aggregate
+aggregate_of u = record {
+  count = count_weights u.freq;
+  severity = probability_of u.sev;
+  most = greatest (weighted u.sev.items);
+  clause = clause_of u.cede;
+}
+
+-- those of the units of a plan, in its order
+abbrev pub aggregates_of : Plan → List Aggregate
+aggregates_of plan = map aggregate_of plan.units
+
+-- the sums of claims, before a clause
+abbrev pub compound_of : Freq → Sev → Family
+compound_of freq sev = compound (count_weights freq) (probability_of sev)
+
+-- the outcomes of a unit, after its clause
+abbrev pub mapped_of : UnitOfPlan → Family
+mapped_of u = mapped (aggregate_of u)
+
+-- the totals of independent units
+abbrev pub total_of : List UnitOfPlan → Family
+total_of units = total (map aggregate_of units)
