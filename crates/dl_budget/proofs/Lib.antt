@@ -1,0 +1,10 @@
+pub mod SizeLaws
+pub mod Repeats
+pub mod HalvingLaws
+pub mod Bases
+pub mod Counts
+pub mod Horizons
+pub mod Sums
+pub mod Means
+pub mod Tails
+pub mod TestLaws

@@ -1,0 +1,14 @@
+use Rattle.std.proofs.Common.{◌+◌, ◌*◌, ◌^◌, ap, ap₂, sym, ◌∙◌}
+use Rattle.std.specs.Int.{div_ceil}
+use Rattle.std.proofs.lemmas.Nat.{pow_pos}
+use Rattle.dl_grid.proofs.WidthLaws.{up_quotient}
+use Rattle.dl_budget.specs.Asks.{in_digits}
+use Rattle.dl_budget.proofs.asks.in_digits.Goals as goal
+
+pub returns : goal.returns
+unfolding in_digits
+returns g c =
+    ap (λ t. 1 + t) (
+    c.div_ceil.ensures ∙ ap₂ (λ power scale. div_ceil (c.args.budget * power) scale) c.pow.ensures c.units_of_one.ensures
+    ∙ sym (up_quotient (c.args.budget * 10 ^ c.args.digits) (2 ^ g.row.B) (pow_pos g.row.B))
+    )

@@ -1,0 +1,14 @@
+use Rattle.std.proofs.Common.{◌*◌, ◌+◌, ◌^◌, ap, ◌∙◌}
+use Rattle.std.specs.Fn.{iterate}
+use Rattle.dl_grid.specs.Width.{cv}
+use Rattle.dl_budget.specs.Claims.{poisson_budget}
+use Rattle.dl_budget.proofs.Bases.{poisson_room}
+use Rattle.dl_budget.proofs.claims.poisson_budget.Goals as goal
+
+pub doubled-requires-clause-room : goal.doubled-requires-clause-room
+doubled-requires-clause-room g c = poisson_room c.args.cells c.halvings.result c.requires.few c.halvings.ensures.small
+
+pub returns-clause-value : goal.returns-clause-value
+unfolding poisson_budget
+returns-clause-value g c some =
+    c.doubled.ensures.value ∙ ap (λ h. iterate (λ x. cv (2 ^ g.row.B) c.args.cells x x) h (8 * c.args.cells + 128)) c.halvings.ensures.value

@@ -1,0 +1,5 @@
+pub mod Halvings
+pub mod Claims
+pub mod Units
+pub mod Asks
+pub mod Sizes

@@ -1,0 +1,17 @@
+//! The width rule: how far apart the ends of each answer may lie, told from the plan, the ask and
+//! the settings alone, before any grid is made. Budgets are in units of `1 / 2^B`. Nothing here
+//! takes memory.
+#![tactic(auto)]
+
+mod asks;
+mod claims;
+mod laws;
+mod steps;
+#[cfg(test)]
+mod tests;
+mod units;
+
+pub use asks::{ask_budget, needed, passes, place};
+pub use laws::{law_halvings, law_horizons};
+pub use steps::halvings;
+pub use units::{others_budget, total_budget, unit_budget};

@@ -1,0 +1,89 @@
+//! What convolutions make of a spread: one of them, powers, listed counts and halvings.
+
+ghost use Rattle.std.specs.Prelude.{ℕ, ◌≡◌, ◌+◌, ◌*◌, ◌^◌, ◌≤◌};
+ghost use Rattle.std.specs.Fn.{iterate};
+ghost use Rattle.dl_exact.specs.Fraction.{whole, ◌≤ℚ◌};
+ghost use Rattle.dl_grid.specs.Width.{cv, pw, rounded_spread, IsSizeWithin};
+ghost use Rattle.dl_budget.specs.Halvings.{IsHalvings, halvings};
+
+use dl_frac::Frac;
+use dl_grid::units_of_one;
+
+/// The spread of a convolution on `cells` cells, of grids with the spreads `x` and `y`.
+pub(crate) fn joined<const B: u32>(cells: u32, x: u128, y: u128) -> u128
+    requires scale { B ≡ 56 }
+    requires left { x ≤ 2 ^ 40 }
+    requires right { y ≤ 2 ^ 40 }
+    ensures value { result ≡ cv (2 ^ B) cells x y }
+    ensures small { result ≤ 2 ^ 42 }
+{
+    let product = (x * y).div_ceil(units_of_one(B));
+    x + y + product + 2 * cells as u128
+}
+
+/// The spread of the `n`-th power of a grid with the spread `base`.
+pub(crate) fn power<const B: u32>(cells: u32, base: u128, n: u32) -> u128
+    requires scale { B ≡ 56 }
+    requires room { n * rounded_spread cells 0 base ≤ 15 * 2 ^ 30 }
+    ensures value { result ≡ pw (2 ^ B) cells base n }
+    ensures size { 1 ≤ n → IsSizeWithin (2 ^ B) (n * rounded_spread cells 0 base) (rounded_spread cells 0 result) }
+    ensures small { result ≤ 2 ^ 34 }
+{
+    if n == 0 {
+        return 0;
+    }
+    if n == 1 {
+        return base;
+    }
+    let half = power::<B>(cells, base, n / 2);
+    let even = joined::<B>(cells, half, half);
+    if n % 2 == 0 {
+        return even;
+    }
+    joined::<B>(cells, even, base)
+}
+
+/// The spread of a listed number of claims of which the greatest is `greatest`, where the grid of
+/// one claim has the spread `base`.
+pub(crate) fn listed<const B: u32>(cells: u32, base: u128, greatest: u32) -> u128
+    requires scale { B ≡ 56 }
+    requires room { rounded_spread cells 2 1 + greatest * rounded_spread cells 2 base ≤ 15 * 2 ^ 30 }
+    ensures value { result ≡ iterate (λ x. cv (2 ^ B) cells base x + 2) greatest 1 }
+    ensures small { result ≤ 2 ^ 34 }
+{
+    let mut spread = 1;
+    for _step in 0..greatest {
+        spread = joined::<B>(cells, base, spread) + 2;
+    }
+    spread
+}
+
+/// The spread of a grid with the spread `base` that is convolved with itself so many times.
+pub(crate) fn doubled<const B: u32>(cells: u32, base: u128, times: u32) -> u128
+    requires scale { B ≡ 56 }
+    requires room { 2 ^ times * rounded_spread cells 0 base ≤ 15 * 2 ^ 30 }
+    ensures value { result ≡ iterate (λ x. cv (2 ^ B) cells x x) times base }
+    ensures small { result ≤ 2 ^ 34 }
+{
+    let mut spread = base;
+    for _step in 0..times {
+        spread = joined::<B>(cells, spread, spread);
+    }
+    spread
+}
+
+/// How often a mean of at most 4,096 is halved until it is at most 1/2.
+pub fn halvings(mean: Frac) -> u32
+    requires { mean ≤ℚ whole 4096 }
+    ensures least { IsHalvings mean result }
+    ensures value { result ≡ halvings mean }
+    ensures small { result ≤ 13 }
+{
+    let double = 2 * mean.num() as u128;
+    for times in 0..13 {
+        if double <= (mean.den() as u128) << times {
+            return times;
+        }
+    }
+    13
+}

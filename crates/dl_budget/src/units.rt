@@ -1,0 +1,168 @@
+//! The budgets of units, of their sums and of their means.
+
+ghost use Rattle.std.specs.Prelude.{ℕ, ◌≡◌, ◌+◌, ◌*◌, ◌^◌, ◌<◌, ◌≤◌, List, All, length, sum_by, fold};
+ghost use Rattle.dl_grid.specs.Width.{cv};
+ghost use Rattle.dl_plan.specs.Horizon.{IsHorizonOf};
+ghost use Rattle.dl_plan.specs.Valid.{IsNear, IsValidUnit, IsValid};
+ghost use Rattle.dl_budget.specs.Claims.{claims_budget};
+ghost use Rattle.dl_budget.specs.Sizes.{IsOfUnits};
+ghost use Rattle.dl_budget.specs.Units.{AreHorizons, unit_budget, unit_budgets, total_budget, others_budget, sum_budget, layer_budget, clause_mean, mean_budget};
+
+use crate::claims::claims_budget;
+use crate::steps::joined;
+use dl_plan::{CedeLayer, Plan, Unit};
+
+/// The number of cells on which the claims of a unit of a valid plan are added up, for a grid of
+/// `cells` cells.
+fn horizon(unit: &Unit, cells: u32) -> u32
+    requires valid { (h : ℕ) × IsValidUnit h unit.now }
+    requires horizon { (k : ℕ) × IsHorizonOf unit.now.cede cells k × (k ≤ 16384) }
+    ensures horizon { IsHorizonOf unit.now.cede cells result }
+    ensures few { result ≤ 16384 }
+{
+    unit.horizon(cells).unwrap()
+}
+
+/// The budget of a unit of a valid plan, on a grid of `cells` cells: how far apart the ends of its
+/// grid's cells may lie in all.
+pub fn unit_budget<const B: u32>(unit: &Unit, cells: u32) -> u128
+    requires scale { B ≡ 56 }
+    requires valid { (h : ℕ) × IsValidUnit h unit.now }
+    requires some { 1 ≤ cells }
+    requires horizon { (k : ℕ) × IsHorizonOf unit.now.cede cells k × (k ≤ 16384) }
+    ensures value { (k : ℕ) → IsHorizonOf unit.now.cede cells k → result ≡ unit_budget (2 ^ B) k unit.now }
+    ensures small { result ≤ 2 ^ 35 }
+{
+    let before = claims_budget::<B>(unit, horizon(unit, cells));
+    match unit.cede {
+        Some(_) => 2 * before,
+        None => before,
+    }
+}
+
+/// The budget of a sum of units, from that of some units in `sum`, after further ones are taken
+/// in one by one, in order.
+fn with_units<const B: u32>(sum: u128, units: &[Unit], cells: u32) -> u128
+    requires scale { B ≡ 56 }
+    requires valid { All (IsValidUnit cells) units.now }
+    requires some { 1 ≤ cells }
+    requires few { cells ≤ 4096 }
+    requires room { (n : ℕ) × (n + length units.now ≤ 16) × IsOfUnits (2 ^ B) cells n sum }
+    ensures value { (ks : List ℕ) → AreHorizons cells units.now ks → result ≡ fold (cv (2 ^ B) cells) sum (unit_budgets (2 ^ B) ks units.now) }
+    ensures size { (n : ℕ) → n + length units.now ≤ 16 → IsOfUnits (2 ^ B) cells n sum → IsOfUnits (2 ^ B) cells (n + length units.now) result }
+{
+    let mut total = sum;
+    for unit in units {
+        total = joined::<B>(cells, total, unit_budget::<B>(unit, cells));
+    }
+    total
+}
+
+/// The budget of the sum of these units, 0 of none.
+fn sum_of<const B: u32>(units: &[Unit], cells: u32) -> u128
+    requires scale { B ≡ 56 }
+    requires valid { All (IsValidUnit cells) units.now }
+    requires some { 1 ≤ cells }
+    requires few { cells ≤ 4096 }
+    requires units { length units.now ≤ 16 }
+    ensures value { (ks : List ℕ) → AreHorizons cells units.now ks → result ≡ sum_budget (2 ^ B) cells (unit_budgets (2 ^ B) ks units.now) }
+    ensures size { 1 ≤ length units.now → IsOfUnits (2 ^ B) cells (length units.now) result }
+    ensures small { result < 2 ^ 40 }
+{
+    if units.is_empty() {
+        return 0;
+    }
+    let first = unit_budget::<B>(&units[0], cells);
+    with_units::<B>(first, &units[1..], cells)
+}
+
+/// The budget of the total of a valid plan: how far apart the ends of its grid's cells may lie in
+/// all. It starts with that of the first unit and takes in each further one as a convolution
+/// does.
+pub fn total_budget<const B: u32>(plan: &Plan) -> u128
+    requires scale { B ≡ 56 }
+    requires valid { IsValid plan.now }
+    ensures value { (ks : List ℕ) → AreHorizons plan.now.cells plan.now.units ks → result ≡ total_budget (2 ^ B) ks plan.now }
+    ensures small { result < 2 ^ 40 }
+{
+    sum_of::<B>(plan.units.as_slice(), plan.cells)
+}
+
+/// The budget of the sum of all units of a valid plan but unit `i`, counted from 0; it is 0 where
+/// there is no other.
+pub fn others_budget<const B: u32>(plan: &Plan, i: u32) -> u128
+    requires scale { B ≡ 56 }
+    requires valid { IsValid plan.now }
+    requires unit { i < length plan.now.units }
+    ensures value { (ks : List ℕ) → AreHorizons plan.now.cells plan.now.units ks → result ≡ others_budget (2 ^ B) ks plan.now i }
+    ensures small { result < 2 ^ 40 }
+{
+    let units = plan.units.as_slice();
+    let before = &units[..i as usize];
+    let after = &units[i as usize + 1..];
+    if before.is_empty() {
+        return sum_of::<B>(after, plan.cells);
+    }
+    with_units::<B>(sum_of::<B>(before, plan.cells), after, plan.cells)
+}
+
+/// What a layer of an aggregate clause adds to the budget of a mean, for a budget before the
+/// clause.
+fn layer_budget(layer: &CedeLayer, before: u128) -> u128
+    requires near { IsNear layer.now }
+    requires small { before ≤ 2 ^ 34 }
+    ensures value { result ≡ layer_budget before layer.now.limit layer.now.attach }
+    ensures small { result ≤ 2 ^ 55 }
+{
+    match layer.limit {
+        Some(limit) => limit as u128 * before + 3,
+        None => layer.attach as u128 * before + 4,
+    }
+}
+
+/// What the layers of an aggregate clause add together.
+fn layers_budget(layers: &[CedeLayer], before: u128) -> u128
+    requires few { length layers.now ≤ 16 }
+    requires near { All IsNear layers.now }
+    requires small { before ≤ 2 ^ 34 }
+    ensures value { result ≡ sum_by (λ l. layer_budget before l.limit l.attach) layers.now }
+    ensures small { result ≤ 2 ^ 59 }
+{
+    let mut sum = 0;
+    for layer in layers {
+        sum += layer_budget(layer, before);
+    }
+    sum
+}
+
+/// The budget of the mean of a unit of a valid plan, on a grid of `cells` cells.
+fn unit_mean_budget<const B: u32>(unit: &Unit, cells: u32) -> u128
+    requires scale { B ≡ 56 }
+    requires valid { IsValidUnit cells unit.now }
+    requires few { cells ≤ 4096 }
+    ensures value { (k : ℕ) → IsHorizonOf unit.now.cede cells k → result ≡ clause_mean unit.now.cede (claims_budget (2 ^ B) k unit.now) }
+    ensures small { result ≤ 2 ^ 60 }
+{
+    match &unit.cede {
+        Some(clause) => {
+            let before = claims_budget::<B>(unit, horizon(unit, cells));
+            1 + layers_budget(clause.layers(), before)
+        }
+        None => 1,
+    }
+}
+
+/// The budget of the mean of the total of a valid plan.
+pub(crate) fn mean_budget<const B: u32>(plan: &Plan) -> u128
+    requires scale { B ≡ 56 }
+    requires valid { IsValid plan.now }
+    ensures value { (ks : List ℕ) → AreHorizons plan.now.cells plan.now.units ks → result ≡ mean_budget (2 ^ B) ks plan.now }
+    ensures small { result ≤ 2 ^ 64 }
+{
+    let units = plan.units.as_slice();
+    let mut sum = 0;
+    for unit in units {
+        sum += unit_mean_budget::<B>(unit, plan.cells);
+    }
+    sum
+}
