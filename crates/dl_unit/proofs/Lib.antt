@@ -1,0 +1,9 @@
+pub mod Severities
+pub mod Families
+pub mod Widths
+pub mod Positive
+pub mod Places
+pub mod Trials
+pub mod TrialGrids
+pub mod CountKinds
+pub mod TestLaws

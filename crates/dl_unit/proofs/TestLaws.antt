@@ -1,0 +1,78 @@
+-- What the tests ask of their numbers.
+use Rattle.std.proofs.Common.{ℕ, zero, suc, ◌≡◌, ◌^◌, ◌<◌, ◌≤◌, [], ◌∷◌, arith, refl, sym, ap, subst, ◌∙◌}
+use Rattle.std.specs.Prelude.{All}
+use Rattle.std.specs.List.Sorted.{IsStrictlyIncreasing}
+use Rattle.std.proofs.Math.Nat.{zero-lt-suc}
+use Rattle.dl_exact.specs.Gcd.{gcd, euclid}
+use Rattle.dl_exact.specs.Fraction.{Fraction, ◌over◌, ◌*ℚ◌, ◌≤ℚ◌, whole}
+use Rattle.dl_exact.proofs.Over.{over_le, over_mul}
+use Rattle.dl_plan.specs.declared.item.Item.{Item}
+use Rattle.dl_plan.specs.Count.{IsProbability}
+use Rattle.dl_plan.specs.Fine.{IsAdmitted}
+use Rattle.dl_plan.specs.Weighted.{IsWeighted}
+use Rattle.dl_plan.proofs.Fits.{num_of_over-le, den_of_over-le}
+
+abbrev pub item : ℕ → ℕ → Item
+item a w = record { amount = a; weight = w }
+
+rising_three : IsStrictlyIncreasing (0 ∷ 1 ∷ 3 ∷ [])
+rising_three zero h = omega arith
+rising_three (suc zero) h = omega arith
+rising_three (suc (suc k)) h = absurd (omega (arith, h))
+
+rising_two : IsStrictlyIncreasing (0 ∷ 2 ∷ [])
+rising_two zero h = omega arith
+rising_two (suc k) h = absurd (omega (arith, h))
+
+three_positive : All (λ (i : Item). 0 < i.weight) (item 0 1 ∷ item 1 2 ∷ item 3 1 ∷ [])
+three_positive zero d h = omega arith
+three_positive (suc zero) d h = omega arith
+three_positive (suc (suc zero)) d h = omega arith
+three_positive (suc (suc (suc k))) d h = absurd (omega (arith, h))
+
+two_positive : All (λ (i : Item). 0 < i.weight) (item 0 1 ∷ item 2 3 ∷ [])
+two_positive zero d h = omega arith
+two_positive (suc zero) d h = omega arith
+two_positive (suc (suc k)) d h = absurd (omega (arith, h))
+
+pub three_weighted : IsWeighted (item 0 1 ∷ item 1 2 ∷ item 3 1 ∷ []) 4
+unfolding gcd euclid
+three_weighted = record {
+  some = omega arith;
+  rising = rising_three;
+  positive = three_positive;
+  sum = refl;
+  within = omega arith;
+  lowest = refl;
+}
+
+pub two_weighted : IsWeighted (item 0 1 ∷ item 2 3 ∷ []) 4
+unfolding gcd euclid
+two_weighted = record {
+  some = omega arith;
+  rising = rising_two;
+  positive = two_positive;
+  sum = refl;
+  within = omega arith;
+  lowest = refl;
+}
+
+pub two_small : All (λ (i : Item). i.amount ≤ 256) (item 0 1 ∷ item 2 3 ∷ [])
+two_small zero d h = omega arith
+two_small (suc zero) d h = omega arith
+two_small (suc (suc k)) d h = absurd (omega (arith, h))
+
+pub small_over : (n d : ℕ) → 0 < d → n < 2 ^ 48 → d < 2 ^ 48 → IsAdmitted (n over d)
+small_over n d pos small few = record { num = omega (arith, num_of_over-le n d pos, small); den = omega (arith, den_of_over-le n d pos, few) }
+
+pub third : (q : Fraction) → q ≡ 1 over 3 → IsProbability q
+third q e = subst IsProbability (sym e) (record { within = over_le 1 3 1 1 (zero-lt-suc 2) (zero-lt-suc 0) (omega arith); admitted = small_over 1 3 (zero-lt-suc 2) (omega arith) (omega arith) })
+
+pub two_thirds : (q : Fraction) → q ≡ 1 over 3 → IsAdmitted (whole 2 *ℚ q)
+two_thirds q e = subst IsAdmitted (sym (ap (λ t. whole 2 *ℚ t) e ∙ over_mul 2 1 1 3 (zero-lt-suc 0) (zero-lt-suc 2))) (small_over 2 3 (zero-lt-suc 2) (omega arith) (omega arith))
+
+pub small_parts : (x : Fraction) → x.num ≤ 3 → x.den ≤ 3 → IsAdmitted x
+small_parts x num den = record { num = omega (arith, num); den = omega (arith, den) }
+
+pub few_claims : (m : Fraction) → m ≡ 3 over 2 → m ≤ℚ whole 4096
+few_claims m e = subst (λ t. t ≤ℚ whole 4096) (sym e) (over_le 3 2 4096 1 (zero-lt-suc 1) (zero-lt-suc 0) (omega arith))

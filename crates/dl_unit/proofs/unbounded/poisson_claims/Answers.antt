@@ -1,0 +1,34 @@
+use Rattle.std.proofs.Common.{ℕ, ◌≡◌, ◌*◌, ◌%◌, ◌^◌, ◌≤◌, arith, ap, subst, ◌∙◌}
+use Rattle.std.proofs.Math.Nat.{pow-le-pow_right, mod-eq_of_lt}
+use Rattle.std.proofs.lemmas.Nat.{pow_pos}
+use Rattle.std.proofs.lemmas.Result.{IfOk-weaker}
+use Rattle.dl_exact.specs.Fraction.{whole, ◌/ℚ◌}
+use Rattle.dl_grid.specs.Cells.{spread}
+use Rattle.dl_model.specs.Counts.{poisson}
+use Rattle.dl_model.specs.Family.{compound, times_itself, GridEncloses}
+use Rattle.dl_model.proofs.FamilyLaws.{compound_proper}
+use Rattle.dl_plan.specs.Severity.{probability_of}
+use Rattle.dl_unit.proofs.Severities.{within_one}
+use Rattle.dl_unit.proofs.Widths.{poisson_within}
+use Rattle.dl_unit.proofs.unbounded.poisson_claims.Goals as goal
+
+shifted : (h : ℕ) → h ≤ 13 → 1 * 2 ^ h % 2 ^ 32 ≡ 2 ^ h
+shifted h few =
+    let most : 2 ^ h ≤ 2 ^ 13 = pow-le-pow_right {n = 2} (omega arith) {i = h} {j = 13} few in
+    let e : 1 * 2 ^ h ≡ 2 ^ h = omega arith in
+    ap (λ n. n % 2 ^ 32) e ∙ mod-eq_of_lt (omega (arith, most))
+
+pub returns-clause-encloses : goal.returns-clause-encloses
+returns-clause-encloses g c =
+    let f = probability_of c.args.sev.now in
+    let h = c.halvings-halvings.result in
+    IfOk-weaker c.power.result _ _ (λ grid copies.
+    subst (λ k. GridEncloses grid (times_itself (compound (poisson (c.args.mean /ℚ whole (2 ^ k))) f) (2 ^ k))) c.halvings-halvings.ensures.value
+    (subst (λ n. GridEncloses grid (times_itself (compound (poisson (c.args.mean /ℚ whole (2 ^ h))) f) n)) (shifted h c.halvings-halvings.ensures.small)
+    (copies _ (compound_proper (poisson (c.args.mean /ℚ whole (2 ^ h))) f (within_one c.args.sev.now)) c.in_ok-base.ensures.encloses))) c.power.ensures.encloses
+
+pub returns-clause-spread : goal.returns-clause-spread
+returns-clause-spread g c =
+    IfOk-weaker c.power.result _ _ (λ grid narrow.
+    poisson_within (2 ^ g.row.B) c.args.cells (spread c.in_ok-base.base) _ _ c.halvings-halvings.result c.args.mean (pow_pos g.row.B)
+    (shifted c.halvings-halvings.result c.halvings-halvings.ensures.small) c.halvings-halvings.ensures.value c.in_ok-base.ensures.spread narrow) c.power.ensures.spread

@@ -1,0 +1,34 @@
+//! The grid of one claim.
+
+ghost use Rattle.std.specs.Prelude.{◌≡◌, ℕ, ◌*◌, ◌^◌, ◌<◌, ◌≤◌, length, IfOk};
+ghost use Rattle.std.specs.Int.{div_ceil};
+ghost use Rattle.dl_grid.specs.Cells.{high_at, spread};
+ghost use Rattle.dl_model.specs.Counts.{fixed};
+ghost use Rattle.dl_model.specs.Family.{compound, GridEncloses};
+ghost use Rattle.dl_plan.specs.Severity.{probability_of};
+ghost use Rattle.dl_plan.specs.Weighted.{weight_at};
+
+use dl_grid::Grid;
+use dl_plan::Sev;
+use dl_power::claim_grid;
+use std::alloc::{AllocError, Global};
+
+/// The first `cells` cells of one claim of this severity.
+pub(crate) fn one_claim<const B: u32>(
+    alloc: Global,
+    sev: &Sev,
+    cells: u32,
+) -> Result<Grid<B>, AllocError>
+    requires scale_above { 1 ≤ B }
+    requires scale_below { B ≤ 56 }
+    requires some { 1 ≤ cells }
+    requires few { cells ≤ 16384 }
+    ensures cells { IfOk result (λ g. length g ≡ cells) }
+    ensures high { IfOk result (λ g. (y : ℕ) → y < cells
+        → high_at g y ≡ div_ceil (2 ^ B * weight_at sev.now.items y) sev.now.total) }
+    ensures encloses { IfOk result (λ g.
+        GridEncloses g (compound (fixed 1) (probability_of sev.now))) }
+    ensures spread { IfOk result (λ g. spread g ≤ length sev.now.items) }
+{
+    claim_grid(alloc, sev.items.as_slice(), sev.total, cells)
+}

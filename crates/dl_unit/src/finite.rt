@@ -1,0 +1,87 @@
+//! The grids of units whose counts have a greatest number of claims.
+
+ghost use Rattle.std.specs.Prelude.{◌≡◌, ℕ, ◌+◌, ◌*◌, ◌^◌, ◌≤◌, length, All, IfOk};
+ghost use Rattle.std.specs.Fn.{iterate};
+ghost use Rattle.dl_exact.specs.Fraction.{◌over◌};
+ghost use Rattle.dl_grid.specs.Cells.{spread};
+ghost use Rattle.dl_grid.specs.Width.{cv, pw};
+ghost use Rattle.dl_model.specs.Counts.{fixed, binomial};
+ghost use Rattle.dl_model.specs.Family.{compound, GridEncloses};
+ghost use Rattle.dl_plan.specs.Count.{IsProbability};
+ghost use Rattle.dl_plan.specs.Severity.{probability_of};
+ghost use Rattle.dl_plan.specs.Weighted.{weight_at, IsWeighted};
+ghost use Rattle.dl_budget.specs.Claims.{greatest};
+
+use crate::claim::one_claim;
+use crate::trial::one_trial;
+use dl_frac::Frac;
+use dl_grid::Grid;
+use dl_plan::{Item, Sev};
+use dl_power::{mix_counts, power};
+use std::alloc::{AllocError, Global};
+
+/// Exactly so many claims.
+pub(crate) fn fixed_claims<const B: u32>(
+    alloc: Global,
+    sev: &Sev,
+    claims: u32,
+    cells: u32,
+) -> Result<Grid<B>, AllocError>
+    requires scale_above { 1 ≤ B }
+    requires scale_below { B ≤ 56 }
+    requires some { 1 ≤ cells }
+    requires few { cells ≤ 16384 }
+    ensures cells { IfOk result (λ g. length g ≡ cells) }
+    ensures encloses { IfOk result (λ g.
+        GridEncloses g (compound (fixed claims) (probability_of sev.now))) }
+    ensures spread { IfOk result (λ g. spread g ≤ pw (2 ^ B) cells (length sev.now.items) claims) }
+{
+    let claim = one_claim(alloc, sev, cells)?;
+    power(alloc, &claim, claims, cells)
+}
+
+/// Listed numbers of claims: `counts` has each with its weight out of `total`.
+pub(crate) fn listed_claims<const B: u32>(
+    alloc: Global,
+    sev: &Sev,
+    counts: &[Item],
+    total: u32,
+    cells: u32,
+) -> Result<Grid<B>, AllocError>
+    requires scale_above { 1 ≤ B }
+    requires scale_below { B ≤ 56 }
+    requires weighted { IsWeighted counts.now total }
+    requires some { 1 ≤ cells }
+    requires few { cells ≤ 16384 }
+    ensures cells { IfOk result (λ g. length g ≡ cells) }
+    ensures encloses { IfOk result (λ g.
+        GridEncloses g (compound (λ n. weight_at counts.now n over total) (probability_of sev.now))) }
+    ensures spread { IfOk result (λ g.
+        spread g ≤ iterate (λ x. cv (2 ^ B) cells (length sev.now.items) x + 2) (greatest counts.now) 1) }
+{
+    let claim = one_claim(alloc, sev, cells)?;
+    mix_counts(alloc, &claim, counts, total, cells)
+}
+
+/// So many trials, each a claim with probability `q`.
+pub(crate) fn binomial_claims<const B: u32>(
+    alloc: Global,
+    sev: &Sev,
+    trials: u32,
+    q: Frac,
+    cells: u32,
+) -> Result<Grid<B>, AllocError>
+    requires scale_above { 1 ≤ B }
+    requires scale_below { B ≤ 56 }
+    requires probability { IsProbability q }
+    requires some { 1 ≤ cells }
+    requires few { cells ≤ 16384 }
+    ensures cells { IfOk result (λ g. length g ≡ cells) }
+    ensures encloses { IfOk result (λ g.
+        GridEncloses g (compound (binomial trials q.num q.den) (probability_of sev.now))) }
+    ensures spread { IfOk result (λ g.
+        spread g ≤ pw (2 ^ B) cells (3 * (length sev.now.items + 1)) trials) }
+{
+    let trial = one_trial(alloc, sev, q, cells)?;
+    power(alloc, &trial, trials, cells)
+}

@@ -1,0 +1,16 @@
+//! The grid of a unit: the sum of its claims before its aggregate clause, for each kind of count.
+//! Each cell holds the declared probability of its sum, and the ends of all cells together lie no
+//! further apart than the unit's budget.
+#![tactic(auto)]
+
+mod claim;
+mod finite;
+mod law;
+#[cfg(test)]
+mod tests;
+mod trial;
+mod unbounded;
+mod unit;
+
+pub use law::law_trials;
+pub use unit::unit_grid;

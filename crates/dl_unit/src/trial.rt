@@ -1,0 +1,81 @@
+//! The grid of one trial: a claim with some probability, else none.
+
+ghost use Rattle.std.specs.Prelude.{◌≡◌, ℕ, ◌+◌, ◌-◌, ◌*◌, ◌/◌, ◌^◌, ◌<◌, ◌≤◌, min, length, IfOk};
+ghost use Rattle.std.specs.Int.{div_ceil};
+ghost use Rattle.dl_grid.specs.Cells.{low_at, high_at, spread, IsGrid};
+ghost use Rattle.dl_model.specs.Counts.{binomial};
+ghost use Rattle.dl_model.specs.Family.{compound, GridEncloses};
+ghost use Rattle.dl_plan.specs.Count.{IsProbability};
+ghost use Rattle.dl_plan.specs.Severity.{probability_of};
+ghost use Rattle.dl_unit.specs.Trials.{low_trial, high_trial};
+
+use crate::claim::one_claim;
+use dl_frac::Frac;
+use dl_grid::{Grid, units_of_one};
+use dl_iv::Iv;
+use dl_plan::Sev;
+use std::alloc::{AllocError, Global};
+
+/// The cells, each times `q`.
+fn scaled<const B: u32>(alloc: Global, cells: &[Iv<B>], q: Frac) -> Result<Vec<Iv<B>>, AllocError>
+    requires grid { IsGrid cells.now }
+    requires probability { IsProbability q }
+    ensures cells { IfOk result (λ list. length list.items ≡ length cells.now) }
+    ensures low { IfOk result (λ list. (y : ℕ) → y < length cells.now
+        → low_at list.items y ≡ low_at cells.now y * q.num / q.den) }
+    ensures high { IfOk result (λ list. (y : ℕ) → y < length cells.now
+        → high_at list.items y ≡ div_ceil (high_at cells.now y * q.num) q.den) }
+{
+    let mut list = Vec::with_capacity(alloc, cells.len())?;
+    for cell in cells {
+        list.push(cell.scale(q.num(), q.den()))?;
+    }
+    Ok(list)
+}
+
+/// What the claims of amount 0 give to cell 0, and the trials without a claim besides; at most 1.
+fn first_cell<const B: u32>(part: Iv<B>, q: Frac) -> Iv<B>
+    requires probability { IsProbability q }
+    requires small { part.hi ≤ 2 ^ B }
+    ensures low { result.lo ≡ min (part.entry.lo + 2 ^ B * (q.den - q.num) / q.den) (2 ^ B) }
+    ensures high { result.hi ≡ min (part.entry.hi + div_ceil (2 ^ B * (q.den - q.num)) q.den) (2 ^ B) }
+{
+    let none = Iv::enclose(u128::from(q.den() - q.num()), u128::from(q.den()));
+    part.add(none).clamp_to(units_of_one(B))
+}
+
+/// From the grid of one claim: `q` times each cell, and the rest of 1 at 0 besides.
+fn trial_of<const B: u32>(alloc: Global, claim: &Grid<B>, q: Frac) -> Result<Grid<B>, AllocError>
+    requires { IsProbability q }
+    ensures cells { IfOk result (λ g. length g ≡ length claim.now) }
+    ensures low { IfOk result (λ g. (y : ℕ) → y < length claim.now
+        → low_at g y ≡ low_trial (2 ^ B) q (low_at claim.now) y) }
+    ensures high { IfOk result (λ g. (y : ℕ) → y < length claim.now
+        → high_at g y ≡ high_trial (2 ^ B) q (high_at claim.now) y) }
+{
+    let cells = claim.as_slice();
+    let mut list = scaled(alloc, cells, q)?;
+    list[0] = first_cell(list[0], q);
+    Ok(Grid::from_cells(list))
+}
+
+/// The first `cells` cells of one trial, a claim with probability `q`.
+pub(crate) fn one_trial<const B: u32>(
+    alloc: Global,
+    sev: &Sev,
+    q: Frac,
+    cells: u32,
+) -> Result<Grid<B>, AllocError>
+    requires scale_above { 1 ≤ B }
+    requires scale_below { B ≤ 56 }
+    requires probability { IsProbability q }
+    requires some { 1 ≤ cells }
+    requires few { cells ≤ 16384 }
+    ensures cells { IfOk result (λ g. length g ≡ cells) }
+    ensures encloses { IfOk result (λ g.
+        GridEncloses g (compound (binomial 1 q.num q.den) (probability_of sev.now))) }
+    ensures spread { IfOk result (λ g. spread g ≤ 3 * (length sev.now.items + 1)) }
+{
+    let claim = one_claim(alloc, sev, cells)?;
+    trial_of(alloc, &claim, q)
+}

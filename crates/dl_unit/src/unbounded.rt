@@ -1,0 +1,92 @@
+//! The grids of units whose counts have no greatest number of claims. The claims of amount 0 are
+//! left out first: the count is then that of the claims above 0.
+
+ghost use Rattle.std.specs.Prelude.{◌≡◌, ℕ, ◌+◌, ◌*◌, ◌^◌, ◌<◌, ◌≤◌, length, IfOk, Some, None};
+ghost use Rattle.dl_exact.specs.Fraction.{whole, ◌/ℚ◌, ◌≤ℚ◌};
+ghost use Rattle.dl_grid.specs.Cells.{spread};
+ghost use Rattle.dl_model.specs.Counts.{poisson, gamma_of};
+ghost use Rattle.dl_model.specs.Family.{compound, times_itself, GridEncloses};
+ghost use Rattle.dl_plan.specs.declared.severity.Sev.{Sev};
+ghost use Rattle.dl_plan.specs.Count.{IsUnbounded};
+ghost use Rattle.dl_plan.specs.Fine.{IsAdmitted};
+ghost use Rattle.dl_plan.specs.Severity.{probability_of, pairs_of, conditioned, Means};
+ghost use Rattle.dl_plan.specs.Valid.{thinned_mean, IsValidUnit};
+ghost use Rattle.dl_budget.specs.Claims.{poisson_budget, gamma_budget};
+ghost use Rattle.dl_budget.specs.Halvings.{halvings};
+
+use dl_budget::halvings;
+use dl_frac::Frac;
+use dl_grid::Grid;
+use dl_panjer::{geometric_base, poisson_base};
+use dl_plan::{Sev, Unit};
+use dl_power::power;
+use std::alloc::{AllocError, Global};
+
+/// The severity of the claims above 0, where any are expected.
+pub(crate) fn positive_claims(alloc: Global, unit: &Unit) -> Result<Option<Sev>, AllocError>
+    requires valid { (h : ℕ) × IsValidUnit h unit.now }
+    requires unbounded { IsUnbounded unit.now.freq }
+    ensures none { IfOk result (λ made. made ≡ None → thinned_mean unit.now ≡ whole 0) }
+    ensures some { IfOk result (λ made.
+        (sev : Sev) → made ≡ Some sev → 0 < (thinned_mean unit.now).num) }
+    ensures means { IfOk result (λ made.
+        (sev : Sev) → made ≡ Some sev → Means sev (conditioned 0 (pairs_of unit.now.sev))) }
+{
+    if unit.thinned().num() == 0 {
+        return Ok(None);
+    }
+    unit.sev.positive(alloc)
+}
+
+/// A Poisson number of claims above 0. The mean is halved until it is at most 1/2, and the sum of
+/// such a share of it is doubled as often.
+pub(crate) fn poisson_claims<const B: u32>(
+    alloc: Global,
+    sev: &Sev,
+    mean: Frac,
+    cells: u32,
+) -> Result<Grid<B>, AllocError>
+    requires scale_above { 1 ≤ B }
+    requires scale_below { B ≤ 56 }
+    requires no_zero { probability_of sev.now 0 ≡ whole 0 }
+    requires admitted { IsAdmitted mean }
+    requires within { mean ≤ℚ whole 4096 }
+    requires some { 1 ≤ cells }
+    requires few { cells ≤ 16384 }
+    ensures cells { IfOk result (λ g. length g ≡ cells) }
+    ensures encloses { IfOk result (λ g.
+        GridEncloses g (times_itself (compound (poisson (mean /ℚ whole (2 ^ halvings mean)))
+        (probability_of sev.now)) (2 ^ halvings mean))) }
+    ensures spread { IfOk result (λ g. spread g ≤ poisson_budget (2 ^ B) cells mean) }
+{
+    let halvings = halvings(mean);
+    let base = poisson_base(alloc, sev, mean, halvings, cells)?;
+    power(alloc, &base, 1 << halvings, cells)
+}
+
+/// A gamma number of claims above 0: as many sums as its shape says, each of a geometric number of
+/// claims.
+pub(crate) fn gamma_claims<const B: u32>(
+    alloc: Global,
+    sev: &Sev,
+    mean: Frac,
+    shape: u32,
+    cells: u32,
+) -> Result<Grid<B>, AllocError>
+    requires scale_above { 1 ≤ B }
+    requires scale_below { B ≤ 56 }
+    requires no_zero { probability_of sev.now 0 ≡ whole 0 }
+    requires admitted { IsAdmitted mean }
+    requires shape_above { 1 ≤ shape }
+    requires shape_below { shape ≤ 10000 }
+    requires some { 1 ≤ cells }
+    requires few { cells ≤ 16384 }
+    ensures cells { IfOk result (λ g. length g ≡ cells) }
+    ensures encloses { IfOk result (λ g.
+        GridEncloses g (times_itself (compound (gamma_of 1 (mean /ℚ whole shape))
+        (probability_of sev.now)) shape)) }
+    ensures spread { IfOk result (λ g. spread g ≤ gamma_budget (2 ^ B) cells shape mean) }
+{
+    let base = geometric_base(alloc, sev, mean, shape, cells)?;
+    power(alloc, &base, shape, cells)
+}
