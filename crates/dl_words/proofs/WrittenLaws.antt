@@ -1,0 +1,140 @@
+-- The parts of the words are those that they are written as.
+use Rattle.std.proofs.Common.{◌≡◌, ◌∙◌, ℕ, Bool, true, false, refl, sym, ap, subst, List, [], ◌∷◌, ◌++◌, Option, Some, None, codes, map, true≢false, arith}
+use Rattle.std.specs.Prelude.{◌==◌}
+use Rattle.std.specs.List.{list_any, before_first, after_first}
+use Rattle.std.proofs.lemmas.Bool.Decides.{nat_tests}
+use Rattle.std.proofs.lemmas.List.{append-nil}
+use Rattle.dl_frac.proofs.NumeralLaws.{before_none}
+use Rattle.dl_words.specs.AsWritten.{AreParts, nothing, joined, apart, plain as word_plain, ended as all_plain}
+use Rattle.dl_words.specs.Parts.{Part, Mode, Kind, is_equals, is_name, kind_of, named, parts_from, read_kind, with_part}
+use Rattle.dl_words.specs.Parts.Part.{option, positional}
+use Rattle.dl_words.specs.Parts.Mode.{between, value, ended}
+use Rattle.dl_words.specs.Parts.Kind.{ends, whole, begins, plain, misfit}
+use Rattle.dl_words.specs.Spelling.{Text, begins_plainly}
+use Rattle.dl_words.proofs.Numerals.{after_at, any_at, before_at, cut_first}
+use Rattle.dl_words.proofs.Whole.{by_name}
+
+-- ---- what is written is read
+
+no_equals : (name : Text) → is_name name ≡ true → list_any is_equals name ≡ false
+no_equals = by_name (λ name. list_any is_equals name ≡ false) refl refl refl refl refl refl refl
+
+all_before : (name : Text) → list_any is_equals name ≡ false → before_first is_equals name ≡ name
+all_before name h = ap (before_first is_equals) (sym (append-nil name)) ∙ before_none is_equals name [] h ∙ append-nil name
+
+-- two hyphens and a name
+whole_kind : (name v : Text) → is_name name ≡ true → kind_of (codes "--" ++ (name ++ (codes "=" ++ v))) ≡ whole name v
+whole_kind [] v h = absurd (true≢false (sym h))
+whole_kind (c ∷ cs) v h =
+    let name : Text = c ∷ cs in
+    let none = no_equals name h in
+    let front : before_first is_equals (name ++ 61 ∷ v) ≡ name = before_at 61 name v none in
+    let back : after_first is_equals (name ++ 61 ∷ v) ≡ v = after_at 61 name v none in
+    let some : list_any is_equals (name ++ 61 ∷ v) ≡ true = any_at 61 name v in
+    let is : named (name ++ 61 ∷ v) ≡ whole name v = rw (front, h, some, back) refl in
+    is
+
+begins_kind : (name : Text) → is_name name ≡ true → kind_of (codes "--" ++ name) ≡ begins name
+begins_kind [] h = absurd (true≢false (sym h))
+begins_kind (c ∷ cs) h =
+    let name : Text = c ∷ cs in
+    let none = no_equals name h in
+    let front : before_first is_equals name ≡ name = all_before name none in
+    let is : named name ≡ begins name = rw (front, h, none) refl in
+    is
+
+plain_kind : (word : Text) → begins_plainly word ≡ true → kind_of word ≡ plain
+plain_kind [] h = refl
+plain_kind (c ∷ cs) h = go (c == 45) refl
+  where
+    go : (b : Bool) → c == 45 ≡ b → kind_of (c ∷ cs) ≡ plain
+    go true e = absurd (true≢false (sym (rw e at h)))
+    go false e = rw e refl
+
+all_positional : (rest : List Text) → parts_from ended rest ≡ Some (map positional rest)
+unfolding parts_from
+all_positional [] = refl
+all_positional (word ∷ rest) = ap (with_part (positional word)) (all_positional rest)
+
+pub written_read : (words : List Text) (ps : List Part) → AreParts words ps → parts_from between words ≡ Some ps
+unfolding parts_from
+written_read _ _ nothing = refl
+written_read _ _ (joined name v rest ps is h) = rw (whole_kind name v is) (ap (with_part (option name v)) (written_read rest ps h))
+written_read _ _ (apart name v rest ps is h) = rw (begins_kind name is) (ap (with_part (option name v)) (written_read rest ps h))
+written_read _ _ (word_plain word rest ps is h) = rw (plain_kind word is) (ap (with_part (positional word)) (written_read rest ps h))
+written_read _ _ (all_plain rest) = all_positional rest
+
+-- ---- what is read is written
+
+-- a word that is read as its kind is written so
+pub data Written (word : Text) : Kind → Type 0 where
+  is_ends : word ≡ codes "--" → Written word ends
+  is_whole : (name v : Text) → is_name name ≡ true → word ≡ codes "--" ++ (name ++ (codes "=" ++ v)) → Written word (whole name v)
+  is_begins : (name : Text) → is_name name ≡ true → word ≡ codes "--" ++ name → Written word (begins name)
+  is_plain : begins_plainly word ≡ true → Written word plain
+  is_misfit : Written word misfit
+
+named_written : (word text : Text) → word ≡ codes "--" ++ text → Written word (named text)
+named_written word text e = go (is_name (before_first is_equals text)) refl (list_any is_equals text) refl
+  where
+    go : (a : Bool) → is_name (before_first is_equals text) ≡ a → (b : Bool) → list_any is_equals text ≡ b → Written word (named text)
+    go false h b k = rw h is_misfit
+    go true h true k = rw (h, k) (is_whole (before_first is_equals text) (after_first is_equals text) h (e ∙ ap (λ t. codes "--" ++ t) (cut_first 61 text k)))
+    go true h false k = rw (h, k) (is_begins (before_first is_equals text) h (e ∙ ap (λ t. codes "--" ++ t) (sym (all_before text k))))
+
+hyphen_is : (c : ℕ) → (c == 45) ≡ true → c ≡ 45
+hyphen_is c h = grind (arith, nat_tests, h)
+
+written : (word : Text) → Written word (kind_of word)
+written [] = is_plain refl
+written (c ∷ cs) = go (c == 45) refl cs
+  where
+    second : (d : ℕ) (ds : Text) → (c == 45) ≡ true → (b : Bool) → d == 45 ≡ b → Written (c ∷ d ∷ ds) (kind_of (c ∷ d ∷ ds))
+    second d ds e false f = rw (e, f) is_misfit
+    second d [] e true f = rw (e, f) (is_ends (rw (hyphen_is c e, hyphen_is d f) refl))
+    second d (x ∷ xs) e true f =
+        let hyphens : c ∷ d ∷ x ∷ xs ≡ codes "--" ++ (x ∷ xs) = rw (hyphen_is c e, hyphen_is d f) refl in
+        rw (e, f) (named_written (c ∷ d ∷ x ∷ xs) (x ∷ xs) hyphens)
+
+    go : (b : Bool) → (c == 45) ≡ b → (ds : Text) → Written (c ∷ ds) (kind_of (c ∷ ds))
+    go false e ds = rw e (is_plain (rw e refl))
+    go true e [] = rw e is_misfit
+    go true e (d ∷ ds) = second d ds e (d == 45) refl
+
+some_parts : (part : Part) (o : Option (List Part)) (ps : List Part) → with_part part o ≡ Some ps → (qs : List Part) × (o ≡ Some qs) × (part ∷ qs ≡ ps)
+some_parts part None ps e = absurd (cc)
+some_parts part (Some qs) ps e = (qs, refl, cc)
+
+-- the parts are those of what a mode leads to
+abbrev IsRead : Mode → List Text → Type 0
+IsRead between rest = (ps : List Part) → parts_from between rest ≡ Some ps → AreParts rest ps
+IsRead ended rest = (ps : List Part) → parts_from ended rest ≡ Some ps → map positional rest ≡ ps
+IsRead (value name) rest = (is_name name ≡ true) → (ps : List Part) → parts_from (value name) rest ≡ Some ps → AreParts ((codes "--" ++ name) ∷ rest) ps
+
+between_read : (word : Text) (rest : List Text) (k : Kind) → Written word k → ((mode : Mode) → IsRead mode rest) → (ps : List Part)
+    → read_kind word k (λ mode. parts_from mode rest) ≡ Some ps → AreParts (word ∷ rest) ps
+between_read word rest _ (is_ends e) next ps h = rw e (subst (AreParts (codes "--" ∷ rest)) (next ended ps h) (all_plain rest))
+between_read word rest _ (is_whole name v is e) next ps h =
+    let t = some_parts (option name v) (parts_from between rest) ps h in
+    rw e (subst (AreParts _) t.2 (joined name v rest t.0 is (next between t.0 t.1)))
+between_read word rest _ (is_begins name is e) next ps h = rw e (next (value name) is ps h)
+between_read word rest _ (is_plain is) next ps h =
+    let t = some_parts (positional word) (parts_from between rest) ps h in
+    subst (AreParts (word ∷ rest)) t.2 (word_plain word rest t.0 is (next between t.0 t.1))
+between_read word rest _ is_misfit next ps h = absurd (cc)
+
+read_written : (words : List Text) (mode : Mode) → IsRead mode words
+unfolding parts_from
+read_written [] between = λ ps h. let e : [] ≡ ps = cc in subst (AreParts []) e nothing
+read_written [] ended = λ ps h. cc
+read_written [] (value name) = λ is ps h. absurd (cc)
+read_written (word ∷ rest) between = λ ps h. between_read word rest (kind_of word) (written word) (read_written rest) ps h
+read_written (word ∷ rest) ended = λ ps h.
+    let t = some_parts (positional word) (parts_from ended rest) ps h in
+    ap (λ qs. positional word ∷ qs) (read_written rest ended t.0 t.1) ∙ t.2
+read_written (word ∷ rest) (value name) = λ is ps h.
+    let t = some_parts (option name word) (parts_from between rest) ps h in
+    subst (AreParts _) t.2 (apart name word rest t.0 is (read_written rest between t.0 t.1))
+
+pub parts_written : (words : List Text) (ps : List Part) → parts_from between words ≡ Some ps → AreParts words ps
+parts_written words ps h = read_written words between ps h

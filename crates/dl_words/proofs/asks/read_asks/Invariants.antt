@@ -1,0 +1,7 @@
+-- The texts so far are asks.
+use Rattle.std.proofs.Common.{◌≡◌, Ok, map, take}
+use Rattle.dl_words.specs.Asks.{asks_of}
+use Rattle.dl_words.proofs.asks.read_asks.Given as goal
+
+abbrev pub invariant-loop-index : goal.invariant-loop-index
+invariant-loop-index l = asks_of (map (λ text. text.now) (take l.index l.texts)) ≡ Ok l.asks.items

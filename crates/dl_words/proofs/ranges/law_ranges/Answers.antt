@@ -1,0 +1,6 @@
+-- Both laws.
+use Rattle.dl_words.proofs.RangeLaws.{words_are_text, words_in_range}
+use Rattle.dl_words.proofs.ranges.law_ranges.Goals as goal
+
+pub returns : goal.returns
+returns c = record { ranges = words_in_range; texts = words_are_text }

@@ -1,0 +1,56 @@
+-- What `clap` refuses is a misfit of the command, and what it finds is what the parts say.
+use Rattle.std.proofs.Common.{◌≡◌, ◌∙◌, inl, inr, sym, ap, subst, map, List, [], ◌∷◌}
+use Rattle.std.specs.String.{string_bytes}
+use Rattle.std.proofs.lemmas.Result.{IfErr-weaker, IfOk-weaker}
+use Rattle.clap.specs.Faults.{fault_of, is_simple_and_free}
+use Rattle.clap.specs.Kinds.{HasKind, IsAmong, Kinds}
+use Rattle.clap.specs.Matches.{found_of}
+use Rattle.clap.specs.Simple.{App, app_of, is_simple, matches_of}
+use Rattle.clap.specs.Walk.{rows_of}
+use Rattle.dl_words.specs.Command.{command}
+use Rattle.dl_words.specs.Faults.{Explains}
+use Rattle.dl_words.specs.Found.{answer_in}
+use Rattle.dl_words.specs.Spelling.{Text}
+use Rattle.dl_words.specs.Words.{words_of}
+use Rattle.dl_words.proofs.Judged.{given, refused}
+use Rattle.dl_words.proofs.Shapes.{simple_command_is, simple_is}
+use Rattle.dl_words.proofs.Simulation.{Fails}
+use Rattle.dl_words.proofs.Whole.{matched, unfit}
+use Rattle.dl_words.proofs.read.read_words.Goals as goal
+
+-- an error that is not for want of memory means that there is a fault
+fails_of : (kinds : Kinds) (k : _) → IsAmong k kinds → Fails kinds
+fails_of [] k h = absurd h
+fails_of (x ∷ xs) k h = tt
+
+pub returns : goal.returns
+returns c =
+    let words : List Text = map string_bytes c.args.words.now in
+    let app : app_of c.in-Ok.command ≡ command = c.in-Ok.ensures in
+    let kinds : HasKind (fault_of command words) c.in-Err-try_get_matches_from.error =
+    subst (λ (a : App). HasKind (fault_of a words) c.in-Err-try_get_matches_from.error) app (c.in-Err-try_get_matches_from.ensures.kinds (ap is_simple_and_free app ∙ simple_command_is)) in
+    let failed : Fails (fault_of command words) = elim kinds [
+      | inl memory ↦ absurd (c.in_default.not-OutOfMemory (c.kind.ensures ∙ memory))
+      | inr among ↦ fails_of (fault_of command words) _ among
+    ] in
+    record { settings = tt; fault = refused words (unfit words failed) }
+
+-- the answer to what was found is the answer to the words
+found_answer : (words : List Text) (app : App) (found : _) → app ≡ command → fault_of app words ≡ [] → rows_of found ≡ matches_of app words → words_of words ≡ answer_in found
+found_answer words app found e none rows =
+    let got = matched words (subst (λ (a : App). fault_of a words ≡ []) e none) in
+    given words got.0 got.1 found (rows ∙ ap (λ (a : App). matches_of a words) e)
+
+pub returns-in-Ok-try_get_matches_from-clause-settings : goal.returns-in-Ok-try_get_matches_from-clause-settings
+returns-in-Ok-try_get_matches_from-clause-settings c =
+    let app = c.in-Ok.ensures in
+    let same = found_answer (map string_bytes c.args.words.now) (app_of c.in-Ok.command) (found_of c.in-Ok-try_get_matches_from.matches) app
+    (c.in-Ok-try_get_matches_from.ensures.kinds (ap is_simple_and_free app ∙ simple_command_is)) (c.in-Ok-try_get_matches_from.ensures.matches (ap is_simple app ∙ simple_is)).0 in
+    IfOk-weaker c.judge.result _ _ (λ s h. same ∙ h) c.judge.ensures.settings
+
+pub returns-in-Ok-try_get_matches_from-clause-fault : goal.returns-in-Ok-try_get_matches_from-clause-fault
+returns-in-Ok-try_get_matches_from-clause-fault c =
+    let app = c.in-Ok.ensures in
+    let same = found_answer (map string_bytes c.args.words.now) (app_of c.in-Ok.command) (found_of c.in-Ok-try_get_matches_from.matches) app
+    (c.in-Ok-try_get_matches_from.ensures.kinds (ap is_simple_and_free app ∙ simple_command_is)) (c.in-Ok-try_get_matches_from.ensures.matches (ap is_simple app ∙ simple_is)).0 in
+    IfErr-weaker c.judge.result _ _ (λ e h. subst (λ a. Explains a e) (sym same) h) c.judge.ensures.fault

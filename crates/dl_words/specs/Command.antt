@@ -1,0 +1,31 @@
+-- The command of the words, as `clap` is told it.
+use Rattle.std.specs.Prelude.{Some, codes, true}
+use Rattle.clap.specs.Words.{App, Rule, Text, new_app, new_rule, with_rule}
+use Rattle.clap.specs.Simple.{on_top}
+use Rattle.clap.specs.declared.builder.action.ArgAction.TheVariants.{Append}
+
+abbrev pub form : Rule
+form = record (new_rule (codes "form")) { required = true }
+
+abbrev pub asks : Rule
+asks = record (new_rule (codes "asks")) { action = Some Append }
+
+-- an option is named by its long name
+abbrev pub option_of : Text → Rule
+option_of name = record (new_rule name) { long = Some name }
+
+abbrev pub bare : App
+bare = on_top (λ s. record s { no_binary_name = true }) (new_app (codes "decl"))
+
+abbrev pub places : App
+places = with_rule (with_rule bare form) asks
+
+-- the command with one more option
+abbrev pub with_option : App → Text → App
+with_option app name = with_rule app (option_of name)
+
+-- a form, asks, and seven options with a value each
+abbrev pub command : App
+command =
+    with_option (with_option (with_option (with_option (with_option (with_option (with_option places (codes "make")) (codes "bs"))
+    (codes "log2")) (codes "digits")) (codes "width")) (codes "mwidth")) (codes "format")

@@ -1,0 +1,19 @@
+-- What a fault of the words tells.
+use Rattle.std.specs.Prelude.{ℕ, ◌≡◌, ⊤, List, Result, Err}
+use Rattle.dl_plan.specs.declared.settings.Asked.{Asked}
+use Rattle.dl_plan.specs.declared.settings.Settings.{Settings}
+use Rattle.dl_words.specs.declared.fault.UsageFault.{UsageFault}
+use Rattle.dl_words.specs.declared.fault.UsageFault.TheVariants.{Line, Ask}
+use Rattle.dl_words.specs.declared.fault.WordsFault.{WordsFault}
+use Rattle.dl_words.specs.declared.fault.WordsFault.TheVariants.{Usage, OutOfMemory}
+
+-- the fault is this answer's, or memory ran out
+abbrev pub Explains : Result Settings UsageFault → WordsFault → Type 0
+Explains answer (Usage fault) = answer ≡ Err fault
+Explains answer OutOfMemory = ⊤
+
+-- the fault is the first misfit of the asks, or memory ran out
+abbrev pub ExplainsAsks : Result (List Asked) ℕ → WordsFault → Type 0
+ExplainsAsks asks (Usage Line) = ⊥
+ExplainsAsks asks (Usage (Ask i)) = asks ≡ Err i
+ExplainsAsks asks OutOfMemory = ⊤

@@ -1,0 +1,10 @@
+pub mod Spelling
+pub mod Options
+pub mod Parts
+pub mod AsWritten
+pub mod Asks
+pub mod Table
+pub mod Words
+pub mod Command
+pub mod Found
+pub mod Faults

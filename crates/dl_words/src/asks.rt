@@ -1,0 +1,121 @@
+//! What asks are, by their spelling.
+
+ghost use Rattle.std.specs.Prelude.{◌≡◌, ◌<◌, ◌≤◌, IfErr, IfOk, Ok, length, map, option_map};
+ghost use Rattle.dl_words.specs.Asks.{ask_between, ask_of, asks_of, cut_at, behind_s, layer_between, layer_of, limit_of, unit_parts};
+ghost use Rattle.dl_words.specs.Faults.{ExplainsAsks};
+
+use crate::fault::{UsageFault, WordsFault};
+use crate::spelling::{amount, is_word, probability};
+use dl_lexer::Text;
+use dl_plan::{Ask, Asked};
+use std::alloc::{AllocError, Global};
+
+/// What the texts ask, or the index of the first that is not spelled as an ask.
+pub(crate) fn read_asks(alloc: Global, texts: &[&str]) -> Result<Vec<Asked>, WordsFault>
+    requires { length texts.now ≤ 256 }
+    ensures asks { IfOk result (λ asks.
+        asks_of (map (λ text. text.now) texts.now) ≡ Ok asks.items) }
+    ensures fault { IfErr result (ExplainsAsks (asks_of (map (λ text. text.now) texts.now))) }
+{
+    let mut asks = Vec::new(alloc);
+    for (index, text) in texts.iter().enumerate() {
+        let Some(ask) = read_ask(alloc, text)? else {
+            return Err(WordsFault::Usage(UsageFault::Ask(index as u32)));
+        };
+        let text = Text::copy(alloc, text.as_bytes())?;
+        asks.push(Asked { text, ask })?;
+    }
+    Ok(asks)
+}
+
+/// What the text asks, where it is spelled as an ask.
+#[tactic(auto, unfolding(crate::specs::Asks::ask_of))]
+fn read_ask(alloc: Global, text: &str) -> Result<Option<Ask>, AllocError>
+    ensures { IfOk result (λ ask. ask ≡ ask_of text.now) }
+{
+    if text == "mean" {
+        return Ok(Some(Ask::Mean));
+    }
+    match cut(text, ':') {
+        Some((head, rest)) => ask_between(alloc, head, rest),
+        None => Ok(None),
+    }
+}
+
+/// The ask of what stands in front of the first colon and what stands behind it.
+fn ask_between(alloc: Global, head: &str, rest: &str) -> Result<Option<Ask>, AllocError>
+    ensures { IfOk result (λ ask. ask ≡ ask_between head.now rest.now) }
+{
+    match head {
+        "pmf" => Ok(amount(rest).map(Ask::Pmf)),
+        "cdf" => Ok(amount(rest).map(Ask::Cdf)),
+        "q" => Ok(probability(rest).map(Ask::Quantile)),
+        "tail" => Ok(probability(rest).map(Ask::Tail)),
+        "layer" => Ok(layer(rest)),
+        "joint" => Ok(unit_at(alloc, rest)?.map(|(unit, at)| Ask::Joint { unit, at })),
+        "kappa" => Ok(unit_at(alloc, rest)?.map(|(unit, at)| Ask::Kappa { unit, at })),
+        _ => Ok(None),
+    }
+}
+
+/// `LxsA`.
+fn layer(text: &str) -> Option<Ask>
+    ensures { result ≡ layer_of text.now }
+{
+    let (limit, rest) = cut(text, 'x')?;
+    layer_between(limit, rest)
+}
+
+/// `L`, and `sA`.
+fn layer_between(limit: &str, rest: &str) -> Option<Ask>
+    ensures { result ≡ layer_between limit.now rest.now }
+{
+    let attach = behind_s(rest)?;
+    let limit = read_limit(limit)?;
+    let attach = amount(attach)?;
+    Some(Ask::LayerMean { limit, attach })
+}
+
+/// What stands behind an `s` that begins the text.
+fn behind_s(text: &str) -> Option<&str>
+    ensures { option_map (λ rest. rest.now) result ≡ behind_s text.now }
+{
+    text.strip_prefix('s')
+}
+
+/// `L` with its amount, or `inf`.
+fn read_limit(text: &str) -> Option<Option<u32>>
+    ensures { result ≡ limit_of text.now }
+{
+    if text == "inf" {
+        return Some(None);
+    }
+    match amount(text) {
+        Some(limit) => Some(Some(limit)),
+        None => None,
+    }
+}
+
+/// `NAME:x`.
+fn unit_at(alloc: Global, text: &str) -> Result<Option<(Text, u32)>, AllocError>
+    ensures { IfOk result (λ parts. parts ≡ unit_parts text.now) }
+{
+    let Some((name, rest)) = cut(text, ':') else {
+        return Ok(None);
+    };
+    if !is_word(name.as_bytes()) {
+        return Ok(None);
+    }
+    let Some(at) = amount(rest) else {
+        return Ok(None);
+    };
+    Ok(Some((Text::copy(alloc, name.as_bytes())?, at)))
+}
+
+/// What stands in front of the first such sign, which is ASCII, and what stands behind it.
+fn cut(text: &str, sign: char) -> Option<(&str, &str)>
+    requires { sign < 128 }
+    ensures { option_map (λ cut. (cut.0.now, cut.1.now)) result ≡ cut_at sign text.now }
+{
+    text.split_once(sign)
+}

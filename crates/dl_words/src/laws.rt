@@ -1,0 +1,30 @@
+//! What follows from the definitions of the words alone. Nothing here runs: each law is the
+//! contract of a function with an empty body.
+
+ghost use Rattle.std.specs.Prelude.{◌≡◌, ◌↔◌, ℕ, List, Some, IsTrue};
+ghost use Rattle.dl_lexer.specs.Numerals as token;
+ghost use Rattle.dl_lexer.specs.Tokens.{IsWord};
+ghost use Rattle.dl_plan.specs.declared.settings.Ask.{Ask};
+ghost use Rattle.dl_words.specs.Asks.{ask_of};
+ghost use Rattle.dl_words.specs.AsWritten.{AreParts};
+ghost use Rattle.dl_words.specs.Parts.{Part, parts_of};
+ghost use Rattle.dl_words.specs.Spelling.{is_numeral, is_word};
+ghost use Rattle.dl_words.specs.Table.{Spells};
+
+/// What is read as an ask is exactly what the table of the asks has; so no text is two asks.
+pub fn law_asks()
+    ensures table { (text : List ℕ) (ask : Ask) → (ask_of text ≡ Some ask) ↔ Spells text ask }
+{}
+
+/// The tests of a numeral and of a name pass exactly the numerals and the words of a program.
+pub fn law_spellings()
+    ensures numeral { (text : List ℕ) → IsTrue (is_numeral text) ↔ token.IsNumeral text }
+    ensures word { (text : List ℕ) → IsTrue (is_word text) ↔ IsWord text }
+{}
+
+/// The parts that the words are cut into from the left are exactly those that they are written as;
+/// so no words have two.
+pub fn law_parts()
+    ensures { (words : List (List ℕ)) (parts : List Part)
+        → (parts_of words ≡ Some parts) ↔ AreParts words parts }
+{}

@@ -1,0 +1,137 @@
+//! The values of the options, and the settings that they make.
+
+ghost use Rattle.std.specs.Prelude.{◌≡◌, ◌≤◌, ◌==◌, IfNone, IfSome, None, Some, true, false, codes, if◌then◌else◌, length, []};
+ghost use Rattle.clap.specs.Matches.{found_of, first_value};
+ghost use Rattle.dl_exact.specs.Fraction.{whole};
+ghost use Rattle.dl_frac.specs.Numerals.{numeral_value};
+ghost use Rattle.dl_plan.specs.declared.settings.Format.TheVariants.{Plain};
+ghost use Rattle.dl_words.specs.Found.{Takes, values_in};
+ghost use Rattle.dl_words.specs.Options.{are_taken, form_named, format_named, format_of, is_format, is_make_alone, no_seed, seed_of, settings_of};
+ghost use Rattle.dl_words.specs.Spelling.{is_bucket, is_whole, number};
+
+use crate::spelling::{bucket, whole};
+use clap::ArgMatches;
+use dl_frac::Frac;
+use dl_plan::{Form, Format, Many, Settings};
+use std::alloc::Global;
+
+/// The settings of a form with no asks yet, where each option takes its value.
+pub(crate) fn settings_of(alloc: Global, form: Form, matches: &ArgMatches<'_>) -> Option<Settings>
+    ensures some { IfSome result (λ settings. (are_taken (values_in (found_of matches.now)) ≡ true)
+        × (settings ≡ settings_of form (values_in (found_of matches.now)) [])) }
+    ensures none { IfNone result (are_taken (values_in (found_of matches.now)) ≡ false) }
+{
+    let make = seed(matches)?;
+    let bs = bucket_size(matches)?;
+    let log2 = number_of(matches, "log2", 12, 10)? as u32;
+    let digits = number_of(matches, "digits", 9, 6)? as u32;
+    let width = number_of(matches, "width", 1_000_000_000, 10)?;
+    let mwidth = number_of(matches, "mwidth", 1_000_000_000_000, 1_000_000)?;
+    let format = format_of(matches)?;
+    Some(Settings {
+        form,
+        make,
+        bs,
+        log2,
+        digits,
+        width,
+        mwidth,
+        format,
+        asks: Many::from_vec(Vec::new(alloc)),
+    })
+}
+
+/// The value of `--make`.
+fn seed(matches: &ArgMatches<'_>) -> Option<Option<u32>>
+    ensures { Takes (is_whole 0 4294967295) no_seed seed_of
+        (values_in (found_of matches.now) (codes "make")) result }
+{
+    match matches.get_str("make") {
+        Some(text) => Some(Some(whole(text, 0, 4_294_967_295)? as u32)),
+        None => Some(None),
+    }
+}
+
+/// The value of `--bs`.
+fn bucket_size(matches: &ArgMatches<'_>) -> Option<Frac>
+    ensures { Takes is_bucket (whole 1) numeral_value
+        (values_in (found_of matches.now) (codes "bs")) result }
+{
+    match matches.get_str("bs") {
+        Some(text) => bucket(text),
+        None => Some(one()),
+    }
+}
+
+/// One unit of money.
+fn one() -> Frac
+    ensures { result ≡ whole 1 }
+{
+    Frac::make(1, 1).unwrap()
+}
+
+/// The value of an option that takes whole numbers from 1 to `high`.
+fn number_of(matches: &ArgMatches<'_>, name: &str, high: u64, default: u64) -> Option<u64>
+    requires { default ≤ high }
+    ensures value { Takes (is_whole 1 high) default number
+        (values_in (found_of matches.now) name.now) result }
+    ensures within { IfSome result (λ value. value ≤ high) }
+{
+    match matches.get_str(name) {
+        Some(text) => whole(text, 1, high),
+        None => Some(default),
+    }
+}
+
+/// The value of `--format`.
+fn format_of(matches: &ArgMatches<'_>) -> Option<Format>
+    ensures { Takes is_format Plain format_of
+        (values_in (found_of matches.now) (codes "format")) result }
+{
+    match matches.get_str("format") {
+        Some(text) => format_named(text),
+        None => Some(Format::Plain),
+    }
+}
+
+/// The format of this name.
+fn format_named(text: &str) -> Option<Format>
+    ensures { result ≡ format_named text.now }
+{
+    match text {
+        "text" => Some(Format::Plain),
+        "csv" => Some(Format::Csv),
+        "json" => Some(Format::Json),
+        _ => None,
+    }
+}
+
+/// The form of this name.
+pub(crate) fn form_named(text: &str) -> Option<Form>
+    ensures { result ≡ form_named text.now }
+{
+    match text {
+        "run" => Some(Form::Run),
+        "fmt" => Some(Form::Fmt),
+        _ => None,
+    }
+}
+
+/// Whether no option stands but `--make`.
+pub(crate) fn is_make_alone(matches: &ArgMatches<'_>) -> bool
+    ensures { result ≡ is_make_alone (values_in (found_of matches.now)) }
+{
+    is_absent(matches, "bs")
+        && is_absent(matches, "log2")
+        && is_absent(matches, "digits")
+        && is_absent(matches, "width")
+        && is_absent(matches, "mwidth")
+        && is_absent(matches, "format")
+}
+
+/// Whether an option does not stand in the words.
+fn is_absent(matches: &ArgMatches<'_>, name: &str) -> bool
+    ensures { result ≡ (length (values_in (found_of matches.now) name.now) == 0) }
+{
+    matches.get_str(name).is_none()
+}

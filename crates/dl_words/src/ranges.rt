@@ -1,0 +1,15 @@
+//! What the words' definitions say of the settings. Nothing here runs: each law is the contract of a
+//! function with an empty body.
+
+ghost use Rattle.std.specs.Prelude.{◌≡◌, List, ℕ, All, IsUtf8, Ok};
+ghost use Rattle.dl_plan.specs.declared.settings.Settings.{Settings};
+ghost use Rattle.dl_plan.specs.Ranges.{AreInRange};
+ghost use Rattle.dl_words.specs.Words.{words_of};
+
+/// What good words say lies in its ranges, and each ask is text where each word is.
+pub fn law_ranges()
+    ensures ranges { (words : List (List ℕ)) (settings : Settings)
+        → words_of words ≡ Ok settings → AreInRange settings }
+    ensures texts { (words : List (List ℕ)) (settings : Settings) → All IsUtf8 words
+        → words_of words ≡ Ok settings → All (λ asked. IsUtf8 asked.text) settings.asks }
+{}
