@@ -1,0 +1,7 @@
+use Rattle.std.proofs.Common.{◌≡◌, map, take}
+use Rattle.serde_json.specs.View.{view}
+use Rattle.dl_report.specs.Values.{row_data}
+use Rattle.dl_report.proofs.objects.json.Given as goal
+
+abbrev pub invariant-loop-row : goal.invariant-loop-row
+invariant-loop-row l = map view l.rows.items ≡ map (row_data l.report.digits) (take l.row-index l.report.rows)

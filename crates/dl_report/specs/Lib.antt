@@ -1,0 +1,7 @@
+pub mod Ends
+pub mod Lines
+pub mod Objects
+pub mod Plain
+pub mod Records
+pub mod Values
+pub mod Writing

@@ -1,0 +1,17 @@
+//! The rows of a report, and its three forms: lines, comma-separated values and JSON.
+#![tactic(auto)]
+
+mod ends;
+mod law;
+mod lines;
+mod objects;
+mod records;
+mod report;
+#[cfg(test)]
+mod tests;
+
+pub use law::{law_csv_tells_rows, law_json_tells_rows, law_text_tells_rows};
+pub use lines::text;
+pub use objects::json;
+pub use records::csv;
+pub use report::{End, Report, Row};

@@ -1,0 +1,72 @@
+//! A report as JSON.
+
+ghost use Rattle.std.specs.Prelude.{◌≡◌, ◌≤◌, ◌++◌, IfOk, OnOk};
+ghost use Rattle.std.specs.Str.{IsAscii, IsUtf8};
+ghost use Rattle.serde_json.specs.View.{items_view, view};
+ghost use Rattle.dl_report.specs.Objects.{AsksAreText, fraction_text, json_of};
+ghost use Rattle.dl_report.specs.Values.{report_data, row_data};
+
+use crate::ends::{end_bytes, push_whole};
+use crate::report::{Report, Row};
+use dl_frac::Frac;
+use serde_json::Value;
+use std::alloc::{AllocError, Global};
+
+/// Appends a fraction.
+fn push_fraction(text: &mut Vec<u8>, fraction: Frac) -> Result<(), AllocError>
+    ensures appends { OnOk result (text.new.items ≡ text.old.items ++ fraction_text fraction) }
+    ensures ascii { OnOk result (IsAscii (fraction_text fraction)) }
+{
+    push_whole(text, fraction.num() as u128)?;
+    if fraction.den() == 1 {
+        return Ok(());
+    }
+    text.extend_from_slice(b"/")?;
+    push_whole(text, fraction.den() as u128)
+}
+
+/// These bytes as text.
+fn as_text(bytes: &[u8]) -> &str
+    requires { IsUtf8 bytes.now }
+    ensures { result.now ≡ bytes.now }
+{
+    std::str::from_utf8(bytes).unwrap()
+}
+
+/// A row as a JSON object.
+fn row_value(alloc: Global, digits: u32, row: &Row) -> Result<Value, AllocError>
+    requires digits { digits ≤ 9 }
+    requires ask { IsUtf8 row.now.ask }
+    ensures { IfOk result (λ value. view value ≡ row_data digits row.now) }
+{
+    let low = end_bytes(alloc, digits, row.low)?;
+    let high = end_bytes(alloc, digits, row.high)?;
+    let ask = as_text(row.ask.as_slice());
+    serde_json::json!(in alloc; {"ask": ask, "high": as_text(&high), "low": as_text(&low)})
+}
+
+/// A report of these rows as a JSON object.
+fn report_value(alloc: Global, bs: Frac, cells: u32, rows: Vec<Value>) -> Result<Value, AllocError>
+    ensures { IfOk result (λ value. view value ≡ report_data (fraction_text bs) cells (items_view rows.items)) }
+{
+    let mut size = Vec::new(alloc);
+    push_fraction(&mut size, bs)?;
+    serde_json::json!(in alloc; {"bs": as_text(&size), "cells": cells, "rows": Value::Array(rows)})
+}
+
+/// The report as a JSON object, with the bucket size in money and the number of the grid's cells.
+pub fn json(alloc: Global, report: &Report, bs: Frac, cells: u32) -> Result<Vec<u8>, AllocError>
+    requires digits { report.now.digits ≤ 9 }
+    requires asks { AsksAreText report.now }
+    ensures { IfOk result (λ text. text.items ≡ json_of report.now bs cells) }
+{
+    let mut rows = Vec::new(alloc);
+    for row in report.rows.as_slice() {
+        let value = row_value(alloc, report.digits, row)?;
+        rows.push(value)?;
+    }
+    let whole = report_value(alloc, bs, cells, rows)?;
+    let mut text = whole.to_vec(alloc)?;
+    text.push(b'\n')?;
+    Ok(text)
+}

@@ -1,0 +1,37 @@
+//! What a report says.
+
+use dl_lexer::Text;
+use dl_plan::Many;
+
+/// An end of an answer.
+#[derive(Clone, Copy, Debug, PartialEq, Eq)]
+pub enum End {
+    /// A number, in units of the last printed digit.
+    Number(u128),
+    /// An amount, in buckets.
+    Whole(u32),
+    /// Past the grid.
+    Beyond,
+    /// There is no answer.
+    Absent,
+}
+
+/// The answer to an ask.
+#[derive(Drop)]
+pub struct Row {
+    /// The ask's word, as it was written.
+    pub ask: Text,
+    /// The low end.
+    pub low: End,
+    /// The high end.
+    pub high: End,
+}
+
+/// The answers of a run, in the order of the asks.
+#[derive(Drop)]
+pub struct Report {
+    /// How many digits stand behind the point, from 0 to 9.
+    pub digits: u32,
+    /// A row for each ask.
+    pub rows: Many<Row>,
+}
