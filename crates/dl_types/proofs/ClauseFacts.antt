@@ -1,0 +1,101 @@
+-- What an aggregate clause of a valid plan keeps: its multiples are whole numbers, and its horizon is small. The greatest common divisor
+-- of a severity's amounts is that of the amounts of positive probability of what it means.
+use Prim.Native.Nat.{◌∣◌}
+use Rattle.std.proofs.Common.{ℕ, ◌≡◌, ◌∙◌, ◌+◌, ◌*◌, ◌==◌, ◌⊎◌, fold, get_or, true, cond, List, [], ◌∷◌, Some, None, refl, sym, ap, subst, arith, inl, inr}
+use Rattle.std.specs.List.{All}
+use Rattle.std.proofs.lemmas.Bool.Decides.{eqb_tells}
+use Rattle.std.proofs.lemmas.Nat.Gcd.{dvd_refl, dvd_trans, dvd-zero, dvd_antisymm}
+use Rattle.std.proofs.lemmas.List.Elements.{All-nil, All-cons, All-head, All-tail}
+use Rattle.std.proofs.lemmas.List.Sums.{sum_by-cons}
+use Rattle.dl_exact.specs.Fraction.{Fraction, whole, ◌over◌, ◌<ℚ◌}
+use Rattle.dl_exact.specs.Gcd.{gcd}
+use Rattle.dl_exact.proofs.GcdLaws.{gcd_is}
+use Rattle.dl_exact.proofs.Laws.{lt_not_le, le_refl}
+use Rattle.dl_plan.specs.Fine.{IsWhole}
+use Rattle.dl_plan.specs.Cession.{kept, IsCession}
+use Rattle.dl_plan.specs.declared.item.Item.{Item}
+use Rattle.dl_plan.specs.declared.severity.Sev.{Sev}
+use Rattle.dl_plan.specs.Weighted.{weight_at, common_amount}
+use Rattle.dl_plan.specs.Severity.{Pairs, Means}
+use Rattle.dl_plan.proofs.Sums.{zero_over}
+use Rattle.dl_sev.proofs.Mapped.{total_pos}
+use Rattle.dl_ast.specs.declared.ast.Cession.{Cession}
+use Rattle.dl_ast.specs.declared.ast.UnitAst.{UnitAst}
+use Rattle.dl_types.specs.Clauses.{clause_of}
+use Rattle.dl_types.specs.Severity.{support, final_severity}
+use Rattle.dl_types.specs.Exposures.{has_shares}
+use Rattle.dl_types.specs.Rules.{common_amount_of, off_grid_occurrence, off_grid_aggregate, off_grid_cession}
+use Rattle.dl_types.proofs.Nothing.{else_second}
+use Rattle.dl_types.proofs.Items.{items_in, support_positive}
+use Rattle.dl_types.proofs.OffGrid.{none_off_multiples}
+use Rattle.dl_types.proofs.PastEdges.{fits_tried}
+pub use Rattle.dl_types.proofs.PastEdges.{horizon_within}
+
+-- ---- the common divisor of a list
+
+module _ {A : Type 0} (f : A → ℕ) where
+  abbrev common_from : ℕ → List A → ℕ
+  common_from g xs = fold (λ d x. gcd d (f x)) g xs
+
+  divides_first : (g : ℕ) (xs : List A) → common_from g xs ∣ g
+  divides_first g [] = dvd_refl g
+  divides_first g (x ∷ xs) = dvd_trans (common_from (gcd g (f x)) xs) (divides_first (gcd g (f x)) xs) (gcd_is g (f x)).0
+
+  divides_each : (g : ℕ) (xs : List A) → All (λ x. common_from g xs ∣ f x) xs
+  divides_each g [] = All-nil (λ x. common_from g [] ∣ f x)
+  divides_each g (x ∷ xs) =
+      All-cons (λ y. common_from g (x ∷ xs) ∣ f y) x xs (dvd_trans (common_from (gcd g (f x)) xs) (divides_first (gcd g (f x)) xs) (gcd_is g (f x)).1)
+      (divides_each (gcd g (f x)) xs)
+
+  greatest : (d g : ℕ) (xs : List A) → d ∣ g → All (λ x. d ∣ f x) xs → d ∣ common_from g xs
+  greatest d g [] h all = h
+  greatest d g (x ∷ xs) h all =
+      greatest d (gcd g (f x)) xs ((gcd_is g (f x)).2 d h (All-head (λ y. d ∣ f y) x xs all)) (All-tail (λ y. d ∣ f y) x xs all)
+
+-- ---- an amount with a weight is one of the items
+
+weight_found : (items : List Item) (x : ℕ) (Q : ℕ → Type 0) → All (λ (i : Item). Q i.amount) items → (weight_at items x ≡ 0) ⊎ Q x
+weight_found [] x Q all = inl refl
+weight_found (i ∷ items) x Q all = elim (eqb_tells i.amount x) [
+  | inl same ↦ inr (subst Q same.1 (All-head (λ (j : Item). Q j.amount) i items all))
+  | inr other ↦ elim (weight_found items x Q (All-tail (λ (j : Item). Q j.amount) i items all)) [
+    | inl none ↦ inl (sum_by-cons (λ (j : Item). cond (j.amount == x) j.weight 0) i items
+        ∙ ap (λ b. cond b i.weight 0 + weight_at items x) other.0 ∙ omega (arith, none))
+    | inr there ↦ inr there
+  ]
+]
+
+module _ (sev : Sev) (ps : Pairs) (means : Means sev ps) where
+  -- what holds of each amount of the severity holds of each amount of positive probability
+  support_in : (Q : ℕ → Type 0) → All (λ (i : Item). Q i.amount) sev.items → All Q (support ps)
+  support_in Q all k d h = elim (weight_found sev.items (get_or (support ps) k d) Q all) [
+    | inl none ↦ absurd (lt_not_le (whole 0) (whole 0)
+        (subst (λ t. whole 0 <ℚ t) (sym (means (get_or (support ps) k d)) ∙ ap (λ w. w over sev.total) none
+        ∙ zero_over sev.total (total_pos sev)) (support_positive ps k d h))
+        (le_refl (whole 0)))
+    | inr there ↦ there
+  ]
+
+  pub same_common : common_amount sev.items ≡ common_amount_of (support ps)
+  same_common =
+      dvd_antisymm
+      (greatest (λ (x : ℕ). x) (common_amount sev.items) 0 (support ps) (dvd-zero (common_amount sev.items))
+      (support_in (λ x. common_amount sev.items ∣ x) (divides_each (λ (i : Item). i.amount) 0 sev.items)))
+      (greatest (λ (i : Item). i.amount) (common_amount_of (support ps)) 0 sev.items (dvd-zero (common_amount_of (support ps)))
+      (items_in sev ps means (λ x. common_amount_of (support ps) ∣ x) (divides_each (λ (x : ℕ). x) 0 (support ps))))
+
+-- ---- the aggregate clause over sums of a severity
+
+module _ (bs : Fraction) (u : UnitAst) (c : Cession) (is : u.agr ≡ Some c) (cession : IsCession (clause_of bs c))
+    (none : off_grid_cession bs u ≡ None)
+    (has : has_shares u.occ ≡ true) (sev : Sev) (means : Means sev (final_severity bs u)) where
+  aggregate_none : off_grid_aggregate bs u ≡ None
+  unfolding off_grid_cession
+  aggregate_none = else_second (off_grid_occurrence bs u) (off_grid_aggregate bs u) none
+
+  -- the clause maps each multiple of the greatest common divisor of the amounts to a whole number
+  pub sums_whole : (n : ℕ) → IsWhole (kept (clause_of bs c) (n * common_amount sev.items))
+  sums_whole =
+      fits_tried (clause_of bs c) (common_amount sev.items) cession
+      (none_off_multiples bs u c is (clause_of bs c) (refl, cession) (support (final_severity bs u)) (has, refl) (common_amount sev.items)
+      (same_common sev (final_severity bs u) means) aggregate_none)

@@ -1,0 +1,37 @@
+-- A name among those of earlier units.
+use Rattle.std.proofs.Common.{◌≡◌, ℕ, ◌+◌, List, [], ◌∷◌, ◌++◌, length, if◌then◌else◌, map, Bool, true, false, not, None, Some, Bor, refl, sym, ap, ◌∙◌, arith}
+use Rattle.dl_lexer.specs.declared.token.Span.{Span}
+use Rattle.dl_types.specs.First.{at_if}
+use Rattle.std.proofs.lemmas.List.{length-append}
+use Rattle.std.specs.List.{list_any}
+use Rattle.std.specs.Prelude.{◌||◌}
+use Rattle.dl_ast.specs.declared.ast.UnitAst.{UnitAst}
+use Rattle.dl_types.specs.UnitNames.{names_of}
+
+-- a test of some parts is one of what is made of them
+any_of : {A B : Type 0} (p : B → Bool) (f : A → B) (xs : List A) → list_any p (map f xs) ≡ list_any (λ x. p (f x)) xs
+any_of p f [] = refl
+any_of p f (x ∷ xs) = ap (λ b. p (f x) || b) (any_of p f xs)
+
+-- whether one of the names that were taken up passes a test is whether that of one of the units does
+pub any_named : (p : List ℕ → Bool) (keys : List (Bor (List ℕ))) (before : List UnitAst) → map (λ (k : Bor (List ℕ)). k.now) keys ≡ names_of before
+    → list_any (λ (k : Bor (List ℕ)). p k.now) keys ≡ list_any (λ (v : UnitAst). p v.name.text) before
+any_named p keys before same =
+    sym (any_of p (λ (k : Bor (List ℕ)). k.now) keys) ∙ ap (list_any p) same ∙ any_of p (λ (v : UnitAst). v.name.text) before
+
+-- a place where the name is not new, and none where it is
+pub new_name : (place : Span) (is_new here there : Bool) → is_new ≡ not here → is_new ≡ true → here ≡ there → None ≡ at_if there place
+new_name place is_new true there h new same = absurd (grind (arith, h, new))
+new_name place is_new false there h new same = ap (λ b. at_if b place) same
+
+pub old_name : (place : Span) (is_new here there : Bool) → is_new ≡ not here → is_new ≡ false → here ≡ there → Some place ≡ at_if there place
+old_name place is_new true there h old same = ap (λ b. at_if b place) same
+old_name place is_new false there h old same = absurd (grind (arith, h, old))
+
+-- a name was taken up exactly where there is one more
+pub taken_up : {A : Type 0} (ks new : List A) (k : A) (is_new here : Bool) → new ≡ (if here then ks else ks ++ k ∷ [])
+    → length new ≡ length ks + (if is_new then 1 else 0) → is_new ≡ not here
+taken_up ks new k true true e l = absurd (omega (arith, l, ap length e))
+taken_up ks new k true false e l = refl
+taken_up ks new k false true e l = refl
+taken_up ks new k false false e l = absurd (omega (arith, l, ap length e ∙ length-append ks (k ∷ [])))

@@ -1,0 +1,11 @@
+-- The units so far, and their names.
+use Rattle.std.proofs.Common.{◌≡◌, map, take}
+use Rattle.dl_types.specs.UnitNames.{names_of}
+use Rattle.dl_types.proofs.ProgramUnits.{Planned}
+use Rattle.dl_types.proofs.program.check_units.Given as goal
+
+abbrev pub invariant-units : goal.invariant-units
+invariant-units l = record {
+  planned : Planned l.settings l.units l.at l.made.items;
+  names : map (λ name. name.now) l.names.keys ≡ names_of (take l.at l.units);
+}

@@ -1,0 +1,43 @@
+-- Units that list their numbers of claims.
+use Rattle.std.specs.Prelude.{◌≡◌, ⊤, not, false, Option, None, IfSome}
+use Rattle.std.specs.List.{list_any}
+use Rattle.dl_ast.specs.declared.ast.ListAst.{ListAst}
+use Rattle.dl_ast.specs.declared.ast.FreqAst.{FreqAst}
+use Rattle.dl_ast.specs.declared.ast.FreqAst.TheVariants.{Fixed, Poisson, Bernoulli, Binomial, Gamma}
+use Rattle.dl_ast.specs.declared.ast.CountAst.{CountAst}
+use Rattle.dl_ast.specs.declared.ast.CountAst.TheVariants.{Exposed, Listed}
+use Rattle.dl_types.specs.First.{within}
+use Rattle.dl_types.specs.Lists.{values_of, probs_of, is_whole}
+use Rattle.dl_types.specs.Rules.{other_length, passes}
+use Rattle.dl_types.specs.Parts.{IsListRead, AreProbabilities}
+
+abbrev pub IsListed : CountAst → Type 0
+IsListed (Exposed exposure freq) = ⊥
+IsListed (Listed counts probs _) = ⊤
+
+-- whole numbers of at most 256 claims, with as many fine probabilities, which sum to 1
+pub record AreCounts (counts : ListAst) (probs : Option ListAst) : Type 0 where
+  pub read : IsListRead counts
+  pub second : IfSome probs IsListRead
+  pub lengths : within (other_length counts) probs ≡ None
+  pub whole : list_any (λ x. not (is_whole x)) (values_of counts) ≡ false
+  pub few : list_any (λ x. passes x 256) (values_of counts) ≡ false
+  pub shares : AreProbabilities (probs_of counts probs)
+
+-- the counts of a unit that lists them
+abbrev pub HasCounts : CountAst → Type 0
+HasCounts (Exposed exposure freq) = ⊥
+HasCounts (Listed counts probs _) = AreCounts counts probs
+
+-- at most so many claims: exactly the expected count, one claim or none, or trials
+abbrev pub IsFiniteFreq : FreqAst → Type 0
+IsFiniteFreq (Fixed _) = ⊤
+IsFiniteFreq (Poisson _) = ⊥
+IsFiniteFreq (Bernoulli _) = ⊤
+IsFiniteFreq (Binomial p _) = ⊤
+IsFiniteFreq (Gamma c _) = ⊥
+
+-- the unit has a greatest number of claims
+abbrev pub IsFinite : CountAst → Type 0
+IsFinite (Exposed exposure freq) = IsFiniteFreq freq
+IsFinite (Listed counts probs _) = ⊤

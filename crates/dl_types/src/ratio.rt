@@ -1,0 +1,74 @@
+//! Wide fractions: quotients of two fractions of small parts.
+
+ghost use Rattle.std.specs.Prelude.{◌≡◌, ◌<◌, true, false};
+ghost use Rattle.std.specs.Option.{MatchOption};
+ghost use Rattle.dl_exact.specs.Gcd.{gcd};
+ghost use Rattle.dl_exact.specs.Fraction.{whole, ◌*ℚ◌, ◌/ℚ◌, ◌<ℚ◌};
+ghost use Rattle.dl_types.specs.Lists.{is_admitted};
+
+use dl_frac::Frac;
+use std::marker::Model;
+
+/// A fraction of at least 0 in lowest terms. Contracts see the `Fraction`.
+#[derive(Clone, Copy, Debug)]
+pub(crate) struct Ratio {
+    num: u128,
+    den: u128,
+    ghost positive: { 0 < den },
+    ghost lowest: { gcd num den ≡ 1 },
+}
+
+impl Model for Ratio {
+    ghost use Rattle.dl_exact.specs.Fraction.{Fraction};
+
+    ghost Value = { Fraction };
+
+    ghost view = { λ f. record { num = f.num; den = f.den; positive = f.positive; lowest = f.lowest } };
+
+    ghost inverse = { λ x. record { num = x.num; den = x.den; positive = x.positive; lowest = x.lowest } };
+}
+
+impl Ratio {
+    /// The quotient by `y`, which is above 0.
+    pub(crate) fn of(x: Frac, y: Frac) -> Ratio
+        requires { whole 0 <ℚ y }
+        ensures { result ≡ x /ℚ y }
+    {
+        let up = Frac::make(x.num() as u128, y.num() as u128).unwrap();
+        let down = Frac::make(y.den() as u128, x.den() as u128).unwrap();
+        Ratio {
+            num: up.num() as u128 * down.num() as u128,
+            den: up.den() as u128 * down.den() as u128,
+        }
+    }
+
+    /// The product, where both parts of it are below 2^48.
+    pub(crate) fn times(self, o: Ratio) -> Option<Frac>
+        ensures { MatchOption result (is_admitted (self *ℚ o) ≡ false) (λ product. (product ≡ self *ℚ o) × (is_admitted (self *ℚ o) ≡ true)) }
+    {
+        if self.num == 0 || o.num == 0 {
+            return Some(Frac::make(0, 1).unwrap());
+        }
+        let Ok(first) = Frac::make(self.num, o.den) else {
+            return None;
+        };
+        let Ok(second) = Frac::make(o.num, self.den) else {
+            return None;
+        };
+        match first.mul(second) {
+            Ok(product) => admitted(product),
+            Err(_) => None,
+        }
+    }
+}
+
+/// The value, where both parts of it are below 2^48.
+fn admitted(value: Frac) -> Option<Frac>
+    ensures { MatchOption result (is_admitted value ≡ false) (λ same. (same ≡ value) × (is_admitted value ≡ true)) }
+{
+    if value.num() < 1 << 48 && value.den() < 1 << 48 {
+        Some(value)
+    } else {
+        None
+    }
+}
