@@ -1,0 +1,157 @@
+-- The answer to each kind of ask, from the grid and the mean of the total.
+use Rattle.std.proofs.Common.{ℕ, suc, ◌≡◌, ◌+◌, ◌-◌, ◌^◌, ◌<◌, ◌≤◌, List, length, take, add-one, arith, inl, inr, sym, ap, subst, ◌∙◌}
+use Rattle.std.specs.Prelude.{Option, None, Some, min, MatchOption}
+use Rattle.std.proofs.Math.Nat.{mul-le-mul_left}
+use Rattle.std.proofs.lemmas.Nat.{pow_pos}
+use Rattle.std.proofs.lemmas.Bool.{cases_lt}
+use Rattle.dl_exact.specs.Fraction.{Fraction, ◌over◌, ◌+ℚ◌, ◌≤ℚ◌, ◌<ℚ◌}
+use Rattle.dl_exact.proofs.Laws.{le_refl, le_trans, plus_le_both, plus_le_cancel, lt_or_le, lt_not_le}
+use Rattle.dl_iv.specs.declared.interval.Iv.{Iv}
+use Rattle.dl_iv.proofs.FractionLaws.{over_le_over, over_plus, sub_le_both}
+use Rattle.dl_grid.specs.Cells.{low_at, high_at, mass_low, mass_high, spread, IsGrid}
+use Rattle.dl_grid.proofs.PairLaws.{below_more}
+use Rattle.dl_grid.proofs.PlaceSums.{width_at, high_is, width_within}
+use Rattle.dl_model.specs.Ways.{count_below}
+use Rattle.dl_model.specs.Series.{Holds, Below}
+use Rattle.dl_model.specs.Program.{Aggregate, AreUnits, One, Point, Cdf, Mean, Layer, partial_sums}
+use Rattle.dl_model.specs.Family.{total, GridEncloses}
+use Rattle.dl_model.specs.Measures.{low_cdf, high_cdf, IsBracketed, IsTight, AreDeclared}
+use Rattle.dl_model.specs.Plans.{aggregates_of}
+use Rattle.dl_model.proofs.Declared.{at_least_wider, at_most_wider}
+use Rattle.dl_model.proofs.Ends.{cdf_ends}
+use Rattle.dl_model.proofs.PlanUnits.{plan_declared, plan_units}
+use Rattle.dl_measures.specs.Brackets.{IsFirst, IsFirstFound}
+use Rattle.dl_measures.specs.Layers.{layer_width}
+use Rattle.dl_measures.proofs.Sums.{low_mass, high_mass, low_most, low_high, apart}
+use Rattle.dl_plan.specs.declared.plan.Plan.{Plan}
+use Rattle.dl_plan.specs.declared.settings.Ask.TheVariants as asks
+use Rattle.dl_plan.specs.Valid.{IsValid}
+use Rattle.dl_report.specs.declared.report.End.TheVariants.{Whole}
+use Rattle.dl_report.specs.declared.report.Row.{Row}
+use Rattle.dl_budget.specs.Units.{total_budget, mean_budget}
+use Rattle.dl_budget.specs.Asks.{ask_budget, layer_mean_budget}
+use Rattle.dl_budget.proofs.Horizons.{few_cells}
+use Rattle.dl_eval.specs.Rows.{S, Declares, IsBracket, IsAnswerTo, bracket_end}
+use Rattle.dl_eval.specs.Totals.{IsTotalOf, IsMeanOf, Prints}
+
+-- ---- probabilities
+
+cell_apart : (g : List (Iv 56)) (x : ℕ) → high_at g x ≤ low_at g x + spread g
+cell_apart g x = omega (arith, high_is g x, width_within (x + 1) g, below_more x (width_at g))
+
+pub point_answer : (ks : List ℕ) (plan : Plan) (g : List (Iv 56)) (d x lo hi : ℕ) (row : Row) → lo ≡ low_at g x → hi ≡ high_at g x → x < length g
+    → IsTotalOf ks plan g → Prints lo hi d row → IsAnswerTo ks plan d (asks.Pmf x) row
+unfolding ask_budget
+point_answer ks plan g d x lo hi row low high inside t prints =
+    prints plan (Point x) (total_budget S ks plan)
+    (subst (λ l. Declares plan (Point x) (l over S) (hi over S)) (sym low) (subst (λ h. Declares plan (Point x) (low_at g x over S) (h over S)) (sym high) (t.encloses x inside)))
+    (omega (arith, low, high, cell_apart g x, t.narrow))
+
+cdf_low : (g : List (Iv 56)) (x : ℕ) → mass_low (take (x + 1) g) ≡ count_below (suc x) (low_at g)
+cdf_low g x = sym (low_mass (x + 1) g) ∙ ap (λ n. count_below n (low_at g)) (add-one x)
+
+cdf_high : (g : List (Iv 56)) (x : ℕ) → mass_high (take (x + 1) g) ≡ count_below (suc x) (high_at g)
+cdf_high g x = sym (high_mass (x + 1) g) ∙ ap (λ n. count_below n (high_at g)) (add-one x)
+
+least_apart : (top a b w lo hi : ℕ) → lo ≡ min a top → hi ≡ min b top → b ≤ a + w → hi ≤ lo + w
+least_apart top a b w lo hi low high h = omega (arith, low, high, h)
+
+pub cdf_answer : (ks : List ℕ) (plan : Plan) (g : List (Iv 56)) (d x lo hi : ℕ) (row : Row)
+    → lo ≡ min (mass_low (take (x + 1) g)) (2 ^ 56) → hi ≡ min (mass_high (take (x + 1) g)) (2 ^ 56) → x < length g
+    → IsValid plan → IsTotalOf ks plan g → Prints lo hi d row → IsAnswerTo ks plan d (asks.Cdf x) row
+unfolding ask_budget
+cdf_answer ks plan g d x lo hi row low high inside valid t prints =
+    let ends = cdf_ends (aggregates_of plan) (2 ^ 56) (length g) (low_at g) (high_at g) (plan_units plan valid) (pow_pos 56) t.encloses x inside in
+    let low_sum : count_below (suc x) (low_at g) ≡ mass_low (take (x + 1) g) = sym (cdf_low g x) in
+    let high_sum : count_below (suc x) (high_at g) ≡ mass_high (take (x + 1) g) = sym (cdf_high g x) in
+    prints plan (Cdf x) (total_budget S ks plan) (
+      at_least_wider _ _ _ _ ends.0 (over_le_over lo (count_below (suc x) (low_at g)) (2 ^ 56) (pow_pos 56) (omega (arith, low, low_sum))),
+      at_most_wider _ _ _ _ ends.1 (over_le_over (min (2 ^ 56) (count_below (suc x) (high_at g))) hi (2 ^ 56) (pow_pos 56) (omega (arith, high, high_sum))),
+    )
+    (least_apart (2 ^ 56) (mass_low (take (x + 1) g)) (mass_high (take (x + 1) g)) (total_budget S ks plan) lo hi low high
+    (omega (arith, apart g (suc x), low_sum, high_sum, t.narrow)))
+
+-- ---- means
+
+pub mean_answer : (ks : List ℕ) (plan : Plan) (d : ℕ) (mean : Iv 56) (row : Row) → IsMeanOf ks plan mean → Prints mean.lo mean.hi d row → IsAnswerTo ks plan d asks.Mean row
+unfolding ask_budget
+mean_answer ks plan d mean row m prints = prints plan Mean (mean_budget S ks plan) m.holds m.narrow
+
+layer_narrow : (ks : List ℕ) (plan : Plan) (limit : Option ℕ) (attach mean spread : ℕ) → mean ≤ mean_budget S ks plan → spread ≤ total_budget S ks plan
+    → layer_width limit attach mean spread ≤ layer_mean_budget S ks plan limit attach
+layer_narrow ks plan None attach mean spread p q = omega (arith, p, mul-le-mul_left attach q)
+layer_narrow ks plan (Some limit) attach mean spread p q = mul-le-mul_left limit q
+
+pub layer_answer : (ks : List ℕ) (plan : Plan) (g : List (Iv 56)) (mean : Iv 56) (d attach lo hi : ℕ) (limit : Option ℕ) (row : Row)
+    → ((us : List Aggregate) → AreDeclared us → GridEncloses g (total us)
+    → (limit ≡ None → Holds (partial_sums us Mean) (partial_sums us One) (mean.lo over 2 ^ 56) (mean.hi over 2 ^ 56))
+    → Holds (partial_sums us (Layer limit attach)) (partial_sums us One) (lo over 2 ^ 56) (hi over 2 ^ 56))
+    → hi - lo ≤ layer_width limit attach (mean.hi - mean.lo) (spread g)
+    → IsValid plan → IsTotalOf ks plan g → IsMeanOf ks plan mean → Prints lo hi d row → IsAnswerTo ks plan d (asks.LayerMean limit attach) row
+unfolding ask_budget
+layer_answer ks plan g mean d attach lo hi limit row holds width valid t m prints =
+    prints plan (Layer limit attach) (layer_mean_budget S ks plan limit attach)
+    (holds (aggregates_of plan) (plan_declared plan valid) t.encloses (λ none. m.holds))
+    (omega (arith, width, layer_narrow ks plan limit attach (mean.hi - mean.lo) (spread g) (omega (arith, m.narrow)) t.narrow))
+
+-- ---- quantiles
+
+plus_lt : (x y z : Fraction) → x <ℚ y → x +ℚ z <ℚ y +ℚ z
+plus_lt x y z h = elim (lt_or_le (x +ℚ z) (y +ℚ z)) [ inl less ↦ less | inr not_less ↦ absurd (lt_not_le x y h (plus_le_cancel y x z not_less)) ]
+
+wider_tight : (us : List Aggregate) (K L lo : ℕ) (hi : Option ℕ) (p d e : Fraction) → K ≡ L → d ≤ℚ e → IsTight us K lo hi p d → IsTight us L lo hi p e
+wider_tight us K L lo hi p d e same wider tight = λ x from inside before.
+    let both = tight x from (omega (arith, inside, same)) before in (
+      at_most_wider _ _ _ _ both.0 (plus_le_both p p d e (le_refl p) wider),
+      at_least_wider _ _ _ _ both.1 (sub_le_both p p e d (le_refl p) wider),
+    )
+
+ends_order : (g : List (Iv 56)) (x : ℕ) → IsGrid g → low_cdf (2 ^ 56) (low_at g) x ≤ℚ high_cdf (2 ^ 56) (high_at g) x
+ends_order g x grid =
+    over_le_over (count_below (suc x) (low_at g)) (min (2 ^ 56) (count_below (suc x) (high_at g))) (2 ^ 56) (pow_pos 56) (omega (arith, low_most g (suc x) grid, low_high g (suc x)))
+
+bracket_inside : (g : List (Iv 56)) (p : Fraction) (cells lo : ℕ) (hi : Option ℕ) → IsGrid g → length g ≡ cells
+    → IsFirst (high_cdf (2 ^ 56) (high_at g)) p (length g) lo → IsFirstFound (low_cdf (2 ^ 56) (low_at g)) p (length g) hi
+    → MatchOption hi (lo ≤ cells) (λ x. (lo ≤ x) × (x < cells))
+bracket_inside g p cells lo None grid same first found = omega (arith, first.within, same)
+bracket_inside g p cells lo (Some x) grid same first found = (not_after, omega (arith, found.0, same))
+  where
+    not_after : lo ≤ x
+    not_after = elim (cases_lt x lo) [
+      | inl before ↦ absurd (lt_not_le _ p (first.before x before) (le_trans p _ _ (found.1.reached found.0) (ends_order g x grid)))
+      | inr after ↦ after
+    ]
+
+beyond_below : (us : List Aggregate) (g : List (Iv 56)) (p d : Fraction) (x : ℕ) → AreUnits us → GridEncloses g (total us) → x < length g
+    → low_cdf (2 ^ 56) (low_at g) x <ℚ p → spread g over 2 ^ 56 ≤ℚ d → Below (partial_sums us (Cdf x)) (partial_sums us One) (p +ℚ d)
+beyond_below us g p d x units encloses inside below narrow =
+    let ends = cdf_ends us (2 ^ 56) (length g) (low_at g) (high_at g) units (pow_pos 56) encloses x inside in
+    let sum : min (2 ^ 56) (count_below (suc x) (high_at g)) over 2 ^ 56 ≤ℚ (count_below (suc x) (low_at g) + spread g) over 2 ^ 56 =
+    over_le_over _ _ (2 ^ 56) (pow_pos 56) (omega (arith, apart g (suc x))) in
+    let parts : (count_below (suc x) (low_at g) + spread g) over 2 ^ 56 ≡ low_cdf (2 ^ 56) (low_at g) x +ℚ spread g over 2 ^ 56 =
+    over_plus (count_below (suc x) (low_at g)) (spread g) (2 ^ 56) (pow_pos 56) in
+    let high : high_cdf (2 ^ 56) (high_at g) x ≤ℚ low_cdf (2 ^ 56) (low_at g) x +ℚ d =
+    le_trans _ _ _ (subst (λ t. high_cdf (2 ^ 56) (high_at g) x ≤ℚ t) parts sum) (plus_le_both _ _ _ _ (le_refl (low_cdf (2 ^ 56) (low_at g) x)) narrow) in
+    (low_cdf (2 ^ 56) (low_at g) x +ℚ d, plus_lt _ p d below, at_most_wider _ _ _ _ ends.1 high)
+
+pub is_bracket : (ks : List ℕ) (plan : Plan) (g : List (Iv 56)) (p : Fraction) (lo : ℕ) (hi : Option ℕ) (row : Row) → row.low ≡ Whole lo → row.high ≡ bracket_end hi
+    → IsFirst (high_cdf (2 ^ 56) (high_at g)) p (length g) lo → IsFirstFound (low_cdf (2 ^ 56) (low_at g)) p (length g) hi
+    → ((us : List Aggregate) → AreUnits us → GridEncloses g (total us) → IsBracketed us lo hi p)
+    → ((us : List Aggregate) → AreUnits us → GridEncloses g (total us) → IsTight us (length g) lo hi p (spread g over 2 ^ 56))
+    → IsGrid g → IsValid plan → IsTotalOf ks plan g → IsBracket plan p (total_budget S ks plan over S) row
+is_bracket ks plan g p lo hi row is_low is_high first found holds tight grid valid t =
+    let units = plan_units plan valid in
+    let narrow : spread g over 2 ^ 56 ≤ℚ total_budget S ks plan over 2 ^ 56 = over_le_over (spread g) (total_budget S ks plan) (2 ^ 56) (pow_pos 56) t.narrow in
+    record {
+      lo = lo;
+      hi = hi;
+      is_low = is_low;
+      is_high = is_high;
+      inside = bracket_inside g p plan.cells lo hi grid t.cells first found;
+      bracketed = holds (aggregates_of plan) units t.encloses;
+      tight = wider_tight (aggregates_of plan) (length g) plan.cells lo hi p _ _ t.cells narrow (tight (aggregates_of plan) units t.encloses);
+      beyond = λ none.
+          let last : IsFirst (low_cdf (2 ^ 56) (low_at g)) p (length g) (length g) = subst (λ (h : Option ℕ). IsFirstFound (low_cdf (2 ^ 56) (low_at g)) p (length g) h) none found in
+          beyond_below (aggregates_of plan) g p _ (plan.cells - 1) units t.encloses (omega (arith, t.cells, (few_cells plan valid).0))
+          (last.before (plan.cells - 1) (omega (arith, t.cells, (few_cells plan valid).0))) narrow;
+    }

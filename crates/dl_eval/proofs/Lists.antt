@@ -1,0 +1,29 @@
+-- Lists made one by one from another list.
+use Rattle.std.proofs.Common.{ℕ, zero, suc, ◌≡◌, ◌+◌, ◌<◌, List, [], ◌∷◌, ◌++◌, length, get_or, arith, inl, inr, sym, ap, subst, subst₂, ◌∙◌}
+use Rattle.std.specs.Prelude.{All, zip}
+use Rattle.std.proofs.lemmas.Bool.{cases_lt}
+use Rattle.std.proofs.lemmas.List.{get_or_default, get_or_append_left, get_or_push, length-append}
+
+-- one item more
+pub pushed_length : {R : Type 0} (ys zs : List R) (i : ℕ) (y : R) → length ys ≡ i → zs ≡ ys ++ y ∷ [] → length zs ≡ i + 1
+pushed_length ys zs i y many pushed = ap (λ t. length t) pushed ∙ length-append ys (y ∷ []) ∙ omega (arith, many)
+
+-- one more
+pub each_next : {A R : Type 0} (P : A → R → Type 0) (xs : List A) (ys zs : List R) (i : ℕ) (x : A) (y : R) → length ys ≡ i
+    → ((j : ℕ) (a : A) (r : R) → j < i → P (get_or xs j a) (get_or ys j r)) → zs ≡ ys ++ y ∷ [] → i < length xs → x ≡ get_or xs i x → P x y
+    → (j : ℕ) (a : A) (r : R) → j < i + 1 → P (get_or xs j a) (get_or zs j r)
+each_next P xs ys zs i x y many before pushed inside is here j a r below = elim (cases_lt j i) [
+  | inl earlier ↦ subst (λ t. P (get_or xs j a) t) (sym (ap (λ t. get_or t j r) pushed ∙ get_or_append_left ys (y ∷ []) r j (omega (arith, earlier, many)))) (before j a r earlier)
+  | inr later ↦
+      let last : j ≡ i = omega (arith, later, below) in
+      let same : x ≡ get_or xs j a = is ∙ get_or_default xs i x a inside ∙ ap (λ k. get_or xs k a) (sym last) in
+      subst₂ P same (sym (ap (λ t. get_or t j r) pushed ∙ get_or_push ys y r j (omega (arith, last, many)))) here
+]
+
+-- all of them
+pub all_pairs : {A R : Type 0} (P : A → R → Type 0) (xs : List A) (ys : List R) → length ys ≡ length xs
+    → ((j : ℕ) (a : A) (r : R) → j < length xs → P (get_or xs j a) (get_or ys j r)) → All (λ pair. P pair.0 pair.1) (zip xs ys)
+all_pairs P [] ys same each k d inside = absurd (omega (arith, inside))
+all_pairs P (x ∷ xs) [] same each k d inside = absurd (omega (arith, same))
+all_pairs P (x ∷ xs) (y ∷ ys) same each zero d inside = each 0 x y (omega arith)
+all_pairs P (x ∷ xs) (y ∷ ys) same each (suc k) d inside = all_pairs P xs ys (omega (arith, same)) (λ j a r below. each (suc j) a r (omega (arith, below))) k d (omega (arith, inside))

@@ -1,0 +1,64 @@
+-- Numbers that are printed from an interval.
+use Rattle.std.proofs.Common.{ℕ, ◌≡◌, ◌+◌, ◌*◌, ◌/◌, ◌^◌, ◌<◌, ◌≤◌, arith}
+use Rattle.std.specs.Int.{div_ceil}
+use Rattle.std.proofs.Math.Nat.{mul-le-mul_right, le_of_mul-le-mul_right}
+use Rattle.std.proofs.lemmas.Nat.{pow_pos}
+use Rattle.std.proofs.lemmas.Grind.{div_ceil_times}
+use Rattle.dl_exact.specs.Fraction.{Fraction, ◌over◌, ◌≤ℚ◌}
+use Rattle.dl_exact.proofs.Laws.{le_refl}
+use Rattle.dl_exact.proofs.RoundingLaws.{div_ceil_least}
+use Rattle.dl_iv.specs.declared.interval.Iv.{Iv}
+use Rattle.dl_iv.specs.Enclosure.{LiesIn}
+use Rattle.dl_iv.proofs.FractionLaws.{over_le_over}
+use Rattle.dl_grid.proofs.WidthLaws.{up_quotient}
+use Rattle.dl_model.specs.Program.{Quantity}
+use Rattle.dl_model.proofs.Declared.{at_least_wider, at_most_wider}
+use Rattle.dl_plan.specs.declared.plan.Plan.{Plan}
+use Rattle.dl_report.specs.declared.report.End.TheVariants.{Number}
+use Rattle.dl_report.specs.declared.report.Row.{Row}
+use Rattle.dl_budget.specs.Asks.{in_digits}
+use Rattle.dl_eval.specs.Rows.{S as one, Declares, AreEnds}
+
+floor_least : (l S : ℕ) → 0 < S → l < (l / S + 1) * S
+floor_least l S pos = grind arith
+
+floor_below : (l S : ℕ) → 0 < S → l / S * S ≤ l
+floor_below l S pos = grind arith
+
+ceiling_apart : (S l h b : ℕ) → 0 < S → h ≤ l + b → div_ceil h S ≤ l / S + (1 + div_ceil b S)
+ceiling_apart S l h b pos apart = div_ceil_least h S (l / S + (1 + div_ceil b S)) pos (omega (arith, apart, floor_least l S pos, (div_ceil_times b S pos).0))
+
+floor_ceiling : (S l h : ℕ) → 0 < S → l ≤ h → l / S ≤ div_ceil h S
+floor_ceiling S l h pos order =
+    let scaled : l / S * S ≤ div_ceil h S * S = omega (arith, order, floor_below l S pos, (div_ceil_times h S pos).0) in
+    le_of_mul-le-mul_right {k = S} scaled pos
+
+printed_apart : (S lo hi budget d : ℕ) → 0 < S → hi ≤ lo + budget → div_ceil (hi * 10 ^ d) S ≤ lo * 10 ^ d / S + in_digits S budget d
+unfolding in_digits
+printed_apart S lo hi budget d pos apart =
+    omega (arith, up_quotient (budget * 10 ^ d) S pos, ceiling_apart S (lo * 10 ^ d) (hi * 10 ^ d) (budget * 10 ^ d) pos (omega (arith, mul-le-mul_right (10 ^ d) apart)))
+
+pub low_lies : (value : Iv 56) → LiesIn (value.lo over 2 ^ 56) value
+low_lies value = record { low = le_refl (value.lo over 2 ^ 56); high = over_le_over value.lo value.hi (2 ^ 56) (pow_pos 56) value.ordered }
+
+pub high_lies : (value : Iv 56) → LiesIn (value.hi over 2 ^ 56) value
+high_lies value = record { low = over_le_over value.lo value.hi (2 ^ 56) (pow_pos 56) value.ordered; high = le_refl (value.hi over 2 ^ 56) }
+
+-- printed numbers are good ends
+pub are_ends : (value : Iv 56) (d low high : ℕ) (row : Row) → row.low ≡ Number low → row.high ≡ Number high
+    → low ≡ value.lo * 10 ^ d / 2 ^ 56 → high ≡ div_ceil (value.hi * 10 ^ d) (2 ^ 56)
+    → ((x : Fraction) → LiesIn x value → low over 10 ^ d ≤ℚ x) → ((x : Fraction) → LiesIn x value → x ≤ℚ high over 10 ^ d)
+    → (plan : Plan) (quantity : Quantity) (budget : ℕ) → Declares plan quantity (value.lo over one) (value.hi over one) → value.hi ≤ value.lo + budget
+    → AreEnds plan quantity d (in_digits one budget d) row
+are_ends value d low high row is_low is_high of_low of_high below above plan quantity budget holds apart = record {
+  low = low;
+  high = high;
+  is_low = is_low;
+  is_high = is_high;
+  order = omega (arith, of_low, of_high, floor_ceiling (2 ^ 56) (value.lo * 10 ^ d) (value.hi * 10 ^ d) (pow_pos 56) (mul-le-mul_right (10 ^ d) value.ordered));
+  narrow = omega (arith, of_low, of_high, printed_apart (2 ^ 56) value.lo value.hi budget d (pow_pos 56) apart);
+  holds = (
+    at_least_wider _ _ _ _ holds.0 (below (value.lo over 2 ^ 56) (low_lies value)),
+    at_most_wider _ _ _ _ holds.1 (above (value.hi over 2 ^ 56) (high_lies value)),
+  );
+}

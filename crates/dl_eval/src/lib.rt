@@ -1,0 +1,15 @@
+//! The answers to the asks about a plan: one row for each ask, with two ends that hold the declared
+//! value, as narrow as the width rule says; or the first ask that is refused.
+#![tactic(auto)]
+
+mod admission;
+mod evaluation;
+mod fault;
+mod mean;
+mod rows;
+#[cfg(test)]
+mod tests;
+mod total;
+
+pub use evaluation::evaluate;
+pub use fault::EvalFault;
