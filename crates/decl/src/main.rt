@@ -1,4 +1,6 @@
-//! `decl`: reads a DecL text from standard input and writes an enclosed answer to standard output.
+//! `decl`: answers asks about a DecL text. The words name the asks and the form of the report. The
+//! text comes from standard input, the report goes to standard output, and the text of a fault to
+//! standard error. The program ends with the number of the status.
 #![tactic(auto)]
 
 use dl_outside::{StdSink, StdSource};

@@ -1,5 +1,2 @@
-mod Digits
 mod ReplyLaws
 mod RunLaws
-mod SimpleLists
-mod Values

@@ -4,10 +4,11 @@ use Rattle.std.proofs.lemmas.List.{append-nil}
 use Rattle.std.specs.Io.KnownBytes.{Appends}
 use Rattle.dl_outside.specs.Bytes.{AppendsPartOf}
 use Rattle.dl_lexer.specs.declared.token.Token.{Token}
+use Rattle.dl_words.specs.declared.fault.UsageFault.{UsageFault}
 use Rattle.dl_top.specs.declared.status.Status.{Status}
 use Rattle.dl_top.specs.declared.status.Status.TheVariants as statuses
 use Rattle.dl_top.specs.declared.fault.Fault.{Fault}
-use Rattle.dl_top.specs.declared.fault.Fault.TheVariants.{Usage, Read, TooLong, BadByte, Syntax, Continuous, NotBuilt}
+use Rattle.dl_top.specs.declared.fault.Fault.TheVariants.{Usage, Read, TooLong, BadByte, Syntax, Continuous, NotBuilt, Typing, AskBeyond, UnknownUnit, TooWide}
 use Rattle.dl_top.specs.Faults.{status_of, fault_line}
 use Rattle.dl_top.specs.Statuses.{IsAnswerEnd}
 use Rattle.dl_top.specs.Answers.{Answers, Refuses, IsAccepted, refused}
@@ -35,23 +36,31 @@ message words input fault text status out err err' is e gains = record {
   err_gains = gains;
 }
 
-read_of_status : (fault : Fault) → status_of fault ≡ statuses.ReadFault → fault ≡ Read
-read_of_status Usage e = grind (arith, e)
+pub read_of_status : (fault : Fault) → status_of fault ≡ statuses.ReadFault → fault ≡ Read
+read_of_status (Usage of) e = grind (arith, e)
 read_of_status Read e = refl
 read_of_status TooLong e = grind (arith, e)
 read_of_status (BadByte at) e = grind (arith, e)
 read_of_status (Syntax k) e = grind (arith, e)
 read_of_status (Continuous k) e = grind (arith, e)
 read_of_status NotBuilt e = grind (arith, e)
+read_of_status (Typing of) e = grind (arith, e)
+read_of_status (AskBeyond i) e = grind (arith, e)
+read_of_status (UnknownUnit i) e = grind (arith, e)
+read_of_status (TooWide i width) e = grind (arith, e)
 
-pub usage_of_status : (fault : Fault) → status_of fault ≡ statuses.Usage → fault ≡ Usage
-usage_of_status Usage e = refl
-usage_of_status Read e = grind (arith, e)
-usage_of_status TooLong e = grind (arith, e)
-usage_of_status (BadByte at) e = grind (arith, e)
-usage_of_status (Syntax k) e = grind (arith, e)
-usage_of_status (Continuous k) e = grind (arith, e)
-usage_of_status NotBuilt e = grind (arith, e)
+pub usage_of_status : (fault : Fault) → status_of fault ≡ statuses.Usage → (of : UsageFault) × (fault ≡ Usage of)
+usage_of_status (Usage of) e = (of, refl)
+usage_of_status Read e = absurd (grind (arith, e))
+usage_of_status TooLong e = absurd (grind (arith, e))
+usage_of_status (BadByte at) e = absurd (grind (arith, e))
+usage_of_status (Syntax k) e = absurd (grind (arith, e))
+usage_of_status (Continuous k) e = absurd (grind (arith, e))
+usage_of_status NotBuilt e = absurd (grind (arith, e))
+usage_of_status (Typing of) e = absurd (grind (arith, e))
+usage_of_status (AskBeyond i) e = absurd (grind (arith, e))
+usage_of_status (UnknownUnit i) e = absurd (grind (arith, e))
+usage_of_status (TooWide i width) e = absurd (grind (arith, e))
 
 pub part : (words : List (List ℕ)) (input : List ℕ) (fault : Fault) (text : List ℕ) (err err' : Option (List ℕ)) {ReadFailed : Type 0}
     → IsTold words input fault text → (fault ≡ Read → ReadFailed) → AppendsPartOf err err' text → PartOfMessage words input ReadFailed err err'

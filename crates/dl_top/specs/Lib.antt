@@ -1,8 +1,6 @@
-pub mod Words
-pub mod Lines
 pub mod Statuses
 pub mod Faults
-pub mod Simple
+pub mod Built
 pub mod Reports
 pub mod Answers
 pub mod Replies

@@ -2,6 +2,7 @@
 use Rattle.std.specs.Prelude.{◌≡◌, ◌≢◌, ℕ, List, [], ⊤}
 use Rattle.dl_lexer.specs.declared.token.Token.{Token}
 use Rattle.dl_top.specs.declared.fault.Fault.{Fault}
+use Rattle.dl_words.specs.declared.fault.UsageFault.{UsageFault}
 use Rattle.dl_top.specs.declared.fault.Fault.TheVariants.{Usage, Read}
 use Rattle.dl_top.specs.declared.reply.Reply.{Reply}
 use Rattle.dl_top.specs.declared.reply.Reply.TheVariants.{Report, Refusal, OutOfMemory}
@@ -30,13 +31,13 @@ IsReadFault OutOfMemory = ⊥
 -- a refusal of the words
 abbrev pub IsUsage : Reply → Type 0
 IsUsage (Report text) = ⊥
-IsUsage (Refusal fault text) = fault ≡ Usage
+IsUsage (Refusal fault text) = (of : UsageFault) × (fault ≡ Usage of)
 IsUsage OutOfMemory = ⊥
 
 -- a report, or a refusal of the text: neither of the words nor for a failed read
 abbrev pub IsOfText : Reply → Type 0
 IsOfText (Report text) = ⊤
-IsOfText (Refusal fault text) = (fault ≢ Usage) × (fault ≢ Read)
+IsOfText (Refusal fault text) = ((of : UsageFault) → fault ≢ Usage of) × (fault ≢ Read)
 IsOfText OutOfMemory = ⊤
 
 -- no fault but a failed read

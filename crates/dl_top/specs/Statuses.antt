@@ -1,49 +1,59 @@
 -- How a call ends, and with which number.
 use Rattle.std.specs.Prelude.{ℕ, ⊤}
 use Rattle.dl_top.specs.declared.status.Status.{Status}
-use Rattle.dl_top.specs.declared.status.Status.TheVariants.{Done, Usage, Refused, ReadFault, WriteFault, OutOfMemory}
+use Rattle.dl_top.specs.declared.status.Status.TheVariants.{Done, Usage, Refused, TooWide, ReadFault, WriteFault, OutOfMemory, AskFault}
 
 -- the number that the program ends with
 abbrev pub code_of : Status → ℕ
 code_of Done = 0
 code_of Usage = 2
 code_of Refused = 3
+code_of TooWide = 4
 code_of ReadFault = 5
 code_of WriteFault = 6
 code_of OutOfMemory = 7
+code_of AskFault = 8
 
 -- a report or the text of a fault was written whole
 abbrev pub IsWritten : Status → Type 0
 IsWritten Done = ⊤
 IsWritten Usage = ⊤
 IsWritten Refused = ⊤
+IsWritten TooWide = ⊤
 IsWritten ReadFault = ⊤
 IsWritten WriteFault = ⊥
 IsWritten OutOfMemory = ⊥
+IsWritten AskFault = ⊤
 
 -- the text of a fault was written whole
 abbrev pub IsRefusal : Status → Type 0
 IsRefusal Done = ⊥
 IsRefusal Usage = ⊤
 IsRefusal Refused = ⊤
+IsRefusal TooWide = ⊤
 IsRefusal ReadFault = ⊤
 IsRefusal WriteFault = ⊥
 IsRefusal OutOfMemory = ⊥
+IsRefusal AskFault = ⊤
 
 -- the words were not understood, unless the fault's text could not be made or written
 abbrev pub IsUsageEnd : Status → Type 0
 IsUsageEnd Done = ⊥
 IsUsageEnd Usage = ⊤
 IsUsageEnd Refused = ⊥
+IsUsageEnd TooWide = ⊥
 IsUsageEnd ReadFault = ⊥
 IsUsageEnd WriteFault = ⊤
 IsUsageEnd OutOfMemory = ⊤
+IsUsageEnd AskFault = ⊥
 
--- neither the words nor the text were at fault
+-- neither the words, nor the text, nor the asks were at fault
 abbrev pub IsAnswerEnd : Status → Type 0
 IsAnswerEnd Done = ⊤
 IsAnswerEnd Usage = ⊥
 IsAnswerEnd Refused = ⊥
+IsAnswerEnd TooWide = ⊥
 IsAnswerEnd ReadFault = ⊤
 IsAnswerEnd WriteFault = ⊤
 IsAnswerEnd OutOfMemory = ⊤
+IsAnswerEnd AskFault = ⊥

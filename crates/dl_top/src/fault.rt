@@ -1,18 +1,21 @@
 //! Why no report is written, and what is printed then.
 
-ghost use Rattle.std.specs.Prelude.{◌≡◌, ◌≤◌, ◌++◌, IfOk, OnOk, length, slice_get};
+ghost use Rattle.std.specs.Prelude.{◌≡◌, ◌≤◌, ◌++◌, IfOk, OnOk, length, slice_get, codes};
+ghost use Rattle.std.specs.Fmt.{decimal};
 ghost use Rattle.dl_parser.specs.Placed.{AllInside};
-ghost use Rattle.dl_top.specs.Faults.{status_of, fault_line, place_text, token_start, token_text, reason, HasPlace};
+ghost use Rattle.dl_top.specs.Faults.{status_of, fault_line, place_text, token_start, token_text, ask_text, usage_text, typing_text, reason, HasPlace};
 
 use crate::status::Status;
 use dl_lexer::{Token, line_col};
+use dl_types::TypeFault;
+use dl_words::UsageFault;
 use std::alloc::{AllocError, Global};
 
 /// Why no report is written.
 #[derive(Clone, Copy, Debug, PartialEq, Eq)]
 pub enum Fault {
-    /// The words are not `run` and one ask.
-    Usage,
+    /// The words are no command line, or one of them is no ask.
+    Usage(UsageFault),
     /// A read of the input failed.
     Read,
     /// The input has more than 1,048,576 bytes.
@@ -23,8 +26,16 @@ pub enum Fault {
     Syntax(u32),
     /// The same, and the next token names a continuous severity in the place of a listed one.
     Continuous(u32),
-    /// The program is a good one, of a kind that is not answered yet.
+    /// The words or the program are good ones, of a kind that is not answered yet.
     NotBuilt,
+    /// The program breaks a typing rule.
+    Typing(TypeFault),
+    /// This ask is the first that lies beyond the grid.
+    AskBeyond(u32),
+    /// This ask is the first that names no unit.
+    UnknownUnit(u32),
+    /// This ask is the first that needs more width than the settings give, and it needs this width.
+    TooWide(u32, u128),
 }
 
 impl Fault {
@@ -33,8 +44,10 @@ impl Fault {
         ensures { result ≡ status_of self }
     {
         match self {
-            Fault::Usage => Status::Usage,
+            Fault::Usage(_) => Status::Usage,
             Fault::Read => Status::ReadFault,
+            Fault::AskBeyond(_) | Fault::UnknownUnit(_) => Status::AskFault,
+            Fault::TooWide(..) => Status::TooWide,
             _ => Status::Refused,
         }
     }
@@ -79,6 +92,62 @@ fn push_token(text: &mut Vec<u8>, source: &[u8], tokens: &[Token], k: u32) -> Re
     }
 }
 
+/// Appends the number of an ask.
+fn push_ask(alloc: Global, text: &mut Vec<u8>, ask: u32) -> Result<(), AllocError>
+    ensures { OnOk result (text.new.items ≡ text.old.items ++ ask_text ask) }
+{
+    text.extend_from_slice(b"ask ")?;
+    text.extend_from_slice(ask.to_string(alloc)?.as_bytes())?;
+    text.extend_from_slice(b": ")
+}
+
+/// Appends what is wrong with the words.
+fn push_usage(alloc: Global, text: &mut Vec<u8>, usage: UsageFault) -> Result<(), AllocError>
+    ensures { OnOk result (text.new.items ≡ text.old.items ++ usage_text usage) }
+{
+    match usage {
+        UsageFault::Line => text.extend_from_slice(b"usage"),
+        UsageFault::Ask(ask) => {
+            push_ask(alloc, text, ask)?;
+            text.extend_from_slice(b"not an ask")
+        }
+    }
+}
+
+/// Appends a broken rule: its place, its unit, its number and its name.
+fn push_typing(
+    alloc: Global,
+    text: &mut Vec<u8>,
+    source: &[u8],
+    typing: TypeFault,
+) -> Result<(), AllocError>
+    requires short { length source.now ≤ 1048576 }
+    ensures { OnOk result (text.new.items ≡ text.old.items ++ typing_text typing source.now) }
+{
+    // a place past the end is the end, and has its line and column
+    push_place(
+        alloc,
+        text,
+        source,
+        typing.span.start.min(source.len() as u32),
+    )?;
+    text.extend_from_slice(b"unit ")?;
+    text.extend_from_slice(typing.unit.to_string(alloc)?.as_bytes())?;
+    text.extend_from_slice(b": rule ")?;
+    text.extend_from_slice(typing.rule.number().to_string(alloc)?.as_bytes())?;
+    text.extend_from_slice(b" ")?;
+    text.extend_from_slice(typing.rule.name().as_bytes())
+}
+
+/// Appends the width that an ask needs.
+fn push_width(alloc: Global, text: &mut Vec<u8>, ask: u32, width: u128) -> Result<(), AllocError>
+    ensures { OnOk result (text.new.items ≡ text.old.items ++ ask_text ask ++ codes "needs width " ++ decimal width) }
+{
+    push_ask(alloc, text, ask)?;
+    text.extend_from_slice(b"needs width ")?;
+    text.extend_from_slice(width.to_string(alloc)?.as_bytes())
+}
+
 /// Appends what is wrong.
 fn push_reason(
     alloc: Global,
@@ -93,7 +162,7 @@ fn push_reason(
     ensures { OnOk result (text.new.items ≡ text.old.items ++ reason fault source.now tokens.now) }
 {
     match fault {
-        Fault::Usage => text.extend_from_slice(b"usage"),
+        Fault::Usage(usage) => push_usage(alloc, text, usage),
         Fault::Read => text.extend_from_slice(b"the input could not be read"),
         Fault::TooLong => text.extend_from_slice(b"the input has more than 1048576 bytes"),
         Fault::BadByte(at) => {
@@ -110,6 +179,16 @@ fn push_reason(
             push_token(text, source, tokens, k)
         }
         Fault::NotBuilt => text.extend_from_slice(b"not built yet"),
+        Fault::Typing(typing) => push_typing(alloc, text, source, typing),
+        Fault::AskBeyond(ask) => {
+            push_ask(alloc, text, ask)?;
+            text.extend_from_slice(b"beyond the grid")
+        }
+        Fault::UnknownUnit(ask) => {
+            push_ask(alloc, text, ask)?;
+            text.extend_from_slice(b"no such unit")
+        }
+        Fault::TooWide(ask, width) => push_width(alloc, text, ask, width),
     }
 }
 

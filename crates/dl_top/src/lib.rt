@@ -1,27 +1,23 @@
 //! The top call: from the words and the bytes read to the bytes written.
 //!
-//! [`run`] answers one ask about one program. Everything that it writes is made in memory first, and
-//! goes to one of two sinks: a report to the one, the text of a fault to the other.
+//! [`run`] answers the asks of its words about one program. Everything that it writes is made in memory
+//! first, and goes to one of two sinks: a report to the one, the text of a fault to the other.
 #![tactic(auto)]
 
+mod built;
 mod fault;
-mod print;
 mod reply;
-mod simple;
 mod status;
 #[cfg(test)]
 mod tests;
-mod value;
-mod words;
 
 ghost use Rattle.std.specs.Prelude.{◌≡◌, ◌⊎◌, ℕ, List, [], IfSome, map};
 ghost use Rattle.std.specs.Io.KnownBytes.{Appends};
 ghost use Rattle.std.specs.String.{string_bytes};
 ghost use Rattle.dl_outside.specs.Faults.{Rose};
-ghost use Rattle.dl_top.specs.Words.{AskNothing};
 ghost use Rattle.dl_top.specs.Faults.{fault_line};
 ghost use Rattle.dl_top.specs.Statuses.{IsWritten, IsRefusal, IsUsageEnd, IsAnswerEnd};
-ghost use Rattle.dl_top.specs.Answers.{AskSome, IsAccepted};
+ghost use Rattle.dl_top.specs.Answers.{HasFault, AskSome, IsAccepted};
 ghost use Rattle.dl_top.specs.Runs.{Answered, PartOfReport, PartOfMessage};
 
 use crate::reply::{Reply, reply_to};
@@ -39,12 +35,13 @@ pub fn run<R: Source, O: Sink, E: Sink>(
     out: &mut O,
     err: &mut E,
 ) -> Status
-    // What is written is the answer to the words and the input, where the source tells its bytes:
-    // a report whose interval holds the declared probability, or the first fault.
+    // What is written is the answer to the words and the input, where the source tells its bytes: a
+    // report in which each interval holds the declared value, each bracket the declared quantile, and
+    // each is as narrow as asked; or the first fault, with the width that is needed where that is it.
     ensures answer { IfSome (R.left src.old) (λ input. IsWritten result →
         Answered (map string_bytes words.now) input result (O.held out.old) (O.held out.new) (E.held err.old) (E.held err.new)) }
 
-    // Words that ask for something and a text that declares a simple program are answered.
+    // Words that ask for something and a text that means a plan are answered.
     ensures complete { IfSome (R.left src.old) (λ input.
         IsAccepted (map string_bytes words.now) input → IsAnswerEnd result) }
 
@@ -54,8 +51,8 @@ pub fn run<R: Source, O: Sink, E: Sink>(
     ensures memory { result ≡ Status.OutOfMemory → (out.new ≡ out.old) × (err.new ≡ err.old) }
 
     // A fault of the words comes from the words alone, and the source is not read.
-    ensures usage { result ≡ Status.Usage → AskNothing (map string_bytes words.now) }
-    ensures unread { AskNothing (map string_bytes words.now) → IsUsageEnd result × (src.new ≡ src.old) }
+    ensures usage { result ≡ Status.Usage → HasFault (map string_bytes words.now) }
+    ensures unread { HasFault (map string_bytes words.now) → IsUsageEnd result × (src.new ≡ src.old) }
 
     // A failed read has its cause, and is told.
     ensures read_cause { result ≡ Status.ReadFault → Rose (R.faults src.old) (R.faults src.new) }

@@ -1,25 +1,30 @@
 //! What is answered, before any of it is written.
 
-ghost use Rattle.std.specs.Prelude.{◌≡◌, ℕ, ◌<◌, ◌≤◌, List, [], IfSome, IfOk, map, length};
+ghost use Rattle.std.specs.Prelude.{◌≡◌, ◌⊎◌, ℕ, ◌<◌, ◌≤◌, List, [], None, All, IsUtf8, IfSome, IfOk, map, length};
 ghost use Rattle.std.specs.String.{string_bytes};
 ghost use Rattle.dl_outside.specs.Faults.{Rose};
-ghost use Rattle.dl_top.specs.Words.{Asks, AskNothing};
-ghost use Rattle.dl_top.specs.Simple.{AreAllowed};
+ghost use Rattle.dl_ast.specs.WellFormed.{IsWellFormed};
+ghost use Rattle.dl_plan.specs.Ranges.{AreInRange};
+ghost use Rattle.dl_plan.specs.Valid.{IsValid};
 ghost use Rattle.dl_parser.specs.Placed.{AllInside};
 ghost use Rattle.dl_top.specs.Faults.{HasPlace};
-ghost use Rattle.dl_top.specs.Reports.{Reports};
-ghost use Rattle.dl_top.specs.Answers.{AskSome, HasTokens, SpellsProgram};
+ghost use Rattle.dl_report.specs.Objects.{AsksAreText};
+ghost use Rattle.dl_top.specs.Built.{AreBuilt, IsBuiltProgram};
+ghost use Rattle.dl_top.specs.Reports.{written};
+ghost use Rattle.dl_top.specs.Answers.{HasFault, AskSome, Asks, HasTokens, SpellsProgram, Means};
 ghost use Rattle.dl_top.specs.Replies.{IsReply, Tells, IsUsage, IsReadFault, IsOfText};
 
+use crate::built::{are_built, is_built_program};
 use crate::fault::{Fault, fault_text};
-use crate::print::answer_line;
-use crate::simple::{Lists, simple_lists};
-use crate::value::point_ends;
-use crate::words::{Ask, ask_of};
 use dl_ast::Program;
+use dl_eval::{EvalFault, evaluate};
 use dl_lexer::{LexFault, Token, lex};
 use dl_outside::{ReadEnd, Source, read_all};
 use dl_parser::{ParseFault, parse};
+use dl_plan::{Format, Plan, Settings};
+use dl_report::{Report, csv, json, text};
+use dl_types::{CheckFault, check};
+use dl_words::{WordsFault, read_words};
 use std::alloc::{AllocError, Global};
 
 /// The most bytes of an input.
@@ -49,63 +54,118 @@ fn refusal(alloc: Global, fault: Fault, source: &[u8], tokens: &[Token]) -> Repl
     }
 }
 
-/// The line that answers an ask.
-fn report(alloc: Global, lists: &Lists, ask: &Ask<'_>) -> Result<Vec<u8>, AllocError>
-    requires counts { AreAllowed 256 lists.now.counts.items }
-    requires amounts { AreAllowed 1048576 lists.now.amounts.items }
-    requires amount { ask.now.amount < 1024 }
-    ensures { IfOk result (λ text.
-        Reports lists.now.counts.items lists.now.amounts.items ask.now.word.now ask.now.amount text.items) }
+/// The report in the form that the settings name.
+fn in_form(
+    alloc: Global,
+    report: &Report,
+    plan: &Plan,
+    settings: &Settings,
+) -> Result<Vec<u8>, AllocError>
+    requires digits { report.now.digits ≤ 9 }
+    requires asks { AsksAreText report.now }
+    ensures { IfOk result (λ text. text.items ≡ written settings.now.format plan.now report.now) }
 {
-    let (low, high) = point_ends(alloc, lists, ask.amount)?;
-    answer_line(alloc, ask.word, low, high)
-}
-
-/// The answer to an ask about a program.
-fn reply_to_program(alloc: Global, ask: &Ask<'_>, program: &Program) -> Reply
-    requires amount { ask.now.amount < 1024 }
-    ensures reply { (words : List (List ℕ)) (input : List ℕ) → Asks words ask.now.word.now ask.now.amount
-        → SpellsProgram input program.now → IsReply words input result }
-    ensures of_text { IsOfText result }
-{
-    match simple_lists(alloc, program) {
-        Ok(Some(lists)) => match report(alloc, &lists, ask) {
-            Ok(text) => Reply::Report(text),
-            Err(_) => Reply::OutOfMemory,
-        },
-        Ok(None) => refusal(alloc, Fault::NotBuilt, &[], &[]),
-        Err(_) => Reply::OutOfMemory,
+    match settings.format {
+        Format::Plain => text(alloc, report),
+        Format::Csv => csv(alloc, report),
+        Format::Json => json(alloc, report, plan.bs, plan.cells),
     }
 }
 
-/// The answer to an ask about a text with these tokens.
-fn reply_to_tokens(alloc: Global, ask: &Ask<'_>, input: &[u8], tokens: &[Token]) -> Reply
-    requires amount { ask.now.amount < 1024 }
+/// The answer to the asks about a plan.
+fn reply_to_plan(alloc: Global, settings: &Settings, plan: &Plan) -> Reply
+    requires ranges { AreInRange settings.now }
+    requires built { AreBuilt settings.now }
+    requires texts { All (λ asked. IsUtf8 asked.text) settings.now.asks }
+    requires valid { IsValid plan.now }
+    requires plain { All (λ u. u.cede ≡ None) plan.now.units }
+    ensures reply { (words : List (List ℕ)) (input : List ℕ) → Asks words settings.now
+        → Means input settings.now plan.now → IsReply words input result }
+    ensures of_text { IsOfText result }
+{
+    match evaluate(alloc, plan, settings) {
+        Ok(report) => match in_form(alloc, &report, plan, settings) {
+            Ok(text) => Reply::Report(text),
+            Err(_) => Reply::OutOfMemory,
+        },
+        Err(EvalFault::AskBeyond(ask)) => refusal(alloc, Fault::AskBeyond(ask), &[], &[]),
+        Err(EvalFault::UnknownUnit(ask)) => refusal(alloc, Fault::UnknownUnit(ask), &[], &[]),
+        Err(EvalFault::TooWide(ask, width)) => {
+            refusal(alloc, Fault::TooWide(ask, width), &[], &[])
+        }
+        Err(EvalFault::OutOfMemory) => Reply::OutOfMemory,
+    }
+}
+
+/// The answer to the asks about a program.
+fn reply_to_program(alloc: Global, settings: &Settings, program: &Program, input: &[u8]) -> Reply
+    requires ranges { AreInRange settings.now }
+    requires built { AreBuilt settings.now }
+    requires texts { All (λ asked. IsUtf8 asked.text) settings.now.asks }
+    requires formed { IsWellFormed program.now }
+    requires short { length input.now ≤ 1048576 }
+    ensures reply { (words : List (List ℕ)) → Asks words settings.now
+        → SpellsProgram input.now program.now → IsReply words input.now result }
+    ensures of_text { IsOfText result }
+{
+    if !is_built_program(program) {
+        return refusal(alloc, Fault::NotBuilt, &[], &[]);
+    }
+    match check(alloc, program, settings) {
+        Ok(plan) => reply_to_plan(alloc, settings, &plan),
+        Err(CheckFault::Typing(fault)) => refusal(alloc, Fault::Typing(fault), input, &[]),
+        Err(CheckFault::OutOfMemory) => Reply::OutOfMemory,
+    }
+}
+
+/// The answer to the asks about a text with these tokens.
+fn reply_to_tokens(alloc: Global, settings: &Settings, input: &[u8], tokens: &[Token]) -> Reply
+    requires ranges { AreInRange settings.now }
+    requires built { AreBuilt settings.now }
+    requires texts { All (λ asked. IsUtf8 asked.text) settings.now.asks }
     requires tokens { HasTokens input.now tokens.now }
-    ensures reply { (words : List (List ℕ)) → Asks words ask.now.word.now ask.now.amount
-        → IsReply words input.now result }
+    ensures reply { (words : List (List ℕ)) → Asks words settings.now → IsReply words input.now result }
     ensures of_text { IsOfText result }
 {
     match parse(alloc, input, tokens) {
-        Ok(program) => reply_to_program(alloc, ask, &program),
+        Ok(program) => reply_to_program(alloc, settings, &program, input),
         Err(ParseFault::Syntax(k)) => refusal(alloc, Fault::Syntax(k), input, tokens),
         Err(ParseFault::Continuous(k)) => refusal(alloc, Fault::Continuous(k), input, tokens),
         Err(ParseFault::OutOfMemory) => Reply::OutOfMemory,
     }
 }
 
-/// The answer to an ask about a text.
-fn reply_to_text(alloc: Global, ask: &Ask<'_>, input: &[u8]) -> Reply
-    requires amount { ask.now.amount < 1024 }
+/// The answer to the asks about a text.
+fn reply_to_text(alloc: Global, settings: &Settings, input: &[u8]) -> Reply
+    requires ranges { AreInRange settings.now }
+    requires built { AreBuilt settings.now }
+    requires texts { All (λ asked. IsUtf8 asked.text) settings.now.asks }
     requires short { length input.now ≤ 1048576 }
-    ensures reply { (words : List (List ℕ)) → Asks words ask.now.word.now ask.now.amount
-        → IsReply words input.now result }
+    ensures reply { (words : List (List ℕ)) → Asks words settings.now → IsReply words input.now result }
     ensures of_text { IsOfText result }
 {
     match lex(alloc, input) {
-        Ok(tokens) => reply_to_tokens(alloc, ask, input, tokens.as_slice()),
+        Ok(tokens) => reply_to_tokens(alloc, settings, input, tokens.as_slice()),
         Err(LexFault::BadByte(at)) => refusal(alloc, Fault::BadByte(at), input, &[]),
         Err(LexFault::OutOfMemory) => Reply::OutOfMemory,
+    }
+}
+
+/// The answer to the asks over what is left of the input.
+fn reply_to_input<R: Source>(alloc: Global, settings: &Settings, src: &mut R) -> Reply
+    requires ranges { AreInRange settings.now }
+    requires built { AreBuilt settings.now }
+    requires texts { All (λ asked. IsUtf8 asked.text) settings.now.asks }
+    ensures reply { IfSome (R.left src.old) (λ input. (words : List (List ℕ)) → Asks words settings.now → IsReply words input result) }
+    ensures read_cause { IsReadFault result → Rose (R.faults src.old) (R.faults src.new) }
+    ensures read_text { IsReadFault result → Tells result Fault.Read [] [] }
+    ensures not_usage { ¬ IsUsage result }
+{
+    match read_all(alloc, src, LONGEST) {
+        Ok(input) => reply_to_text(alloc, settings, input.as_slice()),
+        Err(ReadEnd::Fault) => refusal(alloc, Fault::Read, &[], &[]),
+        Err(ReadEnd::TooLong) => refusal(alloc, Fault::TooLong, &[], &[]),
+        Err(ReadEnd::OutOfMemory) => Reply::OutOfMemory,
     }
 }
 
@@ -114,21 +174,23 @@ pub fn reply_to<R: Source>(alloc: Global, words: &[String], src: &mut R) -> Repl
     ensures reply { IfSome (R.left src.old) (λ input. IsReply (map string_bytes words.now) input result) }
 
     // A fault of the words comes from them alone.
-    ensures usage { IsUsage result → AskNothing (map string_bytes words.now) }
-    ensures unread { AskNothing (map string_bytes words.now) → Tells result Fault.Usage [] [] × (src.new ≡ src.old) }
+    ensures usage { IsUsage result → HasFault (map string_bytes words.now) }
+    ensures unread { HasFault (map string_bytes words.now) → (IsUsage result ⊎ (result ≡ Reply.OutOfMemory)) × (src.new ≡ src.old) }
 
     // A failed read has its cause.
     ensures read_cause { IsReadFault result → Rose (R.faults src.old) (R.faults src.new) }
     ensures read_words { IsReadFault result → AskSome (map string_bytes words.now) }
     ensures read_text { IsReadFault result → Tells result Fault.Read [] [] }
 {
-    let Some(ask) = ask_of(words) else {
-        return refusal(alloc, Fault::Usage, &[], &[]);
-    };
-    match read_all(alloc, src, LONGEST) {
-        Ok(input) => reply_to_text(alloc, &ask, input.as_slice()),
-        Err(ReadEnd::Fault) => refusal(alloc, Fault::Read, &[], &[]),
-        Err(ReadEnd::TooLong) => refusal(alloc, Fault::TooLong, &[], &[]),
-        Err(ReadEnd::OutOfMemory) => Reply::OutOfMemory,
+    match read_words(alloc, words) {
+        Ok(settings) => {
+            if are_built(&settings) {
+                reply_to_input(alloc, &settings, src)
+            } else {
+                refusal(alloc, Fault::NotBuilt, &[], &[])
+            }
+        }
+        Err(WordsFault::Usage(fault)) => refusal(alloc, Fault::Usage(fault), &[], &[]),
+        Err(WordsFault::OutOfMemory) => Reply::OutOfMemory,
     }
 }

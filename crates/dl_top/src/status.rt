@@ -12,12 +12,16 @@ pub enum Status {
     Usage,
     /// The text was refused.
     Refused,
+    /// An ask needs more width than the settings give.
+    TooWide,
     /// A read of the input failed.
     ReadFault,
     /// A write failed, and a part of a text may have been written.
     WriteFault,
     /// There was no memory for the answer, and nothing was written.
     OutOfMemory,
+    /// An ask lies beyond the grid, or names no unit.
+    AskFault,
 }
 
 impl Status {
@@ -29,9 +33,11 @@ impl Status {
             Status::Done => 0,
             Status::Usage => 2,
             Status::Refused => 3,
+            Status::TooWide => 4,
             Status::ReadFault => 5,
             Status::WriteFault => 6,
             Status::OutOfMemory => 7,
+            Status::AskFault => 8,
         }
     }
 }

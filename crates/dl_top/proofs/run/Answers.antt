@@ -1,7 +1,9 @@
 -- A refusal, written whole or in part.
-use Rattle.std.proofs.Common.{refl, inr, sym, ◌∙◌}
+use Rattle.std.proofs.Common.{refl, inl, inr, sym, ◌∙◌, []}
+use Rattle.dl_top.specs.declared.status.Status.TheVariants.{Done}
+use Rattle.dl_top.specs.Answers.{Answers}
 use Rattle.dl_top.proofs.ReplyLaws.{told}
-use Rattle.dl_top.proofs.RunLaws.{IsTold, message, usage_of_status, part, ends_well}
+use Rattle.dl_top.proofs.RunLaws.{IsTold, message, read_of_status, usage_of_status, part, ends_well}
 use Rattle.dl_top.proofs.run.Goals as goal
 
 pub returns-in-Ok-write_all-clause-answer : goal.returns-in-Ok-write_all-clause-answer
@@ -21,4 +23,18 @@ returns-in-Refusal-clause-write_cause g c e = inr (
   refl,
   told _ {P = λ input. IsTold _ input c.in-Refusal.fault c.in-Refusal.text.items} c.in-Refusal.ensures.reply (λ input is.
       part _ input _ _ _ _ is c.in-Refusal.ensures.read_cause (rw c.as_slice-in-Refusal.ensures.value at c.in-Err-write_all.ensures.part)),
+)
+
+pub returns-in-Ok-write_all-clause-read_words : goal.returns-in-Ok-write_all-clause-read_words
+returns-in-Ok-write_all-clause-read_words g c e = c.in-Refusal.ensures.read_words (read_of_status c.in-Refusal.fault (sym c.status.ensures ∙ e))
+
+pub returns-in-Report-clause-write_cause : goal.returns-in-Report-clause-write_cause
+returns-in-Report-clause-write_cause g c e = inl (
+  c.in-Err.ensures.fault,
+  refl,
+  told _ {P = λ input. Answers _ input Done c.in-Report.text.items []} c.in-Report.ensures.reply (λ input answer. record {
+    report = c.in-Report.text.items;
+    answer = answer;
+    gains = rw c.as_slice.ensures.value at c.in-Err.ensures.part;
+  }),
 )

@@ -13,4 +13,4 @@ refusal-requires-clause-place c =
 pub returns-in-Err-BadByte-clause-reply : goal.returns-in-Err-BadByte-clause-reply
 returns-in-Err-BadByte-clause-reply c words asks =
     let bad : IsBad c.args.input.now c.in-Err-BadByte.at = c.lex.ensures.bad_byte c.in-Err-BadByte.at cc in
-    refused words _ _ _ c.refusal.result _ c.refusal.ensures refl (bad_byte (record { ask = _; amount = _; asks = asks }) _ c.requires.short bad)
+    refused words _ _ _ c.refusal.result _ c.refusal.ensures refl (bad_byte _ asks _ c.requires.short bad)
