@@ -14,8 +14,10 @@ $(PROGRAM): $(SOURCES)
 	@echo "decl: built $@"
 
 demo: $(PROGRAM)
-	@echo "decl: the probability that a die shows 3, from examples/die.decl"
-	$(PROGRAM) run pmf:3 < examples/die.decl
+	@echo "decl: two dice, from examples/dice.decl"
+	$(PROGRAM) run pmf:2 cdf:9 mean q:0.9 layer:5xs5 < examples/dice.decl
+	@echo "decl: a portfolio of two units, from examples/book.decl"
+	$(PROGRAM) run mean cdf:20 q:0.99 layer:10xs10 < examples/book.decl
 
 test:
 	rt ci
@@ -23,6 +25,8 @@ test:
 install: $(PROGRAM)
 	install -d "$(DESTDIR)$(PREFIX)/bin"
 	install -m 755 $(PROGRAM) "$(DESTDIR)$(PREFIX)/bin/decl"
+	install -d "$(DESTDIR)$(PREFIX)/share/man/man1"
+	install -m 644 docs/decl.1 "$(DESTDIR)$(PREFIX)/share/man/man1/decl.1"
 
 clean:
 	rm -rf crates/*/out
