@@ -3,3 +3,4 @@ pub mod Faults
 pub mod Bytes
 pub mod Memory
 pub mod System
+pub mod Steps

@@ -1,6 +1,6 @@
 //! A sink that keeps nothing.
 
-ghost use Rattle.std.specs.Prelude.{◌≡◌, ℕ, ◌≤◌, List, [], None, Option, length, OnErr};
+ghost use Rattle.std.specs.Prelude.{◌≡◌, ℕ, ◌≤◌, List, [], None, Option, length, Ok, OnErr};
 ghost use Rattle.std.specs.Io.{WritesAtMost};
 ghost use Rattle.std.specs.Io.KnownBytes.{WriteAppends};
 
@@ -21,6 +21,8 @@ impl Sink for DropSink {
     ghost held = { λ _. None };
 
     ghost faults = { λ _. 0 };
+
+    ghost write_step = { λ old result piece new. result ≡ Ok (length piece) };
 
     fn write(&mut self, piece: &[u8]) -> Result<usize, WriteFailed>
         ensures bound { WritesAtMost result piece.now }

@@ -8,12 +8,14 @@
 #![tactic(auto)]
 
 mod drop_sink;
+#[cfg(test)]
+mod endless;
 mod memory;
 mod schedule;
 mod system;
 mod whole;
 
-ghost use Rattle.std.specs.Prelude.{◌≡◌, ℕ, ◌≤◌, List, [], Option, OnErr};
+ghost use Rattle.std.specs.Prelude.{◌≡◌, ℕ, ◌≤◌, List, [], Option, Result, OnErr, OnOk};
 ghost use Rattle.std.specs.Io.{ReadsAtMost, WritesAtMost};
 ghost use Rattle.std.specs.Io.KnownBytes.{ReadConsumes, WriteAppends};
 ghost use Rattle.dl_outside.specs.Faults.{Rose};
@@ -36,11 +38,16 @@ pub struct WriteFailed;
 
 /// Where bytes come from.
 pub trait Source {
+    ghost use Rattle.dl_outside.specs.declared.ReadFailed.{ReadFailed};
+
     /// The bytes that are left, where the source tells them.
     ghost left: { Self → Option (List ℕ) };
 
-    /// How many reads have failed. It clings to the greatest `u64`.
+    /// How many reads have failed: no other read changes it. It clings to the greatest `u64`.
     ghost faults: { Self → ℕ };
+
+    /// What one read may do: the state before it, its answer, the buffer after it, and the state after it.
+    ghost read_step: { Self → Result ℕ ReadFailed → List ℕ → Self → Type 0 };
 
     /// Puts the next bytes at the front of `buf`, and says how many.
     ///
@@ -49,17 +56,24 @@ pub trait Source {
     fn read(&mut self, buf: &mut [u8]) -> Result<usize, ReadFailed>
         ensures bound { ReadsAtMost result buf.new }
         ensures bytes { ReadConsumes (left self.old) (left self.new) result buf.new }
+        ensures step { read_step self.old result buf.new self.new }
         ensures later { faults self.old ≤ faults self.new }
+        ensures steady { OnOk result (faults self.new ≡ faults self.old) }
         ensures cause { OnErr result (Rose (faults self.old) (faults self.new)) };
 }
 
 /// Where bytes go to.
 pub trait Sink {
+    ghost use Rattle.dl_outside.specs.declared.WriteFailed.{WriteFailed};
+
     /// The bytes that it holds, where the sink tells them.
     ghost held: { Self → Option (List ℕ) };
 
-    /// How many writes have failed. It clings to the greatest `u64`.
+    /// How many writes have failed: no other write changes it. It clings to the greatest `u64`.
     ghost faults: { Self → ℕ };
+
+    /// What one write may do: the state before it, its answer, the piece, and the state after it.
+    ghost write_step: { Self → Result ℕ WriteFailed → List ℕ → Self → Type 0 };
 
     /// Appends the first bytes of `piece`, and says how many: none only of an empty piece.
     ///
@@ -68,7 +82,9 @@ pub trait Sink {
         ensures bound { WritesAtMost result piece.now }
         ensures progress { result ≡ Ok 0 → piece.now ≡ [] }
         ensures bytes { WriteAppends (held self.old) (held self.new) result piece.now }
+        ensures step { write_step self.old result piece.now self.new }
         ensures later { faults self.old ≤ faults self.new }
+        ensures steady { OnOk result (faults self.new ≡ faults self.old) }
         ensures cause { OnErr result (Rose (faults self.old) (faults self.new)) };
 }
 

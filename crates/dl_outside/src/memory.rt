@@ -49,6 +49,8 @@ impl Source for SteadySource {
 
     ghost faults = { λ _. 0 };
 
+    ghost read_step = { λ old result buf new. ReadConsumes (Some old.left) (Some new.left) result buf };
+
     fn read(&mut self, buf: &mut [u8]) -> Result<usize, ReadFailed>
         ensures bound { ReadsAtMost result buf.new }
         ensures bytes { ReadConsumes (Some self.old.left) (Some self.new.left) result buf.new }
@@ -100,6 +102,11 @@ impl Source for MemSource {
     ghost left = { λ s. Some s.left };
 
     ghost faults = { λ s. s.calls.faults };
+
+    ghost read_step = { λ old result buf new.
+        ReadConsumes (Some old.left) (Some new.left) result buf
+        × MatchResult result (λ _. new.calls ≡ after_success old.calls)
+        (λ _. new.calls ≡ after_failure old.calls) };
 
     fn read(&mut self, buf: &mut [u8]) -> Result<usize, ReadFailed>
         ensures bound { ReadsAtMost result buf.new }
@@ -189,6 +196,11 @@ impl Sink for MemSink {
     ghost held = { λ s. Some s.held };
 
     ghost faults = { λ s. s.calls.faults };
+
+    ghost write_step = { λ old result piece new.
+        WriteAppends (Some old.held) (Some new.held) result piece
+        × MatchResult result (λ _. new.calls ≡ after_success old.calls)
+        (λ _. new.calls ≡ after_failure old.calls) };
 
     fn write(&mut self, piece: &[u8]) -> Result<usize, WriteFailed>
         ensures bound { WritesAtMost result piece.now }

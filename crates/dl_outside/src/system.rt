@@ -34,6 +34,9 @@ impl<R: Read> Source for StdSource<R> {
 
     ghost faults = { source_faults };
 
+    ghost read_step = { λ old result buf new. ReadConsumes (R.remaining (source_reader old))
+        (R.remaining (source_reader new)) result buf };
+
     fn read(&mut self, buf: &mut [u8]) -> Result<usize, ReadFailed>
         ensures bound { ReadsAtMost result buf.new }
         ensures bytes { ReadConsumes None None result buf.new }
@@ -83,6 +86,9 @@ impl<W: Write> Sink for StdSink<W> {
     ghost held = { λ _. None };
 
     ghost faults = { sink_faults };
+
+    ghost write_step = { λ old result piece new. WriteAppends (W.contents (sink_writer old))
+        (W.contents (sink_writer new)) result piece };
 
     fn write(&mut self, piece: &[u8]) -> Result<usize, WriteFailed>
         ensures bound { WritesAtMost result piece.now }

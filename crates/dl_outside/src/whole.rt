@@ -1,9 +1,10 @@
 //! A whole input read, and a whole text written.
 
-ghost use Rattle.std.specs.Prelude.{◌≡◌, ◌≢◌, ℕ, ◌+◌, ◌^◌, ◌≤◌, ◌<◌, List, [], Option, Some, length, vec_len, OnErr, OnOk, IfOk, IfSome, IsErrOf};
+ghost use Rattle.std.specs.Prelude.{◌≡◌, ◌≢◌, ℕ, ◌+◌, ◌^◌, ◌≤◌, ◌<◌, List, [], ◌++◌, take, Option, Some, length, vec_len, Ok, Err, OnErr, OnOk, IfOk, IfSome, IsErrOf};
 ghost use Rattle.std.specs.Io.KnownBytes.{Consumes, IsAtEnd, Appends, Keeps};
 ghost use Rattle.dl_outside.specs.Faults.{Rose};
 ghost use Rattle.dl_outside.specs.Bytes.{Takes, TakesAtMost, AppendsPartOf};
+ghost use Rattle.dl_outside.specs.Steps.{FailedWrite, LastRead, Reads, Writes};
 
 use crate::{Sink, Source};
 use std::alloc::Global;
@@ -46,6 +47,11 @@ fn read_more<R: Source>(
     ensures taken { TakesAtMost (R.left src.old) (R.left src.new) (length chunk.old) }
     ensures later { R.faults src.old ≤ R.faults src.new }
     ensures fault { IsErrOf result ReadEnd.Fault → Rose (R.faults src.old) (R.faults src.new) }
+    ensures steady { result ≢ Err ReadEnd.Fault → R.faults src.new ≡ R.faults src.old }
+    ensures room { length chunk.new ≡ length chunk.old }
+    ensures step { IfOk result (λ n. R.read_step src.old (Ok n) chunk.new src.new) }
+    ensures given { IfOk result (λ n. bytes.new.items ≡ bytes.old.items ++ take n chunk.new) }
+    ensures failed { IsErrOf result ReadEnd.Fault → R.read_step src.old (Err (record {})) chunk.new src.new }
     ensures no_other { result ≢ Err ReadEnd.TooLong }
 {
     let count = match src.read(chunk) {
@@ -76,9 +82,19 @@ pub fn read_all<R: Source>(alloc: Global, src: &mut R, limit: usize) -> Result<V
         → TakesAtMost (R.left src.old) (R.left src.new) limit }
     ensures taken { TakesAtMost (R.left src.old) (R.left src.new) (limit + 1) }
 
-    // A fault has its cause.
+    // No read follows one that gave nothing or failed, and none has room for more than is wanted.
+    // `record {}` is the one error that a read has.
+    ensures ended { IfOk result (λ bytes.
+        LastRead R.read_step src.old (limit + 1) bytes.items (Ok 0) src.new) }
+    ensures full { IsErrOf result ReadEnd.TooLong → ((bytes : List ℕ)
+        × (length bytes ≡ limit + 1) × Reads R.read_step src.old (limit + 1) bytes src.new) }
+    ensures failed { IsErrOf result ReadEnd.Fault → ((bytes : List ℕ)
+        × LastRead R.read_step src.old (limit + 1) bytes (Err (record {})) src.new) }
+
+    // A fault has its cause, and a read that failed is told as a fault: no other answer hides one.
     ensures later { R.faults src.old ≤ R.faults src.new }
     ensures fault { IsErrOf result ReadEnd.Fault → Rose (R.faults src.old) (R.faults src.new) }
+    ensures steady { result ≢ Err ReadEnd.Fault → R.faults src.new ≡ R.faults src.old }
 {
     let mut bytes = Vec::new(alloc);
     let mut chunk = [0u8; CHUNK];
@@ -95,8 +111,12 @@ pub fn read_all<R: Source>(alloc: Global, src: &mut R, limit: usize) -> Result<V
 pub fn write_all<K: Sink>(sink: &mut K, bytes: &[u8]) -> Result<(), WriteFault>
     ensures whole { OnOk result (Appends (K.held sink.old) (K.held sink.new) bytes.now) }
     ensures part { OnErr result (AppendsPartOf (K.held sink.old) (K.held sink.new) bytes.now) }
+    ensures offered { OnOk result
+        (Writes K.write_step sink.old bytes.now (length bytes.now) sink.new) }
+    ensures failed { OnErr result (FailedWrite K.write_step sink.old bytes.now sink.new) }
     ensures unused { bytes.now ≡ [] → sink.new ≡ sink.old }
     ensures later { K.faults sink.old ≤ K.faults sink.new }
+    ensures steady { OnOk result (K.faults sink.new ≡ K.faults sink.old) }
     ensures fault { OnErr result (Rose (K.faults sink.old) (K.faults sink.new)) }
 {
     let mut done = 0;

@@ -1,7 +1,9 @@
 -- An error leaves the input as the bytes taken so far leave it.
-use Rattle.std.proofs.Common.{◌≡◌, arith, rules}
+use Rattle.std.proofs.Common.{◌≡◌, ◌∙◌, ℕ, ◌≤◌, ◌<◌, ◌+◌, List, [], Option, None, Some, length, arith, refl, rules, subst, sym}
+use Rattle.std.specs.Io.KnownBytes.{Consumes}
 use Rattle.std.proofs.lemmas.List.{length-take}
 use Rattle.dl_outside.specs.declared.whole.ReadEnd.TheVariants.{Fault}
+use Rattle.dl_outside.specs.Steps.{Reads, unread, read_on}
 use Rattle.dl_outside.proofs.Taken.{Keeps-TakesAtMost, TakesAtMost-more}
 use Rattle.dl_outside.proofs.whole.read_all.Goals as goal
 
@@ -14,3 +16,29 @@ pub returns-in_err-read_more-clause-taken : goal.returns-in_err-read_more-clause
 returns-in_err-read_more-clause-taken g c =
     TakesAtMost-more _ _ _ c.reading.bytes.items _ _ c.reading.invariant.taken c.read_more.ensures.taken
     (omega (arith, length-take c.min-room.result c.reading.chunk))
+
+Consumes-nil : (left : Option (List ℕ)) (bytes : List ℕ) → bytes ≡ [] → Consumes left left bytes
+Consumes-nil None bytes e = tt
+Consumes-nil (Some left) bytes e = rw e refl
+
+pub reading-init : goal.reading-init
+reading-init g c = record {
+  within = omega (arith, c.new-bytes.ensures.len);
+  taken = Consumes-nil _ _ c.new-bytes.ensures.items;
+  reads = subst (λ bytes. Reads g.R.Source.read_step c.args.src.now (c.args.limit + 1) bytes c.args.src.now) (sym c.new-bytes.ensures.items) unread;
+  steady = refl;
+}
+
+pub reading-preserved : goal.reading-preserved
+reading-preserved g c =
+    let n = c.in_ok-read_more.field-0 in
+    let some : 0 < n = omega arith in
+    let fits : length c.reading.bytes.items + length c.read_more.new.chunk ≤ c.args.limit + 1 =
+    omega (arith, c.read_more.ensures.room, length-take c.min-room.result c.reading.chunk) in
+    record {
+      within = omega (arith, c.in_ok-read_more.ensures.count, c.in_ok-read_more.ensures.bound, length-take c.min-room.result c.reading.chunk);
+      taken = c.in_ok-read_more.ensures.bytes _ c.reading.invariant.taken;
+      reads = subst (λ bytes. Reads g.R.Source.read_step c.args.src.now (c.args.limit + 1) bytes c.read_more.new.src) (sym c.in_ok-read_more.ensures.given)
+          (read_on c.reading.bytes.items c.read_more.new.chunk n c.reading.src c.read_more.new.src c.reading.invariant.reads c.in_ok-read_more.ensures.step some fits);
+      steady = c.in_ok-read_more.ensures.steady (λ e. absurd (cc)) ∙ c.reading.invariant.steady;
+    }
