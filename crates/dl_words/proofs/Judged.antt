@@ -331,3 +331,8 @@ pub explained : (form : Form) (values : Values) (asks : Result (List Asked) ℕ)
 explained form values asks a (Usage Line) e h = absurd h
 explained form values asks a (Usage (Ask i)) e h = e ∙ ap (with_asks form values) h
 explained form values asks a OutOfMemory e h = tt
+
+-- asks that are read, or a first misfit among them, are no misfit of the command
+pub asks_no_line : (form : Form) (values : Values) (asks : Result (List Asked) ℕ) → with_asks form values asks ≡ Err Line → ⊥
+asks_no_line form values (Ok asks) e = absurd (cc)
+asks_no_line form values (Err i) e = absurd (cc)

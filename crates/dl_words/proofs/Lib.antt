@@ -12,3 +12,4 @@ pub mod TableLaws
 pub mod WrittenLaws
 pub mod SmallNumerals
 pub mod RangeLaws
+pub mod PlainAsks

@@ -1,10 +1,10 @@
 -- What good words say lies in its ranges, and the asks are words.
-use Rattle.std.proofs.Common.{◌≡◌, ◌∙◌, ℕ, suc, ◌+◌, ◌^◌, ◌<◌, ◌≤◌, Bool, true, false, not, refl, sym, ap, subst, List, [], ◌∷◌, length, All, Option, Some, None, Result, Ok, Err, IfOk, IfSome, arith, IsUtf8, codes}
+use Rattle.std.proofs.Common.{◌≡◌, ℕ, suc, ◌<◌, ◌≤◌, Bool, true, false, not, refl, ap, subst, List, [], ◌∷◌, length, All, Option, Some, None, Result, Ok, Err, IfOk, IfSome, arith, IsUtf8, codes}
 use Rattle.std.specs.Prelude.{nat_le, nat_lt, ◌&&◌, ◌==◌, IsTrue, ⊤}
 use Rattle.std.specs.List.{list_all}
 use Rattle.std.proofs.lemmas.List.Elements.{All-nil, All-cons, All-head, All-tail}
 use Rattle.std.proofs.lemmas.Bool.Decides.{nat_tests}
-use Rattle.dl_exact.specs.Fraction.{Fraction, whole, ◌over◌, ◌<ℚ◌}
+use Rattle.dl_exact.specs.Fraction.{Fraction, whole, ◌<ℚ◌}
 use Rattle.dl_exact.proofs.Laws.{whole_pos, one_pos}
 use Rattle.dl_plan.proofs.Fits.{num_of_over-le, den_of_over-le, whole_num, whole_den}
 use Rattle.dl_frac.specs.Numerals.{is_bad, numeral_value}
@@ -12,7 +12,6 @@ use Rattle.dl_plan.specs.declared.settings.Ask.{Ask}
 use Rattle.dl_plan.specs.declared.settings.Asked.{Asked}
 use Rattle.dl_plan.specs.declared.settings.Form.{Form}
 use Rattle.dl_plan.specs.declared.settings.Form.TheVariants.{Run, Fmt}
-use Rattle.dl_plan.specs.declared.settings.Format.TheVariants.{Plain}
 use Rattle.dl_plan.specs.declared.settings.Settings.{Settings}
 use Rattle.dl_plan.specs.Ranges.{IsBucket, IsLevel, HasLevel, AreInRange}
 use Rattle.dl_words.specs.declared.fault.UsageFault.{UsageFault}
@@ -129,7 +128,7 @@ unfolding asks_of
 as_many [] = refl
 as_many (text ∷ texts) = count_more text (ask_of text) (asks_of texts) (length texts) (as_many texts)
 
-all_true : (texts : List Text) → All (λ _. ⊤) texts
+pub all_true : (texts : List Text) → All (λ _. ⊤) texts
 all_true texts = λ k d h. tt
 
 none : (n : ℕ) → IsTrue (n == 0) → n ≤ 256
@@ -262,7 +261,7 @@ parts_texts (word ∷ rest) (value name) u = with_texts (option name word) (part
 parts_texts (word ∷ rest) ended u = with_texts (positional word) (parts_from ended rest) (λ ps q. All-cons IsUtf8 word (positionals_of ps) (All-head IsUtf8 word rest u) q)
     (parts_texts rest ended (All-tail IsUtf8 word rest u))
 
-some_parts : (o : Option (List Part)) → IfSome o (λ ps. ⊤)
+pub some_parts : (o : Option (List Part)) → IfSome o (λ ps. ⊤)
 some_parts None = tt
 some_parts (Some ps) = tt
 

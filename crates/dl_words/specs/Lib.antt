@@ -8,3 +8,4 @@ pub mod Words
 pub mod Command
 pub mod Found
 pub mod Faults
+pub mod Plain

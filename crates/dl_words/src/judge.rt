@@ -1,11 +1,13 @@
 //! The settings of what `clap` found, or the first fault.
 
-ghost use Rattle.std.specs.Prelude.{◌≡◌, IfErr, IfOk, Ok, map};
+ghost use Rattle.std.specs.Prelude.{◌≡◌, Err, IfErr, IfOk, Ok, map};
 ghost use Rattle.std.specs.List.{list_all};
 ghost use Rattle.clap.specs.Matches.{found_of};
 ghost use Rattle.dl_words.specs.Faults.{Explains};
 ghost use Rattle.dl_words.specs.Found.{answer_in, asks_in, form_in, values_in};
 ghost use Rattle.dl_words.specs.Spelling.{begins_plainly};
+ghost use Rattle.dl_words.specs.declared.fault.UsageFault.TheVariants.{Line};
+ghost use Rattle.dl_words.specs.declared.fault.WordsFault.TheVariants.{Usage};
 ghost use Rattle.dl_words.specs.Words.{admits};
 
 use crate::asks::read_asks;
@@ -19,10 +21,12 @@ use std::alloc::Global;
 /// The words do not fit the command.
 const LINE: WordsFault = WordsFault::Usage(UsageFault::Line);
 
-/// The settings of what was found, or the first fault.
+/// The settings of what was found, or the first fault. Where what was found does not fit the command,
+/// it says so, and never that memory ran out.
 pub(crate) fn judge(alloc: Global, matches: &ArgMatches<'_>) -> Result<Settings, WordsFault>
     ensures settings { IfOk result (λ settings. answer_in (found_of matches.now) ≡ Ok settings) }
     ensures fault { IfErr result (Explains (answer_in (found_of matches.now))) }
+    ensures line { answer_in (found_of matches.now) ≡ Err Line → result ≡ Err (Usage Line) }
 {
     let Some(form) = form_of(matches) else {
         return Err(LINE);

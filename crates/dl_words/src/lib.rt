@@ -15,5 +15,5 @@ mod tests;
 
 pub use fault::{UsageFault, WordsFault};
 pub use laws::{law_asks, law_parts, law_spellings};
-pub use ranges::law_ranges;
+pub use ranges::{law_plain_asks, law_ranges};
 pub use read::read_words;

@@ -4,6 +4,7 @@
 ghost use Rattle.std.specs.Prelude.{◌≡◌, List, ℕ, All, IsUtf8, Ok};
 ghost use Rattle.dl_plan.specs.declared.settings.Settings.{Settings};
 ghost use Rattle.dl_plan.specs.Ranges.{AreInRange};
+ghost use Rattle.dl_words.specs.Plain.{IsPlainByte};
 ghost use Rattle.dl_words.specs.Words.{words_of};
 
 /// What good words say lies in its ranges, and each ask is text where each word is.
@@ -12,4 +13,11 @@ pub fn law_ranges()
         → words_of words ≡ Ok settings → AreInRange settings }
     ensures texts { (words : List (List ℕ)) (settings : Settings) → All IsUtf8 words
         → words_of words ≡ Ok settings → All (λ asked. IsUtf8 asked.text) settings.asks }
+{}
+
+/// Each ask of good words is written with plain bytes alone, whatever the words are made of. So a
+/// report with these asks can be read back from its text, from its records and from its JSON.
+pub fn law_plain_asks()
+    ensures { (words : List (List ℕ)) (settings : Settings)
+        → words_of words ≡ Ok settings → All (λ asked. All IsPlainByte asked.text) settings.asks }
 {}

@@ -10,7 +10,7 @@ use Rattle.dl_words.specs.Found.{answer_in, asks_in, values_in}
 use Rattle.dl_words.specs.Options.{are_taken}
 use Rattle.dl_words.specs.Spelling.{begins_plainly}
 use Rattle.dl_words.specs.Words.{admits, with_asks}
-use Rattle.dl_words.proofs.Judged.{all_three, explained, fitting_found, here, later, misfit_found, plain_found, texts_found}
+use Rattle.dl_words.proofs.Judged.{all_three, asks_no_line, explained, fitting_found, here, later, misfit_found, plain_found, texts_found}
 use Rattle.dl_words.proofs.judge.judge.Goals as goal
 use Rattle.dl_words.proofs.judge.judge.Goals.{then-not-begin_plainly-via-then-not-begin_plainly, then-not-begin_plainly-via-else-not-begin_plainly+then-not-admits}
 
@@ -54,3 +54,17 @@ returns-clause-fault c =
     (ap (admits c.in-Some.form (values_in found)) (sym texts) ∙ sym c.admits.ensures ∙ c.if-not-admits.false) in
     explained c.in-Some.form (values_in found) (asks_of (asks_in found)) (answer_in found) c.in-Err.fault (fitting_found found c.in-Some.form c.in-Some.ensures fits)
     (subst (λ asks. ExplainsAsks (asks_of asks) c.in-Err.fault) texts c.in-Err.ensures.fault)
+
+-- where what was found fits the command, it is no misfit of it
+pub returns-in-Ok-clause-line : goal.returns-in-Ok-clause-line
+returns-in-Ok-clause-line c = λ line. let settings = returns-in-Ok-clause-settings c in absurd (cc)
+
+pub returns-clause-line : goal.returns-clause-line
+returns-clause-line c =
+    let found = found_of c.args.matches.now in
+    let texts = texts_found c.get_strs.result c.unwrap_or-texts.result _ _ c.unwrap_or-texts.ensures refl c.get_strs.ensures in
+    let plain = plain_found c.begin_plainly.result c.unwrap_or-texts.result.now (asks_in found) c.begin_plainly.ensures texts in
+    let fits = all_three (are_taken (values_in found)) (list_all begins_plainly (asks_in found)) (admits c.in-Some.form (values_in found) (asks_in found))
+    c.in-Some-settings_of.ensures.some.0 (sym plain ∙ c.if-not-begin_plainly.false)
+    (ap (admits c.in-Some.form (values_in found)) (sym texts) ∙ sym c.admits.ensures ∙ c.if-not-admits.false) in
+    λ line. absurd (asks_no_line c.in-Some.form (values_in found) (asks_of (asks_in found)) (sym (fitting_found found c.in-Some.form c.in-Some.ensures fits) ∙ line))
