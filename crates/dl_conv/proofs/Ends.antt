@@ -13,7 +13,7 @@ use Rattle.dl_grid.proofs.CellLaws.{scale_of, one_fits, high_at_get, low_at_read
 use Rattle.dl_grid.proofs.PairLaws.{count_below, below_more, below_bound, below_same, pairs_same, pairs_le}
 use Rattle.dl_grid.proofs.PlaceSums.{width_at, high_is, low_within, width_within, whole_mass, whole_spread, low_at_front, high_at_front, low_at_pushed, high_at_pushed}
 use Rattle.dl_grid.proofs.WidthLaws.{cv_is}
-use Rattle.dl_conv.proofs.Products.{pairs_top, floors_top, rounded_order, rounded_spread_le}
+use Rattle.dl_grid.proofs.Products.{pairs_top, floors_top, rounded_order, rounded_spread_le}
 
 high_le : {B : ℕ} (cells : List (Iv B)) (x m : ℕ) → All (λ cell. cell.hi ≤ m) cells → high_at cells x ≤ m
 unfolding high_at
