@@ -29,7 +29,7 @@ are_units (u ∷ us) h = (h.0.unit, are_units us h.1)
 -- ---- the mean of one unit
 
 module _ (u : Aggregate) (h : IsUnit u) where
-  clause_mean : (N : ℕ) → sum_to (N * u.most) (λ y. whole y *ℚ outcome u y N) ≡ sum_to (N * u.most) (λ s. whole (u.clause s) *ℚ cell u.count u.severity s N)
+  pub clause_mean : (N : ℕ) → sum_to (N * u.most) (λ y. whole y *ℚ outcome u y N) ≡ sum_to (N * u.most) (λ s. whole (u.clause s) *ℚ cell u.count u.severity s N)
   clause_mean N =
       let c : ℕ → Fraction = λ s. cell u.count u.severity s N in
       let M = N * u.most in

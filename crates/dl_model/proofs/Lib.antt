@@ -52,3 +52,4 @@ pub mod PlanMeans
 pub mod PlanThin
 pub mod SlowCounts
 pub mod Multiples
+pub mod ClauseMeans

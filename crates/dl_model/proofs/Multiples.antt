@@ -40,7 +40,7 @@ no_weight_between (x ∷ xs) d j h =
     let here : part_of j x ≡ 0 = rw (ne_eqb x.amount j (λ same. h (subst (λ a. divisor_from (gcd d x.amount) xs ∣ a) same e))) refl in
     sum_by-cons (part_of j) x xs ∙ ap₂ (λ a b. a + b) here (no_weight_between xs (gcd d x.amount) j h)
 
-multiple_of : (d s : ℕ) → d ∣ s → s ≡ s / d * d
+pub multiple_of : (d s : ℕ) → d ∣ s → s ≡ s / d * d
 multiple_of d s h = omega (arith, div-add-mod s d, mod-eq-zero_of_dvd d h)
 
 dvd_plus : (d i j : ℕ) → d ∣ i → d ∣ j → d ∣ i + j

@@ -32,7 +32,7 @@ floor_le x n h =
     let cross : x.num * 1 ≤ n * x.den = le_over x.num x.den n 1 x.positive (omega arith) (subst (λ y. y ≤ℚ whole n) (sym (over_self x)) h) in
     div-le_of_le-mul x.den (omega (arith, cross))
 
-kept_within : (clause : Clause) (s : ℕ) → IsCession clause → kept clause s ≤ℚ whole s
+pub kept_within : (clause : Clause) (s : ℕ) → IsCession clause → kept clause s ≤ℚ whole s
 kept_within clause s h =
     let c = parts_in_bucket clause in
     subst (λ y. y ≤ℚ whole s) (sym (kept_is clause s))

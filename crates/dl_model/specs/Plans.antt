@@ -1,6 +1,7 @@
 -- What the units of a plan declare.
-use Rattle.std.specs.Prelude.{ℕ, ◌/◌, Option, None, Some, List, map}
+use Rattle.std.specs.Prelude.{ℕ, ◌/◌, Option, None, Some, List, [], ◌∷◌, map, sum}
 use Rattle.dl_exact.specs.Fraction.{Fraction, ◌over◌}
+use Rattle.dl_plan.specs.declared.cede.CedeLayer.{CedeLayer}
 use Rattle.dl_plan.specs.declared.severity.Sev.{Sev}
 use Rattle.dl_plan.specs.declared.plan.Freq.{Freq}
 use Rattle.dl_plan.specs.declared.plan.Freq.TheVariants.{Fixed, Table, Bernoulli, Binomial, Poisson, Gamma}
@@ -8,10 +9,11 @@ use Rattle.dl_plan.specs.declared.plan.Unit.{Unit as UnitOfPlan}
 use Rattle.dl_plan.specs.declared.plan.Plan.{Plan}
 use Rattle.dl_plan.specs.Weighted.{weight_at}
 use Rattle.dl_plan.specs.Severity.{probability_of}
-use Rattle.dl_plan.specs.Cession.{Clause, kept}
+use Rattle.dl_plan.specs.Cession.{Clause, ceded, kept}
 use Rattle.dl_model.specs.Listed.{weighted, greatest}
 use Rattle.dl_model.specs.Counts.{fixed, binomial, poisson, gamma_of}
-use Rattle.dl_model.specs.Program.{Aggregate}
+use Rattle.dl_model.specs.Series.{Series}
+use Rattle.dl_model.specs.Program.{Aggregate, sum_over_outcomes}
 use Rattle.dl_model.specs.Family.{Family, compound, mapped, total}
 
 -- the weight of each number of claims
@@ -53,3 +55,16 @@ mapped_of u = mapped (aggregate_of u)
 -- the totals of independent units
 abbrev pub total_of : List UnitOfPlan → Family
 total_of units = total (map aggregate_of units)
+
+-- the sum of the claims of a unit, before its clause
+abbrev pub claims_of : UnitOfPlan → Aggregate
+claims_of u = record {
+  count = count_weights u.freq;
+  severity = probability_of u.sev;
+  most = greatest (weighted u.sev.items);
+  clause = λ s. s;
+}
+
+-- the mean of what layers take of the sum of the claims, each by its share
+abbrev pub mean_ceded : UnitOfPlan → List CedeLayer → Series
+mean_ceded u layers = sum_over_outcomes (claims_of u ∷ []) (λ ys. ceded layers (sum ys))

@@ -2,6 +2,7 @@
 //! contract of a function with an empty body.
 #![tactic(auto)]
 
+pub mod clause_means;
 pub mod counts;
 pub mod families;
 pub mod listed;
