@@ -37,7 +37,7 @@ module _ (S T : ℕ) (S_pos : 0 < S) (T_pos : 0 < T) where
       (le_trans _ _ _ (subst (λ t. whole (S * T) ≤ℚ t) (whole_times h a) (whole_le _ _ p)) (times_le_both _ _ _ _ (le_refl (whole h)) q)))
 
 -- the reciprocals of numbers near each other, in units far larger than those of the numbers
-pub narrow : (S T a b : ℕ) → 0 < a → a ≤ b → b ≤ a + 128 → T ≤ a → S * 128 ≤ T → div_ceil (S * T) a ≤ S * T / b + 64
+pub narrow : (S T a b : ℕ) → 0 < a → a ≤ b → b ≤ a + 128 → T ≤ a → S * 128 ≤ T → div_ceil (S * T) a ≤ S * T / b + 3
 narrow S T a b pos order near large scale =
     let n : ℕ = S * T in
     let h : ℕ = div_ceil n a in
@@ -50,8 +50,9 @@ narrow S T a b pos order near large scale =
     let square : T * T ≤ a * b = mul-le-mul large (omega (arith, large, order)) in
     le_of_mul-le-mul_right {k = a * b} (omega (arith, mul-le-mul_right b up, mul-le-mul_right a down, apart, rest, square)) (mul-pos pos b_pos)
 
--- the ceiling is at most 1
+-- the reciprocal of a number of at least 1, rounded up, is at most 1
+pub reciprocal_within : (S T a : ℕ) → 0 < a → T ≤ a → div_ceil (S * T) a ≤ S
+reciprocal_within S T a pos large = div_ceil_least (S * T) a S pos (mul-le-mul_left S large)
+
 pub reciprocal_fits : (b S T a : ℕ) → b ≤ 56 → S ≡ 2 ^ b → 0 < a → T ≤ a → div_ceil (S * T) a ≤ 2 ^ 56
-reciprocal_fits b S T a few scale pos large =
-    let within : div_ceil (S * T) a ≤ S = div_ceil_least (S * T) a S pos (mul-le-mul_left S large) in
-    omega (arith, within, power_le b S 56 scale few)
+reciprocal_fits b S T a few scale pos large = omega (arith, reciprocal_within S T a pos large, power_le b S 56 scale few)

@@ -28,13 +28,15 @@ struct Sums {
     high: u128,
 }
 
-/// `exp(-x)` for `x` from 0 to 1/2, at most 64 units of 1 / 2^B wide. The series is that of Taylor.
+/// `exp(-x)` for `x` from 0 to 1/2, at most 3 units of 1 / 2^B wide, and at most 1. The series is that
+/// of Taylor.
 pub fn exp_neg<const B: u32>(x: Frac) -> Iv<B>
     requires scale_above { 1 ≤ B }
     requires scale_below { B ≤ 56 }
     requires half { x ≤ℚ 1 over 2 }
     ensures encloses { EnclosesExp x result }
-    ensures narrow { result.hi ≤ result.lo + 64 }
+    ensures narrow { result.hi ≤ result.lo + 3 }
+    ensures small { result.hi ≤ 2 ^ B }
 {
     let sums = exponential(x);
     let top = (1u128 << B) * ONE;

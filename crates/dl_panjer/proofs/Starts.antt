@@ -8,7 +8,7 @@ use Rattle.std.proofs.lemmas.Nat.{pow_pos}
 use Rattle.dl_exact.specs.Fraction.{Fraction, ◌over◌, ◌+ℚ◌, ◌*ℚ◌, ◌/ℚ◌, ◌≤ℚ◌, whole}
 use Rattle.dl_exact.specs.Sum.{sum_to}
 use Rattle.dl_exact.proofs.Over.{over_same, over_add, over_div}
-use Rattle.dl_exact.proofs.Laws.{one_pos, one_times, times_cancel, times_le_times, le_trans, whole_pos}
+use Rattle.dl_exact.proofs.Laws.{one_pos, one_times, times_cancel, le_refl, le_trans, whole_pos}
 use Rattle.dl_exact.proofs.RoundingLaws.{div_ceil_least}
 use Rattle.dl_exact.proofs.Sums.{sum_to_same}
 use Rattle.dl_iv.specs.declared.interval.Iv.{Iv}
@@ -26,28 +26,25 @@ weight_is_term v (suc n) =
     times_cancel _ _ (whole (suc n)) (whole_pos (suc n) (zero-lt-suc n))
     (poisson_next v n ∙ ap (λ t. v *ℚ t) (weight_is_term v n) ∙ sym (term_next v n))
 
-sums_are : (v : Fraction) (N : ℕ) → sum_to N (poisson v) ≡ exponential_sum v N
+pub sums_are : (v : Fraction) (N : ℕ) → sum_to N (poisson v) ≡ exponential_sum v N
 sums_are v N = sum_to_same N (poisson v) (exponential_term v) (λ n near. weight_is_term v n)
 
--- what encloses exp(-v), lowered to 1, holds the probability of no claim
-pub poisson_start : {B : ℕ} (v : Fraction) (interval : Iv B) (lo hi : ℕ) → EnclosesExp v interval → lo ≡ min interval.lo (2 ^ B) → hi ≡ min interval.hi (2 ^ B)
-    → Holds (λ N. whole 1) (λ N. sum_to N (poisson v)) (lo over 2 ^ B) (hi over 2 ^ B)
-unfolding sum_to
-poisson_start {B} v interval lo hi encloses low high =
-    let S : ℕ = 2 ^ B in
-    let pos : 0 < S = pow_pos B in (
-      (λ N u bound. le_trans _ _ _ (times_le_times (lo over S) (interval.lo over S) (sum_to N (poisson v)) (over_le_over lo interval.lo S pos (omega (arith, low, min-le_left interval.lo S))))
-          (le_trans _ _ _ (subst (λ t. interval.lo over S *ℚ t ≤ℚ whole 1) (sym (sums_are v N)) (encloses.low N)) (bound zero))),
-      (λ N u bound. elim (cases_lt S interval.hi) [
-        | inl above ↦ subst (λ t. whole 1 ≤ℚ t *ℚ u) (sym (ap (λ n. n over S) (high ∙ min-eq_right (omega (arith, above))) ∙ over_one S pos))
-            (subst₂ (λ s t. s ≤ℚ t) (poisson_zero v) (sym (one_times u)) (bound zero))
-        | inr below ↦ subst (λ n. whole 1 ≤ℚ n over S *ℚ u) (sym (high ∙ min-eq_left below))
-            (encloses.high u (λ M. subst (λ t. t ≤ℚ u) (sums_are v M) (bound M)))
-      ]),
-    )
+-- what encloses exp(-v) is what holds 1 over the sums of the exponential's series
+pub exp_holds : {B : ℕ} (v : Fraction) (interval : Iv B) → EnclosesExp v interval
+    → Holds (λ N. whole 1) (exponential_sum v) (interval.lo over 2 ^ B) (interval.hi over 2 ^ B)
+exp_holds v interval encloses = (λ N u bound. le_trans _ _ _ (encloses.low N) (bound zero), λ N u bound. encloses.high u bound)
 
-pub clamped_near : (l h S : ℕ) → h ≤ l + 64 → min h S ≤ min l S + 64
-clamped_near l h S near = omega (arith, near)
+pub holds_exp : {B : ℕ} (v : Fraction) (interval : Iv B) → Holds (λ N. whole 1) (exponential_sum v) (interval.lo over 2 ^ B) (interval.hi over 2 ^ B)
+    → EnclosesExp v interval
+holds_exp v interval holds = record { low = λ N. holds.0 N (whole 1) (λ M. le_refl (whole 1)); high = λ u bound. holds.1 zero u bound }
+
+-- what encloses exp(-v) holds the probability of no claim
+pub poisson_start : {B : ℕ} (v : Fraction) (interval : Iv B) (lo hi : ℕ) → EnclosesExp v interval → lo ≡ interval.lo → hi ≡ interval.hi
+    → Holds (λ N. whole 1) (λ N. sum_to N (poisson v)) (lo over 2 ^ B) (hi over 2 ^ B)
+poisson_start {B} v interval lo hi encloses low high = (
+  (λ N u bound. le_trans _ _ _ (subst₂ (λ n t. n over 2 ^ B *ℚ t ≤ℚ whole 1) (sym low) (sym (sums_are v N)) (encloses.low N)) (bound zero)),
+  (λ N u bound. subst (λ n. whole 1 ≤ℚ n over 2 ^ B *ℚ u) (sym high) (encloses.high u (λ M. subst (λ t. t ≤ℚ u) (sums_are v M) (bound M)))),
+)
 
 -- ---- the geometric count: d over p + d, where beta is p over d
 

@@ -1,8 +1,9 @@
 -- The grids of Poisson and geometric counts: each cell past the first is made from the grid's own earlier cells.
-use Rattle.std.specs.Prelude.{ℕ, ◌≡◌, ◌<◌, ◌≤◌, ◌^◌, List, length}
+use Rattle.std.specs.Prelude.{ℕ, ◌≡◌, ◌+◌, ◌<◌, ◌≤◌, ◌^◌, List, length}
 use Rattle.dl_exact.specs.Fraction.{Fraction, whole, ◌*ℚ◌, ◌≤ℚ◌}
 use Rattle.dl_iv.specs.declared.interval.Iv.{Iv}
 use Rattle.dl_grid.specs.Cells.{low_at, high_at}
+use Rattle.dl_exp.specs.Exponential.{EnclosesExp}
 use Rattle.dl_model.specs.Recursion.{Recursion, FollowsPoisson, FollowsGeometric}
 use Rattle.dl_plan.specs.Weighted.{weight_at}
 use Rattle.dl_plan.specs.declared.severity.Sev.{Sev}
@@ -11,6 +12,15 @@ use Rattle.dl_plan.specs.declared.severity.Sev.{Sev}
 pub record BeginsAs {B : ℕ} (grid : List (Iv B)) (lo hi : ℕ → ℕ) : Type 0 where
   pub low : (s : ℕ) → s < length grid → low_at grid s ≡ lo s
   pub high : (s : ℕ) → s < length grid → high_at grid s ≡ hi s
+
+-- cell 0 encloses exp(-v), the probability that there is no claim: it is at most 3 units wide, and its high end is at most 1
+pub record StartsAtExp {B : ℕ} (v : Fraction) (grid : List (Iv B)) : Type 0 where
+  pub first : Iv B
+  pub low : low_at grid 0 ≡ first.lo
+  pub high : high_at grid 0 ≡ first.hi
+  pub encloses : EnclosesExp v first
+  pub narrow : first.hi ≤ first.lo + 3
+  pub small : first.hi ≤ 2 ^ B
 
 -- the cells are the first of those that follow the recursion of the Poisson count of mean v
 pub record IsPoissonBase {B : ℕ} (sev : Sev) (v : Fraction) (grid : List (Iv B)) : Type 0 where

@@ -13,5 +13,5 @@ mod sums;
 mod tests;
 
 pub use geometric::geometric_base;
-pub use laws::law_stands;
+pub use laws::{law_exponential, law_stands};
 pub use poisson::poisson_base;

@@ -2,7 +2,7 @@ use Rattle.std.proofs.Common.{refl, ◌^◌, ◌<◌, arith, div-mul-le_self}
 use Rattle.std.proofs.lemmas.Nat.{pow_pos}
 use Rattle.dl_iv.proofs.Rounding.{ceiling_reaches, floor_le_ceiling, power_le}
 use Rattle.dl_frac.proofs.FractionLaws.{unit_fits}
-use Rattle.dl_exp.proofs.Reciprocals.{low_reciprocal, high_reciprocal, narrow, reciprocal_fits}
+use Rattle.dl_exp.proofs.Reciprocals.{low_reciprocal, high_reciprocal, narrow, reciprocal_fits, reciprocal_within}
 use Rattle.dl_exp.proofs.exp_neg.Goals as goal
 
 pub invariant_of-result-clause-ordered : goal.invariant_of-result-clause-ordered
@@ -32,3 +32,9 @@ returns-clause-narrow g c =
     let s = c.exponential-sums.ensures in
     rw (c.div_ceil.ensures, unit_fits g.row.B c.requires.scale_below)
     (narrow (2 ^ g.row.B) (2 ^ 63) _ _ (omega (arith, s.one)) s.order s.near s.one (omega (arith, power_le g.row.B (2 ^ g.row.B) 56 refl c.requires.scale_below)))
+
+pub returns-clause-small : goal.returns-clause-small
+returns-clause-small g c =
+    let s = c.exponential-sums.ensures in
+    rw (c.div_ceil.ensures, unit_fits g.row.B c.requires.scale_below)
+    (reciprocal_within (2 ^ g.row.B) (2 ^ 63) _ (omega (arith, s.one)) s.one)

@@ -8,7 +8,7 @@ use Rattle.dl_grid.specs.Cells.{low_at, high_at}
 use Rattle.dl_exp.specs.Exponential.{EnclosesExp}
 use Rattle.dl_exp.proofs.Terms.{half_parts}
 use Rattle.dl_panjer.proofs.Recursions.{divided}
-use Rattle.dl_panjer.proofs.Starts.{poisson_start, clamped_near}
+use Rattle.dl_panjer.proofs.Starts.{poisson_start}
 use Rattle.dl_panjer.proofs.Grids.{made_of, poisson_is_base, poisson_grid, poisson_encloses, poisson_widths, items_positive, items_weighted}
 use Rattle.dl_panjer.proofs.poisson.poisson_base.Goals as goal
 
@@ -35,8 +35,8 @@ half_le_one x h = le_trans _ _ _ h (over_le 1 2 1 1 (zero-lt-suc 1) one_pos (ome
 pub fraction-rate-requires-clause-small_den : goal.fraction-rate-requires-clause-small_den
 fraction-rate-requires-clause-small_den g c = small_den c.den.result c.args.halvings c.requires.halvings (omega (arith, c.den.ensures.part, c.requires.den))
 
-pub exp_neg-requires : goal.exp_neg-requires
-exp_neg-requires g c =
+pub exp_neg-start-requires : goal.exp_neg-start-requires
+exp_neg-start-requires g c =
     let half : c.fraction-rate.result ≤ℚ 1 over 2 =
     subst (λ t. t ≤ℚ 1 over 2) (sym (rate_is c.fraction-rate.result c.args.mean c.num.result c.den.result c.args.halvings c.requires.halvings c.num.ensures.part c.den.ensures.part c.fraction-rate.ensures.value)) c.requires.half in
     (omega arith, (c.requires.scale_above, (c.requires.scale_below, half)))
@@ -45,7 +45,6 @@ pub follow-requires : goal.follow-requires
 follow-requires g c =
     let half : c.fraction-rate.result ≤ℚ 1 over 2 =
     subst (λ t. t ≤ℚ 1 over 2) (sym (rate_is c.fraction-rate.result c.args.mean c.num.result c.den.result c.args.halvings c.requires.halvings c.num.ensures.part c.den.ensures.part c.fraction-rate.ensures.value)) c.requires.half in
-    let top : c.clamp_to-start.result.hi ≤ 2 ^ g.row.B = omega (arith, c.clamp_to-start.ensures.high, c.units_of_one.ensures) in
     let small : c.fraction-rate.result.num < 2 ^ 48 = omega (arith, c.fraction-rate.ensures.num, c.num.ensures.part, c.requires.num) in (
       omega arith,
       (
@@ -53,7 +52,7 @@ follow-requires g c =
         (
           c.requires.few,
           (
-            top,
+            c.exp_neg-start.ensures.small,
             (
               items_weighted c.args.sev.now c.as_slice.result.now c.as_slice.ensures,
               (
@@ -76,8 +75,8 @@ from_cells-requires g c =
       (
         omega arith,
         poisson_grid c.args.sev.now.items c.args.sev.now.total v c.in_ok-list.list.items c.args.cells made
-            (poisson_start v c.exp_neg.result (low_at c.in_ok-list.list.items 0) (high_at c.in_ok-list.list.items 0) (subst (λ t. EnclosesExp t c.exp_neg.result) e c.exp_neg.ensures.encloses)
-            (c.in_ok-list.ensures.start_low ∙ rw c.units_of_one.ensures at c.clamp_to-start.ensures.low) (c.in_ok-list.ensures.start_high ∙ rw c.units_of_one.ensures at c.clamp_to-start.ensures.high)),
+            (poisson_start v c.exp_neg-start.result (low_at c.in_ok-list.list.items 0) (high_at c.in_ok-list.list.items 0) (subst (λ t. EnclosesExp t c.exp_neg-start.result) e c.exp_neg-start.ensures.encloses)
+            c.in_ok-list.ensures.start_low c.in_ok-list.ensures.start_high),
       ),
     )
 
@@ -96,8 +95,8 @@ returns-clause-encloses g c =
     let made = made_of true c.args.sev.now c.as_slice.result.now v c.fraction-rate.result c.in_ok-list.list.items c.args.cells c.as_slice.ensures e c.requires.some c.requires.few
     c.in_ok-list.ensures.cells c.in_ok-list.ensures.small c.in_ok-list.ensures.follows c.requires.no_zero in
     rw c.from_cells.ensures (poisson_encloses c.args.sev.now.items c.args.sev.now.total v c.in_ok-list.list.items c.args.cells made
-    (poisson_start v c.exp_neg.result (low_at c.in_ok-list.list.items 0) (high_at c.in_ok-list.list.items 0) (subst (λ t. EnclosesExp t c.exp_neg.result) e c.exp_neg.ensures.encloses)
-    (c.in_ok-list.ensures.start_low ∙ rw c.units_of_one.ensures at c.clamp_to-start.ensures.low) (c.in_ok-list.ensures.start_high ∙ rw c.units_of_one.ensures at c.clamp_to-start.ensures.high)))
+    (poisson_start v c.exp_neg-start.result (low_at c.in_ok-list.list.items 0) (high_at c.in_ok-list.list.items 0) (subst (λ t. EnclosesExp t c.exp_neg-start.result) e c.exp_neg-start.ensures.encloses)
+    c.in_ok-list.ensures.start_low c.in_ok-list.ensures.start_high))
 
 pub returns-clause-spread : goal.returns-clause-spread
 returns-clause-spread g c =
@@ -106,4 +105,16 @@ returns-clause-spread g c =
     let made = made_of true c.args.sev.now c.as_slice.result.now v c.fraction-rate.result c.in_ok-list.list.items c.args.cells c.as_slice.ensures e c.requires.some c.requires.few
     c.in_ok-list.ensures.cells c.in_ok-list.ensures.small c.in_ok-list.ensures.follows c.requires.no_zero in
     rw c.from_cells.ensures (poisson_widths c.args.sev.now.items c.args.sev.now.total v c.in_ok-list.list.items c.args.cells made (half_parts v c.requires.half)
-    (rw (c.in_ok-list.ensures.start_low, c.in_ok-list.ensures.start_high, c.clamp_to-start.ensures.low, c.clamp_to-start.ensures.high) (clamped_near c.exp_neg.result.lo c.exp_neg.result.hi c.units_of_one.result c.exp_neg.ensures.narrow)))
+    (rw (c.in_ok-list.ensures.start_low, c.in_ok-list.ensures.start_high) (omega (arith, c.exp_neg-start.ensures.narrow))))
+
+pub returns-clause-start : goal.returns-clause-start
+returns-clause-start g c =
+    let e = rate_is c.fraction-rate.result c.args.mean c.num.result c.den.result c.args.halvings c.requires.halvings c.num.ensures.part c.den.ensures.part c.fraction-rate.ensures.value in
+    rw c.from_cells.ensures (record {
+      first = c.exp_neg-start.result;
+      low = c.in_ok-list.ensures.start_low;
+      high = c.in_ok-list.ensures.start_high;
+      encloses = subst (λ t. EnclosesExp t c.exp_neg-start.result) e c.exp_neg-start.ensures.encloses;
+      narrow = c.exp_neg-start.ensures.narrow;
+      small = c.exp_neg-start.ensures.small;
+    })
