@@ -1,0 +1,11 @@
+pub mod Starts
+pub mod Beginnings
+pub mod Rounding
+pub mod Reach
+pub mod Pairs
+pub mod Steps
+pub mod Grow
+pub mod Place
+pub mod Top
+pub mod Units
+pub mod Severities

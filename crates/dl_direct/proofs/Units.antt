@@ -1,0 +1,88 @@
+-- Equal shares of a count, the steps of its weights, and items with their weights times a factor.
+use Rattle.std.proofs.Common.{◌≡◌, inl, inr, ℕ, suc, zero, ◌+◌, ◌-◌, ◌*◌, ◌<◌, ◌≤◌, List, [], ◌∷◌, ◌++◌, length, take, get_or, arith, sym, ap, ap₂, subst₂, ◌∙◌, mul-pos, lt_of_mul-lt-mul_right}
+use Rattle.std.specs.Prelude.{◌==◌, if◌then◌else◌}
+use Rattle.std.proofs.lemmas.List.Sums.{sum_by_push, sum_by_more}
+use Rattle.std.proofs.lemmas.Bool.Decides.{eqb_tells}
+use Rattle.dl_exact.specs.Fraction.{Fraction, ◌over◌, ◌+ℚ◌, ◌*ℚ◌, ◌/ℚ◌, whole}
+use Rattle.dl_exact.proofs.Over.{over_add, over_div, over_mul, over_same}
+use Rattle.dl_exact.proofs.Laws.{one_pos, zero_times, one_times}
+use Rattle.dl_model.specs.Compound.{power}
+use Rattle.dl_model.specs.Counts.{poisson, gamma, IsPanjer}
+use Rattle.dl_model.proofs.Panjer.{poisson_class, gamma_class}
+use Rattle.dl_model.proofs.PoissonTimes.{poisson_power}
+use Rattle.dl_model.proofs.Gamma.{gamma_power}
+use Rattle.dl_plan.specs.declared.item.Item.{Item}
+use Rattle.dl_plan.specs.Weighted.{weight_sum, weight_at}
+use Rattle.dl_direct.specs.declared.slide.Part.{Part}
+use Rattle.dl_direct.specs.Slide.{part_sum, part_at}
+
+pub few_shares : (s num den : ℕ) → s * den < num + num → num ≤ 4096 * den → s < 8192
+few_shares s num den p q = lt_of_mul-lt-mul_right den (omega (arith, p, q))
+
+-- equal shares of a Poisson mean, together
+pub shares : (num den s : ℕ) → 0 < den → 0 < s → power (poisson (num over (s * den))) s ≡ poisson (num over den)
+shares num den s d p =
+    poisson_power (num over (s * den)) s
+    ∙ ap poisson (over_mul s 1 num (s * den) one_pos (mul-pos p d) ∙ over_same _ _ _ _ (mul-pos one_pos (mul-pos p d)) d (omega arith))
+
+-- as many geometric counts as the shape says, together
+pub shapes : (x : Fraction) (s : ℕ) → 0 < s → power (gamma 1 x) s ≡ gamma s x
+shapes x zero p = absurd (omega (arith, p))
+shapes x (suc s) p = gamma_power s x
+
+-- ---- an item with its weight times k
+
+abbrev pub times_item : ℕ → Item → Part
+times_item k item = record { amount = item.amount; weight = k * item.weight }
+
+times_at : (k j : ℕ) (item : Item) → (if (times_item k item).amount == j then (times_item k item).weight else 0) ≡ k * (if item.amount == j then item.weight else 0)
+times_at k j item = elim (eqb_tells item.amount j) [
+  | inl t ↦ ap (λ v. if v then k * item.weight else 0) t.0 ∙ sym (ap (λ v. k * (if v then item.weight else 0)) t.0)
+  | inr t ↦ ap (λ v. if v then k * item.weight else 0) t.0 ∙ none k ∙ sym (ap (λ v. k * (if v then item.weight else 0)) t.0)
+]
+  where
+    none : (k : ℕ) → 0 ≡ k * 0
+    none k = omega arith
+
+split : (k a b : ℕ) → k * a + k * b ≡ k * (a + b)
+split k a b = omega arith
+
+module _ (k : ℕ) (items : List Item) (i : ℕ) (d : Item) (h : i < length items) (done : List Part) where
+  pub sum_next : part_sum done ≡ k * weight_sum (take i items) → part_sum (done ++ times_item k (get_or items i d) ∷ []) ≡ k * weight_sum (take (i + 1) items)
+  sum_next e =
+      let here : Item = get_or items i d in
+      let more : weight_sum (take (i + 1) items) ≡ weight_sum (take i items) + here.weight = sum_by_more (λ (x : Item). x.weight) items i d h in
+      sum_by_push (λ (p : Part). p.weight) done (times_item k here) ∙ ap (λ t. t + k * here.weight) e ∙ split k _ _ ∙ ap (λ t. k * t) (sym more)
+
+  pub each_next : (j : ℕ) → part_at done j ≡ k * weight_at (take i items) j → part_at (done ++ times_item k (get_or items i d) ∷ []) j ≡ k * weight_at (take (i + 1) items) j
+  each_next j e =
+      let here : Item = get_or items i d in
+      let more : weight_at (take (i + 1) items) j ≡ weight_at (take i items) j + (if here.amount == j then here.weight else 0) = sum_by_more (λ (x : Item). if x.amount == j then x.weight else 0) items i d h in
+      sum_by_push (λ (p : Part). if p.amount == j then p.weight else 0) done (times_item k here)
+      ∙ ap₂ (λ s t. s + t) e (times_at k j here) ∙ split k _ _ ∙ ap (λ t. k * t) (sym more)
+
+pub chance_scaled : (base total num w v : ℕ) → 0 < base → 0 < total → v ≡ num * w → whole (base * total) *ℚ (num over base *ℚ w over total) ≡ whole v
+chance_scaled base total num w v b t e =
+    ap (λ x. whole (base * total) *ℚ x) (over_mul num base w total b t)
+    ∙ over_mul (base * total) 1 (num * w) (base * total) one_pos (mul-pos b t)
+    ∙ over_same _ _ (num * w) 1 (mul-pos one_pos (mul-pos b t)) one_pos (omega arith)
+    ∙ ap whole (sym e)
+
+-- ---- the two classes
+
+pub poisson_steps : (v : Fraction) → IsPanjer (whole 0 *ℚ v) (whole 1 *ℚ v) (poisson v)
+poisson_steps v = subst₂ (λ a b. IsPanjer a b (poisson v)) (sym (zero_times v)) (sym (one_times v)) (poisson_class v)
+
+pub gamma_steps : (s b : ℕ) (x : Fraction) → 0 < s → b ≡ s - 1 → IsPanjer (whole 1 *ℚ x) (whole b *ℚ x) (gamma s x)
+gamma_steps zero b x p e = absurd (omega (arith, p))
+gamma_steps (suc s) b x p e =
+    let q : s ≡ b = omega (arith, e) in
+    subst₂ (λ a b. IsPanjer a (whole b *ℚ x) (gamma (suc s) x)) (sym (one_times x)) q (gamma_class s x)
+
+pub share_is : (num den s : ℕ) → 0 < den → 0 < s → num over (num + s * den) ≡ num over den /ℚ (whole s +ℚ num over den)
+share_is num den s d p =
+    let q : 0 < s * den = mul-pos p d in
+    let r : 0 < s * den + num * 1 = omega (arith, q) in
+    let e : whole s +ℚ num over den ≡ (s * den + num * 1) over (1 * den) = over_add s 1 num den one_pos d in
+    sym (ap (λ t. num over den /ℚ t) e ∙ over_div num den (s * den + num * 1) (1 * den) d (mul-pos one_pos d) r
+    ∙ over_same _ _ _ _ (mul-pos d r) (omega (arith, q)) (omega arith))

@@ -1,0 +1,3 @@
+pub mod Slide
+pub mod Start
+pub mod Placed

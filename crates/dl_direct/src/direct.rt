@@ -1,0 +1,172 @@
+//! The grids of units whose counts are of the (a, b, 0) class, by one recursion.
+
+ghost use Rattle.std.specs.Prelude.{◌≡◌, ℕ, ◌+◌, ◌-◌, ◌*◌, ◌^◌, ◌<◌, ◌≤◌, length, sum_by, All, IfOk, IfSome, IsTrue};
+ghost use Rattle.dl_exact.specs.Fraction.{Fraction, whole, ◌over◌, ◌*ℚ◌, ◌≤ℚ◌};
+ghost use Rattle.dl_grid.specs.Cells.{IsGrid};
+ghost use Rattle.dl_model.specs.Counts.{poisson, gamma_of, IsPanjer};
+ghost use Rattle.dl_model.specs.Family.{compound, GridEncloses};
+ghost use Rattle.dl_plan.specs.Severity.{probability_of};
+ghost use Rattle.dl_plan.specs.Weighted.{weight_sum, weight_at};
+ghost use Rattle.dl_direct.specs.Start.{HoldsNoClaim};
+ghost use Rattle.dl_direct.specs.Slide.{part_sum, part_at};
+
+use crate::first::{gamma_start, poisson_start};
+use crate::placing::place;
+use crate::slide::{Part, recur};
+use crate::start::Scaled;
+use dl_frac::Frac;
+use dl_grid::Grid;
+use dl_plan::{Item, Sev};
+use std::alloc::{AllocError, Global};
+
+/// How the weights of a count step: the weight of `n + 1` claims is `(a + b / (n + 1)) * num / base`
+/// times that of `n`.
+#[derive(Clone, Copy)]
+struct Steps {
+    a: u64,
+    b: u64,
+    num: u64,
+    base: u64,
+}
+
+/// Each item with its weight times the factor.
+fn scaled_parts(alloc: Global, items: &[Item], factor: u64) -> Result<Vec<Part>, AllocError>
+    requires room { factor * weight_sum items.now < 2 ^ 64 }
+    requires no_zero { All (λ item. 0 < item.amount) items.now }
+    ensures no_zero { IfOk result (λ parts. All (λ p. 0 < p.amount) parts.items) }
+    ensures sum { IfOk result (λ parts. part_sum parts.items ≡ factor * weight_sum items.now) }
+    ensures each { IfOk result (λ parts. (j : ℕ) → part_at parts.items j ≡ factor * weight_at items.now j) }
+{
+    let mut parts = Vec::with_capacity(alloc, items.len())?;
+    'items: for item in items {
+        parts.push(Part {
+            amount: item.amount as usize,
+            weight: factor * u64::from(item.weight),
+        })?;
+    }
+    Ok(parts)
+}
+
+/// Whether the sums of the recursion stay in their words: the factors of a cell in 64 bits, and what it
+/// is divided by in 64 bits.
+fn fits(steps: Steps, total: u32, cells: u32) -> bool
+    requires a_small { steps.a ≤ 1 }
+    requires b_small { steps.b ≤ 10000 }
+    requires num_small { steps.num < 2 ^ 48 }
+    requires base_small { steps.base < 2 ^ 62 }
+    requires total_small { total ≤ 2 ^ 30 }
+    requires cells_small { cells ≤ 16384 }
+    ensures factors { IsTrue result → (steps.a + steps.b) * cells * (steps.num * total) < 2 ^ 64 }
+    ensures divisors { IsTrue result → steps.base * total * cells < 2 ^ 64 }
+{
+    let limit: u128 = 1 << 64;
+    let factors = u128::from((steps.a + steps.b) * u64::from(cells));
+    let weights = u128::from(steps.num) * u128::from(total);
+    let divisor = u128::from(steps.base) * u128::from(total);
+    factors * weights < limit && divisor * u128::from(cells) < limit
+}
+
+/// The grid of the compound sum of a count whose weights step so, and whose probability of no claim is
+/// `start`; none where the numbers are too long.
+fn compound_direct<const B: u32>(
+    alloc: Global,
+    sev: &Sev,
+    steps: Steps,
+    start: Scaled,
+    cells: u32,
+) -> Result<Option<Grid<B>>, AllocError>
+    requires scale_above { 1 ≤ B }
+    requires scale_below { B ≤ 56 }
+    requires no_zero { probability_of sev.now 0 ≡ whole 0 }
+    requires base_positive { 0 < steps.base }
+    requires some_step { 0 < steps.a + steps.b }
+    requires a_small { steps.a ≤ 1 }
+    requires b_small { steps.b ≤ 10000 }
+    requires num_small { steps.num < 2 ^ 48 }
+    requires base_small { steps.base < 2 ^ 62 }
+    requires low_small { start.low ≤ 2 ^ 63 }
+    requires high_small { start.high ≤ 2 ^ 63 }
+    requires some { 1 ≤ cells }
+    requires few { cells ≤ 16384 }
+    ensures cells { IfOk result (λ made. IfSome made (λ g. length g ≡ cells)) }
+    ensures encloses { IfOk result (λ made. IfSome made (λ g. (w : ℕ → Fraction)
+        → IsPanjer (whole steps.a *ℚ steps.num over steps.base) (whole steps.b *ℚ steps.num over steps.base) w
+        → HoldsNoClaim w start → GridEncloses g (compound w (probability_of sev.now)))) }
+{
+    if !fits(steps, sev.total, cells) {
+        return Ok(None);
+    }
+    let parts = scaled_parts(alloc, sev.items.as_slice(), steps.num)?;
+    let divisor = steps.base * u64::from(sev.total);
+    let x = recur(alloc, &parts, steps.a, steps.b, divisor, cells as usize)?;
+    let scale = 61 + u64::from(start.exponent);
+    let raised = x.shift + u64::from(B);
+    if raised > scale {
+        return Ok(None);
+    }
+    let list = place::<B>(alloc, &x, start, scale - raised)?;
+    Ok(Some(Grid::from_cells(list)))
+}
+
+/// The first `cells` cells of a Poisson number of claims of this mean, by one recursion, without a
+/// bound on their spread. None where the numbers of the recursion are too long: where `cells` times the
+/// total of the weights times a part of the mean reaches 2^64, or the cells grow too large beside
+/// cell 0.
+pub fn poisson_direct<const B: u32>(
+    alloc: Global,
+    sev: &Sev,
+    mean: Frac,
+    cells: u32,
+) -> Result<Option<Grid<B>>, AllocError>
+    requires scale_above { 1 ≤ B }
+    requires scale_below { B ≤ 56 }
+    requires no_zero { probability_of sev.now 0 ≡ whole 0 }
+    requires num { mean.num < 2 ^ 48 }
+    requires den { mean.den < 2 ^ 48 }
+    requires within { mean ≤ℚ whole 4096 }
+    requires some { 1 ≤ cells }
+    requires few { cells ≤ 16384 }
+    ensures cells { IfOk result (λ made. IfSome made (λ g. length g ≡ cells)) }
+    ensures encloses { IfOk result (λ made. IfSome made (λ g. GridEncloses g (compound (poisson mean) (probability_of sev.now)))) }
+{
+    let start = poisson_start(mean.num(), mean.den());
+    let steps = Steps {
+        a: 0,
+        b: 1,
+        num: mean.num(),
+        base: mean.den(),
+    };
+    compound_direct(alloc, sev, steps, start, cells)
+}
+
+/// The first `cells` cells of a gamma number of claims of this shape and mean, by one recursion, without
+/// a bound on their spread. None as for a Poisson number: the shape times the cells, and the second part
+/// of the mean times the shape, count there too.
+pub fn gamma_direct<const B: u32>(
+    alloc: Global,
+    sev: &Sev,
+    shape: u32,
+    mean: Frac,
+    cells: u32,
+) -> Result<Option<Grid<B>>, AllocError>
+    requires scale_above { 1 ≤ B }
+    requires scale_below { B ≤ 56 }
+    requires no_zero { probability_of sev.now 0 ≡ whole 0 }
+    requires shape_above { 1 ≤ shape }
+    requires shape_below { shape ≤ 10000 }
+    requires num { mean.num < 2 ^ 48 }
+    requires den { mean.den < 2 ^ 48 }
+    requires some { 1 ≤ cells }
+    requires few { cells ≤ 16384 }
+    ensures cells { IfOk result (λ made. IfSome made (λ g. length g ≡ cells)) }
+    ensures encloses { IfOk result (λ made. IfSome made (λ g. GridEncloses g (compound (gamma_of shape mean) (probability_of sev.now)))) }
+{
+    let start = gamma_start(mean.num(), mean.den(), shape);
+    let steps = Steps {
+        a: 1,
+        b: u64::from(shape - 1),
+        num: mean.num(),
+        base: mean.num() + u64::from(shape) * mean.den(),
+    };
+    compound_direct(alloc, sev, steps, start, cells)
+}

@@ -1,0 +1,72 @@
+//! From the cells of the recursion to a grid.
+
+ghost use Rattle.std.specs.Prelude.{◌≡◌, ◌+◌, ◌*◌, ◌^◌, ◌<◌, ◌≤◌, ◌⊎◌, length, IfOk};
+ghost use Rattle.dl_grid.specs.Cells.{IsGrid};
+ghost use Rattle.dl_direct.specs.Slide.{IsSettled};
+ghost use Rattle.dl_direct.specs.Placed.{IsPlaced};
+
+use crate::slide::Slid;
+use crate::start::Scaled;
+use dl_grid::units_of_one;
+use dl_iv::Iv;
+use std::alloc::{AllocError, Global};
+
+/// The product by `down` bits down, rounded down, and at most `one`.
+fn narrow_low(a: u64, b: u64, down: u64, one: u128) -> u128
+    requires a_small { a ≤ 2 ^ 62 }
+    requires b_small { b ≤ 2 ^ 63 }
+    ensures top { result ≤ one }
+    ensures below { result * 2 ^ down ≤ a * b }
+{
+    let d = if down > 126 { 126 } else { down };
+    let x = (u128::from(a) * u128::from(b)) >> d;
+    if x > one { one } else { x }
+}
+
+/// The product by `down` bits down, rounded up, or `one` where it is more.
+fn narrow_high(a: u64, b: u64, down: u64, one: u128) -> u128
+    requires a_small { a ≤ 2 ^ 62 }
+    requires b_small { b ≤ 2 ^ 63 }
+    ensures top { result ≤ one }
+    ensures above { (a * b ≤ result * 2 ^ down) ⊎ (result ≡ one) }
+{
+    let d = if down > 126 { 126 } else { down };
+    let product = u128::from(a) * u128::from(b);
+    if product == 0 {
+        return 0;
+    }
+    let x = ((product - 1) >> d) + 1;
+    if x > one { one } else { x }
+}
+
+/// Each cell times the probability of no claim, by `down` bits down. A low end is lowered to its high
+/// end, and to what the low ends before it leave of 1.
+pub(crate) fn place<const B: u32>(
+    alloc: Global,
+    x: &Slid,
+    start: Scaled,
+    down: u64,
+) -> Result<Vec<Iv<B>>, AllocError>
+    requires scale_above { 1 ≤ B }
+    requires scale_below { B ≤ 56 }
+    requires settled { IsSettled x.now.low.items x.now.high.items x.now.first }
+    requires some { 1 ≤ length x.now.low.items }
+    requires few { length x.now.low.items ≤ 16384 }
+    requires low_small { start.low ≤ 2 ^ 63 }
+    requires high_small { start.high ≤ 2 ^ 63 }
+    requires scale { 61 + start.exponent ≡ down + (x.now.shift + B) }
+    ensures cells { IfOk result (λ list. length list.items ≡ length x.now.low.items) }
+    ensures grid { IfOk result (λ list. IsGrid list.items) }
+    ensures placed { IfOk result (λ list. IsPlaced start x.now.shift (length x.now.low.items) x.now.low.items x.now.high.items list.items) }
+{
+    let mut list = Vec::with_capacity(alloc, x.low.len())?;
+    let one = units_of_one(B);
+    let mut room = one;
+    'cells: for i in 0..x.low.len() {
+        let hi = narrow_high(x.high[i], start.high, down, one);
+        let lo = narrow_low(x.low[i], start.low, down, one).min(hi).min(room);
+        room -= lo;
+        list.push(Iv { lo, hi })?;
+    }
+    Ok(list)
+}
