@@ -11,7 +11,7 @@ use dl_frac::Frac;
 use dl_plan::{Freq, Item, Unit};
 
 /// The budget of a unit of a valid plan before its aggregate clause, on `cells` cells.
-pub(crate) fn claims_budget<const B: u32>(unit: &Unit, cells: u32) -> u128
+pub fn claims_budget<const B: u32>(unit: &Unit, cells: u32) -> u128
     requires scale { B ≡ 56 }
     requires valid { (h : ℕ) × IsValidUnit h unit.now }
     requires few { cells ≤ 16384 }

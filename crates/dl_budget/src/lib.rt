@@ -12,6 +12,7 @@ mod tests;
 mod units;
 
 pub use asks::{ask_budget, needed, passes, place};
+pub use claims::claims_budget;
 pub use laws::{law_halvings, law_horizons};
 pub use steps::halvings;
 pub use units::{others_budget, total_budget, unit_budget};

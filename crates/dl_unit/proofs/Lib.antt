@@ -6,4 +6,5 @@ pub mod Places
 pub mod Trials
 pub mod TrialGrids
 pub mod CountKinds
+pub mod Thinned
 pub mod TestLaws

@@ -1,5 +1,5 @@
 -- What the tests ask of their numbers.
-use Rattle.std.proofs.Common.{ℕ, zero, suc, ◌≡◌, ◌^◌, ◌<◌, ◌≤◌, [], ◌∷◌, arith, refl, sym, ap, subst, ◌∙◌}
+use Rattle.std.proofs.Common.{ℕ, zero, suc, ◌≡◌, ◌^◌, ◌<◌, ◌≤◌, [], ◌∷◌, arith, refl, sym, ap, subst, ◌∙◌, mul-le-mul_left}
 use Rattle.std.specs.Prelude.{All}
 use Rattle.std.specs.List.Sorted.{IsStrictlyIncreasing}
 use Rattle.std.proofs.Math.Nat.{zero-lt-suc}
@@ -76,3 +76,26 @@ small_parts x num den = record { num = omega (arith, num); den = omega (arith, d
 
 pub few_claims : (m : Fraction) → m ≡ 3 over 2 → m ≤ℚ whole 4096
 few_claims m e = subst (λ t. t ≤ℚ whole 4096) (sym e) (over_le 3 2 4096 1 (zero-lt-suc 1) (zero-lt-suc 0) (omega arith))
+
+pub four_weighted : IsWeighted (item 1 1 ∷ item 4 1 ∷ []) 2
+unfolding gcd euclid
+four_weighted = record {
+  some = omega arith;
+  rising = rising_four;
+  positive = four_positive;
+  sum = refl;
+  within = omega arith;
+  lowest = refl;
+}
+  where
+    rising_four : IsStrictlyIncreasing (1 ∷ 4 ∷ [])
+    rising_four zero h = omega arith
+    rising_four (suc k) h = absurd (omega (arith, h))
+
+    four_positive : All (λ (i : Item). 0 < i.weight) (item 1 1 ∷ item 4 1 ∷ [])
+    four_positive zero d h = omega arith
+    four_positive (suc zero) d h = omega arith
+    four_positive (suc (suc k)) d h = absurd (omega (arith, h))
+
+pub at_most_4096 : (m : Fraction) (n d : ℕ) → m ≡ n over d → 0 < d → n ≤ 4096 → m ≤ℚ whole 4096
+at_most_4096 m n d e pos small = subst (λ t. t ≤ℚ whole 4096) (sym e) (over_le n d 4096 1 pos (zero-lt-suc 0) (omega (arith, small, mul-le-mul_left 4096 pos)))

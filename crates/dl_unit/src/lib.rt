@@ -4,6 +4,7 @@
 #![tactic(auto)]
 
 mod claim;
+mod direct;
 mod finite;
 mod law;
 #[cfg(test)]

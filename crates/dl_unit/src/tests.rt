@@ -10,6 +10,7 @@ ghost use Rattle.dl_plan.specs.Weighted.{IsWeighted};
 
 use crate::unbounded::{gamma_claims, poisson_claims};
 use crate::unit_grid;
+use dl_direct::{gamma_direct, poisson_direct};
 use dl_frac::Frac;
 use dl_grid::{Grid, units_of_one};
 use dl_lexer::Text;
@@ -142,6 +143,88 @@ fn counts_of<const B: u32>(alloc: Global) -> Result<(Grid<B>, Grid<B>), AllocErr
     Ok((poisson, gamma))
 }
 
+/// A claim comes to 1 bucket as often as to 4.
+fn one_or_four(alloc: Global) -> Result<Sev, AllocError>
+    ensures { IfOk result (λ sev. probability_of sev 0 ≡ whole 0) }
+{
+    let mut items = Vec::new(alloc);
+    items.push(Item {
+        amount: 1,
+        weight: 1,
+    })?;
+    items.push(Item {
+        amount: 4,
+        weight: 1,
+    })?;
+    Ok(Sev {
+        items: Many::from_vec(items),
+        total: 2,
+    })
+}
+
+/// Whether in each cell some number lies in both grids.
+fn meet<const B: u32>(one: &Grid<B>, other: &Grid<B>) -> bool {
+    let mut met = one.cells() == other.cells();
+    for x in 0..one.cells() {
+        if x < other.cells() {
+            let (left, right) = (one.at(x), other.at(x));
+            met = met && left.lo <= right.hi && right.lo <= left.hi;
+        }
+    }
+    met
+}
+
+/// A mean, as a fraction of whole numbers, and a shape.
+#[derive(Clone, Copy)]
+struct CountOf {
+    num: u32,
+    den: u32,
+    shape: u32,
+}
+
+/// Sixteen cells of both counts: whether the recursion at the full mean meets the other way, for each.
+fn both_meet<const B: u32>(alloc: Global, sev: &Sev, of: CountOf) -> Result<bool, AllocError>
+    requires above { 1 ≤ B }
+    requires below { B ≤ 56 }
+    requires no_zero { probability_of sev.now 0 ≡ whole 0 }
+{
+    if of.num > 4096 || of.den == 0 || of.den > 4096 || of.shape == 0 || of.shape > 10000 {
+        return Ok(false);
+    }
+    let mean = fraction(of.num, of.den);
+    let halved = poisson_claims(alloc, sev, mean, 16)?;
+    let shared = gamma_claims(alloc, sev, mean, of.shape, 16)?;
+    let poisson = poisson_direct::<B>(alloc, sev, mean, 16)?;
+    let gamma = gamma_direct::<B>(alloc, sev, of.shape, mean, 16)?;
+    Ok(
+        poisson.is_some_and(|grid| meet(&grid, &halved))
+            && gamma.is_some_and(|grid| meet(&grid, &shared)),
+    )
+}
+
+/// Ten pairs of units, one after another.
+fn all_meet<const B: u32>(alloc: Global) -> Result<bool, AllocError>
+    requires above { 1 ≤ B }
+    requires below { B ≤ 56 }
+{
+    let table = [
+        (1, 3, 1),
+        (3, 2, 2),
+        (8, 1, 3),
+        (100, 7, 16),
+        (1000, 1, 100),
+    ];
+    let one = one_bucket(alloc)?;
+    let more = one_or_four(alloc)?;
+    for (num, den, shape) in table {
+        let of = CountOf { num, den, shape };
+        if !both_meet::<B>(alloc, &one, of)? || !both_meet::<B>(alloc, &more, of)? {
+            return Ok(false);
+        }
+    }
+    Ok(true)
+}
+
 /// The units of each finite count.
 fn finite<const B: u32>(alloc: Global) -> Result<bool, AllocError>
     requires above { 1 ≤ B }
@@ -185,4 +268,10 @@ fn nine_digits(rt: HostRuntime) {
         counts_of::<56>(alloc).is_ok_and(|grids| agrees(&grids.0, &poisson)
             && agrees(&grids.1, &gamma))
     );
+}
+
+#[test]
+fn both_ways_meet(rt: HostRuntime) {
+    assert_eq!(rt; all_meet::<48>(rt.alloc()), Ok(true));
+    assert_eq!(rt; all_meet::<56>(rt.alloc()), Ok(true));
 }

@@ -9,9 +9,10 @@ ghost use Rattle.dl_plan.specs.declared.plan.Freq.TheVariants.{Poisson, Gamma};
 ghost use Rattle.dl_plan.specs.Valid.{IsValidUnit};
 ghost use Rattle.dl_budget.specs.Claims.{claims_budget};
 
+use crate::direct::{gamma_grid, poisson_grid};
 use crate::finite::{binomial_claims, fixed_claims, listed_claims};
 use crate::trial::one_trial;
-use crate::unbounded::{gamma_claims, poisson_claims, positive_claims};
+use crate::unbounded::positive_claims;
 use dl_grid::Grid;
 use dl_plan::{Freq, Unit};
 use std::alloc::{AllocError, Global};
@@ -57,7 +58,7 @@ fn poisson_unit<const B: u32>(alloc: Global, unit: &Unit, cells: u32) -> Result<
     ensures spread { IfOk result (λ g. spread g ≤ claims_budget (2 ^ B) cells unit.now) }
 {
     match positive_claims(alloc, unit)? {
-        Some(positive) => poisson_claims(alloc, &positive, unit.thinned(), cells),
+        Some(positive) => poisson_grid(alloc, unit, &positive, cells),
         None => Grid::zero(alloc, cells),
     }
 }
@@ -80,7 +81,7 @@ fn gamma_unit<const B: u32>(
     ensures spread { IfOk result (λ g. spread g ≤ claims_budget (2 ^ B) cells unit.now) }
 {
     match positive_claims(alloc, unit)? {
-        Some(positive) => gamma_claims(alloc, &positive, unit.thinned(), shape, cells),
+        Some(positive) => gamma_grid(alloc, unit, &positive, shape, cells),
         None => Grid::zero(alloc, cells),
     }
 }

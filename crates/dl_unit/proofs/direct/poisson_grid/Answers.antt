@@ -1,0 +1,54 @@
+use Rattle.std.proofs.Common.{◌^◌, arith, ap, subst}
+use Rattle.std.specs.Prelude.{IfSome}
+use Rattle.std.proofs.lemmas.Result.{IfOk-weaker}
+use Rattle.dl_model.specs.Counts.{poisson}
+use Rattle.dl_model.specs.Family.{compound, GridEncloses}
+use Rattle.dl_model.proofs.PlanThin.{poisson_thinned}
+use Rattle.dl_plan.specs.Severity.{probability_of}
+use Rattle.dl_plan.specs.Valid.{thinned_mean}
+use Rattle.dl_budget.specs.Claims.{poisson_budget}
+use Rattle.dl_budget.specs.Halvings.{halvings}
+use Rattle.dl_unit.proofs.Families.{grid_same}
+use Rattle.dl_unit.proofs.CountKinds.{poisson_unbounded, poisson_some}
+use Rattle.dl_unit.proofs.Positive.{no_zero}
+use Rattle.dl_unit.proofs.Thinned.{poisson_whole}
+use Rattle.dl_unit.proofs.direct.poisson_grid.Goals as goal
+
+pub poisson_direct-requires : goal.poisson_direct-requires
+poisson_direct-requires g c =
+    let u = c.args.unit.now in
+    let small = c.requires.valid.1.thinned (poisson_unbounded u c.requires.count.0 c.requires.count.1) in
+    rw c.thinned-mean.ensures
+    (omega arith, (c.requires.scale_above, (c.requires.scale_below, (no_zero u.sev c.args.positive.now c.requires.means, (small.0.num, (small.0.den, (small.1, (c.requires.some, c.requires.few))))))))
+
+pub returns-then-is_narrow-clause-encloses : goal.returns-then-is_narrow-clause-encloses
+returns-then-is_narrow-clause-encloses g c =
+    let u = c.args.unit.now in
+    let s = c.args.positive.now in
+    let told : GridEncloses c.in-Some.grid (compound (poisson c.thinned-mean.result) (probability_of s)) =
+    subst (λ made. IfSome made (λ grid. GridEncloses grid (compound (poisson c.thinned-mean.result) (probability_of s)))) c.in-Some.is c.in_ok-grid.ensures.encloses in
+    grid_same c.in-Some.grid _ _ (poisson_whole u s c.requires.count.0 c.requires.count.1 c.requires.means)
+    (subst (λ m. GridEncloses c.in-Some.grid (compound (poisson m) (probability_of s))) c.thinned-mean.ensures told)
+
+pub poisson_claims-requires : goal.poisson_claims-requires
+poisson_claims-requires g c =
+    let u = c.args.unit.now in
+    let small = c.requires.valid.1.thinned (poisson_unbounded u c.requires.count.0 c.requires.count.1) in
+    rw c.thinned-mean.ensures
+    (omega arith, (c.requires.scale_above, (c.requires.scale_below, (no_zero u.sev c.args.positive.now c.requires.means, (small.0, (small.1, (c.requires.some, c.requires.few)))))))
+
+pub returns-clause-encloses : goal.returns-clause-encloses
+returns-clause-encloses g c =
+    let u = c.args.unit.now in
+    IfOk-weaker c.poisson_claims.result _ _ (λ grid copies.
+    grid_same grid _ _ (poisson_thinned u c.args.positive.now c.requires.count.0 (halvings (thinned_mean u)) c.requires.count.1 c.requires.means) (rw c.thinned-mean.ensures at copies)) c.poisson_claims.ensures.encloses
+
+pub returns-clause-spread : goal.returns-clause-spread
+returns-clause-spread g c =
+    IfOk-weaker c.poisson_claims.result _ _ (λ grid narrow.
+    omega (
+      arith,
+      narrow,
+      ap (poisson_budget (2 ^ g.row.B) c.args.cells) c.thinned-mean.ensures,
+      poisson_some (2 ^ g.row.B) c.args.cells c.args.unit.now c.requires.count.0 c.requires.count.1 c.requires.expected,
+    )) c.poisson_claims.ensures.spread

@@ -1,0 +1,89 @@
+//! The grids of claims above 0 whose number has no greatest, by one recursion at the full mean where
+//! that comes out narrow enough, else by halvings or by shares.
+
+ghost use Rattle.std.specs.Prelude.{◌≡◌, ℕ, ◌^◌, ◌<◌, ◌≤◌, length, IfOk, IsTrue};
+ghost use Rattle.dl_exact.specs.Fraction.{Fraction};
+ghost use Rattle.dl_grid.specs.Cells.{spread};
+ghost use Rattle.dl_model.specs.Family.{GridEncloses};
+ghost use Rattle.dl_model.specs.Plans.{compound_of};
+ghost use Rattle.dl_plan.specs.declared.plan.Freq.TheVariants.{Poisson, Gamma};
+ghost use Rattle.dl_plan.specs.Severity.{pairs_of, conditioned, Means};
+ghost use Rattle.dl_plan.specs.Valid.{thinned_mean, IsValidUnit};
+ghost use Rattle.dl_budget.specs.Claims.{claims_budget};
+
+use crate::unbounded::{gamma_claims, poisson_claims};
+use dl_budget::claims_budget;
+use dl_direct::{gamma_direct, poisson_direct};
+use dl_grid::Grid;
+use dl_plan::{Sev, Unit};
+use std::alloc::{AllocError, Global};
+
+/// Whether a grid's spread is at most the unit's budget on its cells. Budgets are computed at the scale
+/// of 56 bits alone, so at another none is found narrow.
+fn is_narrow<const B: u32>(unit: &Unit, grid: &Grid<B>) -> bool
+    requires valid { (h : ℕ) × IsValidUnit h unit.now }
+    requires few { length grid.now ≤ 16384 }
+    ensures { IsTrue result → spread grid.now ≤ claims_budget (2 ^ B) (length grid.now) unit.now }
+{
+    if B != 56 {
+        return false;
+    }
+    grid.spread() <= claims_budget::<B>(unit, grid.cells())
+}
+
+/// The grid of a unit with a Poisson count, from its severity above 0.
+pub(crate) fn poisson_grid<const B: u32>(
+    alloc: Global,
+    unit: &Unit,
+    positive: &Sev,
+    cells: u32,
+) -> Result<Grid<B>, AllocError>
+    requires scale_above { 1 ≤ B }
+    requires scale_below { B ≤ 56 }
+    requires valid { (h : ℕ) × IsValidUnit h unit.now }
+    requires count { (mean : Fraction) × (unit.now.freq ≡ Poisson mean) }
+    requires expected { 0 < (thinned_mean unit.now).num }
+    requires means { Means positive.now (conditioned 0 (pairs_of unit.now.sev)) }
+    requires some { 1 ≤ cells }
+    requires few { cells ≤ 16384 }
+    ensures cells { IfOk result (λ g. length g ≡ cells) }
+    ensures encloses { IfOk result (λ g. GridEncloses g (compound_of unit.now.freq unit.now.sev)) }
+    ensures spread { IfOk result (λ g. spread g ≤ claims_budget (2 ^ B) cells unit.now) }
+{
+    let mean = unit.thinned();
+    if let Some(grid) = poisson_direct(alloc, positive, mean, cells)? {
+        if is_narrow(unit, &grid) {
+            return Ok(grid);
+        }
+    }
+    poisson_claims(alloc, positive, mean, cells)
+}
+
+/// The grid of a unit with a gamma count of this shape, from its severity above 0.
+pub(crate) fn gamma_grid<const B: u32>(
+    alloc: Global,
+    unit: &Unit,
+    positive: &Sev,
+    shape: u32,
+    cells: u32,
+) -> Result<Grid<B>, AllocError>
+    requires scale_above { 1 ≤ B }
+    requires scale_below { B ≤ 56 }
+    requires valid { (h : ℕ) × IsValidUnit h unit.now }
+    requires count { (mean : Fraction) × (unit.now.freq ≡ Gamma shape mean) }
+    requires expected { 0 < (thinned_mean unit.now).num }
+    requires means { Means positive.now (conditioned 0 (pairs_of unit.now.sev)) }
+    requires some { 1 ≤ cells }
+    requires few { cells ≤ 16384 }
+    ensures cells { IfOk result (λ g. length g ≡ cells) }
+    ensures encloses { IfOk result (λ g. GridEncloses g (compound_of unit.now.freq unit.now.sev)) }
+    ensures spread { IfOk result (λ g. spread g ≤ claims_budget (2 ^ B) cells unit.now) }
+{
+    let mean = unit.thinned();
+    if let Some(grid) = gamma_direct(alloc, positive, shape, mean, cells)? {
+        if is_narrow(unit, &grid) {
+            return Ok(grid);
+        }
+    }
+    gamma_claims(alloc, positive, mean, shape, cells)
+}
