@@ -60,14 +60,21 @@ convolved {B} a b g n F G p q in_a in_b e low high of_a of_b y inside =
 pub alone : {B : ℕ} (g : List (Iv B)) (u : Aggregate) → IsUnit u → GridEncloses g (mapped u) → GridEncloses g (total (u ∷ []))
 alone {B} g u h = encloses_same (2 ^ B) (length g) (low_at g) (high_at g) (mapped u) (total (u ∷ [])) (λ x N. sym (total_alone u h x N)) (λ N. sym (total_alone_all u h N))
 
+-- the convolution of two sums
+pub two_sums : {B : ℕ} (a b g : List (Iv B)) (n : ℕ) (us vs : List Aggregate) → AreUnits us → AreUnits vs → n ≤ length a → n ≤ length b → length g ≡ n
+    → ((s : ℕ) → s < n → low_at g s ≡ count_pairs s (λ i j. low_at a i * low_at b j) / 2 ^ B)
+    → ((s : ℕ) → s < n → high_at g s ≡ min (2 ^ B) (div_ceil (count_pairs s (λ i j. high_at a i * high_at b j)) (2 ^ B)))
+    → GridEncloses a (total us) → GridEncloses b (total vs) → GridEncloses g (total (us ++ vs))
+two_sums {B} a b g n us vs w z in_a in_b e low high of_a of_b =
+    encloses_same (2 ^ B) (length g) (low_at g) (high_at g) (product (total us) (total vs)) (total (us ++ vs))
+    (λ x N. sym (total_append us vs w x N)) (λ N. sym (total_append_all us vs w N))
+    (convolved a b g n (total us) (total vs) (total_proper us w) (total_proper vs z) in_a in_b e low high of_a of_b)
+
 one_more : {B : ℕ} (a b g : List (Iv B)) (n : ℕ) (us : List Aggregate) (u : Aggregate) → AreUnits us → IsUnit u → n ≤ length a → n ≤ length b → length g ≡ n
     → ((s : ℕ) → s < n → low_at g s ≡ count_pairs s (λ i j. low_at a i * low_at b j) / 2 ^ B)
     → ((s : ℕ) → s < n → high_at g s ≡ min (2 ^ B) (div_ceil (count_pairs s (λ i j. high_at a i * high_at b j)) (2 ^ B)))
     → GridEncloses a (total us) → GridEncloses b (mapped u) → GridEncloses g (total (us ++ u ∷ []))
-one_more {B} a b g n us u w h in_a in_b e low high of_a of_b =
-    encloses_same (2 ^ B) (length g) (low_at g) (high_at g) (product (total us) (total (u ∷ []))) (total (us ++ u ∷ []))
-    (λ x N. sym (total_append us (u ∷ []) w x N)) (λ N. sym (total_append_all us (u ∷ []) w N))
-    (convolved a b g n (total us) (total (u ∷ [])) (total_proper us w) (total_proper (u ∷ []) (h, tt)) in_a in_b e low high of_a (alone b u h of_b))
+one_more {B} a b g n us u w h in_a in_b e low high of_a of_b = two_sums a b g n us (u ∷ []) w (h, tt) in_a in_b e low high of_a (alone b u h of_b)
 
 -- the unit at place i of a list joins those before it
 pub joins : {B : ℕ} (a b g : List (Iv B)) (n i : ℕ) (us vs : List Aggregate) → AreUnits us → AreUnits vs → i < length vs → n ≤ length a → n ≤ length b → length g ≡ n
@@ -154,7 +161,7 @@ high_take (c ∷ cs) zero x inside = absurd (omega arith)
 high_take (c ∷ cs) (suc n) zero inside = refl
 high_take (c ∷ cs) (suc n) (suc x) inside = high_take cs n x (omega arith)
 
-first_cells : {B : ℕ} (g : List (Iv B)) (n : ℕ) (F : Family) → n ≤ length g → GridEncloses g F → GridEncloses (take n g) F
+pub first_cells : {B : ℕ} (g : List (Iv B)) (n : ℕ) (F : Family) → n ≤ length g → GridEncloses g F → GridEncloses (take n g) F
 first_cells {B} g n F within of_g y inside =
     let e : y < n = omega (arith, inside, length-take n g) in
     subst₂ (λ l h. Holds (F.cells y) F.all (l over 2 ^ B) (h over 2 ^ B)) (sym (low_take g n y e)) (sym (high_take g n y e)) (of_g y (omega arith))

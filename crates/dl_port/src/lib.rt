@@ -1,14 +1,16 @@
 //! Totals of a program's units: from one grid for each unit, the grid of the sum of all units, and of
 //! the sum of all units but one. The units are independent, so that each unit is taken in by one
-//! convolution.
+//! convolution. Where several of these sums are wanted, they share their parts.
 //!
 //! The clauses speak of every list of units whose probabilities add up to 1 and whose aggregate clauses
 //! raise no sum (`AreUnits`). Of a valid plan these are its units, `aggregates_of plan`, by
 //! `dl_model::plans::law_declared`.
 #![tactic(auto)]
 
+mod shared;
 #[cfg(test)]
 mod tests;
+mod widths;
 
 ghost use Rattle.std.specs.Prelude.{◌≡◌, ℕ, ◌^◌, ◌<◌, ◌≤◌, List, [], ◌++◌, length, map, All, IfOk};
 ghost use Rattle.std.specs.List.{fold, remove};
@@ -21,6 +23,7 @@ ghost use Rattle.dl_port.specs.Sums.{EncloseEach, sum_spread};
 
 use dl_conv::convolve;
 use dl_grid::Grid;
+pub use shared::{Sums, total_and_others};
 use std::alloc::{AllocError, Global};
 
 /// The sum of the units in `sum` and of further units, which are taken in one by one, in order.

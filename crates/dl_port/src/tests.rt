@@ -1,6 +1,6 @@
-ghost use Rattle.std.specs.Prelude.{◌≡◌, ◌≤◌, length, IfOk};
+ghost use Rattle.std.specs.Prelude.{◌≡◌, ◌≤◌, length, All, IfOk};
 
-use super::{others, total};
+use super::{others, total, total_and_others};
 use dl_grid::{Grid, units_of_one};
 use dl_iv::Iv;
 use std::alloc::{AllocError, Global};
@@ -65,6 +65,29 @@ fn holds<const B: u32>(g: &Grid<B>, want: [u8; 7]) -> bool
     same
 }
 
+/// Whether the same sum holds where it comes with all others, or none.
+fn holds_shared<const B: u32>(
+    alloc: Global,
+    units: &[Grid<B>],
+    case: Case,
+) -> Result<bool, AllocError>
+    requires scale_below { B ≤ 56 }
+    requires some { 1 ≤ length units.now }
+    requires few { length units.now ≤ 3 }
+    requires in_each { All (λ g. 7 ≤ length g) units.now }
+{
+    let asked = [case.without.is_some(); 3];
+    let sums = total_and_others(alloc, units, &asked[..units.len()], CELLS)?;
+    let others = sums.others.as_slice();
+    let Some(i) = case.without else {
+        return Ok(holds(&sums.total, case.want) && others.iter().all(|sum| sum.is_none()));
+    };
+    Ok(match others.get(i as usize) {
+        Some(Some(sum)) => holds(sum, case.want),
+        _ => false,
+    })
+}
+
 fn answer<const B: u32>(alloc: Global, case: Case) -> Result<bool, AllocError>
     requires scale_above { 1 ≤ B }
     requires scale_below { B ≤ 56 }
@@ -79,7 +102,7 @@ fn answer<const B: u32>(alloc: Global, case: Case) -> Result<bool, AllocError>
         Some(i) if (i as usize) < taken.len() => others(alloc, taken, i, CELLS)?,
         _ => total(alloc, taken, CELLS)?,
     };
-    Ok(holds(&sum, case.want))
+    Ok(holds(&sum, case.want) && holds_shared(alloc, taken, case)?)
 }
 
 #[test]

@@ -1,0 +1,162 @@
+//! The sum of all units, and those of all units but one, from sums that they share. The sum of all units
+//! but one is one convolution: of the sum of the units before it, and of the sum of those after it.
+
+ghost use Rattle.std.specs.Prelude.{◌≡◌, ℕ, ◌^◌, ◌<◌, ◌≤◌, ◌↔◌, suc, List, length, ◌++◌, take, drop, get_or, false, IsTrue, IsSome, Any, All, IfOk, IfSome};
+ghost use Rattle.std.specs.Option.{option_copied};
+ghost use Rattle.dl_model.specs.Program.{Aggregate, AreUnits};
+ghost use Rattle.dl_model.specs.Family.{total, GridEncloses};
+ghost use Rattle.dl_port.specs.Shared.{EnclosesSum, IsSumOfPart, AreEnds, IsTotal, IsSumWithout, AreSumsWithout};
+
+use crate::widths::spread_without;
+use crate::{no_units, others};
+use dl_conv::convolve;
+use dl_grid::Grid;
+use std::alloc::{AllocError, Global};
+
+/// Sums of a program's units.
+#[derive(Drop)]
+pub struct Sums<const B: u32> {
+    /// The sum of all units.
+    pub total: Grid<B>,
+    /// For each unit that was asked for, the sum of all other units; none for the others.
+    pub others: Vec<Option<Grid<B>>>,
+}
+
+/// The sum of two sums of units, of which either may have no units. Where both have none, it is surely 0,
+/// on the first cells of the grid `like`.
+fn joined<const B: u32>(
+    alloc: Global,
+    before: Option<&Grid<B>>,
+    after: Option<&Grid<B>>,
+    like: &Grid<B>,
+    cells: u32,
+) -> Result<Grid<B>, AllocError>
+    requires some { 1 ≤ cells }
+    requires in_like { cells ≤ length like.now }
+    requires in_before { IfSome (option_copied before) (λ g. cells ≤ length g) }
+    requires in_after { IfSome (option_copied after) (λ g. cells ≤ length g) }
+    ensures cells { IfOk result (λ g. length g ≡ cells) }
+    ensures encloses { IfOk result (λ g. (us vs : List Aggregate) → AreUnits us → AreUnits vs
+        → EnclosesSum (option_copied before.entry) us → EnclosesSum (option_copied after.entry) vs → GridEncloses g (total (us ++ vs))) }
+{
+    match (before, after) {
+        (Some(first), Some(second)) => convolve(alloc, first, second, cells),
+        (Some(sum), None) => Grid::truncate(alloc, sum, cells),
+        (None, Some(sum)) => Grid::truncate(alloc, sum, cells),
+        (None, None) => no_units(alloc, like, cells),
+    }
+}
+
+/// The sums of the last units: of the last one, of the last two, and so on up to all but the first. Each
+/// comes from the one before by one convolution.
+fn sums_of_ends<const B: u32>(
+    alloc: Global,
+    units: &[Grid<B>],
+    cells: u32,
+) -> Result<Vec<Grid<B>>, AllocError>
+    requires units { 1 ≤ length units.now }
+    requires some { 1 ≤ cells }
+    requires in_each { All (λ g. cells ≤ length g) units.now }
+    ensures { IfOk result (λ ends. AreEnds cells units.now ends.items) }
+{
+    let mut ends = Vec::new(alloc);
+    for i in (1..units.len()).rev() {
+        let unit = &units[i];
+        let sum = joined(alloc, Some(unit), ends.last(), unit, cells)?;
+        ends.push(sum)?;
+    }
+    Ok(ends)
+}
+
+/// The sums of the last units where some unit is asked for.
+fn ends_where_asked<const B: u32>(
+    alloc: Global,
+    units: &[Grid<B>],
+    asked: &[bool],
+    cells: u32,
+) -> Result<Vec<Grid<B>>, AllocError>
+    requires units { 1 ≤ length units.now }
+    requires some { 1 ≤ cells }
+    requires in_each { All (λ g. cells ≤ length g) units.now }
+    ensures { IfOk result (λ ends. Any (λ a. IsTrue a) asked.now → AreEnds cells units.now ends.items) }
+{
+    if asked.iter().any(|asked| *asked) {
+        return sums_of_ends(alloc, units, cells);
+    }
+    Ok(Vec::new(alloc))
+}
+
+/// The sum of all units but unit `i`, where it is asked for, from the sum of the units before it and that
+/// of the units after it. Where it comes out wider than it may be when the others are taken in one by
+/// one, they are taken in one by one.
+fn others_where_asked<const B: u32>(
+    alloc: Global,
+    units: &[Grid<B>],
+    asked: &[bool],
+    i: u32,
+    before: Option<&Grid<B>>,
+    after: Option<&Grid<B>>,
+    cells: u32,
+) -> Result<Option<Grid<B>>, AllocError>
+    requires unit { i < length units.now }
+    requires asked { length asked.now ≡ length units.now }
+    requires some { 1 ≤ cells }
+    requires in_each { All (λ g. cells ≤ length g) units.now }
+    requires before { IsSumOfPart cells units.now (take i) (option_copied before) }
+    requires after { IsTrue (get_or asked.now i false) → IsSumOfPart cells units.now (drop (suc i)) (option_copied after) }
+    ensures there { IfOk result (λ sum. IsSome sum ↔ IsTrue (get_or asked.now i false)) }
+    ensures sum { IfOk result (λ sum. IfSome sum (IsSumWithout cells units.now i)) }
+{
+    if !asked[i as usize] {
+        return Ok(None);
+    }
+    let sum = joined(alloc, before, after, &units[i as usize], cells)?;
+    if let Some(most) = spread_without(units, i, cells) {
+        if sum.spread() <= most {
+            return Ok(Some(sum));
+        }
+    }
+    let sum = others(alloc, units, i, cells)?;
+    Ok(Some(sum))
+}
+
+/// The first `cells` cells of the sum of all units, and for each unit that is asked for, of the sum of all
+/// other units. These are as wide as those of `total` and `others` may be, and come from sums that they
+/// share: where none comes out wider, at most three convolutions for each unit, however many are asked for.
+/// There is at least one unit, and each grid has at least these cells.
+pub fn total_and_others<const B: u32>(
+    alloc: Global,
+    units: &[Grid<B>],
+    asked: &[bool],
+    cells: u32,
+) -> Result<Sums<B>, AllocError>
+    requires units { 1 ≤ length units.now }
+    requires few { length units.now ≤ 16 }
+    requires asked { length asked.now ≡ length units.now }
+    requires some { 1 ≤ cells }
+    requires in_each { All (λ g. cells ≤ length g) units.now }
+    ensures total { IfOk result (λ sums. IsTotal cells units.now sums.total) }
+    ensures others { IfOk result (λ sums. AreSumsWithout cells units.now asked.now sums.others.items) }
+{
+    let mut ends = ends_where_asked(alloc, units, asked, cells)?;
+    let mut others = Vec::new(alloc);
+    let after = ends.pop();
+    let first = others_where_asked(alloc, units, asked, 0, None, after.as_ref(), cells)?;
+    others.push(first)?;
+    let mut total = Grid::truncate(alloc, &units[0], cells)?;
+    for i in 1..units.len() {
+        let after = ends.pop();
+        let sum = others_where_asked(
+            alloc,
+            units,
+            asked,
+            i as u32,
+            Some(&total),
+            after.as_ref(),
+            cells,
+        )?;
+        others.push(sum)?;
+        total = convolve(alloc, &total, &units[i], cells)?;
+    }
+    Ok(Sums { total, others })
+}
