@@ -25,7 +25,7 @@ use Rattle.dl_model.proofs.SumLaws.{over_plus}
 use Rattle.dl_model.proofs.CountLaws.{count_below_more, count_below_le}
 use Rattle.dl_model.proofs.Bounded.{are_units, quantity_bounded}
 use Rattle.dl_model.proofs.Widths.{layer_width}
-use Rattle.dl_measures.specs.Layers.{cells_under, layer_width as layer_wide}
+use Rattle.dl_measures.specs.Layers.{cells_under, layer_width as layer_wide, layer_most}
 use Rattle.dl_measures.proofs.Sums.{apart, low_most}
 use Rattle.dl_measures.proofs.Reached.{more}
 
@@ -105,13 +105,15 @@ high_more {B} cells attachment i s t d e h k =
 pub one_cell_more : (f : ℕ → ℕ) (attachment i s t : ℕ) → s ≡ count_below (attachment + i) f → t ≡ f (attachment + i) → s + t ≡ count_below (attachment + (i + 1)) f
 one_cell_more f attachment i s t e h = more f (attachment + i) s t e h ∙ ap (λ n. count_below n f) (next attachment i)
 
+high_units_most : {B : ℕ} (cells : List (Iv B)) (limit attachment : ℕ) → high_units cells limit attachment ≤ limit * 2 ^ B
+high_units_most {B} cells limit attachment = count_below_le limit (2 ^ B) (λ i. 2 ^ B - count_below (suc (attachment + i)) (low_at cells)) (λ i h. omega arith)
+
 pub mean_fits : {B : ℕ} (cells : List (Iv B)) (attachment i s t d : ℕ) → IsGrid cells → i ≤ length cells → s ≡ high_units cells i attachment → t ≡ 2 ^ B - d → s + t ≤ 2 ^ 71
 mean_fits {B} cells attachment i s t d grid inside e h =
     let scale : B ≤ 56 = (scale_of cells grid.some).1 in
     let few : i ≤ 16384 = omega (arith, grid.few) in
-    let sum : high_units cells i attachment ≤ i * 2 ^ B = count_below_le i (2 ^ B) (λ i. 2 ^ B - count_below (suc (attachment + i)) (low_at cells)) (λ i h. omega arith) in
     let most : i * 2 ^ B ≤ 16384 * 2 ^ 56 = mul-le-mul few (one_fits B scale) in
-    omega (arith, e, h, sum, most, one_fits B scale)
+    omega (arith, e, h, high_units_most cells i attachment, most, one_fits B scale)
 
 -- ---- what a call answers, from the cells that it has seen
 
@@ -132,6 +134,9 @@ module _ {B : ℕ} (cells seen : List (Iv B)) (limit : Option ℕ) (attachment k
 
   pub some_width : (mean : ℕ) → limit ≡ Some k → hi - lo ≤ layer_wide limit attachment mean (spread cells)
   some_width mean is = subst (λ t. hi - lo ≤ layer_wide t attachment mean (spread cells)) (sym is) (omega (arith, at_low, at_high, limit_width cells k attachment))
+
+  pub some_most : (mean : ℕ) → limit ≡ Some k → hi ≤ layer_most limit (2 ^ B) mean
+  some_most mean is = subst (λ t. hi ≤ layer_most t (2 ^ B) mean) (sym is) (omega (arith, at_high, high_units_most cells k attachment))
 
 module _ {B : ℕ} (cells seen : List (Iv B)) (limit : Option ℕ) (attachment lo hi l h m n : ℕ) (same : seen ≡ cells)
     (low : l ≡ low_units seen attachment 0) (high : h ≡ high_units seen attachment 0) (left_low : lo ≡ m - h) (left_high : hi ≡ n - l) where

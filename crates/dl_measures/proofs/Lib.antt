@@ -1,3 +1,4 @@
 pub mod Sums
 pub mod Reached
 pub mod LayerEnds
+pub mod TailLaws

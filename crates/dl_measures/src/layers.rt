@@ -8,7 +8,7 @@ ghost use Rattle.dl_model.specs.Ways.{count_below};
 ghost use Rattle.dl_model.specs.Program.{Aggregate, One, Mean, Layer, partial_sums};
 ghost use Rattle.dl_model.specs.Family.{total, GridEncloses};
 ghost use Rattle.dl_model.specs.Measures.{AreDeclared};
-ghost use Rattle.dl_measures.specs.Layers.{cells_under, layer_width};
+ghost use Rattle.dl_measures.specs.Layers.{cells_under, layer_width, layer_most};
 
 use dl_grid::Grid;
 use dl_iv::Iv;
@@ -40,6 +40,7 @@ pub fn layer_mean<const B: u32>(g: &Grid<B>, limit: Option<u32>, attach: u32, me
         → (limit ≡ None → Holds (partial_sums us Mean) (partial_sums us One) (mean.entry.lo over 2 ^ B) (mean.entry.hi over 2 ^ B))
         → Holds (partial_sums us (Layer limit attach)) (partial_sums us One) (result.lo over 2 ^ B) (result.hi over 2 ^ B) }
     ensures width { result.hi - result.lo ≤ layer_width limit attach (mean.entry.hi - mean.entry.lo) (spread g.now) }
+    ensures most { result.hi ≤ layer_most limit (2 ^ B) mean.entry.hi }
 {
     let cells = g.as_slice();
     match limit {

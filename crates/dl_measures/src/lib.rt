@@ -1,6 +1,6 @@
-//! Quantities of a total, from the grid of its distribution: the bracket of a quantile, and the mean of
-//! a layer. Each holds the declared value, and how far its ends lie apart follows from the spread of
-//! the grid. Each is one walk over the grid, and takes no memory.
+//! Quantities of a total, from the grid of its distribution: the bracket of a quantile, the mean of a
+//! layer, and the tail mean. Each holds the declared value, and how far its ends lie apart follows from
+//! the spread of the grid. Each is one walk over the grid, or two, and takes no memory.
 //!
 //! The clauses speak of every list of units that can be declared (`AreDeclared`, and so `AreUnits`). The
 //! units of every valid plan can, `aggregates_of plan`, whatever their counts and aggregate clauses, by
@@ -9,8 +9,10 @@
 
 mod layers;
 mod quantiles;
+mod tails;
 #[cfg(test)]
 mod tests;
 
 pub use layers::layer_mean;
 pub use quantiles::{Bracket, quantile};
+pub use tails::tail_mean;

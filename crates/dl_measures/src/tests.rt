@@ -1,7 +1,7 @@
-ghost use Rattle.std.specs.Prelude.{◌≡◌, ◌≤◌, IsTrue, length, IfOk};
+ghost use Rattle.std.specs.Prelude.{◌≡◌, ◌≤◌, IsTrue, length, IfOk, IfSome};
 ghost use Rattle.dl_exact.specs.Fraction.{whole, ◌<ℚ◌};
 
-use crate::{Bracket, layer_mean, quantile};
+use crate::{Bracket, layer_mean, quantile, tail_mean};
 use dl_frac::Frac;
 use dl_grid::{Grid, units_of_one};
 use dl_iv::Iv;
@@ -25,6 +25,16 @@ struct Covered {
     limit: Option<u32>,
     attach: u32,
     want: (u8, u8),
+}
+
+/// A tail mean of the total, or of the sum of two dice on 16 cells, by exact fractions; none where the
+/// grid ends before the quantile.
+#[derive(Clone, Copy, Debug)]
+struct Beyond {
+    dice: bool,
+    cells: u32,
+    p: (u32, u32),
+    want: Option<(u8, u8)>,
 }
 
 /// Writes a cell, where the grid stays one.
@@ -59,10 +69,42 @@ fn grid<const B: u32>(alloc: Global, cells: u32) -> Result<Grid<B>, AllocError>
     Ok(g)
 }
 
+/// The grid of the sum of two dice, each probability enclosed on its own. The mean is 7.
+fn dice<const B: u32>(alloc: Global) -> Result<Grid<B>, AllocError>
+    requires scale_above { 1 ≤ B }
+    requires scale_below { B ≤ 56 }
+{
+    let mut g = Grid::<B>::zero(alloc, 16)?;
+    write(&mut g, 0, Iv::point(0));
+    for x in 2..13u32 {
+        let v = Iv::enclose(u128::from(6 - x.abs_diff(7).min(6)), 36);
+        write(&mut g, x, v);
+    }
+    Ok(g)
+}
+
 fn is_below_one(p: Frac) -> bool
     ensures { IsTrue result → p <ℚ whole 1 }
 {
     p.num() < p.den()
+}
+
+/// The fraction, where it is a probability that may be asked for.
+fn level(p: (u32, u32)) -> Option<Frac>
+    ensures below_one { IfSome result (λ p. p <ℚ whole 1) }
+    ensures small { IfSome result (λ p. p.den ≤ 1000000000) }
+{
+    if p.1 == 0 {
+        return None;
+    }
+    let Ok(p) = Frac::make(u128::from(p.0), u128::from(p.1)) else {
+        return None;
+    };
+    if is_below_one(p) && p.den() <= 1_000_000_000 {
+        Some(p)
+    } else {
+        None
+    }
 }
 
 fn bracket<const B: u32>(alloc: Global, case: &Reached) -> Result<Option<Bracket>, AllocError>
@@ -70,17 +112,21 @@ fn bracket<const B: u32>(alloc: Global, case: &Reached) -> Result<Option<Bracket
     requires scale_below { B ≤ 56 }
 {
     let g = grid::<B>(alloc, case.cells.clamp(1, 7))?;
-    let (num, den) = case.p;
-    if den == 0 {
-        return Ok(None);
-    }
-    let Ok(p) = Frac::make(u128::from(num), u128::from(den)) else {
+    let Some(p) = level(case.p) else {
         return Ok(None);
     };
-    if !is_below_one(p) || p.den() > 1_000_000_000 {
-        return Ok(None);
-    }
     Ok(Some(quantile(&g, p)))
+}
+
+/// Whether an interval holds a value, and is narrower than so many units.
+fn is_near<const B: u32>(mean: Iv<B>, want: (u8, u8), width: u128) -> bool
+    requires scale_below { B ≤ 56 }
+{
+    let exact = u128::from(want.0) * units_of_one(B);
+    let den = u128::from(want.1);
+    let low = mean.lo.saturating_mul(den);
+    let high = mean.hi.saturating_mul(den);
+    low <= exact && exact <= high && mean.width() < width
 }
 
 /// Whether the mean of the layer holds its value, and is narrow.
@@ -95,11 +141,35 @@ fn holds<const B: u32>(alloc: Global, case: &Covered) -> Result<bool, AllocError
         return Ok(false);
     }
     let mean = layer_mean(&g, limit, attach, Iv::enclose(19, 6));
-    let exact = u128::from(case.want.0) * units_of_one(B);
-    let den = u128::from(case.want.1);
-    let low = mean.lo.saturating_mul(den);
-    let high = mean.hi.saturating_mul(den);
-    Ok(low <= exact && exact <= high && mean.width() < 64)
+    Ok(is_near(mean, case.want, 64))
+}
+
+/// Whether the tail mean holds its value, and is narrow, or there is none, as is wanted.
+fn holds_tail<const B: u32>(alloc: Global, case: &Beyond) -> Result<bool, AllocError>
+    requires scale_above { 1 ≤ B }
+    requires scale_below { B ≤ 56 }
+{
+    let g = if case.dice {
+        dice::<B>(alloc)?
+    } else {
+        grid::<B>(alloc, case.cells.clamp(1, 7))?
+    };
+    let mean = if case.dice {
+        Iv::enclose(7, 1)
+    } else {
+        Iv::enclose(19, 6)
+    };
+    let Some(p) = level(case.p) else {
+        return Ok(false);
+    };
+    if mean.hi > 1 << 97 {
+        return Ok(false);
+    }
+    Ok(match (tail_mean(&g, p, mean), case.want) {
+        (Some(mean), Some(want)) => is_near(mean, want, 2048),
+        (None, None) => true,
+        _ => false,
+    })
 }
 
 #[test]
@@ -204,5 +274,48 @@ fn quantities_of_a_total(rt: HostRuntime) {
         let alloc = rt.alloc();
         assert_eq!(rt; holds::<48>(alloc, case), Ok(true), "{case:?}");
         assert_eq!(rt; holds::<56>(alloc, case), Ok(true), "{case:?}");
+    }
+    let tails = [
+        Beyond {
+            dice: true,
+            cells: 16,
+            p: (9, 10),
+            want: Some((100, 9)),
+        },
+        Beyond {
+            dice: false,
+            cells: 7,
+            p: (0, 1),
+            want: Some((19, 6)),
+        },
+        Beyond {
+            dice: false,
+            cells: 7,
+            p: (5, 12),
+            want: Some((29, 7)),
+        },
+        Beyond {
+            dice: false,
+            cells: 7,
+            p: (9, 10),
+            want: Some((50, 9)),
+        },
+        Beyond {
+            dice: false,
+            cells: 4,
+            p: (1, 2),
+            want: Some((13, 3)),
+        },
+        Beyond {
+            dice: false,
+            cells: 4,
+            p: (9, 10),
+            want: None,
+        },
+    ];
+    for case in &tails {
+        let alloc = rt.alloc();
+        assert_eq!(rt; holds_tail::<48>(alloc, case), Ok(true), "{case:?}");
+        assert_eq!(rt; holds_tail::<56>(alloc, case), Ok(true), "{case:?}");
     }
 }

@@ -1,5 +1,5 @@
 use Rattle.std.proofs.Common.{◌-◌}
-use Rattle.dl_measures.proofs.LayerEnds.{some_holds, some_width, none_holds, none_width}
+use Rattle.dl_measures.proofs.LayerEnds.{some_holds, some_width, some_most, none_holds, none_width}
 use Rattle.dl_measures.proofs.layers.layer_mean.Goals as goal
 
 pub returns-in-Some-clause-holds : goal.returns-in-Some-clause-holds
@@ -11,6 +11,11 @@ pub returns-in-Some-clause-width : goal.returns-in-Some-clause-width
 returns-in-Some-clause-width g c =
     some_width c.args.g.now c.as_slice-cells.result.now c.args.limit c.args.attach c.in-Some.limit c.finite_layer.result.lo c.finite_layer.result.hi c.as_slice-cells.ensures.cells
     c.finite_layer.ensures.low c.finite_layer.ensures.high (c.args.mean.hi - c.args.mean.lo) c.in-Some.is
+
+pub returns-in-Some-clause-most : goal.returns-in-Some-clause-most
+returns-in-Some-clause-most g c =
+    some_most c.args.g.now c.as_slice-cells.result.now c.args.limit c.args.attach c.in-Some.limit c.finite_layer.result.lo c.finite_layer.result.hi c.as_slice-cells.ensures.cells
+    c.finite_layer.ensures.low c.finite_layer.ensures.high c.args.mean.hi c.in-Some.is
 
 pub returns-in-None-clause-holds : goal.returns-in-None-clause-holds
 returns-in-None-clause-holds g c us d e mean =
