@@ -1,0 +1,4 @@
+pub mod Quotients
+pub mod WeightedSums
+pub mod WeightedEnds
+pub mod Shares

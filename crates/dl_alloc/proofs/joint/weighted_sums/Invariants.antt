@@ -1,0 +1,10 @@
+use Rattle.std.proofs.Common.{◌≡◌, ◌-◌, ◌*◌}
+use Rattle.dl_grid.specs.Cells.{low_at, high_at}
+use Rattle.dl_grid.proofs.PairLaws.{count_below}
+use Rattle.dl_alloc.proofs.joint.weighted_sums.Given as goal
+
+abbrev pub invariant-loop-y : goal.invariant-loop-y
+invariant-loop-y g l = record {
+  low : l.low ≡ count_below l.y (λ y. y * low_at l.unit y * low_at l.others (l.x - y));
+  high : l.high ≡ count_below l.y (λ y. y * high_at l.unit y * high_at l.others (l.x - y));
+}
