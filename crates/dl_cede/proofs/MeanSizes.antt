@@ -1,0 +1,268 @@
+-- How large the mean of a unit's claims is, and what layers take of it.
+use Rattle.std.proofs.Common.{ℕ, suc, ◌≡◌, ◌+◌, ◌-◌, ◌*◌, ◌/◌, ◌%◌, ◌^◌, ◌<◌, ◌≤◌, List, [], ◌∷◌, length, get_or, take, cond, ◌==◌, Option, Some, None, arith, inl, inr, refl, sym, ap, subst, subst₂, ◌∙◌}
+use Rattle.std.specs.Prelude.{All, AllPairs, IfSome}
+use Rattle.std.specs.Int.{div_ceil}
+use Rattle.std.specs.List.{sum_by}
+use Rattle.std.proofs.Math.Nat.{mul-le-mul, mul-le-mul_left, mul-le-mul_right, div-add-mod, mod-lt}
+use Rattle.std.proofs.lemmas.Bool.Decides.{eqb_tells}
+use Rattle.std.proofs.lemmas.List.Elements.{All-head, All-tail}
+use Rattle.std.proofs.lemmas.List.Sums.{sum_by-cons, sum_by_more, sum_by-take-le}
+use Rattle.std.proofs.lemmas.List.{length-map, get_or-map}
+use Rattle.std.proofs.lemmas.Nat.Gcd.{le_of_dvd}
+use Prim.Native.Nat.{◌∣◌}
+use Rattle.dl_exact.specs.Fraction.{Fraction, whole, ◌over◌, ◌-ℚ◌, ◌*ℚ◌, ◌≤ℚ◌}
+use Rattle.dl_exact.proofs.Over.{over_le, le_over, over_mul}
+use Rattle.dl_exact.proofs.Laws.{one_pos, le_refl, le_trans, plus_zero, times_comm, times_assoc, one_times, times_le_times, zero_le, sub_plus, whole_times}
+use Rattle.dl_exact.proofs.RoundingLaws.{div_ceil_least, whole_le}
+use Rattle.dl_iv.proofs.FractionLaws.{sub_le_both}
+use Rattle.dl_grid.proofs.CellLaws.{one_fits}
+use Rattle.dl_plan.specs.declared.cede.CedeLayer.{CedeLayer}
+use Rattle.dl_plan.specs.declared.item.Item.{Item}
+use Rattle.dl_plan.specs.declared.severity.Sev.{Sev}
+use Rattle.dl_plan.specs.declared.plan.Freq.{Freq}
+use Rattle.dl_plan.specs.declared.plan.Freq.TheVariants.{Fixed, Table, Bernoulli, Binomial, Poisson, Gamma}
+use Rattle.dl_plan.specs.declared.plan.Unit.{Unit as UnitOfPlan}
+use Rattle.dl_plan.specs.Weighted.{weight_sum, weight_at, weighted_sum, IsWeighted}
+use Rattle.dl_plan.specs.Severity.{probability_of, pairs_of, mean_amount}
+use Rattle.dl_plan.specs.Fine.{common_denominator, IsFine}
+use Rattle.dl_plan.specs.Cession.{Clause, IsBelowTop, Overlap, layer_shares, IsCession}
+use Rattle.dl_plan.specs.Count.{expected_count, IsUnbounded, IsCount}
+use Rattle.dl_plan.specs.Valid.{IsNear, IsValidUnit}
+use Rattle.dl_plan.proofs.Common.{den_divides, common_pos}
+use Rattle.dl_plan.proofs.Means.{total_pos, positive_share}
+use Rattle.dl_plan.proofs.Shares.{mean-shares}
+use Rattle.dl_plan.proofs.Apart.{first_apart, rest_apart}
+use Rattle.dl_measures.specs.Layers.{layer_width, layer_most}
+use Rattle.dl_cede.specs.Means.{part_width}
+
+-- the mean of a unit's claims
+abbrev pub declared_mean : UnitOfPlan → Fraction
+declared_mean u = expected_count u.freq *ℚ mean_amount (pairs_of u.sev)
+
+-- ---- how large it is
+
+item_within : (n a w : ℕ) → a ≤ n → a * w + n * cond (a == 0) w 0 ≤ n * w
+item_within n a w within = elim (eqb_tells a 0) [
+  | inl none ↦ rw none.0 (omega (arith, ap (λ t. t * w) none.1))
+  | inr some ↦ rw some.0 (omega (arith, mul-le-mul_right w within))
+]
+
+amounts_within : (n : ℕ) (xs : List Item) → All (λ item. item.amount ≤ n) xs → weighted_sum xs + n * weight_at xs 0 ≤ n * weight_sum xs
+amounts_within n [] near = omega arith
+amounts_within n (x ∷ xs) near =
+    let zero_weight : weight_at (x ∷ xs) 0 ≡ cond (x.amount == 0) x.weight 0 + weight_at xs 0 = sum_by-cons
+    (λ (item : Item). cond (item.amount == 0) item.weight 0) x xs in
+    let weight : weight_sum (x ∷ xs) ≡ x.weight + weight_sum xs = sum_by-cons (λ (item : Item). item.weight) x xs in
+    let weighted : weighted_sum (x ∷ xs) ≡ x.amount * x.weight + weighted_sum xs = sum_by-cons (λ (item : Item). item.amount * item.weight)
+    x xs in
+    omega (
+      arith,
+      item_within n x.amount x.weight (near 0 x (omega arith)),
+      amounts_within n xs (λ k d inside. near (suc k) d (omega arith)),
+      weighted,
+      ap (λ t. n * t) weight,
+      ap (λ t. n * t) zero_weight,
+    )
+
+positive_within : (n W w0 T : ℕ) → W + n * w0 ≤ n * T → W ≤ (T - w0) * n
+positive_within n W w0 T h =
+    let most : T ≤ (T - w0) + w0 = omega arith in
+    omega (arith, h, mul-le-mul_left n most)
+
+mean_within : (sev : Sev) → All (λ item. item.amount ≤ 2 ^ 20) sev.items
+    → mean_amount (pairs_of sev) ≤ℚ (whole 1 -ℚ probability_of sev 0) *ℚ whole (2 ^ 20)
+mean_within sev near =
+    let pos = total_pos sev.items sev.total sev.weighted in
+    let sums : weighted_sum sev.items + 2 ^ 20 * weight_at sev.items 0 ≤ 2 ^ 20 * sev.total = subst
+    (λ t. weighted_sum sev.items + 2 ^ 20 * weight_at sev.items 0 ≤ 2 ^ 20 * t) sev.weighted.sum (amounts_within (2 ^ 20) sev.items near) in
+    let within : weighted_sum sev.items over sev.total ≤ℚ ((sev.total - weight_at sev.items 0) * 2 ^ 20) over (sev.total * 1) =
+    over_le (weighted_sum sev.items) sev.total ((sev.total - weight_at sev.items 0) * 2 ^ 20) (sev.total * 1) pos (omega (arith, pos))
+    (omega (arith, mul-le-mul_right sev.total (positive_within (2 ^ 20) (weighted_sum sev.items) (weight_at sev.items 0) sev.total sums)))
+    in
+    let parts : (whole 1 -ℚ probability_of sev 0) *ℚ whole (2 ^ 20) ≡ ((sev.total - weight_at sev.items 0) * 2 ^ 20) over (sev.total * 1) =
+    ap (λ t. t *ℚ whole (2 ^ 20)) (sym (positive_share (weight_at sev.items 0) sev.total pos)) ∙ over_mul
+    (sev.total - weight_at sev.items 0) sev.total (2 ^ 20) 1 pos one_pos in
+    subst (λ t. mean_amount (pairs_of sev) ≤ℚ t) (sym parts) (subst (λ t. t ≤ℚ ((sev.total - weight_at sev.items 0) * 2 ^ 20) over
+    (sev.total * 1)) (sym (mean-shares sev.items sev.total pos)) within)
+
+at_most_one : (u : UnitOfPlan) → whole 1 -ℚ probability_of u.sev 0 ≤ℚ whole 1
+at_most_one u = subst (λ t. whole 1 -ℚ probability_of u.sev 0 ≤ℚ t) (sub_nothing_from (whole 1))
+    (sub_le_both (whole 1) (whole 1) (probability_of u.sev 0) (whole 0) (le_refl (whole 1)) (zero_le (probability_of u.sev 0)))
+  where
+    sub_nothing_from : (x : Fraction) → x -ℚ whole 0 ≡ x
+    sub_nothing_from x = sym (plus_zero (x -ℚ whole 0)) ∙ sub_plus x (whole 0) (zero_le x)
+
+times_at_most_one : (x y z : Fraction) → y ≤ℚ whole 1 → x ≤ℚ z → x *ℚ y ≤ℚ z
+times_at_most_one x y z h p = le_trans (x *ℚ y) x z (subst₂ (λ s t. s ≤ℚ t) (times_comm y x) (one_times x) (times_le_times y (whole 1) x h))
+    p
+
+listed_within : (counts : List Item) (total : ℕ) → IsWeighted counts total → All (λ item. item.amount ≤ 256) counts
+    → weighted_sum counts over total ≤ℚ whole 65536
+listed_within counts total w near =
+    over_le (weighted_sum counts) total 65536 1 (total_pos counts total w) one_pos
+    (omega (arith, subst (λ t. weighted_sum counts + 256 * weight_at counts 0 ≤ 256 * t) w.sum (amounts_within 256 counts near)))
+
+-- the thinned mean is at most 65,536
+few_claims : (freq : Freq) (y : Fraction) → IsCount freq → y ≤ℚ whole 1 → (IsUnbounded freq → expected_count freq *ℚ y ≤ℚ whole 4096)
+    → expected_count freq *ℚ y ≤ℚ whole 65536
+few_claims (Fixed m) y count one slow = times_at_most_one (whole m) y (whole 65536) one (whole_le m 65536 count)
+few_claims (Table counts total) y count one slow = times_at_most_one (weighted_sum counts over total) y (whole 65536) one
+    (listed_within counts total count.0 count.1)
+few_claims (Bernoulli q) y count one slow = times_at_most_one q y (whole 65536) one
+    (le_trans q (whole 1) (whole 65536) count.within (whole_le 1 65536 (omega arith)))
+few_claims (Binomial trials q) y count one slow =
+    times_at_most_one (whole trials *ℚ q) y (whole 65536) one (times_at_most_one (whole trials) q (whole 65536) count.1.within
+    (whole_le trials 65536 count.0))
+few_claims (Poisson mean) y count one slow = le_trans _ _ _ (slow tt) (whole_le 4096 65536 (omega arith))
+few_claims (Gamma shape mean) y count one slow = le_trans _ _ _ (slow tt) (whole_le 4096 65536 (omega arith))
+
+unit_within : (cells : ℕ) (u : UnitOfPlan) → IsValidUnit cells u → declared_mean u ≤ℚ whole 65536 *ℚ whole (2 ^ 20)
+unit_within cells u valid =
+    let x : Fraction = expected_count u.freq in
+    let y : Fraction = whole 1 -ℚ probability_of u.sev 0 in
+    let amounts : mean_amount (pairs_of u.sev) *ℚ x ≤ℚ y *ℚ whole (2 ^ 20) *ℚ x = times_le_times _ _ x (mean_within u.sev valid.amounts) in
+    let turned : y *ℚ whole (2 ^ 20) *ℚ x ≡ x *ℚ y *ℚ whole (2 ^ 20) = times_comm (y *ℚ whole (2 ^ 20)) x ∙ sym
+    (times_assoc x y (whole (2 ^ 20))) in
+    let claims : x *ℚ y ≤ℚ whole 65536 = few_claims u.freq y valid.count (at_most_one u) (λ slow. (valid.thinned slow).1) in
+    le_trans _ _ _ (subst₂ (λ s t. s ≤ℚ t) (times_comm (mean_amount (pairs_of u.sev)) x) turned amounts)
+    (times_le_times (x *ℚ y) (whole 65536) (whole (2 ^ 20)) claims)
+
+pub unit_small : (B : ℕ) (u : UnitOfPlan) (num den : ℕ) → B ≤ 56 → (cells : ℕ) × IsValidUnit cells u → 0 < den
+    → num over den ≡ declared_mean u
+    → div_ceil (2 ^ B * num) den ≤ 2 ^ 92
+unit_small B u num den scale valid pos parts =
+    let within : num over den ≤ℚ whole 65536 *ℚ whole (2 ^ 20) = subst (λ t. t ≤ℚ whole 65536 *ℚ whole (2 ^ 20)) (sym parts)
+    (unit_within valid.0 u valid.1) in
+    let cross : num * 1 ≤ (65536 * 2 ^ 20) * den = le_over num den (65536 * 2 ^ 20) 1 pos one_pos
+    (subst (λ t. num over den ≤ℚ t) (sym (whole_times 65536 (2 ^ 20))) within) in
+    let few : num ≤ (65536 * 2 ^ 20) * den = omega (arith, cross) in
+    let most : 2 ^ B * num ≤ 2 ^ 56 * ((65536 * 2 ^ 20) * den) = mul-le-mul (one_fits B scale) few in
+    div_ceil_least (2 ^ B * num) den (2 ^ 92) pos (omega (arith, most))
+
+-- ---- a share of a layer
+
+pub most_small : (limit : Option ℕ) (one mean hi : ℕ) → IfSome limit (λ k. k ≤ 2 ^ 20) → one ≤ 2 ^ 56 → mean ≤ 2 ^ 92
+    → hi ≤ layer_most limit one mean → hi ≤ 2 ^ 92
+most_small None one mean hi near scale small h = omega (arith, small, h)
+most_small (Some k) one mean hi near scale small h =
+    let most : k * one ≤ 2 ^ 20 * 2 ^ 56 = mul-le-mul near scale in
+    omega (arith, most, h)
+
+pub share_fits : (hi num den : ℕ) → hi ≤ 2 ^ 92 → num ≤ den → den ≤ 2 ^ 30 → hi * num < 2 ^ 128
+share_fits hi num den small within fine =
+    let parts : num ≤ 2 ^ 30 = omega (arith, within, fine) in
+    let most : hi * num ≤ 2 ^ 92 * 2 ^ 30 = mul-le-mul small parts in
+    omega (arith, most)
+
+-- a share of at most 1 raises nothing
+pub share_within : (hi num den : ℕ) → num ≤ den → 0 < den → div_ceil (hi * num) den ≤ hi
+share_within hi num den within pos = div_ceil_least (hi * num) den hi pos (mul-le-mul_left hi within)
+
+-- it widens by the rounding alone
+pub share_width : (lo hi num den : ℕ) → lo ≤ hi → num ≤ den → 0 < den → div_ceil (hi * num) den ≤ lo * num / den + (hi - lo) + 1
+share_width lo hi num den ordered within pos =
+    let w = hi - lo in
+    let q = lo * num / den in
+    let top : hi ≡ lo + w = omega arith in
+    let rest : w * num ≤ w * den = mul-le-mul_left w within in
+    let whole_part : q * den + lo * num % den ≡ lo * num = omega (arith, div-add-mod (lo * num) den) in
+    let part : lo * num % den < den = mod-lt (lo * num) pos in
+    div_ceil_least (hi * num) den (q + w + 1) pos (omega (arith, ap (λ t. t * num) top, rest, whole_part, part))
+
+pub part_narrow : (limit : Option ℕ) (attach claims spread wide : ℕ) → claims ≤ 1 → wide ≤ layer_width limit attach claims spread + 1
+    → wide ≤ part_width spread limit attach
+part_narrow None attach claims spread wide narrow h = omega (arith, narrow, h)
+part_narrow (Some limit) attach claims spread wide narrow h = omega (arith, narrow, h)
+
+-- ---- all layers: at most one has no limit
+
+no_top : (limit : Option ℕ) (a x : ℕ) → limit ≡ None → IsBelowTop limit a x
+no_top limit a x e = subst (λ t. IsBelowTop t a x) (sym e) tt
+
+with_limit : (limit : Option ℕ) (one mean : ℕ) → (limit ≡ None → ⊥) → IfSome limit (λ k. k ≤ 2 ^ 20) → one ≤ 2 ^ 56
+    → layer_most limit one mean ≤ 2 ^ 76
+with_limit None one mean some near scale = absurd (some refl)
+with_limit (Some k) one mean some near scale =
+    let most : k * one ≤ 2 ^ 20 * 2 ^ 56 = mul-le-mul near scale in
+    omega (arith, most)
+
+-- the most that each layer takes, added up
+abbrev pub mosts : ℕ → ℕ → List CedeLayer → ℕ
+mosts one mean layers = sum_by (λ (l : CedeLayer). layer_most l.limit one mean) layers
+
+module _ (one mean : ℕ) (scale : one ≤ 2 ^ 56) where
+  others_small : (l : CedeLayer) (ls : List CedeLayer) → l.limit ≡ None → All (λ m. ¬ Overlap l m) ls → All IsNear ls
+      → mosts one mean ls ≤ length ls * 2 ^ 76
+  others_small l [] none apart near = omega arith
+  others_small l (m ∷ ms) none apart near =
+      let limited : m.limit ≡ None → ⊥ = λ e. All-head (λ k. ¬ Overlap l k) m ms apart (no_top l.limit _ _ none, no_top m.limit _ _ e) in
+      let here : layer_most m.limit one mean ≤ 2 ^ 76 = with_limit m.limit one mean limited (All-head IsNear m ms near).limit scale in
+      let rest = others_small l ms none (All-tail (λ k. ¬ Overlap l k) m ms apart) (All-tail IsNear m ms near) in
+      omega (arith, sum_by-cons (λ (k : CedeLayer). layer_most k.limit one mean) m ms, here, rest)
+
+  one_more : (l : CedeLayer) (ls : List CedeLayer) (limit : Option ℕ) → l.limit ≡ limit → All (λ m. ¬ Overlap l m) ls → All IsNear (l ∷ ls)
+      → mosts one mean ls ≤ length ls * 2 ^ 76 + mean → mosts one mean (l ∷ ls) ≤ length (l ∷ ls) * 2 ^ 76 + mean
+  one_more l ls None e apart near rest =
+      omega (
+        arith,
+        sum_by-cons (λ (k : CedeLayer). layer_most k.limit one mean) l ls,
+        ap (λ t. layer_most t one mean) e,
+        others_small l ls e apart (All-tail IsNear l ls near),
+      )
+  one_more l ls (Some k) e apart near rest =
+      let limited : l.limit ≡ None → ⊥ = λ none. cc in
+      omega (
+        arith,
+        sum_by-cons (λ (k : CedeLayer). layer_most k.limit one mean) l ls,
+        rest,
+        with_limit l.limit one mean limited (All-head IsNear l ls near).limit scale,
+      )
+
+  pub mosts_small : (ls : List CedeLayer) → AllPairs (λ l m. ¬ Overlap l m) ls → All IsNear ls
+      → mosts one mean ls ≤ length ls * 2 ^ 76 + mean
+  mosts_small [] apart near = omega arith
+  mosts_small (l ∷ ls) apart near =
+      one_more l ls l.limit refl (first_apart l ls apart) near (mosts_small ls (rest_apart l ls apart) (All-tail IsNear l ls near))
+
+-- the layers of a clause, as seen by a walk
+module _ (clause : Clause) (seen : List CedeLayer) (same : seen ≡ clause.1) where
+  -- at the layer l, the i-th
+  module _ (i : ℕ) (l : CedeLayer) (inside : i < length seen) (is : l ≡ get_or seen i l) where
+    pub each_at : (P : CedeLayer → Type 0) → All P clause.1 → P l
+    each_at P all = subst P (sym is) (subst (λ ls. All P ls) (sym same) all i l inside)
+
+    pub more_most : (one mean before part : ℕ) → before ≤ mosts one mean (take i seen) → part ≤ layer_most l.limit one mean
+        → before + part ≤ mosts one mean (take (i + 1) seen)
+    more_most one mean before part h k =
+        let f : CedeLayer → ℕ = λ m. layer_most m.limit one mean in
+        omega (arith, h, k, sum_by_more f seen i l inside, ap f is)
+
+    pub more_width : (spread before part : ℕ) → before ≤ sum_by (λ m. part_width spread m.limit m.attach) (take i seen)
+        → part ≤ part_width spread l.limit l.attach
+        → before + part ≤ sum_by (λ m. part_width spread m.limit m.attach) (take (i + 1) seen)
+    more_width spread before part h k =
+        let f : CedeLayer → ℕ = λ m. part_width spread m.limit m.attach in
+        omega (arith, h, k, sum_by_more f seen i l inside, ap f is)
+
+  pub most_fits : (one mean n hi : ℕ) → IsCession clause → All IsNear clause.1 → one ≤ 2 ^ 56 → mean ≤ 2 ^ 92
+      → hi ≤ mosts one mean (take n seen) → hi ≤ 2 ^ 93
+  most_fits one mean n hi cession near scale small h =
+      let few : length clause.1 * 2 ^ 76 ≤ 16 * 2 ^ 76 = mul-le-mul_right (2 ^ 76) cession.few in
+      omega (
+        arith,
+        h,
+        small,
+        few,
+        sum_by-take-le (λ (m : CedeLayer). layer_most m.limit one mean) seen n,
+        ap (mosts one mean) same,
+        mosts_small one mean scale clause.1 cession.apart near,
+      )
+
+pub fine_shares : (layers : List CedeLayer) → IsFine (layer_shares layers) → All (λ l. l.share.den ≤ 2 ^ 30) layers
+fine_shares layers fine = λ i d inside.
+    let few : i < length (layer_shares layers) = omega (arith, inside, length-map layers (λ (l : CedeLayer). l.share)) in
+    let divides : (get_or (layer_shares layers) i d.share).den ∣ common_denominator (layer_shares layers) =
+    den_divides 1 (layer_shares layers) i d.share few in
+    let here : (get_or (layer_shares layers) i d.share).den ≡ (get_or layers i d).share.den =
+    ap (λ (x : Fraction). x.den) (get_or-map (λ (l : CedeLayer). l.share) layers i d d.share inside) in
+    omega (arith, fine, here, le_of_dvd (common_pos (layer_shares layers)) divides)

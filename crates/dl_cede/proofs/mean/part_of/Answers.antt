@@ -1,0 +1,54 @@
+use Rattle.std.proofs.Common.{◌-◌, ◌≤◌, arith}
+use Rattle.dl_plan.proofs.Cessions.{num_le_den}
+use Rattle.dl_grid.proofs.CellLaws.{one_fits}
+use Rattle.dl_cede.proofs.MeanSizes.{most_small, share_fits, share_within, share_width, part_narrow}
+use Rattle.dl_cede.proofs.MeanEnds.{part_holds}
+use Rattle.dl_cede.proofs.mean.part_of.Goals as goal
+
+pub scale-requires : goal.scale-requires
+scale-requires g c =
+    let small = most_small c.args.layer.now.limit _ c.args.claims.hi c.layer_mean-mean.result.hi c.requires.near.limit
+    (one_fits _ c.args.claims.scale_below) c.requires.small c.layer_mean-mean.ensures.most in
+    let within : c.num.result ≤ c.den.result = omega (
+      arith,
+      c.num.ensures.part,
+      c.den.ensures.part,
+      num_le_den c.args.layer.now.share
+          c.requires.share,
+    ) in
+    let fits = share_fits c.layer_mean-mean.result.hi c.num.result c.den.result small within
+    (omega (arith, c.den.ensures.part, c.requires.fine)) in
+    let less = share_within c.layer_mean-mean.result.hi c.num.result c.den.result within c.den.ensures.positive in
+    (omega arith, (c.den.ensures.positive, (omega (arith, fits), omega (arith, less, small))))
+
+pub returns-clause-holds : goal.returns-clause-holds
+returns-clause-holds g c =
+    part_holds c.args.grid.now c.args.layer.now c.args.claims c.layer_mean-mean.result c.scale.result c.num.result c.den.result
+    c.num.ensures.part c.den.ensures.part
+    c.scale.ensures.holds c.layer_mean-mean.ensures.holds
+
+pub returns-clause-width : goal.returns-clause-width
+returns-clause-width g c =
+    let within : c.num.result ≤ c.den.result = omega (
+      arith,
+      c.num.ensures.part,
+      c.den.ensures.part,
+      num_le_den c.args.layer.now.share
+          c.requires.share,
+    ) in
+    let wide = share_width c.layer_mean-mean.result.lo c.layer_mean-mean.result.hi c.num.result c.den.result
+    c.layer_mean-mean.result.ordered within c.den.ensures.positive in
+    part_narrow c.args.layer.now.limit c.args.layer.now.attach (c.args.claims.hi - c.args.claims.lo) _ _ (omega (arith, c.requires.narrow))
+    (omega (arith, wide, c.scale.ensures.low, c.scale.ensures.high, c.layer_mean-mean.ensures.width))
+
+pub returns-clause-small : goal.returns-clause-small
+returns-clause-small g c =
+    let within : c.num.result ≤ c.den.result = omega (
+      arith,
+      c.num.ensures.part,
+      c.den.ensures.part,
+      num_le_den c.args.layer.now.share
+          c.requires.share,
+    ) in
+    let less = share_within c.layer_mean-mean.result.hi c.num.result c.den.result within c.den.ensures.positive in
+    omega (arith, less, c.scale.ensures.high, c.layer_mean-mean.ensures.most)

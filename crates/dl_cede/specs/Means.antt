@@ -1,0 +1,36 @@
+-- The mean of what a clause keeps of the sum of a unit's claims: what an interval is to hold, and how wide it may be.
+use Rattle.std.specs.Prelude.{ℕ, ◌+◌, ◌*◌, ◌^◌, Option, None, Some, List, [], ◌∷◌, sum_by}
+use Rattle.dl_exact.specs.Fraction.{◌over◌}
+use Rattle.dl_iv.specs.declared.interval.Iv.{Iv}
+use Rattle.dl_plan.specs.declared.cede.CedeLayer.{CedeLayer}
+use Rattle.dl_plan.specs.declared.plan.Unit.{Unit as UnitOfPlan}
+use Rattle.dl_plan.specs.Cession.{Clause}
+use Rattle.dl_model.specs.Series.{Holds}
+use Rattle.dl_model.specs.Program.{One, Mean, partial_sums}
+use Rattle.dl_model.specs.Plans.{aggregate_of, claims_of, mean_ceded}
+
+-- the interval holds the mean of the sum of the claims, before the clause
+abbrev pub HoldsClaims : {B : ℕ} → UnitOfPlan → Iv B → Type 0
+HoldsClaims {B} u mean =
+    Holds (partial_sums (claims_of u ∷ []) Mean) (partial_sums (claims_of u ∷ []) One) (mean.lo over 2 ^ B) (mean.hi over 2 ^ B)
+
+-- the interval holds the mean of what layers take of that sum, each by its share
+abbrev pub HoldsCeded : {B : ℕ} → UnitOfPlan → List CedeLayer → Iv B → Type 0
+HoldsCeded {B} u layers mean =
+    Holds (mean_ceded u layers) (partial_sums (claims_of u ∷ []) One) (mean.lo over 2 ^ B) (mean.hi over 2 ^ B)
+
+-- the interval holds the mean of the unit, after its clause
+abbrev pub HoldsMean : {B : ℕ} → UnitOfPlan → Iv B → Type 0
+HoldsMean {B} u mean =
+    Holds (partial_sums (aggregate_of u ∷ []) Mean) (partial_sums (aggregate_of u ∷ []) One) (mean.lo over 2 ^ B) (mean.hi over 2 ^ B)
+
+-- what a layer adds to the width of a mean, from the spread of the grid of the sum: its limit times the spread and 3, or
+-- without a limit its attachment times the spread and 4
+abbrev pub part_width : (spread : ℕ) → Option ℕ → ℕ → ℕ
+part_width spread None attach = attach * spread + 4
+part_width spread (Some limit) attach = limit * spread + 3
+
+-- how wide the mean of a unit may be: 1, and what each layer of its clause adds
+abbrev pub mean_width : Option Clause → (spread : ℕ) → ℕ
+mean_width None spread = 1
+mean_width (Some clause) spread = 1 + sum_by (λ l. part_width spread l.limit l.attach) clause.1
