@@ -110,7 +110,7 @@ shares_kept c e k d h = not_at _ _ (none_each share_at c.layers e k d h)
 
 -- ---- no overlap
 
-turn_none : {A B : Type 0} (g : List A → A → Option B) (seen xs : List A) → in_turn g seen xs ≡ None → (j : ℕ) (d : A) → j < length xs → g (seen ++ take j xs) (get_or xs j d) ≡ None
+pub turn_none : {A B : Type 0} (g : List A → A → Option B) (seen xs : List A) → in_turn g seen xs ≡ None → (j : ℕ) (d : A) → j < length xs → g (seen ++ take j xs) (get_or xs j d) ≡ None
 unfolding in_turn
 turn_none g seen [] e j d h = absurd (omega (arith, h))
 turn_none g seen (y ∷ ys) e zero d h = subst (λ s. g s y ≡ None) (sym (append-nil seen)) (else_first (g seen y) _ e)
@@ -139,7 +139,7 @@ module _ (bs : Fraction) (c : Cession) (layered : IsClauseLayered bs c) where
   unfolding overlap_in
   turned = layered.apart
 
-  made_cession : is_fine (shares_of c) ≡ true → IsCession (clause_of bs c)
+  pub made_cession : is_fine (shares_of c) ≡ true → IsCession (clause_of bs c)
   made_cession fine = record {
     some = omega (arith, length-map c.layers (ceded_layer bs), layered.on_grid.spelled.formed.some);
     few = omega (arith, length-map c.layers (ceded_layer bs), layered.on_grid.few);

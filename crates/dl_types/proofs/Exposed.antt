@@ -19,7 +19,7 @@ use Rattle.dl_ast.specs.declared.ast.FreqAst.{FreqAst}
 use Rattle.dl_ast.specs.declared.ast.CountAst.{CountAst}
 use Rattle.dl_ast.specs.declared.ast.CountAst.TheVariants.{Exposed, Listed}
 use Rattle.dl_ast.specs.declared.ast.UnitAst.{UnitAst}
-use Rattle.dl_ast.specs.declared.ast.FreqAst.TheVariants.{Binomial}
+use Rattle.dl_ast.specs.declared.ast.FreqAst.TheVariants.{Binomial, Gamma}
 use Rattle.dl_ast.specs.WellFormed.{IsNumeral, IsExposure, IsFreq, IsCount}
 use Rattle.dl_types.specs.First.{first_in, each_of}
 use Rattle.dl_types.specs.Numerals.{is_bad_numeral, bad_place, in_count, in_layer, in_severity, in_clause, in_distribution, in_exposure, in_freq}
@@ -92,6 +92,11 @@ module _ (u : UnitAst) (read : IsRead u) where
   premium_good p r span is =
       let h = exposure_read u read (Premium p r span) is in
       ((h.0.0, first_good p (r ∷ []) h.1), (h.0.1, first_good r [] (none_tail bad_place p (r ∷ []) h.1)))
+
+  pub gamma_good : (e : Exposure) (n : Numeral) (span : Span) → u.count ≡ Exposed e (Gamma n span) → IsGood n
+  gamma_good e n span is =
+      let h = freq_read u read e (Gamma n span) is in
+      (h.0, first_good n [] h.1)
 
   pub binomial_good : (e : Exposure) (n : Numeral) (span : Span) → u.count ≡ Exposed e (Binomial n span) → IsGood n
   binomial_good e n span is =

@@ -1,25 +1,21 @@
 -- What fine fractions leave of an exposure.
-use Rattle.std.proofs.Common.{◌≡◌, ◌∙◌, Bool, true, false, not, ◌&&◌, ◌||◌, List, [], ◌++◌, flat_map, Option, Some, None, refl, sym, ap, subst}
+use Rattle.std.proofs.Common.{◌≡◌, ◌∙◌, Bool, true, false, not, ◌&&◌, ◌||◌, [], ◌++◌, flat_map, None, refl, sym, ap, subst}
 use Rattle.std.specs.List.{list_any}
-use Rattle.std.specs.Option.{IsSome, MatchOption}
-use Rattle.std.specs.Prelude.{is_none}
+use Rattle.std.specs.Option.{IsSome}
 use Rattle.dl_exact.specs.Fraction.{Fraction}
 use Rattle.dl_ast.specs.declared.ast.Atom.{Atom}
-use Rattle.dl_ast.specs.declared.ast.ListAst.{ListAst}
 use Rattle.dl_ast.specs.declared.ast.Exposure.{Exposure}
 use Rattle.dl_ast.specs.declared.ast.Exposure.TheVariants.{Claims, Loss, Premium}
 use Rattle.dl_ast.specs.declared.ast.FreqAst.{FreqAst}
-use Rattle.dl_ast.specs.declared.ast.FreqAst.TheVariants.{Fixed, Poisson, Bernoulli, Binomial, Gamma}
 use Rattle.dl_ast.specs.declared.ast.CountAst.{CountAst}
 use Rattle.dl_ast.specs.declared.ast.CountAst.TheVariants.{Exposed, Listed}
 use Rattle.dl_ast.specs.declared.ast.UnitAst.{UnitAst}
 use Rattle.dl_types.specs.First.{each_of}
 use Rattle.dl_types.specs.Lists.{itself, probs_in_count, prob_lists_of, is_fine, is_admitted}
 use Rattle.dl_types.specs.Severity.{mixture_shares}
-use Rattle.dl_types.specs.Exposures.{exposure_of, expected_loss, expected_count, has_severity, has_count, has_admitted, has_shares}
+use Rattle.dl_types.specs.Exposures.{exposure_of, expected_loss, expected_count, has_severity, has_count, has_admitted, has_shares, is_unbounded, thinned, thinned_mean}
 use Rattle.dl_types.specs.FineParts.{fractions_too_fine}
-use Rattle.dl_types.specs.Listed.{IsFinite, IsFiniteFreq}
-use Rattle.dl_types.specs.Rules.{loss_too_fine, count_too_fine, exposed_too_fine, too_fine}
+use Rattle.dl_types.specs.Rules.{loss_too_fine, count_too_fine, thinned_too_fine, exposed_too_fine, too_fine}
 use Rattle.dl_types.proofs.Nothing.{not_at}
 use Rattle.dl_types.proofs.FineLists.{coarse}
 use Rattle.dl_types.proofs.Exposed.{fine_lists, severity_lists}
@@ -53,39 +49,57 @@ count_there bs u (Claims n span) h = refl
 count_there bs u (Loss n span) h = h
 count_there bs u (Premium p r span) h = h
 
-finite_count : (bs : Fraction) (u : UnitAst) (e : Exposure) (f : FreqAst) → IsFiniteFreq f → exposed_too_fine bs u (Exposed e f) ≡ count_too_fine bs u e
-finite_count bs u e (Fixed span) h = refl
-finite_count bs u e (Poisson span) h = absurd h
-finite_count bs u e (Bernoulli span) h = refl
-finite_count bs u e (Binomial p span) h = refl
-finite_count bs u e (Gamma p span) h = absurd h
+-- the test of the count, and then that of the claims above 0
+module _ (bs : Fraction) (u : UnitAst) (e : Exposure) (f : FreqAst) (is : u.count ≡ Exposed e f) (fine : fractions_too_fine bs u ≡ false) where
+  told : (count_too_fine bs u e || (is_unbounded f && thinned_too_fine bs u e)) ≡ exposed_too_fine bs u u.count
+  told = ap (exposed_too_fine bs u) (sym is)
 
--- what is told of an exposed count
-module _ (bs : Fraction) (u : UnitAst) (e : Exposure) (f : FreqAst) (is : u.count ≡ Exposed e f) (finite : IsFinite u.count) where
-  told : count_too_fine bs u e ≡ exposed_too_fine bs u u.count
-  told = sym (finite_count bs u e f (subst IsFinite is finite)) ∙ ap (exposed_too_fine bs u) (sym is)
+  sev_there : has_severity bs u.sev ≡ true
+  sev_there = severity_there bs u (subst (λ k. IsSome (exposure_of k)) (sym is) refl) fine
 
-  pub by_loss : (r : Bool) → r ≡ loss_too_fine (expected_loss e) → r ≡ true → true ≡ exposed_too_fine bs u u.count
-  by_loss r loss passed = ap (λ b. b || (has_count bs u e && not (is_admitted (expected_count bs u e)))) (sym passed ∙ loss) ∙ told
+  here : has_count bs u e ≡ true
+  here = count_there bs u e sev_there
 
-  pub by_count : (r : Bool) (o : Option Fraction) → r ≡ loss_too_fine (expected_loss e) → r ≡ false → has_severity bs u.sev ≡ true
-      → MatchOption o (has_admitted bs u e ≡ false) (λ n. (n ≡ expected_count bs u e) × (has_admitted bs u e ≡ true)) → is_none o ≡ exposed_too_fine bs u u.count
-  by_count r o loss passed there given = answer o given ∙ ap (λ b. b || (has_count bs u e && not (is_admitted (expected_count bs u e)))) (sym passed ∙ loss) ∙ told
+  shares_there : has_shares u.occ ≡ true
+  shares_there =
+      second (list_any coarse (prob_lists_of u)) (has_shares u.occ) (not (has_shares u.agr)) (not (is_fine (mixture_shares bs u.sev))) fine
     where
-      here : has_count bs u e ≡ true
-      here = count_there bs u e there
+      second : (a b d m : Bool) → (a || not b || d || m) ≡ false → b ≡ true
+      second true b d m h = absurd (cc)
+      second false true d m h = refl
+      second false false d m h = absurd (cc)
 
-      from : (b a : Bool) (v : Bool) → b ≡ true → (b && a) ≡ v → not v ≡ (b && not a)
-      from true a v g h = ap not (sym h)
-      from false a v g h = absurd (cc)
+  -- the count is there: it is too fine where it is not admitted
+  count_told : (r a : Bool) → r ≡ loss_too_fine (expected_loss e) → r ≡ false → has_admitted bs u e ≡ a → count_too_fine bs u e ≡ not a
+  count_told r a loss passed given =
+      ap (λ b. b || (has_count bs u e && not (is_admitted (expected_count bs u e)))) (sym loss ∙ passed)
+      ∙ from (has_count bs u e) (is_admitted (expected_count bs u e)) a here given
+    where
+      from : (b d v : Bool) → b ≡ true → (b && d) ≡ v → (b && not d) ≡ not v
+      from true d v g h = ap not h
+      from false d v g h = absurd (cc)
 
-      answer : (o : Option Fraction) → MatchOption o (has_admitted bs u e ≡ false) (λ n. (n ≡ expected_count bs u e) × (has_admitted bs u e ≡ true))
-          → is_none o ≡ (has_count bs u e && not (is_admitted (expected_count bs u e)))
-      answer None given = from (has_count bs u e) (is_admitted (expected_count bs u e)) false here given
-      answer (Some n) given = from (has_count bs u e) (is_admitted (expected_count bs u e)) true here given.1
+  -- its claims above 0 too
+  thinned_told : thinned_too_fine bs u e ≡ not (is_admitted (thinned_mean bs u e))
+  thinned_told = all (has_count bs u e) (has_severity bs u.sev) (has_shares u.occ) _ here sev_there shares_there
+    where
+      all : (a b d m : Bool) → a ≡ true → b ≡ true → d ≡ true → (a && b && d && m) ≡ m
+      all true true true m p q r = refl
+      all true true false m p q r = absurd (cc)
+      all true false d m p q r = absurd (cc)
+      all false b d m p q r = absurd (cc)
 
--- of a unit whose fractions and exposure are fine the expected count is admitted
-module _ (bs : Fraction) (u : UnitAst) (e : Exposure) (f : FreqAst) (is : u.count ≡ Exposed e f) (finite : IsFinite u.count) (fine : too_fine bs u ≡ None) where
+  pub by_none : (r : Bool) → r ≡ loss_too_fine (expected_loss e) → r ≡ false → has_admitted bs u e ≡ false → true ≡ exposed_too_fine bs u u.count
+  by_none r loss passed given = ap (λ b. b || (is_unbounded f && thinned_too_fine bs u e)) (sym (count_told r false loss passed given)) ∙ told
+
+  pub by_some : (r b : Bool) (n : Fraction) → r ≡ loss_too_fine (expected_loss e) → r ≡ false → has_admitted bs u e ≡ true → n ≡ expected_count bs u e
+      → b ≡ (is_unbounded f && not (is_admitted (thinned bs u n))) → b ≡ exposed_too_fine bs u u.count
+  by_some r b n loss passed given same answer =
+      answer ∙ ap (λ x. is_unbounded f && not (is_admitted (thinned bs u x))) same ∙ ap (λ t. is_unbounded f && t) (sym thinned_told)
+      ∙ ap (λ t. t || (is_unbounded f && thinned_too_fine bs u e)) (sym (count_told r true loss passed given)) ∙ told
+
+-- of a unit whose fractions and exposure are fine the expected count is admitted, and so are its claims above 0
+module _ (bs : Fraction) (u : UnitAst) (e : Exposure) (f : FreqAst) (is : u.count ≡ Exposed e f) (fine : too_fine bs u ≡ None) where
   neither : (a b : Bool) → (a || b) ≡ false → (a ≡ false) × (b ≡ false)
   neither true b h = absurd (cc)
   neither false b h = (refl, h)
@@ -94,15 +108,24 @@ module _ (bs : Fraction) (u : UnitAst) (e : Exposure) (f : FreqAst) (is : u.coun
   unfolding too_fine
   parts = neither (fractions_too_fine bs u) (exposed_too_fine bs u u.count) (not_at _ u.name.span fine)
 
-  pub there : has_severity bs u.sev ≡ true
-  there = severity_there bs u (subst (λ k. IsSome (exposure_of k)) (sym is) refl) parts.0
+  both_fine : (count_too_fine bs u e ≡ false) × ((is_unbounded f && thinned_too_fine bs u e) ≡ false)
+  both_fine = neither (count_too_fine bs u e) (is_unbounded f && thinned_too_fine bs u e) (told bs u e f is parts.0 ∙ parts.1)
 
   pub admitted : has_admitted bs u e ≡ true
   admitted =
-      both (has_count bs u e) (is_admitted (expected_count bs u e)) (count_there bs u e there)
-      (neither (loss_too_fine (expected_loss e)) _ (told bs u e f is finite ∙ parts.1)).1
+      both (has_count bs u e) (is_admitted (expected_count bs u e)) (here bs u e f is parts.0) (neither (loss_too_fine (expected_loss e)) _ both_fine.0).1
     where
       both : (a b : Bool) → a ≡ true → (a && not b) ≡ false → (a && b) ≡ true
+      both true true g h = refl
+      both true false g h = absurd (cc)
+      both false b g h = absurd (cc)
+
+  pub thinned_admitted : is_unbounded f ≡ true → is_admitted (thinned_mean bs u e) ≡ true
+  thinned_admitted unbounded =
+      both (is_unbounded f) (is_admitted (thinned_mean bs u e)) unbounded
+      (ap (λ t. is_unbounded f && t) (sym (thinned_told bs u e f is parts.0)) ∙ both_fine.1)
+    where
+      both : (a b : Bool) → a ≡ true → (a && not b) ≡ false → b ≡ true
       both true true g h = refl
       both true false g h = absurd (cc)
       both false b g h = absurd (cc)

@@ -3,16 +3,10 @@ use Rattle.std.proofs.Common.{◌≡◌, ◌∙◌, ℕ, ◌+◌, ◌<◌, Bool,
 use Rattle.std.specs.List.{list_any}
 use Rattle.std.proofs.lemmas.List.Folds.{list_any-append, list_any_more, list_any_at}
 use Rattle.std.proofs.Math.Bool.{or-false}
-use Rattle.dl_exact.specs.Fraction.{Fraction}
 use Rattle.dl_ast.specs.declared.ast.ListAst.{ListAst}
 use Rattle.dl_ast.specs.declared.ast.Atom.{Atom}
-use Rattle.dl_ast.specs.declared.ast.CountAst.{CountAst}
-use Rattle.dl_ast.specs.declared.ast.CountAst.TheVariants.{Exposed, Listed}
-use Rattle.dl_ast.specs.declared.ast.UnitAst.{UnitAst}
 use Rattle.dl_types.specs.First.{each_of}
 use Rattle.dl_types.specs.Lists.{values_of, itself, is_fine}
-use Rattle.dl_types.specs.Listed.{IsListed}
-use Rattle.dl_types.specs.Rules.{exposed_too_fine}
 
 -- a list is not fine
 abbrev pub coarse : ListAst → Bool

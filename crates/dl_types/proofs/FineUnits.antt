@@ -16,8 +16,9 @@ use Rattle.dl_types.specs.Lists.{values_of, prob_lists_of, is_fine}
 use Rattle.dl_types.specs.Clauses.{clause_of, shares_of, is_off}
 use Rattle.dl_types.specs.Severity.{severity_in_layer, ceded_pairs, mixture_shares, support}
 use Rattle.dl_types.specs.Exposures.{has_shares}
-use Rattle.dl_types.specs.Rules.{off_grid_cession, too_fine, exposed_too_fine}
-use Rattle.dl_types.specs.Kept.{IsFineUnit}
+use Rattle.dl_types.specs.FineParts.{fractions_too_fine}
+use Rattle.dl_types.specs.Rules.{not_one, off_grid_cession, too_fine, exposed_too_fine}
+use Rattle.dl_types.specs.Kept.{IsLayered, IsFineSev, IsFineUnit}
 use Rattle.dl_types.specs.Parts.{IsSevShared}
 use Rattle.dl_types.proofs.Nothing.{else_first, none_within, not_at, not_then}
 use Rattle.dl_types.proofs.Values.{never}
@@ -25,12 +26,12 @@ use Rattle.dl_types.proofs.Parts.{sev_on_grid}
 use Rattle.dl_types.proofs.Shared.{sev_shared}
 use Rattle.dl_types.proofs.Meaning.{mapped_means}
 
-none_of : (a b c d e : Bool) → (a || b || c || d || e) ≡ false → (a ≡ false) × (b ≡ false) × (d ≡ false)
-none_of true b c d e h = absurd (cc)
-none_of false true c d e h = absurd (cc)
-none_of false false true d e h = absurd (cc)
-none_of false false false true e h = absurd (cc)
-none_of false false false false e h = (refl, refl, refl)
+none_of : (a b c d : Bool) → (a || b || c || d) ≡ false → (a ≡ false) × (b ≡ false) × (d ≡ false)
+none_of true b c d h = absurd (cc)
+none_of false true c d h = absurd (cc)
+none_of false false true d h = absurd (cc)
+none_of false false false true h = absurd (cc)
+none_of false false false false h = (refl, refl, refl)
 
 pub fine_yes : (xs : List Fraction) → is_fine xs ≡ true → IsFine xs
 fine_yes xs e = at_most (common_denominator xs) e
@@ -38,12 +39,28 @@ fine_yes xs e = at_most (common_denominator xs) e
     at_most : (n : ℕ) → nat_le n (2 ^ 30) ≡ true → n ≤ 2 ^ 30
     at_most n h = grind arith
 
-module _ (bs : Fraction) (u : UnitAst) (fine : IsFineUnit bs u) where
+-- a unit that keeps the rule on fractions
+pub fine_sev : (bs : Fraction) (u : UnitAst) → IsLayered bs u → not_one u ≡ None → off_grid_cession bs u ≡ None → too_fine bs u ≡ None → IsFineSev bs u
+unfolding too_fine
+fine_sev bs u layered one ceded fine = record {
+  layered = layered;
+  one = one;
+  ceded = ceded;
+  fine = left_false (fractions_too_fine bs u) (exposed_too_fine bs u u.count) (not_at _ u.name.span fine);
+}
+  where
+    left_false : (a b : Bool) → (a || b) ≡ false → a ≡ false
+    left_false true b h = absurd (cc)
+    left_false false b h = refl
+
+pub fine_unit : (bs : Fraction) (u : UnitAst) → IsFineUnit bs u → IsFineSev bs u
+fine_unit bs u fine = fine_sev bs u fine.layered fine.one fine.ceded fine.fine
+
+module _ (bs : Fraction) (u : UnitAst) (fine : IsFineSev bs u) where
   facts : (list_any (λ (l : ListAst). not (is_fine (values_of l))) (prob_lists_of u) ≡ false) × (not (has_shares u.occ) ≡ false) × (not (is_fine (mixture_shares bs u.sev)) ≡ false)
-  unfolding too_fine
   facts =
       none_of (list_any (λ (l : ListAst). not (is_fine (values_of l))) (prob_lists_of u)) (not (has_shares u.occ)) (not (has_shares u.agr)) (not (is_fine (mixture_shares bs u.sev)))
-      (exposed_too_fine bs u u.count) (not_at _ u.name.span fine.fine)
+      fine.fine
 
   pub unit_shared : IsSevShared u.sev
   unit_shared = sev_shared u fine.one facts.0 bs (sev_on_grid bs u fine.layered.on_grid)

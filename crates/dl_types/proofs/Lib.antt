@@ -24,7 +24,6 @@ pub mod ClauseGrids
 pub mod ClauseLaws
 pub mod ListedCounts
 pub mod FineLists
-pub mod FiniteRules
 pub mod UnitPlans
 pub mod Aggregates
 pub mod Near
@@ -33,5 +32,11 @@ pub mod Pasts
 pub mod ProgramUnits
 pub mod Ratios
 pub mod Exposed
-pub mod FiniteCounts
+pub mod ExposedCounts
 pub mod FineExposures
+pub mod ThinnedUnits
+pub mod Tables
+pub mod SevSteps
+pub mod SevThere
+pub mod CountThere
+pub mod Accepted

@@ -22,7 +22,7 @@ firsts-zip [] ys e = refl
 firsts-zip (x ∷ xs) [] e = absurd (omega (arith, e))
 firsts-zip (x ∷ xs) (y ∷ ys) e = ap (λ zs. x ∷ zs) (firsts-zip xs ys (omega (arith, e)))
 
-seconds-zip : (xs : List ℕ) (ys : List Fraction) → length xs ≡ length ys → ys ≡ seconds (zip xs ys)
+pub seconds-zip : (xs : List ℕ) (ys : List Fraction) → length xs ≡ length ys → ys ≡ seconds (zip xs ys)
 seconds-zip [] [] e = refl
 seconds-zip [] (y ∷ ys) e = absurd (omega (arith, e))
 seconds-zip (x ∷ xs) [] e = absurd (omega (arith, e))

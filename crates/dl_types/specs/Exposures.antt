@@ -6,6 +6,8 @@ use Rattle.dl_exact.specs.Fraction.{Fraction, whole, ◌-ℚ◌, ◌*ℚ◌, ◌
 use Rattle.dl_plan.specs.Severity.{probability, mean_amount}
 use Rattle.dl_ast.specs.declared.ast.Exposure.{Exposure}
 use Rattle.dl_ast.specs.declared.ast.Exposure.TheVariants.{Claims, Loss, Premium}
+use Rattle.dl_ast.specs.declared.ast.FreqAst.{FreqAst}
+use Rattle.dl_ast.specs.declared.ast.FreqAst.TheVariants.{Fixed, Poisson, Bernoulli, Binomial, Gamma}
 use Rattle.dl_ast.specs.declared.ast.SevAst.{SevAst}
 use Rattle.dl_ast.specs.declared.ast.Cession.{Cession}
 use Rattle.dl_ast.specs.declared.ast.UnitAst.{UnitAst}
@@ -62,9 +64,20 @@ abbrev pub has_shares : Option Cession → Bool
 has_shares None = true
 has_shares (Some c) = is_fine (shares_of c)
 
--- the expected number of claims above 0
+-- a Poisson or a gamma count: there is no greatest number of claims
+abbrev pub is_unbounded : FreqAst → Bool
+is_unbounded (Fixed _) = false
+is_unbounded (Poisson _) = true
+is_unbounded (Bernoulli _) = false
+is_unbounded (Binomial p _) = false
+is_unbounded (Gamma c _) = true
+
+-- of so many claims, the expected number above 0: the number times the probability that a claim is above 0
+abbrev pub thinned : Fraction → UnitAst → Fraction → Fraction
+thinned bs u number = number *ℚ (whole 1 -ℚ probability (final_severity bs u) 0)
+
 abbrev pub thinned_mean : Fraction → UnitAst → Exposure → Fraction
-thinned_mean bs u exposure = expected_count bs u exposure *ℚ (whole 1 -ℚ probability (final_severity bs u) 0)
+thinned_mean bs u exposure = thinned bs u (expected_count bs u exposure)
 
 -- the shape of a gamma factor with this coefficient of variation
 abbrev pub shape_of : Fraction → Fraction

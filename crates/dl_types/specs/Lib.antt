@@ -13,7 +13,6 @@ pub mod ListsKept
 pub mod ClausesKept
 pub mod Flaws
 pub mod Faults
-pub mod FiniteFaults
 pub mod Names
 pub mod UnitNames
 pub mod Plans

@@ -2,8 +2,6 @@
 use Rattle.std.specs.Prelude.{◌≡◌, ⊤, not, false, Option, None, IfSome}
 use Rattle.std.specs.List.{list_any}
 use Rattle.dl_ast.specs.declared.ast.ListAst.{ListAst}
-use Rattle.dl_ast.specs.declared.ast.FreqAst.{FreqAst}
-use Rattle.dl_ast.specs.declared.ast.FreqAst.TheVariants.{Fixed, Poisson, Bernoulli, Binomial, Gamma}
 use Rattle.dl_ast.specs.declared.ast.CountAst.{CountAst}
 use Rattle.dl_ast.specs.declared.ast.CountAst.TheVariants.{Exposed, Listed}
 use Rattle.dl_types.specs.First.{within}
@@ -28,16 +26,3 @@ pub record AreCounts (counts : ListAst) (probs : Option ListAst) : Type 0 where
 abbrev pub HasCounts : CountAst → Type 0
 HasCounts (Exposed exposure freq) = ⊥
 HasCounts (Listed counts probs _) = AreCounts counts probs
-
--- at most so many claims: exactly the expected count, one claim or none, or trials
-abbrev pub IsFiniteFreq : FreqAst → Type 0
-IsFiniteFreq (Fixed _) = ⊤
-IsFiniteFreq (Poisson _) = ⊥
-IsFiniteFreq (Bernoulli _) = ⊤
-IsFiniteFreq (Binomial p _) = ⊤
-IsFiniteFreq (Gamma c _) = ⊥
-
--- the unit has a greatest number of claims
-abbrev pub IsFinite : CountAst → Type 0
-IsFinite (Exposed exposure freq) = IsFiniteFreq freq
-IsFinite (Listed counts probs _) = ⊤

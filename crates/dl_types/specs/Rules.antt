@@ -29,9 +29,9 @@ use Rattle.dl_types.specs.First.{◌else◌, at_if, within, first_in, in_turn}
 use Rattle.dl_types.specs.Numerals.{value, bad_place, numerals_of}
 use Rattle.dl_types.specs.Lists.{range_of, item_values, values_of, lists_in_count, lists_in_severity, lists_of, prob_lists_of, is_fine, is_admitted, is_whole, is_zero, is_above, is_not_one}
 use Rattle.dl_types.specs.Clauses.{ceded_layer, clause_of, shares_of, overlaps, is_off, is_off_multiples, is_past}
-use Rattle.dl_types.specs.Severity.{attach_of, is_conditioned, mixed_pairs, severity_in_layer, final_severity, support, mixture_shares}
+use Rattle.dl_types.specs.Severity.{attach_of, is_conditioned, mixed_pairs, severity_in_layer, final_severity, support}
 use Rattle.dl_types.specs.FineParts.{fractions_too_fine}
-use Rattle.dl_types.specs.Exposures.{expected_loss, expected_count, has_severity, has_count, has_admitted, has_shares, thinned_mean, shape_of}
+use Rattle.dl_types.specs.Exposures.{expected_loss, expected_count, has_severity, has_count, has_admitted, has_shares, is_unbounded, thinned_mean, shape_of}
 
 -- 1 DuplicateName: the unit's name is that of an earlier unit
 unfoldable pub duplicate_name : List UnitAst → UnitAst → Option Span
@@ -253,11 +253,7 @@ thinned_too_fine bs u exposure =
     has_count bs u exposure && has_severity bs u.sev && has_shares u.occ && not (is_admitted (thinned_mean bs u exposure))
 
 abbrev pub exposed_too_fine : Fraction → UnitAst → CountAst → Bool
-exposed_too_fine bs u (Exposed exposure (Fixed _)) = count_too_fine bs u exposure
-exposed_too_fine bs u (Exposed exposure (Poisson _)) = count_too_fine bs u exposure || thinned_too_fine bs u exposure
-exposed_too_fine bs u (Exposed exposure (Bernoulli _)) = count_too_fine bs u exposure
-exposed_too_fine bs u (Exposed exposure (Binomial p _)) = count_too_fine bs u exposure
-exposed_too_fine bs u (Exposed exposure (Gamma c _)) = count_too_fine bs u exposure || thinned_too_fine bs u exposure
+exposed_too_fine bs u (Exposed exposure freq) = count_too_fine bs u exposure || (is_unbounded freq && thinned_too_fine bs u exposure)
 exposed_too_fine bs u (Listed counts probs _) = false
 
 unfoldable pub too_fine : Fraction → UnitAst → Option Span

@@ -5,7 +5,7 @@ ghost use Rattle.std.specs.List.{list_any};
 ghost use Rattle.dl_exact.specs.Fraction.{Fraction};
 ghost use Rattle.dl_plan.specs.Fine.{IsAdmitted};
 ghost use Rattle.dl_plan.specs.Severity.{Means};
-ghost use Rattle.dl_plan.specs.Count.{IsCount, IsUnbounded, expected_count};
+ghost use Rattle.dl_plan.specs.Count.{IsCount, expected_count};
 ghost use Rattle.dl_types.specs.First.{at_if};
 ghost use Rattle.dl_types.specs.Lists.{values_of, is_whole};
 ghost use Rattle.dl_types.specs.Listed.{IsListed, AreCounts};
@@ -98,7 +98,6 @@ pub(crate) fn count_table(
     ensures count { IfOk result (IsTableOf counts.now probs.now) }
     ensures valid { IfOk result (λ freq. IsCount freq) }
     ensures expected { IfOk result (λ freq. IsAdmitted (expected_count freq)) }
-    ensures bounded { IfOk result (λ freq. ¬ IsUnbounded freq) }
 {
     let table = weighed_counts(alloc, counts, probs)?;
     Ok(Freq::Table {

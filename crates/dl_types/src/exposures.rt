@@ -11,13 +11,12 @@ ghost use Rattle.dl_types.specs.First.{at_if};
 ghost use Rattle.dl_types.specs.Lists.{is_whole, is_above};
 ghost use Rattle.dl_types.specs.Severity.{severity_in_layer};
 ghost use Rattle.dl_types.specs.Exposures.{exposure_of, expected_count, mean_in_money, has_severity, has_admitted, GivesAdmitted};
-ghost use Rattle.dl_types.specs.Listed.{IsFinite};
-ghost use Rattle.dl_types.specs.Rules.{not_one, has_no_loss, zero_mean, zero_mean_of, exposure_span, count_not_whole, count_not_whole_of, count_above_one, count_above_one_of, trials_not_whole, trials_not_whole_of, too_fine, too_many_claims};
-ghost use Rattle.dl_types.specs.Kept.{IsBucket, IsOnGrid, IsLayered};
+ghost use Rattle.dl_types.specs.Rules.{not_one, has_no_loss, zero_mean, zero_mean_of, exposure_span, count_not_whole, count_not_whole_of, count_above_one, count_above_one_of, trials_not_whole, trials_not_whole_of, shape_not_whole, off_grid_cession, too_fine, too_many_claims};
+ghost use Rattle.dl_types.specs.Kept.{IsBucket, IsRead, IsOnGrid, IsLayered};
 
 use crate::counts;
 use crate::fine::severity_too_fine;
-use crate::frequencies::exposed_too_many;
+use crate::frequencies::{exposed_too_many, has_no_shape};
 use crate::numerals::value;
 use crate::places::place_if;
 use crate::ratio::Ratio;
@@ -323,19 +322,36 @@ fn is_no_multiple(value: Frac, part: Frac) -> bool
     value.num() as u128 * part.den() as u128 % (value.den() as u128 * part.num() as u128) != 0
 }
 
-/// The place of a unit with too many claims. Its fractions are fine, and its trials are whole.
+/// The place of a gamma factor whose shape is no whole number above 0.
+#[tactic(auto, unfolding(crate::specs::Rules::shape_not_whole))]
+pub(crate) fn shape_not_whole(unit: &UnitAst) -> Option<Span>
+    requires { IsRead unit.now }
+    ensures { result ≡ shape_not_whole unit.now }
+{
+    let CountAst::Exposed { freq, .. } = &unit.count else {
+        return None;
+    };
+    let FreqAst::Gamma(number, span) = freq else {
+        return None;
+    };
+    place_if(has_no_shape(value(number)), *span)
+}
+
+/// The place of a unit with too many claims. Its fractions are fine, and its trials and its shape are
+/// whole.
 #[tactic(auto, unfolding(crate::specs::Rules::too_many_claims))]
 pub(crate) fn too_many_claims(
     alloc: Global,
     unit: &UnitAst,
     bs: Frac,
 ) -> Result<Option<Span>, AllocError>
-    requires finite { IsFinite unit.now.count }
     requires bucket { IsBucket bs }
     requires layered { IsLayered bs unit.now }
     requires one { not_one unit.now ≡ None }
+    requires ceded { off_grid_cession bs unit.now ≡ None }
     requires above { zero_mean bs unit.now ≡ None }
     requires trials { trials_not_whole bs unit.now ≡ None }
+    requires shape { shape_not_whole unit.now ≡ None }
     requires fine { too_fine bs unit.now ≡ None }
     ensures { IfOk result (λ place. place ≡ too_many_claims bs unit.now) }
 {

@@ -1,16 +1,15 @@
 //! Whether all the fractions of a unit are fine.
 
-ghost use Rattle.std.specs.Prelude.{◌≡◌, ◌++◌, ◌||◌, Some, None, false, not, flat_map, IfOk, IfSome, All};
+ghost use Rattle.std.specs.Prelude.{◌≡◌, ◌++◌, ◌||◌, ◌&&◌, Some, None, false, not, flat_map, IfOk, IfSome, All};
 ghost use Rattle.std.specs.List.{list_any};
 ghost use Rattle.dl_types.specs.First.{each_of};
 ghost use Rattle.dl_types.specs.Lists.{values_of, itself, lists_in_count, lists_in_severity, probs_in_count, prob_lists_of, is_fine, is_admitted};
-ghost use Rattle.dl_types.specs.Listed.{IsFinite};
-ghost use Rattle.dl_types.specs.Exposures.{has_shares, exposure_of, expected_loss};
+ghost use Rattle.dl_types.specs.Exposures.{has_shares, exposure_of, expected_loss, is_unbounded, thinned};
 ghost use Rattle.dl_types.specs.FineParts.{fractions_too_fine};
 ghost use Rattle.dl_types.specs.Parts.{IsListRead};
 ghost use Rattle.dl_types.specs.ClausesKept.{IsClauseLayered};
-ghost use Rattle.dl_types.specs.Rules.{not_one, too_fine, zero_mean, loss_too_fine, exposed_too_fine};
-ghost use Rattle.dl_types.specs.Kept.{IsBucket, IsRead, IsLayered};
+ghost use Rattle.dl_types.specs.Rules.{not_one, off_grid_cession, too_fine, zero_mean, loss_too_fine, exposed_too_fine};
+ghost use Rattle.dl_types.specs.Kept.{IsBucket, IsRead, IsLayered, IsFineSev};
 
 use crate::clauses::clause;
 use crate::exposures::expected_count;
@@ -18,7 +17,8 @@ use crate::lists::list_values;
 use crate::numerals::value;
 use crate::places::place_if;
 use crate::severity::mixture_is_fine;
-use dl_ast::{Cession, CountAst, Exposure, ListAst, SevAst, UnitAst};
+use crate::thinned::thinned_mean;
+use dl_ast::{Cession, CountAst, Exposure, FreqAst, ListAst, SevAst, UnitAst};
 use dl_frac::Frac;
 use dl_lexer::Span;
 use dl_plan::common_denominator_of;
@@ -27,10 +27,10 @@ use std::alloc::{AllocError, Global};
 /// The place of a unit with fractions that are not fine, or an exposure that is not admitted.
 #[tactic(auto, unfolding(crate::specs::Rules::too_fine))]
 pub(crate) fn too_fine(alloc: Global, unit: &UnitAst, bs: Frac) -> Result<Option<Span>, AllocError>
-    requires finite { IsFinite unit.now.count }
     requires bucket { IsBucket bs }
     requires layered { IsLayered bs unit.now }
     requires one { not_one unit.now ≡ None }
+    requires ceded { off_grid_cession bs unit.now ≡ None }
     requires above { zero_mean bs unit.now ≡ None }
     ensures { IfOk result (λ place. place ≡ too_fine bs unit.now) }
 {
@@ -61,29 +61,48 @@ fn fractions_too_fine(alloc: Global, unit: &UnitAst, bs: Frac) -> Result<bool, A
     Ok(!fine)
 }
 
-/// Whether the expected loss or the expected count of an exposure is not admitted. The fractions of
-/// the unit are fine.
+/// Whether the expected loss, the expected count, or for a Poisson or a gamma count the expected
+/// number of claims above 0, is not admitted. The fractions of the unit are fine.
 fn exposed_too_fine(alloc: Global, unit: &UnitAst, bs: Frac) -> Result<bool, AllocError>
-    requires finite { IsFinite unit.now.count }
     requires bucket { IsBucket bs }
-    requires layered { IsLayered bs unit.now }
-    requires one { not_one unit.now ≡ None }
+    requires fine { IsFineSev bs unit.now }
     requires above { zero_mean bs unit.now ≡ None }
-    requires fine { fractions_too_fine bs unit.now ≡ false }
     ensures { IfOk result (λ coarse. coarse ≡ exposed_too_fine bs unit.now unit.now.count) }
 {
     match &unit.count {
         CountAst::Listed { .. } => Ok(false),
-        CountAst::Exposed { exposure, .. } => {
+        CountAst::Exposed { exposure, freq } => {
             let coarse = loss_too_fine(unit, exposure);
             if coarse {
                 return Ok(true);
             }
             match expected_count(alloc, unit, exposure, bs)? {
-                Some(_) => Ok(false),
+                Some(number) => thinned_too_fine(alloc, unit, freq, number, bs),
                 None => Ok(true),
             }
         }
+    }
+}
+
+/// Whether the expected number of claims above 0, of so many, is not admitted, where the count is a
+/// Poisson or a gamma one.
+fn thinned_too_fine(
+    alloc: Global,
+    unit: &UnitAst,
+    freq: &FreqAst,
+    number: Frac,
+    bs: Frac,
+) -> Result<bool, AllocError>
+    requires bucket { IsBucket bs }
+    requires fine { IsFineSev bs unit.now }
+    ensures { IfOk result (λ coarse. coarse ≡ (is_unbounded freq.now && not (is_admitted (thinned bs unit.now number)))) }
+{
+    match freq {
+        FreqAst::Poisson(_) => Ok(thinned_mean(alloc, unit, number, bs)?.is_none()),
+        FreqAst::Gamma(_, _) => Ok(thinned_mean(alloc, unit, number, bs)?.is_none()),
+        FreqAst::Fixed(_) => Ok(false),
+        FreqAst::Bernoulli(_) => Ok(false),
+        FreqAst::Binomial(_, _) => Ok(false),
     }
 }
 

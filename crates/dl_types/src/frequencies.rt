@@ -1,21 +1,21 @@
-//! The claim counts of exposures with a greatest number of claims.
+//! The claim counts of exposures.
 
-ghost use Rattle.std.specs.Prelude.{◌≡◌, ℕ, true, false, None, Some, IfOk};
+ghost use Rattle.std.specs.Prelude.{◌≡◌, ◌||◌, ℕ, not, true, false, None, Some, IfOk};
 ghost use Rattle.dl_exact.specs.Fraction.{whole, ◌/ℚ◌, ◌<ℚ◌};
 ghost use Rattle.dl_ast.specs.declared.ast.CountAst.TheVariants.{Exposed};
-ghost use Rattle.dl_plan.specs.Count.{IsCount, IsUnbounded, expected_count as expected_of_plan};
+ghost use Rattle.dl_plan.specs.Count.{IsCount, expected_count as expected_of_plan};
 ghost use Rattle.dl_plan.specs.Fine.{IsAdmitted};
 ghost use Rattle.dl_plan.specs.declared.plan.Freq.TheVariants as of_plan;
-ghost use Rattle.dl_types.specs.Exposures.{exposure_of, expected_count, has_admitted};
-ghost use Rattle.dl_types.specs.Lists.{is_whole, is_above};
-ghost use Rattle.dl_types.specs.Listed.{IsFiniteFreq};
+ghost use Rattle.dl_types.specs.Exposures.{exposure_of, expected_count, has_admitted, thinned, shape_of};
+ghost use Rattle.dl_types.specs.Lists.{is_whole, is_zero, is_above, is_admitted};
 ghost use Rattle.dl_types.specs.Plans.{IsCountOf};
-ghost use Rattle.dl_types.specs.Rules.{not_one, zero_mean, count_not_whole, count_above_one, trials_not_whole, too_many_claims, has_too_many_claims, passes};
-ghost use Rattle.dl_types.specs.Kept.{IsBucket, IsLayered};
+ghost use Rattle.dl_types.specs.Rules.{not_one, zero_mean, count_not_whole, count_above_one, trials_not_whole, shape_not_whole, too_fine, too_many_claims, has_too_many_claims, passes};
+ghost use Rattle.dl_types.specs.Kept.{IsBucket, IsLayered, IsFineSev, IsFineUnit, IsExposedUnit};
 
 use crate::counts::passes;
 use crate::exposures::expected_count;
 use crate::numerals::value;
+use crate::thinned::thinned_mean;
 use dl_ast::{Exposure, FreqAst, UnitAst};
 use dl_frac::Frac;
 use dl_plan::Freq;
@@ -30,13 +30,12 @@ pub(crate) fn exposed_too_many(
     bs: Frac,
 ) -> Result<bool, AllocError>
     requires bucket { IsBucket bs }
-    requires layered { IsLayered bs unit.now }
-    requires one { not_one unit.now ≡ None }
+    requires sev { IsFineSev bs unit.now }
     requires above { zero_mean bs unit.now ≡ None }
     requires exposed { unit.now.count ≡ Exposed exposure.now freq.now }
-    requires finite { IsFiniteFreq freq.now }
-    requires admitted { has_admitted bs unit.now exposure.now ≡ true }
     requires trials { trials_not_whole bs unit.now ≡ None }
+    requires shape { shape_not_whole unit.now ≡ None }
+    requires fine { too_fine bs unit.now ≡ None }
     ensures { IfOk result (λ many. many ≡ has_too_many_claims bs unit.now (Exposed exposure.now freq.now)) }
 {
     let number = admitted_count(alloc, unit, exposure, bs)?;
@@ -44,8 +43,29 @@ pub(crate) fn exposed_too_many(
         FreqAst::Fixed(_) => Ok(passes(number, 65_536)),
         FreqAst::Bernoulli(_) => Ok(false),
         FreqAst::Binomial(chance, _) => Ok(trials(number, value(chance)) > 65_536),
-        FreqAst::Poisson(_) => unreachable!(),
-        FreqAst::Gamma(_, _) => unreachable!(),
+        FreqAst::Poisson(_) => too_many_above_zero(alloc, unit, number, bs),
+        FreqAst::Gamma(variation, _) => {
+            let many = too_many_above_zero(alloc, unit, number, bs)?;
+            Ok(many || shape(value(variation)) > 10_000)
+        }
+    }
+}
+
+/// Whether of so many claims more than 4,096 are expected to be above 0.
+fn too_many_above_zero(
+    alloc: Global,
+    unit: &UnitAst,
+    number: Frac,
+    bs: Frac,
+) -> Result<bool, AllocError>
+    requires bucket { IsBucket bs }
+    requires sev { IsFineSev bs unit.now }
+    requires admitted { is_admitted (thinned bs unit.now number) ≡ true }
+    ensures { IfOk result (λ many. many ≡ passes (thinned bs unit.now number) 4096) }
+{
+    match thinned_mean(alloc, unit, number, bs)? {
+        Some(mean) => Ok(passes(mean, 4_096)),
+        None => unreachable!(),
     }
 }
 
@@ -58,28 +78,20 @@ pub(crate) fn exposed_count(
     bs: Frac,
 ) -> Result<Freq, AllocError>
     requires bucket { IsBucket bs }
-    requires layered { IsLayered bs unit.now }
-    requires one { not_one unit.now ≡ None }
-    requires above { zero_mean bs unit.now ≡ None }
+    requires fine { IsFineUnit bs unit.now }
+    requires kept { IsExposedUnit bs unit.now }
     requires exposed { unit.now.count ≡ Exposed exposure.now freq.now }
-    requires finite { IsFiniteFreq freq.now }
-    requires admitted { has_admitted bs unit.now exposure.now ≡ true }
-    requires whole { count_not_whole bs unit.now ≡ None }
-    requires within { count_above_one bs unit.now ≡ None }
-    requires trials { trials_not_whole bs unit.now ≡ None }
-    requires few { too_many_claims bs unit.now ≡ None }
     ensures count { IfOk result (λ made. IsCountOf bs unit.now (Exposed exposure.now freq.now) made) }
     ensures valid { IfOk result (λ made. IsCount made) }
     ensures expected { IfOk result (λ made. IsAdmitted (expected_of_plan made)) }
-    ensures bounded { IfOk result (λ made. ¬ IsUnbounded made) }
 {
     let number = admitted_count(alloc, unit, exposure, bs)?;
     match freq {
         FreqAst::Fixed(_) => Ok(fixed_claims(number)),
         FreqAst::Bernoulli(_) => Ok(single_claim(number)),
         FreqAst::Binomial(chance, _) => Ok(binomial_claims(number, value(chance))),
-        FreqAst::Poisson(_) => unreachable!(),
-        FreqAst::Gamma(_, _) => unreachable!(),
+        FreqAst::Poisson(_) => Ok(Freq::Poisson(number)),
+        FreqAst::Gamma(variation, _) => Ok(gamma_claims(number, value(variation))),
     }
 }
 
@@ -123,7 +135,6 @@ fn fixed_claims(number: Frac) -> Freq
     ensures count { (m : ℕ) × (whole m ≡ number) × (result ≡ of_plan.Fixed m) }
     ensures valid { IsCount result }
     ensures expected { IsAdmitted (expected_of_plan result) }
-    ensures bounded { ¬ IsUnbounded result }
 {
     Freq::Fixed(number.num() as u32)
 }
@@ -135,7 +146,6 @@ fn single_claim(number: Frac) -> Freq
     ensures count { result ≡ of_plan.Bernoulli number }
     ensures valid { IsCount result }
     ensures expected { IsAdmitted (expected_of_plan result) }
-    ensures bounded { ¬ IsUnbounded result }
 {
     Freq::Bernoulli(number)
 }
@@ -151,10 +161,42 @@ fn binomial_claims(number: Frac, chance: Frac) -> Freq
     ensures count { (m : ℕ) × (whole m ≡ number /ℚ chance) × (result ≡ of_plan.Binomial m chance) }
     ensures valid { IsCount result }
     ensures expected { IsAdmitted (expected_of_plan result) }
-    ensures bounded { ¬ IsUnbounded result }
 {
     Freq::Binomial {
         trials: trials(number, chance) as u32,
         q: chance,
+    }
+}
+
+/// Whether a coefficient of variation has no whole shape: 1 over its square is whole exactly where it
+/// is 1 over a whole number.
+pub(crate) fn has_no_shape(variation: Frac) -> bool
+    ensures { result ≡ (is_zero variation || not (is_whole (shape_of variation))) }
+{
+    variation.num() != 1
+}
+
+/// The whole shape of a gamma factor with this coefficient of variation: 1 over its square.
+fn shape(variation: Frac) -> u128
+    requires above { is_zero variation ≡ false }
+    requires whole { is_whole (shape_of variation) ≡ true }
+    ensures { whole result ≡ shape_of variation }
+{
+    variation.den() as u128 * variation.den() as u128
+}
+
+/// A Poisson count whose mean has a gamma factor of a whole shape.
+fn gamma_claims(number: Frac, variation: Frac) -> Freq
+    requires above { is_zero variation ≡ false }
+    requires whole { is_whole (shape_of variation) ≡ true }
+    requires few { passes (shape_of variation) 10000 ≡ false }
+    requires admitted { IsAdmitted number }
+    ensures count { (r : ℕ) × (whole r ≡ shape_of variation) × (result ≡ of_plan.Gamma r number) }
+    ensures valid { IsCount result }
+    ensures expected { IsAdmitted (expected_of_plan result) }
+{
+    Freq::Gamma {
+        shape: shape(variation) as u32,
+        mean: number,
     }
 }

@@ -11,6 +11,7 @@ mod exposures;
 mod fault;
 mod fine;
 mod frequencies;
+mod law;
 mod lists;
 mod names;
 mod numerals;
@@ -22,8 +23,10 @@ mod severity;
 mod support;
 #[cfg(test)]
 mod tests;
+mod thinned;
 mod unit;
 
 pub use fault::{CheckFault, TypeFault};
+pub use law::law_accepted;
 pub use program::check;
 pub use rule::Rule;

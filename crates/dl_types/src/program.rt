@@ -2,7 +2,6 @@
 
 ghost use Rattle.std.specs.Prelude.{◌≡◌, ◌≤◌, ℕ, [], None, All, length};
 ghost use Rattle.dl_ast.specs.WellFormed.{IsWellFormed, IsUnit};
-ghost use Rattle.dl_types.specs.Listed.{IsFinite};
 ghost use Rattle.dl_types.specs.Rules.{too_many_units};
 ghost use Rattle.dl_types.specs.Kept.{IsSet};
 ghost use Rattle.dl_types.specs.Answer.{Answers, AnswersUnits};
@@ -19,12 +18,11 @@ use std::alloc::Global;
 /// The plan of a program, in buckets of the size that is set, on a grid of 2^`log2` cells; or the
 /// first broken rule of the first unit that breaks one, with its place.
 ///
-/// It needs a program whose units all list their numbers of claims; those with an exposure it does
-/// not take. `CheckFault::Typing` names the rule; a seventeenth unit comes before all other faults.
-/// `CheckFault::OutOfMemory` says that memory ran out.
+/// It needs a program as the parser builds it, and settings in their ranges. `CheckFault::Typing`
+/// names the rule; a seventeenth unit comes before all other faults. `CheckFault::OutOfMemory` says
+/// that memory ran out.
 pub fn check(alloc: Global, program: &Program, settings: &Settings) -> Result<Plan, CheckFault>
     requires formed { IsWellFormed program.now }
-    requires finite { All (λ u. IsFinite u.count) program.now.units }
     requires set { IsSet settings.now }
     ensures { Answers program.now settings.now result }
 {
@@ -65,7 +63,6 @@ fn check_units(
     requires set { IsSet settings.now }
     requires few { length units.now ≤ 16 }
     requires formed { All IsUnit units.now }
-    requires finite { All (λ u. IsFinite u.count) units.now }
     ensures { AnswersUnits settings.now units.now result }
 {
     let mut names = IndexSet::new(alloc);

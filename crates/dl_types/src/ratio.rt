@@ -63,7 +63,7 @@ impl Ratio {
 }
 
 /// The value, where both parts of it are below 2^48.
-fn admitted(value: Frac) -> Option<Frac>
+pub(crate) fn admitted(value: Frac) -> Option<Frac>
     ensures { MatchOption result (is_admitted value ≡ false) (λ same. (same ≡ value) × (is_admitted value ≡ true)) }
 {
     if value.num() < 1 << 48 && value.den() < 1 << 48 {

@@ -12,7 +12,7 @@ ghost use Rattle.dl_sev.specs.Weighed.{IsWeighing};
 ghost use Rattle.dl_types.specs.Lists.{values_of, probs_of, prob_lists_of, is_fine};
 ghost use Rattle.dl_types.specs.Severity.{atom_pairs, weights_of, mixed_pairs, severity_in_layer, final_severity, mixture_shares};
 ghost use Rattle.dl_types.specs.Rules.{not_one, none_above};
-ghost use Rattle.dl_types.specs.Kept.{IsBucket, IsOnGrid, IsFineUnit};
+ghost use Rattle.dl_types.specs.Kept.{IsBucket, IsOnGrid, IsFineSev};
 ghost use Rattle.dl_types.specs.Parts.{IsListRead, IsAtomOnGrid, IsSevOnGrid, AreProbabilities, IsSevShared};
 ghost use Rattle.dl_types.specs.ClausesKept.{IsClauseLayered};
 
@@ -205,7 +205,7 @@ fn ceded(alloc: Global, sev: &Sev, cession: &Cession, bs: Frac) -> Result<Sev, A
 /// The final severity of a unit, in buckets.
 pub(crate) fn final_severity(alloc: Global, unit: &UnitAst, bs: Frac) -> Result<Sev, AllocError>
     requires bucket { IsBucket bs }
-    requires fine { IsFineUnit bs unit.now }
+    requires fine { IsFineSev bs unit.now }
     ensures means { IfOk result (λ sev. Means sev (final_severity bs unit.now)) }
     ensures near { IfOk result (λ sev. All (λ item. item.amount ≤ 2 ^ 20) sev.items) }
     ensures few { IfOk result (λ sev. length sev.items ≤ 65536) }

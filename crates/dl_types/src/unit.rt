@@ -3,18 +3,16 @@
 ghost use Rattle.std.specs.Prelude.{◌≡◌, ◌<◌, ◌∷◌, ◌++◌, [], ℕ, true, None, All, IfOk, IfSome, OnOk, length, map};
 ghost use Rattle.dl_ast.specs.WellFormed.{IsUnit};
 ghost use Rattle.dl_plan.specs.Fine.{IsAdmitted};
-ghost use Rattle.dl_plan.specs.Count.{IsCount, IsUnbounded, expected_count};
+ghost use Rattle.dl_plan.specs.Count.{IsCount, expected_count};
 ghost use Rattle.dl_plan.specs.Cession.{IsCession};
 ghost use Rattle.dl_plan.specs.Valid.{IsNear, IsValidUnit};
 ghost use Rattle.dl_types.specs.UnitNames.{names_of};
 ghost use Rattle.dl_types.specs.Answer.{Tells, AnswersUnit};
-ghost use Rattle.dl_types.specs.Faults.{breaks, cells_of, fault_of_lists, fault_of_amounts, first_fault_of};
-ghost use Rattle.dl_types.specs.FiniteFaults.{fault_of_finite, IsExposedUnit};
-ghost use Rattle.dl_types.specs.Listed.{IsFinite};
+ghost use Rattle.dl_types.specs.Faults.{breaks, cells_of, fault_of_lists, fault_of_amounts, fault_of_count, first_fault_of};
 ghost use Rattle.dl_types.specs.Exposures.{has_shares};
 ghost use Rattle.dl_types.specs.Plans.{IsCountOf, IsUnitOf, aggregate_clause};
 ghost use Rattle.dl_types.specs.ClausesKept.{IsClauseLayered};
-ghost use Rattle.dl_types.specs.Kept.{IsBucket, IsSet, IsRead, IsOnGrid, IsLayered, IsFineUnit};
+ghost use Rattle.dl_types.specs.Kept.{IsBucket, IsSet, IsRead, IsOnGrid, IsLayered, IsFineUnit, IsExposedUnit};
 ghost use Rattle.dl_types.specs.Rules.{lengths_differ, not_one, off_grid_cession, horizon_too_large};
 
 use crate::amounts::{off_grid, too_far};
@@ -22,7 +20,7 @@ use crate::cessions::off_grid_cession;
 use crate::clauses::{clause, horizon_too_large, overlap, share_above_one};
 use crate::counts::count_table;
 use crate::exposures::{
-    count_above_one, count_not_whole, too_many_claims, trials_not_whole, zero_mean,
+    count_above_one, count_not_whole, shape_not_whole, too_many_claims, trials_not_whole, zero_mean,
 };
 use crate::fault::{CheckFault, TypeFault};
 use crate::fine::too_fine;
@@ -104,7 +102,7 @@ fn check_amounts(alloc: Global, number: u32, unit: &UnitAst, bs: Frac) -> Result
 }
 
 /// The rules on its count, and on the sizes of what it means.
-#[tactic(auto, unfolding(crate::specs::FiniteFaults::fault_of_finite))]
+#[tactic(auto, unfolding(crate::specs::Faults::fault_of_count))]
 fn check_count(
     alloc: Global,
     number: u32,
@@ -112,12 +110,11 @@ fn check_count(
     bs: Frac,
     cells: u32,
 ) -> Result<(), CheckFault>
-    requires finite { IsFinite unit.now.count }
     requires bucket { IsBucket bs }
     requires layered { IsLayered bs unit.now }
     requires one { not_one unit.now ≡ None }
     requires ceded { off_grid_cession bs unit.now ≡ None }
-    ensures told { Tells (fault_of_finite bs cells number unit.now) result }
+    ensures told { Tells (fault_of_count bs cells number unit.now) result }
     ensures fine { OnOk result (IsFineUnit bs unit.now) }
     ensures exposed { OnOk result (IsExposedUnit bs unit.now) }
     ensures near { OnOk result (horizon_too_large bs cells unit.now ≡ None) }
@@ -138,6 +135,7 @@ fn check_count(
         Rule::TrialsNotWhole,
         trials_not_whole(alloc, unit, bs)?,
     )?;
+    broken(number, Rule::ShapeNotWhole, shape_not_whole(unit))?;
     broken(number, Rule::TooFine, too_fine(alloc, unit, bs)?)?;
     broken(
         number,
@@ -164,7 +162,6 @@ fn check_rules<'a>(
     requires names { map (λ name. name.now) names.old.keys ≡ names_of before.now }
     requires few { length before.now < 16 }
     requires formed { IsUnit unit.now }
-    requires finite { IsFinite unit.now.count }
     ensures told { Tells (first_fault_of settings.now before.now unit.now) result }
     ensures fine { OnOk result (IsFineUnit settings.now.bs unit.now) }
     ensures exposed { OnOk result (IsExposedUnit settings.now.bs unit.now) }
@@ -197,7 +194,6 @@ pub(crate) fn check_unit<'a>(
     requires names { map (λ name. name.now) names.old.keys ≡ names_of before.now }
     requires few { length before.now < 16 }
     requires formed { IsUnit unit.now }
-    requires finite { IsFinite unit.now.count }
     ensures answer { AnswersUnit settings.now before.now unit.now result }
     ensures names { IfOk result (λ _. map (λ name. name.now) names.new.keys ≡ names_of before.now ++ unit.now.name.text ∷ []) }
 {
@@ -208,7 +204,6 @@ pub(crate) fn check_unit<'a>(
 /// The unit of the plan of a unit that breaks no rule.
 fn plan_unit(alloc: Global, unit: &UnitAst, settings: &Settings) -> Result<Unit, AllocError>
     requires set { IsSet settings.now }
-    requires finite { IsFinite unit.now.count }
     requires fine { IsFineUnit settings.now.bs unit.now }
     requires exposed { IsExposedUnit settings.now.bs unit.now }
     requires near { horizon_too_large settings.now.bs (cells_of settings.now) unit.now ≡ None }
@@ -229,14 +224,12 @@ fn plan_unit(alloc: Global, unit: &UnitAst, settings: &Settings) -> Result<Unit,
 
 /// The claim count of a unit that breaks no rule.
 fn unit_count(alloc: Global, unit: &UnitAst, bs: Frac) -> Result<Freq, AllocError>
-    requires finite { IsFinite unit.now.count }
     requires bucket { IsBucket bs }
     requires fine { IsFineUnit bs unit.now }
     requires exposed { IsExposedUnit bs unit.now }
     ensures count { IfOk result (λ freq. IsCountOf bs unit.now unit.now.count freq) }
     ensures valid { IfOk result (λ freq. IsCount freq) }
     ensures expected { IfOk result (λ freq. IsAdmitted (expected_count freq)) }
-    ensures bounded { IfOk result (λ freq. ¬ IsUnbounded freq) }
 {
     match &unit.count {
         CountAst::Listed { counts, probs, .. } => count_table(alloc, counts, probs),

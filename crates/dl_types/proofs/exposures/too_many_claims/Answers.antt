@@ -1,7 +1,7 @@
--- An expected count that is fine is admitted.
-use Rattle.dl_types.proofs.FineExposures.{admitted}
+-- All that the severity needs is kept.
+use Rattle.dl_types.proofs.FineUnits.{fine_sev}
 use Rattle.dl_types.proofs.exposures.too_many_claims.Goals as goal
 
-pub exposed_too_many-requires-clause-admitted : goal.exposed_too_many-requires-clause-admitted
-exposed_too_many-requires-clause-admitted c =
-    admitted c.args.bs c.args.unit.now c.in-Exposed.exposure c.in-Exposed.freq c.in-Exposed.is c.requires.finite c.requires.fine
+pub exposed_too_many-requires-clause-sev : goal.exposed_too_many-requires-clause-sev
+exposed_too_many-requires-clause-sev c =
+    fine_sev c.args.bs c.args.unit.now c.requires.layered c.requires.one c.requires.ceded c.requires.fine

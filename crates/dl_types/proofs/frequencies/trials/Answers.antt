@@ -1,5 +1,5 @@
 -- The quotient is whole.
-use Rattle.dl_types.proofs.FiniteCounts.{whole_quotient}
+use Rattle.dl_types.proofs.ExposedCounts.{whole_quotient}
 use Rattle.dl_types.proofs.frequencies.trials.Goals as goal
 
 pub returns : goal.returns

@@ -2,6 +2,8 @@
 use Rattle.dl_types.proofs.ClauseGrids.{agr_layered}
 use Rattle.dl_types.proofs.UnitPlans.{agr_shares}
 use Rattle.dl_types.proofs.Aggregates.{aggregate_valid}
+use Rattle.dl_types.proofs.FineUnits.{fine_unit}
+use Rattle.dl_types.proofs.ThinnedUnits.{thinned_valid}
 use Rattle.dl_types.specs.Faults.{cells_of}
 use Rattle.dl_types.proofs.unit.plan_unit.Goals as goal
 
@@ -11,13 +13,17 @@ unit_clause-requires-clause-layered c = agr_layered c.args.settings.now.bs c.arg
 pub unit_clause-requires-clause-fine : goal.unit_clause-requires-clause-fine
 unit_clause-requires-clause-fine c = agr_shares c.args.settings.now.bs c.args.unit.now c.requires.fine
 
+pub final_severity-requires-clause-fine : goal.final_severity-requires-clause-fine
+final_severity-requires-clause-fine c = fine_unit c.args.settings.now.bs c.args.unit.now c.requires.fine
+
 pub returns-clause-valid : goal.returns-clause-valid
 returns-clause-valid c = record {
   amounts = c.in_ok-sev.ensures.near;
   items = λ _. c.in_ok-sev.ensures.few;
   count = c.in_ok-freq.ensures.valid;
   expected = c.in_ok-freq.ensures.expected;
-  thinned = λ unbounded. absurd (c.in_ok-freq.ensures.bounded unbounded);
+  thinned = thinned_valid c.args.settings.now.bs c.args.unit.now c.requires.fine c.requires.exposed.few c.in_ok-sev.sev c.in_ok-sev.ensures.means c.in_ok-freq.freq
+      c.in_ok-freq.ensures.count;
   clause = aggregate_valid c.args.settings.now.bs (cells_of c.args.settings.now) c.args.unit.now c.requires.fine c.requires.near c.in_ok-sev.sev c.in_ok-sev.ensures.means
       c.in_ok-cede.cede c.in_ok-cede.ensures.same c.in_ok-cede.ensures.cession c.in_ok-cede.ensures.near;
 }

@@ -1,11 +1,6 @@
 -- The rules give what each kind of count asks.
 use Rattle.dl_types.proofs.UnitPlans.{counts_of}
-use Rattle.dl_types.proofs.FineExposures.{admitted}
 use Rattle.dl_types.proofs.unit.unit_count.Goals as goal
 
 pub count_table-requires : goal.count_table-requires
 count_table-requires c = counts_of c.args.bs c.args.unit.now c.requires.fine c.requires.exposed.few _ c.in-Listed.is tt
-
-pub exposed_count-requires-clause-admitted : goal.exposed_count-requires-clause-admitted
-exposed_count-requires-clause-admitted c =
-    admitted c.args.bs c.args.unit.now c.in-Exposed.exposure c.in-Exposed.freq c.in-Exposed.is c.requires.finite c.requires.fine.fine

@@ -1,0 +1,17 @@
+//! What callers may rely on.
+
+ghost use Rattle.std.specs.Prelude.{◌≡◌, None};
+ghost use Rattle.dl_ast.specs.declared.ast.Program.{Program};
+ghost use Rattle.dl_ast.specs.WellFormed.{IsWellFormed};
+ghost use Rattle.dl_plan.specs.declared.plan.Plan.{Plan};
+ghost use Rattle.dl_plan.specs.declared.settings.Settings.{Settings};
+ghost use Rattle.dl_plan.specs.Valid.{IsValid};
+ghost use Rattle.dl_types.specs.Faults.{first_fault};
+ghost use Rattle.dl_types.specs.Kept.{IsSet};
+ghost use Rattle.dl_types.specs.Plans.{IsPlanOf};
+
+/// A program that breaks no rule has a plan, and that is valid.
+pub fn law_accepted()
+    ensures { (program : Program) (settings : Settings) → IsWellFormed program → IsSet settings → first_fault program settings ≡ None
+        → (plan : Plan) × IsPlanOf program settings plan × IsValid plan }
+{}
