@@ -1,0 +1,43 @@
+-- Since a text has one token list, and that spells one program.
+use Rattle.std.proofs.Common.{◌≡◌, ◌∙◌, sym, ap, subst, List, length}
+use Rattle.dl_lexer.specs.declared.token.Token.{Token}
+use Rattle.dl_lexer.specs.Cutting.{Covers}
+use Rattle.dl_lexer.proofs.CoverLaws.{cover_one}
+use Rattle.dl_ast.specs.declared.ast.Program.{Program}
+use Rattle.dl_ast.specs.Lexemes.{lexemes}
+use Rattle.dl_ast.specs.Rules.{Spells}
+use Rattle.dl_ast.specs.Grammar.{program}
+use Rattle.dl_ast.specs.WellFormed.{IsWellFormed}
+use Rattle.dl_parser.proofs.Whole.{one_program}
+use Rattle.dl_printer.specs.Canonical.{canonical}
+use Rattle.dl_printer.specs.Apart.{bare, SameProgram}
+use Rattle.dl_printer.proofs.Cut.{reads_back}
+use Rattle.dl_printer.proofs.SameText.{same_text}
+use Rattle.dl_printer.proofs.law.law_reads_nothing_else.Goals as goal
+
+nothing_else : (p q : Program) (tokens : List Token) → IsWellFormed p → Covers (canonical p) (length (canonical p)) tokens
+    → Spells program q (lexemes (canonical p) tokens) → SameProgram q p
+nothing_else p q tokens w covered spelled =
+    let back = reads_back p w in
+    let same_tokens : tokens ≡ back.tokens = cover_one (canonical p) (length (canonical p)) tokens back.tokens covered back.covered in
+    let again : Spells program q (lexemes (canonical p) back.tokens) = subst
+    (λ ts. Spells program q (lexemes (canonical p) ts)) same_tokens spelled in
+    ap bare (one_program q back.read (lexemes (canonical p) back.tokens) again back.spelled) ∙ back.same
+
+told : (p q : Program) → IsWellFormed p → IsWellFormed q → canonical p ≡ canonical q → SameProgram p q
+told p q v w e =
+    let back = reads_back p v in
+    let covered : Covers (canonical q) (length (canonical q)) back.tokens = subst
+    (λ bytes. Covers bytes (length bytes) back.tokens) e back.covered in
+    let spelled : Spells program back.read (lexemes (canonical q) back.tokens) = subst
+    (λ bytes. Spells program back.read (lexemes bytes back.tokens)) e back.spelled in
+    sym back.same ∙ nothing_else q back.read back.tokens w covered spelled
+
+pub returns-clause-read : goal.returns-clause-read
+returns-clause-read c = nothing_else
+
+pub returns-clause-again : goal.returns-clause-again
+returns-clause-again c = λ p q tokens w covered spelled. same_text q p (nothing_else p q tokens w covered spelled)
+
+pub returns-clause-told : goal.returns-clause-told
+returns-clause-told c = told

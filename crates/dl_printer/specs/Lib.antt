@@ -1,0 +1,5 @@
+pub mod Pieces
+pub mod Canonical
+pub mod Printing
+pub mod Apart
+pub mod ReadingBack

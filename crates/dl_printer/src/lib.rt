@@ -1,0 +1,33 @@
+//! The canonical text of a program: one spelling of its syntax, in which names, numerals and notes
+//! stand as they were written.
+#![tactic(auto)]
+
+ghost use Rattle.std.specs.Prelude.{◌≡◌, IfOk};
+ghost use Rattle.dl_ast.specs.WellFormed.{IsWellFormed};
+ghost use Rattle.dl_printer.specs.Canonical.{canonical};
+
+mod law;
+mod layers;
+mod lists;
+mod printer;
+mod severity;
+#[cfg(test)]
+mod tests;
+mod units;
+
+use crate::printer::Printer;
+use dl_ast::Program;
+pub use law::{law_reads_back, law_reads_nothing_else, law_same_text};
+use std::alloc::{AllocError, Global};
+
+/// The canonical text of a program: `claims`, `premium` and `dsev`, no commas, one blank between
+/// tokens but none inside brackets and round `:`, a line for each unit, and a newline at the end.
+#[tactic(auto, using(crate::proofs::Growing::with_text), unfolding(crate::specs::Canonical::canonical))]
+pub fn print(alloc: Global, program: &Program) -> Result<Vec<u8>, AllocError>
+    requires formed { IsWellFormed program.now }
+    ensures { IfOk result (λ text. text.items ≡ canonical program.now) }
+{
+    let mut printer = Printer::new(alloc);
+    printer.program(program)?;
+    printer.finish()
+}
