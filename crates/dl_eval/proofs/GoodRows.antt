@@ -31,19 +31,20 @@ use Rattle.dl_report.specs.declared.report.Row.{Row}
 use Rattle.dl_budget.specs.Units.{total_budget, mean_budget}
 use Rattle.dl_budget.specs.Asks.{ask_budget, layer_mean_budget}
 use Rattle.dl_budget.proofs.Horizons.{few_cells}
-use Rattle.dl_eval.specs.Rows.{S, Declares, IsBracket, IsAnswerTo, bracket_end}
+use Rattle.dl_eval.specs.Rows.{S, Declares, IsBelow, at_the_end, IsBracket, IsAnswerTo, bracket_end, total_error}
 use Rattle.dl_eval.specs.Totals.{IsTotalOf, IsMeanOf, Prints}
+use Rattle.dl_eval.proofs.Printed.{declared_ends}
 
 -- ---- probabilities
 
-cell_apart : (g : List (Iv 56)) (x : ℕ) → high_at g x ≤ low_at g x + spread g
+pub cell_apart : (g : List (Iv 56)) (x : ℕ) → high_at g x ≤ low_at g x + spread g
 cell_apart g x = omega (arith, high_is g x, width_within (x + 1) g, below_more x (width_at g))
 
 pub point_answer : (ks : List ℕ) (plan : Plan) (g : List (Iv 56)) (d x lo hi : ℕ) (row : Row) → lo ≡ low_at g x → hi ≡ high_at g x → x < length g
     → IsTotalOf ks plan g → Prints lo hi d row → IsAnswerTo ks plan d (asks.Pmf x) row
 unfolding ask_budget
-point_answer ks plan g d x lo hi row low high inside t prints =
-    prints plan (Point x) (total_budget S ks plan)
+point_answer ks plan g d x lo hi row low high inside t printed =
+    declared_ends plan (Point x) lo hi d (total_budget S ks plan) row printed
     (subst (λ l. Declares plan (Point x) (l over S) (hi over S)) (sym low) (subst (λ h. Declares plan (Point x) (low_at g x over S) (h over S)) (sym high) (t.encloses x inside)))
     (omega (arith, low, high, cell_apart g x, t.narrow))
 
@@ -60,11 +61,11 @@ pub cdf_answer : (ks : List ℕ) (plan : Plan) (g : List (Iv 56)) (d x lo hi : �
     → lo ≡ min (mass_low (take (x + 1) g)) (2 ^ 56) → hi ≡ min (mass_high (take (x + 1) g)) (2 ^ 56) → x < length g
     → IsValid plan → IsTotalOf ks plan g → Prints lo hi d row → IsAnswerTo ks plan d (asks.Cdf x) row
 unfolding ask_budget
-cdf_answer ks plan g d x lo hi row low high inside valid t prints =
+cdf_answer ks plan g d x lo hi row low high inside valid t printed =
     let ends = cdf_ends (aggregates_of plan) (2 ^ 56) (length g) (low_at g) (high_at g) (plan_units plan valid) (pow_pos 56) t.encloses x inside in
     let low_sum : count_below (suc x) (low_at g) ≡ mass_low (take (x + 1) g) = sym (cdf_low g x) in
     let high_sum : count_below (suc x) (high_at g) ≡ mass_high (take (x + 1) g) = sym (cdf_high g x) in
-    prints plan (Cdf x) (total_budget S ks plan) (
+    declared_ends plan (Cdf x) lo hi d (total_budget S ks plan) row printed (
       at_least_wider _ _ _ _ ends.0 (over_le_over lo (count_below (suc x) (low_at g)) (2 ^ 56) (pow_pos 56) (omega (arith, low, low_sum))),
       at_most_wider _ _ _ _ ends.1 (over_le_over (min (2 ^ 56) (count_below (suc x) (high_at g))) hi (2 ^ 56) (pow_pos 56) (omega (arith, high, high_sum))),
     )
@@ -75,7 +76,7 @@ cdf_answer ks plan g d x lo hi row low high inside valid t prints =
 
 pub mean_answer : (ks : List ℕ) (plan : Plan) (d : ℕ) (mean : Iv 56) (row : Row) → IsMeanOf ks plan mean → Prints mean.lo mean.hi d row → IsAnswerTo ks plan d asks.Mean row
 unfolding ask_budget
-mean_answer ks plan d mean row m prints = prints plan Mean (mean_budget S ks plan) m.holds m.narrow
+mean_answer ks plan d mean row m printed = declared_ends plan Mean mean.lo mean.hi d (mean_budget S ks plan) row printed m.holds m.narrow
 
 layer_narrow : (ks : List ℕ) (plan : Plan) (limit : Option ℕ) (attach mean spread : ℕ) → mean ≤ mean_budget S ks plan → spread ≤ total_budget S ks plan
     → layer_width limit attach mean spread ≤ layer_mean_budget S ks plan limit attach
@@ -89,14 +90,14 @@ pub layer_answer : (ks : List ℕ) (plan : Plan) (g : List (Iv 56)) (mean : Iv 5
     → hi - lo ≤ layer_width limit attach (mean.hi - mean.lo) (spread g)
     → IsValid plan → IsTotalOf ks plan g → IsMeanOf ks plan mean → Prints lo hi d row → IsAnswerTo ks plan d (asks.LayerMean limit attach) row
 unfolding ask_budget
-layer_answer ks plan g mean d attach lo hi limit row holds width valid t m prints =
-    prints plan (Layer limit attach) (layer_mean_budget S ks plan limit attach)
+layer_answer ks plan g mean d attach lo hi limit row holds width valid t m printed =
+    declared_ends plan (Layer limit attach) lo hi d (layer_mean_budget S ks plan limit attach) row printed
     (holds (aggregates_of plan) (plan_declared plan valid) t.encloses (λ none. m.holds))
     (omega (arith, width, layer_narrow ks plan limit attach (mean.hi - mean.lo) (spread g) (omega (arith, m.narrow)) t.narrow))
 
 -- ---- quantiles
 
-plus_lt : (x y z : Fraction) → x <ℚ y → x +ℚ z <ℚ y +ℚ z
+pub plus_lt : (x y z : Fraction) → x <ℚ y → x +ℚ z <ℚ y +ℚ z
 plus_lt x y z h = elim (lt_or_le (x +ℚ z) (y +ℚ z)) [ inl less ↦ less | inr not_less ↦ absurd (lt_not_le x y h (plus_le_cancel y x z not_less)) ]
 
 wider_tight : (us : List Aggregate) (K L lo : ℕ) (hi : Option ℕ) (p d e : Fraction) → K ≡ L → d ≤ℚ e → IsTight us K lo hi p d → IsTight us L lo hi p e
@@ -134,11 +135,20 @@ beyond_below us g p d x units encloses inside below narrow =
     le_trans _ _ _ (subst (λ t. high_cdf (2 ^ 56) (high_at g) x ≤ℚ t) parts sum) (plus_le_both _ _ _ _ (le_refl (low_cdf (2 ^ 56) (low_at g) x)) narrow) in
     (low_cdf (2 ^ 56) (low_at g) x +ℚ d, plus_lt _ p d below, at_most_wider _ _ _ _ ends.1 high)
 
+-- where the grid ends before p is reached, the distribution is below p there, or a little above
+pub ends_below : (ks : List ℕ) (plan : Plan) (g : List (Iv 56)) (p : Fraction) → IsFirst (low_cdf (2 ^ 56) (low_at g)) p (length g) (length g)
+    → IsValid plan → IsTotalOf ks plan g → IsBelow plan (at_the_end plan) (p +ℚ total_error ks plan)
+ends_below ks plan g p last valid t =
+    let some = few_cells plan valid in
+    beyond_below (aggregates_of plan) g p (total_error ks plan) (plan.cells - 1) (plan_units plan valid) t.encloses (omega (arith, t.cells, some.0))
+    (last.before (plan.cells - 1) (omega (arith, t.cells, some.0)))
+    (over_le_over (spread g) (total_budget S ks plan) (2 ^ 56) (pow_pos 56) t.narrow)
+
 pub is_bracket : (ks : List ℕ) (plan : Plan) (g : List (Iv 56)) (p : Fraction) (lo : ℕ) (hi : Option ℕ) (row : Row) → row.low ≡ Whole lo → row.high ≡ bracket_end hi
     → IsFirst (high_cdf (2 ^ 56) (high_at g)) p (length g) lo → IsFirstFound (low_cdf (2 ^ 56) (low_at g)) p (length g) hi
     → ((us : List Aggregate) → AreUnits us → GridEncloses g (total us) → IsBracketed us lo hi p)
     → ((us : List Aggregate) → AreUnits us → GridEncloses g (total us) → IsTight us (length g) lo hi p (spread g over 2 ^ 56))
-    → IsGrid g → IsValid plan → IsTotalOf ks plan g → IsBracket plan p (total_budget S ks plan over S) row
+    → IsGrid g → IsValid plan → IsTotalOf ks plan g → IsBracket plan p (total_error ks plan) row
 is_bracket ks plan g p lo hi row is_low is_high first found holds tight grid valid t =
     let units = plan_units plan valid in
     let narrow : spread g over 2 ^ 56 ≤ℚ total_budget S ks plan over 2 ^ 56 = over_le_over (spread g) (total_budget S ks plan) (2 ^ 56) (pow_pos 56) t.narrow in
@@ -150,8 +160,5 @@ is_bracket ks plan g p lo hi row is_low is_high first found holds tight grid val
       inside = bracket_inside g p plan.cells lo hi grid t.cells first found;
       bracketed = holds (aggregates_of plan) units t.encloses;
       tight = wider_tight (aggregates_of plan) (length g) plan.cells lo hi p _ _ t.cells narrow (tight (aggregates_of plan) units t.encloses);
-      beyond = λ none.
-          let last : IsFirst (low_cdf (2 ^ 56) (low_at g)) p (length g) (length g) = subst (λ (h : Option ℕ). IsFirstFound (low_cdf (2 ^ 56) (low_at g)) p (length g) h) none found in
-          beyond_below (aggregates_of plan) g p _ (plan.cells - 1) units t.encloses (omega (arith, t.cells, (few_cells plan valid).0))
-          (last.before (plan.cells - 1) (omega (arith, t.cells, (few_cells plan valid).0))) narrow;
+      beyond = λ none. ends_below ks plan g p (subst (λ (h : Option ℕ). IsFirstFound (low_cdf (2 ^ 56) (low_at g)) p (length g) h) none found) valid t;
     }

@@ -1,6 +1,10 @@
 pub mod Lists
-pub mod Printed
-pub mod GoodRows
-pub mod Means
-pub mod Totals
+pub mod Places
 pub mod Insides
+pub mod Printed
+pub mod Totals
+pub mod UnitLaws
+pub mod Means
+pub mod GoodRows
+pub mod Tails
+pub mod ShareLaws

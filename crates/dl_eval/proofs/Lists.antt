@@ -1,7 +1,8 @@
 -- Lists made one by one from another list.
 use Rattle.std.proofs.Common.{ℕ, zero, suc, ◌≡◌, ◌+◌, ◌<◌, List, [], ◌∷◌, ◌++◌, length, get_or, arith, inl, inr, sym, ap, subst, subst₂, ◌∙◌}
-use Rattle.std.specs.Prelude.{All, zip}
+use Rattle.std.specs.Prelude.{All, Any, zip}
 use Rattle.std.proofs.lemmas.Bool.{cases_lt}
+use Rattle.std.proofs.lemmas.List.Elements.{All-nil, All-cons, All-append}
 use Rattle.std.proofs.lemmas.List.{get_or_default, get_or_append_left, get_or_push, length-append}
 
 -- one item more
@@ -19,6 +20,24 @@ each_next P xs ys zs i x y many before pushed inside is here j a r below = elim 
       let same : x ≡ get_or xs j a = is ∙ get_or_default xs i x a inside ∙ ap (λ k. get_or xs k a) (sym last) in
       subst₂ P same (sym (ap (λ t. get_or t j r) pushed ∙ get_or_push ys y r j (omega (arith, last, many)))) here
 ]
+
+-- each has it at its place, and one more
+pub each_pushed : {R : Type 0} (P : ℕ → R → Type 0) (ys zs : List R) (i : ℕ) (y d : R) → length ys ≡ i → ((k : ℕ) → k < i → P k (get_or ys k d)) → zs ≡ ys ++ y ∷ [] → P i y
+    → (k : ℕ) → k < i + 1 → P k (get_or zs k d)
+each_pushed P ys zs i y d many before pushed here k below = elim (cases_lt k i) [
+  | inl earlier ↦ subst (P k) (sym (ap (λ t. get_or t k d) pushed ∙ get_or_append_left ys (y ∷ []) d k (omega (arith, earlier, many)))) (before k earlier)
+  | inr later ↦
+      let last : k ≡ i = omega (arith, later, below) in
+      subst (P k) (sym (ap (λ t. get_or t k d) pushed ∙ get_or_push ys y d k (omega (arith, last, many)))) (subst (λ n. P n y) (sym last) here)
+]
+
+-- one of them has it
+pub any_here : {A : Type 0} (P : A → Type 0) (xs : List A) (k : ℕ) (d : A) → k < length xs → P (get_or xs k d) → Any P xs
+any_here P xs k d inside here = (k, get_or xs k d, inside, get_or_default xs k (get_or xs k d) d inside, here)
+
+-- all have it, and one more
+pub all_pushed : {R : Type 0} (P : R → Type 0) (ys zs : List R) (y : R) → All P ys → zs ≡ ys ++ y ∷ [] → P y → All P zs
+all_pushed P ys zs y all pushed here = subst (All P) (sym pushed) (All-append P ys (y ∷ []) all (All-cons P y [] here (All-nil P)))
 
 -- all of them
 pub all_pairs : {A R : Type 0} (P : A → R → Type 0) (xs : List A) (ys : List R) → length ys ≡ length xs

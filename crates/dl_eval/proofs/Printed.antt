@@ -11,13 +11,14 @@ use Rattle.dl_iv.specs.declared.interval.Iv.{Iv}
 use Rattle.dl_iv.specs.Enclosure.{LiesIn}
 use Rattle.dl_iv.proofs.FractionLaws.{over_le_over}
 use Rattle.dl_grid.proofs.WidthLaws.{up_quotient}
-use Rattle.dl_model.specs.Program.{Quantity}
+use Rattle.dl_model.specs.Program.{Quantity, One, Tail}
 use Rattle.dl_model.proofs.Declared.{at_least_wider, at_most_wider}
 use Rattle.dl_plan.specs.declared.plan.Plan.{Plan}
 use Rattle.dl_report.specs.declared.report.End.TheVariants.{Number}
 use Rattle.dl_report.specs.declared.report.Row.{Row}
 use Rattle.dl_budget.specs.Asks.{in_digits}
-use Rattle.dl_eval.specs.Rows.{S as one, Declares, AreEnds}
+use Rattle.dl_eval.specs.Rows.{S as one, Declares, DeclaresGiven, DeclaresTail, AreEnds}
+use Rattle.dl_eval.specs.Totals.{Prints}
 
 floor_least : (l S : ℕ) → 0 < S → l < (l / S + 1) * S
 floor_least l S pos = grind arith
@@ -44,21 +45,46 @@ low_lies value = record { low = le_refl (value.lo over 2 ^ 56); high = over_le_o
 pub high_lies : (value : Iv 56) → LiesIn (value.hi over 2 ^ 56) value
 high_lies value = record { low = over_le_over value.lo value.hi (2 ^ 56) (pow_pos 56) value.ordered; high = le_refl (value.hi over 2 ^ 56) }
 
--- printed numbers are good ends
-pub are_ends : (value : Iv 56) (d low high : ℕ) (row : Row) → row.low ≡ Number low → row.high ≡ Number high
+-- printed numbers
+pub prints : (value : Iv 56) (d low high : ℕ) (row : Row) → row.low ≡ Number low → row.high ≡ Number high
     → low ≡ value.lo * 10 ^ d / 2 ^ 56 → high ≡ div_ceil (value.hi * 10 ^ d) (2 ^ 56)
     → ((x : Fraction) → LiesIn x value → low over 10 ^ d ≤ℚ x) → ((x : Fraction) → LiesIn x value → x ≤ℚ high over 10 ^ d)
-    → (plan : Plan) (quantity : Quantity) (budget : ℕ) → Declares plan quantity (value.lo over one) (value.hi over one) → value.hi ≤ value.lo + budget
-    → AreEnds plan quantity d (in_digits one budget d) row
-are_ends value d low high row is_low is_high of_low of_high below above plan quantity budget holds apart = record {
+    → Prints value.lo value.hi d row
+prints value d low high row is_low is_high of_low of_high below above = record {
   low = low;
   high = high;
   is_low = is_low;
   is_high = is_high;
   order = omega (arith, of_low, of_high, floor_ceiling (2 ^ 56) (value.lo * 10 ^ d) (value.hi * 10 ^ d) (pow_pos 56) (mul-le-mul_right (10 ^ d) value.ordered));
-  narrow = omega (arith, of_low, of_high, printed_apart (2 ^ 56) value.lo value.hi budget d (pow_pos 56) apart);
-  holds = (
-    at_least_wider _ _ _ _ holds.0 (below (value.lo over 2 ^ 56) (low_lies value)),
-    at_most_wider _ _ _ _ holds.1 (above (value.hi over 2 ^ 56) (high_lies value)),
-  );
+  narrow = λ budget apart. omega (arith, of_low, of_high, printed_apart (2 ^ 56) value.lo value.hi budget d (pow_pos 56) apart);
+  below = below (value.lo over 2 ^ 56) (low_lies value);
+  above = above (value.hi over 2 ^ 56) (high_lies value);
 }
+
+-- what lies between two numbers lies between any that are farther apart
+abbrev pub Widens : (Fraction → Fraction → Type 0) → Type 0
+Widens LiesBetween = (l m h k : Fraction) → m ≤ℚ l → h ≤ℚ k → LiesBetween l h → LiesBetween m k
+
+pub given_widens : (plan : Plan) (given quantity : Quantity) → Widens (DeclaresGiven plan given quantity)
+given_widens plan given quantity l m h k low high holds = (at_least_wider _ _ _ _ holds.0 low, at_most_wider _ _ _ _ holds.1 high)
+
+pub tail_widens : (plan : Plan) (p : Fraction) → Widens (DeclaresTail plan p)
+tail_widens plan p l m h k low high holds = λ q is. given_widens plan One (Tail p q) l m h k low high (holds q is)
+
+-- what is printed holds what lies between the ends
+pub are_ends : (LiesBetween : Fraction → Fraction → Type 0) (lo hi d budget : ℕ) (row : Row) → Widens LiesBetween → Prints lo hi d row
+    → LiesBetween (lo over one) (hi over one) → hi ≤ lo + budget → AreEnds LiesBetween d (in_digits one budget d) row
+are_ends LiesBetween lo hi d budget row widens printed holds apart = record {
+  low = printed.low;
+  high = printed.high;
+  is_low = printed.is_low;
+  is_high = printed.is_high;
+  order = printed.order;
+  narrow = printed.narrow budget apart;
+  holds = widens (lo over one) (printed.low over 10 ^ d) (hi over one) (printed.high over 10 ^ d) printed.below printed.above holds;
+}
+
+pub declared_ends : (plan : Plan) (quantity : Quantity) (lo hi d budget : ℕ) (row : Row) → Prints lo hi d row → Declares plan quantity (lo over one) (hi over one)
+    → hi ≤ lo + budget → AreEnds (Declares plan quantity) d (in_digits one budget d) row
+declared_ends plan quantity lo hi d budget row printed holds apart =
+    are_ends (Declares plan quantity) lo hi d budget row (given_widens plan One quantity) printed holds apart

@@ -1,15 +1,14 @@
 -- The grid of a total, from those of its units.
-use Rattle.std.proofs.Common.{ℕ, zero, suc, ◌≡◌, ◌^◌, ◌<◌, ◌≤◌, List, [], ◌∷◌, length, get_or, map, arith, refl, sym, ap, subst, ◌∙◌}
-use Rattle.std.specs.Prelude.{None, All}
-use Rattle.std.specs.List.{fold}
+use Rattle.std.proofs.Common.{ℕ, zero, suc, ◌≡◌, ◌^◌, ◌<◌, ◌≤◌, List, [], ◌∷◌, length, get_or, map, arith, refl, sym, ap, subst, subst₂, ◌∙◌}
+use Rattle.std.specs.Prelude.{Bool, Option, None, Some, IfSome, All}
+use Rattle.std.specs.List.{fold, remove}
 use Rattle.std.proofs.lemmas.Nat.{pow_pos}
 use Rattle.std.proofs.lemmas.List.{length-map, get_or-map, get_or_default}
 use Rattle.dl_iv.specs.declared.interval.Iv.{Iv}
 use Rattle.dl_grid.specs.Cells.{spread, low_at, high_at}
 use Rattle.dl_grid.specs.Width.{cv}
 use Rattle.dl_grid.proofs.WidthLaws.{cv_rises}
-use Rattle.dl_model.specs.Program.{Aggregate, AreUnits}
-use Rattle.dl_model.specs.Family.{total, mapped, GridEncloses}
+use Rattle.dl_model.specs.Family.{mapped, GridEncloses}
 use Rattle.dl_model.specs.Measures.{unit_of}
 use Rattle.dl_model.specs.Plans.{clause_of, aggregate_of, aggregates_of, compound_of}
 use Rattle.dl_model.proofs.FamilyLaws.{encloses_same}
@@ -17,13 +16,20 @@ use Rattle.dl_model.proofs.UnitLaws.{unit_plain}
 use Rattle.dl_model.proofs.PlanUnits.{unit_declared, plan_units}
 use Rattle.dl_plan.specs.declared.plan.Unit.{Unit as UnitOfPlan}
 use Rattle.dl_plan.specs.declared.plan.Plan.{Plan}
+use Rattle.dl_plan.specs.declared.settings.Ask.{Ask}
+use Rattle.dl_plan.specs.declared.settings.Ask.TheVariants as asks
+use Rattle.dl_plan.specs.declared.settings.Asked.{Asked}
 use Rattle.dl_plan.specs.Horizon.{IsHorizonOf}
+use Rattle.dl_plan.proofs.Horizons.{same_horizon}
 use Rattle.dl_plan.specs.Valid.{IsValidUnit, IsValid}
-use Rattle.dl_budget.specs.Claims.{claims_budget}
-use Rattle.dl_budget.specs.Units.{AreHorizons, after_clause, unit_budget, unit_budgets, sum_budget}
+use Rattle.dl_budget.specs.Units.{AreHorizons, unit_budget, unit_budgets, sum_budget}
+use Rattle.dl_budget.specs.Asks.{place_of, NamesUnit}
 use Rattle.dl_budget.proofs.Sums.{budgets_length, budget_here}
 use Rattle.dl_port.specs.Sums.{EncloseEach, sum_spread}
-use Rattle.dl_eval.specs.Totals.{AreUnitGrids, IsTotalOf}
+use Rattle.dl_eval.proofs.Lists.{any_here}
+use Rattle.dl_port.specs.Shared.{IsTotal, IsSumWithout, AreSumsWithout}
+use Rattle.dl_eval.specs.declared.grids.Grids.{Grids}
+use Rattle.dl_eval.specs.Totals.{AreUnitGrids, AreShared, IsTotalOf, AreOthersOf, AreOthers, HasOthers, shared_unit}
 
 -- ---- what the grids enclose
 
@@ -32,73 +38,152 @@ unit_there [] i u inside = absurd (omega (arith, inside))
 unit_there (v ∷ us) zero u inside = refl
 unit_there (v ∷ us) (suc i) u inside = unit_there us i u (omega (arith, inside))
 
-plain_encloses : (g : List (Iv 56)) (cells : ℕ) (u : UnitOfPlan) → IsValidUnit cells u → u.cede ≡ None → GridEncloses g (compound_of u.freq u.sev) → GridEncloses g (mapped (aggregate_of u))
+pub plain_encloses : (g : List (Iv 56)) (cells : ℕ) (u : UnitOfPlan) → IsValidUnit cells u → u.cede ≡ None → GridEncloses g (compound_of u.freq u.sev) → GridEncloses g (mapped (aggregate_of u))
 plain_encloses g cells u valid none encloses =
     encloses_same (2 ^ 56) (length g) (low_at g) (high_at g) (compound_of u.freq u.sev) (mapped (aggregate_of u))
     (λ y N. sym (unit_plain (aggregate_of u) (unit_declared cells u valid).unit (λ s. ap (λ c. clause_of c s) none) y N)) (λ N. refl) encloses
 
-each_encloses : (cells : ℕ) (us : List UnitOfPlan) (grids : List (List (Iv 56))) (i : ℕ) → i < length us → All (IsValidUnit cells) us → All (λ u. u.cede ≡ None) us
-    → AreUnitGrids cells us grids → GridEncloses (get_or grids i []) (unit_of (map aggregate_of us) i)
-each_encloses cells [] grids i inside valid plain each = absurd (omega (arith, inside))
-each_encloses cells (u ∷ us) grids i inside valid plain each =
-    subst (λ F. GridEncloses (get_or grids i []) F) (sym (unit_there (u ∷ us) i u inside))
-    (plain_encloses (get_or grids i []) cells (get_or (u ∷ us) i u) (valid i u inside) (plain i u inside) (each.each i u inside).encloses)
+pub each_encloses : (cells : ℕ) (us : List UnitOfPlan) (grids : List (List (Iv 56))) (i : ℕ) → i < length us → AreUnitGrids cells us grids
+    → GridEncloses (get_or grids i []) (unit_of (map aggregate_of us) i)
+each_encloses cells [] grids i inside each = absurd (omega (arith, inside))
+each_encloses cells (u ∷ us) grids i inside each =
+    subst (λ F. GridEncloses (get_or grids i []) F) (sym (unit_there (u ∷ us) i u inside)) (each.each i u inside).encloses
 
-enclose_each : (plan : Plan) (grids : List (List (Iv 56))) → IsValid plan → All (λ u. u.cede ≡ None) plan.units → AreUnitGrids plan.cells plan.units grids
-    → EncloseEach grids (aggregates_of plan)
-enclose_each plan grids valid plain each = record {
+pub each_cells : (cells : ℕ) (us : List UnitOfPlan) (grids : List (List (Iv 56))) (g : List (Iv 56)) (i : ℕ) → g ≡ get_or grids i [] → i < length us → AreUnitGrids cells us grids
+    → length g ≡ cells
+each_cells cells [] grids g i is inside each = absurd (omega (arith, inside))
+each_cells cells (u ∷ us) grids g i is inside each = ap (λ t. length t) is ∙ (each.each i u inside).cells
+
+enclose_each : (plan : Plan) (grids : List (List (Iv 56))) → AreUnitGrids plan.cells plan.units grids → EncloseEach grids (aggregates_of plan)
+enclose_each plan grids each = record {
   as_many = each.as_many ∙ sym (length-map plan.units aggregate_of);
-  each = λ i inside. each_encloses plan.cells plan.units grids i (omega (arith, inside, each.as_many)) valid.units plain each;
+  each = λ i inside. each_encloses plan.cells plan.units grids i (omega (arith, inside, each.as_many)) each;
 }
 
 -- ---- how wide they are
 
-folds_rise : (S k x y : ℕ) (xs ys : List ℕ) → 0 < S → x ≤ y → length xs ≡ length ys → ((i : ℕ) → i < length xs → get_or xs i 0 ≤ get_or ys i 0)
-    → fold (cv S k) x xs ≤ fold (cv S k) y ys
-folds_rise S k x y [] [] pos start same each = start
-folds_rise S k x y [] (b ∷ ys) pos start same each = absurd (omega (arith, same))
-folds_rise S k x y (a ∷ xs) [] pos start same each = absurd (omega (arith, same))
-folds_rise S k x y (a ∷ xs) (b ∷ ys) pos start same each =
-    folds_rise S k (cv S k x a) (cv S k y b) xs ys pos (cv_rises S k k x y a b pos (omega arith) start (each 0 (omega arith))) (omega (arith, same))
-    (λ i inside. each (suc i) (omega (arith, inside)))
+map_remove : {A R : Type 0} (f : A → R) (xs : List A) (i : ℕ) → map f (remove xs i) ≡ remove (map f xs) i
+map_remove f [] zero = refl
+map_remove f [] (suc i) = refl
+map_remove f (x ∷ xs) zero = refl
+map_remove f (x ∷ xs) (suc i) = ap (λ t. f x ∷ t) (map_remove f xs i)
 
-sums_rise : (S k : ℕ) (xs ys : List ℕ) → 0 < S → length xs ≡ length ys → ((i : ℕ) → i < length xs → get_or xs i 0 ≤ get_or ys i 0) → sum_spread S k xs ≤ sum_budget S k ys
-sums_rise S k [] [] pos same each = omega arith
-sums_rise S k [] (b ∷ ys) pos same each = absurd (omega (arith, same))
-sums_rise S k (a ∷ xs) [] pos same each = absurd (omega (arith, same))
-sums_rise S k (a ∷ xs) (b ∷ ys) pos same each = folds_rise S k a b xs ys pos (each 0 (omega arith)) (omega (arith, same)) (λ i inside. each (suc i) (omega (arith, inside)))
+remove_none : (i : ℕ) → remove {X = ℕ} [] i ≡ []
+remove_none zero = refl
+remove_none (suc i) = refl
 
-plain_budget : (S cells : ℕ) (u : UnitOfPlan) → u.cede ≡ None → (k : ℕ) → IsHorizonOf u.cede cells k → claims_budget S cells u ≡ unit_budget S k u
-plain_budget S cells u none k horizon =
-    let same : k ≡ cells = subst (λ c. IsHorizonOf c cells k) none horizon in
-    sym (ap (λ c. after_clause c (claims_budget S k u)) none ∙ ap (λ j. claims_budget S j u) same)
+-- as many numbers, none of them more
+record AreNoMore (xs ys : List ℕ) : Type 0 where
+  as_many : length xs ≡ length ys
+  each : (i : ℕ) → i < length xs → get_or xs i 0 ≤ get_or ys i 0
 
-each_narrow : (cells : ℕ) (us : List UnitOfPlan) (grids : List (List (Iv 56))) (ks : List ℕ) (i : ℕ) → i < length us → All (λ u. u.cede ≡ None) us
-    → AreUnitGrids cells us grids → AreHorizons cells us ks → spread (get_or grids i []) ≤ get_or (unit_budgets (2 ^ 56) ks us) i 0
-each_narrow cells [] grids ks i inside plain each horizons = absurd (omega (arith, inside))
-each_narrow cells (u ∷ us) grids ks i inside plain each horizons =
+later_no_more : (x y : ℕ) (xs ys : List ℕ) → AreNoMore (x ∷ xs) (y ∷ ys) → AreNoMore xs ys
+later_no_more x y xs ys h = record { as_many = omega (arith, h.as_many); each = λ i inside. h.each (suc i) (omega (arith, inside)) }
+
+one_no_more : (x y : ℕ) (xs ys : List ℕ) → x ≤ y → AreNoMore xs ys → AreNoMore (x ∷ xs) (y ∷ ys)
+one_no_more x y xs ys first h = record { as_many = omega (arith, h.as_many); each = each }
+  where
+    each : (i : ℕ) → i < suc (length xs) → get_or (x ∷ xs) i 0 ≤ get_or (y ∷ ys) i 0
+    each zero inside = first
+    each (suc i) inside = h.each i (omega (arith, inside))
+
+removed_no_more : (i : ℕ) (xs ys : List ℕ) → AreNoMore xs ys → AreNoMore (remove xs i) (remove ys i)
+removed_no_more i [] [] h = subst₂ AreNoMore (sym (remove_none i)) (sym (remove_none i)) h
+removed_no_more i [] (y ∷ ys) h = absurd (omega (arith, h.as_many))
+removed_no_more i (x ∷ xs) [] h = absurd (omega (arith, h.as_many))
+removed_no_more zero (x ∷ xs) (y ∷ ys) h = later_no_more x y xs ys h
+removed_no_more (suc i) (x ∷ xs) (y ∷ ys) h = one_no_more x y (remove xs i) (remove ys i) (h.each 0 (omega arith)) (removed_no_more i xs ys (later_no_more x y xs ys h))
+
+folds_rise : (S k x y : ℕ) (xs ys : List ℕ) → 0 < S → x ≤ y → AreNoMore xs ys → fold (cv S k) x xs ≤ fold (cv S k) y ys
+folds_rise S k x y [] [] pos start h = start
+folds_rise S k x y [] (b ∷ ys) pos start h = absurd (omega (arith, h.as_many))
+folds_rise S k x y (a ∷ xs) [] pos start h = absurd (omega (arith, h.as_many))
+folds_rise S k x y (a ∷ xs) (b ∷ ys) pos start h =
+    folds_rise S k (cv S k x a) (cv S k y b) xs ys pos (cv_rises S k k x y a b pos (omega arith) start (h.each 0 (omega arith))) (later_no_more a b xs ys h)
+
+sums_rise : (S k : ℕ) (xs ys : List ℕ) → 0 < S → AreNoMore xs ys → sum_spread S k xs ≤ sum_budget S k ys
+sums_rise S k [] [] pos h = omega arith
+sums_rise S k [] (b ∷ ys) pos h = absurd (omega (arith, h.as_many))
+sums_rise S k (a ∷ xs) [] pos h = absurd (omega (arith, h.as_many))
+sums_rise S k (a ∷ xs) (b ∷ ys) pos h = folds_rise S k a b xs ys pos (h.each 0 (omega arith)) (later_no_more a b xs ys h)
+
+-- the grid of a unit stays within its budget
+pub unit_narrow : (cells : ℕ) (us : List UnitOfPlan) (grids : List (List (Iv 56))) (ks : List ℕ) (i : ℕ) → i < length us → AreUnitGrids cells us grids → AreHorizons cells us ks
+    → spread (get_or grids i []) ≤ get_or (unit_budgets (2 ^ 56) ks us) i 0
+unit_narrow cells [] grids ks i inside each horizons = absurd (omega (arith, inside))
+unit_narrow cells (u ∷ us) grids ks i inside each horizons =
+    let k : ℕ = get_or ks i 0 in
     let v : UnitOfPlan = get_or (u ∷ us) i u in
-    omega (arith, (each.each i u inside).narrow, budget_here (2 ^ 56) cells (u ∷ us) i (claims_budget (2 ^ 56) cells v) v ks horizons inside (get_or_default (u ∷ us) i u v inside) (plain_budget (2 ^ 56) cells v (plain i u inside)))
+    let here : IsHorizonOf v.cede cells k = horizons.each i u inside in
+    let same : unit_budget (2 ^ 56) k v ≡ get_or (unit_budgets (2 ^ 56) ks (u ∷ us)) i 0 =
+    budget_here (2 ^ 56) cells (u ∷ us) i (unit_budget (2 ^ 56) k v) v ks horizons inside (get_or_default (u ∷ us) i u v inside)
+    (λ j there. ap (λ n. unit_budget (2 ^ 56) n v) (same_horizon v.cede cells k j here there)) in
+    omega (arith, (each.each i u inside).narrow k here, same)
 
-all_narrow : (plan : Plan) (grids : List (List (Iv 56))) (ks : List ℕ) → All (λ u. u.cede ≡ None) plan.units → AreUnitGrids plan.cells plan.units grids
-    → AreHorizons plan.cells plan.units ks → sum_spread (2 ^ 56) plan.cells (map spread grids) ≤ sum_budget (2 ^ 56) plan.cells (unit_budgets (2 ^ 56) ks plan.units)
-all_narrow plan grids ks plain each horizons =
-    sums_rise (2 ^ 56) plan.cells (map spread grids) (unit_budgets (2 ^ 56) ks plan.units) (pow_pos 56)
-    (length-map grids spread ∙ each.as_many ∙ sym (budgets_length (2 ^ 56) ks plan.units horizons.as_many))
-    (λ i inside.
-    let there : i < length grids = omega (arith, inside, length-map grids spread) in
-    omega (arith, get_or-map spread grids i [] 0 there, each_narrow plan.cells plan.units grids ks i (omega (arith, there, each.as_many)) plain each horizons))
+each_narrow : (plan : Plan) (grids : List (List (Iv 56))) (ks : List ℕ) → AreUnitGrids plan.cells plan.units grids → AreHorizons plan.cells plan.units ks
+    → AreNoMore (map spread grids) (unit_budgets (2 ^ 56) ks plan.units)
+each_narrow plan grids ks each horizons = record {
+  as_many = length-map grids spread ∙ each.as_many ∙ sym (budgets_length (2 ^ 56) ks plan.units horizons.as_many);
+  each = λ i inside.
+      let there : i < length grids = omega (arith, inside, length-map grids spread) in
+      omega (arith, get_or-map spread grids i [] 0 there, unit_narrow plan.cells plan.units grids ks i (omega (arith, there, each.as_many)) each horizons);
+}
 
 -- ---- the total
 
-pub is_total : (plan : Plan) (grids : List (List (Iv 56))) (g : List (Iv 56)) → IsValid plan → All (λ u. u.cede ≡ None) plan.units → AreUnitGrids plan.cells plan.units grids
-    → length g ≡ plan.cells → ((us : List Aggregate) → AreUnits us → EncloseEach grids us → GridEncloses g (total us))
-    → spread g ≤ sum_spread (2 ^ 56) plan.cells (map spread grids) → (ks : List ℕ) → AreHorizons plan.cells plan.units ks → IsTotalOf ks plan g
-is_total plan grids g valid plain each cells encloses narrow ks horizons = record {
-  cells = cells;
-  encloses = encloses (aggregates_of plan) (plan_units plan valid) (enclose_each plan grids valid plain each);
-  narrow = omega (arith, narrow, all_narrow plan grids ks plain each horizons);
+pub is_total : (plan : Plan) (grids : List (List (Iv 56))) (g : List (Iv 56)) → IsValid plan → AreUnitGrids plan.cells plan.units grids
+    → IsTotal plan.cells grids g → (ks : List ℕ) → AreHorizons plan.cells plan.units ks → IsTotalOf ks plan g
+is_total plan grids g valid each sum ks horizons = record {
+  cells = sum.cells;
+  encloses = sum.encloses (aggregates_of plan) (plan_units plan valid) (enclose_each plan grids each);
+  narrow = omega (arith, sum.narrow, sums_rise (2 ^ 56) plan.cells _ _ (pow_pos 56) (each_narrow plan grids ks each horizons));
 }
+
+-- ---- all units but one
+
+others_of : (plan : Plan) (grids : List (List (Iv 56))) (i : ℕ) (g : List (Iv 56)) → IsValid plan → AreUnitGrids plan.cells plan.units grids
+    → IsSumWithout plan.cells grids i g → (ks : List ℕ) → AreHorizons plan.cells plan.units ks → AreOthersOf ks plan i g
+others_of plan grids i g valid each sum ks horizons = record {
+  cells = sum.cells;
+  encloses = sum.encloses (aggregates_of plan) (plan_units plan valid) (enclose_each plan grids each);
+  narrow = omega (
+    arith,
+    sum.narrow,
+    ap (sum_spread (2 ^ 56) plan.cells) (map_remove spread grids i),
+    sums_rise (2 ^ 56) plan.cells _ _ (pow_pos 56) (removed_no_more i _ _ (each_narrow plan grids ks each horizons)),
+  );
+}
+
+pub some_weaker : {A : Type 0} (made : Option A) (P Q : A → Type 0) → IfSome made P → ((x : A) → P x → Q x) → IfSome made Q
+some_weaker None P Q is weaker = tt
+some_weaker (Some x) P Q is weaker = weaker x is
+
+pub are_others : (plan : Plan) (grids : List (List (Iv 56))) (asked : List Bool) (sums : List (Option (List (Iv 56)))) → IsValid plan → AreUnitGrids plan.cells plan.units grids
+    → AreSumsWithout plan.cells grids asked sums → (ks : List ℕ) → AreHorizons plan.cells plan.units ks → AreOthers ks plan sums
+are_others plan grids asked sums valid each rest ks horizons = record {
+  as_many = rest.as_many ∙ each.as_many;
+  each = λ i inside.
+      some_weaker (get_or sums i None) (IsSumWithout plan.cells grids i) (AreOthersOf ks plan i) (rest.each i (omega (arith, inside, each.as_many)))
+      (λ g sum. others_of plan grids i g valid each sum ks horizons);
+}
+
+-- where an ask is for a unit's share, the sum of all others is there
+pub has_others : (plan : Plan) (grids : List (List (Iv 56))) (all : List Asked) (asked : List Bool) (made : Grids) → AreUnitGrids plan.cells plan.units grids
+    → AreShared plan.units all asked → AreSumsWithout plan.cells grids asked made.sums.others.items → All (λ a. NamesUnit plan.units a.ask) all → All (λ a. HasOthers plan.units made a.ask) all
+has_others plan grids all asked made each shared rest named = λ k d inside i is.
+    let place : i < length plan.units = names_shared plan.units (get_or all k d).ask i (named k d inside) is in
+    (rest.there i (omega (arith, place, each.as_many))).1
+    ((shared.each i place).1 (any_here (λ (a : Asked). shared_unit plan.units a.ask ≡ Some i) all k d inside is))
+  where
+    names_shared : (units : List UnitOfPlan) (ask : Ask) (i : ℕ) → NamesUnit units ask → shared_unit units ask ≡ Some i → i < length units
+    names_shared units (asks.Pmf x) i named is = absurd (cc)
+    names_shared units (asks.Cdf x) i named is = absurd (cc)
+    names_shared units asks.Mean i named is = absurd (cc)
+    names_shared units (asks.Quantile p) i named is = absurd (cc)
+    names_shared units (asks.LayerMean limit attach) i named is = absurd (cc)
+    names_shared units (asks.Tail p) i named is = absurd (cc)
+    names_shared units (asks.Joint unit at) i named is = let same : place_of unit units ≡ i = cc in omega (arith, same, named)
+    names_shared units (asks.Kappa unit at) i named is = let same : place_of unit units ≡ i = cc in omega (arith, same, named)
 
 -- each grid has the cells
 pub long_enough : (cells : ℕ) (us : List UnitOfPlan) (grids : List (List (Iv 56))) → AreUnitGrids cells us grids → All (λ g. cells ≤ length g) grids

@@ -1,8 +1,6 @@
 -- What an evaluation answers: a good report, or its first fault.
 use Rattle.std.specs.Prelude.{ℕ, ◌≡◌, ◌<◌, ⊤, List, length, get_or, zip, All}
 use Rattle.dl_plan.specs.declared.plan.Plan.{Plan}
-use Rattle.dl_plan.specs.declared.settings.Ask.{Ask}
-use Rattle.dl_plan.specs.declared.settings.Ask.TheVariants as asks
 use Rattle.dl_plan.specs.declared.settings.Asked.{Asked}
 use Rattle.dl_plan.specs.declared.settings.Settings.{Settings}
 use Rattle.dl_report.specs.declared.report.Report.{Report}
@@ -11,17 +9,6 @@ use Rattle.dl_budget.specs.Asks.{IsInside, NamesUnit, Passes, needed}
 use Rattle.dl_eval.specs.declared.fault.EvalFault.{EvalFault}
 use Rattle.dl_eval.specs.declared.fault.EvalFault.TheVariants.{AskBeyond, UnknownUnit, TooWide, OutOfMemory}
 use Rattle.dl_eval.specs.Rows.{S, IsGood}
-
--- probabilities, the mean, quantiles and layer means are answered
-abbrev pub IsBuilt : Ask → Type 0
-IsBuilt (asks.Pmf x) = ⊤
-IsBuilt (asks.Cdf x) = ⊤
-IsBuilt asks.Mean = ⊤
-IsBuilt (asks.Quantile p) = ⊤
-IsBuilt (asks.LayerMean limit attach) = ⊤
-IsBuilt (asks.Tail p) = ⊥
-IsBuilt (asks.Joint unit at) = ⊥
-IsBuilt (asks.Kappa unit at) = ⊥
 
 -- the number of digits of the settings, and one good row for each ask, in order
 pub record IsGoodReport (ks : List ℕ) (plan : Plan) (settings : Settings) (report : Report) : Type 0 where

@@ -1,37 +1,67 @@
 -- When a row of a report is good: its ends hold what the plan declares, and lie no farther apart than is needed.
-use Rattle.std.specs.Prelude.{ℕ, ◌≡◌, ◌+◌, ◌-◌, ◌^◌, ◌<◌, ◌≤◌, Option, None, Some, MatchOption, List}
+use Rattle.std.specs.Prelude.{ℕ, ◌≡◌, ◌+◌, ◌-◌, ◌^◌, ◌<◌, ◌≤◌, ◌⊎◌, Option, None, Some, MatchOption, List}
 use Rattle.dl_exact.specs.Fraction.{Fraction, ◌over◌, ◌+ℚ◌}
-use Rattle.dl_model.specs.Series.{Holds, Below}
-use Rattle.dl_model.specs.Program.{Quantity, One, Point, Cdf, Mean, Layer, partial_sums}
-use Rattle.dl_model.specs.Measures.{IsBracketed, IsTight}
+use Rattle.dl_model.specs.Series.{Holds, AtLeast, AtMost, Below}
+use Rattle.dl_model.specs.Program.{Quantity, One, Point, Cdf, Mean, Layer, Tail, Joint, partial_sums}
+use Rattle.dl_model.specs.Measures.{IsQuantile, IsBracketed, IsTight}
 use Rattle.dl_model.specs.Plans.{aggregates_of}
 use Rattle.dl_plan.specs.declared.plan.Plan.{Plan}
 use Rattle.dl_plan.specs.declared.settings.Ask.{Ask}
 use Rattle.dl_plan.specs.declared.settings.Ask.TheVariants as asks
 use Rattle.dl_plan.specs.declared.settings.Asked.{Asked}
 use Rattle.dl_report.specs.declared.report.End.{End}
-use Rattle.dl_report.specs.declared.report.End.TheVariants.{Number, Whole, Beyond}
+use Rattle.dl_report.specs.declared.report.End.TheVariants.{Number, Whole, Beyond, Absent}
 use Rattle.dl_report.specs.declared.report.Row.{Row}
 use Rattle.dl_budget.specs.Units.{total_budget}
-use Rattle.dl_budget.specs.Asks.{needed}
+use Rattle.dl_budget.specs.Asks.{place_of, needed}
 
 -- the units of every grid are 1/S
 abbrev pub S : ℕ
 S = 2 ^ 56
 
--- what the plan declares of the quantity lies from l to h
-abbrev pub Declares : Plan → Quantity → Fraction → Fraction → Type 0
-Declares plan quantity l h = Holds (partial_sums (aggregates_of plan) quantity) (partial_sums (aggregates_of plan) One) l h
+-- ---- what the plan declares
 
--- two numbers with d digits behind the point that hold the quantity, and lie at most so many units of the last digit apart
-pub record AreEnds (plan : Plan) (quantity : Quantity) (d most : ℕ) (row : Row) : Type 0 where
+-- the quantity, given another one, lies from l to h: its declared value over that of the other
+abbrev pub DeclaresGiven : Plan → (given quantity : Quantity) → Fraction → Fraction → Type 0
+DeclaresGiven plan given quantity l h = Holds (partial_sums (aggregates_of plan) quantity) (partial_sums (aggregates_of plan) given) l h
+
+-- the quantity lies from l to h
+abbrev pub Declares : Plan → Quantity → Fraction → Fraction → Type 0
+Declares plan quantity l h = DeclaresGiven plan One quantity l h
+
+-- the tail mean at p lies from l to h, at each quantile that p has
+abbrev pub DeclaresTail : Plan → Fraction → Fraction → Fraction → Type 0
+DeclaresTail plan p l h = (q : ℕ) → IsQuantile (aggregates_of plan) q p → Declares plan (Tail p q) l h
+
+-- the quantity is at least v, at most v, or below v
+abbrev pub IsAtLeast : Plan → Quantity → Fraction → Type 0
+IsAtLeast plan quantity v = AtLeast (partial_sums (aggregates_of plan) quantity) (partial_sums (aggregates_of plan) One) v
+
+abbrev pub IsAtMost : Plan → Quantity → Fraction → Type 0
+IsAtMost plan quantity v = AtMost (partial_sums (aggregates_of plan) quantity) (partial_sums (aggregates_of plan) One) v
+
+abbrev pub IsBelow : Plan → Quantity → Fraction → Type 0
+IsBelow plan quantity v = Below (partial_sums (aggregates_of plan) quantity) (partial_sums (aggregates_of plan) One) v
+
+-- the distribution at the last cell of the grid
+abbrev pub at_the_end : Plan → Quantity
+at_the_end plan = Cdf (plan.cells - 1)
+
+-- the least probability of a total over which a share is told
+abbrev pub least_likely : Fraction
+least_likely = 1 over 2 ^ 16
+
+-- ---- rows
+
+-- two numbers with d digits behind the point between which it lies, at most so many units of the last digit apart
+pub record AreEnds (LiesBetween : Fraction → Fraction → Type 0) (d most : ℕ) (row : Row) : Type 0 where
   pub low : ℕ
   pub high : ℕ
   pub is_low : row.low ≡ Number low
   pub is_high : row.high ≡ Number high
   pub order : low ≤ high
   pub narrow : high ≤ low + most
-  pub holds : Declares plan quantity (low over 10 ^ d) (high over 10 ^ d)
+  pub holds : LiesBetween (low over 10 ^ d) (high over 10 ^ d)
 
 -- the end of a bracket past the grid has no number
 abbrev pub bracket_end : Option ℕ → End
@@ -48,19 +78,49 @@ pub record IsBracket (plan : Plan) (p d : Fraction) (row : Row) : Type 0 where
   pub inside : MatchOption hi (lo ≤ plan.cells) (λ x. (lo ≤ x) × (x < plan.cells))
   pub bracketed : IsBracketed (aggregates_of plan) lo hi p
   pub tight : IsTight (aggregates_of plan) plan.cells lo hi p d
-  pub beyond : hi ≡ None → Below (partial_sums (aggregates_of plan) (Cdf (plan.cells - 1))) (partial_sums (aggregates_of plan) One) (p +ℚ d)
+  pub beyond : hi ≡ None → IsBelow plan (at_the_end plan) (p +ℚ d)
+
+-- A tail mean at p in numbers. They come only where the distribution reaches p inside the grid.
+pub record IsTailMean (plan : Plan) (p : Fraction) (d most : ℕ) (row : Row) : Type 0 where
+  pub reached : IsAtLeast plan (at_the_end plan) p
+  pub ends : AreEnds (DeclaresTail plan p) d most row
+
+-- No tail mean at p: only where the distribution at the last cell is below p + d.
+pub record IsBeyond (plan : Plan) (p d : Fraction) (row : Row) : Type 0 where
+  pub is_low : row.low ≡ Beyond
+  pub is_high : row.high ≡ Beyond
+  pub below : IsBelow plan (at_the_end plan) (p +ℚ d)
+
+-- The share of unit i in the total x in numbers: its mean outcome, given that total. They come only where the total is not too rare.
+pub record IsShare (plan : Plan) (i x d most : ℕ) (row : Row) : Type 0 where
+  pub likely : IsAtLeast plan (Point x) least_likely
+  pub ends : AreEnds (DeclaresGiven plan (Point x) (Joint i x)) d most row
+
+-- No share in the total x: only where the probability of that total is below the least that is likely enough, and d.
+pub record IsTooRare (plan : Plan) (x : ℕ) (d : Fraction) (row : Row) : Type 0 where
+  pub is_low : row.low ≡ Absent
+  pub is_high : row.high ≡ Absent
+  pub rare : IsBelow plan (Point x) (least_likely +ℚ d)
+
+-- what the distribution and its points may be away from what is declared
+abbrev pub total_error : List ℕ → Plan → Fraction
+total_error ks plan = total_budget S ks plan over S
 
 -- a good answer to an ask, with d digits; ks are the horizons of the units
 abbrev pub IsAnswerTo : List ℕ → Plan → ℕ → Ask → Row → Type 0
-IsAnswerTo ks plan d (asks.Pmf x) row = AreEnds plan (Point x) d (needed S ks plan (asks.Pmf x) d) row
-IsAnswerTo ks plan d (asks.Cdf x) row = AreEnds plan (Cdf x) d (needed S ks plan (asks.Cdf x) d) row
-IsAnswerTo ks plan d asks.Mean row = AreEnds plan Mean d (needed S ks plan asks.Mean d) row
-IsAnswerTo ks plan d (asks.Quantile p) row = IsBracket plan p (total_budget S ks plan over S) row
+IsAnswerTo ks plan d (asks.Pmf x) row = AreEnds (Declares plan (Point x)) d (needed S ks plan (asks.Pmf x) d) row
+IsAnswerTo ks plan d (asks.Cdf x) row = AreEnds (Declares plan (Cdf x)) d (needed S ks plan (asks.Cdf x) d) row
+IsAnswerTo ks plan d asks.Mean row = AreEnds (Declares plan Mean) d (needed S ks plan asks.Mean d) row
+IsAnswerTo ks plan d (asks.Quantile p) row = IsBracket plan p (total_error ks plan) row
 IsAnswerTo ks plan d (asks.LayerMean limit attach) row =
-    AreEnds plan (Layer limit attach) d (needed S ks plan (asks.LayerMean limit attach) d) row
-IsAnswerTo ks plan d (asks.Tail p) row = ⊥
-IsAnswerTo ks plan d (asks.Joint unit at) row = ⊥
-IsAnswerTo ks plan d (asks.Kappa unit at) row = ⊥
+    AreEnds (Declares plan (Layer limit attach)) d (needed S ks plan (asks.LayerMean limit attach) d) row
+IsAnswerTo ks plan d (asks.Tail p) row =
+    IsTailMean plan p d (needed S ks plan (asks.Tail p) d) row ⊎ IsBeyond plan p (total_error ks plan) row
+IsAnswerTo ks plan d (asks.Joint unit at) row =
+    AreEnds (Declares plan (Joint (place_of unit plan.units) at)) d (needed S ks plan (asks.Joint unit at) d) row
+IsAnswerTo ks plan d (asks.Kappa unit at) row =
+    IsShare plan (place_of unit plan.units) at d (needed S ks plan (asks.Kappa unit at) d) row
+    ⊎ IsTooRare plan at (total_error ks plan) row
 
 -- the ask as it was written, and a good answer
 pub record IsGood (ks : List ℕ) (plan : Plan) (d : ℕ) (asked : Asked) (row : Row) : Type 0 where

@@ -1,29 +1,55 @@
--- What the rows are made from: the grid of the total, and its mean.
-use Rattle.std.specs.Prelude.{ℕ, ◌≡◌, ◌+◌, ◌<◌, ◌≤◌, List, [], length, get_or}
-use Rattle.dl_exact.specs.Fraction.{◌over◌}
+-- What the rows are made from: the grids and the means of the units, of their total, and of all but one.
+use Rattle.std.specs.Prelude.{ℕ, ◌≡◌, ◌+◌, ◌<◌, ◌≤◌, ◌^◌, ◌↔◌, Bool, false, IsTrue, Option, None, Some, IsSome, IfSome, Any, List, [], ◌∷◌, length, get_or}
+use Rattle.dl_exact.specs.Fraction.{◌over◌, ◌≤ℚ◌}
 use Rattle.dl_iv.specs.declared.interval.Iv.{Iv}
 use Rattle.dl_grid.specs.Cells.{spread}
+use Rattle.dl_model.specs.Series.{Holds}
 use Rattle.dl_model.specs.Family.{total, GridEncloses}
-use Rattle.dl_model.specs.Program.{Quantity, Mean}
-use Rattle.dl_model.specs.Plans.{aggregates_of, compound_of}
+use Rattle.dl_model.specs.Program.{One, Mean, Joint, partial_sums}
+use Rattle.dl_model.specs.Measures.{without}
+use Rattle.dl_model.specs.Plans.{aggregate_of, aggregates_of, mapped_of}
 use Rattle.dl_plan.specs.declared.plan.Unit.{Unit as UnitOfPlan}
 use Rattle.dl_plan.specs.declared.plan.Plan.{Plan}
+use Rattle.dl_plan.specs.declared.settings.Ask.{Ask}
+use Rattle.dl_plan.specs.declared.settings.Ask.TheVariants as asks
+use Rattle.dl_plan.specs.declared.settings.Asked.{Asked}
+use Rattle.dl_plan.specs.Horizon.{IsHorizonOf}
 use Rattle.dl_budget.specs.Claims.{claims_budget}
-use Rattle.dl_budget.specs.Units.{total_budget, mean_budget}
+use Rattle.dl_budget.specs.Units.{AreHorizons, unit_budget, total_budget, others_budget, clause_mean, mean_budget}
+use Rattle.dl_report.specs.declared.report.End.TheVariants.{Number}
 use Rattle.dl_report.specs.declared.report.Row.{Row}
-use Rattle.dl_budget.specs.Asks.{in_digits}
-use Rattle.dl_eval.specs.Rows.{S, Declares, AreEnds}
+use Rattle.dl_budget.specs.Asks.{place_of, joint_budget, in_digits}
+use Rattle.dl_eval.specs.declared.grids.Grids.{Grids}
+use Rattle.dl_eval.specs.Rows.{S, Declares}
 
--- a grid of the sum of a unit's claims, within its budget
-pub record IsUnitGrid (k : ℕ) (u : UnitOfPlan) (g : List (Iv 56)) : Type 0 where
-  pub cells : length g ≡ k
-  pub encloses : GridEncloses g (compound_of u.freq u.sev)
-  pub narrow : spread g ≤ claims_budget S k u
+-- what holds with the horizons of the plan's units
+abbrev pub OnHorizons : Plan → (List ℕ → Type 0) → Type 0
+OnHorizons plan P = (ks : List ℕ) → AreHorizons plan.cells plan.units ks → P ks
 
--- one for each unit, in order
+-- ---- units
+
+-- a grid of H cells of a unit's outcomes, after its aggregate clause, within its budget; K is the unit's horizon
+pub record IsUnitGrid (H : ℕ) (u : UnitOfPlan) (g : List (Iv 56)) : Type 0 where
+  pub cells : length g ≡ H
+  pub encloses : GridEncloses g (mapped_of u)
+  pub narrow : (K : ℕ) → IsHorizonOf u.cede H K → spread g ≤ unit_budget S K u
+
+-- the mean of a unit's outcomes, within its budget
+pub record IsUnitMean (H : ℕ) (u : UnitOfPlan) (mean : Iv 56) : Type 0 where
+  pub holds : Holds (partial_sums (aggregate_of u ∷ []) Mean) (partial_sums (aggregate_of u ∷ []) One) (mean.lo over S) (mean.hi over S)
+  pub narrow : (K : ℕ) → IsHorizonOf u.cede H K → mean.hi ≤ mean.lo + clause_mean u.cede (claims_budget S K u)
+
+-- one grid for each unit, in order
 pub record AreUnitGrids (cells : ℕ) (units : List UnitOfPlan) (grids : List (List (Iv 56))) : Type 0 where
   pub as_many : length grids ≡ length units
   pub each : (i : ℕ) (u : UnitOfPlan) → i < length units → IsUnitGrid cells (get_or units i u) (get_or grids i [])
+
+-- one mean for each unit, in order
+pub record AreUnitMeans (cells : ℕ) (units : List UnitOfPlan) (means : List (Iv 56)) : Type 0 where
+  pub as_many : length means ≡ length units
+  pub each : (i : ℕ) (u : UnitOfPlan) (m : Iv 56) → i < length units → IsUnitMean cells (get_or units i u) (get_or means i m)
+
+-- ---- sums of units
 
 -- the grid of the total, within its budget
 pub record IsTotalOf (ks : List ℕ) (plan : Plan) (g : List (Iv 56)) : Type 0 where
@@ -31,12 +57,64 @@ pub record IsTotalOf (ks : List ℕ) (plan : Plan) (g : List (Iv 56)) : Type 0 w
   pub encloses : GridEncloses g (total (aggregates_of plan))
   pub narrow : spread g ≤ total_budget S ks plan
 
+-- the grid of the sum of all units but unit i, within its budget
+pub record AreOthersOf (ks : List ℕ) (plan : Plan) (i : ℕ) (g : List (Iv 56)) : Type 0 where
+  pub cells : length g ≡ plan.cells
+  pub encloses : GridEncloses g (total (without (aggregates_of plan) i))
+  pub narrow : spread g ≤ others_budget S ks plan i
+
 -- the mean of the total, within its budget
 pub record IsMeanOf (ks : List ℕ) (plan : Plan) (mean : Iv 56) : Type 0 where
   pub holds : Declares plan Mean (mean.lo over S) (mean.hi over S)
   pub narrow : mean.hi ≤ mean.lo + mean_budget S ks plan
 
--- the row holds the ends lo and hi, in units of 1/S, as printed with d digits: they are good ends of what lies between them
-abbrev pub Prints : (lo hi d : ℕ) → Row → Type 0
-Prints lo hi d row = (plan : Plan) (quantity : Quantity) (budget : ℕ) → Declares plan quantity (lo over S) (hi over S) → hi ≤ lo + budget
-    → AreEnds plan quantity d (in_digits S budget d) row
+-- ---- shares
+
+-- the unit whose share an ask is for, counted from 0
+abbrev pub shared_unit : List UnitOfPlan → Ask → Option ℕ
+shared_unit units (asks.Pmf x) = None
+shared_unit units (asks.Cdf x) = None
+shared_unit units asks.Mean = None
+shared_unit units (asks.Quantile p) = None
+shared_unit units (asks.LayerMean limit attach) = None
+shared_unit units (asks.Tail p) = None
+shared_unit units (asks.Joint unit at) = Some (place_of unit units)
+shared_unit units (asks.Kappa unit at) = Some (place_of unit units)
+
+-- whether each unit is one whose share an ask is for
+pub record AreShared (units : List UnitOfPlan) (all : List Asked) (asked : List Bool) : Type 0 where
+  pub as_many : length asked ≡ length units
+  pub each : (i : ℕ) → i < length units → IsTrue (get_or asked i false) ↔ Any (λ a. shared_unit units a.ask ≡ Some i) all
+
+-- the grid of all other units is there for the unit whose share an ask is for
+abbrev pub HasOthers : List UnitOfPlan → Grids → Ask → Type 0
+HasOthers units grids ask = (i : ℕ) → shared_unit units ask ≡ Some i → IsSome (get_or grids.sums.others.items i None)
+
+-- for each unit, where it is there, the grid of the sum of all others
+pub record AreOthers (ks : List ℕ) (plan : Plan) (others : List (Option (List (Iv 56)))) : Type 0 where
+  pub as_many : length others ≡ length plan.units
+  pub each : (i : ℕ) → i < length plan.units → IfSome (get_or others i None) (AreOthersOf ks plan i)
+
+-- the grids of the units, those of all but one, and that of the total
+pub record AreGridsOf (ks : List ℕ) (plan : Plan) (grids : Grids) : Type 0 where
+  pub units : AreUnitGrids plan.cells plan.units grids.units.items
+  pub others : AreOthers ks plan grids.sums.others.items
+  pub total : IsTotalOf ks plan grids.sums.total
+
+-- the joint mean of unit i at a total, within its budget
+pub record IsJointOf (ks : List ℕ) (plan : Plan) (i at : ℕ) (mean : Iv 56) : Type 0 where
+  pub holds : Declares plan (Joint i at) (mean.lo over S) (mean.hi over S)
+  pub narrow : mean.hi ≤ mean.lo + joint_budget S ks plan i
+
+-- ---- what is printed
+
+-- The row holds the ends lo and hi, in units of 1/S, rounded outward to d digits. What is at most so wide stays within what is needed.
+pub record Prints (lo hi d : ℕ) (row : Row) : Type 0 where
+  pub low : ℕ
+  pub high : ℕ
+  pub is_low : row.low ≡ Number low
+  pub is_high : row.high ≡ Number high
+  pub order : low ≤ high
+  pub narrow : (budget : ℕ) → hi ≤ lo + budget → high ≤ low + in_digits S budget d
+  pub below : low over 10 ^ d ≤ℚ lo over S
+  pub above : hi over S ≤ℚ high over 10 ^ d

@@ -1,22 +1,22 @@
 //! The report of a plan.
 
-ghost use Rattle.std.specs.Prelude.{◌≡◌, ◌↔◌, IsTrue, ℕ, List, None, All, IfOk, MatchResult, IfSome};
+ghost use Rattle.std.specs.Prelude.{◌≡◌, ◌≤◌, ◌^◌, ◌↔◌, IsTrue, None, All, IfOk, MatchResult, IfSome};
 ghost use Rattle.dl_plan.specs.declared.settings.Ask.TheVariants as kinds;
 ghost use Rattle.dl_plan.specs.Ranges.{AreInRange};
 ghost use Rattle.dl_plan.specs.Valid.{IsValid};
-ghost use Rattle.dl_budget.specs.Units.{AreHorizons};
-ghost use Rattle.dl_eval.specs.Answers.{IsBuilt, AreInside, IsGoodReport, IsAnswered, Refuses};
-ghost use Rattle.dl_eval.specs.Totals.{IsTotalOf, IsMeanOf};
+ghost use Rattle.dl_budget.specs.Asks.{NamesUnit};
+ghost use Rattle.dl_eval.specs.Answers.{AreInside, NameUnits, IsGoodReport, IsAnswered, Refuses};
+ghost use Rattle.dl_eval.specs.Totals.{AreGridsOf, HasOthers, IsMeanOf, OnHorizons};
 
 use crate::admission::admit;
 use crate::fault::EvalFault;
-use crate::mean::mean_of;
+use crate::grids::{Grids, grids_of};
+use crate::mean::total_mean;
 use crate::rows::row;
-use crate::total::total_grid;
-use dl_grid::Grid;
+use crate::units::{unit_means, unit_outcomes};
 use dl_iv::Iv;
 use dl_plan::{Ask, Asked, Many, Plan, Settings};
-use dl_report::{Report, Row};
+use dl_report::Report;
 use std::alloc::{AllocError, Global};
 
 /// Whether an ask is for the mean.
@@ -42,41 +42,74 @@ fn are_means(asks: &[Asked]) -> bool
     asks.iter().all(|asked| is_mean(&asked.ask))
 }
 
-/// The grid of the total of a valid plan without aggregate clauses, where an ask needs it.
-fn grid_for(alloc: Global, plan: &Plan, asks: &[Asked]) -> Result<Option<Grid<56>>, AllocError>
-    requires valid { IsValid plan.now }
-    requires plain { All (λ u. u.cede ≡ None) plan.now.units }
-    ensures total { IfOk result (λ total. (ks : List ℕ) → AreHorizons plan.now.cells plan.now.units ks → IfSome total (IsTotalOf ks plan.now)) }
-    ensures means { IfOk result (λ total. total ≡ None → All (λ asked. asked.ask ≡ kinds.Mean) asks.now) }
-{
-    if are_means(asks) {
-        return Ok(None);
-    }
-    let total = total_grid(alloc, plan)?;
-    Ok(Some(total))
+/// What the rows of a plan are made from.
+#[derive(Drop)]
+struct Parts {
+    /// The grids; none where all asks are for the mean.
+    grids: Option<Grids>,
+    /// The mean of the total, in buckets.
+    mean: Iv<56>,
 }
 
-/// The rows of the asks, from the mean of the total, and its grid where an ask needs it.
+/// What the rows of a valid plan are made from. Where all asks are for the mean, the only grids made
+/// on the way are those of units with an aggregate clause.
+fn parts_for(alloc: Global, plan: &Plan, asks: &[Asked]) -> Result<Parts, AllocError>
+    requires valid { IsValid plan.now }
+    requires named { All (λ asked. NamesUnit plan.now.units asked.ask) asks.now }
+    ensures grids { IfOk result (λ parts. IfSome parts.grids (λ made.
+        OnHorizons plan.now (λ ks. AreGridsOf ks plan.now made))) }
+    ensures there { IfOk result (λ parts. IfSome parts.grids (λ made.
+        All (λ asked. HasOthers plan.now.units made asked.ask) asks.now)) }
+    ensures none { IfOk result (λ parts. parts.grids ≡ None → All (λ asked. asked.ask ≡ kinds.Mean) asks.now) }
+    ensures mean { IfOk result (λ parts. OnHorizons plan.now (λ ks. IsMeanOf ks plan.now parts.mean)) }
+    ensures small { IfOk result (λ parts. parts.mean.hi ≤ 2 ^ 97) }
+{
+    if are_means(asks) {
+        let means = unit_means(alloc, plan)?;
+        return Ok(Parts {
+            grids: None,
+            mean: total_mean(means.as_slice()),
+        });
+    }
+    let made = unit_outcomes(alloc, plan)?;
+    let mean = total_mean(made.means.as_slice());
+    let grids = grids_of(alloc, plan, asks, made.grids)?;
+    Ok(Parts {
+        grids: Some(grids),
+        mean,
+    })
+}
+
+/// The rows of the asks, in order.
 fn report(
     alloc: Global,
     plan: &Plan,
     settings: &Settings,
-    total: &Option<Grid<56>>,
-    mean: Iv<56>,
+    parts: &Parts,
 ) -> Result<Report, AllocError>
     requires valid { IsValid plan.now }
     requires ranges { AreInRange settings.now }
-    requires built { All (λ asked. IsBuilt asked.ask) settings.now.asks }
     requires inside { AreInside plan.now settings.now }
-    requires total { (ks : List ℕ) → AreHorizons plan.now.cells plan.now.units ks → IfSome total.now (IsTotalOf ks plan.now) }
-    requires means { total.now ≡ None → All (λ asked. asked.ask ≡ kinds.Mean) settings.now.asks }
-    requires mean { (ks : List ℕ) → AreHorizons plan.now.cells plan.now.units ks → IsMeanOf ks plan.now mean }
-    ensures { IfOk result (λ report. (ks : List ℕ) → AreHorizons plan.now.cells plan.now.units ks → IsGoodReport ks plan.now settings.now report) }
+    requires named { NameUnits plan.now settings.now }
+    requires grids { IfSome parts.now.grids (λ made. OnHorizons plan.now (λ ks. AreGridsOf ks plan.now made)) }
+    requires there { IfSome parts.now.grids (λ made.
+        All (λ asked. HasOthers plan.now.units made asked.ask) settings.now.asks) }
+    requires none { parts.now.grids ≡ None → All (λ asked. asked.ask ≡ kinds.Mean) settings.now.asks }
+    requires mean { OnHorizons plan.now (λ ks. IsMeanOf ks plan.now parts.now.mean) }
+    requires small { parts.now.mean.hi ≤ 2 ^ 97 }
+    ensures { IfOk result (λ report. OnHorizons plan.now (λ ks. IsGoodReport ks plan.now settings.now report)) }
 {
     let asks = settings.asks.as_slice();
     let mut rows = Vec::new(alloc);
     for asked in asks {
-        let row = row(alloc, asked, settings.digits, total, mean)?;
+        let row = row(
+            alloc,
+            asked,
+            settings.digits,
+            plan,
+            &parts.grids,
+            parts.mean,
+        )?;
         rows.push(row)?;
     }
     Ok(Report {
@@ -90,12 +123,10 @@ fn report(
 pub fn evaluate(alloc: Global, plan: &Plan, settings: &Settings) -> Result<Report, EvalFault>
     requires valid { IsValid plan.now }
     requires ranges { AreInRange settings.now }
-    requires built { All (λ asked. IsBuilt asked.ask) settings.now.asks }
-    requires plain { All (λ u. u.cede ≡ None) plan.now.units }
     ensures { MatchResult result (IsAnswered plan.now settings.now) (Refuses plan.now settings.now) }
 {
     admit(plan, settings)?;
-    let total = grid_for(alloc, plan, settings.asks.as_slice())?;
-    let report = report(alloc, plan, settings, &total, mean_of(plan))?;
+    let parts = parts_for(alloc, plan, settings.asks.as_slice())?;
+    let report = report(alloc, plan, settings, &parts)?;
     Ok(report)
 }

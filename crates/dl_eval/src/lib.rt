@@ -5,11 +5,13 @@
 mod admission;
 mod evaluation;
 mod fault;
+mod grids;
 mod mean;
 mod rows;
+mod shares;
 #[cfg(test)]
 mod tests;
-mod total;
+mod units;
 
 pub use evaluation::evaluate;
 pub use fault::EvalFault;

@@ -1,39 +1,20 @@
 //! The mean of a total.
 
-ghost use Rattle.std.specs.Prelude.{◌≡◌, ◌+◌, ◌≤◌, ◌^◌, ℕ, List, None, All};
-ghost use Rattle.dl_exact.specs.Fraction.{◌*ℚ◌};
-ghost use Rattle.dl_iv.specs.Enclosure.{LiesIn};
-ghost use Rattle.dl_plan.specs.Count.{expected_count};
-ghost use Rattle.dl_plan.specs.Severity.{pairs_of, mean_amount};
-ghost use Rattle.dl_plan.specs.Valid.{IsValidUnit, IsValid};
+ghost use Rattle.std.specs.Prelude.{◌≤◌, ◌^◌, ℕ, List, All, length};
+ghost use Rattle.dl_plan.specs.declared.plan.Plan.{Plan};
+ghost use Rattle.dl_plan.specs.Valid.{IsValid};
 ghost use Rattle.dl_budget.specs.Units.{AreHorizons};
-ghost use Rattle.dl_eval.specs.Totals.{IsMeanOf};
+ghost use Rattle.dl_eval.specs.Totals.{AreUnitMeans, IsMeanOf};
 
 use dl_iv::Iv;
-use dl_plan::{Plan, Unit};
 
-/// The mean of the claims of a unit of a valid plan, in buckets.
-fn unit_mean(unit: &Unit) -> Iv<56>
-    requires valid { (cells : ℕ) × IsValidUnit cells unit.now }
-    ensures holds { LiesIn (expected_count unit.now.freq *ℚ mean_amount (pairs_of unit.now.sev)) result }
-    ensures narrow { result.hi ≤ result.lo + 1 }
-    ensures small { result.hi ≤ 2 ^ 92 }
+/// The mean of the total of a valid plan, in buckets: the sum of the means of its units.
+pub(crate) fn total_mean(means: &[Iv<56>]) -> Iv<56>
+    requires few { length means.now ≤ 16 }
+    requires small { All (λ mean. mean.hi ≤ 2 ^ 93) means.now }
+    ensures mean { (plan : Plan) (ks : List ℕ) → IsValid plan → AreHorizons plan.cells plan.units ks
+        → AreUnitMeans plan.cells plan.units means.now → IsMeanOf ks plan result }
+    ensures small { result.hi ≤ 2 ^ 97 }
 {
-    let (num, den) = unit.mean_parts();
-    Iv::enclose(num, den)
-}
-
-/// The mean of the total of a valid plan without aggregate clauses, in buckets: the sum of the means of
-/// its units.
-pub(crate) fn mean_of(plan: &Plan) -> Iv<56>
-    requires valid { IsValid plan.now }
-    requires plain { All (λ u. u.cede ≡ None) plan.now.units }
-    ensures { (ks : List ℕ) → AreHorizons plan.now.cells plan.now.units ks → IsMeanOf ks plan.now result }
-{
-    let units = plan.units.as_slice();
-    let mut mean = Iv::point(0);
-    for unit in units {
-        mean = mean.add(unit_mean(unit));
-    }
-    mean
+    Iv::sum(means)
 }

@@ -1,28 +1,28 @@
 //! The row of an ask.
 
-ghost use Rattle.std.specs.Prelude.{◌≡◌, ◌≤◌, ℕ, List, None, IfOk, IfSome, length};
-ghost use Rattle.dl_exact.specs.Fraction.{◌over◌};
+ghost use Rattle.std.specs.Prelude.{◌≡◌, ◌≤◌, ◌^◌, ◌⊎◌, ℕ, List, None, IfOk, IfSome};
 ghost use Rattle.dl_plan.specs.declared.plan.Plan.{Plan as PlanValue};
 ghost use Rattle.dl_plan.specs.declared.settings.Ask.TheVariants as asks;
 ghost use Rattle.dl_plan.specs.Ranges.{IsLevel, HasLevel};
 ghost use Rattle.dl_plan.specs.Valid.{IsValid};
-ghost use Rattle.dl_budget.specs.Units.{total_budget};
-ghost use Rattle.dl_budget.specs.Asks.{IsInside};
-ghost use Rattle.dl_eval.specs.Rows.{S, IsBracket, IsAnswerTo, IsGood, bracket_end};
-ghost use Rattle.dl_eval.specs.Totals.{IsTotalOf, IsMeanOf, Prints};
-ghost use Rattle.dl_eval.specs.Answers.{IsBuilt};
+ghost use Rattle.dl_budget.specs.Asks.{IsInside, NamesUnit, tail_budget, in_digits};
+ghost use Rattle.dl_eval.specs.Rows.{S, IsBracket, IsTailMean, IsBeyond, IsAnswerTo, IsGood, bracket_end, total_error};
+ghost use Rattle.dl_eval.specs.Totals.{IsTotalOf, IsMeanOf, AreGridsOf, HasOthers, OnHorizons, Prints};
 
+use crate::grids::Grids;
+use crate::shares::{joint_of, share_row};
+use dl_budget::place;
 use dl_frac::Frac;
 use dl_grid::Grid;
 use dl_iv::Iv;
 use dl_lexer::Text;
-use dl_measures::{layer_mean, quantile};
-use dl_plan::{Ask, Asked};
+use dl_measures::{layer_mean, quantile, tail_mean};
+use dl_plan::{Ask, Asked, Plan};
 use dl_report::{End, Row};
 use std::alloc::{AllocError, Global};
 
 /// The row of an ask with these ends.
-fn row_with(alloc: Global, asked: &Asked, low: End, high: End) -> Result<Row, AllocError>
+pub(crate) fn row_with(alloc: Global, asked: &Asked, low: End, high: End) -> Result<Row, AllocError>
     ensures ask { IfOk result (λ row. row.ask ≡ asked.now.text) }
     ensures low { IfOk result (λ row. row.low ≡ low) }
     ensures high { IfOk result (λ row. row.high ≡ high) }
@@ -32,7 +32,12 @@ fn row_with(alloc: Global, asked: &Asked, low: End, high: End) -> Result<Row, Al
 }
 
 /// The row of an ask whose answer lies in `value`, with so many digits.
-fn ends_row(alloc: Global, asked: &Asked, digits: u32, value: Iv<56>) -> Result<Row, AllocError>
+pub(crate) fn ends_row(
+    alloc: Global,
+    asked: &Asked,
+    digits: u32,
+    value: Iv<56>,
+) -> Result<Row, AllocError>
     requires digits { digits ≤ 9 }
     ensures ask { IfOk result (λ row. row.ask ≡ asked.now.text) }
     ensures ends { IfOk result (λ row. Prints value.lo value.hi digits row) }
@@ -56,7 +61,7 @@ fn quantile_row(alloc: Global, asked: &Asked, total: &Grid<56>, p: Frac) -> Resu
     requires level { IsLevel p }
     ensures ask { IfOk result (λ row. row.ask ≡ asked.now.text) }
     ensures bracket { IfOk result (λ row. (ks : List ℕ) (plan : PlanValue) → IsValid plan → IsTotalOf ks plan total.now
-        → IsBracket plan p (total_budget S ks plan over S) row) }
+        → IsBracket plan p (total_error ks plan) row) }
 {
     // a grid has no more than its whole mass
     let _cells = total.as_slice();
@@ -65,58 +70,97 @@ fn quantile_row(alloc: Global, asked: &Asked, total: &Grid<56>, p: Frac) -> Resu
     row_with(alloc, asked, End::Whole(bracket.lo), end)
 }
 
-/// The row of an ask, from the grid and the mean of the total.
-fn grid_row(
+/// The row of an ask for the tail mean at `p`; without numbers where the grid ends before the quantile.
+fn tail_row(
     alloc: Global,
     asked: &Asked,
     digits: u32,
     total: &Grid<56>,
+    p: Frac,
+    mean: Iv<56>,
+) -> Result<Row, AllocError>
+    requires digits { digits ≤ 9 }
+    requires level { IsLevel p }
+    requires small { mean.hi ≤ 2 ^ 97 }
+    ensures ask { IfOk result (λ row. row.ask ≡ asked.now.text) }
+    ensures tail { IfOk result (λ row. (ks : List ℕ) (plan : PlanValue) → IsValid plan
+        → IsTotalOf ks plan total.now → IsMeanOf ks plan mean
+        → IsTailMean plan p digits (in_digits S (tail_budget S ks plan p) digits) row
+        ⊎ IsBeyond plan p (total_error ks plan) row) }
+{
+    match tail_mean(total, p, mean) {
+        Some(tail) => ends_row(alloc, asked, digits, tail),
+        None => row_with(alloc, asked, End::Beyond, End::Beyond),
+    }
+}
+
+/// The row of an ask about a valid plan, from its grids and the mean of its total.
+fn grid_row(
+    alloc: Global,
+    asked: &Asked,
+    digits: u32,
+    plan: &Plan,
+    grids: &Grids,
     mean: Iv<56>,
 ) -> Result<Row, AllocError>
     requires digits { digits ≤ 9 }
     requires level { HasLevel asked.now.ask }
-    requires built { IsBuilt asked.now.ask }
-    requires inside { IsInside (length total.now) asked.now.ask }
+    requires valid { IsValid plan.now }
+    requires inside { IsInside plan.now.cells asked.now.ask }
+    requires named { NamesUnit plan.now.units asked.now.ask }
+    requires grids { OnHorizons plan.now (λ ks. AreGridsOf ks plan.now grids.now) }
+    requires there { HasOthers plan.now.units grids.now asked.now.ask }
+    requires mean { OnHorizons plan.now (λ ks. IsMeanOf ks plan.now mean) }
+    requires small { mean.hi ≤ 2 ^ 97 }
     ensures ask { IfOk result (λ row. row.ask ≡ asked.now.text) }
-    ensures answer { IfOk result (λ row. (ks : List ℕ) (plan : PlanValue) → IsValid plan → IsTotalOf ks plan total.now → IsMeanOf ks plan mean
-        → IsAnswerTo ks plan digits asked.now.ask row) }
+    ensures answer { IfOk result (λ row. OnHorizons plan.now (λ ks. IsAnswerTo ks plan.now digits asked.now.ask row)) }
 {
+    let total = &grids.sums.total;
     match &asked.ask {
         Ask::Pmf(x) => ends_row(alloc, asked, digits, total.at(*x)),
         Ask::Cdf(x) => ends_row(alloc, asked, digits, total.cdf(*x)),
+        Ask::Mean => ends_row(alloc, asked, digits, mean),
         Ask::Quantile(p) => quantile_row(alloc, asked, total, *p),
         Ask::LayerMean { limit, attach } => {
-            ends_row(
-                alloc,
-                asked,
-                digits,
-                layer_mean(total, *limit, *attach, mean),
-            )
+            let layer = layer_mean(total, *limit, *attach, mean);
+            ends_row(alloc, asked, digits, layer)
         }
-        Ask::Mean => ends_row(alloc, asked, digits, mean),
-        Ask::Tail(_) | Ask::Joint { .. } | Ask::Kappa { .. } => unreachable!(),
+        Ask::Tail(p) => tail_row(alloc, asked, digits, total, *p, mean),
+        Ask::Joint { unit, at } => {
+            let i = place(plan.units.as_slice(), unit.as_slice());
+            ends_row(alloc, asked, digits, joint_of(plan, grids, i, *at))
+        }
+        Ask::Kappa { unit, at } => {
+            let i = place(plan.units.as_slice(), unit.as_slice());
+            share_row(alloc, asked, digits, plan, grids, i, *at)
+        }
     }
 }
 
-/// The row of an ask, from the mean of the total, and its grid where it was made; without it, the ask
-/// is for the mean.
+/// The row of an ask about a valid plan, from the mean of its total, and its grids where they were
+/// made; without them, the ask is for the mean.
 pub(crate) fn row(
     alloc: Global,
     asked: &Asked,
     digits: u32,
-    total: &Option<Grid<56>>,
+    plan: &Plan,
+    grids: &Option<Grids>,
     mean: Iv<56>,
 ) -> Result<Row, AllocError>
     requires digits { digits ≤ 9 }
     requires level { HasLevel asked.now.ask }
-    requires built { IsBuilt asked.now.ask }
-    requires inside { IfSome total.now (λ g. IsInside (length g) asked.now.ask) }
-    requires mean { total.now ≡ None → asked.now.ask ≡ asks.Mean }
-    ensures { IfOk result (λ row. (ks : List ℕ) (plan : PlanValue) → IsValid plan → IfSome total.now (IsTotalOf ks plan) → IsMeanOf ks plan mean
-        → IsGood ks plan digits asked.now row) }
+    requires valid { IsValid plan.now }
+    requires inside { IsInside plan.now.cells asked.now.ask }
+    requires named { NamesUnit plan.now.units asked.now.ask }
+    requires grids { IfSome grids.now (λ made. OnHorizons plan.now (λ ks. AreGridsOf ks plan.now made)) }
+    requires there { IfSome grids.now (λ made. HasOthers plan.now.units made asked.now.ask) }
+    requires none { grids.now ≡ None → asked.now.ask ≡ asks.Mean }
+    requires mean { OnHorizons plan.now (λ ks. IsMeanOf ks plan.now mean) }
+    requires small { mean.hi ≤ 2 ^ 97 }
+    ensures { IfOk result (λ row. OnHorizons plan.now (λ ks. IsGood ks plan.now digits asked.now row)) }
 {
-    match total {
-        Some(total) => grid_row(alloc, asked, digits, total, mean),
+    match grids {
+        Some(grids) => grid_row(alloc, asked, digits, plan, grids, mean),
         None => ends_row(alloc, asked, digits, mean),
     }
 }

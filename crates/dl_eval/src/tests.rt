@@ -1,11 +1,11 @@
 //! One small plan: two claims of one bucket each, which come to 2 for sure.
 
-ghost use Rattle.std.specs.Prelude.{◌≡◌, ◌≤◌, None, All, IfOk};
-ghost use Rattle.dl_plan.specs.Ranges.{HasLevel, AreInRange};
+ghost use Rattle.std.specs.Prelude.{◌≤◌, IfOk};
+ghost use Rattle.dl_plan.specs.Ranges.{IsLevel, HasLevel, AreInRange};
 ghost use Rattle.dl_plan.specs.Valid.{IsValid};
-ghost use Rattle.dl_eval.specs.Answers.{IsBuilt};
 
 use crate::{EvalFault, evaluate};
+use dl_frac::Frac;
 use dl_lexer::Text;
 use dl_plan::{Ask, Asked, CedeLayer, Form, Format, Freq, Item, Many, Plan, Settings, Sev, Unit};
 use dl_report::End;
@@ -13,8 +13,7 @@ use std::alloc::{AllocError, Global};
 
 /// The plan, on 16 cells.
 fn two_claims(alloc: Global) -> Result<Plan, AllocError>
-    ensures valid { IfOk result (λ plan. IsValid plan) }
-    ensures plain { IfOk result (λ plan. All (λ u. u.cede ≡ None) plan.units) }
+    ensures { IfOk result (λ plan. IsValid plan) }
 {
     let mut items = Vec::new(alloc);
     items.push(Item {
@@ -40,11 +39,9 @@ fn two_claims(alloc: Global) -> Result<Plan, AllocError>
 
 /// The settings of one ask, with 6 digits and this most width of a probability.
 fn settings(alloc: Global, ask: Ask, width: u64) -> Result<Settings, AllocError>
-    requires built { IsBuilt ask }
     requires level { HasLevel ask }
     requires width { 1 ≤ width }
-    ensures ranges { IfOk result (λ settings. AreInRange settings) }
-    ensures built { IfOk result (λ settings. All (λ asked. IsBuilt asked.ask) settings.asks) }
+    ensures { IfOk result (λ settings. AreInRange settings) }
 {
     let mut asks = Vec::new(alloc);
     asks.push(Asked {
@@ -66,7 +63,6 @@ fn settings(alloc: Global, ask: Ask, width: u64) -> Result<Settings, AllocError>
 
 /// The ends of the one row.
 fn ends(alloc: Global, ask: Ask, width: u64) -> Result<Option<(End, End)>, EvalFault>
-    requires built { IsBuilt ask }
     requires level { HasLevel ask }
     requires width { 1 ≤ width }
 {
@@ -75,6 +71,25 @@ fn ends(alloc: Global, ask: Ask, width: u64) -> Result<Option<(End, End)>, EvalF
     let report = evaluate(alloc, &plan, &settings)?;
     let row = report.rows.as_slice().first();
     Ok(row.map(|row| (row.low, row.high)))
+}
+
+/// One half.
+fn half() -> Frac
+    ensures { IsLevel result }
+{
+    Frac::make(1, 2).unwrap()
+}
+
+/// The ends of the one row of an ask for the joint mean of a unit of this name at 2.
+fn joint_ends(alloc: Global, name: &[u8]) -> Result<Option<(End, End)>, EvalFault> {
+    let unit = Text::copy(alloc, name)?;
+    ends(alloc, Ask::Joint { unit, at: 2 }, 2)
+}
+
+/// The ends of the one row of an ask for the share of the unit in this total.
+fn share_ends(alloc: Global, at: u32) -> Result<Option<(End, End)>, EvalFault> {
+    let unit = Text::copy(alloc, b"")?;
+    ends(alloc, Ask::Kappa { unit, at }, 2)
 }
 
 #[test]
@@ -91,6 +106,11 @@ fn one_row_each(rt: HostRuntime) {
         attach: 1,
     };
     assert_eq!(rt; ends(alloc, layer, 2), Ok(Some((one, one))));
+    assert_eq!(rt; ends(alloc, Ask::Tail(half()), 2), Ok(Some((two, two))));
+    assert_eq!(rt; joint_ends(alloc, b""), Ok(Some((two, two))));
+    assert_eq!(rt; share_ends(alloc, 2), Ok(Some((two, two))));
+    assert_eq!(rt; share_ends(alloc, 3), Ok(Some((End::Absent, End::Absent))));
+    assert_eq!(rt; joint_ends(alloc, b"A"), Err(EvalFault::UnknownUnit(0)));
     assert_eq!(rt; ends(alloc, Ask::Pmf(16), 2), Err(EvalFault::AskBeyond(0)));
     assert_eq!(rt; ends(alloc, Ask::Pmf(2), 1), Err(EvalFault::TooWide(0, 2)));
 }

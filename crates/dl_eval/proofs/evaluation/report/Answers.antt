@@ -1,17 +1,36 @@
-use Rattle.std.proofs.Common.{arith, refl, sym, ap, subst₂, length}
+use Rattle.std.proofs.Common.{◌≡◌, arith, refl, sym, ap, subst₂, length}
 use Rattle.std.specs.Prelude.{All, zip}
-use Rattle.dl_budget.proofs.Horizons.{some_horizons}
-use Rattle.dl_eval.proofs.Insides.{inside_total, ask_inside}
+use Rattle.dl_plan.specs.declared.settings.Asked.{Asked}
+use Rattle.dl_plan.specs.declared.settings.Ask.TheVariants.{Mean}
+use Rattle.dl_budget.specs.Asks.{IsInside, NamesUnit}
+use Rattle.dl_eval.specs.Totals.{HasOthers}
+use Rattle.dl_eval.proofs.Insides.{ask_has}
+use Rattle.dl_eval.proofs.Totals.{some_weaker}
 use Rattle.dl_eval.specs.Rows.{IsGood}
 use Rattle.dl_eval.proofs.Lists.{each_next, pushed_length, all_pairs}
 use Rattle.dl_eval.proofs.evaluation.report.Goals as goal
 
 pub row-requires-clause-inside : goal.row-requires-clause-inside
 row-requires-clause-inside c =
-    let plan = c.args.plan.now in
-    let ks = some_horizons plan c.requires.valid in
-    inside_total ks.0 plan c.args.total.now c.asked-item.result.ask (c.requires.total ks.0 ks.1)
-    (ask_inside plan.cells c.as_slice-asks.result.now c.args.settings.now.asks c.loop-asked.asked-index c.asked-item.result c.as_slice-asks.ensures c.asked-item.is c.loop-asked-test.true c.requires.inside)
+    ask_has (λ (a : Asked). IsInside c.args.plan.now.cells a.ask) c.as_slice-asks.result.now c.args.settings.now.asks c.loop-asked.asked-index c.asked-item.result c.as_slice-asks.ensures c.asked-item.is
+    c.loop-asked-test.true c.requires.inside
+
+pub row-requires-clause-named : goal.row-requires-clause-named
+row-requires-clause-named c =
+    ask_has (λ (a : Asked). NamesUnit c.args.plan.now.units a.ask) c.as_slice-asks.result.now c.args.settings.now.asks c.loop-asked.asked-index c.asked-item.result c.as_slice-asks.ensures c.asked-item.is
+    c.loop-asked-test.true c.requires.named
+
+pub row-requires-clause-there : goal.row-requires-clause-there
+row-requires-clause-there c =
+    some_weaker c.args.parts.now.grids _ _ c.requires.there
+    (λ made each.
+    ask_has (λ (a : Asked). HasOthers c.args.plan.now.units made a.ask) c.as_slice-asks.result.now c.args.settings.now.asks c.loop-asked.asked-index c.asked-item.result
+    c.as_slice-asks.ensures c.asked-item.is c.loop-asked-test.true each)
+
+pub row-requires-clause-none : goal.row-requires-clause-none
+row-requires-clause-none c none =
+    ask_has (λ (a : Asked). a.ask ≡ Mean) c.as_slice-asks.result.now c.args.settings.now.asks c.loop-asked.asked-index c.asked-item.result c.as_slice-asks.ensures c.asked-item.is
+    c.loop-asked-test.true (c.requires.none none)
 
 pub loop-asked-preserved : goal.loop-asked-preserved
 loop-asked-preserved c = record {
@@ -19,7 +38,7 @@ loop-asked-preserved c = record {
   each = λ ks horizons.
       each_next (IsGood ks c.args.plan.now c.args.settings.now.digits) c.as_slice-asks.result.now c.loop-asked.rows.items c.push.new.self.items c.loop-asked.asked-index c.asked-item.result c.in_ok-row.row
       c.loop-asked.invariant.as_many (c.loop-asked.invariant.each ks horizons) c.in_ok-push.ensures.items c.loop-asked-test.true c.asked-item.is
-      (c.in_ok-row.ensures ks c.args.plan.now c.requires.valid (c.requires.total ks horizons) (c.requires.mean ks horizons));
+      (c.in_ok-row.ensures ks horizons);
 }
 
 pub returns : goal.returns

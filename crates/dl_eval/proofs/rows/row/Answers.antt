@@ -4,7 +4,8 @@ use Rattle.dl_eval.proofs.rows.row.Goals as goal
 
 pub returns-in-None : goal.returns-in-None
 returns-in-None c =
-    if_ok_two c.ends_row.result _ _ _ (λ row word prints ks plan valid some m. record {
+    if_ok_two c.ends_row.result _ _ _ (λ row word printed ks horizons. record {
       ask = word;
-      answer = rw (c.requires.mean c.in-None.is) (mean_answer ks plan c.args.digits c.args.mean row m prints);
-    }) c.ends_row.ensures.ask c.ends_row.ensures.ends
+      answer = rw (c.requires.none c.in-None.is) (mean_answer ks c.args.plan.now c.args.digits c.args.mean row (c.requires.mean ks horizons) printed);
+    })
+    c.ends_row.ensures.ask c.ends_row.ensures.ends

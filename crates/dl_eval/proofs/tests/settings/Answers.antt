@@ -11,8 +11,8 @@ use Rattle.dl_eval.proofs.tests.settings.Goals as goal
 one_bucket : IsBucket (whole 1)
 one_bucket = record { above = whole_pos 1 (omega arith); num = omega (arith, whole_num 1); den = omega (arith, whole_den 1) }
 
-pub returns-clause-ranges : goal.returns-clause-ranges
-returns-clause-ranges c =
+pub returns : goal.returns
+returns c =
     let item : Asked = record { text = c.from_vec.result; ask = c.args.ask } in
     let pushed = c.from_vec-2.ensures ∙ c.in_ok-push.ensures.items ∙ ap (λ t. t ++ item ∷ []) c.new-asks.ensures.items in
     record {

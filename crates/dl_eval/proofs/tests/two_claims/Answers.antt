@@ -10,8 +10,8 @@ pub invariant_of-push : goal.invariant_of-push
 unfolding bucket
 invariant_of-push c = record { weighted = rw (c.from_vec-2.ensures, c.in_ok-push.ensures.items) (one_item c.new-items.result.items bucket c.new-items.ensures.items refl) }
 
-pub returns-clause-valid : goal.returns-clause-valid
+pub returns : goal.returns
 unfolding bucket
-returns-clause-valid c =
+returns c =
     let valid = two_valid _ c.new-items.result.items bucket c.new-items.ensures.items (c.from_vec-2.ensures ∙ c.in_ok-push.ensures.items) refl refl refl in
     one_unit _ c.new-units.result.items _ c.new-units.ensures.items (c.from_vec-3.ensures ∙ c.in_ok-push-2.ensures.items) c.default.ensures.share refl valid

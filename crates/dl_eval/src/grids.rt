@@ -1,0 +1,75 @@
+//! The grids that rows are made from.
+
+ghost use Rattle.std.specs.Prelude.{◌≡◌, ◌≤◌, ◌↔◌, IsTrue, Some, All, Any, IfOk, length};
+ghost use Rattle.dl_plan.specs.Valid.{IsValid};
+ghost use Rattle.dl_budget.specs.Asks.{NamesUnit};
+ghost use Rattle.dl_eval.specs.Totals.{AreUnitGrids, AreGridsOf, AreShared, HasOthers, OnHorizons, shared_unit};
+
+use dl_budget::place;
+use dl_grid::Grid;
+use dl_plan::{Ask, Asked, Plan, Unit};
+use dl_port::{Sums, total_and_others};
+use std::alloc::{AllocError, Global};
+
+/// The grids that the rows of a plan are made from.
+#[derive(Drop)]
+pub(crate) struct Grids {
+    /// For each unit, that of its outcomes.
+    pub(crate) units: Vec<Grid<56>>,
+    /// That of the total; and for each unit whose share an ask is for, that of all other units.
+    pub(crate) sums: Sums<56>,
+}
+
+/// Whether an ask is for the share of unit `i`, counted from 0.
+fn is_for_share(units: &[Unit], ask: &Ask, i: u32) -> bool
+    requires few { length units.now ≤ 16 }
+    ensures { IsTrue result ↔ (shared_unit units.now ask.now ≡ Some i) }
+{
+    match ask {
+        Ask::Joint { unit, .. } | Ask::Kappa { unit, .. } => place(units, unit.as_slice()) == i,
+        Ask::Pmf(_)
+        | Ask::Cdf(_)
+        | Ask::Mean
+        | Ask::Quantile(_)
+        | Ask::LayerMean { .. }
+        | Ask::Tail(_) => false,
+    }
+}
+
+/// Whether some ask is for the share of unit `i`.
+fn is_shared(units: &[Unit], asks: &[Asked], i: u32) -> bool
+    requires few { length units.now ≤ 16 }
+    ensures { IsTrue result ↔ Any (λ asked. shared_unit units.now asked.ask ≡ Some i) asks.now }
+{
+    asks.iter().any(|asked| is_for_share(units, &asked.ask, i))
+}
+
+/// For each unit, whether an ask is for its share.
+fn shared_units(alloc: Global, units: &[Unit], asks: &[Asked]) -> Result<Vec<bool>, AllocError>
+    requires few { length units.now ≤ 16 }
+    ensures { IfOk result (λ asked. AreShared units.now asks.now asked.items) }
+{
+    let mut asked = Vec::new(alloc);
+    for i in 0..units.len() {
+        asked.push(is_shared(units, asks, i as u32))?;
+    }
+    Ok(asked)
+}
+
+/// The grids that the rows of a valid plan are made from, where those of its units' outcomes are there.
+pub(crate) fn grids_of(
+    alloc: Global,
+    plan: &Plan,
+    asks: &[Asked],
+    units: Vec<Grid<56>>,
+) -> Result<Grids, AllocError>
+    requires valid { IsValid plan.now }
+    requires named { All (λ asked. NamesUnit plan.now.units asked.ask) asks.now }
+    requires units { AreUnitGrids plan.now.cells plan.now.units units.items }
+    ensures grids { IfOk result (λ grids. OnHorizons plan.now (λ ks. AreGridsOf ks plan.now grids)) }
+    ensures there { IfOk result (λ grids. All (λ asked. HasOthers plan.now.units grids asked.ask) asks.now) }
+{
+    let asked = shared_units(alloc, plan.units.as_slice(), asks)?;
+    let sums = total_and_others(alloc, units.as_slice(), asked.as_slice(), plan.cells)?;
+    Ok(Grids { units, sums })
+}
