@@ -6,14 +6,24 @@
 use dl_outside::{StdSink, StdSource};
 use dl_top::{Status, run};
 use std::env;
+use std::io::ErrorKind;
 use std::process::ExitCode;
 
-/// The status where the runtime refuses to give the words; `run` never ends with it.
+/// The number where the words are no text; `run` never ends with it.
 const NO_WORDS: u8 = 1;
 
+/// The number for words that cannot be had: that of want of memory where there was none for them.
+fn code_without_words(cause: ErrorKind) -> u8 {
+    match cause {
+        ErrorKind::OutOfMemory => Status::OutOfMemory.code(),
+        _ => NO_WORDS,
+    }
+}
+
 fn main(rt: HostRuntime) -> ExitCode {
-    let Ok(args) = env::args(&rt) else {
-        return ExitCode::from(NO_WORDS);
+    let args = match env::args(&rt) {
+        Ok(args) => args,
+        Err(error) => return ExitCode::from(code_without_words(error.kind())),
     };
     let Ok(words) = args.skip(1).collect::<Vec<String>>(rt.alloc()) else {
         return ExitCode::from(Status::OutOfMemory.code());

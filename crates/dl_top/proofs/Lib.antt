@@ -1,2 +1,3 @@
 mod ReplyLaws
 mod RunLaws
+mod MadeLines

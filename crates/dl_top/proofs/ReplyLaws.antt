@@ -1,10 +1,9 @@
 -- What follows of a reply, and why an accepted text is not refused.
-use Rattle.std.proofs.Common.{ℕ, ◌≡◌, ◌↔◌, Bool, true, false, IsTrue, map, String, string_bytes, Global, ◌≤◌, ◌<◌, List, [], ◌∷◌, length, get_or, All, Option, None, Some, Result, Ok, Err, IfSome, IsUtf8, arith, refl, sym, ap, subst, ◌∙◌}
+use Rattle.std.proofs.Common.{ℕ, ◌≡◌, map, String, string_bytes, Global, ◌≤◌, List, [], ◌∷◌, length, get_or, All, Option, None, Some, Result, Ok, Err, IfSome, IsUtf8, arith, refl, sym, ap, subst, ◌∙◌}
 use Rattle.dl_outside.specs.Bytes.{Takes}
 use Rattle.dl_lexer.specs.declared.token.Token.{Token}
 use Rattle.dl_lexer.proofs.CoverLaws.{cover_one, covered_not_bad}
 use Rattle.dl_ast.specs.declared.ast.Program.{Program}
-use Rattle.dl_ast.specs.declared.ast.UnitAst.{UnitAst}
 use Rattle.dl_ast.specs.Lexemes.{lexemes}
 use Rattle.dl_ast.specs.Rules.{Spells}
 use Rattle.dl_ast.specs.Grammar.{program}
@@ -23,29 +22,28 @@ use Rattle.dl_eval.specs.Answers.{IsFirstNot, AreAdmitted, WithHorizons, Refuses
 use Rattle.std.specs.Prelude.{zip}
 use Rattle.std.proofs.lemmas.List.Elements.{All-nil, All-cons, All-head, All-tail, All-map}
 use Rattle.std.proofs.lemmas.Str.{IsUtf8-string_bytes}
-use Rattle.dl_exact.specs.Fraction.{Fraction}
-use Rattle.dl_plan.specs.declared.plan.Unit.{Unit as UnitOfPlan}
-use Rattle.std.specs.List.{AllZip}
-use Rattle.dl_types.specs.Plans.{IsUnitOf, aggregate_clause}
 use Rattle.dl_report.specs.declared.report.Report.{Report as Rows}
 use Rattle.dl_report.specs.declared.report.Row.{Row}
 use Rattle.dl_report.specs.Objects.{AsksAreText}
 use Rattle.dl_eval.specs.Rows.{IsGood}
 use Rattle.dl_eval.specs.Answers.{IsAnswered}
-use Rattle.dl_top.specs.Built.{IsBuiltUnit}
 use Rattle.dl_top.specs.declared.fault.Fault.{Fault}
 use Rattle.dl_top.specs.declared.fault.Fault.TheVariants.{Read}
 use Rattle.dl_top.specs.declared.reply.Reply.{Reply}
-use Rattle.dl_top.specs.declared.reply.Reply.TheVariants.{Report, Refusal, OutOfMemory}
-use Rattle.dl_top.specs.Built.{AreBuilt, IsBuiltProgram}
+use Rattle.dl_top.specs.declared.reply.Reply.TheVariants.{Answer, Refusal, OutOfMemory}
 use Rattle.dl_top.specs.Faults.{fault_line}
-use Rattle.dl_top.specs.Answers.{Asks, HasTokens, SpellsProgram, Means, IsAccepted, Refuses, of_asks, usage, other_words, not_read, too_long, bad_byte, continuous, syntax, not_built, typing, asking}
+use Rattle.dl_top.specs.Made.{made_of}
+use Rattle.dl_top.specs.Inputs.{Say, MakeText, input_of}
+use Rattle.dl_plan.specs.declared.settings.Form.TheVariants.{Run, Fmt}
+use Rattle.dl_types.specs.Plans.{IsPlanOf}
+use Rattle.dl_parser.specs.Viable.{Stops}
+use Rattle.dl_top.specs.Answers.{HasTokens, SpellsProgram, IsAccepted, HasForm, Refuses, of_asks, usage, not_read, too_long, bad_byte, continuous, syntax, typing, asking}
 use Rattle.dl_top.specs.Replies.{IsReply, Tells}
 
 -- a refusal is the reply where the words and the input give its fault, and its text needs no more of the text than its place
 pub refused : (words : List (List ℕ)) (input source : List ℕ) (tokens : List Token) (r : Reply) (fault : Fault) → Tells r fault source tokens
     → fault_line fault source tokens ≡ fault_line fault input tokens → Refuses words input fault tokens → IsReply words input r
-refused words input source tokens (Report text) fault h e a = absurd h
+refused words input source tokens (Answer text) fault h e a = absurd h
 refused words input source tokens (Refusal f text) fault h e a = rw h.0 (tokens, a, (h.1 ∙ e))
 refused words input source tokens OutOfMemory fault h e a = tt
 
@@ -108,47 +106,77 @@ admitted_not_refused plan settings (TooWide i width) fault is (ks, horizons, a) 
     none_first _ settings.asks i b.pass wide.first
 admitted_not_refused plan settings NoRoom fault is admitted r = absurd is
 
+-- a text that spells a program is not refused before its rules
+not_unspelled : (input : List ℕ) (p : Program) (tokens : List Token) (k : ℕ) → SpellsProgram input p → HasTokens input tokens → Stops (lexemes input tokens) k → ⊥
+not_unspelled input p tokens k spells has stops = stops.unspelled p (respelled input p tokens spells has)
+
 -- an accepted text is refused for a failed read alone
 pub accepted : (words : List (List ℕ)) (input : List ℕ) (fault : Fault) (tokens : List Token) → IsAccepted words input → Refuses words input fault tokens → fault ≡ Read
-accepted words input fault tokens a (usage f e) = absurd (no_fault words a.settings f a.asks.read e)
-accepted words input fault tokens a (other_words settings e other) = absurd (other (subst AreBuilt (same_settings words a.settings settings a.asks.read e) a.asks.built))
-accepted words input fault tokens a (not_read settings some) = refl
-accepted words input fault tokens a (too_long settings some long) = absurd (omega (arith, a.means.spells.has.fits, long))
-accepted words input fault tokens a (bad_byte settings some at fits bad) = absurd (covered_not_bad input a.means.spells.tokens at a.means.spells.has.covered bad)
-accepted words input fault tokens a (continuous settings some ts k has stops here) =
-    absurd (stops.unspelled a.means.program (respelled input a.means.program ts a.means.spells has))
-accepted words input fault tokens a (syntax settings some ts k has stops not_here) =
-    absurd (stops.unspelled a.means.program (respelled input a.means.program ts a.means.spells has))
-accepted words input fault tokens a (not_built settings some p spells other) =
-    absurd (other (subst IsBuiltProgram (one_spelled input a.means.program p a.means.spells spells) a.means.built))
-accepted words input fault tokens a (typing settings some p spells built f first) =
-    let same : a.means.program ≡ p = one_spelled input a.means.program p a.means.spells spells in
-    let set : a.settings ≡ settings = same_settings words a.settings settings a.asks.read some.read in
-    let none : first_fault p settings ≡ None = rw (sym same, sym set) a.means.faultless in
+accepted words input fault tokens a (usage f e) = absurd (no_fault words a.settings f a.asks.say e)
+accepted words input fault tokens a (not_read settings say seedless) = refl
+accepted words input fault tokens a (too_long settings say long) = absurd (omega (arith, a.spells.has.fits, long))
+accepted words input fault tokens a (bad_byte settings say at fits bad) = absurd (covered_not_bad input a.spells.tokens at a.spells.has.covered bad)
+accepted words input fault tokens a (continuous settings say ts k has stops here) = absurd (not_unspelled input a.program ts k a.spells has stops)
+accepted words input fault tokens a (syntax settings say ts k has stops not_here) = absurd (not_unspelled input a.program ts k a.spells has stops)
+accepted words input fault tokens a (typing settings asks p spells f first) =
+    let same : a.program ≡ p = one_spelled input a.program p a.spells spells in
+    let set : a.settings ≡ settings = same_settings words a.settings settings a.asks.say asks.say in
+    let none : first_fault p settings ≡ None = rw (sym same, sym set) a.faultless in
     absurd (some_not_none f (sym first ∙ none))
-accepted words input fault tokens a (asking settings some plan means of f is refuses) =
-    let set : settings ≡ a.settings = same_settings words settings a.settings some.read a.asks.read in
-    absurd (admitted_not_refused plan a.settings of f is (a.admitted plan (subst (λ s. Means input s plan) set means))
-    (subst (λ s. RefusesAsks plan s of) set refuses))
+accepted words input fault tokens a (asking settings asks plan means of f is refuses) =
+    let set : settings ≡ a.settings = same_settings words settings a.settings asks.say a.asks.say in
+    let same : means.program ≡ a.program = one_spelled input means.program a.program means.spells a.spells in
+    let planned : IsPlanOf a.program a.settings plan = subst (λ s. IsPlanOf a.program s plan) set (subst (λ p. IsPlanOf p settings plan) same means.planned) in
+    absurd (admitted_not_refused plan a.settings of f is (a.admitted plan planned means.valid) (subst (λ s. RefusesAsks plan s of) set refuses))
+
+-- words have one form
+run_not_fmt : (words : List (List ℕ)) (a b : Settings) → Say words a → Say words b → a.form ≡ Run → b.form ≡ Fmt → ⊥
+run_not_fmt words a b e f run fmt = differ (sym run ∙ ap (λ s. s.form) (same_settings words a b e f) ∙ fmt)
+  where
+    differ : Run ≡ Fmt → ⊥
+    differ e = grind (arith, e)
+
+-- a text whose canonical form is wanted, and that spells a program, is refused for a failed read alone
+pub has_form : (words : List (List ℕ)) (input : List ℕ) (fault : Fault) (tokens : List Token) → HasForm words input → Refuses words input fault tokens → fault ≡ Read
+has_form words input fault tokens a (usage f e) = absurd (no_fault words a.settings f a.formats.say e)
+has_form words input fault tokens a (not_read settings say seedless) = refl
+has_form words input fault tokens a (too_long settings say long) = absurd (omega (arith, a.spells.has.fits, long))
+has_form words input fault tokens a (bad_byte settings say at fits bad) = absurd (covered_not_bad input a.spells.tokens at a.spells.has.covered bad)
+has_form words input fault tokens a (continuous settings say ts k has stops here) = absurd (not_unspelled input a.program ts k a.spells has stops)
+has_form words input fault tokens a (syntax settings say ts k has stops not_here) = absurd (not_unspelled input a.program ts k a.spells has stops)
+has_form words input fault tokens a (typing settings asks p spells f first) =
+    absurd (run_not_fmt words settings a.settings asks.say a.formats.say asks.form a.formats.form)
+has_form words input fault tokens a (asking settings asks plan means of f is refuses) =
+    absurd (run_not_fmt words settings a.settings asks.say a.formats.say asks.form a.formats.form)
+
+-- ---- which text the words are about
+
+-- a made one
+pub made_input : (words : List (List ℕ)) (settings : Settings) (seed : ℕ) (left : Option (List ℕ)) (P : List ℕ → Type 0) → Say words settings
+    → settings.make ≡ Some seed → P (made_of seed) → IfSome (input_of words left) P
+unfolding input_of
+made_input words settings seed left P say named p = rw (say, named) p
+
+-- what the source has left
+pub read_input : (words : List (List ℕ)) (settings : Settings) (left : Option (List ℕ)) (P : List ℕ → Type 0) → Say words settings
+    → settings.make ≡ None → IfSome left P → IfSome (input_of words left) P
+unfolding input_of
+read_input words settings left P say seedless p = rw (say, seedless) p
+
+-- words that name no seed name none
+pub not_made : (words : List (List ℕ)) (settings : Settings) → Say words settings → settings.make ≡ None → ¬ MakeText words
+not_made words settings say seedless m = some_not_none m.seed (sym m.named ∙ ap (λ s. s.make) (same_settings words m.settings settings m.say say) ∙ seedless)
+
+-- nothing is taken from a source that is not read
+pub takes_nothing : (left : Option (List ℕ)) → Takes left left 0
+takes_nothing None = tt
+takes_nothing (Some left) = (omega (arith), refl)
 
 -- ---- what the callees want
-
-pub not_so : (b : Bool) {P : Type 0} → (IsTrue b ↔ P) → b ≡ false → ¬ P
-not_so true h e p = grind (arith, e)
-not_so false h e p = grind (arith, h.1 p)
 
 -- words are text
 pub words_text : (words : List (String Global)) → All IsUtf8 (map string_bytes words)
 words_text words = All-map IsUtf8 string_bytes words (λ k d h. IsUtf8-string_bytes (get_or words k d))
-
--- units without a clause in the text have none in the plan
-pub plain_units : (bs : Fraction) (us : List UnitAst) (made : List UnitOfPlan) → AllZip (IsUnitOf bs) us made → All IsBuiltUnit us → All (λ u. u.cede ≡ None) made
-plain_units bs [] [] p built = All-nil (λ u. u.cede ≡ None)
-plain_units bs [] (v ∷ vs) p built = absurd p
-plain_units bs (u ∷ us) [] p built = absurd p
-plain_units bs (u ∷ us) (v ∷ vs) p built =
-    let clause : v.cede ≡ None = p.0.clause ∙ ap (aggregate_clause bs) (All-head IsBuiltUnit u us built).clause in
-    All-cons (λ u. u.cede ≡ None) v vs clause (plain_units bs us vs p.1 (All-tail IsBuiltUnit u us built))
 
 -- the rows of a good report have the asks as they were written
 rows_text : (ks : List ℕ) (plan : Plan) (d : ℕ) (asks : List Asked) (rows : List Row) → length rows ≡ length asks

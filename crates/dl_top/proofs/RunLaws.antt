@@ -8,12 +8,12 @@ use Rattle.dl_words.specs.declared.fault.UsageFault.{UsageFault}
 use Rattle.dl_top.specs.declared.status.Status.{Status}
 use Rattle.dl_top.specs.declared.status.Status.TheVariants as statuses
 use Rattle.dl_top.specs.declared.fault.Fault.{Fault}
-use Rattle.dl_top.specs.declared.fault.Fault.TheVariants.{Usage, Read, TooLong, BadByte, Syntax, Continuous, NotBuilt, Typing, AskBeyond, UnknownUnit, TooWide}
+use Rattle.dl_top.specs.declared.fault.Fault.TheVariants.{Usage, Read, TooLong, BadByte, Syntax, Continuous, Typing, AskBeyond, UnknownUnit, TooWide}
 use Rattle.dl_top.specs.Faults.{status_of, fault_line}
 use Rattle.dl_top.specs.Statuses.{IsAnswerEnd}
-use Rattle.dl_top.specs.Answers.{Answers, Refuses, IsAccepted, refused}
+use Rattle.dl_top.specs.Answers.{Answers, Refuses, IsAccepted, HasForm, refused}
 use Rattle.dl_top.specs.Runs.{Answered, PartOfMessage}
-use Rattle.dl_top.proofs.ReplyLaws.{accepted}
+use Rattle.dl_top.proofs.ReplyLaws.{accepted, has_form}
 
 appends_nothing : (held : Option (List ℕ)) → Appends held held []
 appends_nothing None = tt
@@ -43,7 +43,6 @@ read_of_status TooLong e = grind (arith, e)
 read_of_status (BadByte at) e = grind (arith, e)
 read_of_status (Syntax k) e = grind (arith, e)
 read_of_status (Continuous k) e = grind (arith, e)
-read_of_status NotBuilt e = grind (arith, e)
 read_of_status (Typing of) e = grind (arith, e)
 read_of_status (AskBeyond i) e = grind (arith, e)
 read_of_status (UnknownUnit i) e = grind (arith, e)
@@ -56,7 +55,6 @@ usage_of_status TooLong e = absurd (grind (arith, e))
 usage_of_status (BadByte at) e = absurd (grind (arith, e))
 usage_of_status (Syntax k) e = absurd (grind (arith, e))
 usage_of_status (Continuous k) e = absurd (grind (arith, e))
-usage_of_status NotBuilt e = absurd (grind (arith, e))
 usage_of_status (Typing of) e = absurd (grind (arith, e))
 usage_of_status (AskBeyond i) e = absurd (grind (arith, e))
 usage_of_status (UnknownUnit i) e = absurd (grind (arith, e))
@@ -77,4 +75,11 @@ pub ends_well : (words : List (List ℕ)) (input : List ℕ) (fault : Fault) (te
     → IsAccepted words input → IsAnswerEnd status
 ends_well words input fault text status (tokens, refuses, is) e a =
     let read : fault ≡ Read = accepted words input fault tokens a refuses in
+    rw (e, read) tt
+
+-- and so does a text whose canonical form is wanted
+pub ends_formatted : (words : List (List ℕ)) (input : List ℕ) (fault : Fault) (text : List ℕ) (status : Status) → IsTold words input fault text → status ≡ status_of fault
+    → HasForm words input → IsAnswerEnd status
+ends_formatted words input fault text status (tokens, refuses, is) e a =
+    let read : fault ≡ Read = has_form words input fault tokens a refuses in
     rw (e, read) tt

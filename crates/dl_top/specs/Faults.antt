@@ -11,7 +11,7 @@ use Rattle.dl_types.specs.declared.fault.TypeFault.{TypeFault}
 use Rattle.dl_top.specs.declared.status.Status.{Status}
 use Rattle.dl_top.specs.declared.status.Status.TheVariants as statuses
 use Rattle.dl_top.specs.declared.fault.Fault.{Fault}
-use Rattle.dl_top.specs.declared.fault.Fault.TheVariants.{Usage, Read, TooLong, BadByte, Syntax, Continuous, NotBuilt, Typing, AskBeyond, UnknownUnit, TooWide}
+use Rattle.dl_top.specs.declared.fault.Fault.TheVariants.{Usage, Read, TooLong, BadByte, Syntax, Continuous, Typing, AskBeyond, UnknownUnit, TooWide}
 
 -- how a call with the fault ends, where its text can be written
 abbrev pub status_of : Fault → Status
@@ -21,7 +21,6 @@ status_of TooLong = statuses.Refused
 status_of (BadByte at) = statuses.Refused
 status_of (Syntax k) = statuses.Refused
 status_of (Continuous k) = statuses.Refused
-status_of NotBuilt = statuses.Refused
 status_of (Typing fault) = statuses.Refused
 status_of (AskBeyond i) = statuses.AskFault
 status_of (UnknownUnit i) = statuses.AskFault
@@ -63,7 +62,6 @@ reason TooLong source tokens = codes "the input has more than 1048576 bytes"
 reason (BadByte at) source tokens = place_text source at ++ codes "no token begins here"
 reason (Syntax k) source tokens = place_text source (token_start source (slice_get tokens k)) ++ codes "syntax"
 reason (Continuous k) source tokens = place_text source (token_start source (slice_get tokens k)) ++ codes "continuous severity " ++ token_text source (slice_get tokens k)
-reason NotBuilt source tokens = codes "not built yet"
 reason (Typing fault) source tokens = typing_text fault source
 reason (AskBeyond i) source tokens = ask_text i ++ codes "beyond the grid"
 reason (UnknownUnit i) source tokens = ask_text i ++ codes "no such unit"
@@ -81,7 +79,6 @@ HasPlace Read source = ⊤
 HasPlace TooLong source = ⊤
 HasPlace (Syntax k) source = ⊤
 HasPlace (Continuous k) source = ⊤
-HasPlace NotBuilt source = ⊤
 HasPlace (Typing fault) source = ⊤
 HasPlace (AskBeyond i) source = ⊤
 HasPlace (UnknownUnit i) source = ⊤

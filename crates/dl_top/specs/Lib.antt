@@ -1,6 +1,7 @@
 pub mod Statuses
 pub mod Faults
-pub mod Built
+pub mod Made
+pub mod Inputs
 pub mod Reports
 pub mod Answers
 pub mod Replies

@@ -5,43 +5,37 @@ use Rattle.dl_top.specs.declared.fault.Fault.{Fault}
 use Rattle.dl_words.specs.declared.fault.UsageFault.{UsageFault}
 use Rattle.dl_top.specs.declared.fault.Fault.TheVariants.{Usage, Read}
 use Rattle.dl_top.specs.declared.reply.Reply.{Reply}
-use Rattle.dl_top.specs.declared.reply.Reply.TheVariants.{Report, Refusal, OutOfMemory}
+use Rattle.dl_top.specs.declared.reply.Reply.TheVariants.{Answer, Refusal, OutOfMemory}
 use Rattle.dl_top.specs.declared.status.Status.TheVariants as statuses
 use Rattle.dl_top.specs.Faults.{fault_line}
 use Rattle.dl_top.specs.Answers.{Answers, Refuses}
 
 -- the reply is what the program answers to the words and the input, unless memory ran out
 abbrev pub IsReply : List (List ℕ) → List ℕ → Reply → Type 0
-IsReply words input (Report text) = Answers words input statuses.Done text.items []
+IsReply words input (Answer text) = Answers words input statuses.Done text.items []
 IsReply words input (Refusal fault text) = (tokens : List Token) × Refuses words input fault tokens × (text.items ≡ fault_line fault input tokens)
 IsReply words input OutOfMemory = ⊤
 
 -- the reply is a refusal for this fault, with its text, unless memory ran out
 abbrev pub Tells : Reply → Fault → List ℕ → List Token → Type 0
-Tells (Report text) fault source tokens = ⊥
+Tells (Answer text) fault source tokens = ⊥
 Tells (Refusal f text) fault source tokens = (f ≡ fault) × (text.items ≡ fault_line fault source tokens)
 Tells OutOfMemory fault source tokens = ⊤
 
 -- a refusal because a read failed
 abbrev pub IsReadFault : Reply → Type 0
-IsReadFault (Report text) = ⊥
+IsReadFault (Answer text) = ⊥
 IsReadFault (Refusal fault text) = fault ≡ Read
 IsReadFault OutOfMemory = ⊥
 
 -- a refusal of the words
 abbrev pub IsUsage : Reply → Type 0
-IsUsage (Report text) = ⊥
+IsUsage (Answer text) = ⊥
 IsUsage (Refusal fault text) = (of : UsageFault) × (fault ≡ Usage of)
 IsUsage OutOfMemory = ⊥
 
--- a report, or a refusal of the text: neither of the words nor for a failed read
+-- what was asked for, or a refusal of the text: neither of the words nor for a failed read
 abbrev pub IsOfText : Reply → Type 0
-IsOfText (Report text) = ⊤
+IsOfText (Answer text) = ⊤
 IsOfText (Refusal fault text) = ((of : UsageFault) → fault ≢ Usage of) × (fault ≢ Read)
 IsOfText OutOfMemory = ⊤
-
--- no fault but a failed read
-abbrev pub IsAnswer : Reply → Type 0
-IsAnswer (Report text) = ⊤
-IsAnswer (Refusal fault text) = fault ≡ Read
-IsAnswer OutOfMemory = ⊤

@@ -14,7 +14,7 @@ code_of WriteFault = 6
 code_of OutOfMemory = 7
 code_of AskFault = 8
 
--- a report or the text of a fault was written whole
+-- a canonical text, a report or the text of a fault was written whole
 abbrev pub IsWritten : Status → Type 0
 IsWritten Done = ⊤
 IsWritten Usage = ⊤

@@ -26,8 +26,6 @@ pub enum Fault {
     Syntax(u32),
     /// The same, and the next token names a continuous severity in the place of a listed one.
     Continuous(u32),
-    /// The words or the program are good ones, of a kind that is not answered yet.
-    NotBuilt,
     /// The program breaks a typing rule.
     Typing(TypeFault),
     /// This ask is the first that lies beyond the grid.
@@ -178,7 +176,6 @@ fn push_reason(
             text.extend_from_slice(b"continuous severity ")?;
             push_token(text, source, tokens, k)
         }
-        Fault::NotBuilt => text.extend_from_slice(b"not built yet"),
         Fault::Typing(typing) => push_typing(alloc, text, source, typing),
         Fault::AskBeyond(ask) => {
             push_ask(alloc, text, ask)?;

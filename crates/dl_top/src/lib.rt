@@ -1,33 +1,44 @@
 //! The top call: from the words and the bytes read to the bytes written.
 //!
-//! [`run`] answers the asks of its words about one program. Everything that it writes is made in memory
-//! first, and goes to one of two sinks: a report to the one, the text of a fault to the other.
+//! [`run`] answers the asks of its words about one program, or writes that program in its canonical
+//! form. The program is what the source has left, or one that is [`made`]. Everything that is written
+//! is made in memory first, and goes to one of two sinks: what was asked for to the one, the text of a
+//! fault to the other.
 #![tactic(auto)]
 
-mod built;
 mod fault;
+mod generator;
+#[cfg(test)]
+mod hostile;
+#[cfg(test)]
+mod made_tests;
 mod reply;
 mod status;
 #[cfg(test)]
 mod tests;
 
-ghost use Rattle.std.specs.Prelude.{◌≡◌, ◌⊎◌, ℕ, List, [], IfSome, map};
+ghost use Rattle.std.specs.Prelude.{◌≡◌, ◌≢◌, ◌⊎◌, ℕ, List, [], Err, IfSome, map};
 ghost use Rattle.std.specs.Io.KnownBytes.{Appends};
 ghost use Rattle.std.specs.String.{string_bytes};
 ghost use Rattle.dl_outside.specs.Faults.{Rose};
+ghost use Rattle.dl_outside.specs.Bytes.{TakesAtMost, AppendsPartOf};
+ghost use Rattle.dl_words.specs.declared.fault.UsageFault.{UsageFault};
+ghost use Rattle.dl_words.specs.Words.{words_of};
 ghost use Rattle.dl_top.specs.Faults.{fault_line};
 ghost use Rattle.dl_top.specs.Statuses.{IsWritten, IsRefusal, IsUsageEnd, IsAnswerEnd};
-ghost use Rattle.dl_top.specs.Answers.{HasFault, AskSome, IsAccepted};
+ghost use Rattle.dl_top.specs.Inputs.{HasFault, MakeText, ReadText, input_of};
+ghost use Rattle.dl_top.specs.Answers.{IsAccepted, HasForm};
 ghost use Rattle.dl_top.specs.Runs.{Answered, PartOfReport, PartOfMessage};
 
 use crate::reply::{Reply, reply_to};
 use dl_outside::{Sink, Source, write_all};
 pub use fault::{Fault, fault_text};
+pub use generator::made;
 pub use status::Status;
 use std::alloc::Global;
 
-/// Answers the words over what the source has left. The report goes to `out`, and the text of a
-/// fault to `err`.
+/// Answers the words over a program: the one that they make, or what the source has left. What was
+/// asked for goes to `out`, and the text of a fault to `err`.
 pub fn run<R: Source, O: Sink, E: Sink>(
     alloc: Global,
     words: &[String],
@@ -35,40 +46,57 @@ pub fn run<R: Source, O: Sink, E: Sink>(
     out: &mut O,
     err: &mut E,
 ) -> Status
-    // What is written is the answer to the words and the input, where the source tells its bytes: a
-    // report in which each interval holds the declared value, each bracket the declared quantile, and
-    // each is as narrow as asked; or the first fault, with the width that is needed where that is it.
-    ensures answer { IfSome (R.left src.old) (λ input. IsWritten result →
+    // What is written is the answer to the words and the input, where the words make it or the source
+    // tells its bytes: a report in which each interval holds the declared value, each bracket the
+    // declared quantile, and each is as narrow as asked; or the canonical text; or the first fault,
+    // with the width that is needed where that is it.
+    ensures answer { IfSome (input_of (map string_bytes words.now) (R.left src.old)) (λ input. IsWritten result →
         Answered (map string_bytes words.now) input result (O.held out.old) (O.held out.new) (E.held err.old) (E.held err.new)) }
 
-    // Words that ask for something and a text that means a plan are answered.
-    ensures complete { IfSome (R.left src.old) (λ input.
+    // Words that ask, and a program that breaks no rule and admits the asks, end in a report.
+    ensures complete { IfSome (input_of (map string_bytes words.now) (R.left src.old)) (λ input.
         IsAccepted (map string_bytes words.now) input → IsAnswerEnd result) }
+
+    // Words that want the canonical form, and a text that spells a program, end in that form.
+    ensures formatted { IfSome (input_of (map string_bytes words.now) (R.left src.old)) (λ input.
+        HasForm (map string_bytes words.now) input → IsAnswerEnd result) }
 
     // One sink is written at most, and the other stays as it was.
     ensures done { result ≡ Status.Done → err.new ≡ err.old }
     ensures refused { IsRefusal result → out.new ≡ out.old }
     ensures memory { result ≡ Status.OutOfMemory → (out.new ≡ out.old) × (err.new ≡ err.old) }
 
-    // A fault of the words comes from the words alone, and the source is not read.
+    // A fault of the words comes from the words alone, and the source is not read. Its text is told,
+    // whole, or in part where the write failed.
     ensures usage { result ≡ Status.Usage → HasFault (map string_bytes words.now) }
     ensures unread { HasFault (map string_bytes words.now) → IsUsageEnd result × (src.new ≡ src.old) }
+    ensures usage_text { (fault : UsageFault) → words_of (map string_bytes words.now) ≡ Err fault → result ≡ Status.Usage
+        → Appends (E.held err.old) (E.held err.new) (fault_line (Fault.Usage fault) [] []) }
+    ensures usage_part { (fault : UsageFault) → words_of (map string_bytes words.now) ≡ Err fault → result ≡ Status.WriteFault
+        → AppendsPartOf (E.held err.old) (E.held err.new) (fault_line (Fault.Usage fault) [] []) }
+
+    // Where a program is made the source is not read. Of a longer input than an input may be, one byte
+    // more is taken.
+    ensures made { MakeText (map string_bytes words.now) → (src.new ≡ src.old) × (result ≢ Status.ReadFault) }
+    ensures taken { TakesAtMost (R.left src.old) (R.left src.new) 1048577 }
 
     // A failed read has its cause, and is told.
     ensures read_cause { result ≡ Status.ReadFault → Rose (R.faults src.old) (R.faults src.new) }
-    ensures read_words { result ≡ Status.ReadFault → AskSome (map string_bytes words.now) }
+    ensures read_words { result ≡ Status.ReadFault → ReadText (map string_bytes words.now) }
     ensures read_text { result ≡ Status.ReadFault →
         Appends (E.held err.old) (E.held err.new) (fault_line Fault.Read [] []) }
 
     // A failed write has its cause: one sink holds a part of the answer, and the other is as it was.
     ensures write_cause { result ≡ Status.WriteFault →
         (Rose (O.faults out.old) (O.faults out.new) × (err.new ≡ err.old)
-        × IfSome (R.left src.old) (λ input. PartOfReport (map string_bytes words.now) input (O.held out.old) (O.held out.new)))
+        × IfSome (input_of (map string_bytes words.now) (R.left src.old)) (λ input.
+        PartOfReport (map string_bytes words.now) input (O.held out.old) (O.held out.new)))
         ⊎ (Rose (E.faults err.old) (E.faults err.new) × (out.new ≡ out.old)
-        × IfSome (R.left src.old) (λ input. PartOfMessage (map string_bytes words.now) input (Rose (R.faults src.old) (R.faults src.new)) (E.held err.old) (E.held err.new))) }
+        × IfSome (input_of (map string_bytes words.now) (R.left src.old)) (λ input.
+        PartOfMessage (map string_bytes words.now) input (Rose (R.faults src.old) (R.faults src.new)) (E.held err.old) (E.held err.new))) }
 {
     match reply_to(alloc, words, src) {
-        Reply::Report(text) => match write_all(out, text.as_slice()) {
+        Reply::Answer(text) => match write_all(out, text.as_slice()) {
             Ok(()) => Status::Done,
             Err(_) => Status::WriteFault,
         },

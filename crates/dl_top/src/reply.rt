@@ -1,27 +1,32 @@
 //! What is answered, before any of it is written.
 
-ghost use Rattle.std.specs.Prelude.{◌≡◌, ◌⊎◌, ℕ, ◌<◌, ◌≤◌, List, [], None, All, IsUtf8, IfSome, IfOk, map, length};
+ghost use Rattle.std.specs.Prelude.{◌≡◌, ℕ, ◌≤◌, List, [], None, All, Err, IsUtf8, IfSome, IfOk, map, length};
 ghost use Rattle.std.specs.String.{string_bytes};
 ghost use Rattle.dl_outside.specs.Faults.{Rose};
+ghost use Rattle.dl_outside.specs.Bytes.{TakesAtMost};
 ghost use Rattle.dl_ast.specs.WellFormed.{IsWellFormed};
 ghost use Rattle.dl_plan.specs.Ranges.{AreInRange};
 ghost use Rattle.dl_plan.specs.Valid.{IsValid};
 ghost use Rattle.dl_parser.specs.Placed.{AllInside};
-ghost use Rattle.dl_top.specs.Faults.{HasPlace};
+ghost use Rattle.dl_words.specs.declared.fault.UsageFault.{UsageFault};
+ghost use Rattle.dl_words.specs.Words.{words_of};
 ghost use Rattle.dl_report.specs.Objects.{AsksAreText};
-ghost use Rattle.dl_top.specs.Built.{AreBuilt, IsBuiltProgram};
+ghost use Rattle.dl_top.specs.Faults.{HasPlace};
+ghost use Rattle.dl_top.specs.Made.{made_of};
+ghost use Rattle.dl_top.specs.Inputs.{Say, HasFault, MakeText, ReadText, input_of};
 ghost use Rattle.dl_top.specs.Reports.{written};
-ghost use Rattle.dl_top.specs.Answers.{HasFault, AskSome, Asks, HasTokens, SpellsProgram, Means};
+ghost use Rattle.dl_top.specs.Answers.{Asks, Formats, HasTokens, SpellsProgram, Means};
 ghost use Rattle.dl_top.specs.Replies.{IsReply, Tells, IsUsage, IsReadFault, IsOfText};
 
-use crate::built::{are_built, is_built_program};
 use crate::fault::{Fault, fault_text};
+use crate::generator::made;
 use dl_ast::Program;
 use dl_eval::{EvalFault, evaluate};
 use dl_lexer::{LexFault, Token, lex};
 use dl_outside::{ReadEnd, Source, read_all};
 use dl_parser::{ParseFault, parse};
-use dl_plan::{Format, Plan, Settings};
+use dl_plan::{Form, Format, Plan, Settings};
+use dl_printer::print;
 use dl_report::{Report, csv, json, text};
 use dl_types::{CheckFault, check};
 use dl_words::{WordsFault, read_words};
@@ -33,8 +38,8 @@ const LONGEST: usize = 1_048_576;
 /// What is to be written.
 #[derive(Drop)]
 pub enum Reply {
-    /// A report, for the output.
-    Report(Vec<u8>),
+    /// What was asked for, a report or a canonical text, for the output.
+    Answer(Vec<u8>),
     /// The text of a fault, for the output of faults.
     Refusal(Fault, Vec<u8>),
     /// Nothing: there was no memory for it.
@@ -75,17 +80,15 @@ fn in_form(
 /// The answer to the asks about a plan.
 fn reply_to_plan(alloc: Global, settings: &Settings, plan: &Plan) -> Reply
     requires ranges { AreInRange settings.now }
-    requires built { AreBuilt settings.now }
     requires texts { All (λ asked. IsUtf8 asked.text) settings.now.asks }
     requires valid { IsValid plan.now }
-    requires plain { All (λ u. u.cede ≡ None) plan.now.units }
     ensures reply { (words : List (List ℕ)) (input : List ℕ) → Asks words settings.now
         → Means input settings.now plan.now → IsReply words input result }
     ensures of_text { IsOfText result }
 {
     match evaluate(alloc, plan, settings) {
         Ok(report) => match in_form(alloc, &report, plan, settings) {
-            Ok(text) => Reply::Report(text),
+            Ok(text) => Reply::Answer(text),
             Err(_) => Reply::OutOfMemory,
         },
         Err(EvalFault::AskBeyond(ask)) => refusal(alloc, Fault::AskBeyond(ask), &[], &[]),
@@ -98,9 +101,8 @@ fn reply_to_plan(alloc: Global, settings: &Settings, plan: &Plan) -> Reply
 }
 
 /// The answer to the asks about a program.
-fn reply_to_program(alloc: Global, settings: &Settings, program: &Program, input: &[u8]) -> Reply
+fn reply_to_asks(alloc: Global, settings: &Settings, program: &Program, input: &[u8]) -> Reply
     requires ranges { AreInRange settings.now }
-    requires built { AreBuilt settings.now }
     requires texts { All (λ asked. IsUtf8 asked.text) settings.now.asks }
     requires formed { IsWellFormed program.now }
     requires short { length input.now ≤ 1048576 }
@@ -108,9 +110,6 @@ fn reply_to_program(alloc: Global, settings: &Settings, program: &Program, input
         → SpellsProgram input.now program.now → IsReply words input.now result }
     ensures of_text { IsOfText result }
 {
-    if !is_built_program(program) {
-        return refusal(alloc, Fault::NotBuilt, &[], &[]);
-    }
     match check(alloc, program, settings) {
         Ok(plan) => reply_to_plan(alloc, settings, &plan),
         Err(CheckFault::Typing(fault)) => refusal(alloc, Fault::Typing(fault), input, &[]),
@@ -118,13 +117,41 @@ fn reply_to_program(alloc: Global, settings: &Settings, program: &Program, input
     }
 }
 
-/// The answer to the asks about a text with these tokens.
+/// The canonical text of a program. The rules are not asked.
+fn formatted(alloc: Global, settings: &Settings, program: &Program) -> Reply
+    requires formed { IsWellFormed program.now }
+    ensures reply { (words : List (List ℕ)) (input : List ℕ) → Formats words settings.now
+        → SpellsProgram input program.now → IsReply words input result }
+    ensures of_text { IsOfText result }
+{
+    match print(alloc, program) {
+        Ok(canonical) => Reply::Answer(canonical),
+        Err(_) => Reply::OutOfMemory,
+    }
+}
+
+/// The answer to a program: to the asks about it, or its canonical text.
+fn reply_to_program(alloc: Global, settings: &Settings, program: &Program, input: &[u8]) -> Reply
+    requires ranges { AreInRange settings.now }
+    requires texts { All (λ asked. IsUtf8 asked.text) settings.now.asks }
+    requires formed { IsWellFormed program.now }
+    requires short { length input.now ≤ 1048576 }
+    ensures reply { (words : List (List ℕ)) → Say words settings.now
+        → SpellsProgram input.now program.now → IsReply words input.now result }
+    ensures of_text { IsOfText result }
+{
+    match settings.form {
+        Form::Run => reply_to_asks(alloc, settings, program, input),
+        Form::Fmt => formatted(alloc, settings, program),
+    }
+}
+
+/// The answer to a text with these tokens.
 fn reply_to_tokens(alloc: Global, settings: &Settings, input: &[u8], tokens: &[Token]) -> Reply
     requires ranges { AreInRange settings.now }
-    requires built { AreBuilt settings.now }
     requires texts { All (λ asked. IsUtf8 asked.text) settings.now.asks }
     requires tokens { HasTokens input.now tokens.now }
-    ensures reply { (words : List (List ℕ)) → Asks words settings.now → IsReply words input.now result }
+    ensures reply { (words : List (List ℕ)) → Say words settings.now → IsReply words input.now result }
     ensures of_text { IsOfText result }
 {
     match parse(alloc, input, tokens) {
@@ -135,15 +162,16 @@ fn reply_to_tokens(alloc: Global, settings: &Settings, input: &[u8], tokens: &[T
     }
 }
 
-/// The answer to the asks about a text.
+/// The answer to a text.
 fn reply_to_text(alloc: Global, settings: &Settings, input: &[u8]) -> Reply
     requires ranges { AreInRange settings.now }
-    requires built { AreBuilt settings.now }
     requires texts { All (λ asked. IsUtf8 asked.text) settings.now.asks }
-    requires short { length input.now ≤ 1048576 }
-    ensures reply { (words : List (List ℕ)) → Asks words settings.now → IsReply words input.now result }
+    ensures reply { (words : List (List ℕ)) → Say words settings.now → IsReply words input.now result }
     ensures of_text { IsOfText result }
 {
+    if input.len() > LONGEST {
+        return refusal(alloc, Fault::TooLong, &[], &[]);
+    }
     match lex(alloc, input) {
         Ok(tokens) => reply_to_tokens(alloc, settings, input, tokens.as_slice()),
         Err(LexFault::BadByte(at)) => refusal(alloc, Fault::BadByte(at), input, &[]),
@@ -151,15 +179,29 @@ fn reply_to_text(alloc: Global, settings: &Settings, input: &[u8]) -> Reply
     }
 }
 
-/// The answer to the asks over what is left of the input.
-fn reply_to_input<R: Source>(alloc: Global, settings: &Settings, src: &mut R) -> Reply
+/// The answer to the program that is made from a seed.
+fn reply_to_made(alloc: Global, settings: &Settings, seed: u32) -> Reply
     requires ranges { AreInRange settings.now }
-    requires built { AreBuilt settings.now }
     requires texts { All (λ asked. IsUtf8 asked.text) settings.now.asks }
-    ensures reply { IfSome (R.left src.old) (λ input. (words : List (List ℕ)) → Asks words settings.now → IsReply words input result) }
+    ensures reply { (words : List (List ℕ)) → Say words settings.now → IsReply words (made_of seed) result }
+    ensures of_text { IsOfText result }
+{
+    match made(alloc, seed) {
+        Ok(text) => reply_to_text(alloc, settings, text.as_slice()),
+        Err(_) => Reply::OutOfMemory,
+    }
+}
+
+/// The answer to what is left of the input, where the words name no seed.
+fn reply_to_source<R: Source>(alloc: Global, settings: &Settings, src: &mut R) -> Reply
+    requires ranges { AreInRange settings.now }
+    requires texts { All (λ asked. IsUtf8 asked.text) settings.now.asks }
+    requires seedless { settings.now.make ≡ None }
+    ensures reply { IfSome (R.left src.old) (λ input. (words : List (List ℕ)) → Say words settings.now → IsReply words input result) }
     ensures read_cause { IsReadFault result → Rose (R.faults src.old) (R.faults src.new) }
     ensures read_text { IsReadFault result → Tells result Fault.Read [] [] }
     ensures not_usage { ¬ IsUsage result }
+    ensures taken { TakesAtMost (R.left src.old) (R.left src.new) 1048577 }
 {
     match read_all(alloc, src, LONGEST) {
         Ok(input) => reply_to_text(alloc, settings, input.as_slice()),
@@ -169,27 +211,29 @@ fn reply_to_input<R: Source>(alloc: Global, settings: &Settings, src: &mut R) ->
     }
 }
 
-/// The answer to the words over what is left of the input.
+/// The answer to the words, over the program that they make or what is left of the input.
 pub fn reply_to<R: Source>(alloc: Global, words: &[String], src: &mut R) -> Reply
-    ensures reply { IfSome (R.left src.old) (λ input. IsReply (map string_bytes words.now) input result) }
+    ensures reply { IfSome (input_of (map string_bytes words.now) (R.left src.old)) (λ input. IsReply (map string_bytes words.now) input result) }
 
-    // A fault of the words comes from them alone.
+    // A fault of the words comes from them alone, and is told; the source is not read.
     ensures usage { IsUsage result → HasFault (map string_bytes words.now) }
-    ensures unread { HasFault (map string_bytes words.now) → (IsUsage result ⊎ (result ≡ Reply.OutOfMemory)) × (src.new ≡ src.old) }
+    ensures unread { (fault : UsageFault) → words_of (map string_bytes words.now) ≡ Err fault
+        → Tells result (Fault.Usage fault) [] [] × (src.new ≡ src.old) }
+
+    // Where a program is made the source is not read.
+    ensures made { MakeText (map string_bytes words.now) → (src.new ≡ src.old) × ¬ IsReadFault result }
+    ensures taken { TakesAtMost (R.left src.old) (R.left src.new) 1048577 }
 
     // A failed read has its cause.
     ensures read_cause { IsReadFault result → Rose (R.faults src.old) (R.faults src.new) }
-    ensures read_words { IsReadFault result → AskSome (map string_bytes words.now) }
+    ensures read_words { IsReadFault result → ReadText (map string_bytes words.now) }
     ensures read_text { IsReadFault result → Tells result Fault.Read [] [] }
 {
     match read_words(alloc, words) {
-        Ok(settings) => {
-            if are_built(&settings) {
-                reply_to_input(alloc, &settings, src)
-            } else {
-                refusal(alloc, Fault::NotBuilt, &[], &[])
-            }
-        }
+        Ok(settings) => match settings.make {
+            Some(seed) => reply_to_made(alloc, &settings, seed),
+            None => reply_to_source(alloc, &settings, src),
+        },
         Err(WordsFault::Usage(fault)) => refusal(alloc, Fault::Usage(fault), &[], &[]),
         Err(WordsFault::OutOfMemory) => Reply::OutOfMemory,
     }

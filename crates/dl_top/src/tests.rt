@@ -1,23 +1,14 @@
 //! Whole calls, from words and bytes to bytes. The values were worked by hand, in exact fractions.
 
-ghost use Rattle.std.specs.Prelude.{IsTrue, IfOk, All};
-ghost use Rattle.dl_plan.specs.Ranges.{AreInRange};
-ghost use Rattle.dl_types.specs.Listed.{IsFinite};
-
 use super::*;
-use dl_ast::{CountAst, Program, UnitAst};
-use dl_lexer::lex;
 use dl_outside::{MemSink, MemSource};
-use dl_parser::parse;
-use dl_plan::Settings;
-use dl_types::{CheckFault, check};
-use dl_words::read_words;
 use std::alloc::AllocError;
+use std::process::Abort;
 use std::test::Fail;
 
 /// Calls, with a line `==` between them: the words, the input, how the call ends, and what it
-/// writes, a report to the one sink or the text of a fault to the other. A line `--` stands between
-/// these.
+/// writes, what was asked for to the one sink or the text of a fault to the other. A line `--`
+/// stands between these.
 const CALLS: &str = "run --digits 5 --log2 4 pmf:0
 --
 agg B 3 claims dsev [1 2] binomial 0.5
@@ -363,37 +354,311 @@ Usage
 --
 decl: usage
 ==
-run pmf:3
+run --log2 4 pmf:0 pmf:3
 --
 agg P 2 claims dsev [1] poisson
 --
-Refused
+Done
 --
-decl: not built yet
+pmf:0 0.135335 0.135336
+pmf:3 0.180447 0.180448
 ==
-run pmf:3
+run --log2 4 pmf:0 pmf:3
+--
+agg Z 4 claims dsev [0 1] poisson
+--
+Done
+--
+pmf:0 0.135335 0.135336
+pmf:3 0.180447 0.180448
+==
+run --log2 4 pmf:0
+--
+agg G 2 claims dsev [1] mixed gamma 0.5
+--
+Done
+--
+pmf:0 0.197530 0.197531
+==
+run --log2 4 mean
+--
+agg L 2 claims 3 xs 2 dsev [1:6] poisson
+--
+Done
+--
+mean 4.500000 4.500000
+==
+run --log2 4 mean
+--
+agg L 2 claims 3 xs 2 dsev [1:6] ! poisson
+--
+Done
+--
+mean 3.000000 3.000000
+==
+run --log2 4 mean pmf:0
+--
+agg L 9 loss 3 xs 2 dsev [1:6] poisson
+--
+Done
+--
+mean 9.000000 9.000000
+pmf:0 0.018315 0.018316
+==
+run --log2 4 pmf:0
+--
+agg R 10 premium at 70% lr dsev [1:6] poisson
+--
+Done
+--
+pmf:0 0.135335 0.135336
+==
+run --log2 4 pmf:0 pmf:5
 --
 agg C dfreq [2] dsev [1:6] aggregate ceded to 5 xs 5
 --
-Refused
+Done
 --
-decl: not built yet
+pmf:0 0.277777 0.277778
+pmf:5 0.166666 0.166667
+==
+run --log2 4 pmf:7 mean
+--
+agg C dfreq [2] dsev [1:6] aggregate net of inf xs 7
+--
+Done
+--
+pmf:7 0.583333 0.583334
+mean 6.027777 6.027778
+==
+run --log2 4 q:0.9 tail:0.9 layer:5xs5 layer:infxs10
+--
+agg D dfreq [2] dsev [1:6]
+--
+Done
+--
+q:0.9 10 10
+tail:0.9 11.111111 11.111112
+layer:5xs5 2.166666 2.166667
+layer:infxs10 0.111111 0.111112
+==
+run --log2 4 joint:A:4 kappa:A:4 kappa:A:1 kappa:B:4
+--
+port T agg A dfreq [1] dsev [1:3] agg B dfreq [1] dsev [1:3] [1/2 1/6 1/3]
+--
+Done
+--
+joint:A:4 0.722222 0.722223
+kappa:A:4 2.166666 2.166667
+kappa:A:1 - -
+kappa:B:4 1.833333 1.833334
+==
+run --log2 4 kappa:A:2 kappa:B:2 kappa:A:3 kappa:B:3 kappa:A:5 kappa:B:5 kappa:A:6 kappa:B:6
+--
+port T agg A dfreq [1] dsev [1:3] agg B dfreq [1] dsev [1:3] [1/2 1/6 1/3]
+--
+Done
+--
+kappa:A:2 0.999999 1.000001
+kappa:B:2 0.999999 1.000001
+kappa:A:3 1.749999 1.750001
+kappa:B:3 1.249999 1.250001
+kappa:A:5 2.333333 2.333334
+kappa:B:5 2.666666 2.666667
+kappa:A:6 2.999999 3.000001
+kappa:B:6 2.999999 3.000001
+==
+run --log2 4 kappa:Q:4
+--
+port T agg A dfreq [1] dsev [1:3] agg B dfreq [1] dsev [1:3] [1/2 1/6 1/3]
+--
+AskFault
+--
+decl: ask 0: no such unit
+==
+run --log2 4 joint:A:4 kappa:Q:4 pmf:16
+--
+port T agg A dfreq [1] dsev [1:3] agg B dfreq [1] dsev [1:3] [1/2 1/6 1/3]
+--
+AskFault
+--
+decl: ask 2: beyond the grid
+==
+run --log2 2 q:0.5 tail:0.5
+--
+agg P 10 claims dsev [1] poisson
+--
+Done
+--
+q:0.5 4 beyond
+tail:0.5 beyond beyond
+==
+run --log2 2 q:0.75 tail:0.75 q:0.76 tail:0.76
+--
+agg D dfreq [1] dsev [1:4]
+--
+Done
+--
+q:0.75 3 3
+tail:0.75 4.000000 4.000000
+q:0.76 4 beyond
+tail:0.76 beyond beyond
+==
+run --log2 4 kappa:A:1
+--
+agg A dfreq [1] dsev [1 2] [1/65536 65535/65536]
+--
+Done
+--
+kappa:A:1 1.000000 1.000000
+==
+run --log2 4 kappa:A:1
+--
+agg A dfreq [1] dsev [1 2] [1/65537 65536/65537]
+--
+Done
+--
+kappa:A:1 - -
 ==
 fmt
 --
-agg D dfreq [1] dsev [1:6]
+agg  D dfreq [1,2] [50% 1/2] # c
+sev dhistogram xps [0 1] [.5 0.5] note{x}
 --
-Refused
+Done
 --
-decl: not built yet
+agg D dfreq [1 2] [50% 1/2] dsev [0 1] [.5 0.5] note{x}
 ==
-run tail:0.9
+fmt
 --
-agg D dfreq [1] dsev [1:6]
+port  Book note{all of it} # a comment
+agg A 2.50 claim 3 xs 1 dsev [1, 2 : 5 ,6:10 :2] ! occurrence net of 0.5 so 4 xs 2 and
+  2 po 5 xs 6 and inf xs 11 fixed aggregate ceded to inf xs 5 note{a [b] # c}
+agg B 1/2 loss sev dhistogram xps [1 , 2] [50%,1/2] dsev[3]wts[.25 0.75]poisson agg C 10 prem at \
+70% lr
+inf xs 0 dsev [1:6] occurrence ceded to 1 xs 0 bernoulli
+agg D 3 claims dsev [1] binomial 0.50 aggregate net of 1/2 so 2 xs 2 and 1 xs 4
+agg E 1 claims sev dhistogram xps [0 1] mixed gamma 1/2
+agg F dfreq [0,1] [1/4,3/4] 2 xs 1 dsev [1:3] occurrence net of 1 xs 1 aggregate net of 2 xs 2 \
+note{}
+--
+Done
+--
+port Book note{all of it}
+agg A 2.50 claims 3 xs 1 dsev [1 2:5 6:10:2] ! occurrence net of 0.5 so 4 xs 2 and 2 po 5 xs 6 \
+and inf xs 11 fixed aggregate ceded to inf xs 5 note{a [b] # c}
+agg B 1/2 loss dsev [1 2] [50% 1/2] dsev [3] wts [.25 0.75] poisson
+agg C 10 premium at 70% lr inf xs 0 dsev [1:6] occurrence ceded to 1 xs 0 bernoulli
+agg D 3 claims dsev [1] binomial 0.50 aggregate net of 1/2 so 2 xs 2 and 1 xs 4
+agg E 1 claims dsev [0 1] mixed gamma 1/2
+agg F dfreq [0 1] [1/4 3/4] 2 xs 1 dsev [1:3] occurrence net of 1 xs 1 aggregate net of 2 xs 2 \
+note{}
+==
+fmt
+--
+port Book note{all of it}
+agg A 2.50 claims 3 xs 1 dsev [1 2:5 6:10:2] ! occurrence net of 0.5 so 4 xs 2 and 2 po 5 xs 6 \
+and inf xs 11 fixed aggregate ceded to inf xs 5 note{a [b] # c}
+agg B 1/2 loss dsev [1 2] [50% 1/2] dsev [3] wts [.25 0.75] poisson
+agg C 10 premium at 70% lr inf xs 0 dsev [1:6] occurrence ceded to 1 xs 0 bernoulli
+agg D 3 claims dsev [1] binomial 0.50 aggregate net of 1/2 so 2 xs 2 and 1 xs 4
+agg E 1 claims dsev [0 1] mixed gamma 1/2
+agg F dfreq [0 1] [1/4 3/4] 2 xs 1 dsev [1:3] occurrence net of 1 xs 1 aggregate net of 2 xs 2 \
+note{}
+--
+Done
+--
+port Book note{all of it}
+agg A 2.50 claims 3 xs 1 dsev [1 2:5 6:10:2] ! occurrence net of 0.5 so 4 xs 2 and 2 po 5 xs 6 \
+and inf xs 11 fixed aggregate ceded to inf xs 5 note{a [b] # c}
+agg B 1/2 loss dsev [1 2] [50% 1/2] dsev [3] wts [.25 0.75] poisson
+agg C 10 premium at 70% lr inf xs 0 dsev [1:6] occurrence ceded to 1 xs 0 bernoulli
+agg D 3 claims dsev [1] binomial 0.50 aggregate net of 1/2 so 2 xs 2 and 1 xs 4
+agg E 1 claims dsev [0 1] mixed gamma 1/2
+agg F dfreq [0 1] [1/4 3/4] 2 xs 1 dsev [1:3] occurrence net of 1 xs 1 aggregate net of 2 xs 2 \
+note{}
+==
+fmt
+--
+agg D dfreq [1] dsev [1/0 2] [1/3,1/3]
+--
+Done
+--
+agg D dfreq [1] dsev [1/0 2] [1/3 1/3]
+==
+fmt
+--
+agg D dfreq [1] dsev
 --
 Refused
 --
-decl: not built yet
+decl: 2:1: syntax
+==
+fmt
+--
+agg C 10 claims sev lognorm 50 cv 1.75 poisson
+--
+Refused
+--
+decl: 1:21: continuous severity lognorm
+==
+fmt
+--
+agg D dfreq [1] dsev [1;6]
+--
+Refused
+--
+decl: 1:24: no token begins here
+==
+fmt mean
+--
+agg D dfreq [1] dsev [1:6]
+--
+Usage
+--
+decl: usage
+==
+fmt --log2 4
+--
+agg D dfreq [1] dsev [1:6]
+--
+Usage
+--
+decl: usage
+==
+run --make 0 mean
+--
+--
+Done
+--
+mean 1194.500000 1194.500000
+";
+
+/// Calls that take longer: a book of three units, and many claims on the largest grid.
+const BOOKS: &str = "run --log2 10 --digits 4 mean q:0.99 tail:0.99 joint:Motor:200 kappa:Motor:200
+--
+port Book
+agg Motor 20 claims 50 xs 0 dsev [1 2 5 10 80] [0.4 0.3 0.2 0.08 0.02] poisson
+agg Property 200 premium at 65% lr dsev [5 10 20 60] [0.5 0.3 0.15 0.05] mixed gamma 0.25
+agg Liability dfreq [0 1 2] [0.5 0.3 0.2] 40 xs 10 dsev [5 15 30 100] [0.6 0.2 0.15 0.05] \
+occurrence net of 0.5 so 20 xs 20 aggregate net of 20 xs 30
+--
+Done
+--
+mean 214.7812 214.7813
+q:0.99 425 425
+tail:0.99 465.6967 465.6968
+joint:Motor:200 0.4013 0.4014
+kappa:Motor:200 73.6485 73.6486
+==
+run --log2 12 q:0.99 cdf:3000
+--
+agg K 1000 claims dsev [1:5] poisson
+--
+Done
+--
+q:0.99 3247 3247
+cdf:3000 0.504495 0.504496
 ";
 
 /// Texts that break one typing rule, and texts that just keep it, in the order of the rules, with a line
@@ -723,6 +988,259 @@ agg D dfreq [256] dsev [0]
 pmf:0 1.000000 1.000000
 ";
 
+/// Texts that just pass a limit of the claim counts or of an aggregate clause, and texts that just keep
+/// it; then texts with each kind of count and of clause. They stand as above.
+const LIMITS: &str = "run mean
+agg F 2.5 claims dsev [1] fixed
+decl: 1:7: unit 0: rule 15 CountNotWhole
+==
+run mean
+agg F 4/2 loss dsev [1] fixed
+mean 2.000000 2.000000
+==
+run mean
+agg B 1.0000000001 claims dsev [1] bernoulli
+decl: 1:7: unit 0: rule 16 CountAboveOne
+==
+run mean
+agg B 1 claims dsev [3] bernoulli
+mean 3.000000 3.000000
+==
+run mean
+agg B 0 claims dsev [1] binomial 0
+decl: 1:25: unit 0: rule 17 TrialsNotWhole
+==
+run mean
+agg B 3 claims dsev [1] binomial 1.0000000001
+decl: 1:25: unit 0: rule 17 TrialsNotWhole
+==
+run mean
+agg B 3 claims dsev [1] binomial 1
+mean 3.000000 3.000000
+==
+run mean
+agg B 3 claims dsev [1] binomial 2/5
+decl: 1:25: unit 0: rule 17 TrialsNotWhole
+==
+run --log2 4 pmf:1
+agg B 3 claims dsev [1] binomial 3/7
+pmf:1 0.104446 0.104447
+==
+run mean
+agg G 2 claims dsev [1] mixed gamma 0
+decl: 1:25: unit 0: rule 18 ShapeNotWhole
+==
+run mean
+agg G 2 claims dsev [1] mixed gamma 0.3
+decl: 1:25: unit 0: rule 18 ShapeNotWhole
+==
+run mean
+agg G 2 claims dsev [1] mixed gamma 2
+decl: 1:25: unit 0: rule 18 ShapeNotWhole
+==
+run --log2 4 pmf:1
+agg G 2 claims dsev [1] mixed gamma 100%
+pmf:1 0.222222 0.222223
+==
+run mean
+agg G 16777216 premium at 16777216 lr dsev [1] mixed gamma 2
+decl: 1:48: unit 0: rule 18 ShapeNotWhole
+==
+run mean
+agg F 16777216 premium at 16777216 lr dsev [1] fixed
+decl: 1:5: unit 0: rule 19 TooFine
+==
+run mean
+agg F 16777215 premium at 16777217 lr dsev [1] fixed
+decl: 1:5: unit 0: rule 20 TooManyClaims
+==
+run mean
+agg P 1/16777216 premium at 1/16777216 lr dsev [1] poisson
+decl: 1:5: unit 0: rule 19 TooFine
+==
+run --log2 4 pmf:0
+agg P 1/16777215 premium at 1/16777217 lr dsev [1] poisson
+pmf:0 0.999999 1.000000
+==
+run mean
+agg P 1/99999999999 claims dsev [0 1] [2814/2815 1/2815] poisson
+decl: 1:5: unit 0: rule 19 TooFine
+==
+run --log2 4 pmf:0
+agg P 1/99999999999 claims dsev [0 1] [2813/2814 1/2814] poisson
+pmf:0 0.999999 1.000000
+==
+run mean
+agg G 1/99999999999 claims dsev [0 1] [2814/2815 1/2815] mixed gamma 1
+decl: 1:5: unit 0: rule 19 TooFine
+==
+run mean
+agg P 8192 claims dsev [0 1] poisson
+mean 4096.000000 4096.000000
+==
+run mean
+agg P 8193 claims dsev [0 1] poisson
+decl: 1:5: unit 0: rule 20 TooManyClaims
+==
+run mean
+agg G 8192 claims dsev [0 1] mixed gamma 1
+mean 4096.000000 4096.000000
+==
+run mean
+agg G 8193 claims dsev [0 1] mixed gamma 1
+decl: 1:5: unit 0: rule 20 TooManyClaims
+==
+run mean
+agg P 8192 claims dsev [1:6] occurrence ceded to 1 xs 3 poisson
+mean 4096.000000 4096.000000
+==
+run mean
+agg P 4096.0000001 claims dsev [1] poisson
+decl: 1:5: unit 0: rule 20 TooManyClaims
+==
+run mean
+agg G 2 claims dsev [1] mixed gamma 1/100
+mean 2.000000 2.000000
+==
+run mean
+agg G 2 claims dsev [1] mixed gamma 1/101
+decl: 1:5: unit 0: rule 20 TooManyClaims
+==
+run mean
+agg F 65536 claims dsev [1] fixed
+mean 65536.000000 65536.000000
+==
+run mean
+agg F 65537 claims dsev [1] fixed
+decl: 1:5: unit 0: rule 20 TooManyClaims
+==
+run mean
+agg B 32768 claims dsev [1] binomial 0.5
+mean 32768.000000 32768.000000
+==
+run mean
+agg B 32768.5 claims dsev [1] binomial 0.5
+decl: 1:5: unit 0: rule 20 TooManyClaims
+==
+run --log2 4 pmf:0
+agg Z 0 claims dsev [1:6] poisson aggregate net of inf xs 16384
+pmf:0 1.000000 1.000000
+==
+run pmf:0
+agg Z 0 claims dsev [1:6] poisson aggregate net of inf xs 16385
+decl: 1:35: unit 0: rule 21 HorizonTooLarge
+==
+run pmf:0
+agg D dfreq [1] dsev [1:6] aggregate net of inf xs 16385
+decl: 1:28: unit 0: rule 21 HorizonTooLarge
+==
+run pmf:0
+agg D dfreq [1] dsev [1:6] aggregate net of 3 xs 0 and 3 xs 2
+decl: 1:56: unit 0: rule 11 Overlap
+==
+run pmf:0
+agg D dfreq [1] dsev [1 4] aggregate ceded to 0.5 so 4 xs 0
+decl: 1:28: unit 0: rule 13 OffGridCession
+==
+run --log2 4 pmf:2
+agg D dfreq [1] dsev [2 4] [1/3 2/3] aggregate ceded to 0.5 so 4 xs 0
+pmf:2 0.666666 0.666667
+==
+run --log2 4 pmf:0
+agg Z 5 claims dsev [0] fixed
+pmf:0 1.000000 1.000000
+==
+run --log2 4 pmf:0
+agg Z 1 claims dsev [0] bernoulli
+pmf:0 1.000000 1.000000
+==
+run --log2 4 pmf:0
+agg Z 2 claims dsev [0] binomial 0.5
+pmf:0 1.000000 1.000000
+==
+run --log2 4 --width 1 pmf:0
+agg Z 3 claims dsev [0] poisson
+pmf:0 1.000000 1.000000
+==
+run --log2 4 --width 1 pmf:0
+agg Z 3 claims dsev [0] mixed gamma 0.5
+pmf:0 1.000000 1.000000
+==
+run --log2 4 --width 1 pmf:0
+agg Z 0 claims dsev [5] poisson
+pmf:0 1.000000 1.000000
+==
+run --log2 4 --width 1 pmf:0
+agg Z 0 claims dsev [5] mixed gamma 0.5
+pmf:0 1.000000 1.000000
+==
+run --log2 5 pmf:6 cdf:9 q:0.9 layer:6xs4 tail:0.9 joint:A:8 kappa:B:8 kappa:C:8
+port M agg A 1.5 claims dsev [1 2] poisson agg B 1 claims dsev [1 3] mixed gamma 0.5 agg C dfreq \
+[0 2] [1/4 3/4] dsev [2 5]
+pmf:6 0.046266 0.046267
+cdf:9 0.488214 0.488215
+q:0.9 15 15
+layer:6xs4 4.129055 4.129056
+tail:0.9 17.910765 17.910766
+joint:A:8 0.127175 0.127176
+kappa:B:8 1.362393 1.362394
+kappa:C:8 4.941432 4.941433
+==
+run --log2 4 q:1/7 tail:1/7
+agg D dfreq [1] dsev [1 2 3 5] [1/7 2/7 2/7 2/7]
+q:1/7 1 2
+tail:1/7 3.333333 3.333334
+==
+run --log2 4 pmf:4 mean
+agg D dfreq [2] dsev [1:6] aggregate net of 5 xs 5
+pmf:4 0.083333 0.083334
+mean 4.833333 4.833334
+==
+run --log2 4 pmf:1 mean
+agg D dfreq [2] dsev [1:6] aggregate ceded to 5 xs 5
+pmf:1 0.138888 0.138889
+mean 2.166666 2.166667
+==
+run --log2 4 pmf:5 q:0.5
+agg D dfreq [2] dsev [2 4 6] aggregate net of 0.5 so 4 xs 2 and 3 po 6 xs 6
+pmf:5 0.333333 0.333334
+q:0.5 5 5
+==
+run --log2 4 pmf:2 cdf:1
+port P agg N dfreq [2] dsev [1:6] aggregate ceded to 0 xs 0 agg T dfreq [1] dsev [1:3]
+pmf:2 0.333333 0.333334
+cdf:1 0.333333 0.333334
+==
+run --log2 4 pmf:3 pmf:6 mean tail:0.5
+agg Q 2 claims dsev [1:3] poisson aggregate net of inf xs 6
+pmf:3 0.157055 0.157056
+pmf:6 0.280847 0.280848
+mean 3.456884 3.456885
+tail:0.5 5.327271 5.327272
+==
+run --log2 5 pmf:0 pmf:2 mean layer:infxs1
+agg Q 2 claims dsev [1:3] mixed gamma 0.5 aggregate ceded to inf xs 3
+pmf:0 0.539484 0.539485
+pmf:2 0.085690 0.085691
+mean 1.880353 1.880354
+layer:infxs1 1.419837 1.419838
+==
+run --log2 4 pmf:0 pmf:2
+agg Q 3 claims dsev [1:6] occurrence ceded to 2 xs 3 poisson
+pmf:0 0.223130 0.223131
+pmf:2 0.251021 0.251022
+==
+run --log2 4 pmf:0 mean
+agg Q 7 loss dsev [1:6] occurrence net of 2 xs 3 poisson
+pmf:0 0.135335 0.135336
+mean 5.333333 5.333334
+==
+run --log2 4 --bs 1/2 pmf:3 mean
+agg H 1 claims dsev [0.5 1 1.5] poisson
+pmf:3 0.165772 0.165773
+mean 2.000000 2.000000
+";
+
 /// Sixteen units.
 const SIXTEEN: &str = "port P
 agg A dfreq [1] dsev [1] agg B dfreq [1] dsev [1] agg C dfreq [1] dsev [1] agg D dfreq [1] dsev [1]
@@ -733,6 +1251,18 @@ agg M dfreq [1] dsev [1] agg N dfreq [1] dsev [1] agg O dfreq [1] dsev [1] agg P
 
 /// A die, as a text.
 const DIE: &[u8] = b"agg D dfreq [1] dsev [1:6]\n";
+
+/// The program that is made from 0.
+const MADE: &[u8] = b"port Made
+agg U1 34 claims dsev [1:9] poisson
+agg U2 31 claims dsev [1:10] mixed gamma 0.5
+agg U3 32 claims dsev [1:9] binomial 0.5
+agg U4 34 claims dsev [1:10] fixed
+agg U5 33 claims dsev [1:9] poisson
+agg U6 28 claims dsev [1:6] mixed gamma 0.5
+agg U7 32 claims dsev [1:9] binomial 0.5
+agg U8 21 claims dsev [1:7] fixed
+";
 
 /// How a call ended, and what its two sinks hold.
 #[derive(Drop)]
@@ -791,15 +1321,15 @@ fn written(alloc: Global, words: &str, input: &str) -> Result<(Status, Vec<u8>),
     })
 }
 
-#[test]
-fn answers(rt: HostRuntime) -> Result<(), Fail> {
-    for row in CALLS.split("==\n") {
+/// Each call of a table ends and writes as its row says, and nothing goes to the other sink.
+fn answer_as_told(rt: &impl Abort, alloc: Global, calls: &str) -> Result<(), Fail> {
+    for row in calls.split("==\n") {
         let mut parts = row.split("--\n");
         let words = parts.next().unwrap_or("").trim_end();
         let input = parts.next().unwrap_or("");
         let status = parts.next().unwrap_or("").trim_end();
         let written = parts.next().unwrap_or("");
-        let ended = call(rt.alloc(), words, input.as_bytes(), 999, 999)?;
+        let ended = call(alloc, words, input.as_bytes(), 999, 999)?;
         let (full, empty) = match ended.status {
             Status::Done => (ended.report, ended.message),
             _ => (ended.message, ended.report),
@@ -812,15 +1342,35 @@ fn answers(rt: HostRuntime) -> Result<(), Fail> {
 }
 
 #[test]
-fn asks_each_rule(rt: HostRuntime) -> Result<(), Fail> {
-    for row in RULES.split("==\n") {
+fn answers(rt: HostRuntime) -> Result<(), Fail> {
+    answer_as_told(&rt, rt.alloc(), CALLS)
+}
+
+#[test]
+fn answers_books(rt: HostRuntime) -> Result<(), Fail> {
+    answer_as_told(&rt, rt.alloc(), BOOKS)
+}
+
+/// Each text of a table is answered, or refused, as its last line says.
+fn answer_in_a_line(rt: &impl Abort, alloc: Global, texts: &str) -> Result<(), Fail> {
+    for row in texts.split("==\n") {
         let (words, rest) = row.split_once('\n').unwrap_or(("", ""));
         let (input, answer) = rest.split_once('\n').unwrap_or(("", ""));
-        let (status, text) = written(rt.alloc(), words, input)?;
+        let (status, text) = written(alloc, words, input)?;
         assert!(rt; matches!(status, Status::Done | Status::Refused), "{row}");
         assert_eq!(rt; text.as_slice(), answer.as_bytes(), "{row}");
     }
     Ok(())
+}
+
+#[test]
+fn asks_each_rule(rt: HostRuntime) -> Result<(), Fail> {
+    answer_in_a_line(&rt, rt.alloc(), RULES)
+}
+
+#[test]
+fn keeps_limits(rt: HostRuntime) -> Result<(), Fail> {
+    answer_in_a_line(&rt, rt.alloc(), LIMITS)
 }
 
 /// `head`, then `item` so many times, then `tail`.
@@ -896,107 +1446,37 @@ fn takes_256_asks(rt: HostRuntime) -> Result<(), Fail> {
     Ok(())
 }
 
-/// What is set by words that only ask.
-fn settings(alloc: Global) -> Result<Settings, Fail>
-    ensures { IfOk result (λ settings. AreInRange settings) }
-{
-    let words = [
-        String::from_str(alloc, "run")?,
-        String::from_str(alloc, "mean")?,
-    ];
-    Ok(read_words(alloc, &words)?)
-}
-
-/// Whether the unit lists its counts.
-fn is_listed(unit: &UnitAst) -> bool
-    ensures { IsTrue result → IsFinite unit.now.count }
-{
-    match unit.count {
-        CountAst::Listed { .. } => true,
-        CountAst::Exposed { .. } => false,
-    }
-}
-
-/// Whether each unit lists its counts.
-fn are_listed(program: &Program) -> bool
-    ensures { IsTrue result → All (λ u. IsFinite u.count) program.now.units }
-{
-    'units: for unit in program.units.as_slice() {
-        if !is_listed(unit) {
-            return false;
-        }
-    }
-    true
-}
-
-/// The line that is printed of the typing rule that a text of listed counts breaks; empty where it
-/// breaks none.
-fn broken(alloc: Global, input: &[u8]) -> Result<Vec<u8>, Fail> {
-    if input.len() > 1_048_576 {
-        return Err(Fail::new("too long"));
-    }
-    let settings = settings(alloc)?;
-    let tokens = lex(alloc, input)?;
-    let program = parse(alloc, input, tokens.as_slice())?;
-    if !are_listed(&program) {
-        return Err(Fail::new("not listed"));
-    }
-    match check(alloc, &program, &settings) {
-        Ok(_) => Ok(Vec::new(alloc)),
-        Err(CheckFault::Typing(fault)) => Ok(fault_text(alloc, &Fault::Typing(fault), input, &[])?),
-        Err(CheckFault::OutOfMemory) => Err(Fail::new("out of memory")),
-    }
-}
-
 #[test]
-fn types_aggregate_clauses(rt: HostRuntime) -> Result<(), Fail> {
+fn tells_failed_calls(rt: HostRuntime) -> Result<(), Fail> {
+    let unread = b"decl: the input could not be read\n".as_slice();
+    // the words, the read that fails, the write that fails, the status, the report, the message
     let rows = [
-        ("[1:6] aggregate net of inf xs 16384", ""),
         (
-            "[1:6] aggregate net of inf xs 16385",
-            "1:28: unit 0: rule 21 HorizonTooLarge",
+            "run pmf:3",
+            1,
+            999,
+            Status::ReadFault,
+            b"".as_slice(),
+            unread,
         ),
+        ("run pmf:3", 999, 1, Status::WriteFault, b"pmf:3 0", b""),
+        ("fmt", 999, 2, Status::WriteFault, b"agg D dfreq [1", b""),
+        ("fmt --make 0", 0, 999, Status::Done, MADE, b""),
         (
-            "[1:6] aggregate net of 3 xs 0 and 3 xs 2",
-            "1:56: unit 0: rule 11 Overlap",
-        ),
-        ("[2 4] aggregate ceded to 0.5 so 4 xs 0", ""),
-        (
-            "[1 4] aggregate ceded to 0.5 so 4 xs 0",
-            "1:28: unit 0: rule 13 OffGridCession",
+            "run pmf",
+            0,
+            999,
+            Status::Usage,
+            b"",
+            b"decl: ask 0: not an ask\n",
         ),
     ];
-    for (severity, fault) in rows {
-        let text = long(rt.alloc(), "agg D dfreq [1] dsev ", severity, 1, "")?;
-        let line = broken(rt.alloc(), text.as_bytes())?;
-        let line = std::str::from_utf8(line.as_slice())?;
-        assert_eq!(rt;
-            line.trim_start_matches("decl: ").trim_end(),
-            fault,
-            "{severity}"
-        );
+    for (words, read_fails, write_fails, status, report, message) in rows {
+        let ended = call(rt.alloc(), words, DIE, read_fails, write_fails)?;
+        assert_eq!(rt; ended.status, status, "{words}");
+        assert_eq!(rt; ended.report.as_slice(), report, "{words}");
+        assert_eq!(rt; ended.message.as_slice(), message, "{words}");
     }
-    Ok(())
-}
-
-#[test]
-fn tells_a_failed_read(rt: HostRuntime) -> Result<(), Fail> {
-    let ended = call(rt.alloc(), "run pmf:3", DIE, 1, 999)?;
-    assert_eq!(rt; ended.status, Status::ReadFault);
-    assert_eq!(rt;
-        ended.message.as_slice(),
-        b"decl: the input could not be read\n".as_slice()
-    );
-    assert!(rt; ended.report.is_empty());
-    Ok(())
-}
-
-#[test]
-fn tells_a_failed_write(rt: HostRuntime) -> Result<(), Fail> {
-    let ended = call(rt.alloc(), "run pmf:3", DIE, 999, 1)?;
-    assert_eq!(rt; ended.status, Status::WriteFault);
-    assert_eq!(rt; ended.report.as_slice(), b"pmf:3 0".as_slice());
-    assert!(rt; ended.message.is_empty());
     Ok(())
 }
 

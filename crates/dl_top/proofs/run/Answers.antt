@@ -3,7 +3,7 @@ use Rattle.std.proofs.Common.{refl, inl, inr, sym, ◌∙◌, []}
 use Rattle.dl_top.specs.declared.status.Status.TheVariants.{Done}
 use Rattle.dl_top.specs.Answers.{Answers}
 use Rattle.dl_top.proofs.ReplyLaws.{told}
-use Rattle.dl_top.proofs.RunLaws.{IsTold, message, read_of_status, usage_of_status, part, ends_well}
+use Rattle.dl_top.proofs.RunLaws.{IsTold, message, read_of_status, usage_of_status, part, ends_well, ends_formatted}
 use Rattle.dl_top.proofs.run.Goals as goal
 
 pub returns-in-Ok-write_all-clause-answer : goal.returns-in-Ok-write_all-clause-answer
@@ -28,13 +28,25 @@ returns-in-Refusal-clause-write_cause g c e = inr (
 pub returns-in-Ok-write_all-clause-read_words : goal.returns-in-Ok-write_all-clause-read_words
 returns-in-Ok-write_all-clause-read_words g c e = c.in-Refusal.ensures.read_words (read_of_status c.in-Refusal.fault (sym c.status.ensures ∙ e))
 
-pub returns-in-Report-clause-write_cause : goal.returns-in-Report-clause-write_cause
-returns-in-Report-clause-write_cause g c e = inl (
+pub returns-in-Answer-clause-write_cause : goal.returns-in-Answer-clause-write_cause
+returns-in-Answer-clause-write_cause g c e = inl (
   c.in-Err.ensures.fault,
   refl,
-  told _ {P = λ input. Answers _ input Done c.in-Report.text.items []} c.in-Report.ensures.reply (λ input answer. record {
-    report = c.in-Report.text.items;
+  told _ {P = λ input. Answers _ input Done c.in-Answer.text.items []} c.in-Answer.ensures.reply (λ input answer. record {
+    report = c.in-Answer.text.items;
     answer = answer;
     gains = rw c.as_slice.ensures.value at c.in-Err.ensures.part;
   }),
 )
+
+pub returns-in-Ok-write_all-clause-formatted : goal.returns-in-Ok-write_all-clause-formatted
+returns-in-Ok-write_all-clause-formatted g c = told _ {P = λ input. IsTold _ input c.in-Refusal.fault c.in-Refusal.text.items} c.in-Refusal.ensures.reply (λ input is form.
+    ends_formatted _ input _ _ c.status.result is c.status.ensures form)
+
+pub returns-in-Ok-write_all-clause-unread : goal.returns-in-Ok-write_all-clause-unread
+returns-in-Ok-write_all-clause-unread g c (fault, e) =
+    let tells = c.in-Refusal.ensures.unread fault e in
+    (rw (c.status.ensures, tells.0.0) tt, tells.1)
+
+pub returns-in-Refusal-clause-unread : goal.returns-in-Refusal-clause-unread
+returns-in-Refusal-clause-unread g c (fault, e) = (tt, (c.in-Refusal.ensures.unread fault e).1)

@@ -12,11 +12,11 @@ pub refusal-requires-in-Err-Continuous-clause-inside : goal.refusal-requires-in-
 refusal-requires-in-Err-Continuous-clause-inside c = covered_inside c.args.input.now (length c.args.input.now) c.args.tokens.now c.requires.tokens.covered
 
 pub returns-in-Err-Syntax-clause-reply : goal.returns-in-Err-Syntax-clause-reply
-returns-in-Err-Syntax-clause-reply c words asks =
+returns-in-Err-Syntax-clause-reply c words say =
     let fault = rw c.in-Err-Syntax.field-0-is at c.in-Err-Syntax.ensures.refused in
-    refused words _ _ _ c.refusal.result _ c.refusal.ensures refl (syntax _ asks _ _ c.requires.tokens fault.0 fault.1)
+    refused words _ _ _ c.refusal.result _ c.refusal.ensures refl (syntax _ say _ _ c.requires.tokens fault.0 fault.1)
 
 pub returns-in-Err-Continuous-clause-reply : goal.returns-in-Err-Continuous-clause-reply
-returns-in-Err-Continuous-clause-reply c words asks =
+returns-in-Err-Continuous-clause-reply c words say =
     let fault = rw c.in-Err-Continuous.field-0-is at c.in-Err-Continuous.ensures.refused in
-    refused words _ _ _ c.refusal-in-Err-Continuous.result _ c.refusal-in-Err-Continuous.ensures refl (continuous _ asks _ _ c.requires.tokens fault.0 fault.1)
+    refused words _ _ _ c.refusal-in-Err-Continuous.result _ c.refusal-in-Err-Continuous.ensures refl (continuous _ say _ _ c.requires.tokens fault.0 fault.1)
