@@ -2,31 +2,37 @@
 PREFIX ?= /usr/local
 PROGRAM := crates/decl/out/decl
 SOURCES := crates.txt $(shell find crates -name out -prune -o -type f -print)
+SHARE := $(DESTDIR)$(PREFIX)/share
 
-.PHONY: all demo test install clean
+.PHONY: all demo test hostile install clean
 
 all: $(PROGRAM)
 
 $(PROGRAM): $(SOURCES)
-	@echo "decl: proving and building; the first time takes some minutes"
-	@cd crates/decl && rt run -- run pmf:3 < ../../examples/die.decl
+	@.ci/build
 	@touch $@
-	@echo "decl: built $@"
 
 demo: $(PROGRAM)
 	@echo "decl: two dice, from examples/dice.decl"
 	$(PROGRAM) run pmf:2 cdf:9 mean q:0.9 layer:5xs5 < examples/dice.decl
-	@echo "decl: a portfolio of two units, from examples/book.decl"
-	$(PROGRAM) run mean cdf:20 q:0.99 layer:10xs10 < examples/book.decl
+	@echo "decl: a portfolio of three units, from examples/portfolio.decl"
+	$(PROGRAM) run --digits 4 mean q:0.99 tail:0.99 layer:100xs400 kappa:Motor:425 < examples/portfolio.decl
 
+# Every proof, must-fail edit, test and program, and then the clients: the last line is 'N passed, M failed'.
 test:
-	rt ci
+	@.ci/test
+
+hostile: $(PROGRAM)
+	python3 scripts/hostile.py $(PROGRAM)
 
 install: $(PROGRAM)
-	install -d "$(DESTDIR)$(PREFIX)/bin"
+	install -d "$(DESTDIR)$(PREFIX)/bin" "$(SHARE)/man/man1"
 	install -m 755 $(PROGRAM) "$(DESTDIR)$(PREFIX)/bin/decl"
-	install -d "$(DESTDIR)$(PREFIX)/share/man/man1"
-	install -m 644 docs/decl.1 "$(DESTDIR)$(PREFIX)/share/man/man1/decl.1"
+	install -m 644 docs/decl.1 "$(SHARE)/man/man1/decl.1"
+	install -d "$(SHARE)/bash-completion/completions" "$(SHARE)/zsh/site-functions" "$(SHARE)/fish/vendor_completions.d"
+	install -m 644 share/decl.bash "$(SHARE)/bash-completion/completions/decl"
+	install -m 644 share/decl.zsh "$(SHARE)/zsh/site-functions/_decl"
+	install -m 644 share/decl.fish "$(SHARE)/fish/vendor_completions.d/decl.fish"
 
 clean:
 	rm -rf crates/*/out

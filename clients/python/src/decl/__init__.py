@@ -1,0 +1,69 @@
+"""Asks `decl` about compound losses. Ends are exact, and never turned into floats unless asked.
+
+    >>> import decl
+    >>> report = decl.run("agg Dice dfreq [2] dsev [1:6]", ["pmf:2", "q:0.9"])
+    >>> report["pmf:2"].low, report["pmf:2"].high
+    (Fraction(27777, 1000000), Fraction(13889, 500000))
+
+The program is the one that the variable DECL names, else `decl` on the path.
+"""
+
+from .calls import check, fmt, made, report, run
+from .choose import bucket, grid
+from .faults import (
+    AskFault,
+    BadAnswer,
+    BadByte,
+    ContinuousSeverity,
+    DeclError,
+    GridTooSmall,
+    Killed,
+    NeedsWidth,
+    NotText,
+    NoWords,
+    OutOfMemory,
+    ProgramNotFound,
+    ReadFault,
+    RuleFault,
+    SyntaxFault,
+    TextFault,
+    TooLong,
+    TookTooLong,
+    UsageFault,
+    WriteFault,
+)
+from .magic import load_ipython_extension
+from .reports import Report, Row
+
+__all__ = [
+    "AskFault",
+    "BadAnswer",
+    "BadByte",
+    "ContinuousSeverity",
+    "DeclError",
+    "GridTooSmall",
+    "Killed",
+    "NeedsWidth",
+    "NotText",
+    "NoWords",
+    "OutOfMemory",
+    "ProgramNotFound",
+    "ReadFault",
+    "Report",
+    "Row",
+    "RuleFault",
+    "SyntaxFault",
+    "TextFault",
+    "TooLong",
+    "TookTooLong",
+    "UsageFault",
+    "WriteFault",
+    "bucket",
+    "check",
+    "fmt",
+    "grid",
+    "load_ipython_extension",
+    "made",
+    "report",
+    "run",
+]

@@ -1,0 +1,135 @@
+"""Helps with two choices: the size of a bucket, and the number of buckets."""
+
+import re
+from fractions import Fraction
+from functools import reduce
+from math import gcd
+
+from .calls import check, fmt, run, spelled
+from .faults import GridTooSmall, RuleFault
+
+TOKEN = re.compile(r"note\{[^{}]*\}|\d+/\d+|(?:\d+\.?\d*|\.\d+)%?|[A-Za-z][A-Za-z0-9_-]*|[\[\]:,!]")
+OFF_GRID_CESSION = 13
+LARGEST = 12
+
+
+def value_of(numeral):
+    """The number that a numeral spells: a decimal, a percent or a fraction."""
+    if numeral.endswith("%"):
+        return Fraction(numeral[:-1].rstrip(".")) / 100
+    return Fraction(numeral.rstrip("."))
+
+
+def tokens_of(text):
+    """The tokens of a canonical text, without its notes."""
+    return [token for token in TOKEN.findall(text) if not token.startswith("note{")]
+
+
+def list_behind(tokens, at):
+    """The items of the list whose `[` stands at this place: each 1 to 3 numerals."""
+    items = []
+    at += 1
+    while tokens[at] != "]":
+        item = [tokens[at]]
+        while tokens[at + 1] == ":":
+            at += 2
+            item.append(tokens[at])
+        items.append([value_of(numeral) for numeral in item])
+        at += 1
+    return items
+
+
+def of_item(item):
+    """Amounts that divide alike with those of the item: its first one, and its step where it has a second one."""
+    first, last, step = item if len(item) == 3 else (item[0], item[-1], Fraction(1))
+    return [first] if first + step > last else [first, step]
+
+
+def amounts_of(tokens):
+    """The amounts, limits and attachments of a canonical text, ranges by their first amount and step."""
+    found = []
+    for at, token in enumerate(tokens):
+        if token == "dsev":
+            found += [amount for item in list_behind(tokens, at + 1) for amount in of_item(item)]
+        if token == "xs":
+            found += [value_of(end) for end in (tokens[at - 1], tokens[at + 1]) if end != "inf"]
+    return found
+
+
+def shares_of(tokens):
+    """The shares of the clauses of a canonical text."""
+    found = []
+    for at, token in enumerate(tokens):
+        if token == "so":
+            found.append(value_of(tokens[at - 1]))
+        if token == "po" and tokens[at + 1] != "inf" and value_of(tokens[at + 1]):
+            found.append(value_of(tokens[at - 1]) / value_of(tokens[at + 1]))
+    return found
+
+
+def common(first, second):
+    """The greatest fraction that divides both."""
+    over = first.denominator * second.denominator // gcd(first.denominator, second.denominator)
+    return Fraction(gcd(int(first * over), int(second * over)), over)
+
+
+def divisors(number):
+    """The whole numbers that divide a number, rising."""
+    found = [1]
+    prime = 2
+    while number > 1:
+        if prime * prime > number:
+            prime = number
+        powers = [1]
+        while number % prime == 0:
+            number //= prime
+            powers.append(powers[-1] * prime)
+        found = [old * power for old in found for power in powers]
+        prime += 1
+    return sorted(found)
+
+
+def bucket(text, *, shares=True, timeout=None):
+    """The greatest size of a bucket that divides every amount, limit and attachment of the text, as a fraction.
+
+    Where a clause takes a share, its outcomes have to be whole numbers of buckets too. Then the size is the greatest that
+    divides these as well, found by asking the program; with `shares=False` the written amounts alone count.
+    """
+    tokens = tokens_of(fmt(text, timeout=timeout))
+    size = reduce(common, amounts_of(tokens), Fraction(0)) or Fraction(1)
+    if not shares:
+        return size
+    fault = None
+    parts = {1}
+    for share in shares_of(tokens):
+        parts = {old * new for old in parts for new in divisors(share.denominator)}
+    for part in sorted(parts):
+        try:
+            check(text, bs=size / part, log2=1, timeout=timeout)
+        except RuleFault as found:
+            if found.rule != OFF_GRID_CESSION:
+                raise
+            fault = found
+        else:
+            return size / part
+    raise fault
+
+
+def grid(text, inside="0.999999", *, timeout=None, **settings):
+    """The least `log2` with which at least so much probability is sure to lie inside the grid.
+
+    `inside` is a decimal, a fraction or a percent; a float is taken as the decimal that Python prints for it. `settings`
+    are those of `run` but log2. Raises `GridTooSmall` where the largest grid is not sure to hold so much.
+    """
+    wanted = value_of(inside) if isinstance(inside, str) else Fraction(spelled(inside))
+    settings = {"digits": 9, "width": 10**9, **settings}
+    for log2 in range(1, LARGEST + 1):
+        ask = f"cdf:{2**log2 - 1}"
+        row = run(text, [ask], log2=log2, timeout=timeout, **settings)[0]
+        if row.low >= wanted:
+            return log2
+    raise GridTooSmall(
+        f"the largest grid, of {2**LARGEST} buckets, holds a probability from {row.written[0]} to {row.written[1]};"
+        " take larger buckets",
+        row=row,
+    )

@@ -1,0 +1,165 @@
+"""Why there is no report: one exception for each status of the program, and for a program that did not end by itself.
+
+An exception keeps its facts as attributes, and can be pickled, so that it can come from another process.
+"""
+
+import signal
+
+from .rules import SENTENCES
+
+#: So many characters of a long line are shown on each side of a place.
+AROUND = 60
+
+
+def restore(kind, told, facts):
+    """Makes an exception again from its pickled parts."""
+    return kind(told, **facts)
+
+
+class DeclError(Exception):
+    """There is no report. `status` is the program's status, or None where it did not end by itself."""
+
+    status = None
+
+    def __init__(self, told, **facts):
+        super().__init__(told)
+        self.told = told
+        self.facts = facts
+        for name, value in facts.items():
+            setattr(self, name, value)
+
+    def __reduce__(self):
+        return restore, (type(self), self.told, self.facts)
+
+    def _render_traceback_(self):
+        """In a notebook the message stands alone, with no traceback."""
+        return [f"{type(self).__name__}: {self.told}"]
+
+
+class ProgramNotFound(DeclError):
+    """No program to run; `program` is the name that was looked for."""
+
+
+class Killed(DeclError):
+    """The program was ended by a signal; `signal` is its number."""
+
+
+class TookTooLong(DeclError):
+    """The program did not end within `seconds`, and was ended."""
+
+
+class BadAnswer(DeclError):
+    """What the program wrote is no whole report. It is not used."""
+
+
+class NotText(DeclError):
+    """The text has a NUL byte or is no UTF-8; `line` and `column` tell where, counted from 1."""
+
+
+class GridTooSmall(DeclError):
+    """No grid is sure to hold so much probability; `row` is the answer for the largest."""
+
+
+class NoWords(DeclError):
+    """The system did not give the program its words."""
+
+    status = 1
+
+
+class UsageFault(DeclError):
+    """The words are not understood; `ask` counts from 0, and is None where an option is at fault."""
+
+    status = 2
+
+
+class TextFault(DeclError):
+    """The text is refused. `line` and `column` (in bytes) count from 1; they are None where the text is too long."""
+
+    status = 3
+    line = None
+    column = None
+
+
+class TooLong(TextFault):
+    """The text has more than 1 MiB."""
+
+
+class BadByte(TextFault):
+    """No token begins at this place."""
+
+
+class SyntaxFault(TextFault):
+    """The tokens up to this place begin a program, and no program goes on with the next one."""
+
+
+class ContinuousSeverity(TextFault):
+    """`word` names a continuous severity, and those are not taken."""
+
+
+class RuleFault(TextFault):
+    """A typing rule is broken: `unit` counts from 0, `rule` is its number and `name` its name."""
+
+
+class NeedsWidth(DeclError):
+    """An ask needs more width: ask `ask` (from 0) needs `needed` units of the last digit as `option`."""
+
+    status = 4
+
+
+class ReadFault(DeclError):
+    """The program could not read the text."""
+
+    status = 5
+
+
+class WriteFault(DeclError):
+    """The program could not write the whole report. What came through is dropped."""
+
+    status = 6
+
+
+class OutOfMemory(DeclError):
+    """The program had no memory."""
+
+    status = 7
+
+
+class AskFault(DeclError):
+    """Ask `ask` (from 0) lies beyond the grid, or names no unit; `reason` says which."""
+
+    status = 8
+
+
+def pointed(text, line, column):
+    """The line of the text, cut round the column (in bytes, from 1), with a caret under the place."""
+    lines = text.encode().split(b"\n")
+    whole = lines[line - 1] if line <= len(lines) else b""
+    before = whole[: column - 1].decode("utf-8", "replace")
+    behind = whole[column - 1 :].decode("utf-8", "replace").rstrip("\r")
+    cut = "" if len(before) <= AROUND else ".."
+    before = before[-AROUND:]
+    blanks = "".join(sign if sign == "\t" else " " for sign in cut + before)
+    return f"  {cut}{before}{behind[:AROUND]}{'..' if len(behind) > AROUND else ''}\n  {blanks}^"
+
+
+def pointed_word(words, index):
+    """The words in one line, with carets under one of them."""
+    before = " ".join(words[:index] + [""]) if index else ""
+    cut = "" if len(before) <= AROUND else ".."
+    before = before[-AROUND:]
+    word = words[index]
+    return f"  {cut}{before}{word}\n  {' ' * len(cut + before)}{'^' * max(1, len(word))}"
+
+
+def killed(number):
+    """The exception of a program that was ended by this signal."""
+    try:
+        name = signal.Signals(number).name
+    except ValueError:
+        name = f"signal {number}"
+    return Killed(f"decl was ended by {name} before its report was whole; nothing of it is used", signal=number)
+
+
+def rule_sentence(number):
+    """What the rule asks, in a sentence."""
+    return SENTENCES.get(number, "This version of the client does not know the rule; see docs/LANGUAGE.md.")

@@ -1,0 +1,78 @@
+"""Finds the program, and runs it once."""
+
+import os
+import shutil
+import subprocess
+
+from . import faults
+from .told import fault_of
+
+
+def find():
+    """The program that DECL names, else `decl` on the path."""
+    named = os.environ.get("DECL") or "decl"
+    found = shutil.which(named)
+    if found is None:
+        raise faults.ProgramNotFound(
+            f"there is no program {named!r} to run: put decl on the path, or its place in the variable DECL",
+            program=named,
+        )
+    return found
+
+
+def as_text(text):
+    """The text as a `str` with no NUL; bytes have to be UTF-8."""
+    if isinstance(text, bytes):
+        try:
+            text = text.decode("utf-8")
+        except UnicodeDecodeError as cause:
+            line, column = place_in(text, cause.start)
+            raise faults.NotText(f"{line}:{column}: the text is no UTF-8", line=line, column=column) from None
+    if not isinstance(text, str):
+        raise TypeError(f"a text is a str or bytes, not {type(text).__name__}")
+    try:
+        data = text.encode("utf-8")
+    except UnicodeEncodeError as cause:
+        line, column = place_in(text[: cause.start].encode("utf-8"), None)
+        raise faults.NotText(f"{line}:{column}: the text is no UTF-8", line=line, column=column) from None
+    nul = data.find(b"\0")
+    if nul >= 0:
+        line, column = place_in(data, nul)
+        raise faults.NotText(f"{line}:{column}: the text has a NUL byte", line=line, column=column)
+    return text
+
+
+def place_in(data, offset):
+    """Line and column of an offset in bytes, from 1; of the end, where the offset is None."""
+    before = data if offset is None else data[:offset]
+    return before.count(b"\n") + 1, len(before) - (before.rfind(b"\n") + 1) + 1
+
+
+def as_word(word):
+    """A word of the command line as a `str` that the system can pass on."""
+    word = str(word)
+    if "\0" in word:
+        raise faults.NotText(f"the word {word!r} has a NUL byte", line=None, column=None)
+    try:
+        os.fsencode(word)
+    except UnicodeEncodeError:
+        raise faults.NotText(f"the word {word!r} is no UTF-8", line=None, column=None) from None
+    return word
+
+
+def call(words, text, asks=(), timeout=None):
+    """What the program writes for these words and this text; `asks` are those of the words, for messages."""
+    text = as_text(text)
+    words = [as_word(word) for word in words]
+    program = find()
+    try:
+        done = subprocess.run([program, *words], input=text.encode("utf-8"), capture_output=True, timeout=timeout)
+    except subprocess.TimeoutExpired:
+        raise faults.TookTooLong(f"decl took more than {timeout} seconds, and was ended", seconds=timeout) from None
+    except OSError as cause:
+        raise faults.ProgramNotFound(f"{program} cannot be run: {cause.strerror}", program=program) from cause
+    if done.returncode < 0:
+        raise faults.killed(-done.returncode)
+    if done.returncode:
+        raise fault_of(done.returncode, done.stderr.decode("utf-8", "replace"), text, words, list(asks))
+    return done.stdout.decode("utf-8", "replace")

@@ -1,0 +1,26 @@
+"""Each typing rule in a sentence, by its number. docs/LANGUAGE.md has them as a table, with examples."""
+
+SENTENCES = {
+    1: "Two units have the same name; each unit of a portfolio needs its own.",
+    2: "A numeral has at most 11 digits (9 before a percent sign, 11 in each part of a fraction) and no fraction is over 0.",
+    3: "A range runs upward, by a step above 0, with a common denominator of at most 1,000,000.",
+    4: "A list has at most 1,024 values, a severity at most 64 atoms, a clause at most 16 layers.",
+    5: "A list of probabilities needs as many values as the list before it.",
+    6: "Probabilities and weights have to add up to 1; nothing is rescaled.",
+    7: "Each amount, limit and attachment has to be a whole number of buckets; decl.bucket(text) tells the greatest bucket.",
+    8: "No amount, limit or attachment, nor the end of a layer, may pass 1,048,576 buckets; take larger buckets.",
+    9: "wts needs one weight for each severity of the mixture.",
+    10: "No claim can exceed the attachment of the layer; put a ! behind the severity to keep the claims that do not.",
+    11: "Two layers of one clause overlap; layers may touch.",
+    12: "A share is at most 1, and a part (po) at most its limit, which is neither 0 nor inf.",
+    13: "What the clause makes of an amount is no whole number of buckets; decl.bucket(text) tells a bucket that is fine enough.",
+    14: "A loss or a premium cannot tell how many claims there are, since no claim is above 0 in the layer.",
+    15: "A fixed or a listed number of claims has to be whole.",
+    16: "A bernoulli count has one claim at most, so its expected number is at most 1.",
+    17: "The probability of binomial lies above 0 and at most at 1, and the expected number of claims over it is a whole number of trials.",
+    18: "mixed gamma c needs a c above 0 with 1 / c^2 whole, such as 1, 1/2, 0.25 or 0.2.",
+    19: "Probabilities, shares or weights have too fine a common denominator (above 2^30), or the expected count or loss is too fine a fraction.",
+    20: "Too many claims: at most 256 of listed counts, 65,536 of fixed counts and trials, 4,096 expected ones above 0 of poisson and mixed gamma, and a shape of at most 10,000.",
+    21: "The aggregate clause needs more than 16,384 buckets of the sum before it; take larger buckets or a smaller grid.",
+    22: "A portfolio has at most 16 units.",
+}

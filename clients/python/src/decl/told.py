@@ -1,0 +1,91 @@
+"""Turns a status and the line that the program wrote about it into an exception."""
+
+import re
+
+from . import faults
+
+#: An ask of these kinds is held to `width`, any other to `mwidth`.
+PROBABILITIES = ("pmf:", "cdf:", "q:")
+PLACE = re.compile(r"decl: (\d+):(\d+): (.*)", re.DOTALL)
+ASK = re.compile(r"decl: ask (\d+): (.*)", re.DOTALL)
+RULE = re.compile(r"unit (\d+): rule (\d+) (\w+)")
+
+
+def fault_of(status, told, text, words, asks):
+    """The exception for a status other than 0; `told` is what stood on standard error."""
+    told = told.rstrip("\n")
+    if status == 3:
+        return text_fault(told, text)
+    if status in (2, 4, 8):
+        return ask_fault(status, told, words, asks)
+    plain = {
+        1: (faults.NoWords, "decl: the system did not give the words"),
+        5: (faults.ReadFault, told or "decl: the input could not be read"),
+        6: (faults.WriteFault, "decl: the report could not be written whole; what came through is dropped"),
+        7: (faults.OutOfMemory, "decl: there was no memory"),
+    }
+    if status in plain:
+        kind, sentence = plain[status]
+        return kind(sentence)
+    return faults.BadAnswer(f"decl ended with the unknown status {status}: {told}")
+
+
+def text_fault(told, text):
+    """The exception for a text that is refused."""
+    place = PLACE.fullmatch(told)
+    if place is None:
+        if "more than" in told:
+            return faults.TooLong(f"{told}\nA text has at most 1 MiB.")
+        return faults.BadAnswer(f"decl refused the text, but not in a way that is known: {told}")
+    line, column, reason = int(place[1]), int(place[2]), place[3]
+    kind, facts, sentence = text_reason(reason)
+    shown = faults.pointed(text, line, column)
+    return kind(f"{told}\n{shown}\n{sentence}", line=line, column=column, **facts)
+
+
+def text_reason(reason):
+    """The kind of a fault of a text, its facts, and a sentence on it."""
+    rule = RULE.fullmatch(reason)
+    if rule:
+        facts = {"unit": int(rule[1]), "rule": int(rule[2]), "name": rule[3]}
+        return faults.RuleFault, facts, faults.rule_sentence(facts["rule"])
+    if reason == "syntax":
+        return faults.SyntaxFault, {}, "No program goes on here as the text does; docs/LANGUAGE.md has the grammar."
+    if reason == "no token begins here":
+        return faults.BadByte, {}, "No word, numeral, note or sign of the language begins with this byte."
+    if reason.startswith("continuous severity "):
+        word = reason.split(" ")[-1]
+        sentence = f"{word} is continuous; give its amounts with their probabilities instead, as dsev [..] [..]."
+        return faults.ContinuousSeverity, {"word": word}, sentence
+    return faults.TextFault, {}, "docs/USAGE.md tells the faults of a text."
+
+
+def ask_fault(status, told, words, asks):
+    """The exception for words that are not understood, or for an ask that cannot be answered."""
+    found = ASK.fullmatch(told)
+    if found is None:
+        line = " ".join(words)
+        return faults.UsageFault(
+            f"{told}\n  {line}\nAn option is unknown, stands twice or has a value out of its range; or there is no ask,"
+            " or more than 256.",
+            ask=None,
+        )
+    ask, reason = int(found[1]), found[2]
+    shown = faults.pointed_word(asks, ask) if ask < len(asks) else ""
+    kind, facts, sentence = ask_reason(status, reason, asks[ask] if ask < len(asks) else "")
+    return kind(f"{told}\n{shown}\n{sentence}", ask=ask, **facts)
+
+
+def ask_reason(status, reason, ask):
+    """The kind of a fault of an ask, its facts, and a sentence on it."""
+    if status == 4:
+        needed = int(reason.split(" ")[-1])
+        option = "width" if ask.startswith(PROBABILITIES) else "mwidth"
+        sentence = f"Its ends can lie {needed} units of the last digit apart: give {option}={needed}, or fewer digits."
+        return faults.NeedsWidth, {"needed": needed, "option": option}, sentence
+    if status == 8 and reason == "no such unit":
+        return faults.AskFault, {"reason": reason}, "joint and kappa name a unit of the text."
+    if status == 8:
+        return faults.AskFault, {"reason": reason}, "Take a larger log2, or larger buckets; decl.grid(text) helps."
+    sentence = "Asks are pmf:x, cdf:x, mean, q:p, layer:LxsA, tail:p, joint:NAME:x and kappa:NAME:x."
+    return faults.UsageFault, {}, sentence

@@ -1,0 +1,157 @@
+"""Each form of answer, and a program of each kind of the examples; values worked by hand in exact fractions."""
+
+import math
+import unittest
+from decimal import Decimal
+from fractions import Fraction
+
+from support import BOOK, ROOT, Case, decl, main
+
+DICE = "agg Dice dfreq [2] dsev [1:6]"
+PAIR = "port T agg A dfreq [1] dsev [1:3] agg B dfreq [1] dsev [1:3] [1/2 1/6 1/3]"
+
+
+class Forms(Case):
+    def test_ends_are_fractions(self):
+        row = decl.run(DICE, ["pmf:2"])[0]
+        self.assertEqual((row.low, row.high), (Fraction(27777, 10**6), Fraction(27778, 10**6)))
+        self.assertTrue(row.holds(Fraction(1, 36)))
+        self.assertEqual((row.unit, row.state, row.kind), ("probability", "closed", "pmf"))
+
+    def test_ends_are_decimals_where_asked(self):
+        row = decl.run(DICE, ["pmf:2"], ends=Decimal)["pmf:2"]
+        self.assertEqual((row.low, row.high), (Decimal("0.027777"), Decimal("0.027778")))
+        self.assertIsInstance(row.low, Decimal)
+
+    def test_means_layers_and_tails(self):
+        report = decl.run(DICE, ["mean", "layer:5xs5", "layer:infxs10", "tail:0.9"], log2=4)
+        for row, value in zip(report, (7, Fraction(13, 6), Fraction(1, 9), Fraction(100, 9))):
+            self.assertTrue(row.holds(value), row)
+            self.assertEqual(row.unit, "buckets")
+
+    def test_a_bracket_has_whole_ends(self):
+        row = decl.run(DICE, ["q:0.9"])[0]
+        self.assertEqual((row.low, row.high), (10, 10))
+        self.assertIsInstance(row.low, int)
+
+    def test_a_bracket_beyond_the_grid(self):
+        report = decl.run("agg P 10 claims dsev [1] poisson", ["q:0.5", "tail:0.5"], log2=2)
+        self.assertEqual((report[0].low, report[0].high, report[0].state), (4, None, "beyond"))
+        self.assertEqual((report[1].low, report[1].high, report[1].state), (None, None, "beyond"))
+        self.assertFalse(report[0].holds(3))
+        self.assertIsNone(report[0].holds(10))
+
+    def test_shares_of_a_total(self):
+        report = decl.run(PAIR, ["joint:A:4", "kappa:A:4", "kappa:A:1"], log2=4)
+        self.assertTrue(report[0].holds(Fraction(13, 18)))
+        self.assertTrue(report[1].holds(Fraction(13, 6)))
+        self.assertEqual((report[2].low, report[2].high, report[2].state), (None, None, "absent"))
+
+    def test_text_csv_and_json(self):
+        self.assertEqual(decl.report(DICE, ["pmf:2"], log2=4), "pmf:2 0.027777 0.027778\n")
+        self.assertEqual(decl.report(DICE, "pmf:2", "csv", log2=4), "ask,low,high\npmf:2,0.027777,0.027778\n")
+        wanted = '{"bs":"1","cells":16,"rows":[{"ask":"pmf:2","high":"0.027778","low":"0.027777"}]}\n'
+        self.assertEqual(decl.report(DICE, ["pmf:2"], "json", log2=4), wanted)
+        self.assertEqual(str(decl.run(DICE, ["pmf:2"], log2=4)), "pmf:2 0.027777 0.027778\n")
+
+    def test_money(self):
+        report = decl.run("agg H dfreq [1] dsev [0.5 1 1.5]", ["mean", "pmf:3"], bs=Fraction(1, 2), log2=4)
+        self.assertEqual((report.bs, report.cells), (Fraction(1, 2), 16))
+        money = report.in_money()
+        self.assertTrue(money["mean"].holds(1))
+        self.assertEqual(money["pmf:3"], report["pmf:3"])
+
+    def test_a_table_in_a_notebook(self):
+        shown = decl.run(DICE, ["pmf:2"])._repr_html_()
+        self.assertIn("<td>pmf:2</td><td>0.027777</td><td>0.027778</td>", shown)
+
+    def test_fmt_and_made(self):
+        spelled = decl.fmt("agg  D dfreq [1,2] [50% 1/2] # c\nsev dhistogram xps [0 1] [.5 0.5] note{x}")
+        self.assertEqual(spelled, "agg D dfreq [1 2] [50% 1/2] dsev [0 1] [.5 0.5] note{x}\n")
+        made = decl.made(0)
+        self.assertTrue(made.startswith("port Made\nagg U1 34 claims dsev [1:9] poisson\nagg U2 31 claims"), made)
+        self.assertEqual(str(decl.run("", "mean", make=0)), str(decl.run(made, "mean")))
+
+    def test_bytes_are_taken_as_utf_8(self):
+        self.assertIsNone(decl.check("agg D dfreq [1] dsev [1] # é".encode()))
+
+
+class Frames(Case):
+    def setUp(self):
+        super().setUp()
+        try:
+            import pandas  # noqa: F401
+        except ImportError:
+            raise unittest.SkipTest("pandas is not installed") from None
+
+    def test_a_frame_has_exact_ends(self):
+        frame = decl.run(DICE, ["pmf:2", "q:0.9"]).to_frame()
+        self.assertEqual(list(frame.columns), ["ask", "low", "high"])
+        self.assertEqual(list(frame["low"]), [Fraction(27777, 10**6), 10])
+
+    def test_floats_are_rounded_outward(self):
+        report = decl.run(DICE, ["pmf:2", "tail:0.9", "mean"])
+        frame = report.to_frame(floats=True)
+        self.assertEqual(str(frame["low"].dtype), "float64")
+        for row, low, high in zip(report, frame["low"], frame["high"]):
+            self.assertLessEqual(Fraction(low), row.low)
+            self.assertGreaterEqual(Fraction(high), row.high)
+
+    def test_what_is_not_there(self):
+        frame = decl.run(PAIR, ["kappa:A:1"], log2=4).to_frame(floats=True)
+        self.assertTrue(math.isnan(frame["low"][0]) and math.isnan(frame["high"][0]))
+        frame = decl.run("agg P 10 claims dsev [1] poisson", ["q:0.5"], log2=2).to_frame(floats=True)
+        self.assertEqual((frame["low"][0], frame["high"][0]), (4.0, math.inf))
+
+
+class Programs(Case):
+    """One of each kind; the value of each is told in exact fractions, or between decimals."""
+
+    def holds(self, text, ask, value, **settings):
+        row = decl.run(text, [ask], **{"log2": 6, **settings})[0]
+        self.assertTrue(row.holds(value), row)
+
+    def test_listed_counts(self):
+        self.holds("agg D dfreq [0 1 2] [0.5 0.3 0.2] dsev [1:6]", "mean", Fraction(49, 20))
+
+    def test_poisson(self):
+        self.holds("agg P 2 claims dsev [1] poisson", "pmf:0", Fraction("0.1353352832366127"))
+
+    def test_mixed_gamma(self):
+        self.holds("agg G 2 claims dsev [1] mixed gamma 0.5", "pmf:0", Fraction(16, 81))
+
+    def test_binomial_bernoulli_and_fixed(self):
+        self.holds("agg B 3 claims dsev [1 2] binomial 0.5", "pmf:0", Fraction(1, 64))
+        self.holds("agg B 1/3 claims dsev [1] bernoulli", "pmf:1", Fraction(1, 3))
+        self.holds("agg F 3 claims dsev [0 1 1] fixed", "pmf:3", Fraction(8, 27))
+
+    def test_loss_premium_and_layer(self):
+        self.holds("agg L 9 loss 3 xs 2 dsev [1:6] poisson", "mean", 9)
+        self.holds("agg R 10 premium at 70% lr dsev [1:6] poisson", "mean", 7)
+        self.holds("agg L 2 claims 3 xs 2 dsev [1:6] ! poisson", "mean", 3)
+
+    def test_mixture_and_clauses(self):
+        self.holds("agg M dfreq [1] dsev [1 2] dsev [2 3 4] wts [1/2 1/2]", "pmf:2", Fraction(5, 12))
+        self.holds("agg N dfreq [1] dsev [2 4 6] occurrence net of 0.5 so 4 xs 2", "pmf:3", Fraction(1, 3))
+        self.holds("agg C dfreq [2] dsev [1:6] aggregate ceded to 5 xs 5", "pmf:5", Fraction(1, 6))
+
+    def test_a_book(self):
+        report = decl.run(BOOK, ["mean", "q:0.99", "tail:0.99", "joint:Motor:200", "kappa:Motor:200"], digits=4)
+        self.assertTrue(report["mean"].holds(Fraction("214.78125")))
+        self.assertEqual(report["mean"].written, ("214.7812", "214.7813"))
+        self.assertLess(report["q:0.99"].high, report["tail:0.99"].high)
+        self.assertLess(report["joint:Motor:200"].high, report["kappa:Motor:200"].low)
+
+    def test_the_examples(self):
+        texts = sorted((ROOT / "examples").glob("*.decl"))
+        self.assertGreater(len(texts), 4)
+        for path in texts:
+            text = path.read_text()
+            size = decl.bucket(text)
+            report = decl.run(text, ["mean", "cdf:0"], bs=size, digits=2, log2=8, width=10**9, mwidth=10**12)
+            self.assertGreater(report["mean"].high, 0, path.name)
+            self.assertEqual(decl.fmt(decl.fmt(text)), decl.fmt(text), path.name)
+
+
+if __name__ == "__main__":
+    main()

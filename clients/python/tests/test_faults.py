@@ -1,0 +1,169 @@
+"""Each status, each fault of a text, and what does not come from the program at all."""
+
+import os
+import pickle
+import unittest
+
+from support import Case, decl, main
+
+DIE = "agg D dfreq [1] dsev [1:6]"
+
+
+class Statuses(Case):
+    def test_words_that_the_system_does_not_give(self):
+        fault = self.raises(decl.NoWords, decl.run, DIE, ["\udcff"])
+        self.assertEqual(fault.status, 1)
+
+    def test_words_that_are_not_understood(self):
+        fault = self.raises(decl.UsageFault, decl.run, DIE, ["mean"], log2=13)
+        self.assertEqual((fault.status, fault.ask), (2, None))
+        fault = self.raises(decl.UsageFault, decl.run, DIE, ["pmf:1", "pmf"])
+        self.assertEqual(fault.ask, 1)
+        self.assertIn("\n  pmf:1 pmf\n        ^^^\n", str(fault))
+        self.raises(decl.UsageFault, decl.run, DIE, [])
+        self.raises(decl.UsageFault, decl.run, DIE, ["mean"] * 257)
+
+    def test_too_little_width(self):
+        fault = self.raises(decl.NeedsWidth, decl.run, DIE, ["mean", "pmf:3"], width=1, log2=4)
+        self.assertEqual((fault.status, fault.ask, fault.needed, fault.option), (4, 1, 2, "width"))
+        self.assertIn("decl: ask 1: needs width 2", str(fault))
+        fault = self.raises(decl.NeedsWidth, decl.run, DIE, ["layer:2xs2"], mwidth=1)
+        self.assertEqual((fault.needed, fault.option), (2, "mwidth"))
+
+    def test_an_input_that_cannot_be_read(self):
+        self.instead('exec "$BUILT" "$@" < /')
+        self.assertEqual(self.raises(decl.ReadFault, decl.run, DIE, ["mean"]).status, 5)
+
+    @unittest.skipUnless(os.path.exists("/dev/full"), "there is no /dev/full")
+    def test_a_write_that_fails(self):
+        self.instead('exec "$BUILT" "$@" > /dev/full')
+        self.assertEqual(self.raises(decl.WriteFault, decl.run, DIE, ["mean"]).status, 6)
+
+    def test_want_of_memory(self):
+        self.instead('cat > /dev/null; exit 7')
+        self.assertEqual(self.raises(decl.OutOfMemory, decl.run, DIE, ["mean"]).status, 7)
+
+    def test_want_of_memory_of_the_built_program(self):
+        for limit in range(2000, 6001, 250):
+            self.instead(f'ulimit -v {limit} || exit 77; exec "$BUILT" "$@"')
+            try:
+                decl.run("", ["mean", "cdf:3"], make=0, log2=12)
+            except decl.OutOfMemory as fault:
+                self.assertEqual(fault.status, 7)
+                return
+            except (decl.BadAnswer, decl.Killed, decl.NoWords):
+                continue
+        raise unittest.SkipTest("no limit of memory was met here")
+
+    def test_an_ask_that_cannot_be_answered(self):
+        fault = self.raises(decl.AskFault, decl.run, DIE, ["pmf:16"], log2=4)
+        self.assertEqual((fault.status, fault.ask, fault.reason), (8, 0, "beyond the grid"))
+        fault = self.raises(decl.AskFault, decl.run, DIE, ["kappa:Q:4"])
+        self.assertEqual(fault.reason, "no such unit")
+
+
+class Texts(Case):
+    def refused(self, kind, text, line, column):
+        fault = self.raises(kind, decl.check, text)
+        self.assertEqual((fault.status, fault.line, fault.column), (3, line, column))
+        return fault
+
+    def test_places(self):
+        self.refused(decl.SyntaxFault, "", 1, 1)
+        self.refused(decl.SyntaxFault, "agg", 1, 4)
+        fault = self.refused(decl.BadByte, "agg D dfreq [1] dsev [1;6]", 1, 24)
+        self.assertIn("\n  agg D dfreq [1] dsev [1;6]\n                         ^\n", str(fault))
+        fault = self.refused(decl.ContinuousSeverity, "agg C 10 claims sev lognorm 50 cv 1.75 poisson", 1, 21)
+        self.assertEqual(fault.word, "lognorm")
+
+    def test_a_caret_behind_letters_of_several_bytes_and_tabs(self):
+        fault = self.refused(decl.SyntaxFault, "# one\nagg D\tnote{é} dsev", 2, 7)
+        self.assertIn("\n  agg D\tnote{é} dsev\n       \t^\n", str(fault))
+
+    def test_a_long_line_is_cut_round_the_place(self):
+        text = "agg D dfreq [1] dsev [" + "1 " * 500 + "; 2]"
+        fault = self.refused(decl.BadByte, text, 1, 1023)
+        self.assertLess(max(len(line) for line in str(fault).splitlines()), 140)
+        shown, caret = str(fault).splitlines()[1:3]
+        self.assertEqual(shown[caret.index("^")], ";")
+
+    def test_rules(self):
+        rows = [
+            ("port P agg A dfreq [1] dsev [1] agg A dfreq [1] dsev [2]", 37, 1, 1, "DuplicateName"),
+            ("agg D dfreq [1] dsev [1 2] [1/3 1/3]", 28, 0, 6, "NotOne"),
+            ("agg D dfreq [1] dsev [1.5]", 23, 0, 7, "OffGrid"),
+            ("agg N dfreq [1] dsev [1 3] occurrence net of 0.5 so 4 xs 0", 28, 0, 13, "OffGridCession"),
+            ("agg F 2.5 claims dsev [1] fixed", 7, 0, 15, "CountNotWhole"),
+        ]
+        for text, column, unit, rule, name in rows:
+            fault = self.refused(decl.RuleFault, text, 1, column)
+            self.assertEqual((fault.unit, fault.rule, fault.name), (unit, rule, name))
+            self.assertTrue(str(fault).splitlines()[-1].endswith("."), str(fault))
+
+    def test_seventeen_units(self):
+        text = "port P " + " ".join(f"agg A{i} dfreq [1] dsev [1]" for i in range(17))
+        fault = self.raises(decl.RuleFault, decl.check, text)
+        self.assertEqual((fault.unit, fault.rule), (16, 22))
+
+    def test_a_text_of_more_than_a_mebibyte(self):
+        fault = self.raises(decl.TooLong, decl.check, " " * 1048577)
+        self.assertEqual((fault.status, fault.line), (3, None))
+
+    def test_a_nul_byte(self):
+        fault = self.raises(decl.NotText, decl.run, "agg D\ndf\0req", ["mean"])
+        self.assertEqual((fault.line, fault.column), (2, 3))
+        self.raises(decl.NotText, decl.run, DIE, ["me\0an"])
+
+    def test_no_utf_8(self):
+        fault = self.raises(decl.NotText, decl.run, b"agg D \xff", ["mean"])
+        self.assertEqual((fault.line, fault.column), (1, 7))
+        fault = self.raises(decl.NotText, decl.run, "agg \ud800", ["mean"])
+        self.assertEqual((fault.line, fault.column), (1, 5))
+
+    def test_what_is_no_text_at_all(self):
+        self.raises(TypeError, decl.run, 5, ["mean"])
+        self.raises(TypeError, decl.run, DIE, ["mean"], grid=4)
+
+
+class Programs(Case):
+    def test_a_program_that_is_not_found(self):
+        os.environ["DECL"] = "/nowhere/decl"
+        fault = self.raises(decl.ProgramNotFound, decl.run, DIE, ["mean"])
+        self.assertIn("/nowhere/decl", str(fault))
+
+    def test_a_program_that_cannot_run(self):
+        self.instead("")
+        with open(os.environ["DECL"], "w") as script:
+            script.write("#!/nowhere/shell\n")
+        self.raises(decl.ProgramNotFound, decl.run, DIE, ["mean"])
+
+    def test_a_program_that_is_killed(self):
+        self.instead('"$BUILT" "$@"; kill -KILL $$')
+        fault = self.raises(decl.Killed, decl.run, DIE, ["mean"])
+        self.assertEqual(fault.signal, 9)
+        self.assertIn("SIGKILL", str(fault))
+
+    def test_a_program_that_takes_too_long(self):
+        self.instead("exec sleep 20")
+        self.raises(decl.TookTooLong, decl.run, DIE, ["mean"], timeout=0.2)
+
+    def test_half_a_report_is_no_report(self):
+        self.instead("""cat > /dev/null; printf '{"bs":"1","cells":16,"rows":[{"ask":"mean","high":"3.5'""")
+        self.raises(decl.BadAnswer, decl.run, DIE, ["mean"])
+
+    def test_a_report_with_a_row_too_few(self):
+        self.instead('exec "$BUILT" run --format json mean')
+        self.raises(decl.BadAnswer, decl.run, DIE, ["mean", "pmf:1"])
+
+    def test_a_status_that_is_not_known(self):
+        self.instead("cat > /dev/null; exit 77")
+        self.assertIn("77", str(self.raises(decl.BadAnswer, decl.run, DIE, ["mean"])))
+
+    def test_exceptions_can_be_pickled(self):
+        fault = self.raises(decl.RuleFault, decl.check, "agg D dfreq [1] dsev [1.5]")
+        again = pickle.loads(pickle.dumps(fault))
+        self.assertEqual((type(again), str(again), again.rule), (decl.RuleFault, str(fault), 7))
+
+
+if __name__ == "__main__":
+    main()

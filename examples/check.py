@@ -1,0 +1,142 @@
+#!/usr/bin/env python3
+"""Runs the commands of the pages and of the examples as they stand, and compares what they write with what is stored.
+
+A command stands behind `$ ` in an indented block of a page, or in the comment on top of an example, and what it writes
+stands below it, up to a blank line or the next command. A line `..` stands for any lines. Where a command ends with
+`> FILE`, what it writes is compared with that file, and the file is left alone. The program is DECL, else
+crates/decl/out/decl; `decl` on the path of a command is that one. The last line is 'N passed, M failed'.
+
+    examples/check.py                   all
+    examples/check.py FILE..            these
+    examples/check.py --store FILE..    puts what the commands of these write below them, in place of what is stored
+"""
+
+import os
+import pathlib
+import re
+import subprocess
+import sys
+import tempfile
+
+ROOT = pathlib.Path(__file__).resolve().parent.parent
+PAGES = ["README.md", "docs/*.md", "examples/*.decl", "examples/*/*.decl", "examples/*/*.md"]
+RULE = re.compile(r"\| \d+ [A-Za-z]+ \|.*\| `([^`]*)` \| `(decl: 1:\d+: [^`]*)` \|")
+
+
+def code_lines(path):
+    """The lines of the file that are code: indented in a page, a comment in an example; None where another line stands."""
+    mark = "    " if path.suffix == ".md" else "#"
+    for line in path.read_text(encoding="utf-8").splitlines():
+        if not line.startswith(mark):
+            yield None
+        else:
+            yield line[len(mark) :] if mark == "    " else line[len(mark) :].removeprefix("   ")
+
+
+def commands(path):
+    """Each command of the file with the lines that are stored below it."""
+    found = []
+    command = stored = None
+    for line in [*code_lines(path), None]:
+        if line is None or not line.strip() or line.startswith("$ "):
+            if command is not None:
+                found.append((command, stored))
+            command = stored = None
+        if line is not None and line.startswith("$ "):
+            command, stored = line[2:], []
+        elif command is not None and command.endswith("\\"):
+            command = command[:-1] + line.strip()
+        elif command is not None:
+            stored.append(line)
+    return [(command, stored) for command, stored in found if stored or ">" in command]
+
+
+def is_as_stored(written, stored):
+    """Whether the lines are the stored ones, where `..` stands for any lines."""
+    if ".." not in stored:
+        return written == stored
+    at = stored.index("..")
+    tail = stored[at + 1 :]
+    if written[:at] != stored[:at] or len(written) < at + len(tail):
+        return False
+    return ".." in tail or not tail or written[-len(tail) :] == tail
+
+
+def run(command, world):
+    """What the command writes, to both outputs."""
+    command = command.replace("crates/decl/out/decl", "decl")
+    done = subprocess.run(["bash", "-c", command], cwd=ROOT, env=world, stdin=subprocess.DEVNULL, capture_output=True)
+    return (done.stdout + done.stderr).decode("utf-8", "replace").splitlines()
+
+
+def check(path, world):
+    """How many commands of the file wrote what is stored, and how many did not."""
+    passed = failed = 0
+    for command, stored in commands(path):
+        kept = re.fullmatch(r"(.*[^>0-9])> *(\S+)", command)
+        if kept:
+            command, stored = kept[1], (ROOT / kept[2]).read_text(encoding="utf-8").splitlines()
+        written = run(command, world)
+        if is_as_stored(written, stored):
+            passed += 1
+        else:
+            failed += 1
+            print(f"FAILED: {path.relative_to(ROOT)}: $ {command}\nstored:", *stored[:20], "written:", *written[:20], sep="\n")
+    return passed, failed
+
+
+def store(path, world):
+    """Puts what each command of the file writes below it, and into the file behind its `>`."""
+    mark = "    " if path.suffix == ".md" else "#   "
+    made, command, skips = [], None, False
+    for line in [*path.read_text(encoding="utf-8").splitlines(), ""]:
+        code = line[len(mark) :] if line.startswith(mark) else None
+        skips = skips and code is not None and bool(code.strip()) and not code.startswith("$ ")
+        if skips:
+            continue
+        made.append(line)
+        if code is None or (command is None and not code.startswith("$ ")):
+            command = None
+            continue
+        command = code[2:] if command is None else command[:-1] + code.strip()
+        if not command.endswith("\\"):
+            made += [mark + written for written in run(command, world)]
+            command, skips = None, True
+    path.write_text("\n".join(made[:-1]) + "\n", encoding="utf-8")
+
+
+def check_rules(world):
+    """The table of rules: each text gets the message that stands beside it."""
+    passed = failed = 0
+    for text, message in RULE.findall((ROOT / "docs" / "LANGUAGE.md").read_text(encoding="utf-8")):
+        done = subprocess.run(["decl", "run", "pmf:0"], input=text.encode(), env=world, capture_output=True)
+        if done.stderr.decode() == message + "\n" and done.returncode == 3:
+            passed += 1
+        else:
+            failed += 1
+            print(f"FAILED: docs/LANGUAGE.md: {text}\nstored:\n{message}\nwritten:\n{done.stderr.decode()}")
+    return passed, failed
+
+
+def main():
+    """Checks the named files, or all."""
+    built = os.path.abspath(os.environ.get("DECL") or ROOT / "crates" / "decl" / "out" / "decl")
+    stores = "--store" in sys.argv
+    named = [pathlib.Path(name).resolve() for name in sys.argv[1:] if name != "--store"]
+    paths = named or [path for page in PAGES for path in sorted(ROOT.glob(page))]
+    with tempfile.TemporaryDirectory() as folder:
+        os.symlink(built, os.path.join(folder, "decl"))
+        world = {**os.environ, "PATH": folder + os.pathsep + os.environ["PATH"], "DECL": built}
+        world["PYTHONPATH"] = str(ROOT / "clients" / "python" / "src")
+        for path in paths if stores and named else []:
+            store(path, world)
+        counts = [check(path, world) for path in paths]
+        if not named:
+            counts.append(check_rules(world))
+    passed, failed = (sum(count[side] for count in counts) for side in (0, 1))
+    print(f"{passed} passed, {failed} failed")
+    return 1 if failed else 0
+
+
+if __name__ == "__main__":
+    sys.exit(main())

@@ -1,0 +1,22 @@
+#!/usr/bin/env bash
+#SBATCH --job-name=decl
+#SBATCH --array=0-19
+#SBATCH --cpus-per-task=1
+#SBATCH --time=01:00:00
+# An array job of 20 tasks: task t evaluates each program whose place in the folder leaves the rest t. A program that has
+# rows is left out, so the same job can be handed in again for what is missing: sbatch array_job.sh FOLDER OUT WORD..
+# Other schedulers name the number of the task otherwise, and it can be tried by hand:
+#   SLURM_ARRAY_TASK_ID=0 SLURM_ARRAY_TASK_COUNT=1 examples/many/array_job.sh FOLDER OUT mean
+set -u
+folder=$1
+out=$2
+shift 2
+here=${DECL_MANY:-$(cd "$(dirname "$0")" && pwd)}
+mkdir -p "$out"
+place=0
+while read -r program; do
+    if [ $((place++ % SLURM_ARRAY_TASK_COUNT)) -eq "$SLURM_ARRAY_TASK_ID" ] \
+        && [ ! -e "$out/$(basename "$program" .decl).csv" ]; then
+        "$here/one" "$program" "$out" "$@"
+    fi
+done < <(find "$folder" -name '*.decl' | sort)

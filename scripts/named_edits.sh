@@ -1,0 +1,16 @@
+#!/usr/bin/env sh
+# Checks that each edit that docs/PROOFS.md names is there: 'crate/edit' stands for crates/CRATE/must-fail/EDIT.edit.
+set -u
+cd "$(dirname "$0")/.." || exit 1
+missing=0
+named=0
+for edit in $(sed -n '/^## Which wrong program/,$p' docs/PROOFS.md | grep -oE '`[a-z_]+/[a-z0-9_]+`' | tr -d '`'); do
+    named=$((named + 1))
+    file="crates/${edit%%/*}/must-fail/${edit##*/}.edit"
+    if [ ! -f "$file" ]; then
+        echo "docs/PROOFS.md names $edit, and there is no $file"
+        missing=$((missing + 1))
+    fi
+done
+echo "$named edits named, $missing missing"
+[ "$missing" -eq 0 ] && [ "$named" -gt 0 ]

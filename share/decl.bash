@@ -1,0 +1,41 @@
+# Completion of decl in bash. `make install` puts it where bash-completion looks; or source it.
+
+# What can follow these words of a command line, the last of which is begun.
+_decl_offers() {
+    local begun=${*: -1} before=${*: -2:1} word command='' offers='' option
+    case $before in
+        --format) echo text csv json; return ;;
+        --log2) echo 1 2 3 4 5 6 7 8 9 10 11 12; return ;;
+        --digits) echo 1 2 3 4 5 6 7 8 9; return ;;
+        --bs | --width | --mwidth | --make) return ;;
+    esac
+    for word in "${@:2:$#-2}"; do
+        case $word in
+            run | fmt) command=${command:-$word} ;;
+        esac
+    done
+    case $command in
+        '') offers='run fmt' ;;
+        run) offers='pmf: cdf: mean q: layer: tail: joint: kappa:' ;;
+    esac
+    if [[ $begun == -* ]]; then
+        offers=''
+        for option in --bs --log2 --digits --width --mwidth --format --make; do
+            if [[ $command == fmt && $option != --make || " $* " == *" $option "[^\ ]* ]]; then
+                continue
+            fi
+            offers+=" $option"
+        done
+    fi
+    echo $offers
+}
+
+_decl() {
+    local begun=${COMP_WORDS[COMP_CWORD]}
+    mapfile -t COMPREPLY < <(compgen -W "$(_decl_offers "${COMP_WORDS[@]:0:COMP_CWORD+1}")" -- "$begun")
+    if [[ ${#COMPREPLY[@]} -eq 1 && ${COMPREPLY[0]} == *: ]]; then
+        compopt -o nospace 2> /dev/null
+    fi
+}
+
+complete -F _decl decl

@@ -1,0 +1,36 @@
+#compdef decl
+# Completion of decl in zsh. `make install` puts it among the site functions as _decl.
+
+_decl() {
+    local command= word option
+    local -a offers
+    case ${words[CURRENT-1]} in
+        --format) compadd -- text csv json; return ;;
+        --log2) compadd -- {1..12}; return ;;
+        --digits) compadd -- {1..9}; return ;;
+        --bs | --width | --mwidth | --make) return ;;
+    esac
+    for word in ${words[2,CURRENT-1]}; do
+        if [[ -z $command && $word == (run|fmt) ]]; then
+            command=$word
+        fi
+    done
+    if [[ ${words[CURRENT]} == -* ]]; then
+        for option in --bs --log2 --digits --width --mwidth --format --make; do
+            if [[ $command == fmt && $option != --make ]] || (( ${words[(Ie)$option]} )); then
+                continue
+            fi
+            offers+=($option)
+        done
+        compadd -- $offers
+    elif [[ -z $command ]]; then
+        compadd -- run fmt
+    elif [[ $command == run ]]; then
+        compadd -- mean
+        compadd -S '' -- pmf: cdf: q: layer: tail: joint: kappa:
+    fi
+}
+
+if [[ $funcstack[1] == _decl ]]; then
+    _decl "$@"
+fi
