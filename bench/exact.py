@@ -1,0 +1,38 @@
+"""Exact values for bench/compare.py, worked with fractions or with 80 decimal digits, by the definitions alone."""
+
+from decimal import Decimal, getcontext
+from fractions import Fraction
+
+getcontext().prec = 80
+
+
+def severity(pairs):
+    """The probability of each amount, as decimals of 80 digits."""
+    found = {}
+    for amount, chance in pairs:
+        found[amount] = found.get(amount, Decimal(0)) + Decimal(chance.numerator) / Decimal(chance.denominator)
+    return found
+
+
+def poisson(pairs, mean, cells):
+    """The first cells of a compound Poisson total, by Panjer's recursion."""
+    amounts = severity(pairs)
+    total = [(-Decimal(mean) * (1 - amounts.get(0, Decimal(0)))).exp()]
+    for cell in range(1, cells):
+        parts = (amount * chance * total[cell - amount] for amount, chance in amounts.items() if 0 < amount <= cell)
+        total.append(Decimal(mean) / cell * sum(parts, Decimal(0)))
+    return total
+
+
+def above(total, mean, attachment):
+    """The mean of what lies above the attachment: the mean, less what the distribution leaves of 1 below it."""
+    left, reached = Decimal(mean.numerator) / Decimal(mean.denominator), Decimal(0)
+    for cell in range(attachment):
+        reached += total[cell]
+        left -= 1 - reached
+    return left
+
+
+def die(faces):
+    """A fair die."""
+    return [(face, Fraction(1, faces)) for face in range(1, faces + 1)]
