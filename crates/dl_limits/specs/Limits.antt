@@ -1,0 +1,63 @@
+-- The bounds of a plan, of its settings and of the numbers that are made from them, each once.
+use Rattle.std.specs.Prelude.{ℕ, ◌^◌}
+
+-- ---- a plan
+
+-- a plan's grid has 2 to the power of at most this many cells
+abbrev pub most_log2 : ℕ
+most_log2 = 12
+
+-- so many at most
+abbrev pub most_plan_cells : ℕ
+most_plan_cells = 4096
+
+-- the cells of any grid: the horizon of a clause may lie past the plan's grid
+abbrev pub most_cells : ℕ
+most_cells = 16384
+
+-- an amount, a limit or an attachment, in buckets
+abbrev pub most_amount : ℕ
+most_amount = 2 ^ 20
+
+-- a fixed or listed number of claims, and a number of trials
+abbrev pub most_claims : ℕ
+most_claims = 65536
+
+-- the items of a severity, where the count of its claims has a greatest number
+abbrev pub most_items : ℕ
+most_items = 65536
+
+-- the expected number of claims above 0, where the count has no greatest number
+abbrev pub most_expected : ℕ
+most_expected = 4096
+
+-- the shape of a gamma count
+abbrev pub most_shape : ℕ
+most_shape = 10000
+
+-- the common denominator of fractions that are used together: of the probabilities of a severity or
+-- of listed counts, and of the shares of a clause
+abbrev pub most_parts : ℕ
+most_parts = 2 ^ 30
+
+-- the parts of an admitted fraction are below this
+abbrev pub admitted_bound : ℕ
+admitted_bound = 2 ^ 48
+
+-- ---- what is made from it
+
+-- the parts of a fraction that the program holds are below this
+abbrev pub frac_bound : ℕ
+frac_bound = 2 ^ 62
+
+-- sums of claims, in buckets, are below this
+abbrev pub sum_bound : ℕ
+sum_bound = 2 ^ 40
+
+-- the budget of a unit's claims, in units of 1 / 2^56
+abbrev pub most_claims_budget : ℕ
+most_claims_budget = 2 ^ 34
+
+-- the budget of a sum of units is below this
+abbrev pub budget_bound : ℕ
+budget_bound = 2 ^ 40
