@@ -18,7 +18,8 @@ same x y p q = λ i. record {
 }
 
 -- what is left of two numbers after the common divisor is taken out is in lowest terms
-over_read : (n d : ℕ) (p : (d ≡ 0) ⊎ (0 < d)) (q : (((gcd n d == 1) ≡ true) × (gcd n d ≡ 1)) ⊎ (((gcd n d == 1) ≡ false) × (gcd n d ≢ 1)))
+over_read : (n d : ℕ) (p : (d ≡ 0) ⊎ (0 < d))
+    (q : (((gcd n d == 1) ≡ true) × (gcd n d ≡ 1)) ⊎ (((gcd n d == 1) ≡ false) × (gcd n d ≢ 1)))
     → 0 < d → gcd n d ≡ 1 → ((read_as n d p q).num ≡ n) × ((read_as n d p q).den ≡ d)
 unfolding read_as
 over_read n d (inl none) q h e = absurd (omega arith)
@@ -29,10 +30,10 @@ over_parts : (n d : ℕ) → 0 < d → ((n over d).num ≡ n / gcd n d) × ((n o
 unfolding ◌over◌
 over_parts n d h = over_read _ _ _ _ (cut_pos n d h) (cut_lowest n d h)
 
-over_num : (n d : ℕ) → 0 < d → (n over d).num ≡ n / gcd n d
+pub over_num : (n d : ℕ) → 0 < d → (n over d).num ≡ n / gcd n d
 over_num n d h = (over_parts n d h).0
 
-over_den : (n d : ℕ) → 0 < d → (n over d).den ≡ d / gcd n d
+pub over_den : (n d : ℕ) → 0 < d → (n over d).den ≡ d / gcd n d
 over_den n d h = (over_parts n d h).1
 
 pub over_self : (x : Fraction) → x.num over x.den ≡ x
@@ -63,7 +64,7 @@ over_cross n d h =
 sub-mul : (a b c : ℕ) → (a - b) * c ≡ a * c - b * c
 sub-mul a b c = mul_comm (a - b) c ∙ mul-sub c a b ∙ ap₂ (λ s t. s - t) (mul_comm c a) (mul_comm c b)
 
-pos_of_mul : (a b : ℕ) → 0 < a * b → 0 < a
+pub pos_of_mul : (a b : ℕ) → 0 < a * b → 0 < a
 pos_of_mul zero b h = absurd (omega (arith, h))
 pos_of_mul (suc a) b h = omega arith
 
@@ -90,7 +91,12 @@ module _ (n d m e : ℕ) (hd : 0 < d) (he : 0 < e) where
       let x = n over d in
       let y = m over e in
       le_of_mul-le-mul_right {k = d * e}
-      (omega (arith, mul-le-mul_right (x.den * y.den) h, ap (λ t. t * (y.den * e)) (over_cross n d hd), ap (λ t. t * (x.den * d)) (over_cross m e he)))
+      (omega (
+        arith,
+        mul-le-mul_right (x.den * y.den) h,
+        ap (λ t. t * (y.den * e)) (over_cross n d hd),
+        ap (λ t. t * (x.den * d)) (over_cross m e he),
+      ))
       (mul-pos hd he)
 
   pub le_over : n over d ≤ℚ m over e → n * e ≤ m * d
@@ -99,7 +105,12 @@ module _ (n d m e : ℕ) (hd : 0 < d) (he : 0 < e) where
       let x = n over d in
       let y = m over e in
       le_of_mul-le-mul_right {k = x.den * y.den}
-      (omega (arith, mul-le-mul_right (d * e) h, ap (λ t. t * (y.den * e)) (over_cross n d hd), ap (λ t. t * (x.den * d)) (over_cross m e he)))
+      (omega (
+        arith,
+        mul-le-mul_right (d * e) h,
+        ap (λ t. t * (y.den * e)) (over_cross n d hd),
+        ap (λ t. t * (x.den * d)) (over_cross m e he),
+      ))
       (mul-pos x.positive y.positive)
 
   pub over_lt : n * e < m * d → n over d <ℚ m over e
@@ -108,7 +119,12 @@ module _ (n d m e : ℕ) (hd : 0 < d) (he : 0 < e) where
       let x = n over d in
       let y = m over e in
       lt_of_mul-lt-mul_right (d * e)
-      (omega (arith, mul-lt-mul_of_pos_right h (mul-pos x.positive y.positive), ap (λ t. t * (y.den * e)) (over_cross n d hd), ap (λ t. t * (x.den * d)) (over_cross m e he)))
+      (omega (
+        arith,
+        mul-lt-mul_of_pos_right h (mul-pos x.positive y.positive),
+        ap (λ t. t * (y.den * e)) (over_cross n d hd),
+        ap (λ t. t * (x.den * d)) (over_cross m e he),
+      ))
 
   pub lt_over : n over d <ℚ m over e → n * e < m * d
   unfolding ◌<ℚ◌
@@ -116,7 +132,12 @@ module _ (n d m e : ℕ) (hd : 0 < d) (he : 0 < e) where
       let x = n over d in
       let y = m over e in
       lt_of_mul-lt-mul_right (x.den * y.den)
-      (omega (arith, mul-lt-mul_of_pos_right h (mul-pos hd he), ap (λ t. t * (y.den * e)) (over_cross n d hd), ap (λ t. t * (x.den * d)) (over_cross m e he)))
+      (omega (
+        arith,
+        mul-lt-mul_of_pos_right h (mul-pos hd he),
+        ap (λ t. t * (y.den * e)) (over_cross n d hd),
+        ap (λ t. t * (x.den * d)) (over_cross m e he),
+      ))
 
   pub over_sub : n over d -ℚ m over e ≡ (n * e - m * d) over (d * e)
   unfolding ◌-ℚ◌

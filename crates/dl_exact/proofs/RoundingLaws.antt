@@ -1,6 +1,6 @@
 -- Quotients of whole numbers are floors and ceilings, and there is one of each.
 use Rattle.std.proofs.Common.{◌≡◌, ℕ, ◌*◌, ◌/◌, ◌<◌, ◌≤◌, arith, inl, inr}
-use Rattle.std.proofs.Math.Nat.{div-mul-le_self, mul-le-mul_right}
+use Rattle.std.proofs.Math.Nat.{div-mul-le_self, mul-le-mul_left, mul-le-mul_right}
 use Rattle.std.proofs.lemmas.Nat.{le-div}
 use Rattle.std.proofs.lemmas.Bool.{cases_lt}
 use Rattle.std.proofs.lemmas.Grind.{div_ceil_times}
@@ -23,6 +23,10 @@ div_ceil_least n d m pos h = elim (cases_lt m (div_ceil n d)) [
   | inl far ↦ absurd (omega (arith, (div_ceil_times n d pos).1, mul-le-mul_right d far))
   | inr near ↦ near
 ]
+
+-- a part of a number, rounded up, is not above it
+pub part_within : (n a b : ℕ) → 0 < b → a ≤ b → div_ceil (n * a) b ≤ n
+part_within n a b pos within = div_ceil_least (n * a) b n pos (mul-le-mul_left n within)
 
 pub floor_div : (n d : ℕ) → 0 < d → IsFloor (n over d) (n / d)
 floor_div n d pos = record {

@@ -1,5 +1,5 @@
 -- Fractions of whole numbers, at least 0, in lowest terms: equal fractions are one.
-use Rattle.std.specs.Prelude.{ℕ, zero, ◌≡◌, ◌≢◌, ◌⊎◌, ◌==◌, ◌+◌, ◌-◌, ◌*◌, ◌/◌, ◌<◌, ◌≤◌, true, false}
+use Rattle.std.specs.Prelude.{ℕ, zero, ◌≡◌, ◌≢◌, ◌⊎◌, ◌==◌, ◌+◌, ◌-◌, ◌*◌, ◌/◌, ◌<◌, ◌≤◌, min, true, false}
 use Rattle.std.proofs.Common.{inl, inr, refl}
 use Rattle.std.proofs.Math.Nat.{zero-lt-suc, eq-zero-or-pos}
 use Rattle.std.proofs.lemmas.Bool.Decides.{eqb_tells}
@@ -18,9 +18,12 @@ unfolding gcd euclid
 nought = record { num = 0; den = 1; positive = zero-lt-suc zero; lowest = refl }
 
 -- two numbers in lowest terms, the second above 0, as a fraction; any others are read as 0
-unfoldable pub read_as : (n d : ℕ) → (d ≡ 0) ⊎ (0 < d) → (((gcd n d == 1) ≡ true) × (gcd n d ≡ 1)) ⊎ (((gcd n d == 1) ≡ false) × (gcd n d ≢ 1)) → Fraction
+unfoldable pub read_as : (n d : ℕ) → (d ≡ 0) ⊎ (0 < d)
+    → (((gcd n d == 1) ≡ true) × (gcd n d ≡ 1)) ⊎ (((gcd n d == 1) ≡ false) × (gcd n d ≢ 1))
+    → Fraction
 read_as n d (inl none) lowest = nought
-read_as n d (inr positive) (inl lowest) = record { num = n; den = d; positive = positive; lowest = lowest.1 }
+read_as n d (inr positive) (inl lowest) =
+    record { num = n; den = d; positive = positive; lowest = lowest.1 }
 read_as n d (inr positive) (inr common) = nought
 
 infix 72 ◌over◌
@@ -31,9 +34,11 @@ infix 50 ◌≤ℚ◌ ◌<ℚ◌
 unfoldable pub ◌over◌ : ℕ → ℕ → Fraction
 n over d =
     let common : ℕ = gcd n d in
-    read_as (n / common) (d / common) (eq-zero-or-pos (d / common)) (eqb_tells (gcd (n / common) (d / common)) 1)
+    read_as (n / common) (d / common) (eq-zero-or-pos (d / common))
+    (eqb_tells (gcd (n / common) (d / common)) 1)
 
--- sum, difference, product and order by cross multiplication; the difference is 0 where `y` is above `x`
+-- sum, difference, product and order by cross multiplication; the difference is 0 where `y` is
+-- above `x`
 unfoldable pub ◌+ℚ◌ : Fraction → Fraction → Fraction
 x +ℚ y = (x.num * y.den + y.num * x.den) over (x.den * y.den)
 
@@ -56,3 +61,7 @@ x <ℚ y = x.num * y.den < y.num * x.den
 -- the whole number `n` as a fraction
 abbrev pub whole : ℕ → Fraction
 whole n = n over 1
+
+-- the lesser of two fractions
+unfoldable pub lesser : Fraction → Fraction → Fraction
+lesser x y = min (x.num * y.den) (y.num * x.den) over (x.den * y.den)

@@ -7,6 +7,11 @@ unfoldable pub sum_to : ℕ → (ℕ → Fraction) → Fraction
 sum_to zero f = f zero
 sum_to (suc n) f = sum_to n f +ℚ f (suc n)
 
+-- f 0 + .. + f (n - 1)
+unfoldable pub sum_below : ℕ → (ℕ → Fraction) → Fraction
+sum_below zero f = whole 0
+sum_below (suc n) f = sum_below n f +ℚ f n
+
 -- the sum of f i j over all i + j = n
 unfoldable pub sum_pairs : ℕ → (ℕ → ℕ → Fraction) → Fraction
 sum_pairs zero f = f zero zero

@@ -1,6 +1,7 @@
-//! The exact numbers of the definitions: fractions of whole numbers in lowest terms, finite sums of
-//! them, floors and ceilings. Nothing here runs: each law is the contract of a function with an empty
-//! body, and the crates above cite its lemmas.
+//! The exact numbers of the definitions: fractions of whole numbers in lowest terms, finite sums,
+//! floors and ceilings, common divisors and multiples. Nothing here runs: each law is the contract
+//! of a function with an empty body, and the crates above cite the lemmas. A fact of numbers alone
+//! stands here, once.
 #![tactic(auto)]
 
 ghost use Rattle.std.specs.Prelude.{◌≡◌, ◌⊎◌, ℕ, suc, ◌+◌, ◌*◌, ◌/◌, ◌<◌, ◌≤◌};
@@ -45,7 +46,8 @@ pub fn law_order()
     ensures times { (x y z : Fraction) → x ≤ℚ y → x *ℚ z ≤ℚ y *ℚ z }
 {}
 
-/// A quotient of whole numbers rounded down is the floor of their fraction, and rounded up its ceiling.
+/// A quotient of whole numbers rounded down is the floor of their fraction, and rounded up its
+/// ceiling.
 pub fn law_rounding()
     ensures down { (n d : ℕ) → 0 < d → IsFloor (n over d) (n / d) }
     ensures up { (n d : ℕ) → 0 < d → IsCeiling (n over d) (div_ceil n d) }
@@ -53,12 +55,15 @@ pub fn law_rounding()
 
 /// Two finite sums, one inside the other, may change places.
 pub fn law_sum_swap()
-    ensures { (n m : ℕ) (f : ℕ → ℕ → Fraction) → sum_to n (λ i. sum_to m (λ j. f i j)) ≡ sum_to m (λ j. sum_to n (λ i. f i j)) }
+    ensures { (n m : ℕ) (f : ℕ → ℕ → Fraction)
+        → sum_to n (λ i. sum_to m (λ j. f i j)) ≡ sum_to m (λ j. sum_to n (λ i. f i j)) }
 {}
 
-/// A sum over the pairs that add up to `n` may be taken from either end, and in three parts in either order.
+/// A sum over the pairs that add up to `n` may be taken from either end, and in three parts in
+/// either order.
 pub fn law_pairs()
     ensures turn { (n : ℕ) (f : ℕ → ℕ → Fraction) → sum_pairs n (λ i j. f j i) ≡ sum_pairs n f }
     ensures three { (n : ℕ) (f : ℕ → ℕ → ℕ → Fraction)
-        → sum_pairs n (λ i j. sum_pairs i (λ k l. f k l j)) ≡ sum_pairs n (λ k m. sum_pairs m (λ l j. f k l j)) }
+        → sum_pairs n (λ i j. sum_pairs i (λ k l. f k l j))
+        ≡ sum_pairs n (λ k m. sum_pairs m (λ l j. f k l j)) }
 {}

@@ -4,9 +4,8 @@ use Rattle.std.proofs.Math.Nat.{lt-div-mul-add}
 use Rattle.std.proofs.lemmas.Grind.{div_ceil_times}
 use Rattle.std.specs.Int.{div_ceil}
 use Rattle.dl_exact.specs.Fraction.{Fraction, ◌over◌, ◌*ℚ◌, ◌≤ℚ◌, ◌<ℚ◌, whole}
-use Rattle.dl_exact.proofs.Laws.{ring, le_refl, le_trans, one_times, times_le_cancel, times_pos, whole_pos, whole_times, over_times_whole}
-use Rattle.dl_exact.proofs.RoundingLaws.{whole_le, div_ceil_least}
-use Rattle.dl_iv.proofs.FractionLaws.{times_le_both}
+use Rattle.dl_exact.proofs.Laws.{ring, le_refl, le_trans, one_times, times_le_cancel, times_pos, whole_pos, whole_times, over_times_whole, times_le_both}
+use Rattle.dl_exact.proofs.RoundingLaws.{whole_le, div_ceil_least, part_within}
 use Rattle.dl_iv.proofs.Rounding.{power_le}
 
 module _ (S T : ℕ) (S_pos : 0 < S) (T_pos : 0 < T) where
@@ -27,14 +26,16 @@ module _ (S T : ℕ) (S_pos : 0 < S) (T_pos : 0 < T) where
   low_reciprocal b l x p h =
       times_le_cancel _ _ (whole S *ℚ whole T) units_pos
       (subst₂ (λ s t. s ≤ℚ t) (sym (in_units l x)) all_units
-      (le_trans _ _ _ (times_le_both _ _ _ _ (le_refl (whole l)) h) (subst (λ t. t ≤ℚ whole (S * T)) (whole_times l b) (whole_le _ _ p))))
+      (le_trans _ _ _ (times_le_both _ _ _ _ (le_refl (whole l)) h)
+      (subst (λ t. t ≤ℚ whole (S * T)) (whole_times l b) (whole_le _ _ p))))
 
   -- h / S is at least 1 over x, where a units of 1 / T are at most x
   pub high_reciprocal : (a h : ℕ) (x : Fraction) → S * T ≤ h * a → whole a ≤ℚ whole T *ℚ x → whole 1 ≤ℚ h over S *ℚ x
   high_reciprocal a h x p q =
       times_le_cancel _ _ (whole S *ℚ whole T) units_pos
       (subst₂ (λ s t. s ≤ℚ t) all_units (sym (in_units h x))
-      (le_trans _ _ _ (subst (λ t. whole (S * T) ≤ℚ t) (whole_times h a) (whole_le _ _ p)) (times_le_both _ _ _ _ (le_refl (whole h)) q)))
+      (le_trans _ _ _ (subst (λ t. whole (S * T) ≤ℚ t) (whole_times h a) (whole_le _ _ p))
+      (times_le_both _ _ _ _ (le_refl (whole h)) q)))
 
 -- the reciprocals of numbers near each other, in units far larger than those of the numbers
 pub narrow : (S T a b : ℕ) → 0 < a → a ≤ b → b ≤ a + 128 → T ≤ a → S * 128 ≤ T → div_ceil (S * T) a ≤ S * T / b + 3
@@ -48,11 +49,8 @@ narrow S T a b pos order near large scale =
     let apart : n * b ≤ n * (a + 128) = mul-le-mul_left n near in
     let rest : S * 128 * T ≤ T * T = mul-le-mul_right T scale in
     let square : T * T ≤ a * b = mul-le-mul large (omega (arith, large, order)) in
-    le_of_mul-le-mul_right {k = a * b} (omega (arith, mul-le-mul_right b up, mul-le-mul_right a down, apart, rest, square)) (mul-pos pos b_pos)
-
--- the reciprocal of a number of at least 1, rounded up, is at most 1
-pub reciprocal_within : (S T a : ℕ) → 0 < a → T ≤ a → div_ceil (S * T) a ≤ S
-reciprocal_within S T a pos large = div_ceil_least (S * T) a S pos (mul-le-mul_left S large)
+    le_of_mul-le-mul_right {k = a * b} (omega
+    (arith, mul-le-mul_right b up, mul-le-mul_right a down, apart, rest, square)) (mul-pos pos b_pos)
 
 pub reciprocal_fits : (b S T a : ℕ) → b ≤ 56 → S ≡ 2 ^ b → 0 < a → T ≤ a → div_ceil (S * T) a ≤ 2 ^ 56
-reciprocal_fits b S T a few scale pos large = omega (arith, reciprocal_within S T a pos large, power_le b S 56 scale few)
+reciprocal_fits b S T a few scale pos large = omega (arith, part_within S T a pos large, power_le b S 56 scale few)

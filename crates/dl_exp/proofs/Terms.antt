@@ -8,12 +8,9 @@ use Rattle.dl_exact.proofs.Over.{over_self, le_over}
 use Rattle.dl_exact.proofs.Laws.{one_pos, ring, le_refl, le_trans, le_plus, plus_le_both, plus_assoc, plus_times, times_plus, times_comm, times_one, times_le_times, times_le_cancel, times_cancel, div_times, whole_pos, whole_plus, whole_times, over_times_whole}
 use Rattle.dl_exact.proofs.RoundingLaws.{whole_le}
 use Rattle.dl_exact.proofs.Sums.{sum_to_grows}
+use Rattle.dl_exact.proofs.Powers.{factorial_pos}
+use Rattle.dl_exact.proofs.SumsOver.{low_sum, high_sum}
 use Rattle.dl_exp.specs.Exponential.{exponential_term}
-
-pub factorial_pos : (n : ℕ) → 0 < factorial n
-unfolding factorial
-factorial_pos zero = one_pos
-factorial_pos (suc n) = mul-pos (zero-lt-suc n) (factorial_pos n)
 
 pub term_zero : (x : Fraction) → exponential_term x zero ≡ whole 1
 unfolding exponential_term factorial ◌^ℚ◌
@@ -38,17 +35,20 @@ term_next x n =
 -- ---- what follows a term
 
 -- the sums of terms that at least halve stay within the sum so far and its last term
-halving_bound : (w : ℕ → Fraction) → ((n : ℕ) → w (suc n) +ℚ w (suc n) ≤ℚ w n) → (K N : ℕ) → sum_to N w ≤ℚ sum_to K w +ℚ w K
+halving_bound : (w : ℕ → Fraction) → ((n : ℕ) → w (suc n) +ℚ w (suc n) ≤ℚ w n) → (K N : ℕ)
+    → sum_to N w ≤ℚ sum_to K w +ℚ w K
 unfolding sum_to
 halving_bound w h K N = le_trans _ _ _ (sum_to_grows N (K + N) w (omega arith)) (le_trans _ _ _ (le_plus _ _) (falls N))
   where
     falls : (m : ℕ) → sum_to (K + m) w +ℚ w (K + m) ≤ℚ sum_to K w +ℚ w K
     falls zero = subst (λ k. sum_to k w +ℚ w k ≤ℚ sum_to K w +ℚ w K) (sym (add-zero K)) (le_refl _)
     falls (suc m) = subst (λ k. sum_to k w +ℚ w k ≤ℚ sum_to K w +ℚ w K) (sym (add-suc K m))
-        (le_trans _ _ _ (subst (λ t. t ≤ℚ sum_to (K + m) w +ℚ w (K + m)) (sym (plus_assoc _ _ _)) (plus_le_both _ _ _ _ (le_refl (sum_to (K + m) w)) (h (K + m)))) (falls m))
+        (le_trans _ _ _ (subst (λ t. t ≤ℚ sum_to (K + m) w +ℚ w (K + m)) (sym (plus_assoc _ _ _))
+        (plus_le_both _ _ _ _ (le_refl (sum_to (K + m) w)) (h (K + m)))) (falls m))
 
 pub half_parts : (x : Fraction) → x ≤ℚ 1 over 2 → x.num + x.num ≤ x.den
-half_parts x h = omega (arith, le_over x.num x.den 1 2 x.positive (zero-lt-suc 1) (subst (λ t. t ≤ℚ 1 over 2) (sym (over_self x)) h))
+half_parts x h =
+    omega (arith, le_over x.num x.den 1 2 x.positive (zero-lt-suc 1) (subst (λ t. t ≤ℚ 1 over 2) (sym (over_self x)) h))
 
 module _ (x : Fraction) where
   times_den : x *ℚ whole x.den ≡ whole x.num
@@ -56,7 +56,8 @@ module _ (x : Fraction) where
 
   twice : x ≤ℚ 1 over 2 → (n : ℕ) → x +ℚ x ≤ℚ whole (suc n)
   twice h n = le_trans _ _ _
-      (subst₂ (λ s t. s ≤ℚ t) (doubled x) (over_times_whole 1 2 (zero-lt-suc 1)) (times_le_times x (1 over 2) (whole 2) h))
+      (subst₂ (λ s t. s ≤ℚ t) (doubled x) (over_times_whole 1 2 (zero-lt-suc 1))
+      (times_le_times x (1 over 2) (whole 2) h))
       (whole_le 1 (suc n) (omega arith))
     where
       doubled : (a : Fraction) → a *ℚ whole 2 ≡ a +ℚ a
@@ -66,15 +67,18 @@ module _ (x : Fraction) where
   halves h n =
       let t = exponential_term x in
       times_le_cancel _ _ (whole (suc n)) (whole_pos (suc n) (zero-lt-suc n))
-      (subst₂ (λ a b. a ≤ℚ b) (sym (plus_times _ _ (whole (suc n)) ∙ ap (λ a. a +ℚ a) (term_next x n) ∙ sym (plus_times x x (t n)))) (times_comm _ _)
+      (subst₂ (λ a b. a ≤ℚ b) (sym (plus_times _ _ (whole (suc n)) ∙ ap (λ a. a +ℚ a) (term_next x n)
+      ∙ sym (plus_times x x (t n)))) (times_comm _ _)
       (times_le_times _ _ (t n) (twice h n)))
 
-  pub rest_bound : x ≤ℚ 1 over 2 → (K N : ℕ) → sum_to N (exponential_term x) ≤ℚ sum_to K (exponential_term x) +ℚ exponential_term x K
+  pub rest_bound : x ≤ℚ 1 over 2 → (K N : ℕ)
+      → sum_to N (exponential_term x) ≤ℚ sum_to K (exponential_term x) +ℚ exponential_term x K
   rest_bound h = halving_bound (exponential_term x) (halves h)
 
   -- ---- a term in whole units from the one before
 
-  next_term : (C : Fraction) (n : ℕ) → C *ℚ exponential_term x (suc n) *ℚ whole (x.den * suc n) ≡ C *ℚ exponential_term x n *ℚ whole x.num
+  next_term : (C : Fraction) (n : ℕ) → C *ℚ exponential_term x (suc n) *ℚ whole
+      (x.den * suc n) ≡ C *ℚ exponential_term x n *ℚ whole x.num
   next_term C n =
       let p = exponential_term x n in
       let q = exponential_term x (suc n) in
@@ -93,24 +97,18 @@ module _ (x : Fraction) where
   step_pos : (n : ℕ) → whole 0 <ℚ whole (x.den * suc n)
   step_pos n = whole_pos (x.den * suc n) (mul-pos x.positive (zero-lt-suc n))
 
-  pub low_term : (C : Fraction) (n t s : ℕ) → s * (x.den * suc n) ≤ t * x.num → whole t ≤ℚ C *ℚ exponential_term x n → whole s ≤ℚ C *ℚ exponential_term x (suc n)
+  pub low_term : (C : Fraction) (n t s : ℕ) → s * (x.den * suc n) ≤ t * x.num → whole t ≤ℚ C *ℚ exponential_term x n
+      → whole s ≤ℚ C *ℚ exponential_term x (suc n)
   low_term C n t s p h =
       times_le_cancel _ _ (whole (x.den * suc n)) (step_pos n)
       (subst₂ (λ a b. a ≤ℚ b) (whole_times s (x.den * suc n)) (sym (next_term C n))
-      (le_trans _ _ _ (whole_le _ _ p) (subst (λ a. a ≤ℚ C *ℚ exponential_term x n *ℚ whole x.num) (sym (whole_times t x.num)) (times_le_times _ _ (whole x.num) h))))
+      (le_trans _ _ _ (whole_le _ _ p) (subst (λ a. a ≤ℚ C *ℚ exponential_term x n *ℚ whole x.num)
+      (sym (whole_times t x.num)) (times_le_times _ _ (whole x.num) h))))
 
-  pub high_term : (C : Fraction) (n t s : ℕ) → t * x.num ≤ s * (x.den * suc n) → C *ℚ exponential_term x n ≤ℚ whole t → C *ℚ exponential_term x (suc n) ≤ℚ whole s
+  pub high_term : (C : Fraction) (n t s : ℕ) → t * x.num ≤ s * (x.den * suc n) → C *ℚ exponential_term x n ≤ℚ whole t
+      → C *ℚ exponential_term x (suc n) ≤ℚ whole s
   high_term C n t s p h =
       times_le_cancel _ _ (whole (x.den * suc n)) (step_pos n)
       (subst₂ (λ a b. a ≤ℚ b) (sym (next_term C n)) (whole_times s (x.den * suc n))
-      (le_trans _ _ _ (subst (λ a. C *ℚ exponential_term x n *ℚ whole x.num ≤ℚ a) (sym (whole_times t x.num)) (times_le_times _ _ (whole x.num) h)) (whole_le _ _ p)))
-
--- ---- sums
-
-pub low_sum : (C : Fraction) (w : ℕ → Fraction) (n a b : ℕ) → whole a ≤ℚ C *ℚ sum_to n w → whole b ≤ℚ C *ℚ w (suc n) → whole (a + b) ≤ℚ C *ℚ sum_to (suc n) w
-unfolding sum_to
-low_sum C w n a b p q = subst₂ (λ x y. x ≤ℚ y) (sym (whole_plus a b)) (sym (times_plus C (sum_to n w) (w (suc n)))) (plus_le_both _ _ _ _ p q)
-
-pub high_sum : (C : Fraction) (w : ℕ → Fraction) (n a b : ℕ) → C *ℚ sum_to n w ≤ℚ whole a → C *ℚ w (suc n) ≤ℚ whole b → C *ℚ sum_to (suc n) w ≤ℚ whole (a + b)
-unfolding sum_to
-high_sum C w n a b p q = subst₂ (λ x y. x ≤ℚ y) (sym (times_plus C (sum_to n w) (w (suc n)))) (sym (whole_plus a b)) (plus_le_both _ _ _ _ p q)
+      (le_trans _ _ _ (subst (λ a. C *ℚ exponential_term x n *ℚ whole x.num ≤ℚ a) (sym (whole_times t x.num))
+      (times_le_times _ _ (whole x.num) h)) (whole_le _ _ p)))

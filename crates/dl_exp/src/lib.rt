@@ -1,5 +1,5 @@
-//! The exponential of a small number, enclosed: the sums of its series in whole units, rounded down and
-//! up, what is left of the series bounded by its last term, and the reciprocals of both.
+//! The exponential of a small number, enclosed: the sums of its series in whole units, rounded down
+//! and up, what is left of the series bounded by its last term, and the reciprocals of both.
 #![tactic(auto)]
 
 ghost use Rattle.std.specs.Prelude.{◌≡◌, ℕ, ◌+◌, ◌^◌, ◌≤◌};
@@ -28,8 +28,8 @@ struct Sums {
     high: u128,
 }
 
-/// `exp(-x)` for `x` from 0 to 1/2, at most 3 units of 1 / 2^B wide, and at most 1. The series is that
-/// of Taylor.
+/// `exp(-x)` for `x` from 0 to 1/2, at most 3 units of 1 / 2^B wide, and at most 1. The series is
+/// that of Taylor.
 pub fn exp_neg<const B: u32>(x: Frac) -> Iv<B>
     requires scale_above { 1 ≤ B }
     requires scale_below { B ≤ 56 }
@@ -46,14 +46,15 @@ pub fn exp_neg<const B: u32>(x: Frac) -> Iv<B>
     }
 }
 
-/// The sums of the terms rounded down and of those rounded up; the last term once more stands for all
-/// that follow, since each is at most half of the one before.
+/// The sums of the terms rounded down and of those rounded up; the last term once more stands for
+/// all that follow, since each is at most half of the one before.
 fn exponential(x: Frac) -> Sums
     requires { x ≤ℚ 1 over 2 }
     ensures one { 2 ^ 63 ≤ result.low }
     ensures order { result.low ≤ result.high }
     ensures near { result.high ≤ result.low + 128 }
-    ensures below { (u : Fraction) → ((N : ℕ) → exponential_sum x N ≤ℚ u) → whole result.low ≤ℚ whole (2 ^ 63) *ℚ u }
+    ensures below { (u : Fraction) → ((N : ℕ) → exponential_sum x N ≤ℚ u)
+        → whole result.low ≤ℚ whole (2 ^ 63) *ℚ u }
     ensures above { (N : ℕ) → whole (2 ^ 63) *ℚ exponential_sum x N ≤ℚ whole result.high }
 {
     let num = x.num() as u128;

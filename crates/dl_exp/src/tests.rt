@@ -6,7 +6,8 @@ use super::exp_neg;
 use dl_frac::Frac;
 use std::cmp::Ordering;
 
-/// A fraction, and how many whole units are in the exponential of minus it, at the scales 1, 48 and 56.
+/// A fraction, and how many whole units are in the exponential of minus it, at the scales 1, 48 and
+/// 56.
 #[derive(Clone, Copy, Debug)]
 struct Case {
     num: u64,

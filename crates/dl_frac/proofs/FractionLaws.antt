@@ -16,17 +16,8 @@ use Rattle.dl_exact.proofs.GcdLaws.{gcd_is, gcd_pos, cut_left, cut_right, cut_po
 use Rattle.dl_exact.proofs.Over.{over_self, over_same, over_mul, over_lt, lt_over}
 use Rattle.dl_exact.specs.Rounding.{IsFloor, IsCeiling}
 use Rattle.dl_exact.proofs.RoundingLaws.{floor_div, ceiling_div}
-use Rattle.dl_frac.proofs.GcdMore.{lowest_swap, lowest_parts, lowest_times, lowest_plus, lowest_product, part_divides}
-
--- numbers in lowest terms are the parts of their fraction
-pub lowest_self : (n d : ℕ) (h : 0 < d) (e : gcd n d ≡ 1) → record { num = n; den = d; positive = h; lowest = e } ≡ n over d
-lowest_self n d h e = sym (over_self (record { num = n; den = d; positive = h; lowest = e }))
-
-pub lowest_num : (n d : ℕ) → 0 < d → gcd n d ≡ 1 → (n over d).num ≡ n
-lowest_num n d h e = ap (λ (x : Fraction). x.num) (sym (lowest_self n d h e))
-
-pub lowest_den : (n d : ℕ) → 0 < d → gcd n d ≡ 1 → (n over d).den ≡ d
-lowest_den n d h e = ap (λ (x : Fraction). x.den) (sym (lowest_self n d h e))
+use Rattle.dl_exact.proofs.Multiples.{lowest_swap, lowest_parts, lowest_times, lowest_plus, lowest_product, part_divides}
+use Rattle.dl_exact.proofs.Parts.{cut_same}
 
 -- ---- products, cut across
 
@@ -89,7 +80,8 @@ cut_sum a c B G D E T k p q =
 cut_twice : (d g k : ℕ) → 0 < k → g ∣ d → k ∣ g → d / k ≡ d / g * (g / k)
 cut_twice d g k h p q =
     eq_of_mul-eq-mul_right k h _ _
-    (div-mul_cancel k (dvd_trans k q p) ∙ sym (div-mul_cancel g p) ∙ ap (λ t. d / g * t) (sym (div-mul_cancel k q)) ∙ omega arith)
+    (div-mul_cancel k (dvd_trans k q p) ∙ sym (div-mul_cancel g p) ∙ ap (λ t. d / g * t) (sym (div-mul_cancel k q))
+    ∙ omega arith)
 
 module _ (a b c d : ℕ) (hb : 0 < b) (hd : 0 < d) where
   sum_cut_pos : 0 < sum_cut a b c d
@@ -127,7 +119,8 @@ module _ (a b c d : ℕ) (hb : 0 < b) (hd : 0 < d) where
       let rest : d / k ≡ d / g * (g / k) = cut_twice d g k sum_cut_pos (gcd_is b d).1 (gcd_is t g).1 in
       let inner : gcd (t / k) (d / k) ≡ 1 =
       ap (λ n. gcd (t / k) n) rest
-      ∙ lowest_times (t / k) (d / g) (g / k) (cut_pos t g (gcd_pos b d hd)) (lowest_parts t (d / g) _ _ turned T (dvd_refl (d / g))) (cut_lowest t g (gcd_pos b d hd)) in
+      ∙ lowest_times (t / k) (d / g) (g / k) (cut_pos t g (gcd_pos b d hd))
+      (lowest_parts t (d / g) _ _ turned T (dvd_refl (d / g))) (cut_lowest t g (gcd_pos b d hd)) in
       lowest_times (t / k) (b / g) (d / k) sum_rest_pos (lowest_parts t (b / g) _ _ left T (dvd_refl (b / g))) inner
 
   pub sum_same : sum_num a b c d over sum_den a b c d ≡ (a * d + c * b) over (b * d)
@@ -145,52 +138,6 @@ module _ (a b c d : ℕ) (hb : 0 < b) (hd : 0 < d) where
       ∙ ap₂ (λ s u. (a * s + c * u) * (b / g * (d / k))) D B)
 
 -- ---- the same, of the fractions themselves
-
-pub sum_is : (x y : Fraction) → (x.num * y.den + y.num * x.den) over (x.den * y.den) ≡ x +ℚ y
-unfolding ◌+ℚ◌
-sum_is x y = refl
-
-pub product_is : (x y : Fraction) → (x.num * y.num) over (x.den * y.den) ≡ x *ℚ y
-unfolding ◌*ℚ◌
-product_is x y = refl
-
-pub quotient_is : (x y : Fraction) → (x.num * y.den) over (x.den * y.num) ≡ x /ℚ y
-unfolding ◌/ℚ◌
-quotient_is x y = refl
-
--- a fraction is above 0 exactly where its first part is
-pub num_pos : (x : Fraction) → whole 0 <ℚ x → 0 < x.num
-num_pos x h = omega (arith, lt_over 0 1 x.num x.den zero-lt-one x.positive (subst (λ t. whole 0 <ℚ t) (sym (over_self x)) h))
-
-pub pos_num : (x : Fraction) → 0 < x.num → whole 0 <ℚ x
-pos_num x h = subst (λ t. whole 0 <ℚ t) (over_self x) (over_lt 0 1 x.num x.den zero-lt-one x.positive (omega arith))
-
--- whole units of a fraction, over its second part
-pub units_of : (s : ℕ) (x : Fraction) → (x.num * s) over x.den ≡ whole s *ℚ x
-units_of s x =
-    sym (ap (λ t. whole s *ℚ t) (sym (over_self x)) ∙ over_mul s 1 x.num x.den zero-lt-one x.positive
-    ∙ over_same (s * x.num) (1 * x.den) (x.num * s) x.den (mul-pos zero-lt-one x.positive) x.positive (omega arith))
-
-pub floor_units : (s : ℕ) (x : Fraction) → IsFloor (whole s *ℚ x) (x.num * s / x.den)
-floor_units s x = subst (λ t. IsFloor t (x.num * s / x.den)) (units_of s x) (floor_div (x.num * s) x.den x.positive)
-
-pub ceiling_units : (s : ℕ) (x : Fraction) → IsCeiling (whole s *ℚ x) (div_ceil (x.num * s) x.den)
-ceiling_units s x = subst (λ t. IsCeiling t (div_ceil (x.num * s) x.den)) (units_of s x) (ceiling_div (x.num * s) x.den x.positive)
-
--- the order of two fractions is that of the cross products
-pub by_cross : (x y : Fraction) (r : Ordering) → r ≡ nat_cmp (x.num * y.den) (y.num * x.den) → MatchOrdering r (x <ℚ y) (x ≡ y) (y <ℚ x)
-unfolding ◌<ℚ◌
-by_cross x y Less e = ranked (x.num * y.den) (y.num * x.den) Less e
-by_cross x y Equal e =
-    sym (over_self x) ∙ over_same _ _ _ _ x.positive y.positive (ranked (x.num * y.den) (y.num * x.den) Equal e) ∙ over_self y
-by_cross x y Greater e = ranked (x.num * y.den) (y.num * x.den) Greater e
-
--- the common divisor taken out changes nothing
-pub cut_same : (n d : ℕ) → 0 < d → (n / gcd n d) over (d / gcd n d) ≡ n over d
-cut_same n d h =
-    let g = gcd n d in
-    over_same _ _ _ _ (cut_pos n d h) h
-    (omega (arith, ap (λ t. n / g * t) (cut_right n d), ap (λ t. t * (d / g)) (cut_left n d)))
 
 -- a unit of up to 56 bits, written as a shift
 pub unit_fits : (b : ℕ) → b ≤ 56 → 1 * 2 ^ b % 2 ^ 128 ≡ 2 ^ b

@@ -1,4 +1,3 @@
-pub mod GcdMore
 pub mod FractionLaws
 pub mod NumeralLaws
 pub mod SpellingLaws

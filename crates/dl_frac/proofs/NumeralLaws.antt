@@ -15,7 +15,9 @@ use Rattle.std.proofs.Math.Nat.{pow-le-pow_right}
 use Rattle.dl_exact.specs.Fraction.{whole, ◌over◌, ◌/ℚ◌}
 use Rattle.dl_exact.proofs.Over.{over_div}
 use Rattle.dl_exact.proofs.Laws.{one_pos}
+use Rattle.dl_exact.proofs.Lists.{rest_whole}
 use Rattle.dl_frac.specs.Numerals.{is_point, is_percent, is_slash, digits_in, digit_count, number_in, places_in, decimal_value, numeral_value, is_bad, IsDecimal, plain, pointed}
+use Rattle.std.proofs.lemmas.Bool.{or_parts, lt-ltb, ltb-true}
 
 pub cases : (b : Bool) → (b ≡ true) ⊎ (b ≡ false)
 cases true = inl refl
@@ -41,23 +43,24 @@ before_yes p x xs h = rw h
 pub before_no : (p : ℕ → Bool) (x : ℕ) (xs : List ℕ) → p x ≡ false → before_first p (x ∷ xs) ≡ x ∷ before_first p xs
 before_no p x xs h = rw h (take_one x xs (position_or_len p xs))
 
-or_none : (a b : Bool) → (a || b) ≡ false → (a ≡ false) × (b ≡ false)
-or_none true b h = absurd (cc)
-or_none false b h = (refl, h)
-
 any_none : (p : ℕ → Bool) (x : ℕ) (xs : List ℕ) → list_any p (x ∷ xs) ≡ false → (p x ≡ false) × (list_any p xs ≡ false)
-any_none p x xs h = or_none (p x) (list_any p xs) h
+any_none p x xs h = or_parts (p x) (list_any p xs) h
 
-pub after_none : (p : ℕ → Bool) (front back : List ℕ) → list_any p front ≡ false → after_first p (front ++ back) ≡ after_first p back
+pub after_none : (p : ℕ → Bool) (front back : List ℕ) → list_any p front ≡ false
+    → after_first p (front ++ back) ≡ after_first p back
 after_none p [] back h = refl
-after_none p (x ∷ xs) back h = after_no p x (xs ++ back) (any_none p x xs h).0 ∙ after_none p xs back (any_none p x xs h).1
+after_none p (x ∷ xs) back h =
+    after_no p x (xs ++ back) (any_none p x xs h).0 ∙ after_none p xs back (any_none p x xs h).1
 
-pub before_none : (p : ℕ → Bool) (front back : List ℕ) → list_any p front ≡ false → before_first p (front ++ back) ≡ front ++ before_first p back
+pub before_none : (p : ℕ → Bool) (front back : List ℕ) → list_any p front ≡ false
+    → before_first p (front ++ back) ≡ front ++ before_first p back
 before_none p [] back h = refl
-before_none p (x ∷ xs) back h = before_no p x (xs ++ back) (any_none p x xs h).0 ∙ ap (λ t. x ∷ t) (before_none p xs back (any_none p x xs h).1)
+before_none p (x ∷ xs) back h =
+    before_no p x (xs ++ back) (any_none p x xs h).0 ∙ ap (λ t. x ∷ t) (before_none p xs back (any_none p x xs h).1)
 
 -- one more byte, after such a byte and before it
-pub after_push_yes : (p : ℕ → Bool) (text : List ℕ) (b : ℕ) → list_any p text ≡ true → after_first p (text ++ b ∷ []) ≡ after_first p text ++ b ∷ []
+pub after_push_yes : (p : ℕ → Bool) (text : List ℕ) (b : ℕ) → list_any p text ≡ true
+    → after_first p (text ++ b ∷ []) ≡ after_first p text ++ b ∷ []
 after_push_yes p [] b h = absurd (cc)
 after_push_yes p (x ∷ xs) b h = elim (cases (p x)) [
   | inl hit ↦ after_yes p x (xs ++ b ∷ []) hit ∙ ap (λ t. t ++ b ∷ []) (sym (after_yes p x xs hit))
@@ -66,8 +69,10 @@ after_push_yes p (x ∷ xs) b h = elim (cases (p x)) [
       after_no p x (xs ++ b ∷ []) miss ∙ after_push_yes p xs b rest ∙ ap (λ t. t ++ b ∷ []) (sym (after_no p x xs miss))
 ]
 
-pub after_push_no : (p : ℕ → Bool) (text : List ℕ) (b : ℕ) → list_any p text ≡ false → after_first p (text ++ b ∷ []) ≡ []
-after_push_no p text b h = after_none p text (b ∷ []) h ∙ elim (cases (p b)) [ inl hit ↦ after_yes p b [] hit | inr miss ↦ after_no p b [] miss ]
+pub after_push_no : (p : ℕ → Bool) (text : List ℕ) (b : ℕ) → list_any p text ≡ false
+    → after_first p (text ++ b ∷ []) ≡ []
+after_push_no p text b h = after_none p text (b ∷ []) h
+    ∙ elim (cases (p b)) [ inl hit ↦ after_yes p b [] hit | inr miss ↦ after_no p b [] miss ]
 
 pub after_nothing : (p : ℕ → Bool) (text : List ℕ) → list_any p text ≡ false → after_first p text ≡ []
 after_nothing p text h = sym (ap (λ t. after_first p t) (append-nil text)) ∙ after_none p text [] h
@@ -87,11 +92,13 @@ digit_is d h = grind (arith, nat_tests)
 pub digit_worth : (d : ℕ) → d < 10 → digit_value (48 + d) ≡ d
 digit_worth d h = grind (arith, nat_tests)
 
-pub digits_push_yes : (text : List ℕ) (b : ℕ) → is_ascii_digit b ≡ true → digits_in (text ++ b ∷ []) ≡ digits_in text ++ b ∷ []
+pub digits_push_yes : (text : List ℕ) (b : ℕ) → is_ascii_digit b ≡ true
+    → digits_in (text ++ b ∷ []) ≡ digits_in text ++ b ∷ []
 digits_push_yes text b h = filter-append is_ascii_digit text (b ∷ []) ∙ ap (λ t. digits_in text ++ cond t (b ∷ []) []) h
 
 pub digits_push_no : (text : List ℕ) (b : ℕ) → is_ascii_digit b ≡ false → digits_in (text ++ b ∷ []) ≡ digits_in text
-digits_push_no text b h = filter-append is_ascii_digit text (b ∷ []) ∙ ap (λ t. digits_in text ++ cond t (b ∷ []) []) h ∙ append-nil (digits_in text)
+digits_push_no text b h = filter-append is_ascii_digit text (b ∷ []) ∙ ap (λ t. digits_in text ++ cond t (b ∷ []) []) h
+    ∙ append-nil (digits_in text)
 
 pub count_push : (text : List ℕ) (b : ℕ) → is_ascii_digit b ≡ true → digit_count (text ++ b ∷ []) ≡ digit_count text + 1
 count_push text b h = ap length (digits_push_yes text b h) ∙ length-append (digits_in text) (b ∷ [])
@@ -101,19 +108,25 @@ number_push text d h =
     ap (λ t. digits_value 10 t) (digits_push_yes text (48 + d) (digit_is d h))
     ∙ digits_value_push 10 (digits_in text) (48 + d) ∙ ap (λ t. number_in text * 10 + t) (digit_worth d h) ∙ omega arith
 
-pub places_push_yes : (text : List ℕ) (d : ℕ) → d < 10 → list_any is_point text ≡ true → places_in (text ++ (48 + d) ∷ []) ≡ places_in text + 1
-places_push_yes text d h hit = ap digit_count (after_push_yes is_point text (48 + d) hit) ∙ count_push (after_first is_point text) (48 + d) (digit_is d h)
+pub places_push_yes : (text : List ℕ) (d : ℕ) → d < 10 → list_any is_point text ≡ true
+    → places_in (text ++ (48 + d) ∷ []) ≡ places_in text + 1
+places_push_yes text d h hit = ap digit_count (after_push_yes is_point text (48 + d) hit)
+    ∙ count_push (after_first is_point text) (48 + d) (digit_is d h)
 
-pub places_push_no : (text : List ℕ) (b : ℕ) → list_any is_point text ≡ false → places_in (text ++ b ∷ []) ≡ places_in text
-places_push_no text b miss = ap digit_count (after_push_no is_point text b miss) ∙ sym (ap digit_count (after_nothing is_point text miss))
+pub places_push_no : (text : List ℕ) (b : ℕ) → list_any is_point text ≡ false
+    → places_in (text ++ b ∷ []) ≡ places_in text
+places_push_no text b miss =
+    ap digit_count (after_push_no is_point text b miss) ∙ sym (ap digit_count (after_nothing is_point text miss))
 
 pub places_push_other : (text : List ℕ) (b : ℕ) → is_ascii_digit b ≡ false → places_in (text ++ b ∷ []) ≡ places_in text
 places_push_other text b h = elim (cases (list_any is_point text)) [
-  | inl hit ↦ ap digit_count (after_push_yes is_point text b hit) ∙ ap length (digits_push_no (after_first is_point text) b h)
+  | inl hit ↦ ap digit_count (after_push_yes is_point text b hit)
+      ∙ ap length (digits_push_no (after_first is_point text) b h)
   | inr miss ↦ places_push_no text b miss
 ]
 
-pub no_mark : (d : ℕ) → d < 10 → (is_point (48 + d) ≡ false) × (is_percent (48 + d) ≡ false) × (is_slash (48 + d) ≡ false)
+pub no_mark : (d : ℕ) → d < 10 → (is_point (48 + d) ≡ false) × (is_percent (48 + d) ≡ false) ×
+    (is_slash (48 + d) ≡ false)
 no_mark d h = (grind (arith, nat_tests), grind (arith, nat_tests), grind (arith, nat_tests))
 
 pub any_push_no : (p : ℕ → Bool) (text : List ℕ) (b : ℕ) → p b ≡ false → list_any p (text ++ b ∷ []) ≡ list_any p text
@@ -125,9 +138,11 @@ any_push_no p text b h = any_push p text b ∙ ap (λ t. list_any p text || t) h
 
 -- the scale is 10 for each place
 pub scale_push : (text : List ℕ) (d s t : ℕ) → d < 10 → s ≡ 10 ^ places_in text
-    → ((list_any is_point text ≡ true) × (t ≡ 10 * s)) ⊎ ((list_any is_point text ≡ false) × (t ≡ s)) → t ≡ 10 ^ places_in (text ++ (48 + d) ∷ [])
+    → ((list_any is_point text ≡ true) × (t ≡ 10 * s)) ⊎ ((list_any is_point text ≡ false) × (t ≡ s))
+    → t ≡ 10 ^ places_in (text ++ (48 + d) ∷ [])
 scale_push text d s t h e (inl hit) =
-    hit.1 ∙ ap (λ n. 10 * n) e ∙ mul_comm 10 (10 ^ places_in text) ∙ sym (pow-add 10 (places_in text) 1) ∙ ap (λ n. 10 ^ n) (sym (places_push_yes text d h hit.0))
+    hit.1 ∙ ap (λ n. 10 * n) e ∙ mul_comm 10 (10 ^ places_in text) ∙ sym (pow-add 10 (places_in text) 1)
+    ∙ ap (λ n. 10 ^ n) (sym (places_push_yes text d h hit.0))
 scale_push text d s t h e (inr miss) = miss.1 ∙ e ∙ ap (λ n. 10 ^ n) (sym (places_push_no text (48 + d) miss.0))
 
 -- ---- bounds
@@ -137,21 +152,20 @@ pub few_tens : (k : ℕ) → k ≤ 11 → 10 ^ k ≤ 10 ^ 11
 few_tens k h = pow-le-pow_right (omega arith) h
 
 pub count-append : (front back : List ℕ) → digit_count (front ++ back) ≡ digit_count front + digit_count back
-count-append front back = ap length (filter-append is_ascii_digit front back) ∙ length-append (digits_in front) (digits_in back)
-
-above : (d n : ℕ) → d < n → nat_lt d n ≡ true
-above d n h = grind (arith, nat_tests, h)
+count-append front back =
+    ap length (filter-append is_ascii_digit front back) ∙ length-append (digits_in front) (digits_in back)
 
 -- more digits than the limit in front are too many
 pub too_many : (d : ℕ) (front back : List ℕ) → d < digit_count front → nat_lt d (digit_count (front ++ back)) ≡ true
-too_many d front back h = above d _ (omega (arith, count-append front back))
+too_many d front back h = lt-ltb d _ (omega (arith, count-append front back))
 
 -- ---- values
 
 -- the text in front of a byte, that byte, and the text behind it
 pub cut_at : (text : List ℕ) (i : ℕ) → i < length text → text ≡ take i text ++ get_or text i 0 ∷ drop (i + 1) text
 cut_at text i h =
-    sym (take-append-drop (i + 1) text) ∙ ap (λ t. t ++ drop (i + 1) text) (take_more text i 0 h) ∙ append_assoc (take i text) (get_or text i 0 ∷ []) (drop (i + 1) text)
+    sym (take-append-drop (i + 1) text) ∙ ap (λ t. t ++ drop (i + 1) text) (take_more text i 0 h)
+    ∙ append_assoc (take i text) (get_or text i 0 ∷ []) (drop (i + 1) text)
 
 module _ (front back : List ℕ) (h : list_any is_slash front ≡ false) where
   has_slash : list_any is_slash (front ++ 47 ∷ back) ≡ true
@@ -167,11 +181,13 @@ module _ (front back : List ℕ) (h : list_any is_slash front ≡ false) where
   unfolding numeral_value
   slash_value = rw (has_slash, first_part, second_part)
 
-  pub slash_bad : (d : ℕ) → is_bad d (front ++ 47 ∷ back) ≡ (nat_lt d (digit_count front) || nat_lt d (digit_count back) || number_in back == 0)
+  pub slash_bad : (d : ℕ) → is_bad d (front ++ 47 ∷ back) ≡
+      (nat_lt d (digit_count front) || nat_lt d (digit_count back) || number_in back == 0)
   unfolding is_bad
   slash_bad d = rw (has_slash, first_part, second_part)
 
-pub early_bad : (d : ℕ) (front back : List ℕ) → list_any is_slash front ≡ false → d < digit_count front → is_bad d (front ++ back) ≡ true
+pub early_bad : (d : ℕ) (front back : List ℕ) → list_any is_slash front ≡ false → d < digit_count front
+    → is_bad d (front ++ back) ≡ true
 unfolding is_bad
 early_bad d front back h far = elim (cases (list_any is_slash (front ++ back))) [
   | inl hit ↦ rw (hit, before_none is_slash front back h, too_many d front (before_first is_slash back) far)
@@ -181,33 +197,40 @@ early_bad d front back h far = elim (cases (list_any is_slash (front ++ back))) 
   ]
 ]
 
-pub plain_value : (text : List ℕ) → list_any is_slash text ≡ false → numeral_value text ≡ cond (list_any is_percent text) (decimal_value text /ℚ whole 100) (decimal_value text)
+pub plain_value : (text : List ℕ) → list_any is_slash text ≡ false
+    → numeral_value text ≡ cond (list_any is_percent text) (decimal_value text /ℚ whole 100) (decimal_value text)
 unfolding numeral_value
 plain_value text h = rw h
 
-pub plain_bad : (d : ℕ) (text : List ℕ) → list_any is_slash text ≡ false → is_bad d text ≡ cond (list_any is_percent text) (nat_lt (d - 2) (digit_count text)) (nat_lt d (digit_count text))
+pub plain_bad : (d : ℕ) (text : List ℕ) → list_any is_slash text ≡ false
+    → is_bad d text ≡ cond (list_any is_percent text) (nat_lt (d - 2) (digit_count text)) (nat_lt d (digit_count text))
 unfolding is_bad
 plain_bad d text h = rw h
 
 -- a hundredth of a decimal has a hundred times its second part
 pub hundredth : (n s : ℕ) → 0 < s → n over (100 * s) ≡ (n over s) /ℚ whole 100
-hundredth n s h = sym (over_div n s 100 1 h one_pos (omega arith) ∙ ap₂ (λ a b. a over b) (omega arith) (mul_comm s 100))
+hundredth n s h =
+    sym (over_div n s 100 1 h one_pos (omega arith) ∙ ap₂ (λ a b. a over b) (omega arith) (mul_comm s 100))
 
-pub rest_whole : (text : List ℕ) (i : ℕ) → take (length text - i) (drop i text) ≡ drop i text
-rest_whole text i = ap (λ n. take n (drop i text)) (sym (length-drop i text)) ∙ take-length (drop i text)
-
-module _ (text : List ℕ) (i : ℕ) (h : i < length text) (slash : get_or text i 0 ≡ 47) (whole_front : list_any is_slash (take i text) ≡ false) where
+module _ (text : List ℕ) (i : ℕ) (h : i < length text) (slash : get_or text i 0 ≡ 47)
+    (whole_front : list_any is_slash (take i text) ≡ false) where
   cut_there : take i text ++ 47 ∷ take (length text - (i + 1)) (drop (i + 1) text) ≡ text
   cut_there = ap₂ (λ b t. take i text ++ b ∷ t) (sym slash) (rest_whole text (i + 1)) ∙ sym (cut_at text i h)
 
-  pub slash_value_at : number_in (take i text) over number_in (take (length text - (i + 1)) (drop (i + 1) text)) ≡ numeral_value text
-  slash_value_at = sym (slash_value (take i text) (take (length text - (i + 1)) (drop (i + 1) text)) whole_front) ∙ ap numeral_value cut_there
+  pub slash_value_at : number_in (take i text) over number_in
+      (take (length text - (i + 1)) (drop (i + 1) text)) ≡ numeral_value text
+  slash_value_at = sym (slash_value (take i text) (take (length text - (i + 1)) (drop (i + 1) text)) whole_front)
+      ∙ ap numeral_value cut_there
 
-  pub slash_bad_at : (d : ℕ) → (nat_lt d (digit_count (take i text)) || nat_lt d (digit_count (take (length text - (i + 1)) (drop (i + 1) text))) || number_in (take (length text - (i + 1)) (drop (i + 1) text)) == 0) ≡ is_bad d text
-  slash_bad_at d = sym (slash_bad (take i text) (take (length text - (i + 1)) (drop (i + 1) text)) whole_front d) ∙ ap (is_bad d) cut_there
+  pub slash_bad_at : (d : ℕ) → (nat_lt d (digit_count (take i text)) || nat_lt d
+      (digit_count (take (length text - (i + 1)) (drop (i + 1) text))) || number_in
+      (take (length text - (i + 1)) (drop (i + 1) text)) == 0) ≡ is_bad d text
+  slash_bad_at d = sym (slash_bad (take i text) (take (length text - (i + 1)) (drop (i + 1) text)) whole_front d)
+      ∙ ap (is_bad d) cut_there
 
 -- no slash in front of a byte that is none either
-pub front_push : (text : List ℕ) (i : ℕ) → i < length text → list_any is_slash (take i text) ≡ false → get_or text i 0 ≢ 47 → list_any is_slash (take (i + 1) text) ≡ false
+pub front_push : (text : List ℕ) (i : ℕ) → i < length text → list_any is_slash (take i text) ≡ false
+    → get_or text i 0 ≢ 47 → list_any is_slash (take (i + 1) text) ≡ false
 front_push text i h miss other =
     let none : is_slash (get_or text i 0) ≡ false = grind (arith, nat_tests) in
     ap (list_any is_slash) (take_more text i 0 h) ∙ any_push_no is_slash (take i text) (get_or text i 0) none ∙ miss
@@ -224,7 +247,8 @@ pub all_digits : (text : List ℕ) → AllDigits 10 text → digits_in text ≡ 
 all_digits [] h = refl
 all_digits (x ∷ xs) h = rw (digit_or_not x h.0, all_digits xs h.1)
 
-pub no_sign : (p : ℕ → Bool) → ((b : ℕ) → is_ascii_digit b ≡ true → p b ≡ false) → (text : List ℕ) → AllDigits 10 text → list_any p text ≡ false
+pub no_sign : (p : ℕ → Bool) → ((b : ℕ) → is_ascii_digit b ≡ true → p b ≡ false) → (text : List ℕ) → AllDigits 10 text
+    → list_any p text ≡ false
 no_sign p f [] h = refl
 no_sign p f (x ∷ xs) h = rw (f x (digit_or_not x h.0)) (no_sign p f xs h.1)
 
@@ -238,22 +262,29 @@ pub slash_no_digit : (b : ℕ) → is_ascii_digit b ≡ true → is_slash b ≡ 
 slash_no_digit b h = grind (arith, nat_tests, h)
 
 -- bytes other than a sign, that sign, and more bytes
-pub any_none_cons : (p : ℕ → Bool) (b : ℕ) (front back : List ℕ) → p b ≡ false → list_any p front ≡ false → list_any p back ≡ false → list_any p (front ++ b ∷ back) ≡ false
+pub any_none_cons : (p : ℕ → Bool) (b : ℕ) (front back : List ℕ) → p b ≡ false → list_any p front ≡ false
+    → list_any p back ≡ false → list_any p (front ++ b ∷ back) ≡ false
 any_none_cons p b front back e f g = list_any-append p front (b ∷ back) ∙ rw (f, e, g)
 
-digits_round : (b : ℕ) (front back : List ℕ) → is_ascii_digit b ≡ false → AllDigits 10 front → AllDigits 10 back → digits_in (front ++ b ∷ back) ≡ front ++ back
-digits_round b front back e f g = filter-append is_ascii_digit front (b ∷ back) ∙ rw (e, all_digits front f, all_digits back g)
+digits_round : (b : ℕ) (front back : List ℕ) → is_ascii_digit b ≡ false → AllDigits 10 front → AllDigits 10 back
+    → digits_in (front ++ b ∷ back) ≡ front ++ back
+digits_round b front back e f g =
+    filter-append is_ascii_digit front (b ∷ back) ∙ rw (e, all_digits front f, all_digits back g)
 
 -- a decimal has no slash and no percent sign
-pub decimal_marks : (text : List ℕ) → IsDecimal text → (list_any is_slash text ≡ false) × (list_any is_percent text ≡ false)
+pub decimal_marks : (text : List ℕ) → IsDecimal text
+    → (list_any is_slash text ≡ false) × (list_any is_percent text ≡ false)
 decimal_marks text (plain n) = (no_sign is_slash slash_no_digit text n.1, no_sign is_percent percent_no_digit text n.1)
 decimal_marks text (pointed front back f g some e) = (
-  rw e (any_none_cons is_slash 46 front back refl (no_sign is_slash slash_no_digit front f) (no_sign is_slash slash_no_digit back g)),
-  rw e (any_none_cons is_percent 46 front back refl (no_sign is_percent percent_no_digit front f) (no_sign is_percent percent_no_digit back g)),
+  rw e (any_none_cons is_slash 46 front back refl (no_sign is_slash slash_no_digit front f)
+      (no_sign is_slash slash_no_digit back g)),
+  rw e (any_none_cons is_percent 46 front back refl (no_sign is_percent percent_no_digit front f)
+      (no_sign is_percent percent_no_digit back g)),
 )
 
 decimal_is : (text : List ℕ) → IsDecimal text → numeral_value text ≡ decimal_value text
-decimal_is text h = plain_value text (decimal_marks text h).0 ∙ ap (λ b. cond b (decimal_value text /ℚ whole 100) (decimal_value text)) (decimal_marks text h).1
+decimal_is text h = plain_value text (decimal_marks text h).0
+    ∙ ap (λ b. cond b (decimal_value text /ℚ whole 100) (decimal_value text)) (decimal_marks text h).1
 
 -- a percent sign behind it changes neither the digits nor the places
 percent_slash : (front : List ℕ) → IsDecimal front → list_any is_slash (front ++ 37 ∷ []) ≡ false
@@ -273,54 +304,61 @@ percent_decimal front =
 pub plain_law : (text : List ℕ) → IsNumber 10 text → numeral_value text ≡ whole (digits_value 10 text)
 plain_law text h =
     decimal_is text (plain h)
-    ∙ ap₂ (λ n k. digits_value 10 n over 10 ^ k) (all_digits text h.1) (ap digit_count (after_nothing is_point text (no_sign is_point point_no_digit text h.1)))
+    ∙ ap₂ (λ n k. digits_value 10 n over 10 ^ k) (all_digits text h.1)
+    (ap digit_count (after_nothing is_point text (no_sign is_point point_no_digit text h.1)))
 
 pub pointed_law : (front back : List ℕ) → AllDigits 10 front → AllDigits 10 back → 0 < length front + length back
     → numeral_value (front ++ 46 ∷ back) ≡ digits_value 10 (front ++ back) over 10 ^ length back
 pointed_law front back f g some =
     decimal_is (front ++ 46 ∷ back) (pointed front back f g some refl)
     ∙ ap₂ (λ n k. digits_value 10 n over 10 ^ k) (digits_round 46 front back refl f g)
-    (ap digit_count (after_none is_point front (46 ∷ back) (no_sign is_point point_no_digit front f)) ∙ ap length (all_digits back g))
+    (ap digit_count (after_none is_point front (46 ∷ back) (no_sign is_point point_no_digit front f))
+    ∙ ap length (all_digits back g))
 
-pub percent_law : (front : List ℕ) → IsDecimal front → numeral_value (front ++ 37 ∷ []) ≡ numeral_value front /ℚ whole 100
+pub percent_law : (front : List ℕ) → IsDecimal front
+    → numeral_value (front ++ 37 ∷ []) ≡ numeral_value front /ℚ whole 100
 percent_law front h =
     plain_value (front ++ 37 ∷ []) (percent_slash front h)
-    ∙ ap (λ b. cond b (decimal_value (front ++ 37 ∷ []) /ℚ whole 100) (decimal_value (front ++ 37 ∷ []))) (percent_there front)
+    ∙ ap (λ b. cond b (decimal_value (front ++ 37 ∷ []) /ℚ whole 100) (decimal_value (front ++ 37 ∷ [])))
+    (percent_there front)
     ∙ ap (λ x. x /ℚ whole 100) (percent_decimal front ∙ sym (decimal_is front h))
 
-pub fraction_law : (first second : List ℕ) → AllDigits 10 first → AllDigits 10 second → numeral_value (first ++ 47 ∷ second) ≡ digits_value 10 first over digits_value 10 second
+pub fraction_law : (first second : List ℕ) → AllDigits 10 first → AllDigits 10 second
+    → numeral_value (first ++ 47 ∷ second) ≡ digits_value 10 first over digits_value 10 second
 fraction_law first second f g =
     slash_value first second (no_sign is_slash slash_no_digit first f)
     ∙ ap₂ (λ a b. digits_value 10 a over digits_value 10 b) (all_digits first f) (all_digits second g)
 
 -- ---- when each kind is bad
 
-tested : (d n : ℕ) → nat_lt d n ≡ true → d < n
-tested d n h = grind (arith, nat_tests, h)
-
 pub decimal_bad_law : (d : ℕ) (text : List ℕ) → IsDecimal text → IsTrue (is_bad d text) ↔ (d < digit_count text)
 decimal_bad_law d text h =
     let e : is_bad d text ≡ nat_lt d (digit_count text) =
-    plain_bad d text (decimal_marks text h).0 ∙ ap (λ b. cond b (nat_lt (d - 2) (digit_count text)) (nat_lt d (digit_count text))) (decimal_marks text h).1 in
-    (λ bad. tested d _ (sym e ∙ bad), λ far. e ∙ above d _ far)
+    plain_bad d text (decimal_marks text h).0
+    ∙ ap (λ b. cond b (nat_lt (d - 2) (digit_count text)) (nat_lt d (digit_count text))) (decimal_marks text h).1 in
+    (λ bad. ltb-true d _ (sym e ∙ bad), λ far. e ∙ lt-ltb d _ far)
 
-pub percent_bad_law : (d : ℕ) (front : List ℕ) → IsDecimal front → IsTrue (is_bad d (front ++ 37 ∷ [])) ↔ (d - 2 < digit_count front)
+pub percent_bad_law : (d : ℕ) (front : List ℕ) → IsDecimal front
+    → IsTrue (is_bad d (front ++ 37 ∷ [])) ↔ (d - 2 < digit_count front)
 percent_bad_law d front h =
     let text = front ++ 37 ∷ [] in
     let e : is_bad d text ≡ nat_lt (d - 2) (digit_count front) =
     plain_bad d text (percent_slash front h)
     ∙ ap (λ b. cond b (nat_lt (d - 2) (digit_count text)) (nat_lt d (digit_count text))) (percent_there front)
     ∙ ap (λ t. nat_lt (d - 2) (length t)) (digits_push_no front 37 refl) in
-    (λ bad. tested _ _ (sym e ∙ bad), λ far. e ∙ above _ _ far)
+    (λ bad. ltb-true _ _ (sym e ∙ bad), λ far. e ∙ lt-ltb _ _ far)
 
 fraction_tests : (d m n k : ℕ) → IsTrue (nat_lt d m || nat_lt d n || k == 0) ↔ ((d < m) ⊎ (d < n) ⊎ (k ≡ 0))
 fraction_tests d m n k = (λ h. grind (arith, nat_tests, h), λ h. grind (arith, nat_tests, h))
 
 pub fraction_bad_law : (d : ℕ) (first second : List ℕ) → AllDigits 10 first → AllDigits 10 second
-    → IsTrue (is_bad d (first ++ 47 ∷ second)) ↔ ((d < length first) ⊎ (d < length second) ⊎ (digits_value 10 second ≡ 0))
+    → IsTrue (is_bad d (first ++ 47 ∷ second)) ↔
+    ((d < length first) ⊎ (d < length second) ⊎ (digits_value 10 second ≡ 0))
 fraction_bad_law d first second f g =
-    let e : is_bad d (first ++ 47 ∷ second) ≡ (nat_lt d (length first) || nat_lt d (length second) || digits_value 10 second == 0) =
+    let e : is_bad d (first ++ 47 ∷ second) ≡
+    (nat_lt d (length first) || nat_lt d (length second) || digits_value 10 second == 0) =
     slash_bad first second (no_sign is_slash slash_no_digit first f) d
-    ∙ ap₂ (λ a b. nat_lt d (length a) || nat_lt d (length b) || digits_value 10 b == 0) (all_digits first f) (all_digits second g) in
+    ∙ ap₂ (λ a b. nat_lt d (length a) || nat_lt d (length b) || digits_value 10 b == 0) (all_digits first f)
+    (all_digits second g) in
     let t = fraction_tests d (length first) (length second) (digits_value 10 second) in
     (λ bad. t.0 (sym e ∙ bad), λ far. e ∙ t.1 far)

@@ -9,7 +9,8 @@ use Rattle.std.proofs.lemmas.List.Folds.{list_any_at}
 use Rattle.std.proofs.lemmas.List.Quantifiers.{position-Some}
 use Rattle.std.proofs.lemmas.Bool.Decides.{nat_tests}
 use Rattle.dl_frac.specs.Numerals.{is_point, is_percent, is_slash, IsDecimal, plain, pointed, IsNumeral, decimal, percent, fraction}
-use Rattle.dl_frac.proofs.NumeralLaws.{cases, cut_at, before_none, after_none, before_yes, after_yes, rest_whole, digit_or_not, no_sign, point_no_digit, slash_no_digit, percent_no_digit, decimal_marks, any_push_no}
+use Rattle.dl_frac.proofs.NumeralLaws.{cases, cut_at, before_none, after_none, before_yes, after_yes, digit_or_not, no_sign, point_no_digit, slash_no_digit, percent_no_digit, decimal_marks, any_push_no}
+use Rattle.dl_exact.proofs.Lists.{rest_whole}
 
 -- ---- digits
 
@@ -20,7 +21,8 @@ pub digits_pass : (text : List ℕ) → IsTrue (list_all is_ascii_digit text) �
 digits_pass [] = (λ _. tt, λ _. refl)
 digits_pass (x ∷ xs) = one_more (is_ascii_digit x) refl (digits_pass xs)
   where
-    one_more : (b : Bool) → is_ascii_digit x ≡ b → IsTrue (list_all is_ascii_digit xs) ↔ AllDigits 10 xs → IsTrue (b && list_all is_ascii_digit xs) ↔ AllDigits 10 (x ∷ xs)
+    one_more : (b : Bool) → is_ascii_digit x ≡ b → IsTrue (list_all is_ascii_digit xs) ↔ AllDigits 10 xs
+        → IsTrue (b && list_all is_ascii_digit xs) ↔ AllDigits 10 (x ∷ xs)
     one_more true e rest = (λ h. (digit_tells x e, rest.0 h), λ h. rest.1 h.1)
     one_more false e rest = (λ h. absurd (cc), λ h. absurd (let f : false ≡ true = sym e ∙ digit_or_not x h.0 in cc))
 
@@ -51,7 +53,8 @@ no_place p text e = elim (cases (nat_lt (position_or_len p text) (length text)))
     far : (m n : ℕ) → nat_lt m n ≡ false → n ≤ m
     far m n h = grind (arith, nat_tests, h)
 
-none_before : (p : ℕ → Bool) (text : List ℕ) (i : ℕ) → i ≤ length text → ((k : ℕ) → k < i → p (get_or text k 0) ≡ false) → list_any p (take i text) ≡ false
+none_before : (p : ℕ → Bool) (text : List ℕ) (i : ℕ) → i ≤ length text
+    → ((k : ℕ) → k < i → p (get_or text k 0) ≡ false) → list_any p (take i text) ≡ false
 none_before p text zero h f = refl
 none_before p [] (suc i) h f = refl
 none_before p (x ∷ xs) (suc i) h f =
@@ -68,19 +71,24 @@ first_place p text i e =
     let s = position-Some p text i 0 (sym e) in
     record { inside = s.0; there = s.1; none = none_before p text i (omega (arith, s.0)) s.2 }
 
-before_at : (p : ℕ → Bool) (front back : List ℕ) (b : ℕ) → list_any p front ≡ false → p b ≡ true → before_first p (front ++ b ∷ back) ≡ front
-before_at p front back b h e = before_none p front (b ∷ back) h ∙ ap (λ t. front ++ t) (before_yes p b back e) ∙ append-nil front
+before_at : (p : ℕ → Bool) (front back : List ℕ) (b : ℕ) → list_any p front ≡ false → p b ≡ true
+    → before_first p (front ++ b ∷ back) ≡ front
+before_at p front back b h e =
+    before_none p front (b ∷ back) h ∙ ap (λ t. front ++ t) (before_yes p b back e) ∙ append-nil front
 
-after_at : (p : ℕ → Bool) (front back : List ℕ) (b : ℕ) → list_any p front ≡ false → p b ≡ true → after_first p (front ++ b ∷ back) ≡ back
+after_at : (p : ℕ → Bool) (front back : List ℕ) (b : ℕ) → list_any p front ≡ false → p b ≡ true
+    → after_first p (front ++ b ∷ back) ≡ back
 after_at p front back b h e = after_none p front (b ∷ back) h ∙ after_yes p b back e
 
 -- a text is cut in one way at its first sign
-front_is : (p : ℕ → Bool) (text : List ℕ) (i : ℕ) → FirstPlace p text i → (front back : List ℕ) (b : ℕ) → list_any p front ≡ false → p b ≡ true → text ≡ front ++ b ∷ back → take i text ≡ front
+front_is : (p : ℕ → Bool) (text : List ℕ) (i : ℕ) → FirstPlace p text i → (front back : List ℕ) (b : ℕ)
+    → list_any p front ≡ false → p b ≡ true → text ≡ front ++ b ∷ back → take i text ≡ front
 front_is p text i f front back b h e cut =
     sym (before_at p (take i text) (drop (i + 1) text) (get_or text i 0) f.none f.there)
     ∙ ap (before_first p) (sym (cut_at text i f.inside) ∙ cut) ∙ before_at p front back b h e
 
-back_is : (p : ℕ → Bool) (text : List ℕ) (i : ℕ) → FirstPlace p text i → (front back : List ℕ) (b : ℕ) → list_any p front ≡ false → p b ≡ true → text ≡ front ++ b ∷ back → drop (i + 1) text ≡ back
+back_is : (p : ℕ → Bool) (text : List ℕ) (i : ℕ) → FirstPlace p text i → (front back : List ℕ) (b : ℕ)
+    → list_any p front ≡ false → p b ≡ true → text ≡ front ++ b ∷ back → drop (i + 1) text ≡ back
 back_is p text i f front back b h e cut =
     sym (after_at p (take i text) (drop (i + 1) text) (get_or text i 0) f.none f.there)
     ∙ ap (after_first p) (sym (cut_at text i f.inside) ∙ cut) ∙ after_at p front back b h e
@@ -88,7 +96,8 @@ back_is p text i f front back b h e cut =
 sign_is : (b s : ℕ) → (b == s) ≡ true → b ≡ s
 sign_is b s h = grind (arith, nat_tests, h)
 
-cut_sign : (s : ℕ) (text : List ℕ) (i : ℕ) → FirstPlace (λ b. b == s) text i → text ≡ take i text ++ s ∷ drop (i + 1) text
+cut_sign : (s : ℕ) (text : List ℕ) (i : ℕ) → FirstPlace (λ b. b == s) text i
+    → text ≡ take i text ++ s ∷ drop (i + 1) text
 cut_sign s text i f = cut_at text i f.inside ∙ ap (λ b. take i text ++ b ∷ drop (i + 1) text) (sign_is _ s f.there)
 
 there_any : (p : ℕ → Bool) (text : List ℕ) (i : ℕ) → FirstPlace p text i → list_any p text ≡ true
@@ -104,7 +113,8 @@ any_at p b h [] back = rw h
 any_at p b h (x ∷ xs) back = elim (cases (p x)) [ inl hit ↦ rw hit | inr miss ↦ rw miss (any_at p b h xs back) ]
 
 module _ (text : List ℕ) (i : ℕ) (f : FirstPlace is_point text i) where
-  pub pointed_there : 1 < length text → AllDigits 10 (take i text) → AllDigits 10 (take (length text - (i + 1)) (drop (i + 1) text)) → IsDecimal text
+  pub pointed_there : 1 < length text → AllDigits 10 (take i text)
+      → AllDigits 10 (take (length text - (i + 1)) (drop (i + 1) text)) → IsDecimal text
   pointed_there long a b =
       let front = take i text in
       let back = drop (i + 1) text in
@@ -112,8 +122,10 @@ module _ (text : List ℕ) (i : ℕ) (f : FirstPlace is_point text i) where
       let size : length text ≡ length front + length (46 ∷ back) = ap length cut ∙ length-append front (46 ∷ back) in
       pointed front back a (subst (AllDigits 10) (rest_whole text (i + 1)) b) (omega (arith, size, long)) cut
 
-  pub pointed_back : IsDecimal text → (1 < length text) × AllDigits 10 (take i text) × AllDigits 10 (take (length text - (i + 1)) (drop (i + 1) text))
-  pointed_back (plain n) = clash (list_any is_point text) (there_any is_point text i f) (no_sign is_point point_no_digit text n.1)
+  pub pointed_back : IsDecimal text → (1 < length text) × AllDigits 10 (take i text) × AllDigits 10
+      (take (length text - (i + 1)) (drop (i + 1) text))
+  pointed_back (plain n) =
+      clash (list_any is_point text) (there_any is_point text i f) (no_sign is_point point_no_digit text n.1)
   pointed_back (pointed front back a b some cut) =
       let none = no_sign is_point point_no_digit front a in
       let size : length text ≡ length front + length (46 ∷ back) = ap length cut ∙ length-append front (46 ∷ back) in (
@@ -129,15 +141,15 @@ unpointed text none (pointed front back a b some cut) =
 
 -- ---- numerals
 
-no_percent : (text : List ℕ) → AllDigits 10 text → list_any is_percent text ≡ false
-no_percent text h = no_sign is_percent percent_no_digit text h
-
 module _ (text : List ℕ) (i : ℕ) (f : FirstPlace is_slash text i) where
-  pub fraction_there : IsNumber 10 (take i text) → IsNumber 10 (take (length text - (i + 1)) (drop (i + 1) text)) → IsNumeral text
+  pub fraction_there : IsNumber 10 (take i text) → IsNumber 10 (take (length text - (i + 1)) (drop (i + 1) text))
+      → IsNumeral text
   fraction_there a b =
-      fraction (take i text) (drop (i + 1) text) a (subst (IsNumber 10) (rest_whole text (i + 1)) b) (cut_sign 47 text i f)
+      fraction (take i text) (drop (i + 1) text) a (subst (IsNumber 10) (rest_whole text (i + 1)) b)
+      (cut_sign 47 text i f)
 
-  pub fraction_back : IsNumeral text → IsNumber 10 (take i text) × IsNumber 10 (take (length text - (i + 1)) (drop (i + 1) text))
+  pub fraction_back : IsNumeral text → IsNumber 10 (take i text) × IsNumber 10
+      (take (length text - (i + 1)) (drop (i + 1) text))
   fraction_back (decimal d) = clash (list_any is_slash text) (there_any is_slash text i f) (decimal_marks text d).0
   fraction_back (percent front d cut) =
       clash (list_any is_slash text) (there_any is_slash text i f)
@@ -152,14 +164,17 @@ module _ (text : List ℕ) (i : ℕ) (f : FirstPlace is_slash text i) where
 same_front : (xs ys : List ℕ) (b : ℕ) → xs ++ b ∷ [] ≡ ys ++ b ∷ [] → xs ≡ ys
 same_front xs ys b e = append_cancel_right xs ys (b ∷ []) e
 
-pub percent_back : (text front : List ℕ) → list_any is_slash text ≡ false → text ≡ front ++ 37 ∷ [] → IsNumeral text → IsDecimal front
+pub percent_back : (text front : List ℕ) → list_any is_slash text ≡ false → text ≡ front ++ 37 ∷ [] → IsNumeral text
+    → IsDecimal front
 percent_back text front none cut (decimal d) =
-    clash (list_any is_percent text) (ap (list_any is_percent) cut ∙ any_at is_percent 37 refl front []) (decimal_marks text d).1
+    clash (list_any is_percent text) (ap (list_any is_percent) cut ∙ any_at is_percent 37 refl front [])
+    (decimal_marks text d).1
 percent_back text front none cut (percent other d same) = subst IsDecimal (same_front other front 37 (sym same ∙ cut)) d
 percent_back text front none cut (fraction first second a b same) =
     clash (list_any is_slash text) (ap (list_any is_slash) same ∙ any_at is_slash 47 refl first second) none
 
-pub decimal_back : (text : List ℕ) → list_any is_slash text ≡ false → ((front : List ℕ) → text ≡ front ++ 37 ∷ [] → ⊥) → IsNumeral text → IsDecimal text
+pub decimal_back : (text : List ℕ) → list_any is_slash text ≡ false → ((front : List ℕ) → text ≡ front ++ 37 ∷ [] → ⊥)
+    → IsNumeral text → IsDecimal text
 decimal_back text none other (decimal d) = d
 decimal_back text none other (percent front d same) = absurd (other front same)
 decimal_back text none other (fraction first second a b same) =

@@ -1,15 +1,16 @@
 -- Which fractions a `Frac` holds, and what a call of one answers.
 use Rattle.std.specs.Prelude.{◌≡◌, ◌⊎◌, ◌^◌, ◌<◌, ◌≤◌, Result, MatchResult}
+use Rattle.dl_limits.specs.Limits.{frac_bound}
 use Rattle.dl_exact.specs.Fraction.{Fraction}
 
 -- both parts are below 2^62
 pub record FitsFrac (x : Fraction) : Type 0 where
-  pub num : x.num < 2 ^ 62
-  pub den : x.den < 2 ^ 62
+  pub num : x.num < frac_bound
+  pub den : x.den < frac_bound
 
 -- a part is 2^62 or more
 abbrev pub IsTooFine : Fraction → Type 0
-IsTooFine x = (2 ^ 62 ≤ x.num) ⊎ (2 ^ 62 ≤ x.den)
+IsTooFine x = (frac_bound ≤ x.num) ⊎ (frac_bound ≤ x.den)
 
 -- the call answers x itself where it fits, and an error where x is too fine
 abbrev pub Gives : {E : Type 0} → Result Fraction E → Fraction → Type 0

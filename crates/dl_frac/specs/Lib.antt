@@ -1,4 +1,3 @@
 pub mod Exact
-pub mod Multiples
 pub mod Numerals
 pub mod Reads

@@ -1,4 +1,5 @@
--- Numerals: how they are spelled, what they are worth, and when they are bad. 37 is `%`, 46 is `.` and 47 is `/`.
+-- Numerals: how they are spelled, what they are worth, and when they are bad. 37 is `%`, 46 is `.`
+-- and 47 is `/`.
 use Rattle.std.specs.Prelude.{ℕ, ◌≡◌, ◌+◌, ◌-◌, ◌^◌, ◌<◌, Bool, ◌==◌, ◌||◌, nat_lt, if◌then◌else◌, List, [], ◌∷◌, ◌++◌, length}
 use Rattle.std.specs.List.{filter, list_any, before_first, after_first}
 use Rattle.std.specs.Char.{is_ascii_digit}
@@ -8,13 +9,15 @@ use Rattle.dl_exact.specs.Fraction.{Fraction, whole, ◌over◌, ◌/ℚ◌}
 -- digits; or a point with digits in front of it, behind it, or both
 pub data IsDecimal (text : List ℕ) : Type 0 where
   plain : IsNumber 10 text → IsDecimal text
-  pointed : (front back : List ℕ) → AllDigits 10 front → AllDigits 10 back → 0 < length front + length back → text ≡ front ++ 46 ∷ back → IsDecimal text
+  pointed : (front back : List ℕ) → AllDigits 10 front → AllDigits 10 back
+      → 0 < length front + length back → text ≡ front ++ 46 ∷ back → IsDecimal text
 
 -- a decimal; a decimal and a percent sign; or digits, a slash and digits
 pub data IsNumeral (text : List ℕ) : Type 0 where
   decimal : IsDecimal text → IsNumeral text
   percent : (front : List ℕ) → IsDecimal front → text ≡ front ++ 37 ∷ [] → IsNumeral text
-  fraction : (first second : List ℕ) → IsNumber 10 first → IsNumber 10 second → text ≡ first ++ 47 ∷ second → IsNumeral text
+  fraction : (first second : List ℕ) → IsNumber 10 first → IsNumber 10 second
+      → text ≡ first ++ 47 ∷ second → IsNumeral text
 
 -- the three signs
 abbrev pub is_percent : ℕ → Bool
@@ -47,7 +50,8 @@ decimal_value text = number_in text over 10 ^ places_in text
 -- a fraction is its first number over its second, and a percent is its decimal divided by 100
 unfoldable pub numeral_value : List ℕ → Fraction
 numeral_value text =
-    if list_any is_slash text then number_in (before_first is_slash text) over number_in (after_first is_slash text)
+    if list_any is_slash text then number_in (before_first is_slash text) over number_in
+    (after_first is_slash text)
     else if list_any is_percent text then decimal_value text /ℚ whole 100
     else decimal_value text
 
@@ -55,6 +59,7 @@ numeral_value text =
 unfoldable pub is_bad : ℕ → List ℕ → Bool
 is_bad d text =
     if list_any is_slash text then
-    nat_lt d (digit_count (before_first is_slash text)) || nat_lt d (digit_count (after_first is_slash text)) || number_in (after_first is_slash text) == 0
+    nat_lt d (digit_count (before_first is_slash text)) || nat_lt d
+    (digit_count (after_first is_slash text)) || number_in (after_first is_slash text) == 0
     else if list_any is_percent text then nat_lt (d - 2) (digit_count text)
     else nat_lt d (digit_count text)

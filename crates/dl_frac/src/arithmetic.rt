@@ -2,12 +2,14 @@
 
 ghost use Rattle.std.specs.Prelude.{◌≡◌, ℕ, ◌*◌, ◌<◌, ◌≤◌, ◌^◌, ◌↔◌};
 ghost use Rattle.std.specs.Ordering.{MatchOrdering};
+ghost use Rattle.dl_limits.specs.Limits.{frac_bound};
 ghost use Rattle.dl_exact.specs.Gcd.{gcd};
 ghost use Rattle.dl_exact.specs.Fraction.{Fraction, whole, ◌over◌, ◌+ℚ◌, ◌*ℚ◌, ◌/ℚ◌, ◌<ℚ◌};
 ghost use Rattle.dl_exact.specs.Rounding.{IsFloor, IsCeiling};
 ghost use Rattle.dl_frac.specs.Exact.{Gives};
 
 use crate::divisors::{divisor, wide_divisor};
+use dl_limits::FRAC_BOUND;
 use std::cmp::Ordering;
 use std::marker::Model;
 use thiserror::Error;
@@ -27,6 +29,7 @@ pub struct Frac {
 }
 
 impl Model for Frac {
+    ghost use Rattle.dl_limits.specs.Limits.{frac_bound};
     ghost use Rattle.std.specs.Prelude.{◌<◌, ◌^◌};
     ghost use Rattle.dl_exact.specs.Fraction.{Fraction};
 
@@ -36,7 +39,7 @@ impl Model for Frac {
 
     ghost inverse = { λ x. record { num = x.num; den = x.den; positive = x.positive; lowest = x.lowest } };
 
-    ghost invariant = { λ f. (f.num < 2 ^ 62) × (f.den < 2 ^ 62) };
+    ghost invariant = { λ f. (f.num < frac_bound) × (f.den < frac_bound) };
 }
 
 impl Frac {
@@ -44,7 +47,7 @@ impl Frac {
     pub fn num(self) -> u64
         ensures part { result ≡ self.num }
         ensures above { (0 < result) ↔ (whole 0 <ℚ self) }
-        ensures fits { result < 2 ^ 62 }
+        ensures fits { result < frac_bound }
     {
         self.num
     }
@@ -53,7 +56,7 @@ impl Frac {
     pub fn den(self) -> u64
         ensures part { result ≡ self.den }
         ensures positive { 0 < result }
-        ensures fits { result < 2 ^ 62 }
+        ensures fits { result < frac_bound }
     {
         self.den
     }
@@ -72,7 +75,8 @@ impl Frac {
     pub fn add(self, o: Frac) -> Result<Frac, TooFine>
         ensures { Gives result (self +ℚ o) }
     {
-        // A divisor that the sum's parts share divides both denominators, so one more step reduces it.
+        // A divisor that the sum's parts share divides both denominators, so one more step reduces
+        // it.
         let shared = divisor(self.den, o.den);
         let left = self.num as u128 * (o.den / shared) as u128;
         let right = o.num as u128 * (self.den / shared) as u128;
@@ -90,8 +94,8 @@ impl Frac {
         product(self.num, self.den, o.num, o.den)
     }
 
-    /// The quotient by `o`, which is above 0. `TooFine` exactly where a part of it in lowest terms is
-    /// 2^62 or more.
+    /// The quotient by `o`, which is above 0. `TooFine` exactly where a part of it in lowest terms
+    /// is 2^62 or more.
     pub fn div(self, o: Frac) -> Result<Frac, TooFine>
         requires { whole 0 <ℚ o }
         ensures { Gives result (self /ℚ o) }
@@ -125,8 +129,8 @@ impl Frac {
     }
 }
 
-/// `a` over `b` times `c` over `d`, both in lowest terms: cut across first, the product is in lowest
-/// terms.
+/// `a` over `b` times `c` over `d`, both in lowest terms: cut across first, the product is in
+/// lowest terms.
 fn product(a: u64, b: u64, c: u64, d: u64) -> Result<Frac, TooFine>
     requires left { 0 < b }
     requires right { 0 < d }
@@ -148,7 +152,7 @@ fn fit(num: u128, den: u128) -> Result<Frac, TooFine>
     requires lowest { gcd num den ≡ 1 }
     ensures { Gives result (num over den) }
 {
-    if num < 1 << 62 && den < 1 << 62 {
+    if num < FRAC_BOUND && den < FRAC_BOUND {
         Ok(Frac {
             num: num as u64,
             den: den as u64,
@@ -161,8 +165,8 @@ fn fit(num: u128, den: u128) -> Result<Frac, TooFine>
 /// Two small numbers, the second above 0, as a fraction.
 pub(crate) fn reduced(num: u64, den: u64) -> Frac
     requires positive { 0 < den }
-    requires small_num { num < 2 ^ 62 }
-    requires small_den { den < 2 ^ 62 }
+    requires small_num { num < frac_bound }
+    requires small_den { den < frac_bound }
     ensures { result ≡ num over den }
 {
     let common = divisor(num, den);

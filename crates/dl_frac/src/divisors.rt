@@ -3,7 +3,7 @@
 ghost use Rattle.std.specs.Prelude.{◌≡◌, ◌<◌, ◌≤◌};
 ghost use Rattle.std.specs.Option.{SomeIff};
 ghost use Rattle.dl_exact.specs.Gcd.{gcd};
-ghost use Rattle.dl_frac.specs.Multiples.{lcm};
+ghost use Rattle.dl_exact.specs.Multiples.{lcm};
 
 /// The greatest common divisor, by Euclid's steps.
 pub(crate) fn divisor(a: u64, b: u64) -> u64
@@ -18,6 +18,13 @@ pub(crate) fn divisor(a: u64, b: u64) -> u64
         y = rest;
     }
     x
+}
+
+/// The greatest common divisor of numbers below 2^32.
+pub fn small_divisor(a: u32, b: u32) -> u32
+    ensures { result ≡ gcd a b }
+{
+    divisor(a as u64, b as u64) as u32
 }
 
 /// The greatest common divisor of wide numbers: wide steps only until the second fits 64 bits.
@@ -39,7 +46,7 @@ pub(crate) fn wide_divisor(a: u128, b: u128) -> u128
 }
 
 /// The least common multiple of two numbers above 0; `None` exactly where it passes `limit`.
-#[tactic(auto, unfolding(crate::specs::Multiples::lcm))]
+#[tactic(auto, unfolding(dl_exact::specs::Multiples::lcm))]
 pub fn lcm_to(a: u64, b: u64, limit: u64) -> Option<u64>
     requires first { 0 < a }
     requires second { 0 < b }

@@ -1,11 +1,11 @@
-//! What follows from the definitions alone. Nothing here runs: each law is the contract of a function
-//! with an empty body.
+//! What follows from the definitions alone. Nothing here runs: each law is the contract of a
+//! function with an empty body.
 
 ghost use Rattle.std.specs.Prelude.{◌≡◌, ◌⊎◌, ℕ, List, [], ◌∷◌, ◌++◌, length, ◌+◌, ◌-◌, ◌^◌, ◌<◌, ◌↔◌, IsTrue};
 ghost use Rattle.std.specs.Str.Parse.{AllDigits, IsNumeral as IsNumber, digits_value};
 ghost use Rattle.dl_exact.specs.Fraction.{Fraction, whole, ◌over◌, ◌/ℚ◌};
 ghost use Rattle.dl_frac.specs.Exact.{FitsFrac, IsTooFine};
-ghost use Rattle.dl_frac.specs.Multiples.{IsLcm, lcm};
+ghost use Rattle.dl_exact.specs.Multiples.{IsLcm, lcm};
 ghost use Rattle.dl_frac.specs.Numerals.{IsDecimal, numeral_value, is_bad, digit_count};
 
 /// Each fraction either fits or is too fine, and never both.
@@ -22,18 +22,25 @@ pub fn law_lcm()
 
 /// The value of each kind of numeral by its parts; 46 is `.`, 37 is `%` and 47 is `/`.
 pub fn law_numeral_values()
-    ensures plain { (text : List ℕ) → IsNumber 10 text → numeral_value text ≡ whole (digits_value 10 text) }
-    ensures pointed { (front back : List ℕ) → AllDigits 10 front → AllDigits 10 back → 0 < length front + length back
-        → numeral_value (front ++ 46 ∷ back) ≡ digits_value 10 (front ++ back) over 10 ^ length back }
-    ensures percent { (front : List ℕ) → IsDecimal front → numeral_value (front ++ 37 ∷ []) ≡ numeral_value front /ℚ whole 100 }
+    ensures plain { (text : List ℕ) → IsNumber 10 text
+        → numeral_value text ≡ whole (digits_value 10 text) }
+    ensures pointed { (front back : List ℕ) → AllDigits 10 front → AllDigits 10 back
+        → 0 < length front + length back
+        → numeral_value (front ++ 46 ∷ back)
+        ≡ digits_value 10 (front ++ back) over 10 ^ length back }
+    ensures percent { (front : List ℕ) → IsDecimal front
+        → numeral_value (front ++ 37 ∷ []) ≡ numeral_value front /ℚ whole 100 }
     ensures fraction { (first second : List ℕ) → AllDigits 10 first → AllDigits 10 second
         → numeral_value (first ++ 47 ∷ second) ≡ digits_value 10 first over digits_value 10 second }
 {}
 
 /// When each kind of numeral is bad with a limit of `d` digits.
 pub fn law_bad_numerals()
-    ensures decimal { (d : ℕ) (text : List ℕ) → IsDecimal text → IsTrue (is_bad d text) ↔ (d < digit_count text) }
-    ensures percent { (d : ℕ) (front : List ℕ) → IsDecimal front → IsTrue (is_bad d (front ++ 37 ∷ [])) ↔ (d - 2 < digit_count front) }
+    ensures decimal { (d : ℕ) (text : List ℕ) → IsDecimal text
+        → IsTrue (is_bad d text) ↔ (d < digit_count text) }
+    ensures percent { (d : ℕ) (front : List ℕ) → IsDecimal front
+        → IsTrue (is_bad d (front ++ 37 ∷ [])) ↔ (d - 2 < digit_count front) }
     ensures fraction { (d : ℕ) (first second : List ℕ) → AllDigits 10 first → AllDigits 10 second
-        → IsTrue (is_bad d (first ++ 47 ∷ second)) ↔ ((d < length first) ⊎ (d < length second) ⊎ (digits_value 10 second ≡ 0)) }
+        → IsTrue (is_bad d (first ++ 47 ∷ second))
+        ↔ ((d < length first) ⊎ (d < length second) ⊎ (digits_value 10 second ≡ 0)) }
 {}

@@ -13,7 +13,7 @@ mod spelling;
 mod tests;
 
 pub use arithmetic::{Frac, TooFine};
-pub use divisors::lcm_to;
+pub use divisors::{lcm_to, small_divisor};
 pub use laws::{law_bad_numerals, law_fits, law_lcm, law_numeral_values};
 pub use numerals::{BadNumeral, numeral};
 pub use spelling::is_numeral;

@@ -1,6 +1,7 @@
 //! Numerals and their values.
 
 ghost use Rattle.std.specs.Prelude.{◌≡◌, ◌<◌, ◌≤◌, ◌+◌, ◌-◌, ◌^◌, ◌∷◌, [], ◌++◌, ◌↔◌, ℕ, List, IfOk, OnErr, IsErr, IsTrue, ◌||◌, ◌==◌, nat_lt, cond};
+ghost use Rattle.dl_limits.specs.Limits.{frac_bound};
 ghost use Rattle.dl_exact.specs.Fraction.{whole, ◌over◌, ◌/ℚ◌};
 ghost use Rattle.std.specs.List.{list_any};
 ghost use Rattle.dl_frac.specs.Numerals.{is_percent, digit_count, number_in, decimal_value, numeral_value, is_bad, IsNumeral};
@@ -15,8 +16,9 @@ use thiserror::Error;
 #[error("the numeral has too many digits, or is a fraction over 0")]
 pub struct BadNumeral;
 
-/// The value of a numeral with a limit of `digits` digits, which is 2 lower for a percent and holds for
-/// each part of a fraction. `BadNumeral` exactly where the limit is passed, or a second part is 0.
+/// The value of a numeral with a limit of `digits` digits, which is 2 lower for a percent and holds
+/// for each part of a fraction. `BadNumeral` exactly where the limit is passed, or a second part is
+/// 0.
 pub fn numeral(text: &[u8], digits: u32) -> Result<Frac, BadNumeral>
     requires spelled { IsNumeral text.now }
     requires limit { digits ≤ 11 }
@@ -35,10 +37,11 @@ pub fn numeral(text: &[u8], digits: u32) -> Result<Frac, BadNumeral>
 
 /// `first` over the number of a text.
 fn ratio(first: u64, text: &[u8], digits: u32) -> Result<Frac, BadNumeral>
-    requires small { first < 2 ^ 62 }
+    requires small { first < frac_bound }
     requires limit { digits ≤ 11 }
     ensures value { IfOk result (λ value. value ≡ first over number_in text.now) }
-    ensures bad { IsErr result ↔ IsTrue (nat_lt digits (digit_count text.now) || number_in text.now == 0) }
+    ensures bad { IsErr result ↔ IsTrue
+        (nat_lt digits (digit_count text.now) || number_in text.now == 0) }
 {
     let mut read = Reading::new();
     'bytes: for &byte in text {
@@ -67,8 +70,10 @@ impl Reading {
     /// One more byte is read; `BadNumeral` where it is a digit that passes the limit.
     fn push(self, byte: u8, limit: u32) -> Result<Reading, BadNumeral>
         requires { limit ≤ 11 }
-        ensures ok { IfOk result (λ next. (text : List ℕ) → Reads limit text self → Reads limit (text ++ byte ∷ []) next) }
-        ensures err { OnErr result ((text : List ℕ) → Reads limit text self → limit < digit_count (text ++ byte ∷ [])) }
+        ensures ok { IfOk result (λ next. (text : List ℕ) → Reads limit text self
+            → Reads limit (text ++ byte ∷ []) next) }
+        ensures err { OnErr result ((text : List ℕ) → Reads limit text self
+            → limit < digit_count (text ++ byte ∷ [])) }
     {
         let mut next = self;
         match byte {
@@ -84,8 +89,10 @@ impl Reading {
     fn push_digit(self, digit: u8, limit: u32) -> Result<Reading, BadNumeral>
         requires digit { digit < 10 }
         requires limit { limit ≤ 11 }
-        ensures ok { IfOk result (λ next. (text : List ℕ) → Reads limit text self → Reads limit (text ++ (48 + digit) ∷ []) next) }
-        ensures err { OnErr result ((text : List ℕ) → Reads limit text self → limit < digit_count (text ++ (48 + digit) ∷ [])) }
+        ensures ok { IfOk result (λ next. (text : List ℕ) → Reads limit text self
+            → Reads limit (text ++ (48 + digit) ∷ []) next) }
+        ensures err { OnErr result ((text : List ℕ) → Reads limit text self
+            → limit < digit_count (text ++ (48 + digit) ∷ [])) }
     {
         if self.digits >= limit {
             return Err(BadNumeral);
@@ -106,8 +113,12 @@ impl Reading {
 
     /// The value of a decimal or a percent.
     fn decimal(self, limit: u32) -> Result<Frac, BadNumeral>
-        ensures ok { (text : List ℕ) → Reads limit text self → IfOk result (λ value. value ≡ cond (list_any is_percent text) (decimal_value text /ℚ whole 100) (decimal_value text)) }
-        ensures bad { (text : List ℕ) → Reads limit text self → IsErr result ↔ IsTrue (cond (list_any is_percent text) (nat_lt (limit - 2) (digit_count text)) (nat_lt limit (digit_count text))) }
+        ensures ok { (text : List ℕ) → Reads limit text self
+            → IfOk result (λ value. value ≡ cond (list_any is_percent text)
+            (decimal_value text /ℚ whole 100) (decimal_value text)) }
+        ensures bad { (text : List ℕ) → Reads limit text self
+            → IsErr result ↔ IsTrue (cond (list_any is_percent text)
+            (nat_lt (limit - 2) (digit_count text)) (nat_lt limit (digit_count text))) }
     {
         if self.percent {
             if self.digits > limit.saturating_sub(2) {

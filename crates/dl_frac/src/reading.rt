@@ -2,7 +2,8 @@
 
 ghost use Rattle.std.specs.Prelude.{◌<◌, ◌≤◌, ◌^◌};
 
-/// What the bytes of a numeral have shown so far: at most 11 digits, and numbers that they can write.
+/// What the bytes of a numeral have shown so far: at most 11 digits, and numbers that they can
+/// write.
 #[derive(Clone, Copy)]
 pub(crate) struct Reading {
     /// The number of the digits, without the point.

@@ -1,6 +1,6 @@
 //! Values worked outside the program, by exact fractions.
 
-use crate::{Frac, TooFine, is_numeral, lcm_to, numeral};
+use crate::{Frac, TooFine, is_numeral, lcm_to, numeral, small_divisor};
 use std::cmp::Ordering;
 
 const TOP: u64 = (1 << 62) - 1;
@@ -158,6 +158,11 @@ fn made_and_scaled(rt: HostRuntime) {
             assert_eq!(rt; x.ceil_scaled::<56>(), ceiling);
         }
     }
+    assert_eq!(rt; small_divisor(12, 18), 6);
+    assert_eq!(rt; small_divisor(7, 0), 7);
+    assert_eq!(rt; small_divisor(0, 7), 7);
+    assert_eq!(rt; small_divisor(0, 0), 0);
+    assert_eq!(rt; small_divisor(u32::MAX, 65_537), 65_537);
     assert_eq!(rt; lcm_to(4, 6, 12), Some(12));
     assert_eq!(rt; lcm_to(4, 6, 11), None);
     assert_eq!(rt; lcm_to(1 << 63, 1 << 62, 1 << 63), Some(1 << 63));

@@ -28,10 +28,12 @@ ceiling_apart d q m h =
 
 -- n / e whole units, of which d make 1, are at most n units of which e * d make 1
 pub round_down : (n e d : ℕ) (x : Fraction) → 0 < e → 0 < d → n over (e * d) ≤ℚ x → (n / e) over d ≤ℚ x
-round_down n e d x he hd p = chain _ _ _ (over_le _ _ _ _ hd (mul-pos he hd) (omega (arith, mul-le-mul_right d (div-mul-le_self n e)))) p
+round_down n e d x he hd p =
+    chain _ _ _ (over_le _ _ _ _ hd (mul-pos he hd) (omega (arith, mul-le-mul_right d (div-mul-le_self n e)))) p
 
 pub round_up : (n e d : ℕ) (x : Fraction) → 0 < e → 0 < d → x ≤ℚ n over (e * d) → x ≤ℚ div_ceil n e over d
-round_up n e d x he hd p = chain _ _ _ p (over_le _ _ _ _ (mul-pos he hd) hd (omega (arith, mul-le-mul_right d (ceiling_reaches n e he))))
+round_up n e d x he hd p =
+    chain _ _ _ p (over_le _ _ _ _ (mul-pos he hd) hd (omega (arith, mul-le-mul_right d (ceiling_reaches n e he))))
 
 -- a product divided in two: the whole part of the first number apart
 step : (n d f : ℕ) → d * (n / d * f) + n % d * f ≡ n * f
@@ -50,7 +52,8 @@ two_steps n d f s = omega (arith, ap (λ t. t * (f * s)) (div-add-mod n d), ap (
 pub floor_by_steps : (n d f s : ℕ) → 0 < d → f * s * n / d ≡ (n / d * f + n % d * f / d) * s + n % d * f % d * s / d
 floor_by_steps n d f s h = ap (λ t. t / d) (sym (two_steps n d f s)) ∙ floor_apart d _ (n % d * f % d * s) h
 
-pub ceiling_by_steps : (n d f s : ℕ) → 0 < d → div_ceil (f * s * n) d ≡ (n / d * f + n % d * f / d) * s + div_ceil (n % d * f % d * s) d
+pub ceiling_by_steps : (n d f s : ℕ) → 0 < d
+    → div_ceil (f * s * n) d ≡ (n / d * f + n % d * f / d) * s + div_ceil (n % d * f % d * s) d
 ceiling_by_steps n d f s h = ap (λ t. div_ceil t d) (sym (two_steps n d f s)) ∙ ceiling_apart d _ (n % d * f % d * s) h
 
 -- 2 is at most the units of 1

@@ -1,5 +1,5 @@
 -- What it is that an interval holds a fraction.
-use Rattle.std.specs.Prelude.{ℕ, List, [], ◌∷◌, ◌*◌, ◌^◌, min}
+use Rattle.std.specs.Prelude.{ℕ, List, [], ◌∷◌, ◌^◌}
 use Rattle.dl_exact.specs.Fraction.{Fraction, ◌over◌, ◌≤ℚ◌}
 use Rattle.dl_iv.specs.declared.interval.Iv.{Iv}
 
@@ -13,7 +13,3 @@ pub data EachLiesIn {B : ℕ} : List Fraction → List (Iv B) → Type 0 where
   nothing : EachLiesIn [] []
   then : {x : Fraction} {xs : List Fraction} {interval : Iv B} {intervals : List (Iv B)}
       → LiesIn x interval → EachLiesIn xs intervals → EachLiesIn (x ∷ xs) (interval ∷ intervals)
-
--- the lesser of two fractions
-unfoldable pub lesser : Fraction → Fraction → Fraction
-lesser x y = min (x.num * y.den) (y.num * x.den) over (x.den * y.den)

@@ -1,12 +1,12 @@
 ghost use Rattle.std.specs.Prelude.{◌≡◌, ℕ, ◌+◌, ◌-◌, ◌^◌, ◌≤◌, min, List, sum_by};
-ghost use Rattle.dl_exact.specs.Fraction.{Fraction, whole, ◌over◌, ◌+ℚ◌, ◌-ℚ◌, ◌≤ℚ◌};
+ghost use Rattle.dl_exact.specs.Fraction.{Fraction, whole, ◌over◌, ◌+ℚ◌, ◌-ℚ◌, ◌≤ℚ◌, lesser};
 ghost use Rattle.dl_exact.specs.Sum.{sum_over};
-ghost use Rattle.dl_iv.specs.Enclosure.{LiesIn, EachLiesIn, lesser};
+ghost use Rattle.dl_iv.specs.Enclosure.{LiesIn, EachLiesIn};
 
 use crate::interval::Iv;
 
 /// How many units make 1 at the scale `bits`.
-pub(crate) fn units_of_one(bits: u32) -> u128
+pub fn units_of_one(bits: u32) -> u128
     requires { bits ≤ 56 }
     ensures { result ≡ 2 ^ bits }
 {
@@ -35,7 +35,8 @@ impl<const B: u32> Iv<B> {
         requires fits { self.hi + o.hi ≤ 2 ^ 127 }
         ensures low { result.lo ≡ self.entry.lo + o.entry.lo }
         ensures high { result.hi ≡ self.entry.hi + o.entry.hi }
-        ensures holds { (x y : Fraction) → LiesIn x self.entry → LiesIn y o.entry → LiesIn (x +ℚ y) result }
+        ensures holds { (x y : Fraction) → LiesIn x self.entry → LiesIn y o.entry
+            → LiesIn (x +ℚ y) result }
     {
         Iv {
             lo: self.lo + o.lo,
@@ -47,7 +48,8 @@ impl<const B: u32> Iv<B> {
     pub fn sub_floor0(self, o: Self) -> Self
         ensures low { result.lo ≡ self.entry.lo - o.entry.hi }
         ensures high { result.hi ≡ self.entry.hi - o.entry.lo }
-        ensures holds { (x y : Fraction) → LiesIn x self.entry → LiesIn y o.entry → LiesIn (x -ℚ y) result }
+        ensures holds { (x y : Fraction) → LiesIn x self.entry → LiesIn y o.entry
+            → LiesIn (x -ℚ y) result }
     {
         Iv {
             lo: self.lo.saturating_sub(o.hi),
@@ -72,7 +74,8 @@ impl<const B: u32> Iv<B> {
     pub fn clamp_to(self, top: u128) -> Self
         ensures low { result.lo ≡ min self.entry.lo top }
         ensures high { result.hi ≡ min self.entry.hi top }
-        ensures holds { (x : Fraction) → LiesIn x self.entry → LiesIn (lesser x (top over 2 ^ B)) result }
+        ensures holds { (x : Fraction) → LiesIn x self.entry
+            → LiesIn (lesser x (top over 2 ^ B)) result }
     {
         Iv {
             lo: self.lo.min(top),
@@ -87,7 +90,8 @@ impl<const B: u32> Iv<B> {
         requires fits { sum_by (λ i. i.hi) items.now ≤ 2 ^ 127 }
         ensures low { result.lo ≡ sum_by (λ i. i.lo) items.now }
         ensures high { result.hi ≡ sum_by (λ i. i.hi) items.now }
-        ensures holds { (xs : List Fraction) → EachLiesIn xs items.now → LiesIn (sum_over xs (λ x. x)) result }
+        ensures holds { (xs : List Fraction) → EachLiesIn xs items.now
+            → LiesIn (sum_over xs (λ x. x)) result }
     {
         let mut total = Iv::point(0);
         for item in items {
@@ -99,7 +103,8 @@ impl<const B: u32> Iv<B> {
     /// How many units the high end is above the low end: no two values are further apart.
     pub fn width(self) -> u128
         ensures units { result ≡ self.entry.hi - self.entry.lo }
-        ensures holds { (x y : Fraction) → LiesIn x self.entry → LiesIn y self.entry → x -ℚ y ≤ℚ result over 2 ^ B }
+        ensures holds { (x y : Fraction) → LiesIn x self.entry → LiesIn y self.entry
+            → x -ℚ y ≤ℚ result over 2 ^ B }
     {
         self.hi - self.lo
     }

@@ -1,6 +1,6 @@
 ghost use Rattle.std.specs.Prelude.{◌≡◌, ℕ, ◌≤◌};
-ghost use Rattle.dl_exact.specs.Fraction.{Fraction, ◌≤ℚ◌};
-ghost use Rattle.dl_iv.specs.Enclosure.{LiesIn, lesser};
+ghost use Rattle.dl_exact.specs.Fraction.{Fraction, ◌≤ℚ◌, lesser};
+ghost use Rattle.dl_iv.specs.Enclosure.{LiesIn};
 
 use crate::interval::Iv;
 

@@ -1,7 +1,7 @@
 //! Intervals at every scale: an interval holds the numbers between two whole numbers of units, of
-//! which `2^B` make 1. Each operation rounds its low end down to whole units and its high end up, so
-//! that its result holds each value that the operands' values give. None takes memory or refuses: what
-//! it needs of its operands, it asks by a condition.
+//! which `2^B` make 1. Each operation rounds its low end down to whole units and its high end up,
+//! so that its result holds each value that the operands' values give. None takes memory or
+//! refuses: what it needs of its operands, it asks by a condition.
 #![tactic(auto)]
 
 mod exact;
@@ -11,5 +11,6 @@ mod rounded;
 #[cfg(test)]
 mod tests;
 
+pub use exact::units_of_one;
 pub use interval::Iv;
 pub use laws::{law_lesser, law_wider};

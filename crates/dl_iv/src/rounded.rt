@@ -45,7 +45,8 @@ impl<const B: u32> Iv<B> {
         requires product { self.hi * o.hi < 2 ^ 128 }
         ensures low { result.lo ≡ self.entry.lo * o.entry.lo / 2 ^ B }
         ensures high { result.hi ≡ div_ceil (self.entry.hi * o.entry.hi) (2 ^ B) }
-        ensures holds { (x y : Fraction) → LiesIn x self.entry → LiesIn y o.entry → LiesIn (x *ℚ y) result }
+        ensures holds { (x y : Fraction) → LiesIn x self.entry → LiesIn y o.entry
+            → LiesIn (x *ℚ y) result }
     {
         let one = units_of_one(B);
         let (lo, hi) = rounded_outward!(self.lo * o.lo, one; self.hi * o.hi, one);
@@ -73,7 +74,8 @@ impl<const B: u32> Iv<B> {
         requires fits { div_ceil (self.hi * 2 ^ B) o.lo ≤ 2 ^ 127 }
         ensures low { result.lo ≡ self.entry.lo * 2 ^ B / o.entry.hi }
         ensures high { result.hi ≡ div_ceil (self.entry.hi * 2 ^ B) o.entry.lo }
-        ensures holds { (x y : Fraction) → LiesIn x self.entry → LiesIn y o.entry → LiesIn (x /ℚ y) result }
+        ensures holds { (x y : Fraction) → LiesIn x self.entry → LiesIn y o.entry
+            → LiesIn (x /ℚ y) result }
     {
         let one = units_of_one(B);
         let (lo, hi) = rounded_outward!(self.lo * one, o.hi; self.hi * one, o.lo);

@@ -12,14 +12,18 @@ use Rattle.dl_lexer.proofs.TokenKinds.{kind_one, token_some}
 -- from a place on, blanks and these tokens reach the end
 data Run (bytes : List ℕ) (end : ℕ) : ℕ → List Token → Type 0 where
   done : (at : ℕ) → at ≡ end → Run bytes end at []
-  blank_then : (at : ℕ) (tokens : List Token) → 0 < blank_length (drop at bytes) → NoToken (drop at bytes) → Run bytes end (at + blank_length (drop at bytes)) tokens
+  blank_then : (at : ℕ) (tokens : List Token) → 0 < blank_length (drop at bytes) → NoToken (drop at bytes)
+      → Run bytes end (at + blank_length (drop at bytes)) tokens
       → Run bytes end at tokens
-  token_then : (at n : ℕ) (kind : Kind) (tokens : List Token) → IsSpelled kind (take n (drop at bytes)) → IsLongest IsToken (drop at bytes) n → Run bytes end (at + n) tokens
+  token_then : (at n : ℕ) (kind : Kind) (tokens : List Token) → IsSpelled kind (take n (drop at bytes))
+      → IsLongest IsToken (drop at bytes) n → Run bytes end (at + n) tokens
       → Run bytes end at (token_of kind at n ∷ tokens)
 
-join : (bytes : List ℕ) (end at : ℕ) (ts us : List Token) → Covers bytes at ts → Run bytes end at us → Run bytes end 0 (ts ++ us)
+join : (bytes : List ℕ) (end at : ℕ) (ts us : List Token) → Covers bytes at ts → Run bytes end at us
+    → Run bytes end 0 (ts ++ us)
 join bytes end at ts us nothing r = r
-join bytes end at ts us (blank from tokens c some none) r = join bytes end from tokens us c (blank_then from us some none r)
+join bytes end at ts us (blank from tokens c some none) r =
+    join bytes end from tokens us c (blank_then from us some none r)
 join bytes end at ts us (token from n kind tokens c spelled longest) r =
     subst (λ all. Run bytes end 0 all) (sym (append_assoc tokens (token_of kind from n ∷ []) us))
     (join bytes end from tokens (token_of kind from n ∷ us) c (token_then from n kind us spelled longest r))
@@ -33,7 +37,8 @@ token_takes kind zero bytes t = absurd (token_some kind t)
 token_takes kind (suc n) bytes t = omega arith
 
 -- where no token begins none stands
-none_stands : (kind : Kind) (n : ℕ) (bytes : List ℕ) → NoToken bytes → IsLongest IsToken bytes n → IsSpelled kind (take n bytes) → ⊥
+none_stands : (kind : Kind) (n : ℕ) (bytes : List ℕ) → NoToken bytes → IsLongest IsToken bytes n
+    → IsSpelled kind (take n bytes) → ⊥
 none_stands kind n bytes none longest t =
     let some : 0 < n = token_takes kind n bytes t in
     let most : n ≤ 0 = none.longest n longest.within (record { kind = kind; spelled = t }) in
@@ -41,13 +46,16 @@ none_stands kind n bytes none longest t =
 
 run_le : (bytes : List ℕ) (end at : ℕ) (ts : List Token) → Run bytes end at ts → at ≤ end
 run_le bytes end at ts (done from e) = omega arith
-run_le bytes end at ts (blank_then from tokens some none r) = let more = run_le bytes end (from + blank_length (drop from bytes)) tokens r in omega arith
-run_le bytes end at ts (token_then from n kind tokens t longest r) = let more = run_le bytes end (from + n) tokens r in omega arith
+run_le bytes end at ts (blank_then from tokens some none r) =
+    let more = run_le bytes end (from + blank_length (drop from bytes)) tokens r in omega arith
+run_le bytes end at ts (token_then from n kind tokens t longest r) =
+    let more = run_le bytes end (from + n) tokens r in omega arith
 
 -- a run that has reached its end has no tokens left
 run_stays : (bytes : List ℕ) (end at : ℕ) (ts : List Token) → Run bytes end at ts → end ≤ at → ts ≡ []
 run_stays bytes end at ts (done from e) h = refl
-run_stays bytes end at ts (blank_then from tokens some none r) h = let more = run_le bytes end (from + blank_length (drop from bytes)) tokens r in absurd (omega arith)
+run_stays bytes end at ts (blank_then from tokens some none r) h =
+    let more = run_le bytes end (from + blank_length (drop from bytes)) tokens r in absurd (omega arith)
 run_stays bytes end at ts (token_then from n kind tokens t longest r) h =
     let more = run_le bytes end (from + n) tokens r in
     let takes : 0 < n = token_takes kind n (drop from bytes) t in
@@ -59,34 +67,43 @@ record Rest (bytes : List ℕ) (end far : ℕ) (ts us : List Token) : Type 0 whe
   pub run : Run bytes far end tokens
   pub all : us ≡ ts ++ tokens
 
-same_length : (bytes : List ℕ) (j k : Kind) (m n : ℕ) → IsLongest IsToken bytes m → IsSpelled j (take m bytes) → IsLongest IsToken bytes n → IsSpelled k (take n bytes) → n ≡ m
+same_length : (bytes : List ℕ) (j k : Kind) (m n : ℕ) → IsLongest IsToken bytes m → IsSpelled j (take m bytes)
+    → IsLongest IsToken bytes n → IsSpelled k (take n bytes) → n ≡ m
 same_length bytes j k m n a s b t =
     let up : m ≤ n = b.longest m a.within (record { kind = j; spelled = s }) in
     let down : n ≤ m = a.longest n b.within (record { kind = k; spelled = t }) in
     omega arith
 
-rest : (bytes : List ℕ) (end far at : ℕ) (ts us : List Token) → end ≤ far → Run bytes end at ts → Run bytes far at us → Rest bytes end far ts us
-rest bytes end far at ts us h (done from e) r = record { tokens = us; run = subst (λ n. Run bytes far n us) e r; all = refl }
+rest : (bytes : List ℕ) (end far at : ℕ) (ts us : List Token) → end ≤ far → Run bytes end at ts → Run bytes far at us
+    → Rest bytes end far ts us
+rest bytes end far at ts us h (done from e) r =
+    record { tokens = us; run = subst (λ n. Run bytes far n us) e r; all = refl }
 rest bytes end far at ts us h (blank_then from tokens some none r) (done _ e) =
     let more = run_le bytes end (from + blank_length (drop from bytes)) tokens r in absurd (omega arith)
-rest bytes end far at ts us h (blank_then from tokens some none r) (blank_then _ others _ _ q) = rest bytes end far (from + blank_length (drop from bytes)) tokens others h r q
-rest bytes end far at ts us h (blank_then from tokens some none r) (token_then _ n kind others t longest q) = absurd (none_stands kind n (drop from bytes) none longest t)
+rest bytes end far at ts us h (blank_then from tokens some none r) (blank_then _ others _ _ q) =
+    rest bytes end far (from + blank_length (drop from bytes)) tokens others h r q
+rest bytes end far at ts us h (blank_then from tokens some none r) (token_then _ n kind others t longest q) =
+    absurd (none_stands kind n (drop from bytes) none longest t)
 rest bytes end far at ts us h (token_then from n kind tokens t longest r) (done _ e) =
     let more = run_le bytes end (from + n) tokens r in
     let takes : 0 < n = token_takes kind n (drop from bytes) t in
     absurd (omega arith)
-rest bytes end far at ts us h (token_then from n kind tokens t longest r) (blank_then _ others some none q) = absurd (none_stands kind n (drop from bytes) none longest t)
+rest bytes end far at ts us h (token_then from n kind tokens t longest r) (blank_then _ others some none q) =
+    absurd (none_stands kind n (drop from bytes) none longest t)
 rest bytes end far at ts us h (token_then from n kind tokens t longest r) (token_then _ m other others s most q) =
     let count : m ≡ n = same_length (drop from bytes) kind other n m longest t most s in
-    let alike : kind ≡ other = kind_one kind other (take n (drop from bytes)) t (subst (λ k. IsSpelled other (take k (drop from bytes))) count s) in
-    let later = rest bytes end far (from + n) tokens others h r (subst (λ k. Run bytes far (from + k) others) count q) in
+    let alike : kind ≡ other = kind_one kind other (take n (drop from bytes)) t
+    (subst (λ k. IsSpelled other (take k (drop from bytes))) count s) in
+    let later = rest bytes end far (from + n) tokens others h r
+    (subst (λ k. Run bytes far (from + k) others) count q) in
     record {
       tokens = later.tokens;
       run = later.run;
       all = same_token from m n other kind others (tokens ++ later.tokens) count (sym alike) later.all;
     }
   where
-    same_token : (from m n : ℕ) (j k : Kind) (vs ws : List Token) → m ≡ n → j ≡ k → vs ≡ ws → token_of j from m ∷ vs ≡ token_of k from n ∷ ws
+    same_token : (from m n : ℕ) (j k : Kind) (vs ws : List Token) → m ≡ n → j ≡ k → vs ≡ ws
+        → token_of j from m ∷ vs ≡ token_of k from n ∷ ws
     same_token from m n j k vs ws count alike e = cc
 
 -- a text has at most one cover up to any place
@@ -97,15 +114,18 @@ cover_one bytes end a b c d =
     sym (left.all ∙ ap (λ more. a ++ more) none ∙ append-nil a)
 
 -- no run leaves a bad place
-bad_stops : (bytes : List ℕ) (end at : ℕ) (ts : List Token) → blank_length (drop at bytes) ≡ 0 → NoToken (drop at bytes) → Run bytes end at ts → end ≤ at
+bad_stops : (bytes : List ℕ) (end at : ℕ) (ts : List Token) → blank_length (drop at bytes) ≡ 0
+    → NoToken (drop at bytes) → Run bytes end at ts → end ≤ at
 bad_stops bytes end at ts no_blank no_token (done from e) = omega arith
 bad_stops bytes end at ts no_blank no_token (blank_then from tokens some none r) = absurd (omega arith)
-bad_stops bytes end at ts no_blank no_token (token_then from n kind tokens t longest r) = absurd (none_stands kind n (drop from bytes) no_token longest t)
+bad_stops bytes end at ts no_blank no_token (token_then from n kind tokens t longest r) =
+    absurd (none_stands kind n (drop from bytes) no_token longest t)
 
 -- no cover reaches behind a bad place
 pub bad_last : (bytes : List ℕ) (at end : ℕ) (tokens : List Token) → IsBad bytes at → Covers bytes end tokens → end ≤ at
 bad_last bytes at end tokens bad c = either (cases_lt at end)
-    (λ lt. let left = rest bytes at end 0 bad.tokens tokens (omega arith) (run_of bytes at bad.tokens bad.reached) (run_of bytes end tokens c) in
+    (λ lt. let left = rest bytes at end 0 bad.tokens tokens (omega arith) (run_of bytes at bad.tokens bad.reached)
+    (run_of bytes end tokens c) in
     bad_stops bytes end at left.tokens bad.no_blank bad.no_token left.run)
     (λ ge. ge)
 
@@ -115,5 +135,7 @@ bad_one bytes a b p q =
     let down : a ≤ b = bad_last bytes b a p.tokens q p.reached in
     omega arith
 
-pub covered_not_bad : (bytes : List ℕ) (tokens : List Token) (at : ℕ) → Covers bytes (length bytes) tokens → IsBad bytes at → ⊥
-covered_not_bad bytes tokens at c bad = let most : length bytes ≤ at = bad_last bytes at (length bytes) tokens bad c in omega (arith, bad.within)
+pub covered_not_bad : (bytes : List ℕ) (tokens : List Token) (at : ℕ) → Covers bytes (length bytes) tokens
+    → IsBad bytes at → ⊥
+covered_not_bad bytes tokens at c bad =
+    let most : length bytes ≤ at = bad_last bytes at (length bytes) tokens bad c in omega (arith, bad.within)

@@ -7,29 +7,22 @@ use Rattle.dl_lexer.specs.Tokens.{IsSpelled, IsToken}
 use Rattle.dl_lexer.specs.Cutting.{IsLongest, NoToken, blank_length, token_of, Covers, blank, token, IsBad}
 use Rattle.dl_lexer.proofs.BlankLemmas.{blank_no_token}
 
--- the rest of a text, as a slice from a place on
-rest_of : (xs : List ℕ) (i : ℕ) → take (length xs - i) (drop i xs) ≡ drop i xs
-rest_of xs i = take_all _ _ (omega (arith, length-drop i xs))
-
-pub blank_step : (source : List ℕ) (at n : ℕ) (tokens : List Token) → Covers source at tokens → n ≡ blank_length (take (length source - at) (drop at source)) → 0 < n → Covers source (at + n) tokens
+pub blank_step : (source : List ℕ) (at n : ℕ) (tokens : List Token) → Covers source at tokens
+    → n ≡ blank_length (take (length source - at) (drop at source)) → 0 < n → Covers source (at + n) tokens
 blank_step source at n tokens c e some =
-    let size : n ≡ blank_length (drop at source) = e ∙ ap blank_length (rest_of source at) in
+    let size : n ≡ blank_length (drop at source) = e
+    ∙ ap blank_length (take_all (length source - at) (drop at source) (omega (arith, length-drop at source))) in
     let more : 0 < blank_length (drop at source) = omega arith in
-    subst (λ k. Covers source (at + k) tokens) (sym size) (blank at tokens c more (blank_no_token (drop at source) more))
+    subst (λ k. Covers source (at + k) tokens) (sym size)
+    (blank at tokens c more (blank_no_token (drop at source) more))
 
-pub token_step : (source : List ℕ) (at n : ℕ) (kind : Kind) (tokens items : List Token) → Covers source at tokens → IsSpelled kind (take n (take (length source - at) (drop at source)))
-    → IsLongest IsToken (take (length source - at) (drop at source)) n → items ≡ tokens ++ token_of kind at n ∷ [] → Covers source (at + n) items
+pub token_step : (source : List ℕ) (at n : ℕ) (kind : Kind) (tokens items : List Token) → Covers source at tokens
+    → IsSpelled kind (take n (take (length source - at) (drop at source)))
+    → IsLongest IsToken (take (length source - at) (drop at source)) n → items ≡ tokens ++ token_of kind at n ∷ []
+    → Covers source (at + n) items
 token_step source at n kind tokens items c t longest e =
-    let spelled = subst (λ bytes. IsSpelled kind (take n bytes)) (rest_of source at) t in
-    let most = subst (λ bytes. IsLongest IsToken bytes n) (rest_of source at) longest in
+    let spelled = subst (λ bytes. IsSpelled kind (take n bytes))
+    (take_all (length source - at) (drop at source) (omega (arith, length-drop at source))) t in
+    let most = subst (λ bytes. IsLongest IsToken bytes n)
+    (take_all (length source - at) (drop at source) (omega (arith, length-drop at source))) longest in
     subst (λ all. Covers source (at + n) all) (sym e) (token at n kind tokens c spelled most)
-
-pub bad_step : (source : List ℕ) (at : ℕ) (tokens : List Token) → at < length source → Covers source at tokens → blank_length (take (length source - at) (drop at source)) ≡ 0
-    → NoToken (take (length source - at) (drop at source)) → IsBad source at
-bad_step source at tokens h c no_blank no_token = record {
-  within = h;
-  tokens = tokens;
-  reached = c;
-  no_blank = ap blank_length (sym (rest_of source at)) ∙ no_blank;
-  no_token = subst (λ bytes. NoToken bytes) (rest_of source at) no_token;
-}

@@ -3,14 +3,14 @@ use Rattle.std.proofs.Common.{ℕ, zero, suc, ◌≡◌, ◌≢◌, ◌∙◌, �
 use Rattle.std.specs.List.{list_all, prefix_len}
 use Rattle.std.proofs.Math.Seq.{take-append_seam}
 use Rattle.std.proofs.lemmas.List.{take-append-drop, length-take-le, get_or-take}
-use Rattle.std.proofs.lemmas.Bool.{cases_lt}
+use Rattle.std.proofs.lemmas.Bool.{cases_lt, and_parts}
 use Rattle.std.proofs.lemmas.List.Sums.{prefix_len-le-length}
 use Rattle.std.proofs.lemmas.List.Folds.{length-prefix_len, list_all-append, list_all_at}
 use Rattle.std.proofs.lemmas.Option.{slice_get_within, get_or_from_slice_get}
 use Rattle.dl_lexer.specs.Bytes.{is_digit}
 use Rattle.dl_lexer.specs.Numerals.{AreDigits, IsDecimal, digits, digits_point, point_digits, IsPercent, percent, IsFraction, fraction, IsNumeral, a_decimal, a_percent, a_fraction}
 use Rattle.dl_lexer.specs.Cutting.{IsLongest}
-use Rattle.dl_lexer.proofs.Prefix.{both, prefix_passes, prefix_most, prefix_ends, passes_prefix, take_around, get_behind, drop_behind}
+use Rattle.dl_lexer.proofs.Prefix.{prefix_passes, prefix_most, prefix_ends, passes_prefix, take_around, get_behind, drop_behind}
 use Rattle.dl_lexer.proofs.Longest.{either, longest_either, longest_none}
 
 -- how many digits some bytes begin with
@@ -24,14 +24,18 @@ record IsMarked (c : ℕ) (bytes : List ℕ) (m : ℕ) (a b : List ℕ) : Type 0
   pub second : length b ≤ run (drop (run bytes + 1) bytes)
   pub whole : m ≡ length a + 1 + length b
 
-marked : (c : ℕ) (bytes : List ℕ) (m : ℕ) (a b : List ℕ) → is_digit c ≡ false → m ≤ length bytes → take m bytes ≡ a ++ c ∷ b → AreDigits a → AreDigits b → IsMarked c bytes m a b
+marked : (c : ℕ) (bytes : List ℕ) (m : ℕ) (a b : List ℕ) → is_digit c ≡ false → m ≤ length bytes
+    → take m bytes ≡ a ++ c ∷ b → AreDigits a → AreDigits b → IsMarked c bytes m a b
 marked c bytes m a b mark h e all_a all_b =
     let after : List ℕ = drop m bytes in
-    let split : bytes ≡ a ++ c ∷ (b ++ after) = sym (take-append-drop m bytes) ∙ ap (λ ys. ys ++ after) e ∙ append_assoc a (c ∷ b) after in
-    let ends : prefix_len is_digit (a ++ c ∷ (b ++ after)) ≡ length a = prefix_ends is_digit c a (b ++ after) mark all_a in
+    let split : bytes ≡ a ++ c ∷ (b ++ after) = sym (take-append-drop m bytes) ∙ ap (λ ys. ys ++ after) e
+    ∙ append_assoc a (c ∷ b) after in
+    let ends : prefix_len is_digit (a ++ c ∷ (b ++ after)) ≡ length a =
+    prefix_ends is_digit c a (b ++ after) mark all_a in
     let size : length a ≡ run bytes = rw split (sym ends) in
     let at : slice_get bytes (length a) ≡ Some c = rw split (get_behind a (b ++ after) c) in
-    let rest : drop (length a + 1) bytes ≡ b ++ after = ap (λ ys. drop (length a + 1) ys) split ∙ drop_behind a (b ++ after) c in
+    let rest : drop (length a + 1) bytes ≡ b ++ after = ap (λ ys. drop (length a + 1) ys) split
+    ∙ drop_behind a (b ++ after) c in
     let most : length b ≤ run (drop (length a + 1) bytes) = rw rest (passes_prefix is_digit b after all_b) in
     let count : length (take m bytes) ≡ length (a ++ c ∷ b) = ap length e in
     record {
@@ -65,10 +69,17 @@ decimal_no_point bytes other = record {
     most m h (point_digits b e all_b) = absurd (other (marked 46 bytes m [] b refl h e refl all_b.1).mark)
 
 -- a decimal at the front, with a point
-pub decimal_point : (bytes : List ℕ) → slice_get bytes (run bytes) ≡ Some 46 → 0 < run bytes + run (drop (run bytes + 1) bytes)
+pub decimal_point : (bytes : List ℕ) → slice_get bytes (run bytes) ≡ Some 46
+    → 0 < run bytes + run (drop (run bytes + 1) bytes)
     → IsLongest IsDecimal bytes (run bytes + 1 + run (drop (run bytes + 1) bytes))
 decimal_point bytes point some = record {
-  within = omega (arith, slice_get_within bytes (run bytes) 46 point, length-drop (run bytes + 1) bytes, run_within (drop (run bytes + 1) bytes));
+  within = omega (
+    arith,
+    slice_get_within bytes (run bytes) 46 point,
+    length-drop (run bytes + 1) bytes,
+    run_within
+        (drop (run bytes + 1) bytes),
+  );
   spelled = λ _. rw (take_around bytes (run bytes) 46 part point) (spelled (run bytes) refl);
   longest = most;
 }
@@ -80,8 +91,10 @@ decimal_point bytes point some = record {
     behind = take part (drop (run bytes + 1) bytes)
 
     spelled : (n : ℕ) → n ≡ run bytes → IsDecimal (take n bytes ++ 46 ∷ behind)
-    spelled zero e = point_digits behind refl (omega (arith, length_run (drop (run bytes + 1) bytes)), run_digits (drop (run bytes + 1) bytes))
-    spelled (suc n) e = rw e (digits_point (take (run bytes) bytes) behind refl (omega (arith, length_run bytes), run_digits bytes) (run_digits (drop (run bytes + 1) bytes)))
+    spelled zero e = point_digits behind refl
+        (omega (arith, length_run (drop (run bytes + 1) bytes)), run_digits (drop (run bytes + 1) bytes))
+    spelled (suc n) e = rw e (digits_point (take (run bytes) bytes) behind refl
+        (omega (arith, length_run bytes), run_digits bytes) (run_digits (drop (run bytes + 1) bytes)))
 
     most : (m : ℕ) → m ≤ length bytes → IsDecimal (take m bytes) → m ≤ run bytes + 1 + part
     most m h (digits d) = let short : m ≤ run bytes = prefix_most is_digit bytes m h d.1 in omega arith
@@ -89,21 +102,33 @@ decimal_point bytes point some = record {
     most m h (point_digits b e all_b) = let at = marked 46 bytes m [] b refl h e refl all_b.1 in omega arith
 
 -- a lone point begins no decimal
-pub decimal_bare_point : (bytes : List ℕ) → run bytes ≡ 0 → run (drop (run bytes + 1) bytes) ≡ 0 → slice_get bytes (run bytes) ≡ Some 46 → IsLongest IsDecimal bytes 0
+pub decimal_bare_point : (bytes : List ℕ) → run bytes ≡ 0 → run (drop (run bytes + 1) bytes) ≡ 0
+    → slice_get bytes (run bytes) ≡ Some 46 → IsLongest IsDecimal bytes 0
 decimal_bare_point bytes first second point = longest_none IsDecimal bytes no_decimal
   where
     no_decimal : (m : ℕ) → m ≤ length bytes → IsDecimal (take m bytes) → ⊥
-    no_decimal m h (digits d) = let short : m ≤ run bytes = prefix_most is_digit bytes m h d.1 in omega (arith, length-take-le m bytes h, d.0)
-    no_decimal m h (digits_point a b e all_a all_b) = let at = marked 46 bytes m a b refl h e all_a.1 all_b in omega (arith, all_a.0)
-    no_decimal m h (point_digits b e all_b) = let at = marked 46 bytes m [] b refl h e refl all_b.1 in omega (arith, all_b.0)
+    no_decimal m h (digits d) =
+        let short : m ≤ run bytes = prefix_most is_digit bytes m h d.1 in omega (arith, length-take-le m bytes h, d.0)
+    no_decimal m h (digits_point a b e all_a all_b) =
+        let at = marked 46 bytes m a b refl h e all_a.1 all_b in omega (arith, all_a.0)
+    no_decimal m h (point_digits b e all_b) =
+        let at = marked 46 bytes m [] b refl h e refl all_b.1 in omega (arith, all_b.0)
 
 -- a fraction at the front
-pub fraction_slash : (bytes : List ℕ) → slice_get bytes (run bytes) ≡ Some 47 → 0 < run bytes → 0 < run (drop (run bytes + 1) bytes)
+pub fraction_slash : (bytes : List ℕ) → slice_get bytes (run bytes) ≡ Some 47 → 0 < run bytes
+    → 0 < run (drop (run bytes + 1) bytes)
     → IsLongest IsFraction bytes (run bytes + 1 + run (drop (run bytes + 1) bytes))
 fraction_slash bytes slash above below = record {
-  within = omega (arith, slice_get_within bytes (run bytes) 47 slash, length-drop (run bytes + 1) bytes, run_within (drop (run bytes + 1) bytes));
+  within = omega (
+    arith,
+    slice_get_within bytes (run bytes) 47 slash,
+    length-drop (run bytes + 1) bytes,
+    run_within
+        (drop (run bytes + 1) bytes),
+  );
   spelled = λ _. rw (take_around bytes (run bytes) 47 (run (drop (run bytes + 1) bytes)) slash)
-      (fraction (take (run bytes) bytes) (take (run (drop (run bytes + 1) bytes)) (drop (run bytes + 1) bytes)) refl (omega (arith, length_run bytes), run_digits bytes)
+      (fraction (take (run bytes) bytes) (take (run (drop (run bytes + 1) bytes)) (drop (run bytes + 1) bytes)) refl
+      (omega (arith, length_run bytes), run_digits bytes)
       (omega (arith, length_run (drop (run bytes + 1) bytes)), run_digits (drop (run bytes + 1) bytes)));
   longest = most;
 }
@@ -112,11 +137,13 @@ fraction_slash bytes slash above below = record {
     most m h (fraction a b e all_a all_b) = let at = marked 47 bytes m a b refl h e all_a.1 all_b.1 in omega arith
 
 -- no fraction begins without a slash, or without digits round it
-pub fraction_none : (bytes : List ℕ) → (slice_get bytes (run bytes) ≡ Some 47 → 0 < run bytes → 0 < run (drop (run bytes + 1) bytes) → ⊥) → IsLongest IsFraction bytes 0
+pub fraction_none : (bytes : List ℕ) → (slice_get bytes (run bytes) ≡ Some 47 → 0 < run bytes
+    → 0 < run (drop (run bytes + 1) bytes) → ⊥) → IsLongest IsFraction bytes 0
 fraction_none bytes never = longest_none IsFraction bytes no_fraction
   where
     no_fraction : (m : ℕ) → m ≤ length bytes → IsFraction (take m bytes) → ⊥
-    no_fraction m h (fraction a b e all_a all_b) = let at = marked 47 bytes m a b refl h e all_a.1 all_b.1 in never at.mark (omega (arith, all_a.0)) (omega (arith, all_b.0))
+    no_fraction m h (fraction a b e all_a all_b) = let at = marked 47 bytes m a b refl h e all_a.1 all_b.1 in
+        never at.mark (omega (arith, all_a.0)) (omega (arith, all_b.0))
 
 -- what is known of digits, a mark and digits at the front, by their numbers
 record IsRound (c : ℕ) (bytes : List ℕ) (w p : ℕ) : Type 0 where
@@ -124,31 +151,36 @@ record IsRound (c : ℕ) (bytes : List ℕ) (w p : ℕ) : Type 0 where
   pub mark : slice_get bytes (run bytes) ≡ Some c
   pub behind : p ≡ run (drop (run bytes + 1) bytes)
 
-round_of : (c : ℕ) (bytes : List ℕ) (w p : ℕ) → w ≡ run bytes → slice_get bytes w ≡ Some c → p ≡ run (drop (w + 1) bytes) → IsRound c bytes w p
+round_of : (c : ℕ) (bytes : List ℕ) (w p : ℕ) → w ≡ run bytes → slice_get bytes w ≡ Some c
+    → p ≡ run (drop (w + 1) bytes) → IsRound c bytes w p
 round_of c bytes w p first mark second = record {
   before = first;
   mark = subst (λ n. slice_get bytes n ≡ Some c) first mark;
   behind = second ∙ ap (λ n. run (drop (n + 1) bytes)) first;
 }
 
-pub decimal_with_point : (bytes : List ℕ) (w p : ℕ) → w ≡ run bytes → slice_get bytes w ≡ Some 46 → p ≡ run (drop (w + 1) bytes) → 0 < w + p → IsLongest IsDecimal bytes (w + 1 + p)
+pub decimal_with_point : (bytes : List ℕ) (w p : ℕ) → w ≡ run bytes → slice_get bytes w ≡ Some 46
+    → p ≡ run (drop (w + 1) bytes) → 0 < w + p → IsLongest IsDecimal bytes (w + 1 + p)
 decimal_with_point bytes w p first mark second some =
     let at = round_of 46 bytes w p first mark second in
     let count : run bytes + 1 + run (drop (run bytes + 1) bytes) ≡ w + 1 + p = omega arith in
     subst (λ n. IsLongest IsDecimal bytes n) count (decimal_point bytes at.mark (omega arith))
 
-pub decimal_with_bare_point : (bytes : List ℕ) (w p : ℕ) → w ≡ run bytes → slice_get bytes w ≡ Some 46 → p ≡ run (drop (w + 1) bytes) → w + p ≡ 0 → IsLongest IsDecimal bytes 0
+pub decimal_with_bare_point : (bytes : List ℕ) (w p : ℕ) → w ≡ run bytes → slice_get bytes w ≡ Some 46
+    → p ≡ run (drop (w + 1) bytes) → w + p ≡ 0 → IsLongest IsDecimal bytes 0
 decimal_with_bare_point bytes w p first mark second none =
     let at = round_of 46 bytes w p first mark second in
     decimal_bare_point bytes (omega arith) (omega arith) at.mark
 
-pub fraction_with_slash : (bytes : List ℕ) (w p : ℕ) → w ≡ run bytes → slice_get bytes w ≡ Some 47 → p ≡ run (drop (w + 1) bytes) → 0 < w → 0 < p → IsLongest IsFraction bytes (w + 1 + p)
+pub fraction_with_slash : (bytes : List ℕ) (w p : ℕ) → w ≡ run bytes → slice_get bytes w ≡ Some 47
+    → p ≡ run (drop (w + 1) bytes) → 0 < w → 0 < p → IsLongest IsFraction bytes (w + 1 + p)
 fraction_with_slash bytes w p first mark second above below =
     let at = round_of 47 bytes w p first mark second in
     let count : run bytes + 1 + run (drop (run bytes + 1) bytes) ≡ w + 1 + p = omega arith in
     subst (λ n. IsLongest IsFraction bytes n) count (fraction_slash bytes at.mark (omega arith) (omega arith))
 
-pub fraction_with_bare_slash : (bytes : List ℕ) (w p : ℕ) → w ≡ run bytes → slice_get bytes w ≡ Some 47 → p ≡ run (drop (w + 1) bytes) → (0 < w → 0 < p → ⊥) → IsLongest IsFraction bytes 0
+pub fraction_with_bare_slash : (bytes : List ℕ) (w p : ℕ) → w ≡ run bytes → slice_get bytes w ≡ Some 47
+    → p ≡ run (drop (w + 1) bytes) → (0 < w → 0 < p → ⊥) → IsLongest IsFraction bytes 0
 fraction_with_bare_slash bytes w p first mark second never =
     let at = round_of 47 bytes w p first mark second in
     fraction_none bytes (λ _ above below. never (omega arith) (omega arith))
@@ -160,10 +192,11 @@ fraction_no_slash bytes other = fraction_none bytes (λ mark _ _. other mark)
 is_decimal_byte : ℕ → Bool
 is_decimal_byte b = is_digit b || b == 46
 
-all_weaken : (p q : ℕ → Bool) → ((b : ℕ) → p b ≡ true → q b ≡ true) → (bs : List ℕ) → list_all p bs ≡ true → list_all q bs ≡ true
+all_weaken : (p q : ℕ → Bool) → ((b : ℕ) → p b ≡ true → q b ≡ true) → (bs : List ℕ) → list_all p bs ≡ true
+    → list_all q bs ≡ true
 all_weaken p q weaker [] h = refl
 all_weaken p q weaker (b ∷ bs) h =
-    let parts : (p b ≡ true) × (list_all p bs ≡ true) = both (p b) (list_all p bs) h in
+    let parts : (p b ≡ true) × (list_all p bs ≡ true) = and_parts (p b) (list_all p bs) h in
     rw (weaker b parts.0) (all_weaken p q weaker bs parts.1)
 
 digit_in_decimal : (b : ℕ) → is_digit b ≡ true → is_decimal_byte b ≡ true
@@ -198,7 +231,8 @@ record IsPercentAt (bytes : List ℕ) (m k : ℕ) : Type 0 where
 
 percent_at : (bytes : List ℕ) (m : ℕ) → m ≤ length bytes → IsPercent (take m bytes) → (k : ℕ) × IsPercentAt bytes m k
 percent_at bytes m h (percent d e dec) =
-    let split : bytes ≡ d ++ 37 ∷ drop m bytes = sym (take-append-drop m bytes) ∙ ap (λ ys. ys ++ drop m bytes) e ∙ append_assoc d (37 ∷ []) (drop m bytes) in
+    let split : bytes ≡ d ++ 37 ∷ drop m bytes = sym (take-append-drop m bytes) ∙ ap (λ ys. ys ++ drop m bytes) e
+    ∙ append_assoc d (37 ∷ []) (drop m bytes) in
     let size : length (take m bytes) ≡ length d + 1 = ap length e ∙ length-append d (37 ∷ []) in
     let front : take (length d) bytes ≡ d = ap (take (length d)) split ∙ take-append_seam d (37 ∷ drop m bytes) in (
       length d,
@@ -211,7 +245,8 @@ percent_at bytes m h (percent d e dec) =
       },
     )
 
-pub percent_with_mark : (bytes : List ℕ) (d : ℕ) → IsLongest IsDecimal bytes d → 0 < d → slice_get bytes d ≡ Some 37 → IsLongest IsPercent bytes (d + 1)
+pub percent_with_mark : (bytes : List ℕ) (d : ℕ) → IsLongest IsDecimal bytes d → 0 < d → slice_get bytes d ≡ Some 37
+    → IsLongest IsPercent bytes (d + 1)
 percent_with_mark bytes d decimal some mark = record {
   within = omega (arith, slice_get_within bytes d 37 mark);
   spelled = λ _. percent (take d bytes) whole (decimal.spelled some);
@@ -222,9 +257,11 @@ percent_with_mark bytes d decimal some mark = record {
     whole = let count : d + 1 ≡ d + 1 + 0 = omega arith in ap (λ n. take n bytes) count ∙ take_around bytes d 37 0 mark
 
     most : (m : ℕ) → m ≤ length bytes → IsPercent (take m bytes) → m ≤ d + 1
-    most m h p = let at = percent_at bytes m h p in omega (arith, decimal.longest at.0 at.1.within at.1.decimal, at.1.count)
+    most m h p =
+        let at = percent_at bytes m h p in omega (arith, decimal.longest at.0 at.1.within at.1.decimal, at.1.count)
 
-pub percent_without_mark : (bytes : List ℕ) (d : ℕ) → IsLongest IsDecimal bytes d → (0 < d → slice_get bytes d ≢ Some 37) → IsLongest IsPercent bytes 0
+pub percent_without_mark : (bytes : List ℕ) (d : ℕ) → IsLongest IsDecimal bytes d
+    → (0 < d → slice_get bytes d ≢ Some 37) → IsLongest IsPercent bytes 0
 unfolding is_decimal_byte
 percent_without_mark bytes d decimal other = longest_none IsPercent bytes no_percent
   where
@@ -237,17 +274,23 @@ percent_without_mark bytes d decimal other = longest_none IsPercent bytes no_per
         mark_inside : (k : ℕ) → k ≤ d → 0 < k → slice_get bytes k ≡ Some 37 → ⊥
         mark_inside k most some mark = either (cases_lt k d)
             (λ lt. let all = decimal_bytes (take d bytes) (decimal.spelled (omega arith)) in
-            let here : get_or (take d bytes) k 0 ≡ 37 = get_or-take d bytes k 0 lt ∙ get_or_from_slice_get bytes k 37 0 mark in
-            let fails : list_all is_decimal_byte (take d bytes) ≡ false = list_all_at is_decimal_byte (take d bytes) k 0 (omega (arith, length-take-le d bytes decimal.within)) (ap is_decimal_byte here) in
+            let here : get_or (take d bytes) k 0 ≡ 37 = get_or-take d bytes k 0 lt
+            ∙ get_or_from_slice_get bytes k 37 0 mark in
+            let fails : list_all is_decimal_byte (take d bytes) ≡ false =
+            list_all_at is_decimal_byte (take d bytes) k 0 (omega (arith, length-take-le d bytes decimal.within))
+            (ap is_decimal_byte here) in
             absurd (cc))
-            (λ ge. let same : k ≡ d = omega arith in other (omega arith) (subst (λ n. slice_get bytes n ≡ Some 37) same mark))
+            (λ ge. let same : k ≡ d = omega arith in
+            other (omega arith) (subst (λ n. slice_get bytes n ≡ Some 37) same mark))
 
 -- the longest numeral is the longest of the three
-pub numeral_longest : (bytes : List ℕ) (d p f : ℕ) → IsLongest IsDecimal bytes d → IsLongest IsPercent bytes p → IsLongest IsFraction bytes f → IsLongest IsNumeral bytes (max (max d p) f)
+pub numeral_longest : (bytes : List ℕ) (d p f : ℕ) → IsLongest IsDecimal bytes d → IsLongest IsPercent bytes p
+    → IsLongest IsFraction bytes f → IsLongest IsNumeral bytes (max (max d p) f)
 numeral_longest bytes d p f decimal a_percent' a_fraction' =
     longest_either (λ bs. IsDecimal bs ⊎ IsPercent bs) IsFraction IsNumeral bytes (max d p) f
     (λ bs t. either t (λ x. a_decimal x) (λ x. a_percent x)) (λ bs t. a_fraction t) parts
-    (longest_either IsDecimal IsPercent (λ bs. IsDecimal bs ⊎ IsPercent bs) bytes d p (λ bs t. inl t) (λ bs t. inr t) (λ bs t. t) decimal a_percent') a_fraction'
+    (longest_either IsDecimal IsPercent (λ bs. IsDecimal bs ⊎ IsPercent bs) bytes d p (λ bs t. inl t) (λ bs t. inr t)
+    (λ bs t. t) decimal a_percent') a_fraction'
   where
     parts : (bs : List ℕ) → IsNumeral bs → (IsDecimal bs ⊎ IsPercent bs) ⊎ IsFraction bs
     parts bs (a_decimal t) = inl (inl t)

@@ -8,12 +8,13 @@ use Rattle.dl_lexer.specs.declared.token.Keyword.TheVariants.{Agg, Port, Claim, 
 use Rattle.std.specs.List.{list_all}
 use Rattle.dl_lexer.specs.Bytes.{is_word_byte}
 use Rattle.dl_lexer.specs.Tokens.{begins_with_letter, IsWord}
-use Rattle.dl_lexer.proofs.Prefix.{both}
 use Rattle.dl_lexer.specs.Keywords.{spelling, first_spelled}
+use Rattle.std.proofs.lemmas.Bool.{and_parts}
 
 -- the keywords in the order of the table
 abbrev pub keywords : List Keyword
-keywords = Agg ∷ Port ∷ Claim ∷ Claims ∷ Loss ∷ Prem ∷ Premium ∷ At ∷ Lr ∷ Dfreq ∷ Dsev ∷ Sev ∷ Dhistogram ∷ Xps ∷ Xs ∷ Inf ∷ Occurrence ∷ Aggregate ∷ Net ∷ Of ∷ Ceded ∷ To ∷ And ∷ So ∷ Po ∷ Fixed ∷ Poisson ∷ Bernoulli ∷ Binomial ∷ Mixed ∷ Gamma ∷ Wts ∷ Lognorm ∷ Expon ∷ Pareto ∷ Weibull ∷ Norm ∷ Uniform ∷ Beta ∷ Chistogram ∷ Note ∷ Geometric ∷ Zt ∷ Zm ∷ Common ∷ []
+keywords =
+    Agg ∷ Port ∷ Claim ∷ Claims ∷ Loss ∷ Prem ∷ Premium ∷ At ∷ Lr ∷ Dfreq ∷ Dsev ∷ Sev ∷ Dhistogram ∷ Xps ∷ Xs ∷ Inf ∷ Occurrence ∷ Aggregate ∷ Net ∷ Of ∷ Ceded ∷ To ∷ And ∷ So ∷ Po ∷ Fixed ∷ Poisson ∷ Bernoulli ∷ Binomial ∷ Mixed ∷ Gamma ∷ Wts ∷ Lognorm ∷ Expon ∷ Pareto ∷ Weibull ∷ Norm ∷ Uniform ∷ Beta ∷ Chistogram ∷ Note ∷ Geometric ∷ Zt ∷ Zm ∷ Common ∷ []
 
 pub found : (k : Keyword) → first_spelled keywords (spelling k) ≡ Some k
 unfolding first_spelled
@@ -68,15 +69,18 @@ pub spelling_one : (a b : Keyword) → spelling a ≡ spelling b → a ≡ b
 spelling_one a b e = let same : Some a ≡ Some b = sym (found a) ∙ ap (first_spelled keywords) e ∙ found b in cc
 
 -- one keyword at the front of a table
-pub first_spelled_here : (k : Keyword) (ks : List Keyword) (bytes : List ℕ) → spelling k ≡ bytes → first_spelled (k ∷ ks) bytes ≡ Some k
+pub first_spelled_here : (k : Keyword) (ks : List Keyword) (bytes : List ℕ) → spelling k ≡ bytes
+    → first_spelled (k ∷ ks) bytes ≡ Some k
 unfolding first_spelled
 first_spelled_here k ks bytes e = rw ((bytes_eq-Decides (spelling k) bytes).1 e) refl
 
-pub first_spelled_later : (k : Keyword) (ks : List Keyword) (bytes : List ℕ) → spelling k ≢ bytes → first_spelled (k ∷ ks) bytes ≡ first_spelled ks bytes
+pub first_spelled_later : (k : Keyword) (ks : List Keyword) (bytes : List ℕ) → spelling k ≢ bytes
+    → first_spelled (k ∷ ks) bytes ≡ first_spelled ks bytes
 unfolding first_spelled
 first_spelled_later k ks bytes other = later (bytes_eq (spelling k) bytes) refl
   where
-    later : (t : Bool) → bytes_eq (spelling k) bytes ≡ t → cond (bytes_eq (spelling k) bytes) (Some k) (first_spelled ks bytes) ≡ first_spelled ks bytes
+    later : (t : Bool) → bytes_eq (spelling k) bytes ≡ t
+        → cond (bytes_eq (spelling k) bytes) (Some k) (first_spelled ks bytes) ≡ first_spelled ks bytes
     later true is = absurd (other ((bytes_eq-Decides (spelling k) bytes).0 is))
     later false is = rw is refl
 
@@ -86,33 +90,39 @@ unfolding first_spelled
 first_spelled_is [] bytes = tt
 first_spelled_is (k ∷ ks) bytes = here (bytes_eq (spelling k) bytes) refl (first_spelled_is ks bytes)
   where
-    here : (t : Bool) → bytes_eq (spelling k) bytes ≡ t → IfSome (first_spelled ks bytes) (λ k. spelling k ≡ bytes) → IfSome (cond (bytes_eq (spelling k) bytes) (Some k) (first_spelled ks bytes)) (λ k. spelling k ≡ bytes)
+    here : (t : Bool) → bytes_eq (spelling k) bytes ≡ t → IfSome (first_spelled ks bytes) (λ k. spelling k ≡ bytes)
+        → IfSome (cond (bytes_eq (spelling k) bytes) (Some k) (first_spelled ks bytes)) (λ k. spelling k ≡ bytes)
     here true is rest = rw is ((bytes_eq-Decides (spelling k) bytes).0 is)
     here false is rest = rw is rest
 
 -- where none is found, no keyword is spelled so
-pub none_spelled : (r : Option Keyword) (bytes : List ℕ) → r ≡ first_spelled keywords bytes → IfNone r ((k : Keyword) → spelling k ≢ bytes)
+pub none_spelled : (r : Option Keyword) (bytes : List ℕ) → r ≡ first_spelled keywords bytes
+    → IfNone r ((k : Keyword) → spelling k ≢ bytes)
 none_spelled (Some k) bytes e = tt
-none_spelled None bytes e = λ k is. let some : first_spelled keywords bytes ≡ Some k = ap (first_spelled keywords) (sym is) ∙ found k in cc
+none_spelled None bytes e =
+    λ k is. let some : first_spelled keywords bytes ≡ Some k = ap (first_spelled keywords) (sym is) ∙ found k in cc
 
 -- a table from a place on, by its keywords
 pub rest_of_table : {B : Type 0} (items : List (Keyword × B)) (i : ℕ) (d : Keyword × B) → i < length items
     → map (λ item. item.0) (drop i items) ≡ (get_or items i d).0 ∷ map (λ item. item.0) (drop (i + 1) items)
 rest_of_table items i d h = rw (add-one, drop-cons items i d h) refl
 
-pub table_ends : {B : Type 0} (items : List (Keyword × B)) (i : ℕ) (bytes : List ℕ) → length items ≤ i → first_spelled (map (λ item. item.0) (drop i items)) bytes ≡ None
+pub table_ends : {B : Type 0} (items : List (Keyword × B)) (i : ℕ) (bytes : List ℕ) → length items ≤ i
+    → first_spelled (map (λ item. item.0) (drop i items)) bytes ≡ None
 unfolding first_spelled
 table_ends items i bytes h = rw (drop_all i items h) refl
 
 -- what holds of each of the table's keywords holds of each keyword
-every_in : (test : Keyword → Bool) (ks : List Keyword) (bytes : List ℕ) (k : Keyword) → list_all test ks ≡ true → first_spelled ks bytes ≡ Some k → test k ≡ true
+every_in : (test : Keyword → Bool) (ks : List Keyword) (bytes : List ℕ) (k : Keyword) → list_all test ks ≡ true
+    → first_spelled ks bytes ≡ Some k → test k ≡ true
 unfolding first_spelled
 every_in test [] bytes k all e = absurd cc
 every_in test (j ∷ ks) bytes k all e =
-    let parts : (test j ≡ true) × (list_all test ks ≡ true) = both (test j) (list_all test ks) all in
+    let parts : (test j ≡ true) × (list_all test ks ≡ true) = and_parts (test j) (list_all test ks) all in
     here (bytes_eq (spelling j) bytes) e parts.0 (every_in test ks bytes k parts.1)
   where
-    here : (t : Bool) → cond t (Some j) (first_spelled ks bytes) ≡ Some k → test j ≡ true → (first_spelled ks bytes ≡ Some k → test k ≡ true) → test k ≡ true
+    here : (t : Bool) → cond t (Some j) (first_spelled ks bytes) ≡ Some k → test j ≡ true
+        → (first_spelled ks bytes ≡ Some k → test k ≡ true) → test k ≡ true
     here true e passes later = let same : j ≡ k = cc in rw (sym same) passes
     here false e passes later = later e
 

@@ -14,10 +14,10 @@ use Rattle.dl_lexer.specs.Keywords.{spelling}
 use Rattle.dl_lexer.specs.Numerals.{IsDigits, IsDecimal, digits, digits_point, point_digits, percent, fraction, IsNumeral, a_decimal, a_percent, a_fraction}
 use Rattle.dl_lexer.specs.Tokens.{begins_with_letter, IsWord, IsNote, note, sign_byte, IsSpelled, IsToken}
 use Rattle.dl_lexer.specs.Cutting.{IsLongest, NoToken}
-use Rattle.dl_lexer.proofs.Prefix.{both}
 use Rattle.dl_lexer.proofs.Longest.{either}
 use Rattle.dl_lexer.proofs.Spellings.{spelling_one, keyword_is_word}
 use Rattle.dl_lexer.proofs.WordLengths.{begins_take, word_parts}
+use Rattle.std.proofs.lemmas.Bool.{and_parts}
 
 -- a digit or a point
 abbrev pub begins_numeral : List ℕ → Bool
@@ -26,12 +26,13 @@ begins_numeral (b ∷ bs) = is_digit b || b == 46
 
 digits_begin : (a rest : List ℕ) → IsDigits a → begins_numeral (a ++ rest) ≡ true
 digits_begin [] rest d = absurd (omega (arith, d.0))
-digits_begin (b ∷ a) rest d = rw (both (is_digit b) (list_all is_digit a) d.1).0 refl
+digits_begin (b ∷ a) rest d = rw (and_parts (is_digit b) (list_all is_digit a) d.1).0 refl
 
 decimal_begins : (bs rest : List ℕ) → IsDecimal bs → begins_numeral (bs ++ rest) ≡ true
 decimal_begins bs rest (digits d) = digits_begin bs rest d
 decimal_begins bs rest (digits_point a b e all_a all_b) =
-    let h : begins_numeral ((a ++ 46 ∷ b) ++ rest) ≡ true = rw (append_assoc a (46 ∷ b) rest) (digits_begin a (46 ∷ (b ++ rest)) all_a) in
+    let h : begins_numeral ((a ++ 46 ∷ b) ++ rest) ≡ true =
+    rw (append_assoc a (46 ∷ b) rest) (digits_begin a (46 ∷ (b ++ rest)) all_a) in
     ap (λ ys. begins_numeral (ys ++ rest)) e ∙ h
 decimal_begins bs rest (point_digits b e all_b) = ap (λ ys. begins_numeral (ys ++ rest)) e
 
@@ -93,7 +94,8 @@ shape kind.Numeral = 2
 shape (kind.Sign s) = 3
 
 shape_of : List ℕ → ℕ
-shape_of bs = if begins_with_letter bs then (if list_all is_word_byte bs then 0 else 1) else (if begins_numeral bs then 2 else 3)
+shape_of bs =
+    if begins_with_letter bs then (if list_all is_word_byte bs then 0 else 1) else (if begins_numeral bs then 2 else 3)
 
 shape_spelled : (k : Kind) (bs : List ℕ) → IsSpelled k bs → shape_of bs ≡ shape k
 unfolding shape shape_of
@@ -136,7 +138,8 @@ kind_one a b bs s t = by_shape a b (same_shape a b bs s t) s t
     by_shape (kind.Sign x) kind.Name h s t = absurd (omega (arith, h))
     by_shape (kind.Sign x) kind.Note h s t = absurd (omega (arith, h))
     by_shape (kind.Sign x) kind.Numeral h s t = absurd (omega (arith, h))
-    by_shape (kind.Sign x) (kind.Sign y) h s t = let same : sign_byte x ≡ sign_byte y = cc in ap kind.Sign (sign_one x y same)
+    by_shape (kind.Sign x) (kind.Sign y) h s t =
+        let same : sign_byte x ≡ sign_byte y = cc in ap kind.Sign (sign_one x y same)
 
 -- no bytes spell no token
 pub token_some : (k : Kind) → IsSpelled k [] → ⊥
@@ -155,7 +158,8 @@ lettered kind.Numeral bs h t = let other = no_letter bs (numeral_begins bs t) in
 lettered (kind.Sign s) bs h t = let other = sign_no_letter s bs t in absurd cc
 
 -- any other token is a numeral or a sign
-unlettered : (k : Kind) (bs : List ℕ) → begins_with_letter bs ≡ false → IsSpelled k bs → IsNumeral bs ⊎ ((s : Sign) × (bs ≡ sign_byte s ∷ []))
+unlettered : (k : Kind) (bs : List ℕ) → begins_with_letter bs ≡ false → IsSpelled k bs
+    → IsNumeral bs ⊎ ((s : Sign) × (bs ≡ sign_byte s ∷ []))
 unlettered (kind.Word k) bs h t = let other = (word_parts bs (word_spelled k bs t)).0 in absurd cc
 unlettered kind.Name bs h t = let other = (word_parts bs t.word).0 in absurd cc
 unlettered kind.Note bs h t = let other = note_begins_letter bs t in absurd cc
@@ -167,59 +171,71 @@ front_some : (bytes : List ℕ) (m : ℕ) → IsToken (take m bytes) → 0 < m
 front_some bytes zero t = absurd (token_some t.kind t.spelled)
 front_some bytes (suc m) t = omega arith
 
-front_lettered : (bytes : List ℕ) (m : ℕ) → begins_with_letter bytes ≡ true → IsToken (take m bytes) → IsWord (take m bytes) ⊎ IsNote (take m bytes)
+front_lettered : (bytes : List ℕ) (m : ℕ) → begins_with_letter bytes ≡ true → IsToken (take m bytes)
+    → IsWord (take m bytes) ⊎ IsNote (take m bytes)
 front_lettered bytes m h t = lettered t.kind (take m bytes) (begins_take m bytes (front_some bytes m t) ∙ h) t.spelled
 
-front_unlettered : (bytes : List ℕ) (m : ℕ) → begins_with_letter bytes ≡ false → IsToken (take m bytes) → IsNumeral (take m bytes) ⊎ ((s : Sign) × (take m bytes ≡ sign_byte s ∷ []))
-front_unlettered bytes m h t = unlettered t.kind (take m bytes) (begins_take m bytes (front_some bytes m t) ∙ h) t.spelled
+front_unlettered : (bytes : List ℕ) (m : ℕ) → begins_with_letter bytes ≡ false → IsToken (take m bytes)
+    → IsNumeral (take m bytes) ⊎ ((s : Sign) × (take m bytes ≡ sign_byte s ∷ []))
+front_unlettered bytes m h t =
+    unlettered t.kind (take m bytes) (begins_take m bytes (front_some bytes m t) ∙ h) t.spelled
 
 -- the longest token at the front: a note or a word, whichever is longer
-pub longest_note : (bytes : List ℕ) (w n : ℕ) → begins_with_letter bytes ≡ true → IsLongest IsWord bytes w → IsLongest IsNote bytes n → w < n → IsLongest IsToken bytes n
+pub longest_note : (bytes : List ℕ) (w n : ℕ) → begins_with_letter bytes ≡ true → IsLongest IsWord bytes w
+    → IsLongest IsNote bytes n → w < n → IsLongest IsToken bytes n
 longest_note bytes w n letter word a_note lt = record {
   within = a_note.within;
   spelled = λ some. record { kind = kind.Note; spelled = a_note.spelled some };
-  longest = λ m h t. either (front_lettered bytes m letter t) (λ x. let most : m ≤ w = word.longest m h x in omega arith) (λ x. a_note.longest m h x);
+  longest = λ m h t. either (front_lettered bytes m letter t)
+      (λ x. let most : m ≤ w = word.longest m h x in omega arith) (λ x. a_note.longest m h x);
 }
 
-pub longest_word : (bytes : List ℕ) (w n : ℕ) (k : Kind) → begins_with_letter bytes ≡ true → IsLongest IsWord bytes w → IsLongest IsNote bytes n → n ≤ w → IsSpelled k (take w bytes) → IsLongest IsToken bytes w
+pub longest_word : (bytes : List ℕ) (w n : ℕ) (k : Kind) → begins_with_letter bytes ≡ true → IsLongest IsWord bytes w
+    → IsLongest IsNote bytes n → n ≤ w → IsSpelled k (take w bytes) → IsLongest IsToken bytes w
 longest_word bytes w n k letter word a_note le t = record {
   within = word.within;
   spelled = λ some. record { kind = k; spelled = t };
-  longest = λ m h t. either (front_lettered bytes m letter t) (λ x. word.longest m h x) (λ x. let most : m ≤ n = a_note.longest m h x in omega arith);
+  longest = λ m h t. either (front_lettered bytes m letter t) (λ x. word.longest m h x)
+      (λ x. let most : m ≤ n = a_note.longest m h x in omega arith);
 }
 
 sign_length : (bytes : List ℕ) (m : ℕ) (s : Sign) → m ≤ length bytes → take m bytes ≡ sign_byte s ∷ [] → m ≡ 1
 sign_length bytes m s h e = sym (length-take-le m bytes h) ∙ ap length e
 
-pub longest_numeral : (bytes : List ℕ) (n : ℕ) → begins_with_letter bytes ≡ false → IsLongest IsNumeral bytes n → 0 < n → IsLongest IsToken bytes n
+pub longest_numeral : (bytes : List ℕ) (n : ℕ) → begins_with_letter bytes ≡ false → IsLongest IsNumeral bytes n → 0 < n
+    → IsLongest IsToken bytes n
 longest_numeral bytes n letter numeral some = record {
   within = numeral.within;
   spelled = λ some. record { kind = kind.Numeral; spelled = numeral.spelled some };
-  longest = λ m h t. either (front_unlettered bytes m letter t) (λ x. numeral.longest m h x) (λ x. let one : m ≡ 1 = sign_length bytes m x.0 h x.1 in omega arith);
+  longest = λ m h t. either (front_unlettered bytes m letter t) (λ x. numeral.longest m h x)
+      (λ x. let one : m ≡ 1 = sign_length bytes m x.0 h x.1 in omega arith);
 }
 
 sign_front : (bytes : List ℕ) (s : Sign) → slice_get bytes 0 ≡ Some (sign_byte s) → take 1 bytes ≡ sign_byte s ∷ []
 sign_front [] s e = absurd cc
 sign_front (b ∷ bytes) s e = let same : b ≡ sign_byte s = cc in ap (λ x. x ∷ []) same
 
-pub sign_at_front : (bytes : List ℕ) (s : Sign) → slice_get bytes 0 ≡ Some (sign_byte s) → IsSpelled (kind.Sign s) (take 1 bytes)
-sign_at_front bytes s e = sign_front bytes s e
-
-sign_behind : (bytes : List ℕ) (m : ℕ) (s : Sign) → take m bytes ≡ sign_byte s ∷ [] → slice_get bytes 0 ≡ Some (sign_byte s)
+sign_behind : (bytes : List ℕ) (m : ℕ) (s : Sign) → take m bytes ≡ sign_byte s ∷ []
+    → slice_get bytes 0 ≡ Some (sign_byte s)
 sign_behind bytes zero s e = absurd cc
 sign_behind [] (suc m) s e = absurd cc
 sign_behind (b ∷ bytes) (suc m) s e = let same : b ≡ sign_byte s = cc in ap Some same
 
-pub longest_sign : (bytes : List ℕ) (s : Sign) → begins_with_letter bytes ≡ false → IsLongest IsNumeral bytes 0 → slice_get bytes 0 ≡ Some (sign_byte s) → IsLongest IsToken bytes 1
+pub longest_sign : (bytes : List ℕ) (s : Sign) → begins_with_letter bytes ≡ false → IsLongest IsNumeral bytes 0
+    → slice_get bytes 0 ≡ Some (sign_byte s) → IsLongest IsToken bytes 1
 longest_sign bytes s letter numeral e = record {
   within = slice_get_within bytes 0 (sign_byte s) e;
   spelled = λ some. record { kind = kind.Sign s; spelled = sign_front bytes s e };
-  longest = λ m h t. either (front_unlettered bytes m letter t) (λ x. let most : m ≤ 0 = numeral.longest m h x in omega arith) (λ x. let one : m ≡ 1 = sign_length bytes m x.0 h x.1 in omega arith);
+  longest = λ m h t. either (front_unlettered bytes m letter t)
+      (λ x. let most : m ≤ 0 = numeral.longest m h x in omega arith)
+      (λ x. let one : m ≡ 1 = sign_length bytes m x.0 h x.1 in omega arith);
 }
 
-pub longest_nothing : (bytes : List ℕ) → begins_with_letter bytes ≡ false → IsLongest IsNumeral bytes 0 → ((s : Sign) → slice_get bytes 0 ≢ Some (sign_byte s)) → NoToken bytes
+pub longest_nothing : (bytes : List ℕ) → begins_with_letter bytes ≡ false → IsLongest IsNumeral bytes 0
+    → ((s : Sign) → slice_get bytes 0 ≢ Some (sign_byte s)) → NoToken bytes
 longest_nothing bytes letter numeral other = record {
   within = omega arith;
   spelled = λ some. absurd (omega arith);
-  longest = λ m h t. either (front_unlettered bytes m letter t) (λ x. numeral.longest m h x) (λ x. absurd (other x.0 (sign_behind bytes m x.0 x.1)));
+  longest = λ m h t. either (front_unlettered bytes m letter t) (λ x. numeral.longest m h x)
+      (λ x. absurd (other x.0 (sign_behind bytes m x.0 x.1)));
 }

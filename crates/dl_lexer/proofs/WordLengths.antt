@@ -10,8 +10,9 @@ use Rattle.std.proofs.lemmas.Slice.Eq.{bytes_eq-Decides}
 use Rattle.dl_lexer.specs.Bytes.{is_word_byte, is_note_byte}
 use Rattle.dl_lexer.specs.Tokens.{begins_with_letter, IsWord, IsNote, note}
 use Rattle.dl_lexer.specs.Cutting.{IsLongest}
-use Rattle.dl_lexer.proofs.Prefix.{both, prefix_passes, prefix_most, prefix_ends, take_around, get_behind}
+use Rattle.dl_lexer.proofs.Prefix.{prefix_passes, prefix_most, prefix_ends, take_around, get_behind}
 use Rattle.dl_lexer.proofs.Longest.{longest_none}
+use Rattle.std.proofs.lemmas.Bool.{and_parts}
 
 -- a start of the bytes begins as they do
 pub begins_take : (m : ℕ) (bytes : List ℕ) → 0 < m → begins_with_letter (take m bytes) ≡ begins_with_letter bytes
@@ -21,13 +22,15 @@ begins_take (suc m) (b ∷ bytes) h = refl
 
 -- a word begins with a letter, and its bytes are all such as a word goes on with
 pub word_parts : (bs : List ℕ) → IsWord bs → (begins_with_letter bs ≡ true) × (list_all is_word_byte bs ≡ true)
-word_parts bs h = both (begins_with_letter bs) (list_all is_word_byte bs) h
+word_parts bs h = and_parts (begins_with_letter bs) (list_all is_word_byte bs) h
 
-pub word_longest : (bytes : List ℕ) (n : ℕ) → begins_with_letter bytes ≡ true → n ≡ prefix_len is_word_byte bytes → IsLongest IsWord bytes n
+pub word_longest : (bytes : List ℕ) (n : ℕ) → begins_with_letter bytes ≡ true → n ≡ prefix_len is_word_byte bytes
+    → IsLongest IsWord bytes n
 word_longest bytes n letter count = record {
   within = omega (arith, prefix_len-le-length is_word_byte bytes);
   spelled = λ some. rw (begins_take n bytes some ∙ letter) (rw count (prefix_passes is_word_byte bytes));
-  longest = λ m h t. let most : m ≤ prefix_len is_word_byte bytes = prefix_most is_word_byte bytes m h (word_parts (take m bytes) t).1 in omega arith;
+  longest = λ m h t. let most : m ≤ prefix_len is_word_byte bytes =
+      prefix_most is_word_byte bytes m h (word_parts (take m bytes) t).1 in omega arith;
 }
 
 -- where a letter begins the bytes a word does
@@ -40,30 +43,39 @@ word_none bytes other = longest_none IsWord bytes no_word
   where
     no_word : (m : ℕ) → m ≤ length bytes → IsWord (take m bytes) → ⊥
     no_word zero h t = cc
-    no_word (suc m) h t = let yes : begins_with_letter (take (suc m) bytes) ≡ true = (word_parts (take (suc m) bytes) t).0 in
-        let same : begins_with_letter (take (suc m) bytes) ≡ begins_with_letter bytes = begins_take (suc m) bytes (omega arith) in cc
+    no_word (suc m) h t =
+        let yes : begins_with_letter (take (suc m) bytes) ≡ true = (word_parts (take (suc m) bytes) t).0 in
+        let same : begins_with_letter (take (suc m) bytes) ≡ begins_with_letter bytes =
+        begins_take (suc m) bytes (omega arith) in cc
 
 -- a note at the front: its text, and what stands behind it
 record IsNoteAt (text : List ℕ) (m : ℕ) : Type 0 where
   pub count : m ≡ prefix_len is_note_byte text + 6
   pub mark : slice_get text (prefix_len is_note_byte text) ≡ Some 125
 
-behind_note : (text inside after : List ℕ) → codes "note{" ++ text ≡ (codes "note{" ++ inside ++ 125 ∷ []) ++ after → text ≡ inside ++ 125 ∷ after
-behind_note text inside after e = let same : text ≡ (inside ++ 125 ∷ []) ++ after = cc in same ∙ append_assoc inside (125 ∷ []) after
+behind_note : (text inside after : List ℕ)
+    → codes "note{" ++ text ≡ (codes "note{" ++ inside ++ 125 ∷ []) ++ after → text ≡ inside ++ 125 ∷ after
+behind_note text inside after e =
+    let same : text ≡ (inside ++ 125 ∷ []) ++ after = cc in same ∙ append_assoc inside (125 ∷ []) after
 
-note_at : (text : List ℕ) (m : ℕ) → m ≤ length (codes "note{" ++ text) → IsNote (take m (codes "note{" ++ text)) → IsNoteAt text m
+note_at : (text : List ℕ) (m : ℕ) → m ≤ length
+    (codes "note{" ++ text) → IsNote (take m (codes "note{" ++ text)) → IsNoteAt text m
 note_at text m h (note inside e all) =
     let bytes : List ℕ = codes "note{" ++ text in
     let after : List ℕ = drop m bytes in
-    let split : text ≡ inside ++ 125 ∷ after = behind_note text inside after (sym (take-append-drop m bytes) ∙ ap (λ ys. ys ++ after) e) in
-    let size : prefix_len is_note_byte text ≡ length inside = ap (prefix_len is_note_byte) split ∙ prefix_ends is_note_byte 125 inside after refl all in
-    let here : slice_get text (length inside) ≡ Some 125 = ap (λ ys. slice_get ys (length inside)) split ∙ get_behind inside after 125 in
+    let split : text ≡ inside ++ 125 ∷ after =
+    behind_note text inside after (sym (take-append-drop m bytes) ∙ ap (λ ys. ys ++ after) e) in
+    let size : prefix_len is_note_byte text ≡ length inside = ap (prefix_len is_note_byte) split
+    ∙ prefix_ends is_note_byte 125 inside after refl all in
+    let here : slice_get text (length inside) ≡ Some 125 = ap (λ ys. slice_get ys (length inside)) split
+    ∙ get_behind inside after 125 in
     record {
       count = omega (arith, ap length e, length-take-le m bytes h, length-append inside (125 ∷ []));
       mark = subst (λ n. slice_get text n ≡ Some 125) (sym size) here;
     }
 
-pub note_closed : (text : List ℕ) (n : ℕ) → n ≡ prefix_len is_note_byte text → slice_get text n ≡ Some 125 → IsLongest IsNote (codes "note{" ++ text) (n + 6)
+pub note_closed : (text : List ℕ) (n : ℕ) → n ≡ prefix_len is_note_byte text → slice_get text n ≡ Some 125
+    → IsLongest IsNote (codes "note{" ++ text) (n + 6)
 note_closed text n count mark = record {
   within = omega (arith, slice_get_within text n 125 mark);
   spelled = λ _. rw whole (note (take n text) refl inside);
@@ -76,10 +88,15 @@ note_closed text n count mark = record {
     whole : take (n + 6) (codes "note{" ++ text) ≡ codes "note{" ++ take n text ++ 125 ∷ []
     whole =
         let size : n + 6 ≡ 5 + (n + 1 + 0) = omega arith in
-        ap (λ k. take k (codes "note{" ++ text)) size ∙ take-append-add (codes "note{") text (n + 1 + 0) ∙ ap (λ ys. codes "note{" ++ ys) (take_around text n 125 0 mark)
+        ap (λ k. take k (codes "note{" ++ text)) size
+        ∙ take-append-add (codes "note{") text (n + 1 + 0)
+        ∙ ap (λ ys. codes "note{" ++ ys) (take_around text n 125 0 mark)
 
-pub note_open : (text : List ℕ) (n : ℕ) → n ≡ prefix_len is_note_byte text → slice_get text n ≢ Some 125 → IsLongest IsNote (codes "note{" ++ text) 0
-note_open text n count other = longest_none IsNote (codes "note{" ++ text) (λ m h t. other (subst (λ k. slice_get text k ≡ Some 125) (sym count) (note_at text m h t).mark))
+pub note_open : (text : List ℕ) (n : ℕ) → n ≡ prefix_len is_note_byte text → slice_get text n ≢ Some 125
+    → IsLongest IsNote (codes "note{" ++ text) 0
+note_open text n count other = longest_none IsNote
+    (codes "note{" ++ text) (λ m h t. other
+    (subst (λ k. slice_get text k ≡ Some 125) (sym count) (note_at text m h t).mark))
 
 -- a note begins with its word and a brace
 pub note_none : (bytes : List ℕ) → ((text : List ℕ) → bytes ≢ codes "note{" ++ text) → IsLongest IsNote bytes 0
@@ -87,16 +104,21 @@ note_none bytes other = longest_none IsNote bytes no_note
   where
     no_note : (m : ℕ) → m ≤ length bytes → IsNote (take m bytes) → ⊥
     no_note m h (note inside e all) =
-        other ((inside ++ 125 ∷ []) ++ drop m bytes) (sym (take-append-drop m bytes) ∙ ap (λ ys. ys ++ drop m bytes) e ∙ append_assoc (codes "note{") (inside ++ 125 ∷ []) (drop m bytes))
+        other ((inside ++ 125 ∷ []) ++ drop m bytes)
+        (sym (take-append-drop m bytes) ∙ ap (λ ys. ys ++ drop m bytes) e
+        ∙ append_assoc (codes "note{") (inside ++ 125 ∷ []) (drop m bytes))
 
 -- bytes begin with a note's word and brace, as their first five show
-pub note_begins : (bytes text : List ℕ) → bytes_eq (take 5 bytes) (codes "note{") ≡ true → text ≡ drop 5 bytes → bytes ≡ codes "note{" ++ text
+pub note_begins : (bytes text : List ℕ)
+    → bytes_eq (take 5 bytes) (codes "note{") ≡ true → text ≡ drop 5 bytes → bytes ≡ codes "note{" ++ text
 note_begins bytes text same rest =
     let front : take 5 bytes ≡ codes "note{" = (bytes_eq-Decides (take 5 bytes) (codes "note{")).0 same in
     sym (take-append-drop 5 bytes) ∙ ap (λ ys. ys ++ drop 5 bytes) front ∙ ap (λ ys. codes "note{" ++ ys) (sym rest)
 
-pub note_begins_not : (bytes : List ℕ) → bytes_eq (take 5 bytes) (codes "note{") ≡ false → (text : List ℕ) → bytes ≢ codes "note{" ++ text
+pub note_begins_not : (bytes : List ℕ) → bytes_eq (take 5 bytes)
+    (codes "note{") ≡ false → (text : List ℕ) → bytes ≢ codes "note{" ++ text
 note_begins_not bytes differ text e =
     let front : take 5 bytes ≡ codes "note{" = ap (take 5) e in
-    let same : bytes_eq (take 5 bytes) (codes "note{") ≡ true = (bytes_eq-Decides (take 5 bytes) (codes "note{")).1 front in
+    let same : bytes_eq (take 5 bytes) (codes "note{") ≡ true =
+    (bytes_eq-Decides (take 5 bytes) (codes "note{")).1 front in
     cc

@@ -16,25 +16,30 @@ pub record IsLongest (IsSpelledSo : List ℕ → Type 0) (bytes : List ℕ) (n :
 abbrev pub NoToken : List ℕ → Type 0
 NoToken bytes = IsLongest IsToken bytes 0
 
--- how many bytes the blank takes that begins the bytes: one, or a comment up to the next newline or the end; 0 where none begins
+-- how many bytes the blank takes that begins the bytes: one, or a comment up to the next newline or
+-- the end; 0 where none begins
 abbrev pub blank_length : List ℕ → ℕ
 blank_length [] = 0
-blank_length (b ∷ bytes) = if is_white b then 1 else if b == 35 then 1 + prefix_len is_comment_byte bytes else 0
+blank_length (b ∷ bytes) =
+    if is_white b then 1 else if b == 35 then 1 + prefix_len is_comment_byte bytes else 0
 
 -- the token of this kind that stands on n bytes from a place on
 abbrev pub token_of : Kind → ℕ → ℕ → Token
 token_of kind at n = record { kind = kind; span = record { start = at; end = at + n } }
 
--- Blanks and these tokens, put in order, are the first bytes of a text, up to this place.
--- In the whole text no longer token begins where one of them stands, and none begins where a blank stands.
+-- Blanks and these tokens, put in order, are the first bytes of a text, up to this place. In the
+-- whole text no longer token begins where one of them stands, and none begins where a blank stands.
 pub data Covers (bytes : List ℕ) : ℕ → List Token → Type 0 where
   nothing : Covers bytes 0 []
-  blank : (at : ℕ) (tokens : List Token) → Covers bytes at tokens → 0 < blank_length (drop at bytes) → NoToken (drop at bytes)
+  blank : (at : ℕ) (tokens : List Token) → Covers bytes at tokens
+      → 0 < blank_length (drop at bytes) → NoToken (drop at bytes)
       → Covers bytes (at + blank_length (drop at bytes)) tokens
-  token : (at n : ℕ) (kind : Kind) (tokens : List Token) → Covers bytes at tokens → IsSpelled kind (take n (drop at bytes)) → IsLongest IsToken (drop at bytes) n
+  token : (at n : ℕ) (kind : Kind) (tokens : List Token) → Covers bytes at tokens
+      → IsSpelled kind (take n (drop at bytes)) → IsLongest IsToken (drop at bytes) n
       → Covers bytes (at + n) (tokens ++ token_of kind at n ∷ [])
 
--- the cutting reaches this place before the end of the text, and neither a blank nor a token begins there
+-- the cutting reaches this place before the end of the text, and neither a blank nor a token begins
+-- there
 pub record IsBad (bytes : List ℕ) (at : ℕ) : Type 0 where
   pub within : at < length bytes
   pub tokens : List Token

@@ -55,4 +55,5 @@ spelling Common = codes "common"
 -- the first of these keywords that is spelled so
 unfoldable pub first_spelled : List Keyword → List ℕ → Option Keyword
 first_spelled [] bytes = None
-first_spelled (k ∷ ks) bytes = if bytes_eq (spelling k) bytes then Some k else first_spelled ks bytes
+first_spelled (k ∷ ks) bytes =
+    if bytes_eq (spelling k) bytes then Some k else first_spelled ks bytes

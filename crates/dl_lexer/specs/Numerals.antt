@@ -14,7 +14,8 @@ IsDigits bytes = (0 < length bytes) × AreDigits bytes
 -- `12`, `1.5` and `5.`, or `.5`
 pub data IsDecimal (bytes : List ℕ) : Type 0 where
   digits : IsDigits bytes → IsDecimal bytes
-  digits_point : (whole part : List ℕ) → bytes ≡ whole ++ 46 ∷ part → IsDigits whole → AreDigits part → IsDecimal bytes
+  digits_point : (whole part : List ℕ) → bytes ≡ whole ++ 46 ∷ part → IsDigits whole
+      → AreDigits part → IsDecimal bytes
   point_digits : (part : List ℕ) → bytes ≡ 46 ∷ part → IsDigits part → IsDecimal bytes
 
 -- `12%`: a decimal, and a percent sign right behind it
@@ -23,7 +24,8 @@ pub data IsPercent (bytes : List ℕ) : Type 0 where
 
 -- `1/2`: digits, a slash, digits
 pub data IsFraction (bytes : List ℕ) : Type 0 where
-  fraction : (above below : List ℕ) → bytes ≡ above ++ 47 ∷ below → IsDigits above → IsDigits below → IsFraction bytes
+  fraction : (above below : List ℕ) → bytes ≡ above ++ 47 ∷ below → IsDigits above → IsDigits below
+      → IsFraction bytes
 
 -- a decimal, a percent or a fraction
 pub data IsNumeral (bytes : List ℕ) : Type 0 where

@@ -26,7 +26,8 @@ pub record IsName (bytes : List ℕ) : Type 0 where
 
 -- `note{`, bytes that are no braces, `}`
 pub data IsNote (bytes : List ℕ) : Type 0 where
-  note : (text : List ℕ) → bytes ≡ codes "note{" ++ text ++ 125 ∷ [] → IsTrue (list_all is_note_byte text) → IsNote bytes
+  note : (text : List ℕ) → bytes ≡ codes "note{" ++ text ++ 125 ∷ []
+      → IsTrue (list_all is_note_byte text) → IsNote bytes
 
 -- the byte of a sign
 abbrev pub sign_byte : Sign → ℕ

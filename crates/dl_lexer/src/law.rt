@@ -20,7 +20,8 @@ pub fn one_kind()
 
 /// A text has at most one list of tokens that covers it, up to any place.
 pub fn one_cover()
-    ensures { (bytes : List ℕ) (end : ℕ) (a b : List Token) → Covers bytes end a → Covers bytes end b
+    ensures { (bytes : List ℕ) (end : ℕ) (a b : List Token) → Covers bytes end a
+        → Covers bytes end b
         → a ≡ b }
 {}
 

@@ -3,19 +3,20 @@ use Rattle.std.proofs.Math.Nat.{zero-lt-suc}
 use Rattle.std.specs.Int.{div_ceil}
 use Rattle.dl_exact.specs.Fraction.{whole, ◌*ℚ◌, ◌≤ℚ◌}
 use Rattle.dl_exact.specs.Sum.{sum_to}
-use Rattle.dl_exact.proofs.Laws.{le_of_eq, le_refl, le_trans, times_one, times_plus, plus_le_both, whole_plus}
+use Rattle.dl_exact.proofs.Laws.{le_of_eq, le_refl, le_trans, times_one, times_plus, plus_le_both, whole_plus, times_le_both}
 use Rattle.dl_exact.proofs.RoundingLaws.{div_ceil_least}
-use Rattle.dl_iv.proofs.FractionLaws.{times_le_both}
 use Rattle.dl_iv.proofs.Rounding.{ceiling_reaches, floor_le_ceiling}
 use Rattle.dl_exp.specs.Exponential.{exponential_term, exponential_sum}
-use Rattle.dl_exp.proofs.Terms.{term_zero, low_term, high_term, low_sum, high_sum, half_parts, rest_bound}
+use Rattle.dl_exact.proofs.SumsOver.{low_sum, high_sum}
+use Rattle.dl_exp.proofs.Terms.{term_zero, low_term, high_term, half_parts, rest_bound}
 use Rattle.dl_exp.proofs.Roundings.{fall, fall_zero, fall_far, fall_next, fallen, near_next}
 use Rattle.dl_exp.proofs.exponential.Goals as goal
 
 pub loop-n-init : goal.loop-n-init
 unfolding sum_to
 loop-n-init c =
-    let e : whole (2 ^ 63) *ℚ exponential_term c.args.x 0 ≡ whole (2 ^ 63) = ap (λ t. whole (2 ^ 63) *ℚ t) (term_zero c.args.x) ∙ times_one _ in
+    let e : whole (2 ^ 63) *ℚ exponential_term c.args.x 0 ≡ whole (2 ^ 63) =
+    ap (λ t. whole (2 ^ 63) *ℚ t) (term_zero c.args.x) ∙ times_one _ in
     record {
       low_term = le_of_eq _ _ (sym e);
       high_term = le_of_eq _ _ e;
@@ -41,23 +42,34 @@ loop-n-preserved c =
     let C = whole (2 ^ 63) in
     let s = c.loop-n.low_term * num / (den * (n + 1)) in
     let t = c.div_ceil-high_term.result in
-    let half : num + num ≤ den = subst₂ (λ a b. a + a ≤ b) (sym c.num-num.ensures.part) (sym c.den-den.ensures.part) (half_parts x c.requires) in
+    let half : num + num ≤ den = subst₂ (λ a b. a + a ≤ b) (sym c.num-num.ensures.part) (sym c.den-den.ensures.part)
+    (half_parts x c.requires) in
     let d : den * (n + 1) ≡ x.den * suc n = ap₂ (λ a b. a * b) c.den-den.ensures.part (add-one n) in
     let positive : 0 < den = c.den-den.ensures.positive in
     let dp : 0 < den * (n + 1) = subst (λ k. 0 < den * k) (sym (add-one n)) (mul-pos positive (zero-lt-suc n)) in
     let low : s * (x.den * suc n) ≤ c.loop-n.low_term * x.num =
-    subst₂ (λ a b. s * a ≤ c.loop-n.low_term * b) d c.num-num.ensures.part (div-mul-le_self (c.loop-n.low_term * num) (den * (n + 1))) in
-    let up : c.loop-n.high_term * num ≤ t * (den * (n + 1)) = rw c.div_ceil-high_term.ensures (ceiling_reaches _ _ dp) in
-    let high : c.loop-n.high_term * x.num ≤ t * (x.den * suc n) = subst₂ (λ a b. c.loop-n.high_term * b ≤ t * a) d c.num-num.ensures.part up in
+    subst₂ (λ a b. s * a ≤ c.loop-n.low_term * b) d c.num-num.ensures.part
+    (div-mul-le_self (c.loop-n.low_term * num) (den * (n + 1))) in
+    let up : c.loop-n.high_term * num ≤ t * (den * (n + 1)) =
+    rw c.div_ceil-high_term.ensures (ceiling_reaches _ _ dp) in
+    let high : c.loop-n.high_term * x.num ≤ t * (x.den * suc n) =
+    subst₂ (λ a b. c.loop-n.high_term * b ≤ t * a) d c.num-num.ensures.part up in
     let f : whole s ≤ℚ C *ℚ exponential_term x (suc n) = low_term x C n c.loop-n.low_term s low i.low_term in
     let g : C *ℚ exponential_term x (suc n) ≤ℚ whole t = high_term x C n c.loop-n.high_term t high i.high_term in
-    let order : s ≤ t = rw c.div_ceil-high_term.ensures (floor_le_ceiling _ _ _ _ dp (omega arith) (mul-le-mul_right num i.terms)) in
-    let near : t ≤ s + 4 = rw c.div_ceil-high_term.ensures (near_next c.loop-n.low_term c.loop-n.high_term num den (n + 1) positive half (omega arith) i.near) in
+    let order : s ≤ t = rw c.div_ceil-high_term.ensures
+    (floor_le_ceiling _ _ _ _ dp (omega arith) (mul-le-mul_right num i.terms)) in
+    let near : t ≤ s + 4 = rw c.div_ceil-high_term.ensures
+    (near_next c.loop-n.low_term c.loop-n.high_term num den (n + 1) positive half (omega arith) i.near) in
     let falls : t * fall (n + 1) ≤ 2 ^ 63 + 2 * fall (n + 1) =
-    rw c.div_ceil-high_term.ensures (subst (λ k. div_ceil (c.loop-n.high_term * num) (den * k) * fall k ≤ 2 ^ 63 + 2 * fall k) (sym (add-one n)) (fall_next (2 ^ 63) c.loop-n.high_term num den n positive half i.falls)) in
-    let small : t ≤ 2 ^ 63 = rw c.div_ceil-high_term.ensures (div_ceil_least _ _ _ dp (shrinks c.loop-n.high_term num den n half i.small)) in
-    let low_all : whole (c.loop-n.low + s) ≤ℚ C *ℚ exponential_sum x (suc n) = low_sum C (exponential_term x) n c.loop-n.low s i.low f in
-    let high_all : C *ℚ exponential_sum x (suc n) ≤ℚ whole (c.loop-n.high + t) = high_sum C (exponential_term x) n c.loop-n.high t i.high g in
+    rw c.div_ceil-high_term.ensures (subst (λ k. div_ceil (c.loop-n.high_term * num)
+    (den * k) * fall k ≤ 2 ^ 63 + 2 * fall k) (sym (add-one n))
+    (fall_next (2 ^ 63) c.loop-n.high_term num den n positive half i.falls)) in
+    let small : t ≤ 2 ^ 63 = rw c.div_ceil-high_term.ensures
+    (div_ceil_least _ _ _ dp (shrinks c.loop-n.high_term num den n half i.small)) in
+    let low_all : whole (c.loop-n.low + s) ≤ℚ C *ℚ exponential_sum x (suc n) =
+    low_sum C (exponential_term x) n c.loop-n.low s i.low f in
+    let high_all : C *ℚ exponential_sum x (suc n) ≤ℚ whole (c.loop-n.high + t) =
+    high_sum C (exponential_term x) n c.loop-n.high t i.high g in
     record {
       low_term = subst (λ k. whole s ≤ℚ C *ℚ exponential_term x k) (sym (add-one n)) f;
       high_term = subst (λ k. C *ℚ exponential_term x k ≤ℚ whole t) (sym (add-one n)) g;
@@ -81,7 +93,8 @@ returns-clause-near c =
     let i = c.loop-n.invariant in
     let e : c.loop-n.n ≡ 18 = omega arith in
     let last : c.loop-n.high_term ≤ 3 =
-    fallen (2 ^ 63) c.loop-n.high_term fall_far (subst (λ k. c.loop-n.high_term * fall k ≤ 2 ^ 63 + 2 * fall k) e i.falls) (omega (arith, fall_far)) in
+    fallen (2 ^ 63) c.loop-n.high_term fall_far
+    (subst (λ k. c.loop-n.high_term * fall k ≤ 2 ^ 63 + 2 * fall k) e i.falls) (omega (arith, fall_far)) in
     omega (arith, last, i.apart)
 
 pub returns-clause-below : goal.returns-clause-below
@@ -94,5 +107,6 @@ returns-clause-above c N =
     let x = c.args.x in
     let n = c.loop-n.n in
     le_trans _ _ _ (times_le_both _ _ _ _ (le_refl (whole (2 ^ 63))) (rest_bound x c.requires n N))
-    (subst₂ (λ s t. s ≤ℚ t) (sym (times_plus (whole (2 ^ 63)) (exponential_sum x n) (exponential_term x n))) (sym (whole_plus c.loop-n.high c.loop-n.high_term))
+    (subst₂ (λ s t. s ≤ℚ t) (sym (times_plus (whole (2 ^ 63)) (exponential_sum x n) (exponential_term x n)))
+    (sym (whole_plus c.loop-n.high c.loop-n.high_term))
     (plus_le_both _ _ _ _ i.high i.high_term))

@@ -4,7 +4,8 @@ use Rattle.dl_frac.proofs.arithmetic.product.Goals as goal
 
 pub fit-requires-clause-positive : goal.fit-requires-clause-positive
 fit-requires-clause-positive c =
-    rw (c.divisor-up.ensures.value, c.divisor-down.ensures.value) (product_pos c.args.a c.args.b c.args.c c.args.d c.requires.left c.requires.right)
+    rw (c.divisor-up.ensures.value, c.divisor-down.ensures.value)
+    (product_pos c.args.a c.args.b c.args.c c.args.d c.requires.left c.requires.right)
 
 pub fit-requires-clause-lowest : goal.fit-requires-clause-lowest
 fit-requires-clause-lowest c =
@@ -12,4 +13,8 @@ fit-requires-clause-lowest c =
     (product_lowest c.args.a c.args.b c.args.c c.args.d c.requires.left c.requires.right c.requires.left_lowest c.requires.right_lowest)
 
 pub returns : goal.returns
-returns c = rw (← product_same c.args.a c.args.b c.args.c c.args.d c.requires.left c.requires.right, ← c.divisor-up.ensures.value, ← c.divisor-down.ensures.value) c.fit.ensures
+returns c = rw (
+  ← product_same c.args.a c.args.b c.args.c c.args.d c.requires.left c.requires.right,
+  ← c.divisor-up.ensures.value,
+  ← c.divisor-down.ensures.value,
+) c.fit.ensures

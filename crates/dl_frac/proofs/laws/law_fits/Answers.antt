@@ -7,7 +7,11 @@ pub returns : goal.returns
 returns c = record {
   decided = λ x. elim (cases_lt x.num (2 ^ 62)) [
     | inr far ↦ inr (inl far)
-    | inl near ↦ elim (cases_lt x.den (2 ^ 62)) [ inl close ↦ inl (record { num = near; den = close }) | inr far ↦ inr (inr far) ]
+    | inl near ↦ elim (cases_lt x.den (2 ^ 62)) [
+      | inl close ↦ inl (record { num = near; den = close })
+      | inr far ↦
+          inr (inr far)
+    ]
   ];
   apart = λ x fits fine. elim fine [ inl far ↦ omega (arith, fits.num, far) | inr far ↦ omega (arith, fits.den, far) ];
 }

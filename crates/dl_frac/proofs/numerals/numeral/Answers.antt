@@ -15,7 +15,10 @@ ratio-requires-clause-small c = omega (arith, few_tens c.bytes.read.digits c.byt
 
 pub returns-then-byte-eq47-clause-value : goal.returns-then-byte-eq47-clause-value
 returns-then-byte-eq47-clause-value c =
-    rw (← slash_value_at c.args.text.now c.bytes.at c.bytes-test.true c.if-byte-eq47.true c.bytes.invariant.whole, ← c.bytes.invariant.reads.number) c.ratio.ensures.value
+    rw (
+      ← slash_value_at c.args.text.now c.bytes.at c.bytes-test.true c.if-byte-eq47.true c.bytes.invariant.whole,
+      ← c.bytes.invariant.reads.number,
+    ) c.ratio.ensures.value
 
 pub returns-then-byte-eq47-clause-bad : goal.returns-then-byte-eq47-clause-bad
 returns-then-byte-eq47-clause-bad c =
@@ -29,10 +32,13 @@ returns-in_err-read-clause-bad c =
     let text = c.args.text.now in
     let i = c.bytes.at in
     let far : c.args.digits < digit_count (take (i + 1) text) =
-    subst (λ t. c.args.digits < digit_count t) (sym (take_more text i 0 c.bytes-test.true)) (c.in_err-read.ensures.err (take i text) c.bytes.invariant.reads) in
-    let front : list_any is_slash (take (i + 1) text) ≡ false = front_push text i c.bytes-test.true c.bytes.invariant.whole c.if-byte-eq47.false in
+    subst (λ t. c.args.digits < digit_count t) (sym (take_more text i 0 c.bytes-test.true))
+    (c.in_err-read.ensures.err (take i text) c.bytes.invariant.reads) in
+    let front : list_any is_slash (take (i + 1) text) ≡ false =
+    front_push text i c.bytes-test.true c.bytes.invariant.whole c.if-byte-eq47.false in
     let bad : is_bad c.args.digits text ≡ true =
-    subst (λ t. is_bad c.args.digits t ≡ true) (take-append-drop (i + 1) text) (early_bad c.args.digits (take (i + 1) text) (drop (i + 1) text) front far) in
+    subst (λ t. is_bad c.args.digits t ≡ true) (take-append-drop (i + 1) text)
+    (early_bad c.args.digits (take (i + 1) text) (drop (i + 1) text) front far) in
     (λ _. bad, λ _. c.from_residual.ensures.0)
 
 pub returns-clause-value : goal.returns-clause-value
@@ -40,11 +46,13 @@ returns-clause-value c =
     let text = c.args.text.now in
     let all : take c.bytes.at text ≡ text = take_all c.bytes.at text c.bytes-test.false in
     let none : list_any is_slash text ≡ false = subst (λ t. list_any is_slash t ≡ false) all c.bytes.invariant.whole in
-    rw (plain_value text none) (c.decimal.ensures.ok text (subst (λ t. Reads c.args.digits t c.bytes.read) all c.bytes.invariant.reads))
+    rw (plain_value text none) (c.decimal.ensures.ok text
+    (subst (λ t. Reads c.args.digits t c.bytes.read) all c.bytes.invariant.reads))
 
 pub returns-clause-bad : goal.returns-clause-bad
 returns-clause-bad c =
     let text = c.args.text.now in
     let all : take c.bytes.at text ≡ text = take_all c.bytes.at text c.bytes-test.false in
     let none : list_any is_slash text ≡ false = subst (λ t. list_any is_slash t ≡ false) all c.bytes.invariant.whole in
-    rw (plain_bad c.args.digits text none) (c.decimal.ensures.bad text (subst (λ t. Reads c.args.digits t c.bytes.read) all c.bytes.invariant.reads))
+    rw (plain_bad c.args.digits text none) (c.decimal.ensures.bad text
+    (subst (λ t. Reads c.args.digits t c.bytes.read) all c.bytes.invariant.reads))

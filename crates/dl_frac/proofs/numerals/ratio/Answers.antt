@@ -14,9 +14,11 @@ returns-in_err-read-clause-bad c =
     let text = c.args.text.now in
     let i = c.bytes.byte-index in
     let far : c.args.digits < digit_count (take (i + 1) text) =
-    subst (λ t. c.args.digits < digit_count t) (sym (take_more text i 0 c.bytes-test.true)) (c.in_err-read.ensures.err (take i text) c.bytes.invariant) in
+    subst (λ t. c.args.digits < digit_count t) (sym (take_more text i 0 c.bytes-test.true))
+    (c.in_err-read.ensures.err (take i text) c.bytes.invariant) in
     let many : nat_lt c.args.digits (digit_count text) ≡ true =
-    subst (λ t. nat_lt c.args.digits (digit_count t) ≡ true) (take-append-drop (i + 1) text) (too_many c.args.digits (take (i + 1) text) (drop (i + 1) text) far) in
+    subst (λ t. nat_lt c.args.digits (digit_count t) ≡ true) (take-append-drop (i + 1) text)
+    (too_many c.args.digits (take (i + 1) text) (drop (i + 1) text) far) in
     (λ _. ap (λ b. b || number_in text == 0) many, λ _. c.from_residual.ensures.0)
 
 pub reduced-requires-clause-small_den : goal.reduced-requires-clause-small_den

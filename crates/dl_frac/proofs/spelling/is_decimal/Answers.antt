@@ -14,7 +14,8 @@ returns-then-all_digits c =
     elim c.if-text-gt1.branch [
       | then-text-gt1 w ↦
           let left = number_pass _ w.all_digits.result w.all_digits.ensures in (
-            λ h. pointed_there text c.in-Some.at place w.if-text-gt1.true (left.0 (sym w.value-is ∙ c.if-all_digits.true)) (right.0 h),
+            λ h. pointed_there text c.in-Some.at place w.if-text-gt1.true
+                (left.0 (sym w.value-is ∙ c.if-all_digits.true)) (right.0 h),
             λ h. right.1 (pointed_back text c.in-Some.at place h).2,
           )
       | else-text-gt1 w ↦ absurd (grind (arith, nat_tests, c.if-all_digits.true, w.value-is, w.if-text-gt1.false))
@@ -26,12 +27,16 @@ returns-else-all_digits c =
     let place = first_place is_point text c.in-Some.at c.in-Some.ensures in (
       λ h. clash c.if-text-gt1.value h c.if-all_digits.false,
       λ h. elim c.if-text-gt1.branch [
-        | then-text-gt1 w ↦ w.value-is ∙ (number_pass _ w.all_digits.result w.all_digits.ensures).1 (pointed_back text c.in-Some.at place h).1
+        | then-text-gt1 w ↦ w.value-is ∙ (number_pass _ w.all_digits.result w.all_digits.ensures).1
+            (pointed_back text c.in-Some.at place h).1
         | else-text-gt1 w ↦ absurd (omega (arith, w.if-text-gt1.false, (pointed_back text c.in-Some.at place h).0))
       ],
     )
 
 pub returns-in-None : goal.returns-in-None
 returns-in-None c =
-    let text = c.args.text.now in
-    (λ h. plain (c.is_number.ensures.0 h), λ h. c.is_number.ensures.1 (unpointed text (no_place is_point text c.in-None.ensures) h))
+    let text = c.args.text.now in (
+      λ h. plain (c.is_number.ensures.0 h),
+      λ h. c.is_number.ensures.1
+          (unpointed text (no_place is_point text c.in-None.ensures) h),
+    )

@@ -8,28 +8,40 @@ pub returns-then-is_number : goal.returns-then-is_number
 returns-then-is_number c =
     let text = c.args.text.now in
     let place = first_place is_slash text c.in-Some.at c.in-Some.ensures in (
-      λ h. fraction_there text c.in-Some.at place (c.is_number.ensures.0 c.if-is_number.true) (c.is_number-then-is_number.ensures.0 h),
+      λ h. fraction_there text c.in-Some.at place (c.is_number.ensures.0 c.if-is_number.true)
+          (c.is_number-then-is_number.ensures.0 h),
       λ h. c.is_number-then-is_number.ensures.1 (fraction_back text c.in-Some.at place h).1,
     )
 
 pub returns-else-is_number : goal.returns-else-is_number
 returns-else-is_number c =
     let text = c.args.text.now in
-    let place = first_place is_slash text c.in-Some.at c.in-Some.ensures in
-    (λ h. clash c.is_number.result h c.if-is_number.false, λ h. c.is_number.ensures.1 (fraction_back text c.in-Some.at place h).0)
+    let place = first_place is_slash text c.in-Some.at c.in-Some.ensures in (
+      λ h. clash c.is_number.result h c.if-is_number.false,
+      λ h. c.is_number.ensures.1
+          (fraction_back text c.in-Some.at place h).0,
+    )
 
 pub returns-then-last-eq37 : goal.returns-then-last-eq37
 returns-then-last-eq37 c =
     let text = c.args.text.now in
     let front = c.in-Some-split_last.front.now in
     let none = no_place is_slash text c.in_default.ensures in
-    let cut : text ≡ front ++ 37 ∷ [] = c.in-Some-split_last.ensures.cases.0 ∙ ap (λ b. front ++ b ∷ []) c.if-last-eq37.true in
-    (λ h. percent front (c.is_decimal.ensures.0 h) cut, λ h. c.is_decimal.ensures.1 (percent_back text front none cut h))
+    let cut : text ≡ front ++ 37 ∷ [] = c.in-Some-split_last.ensures.cases.0
+    ∙ ap (λ b. front ++ b ∷ []) c.if-last-eq37.true in (
+      λ h. percent front (c.is_decimal.ensures.0 h) cut,
+      λ h. c.is_decimal.ensures.1
+          (percent_back text front none cut h),
+    )
 
 pub returns-else-last-eq37 : goal.returns-else-last-eq37
 returns-else-last-eq37 c =
     let text = c.args.text.now in
     let none = no_place is_slash text c.in_default.ensures in
     let cut = c.in-Some-split_last.ensures.cases.0 in
-    let other : (front : List ℕ) → text ≡ front ++ 37 ∷ [] → ⊥ = λ front same. c.if-last-eq37.false (last_is _ _ _ _ (sym cut ∙ same)) in
-    (λ h. decimal (c.is_decimal-else-last-eq37.ensures.0 h), λ h. c.is_decimal-else-last-eq37.ensures.1 (decimal_back text none other h))
+    let other : (front : List ℕ) → text ≡ front ++ 37 ∷ [] → ⊥ =
+    λ front same. c.if-last-eq37.false (last_is _ _ _ _ (sym cut ∙ same)) in (
+      λ h. decimal (c.is_decimal-else-last-eq37.ensures.0 h),
+      λ h. c.is_decimal-else-last-eq37.ensures.1
+          (decimal_back text none other h),
+    )

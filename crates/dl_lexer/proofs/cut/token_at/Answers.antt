@@ -10,7 +10,8 @@ returns-then-numeral-gt0-clause-spelled c = c.numeral_length-numeral.ensures.spe
 
 pub returns-then-numeral-gt0-clause-longest : goal.returns-then-numeral-gt0-clause-longest
 returns-then-numeral-gt0-clause-longest c =
-    longest_numeral c.args.bytes.now c.numeral_length-numeral.result (sym c.begins_with_letter.ensures ∙ c.if-begins_with_letter.false) c.numeral_length-numeral.ensures (omega arith)
+    longest_numeral c.args.bytes.now c.numeral_length-numeral.result
+    (sym c.begins_with_letter.ensures ∙ c.if-begins_with_letter.false) c.numeral_length-numeral.ensures (omega arith)
 
 pub returns-in-Some-clause-longest : goal.returns-in-Some-clause-longest
 returns-in-Some-clause-longest c =

@@ -9,21 +9,26 @@ pub returns-then-note-word-clause-spelled : goal.returns-then-note-word-clause-s
 returns-then-note-word-clause-spelled c = c.note_length-note.ensures.spelled (omega arith)
 
 pub returns-then-note-word-clause-longest : goal.returns-then-note-word-clause-longest
-returns-then-note-word-clause-longest c = longest_note c.args.bytes.now c.word_length-word.result c.note_length-note.result c.requires c.word_length-word.ensures c.note_length-note.ensures (omega arith)
+returns-then-note-word-clause-longest c =
+    longest_note c.args.bytes.now c.word_length-word.result c.note_length-note.result c.requires c.word_length-word.ensures c.note_length-note.ensures (omega arith)
 
 pub returns-in-Some-clause-longest : goal.returns-in-Some-clause-longest
-returns-in-Some-clause-longest c = longest_word c.args.bytes.now c.word_length-word.result c.note_length-note.result (kind.Word c.in-Some.keyword) c.requires c.word_length-word.ensures c.note_length-note.ensures (omega arith)
+returns-in-Some-clause-longest c = longest_word c.args.bytes.now c.word_length-word.result c.note_length-note.result
+    (kind.Word c.in-Some.keyword) c.requires c.word_length-word.ensures c.note_length-note.ensures (omega arith)
     (sym c.in-Some.ensures.found)
 
 pub returns-in-None-clause-spelled : goal.returns-in-None-clause-spelled
 returns-in-None-clause-spelled c = record {
-  word = c.word_length-word.ensures.spelled (word_some c.args.bytes.now c.word_length-word.result c.requires c.word_length-word.ensures);
+  word = c.word_length-word.ensures.spelled
+      (word_some c.args.bytes.now c.word_length-word.result c.requires c.word_length-word.ensures);
   no_keyword = c.in-None.ensures.none;
 }
 
 pub returns-in-None-clause-longest : goal.returns-in-None-clause-longest
-returns-in-None-clause-longest c = longest_word c.args.bytes.now c.word_length-word.result c.note_length-note.result kind.Name c.requires c.word_length-word.ensures c.note_length-note.ensures (omega arith)
+returns-in-None-clause-longest c =
+    longest_word c.args.bytes.now c.word_length-word.result c.note_length-note.result kind.Name c.requires c.word_length-word.ensures c.note_length-note.ensures (omega arith)
     (record {
-      word = c.word_length-word.ensures.spelled (word_some c.args.bytes.now c.word_length-word.result c.requires c.word_length-word.ensures);
+      word = c.word_length-word.ensures.spelled
+          (word_some c.args.bytes.now c.word_length-word.result c.requires c.word_length-word.ensures);
       no_keyword = c.in-None.ensures.none;
     })

@@ -13,7 +13,8 @@ returns-then-is_at c =
     let text : List ℕ = c.in-Some.text.now in
     let n : ℕ = c.run_length-length.result in
     let split = note_begins c.args.bytes.now text c.in-Some.ensures.cases.0 c.in-Some.ensures.cases.1 in
-    subst (λ ys. IsLongest IsNote ys (n + 6)) (sym split) (note_closed text n c.run_length-length.ensures.run (c.is_at.ensures.is.0 c.if-is_at.true))
+    subst (λ ys. IsLongest IsNote ys (n + 6)) (sym split)
+    (note_closed text n c.run_length-length.ensures.run (c.is_at.ensures.is.0 c.if-is_at.true))
 
 pub returns-else-is_at : goal.returns-else-is_at
 returns-else-is_at c =

@@ -8,15 +8,18 @@ pub returns-then-eq : goal.returns-then-eq
 returns-then-eq c =
     let bytes : List ℕ = c.args.bytes.now in
     let same : c.spelling.result.now ≡ bytes = search rules in
-    let at = ap (λ ks. first_spelled ks bytes) (rest_of_table c.args.table.now c.loop-keyword.keyword-index _ c.loop-keyword-test.true) in
+    let at = ap (λ ks. first_spelled ks bytes)
+    (rest_of_table c.args.table.now c.loop-keyword.keyword-index _ c.loop-keyword-test.true) in
     sym (first_spelled_here _ _ bytes (sym c.spelling.ensures ∙ same)) ∙ sym at ∙ c.loop-keyword.invariant
 
 pub loop-keyword-preserved : goal.loop-keyword-preserved
 loop-keyword-preserved c =
     let bytes : List ℕ = c.args.bytes.now in
     let other : c.spelling.result.now ≢ bytes = search rules in
-    let at = ap (λ ks. first_spelled ks bytes) (rest_of_table c.args.table.now c.loop-keyword.keyword-index _ c.loop-keyword-test.true) in
+    let at = ap (λ ks. first_spelled ks bytes)
+    (rest_of_table c.args.table.now c.loop-keyword.keyword-index _ c.loop-keyword-test.true) in
     sym (first_spelled_later _ _ bytes (λ e. other (c.spelling.ensures ∙ e))) ∙ sym at ∙ c.loop-keyword.invariant
 
 pub returns : goal.returns
-returns c = sym (table_ends c.args.table.now c.loop-keyword.keyword-index c.args.bytes.now c.loop-keyword-test.false) ∙ c.loop-keyword.invariant
+returns c = sym (table_ends c.args.table.now c.loop-keyword.keyword-index c.args.bytes.now c.loop-keyword-test.false)
+    ∙ c.loop-keyword.invariant

@@ -4,4 +4,5 @@ use Rattle.dl_lexer.specs.Keywords.{first_spelled}
 use Rattle.dl_lexer.proofs.token.find_in.Given as goal
 
 abbrev pub invariant-loop-keyword : goal.invariant-loop-keyword
-invariant-loop-keyword l = first_spelled (map (λ item. item.0) (drop l.keyword-index l.table)) l.bytes ≡ first_spelled (map (λ item. item.0) l.table) l.bytes
+invariant-loop-keyword l = first_spelled (map (λ item. item.0) (drop l.keyword-index l.table)) l.bytes ≡ first_spelled
+    (map (λ item. item.0) l.table) l.bytes

@@ -1,5 +1,6 @@
 -- The parts that are left after the two cuts.
-use Rattle.dl_frac.proofs.FractionLaws.{sum_pos, sum_lowest, sum_same, sum_is}
+use Rattle.dl_exact.proofs.Parts.{sum_is}
+use Rattle.dl_frac.proofs.FractionLaws.{sum_pos, sum_lowest, sum_same}
 use Rattle.dl_frac.proofs.arithmetic.Frac.add.Goals as goal
 
 pub fit-requires-clause-positive : goal.fit-requires-clause-positive

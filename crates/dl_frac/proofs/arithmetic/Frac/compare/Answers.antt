@@ -1,5 +1,5 @@
 -- The order of the cross products.
-use Rattle.dl_frac.proofs.FractionLaws.{by_cross}
+use Rattle.dl_exact.proofs.Parts.{by_cross}
 use Rattle.dl_frac.proofs.arithmetic.Frac.compare.Goals as goal
 
 pub returns : goal.returns

@@ -1,5 +1,5 @@
 -- The product by its definition.
-use Rattle.dl_frac.proofs.FractionLaws.{product_is}
+use Rattle.dl_exact.proofs.Parts.{product_is}
 use Rattle.dl_frac.proofs.arithmetic.Frac.mul.Goals as goal
 
 pub returns : goal.returns

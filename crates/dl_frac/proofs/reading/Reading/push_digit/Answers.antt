@@ -13,7 +13,11 @@ returns-clause-ok c = λ text r.
       number = ap (λ n. 10 * n + d) r.number ∙ sym (number_push text d c.requires.digit);
       digits = ap (λ n. n + 1) r.digits ∙ sym count;
       scale = scale_push text d c.args.self.scale c.if-self.scale c.requires.digit r.scale
-          (elim c.if-self.branch [ then-self w ↦ inl (sym r.pointed ∙ w.if-self.true, w.scale-is) | else-self w ↦ inr (sym r.pointed ∙ w.if-self.false, w.scale-is) ]);
+          (elim c.if-self.branch [
+            | then-self w ↦ inl (sym r.pointed ∙ w.if-self.true, w.scale-is)
+            | else-self w ↦
+                inr (sym r.pointed ∙ w.if-self.false, w.scale-is)
+          ]);
       pointed = r.pointed ∙ sym (any_push_no is_point text (48 + d) (no_mark d c.requires.digit).0);
       percent = r.percent ∙ sym (any_push_no is_percent text (48 + d) (no_mark d c.requires.digit).1);
       within = omega (arith, r.digits, r.within, count);

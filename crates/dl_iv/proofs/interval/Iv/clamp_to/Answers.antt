@@ -1,5 +1,5 @@
 use Rattle.std.proofs.lemmas.Nat.{pow_pos}
-use Rattle.dl_iv.proofs.Lesser.{clamp_low, clamp_high}
+use Rattle.dl_exact.proofs.Lesser.{clamp_low, clamp_high}
 use Rattle.dl_iv.proofs.interval.Iv.clamp_to.Goals as goal
 
 pub returns-clause-holds : goal.returns-clause-holds

@@ -7,5 +7,6 @@ returns-clause-holds g c x p =
     let pos = pow_pos g.row.B in
     record {
       low = rw (c.saturating_sub.ensures, c.units_of_one-one.ensures) (sub_low _ pos _ _ _ x (one_low _ pos) p.high);
-      high = rw (c.saturating_sub-2.ensures, c.units_of_one-one.ensures) (sub_high _ pos _ _ _ x (one_high _ pos) p.low);
+      high = rw (c.saturating_sub-2.ensures, c.units_of_one-one.ensures)
+          (sub_high _ pos _ _ _ x (one_high _ pos) p.low);
     }

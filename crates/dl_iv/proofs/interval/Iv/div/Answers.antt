@@ -7,7 +7,8 @@ use Rattle.dl_iv.proofs.interval.Iv.div.Goals as goal
 
 pub invariant_of-result-clause-ordered : goal.invariant_of-result-clause-ordered
 invariant_of-result-clause-ordered g c =
-    rw c.div_ceil-hi.ensures (floor_le_ceiling _ _ _ _ c.requires.positive c.args.o.ordered (mul-le-mul_right _ c.args.self.ordered))
+    rw c.div_ceil-hi.ensures (floor_le_ceiling _ _ _ _ c.requires.positive c.args.o.ordered
+    (mul-le-mul_right _ c.args.self.ordered))
 
 pub invariant_of-result-clause-in_range : goal.invariant_of-result-clause-in_range
 invariant_of-result-clause-in_range g c = rw (c.div_ceil-hi.ensures, c.units_of_one-one.ensures) c.requires.fits
@@ -16,6 +17,8 @@ pub returns-clause-holds : goal.returns-clause-holds
 returns-clause-holds g c x y p q =
     let pos = pow_pos g.row.B in
     record {
-      low = rw c.units_of_one-one.ensures (div_low _ pos _ _ x y (omega arith) (above_zero _ pos _ y c.requires.positive q.low) p.low q.high);
-      high = rw (c.div_ceil-hi.ensures, c.units_of_one-one.ensures) (div_high _ pos _ _ x y c.requires.positive p.high q.low);
+      low = rw c.units_of_one-one.ensures (div_low _ pos _ _ x y (omega arith)
+          (above_zero _ pos _ y c.requires.positive q.low) p.low q.high);
+      high = rw (c.div_ceil-hi.ensures, c.units_of_one-one.ensures)
+          (div_high _ pos _ _ x y c.requires.positive p.high q.low);
     }

@@ -9,7 +9,8 @@ use Rattle.dl_iv.proofs.interval.Iv.mul.Goals as goal
 pub invariant_of-result-clause-ordered : goal.invariant_of-result-clause-ordered
 invariant_of-result-clause-ordered g c =
     let two : 2 ≤ c.units_of_one-one.result = two_le g.row.B _ c.args.self.scale_above c.units_of_one-one.ensures in
-    rw c.div_ceil-hi.ensures (floor_le_ceiling _ _ _ _ (omega arith) (le_refl _) (mul-le-mul c.args.self.ordered c.args.o.ordered))
+    rw c.div_ceil-hi.ensures (floor_le_ceiling _ _ _ _ (omega arith) (le_refl _)
+    (mul-le-mul c.args.self.ordered c.args.o.ordered))
 
 pub invariant_of-result-clause-in_range : goal.invariant_of-result-clause-in_range
 invariant_of-result-clause-in_range g c =

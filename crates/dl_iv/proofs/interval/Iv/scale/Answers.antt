@@ -5,5 +5,6 @@ use Rattle.dl_iv.proofs.interval.Iv.scale.Goals as goal
 pub returns-clause-holds : goal.returns-clause-holds
 returns-clause-holds g c x p = record {
   low = rw (c.from-num.ensures, c.from-den.ensures) (scale_low _ (pow_pos g.row.B) _ _ _ x c.requires.positive p.low);
-  high = rw (c.div_ceil-hi.ensures, c.from-num.ensures, c.from-den.ensures) (scale_high _ (pow_pos g.row.B) _ _ _ x c.requires.positive p.high);
+  high = rw (c.div_ceil-hi.ensures, c.from-num.ensures, c.from-den.ensures)
+      (scale_high _ (pow_pos g.row.B) _ _ _ x c.requires.positive p.high);
 }

@@ -1,11 +1,10 @@
 -- The lesser of two fractions is one of them.
 use Rattle.std.proofs.Common.{◌≡◌, ℕ, ◌*◌, ◌<◌, min, arith, inl, inr, sym, ap, subst, ◌∙◌, mul-pos}
 use Rattle.std.proofs.lemmas.Bool.{cases_lt}
-use Rattle.dl_exact.specs.Fraction.{Fraction, ◌over◌, ◌≤ℚ◌}
+use Rattle.dl_exact.specs.Fraction.{Fraction, ◌over◌, ◌≤ℚ◌, lesser}
 use Rattle.dl_exact.proofs.Over.{over_same, over_self}
 use Rattle.dl_exact.proofs.Laws.{le_refl, le_trans, le_of_lt, lt_or_le}
-use Rattle.dl_iv.specs.Enclosure.{lesser}
-use Rattle.dl_iv.proofs.FractionLaws.{over_le_over}
+use Rattle.dl_exact.proofs.Denominators.{over_le_over}
 
 pub lesser_left : (x y : Fraction) → x ≤ℚ y → lesser x y ≡ x
 unfolding lesser ◌≤ℚ◌
@@ -42,7 +41,8 @@ le_lesser x y z p q = by_lesser (λ t. z ≤ℚ t) x y (λ _. p) (λ _. q)
 -- ends lowered to the number t of units, of which d make 1
 pub clamp_low : (d a t : ℕ) (x : Fraction) → 0 < d → a over d ≤ℚ x → min a t over d ≤ℚ lesser x (t over d)
 clamp_low d a t x pos p =
-    le_lesser x (t over d) _ (le_trans _ _ _ (over_le_over _ a d pos (omega arith)) p) (over_le_over _ t d pos (omega arith))
+    le_lesser x (t over d) _ (le_trans _ _ _ (over_le_over _ a d pos (omega arith)) p)
+    (over_le_over _ t d pos (omega arith))
 
 pub clamp_high : (d a t : ℕ) (x : Fraction) → 0 < d → x ≤ℚ a over d → lesser x (t over d) ≤ℚ min a t over d
 clamp_high d a t x pos p = elim (cases_lt a t) [

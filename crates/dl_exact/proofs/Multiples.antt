@@ -6,7 +6,7 @@ use Rattle.std.proofs.Common.{inl, inr}
 use Rattle.std.proofs.lemmas.Nat.Gcd.{IsGcd-from_mod, IsGcd-from_zero, IsGcd-swap, same_from_IsGcd, dvd_trans, dvd-zero, dvd_antisymm}
 use Rattle.dl_exact.specs.Gcd.{gcd}
 use Rattle.dl_exact.proofs.GcdLaws.{gcd_is, gcd_pos, gcd-scale, cut_left, cut_right}
-use Rattle.dl_frac.specs.Multiples.{IsLcm, lcm}
+use Rattle.dl_exact.specs.Multiples.{IsLcm, lcm}
 
 -- ---- Euclid's steps
 
@@ -14,7 +14,8 @@ pub gcd-zero : (a b : ℕ) → b ≡ 0 → gcd a b ≡ a
 gcd-zero a b e = same_from_IsGcd a b (gcd a b) a (gcd_is a b) (IsGcd-from_zero a b e)
 
 pub gcd-mod : (a b : ℕ) → gcd b (a % b) ≡ gcd a b
-gcd-mod a b = same_from_IsGcd a b (gcd b (a % b)) (gcd a b) (IsGcd-from_mod a b (gcd b (a % b)) (gcd_is b (a % b))) (gcd_is a b)
+gcd-mod a b = same_from_IsGcd a b (gcd b (a % b)) (gcd a b) (IsGcd-from_mod a b (gcd b (a % b)) (gcd_is b (a % b)))
+    (gcd_is a b)
 
 pub gcd-swap : (a b : ℕ) → gcd a b ≡ gcd b a
 gcd-swap a b = same_from_IsGcd a b (gcd a b) (gcd b a) (gcd_is a b) (IsGcd-swap b a (gcd b a) (gcd_is b a))
@@ -38,7 +39,8 @@ lowest_parts a b c d e p q = lowest_by c d (λ k u v. lowest_says a b k e (dvd_t
 pub lowest_times : (a b c : ℕ) → 0 < c → gcd a b ≡ 1 → gcd a c ≡ 1 → gcd a (b * c) ≡ 1
 lowest_times a b c h p q =
     let e : gcd (a * c) (b * c) ≡ c = gcd-scale a b c h ∙ ap (λ n. n * c) p ∙ (omega arith) in
-    lowest_by a (b * c) (λ k u v. lowest_says a c k q u (subst (λ n. k ∣ n) e ((gcd_is (a * c) (b * c)).2 k (dvd-mul_right_of_dvd k u c) v)))
+    lowest_by a (b * c) (λ k u v. lowest_says a c k q u
+    (subst (λ n. k ∣ n) e ((gcd_is (a * c) (b * c)).2 k (dvd-mul_right_of_dvd k u c) v)))
 
 pub lowest_product : (a c b : ℕ) → 0 < b → gcd a b ≡ 1 → gcd c b ≡ 1 → gcd (a * c) b ≡ 1
 lowest_product a c b h p q = elim (eq-zero-or-pos c) [
@@ -88,7 +90,8 @@ lcm_least a b n h p q = elim (eq-zero-or-pos n) [
       let u : a * b ∣ a * n = mul-dvd-mul_left b a q in
       let v : a * b ∣ b * n = subst (λ k. a * b ∣ k) (mul_comm n b) (mul-dvd-mul_right a p b) in
       let w : a * b ∣ gcd (a * n) (b * n) = (gcd_is (a * n) (b * n)).2 (a * b) u v in
-      let x : lcm a b * g ∣ n * g = subst (λ k. lcm a b * g ∣ k) (gcd-scale a b n pos ∙ mul_comm g n) (subst (λ k. k ∣ gcd (a * n) (b * n)) (sym (lcm_gcd a b)) w) in
+      let x : lcm a b * g ∣ n * g = subst (λ k. lcm a b * g ∣ k) (gcd-scale a b n pos ∙ mul_comm g n)
+      (subst (λ k. k ∣ gcd (a * n) (b * n)) (sym (lcm_gcd a b)) w) in
       dvd_of_mul-dvd-mul_right (lcm a b) (gcd_pos a b h) x
 ]
 
