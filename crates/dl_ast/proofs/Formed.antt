@@ -28,7 +28,8 @@ record Gives {X : Type 0} (r : Rule X) (P : X → Type 0) : Type 0 where
 
 all_front : (us vs : List Lexeme) → All IsReal (us ++ vs) → All IsReal us
 all_front [] vs h = All-nil IsReal
-all_front (u ∷ us) vs h = All-cons IsReal u us (All-head IsReal u (us ++ vs) h) (all_front us vs (All-tail IsReal u (us ++ vs) h))
+all_front (u ∷ us) vs h =
+    All-cons IsReal u us (All-head IsReal u (us ++ vs) h) (all_front us vs (All-tail IsReal u (us ++ vs) h))
 
 all_back : (us vs : List Lexeme) → All IsReal (us ++ vs) → All IsReal vs
 all_back [] vs h = h
@@ -45,47 +46,62 @@ back_real ts us vs e h = all_back us vs (subst (All IsReal) e h)
 gives_one : (k : Kind) → Gives (one k) (λ t. (t.kind ≡ k) × IsReal t)
 gives_one k = record { gives = λ x ts h (e, s). (e, All-head IsReal x [] (subst (All IsReal) s h)) }
 
-gives_seq : {A B : Type 0} (a : Rule A) (b : Rule B) (P : A → Type 0) (Q : B → Type 0) → Gives a P → Gives b Q → Gives (a ▸ b) (λ p. P p.0 × Q p.1)
-gives_seq a b P Q f g = record { gives = λ x ts h (us, vs, e, s, t). (f.gives x.0 us (front_real ts us vs e h) s, g.gives x.1 vs (back_real ts us vs e h) t) }
+gives_seq : {A B : Type 0} (a : Rule A) (b : Rule B) (P : A → Type 0) (Q : B → Type 0) → Gives a P → Gives b Q
+    → Gives (a ▸ b) (λ p. P p.0 × Q p.1)
+gives_seq a b P Q f g = record {
+  gives = λ x ts h (us, vs, e, s, t).
+      (f.gives x.0 us (front_real ts us vs e h) s, g.gives x.1 vs (back_real ts us vs e h) t);
+}
 
-either : {A : Type 0} (a b : Rule A) (P : A → Type 0) → Gives a P → Gives b P → (x : A) (ts : List Lexeme) → All IsReal ts → Spells (a or b) x ts → P x
+either : {A : Type 0} (a b : Rule A) (P : A → Type 0) → Gives a P → Gives b P → (x : A) (ts : List Lexeme)
+    → All IsReal ts → Spells (a or b) x ts → P x
 either a b P f g x ts h (inl s) = f.gives x ts h s
 either a b P f g x ts h (inr s) = g.gives x ts h s
 
 gives_or : {A : Type 0} (a b : Rule A) (P : A → Type 0) → Gives a P → Gives b P → Gives (a or b) P
 gives_or a b P f g = record { gives = either a b P f g }
 
-optional : {A : Type 0} (a : Rule A) (P : A → Type 0) → Gives a P → (o : Option A) (ts : List Lexeme) → All IsReal ts → Spells (maybe a) o ts → IfSome o P
+optional : {A : Type 0} (a : Rule A) (P : A → Type 0) → Gives a P → (o : Option A) (ts : List Lexeme) → All IsReal ts
+    → Spells (maybe a) o ts → IfSome o P
 optional a P f None ts h s = tt
 optional a P f (Some x) ts h s = f.gives x ts h s
 
 gives_maybe : {A : Type 0} (a : Rule A) (P : A → Type 0) → Gives a P → Gives (maybe a) (λ o. IfSome o P)
 gives_maybe a P f = record { gives = optional a P f }
 
-each : {A : Type 0} (a : Rule A) (P : A → Type 0) → Gives a P → (xs : List A) (ts : List Lexeme) → All IsReal ts → Each (Spells a) xs ts → All P xs
+each : {A : Type 0} (a : Rule A) (P : A → Type 0) → Gives a P → (xs : List A) (ts : List Lexeme) → All IsReal ts
+    → Each (Spells a) xs ts → All P xs
 each a P f [] ts h s = All-nil P
-each a P f (x ∷ xs) ts h (us, vs, e, s, t) = All-cons P x xs (f.gives x us (front_real ts us vs e h) s) (each a P f xs vs (back_real ts us vs e h) t)
+each a P f (x ∷ xs) ts h (us, vs, e, s, t) =
+    All-cons P x xs (f.gives x us (front_real ts us vs e h) s) (each a P f xs vs (back_real ts us vs e h) t)
 
 gives_many : {A : Type 0} (a : Rule A) (P : A → Type 0) → Gives a P → Gives (many a) (All P)
 gives_many a P f = record { gives = each a P f }
 
-gives_made : {A B : Type 0} (f : A → B) (a : Rule A) (P : A → Type 0) (Q : B → Type 0) → Gives a P → ((x : A) → P x → Q (f x)) → Gives (made f a) Q
+gives_made : {A B : Type 0} (f : A → B) (a : Rule A) (P : A → Type 0) (Q : B → Type 0) → Gives a P
+    → ((x : A) → P x → Q (f x)) → Gives (made f a) Q
 gives_made f a P Q g make = record { gives = λ y ts h (x, e, s). subst Q (sym e) (make x (g.gives x ts h s)) }
 
-gives_node : {A B : Type 0} (f : A → Span → B) (a : Rule A) (P : A → Type 0) (Q : B → Type 0) → Gives a P → ((x : A) (span : Span) → P x → Q (f x span)) → Gives (node f a) Q
-gives_node f a P Q g make = record { gives = λ y ts h (x, e, s). subst Q (sym e) (make x (span_of ts) (g.gives x ts h s)) }
+gives_node : {A B : Type 0} (f : A → Span → B) (a : Rule A) (P : A → Type 0) (Q : B → Type 0) → Gives a P
+    → ((x : A) (span : Span) → P x → Q (f x span)) → Gives (node f a) Q
+gives_node f a P Q g make =
+    record { gives = λ y ts h (x, e, s). subst Q (sym e) (make x (span_of ts) (g.gives x ts h s)) }
 
 gives_behind : {A : Type 0} (k : Kind) (a : Rule A) (P : A → Type 0) → Gives a P → Gives (k ≫ a) P
-gives_behind k a P f = record { gives = λ x ts h (p, e, (us, vs, g, s, t)). subst P (sym e) (f.gives p.1 vs (back_real ts us vs g h) t) }
+gives_behind k a P f =
+    record { gives = λ x ts h (p, e, (us, vs, g, s, t)). subst P (sym e) (f.gives p.1 vs (back_real ts us vs g h) t) }
 
 gives_before : {A : Type 0} (k : Kind) (a : Rule A) (P : A → Type 0) → Gives a P → Gives (a ≪ k) P
-gives_before k a P f = record { gives = λ x ts h (p, e, (us, vs, g, s, t)). subst P (sym e) (f.gives p.0 us (front_real ts us vs g h) s) }
+gives_before k a P f =
+    record { gives = λ x ts h (p, e, (us, vs, g, s, t)). subst P (sym e) (f.gives p.0 us (front_real ts us vs g h) s) }
 
 gives_means : {A : Type 0} (k : Kind) (y : A) (P : A → Type 0) → P y → Gives (k means y) P
 gives_means k y P h = record { gives = λ x ts g (t, e, s). subst P (sym e) h }
 
-gives_some_of : {A : Type 0} (a b : Rule A) (P : A → Type 0) → Gives a P → Gives b P → Gives (some_of a b) (λ xs. (0 < length xs) × All P xs)
-gives_some_of a b P f g = gives_made (λ p. p.0 ∷ p.1) (a ▸ many b) (λ p. P p.0 × All P p.1) (λ xs. (0 < length xs) × All P xs) (gives_seq a (many b) P (All P) f (gives_many b P g))
+gives_some_of : {A : Type 0} (a b : Rule A) (P : A → Type 0) → Gives a P → Gives b P
+    → Gives (some_of a b) (λ xs. (0 < length xs) × All P xs)
+gives_some_of a b P f g = gives_made (λ p. p.0 ∷ p.1) (a ▸ many b) (λ p. P p.0 × All P p.1)
+    (λ xs. (0 < length xs) × All P xs) (gives_seq a (many b) P (All P) f (gives_many b P g))
     (λ p h. (omega arith, All-cons P p.0 p.1 h.0 h.1))
 
 -- the lines of the grammar
@@ -95,51 +111,66 @@ of_kind k P t e h = subst (λ j. P j t.text) e h
 
 numeral_given : Gives numeral IsNumeral
 unfolding numeral
-numeral_given = gives_made _ (one kinds.Numeral) (λ t. (t.kind ≡ kinds.Numeral) × IsReal t) IsNumeral (gives_one kinds.Numeral) (λ t h. of_kind kinds.Numeral IsSpelled t h.0 h.1)
+numeral_given = gives_made _ (one kinds.Numeral) (λ t. (t.kind ≡ kinds.Numeral) × IsReal t) IsNumeral
+    (gives_one kinds.Numeral) (λ t h. of_kind kinds.Numeral IsSpelled t h.0 h.1)
 
 name_given : Gives name IsName
 unfolding name
-name_given = gives_made _ (one kinds.Name) (λ t. (t.kind ≡ kinds.Name) × IsReal t) IsName (gives_one kinds.Name) (λ t h. of_kind kinds.Name IsSpelled t h.0 h.1)
+name_given = gives_made _ (one kinds.Name) (λ t. (t.kind ≡ kinds.Name) × IsReal t) IsName (gives_one kinds.Name)
+    (λ t h. of_kind kinds.Name IsSpelled t h.0 h.1)
 
 note_given : Gives note IsNote
 unfolding note
-note_given = gives_made _ (one kinds.Note) (λ t. (t.kind ≡ kinds.Note) × IsReal t) IsNote (gives_one kinds.Note) (λ t h. of_kind kinds.Note IsSpelled t h.0 h.1)
+note_given = gives_made _ (one kinds.Note) (λ t. (t.kind ≡ kinds.Note) × IsReal t) IsNote (gives_one kinds.Note)
+    (λ t h. of_kind kinds.Note IsSpelled t h.0 h.1)
 
 item_given : Gives item IsItem
 unfolding item
 item_given = gives_node _ _ (λ make. (span : Span) → IsItem (make span)) IsItem
     (gives_or _ _ (λ make. (span : Span) → IsItem (make span))
-    (gives_made _ numeral IsNumeral (λ make. (span : Span) → IsItem (make span)) numeral_given (λ a h span. record { from = h; to = tt; step = tt; beside = λ e. absurd cc }))
+    (gives_made _ numeral IsNumeral (λ make. (span : Span) → IsItem (make span)) numeral_given
+    (λ a h span. record { from = h; to = tt; step = tt; beside = λ e. absurd cc }))
     (gives_or _ _ (λ make. (span : Span) → IsItem (make span))
-    (gives_made _ (numeral ▸ Sign signs.Colon ≫ numeral) (λ p. IsNumeral p.0 × IsNumeral p.1) (λ make. (span : Span) → IsItem (make span))
-    (gives_seq numeral _ IsNumeral IsNumeral numeral_given (gives_behind (Sign signs.Colon) numeral IsNumeral numeral_given)) (λ p h span. record { from = h.0; to = h.1; step = tt; beside = λ e. refl }))
-    (gives_made _ (numeral ▸ Sign signs.Colon ≫ numeral ▸ Sign signs.Colon ≫ numeral) (λ p. IsNumeral p.0 × (IsNumeral p.1.0 × IsNumeral p.1.1)) (λ make. (span : Span) → IsItem (make span))
-    (gives_seq numeral _ IsNumeral (λ q. IsNumeral q.0 × IsNumeral q.1) numeral_given (gives_behind (Sign signs.Colon) (numeral ▸ Sign signs.Colon ≫ numeral) (λ q. IsNumeral q.0 × IsNumeral q.1)
-    (gives_seq numeral _ IsNumeral IsNumeral numeral_given (gives_behind (Sign signs.Colon) numeral IsNumeral numeral_given))))
+    (gives_made _ (numeral ▸ Sign signs.Colon ≫ numeral) (λ p. IsNumeral p.0 × IsNumeral p.1)
+    (λ make. (span : Span) → IsItem (make span))
+    (gives_seq numeral _ IsNumeral IsNumeral numeral_given
+    (gives_behind (Sign signs.Colon) numeral IsNumeral numeral_given))
+    (λ p h span. record { from = h.0; to = h.1; step = tt; beside = λ e. refl }))
+    (gives_made _ (numeral ▸ Sign signs.Colon ≫ numeral ▸ Sign signs.Colon ≫ numeral)
+    (λ p. IsNumeral p.0 × (IsNumeral p.1.0 × IsNumeral p.1.1)) (λ make. (span : Span) → IsItem (make span))
+    (gives_seq numeral _ IsNumeral (λ q. IsNumeral q.0 × IsNumeral q.1) numeral_given
+    (gives_behind (Sign signs.Colon) (numeral ▸ Sign signs.Colon ≫ numeral) (λ q. IsNumeral q.0 × IsNumeral q.1)
+    (gives_seq numeral _ IsNumeral IsNumeral numeral_given
+    (gives_behind (Sign signs.Colon) numeral IsNumeral numeral_given))))
     (λ p h span. record { from = h.0; to = h.1.0; step = h.1.1; beside = λ e. refl }))))
     (λ make span h. h span)
 
 next_item_given : Gives next_item IsItem
 unfolding next_item
-next_item_given = gives_made _ (maybe (one (Sign signs.Comma)) ▸ item) (λ p. IsItem p.1) IsItem (record { gives = λ x ts h (us, vs, e, s, t). item_given.gives x.1 vs (back_real ts us vs e h) t }) (λ p h. h)
+next_item_given = gives_made _ (maybe (one (Sign signs.Comma)) ▸ item) (λ p. IsItem p.1) IsItem
+    (record { gives = λ x ts h (us, vs, e, s, t). item_given.gives x.1 vs (back_real ts us vs e h) t }) (λ p h. h)
 
 items_given : Gives (some_of item next_item) (λ xs. (0 < length xs) × All IsItem xs)
 items_given = gives_some_of item next_item IsItem item_given next_item_given
 
 list_given : Gives list IsList
 unfolding list
-list_given = gives_node _ (Sign signs.Open ≫ some_of item next_item ≪ Sign signs.Close) (λ xs. (0 < length xs) × All IsItem xs) IsList
-    (gives_behind (Sign signs.Open) (some_of item next_item ≪ Sign signs.Close) (λ xs. (0 < length xs) × All IsItem xs) (gives_before (Sign signs.Close) (some_of item next_item) (λ xs. (0 < length xs) × All IsItem xs) items_given))
+list_given = gives_node _ (Sign signs.Open ≫ some_of item next_item ≪ Sign signs.Close)
+    (λ xs. (0 < length xs) × All IsItem xs) IsList
+    (gives_behind (Sign signs.Open) (some_of item next_item ≪ Sign signs.Close) (λ xs. (0 < length xs) × All IsItem xs)
+    (gives_before (Sign signs.Close) (some_of item next_item) (λ xs. (0 < length xs) × All IsItem xs) items_given))
     (λ xs span h. record { some = h.0; items = h.1 })
 
 limit_given : Gives limit IsLimit
 unfolding limit
-limit_given = gives_or _ _ IsLimit (gives_made limits.Finite numeral IsNumeral IsLimit numeral_given (λ n h. h)) (gives_means (Word words.Inf) limits.Infinite IsLimit tt)
+limit_given = gives_or _ _ IsLimit (gives_made limits.Finite numeral IsNumeral IsLimit numeral_given (λ n h. h))
+    (gives_means (Word words.Inf) limits.Infinite IsLimit tt)
 
 layer_given : Gives layer IsLayer
 unfolding layer
 layer_given = gives_node _ (limit ≪ Word words.Xs ▸ numeral) (λ p. IsLimit p.0 × IsNumeral p.1) IsLayer
-    (gives_seq (limit ≪ Word words.Xs) numeral IsLimit IsNumeral (gives_before (Word words.Xs) limit IsLimit limit_given) numeral_given)
+    (gives_seq (limit ≪ Word words.Xs) numeral IsLimit IsNumeral
+    (gives_before (Word words.Xs) limit IsLimit limit_given) numeral_given)
     (λ p span h. record { limit = h.0; attach = h.1 })
 
 lists_given : Gives (list ▸ maybe list) (λ p. IsList p.0 × IfSome p.1 IsList)
@@ -148,8 +179,10 @@ lists_given = gives_seq list (maybe list) IsList (λ o. IfSome o IsList) list_gi
 atom_given : Gives atom IsAtom
 unfolding atom
 atom_given = gives_made _ _ (λ p. IsList p.0 × IfSome p.1 IsList) IsAtom
-    (gives_or _ _ (λ p. IsList p.0 × IfSome p.1 IsList) (gives_behind (Word words.Dsev) (list ▸ maybe list) (λ p. IsList p.0 × IfSome p.1 IsList) lists_given)
-    (gives_behind (Word words.Sev) _ (λ p. IsList p.0 × IfSome p.1 IsList) (gives_behind (Word words.Dhistogram) _ (λ p. IsList p.0 × IfSome p.1 IsList)
+    (gives_or _ _ (λ p. IsList p.0 × IfSome p.1 IsList)
+    (gives_behind (Word words.Dsev) (list ▸ maybe list) (λ p. IsList p.0 × IfSome p.1 IsList) lists_given)
+    (gives_behind (Word words.Sev) _ (λ p. IsList p.0 × IfSome p.1 IsList)
+    (gives_behind (Word words.Dhistogram) _ (λ p. IsList p.0 × IfSome p.1 IsList)
     (gives_behind (Word words.Xps) (list ▸ maybe list) (λ p. IsList p.0 × IfSome p.1 IsList) lists_given))))
     (λ p h. record { values = h.0; probs = h.1 })
 
@@ -160,10 +193,13 @@ IsMixture m = (0 < length m.0) × All IsAtom m.0 × IfSome m.1 IsList × (1 < le
 mixture_given : Gives mixture IsMixture
 unfolding mixture
 mixture_given = gives_or _ _ IsMixture
-    (gives_made _ atom IsAtom IsMixture atom_given (λ a h. (omega arith, All-cons IsAtom a [] h (All-nil IsAtom), tt, λ lt. absurd (omega arith))))
-    (gives_made _ (atom ▸ many atom ▸ Word words.Wts ≫ list) (λ p. IsAtom p.0 × (All IsAtom p.1.0 × IsList p.1.1)) IsMixture
+    (gives_made _ atom IsAtom IsMixture atom_given
+    (λ a h. (omega arith, All-cons IsAtom a [] h (All-nil IsAtom), tt, λ lt. absurd (omega arith))))
+    (gives_made _ (atom ▸ many atom ▸ Word words.Wts ≫ list)
+    (λ p. IsAtom p.0 × (All IsAtom p.1.0 × IsList p.1.1)) IsMixture
     (gives_seq atom _ IsAtom (λ q. All IsAtom q.0 × IsList q.1) atom_given
-    (gives_seq (many atom) (Word words.Wts ≫ list) (All IsAtom) IsList (gives_many atom IsAtom atom_given) (gives_behind (Word words.Wts) list IsList list_given)))
+    (gives_seq (many atom) (Word words.Wts ≫ list) (All IsAtom) IsList (gives_many atom IsAtom atom_given)
+    (gives_behind (Word words.Wts) list IsList list_given)))
     (λ p h. (omega arith, All-cons IsAtom p.0 p.1.0 h.0 h.1.0, h.1.1, λ lt. refl)))
 
 sev_given : Gives sev IsSev
@@ -179,10 +215,15 @@ cession_given : Gives cession IsCeded
 unfolding cession
 cession_given = gives_node _ _ (λ make. (span : Span) → IsCeded (make span)) IsCeded
     (gives_or _ _ (λ make. (span : Span) → IsCeded (make span))
-    (gives_made whole layer IsLayer (λ make. (span : Span) → IsCeded (make span)) layer_given (λ l h span. record { share = tt; layer = h }))
+    (gives_made whole layer IsLayer (λ make. (span : Span) → IsCeded (make span)) layer_given
+    (λ l h span. record { share = tt; layer = h }))
     (gives_or _ _ (λ make. (span : Span) → IsCeded (make span))
-    (gives_made _ (numeral ▸ Word words.So ≫ layer) (λ p. IsNumeral p.0 × IsLayer p.1) (λ make. (span : Span) → IsCeded (make span)) (part_given (Word words.So)) (λ p h span. record { share = h.0; layer = h.1 }))
-    (gives_made _ (numeral ▸ Word words.Po ≫ layer) (λ p. IsNumeral p.0 × IsLayer p.1) (λ make. (span : Span) → IsCeded (make span)) (part_given (Word words.Po)) (λ p h span. record { share = h.0; layer = h.1 }))))
+    (gives_made _ (numeral ▸ Word words.So ≫ layer) (λ p. IsNumeral p.0 × IsLayer p.1)
+    (λ make. (span : Span) → IsCeded (make span)) (part_given (Word words.So))
+    (λ p h span. record { share = h.0; layer = h.1 }))
+    (gives_made _ (numeral ▸ Word words.Po ≫ layer) (λ p. IsNumeral p.0 × IsLayer p.1)
+    (λ make. (span : Span) → IsCeded (make span)) (part_given (Word words.Po))
+    (λ p h span. record { share = h.0; layer = h.1 }))))
     (λ make span h. h span)
 
 next_cession_given : Gives next_cession IsCeded
@@ -194,8 +235,10 @@ layers_given = gives_some_of cession next_cession IsCeded cession_given next_ces
 
 clause_given : (kind : Kind) → Gives (clause kind) IsCession
 unfolding clause
-clause_given kind = gives_node _ (kind ≫ side ▸ some_of cession next_cession) (λ p. (0 < length p.1) × All IsCeded p.1) IsCession
-    (gives_behind kind (side ▸ some_of cession next_cession) (λ p. (0 < length p.1) × All IsCeded p.1) (record { gives = λ x ts h (us, vs, e, s, t). layers_given.gives x.1 vs (back_real ts us vs e h) t }))
+clause_given kind =
+    gives_node _ (kind ≫ side ▸ some_of cession next_cession) (λ p. (0 < length p.1) × All IsCeded p.1) IsCession
+    (gives_behind kind (side ▸ some_of cession next_cession) (λ p. (0 < length p.1) × All IsCeded p.1)
+    (record { gives = λ x ts h (us, vs, e, s, t). layers_given.gives x.1 vs (back_real ts us vs e h) t }))
     (λ p span h. record { some = h.0; layers = h.1 })
 
 abbrev FreqFormed : (Span → FreqAst) → Type 0
@@ -208,9 +251,11 @@ freq_given = gives_node _ _ FreqFormed IsFreq
     (gives_or _ _ FreqFormed (gives_means (Word words.Poisson) _ FreqFormed (λ span. tt))
     (gives_or _ _ FreqFormed (gives_means (Word words.Bernoulli) _ FreqFormed (λ span. tt))
     (gives_or _ _ FreqFormed
-    (gives_made _ (Word words.Binomial ≫ numeral) IsNumeral FreqFormed (gives_behind (Word words.Binomial) numeral IsNumeral numeral_given) (λ n h span. h))
+    (gives_made _ (Word words.Binomial ≫ numeral) IsNumeral FreqFormed
+    (gives_behind (Word words.Binomial) numeral IsNumeral numeral_given) (λ n h span. h))
     (gives_made _ (Word words.Mixed ≫ Word words.Gamma ≫ numeral) IsNumeral FreqFormed
-    (gives_behind (Word words.Mixed) _ IsNumeral (gives_behind (Word words.Gamma) numeral IsNumeral numeral_given)) (λ n h span. h))))))
+    (gives_behind (Word words.Mixed) _ IsNumeral (gives_behind (Word words.Gamma) numeral IsNumeral numeral_given))
+    (λ n h span. h))))))
     (λ make span h. h span)
 
 abbrev ExposureFormed : (Span → Exposure) → Type 0
@@ -220,13 +265,18 @@ exposure_given : Gives exposure IsExposure
 unfolding exposure
 exposure_given = gives_node _ _ ExposureFormed IsExposure
     (gives_or _ _ ExposureFormed
-    (gives_made _ (numeral ▸ claims) (λ p. IsNumeral p.0) ExposureFormed (record { gives = λ x ts h (us, vs, e, s, t). numeral_given.gives x.0 us (front_real ts us vs e h) s }) (λ p h span. h))
+    (gives_made _ (numeral ▸ claims) (λ p. IsNumeral p.0) ExposureFormed
+    (record { gives = λ x ts h (us, vs, e, s, t). numeral_given.gives x.0 us (front_real ts us vs e h) s })
+    (λ p h span. h))
     (gives_or _ _ ExposureFormed
-    (gives_made _ (numeral ≪ Word words.Loss) IsNumeral ExposureFormed (gives_before (Word words.Loss) numeral IsNumeral numeral_given) (λ n h span. h))
-    (gives_made _ (numeral ▸ premium ▸ Word words.At ≫ numeral ≪ Word words.Lr) (λ p. IsNumeral p.0 × IsNumeral p.1.1) ExposureFormed
+    (gives_made _ (numeral ≪ Word words.Loss) IsNumeral ExposureFormed
+    (gives_before (Word words.Loss) numeral IsNumeral numeral_given) (λ n h span. h))
+    (gives_made _ (numeral ▸ premium ▸ Word words.At ≫ numeral ≪ Word words.Lr)
+    (λ p. IsNumeral p.0 × IsNumeral p.1.1) ExposureFormed
     (gives_seq numeral _ IsNumeral (λ q. IsNumeral q.1) numeral_given (record {
       gives = λ x ts h (us, vs, e, s, t).
-          (gives_behind (Word words.At) (numeral ≪ Word words.Lr) IsNumeral (gives_before (Word words.Lr) numeral IsNumeral numeral_given)).gives x.1 vs (back_real ts us vs e h) t;
+          (gives_behind (Word words.At) (numeral ≪ Word words.Lr) IsNumeral
+          (gives_before (Word words.Lr) numeral IsNumeral numeral_given)).gives x.1 vs (back_real ts us vs e h) t;
     }))
     (λ p h span. h))))
     (λ make span h. h span)
@@ -234,27 +284,54 @@ exposure_given = gives_node _ _ ExposureFormed IsExposure
 listed_given : Gives listed IsCount
 unfolding listed
 listed_given = gives_node _ (Word words.Dfreq ≫ list ▸ maybe list) (λ p. IsList p.0 × IfSome p.1 IsList) IsCount
-    (gives_behind (Word words.Dfreq) (list ▸ maybe list) (λ p. IsList p.0 × IfSome p.1 IsList) lists_given) (λ p span h. h)
+    (gives_behind (Word words.Dfreq) (list ▸ maybe list) (λ p. IsList p.0 × IfSome p.1 IsList) lists_given)
+    (λ p span h. h)
 
 exposed_given : Gives (name ▸ exposure ▸ maybe layer ▸ sev ▸ maybe occ ▸ freq ▸ maybe agr ▸ maybe note)
-    (λ (n, (e, (l, (s, (o, (f, (a, t))))))). IsName n × (IsExposure e × (IfSome l IsLayer × (IsSev s × (IfSome o IsCession × (IsFreq f × (IfSome a IsCession × IfSome t IsNote)))))))
-exposed_given = gives_seq _ _ IsName _ name_given (gives_seq _ _ IsExposure _ exposure_given (gives_seq _ _ (λ o. IfSome o IsLayer) _ (gives_maybe layer IsLayer layer_given) (gives_seq _ _ IsSev _ sev_given
-    (gives_seq _ _ (λ o. IfSome o IsCession) _ (gives_maybe occ IsCession (clause_given (Word words.Occurrence))) (gives_seq _ _ IsFreq _ freq_given
-    (gives_seq _ _ (λ o. IfSome o IsCession) (λ o. IfSome o IsNote) (gives_maybe agr IsCession (clause_given (Word words.Aggregate))) (gives_maybe note IsNote note_given)))))))
+    (λ (n, (e, (l, (s, (o, (f, (a, t))))))). IsName n ×
+    (IsExposure e × (IfSome l IsLayer × (IsSev s ×
+    (IfSome o IsCession × (IsFreq f × (IfSome a IsCession × IfSome t IsNote)))))))
+exposed_given = gives_seq _ _ IsName _ name_given
+    (gives_seq _ _ IsExposure _ exposure_given
+    (gives_seq _ _ (λ o. IfSome o IsLayer) _ (gives_maybe layer IsLayer layer_given) (gives_seq _ _ IsSev _ sev_given
+    (gives_seq _ _ (λ o. IfSome o IsCession) _ (gives_maybe occ IsCession (clause_given (Word words.Occurrence)))
+    (gives_seq _ _ IsFreq _ freq_given
+    (gives_seq _ _ (λ o. IfSome o IsCession) (λ o. IfSome o IsNote)
+    (gives_maybe agr IsCession (clause_given (Word words.Aggregate))) (gives_maybe note IsNote note_given)))))))
 
 counted_given : Gives (name ▸ listed ▸ maybe layer ▸ sev ▸ maybe occ ▸ maybe agr ▸ maybe note)
-    (λ (n, (c, (l, (s, (o, (a, t)))))). IsName n × (IsCount c × (IfSome l IsLayer × (IsSev s × (IfSome o IsCession × (IfSome a IsCession × IfSome t IsNote))))))
-counted_given = gives_seq _ _ IsName _ name_given (gives_seq _ _ IsCount _ listed_given (gives_seq _ _ (λ o. IfSome o IsLayer) _ (gives_maybe layer IsLayer layer_given) (gives_seq _ _ IsSev _ sev_given
+    (λ (n, (c, (l, (s, (o, (a, t)))))). IsName n ×
+    (IsCount c × (IfSome l IsLayer × (IsSev s × (IfSome o IsCession × (IfSome a IsCession × IfSome t IsNote))))))
+counted_given = gives_seq _ _ IsName _ name_given
+    (gives_seq _ _ IsCount _ listed_given (gives_seq _ _ (λ o. IfSome o IsLayer) _
+    (gives_maybe layer IsLayer layer_given) (gives_seq _ _ IsSev _ sev_given
     (gives_seq _ _ (λ o. IfSome o IsCession) _ (gives_maybe occ IsCession (clause_given (Word words.Occurrence)))
-    (gives_seq _ _ (λ o. IfSome o IsCession) (λ o. IfSome o IsNote) (gives_maybe agr IsCession (clause_given (Word words.Aggregate))) (gives_maybe note IsNote note_given))))))
+    (gives_seq _ _ (λ o. IfSome o IsCession) (λ o. IfSome o IsNote)
+    (gives_maybe agr IsCession (clause_given (Word words.Aggregate))) (gives_maybe note IsNote note_given))))))
 
 unit_given : Gives unit IsUnit
 unfolding unit
 unit_given = gives_or _ _ IsUnit
     (gives_made exposed_unit _ _ IsUnit (gives_behind (Word words.Agg) _ _ exposed_given)
-    (λ p (n, (e, (l, (s, (o, (f, (a, t))))))). record { name = n; count = (e, f); layer = l; sev = s; occ = o; agr = a; note = t }))
+    (λ p (n, (e, (l, (s, (o, (f, (a, t))))))). record {
+      name = n;
+      count = (e, f);
+      layer = l;
+      sev = s;
+      occ = o;
+      agr = a;
+      note = t;
+    }))
     (gives_made listed_unit _ _ IsUnit (gives_behind (Word words.Agg) _ _ counted_given)
-    (λ p (n, (c, (l, (s, (o, (a, t)))))). record { name = n; count = c; layer = l; sev = s; occ = o; agr = a; note = t }))
+    (λ p (n, (c, (l, (s, (o, (a, t)))))). record {
+      name = n;
+      count = c;
+      layer = l;
+      sev = s;
+      occ = o;
+      agr = a;
+      note = t;
+    }))
 
 head_given : Gives head IsHead
 unfolding head
@@ -269,7 +346,8 @@ units_given = gives_some_of unit unit IsUnit unit_given unit_given
 program_given : Gives program IsWellFormed
 unfolding program
 program_given = gives_or _ _ IsWellFormed
-    (gives_made _ unit IsUnit IsWellFormed unit_given (λ u h. record { head = tt; some = omega arith; units = All-cons IsUnit u [] h (All-nil IsUnit); one = λ e. refl }))
+    (gives_made _ unit IsUnit IsWellFormed unit_given
+    (λ u h. record { head = tt; some = omega arith; units = All-cons IsUnit u [] h (All-nil IsUnit); one = λ e. refl }))
     (gives_made _ (head ▸ some_of unit unit) (λ p. IsHead p.0 × ((0 < length p.1) × All IsUnit p.1)) IsWellFormed
     (gives_seq head (some_of unit unit) IsHead (λ xs. (0 < length xs) × All IsUnit xs) head_given units_given)
     (λ p h. record { head = h.0; some = h.1.0; units = h.1.1; one = λ e. absurd cc }))

@@ -1,4 +1,5 @@
--- The grammar of programs, a line at a time. What a rule spells is the syntax, with the spans of its nodes.
+-- The grammar of programs, a line at a time. What a rule spells is the syntax, with the spans of
+-- its nodes.
 use Rattle.std.specs.Prelude.{ℕ, Bool, true, false, List, [], ◌∷◌, Option, Some, None, is_some}
 use Rattle.dl_lexer.specs.declared.token.Keyword.TheVariants as words
 use Rattle.dl_lexer.specs.declared.token.Sign.TheVariants as signs
@@ -66,8 +67,14 @@ note = made (λ t. t.text) (one kinds.Note)
 unfoldable pub item : Rule ListItem
 item = spanned (
     made (λ from span. record { from = from; to = None; step = None; span = span }) numeral
-    or made (λ (from, to) span. record { from = from; to = Some to; step = None; span = span }) (numeral ▸ Sign signs.Colon ≫ numeral)
-    or made (λ (from, (to, step)) span. record { from = from; to = Some to; step = Some step; span = span })
+    or made (λ (from, to) span. record { from = from; to = Some to; step = None; span = span })
+    (numeral ▸ Sign signs.Colon ≫ numeral)
+    or made (λ (from, (to, step)) span. record {
+      from = from;
+      to = Some to;
+      step = Some step;
+      span = span;
+    })
     (numeral ▸ Sign signs.Colon ≫ numeral ▸ Sign signs.Colon ≫ numeral))
 
 -- list := '[' item (','? item)* ']'
@@ -75,7 +82,8 @@ unfoldable pub next_item : Rule ListItem
 next_item = made (λ p. p.1) (maybe (one (Sign signs.Comma)) ▸ item)
 
 unfoldable pub list : Rule ListAst
-list = node (λ p span. record { items = p; span = span }) (Sign signs.Open ≫ some_of item next_item ≪ Sign signs.Close)
+list = node (λ p span. record { items = p; span = span })
+    (Sign signs.Open ≫ some_of item next_item ≪ Sign signs.Close)
 
 -- limit := NUMERAL | 'inf'
 unfoldable pub limit : Rule LimitAst
@@ -83,7 +91,8 @@ limit = made limits.Finite numeral or Word words.Inf means limits.Infinite
 
 -- layer := limit 'xs' NUMERAL
 unfoldable pub layer : Rule Layer
-layer = node (λ p span. record { limit = p.0; attach = p.1; span = span }) (limit ≪ Word words.Xs ▸ numeral)
+layer = node (λ p span. record { limit = p.0; attach = p.1; span = span })
+    (limit ≪ Word words.Xs ▸ numeral)
 
 -- atom := 'dsev' list list? | 'sev' 'dhistogram' 'xps' list list?
 unfoldable pub atom : Rule Atom
@@ -94,11 +103,13 @@ atom = made (λ p. record { values = p.0; probs = p.1 })
 unfoldable pub mixture : Rule (List Atom × Option ListAst)
 mixture =
     made (λ a. (a ∷ [], None)) atom
-    or made (λ (a, (others, weights)). (a ∷ others, Some weights)) (atom ▸ many atom ▸ Word words.Wts ≫ list)
+    or made (λ (a, (others, weights)). (a ∷ others, Some weights))
+    (atom ▸ many atom ▸ Word words.Wts ≫ list)
 
 -- sev := mixture '!'?
 unfoldable pub sev : Rule SevAst
-sev = node (λ (m, b) span. record { atoms = m.0; weights = m.1; bang = is_some b; span = span }) (mixture ▸ maybe (one (Sign signs.Bang)))
+sev = node (λ (m, b) span. record { atoms = m.0; weights = m.1; bang = is_some b; span = span })
+    (mixture ▸ maybe (one (Sign signs.Bang)))
 
 -- cession := layer | NUMERAL 'so' layer | NUMERAL 'po' layer
 abbrev pub whole : Layer → Span → CededLayer
@@ -126,7 +137,8 @@ unfoldable pub next_cession : Rule CededLayer
 next_cession = Word words.And ≫ cession
 
 unfoldable pub clause : Kind → Rule Cession
-clause kind = node (λ p span. record { net = p.0; layers = p.1; span = span }) (kind ≫ side ▸ some_of cession next_cession)
+clause kind = node (λ p span. record { net = p.0; layers = p.1; span = span })
+    (kind ≫ side ▸ some_of cession next_cession)
 
 abbrev pub occ : Rule Cession
 occ = clause (Word words.Occurrence)
@@ -141,7 +153,8 @@ freq = spanned (
     or Word words.Poisson means (λ span. freqs.Poisson span)
     or Word words.Bernoulli means (λ span. freqs.Bernoulli span)
     or made (λ number span. freqs.Binomial number span) (Word words.Binomial ≫ numeral)
-    or made (λ number span. freqs.Gamma number span) (Word words.Mixed ≫ Word words.Gamma ≫ numeral))
+    or made (λ number span. freqs.Gamma number span)
+    (Word words.Mixed ≫ Word words.Gamma ≫ numeral))
 
 -- exposure := NUMERAL 'claims' | NUMERAL 'loss' | NUMERAL 'premium' 'at' NUMERAL 'lr'
 -- where 'claims' may be 'claim', and 'premium' may be 'prem'
@@ -155,23 +168,32 @@ unfoldable pub exposure : Rule Exposure
 exposure = spanned (
     made (λ (number, _) span. exposures.Claims number span) (numeral ▸ claims)
     or made (λ number span. exposures.Loss number span) (numeral ≪ Word words.Loss)
-    or made (λ (amount, (_, ratio)) span. exposures.Premium amount ratio span) (numeral ▸ premium ▸ Word words.At ≫ numeral ≪ Word words.Lr))
+    or made (λ (amount, (_, ratio)) span. exposures.Premium amount ratio span)
+    (numeral ▸ premium ▸ Word words.At ≫ numeral ≪ Word words.Lr))
 
 -- unit := 'agg' NAME exposure layer? sev occ? freq agr? NOTE?
 --       | 'agg' NAME 'dfreq' list list? layer? sev occ? agr? NOTE?
 unfoldable pub listed : Rule CountAst
 listed = node (λ p span. counts.Listed p.0 p.1 span) (Word words.Dfreq ≫ list ▸ maybe list)
 
-abbrev pub exposed_unit : NameAst × (Exposure × (Option Layer × (SevAst × (Option Cession × (FreqAst × (Option Cession × Option (List ℕ))))))) → UnitAst
-exposed_unit (n, (e, (l, (s, (o, (f, (a, t))))))) = record { name = n; count = counts.Exposed e f; layer = l; sev = s; occ = o; agr = a; note = t }
+abbrev pub exposed_unit : NameAst ×
+    (Exposure × (Option Layer × (SevAst ×
+    (Option Cession × (FreqAst × (Option Cession × Option (List ℕ))))))) → UnitAst
+exposed_unit (n, (e, (l, (s, (o, (f, (a, t))))))) =
+    record { name = n; count = counts.Exposed e f; layer = l; sev = s; occ = o; agr = a; note = t }
 
-abbrev pub listed_unit : NameAst × (CountAst × (Option Layer × (SevAst × (Option Cession × (Option Cession × Option (List ℕ)))))) → UnitAst
-listed_unit (n, (c, (l, (s, (o, (a, t)))))) = record { name = n; count = c; layer = l; sev = s; occ = o; agr = a; note = t }
+abbrev pub listed_unit : NameAst ×
+    (CountAst × (Option Layer × (SevAst × (Option Cession × (Option Cession × Option (List ℕ))))))
+    → UnitAst
+listed_unit (n, (c, (l, (s, (o, (a, t)))))) =
+    record { name = n; count = c; layer = l; sev = s; occ = o; agr = a; note = t }
 
 unfoldable pub unit : Rule UnitAst
 unit =
-    made exposed_unit (Word words.Agg ≫ name ▸ exposure ▸ maybe layer ▸ sev ▸ maybe occ ▸ freq ▸ maybe agr ▸ maybe note)
-    or made listed_unit (Word words.Agg ≫ name ▸ listed ▸ maybe layer ▸ sev ▸ maybe occ ▸ maybe agr ▸ maybe note)
+    made exposed_unit
+    (Word words.Agg ≫ name ▸ exposure ▸ maybe layer ▸ sev ▸ maybe occ ▸ freq ▸ maybe agr ▸ maybe note)
+    or made listed_unit
+    (Word words.Agg ≫ name ▸ listed ▸ maybe layer ▸ sev ▸ maybe occ ▸ maybe agr ▸ maybe note)
 
 -- program := unit | 'port' NAME NOTE? unit unit*
 unfoldable pub head : Rule PortHead

@@ -17,7 +17,11 @@ IsReal t = IsSpelled t.kind t.text
 
 -- a token of a text, and all of its tokens
 abbrev pub lexeme : List ℕ → Token → Lexeme
-lexeme source t = record { kind = t.kind; text = take (t.span.end - t.span.start) (drop t.span.start source); span = t.span }
+lexeme source t = record {
+  kind = t.kind;
+  text = take (t.span.end - t.span.start) (drop t.span.start source);
+  span = t.span;
+}
 
 abbrev pub lexemes : List ℕ → List Token → List Lexeme
 lexemes source tokens = map (lexeme source) tokens

@@ -29,5 +29,6 @@ pub fn law_each_kind()
 
 /// What real tokens spell is well formed.
 pub fn law_well_formed()
-    ensures { (p : Program) (ts : List Lexeme) → All IsReal ts → Spells program p ts → IsWellFormed p }
+    ensures { (p : Program) (ts : List Lexeme) → All IsReal ts → Spells program p ts
+        → IsWellFormed p }
 {}

@@ -13,20 +13,25 @@ use Rattle.dl_lexer.specs.Cutting.{Covers, nothing, blank, token, blank_length, 
 use Rattle.dl_lexer.proofs.TokenKinds.{token_some}
 use Rattle.dl_ast.specs.Lexemes.{lexeme, lexemes, IsReal}
 use Rattle.dl_parser.specs.Placed.{Inside, AllInside}
+use Rattle.dl_lexer.proofs.CoverLaws.{token_takes}
 
-blank_cases : (white comment : Bool) (run all : ℕ) → run ≤ all → (if white then 1 else if comment then 1 + run else 0) ≤ suc all
+blank_cases : (white comment : Bool) (run all : ℕ) → run ≤ all
+    → (if white then 1 else if comment then 1 + run else 0) ≤ suc all
 blank_cases true comment run all h = omega arith
 blank_cases false true run all h = omega arith
 blank_cases false false run all h = omega arith
 
 blank_within : (bytes : List ℕ) → blank_length bytes ≤ length bytes
 blank_within [] = omega arith
-blank_within (b ∷ bytes) = blank_cases (is_white b) (b == 35) (prefix_len is_comment_byte bytes) (length bytes) (prefix_len-le-length is_comment_byte bytes)
+blank_within (b ∷ bytes) = blank_cases (is_white b) (b == 35) (prefix_len is_comment_byte bytes) (length bytes)
+    (prefix_len-le-length is_comment_byte bytes)
 
 reaches : (bytes : List ℕ) (at : ℕ) (tokens : List Token) → Covers bytes at tokens → at ≤ length bytes
 reaches bytes at tokens nothing = omega arith
-reaches bytes at tokens (blank from _ c some none) = omega (arith, reaches bytes from tokens c, blank_within (drop from bytes), length-drop from bytes)
-reaches bytes at tokens (token from n kind before c spelled longest) = omega (arith, reaches bytes from before c, longest.within, length-drop from bytes)
+reaches bytes at tokens (blank from _ c some none) =
+    omega (arith, reaches bytes from tokens c, blank_within (drop from bytes), length-drop from bytes)
+reaches bytes at tokens (token from n kind before c spelled longest) =
+    omega (arith, reaches bytes from before c, longest.within, length-drop from bytes)
 
 pub covered_inside : (bytes : List ℕ) (at : ℕ) (tokens : List Token) → Covers bytes at tokens → AllInside bytes tokens
 covered_inside bytes at tokens nothing = All-nil (λ t. Inside bytes t.span)
@@ -35,21 +40,23 @@ covered_inside bytes at tokens (token from n kind before c spelled longest) =
     All-push (λ t. Inside bytes t.span) before (token_of kind from n) (covered_inside bytes from before c)
     (omega arith, omega (arith, reaches bytes from before c, longest.within, length-drop from bytes))
 
--- a token takes at least one byte
-takes : (kind : Kind) (n : ℕ) (bytes : List ℕ) → IsSpelled kind (take n bytes) → 0 < n
-takes kind zero bytes s = absurd (token_some kind s)
-takes kind (suc n) bytes s = omega arith
-
 pub covered_count : (bytes : List ℕ) (at : ℕ) (tokens : List Token) → Covers bytes at tokens → length tokens ≤ at
 covered_count bytes at tokens nothing = omega arith
 covered_count bytes at tokens (blank from _ c some none) = omega (arith, covered_count bytes from tokens c)
 covered_count bytes at tokens (token from n kind before c spelled longest) =
-    omega (arith, covered_count bytes from before c, takes kind n (drop from bytes) spelled, length-append before (token_of kind from n ∷ []))
+    omega (
+      arith,
+      covered_count bytes from before c,
+      token_takes kind n (drop from bytes) spelled,
+      length-append before
+          (token_of kind from n ∷ []),
+    )
 
 back : (at n : ℕ) → (at + n) - at ≡ n
 back at n = omega arith
 
-pub covered_real : (bytes : List ℕ) (at : ℕ) (tokens : List Token) → Covers bytes at tokens → All IsReal (lexemes bytes tokens)
+pub covered_real : (bytes : List ℕ) (at : ℕ) (tokens : List Token) → Covers bytes at tokens
+    → All IsReal (lexemes bytes tokens)
 covered_real bytes at tokens nothing = All-nil IsReal
 covered_real bytes at tokens (blank from _ c some none) = covered_real bytes from tokens c
 covered_real bytes at tokens (token from n kind before c spelled longest) =
@@ -58,5 +65,6 @@ covered_real bytes at tokens (token from n kind before c spelled longest) =
     (subst (λ m. IsSpelled kind (take m (drop from bytes))) (sym (back from n)) spelled))
 
 -- so their numbers are small
-pub covered_few : (bytes : List ℕ) (tokens : List Token) (m : ℕ) → Covers bytes (length bytes) tokens → length bytes ≤ 1048576 → Fits w32 (length tokens - m)
+pub covered_few : (bytes : List ℕ) (tokens : List Token) (m : ℕ) → Covers bytes (length bytes) tokens
+    → length bytes ≤ 1048576 → Fits w32 (length tokens - m)
 covered_few bytes tokens m c short = omega (arith, covered_count bytes (length bytes) tokens c)

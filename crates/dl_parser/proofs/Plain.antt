@@ -1,7 +1,7 @@
 -- The next token alone tells how to go on in the grammar.
 use Rattle.std.proofs.Common.{◌≡◌, true, refl}
 use Rattle.dl_ast.specs.Rules.{many}
-use Rattle.dl_parser.specs.Reading.{is_plain, is_settled}
+use Rattle.dl_parser.specs.Reading.{is_plain}
 use Rattle.dl_ast.specs.Grammar.{numeral, name, note, limit, layer, side, freq, claims, premium, head}
 use Rattle.dl_parser.specs.Factored.{item, next_item, items, list, atom, weighted, mixture, sev, cession, next_cession, layers, clause, ratio, exposure, exposed, listed, counted, unit, units, program}
 
@@ -24,7 +24,3 @@ plain_atoms = refl
 pub plain_units : is_plain (many unit) ≡ true
 unfolding numeral name note item next_item items list limit layer atom weighted mixture sev cession side next_cession layers clause freq claims premium ratio exposure exposed listed counted unit head units program
 plain_units = refl
-
-pub settled_program : is_settled program ≡ true
-unfolding numeral name note item next_item items list limit layer atom weighted mixture sev cession side next_cession layers clause freq claims premium ratio exposure exposed listed counted unit head units program
-settled_program = refl

@@ -9,6 +9,7 @@ use Rattle.dl_lexer.specs.declared.token.Kind.{Kind}
 use Rattle.dl_lexer.specs.declared.token.Kind.TheVariants.{Word, Name, Numeral, Note, Sign}
 use Rattle.dl_ast.specs.Lexemes.{Lexeme}
 use Rattle.dl_parser.specs.Reading.{same_kind, among, begins, apart}
+use Rattle.std.proofs.lemmas.Bool.{or_parts}
 
 pub same_is : (a b : Kind) → same_kind a b ≡ true → a ≡ b
 same_is (Word a) (Word b) h = ap Word (same_true keywords (search rules) a b h)
@@ -47,44 +48,35 @@ self Note = refl
 pub same_self : (a b : Kind) → a ≡ b → same_kind a b ≡ true
 same_self a b e = subst (λ k. same_kind a k ≡ true) e (self a)
 
-pub both_true : (a b : Bool) → (a && b) ≡ true → (a ≡ true) × (b ≡ true)
-both_true true true h = (refl, refl)
-both_true true false h = absurd cc
-both_true false b h = absurd cc
-
-pub none_true : (a b : Bool) → (a || b) ≡ false → (a ≡ false) × (b ≡ false)
-none_true false false h = (refl, refl)
-none_true false true h = absurd cc
-none_true true b h = absurd cc
-
 pub among_append : (k : Kind) (js ks : List Kind) → among k (js ++ ks) ≡ (among k js || among k ks)
 among_append k [] ks = refl
-among_append k (j ∷ js) ks = elim (same_kind k j) as (λ b. (b || among k (js ++ ks)) ≡ ((b || among k js) || among k ks)) [ true ↦ refl | false ↦ among_append k js ks ]
+among_append k (j ∷ js) ks = elim (same_kind k j) as
+    (λ b. (b || among k (js ++ ks)) ≡ ((b || among k js) || among k ks)) [ true ↦ refl | false ↦ among_append k js ks ]
 
 -- a kind of one list is not in the other
 abbrev ApartAt : List Kind → List Kind → Kind → Type 0
 ApartAt js ks k = apart js ks ≡ true → among k ks ≡ true → among k js ≡ false
 
-apart_step : (j : Kind) (js ks : List Kind) (k : Kind) → ApartAt js ks k → (b : Bool) → among j ks ≡ b → (s : Bool) → same_kind k j ≡ s
+apart_step : (j : Kind) (js ks : List Kind) (k : Kind) → ApartAt js ks k → (b : Bool) → among j ks ≡ b → (s : Bool)
+    → same_kind k j ≡ s
     → cond b false (apart js ks) ≡ true → among k ks ≡ true → (s || among k js) ≡ false
 apart_step j js ks k rest true e s d g m = absurd cc
-apart_step j js ks k rest false e true d g m = let here : among j ks ≡ true = subst (λ i. among i ks ≡ true) (same_is k j d) m in absurd cc
+apart_step j js ks k rest false e true d g m =
+    let here : among j ks ≡ true = subst (λ i. among i ks ≡ true) (same_is k j d) m in absurd cc
 apart_step j js ks k rest false e false d g m = rest g m
 
 pub apart_at : (js ks : List Kind) (k : Kind) → ApartAt js ks k
 apart_at [] ks k h m = refl
 apart_at (j ∷ js) ks k h m = apart_step j js ks k (apart_at js ks k) (among j ks) refl (same_kind k j) refl h m
 
-pub begins_append : (js ks : List Kind) (ts : List Lexeme) → begins (js ++ ks) ts ≡ false → (begins js ts ≡ false) × (begins ks ts ≡ false)
-begins_append js ks [] h = (refl, refl)
-begins_append js ks (t ∷ ts) h = none_true (among t.kind js) (among t.kind ks) (sym (among_append t.kind js ks) ∙ h)
-
 -- the test of a kind tells that it is in the list
 
 pub among_contains : (ks : List Kind) (k : Kind) → Contains ks k → among k ks ≡ true
 among_contains [] k c = absurd (omega (arith, c.1))
 among_contains (j ∷ js) k (zero, lt, e) = rw (same_self k j (sym e)) refl
-among_contains (j ∷ js) k (suc i, lt, e) = rw (among_contains js k (i, omega arith, e)) (elim (same_kind k j) as (λ b. (b || true) ≡ true) [ true ↦ refl | false ↦ refl ])
+among_contains (j ∷ js) k (suc i, lt, e) =
+    rw (among_contains js k (i, omega arith, e))
+    (elim (same_kind k j) as (λ b. (b || true) ≡ true) [ true ↦ refl | false ↦ refl ])
 
 pub contains_among : (ks : List Kind) (k : Kind) → among k ks ≡ true → Contains ks k
 contains_among ks k h = Contains-from_any {eq = same_kind} same_is k ks h

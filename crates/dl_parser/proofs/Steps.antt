@@ -6,13 +6,15 @@ use Rattle.dl_ast.specs.Rules.{Rule, many}
 use Rattle.dl_parser.specs.Reading.{got, is_empty, is_plain, read}
 use Rattle.dl_ast.specs.Lexemes.{lexeme}
 use Rattle.dl_parser.specs.Parsing.{place}
-use Rattle.dl_parser.proofs.Sets.{both_true}
 use Rattle.dl_parser.proofs.ReadsBack.{is_no}
 use Rattle.dl_parser.proofs.Stopped.{less}
+use Rattle.std.proofs.lemmas.Bool.{and_parts}
 
-pub fewer_tokens : {A : Type 0} (a : Rule A) → is_plain (many a) ≡ true → (p q : Parser) (x : A) → read a (place p) ≡ got x (place q) → length q.rest.now < length p.rest.now
+pub fewer_tokens : {A : Type 0} (a : Rule A) → is_plain (many a) ≡ true → (p q : Parser) (x : A)
+    → read a (place p) ≡ got x (place q) → length q.rest.now < length p.rest.now
 fewer_tokens a ok p q x e =
-    let i : (is_plain a ≡ true) × _ = both_true _ _ ok in
-    let j : (cond (is_empty a) false true ≡ true) × _ = both_true _ _ i.1 in
-    let lt : length (map (lexeme q.source.now) q.rest.now) < length (map (lexeme p.source.now) p.rest.now) = less a i.0 (is_no _ j.0) (place p) (place q) x e in
+    let i : (is_plain a ≡ true) × _ = and_parts _ _ ok in
+    let j : (cond (is_empty a) false true ≡ true) × _ = and_parts _ _ i.1 in
+    let lt : length (map (lexeme q.source.now) q.rest.now) < length (map (lexeme p.source.now) p.rest.now) =
+    less a i.0 (is_no _ j.0) (place p) (place q) x e in
     simp length-map at lt

@@ -2,11 +2,12 @@
 use Rattle.std.proofs.Common.{◌≡◌, ℕ, zero, suc, ◌≤◌, ◌<◌, Bool, true, false, cond, ◌&&◌, ◌||◌, List, [], ◌∷◌, ◌++◌, length, Some, None, refl, sym, ap, ◌∙◌, subst, inl, inr, arith, append_assoc, length-append}
 use Rattle.dl_lexer.specs.declared.token.Kind.{Kind}
 use Rattle.dl_ast.specs.Lexemes.{Lexeme}
-use Rattle.dl_ast.specs.Rules.{Rule, one, ◌▸◌, ◌or◌, maybe, many, unless, made, node, Each, Spells, end_of, span_of}
-use Rattle.dl_parser.specs.Reading.{Place, Outcome, got, stuck, same_kind, among, begins, start_of, is_empty, first, watched, two_at, enters, is_settled, settles, one_at, repeat, read, is_plain}
-use Rattle.dl_parser.proofs.Sets.{same_is, same_self, both_true}
-use Rattle.dl_parser.proofs.Starts.{among_left, among_right, bind_got, chosen, end_append, spelled_empty, true_right}
+use Rattle.dl_ast.specs.Rules.{Rule, one, ◌▸◌, ◌or◌, maybe, many, made, node, Each, Spells, end_of, span_of}
+use Rattle.dl_parser.specs.Reading.{Place, Outcome, got, stuck, same_kind, among, begins, start_of, is_empty, first, watched, one_at, repeat, read, is_plain}
+use Rattle.dl_parser.proofs.Sets.{same_is, same_self}
+use Rattle.dl_parser.proofs.Starts.{among_left, among_right, bind_got, chosen, end_append, spelled_empty}
 use Rattle.dl_parser.proofs.ReadsBack.{bind_of, is_no, not_both, span_same, whole_none}
+use Rattle.std.proofs.lemmas.Bool.{and_parts, or_right}
 
 -- what was read is spelled, and reading goes on in the same way where what is left begins alike
 
@@ -21,7 +22,8 @@ alike_right js ks us vs h k m = h k (among_right k js ks m)
 
 begins_cons : (k : Kind) (ks : List Kind) (us : List Lexeme) → begins (k ∷ ks) us ≡ (begins (k ∷ []) us || begins ks us)
 begins_cons k ks [] = refl
-begins_cons k ks (u ∷ us) = elim (same_kind u.kind k) as (λ b. (b || among u.kind ks) ≡ ((b || false) || among u.kind ks)) [ true ↦ refl | false ↦ refl ]
+begins_cons k ks (u ∷ us) = elim (same_kind u.kind k) as
+    (λ b. (b || among u.kind ks) ≡ ((b || false) || among u.kind ks)) [ true ↦ refl | false ↦ refl ]
 
 alike_begins : (ks : List Kind) (us vs : List Lexeme) → Alike ks us vs → begins ks us ≡ begins ks vs
 alike_begins [] [] [] h = refl
@@ -31,112 +33,60 @@ alike_begins [] (u ∷ us) (v ∷ vs) h = refl
 alike_begins (k ∷ ks) us vs h =
     let head : begins (k ∷ []) us ≡ begins (k ∷ []) vs = h k (rw (same_self k k refl) refl) in
     let rest : begins ks us ≡ begins ks vs = alike_begins ks us vs (alike_right (k ∷ []) ks us vs h) in
-    begins_cons k ks us ∙ ap (λ b. b || begins ks us) head ∙ ap (λ b. begins (k ∷ []) vs || b) rest ∙ sym (begins_cons k ks vs)
+    begins_cons k ks us ∙ ap (λ b. b || begins ks us) head ∙ ap (λ b. begins (k ∷ []) vs || b) rest
+    ∙ sym (begins_cons k ks vs)
 
 -- behind some tokens
 pub alike_behind : (ks : List Kind) (ts us vs : List Lexeme) → Alike ks us vs → Alike ks (ts ++ us) (ts ++ vs)
 alike_behind ks [] us vs h k m = h k m
 alike_behind ks (t ∷ ts) us vs h k m = refl
 
--- where a look at two tokens comes last, it comes out the same
-abbrev pub Pend : {X : Type 0} → Rule X → List Lexeme → List Lexeme → Type 0
-Pend (one k) us vs = Unit {0}
-Pend (a ▸ b) us vs = Pend b us vs
-Pend (a or b) us vs = Pend a us vs × Pend b us vs
-Pend (maybe a) us vs = Pend a us vs
-Pend (many a) us vs = Unit {0}
-Pend (unless j k a) us vs = (two_at j k us ≡ two_at j k vs) × Pend a us vs
-Pend (made f a) us vs = Pend a us vs
-Pend (node f a) us vs = Pend a us vs
-
-pub pend_settled : {X : Type 0} (r : Rule X) (us vs : List Lexeme) → is_settled r ≡ true → Pend r us vs
-pend_settled (one k) us vs h = tt
-pend_settled (a ▸ b) us vs h = pend_settled b us vs h
-pend_settled (a or b) us vs h = let p = both_true (is_settled a) (is_settled b) h in (pend_settled a us vs p.0, pend_settled b us vs p.1)
-pend_settled (maybe a) us vs h = pend_settled a us vs h
-pend_settled (many a) us vs h = tt
-pend_settled (unless j k a) us vs h = absurd cc
-pend_settled (made f a) us vs h = pend_settled a us vs h
-pend_settled (node f a) us vs h = pend_settled a us vs h
-
-two_none_at : (j k : Kind) (ks : List Kind) (u : Lexeme) (us : List Lexeme) → among j ks ≡ true → among u.kind ks ≡ false → (c : Bool) → same_kind u.kind j ≡ c → two_at j k (u ∷ us) ≡ false
-two_none_at j k ks u us h b true e = absurd (not_both _ h (subst (λ i. among i ks ≡ false) (same_is u.kind j e) b))
-two_none_at j k ks u us h b false e = rw e refl
-
-two_none : (j k : Kind) (ks : List Kind) (us : List Lexeme) → among j ks ≡ true → begins ks us ≡ false → two_at j k us ≡ false
-two_none j k ks [] h b = refl
-two_none j k ks (u ∷ us) h b = two_none_at j k ks u us h b (same_kind u.kind j) refl
-
--- where the next token is none that could begin the two
-pend_ended : {X : Type 0} (ks : List Kind) (r : Rule X) (us vs : List Lexeme) → settles ks r ≡ true → begins ks us ≡ false → begins ks vs ≡ false → Pend r us vs
-pend_ended ks (one k) us vs h b c = tt
-pend_ended ks (a ▸ d) us vs h b c = pend_ended ks d us vs h b c
-pend_ended ks (a or d) us vs h b c = let p = both_true (settles ks a) (settles ks d) h in (pend_ended ks a us vs p.0 b c, pend_ended ks d us vs p.1 b c)
-pend_ended ks (maybe a) us vs h b c = pend_ended ks a us vs h b c
-pend_ended ks (many a) us vs h b c = tt
-pend_ended ks (unless j k a) us vs h b c = let p = both_true (among j ks) (settles ks a) h in (two_none j k ks us p.0 b ∙ sym (two_none j k ks vs p.0 c), pend_ended ks a us vs p.1 b c)
-pend_ended ks (made f a) us vs h b c = pend_ended ks a us vs h b c
-pend_ended ks (node f a) us vs h b c = pend_ended ks a us vs h b c
-
-pub two_behind : (j k : Kind) (t : Lexeme) (ts us vs : List Lexeme) → begins (k ∷ []) us ≡ begins (k ∷ []) vs → two_at j k ((t ∷ ts) ++ us) ≡ two_at j k ((t ∷ ts) ++ vs)
-two_behind j k t [] us vs h = ap (λ b. same_kind t.kind j && b) h
-two_behind j k t (u ∷ ts) us vs h = refl
-
-pub pend_behind : {X : Type 0} (r : Rule X) (t : Lexeme) (ts us vs : List Lexeme) → Alike (watched r) us vs → Pend r ((t ∷ ts) ++ us) ((t ∷ ts) ++ vs)
-pend_behind (one k) t ts us vs h = tt
-pend_behind (a ▸ b) t ts us vs h = pend_behind b t ts us vs (alike_right (watched a) (watched b) us vs h)
-pend_behind (a or b) t ts us vs h = let g = alike_right (first a) (watched a ++ watched b) us vs h in
-    (pend_behind a t ts us vs (alike_left (watched a) (watched b) us vs g), pend_behind b t ts us vs (alike_right (watched a) (watched b) us vs g))
-pend_behind (maybe a) t ts us vs h = pend_behind a t ts us vs (alike_right (first a) (watched a) us vs h)
-pend_behind (many a) t ts us vs h = tt
-pend_behind (unless j k a) t ts us vs h = (
-  two_behind j k t ts us vs (h k (rw (same_self k k refl) (true_right (same_kind k j) true refl))),
-  pend_behind a t ts us vs (alike_right (j ∷ k ∷ first a) (watched a) us vs h),
-)
-pend_behind (made f a) t ts us vs h = pend_behind a t ts us vs h
-pend_behind (node f a) t ts us vs h = pend_behind a t ts us vs h
-
-pend_mid : {X : Type 0} (r : Rule X) (ts us vs : List Lexeme) → settles (first r) r ≡ true → begins (first r) us ≡ false → begins (first r) vs ≡ false → Alike (watched r) us vs → Pend r (ts ++ us) (ts ++ vs)
-pend_mid r [] us vs h b c g = pend_ended (first r) r us vs h b c
-pend_mid r (t ∷ ts) us vs h b c g = pend_behind r t ts us vs g
-
 abbrev pub Took : {X : Type 0} → Rule X → Place → X → Place → Type 0
 Took r p x q = (ts : List Lexeme) × (p.rest ≡ ts ++ q.rest) × (q.end ≡ end_of p.end ts) × Spells r x ts
-    × ((z : List Lexeme) → Alike (watched r) q.rest z → Pend r q.rest z → read r (record { end = p.end; rest = ts ++ z }) ≡ got x (record { end = q.end; rest = z }))
+    × ((z : List Lexeme) → Alike (watched r) q.rest z
+    → read r (record { end = p.end; rest = ts ++ z }) ≡ got x (record { end = q.end; rest = z }))
 
 abbrev TookBy : {X : Type 0} → Rule X → Place → Outcome X → Type 0
 TookBy r p (got x q) = Took r p x q
 TookBy r p (stuck k q) = Unit {0}
 
-took_as : {X : Type 0} (r : Rule X) (p : Place) (x y : X) (q s : Place) → got x q ≡ got y s → Took r p x q → Took r p y s
+took_as : {X : Type 0} (r : Rule X) (p : Place) (x y : X) (q s : Place) → got x q ≡ got y s → Took r p x q
+    → Took r p y s
 took_as r p x y q s e t = subst (TookBy r p) e t
 
-took_one : (k : Kind) (at : ℕ) (ts : List Lexeme) (x : Lexeme) (q : Place) → one_at k at ts ≡ got x q → Took (one k) (record { end = at; rest = ts }) x q
+took_one : (k : Kind) (at : ℕ) (ts : List Lexeme) (x : Lexeme) (q : Place) → one_at k at ts ≡ got x q
+    → Took (one k) (record { end = at; rest = ts }) x q
 took_one k at [] x q e = absurd cc
 took_one k at (t ∷ ts) x q e = elim (chosen (same_kind t.kind k) _ _ _ e) [
   | inl c ↦ took_as (one k) (record { end = at; rest = t ∷ ts }) t x (record { end = t.span.end; rest = ts }) q c.1
-      (t ∷ [], refl, refl, (same_is t.kind k c.0, refl), λ z h g. rw (c.0) refl)
+      (t ∷ [], refl, refl, (same_is t.kind k c.0, refl), λ z h. rw (c.0) refl)
   | inr c ↦ absurd cc
 ]
 
-took_seq : {A B : Type 0} (a : Rule A) (b : Rule B) (p s q : Place) (x : A) (y : B) → is_settled a ≡ true → Took a p x s → Took b s y q → Took (a ▸ b) p (x, y) q
-took_seq a b p s q x y still ta tb = (
+took_seq : {A B : Type 0} (a : Rule A) (b : Rule B) (p s q : Place) (x : A) (y : B) → Took a p x s → Took b s y q
+    → Took (a ▸ b) p (x, y) q
+took_seq a b p s q x y ta tb = (
   ta.0 ++ tb.0,
   ta.1 ∙ ap (λ zs. ta.0 ++ zs) tb.1 ∙ sym (append_assoc ta.0 tb.0 q.rest),
   tb.2 ∙ ap (λ n. end_of n tb.0) ta.2 ∙ sym (end_append p.end ta.0 tb.0),
   (ta.0, tb.0, refl, ta.3, tb.3),
-  λ z h g. ap (λ zs. read (a ▸ b) (record { end = p.end; rest = zs })) (append_assoc ta.0 tb.0 z)
-      ∙ bind_of _ _ x _ _ (ta.4 (tb.0 ++ z) (subst (λ zs. Alike (watched a) zs (tb.0 ++ z)) (sym tb.1) (alike_behind (watched a) tb.0 q.rest z (alike_left (watched a) (watched b) q.rest z h))) (pend_settled a _ _ still))
-      (bind_of _ _ y _ _ (tb.4 z (alike_right (watched a) (watched b) q.rest z h) g) refl),
+  λ z h. ap (λ zs. read (a ▸ b) (record { end = p.end; rest = zs })) (append_assoc ta.0 tb.0 z)
+      ∙ bind_of _ _ x _ _ (ta.4 (tb.0 ++ z) (subst (λ zs. Alike (watched a) zs (tb.0 ++ z)) (sym tb.1)
+      (alike_behind (watched a) tb.0 q.rest z (alike_left (watched a) (watched b) q.rest z h))))
+      (bind_of _ _ y _ _ (tb.4 z (alike_right (watched a) (watched b) q.rest z h)) refl),
 )
 
 -- the test of the next token comes out the same
-pub test_same : (ks : List Kind) (p q : Place) (ts z : List Lexeme) (b : Bool) → p.rest ≡ ts ++ q.rest → Alike ks q.rest z → begins ks p.rest ≡ b → begins ks (ts ++ z) ≡ b
-test_same ks p q ts z b e h t = sym (alike_begins ks (ts ++ q.rest) (ts ++ z) (alike_behind ks ts q.rest z h)) ∙ ap (begins ks) (sym e) ∙ t
+pub test_same : (ks : List Kind) (p q : Place) (ts z : List Lexeme) (b : Bool) → p.rest ≡ ts ++ q.rest
+    → Alike ks q.rest z → begins ks p.rest ≡ b → begins ks (ts ++ z) ≡ b
+test_same ks p q ts z b e h t =
+    sym (alike_begins ks (ts ++ q.rest) (ts ++ z) (alike_behind ks ts q.rest z h)) ∙ ap (begins ks) (sym e) ∙ t
 
 abbrev TookEach : {A : Type 0} → Rule A → ℕ → Place → List A → Place → Type 0
 TookEach a n p xs q = (ts : List Lexeme) × (p.rest ≡ ts ++ q.rest) × (q.end ≡ end_of p.end ts) × Each (Spells a) xs ts
-    × ((z : List Lexeme) (m : ℕ) → length (ts ++ z) ≤ m → Alike (first a ++ watched a) q.rest z → repeat (first a) (read a) m (record { end = p.end; rest = ts ++ z }) ≡ got xs (record { end = q.end; rest = z }))
+    × ((z : List Lexeme) (m : ℕ) → length (ts ++ z) ≤ m → Alike (first a ++ watched a) q.rest z
+    → repeat (first a) (read a) m (record { end = p.end; rest = ts ++ z }) ≡ got xs
+    (record { end = q.end; rest = z }))
     × (begins (first a) q.rest ≡ false)
 
 abbrev TookEachBy : {A : Type 0} → Rule A → ℕ → Place → Outcome (List A) → Type 0
@@ -144,20 +94,34 @@ TookEachBy a n p (got xs q) = TookEach a n p xs q
 TookEachBy a n p (stuck k q) = Unit {0}
 
 took_none : {A : Type 0} (a : Rule A) (n : ℕ) (p : Place) → begins (first a) p.rest ≡ false → TookEach a n p [] p
-took_none a n p h = ([], refl, refl, refl, λ z m le g. whole_none a z p.end m (sym (alike_begins (first a) p.rest z (alike_left (first a) (watched a) p.rest z g)) ∙ h), h)
+took_none a n p h = (
+  [],
+  refl,
+  refl,
+  refl,
+  λ z m le g. whole_none a z p.end m
+      (sym (alike_begins (first a) p.rest z (alike_left (first a) (watched a) p.rest z g)) ∙ h),
+  h,
+)
 
-stays_some : {A : Type 0} (a : Rule A) → is_empty a ≡ false → (p s q : Place) (x : A) (xs : List A) (us vs z : List Lexeme) (m : ℕ) → Spells a x us → begins (first a) (us ++ (vs ++ z)) ≡ true
+stays_some : {A : Type 0} (a : Rule A) → is_empty a ≡ false
+    → (p s q : Place) (x : A) (xs : List A) (us vs z : List Lexeme) (m : ℕ) → Spells a x us
+    → begins (first a) (us ++ (vs ++ z)) ≡ true
     → read a (record { end = p.end; rest = us ++ (vs ++ z) }) ≡ got x (record { end = s.end; rest = vs ++ z })
-    → ((m : ℕ) → length (vs ++ z) ≤ m → repeat (first a) (read a) m (record { end = s.end; rest = vs ++ z }) ≡ got xs (record { end = q.end; rest = z }))
-    → length (us ++ (vs ++ z)) ≤ m → repeat (first a) (read a) m (record { end = p.end; rest = us ++ (vs ++ z) }) ≡ got (x ∷ xs) (record { end = q.end; rest = z })
+    → ((m : ℕ) → length (vs ++ z) ≤ m → repeat (first a) (read a) m (record { end = s.end; rest = vs ++ z }) ≡ got xs
+    (record { end = q.end; rest = z }))
+    → length (us ++ (vs ++ z)) ≤ m → repeat (first a) (read a) m (record { end = p.end; rest = us ++ (vs ++ z) }) ≡ got
+    (x ∷ xs) (record { end = q.end; rest = z })
 stays_some a full p s q x xs [] vs z m sp t ra rest le = absurd (not_both _ (spelled_empty a x [] refl sp) full)
 stays_some a full p s q x xs (u ∷ us) vs z zero sp t ra rest le = absurd (omega arith)
 stays_some a full p s q x xs (u ∷ us) vs z (suc m) sp t ra rest le =
     rw t (bind_of _ _ x _ _ ra (bind_of _ _ xs _ _ (rest m (omega (arith, length-append us (vs ++ z)))) refl))
 
-took_some : {A : Type 0} (a : Rule A) → is_empty a ≡ false → settles (first a) a ≡ true → (n : ℕ) (p s q : Place) (x : A) (xs : List A) → begins (first a) p.rest ≡ true → Took a p x s → TookEach a n s xs q → TookEach a (suc n) p (x ∷ xs) q
-took_some a full still n p s q x xs t ta tb =
-    let all : p.rest ≡ (ta.0 ++ tb.0) ++ q.rest = ta.1 ∙ ap (λ zs. ta.0 ++ zs) tb.1 ∙ sym (append_assoc ta.0 tb.0 q.rest) in (
+took_some : {A : Type 0} (a : Rule A) → is_empty a ≡ false → (n : ℕ) (p s q : Place) (x : A) (xs : List A)
+    → begins (first a) p.rest ≡ true → Took a p x s → TookEach a n s xs q → TookEach a (suc n) p (x ∷ xs) q
+took_some a full n p s q x xs t ta tb =
+    let all : p.rest ≡ (ta.0 ++ tb.0) ++ q.rest = ta.1 ∙ ap (λ zs. ta.0 ++ zs) tb.1
+    ∙ sym (append_assoc ta.0 tb.0 q.rest) in (
       ta.0 ++ tb.0,
       all,
       tb.2 ∙ ap (λ e. end_of e tb.0) ta.2 ∙ sym (end_append p.end ta.0 tb.0),
@@ -166,8 +130,10 @@ took_some a full still n p s q x xs t ta tb =
           let same : (ta.0 ++ tb.0) ++ z ≡ ta.0 ++ (tb.0 ++ z) = append_assoc ta.0 tb.0 z in
           ap (λ zs. repeat (first a) (read a) m (record { end = p.end; rest = zs })) same
           ∙ stays_some a full p s q x xs ta.0 tb.0 z m ta.3
-          (ap (begins (first a)) (sym same) ∙ test_same (first a) p q (ta.0 ++ tb.0) z true all (alike_left (first a) (watched a) q.rest z h) t)
-          (ta.4 (tb.0 ++ z) (subst (λ zs. Alike (watched a) zs (tb.0 ++ z)) (sym tb.1) (alike_behind (watched a) tb.0 q.rest z (alike_right (first a) (watched a) q.rest z h))) (subst (λ zs. Pend a zs (tb.0 ++ z)) (sym tb.1) (pend_mid a tb.0 q.rest z still tb.5 (sym (alike_begins (first a) q.rest z (alike_left (first a) (watched a) q.rest z h)) ∙ tb.5) (alike_right (first a) (watched a) q.rest z h))))
+          (ap (begins (first a)) (sym same) ∙ test_same (first a) p q (ta.0 ++ tb.0) z true all
+          (alike_left (first a) (watched a) q.rest z h) t)
+          (ta.4 (tb.0 ++ z) (subst (λ zs. Alike (watched a) zs (tb.0 ++ z)) (sym tb.1)
+          (alike_behind (watched a) tb.0 q.rest z (alike_right (first a) (watched a) q.rest z h))))
           (λ i li. tb.4 z i li h)
           (subst (λ zs. length zs ≤ m) same le),
       tb.5,
@@ -177,136 +143,125 @@ pub none_left : (ks : List Kind) (ts : List Lexeme) → length ts ≤ 0 → begi
 none_left ks [] h = refl
 none_left ks (t ∷ ts) h = absurd (omega arith)
 
-pub shorter : {A : Type 0} (a : Rule A) → is_empty a ≡ false → (ts us vs : List Lexeme) (x : A) (n : ℕ) → Spells a x ts → us ≡ ts ++ vs → length us ≤ suc n → length vs ≤ n
+pub shorter : {A : Type 0} (a : Rule A) → is_empty a ≡ false → (ts us vs : List Lexeme) (x : A) (n : ℕ) → Spells a x ts
+    → us ≡ ts ++ vs → length us ≤ suc n → length vs ≤ n
 shorter a full [] us vs x n s e le = absurd (not_both _ (spelled_empty a x [] refl s) full)
 shorter a full (t ∷ ts) us vs x n s e le = omega (arith, ap length e, length-append ts vs)
 
-pub fewer : {A : Type 0} (a : Rule A) → is_empty a ≡ false → (ts us vs : List Lexeme) (x : A) → Spells a x ts → us ≡ ts ++ vs → length vs < length us
+pub fewer : {A : Type 0} (a : Rule A) → is_empty a ≡ false → (ts us vs : List Lexeme) (x : A) → Spells a x ts
+    → us ≡ ts ++ vs → length vs < length us
 fewer a full [] us vs x s e = absurd (not_both _ (spelled_empty a x [] refl s) full)
 fewer a full (t ∷ ts) us vs x s e = omega (arith, ap length e, length-append ts vs)
 
-took_each : {A : Type 0} (a : Rule A) → is_empty a ≡ false → settles (first a) a ≡ true → ((p q : Place) (x : A) → read a p ≡ got x q → Took a p x q) → (n : ℕ) (p q : Place) (xs : List A) → length p.rest ≤ n
+took_each : {A : Type 0} (a : Rule A) → is_empty a ≡ false
+    → ((p q : Place) (x : A) → read a p ≡ got x q → Took a p x q) → (n : ℕ) (p q : Place) (xs : List A)
+    → length p.rest ≤ n
     → repeat (first a) (read a) n p ≡ got xs q → TookEach a n p xs q
-took_each a full still ta zero p q xs le e = subst (TookEachBy a zero p) e (took_none a zero p (none_left (first a) p.rest le))
-took_each a full still ta (suc n) p q xs le e = elim (chosen (begins (first a) p.rest) _ _ _ e) [
+took_each a full ta zero p q xs le e =
+    subst (TookEachBy a zero p) e (took_none a zero p (none_left (first a) p.rest le))
+took_each a full ta (suc n) p q xs le e = elim (chosen (begins (first a) p.rest) _ _ _ e) [
   | inl c ↦
       let one = bind_got (read a p) _ xs q c.1 in
       let others = bind_got (repeat (first a) (read a) n one.1) _ xs q one.3 in
       let t : Took a p one.0 one.1 = ta p one.1 one.0 one.2 in
-      let ts : TookEach a n one.1 others.0 others.1 = took_each a full still ta n one.1 others.1 others.0 (shorter a full t.0 p.rest one.1.rest one.0 n t.3 t.1 le) others.2 in
-      subst (TookEachBy a (suc n) p) others.3 (took_some a full still n p one.1 others.1 one.0 others.0 c.0 t ts)
+      let ts : TookEach a n one.1 others.0 others.1 =
+      took_each a full ta n one.1 others.1 others.0
+      (shorter a full t.0 p.rest one.1.rest one.0 n t.3 t.1 le) others.2 in
+      subst (TookEachBy a (suc n) p) others.3 (took_some a full n p one.1 others.1 one.0 others.0 c.0 t ts)
   | inr c ↦ subst (TookEachBy a (suc n) p) c.1 (took_none a (suc n) p c.0)
 ]
 
-took_left : {A : Type 0} (a b : Rule A) (p q : Place) (x : A) → begins (first a) p.rest ≡ true → Took a p x q → Took (a or b) p x q
+took_left : {A : Type 0} (a b : Rule A) (p q : Place) (x : A) → begins (first a) p.rest ≡ true → Took a p x q
+    → Took (a or b) p x q
 took_left a b p q x c t = (
   t.0,
   t.1,
   t.2,
   inl t.3,
-  λ z h g. rw (test_same (first a) p q t.0 z true t.1 (alike_left (first a) (watched a ++ watched b) q.rest z h) c)
-      (t.4 z (alike_left (watched a) (watched b) q.rest z (alike_right (first a) (watched a ++ watched b) q.rest z h)) g.0),
+  λ z h. rw (test_same (first a) p q t.0 z true t.1 (alike_left (first a) (watched a ++ watched b) q.rest z h) c)
+      (t.4 z (alike_left (watched a) (watched b) q.rest z (alike_right (first a) (watched a ++ watched b) q.rest z h))),
 )
 
-took_right : {A : Type 0} (a b : Rule A) (p q : Place) (x : A) → begins (first a) p.rest ≡ false → Took b p x q → Took (a or b) p x q
+took_right : {A : Type 0} (a b : Rule A) (p q : Place) (x : A) → begins (first a) p.rest ≡ false → Took b p x q
+    → Took (a or b) p x q
 took_right a b p q x c t = (
   t.0,
   t.1,
   t.2,
   inr t.3,
-  λ z h g. rw (test_same (first a) p q t.0 z false t.1 (alike_left (first a) (watched a ++ watched b) q.rest z h) c)
-      (t.4 z (alike_right (watched a) (watched b) q.rest z (alike_right (first a) (watched a ++ watched b) q.rest z h)) g.1),
+  λ z h. rw (test_same (first a) p q t.0 z false t.1 (alike_left (first a) (watched a ++ watched b) q.rest z h) c)
+      (t.4 z (alike_right (watched a) (watched b) q.rest z
+      (alike_right (first a) (watched a ++ watched b) q.rest z h))),
 )
 
-took_some_of : {A : Type 0} (a : Rule A) (p q : Place) (x : A) → begins (first a) p.rest ≡ true → Took a p x q → Took (maybe a) p (Some x) q
+took_some_of : {A : Type 0} (a : Rule A) (p q : Place) (x : A) → begins (first a) p.rest ≡ true → Took a p x q
+    → Took (maybe a) p (Some x) q
 took_some_of a p q x c t = (
   t.0,
   t.1,
   t.2,
   t.3,
-  λ z h g. rw (test_same (first a) p q t.0 z true t.1 (alike_left (first a) (watched a) q.rest z h) c)
-      (bind_of _ _ x _ _ (t.4 z (alike_right (first a) (watched a) q.rest z h) g) refl),
+  λ z h. rw (test_same (first a) p q t.0 z true t.1 (alike_left (first a) (watched a) q.rest z h) c)
+      (bind_of _ _ x _ _ (t.4 z (alike_right (first a) (watched a) q.rest z h)) refl),
 )
 
 took_none_of : {A : Type 0} (a : Rule A) (p : Place) → begins (first a) p.rest ≡ false → Took (maybe a) p None p
-took_none_of a p c = ([], refl, refl, refl, λ z h g. rw (test_same (first a) p p [] z false refl (alike_left (first a) (watched a) p.rest z h) c) refl)
-
-enters_same : (j k : Kind) (ks : List Kind) (us vs : List Lexeme) (b : Bool) → two_at j k us ≡ two_at j k vs → begins ks us ≡ begins ks vs → enters j k ks us ≡ b → enters j k ks vs ≡ b
-enters_same j k ks us vs b h g e = ap (λ c. cond c false (begins ks vs)) (sym h) ∙ ap (λ c. cond (two_at j k us) false c) (sym g) ∙ e
-
-two_on : (j k : Kind) (ts us vs : List Lexeme) → two_at j k us ≡ two_at j k vs → begins (k ∷ []) us ≡ begins (k ∷ []) vs → two_at j k (ts ++ us) ≡ two_at j k (ts ++ vs)
-two_on j k [] us vs h g = h
-two_on j k (t ∷ ts) us vs h g = two_behind j k t ts us vs g
-
--- a look at two tokens comes out the same
-pub test_two : (j k : Kind) (ks : List Kind) (p q : Place) (ts z : List Lexeme) (b : Bool) → p.rest ≡ ts ++ q.rest → Alike (j ∷ k ∷ ks) q.rest z → two_at j k (ts ++ q.rest) ≡ two_at j k (ts ++ z) → enters j k ks p.rest ≡ b → enters j k ks (ts ++ z) ≡ b
-test_two j k ks p q ts z b e h g t = enters_same j k ks (ts ++ q.rest) (ts ++ z) b g (alike_begins ks (ts ++ q.rest) (ts ++ z) (alike_behind ks ts q.rest z (alike_right (j ∷ k ∷ []) ks q.rest z h))) (ap (enters j k ks) (sym e) ∙ t)
-
-pub alike_two : (j k : Kind) (ks : List Kind) (us vs : List Lexeme) → Alike (j ∷ k ∷ ks) us vs → begins (k ∷ []) us ≡ begins (k ∷ []) vs
-alike_two j k ks us vs h = h k (rw (same_self k k refl) (true_right (same_kind k j) true refl))
-
-took_unless_some : {A : Type 0} (j k : Kind) (a : Rule A) (p q : Place) (x : A) → enters j k (first a) p.rest ≡ true → Took a p x q → Took (unless j k a) p (Some x) q
-took_unless_some j k a p q x c t = (
-  t.0,
-  t.1,
-  t.2,
-  t.3,
-  λ z h g.
-      let own : Alike (j ∷ k ∷ first a) q.rest z = alike_left (j ∷ k ∷ first a) (watched a) q.rest z h in
-      rw (test_two j k (first a) p q t.0 z true t.1 own (two_on j k t.0 q.rest z g.0 (alike_two j k (first a) q.rest z own)) c)
-      (bind_of _ _ x _ _ (t.4 z (alike_right (j ∷ k ∷ first a) (watched a) q.rest z h) g.1) refl),
-)
-
-took_unless_none : {A : Type 0} (j k : Kind) (a : Rule A) (p : Place) → enters j k (first a) p.rest ≡ false → Took (unless j k a) p None p
-took_unless_none j k a p c = (
+took_none_of a p c = (
   [],
   refl,
   refl,
   refl,
-  λ z h g.
-      rw (test_two j k (first a) p p [] z false refl (alike_left (j ∷ k ∷ first a) (watched a) p.rest z h) g.0 c) refl,
+  λ z h. rw
+      (test_same (first a) p p [] z false refl (alike_left (first a) (watched a) p.rest z h) c) refl,
 )
 
 pub took : {X : Type 0} (r : Rule X) → is_plain r ≡ true → (p q : Place) (x : X) → read r p ≡ got x q → Took r p x q
 took (one k) ok p q x e = took_one k p.end p.rest x q e
 took (a ▸ b) ok p q v e =
-    let k = both_true _ _ ok in
-    let l = both_true _ _ k.1 in
+    let k = and_parts _ _ ok in
+    let l = and_parts _ _ k.1 in
     let one = bind_got (read a p) _ v q e in
     let two = bind_got (read b one.1) _ v q one.3 in
-    took_as (a ▸ b) p (one.0, two.0) v two.1 q two.3 (took_seq a b p one.1 two.1 one.0 two.0 (both_true _ _ l.1).1 (took a k.0 p one.1 one.0 one.2) (took b l.0 one.1 two.1 two.0 two.2))
+    took_as (a ▸ b) p (one.0, two.0) v two.1 q two.3
+    (took_seq a b p one.1 two.1 one.0 two.0 (took a k.0 p one.1 one.0 one.2) (took b l.0 one.1 two.1 two.0 two.2))
 took (a or b) ok p q x e =
-    let k = both_true _ _ ok in
-    let l = both_true _ _ k.1 in
+    let k = and_parts _ _ ok in
+    let l = and_parts _ _ k.1 in
     elim (chosen (begins (first a) p.rest) _ _ _ e) [
       | inl c ↦ took_left a b p q x c.0 (took a k.0 p q x c.1)
       | inr c ↦ took_right a b p q x c.0 (took b l.0 p q x c.1)
     ]
-took (maybe a) ok p q v e = let k = both_true _ _ ok in elim (chosen (begins (first a) p.rest) _ _ _ e) [
+took (maybe a) ok p q v e = let k = and_parts _ _ ok in elim (chosen (begins (first a) p.rest) _ _ _ e) [
   | inl c ↦ let one = bind_got (read a p) _ v q c.1 in
-      took_as (maybe a) p (Some one.0) v one.1 q one.3 (took_some_of a p one.1 one.0 c.0 (took a k.0 p one.1 one.0 one.2))
+      took_as (maybe a) p (Some one.0) v one.1 q one.3
+      (took_some_of a p one.1 one.0 c.0 (took a k.0 p one.1 one.0 one.2))
   | inr c ↦ took_as (maybe a) p None v p q c.1 (took_none_of a p c.0)
 ]
-took (unless j k a) ok p q v e = let i = both_true _ _ ok in elim (chosen (enters j k (first a) p.rest) _ _ _ e) [
-  | inl c ↦ let one = bind_got (read a p) _ v q c.1 in
-      took_as (unless j k a) p (Some one.0) v one.1 q one.3 (took_unless_some j k a p one.1 one.0 c.0 (took a i.0 p one.1 one.0 one.2))
-  | inr c ↦ took_as (unless j k a) p None v p q c.1 (took_unless_none j k a p c.0)
-]
 took (many a) ok p q xs e =
-    let k = both_true _ _ ok in
-    let l = both_true _ _ k.1 in
-    let t : TookEach a (length p.rest) p xs q = took_each a (is_no _ l.0) (both_true _ _ l.1).1 (took a k.0) (length p.rest) p q xs (omega arith) e in
-    (t.0, t.1, t.2, t.3, λ z h g. t.4 z (length (t.0 ++ z)) (omega arith) h)
+    let k = and_parts _ _ ok in
+    let l = and_parts _ _ k.1 in
+    let t : TookEach a (length p.rest) p xs q =
+    took_each a (is_no _ l.0) (took a k.0) (length p.rest) p q xs (omega arith) e in
+    (t.0, t.1, t.2, t.3, λ z h. t.4 z (length (t.0 ++ z)) (omega arith) h)
 took (made f a) ok p q v e =
     let one = bind_got (read a p) _ v q e in
     let t : Took a p one.0 one.1 = took a ok p one.1 one.0 one.2 in
-    took_as (made f a) p (f one.0) v one.1 q one.3 (t.0, t.1, t.2, (one.0, refl, t.3), λ z h g. bind_of _ _ one.0 _ _ (t.4 z h g) refl)
+    took_as (made f a) p (f one.0) v one.1 q one.3
+    (t.0, t.1, t.2, (one.0, refl, t.3), λ z h. bind_of _ _ one.0 _ _ (t.4 z h) refl)
 took (node f a) ok p q v e =
-    let k = both_true _ _ ok in
+    let k = and_parts _ _ ok in
     let one = bind_got (read a p) _ v q e in
     let t : Took a p one.0 one.1 = took a k.0 p one.1 one.0 one.2 in
     let some : t.0 ≡ [] → ⊥ = λ h. not_both _ (spelled_empty a one.0 t.0 h t.3) (is_no _ k.1) in
-    let span : (z : List Lexeme) → record { start = start_of p.end (t.0 ++ z); end = one.1.end } ≡ span_of t.0 = λ z. ap (λ n. record { start = start_of p.end (t.0 ++ z); end = n }) t.2 ∙ span_same p.end t.0 z some in
-    let here : record { start = start_of p.end p.rest; end = one.1.end } ≡ span_of t.0 = ap (λ zs. record { start = start_of p.end zs; end = one.1.end }) t.1 ∙ span one.1.rest in
-    took_as (node f a) p (f one.0 (record { start = start_of p.end p.rest; end = one.1.end })) v one.1 q one.3
-    (t.0, t.1, t.2, (one.0, ap (f one.0) here, t.3), λ z h g. bind_of _ _ one.0 _ _ (t.4 z h g) (ap (λ w. got (f one.0 w) (record { end = one.1.end; rest = z })) (span z ∙ sym here)))
+    let span : (z : List Lexeme) → record { start = start_of p.end (t.0 ++ z); end = one.1.end } ≡ span_of t.0 =
+    λ z. ap (λ n. record { start = start_of p.end (t.0 ++ z); end = n }) t.2 ∙ span_same p.end t.0 z some in
+    let here : record { start = start_of p.end p.rest; end = one.1.end } ≡ span_of t.0 =
+    ap (λ zs. record { start = start_of p.end zs; end = one.1.end }) t.1 ∙ span one.1.rest in
+    took_as (node f a) p (f one.0 (record { start = start_of p.end p.rest; end = one.1.end })) v one.1 q one.3 (
+      t.0,
+      t.1,
+      t.2,
+      (one.0, ap (f one.0) here, t.3),
+      λ z h. bind_of _ _ one.0 _ _ (t.4 z h)
+          (ap (λ w. got (f one.0 w) (record { end = one.1.end; rest = z })) (span z ∙ sym here)),
+    )

@@ -33,14 +33,16 @@ use Rattle.dl_parser.specs.Factored.{SpellAlike, item_of, item, next_item, items
 same : {A : Type 0} (a : Rule A) → SpellAlike a a
 same a = record { to = λ x ts s. s; from = λ x ts s. s }
 
-seq_into : {A B : Type 0} (a c : Rule A) (b d : Rule B) → ((x : A) (ts : List Lexeme) → Spells a x ts → Spells c x ts) → ((y : B) (ts : List Lexeme) → Spells b y ts → Spells d y ts)
+seq_into : {A B : Type 0} (a c : Rule A) (b d : Rule B) → ((x : A) (ts : List Lexeme) → Spells a x ts → Spells c x ts)
+    → ((y : B) (ts : List Lexeme) → Spells b y ts → Spells d y ts)
     → (p : A × B) (ts : List Lexeme) → Spells (a ▸ b) p ts → Spells (c ▸ d) p ts
 seq_into a c b d f g p ts (us, vs, h, s, t) = (us, vs, h, f p.0 us s, g p.1 vs t)
 
 alike_seq : {A B : Type 0} (a c : Rule A) (b d : Rule B) → SpellAlike a c → SpellAlike b d → SpellAlike (a ▸ b) (c ▸ d)
 alike_seq a c b d f g = record { to = seq_into a c b d f.to g.to; from = seq_into c a d b f.from g.from }
 
-or_into : {A : Type 0} (a c b d : Rule A) → ((x : A) (ts : List Lexeme) → Spells a x ts → Spells c x ts) → ((x : A) (ts : List Lexeme) → Spells b x ts → Spells d x ts)
+or_into : {A : Type 0} (a c b d : Rule A) → ((x : A) (ts : List Lexeme) → Spells a x ts → Spells c x ts)
+    → ((x : A) (ts : List Lexeme) → Spells b x ts → Spells d x ts)
     → (x : A) (ts : List Lexeme) → Spells (a or b) x ts → Spells (c or d) x ts
 or_into a c b d f g x ts (inl s) = inl (f x ts s)
 or_into a c b d f g x ts (inr s) = inr (g x ts s)
@@ -48,14 +50,16 @@ or_into a c b d f g x ts (inr s) = inr (g x ts s)
 alike_or : {A : Type 0} (a c b d : Rule A) → SpellAlike a c → SpellAlike b d → SpellAlike (a or b) (c or d)
 alike_or a c b d f g = record { to = or_into a c b d f.to g.to; from = or_into c a d b f.from g.from }
 
-maybe_into : {A : Type 0} (a c : Rule A) → ((x : A) (ts : List Lexeme) → Spells a x ts → Spells c x ts) → (o : Option A) (ts : List Lexeme) → Spells (maybe a) o ts → Spells (maybe c) o ts
+maybe_into : {A : Type 0} (a c : Rule A) → ((x : A) (ts : List Lexeme) → Spells a x ts → Spells c x ts)
+    → (o : Option A) (ts : List Lexeme) → Spells (maybe a) o ts → Spells (maybe c) o ts
 maybe_into a c f None ts s = s
 maybe_into a c f (Some x) ts s = f x ts s
 
 alike_maybe : {A : Type 0} (a c : Rule A) → SpellAlike a c → SpellAlike (maybe a) (maybe c)
 alike_maybe a c f = record { to = maybe_into a c f.to; from = maybe_into c a f.from }
 
-many_into : {A : Type 0} (a c : Rule A) → ((x : A) (ts : List Lexeme) → Spells a x ts → Spells c x ts) → (xs : List A) (ts : List Lexeme) → Each (Spells a) xs ts → Each (Spells c) xs ts
+many_into : {A : Type 0} (a c : Rule A) → ((x : A) (ts : List Lexeme) → Spells a x ts → Spells c x ts)
+    → (xs : List A) (ts : List Lexeme) → Each (Spells a) xs ts → Each (Spells c) xs ts
 many_into a c f [] ts s = s
 many_into a c f (x ∷ xs) ts (us, vs, h, s, t) = (us, vs, h, f x us s, many_into a c f xs vs t)
 
@@ -63,16 +67,20 @@ alike_many : {A : Type 0} (a c : Rule A) → SpellAlike a c → SpellAlike (many
 alike_many a c f = record { to = many_into a c f.to; from = many_into c a f.from }
 
 alike_made : {A B : Type 0} (f : A → B) (a c : Rule A) → SpellAlike a c → SpellAlike (made f a) (made f c)
-alike_made f a c g = record { to = λ y ts (x, e, s). (x, e, g.to x ts s); from = λ y ts (x, e, s). (x, e, g.from x ts s) }
+alike_made f a c g =
+    record { to = λ y ts (x, e, s). (x, e, g.to x ts s); from = λ y ts (x, e, s). (x, e, g.from x ts s) }
 
 alike_node : {A B : Type 0} (f : A → Span → B) (a c : Rule A) → SpellAlike a c → SpellAlike (node f a) (node f c)
-alike_node f a c g = record { to = λ y ts (x, e, s). (x, e, g.to x ts s); from = λ y ts (x, e, s). (x, e, g.from x ts s) }
+alike_node f a c g =
+    record { to = λ y ts (x, e, s). (x, e, g.to x ts s); from = λ y ts (x, e, s). (x, e, g.from x ts s) }
 
 alike_behind : {A : Type 0} (k : Kind) (a c : Rule A) → SpellAlike a c → SpellAlike (k ≫ a) (k ≫ c)
 alike_behind k a c f = alike_made (λ p. p.1) (one k ▸ a) (one k ▸ c) (alike_seq (one k) (one k) a c (same (one k)) f)
 
-alike_some_of : {A : Type 0} (a c b d : Rule A) → SpellAlike a c → SpellAlike b d → SpellAlike (some_of a b) (some_of c d)
-alike_some_of a c b d f g = alike_made (λ p. p.0 ∷ p.1) (a ▸ many b) (c ▸ many d) (alike_seq a c (many b) (many d) f (alike_many b d g))
+alike_some_of : {A : Type 0} (a c b d : Rule A) → SpellAlike a c → SpellAlike b d
+    → SpellAlike (some_of a b) (some_of c d)
+alike_some_of a c b d f g =
+    alike_made (λ p. p.0 ∷ p.1) (a ▸ many b) (c ▸ many d) (alike_seq a c (many b) (many d) f (alike_many b d g))
 
 by : {A : Type 0} (a b c : Rule A) → SpellAlike a b → SpellAlike b c → SpellAlike a c
 by a b c f g = record { to = λ x ts s. g.to x ts (f.to x ts s); from = λ x ts s. f.from x ts (g.from x ts s) }
@@ -82,10 +90,13 @@ no_tail : (ts us vs : List Lexeme) → ts ≡ us ++ vs → vs ≡ [] → ts ≡ 
 no_tail ts us vs h e = h ∙ ap (λ zs. us ++ zs) e ∙ append-nil us
 
 -- behind a token of a kind
-pub behind : {A : Type 0} (k : Kind) (r : Rule A) (x : A) (ts : List Lexeme) → Spells (k ≫ r) x ts → (t : Lexeme) × (us : List Lexeme) × (t.kind ≡ k) × (ts ≡ t ∷ us) × Spells r x us
-behind k r x ts (p, e, (us, vs, h, a, b)) = (p.0, vs, a.0, h ∙ ap (λ zs. zs ++ vs) a.1, subst (λ y. Spells r y vs) (sym e) b)
+pub behind : {A : Type 0} (k : Kind) (r : Rule A) (x : A) (ts : List Lexeme) → Spells (k ≫ r) x ts
+    → (t : Lexeme) × (us : List Lexeme) × (t.kind ≡ k) × (ts ≡ t ∷ us) × Spells r x us
+behind k r x ts (p, e, (us, vs, h, a, b)) =
+    (p.0, vs, a.0, h ∙ ap (λ zs. zs ++ vs) a.1, subst (λ y. Spells r y vs) (sym e) b)
 
-pub lead : {A : Type 0} (k : Kind) (r : Rule A) (x : A) (t : Lexeme) (us : List Lexeme) → t.kind ≡ k → Spells r x us → Spells (k ≫ r) x (t ∷ us)
+pub lead : {A : Type 0} (k : Kind) (r : Rule A) (x : A) (t : Lexeme) (us : List Lexeme) → t.kind ≡ k → Spells r x us
+    → Spells (k ≫ r) x (t ∷ us)
 lead k r x t us e s = ((t, x), refl, (t ∷ [], us, refl, (e, refl), s))
 
 -- the items
@@ -96,13 +107,25 @@ second = Sign signs.Colon ≫ numeral
 abbrev further : Rule (Numeral × Option Numeral)
 further = Sign signs.Colon ≫ numeral ▸ maybe second
 
-item_range : (n m : Numeral) (o : Option Numeral) (x : ListItem) (ts us ws : List Lexeme) (t : Lexeme) → ts ≡ us ++ (t ∷ ws) → t.kind ≡ Sign signs.Colon → x ≡ item_of (n, Some (m, o)) (span_of ts)
+item_range : (n m : Numeral) (o : Option Numeral) (x : ListItem) (ts us ws : List Lexeme) (t : Lexeme)
+    → ts ≡ us ++ (t ∷ ws) → t.kind ≡ Sign signs.Colon → x ≡ item_of (n, Some (m, o)) (span_of ts)
     → Spells numeral n us → Spells (numeral ▸ maybe second) (m, o) ws → Spells written.item x ts
 unfolding written.item
 item_range n m None x ts us ws t h k e a b = (
   λ span. record { from = n; to = Some m; step = None; span = span },
   e,
-  inr (inl ((n, m), refl, (us, t ∷ ws, h, a, lead (Sign signs.Colon) numeral m t ws k (subst (Spells numeral m) (sym (no_tail ws b.0 b.1 b.2 b.4)) b.3)))),
+  inr (inl (
+    (n, m),
+    refl,
+    (
+      us,
+      t ∷ ws,
+      h,
+      a,
+      lead (Sign signs.Colon) numeral m t ws k
+          (subst (Spells numeral m) (sym (no_tail ws b.0 b.1 b.2 b.4)) b.3),
+    ),
+  )),
 )
 item_range n m (Some s) x ts us ws t h k e a b = (
   λ span. record { from = n; to = Some m; step = Some s; span = span },
@@ -110,17 +133,28 @@ item_range n m (Some s) x ts us ws t h k e a b = (
   inr (inr ((n, (m, s)), refl, (us, t ∷ ws, h, a, lead (Sign signs.Colon) (numeral ▸ second) (m, s) t ws k b))),
 )
 
-item_to : (n : Numeral) (o : Option (Numeral × Option Numeral)) (x : ListItem) (ts us vs : List Lexeme) → ts ≡ us ++ vs → x ≡ item_of (n, o) (span_of ts) → Spells numeral n us → Spells (maybe further) o vs
+item_to : (n : Numeral) (o : Option (Numeral × Option Numeral)) (x : ListItem) (ts us vs : List Lexeme) → ts ≡ us ++ vs
+    → x ≡ item_of (n, o) (span_of ts) → Spells numeral n us → Spells (maybe further) o vs
     → Spells written.item x ts
 unfolding written.item
-item_to n None x ts us vs h e a b = (λ span. record { from = n; to = None; step = None; span = span }, e, inl (n, refl, subst (Spells numeral n) (sym (no_tail ts us vs h b)) a))
+item_to n None x ts us vs h e a b = (
+  λ span. record { from = n; to = None; step = None; span = span },
+  e,
+  inl
+      (n, refl, subst (Spells numeral n) (sym (no_tail ts us vs h b)) a),
+)
 item_to n (Some q) x ts us vs h e a b =
     let c = behind (Sign signs.Colon) (numeral ▸ maybe second) q vs b in
     item_range n q.0 q.1 x ts us c.1 c.0 (h ∙ ap (λ zs. us ++ zs) c.3) c.2 e a c.4
 
 item_from : (x : ListItem) (ts : List Lexeme) → Spells written.item x ts → Spells item x ts
 unfolding written.item item
-item_from x ts (f, e, inl (n, g, s)) = ((n, None), e ∙ ap (λ make. make (span_of ts)) g, (ts, [], sym (append-nil ts), s, refl))
+item_from x ts (f, e, inl (n, g, s)) = (
+  (n, None),
+  e
+      ∙ ap (λ make. make (span_of ts)) g,
+  (ts, [], sym (append-nil ts), s, refl),
+)
 item_from x ts (f, e, inr (inl (p, g, (us, vs, h, a, b)))) =
     let c = behind (Sign signs.Colon) numeral p.1 vs b in (
       (p.0, Some (p.1, None)),
@@ -130,7 +164,9 @@ item_from x ts (f, e, inr (inl (p, g, (us, vs, h, a, b)))) =
         vs,
         h,
         a,
-        subst (Spells further (p.1, None)) (sym c.3) (lead (Sign signs.Colon) (numeral ▸ maybe second) (p.1, None) c.0 c.1 c.2 (c.1, [], sym (append-nil c.1), c.4, refl)),
+        subst (Spells further (p.1, None)) (sym c.3)
+            (lead (Sign signs.Colon) (numeral ▸ maybe second) (p.1, None) c.0 c.1 c.2
+            (c.1, [], sym (append-nil c.1), c.4, refl)),
       ),
     )
 item_from x ts (f, e, inr (inr (p, g, (us, vs, h, a, b)))) =
@@ -142,7 +178,8 @@ item_from x ts (f, e, inr (inr (p, g, (us, vs, h, a, b)))) =
         vs,
         h,
         a,
-        subst (Spells further (p.1.0, Some p.1.1)) (sym c.3) (lead (Sign signs.Colon) (numeral ▸ maybe second) (p.1.0, Some p.1.1) c.0 c.1 c.2 c.4),
+        subst (Spells further (p.1.0, Some p.1.1)) (sym c.3)
+            (lead (Sign signs.Colon) (numeral ▸ maybe second) (p.1.0, Some p.1.1) c.0 c.1 c.2 c.4),
       ),
     )
 
@@ -157,28 +194,34 @@ next_item_alike = alike_made (λ p. p.1) _ _ (alike_seq _ _ item written.item (s
 list_alike : SpellAlike list written.list
 unfolding list items written.list
 list_alike = alike_node _ _ _ (alike_behind (Sign signs.Open) _ _
-    (alike_made (λ p. p.0) _ _ (alike_seq _ _ _ _ (alike_some_of item written.item next_item written.next_item item_alike next_item_alike) (same _))))
+    (alike_made (λ p. p.0) _ _ (alike_seq _ _ _ _
+    (alike_some_of item written.item next_item written.next_item item_alike next_item_alike) (same _))))
 
 lists_alike : SpellAlike (list ▸ maybe list) (written.list ▸ maybe written.list)
-lists_alike = alike_seq list written.list (maybe list) (maybe written.list) list_alike (alike_maybe list written.list list_alike)
+lists_alike =
+    alike_seq list written.list (maybe list) (maybe written.list) list_alike (alike_maybe list written.list list_alike)
 
 atom_alike : SpellAlike atom written.atom
 unfolding atom written.atom
 atom_alike = alike_made _ _ _ (alike_or _ _ _ _ (alike_behind (Word words.Dsev) _ _ lists_alike)
-    (alike_behind (Word words.Sev) _ _ (alike_behind (Word words.Dhistogram) _ _ (alike_behind (Word words.Xps) _ _ lists_alike))))
+    (alike_behind (Word words.Sev) _ _ (alike_behind (Word words.Dhistogram) _ _
+    (alike_behind (Word words.Xps) _ _ lists_alike))))
 
 -- the mixture, of the same atoms and lists
 
 mixture_of : Rule Atom → Rule ListAst → Rule (List Atom × Option ListAst)
-mixture_of a l = made (λ x. (x ∷ [], None)) a or made (λ (x, (others, weights)). (x ∷ others, Some weights)) (a ▸ many a ▸ Word words.Wts ≫ l)
+mixture_of a l = made (λ x. (x ∷ [], None)) a or made (λ (x, (others, weights)). (x ∷ others, Some weights))
+    (a ▸ many a ▸ Word words.Wts ≫ l)
 
-mixture_to : (a : Atom) (o : Option (List Atom × ListAst)) (x : List Atom × Option ListAst) (ts us vs : List Lexeme) → ts ≡ us ++ vs → x ≡ mix_of (a, o) → Spells atom a us → Spells (maybe weighted) o vs
+mixture_to : (a : Atom) (o : Option (List Atom × ListAst)) (x : List Atom × Option ListAst) (ts us vs : List Lexeme)
+    → ts ≡ us ++ vs → x ≡ mix_of (a, o) → Spells atom a us → Spells (maybe weighted) o vs
     → Spells (mixture_of atom list) x ts
 unfolding mixture_of weighted
 mixture_to a None x ts us vs h e s b = inl (a, e, subst (Spells atom a) (sym (no_tail ts us vs h b)) s)
 mixture_to a (Some q) x ts us vs h e s b = inr ((a, q), e, (us, vs, h, s, b))
 
-mixture_from : (x : List Atom × Option ListAst) (ts : List Lexeme) → Spells (mixture_of atom list) x ts → Spells mixture x ts
+mixture_from : (x : List Atom × Option ListAst) (ts : List Lexeme) → Spells (mixture_of atom list) x ts
+    → Spells mixture x ts
 unfolding mixture_of mixture weighted
 mixture_from x ts (inl (a, e, s)) = ((a, None), e, (ts, [], sym (append-nil ts), s, refl))
 mixture_from x ts (inr (p, e, s)) = ((p.0, Some p.1), e, s)
@@ -188,7 +231,9 @@ unfolding mixture mixture_of written.mixture
 mixture_alike = by mixture (mixture_of atom list) written.mixture
     (record { to = λ x ts (p, e, (us, vs, h, a, b)). mixture_to p.0 p.1 x ts us vs h e a b; from = mixture_from })
     (alike_or _ _ _ _ (alike_made _ atom written.atom atom_alike) (alike_made _ _ _
-    (alike_seq atom written.atom _ _ atom_alike (alike_seq _ _ _ _ (alike_many atom written.atom atom_alike) (alike_behind (Word words.Wts) list written.list list_alike)))))
+    (alike_seq atom written.atom _ _ atom_alike
+    (alike_seq _ _ _ _ (alike_many atom written.atom atom_alike)
+    (alike_behind (Word words.Wts) list written.list list_alike)))))
 
 sev_alike : SpellAlike sev written.sev
 unfolding sev written.sev
@@ -196,12 +241,17 @@ sev_alike = alike_node _ _ _ (alike_seq mixture written.mixture _ _ mixture_alik
 
 -- exposure
 
-exposure_to : (n : Numeral) (g : Numeral → Span → Exposure) (x : Exposure) (ts us vs : List Lexeme) → ts ≡ us ++ vs → x ≡ g n (span_of ts) → Spells numeral n us → Spells base g vs → Spells written.exposure x ts
+exposure_to : (n : Numeral) (g : Numeral → Span → Exposure) (x : Exposure) (ts us vs : List Lexeme) → ts ≡ us ++ vs
+    → x ≡ g n (span_of ts) → Spells numeral n us → Spells base g vs → Spells written.exposure x ts
 unfolding written.exposure ratio
 exposure_to n g x ts us vs h e a (inl (t, f, s)) =
     (λ span. exposures.Claims n span, e ∙ ap (λ make. make n (span_of ts)) f, inl ((n, t), refl, (us, vs, h, a, s)))
-exposure_to n g x ts us vs h e a (inr (inl (t, f, s))) =
-    (λ span. exposures.Loss n span, e ∙ ap (λ make. make n (span_of ts)) f, inr (inl (n, refl, ((n, t), refl, (us, vs, h, a, s)))))
+exposure_to n g x ts us vs h e a (inr (inl (t, f, s))) = (
+  λ span. exposures.Loss n span,
+  e ∙ ap (λ make. make n (span_of ts)) f,
+  inr
+      (inl (n, refl, ((n, t), refl, (us, vs, h, a, s)))),
+)
 exposure_to n g x ts us vs h e a (inr (inr (r, f, (p, i, s)))) = (
   λ span. exposures.Premium n r span,
   e ∙ ap (λ make. make n (span_of ts)) f,
@@ -216,21 +266,37 @@ exposure_from : (x : Exposure) (ts : List Lexeme) → Spells written.exposure x 
 unfolding written.exposure exposure ratio
 exposure_from x ts (f, e, inl (p, g, (us, vs, h, a, b))) =
     (f, e, ((p.0, λ number span. exposures.Claims number span), g, (us, vs, h, a, inl (p.1, refl, b))))
-exposure_from x ts (f, e, inr (inl (n, g, (p, i, (us, vs, h, a, b))))) =
-    (f, e, ((n, λ number span. exposures.Loss number span), g, (us, vs, h, subst (λ m. Spells numeral m us) (sym i) a, inr (inl (p.1, refl, b)))))
-exposure_from x ts (f, e, inr (inr (p, g, (us, vs, h, a, s)))) =
-    (f, e, ((p.0, λ number span. exposures.Premium number p.1.1 span), g, (us, vs, h, a, inr (inr (p.1.1, refl, (p.1, refl, s))))))
+exposure_from x ts (f, e, inr (inl (n, g, (p, i, (us, vs, h, a, b))))) = (
+  f,
+  e,
+  (
+    (n, λ number span. exposures.Loss number span),
+    g,
+    (us, vs, h, subst (λ m. Spells numeral m us) (sym i) a, inr (inl (p.1, refl, b))),
+  ),
+)
+exposure_from x ts (f, e, inr (inr (p, g, (us, vs, h, a, s)))) = (
+  f,
+  e,
+  (
+    (p.0, λ number span. exposures.Premium number p.1.1 span),
+    g,
+    (us, vs, h, a, inr (inr (p.1.1, refl, (p.1, refl, s)))),
+  ),
+)
 
 pub exposure_alike : SpellAlike exposure written.exposure
 unfolding exposure
 exposure_alike = record {
-  to = λ x ts (f, e, (p, g, (us, vs, h, a, b))). exposure_to p.0 p.1 x ts us vs h (e ∙ ap (λ make. make (span_of ts)) g) a b;
+  to = λ x ts (f, e, (p, g, (us, vs, h, a, b))). exposure_to p.0 p.1 x ts us vs h
+      (e ∙ ap (λ make. make (span_of ts)) g) a b;
   from = exposure_from;
 }
 
 -- cession
 
-number_to : (n : Numeral) (g : Numeral → Span → CededLayer) (x : CededLayer) (ts us vs : List Lexeme) → ts ≡ us ++ vs → x ≡ g n (span_of ts) → Spells numeral n us → Spells behind_number g vs → Spells written.cession x ts
+number_to : (n : Numeral) (g : Numeral → Span → CededLayer) (x : CededLayer) (ts us vs : List Lexeme) → ts ≡ us ++ vs
+    → x ≡ g n (span_of ts) → Spells numeral n us → Spells behind_number g vs → Spells written.cession x ts
 unfolding written.cession layer limit
 number_to n g x ts us vs h e a (inl (attach, f, s)) =
     let c = behind (Word words.Xs) numeral attach vs s in
@@ -258,7 +324,8 @@ number_to n g x ts us vs h e a (inr (inl (l, f, s))) =
 number_to n g x ts us vs h e a (inr (inr (l, f, s))) =
     (λ span. po n l span, e ∙ ap (λ make. make n (span_of ts)) f, inr (inr ((n, l), refl, (us, vs, h, a, s))))
 
-infinite_to : (attach : Numeral) (x : CededLayer) (ts : List Lexeme) → x ≡ whole_of limits.Infinite attach (span_of ts) → Spells (Word words.Inf ≫ Word words.Xs ≫ numeral) attach ts → Spells written.cession x ts
+infinite_to : (attach : Numeral) (x : CededLayer) (ts : List Lexeme) → x ≡ whole_of limits.Infinite attach (span_of ts)
+    → Spells (Word words.Inf ≫ Word words.Xs ≫ numeral) attach ts → Spells written.cession x ts
 unfolding written.cession layer limit
 infinite_to attach x ts e s =
     let c = behind (Word words.Inf) (Word words.Xs ≫ numeral) attach ts s in
@@ -286,14 +353,21 @@ infinite_to attach x ts e s =
 cession_to : (x : CededLayer) (ts : List Lexeme) → Spells cession x ts → Spells written.cession x ts
 unfolding cession
 cession_to x ts (f, e, inl (attach, g, s)) = infinite_to attach x ts (e ∙ ap (λ make. make (span_of ts)) g) s
-cession_to x ts (f, e, inr (p, g, (us, vs, h, a, b))) = number_to p.0 p.1 x ts us vs h (e ∙ ap (λ make. make (span_of ts)) g) a b
+cession_to x ts (f, e, inr (p, g, (us, vs, h, a, b))) =
+    number_to p.0 p.1 x ts us vs h (e ∙ ap (λ make. make (span_of ts)) g) a b
 
-layer_from : (x : CededLayer) (ts us vs : List Lexeme) (m : LimitAst) (attach : Numeral) (t : Lexeme) → x ≡ whole_of m attach (span_of ts) → ts ≡ us ++ t ∷ vs → t.kind ≡ Word words.Xs → Spells limit m us → Spells numeral attach vs → Spells cession x ts
+layer_from : (x : CededLayer) (ts us vs : List Lexeme) (m : LimitAst) (attach : Numeral) (t : Lexeme)
+    → x ≡ whole_of m attach (span_of ts) → ts ≡ us ++ t ∷ vs → t.kind ≡ Word words.Xs → Spells limit m us
+    → Spells numeral attach vs → Spells cession x ts
 unfolding cession limit
 layer_from x ts us vs m attach t e h k (inl (n, g, a)) b = (
   λ span. whole_of (limits.Finite n) attach span,
   e ∙ ap (λ l. whole_of l attach (span_of ts)) g,
-  inr ((n, λ number. whole_of (limits.Finite number) attach), refl, (us, t ∷ vs, h, a, inl (attach, refl, lead (Word words.Xs) numeral attach t vs k b))),
+  inr (
+    (n, λ number. whole_of (limits.Finite number) attach),
+    refl,
+    (us, t ∷ vs, h, a, inl (attach, refl, lead (Word words.Xs) numeral attach t vs k b)),
+  ),
 )
 layer_from x ts us vs m attach t e h k (inr (u, g, a)) b = (
   whole_of limits.Infinite attach,
@@ -302,7 +376,8 @@ layer_from x ts us vs m attach t e h k (inr (u, g, a)) b = (
     attach,
     refl,
     subst (Spells (Word words.Inf ≫ Word words.Xs ≫ numeral) attach) (sym (h ∙ ap (λ zs. zs ++ t ∷ vs) a.1))
-        (lead (Word words.Inf) (Word words.Xs ≫ numeral) attach u (t ∷ vs) a.0 (lead (Word words.Xs) numeral attach t vs k b)),
+        (lead (Word words.Inf) (Word words.Xs ≫ numeral) attach u (t ∷ vs) a.0
+        (lead (Word words.Xs) numeral attach t vs k b)),
   ),
 )
 
@@ -310,7 +385,8 @@ cession_from : (x : CededLayer) (ts : List Lexeme) → Spells written.cession x 
 unfolding written.cession cession layer
 cession_from x ts (f, e, inl (l, g, (p, i, (us, vs, h, (q, j, (ws, zs, o, a, t)), b)))) =
     layer_from x ts ws vs p.0 p.1 q.1 (e ∙ ap (λ make. make (span_of ts)) g ∙ ap (λ m. whole m (span_of ts)) i)
-    (h ∙ ap (λ ys. ys ++ vs) (o ∙ ap (λ ys. ws ++ ys) t.1) ∙ append_assoc ws (q.1 ∷ []) vs) t.0 (subst (λ m. Spells limit m ws) (sym j) a) b
+    (h ∙ ap (λ ys. ys ++ vs) (o ∙ ap (λ ys. ws ++ ys) t.1) ∙ append_assoc ws (q.1 ∷ []) vs) t.0
+    (subst (λ m. Spells limit m ws) (sym j) a) b
 cession_from x ts (f, e, inr (inl (p, g, (us, vs, h, a, b)))) =
     (f, e, inr ((p.0, λ number. so number p.1), g, (us, vs, h, a, inr (inl (p.1, refl, b)))))
 cession_from x ts (f, e, inr (inr (p, g, (us, vs, h, a, b)))) =
@@ -330,16 +406,20 @@ clause_alike k = alike_node _ _ _ (alike_behind k _ _ (alike_seq side side _ _ (
 
 -- the unit, of the same parts
 
-abbrev exposed_parts : Rule (NameAst × (Exposure × (Option Layer × (SevAst × (Option Cession × (FreqAst × (Option Cession × Option (List ℕ))))))))
+abbrev exposed_parts : Rule (NameAst × (Exposure ×
+    (Option Layer × (SevAst × (Option Cession × (FreqAst × (Option Cession × Option (List ℕ))))))))
 exposed_parts = name ▸ exposure ▸ maybe layer ▸ sev ▸ maybe occ ▸ freq ▸ maybe agr ▸ maybe note
 
-abbrev listed_parts : Rule (NameAst × (CountAst × (Option Layer × (SevAst × (Option Cession × (Option Cession × Option (List ℕ)))))))
+abbrev listed_parts : Rule (NameAst × (CountAst ×
+    (Option Layer × (SevAst × (Option Cession × (Option Cession × Option (List ℕ)))))))
 listed_parts = name ▸ listed ▸ maybe layer ▸ sev ▸ maybe occ ▸ maybe agr ▸ maybe note
 
 unit_of_parts : Rule UnitAst
 unit_of_parts = made exposed_unit (Word words.Agg ≫ exposed_parts) or made listed_unit (Word words.Agg ≫ listed_parts)
 
-unit_to : (n : NameAst) (g : NameAst → UnitAst) (x : UnitAst) (ts us ws : List Lexeme) (t : Lexeme) → ts ≡ t ∷ (us ++ ws) → t.kind ≡ Word words.Agg → x ≡ g n → Spells name n us → Spells (counted or exposed) g ws → Spells unit_of_parts x ts
+unit_to : (n : NameAst) (g : NameAst → UnitAst) (x : UnitAst) (ts us ws : List Lexeme) (t : Lexeme)
+    → ts ≡ t ∷ (us ++ ws) → t.kind ≡ Word words.Agg → x ≡ g n → Spells name n us → Spells (counted or exposed) g ws
+    → Spells unit_of_parts x ts
 unfolding unit_of_parts counted exposed
 unit_to n g x ts us ws t h k e a (inl (v, f, s)) = inr (
   (n, v),
@@ -362,7 +442,8 @@ unit_from x ts (inl (p, e, s)) =
       (p.0, make),
       e,
       subst (Spells (Word words.Agg ≫ name ▸ (counted or exposed)) (p.0, make)) (sym c.3)
-          (lead (Word words.Agg) (name ▸ (counted or exposed)) (p.0, make) c.0 c.1 c.2 (c.4.0, c.4.1, c.4.2, c.4.3, inr (p.1, refl, c.4.4))),
+          (lead (Word words.Agg) (name ▸ (counted or exposed)) (p.0, make) c.0 c.1 c.2
+          (c.4.0, c.4.1, c.4.2, c.4.3, inr (p.1, refl, c.4.4))),
     )
 unit_from x ts (inr (p, e, s)) =
     let c = behind (Word words.Agg) (listed_parts) p ts s in
@@ -370,7 +451,8 @@ unit_from x ts (inr (p, e, s)) =
       (p.0, make),
       e,
       subst (Spells (Word words.Agg ≫ name ▸ (counted or exposed)) (p.0, make)) (sym c.3)
-          (lead (Word words.Agg) (name ▸ (counted or exposed)) (p.0, make) c.0 c.1 c.2 (c.4.0, c.4.1, c.4.2, c.4.3, inl (p.1, refl, c.4.4))),
+          (lead (Word words.Agg) (name ▸ (counted or exposed)) (p.0, make) c.0 c.1 c.2
+          (c.4.0, c.4.1, c.4.2, c.4.3, inl (p.1, refl, c.4.4))),
     )
 
 listed_alike : SpellAlike listed written.listed
@@ -387,14 +469,22 @@ unit_alike = by unit unit_of_parts written.unit
       from = unit_from;
     })
     (alike_or _ _ _ _
-    (alike_made exposed_unit _ _ (alike_behind (Word words.Agg) _ _ (alike_seq name name _ _ (same name) (alike_seq exposure written.exposure _ _ exposure_alike (alike_seq _ _ _ _ (same (maybe layer))
-    (alike_seq sev written.sev _ _ sev_alike (alike_seq _ _ _ _ (alike_maybe occ written.occ (clause_alike (Word words.Occurrence))) (alike_seq freq freq _ _ (same freq)
+    (alike_made exposed_unit _ _ (alike_behind (Word words.Agg) _ _
+    (alike_seq name name _ _ (same name) (alike_seq exposure written.exposure _ _ exposure_alike
+    (alike_seq _ _ _ _ (same (maybe layer))
+    (alike_seq sev written.sev _ _ sev_alike
+    (alike_seq _ _ _ _ (alike_maybe occ written.occ (clause_alike (Word words.Occurrence)))
+    (alike_seq freq freq _ _ (same freq)
     (alike_seq _ _ _ _ (alike_maybe agr written.agr (clause_alike (Word words.Aggregate))) (same (maybe note)))))))))))
-    (alike_made listed_unit _ _ (alike_behind (Word words.Agg) _ _ (alike_seq name name _ _ (same name) (alike_seq listed written.listed _ _ listed_alike (alike_seq _ _ _ _ (same (maybe layer))
-    (alike_seq sev written.sev _ _ sev_alike (alike_seq _ _ _ _ (alike_maybe occ written.occ (clause_alike (Word words.Occurrence)))
+    (alike_made listed_unit _ _ (alike_behind (Word words.Agg) _ _
+    (alike_seq name name _ _ (same name) (alike_seq listed written.listed _ _ listed_alike
+    (alike_seq _ _ _ _ (same (maybe layer))
+    (alike_seq sev written.sev _ _ sev_alike
+    (alike_seq _ _ _ _ (alike_maybe occ written.occ (clause_alike (Word words.Occurrence)))
     (alike_seq _ _ _ _ (alike_maybe agr written.agr (clause_alike (Word words.Aggregate))) (same (maybe note)))))))))))
 
 pub program_alike : SpellAlike program written.program
 unfolding program units written.program
 program_alike = alike_or _ _ _ _ (alike_made _ unit written.unit unit_alike)
-    (alike_made _ _ _ (alike_seq head head _ _ (same head) (alike_some_of unit written.unit unit written.unit unit_alike unit_alike)))
+    (alike_made _ _ _ (alike_seq head head _ _ (same head)
+    (alike_some_of unit written.unit unit written.unit unit_alike unit_alike)))

@@ -1,5 +1,5 @@
--- The grammar as the parser reads it: where the alternatives of a line begin alike, what they share is read once.
--- The rules of Grammar, and each rule here with the spelling of its namesake there.
+-- The grammar as the parser reads it: where the alternatives of a line begin alike, what they share
+-- is read once. The rules of Grammar, and each rule here with the spelling of its namesake there.
 use Rattle.std.specs.Prelude.{List, [], ◌∷◌, Option, Some, None, is_some}
 use Rattle.dl_lexer.specs.declared.token.Keyword.TheVariants as words
 use Rattle.dl_lexer.specs.declared.token.Sign.TheVariants as signs
@@ -34,7 +34,8 @@ item_of p span = elim p.1 [
 ]
 
 unfoldable pub item : Rule ListItem
-item = node item_of (numeral ▸ maybe (Sign signs.Colon ≫ numeral ▸ maybe (Sign signs.Colon ≫ numeral)))
+item = node item_of (numeral ▸ maybe
+    (Sign signs.Colon ≫ numeral ▸ maybe (Sign signs.Colon ≫ numeral)))
 
 -- list := '[' item (','? item)* ']'
 unfoldable pub next_item : Rule ListItem
@@ -44,7 +45,8 @@ unfoldable pub items : Rule (List ListItem)
 items = some_of item next_item
 
 unfoldable pub list : Rule ListAst
-list = node (λ p span. record { items = p; span = span }) (Sign signs.Open ≫ items ≪ Sign signs.Close)
+list = node (λ p span. record { items = p; span = span })
+    (Sign signs.Open ≫ items ≪ Sign signs.Close)
 
 -- atom := 'dsev' list list? | 'sev' 'dhistogram' 'xps' list list?
 unfoldable pub atom : Rule Atom
@@ -66,7 +68,8 @@ mixture = made mix_of (atom ▸ maybe weighted)
 
 -- sev := mixture '!'?
 unfoldable pub sev : Rule SevAst
-sev = node (λ (m, b) span. record { atoms = m.0; weights = m.1; bang = is_some b; span = span }) (mixture ▸ maybe (one (Sign signs.Bang)))
+sev = node (λ (m, b) span. record { atoms = m.0; weights = m.1; bang = is_some b; span = span })
+    (mixture ▸ maybe (one (Sign signs.Bang)))
 
 -- cession := 'inf' 'xs' NUMERAL | NUMERAL ('xs' NUMERAL | 'so' layer | 'po' layer)
 abbrev pub whole_of : LimitAst → Numeral → Span → CededLayer
@@ -79,7 +82,8 @@ behind_number =
     or made (λ l number. po number l) (Word words.Po ≫ layer)
 
 unfoldable pub cession : Rule CededLayer
-cession = spanned (made (whole_of limits.Infinite) (Word words.Inf ≫ Word words.Xs ≫ numeral) or made (λ p. p.1 p.0) (numeral ▸ behind_number))
+cession = spanned (made (whole_of limits.Infinite)
+    (Word words.Inf ≫ Word words.Xs ≫ numeral) or made (λ p. p.1 p.0) (numeral ▸ behind_number))
 
 -- 'occurrence' side cession ('and' cession)*, and the same with 'aggregate'
 unfoldable pub next_cession : Rule CededLayer
@@ -89,7 +93,8 @@ unfoldable pub layers : Rule (List CededLayer)
 layers = some_of cession next_cession
 
 unfoldable pub clause : Kind → Rule Cession
-clause kind = node (λ p span. record { net = p.0; layers = p.1; span = span }) (kind ≫ side ▸ layers)
+clause kind =
+    node (λ p span. record { net = p.0; layers = p.1; span = span }) (kind ≫ side ▸ layers)
 
 abbrev pub occ : Rule Cession
 occ = clause (Word words.Occurrence)
@@ -110,15 +115,18 @@ base =
 unfoldable pub exposure : Rule Exposure
 exposure = spanned (made (λ p. p.1 p.0) (numeral ▸ base))
 
--- unit := 'agg' NAME ('dfreq' list list? layer? sev occ? agr? NOTE? | exposure layer? sev occ? freq agr? NOTE?)
+-- unit := 'agg' NAME ('dfreq' list list? layer? sev occ? agr? NOTE? | exposure layer? sev occ? freq
+-- agr? NOTE?)
 unfoldable pub exposed : Rule (NameAst → UnitAst)
-exposed = made (λ parts n. exposed_unit (n, parts)) (exposure ▸ maybe layer ▸ sev ▸ maybe occ ▸ freq ▸ maybe agr ▸ maybe note)
+exposed = made (λ parts n. exposed_unit (n, parts))
+    (exposure ▸ maybe layer ▸ sev ▸ maybe occ ▸ freq ▸ maybe agr ▸ maybe note)
 
 unfoldable pub listed : Rule CountAst
 listed = node (λ p span. counts.Listed p.0 p.1 span) (Word words.Dfreq ≫ list ▸ maybe list)
 
 unfoldable pub counted : Rule (NameAst → UnitAst)
-counted = made (λ parts n. listed_unit (n, parts)) (listed ▸ maybe layer ▸ sev ▸ maybe occ ▸ maybe agr ▸ maybe note)
+counted = made (λ parts n. listed_unit (n, parts))
+    (listed ▸ maybe layer ▸ sev ▸ maybe occ ▸ maybe agr ▸ maybe note)
 
 unfoldable pub unit : Rule UnitAst
 unit = made (λ p. p.1 p.0) (Word words.Agg ≫ name ▸ (counted or exposed))

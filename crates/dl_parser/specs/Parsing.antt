@@ -13,7 +13,8 @@ use Rattle.dl_parser.specs.Reading.{Place, got, stuck, read}
 abbrev pub place : Parser → Place
 place p = record { end = p.end; rest = lexemes p.source.now p.rest.now }
 
--- What a method returns is what reading by the rule gives, and the parser stands where reading does.
+-- What a method returns is what reading by the rule gives, and the parser stands where reading
+-- does.
 abbrev pub Reads : {X : Type 0} → Rule X → Parser → Parser → Result X Stop → Type 0
 Reads r old new (Ok x) = read r (place old) ≡ got x (place new)
 Reads r old new (Err (Wanted kind)) = read r (place old) ≡ stuck kind (place new)
@@ -26,13 +27,17 @@ Takes kind old new (Err (Wanted k)) = read (one kind) (place old) ≡ stuck k (p
 Takes kind old new (Err OutOfMemory) = ⊥
 
 -- the same where what is read comes behind what is there
-abbrev pub Adds : {A : Type 0} → Rule (List A) → Parser → Parser → List A → List A → Result Unit Stop → Type 0
-Adds {A} r old new xs ys (Ok _) = (zs : List A) × (ys ≡ xs ++ zs) × (read r (place old) ≡ got zs (place new))
+abbrev pub Adds : {A : Type 0} → Rule (List A) → Parser → Parser → List A → List A
+    → Result Unit Stop → Type 0
+Adds {A} r old new xs ys (Ok _) = (zs : List A) × (ys ≡ xs ++ zs) ×
+    (read r (place old) ≡ got zs (place new))
 Adds r old new xs ys (Err (Wanted k)) = read r (place old) ≡ stuck k (place new)
 Adds r old new xs ys (Err OutOfMemory) = Unit {0}
 
 -- the same, and something more behind it
-abbrev pub AddsAnd : {A B : Type 0} → Rule (List A × B) → Parser → Parser → List A → List A → Result B Stop → Type 0
-AddsAnd {A} r old new xs ys (Ok y) = (zs : List A) × (ys ≡ xs ++ zs) × (read r (place old) ≡ got (zs, y) (place new))
+abbrev pub AddsAnd : {A B : Type 0} → Rule (List A × B) → Parser → Parser → List A → List A
+    → Result B Stop → Type 0
+AddsAnd {A} r old new xs ys (Ok y) = (zs : List A) × (ys ≡ xs ++ zs) ×
+    (read r (place old) ≡ got (zs, y) (place new))
 AddsAnd r old new xs ys (Err (Wanted k)) = read r (place old) ≡ stuck k (place new)
 AddsAnd r old new xs ys (Err OutOfMemory) = Unit {0}

@@ -27,7 +27,8 @@ pub use syntax::{ParseFault, parse};
 
 /// The same tokens spell at most one program.
 pub fn law_one_program()
-    ensures { (p q : Program) (ts : List Lexeme) → Spells program p ts → Spells program q ts → p ≡ q }
+    ensures { (p q : Program) (ts : List Lexeme) → Spells program p ts → Spells program q ts
+        → p ≡ q }
 {}
 
 /// Tokens stop at one place at most.

@@ -39,7 +39,8 @@ white_blank b rest h = rw h refl
 blank_cut : (bytes front rest : List ℕ) (b : ℕ) (ps : List Piece) → is_white b ≡ true → bytes ≡ front ++ b ∷ rest
     → Cut bytes (length front) ps → Cut bytes (length front + 1) ps
 blank_cut bytes front rest b ps white e c =
-    let behind : drop (length front) bytes ≡ b ∷ rest = ap (drop (length front)) e ∙ drop-append_seam front (b ∷ rest) in
+    let behind : drop (length front) bytes ≡ b ∷ rest = ap (drop (length front)) e
+    ∙ drop-append_seam front (b ∷ rest) in
     let count : blank_length (drop (length front) bytes) ≡ 1 = ap blank_length behind ∙ white_blank b rest white in
     let some : 0 < blank_length (drop (length front) bytes) = omega arith in
     record {
@@ -57,12 +58,15 @@ stands : (bytes text : List ℕ) (k : Kind) (at : ℕ) → take (length text) (d
 stands bytes text k at e = let size : (at + length text) - at
     ≡ length text = omega arith in ap (λ ys. record { kind = k; text = ys }) (ap (λ n. take n (drop at bytes)) size ∙ e)
 
-token_cut : (bytes front text rest : List ℕ) (k : Kind) (ps : List Piece) → bytes ≡ front ++ (text ++ rest) → IsSpelled k text
+token_cut : (bytes front text rest : List ℕ) (k : Kind) (ps : List Piece) → bytes ≡ front ++ (text ++ rest)
+    → IsSpelled k text
     → IsLongest IsToken (text ++ rest) (length text)
     → Cut bytes (length front) ps → Cut bytes (length front + length text) (ps ++ record { kind = k; text = text } ∷ [])
 token_cut bytes front text rest k ps e spelled longest c =
-    let behind : drop (length front) bytes ≡ text ++ rest = ap (drop (length front)) e ∙ drop-append_seam front (text ++ rest) in
-    let here : take (length text) (drop (length front) bytes) ≡ text = ap (take (length text)) behind ∙ take-append_seam text rest in
+    let behind : drop (length front) bytes ≡ text ++ rest = ap (drop (length front)) e
+    ∙ drop-append_seam front (text ++ rest) in
+    let here : take (length text) (drop (length front) bytes) ≡ text = ap (take (length text)) behind
+    ∙ take-append_seam text rest in
     let t = token_of k (length front) (length text) in
     record {
       tokens = c.tokens ++ t ∷ [];
@@ -70,7 +74,8 @@ token_cut bytes front text rest k ps e spelled longest c =
           (subst (λ ys. IsLongest IsToken ys (length text)) (sym behind) longest);
       shown = ap (map piece_of) (map-append (lexeme bytes) c.tokens (t ∷ []))
           ∙ map-append piece_of (lexemes bytes c.tokens) (lexeme bytes t ∷ [])
-          ∙ ap (λ qs. qs ++ piece_of (lexeme bytes t) ∷ []) c.shown ∙ ap (λ q. ps ++ q ∷ []) (stands bytes text k (length front) here);
+          ∙ ap (λ qs. qs ++ piece_of (lexeme bytes t) ∷ []) c.shown
+          ∙ ap (λ q. ps ++ q ∷ []) (stands bytes text k (length front) here);
     }
 
 -- what stands before a token: nothing, or one blank
@@ -91,12 +96,14 @@ gap_is (Some j) k = here (is_tight_behind j || is_tight_before k) (begins_line k
 gap_cut : (bytes front space after : List ℕ) (ps : List Piece) → IsGap space → bytes ≡ front ++ (space ++ after)
     → Cut bytes (length front) ps → Cut bytes (length (front ++ space)) ps
 gap_cut bytes front space after ps (no_byte none) e c =
-    let size : length front ≡ length (front ++ space) = ap length (sym (append-nil front)) ∙ ap (λ ys. length (front ++ ys)) (sym none) in
+    let size : length front ≡ length (front ++ space) = ap length (sym (append-nil front))
+    ∙ ap (λ ys. length (front ++ ys)) (sym none) in
     cut_as bytes _ _ ps ps size refl c
 gap_cut bytes front space after ps (one_byte b white one) e c =
     let size : length front + 1 ≡ length (front ++ space) = sym (length-append front (b ∷ []))
     ∙ ap (λ ys. length (front ++ ys)) (sym one) in
-    cut_as bytes _ _ ps ps size refl (blank_cut bytes front after b ps white (e ∙ ap (λ ys. front ++ (ys ++ after)) one) c)
+    cut_as bytes _ _ ps ps size refl (blank_cut bytes front after b ps white
+    (e ∙ ap (λ ys. front ++ (ys ++ after)) one) c)
 
 -- behind a token that is not tight a stop follows
 
@@ -123,23 +130,28 @@ tight_stops kinds.Numeral text rest spelled tight = absurd cc
 tight_stops kinds.Note text rest spelled tight = absurd cc
 tight_stops (kinds.Word k) text rest spelled tight = absurd cc
 
-gap_stops : (j k : Kind) (text rest : List ℕ) → is_tight_behind j ≡ false → IsSpelled k text → Stops (between j k ++ (text ++ rest))
+gap_stops : (j k : Kind) (text rest : List ℕ) → is_tight_behind j ≡ false → IsSpelled k text
+    → Stops (between j k ++ (text ++ rest))
 unfolding between
 gap_stops j k text rest loose spelled = rw loose (here (is_tight_before k) (begins_line k) refl)
   where
-    here : (tight line : Bool) → is_tight_before k ≡ tight → Stops (cond tight [] (cond line (codes "\n") (codes " ")) ++ (text ++ rest))
+    here : (tight line : Bool) → is_tight_before k ≡ tight
+        → Stops (cond tight [] (cond line (codes "\n") (codes " ")) ++ (text ++ rest))
     here true line e = tight_stops k text rest spelled e
     here false true e = record { byte = 10; more = text ++ rest; whole = refl; stop = refl }
     here false false e = record { byte = 32; more = text ++ rest; whole = refl; stop = refl }
 
-follows : (k : Kind) (ps : List Piece) → All IsPiece ps → is_tight_behind k ≡ false → Stops (spaced (Some k) ps ++ codes "\n")
+follows : (k : Kind) (ps : List Piece) → All IsPiece ps → is_tight_behind k ≡ false
+    → Stops (spaced (Some k) ps ++ codes "\n")
 unfolding spaced gap
 follows k [] real loose = record { byte = 10; more = []; whole = refl; stop = refl }
 follows k (p ∷ ps) real loose =
-    subst Stops (simp append_assoc) (gap_stops k p.kind p.text (spaced (Some p.kind) ps ++ codes "\n") loose (All-head IsPiece p ps real))
+    subst Stops (simp append_assoc) (gap_stops k p.kind p.text (spaced (Some p.kind) ps ++ codes "\n") loose
+    (All-head IsPiece p ps real))
 
 -- all of them
-all_cut : (bytes front : List ℕ) (j : Option Kind) (done ps : List Piece) → All IsPiece ps → bytes ≡ front ++ (spaced j ps ++ codes "\n")
+all_cut : (bytes front : List ℕ) (j : Option Kind) (done ps : List Piece) → All IsPiece ps
+    → bytes ≡ front ++ (spaced j ps ++ codes "\n")
     → Cut bytes (length front) done
     → Cut bytes (length bytes) (done ++ ps)
 unfolding spaced
@@ -151,10 +163,13 @@ all_cut bytes front j done (p ∷ ps) real e c =
     let space : List ℕ = gap j p.kind in
     let spelled = All-head IsPiece p ps real in
     let others = All-tail IsPiece p ps real in
-    let regroup : (space ++ p.text ++ spaced (Some p.kind) ps) ++ codes "\n" ≡ space ++ (p.text ++ more) = simp append_assoc in
+    let regroup : (space ++ p.text ++ spaced (Some p.kind) ps) ++ codes "\n" ≡ space ++ (p.text ++ more) =
+    simp append_assoc in
     let first : bytes ≡ front ++ (space ++ (p.text ++ more)) = e ∙ ap (λ ys. front ++ ys) regroup in
-    let second : bytes ≡ (front ++ space) ++ (p.text ++ more) = first ∙ sym (append_assoc front space (p.text ++ more)) in
-    let third : bytes ≡ ((front ++ space) ++ p.text) ++ more = second ∙ sym (append_assoc (front ++ space) p.text more) in
+    let second : bytes ≡ (front ++ space) ++ (p.text ++ more) = first
+    ∙ sym (append_assoc front space (p.text ++ more)) in
+    let third : bytes ≡ ((front ++ space) ++ p.text) ++ more = second
+    ∙ sym (append_assoc (front ++ space) p.text more) in
     let behind = gap_cut bytes front space (p.text ++ more) done (gap_is j p.kind) first c in
     let longest = token_ends p.kind p.text more spelled (follows p.kind ps others) in
     let taken = token_cut bytes (front ++ space) p.text more p.kind done second spelled longest behind in

@@ -1,4 +1,5 @@
--- A token is the longest that begins where it stands, whatever follows a sign, and where a blank, `:` or `]` follows any other token.
+-- A token is the longest that begins where it stands, whatever follows a sign, and where a blank, `:` or `]` follows
+-- any other token.
 use Rattle.std.proofs.Common.{ℕ, zero, suc, ◌≡◌, ◌≢◌, ◌∙◌, ◌+◌, ◌<◌, ◌≤◌, List, [], ◌∷◌, ◌++◌, length, take, Bool, true, false, ◌&&◌, ◌||◌, ◌==◌, refl, sym, ap, arith, subst, append_assoc, length-append, Some, slice_get, codes}
 use Rattle.std.specs.List.{list_all, prefix_len}
 use Rattle.std.proofs.Math.Seq.{take-append_seam}
@@ -18,6 +19,7 @@ use Rattle.dl_lexer.proofs.Spellings.{keyword_is_word}
 use Rattle.dl_lexer.proofs.WordLengths.{word_parts, word_longest, note_none, note_closed}
 use Rattle.dl_lexer.proofs.TokenKinds.{begins_numeral, numeral_begins, longest_note, longest_word, longest_numeral, longest_sign}
 use Rattle.dl_printer.specs.Canonical.{is_tight_behind}
+use Rattle.std.proofs.lemmas.Bool.{and_from, and_parts}
 
 -- a blank, `:` or `]`
 abbrev pub is_stop : ℕ → Bool
@@ -46,26 +48,17 @@ no_letter b h = grind (arith, nat_tests)
 digit_passes : (b : ℕ) → is_digit b ≡ true → is_numeral_byte b ≡ true
 digit_passes b h = rw h refl
 
-both : (a b : Bool) → a ≡ true → b ≡ true → (a && b) ≡ true
-both a b g h = rw (g, h) refl
-
-left : (a b : Bool) → (a && b) ≡ true → a ≡ true
-left true b h = refl
-left false b h = absurd cc
-
-right : (a b : Bool) → (a && b) ≡ true → b ≡ true
-right true b h = h
-right false b h = absurd cc
-
 -- digits, and parts that pass
 digits_pass : (bs : List ℕ) → list_all is_digit bs ≡ true → list_all is_numeral_byte bs ≡ true
 digits_pass [] h = refl
-digits_pass (b ∷ bs) h = both (is_numeral_byte b) (list_all is_numeral_byte bs)
-    (digit_passes b (left (is_digit b) (list_all is_digit bs) h)) (digits_pass bs (right (is_digit b) (list_all is_digit bs) h))
+digits_pass (b ∷ bs) h = and_from (is_numeral_byte b) (list_all is_numeral_byte bs)
+    (digit_passes b (and_parts (is_digit b) (list_all is_digit bs) h).0)
+    (digits_pass bs (and_parts (is_digit b) (list_all is_digit bs) h).1)
 
 parts_pass : (a b : List ℕ) → list_all is_numeral_byte a ≡ true → list_all is_numeral_byte b ≡ true
     → list_all is_numeral_byte (a ++ b) ≡ true
-parts_pass a b g h = list_all-append is_numeral_byte a b ∙ both (list_all is_numeral_byte a) (list_all is_numeral_byte b) g h
+parts_pass a b g h =
+    list_all-append is_numeral_byte a b ∙ and_from (list_all is_numeral_byte a) (list_all is_numeral_byte b) g h
 
 decimal_passes : (bs : List ℕ) → IsDecimal bs → list_all is_numeral_byte bs ≡ true
 decimal_passes bs (digits d) = digits_pass bs d.1
@@ -75,7 +68,8 @@ decimal_passes bs (point_digits b e all_b) = ap (list_all is_numeral_byte) e ∙
 
 numeral_passes : (bs : List ℕ) → IsNumeral bs → list_all is_numeral_byte bs ≡ true
 numeral_passes bs (a_decimal t) = decimal_passes bs t
-numeral_passes bs (a_percent (percent d e t)) = ap (list_all is_numeral_byte) e ∙ parts_pass d (37 ∷ []) (decimal_passes d t) refl
+numeral_passes bs (a_percent (percent d e t)) =
+    ap (list_all is_numeral_byte) e ∙ parts_pass d (37 ∷ []) (decimal_passes d t) refl
 numeral_passes bs (a_fraction (fraction a b e all_a all_b)) = ap (list_all is_numeral_byte) e
     ∙ parts_pass a (47 ∷ b) (digits_pass a all_a.1) (digits_pass b all_b.1)
 
@@ -95,7 +89,8 @@ no_note text more after byte all stop e =
     let size : length text ≡ 4 = sym run ∙ ap (prefix_len is_word_byte) e ∙ four in
     let here : slice_get (text ++ byte ∷ more) (length text) ≡ Some byte = get_behind text more byte in
     let brace : slice_get (codes "note{" ++ after) 4 ≡ Some 123 = refl in
-    let same : Some byte ≡ Some 123 = sym here ∙ ap (slice_get (text ++ byte ∷ more)) size ∙ ap (λ ys. slice_get ys 4) e ∙ brace in
+    let same : Some byte ≡ Some 123 = sym here ∙ ap (slice_get (text ++ byte ∷ more)) size
+    ∙ ap (λ ys. slice_get ys 4) e ∙ brace in
     let is_brace : byte ≡ 123 = cc in
     let other : is_stop byte ≡ false = ap is_stop is_brace in
     cc
@@ -126,13 +121,16 @@ numeral_ends : (text more : List ℕ) (byte : ℕ) → IsNumeral text → is_sto
     → IsLongest IsToken (text ++ byte ∷ more) (length text)
 numeral_ends text more byte spelled stop =
     let run : prefix_len is_numeral_byte (text ++ byte ∷ more)
-    ≡ length text = prefix_ends is_numeral_byte byte text more (no_numeral_byte byte stop) (numeral_passes text spelled) in
+    ≡ length text =
+    prefix_ends is_numeral_byte byte text more (no_numeral_byte byte stop) (numeral_passes text spelled) in
     let size : length (text ++ byte ∷ more) ≡ length text + length (byte ∷ more) = length-append text (byte ∷ more) in
-    longest_numeral (text ++ byte ∷ more) (length text) (numeral_no_letter text (byte ∷ more) (numeral_begins text spelled)) (record {
+    longest_numeral (text ++ byte ∷ more) (length text)
+    (numeral_no_letter text (byte ∷ more) (numeral_begins text spelled)) (record {
       within = omega arith;
       spelled = λ some. subst IsNumeral (sym (take-append_seam text (byte ∷ more))) spelled;
       longest = λ m h t.
-          let most : m ≤ prefix_len is_numeral_byte (text ++ byte ∷ more) = prefix_most is_numeral_byte (text ++ byte ∷ more) m h
+          let most : m ≤ prefix_len is_numeral_byte (text ++ byte ∷ more) =
+          prefix_most is_numeral_byte (text ++ byte ∷ more) m h
           (numeral_passes _ t) in
           omega arith;
     }) (numeral_some text (numeral_begins text spelled))
@@ -142,7 +140,8 @@ numeral_ends text more byte spelled stop =
 note_ends_here : (inside rest : List ℕ) → list_all is_note_byte inside ≡ true
     → IsLongest IsToken (codes "note{" ++ (inside ++ 125 ∷ rest)) (length inside + 6)
 note_ends_here inside rest all =
-    let run : prefix_len is_note_byte (inside ++ 125 ∷ rest) ≡ length inside = prefix_ends is_note_byte 125 inside rest refl all in
+    let run : prefix_len is_note_byte (inside ++ 125 ∷ rest) ≡ length inside =
+    prefix_ends is_note_byte 125 inside rest refl all in
     let a_note = note_closed (inside ++ 125 ∷ rest) (length inside) (sym run) (get_behind inside rest 125) in
     let a_word = word_longest (codes "note{" ++ (inside ++ 125 ∷ rest)) 4 refl refl in
     longest_note (codes "note{" ++ (inside ++ 125 ∷ rest)) 4 (length inside + 6) refl a_word a_note (omega arith)
@@ -172,12 +171,14 @@ sign_no_numeral Comma = refl
 sign_no_numeral Bang = refl
 
 sign_ends : (s : Sign) (rest : List ℕ) → IsLongest IsToken (sign_byte s ∷ rest) 1
-sign_ends s rest = longest_sign (sign_byte s ∷ rest) s (sign_no_letter s) (longest_none IsNumeral (sign_byte s ∷ rest) none) refl
+sign_ends s rest =
+    longest_sign (sign_byte s ∷ rest) s (sign_no_letter s) (longest_none IsNumeral (sign_byte s ∷ rest) none) refl
   where
     none : (m : ℕ) → m ≤ length (sign_byte s ∷ rest) → IsNumeral (take m (sign_byte s ∷ rest)) → ⊥
     none zero h t = let begins : begins_numeral [] ≡ true = numeral_begins [] t in cc
     none (suc m) h t =
-        let begins : (is_digit (sign_byte s) || sign_byte s == 46) ≡ true = numeral_begins (sign_byte s ∷ take m rest) t in
+        let begins : (is_digit (sign_byte s) || sign_byte s == 46) ≡ true =
+        numeral_begins (sign_byte s ∷ take m rest) t in
         let other = sign_no_numeral s in
         cc
 
@@ -194,7 +195,9 @@ token_ends kinds.Name text rest spelled follows =
     (word_ends kinds.Name text s.more s.byte spelled.word spelled s.stop)
 token_ends kinds.Numeral text rest spelled follows =
     let s = follows refl in
-    subst (λ ys. IsLongest IsToken (text ++ ys) (length text)) (sym s.whole) (numeral_ends text s.more s.byte spelled s.stop)
+    subst (λ ys. IsLongest IsToken (text ++ ys) (length text)) (sym s.whole)
+    (numeral_ends text s.more s.byte spelled s.stop)
 token_ends kinds.Note text rest spelled follows = note_ends text rest spelled
-token_ends (kinds.Sign s) text rest spelled follows = subst (λ ys. IsLongest IsToken (ys ++ rest) (length ys)) (sym spelled)
+token_ends (kinds.Sign s) text rest spelled follows =
+    subst (λ ys. IsLongest IsToken (ys ++ rest) (length ys)) (sym spelled)
     (sign_ends s rest)

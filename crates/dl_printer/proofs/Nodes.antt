@@ -71,24 +71,29 @@ name_shown n h = shows_made _ (one kinds.Name) piece_of bare_name _ _ _ (shows_o
 
 note_shown : (n : List ℕ) → IsNote n → Shows note (λ x. x) n (note_piece n)
 unfolding note
-note_shown n h = shows_made _ (one kinds.Note) piece_of (λ x. x) _ _ _ (shows_one kinds.Note n h) (λ t e. ap (λ p. p.text) e)
+note_shown n h =
+    shows_made _ (one kinds.Note) piece_of (λ x. x) _ _ _ (shows_one kinds.Note n h) (λ t e. ap (λ p. p.text) e)
 
 -- lists
 
-behind_colon_shown : (n : Numeral) → IsNumeral n → Shows (Sign signs.Colon ≫ numeral) bare_numeral (bare_numeral n) (behind_colon n)
-behind_colon_shown n h = shows_behind (Sign signs.Colon) (sign_byte signs.Colon ∷ []) numeral bare_numeral (bare_numeral n)
+behind_colon_shown : (n : Numeral) → IsNumeral n
+    → Shows (Sign signs.Colon ≫ numeral) bare_numeral (bare_numeral n) (behind_colon n)
+behind_colon_shown n h =
+    shows_behind (Sign signs.Colon) (sign_byte signs.Colon ∷ []) numeral bare_numeral (bare_numeral n)
     (numeral_piece n) refl (numeral_shown n h)
 
 -- an item as it is made with any span
 abbrev ItemMade : (Span → ListItem) → Span → ListItem
 ItemMade make span = bare_item (make span)
 
-item_of : (from : Numeral) (to step : Option Numeral) (span : Span) → IsItem (record { from = from; to = to; step = step; span = span })
+item_of : (from : Numeral) (to step : Option Numeral) (span : Span)
+    → IsItem (record { from = from; to = to; step = step; span = span })
     → Shows item bare_item (bare_item (record { from = from; to = to; step = step; span = span }))
     (item_pieces (record { from = from; to = to; step = step; span = span }))
 unfolding item item_pieces optional piece
 item_of from None None span h = shows_node _ _ ItemMade bare_item _ _ _
-    (shows_left _ _ ItemMade _ _ (shows_made _ numeral bare_numeral ItemMade (bare_numeral from) _ _ (numeral_shown from h.from)
+    (shows_left _ _ ItemMade _ _ (shows_made _ numeral bare_numeral ItemMade (bare_numeral from) _ _
+    (numeral_shown from h.from)
     (λ n e. ap (λ m _. record { from = m; to = None; step = None; span = nowhere }) e)))
     (λ make at e. ap (λ m. m at) e)
 item_of from None (Some step) span h = let none : false ≡ true = h.beside refl in absurd cc
@@ -115,26 +120,31 @@ item_shown i h = item_of i.from i.to i.step i.span h
 
 next_item_shown : (i : ListItem) → IsItem i → Shows next_item bare_item (bare_item i) (item_pieces i)
 unfolding next_item
-next_item_shown i h = shows_made _ (maybe (one (Sign signs.Comma)) ▸ item) (λ p. (option_map piece_of p.0, bare_item p.1)) bare_item
+next_item_shown i h =
+    shows_made _ (maybe (one (Sign signs.Comma)) ▸ item) (λ p. (option_map piece_of p.0, bare_item p.1)) bare_item
     (None, bare_item i) _ _
-    (shows_seq (maybe (one (Sign signs.Comma))) item (option_map piece_of) bare_item None _ [] _ (shows_none _ piece_of) (item_shown i h))
+    (shows_seq (maybe (one (Sign signs.Comma))) item (option_map piece_of) bare_item None _ [] _
+    (shows_none _ piece_of) (item_shown i h))
     (λ p e. ap (λ q. q.1) e)
 
 items_shown : (is : List ListItem) → 0 < length is → All IsItem is
     → Shows (some_of item next_item) (map bare_item) (map bare_item is) (flat_map item_pieces is)
 items_shown [] some h = absurd (omega arith)
-items_shown (i ∷ is) some h = shows_some_of item next_item bare_item item_pieces item_pieces IsItem item_shown next_item_shown i is
+items_shown (i ∷ is) some h =
+    shows_some_of item next_item bare_item item_pieces item_pieces IsItem item_shown next_item_shown i is
     (All-head IsItem i is h) (All-tail IsItem i is h)
 
 list_shown : (l : ListAst) → IsList l → Shows list bare_list (bare_list l) (list_pieces l)
 unfolding list list_pieces
 list_shown l h = shows_node _ _ (map bare_item) bare_list (map bare_item l.items) _ _
     (shows_as _ _ _ _ _ (shows_behind (Sign signs.Open) (sign_byte signs.Open ∷ []) _ (map bare_item) _ _ refl
-    (shows_before (Sign signs.Close) (sign_byte signs.Close ∷ []) _ (map bare_item) _ _ refl (items_shown l.items h.some h.items)))
+    (shows_before (Sign signs.Close) (sign_byte signs.Close ∷ []) _ (map bare_item) _ _ refl
+    (items_shown l.items h.some h.items)))
     (simp append_assoc))
     (λ is at e. ap (λ js. record { items = js; span = nowhere }) e)
 
-list_option_shown : (o : Option ListAst) → IfSome o IsList → Shows (maybe list) (option_map bare_list) (option_map bare_list o)
+list_option_shown : (o : Option ListAst) → IfSome o IsList
+    → Shows (maybe list) (option_map bare_list) (option_map bare_list o)
     (optional list_pieces o)
 list_option_shown o h = shows_maybe list bare_list list_pieces IsList list_shown o h
 
@@ -142,18 +152,21 @@ list_option_shown o h = shows_maybe list bare_list list_pieces IsList list_shown
 
 limit_shown : (l : LimitAst) → IsLimit l → Shows limit bare_limit (bare_limit l) (limit_pieces l)
 unfolding limit limit_pieces
-limit_shown (Finite n) h = shows_left _ _ bare_limit _ _ (shows_made _ numeral bare_numeral bare_limit (bare_numeral n) _ _
+limit_shown (Finite n) h =
+    shows_left _ _ bare_limit _ _ (shows_made _ numeral bare_numeral bare_limit (bare_numeral n) _ _
     (numeral_shown n h) (λ m e. ap Finite e))
 limit_shown Infinite h = shows_right _ _ bare_limit _ _ (word_means words.Inf Infinite bare_limit)
 
 layer_shown : (l : Layer) → IsLayer l → Shows layer bare_layer (bare_layer l) (layer_pieces l)
 unfolding layer layer_pieces
-layer_shown l h = shows_node _ _ (λ p. (bare_limit p.0, bare_numeral p.1)) bare_layer (bare_limit l.limit, bare_numeral l.attach) _ _
+layer_shown l h =
+    shows_node _ _ (λ p. (bare_limit p.0, bare_numeral p.1)) bare_layer (bare_limit l.limit, bare_numeral l.attach) _ _
     (shows_seq (limit ≪ Word words.Xs) numeral bare_limit bare_numeral _ _ _ _
     (before_word words.Xs limit bare_limit _ _ (limit_shown l.limit h.limit)) (numeral_shown l.attach h.attach))
     (λ p at e. ap (λ q. record { limit = q.0; attach = q.1; span = nowhere }) e)
 
-layer_option_shown : (o : Option Layer) → IfSome o IsLayer → Shows (maybe layer) (option_map bare_layer) (option_map bare_layer o)
+layer_option_shown : (o : Option Layer) → IfSome o IsLayer
+    → Shows (maybe layer) (option_map bare_layer) (option_map bare_layer o)
     (optional layer_pieces o)
 layer_option_shown o h = shows_maybe layer bare_layer layer_pieces IsLayer layer_shown o h
 
@@ -164,8 +177,10 @@ abbrev bare_lists : ListAst × Option ListAst → ListAst × Option ListAst
 bare_lists p = (bare_list p.0, option_map bare_list p.1)
 
 lists_shown : (l : ListAst) (o : Option ListAst) → IsList l → IfSome o IsList
-    → Shows (list ▸ maybe list) bare_lists (bare_list l, option_map bare_list o) (list_pieces l ++ optional list_pieces o)
-lists_shown l o h k = shows_seq list (maybe list) bare_list (option_map bare_list) _ _ _ _ (list_shown l h) (list_option_shown o k)
+    → Shows (list ▸ maybe list) bare_lists (bare_list l, option_map bare_list o)
+    (list_pieces l ++ optional list_pieces o)
+lists_shown l o h k =
+    shows_seq list (maybe list) bare_list (option_map bare_list) _ _ _ _ (list_shown l h) (list_option_shown o k)
 
 atom_shown : (a : Atom) → IsAtom a → Shows atom bare_atom (bare_atom a) (atom_pieces a)
 unfolding atom atom_pieces
@@ -180,14 +195,17 @@ bare_mixture m = (map bare_atom m.0, option_map bare_list m.1)
 
 mixture_shown : (others : List Atom) (w : Option ListAst) → 0 < length others → All IsAtom others → IfSome w IsList
     → (1 < length others → IsSome w)
-    → Shows mixture bare_mixture (map bare_atom others, option_map bare_list w) (flat_map atom_pieces others ++ optional weights_pieces w)
+    → Shows mixture bare_mixture (map bare_atom others, option_map bare_list w)
+    (flat_map atom_pieces others ++ optional weights_pieces w)
 unfolding mixture optional
 mixture_shown [] w some h k several = absurd (omega arith)
-mixture_shown (a ∷ []) None some h k several = shows_left _ _ bare_mixture _ _ (shows_made _ atom bare_atom bare_mixture (bare_atom a) _ _
+mixture_shown (a ∷ []) None some h k several =
+    shows_left _ _ bare_mixture _ _ (shows_made _ atom bare_atom bare_mixture (bare_atom a) _ _
     (shows_as _ _ _ _ _ (atom_shown a (All-head IsAtom a [] h)) (simp append-nil)) (λ b e. ap (λ c. (c ∷ [], None)) e))
 mixture_shown (a ∷ b ∷ others) None some h k several = let none : false ≡ true = several (omega arith) in absurd cc
 mixture_shown (a ∷ others) (Some w) some h k several = shows_right _ _ bare_mixture _ _
-    (shows_made _ (atom ▸ many atom ▸ Word words.Wts ≫ list) (λ p. (bare_atom p.0, (map bare_atom p.1.0, bare_list p.1.1))) bare_mixture
+    (shows_made _ (atom ▸ many atom ▸ Word words.Wts ≫ list)
+    (λ p. (bare_atom p.0, (map bare_atom p.1.0, bare_list p.1.1))) bare_mixture
     (bare_atom a, (map bare_atom others, bare_list w)) _ _
     (shows_as _ _ _ _ _ (shows_seq atom _ bare_atom (λ p. (map bare_atom p.0, bare_list p.1)) _ _ _ _
     (atom_shown a (All-head IsAtom a others h))
@@ -209,12 +227,15 @@ bang_shown : (b : Bool) → Shows (maybe (one (Sign signs.Bang))) is_some b (ban
 unfolding bang_pieces
 bang_shown true = shows_seen _ (option_map piece_of) is_some _ _ _
     (shows_some _ piece_of _ _ (shows_one (Sign signs.Bang) (sign_byte signs.Bang ∷ []) refl)) (λ y e. some_is y _ e)
-bang_shown false = shows_seen _ (option_map piece_of) is_some _ _ _ (shows_none (one (Sign signs.Bang)) piece_of) (λ y e. none_is y e)
+bang_shown false =
+    shows_seen _ (option_map piece_of) is_some _ _ _ (shows_none (one (Sign signs.Bang)) piece_of) (λ y e. none_is y e)
 
 sev_shown : (s : SevAst) → IsSev s → Shows sev bare_sev (bare_sev s) (sev_pieces s)
 unfolding sev sev_pieces
-sev_shown s h = shows_node _ _ (λ p. (bare_mixture p.0, is_some p.1)) bare_sev (bare_mixture (s.atoms, s.weights), s.bang) _ _
-    (shows_seq mixture _ bare_mixture is_some _ _ _ _ (mixture_shown s.atoms s.weights h.some h.atoms h.weights h.several)
+sev_shown s h =
+    shows_node _ _ (λ p. (bare_mixture p.0, is_some p.1)) bare_sev (bare_mixture (s.atoms, s.weights), s.bang) _ _
+    (shows_seq mixture _ bare_mixture is_some _ _ _ _
+    (mixture_shown s.atoms s.weights h.some h.atoms h.weights h.several)
     (bang_shown s.bang))
     (λ p at e. ap (λ q. record { atoms = q.0.0; weights = q.0.1; bang = q.1; span = nowhere }) e)
 
@@ -224,7 +245,8 @@ abbrev CededMade : (Span → CededLayer) → Span → CededLayer
 CededMade make span = bare_ceded (make span)
 
 part_shown : (k : Keyword) (n : Numeral) (l : Layer) → IsNumeral n → IsLayer l
-    → Shows {X = Numeral × Layer} {S = Numeral × Layer} (numeral ▸ Word k ≫ layer) (λ p. (bare_numeral p.0, bare_layer p.1))
+    → Shows {X = Numeral × Layer} {S = Numeral × Layer} (numeral ▸ Word k ≫ layer)
+    (λ p. (bare_numeral p.0, bare_layer p.1))
     (bare_numeral n, bare_layer l) (numeral_piece n ++ (word_piece k ++ layer_pieces l))
 part_shown k n l h j = shows_seq numeral _ bare_numeral bare_layer _ _ _ _ (numeral_shown n h)
     (behind_word k layer bare_layer _ _ (layer_shown l j))
@@ -262,15 +284,18 @@ layers_shown : (cs : List CededLayer) → 0 < length cs → All IsCeded cs
 unfolding ceded_layers_pieces
 layers_shown [] some h = absurd (omega arith)
 layers_shown
-    (c ∷ cs) some h = shows_some_of cession next_cession bare_ceded ceded_pieces and_ceded_pieces IsCeded ceded_shown and_ceded_shown c cs
+    (c ∷ cs) some h =
+    shows_some_of cession next_cession bare_ceded ceded_pieces and_ceded_pieces IsCeded ceded_shown and_ceded_shown c cs
     (All-head IsCeded c cs h) (All-tail IsCeded c cs h)
 
 side_shown : (b : Bool) → Shows side (λ x. x) b (side_pieces b)
 unfolding side side_pieces
 side_shown true = shows_left _ _ (λ x. x) _ _ (behind_word words.Net _ (λ x. x) _ _ (word_means words.Of true (λ x. x)))
-side_shown false = shows_right _ _ (λ x. x) _ _ (behind_word words.Ceded _ (λ x. x) _ _ (word_means words.To false (λ x. x)))
+side_shown false =
+    shows_right _ _ (λ x. x) _ _ (behind_word words.Ceded _ (λ x. x) _ _ (word_means words.To false (λ x. x)))
 
-clause_shown : (k : Keyword) (c : Cession) → IsCession c → Shows (clause (Word k)) bare_cession (bare_cession c) (clause_pieces k c)
+clause_shown : (k : Keyword) (c : Cession) → IsCession c
+    → Shows (clause (Word k)) bare_cession (bare_cession c) (clause_pieces k c)
 unfolding clause clause_pieces
 clause_shown k c h = shows_node _ _ (λ p. (p.0, map bare_ceded p.1)) bare_cession (c.net, map bare_ceded c.layers) _ _
     (shows_as _ _ _ _ _ (behind_word k _ (λ p. (p.0, map bare_ceded p.1)) _ _
@@ -279,7 +304,8 @@ clause_shown k c h = shows_node _ _ (λ p. (p.0, map bare_ceded p.1)) bare_cessi
     (λ p at e. ap (λ q. record { net = q.0; layers = q.1; span = nowhere }) e)
 
 clause_option_shown : (k : Keyword) (o : Option Cession) → IfSome o IsCession
-    → Shows (maybe (clause (Word k))) (option_map bare_cession) (option_map bare_cession o) (optional (clause_pieces k) o)
+    → Shows (maybe (clause (Word k))) (option_map bare_cession) (option_map bare_cession o)
+    (optional (clause_pieces k) o)
 clause_option_shown k o h = shows_maybe (clause (Word k)) bare_cession (clause_pieces k) IsCession (clause_shown k) o h
 
 -- claim counts
@@ -290,20 +316,26 @@ FreqMade make span = bare_freq (make span)
 freq_shown : (f : FreqAst) → IsFreq f → Shows freq bare_freq (bare_freq f) (freq_pieces f)
 unfolding freq freq_pieces
 freq_shown (freqs.Fixed span) h = shows_node _ _ FreqMade bare_freq _ _ _
-    (shows_left _ _ FreqMade _ _ (word_means words.Fixed (λ at. freqs.Fixed at) FreqMade)) (λ make at e. ap (λ m. m at) e)
+    (shows_left _ _ FreqMade _ _ (word_means words.Fixed (λ at. freqs.Fixed at) FreqMade))
+    (λ make at e. ap (λ m. m at) e)
 freq_shown (freqs.Poisson span) h = shows_node _ _ FreqMade bare_freq _ _ _
-    (shows_right _ _ FreqMade _ _ (shows_left _ _ FreqMade _ _ (word_means words.Poisson (λ at. freqs.Poisson at) FreqMade)))
+    (shows_right _ _ FreqMade _ _ (shows_left _ _ FreqMade _ _
+    (word_means words.Poisson (λ at. freqs.Poisson at) FreqMade)))
     (λ make at e. ap (λ m. m at) e)
 freq_shown (freqs.Bernoulli span) h = shows_node _ _ FreqMade bare_freq _ _ _
     (shows_right _ _ FreqMade _ _ (shows_right _ _ FreqMade _ _
-    (shows_left _ _ FreqMade _ _ (word_means words.Bernoulli (λ at. freqs.Bernoulli at) FreqMade)))) (λ make at e. ap (λ m. m at) e)
+    (shows_left _ _ FreqMade _ _ (word_means words.Bernoulli (λ at. freqs.Bernoulli at) FreqMade))))
+    (λ make at e. ap (λ m. m at) e)
 freq_shown (freqs.Binomial n span) h = shows_node _ _ FreqMade bare_freq _ _ _
-    (shows_right _ _ FreqMade _ _ (shows_right _ _ FreqMade _ _ (shows_right _ _ FreqMade _ _ (shows_left _ _ FreqMade _ _
-    (shows_made _ _ bare_numeral FreqMade (bare_numeral n) _ _ (behind_word words.Binomial numeral bare_numeral _ _ (numeral_shown n h))
+    (shows_right _ _ FreqMade _ _ (shows_right _ _ FreqMade _ _
+    (shows_right _ _ FreqMade _ _ (shows_left _ _ FreqMade _ _
+    (shows_made _ _ bare_numeral FreqMade (bare_numeral n) _ _
+    (behind_word words.Binomial numeral bare_numeral _ _ (numeral_shown n h))
     (λ m e. ap (λ q _. freqs.Binomial q nowhere) e))))))
     (λ make at e. ap (λ m. m at) e)
 freq_shown (freqs.Gamma n span) h = shows_node _ _ FreqMade bare_freq _ _ _
-    (shows_right _ _ FreqMade _ _ (shows_right _ _ FreqMade _ _ (shows_right _ _ FreqMade _ _ (shows_right _ _ FreqMade _ _
+    (shows_right _ _ FreqMade _ _ (shows_right _ _ FreqMade _ _
+    (shows_right _ _ FreqMade _ _ (shows_right _ _ FreqMade _ _
     (shows_made _ _ bare_numeral FreqMade (bare_numeral n) _ _
     (shows_as _ _ _ _ _ (behind_word words.Mixed _ bare_numeral _ _
     (behind_word words.Gamma numeral bare_numeral _ _ (numeral_shown n h))) (simp append_assoc))
@@ -313,11 +345,13 @@ freq_shown (freqs.Gamma n span) h = shows_node _ _ FreqMade bare_freq _ _ _
 abbrev ExposureMade : (Span → Exposure) → Span → Exposure
 ExposureMade make span = bare_exposure (make span)
 
-claims_shown : Shows claims piece_of (record { kind = Word words.Claims; text = spelling words.Claims }) (word_piece words.Claims)
+claims_shown : Shows claims piece_of (record { kind = Word words.Claims; text = spelling words.Claims })
+    (word_piece words.Claims)
 unfolding claims
 claims_shown = shows_right _ _ piece_of _ _ (shows_one (Word words.Claims) (spelling words.Claims) refl)
 
-premium_shown : Shows premium piece_of (record { kind = Word words.Premium; text = spelling words.Premium }) (word_piece words.Premium)
+premium_shown : Shows premium piece_of (record { kind = Word words.Premium; text = spelling words.Premium })
+    (word_piece words.Premium)
 unfolding premium
 premium_shown = shows_right _ _ piece_of _ _ (shows_one (Word words.Premium) (spelling words.Premium) refl)
 
@@ -325,7 +359,8 @@ exposure_shown : (x : Exposure) → IsExposure x → Shows exposure bare_exposur
 unfolding exposure exposure_pieces
 exposure_shown (Claims n span) h = shows_node _ _ ExposureMade bare_exposure _ _ _
     (shows_left _ _ ExposureMade _ _ (shows_made _ _ _ ExposureMade _ _ _
-    (shows_seq numeral claims bare_numeral piece_of _ _ _ _ (numeral_shown n h) claims_shown) (λ p e. ap (λ q _. Claims q.0 nowhere) e)))
+    (shows_seq numeral claims bare_numeral piece_of _ _ _ _ (numeral_shown n h) claims_shown)
+    (λ p e. ap (λ q _. Claims q.0 nowhere) e)))
     (λ make at e. ap (λ m. m at) e)
 exposure_shown (Loss n span) h = shows_node _ _ ExposureMade bare_exposure _ _ _
     (shows_right _ _ ExposureMade _ _ (shows_left _ _ ExposureMade _ _ (shows_made _ _ bare_numeral ExposureMade _ _ _
@@ -350,7 +385,8 @@ listed_shown l o span h k = shows_node _ _ bare_lists bare_count _ _ _
 -- units and programs
 
 note_option_shown : (o : Option (List ℕ)) → IfSome o IsNote → Shows (maybe note) (λ x. x) o (optional note_piece o)
-note_option_shown o h = shows_seen _ (option_map (λ x. x)) (λ x. x) _ _ _ (shows_maybe note (λ x. x) note_piece IsNote note_shown o h)
+note_option_shown o h =
+    shows_seen _ (option_map (λ x. x)) (λ x. x) _ _ _ (shows_maybe note (λ x. x) note_piece IsNote note_shown o h)
     (λ y e. sym (option_map_id y) ∙ e ∙ option_map_id o)
 
 unit_of : (n : NameAst) (c : CountAst) (l : Option Layer) (s : SevAst) (o a : Option Cession) (t : Option (List ℕ))
@@ -363,24 +399,42 @@ unit_of n (Exposed e f) l s o a t h = shows_left _ _ bare_unit _ _ (shows_made e
     (shows_seq exposure _ bare_exposure _ _ _ _ _ (exposure_shown e h.count.0)
     (shows_seq (maybe layer) _ (option_map bare_layer) _ _ _ _ _ (layer_option_shown l h.layer)
     (shows_seq sev _ bare_sev _ _ _ _ _ (sev_shown s h.sev)
-    (shows_seq (maybe (clause (Word words.Occurrence))) _ (option_map bare_cession) _ _ _ _ _ (clause_option_shown words.Occurrence o h.occ)
+    (shows_seq (maybe (clause (Word words.Occurrence))) _ (option_map bare_cession) _ _ _ _ _
+    (clause_option_shown words.Occurrence o h.occ)
     (shows_seq freq _ bare_freq _ _ _ _ _ (freq_shown f h.count.1)
     (shows_seq (maybe (clause (Word words.Aggregate))) (maybe note) (option_map bare_cession) (λ x. x) _ _ _ _
     (clause_option_shown words.Aggregate a h.agr) (note_option_shown t h.note)))))))))
     (simp append_assoc))
     (λ p e. ap
-    (λ q. record { name = q.0; count = Exposed q.1.0 q.1.1.1.1.1.0; layer = q.1.1.0; sev = q.1.1.1.0; occ = q.1.1.1.1.0; agr = q.1.1.1.1.1.1.0; note = q.1.1.1.1.1.1.1 }) e))
+    (λ q. record {
+      name = q.0;
+      count = Exposed q.1.0 q.1.1.1.1.1.0;
+      layer = q.1.1.0;
+      sev = q.1.1.1.0;
+      occ = q.1.1.1.1.0;
+      agr = q.1.1.1.1.1.1.0;
+      note = q.1.1.1.1.1.1.1;
+    }) e))
 unit_of n (Listed c p span) l s o a t h = shows_right _ _ bare_unit _ _ (shows_made listed_unit _ _ bare_unit _ _ _
     (shows_as _ _ _ _ _ (behind_word words.Agg _ _ _ _ (shows_seq name _ bare_name _ _ _ _ _ (name_shown n h.name)
     (shows_seq listed _ bare_count _ _ _ _ _ (listed_shown c p span h.count.0 h.count.1)
     (shows_seq (maybe layer) _ (option_map bare_layer) _ _ _ _ _ (layer_option_shown l h.layer)
     (shows_seq sev _ bare_sev _ _ _ _ _ (sev_shown s h.sev)
-    (shows_seq (maybe (clause (Word words.Occurrence))) _ (option_map bare_cession) _ _ _ _ _ (clause_option_shown words.Occurrence o h.occ)
+    (shows_seq (maybe (clause (Word words.Occurrence))) _ (option_map bare_cession) _ _ _ _ _
+    (clause_option_shown words.Occurrence o h.occ)
     (shows_seq (maybe (clause (Word words.Aggregate))) (maybe note) (option_map bare_cession) (λ x. x) _ _ _ _
     (clause_option_shown words.Aggregate a h.agr) (note_option_shown t h.note))))))))
     (simp (append_assoc, append-nil)))
     (λ p e. ap
-    (λ q. record { name = q.0; count = q.1.0; layer = q.1.1.0; sev = q.1.1.1.0; occ = q.1.1.1.1.0; agr = q.1.1.1.1.1.0; note = q.1.1.1.1.1.1 }) e))
+    (λ q. record {
+      name = q.0;
+      count = q.1.0;
+      layer = q.1.1.0;
+      sev = q.1.1.1.0;
+      occ = q.1.1.1.1.0;
+      agr = q.1.1.1.1.1.0;
+      note = q.1.1.1.1.1.1;
+    }) e))
 
 unit_shown : (u : UnitAst) → IsUnit u → Shows unit bare_unit (bare_unit u) (unit_pieces u)
 unit_shown u h = unit_of u.name u.count u.layer u.sev u.occ u.agr u.note h
@@ -388,7 +442,8 @@ unit_shown u h = unit_of u.name u.count u.layer u.sev u.occ u.agr u.note h
 head_shown : (h : PortHead) → IsHead h → Shows head bare_head (bare_head h) (head_pieces h)
 unfolding head head_pieces
 head_shown h k = shows_made _ _ _ bare_head _ _ _
-    (shows_as _ _ _ _ _ (behind_word words.Port _ _ _ _ (shows_seq name (maybe note) bare_name (λ x. x) _ _ _ _ (name_shown h.name k.name)
+    (shows_as _ _ _ _ _ (behind_word words.Port _ _ _ _
+    (shows_seq name (maybe note) bare_name (λ x. x) _ _ _ _ (name_shown h.name k.name)
     (note_option_shown h.note k.note))) (simp append_assoc))
     (λ p e. ap (λ q. record { name = q.0; note = q.1 }) e)
 
@@ -404,7 +459,8 @@ program_of (Some h) [] w = absurd (omega (arith, w.some))
 program_of (Some h) (u ∷ us) w = shows_right _ _ bare _ _ (shows_made _ (head ▸ some_of unit unit)
     (λ p. (bare_head p.0, map bare_unit p.1)) bare (bare_head h, map bare_unit (u ∷ us)) _ _
     (shows_seq head _ bare_head (map bare_unit) _ _ _ _ (head_shown h w.head)
-    (shows_some_of unit unit bare_unit unit_pieces unit_pieces IsUnit unit_shown unit_shown u us (All-head IsUnit u us w.units)
+    (shows_some_of unit unit bare_unit unit_pieces unit_pieces IsUnit unit_shown unit_shown u us
+    (All-head IsUnit u us w.units)
     (All-tail IsUnit u us w.units)))
     (λ p e. ap (λ q. record { port = Some q.0; units = q.1 }) e))
 

@@ -30,9 +30,11 @@ use Rattle.dl_printer.specs.Apart.{bare_numeral, bare_item, bare_list, bare_limi
 
 -- what holds of each holds of all, and of what may be left out
 
-all_same : {A : Type 0} (f : A → List Piece) (g : A → A) → ((x : A) → f (g x) ≡ f x) → (xs : List A) → flat_map f (map g xs) ≡ flat_map f xs
+all_same : {A : Type 0} (f : A → List Piece) (g : A → A) → ((x : A) → f (g x) ≡ f x) → (xs : List A)
+    → flat_map f (map g xs) ≡ flat_map f xs
 all_same f g each [] = refl
-all_same f g each (x ∷ xs) = ap (λ ps. ps ++ flat_map f (map g xs)) (each x) ∙ ap (λ ps. f x ++ ps) (all_same f g each xs)
+all_same f g each (x ∷ xs) =
+    ap (λ ps. ps ++ flat_map f (map g xs)) (each x) ∙ ap (λ ps. f x ++ ps) (all_same f g each xs)
 
 option_same : {A : Type 0} (f : A → List Piece) (g : A → A) → ((x : A) → f (g x) ≡ f x) → (o : Option A)
     → optional f (option_map g o) ≡ optional f o
@@ -47,7 +49,8 @@ unfolding item_pieces
 item_same i =
     ap (λ ps. numeral_piece i.from ++ ps ++ optional behind_colon (option_map bare_numeral i.step))
     (option_same behind_colon bare_numeral (λ n. refl) i.to)
-    ∙ ap (λ ps. numeral_piece i.from ++ optional behind_colon i.to ++ ps) (option_same behind_colon bare_numeral (λ n. refl) i.step)
+    ∙ ap (λ ps. numeral_piece i.from ++ optional behind_colon i.to ++ ps)
+    (option_same behind_colon bare_numeral (λ n. refl) i.step)
 
 list_same : (l : ListAst) → list_pieces (bare_list l) ≡ list_pieces l
 unfolding list_pieces
@@ -73,7 +76,8 @@ sev_same : (s : SevAst) → sev_pieces (bare_sev s) ≡ sev_pieces s
 unfolding sev_pieces
 sev_same s = ap (λ ps. ps ++ optional weights_pieces (option_map bare_list s.weights) ++ bang_pieces s.bang)
     (all_same atom_pieces bare_atom atom_same s.atoms)
-    ∙ ap (λ ps. flat_map atom_pieces s.atoms ++ ps ++ bang_pieces s.bang) (option_same weights_pieces bare_list weights_same s.weights)
+    ∙ ap (λ ps. flat_map atom_pieces s.atoms ++ ps ++ bang_pieces s.bang)
+    (option_same weights_pieces bare_list weights_same s.weights)
 
 share_same : (s : Share) → share_pieces (bare_share s) ≡ share_pieces s
 unfolding share_pieces
@@ -117,7 +121,8 @@ exposure_same (Premium n r _) = refl
 count_same : (c : CountAst) → count_pieces (bare_count c) ≡ count_pieces c
 unfolding count_pieces listed_pieces
 count_same (Exposed e f) = exposure_same e
-count_same (Listed l o _) = ap (λ ps. word_piece words.Dfreq ++ ps ++ optional list_pieces (option_map bare_list o)) (list_same l)
+count_same (Listed l o _) =
+    ap (λ ps. word_piece words.Dfreq ++ ps ++ optional list_pieces (option_map bare_list o)) (list_same l)
     ∙ ap (λ ps. word_piece words.Dfreq ++ list_pieces l ++ ps) (option_same list_pieces bare_list list_same o)
 
 late_count_same : (c : CountAst) → late_count_pieces (bare_count c) ≡ late_count_pieces c
@@ -132,9 +137,11 @@ nine a b c d e f g h i c' d' e' f' g' h' p q r s t u = cc
 
 unit_same : (u : UnitAst) → unit_pieces (bare_unit u) ≡ unit_pieces u
 unfolding unit_pieces
-unit_same u = nine (word_piece words.Agg) (name_piece u.name) _ _ _ _ _ _ (optional note_piece u.note) _ _ _ _ _ _ (count_same u.count)
+unit_same u = nine (word_piece words.Agg) (name_piece u.name) _ _ _ _ _ _ (optional note_piece u.note) _ _ _ _ _ _
+    (count_same u.count)
     (option_same layer_pieces bare_layer layer_same u.layer) (sev_same u.sev)
-    (option_same (clause_pieces words.Occurrence) bare_cession (clause_same words.Occurrence) u.occ) (late_count_same u.count)
+    (option_same (clause_pieces words.Occurrence) bare_cession (clause_same words.Occurrence) u.occ)
+    (late_count_same u.count)
     (option_same (clause_pieces words.Aggregate) bare_cession (clause_same words.Aggregate) u.agr)
 
 head_same : (h : PortHead) → head_pieces (bare_head h) ≡ head_pieces h
@@ -143,7 +150,8 @@ head_same h = refl
 
 program_same : (p : Program) → program_pieces (bare p) ≡ program_pieces p
 unfolding program_pieces
-program_same p = ap (λ ps. ps ++ flat_map unit_pieces (map bare_unit p.units)) (option_same head_pieces bare_head head_same p.port)
+program_same p =
+    ap (λ ps. ps ++ flat_map unit_pieces (map bare_unit p.units)) (option_same head_pieces bare_head head_same p.port)
     ∙ ap (λ ps. optional head_pieces p.port ++ ps) (all_same unit_pieces bare_unit unit_same p.units)
 
 pub same_text : (p q : Program) → SameProgram p q → canonical p ≡ canonical q

@@ -91,7 +91,8 @@ bang_pieces true = sign_piece signs.Bang
 bang_pieces false = []
 
 unfoldable pub sev_pieces : SevAst → List Piece
-sev_pieces s = flat_map atom_pieces s.atoms ++ optional weights_pieces s.weights ++ bang_pieces s.bang
+sev_pieces s =
+    flat_map atom_pieces s.atoms ++ optional weights_pieces s.weights ++ bang_pieces s.bang
 
 -- `4 xs 2`, `0.5 so 4 xs 2` or `2 po 4 xs 2`
 unfoldable pub share_pieces : Share → List Piece
@@ -133,7 +134,8 @@ exposure_pieces (Premium p r _) =
     ++ word_piece words.Lr
 
 unfoldable pub listed_pieces : ListAst → Option ListAst → List Piece
-listed_pieces counts probs = word_piece words.Dfreq ++ list_pieces counts ++ optional list_pieces probs
+listed_pieces counts probs =
+    word_piece words.Dfreq ++ list_pieces counts ++ optional list_pieces probs
 
 -- what the claim count puts before the layer, and what behind the occurrence clause
 unfoldable pub count_pieces : CountAst → List Piece

@@ -12,4 +12,5 @@ pub record SoFar : Type 0 where
 -- the text with these tokens at its end
 unfoldable pub with_pieces : SoFar → List Piece → SoFar
 with_pieces t [] = t
-with_pieces t (p ∷ ps) = with_pieces (record { text = t.text ++ gap t.last p.kind ++ p.text; last = Some p.kind }) ps
+with_pieces t (p ∷ ps) =
+    with_pieces (record { text = t.text ++ gap t.last p.kind ++ p.text; last = Some p.kind }) ps

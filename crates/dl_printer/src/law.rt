@@ -14,7 +14,8 @@ ghost use Rattle.dl_printer.specs.Apart.{SameProgram};
 ghost use Rattle.dl_printer.specs.ReadingBack.{ReadsBack};
 
 /// The canonical text of a well-formed program has a token list, which spells the same program
-/// apart from spans. Where the text has fewer than 2^32 bytes, the places of these tokens are `u32`s.
+/// apart from spans. Where the text has fewer than 2^32 bytes, the places of these tokens are
+/// `u32`s.
 pub fn law_reads_back()
     ensures { (p : Program) → IsWellFormed p → ReadsBack p }
 {}

@@ -81,7 +81,8 @@ impl Printer {
     /// The layers behind the first one.
     #[tactic(auto, using(crate::proofs::Growing::with_each), unfolding(crate::specs::Printing::with_pieces))]
     fn more_layers(&mut self, layers: &[CededLayer]) -> Result<(), AllocError>
-        ensures { OnOk result (self.new ≡ with_pieces self.old (flat_map and_ceded_pieces layers.now)) }
+        ensures { OnOk result (self.new ≡ with_pieces self.old
+            (flat_map and_ceded_pieces layers.now)) }
     {
         for layer in layers {
             self.and_ceded(layer)?;
@@ -133,7 +134,8 @@ impl Printer {
         kind: Keyword,
         clause: &Option<Cession>,
     ) -> Result<(), AllocError>
-        ensures { OnOk result (self.new ≡ with_pieces self.old (optional (clause_pieces kind) clause.now)) }
+        ensures { OnOk result (self.new ≡ with_pieces self.old
+            (optional (clause_pieces kind) clause.now)) }
     {
         match clause {
             Some(clause) => self.clause(kind, clause),

@@ -13,7 +13,8 @@ impl Printer {
     /// A numeral behind a colon, where there is one.
     #[tactic(auto, using(crate::proofs::Growing::with_append), unfolding(crate::specs::Pieces::optional, crate::specs::Printing::with_pieces))]
     fn behind_colon(&mut self, numeral: &Option<Numeral>) -> Result<(), AllocError>
-        ensures { OnOk result (self.new ≡ with_pieces self.old (optional behind_colon numeral.now)) }
+        ensures { OnOk result (self.new ≡ with_pieces self.old
+            (optional behind_colon numeral.now)) }
     {
         match numeral {
             Some(numeral) => {

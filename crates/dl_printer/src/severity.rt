@@ -34,7 +34,8 @@ impl Printer {
     /// The weights of the atoms, where there are some.
     #[tactic(auto, using(crate::proofs::Growing::with_append), unfolding(crate::specs::Pieces::optional, crate::specs::Printing::with_pieces))]
     fn weights(&mut self, weights: &Option<ListAst>) -> Result<(), AllocError>
-        ensures { OnOk result (self.new ≡ with_pieces self.old (optional weights_pieces weights.now)) }
+        ensures { OnOk result (self.new ≡ with_pieces self.old
+            (optional weights_pieces weights.now)) }
     {
         match weights {
             Some(weights) => {

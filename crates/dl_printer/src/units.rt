@@ -69,7 +69,8 @@ impl Printer {
     /// Listed counts.
     #[tactic(auto, using(crate::proofs::Growing::with_append), unfolding(crate::specs::Pieces::listed_pieces))]
     fn listed(&mut self, counts: &ListAst, probs: &Option<ListAst>) -> Result<(), AllocError>
-        ensures { OnOk result (self.new ≡ with_pieces self.old (listed_pieces counts.now probs.now)) }
+        ensures { OnOk result (self.new ≡ with_pieces self.old
+            (listed_pieces counts.now probs.now)) }
     {
         self.word(Keyword::Dfreq)?;
         self.list(counts)?;

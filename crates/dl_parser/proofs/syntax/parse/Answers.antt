@@ -43,15 +43,19 @@ returns-then-is_empty-clause-formed c =
     (read_whole _ c.in-Ok.program (place c.program.new.self) c.in-Ok.ensures.reads (ap (map _) (nil_of _ none)))
 
 pub returns-else-is_empty-clause-refused : goal.returns-else-is_empty-clause-refused
-returns-else-is_empty-clause-refused c = read_further _ c.in-Ok.program (place c.program.new.self) _ c.in-Ok.ensures.reads
+returns-else-is_empty-clause-refused c =
+    read_further _ c.in-Ok.program (place c.program.new.self) _ c.in-Ok.ensures.reads
     (simp length-map (some_of _ c.if-is_empty.ensures))
-    (simp length-map (left _ _ _ _ refl refl (simp length-map at (left_got _ c.in-Ok.program (place c.program.new.self) c.in-Ok.ensures.reads))))
+    (simp length-map (left _ _ _ _ refl refl
+    (simp length-map at (left_got _ c.in-Ok.program (place c.program.new.self) c.in-Ok.ensures.reads))))
 
 pub overflow_sub-at : goal.overflow_sub-at
-overflow_sub-at c = simp length-map at (left_stuck _ c.in-Err-Wanted.kind (place c.program.new.self) (rw c.in-Err-Wanted.field-0-is at c.in-Err-Wanted.ensures.reads))
+overflow_sub-at c = simp length-map at (left_stuck _ c.in-Err-Wanted.kind (place c.program.new.self)
+    (rw c.in-Err-Wanted.field-0-is at c.in-Err-Wanted.ensures.reads))
 
 pub returns-in-Err-Wanted-clause-refused : goal.returns-in-Err-Wanted-clause-refused
 returns-in-Err-Wanted-clause-refused c =
     let r = rw c.in-Err-Wanted.field-0-is at c.in-Err-Wanted.ensures.reads in
     rw c.fault.ensures (read_stuck _ c.in-Err-Wanted.kind (place c.program.new.self) _ r
-    (simp length-map (left _ _ _ _ refl refl (simp length-map at (left_stuck _ c.in-Err-Wanted.kind (place c.program.new.self) r)))))
+    (simp length-map (left _ _ _ _ refl refl
+    (simp length-map at (left_stuck _ c.in-Err-Wanted.kind (place c.program.new.self) r)))))

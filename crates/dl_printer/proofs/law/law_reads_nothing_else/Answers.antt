@@ -15,11 +15,13 @@ use Rattle.dl_printer.proofs.Cut.{reads_back}
 use Rattle.dl_printer.proofs.SameText.{same_text}
 use Rattle.dl_printer.proofs.law.law_reads_nothing_else.Goals as goal
 
-nothing_else : (p q : Program) (tokens : List Token) → IsWellFormed p → Covers (canonical p) (length (canonical p)) tokens
+nothing_else : (p q : Program) (tokens : List Token) → IsWellFormed p
+    → Covers (canonical p) (length (canonical p)) tokens
     → Spells program q (lexemes (canonical p) tokens) → SameProgram q p
 nothing_else p q tokens w covered spelled =
     let back = reads_back p w in
-    let same_tokens : tokens ≡ back.tokens = cover_one (canonical p) (length (canonical p)) tokens back.tokens covered back.covered in
+    let same_tokens : tokens ≡ back.tokens =
+    cover_one (canonical p) (length (canonical p)) tokens back.tokens covered back.covered in
     let again : Spells program q (lexemes (canonical p) back.tokens) = subst
     (λ ts. Spells program q (lexemes (canonical p) ts)) same_tokens spelled in
     ap bare (one_program q back.read (lexemes (canonical p) back.tokens) again back.spelled) ∙ back.same

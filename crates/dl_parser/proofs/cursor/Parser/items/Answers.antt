@@ -19,11 +19,13 @@ items-init c = record {
 }
 
 pub items-smaller : goal.items-smaller
-items-smaller c = fewer_tokens next_item plain_items c.items.self c.next_item.new.self c.in_ok-next_item.field-0 c.in_ok-next_item.ensures.reads
+items-smaller c =
+    fewer_tokens next_item plain_items c.items.self c.next_item.new.self c.in_ok-next_item.field-0 c.in_ok-next_item.ensures.reads
 
 pub items-preserved : goal.items-preserved
 items-preserved c = record {
   source = search rules;
   so_far = rw (c.in_ok-push-2.ensures.items)
-      (loop_goes_on next_item plain_items _ _ _ _ _ c.items.invariant.so_far (sym c.items-test.ensures) c.in_ok-next_item.ensures.reads);
+      (loop_goes_on next_item plain_items _ _ _ _ _ c.items.invariant.so_far
+      (sym c.items-test.ensures) c.in_ok-next_item.ensures.reads);
 }

@@ -19,11 +19,13 @@ layers-init c = record {
 }
 
 pub layers-smaller : goal.layers-smaller
-layers-smaller c = fewer_tokens next_cession plain_cessions c.layers.self c.next_cession.new.self c.in_ok-next_cession.field-0 c.in_ok-next_cession.ensures.reads
+layers-smaller c =
+    fewer_tokens next_cession plain_cessions c.layers.self c.next_cession.new.self c.in_ok-next_cession.field-0 c.in_ok-next_cession.ensures.reads
 
 pub layers-preserved : goal.layers-preserved
 layers-preserved c = record {
   source = search rules;
   so_far = rw (c.in_ok-push-2.ensures.items)
-      (loop_goes_on next_cession plain_cessions _ _ _ _ _ c.layers.invariant.so_far (sym c.layers-test.ensures) c.in_ok-next_cession.ensures.reads);
+      (loop_goes_on next_cession plain_cessions _ _ _ _ _ c.layers.invariant.so_far
+      (sym c.layers-test.ensures) c.in_ok-next_cession.ensures.reads);
 }

@@ -11,7 +11,8 @@ pub atoms-init : goal.atoms-init
 atoms-init c = record { source = search rules; so_far = ([], sym (append-nil _), loop_at_start _) }
 
 pub atoms-smaller : goal.atoms-smaller
-atoms-smaller c = fewer_tokens atom plain_atoms c.atoms.self c.atom.new.self c.in_ok-atom.field-0 c.in_ok-atom.ensures.reads
+atoms-smaller c =
+    fewer_tokens atom plain_atoms c.atoms.self c.atom.new.self c.in_ok-atom.field-0 c.in_ok-atom.ensures.reads
 
 pub atoms-preserved : goal.atoms-preserved
 atoms-preserved c =

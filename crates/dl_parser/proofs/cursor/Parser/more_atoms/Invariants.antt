@@ -11,7 +11,8 @@ use Rattle.dl_parser.proofs.cursor.Parser.more_atoms.Given as goal
 abbrev pub invariant-atoms : goal.invariant-atoms
 invariant-atoms l = record {
   source : l.self.source ≡ l.fn.self.source;
-  so_far : (xs : List Atom) × (l.atoms.items ≡ l.fn.atoms.items ++ xs) × Loops atom (read (many atom) (place l.fn.self)) (place l.self) xs;
+  so_far : (xs : List Atom) × (l.atoms.items ≡ l.fn.atoms.items ++ xs) × Loops atom
+      (read (many atom) (place l.fn.self)) (place l.self) xs;
 }
 
 abbrev pub decreases-atoms : goal.decreases-atoms

@@ -19,11 +19,13 @@ units-init c = record {
 }
 
 pub units-smaller : goal.units-smaller
-units-smaller c = fewer_tokens unit plain_units c.units.self c.unit-in-units.new.self c.in_ok-unit-2.field-0 c.in_ok-unit-2.ensures.reads
+units-smaller c =
+    fewer_tokens unit plain_units c.units.self c.unit-in-units.new.self c.in_ok-unit-2.field-0 c.in_ok-unit-2.ensures.reads
 
 pub units-preserved : goal.units-preserved
 units-preserved c = record {
   source = search rules;
   so_far = rw (c.in_ok-push-2.ensures.items)
-      (loop_goes_on unit plain_units _ _ _ _ _ c.units.invariant.so_far (sym c.units-test.ensures) c.in_ok-unit-2.ensures.reads);
+      (loop_goes_on unit plain_units _ _ _ _ _ c.units.invariant.so_far
+      (sym c.units-test.ensures) c.in_ok-unit-2.ensures.reads);
 }
