@@ -1,5 +1,7 @@
 pub mod CellLaws
+pub mod EndLists
+pub mod CellSets
 pub mod WidthLaws
-pub mod PairLaws
 pub mod PlaceSums
 pub mod Products
+pub mod Computed

@@ -4,7 +4,8 @@ use Rattle.std.proofs.lemmas.List.{take_all}
 use Rattle.std.proofs.lemmas.List.Sums.{sum_by-cons, sum_by-take-le}
 use Rattle.dl_iv.specs.declared.interval.Iv.{Iv}
 use Rattle.dl_grid.specs.Cells.{low_at, high_at, mass_low, spread}
-use Rattle.dl_grid.proofs.PairLaws.{count_below, below_first, below_nothing}
+use Rattle.dl_exact.specs.Count.{count_below}
+use Rattle.dl_exact.proofs.Counts.{below_first, below_nothing}
 
 -- the width of cell x, 0 past the end
 abbrev pub width_at : {B : ℕ} → List (Iv B) → ℕ → ℕ

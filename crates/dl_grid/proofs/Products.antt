@@ -5,8 +5,8 @@ use Rattle.std.specs.Int.{div_ceil}
 use Rattle.std.proofs.Math.Nat.{mul-le-mul, mul-le-mul_right, div-mul-le_self, div-add-mod, mul-sub, div-le_of_le-mul, le_of_mul-le-mul_right}
 use Rattle.std.proofs.lemmas.Grind.{div_ceil_times}
 use Rattle.dl_iv.proofs.Rounding.{ceiling_reaches, floor_le_ceiling}
-use Rattle.dl_grid.specs.Pairs.{count_pairs}
-use Rattle.dl_grid.proofs.PairLaws.{count_below, below_more, below_le, below_plus, below_times, below_constant, pairs_same, pairs_plus, pairs_within}
+use Rattle.dl_exact.specs.Count.{count_pairs, count_below}
+use Rattle.dl_exact.proofs.Counts.{below_more, below_le, below_plus, below_times, below_constant, pairs_same, pairs_plus, pairs_within}
 
 -- the products at places that add up to s, of numbers that add up to at most one each
 pub pairs_top : (s one : ℕ) (a b : ℕ → ℕ) → count_below (s + 1) a ≤ one → count_below (s + 1) b ≤ one → count_pairs s (λ i j. a i * b j) ≤ one * one

@@ -1,15 +1,14 @@
 -- The width rule's laws, over plain numbers.
-use Rattle.std.proofs.Common.{ℕ, zero, suc, ◌≡◌, ◌≢◌, ◌+◌, ◌-◌, ◌*◌, ◌/◌, ◌%◌, ◌<◌, ◌≤◌, Bool, true, false, arith, inl, inr, refl, sym, ap, subst, ◌∙◌}
-use Rattle.std.specs.Prelude.{◌==◌, if◌then◌else◌}
+use Rattle.std.proofs.Common.{ℕ, zero, suc, ◌≡◌, ◌+◌, ◌-◌, ◌*◌, ◌^◌, ◌<◌, ◌≤◌, arith, refl, sym, ap, subst, ◌∙◌, add-one}
 use Rattle.std.specs.Int.{div_ceil}
 use Rattle.std.proofs.Math.Nat.{mul-le-mul, mul-le-mul_left, mul-pos, le_of_mul-le-mul_right}
-use Rattle.std.proofs.lemmas.Bool.Decides.{eqb_tells}
-use Rattle.std.proofs.lemmas.Grind.{div_ceil_times}
+use Rattle.std.proofs.lemmas.Grind.{div_ceil_times, pow_more}
+use Rattle.std.proofs.lemmas.Nat.{pow_pos}
 use Rattle.dl_exact.specs.Fraction.{Fraction, ◌over◌}
 use Rattle.dl_exact.specs.Rounding.{IsCeiling}
 use Rattle.dl_exact.proofs.Over.{over_self}
 use Rattle.dl_exact.proofs.RoundingLaws.{div_ceil_least, ceiling_div, ceiling_one}
-use Rattle.dl_grid.specs.Width.{up, cv, pw_by, pw, rounded_spread, IsSizeWithin}
+use Rattle.dl_grid.specs.Width.{up, cv, Binary, one, twice, twice_and_one, next, binary, power_spread, pw, mixed_spread, rounded_spread, IsSizeWithin}
 
 pub up_ceiling : (x : Fraction) → IsCeiling x (up x)
 unfolding up
@@ -28,75 +27,82 @@ ceiling_rises m n d pos h = div_ceil_least m d (div_ceil n d) pos (omega (arith,
 pub cv_rises : (S k l x u y v : ℕ) → 0 < S → k ≤ l → x ≤ u → y ≤ v → cv S k x y ≤ cv S l u v
 cv_rises S k l x u y v pos h p q = omega (arith, cv_is S k x y pos, cv_is S l u v pos, ceiling_rises (x * y) (u * v) S pos (mul-le-mul p q))
 
--- more halvings than are needed change nothing
-enough : (s t S k b m : ℕ) → m ≤ s → m ≤ t → pw_by s S k b m ≡ pw_by t S k b m
-unfolding pw_by
-enough zero zero S k b m p q = refl
-enough zero (suc t) S k b zero p q = refl
-enough zero (suc t) S k b (suc m) p q = absurd (omega arith)
-enough (suc s) zero S k b zero p q = refl
-enough (suc s) zero S k b (suc m) p q = absurd (omega arith)
-enough (suc s) (suc t) S k b m p q =
-    ap (λ half. if m == 0 then 0 else if m == 1 then b else if m % 2 == 0 then cv S k half half else cv S k (cv S k half half) b)
-    (enough s t S k b (m / 2) (omega arith) (omega arith))
+-- ---- powers
 
-passes : (a b : ℕ) → a ≡ b → (a == b) ≡ true
-passes a b e = elim (eqb_tells a b) [ inl same ↦ same.0 | inr differ ↦ absurd (differ.1 e) ]
-
-fails : (a b : ℕ) → a ≢ b → (a == b) ≡ false
-fails a b e = elim (eqb_tells a b) [ inl same ↦ absurd (e same.1) | inr differ ↦ differ.0 ]
-
-by_even : (h S k b m n : ℕ) → 2 ≤ m → m % 2 ≡ 0 → m / 2 ≡ n → pw_by (suc h) S k b m ≡ cv S k (pw_by h S k b n) (pw_by h S k b n)
-unfolding pw_by
-by_even h S k b m n two even e = rw (fails m 0 (omega arith), fails m 1 (omega arith), passes (m % 2) 0 even, e) refl
-
-by_odd : (h S k b m n : ℕ) → 2 ≤ m → m % 2 ≡ 1 → m / 2 ≡ n → pw_by (suc h) S k b m ≡ cv S k (cv S k (pw_by h S k b n) (pw_by h S k b n)) b
-unfolding pw_by
-by_odd h S k b m n two odd e = rw (fails m 0 (omega arith), fails m 1 (omega arith), fails (m % 2) 0 (omega arith), e) refl
+digits : (m : ℕ) → (binary (2 * m + 1) ≡ twice (binary m)) × (binary (2 * m + 2) ≡ twice_and_one (binary m))
+unfolding binary next
+digits zero = (refl, refl)
+digits (suc m) =
+    let even : binary (suc (2 * m + 2)) ≡ twice (next (binary m)) = ap next (digits m).1 in
+    let odd : binary (suc (suc (2 * m + 2))) ≡ twice_and_one (next (binary m)) = ap next even in
+    let one_less : 2 * suc m + 1 ≡ suc (2 * m + 2) = omega arith in
+    let two_less : 2 * suc m + 2 ≡ suc (suc (2 * m + 2)) = omega arith in
+    (ap binary one_less ∙ even, ap binary two_less ∙ odd)
 
 pub pw_none : (S k b : ℕ) → pw S k b 0 ≡ 0
-unfolding pw pw_by
+unfolding pw
 pw_none S k b = refl
 
 pub pw_one : (S k b : ℕ) → pw S k b 1 ≡ b
-unfolding pw pw_by
+unfolding pw power_spread binary
 pw_one S k b = refl
 
 pub pw_even : (S k b m : ℕ) → 1 ≤ m → pw S k b (2 * m) ≡ cv S k (pw S k b m) (pw S k b m)
-unfolding pw
-pw_even S k b m some =
-    enough (2 * m) (suc (2 * m)) S k b (2 * m) (omega arith) (omega arith)
-    ∙ by_even (2 * m) S k b (2 * m) m (omega arith) (omega arith) (omega arith)
-    ∙ ap (λ half. cv S k half half) (enough (2 * m) m S k b m (omega arith) (omega arith))
-
-odd_by_halves : (S k b m : ℕ) → 1 ≤ m → pw S k b (2 * m + 1) ≡ cv S k (cv S k (pw S k b m) (pw S k b m)) b
-unfolding pw
-odd_by_halves S k b m some =
-    enough (2 * m + 1) (suc (2 * m + 1)) S k b (2 * m + 1) (omega arith) (omega arith)
-    ∙ by_odd (2 * m + 1) S k b (2 * m + 1) m (omega arith) (omega arith) (omega arith)
-    ∙ ap (λ half. cv S k (cv S k half half) b) (enough (2 * m + 1) m S k b m (omega arith) (omega arith))
+unfolding pw power_spread
+pw_even S k b zero some = absurd (omega arith)
+pw_even S k b (suc m) some =
+    ap (pw S k b) (twice_suc m) ∙ ap (power_spread S k b) (digits m).0
+  where
+    twice_suc : (n : ℕ) → 2 * suc n ≡ suc (2 * n + 1)
+    twice_suc n = omega arith
 
 pub pw_odd : (S k b m : ℕ) → 1 ≤ m → pw S k b (2 * m + 1) ≡ cv S k (pw S k b (2 * m)) b
-pw_odd S k b m some = odd_by_halves S k b m some ∙ ap (λ even. cv S k even b) (sym (pw_even S k b m some))
+unfolding pw power_spread
+pw_odd S k b zero some = absurd (omega arith)
+pw_odd S k b (suc m) some =
+    ap (pw S k b) (odd_suc m) ∙ ap (power_spread S k b) (digits m).1
+    ∙ ap (λ even. cv S k even b) (sym (pw_even S k b (suc m) some))
+  where
+    odd_suc : (n : ℕ) → 2 * suc n + 1 ≡ suc (2 * n + 2)
+    odd_suc n = omega arith
 
-choice_le : (none one even : Bool) (a b c d e f : ℕ) → a ≤ d → b ≤ e → c ≤ f
-    → (if none then 0 else if one then a else if even then b else c) ≤ (if none then 0 else if one then d else if even then e else f)
-choice_le true one even a b c d e f p q r = omega arith
-choice_le false true even a b c d e f p q r = p
-choice_le false false true a b c d e f p q r = q
-choice_le false false false a b c d e f p q r = r
+-- a power of 2^h factors, by one squaring more
+pub pw_doubled : (S k b h : ℕ) → pw S k b (2 ^ (h + 1)) ≡ cv S k (pw S k b (2 ^ h)) (pw S k b (2 ^ h))
+pw_doubled S k b h =
+    let more : 2 ^ (h + 1) ≡ 2 * 2 ^ h = omega (arith, pow_more 2 h) in
+    ap (pw S k b) more ∙ pw_even S k b (2 ^ h) (pow_pos h)
 
-by_rises : (h S k l b c m : ℕ) → 0 < S → k ≤ l → b ≤ c → pw_by h S k b m ≤ pw_by h S l c m
-unfolding pw_by
-by_rises zero S k l b c m pos p q = omega arith
-by_rises (suc h) S k l b c m pos p q =
-    let half : pw_by h S k b (m / 2) ≤ pw_by h S l c (m / 2) = by_rises h S k l b c (m / 2) pos p q in
-    let even = cv_rises S k l _ _ _ _ pos p half half in
-    choice_le (m == 0) (m == 1) (m % 2 == 0) _ _ _ _ _ _ q even (cv_rises S k l _ _ _ _ pos p even q)
+spread_rises : (S k l b c : ℕ) (m : Binary) → 0 < S → k ≤ l → b ≤ c → power_spread S k b m ≤ power_spread S l c m
+unfolding power_spread
+spread_rises S k l b c one pos p q = q
+spread_rises S k l b c (twice m) pos p q =
+    let half = spread_rises S k l b c m pos p q in cv_rises S k l _ _ _ _ pos p half half
+spread_rises S k l b c (twice_and_one m) pos p q =
+    let half = spread_rises S k l b c m pos p q in
+    cv_rises S k l _ _ _ _ pos p (cv_rises S k l _ _ _ _ pos p half half) q
 
 pub pw_rises : (S k l b c m : ℕ) → 0 < S → k ≤ l → b ≤ c → pw S k b m ≤ pw S l c m
 unfolding pw
-pw_rises S k l b c m pos p q = by_rises m S k l b c m pos p q
+pw_rises S k l b c zero pos p q = omega arith
+pw_rises S k l b c (suc m) pos p q = spread_rises S k l b c (binary m) pos p q
+
+-- ---- listed counts and sums
+
+pub mixed_none : (S k b : ℕ) → mixed_spread S k b 0 ≡ 1
+unfolding mixed_spread
+mixed_none S k b = refl
+
+pub mixed_next : (S k b c : ℕ) → mixed_spread S k b (c + 1) ≡ cv S k b (mixed_spread S k b c) + 2
+unfolding mixed_spread
+mixed_next S k b c = ap (mixed_spread S k b) (add-one c)
+
+pub mixed_rises : (S k l b c n : ℕ) → 0 < S → k ≤ l → b ≤ c → mixed_spread S k b n ≤ mixed_spread S l c n
+unfolding mixed_spread
+mixed_rises S k l b c zero pos p q = omega arith
+mixed_rises S k l b c (suc n) pos p q =
+    omega (arith, cv_rises S k l b c _ _ pos p q (mixed_rises S k l b c n pos p q))
+
+-- ---- sizes
 
 pub size_step : (S k more x y : ℕ) → 0 < S
     → (S + rounded_spread k more (cv S k x y + more)) * S ≤ (S + rounded_spread k more x) * (S + rounded_spread k more y)

@@ -1,5 +1,7 @@
 -- A grid as the list of its cells, one for each number of buckets: its ends, its mass and its spread, in units of 1 / 2^B.
-use Rattle.std.specs.Prelude.{ℕ, zero, suc, ◌-◌, ◌^◌, ◌≤◌, List, [], ◌∷◌, length, All, sum_by}
+use Rattle.std.specs.Prelude.{ℕ, zero, suc, ◌-◌, ◌^◌, ◌<◌, ◌≤◌, ◌≡◌, ◌⊎◌, List, [], ◌∷◌, ◌++◌, length, get_or, map, All, sum, sum_by}
+use Rattle.std.proofs.Common.{inl, inr}
+use Rattle.std.proofs.lemmas.Bool.{cases_lt}
 use Rattle.dl_iv.specs.declared.interval.Iv.{Iv}
 
 -- the low end of cell x, 0 past the end
@@ -37,3 +39,33 @@ pub record IsGrid {B : ℕ} (cells : List (Iv B)) : Type 0 where
 unfoldable pub all_at_zero : ℕ → ℕ → ℕ
 all_at_zero mass zero = mass
 all_at_zero mass (suc x) = 0
+
+-- the low ends and the high ends of cells, each as a list of its own
+abbrev pub low_ends : {B : ℕ} → List (Iv B) → List ℕ
+low_ends cells = map (λ cell. cell.lo) cells
+
+abbrev pub high_ends : {B : ℕ} → List (Iv B) → List ℕ
+high_ends cells = map (λ cell. cell.hi) cells
+
+-- two lists that are the low ends and the high ends of a grid
+pub record AreEnds (B : ℕ) (lows highs : List ℕ) : Type 0 where
+  pub scale_above : 1 ≤ B
+  pub scale_below : B ≤ 56
+  pub some : 1 ≤ length lows
+  pub few : length lows ≤ 16384
+  pub paired : length highs ≡ length lows
+  pub ordered : (x : ℕ) → get_or lows x 0 ≤ get_or highs x 0
+  pub small : All (λ high. high ≤ 2 ^ B) highs
+  pub mass : sum lows ≤ 2 ^ B
+
+-- the one cell with these ends, or none where no interval has them
+unfoldable pub cell_by : {B lo hi : ℕ} → ((hi < lo) ⊎ (lo ≤ hi)) → ((2 ^ 127 < hi) ⊎ (hi ≤ 2 ^ 127)) → ((B < 1) ⊎ (1 ≤ B)) → ((56 < B) ⊎ (B ≤ 56)) → List (Iv B)
+cell_by {B} {lo} {hi} (inr ordered) (inr in_range) (inr above) (inr below) =
+    record { lo = lo; hi = hi; ordered = ordered; in_range = in_range; scale_above = above; scale_below = below } ∷ []
+cell_by ordered in_range above below = []
+
+-- the cells with these ends
+unfoldable pub cells_of : (B : ℕ) → List ℕ → List ℕ → List (Iv B)
+cells_of B (lo ∷ lows) (hi ∷ highs) =
+    cell_by (cases_lt hi lo) (cases_lt (2 ^ 127) hi) (cases_lt B 1) (cases_lt 56 B) ++ cells_of B lows highs
+cells_of B lows highs = []

@@ -1,5 +1,6 @@
--- The width rule: how far apart the ends of a grid may lie, told before the grid is made. Spreads are in units of 1/S.
-use Rattle.std.specs.Prelude.{ℕ, zero, suc, ◌+◌, ◌-◌, ◌*◌, ◌≤◌, ◌/◌, ◌%◌, ◌==◌, if◌then◌else◌}
+-- The width rule: how far apart the ends of a grid and of what is read from it may lie, told before
+-- either is made. S units make 1; a spread is the sum of the widths of a grid's cells, in those units.
+use Rattle.std.specs.Prelude.{ℕ, zero, suc, ◌+◌, ◌-◌, ◌*◌, ◌≤◌, Option, Some, None, List, [], ◌∷◌, fold}
 use Rattle.std.specs.Int.{div_ceil}
 use Rattle.dl_exact.specs.Fraction.{Fraction, ◌over◌}
 
@@ -7,21 +8,69 @@ use Rattle.dl_exact.specs.Fraction.{Fraction, ◌over◌}
 unfoldable pub up : Fraction → ℕ
 up x = div_ceil x.num x.den
 
+-- ---- grids
+
 -- the spread of a convolution on k cells, of grids with the spreads x and y
 unfoldable pub cv : (S k x y : ℕ) → ℕ
 cv S k x y = x + y + up ((x * y) over S) + 2 * k
 
--- that of the m-th power of a grid with the spread b, as at most `halvings` halvings of m make it
-unfoldable pub pw_by : (halvings S k b m : ℕ) → ℕ
-pw_by zero S k b m = 0
-pw_by (suc halvings) S k b m =
-    let half = pw_by halvings S k b (m / 2) in
-    let even = cv S k half half in
-    if m == 0 then 0 else if m == 1 then b else if m % 2 == 0 then even else cv S k even b
+-- a number of at least 1, by its binary digits
+pub data Binary : Type 0 where
+  one : Binary
+  twice : Binary → Binary
+  twice_and_one : Binary → Binary
 
--- that of the m-th power: m halvings are enough for every m
+-- one more
+unfoldable pub next : Binary → Binary
+next one = twice one
+next (twice m) = twice_and_one m
+next (twice_and_one m) = twice (next m)
+
+-- m + 1
+unfoldable pub binary : (m : ℕ) → Binary
+binary zero = one
+binary (suc m) = next (binary m)
+
+-- the spread of a power of a grid with the spread b, on k cells: half of the factors, that squared,
+-- and for an odd number one factor more
+unfoldable pub power_spread : (S k b : ℕ) → Binary → ℕ
+power_spread S k b one = b
+power_spread S k b (twice m) = cv S k (power_spread S k b m) (power_spread S k b m)
+power_spread S k b (twice_and_one m) =
+    cv S k (cv S k (power_spread S k b m) (power_spread S k b m)) b
+
+-- that of the m-th power; the power of no factors has no spread
 unfoldable pub pw : (S k b m : ℕ) → ℕ
-pw S k b m = pw_by m S k b m
+pw S k b zero = 0
+pw S k b (suc m) = power_spread S k b (binary m)
+
+-- the spread of a listed number of claims on k cells, of which the greatest is c, where one claim's
+-- grid has the spread b: 1 for the greatest itself, and for each number before it that of a
+-- convolution with one more claim, and 2 units more
+unfoldable pub mixed_spread : (S k b c : ℕ) → ℕ
+mixed_spread S k b zero = 1
+mixed_spread S k b (suc c) = cv S k b (mixed_spread S k b c) + 2
+
+-- the spread of grids added up on k cells, from the spread of each: it starts with that of the first
+-- grid and takes in each further one as a convolution does; that of no grid is 0
+abbrev pub sum_spread : (S k : ℕ) → List ℕ → ℕ
+sum_spread S k [] = 0
+sum_spread S k (x ∷ xs) = fold (cv S k) x xs
+
+-- ---- what is read from a grid
+
+-- how wide the mean of a layer may be, from the width of the mean of the total and from the spread of
+-- its grid
+abbrev pub layer_width : (limit : Option ℕ) (attachment mean spread : ℕ) → ℕ
+layer_width None attachment mean spread = mean + attachment * spread
+layer_width (Some limit) attachment mean spread = limit * spread
+
+-- how wide the tail mean at p may be, from the width of the mean of the total, and from the cells and
+-- the spread of its grid
+abbrev pub tail_width : (p : Fraction) (mean cells spread : ℕ) → ℕ
+tail_width p mean cells spread = up (((2 * mean + 3 * cells * spread) * p.den) over (p.den - p.num)) + 4
+
+-- ---- how large spreads grow
 
 -- a spread with what one more convolution on k cells adds to it by rounding, and `more` units besides
 unfoldable pub rounded_spread : (k more x : ℕ) → ℕ

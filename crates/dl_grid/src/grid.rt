@@ -1,44 +1,53 @@
-ghost use Rattle.std.specs.Prelude.{◌≡◌, ℕ, ◌+◌, ◌-◌, ◌^◌, ◌<◌, ◌≤◌, min, length, take, slice_set, IfOk};
-ghost use Rattle.dl_grid.specs.Cells.{low_at, high_at, mass_low, mass_high, spread, all_at_zero, IsGrid};
+ghost use Rattle.std.specs.Prelude.{◌≡◌, ℕ, ◌+◌, ◌-◌, ◌^◌, ◌<◌, ◌≤◌, min, length, take, get_or, slice_set, sum, All, IfOk};
+ghost use Rattle.dl_grid.specs.Cells.{low_at, high_at, low_ends, high_ends, mass_low, mass_high, spread, all_at_zero};
+ghost use Rattle.dl_grid.specs.Cells.{IsGrid, AreEnds};
 
-use dl_iv::Iv;
+use dl_iv::{Iv, units_of_one};
 use std::alloc::{AllocError, Global};
 use std::marker::Model;
 
 /// A cell for each number of buckets from 0 on, 1 to 16,384 of them. Each cell is at most 1, and the
-/// low ends sum to at most 1. A clause sees a grid as the list of its cells.
+/// low ends sum to at most 1. A clause sees a grid as the list of its cells; the low ends and the high
+/// ends lie in two lists, so that what reads one kind of end reads no other.
 #[derive(Drop)]
 pub struct Grid<const B: u32> {
-    cells: Vec<Iv<B>>,
+    lows: Vec<u128>,
+    highs: Vec<u128>,
 }
 
 impl<const B: u32> Model for Grid<B> {
     ghost use Rattle.std.specs.Prelude.{List};
     ghost use Rattle.dl_iv.specs.declared.interval.Iv.{Iv};
-    ghost use Rattle.dl_grid.specs.Cells.{IsGrid};
+    ghost use Rattle.dl_grid.specs.Cells.{cells_of, AreEnds};
 
     ghost Value = { List (Iv B) };
 
-    ghost view = { λ g. g.cells.items };
+    ghost view = { λ g. cells_of B g.lows.items g.highs.items };
 
-    ghost invariant = { λ g. IsGrid g.cells.items };
+    ghost invariant = { λ g. AreEnds B g.lows.items g.highs.items };
 }
 
-/// How many units make 1 at the scale `bits`.
-pub fn units_of_one(bits: u32) -> u128
-    requires { bits ≤ 56 }
-    ensures { result ≡ 2 ^ bits }
+fn sum_of(ends: &[u128]) -> u128
+    requires { sum ends.now ≤ 2 ^ 70 }
+    ensures { result ≡ sum ends.now }
 {
-    1u128 << bits
+    let mut total = 0;
+    for end in ends {
+        total += *end;
+    }
+    total
 }
 
 impl<const B: u32> Grid<B> {
-    /// The grid of these cells. It takes no memory.
-    pub fn from_cells(cells: Vec<Iv<B>>) -> Self
-        requires { IsGrid cells.items }
-        ensures { result ≡ cells.entry.items }
+    /// The grid with these low ends and these high ends, cell by cell, in units of `1 / 2^B`. It takes no
+    /// memory.
+    pub fn from_ends(lows: Vec<u128>, highs: Vec<u128>) -> Self
+        requires { AreEnds B lows.items highs.items }
+        ensures low { low_ends result ≡ lows.items }
+        ensures high { high_ends result ≡ highs.items }
+        ensures grid { IsGrid result }
     {
-        Grid { cells }
+        Grid { lows, highs }
     }
 
     /// The sum that is surely 0, on `cells` cells: cell 0 is the one number 1, and the others are 0.
@@ -51,9 +60,11 @@ impl<const B: u32> Grid<B> {
         ensures low { IfOk result (λ g. (x : ℕ) → low_at g x ≡ all_at_zero (2 ^ B) x) }
         ensures high { IfOk result (λ g. (x : ℕ) → high_at g x ≡ all_at_zero (2 ^ B) x) }
     {
-        let mut list = Vec::from_elem(alloc, Iv::point(0), cells as usize)?;
-        list[0] = Iv::point(units_of_one(B));
-        Ok(Grid { cells: list })
+        let mut lows = Vec::from_elem(alloc, 0, cells as usize)?;
+        let mut highs = Vec::from_elem(alloc, 0, cells as usize)?;
+        lows[0] = units_of_one(B);
+        highs[0] = units_of_one(B);
+        Ok(Grid { lows, highs })
     }
 
     /// The first `cells` cells of a grid. No cells are added.
@@ -62,24 +73,41 @@ impl<const B: u32> Grid<B> {
         requires within { cells ≤ length g.now }
         ensures { IfOk result (λ t. t ≡ take cells g.now) }
     {
-        let first = &g.cells.as_slice()[..cells as usize];
-        let list = Vec::from_slice(alloc, first)?;
-        Ok(Grid { cells: list })
+        let lows = Vec::from_slice(alloc, &g.lows.as_slice()[..cells as usize])?;
+        let highs = Vec::from_slice(alloc, &g.highs.as_slice()[..cells as usize])?;
+        Ok(Grid { lows, highs })
     }
 
-    /// How many cells there are.
+    /// How many cells there are, and what is true of those of every grid.
     pub fn cells(&self) -> u32
-        ensures { result ≡ length self.now }
-    {
-        self.cells.len() as u32
-    }
-
-    /// The cells, and what is true of those of every grid.
-    pub fn as_slice(&self) -> &[Iv<B>]
-        ensures cells { result.now ≡ self.now }
+        ensures count { result ≡ length self.now }
         ensures grid { IsGrid self.now }
     {
-        self.cells.as_slice()
+        self.lows.len() as u32
+    }
+
+    /// The low ends of the cells, in units of `1 / 2^B`.
+    pub fn lows(&self) -> &[u128]
+        ensures ends { result.now ≡ low_ends self.now }
+        ensures cells { length result.now ≡ length self.now }
+        ensures each { (x : ℕ) → get_or result.now x 0 ≡ low_at self.now x }
+        ensures order { (x : ℕ) → low_at self.now x ≤ high_at self.now x }
+        ensures small { All (λ low. low ≤ 2 ^ B) result.now }
+        ensures grid { IsGrid self.now }
+    {
+        self.lows.as_slice()
+    }
+
+    /// The high ends of the cells, in units of `1 / 2^B`.
+    pub fn highs(&self) -> &[u128]
+        ensures ends { result.now ≡ high_ends self.now }
+        ensures cells { length result.now ≡ length self.now }
+        ensures each { (x : ℕ) → get_or result.now x 0 ≡ high_at self.now x }
+        ensures order { (x : ℕ) → low_at self.now x ≤ high_at self.now x }
+        ensures small { All (λ high. high ≤ 2 ^ B) result.now }
+        ensures grid { IsGrid self.now }
+    {
+        self.highs.as_slice()
     }
 
     /// The probability of `x` buckets.
@@ -89,7 +117,10 @@ impl<const B: u32> Grid<B> {
         ensures high { result.hi ≡ high_at self.now x }
         ensures small { result.hi ≤ 2 ^ B }
     {
-        self.cells[x as usize]
+        Iv {
+            lo: self.lows[x as usize],
+            hi: self.highs[x as usize],
+        }
     }
 
     /// The probability of at most `x` buckets: the sums of the ends up to `x`, lowered to 1 where they
@@ -99,8 +130,13 @@ impl<const B: u32> Grid<B> {
         ensures low { result.lo ≡ min (mass_low (take (x + 1) self.now)) (2 ^ B) }
         ensures high { result.hi ≡ min (mass_high (take (x + 1) self.now)) (2 ^ B) }
     {
-        let first = &self.cells.as_slice()[..x as usize + 1];
-        Iv::sum(first).clamp_to(units_of_one(B))
+        let low = sum_of(&self.lows.as_slice()[..x as usize + 1]);
+        let high = sum_of(&self.highs.as_slice()[..x as usize + 1]);
+        let one = units_of_one(B);
+        Iv {
+            lo: low.min(one),
+            hi: high.min(one),
+        }
     }
 
     /// The sum of the low ends, in units of `1 / 2^B`.
@@ -108,22 +144,16 @@ impl<const B: u32> Grid<B> {
         ensures units { result ≡ mass_low self.now }
         ensures small { result ≤ 2 ^ B }
     {
-        let mut mass = 0;
-        for cell in &self.cells {
-            mass += cell.lo;
-        }
-        mass
+        sum_of(self.lows.as_slice())
     }
 
     /// The sum of the widths, in units of `1 / 2^B`.
     pub fn spread(&self) -> u128
         ensures { result ≡ spread self.now }
     {
-        let mut total = 0;
-        for cell in &self.cells {
-            total += cell.width();
-        }
-        total
+        let low = sum_of(self.lows.as_slice());
+        let high = sum_of(self.highs.as_slice());
+        high - low
     }
 
     /// Writes one cell, and leaves the others as they are.
@@ -133,6 +163,7 @@ impl<const B: u32> Grid<B> {
         requires mass { mass_low self.old - low_at self.old x + v.lo ≤ 2 ^ B }
         ensures { self.new ≡ slice_set self.old x v.entry }
     {
-        self.cells[x as usize] = v;
+        self.lows[x as usize] = v.lo;
+        self.highs[x as usize] = v.hi;
     }
 }

@@ -7,6 +7,9 @@ mod grid;
 mod laws;
 #[cfg(test)]
 mod tests;
+mod widths;
 
-pub use grid::{Grid, units_of_one};
+pub use dl_iv::units_of_one;
+pub use grid::Grid;
 pub use laws::{law_cv_rises, law_pw, law_pw_rises, law_size, law_up};
+pub use widths::joined_spread;

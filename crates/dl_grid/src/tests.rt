@@ -114,7 +114,9 @@ fn answer<const B: u32>(alloc: Global, case: &Case) -> Result<Option<Told>, Allo
         return Ok(None);
     }
     let kept = Grid::truncate(alloc, &g, case.kept)?;
-    let copy = Grid::from_cells(Vec::from_slice(alloc, kept.as_slice())?);
+    let lows = Vec::from_slice(alloc, kept.lows())?;
+    let highs = Vec::from_slice(alloc, kept.highs())?;
+    let copy = Grid::<B>::from_ends(lows, highs);
     Ok(tell(&copy))
 }
 

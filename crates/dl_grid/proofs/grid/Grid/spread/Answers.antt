@@ -1,12 +1,25 @@
-use Rattle.std.proofs.Common.{◌-◌, arith}
-use Rattle.dl_iv.specs.declared.interval.Iv.{Iv}
-use Rattle.dl_grid.proofs.CellLaws.{running_fits, width_within}
+use Rattle.std.proofs.Common.{arith, ap, sum, ◌∙◌}
+use Rattle.dl_grid.proofs.EndLists.{viewed, low_total, high_total, lows_small, ends_fit_all, high_few, spread_is}
 use Rattle.dl_grid.proofs.grid.Grid.spread.Goals as goal
 
-pub overflow_add-total : goal.overflow_add-total
-overflow_add-total g c =
-    omega (
-      arith,
-      running_fits c.self.inside.cells.items c.deref-cell-items.result.now (λ (cell : Iv g.row.B). cell.hi - cell.lo) _ _ c.loop-cell.cell-index c.cell-item.result
-          c.self.invariant c.deref-cell-items.ensures.value width_within c.loop-cell-test.true c.cell-item.is c.loop-cell.invariant c.width-total.ensures.units,
-    )
+pub sum_of-low-requires : goal.sum_of-low-requires
+sum_of-low-requires g c =
+    rw c.as_slice.ensures.value (ends_fit_all _ c.self.invariant.scale_below c.self.invariant.few (lows_small c.self.invariant))
+
+pub sum_of-high-requires : goal.sum_of-high-requires
+sum_of-high-requires g c =
+    rw c.as_slice-2.ensures.value (ends_fit_all _ c.self.invariant.scale_below (high_few c.self.invariant) c.self.invariant.small)
+
+pub overflow_sub-result : goal.overflow_sub-result
+overflow_sub-result g c =
+    let v = (viewed c.args.self.now c.self.invariant c.self.view_is) in
+    let low = c.sum_of-low.ensures ∙ ap sum c.as_slice.ensures.value ∙ low_total v in
+    let high = c.sum_of-high.ensures ∙ ap sum c.as_slice-2.ensures.value ∙ high_total v in
+    omega (arith, low, high, spread_is c.args.self.now)
+
+pub returns : goal.returns
+returns g c =
+    let v = (viewed c.args.self.now c.self.invariant c.self.view_is) in
+    let low = c.sum_of-low.ensures ∙ ap sum c.as_slice.ensures.value ∙ low_total v in
+    let high = c.sum_of-high.ensures ∙ ap sum c.as_slice-2.ensures.value ∙ high_total v in
+    omega (arith, low, high, spread_is c.args.self.now)

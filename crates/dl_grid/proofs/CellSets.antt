@@ -1,0 +1,124 @@
+-- The ends, the mass and the spread of a grid after one cell was written, and of its first cells.
+use Rattle.std.proofs.Common.{ℕ, zero, suc, ◌≡◌, ◌≢◌, ◌+◌, ◌-◌, ◌<◌, ◌≤◌, List, [], ◌∷◌, length, set, take, arith, refl, ap, inl, inr, ◌∙◌}
+use Rattle.std.specs.Prelude.{◌==◌, if◌then◌else◌, min}
+use Rattle.std.proofs.lemmas.Bool.Decides.{eqb_tells}
+use Rattle.std.proofs.lemmas.List.Sums.{sum_by-cons, sum_by-set, get_or-le-sum_by}
+use Rattle.dl_iv.specs.declared.interval.Iv.{Iv}
+use Rattle.dl_grid.specs.Cells.{low_at, high_at, mass_low, spread, all_at_zero}
+use Rattle.dl_grid.proofs.CellLaws.{low_at_get, high_at_get}
+
+low_here : {B : ℕ} (cells : List (Iv B)) (i : ℕ) (v : Iv B) → i < length cells → low_at (set cells i v) i ≡ v.lo
+unfolding low_at
+low_here [] i v inside = absurd (omega arith)
+low_here (c ∷ cs) zero v inside = refl
+low_here (c ∷ cs) (suc i) v inside = low_here cs i v (omega arith)
+
+high_here : {B : ℕ} (cells : List (Iv B)) (i : ℕ) (v : Iv B) → i < length cells → high_at (set cells i v) i ≡ v.hi
+unfolding high_at
+high_here [] i v inside = absurd (omega arith)
+high_here (c ∷ cs) zero v inside = refl
+high_here (c ∷ cs) (suc i) v inside = high_here cs i v (omega arith)
+
+low_other : {B : ℕ} (cells : List (Iv B)) (i x : ℕ) (v : Iv B) → i ≢ x → low_at (set cells i v) x ≡ low_at cells x
+unfolding low_at
+low_other [] i x v other = refl
+low_other (c ∷ cs) zero zero v other = absurd (other refl)
+low_other (c ∷ cs) zero (suc x) v other = refl
+low_other (c ∷ cs) (suc i) zero v other = refl
+low_other (c ∷ cs) (suc i) (suc x) v other = low_other cs i x v (λ e. other (ap suc e))
+
+high_other : {B : ℕ} (cells : List (Iv B)) (i x : ℕ) (v : Iv B) → i ≢ x → high_at (set cells i v) x ≡ high_at cells x
+unfolding high_at
+high_other [] i x v other = refl
+high_other (c ∷ cs) zero zero v other = absurd (other refl)
+high_other (c ∷ cs) zero (suc x) v other = refl
+high_other (c ∷ cs) (suc i) zero v other = refl
+high_other (c ∷ cs) (suc i) (suc x) v other = high_other cs i x v (λ e. other (ap suc e))
+
+pub low_set : {B : ℕ} (cells : List (Iv B)) (i x : ℕ) (v : Iv B) → i < length cells → low_at (set cells i v) x ≡ (if i == x then v.lo else low_at cells x)
+low_set cells i x v inside = elim (eqb_tells i x) [
+  | inl p ↦ rw (p.0, ← p.1) (low_here cells i v inside)
+  | inr p ↦ rw p.0 (low_other cells i x v p.1)
+]
+
+pub high_set : {B : ℕ} (cells : List (Iv B)) (i x : ℕ) (v : Iv B) → i < length cells → high_at (set cells i v) x ≡ (if i == x then v.hi else high_at cells x)
+high_set cells i x v inside = elim (eqb_tells i x) [
+  | inl p ↦ rw (p.0, ← p.1) (high_here cells i v inside)
+  | inr p ↦ rw p.0 (high_other cells i x v p.1)
+]
+
+-- cell 0 alone grows
+pub low_added : {B : ℕ} (cells : List (Iv B)) (v : Iv B) (more : ℕ) → 1 ≤ length cells → v.lo ≡ low_at cells 0 + more
+    → (x : ℕ) → low_at (set cells 0 v) x ≡ low_at cells x + all_at_zero more x
+unfolding all_at_zero
+low_added cells v more some e zero = low_here cells 0 v (omega arith) ∙ e
+low_added cells v more some e (suc x) = omega (arith, low_other cells 0 (suc x) v (omega arith))
+
+pub high_added : {B : ℕ} (cells : List (Iv B)) (v : Iv B) (top : ℕ) → 1 ≤ length cells → v.hi ≡ top → high_at (set cells 0 v) 0 ≡ top
+high_added cells v top some e = high_here cells 0 v (omega arith) ∙ e
+
+pub high_kept : {B : ℕ} (cells : List (Iv B)) (v : Iv B) (x : ℕ) → high_at (set cells 0 v) (suc x) ≡ high_at cells (suc x)
+high_kept cells v x = high_other cells 0 (suc x) v (omega arith)
+
+-- cell 0 with more, lowered to 1, and the others as they are
+pub high_joined : (before after : ℕ → ℕ) (more top : ℕ) → after 0 ≡ min (before 0 + more) top → ((x : ℕ) → after (suc x) ≡ before (suc x))
+    → (x : ℕ) → before x ≤ top → after x ≡ min (before x + all_at_zero more x) top
+unfolding all_at_zero
+high_joined before after more top first others zero small = first
+high_joined before after more top first others (suc x) small = omega (arith, others x)
+
+pub low_in_mass : {B : ℕ} (cells : List (Iv B)) (x : ℕ) (d : Iv B) → x < length cells → low_at cells x ≤ mass_low cells
+low_in_mass {B} cells x d inside = omega (arith, get_or-le-sum_by (λ (c : Iv B). c.lo) cells x d inside, low_at_get cells x d inside)
+
+pub mass_set : {B : ℕ} (cells : List (Iv B)) (x : ℕ) (v : Iv B) → x < length cells → mass_low (set cells x v) + low_at cells x ≡ mass_low cells + v.lo
+mass_set {B} cells x v inside = omega (arith, sum_by-set (λ (c : Iv B). c.lo) cells x v v inside, low_at_get cells x v inside)
+
+pub spread_set : {B : ℕ} (cells : List (Iv B)) (x : ℕ) (v : Iv B) → x < length cells
+    → spread (set cells x v) + (high_at cells x - low_at cells x) ≡ spread cells + (v.hi - v.lo)
+spread_set {B} cells x v inside =
+    omega (arith, sum_by-set (λ (c : Iv B). c.hi - c.lo) cells x v v inside, low_at_get cells x v inside, high_at_get cells x v inside)
+
+-- the first cells
+pub low_take : {B : ℕ} (cells : List (Iv B)) (n x : ℕ) → x < n → low_at (take n cells) x ≡ low_at cells x
+unfolding low_at
+low_take [] zero x inside = absurd (omega arith)
+low_take [] (suc n) x inside = refl
+low_take (c ∷ cs) zero x inside = absurd (omega arith)
+low_take (c ∷ cs) (suc n) zero inside = refl
+low_take (c ∷ cs) (suc n) (suc x) inside = low_take cs n x (omega arith)
+
+pub high_take : {B : ℕ} (cells : List (Iv B)) (n x : ℕ) → x < n → high_at (take n cells) x ≡ high_at cells x
+unfolding high_at
+high_take [] zero x inside = absurd (omega arith)
+high_take [] (suc n) x inside = refl
+high_take (c ∷ cs) zero x inside = absurd (omega arith)
+high_take (c ∷ cs) (suc n) zero inside = refl
+high_take (c ∷ cs) (suc n) (suc x) inside = high_take cs n x (omega arith)
+
+-- cells that are all 0
+pub low_emptied : {B : ℕ} (cells : List (Iv B)) (v : Iv B) (mass : ℕ) → 1 ≤ length cells → ((x : ℕ) → low_at cells x ≡ all_at_zero mass x) → v.lo ≡ 0
+    → (x : ℕ) → low_at (set cells 0 v) x ≡ 0
+unfolding all_at_zero
+low_emptied cells v mass some e none zero = low_here cells 0 v (omega arith) ∙ none
+low_emptied cells v mass some e none (suc x) = low_other cells 0 (suc x) v (omega arith) ∙ e (suc x)
+
+pub high_emptied : {B : ℕ} (cells : List (Iv B)) (v : Iv B) (mass : ℕ) → 1 ≤ length cells → ((x : ℕ) → high_at cells x ≡ all_at_zero mass x) → v.hi ≡ 0
+    → (x : ℕ) → high_at (set cells 0 v) x ≡ 0
+unfolding all_at_zero
+high_emptied cells v mass some e none zero = high_here cells 0 v (omega arith) ∙ none
+high_emptied cells v mass some e none (suc x) = high_other cells 0 (suc x) v (omega arith) ∙ e (suc x)
+
+pub mass_none : {B : ℕ} (cells : List (Iv B)) → ((x : ℕ) → low_at cells x ≡ 0) → mass_low cells ≡ 0
+unfolding low_at
+mass_none [] e = refl
+mass_none {B} (c ∷ cs) e = omega (arith, sum_by-cons (λ (c : Iv B). c.lo) c cs, e 0, mass_none cs (λ x. e (suc x)))
+
+pub spread_none : {B : ℕ} (cells : List (Iv B)) → ((x : ℕ) → high_at cells x ≡ low_at cells x) → spread cells ≡ 0
+unfolding low_at high_at
+spread_none [] e = refl
+spread_none {B} (c ∷ cs) e = omega (arith, sum_by-cons (λ (c : Iv B). c.hi - c.lo) c cs, e 0, spread_none cs (λ x. e (suc x)))
+
+pub at_zero_small : (m x : ℕ) → all_at_zero m x ≤ m
+unfolding all_at_zero
+at_zero_small m zero = omega arith
+at_zero_small m (suc x) = omega arith
