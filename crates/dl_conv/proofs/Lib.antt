@@ -1,1 +1,7 @@
 pub mod Ends
+pub mod Filled
+pub mod Halving
+pub mod Karatsuba
+pub mod Same
+pub mod FirstPlaces
+pub mod Written

@@ -1,6 +1,6 @@
-ghost use Rattle.std.specs.Prelude.{◌≤◌};
+ghost use Rattle.std.specs.Prelude.{◌≤◌, ◌<◌};
 
-use super::convolve;
+use super::{Counted, convolve, convolve_plain, halved};
 use dl_grid::{Grid, units_of_one};
 use dl_iv::Iv;
 use std::alloc::{AllocError, Global};
@@ -102,9 +102,9 @@ fn agrees<const B: u32>(alloc: Global, cells: u32, want: &Sums) -> Result<bool, 
     }
     let both = convolve(alloc, &g, &g, cells)?;
     let mut same = both.cells() == cells;
-    for (cell, ways) in both.as_slice().iter().zip(&WAYS) {
+    for ((low, high), ways) in both.lows().iter().zip(both.highs()).zip(&WAYS) {
         let ends = want.by_ways.get(*ways);
-        same = same && ends == Some(&(cell.lo, cell.hi));
+        same = same && ends == Some(&(*low, *high));
     }
     Ok(same && (cells < 13 || both.spread() == want.spread))
 }
@@ -125,5 +125,118 @@ fn two_dice(rt: HostRuntime) {
             Ok(true),
             "{cells} cells"
         );
+    }
+}
+
+/// The next draw below `most`, from the state `x`: a linear congruence modulo `2^32`, of which the
+/// upper half is taken.
+fn draw(x: &mut u32, most: u32) -> u32
+    requires { 0 < most }
+{
+    *x = x.wrapping_mul(1_664_525).wrapping_add(1_013_904_223);
+    (*x / 65536) % most
+}
+
+/// A grid whose low ends are drawn, with high ends above them by less than as much.
+fn drawn<const B: u32>(
+    alloc: Global,
+    x: &mut u32,
+    cells: u32,
+) -> Result<Option<Grid<B>>, AllocError>
+    requires scale_above { 1 ≤ B }
+    requires scale_below { B ≤ 56 }
+    requires some { 1 ≤ cells }
+    requires few { cells ≤ 16384 }
+{
+    let mut g = Grid::<B>::zero(alloc, cells)?;
+    if !write(&mut g, 0, Iv::point(0)) {
+        return Ok(None);
+    }
+    let one = units_of_one(B);
+    let part = one / (65536 * u128::from(cells));
+    for s in 0..cells {
+        let low = u128::from(draw(x, 65536)) * part;
+        let high = low + u128::from(draw(x, 65536)) * part;
+        if low > one
+            || !write(
+                &mut g,
+                s,
+                Iv {
+                    lo: low,
+                    hi: one.min(high),
+                },
+            )
+        {
+            return Ok(None);
+        }
+    }
+    Ok(Some(g))
+}
+
+/// Whether the product by halves and the plain product of two drawn grids are the same, cell for cell.
+fn both_forms<const B: u32>(alloc: Global, start: u32, cells: u32) -> Result<bool, AllocError>
+    requires scale_above { 1 ≤ B }
+    requires scale_below { B ≤ 56 }
+    requires some { 1 ≤ cells }
+    requires few { cells ≤ 16384 }
+{
+    let mut x = start;
+    let Some(a) = drawn::<B>(alloc, &mut x, cells)? else {
+        return Ok(false);
+    };
+    let Some(b) = drawn::<B>(alloc, &mut x, cells)? else {
+        return Ok(false);
+    };
+    if cells > a.cells() || cells > b.cells() {
+        return Ok(false);
+    }
+    let halves = convolve(alloc, &a, &b, cells)?;
+    let plain = convolve_plain(alloc, &a, &b, cells)?;
+    Ok(halves.lows() == plain.lows() && halves.highs() == plain.highs())
+}
+
+#[test]
+fn both_forms_agree(rt: HostRuntime) {
+    for cells in [1, 63, 64, 65, 100, 1000, 4096] {
+        let alloc = rt.alloc();
+        assert_eq!(rt;
+            both_forms::<48>(alloc, cells, cells),
+            Ok(true),
+            "{cells} cells"
+        );
+        assert_eq!(rt;
+            both_forms::<56>(alloc, cells, cells),
+            Ok(true),
+            "{cells} cells"
+        );
+    }
+}
+
+/// The square of the list of the numbers below 1,024, and how many products it took.
+fn counted_square(alloc: Global) -> Result<(u64, Vec<u128>), AllocError> {
+    let mut list = Vec::from_elem(alloc, 0u128, 1024)?;
+    let mut out = Vec::from_elem(alloc, 0u128, 2048)?;
+    let mut work = Vec::from_elem(alloc, 0u128, 4096)?;
+    for i in 0..list.len() {
+        list[i] = i as u128;
+    }
+    let mut ring = Counted::new();
+    halved(
+        &mut ring,
+        list.as_slice(),
+        list.as_slice(),
+        out.as_mut_slice(),
+        work.as_mut_slice(),
+    );
+    Ok((ring.count(), out))
+}
+
+#[test]
+fn products_are_few(rt: HostRuntime) {
+    let (count, square) = counted_square(rt.alloc()).expect(&rt, "memory");
+    assert!(rt; count <= 248_832, "{count} products");
+    // the products of i and s - i add up to (s - 1) * s * (s + 1) / 6
+    for (s, sum) in [(0, 0), (1, 0), (2, 1), (100, 166_650), (1023, 178_433_024)] {
+        assert_eq!(rt; square.get(s), Some(&sum), "item {s}");
     }
 }

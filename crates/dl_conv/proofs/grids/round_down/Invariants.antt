@@ -1,0 +1,6 @@
+use Rattle.std.proofs.Common.{◌/◌, ◌^◌}
+use Rattle.dl_conv.proofs.Filled.{IsMapped}
+use Rattle.dl_conv.proofs.grids.round_down.Given as goal
+
+abbrev pub invariant-loop-s : goal.invariant-loop-s
+invariant-loop-s l = IsMapped (λ sum. sum / 2 ^ l.bits) l.initial.sums l.sums l.s

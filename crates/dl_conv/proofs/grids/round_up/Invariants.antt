@@ -1,0 +1,8 @@
+use Rattle.std.proofs.Common.{◌^◌}
+use Rattle.std.specs.Prelude.{min}
+use Rattle.std.specs.Int.{div_ceil}
+use Rattle.dl_conv.proofs.Filled.{IsMapped}
+use Rattle.dl_conv.proofs.grids.round_up.Given as goal
+
+abbrev pub invariant-loop-s : goal.invariant-loop-s
+invariant-loop-s l = IsMapped (λ sum. min (2 ^ l.bits) (div_ceil sum (2 ^ l.bits))) l.initial.sums l.sums l.s

@@ -1,0 +1,17 @@
+-- Products of two lists of numbers: an item for each sum of two places.
+use Rattle.std.specs.Prelude.{ℕ, ◌≡◌, ◌+◌, ◌*◌, ◌^◌, ◌≤◌, List, get_or}
+use Rattle.dl_exact.specs.Count.{count_pairs}
+
+-- the sum of a(i) * b(j) over all i + j = s, where what is past the end of a list is 0
+abbrev pub pair_sum : List ℕ → List ℕ → ℕ → ℕ
+pair_sum a b s = count_pairs s (λ i j. get_or a i 0 * get_or b j 0)
+
+-- a length of which halvings, at most 11, lead to 32
+pub record IsHalvable (n : ℕ) : Type 0 where
+  pub halvings : ℕ
+  pub few : halvings ≤ 11
+  pub length_is : n ≡ 32 * 2 ^ halvings
+
+-- the number of items from which on a product is made by halves
+abbrev pub halved_from : ℕ
+halved_from = 1536

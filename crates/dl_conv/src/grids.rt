@@ -1,0 +1,129 @@
+ghost use Rattle.std.specs.Prelude.{◌≡◌, ℕ, ◌*◌, ◌/◌, ◌^◌, ◌<◌, ◌≤◌, min, length, get_or, All, IfOk};
+ghost use Rattle.std.specs.Int.{div_ceil};
+ghost use Rattle.dl_grid.specs.Cells.{low_at, high_at, spread};
+ghost use Rattle.dl_exact.specs.Count.{count_pairs};
+ghost use Rattle.dl_grid.specs.Width.{cv};
+ghost use Rattle.dl_conv.specs.Sums.{halved_from};
+
+use crate::plain::plain_sums;
+use crate::short::{HALVED_FROM, halved_sums};
+use dl_grid::{Grid, units_of_one};
+use std::alloc::{AllocError, Global};
+
+/// Each item in units of `2^bits`, rounded down.
+fn round_down(sums: &mut [u128], bits: u32)
+    requires { bits ≤ 56 }
+    ensures { (s : ℕ) → s < length sums.old → get_or sums.new s 0 ≡ get_or sums.old s 0 / 2 ^ bits }
+{
+    for s in 0..sums.len() {
+        sums[s] >>= bits;
+    }
+}
+
+/// Each item in units of `2^bits`, rounded up, and at most 1 by `one`, which is how many units make 1.
+fn round_up(sums: &mut [u128], bits: u32)
+    requires scale { bits ≤ 56 }
+    requires small { All (λ sum. sum ≤ 2 ^ 127) sums.old }
+    ensures { (s : ℕ) → s < length sums.old
+        → get_or sums.new s 0 ≡ min (2 ^ bits) (div_ceil (get_or sums.old s 0) (2 ^ bits)) }
+{
+    let one = units_of_one(bits);
+    for s in 0..sums.len() {
+        sums[s] = one.min(sums[s].div_ceil(one));
+    }
+}
+
+/// The grid of the convolution of `a` and `b`, from the sums of the products of their low ends and of
+/// their high ends, one for each of its cells. It takes no memory.
+pub fn grid_of_sums<const B: u32>(
+    a: &Grid<B>,
+    b: &Grid<B>,
+    mut lows: Vec<u128>,
+    mut highs: Vec<u128>,
+) -> Grid<B>
+    requires some { 1 ≤ length lows.items }
+    requires paired { length highs.items ≡ length lows.items }
+    requires in_first { length lows.items ≤ length a.now }
+    requires in_second { length lows.items ≤ length b.now }
+    requires low { (s : ℕ) → s < length lows.items
+        → get_or lows.items s 0 ≡ count_pairs s (λ i j. low_at a.now i * low_at b.now j) }
+    requires high { (s : ℕ) → s < length lows.items
+        → get_or highs.items s 0 ≡ count_pairs s (λ i j. high_at a.now i * high_at b.now j) }
+    ensures cells { length result ≡ length lows.items }
+    ensures low { (s : ℕ) → s < length lows.items
+        → low_at result s ≡ count_pairs s (λ i j. low_at a.now i * low_at b.now j) / 2 ^ B }
+    ensures high { (s : ℕ) → s < length lows.items → high_at result s
+        ≡ min (2 ^ B) (div_ceil (count_pairs s (λ i j. high_at a.now i * high_at b.now j)) (2 ^ B)) }
+    ensures spread { spread result ≤ cv (2 ^ B) (length lows.items) (spread a.now) (spread b.now) }
+{
+    prove!(lows.len() <= a.cells() as usize);
+    prove!(lows.len() <= b.cells() as usize);
+    round_down(lows.as_mut_slice(), B);
+    round_up(highs.as_mut_slice(), B);
+    Grid::from_ends(lows, highs)
+}
+
+/// What `convolve` gives, with each product of two ends made for itself. It takes memory for exactly
+/// these cells.
+pub fn convolve_plain<const B: u32>(
+    alloc: Global,
+    a: &Grid<B>,
+    b: &Grid<B>,
+    cells: u32,
+) -> Result<Grid<B>, AllocError>
+    requires some { 1 ≤ cells }
+    requires in_first { cells ≤ length a.now }
+    requires in_second { cells ≤ length b.now }
+    ensures cells { IfOk result (λ g. length g ≡ cells) }
+    ensures low { IfOk result (λ g. (s : ℕ) → s < cells
+        → low_at g s ≡ count_pairs s (λ i j. low_at a.now i * low_at b.now j) / 2 ^ B) }
+    ensures high { IfOk result (λ g. (s : ℕ) → s < cells
+        → high_at g s ≡ min (2 ^ B) (div_ceil (count_pairs s (λ i j. high_at a.now i * high_at b.now j)) (2 ^ B))) }
+    ensures spread { IfOk result (λ g. spread g ≤ cv (2 ^ B) cells (spread a.now) (spread b.now)) }
+{
+    let mut lows = Vec::from_elem(alloc, 0, cells as usize)?;
+    let mut highs = Vec::from_elem(alloc, 0, cells as usize)?;
+    plain_sums(a.lows(), b.lows(), lows.as_mut_slice());
+    plain_sums(a.highs(), b.highs(), highs.as_mut_slice());
+    Ok(grid_of_sums(a, b, lows, highs))
+}
+
+/// How many items of work memory a product by halves of so many cells uses.
+fn room_for(cells: u32) -> usize
+    ensures { halved_from ≤ cells → 6 * cells ≤ result }
+{
+    let cells = cells as usize;
+    if cells < HALVED_FROM { 0 } else { 6 * cells }
+}
+
+/// The first `cells` cells of the convolution of `a` and `b`. The spread is at most what the width
+/// rule says. Where there are many cells, the products of their ends are made by halves. All memory is
+/// taken at the start.
+pub fn convolve<const B: u32>(
+    alloc: Global,
+    a: &Grid<B>,
+    b: &Grid<B>,
+    cells: u32,
+) -> Result<Grid<B>, AllocError>
+    requires some { 1 ≤ cells }
+    requires in_first { cells ≤ length a.now }
+    requires in_second { cells ≤ length b.now }
+    ensures cells { IfOk result (λ g. length g ≡ cells) }
+    ensures low { IfOk result (λ g. (s : ℕ) → s < cells
+        → low_at g s ≡ count_pairs s (λ i j. low_at a.now i * low_at b.now j) / 2 ^ B) }
+    ensures high { IfOk result (λ g. (s : ℕ) → s < cells
+        → high_at g s ≡ min (2 ^ B) (div_ceil (count_pairs s (λ i j. high_at a.now i * high_at b.now j)) (2 ^ B))) }
+    ensures spread { IfOk result (λ g. spread g ≤ cv (2 ^ B) cells (spread a.now) (spread b.now)) }
+{
+    let mut lows = Vec::from_elem(alloc, 0, cells as usize)?;
+    let mut highs = Vec::from_elem(alloc, 0, cells as usize)?;
+    let mut work = Vec::from_elem(alloc, 0, room_for(cells))?;
+    halved_sums(a.lows(), b.lows(), lows.as_mut_slice(), work.as_mut_slice());
+    halved_sums(
+        a.highs(),
+        b.highs(),
+        highs.as_mut_slice(),
+        work.as_mut_slice(),
+    );
+    Ok(grid_of_sums(a, b, lows, highs))
+}

@@ -1,0 +1,123 @@
+ghost use Rattle.std.specs.Prelude.{◌≡◌, ℕ, ◌+◌, ◌-◌, ◌*◌, ◌%◌, ◌^◌, ◌<◌, ◌≤◌, min};
+ghost use Rattle.dl_conv.specs.Modulo.{IsSame};
+
+/// Numbers modulo `2^128`, of which products are counted.
+pub trait Ring {
+    /// What stands for a number.
+    type Elem: Copy;
+
+    // the whole number below 2^128 that an element stands for, and how many products were made
+    ghost value: { Self.Elem → ℕ };
+
+    ghost products: { Self → ℕ };
+
+    /// The number 0.
+    fn zero(&mut self) -> Self::Elem
+        ensures value { value result ≡ 0 }
+        ensures products { products self.new ≡ products self.old };
+
+    /// The sum modulo `2^128`.
+    fn add(&mut self, a: Self::Elem, b: Self::Elem) -> Self::Elem
+        ensures value { IsSame (value result) (value a + value b) }
+        ensures products { products self.new ≡ products self.old };
+
+    /// The difference modulo `2^128`: what makes `a` when `b` is added.
+    fn sub(&mut self, a: Self::Elem, b: Self::Elem) -> Self::Elem
+        ensures value { IsSame (value result + value b) (value a) }
+        ensures products { products self.new ≡ products self.old };
+
+    /// The product modulo `2^128`. It raises the count of products by at most one.
+    fn mul(&mut self, a: Self::Elem, b: Self::Elem) -> Self::Elem
+        ensures value { IsSame (value result) (value a * value b) }
+        ensures products { products self.new ≤ products self.old + 1 };
+
+    ghost small: { (x : Self.Elem) → value x < 2 ^ 128 };
+}
+
+/// The words of 128 bits. No product is counted.
+#[derive(Clone, Copy, Debug)]
+pub struct Words;
+
+impl Ring for Words {
+    ghost use Rattle.dl_conv.specs.Modulo.{remainder_small};
+
+    type Elem = u128;
+
+    ghost value = { λ x. x % 2 ^ 128 };
+
+    ghost products = { λ words. 0 };
+
+    fn zero(&mut self) -> u128 {
+        0
+    }
+
+    fn add(&mut self, a: u128, b: u128) -> u128 {
+        a.wrapping_add(b)
+    }
+
+    fn sub(&mut self, a: u128, b: u128) -> u128 {
+        a.wrapping_sub(b)
+    }
+
+    fn mul(&mut self, a: u128, b: u128) -> u128 {
+        a.wrapping_mul(b)
+    }
+
+    ghost small = { remainder_small };
+}
+
+/// The words of 128 bits, with a counter of the products that were made. It clings to its greatest
+/// value.
+#[derive(Clone, Copy, Debug)]
+pub struct Counted {
+    count: u64,
+}
+
+impl Counted {
+    /// Words of which no product has been made yet.
+    pub fn new() -> Counted
+        ensures { result.count ≡ 0 }
+    {
+        Counted { count: 0 }
+    }
+
+    /// How many products were made.
+    pub fn count(&self) -> u64
+        ensures { result ≡ self.now.count }
+    {
+        self.count
+    }
+}
+
+impl Ring for Counted {
+    ghost use Rattle.dl_conv.specs.Modulo.{remainder_small};
+
+    type Elem = u128;
+
+    ghost value = { λ x. x % 2 ^ 128 };
+
+    ghost products = { λ counted. counted.count };
+
+    fn zero(&mut self) -> u128 {
+        0
+    }
+
+    fn add(&mut self, a: u128, b: u128) -> u128 {
+        a.wrapping_add(b)
+    }
+
+    fn sub(&mut self, a: u128, b: u128) -> u128 {
+        a.wrapping_sub(b)
+    }
+
+    fn mul(&mut self, a: u128, b: u128) -> u128
+        ensures value { IsSame (result % 2 ^ 128) (a % 2 ^ 128 * (b % 2 ^ 128)) }
+        ensures products { self.new.count ≤ self.old.count + 1 }
+        ensures counted { self.new.count ≡ min (self.old.count + 1) (2 ^ 64 - 1) }
+    {
+        self.count = self.count.saturating_add(1);
+        a.wrapping_mul(b)
+    }
+
+    ghost small = { remainder_small };
+}

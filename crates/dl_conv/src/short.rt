@@ -1,0 +1,82 @@
+ghost use Rattle.std.specs.Prelude.{◌≡◌, ℕ, ◌+◌, ◌*◌, ◌^◌, ◌<◌, ◌≤◌, length, get_or, All};
+ghost use Rattle.dl_conv.specs.Sums.{pair_sum, halved_from, IsHalvable};
+
+use crate::halves::halved;
+use crate::plain::plain_sums;
+use crate::ring::Words;
+
+/// The number of items from which on halving is faster than the plain product.
+pub(crate) const HALVED_FROM: usize = 1536;
+
+/// The least length of `32 * 2^k` items that is at least half of `cells`.
+fn half_length(cells: usize) -> usize
+    requires some { 64 ≤ cells }
+    requires few { cells ≤ 16384 }
+    ensures halvable { IsHalvable result }
+    ensures enough { cells ≤ 2 * result }
+    ensures less { result < cells }
+{
+    let mut half = 32;
+    for _doublings in 0..8u32 {
+        if cells <= 2 * half {
+            return half;
+        }
+        half *= 2;
+    }
+    half
+}
+
+/// The product of two lists of `32 * 2^k` items, exactly: no item is above `2^56`.
+fn exact_product(a: &[u128], b: &[u128], out: &mut [u128], work: &mut [u128])
+    requires halvable { IsHalvable (length a.now) }
+    requires few { length a.now ≤ 16384 }
+    requires paired { length b.now ≡ length a.now }
+    requires room { length out.old ≡ 2 * length a.now }
+    requires work { 4 * length a.now ≤ length work.old }
+    requires first { All (λ x. x ≤ 2 ^ 56) a.now }
+    requires second { All (λ y. y ≤ 2 ^ 56) b.now }
+    ensures each { (s : ℕ) → s < length out.old → get_or out.new s 0 ≡ pair_sum a.now b.now s }
+{
+    halved(&mut Words, a, b, out, work);
+}
+
+/// Adds `more` to the items of `out` from `start` on.
+fn add_from(out: &mut [u128], start: usize, more: &[u128])
+    requires within { start + length more.now ≤ length out.old }
+    requires fits { (t : ℕ) → t < length more.now → get_or out.old (start + t) 0 + get_or more.now t 0 < 2 ^ 128 }
+    ensures first { (s : ℕ) → s < start → get_or out.new s 0 ≡ get_or out.old s 0 }
+    ensures each { (t : ℕ) → t < length more.now
+        → get_or out.new (start + t) 0 ≡ get_or out.old (start + t) 0 + get_or more.now t 0 }
+{
+    for t in 0..more.len() {
+        out[start + t] += more[t];
+    }
+}
+
+/// The first items of the product of two lists, as many as `out` has, each as the sum of all its
+/// products; by halves where there are many. No item of the lists is above `2^56`. It takes no memory:
+/// `work` then has six times the items of `out`.
+pub fn halved_sums(a: &[u128], b: &[u128], out: &mut [u128], work: &mut [u128])
+    requires first { All (λ x. x ≤ 2 ^ 56) a.now }
+    requires second { All (λ y. y ≤ 2 ^ 56) b.now }
+    requires in_first { length out.old ≤ length a.now }
+    requires in_second { length out.old ≤ length b.now }
+    requires few { length out.old ≤ 16384 }
+    requires work { halved_from ≤ length out.old → 6 * length out.old ≤ length work.old }
+    ensures each { (s : ℕ) → s < length out.old → get_or out.new s 0 ≡ pair_sum a.now b.now s }
+{
+    let cells = out.len();
+    if cells < HALVED_FROM {
+        plain_sums(a, b, out);
+        return;
+    }
+    let half = half_length(cells);
+    let (product, spare) = work.split_at_mut(2 * half);
+    exact_product(&a[..half], &b[..half], product, spare);
+    out.copy_from_slice(&product[..cells]);
+    let (cross, spare) = work.split_at_mut(cells - half);
+    halved_sums(&a[half..], b, cross, spare);
+    add_from(out, half, cross);
+    halved_sums(a, &b[half..], cross, spare);
+    add_from(out, half, cross);
+}
