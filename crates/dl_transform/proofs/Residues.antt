@@ -1,0 +1,56 @@
+-- Remainders keep sums and products.
+use Rattle.std.proofs.Common.{ℕ, zero, suc, ◌≡◌, ◌+◌, ◌-◌, ◌*◌, ◌%◌, ◌^◌, ◌<◌, arith, refl, sym, ap, ap₂, ◌∙◌}
+use Rattle.std.proofs.Common.{pow-suc}
+use Rattle.std.proofs.Math.Nat.{pow-zero}
+use Rattle.std.proofs.Math.Nat.{add-mod, add-mul-mod_self_right, mod-mod, mod-eq_of_lt}
+use Rattle.std.proofs.lemmas.Nat.{mul-mod}
+use Rattle.dl_transform.specs.Residue.{Same}
+
+pub same_refl : (p a : ℕ) → Same p a a
+same_refl p a = record { is = refl }
+
+pub same_of : (p : ℕ) {a b : ℕ} → a ≡ b → Same p a b
+same_of p e = record { is = ap (λ t. t % p) e }
+
+pub same_sym : {p a b : ℕ} → Same p a b → Same p b a
+same_sym h = record { is = sym h.is }
+
+pub same_trans : {p a b c : ℕ} → Same p a b → Same p b c → Same p a c
+same_trans h k = record { is = h.is ∙ k.is }
+
+pub same_plus : {p a b c d : ℕ} → Same p a b → Same p c d → Same p (a + c) (b + d)
+same_plus {p = p} {a = a} {b = b} {c = c} {d = d} h k =
+    record { is = add-mod a c p ∙ ap₂ (λ x y. (x + y) % p) h.is k.is ∙ sym (add-mod b d p) }
+
+pub same_times : {p a b c d : ℕ} → Same p a b → Same p c d → Same p (a * c) (b * d)
+same_times {p = p} {a = a} {b = b} {c = c} {d = d} h k =
+    record { is = mul-mod a c p ∙ ap₂ (λ x y. (x * y) % p) h.is k.is ∙ sym (mul-mod b d p) }
+
+pub same_mod : (p a : ℕ) → Same p (a % p) a
+same_mod p a = record { is = mod-mod a p }
+
+-- multiples of p make no difference
+pub same_multiple : (p a k : ℕ) → Same p (a + k * p) a
+same_multiple p a k = record { is = add-mul-mod_self_right a k p }
+
+-- two numbers that differ by multiples of p
+pub same_by : (p a b k l : ℕ) → a + k * p ≡ b + l * p → Same p a b
+same_by p a b k l e = same_trans (same_sym (same_multiple p a k)) (same_trans (same_of p e) (same_multiple p b l))
+
+pub same_cancel : (p a b c : ℕ) → 0 < p → Same p (a + c) (b + c) → Same p a b
+same_cancel p a b c pos h =
+    let k : Same p (a + c + (p - 1) * c) (b + c + (p - 1) * c) = same_plus h (same_refl p ((p - 1) * c)) in
+    let e : (p - 1) * c + c ≡ c * p = pred_times p c pos in
+    same_trans (same_by p a (a + c + (p - 1) * c) c 0 (omega (arith, e)))
+    (same_trans k (same_by p (b + c + (p - 1) * c) b 0 c (omega (arith, e))))
+  where
+    pred_times : (p c : ℕ) → 0 < p → (p - 1) * c + c ≡ c * p
+    pred_times zero c h = omega arith
+    pred_times (suc q) c h = let e : suc q - 1 ≡ q = omega arith in rw e (omega arith)
+
+pub same_below : {p a b : ℕ} → Same p a b → a < p → b < p → a ≡ b
+same_below h p q = sym (mod-eq_of_lt p) ∙ h.is ∙ mod-eq_of_lt q
+
+pub same_pow : {p a b : ℕ} (n : ℕ) → Same p a b → Same p (a ^ n) (b ^ n)
+same_pow {p = p} {a = a} {b = b} zero h = rw (pow-zero a, pow-zero b) (same_refl p 1)
+same_pow {p = p} {a = a} {b = b} (suc n) h = rw (pow-suc a n, pow-suc b n) (same_times (same_pow n h) h)

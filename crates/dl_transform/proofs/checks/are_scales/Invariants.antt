@@ -1,0 +1,6 @@
+use Rattle.std.proofs.Common.{ℕ, ◌<◌}
+use Rattle.dl_transform.specs.Table.{IsScale}
+use Rattle.dl_transform.proofs.checks.are_scales.Given as goal
+
+abbrev pub invariant-loop-l : goal.invariant-loop-l
+invariant-loop-l l = (k : ℕ) → k < l.l → IsScale l.t k

@@ -1,0 +1,27 @@
+use Rattle.std.proofs.Common.{ℕ, ◌≡◌, ◌*◌, ◌^◌, ◌<◌, ◌≤◌, get_or, arith, subst}
+use Rattle.dl_transform.specs.Residue.{Same}
+use Rattle.dl_transform.proofs.Residues.{same_trans}
+use Rattle.dl_transform.proofs.Steps.{set_done}
+use Rattle.dl_transform.proofs.Wholes.{two_room}
+use Rattle.dl_transform.proofs.combined.combine_all.Goals as goal
+
+pub loop-s-preserved : goal.loop-s-preserved
+loop-s-preserved c =
+    let p1 = c.args.setup.now.first.p in
+    let p2 = c.args.setup.now.second.p in
+    let room : 2 ^ 123 ≤ p1 * p2 = two_room p1 p2 c.requires.setup.first.modulus.large
+    c.requires.setup.second.modulus.large in
+    let s = c.loop-s.s in
+    let f = get_or c.args.setup.now.first.scales.items c.args.levels 0 in
+    let g = get_or c.args.setup.now.second.scales.items c.args.levels 0 in
+    let first : Same p1 c.scaled-r1.result (get_or c.args.x.now s 0 * f) =
+    subst (λ t. Same p1 c.scaled-r1.result (get_or c.args.x.now s 0 * t)) c.scale-w1.ensures.value
+    c.scaled-r1.ensures.same in
+    let second : Same p2 c.scaled-r2.result (get_or c.args.y.now s 0 * g) =
+    subst (λ t. Same p2 c.scaled-r2.result (get_or c.args.y.now s 0 * t)) c.scale-w2.ensures.value
+    c.scaled-r2.ensures.same in
+    let Q : ℕ → ℕ → Type 0 = λ s t. (n : ℕ) → n < 2 ^ 123 → Same p1 (get_or c.args.x.now s 0 * f) n
+    → Same p2 (get_or c.args.y.now s 0 * g) n → t ≡ n in
+    let here : Q s c.combined.result =
+    λ n b h k. c.combined.ensures n (omega (arith, b, room)) (same_trans first h) (same_trans second k) in
+    set_done Q c.loop-s.out s c.combined.result (omega arith) c.loop-s.invariant here

@@ -1,0 +1,42 @@
+use Rattle.std.proofs.Common.{ℕ, ◌≡◌, ◌+◌, ◌-◌, ◌*◌, ◌^◌, ◌<◌, ◌≤◌, take, drop, length, slice_index, get_or, arith}
+use Rattle.std.proofs.Common.{refl, ap, subst, ◌∙◌}
+use Rattle.std.proofs.lemmas.List.{get_or-take, get_or-drop, get_or_past}
+use Rattle.dl_transform.specs.Polynomial.{eval}
+use Rattle.dl_transform.specs.Table.{point}
+use Rattle.dl_transform.proofs.Residues.{same_trans, same_of}
+use Rattle.dl_transform.proofs.Parts.{IsBelow, below, half_of, roots_small, join_small, values_step}
+use Rattle.dl_transform.proofs.modular.padded_values.Goals as goal
+
+pub returns-clause-small : goal.returns-clause-small
+returns-clause-small c = join_small (4 * c.args.table.now.p) c.to_values.new.x c.to_values-2.new.x
+    c.to_values.ensures.small c.to_values-2.ensures.small
+
+pub returns-clause-values : goal.returns-clause-values
+returns-clause-values c k inside =
+    let p = c.args.table.now.p in
+    let roots = c.args.table.now.roots.items in
+    let a = c.args.a.now in
+    let m = 2 ^ (c.args.levels - 1) in
+    let n = 2 ^ c.args.levels in
+    let whole : (0 + 1) * n ≤ 2 * length roots = omega (arith, c.requires.within) in
+    let b : IsBelow c.args.levels 0 (length roots) =
+    below c.args.levels 0 (length roots) (λ e. absurd (omega (arith, e, c.requires.some))) whole in
+    let half = half_of c.args.levels (length roots) 0 (length c.args.x.now) b c.requires.size in
+    let room : length a ≤ m = omega (arith, half, c.requires.room) in
+    let start : (w i : ℕ) → i < m → get_or a i 0 ≡ get_or (take m a) i 0 + w * get_or (drop m a) i 0 =
+    λ w i h. plus_nothing (get_or a i 0) w (get_or (take m a) i 0) (get_or (drop m a) i 0) (get_or-take m a i 0 h)
+    (get_or-drop m a i 0 ∙ get_or_past a (m + i) 0 (omega (arith, room))) in
+    let len : length c.to_values.new.x ≡ m = omega (arith, half, c.requires.size, b.twice) in
+    let e : 0 * n + k ≡ k = omega arith in
+    same_trans (values_step p 0 m n roots a (take m a) (drop m a) c.load.new.x c.load-2.new.x c.to_values.new.x
+    c.to_values-2.new.x (c.args.levels - 1) refl b.twice
+    (λ k h. (c.requires.table.root k h).square)
+    (roots_small p roots (λ k h. (c.requires.table.root k h).factor.below))
+    (subst (λ t. (0 + 1) * t ≤ 2 * length roots) b.twice whole)
+    refl refl (λ i h. same_trans (c.load.ensures.same i) (same_of p (start (slice_index roots 0) i h)))
+    (λ i h. same_trans (c.load-2.ensures.same i) (same_of p (start (p - slice_index roots 0) i h)))
+    len c.to_values.ensures.values c.to_values-2.ensures.values k inside)
+    (same_of p (ap (λ t. eval n (λ i. get_or a i 0) (point p roots t)) e))
+  where
+    plus_nothing : (a w b c : ℕ) → b ≡ a → c ≡ 0 → a ≡ b + w * c
+    plus_nothing a w b c e f = omega (arith, e, ap (λ t. w * t) f)

@@ -1,0 +1,17 @@
+use Rattle.std.proofs.Common.{◌≡◌, ◌+◌, ◌*◌, ◌^◌, get_or, arith, ap}
+use Rattle.dl_transform.specs.Polynomial.{eval}
+use Rattle.dl_transform.specs.Table.{point}
+use Rattle.dl_transform.proofs.Residues.{same_trans, same_of}
+use Rattle.dl_transform.proofs.Values.{eval_same}
+use Rattle.dl_transform.proofs.modular.values_of.Goals as goal
+
+pub returns-clause-values : goal.returns-clause-values
+returns-clause-values c k b =
+    let p = c.args.table.now.p in
+    let roots = c.args.table.now.roots.items in
+    let n = 2 ^ c.args.levels in
+    let e : 0 * n + k ≡ k = omega arith in
+    same_trans (c.to_values.ensures.values k b)
+    (same_trans (eval_same p n (λ i. get_or c.load.new.x i 0) (λ i. get_or c.args.a.now i 0)
+    (point p roots (0 * n + k)) (λ i _. c.load.ensures.same i))
+    (same_of p (ap (λ t. eval n (λ i. get_or c.args.a.now i 0) (point p roots t)) e)))

@@ -1,0 +1,178 @@
+ghost use Rattle.std.specs.Prelude.{◌≡◌, ℕ, ◌+◌, ◌-◌, ◌*◌, ◌/◌, ◌%◌, ◌^◌, ◌<◌, ◌≤◌};
+ghost use Rattle.std.specs.Prelude.{true, length, slice_index};
+ghost use Rattle.dl_transform.specs.Residue.{Same, IsFactor, IsModulus, IsPair};
+ghost use Rattle.dl_transform.specs.Table.{point, IsTable, IsRoot, IsScale};
+ghost use Rattle.dl_transform.specs.Setup.{IsSetup};
+
+use crate::combined::Setup;
+use crate::factors::{lowered, times};
+use crate::tables::Table;
+
+/// Whether `q` is `w * 2^64 / p`, rounded down, and `w` is below `p`.
+pub(crate) fn is_factor(p: u64, w: u64, q: u64) -> bool
+    ensures { result ≡ true → IsFactor p w q }
+{
+    let whole = (w as u128) << 64;
+    let part = q as u128 * p as u128;
+    w < p && part <= whole && whole < part + p as u128
+}
+
+/// Whether the square of `w` is `wanted`, and `v` its inverse, and `q` and `r` are their quotients.
+fn is_pair(p: u64, w: u64, q: u64, v: u64, r: u64, wanted: u64) -> bool
+    requires modulus { IsModulus p }
+    ensures { result ≡ true → IsPair p w q v r wanted }
+{
+    if !is_factor(p, w, q) || !is_factor(p, v, r) {
+        return false;
+    }
+    if lowered(times(w, v, r, p), p) != 1 {
+        return false;
+    }
+    lowered(times(w, w, q, p), p) == wanted
+}
+
+/// The number that stands at a node.
+fn node_number(t: &Table, k: usize) -> u64
+    requires inside { k / 2 < length t.now.roots.items }
+    ensures { result ≡ point t.now.p t.now.roots.items k }
+{
+    let half = t.roots[k / 2];
+    if k % 2 == 0 {
+        half
+    } else {
+        t.p.saturating_sub(half)
+    }
+}
+
+/// Whether the constants at one node are right.
+fn is_root(t: &Table, k: usize) -> bool
+    requires modulus { IsModulus t.now.p }
+    requires inside { k < length t.now.roots.items }
+    requires in_quotients { k < length t.now.quotients.items }
+    requires in_inverses { k < length t.now.inverses.items }
+    requires in_inverse_quotients { k < length t.now.inverse_quotients.items }
+    ensures { result ≡ true → IsRoot t.now k }
+{
+    is_pair(
+        t.p,
+        t.roots[k],
+        t.quotients[k],
+        t.inverses[k],
+        t.inverse_quotients[k],
+        node_number(t, k),
+    )
+}
+
+/// Whether `w` undoes `l` levels and the unit, and `q` is its quotient.
+fn is_undoing(p: u64, unit: u64, l: u32, w: u64, q: u64) -> bool
+    requires modulus { IsModulus p }
+    requires few { l < 40 }
+    ensures factor { result ≡ true → IsFactor p w q }
+    ensures same { result ≡ true → Same p (unit * 2 ^ l * w) 1 }
+{
+    if !is_factor(p, w, q) {
+        return false;
+    }
+    let lifted = unit as u128 * (1u128 << l) % p as u128;
+    lifted * (w as u128) % p as u128 == 1
+}
+
+/// Whether the number that undoes so many levels is right.
+fn is_scale(t: &Table, l: usize) -> bool
+    requires modulus { IsModulus t.now.p }
+    requires few { l < 40 }
+    requires inside { l < length t.now.scales.items }
+    requires in_quotients { l < length t.now.scale_quotients.items }
+    ensures { result ≡ true → IsScale t.now l }
+{
+    is_undoing(t.p, t.unit, l as u32, t.scales[l], t.scale_quotients[l])
+}
+
+/// Whether the constants at all nodes are right.
+fn are_roots(t: &Table) -> bool
+    requires modulus { IsModulus t.now.p }
+    requires quotients { length t.now.quotients.items ≡ length t.now.roots.items }
+    requires inverses { length t.now.inverses.items ≡ length t.now.roots.items }
+    requires inverse_quotients { length t.now.inverse_quotients.items ≡ length t.now.roots.items }
+    ensures { result ≡ true → (k : ℕ) → k < length t.now.roots.items → IsRoot t.now k }
+{
+    for k in 0..t.roots.len() {
+        if !is_root(t, k) {
+            return false;
+        }
+    }
+    true
+}
+
+/// Whether the numbers that undo levels are all right.
+fn are_scales(t: &Table) -> bool
+    requires modulus { IsModulus t.now.p }
+    requires few { length t.now.scales.items ≤ 40 }
+    requires quotients { length t.now.scale_quotients.items ≡ length t.now.scales.items }
+    ensures { result ≡ true → (l : ℕ) → l < length t.now.scales.items → IsScale t.now l }
+{
+    for l in 0..t.scales.len() {
+        if !is_scale(t, l) {
+            return false;
+        }
+    }
+    true
+}
+
+/// Whether all constants are right.
+fn is_table(t: &Table) -> bool
+    ensures { result ≡ true → IsTable t.now }
+{
+    let p = t.p;
+    if p < 3458764513820540928 || p >= 4611686018427387904 {
+        return false;
+    }
+    let n = t.roots.len();
+    let levels = t.scales.len();
+    if n > 1099511627776 || levels > 40 {
+        return false;
+    }
+    if t.quotients.len() != n || t.inverses.len() != n || t.inverse_quotients.len() != n {
+        return false;
+    }
+    if t.scale_quotients.len() != levels {
+        return false;
+    }
+    if p.wrapping_mul(t.minus_inverse).wrapping_add(1) != 0 {
+        return false;
+    }
+    if ((t.unit as u128) << 64) % p as u128 != 1 {
+        return false;
+    }
+    are_roots(t) && are_scales(t)
+}
+
+/// Whether so many roots are enough for so many levels.
+fn has_room(levels: u32, roots: usize) -> bool
+    requires { levels < 40 }
+    ensures { result ≡ true → 2 ^ levels ≤ 2 * roots }
+{
+    (1u128 << levels) <= 2 * (roots as u128)
+}
+
+/// Whether both transforms and what joins them are right.
+pub(crate) fn is_setup(s: &Setup) -> bool
+    ensures { result ≡ true → IsSetup s.now }
+{
+    if !is_table(&s.first) || !is_table(&s.second) {
+        return false;
+    }
+    let p1 = s.first.p;
+    let p2 = s.second.p;
+    if p1 > p2 || !is_factor(p2, s.inverse, s.inverse_quotient) {
+        return false;
+    }
+    if p1 as u128 * s.inverse as u128 % p2 as u128 != 1 {
+        return false;
+    }
+    let levels = s.levels as usize;
+    if s.levels >= 40 || levels >= s.first.scales.len() || levels >= s.second.scales.len() {
+        return false;
+    }
+    has_room(s.levels, s.first.roots.len()) && has_room(s.levels, s.second.roots.len())
+}

@@ -1,0 +1,243 @@
+ghost use Rattle.std.specs.Prelude.{◌≡◌, ℕ, ◌+◌, ◌-◌, ◌*◌, ◌/◌, ◌%◌, ◌^◌, ◌<◌, ◌≤◌};
+ghost use Rattle.std.specs.Prelude.{length, slice_index};
+ghost use Rattle.dl_transform.specs.Residue.{Same, IsFactor, IsModulus};
+ghost use Rattle.dl_transform.specs.Table.{value_at, IsTable};
+
+use crate::factors::{join, lowered, part, reduced};
+use crate::tables::Table;
+
+/// Each pair of cells `u` and `v` at one place becomes `u + w * v` and `u - w * v`.
+fn part_all(low: &mut [u64], high: &mut [u64], w: u64, q: u64, p: u64)
+    requires modulus { IsModulus p }
+    requires factor { IsFactor p w q }
+    requires alike { length high.old ≡ length low.old }
+    requires low_small { (i : ℕ) → slice_index low.old i < 4 * p }
+    requires high_small { (i : ℕ) → slice_index high.old i < 4 * p }
+    ensures low_small { (i : ℕ) → slice_index low.new i < 4 * p }
+    ensures high_small { (i : ℕ) → slice_index high.new i < 4 * p }
+    ensures low { (i : ℕ) → i < length low.old
+        → Same p (slice_index low.new i) (slice_index low.old i + w * slice_index high.old i) }
+    ensures high { (i : ℕ) → i < length low.old
+        → Same p (slice_index high.new i)
+        (slice_index low.old i + (p - w) * slice_index high.old i) }
+{
+    for i in 0..low.len() {
+        let (a, b) = part(low[i], high[i], w, q, p);
+        low[i] = a;
+        high[i] = b;
+    }
+}
+
+/// Each pair of cells `u` and `v` at one place becomes `u + v` and `(u - v) * w`.
+fn join_all(low: &mut [u64], high: &mut [u64], w: u64, q: u64, p: u64)
+    requires modulus { IsModulus p }
+    requires factor { IsFactor p w q }
+    requires alike { length high.old ≡ length low.old }
+    requires low_small { (i : ℕ) → slice_index low.old i < 2 * p }
+    requires high_small { (i : ℕ) → slice_index high.old i < 2 * p }
+    ensures low_small { (i : ℕ) → slice_index low.new i < 2 * p }
+    ensures high_small { (i : ℕ) → slice_index high.new i < 2 * p }
+    ensures low { (i : ℕ) → i < length low.old
+        → Same p (slice_index low.new i) (slice_index low.old i + slice_index high.old i) }
+    ensures high { (i : ℕ) → i < length low.old
+        → Same p (slice_index high.new i + w * slice_index high.old i) (w * slice_index low.old i) }
+{
+    for i in 0..low.len() {
+        let (a, b) = join(low[i], high[i], w, q, p);
+        low[i] = a;
+        high[i] = b;
+    }
+}
+
+/// The values of 2 items at the lowest nodes below a node.
+#[inline(always)]
+fn to_values_2(x: &mut [u64], node: usize, table: &Table)
+    requires table { IsTable table.now }
+    requires size { length x.old ≡ 2 }
+    requires within { (node + 1) * 2 ≤ 2 * length table.now.roots.items }
+    requires small { (i : ℕ) → slice_index x.old i < 4 * table.now.p }
+    ensures small { (i : ℕ) → slice_index x.new i < 4 * table.now.p }
+    ensures values { (k : ℕ) → k < 2 → Same table.now.p (slice_index x.new k)
+        (value_at table.now 2 (λ i. slice_index x.old i) (node * 2 + k)) }
+{
+    let (w, q) = table.root(node);
+    let (low, high) = x.split_at_mut(1);
+    part_all(low, high, w, q, table.p);
+}
+
+/// The values of 4 items at the lowest nodes below a node.
+#[inline(always)]
+fn to_values_4(x: &mut [u64], node: usize, table: &Table)
+    requires table { IsTable table.now }
+    requires size { length x.old ≡ 4 }
+    requires within { (node + 1) * 4 ≤ 2 * length table.now.roots.items }
+    requires small { (i : ℕ) → slice_index x.old i < 4 * table.now.p }
+    ensures small { (i : ℕ) → slice_index x.new i < 4 * table.now.p }
+    ensures values { (k : ℕ) → k < 4 → Same table.now.p (slice_index x.new k)
+        (value_at table.now 4 (λ i. slice_index x.old i) (node * 4 + k)) }
+{
+    let (w, q) = table.root(node);
+    let (low, high) = x.split_at_mut(2);
+    part_all(low, high, w, q, table.p);
+    to_values_2(low, 2 * node, table);
+    to_values_2(high, 2 * node + 1, table);
+}
+
+/// The values of the polynomial `x` at the lowest nodes below a node, so many levels down.
+pub(crate) fn to_values(x: &mut [u64], node: usize, table: &Table, levels: u32)
+    requires table { IsTable table.now }
+    requires size { length x.old ≡ 2 ^ levels }
+    requires within { (node + 1) * 2 ^ levels ≤ 2 * length table.now.roots.items }
+    requires small { (i : ℕ) → slice_index x.old i < 4 * table.now.p }
+    ensures small { (i : ℕ) → slice_index x.new i < 4 * table.now.p }
+    ensures values { (k : ℕ) → k < 2 ^ levels → Same table.now.p (slice_index x.new k)
+        (value_at table.now (2 ^ levels) (λ i. slice_index x.old i) (node * 2 ^ levels + k)) }
+{
+    if levels == 2 {
+        to_values_4(x, node, table);
+        return;
+    }
+    if levels == 0 {
+        return;
+    }
+    let (w, q) = table.root(node);
+    let half = x.len() / 2;
+    let (low, high) = x.split_at_mut(half);
+    part_all(low, high, w, q, table.p);
+    to_values(low, 2 * node, table, levels - 1);
+    to_values(high, 2 * node + 1, table, levels - 1);
+}
+
+/// The 2 items with these values at the lowest nodes below a node, times 2.
+#[inline(always)]
+fn to_items_2(x: &mut [u64], node: usize, table: &Table)
+    requires table { IsTable table.now }
+    requires size { length x.old ≡ 2 }
+    requires within { (node + 1) * 2 ≤ 2 * length table.now.roots.items }
+    requires small { (i : ℕ) → slice_index x.old i < 2 * table.now.p }
+    ensures small { (i : ℕ) → slice_index x.new i < 2 * table.now.p }
+    ensures items { (y : ℕ → ℕ)
+        → ((k : ℕ) → k < 2 → Same table.now.p (slice_index x.old k)
+        (value_at table.now 2 y (node * 2 + k)))
+        → (k : ℕ) → k < 2 → Same table.now.p (slice_index x.new k) (2 * y k) }
+{
+    let (w, q) = table.inverse(node);
+    let (low, high) = x.split_at_mut(1);
+    join_all(low, high, w, q, table.p);
+}
+
+/// The 4 items with these values at the lowest nodes below a node, times 4.
+#[inline(always)]
+fn to_items_4(x: &mut [u64], node: usize, table: &Table)
+    requires table { IsTable table.now }
+    requires size { length x.old ≡ 4 }
+    requires within { (node + 1) * 4 ≤ 2 * length table.now.roots.items }
+    requires small { (i : ℕ) → slice_index x.old i < 2 * table.now.p }
+    ensures small { (i : ℕ) → slice_index x.new i < 2 * table.now.p }
+    ensures items { (y : ℕ → ℕ)
+        → ((k : ℕ) → k < 4 → Same table.now.p (slice_index x.old k)
+        (value_at table.now 4 y (node * 4 + k)))
+        → (k : ℕ) → k < 4 → Same table.now.p (slice_index x.new k) (4 * y k) }
+{
+    let (w, q) = table.inverse(node);
+    let (low, high) = x.split_at_mut(2);
+    to_items_2(low, 2 * node, table);
+    to_items_2(high, 2 * node + 1, table);
+    join_all(low, high, w, q, table.p);
+}
+
+/// The polynomial with these values at the lowest nodes below a node, `2^levels` times.
+pub(crate) fn to_items(x: &mut [u64], node: usize, table: &Table, levels: u32)
+    requires table { IsTable table.now }
+    requires size { length x.old ≡ 2 ^ levels }
+    requires within { (node + 1) * 2 ^ levels ≤ 2 * length table.now.roots.items }
+    requires small { (i : ℕ) → slice_index x.old i < 2 * table.now.p }
+    ensures small { (i : ℕ) → slice_index x.new i < 2 * table.now.p }
+    ensures items { (y : ℕ → ℕ)
+        → ((k : ℕ) → k < 2 ^ levels → Same table.now.p (slice_index x.old k)
+        (value_at table.now (2 ^ levels) y (node * 2 ^ levels + k)))
+        → (k : ℕ) → k < 2 ^ levels → Same table.now.p (slice_index x.new k) (2 ^ levels * y k) }
+{
+    if levels == 2 {
+        to_items_4(x, node, table);
+        return;
+    }
+    if levels == 0 {
+        return;
+    }
+    let (w, q) = table.inverse(node);
+    let half = x.len() / 2;
+    let (low, high) = x.split_at_mut(half);
+    to_items(low, 2 * node, table, levels - 1);
+    to_items(high, 2 * node + 1, table, levels - 1);
+    join_all(low, high, w, q, table.p);
+}
+
+/// The numbers `a` at the first places.
+fn load_front(x: &mut [u64], a: &[u128], p: u64)
+    requires modulus { IsModulus p }
+    requires room { length a.now ≤ length x.old }
+    requires items { (i : ℕ) → slice_index a.now i < 2 ^ 64 }
+    ensures alike { length x.new ≡ length x.old }
+    ensures small { (i : ℕ) → i < length a.now → slice_index x.new i < 4 * p }
+    ensures same { (i : ℕ) → i < length a.now → Same p (slice_index x.new i) (slice_index a.now i) }
+{
+    for i in 0..a.len() {
+        x[i] = lowered(a[i] as u64, 2 * p);
+    }
+}
+
+/// Zeros from a place on.
+fn clear(x: &mut [u64], from: usize)
+    ensures alike { length x.new ≡ length x.old }
+    ensures before { (i : ℕ) → i < from → slice_index x.new i ≡ slice_index x.old i }
+    ensures zero { (i : ℕ) → from ≤ i → slice_index x.new i ≡ 0 }
+{
+    for i in from..x.len() {
+        x[i] = 0;
+    }
+}
+
+/// The numbers `a` and then zeros, each below `4 * p`.
+pub(crate) fn load(x: &mut [u64], a: &[u128], p: u64)
+    requires modulus { IsModulus p }
+    requires room { length a.now ≤ length x.old }
+    requires items { (i : ℕ) → slice_index a.now i < 2 ^ 64 }
+    ensures small { (i : ℕ) → slice_index x.new i < 4 * p }
+    ensures same { (i : ℕ) → Same p (slice_index x.new i) (slice_index a.now i) }
+{
+    load_front(x, a, p);
+    clear(x, a.len());
+}
+
+/// Each product `x * y` over `2^64` modulo `p`, in the place of `x`; `p * k + 1` is a multiple of
+/// `2^64`.
+pub(crate) fn multiply_all(x: &mut [u64], y: &[u64], k: u64, p: u64)
+    requires modulus { IsModulus p }
+    requires inverse { (p * k + 1) % 2 ^ 64 ≡ 0 }
+    requires alike { length y.now ≡ length x.old }
+    requires first_small { (i : ℕ) → slice_index x.old i < 4 * p }
+    requires second_small { (i : ℕ) → slice_index y.now i < 4 * p }
+    ensures small { (i : ℕ) → slice_index x.new i < 2 * p }
+    ensures same { (i : ℕ) → i < length x.old
+        → Same p (slice_index x.new i * 2 ^ 64) (slice_index x.old i * slice_index y.now i) }
+{
+    for i in 0..x.len() {
+        x[i] = reduced(lowered(x[i], 2 * p), lowered(y[i], 2 * p), k, p);
+    }
+}
+
+/// Each square over `2^64` modulo `p`; `p * k + 1` is a multiple of `2^64`.
+pub(crate) fn square_all(x: &mut [u64], k: u64, p: u64)
+    requires modulus { IsModulus p }
+    requires inverse { (p * k + 1) % 2 ^ 64 ≡ 0 }
+    requires small { (i : ℕ) → slice_index x.old i < 4 * p }
+    ensures small { (i : ℕ) → slice_index x.new i < 2 * p }
+    ensures same { (i : ℕ) → i < length x.old
+        → Same p (slice_index x.new i * 2 ^ 64) (slice_index x.old i * slice_index x.old i) }
+{
+    for i in 0..x.len() {
+        let y = lowered(x[i], 2 * p);
+        x[i] = reduced(y, y, k, p);
+    }
+}

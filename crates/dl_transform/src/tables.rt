@@ -1,0 +1,57 @@
+ghost use Rattle.std.specs.Prelude.{◌≡◌, ◌<◌, length, slice_index};
+ghost use Rattle.dl_transform.specs.Residue.{IsFactor};
+ghost use Rattle.dl_transform.specs.Table.{IsTable};
+
+/// The constants of a transform modulo `p`. Each factor stands beside its quotient, which a product
+/// by it needs.
+#[derive(Drop)]
+pub(crate) struct Table {
+    /// What all numbers are remainders by.
+    pub(crate) p: u64,
+    /// The root at each node: its square is the number of the node.
+    pub(crate) roots: Vec<u64>,
+    pub(crate) quotients: Vec<u64>,
+    /// The inverse of the root at each node.
+    pub(crate) inverses: Vec<u64>,
+    pub(crate) inverse_quotients: Vec<u64>,
+    /// What times `p` is one less than a multiple of `2^64`.
+    pub(crate) minus_inverse: u64,
+    /// What times `2^64` leaves 1.
+    pub(crate) unit: u64,
+    /// For each number of levels, what times `2^levels` and the unit leaves 1.
+    pub(crate) scales: Vec<u64>,
+    pub(crate) scale_quotients: Vec<u64>,
+}
+
+impl Table {
+    /// The root at a node, and its quotient.
+    pub(crate) fn root(&self, node: usize) -> (u64, u64)
+        requires table { IsTable self.now }
+        requires inside { node < length self.now.roots.items }
+        ensures value { result.0 ≡ slice_index self.now.roots.items node }
+        ensures factor { IsFactor self.now.p result.0 result.1 }
+    {
+        (self.roots[node], self.quotients[node])
+    }
+
+    /// The inverse of the root at a node, and its quotient.
+    pub(crate) fn inverse(&self, node: usize) -> (u64, u64)
+        requires table { IsTable self.now }
+        requires inside { node < length self.now.roots.items }
+        ensures value { result.0 ≡ slice_index self.now.inverses.items node }
+        ensures factor { IsFactor self.now.p result.0 result.1 }
+    {
+        (self.inverses[node], self.inverse_quotients[node])
+    }
+
+    /// What undoes `2^levels` and the unit, and its quotient.
+    pub(crate) fn scale(&self, levels: u32) -> (u64, u64)
+        requires table { IsTable self.now }
+        requires inside { levels < length self.now.scales.items }
+        ensures value { result.0 ≡ slice_index self.now.scales.items levels }
+        ensures factor { IsFactor self.now.p result.0 result.1 }
+    {
+        let k = levels as usize;
+        (self.scales[k], self.scale_quotients[k])
+    }
+}
