@@ -1,0 +1,59 @@
+ghost use Rattle.std.specs.Prelude.{◌≡◌, ℕ, ◌*◌, ◌/◌, ◌^◌, ◌<◌, ◌≤◌, min, length, IfOk};
+ghost use Rattle.std.specs.Int.{div_ceil};
+ghost use Rattle.dl_grid.specs.Cells.{low_at, high_at, spread};
+ghost use Rattle.dl_exact.specs.Count.{count_pairs};
+ghost use Rattle.dl_grid.specs.Width.{cv};
+
+use crate::lists::{square_sums, sums};
+use crate::room::Workspace;
+use dl_conv::grid_of_sums;
+use dl_grid::Grid;
+use std::alloc::{AllocError, Global};
+
+/// The first `cells` cells of the convolution of `a` and `b`: the grid of the sum of two
+/// independent amounts. Each cell is rounded once, its low end down and its high end up, and what
+/// lies past the grid is left out. The spread is at most what the width rule says.
+pub fn product<const B: u32>(
+    alloc: Global,
+    work: &mut Workspace,
+    a: &Grid<B>,
+    b: &Grid<B>,
+    cells: u32,
+) -> Result<Grid<B>, AllocError>
+    requires some { 1 ≤ cells }
+    requires in_first { cells ≤ length a.now }
+    requires in_second { cells ≤ length b.now }
+    ensures cells { IfOk result (λ g. length g ≡ cells) }
+    ensures low { IfOk result (λ g. (s : ℕ) → s < cells
+        → low_at g s ≡ count_pairs s (λ i j. low_at a.now i * low_at b.now j) / 2 ^ B) }
+    ensures high { IfOk result (λ g. (s : ℕ) → s < cells
+        → high_at g s ≡ min (2 ^ B)
+        (div_ceil (count_pairs s (λ i j. high_at a.now i * high_at b.now j)) (2 ^ B))) }
+    ensures spread { IfOk result (λ g. spread g ≤ cv (2 ^ B) cells (spread a.now) (spread b.now)) }
+{
+    let lows = sums(alloc, work, a.lows(), b.lows(), cells as usize)?;
+    let highs = sums(alloc, work, a.highs(), b.highs(), cells as usize)?;
+    Ok(grid_of_sums(a, b, lows, highs))
+}
+
+/// The first `cells` cells of the convolution of `a` with itself.
+pub fn square<const B: u32>(
+    alloc: Global,
+    work: &mut Workspace,
+    a: &Grid<B>,
+    cells: u32,
+) -> Result<Grid<B>, AllocError>
+    requires some { 1 ≤ cells }
+    requires in_first { cells ≤ length a.now }
+    ensures cells { IfOk result (λ g. length g ≡ cells) }
+    ensures low { IfOk result (λ g. (s : ℕ) → s < cells
+        → low_at g s ≡ count_pairs s (λ i j. low_at a.now i * low_at a.now j) / 2 ^ B) }
+    ensures high { IfOk result (λ g. (s : ℕ) → s < cells
+        → high_at g s ≡ min (2 ^ B)
+        (div_ceil (count_pairs s (λ i j. high_at a.now i * high_at a.now j)) (2 ^ B))) }
+    ensures spread { IfOk result (λ g. spread g ≤ cv (2 ^ B) cells (spread a.now) (spread a.now)) }
+{
+    let lows = square_sums(alloc, work, a.lows(), cells as usize)?;
+    let highs = square_sums(alloc, work, a.highs(), cells as usize)?;
+    Ok(grid_of_sums(a, a, lows, highs))
+}
