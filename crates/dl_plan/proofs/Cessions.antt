@@ -10,14 +10,13 @@ use Rattle.dl_exact.specs.Gcd.{gcd}
 use Rattle.dl_exact.specs.Fraction.{Fraction, whole, ◌over◌, ◌+ℚ◌, ◌-ℚ◌, ◌*ℚ◌, ◌≤ℚ◌}
 use Rattle.dl_exact.specs.Sum.{sum_over}
 use Rattle.dl_exact.proofs.GcdLaws.{gcd_is, cut_right}
-use Rattle.dl_exact.proofs.Over.{over_self, over_same, over_mul, over_sub, le_over}
+use Rattle.dl_exact.proofs.Over.{over_self, over_same, over_mul, over_sub, le_over, over_den}
 use Rattle.dl_plan.specs.declared.cede.CedeLayer.{CedeLayer}
 use Rattle.dl_plan.specs.Fine.{IsWhole}
 use Rattle.dl_plan.specs.Cession.{Clause, layer, layer_shares, ceded, kept}
 use Rattle.dl_plan.specs.Parts.{part_of, kept_parts, parts_in_bucket}
 use Rattle.dl_plan.proofs.Common.{den_divides, common_from_pos}
-use Rattle.dl_plan.proofs.Fits.{den_of_over}
-use Rattle.dl_plan.proofs.Sums.{zero_over, over_plus}
+use Rattle.dl_exact.proofs.Denominators.{over_zero, over_plus}
 
 -- ---- one layer
 
@@ -49,7 +48,7 @@ ceded_one l c x h d =
 
 pub ceded_over : (layers : List CedeLayer) (c x : ℕ) → 0 < c → All (λ l. l.share.den ∣ c) layers → ceded layers x ≡ sum_by (part_of c x) layers over c
 unfolding sum_over
-ceded_over [] c x h d = sym (zero_over c h)
+ceded_over [] c x h d = sym (over_zero c h)
 ceded_over (l ∷ ls) c x h d =
     ap₂ (λ y z. y +ℚ z) (ceded_one l c x h (d 0 l (omega arith))) (ceded_over ls c x h (All-tail (λ k. k.share.den ∣ c) l ls d))
     ∙ over_plus (part_of c x l) (sum_by (part_of c x) ls) c h
@@ -71,7 +70,7 @@ whole_if n d h e = over_same n d (n / d) 1 h (omega arith) (omega (arith, div-ad
 pub whole_only : (n d : ℕ) → 0 < d → (n over d).den ≡ 1 → n % d ≡ 0
 whole_only n d h e =
     let g = gcd n d in
-    let all : d ≡ g = omega (arith, cut_right n d, ap (λ k. k * g) (sym (den_of_over n d h) ∙ e)) in
+    let all : d ≡ g = omega (arith, cut_right n d, ap (λ k. k * g) (sym (over_den n d h) ∙ e)) in
     mod-eq-zero_of_dvd d (subst (λ k. k ∣ n) (sym all) (gcd_is n d).0)
 
 -- ---- over the common denominator

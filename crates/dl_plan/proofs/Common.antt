@@ -9,8 +9,8 @@ use Prim.Native.Nat.{◌∣◌}
 use Rattle.std.proofs.lemmas.Nat.Gcd.{dvd_trans, dvd_refl, le_of_dvd}
 use Rattle.dl_exact.specs.Gcd.{gcd}
 use Rattle.dl_exact.specs.Fraction.{Fraction}
-use Rattle.dl_frac.specs.Multiples.{lcm}
-use Rattle.dl_frac.proofs.GcdMore.{lcm_left, lcm_right, lcm_gcd}
+use Rattle.dl_exact.specs.Multiples.{lcm}
+use Rattle.dl_exact.proofs.Multiples.{lcm_left, lcm_right, lcm_gcd}
 use Rattle.dl_plan.specs.Fine.{common_denominator}
 
 -- the least common multiple of numbers above 0 is above 0

@@ -1,16 +1,19 @@
 -- The horizon of a clause, over the common denominator of its shares.
-use Rattle.std.proofs.Common.{ℕ, ◌≡◌, ◌∙◌, ◌+◌, ◌-◌, ◌*◌, ◌<◌, ◌≤◌, max, fold, List, [], ◌∷◌, Option, Some, None, sym, ap, subst, arith, inl, inr, le_of_mul-le-mul_right}
+use Rattle.std.proofs.Common.{ℕ, refl, ◌≡◌, ◌∙◌, ◌+◌, ◌-◌, ◌*◌, ◌<◌, ◌≤◌, max, fold, List, [], ◌∷◌, Option, Some, None, sym, ap, subst, arith, inl, inr, le_of_mul-le-mul_right}
 use Rattle.std.specs.List.{All}
+use Rattle.std.specs.Prelude.{IfSome}
 use Rattle.std.specs.Int.{div_ceil}
 use Rattle.std.proofs.Math.Nat.{le-max_left, le-max_right}
 use Rattle.std.proofs.lemmas.Bool.{cases_lt}
+use Rattle.std.proofs.lemmas.Bool.Decides.{eqb_tells}
 use Rattle.std.proofs.lemmas.List.Elements.{All-nil, All-cons}
 use Rattle.dl_exact.specs.Fraction.{whole, ◌over◌, ◌≤ℚ◌}
 use Rattle.dl_exact.proofs.Laws.{le_of_eq}
 use Rattle.dl_exact.proofs.Over.{over_le, le_over}
+use Rattle.dl_exact.proofs.Denominators.{same_num}
 use Rattle.dl_plan.specs.declared.cede.CedeLayer.{CedeLayer}
 use Rattle.dl_plan.specs.Cession.{Clause, IsCession}
-use Rattle.dl_plan.specs.Horizon.{edge_of, edge, last_edge, IsSettled, IsReach, IsHorizon, IsHorizonOf}
+use Rattle.dl_plan.specs.Horizon.{edge_of, edge, last_edge, IsSettled, IsReach, IsHorizon, IsHorizonOf, buckets_behind, horizon}
 use Rattle.dl_plan.specs.Parts.{kept_parts, parts_in_bucket}
 use Rattle.dl_plan.proofs.Cessions.{bucket_pos, kept_is}
 use Rattle.dl_plan.proofs.Apart.{kept_rises}
@@ -19,7 +22,7 @@ use Rattle.dl_plan.proofs.Reach.{IsBent, IsSettledAt, IsLeastSettled, line_from,
 
 -- ---- edges
 
-attach_le : (limit : Option ℕ) (a : ℕ) → a ≤ edge_of limit a
+pub attach_le : (limit : Option ℕ) (a : ℕ) → a ≤ edge_of limit a
 attach_le None a = omega arith
 attach_le (Some l) a = omega arith
 
@@ -46,14 +49,6 @@ kept_bent clause c e cession h = record {
     mean n = kept_straight clause c (e + n) 1 cession (clear_from 1 clause.1 (e + n) (e + n + 2 * 1) (omega (arith, h)))
 
 -- ---- from parts to fractions
-
-pub same_num : (n m c : ℕ) → 0 < c → n over c ≡ m over c → n ≡ m
-same_num n m c h e =
-    omega (
-      arith,
-      le_of_mul-le-mul_right {k = c} (le_over n c m c h h (le_of_eq (n over c) (m over c) e)) h,
-      le_of_mul-le-mul_right {k = c} (le_over m c n c h h (le_of_eq (m over c) (n over c) (sym e))) h,
-    )
 
 -- what is kept of x, in parts of a bucket
 abbrev pub parts_of : Clause → ℕ → ℕ
@@ -102,6 +97,23 @@ module _ (clause : Clause) (h : ℕ) where
       let e = last_edge clause.1 in
       settled_to k
       (settled_on (parts_of clause) e (h * parts_in_bucket clause) (parts_of clause (e + 1) - parts_of clause e) (kept_bent clause (parts_in_bucket clause) e cession (omega arith)) s k after (settled_back s settled))
+
+-- ---- the horizon as a number
+
+by_rise : (clause : Clause) (h e missing rise : ℕ) → (rise ≡ 0 → IsHorizon clause h e) → (0 < rise → IsHorizon clause h (e + div_ceil missing rise))
+    → IsHorizon clause h (e + buckets_behind missing rise)
+by_rise clause h e missing rise flat line = elim (eqb_tells rise 0) [
+  | inl none ↦ rw none.0 (subst (λ k. IsHorizon clause h k) (omega arith) (flat none.1))
+  | inr some ↦ rw some.0 (line (omega (arith, some.1)))
+]
+
+pub horizon_is : (clause : Option Clause) (h : ℕ) → IfSome clause IsCession → IsHorizonOf clause h (horizon clause h)
+unfolding horizon
+horizon_is None h cession = refl
+horizon_is (Some clause) h cession =
+    let e = last_edge clause.1 in
+    by_rise clause h e (h * parts_in_bucket clause - parts_of clause e) (parts_of clause (e + 1) - parts_of clause e)
+    (horizon_flat clause h cession) (horizon_line clause h (parts_of clause (e + 1) - parts_of clause e) cession refl)
 
 pub edges_from : (m : ℕ) (ls : List CedeLayer) (k : ℕ) → fold (λ j l. max j (edge l)) m ls ≤ k → All (λ l. edge l ≤ k) ls
 edges_from m [] k h = All-nil (λ l. edge l ≤ k)

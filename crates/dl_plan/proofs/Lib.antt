@@ -1,5 +1,4 @@
 pub mod Fits
-pub mod Sums
 pub mod Common
 pub mod Cessions
 pub mod Apart

@@ -22,6 +22,9 @@ admitted_fits x h = record { num = omega (arith, h.num); den = omega (arith, h.d
 pub total_pos : (items : List Item) (total : ℕ) → IsWeighted items total → 0 < total
 total_pos items total w = subst (λ n. 0 < n) w.sum (weight_sum_pos items w.some w.positive)
 
+pub severity_total : (sev : Sev) → 0 < sev.total
+severity_total sev = total_pos sev.items sev.total sev.weighted
+
 -- trials times a probability
 pub trials_times : (t : ℕ) (q : Fraction) → (t * q.num) over q.den ≡ whole t *ℚ q
 trials_times t q =

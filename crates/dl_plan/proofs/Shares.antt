@@ -9,7 +9,9 @@ use Rattle.dl_exact.proofs.Over.{over_same, over_mul, over_div}
 use Rattle.dl_plan.specs.declared.item.Item.{Item}
 use Rattle.dl_plan.specs.Weighted.{amounts_of, weight_sum, weight_at, weighted_sum}
 use Rattle.dl_plan.specs.Severity.{Pairs, probability, mass, mean_amount, conditioned, shares}
-use Rattle.dl_plan.proofs.Sums.{sum_over_common, sum_over_map, sum_over_same, if_over}
+use Rattle.dl_exact.proofs.SumsOver.{sum_over_common, if_over}
+use Rattle.dl_exact.proofs.Sums.{sum_over_map, sum_over_same}
+use Rattle.dl_exact.proofs.Denominators.{over_times}
 
 -- the probabilities of a list of weights, over any total
 pub probability-shares : (xs : List Item) (t y : ℕ) → 0 < t → probability (shares xs t) y ≡ weight_at xs y over t
@@ -75,11 +77,8 @@ weight_over-le a xs = omega (arith, sum_by-filter_both (λ (i : Item). nat_lt a 
 
 -- ---- the mean
 
-amount_share : (a w t : ℕ) → 0 < t → whole a *ℚ w over t ≡ (a * w) over t
-amount_share a w t h = over_mul a 1 w t (omega arith) h ∙ over_same (a * w) (1 * t) (a * w) t (omega (arith, h)) h (omega arith)
-
 pub mean-shares : (xs : List Item) (t : ℕ) → 0 < t → mean_amount (shares xs t) ≡ weighted_sum xs over t
 mean-shares xs t h =
     sum_over_map (λ (i : Item). (i.amount, i.weight over t)) (λ pair. whole pair.0 *ℚ pair.1) xs
-    ∙ sum_over_same _ (λ (i : Item). (i.amount * i.weight) over t) xs (λ i. amount_share i.amount i.weight t h)
+    ∙ sum_over_same _ (λ (i : Item). (i.amount * i.weight) over t) xs (λ i. over_times i.amount i.weight t h)
     ∙ sum_over_common (λ (i : Item). i.amount * i.weight) t xs h

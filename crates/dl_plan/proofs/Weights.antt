@@ -1,5 +1,5 @@
 -- Lists of weights and their greatest common divisor.
-use Rattle.std.proofs.Common.{ℕ, ◌≡◌, ◌∙◌, ◌*◌, ◌/◌, ◌<◌, ◌≤◌, ◌^◌, List, [], ◌∷◌, length, map, fold, Bool, true, false, cond, ◌==◌, refl, sym, ap, ap₂, subst, arith, inl, inr}
+use Rattle.std.proofs.Common.{ℕ, ◌≡◌, ◌∙◌, ◌*◌, ◌/◌, ◌<◌, ◌≤◌, ◌^◌, List, [], ◌∷◌, length, map, fold, Bool, true, false, cond, ◌==◌, refl, sym, ap, ap₂, subst, arith, inl, inr, ◌++◌, suc, zero, ◌+◌, max, get_or, take, add-one}
 use Rattle.std.proofs.Math.Nat.{div-mul_cancel, mul-div_cancel, pos_of_dvd_of_pos, eq_of_mul-eq-mul_right, div-le_self}
 use Prim.Native.Nat.{◌∣◌}
 use Rattle.std.proofs.lemmas.Bool.{cases_lt}
@@ -10,12 +10,12 @@ use Rattle.std.proofs.lemmas.List.{length-map}
 use Rattle.std.proofs.lemmas.Simd.{map-map}
 use Rattle.std.proofs.lemmas.List.Elements.{All-cons, All-nil, All-tail}
 use Rattle.std.proofs.lemmas.List.Sums.{sum_by-cons}
-use Rattle.dl_exact.specs.Gcd.{gcd}
+use Rattle.dl_exact.specs.Gcd.{gcd, euclid}
 use Rattle.dl_exact.specs.Fraction.{◌over◌}
 use Rattle.dl_exact.proofs.GcdLaws.{gcd_is, gcd-scale}
-use Rattle.dl_exact.proofs.Over.{over_same}
+use Rattle.dl_exact.proofs.Over.{over_same, pos_of_mul}
 use Rattle.dl_plan.specs.declared.item.Item.{Item}
-use Rattle.dl_plan.specs.Weighted.{amounts_of, weight_sum, weight_at, common_weight, divided_by, IsWeighted}
+use Rattle.dl_plan.specs.Weighted.{amounts_of, weight_sum, weight_at, common_weight, divided_by, IsWeighted, greatest}
 
 le_zero : {n : ℕ} → n ≤ 0 → n ≡ 0
 le_zero h = omega (arith, h)
@@ -28,9 +28,6 @@ one_times k = omega arith
 
 cancel : (a b k : ℕ) → 0 < k → a * k ≡ b * k → a ≡ b
 cancel a b k h e = eq_of_mul-eq-mul_right k h a b e
-
-pos_of_times : (a k : ℕ) → 0 < a * k → 0 < a
-pos_of_times a k h = elim (cases_lt 0 a) [ inl p ↦ p | inr p ↦ absurd (omega (arith, h, ap (λ n. n * k) (le_zero p))) ]
 
 swap_in : (a b k : ℕ) → a * (b * k) ≡ a * k * b
 swap_in a b k = omega arith
@@ -141,7 +138,35 @@ module _ (xs : List Item) (some : 0 < length xs) (positive : All (λ (i : Item).
   divided_means y =
       let at_back : weight_at ys y * g ≡ weight_at xs y = sym (weight_at-times g ys y) ∙ ap (λ zs. weight_at zs y) back in
       let total : 0 < weight_sum xs = weight_sum_pos xs some positive in
-      let part : 0 < weight_sum ys = pos_of_times (weight_sum ys) g (subst (λ n. 0 < n) (sym sum_back) total) in
+      let part : 0 < weight_sum ys = pos_of_mul (weight_sum ys) g (subst (λ n. 0 < n) (sym sum_back) total) in
       ap (λ n. weight_at ys y over n) total_is
       ∙ over_same (weight_at ys y) (weight_sum ys) (weight_at xs y) (weight_sum xs) part total
       (ap (λ n. weight_at ys y * n) (sym sum_back) ∙ swap_in (weight_at ys y) (weight_sum ys) g ∙ ap (λ n. n * weight_sum ys) at_back)
+
+-- one amount alone
+pub one_item : (items : List Item) (item : Item) → items ≡ [] → item.weight ≡ 1 → IsWeighted (items ++ item ∷ []) 1
+unfolding gcd euclid
+one_item items item none weight = rw none (record {
+  some = omega arith;
+  rising = λ k inside. absurd (omega (arith, inside));
+  positive = All-cons (λ (i : Item). 0 < i.weight) item [] (omega (arith, weight)) (All-nil _);
+  sum = omega (arith, weight);
+  within = omega arith;
+  lowest = ap (λ w. gcd 0 w) weight;
+})
+
+-- ---- the greatest amount
+
+greatest_front : (items : List Item) (i : ℕ) (d : Item) → i < length items → greatest (take (suc i) items) ≡ max (get_or items i d).amount (greatest (take i items))
+greatest_front [] i d inside = absurd (omega arith)
+greatest_front (item ∷ items) zero d inside = refl
+greatest_front (item ∷ items) (suc i) d inside = omega (arith, greatest_front items i d (omega arith))
+
+-- the greatest amount so far, and the next
+pub greatest_more : (items : List Item) (i : ℕ) (d : Item) → i < length items → greatest (take (i + 1) items) ≡ max (get_or items i d).amount (greatest (take i items))
+greatest_more items i d inside = ap (λ k. greatest (take k items)) (add-one i) ∙ greatest_front items i d inside
+
+-- an item is at most a bound that all have
+pub greatest_within : (items : List Item) (most : ℕ) → ((i : ℕ) (d : Item) → i < length items → (get_or items i d).amount ≤ most) → greatest items ≤ most
+greatest_within [] most each = omega arith
+greatest_within (item ∷ items) most each = omega (arith, each 0 item (omega arith), greatest_within items most (λ i d h. each (suc i) d (omega arith)))

@@ -1,5 +1,6 @@
 -- Claim counts.
 use Rattle.std.specs.Prelude.{◌≤◌, ⊤, All}
+use Rattle.dl_limits.specs.Limits.{most_claims, most_shape}
 use Rattle.dl_exact.specs.Fraction.{Fraction, whole, ◌over◌, ◌*ℚ◌, ◌≤ℚ◌}
 use Rattle.dl_plan.specs.declared.plan.Freq.{Freq}
 use Rattle.dl_plan.specs.declared.plan.Freq.TheVariants.{Fixed, Table, Bernoulli, Binomial, Poisson, Gamma}
@@ -31,9 +32,9 @@ pub record IsProbability (q : Fraction) : Type 0 where
 
 -- a listed count is made like a severity, with numbers of at most 256; fixed counts and trials are at most 65,536; a shape is from 1 to 10,000
 abbrev pub IsCount : Freq → Type 0
-IsCount (Fixed m) = m ≤ 65536
+IsCount (Fixed m) = m ≤ most_claims
 IsCount (Table counts total) = IsWeighted counts total × All (λ item. item.amount ≤ 256) counts
 IsCount (Bernoulli q) = IsProbability q
-IsCount (Binomial trials q) = (trials ≤ 65536) × IsProbability q
+IsCount (Binomial trials q) = (trials ≤ most_claims) × IsProbability q
 IsCount (Poisson mean) = ⊤
-IsCount (Gamma shape mean) = (1 ≤ shape) × (shape ≤ 10000)
+IsCount (Gamma shape mean) = (1 ≤ shape) × (shape ≤ most_shape)

@@ -1,7 +1,8 @@
 -- Lists of fractions with a common denominator, and fractions of small parts.
 use Rattle.std.specs.Prelude.{ℕ, ◌≡◌, ◌<◌, ◌≤◌, ◌^◌, List, fold}
+use Rattle.dl_limits.specs.Limits.{admitted_bound, most_parts}
 use Rattle.dl_exact.specs.Fraction.{Fraction}
-use Rattle.dl_frac.specs.Multiples.{lcm}
+use Rattle.dl_exact.specs.Multiples.{lcm}
 
 -- the least common multiple of the denominators
 abbrev pub common_denominator : List Fraction → ℕ
@@ -9,12 +10,12 @@ common_denominator xs = fold (λ m x. lcm m x.den) 1 xs
 
 -- it is at most 2^30
 abbrev pub IsFine : List Fraction → Type 0
-IsFine xs = common_denominator xs ≤ 2 ^ 30
+IsFine xs = common_denominator xs ≤ most_parts
 
 -- both parts are below 2^48
 pub record IsAdmitted (x : Fraction) : Type 0 where
-  pub num : x.num < 2 ^ 48
-  pub den : x.den < 2 ^ 48
+  pub num : x.num < admitted_bound
+  pub den : x.den < admitted_bound
 
 -- x is a whole number
 abbrev pub IsWhole : Fraction → Type 0

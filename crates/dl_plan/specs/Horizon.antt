@@ -1,8 +1,11 @@
 -- How far the map of a reinsurance clause goes before it has reached a grid, or stays as it is.
-use Rattle.std.specs.Prelude.{ℕ, ◌≡◌, ◌+◌, ◌<◌, ◌≤◌, ◌⊎◌, max, Option, Some, None, List, fold}
+use Rattle.std.specs.Prelude.{ℕ, ◌≡◌, ◌+◌, ◌<◌, ◌≤◌, ◌⊎◌, ◌-◌, ◌*◌, ◌==◌, if◌then◌else◌, max, Option, Some, None, List, fold}
+use Rattle.std.specs.Int.{div_ceil}
+use Rattle.dl_limits.specs.Limits.{most_cells}
 use Rattle.dl_exact.specs.Fraction.{whole, ◌≤ℚ◌}
 use Rattle.dl_plan.specs.declared.cede.CedeLayer.{CedeLayer}
 use Rattle.dl_plan.specs.Cession.{Clause, kept}
+use Rattle.dl_plan.specs.Parts.{kept_parts, parts_in_bucket}
 
 -- where a layer from a ends; where it has no top, where it begins
 abbrev pub edge_of : Option ℕ → ℕ → ℕ
@@ -34,6 +37,21 @@ abbrev pub IsHorizonOf : Option Clause → ℕ → ℕ → Type 0
 IsHorizonOf None h k = k ≡ h
 IsHorizonOf (Some clause) h k = IsHorizon clause h k
 
+-- after how many buckets a map that lacks so many parts has them, where it rises by the same in each: 0
+-- where it does not rise
+abbrev pub buckets_behind : (missing rise : ℕ) → ℕ
+buckets_behind missing rise = if rise == 0 then 0 else div_ceil missing rise
+
+-- That horizon as a number. Past the last edge what a clause keeps rises by the same in each bucket, so one
+-- division tells from there when it has reached h.
+unfoldable pub horizon : Option Clause → ℕ → ℕ
+horizon None h = h
+horizon (Some clause) h =
+    let common : ℕ = parts_in_bucket clause in
+    let last : ℕ = last_edge clause.1 in
+    let there : ℕ = kept_parts clause common last in
+    last + buckets_behind (h * common - there) (kept_parts clause common (last + 1) - there)
+
 -- the horizon passes 16,384
 abbrev pub HorizonPasses : Option Clause → ℕ → Type 0
-HorizonPasses clause h = (k : ℕ) × IsHorizonOf clause h k × (16384 < k)
+HorizonPasses clause h = (k : ℕ) × IsHorizonOf clause h k × (most_cells < k)

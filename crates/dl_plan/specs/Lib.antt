@@ -6,4 +6,6 @@ pub mod Horizon
 pub mod Parts
 pub mod Count
 pub mod Valid
+pub mod Facts
 pub mod Ranges
+pub mod MeanWidth

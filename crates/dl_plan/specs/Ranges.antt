@@ -1,9 +1,10 @@
 -- The ranges of the settings, as the command line gives them.
-use Rattle.std.specs.Prelude.{ℕ, ◌^◌, ◌<◌, ◌≤◌, ⊤, length, All}
+use Rattle.std.specs.Prelude.{ℕ, ◌^◌, ◌<◌, ◌≤◌, IfSome, length, All}
+use Rattle.dl_limits.specs.Limits.{most_log2}
 use Rattle.dl_exact.specs.Fraction.{Fraction, whole, ◌<ℚ◌}
 use Rattle.dl_plan.specs.declared.settings.Ask.{Ask}
-use Rattle.dl_plan.specs.declared.settings.Ask.TheVariants.{Pmf, Cdf, Mean, Quantile, LayerMean, Tail, Joint, Kappa}
 use Rattle.dl_plan.specs.declared.settings.Settings.{Settings}
+use Rattle.dl_plan.specs.Facts.{facts_of}
 
 -- a bucket size above 0, as a numeral of at most 11 digits gives it
 pub record IsBucket (bs : Fraction) : Type 0 where
@@ -19,20 +20,13 @@ pub record IsLevel (p : Fraction) : Type 0 where
 
 -- the probability of the ask, if it has one, is such
 abbrev pub HasLevel : Ask → Type 0
-HasLevel (Pmf x) = ⊤
-HasLevel (Cdf x) = ⊤
-HasLevel Mean = ⊤
-HasLevel (Quantile p) = IsLevel p
-HasLevel (LayerMean limit attach) = ⊤
-HasLevel (Tail p) = IsLevel p
-HasLevel (Joint unit at) = ⊤
-HasLevel (Kappa unit at) = ⊤
+HasLevel ask = IfSome (facts_of ask).level IsLevel
 
 -- a bucket size; from 2 to 4,096 cells; from 1 to 9 digits; widths of at least 1; and at most 256 asks
 pub record AreInRange (settings : Settings) : Type 0 where
   pub bucket : IsBucket settings.bs
   pub some_cells : 1 ≤ settings.log2
-  pub few_cells : settings.log2 ≤ 12
+  pub few_cells : settings.log2 ≤ most_log2
   pub some_digits : 1 ≤ settings.digits
   pub few_digits : settings.digits ≤ 9
   pub width : 1 ≤ settings.width

@@ -1,5 +1,6 @@
 -- What a valid plan is.
 use Rattle.std.specs.Prelude.{ℕ, ◌≡◌, ◌≢◌, ◌*◌, ◌≤◌, ◌^◌, IfSome, length, All, AllPairs}
+use Rattle.dl_limits.specs.Limits.{most_amount, most_cells, most_expected, most_items, most_log2}
 use Rattle.dl_exact.specs.Fraction.{Fraction, whole, ◌-ℚ◌, ◌*ℚ◌, ◌≤ℚ◌, ◌<ℚ◌}
 use Rattle.dl_plan.specs.declared.cede.CedeLayer.{CedeLayer}
 use Rattle.dl_plan.specs.declared.severity.Sev.{Sev}
@@ -18,29 +19,29 @@ thinned_mean u = expected_count u.freq *ℚ (whole 1 -ℚ probability_of u.sev 0
 
 -- limit and attachment are at most 2^20 buckets
 pub record IsNear (l : CedeLayer) : Type 0 where
-  pub limit : IfSome l.limit (λ limit. limit ≤ 2 ^ 20)
-  pub attach : l.attach ≤ 2 ^ 20
+  pub limit : IfSome l.limit (λ limit. limit ≤ most_amount)
+  pub attach : l.attach ≤ most_amount
 
 -- an aggregate clause over sums of this severity: it maps each multiple of the greatest common divisor of the amounts to a whole number, and its horizon is at most 16,384
 pub record IsAggregate (cells : ℕ) (sev : Sev) (clause : Clause) : Type 0 where
   pub cession : IsCession clause
   pub near : All IsNear clause.1
   pub whole : (n : ℕ) → IsWhole (kept clause (n * common_amount sev.items))
-  pub horizon : (k : ℕ) × IsHorizon clause cells k × (k ≤ 16384)
+  pub horizon : (k : ℕ) × IsHorizon clause cells k × (k ≤ most_cells)
 
 -- a unit of a valid plan
 pub record IsValidUnit (cells : ℕ) (u : UnitOfPlan) : Type 0 where
-  pub amounts : All (λ item. item.amount ≤ 2 ^ 20) u.sev.items
-  pub items : ¬ IsUnbounded u.freq → length u.sev.items ≤ 65536
+  pub amounts : All (λ item. item.amount ≤ most_amount) u.sev.items
+  pub items : ¬ IsUnbounded u.freq → length u.sev.items ≤ most_items
   pub count : IsCount u.freq
   pub expected : IsAdmitted (expected_count u.freq)
-  pub thinned : IsUnbounded u.freq → IsAdmitted (thinned_mean u) × (thinned_mean u ≤ℚ whole 4096)
+  pub thinned : IsUnbounded u.freq → IsAdmitted (thinned_mean u) × (thinned_mean u ≤ℚ whole most_expected)
   pub clause : IfSome u.cede (IsAggregate cells u.sev)
 
 -- a bucket size above 0, a power of two from 2 to 4,096 cells, and 1 to 16 valid units with different names
 pub record IsValid (plan : Plan) : Type 0 where
   pub bucket : whole 0 <ℚ plan.bs
-  pub cells : (k : ℕ) × (1 ≤ k) × (k ≤ 12) × (plan.cells ≡ 2 ^ k)
+  pub cells : (k : ℕ) × (1 ≤ k) × (k ≤ most_log2) × (plan.cells ≡ 2 ^ k)
   pub some : 1 ≤ length plan.units
   pub few : length plan.units ≤ 16
   pub names : AllPairs (λ u v. u.name ≢ v.name) plan.units

@@ -1,6 +1,7 @@
 -- Amounts in buckets, or numbers of claims, with whole weights.
-use Rattle.std.specs.Prelude.{ℕ, ◌≡◌, ◌*◌, ◌/◌, ◌<◌, ◌≤◌, ◌^◌, ◌==◌, if◌then◌else◌, List, length, map, fold, sum_by, All}
+use Rattle.std.specs.Prelude.{ℕ, ◌≡◌, ◌*◌, ◌/◌, ◌<◌, ◌≤◌, ◌^◌, ◌==◌, if◌then◌else◌, List, length, map, fold, sum_by, All, [], ◌∷◌, max}
 use Rattle.std.specs.List.Sorted.{IsStrictlyIncreasing}
+use Rattle.dl_limits.specs.Limits.{most_parts}
 use Rattle.dl_exact.specs.Gcd.{gcd}
 use Rattle.dl_plan.specs.declared.item.Item.{Item}
 
@@ -36,5 +37,10 @@ pub record IsWeighted (items : List Item) (total : ℕ) : Type 0 where
   pub rising : IsStrictlyIncreasing (amounts_of items)
   pub positive : All (λ item. 0 < item.weight) items
   pub sum : weight_sum items ≡ total
-  pub within : total ≤ 2 ^ 30
+  pub within : total ≤ most_parts
   pub lowest : common_weight items ≡ 1
+
+-- the greatest amount, 0 of none
+abbrev pub greatest : List Item → ℕ
+greatest [] = 0
+greatest (item ∷ items) = max item.amount (greatest items)

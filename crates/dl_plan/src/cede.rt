@@ -1,11 +1,12 @@
 //! Reinsurance clauses: a side, and layers with shares.
 
 ghost use Rattle.std.specs.Prelude.{◌≡◌, ◌<◌, ◌≤◌, ◌^◌, ◌*◌, ◌↔◌, IsTrue, Bool, List, None, All, AllPairs, length, sum_by, IfOk, OnOk, IfSome, MatchOption};
+ghost use Rattle.dl_limits.specs.Limits.{most_parts, sum_bound};
 ghost use Rattle.dl_exact.specs.Fraction.{whole, ◌≤ℚ◌};
 ghost use Rattle.dl_plan.specs.declared.cede.CedeLayer.{CedeLayer};
 ghost use Rattle.dl_plan.specs.Fine.{IsFine, IsWhole, common_denominator};
 ghost use Rattle.dl_plan.specs.Cession.{layer, kept, layer_shares, IsBelowTop, Overlap, IsCession};
-ghost use Rattle.dl_plan.specs.Horizon.{edge, last_edge, IsHorizon};
+ghost use Rattle.dl_plan.specs.Horizon.{edge, edge_of, last_edge, IsHorizon};
 ghost use Rattle.dl_plan.specs.Parts.{part_of, kept_parts, parts_in_bucket};
 
 use crate::cession::{are_apart, shares_within};
@@ -41,16 +42,32 @@ impl Default for CedeLayer {
     }
 }
 
+/// What of `x` lies above an attachment and within a limit.
+pub fn in_layer(x: u64, limit: Option<u32>, attach: u32) -> u64
+    ensures { result ≡ layer limit attach x }
+{
+    let above = x.saturating_sub(attach as u64);
+    match limit {
+        Some(limit) => above.min(limit as u64),
+        None => above,
+    }
+}
+
+/// Where what lies above an attachment and within a limit ends, in buckets; without a limit, where it
+/// begins.
+pub(crate) fn end_of(limit: Option<u32>, attach: u32) -> u64
+    ensures value { result ≡ edge_of limit attach }
+    ensures small { result < 2 ^ 33 }
+{
+    attach as u64 + limit.unwrap_or(0) as u64
+}
+
 impl CedeLayer {
     /// What of `x` lies above the attachment and within the limit.
     fn taken(&self, x: u64) -> u64
         ensures { result ≡ layer self.now.limit self.now.attach x }
     {
-        let above = x.saturating_sub(self.attach as u64);
-        match self.limit {
-            Some(limit) => above.min(limit as u64),
-            None => above,
-        }
+        in_layer(x, self.limit, self.attach)
     }
 
     /// Whether `x` lies below the top of the layer, where it has one.
@@ -76,7 +93,7 @@ impl CedeLayer {
         ensures value { result ≡ edge self.now }
         ensures small { result < 2 ^ 33 }
     {
-        self.attach as u64 + self.limit.unwrap_or(0) as u64
+        end_of(self.limit, self.attach)
     }
 }
 
@@ -155,7 +172,7 @@ impl Cede {
 
     /// What the clause keeps of an amount of `x` buckets; `None` exactly where that is not whole.
     pub fn at(&self, x: u64) -> Option<u64>
-        requires amount { x < 2 ^ 40 }
+        requires amount { x < sum_bound }
         requires cession { IsCession self.now }
         ensures value { MatchOption result (¬ IsWhole (kept self.now x)) (λ y. kept self.now x ≡ whole y) }
         ensures within { IfSome result (λ y. y ≤ x) }
@@ -192,14 +209,14 @@ impl Cede {
         requires { IsCession self.now }
         ensures value { result ≡ parts_in_bucket self.now }
         ensures positive { 0 < result }
-        ensures small { result ≤ 2 ^ 30 }
+        ensures small { result ≤ most_parts }
     {
         self.common.unwrap()
     }
 
     /// What the clause keeps of an amount of `x` buckets, in parts.
     fn parts(&self, x: u64) -> u128
-        requires amount { x < 2 ^ 40 }
+        requires amount { x < sum_bound }
         requires cession { IsCession self.now }
         ensures value { result ≡ kept_parts self.now (parts_in_bucket self.now) x }
         ensures within { result ≤ x * parts_in_bucket self.now }
@@ -242,10 +259,10 @@ fn shares_of(alloc: Global, layers: &[CedeLayer]) -> Result<Vec<Frac>, AllocErro
 fn ceded_parts(layers: &[CedeLayer], common: u32, x: u64) -> u128
     requires few { length layers.now ≤ 16 }
     requires within { All (λ l. l.share ≤ℚ whole 1) layers.now }
-    requires fine { common ≤ 2 ^ 30 }
-    requires amount { x < 2 ^ 40 }
+    requires fine { common ≤ most_parts }
+    requires amount { x < sum_bound }
     ensures value { result ≡ sum_by (part_of common x) layers.now }
-    ensures small { result ≤ length layers.now * (common * 2 ^ 40) }
+    ensures small { result ≤ length layers.now * (common * sum_bound) }
 {
     let mut parts = 0;
     'layers: for layer in layers {

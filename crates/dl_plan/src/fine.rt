@@ -4,6 +4,7 @@ ghost use Rattle.std.specs.Option.{SomeIff};
 ghost use Rattle.dl_plan.specs.Fine.{IsFine, common_denominator};
 
 use dl_frac::{Frac, lcm_to};
+use dl_limits::MOST_PARTS;
 
 /// The common denominator of the fractions; `None` exactly where it passes 2^30. Takes no memory.
 pub fn common_denominator_of(fracs: &[Frac]) -> Option<u32>
@@ -11,7 +12,7 @@ pub fn common_denominator_of(fracs: &[Frac]) -> Option<u32>
 {
     let mut common = 1;
     'fracs: for frac in fracs {
-        match lcm_to(common, frac.den(), 1 << 30) {
+        match lcm_to(common, frac.den(), MOST_PARTS) {
             Some(multiple) => common = multiple,
             None => return None,
         }

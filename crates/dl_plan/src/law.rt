@@ -1,10 +1,11 @@
 //! What follows from the definitions alone. Nothing here runs.
 
 ghost use Rattle.std.specs.Prelude.{ℕ, ◌≡◌, ◌≤◌, ◌^◌, ◌↔◌, Option, List, All, IfSome};
+ghost use Rattle.dl_limits.specs.Limits.{most_amount};
 ghost use Rattle.dl_plan.specs.declared.plan.Plan.{Plan};
 ghost use Rattle.dl_plan.specs.Fine.{IsAdmitted};
 ghost use Rattle.dl_plan.specs.Cession.{Clause, IsCession};
-ghost use Rattle.dl_plan.specs.Horizon.{edge, IsSettled, IsHorizon, IsHorizonOf};
+ghost use Rattle.dl_plan.specs.Horizon.{edge, IsSettled, IsHorizon, IsHorizonOf, horizon};
 ghost use Rattle.dl_plan.specs.Count.{expected_count, IsCount, IsUnbounded};
 ghost use Rattle.dl_plan.specs.Valid.{thinned_mean, IsValid};
 ghost use Rattle.dl_frac.specs.Numerals as read;
@@ -15,10 +16,12 @@ pub fn law_numerals()
     ensures { (text : List ℕ) → read.IsNumeral text ↔ token.IsNumeral text }
 {}
 
-/// There is one horizon. It is at least 1 and at least each edge, and there what a clause keeps has
-/// reached the cells, or is constant from there on.
+/// There is one horizon, and `horizon` tells it of every clause that is accepted. It is at least 1 and
+/// at least each edge, and there what a clause keeps has reached the cells, or is constant from there on.
 pub fn law_horizon()
     ensures one { (clause : Option Clause) (cells j k : ℕ) → IsHorizonOf clause cells j → IsHorizonOf clause cells k → j ≡ k }
+    ensures told { (clause : Option Clause) (cells : ℕ) → IfSome clause IsCession
+        → IsHorizonOf clause cells (horizon clause cells) }
     ensures from_one { (clause : Clause) (cells k : ℕ) → IsHorizon clause cells k → 1 ≤ k }
     ensures edges { (clause : Clause) (cells k : ℕ) → IsHorizon clause cells k → All (λ l. edge l ≤ k) clause.1 }
     ensures settled { (clause : Clause) (cells k : ℕ) → IsCession clause → IsHorizon clause cells k → IsSettled clause cells k }
@@ -28,7 +31,7 @@ pub fn law_horizon()
 /// `Unit::thinned` (of Poisson and gamma counts), `Unit::mean_parts` and `Unit::horizon` require holds.
 pub fn law_valid_units()
     ensures counts { (plan : Plan) → IsValid plan → All (λ u. IsCount u.freq × IsAdmitted (expected_count u.freq)) plan.units }
-    ensures amounts { (plan : Plan) → IsValid plan → All (λ u. All (λ item. item.amount ≤ 2 ^ 20) u.sev.items) plan.units }
+    ensures amounts { (plan : Plan) → IsValid plan → All (λ u. All (λ item. item.amount ≤ most_amount) u.sev.items) plan.units }
     ensures thinned { (plan : Plan) → IsValid plan → All (λ u. IsUnbounded u.freq → IsAdmitted (thinned_mean u)) plan.units }
     ensures clauses { (plan : Plan) → IsValid plan → All (λ u. IfSome u.cede IsCession) plan.units }
 {}

@@ -2,6 +2,7 @@
 //! aggregate clause; the settings of a run, and what it asks.
 #![tactic(auto)]
 
+mod asks;
 mod cede;
 mod cession;
 mod fine;
@@ -17,7 +18,7 @@ mod tests;
 mod totals;
 mod unit;
 
-pub use cede::{Cede, CedeLayer};
+pub use cede::{Cede, CedeLayer, in_layer};
 pub use fine::common_denominator_of;
 pub use item::Item;
 pub use law::{law_horizon, law_numerals, law_valid_units};
@@ -25,4 +26,4 @@ pub use many::Many;
 pub use plan::{Freq, Plan, Unit};
 pub use settings::{Ask, Asked, Form, Format, Settings};
 pub use severity::Sev;
-pub use totals::weighted_sum;
+pub use totals::{greatest_amount, weighted_sum};

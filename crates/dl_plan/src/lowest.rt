@@ -2,7 +2,7 @@
 
 ghost use Rattle.std.specs.Prelude.{◌≡◌, ◌/◌, ◌<◌, ◌≤◌, ◌^◌, ℕ, nat_lt, List, filter, length, map, All, IfOk, MatchOption};
 ghost use Rattle.std.specs.List.Sorted.{IsStrictlyIncreasing};
-ghost use Rattle.dl_exact.specs.Gcd.{gcd};
+ghost use Rattle.dl_limits.specs.Limits.{most_parts};
 ghost use Rattle.dl_exact.specs.Fraction.{◌over◌};
 ghost use Rattle.dl_plan.specs.Weighted.{amounts_of, weight_sum, weight_at, common_weight, divided_by};
 ghost use Rattle.dl_plan.specs.Severity.{probability_of, pairs_of, conditioned, Means};
@@ -11,6 +11,7 @@ use crate::item::Item;
 use crate::many::Many;
 use crate::severity::Sev;
 use crate::totals::total_weight;
+use dl_frac::small_divisor;
 use std::alloc::{AllocError, Global};
 
 impl Sev {
@@ -20,7 +21,7 @@ impl Sev {
         requires some { 0 < length items.items }
         requires rising { IsStrictlyIncreasing (amounts_of items.items) }
         requires positive { All (λ item. 0 < item.weight) items.items }
-        requires within { weight_sum items.items ≤ 2 ^ 30 }
+        requires within { weight_sum items.items ≤ most_parts }
         ensures { (x : ℕ) → probability_of result x ≡ weight_at items.items x over weight_sum items.items }
     {
         let common = divisor_of_weights(&items);
@@ -69,7 +70,7 @@ fn divisor_of_weights(items: &[Item]) -> u32
 {
     let mut common = 0;
     'items: for item in items {
-        common = divisor(common, item.weight);
+        common = small_divisor(common, item.weight);
     }
     common
 }
@@ -83,18 +84,4 @@ fn divided(mut items: Vec<Item>, common: u32) -> Vec<Item>
         item.weight /= common;
     }
     items
-}
-
-/// The greatest common divisor, by Euclid's steps.
-fn divisor(a: u32, b: u32) -> u32
-    ensures { result ≡ gcd a b }
-{
-    let mut x = a;
-    let mut y = b;
-    'steps: while y != 0 {
-        let rest = x % y;
-        x = y;
-        y = rest;
-    }
-    x
 }

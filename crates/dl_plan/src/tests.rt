@@ -1,6 +1,6 @@
 //! Values worked by hand, in exact fractions.
 
-use crate::{Cede, CedeLayer, Freq, Item, Sev, Unit};
+use crate::{Cede, CedeLayer, Freq, Item, Sev, Unit, greatest_amount, in_layer};
 use dl_frac::Frac;
 use dl_lexer::Text;
 use std::alloc::{AllocError, Global};
@@ -71,6 +71,33 @@ fn horizon_of(unit: &Unit, cells: u32) -> Option<u32> {
         }
     }
     unit.horizon(cells)
+}
+
+#[test]
+fn one_layer(rt: HostRuntime) {
+    // below it, at its start, inside, at its top, above it; no limit
+    let table = [
+        (3, Some(3), 4, 0),
+        (4, Some(3), 4, 0),
+        (5, Some(3), 4, 1),
+        (7, Some(3), 4, 3),
+        (8, Some(3), 4, 3),
+        (10, None, 4, 6),
+        (1 << 40, None, u32::MAX, 1_095_216_660_481),
+    ];
+    for (x, limit, attach, wanted) in table {
+        assert_eq!(rt; in_layer(x, limit, attach), wanted);
+    }
+}
+
+fn of(amount: u32) -> Item {
+    Item { amount, weight: 1 }
+}
+
+#[test]
+fn greatest_of_items(rt: HostRuntime) {
+    assert_eq!(rt; greatest_amount(&[]), 0);
+    assert_eq!(rt; greatest_amount(&[of(3), of(7), of(5)]), 7);
 }
 
 #[test]

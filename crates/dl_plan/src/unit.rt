@@ -2,6 +2,7 @@
 
 ghost use Rattle.std.specs.Prelude.{◌≡◌, ◌<◌, ◌≤◌, ◌^◌, All, length, IfSome, MatchOption};
 ghost use Rattle.std.specs.List.Sorted.{IsStrictlyIncreasing};
+ghost use Rattle.dl_limits.specs.Limits.{most_amount, most_cells};
 ghost use Rattle.dl_exact.specs.Fraction.{◌over◌, ◌*ℚ◌};
 ghost use Rattle.dl_plan.specs.Fine.{IsAdmitted};
 ghost use Rattle.dl_plan.specs.Weighted.{amounts_of, weight_at};
@@ -15,6 +16,7 @@ use crate::item::Item;
 use crate::plan::{Freq, Unit};
 use crate::totals::weighted_sum;
 use dl_frac::Frac;
+use dl_limits::MOST_CELLS;
 
 impl Freq {
     /// The expected number of claims, of a count of a valid plan.
@@ -60,7 +62,7 @@ impl Unit {
     pub fn mean_parts(&self) -> (u128, u128)
         requires count { IsCount self.now.freq }
         requires expected { IsAdmitted (expected_count self.now.freq) }
-        requires near { All (λ item. item.amount ≤ 2 ^ 20) self.now.sev.items }
+        requires near { All (λ item. item.amount ≤ most_amount) self.now.sev.items }
         ensures value { result.0 over result.1 ≡ expected_count self.now.freq *ℚ mean_amount (pairs_of self.now.sev) }
         ensures num { result.0 < 2 ^ 100 }
         ensures den { result.1 < 2 ^ 80 }
@@ -79,13 +81,13 @@ impl Unit {
     /// cells, or is constant from there on. `None` exactly where it passes 16,384. Takes no memory.
     pub fn horizon(&self, cells: u32) -> Option<u32>
         requires { IfSome self.now.cede IsCession }
-        ensures { MatchOption result (HorizonPasses self.now.cede cells) (λ k. IsHorizonOf self.now.cede cells k × (k ≤ 16384)) }
+        ensures { MatchOption result (HorizonPasses self.now.cede cells) (λ k. IsHorizonOf self.now.cede cells k × (k ≤ most_cells)) }
     {
         let horizon = match &self.cede {
             Some(cede) => cede.horizon(cells),
             None => cells as u128,
         };
-        if horizon <= 16_384 {
+        if horizon <= u128::from(MOST_CELLS) {
             Some(horizon as u32)
         } else {
             None

@@ -14,15 +14,16 @@ use Rattle.dl_plan.specs.Cession.{Clause, kept, IsCession}
 use Rattle.dl_plan.specs.Horizon.{edge}
 use Rattle.dl_plan.specs.Parts.{kept_parts, parts_in_bucket}
 use Rattle.dl_plan.proofs.Cessions.{kept_whole, kept_only}
-use Rattle.dl_plan.proofs.Fits.{whole_den}
+use Rattle.dl_exact.proofs.Parts.{whole_den}
 use Rattle.dl_plan.proofs.Apart.{kept_none}
 use Rattle.dl_plan.proofs.Straight.{IsOutside, IsClear, kept_straight}
 use Rattle.dl_sev.specs.Fits.{FitsStep, FitsAfter, FitsLayer}
 
-twice_of : (q c : ℕ) → q % c ≡ 0 → (2 * q) % c ≡ 0
-twice_of q c h = mod-eq-zero_of_dvd c (subst (λ n. c ∣ n) (omega arith) (dvd-add c (dvd_of_mod-eq-zero c h) (dvd_of_mod-eq-zero c h)))
+pub twice_of : (q c : ℕ) → q % c ≡ 0 → (2 * q) % c ≡ 0
+twice_of q c h = mod-eq-zero_of_dvd c (subst (λ n. c ∣ n) (omega arith)
+    (dvd-add c (dvd_of_mod-eq-zero c h) (dvd_of_mod-eq-zero c h)))
 
-third : (c p q r : ℕ) → p + r ≡ 2 * q → p % c ≡ 0 → q % c ≡ 0 → r % c ≡ 0
+pub third : (c p q r : ℕ) → p + r ≡ 2 * q → p % c ≡ 0 → q % c ≡ 0 → r % c ≡ 0
 third c p q r mean first second =
     let twice : (2 * q) % c ≡ 0 = twice_of q c second in
     let same : 2 * q - p ≡ r = omega (arith, mean) in
@@ -30,16 +31,20 @@ third c p q r mean first second =
 
 module _ (clause : Clause) (step : ℕ) where
   -- on a straight line two values decide the third
-  on_line : IsCession clause → (x : ℕ) → All (IsClear x (x + 2 * step)) clause.1 → IsWhole (kept clause x) → IsWhole (kept clause (x + step)) → IsWhole (kept clause (x + 2 * step))
+  pub on_line : IsCession clause → (x : ℕ) → All (IsClear x (x + 2 * step)) clause.1 → IsWhole (kept clause x)
+      → IsWhole (kept clause (x + step)) → IsWhole (kept clause (x + 2 * step))
   on_line cession x clear first second =
       let c = parts_in_bucket clause in
       let parts : ℕ → ℕ = λ y. kept_parts clause c y in
-      let rest = third c (parts x) (parts (x + step)) (parts (x + 2 * step)) (kept_straight clause c x step cession clear)
-      (kept_only clause x c (parts x) refl refl first) (kept_only clause (x + step) c (parts (x + step)) refl refl second) in
+      let rest = third c (parts x) (parts (x + step)) (parts (x + 2 * step))
+      (kept_straight clause c x step cession clear)
+      (kept_only clause x c (parts x) refl refl first)
+      (kept_only clause (x + step) c (parts (x + step)) refl refl second) in
       ap (λ y. y.den) (kept_whole clause (x + 2 * step) c (parts (x + 2 * step)) refl refl rest) ∙ whole_den _
 
   -- an end between two multiples, one step apart from the third, is one past which the third was tried
-  tried : 0 < step → (place m : ℕ) → FitsAfter clause step place → IsWhole (kept clause (m * step + 2 * step)) ⊎ IsOutside (m * step) (m * step + 2 * step) place
+  tried : 0 < step → (place m : ℕ) → FitsAfter clause step place
+      → IsWhole (kept clause (m * step + 2 * step)) ⊎ IsOutside (m * step) (m * step + 2 * step) place
   tried pos place m after = elim (cases_lt (m * step) place) [
     | inr low ↦ inr (inl low)
     | inl above ↦ elim (cases_lt place (m * step + 2 * step)) [
@@ -48,7 +53,8 @@ module _ (clause : Clause) (step : ℕ) where
     ]
   ]
     where
-      between : (first : ℕ) → (place ≤ first * step) × (first * step < place + step) → IsWhole (kept clause (first * step)) × IsWhole (kept clause (first * step + step))
+      between : (first : ℕ) → (place ≤ first * step) × (first * step < place + step)
+          → IsWhole (kept clause (first * step)) × IsWhole (kept clause (first * step + step))
           → m * step < place → place < m * step + 2 * step → IsWhole (kept clause (m * step + 2 * step))
       between first near after above below =
           let more : m < first = lt_of_mul-lt-mul_right step (omega (arith, near.0, above)) in
@@ -73,7 +79,8 @@ module _ (clause : Clause) (step : ℕ) where
           | inl there ↦ inl there
           | inr top ↦ elim (all_tried pos m ls (All-tail (FitsLayer clause step) l ls after)) [
             | inl there ↦ inl there
-            | inr clear ↦ inr (All-cons (IsClear (m * step) (m * step + 2 * step)) l ls (record { attach = attach; edge = top }) clear)
+            | inr clear ↦ inr (All-cons (IsClear (m * step) (m * step + 2 * step)) l ls
+                (record { attach = attach; edge = top }) clear)
           ]
         ]
       ]
@@ -84,9 +91,13 @@ module _ (clause : Clause) (step : ℕ) where
       let rest : kept_parts clause c 0 % c ≡ 0 = rw (kept_none clause c) (omega arith) in
       ap (λ y. y.den) (kept_whole clause 0 c (kept_parts clause c 0) refl refl rest) ∙ whole_den _
 
-  two_fit : IsCession clause → 0 < step → IsWhole (kept clause step) → All (FitsLayer clause step) clause.1 → (n : ℕ) → IsWhole (kept clause (n * step)) × IsWhole (kept clause (n * step + step))
-  two_fit cession pos one after zero =
-      (subst (λ x. IsWhole (kept clause x)) (omega arith) none_whole, subst (λ x. IsWhole (kept clause x)) (omega arith) one)
+  two_fit : IsCession clause → 0 < step → IsWhole (kept clause step) → All (FitsLayer clause step) clause.1 → (n : ℕ)
+      → IsWhole (kept clause (n * step)) × IsWhole (kept clause (n * step + step))
+  two_fit cession pos one after zero = (
+    subst (λ x. IsWhole (kept clause x)) (omega arith) none_whole,
+    subst (λ x. IsWhole (kept clause x))
+        (omega arith) one,
+  )
   two_fit cession pos one after (suc n) =
       let before = two_fit cession pos one after n in
       let next : n * step + step ≡ suc n * step = omega arith in
@@ -96,11 +107,13 @@ module _ (clause : Clause) (step : ℕ) where
       )
     where
       last : IsWhole (kept clause (n * step + 2 * step)) ⊎ All (IsClear (n * step) (n * step + 2 * step)) clause.1
-          → IsWhole (kept clause (n * step)) × IsWhole (kept clause (n * step + step)) → IsWhole (kept clause (n * step + 2 * step))
+          → IsWhole (kept clause (n * step)) × IsWhole (kept clause (n * step + step))
+          → IsWhole (kept clause (n * step + 2 * step))
       last (inl there) before = there
       last (inr clear) before = on_line cession (n * step) clear before.0 before.1
 
-  pub fits_all : IsCession clause → 0 < step → IsWhole (kept clause step) → All (FitsLayer clause step) clause.1 → FitsStep clause step
+  pub fits_all : IsCession clause → 0 < step → IsWhole (kept clause step) → All (FitsLayer clause step) clause.1
+      → FitsStep clause step
   fits_all cession pos one after = λ n. (two_fit cession pos one after n).0
 
   pub fits_none : step ≡ 0 → FitsStep clause step
@@ -115,7 +128,8 @@ module _ (clause : Clause) (step : ℕ) where
 
   pub fits_ends : FitsStep clause step → (ls : List CedeLayer) → All (FitsLayer clause step) ls
   fits_ends fits [] = All-nil (FitsLayer clause step)
-  fits_ends fits (l ∷ ls) = All-cons (FitsLayer clause step) l ls (fits_place fits l.attach, fits_place fits (edge l)) (fits_ends fits ls)
+  fits_ends fits (l ∷ ls) =
+      All-cons (FitsLayer clause step) l ls (fits_place fits l.attach, fits_place fits (edge l)) (fits_ends fits ls)
 
   pub fits_one : FitsStep clause step → IsWhole (kept clause step)
   fits_one fits = subst (λ x. IsWhole (kept clause x)) (omega arith) (fits 1)

@@ -12,19 +12,23 @@ use Rattle.dl_plan.proofs.Weights.{weight_sum_pos}
 use Rattle.dl_plan.proofs.Shares.{probability-shares}
 use Rattle.dl_sev.specs.declared.weights.Weights.{Weights}
 use Rattle.dl_sev.specs.Steps.{weighed, items_of, with_amounts, with_amount}
+use Rattle.dl_plan.proofs.Means.{severity_total}
 
 pub weight_sum-mapped : (f : ℕ → ℕ) (xs : List Item) → weight_sum (map (with_amount f) xs) ≡ weight_sum xs
 weight_sum-mapped f [] = refl
 weight_sum-mapped f (x ∷ xs) =
-    sum_by-cons (λ (i : Item). i.weight) (with_amount f x) (map (with_amount f) xs) ∙ ap (λ n. x.weight + n) (weight_sum-mapped f xs) ∙ sym (sum_by-cons (λ (i : Item). i.weight) x xs)
+    sum_by-cons (λ (i : Item). i.weight) (with_amount f x) (map (with_amount f) xs)
+    ∙ ap (λ n. x.weight + n) (weight_sum-mapped f xs) ∙ sym (sum_by-cons (λ (i : Item). i.weight) x xs)
 
 shares-mapped : (f : ℕ → ℕ) (xs : List Item) (t : ℕ) → with_amounts f (shares xs t) ≡ shares (map (with_amount f) xs) t
 shares-mapped f [] t = refl
 shares-mapped f (x ∷ xs) t = ap (λ ps. (f x.amount, x.weight over t) ∷ ps) (shares-mapped f xs t)
 
 -- the probabilities of mapped amounts
-pub probability-mapped : (f : ℕ → ℕ) (xs : List Item) (t y : ℕ) → 0 < t → probability (with_amounts f (shares xs t)) y ≡ weight_at (map (with_amount f) xs) y over t
-probability-mapped f xs t y h = ap (λ ps. probability ps y) (shares-mapped f xs t) ∙ probability-shares (map (with_amount f) xs) t y h
+pub probability-mapped : (f : ℕ → ℕ) (xs : List Item) (t y : ℕ) → 0 < t
+    → probability (with_amounts f (shares xs t)) y ≡ weight_at (map (with_amount f) xs) y over t
+probability-mapped f xs t y h =
+    ap (λ ps. probability ps y) (shares-mapped f xs t) ∙ probability-shares (map (with_amount f) xs) t y h
 
 -- ---- amounts and weights, item by item
 
@@ -37,36 +41,43 @@ weight_sum-items (x ∷ xs) (w ∷ ws) e =
     ∙ ap (λ n. w + n) (weight_sum-items xs ws (omega (arith, e)))
     ∙ sym (sum_by-cons (λ n. n) w ws)
 
-weighed-shares : (xs : List ℕ) (weights : Weights) → weighed xs weights ≡ shares (items_of xs weights.weights) weights.total
-weighed-shares xs weights = sym (map-map (λ (i : Item). (i.amount, i.weight over weights.total)) (λ pair. record { amount = pair.0; weight = pair.1 }) (zip xs weights.weights))
+weighed-shares : (xs : List ℕ) (weights : Weights)
+    → weighed xs weights ≡ shares (items_of xs weights.weights) weights.total
+weighed-shares xs weights = sym (map-map (λ (i : Item). (i.amount, i.weight over weights.total))
+    (λ pair. record { amount = pair.0; weight = pair.1 }) (zip xs weights.weights))
 
-pub probability-weighed : (xs : List ℕ) (weights : Weights) (y : ℕ) → 0 < weights.total → probability (weighed xs weights) y ≡ weight_at (items_of xs weights.weights) y over weights.total
-probability-weighed xs weights y h = ap (λ ps. probability ps y) (weighed-shares xs weights) ∙ probability-shares (items_of xs weights.weights) weights.total y h
+pub probability-weighed : (xs : List ℕ) (weights : Weights) (y : ℕ) → 0 < weights.total
+    → probability (weighed xs weights) y ≡ weight_at (items_of xs weights.weights) y over weights.total
+probability-weighed xs weights y h = ap (λ ps. probability ps y) (weighed-shares xs weights)
+    ∙ probability-shares (items_of xs weights.weights) weights.total y h
 
-items_of-push : (xs ws : List ℕ) (x w : ℕ) → length xs ≡ length ws → items_of (xs ++ x ∷ []) (ws ++ w ∷ []) ≡ items_of xs ws ++ record { amount = x; weight = w } ∷ []
+items_of-push : (xs ws : List ℕ) (x w : ℕ) → length xs ≡ length ws
+    → items_of (xs ++ x ∷ []) (ws ++ w ∷ []) ≡ items_of xs ws ++ record { amount = x; weight = w } ∷ []
 items_of-push [] [] x w e = refl
 items_of-push [] (v ∷ ws) x w e = absurd (omega (arith, e))
 items_of-push (z ∷ xs) [] x w e = absurd (omega (arith, e))
-items_of-push (z ∷ xs) (v ∷ ws) x w e = ap (λ is. record { amount = z; weight = v } ∷ is) (items_of-push xs ws x w (omega (arith, e)))
+items_of-push (z ∷ xs) (v ∷ ws) x w e =
+    ap (λ is. record { amount = z; weight = v } ∷ is) (items_of-push xs ws x w (omega (arith, e)))
 
 pub items_of-more : (xs ws : List ℕ) (i d : ℕ) → i < length xs → i < length ws
-    → items_of (take (i + 1) xs) (take (i + 1) ws) ≡ items_of (take i xs) (take i ws) ++ record { amount = get_or xs i d; weight = get_or ws i d } ∷ []
+    → items_of (take (i + 1) xs) (take (i + 1) ws) ≡ items_of (take i xs)
+    (take i ws) ++ record { amount = get_or xs i d; weight = get_or ws i d } ∷ []
 items_of-more xs ws i d p q =
     ap₂ items_of (take_more xs i d p) (take_more ws i d q)
-    ∙ items_of-push (take i xs) (take i ws) (get_or xs i d) (get_or ws i d) (length-take-le i xs (omega (arith, p)) ∙ sym (length-take-le i ws (omega (arith, q))))
+    ∙ items_of-push (take i xs) (take i ws) (get_or xs i d) (get_or ws i d)
+    (length-take-le i xs (omega (arith, p)) ∙ sym (length-take-le i ws (omega (arith, q))))
 
 -- ---- the items of a severity, mapped
 
-pub total_pos : (sev : Sev) → 0 < sev.total
-total_pos sev = subst (λ n. 0 < n) sev.weighted.sum (weight_sum_pos sev.items sev.weighted.some sev.weighted.positive)
-
-pub mapped_sum : (sev : Sev) (f : ℕ → ℕ) (items : List Item) → items ≡ map (with_amount f) sev.items → weight_sum items ≡ sev.total
+pub mapped_sum : (sev : Sev) (f : ℕ → ℕ) (items : List Item) → items ≡ map (with_amount f) sev.items
+    → weight_sum items ≡ sev.total
 mapped_sum sev f items e = ap weight_sum e ∙ weight_sum-mapped f sev.items ∙ sev.weighted.sum
 
 pub mapped_means : (sev : Sev) (f : ℕ → ℕ) (items : List Item) (y : ℕ) → items ≡ map (with_amount f) sev.items
     → weight_at items y over weight_sum items ≡ probability (with_amounts f (pairs_of sev)) y
 mapped_means sev f items y e =
-    ap₂ (λ n d. n over d) (ap (λ xs. weight_at xs y) e) (mapped_sum sev f items e) ∙ sym (probability-mapped f sev.items sev.total y (total_pos sev))
+    ap₂ (λ n d. n over d) (ap (λ xs. weight_at xs y) e) (mapped_sum sev f items e)
+    ∙ sym (probability-mapped f sev.items sev.total y (severity_total sev))
 
 -- what holds of a result holds of what follows from it
 pub if_ok : {T E : Type 0} (r : Result T E) (P Q : T → Type 0) → ((x : T) → P x → Q x) → IfOk r P → IfOk r Q

@@ -12,11 +12,11 @@ use Rattle.dl_plan.specs.declared.severity.Sev.{Sev}
 use Rattle.dl_plan.specs.Weighted.{amounts_of, weight_sum}
 use Rattle.dl_plan.specs.Severity.{Pairs, shares, pairs_of}
 use Rattle.dl_plan.proofs.Fits.{over_fits}
-use Rattle.dl_plan.proofs.Sums.{zero_over, over_plus}
+use Rattle.dl_exact.proofs.Denominators.{over_zero, over_plus}
 use Rattle.dl_sev.specs.declared.weights.Weights.{Weights}
 use Rattle.dl_sev.specs.Weighing.{sum_of}
 use Rattle.dl_sev.specs.Steps.{scaled, mixture_of, share_of, weighed}
-use Rattle.dl_sev.proofs.Mapped.{total_pos}
+use Rattle.dl_plan.proofs.Means.{severity_total}
 
 abbrev pub firsts : Pairs → List ℕ
 firsts ps = map (λ pair. pair.0) ps
@@ -28,7 +28,8 @@ firsts-scaled : (s : Fraction) (t : ℕ) (items : List Item) → firsts (scaled 
 firsts-scaled s t [] = refl
 firsts-scaled s t (x ∷ xs) = ap (λ ns. x.amount ∷ ns) (firsts-scaled s t xs)
 
-seconds-scaled : (s : Fraction) (t : ℕ) (items : List Item) → seconds (scaled s (shares items t)) ≡ map (share_of s t) items
+seconds-scaled : (s : Fraction) (t : ℕ) (items : List Item)
+    → seconds (scaled s (shares items t)) ≡ map (share_of s t) items
 seconds-scaled s t [] = refl
 seconds-scaled s t (x ∷ xs) = ap (λ ys. share_of s t x ∷ ys) (seconds-scaled s t xs)
 
@@ -41,35 +42,45 @@ mixture-push t (b ∷ atoms) (v ∷ ws) a w e =
     ap (λ ps. scaled (v over t) (pairs_of b) ++ ps) (mixture-push t atoms ws a w (omega (arith, e)))
     ∙ sym (append_assoc (scaled (v over t) (pairs_of b)) (mixture_of t atoms ws) (scaled (w over t) (pairs_of a)))
 
-mixture-more : (t : ℕ) (atoms : List Sev) (ws : List ℕ) (i d : ℕ) (a : Sev) → i < length atoms → length atoms ≡ length ws → a ≡ get_or atoms i a
-    → mixture_of t (take (i + 1) atoms) (take (i + 1) ws) ≡ mixture_of t (take i atoms) (take i ws) ++ scaled (get_or ws i d over t) (pairs_of a)
+mixture-more : (t : ℕ) (atoms : List Sev) (ws : List ℕ) (i d : ℕ) (a : Sev) → i < length atoms
+    → length atoms ≡ length ws → a ≡ get_or atoms i a
+    → mixture_of t (take (i + 1) atoms) (take (i + 1) ws) ≡ mixture_of t (take i atoms) (take i ws) ++ scaled
+    (get_or ws i d over t) (pairs_of a)
 mixture-more t atoms ws i d a h e is =
     let below : i < length ws = omega (arith, h, e) in
     ap₂ (mixture_of t) (take_more atoms i a h) (take_more ws i d below)
-    ∙ mixture-push t (take i atoms) (take i ws) (get_or atoms i a) (get_or ws i d) (length-take-le i atoms (omega (arith, h)) ∙ sym (length-take-le i ws (omega (arith, below))))
+    ∙ mixture-push t (take i atoms) (take i ws) (get_or atoms i a) (get_or ws i d)
+    (length-take-le i atoms (omega (arith, h)) ∙ sym (length-take-le i ws (omega (arith, below))))
     ∙ ap (λ (b : Sev). mixture_of t (take i atoms) (take i ws) ++ scaled (get_or ws i d over t) (pairs_of b)) (sym is)
 
 -- ---- one atom more
 
-module _ (t : ℕ) (atoms : List Sev) (ws : List ℕ) (i d : ℕ) (a : Sev) (h : i < length atoms) (e : length atoms ≡ length ws) (is : a ≡ get_or atoms i a) where
+module _ (t : ℕ) (atoms : List Sev) (ws : List ℕ) (i d : ℕ) (a : Sev) (h : i < length atoms)
+    (e : length atoms ≡ length ws) (is : a ≡ get_or atoms i a) where
   so_far : Pairs
   so_far = mixture_of t (take i atoms) (take i ws)
 
-  pub amounts-more : (old new : List ℕ) → old ≡ firsts (mixture_of t (take i atoms) (take i ws)) → new ≡ old ++ amounts_of a.items → new ≡ firsts (mixture_of t (take (i + 1) atoms) (take (i + 1) ws))
+  pub amounts-more : (old new : List ℕ) → old ≡ firsts (mixture_of t (take i atoms) (take i ws))
+      → new ≡ old ++ amounts_of a.items → new ≡ firsts (mixture_of t (take (i + 1) atoms) (take (i + 1) ws))
   amounts-more old new before pushed =
       pushed ∙ ap₂ (λ xs ys. xs ++ ys) before (sym (firsts-scaled (get_or ws i d over t) a.total a.items))
-      ∙ sym (map-append (λ pair. pair.0) (mixture_of t (take i atoms) (take i ws)) (scaled (get_or ws i d over t) (pairs_of a)))
+      ∙ sym (map-append (λ pair. pair.0) (mixture_of t (take i atoms) (take i ws))
+      (scaled (get_or ws i d over t) (pairs_of a)))
       ∙ ap firsts (sym (mixture-more t atoms ws i d a h e is))
 
-  pub probs-more : (old new : List Fraction) → old ≡ seconds (mixture_of t (take i atoms) (take i ws)) → new ≡ old ++ map (share_of (get_or ws i d over t) a.total) a.items → new ≡ seconds (mixture_of t (take (i + 1) atoms) (take (i + 1) ws))
+  pub probs-more : (old new : List Fraction) → old ≡ seconds (mixture_of t (take i atoms) (take i ws))
+      → new ≡ old ++ map (share_of (get_or ws i d over t) a.total) a.items
+      → new ≡ seconds (mixture_of t (take (i + 1) atoms) (take (i + 1) ws))
   probs-more old new before pushed =
       pushed ∙ ap₂ (λ xs ys. xs ++ ys) before (sym (seconds-scaled (get_or ws i d over t) a.total a.items))
-      ∙ sym (map-append (λ pair. pair.1) (mixture_of t (take i atoms) (take i ws)) (scaled (get_or ws i d over t) (pairs_of a)))
+      ∙ sym (map-append (λ pair. pair.1) (mixture_of t (take i atoms) (take i ws))
+      (scaled (get_or ws i d over t) (pairs_of a)))
       ∙ ap seconds (sym (mixture-more t atoms ws i d a h e is))
 
 -- ---- pairs put together again
 
-zip-over : (t : ℕ) (xs ws : List ℕ) → map (λ pair. (pair.0, pair.1 over t)) (zip xs ws) ≡ zip xs (map (λ w. w over t) ws)
+zip-over : (t : ℕ) (xs ws : List ℕ) → map (λ pair. (pair.0, pair.1 over t)) (zip xs ws) ≡ zip xs
+    (map (λ w. w over t) ws)
 zip-over t [] ws = refl
 zip-over t (x ∷ xs) [] = refl
 zip-over t (x ∷ xs) (w ∷ ws) = ap (λ ps. (x, w over t) ∷ ps) (zip-over t xs ws)
@@ -78,7 +89,8 @@ zip-apart : (ps : Pairs) → zip (firsts ps) (seconds ps) ≡ ps
 zip-apart [] = refl
 zip-apart (p ∷ ps) = ap (λ qs. p ∷ qs) (zip-apart ps)
 
-pub weighed-back : (ps : Pairs) (xs : List ℕ) (whole : Weights) → xs ≡ firsts ps → map (λ w. w over whole.total) whole.weights ≡ seconds ps → weighed xs whole ≡ ps
+pub weighed-back : (ps : Pairs) (xs : List ℕ) (whole : Weights) → xs ≡ firsts ps
+    → map (λ w. w over whole.total) whole.weights ≡ seconds ps → weighed xs whole ≡ ps
 weighed-back ps xs whole amounts probs =
     zip-over whole.total xs whole.weights ∙ ap₂ (λ ys zs. zip ys zs) amounts probs ∙ zip-apart ps
 
@@ -87,8 +99,9 @@ weighed-back ps xs whole amounts probs =
 pub product_fits : (w t : ℕ) (atom : Sev) (i : ℕ) (d : Item) → i < length atom.items → w < 2 ^ 32 → 0 < t → t ≤ 2 ^ 30
     → FitsFrac ((w * (get_or atom.items i d).weight) over (t * atom.total))
 product_fits w t atom i d h small pos within =
-    let weight : (get_or atom.items i d).weight ≤ 2 ^ 30 = omega (arith, sum_by_more_le (λ (j : Item). j.weight) atom.items i d h, atom.weighted.sum, atom.weighted.within) in
-    over_fits _ _ (mul-pos pos (total_pos atom))
+    let weight : (get_or atom.items i d).weight ≤ 2 ^ 30 =
+    omega (arith, sum_by_more_le (λ (j : Item). j.weight) atom.items i d h, atom.weighted.sum, atom.weighted.within) in
+    over_fits _ _ (mul-pos pos (severity_total atom))
     (omega (arith, small_product w (get_or atom.items i d).weight small weight))
     (omega (arith, mul-le-mul within atom.weighted.within))
   where
@@ -97,7 +110,8 @@ product_fits w t atom i d h small pos within =
         let below : a ≤ 4294967295 = omega (arith, p) in
         mul-le-mul below q
 
-pub fits_at : (w t : ℕ) (atom : Sev) (slice : List Item) (i : ℕ) (d : Item) → slice ≡ atom.items → i < length slice → w < 2 ^ 32 → 0 < t → t ≤ 2 ^ 30
+pub fits_at : (w t : ℕ) (atom : Sev) (slice : List Item) (i : ℕ) (d : Item) → slice ≡ atom.items → i < length slice
+    → w < 2 ^ 32 → 0 < t → t ≤ 2 ^ 30
     → FitsFrac ((w * (get_or slice i d).weight) over (t * atom.total))
 fits_at w t atom slice i d same h small pos within =
     subst (λ (xs : List Item). FitsFrac ((w * (get_or xs i d).weight) over (t * atom.total))) (sym same)
@@ -106,7 +120,8 @@ fits_at w t atom slice i d same h small pos within =
 pub product_is : (w v t u : ℕ) → 0 < t → 0 < u → (w * v) over (t * u) ≡ w over t *ℚ v over u
 product_is w v t u p q = sym (over_mul w t v u p q)
 
-pub shares-more : (s : Fraction) (t i : ℕ) (items : List Item) (d : Item) (start old new : List Fraction) (x : Fraction) → i < length items
+pub shares-more : (s : Fraction) (t i : ℕ) (items : List Item) (d : Item) (start old new : List Fraction)
+    (x : Fraction) → i < length items
     → old ≡ start ++ map (share_of s t) (take i items) → new ≡ old ++ x ∷ [] → x ≡ share_of s t (get_or items i d)
     → new ≡ start ++ map (share_of s t) (take (i + 1) items)
 shares-more s t i items d start old new x h before pushed value =
@@ -114,7 +129,8 @@ shares-more s t i items d start old new x h before pushed value =
     ∙ append_assoc start (map (share_of s t) (take i items)) (share_of s t (get_or items i d) ∷ [])
     ∙ ap (λ ys. start ++ ys) (sym (map_more (share_of s t) items i d h))
 
-pub mixture_whole : (t : ℕ) (atoms : List Sev) (ws : List ℕ) (i : ℕ) → length atoms ≤ i → length atoms ≡ length ws → mixture_of t (take i atoms) (take i ws) ≡ mixture_of t atoms ws
+pub mixture_whole : (t : ℕ) (atoms : List Sev) (ws : List ℕ) (i : ℕ) → length atoms ≤ i → length atoms ≡ length ws
+    → mixture_of t (take i atoms) (take i ws) ≡ mixture_of t atoms ws
 mixture_whole t atoms ws i h e = ap₂ (mixture_of t) (take_all i atoms h) (take_all i ws (subst (λ n. n ≤ i) e h))
 
 -- ---- the probabilities of a mixture sum to 1
@@ -124,33 +140,39 @@ unfolding sum_over
 sum_of-append [] ys = sym (zero_plus (sum_of ys))
 sum_of-append (x ∷ xs) ys = ap (λ s. x +ℚ s) (sum_of-append xs ys) ∙ sym (plus_assoc x (sum_of xs) (sum_of ys))
 
-sum_of-shares : (s : Fraction) (t : ℕ) (items : List Item) → 0 < t → sum_of (map (share_of s t) items) ≡ s *ℚ (weight_sum items over t)
+sum_of-shares : (s : Fraction) (t : ℕ) (items : List Item) → 0 < t
+    → sum_of (map (share_of s t) items) ≡ s *ℚ (weight_sum items over t)
 unfolding sum_over
-sum_of-shares s t [] h = sym (ap (λ y. s *ℚ y) (zero_over t h) ∙ times_zero s)
+sum_of-shares s t [] h = sym (ap (λ y. s *ℚ y) (over_zero t h) ∙ times_zero s)
 sum_of-shares s t (x ∷ xs) h =
     ap (λ y. share_of s t x +ℚ y) (sum_of-shares s t xs h)
     ∙ sym (times_plus s (x.weight over t) (weight_sum xs over t))
-    ∙ ap (λ y. s *ℚ y) (over_plus x.weight (weight_sum xs) t h ∙ ap (λ n. n over t) (sym (sum_by-cons (λ (i : Item). i.weight) x xs)))
+    ∙ ap (λ y. s *ℚ y) (over_plus x.weight (weight_sum xs) t h
+    ∙ ap (λ n. n over t) (sym (sum_by-cons (λ (i : Item). i.weight) x xs)))
 
 sum_of-atom : (s : Fraction) (a : Sev) → sum_of (map (share_of s a.total) a.items) ≡ s
 sum_of-atom s a =
-    let pos = total_pos a in
+    let pos = severity_total a in
     sum_of-shares s a.total a.items pos
-    ∙ ap (λ y. s *ℚ y) (ap (λ n. n over a.total) a.weighted.sum ∙ over_same a.total a.total 1 1 pos (omega arith) (omega arith))
+    ∙ ap (λ y. s *ℚ y) (ap (λ n. n over a.total) a.weighted.sum
+    ∙ over_same a.total a.total 1 1 pos (omega arith) (omega arith))
     ∙ times_one s
 
-sum_of-mixture : (t : ℕ) (atoms : List Sev) (ws : List ℕ) → 0 < t → length atoms ≡ length ws → sum_of (seconds (mixture_of t atoms ws)) ≡ sum ws over t
+sum_of-mixture : (t : ℕ) (atoms : List Sev) (ws : List ℕ) → 0 < t → length atoms ≡ length ws
+    → sum_of (seconds (mixture_of t atoms ws)) ≡ sum ws over t
 unfolding sum_over
-sum_of-mixture t [] [] h e = sym (zero_over t h)
+sum_of-mixture t [] [] h e = sym (over_zero t h)
 sum_of-mixture t [] (w ∷ ws) h e = absurd (omega (arith, e))
 sum_of-mixture t (a ∷ atoms) [] h e = absurd (omega (arith, e))
 sum_of-mixture t (a ∷ atoms) (w ∷ ws) h e =
     ap sum_of (map-append (λ pair. pair.1) (scaled (w over t) (pairs_of a)) (mixture_of t atoms ws))
     ∙ sum_of-append (seconds (scaled (w over t) (pairs_of a))) (seconds (mixture_of t atoms ws))
-    ∙ ap₂ (λ x y. x +ℚ y) (ap sum_of (seconds-scaled (w over t) a.total a.items) ∙ sum_of-atom (w over t) a) (sum_of-mixture t atoms ws h (omega (arith, e)))
+    ∙ ap₂ (λ x y. x +ℚ y) (ap sum_of (seconds-scaled (w over t) a.total a.items) ∙ sum_of-atom (w over t) a)
+    (sum_of-mixture t atoms ws h (omega (arith, e)))
     ∙ over_plus w (sum ws) t h
     ∙ ap (λ n. n over t) (sym (sum_by-cons (λ n. n) w ws))
 
-pub mixture_one : (t : ℕ) (atoms : List Sev) (ws : List ℕ) → 0 < t → length atoms ≡ length ws → sum ws ≡ t → sum_of (seconds (mixture_of t atoms ws)) ≡ whole 1
+pub mixture_one : (t : ℕ) (atoms : List Sev) (ws : List ℕ) → 0 < t → length atoms ≡ length ws → sum ws ≡ t
+    → sum_of (seconds (mixture_of t atoms ws)) ≡ whole 1
 mixture_one t atoms ws h e all =
     sum_of-mixture t atoms ws h e ∙ ap (λ n. n over t) all ∙ over_same t t 1 1 h (omega arith) (omega arith)

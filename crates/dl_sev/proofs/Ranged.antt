@@ -13,7 +13,7 @@ use Rattle.dl_exact.proofs.Over.{same, over_self, over_same, over_mul, over_sub,
 use Rattle.dl_exact.proofs.RoundingLaws.{floor_div, floor_one}
 use Rattle.dl_frac.specs.Exact.{FitsFrac}
 use Rattle.dl_plan.proofs.Common.{common_pos, den_divides}
-use Rattle.dl_plan.proofs.Sums.{over_plus}
+use Rattle.dl_exact.proofs.Denominators.{over_plus}
 use Rattle.dl_plan.proofs.Fits.{over_fits}
 use Rattle.dl_sev.specs.declared.range.Range.{Range}
 use Rattle.dl_sev.specs.declared.fault.ExpandFault.{ExpandFault}
@@ -25,12 +25,14 @@ use Rattle.dl_sev.proofs.Sharing.{share_is}
 floor_over : (n d : ℕ) → 0 < d → floor_of (n over d) ≡ n / d
 floor_over n d h =
     let x : Fraction = n over d in
-    floor_one x (floor_of x) (n / d) (subst (λ y. IsFloor y (floor_of x)) (over_self x) (floor_div x.num x.den x.positive)) (floor_div n d h)
+    floor_one x (floor_of x) (n / d) (subst (λ y. IsFloor y (floor_of x)) (over_self x)
+    (floor_div x.num x.den x.positive)) (floor_div n d h)
 
 minus_over : (t f c : ℕ) → 0 < c → t over c -ℚ f over c ≡ (t - f) over c
 minus_over t f c h =
     over_sub t c f c h h
-    ∙ over_same (t * c - f * c) (c * c) (t - f) c (mul-pos h h) h (turn (t - f) c (t * c - f * c) (mul-sub c t f ∙ ap₂ (λ a b. a - b) (mul_comm c t) (mul_comm c f)))
+    ∙ over_same (t * c - f * c) (c * c) (t - f) c (mul-pos h h) h
+    (turn (t - f) c (t * c - f * c) (mul-sub c t f ∙ ap₂ (λ a b. a - b) (mul_comm c t) (mul_comm c f)))
   where
     turn : (e k n : ℕ) → k * e ≡ n → n * k ≡ e * (k * k)
     turn e k n h = omega (arith, ap (λ m. m * k) h)
@@ -67,27 +69,31 @@ module _ (r : Range) (range : IsRange r) (c : ℕ) (common : c ≡ range_denomin
   step_is = sym (share_is r.step c pos (divides (suc (suc zero)) r.from (omega arith)))
 
   pub rising : weight_of c r.from ≤ weight_of c r.to
-  rising = le_of_mul-le-mul_right (le_over F c T c pos pos (subst (λ y. F over c ≤ℚ y) to_is (subst (λ y. y ≤ℚ r.to) from_is range.rising))) pos
+  rising = le_of_mul-le-mul_right (le_over F c T c pos pos
+      (subst (λ y. F over c ≤ℚ y) to_is (subst (λ y. y ≤ℚ r.to) from_is range.rising))) pos
 
   pub step_pos : 0 < weight_of c r.step
   step_pos = omega (arith, lt_over 0 1 S c (omega arith) pos (subst (λ y. whole 0 <ℚ y) step_is range.step))
 
   pub steps_are : steps_in r ≡ (weight_of c r.to - weight_of c r.from) / weight_of c r.step
   steps_are =
-      ap floor_of (ap₂ (λ x y. (x -ℚ y) /ℚ r.step) to_is from_is ∙ ap (λ s. (T over c -ℚ F over c) /ℚ s) step_is ∙ ap (λ y. y /ℚ S over c) (minus_over T F c pos) ∙ ratio_over (T - F) S c pos step_pos)
+      ap floor_of (ap₂ (λ x y. (x -ℚ y) /ℚ r.step) to_is from_is ∙ ap (λ s. (T over c -ℚ F over c) /ℚ s) step_is
+      ∙ ap (λ y. y /ℚ S over c) (minus_over T F c pos) ∙ ratio_over (T - F) S c pos step_pos)
       ∙ floor_over (T - F) S step_pos
 
   pub value_is : (k : ℕ) → value_at r k ≡ (weight_of c r.from + k * weight_of c r.step) over c
   value_is k =
       ap₂ (λ x s. x +ℚ whole k *ℚ s) from_is step_is
-      ∙ ap (λ y. F over c +ℚ y) (over_mul k 1 S c (omega arith) pos ∙ over_same (k * S) (1 * c) (k * S) c (omega (arith, pos)) pos (omega arith))
+      ∙ ap (λ y. F over c +ℚ y) (over_mul k 1 S c (omega arith) pos
+      ∙ over_same (k * S) (1 * c) (k * S) c (omega (arith, pos)) pos (omega arith))
       ∙ over_plus F (k * S) c pos
 
   -- up to the last step no value passes the last number
   within : (k : ℕ) → k ≤ (T - F) / S → F + k * S ≤ T
   within k h = omega (arith, mul-le-mul_right S h, div-mul-le_self (T - F) S, rising)
 
-  pub value_fits : (k : ℕ) → c ≤ 1000000 → k ≤ (weight_of c r.to - weight_of c r.from) / weight_of c r.step → FitsFrac ((weight_of c r.from + k * weight_of c r.step) over c)
+  pub value_fits : (k : ℕ) → c ≤ 1000000 → k ≤ (weight_of c r.to - weight_of c r.from) / weight_of c r.step
+      → FitsFrac ((weight_of c r.from + k * weight_of c r.step) over c)
   value_fits k small h =
       let num : r.to.num ≤ 10 ^ 11 = omega (arith, range.digits) in
       let part : c / r.to.den ≤ 1000000 = omega (arith, div-le_self c r.to.den, small) in
@@ -101,16 +107,20 @@ values_length r = length-map-range_with_len (value_at r) 0 (steps_in r + 1)
 pub one_value : (r : Range) → IsRange r → r.from ≡ r.to → range_values r ≡ r.from ∷ []
 one_value r range same =
     let c = range_denominator r in
-    let none : steps_in r ≡ 0 = steps_are r range c refl ∙ ap (λ n. n / weight_of c r.step) (omega (arith, ap (weight_of c) same)) ∙ nothing_over (weight_of c r.step) in
+    let none : steps_in r ≡ 0 = steps_are r range c refl
+    ∙ ap (λ n. n / weight_of c r.step) (omega (arith, ap (weight_of c) same)) ∙ nothing_over (weight_of c r.step) in
     ap (λ n. map (value_at r) (range_with_len 0 (n + 1))) none
-    ∙ ap (λ y. y ∷ []) (value_is r range c refl zero ∙ ap (λ n. n over c) (omega arith) ∙ share_is r.from c (common_pos (r.from ∷ r.to ∷ r.step ∷ [])) (den_divides 1 (r.from ∷ r.to ∷ r.step ∷ []) zero r.from (omega arith)))
+    ∙ ap (λ y. y ∷ []) (value_is r range c refl zero ∙ ap (λ n. n over c) (omega arith)
+    ∙ share_is r.from c (common_pos (r.from ∷ r.to ∷ r.step ∷ []))
+    (den_divides 1 (r.from ∷ r.to ∷ r.step ∷ []) zero r.from (omega arith)))
   where
     nothing_over : (s : ℕ) → 0 / s ≡ 0
     nothing_over s = omega (arith, div-le_self 0 s)
 
 -- ---- what is refused
 
-pub refuses : (items : List Range) (n : ℕ) (r : Range) (fault : ExpandFault) → PassesRoom n r fault → n + length (range_values r) ≤ length (list_values items) → RefusesRanges items fault
+pub refuses : (items : List Range) (n : ℕ) (r : Range) (fault : ExpandFault) → PassesRoom n r fault
+    → n + length (range_values r) ≤ length (list_values items) → RefusesRanges items fault
 refuses items n r TooLong passes h = omega (arith, passes, h)
 refuses items n r OutOfMemory passes h = tt
 
@@ -118,7 +128,12 @@ pub part_le : (items : List Range) (i : ℕ) → length (list_values (take i ite
 part_le items i =
     let parts : list_values items ≡ list_values (take i items) ++ list_values (drop i items) =
     ap list_values (sym (take-append-drop i items)) ∙ flat_map-append range_values (take i items) (drop i items) in
-    omega (arith, ap (λ (xs : List Fraction). length xs) parts, length-append (list_values (take i items)) (list_values (drop i items)))
+    omega (
+      arith,
+      ap (λ (xs : List Fraction). length xs) parts,
+      length-append (list_values (take i items))
+          (list_values (drop i items)),
+    )
 
 -- ---- common denominators that are found
 
@@ -131,12 +146,16 @@ some_value o P v x h e = (subst (λ p. SomeIff p P v) e h).1
 
 -- ---- one more
 
-pub list_more : (items : List Range) (i : ℕ) (r : Range) → i < length items → r ≡ get_or items i r → list_values (take (i + 1) items) ≡ list_values (take i items) ++ range_values r
+pub list_more : (items : List Range) (i : ℕ) (r : Range) → i < length items → r ≡ get_or items i r
+    → list_values (take (i + 1) items) ≡ list_values (take i items) ++ range_values r
 list_more items i r h is =
     ap list_values (take_more items i r h) ∙ flat_map-append range_values (take i items) (get_or items i r ∷ [])
-    ∙ ap (λ ys. list_values (take i items) ++ ys) (append-nil (range_values (get_or items i r)) ∙ ap range_values (sym is))
+    ∙ ap (λ ys. list_values (take i items) ++ ys)
+    (append-nil (range_values (get_or items i r)) ∙ ap range_values (sym is))
 
-pub more_fits : (items : List Range) (i : ℕ) (r : Range) (values : List Fraction) → i < length items → r ≡ get_or items i r → values ≡ list_values (take i items) → length values + length (range_values r) ≤ length (list_values items)
+pub more_fits : (items : List Range) (i : ℕ) (r : Range) (values : List Fraction) → i < length items
+    → r ≡ get_or items i r → values ≡ list_values (take i items)
+    → length values + length (range_values r) ≤ length (list_values items)
 more_fits items i r values h is so_far =
     omega (
       arith,
@@ -146,10 +165,12 @@ more_fits items i r values h is so_far =
       part_le items (i + 1),
     )
 
-pub steps_more : (r : Range) (start old new : List Fraction) (k : ℕ) (x : Fraction) → old ≡ start ++ map (value_at r) (range_with_len 0 k) → new ≡ old ++ x ∷ [] → x ≡ value_at r k
+pub steps_more : (r : Range) (start old new : List Fraction) (k : ℕ) (x : Fraction)
+    → old ≡ start ++ map (value_at r) (range_with_len 0 k) → new ≡ old ++ x ∷ [] → x ≡ value_at r k
     → new ≡ start ++ map (value_at r) (range_with_len 0 (k + 1))
 steps_more r start old new k x before pushed value =
-    pushed ∙ ap₂ (λ ys y. ys ++ y ∷ []) before value ∙ append_assoc start (map (value_at r) (range_with_len 0 k)) (value_at r k ∷ [])
+    pushed ∙ ap₂ (λ ys y. ys ++ y ∷ []) before value
+    ∙ append_assoc start (map (value_at r) (range_with_len 0 k)) (value_at r k ∷ [])
     ∙ ap (λ ys. start ++ ys) (sym (map-range_with_len_more (value_at r) 0 k k (omega arith)))
 
 -- ---- equal numbers

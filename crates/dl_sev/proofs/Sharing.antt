@@ -12,30 +12,36 @@ use Rattle.dl_exact.proofs.Over.{over_self, over_same, le_over}
 use Rattle.dl_exact.proofs.Laws.{le_of_eq}
 use Rattle.dl_plan.specs.Fine.{common_denominator}
 use Rattle.dl_plan.proofs.Common.{common_pos, den_divides}
-use Rattle.dl_plan.proofs.Sums.{sum_over_common}
+use Rattle.dl_exact.proofs.SumsOver.{sum_over_common}
 use Rattle.dl_sev.specs.Weighing.{weight_of, sum_of}
 
 pub share_is : (x : Fraction) (c : ℕ) → 0 < c → x.den ∣ c → weight_of c x over c ≡ x
 share_is x c h d =
-    over_same (weight_of c x) c x.num x.den h x.positive (turn x.num (c / x.den) x.den ∙ ap (λ k. x.num * k) (div-mul_cancel x.den d)) ∙ over_self x
+    over_same (weight_of c x) c x.num x.den h x.positive
+    (turn x.num (c / x.den) x.den ∙ ap (λ k. x.num * k) (div-mul_cancel x.den d)) ∙ over_self x
   where
     turn : (n q e : ℕ) → n * q * e ≡ n * (q * e)
     turn n q e = omega arith
 
 -- each weight over c is its fraction
-shares_are : (xs : List Fraction) (c : ℕ) → 0 < c → All (λ x. x.den ∣ c) xs → map (λ w. w over c) (map (weight_of c) xs) ≡ xs
+shares_are : (xs : List Fraction) (c : ℕ) → 0 < c → All (λ x. x.den ∣ c) xs
+    → map (λ w. w over c) (map (weight_of c) xs) ≡ xs
 shares_are [] c h d = refl
 shares_are (x ∷ xs) c h d =
-    ap₂ (λ y ys. y ∷ ys) (share_is x c h (All-head (λ y. y.den ∣ c) x xs d)) (shares_are xs c h (All-tail (λ y. y.den ∣ c) x xs d))
+    ap₂ (λ y ys. y ∷ ys) (share_is x c h (All-head (λ y. y.den ∣ c) x xs d))
+    (shares_are xs c h (All-tail (λ y. y.den ∣ c) x xs d))
 
-pub shares_back : (xs : List Fraction) → map (λ w. w over common_denominator xs) (map (weight_of (common_denominator xs)) xs) ≡ xs
+pub shares_back : (xs : List Fraction) → map (λ w. w over common_denominator xs)
+    (map (weight_of (common_denominator xs)) xs) ≡ xs
 shares_back xs = shares_are xs (common_denominator xs) (common_pos xs) (den_divides 1 xs)
 
-sums_are : (xs : List Fraction) (c : ℕ) → 0 < c → All (λ x. x.den ∣ c) xs → sum_of xs ≡ sum_over xs (λ x. weight_of c x over c)
+sums_are : (xs : List Fraction) (c : ℕ) → 0 < c → All (λ x. x.den ∣ c) xs
+    → sum_of xs ≡ sum_over xs (λ x. weight_of c x over c)
 unfolding sum_over
 sums_are [] c h d = refl
 sums_are (x ∷ xs) c h d =
-    ap₂ (λ y s. y +ℚ s) (sym (share_is x c h (All-head (λ y. y.den ∣ c) x xs d))) (sums_are xs c h (All-tail (λ y. y.den ∣ c) x xs d))
+    ap₂ (λ y s. y +ℚ s) (sym (share_is x c h (All-head (λ y. y.den ∣ c) x xs d)))
+    (sums_are xs c h (All-tail (λ y. y.den ∣ c) x xs d))
 
 pub sum_is : (xs : List Fraction) → sum_of xs ≡ sum_by (weight_of (common_denominator xs)) xs over common_denominator xs
 sum_is xs =
@@ -49,28 +55,36 @@ one_only n c h e =
     omega (arith, below, above)
 
 -- a sum of 1 has weights that sum to the common denominator
-pub sum_one : (xs : List Fraction) (c : ℕ) → c ≡ common_denominator xs → sum_of xs ≡ whole 1 → sum_by (weight_of c) xs ≡ c
+pub sum_one : (xs : List Fraction) (c : ℕ) → c ≡ common_denominator xs → sum_of xs ≡ whole 1
+    → sum_by (weight_of c) xs ≡ c
 sum_one xs c common e = rw common (one_only _ (common_denominator xs) (common_pos xs) (sym (sum_is xs) ∙ e))
 
 -- and back
-pub one_sum : (xs : List Fraction) (c : ℕ) → c ≡ common_denominator xs → sum_by (weight_of c) xs ≡ c → sum_of xs ≡ whole 1
+pub one_sum : (xs : List Fraction) (c : ℕ) → c ≡ common_denominator xs → sum_by (weight_of c) xs ≡ c
+    → sum_of xs ≡ whole 1
 one_sum xs c common e =
     let all : sum_by (weight_of (common_denominator xs)) xs ≡ common_denominator xs = rw (sym common) e in
-    sum_is xs ∙ ap (λ n. n over common_denominator xs) all ∙ over_same _ _ 1 1 (common_pos xs) (omega arith) (omega arith)
+    sum_is xs ∙ ap (λ n. n over common_denominator xs) all
+    ∙ over_same _ _ 1 1 (common_pos xs) (omega arith) (omega arith)
 
-pub weight_more : (xs : List Fraction) (c i : ℕ) (x : Fraction) → i < length xs → x ≡ get_or xs i x → sum_by (weight_of c) (take (i + 1) xs) ≡ sum_by (weight_of c) (take i xs) + weight_of c x
-weight_more xs c i x h is = sum_by_more (weight_of c) xs i x h ∙ ap (λ y. sum_by (weight_of c) (take i xs) + weight_of c y) (sym is)
+pub weight_more : (xs : List Fraction) (c i : ℕ) (x : Fraction) → i < length xs → x ≡ get_or xs i x
+    → sum_by (weight_of c) (take (i + 1) xs) ≡ sum_by (weight_of c) (take i xs) + weight_of c x
+weight_more xs c i x h is =
+    sum_by_more (weight_of c) xs i x h ∙ ap (λ y. sum_by (weight_of c) (take i xs) + weight_of c y) (sym is)
 
 pub sum_map : (f : Fraction → ℕ) (xs : List Fraction) → sum (map f xs) ≡ sum_by f xs
 sum_map f [] = refl
 sum_map f (x ∷ xs) = sum_by-cons (λ n. n) (f x) (map f xs) ∙ ap (λ n. f x + n) (sum_map f xs) ∙ sym (sum_by-cons f x xs)
 
 -- so no part of the list has weights that sum to more
-pub part_within : (xs : List Fraction) (c i : ℕ) → c ≡ common_denominator xs → sum_of xs ≡ whole 1 → sum_by (weight_of c) (take i xs) ≤ c
+pub part_within : (xs : List Fraction) (c i : ℕ) → c ≡ common_denominator xs → sum_of xs ≡ whole 1
+    → sum_by (weight_of c) (take i xs) ≤ c
 part_within xs c i common e = omega (arith, sum_one xs c common e, sum_by-take-le (weight_of c) xs i)
 
-pub whole_within : (xs : List Fraction) (c i : ℕ) → length xs ≤ i → c ≡ common_denominator xs → sum_of xs ≡ whole 1 → sum_by (weight_of c) (take i xs) ≡ c
+pub whole_within : (xs : List Fraction) (c i : ℕ) → length xs ≤ i → c ≡ common_denominator xs → sum_of xs ≡ whole 1
+    → sum_by (weight_of c) (take i xs) ≡ c
 whole_within xs c i h common e = ap (sum_by (weight_of c)) (take_all i xs h) ∙ sum_one xs c common e
 
-pub weighed_shares : (xs : List Fraction) (ws : List ℕ) (c : ℕ) → ws ≡ map (weight_of c) xs → c ≡ common_denominator xs → map (λ w. w over c) ws ≡ xs
+pub weighed_shares : (xs : List Fraction) (ws : List ℕ) (c : ℕ) → ws ≡ map (weight_of c) xs → c ≡ common_denominator xs
+    → map (λ w. w over c) ws ≡ xs
 weighed_shares xs ws c made common = rw (made, common) (shares_back xs)

@@ -1,5 +1,6 @@
 -- Values in money as whole numbers of buckets.
 use Rattle.std.specs.Prelude.{ℕ, ◌≡◌, ◌<◌, ◌≤◌, ◌^◌, ⊤, List, length, map, All, slice_index_or}
+use Rattle.dl_limits.specs.Limits.{most_amount}
 use Rattle.dl_exact.specs.Fraction.{Fraction, whole, ◌/ℚ◌, ◌<ℚ◌}
 use Rattle.dl_plan.specs.Fine.{IsWhole}
 use Rattle.dl_sev.specs.declared.fault.AmountFault.{AmountFault}
@@ -23,10 +24,11 @@ pub record IsFirst (P : Fraction → Type 0) (xs : List Fraction) (i : ℕ) : Ty
 -- the amounts are the values in buckets, each at most 2^20
 pub record AreAmounts (values : List Fraction) (bs : Fraction) (made : List ℕ) : Type 0 where
   pub same : map whole made ≡ map (buckets bs) values
-  pub near : All (λ amount. amount ≤ 2 ^ 20) made
+  pub near : All (λ amount. amount ≤ most_amount) made
 
 -- the first value that is no whole number of buckets; else the first above 2^20 of them
 abbrev pub RefusesAmounts : List Fraction → Fraction → AmountFault → Type 0
 RefusesAmounts values bs (OffGrid i) = IsFirst (λ x. ¬ IsWhole (buckets bs x)) values i
-RefusesAmounts values bs (TooFar i) = All (λ x. IsWhole (buckets bs x)) values × IsFirst (λ x. whole (2 ^ 20) <ℚ buckets bs x) values i
+RefusesAmounts values bs (TooFar i) = All (λ x. IsWhole (buckets bs x)) values
+    × IsFirst (λ x. whole most_amount <ℚ buckets bs x) values i
 RefusesAmounts values bs OutOfMemory = ⊤

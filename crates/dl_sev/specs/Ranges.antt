@@ -32,7 +32,8 @@ range_denominator r = common_denominator (r.from ∷ r.to ∷ r.step ∷ [])
 abbrev pub IsShared : Range → Type 0
 IsShared r = range_denominator r ≤ 1000000
 
--- a step above 0 from the first value up to the last, which has at most 11 digits in its first part; one number, or numbers with a small common denominator
+-- a step above 0 from the first value up to the last, which has at most 11 digits in its first
+-- part; one number, or numbers with a small common denominator
 pub record IsRange (r : Range) : Type 0 where
   pub rising : r.from ≤ℚ r.to
   pub step : whole 0 <ℚ r.step

@@ -20,10 +20,12 @@ RefusesAbove sev attach above_fault.OutOfMemory = ⊤
 
 -- the clause maps an amount to no whole number
 abbrev pub RefusesCession : List Item → Clause → CedeFault → Type 0
-RefusesCession items clause cede_fault.OffGrid = Any (λ item. ¬ IsWhole (kept clause item.amount)) items
+RefusesCession items clause cede_fault.OffGrid =
+    Any (λ item. ¬ IsWhole (kept clause item.amount)) items
 RefusesCession items clause cede_fault.OutOfMemory = ⊤
 
 -- the products of a weight and an atom's probability have a common denominator above 2^30
 abbrev pub RefusesMixture : List Sev → Weights → MixFault → Type 0
-RefusesMixture atoms weights mix_fault.TooFine = ¬ IsFine (map (λ pair. pair.1) (mixture atoms weights))
+RefusesMixture atoms weights mix_fault.TooFine =
+    ¬ IsFine (map (λ pair. pair.1) (mixture atoms weights))
 RefusesMixture atoms weights mix_fault.OutOfMemory = ⊤

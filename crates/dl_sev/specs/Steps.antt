@@ -9,11 +9,13 @@ use Rattle.dl_sev.specs.declared.weights.Weights.{Weights}
 
 -- each amount with its weight over the total
 abbrev pub weighed : List ℕ → Weights → Pairs
-weighed amounts weights = map (λ pair. (pair.0, pair.1 over weights.total)) (zip amounts weights.weights)
+weighed amounts weights =
+    map (λ pair. (pair.0, pair.1 over weights.total)) (zip amounts weights.weights)
 
 -- an amount with its weight as an item
 abbrev pub items_of : List ℕ → List ℕ → List Item
-items_of amounts weights = map (λ pair. record { amount = pair.0; weight = pair.1 }) (zip amounts weights)
+items_of amounts weights =
+    map (λ pair. record { amount = pair.0; weight = pair.1 }) (zip amounts weights)
 
 -- the pairs with each probability times a share
 abbrev pub scaled : Fraction → Pairs → Pairs
@@ -23,7 +25,8 @@ scaled share pairs = map (λ pair. (pair.0, share *ℚ pair.1)) pairs
 abbrev pub mixture_of : ℕ → List Sev → List ℕ → Pairs
 mixture_of total [] weights = []
 mixture_of total (atom ∷ atoms) [] = []
-mixture_of total (atom ∷ atoms) (weight ∷ weights) = scaled (weight over total) (pairs_of atom) ++ mixture_of total atoms weights
+mixture_of total (atom ∷ atoms) (weight ∷ weights) =
+    scaled (weight over total) (pairs_of atom) ++ mixture_of total atoms weights
 
 abbrev pub mixture : List Sev → Weights → Pairs
 mixture atoms weights = mixture_of weights.total atoms weights.weights

@@ -1,7 +1,9 @@
 //! Atoms and their mixture.
 
-ghost use Rattle.std.specs.Prelude.{◌≡◌, ◌++◌, ◌≤◌, ◌<◌, ◌^◌, length, map, sum, zip, IfOk, IfErr, MatchResult};
+ghost use Rattle.std.specs.Prelude.{◌≡◌, ◌++◌, ◌≤◌, ◌<◌, ◌^◌, length, map, sum, zip, IfOk, IfErr, OnOk, MatchResult};
+ghost use Rattle.dl_limits.specs.Limits.{most_parts};
 ghost use Rattle.dl_exact.specs.Fraction.{◌over◌};
+ghost use Rattle.dl_plan.specs.Fine.{IsFine};
 ghost use Rattle.dl_plan.specs.Weighted.{amounts_of};
 ghost use Rattle.dl_plan.specs.Severity.{Means};
 ghost use Rattle.dl_sev.specs.Steps.{weighed, items_of, mixture, share_of};
@@ -21,7 +23,7 @@ pub fn merge(alloc: Global, amounts: &[u32], weights: &Weights) -> Result<Sev, A
     requires lengths { length amounts.now ≡ length weights.now.weights }
     requires sum { sum weights.now.weights ≡ weights.now.total }
     requires some { 1 ≤ weights.now.total }
-    requires within { weights.now.total ≤ 2 ^ 30 }
+    requires within { weights.now.total ≤ most_parts }
     ensures { IfOk result (λ sev. Means sev (weighed amounts.now weights.now)) }
 {
     gathered(alloc, items_of(alloc, amounts, weights.weights.as_slice())?)
@@ -48,8 +50,10 @@ pub fn mix(alloc: Global, atoms: &[Sev], weights: &Weights) -> Result<Sev, MixFa
     requires lengths { length atoms.now ≡ length weights.now.weights }
     requires sum { sum weights.now.weights ≡ weights.now.total }
     requires some { 1 ≤ weights.now.total }
-    requires within { weights.now.total ≤ 2 ^ 30 }
-    ensures { MatchResult result (λ made. Means made (mixture atoms.now weights.now)) (RefusesMixture atoms.now weights.now) }
+    requires within { weights.now.total ≤ most_parts }
+    ensures step { MatchResult result (λ made. Means made (mixture atoms.now weights.now))
+        (RefusesMixture atoms.now weights.now) }
+    ensures fine { OnOk result (IsFine (map (λ pair. pair.1) (mixture atoms.now weights.now))) }
 {
     let mut amounts = Vec::new(alloc);
     let mut probs = Vec::new(alloc);
@@ -79,7 +83,7 @@ fn push_amounts(amounts: &mut Vec<u32>, items: &[Item]) -> Result<(), MixFault>
 /// The probabilities of an atom, times `weight` over `total`, put behind others.
 fn push_probs(probs: &mut Vec<Frac>, atom: &Sev, weight: u32, total: u32) -> Result<(), MixFault>
     requires some { 0 < total }
-    requires within { total ≤ 2 ^ 30 }
+    requires within { total ≤ most_parts }
     ensures ok { IfOk result (λ _. probs.new.items ≡ probs.old.items ++ map (share_of (weight over total) atom.now.total) atom.now.items) }
     ensures refused { IfErr result (λ fault. fault ≡ OutOfMemory) }
 {

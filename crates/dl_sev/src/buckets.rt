@@ -7,6 +7,7 @@ ghost use Rattle.dl_sev.specs.Buckets.{IsModest, IsFirst, AreAmounts, RefusesAmo
 
 use crate::fault::AmountFault;
 use dl_frac::Frac;
+use dl_limits::MOST_AMOUNT;
 use std::alloc::Global;
 
 /// The values over `bs`, which is above 0, as whole numbers of buckets. `OffGrid` with the place of
@@ -17,7 +18,8 @@ pub fn amounts(alloc: Global, values: &[Frac], bs: Frac) -> Result<Vec<u32>, Amo
     requires modest { IsModest bs }
     requires count { length values.now ≤ 1024 }
     requires parts { All IsModest values.now }
-    ensures { MatchResult result (λ made. AreAmounts values.now bs made.items) (RefusesAmounts values.now bs) }
+    ensures { MatchResult result (λ made. AreAmounts values.now bs made.items)
+        (RefusesAmounts values.now bs) }
 {
     if let Some(at) = first_off_grid(values, bs) {
         return Err(AmountFault::OffGrid(at));
@@ -25,7 +27,7 @@ pub fn amounts(alloc: Global, values: &[Frac], bs: Frac) -> Result<Vec<u32>, Amo
     let mut made = Vec::new(alloc);
     'values: for (at, &value) in values.iter().enumerate() {
         let amount = quotient(value, bs);
-        if amount > 1 << 20 {
+        if amount > MOST_AMOUNT as u128 {
             return Err(AmountFault::TooFar(at as u32));
         }
         made.push(amount as u32)?;

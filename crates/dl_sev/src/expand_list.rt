@@ -6,13 +6,15 @@ ghost use Rattle.dl_sev.specs.Ranges.{IsRange, IsShared, RefusesRanges, PassesRo
 use crate::fault::ExpandFault;
 use crate::range::Range;
 use crate::weights::numerator;
-use dl_frac::{Frac, lcm_to};
+use dl_frac::Frac;
+use dl_plan::common_denominator_of;
 use std::alloc::Global;
 
 /// The values of the ranges in order. `TooLong` exactly where there are more than 1,024.
 pub fn expand(alloc: Global, items: &[Range]) -> Result<Vec<Frac>, ExpandFault>
     requires { All IsRange items.now }
-    ensures values { MatchResult result (λ values. values.items ≡ list_values items.now) (RefusesRanges items.now) }
+    ensures values { MatchResult result (λ values. values.items ≡ list_values items.now)
+        (RefusesRanges items.now) }
     ensures few { IfOk result (λ values. length values.items ≤ 1024) }
 {
     let mut values = Vec::new(alloc);
@@ -28,7 +30,8 @@ pub fn expand(alloc: Global, items: &[Range]) -> Result<Vec<Frac>, ExpandFault>
 fn push_range(values: &mut Vec<Frac>, range: &Range) -> Result<(), ExpandFault>
     requires range { IsRange range.now }
     requires room { length values.old.items ≤ 1024 }
-    ensures values { IfOk result (λ _. values.new.items ≡ values.old.items ++ range_values range.now) }
+    ensures values { IfOk result (λ _. values.new.items
+        ≡ values.old.items ++ range_values range.now) }
     ensures few { IfOk result (λ _. length values.new.items ≤ 1024) }
     ensures long { IfErr result (PassesRoom (length values.old.items) range.now) }
 {
@@ -43,7 +46,8 @@ fn push_one(values: &mut Vec<Frac>, range: &Range) -> Result<(), ExpandFault>
     requires range { IsRange range.now }
     requires one { range.now.from ≡ range.now.to }
     requires room { length values.old.items ≤ 1024 }
-    ensures values { IfOk result (λ _. values.new.items ≡ values.old.items ++ range_values range.now) }
+    ensures values { IfOk result (λ _. values.new.items
+        ≡ values.old.items ++ range_values range.now) }
     ensures few { IfOk result (λ _. length values.new.items ≤ 1024) }
     ensures long { IfErr result (PassesRoom (length values.old.items) range.now) }
 {
@@ -60,7 +64,8 @@ fn push_steps(values: &mut Vec<Frac>, range: &Range, den: u64) -> Result<(), Exp
     requires den { den ≡ range_denominator range.now }
     requires shared { den ≤ 1000000 }
     requires room { length values.old.items ≤ 1024 }
-    ensures values { IfOk result (λ _. values.new.items ≡ values.old.items ++ range_values range.now) }
+    ensures values { IfOk result (λ _. values.new.items
+        ≡ values.old.items ++ range_values range.now) }
     ensures few { IfOk result (λ _. length values.new.items ≤ 1024) }
     ensures long { IfErr result (PassesRoom (length values.old.items) range.now) }
 {
@@ -82,8 +87,5 @@ fn shared_denominator(range: &Range) -> u64
     requires { IsShared range.now }
     ensures { result ≡ range_denominator range.now }
 {
-    let most = 1_000_000;
-    let first = lcm_to(1, range.from.den(), most).unwrap();
-    let second = lcm_to(first, range.to.den(), most).unwrap();
-    lcm_to(second, range.step.den(), most).unwrap()
+    common_denominator_of(&[range.from, range.to, range.step]).unwrap() as u64
 }

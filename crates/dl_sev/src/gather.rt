@@ -2,6 +2,7 @@
 
 ghost use Rattle.std.specs.Prelude.{◌≡◌, ◌<◌, ◌≤◌, ◌^◌, ℕ, List, All, IsPermutation, IfOk};
 ghost use Rattle.std.specs.List.Sorted.{IsNonDecreasingBy, IsStrictlyIncreasing};
+ghost use Rattle.dl_limits.specs.Limits.{most_parts};
 ghost use Rattle.dl_exact.specs.Fraction.{◌over◌};
 ghost use Rattle.dl_plan.specs.Weighted.{amounts_of, weight_sum, weight_at};
 ghost use Rattle.dl_plan.specs.Severity.{probability_of};
@@ -13,8 +14,9 @@ use std::alloc::{AllocError, Global};
 /// The severity of these items: equal amounts are added up, and weights of 0 dropped.
 pub(crate) fn gathered(alloc: Global, items: Vec<Item>) -> Result<Sev, AllocError>
     requires some { 0 < weight_sum items.items }
-    requires within { weight_sum items.items ≤ 2 ^ 30 }
-    ensures { IfOk result (λ sev. (x : ℕ) → probability_of sev x ≡ weight_at items.items x over weight_sum items.items) }
+    requires within { weight_sum items.items ≤ most_parts }
+    ensures { IfOk result (λ sev. (x : ℕ)
+        → probability_of sev x ≡ weight_at items.items x over weight_sum items.items) }
 {
     let sorted = sorted(items);
     let rising = added_up(alloc, &sorted)?;
@@ -33,11 +35,12 @@ fn sorted(mut items: Vec<Item>) -> Vec<Item>
 /// Sorted items with equal amounts added up, and weights of 0 dropped.
 fn added_up(alloc: Global, items: &[Item]) -> Result<Vec<Item>, AllocError>
     requires order { IsNonDecreasingBy (λ item. item.amount) items.now }
-    requires within { weight_sum items.now ≤ 2 ^ 30 }
+    requires within { weight_sum items.now ≤ most_parts }
     ensures rising { IfOk result (λ made. IsStrictlyIncreasing (amounts_of made.items)) }
     ensures positive { IfOk result (λ made. All (λ item. 0 < item.weight) made.items) }
     ensures sum { IfOk result (λ made. weight_sum made.items ≡ weight_sum items.now) }
-    ensures weights { IfOk result (λ made. (x : ℕ) → weight_at made.items x ≡ weight_at items.now x) }
+    ensures weights { IfOk result (λ made. (x : ℕ)
+        → weight_at made.items x ≡ weight_at items.now x) }
 {
     let mut made = Vec::new(alloc);
     let mut last = Item {

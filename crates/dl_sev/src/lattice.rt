@@ -1,15 +1,16 @@
 //! Whether a clause maps each multiple of a step to a whole number.
 
 ghost use Rattle.std.specs.Prelude.{◌<◌, ◌^◌, ◌↔◌, IsTrue, All};
+ghost use Rattle.dl_limits.specs.Limits.{sum_bound};
 ghost use Rattle.dl_plan.specs.Fine.{IsWhole};
 ghost use Rattle.dl_plan.specs.Cession.{kept, IsCession};
 ghost use Rattle.dl_sev.specs.Fits.{FitsStep, FitsAfter, FitsLayer};
 
 use dl_plan::{Cede, CedeLayer};
 
-/// Whether the clause maps every multiple of `step` buckets to a whole number of buckets. Between the
-/// ends of its layers what it keeps is a straight line, so the two multiples past each end decide.
-/// Takes no memory.
+/// Whether the clause maps every multiple of `step` buckets to a whole number of buckets. Between
+/// the ends of its layers what it keeps is a straight line, so the two multiples past each end
+/// decide. Takes no memory.
 pub fn fits(cede: &Cede, step: u32) -> bool
     requires { IsCession cede.now }
     ensures { IsTrue result ↔ FitsStep cede.now step }
@@ -37,7 +38,8 @@ fn fits_layer(cede: &Cede, step: u32, layer: &CedeLayer) -> bool
     fits_after(cede, step, layer.attach as u64) && fits_after(cede, step, layer.edge())
 }
 
-/// Whether the first two multiples of `step` that are not below `place` are mapped to whole numbers.
+/// Whether the first two multiples of `step` that are not below `place` are mapped to whole
+/// numbers.
 fn fits_after(cede: &Cede, step: u32, place: u64) -> bool
     requires step { 0 < step }
     requires place { place < 2 ^ 33 }
@@ -50,7 +52,7 @@ fn fits_after(cede: &Cede, step: u32, place: u64) -> bool
 
 /// Whether the clause maps `x` to a whole number.
 fn is_whole_at(cede: &Cede, x: u64) -> bool
-    requires amount { x < 2 ^ 40 }
+    requires amount { x < sum_bound }
     requires cession { IsCession cede.now }
     ensures { IsTrue result ↔ IsWhole (kept cede.now x) }
 {

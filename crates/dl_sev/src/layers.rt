@@ -9,12 +9,14 @@ ghost use Rattle.dl_sev.specs.Refusals.{RefusesAbove, RefusesCession};
 
 use crate::fault::{AboveFault, CedeFault};
 use crate::gather::gathered;
-use dl_plan::{Cede, Item, Sev};
+use dl_plan::{Cede, Item, Sev, in_layer};
 use std::alloc::{AllocError, Global};
 
-/// The severity conditioned on exceeding `attach` buckets. `NoneAbove` exactly where no amount does.
+/// The severity conditioned on exceeding `attach` buckets. `NoneAbove` exactly where no amount
+/// does.
 pub fn above(alloc: Global, sev: &Sev, attach: u32) -> Result<Sev, AboveFault>
-    ensures { MatchResult result (λ made. Means made (conditioned attach (pairs_of sev.now))) (RefusesAbove sev.now attach) }
+    ensures { MatchResult result (λ made. Means made (conditioned attach (pairs_of sev.now)))
+        (RefusesAbove sev.now attach) }
 {
     match sev.exceeding(alloc, attach)? {
         Some(made) => Ok(made),
@@ -55,18 +57,15 @@ fn items_cut(
 fn cut_amount(amount: u32, limit: Option<u32>, attach: u32) -> u32
     ensures { result ≡ layer limit attach amount }
 {
-    let excess = amount.saturating_sub(attach);
-    match limit {
-        Some(most) => excess.min(most),
-        None => excess,
-    }
+    in_layer(amount as u64, limit, attach) as u32
 }
 
-/// What the clause keeps of each amount. `OffGrid` exactly where that of an amount is no whole number
-/// of buckets.
+/// What the clause keeps of each amount. `OffGrid` exactly where that of an amount is no whole
+/// number of buckets.
 pub fn cede_each(alloc: Global, sev: &Sev, cede: &Cede) -> Result<Sev, CedeFault>
     requires { IsCession cede.now }
-    ensures step { MatchResult result (λ made. Means made (ceded_each cede.now (pairs_of sev.now))) (RefusesCession sev.now.items cede.now) }
+    ensures step { MatchResult result (λ made. Means made (ceded_each cede.now (pairs_of sev.now)))
+        (RefusesCession sev.now.items cede.now) }
     ensures whole { OnOk result (All (λ item. IsWhole (kept cede.now item.amount)) sev.now.items) }
 {
     let items = items_ceded(alloc, sev.items.as_slice(), cede)?;
@@ -76,7 +75,9 @@ pub fn cede_each(alloc: Global, sev: &Sev, cede: &Cede) -> Result<Sev, CedeFault
 /// The items with what the clause keeps of their amounts.
 fn items_ceded(alloc: Global, items: &[Item], cede: &Cede) -> Result<Vec<Item>, CedeFault>
     requires { IsCession cede.now }
-    ensures step { MatchResult result (λ made. made.items ≡ map (with_amount (λ x. (kept cede.now x).num)) items.now) (RefusesCession items.now cede.now) }
+    ensures step { MatchResult result (λ made. made.items
+        ≡ map (with_amount (λ x. (kept cede.now x).num)) items.now)
+        (RefusesCession items.now cede.now) }
     ensures whole { OnOk result (All (λ item. IsWhole (kept cede.now item.amount)) items.now) }
 {
     let mut made = Vec::new(alloc);

@@ -10,8 +10,8 @@ use dl_frac::Frac;
 use dl_plan::common_denominator_of;
 use std::alloc::Global;
 
-/// Whole weights over the common denominator of probabilities that sum to 1. `TooFine` exactly where
-/// that denominator passes 2^30; else `NotOne` exactly where the sum is not 1.
+/// Whole weights over the common denominator of probabilities that sum to 1. `TooFine` exactly
+/// where that denominator passes 2^30; else `NotOne` exactly where the sum is not 1.
 pub fn weigh(alloc: Global, probs: &[Frac]) -> Result<Weights, WeighFault>
     ensures { MatchResult result (IsWeighing probs.now) (RefusesWeights probs.now) }
 {

@@ -1,6 +1,7 @@
 //! Whole weights of a list of probabilities.
 
 ghost use Rattle.std.specs.Prelude.{◌≡◌, ◌≤◌, ◌^◌, ◌↔◌, IfOk, IsTrue};
+ghost use Rattle.dl_limits.specs.Limits.{most_parts};
 ghost use Rattle.dl_exact.specs.Fraction.{whole};
 ghost use Rattle.dl_plan.specs.Fine.{common_denominator};
 ghost use Rattle.dl_sev.specs.Weighing.{weight_of, sum_of};
@@ -45,7 +46,7 @@ pub(crate) fn sum_to_one(probs: &[Frac], common: u32) -> bool
 /// The whole weights of probabilities that sum to 1, over their common denominator.
 pub(crate) fn over_common(alloc: Global, probs: &[Frac], common: u32) -> Result<Weights, AllocError>
     requires common { common ≡ common_denominator probs.now }
-    requires fine { common ≤ 2 ^ 30 }
+    requires fine { common ≤ most_parts }
     requires one { sum_of probs.now ≡ whole 1 }
     ensures { IfOk result (IsWeighing probs.now) }
 {

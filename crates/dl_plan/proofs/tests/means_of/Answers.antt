@@ -6,7 +6,7 @@ use Rattle.dl_plan.specs.declared.severity.Sev.{Sev}
 use Rattle.dl_plan.specs.Fine.{IsAdmitted}
 use Rattle.dl_plan.specs.Weighted.{weight_at}
 use Rattle.dl_plan.specs.Severity.{probability_of}
-use Rattle.dl_plan.proofs.Fits.{num_of_over-le, den_of_over-le}
+use Rattle.dl_exact.proofs.Parts.{over_num_le, over_den_le}
 use Rattle.dl_plan.proofs.Means.{total_pos, positive_share}
 use Rattle.dl_plan.proofs.tests.means_of.Goals as goal
 
@@ -24,8 +24,8 @@ thinned_small x sev p q =
     let d : x.den * t ≤ 131071 * 2 ^ 30 = mul-le-mul below sev.weighted.within in
     subst IsAdmitted (sym value)
     (record {
-      num = omega (arith, num_of_over-le (x.num * (t - w)) (x.den * t) (mul-pos x.positive pos), n);
-      den = omega (arith, den_of_over-le (x.num * (t - w)) (x.den * t) (mul-pos x.positive pos), d);
+      num = omega (arith, over_num_le (x.num * (t - w)) (x.den * t) (mul-pos x.positive pos), n);
+      den = omega (arith, over_den_le (x.num * (t - w)) (x.den * t) (mul-pos x.positive pos), d);
     })
 
 pub thinned-thinned-requires-clause-admitted : goal.thinned-thinned-requires-clause-admitted

@@ -1,6 +1,7 @@
 -- The amounts with the weights of the products are the mixture.
-use Rattle.std.proofs.Common.{◌∙◌, ◌++◌, map, get_or, ap}
+use Rattle.std.proofs.Common.{◌∙◌, ◌++◌, map, get_or, ap, subst}
 use Rattle.dl_exact.specs.Fraction.{◌over◌}
+use Rattle.dl_plan.specs.Fine.{IsFine}
 use Rattle.dl_plan.specs.Weighted.{amounts_of}
 use Rattle.dl_plan.specs.Severity.{probability}
 use Rattle.dl_sev.specs.Steps.{mixture_of, share_of}
@@ -26,11 +27,17 @@ over_common-requires-clause-one c =
     ap sum_of (c.deref-2.ensures.value ∙ c.atoms.invariant.probs ∙ ap seconds all)
     ∙ mixture_one t c.args.atoms.now c.args.weights.now.weights c.requires.some c.requires.lengths c.requires.sum
 
-pub returns : goal.returns
-returns c = λ x.
+pub returns-clause-step : goal.returns-clause-step
+returns-clause-step c = λ x.
     let t = c.args.weights.now.total in
     let all = mixture_whole t c.args.atoms.now c.args.weights.now.weights c.atoms.at c.atoms-test.false c.requires.lengths in
     let amounts = c.deref-3.ensures.value ∙ c.atoms.invariant.amounts ∙ ap firsts all in
     let probs = c.in_ok-whole.ensures.shares ∙ c.deref-2.ensures.value ∙ c.atoms.invariant.probs ∙ ap seconds all in
     c.in_ok-merge.ensures x
     ∙ ap (λ ps. probability ps x) (weighed-back (mixture_of t c.args.atoms.now c.args.weights.now.weights) c.deref-3.result.now c.in_ok-whole.whole amounts probs)
+
+pub returns-clause-fine : goal.returns-clause-fine
+returns-clause-fine c =
+    let all = mixture_whole c.args.weights.now.total c.args.atoms.now c.args.weights.now.weights c.atoms.at c.atoms-test.false c.requires.lengths in
+    let told = rw c.in-Some.is at c.common_denominator_of.ensures in
+    subst IsFine (c.deref.ensures.value ∙ c.atoms.invariant.probs ∙ ap seconds all) told.0

@@ -8,11 +8,15 @@ use Rattle.dl_sev.proofs.buckets.amounts.Goals as goal
 
 pub returns-then-amount : goal.returns-then-amount
 returns-then-amount c =
-    let far : whole (2 ^ 20) <ℚ buckets c.args.bs c.index-values-at.result = subst (λ y. whole (2 ^ 20) <ℚ y) (sym c.quotient-amount.ensures) (whole_lt (2 ^ 20) c.quotient-amount.result c.if-amount.true) in (
+    let far : whole (2 ^ 20) <ℚ buckets c.args.bs c.index-values-at.result =
+    subst (λ y. whole (2 ^ 20) <ℚ y) (sym c.quotient-amount.ensures)
+    (whole_lt (2 ^ 20) c.quotient-amount.result c.if-amount.true) in (
       c.in_default.ensures.none,
       record {
         inside = c.values-test.true;
-        here = at_place (λ x. whole (2 ^ 20) <ℚ buckets c.args.bs x) c.args.values.now c.values.at c.index-values-at.result c.values-test.true c.index-values-at.is far;
+        here = at_place
+            (λ x. whole
+            (2 ^ 20) <ℚ buckets c.args.bs x) c.args.values.now c.values.at c.index-values-at.result c.values-test.true c.index-values-at.is far;
         before = c.values.invariant.before;
       },
     )
@@ -20,9 +24,14 @@ returns-then-amount c =
 pub values-preserved : goal.values-preserved
 values-preserved c = record {
   same = more_amounts c.args.bs c.args.values.now c.values.at c.quotient-amount.result c.index-values-at.result c.values.made.items _ c.values-test.true c.index-values-at.is c.values.invariant.same c.in_ok-push.ensures.items c.quotient-amount.ensures;
-  near = rw c.in_ok-push.ensures.items (All-push (λ amount. amount ≤ 2 ^ 20) c.values.made.items c.quotient-amount.result c.values.invariant.near c.if-amount.false);
-  before = more_before (λ x. ¬ (whole (2 ^ 20) <ℚ buckets c.args.bs x)) c.args.values.now c.values.at c.index-values-at.result c.values-test.true c.index-values-at.is c.values.invariant.before
-      (λ far. absurd (not_lt (lt_whole (2 ^ 20) c.quotient-amount.result (subst (λ y. whole (2 ^ 20) <ℚ y) c.quotient-amount.ensures far)) c.if-amount.false));
+  near = rw c.in_ok-push.ensures.items (All-push
+      (λ amount. amount ≤ 2 ^ 20) c.values.made.items c.quotient-amount.result c.values.invariant.near c.if-amount.false);
+  before =
+      more_before
+      (λ x. ¬ (whole
+      (2 ^ 20) <ℚ buckets c.args.bs x)) c.args.values.now c.values.at c.index-values-at.result c.values-test.true c.index-values-at.is c.values.invariant.before
+      (λ far. absurd (not_lt (lt_whole (2 ^ 20) c.quotient-amount.result
+      (subst (λ y. whole (2 ^ 20) <ℚ y) c.quotient-amount.ensures far)) c.if-amount.false));
 }
   where
     not_lt : {m n : ℕ} → m < n → n ≤ m → ⊥

@@ -11,7 +11,8 @@ use Rattle.dl_sev.proofs.Ranged.{pos, rising, step_pos, steps_are, value_is, val
 use Rattle.dl_sev.proofs.expand_list.push_steps.Goals as goal
 
 pub overflow_sub-steps : goal.overflow_sub-steps
-overflow_sub-steps c = rw (c.numerator-from.ensures, c.numerator.ensures) (rising c.args.range.now c.requires.range c.args.den c.requires.den)
+overflow_sub-steps c = rw (c.numerator-from.ensures, c.numerator.ensures)
+    (rising c.args.range.now c.requires.range c.args.den c.requires.den)
 
 pub nonzero_div-steps : goal.nonzero_div-steps
 nonzero_div-steps c = rw c.numerator-step.ensures (step_pos c.args.range.now c.requires.range c.args.den c.requires.den)
@@ -19,7 +20,8 @@ nonzero_div-steps c = rw c.numerator-step.ensures (step_pos c.args.range.now c.r
 pub returns-then-steps-len-clause-long : goal.returns-then-steps-len-clause-long
 returns-then-steps-len-clause-long c =
     let steps = steps_are c.args.range.now c.requires.range c.args.den c.requires.den in
-    let count : 1024 - c.len.result ≤ steps_in c.args.range.now = rw steps (rw (c.numerator.ensures, c.numerator-from.ensures, c.numerator-step.ensures) at c.if-steps-len.true) in
+    let count : 1024 - c.len.result ≤ steps_in c.args.range.now =
+    rw steps (rw (c.numerator.ensures, c.numerator-from.ensures, c.numerator-step.ensures) at c.if-steps-len.true) in
     omega (arith, count, values_length c.args.range.now, c.len.ensures, c.args.values.now.ok.0, c.requires.room)
 
 pub make-requires : goal.make-requires
@@ -30,10 +32,14 @@ step_within k n h = omega (arith, h)
 
 pub unwrap-value-requires : goal.unwrap-value-requires
 unwrap-value-requires c =
-    let h : c.steps.k ≤ (weight_of c.args.den c.args.range.now.to - weight_of c.args.den c.args.range.now.from) / weight_of c.args.den c.args.range.now.step =
-    rw (c.numerator.ensures, c.numerator-from.ensures, c.numerator-step.ensures) at (step_within c.steps.k ((c.numerator.result - c.numerator-from.result) / c.numerator-step.result) c.steps-test.true) in
+    let h : c.steps.k ≤
+    (weight_of c.args.den c.args.range.now.to - weight_of c.args.den c.args.range.now.from) / weight_of c.args.den c.args.range.now.step =
+    rw (c.numerator.ensures, c.numerator-from.ensures, c.numerator-step.ensures) at
+    (step_within c.steps.k
+    ((c.numerator.result - c.numerator-from.result) / c.numerator-step.result) c.steps-test.true) in
     given_ok _ _ c.make.ensures
-    (rw (c.numerator-from.ensures, c.numerator-step.ensures) (value_fits c.args.range.now c.requires.range c.args.den c.requires.den c.steps.k c.requires.shared h))
+    (rw (c.numerator-from.ensures, c.numerator-step.ensures)
+    (value_fits c.args.range.now c.requires.range c.args.den c.requires.den c.steps.k c.requires.shared h))
 
 pub steps-preserved : goal.steps-preserved
 steps-preserved c =
@@ -48,13 +54,19 @@ all_steps k n p q = omega (arith, p, q)
 pub returns-clause-values : goal.returns-clause-values
 returns-clause-values c =
     let steps : (c.numerator.result - c.numerator-from.result) / c.numerator-step.result ≡ steps_in c.args.range.now =
-    rw (c.numerator.ensures, c.numerator-from.ensures, c.numerator-step.ensures) (sym (steps_are c.args.range.now c.requires.range c.args.den c.requires.den)) in
-    let count = all_steps c.steps.k ((c.numerator.result - c.numerator-from.result) / c.numerator-step.result) c.steps-test.false c.steps.auto.k-end ∙ ap (λ n. n + 1) steps in
+    rw (c.numerator.ensures, c.numerator-from.ensures, c.numerator-step.ensures)
+    (sym (steps_are c.args.range.now c.requires.range c.args.den c.requires.den)) in
+    let count =
+    all_steps c.steps.k
+    ((c.numerator.result - c.numerator-from.result) / c.numerator-step.result) c.steps-test.false c.steps.auto.k-end
+    ∙ ap (λ n. n + 1) steps in
     c.steps.invariant ∙ ap (λ n. c.args.values.now.items ++ map (value_at c.args.range.now) (range_with_len 0 n)) count
 
 pub returns-clause-few : goal.returns-clause-few
 returns-clause-few c =
-    let count = all_steps c.steps.k ((c.numerator.result - c.numerator-from.result) / c.numerator-step.result) c.steps-test.false c.steps.auto.k-end in
+    let count =
+    all_steps c.steps.k
+    ((c.numerator.result - c.numerator-from.result) / c.numerator-step.result) c.steps-test.false c.steps.auto.k-end in
     omega (
       arith,
       ap (λ (xs : List Fraction). length xs) c.steps.invariant,

@@ -6,14 +6,17 @@ use Rattle.dl_sev.proofs.gather.added_up.Goals.{then-item-last, else-item-last+i
 pub items-preserved : goal.items-preserved
 items-preserved c = elim c.if-item-last.branch [
   | then-item-last w ↦
-      rw (w.made-is, w.last-is) (gathered-same c.args.items.now c.items.item-index c.items.made.items c.items.last _ c.items-test.true c.items.invariant w.if-item-last.true)
+      rw (w.made-is, w.last-is)
+      (gathered-same c.args.items.now c.items.item-index c.items.made.items c.items.last _ c.items-test.true c.items.invariant w.if-item-last.true)
   | else-item-last+in_ok-push_weighed w ↦
       rw (w.made-is, w.last-is, w.in_ok-push_weighed.ensures)
       (gathered-next c.args.items.now c.items.item-index c.items.made.items c.items.last _ c.items-test.true c.items.invariant c.requires.order w.if-item-last.false)
 ]
 
 pub returns-clause-rising : goal.returns-clause-rising
-returns-clause-rising c = rw c.in_ok-push_weighed-2.ensures (rising-with c.items.made.items c.items.last c.items.invariant.rising c.items.invariant.below)
+returns-clause-rising c = rw c.in_ok-push_weighed-2.ensures
+    (rising-with c.items.made.items c.items.last c.items.invariant.rising c.items.invariant.below)
 
 pub returns-clause-positive : goal.returns-clause-positive
-returns-clause-positive c = rw c.in_ok-push_weighed-2.ensures (positive-with c.items.made.items c.items.last c.items.invariant.positive)
+returns-clause-positive c =
+    rw c.in_ok-push_weighed-2.ensures (positive-with c.items.made.items c.items.last c.items.invariant.positive)

@@ -5,4 +5,5 @@ use Rattle.dl_plan.specs.declared.item.Item.{Item}
 use Rattle.dl_sev.proofs.gather.sorted.Goals as goal
 
 pub returns-clause-order : goal.returns-clause-order
-returns-clause-order c = IsNonDecreasingBy-from_sort_by_key (λ (i : Item). i.amount) _ c.sort_unstable_by_key.ensures.sorted (λ a r q k. search rules)
+returns-clause-order c = IsNonDecreasingBy-from_sort_by_key
+    (λ (i : Item). i.amount) _ c.sort_unstable_by_key.ensures.sorted (λ a r q k. search rules)

@@ -4,11 +4,15 @@ use Rattle.dl_sev.proofs.Lattices.{fits_all, fits_none, fits_one, fits_ends}
 use Rattle.dl_sev.proofs.lattice.fits.Goals as goal
 
 pub returns-then-step-eq0 : goal.returns-then-step-eq0
-returns-then-step-eq0 c = (λ given. fits_none c.args.cede.now c.args.step c.if-step-eq0.true, λ fits. rw c.if-step-eq0.true refl)
+returns-then-step-eq0 c = (
+  λ given. fits_none c.args.cede.now c.args.step c.if-step-eq0.true,
+  λ fits. rw c.if-step-eq0.true refl,
+)
 
 pub returns-then-is_whole_at : goal.returns-then-is_whole_at
 returns-then-is_whole_at c = (
-  λ given. fits_all c.args.cede.now c.args.step c.requires (omega (arith, c.if-step-eq0.false)) (c.is_whole_at.ensures.0 c.if-is_whole_at.true) (c.fits_layers.ensures.0 given),
+  λ given. fits_all c.args.cede.now c.args.step c.requires (omega (arith, c.if-step-eq0.false))
+      (c.is_whole_at.ensures.0 c.if-is_whole_at.true) (c.fits_layers.ensures.0 given),
   λ fits. c.fits_layers.ensures.1 (fits_ends c.args.cede.now c.args.step fits c.args.cede.now.1),
 )
 

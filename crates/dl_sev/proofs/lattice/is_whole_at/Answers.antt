@@ -4,10 +4,11 @@ use Rattle.std.specs.Option.{MatchOption, is_some}
 use Rattle.dl_exact.specs.Fraction.{Fraction, whole}
 use Rattle.dl_plan.specs.Fine.{IsWhole}
 use Rattle.dl_plan.specs.Cession.{kept}
-use Rattle.dl_plan.proofs.Fits.{whole_den}
+use Rattle.dl_exact.proofs.Parts.{whole_den}
 use Rattle.dl_sev.proofs.lattice.is_whole_at.Goals as goal
 
-tells : (kept : Fraction) (answer : Option ℕ) → MatchOption answer (¬ IsWhole kept) (λ y. kept ≡ whole y) → IsTrue (is_some answer) ↔ IsWhole kept
+tells : (kept : Fraction) (answer : Option ℕ) → MatchOption answer (¬ IsWhole kept) (λ y. kept ≡ whole y)
+    → IsTrue (is_some answer) ↔ IsWhole kept
 tells kept None not_whole = (λ given. cc, λ is. absurd (not_whole is))
 tells kept (Some y) is = (λ given. ap (λ z. z.den) is ∙ whole_den y, λ is_one. refl)
 

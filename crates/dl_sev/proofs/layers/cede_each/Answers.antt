@@ -2,14 +2,15 @@
 use Rattle.std.proofs.Common.{ℕ, ◌∙◌, ◌<◌, ◌≤◌, ◌^◌, map, ap, sym, subst}
 use Rattle.dl_plan.specs.Cession.{kept}
 use Rattle.dl_sev.specs.Steps.{with_amount}
-use Rattle.dl_sev.proofs.Mapped.{mapped_sum, mapped_means, total_pos}
+use Rattle.dl_sev.proofs.Mapped.{mapped_sum, mapped_means}
+use Rattle.dl_plan.proofs.Means.{severity_total}
 use Rattle.dl_sev.proofs.layers.cede_each.Goals as goal
 
 pub gathered-requires-clause-some : goal.gathered-requires-clause-some
 gathered-requires-clause-some c =
     let f : ℕ → ℕ = λ x. (kept c.args.cede.now x).num in
     let items = c.in_ok-items.ensures.step ∙ ap (map (with_amount f)) c.as_slice.ensures in
-    subst (λ n. 0 < n) (sym (mapped_sum c.args.sev.now f _ items)) (total_pos c.args.sev.now)
+    subst (λ n. 0 < n) (sym (mapped_sum c.args.sev.now f _ items)) (severity_total c.args.sev.now)
 
 pub gathered-requires-clause-within : goal.gathered-requires-clause-within
 gathered-requires-clause-within c =

@@ -6,21 +6,29 @@ use Rattle.dl_plan.specs.Weighted.{weight_sum, weight_at}
 use Rattle.dl_plan.specs.Severity.{probability_of}
 use Rattle.dl_plan.specs.Cession.{layer}
 use Rattle.dl_sev.specs.Steps.{with_amount}
-use Rattle.dl_sev.proofs.Mapped.{mapped_sum, mapped_means, total_pos, if_ok}
+use Rattle.dl_sev.proofs.Mapped.{mapped_sum, mapped_means, if_ok}
+use Rattle.dl_plan.proofs.Means.{severity_total}
 use Rattle.dl_sev.proofs.layers.cut.Goals as goal
 
 pub gathered-requires-clause-some : goal.gathered-requires-clause-some
 gathered-requires-clause-some c =
-    let items = c.in_ok-items_cut.ensures ∙ ap (map (with_amount (layer c.args.limit c.args.attach))) c.as_slice.ensures in
-    subst (λ n. 0 < n) (sym (mapped_sum c.args.sev.now (layer c.args.limit c.args.attach) _ items)) (total_pos c.args.sev.now)
+    let items = c.in_ok-items_cut.ensures ∙ ap
+    (map (with_amount (layer c.args.limit c.args.attach))) c.as_slice.ensures in
+    subst (λ n. 0 < n) (sym (mapped_sum c.args.sev.now (layer c.args.limit c.args.attach) _ items))
+    (severity_total c.args.sev.now)
 
 pub gathered-requires-clause-within : goal.gathered-requires-clause-within
 gathered-requires-clause-within c =
-    let items = c.in_ok-items_cut.ensures ∙ ap (map (with_amount (layer c.args.limit c.args.attach))) c.as_slice.ensures in
-    subst (λ n. n ≤ 2 ^ 30) (sym (mapped_sum c.args.sev.now (layer c.args.limit c.args.attach) _ items)) c.args.sev.now.weighted.within
+    let items = c.in_ok-items_cut.ensures ∙ ap
+    (map (with_amount (layer c.args.limit c.args.attach))) c.as_slice.ensures in
+    subst (λ n. n ≤ 2 ^ 30) (sym (mapped_sum c.args.sev.now
+    (layer c.args.limit c.args.attach) _ items)) c.args.sev.now.weighted.within
 
 pub returns : goal.returns
 returns c =
-    let items = c.in_ok-items_cut.ensures ∙ ap (map (with_amount (layer c.args.limit c.args.attach))) c.as_slice.ensures in
-    if_ok c.gathered.result (λ (sev : Sev). (x : ℕ) → probability_of sev x ≡ weight_at c.in_ok-items_cut.field-0.items x over weight_sum c.in_ok-items_cut.field-0.items) _
-    (λ sev means y. means y ∙ mapped_means c.args.sev.now (layer c.args.limit c.args.attach) _ y items) c.gathered.ensures
+    let items = c.in_ok-items_cut.ensures ∙ ap
+    (map (with_amount (layer c.args.limit c.args.attach))) c.as_slice.ensures in
+    if_ok c.gathered.result (λ (sev : Sev). (x : ℕ)
+    → probability_of sev x ≡ weight_at c.in_ok-items_cut.field-0.items x over weight_sum c.in_ok-items_cut.field-0.items) _
+    (λ sev means y. means y ∙ mapped_means c.args.sev.now
+    (layer c.args.limit c.args.attach) _ y items) c.gathered.ensures

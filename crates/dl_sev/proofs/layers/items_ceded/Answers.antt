@@ -6,7 +6,7 @@ use Rattle.dl_exact.specs.Fraction.{Fraction, whole}
 use Rattle.dl_plan.specs.declared.item.Item.{Item}
 use Rattle.dl_plan.specs.Fine.{IsWhole}
 use Rattle.dl_plan.specs.Cession.{Clause, kept}
-use Rattle.dl_plan.proofs.Fits.{whole_num, whole_den}
+use Rattle.dl_exact.proofs.Parts.{whole_num, whole_den}
 use Rattle.dl_sev.specs.Steps.{with_amount}
 use Rattle.dl_sev.proofs.layers.items_ceded.Goals as goal
 
@@ -19,7 +19,8 @@ made_more clause items made new i amount d h so_far pushed value =
     let f : ℕ → ℕ = λ x. (kept clause x).num in
     let same : f (get_or items i d).amount ≡ amount = ap (λ (x : Fraction). x.num) value ∙ whole_num amount in
     pushed
-    ∙ ap₂ (λ (xs : List Item) (a : ℕ). xs ++ record { amount = a; weight = (get_or items i d).weight } ∷ []) so_far (sym same)
+    ∙ ap₂ (λ (xs : List Item) (a : ℕ). xs ++ record { amount = a; weight = (get_or items i d).weight } ∷ []) so_far
+    (sym same)
     ∙ sym (map_more (with_amount f) items i d h)
 
 whole_more : (clause : Clause) (items : List Item) (i amount : ℕ) (d : Item) → i < length items
@@ -31,7 +32,8 @@ whole_more clause items i amount d h so_far value k e below = elim (cases_lt k i
   | inr more ↦
       let same : k ≡ i = omega (arith, below, more) in
       subst (λ n. IsWhole (kept clause (get_or items n e).amount)) (sym same)
-      (subst (λ (j : Item). IsWhole (kept clause j.amount)) (get_or_default items i d e h) (ap (λ (x : Fraction). x.den) value ∙ whole_den amount))
+      (subst (λ (j : Item). IsWhole (kept clause j.amount)) (get_or_default items i d e h)
+      (ap (λ (x : Fraction). x.den) value ∙ whole_den amount))
 ]
 
 pub items-preserved : goal.items-preserved

@@ -4,24 +4,31 @@ use Rattle.dl_exact.specs.Fraction.{◌over◌}
 use Rattle.dl_plan.specs.Weighted.{weighted_sum, weight_sum}
 use Rattle.dl_plan.proofs.Fits.{over_fits, given_ok, given_value}
 use Rattle.dl_plan.proofs.Shares.{mean-shares}
-use Rattle.dl_sev.proofs.Mapped.{total_pos}
+use Rattle.dl_plan.proofs.Means.{severity_total}
 use Rattle.dl_sev.proofs.means.mean.Goals as goal
 
 pub weighted_sum-sum-requires-clause-within : goal.weighted_sum-sum-requires-clause-within
-weighted_sum-sum-requires-clause-within c = omega (arith, ap weight_sum c.as_slice.ensures, c.args.sev.now.weighted.sum, c.args.sev.now.weighted.within)
+weighted_sum-sum-requires-clause-within c =
+    omega (arith, ap weight_sum c.as_slice.ensures, c.args.sev.now.weighted.sum, c.args.sev.now.weighted.within)
 
 pub make-requires : goal.make-requires
-make-requires c = total_pos c.args.sev.now
+make-requires c = severity_total c.args.sev.now
 
 pub unwrap-requires : goal.unwrap-requires
 unwrap-requires c =
     given_ok _ (c.weighted_sum-sum.result over c.args.sev.now.total) c.make.ensures
-    (over_fits c.weighted_sum-sum.result c.args.sev.now.total (total_pos c.args.sev.now)
-    (omega (arith, c.weighted_sum-sum.ensures.small, ap weight_sum c.as_slice.ensures, c.args.sev.now.weighted.sum, c.args.sev.now.weighted.within))
+    (over_fits c.weighted_sum-sum.result c.args.sev.now.total (severity_total c.args.sev.now)
+    (omega (
+      arith,
+      c.weighted_sum-sum.ensures.small,
+      ap weight_sum c.as_slice.ensures,
+      c.args.sev.now.weighted.sum,
+      c.args.sev.now.weighted.within,
+    ))
     (omega (arith, c.args.sev.now.weighted.within)))
 
 pub returns : goal.returns
 returns c =
     given_value _ (c.weighted_sum-sum.result over c.args.sev.now.total) c.unwrap.result c.make.ensures c.unwrap.ensures
     ∙ ap (λ n. n over c.args.sev.now.total) (c.weighted_sum-sum.ensures.value ∙ ap weighted_sum c.as_slice.ensures)
-    ∙ sym (mean-shares c.args.sev.now.items c.args.sev.now.total (total_pos c.args.sev.now))
+    ∙ sym (mean-shares c.args.sev.now.items c.args.sev.now.total (severity_total c.args.sev.now))

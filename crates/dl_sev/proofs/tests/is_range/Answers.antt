@@ -1,6 +1,6 @@
 -- The step, the last value, the common denominator and the order were tried.
 use Rattle.std.proofs.Common.{arith, inr}
-use Rattle.dl_frac.proofs.FractionLaws.{pos_num}
+use Rattle.dl_exact.proofs.Parts.{pos_num}
 use Rattle.dl_sev.proofs.tests.is_range.Goals as goal
 
 pub returns-then-common-le1000000 : goal.returns-then-common-le1000000

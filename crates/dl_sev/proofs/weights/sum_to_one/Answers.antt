@@ -11,14 +11,21 @@ pub returns-then-weight-left : goal.returns-then-weight-left
 returns-then-weight-left c = (
   λ given. absurd (cc (given)),
   λ one.
-      let more = weight_more c.args.probs.now c.args.common c.probs.prob-index c.prob-item.result c.probs-test.true c.prob-item.is in
+      let more =
+      weight_more c.args.probs.now c.args.common c.probs.prob-index c.prob-item.result c.probs-test.true c.prob-item.is in
       let most = part_within c.args.probs.now c.args.common (c.probs.prob-index + 1) c.requires one in
       absurd (omega (arith, more, most, c.probs.invariant, c.numerator-weight.ensures, c.if-weight-left.true)),
 )
 
 pub returns : goal.returns
 returns c =
-    let all = ap (sum_by (weight_of c.args.common)) (take_all c.probs.prob-index c.args.probs.now c.probs-test.false) in (
-      λ none. one_sum c.args.probs.now c.args.common c.requires (omega (arith, all, c.probs.invariant, zero_test _ none)),
-      λ one. test_zero _ (omega (arith, c.probs.invariant, whole_within c.args.probs.now c.args.common c.probs.prob-index c.probs-test.false c.requires one)),
+    let all = ap (sum_by (weight_of c.args.common))
+    (take_all c.probs.prob-index c.args.probs.now c.probs-test.false) in (
+      λ none. one_sum c.args.probs.now c.args.common c.requires
+          (omega (arith, all, c.probs.invariant, zero_test _ none)),
+      λ one. test_zero _ (omega (
+        arith,
+        c.probs.invariant,
+        whole_within c.args.probs.now c.args.common c.probs.prob-index c.probs-test.false c.requires one,
+      )),
     )

@@ -10,13 +10,11 @@ use Rattle.dl_plan.specs.Weighted.{amounts_of, weight_sum, weight_at}
 use Rattle.dl_plan.specs.Severity.{probability, conditioned, shares}
 use Rattle.dl_plan.proofs.Weights.{weight_sum_pos}
 use Rattle.dl_plan.proofs.Shares.{items_over, none_over, filter-amounts, probability-conditioned, weight_over-le}
+use Rattle.dl_plan.proofs.Means.{severity_total}
 use Rattle.dl_plan.proofs.severity.Sev.exceeding.Goals as goal
 
 kept_positive : (sev : Sev) (a : ℕ) → All (λ (i : Item). 0 < i.weight) (items_over a sev.items)
 kept_positive sev a = All-filter (λ (i : Item). nat_lt a i.amount) (λ (i : Item). 0 < i.weight) sev.items sev.weighted.positive
-
-total_pos : (sev : Sev) → 0 < sev.total
-total_pos sev = subst (λ n. 0 < n) sev.weighted.sum (weight_sum_pos sev.items sev.weighted.some sev.weighted.positive)
 
 is_zero : (n : ℕ) → true ≡ (n == 0) → n ≡ 0
 is_zero n e = grind arith
@@ -25,7 +23,7 @@ not_zero : (n : ℕ) → false ≡ (n == 0) → 0 < n
 not_zero n e = grind arith
 
 kept_is : (sev : Sev) (a y : ℕ) → 0 < length (items_over a sev.items) → weight_at (items_over a sev.items) y over weight_sum (items_over a sev.items) ≡ probability (conditioned a (shares sev.items sev.total)) y
-kept_is sev a y some = sym (probability-conditioned a sev.items sev.total y (total_pos sev) (weight_sum_pos (items_over a sev.items) some (kept_positive sev a)))
+kept_is sev a y some = sym (probability-conditioned a sev.items sev.total y (severity_total sev) (weight_sum_pos (items_over a sev.items) some (kept_positive sev a)))
 
 pub returns-then-is_empty : goal.returns-then-is_empty
 returns-then-is_empty c =
