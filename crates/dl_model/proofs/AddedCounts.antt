@@ -8,12 +8,12 @@ use Rattle.dl_exact.specs.Power.{choose}
 use Rattle.dl_exact.specs.Sum.{sum_to, sum_pairs}
 use Rattle.dl_exact.proofs.Over.{over_same, over_mul}
 use Rattle.dl_exact.proofs.Laws.{one_pos, zero_times, zero_plus, plus_zero, one_times}
-use Rattle.dl_exact.proofs.Sums.{sum_pairs_same}
+use Rattle.dl_exact.proofs.Sums.{sum_pairs_same, sum_pairs_none}
 use Rattle.dl_model.specs.Compound.{convolve, at_zero, power}
 use Rattle.dl_model.specs.Program.{where_true}
 use Rattle.dl_model.specs.Counts.{fixed, binomial}
 use Rattle.dl_model.specs.Severity.{IsSeverity}
-use Rattle.dl_model.proofs.SumLaws.{over_plus, sum_pairs_none}
+use Rattle.dl_exact.proofs.Denominators.{over_plus}
 
 -- at most one claim
 module _ (h : ℕ → Fraction) (few : (i : ℕ) → h (suc (suc i)) ≡ whole 0) (g : ℕ → Fraction) where
@@ -25,7 +25,8 @@ module _ (h : ℕ → Fraction) (few : (i : ℕ) → h (suc (suc i)) ≡ whole 0
   unfolding sum_pairs
   none_or_one zero = refl
   none_or_one (suc n) = ap (λ t. h zero *ℚ g (suc (suc n)) +ℚ t)
-      (ap (λ t. h 1 *ℚ g (suc n) +ℚ t) (sum_pairs_same n _ _ (λ i j e. ap (λ t. t *ℚ g j) (few i) ∙ zero_times _) ∙ sum_pairs_none n) ∙ plus_zero _)
+      (ap (λ t. h 1 *ℚ g (suc n) +ℚ t) (sum_pairs_same n _ _ (λ i j e. ap (λ t. t *ℚ g j) (few i) ∙ zero_times _)
+      ∙ sum_pairs_none n) ∙ plus_zero _)
 
 -- ---- exactly m claims
 
@@ -58,11 +59,13 @@ fixed_power (suc m) = ap (convolve (fixed 1)) (fixed_power m) ∙ fun_ext next
 
     next : (n : ℕ) → convolve (fixed 1) (fixed m) n ≡ fixed (suc m) n
     next zero =
-        none_or_one_zero (fixed 1) few (fixed m) ∙ ap (λ t. t *ℚ fixed m zero) (fixed_is_not 1 zero (λ e. omega (arith, e))) ∙ zero_times _
+        none_or_one_zero (fixed 1) few (fixed m)
+        ∙ ap (λ t. t *ℚ fixed m zero) (fixed_is_not 1 zero (λ e. omega (arith, e))) ∙ zero_times _
         ∙ sym (fixed_is_not (suc m) zero (λ e. omega (arith, e)))
     next (suc n) =
         none_or_one (fixed 1) few (fixed m) n
-        ∙ ap₂ (λ s t. s +ℚ t) (ap (λ t. t *ℚ fixed m (suc n)) (fixed_is_not 1 zero (λ e. omega (arith, e))) ∙ zero_times _) (ap (λ t. t *ℚ fixed m n) (fixed_is 1 1 refl) ∙ one_times _)
+        ∙ ap₂ (λ s t. s +ℚ t) (ap (λ t. t *ℚ fixed m (suc n)) (fixed_is_not 1 zero (λ e. omega (arith, e)))
+        ∙ zero_times _) (ap (λ t. t *ℚ fixed m n) (fixed_is 1 1 refl) ∙ one_times _)
         ∙ zero_plus _ ∙ fixed_shift m n
 
 -- ---- m trials
@@ -95,7 +98,14 @@ module _ (a b : ℕ) (pos : 0 < b) where
         | inl l ↦
             let e : m - n ≡ suc (m - suc n) = omega arith in
             rw (e, pow-suc q (m - suc n)) (omega arith)
-        | inr l ↦ omega (arith, ap (λ t. t * (a ^ n * a)) (choose-above m (suc n) (omega arith)), ap (λ t. q * (t * (a ^ n * a) * q ^ (m - suc n))) (choose-above m (suc n) (omega arith)), ap (λ t. t * (a ^ n * a) * q ^ (m - n)) (choose-above m (suc n) (omega arith)))
+        | inr l ↦ omega (
+          arith,
+          ap (λ t. t * (a ^ n * a)) (choose-above m (suc n) (omega arith)),
+          ap
+              (λ t. q * (t * (a ^ n * a) * q ^ (m - suc n))) (choose-above m (suc n) (omega arith)),
+          ap
+              (λ t. t * (a ^ n * a) * q ^ (m - n)) (choose-above m (suc n) (omega arith)),
+        )
       ])
 
   below : (m : ℕ) → 0 < b ^ m
@@ -103,7 +113,8 @@ module _ (a b : ℕ) (pos : 0 < b) where
 
   no_trial : (n : ℕ) → at_zero n ≡ binomial zero a b n
   unfolding at_zero choose
-  no_trial zero = sym (over_same _ _ 1 1 (below zero) one_pos (rw (pow-zero a, pow-zero b) (omega (arith, pow-zero (b - a)))))
+  no_trial zero =
+      sym (over_same _ _ 1 1 (below zero) one_pos (rw (pow-zero a, pow-zero b) (omega (arith, pow-zero (b - a)))))
   no_trial (suc n) = sym (over_same _ _ 0 1 (below zero) one_pos (omega arith))
 
   power_of_one : (x : ℕ) → x ^ 1 ≡ x
@@ -112,17 +123,24 @@ module _ (a b : ℕ) (pos : 0 < b) where
   pub one_trial_none : binomial 1 a b zero ≡ (b - a) over b
   unfolding choose
   one_trial_none =
-      let alone : choose 1 0 * a ^ 0 * (b - a) ^ (1 - 0) ≡ b - a = ap₂ (λ s t. 1 * s * t) (pow-zero a) (power_of_one (b - a)) ∙ omega arith in
+      let alone : choose 1 0 * a ^ 0 * (b - a) ^ (1 - 0) ≡ b - a =
+      ap₂ (λ s t. 1 * s * t) (pow-zero a) (power_of_one (b - a)) ∙ omega arith in
       over_same _ _ _ _ (below 1) pos (ap₂ (λ s t. s * t) alone (sym (power_of_one b)))
 
   pub one_trial_one : binomial 1 a b 1 ≡ a over b
   unfolding choose
   one_trial_one =
-      let alone : choose 1 1 * a ^ 1 * (b - a) ^ (1 - 1) ≡ a = ap₂ (λ s t. 1 * s * t) (power_of_one a) (pow-zero (b - a)) ∙ omega arith in
+      let alone : choose 1 1 * a ^ 1 * (b - a) ^ (1 - 1) ≡ a =
+      ap₂ (λ s t. 1 * s * t) (power_of_one a) (pow-zero (b - a)) ∙ omega arith in
       over_same _ _ _ _ (below 1) pos (ap₂ (λ s t. s * t) alone (sym (power_of_one b)))
 
   one_trial_more : (i : ℕ) → binomial 1 a b (suc (suc i)) ≡ whole 0
-  one_trial_more i = over_same _ _ 0 1 (below 1) one_pos (omega (arith, ap (λ c. c * a ^ suc (suc i) * (b - a) ^ (1 - suc (suc i))) (choose-above 1 (suc (suc i)) (omega arith))))
+  one_trial_more i = over_same _ _ 0 1 (below 1) one_pos
+      (omega (
+        arith,
+        ap (λ c. c * a ^ suc (suc i) * (b - a) ^ (1 - suc (suc i)))
+            (choose-above 1 (suc (suc i)) (omega arith)),
+      ))
 
   pub binomial_power : (m : ℕ) → power (binomial 1 a b) m ≡ binomial m a b
   unfolding power numerator
@@ -150,7 +168,8 @@ module _ (a b : ℕ) (pos : 0 < b) where
   pub trial : a ≤ b → IsSeverity (binomial 1 a b) 1
   unfolding sum_to
   trial h = record {
-    add_up = ap₂ (λ s t. s +ℚ t) one_trial_none one_trial_one ∙ over_plus (b - a) a b pos ∙ over_same _ _ 1 1 pos one_pos (omega arith);
+    add_up = ap₂ (λ s t. s +ℚ t) one_trial_none one_trial_one ∙ over_plus (b - a) a b pos
+        ∙ over_same _ _ 1 1 pos one_pos (omega arith);
     past = λ j far. binomial_past j far;
   }
     where

@@ -6,8 +6,8 @@ use Rattle.dl_exact.specs.Sum.{sum_to}
 use Rattle.dl_model.specs.Series.{Series, IsBound, AtMost, AtLeast, Below, Rises, plus, times, SameBounds, SameValue}
 use Rattle.dl_model.specs.Compound.{convolve}
 use Rattle.dl_model.specs.Family.{Family, SameCells, Encloses}
-use Rattle.dl_exact.proofs.Laws.{lt_not_le, ring, times_comm, le_refl, le_trans, lt_or_le, zero_le, plus_le_both, plus_times, times_left_comm, times_plus, one_times, lt_gap, times_le_cancel, le_div, div_times, times_pos, lt_of_le_of_lt, div_pos}
-use Rattle.dl_model.proofs.Declared.{rises_to, times_le_both, at_most_times, at_least_times}
+use Rattle.dl_exact.proofs.Laws.{lt_not_le, ring, times_comm, le_refl, le_trans, lt_or_le, zero_le, plus_le_both, plus_times, times_left_comm, times_plus, one_times, lt_gap, times_le_cancel, le_div, div_times, times_pos, lt_of_le_of_lt, div_pos, times_le_both}
+use Rattle.dl_model.proofs.Declared.{rises_to, at_most_times, at_least_times}
 use Rattle.dl_model.proofs.Complements.{no_descent}
 use Rattle.dl_model.proofs.Cauchy.{cauchy_low, cauchy_high}
 
@@ -27,17 +27,25 @@ under_self Q n = (n, le_refl _)
 pub under_trans : (Q R T : Series) → IsUnder Q R → IsUnder R T → IsUnder Q T
 under_trans Q R T a b n = ((b (a n).0).0, le_trans _ _ _ (a n).1 (b (a n).0).1)
 
-pub under_times : (Q Q' R R' : Series) → Rises Q' → Rises R' → IsUnder Q Q' → IsUnder R R' → IsUnder (times Q R) (times Q' R')
+pub under_times : (Q Q' R R' : Series) → Rises Q' → Rises R' → IsUnder Q Q' → IsUnder R R'
+    → IsUnder (times Q R) (times Q' R')
 under_times Q Q' R R' q r a b n =
     let i = (a n).0 in
-    let j = (b n).0 in
-    (max i j, times_le_both _ _ _ _ (le_trans _ _ _ (a n).1 (rises_to Q' q i (max i j) (le-max_left i j))) (le_trans _ _ _ (b n).1 (rises_to R' r j (max i j) (le-max_right i j))))
+    let j = (b n).0 in (
+      max i j,
+      times_le_both _ _ _ _ (le_trans _ _ _ (a n).1 (rises_to Q' q i (max i j) (le-max_left i j)))
+          (le_trans _ _ _ (b n).1 (rises_to R' r j (max i j) (le-max_right i j))),
+    )
 
-pub under_plus : (Q Q' R R' : Series) → Rises Q' → Rises R' → IsUnder Q Q' → IsUnder R R' → IsUnder (plus Q R) (plus Q' R')
+pub under_plus : (Q Q' R R' : Series) → Rises Q' → Rises R' → IsUnder Q Q' → IsUnder R R'
+    → IsUnder (plus Q R) (plus Q' R')
 under_plus Q Q' R R' q r a b n =
     let i = (a n).0 in
-    let j = (b n).0 in
-    (max i j, plus_le_both _ _ _ _ (le_trans _ _ _ (a n).1 (rises_to Q' q i (max i j) (le-max_left i j))) (le_trans _ _ _ (b n).1 (rises_to R' r j (max i j) (le-max_right i j))))
+    let j = (b n).0 in (
+      max i j,
+      plus_le_both _ _ _ _ (le_trans _ _ _ (a n).1 (rises_to Q' q i (max i j) (le-max_left i j)))
+          (le_trans _ _ _ (b n).1 (rises_to R' r j (max i j) (le-max_right i j))),
+    )
 
 -- ---- the same declared value
 
@@ -45,22 +53,28 @@ pub most_from : (Q R Q' R' : Series) (h : Fraction) → IsUnder Q' Q → IsUnder
 most_from Q R Q' R' h q r a n u b = le_trans _ _ _ (q n).1 (a (q n).0 u (bound_from R R' r u b))
 
 pub least_from : (Q R Q' R' : Series) (l : Fraction) → IsUnder Q Q' → IsUnder R' R → AtLeast Q R l → AtLeast Q' R' l
-least_from Q R Q' R' l q r a n u b = le_trans _ _ _ (times_le_both l l _ _ (le_refl l) (r n).1) (a (r n).0 u (bound_from Q Q' q u b))
+least_from Q R Q' R' l q r a n u b =
+    le_trans _ _ _ (times_le_both l l _ _ (le_refl l) (r n).1) (a (r n).0 u (bound_from Q Q' q u b))
 
 pub same_value : (Q R Q' R' : Series) → IsUnder Q Q' → IsUnder Q' Q → IsUnder R R' → IsUnder R' R → SameValue Q R Q' R'
-same_value Q R Q' R' q q' r r' =
-    ((λ l. (least_from Q R Q' R' l q r', least_from Q' R' Q R l q' r)), (λ h. (most_from Q R Q' R' h q' r, most_from Q' R' Q R h q r')))
+same_value Q R Q' R' q q' r r' = (
+  (λ l. (least_from Q R Q' R' l q r', least_from Q' R' Q R l q' r)),
+  (λ h. (most_from Q R Q' R' h q' r, most_from Q' R' Q R h q r')),
+)
 
 pub value_trans : (A B C D E F : Series) → SameValue A B C D → SameValue C D E F → SameValue A B E F
-value_trans A B C D E F s t =
-    ((λ l. (λ a. (t.0 l).0 ((s.0 l).0 a), λ a. (s.0 l).1 ((t.0 l).1 a))), (λ h. (λ a. (t.1 h).0 ((s.1 h).0 a), λ a. (s.1 h).1 ((t.1 h).1 a))))
+value_trans A B C D E F s t = (
+  (λ l. (λ a. (t.0 l).0 ((s.0 l).0 a), λ a. (s.0 l).1 ((t.0 l).1 a))),
+  (λ h. (λ a. (t.1 h).0 ((s.1 h).0 a), λ a. (s.1 h).1 ((t.1 h).1 a))),
+)
 
 pub value_sym : (A B C D : Series) → SameValue A B C D → SameValue C D A B
 value_sym A B C D s = ((λ l. ((s.0 l).1, (s.0 l).0)), (λ h. ((s.1 h).1, (s.1 h).0)))
 
 -- ---- sums over all i + j up to n
 
-pub cauchy_bounds : (a b : ℕ → Fraction) → SameBounds (λ N. sum_to N (convolve a b)) (times (λ N. sum_to N a) (λ N. sum_to N b))
+pub cauchy_bounds : (a b : ℕ → Fraction)
+    → SameBounds (λ N. sum_to N (convolve a b)) (times (λ N. sum_to N a) (λ N. sum_to N b))
 cauchy_bounds a b = same_bounds _ _ (λ n. (n, cauchy_low n a b)) (λ n. (n + n, cauchy_high n a b))
 
 -- ---- a common factor
@@ -77,8 +91,10 @@ module _ (E : Series) (rise : Rises E) (e k₀ : _) (bounded : IsBound E e) (pos
         (λ e b. (
           s *ℚ e /ℚ q,
           times_le_cancel _ _ q qp
-              (subst (λ t. t ≤ℚ e *ℚ q) (sym (plus_times _ _ q ∙ ap₂ (λ x y. x +ℚ y) (div_times (s *ℚ e) q qp) (div_times (g.0 *ℚ E k₀) q qp)))
-              (subst₂ (λ x y. x ≤ℚ y) refl (sym (times_plus e s g.0 ∙ ap₂ (λ x y. x +ℚ y) (times_comm e s) (times_comm e g.0)) ∙ ap (λ t. e *ℚ t) g.2)
+              (subst (λ t. t ≤ℚ e *ℚ q) (sym (plus_times _ _ q
+              ∙ ap₂ (λ x y. x +ℚ y) (div_times (s *ℚ e) q qp) (div_times (g.0 *ℚ E k₀) q qp)))
+              (subst₂ (λ x y. x ≤ℚ y) refl (sym (times_plus e s g.0
+              ∙ ap₂ (λ x y. x +ℚ y) (times_comm e s) (times_comm e g.0)) ∙ ap (λ t. e *ℚ t) g.2)
               (plus_le_both _ _ _ _ (le_refl (s *ℚ e)) (times_le_both g.0 g.0 _ _ (le_refl g.0) (b k₀))))),
           λ k. le_div (E k) q (s *ℚ e) qp (h e b k),
         ))
@@ -88,13 +104,16 @@ module _ (E : Series) (rise : Rises E) (e k₀ : _) (bounded : IsBound E e) (pos
   cancel_most : (Q R : Series) (h : Fraction) → Rises Q → AtMost (times E Q) (times E R) h → AtMost Q R h
   cancel_most Q R h q a n u b = cancel (Q n) (h *ℚ u) (λ e be k.
       let m = max k n in
-      let c : E k *ℚ Q n ≤ℚ E m *ℚ Q m = times_le_both _ _ _ _ (rises_to E rise k m (le-max_left k n)) (rises_to Q q n m (le-max_right k n)) in
-      subst (λ t. E k *ℚ Q n ≤ℚ t) (simp ring) (le_trans _ _ _ c (a m (e *ℚ u) (λ i. times_le_both _ _ _ _ (be i) (b i)))))
+      let c : E k *ℚ Q n ≤ℚ E m *ℚ Q m = times_le_both _ _ _ _ (rises_to E rise k m (le-max_left k n))
+      (rises_to Q q n m (le-max_right k n)) in
+      subst (λ t. E k *ℚ Q n ≤ℚ t) (simp ring)
+      (le_trans _ _ _ c (a m (e *ℚ u) (λ i. times_le_both _ _ _ _ (be i) (b i)))))
 
   cancel_least : (Q R : Series) (l : Fraction) → Rises R → AtLeast (times E Q) (times E R) l → AtLeast Q R l
   cancel_least Q R l r a n u b = cancel (l *ℚ R n) u (λ e be k.
       let m = max k n in
-      let c : E k *ℚ R n ≤ℚ E m *ℚ R m = times_le_both _ _ _ _ (rises_to E rise k m (le-max_left k n)) (rises_to R r n m (le-max_right k n)) in
+      let c : E k *ℚ R n ≤ℚ E m *ℚ R m = times_le_both _ _ _ _ (rises_to E rise k m (le-max_left k n))
+      (rises_to R r n m (le-max_right k n)) in
       subst₂ (λ s t. s ≤ℚ t) (times_left_comm l (E k) (R n)) (times_comm e u)
       (le_trans _ _ _ (times_le_both l l _ _ (le_refl l) c) (a m (e *ℚ u) (λ i. times_le_both _ _ _ _ (be i) (b i)))))
 
@@ -107,16 +126,26 @@ module _ (E : Series) (rise : Rises E) (e k₀ : _) (bounded : IsBound E e) (pos
   -- a common factor that is bounded and positive changes no declared value
   pub cancel_value : (Q R : Series) → Rises Q → Rises R → SameValue (times E Q) (times E R) Q R
   cancel_value Q R q r = (
-    (λ l. (cancel_least Q R l r, λ a. subst (AtLeast (times E Q) (times E R)) (one_times l) (at_least_times E E Q R (whole 1) l rise q one_least a))),
-    (λ h. (cancel_most Q R h q, λ a. subst (AtMost (times E Q) (times E R)) (one_times h) (at_most_times E E Q R (whole 1) h rise r one_most a))),
+    (λ l. (
+      cancel_least Q R l r,
+      λ a. subst (AtLeast (times E Q) (times E R)) (one_times l)
+          (at_least_times E E Q R (whole 1) l rise q one_least a),
+    )),
+    (λ h. (
+      cancel_most Q R h q,
+      λ a. subst (AtMost (times E Q) (times E R)) (one_times h)
+          (at_most_times E E Q R (whole 1) h rise r one_most a),
+    )),
   )
 
   -- a declared value over a bounded and positive series is not at least p and below p
   pub not_both : (Q : Series) (p : Fraction) → AtLeast Q E p → Below Q E p → ⊥
   not_both Q p a b =
-      lt_not_le b.0 p b.1 (cancel p b.0 (λ e be k. subst (λ t. t ≤ℚ b.0 *ℚ e) (times_comm p (E k)) (a k (b.0 *ℚ e) (λ m. b.2 m e be))))
+      lt_not_le b.0 p b.1 (cancel p b.0 (λ e be k. subst (λ t. t ≤ℚ b.0 *ℚ e) (times_comm p (E k))
+      (a k (b.0 *ℚ e) (λ m. b.2 m e be))))
 
 -- ---- families
 
-pub same_cells_enclosed : (S K : ℕ) (lo hi : ℕ → ℕ) (F G : Family) → SameCells F G → Encloses S K lo hi F → Encloses S K lo hi G
+pub same_cells_enclosed : (S K : ℕ) (lo hi : ℕ → ℕ) (F G : Family) → SameCells F G → Encloses S K lo hi F
+    → Encloses S K lo hi G
 same_cells_enclosed S K lo hi F G s e y b = (((s y).0 (lo y over S)).0 (e y b).0, ((s y).1 (hi y over S)).0 (e y b).1)

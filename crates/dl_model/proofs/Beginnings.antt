@@ -25,29 +25,39 @@ use Rattle.dl_model.proofs.GammaThin.{thin_gamma}
 
 -- ---- wider grids
 
-pub encloses_wider : (S K K' : ℕ) (lo hi lo' hi' : ℕ → ℕ) (F : Family) → 0 < S → K' ≤ K → ((y : ℕ) → y < K' → lo' y ≤ lo y) → ((y : ℕ) → y < K' → hi y ≤ hi' y)
+pub encloses_wider : (S K K' : ℕ) (lo hi lo' hi' : ℕ → ℕ) (F : Family) → 0 < S → K' ≤ K
+    → ((y : ℕ) → y < K' → lo' y ≤ lo y) → ((y : ℕ) → y < K' → hi y ≤ hi' y)
     → Encloses S K lo hi F → Encloses S K' lo' hi' F
 encloses_wider S K K' lo hi lo' hi' F pos less low high e y b = (
-  at_least_wider (F.cells y) F.all (lo y over S) (lo' y over S) (e y (omega arith)).0 (over_le _ _ _ _ pos pos (mul-le-mul_right S (low y b))),
-  at_most_wider (F.cells y) F.all (hi y over S) (hi' y over S) (e y (omega arith)).1 (over_le _ _ _ _ pos pos (mul-le-mul_right S (high y b))),
+  at_least_wider (F.cells y) F.all (lo y over S) (lo' y over S) (e y (omega arith)).0
+      (over_le _ _ _ _ pos pos (mul-le-mul_right S (low y b))),
+  at_most_wider (F.cells y) F.all (hi y over S) (hi' y over S) (e y (omega arith)).1
+      (over_le _ _ _ _ pos pos (mul-le-mul_right S (high y b))),
 )
 
 -- ---- exact claims and trials
 
 pub fixed_claims : (f : ℕ → Fraction) (m : ℕ) → SameCells (times_itself (compound (fixed 1) f) m) (compound (fixed m) f)
-fixed_claims f m y = subst (λ w. SameValue ((times_itself (compound (fixed 1) f) m).cells y) ((times_itself (compound (fixed 1) f) m).all) (cell w f y) (λ N. sum_to N w)) (fixed_power m) (itself_value (fixed 1) f m y)
+fixed_claims f m y = subst (λ w. SameValue ((times_itself (compound (fixed 1) f) m).cells y)
+    ((times_itself (compound (fixed 1) f) m).all) (cell w f y) (λ N. sum_to N w)) (fixed_power m)
+    (itself_value (fixed 1) f m y)
 
-pub trials : (f : ℕ → Fraction) (m a b : ℕ) → 0 < b → SameCells (times_itself (compound (binomial 1 a b) f) m) (compound (binomial m a b) f)
-trials f m a b pos y = subst (λ w. SameValue ((times_itself (compound (binomial 1 a b) f) m).cells y) ((times_itself (compound (binomial 1 a b) f) m).all) (cell w f y) (λ N. sum_to N w)) (binomial_power a b pos m) (itself_value (binomial 1 a b) f m y)
+pub trials : (f : ℕ → Fraction) (m a b : ℕ) → 0 < b
+    → SameCells (times_itself (compound (binomial 1 a b) f) m) (compound (binomial m a b) f)
+trials f m a b pos y = subst (λ w. SameValue ((times_itself (compound (binomial 1 a b) f) m).cells y)
+    ((times_itself (compound (binomial 1 a b) f) m).all) (cell w f y) (λ N. sum_to N w)) (binomial_power a b pos m)
+    (itself_value (binomial 1 a b) f m y)
 
 -- the cells of one claim, and of one trial
 pub one_claim_cell : (f : ℕ → Fraction) (y : ℕ) → cell (fixed 1) f y 1 ≡ f y
 one_claim_cell f y = fixed_cell 1 f y 1 (omega arith) ∙ ap (λ g. g y) (power_one f)
 
-pub one_trial_cell : (f : ℕ → Fraction) (a b y : ℕ) → 0 < b → cell (binomial 1 a b) f y 1 ≡ (b - a) over b *ℚ at_zero y +ℚ a over b *ℚ f y
+pub one_trial_cell : (f : ℕ → Fraction) (a b y : ℕ) → 0 < b
+    → cell (binomial 1 a b) f y 1 ≡ (b - a) over b *ℚ at_zero y +ℚ a over b *ℚ f y
 unfolding sum_to power
 one_trial_cell f a b y pos =
-    ap₂ (λ s t. s +ℚ t) (ap (λ p. p *ℚ at_zero y) (one_trial_none a b pos)) (ap₂ (λ p q. p *ℚ q) (one_trial_one a b pos) (ap (λ g. g y) (power_one f)))
+    ap₂ (λ s t. s +ℚ t) (ap (λ p. p *ℚ at_zero y) (one_trial_none a b pos))
+    (ap₂ (λ p q. p *ℚ q) (one_trial_one a b pos) (ap (λ g. g y) (power_one f)))
 
 -- ---- no loss
 
@@ -56,27 +66,37 @@ none_cell : (f : ℕ → Fraction) (y N : ℕ) → cell at_zero f y N ≡ at_zer
 unfolding power
 none_cell f y N = sum_to_at_zero N (λ n. power f n y)
 
-none_value : (w v f g : ℕ → Fraction) (y : ℕ) → v ≡ at_zero → SameValue (cell w f y) (λ N. sum_to N w) (cell v g y) (λ N. sum_to N v) → SameValue (nothing.cells y) nothing.all (cell w f y) (λ N. sum_to N w)
+none_value : (w v f g : ℕ → Fraction) (y : ℕ) → v ≡ at_zero
+    → SameValue (cell w f y) (λ N. sum_to N w) (cell v g y) (λ N. sum_to N v)
+    → SameValue (nothing.cells y) nothing.all (cell w f y) (λ N. sum_to N w)
 none_value w v f g y e s =
     value_sym _ _ _ _ (subst₂ (λ Q R. SameValue (cell w f y) (λ N. sum_to N w) Q R)
-    (fun_ext (λ N. ap (λ c. cell c g y N) e ∙ none_cell g y N)) (fun_ext (λ N. ap (λ c. sum_to N c) e ∙ sum_at_zero N)) s)
+    (fun_ext (λ N. ap (λ c. cell c g y N) e ∙ none_cell g y N))
+    (fun_ext (λ N. ap (λ c. sum_to N c) e ∙ sum_at_zero N)) s)
 
-pub poisson_no_loss : (v p : Fraction) (f g : ℕ → Fraction) → IsPositivePart f p g → v *ℚ p ≡ whole 0 → SameCells nothing (compound (poisson v) f)
-poisson_no_loss v p f g h z y = none_value (poisson v) (poisson (v *ℚ p)) f g y (ap poisson z ∙ fun_ext (λ n. sym (poisson_none n))) (thin_poisson v f p g h y)
+pub poisson_no_loss : (v p : Fraction) (f g : ℕ → Fraction) → IsPositivePart f p g → v *ℚ p ≡ whole 0
+    → SameCells nothing (compound (poisson v) f)
+poisson_no_loss v p f g h z y = none_value (poisson v) (poisson (v *ℚ p)) f g y
+    (ap poisson z ∙ fun_ext (λ n. sym (poisson_none n))) (thin_poisson v f p g h y)
 
 no_gamma : (q : ℕ) → gamma_of (suc q) (whole 0) ≡ at_zero
 unfolding at_zero ◌^ℚ◌
 no_gamma q = ap (gamma (suc q)) share ∙ fun_ext each
   where
     r : whole 0 <ℚ whole (suc q) +ℚ whole 0
-    r = lt_of_lt_of_le (whole 0) (whole (suc q)) _ (whole_pos (suc q) (zero-lt-suc q)) (le_plus (whole (suc q)) (whole 0))
+    r = lt_of_lt_of_le (whole 0) (whole (suc q)) _ (whole_pos (suc q) (zero-lt-suc q))
+        (le_plus (whole (suc q)) (whole 0))
 
     share : whole 0 /ℚ (whole (suc q) +ℚ whole 0) ≡ whole 0
-    share = times_cancel _ _ (whole (suc q) +ℚ whole 0) r (div_times (whole 0) (whole (suc q) +ℚ whole 0) r ∙ sym (zero_times _))
+    share = times_cancel _ _ (whole (suc q) +ℚ whole 0) r
+        (div_times (whole 0) (whole (suc q) +ℚ whole 0) r ∙ sym (zero_times _))
 
     each : (n : ℕ) → gamma (suc q) (whole 0) n ≡ at_zero n
     each zero = gamma_zero q (whole 0)
-    each (suc n) = gamma_is q (whole 0) (suc n) ∙ ap (λ t. whole (choose (q + suc n) (suc n)) *ℚ t) (zero_times _) ∙ times_zero _
+    each (suc n) =
+        gamma_is q (whole 0) (suc n) ∙ ap (λ t. whole (choose (q + suc n) (suc n)) *ℚ t) (zero_times _) ∙ times_zero _
 
-pub gamma_no_loss : (q : ℕ) (v p : Fraction) (f g : ℕ → Fraction) → IsPositivePart f p g → v *ℚ p ≡ whole 0 → SameCells nothing (compound (gamma_of (suc q) v) f)
-gamma_no_loss q v p f g h z y = none_value (gamma_of (suc q) v) (gamma_of (suc q) (v *ℚ p)) f g y (ap (gamma_of (suc q)) z ∙ no_gamma q) (thin_gamma q v f p g h y)
+pub gamma_no_loss : (q : ℕ) (v p : Fraction) (f g : ℕ → Fraction) → IsPositivePart f p g → v *ℚ p ≡ whole 0
+    → SameCells nothing (compound (gamma_of (suc q) v) f)
+gamma_no_loss q v p f g h z y = none_value (gamma_of (suc q) v) (gamma_of (suc q) (v *ℚ p)) f g y
+    (ap (gamma_of (suc q)) z ∙ no_gamma q) (thin_gamma q v f p g h y)

@@ -8,24 +8,25 @@ use Rattle.dl_exact.specs.Fraction.{Fraction, whole, ◌over◌, ◌+ℚ◌, ◌
 use Rattle.dl_exact.specs.Sum.{sum_to}
 use Rattle.dl_exact.proofs.Over.{over_same}
 use Rattle.dl_exact.proofs.Laws.{one_pos, plus_zero, zero_plus, plus_comm, zero_times, one_times, le_refl, le_trans, le_plus, zero_le}
-use Rattle.dl_exact.proofs.Sums.{sum_to_same, sum_to_plus}
+use Rattle.dl_exact.proofs.Sums.{sum_to_same, sum_to_plus, sum_to_longer, sum_to_either}
 use Rattle.dl_model.specs.Series.{Series, IsBound, Rises, AtMost, AtLeast, Holds}
 use Rattle.dl_model.specs.Compound.{cell}
-use Rattle.dl_model.specs.Ways.{count_below}
+use Rattle.dl_exact.specs.Count.{count_below}
 use Rattle.dl_model.specs.Program.{Aggregate, IsUnit, where_true, outcome}
 use Rattle.dl_model.specs.Family.{compound, mapped, Encloses}
 use Rattle.dl_model.proofs.Complements.{at_least_rest, at_most_rest}
-use Rattle.dl_model.proofs.SumLaws.{sum_to_longer, sum_to_either}
 use Rattle.dl_model.proofs.CompoundLaws.{cell_past, cells_all}
 use Rattle.dl_model.proofs.FamilyLaws.{sum_rises_to, cell_at_most_one}
 use Rattle.dl_model.proofs.UnitLaws.{unit_proper}
-use Rattle.dl_model.proofs.Ends.{to_rises, to_holds, to_over, rest_over, all_over}
+use Rattle.dl_exact.proofs.SumsOver.{to_over}
+use Rattle.dl_exact.proofs.Denominators.{over_rest, over_one}
+use Rattle.dl_model.proofs.Ends.{to_rises, to_holds}
 
 not : Bool → Bool
 not true = false
 not false = true
 
-where_none : (b : Bool) → where_true b (whole 0) ≡ whole 0
+pub where_none : (b : Bool) → where_true b (whole 0) ≡ whole 0
 where_none true = refl
 where_none false = refl
 
@@ -34,7 +35,8 @@ unfolding not
 where_both true x = plus_zero x
 where_both false x = zero_plus x
 
-module _ (u : Aggregate) (h : IsUnit u) (S k : ℕ) (lo hi : ℕ → ℕ) (pos : 0 < S) (e : Encloses S (suc k) lo hi (compound u.count u.severity)) where
+module _ (u : Aggregate) (h : IsUnit u) (S k : ℕ) (lo hi : ℕ → ℕ) (pos : 0 < S)
+    (e : Encloses S (suc k) lo hi (compound u.count u.severity)) where
   abbrev sums : ℕ → Series
   sums s = cell u.count u.severity s
 
@@ -49,7 +51,8 @@ module _ (u : Aggregate) (h : IsUnit u) (S k : ℕ) (lo hi : ℕ → ℕ) (pos :
   picked_rises true s = sum_rises_to _
   picked_rises false s = λ N. le_refl _
 
-  picked_holds : (b : Bool) (s : ℕ) → s ≤ k → Holds (λ N. where_true b (sums s N)) weights ((if b then lo s else 0) over S) ((if b then hi s else 0) over S)
+  picked_holds : (b : Bool) (s : ℕ) → s ≤ k
+      → Holds (λ N. where_true b (sums s N)) weights ((if b then lo s else 0) over S) ((if b then hi s else 0) over S)
   picked_holds true s b = e s (omega arith)
   picked_holds false s b =
       let none : 0 over S ≡ whole 0 = over_same 0 S 0 1 pos one_pos (omega arith) in (
@@ -57,9 +60,12 @@ module _ (u : Aggregate) (h : IsUnit u) (S k : ℕ) (lo hi : ℕ → ℕ) (pos :
         (λ n u bound. zero_le _),
       )
 
-  part_holds : (test : ℕ → Bool) → Holds (part test) weights (count_below (suc k) (λ s. if test s then lo s else 0) over S) (count_below (suc k) (λ s. if test s then hi s else 0) over S)
+  part_holds : (test : ℕ → Bool) → Holds (part test) weights
+      (count_below (suc k) (λ s. if test s then lo s else 0) over S)
+      (count_below (suc k) (λ s. if test s then hi s else 0) over S)
   part_holds test = subst₂ (λ l h. Holds (part test) weights l h) (to_over k S _ pos) (to_over k S _ pos)
-      (to_holds k (λ s N. where_true (test s) (sums s N)) weights (λ s. (if test s then lo s else 0) over S) (λ s. (if test s then hi s else 0) over S)
+      (to_holds k (λ s N. where_true (test s) (sums s N)) weights (λ s. (if test s then lo s else 0) over S)
+      (λ s. (if test s then hi s else 0) over S)
       (λ s. picked_rises (test s) s) (λ s b. picked_holds (test s) s b))
 
   far : (b : Bool) (s N : ℕ) → N * u.most < s → where_true b (sums s N) ≡ whole 0
@@ -77,16 +83,22 @@ module _ (u : Aggregate) (h : IsUnit u) (S k : ℕ) (lo hi : ℕ → ℕ) (pos :
     miss s n x = ap (λ b. where_true b x) (ne_eqb (u.clause s) y n)
 
     few : ((s : ℕ) → u.clause s ≡ y → s ≤ k) → (N : ℕ) → outcome u y N ≡ part hits N
-    few within N = sum_to_either (N * u.most) k (λ s. where_true (hits s) (sums s N)) (λ s b. far (hits s) s N b) (λ s b. miss s (λ c. omega (arith, within s c)) (sums s N))
+    few within N = sum_to_either (N * u.most) k (λ s. where_true (hits s) (sums s N)) (λ s b. far (hits s) s N b)
+        (λ s b. miss s (λ c. omega (arith, within s c)) (sums s N))
 
     pub clause_few : ((s : ℕ) → u.clause s ≡ y → s ≤ k)
-        → Holds (outcome u y) weights (count_below (suc k) (λ s. if nat_eq (u.clause s) y then lo s else 0) over S) (min S (count_below (suc k) (λ s. if nat_eq (u.clause s) y then hi s else 0)) over S)
+        → Holds (outcome u y) weights (count_below (suc k) (λ s. if nat_eq (u.clause s) y then lo s else 0) over S)
+        (min S (count_below (suc k) (λ s. if nat_eq (u.clause s) y then hi s else 0)) over S)
     clause_few within =
         let n = count_below (suc k) (λ s. if nat_eq (u.clause s) y then hi s else 0) in
-        let v = subst (λ Q. Holds Q weights (count_below (suc k) (λ s. if nat_eq (u.clause s) y then lo s else 0) over S) (n over S)) (sym (fun_ext (few within))) (part_holds hits) in (
+        let v = subst (λ Q. Holds Q weights (count_below (suc k)
+        (λ s. if nat_eq (u.clause s) y then lo s else 0) over S) (n over S)) (sym (fun_ext (few within)))
+        (part_holds hits) in (
           v.0,
           elim (cases_lt S n) [
-            | inl more ↦ subst (λ t. AtMost (outcome u y) weights t) (sym (ap (λ t. t over S) (min-eq_left (omega arith)) ∙ all_over S pos)) (cell_at_most_one (mapped u) (unit_proper u h) y)
+            | inl more ↦ subst (λ t. AtMost (outcome u y) weights t)
+                (sym (ap (λ t. t over S) (min-eq_left (omega arith)) ∙ over_one S pos))
+                (cell_at_most_one (mapped u) (unit_proper u h) y)
             | inr less ↦ subst (λ t. AtMost (outcome u y) weights (t over S)) (sym (min-eq_right less)) v.1
           ],
         )
@@ -97,14 +109,17 @@ module _ (u : Aggregate) (h : IsUnit u) (S k : ℕ) (lo hi : ℕ → ℕ) (pos :
     rest past N =
         let M = N * u.most + k in
         ap₂ (λ a b. a +ℚ b)
-        (sym (sum_to_longer k M (λ s. where_true (misses s) (sums s N)) (omega arith) (λ s b. ap (λ t. where_true (not t) (sums s N)) (eq-eqb (u.clause s) y (past s b)))))
-        (sym (sum_to_longer (N * u.most) M (λ s. where_true (hits s) (sums s N)) (omega arith) (λ s b. far (hits s) s N b)))
+        (sym (sum_to_longer k M (λ s. where_true (misses s) (sums s N)) (omega arith)
+        (λ s b. ap (λ t. where_true (not t) (sums s N)) (eq-eqb (u.clause s) y (past s b)))))
+        (sym (sum_to_longer (N * u.most) M (λ s. where_true (hits s) (sums s N)) (omega arith)
+        (λ s b. far (hits s) s N b)))
         ∙ plus_comm _ _
         ∙ sym (sum_to_plus M (λ s. where_true (hits s) (sums s N)) (λ s. where_true (misses s) (sums s N)))
         ∙ sum_to_same M _ _ (λ s b. where_both (hits s) (sums s N))
         ∙ cells_all u.count u.severity u.most h.severity N M (omega arith)
 
-    others : (f : ℕ → ℕ) → count_below (suc k) (λ s. if misses s then f s else 0) ≡ count_below (suc k) (λ s. if nat_eq (u.clause s) y then 0 else f s)
+    others : (f : ℕ → ℕ) → count_below (suc k) (λ s. if misses s then f s else 0) ≡ count_below (suc k)
+        (λ s. if nat_eq (u.clause s) y then 0 else f s)
     unfolding not
     others f = ap (count_below (suc k)) (fun_ext (λ s. turned (nat_eq (u.clause s) y) (f s)))
       where
@@ -112,20 +127,29 @@ module _ (u : Aggregate) (h : IsUnit u) (S k : ℕ) (lo hi : ℕ → ℕ) (pos :
         turned true n = refl
         turned false n = refl
 
-    pub clause_rest : (v : Fraction) → IsBound weights v → ((s : ℕ) → k < s → u.clause s ≡ y) → count_below (suc k) (λ s. if nat_eq (u.clause s) y then 0 else lo s) ≤ S
-        → Holds (outcome u y) weights ((S - min S (count_below (suc k) (λ s. if nat_eq (u.clause s) y then 0 else hi s))) over S) ((S - count_below (suc k) (λ s. if nat_eq (u.clause s) y then 0 else lo s)) over S)
+    pub clause_rest : (v : Fraction) → IsBound weights v → ((s : ℕ) → k < s → u.clause s ≡ y)
+        → count_below (suc k) (λ s. if nat_eq (u.clause s) y then 0 else lo s) ≤ S
+        → Holds (outcome u y) weights ((S - min S
+        (count_below (suc k) (λ s. if nat_eq (u.clause s) y then 0 else hi s))) over S)
+        ((S - count_below (suc k) (λ s. if nat_eq (u.clause s) y then 0 else lo s)) over S)
     clause_rest v bound past fits =
         let l = count_below (suc k) (λ s. if nat_eq (u.clause s) y then 0 else lo s) in
         let n = count_below (suc k) (λ s. if nat_eq (u.clause s) y then 0 else hi s) in
         let w = part_holds misses in
-        let low : AtLeast (part misses) weights (l over S) = subst (λ t. AtLeast (part misses) weights (t over S)) (others lo) w.0 in
-        let high : AtMost (part misses) weights (n over S) = subst (λ t. AtMost (part misses) weights (t over S)) (others hi) w.1 in
+        let low : AtLeast (part misses) weights (l over S) =
+        subst (λ t. AtLeast (part misses) weights (t over S)) (others lo) w.0 in
+        let high : AtMost (part misses) weights (n over S) =
+        subst (λ t. AtMost (part misses) weights (t over S)) (others hi) w.1 in
         let clamped : AtMost (part misses) weights (min S n over S) = elim (cases_lt S n) [
-          | inl more ↦ subst (λ t. AtMost (part misses) weights t) (sym (ap (λ t. t over S) (min-eq_left (omega arith)) ∙ all_over S pos))
-              (λ N x b. subst (λ t. part misses N ≤ℚ t) (sym (one_times x)) (le_trans _ _ _ (subst (λ t. part misses N ≤ℚ t) (rest past N) (le_plus _ _)) (b N)))
+          | inl more ↦ subst (λ t. AtMost (part misses) weights t)
+              (sym (ap (λ t. t over S) (min-eq_left (omega arith)) ∙ over_one S pos))
+              (λ N x b. subst (λ t. part misses N ≤ℚ t) (sym (one_times x))
+              (le_trans _ _ _ (subst (λ t. part misses N ≤ℚ t) (rest past N) (le_plus _ _)) (b N)))
           | inr less ↦ subst (λ t. AtMost (part misses) weights (t over S)) (sym (min-eq_right less)) high
         ] in (
-          at_least_rest (part misses) (outcome u y) weights (min S n over S) ((S - min S n) over S) v (rest past) bound (rest_over (min S n) S pos (omega arith)) clamped,
-          at_most_rest (part misses) (outcome u y) weights (l over S) ((S - l) over S) (to_rises k (λ s N. where_true (misses s) (sums s N)) (λ s. picked_rises (misses s) s))
-              ((unit_proper u h).cells_rise y) (rest past) (rest_over l S pos fits) low,
+          at_least_rest (part misses) (outcome u y) weights (min S n over S) ((S - min S n) over S) v (rest past) bound
+              (over_rest (min S n) S pos (omega arith)) clamped,
+          at_most_rest (part misses) (outcome u y) weights (l over S) ((S - l) over S)
+              (to_rises k (λ s N. where_true (misses s) (sums s N)) (λ s. picked_rises (misses s) s))
+              ((unit_proper u h).cells_rise y) (rest past) (over_rest l S pos fits) low,
         )

@@ -5,12 +5,10 @@ use native.Mathlib.Decide.{le_ind}
 use Rattle.std.proofs.lemmas.Bool.{cases_lt}
 use Rattle.dl_exact.specs.Fraction.{Fraction, whole, ◌+ℚ◌, ◌*ℚ◌, ◌≤ℚ◌}
 use Rattle.dl_exact.specs.Sum.{sum_to, sum_pairs}
-use Rattle.dl_exact.proofs.Laws.{plus_zero, zero_times, times_zero, times_one, le_trans, le_of_eq, le_antisymm}
-use Rattle.dl_exact.proofs.Sums.{sum_to_same, sum_to_times, sum_to_swap, sum_to_grows, sum_pairs_same}
+use Rattle.dl_exact.proofs.Laws.{plus_zero, zero_times, times_zero, times_one, le_trans, le_of_eq, le_antisymm, times_le_both}
+use Rattle.dl_exact.proofs.Sums.{sum_to_same, sum_to_times, sum_to_swap, sum_to_grows, sum_pairs_same, sum_to_zero, sum_to_longer, sum_pairs_none}
 use Rattle.dl_model.specs.Compound.{at_zero, power, cell}
 use Rattle.dl_model.specs.Severity.{IsWithinOne, IsSeverity}
-use Rattle.dl_model.proofs.Declared.{times_le_both}
-use Rattle.dl_model.proofs.SumLaws.{sum_to_zero, sum_to_longer, sum_pairs_none}
 use Rattle.dl_model.proofs.Cauchy.{cauchy_low, cauchy_high}
 
 pub sum_at_zero : (y : ℕ) → sum_to y at_zero ≡ whole 1
@@ -22,7 +20,9 @@ pub power_within_one : (f : ℕ → Fraction) → IsWithinOne f → (n : ℕ) �
 unfolding power
 power_within_one f h zero y = le_of_eq _ _ (sum_at_zero y)
 power_within_one f h (suc n) y =
-    le_trans _ _ _ (cauchy_low y f (power f n)) (subst (λ t. sum_to y f *ℚ sum_to y (power f n) ≤ℚ t) (times_one _) (times_le_both _ _ _ _ (h y) (power_within_one f h n y)))
+    le_trans _ _ _ (cauchy_low y f (power f n))
+    (subst (λ t. sum_to y f *ℚ sum_to y (power f n) ≤ℚ t) (times_one _)
+    (times_le_both _ _ _ _ (h y) (power_within_one f h n y)))
 
 -- ---- severities whose probabilities add up to 1
 
@@ -35,7 +35,8 @@ severity_within_one f m s n = elim (cases_lt m n) [
   | inr near ↦ le_trans _ _ _ (sum_to_grows n m f near) (le_of_eq _ _ s.add_up)
 ]
 
-pub power_past : (f : ℕ → Fraction) (m : ℕ) → ((j : ℕ) → m < j → f j ≡ whole 0) → (n s : ℕ) → n * m < s → power f n s ≡ whole 0
+pub power_past : (f : ℕ → Fraction) (m : ℕ) → ((j : ℕ) → m < j → f j ≡ whole 0) → (n s : ℕ) → n * m < s
+    → power f n s ≡ whole 0
 unfolding power at_zero
 power_past f m past zero zero h = absurd (omega (arith, h))
 power_past f m past zero (suc s) h = refl
@@ -57,7 +58,8 @@ power_severity f m s (suc n) =
     let low : sum_to k (power f (suc n)) ≤ℚ whole 1 = power_within_one f (severity_within_one f m s) (suc n) k in
     let high : whole 1 ≤ℚ sum_to k (power f (suc n)) =
     subst₂ (λ s t. s ≤ℚ t)
-    (ap₂ (λ a b. a *ℚ b) (severity_all f m k s one) (severity_all (power f n) (n * m) k (power_severity f m s n) few) ∙ times_one _)
+    (ap₂ (λ a b. a *ℚ b) (severity_all f m k s one) (severity_all (power f n) (n * m) k (power_severity f m s n) few)
+    ∙ times_one _)
     (sum_to_longer k (k + k) (power f (suc n)) (omega arith) past)
     (cauchy_high k f (power f n)) in
     record { add_up = le_antisymm _ _ low high; past = past }
@@ -65,18 +67,21 @@ power_severity f m s (suc n) =
 -- ---- cells
 
 -- at most N claims come to at most N * m
-pub cell_past : (w f : ℕ → Fraction) (m : ℕ) → ((j : ℕ) → m < j → f j ≡ whole 0) → (s N : ℕ) → N * m < s → cell w f s N ≡ whole 0
+pub cell_past : (w f : ℕ → Fraction) (m : ℕ) → ((j : ℕ) → m < j → f j ≡ whole 0) → (s N : ℕ) → N * m < s
+    → cell w f s N ≡ whole 0
 cell_past w f m past s N h = sum_to_zero N _ (λ n b.
     let most : n * m ≤ N * m = mul-le-mul_right m b in
     ap (λ t. w n *ℚ t) (power_past f m past n s (omega arith)) ∙ times_zero _)
 
 -- all cells together are the weights together
-pub cells_all : (w f : ℕ → Fraction) (m : ℕ) → IsSeverity f m → (N k : ℕ) → N * m ≤ k → sum_to k (λ s. cell w f s N) ≡ sum_to N w
+pub cells_all : (w f : ℕ → Fraction) (m : ℕ) → IsSeverity f m → (N k : ℕ) → N * m ≤ k
+    → sum_to k (λ s. cell w f s N) ≡ sum_to N w
 cells_all w f m s N k h =
     sum_to_swap k N (λ s n. w n *ℚ power f n s)
     ∙ sum_to_same N _ _ (λ n b.
     let most : n * m ≤ N * m = mul-le-mul_right m b in
-    sum_to_times k (w n) (power f n) ∙ ap (λ t. w n *ℚ t) (severity_all (power f n) (n * m) k (power_severity f m s n) (omega arith)) ∙ times_one _)
+    sum_to_times k (w n) (power f n) ∙ ap (λ t. w n *ℚ t)
+    (severity_all (power f n) (n * m) k (power_severity f m s n) (omega arith)) ∙ times_one _)
 
 -- ---- no amount 0
 
@@ -88,11 +93,13 @@ no_power f z (suc n) zero h = ap (λ t. t *ℚ power f n zero) z ∙ zero_times 
 no_power f z (suc n) (suc s) h =
     ap₂ (λ x y. x +ℚ y)
     (ap (λ t. t *ℚ power f n (suc s)) z ∙ zero_times _)
-    (sum_pairs_same s _ _ (λ i j e. ap (λ t. f (suc i) *ℚ t) (no_power f z n j (omega arith)) ∙ times_zero _) ∙ sum_pairs_none s)
+    (sum_pairs_same s _ _ (λ i j e. ap (λ t. f (suc i) *ℚ t) (no_power f z n j (omega arith)) ∙ times_zero _)
+    ∙ sum_pairs_none s)
     ∙ plus_zero _
 
 -- from N = y on the cell at y does not change
 pub cell_stays : (w f : ℕ → Fraction) → f zero ≡ whole 0 → (y N : ℕ) → y ≤ N → cell w f y N ≡ cell w f y y
 unfolding sum_to
 cell_stays w f z y N h = le_ind (λ k. cell w f y k ≡ cell w f y y) refl
-    (λ k b e. ap₂ (λ s t. s +ℚ t) e (ap (λ t. w (suc k) *ℚ t) (no_power f z (suc k) y (omega arith)) ∙ times_zero _) ∙ plus_zero _) N h
+    (λ k b e. ap₂ (λ s t. s +ℚ t) e (ap (λ t. w (suc k) *ℚ t) (no_power f z (suc k) y (omega arith)) ∙ times_zero _)
+    ∙ plus_zero _) N h

@@ -4,14 +4,13 @@ use Rattle.std.proofs.Common.{◌≡◌, ℕ, suc, zero, ◌+◌, ◌*◌, ◌<�
 use Rattle.dl_exact.specs.Fraction.{Fraction, ◌+ℚ◌, ◌*ℚ◌, ◌/ℚ◌, ◌≤ℚ◌, ◌<ℚ◌, whole}
 use Rattle.dl_exact.specs.Power.{◌^ℚ◌}
 use Rattle.dl_exact.specs.Sum.{sum_to}
-use Rattle.dl_exact.proofs.Laws.{plus_comm, div_pos, one_pos, ring, times_assoc, zero_times, zero_plus, times_one, whole_pos, le_refl, zero_le, le_plus, div_times, times_zero}
+use Rattle.dl_exact.proofs.Laws.{plus_comm, div_pos, one_pos, ring, times_assoc, zero_times, zero_plus, times_one, whole_pos, le_refl, zero_le, le_plus, div_times, times_zero, times_le_both}
 use Rattle.dl_exact.proofs.Sums.{sum_to_same, sum_to_first, sum_to_times}
 use Rattle.dl_model.specs.Series.{IsBound}
 use Rattle.dl_model.specs.Compound.{power}
 use Rattle.dl_model.specs.Severity.{IsSeverity}
 use Rattle.dl_model.specs.Listed.{Weighted, total_weight, probability, greatest}
 use Rattle.dl_model.specs.Counts.{fixed, binomial, poisson, gamma, gamma_of, IsCount}
-use Rattle.dl_model.proofs.Declared.{times_le_both}
 use Rattle.dl_model.proofs.FiniteCounts.{bounded_by_all, fixed_sum}
 use Rattle.dl_model.proofs.CompoundLaws.{power_severity}
 use Rattle.dl_model.proofs.ListedLaws.{listed_severity}
@@ -46,21 +45,25 @@ pub listed_count : (counts : Weighted) → 0 < total_weight counts → IsCount (
 listed_count counts pos = finite_count (probability counts) (greatest counts) (listed_severity counts pos)
 
 pub fixed_count : (m : ℕ) → IsCount (fixed m)
-fixed_count m = finite_count (fixed m) m (record { add_up = fixed_sum m m (omega arith); past = λ n b. fixed_past m n b })
+fixed_count m =
+    finite_count (fixed m) m (record { add_up = fixed_sum m m (omega arith); past = λ n b. fixed_past m n b })
 
 pub binomial_count : (m a b : ℕ) → 0 < b → a ≤ b → IsCount (binomial m a b)
-binomial_count m a b pos h = subst (λ w. IsCount w) (binomial_power a b pos m) (finite_count (power (binomial 1 a b) m) (m * 1) (power_severity (binomial 1 a b) 1 (trial a b pos h) m))
+binomial_count m a b pos h = subst (λ w. IsCount w) (binomial_power a b pos m)
+    (finite_count (power (binomial 1 a b) m) (m * 1) (power_severity (binomial 1 a b) 1 (trial a b pos h) m))
 
 -- ---- Poisson counts
 
 -- each number times its weight, from the weights before
-mean_next : (w v : ℕ → Fraction) (c : Fraction) → ((n : ℕ) → whole (suc n) *ℚ w (suc n) ≡ c *ℚ v n) → (B : Fraction) → IsBound (λ N. sum_to N v) B
+mean_next : (w v : ℕ → Fraction) (c : Fraction) → ((n : ℕ) → whole (suc n) *ℚ w (suc n) ≡ c *ℚ v n) → (B : Fraction)
+    → IsBound (λ N. sum_to N v) B
     → IsBound (λ N. sum_to N (λ n. whole n *ℚ w n)) (c *ℚ B)
 unfolding sum_to
 mean_next w v c next B b zero = subst (λ t. t ≤ℚ c *ℚ B) (sym (zero_times (w zero))) (zero_le _)
 mean_next w v c next B b (suc N) =
     subst (λ t. t ≤ℚ c *ℚ B)
-    (sym (sum_to_first N (λ n. whole n *ℚ w n) ∙ ap₂ (λ s t. s +ℚ t) (zero_times (w zero)) (sum_to_same N _ _ (λ n e. next n) ∙ sum_to_times N c v) ∙ zero_plus _))
+    (sym (sum_to_first N (λ n. whole n *ℚ w n)
+    ∙ ap₂ (λ s t. s +ℚ t) (zero_times (w zero)) (sum_to_same N _ _ (λ n e. next n) ∙ sum_to_times N c v) ∙ zero_plus _))
     (times_le_both c c _ _ (le_refl c) (b N))
 
 pub poisson_count : (v : Fraction) → IsCount (poisson v)
@@ -88,7 +91,8 @@ module _ (x d : Fraction) (one : x +ℚ d ≡ whole 1) (pos : whole 0 <ℚ d) wh
     bounded = gamma_bound s;
     mean_bound = _;
     mean_bounded = mean_next (gamma (suc s) x) (gamma (suc (suc s)) x) (x *ℚ whole (suc s))
-        (λ n. gamma_next s x n ∙ turn (whole (suc s + n)) x (gamma (suc s) x n) ∙ ap (λ t. x *ℚ t) (sym (gamma_shift s x n)) ∙ sym (times_assoc _ _ _))
+        (λ n. gamma_next s x n ∙ turn (whole (suc s + n)) x (gamma (suc s) x n)
+        ∙ ap (λ t. x *ℚ t) (sym (gamma_shift s x n)) ∙ sym (times_assoc _ _ _))
         _ (gamma_bound (suc s));
     level = zero;
     positive = subst (λ t. whole 0 <ℚ t) (sym (gamma_zero s x)) (whole_pos 1 one_pos);

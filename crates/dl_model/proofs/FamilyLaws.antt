@@ -9,42 +9,50 @@ use Rattle.dl_exact.specs.Fraction.{Fraction, whole, ◌over◌, ◌*ℚ◌, ◌
 use Rattle.dl_exact.specs.Power.{◌^ℚ◌}
 use Rattle.dl_exact.specs.Sum.{sum_to, sum_pairs}
 use Rattle.dl_exact.proofs.Over.{over_le}
-use Rattle.dl_exact.proofs.Laws.{one_pos, le_refl, le_trans, le_of_eq, plus_le_both, le_plus, one_times, times_one, times_assoc}
-use Rattle.dl_exact.proofs.Sums.{sum_to_same, sum_to_le, sum_to_times, sum_to_swap}
+use Rattle.dl_exact.proofs.Laws.{one_pos, le_refl, le_trans, le_of_eq, plus_le_both, le_plus, one_times, times_one, times_assoc, times_le_both}
+use Rattle.dl_exact.proofs.Sums.{sum_to_same, sum_to_le, sum_to_times, sum_to_swap, item_le_sum}
 use Rattle.dl_model.specs.Series.{Series, Rises, AtMost, AtLeast, Holds, times}
 use Rattle.dl_model.specs.Compound.{at_zero, power}
 use Rattle.dl_model.specs.Severity.{IsWithinOne}
-use Rattle.dl_grid.specs.Pairs.{count_pairs}
+use Rattle.dl_exact.specs.Count.{count_pairs}
 use Rattle.dl_model.specs.Family.{Family, compound, product, nothing, times_itself, IsProper, Encloses}
-use Rattle.dl_model.proofs.Declared.{at_most_plus, at_least_plus, at_most_times, at_least_times, at_most_wider, at_least_wider, times_le_both}
-use Rattle.dl_model.proofs.SumLaws.{item_le_sum}
+use Rattle.dl_model.proofs.Declared.{at_most_plus, at_least_plus, at_most_times, at_least_times, at_most_wider, at_least_wider}
 use Rattle.dl_model.proofs.Cauchy.{cauchy_low}
 use Rattle.dl_model.proofs.CompoundLaws.{sum_at_zero, power_within_one}
-use Rattle.dl_model.proofs.CountLaws.{pairs_in_units}
+use Rattle.dl_exact.proofs.SumsOver.{pairs_in_units}
+use Rattle.dl_exact.proofs.Powers.{pow_plus}
 use Rattle.dl_model.proofs.Powers.{power_plus, at_zero_convolve, convolve_comm}
 
 -- a sum of rising series over one R
-pub sum_rises : (n : ℕ) (P : ℕ → ℕ → Series) → ((i j : ℕ) → i + j ≡ n → Rises (P i j)) → Rises (λ N. sum_pairs n (λ i j. P i j N))
+pub sum_rises : (n : ℕ) (P : ℕ → ℕ → Series) → ((i j : ℕ) → i + j ≡ n → Rises (P i j))
+    → Rises (λ N. sum_pairs n (λ i j. P i j N))
 unfolding sum_pairs
 sum_rises zero P r N = r zero zero (omega arith) N
-sum_rises (suc n) P r N = plus_le_both _ _ _ _ (r zero (suc n) (omega arith) N) (sum_rises n (λ i j. P (suc i) j) (λ i j e. r (suc i) j (omega arith)) N)
+sum_rises (suc n) P r N = plus_le_both _ _ _ _ (r zero (suc n) (omega arith) N)
+    (sum_rises n (λ i j. P (suc i) j) (λ i j e. r (suc i) j (omega arith)) N)
 
 pub sum_at_most : (n : ℕ) (P : ℕ → ℕ → Series) (R : Series) (h : ℕ → ℕ → Fraction)
     → ((i j : ℕ) → i + j ≡ n → AtMost (P i j) R (h i j)) → AtMost (λ N. sum_pairs n (λ i j. P i j N)) R (sum_pairs n h)
 unfolding sum_pairs
 sum_at_most zero P R h a = a zero zero (omega arith)
 sum_at_most (suc n) P R h a =
-    at_most_plus (P zero (suc n)) (λ N. sum_pairs n (λ i j. P (suc i) j N)) R (h zero (suc n)) (sum_pairs n (λ i j. h (suc i) j))
-    (a zero (suc n) (omega arith)) (sum_at_most n (λ i j. P (suc i) j) R (λ i j. h (suc i) j) (λ i j e. a (suc i) j (omega arith)))
+    at_most_plus (P zero (suc n)) (λ N. sum_pairs n (λ i j. P (suc i) j N)) R (h zero (suc n))
+    (sum_pairs n (λ i j. h (suc i) j))
+    (a zero (suc n) (omega arith)) (sum_at_most n (λ i j. P (suc i) j) R (λ i j. h (suc i) j)
+    (λ i j e. a (suc i) j (omega arith)))
 
-pub sum_at_least : (n : ℕ) (P : ℕ → ℕ → Series) (R : Series) (l : ℕ → ℕ → Fraction) → ((i j : ℕ) → i + j ≡ n → Rises (P i j))
-    → ((i j : ℕ) → i + j ≡ n → AtLeast (P i j) R (l i j)) → AtLeast (λ N. sum_pairs n (λ i j. P i j N)) R (sum_pairs n l)
+pub sum_at_least : (n : ℕ) (P : ℕ → ℕ → Series) (R : Series) (l : ℕ → ℕ → Fraction)
+    → ((i j : ℕ) → i + j ≡ n → Rises (P i j))
+    → ((i j : ℕ) → i + j ≡ n → AtLeast (P i j) R (l i j))
+    → AtLeast (λ N. sum_pairs n (λ i j. P i j N)) R (sum_pairs n l)
 unfolding sum_pairs
 sum_at_least zero P R l r a = a zero zero (omega arith)
 sum_at_least (suc n) P R l r a =
-    at_least_plus (P zero (suc n)) (λ N. sum_pairs n (λ i j. P (suc i) j N)) R (l zero (suc n)) (sum_pairs n (λ i j. l (suc i) j))
+    at_least_plus (P zero (suc n)) (λ N. sum_pairs n (λ i j. P (suc i) j N)) R (l zero (suc n))
+    (sum_pairs n (λ i j. l (suc i) j))
     (r zero (suc n) (omega arith)) (sum_rises n (λ i j. P (suc i) j) (λ i j e. r (suc i) j (omega arith)))
-    (a zero (suc n) (omega arith)) (sum_at_least n (λ i j. P (suc i) j) R (λ i j. l (suc i) j) (λ i j e. r (suc i) j (omega arith)) (λ i j e. a (suc i) j (omega arith)))
+    (a zero (suc n) (omega arith)) (sum_at_least n (λ i j. P (suc i) j) R (λ i j. l (suc i) j)
+    (λ i j e. r (suc i) j (omega arith)) (λ i j e. a (suc i) j (omega arith)))
 
 -- ---- proper families
 
@@ -53,14 +61,17 @@ rises_times Q R q r n = times_le_both _ _ _ _ (q n) (r n)
 
 pub proper_product : (F G : Family) → IsProper F → IsProper G → IsProper (product F G)
 proper_product F G p q = record {
-  cells_rise = λ y. sum_rises y (λ i j. times (F.cells i) (G.cells j)) (λ i j e. rises_times _ _ (p.cells_rise i) (q.cells_rise j));
+  cells_rise = λ y. sum_rises y (λ i j. times (F.cells i) (G.cells j))
+      (λ i j e. rises_times _ _ (p.cells_rise i) (q.cells_rise j));
   all_rises = rises_times _ _ p.all_rises q.all_rises;
-  within = λ y N. le_trans _ _ _ (cauchy_low y (λ i. F.cells i N) (λ j. G.cells j N)) (times_le_both _ _ _ _ (p.within y N) (q.within y N));
+  within = λ y N. le_trans _ _ _ (cauchy_low y (λ i. F.cells i N) (λ j. G.cells j N))
+      (times_le_both _ _ _ _ (p.within y N) (q.within y N));
 }
 
 pub cell_at_most_one : (F : Family) → IsProper F → (y : ℕ) → AtMost (F.cells y) F.all (whole 1)
 cell_at_most_one F p y = λ n u b.
-    subst (λ t. F.cells y n ≤ℚ t) (sym (one_times u)) (le_trans _ _ _ (le_trans _ _ _ (item_le_sum y (λ i. F.cells i n)) (p.within y n)) (b n))
+    subst (λ t. F.cells y n ≤ℚ t) (sym (one_times u))
+    (le_trans _ _ _ (le_trans _ _ _ (item_le_sum y (λ i. F.cells i n)) (p.within y n)) (b n))
 
 -- the partial sums of weights never fall
 pub sum_rises_to : (w : ℕ → Fraction) → Rises (λ N. sum_to N w)
@@ -71,12 +82,15 @@ pub compound_proper : (w f : ℕ → Fraction) → IsWithinOne f → IsProper (c
 compound_proper w f h = record {
   cells_rise = λ y. sum_rises_to (λ n. w n *ℚ power f n y);
   all_rises = sum_rises_to w;
-  within = λ y N. le_trans _ _ _ (le_of_eq _ _ (sum_to_swap y N (λ i n. w n *ℚ power f n i) ∙ sum_to_same N _ _ (λ n e. sum_to_times y (w n) (power f n))))
-      (sum_to_le N _ _ (λ n e. subst (λ t. w n *ℚ sum_to y (power f n) ≤ℚ t) (times_one _) (times_le_both _ _ _ _ (le_refl (w n)) (power_within_one f h n y))));
+  within = λ y N. le_trans _ _ _ (le_of_eq _ _
+      (sum_to_swap y N (λ i n. w n *ℚ power f n i) ∙ sum_to_same N _ _ (λ n e. sum_to_times y (w n) (power f n))))
+      (sum_to_le N _ _ (λ n e. subst (λ t. w n *ℚ sum_to y (power f n) ≤ℚ t) (times_one _)
+      (times_le_both _ _ _ _ (le_refl (w n)) (power_within_one f h n y))));
 }
 
 pub nothing_proper : IsProper nothing
-nothing_proper = record { cells_rise = λ y N. le_refl _; all_rises = λ N. le_refl _; within = λ y N. le_of_eq _ _ (sum_at_zero y) }
+nothing_proper =
+    record { cells_rise = λ y N. le_refl _; all_rises = λ N. le_refl _; within = λ y N. le_of_eq _ _ (sum_at_zero y) }
 
 pub itself_proper : (F : Family) → IsProper F → (n : ℕ) → IsProper (times_itself F n)
 unfolding power ◌^ℚ◌
@@ -85,19 +99,26 @@ itself_proper F p (suc n) = proper_product F (times_itself F n) p (itself_proper
 
 -- ---- outward rounding
 
-module _ (S K : ℕ) (lo hi lo' hi' : ℕ → ℕ) (F G : Family) (pos : 0 < S) (p : IsProper F) (q : IsProper G) (e : Encloses S K lo hi F) (e' : Encloses S K lo' hi' G) where
-  product_low : (y k : ℕ) → y < K → k * S ≤ count_pairs y (λ i j. lo i * lo' j) → AtLeast ((product F G).cells y) (product F G).all (k over S)
+module _ (S K : ℕ) (lo hi lo' hi' : ℕ → ℕ) (F G : Family) (pos : 0 < S) (p : IsProper F) (q : IsProper G)
+    (e : Encloses S K lo hi F) (e' : Encloses S K lo' hi' G) where
+  product_low : (y k : ℕ) → y < K → k * S ≤ count_pairs y (λ i j. lo i * lo' j)
+      → AtLeast ((product F G).cells y) (product F G).all (k over S)
   product_low y k b h = at_least_wider _ _ _ _
       (sum_at_least y (λ i j. times (F.cells i) (G.cells j)) (times F.all G.all) (λ i j. lo i over S *ℚ lo' j over S)
       (λ i j s. rises_times _ _ (p.cells_rise i) (q.cells_rise j))
-      (λ i j s. at_least_times (F.cells i) F.all (G.cells j) G.all (lo i over S) (lo' j over S) (p.cells_rise i) (q.cells_rise j) (e i (omega arith)).0 (e' j (omega arith)).0))
-      (subst (λ t. k over S ≤ℚ t) (sym (pairs_in_units y S lo lo' pos)) (over_le _ _ _ _ pos (mul-pos pos pos) (omega (arith, mul-le-mul_right S h))))
+      (λ i j s. at_least_times (F.cells i) F.all (G.cells j) G.all (lo i over S) (lo' j over S) (p.cells_rise i)
+      (q.cells_rise j) (e i (omega arith)).0 (e' j (omega arith)).0))
+      (subst (λ t. k over S ≤ℚ t) (sym (pairs_in_units y S lo lo' pos))
+      (over_le _ _ _ _ pos (mul-pos pos pos) (omega (arith, mul-le-mul_right S h))))
 
-  product_high : (y k : ℕ) → y < K → count_pairs y (λ i j. hi i * hi' j) ≤ k * S → AtMost ((product F G).cells y) (product F G).all (k over S)
+  product_high : (y k : ℕ) → y < K → count_pairs y (λ i j. hi i * hi' j) ≤ k * S
+      → AtMost ((product F G).cells y) (product F G).all (k over S)
   product_high y k b h = at_most_wider _ _ _ _
       (sum_at_most y (λ i j. times (F.cells i) (G.cells j)) (times F.all G.all) (λ i j. hi i over S *ℚ hi' j over S)
-      (λ i j s. at_most_times (F.cells i) F.all (G.cells j) G.all (hi i over S) (hi' j over S) p.all_rises q.all_rises (e i (omega arith)).1 (e' j (omega arith)).1))
-      (subst (λ t. t ≤ℚ k over S) (sym (pairs_in_units y S hi hi' pos)) (over_le _ _ _ _ (mul-pos pos pos) pos (omega (arith, mul-le-mul_right S h))))
+      (λ i j s. at_most_times (F.cells i) F.all (G.cells j) G.all (hi i over S) (hi' j over S) p.all_rises q.all_rises
+      (e i (omega arith)).1 (e' j (omega arith)).1))
+      (subst (λ t. t ≤ℚ k over S) (sym (pairs_in_units y S hi hi' pos))
+      (over_le _ _ _ _ (mul-pos pos pos) pos (omega (arith, mul-le-mul_right S h))))
 
   -- no cell is above the whole weight
   product_clamped : (y k : ℕ) → S ≤ k → AtMost ((product F G).cells y) (product F G).all (k over S)
@@ -106,12 +127,17 @@ module _ (S K : ℕ) (lo hi lo' hi' : ℕ → ℕ) (F G : Family) (pos : 0 < S) 
       (over_le _ _ _ _ one_pos pos (omega arith))
 
   pub encloses_product : (low high : ℕ → ℕ) → ((y : ℕ) → y < K → low y * S ≤ count_pairs y (λ i j. lo i * lo' j))
-      → ((y : ℕ) → y < K → (count_pairs y (λ i j. hi i * hi' j) ≤ high y * S) ⊎ (S ≤ high y)) → Encloses S K low high (product F G)
-  encloses_product low high below above y b =
-      (product_low y (low y) b (below y b), elim (above y b) [ inl h ↦ product_high y (high y) b h | inr h ↦ product_clamped y (high y) h ])
+      → ((y : ℕ) → y < K → (count_pairs y (λ i j. hi i * hi' j) ≤ high y * S) ⊎ (S ≤ high y))
+      → Encloses S K low high (product F G)
+  encloses_product low high below above y b = (
+    product_low y (low y) b (below y b),
+    elim
+        (above y b) [ inl h ↦ product_high y (high y) b h | inr h ↦ product_clamped y (high y) h ],
+  )
 
   -- one floor and one ceiling for each cell, and no high end above S
-  pub encloses_rounded : Encloses S K (λ y. count_pairs y (λ i j. lo i * lo' j) / S) (λ y. min S (div_ceil (count_pairs y (λ i j. hi i * hi' j)) S)) (product F G)
+  pub encloses_rounded : Encloses S K (λ y. count_pairs y (λ i j. lo i * lo' j) / S)
+      (λ y. min S (div_ceil (count_pairs y (λ i j. hi i * hi' j)) S)) (product F G)
   encloses_rounded = encloses_product _ _ (λ y b. div-mul-le_self _ S) (λ y b.
       let n = count_pairs y (λ i j. hi i * hi' j) in
       elim (cases_lt S (div_ceil n S)) [
@@ -121,7 +147,8 @@ module _ (S K : ℕ) (lo hi lo' hi' : ℕ → ℕ) (F G : Family) (pos : 0 < S) 
 
 -- ---- families with equal cells and whole weights
 
-pub encloses_same : (S K : ℕ) (lo hi : ℕ → ℕ) (F G : Family) → ((y N : ℕ) → F.cells y N ≡ G.cells y N) → ((N : ℕ) → F.all N ≡ G.all N)
+pub encloses_same : (S K : ℕ) (lo hi : ℕ → ℕ) (F G : Family) → ((y N : ℕ) → F.cells y N ≡ G.cells y N)
+    → ((N : ℕ) → F.all N ≡ G.all N)
     → Encloses S K lo hi F → Encloses S K lo hi G
 encloses_same S K lo hi F G cells all e y b =
     subst₂ (λ Q R. Holds Q R (lo y over S) (hi y over S)) (fun_ext (cells y)) (fun_ext all) (e y b)
@@ -136,17 +163,15 @@ pub itself_one : (F : Family) (y N : ℕ) → (times_itself F 1).cells y N ≡ F
 unfolding power
 itself_one F y N = ap (λ g. g y) (convolve_comm (λ j. F.cells j N) at_zero ∙ at_zero_convolve (λ j. F.cells j N))
 
-pub pow_plus : (x : Fraction) (m n : ℕ) → x ^ℚ (m + n) ≡ x ^ℚ m *ℚ x ^ℚ n
-unfolding ◌^ℚ◌
-pow_plus x zero n = ap (λ k. x ^ℚ k) (zero-add n) ∙ sym (one_times _)
-pow_plus x (suc m) n = ap (λ k. x ^ℚ k) (suc-add m n) ∙ ap (λ t. x *ℚ t) (pow_plus x m n) ∙ sym (times_assoc _ _ _)
-
 -- m times and n times are m + n times
-pub itself_plus : (F : Family) (m n y N : ℕ) → (product (times_itself F m) (times_itself F n)).cells y N ≡ (times_itself F (m + n)).cells y N
+pub itself_plus : (F : Family) (m n y N : ℕ)
+    → (product (times_itself F m) (times_itself F n)).cells y N ≡ (times_itself F (m + n)).cells y N
 itself_plus F m n y N = ap (λ g. g y) (sym (power_plus (λ j. F.cells j N) m n))
 
-pub itself_plus_all : (F : Family) (m n N : ℕ) → (product (times_itself F m) (times_itself F n)).all N ≡ (times_itself F (m + n)).all N
+pub itself_plus_all : (F : Family) (m n N : ℕ)
+    → (product (times_itself F m) (times_itself F n)).all N ≡ (times_itself F (m + n)).all N
 itself_plus_all F m n N = sym (pow_plus (F.all N) m n)
 
-pub encloses_power : (S K : ℕ) (lo hi : ℕ → ℕ) (F : Family) (m n : ℕ) → Encloses S K lo hi (product (times_itself F m) (times_itself F n)) → Encloses S K lo hi (times_itself F (m + n))
+pub encloses_power : (S K : ℕ) (lo hi : ℕ → ℕ) (F : Family) (m n : ℕ)
+    → Encloses S K lo hi (product (times_itself F m) (times_itself F n)) → Encloses S K lo hi (times_itself F (m + n))
 encloses_power S K lo hi F m n = encloses_same S K lo hi _ _ (itself_plus F m n) (itself_plus_all F m n)

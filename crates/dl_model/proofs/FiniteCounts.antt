@@ -5,47 +5,52 @@ use Rattle.std.proofs.lemmas.Bool.{cases_lt}
 use Rattle.dl_exact.specs.Fraction.{Fraction, ◌over◌, ◌*ℚ◌, ◌≤ℚ◌, whole}
 use Rattle.dl_exact.specs.Sum.{sum_to}
 use Rattle.dl_exact.proofs.Over.{over_le}
-use Rattle.dl_exact.proofs.Laws.{one_pos, le_refl, le_trans, le_of_eq, zero_le, times_one, one_times, zero_times}
-use Rattle.dl_exact.proofs.Sums.{sum_to_same, sum_to_grows}
+use Rattle.dl_exact.proofs.Laws.{one_pos, le_refl, le_trans, le_of_eq, zero_le, times_one, one_times, zero_times, times_le_both}
+use Rattle.dl_exact.proofs.Sums.{sum_to_same, sum_to_grows, sum_to_longer}
 use Rattle.dl_model.specs.Series.{Series, IsBound, Holds}
 use Rattle.dl_model.specs.Compound.{at_zero, power, cell}
 use Rattle.dl_model.specs.Program.{where_true}
 use Rattle.dl_model.specs.Counts.{fixed}
 use Rattle.dl_model.specs.Family.{compound, nothing, Encloses}
-use Rattle.dl_model.proofs.Declared.{times_le_both}
-use Rattle.dl_model.proofs.SumLaws.{sum_to_longer, pick, pick_none}
+use Rattle.dl_model.proofs.Picks.{pick, pick_none}
 use Rattle.dl_model.proofs.Powers.{convolve_comm, at_zero_convolve}
 
 -- A value that is reached at some level, is passed at none, and lies over a whole weight of 1.
-pub holds_reached : (Q R : Series) (v l h : Fraction) (far : ℕ) → Q far ≡ v → IsBound Q v → R far ≡ whole 1 → IsBound R (whole 1)
+pub holds_reached : (Q R : Series) (v l h : Fraction) (far : ℕ) → Q far ≡ v → IsBound Q v → R far ≡ whole 1
+    → IsBound R (whole 1)
     → l ≤ℚ v → v ≤ℚ h → Holds Q R l h
 holds_reached Q R v l h far reached below one most low high = (
   (λ n u bound. le_trans _ _ _ (subst (λ t. l *ℚ R n ≤ℚ t) (times_one l) (times_le_both _ _ _ _ (le_refl l) (most n)))
       (le_trans _ _ _ low (subst (λ t. t ≤ℚ u) reached (bound far)))),
   (λ n u bound. le_trans _ _ _ (below n) (le_trans _ _ _ high
-      (subst (λ t. t ≤ℚ h *ℚ u) (times_one h) (times_le_both _ _ _ _ (le_refl h) (subst (λ t. t ≤ℚ u) one (bound far)))))),
+      (subst (λ t. t ≤ℚ h *ℚ u) (times_one h)
+      (times_le_both _ _ _ _ (le_refl h) (subst (λ t. t ≤ℚ u) one (bound far)))))),
 )
 
 -- sums of items that vanish past some place are bounded by the sum up to it
-pub bounded_by_all : (far : ℕ) (g : ℕ → Fraction) → ((n : ℕ) → far < n → g n ≡ whole 0) → IsBound (λ N. sum_to N g) (sum_to far g)
+pub bounded_by_all : (far : ℕ) (g : ℕ → Fraction) → ((n : ℕ) → far < n → g n ≡ whole 0)
+    → IsBound (λ N. sum_to N g) (sum_to far g)
 bounded_by_all far g none N = elim (cases_lt far N) [
   | inl more ↦ le_of_eq _ _ (sum_to_longer far N g (omega arith) none)
   | inr few ↦ sum_to_grows N far g few
 ]
 
 module _ (w f : ℕ → Fraction) (far : ℕ) (one : sum_to far w ≡ whole 1) (none : (n : ℕ) → far < n → w n ≡ whole 0) where
-  pub finite_holds : (y : ℕ) (l h : Fraction) → l ≤ℚ cell w f y far → cell w f y far ≤ℚ h → Holds (cell w f y) (λ N. sum_to N w) l h
+  pub finite_holds : (y : ℕ) (l h : Fraction) → l ≤ℚ cell w f y far → cell w f y far ≤ℚ h
+      → Holds (cell w f y) (λ N. sum_to N w) l h
   finite_holds y l h low high = holds_reached (cell w f y) (λ N. sum_to N w) (cell w f y far) l h far refl
       (bounded_by_all far (λ n. w n *ℚ power f n y) (λ n b. ap (λ t. t *ℚ power f n y) (none n b) ∙ zero_times _))
       one (λ N. subst (λ t. sum_to N w ≤ℚ t) one (bounded_by_all far w none N)) low high
 
-  pub finite_encloses : (S K : ℕ) (lo hi : ℕ → ℕ) → ((y : ℕ) → y < K → lo y over S ≤ℚ cell w f y far) → ((y : ℕ) → y < K → cell w f y far ≤ℚ hi y over S)
+  pub finite_encloses : (S K : ℕ) (lo hi : ℕ → ℕ) → ((y : ℕ) → y < K → lo y over S ≤ℚ cell w f y far)
+      → ((y : ℕ) → y < K → cell w f y far ≤ℚ hi y over S)
       → Encloses S K lo hi (compound w f)
   finite_encloses S K lo hi low high y b = finite_holds y _ _ (low y b) (high y b)
 
 -- ---- the outcome 0
 
-pub nothing_encloses : (S K : ℕ) (lo hi : ℕ → ℕ) → 0 < S → lo 0 ≤ S → S ≤ hi 0 → ((y : ℕ) → 0 < y → lo y ≡ 0) → Encloses S K lo hi nothing
+pub nothing_encloses : (S K : ℕ) (lo hi : ℕ → ℕ) → 0 < S → lo 0 ≤ S → S ≤ hi 0 → ((y : ℕ) → 0 < y → lo y ≡ 0)
+    → Encloses S K lo hi nothing
 unfolding at_zero
 nothing_encloses S K lo hi pos low high none zero b =
     holds_reached (λ N. whole 1) (λ N. whole 1) (whole 1) _ _ 0 refl (λ N. le_refl _) refl (λ N. le_refl _)
@@ -64,7 +69,8 @@ pub fixed_cell : (m : ℕ) (f : ℕ → Fraction) (y N : ℕ) → m ≤ N → ce
 fixed_cell m f y N h = sum_to_same N _ _ (λ n b. where_times (nat_eq n m) (power f n y)) ∙ pick N m (λ n. power f n y) h
 
 pub fixed_cell_none : (m : ℕ) (f : ℕ → Fraction) (y N : ℕ) → N < m → cell (fixed m) f y N ≡ whole 0
-fixed_cell_none m f y N h = sum_to_same N _ _ (λ n b. where_times (nat_eq n m) (power f n y)) ∙ pick_none N m (λ n. power f n y) h
+fixed_cell_none m f y N h =
+    sum_to_same N _ _ (λ n b. where_times (nat_eq n m) (power f n y)) ∙ pick_none N m (λ n. power f n y) h
 
 pub fixed_sum : (m N : ℕ) → m ≤ N → sum_to N (fixed m) ≡ whole 1
 fixed_sum m N h = pick N m (λ n. whole 1) h
@@ -82,9 +88,11 @@ fixed_cell_bounded m f y N = elim (cases_lt N m) [
 ]
 
 -- the value of a cell of exactly m claims
-pub fixed_value : (m : ℕ) (f : ℕ → Fraction) (y : ℕ) (l h : Fraction) → Holds (cell (fixed m) f y) (λ N. sum_to N (fixed m)) l h → (l ≤ℚ power f m y) × (power f m y ≤ℚ h)
+pub fixed_value : (m : ℕ) (f : ℕ → Fraction) (y : ℕ) (l h : Fraction)
+    → Holds (cell (fixed m) f y) (λ N. sum_to N (fixed m)) l h → (l ≤ℚ power f m y) × (power f m y ≤ℚ h)
 fixed_value m f y l h v = (
-  subst (λ t. t ≤ℚ power f m y) (ap (λ t. l *ℚ t) (fixed_sum m m (omega arith)) ∙ times_one l) (v.0 m (power f m y) (fixed_cell_bounded m f y)),
+  subst (λ t. t ≤ℚ power f m y) (ap (λ t. l *ℚ t) (fixed_sum m m (omega arith)) ∙ times_one l)
+      (v.0 m (power f m y) (fixed_cell_bounded m f y)),
   subst₂ (λ s t. s ≤ℚ t) (fixed_cell m f y m (omega arith)) (times_one h) (v.1 m (whole 1) (fixed_bounded m)),
 )
 

@@ -8,8 +8,7 @@ use Rattle.dl_model.specs.Series.{times, IsLeastBound}
 use Rattle.dl_model.specs.Compound.{convolve, at_zero, power}
 use Rattle.dl_model.specs.Counts.{gamma}
 use Rattle.dl_exact.specs.Power.{choose, ◌^ℚ◌}
-use Rattle.dl_exact.proofs.Laws.{ring, plus_comm, times_comm, times_assoc, times_left_comm, plus_times, one_times, times_one, whole_plus, whole_times, whole_pos, times_cancel, le_refl, le_plus, plus_le_both, times_le_cancel, times_le_times}
-use Rattle.dl_model.proofs.Declared.{times_le_both}
+use Rattle.dl_exact.proofs.Laws.{ring, plus_comm, times_comm, times_assoc, times_left_comm, plus_times, one_times, times_one, whole_plus, whole_times, whole_pos, times_cancel, le_refl, le_plus, plus_le_both, times_le_cancel, times_le_times, times_le_both}
 use Rattle.dl_exact.proofs.Sums.{sum_to_same, sum_to_first, sum_to_times, sum_pairs_same, sum_pairs_times, sum_pairs_plus, sum_pairs_weighed}
 use Rattle.dl_model.proofs.Powers.{at_zero_convolve, convolve_comm}
 use Rattle.dl_model.proofs.FamilyLaws.{sum_rises_to}
@@ -28,14 +27,25 @@ shift_step : (q i : ℕ) → suc q * choose (suc (q + i)) i ≡ suc (q + i) * ch
     → suc q * choose (suc (suc (q + i))) (suc i) ≡ suc (suc (q + i)) * choose (suc (q + i)) (suc i)
 shift_step q i h =
     eq_of_mul-eq-mul_left (suc i) (omega arith) _ _
-    (omega (arith, ap (λ t. suc q * t) (choose-absorb (suc (q + i)) i), ap (λ t. suc (suc (q + i)) * t) h, ap (λ t. suc (suc (q + i)) * t) (choose-absorb (q + i) i)))
+    (omega (
+      arith,
+      ap (λ t. suc q * t) (choose-absorb (suc (q + i)) i),
+      ap (λ t. suc (suc (q + i)) * t) h,
+      ap
+          (λ t. suc (suc (q + i)) * t) (choose-absorb (q + i) i),
+    ))
 
 choose-zero : (m : ℕ) → choose m zero ≡ 1
 unfolding choose
 choose-zero m = refl
 
 choose-shift : (q i : ℕ) → suc q * choose (suc (q + i)) i ≡ suc (q + i) * choose (q + i) i
-choose-shift q zero = omega (arith, ap (λ t. suc q * t) (choose-zero (suc (q + zero))), ap (λ t. suc (q + zero) * t) (choose-zero (q + zero)))
+choose-shift q zero = omega (
+  arith,
+  ap (λ t. suc q * t) (choose-zero (suc (q + zero))),
+  ap (λ t. suc (q + zero) * t)
+      (choose-zero (q + zero)),
+)
 choose-shift q (suc i) =
     let d : q + suc i ≡ suc (q + i) = omega arith in
     subst (λ m. suc q * choose (suc m) (suc i) ≡ suc m * choose m (suc i)) (sym d) (shift_step q i (choose-shift q i))
@@ -52,30 +62,35 @@ pub gamma_zero : (q : ℕ) (x : Fraction) → gamma (suc q) x zero ≡ whole 1
 unfolding choose ◌^ℚ◌
 gamma_zero q x = gamma_is q x zero ∙ times_one _
 
-pub gamma_next : (q : ℕ) (x : Fraction) (n : ℕ) → whole (suc n) *ℚ gamma (suc q) x (suc n) ≡ whole (suc q + n) *ℚ (x *ℚ gamma (suc q) x n)
+pub gamma_next : (q : ℕ) (x : Fraction) (n : ℕ)
+    → whole (suc n) *ℚ gamma (suc q) x (suc n) ≡ whole (suc q + n) *ℚ (x *ℚ gamma (suc q) x n)
 unfolding ◌^ℚ◌
 gamma_next q x n =
     let e : q + suc n ≡ suc (q + n) = omega arith in
     let d : suc q + n ≡ suc (q + n) = omega arith in
     ap (λ t. whole (suc n) *ℚ t) (gamma_is q x (suc n) ∙ ap (λ m. whole (choose m (suc n)) *ℚ (x *ℚ x ^ℚ n)) e)
     ∙ sym (times_assoc _ _ _)
-    ∙ ap (λ t. t *ℚ (x *ℚ x ^ℚ n)) (sym (whole_times _ _) ∙ ap whole (choose-absorb (q + n) n ∙ ap (λ m. m * choose (q + n) n) (sym d)) ∙ whole_times _ _)
+    ∙ ap (λ t. t *ℚ (x *ℚ x ^ℚ n)) (sym (whole_times _ _)
+    ∙ ap whole (choose-absorb (q + n) n ∙ ap (λ m. m * choose (q + n) n) (sym d)) ∙ whole_times _ _)
     ∙ times_assoc _ _ _
     ∙ ap (λ t. whole (suc q + n) *ℚ t) (times_left_comm _ _ _ ∙ ap (λ t. x *ℚ t) (sym (gamma_is q x n)))
 
-pub gamma_shift : (q : ℕ) (x : Fraction) (i : ℕ) → whole (suc q) *ℚ gamma (suc (suc q)) x i ≡ whole (suc q + i) *ℚ gamma (suc q) x i
+pub gamma_shift : (q : ℕ) (x : Fraction) (i : ℕ)
+    → whole (suc q) *ℚ gamma (suc (suc q)) x i ≡ whole (suc q + i) *ℚ gamma (suc q) x i
 gamma_shift q x i =
     let c : suc q + i ≡ suc (q + i) = omega arith in
     ap (λ t. whole (suc q) *ℚ t) (gamma_is (suc q) x i)
     ∙ sym (times_assoc _ _ _)
-    ∙ ap (λ t. t *ℚ x ^ℚ i) (sym (whole_times _ _) ∙ ap whole (subst (λ m. suc q * choose m i ≡ m * choose (q + i) i) (sym c) (choose-shift q i)) ∙ whole_times _ _)
+    ∙ ap (λ t. t *ℚ x ^ℚ i) (sym (whole_times _ _)
+    ∙ ap whole (subst (λ m. suc q * choose m i ≡ m * choose (q + i) i) (sym c) (choose-shift q i)) ∙ whole_times _ _)
     ∙ times_assoc _ _ _
     ∙ ap (λ t. whole (suc q + i) *ℚ t) (sym (gamma_is q x i))
 
 -- one more in the shape is a convolution with the geometric weights
 pub gamma_one_more : (s : ℕ) (x : Fraction) (n : ℕ) → gamma (suc (suc s)) x n ≡ convolve (gamma 1 x) (gamma (suc s) x) n
 unfolding sum_pairs
-gamma_one_more s x zero = gamma_zero (suc s) x ∙ sym (ap₂ (λ a b. a *ℚ b) (gamma_zero zero x) (gamma_zero s x) ∙ times_one _)
+gamma_one_more s x zero =
+    gamma_zero (suc s) x ∙ sym (ap₂ (λ a b. a *ℚ b) (gamma_zero zero x) (gamma_zero s x) ∙ times_one _)
 gamma_one_more s x (suc n) =
     let G = gamma 1 x in
     let H = gamma (suc s) x in
@@ -84,9 +99,14 @@ gamma_one_more s x (suc n) =
     ∙ ap (λ t. whole (suc (suc s) + n) *ℚ (x *ℚ t)) (gamma_one_more s x n)
     ∙ sym (sum_pairs_weighed n (λ i j. G i *ℚ H j)
     ∙ ap₂ (λ a b. a +ℚ b)
-    (sum_pairs_same n _ (λ i j. whole (1 + i) *ℚ (x *ℚ (G i *ℚ H j))) (λ i j e. sym (times_assoc _ _ _) ∙ ap (λ t. t *ℚ H j) (gamma_next zero x i) ∙ times_assoc _ _ _ ∙ ap (λ t. whole (1 + i) *ℚ t) (times_assoc _ _ _)))
-    (sum_pairs_same n _ (λ i j. whole (suc s + j) *ℚ (x *ℚ (G i *ℚ H j))) (λ i j e. times_left_comm _ _ _ ∙ ap (λ t. G i *ℚ t) (gamma_next s x j) ∙ times_left_comm _ _ _ ∙ ap (λ t. whole (suc s + j) *ℚ t) (times_left_comm _ _ _)))
-    ∙ sym (sum_pairs_plus n (λ i j. whole (1 + i) *ℚ (x *ℚ (G i *ℚ H j))) (λ i j. whole (suc s + j) *ℚ (x *ℚ (G i *ℚ H j))))
+    (sum_pairs_same n _ (λ i j. whole (1 + i) *ℚ (x *ℚ (G i *ℚ H j)))
+    (λ i j e. sym (times_assoc _ _ _) ∙ ap (λ t. t *ℚ H j) (gamma_next zero x i) ∙ times_assoc _ _ _
+    ∙ ap (λ t. whole (1 + i) *ℚ t) (times_assoc _ _ _)))
+    (sum_pairs_same n _ (λ i j. whole (suc s + j) *ℚ (x *ℚ (G i *ℚ H j)))
+    (λ i j e. times_left_comm _ _ _ ∙ ap (λ t. G i *ℚ t) (gamma_next s x j) ∙ times_left_comm _ _ _
+    ∙ ap (λ t. whole (suc s + j) *ℚ t) (times_left_comm _ _ _)))
+    ∙ sym (sum_pairs_plus n (λ i j. whole (1 + i) *ℚ (x *ℚ (G i *ℚ H j)))
+    (λ i j. whole (suc s + j) *ℚ (x *ℚ (G i *ℚ H j))))
     ∙ sum_pairs_same n _ (λ i j. whole (suc (suc s) + n) *ℚ (x *ℚ (G i *ℚ H j))) (λ i j e.
     let m : 1 + i + (suc s + j) ≡ suc (suc s) + n = omega arith in
     sym (plus_times _ _ _) ∙ ap (λ t. t *ℚ (x *ℚ (G i *ℚ H j))) (sym (whole_plus _ _) ∙ ap whole m))
@@ -109,17 +129,20 @@ geometric_next x n =
 geometric_sum : (x : Fraction) (N : ℕ) → sum_to (suc N) (gamma 1 x) ≡ x *ℚ sum_to N (gamma 1 x) +ℚ whole 1
 geometric_sum x N =
     sum_to_first N (gamma 1 x)
-    ∙ ap₂ (λ a b. a +ℚ b) (gamma_zero zero x) (sum_to_same N _ _ (λ n e. geometric_next x n) ∙ sum_to_times N x (gamma 1 x))
+    ∙ ap₂ (λ a b. a +ℚ b) (gamma_zero zero x)
+    (sum_to_same N _ _ (λ n e. geometric_next x n) ∙ sum_to_times N x (gamma 1 x))
     ∙ plus_comm _ _
 
 module _ (x d : Fraction) (one : x +ℚ d ≡ whole 1) where
   pub geometric_low : (N : ℕ) → d *ℚ sum_to N (gamma 1 x) ≤ℚ whole 1
   unfolding sum_to
   geometric_low zero =
-      subst₂ (λ s t. s ≤ℚ t) (sym (ap (λ t. d *ℚ t) (gamma_zero zero x) ∙ times_one d)) (plus_comm d x ∙ one) (le_plus d x)
+      subst₂ (λ s t. s ≤ℚ t) (sym (ap (λ t. d *ℚ t) (gamma_zero zero x) ∙ times_one d)) (plus_comm d x ∙ one)
+      (le_plus d x)
   geometric_low (suc N) =
       let S = sum_to N (gamma 1 x) in
-      subst₂ (λ s t. s ≤ℚ t) (sym (ap (λ t. d *ℚ t) (geometric_sum x N) ∙ turn S)) (ap (λ t. t +ℚ d) (one_times x) ∙ one)
+      subst₂ (λ s t. s ≤ℚ t) (sym (ap (λ t. d *ℚ t) (geometric_sum x N) ∙ turn S))
+      (ap (λ t. t +ℚ d) (one_times x) ∙ one)
       (plus_le_both _ _ _ _ (times_le_times _ _ x (geometric_low N)) (le_refl d))
     where
       turn : (S : Fraction) → d *ℚ (x *ℚ S +ℚ whole 1) ≡ d *ℚ S *ℚ x +ℚ d
@@ -136,12 +159,24 @@ module _ (x d : Fraction) (one : x +ℚ d ≡ whole 1) where
   )
 
   -- and those of the gamma weights of shape r that to the power r
-  pub gamma_least : (L : Fraction) → whole 0 <ℚ d → L *ℚ d ≡ whole 1 → (s : ℕ) → IsLeastBound (λ N. sum_to N (gamma (suc s) x)) (L ^ℚ suc s)
+  pub gamma_least : (L : Fraction) → whole 0 <ℚ d → L *ℚ d ≡ whole 1 → (s : ℕ)
+      → IsLeastBound (λ N. sum_to N (gamma (suc s) x)) (L ^ℚ suc s)
   unfolding ◌^ℚ◌
-  gamma_least L dp e zero = subst (IsLeastBound (λ N. sum_to N (gamma 1 x))) (sym (times_one L)) (geometric_least L dp e)
+  gamma_least L dp e zero =
+      subst (IsLeastBound (λ N. sum_to N (gamma 1 x))) (sym (times_one L)) (geometric_least L dp e)
   gamma_least L dp e (suc s) =
-      let w : (N : ℕ) → sum_to N (convolve (gamma 1 x) (gamma (suc s) x)) ≡ sum_to N (gamma (suc (suc s)) x) = λ N. sum_to_same N _ _ (λ n b. sym (gamma_one_more s x n)) in
+      let w : (N : ℕ) → sum_to N (convolve (gamma 1 x) (gamma (suc s) x)) ≡ sum_to N (gamma (suc (suc s)) x) =
+      λ N. sum_to_same N _ _ (λ n b. sym (gamma_one_more s x n)) in
       least_from (times (λ N. sum_to N (gamma 1 x)) (λ N. sum_to N (gamma (suc s) x))) _ (L *ℚ L ^ℚ suc s)
-      (λ N. (N + N, subst (λ t. sum_to N (gamma 1 x) *ℚ sum_to N (gamma (suc s) x) ≤ℚ t) (w (N + N)) (cauchy_high N (gamma 1 x) (gamma (suc s) x))))
-      (λ N. (N, subst (λ t. t ≤ℚ sum_to N (gamma 1 x) *ℚ sum_to N (gamma (suc s) x)) (w N) (cauchy_low N (gamma 1 x) (gamma (suc s) x))))
-      (least_times _ _ L (L ^ℚ suc s) (sum_rises_to (gamma 1 x)) (sum_rises_to (gamma (suc s) x)) (geometric_least L dp e) (gamma_least L dp e s))
+      (λ N. (
+        N + N,
+        subst (λ t. sum_to N (gamma 1 x) *ℚ sum_to N (gamma (suc s) x) ≤ℚ t) (w (N + N))
+            (cauchy_high N (gamma 1 x) (gamma (suc s) x)),
+      ))
+      (λ N. (
+        N,
+        subst (λ t. t ≤ℚ sum_to N (gamma 1 x) *ℚ sum_to N (gamma (suc s) x)) (w N)
+            (cauchy_low N (gamma 1 x) (gamma (suc s) x)),
+      ))
+      (least_times _ _ L (L ^ℚ suc s) (sum_rises_to (gamma 1 x)) (sum_rises_to (gamma (suc s) x))
+      (geometric_least L dp e) (gamma_least L dp e s))

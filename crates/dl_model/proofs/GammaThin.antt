@@ -13,6 +13,7 @@ use Rattle.dl_model.specs.Severity.{IsPositivePart}
 use Rattle.dl_model.specs.Family.{compound, times_itself}
 use Rattle.dl_exact.proofs.Laws.{ring, plus_comm, times_comm, times_assoc, times_left_comm, plus_zero, times_zero, plus_times, times_plus, one_times, times_one, whole_pos, times_cancel, le_trans, le_of_eq, le_plus, times_pos, lt_of_lt_of_le, plus_cancel, div_times, div_pos}
 use Rattle.dl_exact.proofs.Sums.{sum_to_same, sum_to_times, sum_to_times_right, sum_to_grows, sum_pairs_turn}
+use Rattle.dl_exact.proofs.Powers.{pow_plus, pow_times, pow_pos}
 use Rattle.dl_model.proofs.FamilyLaws.{sum_rises_to}
 use Rattle.dl_model.proofs.Cauchy.{triangle_le_square, square_le_triangle}
 use Rattle.dl_model.proofs.CompoundLaws.{no_power}
@@ -22,30 +23,14 @@ use Rattle.dl_model.proofs.Itself.{itself_value}
 use Rattle.dl_model.proofs.Least.{least_from, least_sum, least_scaled, value_of_least}
 use Rattle.dl_model.proofs.Gamma.{gamma_zero, gamma_next, gamma_shift, gamma_is, gamma_power, gamma_least}
 
--- ---- powers of fractions
-
-pow_plus : (x : Fraction) (m n : ℕ) → x ^ℚ (m + n) ≡ x ^ℚ m *ℚ x ^ℚ n
-unfolding ◌^ℚ◌
-pow_plus x zero n = ap (λ k. x ^ℚ k) (zero-add n) ∙ sym (one_times _)
-pow_plus x (suc m) n = ap (λ k. x ^ℚ k) (suc-add m n) ∙ ap (λ t. x *ℚ t) (pow_plus x m n) ∙ sym (times_assoc _ _ _)
-
-pow_times : (x y : Fraction) (n : ℕ) → (x *ℚ y) ^ℚ n ≡ x ^ℚ n *ℚ y ^ℚ n
-unfolding ◌^ℚ◌
-pow_times x y zero = sym (times_one _)
-pow_times x y (suc n) = ap (λ t. x *ℚ y *ℚ t) (pow_times x y n) ∙ simp ring
-
-pow_pos : (x : Fraction) (n : ℕ) → whole 0 <ℚ x → whole 0 <ℚ x ^ℚ n
-unfolding ◌^ℚ◌
-pow_pos x zero h = whole_pos 1 (zero-lt-suc zero)
-pow_pos x (suc n) h = times_pos _ _ h (pow_pos x n h)
-
 -- ---- sums whose items vanish from some place on
 
 sum_to_cut : (N y : ℕ) (F : ℕ → Fraction) → ((j : ℕ) → y < j → F j ≡ whole 0) → sum_to N F ≤ℚ sum_to y F
 unfolding sum_to
 sum_to_cut zero y F h = sum_to_grows zero y F (omega arith)
 sum_to_cut (suc N) y F h = elim (cases_lt y (suc N)) [
-  | inl l ↦ subst (λ t. t ≤ℚ sum_to y F) (sym (ap (λ t. sum_to N F +ℚ t) (h (suc N) l) ∙ plus_zero _)) (sum_to_cut N y F h)
+  | inl l ↦ subst (λ t. t ≤ℚ sum_to y F) (sym (ap (λ t. sum_to N F +ℚ t) (h (suc N) l) ∙ plus_zero _))
+      (sum_to_cut N y F h)
   | inr l ↦ sum_to_grows (suc N) y F l
 ]
 
@@ -94,7 +79,8 @@ module _ (f : ℕ → Fraction) (p : Fraction) (g : ℕ → Fraction) (h : IsPos
 
   split_gamma : (n y : ℕ) → gamma (suc q) x n *ℚ power f n y ≡ sum_pairs n (λ j i. t i j *ℚ power g j y)
   split_gamma n y =
-      split f p g h (gamma (suc q) x) (λ n. whole (suc q + n) *ℚ x) t t_start (λ n. gamma_next q x n ∙ sym (times_assoc _ _ _)) t_left t_right n y
+      split f p g h (gamma (suc q) x) (λ n. whole (suc q + n) *ℚ x) t t_start
+      (λ n. gamma_next q x n ∙ sym (times_assoc _ _ _)) t_left t_right n y
       ∙ sym (sum_pairs_turn n (λ i j. t i j *ℚ power g j y))
 
   -- the cell, up to N claims of each kind, and with at most y claims above 0
@@ -108,15 +94,20 @@ module _ (f : ℕ → Fraction) (p : Fraction) (g : ℕ → Fraction) (h : IsPos
   unfolding wide
   cell_under y N = (
     N,
-    le_trans _ _ _ (le_of_eq _ _ (cells y N)) (le_trans _ _ _ (triangle_le_square N N (λ j i. t i j *ℚ power g j y) (omega arith))
+    le_trans _ _ _ (le_of_eq _ _ (cells y N))
+        (le_trans _ _ _ (triangle_le_square N N (λ j i. t i j *ℚ power g j y) (omega arith))
         (sum_to_cut N y (λ j. sum_to N (λ i. t i j *ℚ power g j y))
-        (λ j b. sum_to_times_right N (power g j y) (λ i. t i j) ∙ ap (λ s. sum_to N (λ i. t i j) *ℚ s) (no_power g h.no_zero j y b) ∙ times_zero _))),
+        (λ j b. sum_to_times_right N (power g j y) (λ i. t i j)
+        ∙ ap (λ s. sum_to N (λ i. t i j) *ℚ s) (no_power g h.no_zero j y b) ∙ times_zero _))),
   )
 
   cell_over : (y : ℕ) → IsUnder (wide y) (cell (gamma (suc q) x) f y)
   unfolding wide
-  cell_over y N =
-      (y + N, le_trans _ _ _ (square_le_triangle y N (λ j i. t i j *ℚ power g j y)) (le_of_eq _ _ (sym (cells y (y + N)))))
+  cell_over y N = (
+    y + N,
+    le_trans _ _ _ (square_le_triangle y N (λ j i. t i j *ℚ power g j y))
+        (le_of_eq _ _ (sym (cells y (y + N)))),
+  )
 
   module _ (L : Fraction) (inverse : L *ℚ c ≡ whole 1) (cp : whole 0 <ℚ c) (Lp : whole 0 <ℚ L) where
     term : ℕ → ℕ → Fraction
@@ -127,14 +118,17 @@ module _ (f : ℕ → Fraction) (p : Fraction) (g : ℕ → Fraction) (h : IsPos
     item y j =
         let G = gamma (suc (q + j)) (x *ℚ f zero) in
         subst (λ Q. IsLeastBound Q (term y j *ℚ L ^ℚ suc (q + j)))
-        (fun_ext (λ N. sym (sum_to_times N (term y j) G) ∙ sum_to_same N _ _ (λ i b. turn (gamma (suc q) (x *ℚ p) j) (power g j y) (G i))))
-        (least_scaled (term y j) (λ N. sum_to N G) (L ^ℚ suc (q + j)) (sum_rises_to G) (gamma_least (x *ℚ f zero) c rest L cp inverse (q + j)))
+        (fun_ext (λ N. sym (sum_to_times N (term y j) G)
+        ∙ sum_to_same N _ _ (λ i b. turn (gamma (suc q) (x *ℚ p) j) (power g j y) (G i))))
+        (least_scaled (term y j) (λ N. sum_to N G) (L ^ℚ suc (q + j)) (sum_rises_to G)
+        (gamma_least (x *ℚ f zero) c rest L cp inverse (q + j)))
       where
         turn : (a b c : Fraction) → a *ℚ b *ℚ c ≡ a *ℚ c *ℚ b
         turn a b c = simp ring
 
     to_part : x *ℚ p *ℚ L ≡ x'
-    to_part = ap (λ s. s *ℚ L) (sym part) ∙ times_assoc _ _ _ ∙ ap (λ s. x' *ℚ s) (times_comm c L ∙ inverse) ∙ times_one x'
+    to_part =
+        ap (λ s. s *ℚ L) (sym part) ∙ times_assoc _ _ _ ∙ ap (λ s. x' *ℚ s) (times_comm c L ∙ inverse) ∙ times_one x'
 
     term_part : (y j : ℕ) → term y j *ℚ L ^ℚ suc (q + j) ≡ L ^ℚ suc q *ℚ (gamma (suc q) x' j *ℚ power g j y)
     unfolding term
@@ -152,18 +146,25 @@ module _ (f : ℕ → Fraction) (p : Fraction) (g : ℕ → Fraction) (h : IsPos
     wide_least : (y : ℕ) → IsLeastBound (wide y) (L ^ℚ suc q *ℚ cell (gamma (suc q) x') g y y)
     unfolding wide
     wide_least y =
-        subst (IsLeastBound (wide y)) (sum_to_same y _ _ (λ j b. term_part y j) ∙ sum_to_times y (L ^ℚ suc q) (λ j. gamma (suc q) x' j *ℚ power g j y))
-        (least_sum y (λ j N. sum_to N (λ i. t i j *ℚ power g j y)) (λ j. term y j *ℚ L ^ℚ suc (q + j)) (λ j. sum_rises_to (λ i. t i j *ℚ power g j y)) (item y))
+        subst (IsLeastBound (wide y)) (sum_to_same y _ _ (λ j b. term_part y j)
+        ∙ sum_to_times y (L ^ℚ suc q) (λ j. gamma (suc q) x' j *ℚ power g j y))
+        (least_sum y (λ j N. sum_to N (λ i. t i j *ℚ power g j y)) (λ j. term y j *ℚ L ^ℚ suc (q + j))
+        (λ j. sum_rises_to (λ i. t i j *ℚ power g j y)) (item y))
 
     module _ (d : Fraction) (one : x +ℚ d ≡ whole 1) (dp : whole 0 <ℚ d) where
       -- what is left of 1 over the amounts above 0
       c_is : c ≡ x *ℚ p +ℚ d
-      c_is = plus_cancel c (x *ℚ p +ℚ d) (x *ℚ f zero) (plus_comm _ _ ∙ rest ∙ sym one ∙ ap (λ s. s +ℚ d) (sym (times_one x) ∙ ap (λ s. x *ℚ s) (sym h.share)) ∙ simp ring)
+      c_is = plus_cancel c (x *ℚ p +ℚ d) (x *ℚ f zero)
+          (plus_comm _ _ ∙ rest ∙ sym one ∙ ap (λ s. s +ℚ d) (sym (times_one x) ∙ ap (λ s. x *ℚ s) (sym h.share))
+          ∙ simp ring)
 
       one' : x' +ℚ d *ℚ L ≡ whole 1
-      one' = times_cancel _ _ c cp (plus_times _ _ c ∙ ap₂ (λ a b. a +ℚ b) part (times_assoc d L c ∙ ap (λ s. d *ℚ s) inverse ∙ times_one d) ∙ sym c_is ∙ sym (one_times c))
+      one' = times_cancel _ _ c cp (plus_times _ _ c
+          ∙ ap₂ (λ a b. a +ℚ b) part (times_assoc d L c ∙ ap (λ s. d *ℚ s) inverse ∙ times_one d) ∙ sym c_is
+          ∙ sym (one_times c))
 
-      thin_value : (y : ℕ) → SameValue (cell (gamma (suc q) x) f y) (λ N. sum_to N (gamma (suc q) x)) (cell (gamma (suc q) x') g y) (λ N. sum_to N (gamma (suc q) x'))
+      thin_value : (y : ℕ) → SameValue (cell (gamma (suc q) x) f y) (λ N. sum_to N (gamma (suc q) x))
+          (cell (gamma (suc q) x') g y) (λ N. sum_to N (gamma (suc q) x'))
       thin_value y =
           let D = whole 1 /ℚ (d *ℚ L) in
           let dL : whole 0 <ℚ d *ℚ L = times_pos d L dp Lp in
@@ -172,8 +173,11 @@ module _ (f : ℕ → Fraction) (p : Fraction) (g : ℕ → Fraction) (h : IsPos
           (pow_pos L (suc q) Lp) (sum_rises_to (gamma (suc q) x)) (sum_rises_to (gamma (suc q) x'))
           (least_from (wide y) _ _ (cell_over y) (cell_under y) (wide_least y))
           (subst (IsLeastBound (λ N. sum_to N (gamma (suc q) x))) (pow_times L D (suc q))
-          (gamma_least x d one (L *ℚ D) dp (turn L D d ∙ div_times (whole 1) (d *ℚ L) dL) q))
-          ((λ n. sum_to_cut n y F (λ j b. ap (λ s. gamma (suc q) x' j *ℚ s) (no_power g h.no_zero j y b) ∙ times_zero _)), (λ u b. b y))
+          (gamma_least x d one (L *ℚ D) dp (turn L D d ∙ div_times (whole 1) (d *ℚ L) dL) q)) (
+            (λ n. sum_to_cut n y F (λ j b. ap (λ s. gamma (suc q) x' j *ℚ s) (no_power g h.no_zero j y b)
+                ∙ times_zero _)),
+            (λ u b. b y),
+          )
           (gamma_least x' (d *ℚ L) one' D dL (div_times (whole 1) (d *ℚ L) dL) q)
         where
           turn : (a b c : Fraction) → a *ℚ b *ℚ c ≡ b *ℚ (c *ℚ a)
@@ -182,7 +186,8 @@ module _ (f : ℕ → Fraction) (p : Fraction) (g : ℕ → Fraction) (h : IsPos
 -- ---- by the mean
 
 pub div_plus : (a b w : Fraction) → whole 0 <ℚ w → a +ℚ b ≡ w → a /ℚ w +ℚ b /ℚ w ≡ whole 1
-div_plus a b w h e = times_cancel _ _ w h (plus_times _ _ w ∙ ap₂ (λ s t. s +ℚ t) (div_times a w h) (div_times b w h) ∙ e ∙ sym (one_times w))
+div_plus a b w h e = times_cancel _ _ w h
+    (plus_times _ _ w ∙ ap₂ (λ s t. s +ℚ t) (div_times a w h) (div_times b w h) ∙ e ∙ sym (one_times w))
 
 pub pos_plus : (a b : Fraction) → whole 0 <ℚ a → whole 0 <ℚ a +ℚ b
 pos_plus a b h = lt_of_lt_of_le (whole 0) a (a +ℚ b) h (le_plus a b)
@@ -210,13 +215,17 @@ share_of r u m rp e =
     let op : whole 0 <ℚ whole 1 +ℚ u = pos_plus (whole 1) u (whole_pos 1 (zero-lt-suc zero)) in
     let Vp : whole 0 <ℚ r +ℚ m = pos_plus r m rp in
     let both : r *ℚ (whole 1 +ℚ u) ≡ r +ℚ m = times_plus r (whole 1) u ∙ ap₂ (λ s t. s +ℚ t) (times_one r) e in
-    let turn : u /ℚ (whole 1 +ℚ u) *ℚ (r *ℚ (whole 1 +ℚ u)) ≡ r *ℚ (u /ℚ (whole 1 +ℚ u) *ℚ (whole 1 +ℚ u)) = times_left_comm _ _ _ in
+    let turn : u /ℚ (whole 1 +ℚ u) *ℚ (r *ℚ (whole 1 +ℚ u)) ≡ r *ℚ (u /ℚ (whole 1 +ℚ u) *ℚ (whole 1 +ℚ u)) =
+    times_left_comm _ _ _ in
     times_cancel _ _ (r +ℚ m) Vp
-    (ap (λ s. u /ℚ (whole 1 +ℚ u) *ℚ s) (sym both) ∙ turn ∙ ap (λ s. r *ℚ s) (div_times u (whole 1 +ℚ u) op) ∙ e ∙ sym (div_times m (r +ℚ m) Vp))
+    (ap (λ s. u /ℚ (whole 1 +ℚ u) *ℚ s) (sym both) ∙ turn ∙ ap (λ s. r *ℚ s) (div_times u (whole 1 +ℚ u) op) ∙ e
+    ∙ sym (div_times m (r +ℚ m) Vp))
 
 -- thinning: claims of amount 0 can be left out of a gamma count
-pub thin_gamma : (q : ℕ) (v : Fraction) (f : ℕ → Fraction) (p : Fraction) (g : ℕ → Fraction) → IsPositivePart f p g → (y : ℕ)
-    → SameValue (cell (gamma_of (suc q) v) f y) (λ N. sum_to N (gamma_of (suc q) v)) (cell (gamma_of (suc q) (v *ℚ p)) g y) (λ N. sum_to N (gamma_of (suc q) (v *ℚ p)))
+pub thin_gamma : (q : ℕ) (v : Fraction) (f : ℕ → Fraction) (p : Fraction) (g : ℕ → Fraction) → IsPositivePart f p g
+    → (y : ℕ)
+    → SameValue (cell (gamma_of (suc q) v) f y) (λ N. sum_to N (gamma_of (suc q) v))
+    (cell (gamma_of (suc q) (v *ℚ p)) g y) (λ N. sum_to N (gamma_of (suc q) (v *ℚ p)))
 thin_gamma q v f p g h y =
     let r = whole (suc q) in
     let rp : whole 0 <ℚ r = whole_pos (suc q) (zero-lt-suc q) in
@@ -229,17 +238,21 @@ thin_gamma q v f p g h y =
     let cp : whole 0 <ℚ c = div_pos V W Vp Wp in
     let rest : x *ℚ f zero +ℚ c ≡ whole 1 = rest_of v (f zero) V W Wp (all_of v (f zero) p r h.share) in
     let part : v *ℚ p /ℚ V *ℚ c ≡ x *ℚ p = part_of v p V W Vp Wp in
-    thin_value f p g h q x c (v *ℚ p /ℚ V) rest part (whole 1 /ℚ c) (div_times (whole 1) c cp) cp (div_pos (whole 1) c (whole_pos 1 (zero-lt-suc zero)) cp)
+    thin_value f p g h q x c (v *ℚ p /ℚ V) rest part (whole 1 /ℚ c) (div_times (whole 1) c cp) cp
+    (div_pos (whole 1) c (whole_pos 1 (zero-lt-suc zero)) cp)
     (r /ℚ W) (div_plus v r W Wp (plus_comm v r)) (div_pos r W rp Wp) y
 
 -- division: r shares of shape 1 over the amounts above 0, against shape r over all amounts
-pub gamma_shares : (q : ℕ) (u v : Fraction) (f : ℕ → Fraction) (p : Fraction) (g : ℕ → Fraction) → IsPositivePart f p g → whole (suc q) *ℚ u ≡ v *ℚ p → (y : ℕ)
-    → SameValue ((times_itself (compound (gamma_of 1 u) g) (suc q)).cells y) ((times_itself (compound (gamma_of 1 u) g) (suc q)).all)
+pub gamma_shares : (q : ℕ) (u v : Fraction) (f : ℕ → Fraction) (p : Fraction) (g : ℕ → Fraction) → IsPositivePart f p g
+    → whole (suc q) *ℚ u ≡ v *ℚ p → (y : ℕ)
+    → SameValue ((times_itself (compound (gamma_of 1 u) g) (suc q)).cells y)
+    ((times_itself (compound (gamma_of 1 u) g) (suc q)).all)
     (cell (gamma_of (suc q) v) f y) (λ N. sum_to N (gamma_of (suc q) v))
 gamma_shares q u v f p g h e y =
     let w : power (gamma_of 1 u) (suc q) ≡ gamma_of (suc q) (v *ℚ p) =
     gamma_power q _ ∙ ap (gamma (suc q)) (share_of (whole (suc q)) u (v *ℚ p) (whole_pos (suc q) (zero-lt-suc q)) e) in
     value_trans _ _ (cell (gamma_of (suc q) (v *ℚ p)) g y) (λ N. sum_to N (gamma_of (suc q) (v *ℚ p))) _ _
-    (subst (λ k. SameValue ((times_itself (compound (gamma_of 1 u) g) (suc q)).cells y) ((times_itself (compound (gamma_of 1 u) g) (suc q)).all) (cell k g y) (λ N. sum_to N k)) w
+    (subst (λ k. SameValue ((times_itself (compound (gamma_of 1 u) g) (suc q)).cells y)
+    ((times_itself (compound (gamma_of 1 u) g) (suc q)).all) (cell k g y) (λ N. sum_to N k)) w
     (itself_value (gamma_of 1 u) g (suc q) y))
     (value_sym _ _ _ _ (thin_gamma q v f p g h y))

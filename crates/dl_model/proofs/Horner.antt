@@ -5,12 +5,11 @@ use Rattle.std.proofs.Math.Nat.{add-zero, zero-add}
 use Rattle.dl_exact.specs.Fraction.{Fraction, ◌over◌, ◌+ℚ◌, ◌*ℚ◌, ◌≤ℚ◌, whole}
 use Rattle.dl_exact.specs.Sum.{sum_to, sum_pairs}
 use Rattle.dl_exact.proofs.Over.{over_le}
-use Rattle.dl_exact.proofs.Laws.{one_pos, times_left_comm, times_one, times_zero, le_trans, le_of_eq, zero_le, plus_le_both}
-use Rattle.dl_exact.proofs.Sums.{sum_to_same, sum_to_first, sum_to_times, sum_pairs_same, sum_pairs_times, sum_pairs_sum_to}
-use Rattle.dl_grid.specs.Pairs.{count_pairs}
-use Rattle.dl_model.proofs.Declared.{times_le_both}
-use Rattle.dl_model.proofs.SumLaws.{over_plus, sum_pairs_le}
-use Rattle.dl_model.proofs.CountLaws.{pairs_in_units}
+use Rattle.dl_exact.proofs.Laws.{one_pos, times_left_comm, times_one, times_zero, le_trans, le_of_eq, zero_le, plus_le_both, times_le_both}
+use Rattle.dl_exact.proofs.Sums.{sum_to_same, sum_to_first, sum_to_times, sum_pairs_same, sum_pairs_times, sum_pairs_sum_to, sum_pairs_le}
+use Rattle.dl_exact.specs.Count.{count_pairs}
+use Rattle.dl_exact.proofs.Denominators.{over_plus}
+use Rattle.dl_exact.proofs.SumsOver.{pairs_in_units}
 use Rattle.dl_model.specs.Compound.{convolve, at_zero, power, cell, cell_from}
 
 module _ (w f : ℕ → Fraction) where
@@ -19,7 +18,8 @@ module _ (w f : ℕ → Fraction) where
   unfolding sum_to power
   horner_start k s = ap (λ n. w n *ℚ at_zero s) (add-zero k)
 
-  one_more : (k n s : ℕ) → w (k + suc n) *ℚ power f (suc n) s ≡ sum_pairs s (λ i j. f i *ℚ (w (suc k + n) *ℚ power f n j))
+  one_more : (k n s : ℕ) → w (k + suc n) *ℚ power f (suc n) s ≡ sum_pairs s
+      (λ i j. f i *ℚ (w (suc k + n) *ℚ power f n j))
   unfolding power
   one_more k n s =
       let e : k + suc n ≡ suc k + n = omega arith in
@@ -28,7 +28,8 @@ module _ (w f : ℕ → Fraction) where
       ∙ sum_pairs_same s _ _ (λ i j e. times_left_comm (w (suc k + n)) (f i) (power f n j))
 
   -- one count less
-  pub horner_next : (k s N : ℕ) → cell_from w f k s (suc N) ≡ w k *ℚ at_zero s +ℚ convolve f (λ j. cell_from w f (suc k) j N) s
+  pub horner_next : (k s N : ℕ) → cell_from w f k s (suc N) ≡ w k *ℚ at_zero s +ℚ convolve f
+      (λ j. cell_from w f (suc k) j N) s
   unfolding power
   horner_next k s N =
       sum_to_first N (λ n. w (k + n) *ℚ power f n s)
@@ -50,14 +51,16 @@ module _ (S K k N : ℕ) (w f : ℕ → Fraction) (pos : 0 < S) where
   start_low start zero h = subst (λ t. start over S ≤ℚ t) (sym (times_one (w k))) h
   start_low start (suc s) h =
       let later : (if suc s == 0 then start else 0) ≡ 0 = rw (ne_eqb (suc s) 0 (omega arith)) refl in
-      subst (λ t. t over S ≤ℚ w k *ℚ at_zero (suc s)) (sym later) (le_trans _ (whole 0) _ (over_le 0 S 0 1 pos one_pos (omega arith)) (zero_le _))
+      subst (λ t. t over S ≤ℚ w k *ℚ at_zero (suc s)) (sym later)
+      (le_trans _ (whole 0) _ (over_le 0 S 0 1 pos one_pos (omega arith)) (zero_le _))
 
   start_high : (start s : ℕ) → w k ≤ℚ start over S → w k *ℚ at_zero s ≤ℚ (if s == 0 then start else 0) over S
   unfolding at_zero
   start_high start zero h = subst (λ t. t ≤ℚ start over S) (sym (times_one (w k))) h
   start_high start (suc s) h = le_trans _ _ _ (le_of_eq _ _ (times_zero (w k))) (zero_le _)
 
-  pub horner_low : (lo low next : ℕ → ℕ) (start : ℕ) → ((i : ℕ) → i < K → lo i over S ≤ℚ f i) → ((j : ℕ) → j < K → low j over S ≤ℚ cell_from w f (suc k) j N)
+  pub horner_low : (lo low next : ℕ → ℕ) (start : ℕ) → ((i : ℕ) → i < K → lo i over S ≤ℚ f i)
+      → ((j : ℕ) → j < K → low j over S ≤ℚ cell_from w f (suc k) j N)
       → start over S ≤ℚ w k → ((s : ℕ) → s < K → next s * S ≤ count_pairs s (λ i j. lo i * low j))
       → (s : ℕ) → s < K → ((if s == 0 then start else 0) + next s) over S ≤ℚ cell_from w f k s (suc N)
   horner_low lo low next start a b c d s h =
@@ -65,9 +68,11 @@ module _ (S K k N : ℕ) (w f : ℕ → Fraction) (pos : 0 < S) where
       (subst (λ t. (if s == 0 then start else 0) over S +ℚ next s over S ≤ℚ t) (sym (horner_next w f k s N))
       (plus_le_both _ _ _ _ (start_low start s c)
       (le_trans _ _ _ (over_le _ _ _ _ pos (mul-pos pos pos) (omega (arith, mul-le-mul_right S (d s h))))
-      (le_trans _ _ _ (le_of_eq _ _ (sym (pairs_in_units s S lo low pos))) (sum_pairs_le s _ _ (λ i j e. times_le_both _ _ _ _ (a i (omega arith)) (b j (omega arith))))))))
+      (le_trans _ _ _ (le_of_eq _ _ (sym (pairs_in_units s S lo low pos)))
+      (sum_pairs_le s _ _ (λ i j e. times_le_both _ _ _ _ (a i (omega arith)) (b j (omega arith))))))))
 
-  pub horner_high : (hi high next : ℕ → ℕ) (start : ℕ) → ((i : ℕ) → i < K → f i ≤ℚ hi i over S) → ((j : ℕ) → j < K → cell_from w f (suc k) j N ≤ℚ high j over S)
+  pub horner_high : (hi high next : ℕ → ℕ) (start : ℕ) → ((i : ℕ) → i < K → f i ≤ℚ hi i over S)
+      → ((j : ℕ) → j < K → cell_from w f (suc k) j N ≤ℚ high j over S)
       → w k ≤ℚ start over S → ((s : ℕ) → s < K → count_pairs s (λ i j. hi i * high j) ≤ next s * S)
       → (s : ℕ) → s < K → cell_from w f k s (suc N) ≤ℚ ((if s == 0 then start else 0) + next s) over S
   horner_high hi high next start a b c d s h =

@@ -9,18 +9,17 @@ use Rattle.dl_exact.specs.Fraction.{whole, ◌over◌, ◌+ℚ◌, ◌*ℚ◌}
 use Rattle.dl_exact.specs.Sum.{sum_to}
 use Rattle.dl_exact.proofs.Over.{over_same, over_mul}
 use Rattle.dl_exact.proofs.Laws.{times_zero, times_plus}
-use Rattle.dl_exact.proofs.Sums.{sum_to_same, sum_to_plus}
+use Rattle.dl_exact.proofs.Sums.{sum_to_same, sum_to_plus, sum_to_zero}
 use Rattle.dl_plan.specs.declared.item.Item.{Item}
 use Rattle.dl_plan.specs.declared.severity.Sev.{Sev}
-use Rattle.dl_plan.specs.Weighted.{weight_at, weight_sum, weighted_sum, IsWeighted}
+use Rattle.dl_plan.specs.Weighted.{weight_at, weight_sum, weighted_sum, IsWeighted, greatest as greatest_amount}
 use Rattle.dl_plan.specs.Severity.{probability_of, pairs_of, mean_amount}
-use Rattle.dl_plan.proofs.Sums.{zero_over, over_plus}
+use Rattle.dl_exact.proofs.Denominators.{over_zero, over_plus, over_times}
 use Rattle.dl_plan.proofs.Shares.{mean-shares}
 use Rattle.dl_plan.proofs.Means.{total_pos}
 use Rattle.dl_model.specs.Severity.{IsSeverity}
 use Rattle.dl_model.specs.Listed.{weighted, weight_of, total_weight, greatest, probability}
 use Rattle.dl_model.specs.Program.{where_true}
-use Rattle.dl_model.proofs.SumLaws.{sum_to_zero}
 use Rattle.dl_model.proofs.UnitLaws.{on, off, passed}
 use Rattle.dl_model.proofs.WeightLaws.{weight_of-cons, total_weight-cons}
 use Rattle.dl_model.proofs.SlowLaws.{weight_le}
@@ -49,45 +48,55 @@ pub weight_within : (items : List Item) (x : ℕ) → weight_at items x ≤ weig
 weight_within items x = subst₂ (λ s t. s ≤ t) (weight_same items x) (total_same items) (weight_le (weighted items) x)
 
 -- the model's probabilities are shares of the total
-pub probability_is : (items : List Item) (total : ℕ) → weight_sum items ≡ total → (x : ℕ) → probability (weighted items) x ≡ weight_at items x over total
+pub probability_is : (items : List Item) (total : ℕ) → weight_sum items ≡ total → (x : ℕ)
+    → probability (weighted items) x ≡ weight_at items x over total
 probability_is items total e x = ap₂ (λ u v. u over v) (weight_same items x) (total_same items ∙ e)
 
 -- they add up to 1 up to the greatest number, and there is none above
-pub shares_severity : (items : List Item) (total : ℕ) → IsWeighted items total → IsSeverity (λ x. weight_at items x over total) (greatest (weighted items))
+pub shares_severity : (items : List Item) (total : ℕ) → IsWeighted items total
+    → IsSeverity (λ x. weight_at items x over total) (greatest (weighted items))
 shares_severity items total w =
     subst (λ f. IsSeverity f (greatest (weighted items))) (fun_ext (probability_is items total w.sum))
     (listed_severity (weighted items) (subst (λ n. 0 < n) (sym (total_same items ∙ w.sum)) (total_pos items total w)))
 
 -- ---- the mean
 
-times_share : (a w t : ℕ) → 0 < t → whole a *ℚ w over t ≡ (a * w) over t
-times_share a w t pos = over_mul a 1 w t (omega arith) pos ∙ over_same (a * w) (1 * t) (a * w) t (omega (arith, pos)) pos (omega arith)
-
-part_mean : (x : Item) (t n : ℕ) → 0 < t → whole n *ℚ part_of n x over t ≡ where_true (nat_eq x.amount n) ((x.amount * x.weight) over t)
+part_mean : (x : Item) (t n : ℕ) → 0 < t
+    → whole n *ℚ part_of n x over t ≡ where_true (nat_eq x.amount n) ((x.amount * x.weight) over t)
 part_mean x t n pos = elim (cases_eq x.amount n) [
   | inl e ↦
       ap₂ (λ a w. whole a *ℚ w over t) (sym e) (rw (eq-eqb x.amount n e) refl)
-      ∙ times_share x.amount x.weight t pos ∙ sym (on x.amount n ((x.amount * x.weight) over t) e)
+      ∙ over_times x.amount x.weight t pos ∙ sym (on x.amount n ((x.amount * x.weight) over t) e)
   | inr d ↦
-      ap (λ w. whole n *ℚ w over t) (rw (ne_eqb x.amount n d) refl) ∙ ap (λ w. whole n *ℚ w) (zero_over t pos)
+      ap (λ w. whole n *ℚ w over t) (rw (ne_eqb x.amount n d) refl) ∙ ap (λ w. whole n *ℚ w) (over_zero t pos)
       ∙ times_zero _ ∙ sym (off x.amount n ((x.amount * x.weight) over t) d)
 ]
 
 -- each number times its probability, summed
 pub shares_mean : (items : List Item) (t far : ℕ) → 0 < t → greatest (weighted items) ≤ far
     → sum_to far (λ n. whole n *ℚ weight_at items n over t) ≡ weighted_sum items over t
-shares_mean [] t far pos h = sum_to_zero far _ (λ n b. ap (λ w. whole n *ℚ w) (zero_over t pos) ∙ times_zero _) ∙ sym (zero_over t pos)
+shares_mean [] t far pos h =
+    sum_to_zero far _ (λ n b. ap (λ w. whole n *ℚ w) (over_zero t pos) ∙ times_zero _) ∙ sym (over_zero t pos)
 shares_mean (x ∷ xs) t far pos h =
-    sum_to_same far _ (λ n. where_true (nat_eq x.amount n) ((x.amount * x.weight) over t) +ℚ whole n *ℚ weight_at xs n over t) (λ n b.
+    sum_to_same far _ (λ n. where_true (nat_eq x.amount n)
+    ((x.amount * x.weight) over t) +ℚ whole n *ℚ weight_at xs n over t) (λ n b.
     ap (λ w. whole n *ℚ w over t) (sum_by-cons (part_of n) x xs)
     ∙ ap (λ w. whole n *ℚ w) (sym (over_plus (part_of n x) (weight_at xs n) t pos))
     ∙ times_plus _ _ _ ∙ ap (λ w. w +ℚ whole n *ℚ weight_at xs n over t) (part_mean x t n pos))
     ∙ sum_to_plus far _ _
-    ∙ ap₂ (λ a b. a +ℚ b) (passed far x.amount ((x.amount * x.weight) over t) (omega (arith, h))) (shares_mean xs t far pos (omega (arith, h)))
+    ∙ ap₂ (λ a b. a +ℚ b) (passed far x.amount ((x.amount * x.weight) over t) (omega (arith, h)))
+    (shares_mean xs t far pos (omega (arith, h)))
     ∙ over_plus (x.amount * x.weight) (weighted_sum xs) t pos
     ∙ ap (λ w. w over t) (sym (sum_by-cons (λ (i : Item). i.amount * i.weight) x xs))
 
-pub severity_mean : (sev : Sev) → sum_to (greatest (weighted sev.items)) (λ j. whole j *ℚ probability_of sev j) ≡ mean_amount (pairs_of sev)
+pub severity_mean : (sev : Sev) → sum_to (greatest (weighted sev.items))
+    (λ j. whole j *ℚ probability_of sev j) ≡ mean_amount (pairs_of sev)
 severity_mean sev =
     let pos = total_pos sev.items sev.total sev.weighted in
-    shares_mean sev.items sev.total (greatest (weighted sev.items)) pos (le_refl_n _) ∙ sym (mean-shares sev.items sev.total pos)
+    shares_mean sev.items sev.total (greatest (weighted sev.items)) pos (le_refl_n _)
+    ∙ sym (mean-shares sev.items sev.total pos)
+
+-- the greatest amount of items is that of their list
+pub greatest_same : (items : List Item) → greatest (weighted items) ≡ greatest_amount items
+greatest_same [] = refl
+greatest_same (item ∷ items) = omega (arith, greatest_same items)

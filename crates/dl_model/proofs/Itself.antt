@@ -18,8 +18,10 @@ under_sum : (n : ℕ) (P P' : ℕ → ℕ → Series) → ((i j : ℕ) → Rises
 unfolding sum_pairs
 under_sum zero P P' r u = u zero zero
 under_sum (suc n) P P' r u =
-    under_plus (P zero (suc n)) (P' zero (suc n)) (λ N. sum_pairs n (λ i j. P (suc i) j N)) (λ N. sum_pairs n (λ i j. P' (suc i) j N))
-    (r zero (suc n)) (sum_rises n (λ i j. P' (suc i) j) (λ i j e. r (suc i) j)) (u zero (suc n)) (under_sum n (λ i j. P (suc i) j) (λ i j. P' (suc i) j) (λ i j. r (suc i) j) (λ i j. u (suc i) j))
+    under_plus (P zero (suc n)) (P' zero (suc n)) (λ N. sum_pairs n (λ i j. P (suc i) j N))
+    (λ N. sum_pairs n (λ i j. P' (suc i) j N))
+    (r zero (suc n)) (sum_rises n (λ i j. P' (suc i) j) (λ i j e. r (suc i) j)) (u zero (suc n))
+    (under_sum n (λ i j. P (suc i) j) (λ i j. P' (suc i) j) (λ i j. r (suc i) j) (λ i j. u (suc i) j))
 
 module _ (a b f : ℕ → Fraction) (y : ℕ) where
   both : ℕ → ℕ → Fraction
@@ -37,13 +39,22 @@ module _ (a b f : ℕ → Fraction) (y : ℕ) where
 
   triangle : (N : ℕ) → cell (convolve a b) f y N ≡ sum_to N (λ s. sum_pairs s both)
   unfolding both
-  triangle N = sum_to_same N _ _ (λ s e. sym (sum_pairs_times_right s (power f s y) (λ n m. a n *ℚ b m)) ∙ sum_pairs_same s _ _ (λ n m e'. ap (λ k. a n *ℚ b m *ℚ power f k y) (sym e')))
+  triangle N = sum_to_same N _ _ (λ s e. sym (sum_pairs_times_right s (power f s y) (λ n m. a n *ℚ b m))
+      ∙ sum_pairs_same s _ _ (λ n m e'. ap (λ k. a n *ℚ b m *ℚ power f k y) (sym e')))
 
   pub product_under : IsUnder ((product (compound a f) (compound b f)).cells y) (cell (convolve a b) f y)
-  product_under N = (N + N, subst₂ (λ s t. s ≤ℚ t) (sym (square N)) (sym (triangle (N + N))) (square_le_triangle N N both))
+  product_under N = (
+    N + N,
+    subst₂ (λ s t. s ≤ℚ t) (sym (square N)) (sym (triangle (N + N)))
+        (square_le_triangle N N both),
+  )
 
   pub product_over : IsUnder (cell (convolve a b) f y) ((product (compound a f) (compound b f)).cells y)
-  product_over N = (N, subst₂ (λ s t. s ≤ℚ t) (sym (triangle N)) (sym (square N)) (triangle_le_square N N both (omega arith)))
+  product_over N = (
+    N,
+    subst₂ (λ s t. s ≤ℚ t) (sym (triangle N)) (sym (square N))
+        (triangle_le_square N N both (omega arith)),
+  )
 
 pub sum_to_at_zero : (N : ℕ) (X : ℕ → Fraction) → sum_to N (λ n. at_zero n *ℚ X n) ≡ X zero
 unfolding sum_to at_zero
@@ -57,14 +68,16 @@ module _ (w f : ℕ → Fraction) where
   itself_rises : (n y : ℕ) → Rises ((times_itself (compound w f) n).cells y)
   unfolding power ◌^ℚ◌
   itself_rises zero y = λ N. le_refl _
-  itself_rises (suc n) y = sum_rises y (λ i j. times (cell w f i) ((times_itself (compound w f) n).cells j)) (λ i j e. rises_times _ _ (cell_rises w f i) (itself_rises n j))
+  itself_rises (suc n) y = sum_rises y (λ i j. times (cell w f i) ((times_itself (compound w f) n).cells j))
+      (λ i j e. rises_times _ _ (cell_rises w f i) (itself_rises n j))
 
   pub itself_under : (n y : ℕ) → IsUnder ((times_itself (compound w f) n).cells y) (cell (power w n) f y)
   unfolding power ◌^ℚ◌
   itself_under zero y = λ N. (N, le_of_eq _ _ (sym (sum_to_at_zero N (λ n. power f n y))))
   itself_under (suc n) y =
       under_trans _ ((product (compound w f) (compound (power w n) f)).cells y) _
-      (under_sum y (λ i j. times (cell w f i) ((times_itself (compound w f) n).cells j)) (λ i j. times (cell w f i) (cell (power w n) f j))
+      (under_sum y (λ i j. times (cell w f i) ((times_itself (compound w f) n).cells j))
+      (λ i j. times (cell w f i) (cell (power w n) f j))
       (λ i j. rises_times _ _ (cell_rises w f i) (cell_rises (power w n) f j))
       (λ i j. under_times _ _ _ _ (cell_rises w f i) (cell_rises (power w n) f j) (under_self _) (itself_under n j)))
       (product_under w (power w n) f y)
@@ -75,7 +88,8 @@ module _ (w f : ℕ → Fraction) where
   itself_over (suc n) y =
       under_trans _ ((product (compound w f) (compound (power w n) f)).cells y) _
       (product_over w (power w n) f y)
-      (under_sum y (λ i j. times (cell w f i) (cell (power w n) f j)) (λ i j. times (cell w f i) ((times_itself (compound w f) n).cells j))
+      (under_sum y (λ i j. times (cell w f i) (cell (power w n) f j))
+      (λ i j. times (cell w f i) ((times_itself (compound w f) n).cells j))
       (λ i j. rises_times _ _ (cell_rises w f i) (itself_rises n j))
       (λ i j. under_times _ _ _ _ (cell_rises w f i) (itself_rises n j) (under_self _) (itself_over n j)))
 
@@ -86,7 +100,11 @@ module _ (w f : ℕ → Fraction) where
 
   pub all_under : (n : ℕ) → IsUnder ((times_itself (compound w f) n).all) (λ N. sum_to N (power w n))
   unfolding power ◌^ℚ◌
-  all_under zero = λ N. (N, le_of_eq _ _ (sym (sum_to_same N _ _ (λ n e. sym (times_one (at_zero n))) ∙ sum_to_at_zero N (λ n. whole 1))))
+  all_under zero = λ N. (
+    N,
+    le_of_eq _ _ (sym
+        (sum_to_same N _ _ (λ n e. sym (times_one (at_zero n))) ∙ sum_to_at_zero N (λ n. whole 1))),
+  )
   all_under (suc n) =
       under_trans _ (times (λ N. sum_to N w) (λ N. sum_to N (power w n))) _
       (under_times _ _ _ _ (sum_rises_to w) (sum_rises_to (power w n)) (under_self _) (all_under n))
@@ -94,12 +112,14 @@ module _ (w f : ℕ → Fraction) where
 
   pub all_over : (n : ℕ) → IsUnder (λ N. sum_to N (power w n)) ((times_itself (compound w f) n).all)
   unfolding power ◌^ℚ◌
-  all_over zero = λ N. (N, le_of_eq _ _ (sum_to_same N _ _ (λ n e. sym (times_one (at_zero n))) ∙ sum_to_at_zero N (λ n. whole 1)))
+  all_over zero =
+      λ N. (N, le_of_eq _ _ (sum_to_same N _ _ (λ n e. sym (times_one (at_zero n))) ∙ sum_to_at_zero N (λ n. whole 1)))
   all_over (suc n) =
       under_trans _ (times (λ N. sum_to N w) (λ N. sum_to N (power w n))) _
       (λ N. (N, cauchy_low N w (power w n)))
       (under_times _ _ _ _ (sum_rises_to w) (all_rises n) (under_self _) (all_over n))
 
   -- n times a compound sum, in every cell
-  pub itself_value : (n y : ℕ) → SameValue ((times_itself (compound w f) n).cells y) ((times_itself (compound w f) n).all) (cell (power w n) f y) (λ N. sum_to N (power w n))
+  pub itself_value : (n y : ℕ) → SameValue ((times_itself (compound w f) n).cells y)
+      ((times_itself (compound w f) n).all) (cell (power w n) f y) (λ N. sum_to N (power w n))
   itself_value n y = same_value _ _ _ _ (itself_under n y) (itself_over n y) (all_under n) (all_over n)

@@ -17,23 +17,31 @@ move : (a b c : Fraction) → a *ℚ (b *ℚ c) ≡ b *ℚ a *ℚ c
 move a b c = simp ring
 
 -- the sum over a + b + c = x, with first and second in turn
-exchange : (x : ℕ) (p q r : ℕ → Fraction) → sum_pairs x (λ y z. p y *ℚ sum_pairs z (λ a b. q a *ℚ r b)) ≡ sum_pairs x (λ a c. q a *ℚ sum_pairs c (λ y b. p y *ℚ r b))
+exchange : (x : ℕ) (p q r : ℕ → Fraction)
+    → sum_pairs x (λ y z. p y *ℚ sum_pairs z (λ a b. q a *ℚ r b)) ≡ sum_pairs x
+    (λ a c. q a *ℚ sum_pairs c (λ y b. p y *ℚ r b))
 exchange x p q r =
     sum_pairs_same x _ _ (λ y z e. sym (sum_pairs_times z (p y) (λ a b. q a *ℚ r b)))
     ∙ sym (sum_pairs_assoc x (λ y a b. p y *ℚ (q a *ℚ r b)))
-    ∙ sum_pairs_same x _ _ (λ i b e. sym (sum_pairs_turn i (λ y a. p y *ℚ (q a *ℚ r b))) ∙ sum_pairs_same i _ _ (λ a y e. times_left_comm (p y) (q a) (r b)))
+    ∙ sum_pairs_same x _ _ (λ i b e. sym (sum_pairs_turn i (λ y a. p y *ℚ (q a *ℚ r b)))
+    ∙ sum_pairs_same i _ _ (λ a y e. times_left_comm (p y) (q a) (r b)))
     ∙ sum_pairs_assoc x (λ a y b. q a *ℚ (p y *ℚ r b))
     ∙ sum_pairs_same x _ _ (λ a c e. sum_pairs_times c (q a) (λ y b. p y *ℚ r b))
 
 pub joint_cells : (us : List Aggregate) → AreUnits us → (i x N : ℕ) → i < length us
-    → partial_sums us (Joint i x) N ≡ sum_pairs x (λ y z. whole y *ℚ (unit_of us i).cells y N *ℚ partial_sums (without us i) (Point z) N)
+    → partial_sums us (Joint i x) N ≡ sum_pairs x
+    (λ y z. whole y *ℚ (unit_of us i).cells y N *ℚ partial_sums (without us i) (Point z) N)
 unfolding sum_over_outcomes
 joint_cells [] h i x N b = absurd (omega arith)
 joint_cells (u ∷ us) h zero x N b =
     first_unit u us h.0 (λ y ys. whole y) x N
-    ∙ sum_pairs_same x _ _ (λ y z e. ap (λ t. outcome u y N *ℚ t) (outcomes_same us _ _ N (λ ys. out (nat_eq (sum ys) z) (whole y)) ∙ outcomes_times us (whole y) (score (Point z)) N) ∙ move _ _ _)
+    ∙ sum_pairs_same x _ _ (λ y z e. ap (λ t. outcome u y N *ℚ t)
+    (outcomes_same us _ _ N (λ ys. out (nat_eq (sum ys) z) (whole y))
+    ∙ outcomes_times us (whole y) (score (Point z)) N) ∙ move _ _ _)
 joint_cells (u ∷ us) h (suc i) x N b =
     first_unit u us h.0 (λ y ys. whole (get_or ys i 0)) x N
     ∙ sum_pairs_same x _ _ (λ y z e. ap (λ t. outcome u y N *ℚ t) (joint_cells us h.1 i z N (omega arith)))
-    ∙ exchange x (λ y. outcome u y N) (λ a. whole a *ℚ (unit_of us i).cells a N) (λ b. partial_sums (without us i) (Point b) N)
-    ∙ sum_pairs_same x _ _ (λ a c e. ap (λ t. whole a *ℚ (unit_of us i).cells a N *ℚ t) (sym (total_more u (without us i) h.0 c N)))
+    ∙ exchange x (λ y. outcome u y N) (λ a. whole a *ℚ (unit_of us i).cells a N)
+    (λ b. partial_sums (without us i) (Point b) N)
+    ∙ sum_pairs_same x _ _ (λ a c e. ap (λ t. whole a *ℚ (unit_of us i).cells a N *ℚ t)
+    (sym (total_more u (without us i) h.0 c N)))

@@ -4,8 +4,8 @@ use mathlib.Core.Path.{fun_ext}
 use Rattle.dl_exact.specs.Fraction.{Fraction, ◌+ℚ◌, ◌*ℚ◌, ◌≤ℚ◌, ◌<ℚ◌, whole}
 use Rattle.dl_exact.specs.Sum.{sum_to}
 use Rattle.dl_model.specs.Series.{Series, AtMost, AtLeast, Holds, Rises, plus, times, SameValue, IsLeastBound}
-use Rattle.dl_exact.proofs.Laws.{ring, times_comm, le_refl, le_trans, plus_le_both, times_le_times, times_one, times_le_cancel}
-use Rattle.dl_model.proofs.Declared.{times_le_both, at_most_times, at_least_times, at_most_plus, at_least_plus}
+use Rattle.dl_exact.proofs.Laws.{ring, times_comm, le_refl, le_trans, plus_le_both, times_le_times, times_one, times_le_cancel, times_le_both}
+use Rattle.dl_model.proofs.Declared.{at_most_times, at_least_times, at_most_plus, at_least_plus}
 use Rattle.dl_model.proofs.Alike.{IsUnder, bound_from}
 
 pub one : Series
@@ -16,7 +16,8 @@ pub to_holds : (Q : Series) (L : Fraction) → IsLeastBound Q L → Holds Q one 
 unfolding one
 to_holds Q L b = (
   (λ n u h. subst (λ t. t ≤ℚ u) (sym (times_one L)) (b.1 u h)),
-  (λ n u h. le_trans _ _ _ (b.0 n) (subst (λ t. t ≤ℚ L *ℚ u) (times_one L) (times_le_both L L _ _ (le_refl L) (h zero)))),
+  (λ n u h. le_trans _ _ _ (b.0 n) (subst (λ t. t ≤ℚ L *ℚ u) (times_one L)
+      (times_le_both L L _ _ (le_refl L) (h zero)))),
 )
 
 pub from_holds : (Q : Series) (L : Fraction) → Holds Q one L L → IsLeastBound Q L
@@ -30,7 +31,8 @@ one_rises : Rises one
 unfolding one
 one_rises n = le_refl _
 
-pub least_times : (Q R : Series) (A B : Fraction) → Rises Q → Rises R → IsLeastBound Q A → IsLeastBound R B → IsLeastBound (times Q R) (A *ℚ B)
+pub least_times : (Q R : Series) (A B : Fraction) → Rises Q → Rises R → IsLeastBound Q A → IsLeastBound R B
+    → IsLeastBound (times Q R) (A *ℚ B)
 unfolding one
 least_times Q R A B q r a b =
     let x = to_holds Q A a in
@@ -41,7 +43,8 @@ least_times Q R A B q r a b =
       (subst (λ o. AtMost (times Q R) o (A *ℚ B)) e (at_most_times Q one R one A B one_rises one_rises x.1 y.1)),
     )
 
-pub least_plus : (Q R : Series) (A B : Fraction) → Rises Q → Rises R → IsLeastBound Q A → IsLeastBound R B → IsLeastBound (plus Q R) (A +ℚ B)
+pub least_plus : (Q R : Series) (A B : Fraction) → Rises Q → Rises R → IsLeastBound Q A → IsLeastBound R B
+    → IsLeastBound (plus Q R) (A +ℚ B)
 least_plus Q R A B q r a b =
     let x = to_holds Q A a in
     let y = to_holds R B b in
@@ -50,17 +53,20 @@ least_plus Q R A B q r a b =
 pub least_const : (k : Fraction) → IsLeastBound (λ N. k) k
 least_const k = ((λ n. le_refl k), (λ u b. b zero))
 
-pub least_scaled : (k : Fraction) (Q : Series) (A : Fraction) → Rises Q → IsLeastBound Q A → IsLeastBound (λ N. k *ℚ Q N) (k *ℚ A)
+pub least_scaled : (k : Fraction) (Q : Series) (A : Fraction) → Rises Q → IsLeastBound Q A
+    → IsLeastBound (λ N. k *ℚ Q N) (k *ℚ A)
 least_scaled k Q A q a = least_times (λ N. k) Q k A (λ n. le_refl k) q (least_const k) a
 
 pub least_from : (Q R : Series) (A : Fraction) → IsUnder Q R → IsUnder R Q → IsLeastBound Q A → IsLeastBound R A
 least_from Q R A q r a = (bound_from R Q r A a.0, λ u b. a.1 u (bound_from Q R q u b))
 
-pub least_sum : (n : ℕ) (P : ℕ → Series) (A : ℕ → Fraction) → ((j : ℕ) → Rises (P j)) → ((j : ℕ) → IsLeastBound (P j) (A j))
+pub least_sum : (n : ℕ) (P : ℕ → Series) (A : ℕ → Fraction) → ((j : ℕ) → Rises (P j))
+    → ((j : ℕ) → IsLeastBound (P j) (A j))
     → IsLeastBound (λ N. sum_to n (λ j. P j N)) (sum_to n A)
 unfolding sum_to
 least_sum zero P A r a = a zero
-least_sum (suc n) P A r a = least_plus (λ N. sum_to n (λ j. P j N)) (P (suc n)) (sum_to n A) (A (suc n)) (rises n) (r (suc n)) (least_sum n P A r a) (a (suc n))
+least_sum (suc n) P A r a = least_plus (λ N. sum_to n (λ j. P j N)) (P (suc n)) (sum_to n A) (A (suc n)) (rises n)
+    (r (suc n)) (least_sum n P A r a) (a (suc n))
   where
     rises : (n : ℕ) → Rises (λ N. sum_to n (λ j. P j N))
     rises zero = λ N. r zero N
@@ -74,7 +80,8 @@ most_iff Q R A B h a b = (
   (λ l n u bound. le_trans _ _ _ (a.0 n) (le_trans _ _ _ l (times_le_both h h _ _ (le_refl h) (b.1 u bound)))),
 )
 
-pub least_iff : (Q R : Series) (A B l : Fraction) → Rises R → IsLeastBound Q A → IsLeastBound R B → AtLeast Q R l ↔ l *ℚ B ≤ℚ A
+pub least_iff : (Q R : Series) (A B l : Fraction) → Rises R → IsLeastBound Q A → IsLeastBound R B
+    → AtLeast Q R l ↔ l *ℚ B ≤ℚ A
 least_iff Q R A B l r a b = (to, from)
   where
     to : AtLeast Q R l → l *ℚ B ≤ℚ A
@@ -84,15 +91,20 @@ least_iff Q R A B l r a b = (to, from)
     from p n u bound = le_trans _ _ _ (times_le_both l l _ _ (le_refl l) (b.0 n)) (le_trans _ _ _ p (a.1 u bound))
 
 -- a factor k of both least bounds changes no declared value
-pub value_of_least : (Q R Q' R' : Series) (k A B : Fraction) → whole 0 <ℚ k → Rises R → Rises R' → IsLeastBound Q (k *ℚ A) → IsLeastBound R (k *ℚ B) → IsLeastBound Q' A → IsLeastBound R' B
+pub value_of_least : (Q R Q' R' : Series) (k A B : Fraction) → whole 0 <ℚ k → Rises R → Rises R'
+    → IsLeastBound Q (k *ℚ A) → IsLeastBound R (k *ℚ B) → IsLeastBound Q' A → IsLeastBound R' B
     → SameValue Q R Q' R'
 value_of_least Q R Q' R' k A B kp r r' a b a' b' = (
   (λ l. (
-    (λ m. (least_iff Q' R' A B l r' a' b').1 (times_le_cancel _ _ k kp (subst₂ (λ s t. s ≤ℚ t) (simp ring) (times_comm k A) ((least_iff Q R _ _ l r a b).0 m)))),
-    (λ m. (least_iff Q R _ _ l r a b).1 (subst₂ (λ s t. s ≤ℚ t) (simp ring) (times_comm A k) (times_le_times _ _ k ((least_iff Q' R' A B l r' a' b').0 m)))),
+    (λ m. (least_iff Q' R' A B l r' a' b').1
+        (times_le_cancel _ _ k kp (subst₂ (λ s t. s ≤ℚ t) (simp ring) (times_comm k A) ((least_iff Q R _ _ l r a b).0 m)))),
+    (λ m. (least_iff Q R _ _ l r a b).1 (subst₂ (λ s t. s ≤ℚ t) (simp ring) (times_comm A k)
+        (times_le_times _ _ k ((least_iff Q' R' A B l r' a' b').0 m)))),
   )),
   (λ h. (
-    (λ m. (most_iff Q' R' A B h a' b').1 (times_le_cancel _ _ k kp (subst₂ (λ s t. s ≤ℚ t) (times_comm k A) (simp ring) ((most_iff Q R _ _ h a b).0 m)))),
-    (λ m. (most_iff Q R _ _ h a b).1 (subst₂ (λ s t. s ≤ℚ t) (times_comm A k) (simp ring) (times_le_times _ _ k ((most_iff Q' R' A B h a' b').0 m)))),
+    (λ m. (most_iff Q' R' A B h a' b').1 (times_le_cancel _ _ k kp
+        (subst₂ (λ s t. s ≤ℚ t) (times_comm k A) (simp ring) ((most_iff Q R _ _ h a b).0 m)))),
+    (λ m. (most_iff Q R _ _ h a b).1 (subst₂ (λ s t. s ≤ℚ t) (times_comm A k) (simp ring)
+        (times_le_times _ _ k ((most_iff Q' R' A B h a' b').0 m)))),
   )),
 )

@@ -2,7 +2,7 @@ pub mod Declared
 pub mod Complements
 pub mod Minus
 pub mod Reciprocals
-pub mod SumLaws
+pub mod Picks
 pub mod Powers
 pub mod Cauchy
 pub mod CompoundLaws
@@ -26,9 +26,6 @@ pub mod Panjer
 pub mod Settles
 pub mod SettlesGamma
 pub mod AddedCounts
-pub mod Base
-pub mod BaseRounding
-pub mod Bases
 pub mod UnitLaws
 pub mod Outcomes
 pub mod Scores

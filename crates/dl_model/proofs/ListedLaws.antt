@@ -12,7 +12,7 @@ use Rattle.dl_model.specs.Compound.{power, cell}
 use Rattle.dl_model.specs.Severity.{IsSeverity}
 use Rattle.dl_model.specs.Listed.{Weighted, total_weight, probability, greatest}
 use Rattle.dl_model.specs.Program.{Aggregate, One, Point, where_true, outcome, sum_over_outcomes, partial_sums, listed}
-use Rattle.dl_model.proofs.SumLaws.{pick, pick_none}
+use Rattle.dl_model.proofs.Picks.{pick, pick_none}
 use Rattle.dl_model.proofs.CompoundLaws.{cell_past, cells_all}
 use Rattle.dl_model.proofs.FiniteCounts.{holds_reached, bounded_by_all, power_one}
 use Rattle.dl_model.proofs.WeightLaws.{probability-past, probabilities_all, probabilities_le}
@@ -30,7 +30,8 @@ score_point a y x = rw zero-add (by_test (nat_eq y x))
     by_test false = times_zero a
 
 -- the unit's outcomes are the cells of its compound sum
-pub outcome_is_cell : (w f : ℕ → Fraction) (m : ℕ) → ((j : ℕ) → m < j → f j ≡ whole 0) → (y N : ℕ) → outcome (plain w f m) y N ≡ cell w f y N
+pub outcome_is_cell : (w f : ℕ → Fraction) (m : ℕ) → ((j : ℕ) → m < j → f j ≡ whole 0) → (y N : ℕ)
+    → outcome (plain w f m) y N ≡ cell w f y N
 outcome_is_cell w f m past y N = elim (cases_lt (N * m) y) [
   | inl far ↦ pick_none (N * m) y (λ s. cell w f s N) far ∙ sym (cell_past w f m past y N far)
   | inr near ↦ pick (N * m) y (λ s. cell w f s N) near
@@ -40,13 +41,15 @@ pub point_series : (w f : ℕ → Fraction) (m : ℕ) → ((j : ℕ) → m < j �
     → partial_sums (plain w f m ∷ []) (Point x) N ≡ cell w f x N
 unfolding sum_over_outcomes
 point_series w f m past x N =
-    sum_to_same (N * m) _ _ (λ y b. ap (λ t. t *ℚ where_true (nat_eq (0 + y) x) (whole 1)) (outcome_is_cell w f m past y N) ∙ score_point (cell w f y N) y x)
+    sum_to_same (N * m) _ _ (λ y b. ap (λ t. t *ℚ where_true (nat_eq (0 + y) x) (whole 1))
+    (outcome_is_cell w f m past y N) ∙ score_point (cell w f y N) y x)
     ∙ elim (cases_lt (N * m) x) [
       | inl far ↦ pick_none (N * m) x (λ s. cell w f s N) far ∙ sym (cell_past w f m past x N far)
       | inr near ↦ pick (N * m) x (λ s. cell w f s N) near
     ]
 
-pub one_series : (w f : ℕ → Fraction) (m : ℕ) → IsSeverity f m → (N : ℕ) → partial_sums (plain w f m ∷ []) One N ≡ sum_to N w
+pub one_series : (w f : ℕ → Fraction) (m : ℕ) → IsSeverity f m → (N : ℕ)
+    → partial_sums (plain w f m ∷ []) One N ≡ sum_to N w
 unfolding sum_over_outcomes
 one_series w f m s N =
     sum_to_same (N * m) _ _ (λ y b. ap (λ t. t *ℚ whole 1) (outcome_is_cell w f m s.past y N) ∙ times_one _)
@@ -54,14 +57,17 @@ one_series w f m s N =
 
 -- ---- listed counts and amounts
 
-pub listed_severity : (amounts : Weighted) → 0 < total_weight amounts → IsSeverity (probability amounts) (greatest amounts)
+pub listed_severity : (amounts : Weighted) → 0 < total_weight amounts
+    → IsSeverity (probability amounts) (greatest amounts)
 listed_severity amounts pos = record {
   add_up = probabilities_all amounts (greatest amounts) pos (le_refl_n _);
   past = λ j h. probability-past amounts j pos h;
 }
 
-pub listed_holds : (counts amounts : Weighted) (x : ℕ) (l h : Fraction) → 0 < total_weight counts → 0 < total_weight amounts
-    → l ≤ℚ cell (probability counts) (probability amounts) x (greatest counts) → cell (probability counts) (probability amounts) x (greatest counts) ≤ℚ h
+pub listed_holds : (counts amounts : Weighted) (x : ℕ) (l h : Fraction) → 0 < total_weight counts
+    → 0 < total_weight amounts
+    → l ≤ℚ cell (probability counts) (probability amounts) x (greatest counts)
+    → cell (probability counts) (probability amounts) x (greatest counts) ≤ℚ h
     → Holds (partial_sums (listed counts amounts ∷ []) (Point x)) (partial_sums (listed counts amounts ∷ []) One) l h
 listed_holds counts amounts x l h p q low high =
     let w = probability counts in
@@ -70,7 +76,8 @@ listed_holds counts amounts x l h p q low high =
     holds_reached _ _ (cell w f x (greatest counts)) l h (greatest counts)
     (point_series w f (greatest amounts) s.past x (greatest counts))
     (λ N. le_trans _ _ _ (le_of_eq _ _ (point_series w f (greatest amounts) s.past x N))
-    (bounded_by_all (greatest counts) (λ n. w n *ℚ power f n x) (λ n b. ap (λ t. t *ℚ power f n x) (probability-past counts n p b) ∙ zero_times _) N))
+    (bounded_by_all (greatest counts) (λ n. w n *ℚ power f n x)
+    (λ n b. ap (λ t. t *ℚ power f n x) (probability-past counts n p b) ∙ zero_times _) N))
     (one_series w f (greatest amounts) s (greatest counts) ∙ probabilities_all counts (greatest counts) p (le_refl_n _))
     (λ N. le_trans _ _ _ (le_of_eq _ _ (one_series w f (greatest amounts) s N)) (probabilities_le counts N p))
     low high

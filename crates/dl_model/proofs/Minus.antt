@@ -3,26 +3,31 @@ use Rattle.std.proofs.Common.{◌≡◌, inl, inr, ℕ, zero, max, sym, ap, subs
 use Rattle.std.proofs.Math.Nat.{le-max_left, le-max_right}
 use Rattle.dl_exact.specs.Fraction.{Fraction, ◌+ℚ◌, ◌-ℚ◌, ◌*ℚ◌, ◌/ℚ◌, ◌≤ℚ◌, ◌<ℚ◌, whole}
 use Rattle.dl_model.specs.Series.{Series, IsBound, AtMost, AtLeast, Rises, plus}
-use Rattle.dl_exact.proofs.Laws.{ring, plus_comm, times_comm, plus_zero, zero_times, le_refl, le_trans, le_of_eq, lt_or_le, lt_not_le, plus_le_both, le_plus, plus_times, lt_gap, plus_le_cancel, times_le_cancel, zero_or_pos, le_sub, sub_plus, div_times, div_pos}
-use Rattle.dl_model.proofs.Declared.{at_least_shifted, crossed_plus, times_le_both, rises_to}
+use Rattle.dl_exact.proofs.Laws.{ring, plus_comm, times_comm, plus_zero, zero_times, le_refl, le_trans, le_of_eq, lt_or_le, lt_not_le, plus_le_both, le_plus, plus_times, lt_gap, plus_le_cancel, times_le_cancel, zero_or_pos, le_sub, sub_plus, div_times, div_pos, times_le_both}
+use Rattle.dl_model.proofs.Declared.{at_least_shifted, crossed_plus, rises_to}
 use Rattle.dl_model.proofs.Complements.{no_descent}
 
 divided : (x v g k : Fraction) → whole 0 <ℚ k → k *ℚ x +ℚ g ≤ℚ k *ℚ v → x +ℚ g /ℚ k ≤ℚ v
 divided x v g k kp h = times_le_cancel _ _ k kp (subst₂ (λ s t. s ≤ℚ t)
-    (sym (plus_times x (g /ℚ k) k ∙ ap (λ t. x *ℚ k +ℚ t) (div_times g k kp) ∙ ap (λ t. t +ℚ g) (times_comm x k))) (times_comm k v) h)
+    (sym (plus_times x (g /ℚ k) k ∙ ap (λ t. x *ℚ k +ℚ t) (div_times g k kp) ∙ ap (λ t. t +ℚ g) (times_comm x k)))
+    (times_comm k v) h)
 
 small : (R : Series) (v d : Fraction) → ((m : ℕ) → R m +ℚ d ≤ℚ v) → d ≤ℚ v
 small R v d h = le_trans _ _ _ (subst (λ t. d ≤ℚ t) (plus_comm d (R zero)) (le_plus d (R zero))) (h zero)
 
-least_step : (x y l h u v g q : Fraction) → x ≤ℚ y → q ≤ℚ l *ℚ y → u +ℚ g ≡ q → (l +ℚ h) *ℚ y ≤ℚ u +ℚ h *ℚ v → h *ℚ x +ℚ g ≤ℚ h *ℚ v
+least_step : (x y l h u v g q : Fraction) → x ≤ℚ y → q ≤ℚ l *ℚ y → u +ℚ g ≡ q → (l +ℚ h) *ℚ y ≤ℚ u +ℚ h *ℚ v
+    → h *ℚ x +ℚ g ≤ℚ h *ℚ v
 least_step x y l h u v g q xy qy e a =
-    let b : q +ℚ h *ℚ x ≤ℚ u +ℚ h *ℚ v = le_trans _ _ _ (plus_le_both _ _ _ _ qy (times_le_both h h _ _ (le_refl h) xy)) (subst (λ t. t ≤ℚ u +ℚ h *ℚ v) (plus_times l h y) a) in
+    let b : q +ℚ h *ℚ x ≤ℚ u +ℚ h *ℚ v = le_trans _ _ _
+    (plus_le_both _ _ _ _ qy (times_le_both h h _ _ (le_refl h) xy))
+    (subst (λ t. t ≤ℚ u +ℚ h *ℚ v) (plus_times l h y) a) in
     plus_le_cancel _ _ u (subst₂ (λ s t. s ≤ℚ t) (ap (λ t. t +ℚ h *ℚ x) (sym e) ∙ turn u g (h *ℚ x)) (plus_comm _ _) b)
   where
     turn : (a b c : Fraction) → a +ℚ b +ℚ c ≡ c +ℚ b +ℚ a
     turn a b c = simp ring
 
-pub at_least_minus : (Q Q' R : Series) (l h v : Fraction) → Rises R → IsBound R v → AtLeast (plus Q Q') R (l +ℚ h) → AtMost Q' R h → AtLeast Q R l
+pub at_least_minus : (Q Q' R : Series) (l h v : Fraction) → Rises R → IsBound R v → AtLeast (plus Q Q') R (l +ℚ h)
+    → AtMost Q' R h → AtLeast Q R l
 at_least_minus Q Q' R l h v r bv a a' n u b = elim (lt_or_le u (l *ℚ R n)) [
   | inr p ↦ p
   | inl p ↦ absurd (
@@ -30,39 +35,62 @@ at_least_minus Q Q' R l h v r bv a a' n u b = elim (lt_or_le u (l *ℚ R n)) [
       let both : (v : Fraction) → IsBound R v → (m : ℕ) → (l +ℚ h) *ℚ R m ≤ℚ u +ℚ h *ℚ v =
       λ v bv m. a m (u +ℚ h *ℚ v) (λ k. plus_le_both _ _ _ _ (b k) (a' k v bv)) in
       elim (zero_or_pos h) [
-        | inl z ↦ lt_not_le u (l *ℚ R n) p (subst₂ (λ s t. s ≤ℚ t) (ap (λ t. (l +ℚ t) *ℚ R n) z ∙ ap (λ t. t *ℚ R n) (plus_zero l)) (ap (λ t. u +ℚ t *ℚ v) z ∙ ap (λ t. u +ℚ t) (zero_times v) ∙ plus_zero u) (both v bv n))
+        | inl z ↦ lt_not_le u (l *ℚ R n) p (subst₂ (λ s t. s ≤ℚ t)
+            (ap (λ t. (l +ℚ t) *ℚ R n) z ∙ ap (λ t. t *ℚ R n) (plus_zero l))
+            (ap (λ t. u +ℚ t *ℚ v) z ∙ ap (λ t. u +ℚ t) (zero_times v) ∙ plus_zero u) (both v bv n))
         | inr hp ↦ no_descent (IsBound R) (g.0 /ℚ h) (div_pos g.0 h g.1 hp)
             (λ v bv.
             let lower : (m : ℕ) → R m +ℚ g.0 /ℚ h ≤ℚ v =
-            λ m. divided (R m) v g.0 h hp (least_step (R m) (R (max m n)) l h u v g.0 (l *ℚ R n) (rises_to R r m (max m n) (le-max_left m n))
-            (times_le_both l l _ _ (le_refl l) (rises_to R r n (max m n) (le-max_right m n))) g.2 (both v bv (max m n))) in
-            (v -ℚ g.0 /ℚ h, le_of_eq _ _ (sub_plus v (g.0 /ℚ h) (small R v (g.0 /ℚ h) lower)), λ m. le_sub _ _ _ (lower m)))
+            λ m. divided (R m) v g.0 h hp (least_step (R m) (R (max m n)) l h u v g.0 (l *ℚ R n)
+            (rises_to R r m (max m n) (le-max_left m n))
+            (times_le_both l l _ _ (le_refl l) (rises_to R r n (max m n) (le-max_right m n))) g.2
+            (both v bv (max m n))) in (
+              v -ℚ g.0 /ℚ h,
+              le_of_eq _ _ (sub_plus v (g.0 /ℚ h) (small R v (g.0 /ℚ h) lower)),
+              λ m. le_sub _ _ _
+                  (lower m),
+            ))
             v bv
       ])
 ]
 
 most_step : (x h l u v g q : Fraction) → v ≤ℚ u → h *ℚ u +ℚ g ≡ q → l *ℚ x +ℚ q ≤ℚ (h +ℚ l) *ℚ v → l *ℚ x +ℚ g ≤ℚ l *ℚ v
 most_step x h l u v g q vu e a =
-    let b : l *ℚ x +ℚ q ≤ℚ h *ℚ u +ℚ l *ℚ v = le_trans _ _ _ (subst (λ t. l *ℚ x +ℚ q ≤ℚ t) (plus_times h l v) a) (plus_le_both _ _ _ _ (times_le_both h h _ _ (le_refl h) vu) (le_refl _)) in
-    plus_le_cancel _ _ (h *ℚ u) (subst₂ (λ s t. s ≤ℚ t) (ap (λ t. l *ℚ x +ℚ t) (sym e) ∙ turn (l *ℚ x) (h *ℚ u) g) (plus_comm _ _) b)
+    let b : l *ℚ x +ℚ q ≤ℚ h *ℚ u +ℚ l *ℚ v =
+    le_trans _ _ _ (subst (λ t. l *ℚ x +ℚ q ≤ℚ t) (plus_times h l v) a)
+    (plus_le_both _ _ _ _ (times_le_both h h _ _ (le_refl h) vu) (le_refl _)) in
+    plus_le_cancel _ _ (h *ℚ u) (subst₂ (λ s t. s ≤ℚ t) (ap (λ t. l *ℚ x +ℚ t) (sym e) ∙ turn (l *ℚ x) (h *ℚ u) g)
+    (plus_comm _ _) b)
   where
     turn : (a b c : Fraction) → a +ℚ (b +ℚ c) ≡ a +ℚ c +ℚ b
     turn a b c = simp ring
 
-pub at_most_minus : (Q Q' R : Series) (h l : Fraction) → Rises Q → Rises Q' → AtMost (plus Q Q') R (h +ℚ l) → AtLeast Q' R l → AtMost Q R h
+pub at_most_minus : (Q Q' R : Series) (h l : Fraction) → Rises Q → Rises Q' → AtMost (plus Q Q') R (h +ℚ l)
+    → AtLeast Q' R l → AtMost Q R h
 at_most_minus Q Q' R h l r r' a a' n u b = elim (lt_or_le (h *ℚ u) (Q n)) [
   | inr p ↦ p
   | inl p ↦ absurd (
       let g = lt_gap (h *ℚ u) (Q n) p in
       elim (zero_or_pos l) [
-        | inl z ↦ lt_not_le (h *ℚ u) (Q n) p (le_trans _ _ _ (le_plus (Q n) (Q' n)) (subst (λ t. Q n +ℚ Q' n ≤ℚ t) (ap (λ t. (h +ℚ t) *ℚ u) z ∙ ap (λ t. t *ℚ u) (plus_zero h)) (a n u b)))
+        | inl z ↦ lt_not_le (h *ℚ u) (Q n) p (le_trans _ _ _ (le_plus (Q n) (Q' n))
+            (subst (λ t. Q n +ℚ Q' n ≤ℚ t) (ap (λ t. (h +ℚ t) *ℚ u) z ∙ ap (λ t. t *ℚ u) (plus_zero h)) (a n u b)))
         | inr lp ↦ no_descent (λ v. IsBound R v × (v ≤ℚ u)) (g.0 /ℚ l) (div_pos g.0 l g.1 lp)
             (λ v w.
-            let bv : IsBound (plus Q' Q) ((h +ℚ l) *ℚ v) = λ m. subst (λ t. t ≤ℚ (h +ℚ l) *ℚ v) (plus_comm (Q m) (Q' m)) (a m v w.0) in
+            let bv : IsBound (plus Q' Q) ((h +ℚ l) *ℚ v) =
+            λ m. subst (λ t. t ≤ℚ (h +ℚ l) *ℚ v) (plus_comm (Q m) (Q' m)) (a m v w.0) in
             let lower : (m : ℕ) → R m +ℚ g.0 /ℚ l ≤ℚ v =
-            λ m. divided (R m) v g.0 l lp (most_step (R m) h l u v g.0 (Q n) w.1 g.2 (at_least_shifted Q' R l a' (Q n) ((h +ℚ l) *ℚ v) (λ m. crossed_plus Q' Q r' r ((h +ℚ l) *ℚ v) bv m n) m)) in
-            let back : v -ℚ g.0 /ℚ l +ℚ g.0 /ℚ l ≡ v = sub_plus v (g.0 /ℚ l) (small R v (g.0 /ℚ l) lower) in
-            (v -ℚ g.0 /ℚ l, le_of_eq _ _ back, (λ m. le_sub _ _ _ (lower m), le_trans _ _ _ (subst (λ t. v -ℚ g.0 /ℚ l ≤ℚ t) back (le_plus _ _)) w.1)))
+            λ m. divided (R m) v g.0 l lp (most_step (R m) h l u v g.0 (Q n) w.1 g.2
+            (at_least_shifted Q' R l a' (Q n) ((h +ℚ l) *ℚ v)
+            (λ m. crossed_plus Q' Q r' r ((h +ℚ l) *ℚ v) bv m n) m)) in
+            let back : v -ℚ g.0 /ℚ l +ℚ g.0 /ℚ l ≡ v = sub_plus v (g.0 /ℚ l) (small R v (g.0 /ℚ l) lower) in (
+              v -ℚ g.0 /ℚ l,
+              le_of_eq _ _ back,
+              (
+                λ m. le_sub _ _ _ (lower m),
+                le_trans _ _ _
+                    (subst (λ t. v -ℚ g.0 /ℚ l ≤ℚ t) back (le_plus _ _)) w.1,
+              ),
+            ))
             u (b, le_refl u)
       ])
 ]

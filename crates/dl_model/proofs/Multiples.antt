@@ -10,18 +10,17 @@ use Rattle.dl_exact.specs.Gcd.{gcd}
 use Rattle.dl_exact.specs.Fraction.{Fraction, whole, ◌over◌, ◌*ℚ◌}
 use Rattle.dl_exact.proofs.GcdLaws.{gcd_is}
 use Rattle.dl_exact.proofs.Laws.{times_zero, zero_times}
-use Rattle.dl_exact.proofs.Sums.{sum_pairs_same}
+use Rattle.dl_exact.proofs.Sums.{sum_pairs_same, sum_to_zero, sum_pairs_none}
 use Rattle.dl_plan.specs.declared.item.Item.{Item}
 use Rattle.dl_plan.specs.declared.severity.Sev.{Sev}
 use Rattle.dl_plan.specs.Weighted.{weight_at, common_amount}
 use Rattle.dl_plan.specs.Severity.{probability_of}
 use Rattle.dl_plan.specs.Cession.{Clause, kept}
-use Rattle.dl_plan.proofs.Sums.{zero_over}
-use Rattle.dl_plan.proofs.Fits.{whole_num, whole_den}
+use Rattle.dl_exact.proofs.Denominators.{over_zero}
+use Rattle.dl_exact.proofs.Parts.{whole_num, whole_den}
 use Rattle.dl_plan.proofs.Means.{total_pos}
 use Rattle.dl_model.specs.Compound.{at_zero, power, cell}
 use Rattle.dl_model.specs.Plans.{clause_of}
-use Rattle.dl_model.proofs.SumLaws.{sum_to_zero, sum_pairs_none}
 use Rattle.dl_model.proofs.ItemWeights.{part_of}
 
 -- the common divisor of d and the amounts
@@ -30,14 +29,17 @@ divisor_from d items = fold (λ d item. gcd d item.amount) d items
 
 divides_start : (d : ℕ) (items : List Item) → divisor_from d items ∣ d
 divides_start d [] = dvd_refl d
-divides_start d (x ∷ xs) = dvd_trans (divisor_from (gcd d x.amount) xs) (divides_start (gcd d x.amount) xs) (gcd_is d x.amount).0
+divides_start d (x ∷ xs) =
+    dvd_trans (divisor_from (gcd d x.amount) xs) (divides_start (gcd d x.amount) xs) (gcd_is d x.amount).0
 
 -- an amount that it does not divide is not there
 no_weight_between : (items : List Item) (d j : ℕ) → ¬ (divisor_from d items ∣ j) → weight_at items j ≡ 0
 no_weight_between [] d j h = refl
 no_weight_between (x ∷ xs) d j h =
-    let e : divisor_from (gcd d x.amount) xs ∣ x.amount = dvd_trans (divisor_from (gcd d x.amount) xs) (divides_start (gcd d x.amount) xs) (gcd_is d x.amount).1 in
-    let here : part_of j x ≡ 0 = rw (ne_eqb x.amount j (λ same. h (subst (λ a. divisor_from (gcd d x.amount) xs ∣ a) same e))) refl in
+    let e : divisor_from (gcd d x.amount) xs ∣ x.amount =
+    dvd_trans (divisor_from (gcd d x.amount) xs) (divides_start (gcd d x.amount) xs) (gcd_is d x.amount).1 in
+    let here : part_of j x ≡ 0 = rw (ne_eqb x.amount j
+    (λ same. h (subst (λ a. divisor_from (gcd d x.amount) xs ∣ a) same e))) refl in
     sum_by-cons (part_of j) x xs ∙ ap₂ (λ a b. a + b) here (no_weight_between xs (gcd d x.amount) j h)
 
 pub multiple_of : (d s : ℕ) → d ∣ s → s ≡ s / d * d
@@ -55,18 +57,23 @@ module _ (f : ℕ → Fraction) (d : ℕ) (none : (j : ℕ) → ¬ (d ∣ j) →
   no_power_between zero (suc s) h = refl
   no_power_between (suc n) s h =
       sum_pairs_same s _ (λ i j. whole 0) (λ i j e. elim (dec_dvd d i) [
-        | yes p ↦ ap (λ t. f i *ℚ t) (no_power_between n j (λ q. h (subst (λ k. d ∣ k) e (dvd_plus d i j p q)))) ∙ times_zero _
+        | yes p ↦ ap (λ t. f i *ℚ t) (no_power_between n j (λ q. h (subst (λ k. d ∣ k) e (dvd_plus d i j p q))))
+            ∙ times_zero _
         | no p ↦ ap (λ t. t *ℚ power f n j) (none i p) ∙ zero_times _
       ])
       ∙ sum_pairs_none s
 
-pub no_cell_between : (sev : Sev) (w : ℕ → Fraction) (s N : ℕ) → ((n : ℕ) → s ≢ n * common_amount sev.items) → cell w (probability_of sev) s N ≡ whole 0
+pub no_cell_between : (sev : Sev) (w : ℕ → Fraction) (s N : ℕ) → ((n : ℕ) → s ≢ n * common_amount sev.items)
+    → cell w (probability_of sev) s N ≡ whole 0
 no_cell_between sev w s N h =
     let d = common_amount sev.items in
     let pos = total_pos sev.items sev.total sev.weighted in
-    let none : (j : ℕ) → ¬ (d ∣ j) → probability_of sev j ≡ whole 0 = λ j p. ap (λ k. k over sev.total) (no_weight_between sev.items 0 j p) ∙ zero_over sev.total pos in
-    sum_to_zero N _ (λ n b. ap (λ t. w n *ℚ t) (no_power_between (probability_of sev) d none n s (λ p. h (s / d) (multiple_of d s p))) ∙ times_zero _)
+    let none : (j : ℕ) → ¬ (d ∣ j) → probability_of sev j ≡ whole 0 =
+    λ j p. ap (λ k. k over sev.total) (no_weight_between sev.items 0 j p) ∙ over_zero sev.total pos in
+    sum_to_zero N _ (λ n b. ap (λ t. w n *ℚ t)
+    (no_power_between (probability_of sev) d none n s (λ p. h (s / d) (multiple_of d s p))) ∙ times_zero _)
 
 -- a whole number is its own floor
 pub clause_whole : (clause : Clause) (s y : ℕ) → kept clause s ≡ whole y → clause_of (Some clause) s ≡ y
-clause_whole clause s y e = ap (λ (x : Fraction). x.num / x.den) e ∙ ap₂ (λ a b. a / b) (whole_num y) (whole_den y) ∙ div-one y
+clause_whole clause s y e =
+    ap (λ (x : Fraction). x.num / x.den) e ∙ ap₂ (λ a b. a / b) (whole_num y) (whole_den y) ∙ div-one y

@@ -18,10 +18,13 @@ module _ (f w : ℕ → Fraction) (a b : Fraction) (z : f zero ≡ whole 0) (P :
   abbrev pub factor : ℕ → ℕ → Fraction
   factor s i = a *ℚ whole (suc s) +ℚ b *ℚ whole (suc i)
 
-  without_first : (g c : ℕ → Fraction) → g zero ≡ whole 0 → (s : ℕ) → sum_pairs (suc s) (λ i j. g i *ℚ c j) ≡ sum_pairs s (λ i k. g (suc i) *ℚ c k)
-  without_first g c e s = sum_pairs_first s (λ i j. g i *ℚ c j) ∙ ap (λ t. t +ℚ sum_pairs s (λ i k. g (suc i) *ℚ c k)) (ap (λ t. t *ℚ c (suc s)) e ∙ zero_times _) ∙ zero_plus _
+  without_first : (g c : ℕ → Fraction) → g zero ≡ whole 0 → (s : ℕ)
+      → sum_pairs (suc s) (λ i j. g i *ℚ c j) ≡ sum_pairs s (λ i k. g (suc i) *ℚ c k)
+  without_first g c e s = sum_pairs_first s (λ i j. g i *ℚ c j)
+      ∙ ap (λ t. t +ℚ sum_pairs s (λ i k. g (suc i) *ℚ c k)) (ap (λ t. t *ℚ c (suc s)) e ∙ zero_times _) ∙ zero_plus _
 
-  one_term : (n s : ℕ) → w (suc n) *ℚ power f (suc n) (suc s) *ℚ whole (suc s) ≡ sum_pairs s (λ i k. factor s i *ℚ f (suc i) *ℚ (w n *ℚ power f n k))
+  one_term : (n s : ℕ) → w (suc n) *ℚ power f (suc n) (suc s) *ℚ whole (suc s) ≡ sum_pairs s
+      (λ i k. factor s i *ℚ f (suc i) *ℚ (w n *ℚ power f n k))
   unfolding power
   one_term n s =
       let c = power f n in
@@ -31,7 +34,8 @@ module _ (f w : ℕ → Fraction) (a b : Fraction) (z : f zero ≡ whole 0) (P :
       let X : Fraction = sum_pairs s (λ i k. f (suc i) *ℚ c k) in
       let Y : Fraction = sum_pairs s (λ i k. whole (suc i) *ℚ f (suc i) *ℚ c k) in
       let px : p ≡ X = without_first f c z s in
-      let py : S *ℚ p ≡ N *ℚ Y = power_tilt f n (suc s) ∙ ap (λ t. N *ℚ t) (without_first (λ j. whole j *ℚ f j) c (zero_times _) s) in
+      let py : S *ℚ p ≡ N *ℚ Y = power_tilt f n (suc s)
+      ∙ ap (λ t. N *ℚ t) (without_first (λ j. whole j *ℚ f j) c (zero_times _) s) in
       times_cancel _ _ N (whole_pos (suc n) (zero-lt-suc n))
       (turn_left (w (suc n)) p S N
       ∙ ap (λ t. t *ℚ (S *ℚ p)) (P.next n)
@@ -39,26 +43,34 @@ module _ (f w : ℕ → Fraction) (a b : Fraction) (z : f zero ≡ whole 0) (P :
       ∙ ap₂ (λ t u. a *ℚ S *ℚ (w n *ℚ t) *ℚ N +ℚ b *ℚ (w n *ℚ u)) px py
       ∙ gather a S (w n) X N b Y
       ∙ ap (λ t. t *ℚ N) (sym (
-      sum_pairs_same s _ (λ i k. a *ℚ S *ℚ w n *ℚ (f (suc i) *ℚ c k) +ℚ b *ℚ w n *ℚ (whole (suc i) *ℚ f (suc i) *ℚ c k)) (λ i k e. each a S b (whole (suc i)) (f (suc i)) (w n) (c k))
-      ∙ sum_pairs_plus s (λ i k. a *ℚ S *ℚ w n *ℚ (f (suc i) *ℚ c k)) (λ i k. b *ℚ w n *ℚ (whole (suc i) *ℚ f (suc i) *ℚ c k))
-      ∙ ap₂ (λ t u. t +ℚ u) (sum_pairs_times s (a *ℚ S *ℚ w n) (λ i k. f (suc i) *ℚ c k)) (sum_pairs_times s (b *ℚ w n) (λ i k. whole (suc i) *ℚ f (suc i) *ℚ c k)))))
+      sum_pairs_same s _ (λ i k. a *ℚ S *ℚ w n *ℚ (f (suc i) *ℚ c k) +ℚ b *ℚ w n *ℚ
+      (whole (suc i) *ℚ f (suc i) *ℚ c k)) (λ i k e. each a S b (whole (suc i)) (f (suc i)) (w n) (c k))
+      ∙ sum_pairs_plus s (λ i k. a *ℚ S *ℚ w n *ℚ (f (suc i) *ℚ c k))
+      (λ i k. b *ℚ w n *ℚ (whole (suc i) *ℚ f (suc i) *ℚ c k))
+      ∙ ap₂ (λ t u. t +ℚ u) (sum_pairs_times s (a *ℚ S *ℚ w n) (λ i k. f (suc i) *ℚ c k))
+      (sum_pairs_times s (b *ℚ w n) (λ i k. whole (suc i) *ℚ f (suc i) *ℚ c k)))))
     where
       turn_left : (x p S N : Fraction) → x *ℚ p *ℚ S *ℚ N ≡ x *ℚ N *ℚ (S *ℚ p)
       turn_left x p S N = simp ring
 
-      split : (a N b v S p : Fraction) → (a *ℚ N +ℚ b) *ℚ v *ℚ (S *ℚ p) ≡ a *ℚ S *ℚ (v *ℚ p) *ℚ N +ℚ b *ℚ (v *ℚ (S *ℚ p))
+      split : (a N b v S p : Fraction) → (a *ℚ N +ℚ b) *ℚ v *ℚ (S *ℚ p) ≡ a *ℚ S *ℚ (v *ℚ p) *ℚ N +ℚ b *ℚ
+          (v *ℚ (S *ℚ p))
       split a N b v S p = simp ring
 
-      gather : (a S v X N b Y : Fraction) → a *ℚ S *ℚ (v *ℚ X) *ℚ N +ℚ b *ℚ (v *ℚ (N *ℚ Y)) ≡ (a *ℚ S *ℚ v *ℚ X +ℚ b *ℚ v *ℚ Y) *ℚ N
+      gather : (a S v X N b Y : Fraction) → a *ℚ S *ℚ (v *ℚ X) *ℚ N +ℚ b *ℚ (v *ℚ (N *ℚ Y)) ≡
+          (a *ℚ S *ℚ v *ℚ X +ℚ b *ℚ v *ℚ Y) *ℚ N
       gather a S v X N b Y = simp ring
 
-      each : (a S b j g v c : Fraction) → (a *ℚ S +ℚ b *ℚ j) *ℚ g *ℚ (v *ℚ c) ≡ a *ℚ S *ℚ v *ℚ (g *ℚ c) +ℚ b *ℚ v *ℚ (j *ℚ g *ℚ c)
+      each : (a S b j g v c : Fraction) → (a *ℚ S +ℚ b *ℚ j) *ℚ g *ℚ (v *ℚ c) ≡ a *ℚ S *ℚ v *ℚ (g *ℚ c) +ℚ b *ℚ v *ℚ
+          (j *ℚ g *ℚ c)
       each a S b j g v c = simp ring
 
-  pub cell_next : (s M : ℕ) → cell w f (suc s) (suc M) *ℚ whole (suc s) ≡ sum_pairs s (λ i k. factor s i *ℚ f (suc i) *ℚ cell w f k M)
+  pub cell_next : (s M : ℕ) → cell w f (suc s) (suc M) *ℚ whole (suc s) ≡ sum_pairs s
+      (λ i k. factor s i *ℚ f (suc i) *ℚ cell w f k M)
   unfolding power at_zero
   cell_next s M =
-      ap (λ t. t *ℚ whole (suc s)) (sum_to_first M (λ n. w n *ℚ power f n (suc s)) ∙ ap (λ t. t +ℚ sum_to M (λ n. w (suc n) *ℚ power f (suc n) (suc s))) (times_zero _) ∙ zero_plus _)
+      ap (λ t. t *ℚ whole (suc s)) (sum_to_first M (λ n. w n *ℚ power f n (suc s))
+      ∙ ap (λ t. t +ℚ sum_to M (λ n. w (suc n) *ℚ power f (suc n) (suc s))) (times_zero _) ∙ zero_plus _)
       ∙ sym (sum_to_times_right M (whole (suc s)) (λ n. w (suc n) *ℚ power f (suc n) (suc s)))
       ∙ sum_to_same M _ _ (λ n e. one_term n s)
       ∙ sym (sum_pairs_sum_to s M (λ i k n. factor s i *ℚ f (suc i) *ℚ (w n *ℚ power f n k)))
@@ -67,11 +79,13 @@ module _ (f w : ℕ → Fraction) (a b : Fraction) (z : f zero ≡ whole 0) (P :
   pub cell_zero : (N : ℕ) → cell w f zero N ≡ whole 1
   unfolding sum_to power at_zero
   cell_zero zero = times_one _ ∙ P.start
-  cell_zero (suc N) = ap₂ (λ x y. x +ℚ y) (cell_zero N) (ap (λ t. w (suc N) *ℚ t) (no_power f z (suc N) zero (omega arith)) ∙ times_zero _) ∙ plus_zero _
+  cell_zero (suc N) = ap₂ (λ x y. x +ℚ y) (cell_zero N)
+      (ap (λ t. w (suc N) *ℚ t) (no_power f z (suc N) zero (omega arith)) ∙ times_zero _) ∙ plus_zero _
 
   -- the recursion times s + 1
   recursion_sum : (r : ℕ → Fraction) (s : ℕ)
-      → sum_pairs s (λ i k. (a +ℚ b *ℚ suc i over suc s) *ℚ f (suc i) *ℚ r k) *ℚ whole (suc s) ≡ sum_pairs s (λ i k. factor s i *ℚ f (suc i) *ℚ r k)
+      → sum_pairs s (λ i k. (a +ℚ b *ℚ suc i over suc s) *ℚ f (suc i) *ℚ r k) *ℚ whole (suc s) ≡ sum_pairs s
+      (λ i k. factor s i *ℚ f (suc i) *ℚ r k)
   recursion_sum r s =
       let S = whole (suc s) in
       sym (sum_pairs_times_right s S (λ i k. (a +ℚ b *ℚ suc i over suc s) *ℚ f (suc i) *ℚ r k))
@@ -82,12 +96,14 @@ module _ (f w : ℕ → Fraction) (a b : Fraction) (z : f zero ≡ whole 0) (P :
       turn : (a b j S g r : Fraction) → (a +ℚ b *ℚ j) *ℚ g *ℚ r *ℚ S ≡ (a *ℚ S +ℚ b *ℚ (j *ℚ S)) *ℚ g *ℚ r
       turn a b j S g r = simp ring
 
-  pub recursion_next : (r : ℕ → Fraction) → Recursion a b f r → (s : ℕ) → r (suc s) *ℚ whole (suc s) ≡ sum_pairs s (λ i k. (a *ℚ whole (suc s) +ℚ b *ℚ whole (suc i)) *ℚ f (suc i) *ℚ r k)
+  pub recursion_next : (r : ℕ → Fraction) → Recursion a b f r → (s : ℕ)
+      → r (suc s) *ℚ whole (suc s) ≡ sum_pairs s (λ i k. (a *ℚ whole (suc s) +ℚ b *ℚ whole (suc i)) *ℚ f (suc i) *ℚ r k)
   recursion_next r R s = ap (λ t. t *ℚ whole (suc s)) (R.next s) ∙ recursion_sum r s
 
   -- a cell from the cells before it, one claim less
   pub cell_from_before : (s M : ℕ) → cell w f (suc s) (suc M) ≡ from_before a b f (λ k. cell w f k M) s
-  cell_from_before s M = times_cancel _ _ (whole (suc s)) (whole_pos (suc s) (zero-lt-suc s)) (cell_next s M ∙ sym (recursion_sum (λ k. cell w f k M) s))
+  cell_from_before s M = times_cancel _ _ (whole (suc s)) (whole_pos (suc s) (zero-lt-suc s))
+      (cell_next s M ∙ sym (recursion_sum (λ k. cell w f k M) s))
 
   -- the cells follow the recursion
   pub recursion_there : Recursion a b f (λ s. cell w f s s)
@@ -106,7 +122,8 @@ module _ (f w : ℕ → Fraction) (a b : Fraction) (z : f zero ≡ whole 0) (P :
   up_to r R (suc n) (suc s) (suc M) p q =
       times_cancel _ _ (whole (suc s)) (whole_pos (suc s) (zero-lt-suc s))
       (recursion_next r R s
-      ∙ sum_pairs_same s _ _ (λ i k e. ap (λ t. (a *ℚ whole (suc s) +ℚ b *ℚ whole (suc i)) *ℚ f (suc i) *ℚ t) (up_to r R n k M (omega arith) (omega arith)))
+      ∙ sum_pairs_same s _ _ (λ i k e. ap (λ t. (a *ℚ whole (suc s) +ℚ b *ℚ whole (suc i)) *ℚ f (suc i) *ℚ t)
+      (up_to r R n k M (omega arith) (omega arith)))
       ∙ sym (cell_next s M))
 
   pub recursion_is_cell : (r : ℕ → Fraction) → Recursion a b f r → (s N : ℕ) → s ≤ N → r s ≡ cell w f s N
@@ -125,7 +142,8 @@ gamma_class q x = record {
   start = gamma_zero q x;
   next = λ n. let e : suc q + n ≡ q + suc n = omega arith in
       times_comm _ _ ∙ gamma_next q x n ∙ ap (λ m. whole m *ℚ (x *ℚ gamma (suc q) x n)) e
-      ∙ ap (λ t. t *ℚ (x *ℚ gamma (suc q) x n)) (whole_plus q (suc n)) ∙ turn (whole q) (whole (suc n)) x (gamma (suc q) x n);
+      ∙ ap (λ t. t *ℚ (x *ℚ gamma (suc q) x n)) (whole_plus q (suc n))
+      ∙ turn (whole q) (whole (suc n)) x (gamma (suc q) x n);
 }
   where
     turn : (q n x g : Fraction) → (q +ℚ n) *ℚ (x *ℚ g) ≡ (x *ℚ n +ℚ q *ℚ x) *ℚ g

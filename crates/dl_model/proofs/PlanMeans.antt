@@ -33,12 +33,15 @@ pub count_mean : (freq : Freq) → IsCountOfPlan freq → HasMean (count_weights
 count_mean (Fixed m) h = fixed_mean m
 count_mean (Table counts total) h =
     let far = greatest (weighted counts) in
-    subst (λ v. HasMean (count_weights (Table counts total)) v) (shares_mean counts total far (total_pos counts total h.0) (le_refl_n far))
+    subst (λ v. HasMean (count_weights (Table counts total)) v)
+    (shares_mean counts total far (total_pos counts total h.0) (le_refl_n far))
     (finite_mean _ far (shares_severity counts total h.0))
 count_mean (Bernoulli q) h =
-    subst (λ v. HasMean (count_weights (Bernoulli q)) v) (one_times _ ∙ over_self q) (binomial_mean 1 q.num q.den q.positive (num_le_den q h.within))
+    subst (λ v. HasMean (count_weights (Bernoulli q)) v) (one_times _ ∙ over_self q)
+    (binomial_mean 1 q.num q.den q.positive (num_le_den q h.within))
 count_mean (Binomial trials q) h =
-    subst (λ v. HasMean (count_weights (Binomial trials q)) v) (ap (λ x. whole trials *ℚ x) (over_self q)) (binomial_mean trials q.num q.den q.positive (num_le_den q h.1.within))
+    subst (λ v. HasMean (count_weights (Binomial trials q)) v) (ap (λ x. whole trials *ℚ x) (over_self q))
+    (binomial_mean trials q.num q.den q.positive (num_le_den q h.1.within))
 count_mean (Poisson mean) h = poisson_mean mean
 count_mean (Gamma zero mean) h = absurd (omega (arith, h))
 count_mean (Gamma (suc q) mean) h = gamma_mean q mean
@@ -48,13 +51,16 @@ abbrev MeanHolds : List UnitOfPlan → Fraction → Fraction → Type 0
 MeanHolds units l h = Holds (partial_sums (map aggregate_of units) Mean) (partial_sums (map aggregate_of units) One) l h
 
 pub unit_mean : (cells : ℕ) (u : UnitOfPlan) → IsValidUnit cells u → u.cede ≡ None
-    → MeanHolds (u ∷ []) (expected_count u.freq *ℚ mean_amount (pairs_of u.sev)) (expected_count u.freq *ℚ mean_amount (pairs_of u.sev))
+    → MeanHolds (u ∷ []) (expected_count u.freq *ℚ mean_amount (pairs_of u.sev))
+    (expected_count u.freq *ℚ mean_amount (pairs_of u.sev))
 unit_mean cells u h none =
     let e = expected_count u.freq in
-    let value : sum_to (greatest (weighted u.sev.items)) (λ j. whole j *ℚ (aggregate_of u).severity j) *ℚ e ≡ e *ℚ mean_amount (pairs_of u.sev) =
+    let value : sum_to (greatest (weighted u.sev.items))
+    (λ j. whole j *ℚ (aggregate_of u).severity j) *ℚ e ≡ e *ℚ mean_amount (pairs_of u.sev) =
     ap (λ m. m *ℚ e) (severity_mean u.sev) ∙ times_comm _ e in
     subst (λ v. MeanHolds (u ∷ []) v v) value
-    (mean_of_unit (aggregate_of u) (unit_declared cells u h).unit (λ s. ap (λ cede. clause_of cede s) none) e e (count_mean u.freq h.count))
+    (mean_of_unit (aggregate_of u) (unit_declared cells u h).unit (λ s. ap (λ cede. clause_of cede s) none) e e
+    (count_mean u.freq h.count))
 
 -- a total of no units is 0
 no_mean : (Q R : Series) → ((N : ℕ) → Q N ≡ whole 0) → Holds Q R (whole 0) (whole 0)
@@ -69,7 +75,8 @@ unfolding sum_over sum_over_outcomes
 units_mean cells l h [] valid each = no_mean (partial_sums [] Mean) (partial_sums [] One) (λ N. refl)
 units_mean cells l h (u ∷ us) valid each =
     let rest = All-tail (IsValidUnit cells) u us valid in
-    mean_of_total (aggregate_of u) (map aggregate_of us) (unit_declared cells u (All-head (IsValidUnit cells) u us valid)).unit
+    mean_of_total (aggregate_of u) (map aggregate_of us)
+    (unit_declared cells u (All-head (IsValidUnit cells) u us valid)).unit
     (are_units (map aggregate_of us) (units_declared cells us rest)) (l u) (h u) (sum_over us l) (sum_over us h)
     (All-head (λ v. MeanHolds (v ∷ []) (l v) (h v)) u us each)
     (units_mean cells l h us rest (All-tail (λ v. MeanHolds (v ∷ []) (l v) (h v)) u us each))

@@ -20,7 +20,7 @@ use Rattle.dl_plan.specs.Weighted.{weight_at, weight_sum}
 use Rattle.dl_plan.specs.Severity.{Pairs, probability, probability_of, pairs_of, conditioned, mass, shares, Means}
 use Rattle.dl_plan.specs.Count.{expected_count, IsUnbounded, IsCount as IsCountOfPlan}
 use Rattle.dl_plan.specs.Valid.{thinned_mean}
-use Rattle.dl_plan.proofs.Sums.{zero_over}
+use Rattle.dl_exact.proofs.Denominators.{over_zero}
 use Rattle.dl_plan.proofs.Weights.{weight_sum_pos}
 use Rattle.dl_plan.proofs.Shares.{items_over, filter-shares, probability-conditioned}
 use Rattle.dl_plan.proofs.Means.{total_pos, positive_share, weight_at-le}
@@ -49,7 +49,8 @@ parts (x ∷ xs) =
           let kept : items_over 0 (x ∷ xs) ≡ x ∷ items_over 0 xs = rw (lt-ltb 0 x.amount h) refl in
           let not_here : part_of 0 x ≡ 0 = rw (ne_eqb x.amount 0 (λ e. omega (arith, h, e))) refl in
           record {
-            none = ap (λ ys. weight_at ys 0) kept ∙ sum_by-cons (part_of 0) x (items_over 0 xs) ∙ omega (arith, not_here, rest.none);
+            none = ap (λ ys. weight_at ys 0) kept ∙ sum_by-cons (part_of 0) x (items_over 0 xs)
+                ∙ omega (arith, not_here, rest.none);
             each = λ j. ap (λ ys. weight_at ys (suc j)) kept ∙ sum_by-cons (part_of (suc j)) x (items_over 0 xs)
                 ∙ ap (λ t. part_of (suc j) x + t) (rest.each j) ∙ sym (sum_by-cons (part_of (suc j)) x xs);
             all = omega (
@@ -69,9 +70,19 @@ parts (x ∷ xs) =
           record {
             none = ap (λ ys. weight_at ys 0) dropped ∙ rest.none;
             each = λ j.
-                let other : part_of (suc j) x ≡ 0 = rw (ne_eqb x.amount (suc j) (λ e. omega (arith, at_zero, e))) refl in
-                ap (λ ys. weight_at ys (suc j)) dropped ∙ rest.each j ∙ omega (arith, sum_by-cons (part_of (suc j)) x xs, other);
-            all = omega (arith, ap weight_sum dropped, sum_by-cons (λ (i : Item). i.weight) x xs, sum_by-cons (part_of 0) x xs, here, rest.all);
+                let other : part_of (suc j) x ≡ 0 = rw (ne_eqb x.amount (suc j)
+                (λ e. omega (arith, at_zero, e))) refl in
+                ap (λ ys. weight_at ys (suc j)) dropped ∙ rest.each j
+                ∙ omega (arith, sum_by-cons (part_of (suc j)) x xs, other);
+            all = omega (
+              arith,
+              ap weight_sum dropped,
+              sum_by-cons (λ (i : Item). i.weight) x xs,
+              sum_by-cons
+                  (part_of 0) x xs,
+              here,
+              rest.all,
+            );
           }
     ]
 
@@ -99,13 +110,15 @@ module _ (sev : Sev) where
       ∙ ap (λ n. n over sev.total) (omega (arith, (parts xs).all, sev.weighted.sum))
 
   zero_within : probability_of sev 0 ≤ℚ whole 1
-  zero_within = over_le (weight_at xs 0) sev.total 1 1 pos (omega arith) (omega (arith, weight_at-le xs, sev.weighted.sum))
+  zero_within =
+      over_le (weight_at xs 0) sev.total 1 1 pos (omega arith) (omega (arith, weight_at-le xs, sev.weighted.sum))
 
   share : probability_of sev 0 +ℚ positive ≡ whole 1
   share = plus_comm _ _ ∙ sub_plus (whole 1) (probability_of sev 0) zero_within
 
   -- where some amount is positive
-  some_above : 0 < weight_sum kept → (j : ℕ) → probability_of sev (suc j) ≡ positive *ℚ weight_at kept (suc j) over weight_sum kept
+  some_above : 0 < weight_sum kept → (j : ℕ)
+      → probability_of sev (suc j) ≡ positive *ℚ weight_at kept (suc j) over weight_sum kept
   some_above some j =
       let w = weight_at kept (suc j) in
       let v = weight_sum kept in
@@ -116,8 +129,9 @@ module _ (sev : Sev) where
   -- where none is
   none_above : weight_sum kept ≡ 0 → (j : ℕ) → probability_of sev (suc j) ≡ whole 0
   none_above none j =
-      let nothing_left : weight_at xs (suc j) ≡ 0 = omega (arith, (parts xs).each j, weight_within kept (suc j), none) in
-      ap (λ n. n over sev.total) nothing_left ∙ zero_over sev.total pos
+      let nothing_left : weight_at xs (suc j) ≡ 0 =
+      omega (arith, (parts xs).each j, weight_within kept (suc j), none) in
+      ap (λ n. n over sev.total) nothing_left ∙ over_zero sev.total pos
 
   all_positive : All (λ (i : Item). 0 < i.weight) kept
   all_positive = All-filter (λ (i : Item). nat_lt 0 i.amount) (λ (i : Item). 0 < i.weight) xs sev.weighted.positive
@@ -146,12 +160,14 @@ module _ (sev : Sev) where
     | inl none ↦ record {
       no_zero = given_none none 0;
       share = share;
-      above = λ j. none_above (no_weight kept none) j ∙ sym (ap (λ t. positive *ℚ t) (given_none none (suc j)) ∙ times_zero positive);
+      above = λ j. none_above (no_weight kept none) j
+          ∙ sym (ap (λ t. positive *ℚ t) (given_none none (suc j)) ∙ times_zero positive);
     }
     | inr some ↦
         let weight : 0 < weight_sum kept = weight_sum_pos kept some all_positive in
         record {
-          no_zero = given_some weight 0 ∙ ap (λ n. n over weight_sum kept) (parts xs).none ∙ zero_over (weight_sum kept) weight;
+          no_zero = given_some weight 0 ∙ ap (λ n. n over weight_sum kept) (parts xs).none
+              ∙ over_zero (weight_sum kept) weight;
           share = share;
           above = λ j. some_above weight j ∙ ap (λ t. positive *ℚ t) (sym (given_some weight (suc j)));
         }
@@ -159,41 +175,54 @@ module _ (sev : Sev) where
 
 -- ---- of a unit
 
-part_of_means : (sev s : Sev) → Means s (conditioned 0 (pairs_of sev)) → IsPositivePart (probability_of sev) (positive sev) (probability_of s)
-part_of_means sev s means = subst (λ g. IsPositivePart (probability_of sev) (positive sev) g) (sym (fun_ext means)) (given_part sev)
+pub part_of_means : (sev s : Sev) → Means s (conditioned 0 (pairs_of sev))
+    → IsPositivePart (probability_of sev) (positive sev) (probability_of s)
+part_of_means sev s means =
+    subst (λ g. IsPositivePart (probability_of sev) (positive sev) g) (sym (fun_ext means)) (given_part sev)
 
 -- k shares of m make up m
 shares_make_up : (m : Fraction) (k : ℕ) → 0 < k → whole k *ℚ (m /ℚ whole k) ≡ m
 shares_make_up m k pos = times_comm _ _ ∙ div_times m (whole k) (whole_pos k pos)
 
-pub poisson_thinned : (u : UnitOfPlan) (s : Sev) (mean : Fraction) (h : ℕ) → u.freq ≡ Poisson mean → Means s (conditioned 0 (pairs_of u.sev))
-    → SameCells (times_itself (compound_of (Poisson (thinned_mean u /ℚ whole (2 ^ h))) s) (2 ^ h)) (compound_of u.freq u.sev)
+pub poisson_thinned : (u : UnitOfPlan) (s : Sev) (mean : Fraction) (h : ℕ) → u.freq ≡ Poisson mean
+    → Means s (conditioned 0 (pairs_of u.sev))
+    → SameCells (times_itself (compound_of (Poisson (thinned_mean u /ℚ whole (2 ^ h))) s) (2 ^ h))
+    (compound_of u.freq u.sev)
 poisson_thinned u s mean h is means =
     let k = 2 ^ h in
     let m = thinned_mean u in
-    subst (λ freq. SameCells (times_itself (compound_of (Poisson (m /ℚ whole k)) s) k) (compound_of freq u.sev)) (sym is)
-    (poisson_shares (m /ℚ whole k) mean k (probability_of u.sev) (positive u.sev) (probability_of s) (part_of_means u.sev s means)
+    subst (λ freq. SameCells (times_itself (compound_of (Poisson (m /ℚ whole k)) s) k) (compound_of freq u.sev))
+    (sym is)
+    (poisson_shares (m /ℚ whole k) mean k (probability_of u.sev) (positive u.sev) (probability_of s)
+    (part_of_means u.sev s means)
     (shares_make_up m k (pow_pos h) ∙ ap (λ freq. expected_count freq *ℚ positive u.sev) is))
 
-pub gamma_thinned : (u : UnitOfPlan) (s : Sev) (shape : ℕ) (mean : Fraction) → u.freq ≡ Gamma shape mean → 1 ≤ shape → Means s (conditioned 0 (pairs_of u.sev))
-    → SameCells (times_itself (compound_of (Gamma 1 (thinned_mean u /ℚ whole shape)) s) shape) (compound_of u.freq u.sev)
+pub gamma_thinned : (u : UnitOfPlan) (s : Sev) (shape : ℕ) (mean : Fraction) → u.freq ≡ Gamma shape mean → 1 ≤ shape
+    → Means s (conditioned 0 (pairs_of u.sev))
+    → SameCells (times_itself (compound_of (Gamma 1 (thinned_mean u /ℚ whole shape)) s) shape)
+    (compound_of u.freq u.sev)
 gamma_thinned u s zero mean is some means = absurd (omega (arith, some))
 gamma_thinned u s (suc q) mean is some means =
     let m = thinned_mean u in
-    subst (λ freq. SameCells (times_itself (compound_of (Gamma 1 (m /ℚ whole (suc q))) s) (suc q)) (compound_of freq u.sev)) (sym is)
-    (gamma_shares q (m /ℚ whole (suc q)) mean (probability_of u.sev) (positive u.sev) (probability_of s) (part_of_means u.sev s means)
+    subst (λ freq. SameCells (times_itself (compound_of (Gamma 1 (m /ℚ whole (suc q))) s) (suc q))
+    (compound_of freq u.sev)) (sym is)
+    (gamma_shares q (m /ℚ whole (suc q)) mean (probability_of u.sev) (positive u.sev) (probability_of s)
+    (part_of_means u.sev s means)
     (shares_make_up m (suc q) (omega arith) ∙ ap (λ freq. expected_count freq *ℚ positive u.sev) is))
 
 -- where the thinned mean is 0 there is no loss
-pub none_thinned : (freq : Freq) (sev : Sev) → IsCountOfPlan freq → IsUnbounded freq → expected_count freq *ℚ positive sev ≡ whole 0
+pub none_thinned : (freq : Freq) (sev : Sev) → IsCountOfPlan freq → IsUnbounded freq
+    → expected_count freq *ℚ positive sev ≡ whole 0
     → SameCells nothing (compound_of freq sev)
 none_thinned (Fixed m) sev h bounded none = absurd bounded
 none_thinned (Table counts total) sev h bounded none = absurd bounded
 none_thinned (Bernoulli q) sev h bounded none = absurd bounded
 none_thinned (Binomial trials q) sev h bounded none = absurd bounded
-none_thinned (Poisson mean) sev h unbounded none = poisson_no_loss mean (positive sev) (probability_of sev) (given sev) (given_part sev) none
+none_thinned (Poisson mean) sev h unbounded none =
+    poisson_no_loss mean (positive sev) (probability_of sev) (given sev) (given_part sev) none
 none_thinned (Gamma zero mean) sev h unbounded none = absurd (omega (arith, h))
-none_thinned (Gamma (suc q) mean) sev h unbounded none = gamma_no_loss q mean (positive sev) (probability_of sev) (given sev) (given_part sev) none
+none_thinned (Gamma (suc q) mean) sev h unbounded none =
+    gamma_no_loss q mean (positive sev) (probability_of sev) (given sev) (given_part sev) none
 
 no_item : (xs : List Item) → All (λ (i : Item). i.amount ≤ 0) xs → weight_sum (items_over 0 xs) ≡ 0
 no_item [] h = refl
@@ -206,5 +235,6 @@ no_item (x ∷ xs) h =
 
 pub no_amount_thinned : (u : UnitOfPlan) → All (λ (i : Item). i.amount ≤ 0) u.sev.items → thinned_mean u ≡ whole 0
 no_amount_thinned u h =
-    ap (λ p. expected_count u.freq *ℚ p) (kept_share u.sev ∙ ap (λ n. n over u.sev.total) (no_item u.sev.items h) ∙ zero_over u.sev.total (pos u.sev))
+    ap (λ p. expected_count u.freq *ℚ p) (kept_share u.sev ∙ ap (λ n. n over u.sev.total) (no_item u.sev.items h)
+    ∙ over_zero u.sev.total (pos u.sev))
     ∙ times_zero _

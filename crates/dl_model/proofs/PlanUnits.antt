@@ -29,7 +29,8 @@ use Rattle.dl_model.proofs.ItemWeights.{shares_severity}
 
 floor_le : (x : Fraction) (n : ℕ) → x ≤ℚ whole n → x.num / x.den ≤ n
 floor_le x n h =
-    let cross : x.num * 1 ≤ n * x.den = le_over x.num x.den n 1 x.positive (omega arith) (subst (λ y. y ≤ℚ whole n) (sym (over_self x)) h) in
+    let cross : x.num * 1 ≤ n * x.den = le_over x.num x.den n 1 x.positive (omega arith)
+    (subst (λ y. y ≤ℚ whole n) (sym (over_self x)) h) in
     div-le_of_le-mul x.den (omega (arith, cross))
 
 pub kept_within : (clause : Clause) (s : ℕ) → IsCession clause → kept clause s ≤ℚ whole s
@@ -38,7 +39,8 @@ kept_within clause s h =
     subst (λ y. y ≤ℚ whole s) (sym (kept_is clause s))
     (over_le (kept_parts clause c s) c s 1 (bucket_pos clause) (omega arith) (omega (arith, kept_le clause c s h)))
 
-pub clause_within : (cells : ℕ) (sev : Sev) (cede : Option Clause) → IfSome cede (IsAggregate cells sev) → (s : ℕ) → clause_of cede s ≤ s
+pub clause_within : (cells : ℕ) (sev : Sev) (cede : Option Clause) → IfSome cede (IsAggregate cells sev) → (s : ℕ)
+    → clause_of cede s ≤ s
 clause_within cells sev None h s = le_refl_n s
 clause_within cells sev (Some clause) h s = floor_le (kept clause s) s (kept_within clause s h.cession)
 
@@ -57,14 +59,21 @@ count_declared (Gamma (suc q) mean) h = gamma_of_count q mean
 
 pub unit_declared : (cells : ℕ) (u : UnitOfPlan) → IsValidUnit cells u → IsDeclared (aggregate_of u)
 unit_declared cells u h = record {
-  unit = record { severity = shares_severity u.sev.items u.sev.total u.sev.weighted; clause = clause_within cells u.sev u.cede h.clause };
+  unit = record {
+    severity = shares_severity u.sev.items u.sev.total u.sev.weighted;
+    clause = clause_within cells u.sev u.cede h.clause;
+  };
   count = count_declared u.freq h.count;
 }
 
-pub units_declared : (cells : ℕ) (units : List UnitOfPlan) → All (IsValidUnit cells) units → AreDeclared (map aggregate_of units)
+pub units_declared : (cells : ℕ) (units : List UnitOfPlan) → All (IsValidUnit cells) units
+    → AreDeclared (map aggregate_of units)
 units_declared cells [] h = tt
-units_declared cells (u ∷ us) h =
-    (unit_declared cells u (All-head (IsValidUnit cells) u us h), units_declared cells us (All-tail (IsValidUnit cells) u us h))
+units_declared cells (u ∷ us) h = (
+  unit_declared cells u (All-head (IsValidUnit cells) u us h),
+  units_declared cells us
+      (All-tail (IsValidUnit cells) u us h),
+)
 
 pub plan_declared : (plan : Plan) → IsValid plan → AreDeclared (aggregates_of plan)
 plan_declared plan h = units_declared plan.cells plan.units h.units

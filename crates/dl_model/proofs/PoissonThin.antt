@@ -40,19 +40,24 @@ module _ (v : Fraction) (f : ℕ → Fraction) (p : Fraction) (g : ℕ → Fract
       ∙ poisson_plus (v *ℚ f zero) (v *ℚ p) n
 
   -- thinning: claims of amount 0 can be left out of a Poisson count
-  pub thin_poisson : (y : ℕ) → SameValue (cell (poisson v) f y) (λ N. sum_to N (poisson v)) (cell (poisson (v *ℚ p)) g y) (λ N. sum_to N (poisson (v *ℚ p)))
+  pub thin_poisson : (y : ℕ) → SameValue (cell (poisson v) f y) (λ N. sum_to N (poisson v))
+      (cell (poisson (v *ℚ p)) g y) (λ N. sum_to N (poisson (v *ℚ p)))
   unfolding none some sum_to
   thin_poisson y =
       let E : Series = λ N. sum_to N none in
       let Q : Series = cell (poisson (v *ℚ p)) g y in
       let R : Series = λ N. sum_to N some in
       let q : ℕ → Fraction = λ j. some j *ℚ power g j y in
-      let cells : (N : ℕ) → cell (poisson v) f y N ≡ sum_to N (convolve none q) = λ N. sum_to_same N _ _ (λ n b. split_poisson n y) in
-      let all : (N : ℕ) → sum_to N (poisson v) ≡ sum_to N (convolve none some) = λ N. sum_to_same N _ _ (λ n b. split_all n) in
+      let cells : (N : ℕ) → cell (poisson v) f y N ≡ sum_to N (convolve none q) =
+      λ N. sum_to_same N _ _ (λ n b. split_poisson n y) in
+      let all : (N : ℕ) → sum_to N (poisson v) ≡ sum_to N (convolve none some) =
+      λ N. sum_to_same N _ _ (λ n b. split_all n) in
       value_trans _ _ (times E Q) (times E R) _ _
       (same_value _ _ (times E Q) (times E R)
       (λ N. (N, subst (λ t. t ≤ℚ E N *ℚ Q N) (sym (cells N)) (cauchy_low N none q)))
       (λ N. (N + N, subst (λ t. E N *ℚ Q N ≤ℚ t) (sym (cells (N + N))) (cauchy_high N none q)))
       (λ N. (N, subst (λ t. t ≤ℚ E N *ℚ R N) (sym (all N)) (cauchy_low N none some)))
       (λ N. (N + N, subst (λ t. E N *ℚ R N ≤ℚ t) (sym (all (N + N))) (cauchy_high N none some))))
-      (cancel_value E (sum_rises_to none) _ zero (poisson_bound (v *ℚ f zero)) (subst (λ t. whole 0 <ℚ t) (sym (poisson_zero (v *ℚ f zero))) (whole_pos 1 (zero-lt-suc zero))) Q R (sum_rises_to q) (sum_rises_to some))
+      (cancel_value E (sum_rises_to none) _ zero (poisson_bound (v *ℚ f zero))
+      (subst (λ t. whole 0 <ℚ t) (sym (poisson_zero (v *ℚ f zero))) (whole_pos 1 (zero-lt-suc zero))) Q R
+      (sum_rises_to q) (sum_rises_to some))

@@ -18,7 +18,8 @@ use Rattle.dl_model.proofs.Alike.{value_trans, value_sym}
 pub poisson_none : (n : ℕ) → at_zero n ≡ poisson (whole 0) n
 unfolding at_zero
 poisson_none zero = sym (poisson_zero (whole 0))
-poisson_none (suc n) = times_cancel _ _ (whole (suc n)) (whole_pos (suc n) (zero-lt-suc n)) (zero_times _ ∙ sym (poisson_next (whole 0) n ∙ zero_times _))
+poisson_none (suc n) = times_cancel _ _ (whole (suc n)) (whole_pos (suc n) (zero-lt-suc n))
+    (zero_times _ ∙ sym (poisson_next (whole 0) n ∙ zero_times _))
 
 pub poisson_power : (u : Fraction) (k : ℕ) → power (poisson u) k ≡ poisson (whole k *ℚ u)
 unfolding power
@@ -26,13 +27,17 @@ poisson_power u zero = fun_ext poisson_none ∙ ap poisson (sym (zero_times u))
 poisson_power u (suc k) =
     ap (convolve (poisson u)) (poisson_power u k)
     ∙ fun_ext (λ n. sym (poisson_plus u (whole k *ℚ u) n))
-    ∙ ap poisson (ap (λ t. t +ℚ whole k *ℚ u) (sym (one_times u)) ∙ sym (plus_times (whole 1) (whole k) u) ∙ ap (λ t. t *ℚ u) (plus_comm (whole 1) (whole k) ∙ sym (whole_suc k)))
+    ∙ ap poisson (ap (λ t. t +ℚ whole k *ℚ u) (sym (one_times u)) ∙ sym (plus_times (whole 1) (whole k) u)
+    ∙ ap (λ t. t *ℚ u) (plus_comm (whole 1) (whole k) ∙ sym (whole_suc k)))
 
 -- k shares of mean u over the amounts above 0, against mean v over all amounts
-pub poisson_shares : (u v : Fraction) (k : ℕ) (f : ℕ → Fraction) (p : Fraction) (g : ℕ → Fraction) → IsPositivePart f p g → whole k *ℚ u ≡ v *ℚ p → (y : ℕ)
-    → SameValue ((times_itself (compound (poisson u) g) k).cells y) ((times_itself (compound (poisson u) g) k).all) (cell (poisson v) f y) (λ N. sum_to N (poisson v))
+pub poisson_shares : (u v : Fraction) (k : ℕ) (f : ℕ → Fraction) (p : Fraction) (g : ℕ → Fraction)
+    → IsPositivePart f p g → whole k *ℚ u ≡ v *ℚ p → (y : ℕ)
+    → SameValue ((times_itself (compound (poisson u) g) k).cells y) ((times_itself (compound (poisson u) g) k).all)
+    (cell (poisson v) f y) (λ N. sum_to N (poisson v))
 poisson_shares u v k f p g h e y =
     let w : power (poisson u) k ≡ poisson (v *ℚ p) = poisson_power u k ∙ ap poisson e in
     value_trans _ _ (cell (poisson (v *ℚ p)) g y) (λ N. sum_to N (poisson (v *ℚ p))) _ _
-    (subst (λ q. SameValue ((times_itself (compound (poisson u) g) k).cells y) ((times_itself (compound (poisson u) g) k).all) (cell q g y) (λ N. sum_to N q)) w (itself_value (poisson u) g k y))
+    (subst (λ q. SameValue ((times_itself (compound (poisson u) g) k).cells y)
+    ((times_itself (compound (poisson u) g) k).all) (cell q g y) (λ N. sum_to N q)) w (itself_value (poisson u) g k y))
     (value_sym _ _ _ _ (thin_poisson v f p g h y))

@@ -8,14 +8,10 @@ use Rattle.dl_exact.proofs.Over.{over_same, over_mul, over_self, over_le}
 use Rattle.dl_exact.proofs.Laws.{one_pos, times_comm, times_assoc, times_left_comm, times_one, times_cancel, le_refl, le_trans, plus_le_both, le_plus, times_le_times, times_le_cancel, plus_times, plus_assoc, whole_pos}
 use Rattle.dl_exact.proofs.RoundingLaws.{whole_le}
 use Rattle.dl_exact.proofs.Sums.{sum_to_grows, sum_pairs_same, sum_pairs_times, sum_pairs_weighed}
+use Rattle.dl_exact.proofs.Powers.{factorial_pos}
 use Rattle.dl_model.specs.Series.{IsBound}
 use Rattle.dl_model.specs.Compound.{convolve}
 use Rattle.dl_model.specs.Counts.{poisson}
-
-factorial_pos : (n : ℕ) → 0 < factorial n
-unfolding factorial
-factorial_pos zero = one_pos
-factorial_pos (suc n) = mul-pos (zero-lt-suc n) (factorial_pos n)
 
 poisson_den : (v : Fraction) (n : ℕ) → 0 < v.den ^ n * factorial n
 poisson_den v n = mul-pos (one-le-pow n v.den v.positive) (factorial_pos n)
@@ -37,19 +33,22 @@ poisson_next v n =
 -- ---- bounds
 
 -- weights that at least halve from K on
-pub halving_bound : (w : ℕ → Fraction) (K : ℕ) → ((n : ℕ) → K ≤ n → w (suc n) +ℚ w (suc n) ≤ℚ w n) → IsBound (λ N. sum_to N w) (sum_to K w +ℚ w K)
+pub halving_bound : (w : ℕ → Fraction) (K : ℕ) → ((n : ℕ) → K ≤ n → w (suc n) +ℚ w (suc n) ≤ℚ w n)
+    → IsBound (λ N. sum_to N w) (sum_to K w +ℚ w K)
 unfolding sum_to
 halving_bound w K h N = le_trans _ _ _ (sum_to_grows N (K + N) w (omega arith)) (le_trans _ _ _ (le_plus _ _) (falls N))
   where
     falls : (m : ℕ) → sum_to (K + m) w +ℚ w (K + m) ≤ℚ sum_to K w +ℚ w K
     falls zero = subst (λ k. sum_to k w +ℚ w k ≤ℚ sum_to K w +ℚ w K) (sym (add-zero K)) (le_refl _)
     falls (suc m) = subst (λ k. sum_to k w +ℚ w k ≤ℚ sum_to K w +ℚ w K) (sym (add-suc K m))
-        (le_trans _ _ _ (subst (λ t. t ≤ℚ sum_to (K + m) w +ℚ w (K + m)) (sym (plus_assoc _ _ _)) (plus_le_both _ _ _ _ (le_refl (sum_to (K + m) w)) (h (K + m) (omega arith)))) (falls m))
+        (le_trans _ _ _ (subst (λ t. t ≤ℚ sum_to (K + m) w +ℚ w (K + m)) (sym (plus_assoc _ _ _))
+        (plus_le_both _ _ _ _ (le_refl (sum_to (K + m) w)) (h (K + m) (omega arith)))) (falls m))
 
 twice_below : (v : Fraction) (n : ℕ) → v.num + v.num ≤ n → v +ℚ v ≤ℚ whole (suc n)
 unfolding ◌+ℚ◌
 twice_below v n h =
-    let wide : (v.num + v.num) * v.den ≤ suc n * (v.den * v.den) = mul-le-mul (omega arith) (le-mul_of_pos_right v.den v.positive) in
+    let wide : (v.num + v.num) * v.den ≤ suc n * (v.den * v.den) =
+    mul-le-mul (omega arith) (le-mul_of_pos_right v.den v.positive) in
     over_le _ _ _ _ (mul-pos v.positive v.positive) one_pos (omega (arith, wide))
 
 -- where twice the mean is at most n + 1, the next weight is at most half of the last
@@ -57,16 +56,20 @@ halves : (v : Fraction) (n : ℕ) → v +ℚ v ≤ℚ whole (suc n) → poisson 
 halves v n twice =
     let S = whole (suc n) in
     times_le_cancel _ _ S (whole_pos (suc n) (zero-lt-suc n))
-    (subst₂ (λ s t. s ≤ℚ t) (sym (plus_times _ _ S ∙ ap (λ t. t +ℚ t) (poisson_next v n) ∙ sym (plus_times v v (poisson v n)))) (times_comm _ _)
+    (subst₂ (λ s t. s ≤ℚ t) (sym (plus_times _ _ S ∙ ap (λ t. t +ℚ t) (poisson_next v n)
+    ∙ sym (plus_times v v (poisson v n)))) (times_comm _ _)
     (times_le_times _ _ (poisson v n) twice))
 
 pub poisson_halves : (v : Fraction) (n : ℕ) → v.num + v.num ≤ n → poisson v (suc n) +ℚ poisson v (suc n) ≤ℚ poisson v n
 poisson_halves v n h = halves v n (twice_below v n h)
 
-pub poisson_bound_from : (v : Fraction) (K : ℕ) → v +ℚ v ≤ℚ whole (suc K) → IsBound (λ N. sum_to N (poisson v)) (sum_to K (poisson v) +ℚ poisson v K)
-poisson_bound_from v K h = halving_bound (poisson v) K (λ n b. halves v n (le_trans _ _ _ h (whole_le (suc K) (suc n) (omega arith))))
+pub poisson_bound_from : (v : Fraction) (K : ℕ) → v +ℚ v ≤ℚ whole (suc K)
+    → IsBound (λ N. sum_to N (poisson v)) (sum_to K (poisson v) +ℚ poisson v K)
+poisson_bound_from v K h =
+    halving_bound (poisson v) K (λ n b. halves v n (le_trans _ _ _ h (whole_le (suc K) (suc n) (omega arith))))
 
-pub poisson_bound : (v : Fraction) → IsBound (λ N. sum_to N (poisson v)) (sum_to (v.num + v.num) (poisson v) +ℚ poisson v (v.num + v.num))
+pub poisson_bound : (v : Fraction) → IsBound (λ N. sum_to N (poisson v))
+    (sum_to (v.num + v.num) (poisson v) +ℚ poisson v (v.num + v.num))
 poisson_bound v = halving_bound (poisson v) (v.num + v.num) (poisson_halves v)
 
 -- ---- sums
@@ -77,7 +80,8 @@ next_of v n = times_comm _ _ ∙ poisson_next v n
 -- the sum of two Poisson counts is one
 pub poisson_plus : (u v : Fraction) (n : ℕ) → poisson (u +ℚ v) n ≡ convolve (poisson u) (poisson v) n
 unfolding sum_pairs
-poisson_plus u v zero = poisson_zero (u +ℚ v) ∙ sym (ap₂ (λ s t. s *ℚ t) (poisson_zero u) (poisson_zero v) ∙ times_one _)
+poisson_plus u v zero =
+    poisson_zero (u +ℚ v) ∙ sym (ap₂ (λ s t. s *ℚ t) (poisson_zero u) (poisson_zero v) ∙ times_one _)
 poisson_plus u v (suc n) =
     times_cancel _ _ (whole (suc n)) (whole_pos (suc n) (zero-lt-suc n))
     (poisson_next (u +ℚ v) n
@@ -85,6 +89,8 @@ poisson_plus u v (suc n) =
     ∙ plus_times u v _
     ∙ sym (sum_pairs_weighed n (λ i j. poisson u i *ℚ poisson v j)
     ∙ ap₂ (λ s t. s +ℚ t)
-    (sum_pairs_same n _ _ (λ i j e. sym (times_assoc _ _ _) ∙ ap (λ s. s *ℚ poisson v j) (next_of u i) ∙ times_assoc _ _ _) ∙ sum_pairs_times n u _)
-    (sum_pairs_same n _ _ (λ i j e. times_left_comm _ _ _ ∙ ap (λ s. poisson u i *ℚ s) (next_of v j) ∙ times_left_comm _ _ _) ∙ sum_pairs_times n v _))
+    (sum_pairs_same n _ _ (λ i j e. sym (times_assoc _ _ _) ∙ ap (λ s. s *ℚ poisson v j) (next_of u i)
+    ∙ times_assoc _ _ _) ∙ sum_pairs_times n u _)
+    (sum_pairs_same n _ _ (λ i j e. times_left_comm _ _ _ ∙ ap (λ s. poisson u i *ℚ s) (next_of v j)
+    ∙ times_left_comm _ _ _) ∙ sum_pairs_times n v _))
     ∙ times_comm _ _)

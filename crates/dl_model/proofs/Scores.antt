@@ -3,10 +3,10 @@ use Rattle.std.proofs.Common.{◌≡◌, inl, inr, ℕ, suc, zero, ◌+◌, ◌-
 use Rattle.std.specs.Prelude.{sum, Some, None}
 use Rattle.std.proofs.lemmas.Bool.{cases_lt, lt-leb, le-leb, lt-ltb, le-ltb}
 use Rattle.dl_exact.specs.Fraction.{Fraction, ◌+ℚ◌, whole}
-use Rattle.dl_exact.specs.Sum.{sum_to}
+use Rattle.dl_exact.specs.Sum.{sum_to, sum_below}
 use Rattle.dl_exact.proofs.Laws.{zero_plus, plus_zero, whole_plus}
 use Rattle.dl_model.specs.Program.{Aggregate, One, Point, Cdf, Layer, Mean, where_true, score, partial_sums}
-use Rattle.dl_model.specs.Measures.{sum_below, above, survival}
+use Rattle.dl_model.specs.Measures.{above, survival}
 use Rattle.dl_model.proofs.Outcomes.{outcomes_same, outcomes_plus, outcomes_sum, outcomes_below}
 
 abbrev chosen : Bool → Fraction
@@ -19,14 +19,21 @@ points_to zero t = elim (cases_lt 0 t) [
   | inr l ↦ ap chosen (le-leb t 0 l) ∙ sym (ap chosen (eq-eqb t 0 (omega arith)))
 ]
 points_to (suc x) t = elim (cases_lt x t) [
-  | inr l ↦ ap chosen (le-leb t (suc x) (omega arith)) ∙ sym (ap₂ (λ a b. a +ℚ b) (sym (points_to x t) ∙ ap chosen (le-leb t x l)) (ap chosen (ne_eqb t (suc x) (omega arith))) ∙ plus_zero _)
+  | inr l ↦ ap chosen (le-leb t (suc x) (omega arith))
+      ∙ sym (ap₂ (λ a b. a +ℚ b) (sym (points_to x t) ∙ ap chosen (le-leb t x l))
+      (ap chosen (ne_eqb t (suc x) (omega arith))) ∙ plus_zero _)
   | inl l ↦ elim (cases_lt (suc x) t) [
-    | inl g ↦ ap chosen (lt-leb t (suc x) g) ∙ sym (ap₂ (λ a b. a +ℚ b) (sym (points_to x t) ∙ ap chosen (lt-leb t x l)) (ap chosen (ne_eqb t (suc x) (omega arith))) ∙ plus_zero _)
-    | inr g ↦ ap chosen (le-leb t (suc x) g) ∙ sym (ap₂ (λ a b. a +ℚ b) (sym (points_to x t) ∙ ap chosen (lt-leb t x l)) (ap chosen (eq-eqb t (suc x) (omega arith))) ∙ zero_plus _)
+    | inl g ↦ ap chosen (lt-leb t (suc x) g)
+        ∙ sym (ap₂ (λ a b. a +ℚ b) (sym (points_to x t) ∙ ap chosen (lt-leb t x l))
+        (ap chosen (ne_eqb t (suc x) (omega arith))) ∙ plus_zero _)
+    | inr g ↦ ap chosen (le-leb t (suc x) g)
+        ∙ sym (ap₂ (λ a b. a +ℚ b) (sym (points_to x t) ∙ ap chosen (lt-leb t x l))
+        (ap chosen (eq-eqb t (suc x) (omega arith))) ∙ zero_plus _)
   ]
 ]
 
-pub cdf_points : (us : List Aggregate) (x N : ℕ) → partial_sums us (Cdf x) N ≡ sum_to x (λ y. partial_sums us (Point y) N)
+pub cdf_points : (us : List Aggregate) (x N : ℕ)
+    → partial_sums us (Cdf x) N ≡ sum_to x (λ y. partial_sums us (Point y) N)
 cdf_points us x N = outcomes_same us _ _ N (λ ys. points_to x (sum ys)) ∙ outcomes_sum us x (λ y. score (Point y)) N
 
 pub above_cdf : (x t : ℕ) → where_true (nat_lt x t) (whole 1) +ℚ where_true (nat_le t x) (whole 1) ≡ whole 1
@@ -35,7 +42,8 @@ above_cdf x t = elim (cases_lt x t) [
   | inr l ↦ ap₂ (λ a b. a +ℚ b) (ap chosen (le-ltb x t l)) (ap chosen (le-leb t x l)) ∙ zero_plus _
 ]
 
-pub survival_rest : (us : List Aggregate) (x N : ℕ) → survival us x N +ℚ partial_sums us (Cdf x) N ≡ partial_sums us One N
+pub survival_rest : (us : List Aggregate) (x N : ℕ)
+    → survival us x N +ℚ partial_sums us (Cdf x) N ≡ partial_sums us One N
 survival_rest us x N = sym (outcomes_plus us _ _ N) ∙ outcomes_same us _ _ N (λ ys. above_cdf x (sum ys))
 
 pub layer_tails : (L A t : ℕ) → whole (min (t - A) L) ≡ sum_below L (λ i. where_true (nat_lt (A + i) t) (whole 1))
@@ -50,11 +58,14 @@ layer_tails (suc L) A t = elim (cases_lt (A + L) t) [
       ap whole e ∙ sym (plus_zero _) ∙ ap₂ (λ a b. a +ℚ b) (layer_tails L A t) (sym (ap chosen (le-ltb (A + L) t l)))
 ]
 
-pub layer_survivals : (us : List Aggregate) (L A N : ℕ) → partial_sums us (Layer (Some L) A) N ≡ sum_below L (λ i. survival us (A + i) N)
-layer_survivals us L A N = outcomes_same us _ _ N (λ ys. layer_tails L A (sum ys)) ∙ outcomes_below us L (λ i. above (A + i)) N
+pub layer_survivals : (us : List Aggregate) (L A N : ℕ)
+    → partial_sums us (Layer (Some L) A) N ≡ sum_below L (λ i. survival us (A + i) N)
+layer_survivals us L A N =
+    outcomes_same us _ _ N (λ ys. layer_tails L A (sum ys)) ∙ outcomes_below us L (λ i. above (A + i)) N
 
 pub mean_parts : (A t : ℕ) → whole (t - A) +ℚ whole (min (t - 0) A) ≡ whole t
 mean_parts A t = sym (whole_plus _ _) ∙ ap whole (omega arith)
 
-pub mean_split : (us : List Aggregate) (A N : ℕ) → partial_sums us (Layer None A) N +ℚ partial_sums us (Layer (Some A) 0) N ≡ partial_sums us Mean N
+pub mean_split : (us : List Aggregate) (A N : ℕ)
+    → partial_sums us (Layer None A) N +ℚ partial_sums us (Layer (Some A) 0) N ≡ partial_sums us Mean N
 mean_split us A N = sym (outcomes_plus us _ _ N) ∙ outcomes_same us _ _ N (λ ys. mean_parts A (sum ys))

@@ -6,28 +6,31 @@ use Rattle.dl_exact.specs.Sum.{sum_to}
 use Rattle.dl_model.specs.Series.{IsBound, AtLeast, Settles}
 use Rattle.dl_model.specs.Compound.{convolve, at_zero, power, cell}
 use Rattle.dl_model.specs.Counts.{poisson}
-use Rattle.dl_exact.proofs.Laws.{plus_comm, times_comm, plus_times, times_plus, one_times, times_one, whole_suc, whole_pos, le_refl, le_trans, le_of_eq, le_of_lt, le_plus, plus_le_both, times_le_cancel, times_le_times, archimedes}
-use Rattle.dl_model.proofs.Declared.{times_le_both}
+use Rattle.dl_exact.proofs.Laws.{plus_comm, times_comm, plus_times, times_plus, one_times, times_one, whole_suc, whole_pos, le_refl, le_trans, le_of_eq, le_of_lt, le_plus, plus_le_both, times_le_cancel, times_le_times, archimedes, times_le_both}
 use Rattle.dl_exact.proofs.Sums.{sum_to_same, sum_to_le, sum_to_grows, sum_to_times, sum_to_swap, sum_to_product}
 use Rattle.dl_model.proofs.PoissonWeights.{halving_bound, poisson_halves, poisson_zero}
 use Rattle.dl_model.proofs.Cauchy.{square_le_triangle}
 
 -- weights that halve from K on come below every fraction
-falls_far : (w : ℕ → Fraction) (K : ℕ) → ((n : ℕ) → K ≤ n → w (suc n) +ℚ w (suc n) ≤ℚ w n) → (m : ℕ) → whole (suc m) *ℚ w (K + m) ≤ℚ w K
+falls_far : (w : ℕ → Fraction) (K : ℕ) → ((n : ℕ) → K ≤ n → w (suc n) +ℚ w (suc n) ≤ℚ w n) → (m : ℕ)
+    → whole (suc m) *ℚ w (K + m) ≤ℚ w K
 falls_far w K h zero = le_of_eq _ _ (one_times _ ∙ ap w (add-zero K))
 falls_far w K h (suc m) =
     let k : K + suc m ≡ suc (K + m) = omega arith in
     let x : Fraction = w (suc (K + m)) in
-    let a : whole (suc m) *ℚ (x +ℚ x) ≤ℚ whole (suc m) *ℚ w (K + m) = times_le_both _ _ _ _ (le_refl _) (h (K + m) (omega arith)) in
+    let a : whole (suc m) *ℚ (x +ℚ x) ≤ℚ whole (suc m) *ℚ w (K + m) =
+    times_le_both _ _ _ _ (le_refl _) (h (K + m) (omega arith)) in
     let b : whole (suc (suc m)) *ℚ x ≤ℚ whole (suc m) *ℚ (x +ℚ x) =
     subst₂ (λ s t. s ≤ℚ t) (sym (ap (λ t. t *ℚ x) (whole_suc (suc m)) ∙ plus_times _ _ x)) (sym (times_plus _ x x))
     (plus_le_both _ _ _ _ (le_refl _) (times_le_times _ _ x (one_le m))) in
     subst (λ n. whole (suc (suc m)) *ℚ w n ≤ℚ w K) (sym k) (le_trans _ _ _ b (le_trans _ _ _ a (falls_far w K h m)))
   where
     one_le : (m : ℕ) → whole 1 ≤ℚ whole (suc m)
-    one_le m = subst (λ t. whole 1 ≤ℚ t) (plus_comm (whole 1) (whole m) ∙ sym (whole_suc m)) (le_plus (whole 1) (whole m))
+    one_le m =
+        subst (λ t. whole 1 ≤ℚ t) (plus_comm (whole 1) (whole m) ∙ sym (whole_suc m)) (le_plus (whole 1) (whole m))
 
-small : (w : ℕ → Fraction) (K : ℕ) → ((n : ℕ) → K ≤ n → w (suc n) +ℚ w (suc n) ≤ℚ w n) → (q : Fraction) → whole 0 <ℚ q → (m : ℕ) × (w (K + m) ≤ℚ q)
+small : (w : ℕ → Fraction) (K : ℕ) → ((n : ℕ) → K ≤ n → w (suc n) +ℚ w (suc n) ≤ℚ w n) → (q : Fraction) → whole 0 <ℚ q
+    → (m : ℕ) × (w (K + m) ≤ℚ q)
 small w K h q qp =
     let a = archimedes (w K) q qp in
     let k = a.0 in (
@@ -39,7 +42,8 @@ small w K h q qp =
     )
 
 -- where sums of halving weights begin with at least 1, they settle
-pub halving_settles : (w : ℕ → Fraction) (K : ℕ) → ((n : ℕ) → K ≤ n → w (suc n) +ℚ w (suc n) ≤ℚ w n) → whole 1 ≤ℚ w zero → Settles (λ N. sum_to N w)
+pub halving_settles : (w : ℕ → Fraction) (K : ℕ) → ((n : ℕ) → K ≤ n → w (suc n) +ℚ w (suc n) ≤ℚ w n)
+    → whole 1 ≤ℚ w zero → Settles (λ N. sum_to N w)
 unfolding sum_to
 halving_settles w K h start p q one qp =
     let s = small w K h q qp in
@@ -53,33 +57,10 @@ halving_settles w K h start p q one qp =
     (le_trans _ _ _ (times_le_both p (whole 1) _ _ p_le (s.1)) (times_le_times _ _ q ge))) in (
       M,
       λ n. le_trans _ _ _ (times_le_both p p _ _ (le_refl p) (bound n))
-          (subst₂ (λ s t. s ≤ℚ t) (sym (times_plus p R (w M))) (sym (plus_times p q R) ∙ ap (λ t. t *ℚ R) one ∙ one_times R)
+          (subst₂ (λ s t. s ≤ℚ t) (sym (times_plus p R (w M)))
+          (sym (plus_times p q R) ∙ ap (λ t. t *ℚ R) one ∙ one_times R)
           (plus_le_both _ _ _ _ (le_refl (p *ℚ R)) rest)),
     )
 
 pub poisson_settles : (v : Fraction) → Settles (λ N. sum_to N (poisson v))
 poisson_settles v = halving_settles (poisson v) (v.num + v.num) (poisson_halves v) (le_of_eq _ _ (sym (poisson_zero v)))
-
--- n claims of amounts up to m come to no more than n * m
-power_whole : (f : ℕ → Fraction) (m : ℕ) → whole 1 ≤ℚ sum_to m f → (n : ℕ) → whole 1 ≤ℚ sum_to (n * m) (power f n)
-unfolding power sum_to at_zero
-power_whole f m h zero = subst (λ k. whole 1 ≤ℚ sum_to k at_zero) (sym (zero-mul m)) (le_refl _)
-power_whole f m h (suc n) =
-    let e : suc n * m ≡ m + n * m = omega arith in
-    subst (λ k. whole 1 ≤ℚ sum_to k (convolve f (power f n))) (sym e)
-    (le_trans _ _ _ (subst (λ t. t ≤ℚ sum_to m f *ℚ sum_to (n * m) (power f n)) (times_one _) (times_le_both _ _ _ _ h (power_whole f m h n)))
-    (subst (λ t. t ≤ℚ sum_to (m + n * m) (convolve f (power f n))) (sum_to_product m (n * m) f (power f n)) (square_le_triangle m (n * m) (λ i j. f i *ℚ power f n j))))
-
--- the whole weight up to K claims stands in the cells up to K * m
-cells_whole : (w f : ℕ → Fraction) (m K : ℕ) → whole 1 ≤ℚ sum_to m f → sum_to K w ≤ℚ sum_to (K * m) (λ y. cell w f y K)
-cells_whole w f m K h =
-    subst (λ t. sum_to K w ≤ℚ t) (sum_to_same K _ _ (λ n b. sym (sum_to_times (K * m) (w n) (power f n))) ∙ sum_to_swap K (K * m) (λ n y. w n *ℚ power f n y))
-    (sum_to_le K _ _ (λ n b. subst (λ t. t ≤ℚ w n *ℚ sum_to (K * m) (power f n)) (times_one _)
-    (times_le_both _ _ _ _ (le_refl (w n)) (le_trans _ _ _ (power_whole f m h n) (sum_to_grows (n * m) (K * m) (power f n) (mul-le-mul_right m b))))))
-
--- every share below 1 of the whole stands below some outcome
-pub compound_whole : (w f : ℕ → Fraction) (m : ℕ) → whole 1 ≤ℚ sum_to m f → Settles (λ N. sum_to N w) → (p q : Fraction) → p +ℚ q ≡ whole 1 → whole 0 <ℚ q
-    → (x : ℕ) × AtLeast (λ N. sum_to x (λ y. cell w f y N)) (λ N. sum_to N w) p
-compound_whole w f m h s p q one qp =
-    let k = s p q one qp in
-    (k.0 * m, λ n u b. le_trans _ _ _ (k.1 n) (le_trans _ _ _ (cells_whole w f m k.0 h) (b k.0)))

@@ -6,8 +6,8 @@ use Rattle.dl_exact.specs.Sum.{sum_to}
 use Rattle.dl_model.specs.Series.{Series, Rises, times, Settles}
 use Rattle.dl_model.specs.Compound.{convolve}
 use Rattle.dl_model.specs.Counts.{gamma}
-use Rattle.dl_exact.proofs.Laws.{ring, plus_comm, times_comm, plus_times, plus_assoc, times_plus, one_times, times_one, whole_suc, whole_plus, whole_pos, le_refl, le_trans, le_of_eq, le_of_lt, le_plus, plus_le_both, plus_le_cancel, times_le_cancel, times_le_times, times_pos, archimedes, div_times, div_pos}
-use Rattle.dl_model.proofs.Declared.{times_le_both, rises_to}
+use Rattle.dl_exact.proofs.Laws.{ring, plus_comm, times_comm, plus_times, plus_assoc, times_plus, one_times, times_one, whole_suc, whole_plus, whole_pos, le_refl, le_trans, le_of_eq, le_of_lt, le_plus, plus_le_both, plus_le_cancel, times_le_cancel, times_le_times, times_pos, archimedes, div_times, div_pos, times_le_both}
+use Rattle.dl_model.proofs.Declared.{rises_to}
 use Rattle.dl_exact.proofs.Sums.{sum_to_same}
 use Rattle.dl_model.proofs.FamilyLaws.{sum_rises_to}
 use Rattle.dl_model.proofs.Cauchy.{cauchy_low, cauchy_high}
@@ -18,13 +18,17 @@ use Rattle.dl_model.proofs.Gamma.{gamma_zero, geometric_next, geometric_low, gam
 half_of : (q : Fraction) → q /ℚ whole 2 +ℚ q /ℚ whole 2 ≡ q
 half_of q =
     let x = q /ℚ whole 2 in
-    ap₂ (λ s t. s +ℚ t) (sym (times_one x)) (sym (times_one x)) ∙ sym (times_plus x (whole 1) (whole 1)) ∙ ap (λ t. x *ℚ t) (sym (whole_plus 1 1))
+    ap₂ (λ s t. s +ℚ t) (sym (times_one x)) (sym (times_one x)) ∙ sym (times_plus x (whole 1) (whole 1))
+    ∙ ap (λ t. x *ℚ t) (sym (whole_plus 1 1))
     ∙ div_times q (whole 2) (whole_pos 2 (omega arith))
 
 pub settles_from : (Q R : Series) → IsUnder R Q → IsUnder Q R → Settles Q → Settles R
 settles_from Q R a b s p q one qp =
-    let k = s p q one qp in
-    ((b k.0).0, λ n. le_trans _ _ _ (times_le_both p p _ _ (le_refl p) (a n).1) (le_trans _ _ _ (k.1 (a n).0) (b k.0).1))
+    let k = s p q one qp in (
+      (b k.0).0,
+      λ n. le_trans _ _ _ (times_le_both p p _ _ (le_refl p) (a n).1)
+          (le_trans _ _ _ (k.1 (a n).0) (b k.0).1),
+    )
 
 pub settles_times : (Q R : Series) → Rises Q → Rises R → Settles Q → Settles R → Settles (times Q R)
 settles_times Q R q r s t p e one ep =
@@ -64,11 +68,14 @@ module _ (x d : Fraction) (one : x +ℚ d ≡ whole 1) (dp : whole 0 <ℚ d) whe
 
   identity : (N : ℕ) → d *ℚ S N +ℚ gamma 1 x (suc N) ≡ whole 1
   unfolding S sum_to
-  identity zero = ap₂ (λ s t. d *ℚ s +ℚ t) (gamma_zero zero x) (geometric_next x zero ∙ ap (λ t. x *ℚ t) (gamma_zero zero x)) ∙ ap₂ (λ s t. s +ℚ t) (times_one d) (times_one x) ∙ plus_comm d x ∙ one
+  identity zero = ap₂ (λ s t. d *ℚ s +ℚ t) (gamma_zero zero x)
+      (geometric_next x zero ∙ ap (λ t. x *ℚ t) (gamma_zero zero x)) ∙ ap₂ (λ s t. s +ℚ t) (times_one d) (times_one x)
+      ∙ plus_comm d x ∙ one
   identity (suc N) =
       let g = gamma 1 x (suc N) in
       ap (λ t. d *ℚ (sum_to N (gamma 1 x) +ℚ g) +ℚ t) (geometric_next x (suc N))
-      ∙ turn d (sum_to N (gamma 1 x)) g x ∙ ap (λ t. d *ℚ sum_to N (gamma 1 x) +ℚ t *ℚ g) one ∙ ap (λ t. d *ℚ sum_to N (gamma 1 x) +ℚ t) (one_times g) ∙ identity N
+      ∙ turn d (sum_to N (gamma 1 x)) g x ∙ ap (λ t. d *ℚ sum_to N (gamma 1 x) +ℚ t *ℚ g) one
+      ∙ ap (λ t. d *ℚ sum_to N (gamma 1 x) +ℚ t) (one_times g) ∙ identity N
     where
       turn : (d s g x : Fraction) → d *ℚ (s +ℚ g) +ℚ x *ℚ g ≡ d *ℚ s +ℚ (x +ℚ d) *ℚ g
       turn d s g x = simp ring
@@ -79,9 +86,12 @@ module _ (x d : Fraction) (one : x +ℚ d ≡ whole 1) (dp : whole 0 <ℚ d) whe
   many zero = le_of_eq _ _ (one_times _)
   many (suc N) =
       let g = gamma 1 x (suc N) in
-      let falls : g ≤ℚ gamma 1 x N = subst₂ (λ s t. s ≤ℚ t) (sym (geometric_next x N)) (one_times _) (times_le_times _ _ (gamma 1 x N) x_le) in
-      subst (λ t. t ≤ℚ sum_to N (gamma 1 x) +ℚ g) (sym (ap (λ t. t *ℚ g) (whole_suc (suc N)) ∙ plus_times _ _ g ∙ ap (λ t. whole (suc N) *ℚ g +ℚ t) (one_times g)))
-      (plus_le_both _ _ _ _ (le_trans _ _ _ (times_le_both _ _ _ _ (le_refl (whole (suc N))) falls) (many N)) (le_refl g))
+      let falls : g ≤ℚ gamma 1 x N = subst₂ (λ s t. s ≤ℚ t) (sym (geometric_next x N)) (one_times _)
+      (times_le_times _ _ (gamma 1 x N) x_le) in
+      subst (λ t. t ≤ℚ sum_to N (gamma 1 x) +ℚ g)
+      (sym (ap (λ t. t *ℚ g) (whole_suc (suc N)) ∙ plus_times _ _ g ∙ ap (λ t. whole (suc N) *ℚ g +ℚ t) (one_times g)))
+      (plus_le_both _ _ _ _ (le_trans _ _ _ (times_le_both _ _ _ _ (le_refl (whole (suc N))) falls) (many N))
+      (le_refl g))
 
   pub geometric_settles : Settles S
   unfolding S
@@ -92,14 +102,19 @@ module _ (x d : Fraction) (one : x +ℚ d ≡ whole 1) (dp : whole 0 <ℚ d) whe
       let k = whole (suc K) in
       let small : gamma 1 x K ≤ℚ q =
       times_le_cancel _ _ (k *ℚ d) (times_pos k d (whole_pos (suc K) (zero-lt-suc K)) dp)
-      (le_trans _ _ _ (subst₂ (λ s t. s ≤ℚ t) (turn d k (gamma 1 x K)) refl (times_le_both d d _ _ (le_refl d) (many K)))
+      (le_trans _ _ _ (subst₂ (λ s t. s ≤ℚ t) (turn d k (gamma 1 x K)) refl
+      (times_le_both d d _ _ (le_refl d) (many K)))
       (le_trans _ _ _ (geometric_low x d one K) (le_trans _ _ _ (le_of_lt _ _ a.1)
-      (subst₂ (λ s t. s ≤ℚ t) refl (turn' k d q) (times_le_times _ _ (d *ℚ q) (subst (λ t. whole K ≤ℚ t) (sym (whole_suc K)) (le_plus (whole K) (whole 1)))))))) in
-      let next : g ≤ℚ q = le_trans _ _ _ (subst₂ (λ s t. s ≤ℚ t) (sym (geometric_next x K)) (one_times _) (times_le_times _ _ (gamma 1 x K) x_le)) small in
-      let p_le : p ≤ℚ d *ℚ S K = plus_le_cancel _ _ q (subst (λ t. t ≤ℚ d *ℚ S K +ℚ q) (identity K ∙ sym e) (plus_le_both _ _ _ _ (le_refl (d *ℚ S K)) next)) in (
+      (subst₂ (λ s t. s ≤ℚ t) refl (turn' k d q)
+      (times_le_times _ _ (d *ℚ q) (subst (λ t. whole K ≤ℚ t) (sym (whole_suc K)) (le_plus (whole K) (whole 1)))))))) in
+      let next : g ≤ℚ q = le_trans _ _ _ (subst₂ (λ s t. s ≤ℚ t) (sym (geometric_next x K)) (one_times _)
+      (times_le_times _ _ (gamma 1 x K) x_le)) small in
+      let p_le : p ≤ℚ d *ℚ S K = plus_le_cancel _ _ q
+      (subst (λ t. t ≤ℚ d *ℚ S K +ℚ q) (identity K ∙ sym e) (plus_le_both _ _ _ _ (le_refl (d *ℚ S K)) next)) in (
         K,
         λ n. times_le_cancel _ _ d dp
-            (subst₂ (λ s t. s ≤ℚ t) (back p d (S n)) (times_one _ ∙ times_comm d (S K)) (times_le_both _ _ _ _ p_le (geometric_low x d one n))),
+            (subst₂ (λ s t. s ≤ℚ t) (back p d (S n)) (times_one _ ∙ times_comm d (S K))
+            (times_le_both _ _ _ _ p_le (geometric_low x d one n))),
       )
     where
       turn : (a b c : Fraction) → a *ℚ (b *ℚ c) ≡ c *ℚ (b *ℚ a)
@@ -115,8 +130,18 @@ module _ (x d : Fraction) (one : x +ℚ d ≡ whole 1) (dp : whole 0 <ℚ d) whe
   unfolding S
   gamma_settles zero = geometric_settles
   gamma_settles (suc s) =
-      let w : (N : ℕ) → sum_to N (convolve (gamma 1 x) (gamma (suc s) x)) ≡ sum_to N (gamma (suc (suc s)) x) = λ N. sum_to_same N _ _ (λ n b. sym (gamma_one_more s x n)) in
+      let w : (N : ℕ) → sum_to N (convolve (gamma 1 x) (gamma (suc s) x)) ≡ sum_to N (gamma (suc (suc s)) x) =
+      λ N. sum_to_same N _ _ (λ n b. sym (gamma_one_more s x n)) in
       settles_from (times (λ N. sum_to N (gamma 1 x)) (λ N. sum_to N (gamma (suc s) x))) _
-      (λ N. (N, subst (λ t. t ≤ℚ sum_to N (gamma 1 x) *ℚ sum_to N (gamma (suc s) x)) (w N) (cauchy_low N (gamma 1 x) (gamma (suc s) x))))
-      (λ N. (N + N, subst (λ t. sum_to N (gamma 1 x) *ℚ sum_to N (gamma (suc s) x) ≤ℚ t) (w (N + N)) (cauchy_high N (gamma 1 x) (gamma (suc s) x))))
-      (settles_times _ _ (sum_rises_to (gamma 1 x)) (sum_rises_to (gamma (suc s) x)) geometric_settles (gamma_settles s))
+      (λ N. (
+        N,
+        subst (λ t. t ≤ℚ sum_to N (gamma 1 x) *ℚ sum_to N (gamma (suc s) x)) (w N)
+            (cauchy_low N (gamma 1 x) (gamma (suc s) x)),
+      ))
+      (λ N. (
+        N + N,
+        subst (λ t. sum_to N (gamma 1 x) *ℚ sum_to N (gamma (suc s) x) ≤ℚ t) (w (N + N))
+            (cauchy_high N (gamma 1 x) (gamma (suc s) x)),
+      ))
+      (settles_times _ _ (sum_rises_to (gamma 1 x)) (sum_rises_to (gamma (suc s) x)) geometric_settles
+      (gamma_settles s))

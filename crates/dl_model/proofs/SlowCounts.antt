@@ -12,7 +12,8 @@ use Rattle.dl_model.specs.Compound.{at_zero, power, cell}
 use Rattle.dl_model.specs.Counts.{poisson, gamma, gamma_of}
 use Rattle.dl_model.specs.Listed.{Weighted, weight_of, total_weight, probability}
 use Rattle.dl_model.specs.Ways.{ways}
-use Rattle.dl_model.proofs.SumLaws.{over_plus}
+use Rattle.dl_exact.proofs.Denominators.{over_plus}
+use Rattle.dl_exact.proofs.Powers.{factorial_pos}
 use Rattle.dl_model.proofs.CountLaws.{power_ways}
 use Rattle.dl_model.proofs.SlowLaws.{all_ways}
 
@@ -33,14 +34,16 @@ power_before b (suc n) B h one fit = rw (suc-minus n) (lower b n fit)
     lower : (b n : ℕ) → b ^ suc n < B → b ^ n < B
     lower zero zero fit = omega (arith, pow-zero 0, one)
     lower zero (suc n) fit = omega (arith, pow-suc 0 n, one)
-    lower (suc b) n fit = omega (arith, fit, pow-le-pow_right {n = suc b} (zero-lt-suc b) {i = n} {j = suc n} (omega arith))
+    lower (suc b) n fit =
+        omega (arith, fit, pow-le-pow_right {n = suc b} (zero-lt-suc b) {i = n} {j = suc n} (omega arith))
 
 pub choose_le : (i j : ℕ) → choose i j ≤ i ^ j
 unfolding choose
 choose_le i zero = omega (arith, pow-zero i)
 choose_le zero (suc j) = omega arith
 choose_le (suc i) (suc j) =
-    let grown : i ^ j * suc i ≤ suc i ^ j * suc i = mul-le-mul_right (suc i) (pow-le-pow_left {n = i} {m = suc i} (omega arith) j) in
+    let grown : i ^ j * suc i ≤ suc i ^ j * suc i =
+    mul-le-mul_right (suc i) (pow-le-pow_left {n = i} {m = suc i} (omega arith) j) in
     omega (arith, choose_le i j, choose_le i (suc j), pow-suc i j, pow-suc (suc i) j, grown)
 
 pub factorial_le : (n : ℕ) → factorial n ≤ n ^ n
@@ -49,11 +52,6 @@ factorial_le zero = omega (arith, pow-zero 0)
 factorial_le (suc n) =
     let grown : n ^ n ≤ suc n ^ n = pow-le-pow_left {n = n} {m = suc n} (omega arith) n in
     omega (arith, mul-le-mul_left (suc n) (factorial_le n), mul-le-mul_left (suc n) grown, pow-suc (suc n) n)
-
-pub factorial_pos : (n : ℕ) → 0 < factorial n
-unfolding factorial
-factorial_pos zero = omega arith
-factorial_pos (suc n) = mul-pos (zero-lt-suc n) (factorial_pos n)
 
 -- Pascal's triangle, by the numbers before
 pub choose_none : (i j : ℕ) → j ≡ 0 → 1 ≡ choose i j
@@ -91,7 +89,8 @@ poisson_weight a b n pos =
     let v = a over b in
     let left : 0 < v.den ^ n * factorial n = mul-pos (one-le-pow n v.den v.positive) (factorial_pos n) in
     let right : 0 < b ^ n * factorial n = mul-pos (one-le-pow n b pos) (factorial_pos n) in
-    let crossed : v.num ^ n * b ^ n ≡ a ^ n * v.den ^ n = sym (mul-pow v.num b n) ∙ ap (λ t. t ^ n) (over_cross a b pos) ∙ mul-pow a v.den n in
+    let crossed : v.num ^ n * b ^ n ≡ a ^ n * v.den ^ n = sym (mul-pow v.num b n)
+    ∙ ap (λ t. t ^ n) (over_cross a b pos) ∙ mul-pow a v.den n in
     over_same (v.num ^ n) (v.den ^ n * factorial n) (a ^ n) (b ^ n * factorial n) left right
     (omega (arith, ap (λ t. t * factorial n) crossed))
 
@@ -111,7 +110,8 @@ chance_is r a b rp bp =
     ap (λ t. a over b /ℚ t) all ∙ over_div a b (r * b + a) b bp bp pos
     ∙ over_same (a * b) (b * (r * b + a)) a (r * b + a) (mul-pos bp pos) pos (omega arith)
 
-pub gamma_weight : (r a b n : ℕ) → 0 < r → 0 < b → gamma_of r (a over b) n ≡ (choose (r + n - 1) n * a ^ n) over ((r * b + a) ^ n)
+pub gamma_weight : (r a b n : ℕ) → 0 < r → 0 < b
+    → gamma_of r (a over b) n ≡ (choose (r + n - 1) n * a ^ n) over ((r * b + a) ^ n)
 unfolding gamma
 gamma_weight r a b n rp bp =
     let c = r * b + a in
@@ -130,7 +130,8 @@ no_amount_power : (t n : ℕ) → 0 < t → power (probability ((0, t) ∷ [])) 
 unfolding power at_zero sum_pairs
 no_amount_power t zero pos = refl
 no_amount_power t (suc n) pos =
-    let one : probability ((0, t) ∷ []) 0 ≡ whole 1 = over_same (0 + t) (0 + t) 1 1 (omega (arith, pos)) (omega arith) (omega arith) in
+    let one : probability ((0, t) ∷ []) 0 ≡ whole 1 =
+    over_same (0 + t) (0 + t) 1 1 (omega (arith, pos)) (omega arith) (omega arith) in
     ap₂ (λ x y. x *ℚ y) one (no_amount_power t n pos) ∙ times_one (whole 1)
 
 pub no_amount : (w : ℕ → Fraction) (t N : ℕ) → 0 < t → cell w (probability ((0, t) ∷ [])) 0 N ≡ sum_to N w
@@ -143,7 +144,8 @@ module _ (w f : ℕ → Fraction) (x : ℕ) where
   unfolding sum_to
   first_cell here e = e
 
-  pub next_cell : (n a d step here : ℕ) → 0 < d → 0 < step → a over d ≡ cell w f x n → here over (d * step) ≡ w (suc n) *ℚ power f (suc n) x
+  pub next_cell : (n a d step here : ℕ) → 0 < d → 0 < step → a over d ≡ cell w f x n
+      → here over (d * step) ≡ w (suc n) *ℚ power f (suc n) x
       → (a * step + here) over (d * step) ≡ cell w f x (suc n)
   unfolding sum_to
   next_cell n a d step here dp sp before e =
@@ -153,14 +155,16 @@ module _ (w f : ℕ → Fraction) (x : ℕ) where
 
 -- a share of the weights times a share of the ways
 pub part_over : (amounts : Weighted) (u D n x : ℕ) → 0 < total_weight amounts → 0 < D
-    → u over D *ℚ power (probability amounts) n x ≡ (u * ways (weight_of amounts) n x) over (D * total_weight amounts ^ n)
+    → u over D *ℚ power (probability amounts) n x ≡ (u * ways (weight_of amounts) n x) over
+    (D * total_weight amounts ^ n)
 part_over amounts u D n x there pos =
     let T = total_weight amounts in
     ap (λ t. u over D *ℚ t) (power_ways (weight_of amounts) T there n x)
     ∙ over_mul u D (ways (weight_of amounts) n x) (T ^ n) pos (one-le-pow n T there)
 
 -- what is left of a numerator stays below the power of M, where step and part make up at most M
-pub next_within : (M L step part here fewer n : ℕ) → L ≤ M → fewer ≤ L ^ n → step + part ≤ M → here ≤ part * M ^ n → fewer * step + here ≤ M ^ suc n
+pub next_within : (M L step part here fewer n : ℕ) → L ≤ M → fewer ≤ L ^ n → step + part ≤ M → here ≤ part * M ^ n
+    → fewer * step + here ≤ M ^ suc n
 next_within M L step part here fewer n grown old fits more =
     let a : fewer ≤ M ^ n = le_trans_n old (pow-le-pow_left {n = L} {m = M} grown n) in
     omega (arith, mul-le-mul_right step a, more, mul-le-mul_right (M ^ n) fits, pow-succ' M n)
@@ -188,7 +192,12 @@ first_power k M (suc n) h pos below = omega (arith, pow-succ' M n, mul-le-mul_le
 level_before : (L M n B : ℕ) → 0 < n → 0 < M → L ≤ M → M ^ n < B → L ^ (n - 1) < B
 level_before L M zero B h pos below fit = absurd (omega (arith, h))
 level_before L M (suc n) B h pos below fit =
-    rw (suc-minus n) (omega (arith, pow-le-pow_left {n = L} {m = M} below n, pow-le-pow_right {n = M} pos {i = n} {j = suc n} (omega arith), fit))
+    rw (suc-minus n) (omega (
+      arith,
+      pow-le-pow_left {n = L} {m = M} below n,
+      pow-le-pow_right {n = M} pos {i = n} {j = suc n} (omega arith),
+      fit,
+    ))
 
 -- ---- Poisson sums: a / b is the mean, T the weight of the amounts
 
@@ -203,7 +212,8 @@ module _ (a b : ℕ) (amounts : Weighted) (bp : 0 < b) (there : 0 < total_weight
   poisson_most_pos n h = mul-pos (mul-pos (omega (arith, bp)) h) there
 
   -- what stands below it
-  all_of : (n : ℕ) → 0 < n → (a * T ≤ poisson_most n) × (b * n * T ≤ poisson_most n) × (b * T * n ≤ poisson_most n) × (a ≤ poisson_most n) × (T ≤ poisson_most n)
+  all_of : (n : ℕ) → 0 < n → (a * T ≤ poisson_most n) × (b * n * T ≤ poisson_most n) × (b * T * n ≤ poisson_most n) ×
+      (a ≤ poisson_most n) × (T ≤ poisson_most n)
   all_of zero h = absurd (omega (arith, h))
   all_of (suc n) h =
       let at : a * T ≤ poisson_most (suc n) = omega arith in
@@ -241,7 +251,8 @@ module _ (a b : ℕ) (amounts : Weighted) (bp : 0 < b) (there : 0 < total_weight
   poisson_within (suc n) x fewer h old =
       let M = poisson_most (suc n) in
       let fewer_within : fewer ≤ poisson_most n ^ n = subst (λ k. fewer ≤ poisson_most k ^ k) (suc-minus n) old in
-      next_within M (poisson_most n) (b * suc n * T) (a * suc n * T) (a ^ suc n * ways (weight_of amounts) (suc n) x) fewer n
+      next_within M (poisson_most n) (b * suc n * T) (a * suc n * T)
+      (a ^ suc n * ways (weight_of amounts) (suc n) x) fewer n
       (mul-le-mul_right T (mul-le-mul_left (a + b) (omega arith))) fewer_within (omega arith)
       (le_trans_n (here_power (suc n) x) (power_within (a * T) (a * suc n * T) M n (omega arith) (omega arith)))
 
@@ -262,7 +273,8 @@ module _ (a b : ℕ) (amounts : Weighted) (bp : 0 < b) (there : 0 < total_weight
   poisson_below_next zero d h e = absurd (omega (arith, h))
   poisson_below_next (suc n) d h e =
       let old : d ≡ poisson_below n = subst (λ k. d ≡ poisson_below k) (suc-minus n) e in
-      ap (λ t. t * (b * suc n * T)) old ∙ turn ((b * T) ^ n) (factorial n) ∙ ap (λ p. p * (suc n * factorial n)) (sym (pow-suc (b * T) n))
+      ap (λ t. t * (b * suc n * T)) old ∙ turn ((b * T) ^ n) (factorial n)
+      ∙ ap (λ p. p * (suc n * factorial n)) (sym (pow-suc (b * T) n))
     where
       turn : (P F : ℕ) → P * F * (b * suc n * T) ≡ P * (b * T) * (suc n * F)
       turn P F = omega arith
@@ -277,27 +289,35 @@ module _ (a b : ℕ) (amounts : Weighted) (bp : 0 < b) (there : 0 < total_weight
       )
 
   -- the cells
-  one_number : (n x : ℕ) → (a ^ n * ways (weight_of amounts) n x) over poisson_below n ≡ poisson (a over b) n *ℚ power (probability amounts) n x
+  one_number : (n x : ℕ) → (a ^ n * ways (weight_of amounts) n x) over poisson_below n ≡ poisson (a over b) n *ℚ power
+      (probability amounts) n x
   one_number n x =
       sym (ap (λ w. w *ℚ power (probability amounts) n x) (poisson_weight a b n bp)
       ∙ part_over amounts (a ^ n) (b ^ n * factorial n) n x there (mul-pos (one-le-pow n b bp) (factorial_pos n))
-      ∙ ap (λ D. (a ^ n * ways (weight_of amounts) n x) over D) (omega (arith, ap (λ t. t * factorial n) (mul-pow b T n))))
+      ∙ ap (λ D. (a ^ n * ways (weight_of amounts) n x) over D)
+      (omega (arith, ap (λ t. t * factorial n) (mul-pow b T n))))
 
-  pub poisson_first : (n x : ℕ) → n ≡ 0 → (a ^ n * ways (weight_of amounts) n x) over 1 ≡ cell (poisson (a over b)) (probability amounts) x n
+  pub poisson_first : (n x : ℕ) → n ≡ 0 → (a ^ n * ways (weight_of amounts) n x) over 1 ≡ cell (poisson (a over b))
+      (probability amounts) x n
   unfolding sum_to
-  poisson_first zero x e = ap (λ D. (a ^ 0 * ways (weight_of amounts) 0 x) over D) (poisson_below_none 0 e) ∙ one_number 0 x
+  poisson_first zero x e =
+      ap (λ D. (a ^ 0 * ways (weight_of amounts) 0 x) over D) (poisson_below_none 0 e) ∙ one_number 0 x
   poisson_first (suc n) x e = absurd (omega (arith, e))
 
-  pub poisson_more : (n x fewer d : ℕ) → 0 < n → d ≡ poisson_below (n - 1) → fewer over d ≡ cell (poisson (a over b)) (probability amounts) x (n - 1)
-      → (fewer * (b * n * T) + a ^ n * ways (weight_of amounts) n x) over (d * (b * n * T)) ≡ cell (poisson (a over b)) (probability amounts) x n
+  pub poisson_more : (n x fewer d : ℕ) → 0 < n → d ≡ poisson_below (n - 1)
+      → fewer over d ≡ cell (poisson (a over b)) (probability amounts) x (n - 1)
+      → (fewer * (b * n * T) + a ^ n * ways (weight_of amounts) n x) over (d * (b * n * T)) ≡ cell (poisson (a over b))
+      (probability amounts) x n
   poisson_more zero x fewer d h e before = absurd (omega (arith, h))
   poisson_more (suc n) x fewer d h e before =
       let old : d ≡ poisson_below n = subst (λ k. d ≡ poisson_below k) (suc-minus n) e in
       let cells : fewer over d ≡ cell (poisson (a over b)) (probability amounts) x n =
       subst (λ k. fewer over d ≡ cell (poisson (a over b)) (probability amounts) x k) (suc-minus n) before in
-      next_cell (poisson (a over b)) (probability amounts) x n fewer d (b * suc n * T) (a ^ suc n * ways (weight_of amounts) (suc n) x)
+      next_cell (poisson (a over b)) (probability amounts) x n fewer d (b * suc n * T)
+      (a ^ suc n * ways (weight_of amounts) (suc n) x)
       (subst (λ k. 0 < k) (sym old) (poisson_below_pos n)) (mul-pos (mul-pos bp (zero-lt-suc n)) there) cells
-      (ap (λ D. (a ^ suc n * ways (weight_of amounts) (suc n) x) over D) (poisson_below_next (suc n) d h e) ∙ one_number (suc n) x)
+      (ap (λ D. (a ^ suc n * ways (weight_of amounts) (suc n) x) over D) (poisson_below_next (suc n) d h e)
+      ∙ one_number (suc n) x)
 
 -- ---- gamma sums: r is the shape, a / b the mean, T the weight of the amounts
 
@@ -358,14 +378,25 @@ module _ (r a b : ℕ) (amounts : Weighted) (rp : 0 < r) (bp : 0 < b) (there : 0
   pub weight_within_most : (n : ℕ) → weight_above n ≤ gamma_most n ^ n
   weight_within_most n =
       let each : (r + n - 1) * a * 1 ≤ (r + n - 1) * a * U = mul-le-mul_left ((r + n - 1) * a) there in
-      omega (arith, weight_power n, below_power ((r + n - 1) * a) (gamma_most n) n (λ h. omega (arith, each, part_most n, less_most n)))
+      omega (
+        arith,
+        weight_power n,
+        below_power ((r + n - 1) * a) (gamma_most n) n
+            (λ h. omega (arith, each, part_most n, less_most n)),
+      )
 
   gamma_here_power : (n x : ℕ) → weight_above n * ways (weight_of amounts) n x ≤ ((r + n - 1) * a * U) ^ n
-  gamma_here_power n x = omega (arith, mul-le-mul (weight_power n) (all_ways amounts there n x), mul-pow ((r + n - 1) * a) U n)
+  gamma_here_power n x =
+      omega (arith, mul-le-mul (weight_power n) (all_ways amounts there n x), mul-pow ((r + n - 1) * a) U n)
 
   pub gamma_here_within : (n x : ℕ) → weight_above n * ways (weight_of amounts) n x ≤ gamma_most n ^ n
   gamma_here_within n x =
-      omega (arith, gamma_here_power n x, below_power ((r + n - 1) * a * U) (gamma_most n) n (λ h. omega (arith, part_most n, less_most n)))
+      omega (
+        arith,
+        gamma_here_power n x,
+        below_power ((r + n - 1) * a * U) (gamma_most n) n
+            (λ h. omega (arith, part_most n, less_most n)),
+      )
 
   pub gamma_amounts_within : (n : ℕ) → 0 < n → U ≤ gamma_most n ^ n
   gamma_amounts_within n h = first_power U (gamma_most n) n h (gamma_most_pos n) (amounts_most n)
@@ -377,7 +408,8 @@ module _ (r a b : ℕ) (amounts : Weighted) (rp : 0 < r) (bp : 0 < b) (there : 0
   before_most n m h = mul-le-mul_right U (mul-le-mul_right parts_of (omega (arith, h)))
 
   pub gamma_before_fits : (n B : ℕ) → 0 < n → gamma_most n ^ n < B → gamma_most (n - 1) ^ (n - 1) < B
-  gamma_before_fits n B h fit = level_before (gamma_most (n - 1)) (gamma_most n) n B h (gamma_most_pos n) (before_most (n - 1) n (omega arith)) fit
+  gamma_before_fits n B h fit = level_before (gamma_most (n - 1)) (gamma_most n) n B h (gamma_most_pos n)
+      (before_most (n - 1) n (omega arith)) fit
 
   pub gamma_within : (n x fewer : ℕ) → 0 < n → fewer ≤ gamma_most (n - 1) ^ (n - 1)
       → fewer * (parts_of * U) + weight_above n * ways (weight_of amounts) n x ≤ gamma_most n ^ n
@@ -388,9 +420,11 @@ module _ (r a b : ℕ) (amounts : Weighted) (rp : 0 < r) (bp : 0 < b) (there : 0
       let fewer_within : fewer ≤ gamma_most n ^ n = subst (λ k. fewer ≤ gamma_most k ^ k) (suc-minus n) old in
       let last : suc (r + suc n - 1) ≡ r + suc n = omega arith in
       let up : parts_of * U + part ≤ M = subst (λ k. parts_of * U + part ≤ k * parts_of * U) last (omega arith) in
-      next_within M (gamma_most n) (parts_of * U) part (weight_above (suc n) * ways (weight_of amounts) (suc n) x) fewer n
+      next_within M (gamma_most n) (parts_of * U) part
+      (weight_above (suc n) * ways (weight_of amounts) (suc n) x) fewer n
       (before_most n (suc n) (omega arith)) fewer_within up
-      (le_trans_n (gamma_here_power (suc n) x) (power_within ((r + suc n - 1) * a * U) part M n (part_most (suc n)) (less_most (suc n))))
+      (le_trans_n (gamma_here_power (suc n) x)
+      (power_within ((r + suc n - 1) * a * U) part M n (part_most (suc n)) (less_most (suc n))))
 
   -- the denominators
   abbrev pub gamma_below : ℕ → ℕ
@@ -411,24 +445,31 @@ module _ (r a b : ℕ) (amounts : Weighted) (rp : 0 < r) (bp : 0 < b) (there : 0
   gamma_below_within n = below_power (parts_of * U) (gamma_most n) n (λ h. step_most n)
 
   -- the cells
-  gamma_number : (n x : ℕ) → (weight_above n * ways (weight_of amounts) n x) over gamma_below n ≡ gamma_of r (a over b) n *ℚ power (probability amounts) n x
+  gamma_number : (n x : ℕ) → (weight_above n * ways (weight_of amounts) n x) over gamma_below n ≡ gamma_of r
+      (a over b) n *ℚ power (probability amounts) n x
   gamma_number n x =
       sym (ap (λ w. w *ℚ power (probability amounts) n x) (gamma_weight r a b n rp bp)
       ∙ part_over amounts (weight_above n) (parts_of ^ n) n x there (one-le-pow n parts_of parts_pos)
       ∙ ap (λ D. (weight_above n * ways (weight_of amounts) n x) over D) (sym (mul-pow parts_of U n)))
 
-  pub gamma_first : (n x : ℕ) → n ≡ 0 → (weight_above n * ways (weight_of amounts) n x) over 1 ≡ cell (gamma_of r (a over b)) (probability amounts) x n
+  pub gamma_first : (n x : ℕ) → n ≡ 0 → (weight_above n * ways (weight_of amounts) n x) over 1 ≡ cell
+      (gamma_of r (a over b)) (probability amounts) x n
   unfolding sum_to
-  gamma_first zero x e = ap (λ D. (weight_above 0 * ways (weight_of amounts) 0 x) over D) (gamma_below_none 0 e) ∙ gamma_number 0 x
+  gamma_first zero x e =
+      ap (λ D. (weight_above 0 * ways (weight_of amounts) 0 x) over D) (gamma_below_none 0 e) ∙ gamma_number 0 x
   gamma_first (suc n) x e = absurd (omega (arith, e))
 
-  pub gamma_more : (n x fewer d : ℕ) → 0 < n → d ≡ gamma_below (n - 1) → fewer over d ≡ cell (gamma_of r (a over b)) (probability amounts) x (n - 1)
-      → (fewer * (parts_of * U) + weight_above n * ways (weight_of amounts) n x) over (d * (parts_of * U)) ≡ cell (gamma_of r (a over b)) (probability amounts) x n
+  pub gamma_more : (n x fewer d : ℕ) → 0 < n → d ≡ gamma_below (n - 1)
+      → fewer over d ≡ cell (gamma_of r (a over b)) (probability amounts) x (n - 1)
+      → (fewer * (parts_of * U) + weight_above n * ways (weight_of amounts) n x) over (d * (parts_of * U)) ≡ cell
+      (gamma_of r (a over b)) (probability amounts) x n
   gamma_more zero x fewer d h e before = absurd (omega (arith, h))
   gamma_more (suc n) x fewer d h e before =
       let old : d ≡ gamma_below n = subst (λ k. d ≡ gamma_below k) (suc-minus n) e in
       let cells : fewer over d ≡ cell (gamma_of r (a over b)) (probability amounts) x n =
       subst (λ k. fewer over d ≡ cell (gamma_of r (a over b)) (probability amounts) x k) (suc-minus n) before in
-      next_cell (gamma_of r (a over b)) (probability amounts) x n fewer d (parts_of * U) (weight_above (suc n) * ways (weight_of amounts) (suc n) x)
+      next_cell (gamma_of r (a over b)) (probability amounts) x n fewer d (parts_of * U)
+      (weight_above (suc n) * ways (weight_of amounts) (suc n) x)
       (subst (λ k. 0 < k) (sym old) (gamma_below_pos n)) (mul-pos parts_pos there) cells
-      (ap (λ D. (weight_above (suc n) * ways (weight_of amounts) (suc n) x) over D) (gamma_below_next (suc n) d h e) ∙ gamma_number (suc n) x)
+      (ap (λ D. (weight_above (suc n) * ways (weight_of amounts) (suc n) x) over D) (gamma_below_next (suc n) d h e)
+      ∙ gamma_number (suc n) x)

@@ -9,18 +9,24 @@ use Rattle.dl_model.proofs.Outcomes.{outcomes_same, outcomes_plus, outcomes_time
 pub rest_pos : (p q : Fraction) → p <ℚ q → whole 0 <ℚ q -ℚ p
 rest_pos p q h =
     let g = lt_gap p q h in
-    subst (λ t. whole 0 <ℚ t) (plus_cancel g.0 (q -ℚ p) p (plus_comm g.0 p ∙ g.2 ∙ sym (sub_plus q p (le_of_lt p q h)))) g.1
+    subst (λ t. whole 0 <ℚ t) (plus_cancel g.0 (q -ℚ p) p
+    (plus_comm g.0 p ∙ g.2 ∙ sym (sub_plus q p (le_of_lt p q h)))) g.1
 
 pub div_is_times : (x y : Fraction) → whole 0 <ℚ y → x /ℚ y ≡ whole 1 /ℚ y *ℚ x
-div_is_times x y h = times_cancel _ _ y h (div_times x y h ∙ sym (turn (whole 1 /ℚ y) x y ∙ ap (λ t. t *ℚ x) (div_times (whole 1) y h) ∙ one_times x))
+div_is_times x y h = times_cancel _ _ y h
+    (div_times x y h ∙ sym (turn (whole 1 /ℚ y) x y ∙ ap (λ t. t *ℚ x) (div_times (whole 1) y h) ∙ one_times x))
   where
     turn : (a b c : Fraction) → a *ℚ b *ℚ c ≡ a *ℚ c *ℚ b
     turn a b c = simp ring
 
 pub tail_excess : (us : List Aggregate) (p : Fraction) (q N : ℕ) → p <ℚ whole 1
-    → partial_sums us (Tail p q) N ≡ whole q *ℚ partial_sums us One N +ℚ whole 1 /ℚ (whole 1 -ℚ p) *ℚ partial_sums us (Layer None q) N
+    → partial_sums us (Tail p q) N ≡ whole q *ℚ partial_sums us One N +ℚ whole 1 /ℚ (whole 1 -ℚ p) *ℚ partial_sums us
+    (Layer None q) N
 tail_excess us p q N h =
-    outcomes_same us _ _ N (λ ys. ap (λ t. t +ℚ whole (sum ys - q) /ℚ (whole 1 -ℚ p)) (sym (times_one (whole q))) ∙ ap (λ t. whole q *ℚ whole 1 +ℚ t) (div_is_times _ _ (rest_pos p (whole 1) h)))
+    outcomes_same us _ _ N (λ ys. ap (λ t. t +ℚ whole (sum ys - q) /ℚ (whole 1 -ℚ p)) (sym (times_one (whole q)))
+    ∙ ap (λ t. whole q *ℚ whole 1 +ℚ t) (div_is_times _ _ (rest_pos p (whole 1) h)))
     ∙ outcomes_plus us (λ ys. whole q *ℚ score One ys) (λ ys. whole 1 /ℚ (whole 1 -ℚ p) *ℚ score (Layer None q) ys) N
-    ∙ ap (λ t. t +ℚ sum_over_outcomes us (λ ys. whole 1 /ℚ (whole 1 -ℚ p) *ℚ score (Layer None q) ys) N) (outcomes_times us (whole q) (score One) N)
-    ∙ ap (λ t. whole q *ℚ partial_sums us One N +ℚ t) (outcomes_times us (whole 1 /ℚ (whole 1 -ℚ p)) (score (Layer None q)) N)
+    ∙ ap (λ t. t +ℚ sum_over_outcomes us (λ ys. whole 1 /ℚ (whole 1 -ℚ p) *ℚ score (Layer None q) ys) N)
+    (outcomes_times us (whole q) (score One) N)
+    ∙ ap (λ t. whole q *ℚ partial_sums us One N +ℚ t)
+    (outcomes_times us (whole 1 /ℚ (whole 1 -ℚ p)) (score (Layer None q)) N)

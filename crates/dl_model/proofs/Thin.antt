@@ -11,17 +11,20 @@ use Rattle.dl_exact.proofs.Sums.{sum_pairs_same, sum_pairs_plus, sum_pairs_times
 use Rattle.dl_model.proofs.Powers.{at_zero_convolve, convolve_times}
 
 -- f is its weight at 0 and p times g
-parts : (f : ℕ → Fraction) (p : Fraction) (g : ℕ → Fraction) → IsPositivePart f p g → (j : ℕ) → f j ≡ f zero *ℚ at_zero j +ℚ p *ℚ g j
+parts : (f : ℕ → Fraction) (p : Fraction) (g : ℕ → Fraction) → IsPositivePart f p g → (j : ℕ)
+    → f j ≡ f zero *ℚ at_zero j +ℚ p *ℚ g j
 unfolding at_zero
 parts f p g h zero = sym (ap₂ (λ x y. x +ℚ y) (times_one _) (ap (λ t. p *ℚ t) h.no_zero ∙ times_zero p) ∙ plus_zero _)
 parts f p g h (suc j) = h.above j ∙ sym (ap (λ t. t +ℚ p *ℚ g (suc j)) (times_zero _) ∙ zero_plus _)
 
-convolve_parts : (f : ℕ → Fraction) (p : Fraction) (g : ℕ → Fraction) → IsPositivePart f p g → (H : ℕ → Fraction) (y : ℕ)
+convolve_parts : (f : ℕ → Fraction) (p : Fraction) (g : ℕ → Fraction) → IsPositivePart f p g
+    → (H : ℕ → Fraction) (y : ℕ)
     → convolve f H y ≡ f zero *ℚ H y +ℚ p *ℚ convolve g H y
 convolve_parts f p g h H y =
     sum_pairs_same y _ _ (λ i j e. ap (λ t. t *ℚ H j) (parts f p g h i) ∙ simp ring)
     ∙ sum_pairs_plus y (λ i j. f zero *ℚ (at_zero i *ℚ H j)) (λ i j. p *ℚ (g i *ℚ H j))
-    ∙ ap₂ (λ x y. x +ℚ y) (sum_pairs_times y (f zero) (λ i j. at_zero i *ℚ H j) ∙ ap (λ t. f zero *ℚ t y) (at_zero_convolve H)) (sum_pairs_times y p (λ i j. g i *ℚ H j))
+    ∙ ap₂ (λ x y. x +ℚ y) (sum_pairs_times y (f zero) (λ i j. at_zero i *ℚ H j)
+    ∙ ap (λ t. f zero *ℚ t y) (at_zero_convolve H)) (sum_pairs_times y p (λ i j. g i *ℚ H j))
 
 -- Count weights w whose next weight is k n / (n + 1) times the last split over claims of amount 0 and of other amounts,
 -- by numbers t with the like steps in both directions.
@@ -39,15 +42,20 @@ module _ (f : ℕ → Fraction) (p : Fraction) (g : ℕ → Fraction) (h : IsPos
   split_next n y =
       sum_pairs_weighed n (λ i j. t i j *ℚ power g j y)
       ∙ ap₂ (λ a b. a +ℚ b)
-      (sum_pairs_same n _ _ (λ i j e. sym (times_assoc _ _ _) ∙ ap (λ s. s *ℚ power g j y) (left i j ∙ ap (λ s. k s *ℚ (f zero *ℚ t i j)) e) ∙ times_assoc _ _ _ ∙ ap (λ s. k n *ℚ s) (times_assoc _ _ _))
+      (sum_pairs_same n _ _ (λ i j e. sym (times_assoc _ _ _)
+      ∙ ap (λ s. s *ℚ power g j y) (left i j ∙ ap (λ s. k s *ℚ (f zero *ℚ t i j)) e) ∙ times_assoc _ _ _
+      ∙ ap (λ s. k n *ℚ s) (times_assoc _ _ _))
       ∙ sum_pairs_times n (k n) _ ∙ ap (λ s. k n *ℚ s) (sum_pairs_times n (f zero) _))
-      (sum_pairs_same n _ _ (λ i j e. sym (times_assoc _ _ _) ∙ ap (λ s. s *ℚ convolve g (power g j) y) (right i j ∙ ap (λ s. k s *ℚ (p *ℚ t i j)) e) ∙ times_assoc _ _ _ ∙ ap (λ s. k n *ℚ s) (times_assoc _ _ _ ∙ ap (λ s. p *ℚ s) (sym (convolve_times (t i j) g (power g j) y))))
+      (sum_pairs_same n _ _ (λ i j e. sym (times_assoc _ _ _)
+      ∙ ap (λ s. s *ℚ convolve g (power g j) y) (right i j ∙ ap (λ s. k s *ℚ (p *ℚ t i j)) e) ∙ times_assoc _ _ _
+      ∙ ap (λ s. k n *ℚ s) (times_assoc _ _ _ ∙ ap (λ s. p *ℚ s) (sym (convolve_times (t i j) g (power g j) y))))
       ∙ sum_pairs_times n (k n) _ ∙ ap (λ s. k n *ℚ s) (sum_pairs_times n p _ ∙ ap (λ s. p *ℚ s) (turned n y)))
       ∙ sym (times_plus (k n) _ _)
       ∙ ap (λ s. k n *ℚ s) (sym (convolve_parts f p g h (split_sum n) y))
     where
       turned : (n y : ℕ) → sum_pairs n (λ i j. convolve g (λ s. t i j *ℚ power g j s) y) ≡ convolve g (split_sum n) y
-      turned n y = sum_pairs_swap n y (λ i j q s. g q *ℚ (t i j *ℚ power g j s)) ∙ sum_pairs_same y _ _ (λ q s e. sum_pairs_times n (g q) (λ i j. t i j *ℚ power g j s))
+      turned n y = sum_pairs_swap n y (λ i j q s. g q *ℚ (t i j *ℚ power g j s))
+          ∙ sum_pairs_same y _ _ (λ q s e. sum_pairs_times n (g q) (λ i j. t i j *ℚ power g j s))
 
   pub split : (n y : ℕ) → w n *ℚ power f n y ≡ sum_pairs n (λ i j. t i j *ℚ power g j y)
   unfolding split_sum power sum_pairs

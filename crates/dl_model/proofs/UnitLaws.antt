@@ -5,11 +5,11 @@ use Rattle.std.proofs.lemmas.Bool.{cases_lt, cases_eq}
 use Rattle.dl_exact.specs.Fraction.{Fraction, whole, ◌+ℚ◌, ◌≤ℚ◌}
 use Rattle.dl_exact.specs.Sum.{sum_to}
 use Rattle.dl_exact.proofs.Laws.{plus_zero, zero_plus, le_trans, le_of_eq, zero_le}
-use Rattle.dl_exact.proofs.Sums.{sum_to_same, sum_to_swap, sum_to_le, sum_to_grows}
+use Rattle.dl_exact.proofs.Sums.{sum_to_same, sum_to_swap, sum_to_le, sum_to_grows, sum_to_none, sum_to_zero}
 use Rattle.dl_model.specs.Compound.{cell}
 use Rattle.dl_model.specs.Family.{compound, mapped, IsProper}
 use Rattle.dl_model.specs.Program.{Aggregate, IsUnit, outcome, where_true}
-use Rattle.dl_model.proofs.SumLaws.{sum_to_none, sum_to_zero, pick, pick_none}
+use Rattle.dl_model.proofs.Picks.{pick, pick_none}
 use Rattle.dl_model.proofs.CompoundLaws.{severity_within_one, cell_past, cells_all}
 use Rattle.dl_model.proofs.FamilyLaws.{compound_proper}
 
@@ -44,23 +44,29 @@ where_le t y c d h = elim (cases_eq t y) [
 
 module _ (u : Aggregate) (h : IsUnit u) where
   pub unit_within : (y N : ℕ) → N * u.most < y → outcome u y N ≡ whole 0
-  unit_within y N b = sum_to_zero (N * u.most) _ (λ s c. off (u.clause s) y (cell u.count u.severity s N) (omega (arith, h.clause s)))
+  unit_within y N b =
+      sum_to_zero (N * u.most) _ (λ s c. off (u.clause s) y (cell u.count u.severity s N) (omega (arith, h.clause s)))
 
   pub unit_whole : (N : ℕ) → sum_to (N * u.most) (λ y. outcome u y N) ≡ sum_to N u.count
   unit_whole N =
       sum_to_swap (N * u.most) (N * u.most) (λ y s. where_true (nat_eq (u.clause s) y) (cell u.count u.severity s N))
-      ∙ sum_to_same (N * u.most) _ _ (λ s b. passed (N * u.most) (u.clause s) (cell u.count u.severity s N) (omega (arith, h.clause s)))
+      ∙ sum_to_same (N * u.most) _ _ (λ s b. passed (N * u.most) (u.clause s) (cell u.count u.severity s N)
+      (omega (arith, h.clause s)))
       ∙ cells_all u.count u.severity u.most h.severity N (N * u.most) (le_refl_n _)
 
   pub unit_proper : IsProper (mapped u)
   unit_proper =
-      let p : IsProper (compound u.count u.severity) = compound_proper u.count u.severity (severity_within_one u.severity u.most h.severity) in
+      let p : IsProper (compound u.count u.severity) =
+      compound_proper u.count u.severity (severity_within_one u.severity u.most h.severity) in
       record {
-        cells_rise = λ y N. le_trans _ _ _ (sum_to_le (N * u.most) _ _ (λ s b. where_le (u.clause s) y _ _ (p.cells_rise s N)))
+        cells_rise =
+            λ y N. le_trans _ _ _ (sum_to_le (N * u.most) _ _ (λ s b. where_le (u.clause s) y _ _ (p.cells_rise s N)))
             (sum_to_grows (N * u.most) (suc N * u.most) _ (omega arith));
         all_rises = p.all_rises;
-        within = λ y N. le_trans _ _ _ (le_of_eq _ _ (sum_to_swap y (N * u.most) (λ i s. where_true (nat_eq (u.clause s) i) (cell u.count u.severity s N))))
-            (le_trans _ _ _ (sum_to_le (N * u.most) _ _ (λ s b. at_most y (u.clause s) (cell u.count u.severity s N))) (p.within (N * u.most) N));
+        within = λ y N. le_trans _ _ _ (le_of_eq _ _
+            (sum_to_swap y (N * u.most) (λ i s. where_true (nat_eq (u.clause s) i) (cell u.count u.severity s N))))
+            (le_trans _ _ _ (sum_to_le (N * u.most) _ _ (λ s b. at_most y (u.clause s) (cell u.count u.severity s N)))
+            (p.within (N * u.most) N));
       }
 
   -- where the clause leaves each sum as it is, the outcomes are the cells of the compound sum
@@ -68,6 +74,7 @@ module _ (u : Aggregate) (h : IsUnit u) where
   unit_plain same y N =
       sum_to_same (N * u.most) _ _ (λ s b. ap (λ t. where_true (nat_eq t y) (cell u.count u.severity s N)) (same s))
       ∙ elim (cases_lt (N * u.most) y) [
-        | inl far ↦ pick_none (N * u.most) y (λ s. cell u.count u.severity s N) far ∙ sym (cell_past u.count u.severity u.most h.severity.past y N far)
+        | inl far ↦ pick_none (N * u.most) y (λ s. cell u.count u.severity s N) far
+            ∙ sym (cell_past u.count u.severity u.most h.severity.past y N far)
         | inr near ↦ pick (N * u.most) y (λ s. cell u.count u.severity s N) near
       ]

@@ -10,10 +10,11 @@ use Rattle.dl_exact.specs.Sum.{sum_to}
 use Rattle.dl_exact.proofs.Over.{over_same, over_le}
 use Rattle.dl_exact.proofs.Laws.{one_pos, le_trans, le_of_eq}
 use Rattle.dl_model.specs.Listed.{Weighted, weight_of, total_weight, probability, greatest}
-use Rattle.dl_model.proofs.SumLaws.{sum_to_over}
+use Rattle.dl_exact.proofs.SumsOver.{sum_to_over}
 
 -- a step of a weight, and of the total
-pub weight_of-cons : (item : ℕ × ℕ) (items : Weighted) (x : ℕ) → weight_of (item ∷ items) x ≡ (if item.0 == x then item.1 else 0) + weight_of items x
+pub weight_of-cons : (item : ℕ × ℕ) (items : Weighted) (x : ℕ)
+    → weight_of (item ∷ items) x ≡ (if item.0 == x then item.1 else 0) + weight_of items x
 weight_of-cons item items x = sum_by-cons (λ (i : ℕ × ℕ). if i.0 == x then i.1 else 0) item items
 
 pub total_weight-cons : (item : ℕ × ℕ) (items : Weighted) → total_weight (item ∷ items) ≡ item.1 + total_weight items
@@ -23,7 +24,8 @@ total_weight-cons item items = sum_by-cons (λ (i : ℕ × ℕ). i.1) item items
 pub weight_of-past : (items : Weighted) (x : ℕ) → greatest items < x → weight_of items x ≡ 0
 weight_of-past [] x h = refl
 weight_of-past (item ∷ items) x h =
-    rw (weight_of-cons item items x, ne_eqb item.0 x (omega arith)) (omega (arith, weight_of-past items x (omega arith)))
+    rw (weight_of-cons item items x, ne_eqb item.0 x (omega arith))
+    (omega (arith, weight_of-past items x (omega arith)))
 
 -- ---- sums of the weights
 
@@ -68,21 +70,36 @@ no_weights (suc n) = omega (arith, no_weights n)
 pub weights_le : (items : Weighted) (n : ℕ) → sum_through (weight_of items) n ≤ total_weight items
 weights_le [] n = omega (arith, no_weights n)
 weights_le (item ∷ items) n =
-    omega (arith, weights-cons item items n, total_weight-cons item items, one_weight item.0 item.1 n, weights_le items n)
+    omega (
+      arith,
+      weights-cons item items n,
+      total_weight-cons item items,
+      one_weight item.0 item.1 n,
+      weights_le items n,
+    )
 
 pub weights_all : (items : Weighted) (n : ℕ) → greatest items ≤ n → sum_through (weight_of items) n ≡ total_weight items
 weights_all [] n h = no_weights n
 weights_all (item ∷ items) n h =
-    omega (arith, weights-cons item items n, total_weight-cons item items, one_within item.0 item.1 n (omega arith), weights_all items n (omega arith))
+    omega (
+      arith,
+      weights-cons item items n,
+      total_weight-cons item items,
+      one_within item.0 item.1 n (omega arith),
+      weights_all items n (omega arith),
+    )
 
 -- ---- probabilities
 
-pub probability-past : (items : Weighted) (x : ℕ) → 0 < total_weight items → greatest items < x → probability items x ≡ whole 0
+pub probability-past : (items : Weighted) (x : ℕ) → 0 < total_weight items → greatest items < x
+    → probability items x ≡ whole 0
 probability-past items x pos h = over_same _ _ 0 1 pos one_pos (omega (arith, weight_of-past items x h))
 
-pub probabilities_all : (items : Weighted) (n : ℕ) → 0 < total_weight items → greatest items ≤ n → sum_to n (probability items) ≡ whole 1
+pub probabilities_all : (items : Weighted) (n : ℕ) → 0 < total_weight items → greatest items ≤ n
+    → sum_to n (probability items) ≡ whole 1
 probabilities_all items n pos h =
-    sum_to_over n (total_weight items) (weight_of items) pos ∙ over_same _ _ 1 1 pos one_pos (omega (arith, weights_all items n h))
+    sum_to_over n (total_weight items) (weight_of items) pos
+    ∙ over_same _ _ 1 1 pos one_pos (omega (arith, weights_all items n h))
 
 pub probabilities_le : (items : Weighted) (n : ℕ) → 0 < total_weight items → sum_to n (probability items) ≤ℚ whole 1
 probabilities_le items n pos = le_trans _ _ _
@@ -95,8 +112,10 @@ pub equal_total : (values : List ℕ) → total_weight (map (λ (v : ℕ). (v, 1
 equal_total [] = refl
 equal_total (v ∷ values) = omega (arith, total_weight-cons (v, 1) (map (λ (v : ℕ). (v, 1)) values), equal_total values)
 
-pub equal_weight : (values : List ℕ) (x : ℕ) → weight_of (map (λ (v : ℕ). (v, 1)) values) x ≡ count_by (λ v. v == x) values
+pub equal_weight : (values : List ℕ) (x : ℕ)
+    → weight_of (map (λ (v : ℕ). (v, 1)) values) x ≡ count_by (λ v. v == x) values
 equal_weight [] x = refl
 equal_weight (v ∷ values) x =
-    weight_of-cons (v, 1) (map (λ (v : ℕ). (v, 1)) values) x ∙ ap (λ t. (if v == x then 1 else 0) + t) (equal_weight values x)
+    weight_of-cons (v, 1) (map (λ (v : ℕ). (v, 1)) values) x
+    ∙ ap (λ t. (if v == x then 1 else 0) + t) (equal_weight values x)
     ∙ sym (sum_by-cons (λ (v : ℕ). if v == x then 1 else 0) v values)

@@ -4,7 +4,7 @@ use Rattle.dl_model.specs.Program.{Aggregate, AreUnits}
 use Rattle.dl_model.specs.Family.{mapped}
 use Rattle.dl_model.specs.Measures.{unit_of, without}
 
-without_suc : (us : List Aggregate) (i : ℕ) → without us i ≡ take i us ++ drop (suc i) us
+pub without_suc : (us : List Aggregate) (i : ℕ) → without us i ≡ take i us ++ drop (suc i) us
 without_suc [] zero = refl
 without_suc [] (suc i) = refl
 without_suc (u ∷ us) zero = refl

@@ -1,4 +1,5 @@
--- Compound sums: a random number of claims of random amounts (Klugman, Panjer and Willmot, Loss Models, "Aggregate loss models").
+-- Compound sums: a random number of claims of random amounts (Klugman, Panjer and Willmot, Loss
+-- Models, "Aggregate loss models").
 use Rattle.std.specs.Prelude.{ℕ, zero, suc, ◌+◌}
 use Rattle.dl_exact.specs.Fraction.{Fraction, whole, ◌*ℚ◌}
 use Rattle.dl_exact.specs.Sum.{sum_to, sum_pairs}
@@ -21,6 +22,7 @@ power f (suc n) = convolve f (power f n)
 abbrev pub cell : (ℕ → Fraction) → (ℕ → Fraction) → ℕ → ℕ → Fraction
 cell w f s N = sum_to N (λ n. w n *ℚ power f n s)
 
--- the same of the counts from k to k + N, the first k claims of each left out: Horner's rule goes from the greatest count down to k = 0
+-- the same of the counts from k to k + N, the first k claims of each left out: Horner's rule goes
+-- from the greatest count down to k = 0
 abbrev pub cell_from : (ℕ → Fraction) → (ℕ → Fraction) → ℕ → ℕ → ℕ → Fraction
 cell_from w f k s N = sum_to N (λ n. w (k + n) *ℚ power f n s)

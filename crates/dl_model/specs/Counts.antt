@@ -1,5 +1,6 @@
--- The weights of claim counts. Those of Poisson and gamma counts are the probabilities without their constant factor (Klugman,
--- Panjer and Willmot, Loss Models, "The (a, b, 0) class"); the others are probabilities.
+-- The weights of claim counts. Those of Poisson and gamma counts are the probabilities without
+-- their constant factor (Klugman, Panjer and Willmot, Loss Models, "The (a, b, 0) class"); the
+-- others are probabilities.
 use Rattle.std.specs.Prelude.{ℕ, zero, suc, ◌≡◌, ◌+◌, ◌-◌, ◌*◌, ◌^◌, nat_eq}
 use Rattle.dl_exact.specs.Fraction.{Fraction, whole, ◌over◌, ◌+ℚ◌, ◌*ℚ◌, ◌/ℚ◌, ◌<ℚ◌}
 use Rattle.dl_exact.specs.Power.{◌^ℚ◌, factorial, choose}
@@ -11,7 +12,8 @@ use Rattle.dl_model.specs.Program.{where_true}
 abbrev pub fixed : ℕ → ℕ → Fraction
 fixed m n = where_true (nat_eq n m) (whole 1)
 
--- m trials, each a claim with probability a / b: C(m, n) * a^n * (b - a)^(m - n) / b^m, and 0 above m
+-- m trials, each a claim with probability a / b: C(m, n) * a^n * (b - a)^(m - n) / b^m, and 0 above
+-- m
 abbrev pub binomial : ℕ → ℕ → ℕ → ℕ → Fraction
 binomial m a b n = (choose m n * a ^ n * (b - a) ^ (m - n)) over (b ^ m)
 
@@ -27,13 +29,14 @@ gamma r x n = whole (choose (r + n - 1) n) *ℚ x ^ℚ n
 abbrev pub gamma_of : ℕ → Fraction → ℕ → Fraction
 gamma_of r v = gamma r (v /ℚ (whole r +ℚ v))
 
--- w are the weights of a count of the (a, b, 0) class: 1 at 0, and w (n + 1) = (a + b / (n + 1)) * w n
+-- w are the weights of a count of the (a, b, 0) class: 1 at 0, and w (n + 1) = (a + b / (n + 1)) *
+-- w n
 pub record IsPanjer (a b : Fraction) (w : ℕ → Fraction) : Type 0 where
   pub start : w zero ≡ whole 1
   pub next : (n : ℕ) → w (suc n) *ℚ whole (suc n) ≡ (a *ℚ whole (suc n) +ℚ b) *ℚ w n
 
--- Count weights that can be declared: their sums, and those of each number times its weight, are bounded; some sum is above 0; and
--- the sums come near their least upper bound.
+-- Count weights that can be declared: their sums, and those of each number times its weight, are
+-- bounded; some sum is above 0; and the sums come near their least upper bound.
 pub record IsCount (w : ℕ → Fraction) : Type 0 where
   pub bound : Fraction
   pub bounded : IsBound (λ N. sum_to N w) bound

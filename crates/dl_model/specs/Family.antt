@@ -28,13 +28,17 @@ total us = record { cells = λ x. partial_sums us (Point x); all = partial_sums 
 
 -- outcomes of two families added up, level by level
 abbrev pub product : Family → Family → Family
-product F G = record { cells = λ y N. sum_pairs y (λ i j. F.cells i N *ℚ G.cells j N); all = times F.all G.all }
+product F G = record {
+  cells = λ y N. sum_pairs y (λ i j. F.cells i N *ℚ G.cells j N);
+  all = times F.all G.all;
+}
 
 -- the outcome 0 alone
 abbrev pub nothing : Family
 nothing = record { cells = λ y N. at_zero y; all = λ N. whole 1 }
 
--- n outcomes of F added up: at each level the n-th convolution power of its cells, and the n-th power of its whole weight
+-- n outcomes of F added up: at each level the n-th convolution power of its cells, and the n-th
+-- power of its whole weight
 abbrev pub times_itself : Family → ℕ → Family
 times_itself F n = record { cells = λ y N. power (λ j. F.cells j N) n y; all = λ N. F.all N ^ℚ n }
 
@@ -44,7 +48,8 @@ pub record IsProper (F : Family) : Type 0 where
   pub all_rises : Rises F.all
   pub within : (y N : ℕ) → sum_to y (λ i. F.cells i N) ≤ℚ F.all N
 
--- A grid of K cells, with low ends lo y and high ends hi y in units of 1 / S, encloses F: each cell holds the declared value.
+-- A grid of K cells, with low ends lo y and high ends hi y in units of 1 / S, encloses F: each cell
+-- holds the declared value.
 abbrev pub Encloses : ℕ → ℕ → (ℕ → ℕ) → (ℕ → ℕ) → Family → Type 0
 Encloses S K lo hi F = (y : ℕ) → y < K → Holds (F.cells y) F.all (lo y over S) (hi y over S)
 

@@ -1,16 +1,12 @@
--- Quantiles, and the ends that an enclosing grid gives for a distribution, its layers and its joint means.
+-- Quantiles, and the ends that an enclosing grid gives for a distribution, its layers and its joint
+-- means.
 use Rattle.std.specs.Prelude.{ℕ, zero, suc, ◌≡◌, ◌+◌, ◌-◌, ◌<◌, ◌≤◌, min, nat_lt, Option, Some, List, [], ◌∷◌, sum}
 use Rattle.dl_exact.specs.Fraction.{Fraction, whole, ◌over◌, ◌+ℚ◌, ◌-ℚ◌, ◌<ℚ◌}
 use Rattle.dl_model.specs.Series.{Series, AtMost, AtLeast, Below}
-use Rattle.dl_model.specs.Ways.{count_below}
+use Rattle.dl_exact.specs.Count.{count_below}
 use Rattle.dl_model.specs.Counts.{IsCount}
 use Rattle.dl_model.specs.Program.{Aggregate, IsUnit, Quantity, One, Point, Cdf, Mean, Layer, Tail, Joint, where_true, sum_over_outcomes, partial_sums}
 use Rattle.dl_model.specs.Family.{Family, mapped, nothing}
-
--- f 0 + .. + f (n - 1)
-unfoldable pub sum_below : ℕ → (ℕ → Fraction) → Fraction
-sum_below zero f = whole 0
-sum_below (suc n) f = sum_below n f +ℚ f n
 
 -- 1 where the total is above x
 abbrev pub above : ℕ → List ℕ → Fraction
@@ -25,15 +21,19 @@ pub record IsQuantile (units : List Aggregate) (q : ℕ) (p : Fraction) : Type 0
   pub reached : AtLeast (partial_sums units (Cdf q)) (partial_sums units One) p
   pub before : (x : ℕ) → q ≡ suc x → Below (partial_sums units (Cdf x)) (partial_sums units One) p
 
--- from lo to hi is a bracket at p: the distribution is below p before lo, and at least p at hi where there is one
-pub record IsBracketed (units : List Aggregate) (lo : ℕ) (hi : Option ℕ) (p : Fraction) : Type 0 where
+-- from lo to hi is a bracket at p: the distribution is below p before lo, and at least p at hi
+-- where there is one
+pub record IsBracketed (units : List Aggregate) (lo : ℕ) (hi : Option ℕ)
+    (p : Fraction) : Type 0 where
   pub before : (x : ℕ) → lo ≡ suc x → Below (partial_sums units (Cdf x)) (partial_sums units One) p
-  pub reached : (x : ℕ) → hi ≡ Some x → AtLeast (partial_sums units (Cdf x)) (partial_sums units One) p
+  pub reached : (x : ℕ) → hi ≡ Some x
+      → AtLeast (partial_sums units (Cdf x)) (partial_sums units One) p
 
 -- inside the bracket and the K cells the distribution is within d of p
 abbrev pub IsTight : List Aggregate → ℕ → ℕ → Option ℕ → Fraction → Fraction → Type 0
 IsTight units K lo hi p d = (x : ℕ) → lo ≤ x → x < K → ((y : ℕ) → hi ≡ Some y → x < y)
-    → AtMost (partial_sums units (Cdf x)) (partial_sums units One) (p +ℚ d) × AtLeast (partial_sums units (Cdf x)) (partial_sums units One) (p -ℚ d)
+    → AtMost (partial_sums units (Cdf x)) (partial_sums units One) (p +ℚ d) × AtLeast
+    (partial_sums units (Cdf x)) (partial_sums units One) (p -ℚ d)
 
 -- the family of unit i, and the outcome 0 where there is none
 abbrev pub unit_of : List Aggregate → ℕ → Family
@@ -55,13 +55,16 @@ low_cdf S lo x = count_below (suc x) lo over S
 abbrev pub high_cdf : ℕ → (ℕ → ℕ) → ℕ → Fraction
 high_cdf S hi x = min S (count_below (suc x) hi) over S
 
--- the low end of a layer with a limit, from the high ends of a grid: what the distribution leaves of S, over the layer
+-- the low end of a layer with a limit, from the high ends of a grid: what the distribution leaves
+-- of S, over the layer
 abbrev pub low_layer : ℕ → (ℕ → ℕ) → ℕ → ℕ → Fraction
-low_layer S hi limit attachment = count_below limit (λ i. S - min S (count_below (suc (attachment + i)) hi)) over S
+low_layer S hi limit attachment =
+    count_below limit (λ i. S - min S (count_below (suc (attachment + i)) hi)) over S
 
 -- the high end, from the low ends of the grid
 abbrev pub high_layer : ℕ → (ℕ → ℕ) → ℕ → ℕ → Fraction
-high_layer S lo limit attachment = count_below limit (λ i. S - count_below (suc (attachment + i)) lo) over S
+high_layer S lo limit attachment =
+    count_below limit (λ i. S - count_below (suc (attachment + i)) lo) over S
 
 -- a unit that can be declared, its count included
 pub record IsDeclared (u : Aggregate) : Type 0 where

@@ -25,8 +25,9 @@ count_weights (Binomial trials q) = binomial trials q.num q.den
 count_weights (Poisson mean) = poisson mean
 count_weights (Gamma shape mean) = gamma_of shape mean
 
--- What an aggregate clause makes of a sum. A sum of claims is a multiple of the common divisor of the amounts, and there the clause of
--- a valid plan keeps a whole number; the floor gives a value at each other number, which no sum is.
+-- What an aggregate clause makes of a sum. A sum of claims is a multiple of the common divisor of
+-- the amounts, and there the clause of a valid plan keeps a whole number; the floor gives a value
+-- at each other number, which no sum is.
 abbrev pub clause_of : Option Clause → ℕ → ℕ
 clause_of None s = s
 clause_of (Some clause) s = (kept clause s).num / (kept clause s).den
@@ -47,14 +48,6 @@ aggregates_of plan = map aggregate_of plan.units
 -- the sums of claims, before a clause
 abbrev pub compound_of : Freq → Sev → Family
 compound_of freq sev = compound (count_weights freq) (probability_of sev)
-
--- the outcomes of a unit, after its clause
-abbrev pub mapped_of : UnitOfPlan → Family
-mapped_of u = mapped (aggregate_of u)
-
--- the totals of independent units
-abbrev pub total_of : List UnitOfPlan → Family
-total_of units = total (map aggregate_of units)
 
 -- the sum of the claims of a unit, before its clause
 abbrev pub claims_of : UnitOfPlan → Aggregate

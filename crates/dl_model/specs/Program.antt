@@ -12,8 +12,8 @@ abbrev pub where_true : Bool → Fraction → Fraction
 where_true true x = x
 where_true false x = whole 0
 
--- The aggregate loss of a unit: the weight of each claim count (not normalised), the probability of each amount of one claim,
--- the greatest amount, and what the aggregate clause makes of the sum.
+-- The aggregate loss of a unit: the weight of each claim count (not normalised), the probability of
+-- each amount of one claim, the greatest amount, and what the aggregate clause makes of the sum.
 pub record Aggregate : Type 0 where
   pub count : ℕ → Fraction
   pub severity : ℕ → Fraction
@@ -22,10 +22,12 @@ pub record Aggregate : Type 0 where
 
 -- the unit's outcome y, from at most N claims: the sums that the clause maps to y
 abbrev pub outcome : Aggregate → ℕ → Series
-outcome u y N = sum_to (N * u.most) (λ s. where_true (nat_eq (u.clause s) y) (cell u.count u.severity s N))
+outcome u y N =
+    sum_to (N * u.most) (λ s. where_true (nat_eq (u.clause s) y) (cell u.count u.severity s N))
 
--- What is asked of the total: that it is there at all, that it is x, that it is at most x, its mean, its part in the layer of a
--- limit above an attachment, its tail mean at p where q is the quantile, and the outcome of unit i where the total is x.
+-- What is asked of the total: that it is there at all, that it is x, that it is at most x, its
+-- mean, its part in the layer of a limit above an attachment, its tail mean at p where q is the
+-- quantile, and the outcome of unit i where the total is x.
 pub data Quantity : Type 0 where
   One : Quantity
   Point : ℕ → Quantity
@@ -50,20 +52,29 @@ score (Layer limit attachment) ys = whole (in_layer limit attachment (sum ys))
 score (Tail p q) ys = whole q +ℚ whole (sum ys - q) /ℚ (whole 1 -ℚ p)
 score (Joint i x) ys = where_true (nat_eq (sum ys) x) (whole (get_or ys i 0))
 
--- the sum, over all lists of one outcome from 0 to N times the greatest amount for each unit, of the value times the product of the outcomes' parts
+-- the sum, over all lists of one outcome from 0 to N times the greatest amount for each unit, of
+-- the value times the product of the outcomes' parts
 unfoldable pub sum_over_outcomes : List Aggregate → (List ℕ → Fraction) → Series
 sum_over_outcomes [] value N = value []
-sum_over_outcomes (u ∷ us) value N = sum_to (N * u.most) (λ y. outcome u y N *ℚ sum_over_outcomes us (λ ys. value (y ∷ ys)) N)
+sum_over_outcomes (u ∷ us) value N =
+    sum_to (N * u.most) (λ y. outcome u y N *ℚ sum_over_outcomes us (λ ys. value (y ∷ ys)) N)
 
--- the quantity over at most N claims of each unit; its declared value is the least upper bound of these, divided by that of One
+-- the quantity over at most N claims of each unit; its declared value is the least upper bound of
+-- these, divided by that of One
 abbrev pub partial_sums : List Aggregate → Quantity → Series
 partial_sums units quantity = sum_over_outcomes units (score quantity)
 
 -- a unit of listed counts and listed amounts, without an aggregate clause
 abbrev pub listed : Weighted → Weighted → Aggregate
-listed counts amounts = record { count = probability counts; severity = probability amounts; most = greatest amounts; clause = λ s. s }
+listed counts amounts = record {
+  count = probability counts;
+  severity = probability amounts;
+  most = greatest amounts;
+  clause = λ s. s;
+}
 
--- a unit that can be declared: its probabilities add up to 1, and its aggregate clause raises no sum
+-- a unit that can be declared: its probabilities add up to 1, and its aggregate clause raises no
+-- sum
 pub record IsUnit (u : Aggregate) : Type 0 where
   pub severity : IsSeverity u.severity u.most
   pub clause : (s : ℕ) → u.clause s ≤ s

@@ -1,4 +1,5 @@
--- Series of fractions, and the value that one declares over another: a quotient of least upper bounds, said without real numbers.
+-- Series of fractions, and the value that one declares over another: a quotient of least upper
+-- bounds, said without real numbers.
 use Rattle.std.specs.Prelude.{ℕ, suc, ◌≡◌, ◌↔◌}
 use Rattle.dl_exact.specs.Fraction.{Fraction, whole, ◌+ℚ◌, ◌*ℚ◌, ◌≤ℚ◌, ◌<ℚ◌}
 
@@ -45,12 +46,15 @@ SameBounds Q R = (u : Fraction) → IsBound Q u ↔ IsBound R u
 
 -- the declared value of Q over R is that of Q' over R'
 abbrev pub SameValue : Series → Series → Series → Series → Type 0
-SameValue Q R Q' R' = ((l : Fraction) → AtLeast Q R l ↔ AtLeast Q' R' l) × ((h : Fraction) → AtMost Q R h ↔ AtMost Q' R' h)
+SameValue Q R Q' R' = ((l : Fraction) → AtLeast Q R l ↔ AtLeast Q' R' l) ×
+    ((h : Fraction) → AtMost Q R h ↔ AtMost Q' R' h)
 
 -- L is the least upper bound of Q
 abbrev pub IsLeastBound : Series → Fraction → Type 0
 IsLeastBound Q L = IsBound Q L × ((u : Fraction) → IsBound Q u → L ≤ℚ u)
 
--- R comes near its least upper bound: for each part p of 1, some term is at least p times every term
+-- R comes near its least upper bound: for each part p of 1, some term is at least p times every
+-- term
 abbrev pub Settles : Series → Type 0
-Settles R = (p q : Fraction) → p +ℚ q ≡ whole 1 → whole 0 <ℚ q → (K : ℕ) × ((N : ℕ) → p *ℚ R N ≤ℚ R K)
+Settles R = (p q : Fraction) → p +ℚ q ≡ whole 1 → whole 0 <ℚ q
+    → (K : ℕ) × ((N : ℕ) → p *ℚ R N ≤ℚ R K)

@@ -7,7 +7,8 @@ use Rattle.dl_exact.specs.Sum.{sum_to}
 abbrev pub IsWithinOne : (ℕ → Fraction) → Type 0
 IsWithinOne f = (n : ℕ) → sum_to n f ≤ℚ whole 1
 
--- the probabilities of the amounts from 0 to the greatest add up to 1, and no amount is above the greatest
+-- the probabilities of the amounts from 0 to the greatest add up to 1, and no amount is above the
+-- greatest
 pub record IsSeverity (f : ℕ → Fraction) (most : ℕ) : Type 0 where
   pub add_up : sum_to most f ≡ whole 1
   pub past : (j : ℕ) → most < j → f j ≡ whole 0

@@ -1,11 +1,6 @@
--- Sums and compound sums of whole numbers.
-use Rattle.std.specs.Prelude.{ℕ, zero, suc, ◌+◌, ◌*◌}
-use Rattle.dl_grid.specs.Pairs.{count_pairs}
-
--- f 0 + .. + f (n - 1)
-unfoldable pub count_below : ℕ → (ℕ → ℕ) → ℕ
-count_below zero f = 0
-count_below (suc n) f = count_below n f + f n
+-- Compound sums of whole numbers.
+use Rattle.std.specs.Prelude.{ℕ, zero, suc, ◌*◌}
+use Rattle.dl_exact.specs.Count.{count_pairs}
 
 -- the weighted ways in which n claims add up to s, where w j is the weight of amount j
 unfoldable pub ways : (ℕ → ℕ) → ℕ → ℕ → ℕ

@@ -1,5 +1,5 @@
-//! The laws of the means of units with aggregate clauses: from the mean of the sum of the claims, and
-//! from those of the layers of that sum.
+//! The laws of the means of units with aggregate clauses: from the mean of the sum of the claims,
+//! and from those of the layers of that sum.
 
 ghost use Rattle.std.specs.Prelude.{ℕ, ◌≡◌, ◌++◌, true, false, None, Some, List, [], ◌∷◌, All};
 ghost use Rattle.dl_exact.specs.Fraction.{Fraction, whole, ◌+ℚ◌, ◌-ℚ◌, ◌*ℚ◌};
@@ -16,20 +16,24 @@ ghost use Rattle.dl_model.specs.Family.{total, Encloses};
 ghost use Rattle.dl_model.specs.Measures.{IsDeclared};
 ghost use Rattle.dl_model.specs.Plans.{aggregate_of, compound_of, claims_of, mean_ceded};
 
-/// The sum of the claims of a valid plan's unit can be declared, whatever the clause. A grid that encloses
-/// the compound sum encloses it, and its mean is the expected count times the mean of one claim.
+/// The sum of the claims of a valid plan's unit can be declared, whatever the clause. A grid that
+/// encloses the compound sum encloses it, and its mean is the expected count times the mean of one
+/// claim.
 pub fn law_claims()
-    ensures declared { (cells : ℕ) (u : UnitOfPlan) → IsValidUnit cells u → IsDeclared (claims_of u) }
+    ensures declared { (cells : ℕ) (u : UnitOfPlan) → IsValidUnit cells u
+        → IsDeclared (claims_of u) }
     ensures encloses { (cells : ℕ) (u : UnitOfPlan) (S K : ℕ) (lo hi : ℕ → ℕ) → IsValidUnit cells u
-        → Encloses S K lo hi (compound_of u.freq u.sev) → Encloses S K lo hi (total (claims_of u ∷ [])) }
+        → Encloses S K lo hi (compound_of u.freq u.sev)
+        → Encloses S K lo hi (total (claims_of u ∷ [])) }
     ensures mean { (cells : ℕ) (u : UnitOfPlan) → IsValidUnit cells u
         → Holds (partial_sums (claims_of u ∷ []) Mean) (partial_sums (claims_of u ∷ []) One)
         (expected_count u.freq *ℚ mean_amount (pairs_of u.sev))
         (expected_count u.freq *ℚ mean_amount (pairs_of u.sev)) }
 {}
 
-/// The mean of what layers take of the sum of the claims is the sum over the layers of the share times the
-/// mean of the layer: of no layers it is 0, of one layer its part, and of two lists of layers the sum.
+/// The mean of what layers take of the sum of the claims is the sum over the layers of the share
+/// times the mean of the layer: of no layers it is 0, of one layer its part, and of two lists of
+/// layers the sum.
 pub fn law_mean_ceded()
     ensures none { (u : UnitOfPlan)
         → Holds (mean_ceded u []) (partial_sums (claims_of u ∷ []) One) (whole 0) (whole 0) }
@@ -38,12 +42,15 @@ pub fn law_mean_ceded()
         (partial_sums (claims_of u ∷ []) One) l h
         → Holds (mean_ceded u (layer ∷ [])) (partial_sums (claims_of u ∷ []) One)
         (layer.share *ℚ l) (layer.share *ℚ h) }
-    ensures together { (cells : ℕ) (u : UnitOfPlan) (layers others : List CedeLayer) (l h l' h' : Fraction)
+    ensures together { (cells : ℕ) (u : UnitOfPlan) (layers others : List CedeLayer)
+        (l h l' h' : Fraction)
         → IsValidUnit cells u
         → Holds (mean_ceded u layers) (partial_sums (claims_of u ∷ []) One) l h
         → Holds (mean_ceded u others) (partial_sums (claims_of u ∷ []) One) l' h'
-        → Holds (mean_ceded u (layers ++ others)) (partial_sums (claims_of u ∷ []) One) (l +ℚ l') (h +ℚ h') }
-    ensures each { (cells : ℕ) (u : UnitOfPlan) (layers : List CedeLayer) (l h : CedeLayer → Fraction)
+        → Holds (mean_ceded u (layers ++ others)) (partial_sums (claims_of u ∷ []) One) (l +ℚ l')
+        (h +ℚ h') }
+    ensures each { (cells : ℕ) (u : UnitOfPlan) (layers : List CedeLayer)
+        (l h : CedeLayer → Fraction)
         → IsValidUnit cells u
         → All (λ layer. Holds (partial_sums (claims_of u ∷ []) (Layer layer.limit layer.attach))
         (partial_sums (claims_of u ∷ []) One) (l layer) (h layer)) layers
@@ -51,18 +58,22 @@ pub fn law_mean_ceded()
         (sum_over layers (λ layer. layer.share *ℚ l layer)) (sum_over layers (λ layer. layer.share *ℚ h layer)) }
 {}
 
-/// The mean of a valid plan's unit after its aggregate clause: on the ceded side it is that of what the
-/// layers take, and on the net side what this leaves of the mean of the sum of the claims. Where there is
-/// no clause, the unit is the sum of its claims.
+/// The mean of a valid plan's unit after its aggregate clause: on the ceded side it is that of what
+/// the layers take, and on the net side what this leaves of the mean of the sum of the claims.
+/// Where there is no clause, the unit is the sum of its claims.
 pub fn law_clause_mean()
     ensures none { (u : UnitOfPlan) → u.cede ≡ None → aggregate_of u ≡ claims_of u }
-    ensures ceded { (cells : ℕ) (u : UnitOfPlan) (clause : Clause) (l h : Fraction) → IsValidUnit cells u
+    ensures ceded { (cells : ℕ) (u : UnitOfPlan) (clause : Clause) (l h : Fraction)
+        → IsValidUnit cells u
         → u.cede ≡ Some clause → clause.0 ≡ false
         → Holds (mean_ceded u clause.1) (partial_sums (claims_of u ∷ []) One) l h
-        → Holds (partial_sums (aggregate_of u ∷ []) Mean) (partial_sums (aggregate_of u ∷ []) One) l h }
-    ensures net { (cells : ℕ) (u : UnitOfPlan) (clause : Clause) (l h m n : Fraction) → IsValidUnit cells u
+        → Holds (partial_sums (aggregate_of u ∷ []) Mean)
+        (partial_sums (aggregate_of u ∷ []) One) l h }
+    ensures net { (cells : ℕ) (u : UnitOfPlan) (clause : Clause) (l h m n : Fraction)
+        → IsValidUnit cells u
         → u.cede ≡ Some clause → clause.0 ≡ true
         → Holds (mean_ceded u clause.1) (partial_sums (claims_of u ∷ []) One) l h
         → Holds (partial_sums (claims_of u ∷ []) Mean) (partial_sums (claims_of u ∷ []) One) m n
-        → Holds (partial_sums (aggregate_of u ∷ []) Mean) (partial_sums (aggregate_of u ∷ []) One) (m -ℚ h) (n -ℚ l) }
+        → Holds (partial_sums (aggregate_of u ∷ []) Mean) (partial_sums (aggregate_of u ∷ []) One)
+        (m -ℚ h) (n -ℚ l) }
 {}

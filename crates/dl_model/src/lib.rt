@@ -1,5 +1,5 @@
-//! What a program declares, in unbounded fractions, and the laws of declared values. Each law is the
-//! contract of a function with an empty body.
+//! What a program declares, in unbounded fractions, and the laws of declared values. Each law is
+//! the contract of a function with an empty body.
 #![tactic(auto)]
 
 pub mod clause_means;

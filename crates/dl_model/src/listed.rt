@@ -5,17 +5,21 @@ ghost use Rattle.dl_exact.specs.Fraction.{Fraction, whole, ◌over◌, ◌+ℚ�
 ghost use Rattle.dl_exact.specs.Sum.{sum_to};
 ghost use Rattle.dl_model.specs.Series.{Holds};
 ghost use Rattle.dl_model.specs.Compound.{convolve, at_zero, cell, cell_from};
-ghost use Rattle.dl_grid.specs.Pairs.{count_pairs};
+ghost use Rattle.dl_exact.specs.Count.{count_pairs};
 ghost use Rattle.dl_plan.specs.declared.item.Item.{Item};
 ghost use Rattle.dl_plan.specs.Weighted.{weight_at, weight_sum};
 ghost use Rattle.dl_model.specs.Listed.{Weighted, weighted, weight_of, total_weight, probability, greatest};
 ghost use Rattle.dl_model.specs.Program.{One, Point, partial_sums, listed};
 
-/// The probabilities of listed numbers add up to 1 from the greatest number on, and to at most 1 before it.
+/// The probabilities of listed numbers add up to 1 from the greatest number on, and to at most 1
+/// before it.
 pub fn law_probabilities()
-    ensures all { (items : Weighted) (n : ℕ) → 0 < total_weight items → greatest items ≤ n → sum_to n (probability items) ≡ whole 1 }
-    ensures before { (items : Weighted) (n : ℕ) → 0 < total_weight items → sum_to n (probability items) ≤ℚ whole 1 }
-    ensures past { (items : Weighted) (x : ℕ) → 0 < total_weight items → greatest items < x → probability items x ≡ whole 0 }
+    ensures all { (items : Weighted) (n : ℕ) → 0 < total_weight items → greatest items ≤ n
+        → sum_to n (probability items) ≡ whole 1 }
+    ensures before { (items : Weighted) (n : ℕ) → 0 < total_weight items
+        → sum_to n (probability items) ≤ℚ whole 1 }
+    ensures past { (items : Weighted) (x : ℕ) → 0 < total_weight items → greatest items < x
+        → probability items x ≡ whole 0 }
 {}
 
 /// The model's weights of a plan's items are those of the plan.
@@ -24,46 +28,60 @@ pub fn law_weighted()
     ensures all { (items : List Item) → total_weight (weighted items) ≡ weight_sum items }
 {}
 
-/// Of equally likely numbers the weight of `x` is how often it stands there, and the whole weight is how many there are.
+/// Of equally likely numbers the weight of `x` is how often it stands there, and the whole weight
+/// is how many there are.
 pub fn law_equally_likely()
-    ensures weight { (values : List ℕ) (x : ℕ) → weight_of (map (λ (v : ℕ). (v, 1)) values) x ≡ count_by (λ v. v == x) values }
-    ensures total { (values : List ℕ) → total_weight (map (λ (v : ℕ). (v, 1)) values) ≡ length values }
+    ensures weight { (values : List ℕ) (x : ℕ)
+        → weight_of (map (λ (v : ℕ). (v, 1)) values) x ≡ count_by (λ v. v == x) values }
+    ensures total { (values : List ℕ) → total_weight (map (λ (v : ℕ). (v, 1)) values)
+        ≡ length values }
 {}
 
-/// What encloses the part of the sum `x` that comes from at most the greatest listed count holds the declared probability of `x`.
+/// What encloses the part of the sum `x` that comes from at most the greatest listed count holds
+/// the declared probability of `x`.
 pub fn law_listed()
-    ensures { (counts amounts : Weighted) (x : ℕ) (l h : Fraction) → 0 < total_weight counts → 0 < total_weight amounts
+    ensures { (counts amounts : Weighted) (x : ℕ) (l h : Fraction) → 0 < total_weight counts
+        → 0 < total_weight amounts
         → l ≤ℚ cell (probability counts) (probability amounts) x (greatest counts)
         → cell (probability counts) (probability amounts) x (greatest counts) ≤ℚ h
-        → Holds (partial_sums (listed counts amounts ∷ []) (Point x)) (partial_sums (listed counts amounts ∷ []) One) l h }
+        → Holds (partial_sums (listed counts amounts ∷ []) (Point x))
+        (partial_sums (listed counts amounts ∷ []) One) l h }
 {}
 
 /// With exactly one claim the probability of the sum `x` is that of the amount `x`.
 pub fn law_one_claim()
     ensures { (amounts : Weighted) (x : ℕ)
-        → cell (probability ((1, 1) ∷ [])) (probability amounts) x (greatest ((1, 1) ∷ [])) ≡ probability amounts x }
+        → cell (probability ((1, 1) ∷ [])) (probability amounts) x (greatest ((1, 1) ∷ []))
+        ≡ probability amounts x }
 {}
 
-/// Horner's rule, for every weight `w` of a count and every severity `f`: the greatest count leaves its weight at 0, each count
-/// before it adds its own weight at 0 to the convolution of the severity with what stands after it, and the count 0 ends with
-/// the compound sum.
+/// Horner's rule, for every weight `w` of a count and every severity `f`: the greatest count leaves
+/// its weight at 0, each count before it adds its own weight at 0 to the convolution of the
+/// severity with what stands after it, and the count 0 ends with the compound sum.
 pub fn law_horner()
     ensures greatest { (w f : ℕ → Fraction) (k s : ℕ) → cell_from w f k s 0 ≡ w k *ℚ at_zero s }
     ensures step { (w f : ℕ → Fraction) (k s N : ℕ)
-        → cell_from w f k s (suc N) ≡ w k *ℚ at_zero s +ℚ convolve f (λ j. cell_from w f (suc k) j N) s }
+        → cell_from w f k s (suc N) ≡ w k *ℚ at_zero s +ℚ convolve f
+        (λ j. cell_from w f (suc k) j N) s }
     ensures none { (w f : ℕ → Fraction) (s N : ℕ) → cell_from w f 0 s N ≡ cell w f s N }
 {}
 
-/// A step of Horner's rule on a grid of `K` cells, in units of 1 / S, rounded outward: with `lo` below the severity, `low` below what
-/// stands after it, and `start` below the count's weight, the next low ends are a floor of the convolution, and `start` more at 0.
-/// The high ends go the other way.
+/// A step of Horner's rule on a grid of `K` cells, in units of 1 / S, rounded outward: with `lo`
+/// below the severity, `low` below what stands after it, and `start` below the count's weight, the
+/// next low ends are a floor of the convolution, and `start` more at 0. The high ends go the other
+/// way.
 pub fn law_horner_outward()
     ensures low { (S K k N : ℕ) (w f : ℕ → Fraction) (lo low next : ℕ → ℕ) (start : ℕ) → 0 < S
-        → ((i : ℕ) → i < K → lo i over S ≤ℚ f i) → ((j : ℕ) → j < K → low j over S ≤ℚ cell_from w f (suc k) j N)
+        → ((i : ℕ) → i < K → lo i over S ≤ℚ f i)
+        → ((j : ℕ) → j < K → low j over S ≤ℚ cell_from w f (suc k) j N)
         → start over S ≤ℚ w k → ((s : ℕ) → s < K → next s * S ≤ count_pairs s (λ i j. lo i * low j))
-        → (s : ℕ) → s < K → ((if s == 0 then start else 0) + next s) over S ≤ℚ cell_from w f k s (suc N) }
+        → (s : ℕ) → s < K → ((if s == 0 then start else 0) + next s) over S ≤ℚ cell_from w f k s
+        (suc N) }
     ensures high { (S K k N : ℕ) (w f : ℕ → Fraction) (hi high next : ℕ → ℕ) (start : ℕ) → 0 < S
-        → ((i : ℕ) → i < K → f i ≤ℚ hi i over S) → ((j : ℕ) → j < K → cell_from w f (suc k) j N ≤ℚ high j over S)
-        → w k ≤ℚ start over S → ((s : ℕ) → s < K → count_pairs s (λ i j. hi i * high j) ≤ next s * S)
-        → (s : ℕ) → s < K → cell_from w f k s (suc N) ≤ℚ ((if s == 0 then start else 0) + next s) over S }
+        → ((i : ℕ) → i < K → f i ≤ℚ hi i over S)
+        → ((j : ℕ) → j < K → cell_from w f (suc k) j N ≤ℚ high j over S)
+        → w k ≤ℚ start over S → ((s : ℕ) → s < K
+        → count_pairs s (λ i j. hi i * high j) ≤ next s * S)
+        → (s : ℕ) → s < K → cell_from w f k s (suc N) ≤ℚ
+        ((if s == 0 then start else 0) + next s) over S }
 {}

@@ -1,5 +1,6 @@
-//! The laws of valid plans, over the definitions alone: every quantity is bounded, the whole weight is above 0, and the probabilities
-//! add up to 1; so there is at most one quantile. Each unit declares what its parts say.
+//! The laws of valid plans, over the definitions alone: every quantity is bounded, the whole weight
+//! is above 0, and the probabilities add up to 1; so there is at most one quantile. Each unit
+//! declares what its parts say.
 
 ghost use Rattle.std.specs.Prelude.{ℕ, ◌≡◌, ◌≢◌, ◌*◌, ◌^◌, ◌≤◌, Option, Some, None, List, [], ◌∷◌, All};
 ghost use Rattle.dl_exact.specs.Fraction.{Fraction, whole, ◌*ℚ◌, ◌/ℚ◌, ◌<ℚ◌};
@@ -23,24 +24,29 @@ ghost use Rattle.dl_model.specs.Plans.{count_weights, clause_of, aggregate_of, a
 
 use dl_plan::Plan;
 
-/// The units of a valid plan can be declared: their probabilities add up to 1, their clauses raise no sum, and their counts are bounded.
+/// The units of a valid plan can be declared: their probabilities add up to 1, their clauses raise
+/// no sum, and their counts are bounded.
 pub fn law_declared()
-    ensures unit { (cells : ℕ) (u : UnitOfPlan) → IsValidUnit cells u → IsDeclared (aggregate_of u) }
+    ensures unit { (cells : ℕ) (u : UnitOfPlan) → IsValidUnit cells u
+        → IsDeclared (aggregate_of u) }
     ensures plan { (plan : Plan) → IsValid plan → AreDeclared (aggregates_of plan) }
     ensures units { (plan : Plan) → IsValid plan → AreUnits (aggregates_of plan) }
 {}
 
-/// What a clause makes of a sum is what it keeps where that is whole; and no sum stands where it need not be: each is a multiple of
-/// the greatest common divisor of the amounts.
+/// What a clause makes of a sum is what it keeps where that is whole; and no sum stands where it
+/// need not be: each is a multiple of the greatest common divisor of the amounts.
 pub fn law_clause_of()
-    ensures whole { (clause : Clause) (s y : ℕ) → kept clause s ≡ whole y → clause_of (Some clause) s ≡ y }
-    ensures elsewhere { (sev : Sev) (w : ℕ → Fraction) (s N : ℕ) → ((n : ℕ) → s ≢ n * common_amount sev.items) → cell w (probability_of sev) s N ≡ whole 0 }
+    ensures whole { (clause : Clause) (s y : ℕ) → kept clause s ≡ whole y
+        → clause_of (Some clause) s ≡ y }
+    ensures elsewhere { (sev : Sev) (w : ℕ → Fraction) (s N : ℕ)
+        → ((n : ℕ) → s ≢ n * common_amount sev.items) → cell w (probability_of sev) s N ≡ whole 0 }
 {}
 
 /// Some fraction is a bound of every quantity that can be asked of a valid plan.
 pub fn law_bounded(plan: &Plan)
     requires valid { IsValid plan.now }
-    ensures { (quantity : Quantity) → IsAsked quantity → (u : Fraction) × IsBound (partial_sums (aggregates_of plan.now) quantity) u }
+    ensures { (quantity : Quantity) → IsAsked quantity
+        → (u : Fraction) × IsBound (partial_sums (aggregates_of plan.now) quantity) u }
 {}
 
 /// The whole weight of a valid plan is above 0 at some level.
@@ -49,48 +55,63 @@ pub fn law_positive(plan: &Plan)
     ensures { (N : ℕ) × (whole 0 <ℚ partial_sums (aggregates_of plan.now) One N) }
 {}
 
-/// The declared probabilities of a valid plan add up to 1: for each `p` below 1 the distribution is at least `p` somewhere.
+/// The declared probabilities of a valid plan add up to 1: for each `p` below 1 the distribution is
+/// at least `p` somewhere.
 pub fn law_whole(plan: &Plan)
     requires valid { IsValid plan.now }
     ensures { (p : Fraction) → p <ℚ whole 1
-        → (x : ℕ) × AtLeast (partial_sums (aggregates_of plan.now) (Cdf x)) (partial_sums (aggregates_of plan.now) One) p }
+        → (x : ℕ) × AtLeast (partial_sums (aggregates_of plan.now) (Cdf x))
+        (partial_sums (aggregates_of plan.now) One) p }
 {}
 
 /// A valid plan has at most one quantile at each `p`, and a bracket holds it.
 pub fn law_quantile(plan: &Plan)
     requires valid { IsValid plan.now }
-    ensures one { (p : Fraction) (q q' : ℕ) → IsQuantile (aggregates_of plan.now) q p → IsQuantile (aggregates_of plan.now) q' p → q ≡ q' }
-    ensures inside { (p : Fraction) (q lo : ℕ) (hi : Option ℕ) → IsQuantile (aggregates_of plan.now) q p
-        → IsBracketed (aggregates_of plan.now) lo hi p → (lo ≤ q) × ((x : ℕ) → hi ≡ Some x → q ≤ x) }
+    ensures one { (p : Fraction) (q q' : ℕ) → IsQuantile (aggregates_of plan.now) q p
+        → IsQuantile (aggregates_of plan.now) q' p → q ≡ q' }
+    ensures inside { (p : Fraction) (q lo : ℕ) (hi : Option ℕ)
+        → IsQuantile (aggregates_of plan.now) q p
+        → IsBracketed (aggregates_of plan.now) lo hi p
+        → (lo ≤ q) × ((x : ℕ) → hi ≡ Some x → q ≤ x) }
 {}
 
 /// The expected count of a valid plan's unit is the declared mean of its number of claims.
 pub fn law_expected()
     ensures { (freq : Freq) → IsCountOfPlan freq
-        → Holds (λ N. sum_to N (λ n. whole n *ℚ count_weights freq n)) (λ N. sum_to N (count_weights freq)) (expected_count freq) (expected_count freq) }
+        → Holds (λ N. sum_to N (λ n. whole n *ℚ count_weights freq n))
+        (λ N. sum_to N (count_weights freq)) (expected_count freq) (expected_count freq) }
 {}
 
-/// Without an aggregate clause the mean of a unit is its expected count times the mean of one claim, and the mean of a total is the
-/// sum of the means of its units.
+/// Without an aggregate clause the mean of a unit is its expected count times the mean of one
+/// claim, and the mean of a total is the sum of the means of its units.
 pub fn law_plan_mean()
     ensures unit { (cells : ℕ) (u : UnitOfPlan) → IsValidUnit cells u → u.cede ≡ None
         → Holds (partial_sums (aggregate_of u ∷ []) Mean) (partial_sums (aggregate_of u ∷ []) One)
         (expected_count u.freq *ℚ mean_amount (pairs_of u.sev)) (expected_count u.freq *ℚ mean_amount (pairs_of u.sev)) }
     ensures total { (plan : Plan) (l h : UnitOfPlan → Fraction) → IsValid plan
-        → All (λ u. Holds (partial_sums (aggregate_of u ∷ []) Mean) (partial_sums (aggregate_of u ∷ []) One) (l u) (h u)) plan.units
-        → Holds (partial_sums (aggregates_of plan) Mean) (partial_sums (aggregates_of plan) One) (sum_over plan.units l) (sum_over plan.units h) }
+        → All (λ u. Holds (partial_sums (aggregate_of u ∷ []) Mean)
+        (partial_sums (aggregate_of u ∷ []) One) (l u) (h u)) plan.units
+        → Holds (partial_sums (aggregates_of plan) Mean) (partial_sums (aggregates_of plan) One)
+        (sum_over plan.units l) (sum_over plan.units h) }
 {}
 
-/// Thinning and division: over the positive amounts, with the thinned mean, `2^h` Poisson sums of one `2^h`-th of the mean each, or as
-/// many geometric sums as the shape says, have in every cell the declared value of the unit's sum of claims. Where the thinned mean
-/// is 0, as it is where no amount is positive, there is no loss.
+/// Thinning and division: over the positive amounts, with the thinned mean, `2^h` Poisson sums of
+/// one `2^h`-th of the mean each, or as many geometric sums as the shape says, have in every cell
+/// the declared value of the unit's sum of claims. Where the thinned mean is 0, as it is where no
+/// amount is positive, there is no loss.
 pub fn law_thinned()
-    ensures poisson { (u : UnitOfPlan) (positive : Sev) (mean : Fraction) (h : ℕ) → u.freq ≡ Poisson mean → Means positive (conditioned 0 (pairs_of u.sev))
-        → SameCells (times_itself (compound_of (Poisson (thinned_mean u /ℚ whole (2 ^ h))) positive) (2 ^ h)) (compound_of u.freq u.sev) }
-    ensures gamma { (u : UnitOfPlan) (positive : Sev) (shape : ℕ) (mean : Fraction) → u.freq ≡ Gamma shape mean → 1 ≤ shape
+    ensures poisson { (u : UnitOfPlan) (positive : Sev) (mean : Fraction) (h : ℕ)
+        → u.freq ≡ Poisson mean → Means positive (conditioned 0 (pairs_of u.sev))
+        → SameCells (times_itself (compound_of
+        (Poisson (thinned_mean u /ℚ whole (2 ^ h))) positive) (2 ^ h)) (compound_of u.freq u.sev) }
+    ensures gamma { (u : UnitOfPlan) (positive : Sev) (shape : ℕ) (mean : Fraction)
+        → u.freq ≡ Gamma shape mean → 1 ≤ shape
         → Means positive (conditioned 0 (pairs_of u.sev))
-        → SameCells (times_itself (compound_of (Gamma 1 (thinned_mean u /ℚ whole shape)) positive) shape) (compound_of u.freq u.sev) }
-    ensures none { (u : UnitOfPlan) → IsCountOfPlan u.freq → IsUnbounded u.freq → thinned_mean u ≡ whole 0
+        → SameCells (times_itself (compound_of
+        (Gamma 1 (thinned_mean u /ℚ whole shape)) positive) shape) (compound_of u.freq u.sev) }
+    ensures none { (u : UnitOfPlan) → IsCountOfPlan u.freq → IsUnbounded u.freq
+        → thinned_mean u ≡ whole 0
         → SameCells nothing (compound_of u.freq u.sev) }
-    ensures no_amount { (u : UnitOfPlan) → All (λ item. item.amount ≤ 0) u.sev.items → thinned_mean u ≡ whole 0 }
+    ensures no_amount { (u : UnitOfPlan) → All (λ item. item.amount ≤ 0) u.sev.items
+        → thinned_mean u ≡ whole 0 }
 {}

@@ -1,4 +1,5 @@
-//! The laws of declared units: every quantity is bounded, the whole weight is above 0, and the probabilities add up to 1.
+//! The laws of declared units: every quantity is bounded, the whole weight is above 0, and the
+//! probabilities add up to 1.
 
 ghost use Rattle.std.specs.Prelude.{ℕ, suc, ◌≡◌, ◌<◌, ◌≤◌, List};
 ghost use Rattle.dl_exact.specs.Fraction.{Fraction, whole, ◌+ℚ◌, ◌<ℚ◌};
@@ -8,7 +9,8 @@ ghost use Rattle.dl_model.specs.Counts.{fixed, binomial, poisson, gamma_of, IsCo
 ghost use Rattle.dl_model.specs.Program.{Aggregate, Quantity, One, Cdf, partial_sums};
 ghost use Rattle.dl_model.specs.Measures.{AreDeclared, IsAsked};
 
-/// The counts that can be declared: exact, listed, of trials with probability `a / b`, Poisson, and gamma of shape `q + 1` and mean `v`.
+/// The counts that can be declared: exact, listed, of trials with probability `a / b`, Poisson, and
+/// gamma of shape `q + 1` and mean `v`.
 pub fn law_counts()
     ensures fixed { (m : ℕ) → IsCount (fixed m) }
     ensures listed { (counts : Weighted) → 0 < total_weight counts → IsCount (probability counts) }
@@ -19,16 +21,20 @@ pub fn law_counts()
 
 /// Some fraction is a bound of every quantity that can be asked.
 pub fn law_units_bounded()
-    ensures { (us : List Aggregate) (quantity : Quantity) → AreDeclared us → IsAsked quantity → (u : Fraction) × IsBound (partial_sums us quantity) u }
+    ensures { (us : List Aggregate) (quantity : Quantity) → AreDeclared us → IsAsked quantity
+        → (u : Fraction) × IsBound (partial_sums us quantity) u }
 {}
 
 /// The whole weight is above 0 at some level.
 pub fn law_units_positive()
-    ensures { (us : List Aggregate) → AreDeclared us → (N : ℕ) × (whole 0 <ℚ partial_sums us One N) }
+    ensures { (us : List Aggregate) → AreDeclared us
+        → (N : ℕ) × (whole 0 <ℚ partial_sums us One N) }
 {}
 
-/// The declared probabilities add up to 1: for each part `p` of 1, with `q` for the rest, the distribution is at least `p` somewhere.
+/// The declared probabilities add up to 1: for each part `p` of 1, with `q` for the rest, the
+/// distribution is at least `p` somewhere.
 pub fn law_units_whole()
-    ensures { (us : List Aggregate) (p q : Fraction) → AreDeclared us → p +ℚ q ≡ whole 1 → whole 0 <ℚ q
+    ensures { (us : List Aggregate) (p q : Fraction) → AreDeclared us → p +ℚ q ≡ whole 1
+        → whole 0 <ℚ q
         → (x : ℕ) × AtLeast (partial_sums us (Cdf x)) (partial_sums us One) p }
 {}

@@ -48,8 +48,9 @@ pub(crate) fn ways_of(amounts: &[(u32, u32)], claims: u32, sum: u32) -> u128
     found
 }
 
-/// The part of the sum `x` that comes from at most `claims` claims, as a numerator and a denominator: for each number of
-/// claims the share of its weight in `counts`, times the share of the ways in which so many of `amounts` add up to `x`.
+/// The part of the sum `x` that comes from at most `claims` claims, as a numerator and a
+/// denominator: for each number of claims the share of its weight in `counts`, times the share of
+/// the ways in which so many of `amounts` add up to `x`.
 pub fn slow_point(
     counts: &[(u32, u32)],
     amounts: &[(u32, u32)],
@@ -59,7 +60,8 @@ pub fn slow_point(
     requires counts_there { 0 < total_weight counts.now }
     requires amounts_there { 0 < total_weight amounts.now }
     requires fits { total_weight counts.now * total_weight amounts.now ^ claims < 2 ^ 128 }
-    ensures cell { result.0 over result.1 ≡ cell (probability counts.now) (probability amounts.now) x claims }
+    ensures cell { result.0 over result.1
+        ≡ cell (probability counts.now) (probability amounts.now) x claims }
     ensures denominator { result.1 ≡ total_weight counts.now * total_weight amounts.now ^ claims }
 {
     let here = weight(counts, claims) * ways_of(amounts, claims, x);

@@ -1,4 +1,5 @@
-//! Poisson and gamma sums run, plainly and slowly, by the sums that define them: over at most so many claims.
+//! Poisson and gamma sums run, plainly and slowly, by the sums that define them: over at most so
+//! many claims.
 
 ghost use Rattle.std.specs.Prelude.{ℕ, ◌≡◌, ◌+◌, ◌*◌, ◌^◌, ◌<◌, ◌≤◌, [], ◌∷◌};
 ghost use Rattle.dl_exact.specs.Fraction.{Fraction, ◌over◌};
@@ -12,7 +13,8 @@ use crate::slow::{total, ways_of};
 
 /// Where each claim is 0, the part of the sum 0 is the sum of the weights of the counts.
 pub fn law_no_amount()
-    ensures { (w : ℕ → Fraction) (t N : ℕ) → 0 < t → cell w (probability ((0, t) ∷ [])) 0 N ≡ sum_to N w }
+    ensures { (w : ℕ → Fraction) (t N : ℕ) → 0 < t
+        → cell w (probability ((0, t) ∷ [])) 0 N ≡ sum_to N w }
 {}
 
 /// A number to a power.
@@ -40,15 +42,17 @@ fn choices(i: u128, j: u32) -> u128
     choices(i - 1, j - 1) + choices(i - 1, j)
 }
 
-/// The part of the sum `x` that comes from at most `claims` claims of a Poisson count of mean `mean.0 / mean.1`, as a
-/// numerator and a denominator: for each number of claims its weight, times the share of the ways in which so many of
-/// `amounts` add up to `x`.
+/// The part of the sum `x` that comes from at most `claims` claims of a Poisson count of mean
+/// `mean.0 / mean.1`, as a numerator and a denominator: for each number of claims its weight, times
+/// the share of the ways in which so many of `amounts` add up to `x`.
 pub fn slow_poisson(mean: (u32, u32), amounts: &[(u32, u32)], x: u32, claims: u32) -> (u128, u128)
     requires mean_there { 0 < mean.1 }
     requires amounts_there { 0 < total_weight amounts.now }
     requires fits { ((mean.0 + mean.1) * claims * total_weight amounts.now) ^ claims < 2 ^ 128 }
-    ensures cell { result.0 over result.1 ≡ cell (poisson (mean.0 over mean.1)) (probability amounts.now) x claims }
-    ensures denominator { result.1 ≡ (mean.1 * total_weight amounts.now) ^ claims * factorial claims }
+    ensures cell { result.0 over result.1
+        ≡ cell (poisson (mean.0 over mean.1)) (probability amounts.now) x claims }
+    ensures denominator { result.1
+        ≡ (mean.1 * total_weight amounts.now) ^ claims * factorial claims }
     ensures within { result.0 ≤ ((mean.0 + mean.1) * claims * total_weight amounts.now) ^ claims }
 {
     let here = power_of(u128::from(mean.0), claims) * ways_of(amounts, claims, x);
@@ -71,10 +75,14 @@ pub fn slow_gamma(
     requires shape_there { 0 < shape }
     requires mean_there { 0 < mean.1 }
     requires amounts_there { 0 < total_weight amounts.now }
-    requires fits { ((shape + claims) * (shape * mean.1 + mean.0) * total_weight amounts.now) ^ claims < 2 ^ 128 }
-    ensures cell { result.0 over result.1 ≡ cell (gamma_of shape (mean.0 over mean.1)) (probability amounts.now) x claims }
-    ensures denominator { result.1 ≡ ((shape * mean.1 + mean.0) * total_weight amounts.now) ^ claims }
-    ensures within { result.0 ≤ ((shape + claims) * (shape * mean.1 + mean.0) * total_weight amounts.now) ^ claims }
+    requires fits { ((shape + claims) *
+        (shape * mean.1 + mean.0) * total_weight amounts.now) ^ claims < 2 ^ 128 }
+    ensures cell { result.0 over result.1
+        ≡ cell (gamma_of shape (mean.0 over mean.1)) (probability amounts.now) x claims }
+    ensures denominator { result.1
+        ≡ ((shape * mean.1 + mean.0) * total_weight amounts.now) ^ claims }
+    ensures within { result.0 ≤ ((shape + claims) *
+        (shape * mean.1 + mean.0) * total_weight amounts.now) ^ claims }
 {
     let last = u128::from(shape) + u128::from(claims) - 1;
     let here = choices(last, claims)
@@ -119,8 +127,8 @@ mod tests {
     }
 
     /// A Poisson count of mean 2 has no claim with probability 1 / e^2 = 0.1353352.., and one with
-    /// 2 / e^2 = 0.2706705... Of mean 4, where every other claim is 0, the mean that is left is 2: the
-    /// mean 4 has 1 / e^4 = 0.0183156...
+    /// 2 / e^2 = 0.2706705... Of mean 4, where every other claim is 0, the mean that is left is 2:
+    /// the mean 4 has 1 / e^4 = 0.0183156...
     #[test]
     fn poisson(rt: HostRuntime) {
         let one: [(u32, u32); 1] = [(1, 1)];
@@ -146,8 +154,10 @@ mod tests {
     }
 
     /// A gamma count of shape 4 and mean 2 has no claim with probability (4 / 6)^4 = 16 / 81 =
-    /// 0.1975308.., and one with 64 / 243 = 0.2633744..; of shape 1 it has none with 1 / 3. Of shape 1
-    /// and mean 1, where every other claim is 0, there is none above 0 with 2 / 3, and not with 1 / 2.
+    /// 0.1975308.., and one with 64 / 243 = 0.2633744..; of shape 1 it has none with 1 / 3. Of
+    /// shape 1
+    /// and mean 1, where every other claim is 0, there is none above 0 with 2 / 3, and not with 1 /
+    /// 2.
     #[test]
     fn gamma(rt: HostRuntime) {
         let one: [(u32, u32); 1] = [(1, 1)];
@@ -171,9 +181,10 @@ mod tests {
         assert_eq!(rt; millionths(kept, kept_all), Some(500_000), "1 / 2");
     }
 
-    /// With at most 3 claims the parts of all sums add up to the whole: 6 + 12 + 12 + 8 = 38 sixths.
-    /// Since twice the mean 2 is at most 3 + 1, no sum of weights is above 38 / 6 + 8 / 6 = 7.66..; it is
-    /// above 2 + 1, and 10 / 2 + 4 / 2 = 7 is no bound: with at most 12 claims the sum is 7.389...
+    /// With at most 3 claims the parts of all sums add up to the whole: 6 + 12 + 12 + 8 = 38
+    /// sixths. Since twice the mean 2 is at most 3 + 1, no sum of weights is above 38 / 6 + 8 / 6 =
+    /// 7.66..; it is above 2 + 1, and 10 / 2 + 4 / 2 = 7 is no bound: with at most 12 claims the
+    /// sum is 7.389...
     #[test]
     fn sums(rt: HostRuntime) {
         let one: [(u32, u32); 1] = [(1, 1)];
@@ -197,10 +208,10 @@ mod tests {
     }
 
     /// Two Poisson counts of mean 1, with 6, 6, 3, 1 sixths, make one of mean 2: three claims have
-    /// (6 * 1 + 6 * 3 + 3 * 6 + 1 * 6) / 36 = 8 / 6, and one count alone has 1 / 6. The square of its sum
-    /// up to 3 claims, (16 / 6)^2, is not the sum 38 / 6 of both: only the least upper bounds agree.
-    /// Two geometric counts of mean 1, with 8, 4, 2, 1 eighths, make the gamma count of shape 2 and
-    /// mean 2: three claims have 4 * 8 / 64.
+    /// (6 * 1 + 6 * 3 + 3 * 6 + 1 * 6) / 36 = 8 / 6, and one count alone has 1 / 6. The square of
+    /// its sum up to 3 claims, (16 / 6)^2, is not the sum 38 / 6 of both: only the least upper
+    /// bounds agree. Two geometric counts of mean 1, with 8, 4, 2, 1 eighths, make the gamma count
+    /// of shape 2 and mean 2: three claims have 4 * 8 / 64.
     #[test]
     fn added(rt: HostRuntime) {
         let one: [(u32, u32); 1] = [(1, 1)];

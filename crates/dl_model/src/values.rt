@@ -6,7 +6,8 @@ ghost use Rattle.dl_model.specs.Series.{Series, IsBound, AtMost, AtLeast, Holds,
 
 /// A value that lies in an interval lies in each wider one.
 pub fn law_wider()
-    ensures { (Q R : Series) (l l' h h' : Fraction) → l' ≤ℚ l → h ≤ℚ h' → Holds Q R l h → Holds Q R l' h' }
+    ensures { (Q R : Series) (l l' h h' : Fraction) → l' ≤ℚ l → h ≤ℚ h' → Holds Q R l h
+        → Holds Q R l' h' }
 {}
 
 /// Values over the same series add up.
@@ -25,18 +26,22 @@ pub fn law_difference()
 
 /// Where two series add up to a third at each level, their values over it add up to 1.
 pub fn law_complement()
-    ensures low { (Q Q' R : Series) (h k v : Fraction) → ((N : ℕ) → plus Q Q' N ≡ R N) → IsBound R v → h +ℚ k ≡ whole 1
+    ensures low { (Q Q' R : Series) (h k v : Fraction) → ((N : ℕ) → plus Q Q' N ≡ R N)
+        → IsBound R v → h +ℚ k ≡ whole 1
         → AtMost Q R h → AtLeast Q' R k }
-    ensures high { (Q Q' R : Series) (l k : Fraction) → Rises Q → Rises Q' → ((N : ℕ) → plus Q Q' N ≡ R N) → l +ℚ k ≡ whole 1
+    ensures high { (Q Q' R : Series) (l k : Fraction) → Rises Q → Rises Q'
+        → ((N : ℕ) → plus Q Q' N ≡ R N) → l +ℚ k ≡ whole 1
         → AtLeast Q R l → AtMost Q' R k }
 {}
 
 /// A factor of the series is a factor of the value.
 pub fn law_factor()
-    ensures { (k : Fraction) (Q R : Series) (l h : Fraction) → Holds Q R l h → Holds (λ N. k *ℚ Q N) R (k *ℚ l) (k *ℚ h) }
+    ensures { (k : Fraction) (Q R : Series) (l h : Fraction) → Holds Q R l h
+        → Holds (λ N. k *ℚ Q N) R (k *ℚ l) (k *ℚ h) }
 {}
 
-/// The value of a product of two series, level by level, is the product of their values, for all series that never fall.
+/// The value of a product of two series, level by level, is the product of their values, for all
+/// series that never fall.
 pub fn law_product()
     ensures { (Q R Q' R' : Series) (l l' h h' : Fraction) → Rises Q → Rises R → Rises Q' → Rises R'
         → Holds Q R l h → Holds Q' R' l' h' → Holds (times Q Q') (times R R') (l *ℚ l') (h *ℚ h') }

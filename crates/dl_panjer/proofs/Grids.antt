@@ -4,37 +4,40 @@ use Rattle.std.specs.Prelude.{All}
 use Rattle.std.proofs.lemmas.Nat.{pow_pos}
 use Rattle.dl_exact.specs.Fraction.{Fraction, ◌over◌, ◌+ℚ◌, ◌*ℚ◌, ◌/ℚ◌, ◌≤ℚ◌, whole}
 use Rattle.dl_exact.specs.Sum.{sum_to}
+use Rattle.dl_exact.proofs.Denominators.{over_zero}
 use Rattle.dl_exact.proofs.Over.{over_same, over_mul, over_le, over_add, over_cross}
 use Rattle.dl_exact.proofs.Laws.{one_pos, zero_times, le_trans}
 use Rattle.dl_exact.proofs.RoundingLaws.{le_whole}
 use Rattle.dl_iv.specs.declared.interval.Iv.{Iv}
 use Rattle.dl_grid.specs.Cells.{low_at, high_at, spread, IsGrid}
 use Rattle.dl_grid.specs.Width.{up}
-use Rattle.dl_grid.proofs.PairLaws.{count_below, below_first, below_same}
+use Rattle.dl_exact.specs.Count.{count_below}
+use Rattle.dl_exact.proofs.Counts.{below_first}
 use Rattle.dl_grid.proofs.PlaceSums.{width_at, high_is, whole_mass, whole_spread}
 use Rattle.dl_grid.proofs.WidthLaws.{up_ceiling}
 use Rattle.dl_model.specs.Series.{AtLeast, Holds}
 use Rattle.dl_model.specs.Counts.{poisson, gamma_of, IsPanjer}
-use Rattle.dl_model.specs.Family.{Family, compound, Encloses, GridEncloses}
-use Rattle.dl_model.specs.Recursion.{FollowsOutward, FollowsPoisson, FollowsGeometric}
-use Rattle.dl_model.proofs.Panjer.{poisson_class, gamma_class}
-use Rattle.dl_model.proofs.BaseRounding.{poisson_outward, geometric_outward}
-use Rattle.dl_model.proofs.Bases.{poisson_base, geometric_base, geometric_start}
+use Rattle.dl_model.specs.Family.{compound, GridEncloses}
+use Rattle.dl_model.specs.Severity.{IsWithinOne}
+use Rattle.dl_model.proofs.Panjer.{poisson_class}
 use Rattle.dl_plan.specs.declared.item.Item.{Item}
 use Rattle.dl_plan.specs.declared.severity.Sev.{Sev}
 use Rattle.dl_plan.specs.Severity.{probability_of}
 use Rattle.dl_plan.specs.Weighted.{weight_at, weight_sum, IsWeighted}
-use Rattle.dl_panjer.specs.Cells.{low_next, high_next, Follows}
-use Rattle.dl_panjer.specs.Bases.{BeginsAs, IsPoissonBase, IsGeometricBase}
-use Rattle.dl_panjer.proofs.Sequences.{seq, agrees}
-use Rattle.dl_panjer.proofs.Steps.{low_next_same, high_next_same}
+use Rattle.dl_panjer.specs.Cells.{Follows}
+use Rattle.dl_panjer.specs.Outward.{FollowsOutward}
+use Rattle.dl_panjer.specs.Bases.{FollowsRounded, IsPoissonBase, IsGeometricBase}
 use Rattle.dl_panjer.proofs.Recursions.{poisson_follows, geometric_follows}
-use Rattle.dl_panjer.proofs.Severities.{within_one, total_pos, zero_weight, amounts_positive}
+use Rattle.dl_panjer.proofs.Outward.{poisson_outward, geometric_outward}
+use Rattle.dl_panjer.proofs.Compounds.{poisson_base, geometric_base, geometric_start, geometric_class}
+use Rattle.dl_panjer.proofs.Severities.{within_one, zero_weight, amounts_positive}
 use Rattle.dl_panjer.proofs.Mass.{low_mass}
 use Rattle.dl_panjer.proofs.Spreads.{all_widths, half_spread, geometric_spread}
+use Rattle.dl_plan.proofs.Means.{total_pos}
 
 -- the list follows the recursion of items, total and rate
-pub record IsMade {B : ℕ} (by_amount : Bool) (items : List Item) (total : ℕ) (rate : Fraction) (cells : List (Iv B)) (K : ℕ) : Type 0 where
+pub record IsMade {B : ℕ} (by_amount : Bool) (items : List Item) (total : ℕ) (rate : Fraction) (cells : List (Iv B))
+    (K : ℕ) : Type 0 where
   pub length_is : length cells ≡ K
   pub some : 1 ≤ K
   pub few : K ≤ 16384
@@ -44,125 +47,124 @@ pub record IsMade {B : ℕ} (by_amount : Bool) (items : List Item) (total : ℕ)
   pub sum : weight_sum items ≡ total
   pub no_zero : weight_at items 0 ≡ 0
 
-no_chance : (items : List Item) (T : ℕ) → 0 < T → weight_at items 0 ≡ 0 → weight_at items 0 over T ≡ whole 0
-no_chance items T pos none = ap (λ n. n over T) none ∙ over_same 0 T 0 1 pos one_pos (omega arith)
+module _ {B : ℕ} (b : Bool) (items : List Item) (T : ℕ) (rate : Fraction) (cells : List (Iv B)) (K : ℕ)
+    (made : IsMade b items T rate cells K) where
+  -- the same, said of the list's own length
+  own : Follows (2 ^ B) b items T rate (low_at cells) (high_at cells) (length cells)
+  own = subst (λ k. Follows (2 ^ B) b items T rate (low_at cells) (high_at cells) k) (sym made.length_is) made.follows
 
-module _ {B : ℕ} (b : Bool) (items : List Item) (T : ℕ) (rate : Fraction) (cells : List (Iv B)) (K : ℕ) (made : IsMade b items T rate cells K) where
-  abbrev lows : ℕ → ℕ
-  lows = seq (low_next b items T rate) (low_at cells 0)
+  severity : IsWithinOne (λ j. weight_at items j over T)
+  severity = within_one items T made.total_above made.sum made.no_zero
 
-  abbrev highs : ℕ → ℕ
-  highs = seq (high_next (2 ^ B) b items T rate) (high_at cells 0)
-
-  low_agrees : (s : ℕ) → s < K → low_at cells s ≡ seq (low_next b items T rate) (low_at cells 0) s
-  low_agrees s inside = agrees (low_next b items T rate) (low_at cells 0) (low_next_same b items T rate) (low_at cells) K refl made.follows.low s inside
-
-  high_agrees : (s : ℕ) → s < K → high_at cells s ≡ seq (high_next (2 ^ B) b items T rate) (high_at cells 0) s
-  high_agrees s inside = agrees (high_next (2 ^ B) b items T rate) (high_at cells 0) (high_next_same (2 ^ B) b items T rate) (high_at cells) K refl made.follows.high s inside
-
-  pub begins : BeginsAs cells (seq (low_next b items T rate) (low_at cells 0)) (seq (high_next (2 ^ B) b items T rate) (high_at cells 0))
-  begins = record {
-    low = λ s inside. low_agrees s (omega (arith, inside, made.length_is));
-    high = λ s inside. high_agrees s (omega (arith, inside, made.length_is));
-  }
-
-  grid : (x y : Fraction) (w : ℕ → Fraction) → FollowsOutward (2 ^ B) x y (λ j. weight_at items j over T) (seq (low_next b items T rate) (low_at cells 0)) (seq (high_next (2 ^ B) b items T rate) (high_at cells 0))
+  grid : (x y : Fraction) (w : ℕ → Fraction)
+      → FollowsOutward (2 ^ B) (length cells) x y (λ j. weight_at items j over T) (low_at cells) (high_at cells)
       → IsPanjer x y w → AtLeast (λ N. whole 1) (λ N. sum_to N w) (low_at cells 0 over 2 ^ B) → IsGrid cells
   grid x y w F P start =
       let n : ℕ = K - 1 in
-      let e : suc n ≡ K = omega (arith, made.some) in
-      let mass = low_mass (2 ^ B) n x y (λ j. weight_at items j over T) w lows highs F (no_chance items T made.total_above made.no_zero) P (pow_pos B) (within_one items T made.total_above made.sum made.no_zero)
-      (subst (λ t. AtLeast (λ N. whole 1) (λ N. sum_to N w) (t over 2 ^ B)) (low_agrees 0 made.some) start) in
+      let e : suc n ≡ length cells = omega (arith, made.some, made.length_is) in
+      let mass = low_mass (2 ^ B) n x y (λ j. weight_at items j over T) w (low_at cells) (high_at cells)
+      (subst (λ k. FollowsOutward (2 ^ B) k x y (λ j. weight_at items j over T) (low_at cells) (high_at cells))
+      (sym e) F)
+      (ap (λ n. n over T) made.no_zero ∙ over_zero T made.total_above) P (pow_pos B) severity start in
       record {
         some = omega (arith, made.length_is, made.some);
         few = omega (arith, made.length_is, made.few);
         small = made.small;
-        mass = omega (arith, mass, whole_mass (suc n) cells (omega (arith, made.length_is, e)), below_same (suc n) (low_at cells) lows (λ s inside. low_agrees s (omega (arith, inside, e))));
+        mass = omega (arith, mass, whole_mass (suc n) cells (sym e));
       }
 
-  encloses : (F : Family) → Encloses (2 ^ B) K (seq (low_next b items T rate) (low_at cells 0)) (seq (high_next (2 ^ B) b items T rate) (high_at cells 0)) F → GridEncloses cells F
-  encloses F h y inside =
-      let near : y < K = omega (arith, inside, made.length_is) in
-      subst₂ (λ l u. Holds (F.cells y) F.all (l over 2 ^ B) (u over 2 ^ B)) (sym (low_agrees y near)) (sym (high_agrees y near)) (h y near)
-
   widths_of : (at_most_one : rate.num ≤ rate.den) (n : ℕ) → suc n ≡ K
-      → (rate.den * count_below n (λ s. width_at cells (suc s)) ≤ rate.num * spread cells + 4 * n * rate.den) × (spread cells ≡ width_at cells 0 + count_below n (λ s. width_at cells (suc s)))
+      → (rate.den * count_below n (λ s. width_at cells (suc s)) ≤ rate.num * spread cells + 4 * n * rate.den) ×
+      (spread cells ≡ width_at cells 0 + count_below n (λ s. width_at cells (suc s)))
   widths_of at_most_one n e =
-      let whole_is : spread cells ≡ count_below (suc n) (width_at cells) = whole_spread (suc n) cells (omega (arith, made.length_is, e)) in (
-        subst (λ t. rate.den * count_below n (λ s. width_at cells (suc s)) ≤ rate.num * t + 4 * n * rate.den) (sym whole_is)
-            (all_widths b items (2 ^ B) T rate (low_at cells) (high_at cells) (width_at cells) K made.follows made.total_above at_most_one (high_is cells) n e made.sum),
+      let whole_is : spread cells ≡ count_below (suc n) (width_at cells) =
+      whole_spread (suc n) cells (omega (arith, made.length_is, e)) in (
+        subst (λ t. rate.den * count_below n (λ s. width_at cells (suc s)) ≤ rate.num * t + 4 * n * rate.den)
+            (sym whole_is)
+            (all_widths b items (2 ^ B) T rate (low_at cells) (high_at cells)
+            (width_at cells) K made.follows made.total_above at_most_one (high_is cells) n e made.sum),
         whole_is ∙ below_first n (width_at cells),
       )
 
 -- ---- Poisson
 
-module _ {B : ℕ} (items : List Item) (T : ℕ) (v : Fraction) (cells : List (Iv B)) (K : ℕ) (made : IsMade true items T v cells K)
-    (start : Holds (λ N. whole 1) (λ N. sum_to N (poisson v)) (low_at cells 0 over 2 ^ B) (high_at cells 0 over 2 ^ B)) where
-  follows_p : FollowsPoisson (2 ^ B) T v (weight_at items) (seq (low_next true items T v) (low_at cells 0)) (seq (high_next (2 ^ B) true items T v) (high_at cells 0))
-  follows_p = poisson_follows (2 ^ B) T items v (low_at cells 0) (high_at cells 0)
+module _ {B : ℕ} (items : List Item) (T : ℕ) (v : Fraction) (cells : List (Iv B)) (K : ℕ)
+    (made : IsMade true items T v cells K)
+    (start : Holds (λ N. whole 1) (λ N. sum_to N (poisson v)) (low_at cells 0 over 2 ^ B)
+    (high_at cells 0 over 2 ^ B)) where
+  follows_p : FollowsRounded true (λ s. v /ℚ whole (suc s)) items T cells
+  follows_p = poisson_follows items T v cells (own true items T v cells K made)
 
   pub poisson_grid : IsGrid cells
-  poisson_grid = grid true items T v cells K made (whole 0) v (poisson v) (poisson_outward (2 ^ B) T v (weight_at items) _ _ made.total_above follows_p) (poisson_class v) start.0
+  poisson_grid =
+      grid true items T v cells K made (whole 0) v (poisson v)
+      (poisson_outward items T v made.total_above cells follows_p)
+      (poisson_class v) start.0
 
   pub poisson_encloses : GridEncloses cells (compound (poisson v) (λ j. weight_at items j over T))
   poisson_encloses =
-      encloses true items T v cells K made (compound (poisson v) (λ j. weight_at items j over T))
-      (poisson_base (2 ^ B) T K v (weight_at items) _ _ follows_p made.total_above (pow_pos B) made.no_zero (within_one items T made.total_above made.sum made.no_zero)
-      (subst₂ (λ l h. Holds (λ N. whole 1) (λ N. sum_to N (poisson v)) (l over 2 ^ B) (h over 2 ^ B)) (low_agrees true items T v cells K made 0 made.some) (high_agrees true items T v cells K made 0 made.some) start))
+      poisson_base items T v cells made.total_above (severity true items T v cells K made) made.no_zero follows_p start
 
-pub poisson_widths : {B : ℕ} (items : List Item) (T : ℕ) (v : Fraction) (cells : List (Iv B)) (K : ℕ) → IsMade true items T v cells K → v.num + v.num ≤ v.den → high_at cells 0 ≤ low_at cells 0 + 64
+pub poisson_widths : {B : ℕ} (items : List Item) (T : ℕ) (v : Fraction) (cells : List (Iv B)) (K : ℕ)
+    → IsMade true items T v cells K → v.num + v.num ≤ v.den → high_at cells 0 ≤ low_at cells 0 + 64
     → spread cells ≤ 8 * K + 128
 poisson_widths items T v cells K made half near =
     let n : ℕ = K - 1 in
     let e : suc n ≡ K = omega (arith, made.some) in
     let w = widths_of true items T v cells K made (omega (arith, half)) n e in
-    let all = half_spread n v.num v.den (width_at cells 0) (count_below n (λ s. width_at cells (suc s))) (spread cells) v.positive half w.1 w.0 (omega (arith, near)) in
+    let all = half_spread n v.num v.den (width_at cells 0) (count_below n (λ s. width_at cells (suc s)))
+    (spread cells) v.positive half w.1 w.0 (omega (arith, near)) in
     omega (arith, all, e)
 
 -- ---- geometric
 
-module _ {B : ℕ} (items : List Item) (T : ℕ) (v : Fraction) (cells : List (Iv B)) (K : ℕ) (made : IsMade false items T (v /ℚ (whole 1 +ℚ v)) cells K)
-    (low : low_at cells 0 over 2 ^ B ≤ℚ whole 1 /ℚ (whole 1 +ℚ v)) (high : whole 1 /ℚ (whole 1 +ℚ v) ≤ℚ high_at cells 0 over 2 ^ B) where
-  rate : Fraction
-  rate = v /ℚ (whole 1 +ℚ v)
-
-  follows_g : FollowsGeometric (2 ^ B) T v (weight_at items) (seq (low_next false items T (v /ℚ (whole 1 +ℚ v))) (low_at cells 0)) (seq (high_next (2 ^ B) false items T (v /ℚ (whole 1 +ℚ v))) (high_at cells 0))
-  follows_g = geometric_follows (2 ^ B) T items v (low_at cells 0) (high_at cells 0)
-
-  class : IsPanjer (v /ℚ (whole 1 +ℚ v)) (whole 0) (gamma_of 1 v)
-  class = subst (λ t. IsPanjer (v /ℚ (whole 1 +ℚ v)) t (gamma_of 1 v)) (zero_times _) (gamma_class zero (v /ℚ (whole 1 +ℚ v)))
+module _ {B : ℕ} (items : List Item) (T : ℕ) (v : Fraction) (cells : List (Iv B)) (K : ℕ)
+    (made : IsMade false items T (v /ℚ (whole 1 +ℚ v)) cells K)
+    (low : low_at cells 0 over 2 ^ B ≤ℚ whole 1 /ℚ (whole 1 +ℚ v))
+    (high : whole 1 /ℚ (whole 1 +ℚ v) ≤ℚ high_at cells 0 over 2 ^ B) where
+  follows_g : FollowsRounded false (λ s. v /ℚ (whole 1 +ℚ v)) items T cells
+  follows_g =
+      geometric_follows items T (v /ℚ (whole 1 +ℚ v)) cells (own false items T (v /ℚ (whole 1 +ℚ v)) cells K made)
 
   pub geometric_grid : IsGrid cells
   geometric_grid =
-      grid false items T (v /ℚ (whole 1 +ℚ v)) cells K made (v /ℚ (whole 1 +ℚ v)) (whole 0) (gamma_of 1 v) (geometric_outward (2 ^ B) T v (weight_at items) _ _ made.total_above follows_g) class
+      grid false items T (v /ℚ (whole 1 +ℚ v)) cells K made (v /ℚ (whole 1 +ℚ v)) (whole 0) (gamma_of 1 v)
+      (geometric_outward items T v made.total_above cells follows_g) (geometric_class v)
       (geometric_start v (low_at cells 0 over 2 ^ B) (high_at cells 0 over 2 ^ B) low high).0
 
   pub geometric_encloses : GridEncloses cells (compound (gamma_of 1 v) (λ j. weight_at items j over T))
   geometric_encloses =
-      encloses false items T (v /ℚ (whole 1 +ℚ v)) cells K made (compound (gamma_of 1 v) (λ j. weight_at items j over T))
-      (geometric_base (2 ^ B) T K v (weight_at items) _ _ follows_g made.total_above (pow_pos B) made.no_zero (within_one items T made.total_above made.sum made.no_zero)
-      (subst (λ t. t over 2 ^ B ≤ℚ whole 1 /ℚ (whole 1 +ℚ v)) (low_agrees false items T (v /ℚ (whole 1 +ℚ v)) cells K made 0 made.some) low)
-      (subst (λ t. whole 1 /ℚ (whole 1 +ℚ v) ≤ℚ t over 2 ^ B) (high_agrees false items T (v /ℚ (whole 1 +ℚ v)) cells K made 0 made.some) high))
+      geometric_base items T v cells made.total_above (severity false items T (v /ℚ (whole 1 +ℚ v)) cells K made)
+      made.no_zero follows_g low high
 
-pub geometric_widths : {B : ℕ} (items : List Item) (T p d : ℕ) (cells : List (Iv B)) (K : ℕ) → 0 < d → IsMade false items T (p over (p + d)) cells K
-    → (p over (p + d)).num ≤ (p over (p + d)).den → high_at cells 0 ≤ low_at cells 0 + 1 → spread cells ≤ up (whole (4 * K + 1) *ℚ (whole 1 +ℚ p over d))
+pub geometric_widths : {B : ℕ} (items : List Item) (T p d : ℕ) (cells : List (Iv B)) (K : ℕ) → 0 < d
+    → IsMade false items T (p over (p + d)) cells K
+    → (p over (p + d)).num ≤ (p over (p + d)).den → high_at cells 0 ≤ low_at cells 0 + 1
+    → spread cells ≤ up (whole (4 * K + 1) *ℚ (whole 1 +ℚ p over d))
 geometric_widths items T p d cells K pos made at_most_one near =
     let n : ℕ = K - 1 in
     let e : suc n ≡ K = omega (arith, made.some) in
     let r : Fraction = p over (p + d) in
     let w = widths_of false items T r cells K made at_most_one n e in
-    let all = geometric_spread n r.num r.den p d (width_at cells 0) (count_below n (λ s. width_at cells (suc s))) (spread cells) r.positive (over_cross p (p + d) (omega (arith, pos))) w.1 w.0 (omega (arith, near)) in
+    let all = geometric_spread n r.num r.den p d (width_at cells 0) (count_below n (λ s. width_at cells (suc s)))
+    (spread cells) r.positive (over_cross p (p + d) (omega (arith, pos))) w.1 w.0 (omega (arith, near)) in
     let last : n + 1 ≡ K = omega (arith, e) in
-    let more : whole 1 +ℚ p over d ≡ (p + d) over d = over_add 1 1 p d one_pos pos ∙ over_same _ _ _ _ (omega (arith, pos)) pos (omega arith) in
-    let product : whole (4 * K + 1) *ℚ (whole 1 +ℚ p over d) ≡ ((4 * K + 1) * (p + d)) over (1 * d) = ap (λ t. whole (4 * K + 1) *ℚ t) more ∙ over_mul (4 * K + 1) 1 (p + d) d one_pos pos in
+    let more : whole 1 +ℚ p over d ≡ (p + d) over d = over_add 1 1 p d one_pos pos
+    ∙ over_same _ _ _ _ (omega (arith, pos)) pos (omega arith) in
+    let product : whole (4 * K + 1) *ℚ (whole 1 +ℚ p over d) ≡ ((4 * K + 1) * (p + d)) over (1 * d) =
+    ap (λ t. whole (4 * K + 1) *ℚ t) more ∙ over_mul (4 * K + 1) 1 (p + d) d one_pos pos in
     let below : whole (spread cells) ≤ℚ whole (4 * K + 1) *ℚ (whole 1 +ℚ p over d) =
-    subst (λ t. whole (spread cells) ≤ℚ t) (sym product) (over_le (spread cells) 1 ((4 * K + 1) * (p + d)) (1 * d) one_pos (omega (arith, pos)) (omega (arith, subst (λ k. spread cells * d ≤ (4 * k + 1) * (p + d)) last all))) in
+    subst (λ t. whole (spread cells) ≤ℚ t) (sym product)
+    (over_le (spread cells) 1 ((4 * K + 1) * (p + d)) (1 * d) one_pos (omega (arith, pos))
+    (omega (arith, subst (λ k. spread cells * d ≤ (4 * k + 1) * (p + d)) last all))) in
     le_whole _ _ (le_trans _ _ _ below (up_ceiling (whole (4 * K + 1) *ℚ (whole 1 +ℚ p over d))).above)
 
 -- ---- from what the recursion's loop gives
 
-pub made_of : {B : ℕ} (b : Bool) (sev : Sev) (items : List Item) (v r : Fraction) (cells : List (Iv B)) (K : ℕ) → items ≡ sev.items → r ≡ v → 1 ≤ K → K ≤ 16384 → length cells ≡ K
-    → All (λ cell. cell.hi ≤ 2 ^ B) cells → Follows (2 ^ B) b items sev.total r (low_at cells) (high_at cells) K → probability_of sev 0 ≡ whole 0 → IsMade b sev.items sev.total v cells K
+pub made_of : {B : ℕ} (b : Bool) (sev : Sev) (items : List Item) (v r : Fraction) (cells : List (Iv B)) (K : ℕ)
+    → items ≡ sev.items → r ≡ v → 1 ≤ K → K ≤ 16384 → length cells ≡ K
+    → All (λ cell. cell.hi ≤ 2 ^ B) cells → Follows (2 ^ B) b items sev.total r (low_at cells) (high_at cells) K
+    → probability_of sev 0 ≡ whole 0 → IsMade b sev.items sev.total v cells K
 made_of {B} b sev items v r cells K same rate_is some few length_is small follows none =
     let pos : 0 < sev.total = total_pos sev.items sev.total sev.weighted in
     record {
@@ -176,27 +178,24 @@ made_of {B} b sev items v r cells K same rate_is some few length_is small follow
       no_zero = zero_weight sev.items sev.total pos none;
     }
 
-pub poisson_is_base : {B : ℕ} (sev : Sev) (v : Fraction) (cells : List (Iv B)) (K : ℕ) → IsMade true sev.items sev.total v cells K → IsPoissonBase sev v cells
-poisson_is_base {B} sev v cells K made = record {
-  lo = seq (low_next true sev.items sev.total v) (low_at cells 0);
-  hi = seq (high_next (2 ^ B) true sev.items sev.total v) (high_at cells 0);
-  begins = begins true sev.items sev.total v cells K made;
-  follows = poisson_follows (2 ^ B) sev.total sev.items v (low_at cells 0) (high_at cells 0);
-}
+pub poisson_is_base : {B : ℕ} (sev : Sev) (v : Fraction) (cells : List (Iv B)) (K : ℕ)
+    → IsMade true sev.items sev.total v cells K → IsPoissonBase sev v cells
+poisson_is_base sev v cells K made =
+    poisson_follows sev.items sev.total v cells (own true sev.items sev.total v cells K made)
 
-pub geometric_is_base : {B : ℕ} (sev : Sev) (v : Fraction) (cells : List (Iv B)) (K : ℕ) → IsMade false sev.items sev.total (v /ℚ (whole 1 +ℚ v)) cells K → IsGeometricBase sev v cells
-geometric_is_base {B} sev v cells K made = record {
-  lo = seq (low_next false sev.items sev.total (v /ℚ (whole 1 +ℚ v))) (low_at cells 0);
-  hi = seq (high_next (2 ^ B) false sev.items sev.total (v /ℚ (whole 1 +ℚ v))) (high_at cells 0);
-  begins = begins false sev.items sev.total (v /ℚ (whole 1 +ℚ v)) cells K made;
-  follows = geometric_follows (2 ^ B) sev.total sev.items v (low_at cells 0) (high_at cells 0);
-}
+pub geometric_is_base : {B : ℕ} (sev : Sev) (v : Fraction) (cells : List (Iv B)) (K : ℕ)
+    → IsMade false sev.items sev.total (v /ℚ (whole 1 +ℚ v)) cells K → IsGeometricBase sev v cells
+geometric_is_base sev v cells K made =
+    geometric_follows sev.items sev.total (v /ℚ (whole 1 +ℚ v)) cells
+    (own false sev.items sev.total (v /ℚ (whole 1 +ℚ v)) cells K made)
 
 -- the items of a severity without amount 0, as the loop asks for them
-pub items_positive : (sev : Sev) (items : List Item) → items ≡ sev.items → probability_of sev 0 ≡ whole 0 → All (λ item. 0 < item.amount) items
+pub items_positive : (sev : Sev) (items : List Item) → items ≡ sev.items → probability_of sev 0 ≡ whole 0
+    → All (λ item. 0 < item.amount) items
 items_positive sev items same none =
     subst (λ xs. All (λ item. 0 < item.amount) xs) (sym same)
-    (amounts_positive sev.items (zero_weight sev.items sev.total (total_pos sev.items sev.total sev.weighted) none) sev.weighted.positive)
+    (amounts_positive sev.items (zero_weight sev.items sev.total
+    (total_pos sev.items sev.total sev.weighted) none) sev.weighted.positive)
 
 pub items_weighted : (sev : Sev) (items : List Item) → items ≡ sev.items → IsWeighted items sev.total
 items_weighted sev items same = subst (λ xs. IsWeighted xs sev.total) (sym same) sev.weighted

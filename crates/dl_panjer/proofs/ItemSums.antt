@@ -5,7 +5,8 @@ use Rattle.std.proofs.Math.Nat.{zero-add, mul-le-mul, mul-le-mul_left, mul-le-mu
 use Rattle.std.proofs.lemmas.Bool.{eq-eqb, ne_eqb, cases_lt}
 use Rattle.std.proofs.lemmas.List.Elements.{All-tail}
 use Rattle.std.proofs.lemmas.List.Sums.{sum_by-cons, sum_by-take-drop}
-use Rattle.dl_grid.proofs.PairLaws.{count_below, below_same, below_le, below_plus, below_times, below_pairs, pairs_le}
+use Rattle.dl_exact.specs.Count.{count_below}
+use Rattle.dl_exact.proofs.Counts.{below_same, below_le, below_plus, below_times, below_pairs, pairs_le}
 use Rattle.dl_plan.specs.declared.item.Item.{Item}
 use Rattle.dl_plan.specs.Weighted.{weight_at, weight_sum}
 use Rattle.dl_panjer.specs.Cells.{share, coefficient, weighed}
@@ -29,14 +30,16 @@ below_one (suc n) a f inside h = elim (cases_lt a n) [
 
 -- ---- the weights of a list of items
 
-pub weight_at-cons : (item : Item) (items : List Item) (x : ℕ) → weight_at (item ∷ items) x ≡ (if item.amount == x then item.weight else 0) + weight_at items x
+pub weight_at-cons : (item : Item) (items : List Item) (x : ℕ)
+    → weight_at (item ∷ items) x ≡ (if item.amount == x then item.weight else 0) + weight_at items x
 weight_at-cons item items x = sum_by-cons (λ (i : Item). if i.amount == x then i.weight else 0) item items
 
 -- no weight stands at an amount below them all
 weight_below : (items : List Item) (m x : ℕ) → All (λ item. m < item.amount) items → x ≤ m → weight_at items x ≡ 0
 weight_below [] m x far h = refl
 weight_below (item ∷ items) m x far h =
-    rw (weight_at-cons item items x, ne_eqb item.amount x (omega (arith, far 0 item (omega arith))), zero-add) (weight_below items m x (All-tail (λ i. m < i.amount) item items far) h)
+    rw (weight_at-cons item items x, ne_eqb item.amount x (omega (arith, far 0 item (omega arith))), zero-add)
+    (weight_below items m x (All-tail (λ i. m < i.amount) item items far) h)
 
 share_plus : (b : Bool) (j m n : ℕ) → share b j (m + n) ≡ share b j m + share b j n
 share_plus true j m n = omega arith
@@ -48,12 +51,14 @@ share_zero false j = refl
 
 -- one item's part of the sum
 one_item : (b : Bool) (s : ℕ) (g : ℕ → ℕ) (item : Item) → 0 < item.amount → item.amount ≤ suc s
-    → count_below (suc s) (λ i. share b (suc i) (if item.amount == suc i then item.weight else 0) * g (s - i)) ≡ share b item.amount item.weight * g (suc s - item.amount)
+    → count_below (suc s) (λ i. share b (suc i) (if item.amount == suc i then item.weight else 0) * g
+    (s - i)) ≡ share b item.amount item.weight * g (suc s - item.amount)
 one_item b s g item some near =
     let a : ℕ = item.amount - 1 in
     let e : suc a ≡ item.amount = omega (arith, some) in
     below_one (suc s) a _ (omega (arith, some, near)) (λ i inside other.
-    ap (λ t. share b (suc i) (if t then item.weight else 0) * g (s - i)) (ne_eqb item.amount (suc i) (omega (arith, other, e)))
+    ap (λ t. share b (suc i) (if t then item.weight else 0) * g (s - i))
+    (ne_eqb item.amount (suc i) (omega (arith, other, e)))
     ∙ ap (λ t. t * g (s - i)) (share_zero b (suc i)) ∙ nothing (g (s - i)))
     ∙ ap (λ t. share b (suc a) (if t then item.weight else 0) * g (s - a)) (eq-eqb item.amount (suc a) (sym e))
     ∙ ap₂ (λ t u. share b t item.weight * g u) e (omega (arith, some, near))
@@ -62,33 +67,43 @@ one_item b s g item some near =
     nothing n = omega arith
 
 -- the items up to s + 1, each with the end that it leaves
-pub near_items : (b : Bool) (s : ℕ) (g : ℕ → ℕ) (items : List Item) → All (λ item. 0 < item.amount) items → All (λ item. item.amount ≤ suc s) items
-    → count_below (suc s) (λ i. coefficient b items i * g (s - i)) ≡ sum_by (λ item. share b item.amount item.weight * g (suc s - item.amount)) items
-near_items b s g [] some near = below_none (suc s) _ (λ i inside. ap (λ t. t * g (s - i)) (share_zero b (suc i)) ∙ nothing (g (s - i)))
+pub near_items : (b : Bool) (s : ℕ) (g : ℕ → ℕ) (items : List Item) → All (λ item. 0 < item.amount) items
+    → All (λ item. item.amount ≤ suc s) items
+    → count_below (suc s) (λ i. coefficient b items i * g (s - i)) ≡ sum_by
+    (λ item. share b item.amount item.weight * g (suc s - item.amount)) items
+near_items b s g [] some near =
+    below_none (suc s) _ (λ i inside. ap (λ t. t * g (s - i)) (share_zero b (suc i)) ∙ nothing (g (s - i)))
   where
     nothing : (n : ℕ) → 0 * n ≡ 0
     nothing n = omega arith
 near_items b s g (item ∷ items) some near =
     below_same (suc s) _ _ (λ i inside.
     ap (λ t. share b (suc i) t * g (s - i)) (weight_at-cons item items (suc i))
-    ∙ ap (λ t. t * g (s - i)) (share_plus b (suc i) (if item.amount == suc i then item.weight else 0) (weight_at items (suc i)))
+    ∙ ap (λ t. t * g (s - i)) (share_plus b (suc i) (if item.amount == suc i then item.weight else 0)
+    (weight_at items (suc i)))
     ∙ split (share b (suc i) (if item.amount == suc i then item.weight else 0)) (coefficient b items i) (g (s - i)))
-    ∙ below_plus (suc s) (λ i. share b (suc i) (if item.amount == suc i then item.weight else 0) * g (s - i)) (λ i. coefficient b items i * g (s - i))
-    ∙ ap₂ (λ t u. t + u) (one_item b s g item (some 0 item (omega arith)) (near 0 item (omega arith))) (near_items b s g items (All-tail (λ i. 0 < i.amount) item items some) (All-tail (λ i. i.amount ≤ suc s) item items near))
+    ∙ below_plus (suc s) (λ i. share b (suc i) (if item.amount == suc i then item.weight else 0) * g (s - i))
+    (λ i. coefficient b items i * g (s - i))
+    ∙ ap₂ (λ t u. t + u) (one_item b s g item (some 0 item (omega arith)) (near 0 item (omega arith)))
+    (near_items b s g items (All-tail (λ i. 0 < i.amount) item items some)
+    (All-tail (λ i. i.amount ≤ suc s) item items near))
     ∙ sym (sum_by-cons (λ (i : Item). share b i.amount i.weight * g (suc s - i.amount)) item items)
   where
     split : (m n k : ℕ) → (m + n) * k ≡ m * k + n * k
     split m n k = omega arith
 
 -- the first r items reach up to s + 1, and no later one does
-pub items_weighed : (b : Bool) (s r : ℕ) (g : ℕ → ℕ) (items : List Item) → All (λ item. 0 < item.amount) (take r items) → All (λ item. item.amount ≤ suc s) (take r items)
+pub items_weighed : (b : Bool) (s r : ℕ) (g : ℕ → ℕ) (items : List Item) → All (λ item. 0 < item.amount) (take r items)
+    → All (λ item. item.amount ≤ suc s) (take r items)
     → All (λ item. suc s < item.amount) (drop r items)
-    → sum_by (λ item. share b item.amount item.weight * g (suc s - item.amount)) (take r items) ≡ weighed (coefficient b items) g s
+    → sum_by (λ item. share b item.amount item.weight * g (suc s - item.amount)) (take r items) ≡ weighed
+    (coefficient b items) g s
 items_weighed b s r g items some near far =
     sym (near_items b s g (take r items) some near)
     ∙ below_same (suc s) _ _ (λ i inside.
     let whole = sum_by-take-drop (λ (item : Item). if item.amount == suc i then item.weight else 0) items r in
-    let none : weight_at (drop r items) (suc i) ≡ 0 = weight_below (drop r items) (suc s) (suc i) far (omega (arith, inside)) in
+    let none : weight_at (drop r items) (suc i) ≡ 0 =
+    weight_below (drop r items) (suc s) (suc i) far (omega (arith, inside)) in
     ap (λ t. share b (suc i) t * g (s - i)) (omega (arith, whole, none)))
     ∙ below_pairs s (λ i k. coefficient b items i * g k)
 
@@ -98,42 +113,62 @@ pub share_le : (b : Bool) (j n m : ℕ) → 1 ≤ m → j ≤ m → share b j n 
 share_le true j n m h k = mul-le-mul_right n k
 share_le false j n m h k = omega (arith, mul-le-mul_right n h)
 
-pub sum_le : (f g : Item → ℕ) (items : List Item) → All (λ item. f item ≤ g item) items → sum_by f items ≤ sum_by g items
+pub sum_le : (f g : Item → ℕ) (items : List Item) → All (λ item. f item ≤ g item) items
+    → sum_by f items ≤ sum_by g items
 sum_le f g [] h = omega arith
-sum_le f g (item ∷ items) h = omega (arith, sum_by-cons f item items, sum_by-cons g item items, h 0 item (omega arith), sum_le f g items (All-tail (λ i. f i ≤ g i) item items h))
+sum_le f g (item ∷ items) h = omega (
+  arith,
+  sum_by-cons f item items,
+  sum_by-cons g item items,
+  h 0 item (omega arith),
+  sum_le f g items (All-tail (λ i. f i ≤ g i) item items h),
+)
 
 pub sum_times : (k : ℕ) (f : Item → ℕ) (items : List Item) → sum_by (λ item. k * f item) items ≡ k * sum_by f items
 sum_times k f [] = omega arith
 sum_times k f (item ∷ items) =
-    sum_by-cons (λ i. k * f i) item items ∙ ap (λ t. k * f item + t) (sum_times k f items) ∙ joined k (f item) (sum_by f items) ∙ ap (λ t. k * t) (sym (sum_by-cons f item items))
+    sum_by-cons (λ i. k * f i) item items ∙ ap (λ t. k * f item + t) (sum_times k f items)
+    ∙ joined k (f item) (sum_by f items) ∙ ap (λ t. k * t) (sym (sum_by-cons f item items))
   where
     joined : (k m n : ℕ) → k * m + k * n ≡ k * (m + n)
     joined k m n = omega arith
 
 -- what is added up over items up to m, of ends of at most e
-pub items_fit : (b : Bool) (m e : ℕ) (g : ℕ → ℕ) (items : List Item) → 1 ≤ m → ((k : ℕ) → g k ≤ e) → All (λ item. item.amount ≤ m) items
+pub items_fit : (b : Bool) (m e : ℕ) (g : ℕ → ℕ) (items : List Item) → 1 ≤ m → ((k : ℕ) → g k ≤ e)
+    → All (λ item. item.amount ≤ m) items
     → sum_by (λ item. share b item.amount item.weight * g (m - item.amount)) items ≤ m * e * weight_sum items
 items_fit b m e g items some ends near =
-    let each : sum_by (λ item. share b item.amount item.weight * g (m - item.amount)) items ≤ sum_by (λ item. m * e * item.weight) items =
+    let each : sum_by (λ item. share b item.amount item.weight * g (m - item.amount)) items ≤ sum_by
+    (λ item. m * e * item.weight) items =
     sum_le _ _ items (λ k d inside. one (get_or items k d) (near k d inside)) in
     omega (arith, each, sum_times (m * e) (λ item. item.weight) items)
   where
     one : (item : Item) → item.amount ≤ m → share b item.amount item.weight * g (m - item.amount) ≤ m * e * item.weight
     one item h =
-        let product : share b item.amount item.weight * g (m - item.amount) ≤ m * item.weight * e = mul-le-mul (share_le b item.amount item.weight m some h) (ends (m - item.amount)) in
+        let product : share b item.amount item.weight * g (m - item.amount) ≤ m * item.weight * e =
+        mul-le-mul (share_le b item.amount item.weight m some h) (ends (m - item.amount)) in
         omega (arith, product)
 
 -- ---- what all amounts count for
 
 one_weight : (n a w : ℕ) → count_below n (λ i. if a == suc i then w else 0) ≤ w
-one_weight n zero w = omega (arith, below_none n (λ i. if zero == suc i then w else 0) (λ i inside. ap (λ t. if t then w else 0) (ne_eqb 0 (suc i) (omega arith))))
+one_weight n zero w = omega (
+  arith,
+  below_none n (λ i. if zero == suc i then w else 0)
+      (λ i inside. ap (λ t. if t then w else 0) (ne_eqb 0 (suc i) (omega arith))),
+)
 one_weight n (suc a) w = elim (cases_lt a n) [
   | inl h ↦ omega (
     arith,
-    below_one n a (λ i. if suc a == suc i then w else 0) h (λ i inside other. ap (λ t. if t then w else 0) (ne_eqb (suc a) (suc i) (omega (arith, other)))),
+    below_one n a (λ i. if suc a == suc i then w else 0) h
+        (λ i inside other. ap (λ t. if t then w else 0) (ne_eqb (suc a) (suc i) (omega (arith, other)))),
     ap (λ t. if t then w else 0) (eq-eqb (suc a) (suc a) (omega arith)),
   )
-  | inr h ↦ omega (arith, below_none n (λ i. if suc a == suc i then w else 0) (λ i inside. ap (λ t. if t then w else 0) (ne_eqb (suc a) (suc i) (omega (arith, inside, h)))))
+  | inr h ↦ omega (
+    arith,
+    below_none n (λ i. if suc a == suc i then w else 0)
+        (λ i inside. ap (λ t. if t then w else 0) (ne_eqb (suc a) (suc i) (omega (arith, inside, h)))),
+  )
 ]
 
 pub weights_within : (n : ℕ) (items : List Item) → count_below n (λ i. weight_at items (suc i)) ≤ weight_sum items
@@ -141,19 +176,29 @@ weights_within n [] = omega (arith, below_none n (λ i. weight_at [] (suc i)) (�
 weights_within n (item ∷ items) =
     omega (
       arith,
-      below_same n (λ i. weight_at (item ∷ items) (suc i)) (λ i. (if item.amount == suc i then item.weight else 0) + weight_at items (suc i)) (λ i inside. weight_at-cons item items (suc i)),
+      below_same n (λ i. weight_at (item ∷ items) (suc i))
+          (λ i. (if item.amount == suc i then item.weight else 0) + weight_at items (suc i))
+          (λ i inside. weight_at-cons item items (suc i)),
       below_plus n (λ i. if item.amount == suc i then item.weight else 0) (λ i. weight_at items (suc i)),
       one_weight n item.amount item.weight,
       weights_within n items,
       sum_by-cons (λ (i : Item). i.weight) item items,
     )
 
-pub coefficients_within : (b : Bool) (s : ℕ) (items : List Item) → count_below (suc s) (coefficient b items) ≤ share b (suc s) (weight_sum items)
+pub coefficients_within : (b : Bool) (s : ℕ) (items : List Item)
+    → count_below (suc s) (coefficient b items) ≤ share b (suc s) (weight_sum items)
 coefficients_within false s items = weights_within (suc s) items
 coefficients_within true s items =
-    let each : count_below (suc s) (coefficient true items) ≤ count_below (suc s) (λ i. weight_at items (suc i) * suc s) =
+    let each : count_below (suc s) (coefficient true items) ≤ count_below (suc s)
+    (λ i. weight_at items (suc i) * suc s) =
     below_le (suc s) _ _ (λ i inside. turned (suc i) (suc s) (weight_at items (suc i)) (omega (arith, inside))) in
-    omega (arith, each, below_times (suc s) (suc s) (λ i. weight_at items (suc i)), mul-le-mul_right (suc s) (weights_within (suc s) items))
+    omega (
+      arith,
+      each,
+      below_times (suc s) (suc s) (λ i. weight_at items (suc i)),
+      mul-le-mul_right (suc s)
+          (weights_within (suc s) items),
+    )
   where
     turned : (i s w : ℕ) → i ≤ s → i * w ≤ w * s
     turned i s w h = omega (arith, mul-le-mul_right w h)
@@ -161,7 +206,12 @@ coefficients_within true s items =
 -- of ends of at most m
 pub weighed_le : (c ends : ℕ → ℕ) (s m : ℕ) → ((k : ℕ) → ends k ≤ m) → weighed c ends s ≤ count_below (suc s) c * m
 weighed_le c ends s m bound =
-    omega (arith, pairs_le s (λ i k. c i * ends k) (λ i k. c i * m) (λ i k. mul-le-mul_left (c i) (bound k)), below_pairs s (λ i k. c i * m), below_times (suc s) m c)
+    omega (
+      arith,
+      pairs_le s (λ i k. c i * ends k) (λ i k. c i * m) (λ i k. mul-le-mul_left (c i) (bound k)),
+      below_pairs s (λ i k. c i * m),
+      below_times (suc s) m c,
+    )
 
 pub weighed_rises : (c f g : ℕ → ℕ) (s : ℕ) → ((k : ℕ) → f k ≤ g k) → weighed c f s ≤ weighed c g s
 weighed_rises c f g s h = pairs_le s (λ i k. c i * f k) (λ i k. c i * g k) (λ i k. mul-le-mul_left (c i) (h k))
@@ -170,5 +220,6 @@ weighed_rises c f g s h = pairs_le s (λ i k. c i * f k) (λ i k. c i * g k) (λ
 pub weighed_same : (c f g : ℕ → ℕ) (s : ℕ) → ((k : ℕ) → k ≤ s → f k ≡ g k) → weighed c f s ≡ weighed c g s
 weighed_same c f g s h =
     sym (below_pairs s (λ i k. c i * f k))
-    ∙ below_same (suc s) (λ i. c i * f (s - i)) (λ i. c i * g (s - i)) (λ i inside. ap (λ t. c i * t) (h (s - i) (omega arith)))
+    ∙ below_same (suc s) (λ i. c i * f (s - i)) (λ i. c i * g (s - i))
+    (λ i inside. ap (λ t. c i * t) (h (s - i) (omega arith)))
     ∙ below_pairs s (λ i k. c i * g k)

@@ -2,10 +2,13 @@ pub mod ItemSums
 pub mod Severities
 pub mod Reading
 pub mod Steps
-pub mod Sequences
 pub mod Recursions
+pub mod Base
+pub mod Outward
+pub mod Compounds
 pub mod Mass
 pub mod Spreads
 pub mod Starts
 pub mod Grids
 pub mod TestLaws
+pub mod EndsOf

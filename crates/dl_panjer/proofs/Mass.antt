@@ -2,37 +2,42 @@
 use Rattle.std.proofs.Common.{ℕ, zero, suc, ◌≡◌, ◌<◌, ◌≤◌, arith, ap, subst₂, ◌∙◌}
 use Rattle.dl_exact.specs.Fraction.{Fraction, ◌over◌, ◌+ℚ◌, ◌*ℚ◌, ◌≤ℚ◌, whole}
 use Rattle.dl_exact.specs.Sum.{sum_to}
-use Rattle.dl_exact.proofs.Laws.{ring, one_times, le_refl, le_trans, le_of_eq, times_le_times, whole_plus, over_times_whole}
+use Rattle.dl_exact.proofs.Laws.{ring, one_times, le_refl, le_trans, le_of_eq, times_le_times, whole_plus, over_times_whole, times_le_both}
 use Rattle.dl_exact.proofs.RoundingLaws.{le_whole}
 use Rattle.dl_exact.proofs.Sums.{sum_to_le, sum_to_times}
-use Rattle.dl_grid.proofs.PairLaws.{count_below}
+use Rattle.dl_exact.specs.Count.{count_below}
 use Rattle.dl_model.specs.Series.{AtLeast}
 use Rattle.dl_model.specs.Compound.{cell}
 use Rattle.dl_model.specs.Counts.{IsPanjer}
 use Rattle.dl_model.specs.Severity.{IsWithinOne}
-use Rattle.dl_model.specs.Recursion.{FollowsOutward}
-use Rattle.dl_model.proofs.Declared.{times_le_both, rises_to}
+use Rattle.dl_panjer.specs.Outward.{FollowsOutward}
+use Rattle.dl_model.proofs.Declared.{rises_to}
 use Rattle.dl_model.proofs.FamilyLaws.{compound_proper}
 use Rattle.dl_model.proofs.Panjer.{recursion_there}
-use Rattle.dl_model.proofs.Base.{low_below}
+use Rattle.dl_panjer.proofs.Base.{low_below}
 
 whole_sum : (n : ℕ) (f : ℕ → ℕ) → whole (count_below (suc n) f) ≡ sum_to n (λ s. whole (f s))
 unfolding count_below sum_to
 whole_sum zero f = ap whole (omega arith)
 whole_sum (suc n) f = whole_plus (count_below (suc n) f) (f (suc n)) ∙ ap (λ t. t +ℚ whole (f (suc n))) (whole_sum n f)
 
-pub low_mass : (S n : ℕ) (a b : Fraction) (f w : ℕ → Fraction) (lo hi : ℕ → ℕ) → FollowsOutward S a b f lo hi → f 0 ≡ whole 0 → IsPanjer a b w → 0 < S
+pub low_mass : (S n : ℕ) (a b : Fraction) (f w : ℕ → Fraction) (lo hi : ℕ → ℕ) → FollowsOutward S (suc n) a b f lo hi
+    → f 0 ≡ whole 0 → IsPanjer a b w → 0 < S
     → IsWithinOne f → AtLeast (λ N. whole 1) (λ N. sum_to N w) (lo 0 over S) → count_below (suc n) lo ≤ S
 low_mass S n a b f w lo hi F z P pos severity start =
     let proper = compound_proper w f severity in
     let below : sum_to n (λ s. whole (lo s)) ≤ℚ sum_to n (λ s. whole (lo 0) *ℚ cell w f s n) =
-    sum_to_le n _ _ (λ s near. le_trans _ _ _ (low_below S a b f lo hi F (λ s. cell w f s s) (recursion_there f w a b z P) s)
+    sum_to_le n _ _ (λ s near. le_trans _ _ _
+    (low_below S (suc n) a b f lo hi F (λ s. cell w f s s) (recursion_there f w a b z P) s (omega (arith, near)))
     (times_le_both _ _ _ _ (le_refl (whole (lo 0))) (rises_to (cell w f s) (proper.cells_rise s) s n near))) in
     let all : sum_to n (λ s. whole (lo 0) *ℚ cell w f s n) ≤ℚ whole (lo 0) *ℚ sum_to n w =
-    le_trans _ _ _ (le_of_eq _ _ (sum_to_times n (whole (lo 0)) (λ s. cell w f s n))) (times_le_both _ _ _ _ (le_refl (whole (lo 0))) (proper.within n n)) in
+    le_trans _ _ _ (le_of_eq _ _ (sum_to_times n (whole (lo 0)) (λ s. cell w f s n)))
+    (times_le_both _ _ _ _ (le_refl (whole (lo 0))) (proper.within n n)) in
     let one : lo 0 over S *ℚ sum_to n w ≤ℚ whole 1 = start n (whole 1) (λ m. le_refl _) in
     let units : whole (lo 0) *ℚ sum_to n w ≤ℚ whole S =
-    subst₂ (λ s t. s ≤ℚ t) (turn (lo 0 over S) (sum_to n w) (whole S) ∙ ap (λ t. t *ℚ sum_to n w) (over_times_whole (lo 0) S pos)) (one_times (whole S)) (times_le_times _ _ (whole S) one) in
+    subst₂ (λ s t. s ≤ℚ t) (turn (lo 0 over S) (sum_to n w) (whole S)
+    ∙ ap (λ t. t *ℚ sum_to n w) (over_times_whole (lo 0) S pos)) (one_times (whole S))
+    (times_le_times _ _ (whole S) one) in
     le_whole _ S (le_trans _ _ _ (le_of_eq _ _ (whole_sum n lo)) (le_trans _ _ _ below (le_trans _ _ _ all units)))
   where
     turn : (a b c : Fraction) → a *ℚ b *ℚ c ≡ a *ℚ c *ℚ b

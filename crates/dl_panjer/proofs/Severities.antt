@@ -12,12 +12,15 @@ use Rattle.dl_exact.specs.Fraction.{◌over◌, ◌+ℚ◌, ◌≤ℚ◌, whole}
 use Rattle.dl_exact.specs.Sum.{sum_to}
 use Rattle.dl_exact.proofs.Over.{le_over}
 use Rattle.dl_exact.proofs.Laws.{one_pos, le_trans, le_of_eq}
-use Rattle.dl_iv.proofs.FractionLaws.{over_le_over, over_plus, over_one}
-use Rattle.dl_grid.proofs.PairLaws.{count_below, below_first}
+use Rattle.dl_exact.proofs.Denominators.{over_le_over, over_split, over_one}
+use Rattle.dl_exact.specs.Count.{count_below}
+use Rattle.dl_exact.proofs.Counts.{below_first}
+use Rattle.dl_exact.proofs.SumsOver.{to_over}
 use Rattle.dl_model.specs.Severity.{IsWithinOne}
 use Rattle.dl_panjer.proofs.ItemSums.{weights_within}
 
-pub amounts_rise : (items : List Item) → IsStrictlyIncreasing (amounts_of items) → IsNonDecreasingBy (λ item. item.amount) items
+pub amounts_rise : (items : List Item) → IsStrictlyIncreasing (amounts_of items)
+    → IsNonDecreasingBy (λ item. item.amount) items
 amounts_rise items rising =
     IsNonDecreasingBy-from_all_adjacent (λ (item : Item). item.amount) items (λ k d inside.
     omega (
@@ -27,34 +30,35 @@ amounts_rise items rising =
       get_or-map (λ (item : Item). item.amount) items (k + 1) d 0 inside,
     ))
 
-pub total_pos : (items : List Item) (total : ℕ) → IsWeighted items total → 0 < total
-total_pos [] total w = absurd (omega (arith, w.some))
-total_pos (item ∷ items) total w =
-    omega (arith, w.positive 0 item (omega arith), w.sum, sum_by-cons (λ (i : Item). i.weight) item items)
-
 -- ---- no amount is 0
 
-pub zero_weight : (items : List Item) (total : ℕ) → 0 < total → weight_at items 0 over total ≡ whole 0 → weight_at items 0 ≡ 0
+pub zero_weight : (items : List Item) (total : ℕ) → 0 < total → weight_at items 0 over total ≡ whole 0
+    → weight_at items 0 ≡ 0
 zero_weight items total pos e = omega (arith, le_over (weight_at items 0) total 0 1 pos one_pos (le_of_eq _ _ e))
 
-pub amounts_positive : (items : List Item) → weight_at items 0 ≡ 0 → All (λ item. 0 < item.weight) items → All (λ item. 0 < item.amount) items
+pub amounts_positive : (items : List Item) → weight_at items 0 ≡ 0 → All (λ item. 0 < item.weight) items
+    → All (λ item. 0 < item.amount) items
 amounts_positive items none weights k d inside = elim (cases_lt 0 (get_or items k d).amount) [
   | inl h ↦ h
   | inr h ↦ absurd (
       let item : Item = get_or items k d in
-      let own : (if item.amount == 0 then item.weight else 0) ≤ weight_at items 0 = get_or-le-sum_by (λ (i : Item). if i.amount == 0 then i.weight else 0) items k d inside in
-      let whole_weight : (if item.amount == 0 then item.weight else 0) ≡ item.weight = ap (λ t. if t then item.weight else 0) (eq-eqb item.amount 0 (omega (arith, h))) in
+      let own : (if item.amount == 0 then item.weight else 0) ≤ weight_at items 0 =
+      get_or-le-sum_by (λ (i : Item). if i.amount == 0 then i.weight else 0) items k d inside in
+      let whole_weight : (if item.amount == 0 then item.weight else 0) ≡ item.weight =
+      ap (λ t. if t then item.weight else 0) (eq-eqb item.amount 0 (omega (arith, h))) in
       omega (arith, own, whole_weight, none, weights k d inside))
 ]
 
-sum_over_total : (n T : ℕ) (w : ℕ → ℕ) → 0 < T → sum_to n (λ j. w j over T) ≡ count_below (suc n) w over T
-unfolding sum_to count_below
-sum_over_total zero T w pos = ap (λ k. k over T) (omega arith)
-sum_over_total (suc n) T w pos = ap (λ t. t +ℚ w (suc n) over T) (sum_over_total n T w pos) ∙ sym (over_plus (count_below (suc n) w) (w (suc n)) T pos)
-
 -- the probabilities add up to at most 1
-pub within_one : (items : List Item) (total : ℕ) → 0 < total → weight_sum items ≡ total → weight_at items 0 ≡ 0 → IsWithinOne (λ j. weight_at items j over total)
+pub within_one : (items : List Item) (total : ℕ) → 0 < total → weight_sum items ≡ total → weight_at items 0 ≡ 0
+    → IsWithinOne (λ j. weight_at items j over total)
 within_one items total pos sum none n =
-    le_trans _ _ _ (le_of_eq _ _ (sum_over_total n total (weight_at items) pos))
+    le_trans _ _ _ (le_of_eq _ _ (to_over n total (weight_at items) pos))
     (subst (λ t. count_below (suc n) (weight_at items) over total ≤ℚ t) (over_one total pos)
-    (over_le_over _ total total pos (omega (arith, below_first n (weight_at items), none, weights_within n items, sum))))
+    (over_le_over _ total total pos (omega (
+      arith,
+      below_first n (weight_at items),
+      none,
+      weights_within n items,
+      sum,
+    ))))

@@ -4,7 +4,8 @@ use Rattle.std.specs.Int.{div_ceil}
 use Rattle.std.proofs.Math.Nat.{zero-lt-suc, lt-div-mul-add}
 use Rattle.std.proofs.lemmas.Grind.{div_ceil_times}
 use Rattle.dl_exact.specs.Fraction.{Fraction}
-use Rattle.dl_grid.proofs.PairLaws.{count_below, below_le, below_plus, below_times, below_constant, below_pairs, pairs_plus, pairs_same, pairs_within}
+use Rattle.dl_exact.specs.Count.{count_below}
+use Rattle.dl_exact.proofs.Counts.{below_le, below_plus, below_times, below_constant, below_pairs, pairs_plus, pairs_same, pairs_within, below_grows}
 use Rattle.dl_plan.specs.declared.item.Item.{Item}
 use Rattle.dl_plan.specs.Weighted.{weight_at, weight_sum}
 use Rattle.dl_panjer.specs.Cells.{share, coefficient, weighed, Follows}
@@ -12,7 +13,8 @@ use Rattle.dl_panjer.proofs.ItemSums.{weights_within}
 use Rattle.dl_panjer.proofs.Steps.{share_pos}
 
 -- one step: D is what the sum of the high ends is above that of the low ends
-step_width : (L D T num d lo w : ℕ) → 0 < T → 0 < d → num ≤ d → lo ≡ L / T * num / d → lo + w ≤ div_ceil (div_ceil (L + D) T * num) d
+step_width : (L D T num d lo w : ℕ) → 0 < T → 0 < d → num ≤ d → lo ≡ L / T * num / d
+    → lo + w ≤ div_ceil (div_ceil (L + D) T * num) d
     → w * (d * T) ≤ D * num + 4 * (d * T)
 step_width L D T num d lo w T_pos pos small low high =
     let X : ℕ = L / T in
@@ -22,21 +24,32 @@ step_width L D T num d lo w T_pos pos small low high =
     let down : L ≤ X * T + T = omega (arith, lt-div-mul-add {a = L} {b = T} T_pos) in
     let inner : Y * T ≤ X * T + D + 2 * T = omega (arith, up, down) in
     let over : Z * d ≤ Y * num + d = omega (arith, (div_ceil_times (Y * num) d pos).1) in
-    let under : X * num ≤ lo * d + d = subst (λ t. X * num ≤ t * d + d) (sym low) (omega (arith, lt-div-mul-add {a = X * num} {b = d} pos)) in
+    let under : X * num ≤ lo * d + d = subst (λ t. X * num ≤ t * d + d) (sym low)
+    (omega (arith, lt-div-mul-add {a = X * num} {b = d} pos)) in
     let top : (lo + w) * d ≤ Z * d = mul-le-mul_right d high in
     let outer : (lo + w) * d ≤ Y * num + d = omega (arith, top, over) in
-    omega (arith, mul-le-mul_right T outer, mul-le-mul_right num inner, mul-le-mul_right T under, mul-le-mul_left T small)
+    omega (
+      arith,
+      mul-le-mul_right T outer,
+      mul-le-mul_right num inner,
+      mul-le-mul_right T under,
+      mul-le-mul_left T small,
+    )
 
-share_out : (b : Bool) (j den T w C num : ℕ) → 0 < j → w * (share b j den * T) ≤ share b j C * num + 4 * (share b j den * T) → w * (den * T) ≤ C * num + 4 * (den * T)
+share_out : (b : Bool) (j den T w C num : ℕ) → 0 < j
+    → w * (share b j den * T) ≤ share b j C * num + 4 * (share b j den * T) → w * (den * T) ≤ C * num + 4 * (den * T)
 share_out true j den T w C num pos h = le_of_mul-le-mul_right {k = j} (omega (arith, h)) pos
 share_out false j den T w C num pos h = h
 
 -- what amounts count for is at most the cell's number times their weights
-pub weighed_share : (b : Bool) (items : List Item) (ends : ℕ → ℕ) (s : ℕ) → weighed (coefficient b items) ends s ≤ share b (suc s) (weighed (λ i. weight_at items (suc i)) ends s)
+pub weighed_share : (b : Bool) (items : List Item) (ends : ℕ → ℕ) (s : ℕ)
+    → weighed (coefficient b items) ends s ≤ share b (suc s) (weighed (λ i. weight_at items (suc i)) ends s)
 weighed_share false items ends s = omega arith
 weighed_share true items ends s =
-    let each : count_below (suc s) (λ i. suc i * weight_at items (suc i) * ends (s - i)) ≤ count_below (suc s) (λ i. weight_at items (suc i) * ends (s - i) * suc s) =
-    below_le (suc s) _ _ (λ i inside. turned (suc i) (suc s) (weight_at items (suc i)) (ends (s - i)) (omega (arith, inside))) in
+    let each : count_below (suc s) (λ i. suc i * weight_at items (suc i) * ends (s - i)) ≤ count_below (suc s)
+    (λ i. weight_at items (suc i) * ends (s - i) * suc s) =
+    below_le (suc s) _ _ (λ i inside. turned (suc i) (suc s) (weight_at items (suc i)) (ends (s - i))
+    (omega (arith, inside))) in
     omega (
       arith,
       each,
@@ -49,27 +62,34 @@ weighed_share true items ends s =
     turned i s w e h = omega (arith, mul-le-mul_right (w * e) h)
 
 weighed_plus : (c f g : ℕ → ℕ) (s : ℕ) → weighed c (λ k. f k + g k) s ≡ weighed c f s + weighed c g s
-weighed_plus c f g s = pairs_same s (λ i k. c i * (f k + g k)) (λ i k. c i * f k + c i * g k) (λ i k. omega arith) ∙ pairs_plus s (λ i k. c i * f k) (λ i k. c i * g k)
+weighed_plus c f g s = pairs_same s (λ i k. c i * (f k + g k)) (λ i k. c i * f k + c i * g k) (λ i k. omega arith)
+    ∙ pairs_plus s (λ i k. c i * f k) (λ i k. c i * g k)
 
-grows : (n : ℕ) (f : ℕ → ℕ) → count_below n f ≤ count_below (suc n) f
-unfolding count_below
-grows n f = omega arith
-
-module _ (b : Bool) (items : List Item) (S T : ℕ) (rate : Fraction) (lo hi w : ℕ → ℕ) (K : ℕ) (F : Follows S b items T rate lo hi K) (T_pos : 0 < T)
+module _ (b : Bool) (items : List Item) (S T : ℕ) (rate : Fraction) (lo hi w : ℕ → ℕ) (K : ℕ)
+    (F : Follows S b items T rate lo hi K) (T_pos : 0 < T)
     (at_most_one : rate.num ≤ rate.den) (apart : (k : ℕ) → hi k ≡ lo k + w k) where
-  widths : (s : ℕ) → suc s < K → rate.den * T * w (suc s) ≤ rate.num * weighed (λ i. weight_at items (suc i)) w s + 4 * (rate.den * T)
+  widths : (s : ℕ) → suc s < K → rate.den * T * w (suc s) ≤ rate.num * weighed (λ i. weight_at items (suc i)) w s + 4 *
+      (rate.den * T)
   widths s inside =
       let d : ℕ = share b (suc s) rate.den in
       let L : ℕ = weighed (coefficient b items) lo s in
       let D : ℕ = weighed (coefficient b items) w s in
       let H : weighed (coefficient b items) hi s ≡ L + D =
-      pairs_same s (λ i k. coefficient b items i * hi k) (λ i k. coefficient b items i * (lo k + w k)) (λ i k. ap (λ t. coefficient b items i * t) (apart k)) ∙ weighed_plus (coefficient b items) lo w s in
+      pairs_same s (λ i k. coefficient b items i * hi k) (λ i k. coefficient b items i * (lo k + w k))
+      (λ i k. ap (λ t. coefficient b items i * t) (apart k)) ∙ weighed_plus (coefficient b items) lo w s in
       let pos : 0 < d = share_pos b (suc s) rate.den (zero-lt-suc s) rate.positive in
       let high : lo (suc s) + w (suc s) ≤ div_ceil (div_ceil (L + D) T * rate.num) d =
-      subst (λ t. lo (suc s) + w (suc s) ≤ div_ceil (div_ceil t T * rate.num) d) H (omega (arith, apart (suc s), F.high s inside)) in
-      let one = step_width L D T rate.num d (lo (suc s)) (w (suc s)) T_pos pos (wider b (suc s) rate.num rate.den (zero-lt-suc s) at_most_one) (F.low s inside) high in
-      let shared : D * rate.num ≤ share b (suc s) (weighed (λ i. weight_at items (suc i)) w s) * rate.num = mul-le-mul_right rate.num (weighed_share b items w s) in
-      omega (arith, share_out b (suc s) rate.den T (w (suc s)) (weighed (λ i. weight_at items (suc i)) w s) rate.num (zero-lt-suc s) (omega (arith, one, shared)))
+      subst (λ t. lo (suc s) + w (suc s) ≤ div_ceil (div_ceil t T * rate.num) d) H
+      (omega (arith, apart (suc s), F.high s inside)) in
+      let one = step_width L D T rate.num d (lo (suc s)) (w (suc s)) T_pos pos
+      (wider b (suc s) rate.num rate.den (zero-lt-suc s) at_most_one) (F.low s inside) high in
+      let shared : D * rate.num ≤ share b (suc s) (weighed (λ i. weight_at items (suc i)) w s) * rate.num =
+      mul-le-mul_right rate.num (weighed_share b items w s) in
+      omega (
+        arith,
+        share_out b (suc s) rate.den T (w (suc s)) (weighed (λ i. weight_at items (suc i)) w s) rate.num
+            (zero-lt-suc s) (omega (arith, one, shared)),
+      )
     where
       wider : (b : Bool) (j n d : ℕ) → 0 < j → n ≤ d → n ≤ share b j d
       wider true j n d pos h =
@@ -78,15 +98,19 @@ module _ (b : Bool) (items : List Item) (S T : ℕ) (rate : Fraction) (lo hi w :
       wider false j n d pos h = h
 
   -- all widths of the first n + 1 cells
-  pub all_widths : (n : ℕ) → suc n ≡ K → weight_sum items ≡ T → rate.den * count_below n (λ s. w (suc s)) ≤ rate.num * count_below (suc n) w + 4 * n * rate.den
+  pub all_widths : (n : ℕ) → suc n ≡ K → weight_sum items ≡ T
+      → rate.den * count_below n (λ s. w (suc s)) ≤ rate.num * count_below (suc n) w + 4 * n * rate.den
   all_widths n last sum =
       let v : ℕ → ℕ = λ i. weight_at items (suc i) in
       let A : ℕ = rate.den * T in
       let each : count_below n (λ s. w (suc s) * A) ≤ count_below n (λ s. weighed v w s * rate.num + 4 * A) =
       below_le n _ _ (λ s inside. omega (arith, widths s (omega (arith, inside, last)))) in
       let pairs : count_below n (weighed v w) ≤ count_below n v * count_below n w = pairs_within n v w in
-      let within : count_below n v * count_below n w ≤ T * count_below (suc n) w = mul-le-mul (subst (λ t. count_below n v ≤ t) sum (weights_within n items)) (grows n w) in
-      let scaled : count_below n (weighed v w) * rate.num ≤ T * count_below (suc n) w * rate.num = mul-le-mul_right rate.num (omega (arith, pairs, within)) in
+      let within : count_below n v * count_below n w ≤ T * count_below (suc n) w =
+      mul-le-mul (subst (λ t. count_below n v ≤ t) sum (weights_within n items))
+      (below_grows n (suc n) w (omega arith)) in
+      let scaled : count_below n (weighed v w) * rate.num ≤ T * count_below (suc n) w * rate.num =
+      mul-le-mul_right rate.num (omega (arith, pairs, within)) in
       le_of_mul-le-mul_right {k = T} (
       omega (
         arith,
@@ -100,17 +124,20 @@ module _ (b : Bool) (items : List Item) (S T : ℕ) (rate : Fraction) (lo hi w :
       ) T_pos
 
 -- with a rate of at most 1/2
-pub half_spread : (n num den first rest all : ℕ) → 0 < den → num + num ≤ den → all ≡ first + rest → den * rest ≤ num * all + 4 * n * den → first ≤ 64 → all ≤ 8 * (n + 1) + 128
+pub half_spread : (n num den first rest all : ℕ) → 0 < den → num + num ≤ den → all ≡ first + rest
+    → den * rest ≤ num * all + 4 * n * den → first ≤ 64 → all ≤ 8 * (n + 1) + 128
 half_spread n num den first rest all pos half split h start =
     let doubled : (num + num) * all ≤ den * all = mul-le-mul_right all half in
     let less : rest * 2 ≤ all + 8 * n = le_of_mul-le-mul_right {k = den} (omega (arith, h, doubled)) pos in
     omega (arith, less, split, start)
 
 -- with the rate p / (p + d), as q' p' says
-pub geometric_spread : (n num den p d first rest all : ℕ) → 0 < den → num * (p + d) ≡ p * den → all ≡ first + rest → den * rest ≤ num * all + 4 * n * den → first ≤ 1
+pub geometric_spread : (n num den p d first rest all : ℕ) → 0 < den → num * (p + d) ≡ p * den → all ≡ first + rest
+    → den * rest ≤ num * all + 4 * n * den → first ≤ 1
     → all * d ≤ (4 * (n + 1) + 1) * (p + d)
 geometric_spread n num den p d first rest all pos cross split h start =
-    let whole : den * all ≤ num * all + (4 * n + 1) * den = omega (arith, h, ap (λ t. den * t) split, mul-le-mul_left den start) in
+    let whole : den * all ≤ num * all + (4 * n + 1) * den =
+    omega (arith, h, ap (λ t. den * t) split, mul-le-mul_left den start) in
     let wide : den * all * (p + d) ≤ (num * all + (4 * n + 1) * den) * (p + d) = mul-le-mul_right (p + d) whole in
     let crossed : num * (p + d) * all ≡ p * den * all = ap (λ t. t * all) cross in
     let less : all * d ≤ (4 * n + 1) * (p + d) = le_of_mul-le-mul_right {k = den} (omega (arith, wide, crossed)) pos in

@@ -12,7 +12,7 @@ use Rattle.dl_exact.proofs.Laws.{one_pos, one_times, times_cancel, le_refl, le_t
 use Rattle.dl_exact.proofs.RoundingLaws.{div_ceil_least}
 use Rattle.dl_exact.proofs.Sums.{sum_to_same}
 use Rattle.dl_iv.specs.declared.interval.Iv.{Iv}
-use Rattle.dl_iv.proofs.FractionLaws.{over_le_over, over_one}
+use Rattle.dl_exact.proofs.Denominators.{over_le_over, over_one}
 use Rattle.dl_model.specs.Series.{Holds}
 use Rattle.dl_model.specs.Counts.{poisson}
 use Rattle.dl_model.proofs.PoissonWeights.{poisson_zero, poisson_next}
@@ -32,25 +32,34 @@ sums_are v N = sum_to_same N (poisson v) (exponential_term v) (λ n near. weight
 -- what encloses exp(-v) is what holds 1 over the sums of the exponential's series
 pub exp_holds : {B : ℕ} (v : Fraction) (interval : Iv B) → EnclosesExp v interval
     → Holds (λ N. whole 1) (exponential_sum v) (interval.lo over 2 ^ B) (interval.hi over 2 ^ B)
-exp_holds v interval encloses = (λ N u bound. le_trans _ _ _ (encloses.low N) (bound zero), λ N u bound. encloses.high u bound)
+exp_holds v interval encloses = (
+  λ N u bound. le_trans _ _ _ (encloses.low N) (bound zero),
+  λ N u bound. encloses.high u bound,
+)
 
-pub holds_exp : {B : ℕ} (v : Fraction) (interval : Iv B) → Holds (λ N. whole 1) (exponential_sum v) (interval.lo over 2 ^ B) (interval.hi over 2 ^ B)
+pub holds_exp : {B : ℕ} (v : Fraction) (interval : Iv B)
+    → Holds (λ N. whole 1) (exponential_sum v) (interval.lo over 2 ^ B) (interval.hi over 2 ^ B)
     → EnclosesExp v interval
-holds_exp v interval holds = record { low = λ N. holds.0 N (whole 1) (λ M. le_refl (whole 1)); high = λ u bound. holds.1 zero u bound }
+holds_exp v interval holds =
+    record { low = λ N. holds.0 N (whole 1) (λ M. le_refl (whole 1)); high = λ u bound. holds.1 zero u bound }
 
 -- what encloses exp(-v) holds the probability of no claim
-pub poisson_start : {B : ℕ} (v : Fraction) (interval : Iv B) (lo hi : ℕ) → EnclosesExp v interval → lo ≡ interval.lo → hi ≡ interval.hi
+pub poisson_start : {B : ℕ} (v : Fraction) (interval : Iv B) (lo hi : ℕ) → EnclosesExp v interval → lo ≡ interval.lo
+    → hi ≡ interval.hi
     → Holds (λ N. whole 1) (λ N. sum_to N (poisson v)) (lo over 2 ^ B) (hi over 2 ^ B)
 poisson_start {B} v interval lo hi encloses low high = (
-  (λ N u bound. le_trans _ _ _ (subst₂ (λ n t. n over 2 ^ B *ℚ t ≤ℚ whole 1) (sym low) (sym (sums_are v N)) (encloses.low N)) (bound zero)),
-  (λ N u bound. subst (λ n. whole 1 ≤ℚ n over 2 ^ B *ℚ u) (sym high) (encloses.high u (λ M. subst (λ t. t ≤ℚ u) (sums_are v M) (bound M)))),
+  (λ N u bound. le_trans _ _ _ (subst₂ (λ n t. n over 2 ^ B *ℚ t ≤ℚ whole 1) (sym low) (sym (sums_are v N))
+      (encloses.low N)) (bound zero)),
+  (λ N u bound. subst (λ n. whole 1 ≤ℚ n over 2 ^ B *ℚ u) (sym high)
+      (encloses.high u (λ M. subst (λ t. t ≤ℚ u) (sums_are v M) (bound M)))),
 )
 
 -- ---- the geometric count: d over p + d, where beta is p over d
 
 pub reciprocal : (p d : ℕ) → 0 < d → d over (p + d) ≡ whole 1 /ℚ (whole 1 +ℚ p over d)
 reciprocal p d pos =
-    let all : whole 1 +ℚ p over d ≡ (p + d) over d = over_add 1 1 p d one_pos pos ∙ over_same _ _ _ _ (mul-pos one_pos pos) pos (omega arith) in
+    let all : whole 1 +ℚ p over d ≡ (p + d) over d = over_add 1 1 p d one_pos pos
+    ∙ over_same _ _ _ _ (mul-pos one_pos pos) pos (omega arith) in
     over_same d (p + d) (1 * d) (1 * (p + d)) (omega (arith, pos)) (mul-pos one_pos (omega (arith, pos))) (omega arith)
     ∙ sym (over_div 1 1 (p + d) d one_pos pos (omega (arith, pos))) ∙ ap (λ t. whole 1 /ℚ t) (sym all)
 
@@ -60,8 +69,12 @@ ceiling_near n d pos = div_ceil_least n d (n / d + 1) pos (omega (arith, lt-div-
 pub start_small : (S p d : ℕ) → 0 < d → div_ceil (S * d) (p + d) ≤ S
 start_small S p d pos = div_ceil_least (S * d) (p + d) S (omega (arith, pos)) (omega arith)
 
-pub units_of_reciprocal : (S p d : ℕ) (v : Fraction) → 0 < d → p over d ≡ v → (S * d) over (p + d) ≡ whole S /ℚ (whole 1 +ℚ v)
+pub units_of_reciprocal : (S p d : ℕ) (v : Fraction) → 0 < d → p over d ≡ v
+    → (S * d) over (p + d) ≡ whole S /ℚ (whole 1 +ℚ v)
 units_of_reciprocal S p d v pos e =
-    let all : whole 1 +ℚ p over d ≡ (p + d) over d = over_add 1 1 p d one_pos pos ∙ over_same _ _ _ _ (mul-pos one_pos pos) pos (omega arith) in
-    over_same (S * d) (p + d) (S * d) (1 * (p + d)) (omega (arith, pos)) (mul-pos one_pos (omega (arith, pos))) (omega arith)
-    ∙ sym (over_div S 1 (p + d) d one_pos pos (omega (arith, pos))) ∙ ap (λ t. whole S /ℚ t) (sym all) ∙ ap (λ t. whole S /ℚ (whole 1 +ℚ t)) e
+    let all : whole 1 +ℚ p over d ≡ (p + d) over d = over_add 1 1 p d one_pos pos
+    ∙ over_same _ _ _ _ (mul-pos one_pos pos) pos (omega arith) in
+    over_same (S * d) (p + d) (S * d) (1 * (p + d)) (omega (arith, pos)) (mul-pos one_pos (omega (arith, pos)))
+    (omega arith)
+    ∙ sym (over_div S 1 (p + d) d one_pos pos (omega (arith, pos))) ∙ ap (λ t. whole S /ℚ t) (sym all)
+    ∙ ap (λ t. whole S /ℚ (whole 1 +ℚ t)) e

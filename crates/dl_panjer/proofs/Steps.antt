@@ -9,7 +9,7 @@ use Rattle.dl_exact.proofs.RoundingLaws.{div_ceil_least}
 use Rattle.dl_iv.specs.declared.interval.Iv.{Iv}
 use Rattle.dl_iv.proofs.Rounding.{floor_le_ceiling}
 use Rattle.dl_grid.specs.Cells.{low_at, high_at}
-use Rattle.dl_grid.proofs.PairLaws.{count_below}
+use Rattle.dl_exact.specs.Count.{count_below}
 use Rattle.dl_grid.proofs.PlaceSums.{low_at_front, high_at_front, low_at_pushed, high_at_pushed}
 use Rattle.dl_plan.specs.declared.item.Item.{Item}
 use Rattle.dl_plan.specs.Weighted.{weight_sum}
@@ -32,32 +32,40 @@ share_most true j n p q =
 share_most false j n p q = omega (arith, q)
 
 module _ (b : Bool) (items : List Item) (T S : ℕ) (s : ℕ) (T_pos : 0 < T) (sum : weight_sum items ≡ T) where
-  weighed_within : (ends : ℕ → ℕ) → ((k : ℕ) → ends k ≤ S) → weighed (coefficient b items) ends s ≤ share b (suc s) S * T
+  weighed_within : (ends : ℕ → ℕ) → ((k : ℕ) → ends k ≤ S)
+      → weighed (coefficient b items) ends s ≤ share b (suc s) S * T
   weighed_within ends bound =
-      let all : count_below (suc s) (coefficient b items) * S ≤ share b (suc s) (weight_sum items) * S = mul-le-mul_right S (coefficients_within b s items) in
-      let turned : share b (suc s) (weight_sum items) * S ≡ share b (suc s) S * T = ap (λ t. share b (suc s) t * S) sum ∙ share_turn b (suc s) T S in
+      let all : count_below (suc s) (coefficient b items) * S ≤ share b (suc s) (weight_sum items) * S =
+      mul-le-mul_right S (coefficients_within b s items) in
+      let turned : share b (suc s) (weight_sum items) * S ≡ share b (suc s) S * T = ap (λ t. share b (suc s) t * S) sum
+      ∙ share_turn b (suc s) T S in
       omega (arith, weighed_le (coefficient b items) ends s S bound, all, turned)
 
   pub low_share : (ends : ℕ → ℕ) → ((k : ℕ) → ends k ≤ S) → weighed (coefficient b items) ends s / T ≤ share b (suc s) S
   low_share ends bound = div-le_of_le-mul T (omega (arith, weighed_within ends bound))
 
-  pub high_share : (ends : ℕ → ℕ) → ((k : ℕ) → ends k ≤ S) → div_ceil (weighed (coefficient b items) ends s) T ≤ share b (suc s) S
+  pub high_share : (ends : ℕ → ℕ) → ((k : ℕ) → ends k ≤ S)
+      → div_ceil (weighed (coefficient b items) ends s) T ≤ share b (suc s) S
   high_share ends bound = div_ceil_least _ T _ T_pos (weighed_within ends bound)
 
   module _ (rate : Fraction) (at_most_one : rate ≤ℚ whole 1) where
     pub low_next_le : (ends : ℕ → ℕ) → ((k : ℕ) → ends k ≤ S) → low_next b items T rate ends s ≤ S
     low_next_le ends bound =
         let x : ℕ = weighed (coefficient b items) ends s / T in
-        let product : x * rate.num ≤ share b (suc s) S * rate.den = mul-le-mul (low_share ends bound) (num_le_den rate at_most_one) in
+        let product : x * rate.num ≤ share b (suc s) S * rate.den =
+        mul-le-mul (low_share ends bound) (num_le_den rate at_most_one) in
         div-le_of_le-mul _ (omega (arith, product, share_turn b (suc s) S rate.den))
 
-    pub next_order : (lo hi : ℕ → ℕ) → ((k : ℕ) → lo k ≤ hi k) → ((k : ℕ) → lo k ≤ S) → low_next b items T rate lo s ≤ high_next S b items T rate hi s
+    pub next_order : (lo hi : ℕ → ℕ) → ((k : ℕ) → lo k ≤ hi k) → ((k : ℕ) → lo k ≤ S)
+        → low_next b items T rate lo s ≤ high_next S b items T rate hi s
     next_order lo hi order bound =
         let d : ℕ = share b (suc s) rate.den in
         let inner : weighed (coefficient b items) lo s / T ≤ div_ceil (weighed (coefficient b items) hi s) T =
         floor_le_ceiling _ _ T T T_pos (omega arith) (weighed_rises (coefficient b items) lo hi s order) in
-        let outer : low_next b items T rate lo s ≤ div_ceil (div_ceil (weighed (coefficient b items) hi s) T * rate.num) d =
-        floor_le_ceiling _ _ d d (share_pos b (suc s) rate.den (zero-lt-suc s) rate.positive) (omega arith) (mul-le-mul_right rate.num inner) in
+        let outer : low_next b items T rate lo s ≤ div_ceil
+        (div_ceil (weighed (coefficient b items) hi s) T * rate.num) d =
+        floor_le_ceiling _ _ d d (share_pos b (suc s) rate.den (zero-lt-suc s) rate.positive) (omega arith)
+        (mul-le-mul_right rate.num inner) in
         omega (arith, low_next_le lo bound, outer)
 
 -- a step fits where the ends are at most 2^56 and the rate's first part is below 2^48
@@ -70,42 +78,60 @@ step_fits b j S x num few one le small =
 
 -- the ends of the next of m cells, as the code makes them
 pub cell_low : (b : Bool) (items : List Item) (T : ℕ) (rate : Fraction) (ends : ℕ → ℕ) (m x total num den : ℕ) → 1 ≤ m
-    → x ≡ weighed (coefficient b items) ends (m - 1) → total ≡ T → num ≡ rate.num → den ≡ share b m rate.den → x / total * num / den ≡ low_next b items T rate ends (m - 1)
+    → x ≡ weighed (coefficient b items) ends (m - 1) → total ≡ T → num ≡ rate.num → den ≡ share b m rate.den
+    → x / total * num / den ≡ low_next b items T rate ends (m - 1)
 cell_low b items T rate ends m x total num den some p q r t =
     let e : m ≡ suc (m - 1) = omega (arith, some) in
     ap₂ (λ u v. u / v) (ap₂ (λ u v. u * v) (ap₂ (λ u v. u / v) p q) r) (t ∙ ap (λ k. share b k rate.den) e)
 
-pub cell_high : (S : ℕ) (b : Bool) (items : List Item) (T : ℕ) (rate : Fraction) (ends : ℕ → ℕ) (m x total num den : ℕ) → 1 ≤ m
+pub cell_high : (S : ℕ) (b : Bool) (items : List Item) (T : ℕ) (rate : Fraction) (ends : ℕ → ℕ) (m x total num den : ℕ)
+    → 1 ≤ m
     → x ≡ weighed (coefficient b items) ends (m - 1) → total ≡ T → num ≡ rate.num → den ≡ share b m rate.den
     → min S (div_ceil (div_ceil x total * num) den) ≡ high_next S b items T rate ends (m - 1)
 cell_high S b items T rate ends m x total num den some p q r t =
     let e : m ≡ suc (m - 1) = omega (arith, some) in
-    ap (min S) (ap₂ (λ u v. div_ceil u v) (ap₂ (λ u v. u * v) (ap₂ (λ u v. div_ceil u v) p q) r) (t ∙ ap (λ k. share b k rate.den) e))
+    ap (min S) (ap₂ (λ u v. div_ceil u v) (ap₂ (λ u v. u * v) (ap₂ (λ u v. div_ceil u v) p q) r)
+    (t ∙ ap (λ k. share b k rate.den) e))
 
 -- ---- a step reads only the ends up to s
 
-pub low_next_same : (b : Bool) (items : List Item) (T : ℕ) (rate : Fraction) (f g : ℕ → ℕ) (s : ℕ) → ((k : ℕ) → k ≤ s → f k ≡ g k) → low_next b items T rate f s ≡ low_next b items T rate g s
-low_next_same b items T rate f g s h = ap (λ t. t / T * rate.num / share b (suc s) rate.den) (weighed_same (coefficient b items) f g s h)
+pub low_next_same : (b : Bool) (items : List Item) (T : ℕ) (rate : Fraction) (f g : ℕ → ℕ) (s : ℕ)
+    → ((k : ℕ) → k ≤ s → f k ≡ g k) → low_next b items T rate f s ≡ low_next b items T rate g s
+low_next_same b items T rate f g s h =
+    ap (λ t. t / T * rate.num / share b (suc s) rate.den) (weighed_same (coefficient b items) f g s h)
 
-pub high_next_same : (S : ℕ) (b : Bool) (items : List Item) (T : ℕ) (rate : Fraction) (f g : ℕ → ℕ) (s : ℕ) → ((k : ℕ) → k ≤ s → f k ≡ g k)
+pub high_next_same : (S : ℕ) (b : Bool) (items : List Item) (T : ℕ) (rate : Fraction) (f g : ℕ → ℕ) (s : ℕ)
+    → ((k : ℕ) → k ≤ s → f k ≡ g k)
     → high_next S b items T rate f s ≡ high_next S b items T rate g s
-high_next_same S b items T rate f g s h = ap (λ t. min S (div_ceil (div_ceil t T * rate.num) (share b (suc s) rate.den))) (weighed_same (coefficient b items) f g s h)
+high_next_same S b items T rate f g s h =
+    ap (λ t. min S (div_ceil (div_ceil t T * rate.num) (share b (suc s) rate.den)))
+    (weighed_same (coefficient b items) f g s h)
 
 -- one more cell
-pub follows_pushed : {B : ℕ} (b : Bool) (items : List Item) (T : ℕ) (rate : Fraction) (cells : List (Iv B)) (cell : Iv B) (n : ℕ) → length cells ≡ n → 1 ≤ n
+pub follows_pushed : {B : ℕ} (b : Bool) (items : List Item) (T : ℕ) (rate : Fraction) (cells : List (Iv B))
+    (cell : Iv B) (n : ℕ) → length cells ≡ n → 1 ≤ n
     → Follows (2 ^ B) b items T rate (low_at cells) (high_at cells) n
-    → cell.lo ≡ low_next b items T rate (low_at cells) (length cells - 1) → cell.hi ≡ high_next (2 ^ B) b items T rate (high_at cells) (length cells - 1)
+    → cell.lo ≡ low_next b items T rate (low_at cells) (length cells - 1)
+    → cell.hi ≡ high_next (2 ^ B) b items T rate (high_at cells) (length cells - 1)
     → Follows (2 ^ B) b items T rate (low_at (cells ++ cell ∷ [])) (high_at (cells ++ cell ∷ [])) (n + 1)
 follows_pushed {B} b items T rate cells cell n e some before low high = record {
   low = λ s inside. elim (same_or_less (suc s) n inside) [
-    | inl h ↦ low_at_front cells (cell ∷ []) (suc s) (omega (arith, h)) ∙ before.low s h ∙ low_next_same b items T rate (low_at cells) (low_at (cells ++ cell ∷ [])) s (λ k in_front. sym (low_at_front cells (cell ∷ []) k (omega (arith, h, in_front))))
-    | inr h ↦ low_at_pushed cells cell (suc s) (omega (arith, h)) ∙ low ∙ ap (low_next b items T rate (low_at cells)) (omega (arith, h))
-        ∙ low_next_same b items T rate (low_at cells) (low_at (cells ++ cell ∷ [])) s (λ k in_front. sym (low_at_front cells (cell ∷ []) k (omega (arith, h, in_front))))
+    | inl h ↦ low_at_front cells (cell ∷ []) (suc s) (omega (arith, h)) ∙ before.low s h
+        ∙ low_next_same b items T rate (low_at cells) (low_at (cells ++ cell ∷ [])) s
+        (λ k in_front. sym (low_at_front cells (cell ∷ []) k (omega (arith, h, in_front))))
+    | inr h ↦ low_at_pushed cells cell (suc s) (omega (arith, h)) ∙ low
+        ∙ ap (low_next b items T rate (low_at cells)) (omega (arith, h))
+        ∙ low_next_same b items T rate (low_at cells) (low_at (cells ++ cell ∷ [])) s
+        (λ k in_front. sym (low_at_front cells (cell ∷ []) k (omega (arith, h, in_front))))
   ];
   high = λ s inside. elim (same_or_less (suc s) n inside) [
-    | inl h ↦ high_at_front cells (cell ∷ []) (suc s) (omega (arith, h)) ∙ before.high s h ∙ high_next_same (2 ^ B) b items T rate (high_at cells) (high_at (cells ++ cell ∷ [])) s (λ k in_front. sym (high_at_front cells (cell ∷ []) k (omega (arith, h, in_front))))
-    | inr h ↦ high_at_pushed cells cell (suc s) (omega (arith, h)) ∙ high ∙ ap (high_next (2 ^ B) b items T rate (high_at cells)) (omega (arith, h))
-        ∙ high_next_same (2 ^ B) b items T rate (high_at cells) (high_at (cells ++ cell ∷ [])) s (λ k in_front. sym (high_at_front cells (cell ∷ []) k (omega (arith, h, in_front))))
+    | inl h ↦ high_at_front cells (cell ∷ []) (suc s) (omega (arith, h)) ∙ before.high s h
+        ∙ high_next_same (2 ^ B) b items T rate (high_at cells) (high_at (cells ++ cell ∷ [])) s
+        (λ k in_front. sym (high_at_front cells (cell ∷ []) k (omega (arith, h, in_front))))
+    | inr h ↦ high_at_pushed cells cell (suc s) (omega (arith, h)) ∙ high
+        ∙ ap (high_next (2 ^ B) b items T rate (high_at cells)) (omega (arith, h))
+        ∙ high_next_same (2 ^ B) b items T rate (high_at cells) (high_at (cells ++ cell ∷ [])) s
+        (λ k in_front. sym (high_at_front cells (cell ∷ []) k (omega (arith, h, in_front))))
   ];
 }
   where

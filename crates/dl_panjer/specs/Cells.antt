@@ -2,7 +2,7 @@
 use Rattle.std.specs.Prelude.{ℕ, suc, Bool, ◌≡◌, ◌*◌, ◌/◌, ◌<◌, List, min, if◌then◌else◌}
 use Rattle.std.specs.Int.{div_ceil}
 use Rattle.dl_exact.specs.Fraction.{Fraction}
-use Rattle.dl_grid.specs.Pairs.{count_pairs}
+use Rattle.dl_exact.specs.Count.{count_pairs}
 use Rattle.dl_plan.specs.declared.item.Item.{Item}
 use Rattle.dl_plan.specs.Weighted.{weight_at}
 
@@ -14,20 +14,24 @@ share by_amount amount n = if by_amount then amount * n else n
 abbrev pub coefficient : Bool → List Item → ℕ → ℕ
 coefficient by_amount items i = share by_amount (suc i) (weight_at items (suc i))
 
--- the ends of the cells up to s, each times what the amount counts for that leads from it to cell s + 1
+-- the ends of the cells up to s, each times what the amount counts for that leads from it to cell s
+-- + 1
 abbrev pub weighed : (ℕ → ℕ) → (ℕ → ℕ) → ℕ → ℕ
 weighed c ends s = count_pairs s (λ i k. c i * ends k)
 
 -- the ends of cell s + 1 from those before it, in units of 1 / S
 abbrev pub low_next : Bool → List Item → ℕ → Fraction → (ℕ → ℕ) → ℕ → ℕ
 low_next by_amount items total rate ends s =
-    weighed (coefficient by_amount items) ends s / total * rate.num / share by_amount (suc s) rate.den
+    weighed (coefficient by_amount items) ends s / total * rate.num / share by_amount
+    (suc s) rate.den
 
 abbrev pub high_next : ℕ → Bool → List Item → ℕ → Fraction → (ℕ → ℕ) → ℕ → ℕ
 high_next S by_amount items total rate ends s =
-    min S (div_ceil (div_ceil (weighed (coefficient by_amount items) ends s) total * rate.num) (share by_amount (suc s) rate.den))
+    min S (div_ceil (div_ceil (weighed (coefficient by_amount items) ends s) total * rate.num)
+    (share by_amount (suc s) rate.den))
 
 -- each of the first K cells but the first is made from those before it
-pub record Follows (S : ℕ) (by_amount : Bool) (items : List Item) (total : ℕ) (rate : Fraction) (lo hi : ℕ → ℕ) (K : ℕ) : Type 0 where
+pub record Follows (S : ℕ) (by_amount : Bool) (items : List Item) (total : ℕ) (rate : Fraction)
+    (lo hi : ℕ → ℕ) (K : ℕ) : Type 0 where
   pub low : (s : ℕ) → suc s < K → lo (suc s) ≡ low_next by_amount items total rate lo s
   pub high : (s : ℕ) → suc s < K → hi (suc s) ≡ high_next S by_amount items total rate hi s

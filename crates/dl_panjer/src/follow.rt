@@ -2,7 +2,7 @@
 
 ghost use Rattle.std.specs.Prelude.{◌≡◌, ℕ, suc, ◌+◌, ◌-◌, ◌*◌, ◌^◌, ◌<◌, ◌≤◌, length, All, IfOk};
 ghost use Rattle.dl_exact.specs.Fraction.{whole, ◌≤ℚ◌};
-ghost use Rattle.dl_grid.specs.Cells.{low_at, high_at};
+ghost use Rattle.dl_grid.specs.Cells.{low_at, high_at, low_ends, high_ends};
 ghost use Rattle.dl_plan.specs.Weighted.{weight_sum, IsWeighted};
 ghost use Rattle.dl_panjer.specs.Cells.{share, coefficient, low_next, high_next, Follows};
 
@@ -13,8 +13,8 @@ use dl_iv::Iv;
 use dl_plan::Item;
 use std::alloc::{AllocError, Global};
 
-/// The next cell: each sum over the total weight, times `rate`, which for weights by amount is divided
-/// by the cell's number too. Both steps are rounded outward, and the high end is at most 1.
+/// The next cell: each sum over the total weight, times `rate`, which for weights by amount is
+/// divided by the cell's number too. Both steps are rounded outward, and the high end is at most 1.
 fn next_cell<const B: u32, const BY_AMOUNT: bool>(
     items: &[Item],
     total: u32,
@@ -30,8 +30,10 @@ fn next_cell<const B: u32, const BY_AMOUNT: bool>(
     requires no_zero { All (λ item. 0 < item.amount) items.now }
     requires rate { rate ≤ℚ whole 1 }
     requires rate_num { rate.num < 2 ^ 48 }
-    ensures low { result.lo ≡ low_next BY_AMOUNT items.now total rate (low_at cells.now) (length cells.now - 1) }
-    ensures high { result.hi ≡ high_next (2 ^ B) BY_AMOUNT items.now total rate (high_at cells.now) (length cells.now - 1) }
+    ensures low { result.lo ≡ low_next BY_AMOUNT items.now total rate (low_at cells.now)
+        (length cells.now - 1) }
+    ensures high { result.hi ≡ high_next (2 ^ B) BY_AMOUNT items.now total rate (high_at cells.now)
+        (length cells.now - 1) }
 {
     let (low, high) = sums_before::<B, BY_AMOUNT>(items, cells);
     let total = u128::from(total);
@@ -75,7 +77,8 @@ pub(crate) fn follow<const B: u32, const BY_AMOUNT: bool>(
     ensures start_low { IfOk result (λ list. low_at list.items 0 ≡ start.entry.lo) }
     ensures start_high { IfOk result (λ list. high_at list.items 0 ≡ start.entry.hi) }
     ensures small { IfOk result (λ list. All (λ cell. cell.hi ≤ 2 ^ B) list.items) }
-    ensures follows { IfOk result (λ list. Follows (2 ^ B) BY_AMOUNT items.now total rate (low_at list.items) (high_at list.items) cells) }
+    ensures follows { IfOk result (λ list. Follows (2 ^ B) BY_AMOUNT items.now total rate
+        (low_at list.items) (high_at list.items) cells) }
 {
     let mut list = Vec::with_capacity(alloc, cells as usize)?;
     list.push(start)?;
@@ -84,4 +87,21 @@ pub(crate) fn follow<const B: u32, const BY_AMOUNT: bool>(
         list.push(cell)?;
     }
     Ok(list)
+}
+
+/// The low ends and the high ends of cells, each in a list of its own.
+pub(crate) fn ends_of<const B: u32>(
+    alloc: Global,
+    cells: &[Iv<B>],
+) -> Result<(Vec<u128>, Vec<u128>), AllocError>
+    ensures low { IfOk result (λ ends. ends.0.items ≡ low_ends cells.now) }
+    ensures high { IfOk result (λ ends. ends.1.items ≡ high_ends cells.now) }
+{
+    let mut lows = Vec::with_capacity(alloc, cells.len())?;
+    let mut highs = Vec::with_capacity(alloc, cells.len())?;
+    for cell in cells {
+        lows.push(cell.lo)?;
+        highs.push(cell.hi)?;
+    }
+    Ok((lows, highs))
 }

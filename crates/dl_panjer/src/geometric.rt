@@ -10,7 +10,7 @@ ghost use Rattle.dl_model.specs.Family.{compound, GridEncloses};
 ghost use Rattle.dl_plan.specs.Severity.{probability_of};
 ghost use Rattle.dl_panjer.specs.Bases.{IsGeometricBase};
 
-use crate::follow::follow;
+use crate::follow::{ends_of, follow};
 use crate::rates::fraction;
 use dl_frac::Frac;
 use dl_grid::Grid;
@@ -18,8 +18,8 @@ use dl_iv::Iv;
 use dl_plan::Sev;
 use std::alloc::{AllocError, Global};
 
-/// The grid of a geometric number of claims of mean `mean / shape`, which is the gamma count of shape 1.
-/// Cell 0 encloses 1 over 1 more than this mean by one floor and one ceiling.
+/// The grid of a geometric number of claims of mean `mean / shape`, which is the gamma count of
+/// shape 1. Cell 0 encloses 1 over 1 more than this mean by one floor and one ceiling.
 pub fn geometric_base<const B: u32>(
     alloc: Global,
     sev: &Sev,
@@ -37,16 +37,21 @@ pub fn geometric_base<const B: u32>(
     requires some { 1 ≤ cells }
     requires few { cells ≤ 16384 }
     ensures cells { IfOk result (λ g. length g ≡ cells) }
-    ensures start_low { IfOk result (λ g. IsFloor (whole (2 ^ B) /ℚ (whole 1 +ℚ mean /ℚ whole shape)) (low_at g 0)) }
-    ensures start_high { IfOk result (λ g. IsCeiling (whole (2 ^ B) /ℚ (whole 1 +ℚ mean /ℚ whole shape)) (high_at g 0)) }
+    ensures start_low { IfOk result (λ g. IsFloor
+        (whole (2 ^ B) /ℚ (whole 1 +ℚ mean /ℚ whole shape)) (low_at g 0)) }
+    ensures start_high { IfOk result (λ g. IsCeiling
+        (whole (2 ^ B) /ℚ (whole 1 +ℚ mean /ℚ whole shape)) (high_at g 0)) }
     ensures follows { IfOk result (λ g. IsGeometricBase sev.now (mean /ℚ whole shape) g) }
-    ensures encloses { IfOk result (λ g. GridEncloses g (compound (gamma_of 1 (mean /ℚ whole shape)) (probability_of sev.now))) }
-    ensures spread { IfOk result (λ g. spread g ≤ up (whole (4 * cells + 1) *ℚ (whole 1 +ℚ mean /ℚ whole shape))) }
+    ensures encloses { IfOk result (λ g. GridEncloses g
+        (compound (gamma_of 1 (mean /ℚ whole shape)) (probability_of sev.now))) }
+    ensures spread { IfOk result (λ g. spread g ≤ up
+        (whole (4 * cells + 1) *ℚ (whole 1 +ℚ mean /ℚ whole shape))) }
 {
     let num = mean.num();
     let den = mean.den() * u64::from(shape);
     let rate = fraction(num, num + den);
     let start = Iv::enclose(u128::from(den), u128::from(num + den));
     let list = follow::<B, false>(alloc, sev.items.as_slice(), sev.total, rate, start, cells)?;
-    Ok(Grid::from_cells(list))
+    let (lows, highs) = ends_of(alloc, &list)?;
+    Ok(Grid::from_ends(lows, highs))
 }

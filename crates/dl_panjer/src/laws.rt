@@ -1,28 +1,88 @@
-//! What follows for the grids of Poisson and geometric counts. Nothing here runs.
+//! What follows for the grids of Poisson and geometric counts, exact and rounded (Klugman, Panjer
+//! and Willmot, Loss Models, "The recursive method"). Nothing here runs.
 
-ghost use Rattle.std.specs.Prelude.{ℕ, List};
-ghost use Rattle.dl_exact.specs.Fraction.{Fraction, whole, ◌+ℚ◌, ◌/ℚ◌};
+ghost use Rattle.std.specs.Prelude.{ℕ, suc, ◌≡◌, ◌<◌, ◌≤◌, ◌^◌, ◌↔◌, List, length};
+ghost use Rattle.dl_exact.specs.Fraction.{Fraction, whole, ◌over◌, ◌+ℚ◌, ◌*ℚ◌, ◌/ℚ◌, ◌≤ℚ◌};
+ghost use Rattle.dl_exact.specs.Sum.{sum_to};
 ghost use Rattle.dl_iv.specs.declared.interval.Iv.{Iv};
+ghost use Rattle.dl_grid.specs.Cells.{low_at, high_at};
+ghost use Rattle.dl_exp.specs.Exponential.{exponential_sum, EnclosesExp};
+ghost use Rattle.dl_model.specs.Series.{Holds};
+ghost use Rattle.dl_model.specs.Severity.{IsWithinOne};
+ghost use Rattle.dl_model.specs.Counts.{poisson, gamma_of, IsPanjer};
+ghost use Rattle.dl_model.specs.Family.{compound, Encloses, GridEncloses};
+ghost use Rattle.dl_model.specs.Recursion.{Recursion};
 ghost use Rattle.dl_plan.specs.declared.severity.Sev.{Sev};
 ghost use Rattle.dl_plan.specs.Severity.{probability_of};
-ghost use Rattle.std.specs.Prelude.{◌≡◌, ◌^◌, ◌↔◌};
-ghost use Rattle.dl_exact.specs.Fraction.{◌over◌};
-ghost use Rattle.dl_exact.specs.Sum.{sum_to};
-ghost use Rattle.dl_exp.specs.Exponential.{exponential_sum, EnclosesExp};
-ghost use Rattle.dl_model.specs.Counts.{poisson};
-ghost use Rattle.dl_model.specs.Series.{Holds};
+ghost use Rattle.dl_panjer.specs.Outward.{FollowsOutward};
 ghost use Rattle.dl_panjer.specs.Bases.{IsPoissonBase, IsGeometricBase, StandsByRecursion};
 
-/// Each cell stands to cell 0 by Panjer's recursion (Loss Models, "The recursive method").
+/// In a grid that follows the recursion outward each cell stands to cell 0 as the recursion says:
+/// the low ends below, and the high ends above while none has reached `S`.
+pub fn law_outward()
+    ensures low { (S K : ℕ) (a b : Fraction) (f : ℕ → Fraction) (lo hi : ℕ → ℕ)
+        → FollowsOutward S K a b f lo hi → (r : ℕ → Fraction) → Recursion a b f r
+        → (s : ℕ) → s < K → whole (lo s) ≤ℚ whole (lo 0) *ℚ r s }
+    ensures high { (S K : ℕ) (a b : Fraction) (f : ℕ → Fraction) (lo hi : ℕ → ℕ)
+        → FollowsOutward S K a b f lo hi → (r : ℕ → Fraction) → Recursion a b f r
+        → (s : ℕ) → s < K → ((k : ℕ) → k ≤ s → hi k < S) → whole (hi 0) *ℚ r s ≤ℚ whole (hi s) }
+{}
+
+/// Such a grid encloses the compound sum where its cell 0 holds the reciprocal of the sum of the
+/// count's weights.
+pub fn law_base()
+    ensures { (S K : ℕ) (a b : Fraction) (f w : ℕ → Fraction) (lo hi : ℕ → ℕ)
+        → FollowsOutward S K a b f lo hi → f 0 ≡ whole 0 → IsPanjer a b w → 0 < S → IsWithinOne f
+        → Holds (λ N. whole 1) (λ N. sum_to N w) (lo 0 over S) (hi 0 over S)
+        → Encloses S K lo hi (compound w f) }
+{}
+
+/// The two roundings of a Poisson grid and of a geometric grid are outward.
+pub fn law_two_roundings()
+    ensures poisson { (B : ℕ) (sev : Sev) (v : Fraction) (grid : List (Iv B))
+        → IsPoissonBase sev v grid
+        → FollowsOutward (2 ^ B) (length grid) (whole 0) v (probability_of sev) (low_at grid)
+        (high_at grid) }
+    ensures geometric { (B : ℕ) (sev : Sev) (beta : Fraction) (grid : List (Iv B))
+        → IsGeometricBase sev beta grid
+        → FollowsOutward (2 ^ B) (length grid) (beta /ℚ (whole 1 +ℚ beta)) (whole 0)
+        (probability_of sev)
+        (low_at grid) (high_at grid) }
+{}
+
+/// A Poisson grid encloses the compound sum of mean `v` where its cell 0 holds the reciprocal of
+/// the exponential's series.
+pub fn law_poisson_base()
+    ensures { (B : ℕ) (sev : Sev) (v : Fraction) (grid : List (Iv B)) → IsPoissonBase sev v grid
+        → probability_of sev 0 ≡ whole 0
+        → Holds (λ N. whole 1) (λ N. sum_to N (poisson v)) (low_at grid 0 over 2 ^ B)
+        (high_at grid 0 over 2 ^ B)
+        → GridEncloses grid (compound (poisson v) (probability_of sev)) }
+{}
+
+/// A geometric grid encloses the compound sum of mean `beta` where its cell 0 holds `1 / (1 +
+/// beta)`.
+pub fn law_geometric_base()
+    ensures { (B : ℕ) (sev : Sev) (beta : Fraction) (grid : List (Iv B))
+        → IsGeometricBase sev beta grid
+        → probability_of sev 0 ≡ whole 0 → low_at grid 0 over 2 ^ B ≤ℚ whole 1 /ℚ (whole 1 +ℚ beta)
+        → whole 1 /ℚ (whole 1 +ℚ beta) ≤ℚ high_at grid 0 over 2 ^ B
+        → GridEncloses grid (compound (gamma_of 1 beta) (probability_of sev)) }
+{}
+
+/// Each cell stands to cell 0 by Panjer's recursion.
 pub fn law_stands()
-    ensures poisson { (B : ℕ) (sev : Sev) (v : Fraction) (grid : List (Iv B)) → IsPoissonBase sev v grid
+    ensures poisson { (B : ℕ) (sev : Sev) (v : Fraction) (grid : List (Iv B))
+        → IsPoissonBase sev v grid
         → StandsByRecursion (whole 0) v (probability_of sev) grid }
-    ensures geometric { (B : ℕ) (sev : Sev) (beta : Fraction) (grid : List (Iv B)) → IsGeometricBase sev beta grid
+    ensures geometric { (B : ℕ) (sev : Sev) (beta : Fraction) (grid : List (Iv B))
+        → IsGeometricBase sev beta grid
         → StandsByRecursion (beta /ℚ (whole 1 +ℚ beta)) (whole 0) (probability_of sev) grid }
 {}
 
-/// An interval encloses the exponential exactly where it holds 1 over the sums of its series; and these are the sums of the weights of
-/// the Poisson count, so that it then holds the probability of no claim.
+/// An interval encloses the exponential exactly where it holds 1 over the sums of its series; and
+/// these are the sums of the weights of the Poisson count, so that it then holds the probability of
+/// no claim.
 pub fn law_exponential()
     ensures series { (B : ℕ) (v : Fraction) (interval : Iv B) → EnclosesExp v interval
         ↔ Holds (λ N. whole 1) (exponential_sum v) (interval.lo over 2 ^ B) (interval.hi over 2 ^ B) }

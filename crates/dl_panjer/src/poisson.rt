@@ -8,7 +8,7 @@ ghost use Rattle.dl_model.specs.Family.{compound, GridEncloses};
 ghost use Rattle.dl_plan.specs.Severity.{probability_of};
 ghost use Rattle.dl_panjer.specs.Bases.{IsPoissonBase, StartsAtExp};
 
-use crate::follow::follow;
+use crate::follow::{ends_of, follow};
 use crate::rates::fraction;
 use dl_exp::exp_neg;
 use dl_frac::Frac;
@@ -16,8 +16,8 @@ use dl_grid::Grid;
 use dl_plan::Sev;
 use std::alloc::{AllocError, Global};
 
-/// The grid of a Poisson number of claims of mean `mean / 2^halvings`. Cell 0 is `exp_neg` of the mean.
-/// Where a high end was lowered to 1, that end and those made from it still hold the declared
+/// The grid of a Poisson number of claims of mean `mean / 2^halvings`. Cell 0 is `exp_neg` of the
+/// mean. Where a high end was lowered to 1, that end and those made from it still hold the declared
 /// probabilities.
 pub fn poisson_base<const B: u32>(
     alloc: Global,
@@ -38,11 +38,13 @@ pub fn poisson_base<const B: u32>(
     ensures cells { IfOk result (λ g. length g ≡ cells) }
     ensures start { IfOk result (λ g. StartsAtExp (mean /ℚ whole (2 ^ halvings)) g) }
     ensures follows { IfOk result (λ g. IsPoissonBase sev.now (mean /ℚ whole (2 ^ halvings)) g) }
-    ensures encloses { IfOk result (λ g. GridEncloses g (compound (poisson (mean /ℚ whole (2 ^ halvings))) (probability_of sev.now))) }
+    ensures encloses { IfOk result (λ g. GridEncloses g
+        (compound (poisson (mean /ℚ whole (2 ^ halvings))) (probability_of sev.now))) }
     ensures spread { IfOk result (λ g. spread g ≤ 8 * cells + 128) }
 {
     let rate = fraction(mean.num(), mean.den() * (1u64 << halvings));
     let start = exp_neg(rate);
     let list = follow::<B, true>(alloc, sev.items.as_slice(), sev.total, rate, start, cells)?;
-    Ok(Grid::from_cells(list))
+    let (lows, highs) = ends_of(alloc, &list)?;
+    Ok(Grid::from_ends(lows, highs))
 }

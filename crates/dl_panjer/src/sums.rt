@@ -13,8 +13,10 @@ use dl_plan::Item;
 fn reached(items: &[Item], most: usize) -> usize
     requires rising { IsStrictlyIncreasing (amounts_of items.now) }
     ensures bound { result ≤ length items.now }
-    ensures before { (k : ℕ) (d : Item) → k < result → (slice_index_or items.now k d).amount ≤ most }
-    ensures after { (k : ℕ) (d : Item) → result ≤ k → k < length items.now → most < (slice_index_or items.now k d).amount }
+    ensures before { (k : ℕ) (d : Item) → k < result
+        → (slice_index_or items.now k d).amount ≤ most }
+    ensures after { (k : ℕ) (d : Item) → result ≤ k → k < length items.now
+        → most < (slice_index_or items.now k d).amount }
 {
     items.partition_point(|item| item.amount as usize <= most)
 }
@@ -51,8 +53,10 @@ pub(crate) fn sums_before<const B: u32, const BY_AMOUNT: bool>(
     requires rising { IsStrictlyIncreasing (amounts_of items.now) }
     requires no_zero { All (λ item. 0 < item.amount) items.now }
     requires within { weight_sum items.now ≤ 2 ^ 30 }
-    ensures low { result.0 ≡ weighed (coefficient BY_AMOUNT items.now) (low_at cells.now) (length cells.now - 1) }
-    ensures high { result.1 ≡ weighed (coefficient BY_AMOUNT items.now) (high_at cells.now) (length cells.now - 1) }
+    ensures low { result.0 ≡ weighed (coefficient BY_AMOUNT items.now) (low_at cells.now)
+        (length cells.now - 1) }
+    ensures high { result.1 ≡ weighed (coefficient BY_AMOUNT items.now) (high_at cells.now)
+        (length cells.now - 1) }
 {
     let next = cells.len();
     let mut low = 0;

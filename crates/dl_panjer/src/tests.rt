@@ -1,5 +1,5 @@
-//! Claims of one bucket: the grids against nine digits of the true probabilities, worked outside the
-//! program.
+//! Claims of one bucket: the grids against nine digits of the true probabilities, worked outside
+//! the program.
 
 ghost use Rattle.std.specs.Prelude.{◌≡◌, ◌≤◌, IfOk};
 ghost use Rattle.dl_exact.specs.Fraction.{whole};

@@ -8,4 +8,5 @@ pub returns-clause-ceded : goal.returns-clause-ceded
 returns-clause-ceded c = λ cells u clause l h valid cede side holds. ceded_mean cells u clause valid cede l h side holds
 
 pub returns-clause-net : goal.returns-clause-net
-returns-clause-net c = λ cells u clause l h m n valid cede side holds mean. net_mean cells u clause valid cede l h m n side holds mean
+returns-clause-net c =
+    λ cells u clause l h m n valid cede side holds mean. net_mean cells u clause valid cede l h m n side holds mean

@@ -4,12 +4,18 @@ use Rattle.dl_model.proofs.SlowLaws.{here_le, denominator_next, point_none, poin
 use Rattle.dl_model.proofs.slow.+slow_point.Goals as goal
 
 pub weight-requires : goal.weight-requires
-weight-requires t c = record { fits = counts_fit c.args.counts.now c.args.amounts.now c.requires.counts_there c.requires.amounts_there c.args.claims (2 ^ 128) c.requires.fits }
+weight-requires t c =
+    record { fits = counts_fit c.args.counts.now c.args.amounts.now c.requires.counts_there c.requires.amounts_there c.args.claims (2 ^ 128) c.requires.fits }
 
 pub overflow_mul-here : goal.overflow_mul-here
 overflow_mul-here t c =
     let here : c.weight.result * c.ways_of.result ≡ _ = ap₂ (λ x y. x * y) c.weight.ensures c.ways_of.ensures in
-    omega (arith, here, here_le c.args.counts.now c.args.amounts.now c.requires.counts_there c.requires.amounts_there c.args.x c.args.claims, c.requires.fits)
+    omega (
+      arith,
+      here,
+      here_le c.args.counts.now c.args.amounts.now c.requires.counts_there c.requires.amounts_there c.args.x c.args.claims,
+      c.requires.fits,
+    )
 
 pub returns-then-claims-eq0-clause-cell : goal.returns-then-claims-eq0-clause-cell
 returns-then-claims-eq0-clause-cell t c =
@@ -21,7 +27,10 @@ slow_point-fewer-requires t c = (
   omega arith,
   (
     c.requires.counts_there,
-    (c.requires.amounts_there, denominator_fits c.args.counts.now c.args.amounts.now c.requires.counts_there c.requires.amounts_there c.args.claims (2 ^ 128) c.requires.fits),
+    (
+      c.requires.amounts_there,
+      denominator_fits c.args.counts.now c.args.amounts.now c.requires.counts_there c.requires.amounts_there c.args.claims (2 ^ 128) c.requires.fits,
+    ),
   ),
 )
 
@@ -33,10 +42,12 @@ total-each-requires t c = record {
 pub returns-clause-cell : goal.returns-clause-cell
 returns-clause-cell t c =
     ap₂ (λ s t. s over t)
-    (ap₂ (λ x y. x + y) (ap (λ T. c.slow_point-fewer.result.0 * T) c.total-each.ensures) (ap₂ (λ x y. x * y) c.weight.ensures c.ways_of.ensures))
+    (ap₂ (λ x y. x + y) (ap (λ T. c.slow_point-fewer.result.0 * T) c.total-each.ensures)
+    (ap₂ (λ x y. x * y) c.weight.ensures c.ways_of.ensures))
     (ap (λ T. c.slow_point-fewer.result.1 * T) c.total-each.ensures)
     ∙ point_next c.args.counts.now c.args.amounts.now c.requires.counts_there c.requires.amounts_there c.args.x c.args.claims
-    c.slow_point-fewer.result.0 c.slow_point-fewer.result.1 (omega arith) c.slow_point-fewer.ensures.denominator c.slow_point-fewer.ensures.cell
+    c.slow_point-fewer.result.0 c.slow_point-fewer.result.1
+    (omega arith) c.slow_point-fewer.ensures.denominator c.slow_point-fewer.ensures.cell
 
 pub returns-clause-denominator : goal.returns-clause-denominator
 returns-clause-denominator t c =
@@ -46,7 +57,8 @@ returns-clause-denominator t c =
 
 pub overflow_mul-result-2 : goal.overflow_mul-result-2
 overflow_mul-result-2 t c =
-    let new : c.slow_point-fewer.result.1 * c.total-each.result ≡ _ = ap (λ T. c.slow_point-fewer.result.1 * T) c.total-each.ensures in
+    let new : c.slow_point-fewer.result.1 * c.total-each.result ≡ _ =
+    ap (λ T. c.slow_point-fewer.result.1 * T) c.total-each.ensures in
     omega (
       arith,
       new,
@@ -57,22 +69,26 @@ overflow_mul-result-2 t c =
 
 pub overflow_add-result : goal.overflow_add-result
 overflow_add-result t c =
-    let first : c.slow_point-fewer.result.0 * c.total-each.result ≡ _ = ap (λ T. c.slow_point-fewer.result.0 * T) c.total-each.ensures in
+    let first : c.slow_point-fewer.result.0 * c.total-each.result ≡ _ =
+    ap (λ T. c.slow_point-fewer.result.0 * T) c.total-each.ensures in
     let here : c.weight.result * c.ways_of.result ≡ _ = ap₂ (λ x y. x * y) c.weight.ensures c.ways_of.ensures in
     omega (
       arith,
       first,
       here,
       numerator_fits c.args.counts.now c.args.amounts.now c.requires.counts_there c.requires.amounts_there c.args.x c.args.claims
-          c.slow_point-fewer.result.0 c.slow_point-fewer.result.1 (2 ^ 128) (omega arith) c.slow_point-fewer.ensures.denominator c.slow_point-fewer.ensures.cell c.requires.fits,
+          c.slow_point-fewer.result.0 c.slow_point-fewer.result.1 (2 ^ 128)
+          (omega arith) c.slow_point-fewer.ensures.denominator c.slow_point-fewer.ensures.cell c.requires.fits,
     )
 
 pub overflow_mul-result : goal.overflow_mul-result
 overflow_mul-result t c =
-    let first : c.slow_point-fewer.result.0 * c.total-each.result ≡ _ = ap (λ T. c.slow_point-fewer.result.0 * T) c.total-each.ensures in
+    let first : c.slow_point-fewer.result.0 * c.total-each.result ≡ _ =
+    ap (λ T. c.slow_point-fewer.result.0 * T) c.total-each.ensures in
     omega (
       arith,
       first,
       numerator_fits c.args.counts.now c.args.amounts.now c.requires.counts_there c.requires.amounts_there c.args.x c.args.claims
-          c.slow_point-fewer.result.0 c.slow_point-fewer.result.1 (2 ^ 128) (omega arith) c.slow_point-fewer.ensures.denominator c.slow_point-fewer.ensures.cell c.requires.fits,
+          c.slow_point-fewer.result.0 c.slow_point-fewer.result.1 (2 ^ 128)
+          (omega arith) c.slow_point-fewer.ensures.denominator c.slow_point-fewer.ensures.cell c.requires.fits,
     )

@@ -3,4 +3,8 @@ use Rattle.dl_model.proofs.SlowLaws.{weight_here}
 use Rattle.dl_model.proofs.slow.weight.Goals as goal
 
 pub overflow_add-sum : goal.overflow_add-sum
-overflow_add-sum c = omega (arith, weight_here c.args.items.now c.args.x c.loop-item.item-index (0, 0) c.loop-item-test.true c.if-item-x.true)
+overflow_add-sum c = omega (
+  arith,
+  weight_here c.args.items.now c.args.x c.loop-item.item-index
+      (0, 0) c.loop-item-test.true c.if-item-x.true,
+)

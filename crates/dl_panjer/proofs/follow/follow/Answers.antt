@@ -25,13 +25,17 @@ loop-s-preserved g c =
     let cell = c.next_cell-cell.result in
     let some : 1 ≤ c.loop-s.s = omega arith in
     let low : cell.lo ≡ low_next b c.args.items.now c.args.total c.args.rate (low_at list) (length list - 1) =
-    subst (λ (xs : List (Iv g.row.B)). cell.lo ≡ low_next b c.args.items.now c.args.total c.args.rate (low_at xs) (length xs - 1)) c.deref.ensures.value c.next_cell-cell.ensures.low in
-    let high : cell.hi ≡ high_next (2 ^ g.row.B) b c.args.items.now c.args.total c.args.rate (high_at list) (length list - 1) =
-    subst (λ (xs : List (Iv g.row.B)). cell.hi ≡ high_next (2 ^ g.row.B) b c.args.items.now c.args.total c.args.rate (high_at xs) (length xs - 1)) c.deref.ensures.value c.next_cell-cell.ensures.high in
+    subst (λ (xs : List (Iv g.row.B)). cell.lo ≡ low_next b c.args.items.now c.args.total c.args.rate (low_at xs)
+    (length xs - 1)) c.deref.ensures.value c.next_cell-cell.ensures.low in
+    let high : cell.hi ≡ high_next (2 ^ g.row.B) b c.args.items.now c.args.total c.args.rate (high_at list)
+    (length list - 1) =
+    subst (λ (xs : List (Iv g.row.B)). cell.hi ≡ high_next (2 ^ g.row.B) b c.args.items.now c.args.total c.args.rate
+    (high_at xs) (length xs - 1)) c.deref.ensures.value c.next_cell-cell.ensures.high in
     rw c.in_ok-push-2.ensures.items (record {
       cells = grind arith;
       small = All-push (λ (x : Iv g.row.B). x.hi ≤ 2 ^ g.row.B) list cell i.small (omega (arith, high));
       start_low = low_at_front list (cell ∷ []) 0 (omega (arith, i.cells, some)) ∙ i.start_low;
       start_high = high_at_front list (cell ∷ []) 0 (omega (arith, i.cells, some)) ∙ i.start_high;
-      follows = follows_pushed b c.args.items.now c.args.total c.args.rate list cell c.loop-s.s i.cells some i.follows low high;
+      follows =
+          follows_pushed b c.args.items.now c.args.total c.args.rate list cell c.loop-s.s i.cells some i.follows low high;
     })

@@ -10,5 +10,6 @@ invariant-loop-s g l = record {
   small : All (λ cell. cell.hi ≤ 2 ^ g.row.B) l.list.items;
   start_low : low_at l.list.items 0 ≡ l.fn.start.lo;
   start_high : high_at l.list.items 0 ≡ l.fn.start.hi;
-  follows : Follows (2 ^ g.row.B) (not (eqb g.row.BY_AMOUNT 0)) l.items l.total l.rate (low_at l.list.items) (high_at l.list.items) l.s;
+  follows : Follows (2 ^ g.row.B) (not (eqb g.row.BY_AMOUNT 0)) l.items l.total l.rate (low_at l.list.items)
+      (high_at l.list.items) l.s;
 }

@@ -3,13 +3,14 @@ use Rattle.std.specs.Prelude.{not}
 use Rattle.dl_grid.specs.Cells.{low_at, high_at}
 use Rattle.dl_grid.proofs.CellLaws.{one_fits}
 use Rattle.dl_panjer.specs.Cells.{share}
-use Rattle.dl_panjer.proofs.Severities.{total_pos}
 use Rattle.dl_panjer.proofs.Reading.{low_at_most, high_at_most, low_le_high}
 use Rattle.dl_panjer.proofs.Steps.{low_share, high_share, next_order, step_fits, cell_low, cell_high}
+use Rattle.dl_plan.proofs.Means.{total_pos}
 use Rattle.dl_panjer.proofs.follow.next_cell.Goals as goal
 
 pub nonzero_div-result : goal.nonzero_div-result
-nonzero_div-result g c = omega (arith, c.from-total.ensures, total_pos c.args.items.now c.args.total c.requires.weighted)
+nonzero_div-result g c =
+    omega (arith, c.from-total.ensures, total_pos c.args.items.now c.args.total c.requires.weighted)
 
 pub div_ceil-requires : goal.div_ceil-requires
 div_ceil-requires g c = omega (arith, c.from-total.ensures, total_pos c.args.items.now c.args.total c.requires.weighted)
@@ -21,8 +22,15 @@ overflow_mul-result g c =
     let s : ℕ = length cells - 1 in
     let w = c.requires.weighted in
     let x : c.sums_before-low.result.0 / c.from-total.result ≤ share b (suc s) (2 ^ g.row.B) =
-    rw (c.sums_before-low.ensures.low, c.from-total.ensures) (low_share b c.args.items.now c.args.total (2 ^ g.row.B) s (total_pos c.args.items.now c.args.total w) w.sum (low_at cells) (low_at_most cells c.requires.small)) in
-    omega (arith, step_fits b (suc s) (2 ^ g.row.B) _ c.from-num.result (omega (arith, c.requires.some, c.requires.few)) (one_fits g.row.B c.requires.scale_below) x (omega (arith, c.from-num.ensures, c.num.ensures.part, c.requires.rate_num)))
+    rw (c.sums_before-low.ensures.low, c.from-total.ensures)
+    (low_share b c.args.items.now c.args.total (2 ^ g.row.B) s (total_pos c.args.items.now c.args.total w) w.sum
+    (low_at cells) (low_at_most cells c.requires.small)) in
+    omega (
+      arith,
+      step_fits b (suc s) (2 ^ g.row.B) _ c.from-num.result
+          (omega (arith, c.requires.some, c.requires.few)) (one_fits g.row.B c.requires.scale_below) x
+          (omega (arith, c.from-num.ensures, c.num.ensures.part, c.requires.rate_num)),
+    )
 
 pub overflow_mul-div_ceil : goal.overflow_mul-div_ceil
 overflow_mul-div_ceil g c =
@@ -31,29 +39,45 @@ overflow_mul-div_ceil g c =
     let s : ℕ = length cells - 1 in
     let w = c.requires.weighted in
     let x : c.div_ceil.result ≤ share b (suc s) (2 ^ g.row.B) =
-    rw (c.div_ceil.ensures, c.sums_before-low.ensures.high, c.from-total.ensures) (high_share b c.args.items.now c.args.total (2 ^ g.row.B) s (total_pos c.args.items.now c.args.total w) w.sum (high_at cells) (high_at_most cells c.requires.small)) in
-    omega (arith, step_fits b (suc s) (2 ^ g.row.B) _ c.from-num.result (omega (arith, c.requires.some, c.requires.few)) (one_fits g.row.B c.requires.scale_below) x (omega (arith, c.from-num.ensures, c.num.ensures.part, c.requires.rate_num)))
+    rw (c.div_ceil.ensures, c.sums_before-low.ensures.high, c.from-total.ensures)
+    (high_share b c.args.items.now c.args.total (2 ^ g.row.B) s (total_pos c.args.items.now c.args.total w) w.sum
+    (high_at cells) (high_at_most cells c.requires.small)) in
+    omega (
+      arith,
+      step_fits b (suc s) (2 ^ g.row.B) _ c.from-num.result
+          (omega (arith, c.requires.some, c.requires.few)) (one_fits g.row.B c.requires.scale_below) x
+          (omega (arith, c.from-num.ensures, c.num.ensures.part, c.requires.rate_num)),
+    )
 
 pub invariant_of-result-clause-ordered : goal.invariant_of-result-clause-ordered
 invariant_of-result-clause-ordered g c =
     let b = not (eqb g.row.BY_AMOUNT 0) in
     let cells = c.args.cells.now in
     let w = c.requires.weighted in
-    let divisor : c.divisor-den.result ≡ share b (length cells) c.args.rate.den = c.divisor-den.ensures ∙ ap (share b (length cells)) c.den.ensures.part in
-    let low = cell_low b c.args.items.now c.args.total c.args.rate (low_at cells) (length cells) _ _ _ _ c.requires.some c.sums_before-low.ensures.low c.from-total.ensures (c.from-num.ensures ∙ c.num.ensures.part) divisor in
-    let high = cell_high (2 ^ g.row.B) b c.args.items.now c.args.total c.args.rate (high_at cells) (length cells) _ _ _ _ c.requires.some c.sums_before-low.ensures.high c.from-total.ensures (c.from-num.ensures ∙ c.num.ensures.part) divisor in
+    let divisor : c.divisor-den.result ≡ share b (length cells) c.args.rate.den = c.divisor-den.ensures
+    ∙ ap (share b (length cells)) c.den.ensures.part in
+    let low = cell_low b c.args.items.now c.args.total c.args.rate (low_at cells)
+    (length cells) _ _ _ _ c.requires.some c.sums_before-low.ensures.low c.from-total.ensures
+    (c.from-num.ensures ∙ c.num.ensures.part) divisor in
+    let high = cell_high (2 ^ g.row.B) b c.args.items.now c.args.total c.args.rate (high_at cells)
+    (length cells) _ _ _ _ c.requires.some c.sums_before-low.ensures.high c.from-total.ensures
+    (c.from-num.ensures ∙ c.num.ensures.part) divisor in
     rw (c.min.ensures, c.units_of_one.ensures, c.div_ceil-2.ensures, c.div_ceil.ensures, low, high)
-    (next_order b c.args.items.now c.args.total (2 ^ g.row.B) (length cells - 1) (total_pos c.args.items.now c.args.total w) w.sum c.args.rate c.requires.rate
+    (next_order b c.args.items.now c.args.total (2 ^ g.row.B) (length cells - 1)
+    (total_pos c.args.items.now c.args.total w) w.sum c.args.rate c.requires.rate
     (low_at cells) (high_at cells) (low_le_high cells) (low_at_most cells c.requires.small))
 
 pub invariant_of-result-clause-in_range : goal.invariant_of-result-clause-in_range
-invariant_of-result-clause-in_range g c = omega (arith, c.min.ensures, c.units_of_one.ensures, one_fits g.row.B c.requires.scale_below)
+invariant_of-result-clause-in_range g c =
+    omega (arith, c.min.ensures, c.units_of_one.ensures, one_fits g.row.B c.requires.scale_below)
 
 pub returns-clause-low : goal.returns-clause-low
 returns-clause-low g c =
     let b = not (eqb g.row.BY_AMOUNT 0) in
     let cells = c.args.cells.now in
-    cell_low b c.args.items.now c.args.total c.args.rate (low_at cells) (length cells) _ _ _ _ c.requires.some c.sums_before-low.ensures.low c.from-total.ensures (c.from-num.ensures ∙ c.num.ensures.part)
+    cell_low b c.args.items.now c.args.total c.args.rate (low_at cells)
+    (length cells) _ _ _ _ c.requires.some c.sums_before-low.ensures.low c.from-total.ensures
+    (c.from-num.ensures ∙ c.num.ensures.part)
     (c.divisor-den.ensures ∙ ap (share b (length cells)) c.den.ensures.part)
 
 pub returns-clause-high : goal.returns-clause-high
@@ -61,5 +85,7 @@ returns-clause-high g c =
     let b = not (eqb g.row.BY_AMOUNT 0) in
     let cells = c.args.cells.now in
     rw (c.min.ensures, c.units_of_one.ensures, c.div_ceil-2.ensures, c.div_ceil.ensures)
-    (cell_high (2 ^ g.row.B) b c.args.items.now c.args.total c.args.rate (high_at cells) (length cells) _ _ _ _ c.requires.some c.sums_before-low.ensures.high c.from-total.ensures (c.from-num.ensures ∙ c.num.ensures.part)
+    (cell_high (2 ^ g.row.B) b c.args.items.now c.args.total c.args.rate (high_at cells)
+    (length cells) _ _ _ _ c.requires.some c.sums_before-low.ensures.high c.from-total.ensures
+    (c.from-num.ensures ∙ c.num.ensures.part)
     (c.divisor-den.ensures ∙ ap (share b (length cells)) c.den.ensures.part))

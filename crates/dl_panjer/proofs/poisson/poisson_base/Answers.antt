@@ -1,3 +1,4 @@
+use Rattle.dl_panjer.proofs.EndsOf.{made_ends, made_grid}
 use Rattle.std.proofs.Common.{ℕ, ◌≡◌, ◌*◌, ◌%◌, ◌^◌, ◌<◌, ◌≤◌, true, arith, sym, ap, ap₂, subst, ◌∙◌, mul-le-mul}
 use Rattle.std.proofs.Math.Nat.{pow-le-pow_right, mod-eq_of_lt, zero-lt-suc}
 use Rattle.std.proofs.lemmas.Nat.{pow_pos}
@@ -20,8 +21,10 @@ shifted h few =
     let e : 1 * 2 ^ h ≡ 2 ^ h = omega arith in
     ap (λ n. n % 2 ^ 64) e ∙ mod-eq_of_lt (omega (arith, few_halvings h few))
 
-rate_is : (r mean : Fraction) (num den h : ℕ) → h ≤ 13 → num ≡ mean.num → den ≡ mean.den → r ≡ num over (den * (1 * 2 ^ h % 2 ^ 64)) → r ≡ mean /ℚ whole (2 ^ h)
-rate_is r mean num den h few p q e = e ∙ ap₂ (λ s t. s over t) p (ap₂ (λ s t. s * t) q (shifted h few)) ∙ divided mean (2 ^ h) (pow_pos h)
+rate_is : (r mean : Fraction) (num den h : ℕ) → h ≤ 13 → num ≡ mean.num → den ≡ mean.den
+    → r ≡ num over (den * (1 * 2 ^ h % 2 ^ 64)) → r ≡ mean /ℚ whole (2 ^ h)
+rate_is r mean num den h few p q e =
+    e ∙ ap₂ (λ s t. s over t) p (ap₂ (λ s t. s * t) q (shifted h few)) ∙ divided mean (2 ^ h) (pow_pos h)
 
 small_den : (den h : ℕ) → h ≤ 13 → den < 2 ^ 48 → den * (1 * 2 ^ h % 2 ^ 64) < 2 ^ 62
 small_den den h few small =
@@ -33,19 +36,23 @@ half_le_one : (x : Fraction) → x ≤ℚ 1 over 2 → x ≤ℚ whole 1
 half_le_one x h = le_trans _ _ _ h (over_le 1 2 1 1 (zero-lt-suc 1) one_pos (omega arith))
 
 pub fraction-rate-requires-clause-small_den : goal.fraction-rate-requires-clause-small_den
-fraction-rate-requires-clause-small_den g c = small_den c.den.result c.args.halvings c.requires.halvings (omega (arith, c.den.ensures.part, c.requires.den))
+fraction-rate-requires-clause-small_den g c =
+    small_den c.den.result c.args.halvings c.requires.halvings (omega (arith, c.den.ensures.part, c.requires.den))
 
 pub exp_neg-start-requires : goal.exp_neg-start-requires
 exp_neg-start-requires g c =
     let half : c.fraction-rate.result ≤ℚ 1 over 2 =
-    subst (λ t. t ≤ℚ 1 over 2) (sym (rate_is c.fraction-rate.result c.args.mean c.num.result c.den.result c.args.halvings c.requires.halvings c.num.ensures.part c.den.ensures.part c.fraction-rate.ensures.value)) c.requires.half in
+    subst (λ t. t ≤ℚ 1 over 2)
+    (sym (rate_is c.fraction-rate.result c.args.mean c.num.result c.den.result c.args.halvings c.requires.halvings c.num.ensures.part c.den.ensures.part c.fraction-rate.ensures.value)) c.requires.half in
     (omega arith, (c.requires.scale_above, (c.requires.scale_below, half)))
 
 pub follow-requires : goal.follow-requires
 follow-requires g c =
     let half : c.fraction-rate.result ≤ℚ 1 over 2 =
-    subst (λ t. t ≤ℚ 1 over 2) (sym (rate_is c.fraction-rate.result c.args.mean c.num.result c.den.result c.args.halvings c.requires.halvings c.num.ensures.part c.den.ensures.part c.fraction-rate.ensures.value)) c.requires.half in
-    let small : c.fraction-rate.result.num < 2 ^ 48 = omega (arith, c.fraction-rate.ensures.num, c.num.ensures.part, c.requires.num) in (
+    subst (λ t. t ≤ℚ 1 over 2)
+    (sym (rate_is c.fraction-rate.result c.args.mean c.num.result c.den.result c.args.halvings c.requires.halvings c.num.ensures.part c.den.ensures.part c.fraction-rate.ensures.value)) c.requires.half in
+    let small : c.fraction-rate.result.num < 2 ^ 48 =
+    omega (arith, c.fraction-rate.ensures.num, c.num.ensures.part, c.requires.num) in (
       omega arith,
       (
         c.requires.some,
@@ -65,26 +72,27 @@ follow-requires g c =
       ),
     )
 
-pub from_cells-requires : goal.from_cells-requires
-from_cells-requires g c =
+pub from_ends-requires : goal.from_ends-requires
+from_ends-requires g c =
     let e = rate_is c.fraction-rate.result c.args.mean c.num.result c.den.result c.args.halvings c.requires.halvings c.num.ensures.part c.den.ensures.part c.fraction-rate.ensures.value in
     let v = c.args.mean /ℚ whole (2 ^ c.args.halvings) in
-    let made = made_of true c.args.sev.now c.as_slice.result.now v c.fraction-rate.result c.in_ok-list.list.items c.args.cells c.as_slice.ensures e c.requires.some c.requires.few
+    let made =
+    made_of true c.args.sev.now c.as_slice.result.now v c.fraction-rate.result c.in_ok-list.list.items c.args.cells c.as_slice.ensures e c.requires.some c.requires.few
     c.in_ok-list.ensures.cells c.in_ok-list.ensures.small c.in_ok-list.ensures.follows c.requires.no_zero in (
       omega arith,
-      (
-        omega arith,
-        poisson_grid c.args.sev.now.items c.args.sev.now.total v c.in_ok-list.list.items c.args.cells made
-            (poisson_start v c.exp_neg-start.result (low_at c.in_ok-list.list.items 0) (high_at c.in_ok-list.list.items 0) (subst (λ t. EnclosesExp t c.exp_neg-start.result) e c.exp_neg-start.ensures.encloses)
-            c.in_ok-list.ensures.start_low c.in_ok-list.ensures.start_high),
-      ),
+      made_ends c.in_ok-list.list.items _ _ _ c.deref.ensures.value c.in_ok-lows.ensures.low c.in_ok-lows.ensures.high
+          (poisson_grid c.args.sev.now.items c.args.sev.now.total v c.in_ok-list.list.items c.args.cells made
+          (poisson_start v c.exp_neg-start.result (low_at c.in_ok-list.list.items 0)
+          (high_at c.in_ok-list.list.items 0) (subst
+          (λ t. EnclosesExp t c.exp_neg-start.result) e c.exp_neg-start.ensures.encloses)
+          c.in_ok-list.ensures.start_low c.in_ok-list.ensures.start_high)),
     )
 
 pub returns-clause-follows : goal.returns-clause-follows
 returns-clause-follows g c =
     let e = rate_is c.fraction-rate.result c.args.mean c.num.result c.den.result c.args.halvings c.requires.halvings c.num.ensures.part c.den.ensures.part c.fraction-rate.ensures.value in
     let v = c.args.mean /ℚ whole (2 ^ c.args.halvings) in
-    rw c.from_cells.ensures (poisson_is_base c.args.sev.now v c.in_ok-list.list.items c.args.cells
+    rw (made_grid c.in_ok-list.list.items c.from_ends.result _ _ _ c.deref.ensures.value c.in_ok-lows.ensures.low c.in_ok-lows.ensures.high c.from_ends.ensures.low c.from_ends.ensures.high) (poisson_is_base c.args.sev.now v c.in_ok-list.list.items c.args.cells
     (made_of true c.args.sev.now c.as_slice.result.now v c.fraction-rate.result c.in_ok-list.list.items c.args.cells c.as_slice.ensures e c.requires.some c.requires.few
     c.in_ok-list.ensures.cells c.in_ok-list.ensures.small c.in_ok-list.ensures.follows c.requires.no_zero))
 
@@ -92,25 +100,29 @@ pub returns-clause-encloses : goal.returns-clause-encloses
 returns-clause-encloses g c =
     let e = rate_is c.fraction-rate.result c.args.mean c.num.result c.den.result c.args.halvings c.requires.halvings c.num.ensures.part c.den.ensures.part c.fraction-rate.ensures.value in
     let v = c.args.mean /ℚ whole (2 ^ c.args.halvings) in
-    let made = made_of true c.args.sev.now c.as_slice.result.now v c.fraction-rate.result c.in_ok-list.list.items c.args.cells c.as_slice.ensures e c.requires.some c.requires.few
+    let made =
+    made_of true c.args.sev.now c.as_slice.result.now v c.fraction-rate.result c.in_ok-list.list.items c.args.cells c.as_slice.ensures e c.requires.some c.requires.few
     c.in_ok-list.ensures.cells c.in_ok-list.ensures.small c.in_ok-list.ensures.follows c.requires.no_zero in
-    rw c.from_cells.ensures (poisson_encloses c.args.sev.now.items c.args.sev.now.total v c.in_ok-list.list.items c.args.cells made
-    (poisson_start v c.exp_neg-start.result (low_at c.in_ok-list.list.items 0) (high_at c.in_ok-list.list.items 0) (subst (λ t. EnclosesExp t c.exp_neg-start.result) e c.exp_neg-start.ensures.encloses)
+    rw (made_grid c.in_ok-list.list.items c.from_ends.result _ _ _ c.deref.ensures.value c.in_ok-lows.ensures.low c.in_ok-lows.ensures.high c.from_ends.ensures.low c.from_ends.ensures.high) (poisson_encloses c.args.sev.now.items c.args.sev.now.total v c.in_ok-list.list.items c.args.cells made
+    (poisson_start v c.exp_neg-start.result (low_at c.in_ok-list.list.items 0) (high_at c.in_ok-list.list.items 0)
+    (subst (λ t. EnclosesExp t c.exp_neg-start.result) e c.exp_neg-start.ensures.encloses)
     c.in_ok-list.ensures.start_low c.in_ok-list.ensures.start_high))
 
 pub returns-clause-spread : goal.returns-clause-spread
 returns-clause-spread g c =
     let e = rate_is c.fraction-rate.result c.args.mean c.num.result c.den.result c.args.halvings c.requires.halvings c.num.ensures.part c.den.ensures.part c.fraction-rate.ensures.value in
     let v = c.args.mean /ℚ whole (2 ^ c.args.halvings) in
-    let made = made_of true c.args.sev.now c.as_slice.result.now v c.fraction-rate.result c.in_ok-list.list.items c.args.cells c.as_slice.ensures e c.requires.some c.requires.few
+    let made =
+    made_of true c.args.sev.now c.as_slice.result.now v c.fraction-rate.result c.in_ok-list.list.items c.args.cells c.as_slice.ensures e c.requires.some c.requires.few
     c.in_ok-list.ensures.cells c.in_ok-list.ensures.small c.in_ok-list.ensures.follows c.requires.no_zero in
-    rw c.from_cells.ensures (poisson_widths c.args.sev.now.items c.args.sev.now.total v c.in_ok-list.list.items c.args.cells made (half_parts v c.requires.half)
-    (rw (c.in_ok-list.ensures.start_low, c.in_ok-list.ensures.start_high) (omega (arith, c.exp_neg-start.ensures.narrow))))
+    rw (made_grid c.in_ok-list.list.items c.from_ends.result _ _ _ c.deref.ensures.value c.in_ok-lows.ensures.low c.in_ok-lows.ensures.high c.from_ends.ensures.low c.from_ends.ensures.high) (poisson_widths c.args.sev.now.items c.args.sev.now.total v c.in_ok-list.list.items c.args.cells made (half_parts v c.requires.half)
+    (rw (c.in_ok-list.ensures.start_low, c.in_ok-list.ensures.start_high)
+    (omega (arith, c.exp_neg-start.ensures.narrow))))
 
 pub returns-clause-start : goal.returns-clause-start
 returns-clause-start g c =
     let e = rate_is c.fraction-rate.result c.args.mean c.num.result c.den.result c.args.halvings c.requires.halvings c.num.ensures.part c.den.ensures.part c.fraction-rate.ensures.value in
-    rw c.from_cells.ensures (record {
+    rw (made_grid c.in_ok-list.list.items c.from_ends.result _ _ _ c.deref.ensures.value c.in_ok-lows.ensures.low c.in_ok-lows.ensures.high c.from_ends.ensures.low c.from_ends.ensures.high) (record {
       first = c.exp_neg-start.result;
       low = c.in_ok-list.ensures.start_low;
       high = c.in_ok-list.ensures.start_high;

@@ -1,5 +1,5 @@
-use Rattle.dl_model.proofs.Base.{low_below, high_above}
-use Rattle.dl_model.proofs.recursion.law_outward.Goals as goal
+use Rattle.dl_panjer.proofs.Base.{low_below, high_above}
+use Rattle.dl_panjer.proofs.laws.law_outward.Goals as goal
 
 pub returns-clause-low : goal.returns-clause-low
 returns-clause-low c = low_below

@@ -1,5 +1,0 @@
-use Rattle.dl_model.proofs.Base.{base_encloses}
-use Rattle.dl_model.proofs.recursion.law_base.Goals as goal
-
-pub returns : goal.returns
-returns c S K a b f w lo hi F z P pos severity start = base_encloses S a b f lo hi F w z P pos severity start.1 K start.0

@@ -1,0 +1,84 @@
+-- The grids of a Poisson and of a geometric count enclose their compound sums.
+use Rattle.std.proofs.Common.{◌≡◌, ℕ, zero, suc, ◌<◌, ◌^◌, true, false, List, length, sym, ap, ap₂, subst, ◌∙◌}
+use Rattle.dl_exact.specs.Fraction.{Fraction, ◌over◌, ◌+ℚ◌, ◌*ℚ◌, ◌/ℚ◌, ◌≤ℚ◌, ◌<ℚ◌, whole}
+use Rattle.dl_exact.specs.Sum.{sum_to}
+use Rattle.dl_exact.proofs.Denominators.{over_zero}
+use Rattle.std.proofs.lemmas.Nat.{pow_pos}
+use Rattle.dl_exact.proofs.Laws.{one_pos, plus_comm, times_comm, zero_times, one_times, plus_times, times_cancel, div_times, div_pos, le_trans, lt_of_lt_of_le, le_plus, whole_pos, times_le_both}
+use Rattle.dl_model.specs.Series.{Series, Holds, IsLeastBound}
+use Rattle.dl_model.specs.Severity.{IsWithinOne}
+use Rattle.dl_model.specs.Counts.{poisson, gamma_of, IsPanjer}
+use Rattle.dl_model.specs.Family.{compound, GridEncloses}
+use Rattle.dl_iv.specs.declared.interval.Iv.{Iv}
+use Rattle.dl_grid.specs.Cells.{low_at, high_at}
+use Rattle.dl_plan.specs.declared.item.Item.{Item}
+use Rattle.dl_plan.specs.Weighted.{weight_at}
+use Rattle.dl_panjer.specs.Bases.{FollowsRounded}
+use Rattle.dl_model.proofs.Gamma.{geometric_least}
+use Rattle.dl_model.proofs.Panjer.{poisson_class, gamma_class}
+use Rattle.dl_panjer.proofs.Base.{base_encloses}
+use Rattle.dl_panjer.proofs.Outward.{poisson_outward, geometric_outward}
+
+module _ {B : ℕ} (items : List Item) (T : ℕ) (v : Fraction) (grid : List (Iv B)) (T_pos : 0 < T)
+    (severity : IsWithinOne (λ j. weight_at items j over T)) (no_zero : weight_at items 0 ≡ 0) where
+  none : weight_at items 0 over T ≡ whole 0
+  none = ap (λ n. n over T) no_zero ∙ over_zero T T_pos
+
+  pub poisson_base : FollowsRounded true (λ s. v /ℚ whole (suc s)) items T grid
+      → Holds (λ N. whole 1) (λ N. sum_to N (poisson v)) (low_at grid 0 over 2 ^ B) (high_at grid 0 over 2 ^ B)
+      → GridEncloses grid (compound (poisson v) (λ j. weight_at items j over T))
+  poisson_base F start =
+      base_encloses (2 ^ B) (length grid) (whole 0) v (λ j. weight_at items j over T) (low_at grid) (high_at grid)
+      (poisson_outward items T v T_pos grid F) (poisson v) none (poisson_class v) (pow_pos B) severity start.1 start.0
+
+-- ---- the geometric count
+
+-- 1 over a series lies between fractions round the reciprocal of its least bound
+reciprocal_of_least : (R : Series) (L d l h : Fraction) → IsLeastBound R L → L *ℚ d ≡ whole 1 → l ≤ℚ d → d ≤ℚ h
+    → Holds (λ N. whole 1) R l h
+reciprocal_of_least R L d l h least e low high = (
+  (λ n u b. le_trans _ _ _ (times_le_both _ _ _ _ low (least.0 n))
+      (subst (λ t. t ≤ℚ u) (sym (times_comm d L ∙ e)) (b zero))),
+  (λ n u b. subst (λ t. t ≤ℚ h *ℚ u) (times_comm d L ∙ e) (times_le_both _ _ _ _ high (least.1 u b))),
+)
+
+module _ (beta : Fraction) where
+  all : Fraction
+  all = whole 1 +ℚ beta
+
+  all_pos : whole 0 <ℚ all
+  unfolding all
+  all_pos = lt_of_lt_of_le (whole 0) (whole 1) (whole 1 +ℚ beta) (whole_pos 1 one_pos) (le_plus (whole 1) beta)
+
+  shares : beta /ℚ all +ℚ whole 1 /ℚ all ≡ whole 1
+  unfolding all
+  shares = times_cancel _ _ all all_pos (plus_times _ _ all
+      ∙ ap₂ (λ s t. s +ℚ t) (div_times beta all all_pos) (div_times (whole 1) all all_pos) ∙ plus_comm beta (whole 1)
+      ∙ sym (one_times all))
+
+  pub geometric_start : (l h : Fraction) → l ≤ℚ whole 1 /ℚ (whole 1 +ℚ beta) → whole 1 /ℚ (whole 1 +ℚ beta) ≤ℚ h
+      → Holds (λ N. whole 1) (λ N. sum_to N (gamma_of 1 beta)) l h
+  unfolding all
+  geometric_start l h low high =
+      let d = whole 1 /ℚ all in
+      let inverse : all *ℚ d ≡ whole 1 = times_comm _ _ ∙ div_times (whole 1) all all_pos in
+      reciprocal_of_least (λ N. sum_to N (gamma_of 1 beta)) all d l h
+      (geometric_least (beta /ℚ all) d shares all
+      (div_pos (whole 1) all (whole_pos 1 one_pos) all_pos) inverse) inverse low high
+
+  -- the geometric count is the gamma count of shape 1
+  pub geometric_class : IsPanjer (beta /ℚ (whole 1 +ℚ beta)) (whole 0) (gamma_of 1 beta)
+  geometric_class = subst (λ b. IsPanjer (beta /ℚ (whole 1 +ℚ beta)) b (gamma_of 1 beta)) (zero_times _)
+      (gamma_class zero (beta /ℚ (whole 1 +ℚ beta)))
+
+module _ {B : ℕ} (items : List Item) (T : ℕ) (beta : Fraction) (grid : List (Iv B)) (T_pos : 0 < T)
+    (severity : IsWithinOne (λ j. weight_at items j over T)) (no_zero : weight_at items 0 ≡ 0) where
+  pub geometric_base : FollowsRounded false (λ s. beta /ℚ (whole 1 +ℚ beta)) items T grid
+      → low_at grid 0 over 2 ^ B ≤ℚ whole 1 /ℚ (whole 1 +ℚ beta)
+      → whole 1 /ℚ (whole 1 +ℚ beta) ≤ℚ high_at grid 0 over 2 ^ B
+      → GridEncloses grid (compound (gamma_of 1 beta) (λ j. weight_at items j over T))
+  geometric_base F low high =
+      let start = geometric_start beta (low_at grid 0 over 2 ^ B) (high_at grid 0 over 2 ^ B) low high in
+      base_encloses (2 ^ B) (length grid) (beta /ℚ (whole 1 +ℚ beta)) (whole 0) (λ j. weight_at items j over T)
+      (low_at grid) (high_at grid) (geometric_outward items T beta T_pos grid F) (gamma_of 1 beta)
+      (ap (λ n. n over T) no_zero ∙ over_zero T T_pos) (geometric_class beta) (pow_pos B) severity start.1 start.0
