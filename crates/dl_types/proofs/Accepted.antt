@@ -14,19 +14,22 @@ use Rattle.dl_ast.specs.WellFormed.{IsUnit, IsWellFormed}
 use Rattle.dl_types.specs.declared.rule.Rule.{Rule}
 use Rattle.dl_types.specs.declared.rule.Rule.TheVariants as rules
 use Rattle.dl_types.specs.declared.fault.TypeFault.{TypeFault}
-use Rattle.dl_types.specs.First.{◌else◌, in_turn}
+use Rattle.dl_read.specs.First.{◌else◌, in_turn}
 use Rattle.dl_types.specs.Faults.{breaks, cells_of, fault_of_lists, fault_of_amounts, fault_of_count, first_fault_of, first_fault}
 use Rattle.dl_types.specs.Answer.{AnswersUnit, AnswersUnits}
 use Rattle.dl_types.specs.Plans.{IsPlanOf, aggregate_clause}
-use Rattle.dl_types.specs.Rules.{lengths_differ, not_one, off_grid_cession, horizon_too_large, too_many_units}
-use Rattle.dl_types.specs.Kept.{IsSet, IsRead, IsLayered, IsFineUnit, IsExposedUnit}
-use Rattle.dl_types.proofs.Nothing.{else_first, else_second}
-use Rattle.dl_types.proofs.Turns.{turn_start}
-use Rattle.dl_types.proofs.ClauseLaws.{turn_none}
-use Rattle.dl_types.proofs.FineUnits.{fine_unit}
+use Rattle.dl_amounts.specs.Rules.{lengths_differ, not_one, off_grid_cession}
+use Rattle.dl_types.specs.Rules.{horizon_too_large, too_many_units}
+use Rattle.dl_types.specs.Kept.{IsSet, IsFineUnit, IsExposedUnit}
+use Rattle.dl_amounts.specs.Kept.{IsLayered}
+use Rattle.dl_read.specs.Kept.{IsRead}
+use Rattle.dl_read.proofs.Nothing.{else_first, else_second}
+use Rattle.dl_amounts.proofs.Turns.{turn_start}
+use Rattle.dl_amounts.proofs.ClauseLaws.{turn_none}
+use Rattle.dl_types.proofs.FineClaims.{fine_unit}
 use Rattle.dl_types.proofs.Aggregates.{aggregate_valid}
 use Rattle.dl_types.proofs.ThinnedUnits.{thinned_valid}
-use Rattle.dl_types.proofs.SevThere.{final_there}
+use Rattle.dl_amounts.proofs.SevThere.{final_there}
 use Rattle.dl_types.proofs.CountThere.{count_there, clause_there}
 use Rattle.dl_types.proofs.ProgramUnits.{Planned, planned_more, planned_all, few_units, plan_of_units}
 

@@ -17,19 +17,18 @@ use Rattle.dl_plan.specs.declared.item.Item.{Item}
 use Rattle.dl_plan.specs.declared.severity.Sev.{Sev}
 use Rattle.dl_plan.specs.Weighted.{weight_at, common_amount}
 use Rattle.dl_plan.specs.Severity.{Pairs, Means}
-use Rattle.dl_plan.proofs.Sums.{zero_over}
-use Rattle.dl_sev.proofs.Mapped.{total_pos}
+use Rattle.dl_exact.proofs.Denominators.{over_zero as zero_over}
+use Rattle.dl_plan.proofs.Means.{severity_total as total_pos}
 use Rattle.dl_ast.specs.declared.ast.Cession.{Cession}
 use Rattle.dl_ast.specs.declared.ast.UnitAst.{UnitAst}
-use Rattle.dl_types.specs.Clauses.{clause_of}
-use Rattle.dl_types.specs.Severity.{support, final_severity}
-use Rattle.dl_types.specs.Exposures.{has_shares}
-use Rattle.dl_types.specs.Rules.{common_amount_of, off_grid_occurrence, off_grid_aggregate, off_grid_cession}
-use Rattle.dl_types.proofs.Nothing.{else_second}
-use Rattle.dl_types.proofs.Items.{items_in, support_positive}
-use Rattle.dl_types.proofs.OffGrid.{none_off_multiples}
-use Rattle.dl_types.proofs.PastEdges.{fits_tried}
-pub use Rattle.dl_types.proofs.PastEdges.{horizon_within}
+use Rattle.dl_amounts.specs.Clauses.{clause_of}
+use Rattle.dl_amounts.specs.Severity.{support, final_severity}
+use Rattle.dl_amounts.specs.FineParts.{has_shares}
+use Rattle.dl_amounts.specs.Rules.{common_amount_of, off_grid_occurrence, off_grid_aggregate, off_grid_cession}
+use Rattle.dl_read.proofs.Nothing.{else_second}
+use Rattle.dl_amounts.proofs.Items.{items_in, support_positive}
+use Rattle.dl_amounts.proofs.OffGrid.{none_off_multiples}
+use Rattle.dl_amounts.proofs.PastEdges.{fits_tried}
 
 -- ---- the common divisor of a list
 

@@ -27,28 +27,29 @@ use Rattle.dl_ast.specs.declared.ast.CountAst.{CountAst}
 use Rattle.dl_ast.specs.declared.ast.CountAst.TheVariants.{Exposed, Listed}
 use Rattle.dl_ast.specs.declared.ast.UnitAst.{UnitAst}
 use Rattle.dl_sev.specs.Buckets.{buckets}
-use Rattle.dl_types.specs.Numerals.{value}
-use Rattle.dl_types.specs.Lists.{values_of, probs_of, is_admitted}
-use Rattle.dl_types.specs.Clauses.{ceded_layer, limit_of}
-use Rattle.dl_types.specs.Exposures.{expected_count, has_count, has_admitted, has_shares, shape_of, thinned_mean}
+use Rattle.dl_read.specs.Numerals.{value}
+use Rattle.dl_read.specs.Lists.{values_of, probs_of, is_admitted}
+use Rattle.dl_amounts.specs.Clauses.{ceded_layer, limit_of}
+use Rattle.dl_types.specs.Exposures.{expected_count, has_count, has_admitted, shape_of, thinned_mean}
+use Rattle.dl_amounts.specs.FineParts.{has_shares}
 use Rattle.dl_types.specs.Plans.{IsCountOf, count_pairs, aggregate_clause}
 use Rattle.dl_types.specs.Rules.{passes}
 use Rattle.dl_types.specs.Kept.{IsFineUnit, IsExposedUnit}
-use Rattle.dl_types.specs.Parts.{IsNumeralOnGrid, IsLayerOnGrid}
-use Rattle.dl_types.specs.ClausesKept.{IsClauseLayered}
-use Rattle.dl_types.proofs.Values.{same_length}
-use Rattle.dl_types.proofs.Mixing.{seconds-zip}
-use Rattle.dl_types.proofs.NumeralBounds.{IsSmall, numeral_small}
-use Rattle.dl_types.proofs.Layers.{small_num, attach_on_grid, limit_on_grid}
+use Rattle.dl_amounts.specs.Parts.{IsNumeralOnGrid, IsLayerOnGrid}
+use Rattle.dl_amounts.specs.ClausesKept.{IsClauseLayered}
+use Rattle.dl_amounts.proofs.Values.{same_length}
+use Rattle.dl_amounts.proofs.Mixing.{seconds-zip}
+use Rattle.dl_read.proofs.NumeralBounds.{IsSmall, numeral_small}
+use Rattle.dl_amounts.proofs.Layers.{small_num, attach_on_grid, limit_on_grid}
 use Rattle.dl_types.proofs.ListedCounts.{small_table, table_admitted}
 use Rattle.dl_types.proofs.Exposed.{binomial_good}
 use Rattle.dl_types.proofs.FineExposures.{admitted}
 use Rattle.dl_types.proofs.ExposedCounts.{whole_is, few_is, within_one, few_of, fixed_whole, single_within, chance_above, chance_within, trials_whole, variation_above, variation_whole, shape_whole, shape_some}
 use Rattle.dl_types.proofs.UnitPlans.{counts_of, agr_shares}
 use Rattle.dl_types.proofs.ThinnedUnits.{admitted_is}
-use Rattle.dl_types.proofs.ClauseGrids.{agr_layered, layers_on_grid}
-use Rattle.dl_types.proofs.ClauseLaws.{made_cession}
-use Rattle.dl_types.proofs.SevSteps.{sev_of}
+use Rattle.dl_amounts.proofs.ClauseGrids.{agr_layered, layers_on_grid}
+use Rattle.dl_amounts.proofs.ClauseLaws.{made_cession}
+use Rattle.dl_amounts.proofs.SevSteps.{sev_of}
 
 module _ (bs : Fraction) (u : UnitAst) (fine : IsFineUnit bs u) (kept : IsExposedUnit bs u) where
   -- a valid count that is that of the text

@@ -6,7 +6,7 @@ use Rattle.std.proofs.lemmas.Option.{same_Some}
 use Rattle.dl_exact.specs.Fraction.{Fraction, whole, ◌+ℚ◌, ◌*ℚ◌, ◌/ℚ◌, ◌<ℚ◌, ◌≤ℚ◌}
 use Rattle.dl_exact.specs.Sum.{sum_over}
 use Rattle.dl_exact.proofs.Laws.{ring, div_times, times_cancel, times_pos, le_plus, plus_comm, lt_of_lt_of_le, whole_pos}
-use Rattle.dl_frac.proofs.FractionLaws.{pos_num}
+use Rattle.dl_exact.proofs.Parts.{pos_num}
 use Rattle.dl_plan.specs.Severity.{Pairs, mean_amount}
 use Rattle.dl_lexer.specs.declared.token.Span.{Span}
 use Rattle.dl_ast.specs.declared.ast.Numeral.{Numeral}
@@ -21,19 +21,23 @@ use Rattle.dl_ast.specs.declared.ast.CountAst.TheVariants.{Exposed, Listed}
 use Rattle.dl_ast.specs.declared.ast.UnitAst.{UnitAst}
 use Rattle.dl_ast.specs.declared.ast.FreqAst.TheVariants.{Binomial, Gamma}
 use Rattle.dl_ast.specs.WellFormed.{IsNumeral, IsExposure, IsFreq, IsCount}
-use Rattle.dl_types.specs.First.{first_in, each_of}
-use Rattle.dl_types.specs.Numerals.{is_bad_numeral, bad_place, in_count, in_layer, in_severity, in_clause, in_distribution, in_exposure, in_freq}
-use Rattle.dl_types.specs.Lists.{values_of, itself, probs_in_count, prob_lists_of, is_fine, is_admitted}
-use Rattle.dl_types.specs.Severity.{support, mixture_shares}
-use Rattle.dl_types.specs.Exposures.{exposure_of, has_severity, GivesAdmitted}
-use Rattle.dl_types.specs.Rules.{bad_numeral, not_one, has_no_loss, zero_mean, zero_mean_of}
-use Rattle.dl_types.specs.Kept.{IsRead, IsOnGrid}
-use Rattle.dl_types.specs.Parts.{IsSevShared}
-use Rattle.dl_types.proofs.Nothing.{none_left, none_right, none_head, none_tail, not_at}
-use Rattle.dl_types.proofs.Parts.{sev_on_grid}
-use Rattle.dl_types.proofs.Shared.{sev_shared}
-use Rattle.dl_types.proofs.Positive.{is_positive, support_step}
-use Rattle.dl_types.proofs.FineLists.{coarse}
+use Rattle.dl_read.specs.First.{first_in, each_of}
+use Rattle.dl_read.specs.Numerals.{is_bad_numeral, bad_place, in_count, in_layer, in_severity, in_clause, in_distribution, in_exposure, in_freq}
+use Rattle.dl_read.specs.Lists.{values_of, itself, probs_in_count, prob_lists_of, is_fine, is_admitted}
+use Rattle.dl_amounts.specs.Severity.{support, mixture_shares}
+use Rattle.dl_types.specs.Exposures.{exposure_of, GivesAdmitted}
+use Rattle.dl_amounts.specs.FineParts.{has_severity}
+use Rattle.dl_read.specs.Rules.{bad_numeral}
+use Rattle.dl_amounts.specs.Rules.{not_one}
+use Rattle.dl_types.specs.Rules.{has_no_loss, zero_mean, zero_mean_of}
+use Rattle.dl_read.specs.Kept.{IsRead}
+use Rattle.dl_amounts.specs.Kept.{IsOnGrid}
+use Rattle.dl_amounts.specs.Parts.{IsSevShared}
+use Rattle.dl_read.proofs.Nothing.{none_left, none_right, none_head, none_tail, not_at}
+use Rattle.dl_amounts.proofs.Parts.{sev_on_grid}
+use Rattle.dl_amounts.proofs.Shared.{sev_shared}
+use Rattle.dl_amounts.proofs.Positive.{is_positive, support_step}
+use Rattle.dl_amounts.proofs.FineLists.{coarse}
 
 -- ---- the numerals of a count
 
@@ -123,53 +127,6 @@ module _ (bs : Fraction) (u : UnitAst) (above : zero_mean bs u ≡ None) where
       of_count : (k : CountAst) → zero_mean_of bs u k ≡ None → exposure_of k ≡ Some (Premium p r span) → has_no_loss bs u ≡ false
       of_count (Exposed x f) none same = not_at _ span (subst (λ y. zero_mean_of bs u (Exposed y f) ≡ None) (same_Some _ _ same) none)
       of_count (Listed counts probs place) none same = absurd (cc)
-
--- ---- the severity
-
-pub all_not : {X : Type 0} (p : X → Bool) (xs : List X) → list_all p xs ≡ not (list_any (λ x. not (p x)) xs)
-all_not p [] = refl
-all_not p (x ∷ xs) = both (p x) (list_all p xs) (list_any (λ y. not (p y)) xs) (all_not p xs)
-  where
-    both : (a b d : Bool) → b ≡ not d → (a && b) ≡ not (not a || d)
-    both true b d h = h
-    both false b d h = refl
-
-abbrev pub severity_lists : SevAst → List ListAst
-severity_lists s = flat_map (λ (a : Atom). each_of itself a.probs) s.atoms ++ each_of itself s.weights
-
-pub coarse_lists : (bs : Fraction) (s : SevAst) (b : Bool) → b ≡ list_any coarse (severity_lists s) → b ≡ true → false ≡ has_severity bs s
-coarse_lists bs s b is told =
-    ap (λ d. d && is_fine (mixture_shares bs s)) (ap not (sym told ∙ is) ∙ sym (all_not (λ (l : ListAst). is_fine (values_of l)) (severity_lists s)))
-
-pub fine_lists : (bs : Fraction) (s : SevAst) (b : Bool) → b ≡ list_any coarse (severity_lists s) → b ≡ false → is_fine (mixture_shares bs s) ≡ has_severity bs s
-fine_lists bs s b is told =
-    ap (λ d. d && is_fine (mixture_shares bs s)) (ap not (sym told ∙ is) ∙ sym (all_not (λ (l : ListAst). is_fine (values_of l)) (severity_lists s)))
-
-both_true : (a b : Bool) → (a && b) ≡ true → (a ≡ true) × (b ≡ true)
-both_true true b h = (refl, h)
-both_true false b h = absurd (cc)
-
--- an exposed count has no probabilities of its own
-pub none_coarse : (u : UnitAst) → IsSome (exposure_of u.count) → list_any coarse (severity_lists u.sev) ≡ false → list_any coarse (prob_lists_of u) ≡ false
-none_coarse u exposed none = subst (λ ls. list_any coarse (ls ++ flat_map (λ (a : Atom). each_of itself a.probs) u.sev.atoms ++ each_of itself u.sev.weights) ≡ false) (sym (no_lists u.count exposed)) none
-  where
-    no_lists : (k : CountAst) → IsSome (exposure_of k) → probs_in_count k ≡ []
-    no_lists (Exposed e f) h = refl
-    no_lists (Listed counts probs span) h = absurd (cc h)
-
-module _ (bs : Fraction) (u : UnitAst) (on_grid : IsOnGrid bs u) (one : not_one u ≡ None) (exposed : IsSome (exposure_of u.count)) (fine : has_severity bs u.sev ≡ true) where
-  parts_fine : (list_all (λ (l : ListAst). is_fine (values_of l)) (severity_lists u.sev) ≡ true) × (is_fine (mixture_shares bs u.sev) ≡ true)
-  parts_fine = both_true (list_all (λ (l : ListAst). is_fine (values_of l)) (severity_lists u.sev)) (is_fine (mixture_shares bs u.sev)) fine
-
-  pub exposed_shared : IsSevShared u.sev
-  exposed_shared =
-      sev_shared u one
-      (none_coarse u exposed (not_not _ (sym (all_not (λ (l : ListAst). is_fine (values_of l)) (severity_lists u.sev)) ∙ parts_fine.0)))
-      bs (sev_on_grid bs u on_grid)
-    where
-      not_not : (b : Bool) → not b ≡ true → b ≡ false
-      not_not true h = absurd (cc)
-      not_not false h = refl
 
 -- ---- the mean
 

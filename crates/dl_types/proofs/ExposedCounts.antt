@@ -7,9 +7,8 @@ use Rattle.std.proofs.lemmas.Bool.Decides.{nat_tests, eqb_tells}
 use Rattle.dl_exact.specs.Gcd.{gcd}
 use Rattle.dl_exact.specs.Fraction.{Fraction, whole, ◌over◌, ◌*ℚ◌, ◌/ℚ◌, ◌<ℚ◌, ◌≤ℚ◌}
 use Rattle.dl_exact.proofs.Over.{same, over_cross}
-use Rattle.dl_frac.proofs.GcdMore.{lowest_swap, lowest_times, lowest_product}
-use Rattle.dl_frac.proofs.FractionLaws.{num_pos, pos_num, lowest_num, lowest_den, product_is, quotient_is}
-use Rattle.dl_plan.proofs.Fits.{whole_num, whole_den}
+use Rattle.dl_exact.proofs.Multiples.{lowest_swap, lowest_times, lowest_product}
+use Rattle.dl_exact.proofs.Parts.{num_pos, pos_num, lowest_num, lowest_den, product_is, quotient_is, whole_num, whole_den}
 use Rattle.dl_lexer.specs.declared.token.Span.{Span}
 use Rattle.dl_ast.specs.declared.ast.Numeral.{Numeral}
 use Rattle.dl_ast.specs.declared.ast.Exposure.{Exposure}
@@ -17,12 +16,12 @@ use Rattle.dl_ast.specs.declared.ast.FreqAst.{FreqAst}
 use Rattle.dl_ast.specs.declared.ast.FreqAst.TheVariants.{Fixed, Bernoulli, Binomial, Gamma}
 use Rattle.dl_ast.specs.declared.ast.CountAst.TheVariants.{Exposed}
 use Rattle.dl_ast.specs.declared.ast.UnitAst.{UnitAst}
-use Rattle.dl_types.specs.Numerals.{value}
-use Rattle.dl_types.specs.Lists.{is_whole, is_zero, is_above}
+use Rattle.dl_read.specs.Numerals.{value}
+use Rattle.dl_read.specs.Lists.{is_whole, is_zero, is_above}
 use Rattle.dl_types.specs.Exposures.{expected_count, has_admitted, shape_of}
 use Rattle.dl_types.specs.Rules.{exposure_span, count_not_whole, count_not_whole_of, count_above_one, count_above_one_of, trials_not_whole, trials_not_whole_of, shape_not_whole, shape_not_whole_of, too_many_claims, has_too_many_claims, passes}
-use Rattle.dl_types.proofs.Flawed.{whole_yes}
-use Rattle.dl_types.proofs.Nothing.{not_at, not_then}
+use Rattle.dl_amounts.proofs.Flawed.{whole_yes}
+use Rattle.dl_read.proofs.Nothing.{not_at, not_then}
 use Rattle.dl_types.proofs.ListedCounts.{passes_is}
 
 -- ---- tests

@@ -10,15 +10,16 @@ use Rattle.dl_ast.specs.declared.ast.FreqAst.{FreqAst}
 use Rattle.dl_ast.specs.declared.ast.CountAst.{CountAst}
 use Rattle.dl_ast.specs.declared.ast.CountAst.TheVariants.{Exposed, Listed}
 use Rattle.dl_ast.specs.declared.ast.UnitAst.{UnitAst}
-use Rattle.dl_types.specs.First.{each_of}
-use Rattle.dl_types.specs.Lists.{itself, probs_in_count, prob_lists_of, is_fine, is_admitted}
-use Rattle.dl_types.specs.Severity.{mixture_shares}
-use Rattle.dl_types.specs.Exposures.{exposure_of, expected_loss, expected_count, has_severity, has_count, has_admitted, has_shares, is_unbounded, thinned, thinned_mean}
-use Rattle.dl_types.specs.FineParts.{fractions_too_fine}
+use Rattle.dl_read.specs.First.{each_of}
+use Rattle.dl_read.specs.Lists.{itself, probs_in_count, prob_lists_of, is_fine, is_admitted}
+use Rattle.dl_amounts.specs.Severity.{mixture_shares}
+use Rattle.dl_types.specs.Exposures.{exposure_of, expected_loss, expected_count, has_count, has_admitted, is_unbounded, thinned, thinned_mean}
+use Rattle.dl_amounts.specs.FineParts.{has_severity, has_shares, fractions_too_fine}
 use Rattle.dl_types.specs.Rules.{loss_too_fine, count_too_fine, thinned_too_fine, exposed_too_fine, too_fine}
-use Rattle.dl_types.proofs.Nothing.{not_at}
-use Rattle.dl_types.proofs.FineLists.{coarse}
-use Rattle.dl_types.proofs.Exposed.{fine_lists, severity_lists}
+use Rattle.dl_read.proofs.Nothing.{not_at}
+use Rattle.dl_amounts.proofs.FineLists.{coarse}
+use Rattle.dl_amounts.proofs.Weighable.{fine_lists}
+use Rattle.dl_amounts.proofs.Shared.{own_lists}
 
 first_last : (a b d m : Bool) → (a || b || d || m) ≡ false → (a ≡ false) × (m ≡ false)
 first_last true b d m h = absurd (cc)
@@ -38,7 +39,7 @@ no_lists (Listed counts probs span) h = absurd (cc h)
 pub severity_there : (bs : Fraction) (u : UnitAst) → IsSome (exposure_of u.count) → fractions_too_fine bs u ≡ false → has_severity bs u.sev ≡ true
 severity_there bs u exposed h =
     let parts = first_last (list_any coarse (prob_lists_of u)) (not (has_shares u.occ)) (not (has_shares u.agr)) (not (is_fine (mixture_shares bs u.sev))) h in
-    let lists : list_any coarse (severity_lists u.sev) ≡ false =
+    let lists : list_any coarse (own_lists u.sev) ≡ false =
     subst (λ ls. list_any coarse (ls ++ flat_map (λ (a : Atom). each_of itself a.probs) u.sev.atoms ++ each_of itself u.sev.weights) ≡ false)
     (no_lists u.count exposed) parts.0 in
     sym (fine_lists bs u.sev false (sym lists) refl) ∙ not_false _ parts.1

@@ -11,22 +11,21 @@ use Rattle.dl_plan.specs.declared.severity.Sev.{Sev}
 use Rattle.dl_plan.specs.Fine.{IsAdmitted}
 use Rattle.dl_plan.specs.Weighted.{weight_sum, weighted_sum}
 use Rattle.dl_plan.specs.Severity.{Means}
-use Rattle.dl_plan.proofs.Fits.{whole_num, whole_den, num_of_over-le, den_of_over-le}
-use Rattle.dl_sev.proofs.Mapped.{total_pos}
+use Rattle.dl_exact.proofs.Parts.{whole_num, whole_den, over_num_le as num_of_over-le, over_den_le as den_of_over-le}
+use Rattle.dl_plan.proofs.Means.{severity_total as total_pos}
 use Rattle.dl_ast.specs.declared.ast.ListAst.{ListAst}
 use Rattle.dl_ast.specs.declared.ast.CountAst.TheVariants.{Listed}
 use Rattle.dl_ast.specs.declared.ast.UnitAst.{UnitAst}
 use Rattle.dl_lexer.specs.declared.token.Span.{Span}
-use Rattle.dl_types.specs.First.{each_of}
-use Rattle.dl_types.specs.Lists.{itself, lists_in_count, lists_in_severity, values_of, probs_of, is_whole}
+use Rattle.dl_read.specs.First.{each_of}
+use Rattle.dl_read.specs.Lists.{itself, lists_in_count, lists_in_severity, values_of, probs_of, is_whole}
 use Rattle.dl_types.specs.Plans.{count_pairs}
 use Rattle.dl_types.specs.Rules.{passes}
-use Rattle.dl_types.specs.Kept.{IsRead}
-use Rattle.dl_types.specs.Parts.{IsListRead}
+use Rattle.dl_read.specs.Kept.{IsRead, IsListRead}
 use Rattle.dl_types.specs.Listed.{AreCounts}
-use Rattle.dl_types.proofs.UnitLists.{all_left, lists_read}
-use Rattle.dl_types.proofs.Values.{never}
-use Rattle.dl_types.proofs.Items.{items_in, support_all}
+use Rattle.dl_read.proofs.UnitLists.{all_left, lists_read}
+use Rattle.dl_amounts.proofs.Values.{never}
+use Rattle.dl_amounts.proofs.Items.{items_in, support_all}
 
 -- ---- the lists of the counts
 

@@ -1,7 +1,7 @@
 -- A name among those of earlier units.
 use Rattle.std.proofs.Common.{◌≡◌, ℕ, ◌+◌, List, [], ◌∷◌, ◌++◌, length, if◌then◌else◌, map, Bool, true, false, not, None, Some, Bor, refl, sym, ap, ◌∙◌, arith}
 use Rattle.dl_lexer.specs.declared.token.Span.{Span}
-use Rattle.dl_types.specs.First.{at_if}
+use Rattle.dl_read.specs.First.{at_if}
 use Rattle.std.proofs.lemmas.List.{length-append}
 use Rattle.std.specs.List.{list_any}
 use Rattle.std.specs.Prelude.{◌||◌}

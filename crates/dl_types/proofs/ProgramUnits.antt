@@ -9,14 +9,14 @@ use Rattle.std.specs.Prelude.{Ok, Err, slice_get}
 use Rattle.dl_types.specs.declared.fault.CheckFault.{CheckFault}
 use Rattle.dl_types.specs.declared.fault.CheckFault.TheVariants.{Typing, OutOfMemory}
 use Rattle.dl_types.specs.Answer.{AnswersUnit, AnswersUnits, Answers}
-use Rattle.dl_types.proofs.Turns.{turn_found}
+use Rattle.dl_amounts.proofs.Turns.{turn_found, NoneTurned, turn_passed, turn_ended}
 use Rattle.std.proofs.lemmas.List.Elements.{All-nil, All-cons, All-head, All-tail, All-append}
 use Rattle.dl_exact.specs.Fraction.{Fraction, whole, ◌<ℚ◌}
 use Rattle.dl_plan.specs.declared.plan.Unit.{Unit as UnitOfPlan}
 use Rattle.dl_plan.specs.declared.settings.Settings.{Settings}
 use Rattle.dl_plan.specs.Valid.{IsValidUnit}
 use Rattle.dl_ast.specs.declared.ast.UnitAst.{UnitAst}
-use Rattle.dl_types.specs.First.{◌else◌, in_turn}
+use Rattle.dl_read.specs.First.{◌else◌, in_turn}
 use Rattle.dl_lexer.specs.declared.token.Span.{Span}
 use Rattle.dl_types.specs.declared.rule.Rule.TheVariants as rules
 use Rattle.dl_types.specs.UnitNames.{names_of}
@@ -27,9 +27,8 @@ use Rattle.dl_types.specs.Kept.{IsSet}
 use Rattle.dl_ast.specs.declared.ast.Program.{Program}
 use Rattle.dl_ast.specs.WellFormed.{IsWellFormed}
 use Rattle.dl_plan.specs.declared.plan.Plan.{Plan}
-use Rattle.dl_types.proofs.Nothing.{else_first, not_at}
-use Rattle.dl_types.proofs.Values.{never}
-use Rattle.dl_types.proofs.Turns.{NoneTurned, turn_passed, turn_ended}
+use Rattle.dl_read.proofs.Nothing.{else_first, not_at}
+use Rattle.dl_amounts.proofs.Values.{never}
 
 -- the first i units break no rule, and have these units in the plan
 pub record Planned (settings : Settings) (units : List UnitAst) (i : ℕ) (made : List UnitOfPlan) : Type 0 where

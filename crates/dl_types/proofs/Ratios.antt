@@ -5,13 +5,12 @@ use Prim.Native.Nat.{◌∣◌}
 use Rattle.dl_exact.specs.Gcd.{gcd}
 use Rattle.dl_exact.specs.Fraction.{Fraction, whole, ◌over◌, ◌*ℚ◌, ◌/ℚ◌}
 use Rattle.dl_exact.proofs.GcdLaws.{gcd_is}
-use Rattle.dl_exact.proofs.Over.{over_self, over_mul, over_same}
+use Rattle.dl_exact.proofs.Over.{over_self, over_mul, over_same, over_num as num_of_over, over_den as den_of_over}
 use Rattle.dl_exact.proofs.Laws.{zero_times, times_comm}
 use Rattle.dl_frac.specs.Exact.{IsTooFine}
-use Rattle.dl_frac.proofs.GcdMore.{lowest_parts, lowest_swap, lowest_times, lowest_product, part_divides}
-use Rattle.dl_frac.proofs.FractionLaws.{lowest_num, lowest_den, product_is, quotient_is}
-use Rattle.dl_plan.proofs.Fits.{num_of_over, den_of_over, whole_num, whole_den}
-use Rattle.dl_types.specs.Lists.{is_admitted}
+use Rattle.dl_exact.proofs.Multiples.{lowest_parts, lowest_swap, lowest_times, lowest_product, part_divides}
+use Rattle.dl_exact.proofs.Parts.{lowest_num, lowest_den, product_is, quotient_is, whole_num, whole_den}
+use Rattle.dl_read.specs.Lists.{is_admitted}
 
 num_divides : (n d : ℕ) → 0 < d → (n over d).num ∣ n
 num_divides n d h = subst (λ k. k ∣ n) (sym (num_of_over n d h)) (part_divides n (gcd n d) (gcd_is n d).0)

@@ -13,9 +13,9 @@ use Rattle.dl_ast.specs.declared.ast.FreqAst.TheVariants.{Fixed, Poisson, Bernou
 use Rattle.dl_ast.specs.declared.ast.CountAst.{CountAst}
 use Rattle.dl_ast.specs.declared.ast.CountAst.TheVariants.{Exposed, Listed}
 use Rattle.dl_ast.specs.declared.ast.UnitAst.{UnitAst}
-use Rattle.dl_types.specs.Numerals.{value}
-use Rattle.dl_types.specs.Lists.{is_admitted, is_above}
-use Rattle.dl_types.specs.Severity.{final_severity}
+use Rattle.dl_read.specs.Numerals.{value}
+use Rattle.dl_read.specs.Lists.{is_admitted, is_above}
+use Rattle.dl_amounts.specs.Severity.{final_severity}
 use Rattle.dl_types.specs.Exposures.{expected_count, thinned_mean, shape_of, is_unbounded}
 use Rattle.dl_types.specs.Plans.{IsCountOf}
 use Rattle.dl_types.specs.Rules.{too_many_claims, passes}

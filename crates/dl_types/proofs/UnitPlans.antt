@@ -8,18 +8,20 @@ use Rattle.dl_ast.specs.declared.ast.Atom.{Atom}
 use Rattle.dl_ast.specs.declared.ast.CountAst.{CountAst}
 use Rattle.dl_ast.specs.declared.ast.CountAst.TheVariants.{Exposed, Listed}
 use Rattle.dl_ast.specs.declared.ast.UnitAst.{UnitAst}
-use Rattle.dl_types.specs.First.{at_if, each_of}
-use Rattle.dl_types.specs.Lists.{values_of, probs_of, itself, probs_in_count, prob_lists_of, is_fine}
+use Rattle.dl_read.specs.First.{at_if, each_of}
+use Rattle.dl_read.specs.Lists.{values_of, probs_of, itself, probs_in_count, prob_lists_of, is_fine}
 use Rattle.dl_types.specs.Listed.{IsListed, HasCounts}
-use Rattle.dl_types.specs.Exposures.{has_shares}
-use Rattle.dl_types.specs.Severity.{mixture_shares}
-use Rattle.dl_types.specs.Rules.{lengths_differ, count_lengths, count_not_whole, count_not_whole_of, too_fine, exposed_too_fine, too_many_claims, has_too_many_claims}
+use Rattle.dl_amounts.specs.FineParts.{has_shares}
+use Rattle.dl_amounts.specs.Severity.{mixture_shares}
+use Rattle.dl_amounts.specs.Rules.{lengths_differ, count_lengths}
+use Rattle.dl_types.specs.Rules.{count_not_whole, count_not_whole_of, too_fine, exposed_too_fine, too_many_claims, has_too_many_claims}
 use Rattle.dl_types.specs.Kept.{IsFineUnit}
-use Rattle.dl_types.specs.Parts.{IsListRead, AreProbabilities}
-use Rattle.dl_types.proofs.Nothing.{else_first, not_at, not_then}
-use Rattle.dl_types.proofs.Values.{some_values, few_values}
-use Rattle.dl_types.proofs.Shared.{equal_probabilities, all_left, all_shared}
-use Rattle.dl_types.proofs.FineLists.{coarse}
+use Rattle.dl_read.specs.Kept.{IsListRead}
+use Rattle.dl_amounts.specs.Parts.{AreProbabilities}
+use Rattle.dl_read.proofs.Nothing.{else_first, not_at, not_then}
+use Rattle.dl_amounts.proofs.Values.{some_values, few_values}
+use Rattle.dl_amounts.proofs.Shared.{equal_probabilities, all_left, all_shared}
+use Rattle.dl_amounts.proofs.FineLists.{coarse}
 use Rattle.dl_types.proofs.ListedCounts.{counts_read, second_read}
 
 none_of : (a b d m e : Bool) → (a || b || d || m || e) ≡ false → (a ≡ false) × (b ≡ false) × (d ≡ false)

@@ -9,13 +9,13 @@ use Rattle.dl_plan.specs.Valid.{IsValidUnit, IsValid}
 use Rattle.dl_types.specs.declared.fault.TypeFault.{TypeFault}
 use Rattle.dl_types.specs.declared.fault.CheckFault.{CheckFault}
 use Rattle.dl_types.specs.declared.fault.CheckFault.TheVariants.{Typing, OutOfMemory}
-use Rattle.dl_types.specs.First.{in_turn}
+use Rattle.dl_read.specs.First.{in_turn}
 use Rattle.std.specs.List.{AllZip}
 use Rattle.dl_types.specs.Faults.{cells_of, first_fault_of, first_fault}
 use Rattle.dl_types.specs.Plans.{IsUnitOf, IsPlanOf}
 
 -- a check of some rules tells their first fault, or that there is none
-abbrev pub Tells : Option TypeFault → Result Unit CheckFault → Type 0
+abbrev pub Tells : {A : Type 0} → Option TypeFault → Result A CheckFault → Type 0
 Tells fault (Ok _) = fault ≡ None
 Tells fault (Err (Typing f)) = fault ≡ Some f
 Tells fault (Err OutOfMemory) = Unit {0}

@@ -13,11 +13,12 @@ use Rattle.dl_ast.specs.declared.ast.Cession.{Cession}
 use Rattle.dl_ast.specs.declared.ast.UnitAst.{UnitAst}
 use Rattle.dl_ast.specs.declared.ast.CountAst.{CountAst}
 use Rattle.dl_ast.specs.declared.ast.CountAst.TheVariants.{Exposed, Listed}
-use Rattle.dl_types.specs.First.{each_of}
-use Rattle.dl_types.specs.Numerals.{value}
-use Rattle.dl_types.specs.Lists.{values_of, itself, is_fine, is_admitted}
-use Rattle.dl_types.specs.Clauses.{shares_of}
-use Rattle.dl_types.specs.Severity.{severity_in_layer, final_severity, mixture_shares}
+use Rattle.dl_read.specs.First.{each_of}
+use Rattle.dl_read.specs.Numerals.{value}
+use Rattle.dl_read.specs.Lists.{values_of, itself, is_fine, is_admitted}
+use Rattle.dl_amounts.specs.Clauses.{shares_of}
+use Rattle.dl_amounts.specs.Severity.{severity_in_layer, final_severity, mixture_shares}
+use Rattle.dl_amounts.specs.FineParts.{has_severity}
 
 -- the exposure of a count that has one
 abbrev pub exposure_of : CountAst → Option Exposure
@@ -40,11 +41,6 @@ expected_count bs u (Claims n _) = value n
 expected_count bs u (Loss n _) = value n /ℚ mean_in_money bs u
 expected_count bs u (Premium p r _) = value p *ℚ value r /ℚ mean_in_money bs u
 
--- the severity's lists of probabilities and its mixture are fine
-abbrev pub has_severity : Fraction → SevAst → Bool
-has_severity bs s =
-    list_all (λ l. is_fine (values_of l)) (flat_map (λ a. each_of itself a.probs) s.atoms ++ each_of itself s.weights) && is_fine (mixture_shares bs s)
-
 -- the expected count is there: a loss or a premium needs the severity
 abbrev pub has_count : Fraction → UnitAst → Exposure → Bool
 has_count bs u (Claims n _) = true
@@ -59,10 +55,14 @@ has_admitted bs u exposure = has_count bs u exposure && is_admitted (expected_co
 abbrev pub GivesAdmitted : Option Fraction → Bool → Fraction → Type 0
 GivesAdmitted answer has x = MatchOption answer ((has && is_admitted x) ≡ false) (λ n. (n ≡ x) × ((has && is_admitted x) ≡ true))
 
--- the shares of a clause, if there is one, are fine
-abbrev pub has_shares : Option Cession → Bool
-has_shares None = true
-has_shares (Some c) = is_fine (shares_of c)
+-- the answer is the expected count of an exposure, where it is there and admitted
+abbrev pub IsCounted : Fraction → UnitAst → Exposure → Option Fraction → Type 0
+IsCounted bs u exposure count =
+    MatchOption count (has_admitted bs u exposure ≡ false) (λ n. (n ≡ expected_count bs u exposure) × (has_admitted bs u exposure ≡ true))
+
+-- and of the exposure of the unit, if it has one
+abbrev pub IsExpected : Fraction → UnitAst → Option Fraction → Type 0
+IsExpected bs u count = (exposure : Exposure) → exposure_of u.count ≡ Some exposure → IsCounted bs u exposure count
 
 -- a Poisson or a gamma count: there is no greatest number of claims
 abbrev pub is_unbounded : FreqAst → Bool
@@ -78,6 +78,10 @@ thinned bs u number = number *ℚ (whole 1 -ℚ probability (final_severity bs u
 
 abbrev pub thinned_mean : Fraction → UnitAst → Exposure → Fraction
 thinned_mean bs u exposure = thinned bs u (expected_count bs u exposure)
+
+-- the answer is that of so many claims, where it is admitted
+abbrev pub IsThinned : Fraction → UnitAst → Fraction → Option Fraction → Type 0
+IsThinned bs u number mean = MatchOption mean (is_admitted (thinned bs u number) ≡ false) (λ m. (m ≡ thinned bs u number) × (is_admitted (thinned bs u number) ≡ true))
 
 -- the shape of a gamma factor with this coefficient of variation
 abbrev pub shape_of : Fraction → Fraction

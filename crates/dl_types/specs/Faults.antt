@@ -8,8 +8,10 @@ use Rattle.dl_plan.specs.declared.settings.Settings.{Settings}
 use Rattle.dl_types.specs.declared.rule.Rule.{Rule}
 use Rattle.dl_types.specs.declared.rule.Rule.TheVariants as rules
 use Rattle.dl_types.specs.declared.fault.TypeFault.{TypeFault}
-use Rattle.dl_types.specs.First.{◌else◌, in_turn}
-use Rattle.dl_types.specs.Rules.{duplicate_name, bad_numeral, bad_range, list_too_long, lengths_differ, not_one, off_grid, too_far, weights_differ, none_above, overlap, share_above_one, off_grid_cession, zero_mean, count_not_whole, count_above_one, trials_not_whole, shape_not_whole, too_fine, too_many_claims, horizon_too_large, too_many_units}
+use Rattle.dl_read.specs.First.{◌else◌, in_turn}
+use Rattle.dl_types.specs.Rules.{duplicate_name, zero_mean, count_not_whole, count_above_one, trials_not_whole, shape_not_whole, too_fine, too_many_claims, horizon_too_large, too_many_units}
+use Rattle.dl_amounts.specs.Rules.{lengths_differ, not_one, off_grid, too_far, weights_differ, none_above, overlap, share_above_one, off_grid_cession}
+use Rattle.dl_read.specs.Rules.{bad_numeral, bad_range, list_too_long}
 
 -- the rule is broken by a unit at a place
 abbrev pub breaks : ℕ → Rule → Option Span → Option TypeFault

@@ -4,10 +4,12 @@ use Rattle.std.specs.List.{list_any}
 use Rattle.dl_ast.specs.declared.ast.ListAst.{ListAst}
 use Rattle.dl_ast.specs.declared.ast.CountAst.{CountAst}
 use Rattle.dl_ast.specs.declared.ast.CountAst.TheVariants.{Exposed, Listed}
-use Rattle.dl_types.specs.First.{within}
-use Rattle.dl_types.specs.Lists.{values_of, probs_of, is_whole}
-use Rattle.dl_types.specs.Rules.{other_length, passes}
-use Rattle.dl_types.specs.Parts.{IsListRead, AreProbabilities}
+use Rattle.dl_read.specs.First.{within}
+use Rattle.dl_read.specs.Lists.{values_of, probs_of, is_whole}
+use Rattle.dl_amounts.specs.Rules.{other_length}
+use Rattle.dl_types.specs.Rules.{passes}
+use Rattle.dl_read.specs.Kept.{IsListRead}
+use Rattle.dl_amounts.specs.Parts.{AreProbabilities}
 
 abbrev pub IsListed : CountAst → Type 0
 IsListed (Exposed exposure freq) = ⊥

@@ -18,10 +18,10 @@ use Rattle.dl_ast.specs.declared.ast.Cession.{Cession}
 use Rattle.dl_ast.specs.declared.ast.UnitAst.{UnitAst}
 use Rattle.dl_ast.specs.declared.ast.Program.{Program}
 use Rattle.std.specs.List.{AllZip}
-use Rattle.dl_types.specs.Numerals.{value}
-use Rattle.dl_types.specs.Lists.{values_of, probs_of}
-use Rattle.dl_types.specs.Clauses.{clause_of}
-use Rattle.dl_types.specs.Severity.{final_severity}
+use Rattle.dl_read.specs.Numerals.{value}
+use Rattle.dl_read.specs.Lists.{values_of, probs_of}
+use Rattle.dl_amounts.specs.Clauses.{clause_of}
+use Rattle.dl_amounts.specs.Severity.{final_severity}
 use Rattle.dl_types.specs.Exposures.{expected_count, shape_of}
 use Rattle.dl_types.specs.Faults.{cells_of}
 

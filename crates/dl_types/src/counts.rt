@@ -6,22 +6,19 @@ ghost use Rattle.dl_exact.specs.Fraction.{Fraction};
 ghost use Rattle.dl_plan.specs.Fine.{IsAdmitted};
 ghost use Rattle.dl_plan.specs.Severity.{Means};
 ghost use Rattle.dl_plan.specs.Count.{IsCount, expected_count};
-ghost use Rattle.dl_types.specs.First.{at_if};
-ghost use Rattle.dl_types.specs.Lists.{values_of, is_whole};
+ghost use Rattle.dl_read.specs.First.{at_if};
+ghost use Rattle.dl_read.specs.Lists.{values_of, is_whole};
 ghost use Rattle.dl_types.specs.Listed.{IsListed, AreCounts};
-ghost use Rattle.dl_types.specs.Parts.{IsListRead};
+ghost use Rattle.dl_read.specs.Kept.{IsListRead, IsRead};
 ghost use Rattle.dl_types.specs.Plans.{count_pairs, IsTableOf};
 ghost use Rattle.dl_types.specs.Rules.{count_not_whole, too_many_claims, passes};
-ghost use Rattle.dl_types.specs.Kept.{IsRead};
 
-use crate::atoms::list_probs;
-use crate::lists::list_values;
-use crate::places::place_if;
-use crate::severity::whole_weights;
+use dl_amounts::{list_probs, whole_weights};
 use dl_ast::{CountAst, ListAst, UnitAst};
 use dl_frac::Frac;
 use dl_lexer::Span;
 use dl_plan::{Freq, Sev};
+use dl_read::{list_values, place_if};
 use dl_sev::merge;
 use std::alloc::{AllocError, Global};
 
@@ -118,7 +115,7 @@ fn weighed_counts(
 {
     let values = list_values(alloc, counts)?;
     let numbers = numbers_of(alloc, &values)?;
-    let shares = list_probs(alloc, counts, probs)?;
+    let shares = list_probs(alloc, counts, probs, values.len())?;
     let weights = whole_weights(alloc, &shares)?;
     merge(alloc, &numbers, &weights)
 }

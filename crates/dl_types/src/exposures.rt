@@ -1,71 +1,54 @@
 //! The exposure of a unit, and its expected claim count.
 
-ghost use Rattle.std.specs.Prelude.{◌≡◌, nat_lt, not, true, false, None, Some, IfOk, IsSome};
+ghost use Rattle.std.specs.Prelude.{◌≡◌, nat_lt, not, true, false, None, Some, IfOk};
 ghost use Rattle.std.specs.List.{list_any};
-ghost use Rattle.std.specs.Option.{MatchOption};
 ghost use Rattle.dl_exact.specs.Fraction.{whole, ◌*ℚ◌, ◌/ℚ◌, ◌<ℚ◌};
-ghost use Rattle.dl_plan.specs.Severity.{mean_amount};
+ghost use Rattle.dl_plan.specs.Severity.{mean_amount, Means};
 ghost use Rattle.dl_ast.specs.declared.ast.FreqAst.{FreqAst as FreqOfText};
 ghost use Rattle.dl_ast.specs.declared.ast.CountAst.TheVariants.{Exposed};
-ghost use Rattle.dl_types.specs.First.{at_if};
-ghost use Rattle.dl_types.specs.Lists.{is_whole, is_above};
-ghost use Rattle.dl_types.specs.Severity.{severity_in_layer};
-ghost use Rattle.dl_types.specs.Exposures.{exposure_of, expected_count, mean_in_money, has_severity, has_admitted, GivesAdmitted};
-ghost use Rattle.dl_types.specs.Rules.{not_one, has_no_loss, zero_mean, zero_mean_of, exposure_span, count_not_whole, count_not_whole_of, count_above_one, count_above_one_of, trials_not_whole, trials_not_whole_of, shape_not_whole, off_grid_cession, too_fine, too_many_claims};
-ghost use Rattle.dl_types.specs.Kept.{IsBucket, IsRead, IsOnGrid, IsLayered};
+ghost use Rattle.dl_read.specs.Lists.{is_whole, is_above};
+ghost use Rattle.dl_read.specs.Kept.{IsRead};
+ghost use Rattle.dl_amounts.specs.Severity.{severity_in_layer, support};
+ghost use Rattle.dl_amounts.specs.FineParts.{has_severity, IsWeighed};
+ghost use Rattle.dl_plan.specs.Ranges.{IsBucket};
+ghost use Rattle.dl_amounts.specs.Kept.{IsOnGrid};
+ghost use Rattle.dl_types.specs.Exposures.{exposure_of, mean_in_money, GivesAdmitted, IsCounted, IsExpected};
+ghost use Rattle.dl_types.specs.Claimed.{IsClaimsOf};
+ghost use Rattle.dl_types.specs.Rules.{has_no_loss, zero_mean, zero_mean_of, exposure_span, count_not_whole, count_not_whole_of, count_above_one, count_above_one_of, trials_not_whole, trials_not_whole_of, shape_not_whole, too_fine, too_many_claims};
 
+use crate::claims::Claims;
 use crate::counts;
-use crate::fine::severity_too_fine;
 use crate::frequencies::{exposed_too_many, has_no_shape};
-use crate::numerals::value;
-use crate::places::place_if;
 use crate::ratio::Ratio;
-use crate::severity::{mixture_is_fine, severity_in_layer};
-use crate::support::support_in_layer;
 use dl_ast::{CountAst, Exposure, FreqAst, UnitAst};
 use dl_frac::Frac;
 use dl_lexer::Span;
+use dl_plan::Sev;
+use dl_read::{place_if, value};
 use dl_sev::mean;
 use std::alloc::{AllocError, Global};
 
-/// The place of a loss or a premium where the severity in the layer has no amount above 0.
-pub(crate) fn zero_mean(alloc: Global, unit: &UnitAst, bs: Frac) -> Result<Option<Span>, AllocError>
-    requires bucket { IsBucket bs }
-    requires on_grid { IsOnGrid bs unit.now }
-    ensures { IfOk result (λ place. place ≡ zero_mean bs unit.now) }
+/// The place of a loss or a premium where no amount of the severity in the layer is above 0.
+pub(crate) fn zero_mean(unit: &UnitAst, bs: Frac, amounts: &[u32]) -> Option<Span>
+    requires amounts { amounts.now ≡ support (severity_in_layer bs unit.now) }
+    ensures { result ≡ zero_mean bs unit.now }
 {
     match &unit.count {
-        CountAst::Exposed { exposure, .. } => zero_mean_of(alloc, unit, exposure, bs),
-        CountAst::Listed { .. } => Ok(None),
+        CountAst::Exposed { exposure, .. } => zero_mean_of(unit, exposure, bs, amounts),
+        CountAst::Listed { .. } => None,
     }
 }
 
 /// The place of an exposure that is a loss or a premium, where no amount is above 0.
-fn zero_mean_of(
-    alloc: Global,
-    unit: &UnitAst,
-    exposure: &Exposure,
-    bs: Frac,
-) -> Result<Option<Span>, AllocError>
-    requires bucket { IsBucket bs }
-    requires on_grid { IsOnGrid bs unit.now }
-    ensures { IfOk result (λ place. (freq : FreqOfText) → place ≡ zero_mean_of bs unit.now (Exposed exposure.now freq)) }
+fn zero_mean_of(unit: &UnitAst, exposure: &Exposure, bs: Frac, amounts: &[u32]) -> Option<Span>
+    requires amounts { amounts.now ≡ support (severity_in_layer bs unit.now) }
+    ensures { (freq : FreqOfText) → result ≡ zero_mean_of bs unit.now (Exposed exposure.now freq) }
 {
     match exposure {
-        Exposure::Claims(_, _) => Ok(None),
-        Exposure::Loss(_, span) => no_loss(alloc, unit, *span, bs),
-        Exposure::Premium { span, .. } => no_loss(alloc, unit, *span, bs),
+        Exposure::Claims(_, _) => None,
+        Exposure::Loss(_, span) => place_if(!is_any_above_zero(amounts), *span),
+        Exposure::Premium { span, .. } => place_if(!is_any_above_zero(amounts), *span),
     }
-}
-
-/// The place, where no amount is above 0.
-fn no_loss(alloc: Global, unit: &UnitAst, place: Span, bs: Frac) -> Result<Option<Span>, AllocError>
-    requires bucket { IsBucket bs }
-    requires on_grid { IsOnGrid bs unit.now }
-    ensures { IfOk result (λ made. made ≡ at_if (has_no_loss bs unit.now) place) }
-{
-    let amounts = support_in_layer(alloc, unit, bs)?;
-    Ok(place_if(!is_any_above_zero(&amounts), place))
 }
 
 /// Whether an amount is above 0.
@@ -75,87 +58,81 @@ fn is_any_above_zero(amounts: &[u32]) -> bool
     amounts.iter().any(|&amount| amount > 0)
 }
 
-/// Whether the lists of probabilities of the severity and its mixture are fine.
-pub(crate) fn has_severity(alloc: Global, unit: &UnitAst, bs: Frac) -> Result<bool, AllocError>
-    requires bucket { IsBucket bs }
+/// The mean of the severity in the layer, in buckets, of which an amount is above 0.
+fn mean_in_layer(unit: &UnitAst, bs: Frac, layered: &Sev) -> Frac
     requires on_grid { IsOnGrid bs unit.now }
-    requires one { not_one unit.now ≡ None }
-    requires exposed { IsSome (exposure_of unit.now.count) }
-    ensures { IfOk result (λ fine. fine ≡ has_severity bs unit.now.sev) }
-{
-    let coarse = severity_too_fine(alloc, &unit.sev)?;
-    if coarse {
-        return Ok(false);
-    }
-    mixture_is_fine(alloc, unit, bs)
-}
-
-/// The mean of the severity in the layer, in buckets. Its lists of probabilities and its mixture are
-/// fine, and an amount is above 0.
-fn mean_in_layer(alloc: Global, unit: &UnitAst, bs: Frac) -> Result<Frac, AllocError>
-    requires bucket { IsBucket bs }
-    requires layered { IsLayered bs unit.now }
-    requires one { not_one unit.now ≡ None }
-    requires exposed { IsSome (exposure_of unit.now.count) }
-    requires fine { has_severity bs unit.now.sev ≡ true }
+    requires layered { Means layered.now (severity_in_layer bs unit.now) }
     requires loss { has_no_loss bs unit.now ≡ false }
-    ensures mean { IfOk result (λ mean. mean ≡ mean_amount (severity_in_layer bs unit.now)) }
-    ensures above { IfOk result (λ mean. whole 0 <ℚ mean) }
+    ensures mean { result ≡ mean_amount (severity_in_layer bs unit.now) }
+    ensures above { whole 0 <ℚ result }
 {
-    let severity = severity_in_layer(alloc, unit, bs)?;
-    Ok(mean(&severity))
+    mean(layered)
 }
 
 /// `amount` times `share` over the expected severity in money, where that is there and both parts of
 /// the quotient are below 2^48.
 fn over_mean(
-    alloc: Global,
     unit: &UnitAst,
     amount: Frac,
     share: Frac,
     bs: Frac,
-) -> Result<Option<Frac>, AllocError>
+    layered: &Option<Sev>,
+) -> Option<Frac>
     requires bucket { IsBucket bs }
-    requires layered { IsLayered bs unit.now }
-    requires one { not_one unit.now ≡ None }
-    requires exposed { IsSome (exposure_of unit.now.count) }
+    requires on_grid { IsOnGrid bs unit.now }
+    requires layered { IsWeighed bs unit.now layered.now }
     requires loss { has_no_loss bs unit.now ≡ false }
-    ensures { IfOk result (λ count. GivesAdmitted count (has_severity bs unit.now.sev) (amount *ℚ share /ℚ mean_in_money bs unit.now)) }
+    ensures { GivesAdmitted result (has_severity bs unit.now.sev) (amount *ℚ share /ℚ mean_in_money bs unit.now) }
 {
-    let fine = has_severity(alloc, unit, bs)?;
-    if !fine {
-        return Ok(None);
+    match layered {
+        Some(severity) => {
+            let mean = mean_in_layer(unit, bs, severity);
+            Ratio::of(amount, bs).times(Ratio::of(share, mean))
+        }
+        None => None,
     }
-    let mean = mean_in_layer(alloc, unit, bs)?;
-    Ok(Ratio::of(amount, bs).times(Ratio::of(share, mean)))
 }
 
-/// The expected claim count, where it is there and both parts of it are below 2^48. The exposure is
-/// that of the unit.
-pub(crate) fn expected_count(
-    alloc: Global,
+/// The expected claim count of the exposure, if the unit has one, where that count is there and both
+/// parts of it are below 2^48. The severity in the layer is there where it can be weighed.
+pub(crate) fn expected_count(unit: &UnitAst, bs: Frac, layered: &Option<Sev>) -> Option<Frac>
+    requires bucket { IsBucket bs }
+    requires on_grid { IsOnGrid bs unit.now }
+    requires layered { IsWeighed bs unit.now layered.now }
+    requires above { zero_mean bs unit.now ≡ None }
+    ensures { IsExpected bs unit.now result }
+{
+    match &unit.count {
+        CountAst::Exposed { exposure, .. } => exposed_claims(unit, exposure, bs, layered),
+        CountAst::Listed { .. } => None,
+    }
+}
+
+/// The expected claim count of an exposure, which is that of the unit.
+fn exposed_claims(
     unit: &UnitAst,
     exposure: &Exposure,
     bs: Frac,
-) -> Result<Option<Frac>, AllocError>
+    layered: &Option<Sev>,
+) -> Option<Frac>
     requires bucket { IsBucket bs }
-    requires layered { IsLayered bs unit.now }
-    requires one { not_one unit.now ≡ None }
+    requires on_grid { IsOnGrid bs unit.now }
+    requires layered { IsWeighed bs unit.now layered.now }
     requires above { zero_mean bs unit.now ≡ None }
     requires exposed { exposure_of unit.now.count ≡ Some exposure.now }
-    ensures { IfOk result (λ count. MatchOption count (has_admitted bs unit.now exposure.now ≡ false) (λ n. (n ≡ expected_count bs unit.now exposure.now) × (has_admitted bs unit.now exposure.now ≡ true))) }
+    ensures { IsCounted bs unit.now exposure.now result }
 {
     match exposure {
-        Exposure::Claims(number, _) => Ok(Some(value(number))),
-        Exposure::Loss(number, _) => over_mean(alloc, unit, value(number), one(), bs),
+        Exposure::Claims(number, _) => Some(value(number)),
+        Exposure::Loss(number, _) => over_mean(unit, value(number), one(), bs, layered),
         Exposure::Premium { amount, ratio, .. } => {
-            over_mean(alloc, unit, value(amount), value(ratio), bs)
+            over_mean(unit, value(amount), value(ratio), bs, layered)
         }
     }
 }
 
 /// One.
-fn one() -> Frac
+pub(crate) fn one() -> Frac
     ensures { result ≡ whole 1 }
 {
     Frac::make(1, 1).unwrap()
@@ -177,86 +154,68 @@ pub(crate) fn count_not_whole(
     alloc: Global,
     unit: &UnitAst,
     bs: Frac,
+    count: Option<Frac>,
 ) -> Result<Option<Span>, AllocError>
-    requires bucket { IsBucket bs }
-    requires layered { IsLayered bs unit.now }
-    requires one { not_one unit.now ≡ None }
-    requires above { zero_mean bs unit.now ≡ None }
+    requires read { IsRead unit.now }
+    requires count { IsExpected bs unit.now count }
     ensures { IfOk result (λ place. place ≡ count_not_whole bs unit.now) }
 {
     match &unit.count {
-        CountAst::Exposed { exposure, freq } => { fixed_not_whole(alloc, unit, exposure, freq, bs) }
+        CountAst::Exposed { exposure, freq } => {
+            Ok(fixed_not_whole(unit, exposure, freq, bs, count))
+        }
         CountAst::Listed { .. } => counts::count_not_whole(alloc, unit),
     }
 }
 
 /// The place of a fixed count that is not whole.
 fn fixed_not_whole(
-    alloc: Global,
     unit: &UnitAst,
     exposure: &Exposure,
     freq: &FreqAst,
     bs: Frac,
-) -> Result<Option<Span>, AllocError>
-    requires bucket { IsBucket bs }
-    requires layered { IsLayered bs unit.now }
-    requires one { not_one unit.now ≡ None }
-    requires above { zero_mean bs unit.now ≡ None }
-    requires exposed { unit.now.count ≡ Exposed exposure.now freq.now }
-    ensures { IfOk result (λ place. place ≡ count_not_whole_of bs unit.now (Exposed exposure.now freq.now)) }
+    count: Option<Frac>,
+) -> Option<Span>
+    requires count { IsCounted bs unit.now exposure.now count }
+    ensures { result ≡ count_not_whole_of bs unit.now (Exposed exposure.now freq.now) }
 {
     if !matches!(freq, FreqAst::Fixed(_)) {
-        return Ok(None);
+        return None;
     }
-    let count = expected_count(alloc, unit, exposure, bs)?;
     match count {
-        Some(number) => Ok(place_if(number.den() != 1, exposure_place(exposure))),
-        None => Ok(None),
+        Some(number) => place_if(number.den() != 1, exposure_place(exposure)),
+        None => None,
     }
 }
 
 /// The place of an expected count above 1 for a count of at most one claim.
-pub(crate) fn count_above_one(
-    alloc: Global,
-    unit: &UnitAst,
-    bs: Frac,
-) -> Result<Option<Span>, AllocError>
-    requires bucket { IsBucket bs }
-    requires layered { IsLayered bs unit.now }
-    requires one { not_one unit.now ≡ None }
-    requires above { zero_mean bs unit.now ≡ None }
-    ensures { IfOk result (λ place. place ≡ count_above_one bs unit.now) }
+pub(crate) fn count_above_one(unit: &UnitAst, bs: Frac, count: Option<Frac>) -> Option<Span>
+    requires count { IsExpected bs unit.now count }
+    ensures { result ≡ count_above_one bs unit.now }
 {
     match &unit.count {
-        CountAst::Exposed { exposure, freq } => {
-            single_above_one(alloc, unit, exposure, freq, bs)
-        }
-        CountAst::Listed { .. } => Ok(None),
+        CountAst::Exposed { exposure, freq } => single_above_one(unit, exposure, freq, bs, count),
+        CountAst::Listed { .. } => None,
     }
 }
 
 /// The place of an expected count above 1 for a count of at most one claim.
 fn single_above_one(
-    alloc: Global,
     unit: &UnitAst,
     exposure: &Exposure,
     freq: &FreqAst,
     bs: Frac,
-) -> Result<Option<Span>, AllocError>
-    requires bucket { IsBucket bs }
-    requires layered { IsLayered bs unit.now }
-    requires one { not_one unit.now ≡ None }
-    requires above { zero_mean bs unit.now ≡ None }
-    requires exposed { unit.now.count ≡ Exposed exposure.now freq.now }
-    ensures { IfOk result (λ place. place ≡ count_above_one_of bs unit.now (Exposed exposure.now freq.now)) }
+    count: Option<Frac>,
+) -> Option<Span>
+    requires count { IsCounted bs unit.now exposure.now count }
+    ensures { result ≡ count_above_one_of bs unit.now (Exposed exposure.now freq.now) }
 {
     if !matches!(freq, FreqAst::Bernoulli(_)) {
-        return Ok(None);
+        return None;
     }
-    let count = expected_count(alloc, unit, exposure, bs)?;
     match count {
-        Some(number) => Ok(place_if(is_above_one(number), exposure_place(exposure))),
-        None => Ok(None),
+        Some(number) => place_if(is_above_one(number), exposure_place(exposure)),
+        None => None,
     }
 }
 
@@ -268,49 +227,40 @@ fn is_above_one(value: Frac) -> bool
 }
 
 /// The place of trials that are no whole number, or whose probability is 0 or above 1.
-pub(crate) fn trials_not_whole(
-    alloc: Global,
-    unit: &UnitAst,
-    bs: Frac,
-) -> Result<Option<Span>, AllocError>
-    requires bucket { IsBucket bs }
-    requires layered { IsLayered bs unit.now }
-    requires one { not_one unit.now ≡ None }
-    requires above { zero_mean bs unit.now ≡ None }
-    ensures { IfOk result (λ place. place ≡ trials_not_whole bs unit.now) }
+pub(crate) fn trials_not_whole(unit: &UnitAst, bs: Frac, count: Option<Frac>) -> Option<Span>
+    requires read { IsRead unit.now }
+    requires count { IsExpected bs unit.now count }
+    ensures { result ≡ trials_not_whole bs unit.now }
 {
     match &unit.count {
-        CountAst::Exposed { exposure, freq } => { trials_of(alloc, unit, exposure, freq, bs) }
-        CountAst::Listed { .. } => Ok(None),
+        CountAst::Exposed { exposure, freq } => trials_of(unit, exposure, freq, bs, count),
+        CountAst::Listed { .. } => None,
     }
 }
 
 /// The place of trials that are no whole number, or whose probability is 0 or above 1.
 fn trials_of(
-    alloc: Global,
     unit: &UnitAst,
     exposure: &Exposure,
     freq: &FreqAst,
     bs: Frac,
-) -> Result<Option<Span>, AllocError>
-    requires bucket { IsBucket bs }
-    requires layered { IsLayered bs unit.now }
-    requires one { not_one unit.now ≡ None }
-    requires above { zero_mean bs unit.now ≡ None }
+    count: Option<Frac>,
+) -> Option<Span>
+    requires read { IsRead unit.now }
+    requires count { IsCounted bs unit.now exposure.now count }
     requires exposed { unit.now.count ≡ Exposed exposure.now freq.now }
-    ensures { IfOk result (λ place. place ≡ trials_not_whole_of bs unit.now (Exposed exposure.now freq.now)) }
+    ensures { result ≡ trials_not_whole_of bs unit.now (Exposed exposure.now freq.now) }
 {
     let FreqAst::Binomial(number, span) = freq else {
-        return Ok(None);
+        return None;
     };
     let chance = value(number);
     if chance.num() == 0 || is_above_one(chance) {
-        return Ok(Some(*span));
+        return Some(*span);
     }
-    let count = expected_count(alloc, unit, exposure, bs)?;
     match count {
-        Some(number) => Ok(place_if(is_no_multiple(number, chance), *span)),
-        None => Ok(None),
+        Some(number) => place_if(is_no_multiple(number, chance), *span),
+        None => None,
     }
 }
 
@@ -344,12 +294,10 @@ pub(crate) fn too_many_claims(
     alloc: Global,
     unit: &UnitAst,
     bs: Frac,
+    claims: &Claims,
 ) -> Result<Option<Span>, AllocError>
-    requires bucket { IsBucket bs }
-    requires layered { IsLayered bs unit.now }
-    requires one { not_one unit.now ≡ None }
-    requires ceded { off_grid_cession bs unit.now ≡ None }
-    requires above { zero_mean bs unit.now ≡ None }
+    requires read { IsRead unit.now }
+    requires claims { IsClaimsOf bs unit.now claims.now }
     requires trials { trials_not_whole bs unit.now ≡ None }
     requires shape { shape_not_whole unit.now ≡ None }
     requires fine { too_fine bs unit.now ≡ None }
@@ -358,7 +306,7 @@ pub(crate) fn too_many_claims(
     match &unit.count {
         CountAst::Listed { .. } => counts::too_many_claims(alloc, unit),
         CountAst::Exposed { exposure, freq } => {
-            let many = exposed_too_many(alloc, unit, exposure, freq, bs)?;
+            let many = exposed_too_many(unit, exposure, freq, bs, claims);
             Ok(place_if(many, unit.name.span))
         }
     }

@@ -1,84 +1,98 @@
 //! Whether all the fractions of a unit are fine.
 
-ghost use Rattle.std.specs.Prelude.{◌≡◌, ◌++◌, ◌||◌, ◌&&◌, Some, None, false, not, flat_map, IfOk, IfSome, All};
+ghost use Rattle.std.specs.Prelude.{◌≡◌, ◌||◌, ◌&&◌, Some, None, false, not, IfOk, IfSome, All};
 ghost use Rattle.std.specs.List.{list_any};
-ghost use Rattle.dl_types.specs.First.{each_of};
-ghost use Rattle.dl_types.specs.Lists.{values_of, itself, lists_in_count, lists_in_severity, probs_in_count, prob_lists_of, is_fine, is_admitted};
-ghost use Rattle.dl_types.specs.Exposures.{has_shares, exposure_of, expected_loss, is_unbounded, thinned};
-ghost use Rattle.dl_types.specs.FineParts.{fractions_too_fine};
-ghost use Rattle.dl_types.specs.Parts.{IsListRead};
-ghost use Rattle.dl_types.specs.ClausesKept.{IsClauseLayered};
-ghost use Rattle.dl_types.specs.Rules.{not_one, off_grid_cession, too_fine, zero_mean, loss_too_fine, exposed_too_fine};
-ghost use Rattle.dl_types.specs.Kept.{IsBucket, IsRead, IsLayered, IsFineSev};
+ghost use Rattle.dl_plan.specs.Severity.{Means};
+ghost use Rattle.dl_read.specs.Lists.{values_of, lists_in_count, probs_in_count, is_fine, is_admitted};
+ghost use Rattle.dl_read.specs.Kept.{IsListRead, IsRead};
+ghost use Rattle.dl_amounts.specs.Severity.{final_severity};
+ghost use Rattle.dl_amounts.specs.FineParts.{has_shares, fractions_too_fine, IsWeighed};
+ghost use Rattle.dl_amounts.specs.ClausesKept.{IsClauseLayered};
+ghost use Rattle.dl_amounts.specs.Rules.{not_one, off_grid_cession};
+ghost use Rattle.dl_plan.specs.Ranges.{IsBucket};
+ghost use Rattle.dl_amounts.specs.Kept.{IsLayered};
+ghost use Rattle.dl_types.specs.Exposures.{exposure_of, expected_loss, is_unbounded, thinned};
+ghost use Rattle.dl_types.specs.Claimed.{IsFineSeverity, IsClaimsOf};
+ghost use Rattle.dl_types.specs.Rules.{loss_too_fine, exposed_too_fine, too_fine};
 
-use crate::clauses::clause;
-use crate::exposures::expected_count;
-use crate::lists::list_values;
-use crate::numerals::value;
-use crate::places::place_if;
-use crate::severity::mixture_is_fine;
-use crate::thinned::thinned_mean;
-use dl_ast::{Cession, CountAst, Exposure, FreqAst, ListAst, SevAst, UnitAst};
+use crate::claims::Claims;
+use crate::thinned::thinned;
+use dl_amounts::{clause, final_severity, second_too_fine};
+use dl_ast::{Cession, CountAst, Exposure, FreqAst, UnitAst};
 use dl_frac::Frac;
 use dl_lexer::Span;
-use dl_plan::common_denominator_of;
+use dl_plan::Sev;
+use dl_read::{place_if, value};
 use std::alloc::{AllocError, Global};
 
-/// The place of a unit with fractions that are not fine, or an exposure that is not admitted.
-#[tactic(auto, unfolding(crate::specs::Rules::too_fine))]
-pub(crate) fn too_fine(alloc: Global, unit: &UnitAst, bs: Frac) -> Result<Option<Span>, AllocError>
+/// The final severity of a unit; `None` exactly where a list of probabilities, the shares of a clause,
+/// or the mixture is not fine.
+pub(crate) fn fine_severity(
+    alloc: Global,
+    unit: &UnitAst,
+    bs: Frac,
+    layered: Option<Sev>,
+) -> Result<Option<Sev>, AllocError>
     requires bucket { IsBucket bs }
-    requires layered { IsLayered bs unit.now }
+    requires unit { IsLayered bs unit.now }
     requires one { not_one unit.now ≡ None }
     requires ceded { off_grid_cession bs unit.now ≡ None }
-    requires above { zero_mean bs unit.now ≡ None }
-    ensures { IfOk result (λ place. place ≡ too_fine bs unit.now) }
+    requires layered { IsWeighed bs unit.now layered }
+    ensures { IfOk result (IsFineSeverity bs unit.now) }
 {
-    let coarse = fractions_too_fine(alloc, unit, bs)?;
+    let Some(layered) = layered else {
+        return Ok(None);
+    };
+    let coarse = parts_too_fine(alloc, unit, bs)?;
     if coarse {
-        return Ok(Some(unit.name.span));
+        return Ok(None);
     }
-    let exposed = exposed_too_fine(alloc, unit, bs)?;
-    Ok(place_if(exposed, unit.name.span))
+    let made = final_severity(alloc, unit, bs, layered)?;
+    Ok(Some(made))
 }
 
-/// Whether a list of probabilities, the shares of a clause, or the mixture is not fine.
-fn fractions_too_fine(alloc: Global, unit: &UnitAst, bs: Frac) -> Result<bool, AllocError>
+/// Whether the probabilities of listed counts, or the shares of a clause, are not fine.
+fn parts_too_fine(alloc: Global, unit: &UnitAst, bs: Frac) -> Result<bool, AllocError>
     requires bucket { IsBucket bs }
     requires layered { IsLayered bs unit.now }
-    requires one { not_one unit.now ≡ None }
-    ensures { IfOk result (λ coarse. coarse ≡ fractions_too_fine bs unit.now) }
+    ensures { IfOk result (λ coarse. coarse ≡ (list_any (λ l. not (is_fine (values_of l))) (probs_in_count unit.now.count) || not (has_shares unit.now.occ) || not (has_shares unit.now.agr))) }
 {
-    let listed = lists_too_fine(alloc, unit)?;
-    if listed {
+    let counted = count_too_fine(alloc, &unit.count)?;
+    if counted {
         return Ok(true);
     }
-    let ceded = clauses_too_fine(alloc, unit, bs)?;
-    if ceded {
-        return Ok(true);
-    }
-    let fine = mixture_is_fine(alloc, unit, bs)?;
-    Ok(!fine)
+    clauses_too_fine(alloc, unit, bs)
+}
+
+/// The place of a unit with an exposure that is not admitted. Its other fractions are fine.
+pub(crate) fn too_fine(unit: &UnitAst, bs: Frac, claims: &Claims) -> Option<Span>
+    requires read { IsRead unit.now }
+    requires fine { fractions_too_fine bs unit.now ≡ false }
+    requires claims { IsClaimsOf bs unit.now claims.now }
+    ensures { result ≡ too_fine bs unit.now }
+{
+    let coarse = exposed_too_fine(unit, bs, claims);
+    place_if(coarse, unit.name.span)
 }
 
 /// Whether the expected loss, the expected count, or for a Poisson or a gamma count the expected
 /// number of claims above 0, is not admitted. The fractions of the unit are fine.
-fn exposed_too_fine(alloc: Global, unit: &UnitAst, bs: Frac) -> Result<bool, AllocError>
-    requires bucket { IsBucket bs }
-    requires fine { IsFineSev bs unit.now }
-    requires above { zero_mean bs unit.now ≡ None }
-    ensures { IfOk result (λ coarse. coarse ≡ exposed_too_fine bs unit.now unit.now.count) }
+fn exposed_too_fine(unit: &UnitAst, bs: Frac, claims: &Claims) -> bool
+    requires read { IsRead unit.now }
+    requires fine { fractions_too_fine bs unit.now ≡ false }
+    requires claims { IsClaimsOf bs unit.now claims.now }
+    ensures { result ≡ exposed_too_fine bs unit.now unit.now.count }
 {
     match &unit.count {
-        CountAst::Listed { .. } => Ok(false),
+        CountAst::Listed { .. } => false,
         CountAst::Exposed { exposure, freq } => {
             let coarse = loss_too_fine(unit, exposure);
             if coarse {
-                return Ok(true);
+                return true;
             }
-            match expected_count(alloc, unit, exposure, bs)? {
-                Some(number) => thinned_too_fine(alloc, unit, freq, number, bs),
-                None => Ok(true),
+            match &claims.count {
+                Some(number) => thinned_too_fine(unit, freq, *number, bs, &claims.severity),
+                None => true,
             }
         }
     }
@@ -86,23 +100,16 @@ fn exposed_too_fine(alloc: Global, unit: &UnitAst, bs: Frac) -> Result<bool, All
 
 /// Whether the expected number of claims above 0, of so many, is not admitted, where the count is a
 /// Poisson or a gamma one.
-fn thinned_too_fine(
-    alloc: Global,
-    unit: &UnitAst,
-    freq: &FreqAst,
-    number: Frac,
-    bs: Frac,
-) -> Result<bool, AllocError>
-    requires bucket { IsBucket bs }
-    requires fine { IsFineSev bs unit.now }
-    ensures { IfOk result (λ coarse. coarse ≡ (is_unbounded freq.now && not (is_admitted (thinned bs unit.now number)))) }
+fn thinned_too_fine(unit: &UnitAst, freq: &FreqAst, number: Frac, bs: Frac, severity: &Sev) -> bool
+    requires severity { Means severity.now (final_severity bs unit.now) }
+    ensures { result ≡ (is_unbounded freq.now && not (is_admitted (thinned bs unit.now number))) }
 {
     match freq {
-        FreqAst::Poisson(_) => Ok(thinned_mean(alloc, unit, number, bs)?.is_none()),
-        FreqAst::Gamma(_, _) => Ok(thinned_mean(alloc, unit, number, bs)?.is_none()),
-        FreqAst::Fixed(_) => Ok(false),
-        FreqAst::Bernoulli(_) => Ok(false),
-        FreqAst::Binomial(_, _) => Ok(false),
+        FreqAst::Poisson(_) => thinned(unit, bs, severity, number).is_none(),
+        FreqAst::Gamma(_, _) => thinned(unit, bs, severity, number).is_none(),
+        FreqAst::Fixed(_) => false,
+        FreqAst::Bernoulli(_) => false,
+        FreqAst::Binomial(_, _) => false,
     }
 }
 
@@ -129,18 +136,6 @@ fn is_admitted(x: Frac) -> bool
     x.num() < 1 << 48 && x.den() < 1 << 48
 }
 
-/// Whether a list of probabilities is not fine.
-fn lists_too_fine(alloc: Global, unit: &UnitAst) -> Result<bool, AllocError>
-    requires { IsRead unit.now }
-    ensures { IfOk result (λ coarse. coarse ≡ list_any (λ l. not (is_fine (values_of l))) (prob_lists_of unit.now)) }
-{
-    let counted = count_too_fine(alloc, &unit.count)?;
-    if counted {
-        return Ok(true);
-    }
-    severity_too_fine(alloc, &unit.sev)
-}
-
 /// Whether the probabilities of listed counts are not fine.
 fn count_too_fine(alloc: Global, count: &CountAst) -> Result<bool, AllocError>
     requires { All IsListRead (lists_in_count count.now) }
@@ -150,47 +145,6 @@ fn count_too_fine(alloc: Global, count: &CountAst) -> Result<bool, AllocError>
         CountAst::Exposed { .. } => Ok(false),
         CountAst::Listed { probs, .. } => second_too_fine(alloc, probs),
     }
-}
-
-/// Whether the probabilities of an atom, or the weights of the atoms, are not fine.
-pub(crate) fn severity_too_fine(alloc: Global, sev: &SevAst) -> Result<bool, AllocError>
-    requires { All IsListRead (lists_in_severity sev.now) }
-    ensures { IfOk result (λ coarse. coarse ≡ list_any (λ l. not (is_fine (values_of l))) (flat_map (λ a. each_of itself a.probs) sev.now.atoms ++ each_of itself sev.now.weights)) }
-{
-    'atoms: for atom in sev.atoms.as_slice() {
-        let coarse = second_too_fine(alloc, &atom.probs)?;
-        if coarse {
-            return Ok(true);
-        }
-    }
-    second_too_fine(alloc, &sev.weights)
-}
-
-/// Whether a list that may be missing is not fine.
-fn second_too_fine(alloc: Global, list: &Option<ListAst>) -> Result<bool, AllocError>
-    requires { All IsListRead (each_of itself list.now) }
-    ensures { IfOk result (λ coarse. coarse ≡ list_any (λ l. not (is_fine (values_of l))) (each_of itself list.now)) }
-{
-    match list {
-        Some(list) => list_too_fine(alloc, list),
-        None => Ok(false),
-    }
-}
-
-/// Whether the values of a list are not fine.
-fn list_too_fine(alloc: Global, list: &ListAst) -> Result<bool, AllocError>
-    requires { IsListRead list.now }
-    ensures { IfOk result (λ coarse. coarse ≡ not (is_fine (values_of list.now))) }
-{
-    let values = list_values(alloc, list)?;
-    Ok(!are_fine(&values))
-}
-
-/// Whether the common denominator is at most 2^30.
-fn are_fine(values: &[Frac]) -> bool
-    ensures { result ≡ is_fine values.now }
-{
-    common_denominator_of(values).is_some()
 }
 
 /// Whether the shares of a clause are not fine.

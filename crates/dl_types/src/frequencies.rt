@@ -1,119 +1,105 @@
 //! The claim counts of exposures.
 
-ghost use Rattle.std.specs.Prelude.{◌≡◌, ◌||◌, ℕ, not, true, false, None, Some, IfOk};
+ghost use Rattle.std.specs.Prelude.{◌≡◌, ◌||◌, ℕ, not, true, false, None};
 ghost use Rattle.dl_exact.specs.Fraction.{whole, ◌/ℚ◌, ◌<ℚ◌};
 ghost use Rattle.dl_ast.specs.declared.ast.CountAst.TheVariants.{Exposed};
+ghost use Rattle.dl_plan.specs.Severity.{Means};
 ghost use Rattle.dl_plan.specs.Count.{IsCount, expected_count as expected_of_plan};
 ghost use Rattle.dl_plan.specs.Fine.{IsAdmitted};
 ghost use Rattle.dl_plan.specs.declared.plan.Freq.TheVariants as of_plan;
-ghost use Rattle.dl_types.specs.Exposures.{exposure_of, expected_count, has_admitted, thinned, shape_of};
-ghost use Rattle.dl_types.specs.Lists.{is_whole, is_zero, is_above, is_admitted};
+ghost use Rattle.dl_read.specs.Lists.{is_whole, is_zero, is_above, is_admitted};
+ghost use Rattle.dl_read.specs.Kept.{IsRead};
+ghost use Rattle.dl_amounts.specs.Severity.{final_severity};
+ghost use Rattle.dl_types.specs.Exposures.{expected_count, has_admitted, thinned, shape_of, IsCounted};
+ghost use Rattle.dl_types.specs.Claimed.{IsClaimsOf};
 ghost use Rattle.dl_types.specs.Plans.{IsCountOf};
-ghost use Rattle.dl_types.specs.Rules.{not_one, zero_mean, count_not_whole, count_above_one, trials_not_whole, shape_not_whole, too_fine, too_many_claims, has_too_many_claims, passes};
-ghost use Rattle.dl_types.specs.Kept.{IsBucket, IsLayered, IsFineSev, IsFineUnit, IsExposedUnit};
+ghost use Rattle.dl_types.specs.Rules.{trials_not_whole, shape_not_whole, too_fine, has_too_many_claims, passes};
+ghost use Rattle.dl_types.specs.Kept.{IsFineUnit, IsExposedUnit};
 
+use crate::claims::Claims;
 use crate::counts::passes;
-use crate::exposures::expected_count;
-use crate::numerals::value;
-use crate::thinned::thinned_mean;
+use crate::thinned::thinned;
 use dl_ast::{Exposure, FreqAst, UnitAst};
 use dl_frac::Frac;
-use dl_plan::Freq;
-use std::alloc::{AllocError, Global};
+use dl_plan::{Freq, Sev};
+use dl_read::value;
 
 /// Whether an exposure with an admitted expected count has too many claims.
 pub(crate) fn exposed_too_many(
-    alloc: Global,
     unit: &UnitAst,
     exposure: &Exposure,
     freq: &FreqAst,
     bs: Frac,
-) -> Result<bool, AllocError>
-    requires bucket { IsBucket bs }
-    requires sev { IsFineSev bs unit.now }
-    requires above { zero_mean bs unit.now ≡ None }
+    claims: &Claims,
+) -> bool
+    requires read { IsRead unit.now }
     requires exposed { unit.now.count ≡ Exposed exposure.now freq.now }
+    requires claims { IsClaimsOf bs unit.now claims.now }
     requires trials { trials_not_whole bs unit.now ≡ None }
     requires shape { shape_not_whole unit.now ≡ None }
     requires fine { too_fine bs unit.now ≡ None }
-    ensures { IfOk result (λ many. many ≡ has_too_many_claims bs unit.now (Exposed exposure.now freq.now)) }
+    ensures { result ≡ has_too_many_claims bs unit.now (Exposed exposure.now freq.now) }
 {
-    let number = admitted_count(alloc, unit, exposure, bs)?;
+    let number = admitted_count(unit, exposure, bs, &claims.count);
     match freq {
-        FreqAst::Fixed(_) => Ok(passes(number, 65_536)),
-        FreqAst::Bernoulli(_) => Ok(false),
-        FreqAst::Binomial(chance, _) => Ok(trials(number, value(chance)) > 65_536),
-        FreqAst::Poisson(_) => too_many_above_zero(alloc, unit, number, bs),
+        FreqAst::Fixed(_) => passes(number, 65_536),
+        FreqAst::Bernoulli(_) => false,
+        FreqAst::Binomial(chance, _) => trials(number, value(chance)) > 65_536,
+        FreqAst::Poisson(_) => too_many_above_zero(unit, number, bs, &claims.severity),
         FreqAst::Gamma(variation, _) => {
-            let many = too_many_above_zero(alloc, unit, number, bs)?;
-            Ok(many || shape(value(variation)) > 10_000)
+            let many = too_many_above_zero(unit, number, bs, &claims.severity);
+            many || shape(value(variation)) > 10_000
         }
     }
 }
 
 /// Whether of so many claims more than 4,096 are expected to be above 0.
-fn too_many_above_zero(
-    alloc: Global,
-    unit: &UnitAst,
-    number: Frac,
-    bs: Frac,
-) -> Result<bool, AllocError>
-    requires bucket { IsBucket bs }
-    requires sev { IsFineSev bs unit.now }
+fn too_many_above_zero(unit: &UnitAst, number: Frac, bs: Frac, severity: &Sev) -> bool
+    requires severity { Means severity.now (final_severity bs unit.now) }
     requires admitted { is_admitted (thinned bs unit.now number) ≡ true }
-    ensures { IfOk result (λ many. many ≡ passes (thinned bs unit.now number) 4096) }
+    ensures { result ≡ passes (thinned bs unit.now number) 4096 }
 {
-    match thinned_mean(alloc, unit, number, bs)? {
-        Some(mean) => Ok(passes(mean, 4_096)),
+    match thinned(unit, bs, severity, number) {
+        Some(mean) => passes(mean, 4_096),
         None => unreachable!(),
     }
 }
 
 /// The claim count of an exposure that breaks no rule.
 pub(crate) fn exposed_count(
-    alloc: Global,
     unit: &UnitAst,
     exposure: &Exposure,
     freq: &FreqAst,
     bs: Frac,
-) -> Result<Freq, AllocError>
-    requires bucket { IsBucket bs }
+    count: &Option<Frac>,
+) -> Freq
     requires fine { IsFineUnit bs unit.now }
     requires kept { IsExposedUnit bs unit.now }
     requires exposed { unit.now.count ≡ Exposed exposure.now freq.now }
-    ensures count { IfOk result (λ made. IsCountOf bs unit.now (Exposed exposure.now freq.now) made) }
-    ensures valid { IfOk result (λ made. IsCount made) }
-    ensures expected { IfOk result (λ made. IsAdmitted (expected_of_plan made)) }
+    requires count { IsCounted bs unit.now exposure.now count.now }
+    ensures count { IsCountOf bs unit.now (Exposed exposure.now freq.now) result }
+    ensures valid { IsCount result }
+    ensures expected { IsAdmitted (expected_of_plan result) }
 {
-    let number = admitted_count(alloc, unit, exposure, bs)?;
+    let number = admitted_count(unit, exposure, bs, count);
     match freq {
-        FreqAst::Fixed(_) => Ok(fixed_claims(number)),
-        FreqAst::Bernoulli(_) => Ok(single_claim(number)),
-        FreqAst::Binomial(chance, _) => Ok(binomial_claims(number, value(chance))),
-        FreqAst::Poisson(_) => Ok(Freq::Poisson(number)),
-        FreqAst::Gamma(variation, _) => Ok(gamma_claims(number, value(variation))),
+        FreqAst::Fixed(_) => fixed_claims(number),
+        FreqAst::Bernoulli(_) => single_claim(number),
+        FreqAst::Binomial(chance, _) => binomial_claims(number, value(chance)),
+        FreqAst::Poisson(_) => Freq::Poisson(number),
+        FreqAst::Gamma(variation, _) => gamma_claims(number, value(variation)),
     }
 }
 
-/// The expected claim count of the exposure of a unit, where it is admitted.
-fn admitted_count(
-    alloc: Global,
-    unit: &UnitAst,
-    exposure: &Exposure,
-    bs: Frac,
-) -> Result<Frac, AllocError>
-    requires bucket { IsBucket bs }
-    requires layered { IsLayered bs unit.now }
-    requires one { not_one unit.now ≡ None }
-    requires above { zero_mean bs unit.now ≡ None }
-    requires exposed { exposure_of unit.now.count ≡ Some exposure.now }
+/// The expected claim count of an exposure, where it is admitted.
+fn admitted_count(unit: &UnitAst, exposure: &Exposure, bs: Frac, count: &Option<Frac>) -> Frac
+    requires count { IsCounted bs unit.now exposure.now count.now }
     requires admitted { has_admitted bs unit.now exposure.now ≡ true }
-    ensures count { IfOk result (λ number. number ≡ expected_count bs unit.now exposure.now) }
-    ensures small { IfOk result (λ number. IsAdmitted number) }
+    ensures count { result ≡ expected_count bs unit.now exposure.now }
+    ensures small { IsAdmitted result }
 {
-    let count = expected_count(alloc, unit, exposure, bs)?;
     match count {
-        Some(number) => Ok(number),
+        Some(number) => *number,
         None => unreachable!(),
     }
 }

@@ -1,26 +1,18 @@
 //! The typing rules: what a program means, its plan, or the first rule that it breaks.
 #![tactic(auto)]
 
-mod amounts;
-mod atoms;
-mod buckets;
-mod cessions;
-mod clauses;
+mod claims;
 mod counts;
 mod exposures;
 mod fault;
 mod fine;
 mod frequencies;
+mod horizon;
 mod law;
-mod lists;
 mod names;
-mod numerals;
-mod places;
 mod program;
 mod ratio;
 mod rule;
-mod severity;
-mod support;
 #[cfg(test)]
 mod tests;
 mod thinned;

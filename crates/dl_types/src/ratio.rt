@@ -4,7 +4,7 @@ ghost use Rattle.std.specs.Prelude.{◌≡◌, ◌<◌, true, false};
 ghost use Rattle.std.specs.Option.{MatchOption};
 ghost use Rattle.dl_exact.specs.Gcd.{gcd};
 ghost use Rattle.dl_exact.specs.Fraction.{whole, ◌*ℚ◌, ◌/ℚ◌, ◌<ℚ◌};
-ghost use Rattle.dl_types.specs.Lists.{is_admitted};
+ghost use Rattle.dl_read.specs.Lists.{is_admitted};
 
 use dl_frac::Frac;
 use std::marker::Model;

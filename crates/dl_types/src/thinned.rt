@@ -1,37 +1,27 @@
 //! The claims above 0.
 
-ghost use Rattle.std.specs.Prelude.{◌≡◌, ◌<◌, true, false, length, IfOk};
-ghost use Rattle.std.specs.Option.{MatchOption};
+ghost use Rattle.std.specs.Prelude.{◌≡◌, ◌<◌, length};
 ghost use Rattle.std.specs.List.Sorted.{IsStrictlyIncreasing};
 ghost use Rattle.dl_exact.specs.Fraction.{whole, ◌-ℚ◌};
 ghost use Rattle.dl_plan.specs.Weighted.{amounts_of, weight_at};
-ghost use Rattle.dl_plan.specs.Severity.{probability_of};
-ghost use Rattle.dl_types.specs.Exposures.{thinned};
-ghost use Rattle.dl_types.specs.Lists.{is_admitted};
-ghost use Rattle.dl_types.specs.Kept.{IsBucket, IsFineSev};
+ghost use Rattle.dl_plan.specs.Severity.{probability_of, Means};
+ghost use Rattle.dl_amounts.specs.Severity.{final_severity};
+ghost use Rattle.dl_types.specs.Exposures.{IsThinned};
 
 use crate::ratio::admitted;
-use crate::severity::final_severity;
 use dl_ast::UnitAst;
 use dl_frac::Frac;
 use dl_plan::{Item, Sev};
-use std::alloc::{AllocError, Global};
 
-/// Of so many claims the expected number above 0, where both parts of it are below 2^48.
-pub(crate) fn thinned_mean(
-    alloc: Global,
-    unit: &UnitAst,
-    number: Frac,
-    bs: Frac,
-) -> Result<Option<Frac>, AllocError>
-    requires bucket { IsBucket bs }
-    requires fine { IsFineSev bs unit.now }
-    ensures { IfOk result (λ mean. MatchOption mean (is_admitted (thinned bs unit.now number) ≡ false) (λ m. (m ≡ thinned bs unit.now number) × (is_admitted (thinned bs unit.now number) ≡ true))) }
+/// Of so many claims the expected number above 0, where both parts of it are below 2^48. The severity is
+/// the final one of the unit.
+pub(crate) fn thinned(unit: &UnitAst, bs: Frac, severity: &Sev, number: Frac) -> Option<Frac>
+    requires severity { Means severity.now (final_severity bs unit.now) }
+    ensures { IsThinned bs unit.now number result }
 {
-    let severity = final_severity(alloc, unit, bs)?;
-    match number.mul(share_above_zero(&severity)) {
-        Ok(mean) => Ok(admitted(mean)),
-        Err(_) => Ok(None),
+    match number.mul(share_above_zero(severity)) {
+        Ok(mean) => admitted(mean),
+        Err(_) => None,
     }
 }
 

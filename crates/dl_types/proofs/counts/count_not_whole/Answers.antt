@@ -2,8 +2,8 @@
 use Rattle.std.proofs.Common.{◌≡◌, ◌∙◌, sym, ap, not}
 use Rattle.std.specs.List.{list_any}
 use Rattle.std.proofs.lemmas.Result.{IfOk-weaker}
-use Rattle.dl_types.specs.First.{at_if}
-use Rattle.dl_types.specs.Lists.{values_of, is_whole}
+use Rattle.dl_read.specs.First.{at_if}
+use Rattle.dl_read.specs.Lists.{values_of, is_whole}
 use Rattle.dl_types.specs.Rules.{count_not_whole, count_not_whole_of}
 use Rattle.dl_types.proofs.ListedCounts.{counts_read}
 use Rattle.dl_types.proofs.counts.count_not_whole.Goals as goal

@@ -1,15 +1,15 @@
 -- The whole weights are those of the probabilities, and the numbers are those of the counts.
-use Rattle.std.proofs.Common.{◌∙◌, ◌≤◌, length, map, zip, ap, ap₂, sym, subst, List}
+use Rattle.std.proofs.Common.{◌∙◌, ◌≤◌, length, map, zip, ap, ap₂, sym, subst, List, arith}
 use Rattle.std.specs.List.{All}
 use Rattle.std.proofs.lemmas.List.{length-map}
 use Rattle.std.proofs.lemmas.Result.{IfOk-weaker}
 use Rattle.dl_exact.specs.Fraction.{Fraction}
 use Rattle.dl_plan.specs.Severity.{probability, Means}
 use Rattle.dl_sev.specs.Steps.{weighed}
-use Rattle.dl_types.specs.Lists.{values_of}
+use Rattle.dl_read.specs.Lists.{values_of}
 use Rattle.dl_types.specs.Plans.{count_pairs}
-use Rattle.dl_types.proofs.Values.{same_length}
-use Rattle.dl_types.proofs.Mixing.{weights_length, weighed_are}
+use Rattle.dl_amounts.proofs.Values.{same_length}
+use Rattle.dl_amounts.proofs.Mixing.{weights_length, weighed_are}
 use Rattle.dl_types.proofs.ListedCounts.{small_values, small_table}
 use Rattle.dl_types.proofs.counts.weighed_counts.Goals as goal
 
@@ -43,3 +43,6 @@ pub returns-clause-few : goal.returns-clause-few
 returns-clause-few c =
     IfOk-weaker c.merge.result (λ sev. Means sev (count_pairs c.args.counts.now c.args.probs.now)) _
     (λ sev means. small_table c.args.counts.now c.args.probs.now c.requires sev means) (returns-clause-means c)
+
+pub list_probs-requires-clause-count : goal.list_probs-requires-clause-count
+list_probs-requires-clause-count c = omega (arith, c.len.ensures, c.in_ok-values.values.ok.0, ap length c.in_ok-values.ensures.values)

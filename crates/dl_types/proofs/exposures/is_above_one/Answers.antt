@@ -1,6 +1,6 @@
 -- One is a whole number.
 use Rattle.std.proofs.Common.{◌≡◌, ◌∙◌, ℕ, ◌*◌, nat_lt, sym, ap, ap₂, arith}
-use Rattle.dl_plan.proofs.Fits.{whole_num, whole_den}
+use Rattle.dl_exact.proofs.Parts.{whole_num, whole_den}
 use Rattle.dl_types.proofs.exposures.is_above_one.Goals as goal
 
 once : (n : ℕ) → n ≡ n * 1

@@ -1,5 +1,5 @@
 -- A quotient is whole where the rest is 0.
-use Rattle.dl_types.proofs.Flawed.{off_grid_is}
+use Rattle.dl_amounts.proofs.Flawed.{off_grid_is}
 use Rattle.dl_types.proofs.exposures.is_no_multiple.Goals as goal
 
 pub returns : goal.returns

@@ -1,5 +1,5 @@
 -- The clauses have small layers.
-use Rattle.dl_types.proofs.ClauseGrids.{occ_layered, agr_layered}
+use Rattle.dl_amounts.proofs.ClauseGrids.{occ_layered, agr_layered}
 use Rattle.dl_types.proofs.fine.clauses_too_fine.Goals as goal
 
 pub has_shares-requires-clause-layered : goal.has_shares-requires-clause-layered

@@ -2,10 +2,10 @@
 use Rattle.std.proofs.Common.{ap, sym, subst}
 use Rattle.std.specs.List.{All, list_any}
 use Rattle.std.proofs.lemmas.List.Elements.{All-tail}
-use Rattle.dl_types.specs.First.{each_of}
-use Rattle.dl_types.specs.Lists.{itself, lists_in_count, probs_in_count}
-use Rattle.dl_types.specs.Parts.{IsListRead}
-use Rattle.dl_types.proofs.FineLists.{coarse}
+use Rattle.dl_read.specs.First.{each_of}
+use Rattle.dl_read.specs.Lists.{itself, lists_in_count, probs_in_count}
+use Rattle.dl_read.specs.Kept.{IsListRead}
+use Rattle.dl_amounts.proofs.FineLists.{coarse}
 use Rattle.dl_types.proofs.fine.count_too_fine.Goals as goal
 
 pub second_too_fine-requires : goal.second_too_fine-requires

@@ -11,18 +11,18 @@ use Rattle.dl_types.proofs.frequencies.exposed_count.Goals as goal
 
 pub fixed_claims-requires-clause-whole : goal.fixed_claims-requires-clause-whole
 fixed_claims-requires-clause-whole c =
-    fixed_whole c.args.bs c.args.unit.now c.args.exposure.now (admitted c.args.bs c.args.unit.now c.args.exposure.now c.args.freq.now c.requires.exposed c.requires.fine.fine) c.in_ok-number.number c.in_ok-number.ensures.count
+    fixed_whole c.args.bs c.args.unit.now c.args.exposure.now (admitted c.args.bs c.args.unit.now c.args.exposure.now c.args.freq.now c.requires.exposed c.requires.fine.fine) c.admitted_count-number.result c.admitted_count-number.ensures.count
     c.in-Fixed.field-0 (c.requires.exposed ∙ ap (λ f. Exposed c.args.exposure.now f) c.in-Fixed.is) c.requires.fine.counts
 
 pub fixed_claims-requires-clause-few : goal.fixed_claims-requires-clause-few
 fixed_claims-requires-clause-few c =
-    ap (λ n. passes n 65536) c.in_ok-number.ensures.count
+    ap (λ n. passes n 65536) c.admitted_count-number.ensures.count
     ∙ few_of c.args.bs c.args.unit.now c.args.exposure.now _
     (c.requires.exposed ∙ ap (λ f. Exposed c.args.exposure.now f) c.in-Fixed.is) c.requires.kept.few
 
 pub single_claim-requires-clause-within : goal.single_claim-requires-clause-within
 single_claim-requires-clause-within c =
-    single_within c.args.bs c.args.unit.now c.args.exposure.now (admitted c.args.bs c.args.unit.now c.args.exposure.now c.args.freq.now c.requires.exposed c.requires.fine.fine) c.in_ok-number.number c.in_ok-number.ensures.count
+    single_within c.args.bs c.args.unit.now c.args.exposure.now (admitted c.args.bs c.args.unit.now c.args.exposure.now c.args.freq.now c.requires.exposed c.requires.fine.fine) c.admitted_count-number.result c.admitted_count-number.ensures.count
     c.in-Bernoulli.field-0 (c.requires.exposed ∙ ap (λ f. Exposed c.args.exposure.now f) c.in-Bernoulli.is) c.requires.kept.within
 
 pub value-requires-clause-spelled : goal.value-requires-clause-spelled
@@ -39,30 +39,30 @@ value-requires-clause-good c =
 
 pub binomial_claims-requires-clause-above : goal.binomial_claims-requires-clause-above
 binomial_claims-requires-clause-above c =
-    chance_above c.args.bs c.args.unit.now c.args.exposure.now (admitted c.args.bs c.args.unit.now c.args.exposure.now c.args.freq.now c.requires.exposed c.requires.fine.fine) c.in_ok-number.number c.in_ok-number.ensures.count
+    chance_above c.args.bs c.args.unit.now c.args.exposure.now (admitted c.args.bs c.args.unit.now c.args.exposure.now c.args.freq.now c.requires.exposed c.requires.fine.fine) c.admitted_count-number.result c.admitted_count-number.ensures.count
     c.in-Binomial.chance c.in-Binomial.field-1 c.value.result c.value.ensures.value
     (c.requires.exposed ∙ ap (λ f. Exposed c.args.exposure.now f) c.in-Binomial.is) c.requires.kept.trials
 
 pub binomial_claims-requires-clause-within : goal.binomial_claims-requires-clause-within
 binomial_claims-requires-clause-within c =
-    chance_within c.args.bs c.args.unit.now c.args.exposure.now (admitted c.args.bs c.args.unit.now c.args.exposure.now c.args.freq.now c.requires.exposed c.requires.fine.fine) c.in_ok-number.number c.in_ok-number.ensures.count
+    chance_within c.args.bs c.args.unit.now c.args.exposure.now (admitted c.args.bs c.args.unit.now c.args.exposure.now c.args.freq.now c.requires.exposed c.requires.fine.fine) c.admitted_count-number.result c.admitted_count-number.ensures.count
     c.in-Binomial.chance c.in-Binomial.field-1 c.value.result c.value.ensures.value
     (c.requires.exposed ∙ ap (λ f. Exposed c.args.exposure.now f) c.in-Binomial.is) c.requires.kept.trials
 
 pub binomial_claims-requires-clause-whole : goal.binomial_claims-requires-clause-whole
 binomial_claims-requires-clause-whole c =
-    trials_whole c.args.bs c.args.unit.now c.args.exposure.now (admitted c.args.bs c.args.unit.now c.args.exposure.now c.args.freq.now c.requires.exposed c.requires.fine.fine) c.in_ok-number.number c.in_ok-number.ensures.count
+    trials_whole c.args.bs c.args.unit.now c.args.exposure.now (admitted c.args.bs c.args.unit.now c.args.exposure.now c.args.freq.now c.requires.exposed c.requires.fine.fine) c.admitted_count-number.result c.admitted_count-number.ensures.count
     c.in-Binomial.chance c.in-Binomial.field-1 c.value.result c.value.ensures.value
     (c.requires.exposed ∙ ap (λ f. Exposed c.args.exposure.now f) c.in-Binomial.is) c.requires.kept.trials
 
 pub binomial_claims-requires-clause-few : goal.binomial_claims-requires-clause-few
 binomial_claims-requires-clause-few c =
-    ap₂ (λ n p. passes (n /ℚ p) 65536) c.in_ok-number.ensures.count c.value.ensures.value
+    ap₂ (λ n p. passes (n /ℚ p) 65536) c.admitted_count-number.ensures.count c.value.ensures.value
     ∙ few_of c.args.bs c.args.unit.now c.args.exposure.now _
     (c.requires.exposed ∙ ap (λ f. Exposed c.args.exposure.now f) c.in-Binomial.is) c.requires.kept.few
 
-pub admitted_count-requires-clause-admitted : goal.admitted_count-requires-clause-admitted
-admitted_count-requires-clause-admitted c =
+pub admitted_count-number-requires-clause-admitted : goal.admitted_count-number-requires-clause-admitted
+admitted_count-number-requires-clause-admitted c =
     admitted c.args.bs c.args.unit.now c.args.exposure.now c.args.freq.now c.requires.exposed c.requires.fine.fine
 
 pub value-requires-in-Gamma-clause-spelled : goal.value-requires-in-Gamma-clause-spelled

@@ -1,7 +1,7 @@
 -- The parts cut across are in lowest terms.
 use Rattle.std.proofs.Common.{◌∙◌, ap₂, mul-pos}
 use Rattle.dl_exact.specs.Fraction.{◌over◌}
-use Rattle.dl_frac.proofs.FractionLaws.{lowest_self, num_pos}
+use Rattle.dl_exact.proofs.Parts.{lowest_self, num_pos}
 use Rattle.dl_plan.proofs.Fits.{over_fits, given_ok, given_value}
 use Rattle.dl_types.proofs.Ratios.{quotient_lowest, quotient_value}
 use Rattle.dl_types.proofs.ratio.Ratio.of.Goals as goal

@@ -4,7 +4,7 @@ use Rattle.std.specs.Option.{MatchOption}
 use Rattle.dl_exact.specs.Fraction.{Fraction, ◌over◌, ◌*ℚ◌, whole}
 use Rattle.dl_frac.specs.Exact.{IsTooFine}
 use Rattle.dl_plan.proofs.Fits.{over_fits, given_ok, given_value}
-use Rattle.dl_types.specs.Lists.{is_admitted}
+use Rattle.dl_read.specs.Lists.{is_admitted}
 use Rattle.dl_types.proofs.Ratios.{first_too_fine, second_too_fine, product_value, too_fine_not_admitted, nothing_left, nothing_right, zero_admitted, above_zero}
 use Rattle.dl_types.proofs.ratio.Ratio.times.Goals as goal
 use Rattle.dl_types.proofs.ratio.Ratio.times.Goals.{then-self-eq0-via-then-self-eq0, then-self-eq0-via-else-self-eq0+then-o-eq0}

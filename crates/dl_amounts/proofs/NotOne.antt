@@ -1,0 +1,60 @@
+-- Which lists of probabilities are fine and do not sum to 1.
+use Rattle.std.proofs.Common.{◌≡◌, ◌≢◌, ◌∙◌, ℕ, ◌^◌, ◌≤◌, Bool, true, false, not, ◌&&◌, List, sum, Some, None, refl, sym, ap, arith}
+use Rattle.std.specs.Prelude.{◌==◌, nat_le}
+use Rattle.std.specs.List.{sum_by}
+use Rattle.std.proofs.lemmas.Bool.Decides.{nat_tests}
+use Rattle.dl_exact.specs.Fraction.{Fraction, whole, ◌over◌}
+use Rattle.dl_exact.proofs.Over.{over_self, over_same}
+use Rattle.dl_plan.specs.Fine.{IsFine, common_denominator}
+use Rattle.dl_exact.proofs.Parts.{whole_num, whole_den}
+use Rattle.dl_exact.proofs.Sums.{sum_over_map}
+use Rattle.dl_exact.proofs.SumsOver.{sum_over_common}
+use Rattle.dl_sev.specs.declared.weights.Weights.{Weights}
+use Rattle.dl_sev.specs.Weighing.{sum_of}
+use Rattle.dl_sev.specs.Weighed.{IsWeighing}
+use Rattle.dl_lexer.specs.declared.token.Span.{Span}
+use Rattle.dl_read.specs.First.{at_if}
+use Rattle.dl_read.specs.Lists.{is_fine, is_one, is_not_one}
+
+-- equal parts are those of 1
+one_by_parts : (x : Fraction) → x.num ≡ x.den → x ≡ whole 1
+one_by_parts x e = sym (over_self x) ∙ over_same x.num x.den 1 1 x.positive (omega arith) (omega (arith, e))
+
+not_one_test : (x : Fraction) → x ≢ whole 1 → is_one x ≡ false
+not_one_test x other = differ x.num x.den (λ e. other (one_by_parts x e))
+  where
+    differ : (m n : ℕ) → m ≢ n → (m == n) ≡ false
+    differ m n h = grind (arith, nat_tests, h)
+
+one_test : (x : Fraction) → x ≡ whole 1 → is_one x ≡ true
+one_test x e = equal x.num x.den (ap (λ (y : Fraction). y.num) e ∙ whole_num 1 ∙ sym (ap (λ (y : Fraction). y.den) e ∙ whole_den 1))
+  where
+    equal : (m n : ℕ) → m ≡ n → (m == n) ≡ true
+    equal m n h = grind (arith, nat_tests, h)
+
+fine_test : (m n : ℕ) → m ≤ n → nat_le m n ≡ true
+fine_test m n h = grind (arith, nat_tests, h)
+
+and_false : (b c : Bool) → c ≡ true → (b && not c) ≡ false
+and_false true c h = rw h
+and_false false c h = refl
+
+-- weights that sum to their total
+weighed_sum : (xs : List Fraction) (made : Weights) → IsWeighing xs made → sum_of xs ≡ whole 1
+weighed_sum xs made weighed =
+    let t = made.total in
+    ap sum_of (sym weighed.shares) ∙ sum_over_map (λ w. w over t) (λ x. x) made.weights ∙ sum_over_common (λ w. w) t made.weights weighed.some
+    ∙ ap (λ n. n over t) (sum_itself made.weights ∙ weighed.sum) ∙ over_same t t 1 1 weighed.some (omega arith) (omega arith)
+  where
+    sum_itself : (ws : List ℕ) → sum_by (λ w. w) ws ≡ sum ws
+    sum_itself ws = refl
+
+module _ (xs : List Fraction) (place : Span) where
+  pub keeps_weighed : (made : Weights) → IsWeighing xs made → None ≡ at_if (is_not_one xs) place
+  keeps_weighed made weighed =
+      ap (λ b. at_if b place) (sym (and_false (is_fine xs) (is_one (sum_of xs)) (one_test (sum_of xs) (weighed_sum xs made weighed))))
+
+  pub breaks_one : IsFine xs → sum_of xs ≢ whole 1 → Some place ≡ at_if (is_not_one xs) place
+  breaks_one fine other =
+      ap (λ b. at_if (b && not false) place) (sym (fine_test (common_denominator xs) (2 ^ 30) fine))
+      ∙ ap (λ b. at_if (is_fine xs && not b) place) (sym (not_one_test (sum_of xs) other))

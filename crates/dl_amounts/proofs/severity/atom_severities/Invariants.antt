@@ -1,0 +1,9 @@
+-- The severities of the atoms that were read.
+use Rattle.std.proofs.Common.{map, take}
+use Rattle.dl_plan.specs.Severity.{Means}
+use Rattle.std.specs.List.{AllZip}
+use Rattle.dl_amounts.specs.Severity.{atom_pairs}
+use Rattle.dl_amounts.proofs.severity.atom_severities.Given as goal
+
+abbrev pub invariant-atoms : goal.invariant-atoms
+invariant-atoms l = AllZip Means l.made.items (map (atom_pairs l.bs) (take l.atom-index l.fn.sev.atoms))

@@ -1,0 +1,55 @@
+-- Where no part has an answer.
+use Rattle.std.proofs.Common.{◌≡◌, ◌∙◌, List, [], ◌∷◌, ◌++◌, flat_map, Option, Some, None, Bool, true, false, not, refl, sym}
+use Rattle.std.specs.List.{All}
+use Rattle.std.specs.Option.{IfSome}
+use Rattle.std.proofs.lemmas.List.Elements.{All-nil, All-cons}
+use Rattle.dl_lexer.specs.declared.token.Span.{Span}
+use Rattle.dl_read.specs.First.{◌else◌, at_if, within, first_in, each_of}
+use Rattle.dl_read.proofs.Firsts.{first-append, first-flat_map}
+
+pub else_first : {A : Type 0} (x y : Option A) → (x else y) ≡ None → x ≡ None
+else_first None y e = refl
+else_first (Some x) y e = e
+
+pub else_second : {A : Type 0} (x y : Option A) → (x else y) ≡ None → y ≡ None
+else_second None y e = e
+else_second (Some x) y e = absurd (cc)
+
+module _ {A B : Type 0} (f : A → Option B) where
+  pub none_each : (xs : List A) → first_in f xs ≡ None → All (λ x. f x ≡ None) xs
+  unfolding first_in
+  none_each [] e = All-nil (λ x. f x ≡ None)
+  none_each (x ∷ xs) e = All-cons (λ y. f y ≡ None) x xs (else_first (f x) (first_in f xs) e) (none_each xs (else_second (f x) (first_in f xs) e))
+
+  pub none_left : (xs ys : List A) → first_in f (xs ++ ys) ≡ None → first_in f xs ≡ None
+  none_left xs ys e = else_first _ (first_in f ys) (sym (first-append f xs ys) ∙ e)
+
+  pub none_right : (xs ys : List A) → first_in f (xs ++ ys) ≡ None → first_in f ys ≡ None
+  none_right xs ys e = else_second (first_in f xs) _ (sym (first-append f xs ys) ∙ e)
+
+  pub none_head : (x : A) (xs : List A) → first_in f (x ∷ xs) ≡ None → f x ≡ None
+  unfolding first_in
+  none_head x xs e = else_first (f x) (first_in f xs) e
+
+  pub none_tail : (x : A) (xs : List A) → first_in f (x ∷ xs) ≡ None → first_in f xs ≡ None
+  unfolding first_in
+  none_tail x xs e = else_second (f x) (first_in f xs) e
+
+  pub none_held : {X : Type 0} (g : X → List A) (o : Option X) → first_in f (each_of g o) ≡ None → IfSome o (λ x. first_in f (g x) ≡ None)
+  none_held g None e = tt
+  none_held g (Some x) e = e
+
+pub none_parts : {X A B : Type 0} (f : A → Option B) (g : X → List A) (xs : List X) → first_in f (flat_map g xs) ≡ None → All (λ x. first_in f (g x) ≡ None) xs
+none_parts f g xs e = none_each (λ x. first_in f (g x)) xs (sym (first-flat_map f g xs) ∙ e)
+
+pub none_within : {A B : Type 0} (f : A → Option B) (o : Option A) → within f o ≡ None → IfSome o (λ x. f x ≡ None)
+none_within f None e = tt
+none_within f (Some x) e = e
+
+pub not_at : (b : Bool) (place : Span) → at_if b place ≡ None → b ≡ false
+not_at true place e = absurd (cc)
+not_at false place e = refl
+
+pub not_then : (b : Bool) → not b ≡ false → b ≡ true
+not_then true e = refl
+not_then false e = absurd (cc)

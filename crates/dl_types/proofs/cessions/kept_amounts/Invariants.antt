@@ -1,8 +1,0 @@
--- The amounts read so far are mapped, and the others as they were.
-use Rattle.std.proofs.Common.{◌≡◌, ◌++◌, take, drop, map}
-use Rattle.dl_plan.specs.Cession.{kept}
-use Rattle.dl_types.proofs.cessions.kept_amounts.Given as goal
-
-abbrev pub invariant-amounts : goal.invariant-amounts
-invariant-amounts l = l.amount-items ≡ map (λ x. (kept l.fn.cede x).num) (take l.amount-index l.initial.amount-items)
-    ++ drop l.amount-index l.initial.amount-items
