@@ -6,8 +6,7 @@ use Rattle.dl_exact.specs.Sum.{sum_to}
 use Rattle.dl_model.specs.Series.{IsBound, Holds}
 use Rattle.dl_model.specs.Counts.{poisson, gamma}
 use Rattle.dl_exact.proofs.Over.{over_le, over_add, over_mul, over_same, over_lt}
-use Rattle.dl_exact.proofs.Laws.{ring, one_pos, one_times, times_comm, le_refl, le_trans, times_le_times, times_le_cancel, plus_le_both, plus_times, times_plus, whole_pos, whole_plus, whole_times, over_times_whole}
-use Rattle.dl_model.proofs.Declared.{times_le_both}
+use Rattle.dl_exact.proofs.Laws.{ring, one_pos, one_times, times_comm, le_refl, le_trans, times_le_times, times_le_cancel, plus_le_both, plus_times, times_plus, whole_pos, whole_plus, whole_times, over_times_whole, times_le_both}
 use Rattle.dl_model.proofs.PoissonWeights.{halving_bound}
 use Rattle.dl_model.proofs.PoissonWeights.{poisson_next}
 use Rattle.dl_model.proofs.Gamma.{geometric_low, geometric_least}
@@ -17,19 +16,24 @@ whole_le m n h = over_le m 1 n 1 one_pos one_pos (omega (arith, h))
 
 -- ---- geometric
 
-pub geometric_holds : (n r l h T : ℕ) → 0 < r → 0 < T → l * (n + r) ≤ r * T → r * T ≤ h * (n + r) → Holds (λ N. whole 1) (λ N. sum_to N (gamma 1 (n over (n + r)))) (l over T) (h over T)
+pub geometric_holds : (n r l h T : ℕ) → 0 < r → 0 < T → l * (n + r) ≤ r * T → r * T ≤ h * (n + r)
+    → Holds (λ N. whole 1) (λ N. sum_to N (gamma 1 (n over (n + r)))) (l over T) (h over T)
 geometric_holds n r l h T rp Tp p q =
     let x = n over (n + r) in
     let d = r over (n + r) in
     let L = (n + r) over r in
     let ap' : 0 < n + r = omega (arith, rp) in
-    let one : x +ℚ d ≡ whole 1 = over_add n (n + r) r (n + r) ap' ap' ∙ over_same _ _ 1 1 (mul-pos ap' ap') one_pos (omega arith) in
-    let Ld : L *ℚ d ≡ whole 1 = over_mul (n + r) r r (n + r) rp ap' ∙ over_same _ _ 1 1 (mul-pos rp ap') one_pos (omega arith) in
+    let one : x +ℚ d ≡ whole 1 = over_add n (n + r) r (n + r) ap' ap'
+    ∙ over_same _ _ 1 1 (mul-pos ap' ap') one_pos (omega arith) in
+    let Ld : L *ℚ d ≡ whole 1 = over_mul (n + r) r r (n + r) rp ap'
+    ∙ over_same _ _ 1 1 (mul-pos rp ap') one_pos (omega arith) in
     let dp : whole 0 <ℚ d = over_lt 0 1 r (n + r) one_pos ap' (omega (arith, rp)) in
     let low : l over T ≤ℚ d = over_le l T r (n + r) Tp ap' p in
     let high : d ≤ℚ h over T = over_le r (n + r) h T ap' Tp q in (
-      (λ N u b. le_trans _ _ _ (times_le_times _ _ (sum_to N (gamma 1 x)) low) (le_trans _ _ _ (geometric_low x d one N) (b zero))),
-      (λ N u b. subst (λ t. t ≤ℚ h over T *ℚ u) (times_comm d L ∙ Ld) (times_le_both d (h over T) L u high ((geometric_least x d one L dp Ld).1 u b))),
+      (λ N u b. le_trans _ _ _ (times_le_times _ _ (sum_to N (gamma 1 x)) low)
+          (le_trans _ _ _ (geometric_low x d one N) (b zero))),
+      (λ N u b. subst (λ t. t ≤ℚ h over T *ℚ u) (times_comm d L ∙ Ld)
+          (times_le_both d (h over T) L u high ((geometric_least x d one L dp Ld).1 u b))),
     )
 
 -- ---- Poisson
@@ -39,18 +43,22 @@ small_halves v h n =
     let S = whole (suc n) in
     let twice : v +ℚ v ≤ℚ S = le_trans _ _ _ h (whole_le 1 (suc n) (omega arith)) in
     times_le_cancel _ _ S (whole_pos (suc n) (zero-lt-suc n))
-    (subst₂ (λ s t. s ≤ℚ t) (sym (plus_times _ _ S ∙ ap (λ t. t +ℚ t) (poisson_next v n) ∙ sym (plus_times v v (poisson v n)))) (times_comm _ _)
+    (subst₂ (λ s t. s ≤ℚ t)
+    (sym (plus_times _ _ S ∙ ap (λ t. t +ℚ t) (poisson_next v n) ∙ sym (plus_times v v (poisson v n))))
+    (times_comm _ _)
     (times_le_times _ _ (poisson v n) twice))
 
 pub half_over : (num den : ℕ) → 0 < den → num + num ≤ den → num over den +ℚ num over den ≤ℚ whole 1
 half_over num den d h =
-    subst (λ t. t ≤ℚ whole 1) (sym (over_add num den num den d d)) (over_le _ _ 1 1 (mul-pos d d) one_pos (omega (arith, mul-le-mul_right den h)))
+    subst (λ t. t ≤ℚ whole 1) (sym (over_add num den num den d d))
+    (over_le _ _ 1 1 (mul-pos d d) one_pos (omega (arith, mul-le-mul_right den h)))
 
 module _ (num den : ℕ) (den_pos : 0 < den) where
   v : Fraction
   v = num over den
 
-  next_term : (C : Fraction) (n : ℕ) → C *ℚ poisson (num over den) (suc n) *ℚ whole (den * suc n) ≡ C *ℚ poisson (num over den) n *ℚ whole num
+  next_term : (C : Fraction) (n : ℕ)
+      → C *ℚ poisson (num over den) (suc n) *ℚ whole (den * suc n) ≡ C *ℚ poisson (num over den) n *ℚ whole num
   next_term C n =
       let p : Fraction = poisson (num over den) n in
       ap (λ t. C *ℚ poisson (num over den) (suc n) *ℚ t) (whole_times den (suc n))
@@ -68,29 +76,42 @@ module _ (num den : ℕ) (den_pos : 0 < den) where
   step_pos : (n : ℕ) → whole 0 <ℚ whole (den * suc n)
   step_pos n = whole_pos (den * suc n) (mul-pos den_pos (zero-lt-suc n))
 
-  pub low_term : (C : Fraction) (n t s : ℕ) → s * (den * suc n) ≤ t * num → whole t ≤ℚ C *ℚ poisson (num over den) n → whole s ≤ℚ C *ℚ poisson (num over den) (suc n)
+  pub low_term : (C : Fraction) (n t s : ℕ) → s * (den * suc n) ≤ t * num → whole t ≤ℚ C *ℚ poisson (num over den) n
+      → whole s ≤ℚ C *ℚ poisson (num over den) (suc n)
   low_term C n t s p h =
       times_le_cancel _ _ (whole (den * suc n)) (step_pos n)
       (subst₂ (λ x y. x ≤ℚ y) (whole_times s (den * suc n)) (sym (next_term C n))
-      (le_trans _ _ _ (whole_le _ _ p) (subst (λ x. x ≤ℚ C *ℚ poisson (num over den) n *ℚ whole num) (sym (whole_times t num)) (times_le_times _ _ (whole num) h))))
+      (le_trans _ _ _ (whole_le _ _ p)
+      (subst (λ x. x ≤ℚ C *ℚ poisson (num over den) n *ℚ whole num) (sym (whole_times t num))
+      (times_le_times _ _ (whole num) h))))
 
-  pub high_term : (C : Fraction) (n t s : ℕ) → t * num ≤ s * (den * suc n) → C *ℚ poisson (num over den) n ≤ℚ whole t → C *ℚ poisson (num over den) (suc n) ≤ℚ whole s
+  pub high_term : (C : Fraction) (n t s : ℕ) → t * num ≤ s * (den * suc n) → C *ℚ poisson (num over den) n ≤ℚ whole t
+      → C *ℚ poisson (num over den) (suc n) ≤ℚ whole s
   high_term C n t s p h =
       times_le_cancel _ _ (whole (den * suc n)) (step_pos n)
       (subst₂ (λ x y. x ≤ℚ y) (sym (next_term C n)) (whole_times s (den * suc n))
-      (le_trans _ _ _ (subst (λ x. C *ℚ poisson (num over den) n *ℚ whole num ≤ℚ x) (sym (whole_times t num)) (times_le_times _ _ (whole num) h)) (whole_le _ _ p)))
+      (le_trans _ _ _
+      (subst (λ x. C *ℚ poisson (num over den) n *ℚ whole num ≤ℚ x) (sym (whole_times t num))
+      (times_le_times _ _ (whole num) h)) (whole_le _ _ p)))
 
-pub low_sum : (C : Fraction) (w : ℕ → Fraction) (n a b : ℕ) → whole a ≤ℚ C *ℚ sum_to n w → whole b ≤ℚ C *ℚ w (suc n) → whole (a + b) ≤ℚ C *ℚ sum_to (suc n) w
+pub low_sum : (C : Fraction) (w : ℕ → Fraction) (n a b : ℕ) → whole a ≤ℚ C *ℚ sum_to n w → whole b ≤ℚ C *ℚ w (suc n)
+    → whole (a + b) ≤ℚ C *ℚ sum_to (suc n) w
 unfolding sum_to
-low_sum C w n a b p q = subst₂ (λ x y. x ≤ℚ y) (sym (whole_plus a b)) (sym (times_plus C (sum_to n w) (w (suc n)))) (plus_le_both _ _ _ _ p q)
+low_sum C w n a b p q =
+    subst₂ (λ x y. x ≤ℚ y) (sym (whole_plus a b)) (sym (times_plus C (sum_to n w) (w (suc n))))
+    (plus_le_both _ _ _ _ p q)
 
-pub high_sum : (C : Fraction) (w : ℕ → Fraction) (n a b : ℕ) → C *ℚ sum_to n w ≤ℚ whole a → C *ℚ w (suc n) ≤ℚ whole b → C *ℚ sum_to (suc n) w ≤ℚ whole (a + b)
+pub high_sum : (C : Fraction) (w : ℕ → Fraction) (n a b : ℕ) → C *ℚ sum_to n w ≤ℚ whole a → C *ℚ w (suc n) ≤ℚ whole b
+    → C *ℚ sum_to (suc n) w ≤ℚ whole (a + b)
 unfolding sum_to
-high_sum C w n a b p q = subst₂ (λ x y. x ≤ℚ y) (sym (times_plus C (sum_to n w) (w (suc n)))) (sym (whole_plus a b)) (plus_le_both _ _ _ _ p q)
+high_sum C w n a b p q =
+    subst₂ (λ x y. x ≤ℚ y) (sym (times_plus C (sum_to n w) (w (suc n)))) (sym (whole_plus a b))
+    (plus_le_both _ _ _ _ p q)
 
 -- x / T and y / T stand round 1 over the sum of the weights, from rounded sums up to K and the rounded last term
 pub poisson_holds : (v : Fraction) (K T a b t x y : ℕ) → v +ℚ v ≤ℚ whole 1 → 0 < T
-    → whole a ≤ℚ whole T *ℚ sum_to K (poisson v) → whole T *ℚ sum_to K (poisson v) ≤ℚ whole b → whole T *ℚ poisson v K ≤ℚ whole t
+    → whole a ≤ℚ whole T *ℚ sum_to K (poisson v) → whole T *ℚ sum_to K (poisson v) ≤ℚ whole b
+    → whole T *ℚ poisson v K ≤ℚ whole t
     → x * (b + t) ≤ T * T → T * T ≤ y * a
     → Holds (λ N. whole 1) (λ N. sum_to N (poisson v)) (x over T) (y over T)
 poisson_holds v K T a b t x y half Tp low high last p q =
@@ -98,21 +119,28 @@ poisson_holds v K T a b t x y half Tp low high last p q =
     let Tp' : whole 0 <ℚ whole T = whole_pos T Tp in
     let H = whole (b + t) in
     let bound : IsBound (λ N. sum_to N W) (sum_to K W +ℚ W K) = halving_bound W K (λ n h. small_halves v half n) in
-    let top : whole T *ℚ (sum_to K W +ℚ W K) ≤ℚ H = subst₂ (λ s t. s ≤ℚ t) (sym (times_plus (whole T) (sum_to K W) (W K))) (sym (whole_plus b t)) (plus_le_both _ _ _ _ high last) in (
+    let top : whole T *ℚ (sum_to K W +ℚ W K) ≤ℚ H =
+    subst₂ (λ s t. s ≤ℚ t) (sym (times_plus (whole T) (sum_to K W) (W K))) (sym (whole_plus b t))
+    (plus_le_both _ _ _ _ high last) in (
       (λ N u one_le. le_trans _ _ _
           (times_le_cancel (x over T *ℚ sum_to N W) (whole 1) (whole T) Tp'
-          (subst₂ (λ s t. s ≤ℚ t) (ap (λ t. t *ℚ sum_to N W) (sym (over_times_whole x T Tp)) ∙ turn (x over T) (whole T) (sum_to N W)) (sym (one_times (whole T)))
+          (subst₂ (λ s t. s ≤ℚ t)
+          (ap (λ t. t *ℚ sum_to N W) (sym (over_times_whole x T Tp)) ∙ turn (x over T) (whole T) (sum_to N W))
+          (sym (one_times (whole T)))
           (times_le_cancel (whole x *ℚ sum_to N W) (whole T) (whole T) Tp'
           (le_trans _ _ _ (subst (λ t. t ≤ℚ whole x *ℚ H) (swap (whole x) (whole T) (sum_to N W))
-          (times_le_both (whole x) (whole x) _ _ (le_refl _) (le_trans _ _ _ (times_le_both (whole T) (whole T) _ _ (le_refl _) (bound N)) top)))
+          (times_le_both (whole x) (whole x) _ _ (le_refl _)
+          (le_trans _ _ _ (times_le_both (whole T) (whole T) _ _ (le_refl _) (bound N)) top)))
           (subst₂ (λ s t. s ≤ℚ t) (whole_times x (b + t)) (whole_times T T) (whole_le _ _ p))))))
           (one_le zero)),
       (λ N u b'. times_le_cancel (whole 1) (y over T *ℚ u) (whole T) Tp'
-          (subst₂ (λ s t. s ≤ℚ t) (sym (one_times (whole T))) (ap (λ t. t *ℚ u) (sym (over_times_whole y T Tp)) ∙ turn (y over T) (whole T) u)
+          (subst₂ (λ s t. s ≤ℚ t) (sym (one_times (whole T)))
+          (ap (λ t. t *ℚ u) (sym (over_times_whole y T Tp)) ∙ turn (y over T) (whole T) u)
           (times_le_cancel (whole T) (whole y *ℚ u) (whole T) Tp'
           (le_trans _ _ _ (subst₂ (λ s t. s ≤ℚ t) (whole_times T T) (whole_times y a) (whole_le _ _ q))
           (subst (λ t. whole y *ℚ whole a ≤ℚ t) (swap (whole y) (whole T) u)
-          (times_le_both (whole y) (whole y) _ _ (le_refl _) (le_trans _ _ _ low (times_le_both (whole T) (whole T) _ _ (le_refl _) (b' K))))))))),
+          (times_le_both (whole y) (whole y) _ _ (le_refl _)
+          (le_trans _ _ _ low (times_le_both (whole T) (whole T) _ _ (le_refl _) (b' K))))))))),
     )
   where
     turn : (a b c : Fraction) → a *ℚ b *ℚ c ≡ a *ℚ c *ℚ b

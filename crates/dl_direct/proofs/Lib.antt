@@ -2,6 +2,8 @@ pub mod Starts
 pub mod Beginnings
 pub mod Rounding
 pub mod Reach
+pub mod Runs
+pub mod Totals
 pub mod Pairs
 pub mod Steps
 pub mod Grow

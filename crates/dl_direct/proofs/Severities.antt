@@ -20,7 +20,8 @@ pub total_positive : (sev : Sev) → 0 < sev.total
 total_positive sev = total_pos sev.items sev.total sev.weighted
 
 pub within_one : (sev : Sev) → IsWithinOne (probability_of sev)
-within_one sev = severity_within_one _ (greatest (weighted sev.items)) (shares_severity sev.items sev.total sev.weighted)
+within_one sev =
+    severity_within_one _ (greatest (weighted sev.items)) (shares_severity sev.items sev.total sev.weighted)
 
 -- where amount 0 has no probability, no item has it
 pub amounts_positive : (sev : Sev) → probability_of sev 0 ≡ whole 0 → All (λ item. 0 < item.amount) sev.items
@@ -28,9 +29,16 @@ amounts_positive sev none k d inside = elim (cases_lt 0 (get_or sev.items k d).a
   | inl h ↦ h
   | inr h ↦ absurd (
       let item : Item = get_or sev.items k d in
-      let weight : weight_at sev.items 0 ≡ 0 = omega (arith, le_over (weight_at sev.items 0) sev.total 0 1 (total_positive sev) one_pos (le_of_eq _ _ none)) in
-      let own : (if item.amount == 0 then item.weight else 0) ≤ weight_at sev.items 0 = get_or-le-sum_by (λ (i : Item). if i.amount == 0 then i.weight else 0) sev.items k d inside in
-      let all : (if item.amount == 0 then item.weight else 0) ≡ item.weight = ap (λ t. if t then item.weight else 0) (eq-eqb item.amount 0 (omega (arith, h))) in
+      let weight : weight_at sev.items 0 ≡ 0 =
+      omega (
+        arith,
+        le_over (weight_at sev.items 0) sev.total 0 1 (total_positive sev) one_pos
+            (le_of_eq _ _ none),
+      ) in
+      let own : (if item.amount == 0 then item.weight else 0) ≤ weight_at sev.items 0 =
+      get_or-le-sum_by (λ (i : Item). if i.amount == 0 then i.weight else 0) sev.items k d inside in
+      let all : (if item.amount == 0 then item.weight else 0) ≡ item.weight =
+      ap (λ t. if t then item.weight else 0) (eq-eqb item.amount 0 (omega (arith, h))) in
       omega (arith, own, all, weight, sev.weighted.positive k d inside))
 ]
 

@@ -19,7 +19,8 @@ two_le i j h = pow-le-pow_right (zero-lt-suc 1) h
 -- ---- halving
 
 pub half_low : (l T p P : ℕ) → l * T ≤ p * (P * 2) → l / 2 * T ≤ p * P
-half_low l T p P h = le_of_mul-le-mul_right {k = 2} (omega (arith, mul-le-mul_right T (div-mul-le_self l 2), h)) (zero-lt-suc 1)
+half_low l T p P h =
+    le_of_mul-le-mul_right {k = 2} (omega (arith, mul-le-mul_right T (div-mul-le_self l 2), h)) (zero-lt-suc 1)
 
 pub half_high : (l T p P : ℕ) → p * (P * 2) ≤ l * T → p * P ≤ (l + 1) / 2 * T
 half_high l T p P h =
@@ -48,18 +49,24 @@ start_times v w l h e l' h' e' x y d H K p q =
     let V : Series = λ N. sum_to N v in
     let W : Series = λ N. sum_to N w in
     let one : Series = λ N. whole 1 in
-    let low : AtLeast (times one one) (times V W) (l over 2 ^ e *ℚ l' over 2 ^ e') = at_least_times one V one W _ _ one_rises one_rises H.0 K.0 in
-    let high : AtMost (times one one) (times V W) (h over 2 ^ e *ℚ h' over 2 ^ e') = at_most_times one V one W _ _ (sum_rises_to v) (sum_rises_to w) H.1 K.1 in
+    let low : AtLeast (times one one) (times V W) (l over 2 ^ e *ℚ l' over 2 ^ e') =
+    at_least_times one V one W _ _ one_rises one_rises H.0 K.0 in
+    let high : AtMost (times one one) (times V W) (h over 2 ^ e *ℚ h' over 2 ^ e') =
+    at_most_times one V one W _ _ (sum_rises_to v) (sum_rises_to w) H.1 K.1 in
     let P : ℕ = 2 ^ e * 2 ^ e' in
     let Pp : 0 < P = mul-pos (two_pos e) (two_pos e') in
     let a : x over 2 ^ d ≤ℚ l over 2 ^ e *ℚ l' over 2 ^ e' =
-    subst (λ t. x over 2 ^ d ≤ℚ t) (sym (over_mul l (2 ^ e) l' (2 ^ e') (two_pos e) (two_pos e'))) (over_le _ _ _ _ (two_pos d) Pp (subst (λ t. x * t ≤ l * l' * 2 ^ d) (pow-add 2 e e') p)) in
+    subst (λ t. x over 2 ^ d ≤ℚ t) (sym (over_mul l (2 ^ e) l' (2 ^ e') (two_pos e) (two_pos e')))
+    (over_le _ _ _ _ (two_pos d) Pp (subst (λ t. x * t ≤ l * l' * 2 ^ d) (pow-add 2 e e') p)) in
     let b : h over 2 ^ e *ℚ h' over 2 ^ e' ≤ℚ y over 2 ^ d =
-    subst (λ t. t ≤ℚ y over 2 ^ d) (sym (over_mul h (2 ^ e) h' (2 ^ e') (two_pos e) (two_pos e'))) (over_le _ _ _ _ Pp (two_pos d) (subst (λ t. h * h' * 2 ^ d ≤ y * t) (pow-add 2 e e') q)) in
+    subst (λ t. t ≤ℚ y over 2 ^ d) (sym (over_mul h (2 ^ e) h' (2 ^ e') (two_pos e) (two_pos e')))
+    (over_le _ _ _ _ Pp (two_pos d) (subst (λ t. h * h' * 2 ^ d ≤ y * t) (pow-add 2 e e') q)) in
     let C : Series = λ N. sum_to N (convolve v w) in
     let same : one zero ≡ times one one zero = sym (one_times (whole 1)) in (
-      least_from (times one one) (times V W) one C (x over 2 ^ d) (λ n. (n, le_of_eq _ _ (sym same))) (λ n. (n, cauchy_low n v w)) (at_least_wider (times one one) (times V W) _ _ low a),
-      most_from (times one one) (times V W) one C (y over 2 ^ d) (λ n. (n, le_of_eq _ _ same)) (λ n. (n + n, cauchy_high n v w)) (at_most_wider (times one one) (times V W) _ _ high b),
+      least_from (times one one) (times V W) one C (x over 2 ^ d) (λ n. (n, le_of_eq _ _ (sym same)))
+          (λ n. (n, cauchy_low n v w)) (at_least_wider (times one one) (times V W) _ _ low a),
+      most_from (times one one) (times V W) one C (y over 2 ^ d) (λ n. (n, le_of_eq _ _ same))
+          (λ n. (n + n, cauchy_high n v w)) (at_most_wider (times one one) (times V W) _ _ high b),
     )
 
 pub power_one : (w : ℕ → Fraction) → power w 1 ≡ w

@@ -3,12 +3,10 @@ use Rattle.std.proofs.Common.{◌≡◌, ℕ, suc, zero, ◌+◌, ◌-◌, ◌*�
 use Rattle.std.proofs.Math.Nat.{zero-lt-suc}
 use Rattle.dl_exact.specs.Fraction.{Fraction, ◌+ℚ◌, ◌*ℚ◌, ◌≤ℚ◌, whole}
 use Rattle.dl_exact.specs.Sum.{sum_pairs}
-use Rattle.dl_grid.specs.Pairs.{count_pairs}
-use Rattle.dl_exact.proofs.Laws.{ring, times_comm, times_assoc, times_left_comm, whole_plus, whole_times, whole_pos, le_refl, le_trans, times_le_cancel}
-use Rattle.dl_model.proofs.Declared.{times_le_both}
-use Rattle.dl_exact.proofs.Sums.{sum_pairs_same, sum_pairs_times, sum_pairs_times_right}
-use Rattle.dl_model.proofs.SumLaws.{sum_pairs_le}
-use Rattle.dl_direct.proofs.Beginnings.{whole_le}
+use Rattle.dl_exact.specs.Count.{count_pairs}
+use Rattle.dl_exact.proofs.Laws.{ring, times_comm, times_assoc, times_left_comm, whole_plus, whole_times, whole_pos, le_refl, le_trans, times_le_cancel, times_le_both}
+use Rattle.dl_exact.proofs.Sums.{sum_pairs_same, sum_pairs_times, sum_pairs_times_right, sum_pairs_le}
+use Rattle.dl_exact.proofs.RoundingLaws.{whole_le}
 use Rattle.dl_direct.specs.Slide.{IsRound}
 use Rattle.dl_direct.proofs.Rounding.{ceil_reaches, ceil_least}
 
@@ -18,25 +16,31 @@ unfolding count_pairs sum_pairs
 as_sum zero f = refl
 as_sum (suc n) f = whole_plus _ _ ∙ ap (λ t. whole (f zero (suc n)) +ℚ t) (as_sum n (λ i k. f (suc i) k))
 
-scaled_sum : (n P : ℕ) (f : ℕ → ℕ → ℕ) (g : ℕ → ℕ) → whole (count_pairs n (λ i k. f i k * g k)) *ℚ whole P ≡ sum_pairs n (λ i k. whole (f i k) *ℚ whole (g k * P))
+scaled_sum : (n P : ℕ) (f : ℕ → ℕ → ℕ) (g : ℕ → ℕ)
+    → whole (count_pairs n (λ i k. f i k * g k)) *ℚ whole P ≡ sum_pairs n (λ i k. whole (f i k) *ℚ whole (g k * P))
 scaled_sum n P f g =
     ap (λ t. t *ℚ whole P) (as_sum n (λ i k. f i k * g k))
     ∙ sym (sum_pairs_times_right n (whole P) (λ i k. whole (f i k * g k)))
-    ∙ sum_pairs_same n _ _ (λ i k e. ap (λ t. t *ℚ whole P) (whole_times (f i k) (g k)) ∙ times_assoc _ _ _ ∙ ap (λ t. whole (f i k) *ℚ t) (sym (whole_times (g k) P)))
+    ∙ sum_pairs_same n _ _
+    (λ i k e. ap (λ t. t *ℚ whole P) (whole_times (f i k) (g k)) ∙ times_assoc _ _ _
+    ∙ ap (λ t. whole (f i k) *ℚ t) (sym (whole_times (g k) P)))
 
-module _ (n D P : ℕ) (C : Fraction) (f : ℕ → ℕ → ℕ) (r : ℕ → Fraction) (D_pos : 0 < D) (next : whole D *ℚ r (suc n) ≡ sum_pairs n (λ i k. whole (f i k) *ℚ r k)) where
+module _ (n D P : ℕ) (C : Fraction) (f : ℕ → ℕ → ℕ) (r : ℕ → Fraction) (D_pos : 0 < D)
+    (next : whole D *ℚ r (suc n) ≡ sum_pairs n (λ i k. whole (f i k) *ℚ r k)) where
   turned : sum_pairs n (λ i k. whole (f i k) *ℚ (C *ℚ r k)) ≡ C *ℚ r (suc n) *ℚ whole D
   turned =
       sum_pairs_same n _ _ (λ i k e. times_left_comm _ _ _) ∙ sum_pairs_times n C (λ i k. whole (f i k) *ℚ r k)
       ∙ ap (λ t. C *ℚ t) (sym next ∙ times_comm _ _) ∙ sym (times_assoc _ _ _)
 
   swap : (x : ℕ) → whole (x * D) *ℚ whole P ≡ whole (x * P) *ℚ whole D
-  swap x = ap (λ t. t *ℚ whole P) (whole_times x D) ∙ turn (whole x) (whole D) (whole P) ∙ ap (λ t. t *ℚ whole D) (sym (whole_times x P))
+  swap x = ap (λ t. t *ℚ whole P) (whole_times x D) ∙ turn (whole x) (whole D) (whole P)
+      ∙ ap (λ t. t *ℚ whole D) (sym (whole_times x P))
     where
       turn : (a b c : Fraction) → a *ℚ b *ℚ c ≡ a *ℚ c *ℚ b
       turn a b c = simp ring
 
-  pub low_step : (g : ℕ → ℕ) (x : ℕ) → x * D ≤ count_pairs n (λ i k. f i k * g k) → ((k : ℕ) → k ≤ n → whole (g k * P) ≤ℚ C *ℚ r k) → whole (x * P) ≤ℚ C *ℚ r (suc n)
+  pub low_step : (g : ℕ → ℕ) (x : ℕ) → x * D ≤ count_pairs n (λ i k. f i k * g k)
+      → ((k : ℕ) → k ≤ n → whole (g k * P) ≤ℚ C *ℚ r k) → whole (x * P) ≤ℚ C *ℚ r (suc n)
   low_step g x p h =
       times_le_cancel _ _ (whole D) (whole_pos D D_pos)
       (subst₂ (λ s t. s ≤ℚ t) (swap x) turned
@@ -44,7 +48,8 @@ module _ (n D P : ℕ) (C : Fraction) (f : ℕ → ℕ → ℕ) (r : ℕ → Fra
       (subst (λ t. t ≤ℚ sum_pairs n (λ i k. whole (f i k) *ℚ (C *ℚ r k))) (sym (scaled_sum n P f g))
       (sum_pairs_le n _ _ (λ i k e. times_le_both _ _ _ _ (le_refl _) (h k (omega arith)))))))
 
-  pub high_step : (g : ℕ → ℕ) (x : ℕ) → count_pairs n (λ i k. f i k * g k) ≤ x * D → ((k : ℕ) → k ≤ n → C *ℚ r k ≤ℚ whole (g k * P)) → C *ℚ r (suc n) ≤ℚ whole (x * P)
+  pub high_step : (g : ℕ → ℕ) (x : ℕ) → count_pairs n (λ i k. f i k * g k) ≤ x * D
+      → ((k : ℕ) → k ≤ n → C *ℚ r k ≤ℚ whole (g k * P)) → C *ℚ r (suc n) ≤ℚ whole (x * P)
   high_step g x p h =
       times_le_cancel _ _ (whole D) (whole_pos D D_pos)
       (subst₂ (λ s t. s ≤ℚ t) turned (swap x)
@@ -55,16 +60,27 @@ module _ (n D P : ℕ) (C : Fraction) (f : ℕ → ℕ → ℕ) (r : ℕ → Fra
 -- ---- the shift by 8 bits
 
 pub shift_low : (x e : ℕ) → x / 256 * 2 ^ (e + 8) ≤ x * 2 ^ e
-shift_low x e = subst (λ t. x / 256 * t ≤ x * 2 ^ e) (sym (pow-add 2 e 8)) (omega (arith, mul-le-mul_right (2 ^ e) (div-mul-le_self x 256)))
+shift_low x e =
+    subst (λ t. x / 256 * t ≤ x * 2 ^ e) (sym (pow-add 2 e 8))
+    (omega (arith, mul-le-mul_right (2 ^ e) (div-mul-le_self x 256)))
 
 pub shift_high : (x e : ℕ) → x * 2 ^ e ≤ (x + 255) / 256 * 2 ^ (e + 8)
-shift_high x e = subst (λ t. x * 2 ^ e ≤ (x + 255) / 256 * t) (sym (pow-add 2 e 8)) (omega (arith, mul-le-mul_right (2 ^ e) (ceil_reaches x 256 (zero-lt-suc 255))))
+shift_high x e =
+    subst (λ t. x * 2 ^ e ≤ (x + 255) / 256 * t) (sym (pow-add 2 e 8))
+    (omega (arith, mul-le-mul_right (2 ^ e) (ceil_reaches x 256 (zero-lt-suc 255))))
 
-pub shifted : (r : ℕ → Fraction) (e n : ℕ) (low high low' high' : List ℕ) → ((k : ℕ) → get_or low' k 0 ≡ get_or low k 0 / 256) → ((k : ℕ) → get_or high' k 0 ≡ (get_or high k 0 + 255) / 256)
+pub shifted : (r : ℕ → Fraction) (e n : ℕ) (low high low' high' : List ℕ)
+    → ((k : ℕ) → get_or low' k 0 ≡ get_or low k 0 / 256) → ((k : ℕ) → get_or high' k 0 ≡ (get_or high k 0 + 255) / 256)
     → IsRound r e n low high → IsRound r (e + 8) n low' high'
 shifted r e n low high low' high' p q h = record {
-  low_end = λ k b. le_trans _ _ _ (subst (λ t. whole (t * 2 ^ (e + 8)) ≤ℚ whole (get_or low k 0 * 2 ^ e)) (sym (p k)) (whole_le _ _ (shift_low (get_or low k 0) e))) (h.low_end k b);
-  high_end = λ k b. le_trans _ _ _ (h.high_end k b) (subst (λ t. whole (get_or high k 0 * 2 ^ e) ≤ℚ whole (t * 2 ^ (e + 8))) (sym (q k)) (whole_le _ _ (shift_high (get_or high k 0) e)));
+  low_end =
+      λ k b. le_trans _ _ _
+      (subst (λ t. whole (t * 2 ^ (e + 8)) ≤ℚ whole (get_or low k 0 * 2 ^ e)) (sym (p k))
+      (whole_le _ _ (shift_low (get_or low k 0) e))) (h.low_end k b);
+  high_end =
+      λ k b. le_trans _ _ _ (h.high_end k b)
+      (subst (λ t. whole (get_or high k 0 * 2 ^ e) ≤ℚ whole (t * 2 ^ (e + 8))) (sym (q k))
+      (whole_le _ _ (shift_high (get_or high k 0) e)));
 }
 
 pub fit_top : (h k : ℕ) → k < 8 → h ≤ 2 ^ (126 - 8 * k) → (h + 255) / 256 ≤ 2 ^ (126 - 8 * (k + 1))

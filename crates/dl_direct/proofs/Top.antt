@@ -9,23 +9,24 @@ use Rattle.dl_model.specs.Recursion.{Recursion}
 use Rattle.dl_model.specs.Severity.{IsWithinOne}
 use Rattle.dl_model.specs.Family.{compound, Encloses}
 use Rattle.dl_exact.proofs.Over.{over_same}
-use Rattle.dl_exact.proofs.Laws.{ring, one_pos, times_one, one_times, le_refl, le_trans, times_le_times, times_le_cancel, times_pos, whole_pos, whole_times, whole_plus, over_times_whole}
-use Rattle.dl_model.proofs.Declared.{times_le_both, rises_to}
+use Rattle.dl_exact.proofs.Laws.{ring, one_pos, times_one, one_times, le_refl, le_trans, times_le_times, times_le_cancel, times_pos, whole_pos, whole_times, whole_plus, over_times_whole, times_le_both}
+use Rattle.dl_model.proofs.Declared.{rises_to}
 use Rattle.dl_exact.proofs.Sums.{sum_pairs_same, sum_pairs_times}
 use Rattle.dl_model.proofs.FamilyLaws.{cell_at_most_one}
 use Rattle.dl_model.proofs.FamilyLaws.{compound_proper}
 use Rattle.dl_model.proofs.CompoundLaws.{cell_stays}
 use Rattle.dl_iv.specs.declared.interval.Iv.{Iv}
 use Rattle.dl_grid.specs.Cells.{low_at, high_at}
-use Rattle.dl_direct.specs.declared.slide.Part.{Part}
+use Rattle.dl_direct.specs.declared.parts.Part.{Part}
 use Rattle.dl_direct.specs.declared.start.Scaled.{Scaled}
 use Rattle.dl_model.specs.Counts.{IsPanjer}
 use Rattle.dl_direct.specs.Start.{HoldsNoClaim}
-use Rattle.dl_direct.specs.Slide.{part_at, Follows, IsRound}
+use Rattle.dl_direct.specs.Runs.{part_at}
+use Rattle.dl_direct.specs.Slide.{Follows, IsRound}
 use Rattle.dl_direct.specs.Placed.{IsPlaced, IsScaled}
 use Rattle.dl_model.proofs.Panjer.{recursion_there, recursion_next}
 use Rattle.dl_direct.proofs.Starts.{two_pos}
-use Rattle.dl_direct.proofs.Beginnings.{whole_le}
+use Rattle.dl_exact.proofs.RoundingLaws.{whole_le}
 
 -- ---- the numbers of one cell
 
@@ -64,25 +65,31 @@ module _ (T P S X : ℕ) (T_pos : 0 < T) (P_pos : 0 < P) (S_pos : 0 < S) (r : Fr
       plain : (l X a S : ℕ) → l * X * (a * S) ≡ l * a * (X * S)
       plain l X a S = omega arith
 
-  pub low_number : (o l a : ℕ) → o * (T * P) ≤ l * a * (X * S) → whole (l * X) ≤ℚ whole T *ℚ r → o over S ≤ℚ a over P *ℚ r
+  pub low_number : (o l a : ℕ) → o * (T * P) ≤ l * a * (X * S) → whole (l * X) ≤ℚ whole T *ℚ r
+      → o over S ≤ℚ a over P *ℚ r
   low_number o l a p h =
       times_le_cancel _ _ Z Z_pos
       (subst₂ (λ s t. s ≤ℚ t) (sym (out_side o)) (sym (in_side a))
-      (le_trans _ _ _ (whole_le _ _ p) (subst (λ t. t ≤ℚ whole T *ℚ r *ℚ whole (a * S)) (mid l a) (times_le_times _ _ (whole (a * S)) h))))
+      (le_trans _ _ _ (whole_le _ _ p)
+      (subst (λ t. t ≤ℚ whole T *ℚ r *ℚ whole (a * S)) (mid l a) (times_le_times _ _ (whole (a * S)) h))))
 
-  pub high_number : (o l a : ℕ) → l * a * (X * S) ≤ o * (T * P) → whole T *ℚ r ≤ℚ whole (l * X) → a over P *ℚ r ≤ℚ o over S
+  pub high_number : (o l a : ℕ) → l * a * (X * S) ≤ o * (T * P) → whole T *ℚ r ≤ℚ whole (l * X)
+      → a over P *ℚ r ≤ℚ o over S
   high_number o l a p h =
       times_le_cancel _ _ Z Z_pos
       (subst₂ (λ s t. s ≤ℚ t) (sym (in_side a)) (sym (out_side o))
-      (le_trans _ _ _ (subst (λ t. whole T *ℚ r *ℚ whole (a * S) ≤ℚ t) (mid l a) (times_le_times _ _ (whole (a * S)) h)) (whole_le _ _ p)))
+      (le_trans _ _ _ (subst (λ t. whole T *ℚ r *ℚ whole (a * S) ≤ℚ t) (mid l a) (times_le_times _ _ (whole (a * S)) h))
+      (whole_le _ _ p)))
 
 -- ---- the family
 
-module _ (f w : ℕ → Fraction) (z : f zero ≡ whole 0) (severity : IsWithinOne f) (start : Scaled) (H : HoldsNoClaim w start) where
+module _ (f w : ℕ → Fraction) (z : f zero ≡ whole 0) (severity : IsWithinOne f) (start : Scaled)
+    (H : HoldsNoClaim w start) where
   abbrev pub level : ℕ → Fraction
   level s = cell w f s s
 
-  low_holds : (B o y : ℕ) → o over (2 ^ B) ≤ℚ start.low over 2 ^ start.exponent *ℚ cell w f y y → AtLeast (cell w f y) (λ N. sum_to N w) (o over (2 ^ B))
+  low_holds : (B o y : ℕ) → o over (2 ^ B) ≤ℚ start.low over 2 ^ start.exponent *ℚ cell w f y y
+      → AtLeast (cell w f y) (λ N. sum_to N w) (o over (2 ^ B))
   low_holds B o y h N u b =
       let p = start.low over 2 ^ start.exponent in
       let c : p *ℚ sum_to N w ≤ℚ whole 1 = H.0 N (whole 1) (λ m. le_refl _) in
@@ -92,12 +99,15 @@ module _ (f w : ℕ → Fraction) (z : f zero ≡ whole 0) (severity : IsWithinO
       turn : (a b c : Fraction) → a *ℚ b *ℚ c ≡ a *ℚ c *ℚ b
       turn a b c = simp ring
 
-  high_holds : (B o y : ℕ) → start.high over 2 ^ start.exponent *ℚ cell w f y y ≤ℚ o over (2 ^ B) → AtMost (cell w f y) (λ N. sum_to N w) (o over (2 ^ B))
+  high_holds : (B o y : ℕ) → start.high over 2 ^ start.exponent *ℚ cell w f y y ≤ℚ o over (2 ^ B)
+      → AtMost (cell w f y) (λ N. sum_to N w) (o over (2 ^ B))
   high_holds B o y h N u b =
       let p = start.high over 2 ^ start.exponent in
       let r = cell w f y y in
       let M = max N y in
-      let up : cell w f y N ≤ℚ r = subst (λ t. cell w f y N ≤ℚ t) (cell_stays w f z y M (le-max_right N y)) (rises_to (cell w f y) ((compound_proper w f severity).cells_rise y) N M (le-max_left N y)) in
+      let up : cell w f y N ≤ℚ r =
+      subst (λ t. cell w f y N ≤ℚ t) (cell_stays w f z y M (le-max_right N y))
+      (rises_to (cell w f y) ((compound_proper w f severity).cells_rise y) N M (le-max_left N y)) in
       let c : whole 1 ≤ℚ p *ℚ u = H.1 zero u b in
       le_trans _ _ _ up
       (le_trans _ _ _ (subst (λ t. t ≤ℚ r *ℚ (p *ℚ u)) (times_one r) (times_le_both r r _ _ (le_refl r) c))
@@ -106,25 +116,35 @@ module _ (f w : ℕ → Fraction) (z : f zero ≡ whole 0) (severity : IsWithinO
       turn : (a b c : Fraction) → a *ℚ b *ℚ c ≡ b *ℚ (a *ℚ c)
       turn a b c = simp ring
 
-  pub placed_encloses : {B : ℕ} (e n : ℕ) (low high : List ℕ) (cells : List (Iv B)) → IsRound (λ s. cell w f s s) e n low high → IsPlaced start e n low high cells
+  pub placed_encloses : {B : ℕ} (e n : ℕ) (low high : List ℕ) (cells : List (Iv B))
+      → IsRound (λ s. cell w f s s) e n low high → IsPlaced B start e n low high (low_at cells) (high_at cells)
       → Encloses (2 ^ B) n (low_at cells) (high_at cells) (compound w f)
   placed_encloses {B} e n low high cells R Q y l =
       let E = start.exponent in
       let T_is : 2 ^ (61 + E) ≡ 2 ^ 61 * 2 ^ E = pow-add 2 61 E in
       let X_is : 2 ^ (e + B) ≡ 2 ^ e * 2 ^ B = pow-add 2 e B in
-      let lo : low_at cells y * (2 ^ 61 * 2 ^ E) ≤ get_or low y 0 * start.low * (2 ^ e * 2 ^ B) = subst₂ (λ s t. low_at cells y * s ≤ get_or low y 0 * start.low * t) T_is X_is (Q.low_end y l) in (
-        low_holds B (low_at cells y) y (low_number (2 ^ 61) (2 ^ E) (2 ^ B) (2 ^ e) (two_pos 61) (two_pos E) (two_pos B) (cell w f y y) _ _ start.low lo (R.low_end y l)),
+      let lo : low_at cells y * (2 ^ 61 * 2 ^ E) ≤ get_or low y 0 * start.low * (2 ^ e * 2 ^ B) =
+      subst₂ (λ s t. low_at cells y * s ≤ get_or low y 0 * start.low * t) T_is X_is (Q.low_end y l) in (
+        low_holds B (low_at cells y) y
+            (low_number (2 ^ 61) (2 ^ E) (2 ^ B) (2 ^ e) (two_pos 61) (two_pos E) (two_pos B)
+            (cell w f y y) _ _ start.low lo (R.low_end y l)),
         elim (Q.high_end y l) [
           | inl h ↦
-              let hi : get_or high y 0 * start.high * (2 ^ e * 2 ^ B) ≤ high_at cells y * (2 ^ 61 * 2 ^ E) = subst₂ (λ s t. get_or high y 0 * start.high * t ≤ high_at cells y * s) T_is X_is h in
-              high_holds B (high_at cells y) y (high_number (2 ^ 61) (2 ^ E) (2 ^ B) (2 ^ e) (two_pos 61) (two_pos E) (two_pos B) (cell w f y y) _ _ start.high hi (R.high_end y l))
-          | inr h ↦ subst (AtMost (cell w f y) (λ N. sum_to N w)) (sym (ap (λ t. t over (2 ^ B)) h ∙ over_same (2 ^ B) (2 ^ B) 1 1 (two_pos B) one_pos (omega arith))) (cell_at_most_one (compound w f) (compound_proper w f severity) y)
+              let hi : get_or high y 0 * start.high * (2 ^ e * 2 ^ B) ≤ high_at cells y * (2 ^ 61 * 2 ^ E) =
+              subst₂ (λ s t. get_or high y 0 * start.high * t ≤ high_at cells y * s) T_is X_is h in
+              high_holds B (high_at cells y) y
+              (high_number (2 ^ 61) (2 ^ E) (2 ^ B) (2 ^ e) (two_pos 61) (two_pos E) (two_pos B)
+              (cell w f y y) _ _ start.high hi (R.high_end y l))
+          | inr h ↦ subst (AtMost (cell w f y) (λ N. sum_to N w))
+              (sym (ap (λ t. t over (2 ^ B)) h ∙ over_same (2 ^ B) (2 ^ B) 1 1 (two_pos B) one_pos (omega arith)))
+              (cell_at_most_one (compound w f) (compound_proper w f severity) y)
         ],
       )
 
 -- ---- the recursion in whole numbers
 
-pub follows : (f w : ℕ → Fraction) (x : Fraction) (a b q : ℕ) (parts : List Part) → f zero ≡ whole 0 → IsPanjer (whole a *ℚ x) (whole b *ℚ x) w → IsScaled parts q x f → Follows parts a b q (λ s. cell w f s s)
+pub follows : (f w : ℕ → Fraction) (x : Fraction) (a b q : ℕ) (parts : List Part) → f zero ≡ whole 0
+    → IsPanjer (whole a *ℚ x) (whole b *ℚ x) w → IsScaled parts q x f → Follows parts a b q (λ s. cell w f s s)
 follows f w x a b q parts z P W =
     let r : ℕ → Fraction = λ s. cell w f s s in
     let R : Recursion (whole a *ℚ x) (whole b *ℚ x) f r = recursion_there f w (whole a *ℚ x) (whole b *ℚ x) z P in
@@ -133,7 +153,8 @@ follows f w x a b q parts z P W =
       next = λ n.
           ap (λ t. t *ℚ r (suc n)) (whole_times q (suc n)) ∙ turn (whole q) (whole (suc n)) (r (suc n))
           ∙ ap (λ t. whole q *ℚ t) (recursion_next f w (whole a *ℚ x) (whole b *ℚ x) z P r R n)
-          ∙ sym (sum_pairs_times n (whole q) (λ i k. (whole a *ℚ x *ℚ whole (suc n) +ℚ whole b *ℚ x *ℚ whole (suc i)) *ℚ f (suc i) *ℚ r k))
+          ∙ sym (sum_pairs_times n (whole q)
+          (λ i k. (whole a *ℚ x *ℚ whole (suc n) +ℚ whole b *ℚ x *ℚ whole (suc i)) *ℚ f (suc i) *ℚ r k))
           ∙ sum_pairs_same n _ _ (λ i k e.
           each (whole q) (whole a) x (whole (suc n)) (whole b) (whole (suc i)) (f (suc i)) (r k)
           ∙ ap₂ (λ s t. s *ℚ t *ℚ r k) (factor n i) (W (suc i))
@@ -143,8 +164,10 @@ follows f w x a b q parts z P W =
     turn : (q s r : Fraction) → q *ℚ s *ℚ r ≡ q *ℚ (r *ℚ s)
     turn q s r = simp ring
 
-    each : (q a x s b i f r : Fraction) → q *ℚ ((a *ℚ x *ℚ s +ℚ b *ℚ x *ℚ i) *ℚ f *ℚ r) ≡ (a *ℚ s +ℚ b *ℚ i) *ℚ (q *ℚ (x *ℚ f)) *ℚ r
+    each : (q a x s b i f r : Fraction)
+        → q *ℚ ((a *ℚ x *ℚ s +ℚ b *ℚ x *ℚ i) *ℚ f *ℚ r) ≡ (a *ℚ s +ℚ b *ℚ i) *ℚ (q *ℚ (x *ℚ f)) *ℚ r
     each q a x s b i f r = simp ring
 
     factor : (n i : ℕ) → whole a *ℚ whole (suc n) +ℚ whole b *ℚ whole (suc i) ≡ whole (a * suc n + b * suc i)
-    factor n i = ap₂ (λ s t. s +ℚ t) (sym (whole_times a (suc n))) (sym (whole_times b (suc i))) ∙ sym (whole_plus (a * suc n) (b * suc i))
+    factor n i = ap₂ (λ s t. s +ℚ t) (sym (whole_times a (suc n))) (sym (whole_times b (suc i)))
+        ∙ sym (whole_plus (a * suc n) (b * suc i))

@@ -1,7 +1,8 @@
 -- Equal shares of a count, the steps of its weights, and items with their weights times a factor.
-use Rattle.std.proofs.Common.{◌≡◌, inl, inr, ℕ, suc, zero, ◌+◌, ◌-◌, ◌*◌, ◌<◌, ◌≤◌, List, [], ◌∷◌, ◌++◌, length, take, get_or, arith, sym, ap, ap₂, subst₂, ◌∙◌, mul-pos, lt_of_mul-lt-mul_right}
+use Rattle.std.proofs.Common.{◌≡◌, inl, inr, ℕ, suc, zero, ◌+◌, ◌-◌, ◌*◌, ◌<◌, ◌≤◌, List, [], ◌∷◌, length, take, get_or, arith, sym, ap, ap₂, subst₂, ◌∙◌, mul-pos, lt_of_mul-lt-mul_right, add-one}
 use Rattle.std.specs.Prelude.{◌==◌, if◌then◌else◌}
-use Rattle.std.proofs.lemmas.List.Sums.{sum_by_push, sum_by_more}
+use Rattle.std.specs.List.{sum_by}
+use Rattle.std.proofs.lemmas.List.Sums.{sum_by-cons, sum_by_more}
 use Rattle.std.proofs.lemmas.Bool.Decides.{eqb_tells}
 use Rattle.dl_exact.specs.Fraction.{Fraction, ◌over◌, ◌+ℚ◌, ◌*ℚ◌, ◌/ℚ◌, whole}
 use Rattle.dl_exact.proofs.Over.{over_add, over_div, over_mul, over_same}
@@ -13,8 +14,9 @@ use Rattle.dl_model.proofs.PoissonTimes.{poisson_power}
 use Rattle.dl_model.proofs.Gamma.{gamma_power}
 use Rattle.dl_plan.specs.declared.item.Item.{Item}
 use Rattle.dl_plan.specs.Weighted.{weight_sum, weight_at}
-use Rattle.dl_direct.specs.declared.slide.Part.{Part}
-use Rattle.dl_direct.specs.Slide.{part_sum, part_at}
+use Rattle.dl_direct.specs.declared.parts.Part.{Part}
+use Rattle.dl_direct.specs.Runs.{in_a_row}
+use Rattle.dl_direct.proofs.Runs.{row_none, row_more}
 
 pub few_shares : (s num den : ℕ) → s * den < num + num → num ≤ 4096 * den → s < 8192
 few_shares s num den p q = lt_of_mul-lt-mul_right den (omega (arith, p, q))
@@ -23,7 +25,9 @@ few_shares s num den p q = lt_of_mul-lt-mul_right den (omega (arith, p, q))
 pub shares : (num den s : ℕ) → 0 < den → 0 < s → power (poisson (num over (s * den))) s ≡ poisson (num over den)
 shares num den s d p =
     poisson_power (num over (s * den)) s
-    ∙ ap poisson (over_mul s 1 num (s * den) one_pos (mul-pos p d) ∙ over_same _ _ _ _ (mul-pos one_pos (mul-pos p d)) d (omega arith))
+    ∙ ap poisson
+    (over_mul s 1 num (s * den) one_pos (mul-pos p d)
+    ∙ over_same _ _ _ _ (mul-pos one_pos (mul-pos p d)) d (omega arith))
 
 -- as many geometric counts as the shape says, together
 pub shapes : (x : Fraction) (s : ℕ) → 0 < s → power (gamma 1 x) s ≡ gamma s x
@@ -35,10 +39,13 @@ shapes x (suc s) p = gamma_power s x
 abbrev pub times_item : ℕ → Item → Part
 times_item k item = record { amount = item.amount; weight = k * item.weight }
 
-times_at : (k j : ℕ) (item : Item) → (if (times_item k item).amount == j then (times_item k item).weight else 0) ≡ k * (if item.amount == j then item.weight else 0)
+times_at : (k j : ℕ) (item : Item)
+    → (if (times_item k item).amount == j then (times_item k item).weight else 0) ≡ k *
+    (if item.amount == j then item.weight else 0)
 times_at k j item = elim (eqb_tells item.amount j) [
   | inl t ↦ ap (λ v. if v then k * item.weight else 0) t.0 ∙ sym (ap (λ v. k * (if v then item.weight else 0)) t.0)
-  | inr t ↦ ap (λ v. if v then k * item.weight else 0) t.0 ∙ none k ∙ sym (ap (λ v. k * (if v then item.weight else 0)) t.0)
+  | inr t ↦ ap (λ v. if v then k * item.weight else 0) t.0 ∙ none k
+      ∙ sym (ap (λ v. k * (if v then item.weight else 0)) t.0)
 ]
   where
     none : (k : ℕ) → 0 ≡ k * 0
@@ -47,21 +54,58 @@ times_at k j item = elim (eqb_tells item.amount j) [
 split : (k a b : ℕ) → k * a + k * b ≡ k * (a + b)
 split k a b = omega arith
 
-module _ (k : ℕ) (items : List Item) (i : ℕ) (d : Item) (h : i < length items) (done : List Part) where
-  pub sum_next : part_sum done ≡ k * weight_sum (take i items) → part_sum (done ++ times_item k (get_or items i d) ∷ []) ≡ k * weight_sum (take (i + 1) items)
-  sum_next e =
-      let here : Item = get_or items i d in
-      let more : weight_sum (take (i + 1) items) ≡ weight_sum (take i items) + here.weight = sum_by_more (λ (x : Item). x.weight) items i d h in
-      sum_by_push (λ (p : Part). p.weight) done (times_item k here) ∙ ap (λ t. t + k * here.weight) e ∙ split k _ _ ∙ ap (λ t. k * t) (sym more)
+-- sums over items with their weights times k
+pub times_sum : (k : ℕ) (items : List Item) → sum_by (λ (item : Item). k * item.weight) items ≡ k * weight_sum items
+times_sum k [] = omega arith
+times_sum k (x ∷ xs) =
+    sum_by-cons (λ (item : Item). k * item.weight) x xs ∙ ap (λ t. k * x.weight + t) (times_sum k xs) ∙ split k _ _
+    ∙ ap (λ t. k * t) (sym (sum_by-cons (λ (item : Item). item.weight) x xs))
 
-  pub each_next : (j : ℕ) → part_at done j ≡ k * weight_at (take i items) j → part_at (done ++ times_item k (get_or items i d) ∷ []) j ≡ k * weight_at (take (i + 1) items) j
-  each_next j e =
-      let here : Item = get_or items i d in
-      let more : weight_at (take (i + 1) items) j ≡ weight_at (take i items) j + (if here.amount == j then here.weight else 0) = sum_by_more (λ (x : Item). if x.amount == j then x.weight else 0) items i d h in
-      sum_by_push (λ (p : Part). if p.amount == j then p.weight else 0) done (times_item k here)
-      ∙ ap₂ (λ s t. s + t) e (times_at k j here) ∙ split k _ _ ∙ ap (λ t. k * t) (sym more)
+pub times_each : (k j : ℕ) (items : List Item)
+    → sum_by (λ (item : Item). if (times_item k item).amount == j then
+    (times_item k item).weight else 0) items ≡ k * weight_at items j
+times_each k j [] = omega arith
+times_each k j (x ∷ xs) =
+    sum_by-cons (λ (item : Item). if (times_item k item).amount == j then (times_item k item).weight else 0) x xs
+    ∙ ap₂ (λ s t. s + t) (times_at k j x) (times_each k j xs) ∙ split k _ _
+    ∙ ap (λ t. k * t) (sym (sum_by-cons (λ (item : Item). if item.amount == j then item.weight else 0) x xs))
 
-pub chance_scaled : (base total num w v : ℕ) → 0 < base → 0 < total → v ≡ num * w → whole (base * total) *ℚ (num over base *ℚ w over total) ≡ whole v
+module _ (f : Part → ℕ) (k : ℕ) (items : List Item) (i : ℕ) (d : Item) (h : i < length items) where
+  more : sum_by (λ item. f (times_item k item)) (take (i + 1) items) ≡ sum_by (λ item. f (times_item k item))
+      (take i items) + f (times_item k (get_or items i d))
+  more = sum_by_more (λ (item : Item). f (times_item k item)) items i d h
+
+  -- one item more for the run at the end
+  pub item_joined : (m n w S : ℕ) → (get_or items i d).amount ≡ m + n → k * (get_or items i d).weight ≡ w
+      → S + sum_by f (in_a_row m n w) ≡ sum_by (λ item. f (times_item k item)) (take i items)
+      → S + sum_by f (in_a_row m (n + 1) w) ≡ sum_by (λ item. f (times_item k item)) (take (i + 1) items)
+  item_joined m n w S p q e =
+      let row : sum_by f (in_a_row m (n + 1) w) ≡ sum_by f (in_a_row m n w) + f
+      (record { amount = m + n; weight = w }) = ap (λ t. sum_by f (in_a_row m t w)) (add-one n)
+      ∙ row_more f m n w in
+      let here : f (times_item k (get_or items i d)) ≡ f (record { amount = m + n; weight = w }) =
+      ap₂ (λ x y. f (record { amount = x; weight = y })) p q in
+      omega (arith, row, here, e, more)
+
+  -- a new run of this item alone
+  pub item_begun : (w S : ℕ) → k * (get_or items i d).weight ≡ w
+      → S ≡ sum_by (λ item. f (times_item k item)) (take i items)
+      → S + sum_by f (in_a_row (get_or items i d).amount 1 w) ≡ sum_by (λ item. f (times_item k item))
+      (take (i + 1) items)
+  item_begun w S q e =
+      let m = (get_or items i d).amount in
+      let row : sum_by f (in_a_row m 1 w) ≡ sum_by f (in_a_row m 0 w) + f (record { amount = m + 0; weight = w }) =
+      row_more f m 0 w in
+      let none : m + 0 ≡ m = plus_none m in
+      let here : f (times_item k (get_or items i d)) ≡ f (record { amount = m + 0; weight = w }) =
+      ap₂ (λ x y. f (record { amount = x; weight = y })) (sym none) q in
+      omega (arith, row, row_none f m w, here, e, more)
+    where
+      plus_none : (m : ℕ) → m + 0 ≡ m
+      plus_none m = omega arith
+
+pub chance_scaled : (base total num w v : ℕ) → 0 < base → 0 < total → v ≡ num * w
+    → whole (base * total) *ℚ (num over base *ℚ w over total) ≡ whole v
 chance_scaled base total num w v b t e =
     ap (λ x. whole (base * total) *ℚ x) (over_mul num base w total b t)
     ∙ over_mul (base * total) 1 (num * w) (base * total) one_pos (mul-pos b t)

@@ -1,22 +1,21 @@
 //! The grids of units whose counts are of the (a, b, 0) class, by one recursion.
 
-ghost use Rattle.std.specs.Prelude.{◌≡◌, ℕ, ◌+◌, ◌-◌, ◌*◌, ◌^◌, ◌<◌, ◌≤◌, length, sum_by, All, IfOk, IfSome, IsTrue};
+ghost use Rattle.std.specs.Prelude.{◌≡◌, ℕ, ◌+◌, ◌-◌, ◌*◌, ◌^◌, ◌<◌, ◌≤◌, length, IfOk, IfSome, IsTrue};
 ghost use Rattle.dl_exact.specs.Fraction.{Fraction, whole, ◌over◌, ◌*ℚ◌, ◌≤ℚ◌};
 ghost use Rattle.dl_grid.specs.Cells.{IsGrid};
 ghost use Rattle.dl_model.specs.Counts.{poisson, gamma_of, IsPanjer};
 ghost use Rattle.dl_model.specs.Family.{compound, GridEncloses};
 ghost use Rattle.dl_plan.specs.Severity.{probability_of};
-ghost use Rattle.dl_plan.specs.Weighted.{weight_sum, weight_at};
 ghost use Rattle.dl_direct.specs.Start.{HoldsNoClaim};
-ghost use Rattle.dl_direct.specs.Slide.{part_sum, part_at};
 
 use crate::first::{gamma_start, poisson_start};
+use crate::parts::amounts_of;
 use crate::placing::place;
-use crate::slide::{Part, recur};
+use crate::slide::recur;
 use crate::start::Scaled;
 use dl_frac::Frac;
 use dl_grid::Grid;
-use dl_plan::{Item, Sev};
+use dl_plan::Sev;
 use std::alloc::{AllocError, Global};
 
 /// How the weights of a count step: the weight of `n + 1` claims is `(a + b / (n + 1)) * num / base`
@@ -27,24 +26,6 @@ struct Steps {
     b: u64,
     num: u64,
     base: u64,
-}
-
-/// Each item with its weight times the factor.
-fn scaled_parts(alloc: Global, items: &[Item], factor: u64) -> Result<Vec<Part>, AllocError>
-    requires room { factor * weight_sum items.now < 2 ^ 64 }
-    requires no_zero { All (λ item. 0 < item.amount) items.now }
-    ensures no_zero { IfOk result (λ parts. All (λ p. 0 < p.amount) parts.items) }
-    ensures sum { IfOk result (λ parts. part_sum parts.items ≡ factor * weight_sum items.now) }
-    ensures each { IfOk result (λ parts. (j : ℕ) → part_at parts.items j ≡ factor * weight_at items.now j) }
-{
-    let mut parts = Vec::with_capacity(alloc, items.len())?;
-    'items: for item in items {
-        parts.push(Part {
-            amount: item.amount as usize,
-            weight: factor * u64::from(item.weight),
-        })?;
-    }
-    Ok(parts)
 }
 
 /// Whether the sums of the recursion stay in their words: the factors of a cell in 64 bits, and what it
@@ -96,16 +77,16 @@ fn compound_direct<const B: u32>(
     if !fits(steps, sev.total, cells) {
         return Ok(None);
     }
-    let parts = scaled_parts(alloc, sev.items.as_slice(), steps.num)?;
+    let amounts = amounts_of(alloc, sev.items.as_slice(), steps.num)?;
     let divisor = steps.base * u64::from(sev.total);
-    let x = recur(alloc, &parts, steps.a, steps.b, divisor, cells as usize)?;
+    let x = recur(alloc, &amounts, steps.a, steps.b, divisor, cells as usize)?;
     let scale = 61 + u64::from(start.exponent);
     let raised = x.shift + u64::from(B);
     if raised > scale {
         return Ok(None);
     }
-    let list = place::<B>(alloc, &x, start, scale - raised)?;
-    Ok(Some(Grid::from_cells(list)))
+    let grid = place(alloc, &x, start, scale - raised)?;
+    Ok(Some(grid))
 }
 
 /// The first `cells` cells of a Poisson number of claims of this mean, by one recursion, without a
@@ -127,7 +108,8 @@ pub fn poisson_direct<const B: u32>(
     requires some { 1 ≤ cells }
     requires few { cells ≤ 16384 }
     ensures cells { IfOk result (λ made. IfSome made (λ g. length g ≡ cells)) }
-    ensures encloses { IfOk result (λ made. IfSome made (λ g. GridEncloses g (compound (poisson mean) (probability_of sev.now)))) }
+    ensures encloses { IfOk result (λ made. IfSome made (λ g.
+        GridEncloses g (compound (poisson mean) (probability_of sev.now)))) }
 {
     let start = poisson_start(mean.num(), mean.den());
     let steps = Steps {
@@ -159,7 +141,8 @@ pub fn gamma_direct<const B: u32>(
     requires some { 1 ≤ cells }
     requires few { cells ≤ 16384 }
     ensures cells { IfOk result (λ made. IfSome made (λ g. length g ≡ cells)) }
-    ensures encloses { IfOk result (λ made. IfSome made (λ g. GridEncloses g (compound (gamma_of shape mean) (probability_of sev.now)))) }
+    ensures encloses { IfOk result (λ made. IfSome made (λ g.
+        GridEncloses g (compound (gamma_of shape mean) (probability_of sev.now)))) }
 {
     let start = gamma_start(mean.num(), mean.den(), shape);
     let steps = Steps {

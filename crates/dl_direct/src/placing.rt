@@ -1,14 +1,13 @@
 //! From the cells of the recursion to a grid.
 
 ghost use Rattle.std.specs.Prelude.{◌≡◌, ◌+◌, ◌*◌, ◌^◌, ◌<◌, ◌≤◌, ◌⊎◌, length, IfOk};
-ghost use Rattle.dl_grid.specs.Cells.{IsGrid};
+ghost use Rattle.dl_grid.specs.Cells.{low_at, high_at};
 ghost use Rattle.dl_direct.specs.Slide.{IsSettled};
 ghost use Rattle.dl_direct.specs.Placed.{IsPlaced};
 
-use crate::slide::Slid;
+use crate::cells::Slid;
 use crate::start::Scaled;
-use dl_grid::units_of_one;
-use dl_iv::Iv;
+use dl_grid::{Grid, units_of_one};
 use std::alloc::{AllocError, Global};
 
 /// The product by `down` bits down, rounded down, and at most `one`.
@@ -39,14 +38,14 @@ fn narrow_high(a: u64, b: u64, down: u64, one: u128) -> u128
     if x > one { one } else { x }
 }
 
-/// Each cell times the probability of no claim, by `down` bits down. A low end is lowered to its high
-/// end, and to what the low ends before it leave of 1.
+/// The grid of the cells, each times the probability of no claim, by `down` bits down. A low end is
+/// lowered to its high end, and to what the low ends before it leave of 1.
 pub(crate) fn place<const B: u32>(
     alloc: Global,
     x: &Slid,
     start: Scaled,
     down: u64,
-) -> Result<Vec<Iv<B>>, AllocError>
+) -> Result<Grid<B>, AllocError>
     requires scale_above { 1 ≤ B }
     requires scale_below { B ≤ 56 }
     requires settled { IsSettled x.now.low.items x.now.high.items x.now.first }
@@ -55,18 +54,21 @@ pub(crate) fn place<const B: u32>(
     requires low_small { start.low ≤ 2 ^ 63 }
     requires high_small { start.high ≤ 2 ^ 63 }
     requires scale { 61 + start.exponent ≡ down + (x.now.shift + B) }
-    ensures cells { IfOk result (λ list. length list.items ≡ length x.now.low.items) }
-    ensures grid { IfOk result (λ list. IsGrid list.items) }
-    ensures placed { IfOk result (λ list. IsPlaced start x.now.shift (length x.now.low.items) x.now.low.items x.now.high.items list.items) }
+    ensures cells { IfOk result (λ g. length g ≡ length x.now.low.items) }
+    ensures placed { IfOk result (λ g. IsPlaced B start x.now.shift (length x.now.low.items)
+        x.now.low.items x.now.high.items (low_at g) (high_at g)) }
 {
-    let mut list = Vec::with_capacity(alloc, x.low.len())?;
+    let mut lows = Vec::with_capacity(alloc, x.low.len())?;
+    let mut highs = Vec::with_capacity(alloc, x.low.len())?;
     let one = units_of_one(B);
     let mut room = one;
     'cells: for i in 0..x.low.len() {
-        let hi = narrow_high(x.high[i], start.high, down, one);
-        let lo = narrow_low(x.low[i], start.low, down, one).min(hi).min(room);
-        room -= lo;
-        list.push(Iv { lo, hi })?;
+        let high = narrow_high(x.high[i], start.high, down, one);
+        let most = high.min(room);
+        let low = narrow_low(x.low[i], start.low, down, one).min(most);
+        room -= low;
+        lows.push(low)?;
+        highs.push(high)?;
     }
-    Ok(list)
+    Ok(Grid::from_ends(lows, highs))
 }

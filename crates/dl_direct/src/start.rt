@@ -33,7 +33,8 @@ pub(crate) fn times(a: Scaled, b: Scaled) -> Scaled
     ensures least { 63 ≤ result.exponent }
     ensures order { result.low ≤ result.high }
     ensures room { result.exponent ≤ a.exponent + b.exponent }
-    ensures holds { (v w : ℕ → Fraction) → HoldsNoClaim v a → HoldsNoClaim w b → HoldsNoClaim (convolve v w) result }
+    ensures holds { (v w : ℕ → Fraction) → HoldsNoClaim v a → HoldsNoClaim w b
+        → HoldsNoClaim (convolve v w) result }
 {
     let mut low = u128::from(a.low) * u128::from(b.low);
     let mut high = u128::from(a.high) * u128::from(b.high);

@@ -2,26 +2,28 @@ use Rattle.std.proofs.Common.{◌≡◌, ℕ, ◌+◌, ◌*◌, ◌^◌, ◌<◌
 use Rattle.dl_exact.specs.Fraction.{Fraction, whole, ◌over◌, ◌*ℚ◌}
 use Rattle.dl_grid.specs.Cells.{low_at, high_at}
 use Rattle.dl_model.specs.Compound.{cell}
-use Rattle.dl_model.specs.Family.{compound, Encloses, GridEncloses}
+use Rattle.dl_model.specs.Family.{compound, Encloses}
 use Rattle.dl_plan.specs.Severity.{probability_of}
 use Rattle.dl_plan.specs.Weighted.{weight_sum, weight_at}
-use Rattle.dl_direct.specs.Slide.{part_at, IsRound}
+use Rattle.dl_direct.specs.Runs.{parts_of, part_at}
+use Rattle.dl_direct.specs.Slide.{IsRound}
 use Rattle.dl_direct.specs.Placed.{IsPlaced, IsScaled}
 use Rattle.dl_direct.proofs.Severities.{total_positive, within_one, amounts_positive, one_factor}
 use Rattle.dl_direct.proofs.Units.{chance_scaled}
 use Rattle.dl_direct.proofs.Top.{follows, placed_encloses}
 use Rattle.dl_direct.proofs.direct.compound_direct.Goals as goal
 
-pub scaled_parts-requires-clause-room : goal.scaled_parts-requires-clause-room
-scaled_parts-requires-clause-room g c =
+pub amounts_of-requires-clause-room : goal.amounts_of-requires-clause-room
+amounts_of-requires-clause-room g c =
     let sev = c.args.sev.now in
     let s = c.args.steps in
     let sum : weight_sum c.as_slice.result.now ≡ sev.total = ap weight_sum c.as_slice.ensures ∙ sev.weighted.sum in
     subst (λ t. s.num * t < 2 ^ 64) (sym sum)
-    (one_factor ((s.a + s.b) * c.args.cells) (s.num * sev.total) (mul-pos c.requires.some_step c.requires.some) (c.if-not-fits.ensures.factors refl))
+    (one_factor ((s.a + s.b) * c.args.cells) (s.num * sev.total) (mul-pos c.requires.some_step c.requires.some)
+    (c.if-not-fits.ensures.factors refl))
 
-pub scaled_parts-requires-clause-no_zero : goal.scaled_parts-requires-clause-no_zero
-scaled_parts-requires-clause-no_zero g c =
+pub amounts_of-requires-clause-no_zero : goal.amounts_of-requires-clause-no_zero
+amounts_of-requires-clause-no_zero g c =
     subst (All (λ item. 0 < item.amount)) (sym c.as_slice.ensures) (amounts_positive c.args.sev.now c.requires.no_zero)
 
 pub recur-requires-clause-divisor : goal.recur-requires-clause-divisor
@@ -35,20 +37,24 @@ returns-clause-encloses g c w P H =
     let f : ℕ → Fraction = probability_of sev in
     let s = c.args.steps in
     let x = s.num over s.base in
-    let parts = c.deref.result.now in
+    let parts = parts_of c.in_ok-amounts.amounts in
     let slid = c.in_ok-x.x in
-    let list = c.in_ok-list.list.items in
+    let grid = c.in_ok-grid.grid in
     let each : (j : ℕ) → part_at parts j ≡ s.num * weight_at sev.items j =
-    λ j. ap (λ l. part_at l j) c.deref.ensures.value ∙ c.in_ok-parts.ensures.each j ∙ ap (λ l. s.num * weight_at l j) c.as_slice.ensures in
+    λ j. c.in_ok-amounts.ensures.each j ∙ ap (λ l. s.num * weight_at l j) c.as_slice.ensures in
     let scaled : IsScaled parts (s.base * c.from.result) x f =
     λ j. ap (λ t. whole (s.base * t) *ℚ (x *ℚ f j)) c.from.ensures
-    ∙ chance_scaled s.base sev.total s.num (weight_at sev.items j) (part_at parts j) c.requires.base_positive (total_positive sev) (each j) in
+    ∙ chance_scaled s.base sev.total s.num (weight_at sev.items j) (part_at parts j) c.requires.base_positive
+    (total_positive sev) (each j) in
     let round : IsRound (λ k. cell w f k k) slid.shift c.args.cells slid.low.items slid.high.items =
-    c.in_ok-x.ensures.round (λ k. cell w f k k) (follows f w x s.a s.b (s.base * c.from.result) parts c.requires.no_zero P scaled) in
-    let placed : IsPlaced c.args.start slid.shift c.args.cells slid.low.items slid.high.items list =
-    subst (λ n. IsPlaced c.args.start slid.shift n slid.low.items slid.high.items list) c.in_ok-x.ensures.cells c.in_ok-list.ensures.placed in
-    let all : Encloses (2 ^ B) c.args.cells (low_at list) (high_at list) (compound w f) =
-    placed_encloses f w c.requires.no_zero (within_one sev) c.args.start H slid.shift c.args.cells slid.low.items slid.high.items list round placed in
-    let count : length list ≡ c.args.cells = c.in_ok-list.ensures.cells ∙ c.in_ok-x.ensures.cells in
-    subst (λ l. GridEncloses l (compound w f)) (sym c.from_cells.ensures)
-    (subst (λ n. Encloses (2 ^ B) n (low_at list) (high_at list) (compound w f)) (sym count) all)
+    c.in_ok-x.ensures.round (λ k. cell w f k k)
+    (follows f w x s.a s.b (s.base * c.from.result) parts c.requires.no_zero P scaled) in
+    let placed : IsPlaced B c.args.start slid.shift c.args.cells slid.low.items slid.high.items (low_at grid)
+    (high_at grid) =
+    subst (λ n. IsPlaced B c.args.start slid.shift n slid.low.items slid.high.items (low_at grid)
+    (high_at grid)) c.in_ok-x.ensures.cells c.in_ok-grid.ensures.placed in
+    let all : Encloses (2 ^ B) c.args.cells (low_at grid) (high_at grid) (compound w f) =
+    placed_encloses f w c.requires.no_zero
+    (within_one sev) c.args.start H slid.shift c.args.cells slid.low.items slid.high.items grid round placed in
+    let count : length grid ≡ c.args.cells = c.in_ok-grid.ensures.cells ∙ c.in_ok-x.ensures.cells in
+    subst (λ n. Encloses (2 ^ B) n (low_at grid) (high_at grid) (compound w f)) (sym count) all

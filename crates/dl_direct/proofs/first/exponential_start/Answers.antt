@@ -7,15 +7,29 @@ use Rattle.dl_exact.proofs.Laws.{le_of_eq, times_one}
 use Rattle.dl_model.proofs.PoissonWeights.{poisson_zero}
 use Rattle.dl_direct.proofs.Starts.{two_pos}
 use Rattle.dl_direct.proofs.Rounding.{ceil_reaches, floor_ceil, term_small}
-use Rattle.dl_direct.proofs.Beginnings.{half_over, low_term, high_term, low_sum, high_sum, poisson_holds}
+use Rattle.dl_exact.proofs.SumsOver.{low_sum, high_sum}
+use Rattle.dl_direct.proofs.Beginnings.{half_over, low_term, high_term, poisson_holds}
 use Rattle.dl_direct.proofs.first.exponential_start.Goals as goal
 
 pub loop-n-init : goal.loop-n-init
 unfolding sum_to
 loop-n-init c =
     let v = c.args.num over c.args.den in
-    let e : whole (2 ^ 63) *ℚ poisson v 0 ≡ whole (2 ^ 63) = ap (λ t. whole (2 ^ 63) *ℚ t) (poisson_zero v) ∙ times_one _ in
-    record { low_term = le_of_eq _ _ (sym e); high_term = le_of_eq _ _ e; low = le_of_eq _ _ (sym e); high = le_of_eq _ _ e; terms = omega arith; small = omega arith; order = omega arith; start = omega arith; bound = omega arith }
+    let e : whole (2 ^ 63) *ℚ poisson v 0 ≡ whole (2 ^ 63) = ap (λ t. whole (2 ^ 63) *ℚ t) (poisson_zero v)
+    ∙ times_one _ in
+    record {
+      low_term = le_of_eq _ _ (sym e);
+      high_term = le_of_eq _ _ e;
+      low = le_of_eq _ _ (sym e);
+      high =
+          le_of_eq _ _ e;
+      terms = omega arith;
+      small = omega arith;
+      order = omega arith;
+      start = omega arith;
+      bound =
+          omega arith;
+    }
 
 pub loop-n-preserved : goal.loop-n-preserved
 loop-n-preserved c =
@@ -36,14 +50,20 @@ loop-n-preserved c =
     let t = (b + (d - 1)) / d in
     let low : s * (den * suc n) ≤ c.loop-n.low_term * num = subst₂ (λ x y. s * x ≤ y) e ae (div-mul-le_self a d) in
     let high : c.loop-n.high_term * num ≤ t * (den * suc n) = subst₂ (λ x y. y ≤ t * x) e be (ceil_reaches b d dp) in
-    let f : whole s ≤ℚ C *ℚ poisson v (suc n) = low_term num den c.requires.positive C n c.loop-n.low_term s low i.low_term in
-    let g : C *ℚ poisson v (suc n) ≤ℚ whole t = high_term num den c.requires.positive C n c.loop-n.high_term t high i.high_term in
+    let f : whole s ≤ℚ C *ℚ poisson v (suc n) =
+    low_term num den c.requires.positive C n c.loop-n.low_term s low i.low_term in
+    let g : C *ℚ poisson v (suc n) ≤ℚ whole t =
+    high_term num den c.requires.positive C n c.loop-n.high_term t high i.high_term in
     let ab : a ≤ b = subst₂ (λ x y. x ≤ y) (sym ae) (sym be) (mul-le-mul_right num i.terms) in
     let st : s ≤ t = floor_ceil a b d dp ab in
-    let dn : num ≤ d = subst (λ t. num ≤ t) (sym e) (omega (arith, c.requires.half, mul-le-mul_left den (suc_least n))) in
-    let small : t ≤ 2 ^ 63 = subst (λ x. (x + (d - 1)) / d ≤ 2 ^ 63) (sym be) (term_small c.loop-n.high_term num d (2 ^ 63) dp dn i.small) in
-    let low_all : whole (c.loop-n.low + s) ≤ℚ C *ℚ sum_to (suc n) (poisson v) = low_sum C (poisson v) n c.loop-n.low s i.low f in
-    let high_all : C *ℚ sum_to (suc n) (poisson v) ≤ℚ whole (c.loop-n.high + t) = high_sum C (poisson v) n c.loop-n.high t i.high g in
+    let dn : num ≤ d =
+    subst (λ t. num ≤ t) (sym e) (omega (arith, c.requires.half, mul-le-mul_left den (suc_least n))) in
+    let small : t ≤ 2 ^ 63 =
+    subst (λ x. (x + (d - 1)) / d ≤ 2 ^ 63) (sym be) (term_small c.loop-n.high_term num d (2 ^ 63) dp dn i.small) in
+    let low_all : whole (c.loop-n.low + s) ≤ℚ C *ℚ sum_to (suc n) (poisson v) =
+    low_sum C (poisson v) n c.loop-n.low s i.low f in
+    let high_all : C *ℚ sum_to (suc n) (poisson v) ≤ℚ whole (c.loop-n.high + t) =
+    high_sum C (poisson v) n c.loop-n.high t i.high g in
     record {
       low_term = subst (λ k. whole s ≤ℚ C *ℚ poisson v k) (sym (add-one n)) f;
       high_term = subst (λ k. C *ℚ poisson v k ≤ℚ whole t) (sym (add-one n)) g;
@@ -66,6 +86,7 @@ returns-clause-holds c =
     let b = c.loop-n.high + c.loop-n.high_term in
     let T = 2 ^ 63 in
     let ap' : 0 < a = omega (arith, i.start) in
-    poisson_holds (c.args.num over c.args.den) c.loop-n.n T a c.loop-n.high c.loop-n.high_term (85070591730234615865843651857942052864 / b) ((85070591730234615865843651857942052864 + (a - 1)) / a)
+    poisson_holds (c.args.num over c.args.den) c.loop-n.n T a c.loop-n.high c.loop-n.high_term
+    (85070591730234615865843651857942052864 / b) ((85070591730234615865843651857942052864 + (a - 1)) / a)
     (half_over c.args.num c.args.den c.requires.positive c.requires.half) (two_pos 63) i.low i.high i.high_term
     (div-mul-le_self (T * T) b) (ceil_reaches (T * T) a ap')

@@ -13,4 +13,5 @@ returns-clause-holds c =
     let Ap : 0 < A = omega arith in
     geometric_holds c.args.num c.args.rest (part / A) ((part + (A - 1)) / A) (2 ^ 63) c.requires.positive (two_pos 63)
     (subst (λ t. part / A * t ≤ c.args.rest * 2 ^ 63) all (omega (arith, div-mul-le_self part A)))
-    (subst (λ t. c.args.rest * 2 ^ 63 ≤ (part + (A - 1)) / A * t) all (omega (arith, lt-div-mul-add {a = part + (A - 1)} {b = A} Ap)))
+    (subst (λ t. c.args.rest * 2 ^ 63 ≤ (part + (A - 1)) / A * t) all
+    (omega (arith, lt-div-mul-add {a = part + (A - 1)} {b = A} Ap)))

@@ -1,8 +1,10 @@
-use Rattle.std.proofs.Common.{◌≡◌, ◌⊎◌, ◌+◌, ◌*◌, ◌^◌, ◌<◌, ◌≤◌, length, get_or, ◌∷◌, [], ◌++◌, arith, sym, ap, subst, subst₂, ◌∙◌, mul-le-mul_right}
+use Rattle.std.proofs.Common.{◌≡◌, ℕ, ◌⊎◌, ◌+◌, ◌*◌, ◌^◌, ◌<◌, ◌≤◌, length, get_or, ◌∷◌, [], ◌++◌, arith, sym, ap, subst, subst₂, ◌∙◌, mul-le-mul_right}
 use Rattle.std.proofs.lemmas.Grind.{get_or_default_zero}
 use Rattle.std.proofs.lemmas.List.Elements.{All-push}
-use Rattle.dl_iv.specs.declared.interval.Iv.{Iv}
-use Rattle.dl_direct.proofs.Place.{one_longer, mass_more, placed_more}
+use Rattle.dl_grid.specs.Cells.{low_at, high_at}
+use Rattle.dl_grid.proofs.EndLists.{low_at_ends, high_at_ends}
+use Rattle.dl_direct.specs.Placed.{IsPlaced}
+use Rattle.dl_direct.proofs.Place.{one_longer, ordered_more, mass_more, placed_same, placed_more}
 use Rattle.dl_direct.proofs.placing.place.Goals as goal
 
 pub cells-preserved : goal.cells-preserved
@@ -11,26 +13,50 @@ cells-preserved g c =
     let n = c.cells.i in
     let xs = c.args.x.now.low.items in
     let ys = c.args.x.now.high.items in
-    let list = c.cells.list.items in
-    let lo = c.min-lo.result in
-    let hi = c.narrow_high-hi.result in
+    let lows = c.cells.lows.items in
+    let highs = c.cells.highs.items in
+    let lo = c.min-low.result in
+    let hi = c.narrow_high-high.result in
     let one = c.units_of_one-one.ensures in
     let in_low : n < length xs = subst (λ t. n < t) (c.len-i-end.ensures ∙ c.args.x.now.low.ok.0) c.cells-test.true in
     let in_high : n < length ys = subst (λ t. n < t) (sym c.requires.settled.alike) in_low in
-    let y_is : c.index.result.now ≡ get_or ys n 0 = c.index.ensures ∙ get_or_default_zero ys n c.index.result.now in_high in
-    let x_is : c.index-in-cells.result.now ≡ get_or xs n 0 = c.index-in-cells.ensures ∙ get_or_default_zero xs n c.index-in-cells.result.now in_low in
-    let m1 = c.min.ensures in
-    let m2 = c.min-lo.ensures in
+    let y_is : c.index.result.now ≡ get_or ys n 0 = c.index.ensures
+    ∙ get_or_default_zero ys n c.index.result.now in_high in
+    let x_is : c.index-in-cells.result.now ≡ get_or xs n 0 = c.index-in-cells.ensures
+    ∙ get_or_default_zero xs n c.index-in-cells.result.now in_low in
+    let m1 = c.min-most.ensures in
+    let m2 = c.min-low.ensures in
     let bottom : lo ≤ c.narrow_low.result = omega arith in
     let within : lo ≤ c.cells.room = omega arith in
     let low : lo * 2 ^ c.args.down ≤ get_or xs n 0 * c.args.start.low =
-    subst (λ t. lo * 2 ^ c.args.down ≤ t * c.args.start.low) x_is (omega (arith, mul-le-mul_right (2 ^ c.args.down) bottom, c.narrow_low.ensures.below)) in
+    subst (λ t. lo * 2 ^ c.args.down ≤ t * c.args.start.low) x_is
+    (omega (arith, mul-le-mul_right (2 ^ c.args.down) bottom, c.narrow_low.ensures.below)) in
     let high : (get_or ys n 0 * c.args.start.high ≤ hi * 2 ^ c.args.down) ⊎ (hi ≡ 2 ^ g.row.B) =
-    subst₂ (λ t u. (t * c.args.start.high ≤ hi * 2 ^ c.args.down) ⊎ (hi ≡ u)) y_is one c.narrow_high-hi.ensures.above in
-    let pushed : c.push.new.self.items ≡ list ++ _ ∷ [] = c.in_ok-push.ensures.items in
-    rw pushed (record {
-      count = one_longer list _ ∙ ap (λ t. t + 1) i.count;
-      placed = placed_more c.args.start c.args.x.now.shift xs ys list _ c.args.down c.requires.scale n i.count i.placed low high;
-      small = All-push (λ (cell : Iv g.row.B). cell.hi ≤ 2 ^ g.row.B) list _ i.small (omega (arith, c.narrow_high-hi.ensures.top, one));
-      left = mass_more list _ c.cells.room within i.left;
+    subst₂ (λ t u. (t * c.args.start.high ≤ hi * 2 ^ c.args.down) ⊎
+    (hi ≡ u)) y_is one c.narrow_high-high.ensures.above in
+    let low_pushed : c.push.new.self.items ≡ lows ++ lo ∷ [] = c.in_ok-push.ensures.items in
+    let high_pushed : c.push-in-cells.new.self.items ≡ highs ++ hi ∷ [] = c.in_ok-push-2.ensures.items in
+    rw (low_pushed, high_pushed) (record {
+      count = one_longer lows lo ∙ ap (λ t. t + 1) i.count;
+      paired = one_longer highs hi ∙ ap (λ t. t + 1) i.paired;
+      placed = placed_more g.row.B c.args.start c.args.x.now.shift xs ys lows highs lo hi c.args.down
+          c.requires.scale n i.count i.paired i.placed low high;
+      ordered = ordered_more lows highs lo hi n i.count i.paired (omega (arith, m1, m2)) i.ordered;
+      small = All-push (λ (high : ℕ). high ≤ 2 ^ g.row.B) highs hi i.small
+          (omega (arith, c.narrow_high-high.ensures.top, one));
+      left = mass_more lows lo c.cells.room (2 ^ g.row.B) within i.left;
     })
+
+pub returns-clause-placed : goal.returns-clause-placed
+returns-clause-placed g c =
+    let h = c.from_ends.ensures in
+    let x = c.args.x.now in
+    let i = c.cells.invariant in
+    let n : c.cells.i ≡ length x.low.items =
+    omega (arith, c.cells-test.false, c.cells.auto.i-end, c.len-i-end.ensures, x.low.ok.0) in
+    subst (λ t. IsPlaced g.row.B c.args.start x.shift t x.low.items x.high.items (low_at c.from_ends.result)
+    (high_at c.from_ends.result)) n
+    (placed_same g.row.B c.args.start x.shift c.cells.i x.low.items x.high.items _ _ (low_at c.from_ends.result)
+    (high_at c.from_ends.result)
+    (λ k. ap (λ l. get_or l k 0) (sym h.low) ∙ low_at_ends c.from_ends.result k)
+    (λ k. ap (λ l. get_or l k 0) (sym h.high) ∙ high_at_ends c.from_ends.result k) i.placed)

@@ -3,7 +3,7 @@ use Rattle.dl_exact.specs.Fraction.{whole, ◌≤ℚ◌}
 use Rattle.dl_exact.proofs.Laws.{le_trans}
 use Rattle.dl_direct.specs.Slide.{IsRound}
 use Rattle.dl_direct.proofs.Starts.{two_le}
-use Rattle.dl_direct.proofs.Beginnings.{whole_le}
+use Rattle.dl_exact.proofs.RoundingLaws.{whole_le}
 use Rattle.dl_direct.proofs.Steps.{shifted, shift_low, shift_high, fit_top}
 use Rattle.dl_direct.proofs.slide.fit.Goals as goal
 use Rattle.dl_direct.proofs.slide.fit.Goals.{then-high-gt-LIMIT, else-high-gt-LIMIT}
@@ -25,21 +25,46 @@ loop-k-preserved c =
           rw (w.low-is, w.high-is, w.x-is) (record {
             sound = e.sound;
             within = e.within;
+            sums = λ h. e.sums (i.sums h);
+            sums_within = omega (arith, i.sums_within, e.sums_within);
             cells = e.cells ∙ i.cells;
             shift = omega (arith, i.shift, s);
             top = fit_top c.loop-k.high k c.loop-k-test.true i.top;
-            round = λ r n h. subst (λ t. IsRound r t n w.shrink.new.x.low.items w.shrink.new.x.high.items) (sym s) (shifted r x.shift n x.low.items x.high.items _ _ e.low e.high (i.round r n h));
-            low_end = λ y h. le_trans _ _ _ (subst (λ t. whole (c.loop-k.low / 256 * 2 ^ t) ≤ℚ whole (c.loop-k.low * 2 ^ x.shift)) (sym s) (whole_le _ _ (shift_low c.loop-k.low x.shift))) (i.low_end y h);
-            high_end = λ y h. le_trans _ _ _ (i.high_end y h) (subst (λ t. whole (c.loop-k.high * 2 ^ x.shift) ≤ℚ whole ((c.loop-k.high + 255) / 256 * 2 ^ t)) (sym s) (whole_le _ _ (shift_high c.loop-k.high x.shift)));
+            round = λ r n h. subst (λ t. IsRound r t n w.shrink.new.x.low.items w.shrink.new.x.high.items) (sym s)
+                (shifted r x.shift n x.low.items x.high.items _ _ e.low e.high (i.round r n h));
+            low_end =
+                λ y h. le_trans _ _ _
+                (subst (λ t. whole (c.loop-k.low / 256 * 2 ^ t) ≤ℚ whole (c.loop-k.low * 2 ^ x.shift)) (sym s)
+                (whole_le _ _ (shift_low c.loop-k.low x.shift))) (i.low_end y h);
+            high_end =
+                λ y h. le_trans _ _ _ (i.high_end y h)
+                (subst (λ t. whole (c.loop-k.high * 2 ^ x.shift) ≤ℚ whole ((c.loop-k.high + 255) / 256 * 2 ^ t)) (sym s)
+                (whole_le _ _ (shift_high c.loop-k.high x.shift)));
           })
       | else-high-gt-LIMIT w ↦
-          let m : 2 ^ 62 ≤ 2 ^ (126 - 8 * (k + 1)) = two_le 62 (126 - 8 * (k + 1)) (omega (arith, c.loop-k-test.true)) in
-          rw (w.low-is, w.high-is, w.x-is) (record { sound = i.sound; within = i.within; cells = i.cells; shift = omega (arith, i.shift); top = omega (arith, m); round = i.round; low_end = i.low_end; high_end = i.high_end })
+          let m : 2 ^ 62 ≤ 2 ^ (126 - 8 * (k + 1)) =
+          two_le 62 (126 - 8 * (k + 1)) (omega (arith, c.loop-k-test.true)) in
+          rw (w.low-is, w.high-is, w.x-is)
+          (record {
+            sound = i.sound;
+            within = i.within;
+            sums = i.sums;
+            sums_within = i.sums_within;
+            cells =
+                i.cells;
+            shift = omega (arith, i.shift);
+            top = omega (arith, m);
+            round = i.round;
+            low_end =
+                i.low_end;
+            high_end = i.high_end;
+          })
     ]
 
 pub returns-then-low-high-clause-low : goal.returns-then-low-high-clause-low
 returns-then-low-high-clause-low c y h =
-    le_trans _ _ _ (whole_le _ _ (mul-le-mul_right (2 ^ c.loop-k.x.shift) (less c.if-low-high.true))) (c.loop-k.invariant.low_end y h)
+    le_trans _ _ _ (whole_le _ _ (mul-le-mul_right (2 ^ c.loop-k.x.shift) (less c.if-low-high.true)))
+    (c.loop-k.invariant.low_end y h)
   where
     less : {a b : ℕ} → b < a → b ≤ a
     less {a} {b} h = omega (arith, h)

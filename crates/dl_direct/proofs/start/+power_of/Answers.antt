@@ -6,22 +6,36 @@ use Rattle.dl_direct.proofs.Starts.{power_one}
 use Rattle.dl_direct.proofs.start.+power_of.Goals as goal
 
 pub returns-then-n-eq1-clause-holds : goal.returns-then-n-eq1-clause-holds
-returns-then-n-eq1-clause-holds t c w h = subst (λ v. HoldsNoClaim v c.args.x) (sym (ap (power w) c.if-n-eq1.true ∙ power_one w)) h
+returns-then-n-eq1-clause-holds t c w h =
+    subst (λ v. HoldsNoClaim v c.args.x) (sym (ap (power w) c.if-n-eq1.true ∙ power_one w)) h
 
 pub times-square-requires-clause-room : goal.times-square-requires-clause-room
 times-square-requires-clause-room t c =
-    omega (arith, c.power_of-root.ensures.room, c.requires.room, mul-le-mul_right c.args.x.exponent (div-mul-le_self c.args.n 2))
+    omega (
+      arith,
+      c.power_of-root.ensures.room,
+      c.requires.room,
+      mul-le-mul_right c.args.x.exponent
+          (div-mul-le_self c.args.n 2),
+    )
 
 pub returns-then-n-eq0-clause-room : goal.returns-then-n-eq0-clause-room
 returns-then-n-eq0-clause-room t c =
-    omega (arith, c.times-square.ensures.room, c.power_of-root.ensures.room, mul-le-mul_right c.args.x.exponent (div-mul-le_self c.args.n 2))
+    omega (
+      arith,
+      c.times-square.ensures.room,
+      c.power_of-root.ensures.room,
+      mul-le-mul_right c.args.x.exponent
+          (div-mul-le_self c.args.n 2),
+    )
 
 pub returns-then-n-eq0-clause-holds : goal.returns-then-n-eq0-clause-holds
 returns-then-n-eq0-clause-holds t c w h =
     let m = c.args.n / 2 in
     let e : m + m ≡ c.args.n = omega arith in
     let r : HoldsNoClaim (power w m) c.power_of-root.result = c.power_of-root.ensures.holds w h in
-    subst (λ v. HoldsNoClaim v c.times-square.result) (sym (power_plus w m m) ∙ ap (power w) e) (c.times-square.ensures.holds (power w m) (power w m) r r)
+    subst (λ v. HoldsNoClaim v c.times-square.result) (sym (power_plus w m m) ∙ ap (power w) e)
+    (c.times-square.ensures.holds (power w m) (power w m) r r)
 
 pub returns-else-n-eq0-clause-holds : goal.returns-else-n-eq0-clause-holds
 unfolding power
@@ -29,5 +43,7 @@ returns-else-n-eq0-clause-holds t c w h =
     let m = c.args.n / 2 in
     let e : suc (m + m) ≡ c.args.n = omega arith in
     let r : HoldsNoClaim (power w m) c.power_of-root.result = c.power_of-root.ensures.holds w h in
-    let s : HoldsNoClaim (power w (m + m)) c.times-square.result = subst (λ v. HoldsNoClaim v c.times-square.result) (sym (power_plus w m m)) (c.times-square.ensures.holds (power w m) (power w m) r r) in
+    let s : HoldsNoClaim (power w (m + m)) c.times-square.result =
+    subst (λ v. HoldsNoClaim v c.times-square.result) (sym (power_plus w m m))
+    (c.times-square.ensures.holds (power w m) (power w m) r r) in
     subst (λ k. HoldsNoClaim (power w k) c.times.result) e (c.times.ensures.holds w (power w (m + m)) h s)

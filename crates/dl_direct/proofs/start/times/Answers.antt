@@ -18,14 +18,38 @@ loop-k-preserved c =
     let s : 2 ^ c.loop-k.exponent ≡ 2 ^ d * 2 = ap (λ t. 2 ^ t) e ∙ pow-suc 2 d in
     elim c.if-high-gt-TOP.branch [
       | then-high-gt-TOP w ↦
-          let lo : c.loop-k.low / 2 * T ≤ c.args.a.low * c.args.b.low * 2 ^ d = half_low c.loop-k.low T (c.args.a.low * c.args.b.low) (2 ^ d) (subst (λ t. c.loop-k.low * T ≤ c.args.a.low * c.args.b.low * t) s i.low) in
-          let hi : c.args.a.high * c.args.b.high * 2 ^ d ≤ (c.loop-k.high + 1) / 2 * T = half_high c.loop-k.high T (c.args.a.high * c.args.b.high) (2 ^ d) (subst (λ t. c.args.a.high * c.args.b.high * t ≤ c.loop-k.high * T) s i.high) in
-          let top : (c.loop-k.high + 1) / 2 ≤ 2 ^ (126 - (k + 1)) = half_top c.loop-k.high (126 - k) (126 - (k + 1)) (omega arith) i.top in
-          rw (w.low-is, w.high-is, w.exponent-is) (record { low = lo; high = hi; top = top; least = omega arith; order = omega (arith, i.order); room = omega (arith, i.room) })
+          let lo : c.loop-k.low / 2 * T ≤ c.args.a.low * c.args.b.low * 2 ^ d =
+          half_low c.loop-k.low T (c.args.a.low * c.args.b.low) (2 ^ d)
+          (subst (λ t. c.loop-k.low * T ≤ c.args.a.low * c.args.b.low * t) s i.low) in
+          let hi : c.args.a.high * c.args.b.high * 2 ^ d ≤ (c.loop-k.high + 1) / 2 * T =
+          half_high c.loop-k.high T (c.args.a.high * c.args.b.high) (2 ^ d)
+          (subst (λ t. c.args.a.high * c.args.b.high * t ≤ c.loop-k.high * T) s i.high) in
+          let top : (c.loop-k.high + 1) / 2 ≤ 2 ^ (126 - (k + 1)) =
+          half_top c.loop-k.high (126 - k) (126 - (k + 1)) (omega arith) i.top in
+          rw (w.low-is, w.high-is, w.exponent-is)
+          (record {
+            low = lo;
+            high = hi;
+            top = top;
+            least = omega arith;
+            order = omega (arith, i.order);
+            room =
+                omega (arith, i.room);
+          })
       | else-high-gt-TOP w ↦
           let m : 2 ^ 63 ≤ 2 ^ (126 - (k + 1)) = two_le 63 (126 - (k + 1)) (omega arith) in
-          rw (w.low-is, w.high-is, w.exponent-is) (record { low = i.low; high = i.high; top = omega (arith, m); least = omega (arith, i.least); order = i.order; room = i.room })
+          rw (w.low-is, w.high-is, w.exponent-is)
+          (record {
+            low = i.low;
+            high = i.high;
+            top = omega (arith, m);
+            least = omega (arith, i.least);
+            order =
+                i.order;
+            room = i.room;
+          })
     ]
 
 pub returns-clause-holds : goal.returns-clause-holds
-returns-clause-holds c v w H K = start_times v w _ _ _ _ _ _ c.loop-k.low c.loop-k.high c.loop-k.exponent H K c.loop-k.invariant.low c.loop-k.invariant.high
+returns-clause-holds c v w H K =
+    start_times v w _ _ _ _ _ _ c.loop-k.low c.loop-k.high c.loop-k.exponent H K c.loop-k.invariant.low c.loop-k.invariant.high

@@ -1,7 +1,7 @@
 use Rattle.std.proofs.Common.{◌≡◌, ◌+◌, ◌*◌, ◌^◌, ◌≤◌, length, take}
 use Rattle.std.specs.List.{sum_by}
 use Rattle.dl_direct.specs.Slide.{share}
-use Rattle.dl_direct.proofs.slide.reach.Given as goal
+use Rattle.dl_direct.proofs.sums.reach_parts.Given as goal
 
 abbrev pub invariant-loop-part : goal.invariant-loop-part
 invariant-loop-part l = record {

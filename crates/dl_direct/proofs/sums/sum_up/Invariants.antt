@@ -1,0 +1,9 @@
+use Rattle.std.proofs.Common.{◌≡◌, length}
+use Rattle.dl_direct.specs.Slide.{AreSums}
+use Rattle.dl_direct.proofs.sums.sum_up.Given as goal
+
+abbrev pub invariant-cells : goal.invariant-cells
+invariant-cells l = record {
+  sums : AreSums l.sums.items l.low l.high;
+  count : length l.sums.items ≡ l.k;
+}

@@ -1,0 +1,39 @@
+//! The cells of the recursion so far.
+
+/// Both ends of one cell, or what the cells before it add up to for each.
+#[derive(Clone, Copy)]
+pub struct Ends {
+    /// The low end.
+    pub low: u128,
+    /// The high end.
+    pub high: u128,
+}
+
+/// What the cells up to one add up to, and what such sums of the cells before it add up to, for both
+/// ends.
+#[derive(Clone, Copy)]
+pub struct Sums {
+    /// The low ends up to this cell.
+    pub low: u128,
+    /// For each cell before this one, the low ends up to that cell.
+    pub low_before: u128,
+    /// The high ends up to this cell.
+    pub high: u128,
+    /// For each cell before this one, the high ends up to that cell.
+    pub high_before: u128,
+}
+
+/// Both ends of the cells so far, in units of `2^shift / 2^61` of cell 0.
+#[derive(Drop)]
+pub struct Slid {
+    /// The low ends.
+    pub low: Vec<u64>,
+    /// The high ends, as many.
+    pub high: Vec<u64>,
+    /// How many cells from the first on have the ends 0 and 0, or 0 and 1: a shift leaves them alone.
+    pub first: usize,
+    /// How many bits all cells were shifted down by.
+    pub shift: u64,
+    /// The sums up to each cell, as far as they are made. Only runs need them.
+    pub sums: Vec<Sums>,
+}

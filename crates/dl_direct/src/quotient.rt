@@ -1,0 +1,72 @@
+//! Quotients by divisors that grow little by little. Each is guessed from a guess at the inverse of its
+//! divisor, and the guess is tried: it makes a quotient faster, and no other than it is.
+
+ghost use Rattle.std.specs.Prelude.{◌≡◌, ◌/◌, ◌<◌, ◌≤◌};
+
+/// A guess at 2^127 over a divisor that is shifted up to 64 bits. No quotient rests on it.
+#[derive(Clone, Copy)]
+pub struct Inverse {
+    /// The guess.
+    pub about: u64,
+    /// By how many bits the divisor is shifted up.
+    pub up: u32,
+}
+
+/// 2^127.
+const WHOLE: u128 = 170141183460469231731687303715884105728;
+
+/// 2^64.
+const WORD: u128 = 18446744073709551616;
+
+/// From so many cells on the next divisor is near enough to the last.
+const NEAR: usize = 256;
+
+/// The lowest 64 bits of a number that has no more, else as many ones.
+fn word(n: u128) -> u64 {
+    n.min(WORD - 1) as u64
+}
+
+/// A nearer guess at 2^127 over `shifted`, by one round of Newton's method: it doubles the number of right
+/// bits.
+fn nearer(about: u64, shifted: u64) -> u64 {
+    let about = u128::from(about);
+    let product = (about * u128::from(shifted)) >> 64;
+    word((about * (WORD - product)) >> 63)
+}
+
+/// A guess for the divisor `d`, which is `n` times the first, from that for `n - 1` times it.
+pub(crate) fn inverse_of(d: u64, n: usize, last: Inverse) -> Inverse {
+    let up = d.leading_zeros().min(63);
+    let shifted = d << up;
+    let about = if n < NEAR || up != last.up {
+        word(WHOLE / u128::from(shifted.max(1)))
+    } else {
+        nearer(nearer(nearer(last.about, shifted), shifted), shifted)
+    };
+    Inverse { about, up }
+}
+
+/// A guess at `n` over the divisor that the inverse is of.
+fn guess_of(n: u128, inverse: Inverse) -> u64 {
+    let about = u128::from(inverse.about);
+    let high = (n >> 64) * about;
+    let low = ((n % WORD) * about) >> 64;
+    word((high + low) >> (63 - inverse.up.min(63)))
+}
+
+/// `n` over `d`, rounded down: the guess or one more where that is right, else by a division.
+pub(crate) fn quotient(n: u128, d: u64, inverse: Inverse) -> u128
+    requires positive { 0 < d }
+    ensures { result ≡ n / d }
+{
+    let guess = u128::from(guess_of(n, inverse));
+    let d = u128::from(d);
+    let product = guess * d;
+    if product <= n && n - product < d {
+        return guess;
+    }
+    if product + d <= n && n - product - d < d {
+        return guess + 1;
+    }
+    n / d
+}
