@@ -4,14 +4,15 @@ use Rattle.std.specs.Prelude.{min, All, Result, Ok, Err, IfOk}
 use Rattle.std.specs.Int.{div_ceil}
 use Rattle.std.specs.List.{fold, remove}
 use Rattle.std.proofs.lemmas.Nat.{pow_pos}
+use Rattle.std.proofs.lemmas.List.Elements.{All-take, All-drop}
 use Rattle.std.proofs.Math.Nat.{suc-add}
 use Rattle.std.proofs.lemmas.List.Sums.{fold_more, fold-append, sum_by-cons, sum_by-take-le}
 use Rattle.std.proofs.lemmas.List.{get_or-map, get_or_default, get_or-take, get_or-drop, length-map, length-take, length-drop, take_all, drop_all, map-append}
 use Rattle.dl_exact.specs.Fraction.{◌over◌}
 use Rattle.dl_iv.specs.declared.interval.Iv.{Iv}
 use Rattle.dl_grid.specs.Cells.{low_at, high_at, spread, all_at_zero}
-use Rattle.dl_grid.specs.Pairs.{count_pairs}
-use Rattle.dl_grid.specs.Width.{cv}
+use Rattle.dl_exact.specs.Count.{count_pairs}
+use Rattle.dl_grid.specs.Width.{cv, sum_spread}
 use Rattle.dl_grid.proofs.WidthLaws.{cv_rises}
 use Rattle.dl_model.specs.Series.{Holds}
 use Rattle.dl_model.specs.Program.{Aggregate, IsUnit, AreUnits, sum_over_outcomes}
@@ -20,7 +21,7 @@ use Rattle.dl_model.specs.Measures.{unit_of, without}
 use Rattle.dl_model.proofs.FamilyLaws.{encloses_rounded, encloses_same}
 use Rattle.dl_model.proofs.FiniteCounts.{nothing_encloses}
 use Rattle.dl_model.proofs.Outcomes.{no_units as nowhere, total_alone, total_alone_all, total_append, total_append_all, total_proper}
-use Rattle.dl_port.specs.Sums.{EncloseEach, sum_spread}
+use Rattle.dl_port.specs.Sums.{EncloseEach}
 
 -- ---- lists of units
 
@@ -257,3 +258,7 @@ both_spreads {B} grids before after k i x y cut rest some h g =
 -- the rest of a list after i
 pub from_there : {A : Type 0} (i : ℕ) (xs : List A) → take (length xs - (i + 1)) (drop (i + 1) xs) ≡ drop (suc i) xs
 from_there i xs = to_the_end (i + 1) xs ∙ ap (λ k. drop k xs) (add-one i)
+
+-- the rest of a list of grids after i, as a slice reads it
+pub all_within : {B : ℕ} (k : ℕ) (grids : List (List (Iv B))) (i : ℕ) → All (λ t. k ≤ length t) grids → All (λ t. k ≤ length t) (take (length grids - i) (drop i grids))
+all_within k grids i each = All-take (λ t. k ≤ length t) (length grids - i) (drop i grids) (All-drop (λ t. k ≤ length t) i grids each)

@@ -2,7 +2,7 @@
 use Rattle.std.proofs.Common.{ℕ, zero, suc, ◌≡◌, ◌+◌, ◌-◌, ◌*◌, ◌/◌, ◌^◌, ◌<◌, ◌≤◌, List, [], ◌∷◌, ◌++◌, length, get_or, take, drop, map, inl, inr, arith, refl, sym, ap, ap₂, subst, subst₂, ◌∙◌, add-one}
 use Rattle.std.specs.Prelude.{min, Bool, true, false, IsTrue, Any, Option, Some, None, IfSome, MatchOption, Result, Ok, Err, IfOk}
 use Rattle.std.specs.Int.{div_ceil}
-use Rattle.std.specs.Option.{SomeIff, option_to_list}
+use Rattle.std.specs.Option.{option_to_list}
 use Rattle.std.specs.List.{fold, remove, slice_get}
 use Rattle.std.proofs.lemmas.List.Sums.{fold_more, sum_by-take-le}
 use Rattle.std.proofs.lemmas.Nat.{pow_pos}
@@ -15,10 +15,9 @@ use Rattle.dl_model.specs.Program.{Aggregate, IsUnit, AreUnits}
 use Rattle.dl_model.specs.Family.{mapped, total, GridEncloses}
 use Rattle.dl_model.specs.Measures.{unit_of}
 use Rattle.dl_grid.specs.Cells.{low_at, high_at, spread}
-use Rattle.dl_grid.specs.Pairs.{count_pairs}
-use Rattle.dl_grid.specs.Width.{cv}
+use Rattle.dl_exact.specs.Count.{count_pairs}
+use Rattle.dl_grid.specs.Width.{cv, sum_spread}
 use Rattle.dl_grid.proofs.WidthLaws.{cv_rises}
-use Rattle.dl_port.specs.Sums.{sum_spread}
 use Rattle.dl_port.specs.Shared.{EnclosesSum, IsSumOfPart, IsTotal, IsSumWithout, AreSumsOfEnds}
 use Rattle.dl_port.proofs.Added.{first_cells, units_first, units_after, unit_at, without_is, alone, joins, encloses_at}
 
@@ -51,10 +50,6 @@ none_at_all g before after us vs e h of_none of_us of_vs =
     subst (λ t. GridEncloses g (total t)) (sym (ap₂ (λ s t. s ++ t) (subst (λ t. EnclosesSum t us) e of_us) (subst (λ t. EnclosesSum t vs) h of_vs))) of_none
 
 -- ---- the spread that a sum may have
-
-pub some_is : (r : Option ℕ) (P : Type 0) (v w : ℕ) → SomeIff r P v → v ≡ w → IfSome r (λ x. x ≡ w)
-some_is None P v w h e = tt
-some_is (Some x) P v w h e = h.1 ∙ e
 
 -- the grid at place i is taken in
 pub one_wider : {B : ℕ} (grids : List (List (Iv B))) (k i x y z : ℕ) (b : List (Iv B)) → i < length grids → b ≡ get_or grids i b

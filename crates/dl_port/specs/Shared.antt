@@ -6,7 +6,8 @@ use Rattle.dl_grid.specs.Cells.{spread}
 use Rattle.dl_model.specs.Program.{Aggregate, AreUnits}
 use Rattle.dl_model.specs.Family.{total, GridEncloses}
 use Rattle.dl_model.specs.Measures.{without}
-use Rattle.dl_port.specs.Sums.{EncloseEach, sum_spread}
+use Rattle.dl_grid.specs.Width.{sum_spread}
+use Rattle.dl_port.specs.Sums.{EncloseEach}
 
 -- k cells that enclose the sum of all units, as narrow as where the units are taken in one by one, in order
 pub record IsTotal {B : ℕ} (k : ℕ) (grids : List (List (Iv B))) (sum : List (Iv B)) : Type 0 where

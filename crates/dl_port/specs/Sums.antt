@@ -11,9 +11,3 @@ use Rattle.dl_model.specs.Measures.{unit_of}
 pub record EncloseEach {B : ℕ} (grids : List (List (Iv B))) (units : List Aggregate) : Type 0 where
   pub as_many : length grids ≡ length units
   pub each : (i : ℕ) → i < length grids → GridEncloses (get_or grids i []) (unit_of units i)
-
--- the spread of grids added up on k cells, from the spread of each, in units of 1/S: it starts with that of the first grid and takes
--- in each further one as a convolution does; that of no grid is 0
-abbrev pub sum_spread : (S k : ℕ) → List ℕ → ℕ
-sum_spread S k [] = 0
-sum_spread S k (x ∷ xs) = fold (cv S k) x xs

@@ -1,12 +1,13 @@
 //! Totals of a program's units: from one grid for each unit, the grid of the sum of all units, and of
 //! the sum of all units but one. The units are independent, so that each unit is taken in by one
-//! convolution. Where several of these sums are wanted, they share their parts.
+//! product. Where several of these sums are wanted, they share their parts.
 //!
 //! The clauses speak of every list of units whose probabilities add up to 1 and whose aggregate clauses
 //! raise no sum (`AreUnits`). Of a valid plan these are its units, `aggregates_of plan`, by
 //! `dl_model::plans::law_declared`.
 #![tactic(auto)]
 
+mod runs;
 mod shared;
 #[cfg(test)]
 mod tests;
@@ -15,20 +16,23 @@ mod widths;
 ghost use Rattle.std.specs.Prelude.{◌≡◌, ℕ, ◌^◌, ◌<◌, ◌≤◌, List, [], ◌++◌, length, map, All, IfOk};
 ghost use Rattle.std.specs.List.{fold, remove};
 ghost use Rattle.dl_grid.specs.Cells.{spread};
-ghost use Rattle.dl_grid.specs.Width.{cv};
+ghost use Rattle.dl_grid.specs.Width.{cv, sum_spread};
 ghost use Rattle.dl_model.specs.Program.{Aggregate, AreUnits};
 ghost use Rattle.dl_model.specs.Family.{total, GridEncloses};
 ghost use Rattle.dl_model.specs.Measures.{without};
-ghost use Rattle.dl_port.specs.Sums.{EncloseEach, sum_spread};
+ghost use Rattle.dl_port.specs.Sums.{EncloseEach};
 
-use dl_conv::convolve;
 use dl_grid::Grid;
-pub use shared::{Sums, total_and_others};
+use dl_product::{Workspace, product};
+use runs::{alike, repeated};
+pub use shared::{Sums, sums_of_one, total_and_others};
 use std::alloc::{AllocError, Global};
+use widths::spread_of_sum;
 
 /// The sum of the units in `sum` and of further units, which are taken in one by one, in order.
 fn with_units<const B: u32>(
     alloc: Global,
+    work: &mut Workspace,
     sum: Grid<B>,
     units: &[Grid<B>],
     cells: u32,
@@ -43,7 +47,7 @@ fn with_units<const B: u32>(
 {
     let mut sum = sum;
     for unit in units {
-        sum = convolve(alloc, &sum, unit, cells)?;
+        sum = product(alloc, work, &sum, unit, cells)?;
     }
     Ok(sum)
 }
@@ -56,14 +60,48 @@ fn no_units<const B: u32>(alloc: Global, like: &Grid<B>, cells: u32) -> Result<G
     ensures encloses { IfOk result (λ g. GridEncloses g (total [])) }
     ensures spread { IfOk result (λ g. spread g ≡ 0) }
 {
-    // a grid has a scale at which there are intervals, and not too many cells
-    let _cells = like.as_slice();
+    like.cells();
     Grid::zero(alloc, cells)
 }
 
+/// The first `cells` cells of the sum of all units, which are taken in one by one, in order.
+fn in_order<const B: u32>(
+    alloc: Global,
+    work: &mut Workspace,
+    units: &[Grid<B>],
+    cells: u32,
+) -> Result<Grid<B>, AllocError>
+    requires units { 1 ≤ length units.now }
+    requires some { 1 ≤ cells }
+    requires in_each { All (λ g. cells ≤ length g) units.now }
+    ensures cells { IfOk result (λ g. length g ≡ cells) }
+    ensures encloses { IfOk result (λ g. (us : List Aggregate) → AreUnits us → EncloseEach units.now us → GridEncloses g (total us)) }
+    ensures spread { IfOk result (λ g. spread g ≤ sum_spread (2 ^ B) cells (map spread units.now)) }
+{
+    let first = Grid::truncate(alloc, &units[0], cells)?;
+    with_units(alloc, work, first, &units[1..], cells)
+}
+
+/// The sum of all units: of the first ones that have one grid, by squaring, and then of each further one.
+fn first_together<const B: u32>(
+    alloc: Global,
+    work: &mut Workspace,
+    units: &[Grid<B>],
+    cells: u32,
+) -> Result<Grid<B>, AllocError>
+    requires units { 1 ≤ length units.now }
+    requires some { 1 ≤ cells }
+    requires in_each { All (λ g. cells ≤ length g) units.now }
+    ensures cells { IfOk result (λ g. length g ≡ cells) }
+    ensures encloses { IfOk result (λ g. (us : List Aggregate) → AreUnits us → EncloseEach units.now us → GridEncloses g (total us)) }
+{
+    let many = alike(units);
+    let first = repeated(alloc, work, &units[0], many, cells)?;
+    with_units(alloc, work, first, &units[many..], cells)
+}
+
 /// The first `cells` cells of the sum of all units. There is at least one unit, and each grid has at
-/// least these cells. It takes one convolution for each unit but the first, and holds at most two
-/// grids of its own at a time.
+/// least these cells.
 pub fn total<const B: u32>(
     alloc: Global,
     units: &[Grid<B>],
@@ -76,8 +114,32 @@ pub fn total<const B: u32>(
     ensures encloses { IfOk result (λ g. (us : List Aggregate) → AreUnits us → EncloseEach units.now us → GridEncloses g (total us)) }
     ensures spread { IfOk result (λ g. spread g ≤ sum_spread (2 ^ B) cells (map spread units.now)) }
 {
-    let first = Grid::truncate(alloc, &units[0], cells)?;
-    with_units(alloc, first, &units[1..], cells)
+    total_with(alloc, &mut Workspace::new(alloc), units, cells)
+}
+
+/// The same sum, by products in a workspace that is lent. The first units that have one grid are added
+/// up by squaring. Where that comes out wider than it may be when the units are taken in one by one,
+/// they are taken in one by one.
+pub fn total_with<const B: u32>(
+    alloc: Global,
+    work: &mut Workspace,
+    units: &[Grid<B>],
+    cells: u32,
+) -> Result<Grid<B>, AllocError>
+    requires units { 1 ≤ length units.now }
+    requires some { 1 ≤ cells }
+    requires in_each { All (λ g. cells ≤ length g) units.now }
+    ensures cells { IfOk result (λ g. length g ≡ cells) }
+    ensures encloses { IfOk result (λ g. (us : List Aggregate) → AreUnits us → EncloseEach units.now us → GridEncloses g (total us)) }
+    ensures spread { IfOk result (λ g. spread g ≤ sum_spread (2 ^ B) cells (map spread units.now)) }
+{
+    let sum = first_together(alloc, work, units, cells)?;
+    if let Some(most) = spread_of_sum(units, cells) {
+        if sum.spread() <= most {
+            return Ok(sum);
+        }
+    }
+    in_order(alloc, work, units, cells)
 }
 
 /// The first `cells` cells of the sum of all units but unit `i`, counted from 0. Where there is no
@@ -95,14 +157,32 @@ pub fn others<const B: u32>(
     ensures encloses { IfOk result (λ g. (us : List Aggregate) → AreUnits us → EncloseEach units.now us → GridEncloses g (total (without us i))) }
     ensures spread { IfOk result (λ g. spread g ≤ sum_spread (2 ^ B) cells (map spread (remove units.now i))) }
 {
+    others_with(alloc, &mut Workspace::new(alloc), units, i, cells)
+}
+
+/// The same sum, by products in a workspace that is lent: the units are taken in one by one, in order.
+pub fn others_with<const B: u32>(
+    alloc: Global,
+    work: &mut Workspace,
+    units: &[Grid<B>],
+    i: u32,
+    cells: u32,
+) -> Result<Grid<B>, AllocError>
+    requires unit { i < length units.now }
+    requires some { 1 ≤ cells }
+    requires in_each { All (λ g. cells ≤ length g) units.now }
+    ensures cells { IfOk result (λ g. length g ≡ cells) }
+    ensures encloses { IfOk result (λ g. (us : List Aggregate) → AreUnits us → EncloseEach units.now us → GridEncloses g (total (without us i))) }
+    ensures spread { IfOk result (λ g. spread g ≤ sum_spread (2 ^ B) cells (map spread (remove units.now i))) }
+{
     let before = &units[..i as usize];
     let after = &units[i as usize + 1..];
     if !before.is_empty() {
-        let sum = total(alloc, before, cells)?;
-        return with_units(alloc, sum, after, cells);
+        let sum = in_order(alloc, work, before, cells)?;
+        return with_units(alloc, work, sum, after, cells);
     }
     if !after.is_empty() {
-        return total(alloc, after, cells);
+        return in_order(alloc, work, after, cells);
     }
     no_units(alloc, &units[i as usize], cells)
 }

@@ -1,16 +1,16 @@
 //! The sum of all units, and those of all units but one, from sums that they share. The sum of all units
-//! but one is one convolution: of the sum of the units before it, and of the sum of those after it.
+//! but one is one product: of the sum of the units before it, and of the sum of those after it.
 
-ghost use Rattle.std.specs.Prelude.{◌≡◌, ℕ, ◌^◌, ◌<◌, ◌≤◌, ◌↔◌, suc, List, length, ◌++◌, take, drop, get_or, false, IsTrue, IsSome, Any, All, IfOk, IfSome};
+ghost use Rattle.std.specs.Prelude.{◌≡◌, ℕ, ◌^◌, ◌<◌, ◌≤◌, ◌↔◌, suc, List, [], ◌∷◌, length, ◌++◌, take, drop, get_or, false, IsTrue, IsSome, Any, All, IfOk, IfSome};
 ghost use Rattle.std.specs.Option.{option_copied};
 ghost use Rattle.dl_model.specs.Program.{Aggregate, AreUnits};
 ghost use Rattle.dl_model.specs.Family.{total, GridEncloses};
 ghost use Rattle.dl_port.specs.Shared.{EnclosesSum, IsSumOfPart, AreEnds, IsTotal, IsSumWithout, AreSumsWithout};
 
 use crate::widths::spread_without;
-use crate::{no_units, others};
-use dl_conv::convolve;
+use crate::{no_units, others_with, total_with};
 use dl_grid::Grid;
+use dl_product::{Workspace, product};
 use std::alloc::{AllocError, Global};
 
 /// Sums of a program's units.
@@ -26,6 +26,7 @@ pub struct Sums<const B: u32> {
 /// on the first cells of the grid `like`.
 fn joined<const B: u32>(
     alloc: Global,
+    work: &mut Workspace,
     before: Option<&Grid<B>>,
     after: Option<&Grid<B>>,
     like: &Grid<B>,
@@ -40,7 +41,7 @@ fn joined<const B: u32>(
         → EnclosesSum (option_copied before.entry) us → EnclosesSum (option_copied after.entry) vs → GridEncloses g (total (us ++ vs))) }
 {
     match (before, after) {
-        (Some(first), Some(second)) => convolve(alloc, first, second, cells),
+        (Some(first), Some(second)) => product(alloc, work, first, second, cells),
         (Some(sum), None) => Grid::truncate(alloc, sum, cells),
         (None, Some(sum)) => Grid::truncate(alloc, sum, cells),
         (None, None) => no_units(alloc, like, cells),
@@ -48,9 +49,10 @@ fn joined<const B: u32>(
 }
 
 /// The sums of the last units: of the last one, of the last two, and so on up to all but the first. Each
-/// comes from the one before by one convolution.
+/// comes from the one before by one product.
 fn sums_of_ends<const B: u32>(
     alloc: Global,
+    work: &mut Workspace,
     units: &[Grid<B>],
     cells: u32,
 ) -> Result<Vec<Grid<B>>, AllocError>
@@ -62,7 +64,7 @@ fn sums_of_ends<const B: u32>(
     let mut ends = Vec::new(alloc);
     for i in (1..units.len()).rev() {
         let unit = &units[i];
-        let sum = joined(alloc, Some(unit), ends.last(), unit, cells)?;
+        let sum = joined(alloc, work, Some(unit), ends.last(), unit, cells)?;
         ends.push(sum)?;
     }
     Ok(ends)
@@ -71,6 +73,7 @@ fn sums_of_ends<const B: u32>(
 /// The sums of the last units where some unit is asked for.
 fn ends_where_asked<const B: u32>(
     alloc: Global,
+    work: &mut Workspace,
     units: &[Grid<B>],
     asked: &[bool],
     cells: u32,
@@ -81,7 +84,7 @@ fn ends_where_asked<const B: u32>(
     ensures { IfOk result (λ ends. Any (λ a. IsTrue a) asked.now → AreEnds cells units.now ends.items) }
 {
     if asked.iter().any(|asked| *asked) {
-        return sums_of_ends(alloc, units, cells);
+        return sums_of_ends(alloc, work, units, cells);
     }
     Ok(Vec::new(alloc))
 }
@@ -91,6 +94,7 @@ fn ends_where_asked<const B: u32>(
 /// one, they are taken in one by one.
 fn others_where_asked<const B: u32>(
     alloc: Global,
+    work: &mut Workspace,
     units: &[Grid<B>],
     asked: &[bool],
     i: u32,
@@ -110,22 +114,23 @@ fn others_where_asked<const B: u32>(
     if !asked[i as usize] {
         return Ok(None);
     }
-    let sum = joined(alloc, before, after, &units[i as usize], cells)?;
+    let sum = joined(alloc, work, before, after, &units[i as usize], cells)?;
     if let Some(most) = spread_without(units, i, cells) {
         if sum.spread() <= most {
             return Ok(Some(sum));
         }
     }
-    let sum = others(alloc, units, i, cells)?;
+    let sum = others_with(alloc, work, units, i, cells)?;
     Ok(Some(sum))
 }
 
 /// The first `cells` cells of the sum of all units, and for each unit that is asked for, of the sum of all
 /// other units. These are as wide as those of `total` and `others` may be, and come from sums that they
-/// share: where none comes out wider, at most three convolutions for each unit, however many are asked for.
+/// share: where none comes out wider, at most three products for each unit, however many are asked for.
 /// There is at least one unit, and each grid has at least these cells.
 pub fn total_and_others<const B: u32>(
     alloc: Global,
+    work: &mut Workspace,
     units: &[Grid<B>],
     asked: &[bool],
     cells: u32,
@@ -138,16 +143,17 @@ pub fn total_and_others<const B: u32>(
     ensures total { IfOk result (λ sums. IsTotal cells units.now sums.total) }
     ensures others { IfOk result (λ sums. AreSumsWithout cells units.now asked.now sums.others.items) }
 {
-    let mut ends = ends_where_asked(alloc, units, asked, cells)?;
+    let mut ends = ends_where_asked(alloc, work, units, asked, cells)?;
     let mut others = Vec::new(alloc);
     let after = ends.pop();
-    let first = others_where_asked(alloc, units, asked, 0, None, after.as_ref(), cells)?;
+    let first = others_where_asked(alloc, work, units, asked, 0, None, after.as_ref(), cells)?;
     others.push(first)?;
     let mut total = Grid::truncate(alloc, &units[0], cells)?;
     for i in 1..units.len() {
         let after = ends.pop();
         let sum = others_where_asked(
             alloc,
+            work,
             units,
             asked,
             i as u32,
@@ -156,7 +162,21 @@ pub fn total_and_others<const B: u32>(
             cells,
         )?;
         others.push(sum)?;
-        total = convolve(alloc, &total, &units[i], cells)?;
+        total = product(alloc, work, &total, &units[i], cells)?;
     }
     Ok(Sums { total, others })
+}
+
+/// The same sums of one unit alone, where no other sum is asked for. The total is the unit's grid, which
+/// is moved and not copied.
+pub fn sums_of_one<const B: u32>(alloc: Global, unit: Grid<B>) -> Result<Sums<B>, AllocError>
+    ensures total { IfOk result (λ sums. IsTotal (length unit.entry) (unit.entry ∷ []) sums.total) }
+    ensures others { IfOk result (λ sums. AreSumsWithout (length unit.entry) (unit.entry ∷ []) (false ∷ []) sums.others.items) }
+{
+    let mut others = Vec::new(alloc);
+    others.push(None)?;
+    Ok(Sums {
+        total: unit,
+        others,
+    })
 }

@@ -1,8 +1,9 @@
 ghost use Rattle.std.specs.Prelude.{◌≡◌, ◌≤◌, length, All, IfOk};
 
-use super::{others, total, total_and_others};
+use super::{others, sums_of_one, total, total_and_others};
 use dl_grid::{Grid, units_of_one};
 use dl_iv::Iv;
+use dl_product::Workspace;
 use std::alloc::{AllocError, Global};
 
 /// The cells of each grid: the greatest total is 6.
@@ -11,10 +12,11 @@ const CELLS: u32 = 7;
 /// Three units: how many sixths each outcome from 0 to 3 has.
 const UNITS: [[u8; 4]; 3] = [[2, 4, 0, 0], [3, 0, 3, 0], [1, 2, 2, 1]];
 
-/// How many of the units are taken, the one that is left out of the sum, and the probability of each
-/// total from 0 to 6, in parts of 216, worked out by exact fractions.
+/// Whether all units are like the first, how many of them are taken, the one that is left out of the sum,
+/// and the probability of each total from 0 to 6, in parts of 216, worked out by exact fractions.
 #[derive(Clone, Copy, Debug)]
 struct Case {
+    alike: bool,
     taken: usize,
     without: Option<u32>,
     want: [u8; 7],
@@ -55,9 +57,13 @@ fn holds<const B: u32>(g: &Grid<B>, want: [u8; 7]) -> bool
     requires scale_below { B ≤ 56 }
 {
     let one = units_of_one(B);
-    let mut same = g.cells() == CELLS;
-    for (cell, part) in g.as_slice().iter().zip(&want) {
-        let exact = u128::from(*part) * one;
+    if g.cells() != CELLS {
+        return false;
+    }
+    let mut same = true;
+    for x in 0..7 {
+        let cell = g.at(x as u32);
+        let exact = u128::from(want[x]) * one;
         let low = cell.lo.min(one);
         let high = cell.hi.min(one);
         same = same && low * 216 <= exact && exact <= high * 216 && high - low < 60;
@@ -77,7 +83,13 @@ fn holds_shared<const B: u32>(
     requires in_each { All (λ g. 7 ≤ length g) units.now }
 {
     let asked = [case.without.is_some(); 3];
-    let sums = total_and_others(alloc, units, &asked[..units.len()], CELLS)?;
+    let sums = total_and_others(
+        alloc,
+        &mut Workspace::new(alloc),
+        units,
+        &asked[..units.len()],
+        CELLS,
+    )?;
     let others = sums.others.as_slice();
     let Some(i) = case.without else {
         return Ok(holds(&sums.total, case.want) && others.iter().all(|sum| sum.is_none()));
@@ -88,14 +100,24 @@ fn holds_shared<const B: u32>(
     })
 }
 
+/// Whether the sum of the first unit alone is that unit's grid, and no other is there.
+fn holds_alone<const B: u32>(alloc: Global) -> Result<bool, AllocError>
+    requires scale_above { 1 ≤ B }
+    requires scale_below { B ≤ 56 }
+{
+    let sums = sums_of_one(alloc, unit::<B>(alloc, UNITS[0])?)?;
+    let none = sums.others.as_slice().iter().all(|sum| sum.is_none());
+    Ok(holds(&sums.total, [72, 144, 0, 0, 0, 0, 0]) && none && sums.others.len() == 1)
+}
+
 fn answer<const B: u32>(alloc: Global, case: Case) -> Result<bool, AllocError>
     requires scale_above { 1 ≤ B }
     requires scale_below { B ≤ 56 }
 {
     let units = [
         unit::<B>(alloc, UNITS[0])?,
-        unit::<B>(alloc, UNITS[1])?,
-        unit::<B>(alloc, UNITS[2])?,
+        unit::<B>(alloc, if case.alike { UNITS[0] } else { UNITS[1] })?,
+        unit::<B>(alloc, if case.alike { UNITS[0] } else { UNITS[2] })?,
     ];
     let taken = &units[..case.taken.clamp(1, 3)];
     let sum = match case.without {
@@ -109,34 +131,52 @@ fn answer<const B: u32>(alloc: Global, case: Case) -> Result<bool, AllocError>
 fn sums_of_units(rt: HostRuntime) {
     let cases = [
         Case {
+            alike: false,
             taken: 3,
             without: None,
             want: [6, 24, 42, 54, 48, 30, 12],
         },
         Case {
+            alike: false,
             taken: 3,
             without: Some(0),
             want: [18, 36, 54, 54, 36, 18, 0],
         },
         Case {
+            alike: false,
             taken: 3,
             without: Some(1),
             want: [12, 48, 72, 60, 24, 0, 0],
         },
         Case {
+            alike: false,
             taken: 3,
             without: Some(2),
             want: [36, 72, 36, 72, 0, 0, 0],
         },
         Case {
+            alike: false,
             taken: 1,
             without: None,
             want: [72, 144, 0, 0, 0, 0, 0],
         },
         Case {
+            alike: false,
             taken: 1,
             without: Some(0),
             want: [216, 0, 0, 0, 0, 0, 0],
+        },
+        Case {
+            alike: true,
+            taken: 3,
+            without: None,
+            want: [8, 48, 96, 64, 0, 0, 0],
+        },
+        Case {
+            alike: true,
+            taken: 3,
+            without: Some(1),
+            want: [24, 96, 96, 0, 0, 0, 0],
         },
     ];
     for case in &cases {
@@ -144,4 +184,11 @@ fn sums_of_units(rt: HostRuntime) {
         assert_eq!(rt; answer::<48>(alloc, *case), Ok(true), "{case:?}");
         assert_eq!(rt; answer::<56>(alloc, *case), Ok(true), "{case:?}");
     }
+}
+
+#[test]
+fn one_unit_alone(rt: HostRuntime) {
+    let alloc = rt.alloc();
+    assert_eq!(rt; holds_alone::<48>(alloc), Ok(true));
+    assert_eq!(rt; holds_alone::<56>(alloc), Ok(true));
 }

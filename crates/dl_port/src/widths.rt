@@ -3,38 +3,25 @@
 ghost use Rattle.std.specs.Prelude.{◌≡◌, ◌^◌, ◌<◌, ◌≤◌, length, map, IfSome};
 ghost use Rattle.std.specs.List.{fold, remove};
 ghost use Rattle.dl_grid.specs.Cells.{spread};
-ghost use Rattle.dl_grid.specs.Width.{cv};
-ghost use Rattle.dl_port.specs.Sums.{sum_spread};
+ghost use Rattle.dl_grid.specs.Width.{cv, sum_spread};
 
-use dl_grid::{Grid, units_of_one};
+use dl_grid::{Grid, joined_spread};
 
-/// The spread that a convolution may have, of grids with the spreads `x` and `y`, in units of `1 / 2^B`.
-/// None where a part of it passes 128 bits.
-fn joined_spread<const B: u32>(x: u128, y: u128, cells: u32) -> Option<u128>
-    requires { B ≤ 56 }
-    ensures { IfSome result (λ most. most ≡ cv (2 ^ B) cells x y) }
-{
-    let both = x.checked_add(y)?;
-    let crossed = x.checked_mul(y)?.div_ceil(units_of_one(B));
-    let rounded = 2 * u128::from(cells);
-    both.checked_add(crossed)?.checked_add(rounded)
-}
-
-/// The same where the units are taken in one by one, in order, from a sum with the spread `sum`.
+/// The spread that a sum of units may have where they are taken in one by one, in order, from a sum
+/// with the spread `sum`, in units of `1 / 2^B`. None where a part of it passes 128 bits.
 fn spread_with<const B: u32>(sum: u128, units: &[Grid<B>], cells: u32) -> Option<u128>
     ensures { IfSome result (λ most. most ≡ fold (cv (2 ^ B) cells) sum (map spread units.now)) }
 {
     let mut most = sum;
     for unit in units {
-        // a grid has a scale at which there are intervals
-        let _cells = unit.as_slice();
+        unit.cells();
         most = joined_spread::<B>(most, unit.spread(), cells)?;
     }
     Some(most)
 }
 
 /// The same for the sum of all units, of which there is at least one.
-fn spread_of_sum<const B: u32>(units: &[Grid<B>], cells: u32) -> Option<u128>
+pub(crate) fn spread_of_sum<const B: u32>(units: &[Grid<B>], cells: u32) -> Option<u128>
     requires { 1 ≤ length units.now }
     ensures { IfSome result (λ most. most ≡ sum_spread (2 ^ B) cells (map spread units.now)) }
 {

@@ -12,7 +12,7 @@ use Rattle.dl_exact.proofs.Over.{over_le}
 use Rattle.dl_exact.proofs.Laws.{times_one}
 use Rattle.dl_iv.specs.declared.interval.Iv.{Iv}
 use Rattle.dl_grid.specs.Cells.{low_at, high_at, all_at_zero}
-use Rattle.dl_grid.specs.Pairs.{count_pairs}
+use Rattle.dl_exact.specs.Count.{count_pairs}
 use Rattle.dl_model.specs.Series.{Holds}
 use Rattle.dl_model.specs.Program.{where_true}
 use Rattle.dl_model.specs.Listed.{weighted, probability}
@@ -22,7 +22,7 @@ use Rattle.dl_model.proofs.FamilyLaws.{encloses_rounded, encloses_same, encloses
 use Rattle.dl_model.proofs.FiniteCounts.{nothing_encloses, finite_encloses, fixed_sum, fixed_cell, power_one}
 use Rattle.dl_plan.specs.declared.item.Item.{Item}
 use Rattle.dl_plan.specs.Weighted.{weight_at, weight_sum}
-use Rattle.dl_power.proofs.CellSets.{low_take, high_take}
+use Rattle.dl_grid.proofs.CellSets.{low_take, high_take}
 use Rattle.dl_model.proofs.ItemWeights.{probability_is}
 
 -- a grid with the ends that a convolution rounds to encloses the product

@@ -5,7 +5,7 @@ use Rattle.std.specs.Int.{div_ceil}
 use Rattle.dl_exact.specs.Fraction.{Fraction, ◌over◌, ◌≤ℚ◌}
 use Rattle.dl_iv.specs.declared.interval.Iv.{Iv}
 use Rattle.dl_grid.specs.Cells.{low_at, high_at, all_at_zero}
-use Rattle.dl_grid.specs.Pairs.{count_pairs}
+use Rattle.dl_exact.specs.Count.{count_pairs}
 use Rattle.dl_model.specs.Compound.{cell, cell_from}
 use Rattle.dl_model.specs.Severity.{IsWithinOne}
 use Rattle.dl_model.specs.Listed.{weighted, probability, greatest}
@@ -19,7 +19,8 @@ use Rattle.dl_plan.specs.Weighted.{weight_at, weight_sum}
 use Rattle.dl_model.proofs.ItemWeights.{total_same, probability_is}
 use Rattle.dl_power.proofs.WeightLists.{probabilities_within}
 use Rattle.dl_power.proofs.Enclosing.{share_low, share_high}
-use Rattle.dl_power.proofs.HornerSteps.{LieBetween, starts, goes_on}
+use Rattle.dl_power.specs.Powers.{LieBetween}
+use Rattle.dl_power.proofs.HornerSteps.{starts, goes_on}
 
 -- a share, rounded outward, holds its probability
 share_below : (S total : ℕ) (items : List Item) (k a : ℕ) → 0 < S → 0 < total → weight_sum items ≡ total → a ≡ S * weight_at items k / total
@@ -68,7 +69,7 @@ one_between {B} base K f within e = record {
 
 -- down to no claim
 pub ends : {B : ℕ} (grid : List (Iv B)) (items : List Item) (total : ℕ) (f : ℕ → Fraction) (K k N : ℕ) → 0 < total → weight_sum items ≡ total
-    → k ≡ 0 → N ≡ greatest (weighted items) → length grid ≡ K
+    → k ≡ 0 → greatest (weighted items) ≤ N → length grid ≡ K
     → LieBetween (2 ^ B) K (low_at grid) (high_at grid) (λ s. cell_from (probability (weighted items)) f k s N)
     → GridEncloses grid (compound (probability (weighted items)) f)
 ends {B} grid items total f K k N pos sum none all e between =

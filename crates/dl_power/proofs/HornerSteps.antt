@@ -9,25 +9,19 @@ use Rattle.std.proofs.lemmas.Grind.{div_ceil_times}
 use Rattle.dl_exact.specs.Fraction.{Fraction, whole, ◌over◌, ◌+ℚ◌, ◌*ℚ◌, ◌≤ℚ◌}
 use Rattle.dl_exact.specs.Sum.{sum_to, sum_pairs}
 use Rattle.dl_exact.proofs.Over.{over_le, over_same, over_add, over_mul}
-use Rattle.dl_exact.proofs.Laws.{one_pos, le_refl, le_trans, le_of_eq, zero_le, plus_le_both, times_one, times_zero}
-use Rattle.dl_exact.proofs.Sums.{sum_to_le, sum_pairs_same}
+use Rattle.dl_exact.proofs.Laws.{one_pos, le_refl, le_trans, le_of_eq, zero_le, plus_le_both, times_one, times_zero, times_le_both}
+use Rattle.dl_exact.proofs.Sums.{sum_to_le, sum_pairs_same, item_le_sum, sum_pairs_le}
 use Rattle.dl_iv.specs.declared.interval.Iv.{Iv}
 use Rattle.dl_grid.specs.Cells.{low_at, mass_low, all_at_zero}
-use Rattle.dl_grid.specs.Pairs.{count_pairs}
-use Rattle.dl_grid.proofs.PairLaws.{count_below, below_le, below_same, below_times, pairs_within}
+use Rattle.dl_exact.specs.Count.{count_pairs, count_below}
+use Rattle.dl_exact.proofs.Counts.{below_le, below_same, below_times, pairs_within}
 use Rattle.dl_grid.proofs.PlaceSums.{whole_mass, low_within}
 use Rattle.dl_model.specs.Compound.{convolve, at_zero, power, cell_from}
+use Rattle.dl_power.specs.Powers.{LieBetween}
 use Rattle.dl_model.specs.Severity.{IsWithinOne}
 use Rattle.dl_model.proofs.CompoundLaws.{power_within_one}
-use Rattle.dl_model.proofs.CountLaws.{sum_pairs_over}
-use Rattle.dl_model.proofs.Declared.{times_le_both}
+use Rattle.dl_exact.proofs.SumsOver.{sum_pairs_over}
 use Rattle.dl_model.proofs.Horner.{horner_start, horner_next}
-use Rattle.dl_model.proofs.SumLaws.{item_le_sum, sum_pairs_le}
-
--- the first K values lie between ends in units of 1/S
-pub record LieBetween (S K : ℕ) (lo hi : ℕ → ℕ) (c : ℕ → Fraction) : Type 0 where
-  pub low : (s : ℕ) → s < K → lo s over S ≤ℚ c s
-  pub high : (s : ℕ) → s < K → c s ≤ℚ hi s over S
 
 -- ---- the mass
 
@@ -53,7 +47,7 @@ convolved_mass {B} a b cells n top e low =
 
 -- ---- what the counts from k on come to
 
-shifted : (w : ℕ → Fraction) (k N : ℕ) → sum_to N (λ n. w (k + n)) ≤ℚ sum_to (k + N) w
+pub shifted : (w : ℕ → Fraction) (k N : ℕ) → sum_to N (λ n. w (k + n)) ≤ℚ sum_to (k + N) w
 unfolding sum_to
 shifted w k zero = subst (λ t. w t ≤ℚ sum_to t w) (sym (add-zero k)) (item_le_sum k w)
 shifted w k (suc N) =
@@ -61,7 +55,7 @@ shifted w k (suc N) =
     subst (λ t. sum_to (suc N) (λ n. w (k + n)) ≤ℚ sum_to t w) e (plus_le_both _ _ _ _ (shifted w k N) (le_of_eq _ _ (ap w (sym e))))
 
 -- at most 1
-from_within_one : (w f : ℕ → Fraction) → IsWithinOne w → IsWithinOne f → (k s N : ℕ) → cell_from w f k s N ≤ℚ whole 1
+pub from_within_one : (w f : ℕ → Fraction) → IsWithinOne w → IsWithinOne f → (k s N : ℕ) → cell_from w f k s N ≤ℚ whole 1
 from_within_one w f p q k s N =
     le_trans _ _ _ (sum_to_le N _ (λ n. w (k + n)) (λ n b.
     subst (λ t. w (k + n) *ℚ power f n s ≤ℚ t) (times_one _) (times_le_both _ _ _ _ (le_refl _)
@@ -69,7 +63,7 @@ from_within_one w f p q k s N =
     (le_trans _ _ _ (shifted w k N) (p (k + N)))
 
 module _ (S : ℕ) (pos : 0 < S) where
-  sum_over : (x y : ℕ) → (x + y) over S ≡ x over S +ℚ y over S
+  pub sum_over : (x y : ℕ) → (x + y) over S ≡ x over S +ℚ y over S
   sum_over x y = sym (over_add x S y S pos pos ∙ over_same _ _ _ _ (mul-pos pos pos) pos (omega arith))
 
   turned : (x y : ℕ) → x over S +ℚ y over S ≤ℚ (y + x) over S
@@ -94,13 +88,13 @@ module _ (S : ℕ) (pos : 0 < S) where
   zero_high b (suc s) x h = le_of_eq _ _ (times_zero x ∙ sym none_over)
 
   module _ (K : ℕ) (lo hi lo' hi' : ℕ → ℕ) (f c : ℕ → Fraction) (of_f : LieBetween S K lo hi f) (of_c : LieBetween S K lo' hi' c) where
-    pairs_low : (s : ℕ) → s < K → (count_pairs s (λ i j. lo i * lo' j) / S) over S ≤ℚ convolve f c s
+    pub pairs_low : (s : ℕ) → s < K → (count_pairs s (λ i j. lo i * lo' j) / S) over S ≤ℚ convolve f c s
     pairs_low s inside = le_trans _ _ _
         (over_le _ _ _ _ pos (mul-pos pos pos) (omega (arith, mul-le-mul_right S (div-mul-le_self (count_pairs s (λ i j. lo i * lo' j)) S))))
         (le_trans _ _ _ (le_of_eq _ _ (sym (products s lo lo')))
         (sum_pairs_le s _ _ (λ i j e. times_le_both _ _ _ _ (of_f.low i (omega arith)) (of_c.low j (omega arith)))))
 
-    pairs_high : (s : ℕ) → s < K → convolve f c s ≤ℚ div_ceil (count_pairs s (λ i j. hi i * hi' j)) S over S
+    pub pairs_high : (s : ℕ) → s < K → convolve f c s ≤ℚ div_ceil (count_pairs s (λ i j. hi i * hi' j)) S over S
     pairs_high s inside = le_trans _ _ _
         (sum_pairs_le s _ _ (λ i j e. times_le_both _ _ _ _ (of_f.high i (omega arith)) (of_c.high j (omega arith))))
         (le_trans _ _ _ (le_of_eq _ _ (products s hi hi'))

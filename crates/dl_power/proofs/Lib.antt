@@ -1,7 +1,14 @@
 pub mod WeightLists
-pub mod CellSets
 pub mod Enclosing
-pub mod HornerSteps
+pub mod GiantSteps
+mod HornerSteps
+mod BlockEnds
 pub mod Spreads
 pub mod Results
+mod EndLists
+mod BlockGrids
+mod PowerGrids
+mod StepGrids
+mod BlockLists
+mod SingleCount
 pub mod HornerGrids

@@ -1,8 +1,7 @@
 -- How the width rule bounds the spread of each step.
 use Rattle.std.proofs.Common.{ℕ, suc, ◌≡◌, ◌+◌, ◌*◌, ◌<◌, ◌≤◌, arith, refl, ap}
-use Rattle.dl_grid.specs.Width.{cv, pw}
+use Rattle.dl_grid.specs.Width.{cv, pw, mixed_spread}
 use Rattle.dl_grid.proofs.WidthLaws.{cv_rises, pw_even, pw_odd}
-use Rattle.dl_power.specs.Spread.{mixed_spread}
 
 -- a square, and a square with one more
 pub squared_width : (S k b m n x y : ℕ) → 0 < S → 1 ≤ m → m + m ≡ n → x ≤ cv S k y y → y ≤ pw S k b m → x ≤ pw S k b n
@@ -28,10 +27,6 @@ one_more_width S k b m n x y pos some e h even =
 
     double : (m : ℕ) → 2 * m ≡ m + m
     double m = omega arith
-
-pub mixed_none : (S k b : ℕ) → mixed_spread S k b 0 ≡ 1
-unfolding mixed_spread
-mixed_none S k b = refl
 
 pub mixed_more : (S k b c x y more : ℕ) → 0 < S → x ≤ cv S k b y + more → more ≤ 1 → y ≤ mixed_spread S k b c → x ≤ mixed_spread S k b (suc c)
 unfolding mixed_spread

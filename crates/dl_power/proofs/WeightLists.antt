@@ -9,7 +9,8 @@ use Rattle.std.proofs.lemmas.Bool.{ne_eqb}
 use Rattle.std.proofs.lemmas.Bool.Decides.{eqb_tells}
 use Rattle.std.proofs.lemmas.List.Kept.{AllPairs-from_increasing}
 use Rattle.std.proofs.lemmas.List.Sums.{sum_by_more}
-use Rattle.dl_grid.proofs.PairLaws.{count_below, below_nothing, below_more, below_le, below_times}
+use Rattle.dl_exact.specs.Count.{count_below}
+use Rattle.dl_exact.proofs.Counts.{below_nothing, below_more, below_le, below_times}
 use Rattle.dl_model.specs.Listed.{weighted, weight_of, greatest, probability}
 use Rattle.dl_model.specs.Severity.{IsWithinOne}
 use Rattle.dl_model.proofs.WeightLaws.{weights_le, probabilities_le}

@@ -1,23 +1,25 @@
-//! A listed number of claims, by Horner's rule.
+//! A listed number of claims.
 
 ghost use Rattle.std.specs.Prelude.{◌≡◌, ℕ, suc, ◌+◌, ◌-◌, ◌*◌, ◌/◌, ◌^◌, ◌<◌, ◌≤◌, min, length, IfOk};
 ghost use Rattle.std.specs.Int.{div_ceil};
 ghost use Rattle.dl_exact.specs.Fraction.{Fraction};
 ghost use Rattle.dl_grid.specs.Cells.{low_at, high_at, mass_low, spread, all_at_zero};
-ghost use Rattle.dl_grid.specs.Pairs.{count_pairs};
-ghost use Rattle.dl_grid.specs.Width.{cv};
+ghost use Rattle.dl_exact.specs.Count.{count_pairs};
+ghost use Rattle.dl_grid.specs.Width.{cv, mixed_spread};
 ghost use Rattle.dl_model.specs.Listed.{weighted, probability, greatest};
 ghost use Rattle.dl_model.specs.Counts.{fixed};
 ghost use Rattle.dl_model.specs.Severity.{IsWithinOne};
 ghost use Rattle.dl_model.specs.Family.{compound, GridEncloses};
 ghost use Rattle.dl_plan.specs.Weighted.{weight_sum};
-ghost use Rattle.dl_power.specs.Spread.{mixed_spread};
 
-use crate::shares::{greatest_of, nowhere, share, weight_of, well_made};
-use dl_conv::convolve;
+use crate::blocks::by_blocks;
+use crate::powers::power_with;
+use crate::shares::{greatest_of, nowhere, share, weight_of};
+use crate::widths::spread_of_counts;
 use dl_grid::{Grid, units_of_one};
 use dl_iv::Iv;
 use dl_plan::Item;
+use dl_product::{Workspace, product};
 use std::alloc::{AllocError, Global};
 
 /// Adds an interval to cell 0, and lowers its high end to 1 where it is above.
@@ -40,6 +42,7 @@ fn add_at_zero<const B: u32>(grid: &mut Grid<B>, more: Iv<B>)
 /// count's share, which leaves no claim, at 0.
 fn one_claim_more<const B: u32>(
     alloc: Global,
+    work: &mut Workspace,
     base: &Grid<B>,
     later: &Grid<B>,
     share: Iv<B>,
@@ -58,16 +61,71 @@ fn one_claim_more<const B: u32>(
     ensures mass { IfOk result (λ g. mass_low g ≤ mass_low later.now + share.entry.lo) }
     ensures spread { IfOk result (λ g. spread g ≤ cv (2 ^ B) cells (spread base.now) (spread later.now) + (share.entry.hi - share.entry.lo)) }
 {
-    well_made(base);
-    let mut grid = convolve(alloc, base, later, cells)?;
+    base.cells();
+    let mut grid = product(alloc, work, base, later, cells)?;
     add_at_zero(&mut grid, share);
     Ok(grid)
 }
 
+/// The sum of a listed number of claims by Horner's rule: it goes from the greatest number down, with
+/// one product for each number below it. Besides the base two grids are held at a time.
+fn by_horner<const B: u32>(
+    alloc: Global,
+    work: &mut Workspace,
+    base: &Grid<B>,
+    table: &[Item],
+    total: u32,
+    cells: u32,
+) -> Result<Grid<B>, AllocError>
+    requires sum { weight_sum table.now ≡ total }
+    requires positive { 0 < total }
+    requires some { 1 ≤ cells }
+    requires within { cells ≤ length base.now }
+    ensures cells { IfOk result (λ g. length g ≡ cells) }
+    ensures encloses { IfOk result (λ g. (f : ℕ → Fraction) → IsWithinOne f → GridEncloses base.now (compound (fixed 1) f)
+        → GridEncloses g (compound (probability (weighted table.now)) f)) }
+    ensures spread { IfOk result (λ g. spread g ≤ mixed_spread (2 ^ B) cells (spread base.now) (greatest (weighted table.now))) }
+{
+    base.cells();
+    let greatest = greatest_of(table);
+    let mut grid = nowhere(alloc, cells)?;
+    add_at_zero(
+        &mut grid,
+        share(weight_of(table, u64::from(greatest)), total),
+    );
+    for step in 0..greatest {
+        let count = greatest - step - 1;
+        let share = share(weight_of(table, u64::from(count)), total);
+        grid = one_claim_more(alloc, work, base, &grid, share, cells)?;
+    }
+    Ok(grid)
+}
+
+/// The sum of a listed number of claims by fewer products: where one number is listed it is a power.
+fn by_fewer<const B: u32>(
+    alloc: Global,
+    work: &mut Workspace,
+    base: &Grid<B>,
+    table: &[Item],
+    total: u32,
+    cells: u32,
+) -> Result<Grid<B>, AllocError>
+    requires sum { weight_sum table.now ≡ total }
+    requires positive { 0 < total }
+    requires some { 1 ≤ cells }
+    requires within { cells ≤ length base.now }
+    ensures cells { IfOk result (λ g. length g ≡ cells) }
+    ensures encloses { IfOk result (λ g. (f : ℕ → Fraction) → IsWithinOne f → GridEncloses base.now (compound (fixed 1) f)
+        → GridEncloses g (compound (probability (weighted table.now)) f)) }
+{
+    if table.len() == 1 {
+        return power_with(alloc, work, base, table[0].amount, cells);
+    }
+    by_blocks(alloc, work, base, table, total, cells)
+}
+
 /// The first `cells` cells of the sum of a listed number of claims: `table` has the numbers of claims,
-/// each with its weight out of `total`, and `base` is the grid of one claim. Horner's rule goes from
-/// the greatest number down, with one convolution for each number below it; besides the base two grids
-/// are held at a time.
+/// each with its weight out of `total`, and `base` is the grid of one claim.
 pub fn mix_counts<const B: u32>(
     alloc: Global,
     base: &Grid<B>,
@@ -84,14 +142,33 @@ pub fn mix_counts<const B: u32>(
         → GridEncloses g (compound (probability (weighted table.now)) f)) }
     ensures spread { IfOk result (λ g. spread g ≤ mixed_spread (2 ^ B) cells (spread base.now) (greatest (weighted table.now))) }
 {
-    well_made(base);
-    let greatest = greatest_of(table);
-    let mut grid = nowhere(alloc, cells)?;
-    add_at_zero(&mut grid, share(weight_of(table, greatest), total));
-    for step in 0..greatest {
-        let count = greatest - step - 1;
-        let share = share(weight_of(table, count), total);
-        grid = one_claim_more(alloc, base, &grid, share, cells)?;
+    mix_counts_with(alloc, &mut Workspace::new(alloc), base, table, total, cells)
+}
+
+/// The same sum, by products in a workspace that is lent: by as few as there can be; where that comes
+/// out wider than by Horner's rule it may be, by Horner's rule.
+pub fn mix_counts_with<const B: u32>(
+    alloc: Global,
+    work: &mut Workspace,
+    base: &Grid<B>,
+    table: &[Item],
+    total: u32,
+    cells: u32,
+) -> Result<Grid<B>, AllocError>
+    requires sum { weight_sum table.now ≡ total }
+    requires positive { 0 < total }
+    requires some { 1 ≤ cells }
+    requires within { cells ≤ length base.now }
+    ensures cells { IfOk result (λ g. length g ≡ cells) }
+    ensures encloses { IfOk result (λ g. (f : ℕ → Fraction) → IsWithinOne f → GridEncloses base.now (compound (fixed 1) f)
+        → GridEncloses g (compound (probability (weighted table.now)) f)) }
+    ensures spread { IfOk result (λ g. spread g ≤ mixed_spread (2 ^ B) cells (spread base.now) (greatest (weighted table.now))) }
+{
+    let grid = by_fewer(alloc, work, base, table, total, cells)?;
+    if let Some(most) = spread_of_counts::<B>(base.spread(), greatest_of(table), cells) {
+        if grid.spread() <= most {
+            return Ok(grid);
+        }
     }
-    Ok(grid)
+    by_horner(alloc, work, base, table, total, cells)
 }

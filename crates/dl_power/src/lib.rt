@@ -3,13 +3,16 @@
 //! from the width rule.
 #![tactic(auto)]
 
+mod blocks;
 mod claims;
 mod counts;
+mod mixture;
 mod powers;
 mod shares;
 #[cfg(test)]
 mod tests;
+mod widths;
 
 pub use claims::claim_grid;
-pub use counts::mix_counts;
-pub use powers::power;
+pub use counts::{mix_counts, mix_counts_with};
+pub use powers::{power, power_with};

@@ -5,14 +5,13 @@ ghost use Rattle.dl_grid.specs.Cells.{spread};
 ghost use Rattle.dl_grid.specs.Width.{pw};
 ghost use Rattle.dl_model.specs.Family.{Family, IsProper, GridEncloses, times_itself};
 
-use crate::shares::well_made;
-use dl_conv::convolve;
 use dl_grid::Grid;
+use dl_product::{Workspace, product, square};
 use std::alloc::{AllocError, Global};
 
 /// The first `cells` cells of the `n`-th convolution power: the outcomes of `n` independent copies of
 /// what the base holds, added up. An even power is the square of its half, and an odd one that of the
-/// number before it and one copy more, so there are at most two convolutions for each binary digit of
+/// number before it and one copy more, so there are at most two products for each binary digit of
 /// `n`. Besides the base at most two grids are held at a time.
 pub fn power<const B: u32>(
     alloc: Global,
@@ -26,18 +25,35 @@ pub fn power<const B: u32>(
     ensures encloses { IfOk result (λ g. (F : Family) → IsProper F → GridEncloses base.now F → GridEncloses g (times_itself F n)) }
     ensures spread { IfOk result (λ g. spread g ≤ pw (2 ^ B) cells (spread base.now) n) }
 {
-    well_made(base);
+    power_with(alloc, &mut Workspace::new(alloc), base, n, cells)
+}
+
+/// The same power, by products in a workspace that is lent.
+pub fn power_with<const B: u32>(
+    alloc: Global,
+    work: &mut Workspace,
+    base: &Grid<B>,
+    n: u32,
+    cells: u32,
+) -> Result<Grid<B>, AllocError>
+    requires some { 1 ≤ cells }
+    requires within { cells ≤ length base.now }
+    ensures cells { IfOk result (λ g. length g ≡ cells) }
+    ensures encloses { IfOk result (λ g. (F : Family) → IsProper F → GridEncloses base.now F → GridEncloses g (times_itself F n)) }
+    ensures spread { IfOk result (λ g. spread g ≤ pw (2 ^ B) cells (spread base.now) n) }
+{
+    base.cells();
     if n == 0 {
         return Grid::zero(alloc, cells);
     }
     if n == 1 {
         return Grid::truncate(alloc, base, cells);
     }
-    let half = power(alloc, base, n / 2, cells)?;
-    let even = convolve(alloc, &half, &half, cells)?;
+    let half = power_with(alloc, work, base, n / 2, cells)?;
+    let even = square(alloc, work, &half, cells)?;
     drop(half);
     if n % 2 == 0 {
         return Ok(even);
     }
-    convolve(alloc, &even, base, cells)
+    product(alloc, work, &even, base, cells)
 }

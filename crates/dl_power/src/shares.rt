@@ -2,7 +2,7 @@
 
 ghost use Rattle.std.specs.Prelude.{◌≡◌, ℕ, ◌+◌, ◌-◌, ◌*◌, ◌/◌, ◌^◌, ◌==◌, ◌<◌, ◌≤◌, if◌then◌else◌, length, List, IfOk};
 ghost use Rattle.std.specs.Int.{div_ceil};
-ghost use Rattle.dl_grid.specs.Cells.{low_at, high_at, mass_low, spread, IsGrid};
+ghost use Rattle.dl_grid.specs.Cells.{low_at, high_at, mass_low, spread};
 ghost use Rattle.dl_model.specs.Listed.{weighted, weight_of, total_weight, greatest};
 ghost use Rattle.dl_plan.specs.declared.item.Item.{Item};
 ghost use Rattle.dl_plan.specs.Weighted.{weight_at, weight_sum};
@@ -13,13 +13,13 @@ use dl_plan::Item;
 use std::alloc::{AllocError, Global};
 
 /// The weight of `x`, 0 where it is not listed.
-pub(crate) fn weight_of(items: &[Item], x: u32) -> u32
+pub(crate) fn weight_of(items: &[Item], x: u64) -> u32
     requires fits { weight_sum items.now < 2 ^ 32 }
     ensures { result ≡ weight_at items.now x }
 {
     let mut weight = 0;
     for item in items {
-        if item.amount == x {
+        if u64::from(item.amount) == x {
             weight += item.weight;
         }
     }
@@ -50,13 +50,6 @@ pub(crate) fn share<const B: u32>(weight: u32, total: u32) -> Iv<B>
     Iv::enclose(u128::from(weight), u128::from(total))
 }
 
-/// Every grid is well made: it reads the grid and changes nothing.
-pub(crate) fn well_made<const B: u32>(grid: &Grid<B>)
-    ensures { IsGrid grid.now }
-{
-    grid.as_slice();
-}
-
 /// The grid whose cells are all 0.
 pub(crate) fn nowhere<const B: u32>(alloc: Global, cells: u32) -> Result<Grid<B>, AllocError>
     requires scale_above { 1 ≤ B }
@@ -70,6 +63,7 @@ pub(crate) fn nowhere<const B: u32>(alloc: Global, cells: u32) -> Result<Grid<B>
     ensures spread { IfOk result (λ g. spread g ≡ 0) }
 {
     let mut grid = Grid::zero(alloc, cells)?;
+    grid.cells();
     grid.set(0, Iv::point(0));
     Ok(grid)
 }

@@ -1,4 +1,4 @@
-ghost use Rattle.std.specs.Prelude.{◌≤◌};
+ghost use Rattle.std.specs.Prelude.{◌≡◌, ◌≤◌};
 
 use super::{claim_grid, mix_counts, power};
 use dl_grid::Grid;
@@ -138,8 +138,9 @@ const AT_56: Sums = Sums {
 /// Whether a grid has the ends that were worked out.
 fn has<const B: u32>(grid: &Grid<B>, want: &Ends) -> bool {
     let mut same = grid.cells() == 13 && grid.spread() == want.spread;
-    for (cell, ends) in grid.as_slice().iter().zip(&want.cells) {
-        same = same && *ends == (cell.lo, cell.hi);
+    for x in 0..13 {
+        let (low, high) = want.cells[x];
+        same = same && grid.lows().get(x) == Some(&low) && grid.highs().get(x) == Some(&high);
     }
     same
 }
@@ -201,4 +202,68 @@ fn dice(rt: HostRuntime) {
     let alloc = rt.alloc();
     assert_eq!(rt; agrees::<48>(alloc, &AT_48), Ok(true));
     assert_eq!(rt; agrees::<56>(alloc, &AT_56), Ok(true));
+}
+
+/// Cells of none, three, four, five or eight dice, with the weights 1, 2, 1, 3 and 1, each with its
+/// probability in units of `1 / 2^56`, rounded down and up: worked out in fractions.
+const COUNTED: [(usize, u128, u128); 7] = [
+    (0, 9007199254740992, 9007199254740992),
+    (3, 83399993099453, 83399993099454),
+    (9, 2717492676388215, 2717492676388216),
+    (14, 4151359070095257, 4151359070095258),
+    (20, 2702219838145723, 2702219838145724),
+    (31, 609669394000172, 609669394000173),
+    (48, 5362653877, 5362653878),
+];
+
+/// An amount of a list.
+fn item(amount: u32, weight: u32) -> Item
+    ensures amount { result.amount ≡ amount }
+    ensures weight { result.weight ≡ weight }
+{
+    Item { amount, weight }
+}
+
+/// Whether the cells of counts that take three blocks hold what was worked out.
+fn are_held(alloc: Global) -> Result<bool, AllocError> {
+    let faces = [
+        Item {
+            amount: 1,
+            weight: 1,
+        },
+        Item {
+            amount: 2,
+            weight: 1,
+        },
+        Item {
+            amount: 3,
+            weight: 1,
+        },
+        Item {
+            amount: 4,
+            weight: 1,
+        },
+        Item {
+            amount: 5,
+            weight: 1,
+        },
+        Item {
+            amount: 6,
+            weight: 1,
+        },
+    ];
+    let counts = [item(0, 1), item(3, 2), item(4, 1), item(5, 3), item(8, 1)];
+    let die = claim_grid::<56>(alloc, &faces, 6, 49)?;
+    let sum = mix_counts(alloc, &die, &counts, 8, 49)?;
+    let mut held = sum.spread() <= 857;
+    for (x, floor, ceiling) in COUNTED {
+        held = held && sum.lows().get(x).is_some_and(|low| *low <= floor);
+        held = held && sum.highs().get(x).is_some_and(|high| *high >= ceiling);
+    }
+    Ok(held)
+}
+
+#[test]
+fn counts_in_blocks(rt: HostRuntime) {
+    assert_eq!(rt; are_held(rt.alloc()), Ok(true));
 }

@@ -8,3 +8,4 @@ pub mod TrialGrids
 pub mod CountKinds
 pub mod Thinned
 pub mod TestLaws
+mod Pushed

@@ -3,7 +3,8 @@ use Rattle.std.proofs.Common.{ℕ, zero, suc, ◌≡◌, ◌≢◌, ◌+◌, ◌
 use Rattle.std.specs.Prelude.{◌==◌, if◌then◌else◌, min}
 use Rattle.std.proofs.lemmas.Bool.{cases_lt, ne_eqb}
 use Rattle.std.proofs.lemmas.List.Sums.{sum_by-cons}
-use Rattle.dl_grid.proofs.PairLaws.{count_below, below_same, below_le, below_plus, below_constant}
+use Rattle.dl_exact.specs.Count.{count_below}
+use Rattle.dl_exact.proofs.Counts.{below_same, below_le, below_plus, below_constant}
 use Rattle.dl_plan.specs.declared.item.Item.{Item}
 use Rattle.dl_plan.specs.Weighted.{weight_at}
 

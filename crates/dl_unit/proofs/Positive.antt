@@ -7,7 +7,7 @@ use Rattle.dl_exact.specs.Fraction.{Fraction, ◌over◌, whole, ◌+ℚ◌, ◌
 use Rattle.dl_exact.specs.Sum.{sum_over}
 use Rattle.dl_exact.proofs.Laws.{zero_plus}
 use Rattle.dl_exact.proofs.Over.{over_self}
-use Rattle.dl_iv.proofs.FractionLaws.{over_zero}
+use Rattle.dl_exact.proofs.Denominators.{over_zero}
 use Rattle.dl_plan.specs.declared.severity.Sev.{Sev}
 use Rattle.dl_plan.specs.Severity.{Pairs, probability, conditioned, probability_of, pairs_of, Means}
 

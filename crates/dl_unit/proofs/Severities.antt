@@ -3,12 +3,12 @@ use Rattle.std.proofs.Common.{◌≡◌, ◌<◌, subst}
 use mathlib.Core.Path.{fun_ext}
 use Rattle.dl_model.specs.Listed.{probability}
 use Rattle.dl_model.specs.Severity.{IsWithinOne}
-use Rattle.dl_panjer.proofs.Severities.{total_pos}
 use Rattle.dl_plan.specs.declared.severity.Sev.{Sev}
 use Rattle.dl_plan.specs.Severity.{probability_of}
 use Rattle.dl_model.specs.Listed.{weighted}
 use Rattle.dl_model.proofs.ItemWeights.{probability_is}
 use Rattle.dl_power.proofs.WeightLists.{probabilities_within}
+use Rattle.dl_plan.proofs.Means.{total_pos}
 
 pub positive_total : (sev : Sev) → 0 < sev.total
 positive_total sev = total_pos sev.items sev.total sev.weighted

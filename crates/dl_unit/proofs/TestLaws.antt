@@ -10,7 +10,7 @@ use Rattle.dl_plan.specs.declared.item.Item.{Item}
 use Rattle.dl_plan.specs.Count.{IsProbability}
 use Rattle.dl_plan.specs.Fine.{IsAdmitted}
 use Rattle.dl_plan.specs.Weighted.{IsWeighted}
-use Rattle.dl_plan.proofs.Fits.{num_of_over-le, den_of_over-le}
+use Rattle.dl_exact.proofs.Parts.{over_num_le as num_of_over-le, over_den_le as den_of_over-le}
 
 abbrev pub item : ℕ → ℕ → Item
 item a w = record { amount = a; weight = w }

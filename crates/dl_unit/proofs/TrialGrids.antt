@@ -10,9 +10,9 @@ use Rattle.dl_exact.proofs.RoundingLaws.{div_ceil_least}
 use Rattle.dl_iv.specs.declared.interval.Iv.{Iv}
 use Rattle.dl_grid.specs.Cells.{low_at, high_at, spread, all_at_zero, IsGrid}
 use Rattle.dl_grid.proofs.CellLaws.{high_at_get, low_at_read, high_at_read}
-use Rattle.dl_grid.proofs.PairLaws.{below_nothing, below_more, below_same, below_le, below_plus}
+use Rattle.dl_exact.proofs.Counts.{below_nothing, below_more, below_same, below_le, below_plus}
 use Rattle.dl_grid.proofs.PlaceSums.{width_at, low_within, width_within, whole_mass, whole_spread}
-use Rattle.dl_conv.proofs.Ends.{low_le_high}
+use Rattle.dl_grid.proofs.EndLists.{low_le_high}
 use Rattle.dl_model.specs.Series.{Holds}
 use Rattle.dl_model.specs.Compound.{cell}
 use Rattle.dl_model.specs.Severity.{IsWithinOne}
@@ -20,7 +20,7 @@ use Rattle.dl_model.specs.Counts.{fixed, binomial}
 use Rattle.dl_model.specs.Family.{compound, GridEncloses}
 use Rattle.dl_plan.specs.declared.item.Item.{Item}
 use Rattle.dl_plan.specs.Weighted.{weight_at}
-use Rattle.dl_power.proofs.CellSets.{low_added, high_added, high_kept, high_joined}
+use Rattle.dl_grid.proofs.CellSets.{low_added, high_added, high_kept, high_joined}
 use Rattle.dl_unit.specs.Trials.{low_trial, high_trial}
 use Rattle.dl_unit.proofs.Places.{places}
 use Rattle.dl_unit.proofs.Trials.{trial_mass, trial_width, part_within, zero_below, trial_encloses}

@@ -16,6 +16,7 @@ use dl_budget::claims_budget;
 use dl_direct::{gamma_direct, poisson_direct};
 use dl_grid::Grid;
 use dl_plan::{Sev, Unit};
+use dl_product::Workspace;
 use std::alloc::{AllocError, Global};
 
 /// Whether a grid's spread is at most the unit's budget on its cells. Budgets are computed at the scale
@@ -34,6 +35,7 @@ fn is_narrow<const B: u32>(unit: &Unit, grid: &Grid<B>) -> bool
 /// The grid of a unit with a Poisson count, from its severity above 0.
 pub(crate) fn poisson_grid<const B: u32>(
     alloc: Global,
+    work: &mut Workspace,
     unit: &Unit,
     positive: &Sev,
     cells: u32,
@@ -56,12 +58,13 @@ pub(crate) fn poisson_grid<const B: u32>(
             return Ok(grid);
         }
     }
-    poisson_claims(alloc, positive, mean, cells)
+    poisson_claims(alloc, work, positive, mean, cells)
 }
 
 /// The grid of a unit with a gamma count of this shape, from its severity above 0.
 pub(crate) fn gamma_grid<const B: u32>(
     alloc: Global,
+    work: &mut Workspace,
     unit: &Unit,
     positive: &Sev,
     shape: u32,
@@ -85,5 +88,5 @@ pub(crate) fn gamma_grid<const B: u32>(
             return Ok(grid);
         }
     }
-    gamma_claims(alloc, positive, mean, shape, cells)
+    gamma_claims(alloc, work, positive, mean, shape, cells)
 }

@@ -1,28 +1,29 @@
 //! The grids of units whose counts have a greatest number of claims.
 
 ghost use Rattle.std.specs.Prelude.{◌≡◌, ℕ, ◌+◌, ◌*◌, ◌^◌, ◌≤◌, length, All, IfOk};
-ghost use Rattle.std.specs.Fn.{iterate};
 ghost use Rattle.dl_exact.specs.Fraction.{◌over◌};
 ghost use Rattle.dl_grid.specs.Cells.{spread};
-ghost use Rattle.dl_grid.specs.Width.{cv, pw};
+ghost use Rattle.dl_grid.specs.Width.{pw, mixed_spread};
 ghost use Rattle.dl_model.specs.Counts.{fixed, binomial};
 ghost use Rattle.dl_model.specs.Family.{compound, GridEncloses};
 ghost use Rattle.dl_plan.specs.Count.{IsProbability};
 ghost use Rattle.dl_plan.specs.Severity.{probability_of};
 ghost use Rattle.dl_plan.specs.Weighted.{weight_at, IsWeighted};
-ghost use Rattle.dl_budget.specs.Claims.{greatest};
+ghost use Rattle.dl_plan.specs.Weighted.{greatest};
 
 use crate::claim::one_claim;
 use crate::trial::one_trial;
 use dl_frac::Frac;
 use dl_grid::Grid;
 use dl_plan::{Item, Sev};
-use dl_power::{mix_counts, power};
+use dl_power::{mix_counts_with, power_with};
+use dl_product::Workspace;
 use std::alloc::{AllocError, Global};
 
 /// Exactly so many claims.
 pub(crate) fn fixed_claims<const B: u32>(
     alloc: Global,
+    work: &mut Workspace,
     sev: &Sev,
     claims: u32,
     cells: u32,
@@ -37,12 +38,13 @@ pub(crate) fn fixed_claims<const B: u32>(
     ensures spread { IfOk result (λ g. spread g ≤ pw (2 ^ B) cells (length sev.now.items) claims) }
 {
     let claim = one_claim(alloc, sev, cells)?;
-    power(alloc, &claim, claims, cells)
+    power_with(alloc, work, &claim, claims, cells)
 }
 
 /// Listed numbers of claims: `counts` has each with its weight out of `total`.
 pub(crate) fn listed_claims<const B: u32>(
     alloc: Global,
+    work: &mut Workspace,
     sev: &Sev,
     counts: &[Item],
     total: u32,
@@ -57,15 +59,16 @@ pub(crate) fn listed_claims<const B: u32>(
     ensures encloses { IfOk result (λ g.
         GridEncloses g (compound (λ n. weight_at counts.now n over total) (probability_of sev.now))) }
     ensures spread { IfOk result (λ g.
-        spread g ≤ iterate (λ x. cv (2 ^ B) cells (length sev.now.items) x + 2) (greatest counts.now) 1) }
+        spread g ≤ mixed_spread (2 ^ B) cells (length sev.now.items) (greatest counts.now)) }
 {
     let claim = one_claim(alloc, sev, cells)?;
-    mix_counts(alloc, &claim, counts, total, cells)
+    mix_counts_with(alloc, work, &claim, counts, total, cells)
 }
 
 /// So many trials, each a claim with probability `q`.
 pub(crate) fn binomial_claims<const B: u32>(
     alloc: Global,
+    work: &mut Workspace,
     sev: &Sev,
     trials: u32,
     q: Frac,
@@ -83,5 +86,5 @@ pub(crate) fn binomial_claims<const B: u32>(
         spread g ≤ pw (2 ^ B) cells (3 * (length sev.now.items + 1)) trials) }
 {
     let trial = one_trial(alloc, sev, q, cells)?;
-    power(alloc, &trial, trials, cells)
+    power_with(alloc, work, &trial, trials, cells)
 }

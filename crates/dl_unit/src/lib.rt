@@ -14,4 +14,4 @@ mod unbounded;
 mod unit;
 
 pub use law::law_trials;
-pub use unit::unit_grid;
+pub use unit::{unit_grid, unit_grid_with};

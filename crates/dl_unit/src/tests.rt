@@ -15,6 +15,7 @@ use dl_frac::Frac;
 use dl_grid::{Grid, units_of_one};
 use dl_lexer::Text;
 use dl_plan::{Freq, Item, Many, Sev, Unit};
+use dl_product::Workspace;
 use std::alloc::{AllocError, Global};
 
 /// `num` over `den`.
@@ -138,8 +139,15 @@ fn counts_of<const B: u32>(alloc: Global) -> Result<(Grid<B>, Grid<B>), AllocErr
     requires below { B ≤ 56 }
 {
     let claim = one_bucket(alloc)?;
-    let poisson = poisson_claims(alloc, &claim, fraction(3, 2), 4)?;
-    let gamma = gamma_claims(alloc, &claim, fraction(1, 1), 2, 4)?;
+    let poisson = poisson_claims(alloc, &mut Workspace::new(alloc), &claim, fraction(3, 2), 4)?;
+    let gamma = gamma_claims(
+        alloc,
+        &mut Workspace::new(alloc),
+        &claim,
+        fraction(1, 1),
+        2,
+        4,
+    )?;
     Ok((poisson, gamma))
 }
 
@@ -192,8 +200,8 @@ fn both_meet<const B: u32>(alloc: Global, sev: &Sev, of: CountOf) -> Result<bool
         return Ok(false);
     }
     let mean = fraction(of.num, of.den);
-    let halved = poisson_claims(alloc, sev, mean, 16)?;
-    let shared = gamma_claims(alloc, sev, mean, of.shape, 16)?;
+    let halved = poisson_claims(alloc, &mut Workspace::new(alloc), sev, mean, 16)?;
+    let shared = gamma_claims(alloc, &mut Workspace::new(alloc), sev, mean, of.shape, 16)?;
     let poisson = poisson_direct::<B>(alloc, sev, mean, 16)?;
     let gamma = gamma_direct::<B>(alloc, sev, of.shape, mean, 16)?;
     Ok(

@@ -17,20 +17,34 @@ use dl_plan::Sev;
 use std::alloc::{AllocError, Global};
 
 /// The cells, each times `q`.
-fn scaled<const B: u32>(alloc: Global, cells: &[Iv<B>], q: Frac) -> Result<Vec<Iv<B>>, AllocError>
-    requires grid { IsGrid cells.now }
+fn scaled<const B: u32>(alloc: Global, claim: &Grid<B>, q: Frac) -> Result<Vec<Iv<B>>, AllocError>
     requires probability { IsProbability q }
-    ensures cells { IfOk result (λ list. length list.items ≡ length cells.now) }
-    ensures low { IfOk result (λ list. (y : ℕ) → y < length cells.now
-        → low_at list.items y ≡ low_at cells.now y * q.num / q.den) }
-    ensures high { IfOk result (λ list. (y : ℕ) → y < length cells.now
-        → high_at list.items y ≡ div_ceil (high_at cells.now y * q.num) q.den) }
+    ensures cells { IfOk result (λ list. length list.items ≡ length claim.now) }
+    ensures low { IfOk result (λ list. (y : ℕ) → y < length claim.now
+        → low_at list.items y ≡ low_at claim.now y * q.num / q.den) }
+    ensures high { IfOk result (λ list. (y : ℕ) → y < length claim.now
+        → high_at list.items y ≡ div_ceil (high_at claim.now y * q.num) q.den) }
 {
-    let mut list = Vec::with_capacity(alloc, cells.len())?;
-    for cell in cells {
-        list.push(cell.scale(q.num(), q.den()))?;
+    let cells = claim.cells();
+    let mut list = Vec::with_capacity(alloc, cells as usize)?;
+    for x in 0..cells {
+        list.push(claim.at(x).scale(q.num(), q.den()))?;
     }
     Ok(list)
+}
+
+/// The grid of these cells.
+fn grid_of<const B: u32>(alloc: Global, cells: &[Iv<B>]) -> Result<Grid<B>, AllocError>
+    requires { IsGrid cells.now }
+    ensures { IfOk result (λ g. g ≡ cells.now) }
+{
+    let mut lows = Vec::with_capacity(alloc, cells.len())?;
+    let mut highs = Vec::with_capacity(alloc, cells.len())?;
+    for cell in cells {
+        lows.push(cell.lo)?;
+        highs.push(cell.hi)?;
+    }
+    Ok(Grid::from_ends(lows, highs))
 }
 
 /// What the claims of amount 0 give to cell 0, and the trials without a claim besides; at most 1.
@@ -53,10 +67,10 @@ fn trial_of<const B: u32>(alloc: Global, claim: &Grid<B>, q: Frac) -> Result<Gri
     ensures high { IfOk result (λ g. (y : ℕ) → y < length claim.now
         → high_at g y ≡ high_trial (2 ^ B) q (high_at claim.now) y) }
 {
-    let cells = claim.as_slice();
-    let mut list = scaled(alloc, cells, q)?;
+    claim.cells();
+    let mut list = scaled(alloc, claim, q)?;
     list[0] = first_cell(list[0], q);
-    Ok(Grid::from_cells(list))
+    grid_of(alloc, list.as_slice())
 }
 
 /// The first `cells` cells of one trial, a claim with probability `q`.
@@ -77,5 +91,6 @@ pub(crate) fn one_trial<const B: u32>(
     ensures spread { IfOk result (λ g. spread g ≤ 3 * (length sev.now.items + 1)) }
 {
     let claim = one_claim(alloc, sev, cells)?;
+    claim.cells();
     trial_of(alloc, &claim, q)
 }

@@ -19,7 +19,8 @@ use dl_frac::Frac;
 use dl_grid::Grid;
 use dl_panjer::{geometric_base, poisson_base};
 use dl_plan::{Sev, Unit};
-use dl_power::power;
+use dl_power::power_with;
+use dl_product::Workspace;
 use std::alloc::{AllocError, Global};
 
 /// The severity of the claims above 0, where any are expected.
@@ -42,6 +43,7 @@ pub(crate) fn positive_claims(alloc: Global, unit: &Unit) -> Result<Option<Sev>,
 /// such a share of it is doubled as often.
 pub(crate) fn poisson_claims<const B: u32>(
     alloc: Global,
+    work: &mut Workspace,
     sev: &Sev,
     mean: Frac,
     cells: u32,
@@ -61,13 +63,14 @@ pub(crate) fn poisson_claims<const B: u32>(
 {
     let halvings = halvings(mean);
     let base = poisson_base(alloc, sev, mean, halvings, cells)?;
-    power(alloc, &base, 1 << halvings, cells)
+    power_with(alloc, work, &base, 1 << halvings, cells)
 }
 
 /// A gamma number of claims above 0: as many sums as its shape says, each of a geometric number of
 /// claims.
 pub(crate) fn gamma_claims<const B: u32>(
     alloc: Global,
+    work: &mut Workspace,
     sev: &Sev,
     mean: Frac,
     shape: u32,
@@ -88,5 +91,5 @@ pub(crate) fn gamma_claims<const B: u32>(
     ensures spread { IfOk result (λ g. spread g ≤ gamma_budget (2 ^ B) cells shape mean) }
 {
     let base = geometric_base(alloc, sev, mean, shape, cells)?;
-    power(alloc, &base, shape, cells)
+    power_with(alloc, work, &base, shape, cells)
 }

@@ -15,6 +15,7 @@ use crate::trial::one_trial;
 use crate::unbounded::positive_claims;
 use dl_grid::Grid;
 use dl_plan::{Freq, Unit};
+use dl_product::Workspace;
 use std::alloc::{AllocError, Global};
 
 /// The first `cells` cells of the sum of a unit's claims, before its aggregate clause. The unit is
@@ -33,20 +34,44 @@ pub fn unit_grid<const B: u32>(
     ensures encloses { IfOk result (λ g. GridEncloses g (compound_of unit.now.freq unit.now.sev)) }
     ensures spread { IfOk result (λ g. spread g ≤ claims_budget (2 ^ B) cells unit.now) }
 {
+    unit_grid_with(alloc, &mut Workspace::new(alloc), unit, cells)
+}
+
+/// The same grid, by products in a workspace that is lent.
+pub fn unit_grid_with<const B: u32>(
+    alloc: Global,
+    work: &mut Workspace,
+    unit: &Unit,
+    cells: u32,
+) -> Result<Grid<B>, AllocError>
+    requires scale_above { 1 ≤ B }
+    requires scale_below { B ≤ 56 }
+    requires valid { (h : ℕ) × IsValidUnit h unit.now }
+    requires some { 1 ≤ cells }
+    requires few { cells ≤ 16384 }
+    ensures cells { IfOk result (λ g. length g ≡ cells) }
+    ensures encloses { IfOk result (λ g. GridEncloses g (compound_of unit.now.freq unit.now.sev)) }
+    ensures spread { IfOk result (λ g. spread g ≤ claims_budget (2 ^ B) cells unit.now) }
+{
     match &unit.freq {
-        Freq::Fixed(claims) => fixed_claims(alloc, &unit.sev, *claims, cells),
+        Freq::Fixed(claims) => fixed_claims(alloc, work, &unit.sev, *claims, cells),
         Freq::Table { counts, total } => {
-            listed_claims(alloc, &unit.sev, counts.as_slice(), *total, cells)
+            listed_claims(alloc, work, &unit.sev, counts.as_slice(), *total, cells)
         }
         Freq::Bernoulli(q) => one_trial(alloc, &unit.sev, *q, cells),
-        Freq::Binomial { trials, q } => binomial_claims(alloc, &unit.sev, *trials, *q, cells),
-        Freq::Poisson(_) => poisson_unit(alloc, unit, cells),
-        Freq::Gamma { shape, .. } => gamma_unit(alloc, unit, *shape, cells),
+        Freq::Binomial { trials, q } => binomial_claims(alloc, work, &unit.sev, *trials, *q, cells),
+        Freq::Poisson(_) => poisson_unit(alloc, work, unit, cells),
+        Freq::Gamma { shape, .. } => gamma_unit(alloc, work, unit, *shape, cells),
     }
 }
 
 /// The grid of a unit with a Poisson count.
-fn poisson_unit<const B: u32>(alloc: Global, unit: &Unit, cells: u32) -> Result<Grid<B>, AllocError>
+fn poisson_unit<const B: u32>(
+    alloc: Global,
+    work: &mut Workspace,
+    unit: &Unit,
+    cells: u32,
+) -> Result<Grid<B>, AllocError>
     requires scale_above { 1 ≤ B }
     requires scale_below { B ≤ 56 }
     requires valid { (h : ℕ) × IsValidUnit h unit.now }
@@ -58,7 +83,7 @@ fn poisson_unit<const B: u32>(alloc: Global, unit: &Unit, cells: u32) -> Result<
     ensures spread { IfOk result (λ g. spread g ≤ claims_budget (2 ^ B) cells unit.now) }
 {
     match positive_claims(alloc, unit)? {
-        Some(positive) => poisson_grid(alloc, unit, &positive, cells),
+        Some(positive) => poisson_grid(alloc, work, unit, &positive, cells),
         None => Grid::zero(alloc, cells),
     }
 }
@@ -66,6 +91,7 @@ fn poisson_unit<const B: u32>(alloc: Global, unit: &Unit, cells: u32) -> Result<
 /// The grid of a unit with a gamma count of this shape.
 fn gamma_unit<const B: u32>(
     alloc: Global,
+    work: &mut Workspace,
     unit: &Unit,
     shape: u32,
     cells: u32,
@@ -81,7 +107,7 @@ fn gamma_unit<const B: u32>(
     ensures spread { IfOk result (λ g. spread g ≤ claims_budget (2 ^ B) cells unit.now) }
 {
     match positive_claims(alloc, unit)? {
-        Some(positive) => gamma_grid(alloc, unit, &positive, shape, cells),
+        Some(positive) => gamma_grid(alloc, work, unit, &positive, shape, cells),
         None => Grid::zero(alloc, cells),
     }
 }

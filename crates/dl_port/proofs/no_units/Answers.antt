@@ -5,8 +5,8 @@ use Rattle.dl_port.proofs.no_units.Goals as goal
 
 pub zero-requires : goal.zero-requires
 zero-requires g c =
-    let scale = scale_of c.args.like.now c.as_slice-cells.ensures.grid.some in
-    (omega arith, (scale.0, (scale.1, (c.requires.some, omega (arith, c.as_slice-cells.ensures.grid.few, c.requires.within)))))
+    let scale = scale_of c.args.like.now c.cells.ensures.grid.some in
+    (omega arith, (scale.0, (scale.1, (c.requires.some, omega (arith, c.cells.ensures.grid.few, c.requires.within)))))
 
 pub returns-clause-encloses : goal.returns-clause-encloses
 returns-clause-encloses g c = if_ok_two c.zero.result _ _ _ (λ grid low high. no_units grid low high) c.zero.ensures.low c.zero.ensures.high

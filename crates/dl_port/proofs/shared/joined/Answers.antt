@@ -11,11 +11,11 @@ pub returns-in-Some-Some-clause-encloses : goal.returns-in-Some-Some-clause-encl
 returns-in-Some-Some-clause-encloses g c =
     let first = ap option_copied c.in-Some-Some.is-0 in
     let second = ap option_copied c.in-Some-Some.is-1 in
-    if_ok_three c.convolve.result _ _ _ _ (λ sum cells low high us vs w z of_us of_vs.
+    if_ok_three c.product.result _ _ _ _ (λ sum cells low high us vs w z of_us of_vs.
     two_sums c.in-Some-Some.first.now c.in-Some-Some.second.now sum c.args.cells us vs w z (subst (λ t. IfSome t (λ g. c.args.cells ≤ length g)) first c.requires.in_before)
     (subst (λ t. IfSome t (λ g. c.args.cells ≤ length g)) second c.requires.in_after) cells low high
     (subst (λ t. EnclosesSum t us) first of_us) (subst (λ t. EnclosesSum t vs) second of_vs))
-    c.convolve.ensures.cells c.convolve.ensures.low c.convolve.ensures.high
+    c.product.ensures.cells c.product.ensures.low c.product.ensures.high
 
 pub returns-in-Some-None-clause-encloses : goal.returns-in-Some-None-clause-encloses
 returns-in-Some-None-clause-encloses g c =

@@ -1,7 +1,7 @@
 use Rattle.std.proofs.Common.{◌≡◌, ℕ, ◌-◌, ◌^◌, suc, ◌<◌, ◌≤◌, length, get_or, take, map}
 use Rattle.std.specs.Prelude.{◌↔◌, IsTrue, IsSome, IfSome, Any, None, Some, false}
 use Rattle.dl_grid.specs.Cells.{spread}
-use Rattle.dl_port.specs.Sums.{sum_spread}
+use Rattle.dl_grid.specs.Width.{sum_spread}
 use Rattle.dl_port.specs.Shared.{IsSumOfPart, IsSumWithout, AreSumsOfEnds}
 use Rattle.dl_port.proofs.shared.total_and_others.Given as goal
 

@@ -5,7 +5,7 @@ use Rattle.dl_port.proofs.PartSums.{one_wider}
 use Rattle.dl_port.proofs.widths.spread_with.Goals as goal
 
 pub joined_spread-requires : goal.joined_spread-requires
-joined_spread-requires g c = (scale_of c.unit-item.result c.as_slice-cells.ensures.grid.some).1
+joined_spread-requires g c = (scale_of c.unit-item.result c.cells.ensures.grid.some).1
 
 pub loop-unit-preserved : goal.loop-unit-preserved
 loop-unit-preserved g c =

@@ -1,14 +1,14 @@
 use Rattle.std.proofs.Common.{◌+◌, ◌^◌, ◌≤◌, arith, ap, ◌∙◌}
 use Rattle.std.specs.Prelude.{min}
 use Rattle.dl_grid.specs.Cells.{high_at, mass_low, all_at_zero}
-use Rattle.dl_power.proofs.CellSets.{high_joined}
+use Rattle.dl_grid.proofs.CellSets.{high_joined}
 use Rattle.dl_power.proofs.HornerSteps.{convolved_mass}
 use Rattle.dl_power.proofs.counts.one_claim_more.Goals as goal
 
 pub add_at_zero-requires : goal.add_at_zero-requires
 add_at_zero-requires g c =
     let mass : mass_low c.in_ok-grid.grid ≤ mass_low c.args.later.now =
-    convolved_mass c.args.base.now c.args.later.now c.in_ok-grid.grid c.args.cells c.well_made.ensures.mass c.in_ok-grid.ensures.cells c.in_ok-grid.ensures.low in
+    convolved_mass c.args.base.now c.args.later.now c.in_ok-grid.grid c.args.cells c.cells.ensures.grid.mass c.in_ok-grid.ensures.cells c.in_ok-grid.ensures.low in
     (omega arith, (omega arith, (omega (arith, c.in_ok-grid.ensures.cells), (c.requires.small, omega (arith, mass)))))
 
 pub returns-clause-high : goal.returns-clause-high
@@ -20,5 +20,5 @@ returns-clause-high g c s inside =
 pub returns-clause-mass : goal.returns-clause-mass
 returns-clause-mass g c =
     let mass : mass_low c.in_ok-grid.grid ≤ mass_low c.args.later.now =
-    convolved_mass c.args.base.now c.args.later.now c.in_ok-grid.grid c.args.cells c.well_made.ensures.mass c.in_ok-grid.ensures.cells c.in_ok-grid.ensures.low in
+    convolved_mass c.args.base.now c.args.later.now c.in_ok-grid.grid c.args.cells c.cells.ensures.grid.mass c.in_ok-grid.ensures.cells c.in_ok-grid.ensures.low in
     omega (arith, mass, c.add_at_zero.ensures.mass)

@@ -1,7 +1,8 @@
 use Rattle.std.proofs.Common.{◌≡◌, ◌≤◌, arith, sym, subst}
 use Rattle.dl_exact.specs.Fraction.{◌over◌}
 use Rattle.dl_frac.specs.Exact.{Gives, FitsFrac}
-use Rattle.dl_plan.proofs.Fits.{num_of_over-le, den_of_over-le, over_fits, given_ok}
+use Rattle.dl_exact.proofs.Parts.{over_num_le as num_of_over-le, over_den_le as den_of_over-le}
+use Rattle.dl_plan.proofs.Fits.{over_fits, given_ok}
 use Rattle.dl_unit.proofs.tests.fraction.Goals as goal
 
 pub unwrap-requires : goal.unwrap-requires

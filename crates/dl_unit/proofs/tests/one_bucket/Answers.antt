@@ -1,6 +1,6 @@
 use Rattle.std.proofs.Common.{refl}
-use Rattle.dl_panjer.proofs.TestLaws.{one_item}
 use Rattle.dl_unit.proofs.TestLaws.{item}
+use Rattle.dl_plan.proofs.Weights.{one_item}
 use Rattle.dl_unit.proofs.tests.one_bucket.Goals as goal
 
 pub invariant_of-result : goal.invariant_of-result

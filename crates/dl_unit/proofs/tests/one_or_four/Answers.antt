@@ -1,5 +1,5 @@
 use Rattle.std.proofs.Math.Nat.{zero-lt-suc}
-use Rattle.dl_iv.proofs.FractionLaws.{over_zero}
+use Rattle.dl_exact.proofs.Denominators.{over_zero}
 use Rattle.dl_unit.proofs.TestLaws.{four_weighted}
 use Rattle.dl_unit.proofs.tests.one_or_four.Goals as goal
 

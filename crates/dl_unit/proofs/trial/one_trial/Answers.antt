@@ -15,6 +15,6 @@ returns-clause-encloses g c =
 pub returns-clause-spread : goal.returns-clause-spread
 returns-clause-spread g c =
     if_ok_three c.trial_of.result _ _ _ _ (λ grid cells low high.
-    trial_spread c.in_ok-claim.claim grid c.args.q (num_le_den c.args.q c.requires.probability.within) (rw (← c.claim.view_is) c.claim.invariant) cells low high
+    trial_spread c.in_ok-claim.claim grid c.args.q (num_le_den c.args.q c.requires.probability.within) c.cells.ensures.grid cells low high
     c.args.sev.now.items c.args.sev.now.total (positive_total c.args.sev.now) (λ y inside. c.in_ok-claim.ensures.high y (omega (arith, c.in_ok-claim.ensures.cells)))
     c.in_ok-claim.ensures.spread) c.trial_of.ensures.cells c.trial_of.ensures.low c.trial_of.ensures.high

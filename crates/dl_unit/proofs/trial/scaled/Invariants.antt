@@ -3,9 +3,9 @@ use Rattle.std.specs.Int.{div_ceil}
 use Rattle.dl_grid.specs.Cells.{low_at, high_at}
 use Rattle.dl_unit.proofs.trial.scaled.Given as goal
 
-abbrev pub invariant-loop-cell : goal.invariant-loop-cell
-invariant-loop-cell g l = record {
-  cells : length l.list.items ≡ l.cell-index;
-  low : (y : ℕ) → y < l.cell-index → low_at l.list.items y ≡ low_at l.cells y * l.q.num / l.q.den;
-  high : (y : ℕ) → y < l.cell-index → high_at l.list.items y ≡ div_ceil (high_at l.cells y * l.q.num) l.q.den;
+abbrev pub invariant-loop-x : goal.invariant-loop-x
+invariant-loop-x g l = record {
+  cells : length l.list.items ≡ l.x;
+  low : (y : ℕ) → y < l.x → low_at l.list.items y ≡ low_at l.claim y * l.q.num / l.q.den;
+  high : (y : ℕ) → y < l.x → high_at l.list.items y ≡ div_ceil (high_at l.claim y * l.q.num) l.q.den;
 }

@@ -22,13 +22,13 @@ pub returns-clause-encloses : goal.returns-clause-encloses
 returns-clause-encloses g c =
     let f = probability_of c.args.sev.now in
     let h = c.halvings-halvings.result in
-    IfOk-weaker c.power.result _ _ (λ grid copies.
+    IfOk-weaker c.power_with.result _ _ (λ grid copies.
     subst (λ k. GridEncloses grid (times_itself (compound (poisson (c.args.mean /ℚ whole (2 ^ k))) f) (2 ^ k))) c.halvings-halvings.ensures.value
     (subst (λ n. GridEncloses grid (times_itself (compound (poisson (c.args.mean /ℚ whole (2 ^ h))) f) n)) (shifted h c.halvings-halvings.ensures.small)
-    (copies _ (compound_proper (poisson (c.args.mean /ℚ whole (2 ^ h))) f (within_one c.args.sev.now)) c.in_ok-base.ensures.encloses))) c.power.ensures.encloses
+    (copies _ (compound_proper (poisson (c.args.mean /ℚ whole (2 ^ h))) f (within_one c.args.sev.now)) c.in_ok-base.ensures.encloses))) c.power_with.ensures.encloses
 
 pub returns-clause-spread : goal.returns-clause-spread
 returns-clause-spread g c =
-    IfOk-weaker c.power.result _ _ (λ grid narrow.
+    IfOk-weaker c.power_with.result _ _ (λ grid narrow.
     poisson_within (2 ^ g.row.B) c.args.cells (spread c.in_ok-base.base) _ _ c.halvings-halvings.result c.args.mean (pow_pos g.row.B)
-    (shifted c.halvings-halvings.result c.halvings-halvings.ensures.small) c.halvings-halvings.ensures.value c.in_ok-base.ensures.spread narrow) c.power.ensures.spread
+    (shifted c.halvings-halvings.result c.halvings-halvings.ensures.small) c.halvings-halvings.ensures.value c.in_ok-base.ensures.spread narrow) c.power_with.ensures.spread

@@ -2,7 +2,7 @@ use Rattle.std.proofs.Common.{arith, sym, ◌∙◌}
 use Rattle.dl_model.specs.Family.{nothing}
 use Rattle.dl_model.specs.Plans.{compound_of}
 use Rattle.dl_model.proofs.PlanThin.{none_thinned}
-use Rattle.dl_power.proofs.CellSets.{spread_none}
+use Rattle.dl_grid.proofs.CellSets.{spread_none}
 use Rattle.dl_power.proofs.Results.{if_ok_three}
 use Rattle.dl_unit.proofs.Families.{grid_same, no_loss}
 use Rattle.dl_unit.proofs.CountKinds.{poisson_unbounded}

@@ -1,0 +1,47 @@
+-- A list of one number of claims.
+use Rattle.std.proofs.Common.{ℕ, ◌≡◌, ◌+◌, ◌^◌, ◌<◌, List, [], ◌∷◌, length, get_or, arith, refl, sym, ap, subst, inl, inr, ◌∙◌, nat_eq, ne_eqb}
+use mathlib.Core.Path.{fun_ext}
+use Rattle.std.specs.Prelude.{true, false, ◌==◌, if◌then◌else◌}
+use Rattle.std.proofs.lemmas.Bool.Decides.{eqb_tells}
+use Rattle.dl_exact.specs.Fraction.{Fraction, whole, ◌over◌}
+use Rattle.dl_exact.proofs.Over.{over_same}
+use Rattle.dl_exact.proofs.Laws.{one_pos}
+use Rattle.dl_iv.specs.declared.interval.Iv.{Iv}
+use Rattle.dl_grid.specs.Cells.{low_at, high_at}
+use Rattle.dl_model.specs.Program.{where_true}
+use Rattle.dl_model.specs.Listed.{weighted, probability}
+use Rattle.dl_model.specs.Counts.{fixed}
+use Rattle.dl_model.specs.Severity.{IsWithinOne}
+use Rattle.dl_model.specs.Family.{Family, IsProper, compound, times_itself, GridEncloses}
+use Rattle.dl_model.proofs.Beginnings.{fixed_claims}
+use Rattle.dl_model.proofs.FamilyLaws.{compound_proper}
+use Rattle.dl_model.proofs.Alike.{same_cells_enclosed}
+use Rattle.dl_plan.specs.declared.item.Item.{Item}
+use Rattle.dl_plan.specs.Weighted.{weight_sum}
+
+-- surely that number
+alike : (a n : ℕ) → a ≡ n → nat_eq n a ≡ true
+alike a n e = elim (eqb_tells n a) [
+  | inl p ↦ p.0
+  | inr p ↦ absurd (p.1 (sym e))
+]
+
+surely : (item : Item) (n : ℕ) → 0 < weight_sum (item ∷ []) → probability (weighted (item ∷ [])) n ≡ fixed item.amount n
+surely item n pos = elim (eqb_tells item.amount n) [
+  | inl p ↦ rw (p.0, alike item.amount n p.1) (over_same _ _ 1 1 (omega arith) one_pos (omega arith))
+  | inr p ↦
+      let other : nat_eq n item.amount ≡ false = ne_eqb n item.amount (λ e. p.1 (sym e)) in
+      rw (p.0, other) (over_same _ _ 0 1 (omega arith) one_pos (omega arith))
+]
+
+pub single_count : {B : ℕ} (base : List (Iv B)) (items : List Item) (d : Item) (total : ℕ) (g : List (Iv B)) → length items ≡ 1
+    → weight_sum items ≡ total → 0 < total
+    → ((F : Family) → IsProper F → GridEncloses base F → GridEncloses g (times_itself F (get_or items 0 d).amount))
+    → (f : ℕ → Fraction) → IsWithinOne f → GridEncloses base (compound (fixed 1) f) → GridEncloses g (compound (probability (weighted items)) f)
+single_count base [] d total g one sum pos powers f q of_base = absurd (omega arith)
+single_count base (i ∷ j ∷ items) d total g one sum pos powers f q of_base = absurd (omega arith)
+single_count {B} base (i ∷ []) d total g one sum pos powers f q of_base =
+    let there : 0 < weight_sum (i ∷ []) = omega arith in
+    subst (λ w. GridEncloses g (compound w f)) (sym (fun_ext (λ n. surely i n there)))
+    (same_cells_enclosed (2 ^ B) (length g) (low_at g) (high_at g) _ _ (fixed_claims f i.amount)
+    (powers (compound (fixed 1) f) (compound_proper (fixed 1) f q) of_base))

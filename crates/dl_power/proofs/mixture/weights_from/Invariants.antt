@@ -1,0 +1,9 @@
+use Rattle.std.proofs.Common.{ℕ, ◌≡◌, ◌+◌, ◌<◌, ◌≤◌, length, get_or}
+use Rattle.dl_plan.specs.Weighted.{weight_at}
+use Rattle.dl_power.proofs.mixture.weights_from.Given as goal
+
+abbrev pub invariant-loop-i : goal.invariant-loop-i
+invariant-loop-i l = record {
+  many : length l.weights.items ≡ l.i;
+  each : (k : ℕ) → k < l.i → get_or l.weights.items k 0 ≡ weight_at l.table (l.first + k);
+}

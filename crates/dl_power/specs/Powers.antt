@@ -1,0 +1,33 @@
+-- Between whose ends numbers lie, and grids of the powers of a severity. Ends are in units of 1/S.
+use Rattle.std.specs.Prelude.{ℕ, suc, ◌+◌, ◌^◌, ◌*◌, ◌<◌, List, [], length, get_or, sum_by, zip}
+use Rattle.dl_exact.specs.Fraction.{Fraction, ◌over◌, ◌≤ℚ◌}
+use Rattle.dl_iv.specs.declared.interval.Iv.{Iv}
+use Rattle.dl_grid.specs.Cells.{low_at, high_at}
+use Rattle.dl_model.specs.Compound.{power, cell_from}
+use Rattle.dl_model.specs.Severity.{IsWithinOne}
+
+-- the first K values lie between ends in units of 1/S
+pub record LieBetween (S K : ℕ) (lo hi : ℕ → ℕ) (c : ℕ → Fraction) : Type 0 where
+  pub low : (s : ℕ) → s < K → lo s over S ≤ℚ c s
+  pub high : (s : ℕ) → s < K → c s ≤ℚ hi s over S
+
+-- they lie between the ends of the first K cells of a grid
+abbrev pub Between : {B : ℕ} → ℕ → List (Iv B) → (ℕ → Fraction) → Type 0
+Between {B} K grid c = LieBetween (2 ^ B) K (low_at grid) (high_at grid) c
+
+-- grids of no claim, of one claim, of two claims and so on: the powers of f lie between their ends
+abbrev pub ArePowers : {B : ℕ} → ℕ → (ℕ → Fraction) → List (List (Iv B)) → Type 0
+ArePowers K f grids = (n : ℕ) → n < length grids → Between K (get_or grids n []) (power f n)
+
+-- the sum of the grids' ends at one place, each times its weight
+abbrev pub weighed : {B : ℕ} → List ℕ → List (List (Iv B)) → (List (Iv B) → ℕ) → ℕ
+weighed weights grids end = sum_by (λ pair. pair.0 * end pair.1) (zip weights grids)
+
+-- one step of Horner's rule: between the ends of three grids lie what the counts from k to k + m come to, m + 1 claims, and what the
+-- n + 1 counts after them come to, each without m + 1 of its claims; all of them are probabilities
+pub record IsStep {B : ℕ} (K : ℕ) (w f : ℕ → Fraction) (k m n : ℕ) (block step later : List (Iv B)) : Type 0 where
+  pub counts : IsWithinOne w
+  pub amounts : IsWithinOne f
+  pub of_block : Between K block (λ s. cell_from w f k s m)
+  pub of_step : Between K step (power f (suc m))
+  pub of_later : Between K later (λ s. cell_from w f (k + suc m) s n)

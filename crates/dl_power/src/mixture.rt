@@ -1,0 +1,94 @@
+//! A mixture of grids: the ends of each cell, each times its grid's weight, over the total of the weights.
+
+ghost use Rattle.std.specs.Prelude.{◌≡◌, ℕ, ◌+◌, ◌-◌, ◌*◌, ◌^◌, ◌<◌, ◌≤◌, length, get_or, All, IfOk};
+ghost use Rattle.dl_exact.specs.Fraction.{Fraction};
+ghost use Rattle.dl_grid.specs.Cells.{low_at, high_at};
+ghost use Rattle.dl_model.specs.Compound.{cell_from};
+ghost use Rattle.dl_model.specs.Listed.{weighted, probability};
+ghost use Rattle.dl_model.specs.Severity.{IsWithinOne};
+ghost use Rattle.dl_plan.specs.Weighted.{weight_at, weight_sum};
+ghost use Rattle.dl_power.specs.Powers.{Between, ArePowers, weighed};
+
+use crate::shares::weight_of;
+use dl_grid::{Grid, units_of_one};
+use dl_plan::Item;
+use std::alloc::{AllocError, Global};
+
+/// The weights of so many counts from `first` on.
+fn weights_from(
+    alloc: Global,
+    table: &[Item],
+    first: u64,
+    many: usize,
+) -> Result<Vec<u32>, AllocError>
+    requires fits { weight_sum table.now < 2 ^ 32 }
+    requires few { many < 2 ^ 32 }
+    requires near { first < 2 ^ 33 }
+    ensures many { IfOk result (λ list. length list.items ≡ many) }
+    ensures each { IfOk result (λ list. (i : ℕ) → i < many → get_or list.items i 0 ≡ weight_at table.now (first + i)) }
+{
+    let mut weights = Vec::with_capacity(alloc, many)?;
+    for i in 0..many {
+        weights.push(weight_of(table, first + i as u64))?;
+    }
+    Ok(weights)
+}
+
+/// The sums of the low ends, and of the high ends, of the cells `x`, each times its grid's weight.
+fn sums_at<const B: u32>(weights: &[u32], grids: &[Grid<B>], x: usize) -> (u128, u128)
+    requires scale { B ≤ 56 }
+    requires as_many { length weights.now ≡ length grids.now }
+    requires few { length grids.now < 2 ^ 32 }
+    requires inside { All (λ g. x < length g) grids.now }
+    ensures low { result.0 ≡ weighed weights.now grids.now (λ g. low_at g x) }
+    ensures high { result.1 ≡ weighed weights.now grids.now (λ g. high_at g x) }
+    ensures small { result.1 ≤ 2 ^ 120 }
+{
+    let mut low = 0;
+    let mut high = 0;
+    for i in 0..grids.len() {
+        let grid = &grids[i];
+        let weight = u128::from(weights[i]);
+        low += weight * grid.lows()[x];
+        high += weight * grid.highs()[x];
+    }
+    (low, high)
+}
+
+/// The counts from `first` on, as many as there are powers: of each its power, times its weight over
+/// the total. The cells are rounded once.
+pub(crate) fn block<const B: u32>(
+    alloc: Global,
+    powers: &[Grid<B>],
+    table: &[Item],
+    first: u64,
+    total: u32,
+    cells: u32,
+) -> Result<Grid<B>, AllocError>
+    requires scale_above { 1 ≤ B }
+    requires scale_below { B ≤ 56 }
+    requires sum { weight_sum table.now ≡ total }
+    requires positive { 0 < total }
+    requires some { 1 ≤ cells }
+    requires few { cells ≤ 16384 }
+    requires one { 1 ≤ length powers.now }
+    requires most { length powers.now < 2 ^ 32 }
+    requires near { first < 2 ^ 33 }
+    requires same { All (λ g. length g ≡ cells) powers.now }
+    requires powers { (f : ℕ → Fraction) × IsWithinOne f × ArePowers cells f powers.now }
+    ensures cells { IfOk result (λ g. length g ≡ cells) }
+    ensures between { IfOk result (λ g. (f : ℕ → Fraction) → IsWithinOne f → ArePowers cells f powers.now
+        → Between cells g (λ s. cell_from (probability (weighted table.now)) f first s (length powers.now - 1))) }
+{
+    let weights = weights_from(alloc, table, first, powers.len())?;
+    let total = u128::from(total);
+    let one = units_of_one(B);
+    let mut lows = Vec::with_capacity(alloc, cells as usize)?;
+    let mut highs = Vec::with_capacity(alloc, cells as usize)?;
+    for x in 0..cells as usize {
+        let (low, high) = sums_at(weights.as_slice(), powers, x);
+        lows.push(one.min(low / total))?;
+        highs.push(one.min(high.div_ceil(total)))?;
+    }
+    Ok(Grid::from_ends(lows, highs))
+}

@@ -1,0 +1,8 @@
+use Rattle.std.proofs.Common.{◌≡◌, map, take}
+use Rattle.dl_unit.proofs.trial.grid_of.Given as goal
+
+abbrev pub invariant-loop-cell : goal.invariant-loop-cell
+invariant-loop-cell g l = record {
+  low : l.lows.items ≡ map (λ t. t.lo) (take l.cell-index l.cells);
+  high : l.highs.items ≡ map (λ t. t.hi) (take l.cell-index l.cells);
+}
