@@ -1,4 +1,4 @@
--- What a kind of count begins with: the greatest listed number, and the spreads of the bases, which have room to grow.
+-- What a kind of count begins with: the spreads of the bases, which have room to grow.
 use Rattle.std.proofs.Common.{ℕ, zero, suc, ◌≡◌, ◌+◌, ◌*◌, ◌^◌, ◌<◌, ◌≤◌, List, [], ◌∷◌, length, get_or, take, arith, refl, sym, ap, ap₂, subst, ◌∙◌, add-one}
 use Rattle.std.specs.Prelude.{max}
 use Rattle.std.specs.Int.{div_ceil}
@@ -10,21 +10,6 @@ use Rattle.dl_exact.proofs.Laws.{one_pos}
 use Rattle.dl_grid.specs.Width.{up, rounded_spread}
 use Rattle.dl_grid.proofs.WidthLaws.{up_quotient}
 use Rattle.dl_plan.specs.declared.item.Item.{Item}
-use Rattle.dl_budget.specs.Claims.{greatest}
-
-greatest_front : (items : List Item) (i : ℕ) (d : Item) → i < length items → greatest (take (suc i) items) ≡ max (get_or items i d).amount (greatest (take i items))
-greatest_front [] i d inside = absurd (omega arith)
-greatest_front (item ∷ items) zero d inside = refl
-greatest_front (item ∷ items) (suc i) d inside = omega (arith, greatest_front items i d (omega arith))
-
--- the greatest number so far, and the next
-pub greatest_more : (items : List Item) (i : ℕ) (d : Item) → i < length items → greatest (take (i + 1) items) ≡ max (get_or items i d).amount (greatest (take i items))
-greatest_more items i d inside = ap (λ k. greatest (take k items)) (add-one i) ∙ greatest_front items i d inside
-
--- an item is at most a bound that all have
-pub greatest_within : (items : List Item) (most : ℕ) → ((i : ℕ) (d : Item) → i < length items → (get_or items i d).amount ≤ most) → greatest items ≤ most
-greatest_within [] most each = omega arith
-greatest_within (item ∷ items) most each = omega (arith, each 0 item (omega arith), greatest_within items most (λ i d h. each (suc i) d (omega arith)))
 
 -- ---- Poisson counts
 

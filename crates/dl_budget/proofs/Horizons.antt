@@ -1,16 +1,15 @@
 -- The horizons of the units of a valid plan.
-use Rattle.std.proofs.Common.{ℕ, zero, suc, ◌≡◌, ◌^◌, ◌<◌, ◌≤◌, List, [], ◌∷◌, length, get_or, arith, refl, ap, ap₂, ◌∙◌}
+use Rattle.std.proofs.Common.{ℕ, ◌≡◌, ◌^◌, ◌<◌, ◌≤◌, arith, refl, ap, ◌∙◌}
 use Rattle.std.specs.Prelude.{Option, Some, None, All, IfSome, IsSome, MatchOption}
 use Rattle.std.proofs.Math.Nat.{pow-le-pow_right}
 use Rattle.dl_plan.specs.declared.severity.Sev.{Sev}
 use Rattle.dl_plan.specs.declared.plan.Unit.{Unit as UnitOfPlan}
 use Rattle.dl_plan.specs.declared.plan.Plan.{Plan}
 use Rattle.dl_plan.specs.Cession.{Clause}
-use Rattle.dl_plan.specs.Horizon.{IsHorizonOf, HorizonPasses}
+use Rattle.dl_plan.specs.Horizon.{IsHorizonOf, HorizonPasses, horizon}
 use Rattle.dl_plan.specs.Valid.{IsAggregate, IsValidUnit, IsValid}
-use Rattle.dl_plan.proofs.Horizons.{same_horizon}
+use Rattle.dl_plan.proofs.Horizons.{same_horizon, horizon_is}
 use Rattle.dl_budget.specs.Claims.{claims_budget}
-use Rattle.dl_budget.specs.Units.{AreHorizons}
 
 clause_horizon : (cells : ℕ) (sev : Sev) (cede : Option Clause) → cells ≤ 16384 → IfSome cede (IsAggregate cells sev) → (k : ℕ) × IsHorizonOf cede cells k × (k ≤ 16384)
 clause_horizon cells sev None few valid = (cells, refl, few)
@@ -19,34 +18,21 @@ clause_horizon cells sev (Some clause) few valid = valid.horizon
 pub unit_horizon : (cells : ℕ) (u : UnitOfPlan) → cells ≤ 16384 → IsValidUnit cells u → (k : ℕ) × IsHorizonOf u.cede cells k × (k ≤ 16384)
 unit_horizon cells u few valid = clause_horizon cells u.sev u.cede few valid.clause
 
--- the later units' horizons are the later ones
-pub later_horizons : (cells k : ℕ) (u : UnitOfPlan) (us : List UnitOfPlan) (ks : List ℕ) → AreHorizons cells (u ∷ us) (k ∷ ks) → AreHorizons cells us ks
-later_horizons cells k u us ks h = record { as_many = omega (arith, h.as_many); each = λ i d inside. h.each (suc i) d (omega arith) }
+-- the horizon that is told of it
+clause_told : (h cells : ℕ) (sev : Sev) (cede : Option Clause) → IfSome cede (IsAggregate h sev) → IsHorizonOf cede cells (horizon cede cells)
+clause_told h cells sev None valid = horizon_is None cells tt
+clause_told h cells sev (Some clause) valid = horizon_is (Some clause) cells valid.cession
 
-one_list : (cells : ℕ) (us : List UnitOfPlan) (ks ls : List ℕ) → AreHorizons cells us ks → AreHorizons cells us ls → ks ≡ ls
-one_list cells [] [] [] p q = refl
-one_list cells [] [] (l ∷ ls) p q = absurd (omega (arith, q.as_many))
-one_list cells [] (k ∷ ks) ls p q = absurd (omega (arith, p.as_many))
-one_list cells (u ∷ us) [] ls p q = absurd (omega (arith, p.as_many))
-one_list cells (u ∷ us) (k ∷ ks) [] p q = absurd (omega (arith, q.as_many))
-one_list cells (u ∷ us) (k ∷ ks) (l ∷ ls) p q =
-    ap₂ (λ x xs. x ∷ xs) (same_horizon u.cede cells k l (p.each 0 u (omega arith)) (q.each 0 u (omega arith)))
-    (one_list cells us ks ls (later_horizons cells k u us ks p) (later_horizons cells l u us ls q))
+pub unit_told : (h cells : ℕ) (u : UnitOfPlan) → IsValidUnit h u → IsHorizonOf u.cede cells (horizon u.cede cells)
+unit_told h cells u valid = clause_told h cells u.sev u.cede valid.clause
 
-pub one_horizons : (plan : Plan) (ks ls : List ℕ) → AreHorizons plan.cells plan.units ks → AreHorizons plan.cells plan.units ls → ks ≡ ls
-one_horizons plan ks ls p q = one_list plan.cells plan.units ks ls p q
+pub one_horizon : (h cells k : ℕ) (u : UnitOfPlan) → IsValidUnit h u → IsHorizonOf u.cede cells k → k ≡ horizon u.cede cells
+one_horizon h cells k u valid there = same_horizon u.cede cells k (horizon u.cede cells) there (unit_told h cells u valid)
 
-all_horizons : (cells : ℕ) (us : List UnitOfPlan) → cells ≤ 16384 → All (IsValidUnit cells) us → (ks : List ℕ) × AreHorizons cells us ks
-all_horizons cells [] few valid = ([], record { as_many = refl; each = λ i d inside. absurd (omega (arith, inside)) })
-all_horizons cells (u ∷ us) few valid =
-    let first = unit_horizon cells u few (valid 0 u (omega arith)) in
-    let rest = all_horizons cells us few (λ i d inside. valid (suc i) d (omega arith)) in
-    (first.0 ∷ rest.0, record { as_many = omega (arith, rest.1.as_many); each = joined first.0 rest.0 first.1 rest.1 })
-  where
-    joined : (k : ℕ) (ks : List ℕ) → IsHorizonOf u.cede cells k → AreHorizons cells us ks
-        → (i : ℕ) (d : UnitOfPlan) → i < length (u ∷ us) → IsHorizonOf (get_or (u ∷ us) i d).cede cells (get_or (k ∷ ks) i 0)
-    joined k ks first rest zero d inside = first
-    joined k ks first rest (suc i) d inside = rest.each i d (omega arith)
+pub few_horizon : (cells : ℕ) (u : UnitOfPlan) → cells ≤ 16384 → IsValidUnit cells u → horizon u.cede cells ≤ 16384
+few_horizon cells u few valid =
+    let there = unit_horizon cells u few valid in
+    omega (arith, there.2, one_horizon cells cells there.0 u valid there.1)
 
 pub few_cells : (plan : Plan) → IsValid plan → (1 ≤ plan.cells) × (plan.cells ≤ 4096)
 few_cells plan valid =
@@ -54,15 +40,13 @@ few_cells plan valid =
     let least : 2 ^ 1 ≤ 2 ^ valid.cells.0 = pow-le-pow_right {n = 2} (omega arith) {i = 1} {j = valid.cells.0} valid.cells.1 in
     (omega (arith, least, valid.cells.3), omega (arith, most, valid.cells.3))
 
-pub some_horizons : (plan : Plan) → IsValid plan → (ks : List ℕ) × AreHorizons plan.cells plan.units ks
-some_horizons plan valid = all_horizons plan.cells plan.units (omega (arith, (few_cells plan valid).1)) valid.units
-
 -- where there is a horizon of at most 16,384, it is found
 pub horizon_there : (cede : Option Clause) (cells : ℕ) (found : Option ℕ) → MatchOption found (HorizonPasses cede cells) (λ k. IsHorizonOf cede cells k × (k ≤ 16384))
     → (k : ℕ) × IsHorizonOf cede cells k × (k ≤ 16384) → IsSome found
 horizon_there cede cells (Some k) told known = refl
 horizon_there cede cells None told known = absurd (omega (arith, told.2, known.2, same_horizon cede cells told.0 known.0 told.1 known.1))
 
--- a budget on the horizon that was found is one on every horizon
-pub on_horizon : (S cells : ℕ) (u : UnitOfPlan) (found k b : ℕ) → IsHorizonOf u.cede cells found → b ≡ claims_budget S found u → IsHorizonOf u.cede cells k → b ≡ claims_budget S k u
-on_horizon S cells u found k b there e horizon = e ∙ ap (λ n. claims_budget S n u) (same_horizon u.cede cells found k there horizon)
+-- a budget on the horizon that was found
+pub on_horizon : (S h cells : ℕ) (u : UnitOfPlan) (found b : ℕ) → IsValidUnit h u → IsHorizonOf u.cede cells found → b ≡ claims_budget S found u
+    → b ≡ claims_budget S (horizon u.cede cells) u
+on_horizon S h cells u found b valid there e = e ∙ ap (λ n. claims_budget S n u) (one_horizon h cells found u valid there)

@@ -1,18 +1,17 @@
 -- A step that is taken so many times: its value and its size after one time more.
 use Rattle.std.proofs.Common.{ℕ, zero, suc, ◌≡◌, ◌+◌, ◌*◌, ◌^◌, ◌≤◌, arith, refl, sym, ap, subst, ◌∙◌, add-one}
-use Rattle.std.specs.Fn.{iterate}
 use Rattle.std.proofs.Math.Nat.{mul-le-mul_right, pow-le-pow_right}
 use Rattle.std.proofs.lemmas.Nat.{pow_pos}
 use Rattle.std.proofs.lemmas.Grind.{pow_more}
-use Rattle.dl_grid.specs.Width.{cv, rounded_spread, IsSizeWithin}
+use Rattle.dl_grid.specs.Width.{cv, pw, mixed_spread, rounded_spread, IsSizeWithin}
+use Rattle.dl_grid.proofs.WidthLaws.{mixed_next, pw_doubled}
 use Rattle.dl_budget.proofs.SizeLaws.{size_step_of, size_least, far_below, square_size, room_below}
 
-iterate_suc : (h : ℕ → ℕ) (n x : ℕ) → iterate h (suc n) x ≡ h (iterate h n x)
-iterate_suc h zero x = refl
-iterate_suc h (suc n) x = iterate_suc h n (h x)
+pub listed_value : (S k b n x z : ℕ) → x ≡ mixed_spread S k b n → z ≡ cv S k b x + 2 → z ≡ mixed_spread S k b (n + 1)
+listed_value S k b n x z before step = step ∙ ap (λ t. cv S k b t + 2) before ∙ sym (mixed_next S k b n)
 
-pub iterate_next : (h : ℕ → ℕ) (n x y z : ℕ) → y ≡ iterate h n x → z ≡ h y → z ≡ iterate h (n + 1) x
-iterate_next h n x y z before step = step ∙ ap h before ∙ subst (λ t. h (iterate h n x) ≡ iterate h t x) (sym (add-one n)) (sym (iterate_suc h n x))
+pub doubled_value : (S k b n x z : ℕ) → x ≡ pw S k b (2 ^ n) → z ≡ cv S k x x → z ≡ pw S k b (2 ^ (n + 1))
+doubled_value S k b n x z before step = step ∙ ap (λ t. cv S k t t) before ∙ sym (pw_doubled S k b n)
 
 -- one number of claims more
 pub listed_size : (B k b n x z : ℕ) → B ≡ 56 → rounded_spread k 2 1 + (n + 1) * rounded_spread k 2 b ≤ 15 * 2 ^ 30

@@ -11,12 +11,6 @@ use Rattle.dl_grid.proofs.WidthLaws.{size_step, size_joined, pw_even, pw_odd}
 pub size_least : (S c x : ℕ) → x ≤ c → IsSizeWithin S c x
 size_least S c x h = mul-le-mul h (omega arith)
 
-pub size_wider : (S c d x : ℕ) → c ≤ d → IsSizeWithin S c x → IsSizeWithin S d x
-size_wider S c d x h size =
-    let less : x * (S - d) ≤ x * (S - c) = mul-le-mul_left x (omega arith) in
-    let more : c * S ≤ d * S = mul-le-mul_right S h in
-    omega (arith, less, size, more)
-
 -- where c is far below S, what is at most c / (1 - c/S) is hardly above c
 pub size_near : (S c x : ℕ) → 0 < S → 65536 * c ≤ S → IsSizeWithin S c x → 65535 * x ≤ 65536 * c
 size_near S c x pos far size =

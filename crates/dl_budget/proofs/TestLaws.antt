@@ -14,19 +14,7 @@ use Rattle.dl_plan.specs.Fine.{IsAdmitted}
 use Rattle.dl_plan.specs.Weighted.{IsWeighted}
 use Rattle.dl_plan.specs.Count.{expected_count, IsCount, IsUnbounded}
 use Rattle.dl_plan.specs.Valid.{IsAggregate, IsValidUnit, IsValid}
-use Rattle.dl_plan.proofs.Fits.{whole_num, whole_den}
-
--- one amount alone
-pub one_item : (items : List Item) (item : Item) → items ≡ [] → item.weight ≡ 1 → IsWeighted (items ++ item ∷ []) 1
-unfolding gcd euclid
-one_item items item none weight = rw none (record {
-  some = omega arith;
-  rising = λ k inside. absurd (omega (arith, inside));
-  positive = All-cons (λ (i : Item). 0 < i.weight) item [] (omega (arith, weight)) (All-nil _);
-  sum = omega (arith, weight);
-  within = omega arith;
-  lowest = ap (λ w. gcd 0 w) weight;
-})
+use Rattle.dl_exact.proofs.Parts.{whole_num, whole_den}
 
 -- two claims of one small amount
 pub two_valid : (u : UnitOfPlan) (items : List Item) (item : Item) → items ≡ [] → u.sev.items ≡ items ++ item ∷ [] → item.amount ≡ 1 → u.freq ≡ Fixed 2 → u.cede ≡ None → IsValidUnit 16 u

@@ -2,4 +2,5 @@ pub mod Halvings
 pub mod Claims
 pub mod Units
 pub mod Asks
+pub mod Once
 pub mod Sizes

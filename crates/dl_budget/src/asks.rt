@@ -4,11 +4,12 @@ ghost use Rattle.std.specs.Prelude.{ℕ, ◌≡◌, ◌+◌, ◌*◌, ◌^◌, �
 ghost use Rattle.dl_plan.specs.declared.settings.Ask.TheVariants.{LayerMean};
 ghost use Rattle.dl_plan.specs.Ranges.{IsLevel};
 ghost use Rattle.dl_plan.specs.Valid.{IsValid};
-ghost use Rattle.dl_budget.specs.Units.{AreHorizons};
-ghost use Rattle.dl_budget.specs.Asks.{IsInside, IsAskOf, place_of, ask_budget, layer_mean_budget, tail_budget, joint_budget, kappa_budget, in_digits, needed, Passes, most_for};
+ghost use Rattle.dl_budget.specs.Asks.{IsInside, IsAskOf, place_of, ask_budget, layer_mean_budget, tail_budget, joint_budget, kappa_budget, in_digits, needed, Passes};
+ghost use Rattle.dl_budget.specs.Once.{AreBudgetsOf};
 
+use crate::once::{Budgets, budgets_of};
 use crate::steps::joined;
-use crate::units::{mean_budget, others_budget, total_budget, unit_budget};
+use crate::units::{others_budget, unit_budget};
 use dl_frac::Frac;
 use dl_grid::units_of_one;
 use dl_plan::{Ask, Plan, Settings, Unit};
@@ -16,53 +17,72 @@ use dl_plan::{Ask, Plan, Settings, Unit};
 /// The budget of an ask: how far apart the ends of its answer may lie before they are printed. It
 /// follows from the plan and the ask alone. The ask lies inside the grid, names a unit of the
 /// plan, if it names one, and its probability is below 1 and has parts of at most 10^9.
-#[tactic(auto, unfolding(crate::specs::Asks::ask_budget))]
 pub fn ask_budget<const B: u32>(plan: &Plan, ask: &Ask) -> u128
     requires scale { B ≡ 56 }
     requires valid { IsValid plan.now }
     requires ask { IsAskOf plan.now ask.now }
-    ensures value { (ks : List ℕ) → AreHorizons plan.now.cells plan.now.units ks → result ≡ ask_budget (2 ^ B) ks plan.now ask.now }
+    ensures value { result ≡ ask_budget (2 ^ B) plan.now ask.now }
+    ensures small { result ≤ 2 ^ 96 }
+{
+    ask_budget_with::<B>(plan, budgets_of::<B>(plan), ask)
+}
+
+/// The same budget, from those of the total and of its mean, where these are there.
+#[tactic(auto, unfolding(crate::specs::Asks::ask_budget))]
+fn ask_budget_with<const B: u32>(plan: &Plan, budgets: Budgets, ask: &Ask) -> u128
+    requires scale { B ≡ 56 }
+    requires valid { IsValid plan.now }
+    requires budgets { AreBudgetsOf (2 ^ B) plan.now budgets }
+    requires ask { IsAskOf plan.now ask.now }
+    ensures value { result ≡ ask_budget (2 ^ B) plan.now ask.now }
     ensures small { result ≤ 2 ^ 96 }
 {
     match ask {
-        Ask::Pmf(_) | Ask::Cdf(_) | Ask::Quantile(_) => total_budget::<B>(plan),
-        Ask::Mean => mean_budget::<B>(plan),
-        Ask::LayerMean { limit, attach } => layer_mean_budget::<B>(plan, *limit, *attach),
-        Ask::Tail(p) => tail_budget::<B>(plan, *p),
+        Ask::Pmf(_) | Ask::Cdf(_) | Ask::Quantile(_) => budgets.total,
+        Ask::Mean => budgets.mean,
+        Ask::LayerMean { limit, attach } => {
+            layer_mean_budget::<B>(plan, budgets, *limit, *attach)
+        }
+        Ask::Tail(p) => tail_budget::<B>(plan, budgets, *p),
         Ask::Joint { unit, .. } => {
             joint_budget::<B>(plan, place(plan.units.as_slice(), unit.as_slice()))
         }
         Ask::Kappa { unit, .. } => {
-            kappa_budget::<B>(plan, place(plan.units.as_slice(), unit.as_slice()))
+            let i = place(plan.units.as_slice(), unit.as_slice());
+            kappa_budget::<B>(plan, budgets, i)
         }
     }
 }
 
 /// The budget of the mean of a layer.
-fn layer_mean_budget<const B: u32>(plan: &Plan, limit: Option<u32>, attach: u32) -> u128
-    requires scale { B ≡ 56 }
+fn layer_mean_budget<const B: u32>(
+    plan: &Plan,
+    budgets: Budgets,
+    limit: Option<u32>,
+    attach: u32,
+) -> u128
     requires valid { IsValid plan.now }
+    requires budgets { AreBudgetsOf (2 ^ B) plan.now budgets }
     requires inside { IsInside plan.now.cells (LayerMean limit attach) }
-    ensures value { (ks : List ℕ) → AreHorizons plan.now.cells plan.now.units ks → result ≡ layer_mean_budget (2 ^ B) ks plan.now limit attach }
+    ensures value { result ≡ layer_mean_budget (2 ^ B) plan.now limit attach }
     ensures small { result ≤ 2 ^ 96 }
 {
-    let total = total_budget::<B>(plan);
     match limit {
-        Some(limit) => limit as u128 * total,
-        None => mean_budget::<B>(plan) + attach as u128 * total,
+        Some(limit) => limit as u128 * budgets.total,
+        None => budgets.mean + attach as u128 * budgets.total,
     }
 }
 
 /// The budget of a tail mean at the probability `p`.
-fn tail_budget<const B: u32>(plan: &Plan, p: Frac) -> u128
-    requires scale { B ≡ 56 }
+fn tail_budget<const B: u32>(plan: &Plan, budgets: Budgets, p: Frac) -> u128
     requires valid { IsValid plan.now }
+    requires budgets { AreBudgetsOf (2 ^ B) plan.now budgets }
     requires level { IsLevel p }
-    ensures value { (ks : List ℕ) → AreHorizons plan.now.cells plan.now.units ks → result ≡ tail_budget (2 ^ B) ks plan.now p }
+    ensures value { result ≡ tail_budget (2 ^ B) plan.now p }
     ensures small { result ≤ 2 ^ 96 }
 {
-    let sums = 3 * plan.cells as u128 * total_budget::<B>(plan);
-    let both = 2 * mean_budget::<B>(plan) + sums;
+    let sums = 3 * plan.cells as u128 * budgets.total;
+    let both = 2 * budgets.mean + sums;
     let rest = p.den() - p.num();
     (both * p.den() as u128).div_ceil(rest as u128) + 4
 }
@@ -72,7 +92,7 @@ fn joint_budget<const B: u32>(plan: &Plan, i: u32) -> u128
     requires scale { B ≡ 56 }
     requires valid { IsValid plan.now }
     requires unit { i < length plan.now.units }
-    ensures value { (ks : List ℕ) → AreHorizons plan.now.cells plan.now.units ks → result ≡ joint_budget (2 ^ B) ks plan.now i }
+    ensures value { result ≡ joint_budget (2 ^ B) plan.now i }
     ensures small { result ≤ 2 ^ 56 }
 {
     let unit = unit_budget::<B>(&plan.units.as_slice()[i as usize], plan.cells);
@@ -80,14 +100,15 @@ fn joint_budget<const B: u32>(plan: &Plan, i: u32) -> u128
 }
 
 /// The budget of that share over the probability of the total.
-fn kappa_budget<const B: u32>(plan: &Plan, i: u32) -> u128
+fn kappa_budget<const B: u32>(plan: &Plan, budgets: Budgets, i: u32) -> u128
     requires scale { B ≡ 56 }
     requires valid { IsValid plan.now }
+    requires budgets { AreBudgetsOf (2 ^ B) plan.now budgets }
     requires unit { i < length plan.now.units }
-    ensures value { (ks : List ℕ) → AreHorizons plan.now.cells plan.now.units ks → result ≡ kappa_budget (2 ^ B) ks plan.now i }
+    ensures value { result ≡ kappa_budget (2 ^ B) plan.now i }
     ensures small { result ≤ 2 ^ 96 }
 {
-    let total = plan.cells as u128 * total_budget::<B>(plan);
+    let total = plan.cells as u128 * budgets.total;
     (1 << 16) * (total + joint_budget::<B>(plan, i)) + 2
 }
 
@@ -117,9 +138,21 @@ pub fn needed<const B: u32>(plan: &Plan, ask: &Ask, digits: u32) -> u128
     requires valid { IsValid plan.now }
     requires ask { IsAskOf plan.now ask.now }
     requires digits { digits ≤ 9 }
-    ensures { (ks : List ℕ) → AreHorizons plan.now.cells plan.now.units ks → result ≡ needed (2 ^ B) ks plan.now ask.now digits }
+    ensures { result ≡ needed (2 ^ B) plan.now ask.now digits }
 {
-    in_digits::<B>(ask_budget::<B>(plan, ask), digits)
+    needed_with::<B>(plan, budgets_of::<B>(plan), ask, digits)
+}
+
+/// The same number, from the budgets of the total and of its mean, where these are there.
+pub fn needed_with<const B: u32>(plan: &Plan, budgets: Budgets, ask: &Ask, digits: u32) -> u128
+    requires scale { B ≡ 56 }
+    requires valid { IsValid plan.now }
+    requires budgets { AreBudgetsOf (2 ^ B) plan.now budgets }
+    requires ask { IsAskOf plan.now ask.now }
+    requires digits { digits ≤ 9 }
+    ensures { result ≡ needed (2 ^ B) plan.now ask.now digits }
+{
+    in_digits::<B>(ask_budget_with::<B>(plan, budgets, ask), digits)
 }
 
 /// Whether the settings let the ask pass: it needs at most the width that they name for a
@@ -129,18 +162,7 @@ pub fn passes<const B: u32>(plan: &Plan, ask: &Ask, settings: &Settings) -> bool
     requires valid { IsValid plan.now }
     requires ask { IsAskOf plan.now ask.now }
     requires digits { settings.now.digits ≤ 9 }
-    ensures { (ks : List ℕ) → AreHorizons plan.now.cells plan.now.units ks → IsTrue result ↔ Passes (2 ^ B) ks plan.now ask.now settings.now }
+    ensures { IsTrue result ↔ Passes (2 ^ B) plan.now ask.now settings.now }
 {
-    needed::<B>(plan, ask, settings.digits) <= most_for(settings, ask) as u128
-}
-
-/// The most that the settings let an ask need.
-fn most_for(settings: &Settings, ask: &Ask) -> u64
-    ensures { result ≡ most_for settings.now ask.now }
-{
-    match ask {
-        Ask::Pmf(_) | Ask::Cdf(_) | Ask::Quantile(_) => settings.width,
-        Ask::Mean | Ask::LayerMean { .. } | Ask::Tail(_) | Ask::Joint { .. } | Ask::Kappa { .. } =>
-            settings.mwidth,
-    }
+    needed::<B>(plan, ask, settings.digits) <= ask.most_width(settings) as u128
 }

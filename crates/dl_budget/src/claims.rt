@@ -1,27 +1,28 @@
 //! The budget of a unit before its aggregate clause, by the kind of its count.
 
 ghost use Rattle.std.specs.Prelude.{ℕ, ◌≡◌, ◌+◌, ◌*◌, ◌^◌, ◌≤◌, ◌<◌, All};
+ghost use Rattle.dl_limits.specs.Limits.{most_cells, most_claims_budget, most_expected, most_shape};
 ghost use Rattle.dl_exact.specs.Fraction.{whole, ◌<ℚ◌, ◌≤ℚ◌};
 ghost use Rattle.dl_plan.specs.Fine.{IsAdmitted};
 ghost use Rattle.dl_plan.specs.Valid.{IsValidUnit};
-ghost use Rattle.dl_budget.specs.Claims.{greatest, poisson_budget, gamma_budget, claims_budget};
+ghost use Rattle.dl_budget.specs.Claims.{poisson_budget, gamma_budget, claims_budget};
 
 use crate::steps::{doubled, halvings, listed, power};
 use dl_frac::Frac;
-use dl_plan::{Freq, Item, Unit};
+use dl_plan::{Freq, Unit, greatest_amount};
 
 /// The budget of a unit of a valid plan before its aggregate clause, on `cells` cells.
 pub fn claims_budget<const B: u32>(unit: &Unit, cells: u32) -> u128
     requires scale { B ≡ 56 }
     requires valid { (h : ℕ) × IsValidUnit h unit.now }
-    requires few { cells ≤ 16384 }
+    requires few { cells ≤ most_cells }
     ensures value { result ≡ claims_budget (2 ^ B) cells unit.now }
-    ensures small { result ≤ 2 ^ 34 }
+    ensures small { result ≤ most_claims_budget }
 {
     let items = unit.sev.items.as_slice().len() as u128;
     match &unit.freq {
         Freq::Fixed(claims) => power::<B>(cells, items, *claims),
-        Freq::Table { counts, .. } => listed::<B>(cells, items, greatest(counts.as_slice())),
+        Freq::Table { counts, .. } => listed::<B>(cells, items, greatest_amount(counts.as_slice())),
         Freq::Bernoulli(_) => 3 * (items + 1),
         Freq::Binomial { trials, .. } => power::<B>(cells, 3 * (items + 1), *trials),
         Freq::Poisson(_) => poisson_budget::<B>(unit.thinned(), cells),
@@ -29,25 +30,14 @@ pub fn claims_budget<const B: u32>(unit: &Unit, cells: u32) -> u128
     }
 }
 
-/// The greatest listed number, 0 of none.
-fn greatest(counts: &[Item]) -> u32
-    ensures { result ≡ greatest counts.now }
-{
-    let mut greatest = 0;
-    for item in counts {
-        greatest = item.amount.max(greatest);
-    }
-    greatest
-}
-
 /// The budget of a Poisson count of this thinned mean.
 fn poisson_budget<const B: u32>(mean: Frac, cells: u32) -> u128
     requires scale { B ≡ 56 }
-    requires within { mean ≤ℚ whole 4096 }
-    requires few { cells ≤ 16384 }
+    requires within { mean ≤ℚ whole most_expected }
+    requires few { cells ≤ most_cells }
     ensures none { mean.num ≡ 0 → result ≡ 0 }
     ensures value { 0 < mean.num → result ≡ poisson_budget (2 ^ B) cells mean }
-    ensures small { result ≤ 2 ^ 34 }
+    ensures small { result ≤ most_claims_budget }
 {
     if mean.num() == 0 {
         return 0;
@@ -58,14 +48,14 @@ fn poisson_budget<const B: u32>(mean: Frac, cells: u32) -> u128
 /// The budget of a gamma count of this shape and thinned mean.
 fn gamma_budget<const B: u32>(mean: Frac, shape: u32, cells: u32) -> u128
     requires scale { B ≡ 56 }
-    requires within { mean ≤ℚ whole 4096 }
+    requires within { mean ≤ℚ whole most_expected }
     requires admitted { IsAdmitted mean }
     requires some { 1 ≤ shape }
-    requires most { shape ≤ 10000 }
-    requires few { cells ≤ 16384 }
+    requires most { shape ≤ most_shape }
+    requires few { cells ≤ most_cells }
     ensures none { mean.num ≡ 0 → result ≡ 0 }
     ensures value { 0 < mean.num → result ≡ gamma_budget (2 ^ B) cells shape mean }
-    ensures small { result ≤ 2 ^ 34 }
+    ensures small { result ≤ most_claims_budget }
 {
     if mean.num() == 0 {
         return 0;

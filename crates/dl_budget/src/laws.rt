@@ -1,17 +1,22 @@
 //! What follows from the definitions alone. Nothing here runs.
 
-ghost use Rattle.std.specs.Prelude.{ℕ, ◌≡◌, List};
+ghost use Rattle.std.specs.Prelude.{ℕ, ◌≡◌, ◌≤◌, All};
+ghost use Rattle.dl_limits.specs.Limits.{most_cells};
 ghost use Rattle.dl_exact.specs.Fraction.{Fraction};
 ghost use Rattle.dl_plan.specs.declared.plan.Plan.{Plan};
+ghost use Rattle.dl_plan.specs.Horizon.{IsHorizonOf, horizon};
 ghost use Rattle.dl_plan.specs.Valid.{IsValid};
 ghost use Rattle.dl_budget.specs.Halvings.{IsHalvings, halvings};
-ghost use Rattle.dl_budget.specs.Units.{AreHorizons};
 
-/// The units of a valid plan have horizons, and one list of them only: budgets are functions of the
-/// plan.
+/// Each unit of a valid plan has the horizon that `horizon` tells, of at most 16,384 cells, and no
+/// other: budgets are functions of the plan.
 pub fn law_horizons()
-    ensures some { (plan : Plan) → IsValid plan → (ks : List ℕ) × AreHorizons plan.cells plan.units ks }
-    ensures one { (plan : Plan) (ks ls : List ℕ) → AreHorizons plan.cells plan.units ks → AreHorizons plan.cells plan.units ls → ks ≡ ls }
+    ensures told { (plan : Plan) → IsValid plan
+        → All (λ u. IsHorizonOf u.cede plan.cells (horizon u.cede plan.cells)) plan.units }
+    ensures few { (plan : Plan) → IsValid plan
+        → All (λ u. horizon u.cede plan.cells ≤ most_cells) plan.units }
+    ensures one { (plan : Plan) (k : ℕ) → IsValid plan
+        → All (λ u. IsHorizonOf u.cede plan.cells k → k ≡ horizon u.cede plan.cells) plan.units }
 {}
 
 /// `halvings` is the least number of halvings that bring a mean to at most 1/2.

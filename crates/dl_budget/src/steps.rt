@@ -1,9 +1,9 @@
 //! What convolutions make of a spread: one of them, powers, listed counts and halvings.
 
 ghost use Rattle.std.specs.Prelude.{ℕ, ◌≡◌, ◌+◌, ◌*◌, ◌^◌, ◌≤◌};
-ghost use Rattle.std.specs.Fn.{iterate};
+ghost use Rattle.dl_limits.specs.Limits.{most_claims_budget, most_expected};
 ghost use Rattle.dl_exact.specs.Fraction.{whole, ◌≤ℚ◌};
-ghost use Rattle.dl_grid.specs.Width.{cv, pw, rounded_spread, IsSizeWithin};
+ghost use Rattle.dl_grid.specs.Width.{cv, pw, mixed_spread, rounded_spread, IsSizeWithin};
 ghost use Rattle.dl_budget.specs.Halvings.{IsHalvings, halvings};
 
 use dl_frac::Frac;
@@ -27,7 +27,7 @@ pub(crate) fn power<const B: u32>(cells: u32, base: u128, n: u32) -> u128
     requires room { n * rounded_spread cells 0 base ≤ 15 * 2 ^ 30 }
     ensures value { result ≡ pw (2 ^ B) cells base n }
     ensures size { 1 ≤ n → IsSizeWithin (2 ^ B) (n * rounded_spread cells 0 base) (rounded_spread cells 0 result) }
-    ensures small { result ≤ 2 ^ 34 }
+    ensures small { result ≤ most_claims_budget }
 {
     if n == 0 {
         return 0;
@@ -48,8 +48,8 @@ pub(crate) fn power<const B: u32>(cells: u32, base: u128, n: u32) -> u128
 pub(crate) fn listed<const B: u32>(cells: u32, base: u128, greatest: u32) -> u128
     requires scale { B ≡ 56 }
     requires room { rounded_spread cells 2 1 + greatest * rounded_spread cells 2 base ≤ 15 * 2 ^ 30 }
-    ensures value { result ≡ iterate (λ x. cv (2 ^ B) cells base x + 2) greatest 1 }
-    ensures small { result ≤ 2 ^ 34 }
+    ensures value { result ≡ mixed_spread (2 ^ B) cells base greatest }
+    ensures small { result ≤ most_claims_budget }
 {
     let mut spread = 1;
     for _step in 0..greatest {
@@ -62,8 +62,8 @@ pub(crate) fn listed<const B: u32>(cells: u32, base: u128, greatest: u32) -> u12
 pub(crate) fn doubled<const B: u32>(cells: u32, base: u128, times: u32) -> u128
     requires scale { B ≡ 56 }
     requires room { 2 ^ times * rounded_spread cells 0 base ≤ 15 * 2 ^ 30 }
-    ensures value { result ≡ iterate (λ x. cv (2 ^ B) cells x x) times base }
-    ensures small { result ≤ 2 ^ 34 }
+    ensures value { result ≡ pw (2 ^ B) cells base (2 ^ times) }
+    ensures small { result ≤ most_claims_budget }
 {
     let mut spread = base;
     for _step in 0..times {
@@ -74,7 +74,7 @@ pub(crate) fn doubled<const B: u32>(cells: u32, base: u128, times: u32) -> u128
 
 /// How often a mean of at most 4,096 is halved until it is at most 1/2.
 pub fn halvings(mean: Frac) -> u32
-    requires { mean ≤ℚ whole 4096 }
+    requires { mean ≤ℚ whole most_expected }
     ensures least { IsHalvings mean result }
     ensures value { result ≡ halvings mean }
     ensures small { result ≤ 13 }

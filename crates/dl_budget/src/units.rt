@@ -1,12 +1,13 @@
 //! The budgets of units, of their sums and of their means.
 
 ghost use Rattle.std.specs.Prelude.{ℕ, ◌≡◌, ◌+◌, ◌*◌, ◌^◌, ◌<◌, ◌≤◌, List, All, length, sum_by, fold};
-ghost use Rattle.dl_grid.specs.Width.{cv};
+ghost use Rattle.dl_limits.specs.Limits.{budget_bound, most_cells, most_claims_budget, most_plan_cells};
+ghost use Rattle.dl_grid.specs.Width.{cv, sum_spread};
 ghost use Rattle.dl_plan.specs.Horizon.{IsHorizonOf};
 ghost use Rattle.dl_plan.specs.Valid.{IsNear, IsValidUnit, IsValid};
-ghost use Rattle.dl_budget.specs.Claims.{claims_budget};
 ghost use Rattle.dl_budget.specs.Sizes.{IsOfUnits};
-ghost use Rattle.dl_budget.specs.Units.{AreHorizons, unit_budget, unit_budgets, total_budget, others_budget, sum_budget, layer_budget, clause_mean, mean_budget};
+ghost use Rattle.dl_plan.specs.MeanWidth.{part_width};
+ghost use Rattle.dl_budget.specs.Units.{unit_budget, unit_budgets, unit_mean_budget, total_budget, others_budget, mean_budget};
 
 use crate::claims::claims_budget;
 use crate::steps::joined;
@@ -16,9 +17,9 @@ use dl_plan::{CedeLayer, Plan, Unit};
 /// `cells` cells.
 fn horizon(unit: &Unit, cells: u32) -> u32
     requires valid { (h : ℕ) × IsValidUnit h unit.now }
-    requires horizon { (k : ℕ) × IsHorizonOf unit.now.cede cells k × (k ≤ 16384) }
+    requires horizon { (k : ℕ) × IsHorizonOf unit.now.cede cells k × (k ≤ most_cells) }
     ensures horizon { IsHorizonOf unit.now.cede cells result }
-    ensures few { result ≤ 16384 }
+    ensures few { result ≤ most_cells }
 {
     unit.horizon(cells).unwrap()
 }
@@ -29,8 +30,8 @@ pub fn unit_budget<const B: u32>(unit: &Unit, cells: u32) -> u128
     requires scale { B ≡ 56 }
     requires valid { (h : ℕ) × IsValidUnit h unit.now }
     requires some { 1 ≤ cells }
-    requires horizon { (k : ℕ) × IsHorizonOf unit.now.cede cells k × (k ≤ 16384) }
-    ensures value { (k : ℕ) → IsHorizonOf unit.now.cede cells k → result ≡ unit_budget (2 ^ B) k unit.now }
+    requires horizon { (k : ℕ) × IsHorizonOf unit.now.cede cells k × (k ≤ most_cells) }
+    ensures value { result ≡ unit_budget (2 ^ B) cells unit.now }
     ensures small { result ≤ 2 ^ 35 }
 {
     let before = claims_budget::<B>(unit, horizon(unit, cells));
@@ -46,9 +47,9 @@ fn with_units<const B: u32>(sum: u128, units: &[Unit], cells: u32) -> u128
     requires scale { B ≡ 56 }
     requires valid { All (IsValidUnit cells) units.now }
     requires some { 1 ≤ cells }
-    requires few { cells ≤ 4096 }
+    requires few { cells ≤ most_plan_cells }
     requires room { (n : ℕ) × (n + length units.now ≤ 16) × IsOfUnits (2 ^ B) cells n sum }
-    ensures value { (ks : List ℕ) → AreHorizons cells units.now ks → result ≡ fold (cv (2 ^ B) cells) sum (unit_budgets (2 ^ B) ks units.now) }
+    ensures value { result ≡ fold (cv (2 ^ B) cells) sum (unit_budgets (2 ^ B) cells units.now) }
     ensures size { (n : ℕ) → n + length units.now ≤ 16 → IsOfUnits (2 ^ B) cells n sum → IsOfUnits (2 ^ B) cells (n + length units.now) result }
 {
     let mut total = sum;
@@ -63,11 +64,11 @@ fn sum_of<const B: u32>(units: &[Unit], cells: u32) -> u128
     requires scale { B ≡ 56 }
     requires valid { All (IsValidUnit cells) units.now }
     requires some { 1 ≤ cells }
-    requires few { cells ≤ 4096 }
+    requires few { cells ≤ most_plan_cells }
     requires units { length units.now ≤ 16 }
-    ensures value { (ks : List ℕ) → AreHorizons cells units.now ks → result ≡ sum_budget (2 ^ B) cells (unit_budgets (2 ^ B) ks units.now) }
+    ensures value { result ≡ sum_spread (2 ^ B) cells (unit_budgets (2 ^ B) cells units.now) }
     ensures size { 1 ≤ length units.now → IsOfUnits (2 ^ B) cells (length units.now) result }
-    ensures small { result < 2 ^ 40 }
+    ensures small { result < budget_bound }
 {
     if units.is_empty() {
         return 0;
@@ -82,8 +83,8 @@ fn sum_of<const B: u32>(units: &[Unit], cells: u32) -> u128
 pub fn total_budget<const B: u32>(plan: &Plan) -> u128
     requires scale { B ≡ 56 }
     requires valid { IsValid plan.now }
-    ensures value { (ks : List ℕ) → AreHorizons plan.now.cells plan.now.units ks → result ≡ total_budget (2 ^ B) ks plan.now }
-    ensures small { result < 2 ^ 40 }
+    ensures value { result ≡ total_budget (2 ^ B) plan.now }
+    ensures small { result < budget_bound }
 {
     sum_of::<B>(plan.units.as_slice(), plan.cells)
 }
@@ -94,8 +95,8 @@ pub fn others_budget<const B: u32>(plan: &Plan, i: u32) -> u128
     requires scale { B ≡ 56 }
     requires valid { IsValid plan.now }
     requires unit { i < length plan.now.units }
-    ensures value { (ks : List ℕ) → AreHorizons plan.now.cells plan.now.units ks → result ≡ others_budget (2 ^ B) ks plan.now i }
-    ensures small { result < 2 ^ 40 }
+    ensures value { result ≡ others_budget (2 ^ B) plan.now i }
+    ensures small { result < budget_bound }
 {
     let units = plan.units.as_slice();
     let before = &units[..i as usize];
@@ -108,10 +109,10 @@ pub fn others_budget<const B: u32>(plan: &Plan, i: u32) -> u128
 
 /// What a layer of an aggregate clause adds to the budget of a mean, for a budget before the
 /// clause.
-fn layer_budget(layer: &CedeLayer, before: u128) -> u128
+fn part_width(layer: &CedeLayer, before: u128) -> u128
     requires near { IsNear layer.now }
-    requires small { before ≤ 2 ^ 34 }
-    ensures value { result ≡ layer_budget before layer.now.limit layer.now.attach }
+    requires small { before ≤ most_claims_budget }
+    ensures value { result ≡ part_width before layer.now.limit layer.now.attach }
     ensures small { result ≤ 2 ^ 55 }
 {
     match layer.limit {
@@ -124,13 +125,13 @@ fn layer_budget(layer: &CedeLayer, before: u128) -> u128
 fn layers_budget(layers: &[CedeLayer], before: u128) -> u128
     requires few { length layers.now ≤ 16 }
     requires near { All IsNear layers.now }
-    requires small { before ≤ 2 ^ 34 }
-    ensures value { result ≡ sum_by (λ l. layer_budget before l.limit l.attach) layers.now }
+    requires small { before ≤ most_claims_budget }
+    ensures value { result ≡ sum_by (λ l. part_width before l.limit l.attach) layers.now }
     ensures small { result ≤ 2 ^ 59 }
 {
     let mut sum = 0;
     for layer in layers {
-        sum += layer_budget(layer, before);
+        sum += part_width(layer, before);
     }
     sum
 }
@@ -139,8 +140,8 @@ fn layers_budget(layers: &[CedeLayer], before: u128) -> u128
 fn unit_mean_budget<const B: u32>(unit: &Unit, cells: u32) -> u128
     requires scale { B ≡ 56 }
     requires valid { IsValidUnit cells unit.now }
-    requires few { cells ≤ 4096 }
-    ensures value { (k : ℕ) → IsHorizonOf unit.now.cede cells k → result ≡ clause_mean unit.now.cede (claims_budget (2 ^ B) k unit.now) }
+    requires few { cells ≤ most_plan_cells }
+    ensures value { result ≡ unit_mean_budget (2 ^ B) cells unit.now }
     ensures small { result ≤ 2 ^ 60 }
 {
     match &unit.cede {
@@ -156,7 +157,7 @@ fn unit_mean_budget<const B: u32>(unit: &Unit, cells: u32) -> u128
 pub(crate) fn mean_budget<const B: u32>(plan: &Plan) -> u128
     requires scale { B ≡ 56 }
     requires valid { IsValid plan.now }
-    ensures value { (ks : List ℕ) → AreHorizons plan.now.cells plan.now.units ks → result ≡ mean_budget (2 ^ B) ks plan.now }
+    ensures value { result ≡ mean_budget (2 ^ B) plan.now }
     ensures small { result ≤ 2 ^ 64 }
 {
     let units = plan.units.as_slice();

@@ -1,9 +1,9 @@
 use Rattle.std.proofs.Common.{◌+◌, ◌^◌, length, arith, ap, ◌∙◌}
 use Rattle.dl_plan.specs.declared.plan.Freq.TheVariants.{Fixed, Table, Bernoulli, Binomial}
-use Rattle.std.specs.Fn.{iterate}
-use Rattle.dl_grid.specs.Width.{cv}
-use Rattle.dl_budget.specs.Claims.{count_budget, greatest}
-use Rattle.dl_budget.proofs.Bases.{greatest_within}
+use Rattle.dl_grid.specs.Width.{cv, mixed_spread}
+use Rattle.dl_budget.specs.Claims.{count_budget}
+use Rattle.dl_plan.specs.Weighted.{greatest}
+use Rattle.dl_plan.proofs.Weights.{greatest_within}
 use Rattle.dl_budget.proofs.Counts.{claims_of, count_of, few_items, power_room, listed_begins, poisson_value, gamma_value}
 use Rattle.dl_budget.proofs.claims.claims_budget.Goals as goal
 
@@ -16,9 +16,9 @@ power-requires-clause-room g c =
 pub listed-requires-clause-room : goal.listed-requires-clause-room
 listed-requires-clause-room g c =
     let count = count_of c.requires.valid.0 c.args.unit.now (Table c.in-Table.counts c.in-Table.total) c.requires.valid.1 c.in-Table.is in
-    listed_begins c.args.cells _ c.greatest.result c.requires.few
+    listed_begins c.args.cells _ c.greatest_amount.result c.requires.few
     (few_items c.requires.valid.0 c.args.unit.now (Table c.in-Table.counts c.in-Table.total) c.as_slice.result.now c.requires.valid.1 c.in-Table.is (λ no. no) c.as_slice.ensures)
-    (omega (arith, c.greatest.ensures, ap greatest c.as_slice-in-Table.ensures, greatest_within c.in-Table.counts 256 count.1))
+    (omega (arith, c.greatest_amount.ensures, ap greatest c.as_slice-in-Table.ensures, greatest_within c.in-Table.counts 256 count.1))
 
 pub power-requires-in-Binomial-clause-room : goal.power-requires-in-Binomial-clause-room
 power-requires-in-Binomial-clause-room g c =
@@ -35,7 +35,7 @@ pub returns-in-Table-clause-value : goal.returns-in-Table-clause-value
 unfolding count_budget
 returns-in-Table-clause-value g c =
     c.listed.ensures.value
-    ∙ ap (λ n. iterate (λ x. cv (2 ^ g.row.B) c.args.cells (length c.as_slice.result.now) x + 2) n 1) (c.greatest.ensures ∙ ap greatest c.as_slice-in-Table.ensures)
+    ∙ ap (mixed_spread (2 ^ g.row.B) c.args.cells (length c.as_slice.result.now)) (c.greatest_amount.ensures ∙ ap greatest c.as_slice-in-Table.ensures)
     ∙ claims_of (2 ^ g.row.B) c.args.cells c.args.unit.now (Table c.in-Table.counts c.in-Table.total) c.as_slice.result.now c.in-Table.is c.as_slice.ensures
 
 pub returns-in-Bernoulli-clause-value : goal.returns-in-Bernoulli-clause-value

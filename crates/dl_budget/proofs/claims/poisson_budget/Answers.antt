@@ -1,6 +1,5 @@
 use Rattle.std.proofs.Common.{◌*◌, ◌+◌, ◌^◌, ap, ◌∙◌}
-use Rattle.std.specs.Fn.{iterate}
-use Rattle.dl_grid.specs.Width.{cv}
+use Rattle.dl_grid.specs.Width.{cv, pw}
 use Rattle.dl_budget.specs.Claims.{poisson_budget}
 use Rattle.dl_budget.proofs.Bases.{poisson_room}
 use Rattle.dl_budget.proofs.claims.poisson_budget.Goals as goal
@@ -11,4 +10,4 @@ doubled-requires-clause-room g c = poisson_room c.args.cells c.halvings.result c
 pub returns-clause-value : goal.returns-clause-value
 unfolding poisson_budget
 returns-clause-value g c some =
-    c.doubled.ensures.value ∙ ap (λ h. iterate (λ x. cv (2 ^ g.row.B) c.args.cells x x) h (8 * c.args.cells + 128)) c.halvings.ensures.value
+    c.doubled.ensures.value ∙ ap (λ h. pw (2 ^ g.row.B) c.args.cells (8 * c.args.cells + 128) (2 ^ h)) c.halvings.ensures.value

@@ -1,11 +1,10 @@
 use Rattle.std.proofs.Common.{◌≡◌, ◌*◌, ◌^◌, ◌≤◌}
-use Rattle.std.specs.Fn.{iterate}
-use Rattle.dl_grid.specs.Width.{cv, rounded_spread, IsSizeWithin}
+use Rattle.dl_grid.specs.Width.{pw, rounded_spread, IsSizeWithin}
 use Rattle.dl_budget.proofs.steps.doubled.Given as goal
 
 abbrev pub invariant-loop-step : goal.invariant-loop-step
 invariant-loop-step g l = record {
   inside : l._step ≤ l.times;
-  value : l.spread ≡ iterate (λ x. cv (2 ^ g.row.B) l.cells x x) l._step l.base;
+  value : l.spread ≡ pw (2 ^ g.row.B) l.cells l.base (2 ^ l._step);
   size : IsSizeWithin (2 ^ g.row.B) (2 ^ l._step * rounded_spread l.cells 0 l.base) (rounded_spread l.cells 0 l.spread);
 }

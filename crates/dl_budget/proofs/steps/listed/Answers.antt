@@ -1,7 +1,7 @@
-use Rattle.std.proofs.Common.{◌+◌, ◌^◌, arith, ap}
-use Rattle.dl_grid.specs.Width.{cv}
-use Rattle.dl_budget.proofs.SizeLaws.{unit_small, base_small}
-use Rattle.dl_budget.proofs.Repeats.{iterate_next, listed_size, listed_room}
+use Rattle.std.proofs.Common.{◌+◌, ◌^◌, arith, ap, sym}
+use Rattle.dl_budget.proofs.SizeLaws.{unit_small, base_small, size_least}
+use Rattle.dl_budget.proofs.Repeats.{listed_value, listed_size, listed_room}
+use Rattle.dl_grid.proofs.WidthLaws.{mixed_none}
 use Rattle.dl_budget.proofs.steps.listed.Goals as goal
 
 pub joined-spread-requires-clause-left : goal.joined-spread-requires-clause-left
@@ -20,10 +20,17 @@ overflow_add-spread g c =
           (listed_size g.row.B c.args.cells c.args.base c.loop-step._step _ _ c.requires.scale room c.loop-step.invariant.size (ap (λ t. t + 2) c.joined-spread.ensures.value)),
     )
 
+pub loop-step-init : goal.loop-step-init
+loop-step-init g c = record {
+  inside = omega arith;
+  value = sym (mixed_none (2 ^ g.row.B) c.args.cells c.args.base);
+  size = size_least (2 ^ g.row.B) _ _ (omega arith);
+}
+
 pub loop-step-preserved : goal.loop-step-preserved
 loop-step-preserved g c = record {
   inside = omega arith;
-  value = iterate_next (λ x. cv (2 ^ g.row.B) c.args.cells c.args.base x + 2) c.loop-step._step 1 _ _ c.loop-step.invariant.value (ap (λ t. t + 2) c.joined-spread.ensures.value);
+  value = listed_value (2 ^ g.row.B) c.args.cells c.args.base c.loop-step._step _ _ c.loop-step.invariant.value (ap (λ t. t + 2) c.joined-spread.ensures.value);
   size = listed_size g.row.B c.args.cells c.args.base c.loop-step._step _ _ c.requires.scale (listed_room c.args.cells c.args.base (c.loop-step._step + 1) c.args.greatest (omega arith) c.requires.room)
       c.loop-step.invariant.size (ap (λ t. t + 2) c.joined-spread.ensures.value);
 }

@@ -1,10 +1,10 @@
 use Rattle.std.proofs.Common.{◌≡◌, ◌*◌, ◌^◌, ◌≤◌, take}
 use Rattle.std.specs.List.{sum_by}
-use Rattle.dl_budget.specs.Units.{layer_budget}
+use Rattle.dl_plan.specs.MeanWidth.{part_width}
 use Rattle.dl_budget.proofs.units.layers_budget.Given as goal
 
 abbrev pub invariant-loop-layer : goal.invariant-loop-layer
 invariant-loop-layer l = record {
-  value : l.sum ≡ sum_by (λ layer. layer_budget l.before layer.limit layer.attach) (take l.layer-index l.layers);
+  value : l.sum ≡ sum_by (λ layer. part_width l.before layer.limit layer.attach) (take l.layer-index l.layers);
   small : l.sum ≤ l.layer-index * 2 ^ 55;
 }

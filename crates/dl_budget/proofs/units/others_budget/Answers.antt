@@ -1,9 +1,11 @@
-use Rattle.std.proofs.Common.{◌≡◌, ◌^◌, ◌≤◌, length, take, arith, refl, sym, ap, subst, ◌∙◌}
+use Rattle.std.proofs.Common.{◌≡◌, ◌^◌, ◌≤◌, length, take, arith, refl, ap, ◌∙◌}
 use Rattle.std.proofs.lemmas.Grind.{common_steps}
 use Rattle.std.specs.List.{remove}
-use Rattle.dl_budget.specs.Units.{AreHorizons, unit_budgets, sum_budget}
+use Rattle.dl_grid.specs.Width.{sum_spread}
+use Rattle.dl_budget.specs.Units.{unit_budgets}
 use Rattle.dl_budget.proofs.Horizons.{few_cells}
-use Rattle.dl_budget.proofs.Sums.{from_there, sum_of_others, sum_of_later, sum_small, parts_length}
+use Rattle.dl_budget.proofs.Sums.{sum_of_others, sum_of_later, sum_small, parts_length}
+use Rattle.dl_exact.proofs.Lists.{from_there}
 use Rattle.dl_budget.proofs.units.others_budget.Goals as goal
 
 pub sum_of-requires-clause-few : goal.sum_of-requires-clause-few
@@ -16,19 +18,17 @@ pub with_units-requires-clause-few : goal.with_units-requires-clause-few
 with_units-requires-clause-few g c = (few_cells c.args.plan.now c.requires.valid).1
 
 pub returns-then-is_empty-clause-value : goal.returns-then-is_empty-clause-value
-returns-then-is_empty-clause-value g c ks each =
+returns-then-is_empty-clause-value g c =
     let first : c.args.i ≡ 0 = grind (arith, common_steps) in
-    sum_of_later (2 ^ g.row.B) c.args.plan.now.cells c.as_slice-units.result.now _ c.args.i _ ks first (from_there c.args.i c.as_slice-units.result.now) c.sum_of.ensures.value
-    (subst (λ t. AreHorizons c.args.plan.now.cells t ks) (sym c.as_slice-units.ensures) each)
-    ∙ ap (λ t. sum_budget (2 ^ g.row.B) c.args.plan.now.cells (remove (unit_budgets (2 ^ g.row.B) ks t) c.args.i)) c.as_slice-units.ensures
+    sum_of_later (2 ^ g.row.B) c.args.plan.now.cells c.as_slice-units.result.now _ c.args.i _ first (from_there c.args.i c.as_slice-units.result.now) c.sum_of.ensures.value
+    ∙ ap (λ t. sum_spread (2 ^ g.row.B) c.args.plan.now.cells (remove (unit_budgets (2 ^ g.row.B) c.args.plan.now.cells t) c.args.i)) c.as_slice-units.ensures
 
 pub returns-clause-value : goal.returns-clause-value
-returns-clause-value g c ks each =
+returns-clause-value g c =
     let some : 1 ≤ length (take c.args.i c.as_slice-units.result.now) = grind (arith, common_steps) in
-    sum_of_others (2 ^ g.row.B) c.args.plan.now.cells c.as_slice-units.result.now _ _ c.args.i _ _ ks refl (from_there c.args.i c.as_slice-units.result.now) some
+    sum_of_others (2 ^ g.row.B) c.args.plan.now.cells c.as_slice-units.result.now _ _ c.args.i _ _ refl (from_there c.args.i c.as_slice-units.result.now) some
     c.sum_of-2.ensures.value c.with_units.ensures.value
-    (subst (λ t. AreHorizons c.args.plan.now.cells t ks) (sym c.as_slice-units.ensures) each)
-    ∙ ap (λ t. sum_budget (2 ^ g.row.B) c.args.plan.now.cells (remove (unit_budgets (2 ^ g.row.B) ks t) c.args.i)) c.as_slice-units.ensures
+    ∙ ap (λ t. sum_spread (2 ^ g.row.B) c.args.plan.now.cells (remove (unit_budgets (2 ^ g.row.B) c.args.plan.now.cells t) c.args.i)) c.as_slice-units.ensures
 
 pub returns-clause-small : goal.returns-clause-small
 returns-clause-small g c =

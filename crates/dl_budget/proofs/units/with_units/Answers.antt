@@ -16,9 +16,8 @@ joined-total-requires-clause-left g c =
 
 pub loop-unit-preserved : goal.loop-unit-preserved
 loop-unit-preserved g c = record {
-  value = λ ks each.
-      budget_next (2 ^ g.row.B) c.args.cells c.args.units.now c.loop-unit.unit-index c.args.sum _ _ _ c.unit-item.result ks each (omega arith) c.unit-item.is
-      (c.loop-unit.invariant.value ks each) c.unit_budget.ensures.value c.joined-total.ensures.value;
+  value = budget_next (2 ^ g.row.B) c.args.cells c.args.units.now c.loop-unit.unit-index c.args.sum _ _ _ c.unit-item.result (omega arith) c.unit-item.is
+      c.loop-unit.invariant.value c.unit_budget.ensures.value c.joined-total.ensures.value;
   size = λ n room start.
       size_at g.row.B c.args.cells (n + c.loop-unit.unit-index + 1) (n + (c.loop-unit.unit-index + 1)) _ (omega arith)
       (sum_size_next g.row.B c.args.cells (n + c.loop-unit.unit-index) _ _ _ c.requires.scale c.requires.few (omega (arith, room)) (c.loop-unit.invariant.size n room start)
@@ -26,8 +25,8 @@ loop-unit-preserved g c = record {
 }
 
 pub returns-clause-value : goal.returns-clause-value
-returns-clause-value g c ks each =
-    budget_all (2 ^ g.row.B) c.args.cells c.args.units.now c.loop-unit.unit-index c.args.sum _ ks each (omega arith) (c.loop-unit.invariant.value ks each)
+returns-clause-value g c =
+    budget_all (2 ^ g.row.B) c.args.cells c.args.units.now c.loop-unit.unit-index c.args.sum _ (omega arith) c.loop-unit.invariant.value
 
 pub returns-clause-size : goal.returns-clause-size
 returns-clause-size g c n room start =
