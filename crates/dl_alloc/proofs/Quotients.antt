@@ -6,7 +6,7 @@ use Rattle.std.proofs.lemmas.Grind.{div_ceil_times}
 use Rattle.dl_exact.specs.Fraction.{◌over◌}
 use Rattle.dl_exact.proofs.Over.{over_le}
 use Rattle.dl_exact.proofs.Laws.{le_refl}
-use Rattle.dl_iv.proofs.FractionLaws.{over_pos}
+use Rattle.dl_exact.proofs.Denominators.{over_pos}
 use Rattle.dl_iv.proofs.Operations.{div_low, div_high}
 use Rattle.dl_model.specs.Series.{Series, AtLeast, Holds}
 use Rattle.dl_model.proofs.Declared.{at_least_wider, at_most_wider, quotient}

@@ -5,20 +5,16 @@ use Rattle.std.proofs.Math.Nat.{mul-le-mul_right}
 use Rattle.std.proofs.lemmas.Bool.{cases_eq, cases_lt}
 use Rattle.dl_exact.specs.Fraction.{whole, ◌over◌, ◌*ℚ◌, ◌≤ℚ◌}
 use Rattle.dl_exact.proofs.Over.{over_same, over_mul, over_lt}
-use Rattle.dl_exact.proofs.Laws.{one_pos, le_refl, le_trans, le_of_eq, zero_le, times_one, times_assoc}
+use Rattle.dl_exact.proofs.Laws.{one_pos, le_refl, le_trans, le_of_eq, zero_le, times_one, times_assoc, times_le_both}
 use Rattle.dl_exact.proofs.RoundingLaws.{whole_le}
+use Rattle.dl_exact.proofs.Denominators.{over_times}
+use Rattle.dl_exact.proofs.Lists.{item_le_total}
 use Rattle.dl_model.specs.Series.{AtMost, AtLeast}
 use Rattle.dl_model.specs.Program.{Aggregate, One, Point, Joint, where_true, score, partial_sums}
 use Rattle.dl_model.specs.Measures.{AreDeclared}
-use Rattle.dl_model.proofs.Declared.{times_le_both}
 use Rattle.dl_model.proofs.Alike.{not_both}
 use Rattle.dl_model.proofs.Outcomes.{sum-cons, outcomes_le, outcomes_times, outcomes_rise}
 use Rattle.dl_model.proofs.Bounded.{are_units, quantity_bounded, whole_positive}
-
-item_le_total : (ys : List ℕ) (i : ℕ) → get_or ys i 0 ≤ sum ys
-item_le_total [] i = omega arith
-item_le_total (y ∷ ys) zero = omega (arith, sum-cons y ys)
-item_le_total (y ∷ ys) (suc i) = omega (arith, sum-cons y ys, item_le_total ys i)
 
 score_le : (i x : ℕ) (ys : List ℕ) → score (Joint i x) ys ≤ℚ whole x *ℚ score (Point x) ys
 score_le i x ys = elim (cases_eq (sum ys) x) [
@@ -33,15 +29,12 @@ joint_le_point us i x N =
     le_trans _ _ _ (outcomes_le us (score (Joint i x)) (λ ys. whole x *ℚ score (Point x) ys) (score_le i x) N)
     (le_of_eq _ _ (outcomes_times us (whole x) (score (Point x)) N))
 
-times_over : (x h S : ℕ) → 0 < S → whole x *ℚ h over S ≡ (x * h) over S
-times_over x h S s = over_mul x 1 h S one_pos s ∙ over_same _ _ _ _ (mul-pos one_pos s) s (omega arith)
-
 joint_most : (us : List Aggregate) (i x h S : ℕ) → 0 < S → AtMost (partial_sums us (Point x)) (partial_sums us One) (h over S)
     → AtMost (partial_sums us (Joint i x)) (partial_sums us One) ((x * h) over S)
 joint_most us i x h S s at N u bound =
     le_trans _ _ _ (joint_le_point us i x N)
     (subst (λ t. whole x *ℚ partial_sums us (Point x) N ≤ℚ t)
-    (sym (times_assoc (whole x) (h over S) u) ∙ ap (λ t. t *ℚ u) (times_over x h S s))
+    (sym (times_assoc (whole x) (h over S) u) ∙ ap (λ t. t *ℚ u) (over_times x h S s))
     (times_le_both _ _ _ _ (le_refl (whole x)) (at N u bound)))
 
 -- a low end of the joint mean is at most x times a high end of the probability

@@ -1,5 +1,5 @@
 -- The joint mean from the grids of a unit and of the others: what its ends hold, and how far apart they lie.
-use Rattle.std.proofs.Common.{ℕ, ◌≡◌, ◌+◌, ◌-◌, ◌*◌, ◌/◌, ◌^◌, ◌<◌, ◌≤◌, List, length, get_or, arith, ap₂}
+use Rattle.std.proofs.Common.{ℕ, ◌≡◌, ◌+◌, ◌-◌, ◌*◌, ◌/◌, ◌^◌, ◌<◌, ◌≤◌, List, length, arith, ap₂}
 use Rattle.std.specs.Int.{div_ceil}
 use Rattle.std.proofs.Math.Nat.{mul-le-mul, mul-le-mul_left, mul-le-mul_right}
 use Rattle.std.proofs.lemmas.Nat.{pow_pos}
@@ -9,10 +9,10 @@ use Rattle.dl_exact.proofs.RoundingLaws.{div_ceil_least}
 use Rattle.dl_iv.specs.declared.interval.Iv.{Iv}
 use Rattle.dl_iv.proofs.Rounding.{round_down, round_up, floor_le_ceiling}
 use Rattle.dl_grid.specs.Cells.{low_at, high_at, spread, IsGrid}
-use Rattle.dl_grid.specs.Pairs.{count_pairs}
+use Rattle.dl_exact.specs.Count.{count_pairs, count_below}
 use Rattle.dl_grid.specs.Width.{cv}
-use Rattle.dl_grid.proofs.CellLaws.{scale_of, one_fits, low_at_read, high_at_read}
-use Rattle.dl_grid.proofs.PairLaws.{count_below, below_same, below_plus, pairs_le, pairs_same}
+use Rattle.dl_grid.proofs.CellLaws.{scale_of, one_fits}
+use Rattle.dl_exact.proofs.Counts.{below_same, below_plus, pairs_le, pairs_same}
 use Rattle.dl_grid.proofs.PlaceSums.{width_at, high_is, low_within, width_within}
 use Rattle.dl_grid.proofs.WidthLaws.{cv_is}
 use Rattle.dl_model.specs.Series.{Holds}
@@ -89,33 +89,30 @@ fits S x sum small few h =
 
 module _ {B : ℕ} (unit others : List (Iv B)) (x y sum : ℕ) (own other : Iv B) (p : IsGrid unit) (q : IsGrid others)
     (inside : x < length unit) (beside : x < length others)
-    (here : y ≤ x) (is : own ≡ get_or unit y own) (was : other ≡ get_or others (x - y) other) where
+    (here : y ≤ x) (own_low : own.lo ≡ low_at unit y) (own_high : own.hi ≡ high_at unit y)
+    (other_low : other.lo ≡ low_at others (x - y)) (other_high : other.hi ≡ high_at others (x - y)) where
   scale : 2 ^ B ≤ 2 ^ 56
   scale = one_fits B (scale_of unit p.some).1
 
   pub low_step : sum ≡ count_below y (λ y. y * low_at unit y * low_at others (x - y))
       → (sum + y * own.lo * other.lo ≡ count_below (y + 1) (λ y. y * low_at unit y * low_at others (x - y)))
       × (sum + y * own.lo * other.lo < 2 ^ 128)
-  low_step e =
-      let u = low_at_read unit y own (omega arith) is in
-      let v = low_at_read others (x - y) other (omega arith) was in (
-        one_more y x sum own.lo other.lo (low_at unit) (low_at others) e u v,
-        fits (2 ^ B) x _ scale (omega (arith, p.few))
-            (one_more_fits y x (2 * 2 ^ B) (2 * 2 ^ B) sum own.lo other.lo (low_at unit) (low_at others) here e u v
-            (omega (arith, low_mass unit (x + 1) p)) (omega (arith, low_mass others (x + 1) q))),
-      )
+  low_step e = (
+    one_more y x sum own.lo other.lo (low_at unit) (low_at others) e own_low other_low,
+    fits (2 ^ B) x _ scale (omega (arith, p.few))
+        (one_more_fits y x (2 * 2 ^ B) (2 * 2 ^ B) sum own.lo other.lo (low_at unit) (low_at others) here e own_low other_low
+        (omega (arith, low_mass unit (x + 1) p)) (omega (arith, low_mass others (x + 1) q))),
+  )
 
   pub high_step : spread unit < 2 ^ B → spread others < 2 ^ B → sum ≡ count_below y (λ y. y * high_at unit y * high_at others (x - y))
       → (sum + y * own.hi * other.hi ≡ count_below (y + 1) (λ y. y * high_at unit y * high_at others (x - y)))
       × (sum + y * own.hi * other.hi < 2 ^ 128)
-  high_step narrow thin e =
-      let u = high_at_read unit y own (omega arith) is in
-      let v = high_at_read others (x - y) other (omega arith) was in (
-        one_more y x sum own.hi other.hi (high_at unit) (high_at others) e u v,
-        fits (2 ^ B) x _ scale (omega (arith, p.few))
-            (one_more_fits y x (2 * 2 ^ B) (2 * 2 ^ B) sum own.hi other.hi (high_at unit) (high_at others) here e u v
-            (high_mass unit (x + 1) p narrow) (high_mass others (x + 1) q thin)),
-      )
+  high_step narrow thin e = (
+    one_more y x sum own.hi other.hi (high_at unit) (high_at others) e own_high other_high,
+    fits (2 ^ B) x _ scale (omega (arith, p.few))
+        (one_more_fits y x (2 * 2 ^ B) (2 * 2 ^ B) sum own.hi other.hi (high_at unit) (high_at others) here e own_high other_high
+        (high_mass unit (x + 1) p narrow) (high_mass others (x + 1) q thin)),
+  )
 
 -- ---- what they hold
 

@@ -5,8 +5,8 @@ use Rattle.std.proofs.Math.Nat.{mul-le-mul, mul-le-mul_left, mul-le-mul_right, l
 use native.Mathlib.Decide.{le_ind}
 use Rattle.std.proofs.lemmas.Grind.{div_ceil_times}
 use Rattle.dl_iv.proofs.Rounding.{ceiling_reaches}
-use Rattle.dl_grid.specs.Pairs.{count_pairs}
-use Rattle.dl_grid.proofs.PairLaws.{count_below, below_more, below_le, below_times, below_pairs, pairs_same, pairs_within}
+use Rattle.dl_exact.specs.Count.{count_pairs, count_below}
+use Rattle.dl_exact.proofs.Counts.{below_more, below_le, below_times, below_pairs, pairs_same, pairs_within}
 use Rattle.dl_grid.proofs.Products.{products_apart, pairs_apart}
 
 -- the sum over the first places

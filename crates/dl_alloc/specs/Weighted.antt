@@ -2,7 +2,7 @@
 use Rattle.std.specs.Prelude.{ℕ, ◌*◌, List}
 use Rattle.dl_iv.specs.declared.interval.Iv.{Iv}
 use Rattle.dl_grid.specs.Cells.{low_at, high_at}
-use Rattle.dl_grid.specs.Pairs.{count_pairs}
+use Rattle.dl_exact.specs.Count.{count_pairs}
 
 -- by the low ends
 abbrev pub low_weighted : {B : ℕ} → List (Iv B) → List (Iv B) → ℕ → ℕ

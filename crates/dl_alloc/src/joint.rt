@@ -15,7 +15,7 @@ use dl_iv::Iv;
 
 /// The sums of the unit's outcomes up to `x`, each weighted by the ends of its probability times those
 /// of what the others then have, in units of `1 / 2^(2B)`.
-fn weighted_sums<const B: u32>(unit: &[Iv<B>], others: &[Iv<B>], x: usize) -> (u128, u128)
+fn weighted_sums<const B: u32>(unit: &Grid<B>, others: &Grid<B>, x: u32) -> (u128, u128)
     requires unit { IsGrid unit.now }
     requires others { IsGrid others.now }
     requires in_unit { x < length unit.now }
@@ -28,8 +28,8 @@ fn weighted_sums<const B: u32>(unit: &[Iv<B>], others: &[Iv<B>], x: usize) -> (u
     let mut low = 0;
     let mut high = 0;
     for y in 0..x + 1 {
-        let own = &unit[y];
-        let other = &others[x - y];
+        let own = unit.at(y);
+        let other = others.at(x - y);
         low += y as u128 * own.lo * other.lo;
         high += y as u128 * own.hi * other.hi;
     }
@@ -59,9 +59,9 @@ pub fn joint_mean<const B: u32>(unit: &Grid<B>, others: &Grid<B>, x: u32) -> Iv<
     // so it can be divided by a probability
     ensures divisible { x ≤ 8192 → result.hi * 2 ^ B ≤ 2 ^ 127 }
 {
-    let own = unit.as_slice();
-    let rest = others.as_slice();
-    let (low, high) = weighted_sums(own, rest, x as usize);
+    prove!(x < unit.cells());
+    prove!(x < others.cells());
+    let (low, high) = weighted_sums(unit, others, x);
     let one = units_of_one(B);
     Iv {
         lo: low / one,

@@ -13,7 +13,7 @@ use Rattle.dl_plan.specs.Severity.{probability_of}
 use Rattle.dl_plan.specs.Cession.{Clause, kept}
 use Rattle.dl_plan.specs.Horizon.{IsHorizonOf}
 use Rattle.dl_plan.specs.Valid.{IsAggregate, IsValidUnit}
-use Rattle.dl_plan.proofs.Fits.{whole_num, whole_den}
+use Rattle.dl_exact.proofs.Parts.{whole_num, whole_den}
 use Rattle.dl_plan.proofs.Horizons.{horizon_one, horizon_settled}
 use Rattle.dl_model.specs.Series.{Holds}
 use Rattle.dl_model.specs.Program.{Aggregate, IsUnit, outcome}

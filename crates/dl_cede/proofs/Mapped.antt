@@ -22,7 +22,7 @@ use Rattle.dl_plan.proofs.Cessions.{kept_is, bucket_pos}
 use Rattle.dl_plan.proofs.Apart.{kept_rises}
 use Rattle.dl_model.specs.Series.{Series, IsBound, Holds}
 use Rattle.dl_model.specs.Compound.{cell}
-use Rattle.dl_model.specs.Ways.{count_below}
+use Rattle.dl_exact.specs.Count.{count_below}
 use Rattle.dl_model.specs.Program.{Aggregate, IsUnit, where_true, outcome}
 use Rattle.dl_model.specs.Family.{compound, Encloses}
 use Rattle.dl_model.specs.Plans.{clause_of}

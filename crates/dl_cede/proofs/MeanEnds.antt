@@ -10,7 +10,7 @@ use Rattle.dl_exact.proofs.Over.{over_self}
 use Rattle.dl_exact.proofs.Laws.{times_comm}
 use Rattle.dl_iv.specs.declared.interval.Iv.{Iv}
 use Rattle.dl_iv.specs.Enclosure.{LiesIn}
-use Rattle.dl_iv.proofs.FractionLaws.{over_plus, over_minus, over_zero}
+use Rattle.dl_exact.proofs.Denominators.{over_split as over_plus, over_minus, over_zero}
 use Rattle.dl_iv.proofs.Enclosures.{lies_between}
 use Rattle.dl_grid.specs.Cells.{low_at, high_at}
 use Rattle.dl_plan.specs.declared.cede.CedeLayer.{CedeLayer}

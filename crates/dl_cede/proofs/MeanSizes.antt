@@ -12,9 +12,8 @@ use Rattle.std.proofs.lemmas.Nat.Gcd.{le_of_dvd}
 use Prim.Native.Nat.{◌∣◌}
 use Rattle.dl_exact.specs.Fraction.{Fraction, whole, ◌over◌, ◌-ℚ◌, ◌*ℚ◌, ◌≤ℚ◌}
 use Rattle.dl_exact.proofs.Over.{over_le, le_over, over_mul}
-use Rattle.dl_exact.proofs.Laws.{one_pos, le_refl, le_trans, plus_zero, times_comm, times_assoc, one_times, times_le_times, zero_le, sub_plus, whole_times}
+use Rattle.dl_exact.proofs.Laws.{one_pos, le_refl, le_trans, plus_zero, times_comm, times_assoc, one_times, times_le_times, zero_le, sub_plus, whole_times, sub_le_both}
 use Rattle.dl_exact.proofs.RoundingLaws.{div_ceil_least, whole_le}
-use Rattle.dl_iv.proofs.FractionLaws.{sub_le_both}
 use Rattle.dl_grid.proofs.CellLaws.{one_fits}
 use Rattle.dl_plan.specs.declared.cede.CedeLayer.{CedeLayer}
 use Rattle.dl_plan.specs.declared.item.Item.{Item}
@@ -32,8 +31,9 @@ use Rattle.dl_plan.proofs.Common.{den_divides, common_pos}
 use Rattle.dl_plan.proofs.Means.{total_pos, positive_share}
 use Rattle.dl_plan.proofs.Shares.{mean-shares}
 use Rattle.dl_plan.proofs.Apart.{first_apart, rest_apart}
-use Rattle.dl_measures.specs.Layers.{layer_width, layer_most}
-use Rattle.dl_cede.specs.Means.{part_width}
+use Rattle.dl_grid.specs.Width.{layer_width}
+use Rattle.dl_measures.specs.Layers.{layer_most}
+use Rattle.dl_plan.specs.MeanWidth.{part_width}
 
 -- the mean of a unit's claims
 abbrev pub declared_mean : UnitOfPlan → Fraction

@@ -5,16 +5,15 @@ use Rattle.dl_iv.specs.declared.interval.Iv.{Iv}
 use Rattle.dl_grid.specs.Cells.{low_at, high_at, mass_low, spread}
 use Rattle.dl_grid.proofs.PlaceSums.{high_is, width_within}
 use Rattle.dl_plan.specs.Cession.{Clause}
-use Rattle.dl_model.specs.Ways.{count_below}
-use Rattle.dl_power.proofs.CellSets.{low_set, high_set, spread_set}
-use Rattle.dl_measures.proofs.Sums.{same_sum}
+use Rattle.dl_exact.specs.Count.{count_below}
+use Rattle.dl_grid.proofs.CellSets.{low_set, high_set, spread_set}
 use Rattle.dl_cede.specs.Kept.{width_at, where_whole, sum_elsewhere, IsTakenIn, IsLeft}
 use Rattle.dl_cede.proofs.Walk.{whole_le, kept_or_elsewhere, elsewhere_wide}
 
 -- the sums that are taken in are no wider than all
 whole_spread : {B : ℕ} (clause : Clause) (sums : List (Iv B)) → count_below (length sums) (where_whole clause (width_at sums)) ≤ spread sums
 whole_spread clause sums =
-    omega (arith, whole_le clause (width_at sums) (length sums), same_sum (length sums) (width_at sums), width_within (length sums) sums)
+    omega (arith, whole_le clause (width_at sums) (length sums), width_within (length sums) sums)
 
 pub all_spread : {B : ℕ} (clause : Clause) (sums grid : List (Iv B))
     → spread grid ≤ count_below (length sums) (where_whole clause (width_at sums)) → spread grid ≤ 2 * spread sums

@@ -7,12 +7,12 @@ use Rattle.dl_iv.specs.declared.interval.Iv.{Iv}
 use Rattle.dl_grid.specs.Cells.{low_at, high_at, IsGrid}
 use Rattle.dl_plan.specs.Fine.{IsWhole}
 use Rattle.dl_plan.specs.Cession.{Clause, kept}
-use Rattle.dl_plan.proofs.Fits.{whole_den}
-use Rattle.dl_model.specs.Ways.{count_below}
+use Rattle.dl_exact.proofs.Parts.{whole_den}
+use Rattle.dl_exact.specs.Count.{count_below}
 use Rattle.dl_model.specs.Plans.{clause_of}
-use Rattle.dl_model.proofs.CountLaws.{count_below_more, count_below_none}
+use Rattle.dl_exact.proofs.Counts.{below_more as count_below_more, below_nothing as count_below_none}
 use Rattle.dl_model.proofs.Multiples.{clause_whole}
-use Rattle.dl_power.proofs.CellSets.{low_set, high_set}
+use Rattle.dl_grid.proofs.CellSets.{low_set, high_set}
 use Rattle.dl_grid.proofs.CellLaws.{scale_of, one_fits}
 use Rattle.dl_measures.proofs.Sums.{high_end, high_most, low_most}
 use Rattle.dl_cede.specs.Kept.{where_whole, sum_kept, sum_elsewhere}

@@ -3,7 +3,7 @@ use Rattle.std.specs.Prelude.{ℕ, ◌≡◌, ◌-◌, ◌^◌, ◌≤◌, min, 
 use Rattle.dl_iv.specs.declared.interval.Iv.{Iv}
 use Rattle.dl_grid.specs.Cells.{low_at, high_at}
 use Rattle.dl_plan.specs.Cession.{Clause, kept}
-use Rattle.dl_model.specs.Ways.{count_below}
+use Rattle.dl_exact.specs.Count.{count_below}
 use Rattle.dl_model.specs.Plans.{clause_of}
 
 -- the width of cell s, 0 past the end

@@ -23,14 +23,3 @@ HoldsCeded {B} u layers mean =
 abbrev pub HoldsMean : {B : ℕ} → UnitOfPlan → Iv B → Type 0
 HoldsMean {B} u mean =
     Holds (partial_sums (aggregate_of u ∷ []) Mean) (partial_sums (aggregate_of u ∷ []) One) (mean.lo over 2 ^ B) (mean.hi over 2 ^ B)
-
--- what a layer adds to the width of a mean, from the spread of the grid of the sum: its limit times the spread and 3, or
--- without a limit its attachment times the spread and 4
-abbrev pub part_width : (spread : ℕ) → Option ℕ → ℕ → ℕ
-part_width spread None attach = attach * spread + 4
-part_width spread (Some limit) attach = limit * spread + 3
-
--- how wide the mean of a unit may be: 1, and what each layer of its clause adds
-abbrev pub mean_width : Option Clause → (spread : ℕ) → ℕ
-mean_width None spread = 1
-mean_width (Some clause) spread = 1 + sum_by (λ l. part_width spread l.limit l.attach) clause.1

@@ -3,7 +3,7 @@
 ghost use Rattle.std.specs.Prelude.{◌≡◌, ◌≢◌, ℕ, ◌+◌, ◌-◌, ◌*◌, ◌^◌, ◌<◌, ◌≤◌, ◌==◌, if◌then◌else◌, min, length, IfOk, IsSome, MatchOption};
 ghost use Rattle.dl_exact.specs.Fraction.{whole};
 ghost use Rattle.dl_grid.specs.Cells.{low_at, high_at, mass_low, spread};
-ghost use Rattle.dl_model.specs.Ways.{count_below};
+ghost use Rattle.dl_exact.specs.Count.{count_below};
 ghost use Rattle.dl_model.specs.Family.{mapped, GridEncloses};
 ghost use Rattle.dl_model.specs.Plans.{aggregate_of, compound_of};
 ghost use Rattle.dl_plan.specs.Cession.{kept, IsCession};
@@ -46,8 +46,6 @@ fn add_at<const B: u32>(grid: &mut Grid<B>, y: u64, more: Iv<B>)
     ensures mass { mass_low grid.new ≤ mass_low grid.old + more.entry.lo }
     ensures spread { spread grid.new ≤ spread grid.old + (more.entry.hi - more.entry.lo) }
 {
-    // every grid is well made: no cell is above 1
-    let _cells = grid.as_slice();
     if y < u64::from(grid.cells()) {
         let x = y as u32;
         let both = grid.at(x).add(more);
@@ -75,11 +73,10 @@ fn taken_in<const B: u32>(
     ensures spread { IfOk result (λ g. spread g
         ≤ count_below (length sums.now) (where_whole cede.now (width_at sums.now))) }
 {
-    let ends = sums.as_slice();
     let mut grid = nowhere(alloc, cells)?;
     for s in 0..sums.cells() {
         if let Some(y) = cede.at(u64::from(s)) {
-            add_at(&mut grid, y, ends[s as usize]);
+            add_at(&mut grid, y, sums.at(s));
         }
     }
     Ok(grid)
@@ -94,12 +91,11 @@ fn elsewhere<const B: u32>(cede: &Cede, sums: &Grid<B>, y: u32) -> Iv<B>
     ensures high { result.hi ≡ sum_elsewhere cede.now (length sums.now) (high_at sums.now) y }
     ensures within { result.lo ≤ 2 ^ B }
 {
-    let ends = sums.as_slice();
     let mut total = Iv::point(0);
     for s in 0..sums.cells() {
         if let Some(x) = cede.at(u64::from(s)) {
             if x != u64::from(y) {
-                total = total.add(ends[s as usize]);
+                total = total.add(sums.at(s));
             }
         }
     }

@@ -10,7 +10,8 @@ ghost use Rattle.dl_plan.specs.Valid.{IsNear, IsValidUnit};
 ghost use Rattle.dl_model.specs.Family.{GridEncloses};
 ghost use Rattle.dl_model.specs.Plans.{compound_of};
 ghost use Rattle.dl_measures.specs.Layers.{layer_most};
-ghost use Rattle.dl_cede.specs.Means.{HoldsClaims, HoldsCeded, HoldsMean, part_width, mean_width};
+ghost use Rattle.dl_plan.specs.MeanWidth.{part_width, mean_width};
+ghost use Rattle.dl_cede.specs.Means.{HoldsClaims, HoldsCeded, HoldsMean};
 
 use dl_grid::Grid;
 use dl_iv::Iv;

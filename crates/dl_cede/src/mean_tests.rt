@@ -46,7 +46,7 @@ fn is_held<const B: u32>(alloc: Global, case: Case) -> Result<bool, AllocError>
     let one = units_of_one(B);
     let sums = dice::<B>(alloc, 1, case.cells)?;
     let mean = kept_mean(&cede, &sums, Iv::point(7 * one));
-    let exact = u128::from(case.want) * one;
+    let exact = u128::from(case.want).wrapping_mul(one);
     Ok(mean.lo * 72 <= exact && exact <= mean.hi * 72 && mean.width() < 200)
 }
 

@@ -72,10 +72,10 @@ fn holds<const B: u32>(g: &Grid<B>, want: &[u32]) -> bool
 {
     let one = units_of_one(B);
     let mut same = true;
-    for (cell, part) in g.as_slice().iter().zip(want) {
+    for ((low, high), part) in g.lows().iter().zip(g.highs()).zip(want) {
         let exact = u128::from(*part) * one;
-        let low = cell.lo.min(one);
-        let high = cell.hi.min(one);
+        let low = (*low).min(one);
+        let high = (*high).min(one);
         same = same && low * 36 <= exact && exact <= high * 36 && high - low < 20;
     }
     same

@@ -12,7 +12,7 @@ use Rattle.dl_iv.specs.declared.interval.Iv.{Iv}
 use Rattle.dl_grid.specs.Cells.{low_at, high_at, spread, IsGrid}
 use Rattle.dl_grid.proofs.CellLaws.{scale_of, one_fits}
 use Rattle.dl_model.specs.Series.{AtLeast, AtMost, Holds, plus}
-use Rattle.dl_model.specs.Ways.{count_below}
+use Rattle.dl_exact.specs.Count.{count_below}
 use Rattle.dl_model.specs.Program.{Aggregate, One, Mean, Layer, score, partial_sums}
 use Rattle.dl_model.specs.Family.{total, GridEncloses}
 use Rattle.dl_model.specs.Measures.{AreDeclared}
@@ -21,11 +21,12 @@ use Rattle.dl_model.proofs.Minus.{at_most_minus}
 use Rattle.dl_model.proofs.Outcomes.{outcomes_rise}
 use Rattle.dl_model.proofs.Scores.{mean_split}
 use Rattle.dl_model.proofs.Ends.{layer_ends, excess_ends}
-use Rattle.dl_model.proofs.SumLaws.{over_plus}
-use Rattle.dl_model.proofs.CountLaws.{count_below_more, count_below_le}
+use Rattle.dl_exact.proofs.Denominators.{over_plus}
+use Rattle.dl_exact.proofs.Counts.{below_more, below_bound}
 use Rattle.dl_model.proofs.Bounded.{are_units, quantity_bounded}
-use Rattle.dl_model.proofs.Widths.{layer_width}
-use Rattle.dl_measures.specs.Layers.{cells_under, layer_width as layer_wide, layer_most}
+use Rattle.dl_model.proofs.Widths.{layer_width as layer_apart}
+use Rattle.dl_grid.specs.Width.{layer_width}
+use Rattle.dl_measures.specs.Layers.{cells_under, layer_most}
 use Rattle.dl_measures.proofs.Sums.{apart, low_most}
 use Rattle.dl_measures.proofs.Reached.{more}
 
@@ -45,7 +46,7 @@ with_limit {B} cells us limit attachment grid d e inside =
 
 pub limit_width : {B : ℕ} (cells : List (Iv B)) (limit attachment : ℕ) → high_units cells limit attachment - low_units cells limit attachment ≤ limit * spread cells
 limit_width {B} cells limit attachment =
-    omega (arith, layer_width (2 ^ B) limit attachment (spread cells) (low_at cells) (high_at cells) (λ i h. apart cells (suc (attachment + i))))
+    omega (arith, layer_apart (2 ^ B) limit attachment (spread cells) (low_at cells) (high_at cells) (λ i h. apart cells (suc (attachment + i))))
 
 -- what a layer below leaves of the mean of the total
 excess_low : (us : List Aggregate) (attachment S l h m n : ℕ) → 0 < S → AreDeclared us
@@ -95,18 +96,18 @@ next attachment i = omega arith
 pub low_more : {B : ℕ} (cells : List (Iv B)) (attachment i s t d : ℕ) → s ≡ low_units cells i attachment → d ≡ count_below (attachment + (i + 1)) (high_at cells)
     → t ≡ 2 ^ B - d → s + t ≡ low_units cells (i + 1) attachment
 low_more {B} cells attachment i s t d e h k =
-    omega (arith, e, h, k, ap (λ n. count_below n (high_at cells)) (next attachment i), count_below_more i (λ i. 2 ^ B - min (2 ^ B) (count_below (suc (attachment + i)) (high_at cells))))
+    omega (arith, e, h, k, ap (λ n. count_below n (high_at cells)) (next attachment i), below_more i (λ i. 2 ^ B - min (2 ^ B) (count_below (suc (attachment + i)) (high_at cells))))
 
 pub high_more : {B : ℕ} (cells : List (Iv B)) (attachment i s t d : ℕ) → s ≡ high_units cells i attachment → d ≡ count_below (attachment + (i + 1)) (low_at cells)
     → t ≡ 2 ^ B - d → s + t ≡ high_units cells (i + 1) attachment
 high_more {B} cells attachment i s t d e h k =
-    omega (arith, e, h, k, ap (λ n. count_below n (low_at cells)) (next attachment i), count_below_more i (λ i. 2 ^ B - count_below (suc (attachment + i)) (low_at cells)))
+    omega (arith, e, h, k, ap (λ n. count_below n (low_at cells)) (next attachment i), below_more i (λ i. 2 ^ B - count_below (suc (attachment + i)) (low_at cells)))
 
 pub one_cell_more : (f : ℕ → ℕ) (attachment i s t : ℕ) → s ≡ count_below (attachment + i) f → t ≡ f (attachment + i) → s + t ≡ count_below (attachment + (i + 1)) f
 one_cell_more f attachment i s t e h = more f (attachment + i) s t e h ∙ ap (λ n. count_below n f) (next attachment i)
 
 high_units_most : {B : ℕ} (cells : List (Iv B)) (limit attachment : ℕ) → high_units cells limit attachment ≤ limit * 2 ^ B
-high_units_most {B} cells limit attachment = count_below_le limit (2 ^ B) (λ i. 2 ^ B - count_below (suc (attachment + i)) (low_at cells)) (λ i h. omega arith)
+high_units_most {B} cells limit attachment = below_bound limit (2 ^ B) (λ i. 2 ^ B - count_below (suc (attachment + i)) (low_at cells)) (λ i h. omega arith)
 
 pub mean_fits : {B : ℕ} (cells : List (Iv B)) (attachment i s t d : ℕ) → IsGrid cells → i ≤ length cells → s ≡ high_units cells i attachment → t ≡ 2 ^ B - d → s + t ≤ 2 ^ 71
 mean_fits {B} cells attachment i s t d grid inside e h =
@@ -132,8 +133,8 @@ module _ {B : ℕ} (cells seen : List (Iv B)) (limit : Option ℕ) (attachment k
       (subst₂ (λ l h. Holds (partial_sums us (Layer (Some k) attachment)) (partial_sums us One) (l over 2 ^ B) (h over 2 ^ B)) (sym at_low) (sym at_high)
       (with_limit cells us k attachment grid d e (subst (λ t. cells_under t attachment ≤ length cells) is inside)))
 
-  pub some_width : (mean : ℕ) → limit ≡ Some k → hi - lo ≤ layer_wide limit attachment mean (spread cells)
-  some_width mean is = subst (λ t. hi - lo ≤ layer_wide t attachment mean (spread cells)) (sym is) (omega (arith, at_low, at_high, limit_width cells k attachment))
+  pub some_width : (mean : ℕ) → limit ≡ Some k → hi - lo ≤ layer_width limit attachment mean (spread cells)
+  some_width mean is = subst (λ t. hi - lo ≤ layer_width t attachment mean (spread cells)) (sym is) (omega (arith, at_low, at_high, limit_width cells k attachment))
 
   pub some_most : (mean : ℕ) → limit ≡ Some k → hi ≤ layer_most limit (2 ^ B) mean
   some_most mean is = subst (λ t. hi ≤ layer_most t (2 ^ B) mean) (sym is) (omega (arith, at_high, high_units_most cells k attachment))
@@ -155,6 +156,6 @@ module _ {B : ℕ} (cells seen : List (Iv B)) (limit : Option ℕ) (attachment l
       (sym (left_low ∙ ap (λ t. m - t) below_high)) (sym (left_high ∙ ap (λ t. n - t) below_low))
       (no_limit cells us attachment m n grid d e (subst (λ t. cells_under t attachment ≤ length cells) is inside) (mean is)))
 
-  pub none_width : limit ≡ None → m ≤ n → hi - lo ≤ layer_wide limit attachment (n - m) (spread cells)
+  pub none_width : limit ≡ None → m ≤ n → hi - lo ≤ layer_width limit attachment (n - m) (spread cells)
   none_width is ordered =
-      subst (λ t. hi - lo ≤ layer_wide t attachment (n - m) (spread cells)) (sym is) (omega (arith, left_low, left_high, below_low, below_high, no_limit_width cells attachment m n ordered))
+      subst (λ t. hi - lo ≤ layer_width t attachment (n - m) (spread cells)) (sym is) (omega (arith, left_low, left_high, below_low, below_high, no_limit_width cells attachment m n ordered))

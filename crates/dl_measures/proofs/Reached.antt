@@ -11,11 +11,11 @@ use Rattle.dl_exact.proofs.Laws.{le_trans}
 use Rattle.dl_iv.specs.declared.interval.Iv.{Iv}
 use Rattle.dl_grid.specs.Cells.{low_at, high_at, spread, IsGrid}
 use Rattle.dl_grid.proofs.CellLaws.{scale_of, one_fits}
-use Rattle.dl_model.specs.Ways.{count_below}
+use Rattle.dl_exact.specs.Count.{count_below}
 use Rattle.dl_model.specs.Program.{Aggregate, AreUnits, One}
 use Rattle.dl_model.specs.Family.{total, Encloses, GridEncloses}
 use Rattle.dl_model.specs.Measures.{low_cdf, high_cdf, IsQuantile, IsBracketed, IsTight, AreDeclared}
-use Rattle.dl_model.proofs.CountLaws.{count_below_none, count_below_grows}
+use Rattle.dl_exact.proofs.Counts.{below_nothing, below_grows}
 use Rattle.dl_model.proofs.Bracket.{bracket, tight, high_rises, quantile_inside}
 use Rattle.dl_model.proofs.Bounded.{are_units, quantity_bounded, whole_positive}
 use Rattle.dl_measures.specs.Brackets.{IsFirst, IsFirstFound}
@@ -95,8 +95,8 @@ pub record Walked (lo hi : ℕ → ℕ) (den goal x a low high : ℕ) : Type 0 w
 
 pub start : (lo hi : ℕ → ℕ) (den goal : ℕ) → Walked lo hi den goal 0 0 0 0
 start lo hi den goal = record {
-  low_sum = sym (count_below_none lo);
-  high_sum = sym (count_below_none hi);
+  low_sum = sym (below_nothing lo);
+  high_sum = sym (below_nothing hi);
   within = omega arith;
   before = λ y h. absurd (omega arith);
   reached = λ h. absurd (omega arith);
@@ -111,7 +111,7 @@ more f x s t e h = omega (arith, e, h)
 -- up to the next cell the low ends have not reached the goal
 still_short : (f : ℕ → ℕ) (den goal x s y : ℕ) → s ≡ count_below (suc x) f → s * den < goal → y < x + 1 → count_below (suc y) f * den < goal
 still_short f den goal x s y e h inside =
-    omega (arith, h, ap (λ t. t * den) e, mul-le-mul_right den (count_below_grows (suc y) (suc x) f (omega arith)))
+    omega (arith, h, ap (λ t. t * den) e, mul-le-mul_right den (below_grows (suc y) (suc x) f (omega arith)))
 
 module _ (lo hi : ℕ → ℕ) (den goal x a low high l h : ℕ) (w : Walked lo hi den goal x a low high) (is_low : l ≡ lo x) (is_high : h ≡ hi x) (short : (low + l) * den < goal) where
   pub passed : (high + h) * den < goal → Walked lo hi den goal (x + 1) (x + 1) (low + l) (high + h)

@@ -5,19 +5,12 @@ use Rattle.std.proofs.Math.Nat.{mul-le-mul}
 use Rattle.dl_iv.specs.declared.interval.Iv.{Iv}
 use Rattle.dl_grid.specs.Cells.{low_at, high_at, mass_low, mass_high, spread, IsGrid}
 use Rattle.dl_grid.proofs.CellLaws.{scale_of, one_fits}
-use Rattle.dl_grid.proofs.PairLaws.{count_below as summed, below_first}
+use Rattle.dl_exact.specs.Count.{count_below}
+use Rattle.dl_exact.proofs.Counts.{below_first, below_bound}
 use Rattle.dl_grid.proofs.PlaceSums.{low_sum, low_within, width_within, high_is}
-use Rattle.dl_model.specs.Ways.{count_below}
-use Rattle.dl_model.proofs.CountLaws.{count_below_le}
-
--- the two words for a sum below n are one
-pub same_sum : (n : ℕ) (f : ℕ → ℕ) → count_below n f ≡ summed n f
-unfolding count_below summed
-same_sum zero f = refl
-same_sum (suc n) f = omega (arith, same_sum n f)
 
 pub low_mass : {B : ℕ} (n : ℕ) (cells : List (Iv B)) → count_below n (low_at cells) ≡ mass_low (take n cells)
-low_mass n cells = same_sum n (low_at cells) ∙ low_sum n cells
+low_mass n cells = low_sum n cells
 
 -- where there are no cells, the high ends are 0
 none_high : {B : ℕ} (n : ℕ) (cells : List (Iv B)) → cells ≡ [] → count_below n (high_at cells) ≡ 0
@@ -31,12 +24,12 @@ unfolding high_at count_below
 high_mass zero cells = refl
 high_mass {B} (suc n) [] = none_high {B = B} (suc n) [] refl
 high_mass {B} (suc n) (c ∷ cs) =
-    omega (arith, same_sum (suc n) (high_at (c ∷ cs)), same_sum n (high_at cs), below_first n (high_at (c ∷ cs)), high_mass n cs, sum_by-cons (λ (cell : Iv B). cell.hi) c (take n cs))
+    omega (arith, below_first n (high_at (c ∷ cs)), high_mass n cs, sum_by-cons (λ (cell : Iv B). cell.hi) c (take n cs))
 
 -- ---- how large they are
 
 pub low_most : {B : ℕ} (cells : List (Iv B)) (n : ℕ) → IsGrid cells → count_below n (low_at cells) ≤ 2 ^ B
-low_most cells n grid = omega (arith, same_sum n (low_at cells), low_within n cells, grid.mass)
+low_most cells n grid = omega (arith, low_within n cells, grid.mass)
 
 pub high_end : {B : ℕ} (cells : List (Iv B)) (x : ℕ) → IsGrid cells → high_at cells x ≤ 2 ^ B
 unfolding high_at
@@ -49,7 +42,7 @@ high_end cells x grid = ends cells x grid.small
 
 pub high_most : {B : ℕ} (cells : List (Iv B)) (n : ℕ) → IsGrid cells → n ≤ length cells → count_below n (high_at cells) ≤ 2 ^ 70
 high_most {B} cells n grid inside =
-    let sum : count_below n (high_at cells) ≤ n * 2 ^ B = count_below_le n (2 ^ B) (high_at cells) (λ i h. high_end cells i grid) in
+    let sum : count_below n (high_at cells) ≤ n * 2 ^ B = below_bound n (2 ^ B) (high_at cells) (λ i h. high_end cells i grid) in
     let few : n ≤ 16384 = omega (arith, grid.few) in
     let most : n * 2 ^ B ≤ 16384 * 2 ^ 56 = mul-le-mul few (one_fits B (scale_of cells grid.some).1) in
     omega (arith, sum, most)
@@ -63,7 +56,7 @@ low_high cells (suc n) = omega (arith, low_high cells n, high_is cells n)
 
 pub apart : {B : ℕ} (cells : List (Iv B)) (n : ℕ) → count_below n (high_at cells) ≤ count_below n (low_at cells) + spread cells
 unfolding count_below
-apart {B} cells n = omega (arith, split n, same_sum n (λ x. high_at cells x - low_at cells x), width_within n cells)
+apart {B} cells n = omega (arith, split n, width_within n cells)
   where
     split : (n : ℕ) → count_below n (high_at cells) ≡ count_below n (low_at cells) + count_below n (λ x. high_at cells x - low_at cells x)
     split zero = refl

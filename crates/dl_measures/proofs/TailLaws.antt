@@ -8,7 +8,7 @@ use Rattle.std.proofs.lemmas.List.{take_all}
 use Rattle.std.proofs.lemmas.Bool.{cases_lt}
 use Rattle.dl_exact.specs.Fraction.{Fraction, whole, ◌over◌, ◌+ℚ◌, ◌-ℚ◌, ◌*ℚ◌, ◌/ℚ◌, ◌≤ℚ◌, ◌<ℚ◌}
 use Rattle.dl_exact.proofs.Over.{over_self, over_same, over_le, over_lt, lt_over, over_add, over_mul, over_div}
-use Rattle.dl_exact.proofs.Laws.{one_pos, le_refl, le_trans, le_plus, lt_not_le, lt_of_le_of_lt}
+use Rattle.dl_exact.proofs.Laws.{one_pos, le_refl, le_trans, le_plus, lt_not_le, lt_of_le_of_lt, times_le_both}
 use Rattle.dl_exact.proofs.RoundingLaws.{div_ceil_least, whole_le}
 use Rattle.dl_iv.specs.declared.interval.Iv.{Iv}
 use Rattle.dl_iv.proofs.Rounding.{ceiling_reaches}
@@ -16,15 +16,15 @@ use Rattle.dl_grid.specs.Cells.{low_at, high_at, spread, IsGrid}
 use Rattle.dl_grid.proofs.WidthLaws.{up_quotient}
 use Rattle.dl_grid.proofs.CellLaws.{scale_of, one_fits, sum_fits, width_within}
 use Rattle.dl_model.specs.Series.{IsBound, AtMost, AtLeast, Holds}
-use Rattle.dl_model.specs.Ways.{count_below}
+use Rattle.dl_exact.specs.Count.{count_below}
 use Rattle.dl_model.specs.Program.{Aggregate, One, Cdf, Layer, Tail, partial_sums}
 use Rattle.dl_model.specs.Measures.{low_cdf, high_cdf, IsQuantile, IsTight, AreDeclared}
-use Rattle.dl_model.proofs.Declared.{at_most_wider, times_le_both}
+use Rattle.dl_model.proofs.Declared.{at_most_wider}
 use Rattle.dl_model.proofs.TailScores.{tail_excess}
 use Rattle.dl_model.proofs.TailEnds.{tail_least, tail_most}
 use Rattle.dl_model.proofs.Bounded.{are_units, quantity_bounded}
 use Rattle.dl_measures.specs.Brackets.{IsFirst, IsFirstFound}
-use Rattle.dl_measures.specs.Tails.{tail_width}
+use Rattle.dl_grid.specs.Width.{tail_width}
 use Rattle.dl_measures.proofs.Sums.{low_high, low_most}
 
 -- ---- what p leaves of 1

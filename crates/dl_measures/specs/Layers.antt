@@ -6,11 +6,6 @@ abbrev pub cells_under : Option ℕ → ℕ → ℕ
 cells_under None attachment = attachment
 cells_under (Some limit) attachment = attachment + limit
 
--- how wide the mean of a layer may be, from the width of the mean of the total and from the spread of its grid
-abbrev pub layer_width : (limit : Option ℕ) (attachment mean spread : ℕ) → ℕ
-layer_width None attachment mean spread = mean + attachment * spread
-layer_width (Some limit) attachment mean spread = limit * spread
-
 -- how large the mean of a layer may be, with `one` units in 1: at most its limit, or at most the mean of the total
 abbrev pub layer_most : (limit : Option ℕ) (one mean : ℕ) → ℕ
 layer_most None one mean = mean

@@ -1,3 +1,2 @@
 pub mod Brackets
 pub mod Layers
-pub mod Tails

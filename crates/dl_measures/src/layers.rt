@@ -2,29 +2,44 @@
 
 ghost use Rattle.std.specs.Prelude.{◌≡◌, ℕ, ◌+◌, ◌-◌, ◌^◌, ◌≤◌, min, suc, List, length, None};
 ghost use Rattle.dl_exact.specs.Fraction.{◌over◌};
-ghost use Rattle.dl_grid.specs.Cells.{low_at, high_at, spread, IsGrid};
+ghost use Rattle.dl_grid.specs.Cells.{low_at, high_at, spread};
 ghost use Rattle.dl_model.specs.Series.{Holds};
-ghost use Rattle.dl_model.specs.Ways.{count_below};
+ghost use Rattle.dl_exact.specs.Count.{count_below};
 ghost use Rattle.dl_model.specs.Program.{Aggregate, One, Mean, Layer, partial_sums};
 ghost use Rattle.dl_model.specs.Family.{total, GridEncloses};
 ghost use Rattle.dl_model.specs.Measures.{AreDeclared};
-ghost use Rattle.dl_measures.specs.Layers.{cells_under, layer_width, layer_most};
+ghost use Rattle.dl_grid.specs.Width.{layer_width};
+ghost use Rattle.dl_measures.specs.Layers.{cells_under, layer_most};
 
 use dl_grid::Grid;
 use dl_iv::Iv;
 
+/// The sum of the first `cells` cells.
+fn sum_below<const B: u32>(g: &Grid<B>, cells: u32) -> Iv<B>
+    requires inside { cells ≤ length g.now }
+    ensures low { result.lo ≡ count_below cells (low_at g.now) }
+    ensures high { result.hi ≡ count_below cells (high_at g.now) }
+{
+    prove!(cells <= g.cells());
+    let mut sum = Iv::point(0);
+    for x in 0..cells {
+        sum = sum.add(g.at(x));
+    }
+    sum
+}
+
 /// The mean of the layer of `limit` above `attach`, in buckets: what the distribution leaves of 1,
 /// added up over the layer.
-fn finite_layer<const B: u32>(cells: &[Iv<B>], limit: u32, attach: u32) -> Iv<B>
-    requires grid { IsGrid cells.now }
-    requires inside { attach + limit ≤ length cells.now }
-    ensures low { result.lo ≡ count_below limit (λ i. 2 ^ B - min (2 ^ B) (count_below (suc (attach + i)) (high_at cells.now))) }
-    ensures high { result.hi ≡ count_below limit (λ i. 2 ^ B - count_below (suc (attach + i)) (low_at cells.now)) }
+fn finite_layer<const B: u32>(g: &Grid<B>, limit: u32, attach: u32) -> Iv<B>
+    requires inside { attach + limit ≤ length g.now }
+    ensures low { result.lo ≡ count_below limit (λ i. 2 ^ B - min (2 ^ B) (count_below (suc (attach + i)) (high_at g.now))) }
+    ensures high { result.hi ≡ count_below limit (λ i. 2 ^ B - count_below (suc (attach + i)) (low_at g.now)) }
 {
-    let mut distribution = Iv::sum(&cells[..attach as usize]);
+    prove!(attach <= g.cells());
+    let mut distribution = sum_below(g, attach);
     let mut mean = Iv::point(0);
     for i in 0..limit {
-        distribution = distribution.add(cells[(attach + i) as usize]);
+        distribution = distribution.add(g.at(attach + i));
         mean = mean.add(distribution.complement());
     }
     mean
@@ -42,9 +57,9 @@ pub fn layer_mean<const B: u32>(g: &Grid<B>, limit: Option<u32>, attach: u32, me
     ensures width { result.hi - result.lo ≤ layer_width limit attach (mean.entry.hi - mean.entry.lo) (spread g.now) }
     ensures most { result.hi ≤ layer_most limit (2 ^ B) mean.entry.hi }
 {
-    let cells = g.as_slice();
+    prove!(attach <= g.cells());
     match limit {
-        Some(limit) => finite_layer(cells, limit, attach),
-        None => mean.sub_floor0(finite_layer(cells, attach, 0)),
+        Some(limit) => finite_layer(g, limit, attach),
+        None => mean.sub_floor0(finite_layer(g, attach, 0)),
     }
 }

@@ -35,14 +35,14 @@ pub fn quantile<const B: u32>(g: &Grid<B>, p: Frac) -> Bracket
     ensures quantile { (us : List Aggregate) (q : ℕ) → AreDeclared us → GridEncloses g.now (total us) → IsQuantile us q p
         → (result.lo ≤ q) × ((x : ℕ) → result.hi ≡ Some x → q ≤ x) }
 {
-    let cells = g.as_slice();
+    let cells = g.cells();
     let den = u128::from(p.den());
     let goal = u128::from(p.num()) * units_of_one(B);
     let mut lo = 0;
     let mut low = 0;
     let mut high = 0;
-    for x in 0..g.cells() {
-        let cell = &cells[x as usize];
+    for x in 0..cells {
+        let cell = g.at(x);
         low += cell.lo;
         high += cell.hi;
         if low * den >= goal {

@@ -9,7 +9,7 @@ ghost use Rattle.dl_model.specs.Program.{Aggregate, One, Mean, Tail, partial_sum
 ghost use Rattle.dl_model.specs.Family.{total, GridEncloses};
 ghost use Rattle.dl_model.specs.Measures.{low_cdf, IsQuantile, AreDeclared};
 ghost use Rattle.dl_measures.specs.Brackets.{IsFirstFound};
-ghost use Rattle.dl_measures.specs.Tails.{tail_width};
+ghost use Rattle.dl_grid.specs.Width.{tail_width};
 
 use crate::layers::layer_mean;
 use crate::quantiles::quantile;
@@ -48,9 +48,8 @@ pub fn tail_mean<const B: u32>(g: &Grid<B>, p: Frac, mean: Iv<B>) -> Option<Iv<B
     ensures width { IfSome result (λ r. r.hi - r.lo ≤ tail_width p (mean.entry.hi - mean.entry.lo) (length g.now) (spread g.now)) }
     ensures most { IfSome result (λ r. r.hi ≤ length g.now * 2 ^ B + mean.entry.hi * p.den) }
 {
-    // a grid has a scale at which there are intervals, and not too many cells
-    let _cells = g.as_slice();
     let bracket = quantile(g, p);
+    prove!(bracket.lo <= g.cells());
     let hi = bracket.hi?;
     let excess = layer_mean(g, None, bracket.lo, mean);
     // the quantile may lie above the low end of its bracket, up to `hi`

@@ -8,30 +8,28 @@ use Rattle.dl_alloc.proofs.Shares.{low_share}
 use Rattle.dl_alloc.proofs.joint.joint_mean.Goals as goal
 
 pub units_of_one-one-requires : goal.units_of_one-one-requires
-units_of_one-one-requires g c = (scale_of c.args.unit.now c.as_slice-own.ensures.grid.some).1
+units_of_one-one-requires g c = (scale_of c.args.unit.now c.cells.ensures.grid.some).1
 
 pub invariant_of-result-clause-ordered : goal.invariant_of-result-clause-ordered
 invariant_of-result-clause-ordered g c =
     rw (c.div_ceil.ensures, c.weighted_sums-low.ensures.low, c.weighted_sums-low.ensures.high, c.units_of_one-one.ensures)
-    (ends_order c.as_slice-own.result.now c.as_slice-rest.result.now c.args.x)
+    (ends_order c.args.unit.now c.args.others.now c.args.x)
 
 pub invariant_of-result-clause-in_range : goal.invariant_of-result-clause-in_range
 invariant_of-result-clause-in_range g c =
     rw (
       c.div_ceil.ensures,
       c.weighted_sums-low.ensures.high,
-      c.as_slice-own.ensures.cells,
-      c.as_slice-rest.ensures.cells,
       c.units_of_one-one.ensures,
     )
-    (end_fits c.args.unit.now c.args.others.now c.args.x c.as_slice-own.ensures.grid c.as_slice-rest.ensures.grid
+    (end_fits c.args.unit.now c.args.others.now c.args.x c.cells.ensures.grid c.cells-2.ensures.grid
     c.requires.in_unit c.requires.unit_narrow c.requires.others_narrow)
 
 pub invariant_of-result-clause-scale_above : goal.invariant_of-result-clause-scale_above
-invariant_of-result-clause-scale_above g c = (scale_of c.args.unit.now c.as_slice-own.ensures.grid.some).0
+invariant_of-result-clause-scale_above g c = (scale_of c.args.unit.now c.cells.ensures.grid.some).0
 
 pub invariant_of-result-clause-scale_below : goal.invariant_of-result-clause-scale_below
-invariant_of-result-clause-scale_below g c = (scale_of c.args.unit.now c.as_slice-own.ensures.grid.some).1
+invariant_of-result-clause-scale_below g c = (scale_of c.args.unit.now c.cells.ensures.grid.some).1
 
 pub returns-clause-holds : goal.returns-clause-holds
 returns-clause-holds g c us i units here e f =
@@ -39,8 +37,6 @@ returns-clause-holds g c us i units here e f =
       c.div_ceil.ensures,
       c.weighted_sums-low.ensures.low,
       c.weighted_sums-low.ensures.high,
-      c.as_slice-own.ensures.cells,
-      c.as_slice-rest.ensures.cells,
       c.units_of_one-one.ensures,
     )
     (joint_holds c.args.unit.now c.args.others.now us i c.args.x c.requires.in_unit c.requires.in_others units here e f)
@@ -51,15 +47,13 @@ returns-clause-width g c =
       c.div_ceil.ensures,
       c.weighted_sums-low.ensures.low,
       c.weighted_sums-low.ensures.high,
-      c.as_slice-own.ensures.cells,
-      c.as_slice-rest.ensures.cells,
       c.units_of_one-one.ensures,
     )
-    (joint_width c.args.unit.now c.args.others.now c.args.x c.as_slice-own.ensures.grid c.as_slice-rest.ensures.grid c.requires.in_unit)
+    (joint_width c.args.unit.now c.args.others.now c.args.x c.cells.ensures.grid c.cells-2.ensures.grid c.requires.in_unit)
 
 pub returns-clause-below : goal.returns-clause-below
 returns-clause-below g c us i h declared here e f at =
-    rw (c.weighted_sums-low.ensures.low, c.as_slice-own.ensures.cells, c.as_slice-rest.ensures.cells, c.units_of_one-one.ensures)
+    rw (c.weighted_sums-low.ensures.low, c.units_of_one-one.ensures)
     (low_share us i c.args.x (low_weighted c.args.unit.now c.args.others.now c.args.x / 2 ^ g.row.B) h (2 ^ g.row.B)
     declared (pow_pos g.row.B)
     (joint_holds c.args.unit.now c.args.others.now us i c.args.x c.requires.in_unit c.requires.in_others
@@ -70,23 +64,19 @@ returns-clause-small g c =
     rw (
       c.div_ceil.ensures,
       c.weighted_sums-low.ensures.high,
-      c.as_slice-own.ensures.cells,
-      c.as_slice-rest.ensures.cells,
       c.units_of_one-one.ensures,
     )
-    (end_top c.args.unit.now c.args.others.now c.args.x c.as_slice-own.ensures.grid c.as_slice-rest.ensures.grid
+    (end_top c.args.unit.now c.args.others.now c.args.x c.cells.ensures.grid c.cells-2.ensures.grid
     c.requires.unit_narrow c.requires.others_narrow)
 
 pub returns-clause-divisible : goal.returns-clause-divisible
 returns-clause-divisible g c few =
-    end_divisible c.args.unit.now c.args.x _ c.as_slice-own.ensures.grid
+    end_divisible c.args.unit.now c.args.x _ c.cells.ensures.grid
     (rw (
       c.div_ceil.ensures,
       c.weighted_sums-low.ensures.high,
-      c.as_slice-own.ensures.cells,
-      c.as_slice-rest.ensures.cells,
       c.units_of_one-one.ensures,
     )
-    (end_top c.args.unit.now c.args.others.now c.args.x c.as_slice-own.ensures.grid c.as_slice-rest.ensures.grid
+    (end_top c.args.unit.now c.args.others.now c.args.x c.cells.ensures.grid c.cells-2.ensures.grid
     c.requires.unit_narrow c.requires.others_narrow))
     few

@@ -1,6 +1,6 @@
 use Rattle.std.proofs.Common.{arith, sym}
 use Rattle.dl_grid.specs.Cells.{low_at, high_at}
-use Rattle.dl_grid.proofs.PairLaws.{below_nothing}
+use Rattle.dl_exact.proofs.Counts.{below_nothing}
 use Rattle.dl_alloc.proofs.WeightedSums.{all_places}
 use Rattle.dl_alloc.proofs.WeightedEnds.{low_step, high_step}
 use Rattle.dl_alloc.proofs.joint.weighted_sums.Goals as goal
@@ -12,8 +12,8 @@ pub overflow_mul-low-in-loop-y : goal.overflow_mul-low-in-loop-y
 overflow_mul-low-in-loop-y g c =
     omega (
       arith,
-      (low_step c.args.unit.now c.args.others.now c.args.x c.loop-y.y c.loop-y.low c.index-unit-y.result c.index-others-x.result
-          c.requires.unit c.requires.others c.requires.in_unit c.requires.in_others (omega arith) c.index-unit-y.is c.index-others-x.is
+      (low_step c.args.unit.now c.args.others.now c.args.x c.loop-y.y c.loop-y.low c.at-own.result c.at-other.result
+          c.requires.unit c.requires.others c.requires.in_unit c.requires.in_others (omega arith) c.at-own.ensures.low c.at-own.ensures.high c.at-other.ensures.low c.at-other.ensures.high
           c.loop-y.invariant.low).1,
     )
 
@@ -21,8 +21,8 @@ pub overflow_add-low : goal.overflow_add-low
 overflow_add-low g c =
     omega (
       arith,
-      (low_step c.args.unit.now c.args.others.now c.args.x c.loop-y.y c.loop-y.low c.index-unit-y.result c.index-others-x.result
-          c.requires.unit c.requires.others c.requires.in_unit c.requires.in_others (omega arith) c.index-unit-y.is c.index-others-x.is
+      (low_step c.args.unit.now c.args.others.now c.args.x c.loop-y.y c.loop-y.low c.at-own.result c.at-other.result
+          c.requires.unit c.requires.others c.requires.in_unit c.requires.in_others (omega arith) c.at-own.ensures.low c.at-own.ensures.high c.at-other.ensures.low c.at-other.ensures.high
           c.loop-y.invariant.low).1,
     )
 
@@ -30,8 +30,8 @@ pub overflow_mul-high-in-loop-y : goal.overflow_mul-high-in-loop-y
 overflow_mul-high-in-loop-y g c =
     omega (
       arith,
-      (high_step c.args.unit.now c.args.others.now c.args.x c.loop-y.y c.loop-y.high c.index-unit-y.result c.index-others-x.result
-          c.requires.unit c.requires.others c.requires.in_unit c.requires.in_others (omega arith) c.index-unit-y.is c.index-others-x.is
+      (high_step c.args.unit.now c.args.others.now c.args.x c.loop-y.y c.loop-y.high c.at-own.result c.at-other.result
+          c.requires.unit c.requires.others c.requires.in_unit c.requires.in_others (omega arith) c.at-own.ensures.low c.at-own.ensures.high c.at-other.ensures.low c.at-other.ensures.high
           c.requires.unit_narrow c.requires.others_narrow c.loop-y.invariant.high).1,
     )
 
@@ -39,18 +39,18 @@ pub overflow_add-high : goal.overflow_add-high
 overflow_add-high g c =
     omega (
       arith,
-      (high_step c.args.unit.now c.args.others.now c.args.x c.loop-y.y c.loop-y.high c.index-unit-y.result c.index-others-x.result
-          c.requires.unit c.requires.others c.requires.in_unit c.requires.in_others (omega arith) c.index-unit-y.is c.index-others-x.is
+      (high_step c.args.unit.now c.args.others.now c.args.x c.loop-y.y c.loop-y.high c.at-own.result c.at-other.result
+          c.requires.unit c.requires.others c.requires.in_unit c.requires.in_others (omega arith) c.at-own.ensures.low c.at-own.ensures.high c.at-other.ensures.low c.at-other.ensures.high
           c.requires.unit_narrow c.requires.others_narrow c.loop-y.invariant.high).1,
     )
 
 pub loop-y-preserved : goal.loop-y-preserved
 loop-y-preserved g c = record {
-  low = (low_step c.args.unit.now c.args.others.now c.args.x c.loop-y.y c.loop-y.low c.index-unit-y.result c.index-others-x.result
-      c.requires.unit c.requires.others c.requires.in_unit c.requires.in_others (omega arith) c.index-unit-y.is c.index-others-x.is
+  low = (low_step c.args.unit.now c.args.others.now c.args.x c.loop-y.y c.loop-y.low c.at-own.result c.at-other.result
+      c.requires.unit c.requires.others c.requires.in_unit c.requires.in_others (omega arith) c.at-own.ensures.low c.at-own.ensures.high c.at-other.ensures.low c.at-other.ensures.high
       c.loop-y.invariant.low).0;
-  high = (high_step c.args.unit.now c.args.others.now c.args.x c.loop-y.y c.loop-y.high c.index-unit-y.result c.index-others-x.result
-      c.requires.unit c.requires.others c.requires.in_unit c.requires.in_others (omega arith) c.index-unit-y.is c.index-others-x.is
+  high = (high_step c.args.unit.now c.args.others.now c.args.x c.loop-y.y c.loop-y.high c.at-own.result c.at-other.result
+      c.requires.unit c.requires.others c.requires.in_unit c.requires.in_others (omega arith) c.at-own.ensures.low c.at-own.ensures.high c.at-other.ensures.low c.at-other.ensures.high
       c.requires.unit_narrow c.requires.others_narrow c.loop-y.invariant.high).0;
 }
 

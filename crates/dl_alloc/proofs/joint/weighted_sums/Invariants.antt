@@ -1,6 +1,6 @@
 use Rattle.std.proofs.Common.{◌≡◌, ◌-◌, ◌*◌}
 use Rattle.dl_grid.specs.Cells.{low_at, high_at}
-use Rattle.dl_grid.proofs.PairLaws.{count_below}
+use Rattle.dl_exact.specs.Count.{count_below}
 use Rattle.dl_alloc.proofs.joint.weighted_sums.Given as goal
 
 abbrev pub invariant-loop-y : goal.invariant-loop-y

@@ -1,6 +1,6 @@
 use Rattle.std.proofs.Common.{◌^◌, arith}
 use Rattle.dl_grid.specs.Cells.{low_at, high_at}
-use Rattle.dl_power.proofs.CellSets.{low_in_mass, mass_set, spread_set}
+use Rattle.dl_grid.proofs.CellSets.{low_in_mass, mass_set, spread_set}
 use Rattle.dl_measures.proofs.Sums.{high_end}
 use Rattle.dl_cede.proofs.Walk.{low_more, high_more, not_here}
 use Rattle.dl_cede.proofs.grid.add_at.Goals as goal
@@ -13,7 +13,7 @@ returns-then-y-from-clause-low g c x inside =
 pub returns-then-y-from-clause-high : goal.returns-then-y-from-clause-high
 returns-then-y-from-clause-high g c x inside =
     rw c.set.ensures (high_more c.args.grid.now c.args.y x c.clamp_to.result c.args.more.hi (2 ^ g.row.B) (omega arith) (omega arith)
-    (high_end c.args.grid.now x c.as_slice-cells.ensures.grid))
+    (high_end c.args.grid.now x c.cells.ensures.grid))
 
 pub returns-then-y-from-clause-mass : goal.returns-then-y-from-clause-mass
 returns-then-y-from-clause-mass g c = rw c.set.ensures (omega (arith, mass_set c.args.grid.now c.args.y c.clamp_to.result (omega arith)))
@@ -28,5 +28,5 @@ returns-else-y-from-clause-low g c x inside = not_here c.args.y x (low_at c.args
 
 pub returns-else-y-from-clause-high : goal.returns-else-y-from-clause-high
 returns-else-y-from-clause-high g c x inside =
-    let small = high_end c.args.grid.now x c.as_slice-cells.ensures.grid in
+    let small = high_end c.args.grid.now x c.cells.ensures.grid in
     omega (arith, small, not_here c.args.y x (high_at c.args.grid.now x) c.args.more.hi (omega arith))

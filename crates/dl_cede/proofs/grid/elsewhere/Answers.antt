@@ -4,7 +4,7 @@ use Rattle.dl_plan.specs.Cession.{kept}
 use Rattle.dl_plan.specs.Fine.{IsWhole}
 use Rattle.dl_grid.specs.Cells.{low_at, high_at}
 use Rattle.dl_grid.proofs.CellLaws.{low_at_read, high_at_read}
-use Rattle.dl_model.proofs.CountLaws.{count_below_none}
+use Rattle.dl_exact.proofs.Counts.{below_nothing as count_below_none}
 use Rattle.dl_cede.specs.Kept.{sum_elsewhere}
 use Rattle.dl_cede.proofs.Walk.{elsewhere_other, elsewhere_same, elsewhere_not, elsewhere_fits, elsewhere_mass}
 use Rattle.dl_cede.proofs.grid.elsewhere.Goals as goal
@@ -19,13 +19,12 @@ loop-s-init g c =
 
 pub add-total-requires : goal.add-total-requires
 add-total-requires g c =
-    let is = rw c.as_slice-ends.ensures.cells at c.index-ends-s.is in
     let inside : c.loop-s.s < length c.args.sums.now = omega arith in
     omega (
       arith,
-      elsewhere_fits c.args.cede.now c.args.sums.now c.loop-s.s c.args.y c.loop-s.total.hi c.index-ends-s.result.hi
-          c.as_slice-ends.ensures.grid inside
-          c.loop-s.invariant.high (high_at_read c.args.sums.now c.loop-s.s c.index-ends-s.result inside is),
+      elsewhere_fits c.args.cede.now c.args.sums.now c.loop-s.s c.args.y c.loop-s.total.hi c.at-then-x-from.result.hi
+          c.cells-s-end.ensures.grid inside
+          c.loop-s.invariant.high c.at-then-x-from.ensures.high,
     )
 
 pub loop-s-preserved : goal.loop-s-preserved
@@ -34,17 +33,16 @@ loop-s-preserved g c =
       | in-Some+then-x-from w ↦
           let here : kept c.args.cede.now c.loop-s.s ≡ whole w.in-Some.x = ap (kept c.args.cede.now) (sym c.from.ensures)
           ∙ w.in-Some.ensures.value in
-          let is = rw c.as_slice-ends.ensures.cells at w.index-ends-s.is in
           let inside : c.loop-s.s < length c.args.sums.now = omega arith in
           let other : w.in-Some.x ≢ c.args.y = λ e. w.if-x-from.true (e ∙ sym w.from-in-Some.ensures) in
           rw w.total-is record {
             low = w.add-total.ensures.low ∙ elsewhere_other c.args.cede.now (low_at c.args.sums.now) c.loop-s.s w.in-Some.x c.args.y _ _
                 here other c.loop-s.invariant.low
-                (low_at_read c.args.sums.now c.loop-s.s w.index-ends-s.result inside is);
+                w.at-then-x-from.ensures.low;
             high = w.add-total.ensures.high
                 ∙ elsewhere_other c.args.cede.now (high_at c.args.sums.now) c.loop-s.s w.in-Some.x c.args.y _ _ here other
                 c.loop-s.invariant.high
-                (high_at_read c.args.sums.now c.loop-s.s w.index-ends-s.result inside is);
+                w.at-then-x-from.ensures.high;
           }
       | in-Some+else-x-from w ↦
           let here : kept c.args.cede.now c.loop-s.s ≡ whole w.in-Some.x = ap (kept c.args.cede.now) (sym c.from.ensures)
@@ -75,6 +73,6 @@ returns g c =
         arith,
         c.loop-s.invariant.low,
         elsewhere_mass c.args.cede.now c.args.sums.now c.loop-s.s c.args.y
-            c.as_slice-ends.ensures.grid,
+            c.cells-s-end.ensures.grid,
       );
     }

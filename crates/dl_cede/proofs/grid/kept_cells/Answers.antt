@@ -29,7 +29,7 @@ set-requires g c =
 pub returns-clause-inside : goal.returns-clause-inside
 returns-clause-inside g c y within other = elim c.match-kept_past.branch [
   | in-Some w ↦
-      let here : kept c.args.cede.now (length c.args.sums.now) ≡ whole w.in-Some.y = ap (kept c.args.cede.now) (sym c.cells.ensures)
+      let here : kept c.args.cede.now (length c.args.sums.now) ≡ whole w.in-Some.y = ap (kept c.args.cede.now) (sym c.cells.ensures.count)
       ∙ w.in-Some.ensures.1 in
       let at : w.in-Some.y < length c.in_ok-grid.grid = omega (arith, w.in-Some.ensures.0, c.in_ok-grid.ensures.cells) in
       rw (w.grid-is, w.set.ensures) (others_taken c.args.cede.now c.args.sums.now c.in_ok-grid.grid w.in-Some.y at
@@ -41,7 +41,7 @@ returns-clause-inside g c y within other = elim c.match-kept_past.branch [
 pub returns-clause-past : goal.returns-clause-past
 returns-clause-past g c y within here = elim c.match-kept_past.branch [
   | in-Some w ↦
-      let there : kept c.args.cede.now (length c.args.sums.now) ≡ whole w.in-Some.y = ap (kept c.args.cede.now) (sym c.cells.ensures)
+      let there : kept c.args.cede.now (length c.args.sums.now) ≡ whole w.in-Some.y = ap (kept c.args.cede.now) (sym c.cells.ensures.count)
       ∙ w.in-Some.ensures.1 in
       let at : w.in-Some.y < length c.in_ok-grid.grid = omega (arith, w.in-Some.ensures.0, c.in_ok-grid.ensures.cells) in
       rw (w.grid-is, w.set.ensures) (rest_left c.args.cede.now c.args.sums.now c.in_ok-grid.grid w.in-Some.y at
@@ -49,7 +49,7 @@ returns-clause-past g c y within here = elim c.match-kept_past.branch [
       w.complement.result (omega (arith, w.complement.ensures.low, w.elsewhere.ensures.high))
       (omega (arith, w.complement.ensures.high, w.elsewhere.ensures.low))
       (omega (arith, w.elsewhere.ensures.within, w.elsewhere.ensures.low)) y (same_whole w.in-Some.y y (sym there ∙ here)))
-  | in_default w ↦ absurd (w.in_default.ensures y within (ap (kept c.args.cede.now) c.cells.ensures ∙ here))
+  | in_default w ↦ absurd (w.in_default.ensures y within (ap (kept c.args.cede.now) c.cells.ensures.count ∙ here))
 ]
 
 pub returns-clause-spread : goal.returns-clause-spread

@@ -1,7 +1,7 @@
 use Rattle.std.proofs.Common.{◌≡◌, arith, sym, ap, ◌∙◌}
 use Rattle.dl_exact.specs.Fraction.{Fraction}
 use Rattle.dl_plan.specs.Cession.{kept}
-use Rattle.dl_plan.proofs.Fits.{whole_den}
+use Rattle.dl_exact.proofs.Parts.{whole_den}
 use Rattle.dl_cede.proofs.Ceded.{same_whole}
 use Rattle.dl_cede.proofs.grid.kept_past.Goals as goal
 

@@ -4,7 +4,7 @@ use Rattle.dl_plan.specs.Cession.{kept}
 use Rattle.dl_plan.specs.Fine.{IsWhole}
 use Rattle.dl_grid.specs.Cells.{low_at, high_at}
 use Rattle.dl_grid.proofs.CellLaws.{low_at_read, high_at_read}
-use Rattle.dl_model.proofs.CountLaws.{count_below_none}
+use Rattle.dl_exact.proofs.Counts.{below_nothing as count_below_none}
 use Rattle.dl_cede.specs.Kept.{width_at, sum_kept}
 use Rattle.dl_cede.proofs.Walk.{kept_fits, kept_more, kept_more_clamped, from_none, whole_here, kept_not, whole_not}
 use Rattle.dl_measures.proofs.Sums.{high_end}
@@ -22,7 +22,6 @@ loop-s-init g c = record {
 
 pub add_at-requires : goal.add_at-requires
 add_at-requires g c =
-    let is = rw c.as_slice-ends.ensures.cells at c.index-ends-s.is in
     let inside : c.loop-s.s < length c.args.sums.now = omega arith in (
       omega arith,
       (
@@ -30,13 +29,13 @@ add_at-requires g c =
         (
           omega (
             arith,
-            high_at_read c.args.sums.now c.loop-s.s c.index-ends-s.result inside is,
+            c.at-in-Some.ensures.high,
             high_end c.args.sums.now c.loop-s.s
-                c.as_slice-ends.ensures.grid,
+                c.cells-s-end.ensures.grid,
           ),
-          kept_fits c.args.cede.now c.args.sums.now c.loop-s.s _ c.index-ends-s.result.lo c.as_slice-ends.ensures.grid
+          kept_fits c.args.cede.now c.args.sums.now c.loop-s.s _ c.at-in-Some.result.lo c.cells-s-end.ensures.grid
               c.loop-s.invariant.mass
-              (low_at_read c.args.sums.now c.loop-s.s c.index-ends-s.result inside is),
+              c.at-in-Some.ensures.low,
         ),
       ),
     )
@@ -47,17 +46,16 @@ loop-s-preserved g c =
       | in-Some w ↦
           let here : kept c.args.cede.now c.loop-s.s ≡ whole w.in-Some.y = ap (kept c.args.cede.now) (sym c.from.ensures)
           ∙ w.in-Some.ensures.value in
-          let is = rw c.as_slice-ends.ensures.cells at w.index-ends-s.is in
           let inside : c.loop-s.s < length c.args.sums.now = omega arith in
-          let low = low_at_read c.args.sums.now c.loop-s.s w.index-ends-s.result inside is in
-          let high = high_at_read c.args.sums.now c.loop-s.s w.index-ends-s.result inside is in
+          let low = w.at-in-Some.ensures.low in
+          let high = w.at-in-Some.ensures.high in
           rw w.grid-is record {
             cells = w.add_at.ensures.cells ∙ c.loop-s.invariant.cells;
-            low = λ y h. kept_more c.args.cede.now (low_at c.args.sums.now) c.loop-s.s y w.in-Some.y _ _ w.index-ends-s.result.lo here
+            low = λ y h. kept_more c.args.cede.now (low_at c.args.sums.now) c.loop-s.s y w.in-Some.y _ _ w.at-in-Some.result.lo here
                 low (c.loop-s.invariant.low y h)
                 (w.add_at.ensures.low y (omega (arith, h, c.loop-s.invariant.cells)));
             high = λ y h. kept_more_clamped c.args.cede.now (high_at c.args.sums.now) c.loop-s.s y w.in-Some.y _ _ _
-                w.index-ends-s.result.hi here high (c.loop-s.invariant.high y h)
+                w.at-in-Some.result.hi here high (c.loop-s.invariant.high y h)
                 (w.add_at.ensures.high y (omega (arith, h, c.loop-s.invariant.cells)));
             mass = omega (
               arith,

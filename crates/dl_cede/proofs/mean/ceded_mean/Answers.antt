@@ -7,7 +7,7 @@ use Rattle.dl_grid.proofs.CellLaws.{one_fits}
 use Rattle.dl_plan.specs.declared.cede.CedeLayer.{CedeLayer}
 use Rattle.dl_plan.specs.Horizon.{edge}
 use Rattle.dl_plan.specs.Valid.{IsNear}
-use Rattle.dl_cede.specs.Means.{part_width}
+use Rattle.dl_plan.specs.MeanWidth.{part_width}
 use Rattle.dl_cede.proofs.MeanSizes.{each_at, more_most, more_width, most_fits, fine_shares}
 use Rattle.dl_cede.proofs.MeanEnds.{ceded_start, ceded_next, all_taken}
 use Rattle.dl_cede.proofs.mean.ceded_mean.Goals as goal

@@ -1,19 +1,19 @@
 use Rattle.std.proofs.Common.{◌≡◌, ◌+◌, ◌*◌, ◌^◌, ◌<◌, arith, length, ◌∙◌}
 use Rattle.std.specs.Prelude.{Some, None}
 use Rattle.dl_grid.specs.Cells.{low_at, high_at}
-use Rattle.dl_grid.proofs.CellLaws.{scale_of, low_at_read, high_at_read}
+use Rattle.dl_grid.proofs.CellLaws.{scale_of}
 use Rattle.dl_measures.proofs.Reached.{start, passed, stayed, found_low, found_high, ended_low, ended_high, is_bracket, is_tight, is_around, product_fits, low_fits, high_fits, goal_fits}
 use Rattle.dl_measures.proofs.quantiles.quantile.Goals as goal
 use Rattle.dl_measures.proofs.quantiles.quantile.Goals.{then-high-den, else-high-den}
 
 pub units_of_one-requires : goal.units_of_one-requires
-units_of_one-requires g c = (scale_of c.args.g.now c.as_slice-cells.ensures.grid.some).1
+units_of_one-requires g c = (scale_of c.args.g.now c.cells-cells.ensures.grid.some).1
 
 pub overflow_mul-goal : goal.overflow_mul-goal
 overflow_mul-goal g c =
     omega (
       arith,
-      goal_fits c.args.p g.row.B c.from.result c.units_of_one.result (scale_of c.args.g.now c.as_slice-cells.ensures.grid.some).1
+      goal_fits c.args.p g.row.B c.from.result c.units_of_one.result (scale_of c.args.g.now c.cells-cells.ensures.grid.some).1
           c.requires.below_one c.requires.small (c.from.ensures ∙ c.num.ensures.part) c.units_of_one.ensures,
     )
 
@@ -22,49 +22,43 @@ loop-x-init g c = start (low_at c.args.g.now) (high_at c.args.g.now) c.from-den.
 
 pub overflow_add-low : goal.overflow_add-low
 overflow_add-low g c =
-    let is = rw c.as_slice-cells.ensures.cells at c.index-cells-x.is in
-    omega (arith, low_fits c.args.g.now c.loop-x.x c.loop-x.low c.index-cells-x.result.lo c.as_slice-cells.ensures.grid c.loop-x.invariant.low_sum (low_at_read c.args.g.now c.loop-x.x c.index-cells-x.result (omega arith) is))
+    omega (arith, low_fits c.args.g.now c.loop-x.x c.loop-x.low c.at-cell.result.lo c.cells-cells.ensures.grid c.loop-x.invariant.low_sum c.at-cell.ensures.low)
 
 pub overflow_add-high : goal.overflow_add-high
 overflow_add-high g c =
-    let is = rw c.as_slice-cells.ensures.cells at c.index-cells-x.is in
-    omega (arith, high_fits c.args.g.now c.loop-x.x c.loop-x.high c.index-cells-x.result.hi c.as_slice-cells.ensures.grid (omega arith) c.loop-x.invariant.high_sum (high_at_read c.args.g.now c.loop-x.x c.index-cells-x.result (omega arith) is))
+    omega (arith, high_fits c.args.g.now c.loop-x.x c.loop-x.high c.at-cell.result.hi c.cells-cells.ensures.grid (omega arith) c.loop-x.invariant.high_sum c.at-cell.ensures.high)
 
 pub overflow_mul-low : goal.overflow_mul-low
 overflow_mul-low g c =
-    let is = rw c.as_slice-cells.ensures.cells at c.index-cells-x.is in
-    let fits = low_fits c.args.g.now c.loop-x.x c.loop-x.low c.index-cells-x.result.lo c.as_slice-cells.ensures.grid c.loop-x.invariant.low_sum (low_at_read c.args.g.now c.loop-x.x c.index-cells-x.result (omega arith) is) in
-    omega (arith, product_fits (c.loop-x.low + c.index-cells-x.result.lo) c.from-den.result fits (omega (arith, c.from-den.ensures, c.den.ensures.part, c.requires.small)))
+    let fits = low_fits c.args.g.now c.loop-x.x c.loop-x.low c.at-cell.result.lo c.cells-cells.ensures.grid c.loop-x.invariant.low_sum c.at-cell.ensures.low in
+    omega (arith, product_fits (c.loop-x.low + c.at-cell.result.lo) c.from-den.result fits (omega (arith, c.from-den.ensures, c.den.ensures.part, c.requires.small)))
 
 pub overflow_mul-high : goal.overflow_mul-high
 overflow_mul-high g c =
-    let is = rw c.as_slice-cells.ensures.cells at c.index-cells-x.is in
-    let fits = high_fits c.args.g.now c.loop-x.x c.loop-x.high c.index-cells-x.result.hi c.as_slice-cells.ensures.grid (omega arith) c.loop-x.invariant.high_sum (high_at_read c.args.g.now c.loop-x.x c.index-cells-x.result (omega arith) is) in
-    omega (arith, product_fits (c.loop-x.high + c.index-cells-x.result.hi) c.from-den.result fits (omega (arith, c.from-den.ensures, c.den.ensures.part, c.requires.small)))
+    let fits = high_fits c.args.g.now c.loop-x.x c.loop-x.high c.at-cell.result.hi c.cells-cells.ensures.grid (omega arith) c.loop-x.invariant.high_sum c.at-cell.ensures.high in
+    omega (arith, product_fits (c.loop-x.high + c.at-cell.result.hi) c.from-den.result fits (omega (arith, c.from-den.ensures, c.den.ensures.part, c.requires.small)))
 
 pub loop-x-preserved : goal.loop-x-preserved
 loop-x-preserved g c =
-    let is = rw c.as_slice-cells.ensures.cells at c.index-cells-x.is in
-    let low = low_at_read c.args.g.now c.loop-x.x c.index-cells-x.result (omega arith) is in
-    let high = high_at_read c.args.g.now c.loop-x.x c.index-cells-x.result (omega arith) is in
+    let low = c.at-cell.ensures.low in
+    let high = c.at-cell.ensures.high in
     elim c.if-high-den.branch [
       | then-high-den w ↦ rw w.lo-is (passed (low_at c.args.g.now) (high_at c.args.g.now) c.from-den.result (c.from.result * c.units_of_one.result) c.loop-x.x c.loop-x.lo c.loop-x.low c.loop-x.high
-          c.index-cells-x.result.lo c.index-cells-x.result.hi c.loop-x.invariant low high c.if-low-den.false w.if-high-den.true)
+          c.at-cell.result.lo c.at-cell.result.hi c.loop-x.invariant low high c.if-low-den.false w.if-high-den.true)
       | else-high-den w ↦ rw w.lo-is (stayed (low_at c.args.g.now) (high_at c.args.g.now) c.from-den.result (c.from.result * c.units_of_one.result) c.loop-x.x c.loop-x.lo c.loop-x.low c.loop-x.high
-          c.index-cells-x.result.lo c.index-cells-x.result.hi c.loop-x.invariant low high c.if-low-den.false w.if-high-den.false)
+          c.at-cell.result.lo c.at-cell.result.hi c.loop-x.invariant low high c.if-low-den.false w.if-high-den.false)
     ]
 
 pub returns-then-low-den : goal.returns-then-low-den
 returns-then-low-den g c =
-    let is = rw c.as_slice-cells.ensures.cells at c.index-cells-x.is in
     let inside : c.loop-x.x < length c.args.g.now = omega arith in
-    let low = low_at_read c.args.g.now c.loop-x.x c.index-cells-x.result inside is in
+    let low = c.at-cell.ensures.low in
     let den : c.from-den.result ≡ c.args.p.den = c.from-den.ensures ∙ c.den.ensures.part in
     let parts : c.from.result * c.units_of_one.result ≡ c.args.p.num * 2 ^ g.row.B = cc in
     let lo = found_high c.args.g.now c.args.p c.from-den.result (c.from.result * c.units_of_one.result) c.loop-x.x c.loop-x.lo c.loop-x.low c.loop-x.high c.loop-x.invariant den parts c.requires.below_one
-    c.index-cells-x.result.lo inside low c.if-low-den.true in
+    c.at-cell.result.lo inside low c.if-low-den.true in
     let hi = found_low c.args.g.now c.args.p c.from-den.result (c.from.result * c.units_of_one.result) c.loop-x.x c.loop-x.lo c.loop-x.low c.loop-x.high c.loop-x.invariant den parts c.requires.below_one
-    c.index-cells-x.result.lo inside low c.if-low-den.true in
+    c.at-cell.result.lo inside low c.if-low-den.true in
     record {
       lo = lo;
       hi = (inside, hi);

@@ -12,14 +12,14 @@ use Rattle.dl_measures.proofs.tails.tail_mean.Goals as goal
 
 pub overflow_sub-hi : goal.overflow_sub-hi
 overflow_sub-hi g c =
-    in_order c.args.g.now c.args.p c.quantile-bracket.result.lo c.in_ok-hi.hi c.as_slice-cells.ensures.grid c.quantile-bracket.ensures.lo
+    in_order c.args.g.now c.args.p c.quantile-bracket.result.lo c.in_ok-hi.hi c.cells.ensures.grid c.quantile-bracket.ensures.lo
     (subst (IsFirstFound (low_cdf (2 ^ g.row.B) (low_at c.args.g.now)) c.args.p (length c.args.g.now)) c.in_ok-hi.was c.quantile-bracket.ensures.hi)
 
 pub overflow_mul-slack : goal.overflow_mul-slack
 overflow_mul-slack g c =
     let found = subst (IsFirstFound (low_cdf (2 ^ g.row.B) (low_at c.args.g.now)) c.args.p (length c.args.g.now)) c.in_ok-hi.was c.quantile-bracket.ensures.hi in
     let inside : c.from.result ≤ length c.args.g.now = omega (arith, found.0, c.from.ensures) in
-    omega (arith, slack_fits c.args.g.now c.from.result c.as_slice-cells.ensures.grid inside, ap (λ t. c.from.result * t) c.spread.ensures)
+    omega (arith, slack_fits c.args.g.now c.from.result c.cells.ensures.grid inside, ap (λ t. c.from.result * t) c.spread.ensures)
 
 pub add-requires : goal.add-requires
 add-requires g c = (
@@ -28,7 +28,7 @@ add-requires g c = (
     arith,
     c.point-start.ensures.high,
     ap₂ (λ s t. s * t) c.from-2.ensures c.units_of_one.ensures,
-    buckets_fit c.args.g.now c.quantile-bracket.result.lo c.as_slice-cells.ensures.grid c.quantile-bracket.ensures.lo.within,
+    buckets_fit c.args.g.now c.quantile-bracket.result.lo c.cells.ensures.grid c.quantile-bracket.ensures.lo.within,
     c.over_the_rest.ensures.high,
     quotient_fits c.layer_mean-excess.result.hi c.args.p.den (c.args.p.den - c.args.p.num) (rest_above c.args.p c.requires.below_one)
         (omega (arith, c.layer_mean-excess.ensures.most, c.requires.mean)) c.requires.small,

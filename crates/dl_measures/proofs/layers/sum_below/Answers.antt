@@ -1,0 +1,33 @@
+use Rattle.std.proofs.Common.{arith, sym, ◌∙◌}
+use Rattle.dl_grid.specs.Cells.{low_at, high_at}
+use Rattle.dl_grid.proofs.CellLaws.{scale_of}
+use Rattle.dl_exact.proofs.Counts.{below_nothing, below_more}
+use Rattle.dl_measures.proofs.Reached.{high_fits}
+use Rattle.dl_measures.proofs.layers.sum_below.Goals as goal
+
+pub point-sum-requires : goal.point-sum-requires
+point-sum-requires g c =
+    let scale = scale_of c.args.g.now c.cells.ensures.grid.some in
+    (omega arith, (scale.0, (scale.1, omega arith)))
+
+pub loop-x-init : goal.loop-x-init
+loop-x-init g c = record {
+  low = c.point-sum.ensures.low ∙ sym (below_nothing (low_at c.args.g.now));
+  high = c.point-sum.ensures.high ∙ sym (below_nothing (high_at c.args.g.now));
+}
+
+pub add-sum-requires : goal.add-sum-requires
+add-sum-requires g c = (
+  omega arith,
+  omega (
+    arith,
+    high_fits c.args.g.now c.loop-x.x c.loop-x.sum.hi c.at.result.hi c.cells.ensures.grid (omega arith)
+        c.loop-x.invariant.high c.at.ensures.high,
+  ),
+)
+
+pub loop-x-preserved : goal.loop-x-preserved
+loop-x-preserved g c = record {
+  low = omega (arith, c.add-sum.ensures.low, below_more c.loop-x.x (low_at c.args.g.now), c.loop-x.invariant.low, c.at.ensures.low);
+  high = omega (arith, c.add-sum.ensures.high, below_more c.loop-x.x (high_at c.args.g.now), c.loop-x.invariant.high, c.at.ensures.high);
+}

@@ -1,0 +1,10 @@
+use Rattle.std.proofs.Common.{◌≡◌}
+use Rattle.dl_grid.specs.Cells.{low_at, high_at}
+use Rattle.dl_exact.specs.Count.{count_below}
+use Rattle.dl_measures.proofs.layers.sum_below.Given as goal
+
+abbrev pub invariant-loop-x : goal.invariant-loop-x
+invariant-loop-x g l = record {
+  low : l.sum.lo ≡ count_below l.x (low_at l.g);
+  high : l.sum.hi ≡ count_below l.x (high_at l.g);
+}
