@@ -5,13 +5,13 @@ use Rattle.std.proofs.Math.Nat.{mul-le-mul_left}
 use Rattle.std.proofs.lemmas.Nat.{pow_pos}
 use Rattle.std.proofs.lemmas.Bool.{cases_lt}
 use Rattle.dl_exact.specs.Fraction.{Fraction, ◌over◌, ◌+ℚ◌, ◌≤ℚ◌, ◌<ℚ◌}
-use Rattle.dl_exact.proofs.Laws.{le_refl, le_trans, plus_le_both, plus_le_cancel, lt_or_le, lt_not_le}
+use Rattle.dl_exact.proofs.Laws.{le_refl, le_trans, plus_le_both, plus_le_cancel, lt_or_le, lt_not_le, sub_le_both}
 use Rattle.dl_iv.specs.declared.interval.Iv.{Iv}
-use Rattle.dl_iv.proofs.FractionLaws.{over_le_over, over_plus, sub_le_both}
+use Rattle.dl_exact.proofs.Denominators.{over_le_over, over_split as over_plus}
 use Rattle.dl_grid.specs.Cells.{low_at, high_at, mass_low, mass_high, spread, IsGrid}
-use Rattle.dl_grid.proofs.PairLaws.{below_more}
+use Rattle.dl_exact.proofs.Counts.{below_more}
 use Rattle.dl_grid.proofs.PlaceSums.{width_at, high_is, width_within}
-use Rattle.dl_model.specs.Ways.{count_below}
+use Rattle.dl_exact.specs.Count.{count_below}
 use Rattle.dl_model.specs.Series.{Holds, Below}
 use Rattle.dl_model.specs.Program.{Aggregate, AreUnits, One, Point, Cdf, Mean, Layer, partial_sums}
 use Rattle.dl_model.specs.Family.{total, GridEncloses}
@@ -21,7 +21,7 @@ use Rattle.dl_model.proofs.Declared.{at_least_wider, at_most_wider}
 use Rattle.dl_model.proofs.Ends.{cdf_ends}
 use Rattle.dl_model.proofs.PlanUnits.{plan_declared, plan_units}
 use Rattle.dl_measures.specs.Brackets.{IsFirst, IsFirstFound}
-use Rattle.dl_measures.specs.Layers.{layer_width}
+use Rattle.dl_grid.specs.Width.{layer_width}
 use Rattle.dl_measures.proofs.Sums.{low_mass, high_mass, low_most, low_high, apart}
 use Rattle.dl_plan.specs.declared.plan.Plan.{Plan}
 use Rattle.dl_plan.specs.declared.settings.Ask.TheVariants as asks
@@ -40,11 +40,11 @@ use Rattle.dl_eval.proofs.Printed.{declared_ends}
 pub cell_apart : (g : List (Iv 56)) (x : ℕ) → high_at g x ≤ low_at g x + spread g
 cell_apart g x = omega (arith, high_is g x, width_within (x + 1) g, below_more x (width_at g))
 
-pub point_answer : (ks : List ℕ) (plan : Plan) (g : List (Iv 56)) (d x lo hi : ℕ) (row : Row) → lo ≡ low_at g x → hi ≡ high_at g x → x < length g
-    → IsTotalOf ks plan g → Prints lo hi d row → IsAnswerTo ks plan d (asks.Pmf x) row
+pub point_answer : (plan : Plan) (g : List (Iv 56)) (d x lo hi : ℕ) (row : Row) → lo ≡ low_at g x → hi ≡ high_at g x → x < length g
+    → IsTotalOf plan g → Prints lo hi d row → IsAnswerTo plan d (asks.Pmf x) row
 unfolding ask_budget
-point_answer ks plan g d x lo hi row low high inside t printed =
-    declared_ends plan (Point x) lo hi d (total_budget S ks plan) row printed
+point_answer plan g d x lo hi row low high inside t printed =
+    declared_ends plan (Point x) lo hi d (total_budget S plan) row printed
     (subst (λ l. Declares plan (Point x) (l over S) (hi over S)) (sym low) (subst (λ h. Declares plan (Point x) (low_at g x over S) (h over S)) (sym high) (t.encloses x inside)))
     (omega (arith, low, high, cell_apart g x, t.narrow))
 
@@ -57,43 +57,43 @@ cdf_high g x = sym (high_mass (x + 1) g) ∙ ap (λ n. count_below n (high_at g)
 least_apart : (top a b w lo hi : ℕ) → lo ≡ min a top → hi ≡ min b top → b ≤ a + w → hi ≤ lo + w
 least_apart top a b w lo hi low high h = omega (arith, low, high, h)
 
-pub cdf_answer : (ks : List ℕ) (plan : Plan) (g : List (Iv 56)) (d x lo hi : ℕ) (row : Row)
+pub cdf_answer : (plan : Plan) (g : List (Iv 56)) (d x lo hi : ℕ) (row : Row)
     → lo ≡ min (mass_low (take (x + 1) g)) (2 ^ 56) → hi ≡ min (mass_high (take (x + 1) g)) (2 ^ 56) → x < length g
-    → IsValid plan → IsTotalOf ks plan g → Prints lo hi d row → IsAnswerTo ks plan d (asks.Cdf x) row
+    → IsValid plan → IsTotalOf plan g → Prints lo hi d row → IsAnswerTo plan d (asks.Cdf x) row
 unfolding ask_budget
-cdf_answer ks plan g d x lo hi row low high inside valid t printed =
+cdf_answer plan g d x lo hi row low high inside valid t printed =
     let ends = cdf_ends (aggregates_of plan) (2 ^ 56) (length g) (low_at g) (high_at g) (plan_units plan valid) (pow_pos 56) t.encloses x inside in
     let low_sum : count_below (suc x) (low_at g) ≡ mass_low (take (x + 1) g) = sym (cdf_low g x) in
     let high_sum : count_below (suc x) (high_at g) ≡ mass_high (take (x + 1) g) = sym (cdf_high g x) in
-    declared_ends plan (Cdf x) lo hi d (total_budget S ks plan) row printed (
+    declared_ends plan (Cdf x) lo hi d (total_budget S plan) row printed (
       at_least_wider _ _ _ _ ends.0 (over_le_over lo (count_below (suc x) (low_at g)) (2 ^ 56) (pow_pos 56) (omega (arith, low, low_sum))),
       at_most_wider _ _ _ _ ends.1 (over_le_over (min (2 ^ 56) (count_below (suc x) (high_at g))) hi (2 ^ 56) (pow_pos 56) (omega (arith, high, high_sum))),
     )
-    (least_apart (2 ^ 56) (mass_low (take (x + 1) g)) (mass_high (take (x + 1) g)) (total_budget S ks plan) lo hi low high
+    (least_apart (2 ^ 56) (mass_low (take (x + 1) g)) (mass_high (take (x + 1) g)) (total_budget S plan) lo hi low high
     (omega (arith, apart g (suc x), low_sum, high_sum, t.narrow)))
 
 -- ---- means
 
-pub mean_answer : (ks : List ℕ) (plan : Plan) (d : ℕ) (mean : Iv 56) (row : Row) → IsMeanOf ks plan mean → Prints mean.lo mean.hi d row → IsAnswerTo ks plan d asks.Mean row
+pub mean_answer : (plan : Plan) (d : ℕ) (mean : Iv 56) (row : Row) → IsMeanOf plan mean → Prints mean.lo mean.hi d row → IsAnswerTo plan d asks.Mean row
 unfolding ask_budget
-mean_answer ks plan d mean row m printed = declared_ends plan Mean mean.lo mean.hi d (mean_budget S ks plan) row printed m.holds m.narrow
+mean_answer plan d mean row m printed = declared_ends plan Mean mean.lo mean.hi d (mean_budget S plan) row printed m.holds m.narrow
 
-layer_narrow : (ks : List ℕ) (plan : Plan) (limit : Option ℕ) (attach mean spread : ℕ) → mean ≤ mean_budget S ks plan → spread ≤ total_budget S ks plan
-    → layer_width limit attach mean spread ≤ layer_mean_budget S ks plan limit attach
-layer_narrow ks plan None attach mean spread p q = omega (arith, p, mul-le-mul_left attach q)
-layer_narrow ks plan (Some limit) attach mean spread p q = mul-le-mul_left limit q
+layer_narrow : (plan : Plan) (limit : Option ℕ) (attach mean spread : ℕ) → mean ≤ mean_budget S plan → spread ≤ total_budget S plan
+    → layer_width limit attach mean spread ≤ layer_mean_budget S plan limit attach
+layer_narrow plan None attach mean spread p q = omega (arith, p, mul-le-mul_left attach q)
+layer_narrow plan (Some limit) attach mean spread p q = mul-le-mul_left limit q
 
-pub layer_answer : (ks : List ℕ) (plan : Plan) (g : List (Iv 56)) (mean : Iv 56) (d attach lo hi : ℕ) (limit : Option ℕ) (row : Row)
+pub layer_answer : (plan : Plan) (g : List (Iv 56)) (mean : Iv 56) (d attach lo hi : ℕ) (limit : Option ℕ) (row : Row)
     → ((us : List Aggregate) → AreDeclared us → GridEncloses g (total us)
     → (limit ≡ None → Holds (partial_sums us Mean) (partial_sums us One) (mean.lo over 2 ^ 56) (mean.hi over 2 ^ 56))
     → Holds (partial_sums us (Layer limit attach)) (partial_sums us One) (lo over 2 ^ 56) (hi over 2 ^ 56))
     → hi - lo ≤ layer_width limit attach (mean.hi - mean.lo) (spread g)
-    → IsValid plan → IsTotalOf ks plan g → IsMeanOf ks plan mean → Prints lo hi d row → IsAnswerTo ks plan d (asks.LayerMean limit attach) row
+    → IsValid plan → IsTotalOf plan g → IsMeanOf plan mean → Prints lo hi d row → IsAnswerTo plan d (asks.LayerMean limit attach) row
 unfolding ask_budget
-layer_answer ks plan g mean d attach lo hi limit row holds width valid t m printed =
-    declared_ends plan (Layer limit attach) lo hi d (layer_mean_budget S ks plan limit attach) row printed
+layer_answer plan g mean d attach lo hi limit row holds width valid t m printed =
+    declared_ends plan (Layer limit attach) lo hi d (layer_mean_budget S plan limit attach) row printed
     (holds (aggregates_of plan) (plan_declared plan valid) t.encloses (λ none. m.holds))
-    (omega (arith, width, layer_narrow ks plan limit attach (mean.hi - mean.lo) (spread g) (omega (arith, m.narrow)) t.narrow))
+    (omega (arith, width, layer_narrow plan limit attach (mean.hi - mean.lo) (spread g) (omega (arith, m.narrow)) t.narrow))
 
 -- ---- quantiles
 
@@ -136,22 +136,22 @@ beyond_below us g p d x units encloses inside below narrow =
     (low_cdf (2 ^ 56) (low_at g) x +ℚ d, plus_lt _ p d below, at_most_wider _ _ _ _ ends.1 high)
 
 -- where the grid ends before p is reached, the distribution is below p there, or a little above
-pub ends_below : (ks : List ℕ) (plan : Plan) (g : List (Iv 56)) (p : Fraction) → IsFirst (low_cdf (2 ^ 56) (low_at g)) p (length g) (length g)
-    → IsValid plan → IsTotalOf ks plan g → IsBelow plan (at_the_end plan) (p +ℚ total_error ks plan)
-ends_below ks plan g p last valid t =
+pub ends_below : (plan : Plan) (g : List (Iv 56)) (p : Fraction) → IsFirst (low_cdf (2 ^ 56) (low_at g)) p (length g) (length g)
+    → IsValid plan → IsTotalOf plan g → IsBelow plan (at_the_end plan) (p +ℚ total_error plan)
+ends_below plan g p last valid t =
     let some = few_cells plan valid in
-    beyond_below (aggregates_of plan) g p (total_error ks plan) (plan.cells - 1) (plan_units plan valid) t.encloses (omega (arith, t.cells, some.0))
+    beyond_below (aggregates_of plan) g p (total_error plan) (plan.cells - 1) (plan_units plan valid) t.encloses (omega (arith, t.cells, some.0))
     (last.before (plan.cells - 1) (omega (arith, t.cells, some.0)))
-    (over_le_over (spread g) (total_budget S ks plan) (2 ^ 56) (pow_pos 56) t.narrow)
+    (over_le_over (spread g) (total_budget S plan) (2 ^ 56) (pow_pos 56) t.narrow)
 
-pub is_bracket : (ks : List ℕ) (plan : Plan) (g : List (Iv 56)) (p : Fraction) (lo : ℕ) (hi : Option ℕ) (row : Row) → row.low ≡ Whole lo → row.high ≡ bracket_end hi
+pub is_bracket : (plan : Plan) (g : List (Iv 56)) (p : Fraction) (lo : ℕ) (hi : Option ℕ) (row : Row) → row.low ≡ Whole lo → row.high ≡ bracket_end hi
     → IsFirst (high_cdf (2 ^ 56) (high_at g)) p (length g) lo → IsFirstFound (low_cdf (2 ^ 56) (low_at g)) p (length g) hi
     → ((us : List Aggregate) → AreUnits us → GridEncloses g (total us) → IsBracketed us lo hi p)
     → ((us : List Aggregate) → AreUnits us → GridEncloses g (total us) → IsTight us (length g) lo hi p (spread g over 2 ^ 56))
-    → IsGrid g → IsValid plan → IsTotalOf ks plan g → IsBracket plan p (total_error ks plan) row
-is_bracket ks plan g p lo hi row is_low is_high first found holds tight grid valid t =
+    → IsGrid g → IsValid plan → IsTotalOf plan g → IsBracket plan p (total_error plan) row
+is_bracket plan g p lo hi row is_low is_high first found holds tight grid valid t =
     let units = plan_units plan valid in
-    let narrow : spread g over 2 ^ 56 ≤ℚ total_budget S ks plan over 2 ^ 56 = over_le_over (spread g) (total_budget S ks plan) (2 ^ 56) (pow_pos 56) t.narrow in
+    let narrow : spread g over 2 ^ 56 ≤ℚ total_budget S plan over 2 ^ 56 = over_le_over (spread g) (total_budget S plan) (2 ^ 56) (pow_pos 56) t.narrow in
     record {
       lo = lo;
       hi = hi;
@@ -160,5 +160,5 @@ is_bracket ks plan g p lo hi row is_low is_high first found holds tight grid val
       inside = bracket_inside g p plan.cells lo hi grid t.cells first found;
       bracketed = holds (aggregates_of plan) units t.encloses;
       tight = wider_tight (aggregates_of plan) (length g) plan.cells lo hi p _ _ t.cells narrow (tight (aggregates_of plan) units t.encloses);
-      beyond = λ none. ends_below ks plan g p (subst (λ (h : Option ℕ). IsFirstFound (low_cdf (2 ^ 56) (low_at g)) p (length g) h) none found) valid t;
+      beyond = λ none. ends_below plan g p (subst (λ (h : Option ℕ). IsFirstFound (low_cdf (2 ^ 56) (low_at g)) p (length g) h) none found) valid t;
     }

@@ -11,7 +11,7 @@ use Rattle.dl_exact.specs.Sum.{sum_over}
 use Rattle.dl_exact.proofs.Over.{over_same}
 use Rattle.dl_exact.proofs.Laws.{one_pos}
 use Rattle.dl_iv.specs.declared.interval.Iv.{Iv}
-use Rattle.dl_iv.proofs.FractionLaws.{over_plus}
+use Rattle.dl_exact.proofs.Denominators.{over_split as over_plus}
 use Rattle.dl_grid.specs.Cells.{spread}
 use Rattle.dl_model.specs.Series.{Holds}
 use Rattle.dl_model.specs.Program.{One, Mean, partial_sums}
@@ -25,13 +25,13 @@ use Rattle.dl_plan.specs.declared.cede.CedeLayer.{CedeLayer}
 use Rattle.dl_plan.specs.declared.plan.Unit.{Unit as UnitOfPlan}
 use Rattle.dl_plan.specs.declared.plan.Plan.{Plan}
 use Rattle.dl_plan.specs.Cession.{Clause}
-use Rattle.dl_plan.specs.Horizon.{IsHorizonOf}
+use Rattle.dl_plan.specs.Horizon.{IsHorizonOf, horizon}
 use Rattle.dl_plan.specs.Valid.{IsValidUnit, IsValid}
-use Rattle.dl_plan.proofs.Horizons.{same_horizon}
 use Rattle.dl_budget.specs.Claims.{claims_budget}
-use Rattle.dl_budget.specs.Units.{AreHorizons, layer_budget, clause_mean}
-use Rattle.dl_budget.proofs.Horizons.{later_horizons}
-use Rattle.dl_cede.specs.Means.{HoldsClaims, part_width, mean_width}
+use Rattle.dl_plan.specs.MeanWidth.{part_width as layer_budget, mean_width as clause_mean, part_width, mean_width}
+use Rattle.dl_budget.specs.Units.{unit_mean_budget}
+use Rattle.dl_budget.proofs.Horizons.{one_horizon}
+use Rattle.dl_cede.specs.Means.{HoldsClaims}
 use Rattle.dl_eval.specs.Rows.{S}
 use Rattle.dl_eval.specs.Totals.{IsUnitMean, AreUnitMeans, IsMeanOf}
 
@@ -40,7 +40,7 @@ use Rattle.dl_eval.specs.Totals.{IsUnitMean, AreUnitMeans, IsMeanOf}
 pub plain_mean : (cells : ℕ) (u : UnitOfPlan) (mean : Iv 56) → u.cede ≡ None → HoldsClaims u mean → mean.hi ≤ mean.lo + 1 → IsUnitMean cells u mean
 plain_mean cells u mean none holds narrow = record {
   holds = subst (λ a. Holds (partial_sums (a ∷ []) Mean) (partial_sums (a ∷ []) One) (mean.lo over 2 ^ 56) (mean.hi over 2 ^ 56)) (sym (no_clause u none)) holds;
-  narrow = λ K horizon. omega (arith, narrow, ap (λ c. clause_mean c (claims_budget (2 ^ 56) K u)) none);
+  narrow = omega (arith, narrow, ap (λ c. clause_mean c (claims_budget (2 ^ 56) (horizon u.cede cells) u)) none);
 }
 
 -- ---- of a unit with a clause
@@ -64,17 +64,17 @@ clause_rises : (v w : ℕ) (cede : Option Clause) → v ≤ w → mean_width ced
 clause_rises v w None h = omega arith
 clause_rises v w (Some clause) h = omega (arith, layers_rise v w clause.1 h)
 
-pub clause_unit_mean : (cells : ℕ) (u : UnitOfPlan) (g : List (Iv 56)) (mean : Iv 56)
+pub clause_unit_mean : (cells : ℕ) (u : UnitOfPlan) (g : List (Iv 56)) (mean : Iv 56) → IsValidUnit cells u
     → Holds (partial_sums (aggregate_of u ∷ []) Mean) (partial_sums (aggregate_of u ∷ []) One) (mean.lo over 2 ^ 56) (mean.hi over 2 ^ 56)
     → mean.hi - mean.lo ≤ mean_width u.cede (spread g) → IsHorizonOf u.cede cells (length g) → spread g ≤ claims_budget S (length g) u → IsUnitMean cells u mean
-clause_unit_mean cells u g mean holds width there narrow = record {
+clause_unit_mean cells u g mean valid holds width there narrow = record {
   holds = holds;
-  narrow = λ K horizon.
+  narrow =
       omega (
         arith,
         width,
-        clause_rises (spread g) (claims_budget (2 ^ 56) K u) u.cede
-            (subst (λ n. spread g ≤ claims_budget (2 ^ 56) n u) (same_horizon u.cede cells (length g) K there horizon) narrow),
+        clause_rises (spread g) (claims_budget (2 ^ 56) (horizon u.cede cells) u) u.cede
+            (subst (λ n. spread g ≤ claims_budget (2 ^ 56) n u) (one_horizon cells cells (length g) u valid there) narrow),
       );
 }
 
@@ -122,24 +122,19 @@ means_hold cells (u ∷ us) (m ∷ means) valid each =
     (sym low ∙ ap (λ t. t over 2 ^ 56) (sym (sum_by-cons (λ (mean : Iv 56). mean.lo) m means)))
     (sym high ∙ ap (λ t. t over 2 ^ 56) (sym (sum_by-cons (λ (mean : Iv 56). mean.hi) m means))) sums
 
-abbrev means_budget : List ℕ → List UnitOfPlan → ℕ
-means_budget ks us = sum_by (λ pair. clause_mean pair.1.cede (claims_budget (2 ^ 56) pair.0 pair.1)) (zip ks us)
-
-means_narrow : (cells : ℕ) (ks : List ℕ) (us : List UnitOfPlan) (means : List (Iv 56)) → AreHorizons cells us ks → AreUnitMeans cells us means
-    → highs means ≤ lows means + means_budget ks us
-means_narrow cells [] [] [] horizons each = omega arith
-means_narrow cells ks [] (m ∷ means) horizons each = absurd (omega (arith, each.as_many))
-means_narrow cells (k ∷ ks) [] [] horizons each = absurd (omega (arith, horizons.as_many))
-means_narrow cells [] (u ∷ us) means horizons each = absurd (omega (arith, horizons.as_many))
-means_narrow cells (k ∷ ks) (u ∷ us) [] horizons each = absurd (omega (arith, each.as_many))
-means_narrow cells (k ∷ ks) (u ∷ us) (m ∷ means) horizons each =
+means_narrow : (cells : ℕ) (us : List UnitOfPlan) (means : List (Iv 56)) → AreUnitMeans cells us means
+    → highs means ≤ lows means + sum_by (unit_mean_budget (2 ^ 56) cells) us
+means_narrow cells [] [] each = omega arith
+means_narrow cells [] (m ∷ means) each = absurd (omega (arith, each.as_many))
+means_narrow cells (u ∷ us) [] each = absurd (omega (arith, each.as_many))
+means_narrow cells (u ∷ us) (m ∷ means) each =
     omega (
       arith,
-      (each.each 0 u m (omega arith)).narrow k (horizons.each 0 u (omega arith)),
-      means_narrow cells ks us means (later_horizons cells k u us ks horizons) (later_means cells u us m means each),
+      (each.each 0 u m (omega arith)).narrow,
+      means_narrow cells us means (later_means cells u us m means each),
       sum_by-cons (λ (mean : Iv 56). mean.lo) m means,
       sum_by-cons (λ (mean : Iv 56). mean.hi) m means,
-      sum_by-cons (λ (pair : ℕ × UnitOfPlan). clause_mean pair.1.cede (claims_budget (2 ^ 56) pair.0 pair.1)) (k, u) (zip ks us),
+      sum_by-cons (unit_mean_budget (2 ^ 56) cells) u us,
     )
 
 pub means_small : (means : List (Iv 56)) → length means ≤ 16 → All (λ mean. mean.hi ≤ 2 ^ 93) means → sum_by (λ mean. mean.hi) means ≤ 2 ^ 97
@@ -151,8 +146,8 @@ means_small means few small = omega (arith, few, sum_small means small)
         omega (arith, small 0 m (omega arith), sum_small means (All-tail (λ (mean : Iv 56). mean.hi ≤ 2 ^ 93) m means small), sum_by-cons (λ (mean : Iv 56). mean.hi) m means)
 
 pub is_mean : (means : List (Iv 56)) (mean : Iv 56) → mean.lo ≡ sum_by (λ mean. mean.lo) means → mean.hi ≡ sum_by (λ mean. mean.hi) means
-    → (plan : Plan) (ks : List ℕ) → IsValid plan → AreHorizons plan.cells plan.units ks → AreUnitMeans plan.cells plan.units means → IsMeanOf ks plan mean
-is_mean means mean low high plan ks valid horizons each = record {
+    → (plan : Plan) → IsValid plan → AreUnitMeans plan.cells plan.units means → IsMeanOf plan mean
+is_mean means mean low high plan valid each = record {
   holds = rw (low, high) (means_hold plan.cells plan.units means valid.units each);
-  narrow = omega (arith, low, high, means_narrow plan.cells ks plan.units means horizons each);
+  narrow = omega (arith, low, high, means_narrow plan.cells plan.units means each);
 }

@@ -9,9 +9,8 @@ use Rattle.dl_plan.specs.declared.plan.Plan.{Plan}
 use Rattle.dl_plan.specs.Horizon.{IsHorizonOf}
 use Rattle.dl_plan.specs.Valid.{IsValidUnit, IsValid}
 use Rattle.dl_budget.specs.Units.{unit_budget}
-use Rattle.dl_budget.proofs.Horizons.{some_horizons, few_cells, unit_horizon}
-use Rattle.dl_eval.specs.declared.grids.Grids.{Grids}
-use Rattle.dl_eval.specs.Totals.{AreUnitGrids, AreOthersOf, AreOthers, AreGridsOf, OnHorizons}
+use Rattle.dl_budget.proofs.Horizons.{few_cells, unit_horizon}
+use Rattle.dl_eval.specs.Totals.{AreUnitGrids, AreOthersOf, AreOthers}
 
 pub read_as : {A : Type 0} (slice xs : List A) (i : ℕ) (x d : A) → slice ≡ xs → x ≡ get_or slice i x → i < length xs → x ≡ get_or xs i d
 read_as slice xs i x d same is inside = is ∙ ap (λ t. get_or t i x) same ∙ get_or_default xs i x d inside
@@ -33,19 +32,15 @@ horizon_there plan units i u same is inside valid =
 -- the spread of a unit's grid is within its budget
 pub spread_within : (plan : Plan) (units : List UnitOfPlan) (grids slice : List (List (Iv 56))) (u : UnitOfPlan) (g : List (Iv 56)) (i budget : ℕ)
     → units ≡ plan.units → u ≡ get_or units i u → slice ≡ grids → g ≡ get_or slice i g → i < length plan.units → AreUnitGrids plan.cells plan.units grids
-    → (k : ℕ) → IsHorizonOf u.cede plan.cells k → budget ≡ unit_budget (2 ^ 56) k u → spread g ≤ budget
-spread_within plan units grids slice u g i budget same is sliced read inside each k horizon value =
+    → budget ≡ unit_budget (2 ^ 56) plan.cells u → spread g ≤ budget
+spread_within plan units grids slice u g i budget same is sliced read inside each value =
     let v : UnitOfPlan = get_or plan.units i u in
     let e : u ≡ v = is ∙ ap (λ t. get_or t i u) same in
-    let narrow : spread (get_or grids i []) ≤ unit_budget (2 ^ 56) k v = (each.each i u inside).narrow k (subst (λ t. IsHorizonOf t.cede plan.cells k) e horizon) in
-    omega (arith, narrow, ap spread (read_as slice grids i g [] sliced read (omega (arith, inside, each.as_many))), ap (unit_budget (2 ^ 56) k) e, value)
+    let narrow : spread (get_or grids i []) ≤ unit_budget (2 ^ 56) plan.cells v = (each.each i u inside).narrow in
+    omega (arith, narrow, ap spread (read_as slice grids i g [] sliced read (omega (arith, inside, each.as_many))), ap (unit_budget (2 ^ 56) plan.cells) e, value)
 
 -- the grid of all other units that was read there
-pub others_there : (ks : List ℕ) (plan : Plan) (slice others : List (Option (List (Iv 56)))) (i : ℕ) (read : Option (List (Iv 56))) (g : List (Iv 56))
-    → slice ≡ others → read ≡ get_or slice i read → read ≡ Some g → i < length plan.units → AreOthers ks plan others → AreOthersOf ks plan i g
-others_there ks plan slice others i read g same is there inside all =
-    subst (λ (o : Option (List (Iv 56))). IfSome o (AreOthersOf ks plan i)) (sym (read_as slice others i read None same is (omega (arith, inside, all.as_many))) ∙ there) (all.each i inside)
-
--- the total that was made has the plan's cells
-pub total_cells : (plan : Plan) (grids : Grids) → IsValid plan → OnHorizons plan (λ ks. AreGridsOf ks plan grids) → length grids.sums.total ≡ plan.cells
-total_cells plan grids valid made = let ks = some_horizons plan valid in (made ks.0 ks.1).total.cells
+pub others_there : (plan : Plan) (slice others : List (Option (List (Iv 56)))) (i : ℕ) (read : Option (List (Iv 56))) (g : List (Iv 56))
+    → slice ≡ others → read ≡ get_or slice i read → read ≡ Some g → i < length plan.units → AreOthers plan others → AreOthersOf plan i g
+others_there plan slice others i read g same is there inside all =
+    subst (λ (o : Option (List (Iv 56))). IfSome o (AreOthersOf plan i)) (sym (read_as slice others i read None same is (omega (arith, inside, all.as_many))) ∙ there) (all.each i inside)

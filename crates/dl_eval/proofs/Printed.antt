@@ -9,7 +9,7 @@ use Rattle.dl_exact.proofs.Laws.{le_refl}
 use Rattle.dl_exact.proofs.RoundingLaws.{div_ceil_least}
 use Rattle.dl_iv.specs.declared.interval.Iv.{Iv}
 use Rattle.dl_iv.specs.Enclosure.{LiesIn}
-use Rattle.dl_iv.proofs.FractionLaws.{over_le_over}
+use Rattle.dl_exact.proofs.Denominators.{over_le_over}
 use Rattle.dl_grid.proofs.WidthLaws.{up_quotient}
 use Rattle.dl_model.specs.Program.{Quantity, One, Tail}
 use Rattle.dl_model.proofs.Declared.{at_least_wider, at_most_wider}

@@ -8,18 +8,18 @@ use Rattle.dl_exact.specs.Fraction.{Fraction, ◌over◌, ◌≤ℚ◌, ◌<ℚ�
 use Rattle.dl_exact.proofs.Laws.{le_trans, lt_or_le, lt_not_le}
 use Rattle.dl_exact.proofs.RoundingLaws.{div_ceil_least}
 use Rattle.dl_iv.specs.declared.interval.Iv.{Iv}
-use Rattle.dl_iv.proofs.FractionLaws.{over_le_over}
+use Rattle.dl_exact.proofs.Denominators.{over_le_over}
 use Rattle.dl_grid.specs.Cells.{low_at, high_at, spread}
-use Rattle.dl_grid.specs.Width.{up}
+use Rattle.dl_grid.specs.Width.{up, tail_width}
 use Rattle.dl_grid.proofs.WidthLaws.{up_quotient}
-use Rattle.dl_model.specs.Ways.{count_below}
+use Rattle.dl_exact.specs.Count.{count_below}
 use Rattle.dl_model.specs.Series.{Holds}
 use Rattle.dl_model.specs.Program.{Aggregate, One, Mean, Tail, partial_sums}
 use Rattle.dl_model.specs.Family.{total, GridEncloses}
 use Rattle.dl_model.specs.Measures.{low_cdf, IsQuantile, AreDeclared}
 use Rattle.dl_model.specs.Plans.{aggregates_of}
 use Rattle.dl_model.proofs.Declared.{at_least_wider}
-use Rattle.dl_model.proofs.CountLaws.{count_below_grows}
+use Rattle.dl_exact.proofs.Counts.{below_grows as count_below_grows}
 use Rattle.dl_model.proofs.Ends.{cdf_ends}
 use Rattle.dl_model.proofs.PlanUnits.{plan_declared, plan_units}
 use Rattle.dl_measures.specs.Brackets.{IsFirst}
@@ -33,7 +33,6 @@ use Rattle.dl_budget.proofs.Horizons.{few_cells}
 use Rattle.dl_budget.proofs.Tails.{level_below}
 use Rattle.dl_eval.specs.Rows.{S, IsAtLeast, at_the_end, IsTailMean, DeclaresTail}
 use Rattle.dl_eval.specs.Totals.{IsTotalOf, IsMeanOf, Prints}
-use Rattle.dl_measures.specs.Tails.{tail_width}
 use Rattle.dl_eval.proofs.Printed.{are_ends, tail_widens}
 
 -- ---- how wide it is
@@ -71,28 +70,28 @@ last_reaches g p n x last found = elim (lt_or_le (low_cdf (2 ^ 56) (low_at g) x)
   | inr reached ↦ reached
 ]
 
-tail_reached : (ks : List ℕ) (plan : Plan) (g : List (Iv 56)) (p : Fraction) → ¬ IsFirst (low_cdf (2 ^ 56) (low_at g)) p (length g) (length g)
-    → IsValid plan → IsTotalOf ks plan g → IsAtLeast plan (at_the_end plan) p
-tail_reached ks plan g p found valid t =
+tail_reached : (plan : Plan) (g : List (Iv 56)) (p : Fraction) → ¬ IsFirst (low_cdf (2 ^ 56) (low_at g)) p (length g) (length g)
+    → IsValid plan → IsTotalOf plan g → IsAtLeast plan (at_the_end plan) p
+tail_reached plan g p found valid t =
     let some = few_cells plan valid in
     let ends = cdf_ends (aggregates_of plan) (2 ^ 56) (length g) (low_at g) (high_at g) (plan_units plan valid) (pow_pos 56) t.encloses (plan.cells - 1) (omega (arith, t.cells, some.0)) in
     at_least_wider _ _ _ _ ends.0 (last_reaches g p (length g) (plan.cells - 1) (omega (arith, t.cells, some.0)) found)
 
-pub tail_answer : (ks : List ℕ) (plan : Plan) (g : List (Iv 56)) (mean : Iv 56) (p : Fraction) (d lo hi : ℕ) (row : Row)
+pub tail_answer : (plan : Plan) (g : List (Iv 56)) (mean : Iv 56) (p : Fraction) (d lo hi : ℕ) (row : Row)
     → ¬ IsFirst (low_cdf (2 ^ 56) (low_at g)) p (length g) (length g)
     → ((us : List Aggregate) (q : ℕ) → AreDeclared us → GridEncloses g (total us)
     → Holds (partial_sums us Mean) (partial_sums us One) (mean.lo over 2 ^ 56) (mean.hi over 2 ^ 56) → IsQuantile us q p
     → Holds (partial_sums us (Tail p q)) (partial_sums us One) (lo over 2 ^ 56) (hi over 2 ^ 56))
     → hi - lo ≤ tail_width p (mean.hi - mean.lo) (length g) (spread g)
-    → IsLevel p → IsValid plan → IsTotalOf ks plan g → IsMeanOf ks plan mean → Prints lo hi d row
-    → IsTailMean plan p d (in_digits S (tail_budget S ks plan p) d) row
-tail_answer ks plan g mean p d lo hi row found holds width level valid t m printed = record {
-  reached = tail_reached ks plan g p found valid t;
-  ends = are_ends (DeclaresTail plan p) lo hi d (tail_budget S ks plan p) row (tail_widens plan p) printed
+    → IsLevel p → IsValid plan → IsTotalOf plan g → IsMeanOf plan mean → Prints lo hi d row
+    → IsTailMean plan p d (in_digits S (tail_budget S plan p) d) row
+tail_answer plan g mean p d lo hi row found holds width level valid t m printed = record {
+  reached = tail_reached plan g p found valid t;
+  ends = are_ends (DeclaresTail plan p) lo hi d (tail_budget S plan p) row (tail_widens plan p) printed
       (λ q is. holds (aggregates_of plan) q (plan_declared plan valid) t.encloses m.holds is)
       (omega (arith, width, wide));
 }
   where
-    wide : tail_width p (mean.hi - mean.lo) (length g) (spread g) ≤ tail_budget S ks plan p
-    wide = subst (λ n. tail_width p (mean.hi - mean.lo) n (spread g) ≤ tail_budget S ks plan p) (sym t.cells)
-        (tail_narrow p (mean.hi - mean.lo) (mean_budget S ks plan) plan.cells (spread g) (total_budget S ks plan) (level_below p level.below) (omega (arith, m.narrow)) t.narrow)
+    wide : tail_width p (mean.hi - mean.lo) (length g) (spread g) ≤ tail_budget S plan p
+    wide = subst (λ n. tail_width p (mean.hi - mean.lo) n (spread g) ≤ tail_budget S plan p) (sym t.cells)
+        (tail_narrow p (mean.hi - mean.lo) (mean_budget S plan) plan.cells (spread g) (total_budget S plan) (level_below p level.below) (omega (arith, m.narrow)) t.narrow)

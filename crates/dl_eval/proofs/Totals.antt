@@ -1,12 +1,12 @@
 -- The grid of a total, from those of its units.
-use Rattle.std.proofs.Common.{ℕ, zero, suc, ◌≡◌, ◌^◌, ◌<◌, ◌≤◌, List, [], ◌∷◌, length, get_or, map, arith, refl, sym, ap, subst, subst₂, ◌∙◌}
-use Rattle.std.specs.Prelude.{Bool, Option, None, Some, IfSome, All}
+use Rattle.std.proofs.Common.{ℕ, zero, suc, ◌≡◌, ◌^◌, ◌<◌, ◌≤◌, List, [], ◌∷◌, ◌++◌, length, get_or, map, arith, refl, sym, ap, subst, subst₂, ◌∙◌}
+use Rattle.std.specs.Prelude.{Bool, false, IsTrue, Option, None, Some, IfSome, option_map, All}
 use Rattle.std.specs.List.{fold, remove}
 use Rattle.std.proofs.lemmas.Nat.{pow_pos}
-use Rattle.std.proofs.lemmas.List.{length-map, get_or-map, get_or_default}
+use Rattle.std.proofs.lemmas.List.{length-append, length-map, get_or-map, get_or_default}
 use Rattle.dl_iv.specs.declared.interval.Iv.{Iv}
 use Rattle.dl_grid.specs.Cells.{spread, low_at, high_at}
-use Rattle.dl_grid.specs.Width.{cv}
+use Rattle.dl_grid.specs.Width.{cv, sum_spread as sum_budget, sum_spread}
 use Rattle.dl_grid.proofs.WidthLaws.{cv_rises}
 use Rattle.dl_model.specs.Family.{mapped, GridEncloses}
 use Rattle.dl_model.specs.Measures.{unit_of}
@@ -17,19 +17,17 @@ use Rattle.dl_model.proofs.PlanUnits.{unit_declared, plan_units}
 use Rattle.dl_plan.specs.declared.plan.Unit.{Unit as UnitOfPlan}
 use Rattle.dl_plan.specs.declared.plan.Plan.{Plan}
 use Rattle.dl_plan.specs.declared.settings.Ask.{Ask}
-use Rattle.dl_plan.specs.declared.settings.Ask.TheVariants as asks
 use Rattle.dl_plan.specs.declared.settings.Asked.{Asked}
-use Rattle.dl_plan.specs.Horizon.{IsHorizonOf}
-use Rattle.dl_plan.proofs.Horizons.{same_horizon}
+use Rattle.dl_plan.specs.Facts.{facts_of}
 use Rattle.dl_plan.specs.Valid.{IsValidUnit, IsValid}
-use Rattle.dl_budget.specs.Units.{AreHorizons, unit_budget, unit_budgets, sum_budget}
-use Rattle.dl_budget.specs.Asks.{place_of, NamesUnit}
+use Rattle.dl_budget.specs.Units.{unit_budget, unit_budgets}
+use Rattle.dl_budget.specs.Asks.{place_of, IsNamed, NamesUnit}
 use Rattle.dl_budget.proofs.Sums.{budgets_length, budget_here}
-use Rattle.dl_port.specs.Sums.{EncloseEach, sum_spread}
+use Rattle.dl_port.specs.Sums.{EncloseEach}
 use Rattle.dl_eval.proofs.Lists.{any_here}
 use Rattle.dl_port.specs.Shared.{IsTotal, IsSumWithout, AreSumsWithout}
 use Rattle.dl_eval.specs.declared.grids.Grids.{Grids}
-use Rattle.dl_eval.specs.Totals.{AreUnitGrids, AreShared, IsTotalOf, AreOthersOf, AreOthers, HasOthers, shared_unit}
+use Rattle.dl_eval.specs.Totals.{AreUnitGrids, AreShared, IsTotalOf, AreOthersOf, AreOthers, AreGridsOf, HasOthers, shared_unit}
 
 -- ---- what the grids enclose
 
@@ -108,49 +106,46 @@ sums_rise S k (a ∷ xs) [] pos h = absurd (omega (arith, h.as_many))
 sums_rise S k (a ∷ xs) (b ∷ ys) pos h = folds_rise S k a b xs ys pos (h.each 0 (omega arith)) (later_no_more a b xs ys h)
 
 -- the grid of a unit stays within its budget
-pub unit_narrow : (cells : ℕ) (us : List UnitOfPlan) (grids : List (List (Iv 56))) (ks : List ℕ) (i : ℕ) → i < length us → AreUnitGrids cells us grids → AreHorizons cells us ks
-    → spread (get_or grids i []) ≤ get_or (unit_budgets (2 ^ 56) ks us) i 0
-unit_narrow cells [] grids ks i inside each horizons = absurd (omega (arith, inside))
-unit_narrow cells (u ∷ us) grids ks i inside each horizons =
-    let k : ℕ = get_or ks i 0 in
+pub unit_narrow : (cells : ℕ) (us : List UnitOfPlan) (grids : List (List (Iv 56))) (i : ℕ) → i < length us → AreUnitGrids cells us grids
+    → spread (get_or grids i []) ≤ get_or (unit_budgets (2 ^ 56) cells us) i 0
+unit_narrow cells [] grids i inside each = absurd (omega (arith, inside))
+unit_narrow cells (u ∷ us) grids i inside each =
     let v : UnitOfPlan = get_or (u ∷ us) i u in
-    let here : IsHorizonOf v.cede cells k = horizons.each i u inside in
-    let same : unit_budget (2 ^ 56) k v ≡ get_or (unit_budgets (2 ^ 56) ks (u ∷ us)) i 0 =
-    budget_here (2 ^ 56) cells (u ∷ us) i (unit_budget (2 ^ 56) k v) v ks horizons inside (get_or_default (u ∷ us) i u v inside)
-    (λ j there. ap (λ n. unit_budget (2 ^ 56) n v) (same_horizon v.cede cells k j here there)) in
-    omega (arith, (each.each i u inside).narrow k here, same)
+    let same : unit_budget (2 ^ 56) cells v ≡ get_or (unit_budgets (2 ^ 56) cells (u ∷ us)) i 0 =
+    budget_here (2 ^ 56) cells (u ∷ us) i (unit_budget (2 ^ 56) cells v) v inside (get_or_default (u ∷ us) i u v inside) refl in
+    omega (arith, (each.each i u inside).narrow, same)
 
-each_narrow : (plan : Plan) (grids : List (List (Iv 56))) (ks : List ℕ) → AreUnitGrids plan.cells plan.units grids → AreHorizons plan.cells plan.units ks
-    → AreNoMore (map spread grids) (unit_budgets (2 ^ 56) ks plan.units)
-each_narrow plan grids ks each horizons = record {
-  as_many = length-map grids spread ∙ each.as_many ∙ sym (budgets_length (2 ^ 56) ks plan.units horizons.as_many);
+each_narrow : (plan : Plan) (grids : List (List (Iv 56))) → AreUnitGrids plan.cells plan.units grids
+    → AreNoMore (map spread grids) (unit_budgets (2 ^ 56) plan.cells plan.units)
+each_narrow plan grids each = record {
+  as_many = length-map grids spread ∙ each.as_many ∙ sym (budgets_length (2 ^ 56) plan.cells plan.units);
   each = λ i inside.
       let there : i < length grids = omega (arith, inside, length-map grids spread) in
-      omega (arith, get_or-map spread grids i [] 0 there, unit_narrow plan.cells plan.units grids ks i (omega (arith, there, each.as_many)) each horizons);
+      omega (arith, get_or-map spread grids i [] 0 there, unit_narrow plan.cells plan.units grids i (omega (arith, there, each.as_many)) each);
 }
 
 -- ---- the total
 
 pub is_total : (plan : Plan) (grids : List (List (Iv 56))) (g : List (Iv 56)) → IsValid plan → AreUnitGrids plan.cells plan.units grids
-    → IsTotal plan.cells grids g → (ks : List ℕ) → AreHorizons plan.cells plan.units ks → IsTotalOf ks plan g
-is_total plan grids g valid each sum ks horizons = record {
+    → IsTotal plan.cells grids g → IsTotalOf plan g
+is_total plan grids g valid each sum = record {
   cells = sum.cells;
   encloses = sum.encloses (aggregates_of plan) (plan_units plan valid) (enclose_each plan grids each);
-  narrow = omega (arith, sum.narrow, sums_rise (2 ^ 56) plan.cells _ _ (pow_pos 56) (each_narrow plan grids ks each horizons));
+  narrow = omega (arith, sum.narrow, sums_rise (2 ^ 56) plan.cells _ _ (pow_pos 56) (each_narrow plan grids each));
 }
 
 -- ---- all units but one
 
 others_of : (plan : Plan) (grids : List (List (Iv 56))) (i : ℕ) (g : List (Iv 56)) → IsValid plan → AreUnitGrids plan.cells plan.units grids
-    → IsSumWithout plan.cells grids i g → (ks : List ℕ) → AreHorizons plan.cells plan.units ks → AreOthersOf ks plan i g
-others_of plan grids i g valid each sum ks horizons = record {
+    → IsSumWithout plan.cells grids i g → AreOthersOf plan i g
+others_of plan grids i g valid each sum = record {
   cells = sum.cells;
   encloses = sum.encloses (aggregates_of plan) (plan_units plan valid) (enclose_each plan grids each);
   narrow = omega (
     arith,
     sum.narrow,
     ap (sum_spread (2 ^ 56) plan.cells) (map_remove spread grids i),
-    sums_rise (2 ^ 56) plan.cells _ _ (pow_pos 56) (removed_no_more i _ _ (each_narrow plan grids ks each horizons)),
+    sums_rise (2 ^ 56) plan.cells _ _ (pow_pos 56) (removed_no_more i _ _ (each_narrow plan grids each)),
   );
 }
 
@@ -159,12 +154,12 @@ some_weaker None P Q is weaker = tt
 some_weaker (Some x) P Q is weaker = weaker x is
 
 pub are_others : (plan : Plan) (grids : List (List (Iv 56))) (asked : List Bool) (sums : List (Option (List (Iv 56)))) → IsValid plan → AreUnitGrids plan.cells plan.units grids
-    → AreSumsWithout plan.cells grids asked sums → (ks : List ℕ) → AreHorizons plan.cells plan.units ks → AreOthers ks plan sums
-are_others plan grids asked sums valid each rest ks horizons = record {
+    → AreSumsWithout plan.cells grids asked sums → AreOthers plan sums
+are_others plan grids asked sums valid each rest = record {
   as_many = rest.as_many ∙ each.as_many;
   each = λ i inside.
-      some_weaker (get_or sums i None) (IsSumWithout plan.cells grids i) (AreOthersOf ks plan i) (rest.each i (omega (arith, inside, each.as_many)))
-      (λ g sum. others_of plan grids i g valid each sum ks horizons);
+      some_weaker (get_or sums i None) (IsSumWithout plan.cells grids i) (AreOthersOf plan i) (rest.each i (omega (arith, inside, each.as_many)))
+      (λ g sum. others_of plan grids i g valid each sum);
 }
 
 -- where an ask is for a unit's share, the sum of all others is there
@@ -175,15 +170,13 @@ has_others plan grids all asked made each shared rest named = λ k d inside i is
     (rest.there i (omega (arith, place, each.as_many))).1
     ((shared.each i place).1 (any_here (λ (a : Asked). shared_unit plan.units a.ask ≡ Some i) all k d inside is))
   where
+    named_place : (units : List UnitOfPlan) (unit : Option (List ℕ)) (i : ℕ) → IfSome unit (λ name. IsNamed name units)
+        → option_map (λ name. place_of name units) unit ≡ Some i → i < length units
+    named_place units None i named is = absurd (cc)
+    named_place units (Some name) i named is = let same : place_of name units ≡ i = cc in omega (arith, same, named)
+
     names_shared : (units : List UnitOfPlan) (ask : Ask) (i : ℕ) → NamesUnit units ask → shared_unit units ask ≡ Some i → i < length units
-    names_shared units (asks.Pmf x) i named is = absurd (cc)
-    names_shared units (asks.Cdf x) i named is = absurd (cc)
-    names_shared units asks.Mean i named is = absurd (cc)
-    names_shared units (asks.Quantile p) i named is = absurd (cc)
-    names_shared units (asks.LayerMean limit attach) i named is = absurd (cc)
-    names_shared units (asks.Tail p) i named is = absurd (cc)
-    names_shared units (asks.Joint unit at) i named is = let same : place_of unit units ≡ i = cc in omega (arith, same, named)
-    names_shared units (asks.Kappa unit at) i named is = let same : place_of unit units ≡ i = cc in omega (arith, same, named)
+    names_shared units ask i named is = named_place units (facts_of ask).unit i named is
 
 -- each grid has the cells
 pub long_enough : (cells : ℕ) (us : List UnitOfPlan) (grids : List (List (Iv 56))) → AreUnitGrids cells us grids → All (λ g. cells ≤ length g) grids
@@ -195,3 +188,27 @@ long_enough cells (u ∷ us) grids each = λ i d inside.
 pub unit_valid : (plan : Plan) (units : List UnitOfPlan) (i : ℕ) (u : UnitOfPlan) → units ≡ plan.units → IsValid plan → i < length units → u ≡ get_or units i u → IsValidUnit plan.cells u
 unit_valid plan units i u same valid inside is =
     subst (IsValidUnit plan.cells) (sym (is ∙ ap (λ t. get_or t i u) same)) (valid.units i u (omega (arith, inside, ap (λ t. length t) same)))
+
+-- ---- one unit alone
+
+-- the only grid
+pub only_one : {A : Type 0} (xs rest : List A) (x : A) → xs ≡ rest ++ x ∷ [] → length xs ≡ 1 → xs ≡ x ∷ []
+only_one xs [] x is one = is
+only_one xs (y ∷ rest) x is one = absurd (omega (arith, ap (λ t. length t) is, one, length-append rest (x ∷ [])))
+
+-- its grid is that of the total
+module _ (plan : Plan) (grids : List (List (Iv 56))) (g : List (Iv 56)) (made : Grids) where
+  pub grids_of_one : IsValid plan → AreUnitGrids plan.cells plan.units grids → grids ≡ g ∷ [] → IsTotal (length g) (g ∷ []) made.sums.total
+      → AreSumsWithout (length g) (g ∷ []) (false ∷ []) made.sums.others.items → AreGridsOf plan made
+  grids_of_one valid each only total rest =
+      let long : length g ≡ plan.cells = each_cells plan.cells plan.units grids g 0 (sym (ap (λ t. get_or t 0 []) only)) (omega (arith, valid.some)) each in
+      let of_total = subst₂ (λ k t. IsTotal k t made.sums.total) long (sym only) total in
+      let of_rest = subst₂ (λ k t. AreSumsWithout k t (false ∷ []) made.sums.others.items) long (sym only) rest in record {
+        units = λ i inside some. absurd (unasked i ((of_rest.there i (omega (arith, inside, each.as_many))).0 some));
+        others = are_others plan grids (false ∷ []) made.sums.others.items valid each of_rest;
+        total = is_total plan grids made.sums.total valid each of_total;
+      }
+    where
+      unasked : (i : ℕ) → ¬ IsTrue (get_or (false ∷ []) i false)
+      unasked zero h = absurd (cc)
+      unasked (suc i) h = absurd (cc)

@@ -4,17 +4,16 @@ use Rattle.dl_plan.specs.declared.plan.Plan.{Plan}
 use Rattle.dl_plan.specs.declared.settings.Asked.{Asked}
 use Rattle.dl_plan.specs.declared.settings.Settings.{Settings}
 use Rattle.dl_report.specs.declared.report.Report.{Report}
-use Rattle.dl_budget.specs.Units.{AreHorizons}
 use Rattle.dl_budget.specs.Asks.{IsInside, NamesUnit, Passes, needed}
 use Rattle.dl_eval.specs.declared.fault.EvalFault.{EvalFault}
 use Rattle.dl_eval.specs.declared.fault.EvalFault.TheVariants.{AskBeyond, UnknownUnit, TooWide, OutOfMemory}
 use Rattle.dl_eval.specs.Rows.{S, IsGood}
 
 -- the number of digits of the settings, and one good row for each ask, in order
-pub record IsGoodReport (ks : List ℕ) (plan : Plan) (settings : Settings) (report : Report) : Type 0 where
+pub record IsGoodReport (plan : Plan) (settings : Settings) (report : Report) : Type 0 where
   pub digits : report.digits ≡ settings.digits
   pub as_many : length report.rows ≡ length settings.asks
-  pub rows : All (λ pair. IsGood ks plan settings.digits pair.0 pair.1) (zip settings.asks report.rows)
+  pub rows : All (λ pair. IsGood plan settings.digits pair.0 pair.1) (zip settings.asks report.rows)
 
 -- each ask lies inside the grid; each names a unit of the plan, if it names one; and each passes the width rule
 abbrev pub AreInside : Plan → Settings → Type 0
@@ -23,8 +22,8 @@ AreInside plan settings = All (λ asked. IsInside plan.cells asked.ask) settings
 abbrev pub NameUnits : Plan → Settings → Type 0
 NameUnits plan settings = All (λ asked. NamesUnit plan.units asked.ask) settings.asks
 
-abbrev pub AllPass : List ℕ → Plan → Settings → Type 0
-AllPass ks plan settings = All (λ asked. Passes S ks plan asked.ask settings) settings.asks
+abbrev pub AllPass : Plan → Settings → Type 0
+AllPass plan settings = All (λ asked. Passes S plan asked.ask settings) settings.asks
 
 -- ask i is the first that P does not hold of
 pub record IsFirstNot (P : Asked → Type 0) (all : List Asked) (i : ℕ) : Type 0 where
@@ -32,29 +31,25 @@ pub record IsFirstNot (P : Asked → Type 0) (all : List Asked) (i : ℕ) : Type
   pub here : (default : Asked) → ¬ P (get_or all i default)
   pub before : (k : ℕ) (default : Asked) → k < i → P (get_or all k default)
 
--- with the horizons of the plan's units
-abbrev pub WithHorizons : Plan → (List ℕ → Type 0) → Type 0
-WithHorizons plan P = (ks : List ℕ) × AreHorizons plan.cells plan.units ks × P ks
-
 -- ask i is the first that needs more width than the settings give, and it needs this one
-pub record IsFirstWide (plan : Plan) (settings : Settings) (i width : ℕ) (ks : List ℕ) : Type 0 where
-  pub first : IsFirstNot (λ asked. Passes S ks plan asked.ask settings) settings.asks i
-  pub needs : (default : Asked) → width ≡ needed S ks plan (get_or settings.asks i default).ask settings.digits
+pub record IsFirstWide (plan : Plan) (settings : Settings) (i width : ℕ) : Type 0 where
+  pub first : IsFirstNot (λ asked. Passes S plan asked.ask settings) settings.asks i
+  pub needs : (default : Asked) → width ≡ needed S plan (get_or settings.asks i default).ask settings.digits
 
 -- the first ask that passes the grid; else the first that names no unit; else the first that needs too much width
 abbrev pub Refuses : Plan → Settings → EvalFault → Type 0
 Refuses plan settings (AskBeyond i) = IsFirstNot (λ asked. IsInside plan.cells asked.ask) settings.asks i
 Refuses plan settings (UnknownUnit i) = AreInside plan settings × IsFirstNot (λ asked. NamesUnit plan.units asked.ask) settings.asks i
 Refuses plan settings (TooWide i width) =
-    AreInside plan settings × NameUnits plan settings × WithHorizons plan (IsFirstWide plan settings i width)
+    AreInside plan settings × NameUnits plan settings × IsFirstWide plan settings i width
 Refuses plan settings OutOfMemory = ⊤
 
 -- no ask is refused
-pub record AreAdmitted (plan : Plan) (settings : Settings) (ks : List ℕ) : Type 0 where
+pub record AreAdmitted (plan : Plan) (settings : Settings) : Type 0 where
   pub inside : AreInside plan settings
   pub named : NameUnits plan settings
-  pub pass : AllPass ks plan settings
+  pub pass : AllPass plan settings
 
 -- a good report, where no ask is refused
 abbrev pub IsAnswered : Plan → Settings → Report → Type 0
-IsAnswered plan settings report = WithHorizons plan (λ ks. AreAdmitted plan settings ks × IsGoodReport ks plan settings report)
+IsAnswered plan settings report = AreAdmitted plan settings × IsGoodReport plan settings report

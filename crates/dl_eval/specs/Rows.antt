@@ -103,26 +103,26 @@ pub record IsTooRare (plan : Plan) (x : ℕ) (d : Fraction) (row : Row) : Type 0
   pub rare : IsBelow plan (Point x) (least_likely +ℚ d)
 
 -- what the distribution and its points may be away from what is declared
-abbrev pub total_error : List ℕ → Plan → Fraction
-total_error ks plan = total_budget S ks plan over S
+abbrev pub total_error : Plan → Fraction
+total_error plan = total_budget S plan over S
 
--- a good answer to an ask, with d digits; ks are the horizons of the units
-abbrev pub IsAnswerTo : List ℕ → Plan → ℕ → Ask → Row → Type 0
-IsAnswerTo ks plan d (asks.Pmf x) row = AreEnds (Declares plan (Point x)) d (needed S ks plan (asks.Pmf x) d) row
-IsAnswerTo ks plan d (asks.Cdf x) row = AreEnds (Declares plan (Cdf x)) d (needed S ks plan (asks.Cdf x) d) row
-IsAnswerTo ks plan d asks.Mean row = AreEnds (Declares plan Mean) d (needed S ks plan asks.Mean d) row
-IsAnswerTo ks plan d (asks.Quantile p) row = IsBracket plan p (total_error ks plan) row
-IsAnswerTo ks plan d (asks.LayerMean limit attach) row =
-    AreEnds (Declares plan (Layer limit attach)) d (needed S ks plan (asks.LayerMean limit attach) d) row
-IsAnswerTo ks plan d (asks.Tail p) row =
-    IsTailMean plan p d (needed S ks plan (asks.Tail p) d) row ⊎ IsBeyond plan p (total_error ks plan) row
-IsAnswerTo ks plan d (asks.Joint unit at) row =
-    AreEnds (Declares plan (Joint (place_of unit plan.units) at)) d (needed S ks plan (asks.Joint unit at) d) row
-IsAnswerTo ks plan d (asks.Kappa unit at) row =
-    IsShare plan (place_of unit plan.units) at d (needed S ks plan (asks.Kappa unit at) d) row
-    ⊎ IsTooRare plan at (total_error ks plan) row
+-- a good answer to an ask, with d digits
+abbrev pub IsAnswerTo : Plan → ℕ → Ask → Row → Type 0
+IsAnswerTo plan d (asks.Pmf x) row = AreEnds (Declares plan (Point x)) d (needed S plan (asks.Pmf x) d) row
+IsAnswerTo plan d (asks.Cdf x) row = AreEnds (Declares plan (Cdf x)) d (needed S plan (asks.Cdf x) d) row
+IsAnswerTo plan d asks.Mean row = AreEnds (Declares plan Mean) d (needed S plan asks.Mean d) row
+IsAnswerTo plan d (asks.Quantile p) row = IsBracket plan p (total_error plan) row
+IsAnswerTo plan d (asks.LayerMean limit attach) row =
+    AreEnds (Declares plan (Layer limit attach)) d (needed S plan (asks.LayerMean limit attach) d) row
+IsAnswerTo plan d (asks.Tail p) row =
+    IsTailMean plan p d (needed S plan (asks.Tail p) d) row ⊎ IsBeyond plan p (total_error plan) row
+IsAnswerTo plan d (asks.Joint unit at) row =
+    AreEnds (Declares plan (Joint (place_of unit plan.units) at)) d (needed S plan (asks.Joint unit at) d) row
+IsAnswerTo plan d (asks.Kappa unit at) row =
+    IsShare plan (place_of unit plan.units) at d (needed S plan (asks.Kappa unit at) d) row
+    ⊎ IsTooRare plan at (total_error plan) row
 
 -- the ask as it was written, and a good answer
-pub record IsGood (ks : List ℕ) (plan : Plan) (d : ℕ) (asked : Asked) (row : Row) : Type 0 where
+pub record IsGood (plan : Plan) (d : ℕ) (asked : Asked) (row : Row) : Type 0 where
   pub ask : row.ask ≡ asked.text
-  pub answer : IsAnswerTo ks plan d asked.ask row
+  pub answer : IsAnswerTo plan d asked.ask row

@@ -1,43 +1,37 @@
 -- What the rows are made from: the grids and the means of the units, of their total, and of all but one.
-use Rattle.std.specs.Prelude.{ℕ, ◌≡◌, ◌+◌, ◌<◌, ◌≤◌, ◌^◌, ◌↔◌, Bool, false, IsTrue, Option, None, Some, IsSome, IfSome, Any, List, [], ◌∷◌, length, get_or}
+use Rattle.std.specs.Prelude.{ℕ, ◌≡◌, ◌+◌, ◌<◌, ◌≤◌, ◌^◌, ◌↔◌, Bool, false, IsTrue, Option, None, Some, IsSome, IfSome, option_map, Any, List, [], ◌∷◌, length, get_or}
 use Rattle.dl_exact.specs.Fraction.{◌over◌, ◌≤ℚ◌}
 use Rattle.dl_iv.specs.declared.interval.Iv.{Iv}
 use Rattle.dl_grid.specs.Cells.{spread}
 use Rattle.dl_model.specs.Series.{Holds}
-use Rattle.dl_model.specs.Family.{total, GridEncloses}
+use Rattle.dl_model.specs.Family.{total, GridEncloses, mapped}
 use Rattle.dl_model.specs.Program.{One, Mean, Joint, partial_sums}
 use Rattle.dl_model.specs.Measures.{without}
-use Rattle.dl_model.specs.Plans.{aggregate_of, aggregates_of, mapped_of}
+use Rattle.dl_model.specs.Plans.{aggregate_of, aggregates_of}
 use Rattle.dl_plan.specs.declared.plan.Unit.{Unit as UnitOfPlan}
 use Rattle.dl_plan.specs.declared.plan.Plan.{Plan}
 use Rattle.dl_plan.specs.declared.settings.Ask.{Ask}
-use Rattle.dl_plan.specs.declared.settings.Ask.TheVariants as asks
 use Rattle.dl_plan.specs.declared.settings.Asked.{Asked}
-use Rattle.dl_plan.specs.Horizon.{IsHorizonOf}
-use Rattle.dl_budget.specs.Claims.{claims_budget}
-use Rattle.dl_budget.specs.Units.{AreHorizons, unit_budget, total_budget, others_budget, clause_mean, mean_budget}
+use Rattle.dl_plan.specs.Facts.{facts_of}
+use Rattle.dl_budget.specs.Units.{unit_budget, unit_mean_budget, total_budget, others_budget, mean_budget}
 use Rattle.dl_report.specs.declared.report.End.TheVariants.{Number}
 use Rattle.dl_report.specs.declared.report.Row.{Row}
 use Rattle.dl_budget.specs.Asks.{place_of, joint_budget, in_digits}
 use Rattle.dl_eval.specs.declared.grids.Grids.{Grids}
 use Rattle.dl_eval.specs.Rows.{S, Declares}
 
--- what holds with the horizons of the plan's units
-abbrev pub OnHorizons : Plan → (List ℕ → Type 0) → Type 0
-OnHorizons plan P = (ks : List ℕ) → AreHorizons plan.cells plan.units ks → P ks
-
 -- ---- units
 
--- a grid of H cells of a unit's outcomes, after its aggregate clause, within its budget; K is the unit's horizon
+-- a grid of H cells of a unit's outcomes, after its aggregate clause, within its budget
 pub record IsUnitGrid (H : ℕ) (u : UnitOfPlan) (g : List (Iv 56)) : Type 0 where
   pub cells : length g ≡ H
-  pub encloses : GridEncloses g (mapped_of u)
-  pub narrow : (K : ℕ) → IsHorizonOf u.cede H K → spread g ≤ unit_budget S K u
+  pub encloses : GridEncloses g (mapped (aggregate_of u))
+  pub narrow : spread g ≤ unit_budget S H u
 
 -- the mean of a unit's outcomes, within its budget
 pub record IsUnitMean (H : ℕ) (u : UnitOfPlan) (mean : Iv 56) : Type 0 where
   pub holds : Holds (partial_sums (aggregate_of u ∷ []) Mean) (partial_sums (aggregate_of u ∷ []) One) (mean.lo over S) (mean.hi over S)
-  pub narrow : (K : ℕ) → IsHorizonOf u.cede H K → mean.hi ≤ mean.lo + clause_mean u.cede (claims_budget S K u)
+  pub narrow : mean.hi ≤ mean.lo + unit_mean_budget S H u
 
 -- one grid for each unit, in order
 pub record AreUnitGrids (cells : ℕ) (units : List UnitOfPlan) (grids : List (List (Iv 56))) : Type 0 where
@@ -52,34 +46,27 @@ pub record AreUnitMeans (cells : ℕ) (units : List UnitOfPlan) (means : List (I
 -- ---- sums of units
 
 -- the grid of the total, within its budget
-pub record IsTotalOf (ks : List ℕ) (plan : Plan) (g : List (Iv 56)) : Type 0 where
+pub record IsTotalOf (plan : Plan) (g : List (Iv 56)) : Type 0 where
   pub cells : length g ≡ plan.cells
   pub encloses : GridEncloses g (total (aggregates_of plan))
-  pub narrow : spread g ≤ total_budget S ks plan
+  pub narrow : spread g ≤ total_budget S plan
 
 -- the grid of the sum of all units but unit i, within its budget
-pub record AreOthersOf (ks : List ℕ) (plan : Plan) (i : ℕ) (g : List (Iv 56)) : Type 0 where
+pub record AreOthersOf (plan : Plan) (i : ℕ) (g : List (Iv 56)) : Type 0 where
   pub cells : length g ≡ plan.cells
   pub encloses : GridEncloses g (total (without (aggregates_of plan) i))
-  pub narrow : spread g ≤ others_budget S ks plan i
+  pub narrow : spread g ≤ others_budget S plan i
 
 -- the mean of the total, within its budget
-pub record IsMeanOf (ks : List ℕ) (plan : Plan) (mean : Iv 56) : Type 0 where
+pub record IsMeanOf (plan : Plan) (mean : Iv 56) : Type 0 where
   pub holds : Declares plan Mean (mean.lo over S) (mean.hi over S)
-  pub narrow : mean.hi ≤ mean.lo + mean_budget S ks plan
+  pub narrow : mean.hi ≤ mean.lo + mean_budget S plan
 
 -- ---- shares
 
 -- the unit whose share an ask is for, counted from 0
 abbrev pub shared_unit : List UnitOfPlan → Ask → Option ℕ
-shared_unit units (asks.Pmf x) = None
-shared_unit units (asks.Cdf x) = None
-shared_unit units asks.Mean = None
-shared_unit units (asks.Quantile p) = None
-shared_unit units (asks.LayerMean limit attach) = None
-shared_unit units (asks.Tail p) = None
-shared_unit units (asks.Joint unit at) = Some (place_of unit units)
-shared_unit units (asks.Kappa unit at) = Some (place_of unit units)
+shared_unit units ask = option_map (λ name. place_of name units) (facts_of ask).unit
 
 -- whether each unit is one whose share an ask is for
 pub record AreShared (units : List UnitOfPlan) (all : List Asked) (asked : List Bool) : Type 0 where
@@ -91,20 +78,21 @@ abbrev pub HasOthers : List UnitOfPlan → Grids → Ask → Type 0
 HasOthers units grids ask = (i : ℕ) → shared_unit units ask ≡ Some i → IsSome (get_or grids.sums.others.items i None)
 
 -- for each unit, where it is there, the grid of the sum of all others
-pub record AreOthers (ks : List ℕ) (plan : Plan) (others : List (Option (List (Iv 56)))) : Type 0 where
+pub record AreOthers (plan : Plan) (others : List (Option (List (Iv 56)))) : Type 0 where
   pub as_many : length others ≡ length plan.units
-  pub each : (i : ℕ) → i < length plan.units → IfSome (get_or others i None) (AreOthersOf ks plan i)
+  pub each : (i : ℕ) → i < length plan.units → IfSome (get_or others i None) (AreOthersOf plan i)
 
--- the grids of the units, those of all but one, and that of the total
-pub record AreGridsOf (ks : List ℕ) (plan : Plan) (grids : Grids) : Type 0 where
-  pub units : AreUnitGrids plan.cells plan.units grids.units.items
-  pub others : AreOthers ks plan grids.sums.others.items
-  pub total : IsTotalOf ks plan grids.sums.total
+-- the grids of the units, where that of all others is there for one of them; those of all but one, and that of the total
+pub record AreGridsOf (plan : Plan) (grids : Grids) : Type 0 where
+  pub units : (i : ℕ) → i < length plan.units → IsSome (get_or grids.sums.others.items i None)
+      → AreUnitGrids plan.cells plan.units grids.units.items
+  pub others : AreOthers plan grids.sums.others.items
+  pub total : IsTotalOf plan grids.sums.total
 
 -- the joint mean of unit i at a total, within its budget
-pub record IsJointOf (ks : List ℕ) (plan : Plan) (i at : ℕ) (mean : Iv 56) : Type 0 where
+pub record IsJointOf (plan : Plan) (i at : ℕ) (mean : Iv 56) : Type 0 where
   pub holds : Declares plan (Joint i at) (mean.lo over S) (mean.hi over S)
-  pub narrow : mean.hi ≤ mean.lo + joint_budget S ks plan i
+  pub narrow : mean.hi ≤ mean.lo + joint_budget S plan i
 
 -- ---- what is printed
 

@@ -6,7 +6,7 @@ ghost use Rattle.dl_plan.specs.Ranges.{AreInRange};
 ghost use Rattle.dl_plan.specs.Valid.{IsValid};
 ghost use Rattle.dl_budget.specs.Asks.{NamesUnit};
 ghost use Rattle.dl_eval.specs.Answers.{AreInside, NameUnits, IsGoodReport, IsAnswered, Refuses};
-ghost use Rattle.dl_eval.specs.Totals.{AreGridsOf, HasOthers, IsMeanOf, OnHorizons};
+ghost use Rattle.dl_eval.specs.Totals.{AreGridsOf, HasOthers, IsMeanOf};
 
 use crate::admission::admit;
 use crate::fault::EvalFault;
@@ -16,6 +16,7 @@ use crate::rows::row;
 use crate::units::{unit_means, unit_outcomes};
 use dl_iv::Iv;
 use dl_plan::{Ask, Asked, Many, Plan, Settings};
+use dl_product::Workspace;
 use dl_report::Report;
 use std::alloc::{AllocError, Global};
 
@@ -25,13 +26,7 @@ fn is_mean(ask: &Ask) -> bool
 {
     match ask {
         Ask::Mean => true,
-        Ask::Pmf(_)
-        | Ask::Cdf(_)
-        | Ask::Quantile(_)
-        | Ask::LayerMean { .. }
-        | Ask::Tail(_)
-        | Ask::Joint { .. }
-        | Ask::Kappa { .. } => false,
+        _ => false,
     }
 }
 
@@ -53,27 +48,32 @@ struct Parts {
 
 /// What the rows of a valid plan are made from. Where all asks are for the mean, the only grids made
 /// on the way are those of units with an aggregate clause.
-fn parts_for(alloc: Global, plan: &Plan, asks: &[Asked]) -> Result<Parts, AllocError>
+fn parts_for(
+    alloc: Global,
+    work: &mut Workspace,
+    plan: &Plan,
+    asks: &[Asked],
+) -> Result<Parts, AllocError>
     requires valid { IsValid plan.now }
     requires named { All (λ asked. NamesUnit plan.now.units asked.ask) asks.now }
     ensures grids { IfOk result (λ parts. IfSome parts.grids (λ made.
-        OnHorizons plan.now (λ ks. AreGridsOf ks plan.now made))) }
+        AreGridsOf plan.now made)) }
     ensures there { IfOk result (λ parts. IfSome parts.grids (λ made.
         All (λ asked. HasOthers plan.now.units made asked.ask) asks.now)) }
     ensures none { IfOk result (λ parts. parts.grids ≡ None → All (λ asked. asked.ask ≡ kinds.Mean) asks.now) }
-    ensures mean { IfOk result (λ parts. OnHorizons plan.now (λ ks. IsMeanOf ks plan.now parts.mean)) }
+    ensures mean { IfOk result (λ parts. IsMeanOf plan.now parts.mean) }
     ensures small { IfOk result (λ parts. parts.mean.hi ≤ 2 ^ 97) }
 {
     if are_means(asks) {
-        let means = unit_means(alloc, plan)?;
+        let means = unit_means(alloc, work, plan)?;
         return Ok(Parts {
             grids: None,
             mean: total_mean(means.as_slice()),
         });
     }
-    let made = unit_outcomes(alloc, plan)?;
+    let made = unit_outcomes(alloc, work, plan)?;
     let mean = total_mean(made.means.as_slice());
-    let grids = grids_of(alloc, plan, asks, made.grids)?;
+    let grids = grids_of(alloc, work, plan, asks, made.grids)?;
     Ok(Parts {
         grids: Some(grids),
         mean,
@@ -91,13 +91,13 @@ fn report(
     requires ranges { AreInRange settings.now }
     requires inside { AreInside plan.now settings.now }
     requires named { NameUnits plan.now settings.now }
-    requires grids { IfSome parts.now.grids (λ made. OnHorizons plan.now (λ ks. AreGridsOf ks plan.now made)) }
+    requires grids { IfSome parts.now.grids (λ made. AreGridsOf plan.now made) }
     requires there { IfSome parts.now.grids (λ made.
         All (λ asked. HasOthers plan.now.units made asked.ask) settings.now.asks) }
     requires none { parts.now.grids ≡ None → All (λ asked. asked.ask ≡ kinds.Mean) settings.now.asks }
-    requires mean { OnHorizons plan.now (λ ks. IsMeanOf ks plan.now parts.now.mean) }
+    requires mean { IsMeanOf plan.now parts.now.mean }
     requires small { parts.now.mean.hi ≤ 2 ^ 97 }
-    ensures { IfOk result (λ report. OnHorizons plan.now (λ ks. IsGoodReport ks plan.now settings.now report)) }
+    ensures { IfOk result (λ report. IsGoodReport plan.now settings.now report) }
 {
     let asks = settings.asks.as_slice();
     let mut rows = Vec::new(alloc);
@@ -126,7 +126,8 @@ pub fn evaluate(alloc: Global, plan: &Plan, settings: &Settings) -> Result<Repor
     ensures { MatchResult result (IsAnswered plan.now settings.now) (Refuses plan.now settings.now) }
 {
     admit(plan, settings)?;
-    let parts = parts_for(alloc, plan, settings.asks.as_slice())?;
+    let mut work = Workspace::new(alloc);
+    let parts = parts_for(alloc, &mut work, plan, settings.asks.as_slice())?;
     let report = report(alloc, plan, settings, &parts)?;
     Ok(report)
 }

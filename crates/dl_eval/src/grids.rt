@@ -3,18 +3,19 @@
 ghost use Rattle.std.specs.Prelude.{◌≡◌, ◌≤◌, ◌↔◌, IsTrue, Some, All, Any, IfOk, length};
 ghost use Rattle.dl_plan.specs.Valid.{IsValid};
 ghost use Rattle.dl_budget.specs.Asks.{NamesUnit};
-ghost use Rattle.dl_eval.specs.Totals.{AreUnitGrids, AreGridsOf, AreShared, HasOthers, OnHorizons, shared_unit};
+ghost use Rattle.dl_eval.specs.Totals.{AreUnitGrids, AreGridsOf, AreShared, HasOthers, shared_unit};
 
 use dl_budget::place;
 use dl_grid::Grid;
 use dl_plan::{Ask, Asked, Plan, Unit};
-use dl_port::{Sums, total_and_others};
+use dl_port::{Sums, sums_of_one, total_and_others};
+use dl_product::Workspace;
 use std::alloc::{AllocError, Global};
 
 /// The grids that the rows of a plan are made from.
 #[derive(Drop)]
 pub(crate) struct Grids {
-    /// For each unit, that of its outcomes.
+    /// For each unit, that of its outcomes; it may be gone where no ask is for a share.
     pub(crate) units: Vec<Grid<56>>,
     /// That of the total; and for each unit whose share an ask is for, that of all other units.
     pub(crate) sums: Sums<56>,
@@ -25,14 +26,9 @@ fn is_for_share(units: &[Unit], ask: &Ask, i: u32) -> bool
     requires few { length units.now ≤ 16 }
     ensures { IsTrue result ↔ (shared_unit units.now ask.now ≡ Some i) }
 {
-    match ask {
-        Ask::Joint { unit, .. } | Ask::Kappa { unit, .. } => place(units, unit.as_slice()) == i,
-        Ask::Pmf(_)
-        | Ask::Cdf(_)
-        | Ask::Mean
-        | Ask::Quantile(_)
-        | Ask::LayerMean { .. }
-        | Ask::Tail(_) => false,
+    match ask.unit() {
+        Some(name) => place(units, name.as_slice()) == i,
+        None => false,
     }
 }
 
@@ -57,8 +53,10 @@ fn shared_units(alloc: Global, units: &[Unit], asks: &[Asked]) -> Result<Vec<boo
 }
 
 /// The grids that the rows of a valid plan are made from, where those of its units' outcomes are there.
+/// The grid of an only unit whose share no ask is for is that of the total: it is moved and not copied.
 pub(crate) fn grids_of(
     alloc: Global,
+    work: &mut Workspace,
     plan: &Plan,
     asks: &[Asked],
     units: Vec<Grid<56>>,
@@ -66,10 +64,33 @@ pub(crate) fn grids_of(
     requires valid { IsValid plan.now }
     requires named { All (λ asked. NamesUnit plan.now.units asked.ask) asks.now }
     requires units { AreUnitGrids plan.now.cells plan.now.units units.items }
-    ensures grids { IfOk result (λ grids. OnHorizons plan.now (λ ks. AreGridsOf ks plan.now grids)) }
+    ensures grids { IfOk result (λ grids. AreGridsOf plan.now grids) }
+    ensures there { IfOk result (λ grids. All (λ asked. HasOthers plan.now.units grids asked.ask) asks.now) }
+{
+    if units.len() == 1 && !is_shared(plan.units.as_slice(), asks, 0) {
+        let mut units = units;
+        let unit = units.pop().unwrap();
+        let sums = sums_of_one(alloc, unit)?;
+        return Ok(Grids { units, sums });
+    }
+    shared_grids(alloc, work, plan, asks, units)
+}
+
+/// The grids that the rows are made from, from sums of units that they share.
+fn shared_grids(
+    alloc: Global,
+    work: &mut Workspace,
+    plan: &Plan,
+    asks: &[Asked],
+    units: Vec<Grid<56>>,
+) -> Result<Grids, AllocError>
+    requires valid { IsValid plan.now }
+    requires named { All (λ asked. NamesUnit plan.now.units asked.ask) asks.now }
+    requires units { AreUnitGrids plan.now.cells plan.now.units units.items }
+    ensures grids { IfOk result (λ grids. AreGridsOf plan.now grids) }
     ensures there { IfOk result (λ grids. All (λ asked. HasOthers plan.now.units grids asked.ask) asks.now) }
 {
     let asked = shared_units(alloc, plan.units.as_slice(), asks)?;
-    let sums = total_and_others(alloc, units.as_slice(), asked.as_slice(), plan.cells)?;
+    let sums = total_and_others(alloc, work, units.as_slice(), asked.as_slice(), plan.cells)?;
     Ok(Grids { units, sums })
 }

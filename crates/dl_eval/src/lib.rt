@@ -8,6 +8,7 @@ mod fault;
 mod grids;
 mod mean;
 mod rows;
+mod same;
 mod shares;
 #[cfg(test)]
 mod tests;

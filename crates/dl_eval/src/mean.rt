@@ -3,7 +3,6 @@
 ghost use Rattle.std.specs.Prelude.{◌≤◌, ◌^◌, ℕ, List, All, length};
 ghost use Rattle.dl_plan.specs.declared.plan.Plan.{Plan};
 ghost use Rattle.dl_plan.specs.Valid.{IsValid};
-ghost use Rattle.dl_budget.specs.Units.{AreHorizons};
 ghost use Rattle.dl_eval.specs.Totals.{AreUnitMeans, IsMeanOf};
 
 use dl_iv::Iv;
@@ -12,8 +11,7 @@ use dl_iv::Iv;
 pub(crate) fn total_mean(means: &[Iv<56>]) -> Iv<56>
     requires few { length means.now ≤ 16 }
     requires small { All (λ mean. mean.hi ≤ 2 ^ 93) means.now }
-    ensures mean { (plan : Plan) (ks : List ℕ) → IsValid plan → AreHorizons plan.cells plan.units ks
-        → AreUnitMeans plan.cells plan.units means.now → IsMeanOf ks plan result }
+    ensures mean { (plan : Plan) → IsValid plan → AreUnitMeans plan.cells plan.units means.now → IsMeanOf plan result }
     ensures small { result.hi ≤ 2 ^ 97 }
 {
     Iv::sum(means)

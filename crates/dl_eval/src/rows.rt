@@ -7,7 +7,7 @@ ghost use Rattle.dl_plan.specs.Ranges.{IsLevel, HasLevel};
 ghost use Rattle.dl_plan.specs.Valid.{IsValid};
 ghost use Rattle.dl_budget.specs.Asks.{IsInside, NamesUnit, tail_budget, in_digits};
 ghost use Rattle.dl_eval.specs.Rows.{S, IsBracket, IsTailMean, IsBeyond, IsAnswerTo, IsGood, bracket_end, total_error};
-ghost use Rattle.dl_eval.specs.Totals.{IsTotalOf, IsMeanOf, AreGridsOf, HasOthers, OnHorizons, Prints};
+ghost use Rattle.dl_eval.specs.Totals.{IsTotalOf, IsMeanOf, AreGridsOf, HasOthers, Prints};
 
 use crate::grids::Grids;
 use crate::shares::{joint_of, share_row};
@@ -60,11 +60,10 @@ fn bracket_end(hi: Option<u32>) -> End
 fn quantile_row(alloc: Global, asked: &Asked, total: &Grid<56>, p: Frac) -> Result<Row, AllocError>
     requires level { IsLevel p }
     ensures ask { IfOk result (λ row. row.ask ≡ asked.now.text) }
-    ensures bracket { IfOk result (λ row. (ks : List ℕ) (plan : PlanValue) → IsValid plan → IsTotalOf ks plan total.now
-        → IsBracket plan p (total_error ks plan) row) }
+    ensures bracket { IfOk result (λ row. (plan : PlanValue) → IsValid plan → IsTotalOf plan total.now
+        → IsBracket plan p (total_error plan) row) }
 {
-    // a grid has no more than its whole mass
-    let _cells = total.as_slice();
+    total.cells();
     let bracket = quantile(total, p);
     let end = bracket_end(bracket.hi);
     row_with(alloc, asked, End::Whole(bracket.lo), end)
@@ -83,10 +82,10 @@ fn tail_row(
     requires level { IsLevel p }
     requires small { mean.hi ≤ 2 ^ 97 }
     ensures ask { IfOk result (λ row. row.ask ≡ asked.now.text) }
-    ensures tail { IfOk result (λ row. (ks : List ℕ) (plan : PlanValue) → IsValid plan
-        → IsTotalOf ks plan total.now → IsMeanOf ks plan mean
-        → IsTailMean plan p digits (in_digits S (tail_budget S ks plan p) digits) row
-        ⊎ IsBeyond plan p (total_error ks plan) row) }
+    ensures tail { IfOk result (λ row. (plan : PlanValue) → IsValid plan
+        → IsTotalOf plan total.now → IsMeanOf plan mean
+        → IsTailMean plan p digits (in_digits S (tail_budget S plan p) digits) row
+        ⊎ IsBeyond plan p (total_error plan) row) }
 {
     match tail_mean(total, p, mean) {
         Some(tail) => ends_row(alloc, asked, digits, tail),
@@ -108,12 +107,12 @@ fn grid_row(
     requires valid { IsValid plan.now }
     requires inside { IsInside plan.now.cells asked.now.ask }
     requires named { NamesUnit plan.now.units asked.now.ask }
-    requires grids { OnHorizons plan.now (λ ks. AreGridsOf ks plan.now grids.now) }
+    requires grids { AreGridsOf plan.now grids.now }
     requires there { HasOthers plan.now.units grids.now asked.now.ask }
-    requires mean { OnHorizons plan.now (λ ks. IsMeanOf ks plan.now mean) }
+    requires mean { IsMeanOf plan.now mean }
     requires small { mean.hi ≤ 2 ^ 97 }
     ensures ask { IfOk result (λ row. row.ask ≡ asked.now.text) }
-    ensures answer { IfOk result (λ row. OnHorizons plan.now (λ ks. IsAnswerTo ks plan.now digits asked.now.ask row)) }
+    ensures answer { IfOk result (λ row. IsAnswerTo plan.now digits asked.now.ask row) }
 {
     let total = &grids.sums.total;
     match &asked.ask {
@@ -152,12 +151,12 @@ pub(crate) fn row(
     requires valid { IsValid plan.now }
     requires inside { IsInside plan.now.cells asked.now.ask }
     requires named { NamesUnit plan.now.units asked.now.ask }
-    requires grids { IfSome grids.now (λ made. OnHorizons plan.now (λ ks. AreGridsOf ks plan.now made)) }
+    requires grids { IfSome grids.now (λ made. AreGridsOf plan.now made) }
     requires there { IfSome grids.now (λ made. HasOthers plan.now.units made asked.now.ask) }
     requires none { grids.now ≡ None → asked.now.ask ≡ asks.Mean }
-    requires mean { OnHorizons plan.now (λ ks. IsMeanOf ks plan.now mean) }
+    requires mean { IsMeanOf plan.now mean }
     requires small { mean.hi ≤ 2 ^ 97 }
-    ensures { IfOk result (λ row. OnHorizons plan.now (λ ks. IsGood ks plan.now digits asked.now row)) }
+    ensures { IfOk result (λ row. IsGood plan.now digits asked.now row) }
 {
     match grids {
         Some(grids) => grid_row(alloc, asked, digits, plan, grids, mean),

@@ -6,7 +6,7 @@ ghost use Rattle.dl_model.specs.Program.{Point};
 ghost use Rattle.dl_plan.specs.Valid.{IsValid};
 ghost use Rattle.dl_budget.specs.Asks.{kappa_budget, in_digits};
 ghost use Rattle.dl_eval.specs.Rows.{S, IsAtMost, IsShare, IsTooRare, total_error};
-ghost use Rattle.dl_eval.specs.Totals.{AreGridsOf, IsJointOf, OnHorizons};
+ghost use Rattle.dl_eval.specs.Totals.{AreGridsOf, IsJointOf};
 
 use crate::grids::Grids;
 use crate::rows::{ends_row, row_with};
@@ -20,11 +20,11 @@ use std::alloc::{AllocError, Global};
 /// The mean outcome of unit `i` where the total is `at`, and 0 elsewhere, in buckets.
 pub(crate) fn joint_of(plan: &Plan, grids: &Grids, i: u32, at: u32) -> Iv<56>
     requires valid { IsValid plan.now }
-    requires grids { OnHorizons plan.now (λ ks. AreGridsOf ks plan.now grids.now) }
+    requires grids { AreGridsOf plan.now grids.now }
     requires unit { i < length plan.now.units }
     requires there { IsSome (get_or grids.now.sums.others.items i None) }
     requires inside { at < plan.now.cells }
-    ensures joint { OnHorizons plan.now (λ ks. IsJointOf ks plan.now i at result) }
+    ensures joint { IsJointOf plan.now i at result }
     ensures below { (h : ℕ) → IsAtMost plan.now (Point at) (h over S) → result.lo ≤ at * h }
     ensures small { result.hi ≤ 2 ^ 70 }
 {
@@ -50,14 +50,13 @@ pub(crate) fn share_row(
 ) -> Result<Row, AllocError>
     requires digits { digits ≤ 9 }
     requires valid { IsValid plan.now }
-    requires grids { OnHorizons plan.now (λ ks. AreGridsOf ks plan.now grids.now) }
+    requires grids { AreGridsOf plan.now grids.now }
     requires unit { i < length plan.now.units }
     requires there { IsSome (get_or grids.now.sums.others.items i None) }
     requires inside { at < plan.now.cells }
     ensures ask { IfOk result (λ row. row.ask ≡ asked.now.text) }
-    ensures share { IfOk result (λ row. OnHorizons plan.now (λ ks.
-        IsShare plan.now i at digits (in_digits S (kappa_budget S ks plan.now i) digits) row
-        ⊎ IsTooRare plan.now at (total_error ks plan.now) row)) }
+    ensures share { IfOk result (λ row. IsShare plan.now i at digits (in_digits S (kappa_budget S plan.now i) digits) row
+        ⊎ IsTooRare plan.now at (total_error plan.now) row) }
 {
     let joint = joint_of(plan, grids, i, at);
     match conditional_mean(joint, grids.sums.total.at(at)) {

@@ -1,20 +1,24 @@
 //! What is made of each unit: the grid of its outcomes, and their mean.
 
-ghost use Rattle.std.specs.Prelude.{◌≤◌, ◌^◌, All, IfOk, length};
+ghost use Rattle.std.specs.Prelude.{ℕ, List, ◌≡◌, ◌<◌, ◌≤◌, ◌^◌, All, IfOk, length, get_or};
+ghost use Rattle.dl_iv.specs.declared.interval.Iv.{Iv as IvValue};
 ghost use Rattle.dl_grid.specs.Cells.{spread};
 ghost use Rattle.dl_model.specs.Family.{GridEncloses};
 ghost use Rattle.dl_model.specs.Plans.{compound_of};
+ghost use Rattle.dl_plan.specs.declared.plan.Unit.{Unit as UnitOfPlan};
 ghost use Rattle.dl_plan.specs.Horizon.{IsHorizonOf};
 ghost use Rattle.dl_plan.specs.Valid.{IsValidUnit, IsValid};
 ghost use Rattle.dl_budget.specs.Claims.{claims_budget};
 ghost use Rattle.dl_eval.specs.Rows.{S};
 ghost use Rattle.dl_eval.specs.Totals.{IsUnitGrid, IsUnitMean, AreUnitGrids, AreUnitMeans};
 
+use crate::same::first_alike;
 use dl_cede::{cede_grid, cede_mean, claims_mean};
 use dl_grid::Grid;
 use dl_iv::Iv;
 use dl_plan::{Plan, Unit};
-use dl_unit::unit_grid;
+use dl_product::Workspace;
+use dl_unit::unit_grid_with;
 use std::alloc::{AllocError, Global};
 
 /// What is made of the units of a plan, one for each unit, in order.
@@ -40,7 +44,12 @@ fn horizon(unit: &Unit, cells: u32) -> u32
 
 /// The grid of the sum of a unit's claims before its aggregate clause, on its horizon for a grid of
 /// `cells` cells.
-fn claims_grid(alloc: Global, unit: &Unit, cells: u32) -> Result<Grid<56>, AllocError>
+fn claims_grid(
+    alloc: Global,
+    work: &mut Workspace,
+    unit: &Unit,
+    cells: u32,
+) -> Result<Grid<56>, AllocError>
     requires valid { IsValidUnit cells unit.now }
     requires some { 1 ≤ cells }
     requires few { cells ≤ 4096 }
@@ -48,7 +57,7 @@ fn claims_grid(alloc: Global, unit: &Unit, cells: u32) -> Result<Grid<56>, Alloc
     ensures encloses { IfOk result (λ g. GridEncloses g (compound_of unit.now.freq unit.now.sev)) }
     ensures spread { IfOk result (λ g. spread g ≤ claims_budget S (length g) unit.now) }
 {
-    unit_grid(alloc, unit, horizon(unit, cells))
+    unit_grid_with(alloc, work, unit, horizon(unit, cells))
 }
 
 /// The grid of a unit's outcomes after its aggregate clause, from that of the sum of its claims.
@@ -73,7 +82,12 @@ fn after_clause(
 }
 
 /// The grid of a unit's outcomes, and their mean.
-fn outcomes_of(alloc: Global, unit: &Unit, cells: u32) -> Result<(Grid<56>, Iv<56>), AllocError>
+fn outcomes_of(
+    alloc: Global,
+    work: &mut Workspace,
+    unit: &Unit,
+    cells: u32,
+) -> Result<(Grid<56>, Iv<56>), AllocError>
     requires valid { IsValidUnit cells unit.now }
     requires some { 1 ≤ cells }
     requires few { cells ≤ 4096 }
@@ -81,14 +95,51 @@ fn outcomes_of(alloc: Global, unit: &Unit, cells: u32) -> Result<(Grid<56>, Iv<5
     ensures mean { IfOk result (λ made. IsUnitMean cells unit.now made.1) }
     ensures small { IfOk result (λ made. made.1.hi ≤ 2 ^ 93) }
 {
-    let claims = claims_grid(alloc, unit, cells)?;
+    let claims = claims_grid(alloc, work, unit, cells)?;
     let mean = cede_mean(unit, &claims);
     let grid = after_clause(alloc, unit, claims, cells)?;
     Ok((grid, mean))
 }
 
-/// The grids of the outcomes of a valid plan's units, and their means.
-pub(crate) fn unit_outcomes(alloc: Global, plan: &Plan) -> Result<Outcomes, AllocError>
+/// The grid of a unit's outcomes, and their mean, where those of the first units are there: those of a
+/// unit that is like it are copied, and else they are worked out.
+fn outcomes_after(
+    alloc: Global,
+    work: &mut Workspace,
+    unit: &Unit,
+    cells: u32,
+    units: &[Unit],
+    grids: &[Grid<56>],
+    means: &[Iv<56>],
+) -> Result<(Grid<56>, Iv<56>), AllocError>
+    requires valid { IsValidUnit cells unit.now }
+    requires some { 1 ≤ cells }
+    requires few { cells ≤ 4096 }
+    requires there { length grids.now ≤ length units.now }
+    requires as_many { length means.now ≡ length grids.now }
+    requires grids { (i : ℕ) (u : UnitOfPlan) (g : List (IvValue 56)) → i < length grids.now
+        → IsUnitGrid cells (get_or units.now i u) (get_or grids.now i g) }
+    requires means { (i : ℕ) (u : UnitOfPlan) (m : IvValue 56) → i < length grids.now
+        → IsUnitMean cells (get_or units.now i u) (get_or means.now i m) }
+    requires small { All (λ mean. mean.hi ≤ 2 ^ 93) means.now }
+    ensures grid { IfOk result (λ made. IsUnitGrid cells unit.now made.0) }
+    ensures mean { IfOk result (λ made. IsUnitMean cells unit.now made.1) }
+    ensures small { IfOk result (λ made. made.1.hi ≤ 2 ^ 93) }
+{
+    let Some(j) = first_alike(units, grids.len(), unit) else {
+        return outcomes_of(alloc, work, unit, cells);
+    };
+    let grid = Grid::truncate(alloc, &grids[j], cells)?;
+    Ok((grid, means[j]))
+}
+
+/// The grids of the outcomes of a valid plan's units, and their means. Units that are alike are worked
+/// out once.
+pub(crate) fn unit_outcomes(
+    alloc: Global,
+    work: &mut Workspace,
+    plan: &Plan,
+) -> Result<Outcomes, AllocError>
     requires valid { IsValid plan.now }
     ensures grids { IfOk result (λ made. AreUnitGrids plan.now.cells plan.now.units made.grids.items) }
     ensures means { IfOk result (λ made. AreUnitMeans plan.now.cells plan.now.units made.means.items) }
@@ -98,7 +149,15 @@ pub(crate) fn unit_outcomes(alloc: Global, plan: &Plan) -> Result<Outcomes, Allo
     let mut grids = Vec::new(alloc);
     let mut means = Vec::new(alloc);
     for unit in units {
-        let (grid, mean) = outcomes_of(alloc, unit, plan.cells)?;
+        let (grid, mean) = outcomes_after(
+            alloc,
+            work,
+            unit,
+            plan.cells,
+            units,
+            grids.as_slice(),
+            means.as_slice(),
+        )?;
         grids.push(grid)?;
         means.push(mean)?;
     }
@@ -106,7 +165,12 @@ pub(crate) fn unit_outcomes(alloc: Global, plan: &Plan) -> Result<Outcomes, Allo
 }
 
 /// The mean of a unit's outcomes. It needs a grid only where there is an aggregate clause.
-fn mean_of(alloc: Global, unit: &Unit, cells: u32) -> Result<Iv<56>, AllocError>
+fn mean_of(
+    alloc: Global,
+    work: &mut Workspace,
+    unit: &Unit,
+    cells: u32,
+) -> Result<Iv<56>, AllocError>
     requires valid { IsValidUnit cells unit.now }
     requires some { 1 ≤ cells }
     requires few { cells ≤ 4096 }
@@ -115,7 +179,7 @@ fn mean_of(alloc: Global, unit: &Unit, cells: u32) -> Result<Iv<56>, AllocError>
 {
     match unit.cede {
         Some(_) => {
-            let claims = claims_grid(alloc, unit, cells)?;
+            let claims = claims_grid(alloc, work, unit, cells)?;
             Ok(cede_mean(unit, &claims))
         }
         None => Ok(claims_mean(unit)),
@@ -123,7 +187,11 @@ fn mean_of(alloc: Global, unit: &Unit, cells: u32) -> Result<Iv<56>, AllocError>
 }
 
 /// The means of the outcomes of a valid plan's units, where no more is asked for.
-pub(crate) fn unit_means(alloc: Global, plan: &Plan) -> Result<Vec<Iv<56>>, AllocError>
+pub(crate) fn unit_means(
+    alloc: Global,
+    work: &mut Workspace,
+    plan: &Plan,
+) -> Result<Vec<Iv<56>>, AllocError>
     requires valid { IsValid plan.now }
     ensures means { IfOk result (λ means. AreUnitMeans plan.now.cells plan.now.units means.items) }
     ensures small { IfOk result (λ means. All (λ mean. mean.hi ≤ 2 ^ 93) means.items) }
@@ -131,7 +199,7 @@ pub(crate) fn unit_means(alloc: Global, plan: &Plan) -> Result<Vec<Iv<56>>, Allo
     let units = plan.units.as_slice();
     let mut means = Vec::new(alloc);
     for unit in units {
-        let mean = mean_of(alloc, unit, plan.cells)?;
+        let mean = mean_of(alloc, work, unit, plan.cells)?;
         means.push(mean)?;
     }
     Ok(means)

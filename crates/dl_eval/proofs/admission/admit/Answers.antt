@@ -1,27 +1,20 @@
 use Rattle.std.proofs.Common.{subst, subst₂}
 use Rattle.std.specs.Prelude.{All}
 use Rattle.dl_budget.specs.Asks.{IsInside, NamesUnit}
-use Rattle.dl_budget.proofs.Horizons.{some_horizons}
 use Rattle.dl_eval.proofs.admission.admit.Goals as goal
 
 pub returns-in-Some-first_wide : goal.returns-in-Some-first_wide
 returns-in-Some-first_wide c =
-    let plan = c.args.plan.now in
-    let ks = some_horizons plan c.requires.valid in (
+    let plan = c.args.plan.now in (
       subst (λ asks. All (λ a. IsInside plan.cells a.ask) asks) c.as_slice-asks.ensures c.in_default.ensures,
       subst₂ (λ units asks. All (λ a. NamesUnit units a.ask) asks) c.as_slice.ensures c.as_slice-asks.ensures c.in_default-first_unknown.ensures,
-      (ks.0, ks.1, c.in-Some-first_wide.ensures ks.0 ks.1),
+      c.in-Some-first_wide.ensures,
     )
 
 pub returns : goal.returns
 returns c =
-    let plan = c.args.plan.now in
-    let ks = some_horizons plan c.requires.valid in (
-      ks.0,
-      ks.1,
-      record {
-        inside = subst (λ asks. All (λ a. IsInside plan.cells a.ask) asks) c.as_slice-asks.ensures c.in_default.ensures;
-        named = subst₂ (λ units asks. All (λ a. NamesUnit units a.ask) asks) c.as_slice.ensures c.as_slice-asks.ensures c.in_default-first_unknown.ensures;
-        pass = c.in_default-first_wide.ensures ks.0 ks.1;
-      },
-    )
+    let plan = c.args.plan.now in record {
+      inside = subst (λ asks. All (λ a. IsInside plan.cells a.ask) asks) c.as_slice-asks.ensures c.in_default.ensures;
+      named = subst₂ (λ units asks. All (λ a. NamesUnit units a.ask) asks) c.as_slice.ensures c.as_slice-asks.ensures c.in_default-first_unknown.ensures;
+      pass = c.in_default-first_wide.ensures;
+    }

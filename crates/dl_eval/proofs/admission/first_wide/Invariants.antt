@@ -1,9 +1,8 @@
 use Rattle.std.proofs.Common.{ℕ, ◌<◌, List, get_or}
 use Rattle.dl_plan.specs.declared.settings.Asked.{Asked}
-use Rattle.dl_budget.specs.Units.{AreHorizons}
 use Rattle.dl_budget.specs.Asks.{Passes}
 use Rattle.dl_eval.specs.Rows.{S}
 use Rattle.dl_eval.proofs.admission.first_wide.Given as goal
 
 abbrev pub invariant-loop-i : goal.invariant-loop-i
-invariant-loop-i l = (ks : List ℕ) → AreHorizons l.plan.cells l.plan.units ks → (k : ℕ) (d : Asked) → k < l.i → Passes S ks l.plan (get_or l.asks k d).ask l.settings
+invariant-loop-i l = (k : ℕ) (d : Asked) → k < l.i → Passes S l.plan (get_or l.asks k d).ask l.settings

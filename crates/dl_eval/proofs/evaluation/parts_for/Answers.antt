@@ -3,6 +3,6 @@ use Rattle.dl_eval.specs.Totals.{AreUnitMeans}
 use Rattle.dl_eval.proofs.evaluation.parts_for.Goals as goal
 
 pub returns-then-are_means-clause-mean : goal.returns-then-are_means-clause-mean
-returns-then-are_means-clause-mean c ks horizons =
+returns-then-are_means-clause-mean c =
     let plan = c.args.plan.now in
-    c.total_mean.ensures.mean plan ks c.requires.valid horizons (subst (AreUnitMeans plan.cells plan.units) (sym c.as_slice.ensures.value) c.in_ok-means.ensures.means)
+    c.total_mean.ensures.mean plan c.requires.valid (subst (AreUnitMeans plan.cells plan.units) (sym c.as_slice.ensures.value) c.in_ok-means.ensures.means)

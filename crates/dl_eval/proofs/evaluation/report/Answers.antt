@@ -35,17 +35,16 @@ row-requires-clause-none c none =
 pub loop-asked-preserved : goal.loop-asked-preserved
 loop-asked-preserved c = record {
   as_many = pushed_length c.loop-asked.rows.items c.push.new.self.items c.loop-asked.asked-index c.in_ok-row.row c.loop-asked.invariant.as_many c.in_ok-push.ensures.items;
-  each = λ ks horizons.
-      each_next (IsGood ks c.args.plan.now c.args.settings.now.digits) c.as_slice-asks.result.now c.loop-asked.rows.items c.push.new.self.items c.loop-asked.asked-index c.asked-item.result c.in_ok-row.row
-      c.loop-asked.invariant.as_many (c.loop-asked.invariant.each ks horizons) c.in_ok-push.ensures.items c.loop-asked-test.true c.asked-item.is
-      (c.in_ok-row.ensures ks horizons);
+  each = each_next (IsGood c.args.plan.now c.args.settings.now.digits) c.as_slice-asks.result.now c.loop-asked.rows.items c.push.new.self.items c.loop-asked.asked-index c.asked-item.result c.in_ok-row.row
+      c.loop-asked.invariant.as_many c.loop-asked.invariant.each c.in_ok-push.ensures.items c.loop-asked-test.true c.asked-item.is
+      c.in_ok-row.ensures;
 }
 
 pub returns : goal.returns
-returns c ks horizons = record {
+returns c = record {
   digits = refl;
   as_many = omega (arith, ap (λ t. length t) c.from_vec.ensures, c.loop-asked.invariant.as_many, ap (λ t. length t) c.as_slice-asks.ensures);
-  rows = subst₂ (λ xs ys. All (λ pair. IsGood ks c.args.plan.now c.args.settings.now.digits pair.0 pair.1) (zip xs ys)) c.as_slice-asks.ensures (sym c.from_vec.ensures)
-      (all_pairs (IsGood ks c.args.plan.now c.args.settings.now.digits) c.as_slice-asks.result.now c.loop-asked.rows.items (omega (arith, c.loop-asked.invariant.as_many))
-      (λ j a r below. c.loop-asked.invariant.each ks horizons j a r (omega (arith, below))));
+  rows = subst₂ (λ xs ys. All (λ pair. IsGood c.args.plan.now c.args.settings.now.digits pair.0 pair.1) (zip xs ys)) c.as_slice-asks.ensures (sym c.from_vec.ensures)
+      (all_pairs (IsGood c.args.plan.now c.args.settings.now.digits) c.as_slice-asks.result.now c.loop-asked.rows.items (omega (arith, c.loop-asked.invariant.as_many))
+      (λ j a r below. c.loop-asked.invariant.each j a r (omega (arith, below))));
 }

@@ -1,13 +1,12 @@
 use Rattle.std.proofs.Common.{ℕ, ◌≡◌, ◌<◌, List, length, get_or}
 use Rattle.dl_plan.specs.declared.settings.Asked.{Asked}
 use Rattle.dl_report.specs.declared.report.Row.{Row}
-use Rattle.dl_budget.specs.Units.{AreHorizons}
 use Rattle.dl_eval.specs.Rows.{IsGood}
 use Rattle.dl_eval.proofs.evaluation.report.Given as goal
 
 abbrev pub invariant-loop-asked : goal.invariant-loop-asked
 invariant-loop-asked l = record {
   as_many : length l.rows.items ≡ l.asked-index;
-  each : (ks : List ℕ) → AreHorizons l.plan.cells l.plan.units ks → (i : ℕ) (a : Asked) (r : Row) → i < l.asked-index
-      → IsGood ks l.plan l.settings.digits (get_or l.asks i a) (get_or l.rows.items i r);
+  each : (i : ℕ) (a : Asked) (r : Row) → i < l.asked-index
+      → IsGood l.plan l.settings.digits (get_or l.asks i a) (get_or l.rows.items i r);
 }

@@ -1,53 +1,14 @@
-use Rattle.std.proofs.Common.{◌≤◌, ◌≡◌, List, length, arith, sym, ap, subst, subst₂, ◌∙◌}
-use Rattle.std.specs.Prelude.{All}
+use Rattle.std.proofs.Common.{◌≡◌, List, [], ◌∷◌, ◌++◌, arith, ap, ◌∙◌}
+use Rattle.std.specs.Prelude.{Option}
+use Rattle.std.specs.Option.{option_to_list}
 use Rattle.dl_iv.specs.declared.interval.Iv.{Iv}
-use Rattle.dl_budget.proofs.Horizons.{few_cells}
-use Rattle.dl_eval.specs.Totals.{AreShared}
-use Rattle.dl_port.specs.Shared.{IsTotal, AreSumsWithout}
-use Rattle.dl_eval.proofs.Totals.{is_total, are_others, has_others, long_enough}
+use Rattle.dl_eval.proofs.Totals.{only_one, grids_of_one}
 use Rattle.dl_eval.proofs.grids.grids_of.Goals as goal
 
-pub total_and_others-requires : goal.total_and_others-requires
-total_and_others-requires c =
-    let plan = c.args.plan.now in
-    let grids = c.as_slice-2 in
-    let many : length grids.result.now ≡ length plan.units = ap (λ t. length t) grids.ensures.value ∙ c.requires.units.as_many in
-    let asked : length c.as_slice-3.result.now ≡ length plan.units =
-    ap (λ t. length t) c.as_slice-3.ensures.value ∙ c.in_ok-asked.ensures.as_many ∙ ap (λ t. length t) c.as_slice.ensures in (
-      omega arith,
-      (
-        omega arith,
-        (
-          omega (arith, many, c.requires.valid.some),
-          (
-            omega (arith, many, c.requires.valid.few),
-            (
-              omega (arith, many, asked),
-              (
-                (few_cells plan c.requires.valid).0,
-                subst (All (λ (g : List (Iv 56)). plan.cells ≤ length g)) (sym grids.ensures.value) (long_enough plan.cells plan.units c.args.units.items c.requires.units),
-              ),
-            ),
-          ),
-        ),
-      ),
-    )
-
-pub returns-clause-grids : goal.returns-clause-grids
-returns-clause-grids c ks horizons =
-    let plan = c.args.plan.now in
-    let sums = c.in_ok-sums.sums in record {
-      units = c.requires.units;
-      others = are_others plan c.args.units.items c.as_slice-3.result.now sums.others.items c.requires.valid c.requires.units
-          (subst (λ grids. AreSumsWithout plan.cells grids c.as_slice-3.result.now sums.others.items) c.as_slice-2.ensures.value c.in_ok-sums.ensures.others) ks horizons;
-      total = is_total plan c.args.units.items sums.total c.requires.valid c.requires.units
-          (subst (λ grids. IsTotal plan.cells grids sums.total) c.as_slice-2.ensures.value c.in_ok-sums.ensures.total) ks horizons;
-    }
-
-pub returns-clause-there : goal.returns-clause-there
-returns-clause-there c =
-    let plan = c.args.plan.now in
-    let sums = c.in_ok-sums.sums in
-    let rest = subst₂ (λ grids asked. AreSumsWithout plan.cells grids asked sums.others.items) c.as_slice-2.ensures.value c.as_slice-3.ensures.value c.in_ok-sums.ensures.others in
-    has_others plan c.args.units.items c.args.asks.now c.in_ok-asked.asked.items (record { units = c.args.units; sums = sums }) c.requires.units
-    (subst (λ units. AreShared units c.args.asks.now c.in_ok-asked.asked.items) c.as_slice.ensures c.in_ok-asked.ensures) rest c.requires.named
+pub returns-then-not-is_shared-clause-grids : goal.returns-then-not-is_shared-clause-grids
+returns-then-not-is_shared-clause-grids c =
+    let only : c.args.units.items ≡ c.unwrap-unit.result ∷ [] =
+    only_one c.args.units.items c.pop.new.self.items c.unwrap-unit.result
+    (c.pop.ensures.items ∙ ap (λ (top : Option (List (Iv 56))). c.pop.new.self.items ++ option_to_list top) c.unwrap-unit.ensures) (omega arith) in
+    grids_of_one c.args.plan.now c.args.units.items c.unwrap-unit.result (record { units = c.pop.new.self; sums = c.in_ok-sums.sums }) c.requires.valid c.requires.units only
+    c.in_ok-sums.ensures.total c.in_ok-sums.ensures.others

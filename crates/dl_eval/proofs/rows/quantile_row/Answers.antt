@@ -6,7 +6,7 @@ use Rattle.dl_eval.proofs.rows.quantile_row.Goals as goal
 pub returns-clause-bracket : goal.returns-clause-bracket
 returns-clause-bracket c =
     let bracket = c.quantile-bracket in
-    if_ok_two c.row_with.result _ _ _ (λ row low high ks plan valid t.
-    is_bracket ks plan c.args.total.now c.args.p bracket.result.lo bracket.result.hi row low (high ∙ c.bracket_end-end.ensures) bracket.ensures.lo bracket.ensures.hi
-    bracket.ensures.holds bracket.ensures.tight c.as_slice-cells.ensures.grid valid t)
+    if_ok_two c.row_with.result _ _ _ (λ row low high plan valid t.
+    is_bracket plan c.args.total.now c.args.p bracket.result.lo bracket.result.hi row low (high ∙ c.bracket_end-end.ensures) bracket.ensures.lo bracket.ensures.hi
+    bracket.ensures.holds bracket.ensures.tight c.cells.ensures.grid valid t)
     c.row_with.ensures.low c.row_with.ensures.high

@@ -4,8 +4,8 @@ use Rattle.dl_eval.proofs.rows.row.Goals as goal
 
 pub returns-in-None : goal.returns-in-None
 returns-in-None c =
-    if_ok_two c.ends_row.result _ _ _ (λ row word printed ks horizons. record {
+    if_ok_two c.ends_row.result _ _ _ (λ row word printed. record {
       ask = word;
-      answer = rw (c.requires.none c.in-None.is) (mean_answer ks c.args.plan.now c.args.digits c.args.mean row (c.requires.mean ks horizons) printed);
+      answer = rw (c.requires.none c.in-None.is) (mean_answer c.args.plan.now c.args.digits c.args.mean row c.requires.mean printed);
     })
     c.ends_row.ensures.ask c.ends_row.ensures.ends

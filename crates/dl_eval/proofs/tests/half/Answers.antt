@@ -3,7 +3,8 @@ use Rattle.dl_exact.specs.Fraction.{whole, ◌over◌, ◌<ℚ◌}
 use Rattle.dl_exact.proofs.Over.{over_lt}
 use Rattle.dl_frac.specs.Exact.{Gives, FitsFrac}
 use Rattle.dl_plan.specs.Ranges.{IsLevel}
-use Rattle.dl_plan.proofs.Fits.{num_of_over-le, den_of_over-le, over_fits, given_ok}
+use Rattle.dl_exact.proofs.Parts.{over_num_le as num_of_over-le, over_den_le as den_of_over-le}
+use Rattle.dl_plan.proofs.Fits.{over_fits, given_ok}
 use Rattle.dl_eval.proofs.tests.half.Goals as goal
 
 half_level : IsLevel (1 over 2)

@@ -3,7 +3,7 @@ use Rattle.std.specs.Prelude.{All}
 use Rattle.std.proofs.lemmas.List.Elements.{All-nil, All-cons}
 use Rattle.dl_exact.specs.Fraction.{whole}
 use Rattle.dl_exact.proofs.Laws.{whole_pos}
-use Rattle.dl_plan.proofs.Fits.{whole_num, whole_den}
+use Rattle.dl_exact.proofs.Parts.{whole_num, whole_den}
 use Rattle.dl_plan.specs.declared.settings.Asked.{Asked}
 use Rattle.dl_plan.specs.Ranges.{IsBucket, HasLevel}
 use Rattle.dl_eval.proofs.tests.settings.Goals as goal

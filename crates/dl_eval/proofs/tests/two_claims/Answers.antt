@@ -1,6 +1,7 @@
 use Rattle.std.proofs.Common.{refl, ◌∙◌}
 use Rattle.dl_plan.specs.declared.item.Item.{Item}
-use Rattle.dl_budget.proofs.TestLaws.{one_item, two_valid, one_unit}
+use Rattle.dl_budget.proofs.TestLaws.{two_valid, one_unit}
+use Rattle.dl_plan.proofs.Weights.{one_item}
 use Rattle.dl_eval.proofs.tests.two_claims.Goals as goal
 
 bucket : Item

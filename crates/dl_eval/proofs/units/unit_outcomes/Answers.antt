@@ -1,12 +1,24 @@
-use Rattle.std.proofs.Common.{◌≤◌, ◌^◌, [], arith, subst}
+use Rattle.std.proofs.Common.{◌≤◌, ◌^◌, List, [], length, get_or, arith, sym, ap, subst}
 use Rattle.dl_budget.proofs.Horizons.{few_cells}
 use Rattle.dl_iv.specs.declared.interval.Iv.{Iv}
 use Rattle.dl_eval.specs.Totals.{IsUnitGrid, IsUnitMean, AreUnitGrids, AreUnitMeans}
 use Rattle.dl_eval.proofs.Lists.{each_next, pushed_length, all_pushed}
 use Rattle.dl_eval.proofs.units.unit_outcomes.Goals as goal
 
-pub outcomes_of-requires-clause-few : goal.outcomes_of-requires-clause-few
-outcomes_of-requires-clause-few c = (few_cells c.args.plan.now c.requires.valid).1
+pub outcomes_after-requires-clause-few : goal.outcomes_after-requires-clause-few
+outcomes_after-requires-clause-few c = (few_cells c.args.plan.now c.requires.valid).1
+
+pub outcomes_after-requires-clause-grids : goal.outcomes_after-requires-clause-grids
+outcomes_after-requires-clause-grids c i u g inside =
+    let read = c.as_slice.ensures.value in
+    subst (λ (t : List (List (Iv 56))). IsUnitGrid c.args.plan.now.cells (get_or c.as_slice-units.result.now i u) (get_or t i g)) (sym read)
+    (c.loop-unit.invariant.grids i u g (omega (arith, inside, ap (λ (t : List (List (Iv 56))). length t) read, c.loop-unit.invariant.many_grids)))
+
+pub outcomes_after-requires-clause-means : goal.outcomes_after-requires-clause-means
+outcomes_after-requires-clause-means c i u m inside =
+    let grids = c.as_slice.ensures.value in
+    subst (λ (t : List (Iv 56)). IsUnitMean c.args.plan.now.cells (get_or c.as_slice-units.result.now i u) (get_or t i m)) (sym c.as_slice-in-loop-unit.ensures.value)
+    (c.loop-unit.invariant.means i u m (omega (arith, inside, ap (λ (t : List (List (Iv 56))). length t) grids, c.loop-unit.invariant.many_grids)))
 
 pub loop-unit-preserved : goal.loop-unit-preserved
 loop-unit-preserved c = record {
