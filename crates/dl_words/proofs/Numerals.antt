@@ -11,6 +11,7 @@ use Rattle.dl_frac.specs.Numerals.{is_point, is_percent, is_slash, IsDecimal, pl
 use Rattle.dl_frac.proofs.NumeralLaws.{cases, cut_at, before_none, after_none, before_yes, after_yes, no_sign, point_no_digit, slash_no_digit, decimal_marks, any_push_no}
 use Rattle.dl_frac.proofs.SpellingLaws.{FirstPlace, clash, digits_pass, first_place, no_place, unpointed}
 use Rattle.dl_words.specs.Spelling.{Text, is_decimal, is_number, is_numeral}
+use Rattle.std.proofs.lemmas.Bool.{or_right}
 
 -- ---- tests
 
@@ -48,12 +49,8 @@ module _ (s : ℕ) where
   pub after_at : (front back : Text) → list_any is_sign front ≡ false → after_first is_sign (front ++ s ∷ back) ≡ back
   after_at front back h = after_none is_sign front (s ∷ back) h ∙ after_yes is_sign s back sign_passes
 
-  or_true : (a b : Bool) → b ≡ true → (a || b) ≡ true
-  or_true true b h = refl
-  or_true false b h = h
-
   pub any_at : (front back : Text) → list_any is_sign (front ++ s ∷ back) ≡ true
-  any_at front back = list_any-append is_sign front (s ∷ back) ∙ or_true (list_any is_sign front) _ (rw sign_passes refl)
+  any_at front back = list_any-append is_sign front (s ∷ back) ∙ or_right (list_any is_sign front) _ (rw sign_passes refl)
 
   place_of : (text : Text) → list_any is_sign text ≡ true → (o : Option ℕ) → o ≡ position is_sign text → (i : ℕ) × FirstPlace is_sign text i
   place_of text h None e = clash (list_any is_sign text) h (no_place is_sign text e)

@@ -6,7 +6,7 @@ use Rattle.std.proofs.lemmas.List.Elements.{All-nil, All-cons, All-head, All-tai
 use Rattle.std.proofs.lemmas.Bool.Decides.{nat_tests}
 use Rattle.dl_exact.specs.Fraction.{Fraction, whole, ◌<ℚ◌}
 use Rattle.dl_exact.proofs.Laws.{whole_pos, one_pos}
-use Rattle.dl_plan.proofs.Fits.{num_of_over-le, den_of_over-le, whole_num, whole_den}
+use Rattle.dl_exact.proofs.Parts.{over_num_le as num_of_over-le, over_den_le as den_of_over-le, whole_num, whole_den, pos_num}
 use Rattle.dl_frac.specs.Numerals.{is_bad, numeral_value}
 use Rattle.dl_plan.specs.declared.settings.Ask.{Ask}
 use Rattle.dl_plan.specs.declared.settings.Asked.{Asked}
@@ -40,10 +40,6 @@ less m n h = grind (arith, nat_tests, h)
 most : (m n : ℕ) → IsTrue (nat_le m n) → m ≤ n
 most m n h = grind (arith, nat_tests, h)
 
-above_nought : (x : Fraction) → 0 < x.num → whole 0 <ℚ x
-unfolding ◌<ℚ◌
-above_nought x h = rw (whole_num 0, whole_den 0) (omega (arith, h))
-
 below_one : (x : Fraction) → x.num < x.den → x <ℚ whole 1
 unfolding ◌<ℚ◌
 below_one x h = rw (whole_num 1, whole_den 1) (omega (arith, h))
@@ -52,7 +48,7 @@ bucket : (text : Text) → IsTrue (is_bucket text) → IsBucket (numeral_value t
 bucket text h =
     let t = both (is_numeral text && not (is_bad 11 text)) _ h in
     let small : IsSmall 11 (numeral_value text) = numeral_small 9 text (not_bad (is_bad 11 text) (both (is_numeral text) _ t.0).1) in
-    record { above = above_nought (numeral_value text) (less 0 (numeral_value text).num t.1); num = small.num; den = small.den }
+    record { above = pos_num (numeral_value text) (less 0 (numeral_value text).num t.1); num = small.num; den = small.den }
 
 level : (text : Text) → IsTrue (is_probability text) → IsLevel (numeral_value text)
 level text h =

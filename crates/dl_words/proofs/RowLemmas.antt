@@ -19,6 +19,7 @@ use Rattle.clap.specs.declared.builder.value_parser.Reading.{Reading}
 use Rattle.clap.specs.declared.parser.matches.ValueSource.{ValueSource}
 use Rattle.dl_words.specs.Spelling.{Text}
 use Rattle.dl_words.proofs.Simulation.{Fails, Use, bytes_same, fault, faults, step}
+use Rattle.std.proofs.lemmas.Bool.{and_parts}
 
 all_of-same : (id : Text) (how : Reading) (s : ValueSource) (vs : List Text) (rows : List Row) → all_of id (with_values id how s vs rows) ≡ Some (unwrap_or (all_of id rows) [] ++ vs)
 all_of-same id how s vs [] = rw (bytes_same id) refl
@@ -203,14 +204,10 @@ strong None = refl
 strong (Some CommandLine) = refl
 strong (Some DefaultValue) = refl
 
-both_true : (a b : Bool) → (a && b) ≡ true → (a ≡ true) × (b ≡ true)
-both_true true b e = (refl, e)
-both_true false b e = absurd (true≢false (sym e))
-
 with_explicit : (id : Text) (how : Reading) (vs : List Text) (rows : List Row) → explicit rows ≡ true → explicit (with_values id how CommandLine vs rows) ≡ true
 with_explicit id how vs [] h = refl
 with_explicit id how vs (r ∷ rs) h =
-    let parts = both_true (explicit_source r.source) _ h in
+    let parts = and_parts (explicit_source r.source) _ h in
     go (with_explicit id how vs rs parts.1) parts.0 parts.1 (bytes_eq r.id id) refl
   where
     go : explicit (with_values id how CommandLine vs rs) ≡ true → explicit_source r.source ≡ true → explicit rs ≡ true → (b : Bool) → bytes_eq r.id id ≡ b → explicit (with_values id how CommandLine vs (r ∷ rs)) ≡ true
@@ -220,7 +217,7 @@ with_explicit id how vs (r ∷ rs) h =
 without_explicit : (id : Text) (rows : List Row) → explicit rows ≡ true → explicit (without id rows) ≡ true
 without_explicit id [] h = refl
 without_explicit id (r ∷ rs) h =
-    let parts = both_true (explicit_source r.source) _ h in
+    let parts = and_parts (explicit_source r.source) _ h in
     go (without_explicit id rs parts.1) parts.0 parts.1 (bytes_eq r.id id) refl
   where
     go : explicit (without id rs) ≡ true → explicit_source r.source ≡ true → explicit rs ≡ true → (b : Bool) → bytes_eq r.id id ≡ b → explicit (without id (r ∷ rs)) ≡ true
@@ -238,7 +235,7 @@ all_explicit s (u ∷ us) r kept h = all_explicit s us (step s r u) kept.1 (step
 pub given_explicit : (id : Text) (rows : List Row) → explicit rows ≡ true → is_given id rows ≡ is_some (all_of id rows)
 given_explicit id [] h = refl
 given_explicit id (r ∷ rs) h =
-    let parts = both_true (explicit_source r.source) _ h in
+    let parts = and_parts (explicit_source r.source) _ h in
     go (given_explicit id rs parts.1) parts.0 (bytes_eq r.id id) refl
   where
     go : is_given id rs ≡ is_some (all_of id rs) → explicit_source r.source ≡ true → (b : Bool) → bytes_eq r.id id ≡ b → is_given id (r ∷ rs) ≡ is_some (all_of id (r ∷ rs))

@@ -10,7 +10,7 @@ use Rattle.dl_exact.specs.Fraction.{Fraction, ◌over◌}
 use Rattle.dl_frac.specs.Numerals.{is_point, is_slash, is_percent, digits_in, digit_count, number_in, places_in, numeral_value, is_bad}
 use Rattle.dl_frac.proofs.NumeralLaws.{cases, after_yes, after_none, count-append, plain_value, plain_bad, hundredth}
 use Rattle.dl_frac.proofs.SpellingLaws.{digits_pass}
-use Rattle.dl_plan.proofs.Fits.{num_of_over-le, den_of_over-le}
+use Rattle.dl_exact.proofs.Parts.{over_num_le as num_of_over-le, over_den_le as den_of_over-le}
 
 -- both parts have at most as much as d digits write
 pub record IsSmall (d : ℕ) (x : Fraction) : Type 0 where
