@@ -1,3 +1,4 @@
 mod ReplyLaws
 mod RunLaws
 mod MadeLines
+mod RowsTold

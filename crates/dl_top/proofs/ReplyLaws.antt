@@ -12,13 +12,12 @@ use Rattle.dl_plan.specs.declared.plan.Plan.{Plan}
 use Rattle.dl_plan.specs.declared.settings.Ask.TheVariants.{Mean}
 use Rattle.dl_plan.specs.declared.settings.Asked.{Asked}
 use Rattle.dl_plan.specs.declared.settings.Settings.{Settings}
-use Rattle.dl_budget.proofs.Horizons.{one_horizons}
 use Rattle.dl_words.specs.declared.fault.UsageFault.{UsageFault}
 use Rattle.dl_words.specs.Words.{words_of}
 use Rattle.dl_types.specs.Faults.{first_fault}
 use Rattle.dl_eval.specs.declared.fault.EvalFault.{EvalFault}
 use Rattle.dl_eval.specs.declared.fault.EvalFault.TheVariants.{AskBeyond, UnknownUnit, TooWide, OutOfMemory as NoRoom}
-use Rattle.dl_eval.specs.Answers.{IsFirstNot, AreAdmitted, WithHorizons, Refuses as RefusesAsks}
+use Rattle.dl_eval.specs.Answers.{IsFirstNot, AreAdmitted, Refuses as RefusesAsks}
 use Rattle.std.specs.Prelude.{zip}
 use Rattle.std.proofs.lemmas.List.Elements.{All-nil, All-cons, All-head, All-tail, All-map}
 use Rattle.std.proofs.lemmas.Str.{IsUtf8-string_bytes}
@@ -96,14 +95,11 @@ an_ask = record { text = []; ask = Mean }
 none_first : (P : Asked → Type 0) (asks : List Asked) (i : ℕ) → All P asks → IsFirstNot P asks i → ⊥
 none_first P asks i all first = first.here an_ask (all i an_ask first.inside)
 
-admitted_not_refused : (plan : Plan) (settings : Settings) (of : EvalFault) (fault : Fault) → of_asks of fault → WithHorizons plan (AreAdmitted plan settings)
+admitted_not_refused : (plan : Plan) (settings : Settings) (of : EvalFault) (fault : Fault) → of_asks of fault → AreAdmitted plan settings
     → RefusesAsks plan settings of → ⊥
-admitted_not_refused plan settings (AskBeyond i) fault is (ks, horizons, a) r = none_first _ settings.asks i a.inside r
-admitted_not_refused plan settings (UnknownUnit i) fault is (ks, horizons, a) r = none_first _ settings.asks i a.named r.1
-admitted_not_refused plan settings (TooWide i width) fault is (ks, horizons, a) (inside, named, (ls, others, wide)) =
-    let same : ks ≡ ls = one_horizons plan ks ls horizons others in
-    let b : AreAdmitted plan settings ls = subst (AreAdmitted plan settings) same a in
-    none_first _ settings.asks i b.pass wide.first
+admitted_not_refused plan settings (AskBeyond i) fault is a r = none_first _ settings.asks i a.inside r
+admitted_not_refused plan settings (UnknownUnit i) fault is a r = none_first _ settings.asks i a.named r.1
+admitted_not_refused plan settings (TooWide i width) fault is a (inside, named, wide) = none_first _ settings.asks i a.pass wide.first
 admitted_not_refused plan settings NoRoom fault is admitted r = absurd is
 
 -- a text that spells a program is not refused before its rules
@@ -179,22 +175,22 @@ pub words_text : (words : List (String Global)) → All IsUtf8 (map string_bytes
 words_text words = All-map IsUtf8 string_bytes words (λ k d h. IsUtf8-string_bytes (get_or words k d))
 
 -- the rows of a good report have the asks as they were written
-rows_text : (ks : List ℕ) (plan : Plan) (d : ℕ) (asks : List Asked) (rows : List Row) → length rows ≡ length asks
-    → All (λ pair. IsGood ks plan d pair.0 pair.1) (zip asks rows) → All (λ asked. IsUtf8 asked.text) asks → All (λ row. IsUtf8 row.ask) rows
-rows_text ks plan d [] [] e good texts = All-nil (λ row. IsUtf8 row.ask)
-rows_text ks plan d [] (r ∷ rs) e good texts = absurd (omega (arith, e))
-rows_text ks plan d (a ∷ more) [] e good texts = All-nil (λ row. IsUtf8 row.ask)
-rows_text ks plan d (a ∷ more) (r ∷ rs) e good texts =
-    let here : IsGood ks plan d a r = All-head (λ pair. IsGood ks plan d pair.0 pair.1) (a, r) (zip more rs) good in
+rows_text : (plan : Plan) (d : ℕ) (asks : List Asked) (rows : List Row) → length rows ≡ length asks
+    → All (λ pair. IsGood plan d pair.0 pair.1) (zip asks rows) → All (λ asked. IsUtf8 asked.text) asks → All (λ row. IsUtf8 row.ask) rows
+rows_text plan d [] [] e good texts = All-nil (λ row. IsUtf8 row.ask)
+rows_text plan d [] (r ∷ rs) e good texts = absurd (omega (arith, e))
+rows_text plan d (a ∷ more) [] e good texts = All-nil (λ row. IsUtf8 row.ask)
+rows_text plan d (a ∷ more) (r ∷ rs) e good texts =
+    let here : IsGood plan d a r = All-head (λ pair. IsGood plan d pair.0 pair.1) (a, r) (zip more rs) good in
     let text : IsUtf8 a.text = All-head (λ asked. IsUtf8 asked.text) a more texts in
     All-cons (λ row. IsUtf8 row.ask) r rs (subst IsUtf8 (sym here.ask) text)
-    (rows_text ks plan d more rs (omega (arith, e)) (All-tail (λ pair. IsGood ks plan d pair.0 pair.1) (a, r) (zip more rs) good)
+    (rows_text plan d more rs (omega (arith, e)) (All-tail (λ pair. IsGood plan d pair.0 pair.1) (a, r) (zip more rs) good)
     (All-tail (λ asked. IsUtf8 asked.text) a more texts))
 
 pub answered_text : (plan : Plan) (settings : Settings) (report : Rows) → IsAnswered plan settings report → All (λ asked. IsUtf8 asked.text) settings.asks
     → AsksAreText report
-answered_text plan settings report (ks, horizons, (admitted, good)) texts =
-    rows_text ks plan settings.digits settings.asks report.rows good.as_many good.rows texts
+answered_text plan settings report (admitted, good) texts =
+    rows_text plan settings.digits settings.asks report.rows good.as_many good.rows texts
 
 pub answered_digits : (plan : Plan) (settings : Settings) (report : Rows) → IsAnswered plan settings report → settings.digits ≤ 9 → report.digits ≤ 9
-answered_digits plan settings report (ks, horizons, (admitted, good)) few = omega (arith, good.digits, few)
+answered_digits plan settings report (admitted, good) few = omega (arith, good.digits, few)

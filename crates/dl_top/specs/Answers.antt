@@ -20,7 +20,7 @@ use Rattle.dl_types.specs.Plans.{IsPlanOf}
 use Rattle.dl_report.specs.declared.report.Report.{Report}
 use Rattle.dl_eval.specs.declared.fault.EvalFault.{EvalFault}
 use Rattle.dl_eval.specs.declared.fault.EvalFault.TheVariants as evals
-use Rattle.dl_eval.specs.Answers.{IsAnswered, AreAdmitted, WithHorizons, Refuses as RefusesAsks}
+use Rattle.dl_eval.specs.Answers.{IsAnswered, AreAdmitted, Refuses as RefusesAsks}
 use Rattle.dl_top.specs.declared.status.Status.{Status}
 use Rattle.dl_top.specs.declared.status.Status.TheVariants as statuses
 use Rattle.dl_top.specs.declared.fault.Fault.{Fault}
@@ -99,7 +99,7 @@ pub record IsAccepted (words : List (List ℕ)) (input : List ℕ) : Type 0 wher
   pub program : Program
   pub spells : SpellsProgram input program
   pub faultless : first_fault program settings ≡ None
-  pub admitted : (plan : Plan) → IsPlanOf program settings plan → IsValid plan → WithHorizons plan (AreAdmitted plan settings)
+  pub admitted : (plan : Plan) → IsPlanOf program settings plan → IsValid plan → AreAdmitted plan settings
 
 -- the words want the canonical form, and the text spells a program, which may break a rule
 pub record HasForm (words : List (List ℕ)) (input : List ℕ) : Type 0 where

@@ -6,3 +6,4 @@ pub mod Reports
 pub mod Answers
 pub mod Replies
 pub mod Runs
+pub mod Told

@@ -1,10 +1,9 @@
-//! Whole calls whose objects fail at each call in turn, texts that end anywhere, and limits that are
-//! just kept and just passed. The values were worked apart from the program.
+//! Whole calls whose objects fail at each call in turn, and texts that end anywhere. The values were
+//! worked apart from the program.
 
 use super::*;
+use crate::tests::{DIE, Objects, STEADY, call};
 use dl_lexer::line_col;
-use dl_outside::{MemSink, MemSource};
-use std::alloc::AllocError;
 use std::process::Abort;
 use std::test::Fail;
 
@@ -30,9 +29,6 @@ kappa:Motor:200 73.6485 73.6486
 /// The message of an input that could not be read.
 const UNREAD: &[u8] = b"decl: the input could not be read\n";
 
-/// A die.
-const DIE: &[u8] = b"agg D dfreq [1] dsev [1:6]\n";
-
 /// The most bytes that an object gives or takes at once.
 const PIECE: usize = 7;
 
@@ -44,43 +40,29 @@ enum Object {
     Err,
 }
 
-/// How a call ended, and what its two sinks hold.
-#[derive(Drop)]
-struct Ended {
-    status: Status,
-    report: Vec<u8>,
-    message: Vec<u8>,
-}
-
-/// A call in which one object fails, at the call of it with this number, counted from 0.
-fn call(
-    alloc: Global,
-    words: &str,
-    input: &[u8],
-    failing: Object,
-    number: u64,
-) -> Result<Ended, AllocError> {
-    let mut owned = Vec::new(alloc);
-    for word in words.split(' ') {
-        owned.push(String::from_str(alloc, word)?)?;
+impl Object {
+    /// Objects of which this one fails, at the call of it with this number.
+    fn failing(self, number: u64) -> Objects {
+        let steady = Objects {
+            given: PIECE,
+            taken: PIECE,
+            ..STEADY
+        };
+        match self {
+            Object::Source => Objects {
+                read: number,
+                ..steady
+            },
+            Object::Out => Objects {
+                write: number,
+                ..steady
+            },
+            Object::Err => Objects {
+                tell: number,
+                ..steady
+            },
+        }
     }
-    let never = u64::MAX;
-    let (read, written, told) = match failing {
-        Object::Source => (number, never, never),
-        Object::Out => (never, number, never),
-        Object::Err => (never, never, number),
-    };
-    let mut src = MemSource::new(input.to_vec(alloc)?, PIECE, [read].to_vec(alloc)?);
-    let mut out = MemSink::new(alloc, 8192, PIECE, [written].to_vec(alloc)?)?;
-    let mut err = MemSink::new(alloc, 8192, PIECE, [told].to_vec(alloc)?)?;
-    let status = run(alloc, owned.as_slice(), &mut src, &mut out, &mut err);
-    let report = out.held().to_vec(alloc)?;
-    let message = err.held().to_vec(alloc)?;
-    Ok(Ended {
-        status,
-        report,
-        message,
-    })
 }
 
 /// How a call is due to end, and what its two sinks are due to hold.
@@ -127,7 +109,7 @@ fn fails_in_turn(
 ) -> Result<(), Fail> {
     for number in 0..calls {
         let due = due_of(failing, PIECE * number as usize, input, own);
-        let ended = call(alloc, words, input, failing, number as u64)?;
+        let ended = call(alloc, words, input, failing.failing(number as u64))?;
         assert_eq!(rt; ended.status, due.status, "{failing:?} {number}");
         assert_eq!(rt; ended.report.as_slice(), due.report, "{failing:?} {number}");
         assert_eq!(rt;
@@ -176,13 +158,7 @@ fn place_of(message: &[u8]) -> Option<(u32, u32)> {
 fn answers_each_prefix(rt: HostRuntime) -> Result<(), Fail> {
     for end in 0..=BOOK.len() {
         let text = &BOOK[..end];
-        let ended = call(
-            rt.alloc(),
-            "run --log2 4 pmf:0",
-            text,
-            Object::Source,
-            u64::MAX,
-        )?;
+        let ended = call(rt.alloc(), "run --log2 4 pmf:0", text, STEADY)?;
         if ended.status == Status::Done {
             assert!(rt; ended.message.is_empty(), "{end}");
             continue;
@@ -194,71 +170,4 @@ fn answers_each_prefix(rt: HostRuntime) -> Result<(), Fail> {
         assert!(rt; line < last || line == last && column <= width, "{end}");
     }
     Ok(())
-}
-
-/// A portfolio of so many units, each with a name of one letter.
-fn portfolio(alloc: Global, units: usize) -> Result<String, AllocError> {
-    let mut text = String::from_str(alloc, "port P")?;
-    for name in "A B C D E F G H I J K L M N O P Q".split(' ').take(units) {
-        text.push_str(" agg ")?;
-        text.push_str(name)?;
-        text.push_str(" dfreq [1] dsev [1]")?;
-    }
-    Ok(text)
-}
-
-/// Calls whose objects do not fail answer as told.
-fn answer(rt: &impl Abort, alloc: Global, rows: &[(&str, &str, &str)]) -> Result<(), Fail> {
-    for (words, text, told) in rows {
-        let ended = call(alloc, words, text.as_bytes(), Object::Source, u64::MAX)?;
-        let (full, empty) = match ended.status {
-            Status::Done => (ended.report, ended.message),
-            _ => (ended.message, ended.report),
-        };
-        assert_eq!(rt; full.as_slice(), told.as_bytes(), "{text}");
-        assert!(rt; empty.is_empty(), "{text}");
-    }
-    Ok(())
-}
-
-#[test]
-fn keeps_each_limit(rt: HostRuntime) -> Result<(), Fail> {
-    // the ask, a text that just keeps a limit and its answer, one that just passes it and its refusal
-    macro_rules! limits {
-        ($($ask:expr, $kept:expr => $answer:expr, $passed:expr => $refusal:expr;)*) => {
-            [$(($ask, $kept, $answer), ($ask, $passed, $refusal)),*]
-        };
-    }
-    let most = portfolio(rt.alloc(), 16)?;
-    let more = portfolio(rt.alloc(), 17)?;
-    answer(
-        &rt,
-        rt.alloc(),
-        &limits! {
-        "run --log2 4 pmf:0",
-            "agg F 65536 claims dsev [0] fixed" => "pmf:0 1.000000 1.000000\n",
-            "agg F 65537 claims dsev [0] fixed" => "decl: 1:5: unit 0: rule 20 TooManyClaims\n";
-        "run --log2 4 mean",
-            "agg P 4096 claims dsev [1] poisson" => "mean 4096.000000 4096.000000\n",
-            "agg P 4097 claims dsev [1] poisson" => "decl: 1:5: unit 0: rule 20 TooManyClaims\n";
-        "run --log2 4 pmf:0",
-            "agg P 99999999999 claims dsev [0] poisson" => "pmf:0 1.000000 1.000000\n",
-            "agg P 999999999999 claims dsev [0] poisson" => "decl: 1:7: unit 0: rule 2 BadNumeral\n";
-        "run --log2 4 mean",
-            "agg D dfreq [256] dsev [0]" => "mean 0.000000 0.000000\n",
-            "agg D dfreq [257] dsev [0]" => "decl: 1:5: unit 0: rule 20 TooManyClaims\n";
-        "run --log2 4 mean",
-            "agg D dfreq [1] dsev [1048576]" => "mean 1048576.000000 1048576.000000\n",
-            "agg D dfreq [1] dsev [1048577]" => "decl: 1:23: unit 0: rule 8 TooFar\n";
-        "run --log2 4 mean",
-            "agg D dfreq [1] dsev [1:1024]" => "mean 512.500000 512.500000\n",
-            "agg D dfreq [1] dsev [1:1025]" => "decl: 1:22: unit 0: rule 4 ListTooLong\n";
-        "run --log2 4 mean",
-            "agg G 1 claims dsev [1] mixed gamma 1/100" => "mean 1.000000 1.000000\n",
-            "agg G 1 claims dsev [1] mixed gamma 1/101" => "decl: 1:5: unit 0: rule 20 TooManyClaims\n";
-        "run pmf:16",
-            most.as_str() => "pmf:16 1.000000 1.000000\n",
-            more.as_str() => "decl: 1:412: unit 16: rule 22 TooManyUnits\n";
-    },
-    )
 }

@@ -10,6 +10,7 @@ mod fault;
 mod generator;
 #[cfg(test)]
 mod hostile;
+mod law;
 #[cfg(test)]
 mod made_tests;
 mod reply;
@@ -34,6 +35,7 @@ use crate::reply::{Reply, reply_to};
 use dl_outside::{Sink, Source, write_all};
 pub use fault::{Fault, fault_text};
 pub use generator::made;
+pub use law::law_rows_told;
 pub use status::Status;
 use std::alloc::Global;
 

@@ -1,0 +1,15 @@
+//! What follows from the definitions alone. Nothing here runs.
+
+ghost use Rattle.std.specs.Prelude.{ℕ, List};
+ghost use Rattle.dl_plan.specs.declared.plan.Plan.{Plan};
+ghost use Rattle.dl_plan.specs.declared.settings.Settings.{Settings};
+ghost use Rattle.dl_report.specs.declared.report.Report.{Report};
+ghost use Rattle.dl_top.specs.Told.{MayWrite, TellsItsRows};
+
+/// What the program writes tells its rows, in each of the three forms: of two reports that it may
+/// write for the same words and the same input, the same bytes come of the same rows alone.
+pub fn law_rows_told()
+    ensures { (words : List (List ℕ)) (input : List ℕ) (settings : Settings) (plan : Plan)
+        (a b : Report) → MayWrite words input settings plan a
+        → MayWrite words input settings plan b → TellsItsRows settings plan a b }
+{}
