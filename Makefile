@@ -4,7 +4,7 @@ PROGRAM := crates/decl/out/decl
 SOURCES := crates.txt $(shell find crates -name out -prune -o -type f -print)
 SHARE := $(DESTDIR)$(PREFIX)/share
 
-.PHONY: all demo test hostile install clean
+.PHONY: all demo test hostile bench install clean
 
 all: $(PROGRAM)
 
@@ -24,6 +24,10 @@ test:
 
 hostile: $(PROGRAM)
 	python3 scripts/hostile.py $(PROGRAM)
+
+# Times and memory beside C, numpy and R, as a table; PAGE=docs/SPEED.md puts it there, BUILDS="before=PROGRAM" measures others too.
+bench: $(PROGRAM)
+	python3 bench/bench.py $(if $(PAGE),--page $(PAGE)) $(BUILDS)
 
 install: $(PROGRAM)
 	install -d "$(DESTDIR)$(PREFIX)/bin" "$(SHARE)/man/man1"

@@ -1,11 +1,11 @@
 /* Panjer's recursion at the full mean in doubles, with one exponent for all cells and no enclosure at all: what `decl` is measured
    beside (bench/recursion.py). Loss Models, "The recursive method".
 
-     recursion poisson MEAN SHAPE AMOUNTS CELLS AT     (SHAPE is not looked at)
-     recursion gamma MEAN SHAPE AMOUNTS CELLS AT
+     recursion poisson MEAN SHAPE AMOUNTS STEP CELLS AT     (SHAPE is not looked at)
+     recursion gamma MEAN SHAPE AMOUNTS STEP CELLS AT
      recursion book CELLS AT
 
-   The amounts are 1 to AMOUNTS, equally likely. It prints the distribution at AT. `book` is the portfolio of examples/portfolio.decl. */
+   The amounts are AMOUNTS many from 1 on, STEP apart, equally likely. It prints the distribution at AT. `book` is the portfolio of examples/portfolio.decl. */
 #include <math.h>
 #include <stdio.h>
 #include <stdlib.h>
@@ -78,11 +78,11 @@ int main(int words, char **word) {
         cell = book(cells);
     } else {
         double mean = atof(word[2]), shape = atof(word[3]);
-        int items = atoi(word[4]);
+        int items = atoi(word[4]), step = atoi(word[5]);
         int *amount = malloc((size_t)items * sizeof *amount);
         double *probability = malloc((size_t)items * sizeof *probability);
         for (int k = 0; k < items; k++)
-            amount[k] = k + 1, probability[k] = 1.0 / items;
+            amount[k] = 1 + k * step, probability[k] = 1.0 / items;
         struct severity claim = {items, amount, probability};
         cell = strcmp(word[1], "poisson") == 0 ? poisson(mean, claim, cells) : gamma_count(mean, shape, claim, cells);
     }

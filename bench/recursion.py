@@ -15,12 +15,13 @@ DECL = os.environ.get("DECL", str(TOP / "crates/decl/out/decl"))
 CALLS = int(os.environ.get("CALLS", "21"))
 BOOK = (TOP / "examples/portfolio.decl").read_text()
 CASES = [
-    ("a gamma count of shape 4, 16 cells", "agg G 2 claims dsev [1] mixed gamma 0.5", 4, 3, ["gamma", "2", "4", "1", "16", "3"]),
+    ("a gamma count of shape 4, 16 cells", "agg G 2 claims dsev [1] mixed gamma 0.5", 4, 3, ["gamma", "2", "4", "1", "1", "16", "3"]),
     ("the portfolio, 1,024 cells", BOOK, 10, 425, ["book", "1024", "425"]),
-    ("a Poisson mean of 1,000, 4,096 cells", "agg K 1000 claims dsev [1:5] poisson", 12, 3000, ["poisson", "1000", "1", "5", "4096", "3000"]),
-    ("a Poisson mean of 4,096, 4,096 cells", "agg K 4096 claims dsev [1] poisson", 12, 4000, ["poisson", "4096", "1", "1", "4096", "4000"]),
-    ("a gamma count of shape 10,000, 4,096 cells", "agg K 1000 claims dsev [1:5] mixed gamma 0.01", 12, 3000, ["gamma", "1000", "10000", "5", "4096", "3000"]),
-    ("1,024 amounts, 4,096 cells", "agg K 4 claims dsev [1:1024] poisson", 12, 2000, ["poisson", "4", "1", "1024", "4096", "2000"]),
+    ("a Poisson mean of 1,000, 4,096 cells", "agg K 1000 claims dsev [1:5] poisson", 12, 3000, ["poisson", "1000", "1", "5", "1", "4096", "3000"]),
+    ("a Poisson mean of 4,096, 4,096 cells", "agg K 4096 claims dsev [1] poisson", 12, 4000, ["poisson", "4096", "1", "1", "1", "4096", "4000"]),
+    ("a gamma count of shape 10,000, 4,096 cells", "agg K 1000 claims dsev [1:5] mixed gamma 0.01", 12, 3000, ["gamma", "1000", "10000", "5", "1", "4096", "3000"]),
+    ("1,024 amounts in a row, 4,096 cells", "agg K 4 claims dsev [1:1024] poisson", 12, 2000, ["poisson", "4", "1", "1024", "1", "4096", "2000"]),
+    ("1,024 amounts two apart, 4,096 cells", "agg K 4 claims dsev [1:2047:2] poisson", 12, 4000, ["poisson", "4", "1", "1024", "2", "4096", "4000"]),
 ]
 
 
