@@ -1,5 +1,6 @@
 #!/usr/bin/env sh
-# Checks that each edit that docs/PROOFS.md names is there: 'crate/edit' stands for crates/CRATE/must-fail/EDIT.edit.
+# Checks that each edit that docs/PROOFS.md names is there: 'crate/edit' stands for crates/CRATE/must-fail/EDIT.edit. The last line
+# is 'N passed, M failed'.
 set -u
 cd "$(dirname "$0")/.." || exit 1
 missing=0
@@ -12,5 +13,5 @@ for edit in $(sed -n '/^## Which wrong program/,$p' docs/PROOFS.md | grep -oE '`
         missing=$((missing + 1))
     fi
 done
-echo "$named edits named, $missing missing"
+echo "$((named - missing)) passed, $missing failed"
 [ "$missing" -eq 0 ] && [ "$named" -gt 0 ]
