@@ -1,8 +1,9 @@
 -- The laws of sums of whole numbers, and of those over the pairs of places that add up to another.
-use Rattle.std.proofs.Common.{ℕ, zero, suc, ◌≡◌, ◌≢◌, ◌+◌, ◌-◌, ◌*◌, ◌<◌, ◌≤◌, arith, refl, sym, ap, ap₂, ◌∙◌, add-one}
+use Rattle.std.proofs.Common.{ℕ, zero, suc, inl, inr, ◌≡◌, ◌≢◌, ◌+◌, ◌-◌, ◌*◌, ◌<◌, ◌≤◌, arith, refl, sym, ap, ap₂, ◌∙◌, add-one}
 use mathlib.Core.Path.{fun_ext}
 use native.Mathlib.Decide.{le_ind}
 use Rattle.std.proofs.Math.Nat.{sub-zero, suc-sub-suc, mul-le-mul_left, le_refl}
+use Rattle.std.proofs.lemmas.Bool.{cases_lt}
 use Rattle.dl_exact.specs.Count.{count_below, count_pairs}
 
 pub below_nothing : (f : ℕ → ℕ) → count_below 0 f ≡ 0
@@ -17,6 +18,34 @@ pub below_first : (n : ℕ) (f : ℕ → ℕ) → count_below (suc n) f ≡ f ze
 unfolding count_below
 below_first zero f = omega arith
 below_first (suc n) f = omega (arith, below_first n f)
+
+pub below_none : (n : ℕ) (f : ℕ → ℕ) → ((i : ℕ) → i < n → f i ≡ 0) → count_below n f ≡ 0
+unfolding count_below
+below_none zero f h = refl
+below_none (suc n) f h = omega (arith, below_none n f (λ i b. h i (omega arith)), h n (omega arith))
+
+-- none from n on
+pub below_rest : (n m : ℕ) (f : ℕ → ℕ) → n ≤ m → ((k : ℕ) → n ≤ k → k < m → f k ≡ 0)
+    → count_below m f ≡ count_below n f
+unfolding count_below
+below_rest n zero f b h = let e : zero ≡ n = omega arith in ap (λ t. count_below t f) e
+below_rest n (suc m) f b h = elim (cases_lt m n) [
+  | inl c ↦ let e : suc m ≡ n = omega (arith, b, c) in ap (λ t. count_below t f) e
+  | inr c ↦ omega (arith, below_rest n m f c (λ k d e. h k d (omega arith)), h m c (omega arith))
+]
+
+-- products with nothing
+pub nothing_times : (x y : ℕ) → x ≡ 0 → x * y ≡ 0
+nothing_times x y e = ap (λ t. t * y) e ∙ none y
+  where
+    none : (y : ℕ) → 0 * y ≡ 0
+    none y = omega arith
+
+pub times_nothing : (x y : ℕ) → y ≡ 0 → x * y ≡ 0
+times_nothing x y e = ap (λ t. x * t) e ∙ none x
+  where
+    none : (x : ℕ) → x * 0 ≡ 0
+    none x = omega arith
 
 pub below_same : (n : ℕ) (f g : ℕ → ℕ) → ((i : ℕ) → i < n → f i ≡ g i) → count_below n f ≡ count_below n g
 unfolding count_below

@@ -11,3 +11,4 @@ pub mod Sums
 pub mod SumsOver
 pub mod Counts
 pub mod Lists
+pub mod Results

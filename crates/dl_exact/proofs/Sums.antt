@@ -1,5 +1,5 @@
 -- The laws of sums.
-use Rattle.std.proofs.Common.{◌≡◌, inl, inr, ℕ, suc, zero, ◌+◌, ◌-◌, ◌<◌, ◌≤◌, List, [], ◌∷◌, ◌++◌, map, arith, refl, sym, ap, ap₂, subst, ◌∙◌}
+use Rattle.std.proofs.Common.{◌≡◌, inl, inr, ℕ, suc, zero, ◌+◌, ◌-◌, ◌<◌, ◌≤◌, List, [], ◌∷◌, ◌++◌, map, arith, refl, sym, ap, ap₂, subst, ◌∙◌, add-suc, add-zero}
 use Rattle.std.proofs.Math.Path.{fun_ext}
 use Rattle.std.proofs.Math.Nat.{sub-zero, suc-sub-suc}
 use native.Mathlib.Decide.{le_ind}
@@ -54,6 +54,18 @@ sum_to_le (suc n) f g h = plus_le_both _ _ _ _ (sum_to_le n f g (λ i b. h i (om
 pub sum_to_grows : (n m : ℕ) (f : ℕ → Fraction) → n ≤ m → sum_to n f ≤ℚ sum_to m f
 unfolding sum_to
 sum_to_grows n m f h = le_ind (λ k. sum_to n f ≤ℚ sum_to k f) (le_refl _) (λ k _ p. le_trans _ _ _ p (le_plus _ _)) m h
+
+-- items that at least halve from K on add up to no more than those up to K and item K once more
+pub halving_bound : (w : ℕ → Fraction) (K : ℕ) → ((n : ℕ) → K ≤ n → w (suc n) +ℚ w (suc n) ≤ℚ w n)
+    → (N : ℕ) → sum_to N w ≤ℚ sum_to K w +ℚ w K
+unfolding sum_to
+halving_bound w K h N = le_trans _ _ _ (sum_to_grows N (K + N) w (omega arith)) (le_trans _ _ _ (le_plus _ _) (falls N))
+  where
+    falls : (m : ℕ) → sum_to (K + m) w +ℚ w (K + m) ≤ℚ sum_to K w +ℚ w K
+    falls zero = subst (λ k. sum_to k w +ℚ w k ≤ℚ sum_to K w +ℚ w K) (sym (add-zero K)) (le_refl _)
+    falls (suc m) = subst (λ k. sum_to k w +ℚ w k ≤ℚ sum_to K w +ℚ w K) (sym (add-suc K m))
+        (le_trans _ _ _ (subst (λ t. t ≤ℚ sum_to (K + m) w +ℚ w (K + m)) (sym (plus_assoc _ _ _))
+        (plus_le_both _ _ _ _ (le_refl (sum_to (K + m) w)) (h (K + m) (omega arith)))) (falls m))
 
 -- ---- sum_pairs
 

@@ -40,11 +40,53 @@ most_shape = 10000
 abbrev pub most_parts : ℕ
 most_parts = 2 ^ 30
 
+-- the units of a plan
+abbrev pub most_units : ℕ
+most_units = 16
+
+-- the layers of a clause
+abbrev pub most_layers : ℕ
+most_layers = 16
+
+-- the atoms of a severity
+abbrev pub most_atoms : ℕ
+most_atoms = 64
+
+-- the values of a list
+abbrev pub most_values : ℕ
+most_values = 1024
+
+-- the common denominator of the ends and the step of a range of values
+abbrev pub most_range_parts : ℕ
+most_range_parts = 1000000
+
+-- a listed count
+abbrev pub most_count : ℕ
+most_count = 256
+
 -- the parts of an admitted fraction are below this
 abbrev pub admitted_bound : ℕ
 admitted_bound = 2 ^ 48
 
--- ---- what is made from it
+-- ---- a call
+
+-- the bytes of an input
+abbrev pub most_text : ℕ
+most_text = 1048576
+
+-- the asks of a call
+abbrev pub most_asks : ℕ
+most_asks = 256
+
+-- a share is told where the total has a probability of at least 1 in so many
+abbrev pub rarest_parts : ℕ
+rarest_parts = 2 ^ 16
+
+-- the decimals of a printed end
+abbrev pub most_digits : ℕ
+most_digits = 9
+
+-- ---- what is made from a plan
 
 -- the parts of a fraction that the program holds are below this
 abbrev pub frac_bound : ℕ

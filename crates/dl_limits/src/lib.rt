@@ -20,6 +20,39 @@ pub const MOST_EXPECTED: u32 = 4_096;
 /// The greatest shape of a gamma count.
 pub const MOST_SHAPE: u32 = 10_000;
 
+/// The most units of a plan.
+pub const MOST_UNITS: usize = 16;
+
+/// The most layers of a clause.
+pub const MOST_LAYERS: usize = 16;
+
+/// The most atoms of a severity.
+pub const MOST_ATOMS: usize = 64;
+
+/// The most values of a list.
+pub const MOST_VALUES: usize = 1_024;
+
+/// The greatest common denominator of the ends and the step of a range of values.
+pub const MOST_RANGE_PARTS: u64 = 1_000_000;
+
+/// The greatest listed count.
+pub const MOST_COUNT: u32 = 256;
+
+/// The most bytes of an input.
+pub const MOST_TEXT: usize = 1_048_576;
+
+/// The most asks of a call.
+pub const MOST_ASKS: usize = 256;
+
+/// A share is told where the total has a probability of at least 1 in so many.
+pub const RAREST_PARTS: u128 = 1 << 16;
+
+/// The most decimals of a printed end.
+pub const MOST_DIGITS: u32 = 9;
+
+/// The parts of an admitted fraction are below this.
+pub const ADMITTED_BOUND: u64 = 1 << 48;
+
 /// The parts of a fraction that the program holds are below this.
 pub const FRAC_BOUND: u128 = 1 << 62;
 
