@@ -1,23 +1,15 @@
 -- Sums and products of fractions by parts from which the common divisors were taken out first.
-use Rattle.std.proofs.Common.{◌≡◌, ℕ, ◌+◌, ◌*◌, ◌/◌, ◌<◌, ◌≤◌, arith, refl, sym, ap, ap₂, subst, ◌∙◌, mul-pos, add_comm}
+use Rattle.std.proofs.Common.{◌≡◌, ℕ, ◌+◌, ◌*◌, ◌/◌, ◌<◌, ◌≤◌, arith, sym, ap, ap₂, subst, ◌∙◌, mul-pos, add_comm}
 use Rattle.std.proofs.Math.Nat.{dvd-mul_left, dvd-mul_right, div-mul_cancel, eq_of_mul-eq-mul_right, pos_of_dvd_of_pos}
 use Rattle.std.proofs.Common.{◌^◌, ◌%◌}
 use Rattle.std.proofs.Math.Nat.{pow-le-pow_right, mod-eq_of_lt}
-use Rattle.std.specs.Int.{div_ceil}
-use Rattle.std.specs.Ordering.{MatchOrdering, nat_cmp}
-use Rattle.std.proofs.Common.{Ordering, Less, Equal, Greater}
-use Rattle.std.proofs.lemmas.Cmp.{ranked}
-use Rattle.dl_exact.proofs.Laws.{one_pos as zero-lt-one}
 use Prim.Native.Nat.{◌∣◌}
 use Rattle.std.proofs.lemmas.Nat.Gcd.{dvd_trans, dvd_refl}
 use Rattle.dl_exact.specs.Gcd.{gcd}
-use Rattle.dl_exact.specs.Fraction.{Fraction, ◌over◌, whole, ◌+ℚ◌, ◌*ℚ◌, ◌<ℚ◌, ◌/ℚ◌}
+use Rattle.dl_exact.specs.Fraction.{◌over◌}
 use Rattle.dl_exact.proofs.GcdLaws.{gcd_is, gcd_pos, cut_left, cut_right, cut_pos, cut_lowest}
-use Rattle.dl_exact.proofs.Over.{over_self, over_same, over_mul, over_lt, lt_over}
-use Rattle.dl_exact.specs.Rounding.{IsFloor, IsCeiling}
-use Rattle.dl_exact.proofs.RoundingLaws.{floor_div, ceiling_div}
+use Rattle.dl_exact.proofs.Over.{over_same}
 use Rattle.dl_exact.proofs.Multiples.{lowest_swap, lowest_parts, lowest_times, lowest_plus, lowest_product, part_divides}
-use Rattle.dl_exact.proofs.Parts.{cut_same}
 
 -- ---- products, cut across
 

@@ -1,3 +1,4 @@
 pub mod FractionLaws
 pub mod NumeralLaws
 pub mod SpellingLaws
+pub mod SmallNumerals

@@ -9,7 +9,7 @@ use Rattle.std.proofs.lemmas.List.Folds.{list_any_at}
 use Rattle.std.proofs.lemmas.List.Quantifiers.{position-Some}
 use Rattle.std.proofs.lemmas.Bool.Decides.{nat_tests}
 use Rattle.dl_frac.specs.Numerals.{is_point, is_percent, is_slash, IsDecimal, plain, pointed, IsNumeral, decimal, percent, fraction}
-use Rattle.dl_frac.proofs.NumeralLaws.{cases, cut_at, before_none, after_none, before_yes, after_yes, digit_or_not, no_sign, point_no_digit, slash_no_digit, percent_no_digit, decimal_marks, any_push_no}
+use Rattle.dl_frac.proofs.NumeralLaws.{cases, cut_at, before_none, after_none, before_yes, after_yes, digit_or_not, no_sign, point_no_digit, slash_no_digit, decimal_marks, any_push_no}
 use Rattle.dl_exact.proofs.Lists.{rest_whole}
 
 -- ---- digits

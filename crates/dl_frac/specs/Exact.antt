@@ -1,5 +1,5 @@
 -- Which fractions a `Frac` holds, and what a call of one answers.
-use Rattle.std.specs.Prelude.{◌≡◌, ◌⊎◌, ◌^◌, ◌<◌, ◌≤◌, Result, MatchResult}
+use Rattle.std.specs.Prelude.{◌≡◌, ◌⊎◌, ◌<◌, ◌≤◌, Result, MatchResult}
 use Rattle.dl_limits.specs.Limits.{frac_bound}
 use Rattle.dl_exact.specs.Fraction.{Fraction}
 

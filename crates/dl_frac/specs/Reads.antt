@@ -5,7 +5,7 @@ use Rattle.dl_frac.specs.declared.reading.Reading.{Reading}
 use Rattle.dl_frac.specs.Numerals.{is_point, is_percent, digit_count, number_in, places_in}
 
 -- r is what a text of at most so many digits shows
-pub record Reads (limit : ℕ) (text : List ℕ) (r : Reading) : Type 0 where
+pub record IsReadingOf (limit : ℕ) (text : List ℕ) (r : Reading) : Type 0 where
   pub number : r.number ≡ number_in text
   pub digits : r.digits ≡ digit_count text
   pub scale : r.scale ≡ 10 ^ places_in text

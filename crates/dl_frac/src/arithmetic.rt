@@ -35,9 +35,11 @@ impl Model for Frac {
 
     ghost Value = { Fraction };
 
-    ghost view = { λ f. record { num = f.num; den = f.den; positive = f.positive; lowest = f.lowest } };
+    ghost view = { λ f.
+        record { num = f.num; den = f.den; positive = f.positive; lowest = f.lowest } };
 
-    ghost inverse = { λ x. record { num = x.num; den = x.den; positive = x.positive; lowest = x.lowest } };
+    ghost inverse = { λ x.
+        record { num = x.num; den = x.den; positive = x.positive; lowest = x.lowest } };
 
     ghost invariant = { λ f. (f.num < frac_bound) × (f.den < frac_bound) };
 }
@@ -59,6 +61,13 @@ impl Frac {
         ensures fits { result < frac_bound }
     {
         self.den
+    }
+
+    /// The whole number `number`.
+    pub fn whole(number: u32) -> Frac
+        ensures { result ≡ whole number }
+    {
+        reduced(number as u64, 1)
     }
 
     /// `num` over `den`, which is above 0. `TooFine` exactly where a part of it in lowest terms is

@@ -5,7 +5,7 @@ ghost use Rattle.dl_limits.specs.Limits.{frac_bound};
 ghost use Rattle.dl_exact.specs.Fraction.{whole, ◌over◌, ◌/ℚ◌};
 ghost use Rattle.std.specs.List.{list_any};
 ghost use Rattle.dl_frac.specs.Numerals.{is_percent, digit_count, number_in, decimal_value, numeral_value, is_bad, IsNumeral};
-ghost use Rattle.dl_frac.specs.Reads.{Reads};
+ghost use Rattle.dl_frac.specs.Reads.{IsReadingOf};
 
 use crate::arithmetic::{Frac, reduced};
 use crate::reading::Reading;
@@ -56,7 +56,7 @@ fn ratio(first: u64, text: &[u8], digits: u32) -> Result<Frac, BadNumeral>
 impl Reading {
     /// Nothing is read.
     fn new() -> Reading
-        ensures { (limit : ℕ) → Reads limit [] result }
+        ensures { (limit : ℕ) → IsReadingOf limit [] result }
     {
         Reading {
             number: 0,
@@ -70,9 +70,9 @@ impl Reading {
     /// One more byte is read; `BadNumeral` where it is a digit that passes the limit.
     fn push(self, byte: u8, limit: u32) -> Result<Reading, BadNumeral>
         requires { limit ≤ 11 }
-        ensures ok { IfOk result (λ next. (text : List ℕ) → Reads limit text self
-            → Reads limit (text ++ byte ∷ []) next) }
-        ensures err { OnErr result ((text : List ℕ) → Reads limit text self
+        ensures ok { IfOk result (λ next. (text : List ℕ) → IsReadingOf limit text self
+            → IsReadingOf limit (text ++ byte ∷ []) next) }
+        ensures err { OnErr result ((text : List ℕ) → IsReadingOf limit text self
             → limit < digit_count (text ++ byte ∷ [])) }
     {
         let mut next = self;
@@ -89,9 +89,9 @@ impl Reading {
     fn push_digit(self, digit: u8, limit: u32) -> Result<Reading, BadNumeral>
         requires digit { digit < 10 }
         requires limit { limit ≤ 11 }
-        ensures ok { IfOk result (λ next. (text : List ℕ) → Reads limit text self
-            → Reads limit (text ++ (48 + digit) ∷ []) next) }
-        ensures err { OnErr result ((text : List ℕ) → Reads limit text self
+        ensures ok { IfOk result (λ next. (text : List ℕ) → IsReadingOf limit text self
+            → IsReadingOf limit (text ++ (48 + digit) ∷ []) next) }
+        ensures err { OnErr result ((text : List ℕ) → IsReadingOf limit text self
             → limit < digit_count (text ++ (48 + digit) ∷ [])) }
     {
         if self.digits >= limit {
@@ -113,10 +113,10 @@ impl Reading {
 
     /// The value of a decimal or a percent.
     fn decimal(self, limit: u32) -> Result<Frac, BadNumeral>
-        ensures ok { (text : List ℕ) → Reads limit text self
+        ensures ok { (text : List ℕ) → IsReadingOf limit text self
             → IfOk result (λ value. value ≡ cond (list_any is_percent text)
             (decimal_value text /ℚ whole 100) (decimal_value text)) }
-        ensures bad { (text : List ℕ) → Reads limit text self
+        ensures bad { (text : List ℕ) → IsReadingOf limit text self
             → IsErr result ↔ IsTrue (cond (list_any is_percent text)
             (nat_lt (limit - 2) (digit_count text)) (nat_lt limit (digit_count text))) }
     {

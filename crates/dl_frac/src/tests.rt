@@ -1,40 +1,71 @@
 //! Values worked outside the program, by exact fractions.
 
-use crate::{Frac, TooFine, is_numeral, lcm_to, numeral, small_divisor};
+use crate::{BadNumeral, Frac, TooFine, is_numeral, lcm_to, numeral, small_divisor};
 use std::cmp::Ordering;
 
 const TOP: u64 = (1 << 62) - 1;
 
 const HALF: u64 = 1 << 61;
 
-fn of(parts: (u64, u64)) -> Option<Frac> {
+type Parts = (u64, u64);
+
+fn of(parts: Parts) -> Option<Frac> {
     if parts.1 == 0 {
         return None;
     }
     Frac::make(parts.0 as u128, parts.1 as u128).ok()
 }
 
-fn shown(answer: Result<Frac, TooFine>) -> Option<(u64, u64)> {
+fn made_of(num: u128, den: u128) -> Option<Parts> {
+    if den == 0 {
+        return None;
+    }
+    shown(Frac::make(num, den))
+}
+
+fn shown(answer: Result<Frac, TooFine>) -> Option<Parts> {
     let value = answer.ok()?;
     Some((value.num(), value.den()))
 }
 
-fn quotient(x: Frac, y: Frac) -> Option<(u64, u64)> {
+fn quotient(x: Frac, y: Frac) -> Option<Parts> {
     if y.num() == 0 {
         return None;
     }
     shown(x.div(y))
 }
 
-fn read(text: &[u8], limit: u32) -> Option<(u64, u64)> {
+fn answers(first: Parts, second: Parts) -> Option<(Option<Parts>, Option<Parts>, Option<Parts>)> {
+    let (x, y) = (of(first)?, of(second)?);
+    Some((shown(x.add(y)), shown(x.mul(y)), quotient(x, y)))
+}
+
+fn ordered(first: Parts, second: Parts) -> Option<(Ordering, bool)> {
+    let (x, y) = (of(first)?, of(second)?);
+    Some((x.compare(y), x == y))
+}
+
+fn multiple_of(x: u64, y: u64, limit: u64) -> Option<u64> {
+    if x == 0 || y == 0 {
+        return None;
+    }
+    lcm_to(x, y, limit)
+}
+
+/// Where the text is a numeral, its value, if that is not bad.
+fn read(text: &[u8], limit: u32) -> Option<Option<Parts>> {
     if limit > 11 {
         return None;
     }
     if is_numeral(text) {
-        let value = numeral(text, limit).ok()?;
-        return Some((value.num(), value.den()));
+        return Some(value_of(numeral(text, limit)));
     }
     None
+}
+
+fn value_of(answer: Result<Frac, BadNumeral>) -> Option<Parts> {
+    let value = answer.ok()?;
+    Some((value.num(), value.den()))
 }
 
 #[test]
@@ -123,23 +154,31 @@ fn near_the_top(rt: HostRuntime) {
         ),
     ];
     for (first, second, sum, product, over, order) in table {
-        if let (Some(x), Some(y)) = (of(first), of(second)) {
-            assert_eq!(rt; shown(x.add(y)), sum);
-            assert_eq!(rt; shown(x.mul(y)), product);
-            assert_eq!(rt; quotient(x, y), over);
-            assert_eq!(rt; x.compare(y), order);
-            assert_eq!(rt; x == y, order == Ordering::Equal);
-        }
+        assert_eq!(rt; answers(first, second), Some((sum, product, over)));
+        assert_eq!(rt;
+            ordered(first, second),
+            Some((order, order == Ordering::Equal))
+        );
     }
 }
 
 #[test]
-fn made_and_scaled(rt: HostRuntime) {
-    assert_eq!(rt; shown(Frac::make(1 << 100, 1 << 99)), Some((2, 1)));
-    assert_eq!(rt; shown(Frac::make(1 << 62, 2)), Some((HALF, 1)));
-    assert_eq!(rt; shown(Frac::make(1 << 127, 3 << 126)), Some((2, 3)));
-    assert_eq!(rt; shown(Frac::make(1 << 62, 1)), None);
-    assert_eq!(rt; shown(Frac::make(1, 1 << 62)), None);
+fn made(rt: HostRuntime) {
+    // two parts, and the fraction of them in lowest terms where it fits
+    let table = [
+        (1 << 100, 1 << 99, Some((2, 1))),
+        (1 << 62, 2, Some((HALF, 1))),
+        (1 << 127, 3 << 126, Some((2, 3))),
+        (1 << 62, 1, None),
+        (1, 1 << 62, None),
+    ];
+    for (num, den, value) in table {
+        assert_eq!(rt; made_of(num, den), value);
+    }
+}
+
+#[test]
+fn scaled(rt: HostRuntime) {
     // a fraction, its floor and its ceiling in units of 1 / 2^56
     let table = [
         ((1, 3), 24019198012642645, 24019198012642646),
@@ -158,15 +197,35 @@ fn made_and_scaled(rt: HostRuntime) {
             assert_eq!(rt; x.ceil_scaled::<56>(), ceiling);
         }
     }
-    assert_eq!(rt; small_divisor(12, 18), 6);
-    assert_eq!(rt; small_divisor(7, 0), 7);
-    assert_eq!(rt; small_divisor(0, 7), 7);
-    assert_eq!(rt; small_divisor(0, 0), 0);
-    assert_eq!(rt; small_divisor(u32::MAX, 65_537), 65_537);
-    assert_eq!(rt; lcm_to(4, 6, 12), Some(12));
-    assert_eq!(rt; lcm_to(4, 6, 11), None);
-    assert_eq!(rt; lcm_to(1 << 63, 1 << 62, 1 << 63), Some(1 << 63));
-    assert_eq!(rt; lcm_to(u64::MAX, u64::MAX - 1, u64::MAX), None);
+}
+
+#[test]
+fn divisors(rt: HostRuntime) {
+    // two numbers, and their greatest common divisor
+    let table = [
+        (12, 18, 6),
+        (7, 0, 7),
+        (0, 7, 7),
+        (0, 0, 0),
+        (u32::MAX, 65_537, 65_537),
+    ];
+    for (x, y, divisor) in table {
+        assert_eq!(rt; small_divisor(x, y), divisor);
+    }
+}
+
+#[test]
+fn multiples(rt: HostRuntime) {
+    // two numbers, a limit, and their least common multiple where it is within the limit
+    let table = [
+        (4, 6, 12, Some(12)),
+        (4, 6, 11, None),
+        (1 << 63, 1 << 62, 1 << 63, Some(1 << 63)),
+        (u64::MAX, u64::MAX - 1, u64::MAX, None),
+    ];
+    for (x, y, limit, multiple) in table {
+        assert_eq!(rt; multiple_of(x, y, limit), multiple);
+    }
 }
 
 #[test]
@@ -193,9 +252,12 @@ fn numerals(rt: HostRuntime) {
         ("06/4", 1, None),
     ];
     for (text, limit, value) in table {
-        assert!(rt; is_numeral(text.as_bytes()), "{text}");
-        assert_eq!(rt; read(text.as_bytes(), limit), value, "{text}");
+        assert_eq!(rt; read(text.as_bytes(), limit), Some(value), "{text}");
     }
+}
+
+#[test]
+fn no_numerals(rt: HostRuntime) {
     for text in [
         "", ".", "%", "1.2.3", "1/", "/2", "1/2%", "1.5/2", "-1", "1e3", "5%%", "1 ",
     ] {

@@ -5,7 +5,7 @@ use Rattle.std.proofs.lemmas.Bool.Decides.{nat_tests}
 use Rattle.dl_lexer.specs.declared.token.Sign.{Sign}
 use Rattle.dl_lexer.specs.declared.token.Sign.TheVariants.{Open, Close, Colon, Comma, Bang}
 use Rattle.dl_lexer.specs.Bytes.{is_letter, is_digit, is_white, is_comment_byte}
-use Rattle.dl_lexer.specs.Numerals.{IsNumeral}
+use Rattle.dl_lexer.specs.Numerals.{IsNumeralToken}
 use Rattle.dl_lexer.specs.Tokens.{sign_byte}
 use Rattle.dl_lexer.specs.Cutting.{NoToken, blank_length}
 use Rattle.dl_lexer.proofs.Longest.{longest_none}
@@ -37,9 +37,11 @@ pub blank_no_token : (bytes : List ℕ) → 0 < blank_length bytes → NoToken b
 blank_no_token [] some = absurd (omega arith)
 blank_no_token (b ∷ bytes) some =
     let first : (is_white b || b == 35) ≡ true = blank_first b bytes some in
-    longest_nothing (b ∷ bytes) (no_letter b first) (longest_none IsNumeral (b ∷ bytes) (numeral first)) (sign first)
+    longest_nothing (b ∷ bytes) (no_letter b first)
+    (longest_none IsNumeralToken (b ∷ bytes) (numeral first)) (sign first)
   where
-    numeral : (is_white b || b == 35) ≡ true → (m : ℕ) → m ≤ length (b ∷ bytes) → IsNumeral (take m (b ∷ bytes)) → ⊥
+    numeral : (is_white b || b == 35) ≡ true → (m : ℕ) → m ≤ length (b ∷ bytes)
+        → IsNumeralToken (take m (b ∷ bytes)) → ⊥
     numeral first zero h t = let begins : begins_numeral [] ≡ true = numeral_begins [] t in cc
     numeral first (suc m) h t =
         let begins : (is_digit b || b == 46) ≡ true = numeral_begins (b ∷ take m bytes) t in

@@ -8,7 +8,7 @@ use Rattle.std.proofs.lemmas.List.Sums.{prefix_len-le-length}
 use Rattle.std.proofs.lemmas.List.Folds.{length-prefix_len, list_all-append, list_all_at}
 use Rattle.std.proofs.lemmas.Option.{slice_get_within, get_or_from_slice_get}
 use Rattle.dl_lexer.specs.Bytes.{is_digit}
-use Rattle.dl_lexer.specs.Numerals.{AreDigits, IsDecimal, digits, digits_point, point_digits, IsPercent, percent, IsFraction, fraction, IsNumeral, a_decimal, a_percent, a_fraction}
+use Rattle.dl_lexer.specs.Numerals.{AreDigits, IsDecimalToken, digits, digits_point, point_digits, IsPercent, percent, IsFraction, fraction, IsNumeralToken, a_decimal, a_percent, a_fraction}
 use Rattle.dl_lexer.specs.Cutting.{IsLongest}
 use Rattle.dl_lexer.proofs.Prefix.{prefix_passes, prefix_most, prefix_ends, passes_prefix, take_around, get_behind, drop_behind}
 use Rattle.dl_lexer.proofs.Longest.{either, longest_either, longest_none}
@@ -56,14 +56,15 @@ length_run : (bytes : List ℕ) → length (take (run bytes) bytes) ≡ run byte
 length_run bytes = length-prefix_len is_digit bytes
 
 -- a decimal at the front, with no point behind the first digits
-pub decimal_no_point : (bytes : List ℕ) → slice_get bytes (run bytes) ≢ Some 46 → IsLongest IsDecimal bytes (run bytes)
+pub decimal_no_point : (bytes : List ℕ) → slice_get bytes (run bytes) ≢ Some 46
+    → IsLongest IsDecimalToken bytes (run bytes)
 decimal_no_point bytes other = record {
   within = run_within bytes;
   spelled = λ some. digits (omega (arith, length_run bytes), run_digits bytes);
   longest = most;
 }
   where
-    most : (m : ℕ) → m ≤ length bytes → IsDecimal (take m bytes) → m ≤ run bytes
+    most : (m : ℕ) → m ≤ length bytes → IsDecimalToken (take m bytes) → m ≤ run bytes
     most m h (digits d) = prefix_most is_digit bytes m h d.1
     most m h (digits_point a b e all_a all_b) = absurd (other (marked 46 bytes m a b refl h e all_a.1 all_b).mark)
     most m h (point_digits b e all_b) = absurd (other (marked 46 bytes m [] b refl h e refl all_b.1).mark)
@@ -71,7 +72,7 @@ decimal_no_point bytes other = record {
 -- a decimal at the front, with a point
 pub decimal_point : (bytes : List ℕ) → slice_get bytes (run bytes) ≡ Some 46
     → 0 < run bytes + run (drop (run bytes + 1) bytes)
-    → IsLongest IsDecimal bytes (run bytes + 1 + run (drop (run bytes + 1) bytes))
+    → IsLongest IsDecimalToken bytes (run bytes + 1 + run (drop (run bytes + 1) bytes))
 decimal_point bytes point some = record {
   within = omega (
     arith,
@@ -90,23 +91,23 @@ decimal_point bytes point some = record {
     behind : List ℕ
     behind = take part (drop (run bytes + 1) bytes)
 
-    spelled : (n : ℕ) → n ≡ run bytes → IsDecimal (take n bytes ++ 46 ∷ behind)
+    spelled : (n : ℕ) → n ≡ run bytes → IsDecimalToken (take n bytes ++ 46 ∷ behind)
     spelled zero e = point_digits behind refl
         (omega (arith, length_run (drop (run bytes + 1) bytes)), run_digits (drop (run bytes + 1) bytes))
     spelled (suc n) e = rw e (digits_point (take (run bytes) bytes) behind refl
         (omega (arith, length_run bytes), run_digits bytes) (run_digits (drop (run bytes + 1) bytes)))
 
-    most : (m : ℕ) → m ≤ length bytes → IsDecimal (take m bytes) → m ≤ run bytes + 1 + part
+    most : (m : ℕ) → m ≤ length bytes → IsDecimalToken (take m bytes) → m ≤ run bytes + 1 + part
     most m h (digits d) = let short : m ≤ run bytes = prefix_most is_digit bytes m h d.1 in omega arith
     most m h (digits_point a b e all_a all_b) = let at = marked 46 bytes m a b refl h e all_a.1 all_b in omega arith
     most m h (point_digits b e all_b) = let at = marked 46 bytes m [] b refl h e refl all_b.1 in omega arith
 
 -- a lone point begins no decimal
 pub decimal_bare_point : (bytes : List ℕ) → run bytes ≡ 0 → run (drop (run bytes + 1) bytes) ≡ 0
-    → slice_get bytes (run bytes) ≡ Some 46 → IsLongest IsDecimal bytes 0
-decimal_bare_point bytes first second point = longest_none IsDecimal bytes no_decimal
+    → slice_get bytes (run bytes) ≡ Some 46 → IsLongest IsDecimalToken bytes 0
+decimal_bare_point bytes first second point = longest_none IsDecimalToken bytes no_decimal
   where
-    no_decimal : (m : ℕ) → m ≤ length bytes → IsDecimal (take m bytes) → ⊥
+    no_decimal : (m : ℕ) → m ≤ length bytes → IsDecimalToken (take m bytes) → ⊥
     no_decimal m h (digits d) =
         let short : m ≤ run bytes = prefix_most is_digit bytes m h d.1 in omega (arith, length-take-le m bytes h, d.0)
     no_decimal m h (digits_point a b e all_a all_b) =
@@ -160,14 +161,14 @@ round_of c bytes w p first mark second = record {
 }
 
 pub decimal_with_point : (bytes : List ℕ) (w p : ℕ) → w ≡ run bytes → slice_get bytes w ≡ Some 46
-    → p ≡ run (drop (w + 1) bytes) → 0 < w + p → IsLongest IsDecimal bytes (w + 1 + p)
+    → p ≡ run (drop (w + 1) bytes) → 0 < w + p → IsLongest IsDecimalToken bytes (w + 1 + p)
 decimal_with_point bytes w p first mark second some =
     let at = round_of 46 bytes w p first mark second in
     let count : run bytes + 1 + run (drop (run bytes + 1) bytes) ≡ w + 1 + p = omega arith in
-    subst (λ n. IsLongest IsDecimal bytes n) count (decimal_point bytes at.mark (omega arith))
+    subst (λ n. IsLongest IsDecimalToken bytes n) count (decimal_point bytes at.mark (omega arith))
 
 pub decimal_with_bare_point : (bytes : List ℕ) (w p : ℕ) → w ≡ run bytes → slice_get bytes w ≡ Some 46
-    → p ≡ run (drop (w + 1) bytes) → w + p ≡ 0 → IsLongest IsDecimal bytes 0
+    → p ≡ run (drop (w + 1) bytes) → w + p ≡ 0 → IsLongest IsDecimalToken bytes 0
 decimal_with_bare_point bytes w p first mark second none =
     let at = round_of 46 bytes w p first mark second in
     decimal_bare_point bytes (omega arith) (omega arith) at.mark
@@ -210,13 +211,13 @@ all_round a b all_a all_b =
     let right : list_all is_decimal_byte b ≡ true = all_weaken is_digit is_decimal_byte digit_in_decimal b all_b in
     list_all-append is_decimal_byte a (46 ∷ b) ∙ rw left right
 
-decimal_bytes : (bs : List ℕ) → IsDecimal bs → list_all is_decimal_byte bs ≡ true
+decimal_bytes : (bs : List ℕ) → IsDecimalToken bs → list_all is_decimal_byte bs ≡ true
 decimal_bytes bs (digits d) = all_weaken is_digit is_decimal_byte digit_in_decimal bs d.1
 decimal_bytes bs (digits_point a b e all_a all_b) = ap (list_all is_decimal_byte) e ∙ all_round a b all_a.1 all_b
 decimal_bytes bs (point_digits b e all_b) = ap (list_all is_decimal_byte) e ∙ all_round [] b refl all_b.1
 
 -- no decimal is empty
-decimal_some : (bs : List ℕ) → IsDecimal bs → 0 < length bs
+decimal_some : (bs : List ℕ) → IsDecimalToken bs → 0 < length bs
 decimal_some bs (digits d) = d.0
 decimal_some bs (digits_point a b e all_a all_b) = omega (arith, ap length e, length-append a (46 ∷ b))
 decimal_some bs (point_digits b e all_b) = omega (arith, ap length e)
@@ -225,7 +226,7 @@ decimal_some bs (point_digits b e all_b) = omega (arith, ap length e)
 record IsPercentAt (bytes : List ℕ) (m k : ℕ) : Type 0 where
   pub count : m ≡ k + 1
   pub some : 0 < k
-  pub decimal : IsDecimal (take k bytes)
+  pub decimal : IsDecimalToken (take k bytes)
   pub within : k ≤ length bytes
   pub mark : slice_get bytes k ≡ Some 37
 
@@ -239,13 +240,14 @@ percent_at bytes m h (percent d e dec) =
       record {
         count = omega (arith, size, length-take-le m bytes h);
         some = decimal_some d dec;
-        decimal = subst IsDecimal (sym front) dec;
+        decimal = subst IsDecimalToken (sym front) dec;
         within = omega (arith, size, length-take-le m bytes h);
         mark = rw split (get_behind d (drop m bytes) 37);
       },
     )
 
-pub percent_with_mark : (bytes : List ℕ) (d : ℕ) → IsLongest IsDecimal bytes d → 0 < d → slice_get bytes d ≡ Some 37
+pub percent_with_mark : (bytes : List ℕ) (d : ℕ) → IsLongest IsDecimalToken bytes d → 0 < d
+    → slice_get bytes d ≡ Some 37
     → IsLongest IsPercent bytes (d + 1)
 percent_with_mark bytes d decimal some mark = record {
   within = omega (arith, slice_get_within bytes d 37 mark);
@@ -260,7 +262,7 @@ percent_with_mark bytes d decimal some mark = record {
     most m h p =
         let at = percent_at bytes m h p in omega (arith, decimal.longest at.0 at.1.within at.1.decimal, at.1.count)
 
-pub percent_without_mark : (bytes : List ℕ) (d : ℕ) → IsLongest IsDecimal bytes d
+pub percent_without_mark : (bytes : List ℕ) (d : ℕ) → IsLongest IsDecimalToken bytes d
     → (0 < d → slice_get bytes d ≢ Some 37) → IsLongest IsPercent bytes 0
 unfolding is_decimal_byte
 percent_without_mark bytes d decimal other = longest_none IsPercent bytes no_percent
@@ -284,15 +286,16 @@ percent_without_mark bytes d decimal other = longest_none IsPercent bytes no_per
             other (omega arith) (subst (λ n. slice_get bytes n ≡ Some 37) same mark))
 
 -- the longest numeral is the longest of the three
-pub numeral_longest : (bytes : List ℕ) (d p f : ℕ) → IsLongest IsDecimal bytes d → IsLongest IsPercent bytes p
-    → IsLongest IsFraction bytes f → IsLongest IsNumeral bytes (max (max d p) f)
+pub numeral_longest : (bytes : List ℕ) (d p f : ℕ) → IsLongest IsDecimalToken bytes d → IsLongest IsPercent bytes p
+    → IsLongest IsFraction bytes f → IsLongest IsNumeralToken bytes (max (max d p) f)
 numeral_longest bytes d p f decimal a_percent' a_fraction' =
-    longest_either (λ bs. IsDecimal bs ⊎ IsPercent bs) IsFraction IsNumeral bytes (max d p) f
+    longest_either (λ bs. IsDecimalToken bs ⊎ IsPercent bs) IsFraction IsNumeralToken bytes (max d p) f
     (λ bs t. either t (λ x. a_decimal x) (λ x. a_percent x)) (λ bs t. a_fraction t) parts
-    (longest_either IsDecimal IsPercent (λ bs. IsDecimal bs ⊎ IsPercent bs) bytes d p (λ bs t. inl t) (λ bs t. inr t)
+    (longest_either IsDecimalToken IsPercent (λ bs. IsDecimalToken bs ⊎ IsPercent bs) bytes d p (λ bs t. inl t)
+    (λ bs t. inr t)
     (λ bs t. t) decimal a_percent') a_fraction'
   where
-    parts : (bs : List ℕ) → IsNumeral bs → (IsDecimal bs ⊎ IsPercent bs) ⊎ IsFraction bs
+    parts : (bs : List ℕ) → IsNumeralToken bs → (IsDecimalToken bs ⊎ IsPercent bs) ⊎ IsFraction bs
     parts bs (a_decimal t) = inl (inl t)
     parts bs (a_percent t) = inl (inr t)
     parts bs (a_fraction t) = inr t

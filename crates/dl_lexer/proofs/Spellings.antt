@@ -14,7 +14,10 @@ use Rattle.std.proofs.lemmas.Bool.{and_parts}
 -- the keywords in the order of the table
 abbrev pub keywords : List Keyword
 keywords =
-    Agg ∷ Port ∷ Claim ∷ Claims ∷ Loss ∷ Prem ∷ Premium ∷ At ∷ Lr ∷ Dfreq ∷ Dsev ∷ Sev ∷ Dhistogram ∷ Xps ∷ Xs ∷ Inf ∷ Occurrence ∷ Aggregate ∷ Net ∷ Of ∷ Ceded ∷ To ∷ And ∷ So ∷ Po ∷ Fixed ∷ Poisson ∷ Bernoulli ∷ Binomial ∷ Mixed ∷ Gamma ∷ Wts ∷ Lognorm ∷ Expon ∷ Pareto ∷ Weibull ∷ Norm ∷ Uniform ∷ Beta ∷ Chistogram ∷ Note ∷ Geometric ∷ Zt ∷ Zm ∷ Common ∷ []
+    Agg ∷ Port ∷ Claim ∷ Claims ∷ Loss ∷ Prem ∷ Premium ∷ At ∷ Lr ∷ Dfreq ∷ Dsev ∷ Sev ∷ Dhistogram ∷ Xps ∷ Xs ∷ Inf
+    ∷ Occurrence ∷ Aggregate ∷ Net ∷ Of ∷ Ceded ∷ To ∷ And ∷ So ∷ Po ∷ Fixed ∷ Poisson ∷ Bernoulli ∷ Binomial ∷ Mixed
+    ∷ Gamma ∷ Wts ∷ Lognorm ∷ Expon ∷ Pareto ∷ Weibull ∷ Norm ∷ Uniform ∷ Beta ∷ Chistogram ∷ Note ∷ Geometric ∷ Zt
+    ∷ Zm ∷ Common ∷ []
 
 pub found : (k : Keyword) → first_spelled keywords (spelling k) ≡ Some k
 unfolding first_spelled

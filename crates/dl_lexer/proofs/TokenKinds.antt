@@ -11,7 +11,7 @@ use Rattle.dl_lexer.specs.declared.token.Kind.{Kind}
 use Rattle.dl_lexer.specs.declared.token.Kind.TheVariants as kind
 use Rattle.dl_lexer.specs.Bytes.{is_letter, is_digit, is_word_byte}
 use Rattle.dl_lexer.specs.Keywords.{spelling}
-use Rattle.dl_lexer.specs.Numerals.{IsDigits, IsDecimal, digits, digits_point, point_digits, percent, fraction, IsNumeral, a_decimal, a_percent, a_fraction}
+use Rattle.dl_lexer.specs.Numerals.{IsDigits, IsDecimalToken, digits, digits_point, point_digits, percent, fraction, IsNumeralToken, a_decimal, a_percent, a_fraction}
 use Rattle.dl_lexer.specs.Tokens.{begins_with_letter, IsWord, IsNote, note, sign_byte, IsSpelled, IsToken}
 use Rattle.dl_lexer.specs.Cutting.{IsLongest, NoToken}
 use Rattle.dl_lexer.proofs.Longest.{either}
@@ -28,7 +28,7 @@ digits_begin : (a rest : List ℕ) → IsDigits a → begins_numeral (a ++ rest)
 digits_begin [] rest d = absurd (omega (arith, d.0))
 digits_begin (b ∷ a) rest d = rw (and_parts (is_digit b) (list_all is_digit a) d.1).0 refl
 
-decimal_begins : (bs rest : List ℕ) → IsDecimal bs → begins_numeral (bs ++ rest) ≡ true
+decimal_begins : (bs rest : List ℕ) → IsDecimalToken bs → begins_numeral (bs ++ rest) ≡ true
 decimal_begins bs rest (digits d) = digits_begin bs rest d
 decimal_begins bs rest (digits_point a b e all_a all_b) =
     let h : begins_numeral ((a ++ 46 ∷ b) ++ rest) ≡ true =
@@ -36,7 +36,7 @@ decimal_begins bs rest (digits_point a b e all_a all_b) =
     ap (λ ys. begins_numeral (ys ++ rest)) e ∙ h
 decimal_begins bs rest (point_digits b e all_b) = ap (λ ys. begins_numeral (ys ++ rest)) e
 
-pub numeral_begins : (bs : List ℕ) → IsNumeral bs → begins_numeral bs ≡ true
+pub numeral_begins : (bs : List ℕ) → IsNumeralToken bs → begins_numeral bs ≡ true
 numeral_begins bs (a_decimal t) = subst (λ ys. begins_numeral ys ≡ true) (append-nil bs) (decimal_begins bs [] t)
 numeral_begins bs (a_percent (percent d e t)) = ap begins_numeral e ∙ decimal_begins d (37 ∷ []) t
 numeral_begins bs (a_fraction (fraction a b e all_a all_b)) = ap begins_numeral e ∙ digits_begin a (47 ∷ b) all_a
@@ -55,14 +55,14 @@ note_begins_letter bs (note text e all) = ap begins_with_letter e
 note_no_word : (bs : List ℕ) → IsNote bs → list_all is_word_byte bs ≡ false
 note_no_word bs (note text e all) = ap (list_all is_word_byte) e
 
-sign_no_letter : (s : Sign) (bs : List ℕ) → bs ≡ sign_byte s ∷ [] → begins_with_letter bs ≡ false
+pub sign_no_letter : (s : Sign) (bs : List ℕ) → bs ≡ sign_byte s ∷ [] → begins_with_letter bs ≡ false
 sign_no_letter Open bs e = ap begins_with_letter e
 sign_no_letter Close bs e = ap begins_with_letter e
 sign_no_letter Colon bs e = ap begins_with_letter e
 sign_no_letter Comma bs e = ap begins_with_letter e
 sign_no_letter Bang bs e = ap begins_with_letter e
 
-sign_no_numeral : (s : Sign) (bs : List ℕ) → bs ≡ sign_byte s ∷ [] → begins_numeral bs ≡ false
+pub sign_no_numeral : (s : Sign) (bs : List ℕ) → bs ≡ sign_byte s ∷ [] → begins_numeral bs ≡ false
 sign_no_numeral Open bs e = ap begins_numeral e
 sign_no_numeral Close bs e = ap begins_numeral e
 sign_no_numeral Colon bs e = ap begins_numeral e
@@ -73,7 +73,8 @@ sign_one : (s t : Sign) → sign_byte s ≡ sign_byte t → s ≡ t
 sign_one s t e = subst (λ x. x ≡ t) (back s) (subst (λ n. of n ≡ t) (sym e) (back t))
   where
     of : ℕ → Sign
-    of n = if n == 91 then Open else if n == 93 then Close else if n == 58 then Colon else if n == 44 then Comma else Bang
+    of n = if n == 91 then Open else if n == 93 then Close else if n == 58 then Colon
+        else if n == 44 then Comma else Bang
 
     back : (s : Sign) → of (sign_byte s) ≡ s
     back Open = refl
@@ -159,7 +160,7 @@ lettered (kind.Sign s) bs h t = let other = sign_no_letter s bs t in absurd cc
 
 -- any other token is a numeral or a sign
 unlettered : (k : Kind) (bs : List ℕ) → begins_with_letter bs ≡ false → IsSpelled k bs
-    → IsNumeral bs ⊎ ((s : Sign) × (bs ≡ sign_byte s ∷ []))
+    → IsNumeralToken bs ⊎ ((s : Sign) × (bs ≡ sign_byte s ∷ []))
 unlettered (kind.Word k) bs h t = let other = (word_parts bs (word_spelled k bs t)).0 in absurd cc
 unlettered kind.Name bs h t = let other = (word_parts bs t.word).0 in absurd cc
 unlettered kind.Note bs h t = let other = note_begins_letter bs t in absurd cc
@@ -176,7 +177,7 @@ front_lettered : (bytes : List ℕ) (m : ℕ) → begins_with_letter bytes ≡ t
 front_lettered bytes m h t = lettered t.kind (take m bytes) (begins_take m bytes (front_some bytes m t) ∙ h) t.spelled
 
 front_unlettered : (bytes : List ℕ) (m : ℕ) → begins_with_letter bytes ≡ false → IsToken (take m bytes)
-    → IsNumeral (take m bytes) ⊎ ((s : Sign) × (take m bytes ≡ sign_byte s ∷ []))
+    → IsNumeralToken (take m bytes) ⊎ ((s : Sign) × (take m bytes ≡ sign_byte s ∷ []))
 front_unlettered bytes m h t =
     unlettered t.kind (take m bytes) (begins_take m bytes (front_some bytes m t) ∙ h) t.spelled
 
@@ -202,7 +203,8 @@ longest_word bytes w n k letter word a_note le t = record {
 sign_length : (bytes : List ℕ) (m : ℕ) (s : Sign) → m ≤ length bytes → take m bytes ≡ sign_byte s ∷ [] → m ≡ 1
 sign_length bytes m s h e = sym (length-take-le m bytes h) ∙ ap length e
 
-pub longest_numeral : (bytes : List ℕ) (n : ℕ) → begins_with_letter bytes ≡ false → IsLongest IsNumeral bytes n → 0 < n
+pub longest_numeral : (bytes : List ℕ) (n : ℕ) → begins_with_letter bytes ≡ false
+    → IsLongest IsNumeralToken bytes n → 0 < n
     → IsLongest IsToken bytes n
 longest_numeral bytes n letter numeral some = record {
   within = numeral.within;
@@ -221,7 +223,7 @@ sign_behind bytes zero s e = absurd cc
 sign_behind [] (suc m) s e = absurd cc
 sign_behind (b ∷ bytes) (suc m) s e = let same : b ≡ sign_byte s = cc in ap Some same
 
-pub longest_sign : (bytes : List ℕ) (s : Sign) → begins_with_letter bytes ≡ false → IsLongest IsNumeral bytes 0
+pub longest_sign : (bytes : List ℕ) (s : Sign) → begins_with_letter bytes ≡ false → IsLongest IsNumeralToken bytes 0
     → slice_get bytes 0 ≡ Some (sign_byte s) → IsLongest IsToken bytes 1
 longest_sign bytes s letter numeral e = record {
   within = slice_get_within bytes 0 (sign_byte s) e;
@@ -231,7 +233,7 @@ longest_sign bytes s letter numeral e = record {
       (λ x. let one : m ≡ 1 = sign_length bytes m x.0 h x.1 in omega arith);
 }
 
-pub longest_nothing : (bytes : List ℕ) → begins_with_letter bytes ≡ false → IsLongest IsNumeral bytes 0
+pub longest_nothing : (bytes : List ℕ) → begins_with_letter bytes ≡ false → IsLongest IsNumeralToken bytes 0
     → ((s : Sign) → slice_get bytes 0 ≢ Some (sign_byte s)) → NoToken bytes
 longest_nothing bytes letter numeral other = record {
   within = omega arith;

@@ -12,15 +12,16 @@ abbrev pub IsDigits : List ℕ → Type 0
 IsDigits bytes = (0 < length bytes) × AreDigits bytes
 
 -- `12`, `1.5` and `5.`, or `.5`
-pub data IsDecimal (bytes : List ℕ) : Type 0 where
-  digits : IsDigits bytes → IsDecimal bytes
+pub data IsDecimalToken (bytes : List ℕ) : Type 0 where
+  digits : IsDigits bytes → IsDecimalToken bytes
   digits_point : (whole part : List ℕ) → bytes ≡ whole ++ 46 ∷ part → IsDigits whole
-      → AreDigits part → IsDecimal bytes
-  point_digits : (part : List ℕ) → bytes ≡ 46 ∷ part → IsDigits part → IsDecimal bytes
+      → AreDigits part → IsDecimalToken bytes
+  point_digits : (part : List ℕ) → bytes ≡ 46 ∷ part → IsDigits part → IsDecimalToken bytes
 
 -- `12%`: a decimal, and a percent sign right behind it
 pub data IsPercent (bytes : List ℕ) : Type 0 where
-  percent : (decimal : List ℕ) → bytes ≡ decimal ++ 37 ∷ [] → IsDecimal decimal → IsPercent bytes
+  percent : (decimal : List ℕ) → bytes ≡ decimal ++ 37 ∷ [] → IsDecimalToken decimal
+      → IsPercent bytes
 
 -- `1/2`: digits, a slash, digits
 pub data IsFraction (bytes : List ℕ) : Type 0 where
@@ -28,7 +29,7 @@ pub data IsFraction (bytes : List ℕ) : Type 0 where
       → IsFraction bytes
 
 -- a decimal, a percent or a fraction
-pub data IsNumeral (bytes : List ℕ) : Type 0 where
-  a_decimal : IsDecimal bytes → IsNumeral bytes
-  a_percent : IsPercent bytes → IsNumeral bytes
-  a_fraction : IsFraction bytes → IsNumeral bytes
+pub data IsNumeralToken (bytes : List ℕ) : Type 0 where
+  a_decimal : IsDecimalToken bytes → IsNumeralToken bytes
+  a_percent : IsPercent bytes → IsNumeralToken bytes
+  a_fraction : IsFraction bytes → IsNumeralToken bytes

@@ -7,7 +7,7 @@ use Rattle.dl_lexer.specs.declared.token.Sign.TheVariants.{Open, Close, Colon, C
 use Rattle.dl_lexer.specs.declared.token.Kind.{Kind}
 use Rattle.dl_lexer.specs.declared.token.Kind.TheVariants as kind
 use Rattle.dl_lexer.specs.Bytes.{is_letter, is_word_byte, is_note_byte}
-use Rattle.dl_lexer.specs.Numerals.{IsNumeral}
+use Rattle.dl_lexer.specs.Numerals.{IsNumeralToken}
 use Rattle.dl_lexer.specs.Keywords.{spelling}
 
 -- whether a letter begins the bytes
@@ -41,7 +41,7 @@ sign_byte Bang = 33
 abbrev pub IsSpelled : Kind → List ℕ → Type 0
 IsSpelled (kind.Word k) bytes = bytes ≡ spelling k
 IsSpelled kind.Name bytes = IsName bytes
-IsSpelled kind.Numeral bytes = IsNumeral bytes
+IsSpelled kind.Numeral bytes = IsNumeralToken bytes
 IsSpelled kind.Note bytes = IsNote bytes
 IsSpelled (kind.Sign s) bytes = bytes ≡ sign_byte s ∷ []
 

@@ -1,6 +1,8 @@
 //! A text is cut into tokens.
 
-ghost use Rattle.std.specs.Prelude.{◌≡◌, ◌≢◌, ◌≤◌, ℕ, length, take, slice_get, IsTrue, IfSome, IfNone, IfOk, Some, Err};
+ghost use Rattle.std.specs.Prelude.{◌≡◌, ◌≢◌, ◌≤◌, ℕ, length, take, slice_get, IsTrue, IfSome};
+ghost use Rattle.std.specs.Prelude.{IfNone, IfOk, Some, Err};
+ghost use Rattle.dl_limits.specs.Limits.{most_text};
 ghost use Rattle.dl_lexer.specs.declared.cut.LexFault.TheVariants.{OutOfMemory, BadByte};
 ghost use Rattle.dl_lexer.specs.Cutting.{IsLongest, NoToken, Covers, IsBad};
 ghost use Rattle.dl_lexer.specs.Tokens.{begins_with_letter, IsSpelled, IsToken, sign_byte};
@@ -84,7 +86,7 @@ fn token_at(bytes: &[u8]) -> Option<(Kind, usize)>
 /// The tokens of a text, in order, or the first place where neither a blank nor a token begins.
 /// A text has at most 1,048,576 bytes.
 pub fn lex(alloc: Global, source: &[u8]) -> Result<Vec<Token>, LexFault>
-    requires short { length source.now ≤ 1048576 }
+    requires short { length source.now ≤ most_text }
     ensures tokens { IfOk result (λ tokens. Covers source.now (length source.now) tokens.items) }
     ensures bad_byte { (at : ℕ) → result ≡ Err (BadByte at) → IsBad source.now at }
 {

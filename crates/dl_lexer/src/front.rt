@@ -1,11 +1,12 @@
 //! How many bytes the thing takes that stands at the front of some bytes.
 
-ghost use Rattle.std.specs.Prelude.{◌≡◌, ◌≢◌, ◌+◌, ◌<◌, ◌≤◌, ◌↔◌, IsTrue, IfSome, IfNone, Some, length, drop, slice_get};
+ghost use Rattle.std.specs.Prelude.{◌≡◌, ◌≢◌, ◌+◌, ◌<◌, ◌≤◌, ◌↔◌, IsTrue, IfSome, IfNone, Some};
+ghost use Rattle.std.specs.Prelude.{length, drop, slice_get};
 ghost use Rattle.dl_lexer.specs.Bytes.{is_digit};
 ghost use Rattle.std.specs.List.{prefix_len};
 ghost use Rattle.dl_lexer.specs.Classes.{is_in};
 ghost use Rattle.dl_lexer.specs.Cutting.{IsLongest, blank_length};
-ghost use Rattle.dl_lexer.specs.Numerals.{IsDecimal, IsPercent, IsFraction, IsNumeral};
+ghost use Rattle.dl_lexer.specs.Numerals.{IsDecimalToken, IsPercent, IsFraction, IsNumeralToken};
 ghost use Rattle.dl_lexer.specs.Tokens.{begins_with_letter, IsWord, IsNote};
 
 /// What a run of bytes is made of.
@@ -119,7 +120,7 @@ fn digits_round(bytes: &[u8], mark: u8) -> Option<(usize, usize)>
 
 /// The length of the longest decimal that begins the bytes, 0 where none does.
 fn decimal_length(bytes: &[u8]) -> usize
-    ensures { IsLongest IsDecimal bytes.now result }
+    ensures { IsLongest IsDecimalToken bytes.now result }
 {
     let Some((whole, part)) = digits_round(bytes, b'.') else {
         return run_length(bytes, Class::Digit);
@@ -159,7 +160,7 @@ fn fraction_length(bytes: &[u8]) -> usize
 
 /// The length of the longest numeral that begins the bytes, 0 where none does.
 pub(crate) fn numeral_length(bytes: &[u8]) -> usize
-    ensures { IsLongest IsNumeral bytes.now result }
+    ensures { IsLongest IsNumeralToken bytes.now result }
 {
     decimal_length(bytes)
         .max(percent_length(bytes))

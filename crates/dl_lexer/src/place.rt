@@ -1,13 +1,14 @@
 //! Lines and columns.
 
 ghost use Rattle.std.specs.Prelude.{◌≡◌, ◌≤◌, length};
+ghost use Rattle.dl_limits.specs.Limits.{most_text};
 ghost use Rattle.dl_lexer.specs.Lines.{line_of, column_of};
 
 /// The line and the column of a place, counted from 1: 1 plus the newlines before it, and 1 plus
 /// the bytes since the last of these. Takes no memory.
 pub fn line_col(source: &[u8], at: u32) -> (u32, u32)
     requires within { at ≤ length source.now }
-    requires short { length source.now ≤ 1048576 }
+    requires short { length source.now ≤ most_text }
     ensures line { result.0 ≡ line_of source.now at }
     ensures column { result.1 ≡ column_of source.now at }
 {

@@ -6,7 +6,8 @@ use Rattle.std.specs.Io.KnownBytes.{Consumes, Keeps}
 use Rattle.dl_outside.specs.Bytes.{Takes, TakesAtMost}
 
 -- bytes that were taken are counted by their length
-pub Consumes-Takes : (before after : Option (List ℕ)) (bytes : List ℕ) → Consumes before after bytes → Takes before after (length bytes)
+pub Consumes-Takes : (before after : Option (List ℕ)) (bytes : List ℕ) → Consumes before after bytes
+    → Takes before after (length bytes)
 Consumes-Takes None after bytes h = tt
 Consumes-Takes (Some left) None bytes h = absurd h
 Consumes-Takes (Some left) (Some rest) bytes h =
@@ -20,10 +21,18 @@ Keeps-TakesAtMost (Some left) (Some rest) h = (0, omega arith, (omega arith, h))
 
 -- bytes taken, and then some more
 pub TakesAtMost-more : (before mid after : Option (List ℕ)) (bytes : List ℕ) (more most : ℕ)
-    → Consumes before mid bytes → TakesAtMost mid after more → length bytes + more ≤ most → TakesAtMost before after most
+    → Consumes before mid bytes → TakesAtMost mid after more → length bytes + more ≤ most
+    → TakesAtMost before after most
 TakesAtMost-more None mid after bytes more most taken then fits = (0, omega arith, tt)
 TakesAtMost-more (Some left) None after bytes more most taken then fits = absurd taken
 TakesAtMost-more (Some left) (Some mid) None bytes more most taken (n, below, then) fits = absurd then
 TakesAtMost-more (Some left) (Some mid) (Some rest) bytes more most taken (n, below, then) fits =
-    let first = Consumes-Takes (Some left) (Some mid) bytes taken in
-    (length bytes + n, omega arith, (rw (taken, length-append) (omega (arith, then.0)), then.1 ∙ (ap (drop n) first.1 ∙ drop-drop n (length bytes) left)))
+    let first = Consumes-Takes (Some left) (Some mid) bytes taken in (
+      length bytes + n,
+      omega arith,
+      (
+        rw (taken, length-append) (omega (arith, then.0)),
+        then.1
+            ∙ (ap (drop n) first.1 ∙ drop-drop n (length bytes) left),
+      ),
+    )

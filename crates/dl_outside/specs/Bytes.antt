@@ -1,4 +1,5 @@
--- What a whole read takes from a source and a whole write adds to a sink, where they tell their bytes.
+-- What a whole read takes from a source and a whole write adds to a sink, where they tell their
+-- bytes.
 use Rattle.std.specs.Prelude.{◌≡◌, ℕ, ◌<◌, ◌≤◌, List, length, take, drop, Option, None, Some, ⊤}
 use Rattle.std.specs.Io.KnownBytes.{Appends}
 
@@ -14,4 +15,5 @@ TakesAtMost before after most = (n : ℕ) × (n ≤ most) × Takes before after 
 
 -- a proper prefix of these bytes was appended
 abbrev pub AppendsPartOf : Option (List ℕ) → Option (List ℕ) → List ℕ → Type 0
-AppendsPartOf before after bytes = (n : ℕ) × (n < length bytes) × Appends before after (take n bytes)
+AppendsPartOf before after bytes = (n : ℕ) × (n < length bytes)
+    × Appends before after (take n bytes)

@@ -9,7 +9,8 @@ next_count n = min (n + 1) (2 ^ 64 - 1)
 abbrev pub Rose : ℕ → ℕ → Type 0
 Rose before now = next_count before ≤ now
 
--- of an object that fails on purpose: the numbers of the calls that fail, how many calls were made, and how many of them failed
+-- of an object that fails on purpose: the numbers of the calls that fail, how many calls were made,
+-- and how many of them failed
 pub record Calls : Type 0 where
   pub fails : List ℕ
   pub made : ℕ
@@ -29,4 +30,8 @@ after_success calls = record calls { made = next_count calls.made }
 
 -- after a call that failed
 abbrev pub after_failure : Calls → Calls
-after_failure calls = record calls { made = next_count calls.made; faults = next_count calls.faults }
+after_failure calls = record calls {
+  made = next_count calls.made;
+  faults =
+      next_count calls.faults;
+}

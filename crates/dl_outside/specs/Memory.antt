@@ -13,7 +13,8 @@ pub record SourceView : Type 0 where
   pub piece : ℕ
   pub calls : Calls
 
--- of a sink over memory: the bytes held, how many more it has room for, the most that one write takes, and the calls
+-- of a sink over memory: the bytes held, how many more it has room for, the most that one write
+-- takes, and the calls
 pub record SinkView : Type 0 where
   pub held : List ℕ
   pub room : ℕ

@@ -1,10 +1,10 @@
 //! Where bytes come from and where they go to.
 //!
-//! A [`Source`] is read and a [`Sink`] is written, a piece at a time, and either may fail. Each has a
-//! count of faults, which shows that a failure had its cause, and may tell its bytes. [`read_all`] and
-//! [`write_all`] are all that the rest of the program uses. Over memory stand [`MemSource`],
-//! [`SteadySource`] and [`MemSink`], for callers without an operating system and for tests;
-//! [`StdSource`] and [`StdSink`] stand over std's readers and writers.
+//! A [`Source`] is read and a [`Sink`] is written, a piece at a time, and either may fail. Each has
+//! a count of faults, which shows that a failure had its cause, and may tell its bytes.
+//! [`read_all`] and [`write_all`] are all that the rest of the program uses. Over memory stand
+//! [`MemSource`], [`SteadySource`] and [`MemSink`], for callers without an operating system and for
+//! tests; [`StdSource`] and [`StdSink`] stand over std's readers and writers.
 #![tactic(auto)]
 
 mod drop_sink;
@@ -13,6 +13,8 @@ mod endless;
 mod memory;
 mod schedule;
 mod system;
+#[cfg(test)]
+mod tests;
 mod whole;
 
 ghost use Rattle.std.specs.Prelude.{◌≡◌, ℕ, ◌≤◌, List, [], Option, Result, OnErr, OnOk};
@@ -46,13 +48,14 @@ pub trait Source {
     /// How many reads have failed: no other read changes it. It clings to the greatest `u64`.
     ghost faults: { Self → ℕ };
 
-    /// What one read may do: the state before it, its answer, the buffer after it, and the state after it.
+    /// What one read may do: the state before it, its answer, the buffer after it, and the state
+    /// after it.
     ghost read_step: { Self → Result ℕ ReadFailed → List ℕ → Self → Type 0 };
 
     /// Puts the next bytes at the front of `buf`, and says how many.
     ///
-    /// `Ok(0)` for a buffer with room is the end of the input. After an `Err` the bytes left are what
-    /// they were.
+    /// `Ok(0)` for a buffer with room is the end of the input. After an `Err` the bytes left are
+    /// what they were.
     fn read(&mut self, buf: &mut [u8]) -> Result<usize, ReadFailed>
         ensures bound { ReadsAtMost result buf.new }
         ensures bytes { ReadConsumes (left self.old) (left self.new) result buf.new }
@@ -86,70 +89,4 @@ pub trait Sink {
         ensures later { faults self.old ≤ faults self.new }
         ensures steady { OnOk result (faults self.new ≡ faults self.old) }
         ensures cause { OnErr result (Rose (faults self.old) (faults self.new)) };
-}
-
-#[cfg(test)]
-mod tests {
-    use super::*;
-    use std::test::Fail;
-
-    #[test]
-    fn reads_whole_inputs(rt: HostRuntime) -> Result<(), Fail> {
-        // the bytes, the piece, the call that fails, the limit, the answer, and what is left then
-        let rows = [
-            (b"".as_slice(), 1, 9, 4, Ok(b"".as_slice()), b"".as_slice()),
-            (b"abcd", 1, 9, 4, Ok(b"abcd"), b""),
-            (b"abcd", 9, 9, 4, Ok(b"abcd"), b""),
-            (b"abcde", 2, 5, 9, Ok(b"abcde"), b""),
-            (b"abcde", 1, 9, 4, Err(ReadEnd::TooLong), b""),
-            (b"abcdefg", 3, 9, 4, Err(ReadEnd::TooLong), b"fg"),
-            (b"a", 3, 9, 0, Err(ReadEnd::TooLong), b""),
-            (b"abcde", 2, 0, 9, Err(ReadEnd::Fault), b"abcde"),
-            (b"abcde", 2, 1, 9, Err(ReadEnd::Fault), b"cde"),
-            (b"abcde", 2, 3, 9, Err(ReadEnd::Fault), b""),
-        ];
-        for (bytes, piece, fails, limit, wanted, left) in rows {
-            let fails = [fails].to_vec(rt.alloc())?;
-            let mut source = MemSource::new(bytes.to_vec(rt.alloc())?, piece, fails);
-            match (read_all(rt.alloc(), &mut source, limit), wanted) {
-                (Ok(read), Ok(wanted)) => assert_eq!(rt; read.as_slice(), wanted, "of {bytes:?}"),
-                (Err(end), Err(wanted)) => assert_eq!(rt; end, wanted, "of {bytes:?}"),
-                _ => return Err("the other answer".into()),
-            }
-            let rest = read_all(rt.alloc(), &mut source, 9)?;
-            assert_eq!(rt; rest.as_slice(), left, "after {bytes:?}");
-        }
-        let mut steady = SteadySource::new(b"abcde".to_vec(rt.alloc())?, 2);
-        let read = read_all(rt.alloc(), &mut steady, 5)?;
-        assert_eq!(rt; read.as_slice(), b"abcde".as_slice());
-        Ok(())
-    }
-
-    #[test]
-    fn writes_whole_texts(rt: HostRuntime) -> Result<(), Fail> {
-        // the room, the piece, the call that fails, the bytes, whether all are written, what is held
-        let rows = [
-            (0, 1, 9, b"".as_slice(), true, b"".as_slice()),
-            (10, 1, 10, b"abcdefghij", true, b"abcdefghij"),
-            (64, 99, 1, b"abcdefghij", true, b"abcdefghij"),
-            (64, 7, 2, b"abcdefghij", true, b"abcdefghij"),
-            (64, 7, 1, b"abcdefghij", false, b"abcdefg"),
-            (64, 7, 0, b"abcdefghij", false, b""),
-            (64, 7, 0, b"", true, b""),
-            (9, 4, 9, b"abcdefghij", false, b"abcdefghi"),
-            (0, 4, 9, b"a", false, b""),
-        ];
-        for (room, piece, fails, bytes, all, held) in rows {
-            let fails = [fails].to_vec(rt.alloc())?;
-            let mut sink = MemSink::new(rt.alloc(), room, piece, fails)?;
-            assert_eq!(rt;
-                write_all(&mut sink, bytes).is_ok(),
-                all,
-                "of {bytes:?} into {room}"
-            );
-            assert_eq!(rt; sink.held(), held, "of {bytes:?} into {room}");
-        }
-        write_all(&mut DropSink::new(), b"abc")?;
-        Ok(())
-    }
 }

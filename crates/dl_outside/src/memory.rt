@@ -1,6 +1,7 @@
 //! Sources and a sink over memory, which fail at chosen calls or never.
 
-ghost use Rattle.std.specs.Prelude.{◌≡◌, ℕ, ◌+◌, ◌<◌, ◌≤◌, ◌⊎◌, ◌↔◌, List, [], Option, Some, length, min, IsOk, IsErr, IfOk, OnErr, MatchResult};
+ghost use Rattle.std.specs.Prelude.{◌≡◌, ℕ, ◌+◌, ◌<◌, ◌≤◌, ◌⊎◌, ◌↔◌, List, [], Option, Some};
+ghost use Rattle.std.specs.Prelude.{length, min, IsOk, IsErr, IfOk, OnErr, MatchResult};
 ghost use Rattle.std.specs.Io.{ReadsAtMost, WritesAtMost};
 ghost use Rattle.std.specs.Io.KnownBytes.{ReadConsumes, WriteAppends};
 ghost use Rattle.dl_outside.specs.Faults.{Rose, no_calls, FailsNext, after_success, after_failure};
@@ -49,7 +50,8 @@ impl Source for SteadySource {
 
     ghost faults = { λ _. 0 };
 
-    ghost read_step = { λ old result buf new. ReadConsumes (Some old.left) (Some new.left) result buf };
+    ghost read_step = { λ old result buf new.
+        ReadConsumes (Some old.left) (Some new.left) result buf };
 
     fn read(&mut self, buf: &mut [u8]) -> Result<usize, ReadFailed>
         ensures bound { ReadsAtMost result buf.new }
@@ -80,7 +82,8 @@ impl Model for MemSource {
 
     ghost Value = { SourceView };
 
-    ghost view = { λ s. record { left = s.source.left; piece = s.source.piece; calls = s.schedule } };
+    ghost view = { λ s.
+        record { left = s.source.left; piece = s.source.piece; calls = s.schedule } };
 }
 
 impl MemSource {
@@ -114,8 +117,8 @@ impl Source for MemSource {
         ensures later { self.old.calls.faults ≤ self.new.calls.faults }
         ensures cause { OnErr result (Rose self.old.calls.faults self.new.calls.faults) }
 
-        // It fails exactly at the chosen calls, and else gives as much as a piece, the buffer and the
-        // bytes left allow.
+        // It fails exactly at the chosen calls, and else gives as much as a piece, the buffer and
+        // the bytes left allow.
         ensures fails { IsErr result ↔ FailsNext self.old.calls }
         ensures count { IfOk result (λ n.
             n ≡ min (min self.old.piece (length buf.old)) (length self.old.left)) }
@@ -209,8 +212,8 @@ impl Sink for MemSink {
         ensures later { self.old.calls.faults ≤ self.new.calls.faults }
         ensures cause { OnErr result (Rose self.old.calls.faults self.new.calls.faults) }
 
-        // It fails exactly at the chosen calls and where it is full, and else takes as much as a piece
-        // and the room left allow.
+        // It fails exactly at the chosen calls and where it is full, and else takes as much as a
+        // piece and the room left allow.
         ensures fails { IsErr result
             ↔ (FailsNext self.old.calls ⊎ ((self.old.room ≡ 0) × (0 < length piece.now))) }
         ensures count { IfOk result (λ n.

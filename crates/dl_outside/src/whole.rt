@@ -1,6 +1,8 @@
 //! A whole input read, and a whole text written.
 
-ghost use Rattle.std.specs.Prelude.{◌≡◌, ◌≢◌, ℕ, ◌+◌, ◌^◌, ◌≤◌, ◌<◌, List, [], ◌++◌, take, Option, Some, length, vec_len, Ok, Err, OnErr, OnOk, IfOk, IfSome, IsErrOf};
+ghost use Rattle.std.specs.Prelude.{◌≡◌, ◌≢◌, ℕ, ◌+◌, ◌^◌, ◌≤◌, ◌<◌, List, [], ◌++◌, take, Option};
+ghost use Rattle.std.specs.Prelude.{Some, length, vec_len, Ok, Err, OnErr, OnOk, IfOk, IfSome};
+ghost use Rattle.std.specs.Prelude.{IsErrOf};
 ghost use Rattle.std.specs.Io.KnownBytes.{Consumes, IsAtEnd, Appends, Keeps};
 ghost use Rattle.dl_outside.specs.Faults.{Rose};
 ghost use Rattle.dl_outside.specs.Bytes.{Takes, TakesAtMost, AppendsPartOf};
@@ -41,7 +43,8 @@ fn read_more<R: Source>(
     ensures count { IfOk result (λ n. vec_len bytes.new ≡ vec_len bytes.old + n) }
     ensures bound { IfOk result (λ n. n ≤ length chunk.old) }
     ensures bytes { OnOk result ((all : Option (List ℕ)) →
-        Consumes all (R.left src.old) bytes.old.items → Consumes all (R.left src.new) bytes.new.items) }
+        Consumes all (R.left src.old) bytes.old.items
+        → Consumes all (R.left src.new) bytes.new.items) }
     ensures end { IfOk result (λ n. n ≡ 0 → 0 < length chunk.old → IsAtEnd (R.left src.new)) }
     ensures kept { IsErrOf result ReadEnd.Fault → Keeps (R.left src.old) (R.left src.new) }
     ensures taken { TakesAtMost (R.left src.old) (R.left src.new) (length chunk.old) }
@@ -51,7 +54,8 @@ fn read_more<R: Source>(
     ensures room { length chunk.new ≡ length chunk.old }
     ensures step { IfOk result (λ n. R.read_step src.old (Ok n) chunk.new src.new) }
     ensures given { IfOk result (λ n. bytes.new.items ≡ bytes.old.items ++ take n chunk.new) }
-    ensures failed { IsErrOf result ReadEnd.Fault → R.read_step src.old (Err (record {})) chunk.new src.new }
+    ensures failed { IsErrOf result ReadEnd.Fault
+        → R.read_step src.old (Err (record {})) chunk.new src.new }
     ensures no_other { result ≢ Err ReadEnd.TooLong }
 {
     let count = match src.read(chunk) {

@@ -10,7 +10,8 @@ fit-requires-clause-positive c =
 pub fit-requires-clause-lowest : goal.fit-requires-clause-lowest
 fit-requires-clause-lowest c =
     rw (c.divisor-up.ensures.value, c.divisor-down.ensures.value)
-    (product_lowest c.args.a c.args.b c.args.c c.args.d c.requires.left c.requires.right c.requires.left_lowest c.requires.right_lowest)
+    (product_lowest c.args.a c.args.b c.args.c c.args.d c.requires.left c.requires.right c.requires.left_lowest
+    c.requires.right_lowest)
 
 pub returns : goal.returns
 returns c = rw (

@@ -4,7 +4,7 @@ use Rattle.std.specs.List.{list_any}
 use Rattle.std.proofs.lemmas.List.{take-append-drop, take_more, take_all}
 use Rattle.dl_frac.specs.Numerals.{is_slash, digit_count, is_bad}
 use Rattle.dl_frac.proofs.NumeralLaws.{few_tens, early_bad, slash_value_at, slash_bad_at, plain_value, plain_bad, front_push, within_limit}
-use Rattle.dl_frac.specs.Reads.{Reads}
+use Rattle.dl_frac.specs.Reads.{IsReadingOf}
 use Rattle.dl_frac.proofs.numerals.numeral.Goals as goal
 
 pub bytes-init : goal.bytes-init
@@ -23,7 +23,8 @@ returns-then-byte-eq47-clause-value c =
 pub returns-then-byte-eq47-clause-bad : goal.returns-then-byte-eq47-clause-bad
 returns-then-byte-eq47-clause-bad c =
     rw (
-      ← slash_bad_at c.args.text.now c.bytes.at c.bytes-test.true c.if-byte-eq47.true c.bytes.invariant.whole c.args.digits,
+      ← slash_bad_at c.args.text.now c.bytes.at c.bytes-test.true c.if-byte-eq47.true c.bytes.invariant.whole
+          c.args.digits,
       within_limit c.args.digits _ c.bytes.invariant.reads.within,
     ) c.ratio.ensures.bad
 
@@ -47,7 +48,7 @@ returns-clause-value c =
     let all : take c.bytes.at text ≡ text = take_all c.bytes.at text c.bytes-test.false in
     let none : list_any is_slash text ≡ false = subst (λ t. list_any is_slash t ≡ false) all c.bytes.invariant.whole in
     rw (plain_value text none) (c.decimal.ensures.ok text
-    (subst (λ t. Reads c.args.digits t c.bytes.read) all c.bytes.invariant.reads))
+    (subst (λ t. IsReadingOf c.args.digits t c.bytes.read) all c.bytes.invariant.reads))
 
 pub returns-clause-bad : goal.returns-clause-bad
 returns-clause-bad c =
@@ -55,4 +56,4 @@ returns-clause-bad c =
     let all : take c.bytes.at text ≡ text = take_all c.bytes.at text c.bytes-test.false in
     let none : list_any is_slash text ≡ false = subst (λ t. list_any is_slash t ≡ false) all c.bytes.invariant.whole in
     rw (plain_bad c.args.digits text none) (c.decimal.ensures.bad text
-    (subst (λ t. Reads c.args.digits t c.bytes.read) all c.bytes.invariant.reads))
+    (subst (λ t. IsReadingOf c.args.digits t c.bytes.read) all c.bytes.invariant.reads))

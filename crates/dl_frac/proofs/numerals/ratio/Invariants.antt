@@ -1,7 +1,7 @@
 -- What is read is the text so far.
 use Rattle.std.proofs.Common.{take}
-use Rattle.dl_frac.specs.Reads.{Reads}
+use Rattle.dl_frac.specs.Reads.{IsReadingOf}
 use Rattle.dl_frac.proofs.numerals.ratio.Given as goal
 
 abbrev pub invariant-bytes : goal.invariant-bytes
-invariant-bytes l = Reads l.digits (take l.byte-index l.text) l.read
+invariant-bytes l = IsReadingOf l.digits (take l.byte-index l.text) l.read

@@ -15,7 +15,8 @@ pub cutting-preserved-then-blank-gt0 : goal.cutting-preserved-then-blank-gt0
 cutting-preserved-then-blank-gt0 c = record {
   within = omega arith;
   covers =
-      blank_step c.args.source.now c.cutting.at c.blank_length-blank.result c.cutting.tokens.items c.cutting.invariant.covers c.blank_length-blank.ensures.length (omega arith);
+      blank_step c.args.source.now c.cutting.at c.blank_length-blank.result c.cutting.tokens.items
+      c.cutting.invariant.covers c.blank_length-blank.ensures.length (omega arith);
 }
 
 pub cutting-smaller : goal.cutting-smaller
@@ -26,5 +27,6 @@ pub cutting-preserved : goal.cutting-preserved
 cutting-preserved c = record {
   within = omega (arith, c.in-Some.ensures.longest.within);
   covers =
-      token_step c.args.source.now c.cutting.at c.in-Some.length c.in-Some.kind c.cutting.tokens.items _ c.cutting.invariant.covers c.in-Some.ensures.spelled c.in-Some.ensures.longest c.in_ok-push.ensures.items;
+      token_step c.args.source.now c.cutting.at c.in-Some.length c.in-Some.kind c.cutting.tokens.items _
+      c.cutting.invariant.covers c.in-Some.ensures.spelled c.in-Some.ensures.longest c.in_ok-push.ensures.items;
 }

@@ -1,7 +1,7 @@
 -- Where no letter begins the bytes, the longest token is a numeral or a sign.
 use Rattle.std.proofs.Common.{◌≡◌, ◌∙◌, arith, sym, subst}
 use Rattle.dl_lexer.specs.Cutting.{IsLongest}
-use Rattle.dl_lexer.specs.Numerals.{IsNumeral}
+use Rattle.dl_lexer.specs.Numerals.{IsNumeralToken}
 use Rattle.dl_lexer.proofs.TokenKinds.{longest_numeral, longest_sign, longest_nothing}
 use Rattle.dl_lexer.proofs.cut.token_at.Goals as goal
 
@@ -17,10 +17,12 @@ pub returns-in-Some-clause-longest : goal.returns-in-Some-clause-longest
 returns-in-Some-clause-longest c =
     let none : c.numeral_length-numeral.result ≡ 0 = omega arith in
     longest_sign c.args.bytes.now c.in-Some.sign (sym c.begins_with_letter.ensures ∙ c.if-begins_with_letter.false)
-    (subst (λ n. IsLongest IsNumeral c.args.bytes.now n) none c.numeral_length-numeral.ensures) c.in-Some.ensures.found
+    (subst (λ n. IsLongest IsNumeralToken c.args.bytes.now n) none c.numeral_length-numeral.ensures)
+    c.in-Some.ensures.found
 
 pub returns-in-None-clause-none : goal.returns-in-None-clause-none
 returns-in-None-clause-none c =
     let none : c.numeral_length-numeral.result ≡ 0 = omega arith in
     longest_nothing c.args.bytes.now (sym c.begins_with_letter.ensures ∙ c.if-begins_with_letter.false)
-    (subst (λ n. IsLongest IsNumeral c.args.bytes.now n) none c.numeral_length-numeral.ensures) c.in-None.ensures.none
+    (subst (λ n. IsLongest IsNumeralToken c.args.bytes.now n) none c.numeral_length-numeral.ensures)
+    c.in-None.ensures.none

@@ -10,7 +10,8 @@ returns-then-note-word-clause-spelled c = c.note_length-note.ensures.spelled (om
 
 pub returns-then-note-word-clause-longest : goal.returns-then-note-word-clause-longest
 returns-then-note-word-clause-longest c =
-    longest_note c.args.bytes.now c.word_length-word.result c.note_length-note.result c.requires c.word_length-word.ensures c.note_length-note.ensures (omega arith)
+    longest_note c.args.bytes.now c.word_length-word.result c.note_length-note.result c.requires
+    c.word_length-word.ensures c.note_length-note.ensures (omega arith)
 
 pub returns-in-Some-clause-longest : goal.returns-in-Some-clause-longest
 returns-in-Some-clause-longest c = longest_word c.args.bytes.now c.word_length-word.result c.note_length-note.result
@@ -26,7 +27,8 @@ returns-in-None-clause-spelled c = record {
 
 pub returns-in-None-clause-longest : goal.returns-in-None-clause-longest
 returns-in-None-clause-longest c =
-    longest_word c.args.bytes.now c.word_length-word.result c.note_length-note.result kind.Name c.requires c.word_length-word.ensures c.note_length-note.ensures (omega arith)
+    longest_word c.args.bytes.now c.word_length-word.result c.note_length-note.result kind.Name c.requires
+    c.word_length-word.ensures c.note_length-note.ensures (omega arith)
     (record {
       word = c.word_length-word.ensures.spelled
           (word_some c.args.bytes.now c.word_length-word.result c.requires c.word_length-word.ensures);

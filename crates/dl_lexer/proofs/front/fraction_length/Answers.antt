@@ -9,8 +9,11 @@ returns-in_default c = fraction_no_slash c.args.bytes.now c.in_default.ensures.n
 
 pub returns-then-below-eq0 : goal.returns-then-below-eq0
 returns-then-below-eq0 c =
-    fraction_with_bare_slash c.args.bytes.now c.in-Some.above c.in-Some.below c.in-Some.ensures.before c.in-Some.ensures.mark c.in-Some.ensures.behind (λ above below. either c.if-below-eq0.either (λ e. omega arith) (λ e. omega (arith, e.1)))
+    fraction_with_bare_slash c.args.bytes.now c.in-Some.above c.in-Some.below c.in-Some.ensures.before
+    c.in-Some.ensures.mark c.in-Some.ensures.behind
+    (λ above below. either c.if-below-eq0.either (λ e. omega arith) (λ e. omega (arith, e.1)))
 
 pub returns-else-below-eq0 : goal.returns-else-below-eq0
 returns-else-below-eq0 c =
-    fraction_with_slash c.args.bytes.now c.in-Some.above c.in-Some.below c.in-Some.ensures.before c.in-Some.ensures.mark c.in-Some.ensures.behind (omega arith) (omega arith)
+    fraction_with_slash c.args.bytes.now c.in-Some.above c.in-Some.below c.in-Some.ensures.before c.in-Some.ensures.mark
+    c.in-Some.ensures.behind (omega arith) (omega arith)

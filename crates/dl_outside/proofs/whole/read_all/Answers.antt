@@ -10,7 +10,8 @@ use Rattle.dl_outside.proofs.whole.read_all.Goals as goal
 pub returns-in_err-read_more-clause-before : goal.returns-in_err-read_more-clause-before
 returns-in_err-read_more-clause-before g c = λ fault.
     let same : c.in_err-read_more.field-0.0 ≡ Fault = search rules in
-    TakesAtMost-more _ _ _ c.reading.bytes.items 0 _ c.reading.invariant.taken (Keeps-TakesAtMost _ _ (c.in_err-read_more.ensures.kept (cc))) (omega arith)
+    TakesAtMost-more _ _ _ c.reading.bytes.items 0 _ c.reading.invariant.taken
+    (Keeps-TakesAtMost _ _ (c.in_err-read_more.ensures.kept (cc))) (omega arith)
 
 pub returns-in_err-read_more-clause-taken : goal.returns-in_err-read_more-clause-taken
 returns-in_err-read_more-clause-taken g c =
@@ -25,7 +26,8 @@ pub reading-init : goal.reading-init
 reading-init g c = record {
   within = omega (arith, c.new-bytes.ensures.len);
   taken = Consumes-nil _ _ c.new-bytes.ensures.items;
-  reads = subst (λ bytes. Reads g.R.Source.read_step c.args.src.now (c.args.limit + 1) bytes c.args.src.now) (sym c.new-bytes.ensures.items) unread;
+  reads = subst (λ bytes. Reads g.R.Source.read_step c.args.src.now (c.args.limit + 1) bytes c.args.src.now)
+      (sym c.new-bytes.ensures.items) unread;
   steady = refl;
 }
 
@@ -36,9 +38,16 @@ reading-preserved g c =
     let fits : length c.reading.bytes.items + length c.read_more.new.chunk ≤ c.args.limit + 1 =
     omega (arith, c.read_more.ensures.room, length-take c.min-room.result c.reading.chunk) in
     record {
-      within = omega (arith, c.in_ok-read_more.ensures.count, c.in_ok-read_more.ensures.bound, length-take c.min-room.result c.reading.chunk);
+      within = omega (
+        arith,
+        c.in_ok-read_more.ensures.count,
+        c.in_ok-read_more.ensures.bound,
+        length-take c.min-room.result c.reading.chunk,
+      );
       taken = c.in_ok-read_more.ensures.bytes _ c.reading.invariant.taken;
-      reads = subst (λ bytes. Reads g.R.Source.read_step c.args.src.now (c.args.limit + 1) bytes c.read_more.new.src) (sym c.in_ok-read_more.ensures.given)
-          (read_on c.reading.bytes.items c.read_more.new.chunk n c.reading.src c.read_more.new.src c.reading.invariant.reads c.in_ok-read_more.ensures.step some fits);
+      reads = subst (λ bytes. Reads g.R.Source.read_step c.args.src.now (c.args.limit + 1) bytes c.read_more.new.src)
+          (sym c.in_ok-read_more.ensures.given)
+          (read_on c.reading.bytes.items c.read_more.new.chunk n c.reading.src c.read_more.new.src
+          c.reading.invariant.reads c.in_ok-read_more.ensures.step some fits);
       steady = c.in_ok-read_more.ensures.steady (λ e. absurd (cc)) ∙ c.reading.invariant.steady;
     }

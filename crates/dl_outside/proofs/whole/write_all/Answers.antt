@@ -1,8 +1,9 @@
 -- Two pieces written one after the other are one piece.
-use Rattle.std.proofs.Common.{◌≡◌, ℕ, ◌+◌, ◌-◌, length, List, take, drop, arith, Option, None, Some, take-add, append_assoc, length-drop, [], refl, sym}
+use Rattle.std.proofs.Common.{◌≡◌, ℕ, ◌+◌, ◌-◌, length, List, take, drop, arith, Option, None, Some, take-add, append_assoc, length-drop, refl}
 use Rattle.std.specs.Io.KnownBytes.{Appends}
 use Rattle.dl_outside.specs.Steps.{unwritten, write_on}
-use Rattle.std.proofs.lemmas.List.{append-nil, take_all}
+use Rattle.std.proofs.lemmas.List.{take_all}
+use Rattle.dl_outside.proofs.Appended.{appends_nothing}
 use Rattle.dl_outside.proofs.whole.write_all.Goals as goal
 
 -- two pieces that follow each other are one
@@ -11,18 +12,21 @@ Appends-take : (before mid after : Option (List ℕ)) (xs : List ℕ) (i n : ℕ
 Appends-take None mid after xs i n p q = tt
 Appends-take (Some a) None after xs i n p q = absurd p
 Appends-take (Some a) (Some b) None xs i n p q = absurd q
-Appends-take (Some a) (Some b) (Some c) xs i n p q = rw (q, p, take-add i n xs) (append_assoc a (take i xs) (take n (drop i xs)))
-
-Appends-nil : (before : Option (List ℕ)) → Appends before before []
-Appends-nil None = tt
-Appends-nil (Some a) = sym (append-nil a)
+Appends-take (Some a) (Some b) (Some c) xs i n p q =
+    rw (q, p, take-add i n xs) (append_assoc a (take i xs) (take n (drop i xs)))
 
 -- `&xs[i..]` is what follows
 rest_of : (xs : List ℕ) (i : ℕ) → take (length xs - i) (drop i xs) ≡ drop i xs
 rest_of xs i = take_all _ _ (omega (arith, length-drop i xs))
 
 pub writing-init : goal.writing-init
-writing-init g c = record { within = omega arith; written = Appends-nil _; offered = unwritten; unused = λ none. refl; steady = refl }
+writing-init g c = record {
+  within = omega arith;
+  written = appends_nothing _;
+  offered = unwritten;
+  unused = λ none. refl;
+  steady = refl;
+}
 
 pub writing-preserved : goal.writing-preserved
 writing-preserved g c =

@@ -6,12 +6,14 @@ use Rattle.dl_frac.proofs.arithmetic.Frac.add.Goals as goal
 pub fit-requires-clause-positive : goal.fit-requires-clause-positive
 fit-requires-clause-positive c =
     rw (c.wide_divisor-cut.ensures.value, c.divisor-shared.ensures.value)
-    (sum_pos c.self.inside.num c.self.inside.den c.o.inside.num c.o.inside.den c.self.inside.positive c.o.inside.positive)
+    (sum_pos c.self.inside.num c.self.inside.den c.o.inside.num c.o.inside.den c.self.inside.positive
+    c.o.inside.positive)
 
 pub fit-requires-clause-lowest : goal.fit-requires-clause-lowest
 fit-requires-clause-lowest c =
     rw (c.wide_divisor-cut.ensures.value, c.divisor-shared.ensures.value)
-    (sum_lowest c.self.inside.num c.self.inside.den c.o.inside.num c.o.inside.den c.self.inside.positive c.o.inside.positive c.self.inside.lowest c.o.inside.lowest)
+    (sum_lowest c.self.inside.num c.self.inside.den c.o.inside.num c.o.inside.den c.self.inside.positive
+    c.o.inside.positive c.self.inside.lowest c.o.inside.lowest)
 
 pub returns : goal.returns
 returns c =
@@ -19,6 +21,7 @@ returns c =
       ← sum_is c.args.self c.args.o,
       ← c.self.view_is,
       ← c.o.view_is,
-      ← sum_same c.self.inside.num c.self.inside.den c.o.inside.num c.o.inside.den c.self.inside.positive c.o.inside.positive,
+      ← sum_same c.self.inside.num c.self.inside.den c.o.inside.num c.o.inside.den c.self.inside.positive
+          c.o.inside.positive,
     )
     (rw (← c.divisor-shared.ensures.value, ← c.wide_divisor-cut.ensures.value) c.fit.ensures)

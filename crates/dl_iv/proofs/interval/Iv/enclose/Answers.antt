@@ -50,19 +50,22 @@ overflow_mul-rest g c = omega (
 pub overflow_mul-above-2 : goal.overflow_mul-above-2
 overflow_mul-above-2 g c =
     let above =
-    above_fits g.row.B c.args.num c.args.den _ _ c.requires.positive c.units_of_one-first.ensures c.units_of_one-second.ensures c.requires.fits in
+    above_fits g.row.B c.args.num c.args.den _ _ c.requires.positive c.units_of_one-first.ensures
+    c.units_of_one-second.ensures c.requires.fits in
     omega (arith, above)
 
 pub overflow_add-above : goal.overflow_add-above
 overflow_add-above g c =
     let above =
-    above_fits g.row.B c.args.num c.args.den _ _ c.requires.positive c.units_of_one-first.ensures c.units_of_one-second.ensures c.requires.fits in
+    above_fits g.row.B c.args.num c.args.den _ _ c.requires.positive c.units_of_one-first.ensures
+    c.units_of_one-second.ensures c.requires.fits in
     omega (arith, before_fits _ _ (g.row.B - g.row.B / 2) c.units_of_one-second.ensures above)
 
 pub overflow_mul-above : goal.overflow_mul-above
 overflow_mul-above g c =
     let above =
-    above_fits g.row.B c.args.num c.args.den _ _ c.requires.positive c.units_of_one-first.ensures c.units_of_one-second.ensures c.requires.fits in
+    above_fits g.row.B c.args.num c.args.den _ _ c.requires.positive c.units_of_one-first.ensures
+    c.units_of_one-second.ensures c.requires.fits in
     omega (arith, before_fits _ _ (g.row.B - g.row.B / 2) c.units_of_one-second.ensures above)
 
 pub overflow_mul-left : goal.overflow_mul-left
@@ -77,13 +80,15 @@ pub overflow_add-result : goal.overflow_add-result
 overflow_add-result g c =
     let ordered = ends_ordered _ _ c.requires.positive c.div_ceil-high.ensures in
     let top =
-    high_fits g.row.B c.args.num c.args.den _ _ _ c.requires.positive c.units_of_one-first.ensures c.units_of_one-second.ensures c.div_ceil-high.ensures c.requires.fits in
+    high_fits g.row.B c.args.num c.args.den _ _ _ c.requires.positive c.units_of_one-first.ensures
+    c.units_of_one-second.ensures c.div_ceil-high.ensures c.requires.fits in
     omega (arith, ordered, top)
 
 pub overflow_add-result-2 : goal.overflow_add-result-2
 overflow_add-result-2 g c =
     let top =
-    high_fits g.row.B c.args.num c.args.den _ _ _ c.requires.positive c.units_of_one-first.ensures c.units_of_one-second.ensures c.div_ceil-high.ensures c.requires.fits in
+    high_fits g.row.B c.args.num c.args.den _ _ _ c.requires.positive c.units_of_one-first.ensures
+    c.units_of_one-second.ensures c.div_ceil-high.ensures c.requires.fits in
     omega (arith, top)
 
 pub invariant_of-result-clause-ordered : goal.invariant_of-result-clause-ordered
@@ -91,7 +96,8 @@ invariant_of-result-clause-ordered g c = omega (arith, ends_ordered _ _ c.requir
 
 pub invariant_of-result-clause-in_range : goal.invariant_of-result-clause-in_range
 invariant_of-result-clause-in_range g c =
-    rw (high_end g.row.B _ _ _ _ _ c.requires.positive c.units_of_one-first.ensures c.units_of_one-second.ensures c.div_ceil-high.ensures) c.requires.fits
+    rw (high_end g.row.B _ _ _ _ _ c.requires.positive c.units_of_one-first.ensures c.units_of_one-second.ensures
+    c.div_ceil-high.ensures) c.requires.fits
 
 pub returns-clause-low : goal.returns-clause-low
 returns-clause-low g c =
@@ -99,13 +105,15 @@ returns-clause-low g c =
 
 pub returns-clause-high : goal.returns-clause-high
 returns-clause-high g c =
-    high_end g.row.B _ _ _ _ _ c.requires.positive c.units_of_one-first.ensures c.units_of_one-second.ensures c.div_ceil-high.ensures
+    high_end g.row.B _ _ _ _ _ c.requires.positive c.units_of_one-first.ensures c.units_of_one-second.ensures
+    c.div_ceil-high.ensures
 
 pub returns-clause-holds : goal.returns-clause-holds
 returns-clause-holds g c = record {
   low = rw (low_end g.row.B _ _ _ _ c.requires.positive c.units_of_one-first.ensures c.units_of_one-second.ensures)
       (enclose_low _ (pow_pos g.row.B) _ _ c.requires.positive);
   high = rw
-      (high_end g.row.B _ _ _ _ _ c.requires.positive c.units_of_one-first.ensures c.units_of_one-second.ensures c.div_ceil-high.ensures)
+      (high_end g.row.B _ _ _ _ _ c.requires.positive c.units_of_one-first.ensures c.units_of_one-second.ensures
+      c.div_ceil-high.ensures)
       (enclose_high _ (pow_pos g.row.B) _ _ c.requires.positive);
 }

@@ -27,8 +27,11 @@ returns-clause-bytes c =
     let room : ℕ = length c.args.buf.now in
     let count : n ≡ min (min c.self.inside.piece room) (length xs - at) =
     omega (arith, c.len.ensures, c.min.ensures, c.min-count.ensures) in
-    let part : c.copy_from_slice.new.self ≡ take (at + n - at) (drop at xs) = rw (← c.deref.ensures.value) c.copy_from_slice.ensures.after in
+    let part : c.copy_from_slice.new.self ≡ take (at + n - at) (drop at xs) =
+    rw (← c.deref.ensures.value) c.copy_from_slice.ensures.after in
     rw (← c.self.view_is) (
       handed xs _ _ at n (at + n - at) (omega arith) (omega arith) part,
-      λ none has_room. ended xs at n _ room count (omega arith) (had_room c.copy_from_slice.new.self c.args.buf.now n (omega (arith, c.copy_from_slice.ensures.len, length-take n c.args.buf.now)) has_room) none,
+      λ none has_room. ended xs at n _ room count (omega arith)
+          (had_room c.copy_from_slice.new.self c.args.buf.now n
+          (omega (arith, c.copy_from_slice.ensures.len, length-take n c.args.buf.now)) has_room) none,
     )

@@ -1,0 +1,106 @@
+-- The parts of a numeral that is not bad are small.
+use Rattle.std.proofs.Common.{◌≡◌, inl, inr, ℕ, suc, ◌-◌, ◌*◌, ◌^◌, ◌<◌, ◌≤◌, true, false, List, [], ◌∷◌, arith, refl, sym, ap, ◌∙◌}
+use Rattle.std.specs.Prelude.{◌==◌, ◌||◌, nat_lt, IsTrue}
+use Rattle.std.specs.List.{list_any, list_all, before_first, after_first}
+use Rattle.std.specs.Char.{is_ascii_digit}
+use Rattle.std.proofs.Math.Nat.{pow-le-pow_right, one-le-pow}
+use Rattle.std.proofs.lemmas.Int.Digits.{digits_value-lt}
+use Rattle.std.proofs.lemmas.Bool.Decides.{nat_tests}
+use Rattle.dl_exact.specs.Fraction.{Fraction, ◌over◌}
+use Rattle.dl_frac.specs.Numerals.{is_point, is_slash, is_percent, digits_in, digit_count, number_in, places_in, numeral_value, is_bad}
+use Rattle.dl_frac.proofs.NumeralLaws.{cases, after_yes, after_none, count-append, plain_value, plain_bad, hundredth}
+use Rattle.dl_frac.proofs.SpellingLaws.{digits_pass}
+use Rattle.dl_exact.proofs.Parts.{over_num_le as num_of_over-le, over_den_le as den_of_over-le}
+
+-- both parts have at most as much as d digits write
+pub record IsSmall (d : ℕ) (x : Fraction) : Type 0 where
+  pub num : x.num < 10 ^ d
+  pub den : x.den ≤ 10 ^ d
+
+small_over : (d n m : ℕ) → 0 < m → n < 10 ^ d → m ≤ 10 ^ d → IsSmall d (n over m)
+small_over d n m pos num den = record {
+  num = omega (arith, num_of_over-le n m pos, num);
+  den =
+      omega (arith, den_of_over-le n m pos, den);
+}
+
+tens : (k d : ℕ) → k ≤ d → 10 ^ k ≤ 10 ^ d
+tens k d h = pow-le-pow_right (omega arith) h
+
+digits_all : (text : List ℕ) → IsTrue (list_all is_ascii_digit (digits_in text))
+digits_all [] = refl
+digits_all (x ∷ xs) = elim (cases (is_ascii_digit x)) [
+  | inl digit ↦ rw (digit, digit) (digits_all xs)
+  | inr other ↦ rw other (digits_all xs)
+]
+
+number_small : (text : List ℕ) (d : ℕ) → digit_count text ≤ d → number_in text < 10 ^ d
+number_small text d few =
+    omega (
+      arith,
+      digits_value-lt 10 (digits_in text) ((digits_pass (digits_in text)).0 (digits_all text)),
+      tens (digit_count text) d few,
+    )
+
+-- no more digits stand behind the point than in all
+places_le : (text : List ℕ) → places_in text ≤ digit_count text
+places_le [] = omega arith
+places_le (x ∷ xs) = elim (cases (is_point x)) [
+  | inl point ↦
+      let rest : places_in (x ∷ xs) ≡ digit_count xs = ap digit_count (after_yes is_point x xs point) in
+      omega (arith, rest, count-append (x ∷ []) xs)
+  | inr other ↦
+      let rest : places_in (x ∷ xs) ≡ places_in xs = ap digit_count (after_none is_point (x ∷ []) xs (rw other)) in
+      omega (arith, rest, count-append (x ∷ []) xs, places_le xs)
+]
+
+within : (d n : ℕ) → nat_lt d n ≡ false → n ≤ d
+within d n h = grind (arith, nat_tests, h)
+
+fraction_within : (d m n k : ℕ) → (nat_lt d m || nat_lt d n || k == 0) ≡ false → (m ≤ d) × (n ≤ d) × (0 < k)
+fraction_within d m n k h = grind (arith, nat_tests, h)
+
+fraction_small : (d : ℕ) (text : List ℕ) → list_any is_slash text ≡ true → is_bad d text ≡ false
+    → IsSmall d (numeral_value text)
+unfolding numeral_value is_bad
+fraction_small d text slash good =
+    let front = before_first is_slash text in
+    let back = after_first is_slash text in
+    let few = fraction_within d (digit_count front) (digit_count back) (number_in back) (rw slash at good) in
+    let den : number_in back < 10 ^ d = number_small back d few.1 in
+    rw slash (small_over d (number_in front) (number_in back) few.2 (number_small front d few.0) (omega (arith, den)))
+
+percent_small : (e : ℕ) (text : List ℕ) → list_any is_slash text ≡ false → list_any is_percent text ≡ true
+    → is_bad (suc (suc e)) text ≡ false
+    → IsSmall (suc (suc e)) (numeral_value text)
+percent_small e text slash percent good =
+    let few : digit_count text ≤ suc (suc e) - 2 = within (suc (suc e) - 2) (digit_count text)
+    (rw percent at (sym (plain_bad (suc (suc e)) text slash) ∙ good)) in
+    let more : 10 ^ suc (suc e) ≡ 100 * 10 ^ e = omega arith in
+    let places : 10 ^ places_in text ≤ 10 ^ e = tens (places_in text) e (omega (arith, few, places_le text)) in
+    let pos : 0 < 10 ^ places_in text = one-le-pow (places_in text) 10 (omega arith) in
+    rw (plain_value text slash, percent, ← hundredth (number_in text) (10 ^ places_in text) pos)
+    (small_over (suc (suc e)) (number_in text) (100 * 10 ^ places_in text) (omega (arith, pos))
+    (number_small text (suc (suc e)) (omega (arith, few)))
+    (omega (arith, places, more)))
+
+decimal_small : (d : ℕ) (text : List ℕ) → list_any is_slash text ≡ false → list_any is_percent text ≡ false
+    → is_bad d text ≡ false
+    → IsSmall d (numeral_value text)
+decimal_small d text slash percent good =
+    let few : digit_count text ≤ d = within d (digit_count text)
+    (rw percent at (sym (plain_bad d text slash) ∙ good)) in
+    let places : 10 ^ places_in text ≤ 10 ^ d = tens (places_in text) d (omega (arith, few, places_le text)) in
+    let pos : 0 < 10 ^ places_in text = one-le-pow (places_in text) 10 (omega arith) in
+    rw (plain_value text slash, percent) (small_over d (number_in text) (10 ^ places_in text) pos
+    (number_small text d few) places)
+
+pub numeral_small : (e : ℕ) (text : List ℕ) → is_bad (suc (suc e)) text ≡ false
+    → IsSmall (suc (suc e)) (numeral_value text)
+numeral_small e text good = elim (cases (list_any is_slash text)) [
+  | inl slash ↦ fraction_small (suc (suc e)) text slash good
+  | inr none ↦ elim (cases (list_any is_percent text)) [
+    | inl percent ↦ percent_small e text none percent good
+    | inr plain ↦ decimal_small (suc (suc e)) text none plain good
+  ]
+]
