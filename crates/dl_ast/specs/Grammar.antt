@@ -97,7 +97,8 @@ layer = node (λ p span. record { limit = p.0; attach = p.1; span = span })
 -- atom := 'dsev' list list? | 'sev' 'dhistogram' 'xps' list list?
 unfoldable pub atom : Rule Atom
 atom = made (λ p. record { values = p.0; probs = p.1 })
-    (Word words.Dsev ≫ list ▸ maybe list or Word words.Sev ≫ Word words.Dhistogram ≫ Word words.Xps ≫ list ▸ maybe list)
+    (Word words.Dsev ≫ list ▸ maybe list or Word words.Sev ≫ Word words.Dhistogram ≫ Word words.Xps
+    ≫ list ▸ maybe list)
 
 -- mixture := atom | atom atom* 'wts' list
 unfoldable pub mixture : Rule (List Atom × Option ListAst)
@@ -191,7 +192,8 @@ listed_unit (n, (c, (l, (s, (o, (a, t)))))) =
 unfoldable pub unit : Rule UnitAst
 unit =
     made exposed_unit
-    (Word words.Agg ≫ name ▸ exposure ▸ maybe layer ▸ sev ▸ maybe occ ▸ freq ▸ maybe agr ▸ maybe note)
+    (Word words.Agg ≫ name ▸ exposure ▸ maybe layer ▸ sev ▸ maybe occ ▸ freq ▸ maybe agr
+    ▸ maybe note)
     or made listed_unit
     (Word words.Agg ≫ name ▸ listed ▸ maybe layer ▸ sev ▸ maybe occ ▸ maybe agr ▸ maybe note)
 

@@ -26,90 +26,90 @@ use Rattle.dl_ast.specs.declared.ast.UnitAst.{UnitAst}
 use Rattle.dl_ast.specs.declared.ast.Program.{Program}
 
 -- names, numerals and notes are tokens of their kind
-abbrev pub IsName : NameAst → Type 0
-IsName name = IsSpelled kinds.Name name.text
+abbrev pub IsFormedName : NameAst → Type 0
+IsFormedName name = IsSpelled kinds.Name name.text
 
-abbrev pub IsNumeral : Numeral → Type 0
-IsNumeral numeral = IsSpelled kinds.Numeral numeral.text
+abbrev pub IsFormedNumeral : Numeral → Type 0
+IsFormedNumeral numeral = IsSpelled kinds.Numeral numeral.text
 
-abbrev pub IsNote : List ℕ → Type 0
-IsNote text = IsSpelled kinds.Note text
+abbrev pub IsFormedNote : List ℕ → Type 0
+IsFormedNote text = IsSpelled kinds.Note text
 
 -- a step stands only beside a to
-pub record IsItem (item : ListItem) : Type 0 where
-  pub from : IsNumeral item.from
-  pub to : IfSome item.to IsNumeral
-  pub step : IfSome item.step IsNumeral
+pub record IsFormedItem (item : ListItem) : Type 0 where
+  pub from : IsFormedNumeral item.from
+  pub to : IfSome item.to IsFormedNumeral
+  pub step : IfSome item.step IsFormedNumeral
   pub beside : IsSome item.step → IsSome item.to
 
-pub record IsList (list : ListAst) : Type 0 where
+pub record IsFormedList (list : ListAst) : Type 0 where
   pub some : 0 < length list.items
-  pub items : All IsItem list.items
+  pub items : All IsFormedItem list.items
 
-abbrev pub IsLimit : LimitAst → Type 0
-IsLimit (Finite limit) = IsNumeral limit
-IsLimit Infinite = Unit {0}
+abbrev pub IsFormedLimit : LimitAst → Type 0
+IsFormedLimit (Finite limit) = IsFormedNumeral limit
+IsFormedLimit Infinite = Unit {0}
 
-pub record IsLayer (layer : Layer) : Type 0 where
-  pub limit : IsLimit layer.limit
-  pub attach : IsNumeral layer.attach
+pub record IsFormedLayer (layer : Layer) : Type 0 where
+  pub limit : IsFormedLimit layer.limit
+  pub attach : IsFormedNumeral layer.attach
 
-pub record IsAtom (atom : Atom) : Type 0 where
-  pub values : IsList atom.values
-  pub probs : IfSome atom.probs IsList
+pub record IsFormedAtom (atom : Atom) : Type 0 where
+  pub values : IsFormedList atom.values
+  pub probs : IfSome atom.probs IsFormedList
 
 -- several atoms have weights
-pub record IsSev (sev : SevAst) : Type 0 where
+pub record IsFormedSeverity (sev : SevAst) : Type 0 where
   pub some : 0 < length sev.atoms
-  pub atoms : All IsAtom sev.atoms
-  pub weights : IfSome sev.weights IsList
+  pub atoms : All IsFormedAtom sev.atoms
+  pub weights : IfSome sev.weights IsFormedList
   pub several : 1 < length sev.atoms → IsSome sev.weights
 
-abbrev pub IsShare : Share → Type 0
-IsShare shares.Whole = Unit {0}
-IsShare (shares.So share) = IsNumeral share
-IsShare (shares.Po part) = IsNumeral part
+abbrev pub IsFormedShare : Share → Type 0
+IsFormedShare shares.Whole = Unit {0}
+IsFormedShare (shares.So share) = IsFormedNumeral share
+IsFormedShare (shares.Po part) = IsFormedNumeral part
 
-pub record IsCeded (ceded : CededLayer) : Type 0 where
-  pub share : IsShare ceded.share
-  pub layer : IsLayer ceded.layer
+pub record IsFormedCeded (ceded : CededLayer) : Type 0 where
+  pub share : IsFormedShare ceded.share
+  pub layer : IsFormedLayer ceded.layer
 
-pub record IsCession (cession : Cession) : Type 0 where
+pub record IsFormedCession (cession : Cession) : Type 0 where
   pub some : 0 < length cession.layers
-  pub layers : All IsCeded cession.layers
+  pub layers : All IsFormedCeded cession.layers
 
-abbrev pub IsFreq : FreqAst → Type 0
-IsFreq (freqs.Fixed _) = Unit {0}
-IsFreq (freqs.Poisson _) = Unit {0}
-IsFreq (freqs.Bernoulli _) = Unit {0}
-IsFreq (freqs.Binomial p _) = IsNumeral p
-IsFreq (freqs.Gamma c _) = IsNumeral c
+abbrev pub IsFormedFrequency : FreqAst → Type 0
+IsFormedFrequency (freqs.Fixed _) = Unit {0}
+IsFormedFrequency (freqs.Poisson _) = Unit {0}
+IsFormedFrequency (freqs.Bernoulli _) = Unit {0}
+IsFormedFrequency (freqs.Binomial p _) = IsFormedNumeral p
+IsFormedFrequency (freqs.Gamma c _) = IsFormedNumeral c
 
-abbrev pub IsExposure : Exposure → Type 0
-IsExposure (Claims n _) = IsNumeral n
-IsExposure (Loss n _) = IsNumeral n
-IsExposure (Premium p r _) = IsNumeral p × IsNumeral r
+abbrev pub IsFormedExposure : Exposure → Type 0
+IsFormedExposure (Claims n _) = IsFormedNumeral n
+IsFormedExposure (Loss n _) = IsFormedNumeral n
+IsFormedExposure (Premium p r _) = IsFormedNumeral p × IsFormedNumeral r
 
-abbrev pub IsCount : CountAst → Type 0
-IsCount (Exposed exposure freq) = IsExposure exposure × IsFreq freq
-IsCount (Listed counts probs _) = IsList counts × IfSome probs IsList
+abbrev pub IsFormedCount : CountAst → Type 0
+IsFormedCount (Exposed exposure freq) = IsFormedExposure exposure × IsFormedFrequency freq
+IsFormedCount (Listed counts probs _) = IsFormedList counts × IfSome probs IsFormedList
 
-pub record IsUnit (unit : UnitAst) : Type 0 where
-  pub name : IsName unit.name
-  pub count : IsCount unit.count
-  pub layer : IfSome unit.layer IsLayer
-  pub sev : IsSev unit.sev
-  pub occ : IfSome unit.occ IsCession
-  pub agr : IfSome unit.agr IsCession
-  pub note : IfSome unit.note IsNote
+pub record IsFormedUnit (unit : UnitAst) : Type 0 where
+  pub name : IsFormedName unit.name
+  pub count : IsFormedCount unit.count
+  pub layer : IfSome unit.layer IsFormedLayer
+  pub sev : IsFormedSeverity unit.sev
+  pub occ : IfSome unit.occ IsFormedCession
+  pub agr : IfSome unit.agr IsFormedCession
+  pub note : IfSome unit.note IsFormedNote
 
-pub record IsHead (head : PortHead) : Type 0 where
-  pub name : IsName head.name
-  pub note : IfSome head.note IsNote
+pub record IsFormedHead (head : PortHead) : Type 0 where
+  pub name : IsFormedName head.name
+  pub note : IfSome head.note IsFormedNote
 
 -- without a port there is one unit
 pub record IsWellFormed (program : Program) : Type 0 where
-  pub head : IfSome program.port IsHead
+  pub head : IfSome program.port IsFormedHead
   pub some : 0 < length program.units
-  pub units : All IsUnit program.units
+  pub units : All IsFormedUnit program.units
   pub one : IsNone program.port → length program.units ≡ 1

@@ -5,6 +5,7 @@ use Rattle.std.specs.List.{prefix_len}
 use Rattle.std.proofs.lemmas.List.{map-append}
 use Rattle.std.proofs.lemmas.List.Sums.{prefix_len-le-length}
 use Rattle.std.proofs.lemmas.List.Elements.{All-nil, All-push}
+use Rattle.dl_limits.specs.Limits.{most_text}
 use Rattle.dl_lexer.specs.declared.token.Kind.{Kind}
 use Rattle.dl_lexer.specs.declared.token.Token.{Token}
 use Rattle.dl_lexer.specs.Bytes.{is_white, is_comment_byte}
@@ -66,5 +67,5 @@ covered_real bytes at tokens (token from n kind before c spelled longest) =
 
 -- so their numbers are small
 pub covered_few : (bytes : List ℕ) (tokens : List Token) (m : ℕ) → Covers bytes (length bytes) tokens
-    → length bytes ≤ 1048576 → Fits w32 (length tokens - m)
+    → length bytes ≤ most_text → Fits w32 (length tokens - m)
 covered_few bytes tokens m c short = omega (arith, covered_count bytes (length bytes) tokens c)

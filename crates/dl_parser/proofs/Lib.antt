@@ -3,7 +3,6 @@ mod Starts
 mod ReadsBack
 mod Took
 mod Stopped
-mod Plain
 mod Loops
 mod Steps
 mod Written

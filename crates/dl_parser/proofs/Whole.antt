@@ -23,7 +23,7 @@ use Rattle.dl_parser.proofs.ReadsBack.{whole}
 use Rattle.dl_parser.proofs.Took.{took, Took, Alike}
 use Rattle.dl_parser.proofs.Stopped.{nothing_on, stopped, Stopped}
 use Rattle.dl_parser.proofs.Written.{program_alike}
-use Rattle.dl_parser.proofs.Plain.{plain_program}
+use Rattle.dl_parser.specs.Plain.{plain}
 
 abbrev at_start : List Lexeme → Place
 at_start ts = record { end = 0; rest = ts }
@@ -32,7 +32,7 @@ at_start ts = record { end = 0; rest = ts }
 reads_all : (p : Program) (ts : List Lexeme) → Spells program p ts
     → read factored.program (at_start ts) ≡ got p (record { end = end_of 0 ts; rest = [] })
 reads_all p ts s = ap (λ zs. read factored.program (at_start zs)) (sym (append-nil ts))
-    ∙ whole factored.program plain_program p ts [] 0 (program_alike.from p ts s) (nothing_on factored.program)
+    ∙ whole factored.program plain.whole p ts [] 0 (program_alike.from p ts s) (nothing_on factored.program)
 
 front_is : (us rest : List Lexeme) → take (length us) (us ++ rest) ≡ us
 front_is [] rest = refl
@@ -90,11 +90,13 @@ unlike ks h k f t = differ (same_kind h k) (same_kind h k) refl
 
 -- no test tells a continuous word from dhistogram
 apart_words : apart continuous (watched factored.program) ≡ true
-unfolding factored.program numeral name note item next_item items list limit layer atom weighted mixture sev cession side next_cession layers clause freq claims premium ratio exposure exposed listed counted unit head units
+unfolding factored.program numeral name note item next_item items list limit layer atom weighted mixture sev cession
+    side next_cession layers clause freq claims premium ratio exposure exposed listed counted unit head units
 apart_words = refl
 
 not_watched : among (Word words.Dhistogram) (watched factored.program) ≡ false
-unfolding factored.program numeral name note item next_item items list limit layer atom weighted mixture sev cession side next_cession layers clause freq claims premium ratio exposure exposed listed counted unit head units
+unfolding factored.program numeral name note item next_item items list limit layer atom weighted mixture sev cession
+    side next_cession layers clause freq claims premium ratio exposure exposed listed counted unit head units
 not_watched = refl
 
 apart_kinds : (js ks : List Kind) (h k : Kind) → apart js ks ≡ true → among h js ≡ true → among k ks ≡ true
@@ -251,14 +253,14 @@ stuck_refused us rest k q f r goes stays false e =
 pub read_whole : (ts : List Lexeme) (x : Program) (q : Place) → read factored.program (at_start ts) ≡ got x q
     → q.rest ≡ [] → Spells program x ts
 read_whole ts x q r e =
-    let t : Took factored.program (at_start ts) x q = took factored.program plain_program (at_start ts) q x r in
+    let t : Took factored.program (at_start ts) x q = took factored.program plain.whole (at_start ts) q x r in
     let same : ts ≡ t.0 = t.1 ∙ ap (λ zs. t.0 ++ zs) e ∙ append-nil t.0 in
     subst (Spells program x) (sym same) (program_alike.to x t.0 t.3)
 
 pub read_further : (ts : List Lexeme) (x : Program) (q : Place) (n : ℕ) → read factored.program (at_start ts) ≡ got x q
     → 0 < length q.rest → n + length q.rest ≡ length ts → IsRefused ts (faults.Syntax n)
 read_further ts x q n r some e =
-    let t : Took factored.program (at_start ts) x q = took factored.program plain_program (at_start ts) q x r in
+    let t : Took factored.program (at_start ts) x q = took factored.program plain.whole (at_start ts) q x r in
     let count : n ≡ length t.0 = omega (arith, e, ap length t.1, length-append t.0 q.rest) in
     subst (λ m. IsRefused ts (faults.Syntax m)) (sym count)
     (subst (λ zs. IsRefused zs (faults.Syntax (length t.0))) (sym t.1)
@@ -270,7 +272,7 @@ pub read_stuck : (ts : List Lexeme) (k : Kind) (q : Place) (n : ℕ) → read fa
     → IsRefused ts (cond (same_kind k (Word words.Dhistogram) && begins continuous q.rest) (faults.Continuous n)
     (faults.Syntax n))
 read_stuck ts k q n r e =
-    let s : Stopped factored.program (at_start ts) k q = stopped factored.program plain_program (at_start ts) q k r in
+    let s : Stopped factored.program (at_start ts) k q = stopped factored.program plain.whole (at_start ts) q k r in
     let count : n ≡ length s.0 = omega (arith, e, ap length s.1, length-append s.0 q.rest) in
     let b : Bool = same_kind k (Word words.Dhistogram) && begins continuous q.rest in
     subst (λ m. IsRefused ts (cond b (faults.Continuous m) (faults.Syntax m))) (sym count)
@@ -286,12 +288,12 @@ one_program p q ts s t = let two : got p _ ≡ got q _ = sym (reads_all p ts s) 
 pub left_got : (ts : List Lexeme) (x : Program) (q : Place) → read factored.program (at_start ts) ≡ got x q
     → length q.rest ≤ length ts
 left_got ts x q r = let t : Took factored.program (at_start ts) x q =
-    took factored.program plain_program (at_start ts) q x r in omega (arith, ap length t.1, length-append t.0 q.rest)
+    took factored.program plain.whole (at_start ts) q x r in omega (arith, ap length t.1, length-append t.0 q.rest)
 
 pub left_stuck : (ts : List Lexeme) (k : Kind) (q : Place) → read factored.program (at_start ts) ≡ stuck k q
     → length q.rest ≤ length ts
 left_stuck ts k q r = let s : Stopped factored.program (at_start ts) k q =
-    stopped factored.program plain_program (at_start ts) q k r in omega (arith, ap length s.1, length-append s.0 q.rest)
+    stopped factored.program plain.whole (at_start ts) q k r in omega (arith, ap length s.1, length-append s.0 q.rest)
 
 -- tokens stop at one place
 pub one_place : (ts : List Lexeme) (j k : ℕ) → Stops ts j → Stops ts k → j ≡ k

@@ -51,7 +51,8 @@ list = node (λ p span. record { items = p; span = span })
 -- atom := 'dsev' list list? | 'sev' 'dhistogram' 'xps' list list?
 unfoldable pub atom : Rule Atom
 atom = made (λ p. record { values = p.0; probs = p.1 })
-    (Word words.Dsev ≫ list ▸ maybe list or Word words.Sev ≫ Word words.Dhistogram ≫ Word words.Xps ≫ list ▸ maybe list)
+    (Word words.Dsev ≫ list ▸ maybe list or Word words.Sev ≫ Word words.Dhistogram ≫ Word words.Xps
+    ≫ list ▸ maybe list)
 
 -- mixture := atom (atom* 'wts' list)?
 unfoldable pub weighted : Rule (List Atom × ListAst)

@@ -15,16 +15,17 @@ place p = record { end = p.end; rest = lexemes p.source.now p.rest.now }
 
 -- What a method returns is what reading by the rule gives, and the parser stands where reading
 -- does.
-abbrev pub Reads : {X : Type 0} → Rule X → Parser → Parser → Result X Stop → Type 0
-Reads r old new (Ok x) = read r (place old) ≡ got x (place new)
-Reads r old new (Err (Wanted kind)) = read r (place old) ≡ stuck kind (place new)
-Reads r old new (Err OutOfMemory) = Unit {0}
+abbrev pub ReadsBy : {X : Type 0} → Rule X → Parser → Parser → Result X Stop → Type 0
+ReadsBy r old new (Ok x) = read r (place old) ≡ got x (place new)
+ReadsBy r old new (Err (Wanted kind)) = read r (place old) ≡ stuck kind (place new)
+ReadsBy r old new (Err OutOfMemory) = Unit {0}
 
 -- the same of a token
-abbrev pub Takes : Kind → Parser → Parser → Result Token Stop → Type 0
-Takes kind old new (Ok t) = read (one kind) (place old) ≡ got (lexeme old.source.now t) (place new)
-Takes kind old new (Err (Wanted k)) = read (one kind) (place old) ≡ stuck k (place new)
-Takes kind old new (Err OutOfMemory) = ⊥
+abbrev pub TakesToken : Kind → Parser → Parser → Result Token Stop → Type 0
+TakesToken kind old new (Ok t) = read (one kind) (place old)
+    ≡ got (lexeme old.source.now t) (place new)
+TakesToken kind old new (Err (Wanted k)) = read (one kind) (place old) ≡ stuck k (place new)
+TakesToken kind old new (Err OutOfMemory) = ⊥
 
 -- the same where what is read comes behind what is there
 abbrev pub Adds : {A : Type 0} → Rule (List A) → Parser → Parser → List A → List A

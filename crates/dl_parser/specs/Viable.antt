@@ -31,7 +31,9 @@ pub record Stops (ts : List Lexeme) (k : ℕ) : Type 0 where
 -- the words of continuous severities
 abbrev pub continuous : List Kind
 continuous =
-    Word words.Lognorm ∷ Word words.Gamma ∷ Word words.Expon ∷ Word words.Pareto ∷ Word words.Weibull ∷ Word words.Norm ∷ Word words.Uniform ∷ Word words.Beta ∷ Word words.Chistogram ∷ []
+    Word words.Lognorm ∷ Word words.Gamma ∷ Word words.Expon ∷ Word words.Pareto
+    ∷ Word words.Weibull ∷ Word words.Norm ∷ Word words.Uniform ∷ Word words.Beta
+    ∷ Word words.Chistogram ∷ []
 
 -- token k is the word of a continuous severity, and with dhistogram in its place a program could go
 -- on

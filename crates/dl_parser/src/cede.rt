@@ -3,11 +3,11 @@
 ghost use Rattle.std.specs.Prelude.{◌≡◌};
 ghost use Rattle.dl_ast.specs.Rules.{maybe};
 ghost use Rattle.dl_ast.specs.Grammar.{side};
-ghost use Rattle.dl_parser.specs.Factored.{whole_of, cession, next_cession, layers, clause};
-ghost use Rattle.dl_parser.specs.Reading.{begins, first};
-ghost use Rattle.dl_parser.specs.Parsing.{place, Reads};
+ghost use Rattle.dl_parser.specs.Factored.{whole_of, layers, clause};
+ghost use Rattle.dl_parser.specs.Parsing.{ReadsBy};
 
 use crate::cursor::Parser;
+use crate::parts::Part;
 use crate::stop::Stop;
 use dl_ast::{CededLayer, Cession, Items, Layer, LimitAst, Numeral, Share};
 use dl_lexer::{Keyword, Kind};
@@ -28,46 +28,68 @@ impl<'a> Parser<'a> {
             span,
         }
     }
+}
+
+impl Part for CededLayer {
+    ghost use Rattle.dl_parser.specs.Plain as grammar;
+    ghost use Rattle.dl_parser.specs.Factored.{cession, next_cession};
+
+    ghost first_rule = { cession };
+
+    ghost next_rule = { next_cession };
 
     /// `layer | NUMERAL 'so' layer | NUMERAL 'po' layer`
     #[tactic(auto, unfolding(crate::specs::Factored::cession))]
-    fn cession(&mut self) -> Result<CededLayer, Stop>
-        ensures source { self.new.source ≡ self.old.source }
-        ensures reads { Reads cession self.old self.new result }
-    {
-        let start = self.start();
-        if self.is_next(Kind::Word(Keyword::Inf)) {
-            self.take(Kind::Word(Keyword::Inf))?;
-            self.take(Kind::Word(Keyword::Xs))?;
-            let attach = self.numeral()?;
-            return Ok(self.whole(LimitAst::Infinite, attach, start));
+    fn first(parser: &mut Parser<'_>) -> Result<CededLayer, Stop> {
+        let start = parser.start();
+        if parser.is_next(Kind::Word(Keyword::Inf)) {
+            parser.take(Kind::Word(Keyword::Inf))?;
+            parser.take(Kind::Word(Keyword::Xs))?;
+            let attach = parser.numeral()?;
+            return Ok(parser.whole(LimitAst::Infinite, attach, start));
         }
-        let number = self.numeral()?;
-        if self.is_next(Kind::Word(Keyword::Xs)) {
-            self.take(Kind::Word(Keyword::Xs))?;
-            let attach = self.numeral()?;
-            return Ok(self.whole(LimitAst::Finite(number), attach, start));
+        let number = parser.numeral()?;
+        if parser.is_next(Kind::Word(Keyword::Xs)) {
+            parser.take(Kind::Word(Keyword::Xs))?;
+            let attach = parser.numeral()?;
+            return Ok(parser.whole(LimitAst::Finite(number), attach, start));
         }
-        let share = if self.is_next(Kind::Word(Keyword::So)) {
-            self.take(Kind::Word(Keyword::So))?;
+        let share = if parser.is_next(Kind::Word(Keyword::So)) {
+            parser.take(Kind::Word(Keyword::So))?;
             Share::So(number)
         } else {
-            self.take(Kind::Word(Keyword::Po))?;
+            parser.take(Kind::Word(Keyword::Po))?;
             Share::Po(number)
         };
-        let layer = self.layer()?;
+        let layer = parser.layer()?;
         Ok(CededLayer {
             share,
             layer,
-            span: self.since(start),
+            span: parser.since(start),
         })
     }
 
+    /// `'and' cession`
+    #[tactic(auto, unfolding(crate::specs::Factored::next_cession))]
+    fn next(parser: &mut Parser<'_>) -> Result<CededLayer, Stop> {
+        parser.take(Kind::Word(Keyword::And))?;
+        CededLayer::first(parser)
+    }
+
+    #[tactic(auto, unfolding(crate::specs::Factored::next_cession))]
+    fn is_next(parser: &Parser<'_>) -> bool {
+        parser.is_next(Kind::Word(Keyword::And))
+    }
+
+    ghost plain = { grammar.plain.by_cessions };
+}
+
+impl<'a> Parser<'a> {
     /// `'net' 'of' | 'ceded' 'to'`, whether it is the first.
     #[tactic(auto, unfolding(dl_ast::specs::Grammar::side))]
     fn side(&mut self) -> Result<bool, Stop>
         ensures source { self.new.source ≡ self.old.source }
-        ensures reads { Reads side self.old self.new result }
+        ensures reads { ReadsBy side self.old self.new result }
     {
         if self.is_next(Kind::Word(Keyword::Net)) {
             self.take(Kind::Word(Keyword::Net))?;
@@ -79,42 +101,20 @@ impl<'a> Parser<'a> {
         Ok(false)
     }
 
-    /// `'and' cession`
-    #[tactic(auto, unfolding(crate::specs::Factored::next_cession))]
-    fn next_cession(&mut self) -> Result<CededLayer, Stop>
-        ensures source { self.new.source ≡ self.old.source }
-        ensures reads { Reads next_cession self.old self.new result }
-    {
-        self.take(Kind::Word(Keyword::And))?;
-        self.cession()
-    }
-
-    /// Whether another cession follows.
-    #[tactic(auto, unfolding(crate::specs::Factored::next_cession))]
-    fn is_cession_next(&self) -> bool
-        ensures { result ≡ begins (first next_cession) (place self.now).rest }
-    {
-        self.is_next(Kind::Word(Keyword::And))
-    }
-
     /// `cession ('and' cession)*`
+    #[tactic(auto, unfolding(crate::specs::Factored::layers))]
     fn layers(&mut self) -> Result<Items<CededLayer>, Stop>
         ensures source { self.new.source ≡ self.old.source }
-        ensures reads { Reads layers self.old self.new result }
+        ensures reads { ReadsBy layers self.old self.new result }
     {
-        let mut layers = Vec::new(self.alloc);
-        layers.push(self.cession()?)?;
-        'layers: while self.is_cession_next() {
-            layers.push(self.next_cession()?)?;
-        }
-        Ok(Items::from_vec(layers))
+        self.parts()
     }
 
     /// The word of the clause, then `side cession ('and' cession)*`
     #[tactic(auto, unfolding(crate::specs::Factored::clause))]
     fn clause(&mut self, word: Kind) -> Result<Cession, Stop>
         ensures source { self.new.source ≡ self.old.source }
-        ensures reads { Reads (clause word) self.old self.new result }
+        ensures reads { ReadsBy (clause word) self.old self.new result }
     {
         let start = self.start();
         self.take(word)?;
@@ -131,7 +131,7 @@ impl<'a> Parser<'a> {
     #[tactic(auto, unfolding(crate::specs::Factored::clause))]
     pub(crate) fn clause_option(&mut self, word: Kind) -> Result<Option<Cession>, Stop>
         ensures source { self.new.source ≡ self.old.source }
-        ensures reads { Reads (maybe (clause word)) self.old self.new result }
+        ensures reads { ReadsBy (maybe (clause word)) self.old self.new result }
     {
         if !self.is_next(word) {
             return Ok(None);

@@ -4,7 +4,7 @@ ghost use Rattle.std.specs.Prelude.{◌≡◌};
 ghost use Rattle.dl_ast.specs.Rules.{maybe};
 ghost use Rattle.dl_ast.specs.Grammar.{limit, layer};
 ghost use Rattle.dl_parser.specs.Reading.{begins, first};
-ghost use Rattle.dl_parser.specs.Parsing.{place, Reads};
+ghost use Rattle.dl_parser.specs.Parsing.{place, ReadsBy};
 
 use crate::cursor::Parser;
 use crate::stop::Stop;
@@ -16,7 +16,7 @@ impl<'a> Parser<'a> {
     #[tactic(auto, unfolding(dl_ast::specs::Grammar::limit, dl_ast::specs::Grammar::numeral))]
     fn limit(&mut self) -> Result<LimitAst, Stop>
         ensures source { self.new.source ≡ self.old.source }
-        ensures reads { Reads limit self.old self.new result }
+        ensures reads { ReadsBy limit self.old self.new result }
     {
         if self.is_next(Kind::Numeral) {
             return Ok(LimitAst::Finite(self.numeral()?));
@@ -29,7 +29,7 @@ impl<'a> Parser<'a> {
     #[tactic(auto, unfolding(dl_ast::specs::Grammar::layer))]
     pub(crate) fn layer(&mut self) -> Result<Layer, Stop>
         ensures source { self.new.source ≡ self.old.source }
-        ensures reads { Reads layer self.old self.new result }
+        ensures reads { ReadsBy layer self.old self.new result }
     {
         let start = self.start();
         let limit = self.limit()?;
@@ -53,7 +53,7 @@ impl<'a> Parser<'a> {
     /// `layer?`
     pub(crate) fn layer_option(&mut self) -> Result<Option<Layer>, Stop>
         ensures source { self.new.source ≡ self.old.source }
-        ensures reads { Reads (maybe layer) self.old self.new result }
+        ensures reads { ReadsBy (maybe layer) self.old self.new result }
     {
         if !self.is_layer_next() {
             return Ok(None);

@@ -15,12 +15,11 @@ mod cede;
 mod cursor;
 mod layers;
 mod lists;
+mod parts;
 mod severity;
 mod stop;
 pub mod syntax;
 mod take;
-#[cfg(test)]
-mod tests;
 mod units;
 
 pub use syntax::{ParseFault, parse};

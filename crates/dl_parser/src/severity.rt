@@ -4,7 +4,7 @@ ghost use Rattle.std.specs.Prelude.{◌≡◌};
 ghost use Rattle.dl_ast.specs.Rules.{many};
 ghost use Rattle.dl_parser.specs.Factored.{atom, weighted, sev};
 ghost use Rattle.dl_parser.specs.Reading.{begins, first};
-ghost use Rattle.dl_parser.specs.Parsing.{place, Reads, Adds, AddsAnd};
+ghost use Rattle.dl_parser.specs.Parsing.{place, ReadsBy, Adds, AddsAnd};
 
 use crate::cursor::Parser;
 use crate::stop::Stop;
@@ -16,7 +16,7 @@ impl<'a> Parser<'a> {
     #[tactic(auto, unfolding(crate::specs::Factored::atom))]
     fn atom(&mut self) -> Result<Atom, Stop>
         ensures source { self.new.source ≡ self.old.source }
-        ensures reads { Reads atom self.old self.new result }
+        ensures reads { ReadsBy atom self.old self.new result }
     {
         if self.is_next(Kind::Word(Keyword::Dsev)) {
             self.take(Kind::Word(Keyword::Dsev))?;
@@ -74,7 +74,7 @@ impl<'a> Parser<'a> {
     #[tactic(auto, unfolding(crate::specs::Factored::sev, crate::specs::Factored::mixture))]
     pub(crate) fn sev(&mut self) -> Result<SevAst, Stop>
         ensures source { self.new.source ≡ self.old.source }
-        ensures reads { Reads sev self.old self.new result }
+        ensures reads { ReadsBy sev self.old self.new result }
     {
         let start = self.start();
         let mut atoms = Vec::new(self.alloc);

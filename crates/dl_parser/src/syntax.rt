@@ -1,6 +1,7 @@
 //! The program that the tokens of a text spell, or the place where they stop.
 
 ghost use Rattle.std.specs.Prelude.{◌≡◌, ◌≤◌, length, IfOk, IfErr, if◌then◌else◌, ◌&&◌};
+ghost use Rattle.dl_limits.specs.Limits.{most_text};
 ghost use Rattle.dl_lexer.specs.Cutting.{Covers};
 ghost use Rattle.dl_ast.specs.Lexemes.{lexemes};
 ghost use Rattle.dl_ast.specs.Rules.{Spells};
@@ -68,7 +69,7 @@ impl<'a> Parser<'a> {
 /// 1,048,576 bytes, and the tokens are those that it is cut into.
 pub fn parse(alloc: Global, source: &[u8], tokens: &[Token]) -> Result<Program, ParseFault>
     requires covered { Covers source.now (length source.now) tokens.now }
-    requires short { length source.now ≤ 1048576 }
+    requires short { length source.now ≤ most_text }
     ensures spelled { IfOk result (λ p. Spells program p (lexemes source.now tokens.now)) }
     ensures formed { IfOk result (λ p. IsWellFormed p) }
     ensures refused { IfErr result (IsRefused (lexemes source.now tokens.now)) }

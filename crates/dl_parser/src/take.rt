@@ -5,7 +5,7 @@ ghost use Rattle.dl_ast.specs.Rules.{maybe};
 ghost use Rattle.dl_ast.specs.Grammar.{numeral, name, note};
 ghost use Rattle.dl_parser.specs.Reading.{among, begins, start_of};
 ghost use Rattle.dl_parser.specs.Placed.{Inside};
-ghost use Rattle.dl_parser.specs.Parsing.{place, Reads, Takes};
+ghost use Rattle.dl_parser.specs.Parsing.{place, ReadsBy, TakesToken};
 
 use crate::cursor::Parser;
 use crate::stop::Stop;
@@ -63,7 +63,7 @@ impl<'a> Parser<'a> {
     /// Takes a token of this kind.
     pub(crate) fn take(&mut self, kind: Kind) -> Result<Token, Stop>
         ensures source { self.new.source ≡ self.old.source }
-        ensures reads { Takes kind self.old self.new result }
+        ensures reads { TakesToken kind self.old self.new result }
         ensures inside { IfOk result (λ t. Inside self.old.source.now t.span) }
     {
         match self.rest.split_first() {
@@ -91,7 +91,7 @@ impl<'a> Parser<'a> {
     #[tactic(auto, unfolding(dl_ast::specs::Grammar::numeral))]
     pub(crate) fn numeral(&mut self) -> Result<Numeral, Stop>
         ensures source { self.new.source ≡ self.old.source }
-        ensures reads { Reads numeral self.old self.new result }
+        ensures reads { ReadsBy numeral self.old self.new result }
     {
         let token = self.take(Kind::Numeral)?;
         Ok(Numeral {
@@ -104,7 +104,7 @@ impl<'a> Parser<'a> {
     #[tactic(auto, unfolding(dl_ast::specs::Grammar::name))]
     pub(crate) fn name(&mut self) -> Result<NameAst, Stop>
         ensures source { self.new.source ≡ self.old.source }
-        ensures reads { Reads name self.old self.new result }
+        ensures reads { ReadsBy name self.old self.new result }
     {
         let token = self.take(Kind::Name)?;
         Ok(NameAst {
@@ -117,7 +117,7 @@ impl<'a> Parser<'a> {
     #[tactic(auto, unfolding(dl_ast::specs::Grammar::note))]
     fn note(&mut self) -> Result<Text, Stop>
         ensures source { self.new.source ≡ self.old.source }
-        ensures reads { Reads note self.old self.new result }
+        ensures reads { ReadsBy note self.old self.new result }
     {
         let token = self.take(Kind::Note)?;
         self.text(token.span)
@@ -127,7 +127,7 @@ impl<'a> Parser<'a> {
     #[tactic(auto, unfolding(dl_ast::specs::Grammar::note))]
     pub(crate) fn note_option(&mut self) -> Result<Option<Text>, Stop>
         ensures source { self.new.source ≡ self.old.source }
-        ensures reads { Reads (maybe note) self.old self.new result }
+        ensures reads { ReadsBy (maybe note) self.old self.new result }
     {
         if !self.is_next(Kind::Note) {
             return Ok(None);

@@ -3,11 +3,11 @@
 ghost use Rattle.std.specs.Prelude.{◌≡◌};
 ghost use Rattle.dl_ast.specs.Rules.{made};
 ghost use Rattle.dl_ast.specs.Grammar.{freq, head};
-ghost use Rattle.dl_parser.specs.Factored.{ratio, exposure, exposed, listed, counted, unit, units, program};
-ghost use Rattle.dl_parser.specs.Reading.{begins, first};
-ghost use Rattle.dl_parser.specs.Parsing.{place, Reads};
+ghost use Rattle.dl_parser.specs.Factored.{ratio, exposure, exposed, listed, counted, program};
+ghost use Rattle.dl_parser.specs.Parsing.{ReadsBy};
 
 use crate::cursor::Parser;
+use crate::parts::Part;
 use crate::stop::Stop;
 use dl_ast::{CountAst, Exposure, FreqAst, Items, NameAst, Numeral, PortHead, Program, UnitAst};
 use dl_lexer::{Keyword, Kind};
@@ -17,7 +17,7 @@ impl<'a> Parser<'a> {
     #[tactic(auto, unfolding(dl_ast::specs::Grammar::freq))]
     fn freq(&mut self) -> Result<FreqAst, Stop>
         ensures source { self.new.source ≡ self.old.source }
-        ensures reads { Reads freq self.old self.new result }
+        ensures reads { ReadsBy freq self.old self.new result }
     {
         let start = self.start();
         if self.is_next(Kind::Word(Keyword::Fixed)) {
@@ -47,7 +47,7 @@ impl<'a> Parser<'a> {
     #[tactic(auto, unfolding(crate::specs::Factored::ratio, dl_ast::specs::Grammar::premium))]
     fn ratio(&mut self) -> Result<Numeral, Stop>
         ensures source { self.new.source ≡ self.old.source }
-        ensures reads { Reads ratio self.old self.new result }
+        ensures reads { ReadsBy ratio self.old self.new result }
     {
         if self.is_next(Kind::Word(Keyword::Prem)) {
             self.take(Kind::Word(Keyword::Prem))?;
@@ -64,7 +64,7 @@ impl<'a> Parser<'a> {
     #[tactic(auto, unfolding(crate::specs::Factored::exposure, dl_ast::specs::Grammar::claims))]
     fn exposure(&mut self) -> Result<Exposure, Stop>
         ensures source { self.new.source ≡ self.old.source }
-        ensures reads { Reads exposure self.old self.new result }
+        ensures reads { ReadsBy exposure self.old self.new result }
     {
         let start = self.start();
         let number = self.numeral()?;
@@ -92,7 +92,7 @@ impl<'a> Parser<'a> {
     #[tactic(auto, unfolding(crate::specs::Factored::listed))]
     fn listed(&mut self) -> Result<CountAst, Stop>
         ensures source { self.new.source ≡ self.old.source }
-        ensures reads { Reads listed self.old self.new result }
+        ensures reads { ReadsBy listed self.old self.new result }
     {
         let start = self.start();
         self.take(Kind::Word(Keyword::Dfreq))?;
@@ -109,7 +109,7 @@ impl<'a> Parser<'a> {
     #[tactic(auto, unfolding(crate::specs::Factored::exposed))]
     fn exposed(&mut self, name: NameAst) -> Result<UnitAst, Stop>
         ensures source { self.new.source ≡ self.old.source }
-        ensures reads { Reads (made (λ make. make name) exposed) self.old self.new result }
+        ensures reads { ReadsBy (made (λ make. make name) exposed) self.old self.new result }
     {
         let exposure = self.exposure()?;
         let layer = self.layer_option()?;
@@ -133,7 +133,7 @@ impl<'a> Parser<'a> {
     #[tactic(auto, unfolding(crate::specs::Factored::counted))]
     fn counted(&mut self, name: NameAst) -> Result<UnitAst, Stop>
         ensures source { self.new.source ≡ self.old.source }
-        ensures reads { Reads (made (λ make. make name) counted) self.old self.new result }
+        ensures reads { ReadsBy (made (λ make. make name) counted) self.old self.new result }
     {
         let count = self.listed()?;
         let layer = self.layer_option()?;
@@ -151,34 +151,45 @@ impl<'a> Parser<'a> {
             note,
         })
     }
+}
+
+impl Part for UnitAst {
+    ghost use Rattle.dl_parser.specs.Plain as grammar;
+    ghost use Rattle.dl_parser.specs.Factored.{unit};
+
+    ghost first_rule = { unit };
+
+    ghost next_rule = { unit };
 
     /// `'agg' NAME`, and what follows the name.
-    #[tactic(auto, unfolding(crate::specs::Factored::unit, crate::specs::Factored::counted, crate::specs::Factored::listed))]
-    fn unit(&mut self) -> Result<UnitAst, Stop>
-        ensures source { self.new.source ≡ self.old.source }
-        ensures reads { Reads unit self.old self.new result }
-    {
-        self.take(Kind::Word(Keyword::Agg))?;
-        let name = self.name()?;
-        if self.is_next(Kind::Word(Keyword::Dfreq)) {
-            return self.counted(name);
+    #[tactic(auto, unfolding(crate::specs::Factored::unit, crate::specs::Factored::counted, crate::specs::Factored::listed,))]
+    fn first(parser: &mut Parser<'_>) -> Result<UnitAst, Stop> {
+        parser.take(Kind::Word(Keyword::Agg))?;
+        let name = parser.name()?;
+        if parser.is_next(Kind::Word(Keyword::Dfreq)) {
+            return parser.counted(name);
         }
-        self.exposed(name)
+        parser.exposed(name)
     }
 
-    /// Whether a unit follows.
+    fn next(parser: &mut Parser<'_>) -> Result<UnitAst, Stop> {
+        UnitAst::first(parser)
+    }
+
     #[tactic(auto, unfolding(crate::specs::Factored::unit))]
-    fn is_unit_next(&self) -> bool
-        ensures { result ≡ begins (first unit) (place self.now).rest }
-    {
-        self.is_next(Kind::Word(Keyword::Agg))
+    fn is_next(parser: &Parser<'_>) -> bool {
+        parser.is_next(Kind::Word(Keyword::Agg))
     }
 
+    ghost plain = { grammar.plain.by_units };
+}
+
+impl<'a> Parser<'a> {
     /// `'port' NAME NOTE?`
     #[tactic(auto, unfolding(dl_ast::specs::Grammar::head))]
     fn head(&mut self) -> Result<PortHead, Stop>
         ensures source { self.new.source ≡ self.old.source }
-        ensures reads { Reads head self.old self.new result }
+        ensures reads { ReadsBy head self.old self.new result }
     {
         self.take(Kind::Word(Keyword::Port))?;
         let name = self.name()?;
@@ -186,27 +197,14 @@ impl<'a> Parser<'a> {
         Ok(PortHead { name, note })
     }
 
-    /// `unit unit*`
-    fn units(&mut self) -> Result<Items<UnitAst>, Stop>
-        ensures source { self.new.source ≡ self.old.source }
-        ensures reads { Reads units self.old self.new result }
-    {
-        let mut units = Vec::new(self.alloc);
-        units.push(self.unit()?)?;
-        'units: while self.is_unit_next() {
-            units.push(self.unit()?)?;
-        }
-        Ok(Items::from_vec(units))
-    }
-
     /// `unit | 'port' NAME NOTE? unit unit*`
-    #[tactic(auto, unfolding(crate::specs::Factored::program))]
+    #[tactic(auto, unfolding(crate::specs::Factored::program, crate::specs::Factored::units))]
     pub(crate) fn program(&mut self) -> Result<Program, Stop>
         ensures source { self.new.source ≡ self.old.source }
-        ensures reads { Reads program self.old self.new result }
+        ensures reads { ReadsBy program self.old self.new result }
     {
-        if self.is_unit_next() {
-            let unit = self.unit()?;
+        if UnitAst::is_next(self) {
+            let unit = UnitAst::first(self)?;
             let mut units = Vec::new(self.alloc);
             units.push(unit)?;
             return Ok(Program {
@@ -215,7 +213,7 @@ impl<'a> Parser<'a> {
             });
         }
         let head = self.head()?;
-        let units = self.units()?;
+        let units = self.parts()?;
         Ok(Program {
             port: Some(head),
             units,

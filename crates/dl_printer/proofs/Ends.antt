@@ -6,18 +6,17 @@ use Rattle.std.proofs.Math.Seq.{take-append_seam}
 use Rattle.std.proofs.lemmas.Bool.Decides.{nat_tests}
 use Rattle.std.proofs.lemmas.List.Folds.{list_all-append}
 use Rattle.dl_lexer.specs.declared.token.Sign.{Sign}
-use Rattle.dl_lexer.specs.declared.token.Sign.TheVariants.{Open, Close, Colon, Comma, Bang}
 use Rattle.dl_lexer.specs.declared.token.Kind.{Kind}
 use Rattle.dl_lexer.specs.declared.token.Kind.TheVariants as kinds
 use Rattle.dl_lexer.specs.Bytes.{is_white, is_letter, is_digit, is_word_byte, is_note_byte}
-use Rattle.dl_lexer.specs.Numerals.{IsDecimal, digits, digits_point, point_digits, percent, fraction, IsNumeral, a_decimal, a_percent, a_fraction}
+use Rattle.dl_lexer.specs.Numerals.{IsDecimalToken, digits, digits_point, point_digits, percent, fraction, IsNumeralToken, a_decimal, a_percent, a_fraction}
 use Rattle.dl_lexer.specs.Tokens.{begins_with_letter, IsWord, IsNote, note, sign_byte, IsSpelled, IsToken}
 use Rattle.dl_lexer.specs.Cutting.{IsLongest}
 use Rattle.dl_lexer.proofs.Prefix.{prefix_most, prefix_ends, get_behind}
 use Rattle.dl_lexer.proofs.Longest.{longest_none}
 use Rattle.dl_lexer.proofs.Spellings.{keyword_is_word}
 use Rattle.dl_lexer.proofs.WordLengths.{word_parts, word_longest, note_none, note_closed}
-use Rattle.dl_lexer.proofs.TokenKinds.{begins_numeral, numeral_begins, longest_note, longest_word, longest_numeral, longest_sign}
+use Rattle.dl_lexer.proofs.TokenKinds.{begins_numeral, numeral_begins, longest_note, longest_word, longest_numeral, longest_sign, sign_no_letter, sign_no_numeral}
 use Rattle.dl_printer.specs.Canonical.{is_tight_behind}
 use Rattle.std.proofs.lemmas.Bool.{and_from, and_parts}
 
@@ -60,13 +59,13 @@ parts_pass : (a b : List ℕ) → list_all is_numeral_byte a ≡ true → list_a
 parts_pass a b g h =
     list_all-append is_numeral_byte a b ∙ and_from (list_all is_numeral_byte a) (list_all is_numeral_byte b) g h
 
-decimal_passes : (bs : List ℕ) → IsDecimal bs → list_all is_numeral_byte bs ≡ true
+decimal_passes : (bs : List ℕ) → IsDecimalToken bs → list_all is_numeral_byte bs ≡ true
 decimal_passes bs (digits d) = digits_pass bs d.1
 decimal_passes bs (digits_point a b e all_a all_b) = ap (list_all is_numeral_byte) e
     ∙ parts_pass a (46 ∷ b) (digits_pass a all_a.1) (digits_pass b all_b)
 decimal_passes bs (point_digits b e all_b) = ap (list_all is_numeral_byte) e ∙ digits_pass b all_b.1
 
-numeral_passes : (bs : List ℕ) → IsNumeral bs → list_all is_numeral_byte bs ≡ true
+numeral_passes : (bs : List ℕ) → IsNumeralToken bs → list_all is_numeral_byte bs ≡ true
 numeral_passes bs (a_decimal t) = decimal_passes bs t
 numeral_passes bs (a_percent (percent d e t)) =
     ap (list_all is_numeral_byte) e ∙ parts_pass d (37 ∷ []) (decimal_passes d t) refl
@@ -117,7 +116,7 @@ numeral_some : (text : List ℕ) → begins_numeral text ≡ true → 0 < length
 numeral_some [] h = absurd cc
 numeral_some (b ∷ text) h = omega arith
 
-numeral_ends : (text more : List ℕ) (byte : ℕ) → IsNumeral text → is_stop byte ≡ true
+numeral_ends : (text more : List ℕ) (byte : ℕ) → IsNumeralToken text → is_stop byte ≡ true
     → IsLongest IsToken (text ++ byte ∷ more) (length text)
 numeral_ends text more byte spelled stop =
     let run : prefix_len is_numeral_byte (text ++ byte ∷ more)
@@ -127,7 +126,7 @@ numeral_ends text more byte spelled stop =
     longest_numeral (text ++ byte ∷ more) (length text)
     (numeral_no_letter text (byte ∷ more) (numeral_begins text spelled)) (record {
       within = omega arith;
-      spelled = λ some. subst IsNumeral (sym (take-append_seam text (byte ∷ more))) spelled;
+      spelled = λ some. subst IsNumeralToken (sym (take-append_seam text (byte ∷ more))) spelled;
       longest = λ m h t.
           let most : m ≤ prefix_len is_numeral_byte (text ++ byte ∷ more) =
           prefix_most is_numeral_byte (text ++ byte ∷ more) m h
@@ -156,30 +155,17 @@ note_ends text rest (note inside e all) =
 
 -- signs
 
-sign_no_letter : (s : Sign) → is_letter (sign_byte s) ≡ false
-sign_no_letter Open = refl
-sign_no_letter Close = refl
-sign_no_letter Colon = refl
-sign_no_letter Comma = refl
-sign_no_letter Bang = refl
-
-sign_no_numeral : (s : Sign) → (is_digit (sign_byte s) || sign_byte s == 46) ≡ false
-sign_no_numeral Open = refl
-sign_no_numeral Close = refl
-sign_no_numeral Colon = refl
-sign_no_numeral Comma = refl
-sign_no_numeral Bang = refl
-
 sign_ends : (s : Sign) (rest : List ℕ) → IsLongest IsToken (sign_byte s ∷ rest) 1
 sign_ends s rest =
-    longest_sign (sign_byte s ∷ rest) s (sign_no_letter s) (longest_none IsNumeral (sign_byte s ∷ rest) none) refl
+    longest_sign (sign_byte s ∷ rest) s (sign_no_letter s _ refl)
+    (longest_none IsNumeralToken (sign_byte s ∷ rest) none) refl
   where
-    none : (m : ℕ) → m ≤ length (sign_byte s ∷ rest) → IsNumeral (take m (sign_byte s ∷ rest)) → ⊥
+    none : (m : ℕ) → m ≤ length (sign_byte s ∷ rest) → IsNumeralToken (take m (sign_byte s ∷ rest)) → ⊥
     none zero h t = let begins : begins_numeral [] ≡ true = numeral_begins [] t in cc
     none (suc m) h t =
         let begins : (is_digit (sign_byte s) || sign_byte s == 46) ≡ true =
         numeral_begins (sign_byte s ∷ take m rest) t in
-        let other = sign_no_numeral s in
+        let other = sign_no_numeral s _ refl in
         cc
 
 -- any token, where a stop follows if it is not a sign behind which nothing stands

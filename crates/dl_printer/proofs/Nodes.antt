@@ -39,7 +39,7 @@ use Rattle.dl_ast.specs.declared.ast.Program.{Program}
 use Rattle.dl_ast.specs.Lexemes.{Lexeme}
 use Rattle.dl_ast.specs.Rules.{Rule, one, ◌▸◌, maybe, many}
 use Rattle.dl_ast.specs.Grammar.{◌≫◌, ◌≪◌, ◌means◌, some_of, numeral, name, note, item, next_item, list, limit, layer, atom, mixture, sev, cession, side, next_cession, clause, freq, claims, premium, exposure, listed, exposed_unit, listed_unit, unit, head, program}
-use Rattle.dl_ast.specs.WellFormed.{IsName, IsNumeral, IsNote, IsItem, IsList, IsLimit, IsLayer, IsAtom, IsSev, IsShare, IsCeded, IsCession, IsFreq, IsExposure, IsUnit, IsHead, IsWellFormed}
+use Rattle.dl_ast.specs.WellFormed.{IsFormedName, IsFormedNumeral, IsFormedNote, IsFormedItem, IsFormedList, IsFormedLimit, IsFormedLayer, IsFormedAtom, IsFormedSeverity, IsFormedShare, IsFormedCeded, IsFormedCession, IsFormedFrequency, IsFormedExposure, IsFormedUnit, IsFormedHead, IsWellFormed}
 use Rattle.dl_printer.specs.Pieces.{Piece, piece, word_piece, name_piece, numeral_piece, note_piece, optional, behind_colon, item_pieces, list_pieces, limit_pieces, layer_pieces, atom_pieces, weights_pieces, bang_pieces, sev_pieces, share_pieces, ceded_pieces, and_ceded_pieces, ceded_layers_pieces, side_pieces, clause_pieces, freq_pieces, exposure_pieces, listed_pieces, count_pieces, late_count_pieces, unit_pieces, head_pieces, program_pieces}
 use Rattle.dl_printer.specs.Apart.{nowhere, bare_name, bare_numeral, bare_item, bare_list, bare_limit, bare_layer, bare_atom, bare_sev, bare_ceded, bare_cession, bare_freq, bare_exposure, bare_count, bare_unit, bare_head, bare}
 use Rattle.dl_printer.proofs.Shown.{piece_of, Shows, shows_one, shows_seq, shows_left, shows_right, shows_none, shows_some, shows_maybe, shows_many, shows_made, shows_node, shows_behind, shows_before, shows_means, shows_some_of, shows_seen, shows_as}
@@ -59,24 +59,24 @@ word_means k x f = shows_means (Word k) (spelling k) x f refl
 
 -- numbers, names and notes
 
-numeral_shown : (n : Numeral) → IsNumeral n → Shows numeral bare_numeral (bare_numeral n) (numeral_piece n)
+numeral_shown : (n : Numeral) → IsFormedNumeral n → Shows numeral bare_numeral (bare_numeral n) (numeral_piece n)
 unfolding numeral
 numeral_shown n h = shows_made _ (one kinds.Numeral) piece_of bare_numeral _ _ _ (shows_one kinds.Numeral n.text h)
     (λ t e. ap (λ p. record { text = p.text; span = nowhere }) e)
 
-name_shown : (n : NameAst) → IsName n → Shows name bare_name (bare_name n) (name_piece n)
+name_shown : (n : NameAst) → IsFormedName n → Shows name bare_name (bare_name n) (name_piece n)
 unfolding name
 name_shown n h = shows_made _ (one kinds.Name) piece_of bare_name _ _ _ (shows_one kinds.Name n.text h)
     (λ t e. ap (λ p. record { text = p.text; span = nowhere }) e)
 
-note_shown : (n : List ℕ) → IsNote n → Shows note (λ x. x) n (note_piece n)
+note_shown : (n : List ℕ) → IsFormedNote n → Shows note (λ x. x) n (note_piece n)
 unfolding note
 note_shown n h =
     shows_made _ (one kinds.Note) piece_of (λ x. x) _ _ _ (shows_one kinds.Note n h) (λ t e. ap (λ p. p.text) e)
 
 -- lists
 
-behind_colon_shown : (n : Numeral) → IsNumeral n
+behind_colon_shown : (n : Numeral) → IsFormedNumeral n
     → Shows (Sign signs.Colon ≫ numeral) bare_numeral (bare_numeral n) (behind_colon n)
 behind_colon_shown n h =
     shows_behind (Sign signs.Colon) (sign_byte signs.Colon ∷ []) numeral bare_numeral (bare_numeral n)
@@ -87,7 +87,7 @@ abbrev ItemMade : (Span → ListItem) → Span → ListItem
 ItemMade make span = bare_item (make span)
 
 item_of : (from : Numeral) (to step : Option Numeral) (span : Span)
-    → IsItem (record { from = from; to = to; step = step; span = span })
+    → IsFormedItem (record { from = from; to = to; step = step; span = span })
     → Shows item bare_item (bare_item (record { from = from; to = to; step = step; span = span }))
     (item_pieces (record { from = from; to = to; step = step; span = span }))
 unfolding item item_pieces optional piece
@@ -115,10 +115,10 @@ item_of from (Some to) (Some step) span h = shows_node _ _ ItemMade bare_item _ 
     (λ n e. ap (λ m _. record { from = m.0; to = Some m.1.0; step = Some m.1.1; span = nowhere }) e))))
     (λ make at e. ap (λ m. m at) e)
 
-item_shown : (i : ListItem) → IsItem i → Shows item bare_item (bare_item i) (item_pieces i)
+item_shown : (i : ListItem) → IsFormedItem i → Shows item bare_item (bare_item i) (item_pieces i)
 item_shown i h = item_of i.from i.to i.step i.span h
 
-next_item_shown : (i : ListItem) → IsItem i → Shows next_item bare_item (bare_item i) (item_pieces i)
+next_item_shown : (i : ListItem) → IsFormedItem i → Shows next_item bare_item (bare_item i) (item_pieces i)
 unfolding next_item
 next_item_shown i h =
     shows_made _ (maybe (one (Sign signs.Comma)) ▸ item) (λ p. (option_map piece_of p.0, bare_item p.1)) bare_item
@@ -127,14 +127,14 @@ next_item_shown i h =
     (shows_none _ piece_of) (item_shown i h))
     (λ p e. ap (λ q. q.1) e)
 
-items_shown : (is : List ListItem) → 0 < length is → All IsItem is
+items_shown : (is : List ListItem) → 0 < length is → All IsFormedItem is
     → Shows (some_of item next_item) (map bare_item) (map bare_item is) (flat_map item_pieces is)
 items_shown [] some h = absurd (omega arith)
 items_shown (i ∷ is) some h =
-    shows_some_of item next_item bare_item item_pieces item_pieces IsItem item_shown next_item_shown i is
-    (All-head IsItem i is h) (All-tail IsItem i is h)
+    shows_some_of item next_item bare_item item_pieces item_pieces IsFormedItem item_shown next_item_shown i is
+    (All-head IsFormedItem i is h) (All-tail IsFormedItem i is h)
 
-list_shown : (l : ListAst) → IsList l → Shows list bare_list (bare_list l) (list_pieces l)
+list_shown : (l : ListAst) → IsFormedList l → Shows list bare_list (bare_list l) (list_pieces l)
 unfolding list list_pieces
 list_shown l h = shows_node _ _ (map bare_item) bare_list (map bare_item l.items) _ _
     (shows_as _ _ _ _ _ (shows_behind (Sign signs.Open) (sign_byte signs.Open ∷ []) _ (map bare_item) _ _ refl
@@ -143,21 +143,21 @@ list_shown l h = shows_node _ _ (map bare_item) bare_list (map bare_item l.items
     (simp append_assoc))
     (λ is at e. ap (λ js. record { items = js; span = nowhere }) e)
 
-list_option_shown : (o : Option ListAst) → IfSome o IsList
+list_option_shown : (o : Option ListAst) → IfSome o IsFormedList
     → Shows (maybe list) (option_map bare_list) (option_map bare_list o)
     (optional list_pieces o)
-list_option_shown o h = shows_maybe list bare_list list_pieces IsList list_shown o h
+list_option_shown o h = shows_maybe list bare_list list_pieces IsFormedList list_shown o h
 
 -- layers
 
-limit_shown : (l : LimitAst) → IsLimit l → Shows limit bare_limit (bare_limit l) (limit_pieces l)
+limit_shown : (l : LimitAst) → IsFormedLimit l → Shows limit bare_limit (bare_limit l) (limit_pieces l)
 unfolding limit limit_pieces
 limit_shown (Finite n) h =
     shows_left _ _ bare_limit _ _ (shows_made _ numeral bare_numeral bare_limit (bare_numeral n) _ _
     (numeral_shown n h) (λ m e. ap Finite e))
 limit_shown Infinite h = shows_right _ _ bare_limit _ _ (word_means words.Inf Infinite bare_limit)
 
-layer_shown : (l : Layer) → IsLayer l → Shows layer bare_layer (bare_layer l) (layer_pieces l)
+layer_shown : (l : Layer) → IsFormedLayer l → Shows layer bare_layer (bare_layer l) (layer_pieces l)
 unfolding layer layer_pieces
 layer_shown l h =
     shows_node _ _ (λ p. (bare_limit p.0, bare_numeral p.1)) bare_layer (bare_limit l.limit, bare_numeral l.attach) _ _
@@ -165,10 +165,10 @@ layer_shown l h =
     (before_word words.Xs limit bare_limit _ _ (limit_shown l.limit h.limit)) (numeral_shown l.attach h.attach))
     (λ p at e. ap (λ q. record { limit = q.0; attach = q.1; span = nowhere }) e)
 
-layer_option_shown : (o : Option Layer) → IfSome o IsLayer
+layer_option_shown : (o : Option Layer) → IfSome o IsFormedLayer
     → Shows (maybe layer) (option_map bare_layer) (option_map bare_layer o)
     (optional layer_pieces o)
-layer_option_shown o h = shows_maybe layer bare_layer layer_pieces IsLayer layer_shown o h
+layer_option_shown o h = shows_maybe layer bare_layer layer_pieces IsFormedLayer layer_shown o h
 
 -- severities
 
@@ -176,13 +176,13 @@ layer_option_shown o h = shows_maybe layer bare_layer layer_pieces IsLayer layer
 abbrev bare_lists : ListAst × Option ListAst → ListAst × Option ListAst
 bare_lists p = (bare_list p.0, option_map bare_list p.1)
 
-lists_shown : (l : ListAst) (o : Option ListAst) → IsList l → IfSome o IsList
+lists_shown : (l : ListAst) (o : Option ListAst) → IsFormedList l → IfSome o IsFormedList
     → Shows (list ▸ maybe list) bare_lists (bare_list l, option_map bare_list o)
     (list_pieces l ++ optional list_pieces o)
 lists_shown l o h k =
     shows_seq list (maybe list) bare_list (option_map bare_list) _ _ _ _ (list_shown l h) (list_option_shown o k)
 
-atom_shown : (a : Atom) → IsAtom a → Shows atom bare_atom (bare_atom a) (atom_pieces a)
+atom_shown : (a : Atom) → IsFormedAtom a → Shows atom bare_atom (bare_atom a) (atom_pieces a)
 unfolding atom atom_pieces
 atom_shown a h = shows_made _ _ bare_lists bare_atom (bare_list a.values, option_map bare_list a.probs) _ _
     (shows_as _ _ _ _ _ (shows_left _ _ bare_lists _ _ (behind_word words.Dsev _ bare_lists _ _
@@ -193,7 +193,8 @@ atom_shown a h = shows_made _ _ bare_lists bare_atom (bare_list a.values, option
 abbrev bare_mixture : List Atom × Option ListAst → List Atom × Option ListAst
 bare_mixture m = (map bare_atom m.0, option_map bare_list m.1)
 
-mixture_shown : (others : List Atom) (w : Option ListAst) → 0 < length others → All IsAtom others → IfSome w IsList
+mixture_shown : (others : List Atom) (w : Option ListAst) → 0 < length others → All IsFormedAtom others
+    → IfSome w IsFormedList
     → (1 < length others → IsSome w)
     → Shows mixture bare_mixture (map bare_atom others, option_map bare_list w)
     (flat_map atom_pieces others ++ optional weights_pieces w)
@@ -201,16 +202,17 @@ unfolding mixture optional
 mixture_shown [] w some h k several = absurd (omega arith)
 mixture_shown (a ∷ []) None some h k several =
     shows_left _ _ bare_mixture _ _ (shows_made _ atom bare_atom bare_mixture (bare_atom a) _ _
-    (shows_as _ _ _ _ _ (atom_shown a (All-head IsAtom a [] h)) (simp append-nil)) (λ b e. ap (λ c. (c ∷ [], None)) e))
+    (shows_as _ _ _ _ _ (atom_shown a (All-head IsFormedAtom a [] h)) (simp append-nil))
+    (λ b e. ap (λ c. (c ∷ [], None)) e))
 mixture_shown (a ∷ b ∷ others) None some h k several = let none : false ≡ true = several (omega arith) in absurd cc
 mixture_shown (a ∷ others) (Some w) some h k several = shows_right _ _ bare_mixture _ _
     (shows_made _ (atom ▸ many atom ▸ Word words.Wts ≫ list)
     (λ p. (bare_atom p.0, (map bare_atom p.1.0, bare_list p.1.1))) bare_mixture
     (bare_atom a, (map bare_atom others, bare_list w)) _ _
     (shows_as _ _ _ _ _ (shows_seq atom _ bare_atom (λ p. (map bare_atom p.0, bare_list p.1)) _ _ _ _
-    (atom_shown a (All-head IsAtom a others h))
+    (atom_shown a (All-head IsFormedAtom a others h))
     (shows_seq (many atom) _ (map bare_atom) bare_list _ _ _ _
-    (shows_many atom bare_atom atom_pieces IsAtom atom_shown others (All-tail IsAtom a others h))
+    (shows_many atom bare_atom atom_pieces IsFormedAtom atom_shown others (All-tail IsFormedAtom a others h))
     (behind_word words.Wts list bare_list _ _ (list_shown w k))))
     (simp append_assoc))
     (λ p e. ap (λ q. (q.0 ∷ q.1.0, Some q.1.1)) e))
@@ -230,7 +232,7 @@ bang_shown true = shows_seen _ (option_map piece_of) is_some _ _ _
 bang_shown false =
     shows_seen _ (option_map piece_of) is_some _ _ _ (shows_none (one (Sign signs.Bang)) piece_of) (λ y e. none_is y e)
 
-sev_shown : (s : SevAst) → IsSev s → Shows sev bare_sev (bare_sev s) (sev_pieces s)
+sev_shown : (s : SevAst) → IsFormedSeverity s → Shows sev bare_sev (bare_sev s) (sev_pieces s)
 unfolding sev sev_pieces
 sev_shown s h =
     shows_node _ _ (λ p. (bare_mixture p.0, is_some p.1)) bare_sev (bare_mixture (s.atoms, s.weights), s.bang) _ _
@@ -244,14 +246,14 @@ sev_shown s h =
 abbrev CededMade : (Span → CededLayer) → Span → CededLayer
 CededMade make span = bare_ceded (make span)
 
-part_shown : (k : Keyword) (n : Numeral) (l : Layer) → IsNumeral n → IsLayer l
+part_shown : (k : Keyword) (n : Numeral) (l : Layer) → IsFormedNumeral n → IsFormedLayer l
     → Shows {X = Numeral × Layer} {S = Numeral × Layer} (numeral ▸ Word k ≫ layer)
     (λ p. (bare_numeral p.0, bare_layer p.1))
     (bare_numeral n, bare_layer l) (numeral_piece n ++ (word_piece k ++ layer_pieces l))
 part_shown k n l h j = shows_seq numeral _ bare_numeral bare_layer _ _ _ _ (numeral_shown n h)
     (behind_word k layer bare_layer _ _ (layer_shown l j))
 
-ceded_of : (s : Share) (l : Layer) (span : Span) → IsShare s → IsLayer l
+ceded_of : (s : Share) (l : Layer) (span : Span) → IsFormedShare s → IsFormedLayer l
     → Shows cession bare_ceded (bare_ceded (record { share = s; layer = l; span = span }))
     (ceded_pieces (record { share = s; layer = l; span = span }))
 unfolding cession ceded_pieces share_pieces
@@ -272,21 +274,22 @@ ceded_of (shares.Po n) l span h k = shows_node _ _ CededMade bare_ceded _ _ _
     (λ m e. ap (λ q _. record { share = shares.Po q.0; layer = q.1; span = nowhere }) e))))
     (λ make at e. ap (λ m. m at) e)
 
-ceded_shown : (c : CededLayer) → IsCeded c → Shows cession bare_ceded (bare_ceded c) (ceded_pieces c)
+ceded_shown : (c : CededLayer) → IsFormedCeded c → Shows cession bare_ceded (bare_ceded c) (ceded_pieces c)
 ceded_shown c h = ceded_of c.share c.layer c.span h.share h.layer
 
-and_ceded_shown : (c : CededLayer) → IsCeded c → Shows next_cession bare_ceded (bare_ceded c) (and_ceded_pieces c)
+and_ceded_shown : (c : CededLayer) → IsFormedCeded c → Shows next_cession bare_ceded (bare_ceded c) (and_ceded_pieces c)
 unfolding next_cession and_ceded_pieces
 and_ceded_shown c h = behind_word words.And cession bare_ceded _ _ (ceded_shown c h)
 
-layers_shown : (cs : List CededLayer) → 0 < length cs → All IsCeded cs
+layers_shown : (cs : List CededLayer) → 0 < length cs → All IsFormedCeded cs
     → Shows (some_of cession next_cession) (map bare_ceded) (map bare_ceded cs) (ceded_layers_pieces cs)
 unfolding ceded_layers_pieces
 layers_shown [] some h = absurd (omega arith)
 layers_shown
     (c ∷ cs) some h =
-    shows_some_of cession next_cession bare_ceded ceded_pieces and_ceded_pieces IsCeded ceded_shown and_ceded_shown c cs
-    (All-head IsCeded c cs h) (All-tail IsCeded c cs h)
+    shows_some_of cession next_cession bare_ceded ceded_pieces and_ceded_pieces IsFormedCeded ceded_shown
+    and_ceded_shown c cs
+    (All-head IsFormedCeded c cs h) (All-tail IsFormedCeded c cs h)
 
 side_shown : (b : Bool) → Shows side (λ x. x) b (side_pieces b)
 unfolding side side_pieces
@@ -294,7 +297,7 @@ side_shown true = shows_left _ _ (λ x. x) _ _ (behind_word words.Net _ (λ x. x
 side_shown false =
     shows_right _ _ (λ x. x) _ _ (behind_word words.Ceded _ (λ x. x) _ _ (word_means words.To false (λ x. x)))
 
-clause_shown : (k : Keyword) (c : Cession) → IsCession c
+clause_shown : (k : Keyword) (c : Cession) → IsFormedCession c
     → Shows (clause (Word k)) bare_cession (bare_cession c) (clause_pieces k c)
 unfolding clause clause_pieces
 clause_shown k c h = shows_node _ _ (λ p. (p.0, map bare_ceded p.1)) bare_cession (c.net, map bare_ceded c.layers) _ _
@@ -303,17 +306,18 @@ clause_shown k c h = shows_node _ _ (λ p. (p.0, map bare_ceded p.1)) bare_cessi
     (simp append_assoc))
     (λ p at e. ap (λ q. record { net = q.0; layers = q.1; span = nowhere }) e)
 
-clause_option_shown : (k : Keyword) (o : Option Cession) → IfSome o IsCession
+clause_option_shown : (k : Keyword) (o : Option Cession) → IfSome o IsFormedCession
     → Shows (maybe (clause (Word k))) (option_map bare_cession) (option_map bare_cession o)
     (optional (clause_pieces k) o)
-clause_option_shown k o h = shows_maybe (clause (Word k)) bare_cession (clause_pieces k) IsCession (clause_shown k) o h
+clause_option_shown k o h = shows_maybe (clause (Word k)) bare_cession (clause_pieces k) IsFormedCession
+    (clause_shown k) o h
 
 -- claim counts
 
 abbrev FreqMade : (Span → FreqAst) → Span → FreqAst
 FreqMade make span = bare_freq (make span)
 
-freq_shown : (f : FreqAst) → IsFreq f → Shows freq bare_freq (bare_freq f) (freq_pieces f)
+freq_shown : (f : FreqAst) → IsFormedFrequency f → Shows freq bare_freq (bare_freq f) (freq_pieces f)
 unfolding freq freq_pieces
 freq_shown (freqs.Fixed span) h = shows_node _ _ FreqMade bare_freq _ _ _
     (shows_left _ _ FreqMade _ _ (word_means words.Fixed (λ at. freqs.Fixed at) FreqMade))
@@ -355,7 +359,8 @@ premium_shown : Shows premium piece_of (record { kind = Word words.Premium; text
 unfolding premium
 premium_shown = shows_right _ _ piece_of _ _ (shows_one (Word words.Premium) (spelling words.Premium) refl)
 
-exposure_shown : (x : Exposure) → IsExposure x → Shows exposure bare_exposure (bare_exposure x) (exposure_pieces x)
+exposure_shown : (x : Exposure) → IsFormedExposure x
+    → Shows exposure bare_exposure (bare_exposure x) (exposure_pieces x)
 unfolding exposure exposure_pieces
 exposure_shown (Claims n span) h = shows_node _ _ ExposureMade bare_exposure _ _ _
     (shows_left _ _ ExposureMade _ _ (shows_made _ _ _ ExposureMade _ _ _
@@ -375,7 +380,7 @@ exposure_shown (Premium n r span) h = shows_node _ _ ExposureMade bare_exposure 
     (λ p e. ap (λ q _. Premium q.0 q.1.1 nowhere) e))))
     (λ make at e. ap (λ m. m at) e)
 
-listed_shown : (l : ListAst) (o : Option ListAst) (span : Span) → IsList l → IfSome o IsList
+listed_shown : (l : ListAst) (o : Option ListAst) (span : Span) → IsFormedList l → IfSome o IsFormedList
     → Shows listed bare_count (bare_count (Listed l o span)) (listed_pieces l o)
 unfolding listed listed_pieces
 listed_shown l o span h k = shows_node _ _ bare_lists bare_count _ _ _
@@ -384,13 +389,14 @@ listed_shown l o span h k = shows_node _ _ bare_lists bare_count _ _ _
 
 -- units and programs
 
-note_option_shown : (o : Option (List ℕ)) → IfSome o IsNote → Shows (maybe note) (λ x. x) o (optional note_piece o)
+note_option_shown : (o : Option (List ℕ)) → IfSome o IsFormedNote
+    → Shows (maybe note) (λ x. x) o (optional note_piece o)
 note_option_shown o h =
-    shows_seen _ (option_map (λ x. x)) (λ x. x) _ _ _ (shows_maybe note (λ x. x) note_piece IsNote note_shown o h)
+    shows_seen _ (option_map (λ x. x)) (λ x. x) _ _ _ (shows_maybe note (λ x. x) note_piece IsFormedNote note_shown o h)
     (λ y e. sym (option_map_id y) ∙ e ∙ option_map_id o)
 
 unit_of : (n : NameAst) (c : CountAst) (l : Option Layer) (s : SevAst) (o a : Option Cession) (t : Option (List ℕ))
-    → IsUnit (record { name = n; count = c; layer = l; sev = s; occ = o; agr = a; note = t })
+    → IsFormedUnit (record { name = n; count = c; layer = l; sev = s; occ = o; agr = a; note = t })
     → Shows unit bare_unit (bare_unit (record { name = n; count = c; layer = l; sev = s; occ = o; agr = a; note = t }))
     (unit_pieces (record { name = n; count = c; layer = l; sev = s; occ = o; agr = a; note = t }))
 unfolding unit unit_pieces count_pieces late_count_pieces
@@ -436,10 +442,10 @@ unit_of n (Listed c p span) l s o a t h = shows_right _ _ bare_unit _ _ (shows_m
       note = q.1.1.1.1.1.1;
     }) e))
 
-unit_shown : (u : UnitAst) → IsUnit u → Shows unit bare_unit (bare_unit u) (unit_pieces u)
+unit_shown : (u : UnitAst) → IsFormedUnit u → Shows unit bare_unit (bare_unit u) (unit_pieces u)
 unit_shown u h = unit_of u.name u.count u.layer u.sev u.occ u.agr u.note h
 
-head_shown : (h : PortHead) → IsHead h → Shows head bare_head (bare_head h) (head_pieces h)
+head_shown : (h : PortHead) → IsFormedHead h → Shows head bare_head (bare_head h) (head_pieces h)
 unfolding head head_pieces
 head_shown h k = shows_made _ _ _ bare_head _ _ _
     (shows_as _ _ _ _ _ (behind_word words.Port _ _ _ _
@@ -452,16 +458,16 @@ program_of : (h : Option PortHead) (us : List UnitAst) → IsWellFormed (record 
 unfolding program program_pieces optional
 program_of None [] w = absurd (omega (arith, w.some))
 program_of None (u ∷ []) w = shows_left _ _ bare _ _ (shows_made _ unit bare_unit bare (bare_unit u) _ _
-    (shows_as _ _ _ _ _ (unit_shown u (All-head IsUnit u [] w.units)) (simp append-nil))
+    (shows_as _ _ _ _ _ (unit_shown u (All-head IsFormedUnit u [] w.units)) (simp append-nil))
     (λ v e. ap (λ x. record { port = None; units = x ∷ [] }) e))
 program_of None (u ∷ v ∷ us) w = let one : suc (suc (length us)) ≡ 1 = w.one refl in absurd (omega arith)
 program_of (Some h) [] w = absurd (omega (arith, w.some))
 program_of (Some h) (u ∷ us) w = shows_right _ _ bare _ _ (shows_made _ (head ▸ some_of unit unit)
     (λ p. (bare_head p.0, map bare_unit p.1)) bare (bare_head h, map bare_unit (u ∷ us)) _ _
     (shows_seq head _ bare_head (map bare_unit) _ _ _ _ (head_shown h w.head)
-    (shows_some_of unit unit bare_unit unit_pieces unit_pieces IsUnit unit_shown unit_shown u us
-    (All-head IsUnit u us w.units)
-    (All-tail IsUnit u us w.units)))
+    (shows_some_of unit unit bare_unit unit_pieces unit_pieces IsFormedUnit unit_shown unit_shown u us
+    (All-head IsFormedUnit u us w.units)
+    (All-tail IsFormedUnit u us w.units)))
     (λ p e. ap (λ q. record { port = Some q.0; units = q.1 }) e))
 
 -- so is the program

@@ -27,7 +27,8 @@ begins_line _ = false
 -- what stands between two neighbours: nothing, a newline or a blank
 unfoldable pub between : Kind → Kind → List ℕ
 between j k =
-    if is_tight_behind j || is_tight_before k then [] else if begins_line k then codes "\n" else codes " "
+    if is_tight_behind j || is_tight_before k then [] else if begins_line k then codes "\n"
+    else codes " "
 
 -- what stands before a token; at the start of the text nothing does
 unfoldable pub gap : Option Kind → Kind → List ℕ

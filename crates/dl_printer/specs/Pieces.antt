@@ -148,7 +148,8 @@ late_count_pieces (Listed _ _ _) = []
 
 unfoldable pub unit_pieces : UnitAst → List Piece
 unit_pieces u =
-    word_piece words.Agg ++ name_piece u.name ++ count_pieces u.count ++ optional layer_pieces u.layer
+    word_piece words.Agg ++ name_piece u.name ++ count_pieces u.count
+    ++ optional layer_pieces u.layer
     ++ sev_pieces u.sev ++ optional (clause_pieces words.Occurrence) u.occ
     ++ late_count_pieces u.count ++ optional (clause_pieces words.Aggregate) u.agr
     ++ optional note_piece u.note

@@ -1,9 +1,12 @@
 //! Layers, and the clauses that cede them.
 
 ghost use Rattle.std.specs.Prelude.{◌≡◌, flat_map, OnOk};
-ghost use Rattle.dl_printer.specs.Pieces.{optional, limit_pieces, layer_pieces, share_pieces, ceded_pieces, and_ceded_pieces, ceded_layers_pieces, side_pieces, clause_pieces};
+ghost use Rattle.dl_printer.specs.Pieces.{optional, limit_pieces, share_pieces, ceded_pieces};
+ghost use Rattle.dl_printer.specs.Pieces.{and_ceded_pieces, ceded_layers_pieces, side_pieces};
+ghost use Rattle.dl_printer.specs.Pieces.{clause_pieces};
 ghost use Rattle.dl_printer.specs.Printing.{with_pieces};
 
+use crate::parts::Printed;
 use crate::printer::Printer;
 use dl_ast::{CededLayer, Cession, Layer, LimitAst, Share};
 use dl_lexer::Keyword;
@@ -20,28 +23,22 @@ impl Printer {
             LimitAst::Infinite => self.word(Keyword::Inf),
         }
     }
+}
 
-    /// A layer.
+impl Printed for Layer {
+    ghost use Rattle.dl_printer.specs.Pieces.{layer_pieces};
+
+    ghost pieces = { layer_pieces };
+
     #[tactic(auto, using(crate::proofs::Growing::with_append), unfolding(crate::specs::Pieces::layer_pieces))]
-    fn layer(&mut self, layer: &Layer) -> Result<(), AllocError>
-        ensures { OnOk result (self.new ≡ with_pieces self.old (layer_pieces layer.now)) }
-    {
-        self.limit(&layer.limit)?;
-        self.word(Keyword::Xs)?;
-        self.numeral(&layer.attach)
+    fn print(&self, printer: &mut Printer) -> Result<(), AllocError> {
+        printer.limit(&self.limit)?;
+        printer.word(Keyword::Xs)?;
+        printer.numeral(&self.attach)
     }
+}
 
-    /// A layer, where there is one.
-    #[tactic(auto, unfolding(crate::specs::Pieces::optional, crate::specs::Printing::with_pieces))]
-    pub(crate) fn layer_option(&mut self, layer: &Option<Layer>) -> Result<(), AllocError>
-        ensures { OnOk result (self.new ≡ with_pieces self.old (optional layer_pieces layer.now)) }
-    {
-        match layer {
-            Some(layer) => self.layer(layer),
-            None => Ok(()),
-        }
-    }
-
+impl Printer {
     /// How much of a layer is ceded.
     #[tactic(auto, using(crate::proofs::Growing::with_append), unfolding(crate::specs::Pieces::share_pieces, crate::specs::Printing::with_pieces))]
     fn share(&mut self, share: &Share) -> Result<(), AllocError>
@@ -66,7 +63,7 @@ impl Printer {
         ensures { OnOk result (self.new ≡ with_pieces self.old (ceded_pieces ceded.now)) }
     {
         self.share(&ceded.share)?;
-        self.layer(&ceded.layer)
+        ceded.layer.print(self)
     }
 
     /// The same behind `and`.

@@ -3,8 +3,10 @@
 ghost use Rattle.std.specs.Prelude.{◌≡◌, [], ◌∷◌, ◌++◌, codes, IfOk, OnOk};
 ghost use Rattle.dl_lexer.specs.declared.token.Sign.{Sign};
 ghost use Rattle.dl_lexer.specs.Tokens.{sign_byte};
-ghost use Rattle.dl_printer.specs.Pieces.{piece, word_piece, sign_piece, name_piece, numeral_piece, note_piece};
-ghost use Rattle.dl_printer.specs.Canonical.{is_tight_behind, is_tight_before, begins_line, between};
+ghost use Rattle.dl_printer.specs.Pieces.{piece, word_piece, sign_piece, name_piece, numeral_piece};
+ghost use Rattle.dl_printer.specs.Pieces.{note_piece};
+ghost use Rattle.dl_printer.specs.Canonical.{is_tight_behind, is_tight_before, begins_line};
+ghost use Rattle.dl_printer.specs.Canonical.{between};
 ghost use Rattle.dl_printer.specs.Printing.{with_pieces};
 
 use dl_ast::{NameAst, Numeral};

@@ -2,6 +2,7 @@
 
 use super::*;
 use dl_lexer::lex;
+use dl_limits::MOST_TEXT;
 use dl_parser::parse;
 
 /// A text, and the canonical text of its program.
@@ -46,7 +47,7 @@ const CASES: [(&[u8], &[u8]); 9] = [
 
 /// Whether a text is a program whose canonical text is this one.
 fn is_printed(alloc: Global, source: &[u8], wanted: &[u8]) -> bool {
-    if source.len() > 1048576 {
+    if source.len() > MOST_TEXT {
         return false;
     }
     let Ok(tokens) = lex(alloc, source) else {

@@ -1,26 +1,17 @@
 //! Units, and the program that is made of them.
 
-ghost use Rattle.std.specs.Prelude.{◌≡◌, flat_map, OnOk};
-ghost use Rattle.dl_printer.specs.Pieces.{optional, note_piece, freq_pieces, exposure_pieces, listed_pieces, count_pieces, late_count_pieces, unit_pieces, head_pieces, program_pieces};
+ghost use Rattle.std.specs.Prelude.{◌≡◌, OnOk};
+ghost use Rattle.dl_printer.specs.Pieces.{freq_pieces, exposure_pieces, listed_pieces};
+ghost use Rattle.dl_printer.specs.Pieces.{count_pieces, late_count_pieces, program_pieces};
 ghost use Rattle.dl_printer.specs.Printing.{with_pieces};
 
+use crate::parts::Printed;
 use crate::printer::Printer;
 use dl_ast::{CountAst, Exposure, FreqAst, ListAst, PortHead, Program, UnitAst};
 use dl_lexer::{Keyword, Text};
 use std::alloc::AllocError;
 
 impl Printer {
-    /// A note, where there is one.
-    #[tactic(auto, unfolding(crate::specs::Pieces::optional, crate::specs::Printing::with_pieces))]
-    fn note_option(&mut self, note: &Option<Text>) -> Result<(), AllocError>
-        ensures { OnOk result (self.new ≡ with_pieces self.old (optional note_piece note.now)) }
-    {
-        match note {
-            Some(note) => self.note(note),
-            None => Ok(()),
-        }
-    }
-
     /// The distribution of the claim count.
     #[tactic(auto, using(crate::proofs::Growing::with_append), unfolding(crate::specs::Pieces::freq_pieces))]
     fn freq(&mut self, freq: &FreqAst) -> Result<(), AllocError>
@@ -73,8 +64,8 @@ impl Printer {
             (listed_pieces counts.now probs.now)) }
     {
         self.word(Keyword::Dfreq)?;
-        self.list(counts)?;
-        self.list_option(probs)
+        counts.print(self)?;
+        self.option(probs)
     }
 
     /// What the claim count puts before the layer.
@@ -99,54 +90,55 @@ impl Printer {
         }
     }
 
-    /// A unit.
-    #[tactic(auto, using(crate::proofs::Growing::with_append), unfolding(crate::specs::Pieces::unit_pieces))]
-    fn unit(&mut self, unit: &UnitAst) -> Result<(), AllocError>
-        ensures { OnOk result (self.new ≡ with_pieces self.old (unit_pieces unit.now)) }
-    {
-        self.word(Keyword::Agg)?;
-        self.name(&unit.name)?;
-        self.count(&unit.count)?;
-        self.layer_option(&unit.layer)?;
-        self.sev(&unit.sev)?;
-        self.clause_option(Keyword::Occurrence, &unit.occ)?;
-        self.late_count(&unit.count)?;
-        self.clause_option(Keyword::Aggregate, &unit.agr)?;
-        self.note_option(&unit.note)
-    }
-
-    /// The units of a program.
-    #[tactic(auto, using(crate::proofs::Growing::with_each), unfolding(crate::specs::Printing::with_pieces))]
-    fn units(&mut self, units: &[UnitAst]) -> Result<(), AllocError>
-        ensures { OnOk result (self.new ≡ with_pieces self.old (flat_map unit_pieces units.now)) }
-    {
-        for unit in units {
-            self.unit(unit)?;
-        }
-        Ok(())
-    }
-
-    /// The head of a portfolio, where there is one.
-    #[tactic(auto, using(crate::proofs::Growing::with_append), unfolding(crate::specs::Pieces::optional, crate::specs::Pieces::head_pieces, crate::specs::Printing::with_pieces))]
-    fn head_option(&mut self, head: &Option<PortHead>) -> Result<(), AllocError>
-        ensures { OnOk result (self.new ≡ with_pieces self.old (optional head_pieces head.now)) }
-    {
-        match head {
-            Some(head) => {
-                self.word(Keyword::Port)?;
-                self.name(&head.name)?;
-                self.note_option(&head.note)
-            }
-            None => Ok(()),
-        }
-    }
-
     /// A program.
     #[tactic(auto, using(crate::proofs::Growing::with_append), unfolding(crate::specs::Pieces::program_pieces))]
     pub(crate) fn program(&mut self, program: &Program) -> Result<(), AllocError>
         ensures { OnOk result (self.new ≡ with_pieces self.old (program_pieces program.now)) }
     {
-        self.head_option(&program.port)?;
-        self.units(program.units.as_slice())
+        self.option(&program.port)?;
+        self.each(program.units.as_slice())
+    }
+}
+
+impl Printed for Text {
+    ghost use Rattle.dl_printer.specs.Pieces.{note_piece};
+
+    ghost pieces = { note_piece };
+
+    /// A note.
+    fn print(&self, printer: &mut Printer) -> Result<(), AllocError> {
+        printer.note(self)
+    }
+}
+
+impl Printed for UnitAst {
+    ghost use Rattle.dl_printer.specs.Pieces.{unit_pieces};
+
+    ghost pieces = { unit_pieces };
+
+    #[tactic(auto, using(crate::proofs::Growing::with_append), unfolding(crate::specs::Pieces::unit_pieces))]
+    fn print(&self, printer: &mut Printer) -> Result<(), AllocError> {
+        printer.word(Keyword::Agg)?;
+        printer.name(&self.name)?;
+        printer.count(&self.count)?;
+        printer.option(&self.layer)?;
+        printer.sev(&self.sev)?;
+        printer.clause_option(Keyword::Occurrence, &self.occ)?;
+        printer.late_count(&self.count)?;
+        printer.clause_option(Keyword::Aggregate, &self.agr)?;
+        printer.option(&self.note)
+    }
+}
+
+impl Printed for PortHead {
+    ghost use Rattle.dl_printer.specs.Pieces.{head_pieces};
+
+    ghost pieces = { head_pieces };
+
+    #[tactic(auto, using(crate::proofs::Growing::with_append), unfolding(crate::specs::Pieces::head_pieces))]
+    fn print(&self, printer: &mut Printer) -> Result<(), AllocError> {
+        printer.word(Keyword::Port)?;
+        printer.name(&self.name)?;
+        printer.option(&self.note)
     }
 }

@@ -3,7 +3,7 @@ use Rattle.std.proofs.Common.{rules, sym, [], ◌∷◌, ◌++◌, ap, ◌∙◌
 use Rattle.std.proofs.lemmas.List.{append-nil}
 use Rattle.dl_parser.specs.Factored.{atom}
 use Rattle.dl_parser.proofs.Loops.{loop_at_start, loop_goes_on, loop_ends}
-use Rattle.dl_parser.proofs.Plain.{plain_atoms}
+use Rattle.dl_parser.specs.Plain.{plain}
 use Rattle.dl_parser.proofs.Steps.{fewer_tokens}
 use Rattle.dl_parser.proofs.cursor.Parser.more_atoms.Goals as goal
 
@@ -12,7 +12,7 @@ atoms-init c = record { source = search rules; so_far = ([], sym (append-nil _),
 
 pub atoms-smaller : goal.atoms-smaller
 atoms-smaller c =
-    fewer_tokens atom plain_atoms c.atoms.self c.atom.new.self c.in_ok-atom.field-0 c.in_ok-atom.ensures.reads
+    fewer_tokens atom plain.by_atoms c.atoms.self c.atom.new.self c.in_ok-atom.field-0 c.in_ok-atom.ensures.reads
 
 pub atoms-preserved : goal.atoms-preserved
 atoms-preserved c =
@@ -22,7 +22,7 @@ atoms-preserved c =
       so_far = (
         before.0 ++ c.in_ok-atom.field-0 ∷ [],
         c.in_ok-push.ensures.items ∙ ap (λ xs. xs ++ c.in_ok-atom.field-0 ∷ []) before.1 ∙ append_assoc _ before.0 _,
-        loop_goes_on atom plain_atoms _ _ _ _ _ before.2 (sym c.atoms-test.ensures) c.in_ok-atom.ensures.reads,
+        loop_goes_on atom plain.by_atoms _ _ _ _ _ before.2 (sym c.atoms-test.ensures) c.in_ok-atom.ensures.reads,
       );
     }
 

@@ -1,7 +1,8 @@
-//! Texts worked by hand from the grammar.
+//! The parser: texts worked by hand from the grammar.
 
-use super::*;
 use dl_lexer::lex;
+use dl_limits::MOST_TEXT;
+use dl_parser::{ParseFault, parse};
 use std::alloc::Global;
 
 /// What a text should give: its number of units, or its fault.
@@ -219,7 +220,7 @@ const CASES: [Case; 84] = [
 
 /// How many units the program has, or why there is none; nothing where the text has no tokens.
 fn units(alloc: Global, source: &[u8]) -> Option<Result<usize, ParseFault>> {
-    if source.len() > 1048576 {
+    if source.len() > MOST_TEXT {
         return None;
     }
     let Ok(tokens) = lex(alloc, source) else {

@@ -1,0 +1,17 @@
+-- What the loop over parts has read, and that tokens are taken.
+use Rattle.std.proofs.Common.{◌≡◌, length}
+use Rattle.dl_ast.specs.Grammar.{some_of}
+use Rattle.dl_parser.specs.Reading.{read}
+use Rattle.dl_parser.specs.Parsing.{place}
+use Rattle.dl_parser.proofs.Loops.{Loops}
+use Rattle.dl_parser.proofs.cursor.Parser.parts.Given as goal
+
+abbrev pub invariant-parts : goal.invariant-parts
+invariant-parts g l = record {
+  source : l.self.source ≡ l.fn.self.source;
+  so_far : Loops g.T.Part.next_rule
+      (read (some_of g.T.Part.first_rule g.T.Part.next_rule) (place l.fn.self)) (place l.self) l.parts.items;
+}
+
+abbrev pub decreases-parts : goal.decreases-parts
+decreases-parts g l = length l.self.rest.now

@@ -1,0 +1,8 @@
+-- What the parts so far have added.
+use Rattle.std.proofs.Common.{◌≡◌, take}
+use Rattle.std.specs.List.{flat_map}
+use Rattle.dl_printer.specs.Printing.{with_pieces}
+use Rattle.dl_printer.proofs.printer.Printer.each.Given as goal
+
+abbrev pub invariant-loop-part : goal.invariant-loop-part
+invariant-loop-part g l = l.self ≡ with_pieces l.fn.self (flat_map g.T.Printed.pieces (take l.part-index l.parts))
