@@ -1,5 +1,5 @@
 -- The ends of the cells of a grid, and the convolution's rounding read as the grid's own facts.
-use Rattle.std.proofs.Common.{ℕ, zero, suc, ◌≡◌, ◌+◌, ◌-◌, ◌*◌, ◌/◌, ◌^◌, ◌<◌, ◌≤◌, List, [], ◌∷◌, length, arith, refl, ap, ap₂, inl, inr, ◌∙◌, get_or}
+use Rattle.std.proofs.Common.{ℕ, suc, ◌≡◌, ◌+◌, ◌-◌, ◌*◌, ◌/◌, ◌^◌, ◌<◌, ◌≤◌, List, [], ◌∷◌, length, arith, refl, ap, ap₂, inl, inr, ◌∙◌, get_or}
 use Rattle.std.specs.Prelude.{All, min, sum}
 use Rattle.std.specs.Int.{div_ceil}
 use Rattle.std.proofs.Math.Nat.{mul-le-mul}
@@ -8,17 +8,18 @@ use Rattle.std.proofs.lemmas.Nat.{pow_pos}
 use Rattle.std.proofs.lemmas.Bool.{cases_lt}
 use Rattle.std.proofs.lemmas.Grind.{get_or_default_zero}
 use Rattle.std.proofs.lemmas.List.Sums.{sum_by-cons}
+use Rattle.dl_limits.specs.Limits.{most_cells}
 use Rattle.dl_iv.specs.declared.interval.Iv.{Iv}
 use Rattle.dl_grid.specs.Cells.{low_at, high_at, spread, IsGrid, AreEnds}
 use Rattle.dl_exact.specs.Count.{count_pairs, count_below}
+use Rattle.dl_grid.specs.Convolution.{IsConvolution}
 use Rattle.dl_grid.specs.Width.{cv}
-use Rattle.dl_conv.specs.Sums.{pair_sum}
-use Rattle.dl_grid.proofs.CellLaws.{scale_of, one_fits, high_fits}
+use Rattle.dl_grid.proofs.CellLaws.{scale_of, high_fits}
 use Rattle.dl_grid.proofs.EndLists.{low_le_high}
-use Rattle.dl_exact.proofs.Counts.{below_more, below_first, below_bound, below_same, below_pairs, pairs_same, pairs_le}
+use Rattle.dl_exact.proofs.Counts.{below_first, below_bound, below_same, below_pairs, pairs_same, pairs_le}
 use Rattle.dl_grid.proofs.PlaceSums.{width_at, high_is, low_within, width_within, whole_spread}
 use Rattle.dl_grid.proofs.WidthLaws.{cv_is}
-use Rattle.dl_grid.proofs.Products.{pairs_top, floors_top, rounded_order, rounded_spread_le}
+use Rattle.dl_grid.proofs.Products.{pairs_top, floors_within, rounded_order, rounded_spread_le}
 
 -- the sums of products of low ends and of high ends
 abbrev pub lows : {B : ℕ} → List (Iv B) → List (Iv B) → ℕ → ℕ
@@ -28,39 +29,58 @@ abbrev pub highs : {B : ℕ} → List (Iv B) → List (Iv B) → ℕ → ℕ
 highs a b s = count_pairs s (λ i j. high_at a i * high_at b j)
 
 -- a cell's ends are in order
-pub ends_order : {B : ℕ} (a b : List (Iv B)) (s : ℕ) → IsGrid a → IsGrid b → lows a b s / 2 ^ B ≤ min (2 ^ B) (div_ceil (highs a b s) (2 ^ B))
+pub ends_order : {B : ℕ} (a b : List (Iv B)) (s : ℕ) → IsGrid a → IsGrid b
+    → lows a b s / 2 ^ B ≤ min (2 ^ B) (div_ceil (highs a b s) (2 ^ B))
 ends_order {B} a b s p q = rounded_order (2 ^ B) (lows a b s) (highs a b s) (pow_pos B)
     (pairs_le s _ _ (λ i j. mul-le-mul (low_le_high a i) (low_le_high b j)))
-    (pairs_top s (2 ^ B) (low_at a) (low_at b) (omega (arith, low_within (s + 1) a, p.mass)) (omega (arith, low_within (s + 1) b, q.mass)))
+    (pairs_top s (2 ^ B) (low_at a) (low_at b) (omega (arith, low_within (s + 1) a, p.mass))
+    (omega (arith, low_within (s + 1) b, q.mass)))
 
 -- and their widths to at most what the width rule says
 pub convolved_spread : {B : ℕ} (a b cells : List (Iv B)) (n : ℕ) → IsGrid a → IsGrid b → length cells ≡ n
-    → ((s : ℕ) → s < n → low_at cells s ≡ lows a b s / 2 ^ B)
-    → ((s : ℕ) → s < n → high_at cells s ≡ min (2 ^ B) (div_ceil (highs a b s) (2 ^ B)))
-    → spread cells ≤ cv (2 ^ B) n (spread a) (spread b)
-convolved_spread {B} a b cells n p q e low high =
-    let rounded = rounded_spread_le n (2 ^ B) (spread a) (spread b) (low_at a) (width_at a) (low_at b) (width_at b) (pow_pos B)
-    (omega (arith, low_within n a, p.mass)) (width_within n a) (omega (arith, low_within n b, q.mass)) (width_within n b) in
-    let parts : (s : ℕ) → highs a b s ≡ count_pairs s (λ i j. (low_at a i + width_at a i) * (low_at b j + width_at b j)) =
+    → IsConvolution n a b cells → spread cells ≤ cv (2 ^ B) n (spread a) (spread b)
+convolved_spread {B} a b cells n p q e rounded_ends =
+    let rounded = rounded_spread_le n (2 ^ B) (spread a) (spread b) (low_at a) (width_at a) (low_at b)
+    (width_at b) (pow_pos B)
+    (omega (arith, low_within n a, p.mass)) (width_within n a) (omega (arith, low_within n b, q.mass))
+    (width_within n b) in
+    let parts : (s : ℕ) → highs a b s ≡ count_pairs s
+    (λ i j. (low_at a i + width_at a i) * (low_at b j + width_at b j)) =
     λ s. pairs_same s _ _ (λ i j. ap₂ (λ u v. u * v) (high_is a i) (high_is b j)) in
     let each : (s : ℕ) → s < n
-    → width_at cells s ≡ min (2 ^ B) (div_ceil (count_pairs s (λ i j. (low_at a i + width_at a i) * (low_at b j + width_at b j))) (2 ^ B)) - lows a b s / 2 ^ B =
-    λ s inside. ap₂ (λ u v. u - v) (high s inside ∙ ap (λ t. min (2 ^ B) (div_ceil t (2 ^ B))) (parts s)) (low s inside) in
-    omega (arith, rounded, whole_spread n cells e, below_same n (width_at cells) _ each, cv_is (2 ^ B) n (spread a) (spread b) (pow_pos B))
+    → width_at cells s ≡ min (2 ^ B)
+    (div_ceil (count_pairs s (λ i j. (low_at a i + width_at a i) * (low_at b j + width_at b j))) (2 ^ B)) - lows a
+    b s / 2 ^ B =
+    λ s inside. ap₂ (λ u v. u - v) (rounded_ends.high s inside ∙ ap (λ t. min (2 ^ B) (div_ceil t (2 ^ B))) (parts s))
+    (rounded_ends.low s inside) in
+    omega (
+      arith,
+      rounded,
+      whole_spread n cells e,
+      below_same n (width_at cells) _ each,
+      cv_is (2 ^ B) n (spread a) (spread b) (pow_pos B),
+    )
 
 -- a list of numbers by its places
 pub sum_total : (xs : List ℕ) → sum xs ≡ count_below (length xs) (λ k. get_or xs k 0)
 unfolding count_below
 sum_total [] = refl
-sum_total (x ∷ xs) = omega (arith, sum_by-cons (λ (e : ℕ). e) x xs, below_first (length xs) (λ k. get_or (x ∷ xs) k 0), sum_total xs)
+sum_total (x ∷ xs) = omega (
+  arith,
+  sum_by-cons (λ (e : ℕ). e) x xs,
+  below_first (length xs) (λ k. get_or (x ∷ xs) k 0),
+  sum_total xs,
+)
 
 -- two lists that hold the rounded sums of the first cells are the ends of a grid
-pub convolved_ends : {B : ℕ} (a b : List (Iv B)) (downs ups : List ℕ) (n : ℕ) → IsGrid a → IsGrid b → 1 ≤ n → n ≤ length a → length downs ≡ n
+pub convolved_ends : {B : ℕ} (a b : List (Iv B)) (downs ups : List ℕ) (n : ℕ) → IsGrid a → IsGrid b → 1 ≤ n
+    → n ≤ length a → length downs ≡ n
     → length ups ≡ n → ((s : ℕ) → s < n → get_or downs s 0 ≡ lows a b s / 2 ^ B)
     → ((s : ℕ) → s < n → get_or ups s 0 ≡ min (2 ^ B) (div_ceil (highs a b s) (2 ^ B))) → AreEnds B downs ups
 convolved_ends {B} a b downs ups n p q some within e h low high =
     let scale = scale_of a p.some in
-    let top = floors_top n (2 ^ B) (low_at a) (low_at b) (pow_pos B) (omega (arith, low_within n a, p.mass)) (omega (arith, low_within n b, q.mass)) in
+    let top = floors_within n (2 ^ B) (2 ^ B) (low_at a) (low_at b) (pow_pos B) (omega (arith, low_within n a, p.mass))
+    (omega (arith, low_within n b, q.mass)) in
     record {
       scale_above = scale.0;
       scale_below = scale.1;
@@ -81,46 +101,19 @@ convolved_ends {B} a b downs ups n p q some within e h low high =
       );
     }
 
--- what a loop adds up: no sum passes 128 bits
-pub end_fits : (xs : List ℕ) → All (λ x. x ≤ 2 ^ 56) xs → (k : ℕ) → get_or xs k 0 ≤ 2 ^ 56
-end_fits xs small k = elim (cases_lt k (length xs)) [
-  | inl inside ↦ small k 0 inside
-  | inr past ↦ omega (arith, get_or-eq_default xs 0 {n = k} past)
-]
-
-pub whole_sum : (i s total : ℕ) (f : ℕ → ℕ → ℕ) → i ≡ suc s → total ≡ count_below i (λ k. f k (s - k)) → total ≡ count_pairs s f
-whole_sum i s total f e h = h ∙ ap (λ n. count_below n (λ k. f k (s - k))) e ∙ below_pairs s f
-
-pub highs_fit : {B : ℕ} (a b : List (Iv B)) (s : ℕ) → IsGrid a → IsGrid b → s < 16384 → highs a b s ≤ 2 ^ 127
+pub highs_fit : {B : ℕ} (a b : List (Iv B)) (s : ℕ) → IsGrid a → IsGrid b → s < most_cells → highs a b s ≤ 2 ^ 127
 highs_fit a b s p q few =
     let bound : count_below (suc s) (λ i. high_at a i * high_at b (s - i)) ≤ suc s * (2 ^ 56 * 2 ^ 56) =
-    below_bound (suc s) (2 ^ 56 * 2 ^ 56) (λ i. high_at a i * high_at b (s - i)) (λ i inside. mul-le-mul (high_fits a i p) (high_fits b (s - i) q)) in
+    below_bound (suc s) (2 ^ 56 * 2 ^ 56) (λ i. high_at a i * high_at b (s - i))
+    (λ i inside. mul-le-mul (high_fits a i p) (high_fits b (s - i) q)) in
     omega (arith, below_pairs s (λ i j. high_at a i * high_at b j), bound)
 
 pub all_fit : {B : ℕ} (a b : List (Iv B)) (sums : List ℕ) (n : ℕ) → IsGrid a → IsGrid b → n ≤ length a → length sums ≡ n
     → ((s : ℕ) → s < n → get_or sums s 0 ≡ highs a b s) → All (λ sum. sum ≤ 2 ^ 127) sums
 all_fit a b sums n p q within long holds k d inside =
-    omega (arith, get_or_default_zero sums k d inside, holds k (omega (arith, long)), highs_fit a b k p q (omega (arith, long, p.few)))
-
-pub sum_more : (i total part x y : ℕ) (f : ℕ → ℕ) → total ≡ count_below i f → part ≡ x * y → x * y ≡ f i → total + part ≡ count_below (i + 1) f
-sum_more i total part x y f e h k = omega (arith, below_more i f, e, h, k)
-
-pub sum_fits : (i total part x y : ℕ) (f g : ℕ → ℕ) → i < 16384 → total ≡ count_below i (λ k. f k * g k) → ((k : ℕ) → f k ≤ 2 ^ 56) → ((k : ℕ) → g k ≤ 2 ^ 56)
-    → part ≡ x * y → x ≤ 2 ^ 56 → y ≤ 2 ^ 56 → total + part < 2 ^ 128
-sum_fits i total part x y f g few e p q h r t =
-    let before : count_below i (λ k. f k * g k) ≤ i * (2 ^ 56 * 2 ^ 56) = below_bound i (2 ^ 56 * 2 ^ 56) (λ k. f k * g k) (λ k inside. mul-le-mul (p k) (q k)) in
-    let here : x * y ≤ 2 ^ 56 * 2 ^ 56 = mul-le-mul r t in
-    omega (arith, before, here, e, h)
-
--- no end of a grid is above 2^56
-pub ends_below : {B : ℕ} {cells : List (Iv B)} (ends : List ℕ) → IsGrid cells → All (λ e. e ≤ 2 ^ B) ends → All (λ e. e ≤ 2 ^ 56) ends
-ends_below {B} {cells} ends p small k d inside = omega (arith, small k d inside, one_fits B (scale_of cells p.some).1)
-
--- sums over lists of ends are sums over cells
-pub sums_low : {B : ℕ} (a b : List (Iv B)) (xs ys : List ℕ) (s : ℕ) → ((x : ℕ) → get_or xs x 0 ≡ low_at a x) → ((x : ℕ) → get_or ys x 0 ≡ low_at b x)
-    → pair_sum xs ys s ≡ lows a b s
-sums_low a b xs ys s e h = pairs_same s _ _ (λ i j. ap₂ (λ u v. u * v) (e i) (h j))
-
-pub sums_high : {B : ℕ} (a b : List (Iv B)) (xs ys : List ℕ) (s : ℕ) → ((x : ℕ) → get_or xs x 0 ≡ high_at a x) → ((x : ℕ) → get_or ys x 0 ≡ high_at b x)
-    → pair_sum xs ys s ≡ highs a b s
-sums_high a b xs ys s e h = pairs_same s _ _ (λ i j. ap₂ (λ u v. u * v) (e i) (h j))
+    omega (
+      arith,
+      get_or_default_zero sums k d inside,
+      holds k (omega (arith, long)),
+      highs_fit a b k p q (omega (arith, long, p.few)),
+    )

@@ -1,44 +1,25 @@
 -- Lists of numbers that a loop fills place by place.
-use Rattle.std.proofs.Common.{ℕ, ◌≡◌, ◌+◌, ◌<◌, ◌≤◌, List, ◌++◌, length, get_or, set, take, drop, arith, ap, refl, inl, inr, ◌∙◌}
-use Rattle.std.proofs.lemmas.List.{take_all, drop_all, append-nil, get_or-set_same, get_or-set_other}
-use Rattle.std.proofs.lemmas.Bool.Decides.{eqb_tells}
+use Rattle.std.proofs.Common.{ℕ, ◌≡◌, ◌<◌, ◌≤◌, List, ◌++◌, length, get_or, take, drop, arith, ap, ◌∙◌}
+use Rattle.std.proofs.lemmas.List.{take_all, drop_all, append-nil}
 
 -- the first n items of ys are those of f
 pub record IsFilled (f : ℕ → ℕ) (ys : List ℕ) (n : ℕ) : Type 0 where
   pub done : (k : ℕ) → k < n → get_or ys k 0 ≡ f k
-
-pub filled_none : (f : ℕ → ℕ) (ys : List ℕ) → IsFilled f ys 0
-filled_none f ys = record { done = λ k h. absurd (omega arith) }
-
-pub filled_more : (f : ℕ → ℕ) (ys : List ℕ) (n y : ℕ) → n < length ys → y ≡ f n → IsFilled f ys n → IsFilled f (set ys n y) (n + 1)
-filled_more f ys n y inside here before = record {
-  done = λ k h. elim (eqb_tells k n) [
-    | inl e ↦ rw e.1 (get_or-set_same ys n y 0 inside ∙ here)
-    | inr e ↦ get_or-set_other ys n k y 0 e.1 ∙ before.done k (omega (arith, e.1))
-  ];
-}
 
 -- and the others are those of xs
 pub record IsMapped (f : ℕ → ℕ) (xs ys : List ℕ) (n : ℕ) : Type 0 where
   pub filled : IsFilled (λ k. f (get_or xs k 0)) ys n
   pub rest : (k : ℕ) → n ≤ k → get_or ys k 0 ≡ get_or xs k 0
 
-pub mapped_none : (f : ℕ → ℕ) (xs : List ℕ) → IsMapped f xs xs 0
-mapped_none f xs = record { filled = filled_none _ xs; rest = λ k h. refl }
-
-pub mapped_more : (f : ℕ → ℕ) (xs ys : List ℕ) (n y : ℕ) → n < length ys → y ≡ f (get_or ys n 0) → IsMapped f xs ys n → IsMapped f xs (set ys n y) (n + 1)
-mapped_more f xs ys n y inside here before = record {
-  filled = filled_more _ ys n y inside (here ∙ ap f (before.rest n (omega arith))) before.filled;
-  rest = λ k h. get_or-set_other ys n k y 0 (omega arith) ∙ before.rest k (omega arith);
-}
-
 -- a list with all its items written anew
-pub written : (xs new : List ℕ) (n : ℕ) → length new ≡ length xs → n ≡ length xs → take n (new ++ drop (length new) xs) ≡ new
+pub written : (xs new : List ℕ) (n : ℕ) → length new ≡ length xs → n ≡ length xs
+    → take n (new ++ drop (length new) xs) ≡ new
 written xs new n same long =
     rw (drop_all (length new) xs (omega (arith, same)), append-nil) (take_all n new (omega (arith, same, long)))
 
 -- each item by f, of a list that holds what g tells
-pub made_by : (f g : ℕ → ℕ) (xs given new : List ℕ) (n : ℕ) → given ≡ xs → length xs ≡ n → ((s : ℕ) → s < n → get_or xs s 0 ≡ g s)
+pub made_by : (f g : ℕ → ℕ) (xs given new : List ℕ) (n : ℕ) → given ≡ xs → length xs ≡ n
+    → ((s : ℕ) → s < n → get_or xs s 0 ≡ g s)
     → ((s : ℕ) → s < length given → get_or new s 0 ≡ f (get_or given s 0)) → (s : ℕ) → s < n → get_or new s 0 ≡ f (g s)
 made_by f g xs given new n e long holds made s inside =
     made s (rw e (omega (arith, long))) ∙ ap f (ap (λ l. get_or l s 0) e ∙ holds s inside)

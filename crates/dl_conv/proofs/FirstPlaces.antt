@@ -1,5 +1,5 @@
 -- The first places of a product from the product of the first halves and two shorter ones.
-use Rattle.std.proofs.Common.{ℕ, suc, ◌≡◌, ◌+◌, ◌-◌, ◌*◌, ◌%◌, ◌^◌, ◌<◌, ◌≤◌, List, length, get_or, take, drop, map, arith, refl, sym, subst, ap, ap₂, inl, inr, ◌∙◌}
+use Rattle.std.proofs.Common.{ℕ, suc, ◌≡◌, ◌+◌, ◌-◌, ◌*◌, ◌%◌, ◌^◌, ◌<◌, ◌≤◌, List, length, take, drop, map, arith, sym, subst, ap, ap₂, inl, inr, ◌∙◌}
 use Rattle.std.specs.Prelude.{All}
 use Rattle.std.proofs.Math.Nat.{mod-eq_of_lt, mul-le-mul}
 use Rattle.std.proofs.lemmas.Bool.{cases_lt}
@@ -8,38 +8,46 @@ use Rattle.std.proofs.lemmas.List.Folds.{map_fixed}
 use Rattle.dl_exact.specs.Count.{count_below}
 use Rattle.dl_exact.proofs.Counts.{below_bound, below_pairs}
 use Rattle.dl_conv.specs.Sums.{pair_sum}
-use Rattle.dl_conv.proofs.Ends.{end_fits}
+use Rattle.dl_conv.proofs.Columns.{end_fits}
 use Rattle.dl_conv.proofs.Karatsuba.{item, short_first, short_later}
 
 -- no sum passes 127 bits
-pub sum_bound : (a b : List ℕ) (s : ℕ) → All (λ x. x ≤ 2 ^ 56) a → All (λ y. y ≤ 2 ^ 56) b → s < 32768 → pair_sum a b s ≤ 2 ^ 127
+pub sum_bound : (a b : List ℕ) (s : ℕ) → All (λ x. x ≤ 2 ^ 56) a → All (λ y. y ≤ 2 ^ 56) b → s < 32768
+    → pair_sum a b s ≤ 2 ^ 127
 sum_bound a b s p q few =
     let bound : count_below (suc s) (λ i. item a i * item b (s - i)) ≤ suc s * (2 ^ 56 * 2 ^ 56) =
-    below_bound (suc s) (2 ^ 56 * 2 ^ 56) (λ i. item a i * item b (s - i)) (λ i inside. mul-le-mul (end_fits a p i) (end_fits b q (s - i))) in
+    below_bound (suc s) (2 ^ 56 * 2 ^ 56) (λ i. item a i * item b (s - i))
+    (λ i inside. mul-le-mul (end_fits a p i) (end_fits b q (s - i))) in
     omega (arith, below_pairs s (λ i j. item a i * item b j), bound)
 
 -- small numbers are their own remainders
 words_fixed : (xs : List ℕ) → All (λ x. x < 2 ^ 128) xs → map (λ x. x % 2 ^ 128) xs ≡ xs
 words_fixed xs small = map_fixed (λ x. x % 2 ^ 128) xs (λ k d inside. mod-eq_of_lt (small k d inside))
 
-pub exact_sum : (a b new : List ℕ) (s : ℕ) → All (λ x. x ≤ 2 ^ 56) a → All (λ y. y ≤ 2 ^ 56) b → All (λ x. x < 2 ^ 128) new → s < 32768
-    → item (map (λ x. x % 2 ^ 128) new) s ≡ pair_sum (map (λ x. x % 2 ^ 128) a) (map (λ x. x % 2 ^ 128) b) s % 2 ^ 128 → item new s ≡ pair_sum a b s
+pub exact_sum : (a b new : List ℕ) (s : ℕ) → All (λ x. x ≤ 2 ^ 56) a → All (λ y. y ≤ 2 ^ 56) b
+    → All (λ x. x < 2 ^ 128) new → s < 32768
+    → item (map (λ x. x % 2 ^ 128) new) s ≡ pair_sum (map (λ x. x % 2 ^ 128) a) (map (λ x. x % 2 ^ 128) b) s % 2 ^ 128
+    → item new s ≡ pair_sum a b s
 exact_sum a b new s p q fits few e =
     let wide_a : All (λ x. x < 2 ^ 128) a = λ k d inside. omega (arith, p k d inside) in
     let wide_b : All (λ x. x < 2 ^ 128) b = λ k d inside. omega (arith, q k d inside) in
     let sum = sum_bound a b s p q few in
     sym (ap (λ xs. item xs s) (words_fixed new fits)) ∙ e
-    ∙ ap₂ (λ xs ys. pair_sum xs ys s % 2 ^ 128) (words_fixed a wide_a) (words_fixed b wide_b) ∙ mod-eq_of_lt (omega (arith, sum))
+    ∙ ap₂ (λ xs ys. pair_sum xs ys s % 2 ^ 128) (words_fixed a wide_a) (words_fixed b wide_b)
+    ∙ mod-eq_of_lt (omega (arith, sum))
 
-module _ (a b : List ℕ) (h n : ℕ) (small_a : All (λ x. x ≤ 2 ^ 56) a) (small_b : All (λ y. y ≤ 2 ^ 56) b) (few : n ≤ 16384) (half : n ≤ 2 * h) (less : h < n)
+module _ (a b : List ℕ) (h n : ℕ) (small_a : All (λ x. x ≤ 2 ^ 56) a) (small_b : All (λ y. y ≤ 2 ^ 56) b)
+    (few : n ≤ 16384) (half : n ≤ 2 * h) (less : h < n)
     (in_a : n ≤ length a) (in_b : n ≤ length b) (product copied one : List ℕ)
-    (product_is : (s : ℕ) → s < 2 * h → item product s ≡ pair_sum (take h a) (take h b) s) (copied_is : copied ≡ take n product)
+    (product_is : (s : ℕ) → s < 2 * h → item product s ≡ pair_sum (take h a) (take h b) s)
+    (copied_is : copied ≡ take n product)
     (one_is : (t : ℕ) → t < n - h → item one t ≡ pair_sum (take (length a - h) (drop h a)) b t) where
   start_is : (s : ℕ) → s < n → item copied s ≡ pair_sum (take h a) (take h b) s
   start_is s inside = ap (λ xs. item xs s) copied_is ∙ get_or-take n product s 0 inside ∙ product_is s (omega arith)
 
   one_whole : (t : ℕ) → t < n - h → item one t ≡ pair_sum (drop h a) b t
-  one_whole t inside = one_is t inside ∙ ap (λ xs. pair_sum xs b t) (take_all (length a - h) (drop h a) (omega (arith, length-drop h a)))
+  one_whole t inside = one_is t inside ∙ ap (λ xs. pair_sum xs b t)
+      (take_all (length a - h) (drop h a) (omega (arith, length-drop h a)))
 
   sum_is : (t : ℕ) → t < n - h → pair_sum a b (h + t) ≡ item copied (h + t) + (item one t + pair_sum a (drop h b) t)
   sum_is t inside = omega (arith, short_later h t a b (omega arith), start_is (h + t) (omega arith), one_whole t inside)
@@ -50,16 +58,19 @@ module _ (a b : List ℕ) (h n : ℕ) (small_a : All (λ x. x ≤ 2 ^ 56) a) (sm
   pub one_fits : (t : ℕ) → t < n - h → item copied (h + t) + item one t < 2 ^ 128
   one_fits t inside = omega (arith, fits t inside)
 
-  module _ (two added : List ℕ) (two_is : (t : ℕ) → t < n - h → item two t ≡ pair_sum a (take (length b - h) (drop h b)) t)
+  module _ (two added : List ℕ) (two_is : (t : ℕ) → t < n - h
+      → item two t ≡ pair_sum a (take (length b - h) (drop h b)) t)
       (first_added : (t : ℕ) → t < n - h → item added (h + t) ≡ item copied (h + t) + item one t)
       (first_kept : (s : ℕ) → s < h → item added s ≡ item copied s) where
     two_whole : (t : ℕ) → t < n - h → item two t ≡ pair_sum a (drop h b) t
-    two_whole t inside = two_is t inside ∙ ap (λ ys. pair_sum a ys t) (take_all (length b - h) (drop h b) (omega (arith, length-drop h b)))
+    two_whole t inside = two_is t inside ∙ ap (λ ys. pair_sum a ys t)
+        (take_all (length b - h) (drop h b) (omega (arith, length-drop h b)))
 
     pub two_fits : (t : ℕ) → t < n - h → item added (h + t) + item two t < 2 ^ 128
     two_fits t inside = omega (arith, fits t inside, first_added t inside, two_whole t inside)
 
-    module _ (after : List ℕ) (second_added : (t : ℕ) → t < n - h → item after (h + t) ≡ item added (h + t) + item two t)
+    module _ (after : List ℕ) (second_added : (t : ℕ) → t < n - h
+        → item after (h + t) ≡ item added (h + t) + item two t)
         (second_kept : (s : ℕ) → s < h → item after s ≡ item added s) where
       pub all_sums : (s : ℕ) → s < n → item after s ≡ pair_sum a b s
       all_sums s inside = elim (cases_lt s h) [
@@ -68,5 +79,11 @@ module _ (a b : List ℕ) (h n : ℕ) (small_a : All (λ x. x ≤ 2 ^ 56) a) (sm
             let e : h + (s - h) ≡ s = omega (arith, p) in
             let within : s - h < n - h = omega (arith, p, inside) in
             subst (λ k. item after k ≡ pair_sum a b k) e
-            (omega (arith, second_added (s - h) within, first_added (s - h) within, two_whole (s - h) within, sum_is (s - h) within))
+            (omega (
+              arith,
+              second_added (s - h) within,
+              first_added (s - h) within,
+              two_whole (s - h) within,
+              sum_is (s - h) within,
+            ))
       ]

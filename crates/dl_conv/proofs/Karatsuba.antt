@@ -1,14 +1,14 @@
 -- Products of lists by halves.
-use Rattle.std.proofs.Common.{ℕ, zero, suc, ◌≡◌, ◌+◌, ◌-◌, ◌*◌, ◌^◌, ◌<◌, ◌≤◌, List, [], ◌∷◌, length, get_or, take, drop, map, arith, refl, sym, subst, ap, ap₂, inl, inr, ◌∙◌}
+use Rattle.std.proofs.Common.{ℕ, zero, suc, ◌≡◌, ◌+◌, ◌-◌, ◌*◌, ◌<◌, ◌≤◌, List, [], ◌∷◌, length, get_or, take, drop, arith, refl, sym, subst, ap, ap₂, inl, inr, ◌∙◌}
 use Rattle.std.specs.Prelude.{min}
 use Rattle.std.proofs.Math.ListN.{get_or-eq_default}
 use Rattle.std.proofs.lemmas.Bool.{cases_lt}
 use Rattle.std.proofs.lemmas.List.{length-take, length-drop, get_or-take}
 use Rattle.dl_exact.specs.Count.{count_below, count_pairs}
-use Rattle.dl_exact.proofs.Counts.{below_nothing, below_more, below_same, below_pairs, pairs_same, pairs_plus}
+use Rattle.dl_exact.proofs.Counts.{below_none, below_same, below_pairs, pairs_same, pairs_plus}
 use Rattle.dl_conv.specs.Modulo.{IsSame}
-use Rattle.dl_conv.specs.Sums.{pair_sum, IsHalvable}
-use Rattle.dl_conv.proofs.Same.{same, same_sym, same_then, same_plus, same_times, same_off, same_pairs}
+use Rattle.dl_conv.specs.Sums.{pair_sum}
+use Rattle.dl_conv.proofs.Same.{same, same_sym, same_then, same_plus, same_off}
 
 -- how many products a column of a block has
 abbrev pub column_size : ℕ → ℕ
@@ -17,49 +17,6 @@ column_size s = min 32 (s + 1) - (s + 1 - 32)
 pub block_size : (n : ℕ) → n ≡ 64 → count_below n column_size ≡ 1024
 unfolding count_below
 block_size n e = ap (λ k. count_below k column_size) e
-
--- a column begins where the second list ends, and ends with the first
-below_zero : (n : ℕ) (f : ℕ → ℕ) → ((i : ℕ) → i < n → f i ≡ 0) → count_below n f ≡ 0
-unfolding count_below
-below_zero zero f h = refl
-below_zero (suc n) f h = omega (arith, below_zero n f (λ i b. h i (omega arith)), h n (omega arith))
-
-below_longer : (n m : ℕ) (f : ℕ → ℕ) → n ≤ m → ((i : ℕ) → n ≤ i → f i ≡ 0) → count_below m f ≡ count_below n f
-unfolding count_below
-below_longer n zero f le h = let e : 0 ≡ n = omega arith in ap (λ k. count_below k f) e
-below_longer n (suc m) f le h = elim (cases_lt m n) [
-  | inl under ↦ let e : suc m ≡ n = omega (arith, under) in ap (λ k. count_below k f) e
-  | inr over ↦ omega (arith, below_longer n m f over h, h m over)
-]
-
-past_second : (xs ys : List ℕ) (s i : ℕ) → length ys ≤ s - i → get_or xs i 0 * get_or ys (s - i) 0 ≡ 0
-past_second xs ys s i past =
-    let e : get_or ys (s - i) 0 ≡ 0 = get_or-eq_default ys 0 {n = s - i} past in
-    rw e (omega arith)
-
-past_first : (xs ys : List ℕ) (s i : ℕ) → length xs ≤ i → get_or xs i 0 * get_or ys (s - i) 0 ≡ 0
-past_first xs ys s i past =
-    let e : get_or xs i 0 ≡ 0 = get_or-eq_default xs 0 {n = i} past in
-    rw e (omega arith)
-
-pub column_begins : (xs ys : List ℕ) (s n : ℕ) → n ≡ s + 1 - length ys → count_below n (λ i. get_or xs i 0 * get_or ys (s - i) 0) ≡ 0
-column_begins xs ys s n e = below_zero n (λ i. get_or xs i 0 * get_or ys (s - i) 0) (λ i b. past_second xs ys s i (omega (arith, e)))
-
-pub column_ends : (xs ys : List ℕ) (s n : ℕ) → n ≡ min (length xs) (s + 1) → count_below n (λ i. get_or xs i 0 * get_or ys (s - i) 0) ≡ pair_sum xs ys s
-column_ends xs ys s n e = elim (cases_lt s (length xs)) [
-  | inl inside ↦ let whole : n ≡ suc s = omega (arith, inside) in ap (λ k. count_below k (λ i. get_or xs i 0 * get_or ys (s - i) 0)) whole
-      ∙ below_pairs s (λ i j. get_or xs i 0 * get_or ys j 0)
-  | inr past ↦ sym (below_longer n (suc s) (λ i. get_or xs i 0 * get_or ys (s - i) 0) (omega arith)
-      (λ i b. past_first xs ys s i (omega (arith, past, b))))
-      ∙ below_pairs s (λ i j. get_or xs i 0 * get_or ys j 0)
-]
-
-pub column_more : (xs ys : List ℕ) (s i sum product total a b : ℕ) → IsSame sum (count_below i (λ i. get_or xs i 0 * get_or ys (s - i) 0))
-    → a ≡ get_or xs i 0 → b ≡ get_or ys (s - i) 0 → IsSame product (a * b) → IsSame total (sum + product)
-    → IsSame total (count_below (i + 1) (λ i. get_or xs i 0 * get_or ys (s - i) 0))
-column_more xs ys s i sum product total a b before e h made added =
-    let here : IsSame product (get_or xs i 0 * get_or ys (s - i) 0) = same_then made (same _ _ (ap₂ (λ u v. u * v) e h)) in
-    same_then added (same_then (same_plus before here) (same_sym (same _ _ (below_more i (λ i. get_or xs i 0 * get_or ys (s - i) 0)))))
 
 -- ---- sums over pairs of places, of sequences of numbers
 
@@ -106,12 +63,14 @@ second_later (suc (suc s)) f g = ap (λ t. f zero * g (suc s) + t) (second_later
 first_shift : (h s : ℕ) (f g : ℕ → ℕ) → prod (shift h f) g s ≡ shift h (prod f g) s
 unfolding shift
 first_shift zero s f g = refl
-first_shift (suc h) s f g = first_later s (shift h f) g ∙ later_same (prod (shift h f) g) (shift h (prod f g)) s (λ t. first_shift h t f g)
+first_shift (suc h) s f g = first_later s (shift h f) g
+    ∙ later_same (prod (shift h f) g) (shift h (prod f g)) s (λ t. first_shift h t f g)
 
 second_shift : (h s : ℕ) (f g : ℕ → ℕ) → prod f (shift h g) s ≡ shift h (prod f g) s
 unfolding shift
 second_shift zero s f g = refl
-second_shift (suc h) s f g = second_later s f (shift h g) ∙ later_same (prod f (shift h g)) (shift h (prod f g)) s (λ t. second_shift h t f g)
+second_shift (suc h) s f g = second_later s f (shift h g)
+    ∙ later_same (prod f (shift h g)) (shift h (prod f g)) s (λ t. second_shift h t f g)
 
 shift_same : (h : ℕ) (f g : ℕ → ℕ) (s : ℕ) → ((t : ℕ) → f t ≡ g t) → shift h f s ≡ shift h g s
 unfolding shift
@@ -119,9 +78,11 @@ shift_same zero f g s e = e s
 shift_same (suc h) f g s e = later_same (shift h f) (shift h g) s (λ t. shift_same h f g t e)
 
 -- the product of two sums
-parts : (f u g v : ℕ → ℕ) (s : ℕ) → prod (λ i. f i + u i) (λ j. g j + v j) s ≡ prod f g s + (prod f v s + prod u g s) + prod u v s
+parts : (f u g v : ℕ → ℕ) (s : ℕ) → prod (λ i. f i + u i) (λ j. g j + v j) s
+    ≡ prod f g s + (prod f v s + prod u g s) + prod u v s
 parts f u g v s =
-    pairs_same s (λ i j. (f i + u i) * (g j + v j)) (λ i j. f i * g j + (f i * v j + u i * g j) + u i * v j) (λ i j. omega arith)
+    pairs_same s (λ i j. (f i + u i) * (g j + v j)) (λ i j. f i * g j + (f i * v j + u i * g j) + u i * v j)
+    (λ i j. omega arith)
     ∙ pairs_plus s (λ i j. f i * g j + (f i * v j + u i * g j)) (λ i j. u i * v j)
     ∙ ap (λ t. t + prod u v s) (pairs_plus s (λ i j. f i * g j) (λ i j. f i * v j + u i * g j)
     ∙ ap (λ t. prod f g s + t) (pairs_plus s (λ i j. f i * v j) (λ i j. u i * g j)))
@@ -137,9 +98,11 @@ shift_plus (suc h) f g (suc s) = shift_plus h f g s
 
 -- a product of sequences whose later parts begin at h
 by_halves : (h s : ℕ) (f u g v : ℕ → ℕ)
-    → prod (λ i. f i + shift h u i) (λ j. g j + shift h v j) s ≡ prod f g s + shift h (cross f u g v) s + shift h (shift h (prod u v)) s
+    → prod (λ i. f i + shift h u i) (λ j. g j + shift h v j) s ≡ prod f g s + shift h (cross f u g v) s + shift h
+    (shift h (prod u v)) s
 by_halves h s f u g v =
-    let outer = first_shift h s u (shift h v) ∙ shift_same h (prod u (shift h v)) (shift h (prod u v)) s (λ t. second_shift h t u v) in
+    let outer = first_shift h s u (shift h v) ∙ shift_same h (prod u (shift h v)) (shift h (prod u v)) s
+    (λ t. second_shift h t u v) in
     let sum = shift_plus h (prod f v) (prod u g) s in
     let middle : prod f (shift h v) s + prod (shift h u) g s ≡ shift h (cross f u g v) s =
     omega (arith, second_shift h s f v, first_shift h s u g, sum) in
@@ -152,7 +115,8 @@ shift_nothing (suc h) zero = refl
 shift_nothing (suc h) (suc i) = shift_nothing h i
 
 -- a list by its halves
-halves_at : (h : ℕ) (xs : List ℕ) (i : ℕ) → get_or xs i 0 ≡ get_or (take h xs) i 0 + shift h (λ k. get_or (drop h xs) k 0) i
+halves_at : (h : ℕ) (xs : List ℕ) (i : ℕ) → get_or xs i 0
+    ≡ get_or (take h xs) i 0 + shift h (λ k. get_or (drop h xs) k 0) i
 unfolding shift later
 halves_at zero xs i = omega arith
 halves_at (suc h) [] zero = refl
@@ -161,15 +125,18 @@ halves_at (suc h) (x ∷ xs) zero = omega arith
 halves_at (suc h) (x ∷ xs) (suc i) = halves_at h xs i
 
 -- the product of the sums, without the products of the halves
-pub taken_off : (without rest low high middle l h m : ℕ) → IsSame (without + low) middle → IsSame (rest + high) without → low ≡ l → high ≡ h → middle ≡ m
+pub taken_off : (without rest low high middle l h m : ℕ) → IsSame (without + low) middle → IsSame (rest + high) without
+    → low ≡ l → high ≡ h → middle ≡ m
     → IsSame (rest + (l + h)) m
 taken_off without rest low high middle l h m first second e f k =
-    same_then (same _ _ (omega (arith, e, f))) (same_then (same_plus second (same low low refl)) (same_then first (same middle m k)))
+    same_then (same _ _ (omega (arith, e, f))) (same_then (same_plus second (same low low refl))
+    (same_then first (same middle m k)))
 
 -- two sequences that are 0 from h on have no products at places from 2 * h on
-prod_past : (h s : ℕ) (f g : ℕ → ℕ) → 2 * h ≤ s → ((i : ℕ) → h ≤ i → f i ≡ 0) → ((j : ℕ) → h ≤ j → g j ≡ 0) → prod f g s ≡ 0
+prod_past : (h s : ℕ) (f g : ℕ → ℕ) → 2 * h ≤ s → ((i : ℕ) → h ≤ i → f i ≡ 0) → ((j : ℕ) → h ≤ j → g j ≡ 0)
+    → prod f g s ≡ 0
 prod_past h s f g past first second =
-    sym (below_pairs s (λ i j. f i * g j)) ∙ below_zero (suc s) (λ i. f i * g (s - i)) (λ i b. elim (cases_lt i h) [
+    sym (below_pairs s (λ i j. f i * g j)) ∙ below_none (suc s) (λ i. f i * g (s - i)) (λ i b. elim (cases_lt i h) [
       | inl under ↦ rw (second (s - i) (omega (arith, under))) (omega arith)
       | inr over ↦ rw (first i over) (omega arith)
     ])
@@ -186,7 +153,8 @@ abbrev pub item : List ℕ → ℕ → ℕ
 item xs i = get_or xs i 0
 
 by_pieces : (h : ℕ) (a b : List ℕ) (s : ℕ) → pair_sum a b s
-    ≡ pair_sum (take h a) (take h b) s + shift h (cross (item (take h a)) (item (drop h a)) (item (take h b)) (item (drop h b))) s
+    ≡ pair_sum (take h a) (take h b) s + shift h
+    (cross (item (take h a)) (item (drop h a)) (item (take h b)) (item (drop h b))) s
     + shift h (shift h (pair_sum (drop h a) (drop h b))) s
 by_pieces h a b s =
     pairs_same s (λ i j. item a i * item b j)
@@ -208,17 +176,20 @@ short_first h s a b inside =
 front_alone : (h t : ℕ) (f : ℕ → ℕ) (xs : List ℕ) → t < h → prod (item (take h xs)) f t ≡ prod (item xs) f t
 front_alone h t f xs inside =
     sym (below_pairs t (λ i j. item (take h xs) i * f j))
-    ∙ below_same (suc t) (λ i. item (take h xs) i * f (t - i)) (λ i. item xs i * f (t - i)) (λ i b. ap (λ u. u * f (t - i)) (get_or-take h xs i 0 (omega arith)))
+    ∙ below_same (suc t) (λ i. item (take h xs) i * f (t - i)) (λ i. item xs i * f (t - i))
+    (λ i b. ap (λ u. u * f (t - i)) (get_or-take h xs i 0 (omega arith)))
     ∙ below_pairs t (λ i j. item xs i * f j)
 
 back_alone : (h t : ℕ) (f : ℕ → ℕ) (xs : List ℕ) → t < h → prod f (item (take h xs)) t ≡ prod f (item xs) t
 back_alone h t f xs inside =
     sym (below_pairs t (λ i j. f i * item (take h xs) j))
-    ∙ below_same (suc t) (λ i. f i * item (take h xs) (t - i)) (λ i. f i * item xs (t - i)) (λ i b. ap (λ u. f i * u) (get_or-take h xs (t - i) 0 (omega arith)))
+    ∙ below_same (suc t) (λ i. f i * item (take h xs) (t - i)) (λ i. f i * item xs (t - i))
+    (λ i b. ap (λ u. f i * u) (get_or-take h xs (t - i) 0 (omega arith)))
     ∙ below_pairs t (λ i j. f i * item xs j)
 
 pub short_later : (h t : ℕ) (a b : List ℕ) → t < h
-    → pair_sum a b (h + t) ≡ pair_sum (take h a) (take h b) (h + t) + (pair_sum (drop h a) b t + pair_sum a (drop h b) t)
+    → pair_sum a b (h + t) ≡ pair_sum (take h a) (take h b) (h + t) +
+    (pair_sum (drop h a) b t + pair_sum a (drop h b) t)
 short_later h t a b inside =
     omega (
       arith,
@@ -235,9 +206,11 @@ pub record AreThree (h : ℕ) (a b low high middle : List ℕ) : Type 0 where
   pub first : (t : ℕ) → t < 2 * h → IsSame (item low t) (pair_sum (take h a) (take h b) t)
   pub second : (t : ℕ) → t < 2 * h → IsSame (item high t) (pair_sum (drop h a) (drop h b) t)
   pub rest : (t : ℕ) → t < 2 * h
-      → IsSame (item middle t + (item low t + item high t)) (prod (λ i. item (take h a) i + item (drop h a) i) (λ j. item (take h b) j + item (drop h b) j) t)
+      → IsSame (item middle t + (item low t + item high t))
+      (prod (λ i. item (take h a) i + item (drop h a) i) (λ j. item (take h b) j + item (drop h b) j) t)
 
-module _ (h : ℕ) (a b low high middle : List ℕ) (long_a : length a ≤ 2 * h) (long_b : length b ≤ 2 * h) (three : AreThree h a b low high middle) where
+module _ (h : ℕ) (a b low high middle : List ℕ) (long_a : length a ≤ 2 * h) (long_b : length b ≤ 2 * h)
+    (three : AreThree h a b low high middle) where
   abbrev crossed : ℕ → ℕ
   crossed t = cross (item (take h a)) (item (drop h a)) (item (take h b)) (item (drop h b)) t
 
@@ -248,10 +221,12 @@ module _ (h : ℕ) (a b low high middle : List ℕ) (long_a : length a ≤ 2 * h
   middle_is : (t : ℕ) → t < 2 * h → IsSame (item middle t) (crossed t)
   middle_is t inside =
       let all = parts (item (take h a)) (item (drop h a)) (item (take h b)) (item (drop h b)) t in
-      let sum : IsSame (item low t + item high t) (pair_sum (take h a) (take h b) t + pair_sum (drop h a) (drop h b) t) =
+      let sum : IsSame (item low t + item high t)
+      (pair_sum (take h a) (take h b) t + pair_sum (drop h a) (drop h b) t) =
       same_plus (three.first t inside) (three.second t inside) in
       same_off (item middle t) (crossed t) (item low t + item high t) (
-      same_then (three.rest t inside) (same_then (same _ _ (all ∙ turn _ _ _)) (same_plus (same (crossed t) (crossed t) refl) (same_sym sum))))
+      same_then (three.rest t inside) (same_then (same _ _ (all ∙ turn _ _ _))
+      (same_plus (same (crossed t) (crossed t) refl) (same_sym sum))))
     where
       turn : (x y z : ℕ) → x + y + z ≡ y + (x + z)
       turn x y z = omega arith
@@ -265,14 +240,22 @@ module _ (h : ℕ) (a b low high middle : List ℕ) (long_a : length a ≤ 2 * h
       )
 
   -- what was written: the halves' products side by side, and the middle added from h on
-  module _ (before after : List ℕ) (left : (t : ℕ) → t < 2 * h → item before t ≡ item low t) (right : (t : ℕ) → t < 2 * h → item before (2 * h + t) ≡ item high t)
+  module _ (before after : List ℕ) (left : (t : ℕ) → t < 2 * h → item before t ≡ item low t)
+      (right : (t : ℕ) → t < 2 * h → item before (2 * h + t) ≡ item high t)
       (added : (t : ℕ) → t < 2 * h → IsSame (item after (h + t)) (item before (h + t) + item middle t))
-      (first : (s : ℕ) → s < h → item after s ≡ item before s) (last : (s : ℕ) → h + 2 * h ≤ s → item after s ≡ item before s) where
+      (first : (s : ℕ) → s < h → item after s ≡ item before s)
+      (last : (s : ℕ) → h + 2 * h ≤ s → item after s ≡ item before s) where
     first_quarter : (s : ℕ) → s < h → IsSame (item after s) (pair_sum a b s)
     first_quarter s inside =
         let sum : pair_sum a b s ≡ pair_sum (take h a) (take h b) s =
-        omega (arith, whole s, shift_below h crossed s inside, shift_below h (shift h (pair_sum (drop h a) (drop h b))) s inside) in
-        same_then (same _ _ (first s inside ∙ left s (omega arith))) (same_then (three.first s (omega arith)) (same_sym (same _ _ sum)))
+        omega (
+          arith,
+          whole s,
+          shift_below h crossed s inside,
+          shift_below h (shift h (pair_sum (drop h a) (drop h b))) s inside,
+        ) in
+        same_then (same _ _ (first s inside ∙ left s (omega arith)))
+        (same_then (three.first s (omega arith)) (same_sym (same _ _ sum)))
 
     second_quarter : (t : ℕ) → t < h → IsSame (item after (h + t)) (pair_sum a b (h + t))
     second_quarter t inside =
@@ -284,7 +267,9 @@ module _ (h : ℕ) (a b low high middle : List ℕ) (long_a : length a ≤ 2 * h
           shift_past h (shift h (pair_sum (drop h a) (drop h b))) t (h + t) refl,
           shift_below h (pair_sum (drop h a) (drop h b)) t inside,
         ) in
-        same_then (added t (omega arith)) (same_then (same_plus (same_then (same _ _ (left (h + t) (omega arith))) (three.first (h + t) (omega arith))) (middle_is t (omega arith)))
+        same_then (added t (omega arith))
+        (same_then (same_plus (same_then (same _ _ (left (h + t) (omega arith))) (three.first (h + t) (omega arith)))
+        (middle_is t (omega arith)))
         (same_sym (same _ _ sum)))
 
     third_quarter : (t : ℕ) → t < h → IsSame (item after (h + (h + t))) (pair_sum a b (h + (h + t)))
@@ -301,7 +286,9 @@ module _ (h : ℕ) (a b low high middle : List ℕ) (long_a : length a ≤ 2 * h
           shift_past h (pair_sum (drop h a) (drop h b)) t (h + t) refl,
         ) in
         let place : item before (h + (h + t)) ≡ item high t = ap (item before) (twice h t) ∙ right t (omega arith) in
-        same_then (added (h + t) (omega arith)) (same_then (same_plus (same_then (same _ _ place) (three.second t (omega arith))) (middle_is (h + t) (omega arith)))
+        same_then (added (h + t) (omega arith))
+        (same_then (same_plus (same_then (same _ _ place) (three.second t (omega arith)))
+        (middle_is (h + t) (omega arith)))
         (same_sym (same _ _ sum)))
       where
         twice : (h t : ℕ) → h + (h + t) ≡ 2 * h + t
@@ -321,18 +308,21 @@ module _ (h : ℕ) (a b low high middle : List ℕ) (long_a : length a ≤ 2 * h
           shift_past h (shift h (pair_sum (drop h a) (drop h b))) (h + t) (2 * h + t) (omega arith),
           shift_past h (pair_sum (drop h a) (drop h b)) t (h + t) refl,
         ) in
-        same_then (same _ _ (last (2 * h + t) (omega arith) ∙ right t inside)) (same_then (three.second t inside) (same_sym (same _ _ sum)))
+        same_then (same _ _ (last (2 * h + t) (omega arith) ∙ right t inside))
+        (same_then (three.second t inside) (same_sym (same _ _ sum)))
 
     pub joined : (s : ℕ) → s < 4 * h → IsSame (item after s) (pair_sum a b s)
     joined s inside = elim (cases_lt s h) [
       | inl p ↦ first_quarter s p
       | inr p ↦ elim (cases_lt s (2 * h)) [
-        | inl q ↦ let e : h + (s - h) ≡ s = omega (arith, p) in subst (λ t. IsSame (item after t) (pair_sum a b t)) e (second_quarter (s - h) (omega (arith, p, q)))
+        | inl q ↦ let e : h + (s - h) ≡ s = omega (arith, p) in
+            subst (λ t. IsSame (item after t) (pair_sum a b t)) e (second_quarter (s - h) (omega (arith, p, q)))
         | inr q ↦ elim (cases_lt s (3 * h)) [
           | inl r ↦ let e : h + (h + (s - 2 * h)) ≡ s = omega (arith, q) in
               subst (λ t. IsSame (item after t) (pair_sum a b t)) e (third_quarter (s - 2 * h) (omega (arith, q, r)))
           | inr r ↦ let e : 2 * h + (s - 2 * h) ≡ s = omega (arith, q) in
-              subst (λ t. IsSame (item after t) (pair_sum a b t)) e (last_quarter (s - 2 * h) (omega (arith, r)) (omega (arith, q, inside)))
+              subst (λ t. IsSame (item after t) (pair_sum a b t)) e
+              (last_quarter (s - 2 * h) (omega (arith, r)) (omega (arith, q, inside)))
         ]
       ]
     ]

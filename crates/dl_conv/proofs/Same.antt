@@ -1,5 +1,5 @@
 -- Calculating modulo 2^128.
-use Rattle.std.proofs.Common.{ℕ, zero, suc, ◌≡◌, ◌+◌, ◌-◌, ◌*◌, ◌/◌, ◌%◌, ◌^◌, ◌<◌, ◌≤◌, arith, refl, sym, ap, ap₂, ◌∙◌}
+use Rattle.std.proofs.Common.{ℕ, zero, suc, ◌≡◌, ◌+◌, ◌*◌, ◌/◌, ◌%◌, ◌^◌, arith, sym, ap, ◌∙◌}
 use Rattle.std.proofs.Math.Nat.{add-mul-mod_self_right}
 use Rattle.dl_conv.specs.Modulo.{IsSame}
 use Rattle.dl_exact.specs.Count.{count_pairs}
@@ -15,7 +15,8 @@ turns {x} {y} e = record { left = y / 2 ^ 128; right = x / 2 ^ 128; meet = omega
 
 turned : (x y p q : ℕ) → x + p * 2 ^ 128 ≡ y + q * 2 ^ 128 → IsSame x y
 turned x y p q e = record {
-  remainders = sym (add-mul-mod_self_right x p (2 ^ 128)) ∙ ap (λ t. t % 2 ^ 128) e ∙ add-mul-mod_self_right y q (2 ^ 128);
+  remainders = sym (add-mul-mod_self_right x p (2 ^ 128)) ∙ ap (λ t. t % 2 ^ 128) e
+      ∙ add-mul-mod_self_right y q (2 ^ 128);
 }
 
 pub same : (x y : ℕ) → x ≡ y → IsSame x y
@@ -37,22 +38,22 @@ times_turned : (x y u p q : ℕ) → x + p * 2 ^ 128 ≡ y + q * 2 ^ 128 → x *
 times_turned x y u p q e = omega (arith, ap (λ t. t * u) e)
 
 same_times_left : {x y : ℕ} (u : ℕ) → IsSame x y → IsSame (x * u) (y * u)
-same_times_left {x} {y} u e = let s = turns e in turned (x * u) (y * u) (s.left * u) (s.right * u) (times_turned x y u s.left s.right s.meet)
+same_times_left {x} {y} u e = let s = turns e in turned (x * u) (y * u) (s.left * u) (s.right * u)
+    (times_turned x y u s.left s.right s.meet)
 
 pub same_times : {x y u v : ℕ} → IsSame x y → IsSame u v → IsSame (x * u) (y * v)
 same_times {x} {y} {u} {v} e h =
     let swapped : IsSame (u * y) (v * y) = same_times_left y h in
-    same_then (same_times_left u e) (same_then (same (y * u) (u * y) (omega arith)) (same_then swapped (same (v * y) (y * v) (omega arith))))
+    same_then (same_times_left u e) (same_then (same (y * u) (u * y) (omega arith))
+    (same_then swapped (same (v * y) (y * v) (omega arith))))
 
 -- equal parts can be taken off
 pub same_off : (x y z : ℕ) → IsSame (x + z) (y + z) → IsSame x y
 same_off x y z e = let s = turns e in turned x y s.left s.right (omega (arith, s.meet))
 
-pub same_pairs : (n : ℕ) (f g : ℕ → ℕ → ℕ) → ((i j : ℕ) → IsSame (f i j) (g i j)) → IsSame (count_pairs n f) (count_pairs n g)
+pub same_pairs : (n : ℕ) (f g : ℕ → ℕ → ℕ) → ((i j : ℕ) → IsSame (f i j) (g i j))
+    → IsSame (count_pairs n f) (count_pairs n g)
 unfolding count_pairs
 same_pairs zero f g h = h zero zero
-same_pairs (suc n) f g h = same_plus (h zero (suc n)) (same_pairs n (λ i j. f (suc i) j) (λ i j. g (suc i) j) (λ i j. h (suc i) j))
-
--- small numbers that are the same are equal
-pub same_small : (x y : ℕ) → x < 2 ^ 128 → y < 2 ^ 128 → IsSame x y → x ≡ y
-same_small x y p q e = omega (arith, e.remainders)
+same_pairs (suc n) f g h = same_plus (h zero (suc n))
+    (same_pairs n (λ i j. f (suc i) j) (λ i j. g (suc i) j) (λ i j. h (suc i) j))

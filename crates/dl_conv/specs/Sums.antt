@@ -1,5 +1,5 @@
 -- Products of two lists of numbers: an item for each sum of two places.
-use Rattle.std.specs.Prelude.{ℕ, ◌≡◌, ◌+◌, ◌*◌, ◌^◌, ◌≤◌, List, get_or}
+use Rattle.std.specs.Prelude.{ℕ, ◌≡◌, ◌*◌, ◌^◌, ◌≤◌, List, get_or}
 use Rattle.dl_exact.specs.Count.{count_pairs}
 
 -- the sum of a(i) * b(j) over all i + j = s, where what is past the end of a list is 0

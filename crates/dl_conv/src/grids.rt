@@ -2,11 +2,13 @@ ghost use Rattle.std.specs.Prelude.{◌≡◌, ℕ, ◌*◌, ◌/◌, ◌^◌, �
 ghost use Rattle.std.specs.Int.{div_ceil};
 ghost use Rattle.dl_grid.specs.Cells.{low_at, high_at, spread};
 ghost use Rattle.dl_exact.specs.Count.{count_pairs};
+ghost use Rattle.dl_grid.specs.Convolution.{IsConvolution};
 ghost use Rattle.dl_grid.specs.Width.{cv};
-ghost use Rattle.dl_conv.specs.Sums.{halved_from};
+ghost use Rattle.dl_limits.specs.Limits.{most_cells};
+ghost use Rattle.dl_conv.specs.Sums.{pair_sum, halved_from};
 
 use crate::plain::plain_sums;
-use crate::short::{HALVED_FROM, halved_sums};
+use crate::short::{halved_sums, work_for};
 use dl_grid::{Grid, units_of_one};
 use std::alloc::{AllocError, Global};
 
@@ -20,7 +22,8 @@ fn round_down(sums: &mut [u128], bits: u32)
     }
 }
 
-/// Each item in units of `2^bits`, rounded up, and at most 1 by `one`, which is how many units make 1.
+/// Each item in units of `2^bits`, rounded up, and at most 1 by `one`, which is how many units make
+/// 1.
 fn round_up(sums: &mut [u128], bits: u32)
     requires scale { bits ≤ 56 }
     requires small { All (λ sum. sum ≤ 2 ^ 127) sums.old }
@@ -33,8 +36,8 @@ fn round_up(sums: &mut [u128], bits: u32)
     }
 }
 
-/// The grid of the convolution of `a` and `b`, from the sums of the products of their low ends and of
-/// their high ends, one for each of its cells. It takes no memory.
+/// The grid of the convolution of `a` and `b`, from the sums of the products of their low ends and
+/// of their high ends, one for each of its cells. It takes no memory.
 pub fn grid_of_sums<const B: u32>(
     a: &Grid<B>,
     b: &Grid<B>,
@@ -50,10 +53,7 @@ pub fn grid_of_sums<const B: u32>(
     requires high { (s : ℕ) → s < length lows.items
         → get_or highs.items s 0 ≡ count_pairs s (λ i j. high_at a.now i * high_at b.now j) }
     ensures cells { length result ≡ length lows.items }
-    ensures low { (s : ℕ) → s < length lows.items
-        → low_at result s ≡ count_pairs s (λ i j. low_at a.now i * low_at b.now j) / 2 ^ B }
-    ensures high { (s : ℕ) → s < length lows.items → high_at result s
-        ≡ min (2 ^ B) (div_ceil (count_pairs s (λ i j. high_at a.now i * high_at b.now j)) (2 ^ B)) }
+    ensures convolution { IsConvolution (length lows.items) a.now b.now result }
     ensures spread { spread result ≤ cv (2 ^ B) (length lows.items) (spread a.now) (spread b.now) }
 {
     prove!(lows.len() <= a.cells() as usize);
@@ -63,8 +63,27 @@ pub fn grid_of_sums<const B: u32>(
     Grid::from_ends(lows, highs)
 }
 
-/// What `convolve` gives, with each product of two ends made for itself. It takes memory for exactly
-/// these cells.
+/// The first `cells` items of the product of two lists, each product of two items made for itself.
+fn plain_product(
+    alloc: Global,
+    a: &[u128],
+    b: &[u128],
+    cells: usize,
+) -> Result<Vec<u128>, AllocError>
+    requires first { All (λ x. x ≤ 2 ^ 56) a.now }
+    requires second { All (λ y. y ≤ 2 ^ 56) b.now }
+    requires few { cells ≤ most_cells }
+    ensures cells { IfOk result (λ v. length v.items ≡ cells) }
+    ensures each { IfOk result (λ v. (s : ℕ) → s < cells
+        → get_or v.items s 0 ≡ pair_sum a.now b.now s) }
+{
+    let mut out = Vec::from_elem(alloc, 0, cells)?;
+    plain_sums(a, b, out.as_mut_slice());
+    Ok(out)
+}
+
+/// What `convolve` gives, with each product of two ends made for itself. It takes memory for
+/// exactly these cells.
 pub fn convolve_plain<const B: u32>(
     alloc: Global,
     a: &Grid<B>,
@@ -75,30 +94,42 @@ pub fn convolve_plain<const B: u32>(
     requires in_first { cells ≤ length a.now }
     requires in_second { cells ≤ length b.now }
     ensures cells { IfOk result (λ g. length g ≡ cells) }
-    ensures low { IfOk result (λ g. (s : ℕ) → s < cells
-        → low_at g s ≡ count_pairs s (λ i j. low_at a.now i * low_at b.now j) / 2 ^ B) }
-    ensures high { IfOk result (λ g. (s : ℕ) → s < cells
-        → high_at g s ≡ min (2 ^ B) (div_ceil (count_pairs s (λ i j. high_at a.now i * high_at b.now j)) (2 ^ B))) }
+    ensures convolution { IfOk result (λ g. IsConvolution cells a.now b.now g) }
     ensures spread { IfOk result (λ g. spread g ≤ cv (2 ^ B) cells (spread a.now) (spread b.now)) }
 {
-    let mut lows = Vec::from_elem(alloc, 0, cells as usize)?;
-    let mut highs = Vec::from_elem(alloc, 0, cells as usize)?;
-    plain_sums(a.lows(), b.lows(), lows.as_mut_slice());
-    plain_sums(a.highs(), b.highs(), highs.as_mut_slice());
+    let lows = plain_product(alloc, a.lows(), b.lows(), cells as usize)?;
+    let highs = plain_product(alloc, a.highs(), b.highs(), cells as usize)?;
     Ok(grid_of_sums(a, b, lows, highs))
 }
 
-/// How many items of work memory a product by halves of so many cells uses.
-fn room_for(cells: u32) -> usize
-    ensures { halved_from ≤ cells → 6 * cells ≤ result }
+/// The first `cells` items of the product of two lists of at least as many, by halves where there
+/// are many.
+fn halved_product(
+    alloc: Global,
+    a: &[u128],
+    b: &[u128],
+    cells: usize,
+    work: &mut [u128],
+) -> Result<Vec<u128>, AllocError>
+    requires first { All (λ x. x ≤ 2 ^ 56) a.now }
+    requires second { All (λ y. y ≤ 2 ^ 56) b.now }
+    requires in_first { cells ≤ length a.now }
+    requires in_second { cells ≤ length b.now }
+    requires few { cells ≤ most_cells }
+    requires work { halved_from ≤ cells → 6 * cells ≤ length work.old }
+    ensures cells { IfOk result (λ v. length v.items ≡ cells) }
+    ensures each { IfOk result (λ v. (s : ℕ) → s < cells
+        → get_or v.items s 0 ≡ pair_sum a.now b.now s) }
+    ensures work { length work.new ≡ length work.old }
 {
-    let cells = cells as usize;
-    if cells < HALVED_FROM { 0 } else { 6 * cells }
+    let mut out = Vec::from_elem(alloc, 0, cells)?;
+    halved_sums(a, b, out.as_mut_slice(), work);
+    Ok(out)
 }
 
 /// The first `cells` cells of the convolution of `a` and `b`. The spread is at most what the width
-/// rule says. Where there are many cells, the products of their ends are made by halves. All memory is
-/// taken at the start.
+/// rule says. Where there are many cells, the products of their ends are made by halves, in work
+/// memory that is taken at the start.
 pub fn convolve<const B: u32>(
     alloc: Global,
     a: &Grid<B>,
@@ -109,21 +140,13 @@ pub fn convolve<const B: u32>(
     requires in_first { cells ≤ length a.now }
     requires in_second { cells ≤ length b.now }
     ensures cells { IfOk result (λ g. length g ≡ cells) }
-    ensures low { IfOk result (λ g. (s : ℕ) → s < cells
-        → low_at g s ≡ count_pairs s (λ i j. low_at a.now i * low_at b.now j) / 2 ^ B) }
-    ensures high { IfOk result (λ g. (s : ℕ) → s < cells
-        → high_at g s ≡ min (2 ^ B) (div_ceil (count_pairs s (λ i j. high_at a.now i * high_at b.now j)) (2 ^ B))) }
+    ensures convolution { IfOk result (λ g. IsConvolution cells a.now b.now g) }
     ensures spread { IfOk result (λ g. spread g ≤ cv (2 ^ B) cells (spread a.now) (spread b.now)) }
 {
-    let mut lows = Vec::from_elem(alloc, 0, cells as usize)?;
-    let mut highs = Vec::from_elem(alloc, 0, cells as usize)?;
-    let mut work = Vec::from_elem(alloc, 0, room_for(cells))?;
-    halved_sums(a.lows(), b.lows(), lows.as_mut_slice(), work.as_mut_slice());
-    halved_sums(
-        a.highs(),
-        b.highs(),
-        highs.as_mut_slice(),
-        work.as_mut_slice(),
-    );
+    let count = cells as usize;
+    let mut room = Vec::from_elem(alloc, 0, work_for(cells))?;
+    let work = room.as_mut_slice();
+    let lows = halved_product(alloc, a.lows(), b.lows(), count, work)?;
+    let highs = halved_product(alloc, a.highs(), b.highs(), count, work)?;
     Ok(grid_of_sums(a, b, lows, highs))
 }

@@ -1,4 +1,5 @@
 ghost use Rattle.std.specs.Prelude.{◌≡◌, ℕ, ◌+◌, ◌-◌, ◌*◌, ◌%◌, ◌^◌, ◌<◌, ◌≤◌, min, map, length, get_or};
+ghost use Rattle.dl_limits.specs.Limits.{most_cells};
 ghost use Rattle.dl_conv.specs.Modulo.{IsSame};
 ghost use Rattle.dl_conv.specs.Sums.{pair_sum, IsHalvable};
 
@@ -10,11 +11,12 @@ const BLOCK: usize = 32;
 /// The sum of the products of items whose places add up to `s`.
 fn column<R: Ring>(ring: &mut R, a: &[R::Elem], b: &[R::Elem], s: usize) -> R::Elem
     requires some { 1 ≤ length a.now }
-    requires few { length a.now ≤ 65536 }
+    requires few { length a.now ≤ most_cells }
     requires paired { length b.now ≡ length a.now }
     requires inside { s < 2 * length a.now }
     ensures value { IsSame (R.value result) (pair_sum (map R.value a.now) (map R.value b.now) s) }
-    ensures products { R.products ring.new ≤ R.products ring.old + (min (length a.now) (s + 1) - (s + 1 - length a.now)) }
+    ensures products { R.products ring.new ≤ R.products ring.old +
+        (min (length a.now) (s + 1) - (s + 1 - length a.now)) }
 {
     let mut sum = ring.zero();
     let first = (s + 1).saturating_sub(b.len());
@@ -31,7 +33,9 @@ fn block<R: Ring>(ring: &mut R, a: &[R::Elem], b: &[R::Elem], out: &mut [R::Elem
     requires long { length a.now ≡ 32 }
     requires paired { length b.now ≡ length a.now }
     requires room { length out.old ≡ 2 * length a.now }
-    ensures value { (s : ℕ) → s < length out.old → IsSame (get_or (map R.value out.new) s 0) (pair_sum (map R.value a.now) (map R.value b.now) s) }
+    ensures value { (s : ℕ) → s < length out.old
+        → IsSame (get_or (map R.value out.new) s 0)
+        (pair_sum (map R.value a.now) (map R.value b.now) s) }
     ensures products { R.products ring.new ≤ R.products ring.old + 1024 }
 {
     for s in 0..out.len() {
@@ -59,7 +63,8 @@ fn take_off<R: Ring>(ring: &mut R, low: &[R::Elem], high: &[R::Elem], middle: &m
     requires low { length low.now ≡ length middle.old }
     requires high { length high.now ≡ length middle.old }
     ensures value { (t : ℕ) → t < length middle.old → IsSame
-        (get_or (map R.value middle.new) t 0 + (get_or (map R.value low.now) t 0 + get_or (map R.value high.now) t 0))
+        (get_or (map R.value middle.new) t 0
+        + (get_or (map R.value low.now) t 0 + get_or (map R.value high.now) t 0))
         (get_or (map R.value middle.old) t 0) }
     ensures products { R.products ring.new ≡ R.products ring.old }
 {
@@ -73,9 +78,11 @@ fn take_off<R: Ring>(ring: &mut R, low: &[R::Elem], high: &[R::Elem], middle: &m
 /// Adds `middle` to the items of `out` from `half` on.
 fn add_middle<R: Ring>(ring: &mut R, middle: &[R::Elem], half: usize, out: &mut [R::Elem])
     requires { half + length middle.now ≤ length out.old }
-    ensures value { (t : ℕ) → t < length middle.now → IsSame (get_or (map R.value out.new) (half + t) 0)
+    ensures value { (t : ℕ) → t < length middle.now
+        → IsSame (get_or (map R.value out.new) (half + t) 0)
         (get_or (map R.value out.old) (half + t) 0 + get_or (map R.value middle.now) t 0) }
-    ensures first { (s : ℕ) → s < half → get_or (map R.value out.new) s 0 ≡ get_or (map R.value out.old) s 0 }
+    ensures first { (s : ℕ) → s < half → get_or (map R.value out.new) s 0
+        ≡ get_or (map R.value out.old) s 0 }
     ensures last { (s : ℕ) → half + length middle.now ≤ s
         → get_or (map R.value out.new) s 0 ≡ get_or (map R.value out.old) s 0 }
     ensures products { R.products ring.new ≡ R.products ring.old }
@@ -86,10 +93,10 @@ fn add_middle<R: Ring>(ring: &mut R, middle: &[R::Elem], half: usize, out: &mut 
     }
 }
 
-/// The product of two lists of `32 * 2^k` items, by halves: the products of the low halves, of the high
-/// halves, and of the sums of both (Karatsuba). Item `s` of `out` becomes, modulo `2^128`, the sum of
-/// all products of an item of `a` and one of `b` whose places add up to `s`. It makes at most
-/// `1024 * 3^k` products and takes no memory; `work` has at least four times the items of `a`.
+/// The product of two lists of `32 * 2^k` items, by halves: the products of the low halves, of the
+/// high halves, and of the sums of both (Karatsuba). Item `s` of `out` becomes, modulo `2^128`, the
+/// sum of all products of an item of `a` and one of `b` whose places add up to `s`. It makes at
+/// most `1024 * 3^k` products and takes no memory; `work` has at least four times the items of `a`.
 pub fn halved<R: Ring>(
     ring: &mut R,
     a: &[R::Elem],
@@ -101,8 +108,11 @@ pub fn halved<R: Ring>(
     requires paired { length b.now ≡ length a.now }
     requires room { length out.old ≡ 2 * length a.now }
     requires work { 4 * length a.now ≤ length work.old }
-    ensures value { (s : ℕ) → s < length out.old → get_or (map R.value out.new) s 0 ≡ pair_sum (map R.value a.now) (map R.value b.now) s % 2 ^ 128 }
-    ensures products { (k : ℕ) → length a.now ≡ 32 * 2 ^ k → R.products ring.new ≤ R.products ring.old + 1024 * 3 ^ k }
+    ensures value { (s : ℕ) → s < length out.old
+        → get_or (map R.value out.new) s 0 ≡ pair_sum (map R.value a.now)
+        (map R.value b.now) s % 2 ^ 128 }
+    ensures products { (k : ℕ) → length a.now ≡ 32 * 2 ^ k
+        → R.products ring.new ≤ R.products ring.old + 1024 * 3 ^ k }
 {
     if a.len() == BLOCK {
         block(ring, a, b, out);

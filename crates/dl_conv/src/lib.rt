@@ -13,6 +13,6 @@ mod tests;
 
 pub use grids::{convolve, convolve_plain, grid_of_sums};
 pub use halves::halved;
-pub use plain::plain_sums;
+pub use plain::{plain_sums, product_of_ends};
 pub use ring::{Counted, Ring, Words};
-pub use short::halved_sums;
+pub use short::{halved_sums, work_for};

@@ -1,4 +1,5 @@
 ghost use Rattle.std.specs.Prelude.{◌≡◌, ℕ, ◌+◌, ◌*◌, ◌^◌, ◌<◌, ◌≤◌, length, get_or, All};
+ghost use Rattle.dl_limits.specs.Limits.{most_cells};
 ghost use Rattle.dl_conv.specs.Sums.{pair_sum, halved_from, IsHalvable};
 
 use crate::halves::halved;
@@ -6,12 +7,23 @@ use crate::plain::plain_sums;
 use crate::ring::Words;
 
 /// The number of items from which on halving is faster than the plain product.
-pub(crate) const HALVED_FROM: usize = 1536;
+const HALVED_FROM: usize = 1536;
+
+/// How many items of work memory a product of so many items takes.
+pub fn work_for(cells: u32) -> usize
+    ensures { halved_from ≤ cells → 6 * cells ≤ result }
+{
+    if (cells as usize) < HALVED_FROM {
+        0
+    } else {
+        6 * cells as usize
+    }
+}
 
 /// The least length of `32 * 2^k` items that is at least half of `cells`.
 fn half_length(cells: usize) -> usize
     requires some { 64 ≤ cells }
-    requires few { cells ≤ 16384 }
+    requires few { cells ≤ most_cells }
     ensures halvable { IsHalvable result }
     ensures enough { cells ≤ 2 * result }
     ensures less { result < cells }
@@ -29,7 +41,7 @@ fn half_length(cells: usize) -> usize
 /// The product of two lists of `32 * 2^k` items, exactly: no item is above `2^56`.
 fn exact_product(a: &[u128], b: &[u128], out: &mut [u128], work: &mut [u128])
     requires halvable { IsHalvable (length a.now) }
-    requires few { length a.now ≤ 16384 }
+    requires few { length a.now ≤ most_cells }
     requires paired { length b.now ≡ length a.now }
     requires room { length out.old ≡ 2 * length a.now }
     requires work { 4 * length a.now ≤ length work.old }
@@ -43,7 +55,8 @@ fn exact_product(a: &[u128], b: &[u128], out: &mut [u128], work: &mut [u128])
 /// Adds `more` to the items of `out` from `start` on.
 fn add_from(out: &mut [u128], start: usize, more: &[u128])
     requires within { start + length more.now ≤ length out.old }
-    requires fits { (t : ℕ) → t < length more.now → get_or out.old (start + t) 0 + get_or more.now t 0 < 2 ^ 128 }
+    requires fits { (t : ℕ) → t < length more.now
+        → get_or out.old (start + t) 0 + get_or more.now t 0 < 2 ^ 128 }
     ensures first { (s : ℕ) → s < start → get_or out.new s 0 ≡ get_or out.old s 0 }
     ensures each { (t : ℕ) → t < length more.now
         → get_or out.new (start + t) 0 ≡ get_or out.old (start + t) 0 + get_or more.now t 0 }
@@ -54,14 +67,14 @@ fn add_from(out: &mut [u128], start: usize, more: &[u128])
 }
 
 /// The first items of the product of two lists, as many as `out` has, each as the sum of all its
-/// products; by halves where there are many. No item of the lists is above `2^56`. It takes no memory:
-/// `work` then has six times the items of `out`.
+/// products; by halves where there are many. No item of the lists is above `2^56`. It takes no
+/// memory: `work` then has as many items as `work_for` says.
 pub fn halved_sums(a: &[u128], b: &[u128], out: &mut [u128], work: &mut [u128])
     requires first { All (λ x. x ≤ 2 ^ 56) a.now }
     requires second { All (λ y. y ≤ 2 ^ 56) b.now }
     requires in_first { length out.old ≤ length a.now }
     requires in_second { length out.old ≤ length b.now }
-    requires few { length out.old ≤ 16384 }
+    requires few { length out.old ≤ most_cells }
     requires work { halved_from ≤ length out.old → 6 * length out.old ≤ length work.old }
     ensures each { (s : ℕ) → s < length out.old → get_or out.new s 0 ≡ pair_sum a.now b.now s }
 {

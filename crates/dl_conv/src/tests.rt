@@ -1,4 +1,5 @@
 ghost use Rattle.std.specs.Prelude.{◌≤◌, ◌<◌};
+ghost use Rattle.dl_limits.specs.Limits.{most_cells};
 
 use super::{Counted, convolve, convolve_plain, halved};
 use dl_grid::{Grid, units_of_one};
@@ -47,33 +48,13 @@ const AT_56: Sums = Sums {
     spread: 25,
 };
 
-/// Writes a cell, where the grid stays one.
-fn write<const B: u32>(g: &mut Grid<B>, x: u32, v: Iv<B>) -> bool
-    requires scale_above { 1 ≤ B }
-    requires scale_below { B ≤ 56 }
-{
-    let one = units_of_one(B);
-    if v.hi > one {
-        return false;
-    }
-    if x >= g.cells() {
-        return false;
-    }
-    let others = g.mass_low().saturating_sub(g.at(x).lo);
-    if others + v.lo > one {
-        return false;
-    }
-    g.set(x, v);
-    true
-}
-
 /// One die on 13 cells, each face enclosed on its own.
 fn die<const B: u32>(alloc: Global) -> Result<Option<Grid<B>>, AllocError>
     requires scale_above { 1 ≤ B }
     requires scale_below { B ≤ 56 }
 {
     let mut g = Grid::<B>::zero(alloc, 13)?;
-    if !write(&mut g, 0, Iv::point(0)) {
+    if !g.put(0, Iv::point(0)) {
         return Ok(None);
     }
     let one = units_of_one(B);
@@ -82,7 +63,7 @@ fn die<const B: u32>(alloc: Global) -> Result<Option<Grid<B>>, AllocError>
             lo: one / 6,
             hi: one.div_ceil(6),
         };
-        if !write(&mut g, face, v) {
+        if !g.put(face, v) {
             return Ok(None);
         }
     }
@@ -146,20 +127,19 @@ fn drawn<const B: u32>(
     requires scale_above { 1 ≤ B }
     requires scale_below { B ≤ 56 }
     requires some { 1 ≤ cells }
-    requires few { cells ≤ 16384 }
+    requires few { cells ≤ most_cells }
 {
     let mut g = Grid::<B>::zero(alloc, cells)?;
-    if !write(&mut g, 0, Iv::point(0)) {
+    if !g.put(0, Iv::point(0)) {
         return Ok(None);
     }
     let one = units_of_one(B);
     let part = one / (65536 * u128::from(cells));
     for s in 0..cells {
         let low = u128::from(draw(x, 65536)) * part;
-        let high = low + u128::from(draw(x, 65536)) * part;
+        let high = low.saturating_add(u128::from(draw(x, 65536)) * part);
         if low > one
-            || !write(
-                &mut g,
+            || !g.put(
                 s,
                 Iv {
                     lo: low,
@@ -173,12 +153,13 @@ fn drawn<const B: u32>(
     Ok(Some(g))
 }
 
-/// Whether the product by halves and the plain product of two drawn grids are the same, cell for cell.
+/// Whether the product by halves and the plain product of two drawn grids are the same, cell for
+/// cell.
 fn both_forms<const B: u32>(alloc: Global, start: u32, cells: u32) -> Result<bool, AllocError>
     requires scale_above { 1 ≤ B }
     requires scale_below { B ≤ 56 }
     requires some { 1 ≤ cells }
-    requires few { cells ≤ 16384 }
+    requires few { cells ≤ most_cells }
 {
     let mut x = start;
     let Some(a) = drawn::<B>(alloc, &mut x, cells)? else {

@@ -9,22 +9,26 @@ use Rattle.dl_iv.specs.declared.interval.Iv.{Iv}
 use Rattle.dl_grid.specs.Cells.{low_at, high_at, mass_low, all_at_zero, IsGrid}
 
 -- the ends of a cell by its place, and of one that was read
-pub low_at_get : {B : ℕ} (cells : List (Iv B)) (x : ℕ) (d : Iv B) → x < length cells → (get_or cells x d).lo ≡ low_at cells x
+pub low_at_get : {B : ℕ} (cells : List (Iv B)) (x : ℕ) (d : Iv B) → x < length cells
+    → (get_or cells x d).lo ≡ low_at cells x
 unfolding low_at
 low_at_get [] x d h = absurd (omega arith)
 low_at_get (c ∷ cs) zero d h = refl
 low_at_get (c ∷ cs) (suc x) d h = low_at_get cs x d (omega arith)
 
-pub high_at_get : {B : ℕ} (cells : List (Iv B)) (x : ℕ) (d : Iv B) → x < length cells → (get_or cells x d).hi ≡ high_at cells x
+pub high_at_get : {B : ℕ} (cells : List (Iv B)) (x : ℕ) (d : Iv B) → x < length cells
+    → (get_or cells x d).hi ≡ high_at cells x
 unfolding high_at
 high_at_get [] x d h = absurd (omega arith)
 high_at_get (c ∷ cs) zero d h = refl
 high_at_get (c ∷ cs) (suc x) d h = high_at_get cs x d (omega arith)
 
-pub low_at_read : {B : ℕ} (cells : List (Iv B)) (x : ℕ) (cell : Iv B) → x < length cells → cell ≡ get_or cells x cell → cell.lo ≡ low_at cells x
+pub low_at_read : {B : ℕ} (cells : List (Iv B)) (x : ℕ) (cell : Iv B) → x < length cells → cell ≡ get_or cells x cell
+    → cell.lo ≡ low_at cells x
 low_at_read cells x cell h e = ap (λ t. t.lo) e ∙ low_at_get cells x cell h
 
-pub high_at_read : {B : ℕ} (cells : List (Iv B)) (x : ℕ) (cell : Iv B) → x < length cells → cell ≡ get_or cells x cell → cell.hi ≡ high_at cells x
+pub high_at_read : {B : ℕ} (cells : List (Iv B)) (x : ℕ) (cell : Iv B) → x < length cells → cell ≡ get_or cells x cell
+    → cell.hi ≡ high_at cells x
 high_at_read cells x cell h e = ap (λ t. t.hi) e ∙ high_at_get cells x cell h
 
 -- a scale with an interval is from 1 to 56
@@ -46,9 +50,11 @@ pub high_fits : {B : ℕ} (cells : List (Iv B)) (x : ℕ) → IsGrid cells → h
 high_fits {B} cells x grid = omega (arith, high_le cells x (2 ^ B) grid.small, one_fits B (scale_of cells grid.some).1)
 
 -- a sum of parts that are each at most 1
-pub sum_fits : {B : ℕ} (cells : List (Iv B)) (f : Iv B → ℕ) (n : ℕ) → IsGrid cells → ((cell : Iv B) → f cell ≤ cell.hi) → sum_by f (take n cells) ≤ 2 ^ 70
+pub sum_fits : {B : ℕ} (cells : List (Iv B)) (f : Iv B → ℕ) (n : ℕ) → IsGrid cells → ((cell : Iv B) → f cell ≤ cell.hi)
+    → sum_by f (take n cells) ≤ 2 ^ 70
 sum_fits {B} cells f n grid within =
-    let each : All (λ cell. f cell ≤ 2 ^ B) cells = λ k d h. omega (arith, within (get_or cells k d), grid.small k d h) in
+    let each : All (λ cell. f cell ≤ 2 ^ B) cells = λ k d h.
+    omega (arith, within (get_or cells k d), grid.small k d h) in
     let whole : sum_by f cells ≤ length cells * 2 ^ B = sum_by-le f (2 ^ B) cells each in
     let most : length cells * 2 ^ B ≤ 16384 * 2 ^ 56 = mul-le-mul grid.few (one_fits B (scale_of cells grid.some).1) in
     omega (arith, sum_by-take-le f cells n, whole, most)

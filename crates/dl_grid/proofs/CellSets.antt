@@ -35,13 +35,15 @@ high_other (c ∷ cs) zero (suc x) v other = refl
 high_other (c ∷ cs) (suc i) zero v other = refl
 high_other (c ∷ cs) (suc i) (suc x) v other = high_other cs i x v (λ e. other (ap suc e))
 
-pub low_set : {B : ℕ} (cells : List (Iv B)) (i x : ℕ) (v : Iv B) → i < length cells → low_at (set cells i v) x ≡ (if i == x then v.lo else low_at cells x)
+pub low_set : {B : ℕ} (cells : List (Iv B)) (i x : ℕ) (v : Iv B) → i < length cells
+    → low_at (set cells i v) x ≡ (if i == x then v.lo else low_at cells x)
 low_set cells i x v inside = elim (eqb_tells i x) [
   | inl p ↦ rw (p.0, ← p.1) (low_here cells i v inside)
   | inr p ↦ rw p.0 (low_other cells i x v p.1)
 ]
 
-pub high_set : {B : ℕ} (cells : List (Iv B)) (i x : ℕ) (v : Iv B) → i < length cells → high_at (set cells i v) x ≡ (if i == x then v.hi else high_at cells x)
+pub high_set : {B : ℕ} (cells : List (Iv B)) (i x : ℕ) (v : Iv B) → i < length cells
+    → high_at (set cells i v) x ≡ (if i == x then v.hi else high_at cells x)
 high_set cells i x v inside = elim (eqb_tells i x) [
   | inl p ↦ rw (p.0, ← p.1) (high_here cells i v inside)
   | inr p ↦ rw p.0 (high_other cells i x v p.1)
@@ -54,29 +56,46 @@ unfolding all_at_zero
 low_added cells v more some e zero = low_here cells 0 v (omega arith) ∙ e
 low_added cells v more some e (suc x) = omega (arith, low_other cells 0 (suc x) v (omega arith))
 
-pub high_added : {B : ℕ} (cells : List (Iv B)) (v : Iv B) (top : ℕ) → 1 ≤ length cells → v.hi ≡ top → high_at (set cells 0 v) 0 ≡ top
+pub high_added : {B : ℕ} (cells : List (Iv B)) (v : Iv B) (top : ℕ) → 1 ≤ length cells → v.hi ≡ top
+    → high_at (set cells 0 v) 0 ≡ top
 high_added cells v top some e = high_here cells 0 v (omega arith) ∙ e
 
-pub high_kept : {B : ℕ} (cells : List (Iv B)) (v : Iv B) (x : ℕ) → high_at (set cells 0 v) (suc x) ≡ high_at cells (suc x)
+pub high_kept : {B : ℕ} (cells : List (Iv B)) (v : Iv B) (x : ℕ)
+    → high_at (set cells 0 v) (suc x) ≡ high_at cells (suc x)
 high_kept cells v x = high_other cells 0 (suc x) v (omega arith)
 
 -- cell 0 with more, lowered to 1, and the others as they are
-pub high_joined : (before after : ℕ → ℕ) (more top : ℕ) → after 0 ≡ min (before 0 + more) top → ((x : ℕ) → after (suc x) ≡ before (suc x))
+pub high_joined : (before after : ℕ → ℕ) (more top : ℕ) → after 0 ≡ min (before 0 + more) top
+    → ((x : ℕ) → after (suc x) ≡ before (suc x))
     → (x : ℕ) → before x ≤ top → after x ≡ min (before x + all_at_zero more x) top
 unfolding all_at_zero
 high_joined before after more top first others zero small = first
 high_joined before after more top first others (suc x) small = omega (arith, others x)
 
 pub low_in_mass : {B : ℕ} (cells : List (Iv B)) (x : ℕ) (d : Iv B) → x < length cells → low_at cells x ≤ mass_low cells
-low_in_mass {B} cells x d inside = omega (arith, get_or-le-sum_by (λ (c : Iv B). c.lo) cells x d inside, low_at_get cells x d inside)
+low_in_mass {B} cells x d inside = omega (
+  arith,
+  get_or-le-sum_by (λ (c : Iv B). c.lo) cells x d inside,
+  low_at_get cells x d inside,
+)
 
-pub mass_set : {B : ℕ} (cells : List (Iv B)) (x : ℕ) (v : Iv B) → x < length cells → mass_low (set cells x v) + low_at cells x ≡ mass_low cells + v.lo
-mass_set {B} cells x v inside = omega (arith, sum_by-set (λ (c : Iv B). c.lo) cells x v v inside, low_at_get cells x v inside)
+pub mass_set : {B : ℕ} (cells : List (Iv B)) (x : ℕ) (v : Iv B) → x < length cells
+    → mass_low (set cells x v) + low_at cells x ≡ mass_low cells + v.lo
+mass_set {B} cells x v inside = omega (
+  arith,
+  sum_by-set (λ (c : Iv B). c.lo) cells x v v inside,
+  low_at_get cells x v inside,
+)
 
 pub spread_set : {B : ℕ} (cells : List (Iv B)) (x : ℕ) (v : Iv B) → x < length cells
     → spread (set cells x v) + (high_at cells x - low_at cells x) ≡ spread cells + (v.hi - v.lo)
 spread_set {B} cells x v inside =
-    omega (arith, sum_by-set (λ (c : Iv B). c.hi - c.lo) cells x v v inside, low_at_get cells x v inside, high_at_get cells x v inside)
+    omega (
+      arith,
+      sum_by-set (λ (c : Iv B). c.hi - c.lo) cells x v v inside,
+      low_at_get cells x v inside,
+      high_at_get cells x v inside,
+    )
 
 -- the first cells
 pub low_take : {B : ℕ} (cells : List (Iv B)) (n x : ℕ) → x < n → low_at (take n cells) x ≡ low_at cells x
@@ -96,13 +115,15 @@ high_take (c ∷ cs) (suc n) zero inside = refl
 high_take (c ∷ cs) (suc n) (suc x) inside = high_take cs n x (omega arith)
 
 -- cells that are all 0
-pub low_emptied : {B : ℕ} (cells : List (Iv B)) (v : Iv B) (mass : ℕ) → 1 ≤ length cells → ((x : ℕ) → low_at cells x ≡ all_at_zero mass x) → v.lo ≡ 0
+pub low_emptied : {B : ℕ} (cells : List (Iv B)) (v : Iv B) (mass : ℕ) → 1 ≤ length cells
+    → ((x : ℕ) → low_at cells x ≡ all_at_zero mass x) → v.lo ≡ 0
     → (x : ℕ) → low_at (set cells 0 v) x ≡ 0
 unfolding all_at_zero
 low_emptied cells v mass some e none zero = low_here cells 0 v (omega arith) ∙ none
 low_emptied cells v mass some e none (suc x) = low_other cells 0 (suc x) v (omega arith) ∙ e (suc x)
 
-pub high_emptied : {B : ℕ} (cells : List (Iv B)) (v : Iv B) (mass : ℕ) → 1 ≤ length cells → ((x : ℕ) → high_at cells x ≡ all_at_zero mass x) → v.hi ≡ 0
+pub high_emptied : {B : ℕ} (cells : List (Iv B)) (v : Iv B) (mass : ℕ) → 1 ≤ length cells
+    → ((x : ℕ) → high_at cells x ≡ all_at_zero mass x) → v.hi ≡ 0
     → (x : ℕ) → high_at (set cells 0 v) x ≡ 0
 unfolding all_at_zero
 high_emptied cells v mass some e none zero = high_here cells 0 v (omega arith) ∙ none
@@ -116,7 +137,12 @@ mass_none {B} (c ∷ cs) e = omega (arith, sum_by-cons (λ (c : Iv B). c.lo) c c
 pub spread_none : {B : ℕ} (cells : List (Iv B)) → ((x : ℕ) → high_at cells x ≡ low_at cells x) → spread cells ≡ 0
 unfolding low_at high_at
 spread_none [] e = refl
-spread_none {B} (c ∷ cs) e = omega (arith, sum_by-cons (λ (c : Iv B). c.hi - c.lo) c cs, e 0, spread_none cs (λ x. e (suc x)))
+spread_none {B} (c ∷ cs) e = omega (
+  arith,
+  sum_by-cons (λ (c : Iv B). c.hi - c.lo) c cs,
+  e 0,
+  spread_none cs (λ x. e (suc x)),
+)
 
 pub at_zero_small : (m x : ℕ) → all_at_zero m x ≤ m
 unfolding all_at_zero

@@ -12,7 +12,7 @@ use Rattle.std.proofs.lemmas.List.Elements.{All-replicate, All-take, All-set, Al
 use Rattle.std.proofs.lemmas.List.Folds.{sum_by-replicate}
 use Rattle.std.proofs.lemmas.List.Sums.{sum_by-cons, sum-map, sum_by-take-le, sum_by-set, sum_by-le}
 use Rattle.dl_iv.specs.declared.interval.Iv.{Iv}
-use Rattle.dl_grid.proofs.CellLaws.{scale_of}
+use Rattle.dl_grid.proofs.CellLaws.{scale_of, one_fits}
 use Rattle.dl_grid.specs.Cells.{low_at, high_at, low_ends, high_ends, cell_by, cells_of, mass_low, mass_high, spread, all_at_zero, IsGrid, AreEnds}
 
 -- an end by its place
@@ -50,20 +50,25 @@ lows_small {B} {lows} {highs} p k d inside =
 unfoldable made : {B : ℕ} (lo hi : ℕ) → lo ≤ hi → hi ≤ 2 ^ 127 → 1 ≤ B → B ≤ 56 → Iv B
 made lo hi p q r s = record { lo = lo; hi = hi; ordered = p; in_range = q; scale_above = r; scale_below = s }
 
-same_proofs : {B : ℕ} (lo hi : ℕ) (p p' : lo ≤ hi) (q q' : hi ≤ 2 ^ 127) (r r' : 1 ≤ B) (s s' : B ≤ 56) → made lo hi p q r s ≡ made lo hi p' q' r' s'
+same_proofs : {B : ℕ} (lo hi : ℕ) (p p' : lo ≤ hi) (q q' : hi ≤ 2 ^ 127) (r r' : 1 ≤ B) (s s' : B ≤ 56)
+    → made lo hi p q r s ≡ made lo hi p' q' r' s'
 same_proofs lo hi p p' q q' r r' s s' = cc (le_prop p p', le_prop q q', le_prop r r', le_prop s s')
 
-same_made : {B : ℕ} (lo hi lo' hi' : ℕ) → lo ≡ lo' → hi ≡ hi' → (p : lo ≤ hi) (q : hi ≤ 2 ^ 127) (p' : lo' ≤ hi') (q' : hi' ≤ 2 ^ 127) (r r' : 1 ≤ B) (s s' : B ≤ 56)
+same_made : {B : ℕ} (lo hi lo' hi' : ℕ) → lo ≡ lo' → hi ≡ hi'
+    → (p : lo ≤ hi) (q : hi ≤ 2 ^ 127) (p' : lo' ≤ hi') (q' : hi' ≤ 2 ^ 127) (r r' : 1 ≤ B) (s s' : B ≤ 56)
     → made lo hi p q r s ≡ made lo' hi' p' q' r' s'
 same_made {B} lo hi lo' hi' e h =
-    subst (λ l. (p : lo ≤ hi) (q : hi ≤ 2 ^ 127) (p' : l ≤ hi') (q' : hi' ≤ 2 ^ 127) (r r' : 1 ≤ B) (s s' : B ≤ 56) → made lo hi p q r s ≡ made l hi' p' q' r' s') e (
-    subst (λ m. (p : lo ≤ hi) (q : hi ≤ 2 ^ 127) (p' : lo ≤ m) (q' : m ≤ 2 ^ 127) (r r' : 1 ≤ B) (s s' : B ≤ 56) → made lo hi p q r s ≡ made lo m p' q' r' s') h (
+    subst (λ l. (p : lo ≤ hi) (q : hi ≤ 2 ^ 127) (p' : l ≤ hi') (q' : hi' ≤ 2 ^ 127) (r r' : 1 ≤ B) (s s' : B ≤ 56)
+    → made lo hi p q r s ≡ made l hi' p' q' r' s') e (
+    subst (λ m. (p : lo ≤ hi) (q : hi ≤ 2 ^ 127) (p' : lo ≤ m) (q' : m ≤ 2 ^ 127) (r r' : 1 ≤ B) (s s' : B ≤ 56)
+    → made lo hi p q r s ≡ made lo m p' q' r' s') h (
     λ p q p' q' r r' s s'. same_proofs lo hi p p' q q' r r' s s'))
 
 same_cell : {B : ℕ} (c d : Iv B) → c.lo ≡ d.lo → c.hi ≡ d.hi → c ≡ d
 unfolding made
 same_cell c d e h =
-    same_made c.lo c.hi d.lo d.hi e h c.ordered c.in_range d.ordered d.in_range c.scale_above d.scale_above c.scale_below d.scale_below
+    same_made c.lo c.hi d.lo d.hi e h c.ordered c.in_range d.ordered d.in_range c.scale_above d.scale_above
+    c.scale_below d.scale_below
 
 pub same_cells : {B : ℕ} (xs ys : List (Iv B)) → low_ends xs ≡ low_ends ys → high_ends xs ≡ high_ends ys → xs ≡ ys
 same_cells [] [] e h = refl
@@ -72,8 +77,10 @@ same_cells (x ∷ xs) [] e h = absurd (cc)
 same_cells (x ∷ xs) (y ∷ ys) e h = ap₂ (λ c cs. c ∷ cs) (same_cell x y (cc) (cc)) (same_cells xs ys (cc) (cc))
 
 -- the cell with two ends that are in order
-one_cell : {B lo hi : ℕ} (p : (hi < lo) ⊎ (lo ≤ hi)) (q : (2 ^ 127 < hi) ⊎ (hi ≤ 2 ^ 127)) (r : (B < 1) ⊎ (1 ≤ B)) (s : (56 < B) ⊎ (B ≤ 56))
-    → lo ≤ hi → hi ≤ 2 ^ 127 → 1 ≤ B → B ≤ 56 → (low_ends (cell_by p q r s) ≡ lo ∷ []) × (high_ends (cell_by p q r s) ≡ hi ∷ [])
+one_cell : {B lo hi : ℕ} (p : (hi < lo) ⊎ (lo ≤ hi)) (q : (2 ^ 127 < hi) ⊎ (hi ≤ 2 ^ 127)) (r : (B < 1) ⊎ (1 ≤ B))
+    (s : (56 < B) ⊎ (B ≤ 56))
+    → lo ≤ hi → hi ≤ 2 ^ 127 → 1 ≤ B → B ≤ 56 → (low_ends (cell_by p q r s) ≡ lo ∷ [])
+    × (high_ends (cell_by p q r s) ≡ hi ∷ [])
 unfolding cell_by
 one_cell (inr p) (inr q) (inr r) (inr s) a b c d = (refl, refl)
 one_cell (inl p) q r s a b c d = absurd (omega arith)
@@ -89,7 +96,12 @@ record AreOrdered (B : ℕ) (lows highs : List ℕ) : Type 0 where
 
 rest_ordered : {B lo hi : ℕ} {lows highs : List ℕ} → AreOrdered B (lo ∷ lows) (hi ∷ highs) → AreOrdered B lows highs
 rest_ordered {lo = lo} {hi = hi} {lows = lows} {highs = highs} p =
-    record { paired = omega (arith, p.paired); ordered = λ x. p.ordered (suc x); small = All-tail (λ high. high ≤ 2 ^ 127) hi highs p.small }
+    record {
+      paired = omega (arith, p.paired);
+      ordered = λ x. p.ordered (suc x);
+      small =
+          All-tail (λ high. high ≤ 2 ^ 127) hi highs p.small;
+    }
 
 ends_back : {B : ℕ} (lows highs : List ℕ) → 1 ≤ B → B ≤ 56 → AreOrdered B lows highs
     → (low_ends (cells_of B lows highs) ≡ lows) × (high_ends (cells_of B lows highs) ≡ highs)
@@ -98,17 +110,32 @@ ends_back [] [] above below p = (refl, refl)
 ends_back [] (h ∷ hs) above below p = absurd (omega (arith, p.paired))
 ends_back (l ∷ ls) [] above below p = absurd (omega (arith, p.paired))
 ends_back {B} (l ∷ ls) (h ∷ hs) above below p =
-    let first = one_cell (cases_lt h l) (cases_lt (2 ^ 127) h) (cases_lt B 1) (cases_lt 56 B) (p.ordered 0) (All-head (λ high. high ≤ 2 ^ 127) h hs p.small) above below in
-    let rest = ends_back ls hs above below (rest_ordered p) in
-    (map-append _ _ _ ∙ ap₂ (λ xs ys. xs ++ ys) first.0 rest.0, map-append _ _ _ ∙ ap₂ (λ xs ys. xs ++ ys) first.1 rest.1)
+    let first = one_cell (cases_lt h l) (cases_lt (2 ^ 127) h) (cases_lt B 1) (cases_lt 56 B) (p.ordered 0)
+    (All-head (λ high. high ≤ 2 ^ 127) h hs p.small) above below in
+    let rest = ends_back ls hs above below (rest_ordered p) in (
+      map-append _ _ _ ∙ ap₂ (λ xs ys. xs ++ ys) first.0 rest.0,
+      map-append _ _ _
+          ∙ ap₂ (λ xs ys. xs ++ ys) first.1 rest.1,
+    )
 
 -- no end is above 2^127 where none is above 1
 pub in_range : (B : ℕ) (highs : List ℕ) → B ≤ 56 → All (λ high. high ≤ 2 ^ B) highs → All (λ high. high ≤ 2 ^ 127) highs
 in_range B highs below small =
-    All-weaker (λ high. high ≤ 2 ^ B) (λ high. high ≤ 2 ^ 127) (λ high (h : high ≤ 2 ^ B). omega (arith, h, pow-le-pow_right {n = 2} (omega arith) {i = B} {j = 127} (omega arith))) highs small
+    All-weaker (λ high. high ≤ 2 ^ B) (λ high. high ≤ 2 ^ 127)
+    (λ high (h : high ≤ 2 ^ B). omega (
+      arith,
+      h,
+      pow-le-pow_right {n = 2} (omega arith) {i = B} {j = 127}
+          (omega arith),
+    )) highs small
 
 ordered_of : {B : ℕ} {lows highs : List ℕ} → AreEnds B lows highs → AreOrdered B lows highs
-ordered_of {B} {lows} {highs} p = record { paired = p.paired; ordered = p.ordered; small = in_range B highs p.scale_below p.small }
+ordered_of {B} {lows} {highs} p = record {
+  paired = p.paired;
+  ordered = p.ordered;
+  small =
+      in_range B highs p.scale_below p.small;
+}
 
 pub low_list : {B : ℕ} {lows highs : List ℕ} → AreEnds B lows highs → low_ends (cells_of B lows highs) ≡ lows
 low_list {B} {lows} {highs} p = (ends_back lows highs p.scale_above p.scale_below (ordered_of p)).0
@@ -117,8 +144,10 @@ pub high_list : {B : ℕ} {lows highs : List ℕ} → AreEnds B lows highs → h
 high_list {B} {lows} {highs} p = (ends_back lows highs p.scale_above p.scale_below (ordered_of p)).1
 
 -- cells whose ends are those of a grid are one
-small_cells : {B : ℕ} (cells : List (Iv B)) (m : ℕ) → All (λ high. high ≤ m) (high_ends cells) → All (λ cell. cell.hi ≤ m) cells
-small_cells cells m small k d inside = rw (← get_or-map (λ cell. cell.hi) cells k d d.hi inside) (small k d.hi (rw (length-map cells (λ cell. cell.hi)) inside))
+small_cells : {B : ℕ} (cells : List (Iv B)) (m : ℕ) → All (λ high. high ≤ m) (high_ends cells)
+    → All (λ cell. cell.hi ≤ m) cells
+small_cells cells m small k d inside = rw (← get_or-map (λ cell. cell.hi) cells k d d.hi inside)
+    (small k d.hi (rw (length-map cells (λ cell. cell.hi)) inside))
 
 pub grid_of_ends : {B : ℕ} (cells : List (Iv B)) → AreEnds B (low_ends cells) (high_ends cells) → IsGrid cells
 grid_of_ends {B} cells p = record {
@@ -149,21 +178,25 @@ pub record IsViewed {B : ℕ} (cells : List (Iv B)) (lows highs : List ℕ) : Ty
   pub high : high_ends cells ≡ highs
   pub ends : AreEnds B (low_ends cells) (high_ends cells)
 
-pub viewed : {B : ℕ} {lows highs : List ℕ} (cells : List (Iv B)) → AreEnds B lows highs → cells_of B lows highs ≡ cells → IsViewed cells lows highs
+pub viewed : {B : ℕ} {lows highs : List ℕ} (cells : List (Iv B)) → AreEnds B lows highs → cells_of B lows highs ≡ cells
+    → IsViewed cells lows highs
 viewed {B} {lows} {highs} cells p e = rw (← e) (record {
   low = low_list p;
   high = high_list p;
   ends = rw (low_list p, high_list p) p;
 })
 
-pub ends_long : {B : ℕ} {lows highs : List ℕ} (cells : List (Iv B)) → IsViewed cells lows highs → length lows ≡ length cells
+pub ends_long : {B : ℕ} {lows highs : List ℕ} (cells : List (Iv B)) → IsViewed cells lows highs
+    → length lows ≡ length cells
 ends_long cells v = rw (← v.low) (low_ends_long cells)
 
 -- the first cells, and one cell written
-pub ends_taken : {B : ℕ} (n : ℕ) (lows highs : List ℕ) → 1 ≤ n → n ≤ length lows → AreEnds B lows highs → AreEnds B (take n lows) (take n highs)
+pub ends_taken : {B : ℕ} (n : ℕ) (lows highs : List ℕ) → 1 ≤ n → n ≤ length lows → AreEnds B lows highs
+    → AreEnds B (take n lows) (take n highs)
 ends_taken {B} n lows highs some within p =
     let short = length-take-le n lows within in
-    let paired : length (take n highs) ≡ length (take n lows) = omega (arith, short, length-take-le n highs (omega (arith, p.paired)), p.paired) in
+    let paired : length (take n highs) ≡ length (take n lows) =
+    omega (arith, short, length-take-le n highs (omega (arith, p.paired)), p.paired) in
     record {
       scale_above = p.scale_above;
       scale_below = p.scale_below;
@@ -178,7 +211,8 @@ ends_taken {B} n lows highs some within p =
       mass = omega (arith, p.mass, sum_by-take-le (λ (e : ℕ). e) lows n);
     }
 
-pub ends_set : {B : ℕ} (x lo hi : ℕ) (lows highs : List ℕ) → x < length lows → lo ≤ hi → hi ≤ 2 ^ B → sum lows - get_or lows x 0 + lo ≤ 2 ^ B
+pub ends_set : {B : ℕ} (x lo hi : ℕ) (lows highs : List ℕ) → x < length lows → lo ≤ hi → hi ≤ 2 ^ B
+    → sum lows - get_or lows x 0 + lo ≤ 2 ^ B
     → AreEnds B lows highs → AreEnds B (set lows x lo) (set highs x hi)
 ends_set {B} x lo hi lows highs within order top mass p =
     record {
@@ -188,7 +222,11 @@ ends_set {B} x lo hi lows highs within order top mass p =
       few = rw length-set p.few;
       paired = rw (length-set, length-set) p.paired;
       ordered = λ y. elim (eqb_tells y x) [
-        | inl e ↦ rw (e.1, get_or-set_same lows x lo 0 within, get_or-set_same highs x hi 0 (omega (arith, p.paired))) order
+        | inl e ↦ rw (
+          e.1,
+          get_or-set_same lows x lo 0 within,
+          get_or-set_same highs x hi 0 (omega (arith, p.paired)),
+        ) order
         | inr e ↦ rw (get_or-set_other lows x y lo 0 e.1, get_or-set_other highs x y hi 0 e.1) (p.ordered y)
       ];
       small = All-set (λ high. high ≤ 2 ^ B) highs x hi top p.small;
@@ -196,45 +234,67 @@ ends_set {B} x lo hi lows highs within order top mass p =
     }
 
 -- what the first n ends add up to fits: each is at most 1
-pub ends_fit : {B : ℕ} (ends : List ℕ) (n : ℕ) → B ≤ 56 → length ends ≤ 16384 → All (λ e. e ≤ 2 ^ B) ends → sum (take n ends) ≤ 2 ^ 70
+-- no end is above 2^56
+pub ends_below : {B : ℕ} (ends : List ℕ) → B ≤ 56 → All (λ e. e ≤ 2 ^ B) ends → All (λ e. e ≤ 2 ^ 56) ends
+ends_below {B} ends below small k d inside = omega (arith, small k d inside, one_fits B below)
+
+pub ends_fit : {B : ℕ} (ends : List ℕ) (n : ℕ) → B ≤ 56 → length ends ≤ 16384 → All (λ e. e ≤ 2 ^ B) ends
+    → sum (take n ends) ≤ 2 ^ 70
 ends_fit {B} ends n below few small =
     let whole : sum ends ≤ length ends * 2 ^ B = sum_by-le (λ (e : ℕ). e) (2 ^ B) ends small in
-    let most : length ends * 2 ^ B ≤ 16384 * 2 ^ 56 = mul-le-mul few (pow-le-pow_right {n = 2} (omega arith) {i = B} {j = 56} below) in
+    let most : length ends * 2 ^ B ≤ 16384 * 2 ^ 56 =
+    mul-le-mul few (pow-le-pow_right {n = 2} (omega arith) {i = B} {j = 56} below) in
     omega (arith, sum_by-take-le (λ (e : ℕ). e) ends n, whole, most)
 
-pub ends_fit_all : {B : ℕ} (ends : List ℕ) → B ≤ 56 → length ends ≤ 16384 → All (λ e. e ≤ 2 ^ B) ends → sum ends ≤ 2 ^ 70
-ends_fit_all {B} ends below few small = rw (take_all (length ends) ends (omega arith)) at (ends_fit {B = B} ends (length ends) below few small)
+pub ends_fit_all : {B : ℕ} (ends : List ℕ) → B ≤ 56 → length ends ≤ 16384 → All (λ e. e ≤ 2 ^ B) ends
+    → sum ends ≤ 2 ^ 70
+ends_fit_all {B} ends below few small = rw (take_all (length ends) ends (omega arith)) at
+    (ends_fit {B = B} ends (length ends) below few small)
 
 pub high_few : {B : ℕ} {lows highs : List ℕ} → AreEnds B lows highs → length highs ≤ 16384
 high_few p = omega (arith, p.paired, p.few)
 
 -- the sums of the first ends, by the cells
-pub low_sum : {B : ℕ} {cells : List (Iv B)} {lows highs : List ℕ} (n : ℕ) → IsViewed cells lows highs → sum (take n lows) ≡ mass_low (take n cells)
+pub low_sum : {B : ℕ} {cells : List (Iv B)} {lows highs : List ℕ} (n : ℕ) → IsViewed cells lows highs
+    → sum (take n lows) ≡ mass_low (take n cells)
 low_sum {B} {cells} n v = rw (← v.low, take-map) (sum-map (λ (c : Iv B). c.lo) (take n cells))
 
-pub high_sum : {B : ℕ} {cells : List (Iv B)} {lows highs : List ℕ} (n : ℕ) → IsViewed cells lows highs → sum (take n highs) ≡ mass_high (take n cells)
+pub high_sum : {B : ℕ} {cells : List (Iv B)} {lows highs : List ℕ} (n : ℕ) → IsViewed cells lows highs
+    → sum (take n highs) ≡ mass_high (take n cells)
 high_sum {B} {cells} n v = rw (← v.high, take-map) (sum-map (λ (c : Iv B). c.hi) (take n cells))
 
-pub low_total : {B : ℕ} {cells : List (Iv B)} {lows highs : List ℕ} → IsViewed cells lows highs → sum lows ≡ mass_low cells
+pub low_total : {B : ℕ} {cells : List (Iv B)} {lows highs : List ℕ} → IsViewed cells lows highs
+    → sum lows ≡ mass_low cells
 low_total {B} {cells} v = rw (← v.low) (sum-map (λ (c : Iv B). c.lo) cells)
 
-pub high_total : {B : ℕ} {cells : List (Iv B)} {lows highs : List ℕ} → IsViewed cells lows highs → sum highs ≡ mass_high cells
+pub high_total : {B : ℕ} {cells : List (Iv B)} {lows highs : List ℕ} → IsViewed cells lows highs
+    → sum highs ≡ mass_high cells
 high_total {B} {cells} v = rw (← v.high) (sum-map (λ (c : Iv B). c.hi) cells)
 
 -- the widths are what the high ends have more than the low ends
 pub spread_is : {B : ℕ} (cells : List (Iv B)) → mass_low cells + spread cells ≡ mass_high cells
 spread_is [] = refl
 spread_is {B} (c ∷ cs) =
-    omega (arith, sum_by-cons (λ (c : Iv B). c.lo) c cs, sum_by-cons (λ (c : Iv B). c.hi) c cs, sum_by-cons (λ (c : Iv B). c.hi - c.lo) c cs, spread_is cs, c.ordered)
+    omega (
+      arith,
+      sum_by-cons (λ (c : Iv B). c.lo) c cs,
+      sum_by-cons (λ (c : Iv B). c.hi) c cs,
+      sum_by-cons (λ (c : Iv B). c.hi - c.lo) c cs,
+      spread_is cs,
+      c.ordered,
+    )
 
 -- the cells of the first ends, and of ends with one written
-pub view_taken : {B : ℕ} {cells : List (Iv B)} {lows highs : List ℕ} (n : ℕ) → AreEnds B (take n lows) (take n highs) → IsViewed cells lows highs
+pub view_taken : {B : ℕ} {cells : List (Iv B)} {lows highs : List ℕ} (n : ℕ) → AreEnds B (take n lows) (take n highs)
+    → IsViewed cells lows highs
     → cells_of B (take n lows) (take n highs) ≡ take n cells
 view_taken {B} {cells} {lows} {highs} n p v =
     same_cells (cells_of B (take n lows) (take n highs)) (take n cells)
-    (low_list p ∙ ap (take n) (sym v.low) ∙ take-map (λ (c : Iv B). c.lo) n cells) (high_list p ∙ ap (take n) (sym v.high) ∙ take-map (λ (c : Iv B). c.hi) n cells)
+    (low_list p ∙ ap (take n) (sym v.low) ∙ take-map (λ (c : Iv B). c.lo) n cells)
+    (high_list p ∙ ap (take n) (sym v.high) ∙ take-map (λ (c : Iv B). c.hi) n cells)
 
-pub view_set : {B : ℕ} {cells : List (Iv B)} {lows highs : List ℕ} (x : ℕ) (v : Iv B) → AreEnds B (set lows x v.lo) (set highs x v.hi) → IsViewed cells lows highs
+pub view_set : {B : ℕ} {cells : List (Iv B)} {lows highs : List ℕ} (x : ℕ) (v : Iv B)
+    → AreEnds B (set lows x v.lo) (set highs x v.hi) → IsViewed cells lows highs
     → cells_of B (set lows x v.lo) (set highs x v.hi) ≡ set cells x v
 view_set {B} {cells} {lows} {highs} x v p w =
     same_cells (cells_of B (set lows x v.lo) (set highs x v.hi)) (set cells x v)
@@ -250,10 +310,13 @@ nothing_at n x = elim (cases_lt x n) [
 
 pub zero_at : (n mass x : ℕ) → 1 ≤ n → get_or (set (replicate {A = ℕ} n 0) 0 mass) x 0 ≡ all_at_zero mass x
 unfolding all_at_zero
-zero_at n mass zero some = get_or-set_same (replicate {A = ℕ} n 0) 0 mass 0 (omega (arith, length-replicate {A = ℕ} n 0))
-zero_at n mass (suc x) some = get_or-set_other (replicate {A = ℕ} n 0) 0 (suc x) mass 0 (omega arith) ∙ nothing_at n (suc x)
+zero_at n mass zero some = get_or-set_same (replicate {A = ℕ} n 0) 0 mass 0
+    (omega (arith, length-replicate {A = ℕ} n 0))
+zero_at n mass (suc x) some = get_or-set_other (replicate {A = ℕ} n 0) 0 (suc x) mass 0 (omega arith)
+    ∙ nothing_at n (suc x)
 
-pub zero_ends : (B n : ℕ) → 1 ≤ B → B ≤ 56 → 1 ≤ n → n ≤ 16384 → AreEnds B (set (replicate {A = ℕ} n 0) 0 (2 ^ B)) (set (replicate {A = ℕ} n 0) 0 (2 ^ B))
+pub zero_ends : (B n : ℕ) → 1 ≤ B → B ≤ 56 → 1 ≤ n → n ≤ 16384
+    → AreEnds B (set (replicate {A = ℕ} n 0) 0 (2 ^ B)) (set (replicate {A = ℕ} n 0) 0 (2 ^ B))
 zero_ends B n above below some few =
     let long : length (set (replicate {A = ℕ} n 0) 0 (2 ^ B)) ≡ n = rw length-set (length-replicate {A = ℕ} n 0) in
     record {
@@ -263,7 +326,8 @@ zero_ends B n above below some few =
       few = omega (arith, long);
       paired = refl;
       ordered = λ x. omega arith;
-      small = All-set (λ e. e ≤ 2 ^ B) (replicate n 0) 0 (2 ^ B) (omega arith) (All-replicate (λ e. e ≤ 2 ^ B) n 0 (omega arith));
+      small = All-set (λ e. e ≤ 2 ^ B) (replicate n 0) 0 (2 ^ B) (omega arith)
+          (All-replicate (λ e. e ≤ 2 ^ B) n 0 (omega arith));
       mass = omega (
         arith,
         sum_by-set (λ (e : ℕ). e) (replicate n 0) 0 (2 ^ B) 0 (omega (arith, length-replicate {A = ℕ} n 0)),
@@ -272,34 +336,45 @@ zero_ends B n above below some few =
     }
 
 -- a cell's ends as they were read
-pub read_at : {B : ℕ} {cells : List (Iv B)} {lows highs : List ℕ} {low high : ℕ} (x : ℕ) → IsViewed cells lows highs → x < length cells
+pub read_at : {B : ℕ} {cells : List (Iv B)} {lows highs : List ℕ} {low high : ℕ} (x : ℕ) → IsViewed cells lows highs
+    → x < length cells
     → low ≡ get_or lows x low → high ≡ get_or highs x high → (low ≡ low_at cells x) × (high ≡ high_at cells x)
 read_at {B} {cells} {lows} {highs} {low} {high} x v inside e h =
     let lower : x < length lows = omega (arith, ends_long cells v) in
-    let upper : x < length highs = omega (arith, high_ends_long cells, ap length v.high) in
-    (e ∙ get_or_default_zero lows x low lower ∙ rw (← v.low) (low_at_ends cells x), h ∙ get_or_default_zero highs x high upper ∙ rw (← v.high) (high_at_ends cells x))
+    let upper : x < length highs = omega (arith, high_ends_long cells, ap length v.high) in (
+      e ∙ get_or_default_zero lows x low lower ∙ rw (← v.low) (low_at_ends cells x),
+      h
+          ∙ get_or_default_zero highs x high upper ∙ rw (← v.high) (high_at_ends cells x),
+    )
 
-pub read_small : {B : ℕ} {cells : List (Iv B)} {lows highs : List ℕ} {high : ℕ} (x : ℕ) → IsViewed cells lows highs → x < length cells → AreEnds B lows highs
+pub read_small : {B : ℕ} {cells : List (Iv B)} {lows highs : List ℕ} {high : ℕ} (x : ℕ) → IsViewed cells lows highs
+    → x < length cells → AreEnds B lows highs
     → high ≡ get_or highs x high → high ≤ 2 ^ B
 read_small {B} {cells} {lows} {highs} {high} x v inside p h =
     let upper : x < length highs = omega (arith, high_ends_long cells, ap length v.high) in
     omega (arith, h, p.small x high upper)
 
-pub low_at_now : {B : ℕ} {cells : List (Iv B)} {lows highs : List ℕ} (x : ℕ) → IsViewed cells lows highs → get_or lows x 0 ≡ low_at cells x
+pub low_at_now : {B : ℕ} {cells : List (Iv B)} {lows highs : List ℕ} (x : ℕ) → IsViewed cells lows highs
+    → get_or lows x 0 ≡ low_at cells x
 low_at_now {cells = cells} x v = rw (← v.low) (low_at_ends cells x)
 
 -- zero's cells
 pub zero_low : (B n x : ℕ) → 1 ≤ B → B ≤ 56 → 1 ≤ n → n ≤ 16384
-    → low_at (cells_of B (set (replicate {A = ℕ} n 0) 0 (2 ^ B)) (set (replicate {A = ℕ} n 0) 0 (2 ^ B))) x ≡ all_at_zero (2 ^ B) x
+    → low_at (cells_of B (set (replicate {A = ℕ} n 0) 0 (2 ^ B)) (set (replicate {A = ℕ} n 0) 0 (2 ^ B))) x
+    ≡ all_at_zero (2 ^ B) x
 zero_low B n x above below some few =
-    sym (low_at_ends _ x) ∙ ap (λ ends. get_or ends x 0) (low_list (zero_ends B n above below some few)) ∙ zero_at n (2 ^ B) x some
+    sym (low_at_ends _ x) ∙ ap (λ ends. get_or ends x 0) (low_list (zero_ends B n above below some few))
+    ∙ zero_at n (2 ^ B) x some
 
 pub zero_high : (B n x : ℕ) → 1 ≤ B → B ≤ 56 → 1 ≤ n → n ≤ 16384
-    → high_at (cells_of B (set (replicate {A = ℕ} n 0) 0 (2 ^ B)) (set (replicate {A = ℕ} n 0) 0 (2 ^ B))) x ≡ all_at_zero (2 ^ B) x
+    → high_at (cells_of B (set (replicate {A = ℕ} n 0) 0 (2 ^ B)) (set (replicate {A = ℕ} n 0) 0 (2 ^ B))) x
+    ≡ all_at_zero (2 ^ B) x
 zero_high B n x above below some few =
-    sym (high_at_ends _ x) ∙ ap (λ ends. get_or ends x 0) (high_list (zero_ends B n above below some few)) ∙ zero_at n (2 ^ B) x some
+    sym (high_at_ends _ x) ∙ ap (λ ends. get_or ends x 0) (high_list (zero_ends B n above below some few))
+    ∙ zero_at n (2 ^ B) x some
 
 pub zero_long : (B n : ℕ) → 1 ≤ B → B ≤ 56 → 1 ≤ n → n ≤ 16384
     → length (cells_of B (set (replicate {A = ℕ} n 0) 0 (2 ^ B)) (set (replicate {A = ℕ} n 0) 0 (2 ^ B))) ≡ n
 zero_long B n above below some few =
-    sym (low_ends_long _) ∙ ap length (low_list (zero_ends B n above below some few)) ∙ length-set (replicate {A = ℕ} n 0) 0 (2 ^ B) ∙ length-replicate {A = ℕ} n 0
+    sym (low_ends_long _) ∙ ap length (low_list (zero_ends B n above below some few))
+    ∙ length-set (replicate {A = ℕ} n 0) 0 (2 ^ B) ∙ length-replicate {A = ℕ} n 0

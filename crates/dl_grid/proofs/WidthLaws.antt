@@ -12,10 +12,12 @@ use Rattle.dl_grid.specs.Width.{up, cv, Binary, one, twice, twice_and_one, next,
 
 pub up_ceiling : (x : Fraction) → IsCeiling x (up x)
 unfolding up
-up_ceiling x = subst (λ (y : Fraction). IsCeiling y (div_ceil x.num x.den)) (over_self x) (ceiling_div x.num x.den x.positive)
+up_ceiling x = subst (λ (y : Fraction). IsCeiling y (div_ceil x.num x.den)) (over_self x)
+    (ceiling_div x.num x.den x.positive)
 
 pub up_quotient : (n d : ℕ) → 0 < d → up (n over d) ≡ div_ceil n d
-up_quotient n d pos = ceiling_one (n over d) (up (n over d)) (div_ceil n d) (up_ceiling (n over d)) (ceiling_div n d pos)
+up_quotient n d pos = ceiling_one (n over d) (up (n over d)) (div_ceil n d) (up_ceiling (n over d))
+    (ceiling_div n d pos)
 
 pub cv_is : (S k x y : ℕ) → 0 < S → cv S k x y ≡ x + y + div_ceil (x * y) S + 2 * k
 unfolding cv
@@ -25,7 +27,12 @@ ceiling_rises : (m n d : ℕ) → 0 < d → m ≤ n → div_ceil m d ≤ div_cei
 ceiling_rises m n d pos h = div_ceil_least m d (div_ceil n d) pos (omega (arith, (div_ceil_times n d pos).0))
 
 pub cv_rises : (S k l x u y v : ℕ) → 0 < S → k ≤ l → x ≤ u → y ≤ v → cv S k x y ≤ cv S l u v
-cv_rises S k l x u y v pos h p q = omega (arith, cv_is S k x y pos, cv_is S l u v pos, ceiling_rises (x * y) (u * v) S pos (mul-le-mul p q))
+cv_rises S k l x u y v pos h p q = omega (
+  arith,
+  cv_is S k x y pos,
+  cv_is S l u v pos,
+  ceiling_rises (x * y) (u * v) S pos (mul-le-mul p q),
+)
 
 -- ---- powers
 
@@ -105,7 +112,8 @@ mixed_rises S k l b c (suc n) pos p q =
 -- ---- sizes
 
 pub size_step : (S k more x y : ℕ) → 0 < S
-    → (S + rounded_spread k more (cv S k x y + more)) * S ≤ (S + rounded_spread k more x) * (S + rounded_spread k more y)
+    → (S + rounded_spread k more (cv S k x y + more)) * S ≤ (S + rounded_spread k more x) *
+    (S + rounded_spread k more y)
 unfolding rounded_spread
 size_step S k more x y pos =
     let rounded = (div_ceil_times (x * y) S pos).1 in
@@ -116,7 +124,8 @@ pub size_one : (S c : ℕ) → IsSizeWithin S c c
 size_one S c = mul-le-mul_left c (omega arith)
 
 -- the rest w = S - c - d in place of differences
-joined_by : (S c d w x y z : ℕ) → 0 < S → w + c + d ≡ S → (S + x) * (w + d) ≤ S * S → (S + y) * (w + c) ≤ S * S → (S + z) * S ≤ (S + x) * (S + y)
+joined_by : (S c d w x y z : ℕ) → 0 < S → w + c + d ≡ S → (S + x) * (w + d) ≤ S * S → (S + y) * (w + c) ≤ S * S
+    → (S + z) * S ≤ (S + x) * (S + y)
     → (S + z) * w ≤ S * S
 joined_by S c d w x y z pos e hx hy hz =
     let parts : w * S ≤ (w + d) * (w + c) = omega (arith, ap (λ t. w * t) e) in
@@ -131,7 +140,8 @@ product_of S c u x e h = omega (arith, h, ap (λ t. S * t) e)
 product_back : (S c u x : ℕ) → u + c ≡ S → (S + x) * u ≤ S * S → x * u ≤ c * S
 product_back S c u x e h = omega (arith, h, ap (λ t. S * t) e)
 
-pub size_joined : (S c d x y z : ℕ) → 0 < S → c + d ≤ S → IsSizeWithin S c x → IsSizeWithin S d y → (S + z) * S ≤ (S + x) * (S + y) → IsSizeWithin S (c + d) z
+pub size_joined : (S c d x y z : ℕ) → 0 < S → c + d ≤ S → IsSizeWithin S c x → IsSizeWithin S d y
+    → (S + z) * S ≤ (S + x) * (S + y) → IsSizeWithin S (c + d) z
 size_joined S c d x y z pos room hx hy hz =
     let first : S - c ≡ (S - (c + d)) + d = omega arith in
     let second : S - d ≡ (S - (c + d)) + c = omega arith in

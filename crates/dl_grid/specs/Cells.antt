@@ -1,7 +1,9 @@
--- A grid as the list of its cells, one for each number of buckets: its ends, its mass and its spread, in units of 1 / 2^B.
+-- A grid as the list of its cells, one for each number of buckets: its ends, its mass and its
+-- spread, in units of 1 / 2^B.
 use Rattle.std.specs.Prelude.{ℕ, zero, suc, ◌-◌, ◌^◌, ◌<◌, ◌≤◌, ◌≡◌, ◌⊎◌, List, [], ◌∷◌, ◌++◌, length, get_or, map, All, sum, sum_by}
 use Rattle.std.proofs.Common.{inl, inr}
 use Rattle.std.proofs.lemmas.Bool.{cases_lt}
+use Rattle.dl_limits.specs.Limits.{most_cells}
 use Rattle.dl_iv.specs.declared.interval.Iv.{Iv}
 
 -- the low end of cell x, 0 past the end
@@ -28,10 +30,10 @@ mass_high cells = sum_by (λ cell. cell.hi) cells
 abbrev pub spread : {B : ℕ} → List (Iv B) → ℕ
 spread cells = sum_by (λ cell. cell.hi - cell.lo) cells
 
--- 1 to 16,384 cells, of which each is at most 1 and the low ends sum to at most 1
+-- 1 to `most_cells` cells, of which each is at most 1 and the low ends sum to at most 1
 pub record IsGrid {B : ℕ} (cells : List (Iv B)) : Type 0 where
   pub some : 1 ≤ length cells
-  pub few : length cells ≤ 16384
+  pub few : length cells ≤ most_cells
   pub small : All (λ cell. cell.hi ≤ 2 ^ B) cells
   pub mass : mass_low cells ≤ 2 ^ B
 
@@ -52,20 +54,29 @@ pub record AreEnds (B : ℕ) (lows highs : List ℕ) : Type 0 where
   pub scale_above : 1 ≤ B
   pub scale_below : B ≤ 56
   pub some : 1 ≤ length lows
-  pub few : length lows ≤ 16384
+  pub few : length lows ≤ most_cells
   pub paired : length highs ≡ length lows
   pub ordered : (x : ℕ) → get_or lows x 0 ≤ get_or highs x 0
   pub small : All (λ high. high ≤ 2 ^ B) highs
   pub mass : sum lows ≤ 2 ^ B
 
 -- the one cell with these ends, or none where no interval has them
-unfoldable pub cell_by : {B lo hi : ℕ} → ((hi < lo) ⊎ (lo ≤ hi)) → ((2 ^ 127 < hi) ⊎ (hi ≤ 2 ^ 127)) → ((B < 1) ⊎ (1 ≤ B)) → ((56 < B) ⊎ (B ≤ 56)) → List (Iv B)
+unfoldable pub cell_by : {B lo hi : ℕ} → ((hi < lo) ⊎ (lo ≤ hi)) → ((2 ^ 127 < hi) ⊎ (hi ≤ 2 ^ 127))
+    → ((B < 1) ⊎ (1 ≤ B)) → ((56 < B) ⊎ (B ≤ 56)) → List (Iv B)
 cell_by {B} {lo} {hi} (inr ordered) (inr in_range) (inr above) (inr below) =
-    record { lo = lo; hi = hi; ordered = ordered; in_range = in_range; scale_above = above; scale_below = below } ∷ []
+    record {
+      lo = lo;
+      hi = hi;
+      ordered = ordered;
+      in_range = in_range;
+      scale_above = above;
+      scale_below = below;
+    } ∷ []
 cell_by ordered in_range above below = []
 
 -- the cells with these ends
 unfoldable pub cells_of : (B : ℕ) → List ℕ → List ℕ → List (Iv B)
 cells_of B (lo ∷ lows) (hi ∷ highs) =
-    cell_by (cases_lt hi lo) (cases_lt (2 ^ 127) hi) (cases_lt B 1) (cases_lt 56 B) ++ cells_of B lows highs
+    cell_by (cases_lt hi lo) (cases_lt (2 ^ 127) hi) (cases_lt B 1) (cases_lt 56 B)
+    ++ cells_of B lows highs
 cells_of B lows highs = []

@@ -1,5 +1,6 @@
 -- The width rule: how far apart the ends of a grid and of what is read from it may lie, told before
--- either is made. S units make 1; a spread is the sum of the widths of a grid's cells, in those units.
+-- either is made. S units make 1; a spread is the sum of the widths of a grid's cells, in those
+-- units.
 use Rattle.std.specs.Prelude.{ℕ, zero, suc, ◌+◌, ◌-◌, ◌*◌, ◌≤◌, Option, Some, None, List, [], ◌∷◌, fold}
 use Rattle.std.specs.Int.{div_ceil}
 use Rattle.dl_exact.specs.Fraction.{Fraction, ◌over◌}
@@ -51,28 +52,30 @@ unfoldable pub mixed_spread : (S k b c : ℕ) → ℕ
 mixed_spread S k b zero = 1
 mixed_spread S k b (suc c) = cv S k b (mixed_spread S k b c) + 2
 
--- the spread of grids added up on k cells, from the spread of each: it starts with that of the first
--- grid and takes in each further one as a convolution does; that of no grid is 0
+-- the spread of grids added up on k cells, from the spread of each: it starts with that of the
+-- first grid and takes in each further one as a convolution does; that of no grid is 0
 abbrev pub sum_spread : (S k : ℕ) → List ℕ → ℕ
 sum_spread S k [] = 0
 sum_spread S k (x ∷ xs) = fold (cv S k) x xs
 
 -- ---- what is read from a grid
 
--- how wide the mean of a layer may be, from the width of the mean of the total and from the spread of
--- its grid
+-- how wide the mean of a layer may be, from the width of the mean of the total and from the spread
+-- of its grid
 abbrev pub layer_width : (limit : Option ℕ) (attachment mean spread : ℕ) → ℕ
 layer_width None attachment mean spread = mean + attachment * spread
 layer_width (Some limit) attachment mean spread = limit * spread
 
--- how wide the tail mean at p may be, from the width of the mean of the total, and from the cells and
--- the spread of its grid
+-- how wide the tail mean at p may be, from the width of the mean of the total, and from the cells
+-- and the spread of its grid
 abbrev pub tail_width : (p : Fraction) (mean cells spread : ℕ) → ℕ
-tail_width p mean cells spread = up (((2 * mean + 3 * cells * spread) * p.den) over (p.den - p.num)) + 4
+tail_width p mean cells spread = up (((2 * mean + 3 * cells * spread) * p.den) over
+    (p.den - p.num)) + 4
 
 -- ---- how large spreads grow
 
--- a spread with what one more convolution on k cells adds to it by rounding, and `more` units besides
+-- a spread with what one more convolution on k cells adds to it by rounding, and `more` units
+-- besides
 unfoldable pub rounded_spread : (k more x : ℕ) → ℕ
 rounded_spread k more x = x + 2 * k + 1 + more
 

@@ -1,4 +1,5 @@
-ghost use Rattle.std.specs.Prelude.{◌≡◌, ℕ, ◌+◌, ◌-◌, ◌^◌, ◌<◌, ◌≤◌, min, length, take, get_or, slice_set, sum, All, IfOk};
+ghost use Rattle.std.specs.Prelude.{◌≡◌, ℕ, ◌+◌, ◌-◌, ◌^◌, ◌<◌, ◌≤◌, min, length, take, get_or, slice_set, sum, All, IfOk, true, false};
+ghost use Rattle.dl_limits.specs.Limits.{most_cells};
 ghost use Rattle.dl_grid.specs.Cells.{low_at, high_at, low_ends, high_ends, mass_low, mass_high, spread, all_at_zero};
 ghost use Rattle.dl_grid.specs.Cells.{IsGrid, AreEnds};
 
@@ -6,9 +7,9 @@ use dl_iv::{Iv, units_of_one};
 use std::alloc::{AllocError, Global};
 use std::marker::Model;
 
-/// A cell for each number of buckets from 0 on, 1 to 16,384 of them. Each cell is at most 1, and the
-/// low ends sum to at most 1. A clause sees a grid as the list of its cells; the low ends and the high
-/// ends lie in two lists, so that what reads one kind of end reads no other.
+/// A cell for each number of buckets from 0 on, 1 to `most_cells` of them. Each cell is at most 1,
+/// and the low ends sum to at most 1. A clause sees a grid as the list of its cells; the low ends
+/// and the high ends lie in two lists, so that what reads one kind of end reads no other.
 #[derive(Drop)]
 pub struct Grid<const B: u32> {
     lows: Vec<u128>,
@@ -39,8 +40,8 @@ fn sum_of(ends: &[u128]) -> u128
 }
 
 impl<const B: u32> Grid<B> {
-    /// The grid with these low ends and these high ends, cell by cell, in units of `1 / 2^B`. It takes no
-    /// memory.
+    /// The grid with these low ends and these high ends, cell by cell, in units of `1 / 2^B`. It
+    /// takes no memory.
     pub fn from_ends(lows: Vec<u128>, highs: Vec<u128>) -> Self
         requires { AreEnds B lows.items highs.items }
         ensures low { low_ends result ≡ lows.items }
@@ -50,12 +51,13 @@ impl<const B: u32> Grid<B> {
         Grid { lows, highs }
     }
 
-    /// The sum that is surely 0, on `cells` cells: cell 0 is the one number 1, and the others are 0.
+    /// The sum that is surely 0, on `cells` cells: cell 0 is the one number 1, and the others are
+    /// 0.
     pub fn zero(alloc: Global, cells: u32) -> Result<Self, AllocError>
         requires scale_above { 1 ≤ B }
         requires scale_below { B ≤ 56 }
         requires some { 1 ≤ cells }
-        requires few { cells ≤ 16384 }
+        requires few { cells ≤ most_cells }
         ensures cells { IfOk result (λ g. length g ≡ cells) }
         ensures low { IfOk result (λ g. (x : ℕ) → low_at g x ≡ all_at_zero (2 ^ B) x) }
         ensures high { IfOk result (λ g. (x : ℕ) → high_at g x ≡ all_at_zero (2 ^ B) x) }
@@ -93,6 +95,7 @@ impl<const B: u32> Grid<B> {
         ensures each { (x : ℕ) → get_or result.now x 0 ≡ low_at self.now x }
         ensures order { (x : ℕ) → low_at self.now x ≤ high_at self.now x }
         ensures small { All (λ low. low ≤ 2 ^ B) result.now }
+        ensures fits { All (λ low. low ≤ 2 ^ 56) result.now }
         ensures grid { IsGrid self.now }
     {
         self.lows.as_slice()
@@ -105,6 +108,7 @@ impl<const B: u32> Grid<B> {
         ensures each { (x : ℕ) → get_or result.now x 0 ≡ high_at self.now x }
         ensures order { (x : ℕ) → low_at self.now x ≤ high_at self.now x }
         ensures small { All (λ high. high ≤ 2 ^ B) result.now }
+        ensures fits { All (λ high. high ≤ 2 ^ 56) result.now }
         ensures grid { IsGrid self.now }
     {
         self.highs.as_slice()
@@ -123,8 +127,8 @@ impl<const B: u32> Grid<B> {
         }
     }
 
-    /// The probability of at most `x` buckets: the sums of the ends up to `x`, lowered to 1 where they
-    /// are above it.
+    /// The probability of at most `x` buckets: the sums of the ends up to `x`, lowered to 1 where
+    /// they are above it.
     pub fn cdf(&self, x: u32) -> Iv<B>
         requires { x < length self.now }
         ensures low { result.lo ≡ min (mass_low (take (x + 1) self.now)) (2 ^ B) }
@@ -165,5 +169,24 @@ impl<const B: u32> Grid<B> {
     {
         self.lows[x as usize] = v.lo;
         self.highs[x as usize] = v.hi;
+    }
+
+    /// Writes one cell where the grid stays one, and leaves the others as they are. It answers
+    /// whether it did.
+    pub fn put(&mut self, x: u32, v: Iv<B>) -> bool
+        ensures written { result ≡ true → self.new ≡ slice_set self.old x v.entry }
+        ensures left { result ≡ false → self.new ≡ self.old }
+        ensures told { x < length self.old → v.entry.hi ≤ 2 ^ B
+            → mass_low self.old - low_at self.old x + v.entry.lo ≤ 2 ^ B → result ≡ true }
+    {
+        let one = units_of_one(B);
+        if x >= self.cells() || v.hi > one {
+            return false;
+        }
+        if self.mass_low().saturating_sub(self.at(x).lo) + v.lo > one {
+            return false;
+        }
+        self.set(x, v);
+        true
     }
 }

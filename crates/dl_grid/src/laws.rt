@@ -15,7 +15,8 @@ pub fn law_cv_rises()
     ensures { (S k l x u y v : ℕ) → 0 < S → k ≤ l → x ≤ u → y ≤ v → cv S k x y ≤ cv S l u v }
 {}
 
-/// The spread of a power, case by case: of none, of one, of an even and of an odd number of factors.
+/// The spread of a power, case by case: of none, of one, of an even and of an odd number of
+/// factors.
 pub fn law_pw()
     ensures none { (S k b : ℕ) → pw S k b 0 ≡ 0 }
     ensures one { (S k b : ℕ) → pw S k b 1 ≡ b }
@@ -28,14 +29,15 @@ pub fn law_pw_rises()
     ensures { (S k l b c m : ℕ) → 0 < S → k ≤ l → b ≤ c → pw S k b m ≤ pw S l c m }
 {}
 
-/// How large spreads grow. With `x'`, `y'` and `z'` the rounded spreads of two operands and of what one
-/// step makes of them, `1 + z'/S` is at most the product of `1 + x'/S` and `1 + y'/S`; a step may add
-/// `more` units, as that of a listed count adds 2. So where `x'` is at most `c / (1 - c/S)` and `y'` at
-/// most `d / (1 - d/S)`, `z'` is at most the same of `c + d`: `n` operands of at most `c` come to at
-/// most that of `n * c`, in whatever order the steps join them.
+/// How large spreads grow. With `x'`, `y'` and `z'` the rounded spreads of two operands and of what
+/// one step makes of them, `1 + z'/S` is at most the product of `1 + x'/S` and `1 + y'/S`; a step
+/// may add `more` units, as that of a listed count adds 2. So where `x'` is at most `c / (1 - c/S)`
+/// and `y'` at most `d / (1 - d/S)`, `z'` is at most the same of `c + d`: `n` operands of at most
+/// `c` come to at most that of `n * c`, in whatever order the steps join them.
 pub fn law_size()
     ensures step { (S k more x y : ℕ) → 0 < S
-        → (S + rounded_spread k more (cv S k x y + more)) * S ≤ (S + rounded_spread k more x) * (S + rounded_spread k more y) }
+        → (S + rounded_spread k more (cv S k x y + more)) * S
+        ≤ (S + rounded_spread k more x) * (S + rounded_spread k more y) }
     ensures one { (S c : ℕ) → IsSizeWithin S c c }
     ensures joined { (S c d x y z : ℕ) → 0 < S → c + d ≤ S → IsSizeWithin S c x → IsSizeWithin S d y
         → (S + z) * S ≤ (S + x) * (S + y) → IsSizeWithin S (c + d) z }

@@ -1,6 +1,7 @@
-//! Grids: the distribution of a sum as a list of intervals, one for each number of buckets. Cell `x`
-//! holds the probability of `x` buckets, in units of `1 / 2^B`. The width rule, which says before
-//! anything is computed how far apart the ends may lie, has its definitions and laws here too.
+//! Grids: the distribution of a sum as a list of intervals, one for each number of buckets. Cell
+//! `x` holds the probability of `x` buckets, in units of `1 / 2^B`. The width rule, which says
+//! before anything is computed how far apart the ends may lie, has its definitions and laws here
+//! too.
 #![tactic(auto)]
 
 mod grid;

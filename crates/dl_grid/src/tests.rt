@@ -62,15 +62,7 @@ fn apply<const B: u32>(g: &mut Grid<B>, write: Write) -> bool
     if hi > one {
         return false;
     }
-    if write.x >= g.cells() {
-        return false;
-    }
-    let others = g.mass_low().saturating_sub(g.at(write.x).lo);
-    if others + lo > one {
-        return false;
-    }
-    g.set(write.x, Iv { lo, hi });
-    true
+    g.put(write.x, Iv { lo, hi })
 }
 
 fn halves<const B: u32>(ends: Iv<B>) -> (u128, u128) {

@@ -1,4 +1,3 @@
 pub mod Mirror
 pub mod Placed
-pub mod Rows
 pub mod Zeros

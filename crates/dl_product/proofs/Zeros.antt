@@ -6,19 +6,7 @@ use Rattle.std.proofs.Math.Nat.{suc-add}
 use Rattle.std.proofs.lemmas.Bool.{cases_lt}
 use Rattle.std.proofs.lemmas.List.{get_or-take, get_or-drop, get_or_past, length-take}
 use Rattle.dl_exact.specs.Count.{count_pairs}
-use Rattle.dl_exact.proofs.Counts.{pairs_none, pairs_same}
-
-pub nothing_times : (x y : ℕ) → x ≡ 0 → x * y ≡ 0
-nothing_times x y e = ap (λ t. t * y) e ∙ none y
-  where
-    none : (y : ℕ) → 0 * y ≡ 0
-    none y = omega arith
-
-pub times_nothing : (x y : ℕ) → y ≡ 0 → x * y ≡ 0
-times_nothing x y e = ap (λ t. x * t) e ∙ none x
-  where
-    none : (x : ℕ) → x * 0 ≡ 0
-    none x = omega arith
+use Rattle.dl_exact.proofs.Counts.{pairs_none, pairs_same, nothing_times, times_nothing}
 
 -- no product where all first items up to there are 0
 pub low_first : (n : ℕ) (f g : ℕ → ℕ) → ((i : ℕ) → i ≤ n → f i ≡ 0) → count_pairs n (λ i j. f i * g j) ≡ 0

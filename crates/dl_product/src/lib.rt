@@ -9,6 +9,8 @@ mod room;
 mod short;
 #[cfg(test)]
 mod tests;
+#[cfg(test)]
+mod transform_tests;
 mod windows;
 
 pub use products::{product, square};

@@ -1,10 +1,11 @@
 ghost use Rattle.std.specs.Prelude.{◌≡◌, ℕ, ◌*◌, ◌^◌, ◌<◌, ◌≤◌, length, get_or, All, IfOk, IfSome};
-ghost use Rattle.dl_conv.specs.Sums.{pair_sum, halved_from};
+ghost use Rattle.dl_limits.specs.Limits.{most_cells};
+ghost use Rattle.dl_conv.specs.Sums.{pair_sum};
 
 use crate::room::Workspace;
-use crate::short::{short_square, short_sums};
-use crate::windows::{end_of, start_of};
-use dl_conv::halved_sums;
+use crate::short::short_square;
+use crate::windows::window_of;
+use dl_conv::{halved_sums, plain_sums, work_for};
 use dl_transform::levels_for;
 use std::alloc::{AllocError, Global};
 
@@ -20,8 +21,8 @@ const SQUARES_A_STEP: usize = 10;
 /// products of their items for the first `count` places do, of which `rate` are as long as one step
 /// of it.
 fn levels_if_shorter(first: usize, second: usize, count: usize, rate: usize) -> Option<u32>
-    requires first { first ≤ 16384 }
-    requires second { second ≤ 16384 }
+    requires first { first ≤ most_cells }
+    requires second { second ≤ most_cells }
     requires rate { rate ≤ 1000 }
     ensures { IfSome result (λ levels. levels ≤ 15) }
 {
@@ -36,14 +37,6 @@ fn levels_if_shorter(first: usize, second: usize, count: usize, rate: usize) -> 
     }
 }
 
-/// The room that halving needs for so many items.
-fn room_for(cells: usize) -> usize
-    requires { cells ≤ 16384 }
-    ensures { halved_from ≤ cells → 6 * cells ≤ result }
-{
-    if cells < 1024 { 0 } else { 6 * cells }
-}
-
 /// The first items of the product of two lists, as many as `out` has room for, without a transform:
 /// one product after another, or by halves where both lists are as long as `out`.
 fn multiply_plainly(
@@ -54,16 +47,16 @@ fn multiply_plainly(
 ) -> Result<(), AllocError>
     requires first { All (λ x. x ≤ 2 ^ 56) a.now }
     requires second { All (λ y. y ≤ 2 ^ 56) b.now }
-    requires first_few { length a.now ≤ 16384 }
-    requires few { length out.old ≤ 16384 }
+    requires first_few { length a.now ≤ most_cells }
+    requires few { length out.old ≤ most_cells }
     ensures { IfOk result (λ _. (s : ℕ) → s < length out.old
         → get_or out.new s 0 ≡ pair_sum a.now b.now s) }
 {
     if out.len() > a.len() || out.len() > b.len() {
-        short_sums(a, b, out);
+        plain_sums(a, b, out);
         return Ok(());
     }
-    let mut spare = Vec::from_elem(alloc, 0, room_for(out.len()))?;
+    let mut spare = Vec::from_elem(alloc, 0, work_for(out.len() as u32))?;
     halved_sums(a, b, out, spare.as_mut_slice());
     Ok(())
 }
@@ -78,9 +71,9 @@ fn multiply(
 ) -> Result<(), AllocError>
     requires first { All (λ x. x ≤ 2 ^ 56) a.now }
     requires second { All (λ y. y ≤ 2 ^ 56) b.now }
-    requires first_few { length a.now ≤ 16384 }
-    requires second_few { length b.now ≤ 16384 }
-    requires few { length out.old ≤ 16384 }
+    requires first_few { length a.now ≤ most_cells }
+    requires second_few { length b.now ≤ most_cells }
+    requires few { length out.old ≤ most_cells }
     ensures { IfOk result (λ _. (s : ℕ) → s < length out.old
         → get_or out.new s 0 ≡ pair_sum a.now b.now s) }
 {
@@ -102,27 +95,20 @@ pub(crate) fn sums(
 ) -> Result<Vec<u128>, AllocError>
     requires first { All (λ x. x ≤ 2 ^ 56) a.now }
     requires second { All (λ y. y ≤ 2 ^ 56) b.now }
-    requires first_few { length a.now ≤ 16384 }
-    requires second_few { length b.now ≤ 16384 }
-    requires few { cells ≤ 16384 }
+    requires first_few { length a.now ≤ most_cells }
+    requires second_few { length b.now ≤ most_cells }
+    requires few { cells ≤ most_cells }
     ensures cells { IfOk result (λ v. length v.items ≡ cells) }
     ensures each { IfOk result (λ v. (s : ℕ) → s < cells
         → get_or v.items s 0 ≡ pair_sum a.now b.now s) }
 {
-    let p = start_of(a);
-    let q = start_of(b);
-    let x = &a[p..end_of(a, p)];
-    let y = &b[q..end_of(b, q)];
+    let (p, e) = window_of(a);
+    let (q, f) = window_of(b);
     let place = cells.min(p + q);
-    let count = (cells - place).min(x.len() + y.len());
+    let count = (cells - place).min(e - p + (f - q));
     let mut out = Vec::from_elem(alloc, 0, cells)?;
-    multiply(
-        alloc,
-        work,
-        x,
-        y,
-        &mut out.as_mut_slice()[place..place + count],
-    )?;
+    let part = &mut out.as_mut_slice()[place..place + count];
+    multiply(alloc, work, &a[p..e], &b[q..f], part)?;
     Ok(out)
 }
 
@@ -135,8 +121,8 @@ fn multiply_by_itself(
     out: &mut [u128],
 ) -> Result<(), AllocError>
     requires items { All (λ x. x ≤ 2 ^ 56) a.now }
-    requires items_few { length a.now ≤ 16384 }
-    requires few { length out.old ≤ 16384 }
+    requires items_few { length a.now ≤ most_cells }
+    requires few { length out.old ≤ most_cells }
     ensures { IfOk result (λ _. (s : ℕ) → s < length out.old
         → get_or out.new s 0 ≡ pair_sum a.now a.now s) }
 {
@@ -157,22 +143,17 @@ pub(crate) fn square_sums(
     cells: usize,
 ) -> Result<Vec<u128>, AllocError>
     requires items { All (λ x. x ≤ 2 ^ 56) a.now }
-    requires items_few { length a.now ≤ 16384 }
-    requires few { cells ≤ 16384 }
+    requires items_few { length a.now ≤ most_cells }
+    requires few { cells ≤ most_cells }
     ensures cells { IfOk result (λ v. length v.items ≡ cells) }
     ensures each { IfOk result (λ v. (s : ℕ) → s < cells
         → get_or v.items s 0 ≡ pair_sum a.now a.now s) }
 {
-    let p = start_of(a);
-    let x = &a[p..end_of(a, p)];
+    let (p, e) = window_of(a);
     let place = cells.min(p + p);
-    let count = (cells - place).min(x.len() + x.len());
+    let count = (cells - place).min(e - p + (e - p));
     let mut out = Vec::from_elem(alloc, 0, cells)?;
-    multiply_by_itself(
-        alloc,
-        work,
-        x,
-        &mut out.as_mut_slice()[place..place + count],
-    )?;
+    let part = &mut out.as_mut_slice()[place..place + count];
+    multiply_by_itself(alloc, work, &a[p..e], part)?;
     Ok(out)
 }

@@ -1,7 +1,6 @@
-ghost use Rattle.std.specs.Prelude.{◌≡◌, ℕ, ◌*◌, ◌/◌, ◌^◌, ◌<◌, ◌≤◌, min, length, IfOk};
-ghost use Rattle.std.specs.Int.{div_ceil};
-ghost use Rattle.dl_grid.specs.Cells.{low_at, high_at, spread};
-ghost use Rattle.dl_exact.specs.Count.{count_pairs};
+ghost use Rattle.std.specs.Prelude.{◌≡◌, ◌^◌, ◌≤◌, length, IfOk};
+ghost use Rattle.dl_grid.specs.Cells.{spread};
+ghost use Rattle.dl_grid.specs.Convolution.{IsConvolution};
 ghost use Rattle.dl_grid.specs.Width.{cv};
 
 use crate::lists::{square_sums, sums};
@@ -24,11 +23,7 @@ pub fn product<const B: u32>(
     requires in_first { cells ≤ length a.now }
     requires in_second { cells ≤ length b.now }
     ensures cells { IfOk result (λ g. length g ≡ cells) }
-    ensures low { IfOk result (λ g. (s : ℕ) → s < cells
-        → low_at g s ≡ count_pairs s (λ i j. low_at a.now i * low_at b.now j) / 2 ^ B) }
-    ensures high { IfOk result (λ g. (s : ℕ) → s < cells
-        → high_at g s ≡ min (2 ^ B)
-        (div_ceil (count_pairs s (λ i j. high_at a.now i * high_at b.now j)) (2 ^ B))) }
+    ensures convolution { IfOk result (λ g. IsConvolution cells a.now b.now g) }
     ensures spread { IfOk result (λ g. spread g ≤ cv (2 ^ B) cells (spread a.now) (spread b.now)) }
 {
     let lows = sums(alloc, work, a.lows(), b.lows(), cells as usize)?;
@@ -46,11 +41,7 @@ pub fn square<const B: u32>(
     requires some { 1 ≤ cells }
     requires in_first { cells ≤ length a.now }
     ensures cells { IfOk result (λ g. length g ≡ cells) }
-    ensures low { IfOk result (λ g. (s : ℕ) → s < cells
-        → low_at g s ≡ count_pairs s (λ i j. low_at a.now i * low_at a.now j) / 2 ^ B) }
-    ensures high { IfOk result (λ g. (s : ℕ) → s < cells
-        → high_at g s ≡ min (2 ^ B)
-        (div_ceil (count_pairs s (λ i j. high_at a.now i * high_at a.now j)) (2 ^ B))) }
+    ensures convolution { IfOk result (λ g. IsConvolution cells a.now a.now g) }
     ensures spread { IfOk result (λ g. spread g ≤ cv (2 ^ B) cells (spread a.now) (spread a.now)) }
 {
     let lows = square_sums(alloc, work, a.lows(), cells as usize)?;

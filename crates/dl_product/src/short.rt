@@ -1,45 +1,8 @@
 ghost use Rattle.std.specs.Prelude.{◌≡◌, ℕ, ◌*◌, ◌/◌, ◌%◌, ◌^◌, ◌<◌, ◌≤◌, length, get_or, All};
+ghost use Rattle.dl_limits.specs.Limits.{most_cells};
 ghost use Rattle.dl_conv.specs.Sums.{pair_sum};
 
-/// The product of two ends of at most 1: one multiplication of 64 bits by 64 bits.
-fn times(x: u128, y: u128) -> u128
-    requires first { x ≤ 2 ^ 56 }
-    requires second { y ≤ 2 ^ 56 }
-    ensures { result ≡ x * y }
-{
-    u128::from(x as u64) * u128::from(y as u64)
-}
-
-/// The sum of the products of items whose places add up to `s`, in two lists of any lengths.
-fn sum_at(a: &[u128], b: &[u128], s: usize) -> u128
-    requires first { All (λ x. x ≤ 2 ^ 56) a.now }
-    requires second { All (λ y. y ≤ 2 ^ 56) b.now }
-    requires few { length a.now ≤ 16384 }
-    requires near { s < 65536 }
-    ensures { result ≡ pair_sum a.now b.now s }
-{
-    let from = (s + 1).saturating_sub(b.len());
-    let to = a.len().min(s + 1);
-    let mut sum = 0;
-    for i in from..to {
-        sum += times(a[i], b[s - i]);
-    }
-    sum
-}
-
-/// The first items of the product of two lists of any lengths, as many as `out` has room for, one
-/// product after another. It takes no memory.
-pub(crate) fn short_sums(a: &[u128], b: &[u128], out: &mut [u128])
-    requires first { All (λ x. x ≤ 2 ^ 56) a.now }
-    requires second { All (λ y. y ≤ 2 ^ 56) b.now }
-    requires few { length a.now ≤ 16384 }
-    requires near { length out.old ≤ 65536 }
-    ensures { (s : ℕ) → s < length out.old → get_or out.new s 0 ≡ pair_sum a.now b.now s }
-{
-    for s in 0..out.len() {
-        out[s] = sum_at(a, b, s);
-    }
-}
+use dl_conv::product_of_ends;
 
 /// The square of the item in the middle, where `s` is twice its place, and else 0.
 fn middle(a: &[u128], s: usize) -> u128
@@ -51,21 +14,21 @@ fn middle(a: &[u128], s: usize) -> u128
     if s % 2 == 1 || s / 2 >= a.len() {
         return 0;
     }
-    times(a[s / 2], a[s / 2])
+    product_of_ends(a[s / 2], a[s / 2])
 }
 
 /// The sum of the products of items of one list whose places add up to `s`: each product of items
 /// at two places counts twice.
 fn square_at(a: &[u128], s: usize) -> u128
     requires items { All (λ x. x ≤ 2 ^ 56) a.now }
-    requires near { s < 16384 }
+    requires near { s < most_cells }
     ensures { result ≡ pair_sum a.now a.now s }
 {
     let half = (s + 1) / 2;
     let from = (s + 1).saturating_sub(a.len());
     let mut sum = 0;
     for i in from..half {
-        sum += times(a[i], a[s - i]);
+        sum += product_of_ends(a[i], a[s - i]);
     }
     2 * sum + middle(a, s)
 }
@@ -74,7 +37,7 @@ fn square_at(a: &[u128], s: usize) -> u128
 /// after another, about half as many as of two lists. It takes no memory.
 pub(crate) fn short_square(a: &[u128], out: &mut [u128])
     requires items { All (λ x. x ≤ 2 ^ 56) a.now }
-    requires few { length out.old ≤ 16384 }
+    requires few { length out.old ≤ most_cells }
     ensures { (s : ℕ) → s < length out.old → get_or out.new s 0 ≡ pair_sum a.now a.now s }
 {
     for s in 0..out.len() {

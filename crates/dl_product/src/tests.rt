@@ -35,30 +35,6 @@ struct Case {
     second: Shape,
 }
 
-/// Writes a cell, where the grid stays one.
-fn write<const B: u32>(g: &mut Grid<B>, x: u32, v: Iv<B>) -> bool
-    requires scale_above { 1 ≤ B }
-    requires scale_below { B ≤ 56 }
-{
-    let one = units_of_one(B);
-    if v.hi > one {
-        return false;
-    }
-    if x >= g.cells() {
-        return false;
-    }
-    let others = if v.lo == 0 {
-        0
-    } else {
-        g.mass_low().saturating_sub(g.at(x).lo)
-    };
-    if others + v.lo > one {
-        return false;
-    }
-    g.set(x, v);
-    true
-}
-
 fn interval<const B: u32>(ends: Ends) -> Iv<B>
     requires scale_above { 1 ≤ B }
     requires scale_below { B ≤ 56 }
@@ -88,9 +64,9 @@ fn shaped<const B: u32>(
         return Ok(None);
     }
     let mut g = Grid::<B>::zero(alloc, cells)?;
-    let mut good = write(&mut g, 0, Iv { lo: 0, hi: 0 });
+    let mut good = g.put(0, Iv { lo: 0, hi: 0 });
     for x in shape.start..shape.start + shape.count {
-        good = write(&mut g, x, interval(shape.ends)) && good;
+        good = g.put(x, interval(shape.ends)) && good;
     }
     Ok(if good { Some(g) } else { None })
 }

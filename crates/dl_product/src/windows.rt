@@ -1,7 +1,8 @@
 ghost use Rattle.std.specs.Prelude.{◌≡◌, ℕ, ◌<◌, ◌≤◌, length, get_or};
+ghost use Rattle.dl_product.specs.Windows.{IsWindow};
 
 /// How many zeros a list begins with.
-pub(crate) fn start_of(xs: &[u128]) -> usize
+fn start_of(xs: &[u128]) -> usize
     ensures within { result ≤ length xs.now }
     ensures zeros { (i : ℕ) → i < result → get_or xs.now i 0 ≡ 0 }
 {
@@ -14,7 +15,7 @@ pub(crate) fn start_of(xs: &[u128]) -> usize
 }
 
 /// The place past the last item from `start` on that is not 0.
-pub(crate) fn end_of(xs: &[u128], start: usize) -> usize
+fn end_of(xs: &[u128], start: usize) -> usize
     requires { start ≤ length xs.now }
     ensures after { start ≤ result }
     ensures within { result ≤ length xs.now }
@@ -27,4 +28,12 @@ pub(crate) fn end_of(xs: &[u128], start: usize) -> usize
         }
     }
     start
+}
+
+/// The places of the first item that is not 0 and past the last one.
+pub(crate) fn window_of(xs: &[u128]) -> (usize, usize)
+    ensures { IsWindow xs.now result.0 result.1 }
+{
+    let start = start_of(xs);
+    (start, end_of(xs, start))
 }

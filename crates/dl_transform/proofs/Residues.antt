@@ -1,7 +1,5 @@
 -- Remainders keep sums and products.
-use Rattle.std.proofs.Common.{ℕ, zero, suc, ◌≡◌, ◌+◌, ◌-◌, ◌*◌, ◌%◌, ◌^◌, ◌<◌, arith, refl, sym, ap, ap₂, ◌∙◌}
-use Rattle.std.proofs.Common.{pow-suc}
-use Rattle.std.proofs.Math.Nat.{pow-zero}
+use Rattle.std.proofs.Common.{ℕ, zero, suc, ◌≡◌, ◌+◌, ◌-◌, ◌*◌, ◌%◌, ◌<◌, arith, refl, sym, ap, ap₂, ◌∙◌}
 use Rattle.std.proofs.Math.Nat.{add-mod, add-mul-mod_self_right, mod-mod, mod-eq_of_lt}
 use Rattle.std.proofs.lemmas.Nat.{mul-mod}
 use Rattle.dl_transform.specs.Residue.{Same}
@@ -50,7 +48,3 @@ same_cancel p a b c pos h =
 
 pub same_below : {p a b : ℕ} → Same p a b → a < p → b < p → a ≡ b
 same_below h p q = sym (mod-eq_of_lt p) ∙ h.is ∙ mod-eq_of_lt q
-
-pub same_pow : {p a b : ℕ} (n : ℕ) → Same p a b → Same p (a ^ n) (b ^ n)
-same_pow {p = p} {a = a} {b = b} zero h = rw (pow-zero a, pow-zero b) (same_refl p 1)
-same_pow {p = p} {a = a} {b = b} (suc n) h = rw (pow-suc a n, pow-suc b n) (same_times (same_pow n h) h)

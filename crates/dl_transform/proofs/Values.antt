@@ -17,11 +17,6 @@ eval_same p (suc n) f g r h =
     (same_times (same_refl p r) (eval_same p n (λ i. f (suc i)) (λ i. g (suc i)) r
     (λ i b. h (suc i) (omega arith))))
 
-pub eval_at : (p n : ℕ) (f : ℕ → ℕ) (r s : ℕ) → Same p r s → Same p (eval n f r) (eval n f s)
-unfolding eval
-eval_at p zero f r s h = same_refl p 0
-eval_at p (suc n) f r s h = same_plus (same_refl p (f zero)) (same_times h (eval_at p n (λ i. f (suc i)) r s h))
-
 pub eval_linear : (n c : ℕ) (f g : ℕ → ℕ) (r : ℕ) → eval n (λ i. f i + c * g i) r ≡ eval n f r + c * eval n g r
 unfolding eval
 eval_linear zero c f g r = omega arith

@@ -1,6 +1,6 @@
 -- The product of two lists from its remainders.
 use Rattle.std.proofs.Common.{ℕ, zero, suc, ◌≡◌, ◌+◌, ◌-◌, ◌*◌, ◌/◌, ◌%◌, ◌^◌, ◌<◌, ◌≤◌, List, [], ◌∷◌, length}
-use Rattle.std.proofs.Common.{get_or, sum_by, mul-le-mul_left, arith, sym, ap, ap₂, ◌∙◌}
+use Rattle.std.proofs.Common.{get_or, sum_by, mul-le-mul_left, mul-le-mul_right, arith, sym, ap, ap₂, ◌∙◌}
 use Rattle.std.proofs.Math.Nat.{div-add-mod, pow-le-pow_right, mul-le-mul}
 use Rattle.std.proofs.Common.{All, inl, inr}
 use Rattle.std.proofs.lemmas.Nat.{div_below, mod_below}
@@ -120,3 +120,23 @@ word_at xs h i = elim (cases_lt i (length xs)) [
   | inl b ↦ All-get_or (λ x. x < 2 ^ 64) xs i 0 b h
   | inr b ↦ omega (arith, get_or_past xs i 0 b)
 ]
+
+-- so no sum of the product passes what both come to
+pub sums_small : (a : List ℕ) (b : ℕ → ℕ) (all most bound s : ℕ) → all ≡ sum_by (λ x. x) a → ((k : ℕ) → b k ≤ most)
+    → most * all < bound → count_pairs s (λ i j. get_or a i 0 * b j) < bound
+sums_small a b all most bound s e above h =
+    omega (arith, pairs_bound a b most s above, ap (λ t. t * most) e, h)
+
+-- where both come to too much, so does the sum times each number that is no less than the items
+pub too_large : (a : List ℕ) (all most m bound : ℕ) → all ≡ sum_by (λ x. x) a → most ≤ m → bound ≤ most * all
+    → m * sum_by (λ x. x) a < bound → ⊥
+too_large a all most m bound e least large small =
+    omega (arith, mul-le-mul_right (sum_by (λ x. x) a) least, ap (λ t. most * t) e, large, small)
+
+-- words multiplied
+pub words_fit : (b : List ℕ) (all most : ℕ) → All (λ x. x < 2 ^ 64) b
+    → ((m : ℕ) → ((k : ℕ) → get_or b k 0 ≤ m) → most ≤ m) → all < 2 ^ 64 → most * all < 2 ^ 128
+words_fit b all most words least small =
+    let first : most ≤ 2 ^ 64 - 1 = least (2 ^ 64 - 1) (λ k. omega (arith, word_at b words k)) in
+    let second : all ≤ 2 ^ 64 - 1 = omega (arith, small) in
+    omega (arith, mul-le-mul first second)

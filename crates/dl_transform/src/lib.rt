@@ -15,8 +15,6 @@ mod factors;
 mod modular;
 mod passes;
 mod tables;
-#[cfg(test)]
-mod tests;
 
 pub use combined::{Buffers, Setup, checked_product, checked_square, levels_for};
 pub use constants::set_up;

@@ -1,10 +1,10 @@
-use Rattle.std.proofs.Common.{ℕ, ◌≡◌, ◌/◌, ◌^◌, ◌<◌, arith, refl, length, get_or, sym, ap, ◌∙◌}
+use Rattle.std.proofs.Common.{◌/◌, ◌^◌, arith, refl, length, get_or, sym, ap, ◌∙◌}
 use Rattle.std.specs.Prelude.{min}
 use Rattle.std.specs.Int.{div_ceil}
 use Rattle.dl_grid.proofs.CellLaws.{scale_of}
 use Rattle.dl_grid.proofs.EndLists.{low_at_ends, high_at_ends, low_ends_long}
 use Rattle.dl_conv.proofs.Filled.{written, made_by}
-use Rattle.dl_conv.proofs.Ends.{lows, highs, convolved_ends, convolved_spread, highs_fit, all_fit}
+use Rattle.dl_conv.proofs.Ends.{lows, highs, convolved_ends, convolved_spread, all_fit}
 use Rattle.dl_conv.proofs.grids.grid_of_sums.Goals as goal
 
 pub round_down-requires : goal.round_down-requires
@@ -15,7 +15,8 @@ round_up-requires-clause-scale g c = (scale_of c.args.a.now c.cells.ensures.grid
 
 pub round_up-requires-clause-small : goal.round_up-requires-clause-small
 round_up-requires-clause-small g c =
-    rw c.as_mut_slice-2.ensures.value (all_fit c.args.a.now c.args.b.now c.args.highs.items (length c.args.lows.items) c.cells.ensures.grid c.cells-2.ensures.grid
+    rw c.as_mut_slice-2.ensures.value (all_fit c.args.a.now c.args.b.now c.args.highs.items
+    (length c.args.lows.items) c.cells.ensures.grid c.cells-2.ensures.grid
     c.requires.in_first c.requires.paired c.requires.high)
 
 pub from_ends-requires : goal.from_ends-requires
@@ -24,27 +25,33 @@ from_ends-requires g c =
     let up = written c.args.highs.items c.round_up.new.sums c.args.highs.len (omega arith) (omega arith) in (
       omega arith,
       rw (down, up) (
-          convolved_ends c.args.a.now c.args.b.now c.round_down.new.sums c.round_up.new.sums (length c.args.lows.items) c.cells.ensures.grid c.cells-2.ensures.grid
+          convolved_ends c.args.a.now c.args.b.now c.round_down.new.sums c.round_up.new.sums
+          (length c.args.lows.items) c.cells.ensures.grid c.cells-2.ensures.grid
           c.requires.some c.requires.in_first (omega arith) (omega arith)
-          (made_by (λ sum. sum / 2 ^ g.row.B) (lows c.args.a.now c.args.b.now) c.args.lows.items c.as_mut_slice.result.now c.round_down.new.sums (length c.args.lows.items)
+          (made_by (λ sum. sum / 2 ^ g.row.B) (lows c.args.a.now c.args.b.now) c.args.lows.items
+          c.as_mut_slice.result.now c.round_down.new.sums (length c.args.lows.items)
           c.as_mut_slice.ensures.value refl c.requires.low c.round_down.ensures)
-          (made_by (λ sum. min (2 ^ g.row.B) (div_ceil sum (2 ^ g.row.B))) (highs c.args.a.now c.args.b.now) c.args.highs.items c.as_mut_slice-2.result.now c.round_up.new.sums
-          (length c.args.lows.items) c.as_mut_slice-2.ensures.value c.requires.paired c.requires.high c.round_up.ensures)),
+          (made_by (λ sum. min (2 ^ g.row.B) (div_ceil sum (2 ^ g.row.B)))
+          (highs c.args.a.now c.args.b.now) c.args.highs.items c.as_mut_slice-2.result.now c.round_up.new.sums
+          (length c.args.lows.items) c.as_mut_slice-2.ensures.value c.requires.paired c.requires.high
+          c.round_up.ensures)),
     )
 
-pub returns-clause-low : goal.returns-clause-low
-returns-clause-low g c s inside =
+pub returns-clause-convolution : goal.returns-clause-convolution
+returns-clause-convolution g c =
     let down = written c.args.lows.items c.round_down.new.sums c.args.lows.len (omega arith) (omega arith) in
-    sym (low_at_ends c.from_ends.result s) ∙ ap (λ l. get_or l s 0) (c.from_ends.ensures.low ∙ down)
-    ∙ made_by (λ sum. sum / 2 ^ g.row.B) (lows c.args.a.now c.args.b.now) c.args.lows.items c.as_mut_slice.result.now c.round_down.new.sums (length c.args.lows.items)
-    c.as_mut_slice.ensures.value refl c.requires.low c.round_down.ensures s inside
-
-pub returns-clause-high : goal.returns-clause-high
-returns-clause-high g c s inside =
     let up = written c.args.highs.items c.round_up.new.sums c.args.highs.len (omega arith) (omega arith) in
-    sym (high_at_ends c.from_ends.result s) ∙ ap (λ l. get_or l s 0) (c.from_ends.ensures.high ∙ up)
-    ∙ made_by (λ sum. min (2 ^ g.row.B) (div_ceil sum (2 ^ g.row.B))) (highs c.args.a.now c.args.b.now) c.args.highs.items c.as_mut_slice-2.result.now c.round_up.new.sums
-    (length c.args.lows.items) c.as_mut_slice-2.ensures.value c.requires.paired c.requires.high c.round_up.ensures s inside
+    record {
+      low = λ s inside. sym (low_at_ends c.from_ends.result s) ∙ ap (λ l. get_or l s 0) (c.from_ends.ensures.low ∙ down)
+          ∙ made_by (λ sum. sum / 2 ^ g.row.B) (lows c.args.a.now c.args.b.now) c.args.lows.items
+          c.as_mut_slice.result.now c.round_down.new.sums (length c.args.lows.items)
+          c.as_mut_slice.ensures.value refl c.requires.low c.round_down.ensures s inside;
+      high = λ s inside. sym (high_at_ends c.from_ends.result s)
+          ∙ ap (λ l. get_or l s 0) (c.from_ends.ensures.high ∙ up)
+          ∙ made_by (λ sum. min (2 ^ g.row.B) (div_ceil sum (2 ^ g.row.B))) (highs c.args.a.now c.args.b.now)
+          c.args.highs.items c.as_mut_slice-2.result.now c.round_up.new.sums (length c.args.lows.items)
+          c.as_mut_slice-2.ensures.value c.requires.paired c.requires.high c.round_up.ensures s inside;
+    }
 
 pub returns-clause-cells : goal.returns-clause-cells
 returns-clause-cells g c =
@@ -53,13 +60,5 @@ returns-clause-cells g c =
 
 pub returns-clause-spread : goal.returns-clause-spread
 returns-clause-spread g c =
-    let down = written c.args.lows.items c.round_down.new.sums c.args.lows.len (omega arith) (omega arith) in
-    let up = written c.args.highs.items c.round_up.new.sums c.args.highs.len (omega arith) (omega arith) in
-    convolved_spread c.args.a.now c.args.b.now c.from_ends.result (length c.args.lows.items) c.cells.ensures.grid c.cells-2.ensures.grid
-    (omega (arith, low_ends_long c.from_ends.result, ap length (c.from_ends.ensures.low ∙ down)))
-    (λ s inside. sym (low_at_ends c.from_ends.result s) ∙ ap (λ l. get_or l s 0) (c.from_ends.ensures.low ∙ down)
-    ∙ made_by (λ sum. sum / 2 ^ g.row.B) (lows c.args.a.now c.args.b.now) c.args.lows.items c.as_mut_slice.result.now c.round_down.new.sums (length c.args.lows.items)
-    c.as_mut_slice.ensures.value refl c.requires.low c.round_down.ensures s inside)
-    (λ s inside. sym (high_at_ends c.from_ends.result s) ∙ ap (λ l. get_or l s 0) (c.from_ends.ensures.high ∙ up)
-    ∙ made_by (λ sum. min (2 ^ g.row.B) (div_ceil sum (2 ^ g.row.B))) (highs c.args.a.now c.args.b.now) c.args.highs.items c.as_mut_slice-2.result.now c.round_up.new.sums
-    (length c.args.lows.items) c.as_mut_slice-2.ensures.value c.requires.paired c.requires.high c.round_up.ensures s inside)
+    convolved_spread c.args.a.now c.args.b.now c.from_ends.result (length c.args.lows.items)
+    c.cells.ensures.grid c.cells-2.ensures.grid (returns-clause-cells g c) (returns-clause-convolution g c)

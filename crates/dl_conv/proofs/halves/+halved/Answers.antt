@@ -1,4 +1,4 @@
-use Rattle.std.proofs.Common.{ℕ, ◌+◌, ◌-◌, ◌*◌, ◌/◌, ◌^◌, ◌≡◌, arith, length, take, drop, map, subst, sym, refl, ap, ◌∙◌}
+use Rattle.std.proofs.Common.{◌-◌, ◌/◌, ◌≡◌, arith, length, take, drop, subst, sym, refl, ◌∙◌}
 use Rattle.std.proofs.Math.Nat.{one-le-pow}
 use Rattle.std.proofs.lemmas.List.{length-take-le, length-drop}
 use Rattle.dl_conv.specs.Sums.{IsHalvable}
@@ -12,8 +12,11 @@ halved-requires g t c κs within =
     let less = half_less n c.requires.halvable in
     let even = half_even n c.requires.halvable c.if-a-eq-BLOCK.false in
     let front : length (take (n / 2) c.args.a.now) ≡ n / 2 = length-take-le (n / 2) c.args.a.now (omega arith) in
-    let beside : length (take (n / 2) c.args.b.now) ≡ n / 2 = length-take-le (n / 2) c.args.b.now (omega (arith, c.requires.paired)) in
-    (omega (arith, front, less, c.decreases), (within.0, (within.1, (subst IsHalvable (sym front) half, (omega arith, (omega arith, omega arith))))))
+    let beside : length (take (n / 2) c.args.b.now) ≡ n / 2 =
+    length-take-le (n / 2) c.args.b.now (omega (arith, c.requires.paired)) in (
+      omega (arith, front, less, c.decreases),
+      (within.0, (within.1, (subst IsHalvable (sym front) half, (omega arith, (omega arith, omega arith))))),
+    )
 
 pub halved-requires-2 : goal.halved-requires-2
 halved-requires-2 g t c κs within =
@@ -23,10 +26,27 @@ halved-requires-2 g t c κs within =
     let even = half_even n c.requires.halvable c.if-a-eq-BLOCK.false in
     let long = length-drop (n / 2) c.args.a.now in
     let beside = length-drop (n / 2) c.args.b.now in
-    let back : length (take (n - n / 2) (drop (n / 2) c.args.a.now)) ≡ n / 2 = omega (arith, length-take-le (n - n / 2) (drop (n / 2) c.args.a.now) (omega arith)) in
+    let back : length (take (n - n / 2) (drop (n / 2) c.args.a.now)) ≡ n / 2 =
+    omega (arith, length-take-le (n - n / 2) (drop (n / 2) c.args.a.now) (omega arith)) in
     let other : length (take (length c.args.b.now - n / 2) (drop (n / 2) c.args.b.now)) ≡ n / 2 =
-    omega (arith, c.requires.paired, length-take-le (length c.args.b.now - n / 2) (drop (n / 2) c.args.b.now) (omega arith)) in
-    (omega (arith, back, less, c.decreases), (within.0, (within.1, (subst IsHalvable (sym back) half, (omega (arith, back, other), (omega arith, omega arith))))))
+    omega (
+      arith,
+      c.requires.paired,
+      length-take-le (length c.args.b.now - n / 2) (drop (n / 2) c.args.b.now)
+          (omega arith),
+    ) in (
+      omega (arith, back, less, c.decreases),
+      (
+        within.0,
+        (
+          within.1,
+          (
+            subst IsHalvable (sym back) half,
+            (omega (arith, back, other), (omega arith, omega arith)),
+          ),
+        ),
+      ),
+    )
 
 pub halved-requires-3 : goal.halved-requires-3
 halved-requires-3 g t c κs within =
@@ -34,15 +54,19 @@ halved-requires-3 g t c κs within =
     let half = half_halvable n c.requires.halvable c.if-a-eq-BLOCK.false in
     let less = half_less n c.requires.halvable in
     let even = half_even n c.requires.halvable c.if-a-eq-BLOCK.false in
-    let front : length c.add_halves.new.out ≡ n / 2 = omega arith in
-    (omega (arith, front, less, c.decreases), (within.0, (within.1, (subst IsHalvable (sym front) half, (omega arith, (omega arith, omega arith))))))
+    let front : length c.add_halves.new.out ≡ n / 2 = omega arith in (
+      omega (arith, front, less, c.decreases),
+      (within.0, (within.1, (subst IsHalvable (sym front) half, (omega arith, (omega arith, omega arith))))),
+    )
 
 pub returns-then-a-eq-BLOCK-clause-products : goal.returns-then-a-eq-BLOCK-clause-products
-returns-then-a-eq-BLOCK-clause-products g t c k e = omega (arith, c.block.ensures.products, one-le-pow k 3 (omega arith))
+returns-then-a-eq-BLOCK-clause-products g t c k e =
+    omega (arith, c.block.ensures.products, one-le-pow k 3 (omega arith))
 
 pub returns-then-a-eq-BLOCK-clause-value : goal.returns-then-a-eq-BLOCK-clause-value
 returns-then-a-eq-BLOCK-clause-value g t c s inside =
-    small_remainder _ _ (values_small g.R.Ring.value c.block.new.out s g.met.R.Ring.small) (c.block.ensures.value s inside)
+    small_remainder _ _ (values_small g.R.Ring.value c.block.new.out s g.met.R.Ring.small)
+    (c.block.ensures.value s inside)
 
 pub returns-clause-products : goal.returns-clause-products
 returns-clause-products g t c k e =
@@ -50,11 +74,19 @@ returns-clause-products g t c k e =
     let even = half_even n c.requires.halvable c.if-a-eq-BLOCK.false in
     let long = length-drop (n / 2) c.args.a.now in
     let front : length (take (n / 2) c.args.a.now) ≡ n / 2 = length-take-le (n / 2) c.args.a.now (omega arith) in
-    let back : length (take (n - n / 2) (drop (n / 2) c.args.a.now)) ≡ n / 2 = omega (arith, length-take-le (n - n / 2) (drop (n / 2) c.args.a.now) (omega arith)) in
+    let back : length (take (n - n / 2) (drop (n / 2) c.args.a.now)) ≡ n / 2 =
+    omega (arith, length-take-le (n - n / 2) (drop (n / 2) c.args.a.now) (omega arith)) in
     let left : length c.add_halves.new.out ≡ n / 2 = omega arith in
-    let all = three_of n k (g.R.Ring.products c.args.ring.now) (g.R.Ring.products c.halved.new.ring) (g.R.Ring.products c.halved-2.new.ring)
-    (g.R.Ring.products c.halved-3.new.ring) e c.if-a-eq-BLOCK.false (λ j h. c.halved.ensures.products j (front ∙ h)) (λ j h. c.halved-2.ensures.products j (back ∙ h))
-    (λ j h. omega (arith, c.halved-3.ensures.products j (left ∙ h), c.add_halves.ensures.products, c.add_halves-2.ensures.products)) in
+    let all = three_of n k (g.R.Ring.products c.args.ring.now) (g.R.Ring.products c.halved.new.ring)
+    (g.R.Ring.products c.halved-2.new.ring)
+    (g.R.Ring.products c.halved-3.new.ring) e c.if-a-eq-BLOCK.false (λ j h. c.halved.ensures.products j (front ∙ h))
+    (λ j h. c.halved-2.ensures.products j (back ∙ h))
+    (λ j h. omega (
+      arith,
+      c.halved-3.ensures.products j (left ∙ h),
+      c.add_halves.ensures.products,
+      c.add_halves-2.ensures.products,
+    )) in
     omega (arith, all, c.take_off.ensures.products, c.add_middle.ensures.products)
 
 pub returns-clause-value : goal.returns-clause-value
@@ -62,11 +94,14 @@ returns-clause-value g t c s inside =
     let n = length c.args.a.now in
     let even = half_even n c.requires.halvable c.if-a-eq-BLOCK.false in
     small_remainder _ _ (values_small g.R.Ring.value c.add_middle.new.out s g.met.R.Ring.small)
-    (halved_value g.R.Ring.value (n / 2) c.args.a.now c.args.b.now c.halved.new.out c.halved-2.new.out c.add_halves.new.out c.add_halves-2.new.out c.halved-3.new.out
-    c.take_off.new.middle _ c.add_middle.new.out even (c.requires.paired ∙ even) (omega arith) (omega arith) (omega arith) (omega arith)
+    (halved_value g.R.Ring.value (n / 2) c.args.a.now c.args.b.now c.halved.new.out c.halved-2.new.out
+    c.add_halves.new.out c.add_halves-2.new.out c.halved-3.new.out
+    c.take_off.new.middle _ c.add_middle.new.out even (c.requires.paired ∙ even) (omega arith) (omega arith)
+    (omega arith) (omega arith)
     (length c.split_at_mut-left.result.0.now) (length c.split_at_mut-right.result.0.now) (omega arith) (omega arith)
     (λ s h. c.halved.ensures.value s (omega arith)) (λ s h. c.halved-2.ensures.value s (omega arith))
     (λ i h. c.add_halves.ensures.value i (omega arith)) (λ i h. c.add_halves-2.ensures.value i (omega arith))
     (λ s h. c.halved-3.ensures.value s (omega arith)) (λ t h. c.take_off.ensures.value t (omega arith))
-    refl (λ t h. c.add_middle.ensures.value t (omega arith)) (λ s h. c.add_middle.ensures.first s h) (λ s h. c.add_middle.ensures.last s (omega arith))
+    refl (λ t h. c.add_middle.ensures.value t (omega arith)) (λ s h. c.add_middle.ensures.first s h)
+    (λ s h. c.add_middle.ensures.last s (omega arith))
     s (omega (arith, inside, c.requires.room)))

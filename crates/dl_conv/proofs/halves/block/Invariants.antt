@@ -1,4 +1,4 @@
-use Rattle.std.proofs.Common.{◌≡◌, ◌+◌, ◌≤◌, get_or, map}
+use Rattle.std.proofs.Common.{◌+◌, ◌≤◌, map}
 use Rattle.dl_exact.specs.Count.{count_below}
 use Rattle.dl_conv.specs.Modulo.{IsSame}
 use Rattle.dl_conv.specs.Sums.{pair_sum}
@@ -8,6 +8,7 @@ use Rattle.dl_conv.proofs.halves.block.Given as goal
 
 abbrev pub invariant-loop-s : goal.invariant-loop-s
 invariant-loop-s g l = record {
-  done : Fills (λ s y. IsSame y (pair_sum (map g.R.Ring.value l.a) (map g.R.Ring.value l.b) s)) (map g.R.Ring.value l.out) l.s;
+  done : Fills (λ s y. IsSame y (pair_sum (map g.R.Ring.value l.a) (map g.R.Ring.value l.b) s))
+      (map g.R.Ring.value l.out) l.s;
   products : g.R.Ring.products l.ring ≤ g.R.Ring.products l.initial.ring + count_below l.s column_size;
 }

@@ -1,20 +1,23 @@
-use Rattle.std.proofs.Common.{arith, length, map, ◌-◌, sym, ◌∙◌}
+use Rattle.std.proofs.Common.{arith, map, ◌-◌, sym, ◌∙◌}
 use Rattle.std.proofs.lemmas.List.{length-map}
 use Rattle.dl_conv.proofs.Written.{value_read}
 use Rattle.dl_conv.proofs.Same.{same, same_then}
-use Rattle.dl_conv.proofs.Karatsuba.{column_begins, column_ends, column_more}
+use Rattle.dl_conv.proofs.Columns.{column_begins, column_ends, column_more}
 use Rattle.dl_conv.proofs.halves.column.Goals as goal
 
 pub loop-i-init : goal.loop-i-init
 loop-i-init g c = record {
-  value = same _ _ (c.zero-sum.ensures.value ∙ sym (column_begins (map g.R.Ring.value c.args.a.now) (map g.R.Ring.value c.args.b.now) c.args.s c.saturating_sub-first.result
+  value = same _ _ (c.zero-sum.ensures.value
+      ∙ sym (column_begins (map g.R.Ring.value c.args.a.now)
+      (map g.R.Ring.value c.args.b.now) c.args.s c.saturating_sub-first.result
       (omega (arith, length-map c.args.b.now g.R.Ring.value))));
   products = omega (arith, c.zero-sum.ensures.products);
 }
 
 pub loop-i-preserved : goal.loop-i-preserved
 loop-i-preserved g c = record {
-  value = column_more (map g.R.Ring.value c.args.a.now) (map g.R.Ring.value c.args.b.now) c.args.s c.loop-i.i _ _ _ _ _ c.loop-i.invariant.value
+  value = column_more (map g.R.Ring.value c.args.a.now)
+      (map g.R.Ring.value c.args.b.now) c.args.s c.loop-i.i _ _ _ _ _ c.loop-i.invariant.value
       (value_read g.R.Ring.value c.args.a.now c.loop-i.i _ (omega arith) c.index-a-i.is)
       (value_read g.R.Ring.value c.args.b.now (c.args.s - c.loop-i.i) _ (omega arith) c.index-b-s.is)
       c.mul-product.ensures.value c.add-sum.ensures.value;
@@ -23,5 +26,6 @@ loop-i-preserved g c = record {
 
 pub returns-clause-value : goal.returns-clause-value
 returns-clause-value g c =
-    same_then c.loop-i.invariant.value (same _ _ (column_ends (map g.R.Ring.value c.args.a.now) (map g.R.Ring.value c.args.b.now) c.args.s c.loop-i.i
-    (omega (arith, length-map c.args.a.now g.R.Ring.value))))
+    same_then c.loop-i.invariant.value
+    (same _ _ (column_ends (map g.R.Ring.value c.args.a.now) (map g.R.Ring.value c.args.b.now) c.args.s c.loop-i.i
+    (omega arith) (omega (arith, length-map c.args.a.now g.R.Ring.value))))

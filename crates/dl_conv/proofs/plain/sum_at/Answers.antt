@@ -1,22 +1,29 @@
-use Rattle.std.proofs.Common.{arith, ◌*◌, ◌-◌, get_or, sym, refl}
-use Rattle.dl_exact.proofs.Counts.{below_nothing, below_pairs}
-use Rattle.dl_conv.proofs.Ends.{sum_more, sum_fits, end_fits, whole_sum}
+use Rattle.std.proofs.Common.{arith, sym, ◌∙◌}
+use Rattle.dl_conv.proofs.Columns.{column_begins, column_ends, column_next, column_fits}
 use Rattle.dl_conv.proofs.plain.sum_at.Goals as goal
 
 pub loop-i-init : goal.loop-i-init
-loop-i-init c = sym (below_nothing _)
+loop-i-init c = record {
+  within = omega arith;
+  sum = sym (column_begins c.args.a.now c.args.b.now c.args.s _ (omega arith));
+}
 
 pub overflow_add-sum : goal.overflow_add-sum
 overflow_add-sum c =
     omega (
       arith,
-      sum_fits c.loop-i.i _ _ _ _ (λ k. get_or c.args.a.now k 0) (λ k. get_or c.args.b.now (c.args.s - k) 0) (omega (arith, c.requires.few)) c.loop-i.invariant
-          (end_fits _ c.requires.first) (λ k. end_fits _ c.requires.second (c.args.s - k)) c.product-sum.ensures
-          (end_fits _ c.requires.first c.loop-i.i) (end_fits _ c.requires.second (c.args.s - c.loop-i.i)),
+      column_fits c.args.a.now c.args.b.now c.args.s c.loop-i.i _ _ c.requires.first c.requires.second
+          (omega (arith, c.requires.few)) c.loop-i.invariant.sum c.product_of_ends-sum.ensures,
     )
 
 pub loop-i-preserved : goal.loop-i-preserved
-loop-i-preserved c = sum_more c.loop-i.i _ _ _ _ _ c.loop-i.invariant c.product-sum.ensures refl
+loop-i-preserved c = record {
+  within = omega arith;
+  sum = column_next c.args.a.now c.args.b.now c.args.s c.loop-i.i _ _ c.loop-i.invariant.sum
+      c.product_of_ends-sum.ensures;
+}
 
 pub returns : goal.returns
-returns c = whole_sum c.loop-i.i c.args.s _ (λ i j. get_or c.args.a.now i 0 * get_or c.args.b.now j 0) (omega arith) c.loop-i.invariant
+returns c =
+    c.loop-i.invariant.sum
+    ∙ column_ends c.args.a.now c.args.b.now c.args.s c.loop-i.i (omega (arith, c.loop-i.invariant.within)) (omega arith)

@@ -1,5 +1,4 @@
-use Rattle.std.proofs.Common.{ℕ, ◌+◌, ◌-◌, ◌*◌, ◌≡◌, ◌≤◌, ◌^◌, arith, length, take, drop, subst, sym, refl, ap, ◌∙◌}
-use Rattle.std.specs.Prelude.{All}
+use Rattle.std.proofs.Common.{ℕ, ◌-◌, ◌≡◌, ◌≤◌, ◌^◌, arith, length, take, drop}
 use Rattle.std.proofs.lemmas.List.{length-take-le, length-drop}
 use Rattle.std.proofs.lemmas.List.Elements.{All-take, All-drop}
 use Rattle.dl_conv.proofs.FirstPlaces.{one_fits, two_fits, all_sums}
@@ -40,16 +39,22 @@ halved_sums-requires-2 t c =
 pub add_from-requires-clause-fits : goal.add_from-requires-clause-fits
 add_from-requires-clause-fits t c k inside =
     let h : ℕ = c.half_length-half.result in
-    one_fits c.args.a.now c.args.b.now h (length c.args.out.now) c.requires.first c.requires.second c.requires.few c.half_length-half.ensures.enough
-    c.half_length-half.ensures.less c.requires.in_first c.requires.in_second c.exact_product.new.out c.copy_from_slice.new.self c.halved_sums.new.out
-    (λ s b. c.exact_product.ensures.each s (omega arith)) c.copy_from_slice.ensures.after (λ s b. c.halved_sums.ensures.each s (omega arith)) k (omega arith)
+    one_fits c.args.a.now c.args.b.now h (length c.args.out.now) c.requires.first c.requires.second c.requires.few
+    c.half_length-half.ensures.enough
+    c.half_length-half.ensures.less c.requires.in_first c.requires.in_second c.exact_product.new.out
+    c.copy_from_slice.new.self c.halved_sums.new.out
+    (λ s b. c.exact_product.ensures.each s (omega arith)) c.copy_from_slice.ensures.after
+    (λ s b. c.halved_sums.ensures.each s (omega arith)) k (omega arith)
 
 pub add_from-requires-2-clause-fits : goal.add_from-requires-2-clause-fits
 add_from-requires-2-clause-fits t c k inside =
     let h : ℕ = c.half_length-half.result in
-    two_fits c.args.a.now c.args.b.now h (length c.args.out.now) c.requires.first c.requires.second c.requires.few c.half_length-half.ensures.enough
-    c.half_length-half.ensures.less c.requires.in_first c.requires.in_second c.exact_product.new.out c.copy_from_slice.new.self c.halved_sums.new.out
-    (λ s b. c.exact_product.ensures.each s (omega arith)) c.copy_from_slice.ensures.after (λ s b. c.halved_sums.ensures.each s (omega arith))
+    two_fits c.args.a.now c.args.b.now h (length c.args.out.now) c.requires.first c.requires.second c.requires.few
+    c.half_length-half.ensures.enough
+    c.half_length-half.ensures.less c.requires.in_first c.requires.in_second c.exact_product.new.out
+    c.copy_from_slice.new.self c.halved_sums.new.out
+    (λ s b. c.exact_product.ensures.each s (omega arith)) c.copy_from_slice.ensures.after
+    (λ s b. c.halved_sums.ensures.each s (omega arith))
     c.halved_sums-2.new.out c.add_from.new.out (λ s b. c.halved_sums-2.ensures.each s (omega arith))
     (λ s b. c.add_from.ensures.each s (omega arith)) (λ s b. c.add_from.ensures.first s b) k (omega arith)
 
@@ -57,10 +62,14 @@ pub returns : goal.returns
 returns t c = record {
   each = λ k inside.
       let h : ℕ = c.half_length-half.result in
-      all_sums c.args.a.now c.args.b.now h (length c.args.out.now) c.requires.first c.requires.second c.requires.few c.half_length-half.ensures.enough
-      c.half_length-half.ensures.less c.requires.in_first c.requires.in_second c.exact_product.new.out c.copy_from_slice.new.self c.halved_sums.new.out
-      (λ s b. c.exact_product.ensures.each s (omega arith)) c.copy_from_slice.ensures.after (λ s b. c.halved_sums.ensures.each s (omega arith))
+      all_sums c.args.a.now c.args.b.now h (length c.args.out.now) c.requires.first c.requires.second c.requires.few
+      c.half_length-half.ensures.enough
+      c.half_length-half.ensures.less c.requires.in_first c.requires.in_second c.exact_product.new.out
+      c.copy_from_slice.new.self c.halved_sums.new.out
+      (λ s b. c.exact_product.ensures.each s (omega arith)) c.copy_from_slice.ensures.after
+      (λ s b. c.halved_sums.ensures.each s (omega arith))
       c.halved_sums-2.new.out c.add_from.new.out (λ s b. c.halved_sums-2.ensures.each s (omega arith))
       (λ s b. c.add_from.ensures.each s (omega arith)) (λ s b. c.add_from.ensures.first s b)
-      c.add_from-2.new.out (λ s b. c.add_from-2.ensures.each s (omega arith)) (λ s b. c.add_from-2.ensures.first s b) k inside;
+      c.add_from-2.new.out (λ s b. c.add_from-2.ensures.each s (omega arith))
+      (λ s b. c.add_from-2.ensures.first s b) k inside;
 }

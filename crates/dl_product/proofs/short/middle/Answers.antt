@@ -1,9 +1,9 @@
 use Rattle.std.proofs.Common.{◌/◌, arith}
 use Rattle.std.proofs.Math.Nat.{mul-le-mul}
-use Rattle.dl_conv.proofs.Ends.{end_fits}
+use Rattle.dl_conv.proofs.Columns.{end_fits}
 use Rattle.dl_product.proofs.short.middle.Goals as goal
 
 pub returns-clause-small : goal.returns-clause-small
 returns-clause-small c =
     let x = end_fits c.args.a.now c.requires (c.args.s / 2) in
-    omega (arith, c.times.ensures, mul-le-mul x x)
+    omega (arith, c.product_of_ends.ensures, mul-le-mul x x)

@@ -3,38 +3,32 @@ use Rattle.std.proofs.Common.{arith, sym, refl, ap, ◌∙◌}
 use Rattle.std.specs.Prelude.{max}
 use Rattle.std.proofs.Math.Nat.{mul-le-mul}
 use Rattle.std.proofs.lemmas.Bool.{cases_lt}
-use Rattle.dl_exact.proofs.Counts.{below_bound}
+use Rattle.dl_exact.proofs.Counts.{below_bound, below_none, below_rest, times_nothing}
 use Rattle.std.proofs.lemmas.List.{get_or_past}
 use Rattle.dl_exact.specs.Count.{count_below}
-use Rattle.dl_conv.proofs.Ends.{sum_more, sum_fits, end_fits}
-use Rattle.dl_product.proofs.Rows.{none_below, rest_below}
-use Rattle.dl_product.proofs.Zeros.{times_nothing}
+use Rattle.dl_conv.proofs.Columns.{end_fits, column_begins, column_next, column_fits}
 use Rattle.dl_product.proofs.Mirror.{square_odd, square_even}
 use Rattle.dl_product.proofs.short.square_at.Goals as goal
 
 pub loop-i-init : goal.loop-i-init
-loop-i-init c =
-    let a = c.args.a.now in
-    record {
-      within = omega arith;
-      sum = sym (none_below _ (λ k. get_or a k 0 * get_or a (c.args.s - k) 0) (λ k d.
-          times_nothing (get_or a k 0) (get_or a (c.args.s - k) 0) (get_or_past a (c.args.s - k) 0 (omega arith))));
-    }
+loop-i-init c = record {
+  within = omega arith;
+  sum = sym (column_begins c.args.a.now c.args.a.now c.args.s _ (omega arith));
+}
 
 pub overflow_add-sum : goal.overflow_add-sum
 overflow_add-sum c =
     omega (
       arith,
-      sum_fits c.loop-i.i _ _ _ _ (λ k. get_or c.args.a.now k 0) (λ k. get_or c.args.a.now (c.args.s - k) 0)
-          (omega (arith, c.requires.near)) c.loop-i.invariant.sum
-          (end_fits _ c.requires.items) (λ k. end_fits _ c.requires.items (c.args.s - k)) c.times-sum.ensures
-          (end_fits _ c.requires.items c.loop-i.i) (end_fits _ c.requires.items (c.args.s - c.loop-i.i)),
+      column_fits c.args.a.now c.args.a.now c.args.s c.loop-i.i _ _ c.requires.items c.requires.items
+          (omega (arith, c.requires.near)) c.loop-i.invariant.sum c.product_of_ends-sum.ensures,
     )
 
 pub loop-i-preserved : goal.loop-i-preserved
 loop-i-preserved c = record {
   within = omega arith;
-  sum = sum_more c.loop-i.i _ _ _ _ _ c.loop-i.invariant.sum c.times-sum.ensures refl;
+  sum = column_next c.args.a.now c.args.a.now c.args.s c.loop-i.i _ _ c.loop-i.invariant.sum
+      c.product_of_ends-sum.ensures;
 }
 
 -- the first half of the products, and how large it is
@@ -42,7 +36,7 @@ half_sum : (f : ℕ → ℕ) (s half from i n sum : ℕ) → half ≤ i → i �
     → ((k : ℕ) → n ≤ k → f k ≡ 0) → sum ≡ count_below i (λ k. f k * f (s - k))
     → sum ≡ count_below half (λ k. f k * f (s - k))
 half_sum f s half from i n sum b within e past h =
-    h ∙ rest_below half i (λ k. f k * f (s - k)) b (λ k c d.
+    h ∙ below_rest half i (λ k. f k * f (s - k)) b (λ k c d.
     times_nothing (f k) (f (s - k)) (past (s - k) (omega (arith, c, d, within, e))))
 
 half_small : (f : ℕ → ℕ) (s half sum : ℕ) → half ≤ 8192 → ((k : ℕ) → f k ≤ 2 ^ 56)

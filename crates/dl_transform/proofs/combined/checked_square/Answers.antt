@@ -1,32 +1,27 @@
-use Rattle.std.proofs.Common.{◌≡◌, ◌*◌, ◌≤◌, get_or, sum_by, arith, ap, mul-le-mul_right, mul-le-mul, ◌-◌, ◌^◌}
-use Rattle.dl_exact.specs.Count.{count_pairs}
-use Rattle.dl_transform.proofs.Wholes.{pairs_bound, word_at}
+use Rattle.std.proofs.Common.{◌^◌, get_or, arith}
+use Rattle.dl_transform.proofs.Wholes.{word_at, sums_small, too_large, words_fit}
 use Rattle.dl_transform.proofs.combined.checked_square.Goals as goal
 
 pub square-requires-clause-sums : goal.square-requires-clause-sums
 square-requires-clause-sums c s b =
-    let h : count_pairs s (λ i j. get_or c.args.a.now i 0 * get_or c.args.a.now j 0) ≤ sum_by (λ x. x) c.args.a.now
-    * c.most.result = pairs_bound c.args.a.now (λ j. get_or c.args.a.now j 0) c.most.result s c.most.ensures.above
-    in
-    let e : c.total-all.result * c.most.result ≡ sum_by (λ x. x) c.args.a.now * c.most.result =
-    ap (λ t. t * c.most.result) c.total-all.ensures in
-    omega (arith, h, e)
+    sums_small c.args.a.now (λ j. get_or c.args.a.now j 0) c.total-all.result c.most.result
+    (2 ^ 123) s c.total-all.ensures c.most.ensures.above
+    (omega arith)
 
 pub returns-then-most-all-ge10633823966279326983230456482242756608-clause-told :
     goal.returns-then-most-all-ge10633823966279326983230456482242756608-clause-told
 returns-then-most-all-ge10633823966279326983230456482242756608-clause-told c room few small m bound low =
-    let all = sum_by (λ x. x) c.args.a.now in
-    let k : c.most.result * all ≤ m * all = mul-le-mul_right all (c.most.ensures.least m bound) in
-    let e : c.most.result * c.total-all.result ≡ c.most.result * all =
-    ap (λ t. c.most.result * t) c.total-all.ensures in
-    absurd (omega (arith, k, e, low, c.if-most-all-ge10633823966279326983230456482242756608.true))
+    absurd (too_large c.args.a.now c.total-all.result c.most.result m (2 ^ 123) c.total-all.ensures
+    (c.most.ensures.least m bound)
+    (omega (arith, c.if-most-all-ge10633823966279326983230456482242756608.true)) (omega (arith, low)))
 
 pub overflow_mul-most : goal.overflow_mul-most
 overflow_mul-most c =
-    let a : c.most.result ≤ 2 ^ 64 - 1 =
-    c.most.ensures.least (2 ^ 64 - 1) (λ k. omega (arith, word_at c.args.a.now c.requires.items k)) in
-    let b : c.total-all.result ≤ 2 ^ 64 - 1 = omega (arith, c.if-all-ge18446744073709551616.false) in
-    omega (arith, mul-le-mul a b)
+    omega (
+      arith,
+      words_fit c.args.a.now c.total-all.result c.most.result c.requires.items c.most.ensures.least
+          (omega (arith, c.if-all-ge18446744073709551616.false)),
+    )
 
 pub square-requires-clause-items : goal.square-requires-clause-items
 square-requires-clause-items c = word_at c.args.a.now c.requires.items

@@ -1,9 +1,8 @@
-use Rattle.std.proofs.Common.{◌≡◌, ◌+◌, ◌-◌, ◌*◌, ◌/◌, ◌^◌, ◌<◌, ◌≤◌, take, drop, length, slice_index, get_or}
-use Rattle.std.proofs.Common.{arith, refl, sym, ap, subst, ◌∙◌}
-use Rattle.dl_transform.specs.Residue.{Same}
+use Rattle.std.proofs.Common.{◌+◌, ◌-◌, ◌*◌, ◌/◌, ◌^◌, take, drop, length, get_or, arith, refl, ap, ◌∙◌}
+use Rattle.std.proofs.lemmas.Nat.{pow_pos}
 use Rattle.dl_transform.specs.Table.{point}
-use Rattle.dl_transform.proofs.Parts.{below, half_of, roots_small, take_small, drop_small, join_small, items_step}
-use Rattle.dl_transform.proofs.Parts.{items_leaf}
+use Rattle.dl_transform.proofs.Parts.{below, half_of, join_small, items_leaf}
+use Rattle.dl_transform.proofs.AfterSteps.{front_small, back_small, items_after}
 use Rattle.dl_transform.proofs.passes.+to_items.Goals as goal
 
 pub returns-then-levels-eq0-clause-items : goal.returns-then-levels-eq0-clause-items
@@ -48,8 +47,8 @@ to_items-requires t c =
           omega (arith, half, c.requires.size, b.twice),
           (
             b.first,
-            λ i. subst (λ s. get_or s i 0 < 2 * c.args.table.now.p) (sym c.split_at_mut-low.ensures.front)
-                (take_small (length c.args.x.now / 2) (2 * c.args.table.now.p) c.args.x.now c.requires.small i),
+            front_small (length c.args.x.now / 2) (2 * c.args.table.now.p) c.args.x.now _
+                c.split_at_mut-low.ensures.front c.requires.small,
           ),
         ),
       ),
@@ -68,8 +67,8 @@ to_items-requires-2 t c =
           omega (arith, half, c.requires.size, b.twice),
           (
             b.second,
-            λ i. subst (λ s. get_or s i 0 < 2 * c.args.table.now.p) (sym c.split_at_mut-low.ensures.back)
-                (drop_small (length c.args.x.now / 2) (2 * c.args.table.now.p) c.args.x.now c.requires.small i),
+            back_small (length c.args.x.now / 2) (2 * c.args.table.now.p) c.args.x.now _
+                c.split_at_mut-low.ensures.back c.requires.small,
           ),
         ),
       ),
@@ -94,25 +93,10 @@ returns-clause-items t c =
     c.requires.within) in
     let half = (half_of c.args.levels (length c.args.table.now.roots.items) c.args.node (length c.args.x.now) b
     c.requires.size) in
-    let m = 2 ^ (c.args.levels - 1) in
-    let p = c.args.table.now.p in
-    let roots = c.args.table.now.roots.items in
-    let x = c.args.x.now in
-    let v = c.inverse-w.result.0 in
-    let low = c.to_items.new.x in
-    let high = c.to_items-2.new.x in
-    let low_len : length low ≡ m = omega (arith, half, c.requires.size, b.twice) in
-    let one : Same p (slice_index roots c.args.node * v) 1 =
-    subst (λ t. Same p (slice_index roots c.args.node * t) 1) (sym c.inverse-w.ensures.value)
-    ((c.requires.table.root c.args.node b.inside).inverse) in
-    items_step p c.args.node m (2 ^ c.args.levels) v roots x c.split_at_mut-low.result.0.now
-    c.split_at_mut-low.result.1.now low high c.join_all.new.low c.join_all.new.high (c.args.levels - 1) refl b.twice
-    (omega (arith, c.requires.table.modulus.large))
-    (λ k h. (c.requires.table.root k h).square)
-    (roots_small p roots (λ k h. (c.requires.table.root k h).factor.below))
-    (subst (λ t. (c.args.node + 1) * t ≤ 2 * length roots) b.twice c.requires.within)
-    one (c.split_at_mut-low.ensures.front ∙ ap (λ t. take t x) half)
-    (c.split_at_mut-low.ensures.back ∙ ap (λ t. drop t x) half)
-    c.to_items.ensures.items c.to_items-2.ensures.items (omega (arith, low_len))
-    (λ i h. c.join_all.ensures.low i (subst (λ t. i < t) (sym low_len) h))
-    (λ i h. c.join_all.ensures.high i (subst (λ t. i < t) (sym low_len) h))
+    items_after c.args.table.now c.requires.table c.args.node (2 ^ (c.args.levels - 1)) (2 ^ c.args.levels)
+    (c.args.levels - 1) refl b.twice c.requires.within c.args.x.now c.split_at_mut-low.result.0.now
+    c.split_at_mut-low.result.1.now (c.split_at_mut-low.ensures.front ∙ ap (λ t. take t c.args.x.now) half)
+    (c.split_at_mut-low.ensures.back ∙ ap (λ t. drop t c.args.x.now) half) c.inverse-w.result.0 c.to_items.new.x
+    c.to_items-2.new.x c.join_all.new.low c.join_all.new.high c.inverse-w.ensures.value (pow_pos (c.args.levels - 1))
+    c.to_items.ensures.items c.to_items-2.ensures.items (omega (arith, half, c.requires.size, b.twice))
+    (omega (arith, half, c.requires.size, b.twice)) c.join_all.ensures.low c.join_all.ensures.high

@@ -1,9 +1,7 @@
-use Rattle.std.proofs.Common.{ℕ, ◌≡◌, ◌+◌, ◌-◌, ◌*◌, ◌/◌, ◌^◌, ◌<◌, ◌≤◌, take, drop, length, slice_index, get_or}
-use Rattle.std.proofs.Common.{arith, refl, sym, ap, subst, ◌∙◌}
-use Rattle.dl_transform.specs.Residue.{Same}
+use Rattle.std.proofs.Common.{◌+◌, ◌-◌, ◌*◌, ◌/◌, ◌^◌, take, drop, length, get_or, arith, refl, ap, ◌∙◌}
 use Rattle.dl_transform.specs.Table.{point}
-use Rattle.dl_transform.proofs.Parts.{below, half_of, roots_small, take_small, drop_small, join_small, values_step}
-use Rattle.dl_transform.proofs.Parts.{values_leaf}
+use Rattle.dl_transform.proofs.Parts.{below, half_of, join_small, values_leaf}
+use Rattle.dl_transform.proofs.AfterSteps.{front_small, back_small, values_after}
 use Rattle.dl_transform.proofs.passes.+to_values.Goals as goal
 
 pub returns-then-levels-eq0-clause-values : goal.returns-then-levels-eq0-clause-values
@@ -27,13 +25,13 @@ part_all-requires-clause-alike t c =
 
 pub part_all-requires-clause-low_small : goal.part_all-requires-clause-low_small
 part_all-requires-clause-low_small t c =
-    λ i. subst (λ s. get_or s i 0 < 4 * c.args.table.now.p) (sym c.split_at_mut-low.ensures.front)
-    (take_small (length c.args.x.now / 2) (4 * c.args.table.now.p) c.args.x.now c.requires.small i)
+    front_small (length c.args.x.now / 2) (4 * c.args.table.now.p) c.args.x.now _ c.split_at_mut-low.ensures.front
+    c.requires.small
 
 pub part_all-requires-clause-high_small : goal.part_all-requires-clause-high_small
 part_all-requires-clause-high_small t c =
-    λ i. subst (λ s. get_or s i 0 < 4 * c.args.table.now.p) (sym c.split_at_mut-low.ensures.back)
-    (drop_small (length c.args.x.now / 2) (4 * c.args.table.now.p) c.args.x.now c.requires.small i)
+    back_small (length c.args.x.now / 2) (4 * c.args.table.now.p) c.args.x.now _ c.split_at_mut-low.ensures.back
+    c.requires.small
 
 pub overflow_mul-node : goal.overflow_mul-node
 overflow_mul-node t c =
@@ -84,26 +82,10 @@ returns-clause-values t c =
     c.requires.within) in
     let half = (half_of c.args.levels (length c.args.table.now.roots.items) c.args.node (length c.args.x.now) b
     c.requires.size) in
-    let m = 2 ^ (c.args.levels - 1) in
-    let p = c.args.table.now.p in
-    let roots = c.args.table.now.roots.items in
-    let x = c.args.x.now in
-    let low = c.split_at_mut-low.result.0.now in
-    let high = c.split_at_mut-low.result.1.now in
-    let low_len : length low ≡ m = omega (arith, half, c.requires.size, b.twice) in
-    let lows : (i : ℕ) → i < m → Same p (get_or c.part_all.new.low i 0)
-    (get_or low i 0 + slice_index roots c.args.node * get_or high i 0) =
-    λ i h. subst (λ t. Same p (get_or c.part_all.new.low i 0) (get_or low i 0 + t * get_or high i 0))
-    c.root-w.ensures.value (c.part_all.ensures.low i (subst (λ t. i < t) (sym low_len) h)) in
-    let highs : (i : ℕ) → i < m → Same p (get_or c.part_all.new.high i 0)
-    (get_or low i 0 + (p - slice_index roots c.args.node) * get_or high i 0) =
-    λ i h. subst (λ t. Same p (get_or c.part_all.new.high i 0) (get_or low i 0 + (p - t) * get_or high i 0))
-    c.root-w.ensures.value (c.part_all.ensures.high i (subst (λ t. i < t) (sym low_len) h)) in
-    values_step p c.args.node m (2 ^ c.args.levels) roots x low high c.part_all.new.low c.part_all.new.high
-    c.to_values.new.x c.to_values-2.new.x (c.args.levels - 1) refl b.twice
-    (λ k h. (c.requires.table.root k h).square)
-    (roots_small p roots (λ k h. (c.requires.table.root k h).factor.below))
-    (subst (λ t. (c.args.node + 1) * t ≤ 2 * length roots) b.twice c.requires.within)
-    (c.split_at_mut-low.ensures.front ∙ ap (λ t. take t x) half)
-    (c.split_at_mut-low.ensures.back ∙ ap (λ t. drop t x) half)
-    lows highs (omega (arith, low_len)) c.to_values.ensures.values c.to_values-2.ensures.values
+    values_after c.args.table.now c.requires.table c.args.node (2 ^ (c.args.levels - 1)) (2 ^ c.args.levels)
+    (c.args.levels - 1) refl b.twice c.requires.within c.args.x.now c.split_at_mut-low.result.0.now
+    c.split_at_mut-low.result.1.now (c.split_at_mut-low.ensures.front ∙ ap (λ t. take t c.args.x.now) half)
+    (c.split_at_mut-low.ensures.back ∙ ap (λ t. drop t c.args.x.now) half) c.root-w.result.0 c.part_all.new.low
+    c.part_all.new.high c.to_values.new.x c.to_values-2.new.x c.root-w.ensures.value
+    (omega (arith, half, c.requires.size, b.twice)) c.part_all.ensures.low c.part_all.ensures.high
+    (omega (arith, half, c.requires.size, b.twice)) c.to_values.ensures.values c.to_values-2.ensures.values

@@ -1,6 +1,6 @@
-use Rattle.std.proofs.Common.{ℕ, ◌≡◌, ◌+◌, ◌-◌, ◌*◌, ◌<◌, length, slice_index, get_or, arith, refl, sym, subst}
-use Rattle.dl_transform.specs.Residue.{Same}
-use Rattle.dl_transform.proofs.Parts.{roots_small, take_small, drop_small, join_small, values_step}
+use Rattle.std.proofs.Common.{◌*◌, arith, refl}
+use Rattle.dl_transform.proofs.Parts.{join_small}
+use Rattle.dl_transform.proofs.AfterSteps.{front_small, back_small, values_after}
 use Rattle.dl_transform.proofs.passes.to_values_4.Goals as goal
 
 pub root-w-requires-clause-inside : goal.root-w-requires-clause-inside
@@ -9,13 +9,11 @@ root-w-requires-clause-inside c =
 
 pub part_all-requires-clause-low_small : goal.part_all-requires-clause-low_small
 part_all-requires-clause-low_small c =
-    λ i. subst (λ s. get_or s i 0 < 4 * c.args.table.now.p) (sym c.split_at_mut-low.ensures.front)
-    (take_small 2 (4 * c.args.table.now.p) c.args.x.now c.requires.small i)
+    front_small 2 (4 * c.args.table.now.p) c.args.x.now _ c.split_at_mut-low.ensures.front c.requires.small
 
 pub part_all-requires-clause-high_small : goal.part_all-requires-clause-high_small
 part_all-requires-clause-high_small c =
-    λ i. subst (λ s. get_or s i 0 < 4 * c.args.table.now.p) (sym c.split_at_mut-low.ensures.back)
-    (drop_small 2 (4 * c.args.table.now.p) c.args.x.now c.requires.small i)
+    back_small 2 (4 * c.args.table.now.p) c.args.x.now _ c.split_at_mut-low.ensures.back c.requires.small
 
 pub overflow_mul-node : goal.overflow_mul-node
 overflow_mul-node c =
@@ -44,23 +42,10 @@ returns-clause-small c =
 
 pub returns-clause-values : goal.returns-clause-values
 returns-clause-values c =
-    let p = c.args.table.now.p in
-    let roots = c.args.table.now.roots.items in
-    let x = c.args.x.now in
-    let low = c.split_at_mut-low.result.0.now in
-    let high = c.split_at_mut-low.result.1.now in
-    let low_len : length low ≡ 2 = c.split_at_mut-low.ensures.front_len in
-    let lows : (i : ℕ) → i < 2 → Same p (get_or c.part_all.new.low i 0)
-    (get_or low i 0 + slice_index roots c.args.node * get_or high i 0) =
-    λ i h. subst (λ t. Same p (get_or c.part_all.new.low i 0) (get_or low i 0 + t * get_or high i 0))
-    c.root-w.ensures.value (c.part_all.ensures.low i (subst (λ t. i < t) (sym low_len) h)) in
-    let highs : (i : ℕ) → i < 2 → Same p (get_or c.part_all.new.high i 0)
-    (get_or low i 0 + (p - slice_index roots c.args.node) * get_or high i 0) =
-    λ i h. subst (λ t. Same p (get_or c.part_all.new.high i 0) (get_or low i 0 + (p - t) * get_or high i 0))
-    c.root-w.ensures.value (c.part_all.ensures.high i (subst (λ t. i < t) (sym low_len) h)) in
-    values_step p c.args.node 2 4 roots x low high c.part_all.new.low c.part_all.new.high c.to_values_2.new.x
-    c.to_values_2-2.new.x 1 refl refl
-    (λ k h. (c.requires.table.root k h).square)
-    (roots_small p roots (λ k h. (c.requires.table.root k h).factor.below)) c.requires.within
-    c.split_at_mut-low.ensures.front c.split_at_mut-low.ensures.back
-    lows highs (omega (arith, low_len)) c.to_values_2.ensures.values c.to_values_2-2.ensures.values
+    values_after c.args.table.now c.requires.table c.args.node 2 4 1 refl refl c.requires.within c.args.x.now
+    c.split_at_mut-low.result.0.now c.split_at_mut-low.result.1.now c.split_at_mut-low.ensures.front
+    c.split_at_mut-low.ensures.back c.root-w.result.0 c.part_all.new.low c.part_all.new.high
+    c.to_values_2.new.x c.to_values_2-2.new.x
+    c.root-w.ensures.value c.split_at_mut-low.ensures.front_len c.part_all.ensures.low c.part_all.ensures.high
+    (omega (arith, c.split_at_mut-low.ensures.front_len))
+    c.to_values_2.ensures.values c.to_values_2-2.ensures.values

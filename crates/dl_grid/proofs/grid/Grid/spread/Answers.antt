@@ -4,11 +4,13 @@ use Rattle.dl_grid.proofs.grid.Grid.spread.Goals as goal
 
 pub sum_of-low-requires : goal.sum_of-low-requires
 sum_of-low-requires g c =
-    rw c.as_slice.ensures.value (ends_fit_all _ c.self.invariant.scale_below c.self.invariant.few (lows_small c.self.invariant))
+    rw c.as_slice.ensures.value (ends_fit_all _ c.self.invariant.scale_below c.self.invariant.few
+    (lows_small c.self.invariant))
 
 pub sum_of-high-requires : goal.sum_of-high-requires
 sum_of-high-requires g c =
-    rw c.as_slice-2.ensures.value (ends_fit_all _ c.self.invariant.scale_below (high_few c.self.invariant) c.self.invariant.small)
+    rw c.as_slice-2.ensures.value (ends_fit_all _ c.self.invariant.scale_below
+    (high_few c.self.invariant) c.self.invariant.small)
 
 pub overflow_sub-result : goal.overflow_sub-result
 overflow_sub-result g c =

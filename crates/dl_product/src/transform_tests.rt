@@ -1,6 +1,8 @@
+//! Products by transforms, beside long multiplication.
+
 ghost use Rattle.std.specs.Prelude.{◌^◌, ◌<◌, All, IfOk};
 
-use super::{Buffers, checked_product, checked_square, set_up};
+use dl_transform::{Buffers, checked_product, checked_square, set_up};
 use std::alloc::{AllocError, Global};
 
 /// Two lists, at how many levels they are multiplied, and the first items of their product, by long

@@ -1,0 +1,63 @@
+-- One sum of a product of two lists: the products of the items whose places add up to s, place by place of the first.
+use Rattle.std.proofs.Common.{ℕ, suc, ◌≡◌, ◌+◌, ◌-◌, ◌*◌, ◌^◌, ◌<◌, ◌≤◌, List, length, get_or, arith, sym, ap₂, inl, inr, ◌∙◌}
+use Rattle.std.specs.Prelude.{min, All}
+use Rattle.std.proofs.Math.Nat.{mul-le-mul}
+use Rattle.std.proofs.lemmas.List.{get_or_past}
+use Rattle.std.proofs.lemmas.Bool.{cases_lt}
+use Rattle.dl_limits.specs.Limits.{most_cells}
+use Rattle.dl_exact.specs.Count.{count_below}
+use Rattle.dl_exact.proofs.Counts.{below_none, below_rest, below_more, below_bound, below_pairs, nothing_times, times_nothing}
+use Rattle.dl_conv.specs.Modulo.{IsSame}
+use Rattle.dl_conv.specs.Sums.{pair_sum}
+use Rattle.dl_conv.proofs.Same.{same, same_sym, same_then, same_plus}
+
+pub end_fits : (xs : List ℕ) → All (λ x. x ≤ 2 ^ 56) xs → (k : ℕ) → get_or xs k 0 ≤ 2 ^ 56
+end_fits xs small k = elim (cases_lt k (length xs)) [
+  | inl inside ↦ small k 0 inside
+  | inr past ↦ omega (arith, get_or_past xs k 0 past)
+]
+
+-- the sum over the first n places
+abbrev pub column : List ℕ → List ℕ → (s n : ℕ) → ℕ
+column xs ys s n = count_below n (λ k. get_or xs k 0 * get_or ys (s - k) 0)
+
+-- it begins where the second list ends
+pub column_begins : (xs ys : List ℕ) (s n : ℕ) → n ≡ s + 1 - length ys → column xs ys s n ≡ 0
+column_begins xs ys s n e =
+    below_none n (λ k. get_or xs k 0 * get_or ys (s - k) 0)
+    (λ k b. times_nothing (get_or xs k 0) (get_or ys (s - k) 0) (get_or_past ys (s - k) 0 (omega (arith, e))))
+
+-- and has all where the first list has ended
+pub column_ends : (xs ys : List ℕ) (s n : ℕ) → n ≤ s + 1 → min (length xs) (s + 1) ≤ n
+    → column xs ys s n ≡ pair_sum xs ys s
+column_ends xs ys s n within enough =
+    sym (below_rest n (suc s) (λ k. get_or xs k 0 * get_or ys (s - k) 0) (omega arith)
+    (λ k b c. nothing_times (get_or xs k 0) (get_or ys (s - k) 0) (get_or_past xs k 0 (omega (arith, enough, b, c)))))
+    ∙ below_pairs s (λ i j. get_or xs i 0 * get_or ys j 0)
+
+-- one product more, exactly
+pub column_next : (xs ys : List ℕ) (s i total part : ℕ) → total ≡ column xs ys s i
+    → part ≡ get_or xs i 0 * get_or ys (s - i) 0 → total + part ≡ column xs ys s (i + 1)
+column_next xs ys s i total part e h = omega (arith, below_more i (λ k. get_or xs k 0 * get_or ys (s - k) 0), e, h)
+
+-- which passes no 128 bits
+pub column_fits : (xs ys : List ℕ) (s i total part : ℕ) → All (λ x. x ≤ 2 ^ 56) xs → All (λ y. y ≤ 2 ^ 56) ys
+    → i < most_cells → total ≡ column xs ys s i → part ≡ get_or xs i 0 * get_or ys (s - i) 0 → total + part < 2 ^ 128
+column_fits xs ys s i total part p q few e h =
+    let before : column xs ys s i ≤ i * (2 ^ 56 * 2 ^ 56) =
+    below_bound i (2 ^ 56 * 2 ^ 56) (λ k. get_or xs k 0 * get_or ys (s - k) 0)
+    (λ k inside. mul-le-mul (end_fits xs p k) (end_fits ys q (s - k))) in
+    let here : get_or xs i 0 * get_or ys (s - i) 0 ≤ 2 ^ 56 * 2 ^ 56 =
+    mul-le-mul (end_fits xs p i) (end_fits ys q (s - i)) in
+    omega (arith, before, here, e, h)
+
+-- and modulo 2^128
+pub column_more : (xs ys : List ℕ) (s i sum product total a b : ℕ)
+    → IsSame sum (count_below i (λ i. get_or xs i 0 * get_or ys (s - i) 0))
+    → a ≡ get_or xs i 0 → b ≡ get_or ys (s - i) 0 → IsSame product (a * b) → IsSame total (sum + product)
+    → IsSame total (count_below (i + 1) (λ i. get_or xs i 0 * get_or ys (s - i) 0))
+column_more xs ys s i sum product total a b before e h made added =
+    let here : IsSame product (get_or xs i 0 * get_or ys (s - i) 0) =
+    same_then made (same _ _ (ap₂ (λ u v. u * v) e h)) in
+    same_then added (same_then (same_plus before here)
+    (same_sym (same _ _ (below_more i (λ i. get_or xs i 0 * get_or ys (s - i) 0)))))

@@ -1,0 +1,9 @@
+-- What of a list is not 0.
+use Rattle.std.specs.Prelude.{ℕ, ◌≡◌, ◌<◌, ◌≤◌, List, length, get_or}
+
+-- the items from place p to before place e, where those before and after are 0
+pub record IsWindow (xs : List ℕ) (p e : ℕ) : Type 0 where
+  pub order : p ≤ e
+  pub within : e ≤ length xs
+  pub before : (i : ℕ) → i < p → get_or xs i 0 ≡ 0
+  pub after : (i : ℕ) → e ≤ i → get_or xs i 0 ≡ 0
