@@ -7,7 +7,7 @@ use Rattle.dl_exact.specs.Sum.{sum_to}
 use Rattle.dl_exact.proofs.Over.{over_self, le_over}
 use Rattle.dl_exact.proofs.Laws.{one_pos, ring, le_refl, le_trans, le_plus, plus_le_both, plus_assoc, plus_times, times_plus, times_comm, times_one, times_le_times, times_le_cancel, times_cancel, div_times, whole_pos, whole_plus, whole_times, over_times_whole}
 use Rattle.dl_exact.proofs.RoundingLaws.{whole_le}
-use Rattle.dl_exact.proofs.Sums.{sum_to_grows}
+use Rattle.dl_exact.proofs.Sums.{halving_bound}
 use Rattle.dl_exact.proofs.Powers.{factorial_pos}
 use Rattle.dl_exact.proofs.SumsOver.{low_sum, high_sum}
 use Rattle.dl_exp.specs.Exponential.{exponential_term}
@@ -33,18 +33,6 @@ term_next x n =
     turn a b c = simp ring
 
 -- ---- what follows a term
-
--- the sums of terms that at least halve stay within the sum so far and its last term
-halving_bound : (w : ℕ → Fraction) → ((n : ℕ) → w (suc n) +ℚ w (suc n) ≤ℚ w n) → (K N : ℕ)
-    → sum_to N w ≤ℚ sum_to K w +ℚ w K
-unfolding sum_to
-halving_bound w h K N = le_trans _ _ _ (sum_to_grows N (K + N) w (omega arith)) (le_trans _ _ _ (le_plus _ _) (falls N))
-  where
-    falls : (m : ℕ) → sum_to (K + m) w +ℚ w (K + m) ≤ℚ sum_to K w +ℚ w K
-    falls zero = subst (λ k. sum_to k w +ℚ w k ≤ℚ sum_to K w +ℚ w K) (sym (add-zero K)) (le_refl _)
-    falls (suc m) = subst (λ k. sum_to k w +ℚ w k ≤ℚ sum_to K w +ℚ w K) (sym (add-suc K m))
-        (le_trans _ _ _ (subst (λ t. t ≤ℚ sum_to (K + m) w +ℚ w (K + m)) (sym (plus_assoc _ _ _))
-        (plus_le_both _ _ _ _ (le_refl (sum_to (K + m) w)) (h (K + m)))) (falls m))
 
 pub half_parts : (x : Fraction) → x ≤ℚ 1 over 2 → x.num + x.num ≤ x.den
 half_parts x h =
@@ -73,7 +61,7 @@ module _ (x : Fraction) where
 
   pub rest_bound : x ≤ℚ 1 over 2 → (K N : ℕ)
       → sum_to N (exponential_term x) ≤ℚ sum_to K (exponential_term x) +ℚ exponential_term x K
-  rest_bound h = halving_bound (exponential_term x) (halves h)
+  rest_bound h K = halving_bound (exponential_term x) K (λ n _. halves h n)
 
   -- ---- a term in whole units from the one before
 

@@ -1,7 +1,7 @@
 -- Every quantity of declared units is bounded, their whole weight is somewhere above 0, and their probabilities add up
 -- to 1.
-use Rattle.std.proofs.Common.{◌≡◌, inl, inr, ℕ, suc, zero, ◌+◌, ◌-◌, ◌*◌, ◌≤◌, max, Bool, true, false, nat_eq, nat_lt, nat_le, arith, sym, ap, subst, ◌∙◌, List, [], ◌∷◌}
-use Rattle.std.specs.Prelude.{sum, Option, Some, None, get_or}
+use Rattle.std.proofs.Common.{◌≡◌, inl, inr, ℕ, zero, ◌+◌, ◌-◌, ◌*◌, ◌≤◌, max, Bool, true, false, nat_eq, nat_lt, nat_le, arith, sym, ap, subst, ◌∙◌, List, [], ◌∷◌}
+use Rattle.std.specs.Prelude.{sum, get_or}
 use Rattle.std.proofs.Math.Nat.{le-max_left, le-max_right, le_refl as le_refl_n}
 use Rattle.std.proofs.lemmas.Bool.{cases_eq, le-ltb}
 use Rattle.dl_exact.specs.Fraction.{Fraction, ◌+ℚ◌, ◌-ℚ◌, ◌*ℚ◌, ◌/ℚ◌, ◌≤ℚ◌, ◌<ℚ◌, whole}
@@ -12,7 +12,9 @@ use Rattle.dl_exact.proofs.Sums.{sum_to_same, sum_to_times, sum_to_swap, sum_to_
 use Rattle.dl_exact.proofs.Lists.{item_le_total}
 use Rattle.dl_model.specs.Series.{IsBound, AtLeast, Settles, times}
 use Rattle.dl_model.specs.Compound.{cell}
-use Rattle.dl_model.specs.Program.{Aggregate, IsUnit, AreUnits, Quantity, One, Point, Cdf, Mean, Layer, Tail, Joint, where_true, in_layer, outcome, score, sum_over_outcomes, partial_sums}
+use Rattle.dl_plan.specs.Clause.{layer}
+use Rattle.dl_plan.proofs.Clauses.{layer_le}
+use Rattle.dl_model.specs.Program.{Aggregate, IsDeclarable, AreDeclarable, Quantity, One, Point, Cdf, Mean, Layer, Tail, Joint, where_true, outcome, score, sum_over_outcomes, partial_sums}
 use Rattle.dl_model.specs.Measures.{survival, AreDeclared, IsAsked}
 use Rattle.dl_model.proofs.Declared.{rises_to}
 use Rattle.dl_model.proofs.FamilyLaws.{sum_rises_to}
@@ -23,13 +25,13 @@ use Rattle.dl_model.proofs.Scores.{survival_rest}
 use Rattle.dl_model.proofs.TailScores.{rest_pos, div_is_times}
 use Rattle.dl_model.proofs.SettlesGamma.{settles_times, settles_from}
 
-pub are_units : (us : List Aggregate) → AreDeclared us → AreUnits us
+pub are_units : (us : List Aggregate) → AreDeclared us → AreDeclarable us
 are_units [] h = h
 are_units (u ∷ us) h = (h.0.unit, are_units us h.1)
 
 -- ---- the mean of one unit
 
-module _ (u : Aggregate) (h : IsUnit u) where
+module _ (u : Aggregate) (h : IsDeclarable u) where
   pub clause_mean : (N : ℕ) → sum_to (N * u.most) (λ y. whole y *ℚ outcome u y N) ≡ sum_to (N * u.most)
       (λ s. whole (u.clause s) *ℚ cell u.count u.severity s N)
   clause_mean N =
@@ -103,10 +105,6 @@ where_at_most : (b : Bool) (x : Fraction) → where_true b x ≤ℚ x
 where_at_most true x = le_refl _
 where_at_most false x = zero_le _
 
-in_layer_le : (limit : Option ℕ) (attachment x : ℕ) → in_layer limit attachment x ≤ x
-in_layer_le None attachment x = omega arith
-in_layer_le (Some limit) attachment x = omega arith
-
 tail_scaled : (p : Fraction) (q : ℕ) → p <ℚ whole 1 → (ys : List ℕ)
     → score (Tail p q) ys ≤ℚ (whole q +ℚ whole 1 /ℚ (whole 1 -ℚ p)) *ℚ scale ys
 tail_scaled p q h ys =
@@ -128,7 +126,7 @@ score_scaled (Point x) h = (whole 1, λ ys. by_one _ ys (where_le_one (nat_eq (s
 score_scaled (Cdf x) h = (whole 1, λ ys. by_one _ ys (where_le_one (nat_le (sum ys) x)))
 score_scaled Mean h = (whole 1, λ ys. by_total (sum ys) ys (omega arith))
 score_scaled (Layer limit attachment) h =
-    (whole 1, λ ys. by_total (in_layer limit attachment (sum ys)) ys (in_layer_le limit attachment (sum ys)))
+    (whole 1, λ ys. by_total (layer limit attachment (sum ys)) ys (layer_le limit attachment (sum ys)))
 score_scaled (Tail p q) h = (whole q +ℚ whole 1 /ℚ (whole 1 -ℚ p), tail_scaled p q h)
 score_scaled (Joint i x) h = (
   whole 1,

@@ -15,18 +15,17 @@ use Rattle.dl_plan.specs.declared.cede.CedeLayer.{CedeLayer}
 use Rattle.dl_plan.specs.declared.severity.Sev.{Sev}
 use Rattle.dl_plan.specs.declared.plan.Unit.{Unit as UnitOfPlan}
 use Rattle.dl_plan.specs.Fine.{IsWhole}
-use Rattle.dl_plan.specs.Weighted.{common_amount}
+use Rattle.dl_plan.specs.Weighted.{common_amount, greatest}
 use Rattle.dl_plan.specs.Severity.{probability_of, pairs_of, mean_amount}
-use Rattle.dl_plan.specs.Cession.{Clause, layer, ceded, kept}
+use Rattle.dl_plan.specs.Clause.{Clause, layer, ceded, kept}
 use Rattle.dl_plan.specs.Count.{expected_count}
 use Rattle.dl_plan.specs.Valid.{IsAggregate, IsValidUnit}
 use Rattle.dl_model.specs.Series.{AtMost, AtLeast, Holds, plus}
 use Rattle.dl_model.specs.Compound.{cell}
-use Rattle.dl_model.specs.Listed.{weighted, greatest}
-use Rattle.dl_model.specs.Program.{Aggregate, IsUnit, AreUnits, One, Mean, Layer, in_layer, score, sum_over_outcomes, partial_sums}
+use Rattle.dl_model.specs.Program.{Aggregate, IsDeclarable, AreDeclarable, One, Mean, Layer, score, sum_over_outcomes, partial_sums}
 use Rattle.dl_model.specs.Family.{total, Encloses}
 use Rattle.dl_model.specs.Measures.{IsDeclared}
-use Rattle.dl_model.specs.Plans.{count_weights, clause_of, aggregate_of, claims_of, compound_of, mean_ceded}
+use Rattle.dl_model.specs.Plans.{count_weights, outcome_after, aggregate_of, claims_of, compound_of, mean_ceded}
 use Rattle.dl_model.proofs.Declared.{at_most_plus, at_least_plus, at_most_wider, scaled}
 use Rattle.dl_model.proofs.Minus.{at_least_minus, at_most_minus}
 use Rattle.dl_model.proofs.UnitLaws.{unit_plain}
@@ -48,7 +47,7 @@ claims_declared cells u h =
 abbrev claims : UnitOfPlan → List Aggregate
 claims u = claims_of u ∷ []
 
-are_claims : (cells : ℕ) (u : UnitOfPlan) → IsValidUnit cells u → AreUnits (claims u)
+are_claims : (cells : ℕ) (u : UnitOfPlan) → IsValidUnit cells u → AreDeclarable (claims u)
 are_claims cells u h = ((claims_declared cells u h).unit, tt)
 
 pub claims_enclosed : (cells : ℕ) (u : UnitOfPlan) (S K : ℕ) (lo hi : ℕ → ℕ) → IsValidUnit cells u
@@ -64,26 +63,22 @@ pub claims_mean : (cells : ℕ) (u : UnitOfPlan) → IsValidUnit cells u
     (expected_count u.freq *ℚ mean_amount (pairs_of u.sev)) (expected_count u.freq *ℚ mean_amount (pairs_of u.sev))
 claims_mean cells u h =
     let e = expected_count u.freq in
-    let value : sum_to (greatest (weighted u.sev.items))
+    let value : sum_to (greatest u.sev.items)
     (λ j. whole j *ℚ probability_of u.sev j) *ℚ e ≡ e *ℚ mean_amount (pairs_of u.sev) =
     ap (λ m. m *ℚ e) (severity_mean u.sev) ∙ times_comm _ e in
     subst (λ v. Holds (partial_sums (claims u) Mean) (partial_sums (claims u) One) v v) value
     (mean_of_unit (claims_of u) (claims_declared cells u h).unit (λ s. refl) e e (count_mean u.freq h.count))
 
 -- what a sum counts for weighs its cell
-claims_score : (u : UnitOfPlan) → IsUnit (claims_of u) → (g : ℕ → Fraction) (N : ℕ)
+claims_score : (u : UnitOfPlan) → IsDeclarable (claims_of u) → (g : ℕ → Fraction) (N : ℕ)
     → sum_over_outcomes (claims u) (λ ys. g (sum ys)) N
-    ≡ sum_to (N * greatest (weighted u.sev.items)) (λ s. g s *ℚ cell (count_weights u.freq) (probability_of u.sev) s N)
+    ≡ sum_to (N * greatest u.sev.items) (λ s. g s *ℚ cell (count_weights u.freq) (probability_of u.sev) s N)
 unfolding sum_over_outcomes
 claims_score u is g N = sum_to_same _ _ _ (λ y b.
     let alone : sum (y ∷ []) ≡ y = sum-cons y [] ∙ omega arith in
     ap₂ (λ s t. s *ℚ t) (unit_plain (claims_of u) is (λ s. refl) y N) (ap g alone) ∙ times_comm _ (g y))
 
 -- ---- what layers take of it
-
-in_layer_is : (limit : Option ℕ) (a x : ℕ) → layer limit a x ≡ in_layer limit a x
-in_layer_is None a x = refl
-in_layer_is (Some limit) a x = refl
 
 pub none_ceded : (u : UnitOfPlan) → Holds (mean_ceded u []) (partial_sums (claims u) One) (whole 0) (whole 0)
 unfolding sum_over
@@ -92,9 +87,9 @@ none_ceded u = (
   (λ N x b. subst₂ (λ s t. s ≤ℚ t) (sym (outcomes_none (claims u) N)) (sym (zero_times x)) (le_refl (whole 0))),
 )
 
-ceded_alone : (l : CedeLayer) (x : ℕ) → ceded (l ∷ []) x ≡ l.share *ℚ whole (in_layer l.limit l.attach x)
+ceded_alone : (l : CedeLayer) (x : ℕ) → ceded (l ∷ []) x ≡ l.share *ℚ whole (layer l.limit l.attach x)
 unfolding sum_over
-ceded_alone l x = plus_zero _ ∙ ap (λ t. l.share *ℚ whole t) (in_layer_is l.limit l.attach x)
+ceded_alone l x = plus_zero _
 
 pub alone_ceded : (u : UnitOfPlan) (l : CedeLayer) (m n : Fraction)
     → Holds (partial_sums (claims u) (Layer l.limit l.attach)) (partial_sums (claims u) One) m n
@@ -156,7 +151,7 @@ whole_floor x e =
 
 -- at each sum that has weight the clause keeps a whole number
 kept_cell : (cells : ℕ) (sev : Sev) (clause : Clause) (w : ℕ → Fraction) (s N : ℕ) → IsAggregate cells sev clause
-    → whole (clause_of (Some clause) s) *ℚ cell w (probability_of sev) s N ≡ kept clause s *ℚ cell w
+    → whole (outcome_after (Some clause) s) *ℚ cell w (probability_of sev) s N ≡ kept clause s *ℚ cell w
     (probability_of sev) s N
 kept_cell cells sev clause w s N a =
     let d = common_amount sev.items in
@@ -167,7 +162,7 @@ kept_cell cells sev clause w s N a =
       | no p ↦
           let none : cell w (probability_of sev) s N ≡ whole 0 =
           no_cell_between sev w s N (λ n e. p (subst (λ k. d ∣ k) (sym e) (dvd-mul_left d n))) in
-          ap (λ t. whole (clause_of (Some clause) s) *ℚ t) none ∙ times_zero _
+          ap (λ t. whole (outcome_after (Some clause) s) *ℚ t) none ∙ times_zero _
           ∙ sym (ap (λ t. kept clause s *ℚ t) none ∙ times_zero _)
     ]
 
@@ -175,8 +170,8 @@ abbrev with_cede : UnitOfPlan → Option Clause → Aggregate
 with_cede u cede = record {
   count = count_weights u.freq;
   severity = probability_of u.sev;
-  most = greatest (weighted u.sev.items);
-  clause = clause_of cede;
+  most = greatest u.sev.items;
+  clause = outcome_after cede;
 }
 
 pub no_clause : (u : UnitOfPlan) → u.cede ≡ None → aggregate_of u ≡ claims_of u
@@ -192,10 +187,10 @@ module _ (cells : ℕ) (u : UnitOfPlan) (clause : Clause) (h : IsValidUnit cells
   aggregate : IsAggregate cells u.sev clause
   aggregate = subst (λ cede. IfSome cede (IsAggregate cells u.sev)) e h.clause
 
-  after : IsUnit (aggregate_of u)
+  after : IsDeclarable (aggregate_of u)
   after = (unit_declared cells u h).unit
 
-  before : IsUnit (claims_of u)
+  before : IsDeclarable (claims_of u)
   before = (claims_declared cells u h).unit
 
   mean_kept : (N : ℕ) → partial_sums (aggregate_of u ∷ []) Mean N ≡ sum_over_outcomes (claims u)
@@ -203,7 +198,7 @@ module _ (cells : ℕ) (u : UnitOfPlan) (clause : Clause) (h : IsValidUnit cells
   mean_kept N =
       mean_alone (aggregate_of u) after N ∙ clause_mean (aggregate_of u) after N
       ∙ sum_to_same _ _ _ (λ s b.
-      ap (λ cede. whole (clause_of cede s) *ℚ cell (count_weights u.freq) (probability_of u.sev) s N) e
+      ap (λ cede. whole (outcome_after cede s) *ℚ cell (count_weights u.freq) (probability_of u.sev) s N) e
       ∙ kept_cell cells u.sev clause (count_weights u.freq) s N aggregate)
       ∙ sym (claims_score u before (kept clause) N)
 
@@ -229,7 +224,7 @@ module _ (cells : ℕ) (u : UnitOfPlan) (clause : Clause) (h : IsValidUnit cells
   -- no more is ceded than there is
   ceded_within : (s : ℕ) → ceded clause.1 s ≤ℚ whole s
   ceded_within s =
-      let c = aggregate.cession in
+      let c = aggregate.accepted in
       kept_within (false, clause.1) s (record {
         some = c.some;
         few = c.few;
@@ -270,7 +265,7 @@ module _ (cells : ℕ) (u : UnitOfPlan) (clause : Clause) (h : IsValidUnit cells
       → AtMost (sum_over_outcomes (claims u) (λ ys. kept clause (sum ys))) (partial_sums (claims u) One) (n -ℚ l)
   net_most l n i v w =
       let R = partial_sums (claims u) One in
-      let are : AreUnits (claims u) = are_claims cells u h in
+      let are : AreDeclarable (claims u) = are_claims cells u h in
       let K : List ℕ → Fraction = λ ys. kept clause (sum ys) in
       let C : List ℕ → Fraction = λ ys. ceded clause.1 (sum ys) in
       let enough = at_most_wider (partial_sums (claims u) Mean) R n (n -ℚ l +ℚ l) w (le_sub_plus n l) in

@@ -12,7 +12,7 @@ use Rattle.dl_exact.proofs.Sums.{sum_to_same, sum_to_plus, sum_to_longer, sum_to
 use Rattle.dl_model.specs.Series.{Series, IsBound, Rises, AtMost, AtLeast, Holds}
 use Rattle.dl_model.specs.Compound.{cell}
 use Rattle.dl_exact.specs.Count.{count_below}
-use Rattle.dl_model.specs.Program.{Aggregate, IsUnit, where_true, outcome}
+use Rattle.dl_model.specs.Program.{Aggregate, IsDeclarable, where_true, outcome}
 use Rattle.dl_model.specs.Family.{compound, mapped, Encloses}
 use Rattle.dl_model.proofs.Complements.{at_least_rest, at_most_rest}
 use Rattle.dl_model.proofs.CompoundLaws.{cell_past, cells_all}
@@ -35,7 +35,7 @@ unfolding not
 where_both true x = plus_zero x
 where_both false x = zero_plus x
 
-module _ (u : Aggregate) (h : IsUnit u) (S k : ℕ) (lo hi : ℕ → ℕ) (pos : 0 < S)
+module _ (u : Aggregate) (h : IsDeclarable u) (S k : ℕ) (lo hi : ℕ → ℕ) (pos : 0 < S)
     (e : Encloses S (suc k) lo hi (compound u.count u.severity)) where
   abbrev sums : ℕ → Series
   sums s = cell u.count u.severity s

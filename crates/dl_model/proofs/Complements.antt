@@ -31,7 +31,8 @@ at_least_rest Q Q' R h k v e bv one a n u b = elim (lt_or_le u (k *ℚ R n)) [
       no_descent (λ v. IsBound R v) g.0 g.1
       (λ v bv.
       let one' : v ≡ h *ℚ v +ℚ k *ℚ v = sym (one_times v) ∙ ap (λ t. t *ℚ v) (sym one) ∙ plus_times h k v in
-      let c : u +ℚ g.0 ≤ℚ k *ℚ v = subst (λ t. t ≤ℚ k *ℚ v) (sym g.2) (times_le_both k k (R n) v (le_refl k) (bv n)) in (
+      let c : u +ℚ g.0 ≤ℚ k *ℚ v = subst (λ t. t ≤ℚ k *ℚ v) (sym g.2)
+      (times_le_both k k (R n) v (le_refl k) (bv n)) in (
         h *ℚ v +ℚ u,
         subst₂ (λ s t. s ≤ℚ t) (sym (plus_assoc (h *ℚ v) u g.0)) (sym one') (plus_le_both _ _ _ _ (le_refl (h *ℚ v)) c),
         λ m. subst (λ t. t ≤ℚ h *ℚ v +ℚ u) (e m) (plus_le_both _ _ _ _ (a m v bv) (b m)),

@@ -1,6 +1,6 @@
 -- The counts that can be declared: finite counts, trials, Poisson and gamma counts.
 use Rattle.std.proofs.Math.Nat.{zero-lt-suc}
-use Rattle.std.proofs.Common.{◌≡◌, ℕ, suc, zero, ◌+◌, ◌*◌, ◌<◌, ◌≤◌, arith, sym, ap, ap₂, subst, ◌∙◌}
+use Rattle.std.proofs.Common.{◌≡◌, ℕ, List, suc, zero, ◌+◌, ◌*◌, ◌<◌, ◌≤◌, arith, sym, ap, ap₂, subst, ◌∙◌}
 use Rattle.dl_exact.specs.Fraction.{Fraction, ◌+ℚ◌, ◌*ℚ◌, ◌/ℚ◌, ◌≤ℚ◌, ◌<ℚ◌, whole}
 use Rattle.dl_exact.specs.Power.{◌^ℚ◌}
 use Rattle.dl_exact.specs.Sum.{sum_to}
@@ -9,8 +9,10 @@ use Rattle.dl_exact.proofs.Sums.{sum_to_same, sum_to_first, sum_to_times}
 use Rattle.dl_model.specs.Series.{IsBound}
 use Rattle.dl_model.specs.Compound.{power}
 use Rattle.dl_model.specs.Severity.{IsSeverity}
-use Rattle.dl_model.specs.Listed.{Weighted, total_weight, probability, greatest}
-use Rattle.dl_model.specs.Counts.{fixed, binomial, poisson, gamma, gamma_of, IsCount}
+use Rattle.dl_plan.specs.declared.item.Item.{Item}
+use Rattle.dl_plan.specs.Weighted.{weight_sum, greatest}
+use Rattle.dl_model.specs.Listed.{probability_at}
+use Rattle.dl_model.specs.Counts.{fixed, binomial, poisson, gamma, gamma_of, AreCountWeights}
 use Rattle.dl_model.proofs.FiniteCounts.{bounded_by_all, fixed_sum}
 use Rattle.dl_model.proofs.CompoundLaws.{power_severity}
 use Rattle.dl_model.proofs.ListedLaws.{listed_severity}
@@ -23,7 +25,7 @@ use Rattle.dl_model.proofs.Gamma.{gamma_zero, gamma_next, gamma_shift, gamma_lea
 
 -- ---- finitely many claims
 
-pub finite_count : (w : ℕ → Fraction) (far : ℕ) → IsSeverity w far → IsCount w
+pub finite_count : (w : ℕ → Fraction) (far : ℕ) → IsSeverity w far → AreCountWeights w
 finite_count w far h = record {
   bound = whole 1;
   bounded = below;
@@ -41,15 +43,15 @@ finite_count w far h = record {
     below : IsBound (λ N. sum_to N w) (whole 1)
     below N = subst (λ t. sum_to N w ≤ℚ t) h.add_up (bounded_by_all far w h.past N)
 
-pub listed_count : (counts : Weighted) → 0 < total_weight counts → IsCount (probability counts)
-listed_count counts pos = finite_count (probability counts) (greatest counts) (listed_severity counts pos)
+pub listed_count : (counts : List Item) → 0 < weight_sum counts → AreCountWeights (probability_at counts)
+listed_count counts pos = finite_count (probability_at counts) (greatest counts) (listed_severity counts pos)
 
-pub fixed_count : (m : ℕ) → IsCount (fixed m)
+pub fixed_count : (m : ℕ) → AreCountWeights (fixed m)
 fixed_count m =
     finite_count (fixed m) m (record { add_up = fixed_sum m m (omega arith); past = λ n b. fixed_past m n b })
 
-pub binomial_count : (m a b : ℕ) → 0 < b → a ≤ b → IsCount (binomial m a b)
-binomial_count m a b pos h = subst (λ w. IsCount w) (binomial_power a b pos m)
+pub binomial_count : (m a b : ℕ) → 0 < b → a ≤ b → AreCountWeights (binomial m a b)
+binomial_count m a b pos h = subst (λ w. AreCountWeights w) (binomial_power a b pos m)
     (finite_count (power (binomial 1 a b) m) (m * 1) (power_severity (binomial 1 a b) 1 (trial a b pos h) m))
 
 -- ---- Poisson counts
@@ -66,7 +68,7 @@ mean_next w v c next B b (suc N) =
     ∙ ap₂ (λ s t. s +ℚ t) (zero_times (w zero)) (sum_to_same N _ _ (λ n e. next n) ∙ sum_to_times N c v) ∙ zero_plus _))
     (times_le_both c c _ _ (le_refl c) (b N))
 
-pub poisson_count : (v : Fraction) → IsCount (poisson v)
+pub poisson_count : (v : Fraction) → AreCountWeights (poisson v)
 unfolding sum_to
 poisson_count v = record {
   bound = _;
@@ -84,7 +86,7 @@ module _ (x d : Fraction) (one : x +ℚ d ≡ whole 1) (pos : whole 0 <ℚ d) wh
   gamma_bound : (s : ℕ) → IsBound (λ N. sum_to N (gamma (suc s) x)) ((whole 1 /ℚ d) ^ℚ suc s)
   gamma_bound s = (gamma_least x d one (whole 1 /ℚ d) pos (div_times (whole 1) d pos) s).0
 
-  pub gamma_count : (s : ℕ) → IsCount (gamma (suc s) x)
+  pub gamma_count : (s : ℕ) → AreCountWeights (gamma (suc s) x)
   unfolding sum_to
   gamma_count s = record {
     bound = _;
@@ -102,7 +104,7 @@ module _ (x d : Fraction) (one : x +ℚ d ≡ whole 1) (pos : whole 0 <ℚ d) wh
       turn : (a b c : Fraction) → a *ℚ (b *ℚ c) ≡ b *ℚ (a *ℚ c)
       turn a b c = simp ring
 
-pub gamma_of_count : (q : ℕ) (v : Fraction) → IsCount (gamma_of (suc q) v)
+pub gamma_of_count : (q : ℕ) (v : Fraction) → AreCountWeights (gamma_of (suc q) v)
 gamma_of_count q v =
     let r = whole (suc q) in
     let rp : whole 0 <ℚ r = whole_pos (suc q) (zero-lt-suc q) in

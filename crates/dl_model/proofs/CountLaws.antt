@@ -1,17 +1,14 @@
 -- The weighted ways of a number of claims.
-use Rattle.std.proofs.Common.{◌≡◌, ℕ, suc, zero, ◌+◌, ◌-◌, ◌*◌, ◌^◌, ◌<◌, ◌≤◌, arith, refl, ap, ap₂, subst, ◌∙◌, add-one, mul-pos, pow-suc}
-use mathlib.Core.Path.{fun_ext}
-use native.Mathlib.Decide.{le_ind}
-use Rattle.std.proofs.Math.Nat.{sub-zero, suc-sub-suc, one-le-pow, zero-lt-suc, pow-zero, le_refl}
-use Rattle.dl_exact.specs.Fraction.{◌over◌, ◌+ℚ◌, ◌*ℚ◌, ◌≤ℚ◌, whole}
-use Rattle.dl_exact.specs.Sum.{sum_pairs}
-use Rattle.dl_exact.proofs.Over.{over_same, over_add, over_mul, le_over}
+use Rattle.std.proofs.Common.{◌≡◌, ℕ, suc, zero, ◌*◌, ◌^◌, ◌<◌, ◌≤◌, arith, ap, subst, ◌∙◌, mul-pos, pow-suc}
+use Rattle.std.proofs.Math.Nat.{one-le-pow, zero-lt-suc, pow-zero}
+use Rattle.dl_exact.specs.Fraction.{◌over◌, ◌*ℚ◌, ◌≤ℚ◌, whole}
+use Rattle.dl_exact.proofs.Over.{over_same, over_mul, le_over}
 use Rattle.dl_exact.proofs.Laws.{one_pos, le_trans}
 use Rattle.dl_exact.proofs.Sums.{sum_pairs_same, item_le_sum}
 use Rattle.dl_exact.proofs.SumsOver.{sum_pairs_over}
 use Rattle.dl_model.specs.Compound.{at_zero, power}
 use Rattle.dl_model.specs.Severity.{IsWithinOne}
-use Rattle.dl_exact.specs.Count.{count_pairs, count_below}
+use Rattle.dl_exact.specs.Count.{count_pairs}
 use Rattle.dl_model.specs.Ways.{ways}
 use Rattle.dl_model.proofs.CompoundLaws.{power_within_one}
 

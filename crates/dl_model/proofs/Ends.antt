@@ -1,26 +1,18 @@
--- The ends that a grid gives.
-use Rattle.std.proofs.Common.{◌≡◌, inl, inr, ℕ, suc, zero, ◌+◌, ◌-◌, ◌<◌, ◌≤◌, min, arith, sym, ap, subst, subst₂, ◌∙◌, List}
+-- Sums of values over one series, the distribution and what is above it, and the layer without a limit.
+use Rattle.std.proofs.Common.{◌≡◌, ℕ, suc, zero, ◌<◌, ◌≤◌, arith, sym, subst, ◌∙◌, List}
 use Rattle.std.specs.Prelude.{Some, None}
-use Rattle.std.proofs.Math.Nat.{min-eq_left, min-eq_right}
 use mathlib.Core.Path.{fun_ext}
-use Rattle.std.proofs.lemmas.Bool.{cases_lt}
-use Rattle.dl_exact.specs.Fraction.{Fraction, whole, ◌over◌, ◌+ℚ◌, ◌≤ℚ◌}
+use Rattle.dl_exact.specs.Fraction.{Fraction, whole, ◌+ℚ◌, ◌≤ℚ◌}
 use Rattle.dl_exact.specs.Sum.{sum_to, sum_below}
-use Rattle.dl_exact.proofs.Over.{over_same}
-use Rattle.dl_exact.proofs.Laws.{one_pos, le_refl, le_trans, zero_le, zero_times, one_times, plus_comm, plus_le_both, le_plus}
+use Rattle.dl_exact.proofs.Laws.{le_refl, le_trans, zero_le, zero_times, one_times, plus_comm, plus_le_both, le_plus}
 use Rattle.dl_model.specs.Series.{Series, IsBound, Rises, AtMost, AtLeast, Holds, plus}
-use Rattle.dl_exact.specs.Count.{count_below}
-use Rattle.dl_model.specs.Program.{Aggregate, AreUnits, One, Point, Cdf, Layer, Mean, score, partial_sums}
-use Rattle.dl_model.specs.Family.{total, Encloses}
-use Rattle.dl_model.specs.Measures.{above, survival, low_cdf, high_cdf, low_layer, high_layer}
+use Rattle.dl_model.specs.Program.{Aggregate, AreDeclarable, One, Cdf, Layer, Mean, score, partial_sums}
+use Rattle.dl_model.specs.Measures.{above, survival}
 use Rattle.dl_model.proofs.Declared.{at_most_plus, at_least_plus, at_most_wider, at_least_wider}
 use Rattle.dl_model.proofs.Complements.{at_least_rest, at_most_rest}
 use Rattle.dl_model.proofs.Minus.{at_least_minus, at_most_minus}
-use Rattle.dl_exact.proofs.Denominators.{over_plus, over_one, over_rest}
-use Rattle.dl_exact.proofs.Counts.{below_grows}
-use Rattle.dl_exact.proofs.SumsOver.{to_over, below_over}
 use Rattle.dl_model.proofs.Outcomes.{outcomes_rise}
-use Rattle.dl_model.proofs.Scores.{cdf_points, survival_rest, layer_survivals, mean_split}
+use Rattle.dl_model.proofs.Scores.{survival_rest, mean_split}
 
 -- ---- sums over one R
 
@@ -64,7 +56,7 @@ below_most (suc n) P R h a =
     at_most_plus (λ N. sum_below n (λ i. P i N)) (P n) R (sum_below n h) (h n)
     (below_most n P R h (λ i c. a i (omega arith))) (a n (omega arith))
 
-below_holds : (n : ℕ) (P : ℕ → Series) (R : Series) (l h : ℕ → Fraction) → ((i : ℕ) → Rises (P i))
+pub below_holds : (n : ℕ) (P : ℕ → Series) (R : Series) (l h : ℕ → Fraction) → ((i : ℕ) → Rises (P i))
     → ((i : ℕ) → i < n → Holds (P i) R (l i) (h i))
     → Holds (λ N. sum_below n (λ i. P i N)) R (sum_below n l) (sum_below n h)
 below_holds n P R l h r a = (below_least n P R l r (λ i c. (a i c).0), below_most n P R h (λ i c. (a i c).1))
@@ -77,32 +69,10 @@ cdf_most_one us x n u b =
     (le_trans _ _ _ (subst (λ t. partial_sums us (Cdf x) n ≤ℚ t) (plus_comm _ _ ∙ survival_rest us x n) (le_plus _ _))
     (b n))
 
-pub cdf_ends : (us : List Aggregate) (S K : ℕ) (lo hi : ℕ → ℕ) → AreUnits us → 0 < S → Encloses S K lo hi (total us)
-    → (x : ℕ) → x < K → Holds (partial_sums us (Cdf x)) (partial_sums us One) (low_cdf S lo x) (high_cdf S hi x)
-cdf_ends us S K lo hi w s e x xk =
-    let R = partial_sums us One in
-    let Q : partial_sums us (Cdf x) ≡ (λ N. sum_to x (λ i. partial_sums us (Point i) N)) =
-    fun_ext (λ N. cdf_points us x N) in
-    let h : Holds (λ N. sum_to x (λ i. partial_sums us (Point i) N)) R (sum_to x (λ y. lo y over S))
-    (sum_to x (λ y. hi y over S)) =
-    to_holds x (λ i. partial_sums us (Point i)) R (λ y. lo y over S) (λ y. hi y over S)
-    (λ i. outcomes_rise us w (score (Point i))) (λ i b. e i (omega arith)) in
-    let g : Holds (partial_sums us (Cdf x)) R (low_cdf S lo x) (count_below (suc x) hi over S) =
-    subst (λ t. Holds t R (low_cdf S lo x) (count_below (suc x) hi over S)) (sym Q)
-    (subst₂ (λ l h. Holds (λ N. sum_to x (λ i. partial_sums us (Point i) N)) R l h) (to_over x S lo s)
-    (to_over x S hi s) h) in (
-      g.0,
-      elim (cases_lt S (count_below (suc x) hi)) [
-        | inl l ↦ subst (λ t. AtMost (partial_sums us (Cdf x)) (partial_sums us One) t)
-            (sym (ap (λ t. t over S) (min-eq_left (omega arith)) ∙ over_one S s)) (cdf_most_one us x)
-        | inr l ↦ subst (λ t. AtMost (partial_sums us (Cdf x)) (partial_sums us One) (t over S))
-            (sym (min-eq_right l)) g.1
-      ],
-    )
-
 -- ---- complements
 
-pub above_ends : (us : List Aggregate) (x : ℕ) (l h l' h' v : Fraction) → AreUnits us → IsBound (partial_sums us One) v
+pub above_ends : (us : List Aggregate) (x : ℕ) (l h l' h' v : Fraction) → AreDeclarable us
+    → IsBound (partial_sums us One) v
     → l +ℚ h' ≡ whole 1 → h +ℚ l' ≡ whole 1
     → Holds (partial_sums us (Cdf x)) (partial_sums us One) l h → Holds (survival us x) (partial_sums us One) l' h'
 above_ends us x l h l' h' v w b e f a =
@@ -113,31 +83,9 @@ above_ends us x l h l' h' v w b e f a =
           (outcomes_rise us w (score (Cdf x))) (outcomes_rise us w (above x)) both e a.0,
     )
 
-pub layer_ends : (us : List Aggregate) (S K : ℕ) (lo hi : ℕ → ℕ) (v : Fraction) → AreUnits us → 0 < S
-    → Encloses S K lo hi (total us)
-    → IsBound (partial_sums us One) v → count_below K lo ≤ S → (L A : ℕ) → A + L ≤ K
-    → Holds (partial_sums us (Layer (Some L) A)) (partial_sums us One) (low_layer S hi L A) (high_layer S lo L A)
-layer_ends us S K lo hi v w s e b m L A k =
-    let R = partial_sums us One in
-    let l : ℕ → ℕ = λ i. S - min S (count_below (suc (A + i)) hi) in
-    let h : ℕ → ℕ = λ i. S - count_below (suc (A + i)) lo in
-    let Q : partial_sums us (Layer (Some L) A) ≡ (λ N. sum_below L (λ i. survival us (A + i) N)) =
-    fun_ext (λ N. layer_survivals us L A N) in
-    let g : Holds (λ N. sum_below L (λ i. survival us (A + i) N)) R (sum_below L (λ i. l i over S))
-    (sum_below L (λ i. h i over S)) =
-    below_holds L (λ i. survival us (A + i)) R (λ i. l i over S) (λ i. h i over S)
-    (λ i. outcomes_rise us w (above (A + i)))
-    (λ i c. above_ends us (A + i) (low_cdf S lo (A + i)) (high_cdf S hi (A + i)) (l i over S) (h i over S) v w b
-    (over_rest (count_below (suc (A + i)) lo) S s (omega (arith, below_grows (suc (A + i)) K lo (omega arith))))
-    (over_rest (min S (count_below (suc (A + i)) hi)) S s (omega arith))
-    (cdf_ends us S K lo hi w s e (A + i) (omega arith))) in
-    subst (λ t. Holds t R (low_layer S hi L A) (high_layer S lo L A)) (sym Q)
-    (subst₂ (λ x y. Holds (λ N. sum_below L (λ i. survival us (A + i) N)) R x y) (below_over L S l s)
-    (below_over L S h s) g)
-
 -- ---- the layer without a limit, from the mean
 
-pub excess_ends : (us : List Aggregate) (A : ℕ) (l h m n l' h' v : Fraction) → AreUnits us
+pub excess_ends : (us : List Aggregate) (A : ℕ) (l h m n l' h' v : Fraction) → AreDeclarable us
     → IsBound (partial_sums us One) v
     → Holds (partial_sums us Mean) (partial_sums us One) m n
     → Holds (partial_sums us (Layer (Some A) 0)) (partial_sums us One) l h → l' +ℚ h ≤ℚ m → n ≤ℚ h' +ℚ l

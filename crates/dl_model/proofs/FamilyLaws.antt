@@ -1,21 +1,25 @@
 -- A convolution with outward rounding encloses the product of families, and powers of families.
-use Rattle.std.proofs.Common.{◌≡◌, ◌⊎◌, ℕ, suc, zero, ◌+◌, ◌*◌, ◌/◌, ◌<◌, ◌≤◌, min, arith, refl, sym, ap, subst, subst₂, ◌∙◌, mul-pos, zero-add, suc-add, inl, inr, div-mul-le_self, mul-le-mul_right}
+use Rattle.std.proofs.Common.{◌≡◌, ◌⊎◌, ℕ, suc, zero, ◌+◌, ◌*◌, ◌/◌, ◌^◌, ◌<◌, ◌≤◌, List, length, min, arith, refl, sym, ap, subst, subst₂, ◌∙◌, mul-pos, inl, inr, div-mul-le_self, mul-le-mul_right}
 use mathlib.Core.Path.{fun_ext}
 use Rattle.std.proofs.Math.Nat.{min-eq_right}
 use Rattle.std.proofs.lemmas.Bool.{cases_lt}
+use Rattle.std.proofs.lemmas.Nat.{pow_pos}
 use Rattle.std.proofs.lemmas.Grind.{div_ceil_times}
 use Rattle.std.specs.Int.{div_ceil}
 use Rattle.dl_exact.specs.Fraction.{Fraction, whole, ◌over◌, ◌*ℚ◌, ◌≤ℚ◌}
 use Rattle.dl_exact.specs.Power.{◌^ℚ◌}
 use Rattle.dl_exact.specs.Sum.{sum_to, sum_pairs}
 use Rattle.dl_exact.proofs.Over.{over_le}
-use Rattle.dl_exact.proofs.Laws.{one_pos, le_refl, le_trans, le_of_eq, plus_le_both, le_plus, one_times, times_one, times_assoc, times_le_both}
+use Rattle.dl_exact.proofs.Laws.{one_pos, le_refl, le_trans, le_of_eq, plus_le_both, le_plus, one_times, times_one, times_le_both}
 use Rattle.dl_exact.proofs.Sums.{sum_to_same, sum_to_le, sum_to_times, sum_to_swap, item_le_sum}
+use Rattle.dl_iv.specs.declared.interval.Iv.{Iv}
+use Rattle.dl_grid.specs.Cells.{low_at, high_at}
+use Rattle.dl_grid.specs.Convolution.{IsConvolution}
 use Rattle.dl_model.specs.Series.{Series, Rises, AtMost, AtLeast, Holds, times}
 use Rattle.dl_model.specs.Compound.{at_zero, power}
 use Rattle.dl_model.specs.Severity.{IsWithinOne}
 use Rattle.dl_exact.specs.Count.{count_pairs}
-use Rattle.dl_model.specs.Family.{Family, compound, product, nothing, times_itself, IsProper, Encloses}
+use Rattle.dl_model.specs.Family.{Family, compound, product, nothing, times_itself, IsProper, Encloses, GridEncloses}
 use Rattle.dl_model.proofs.Declared.{at_most_plus, at_least_plus, at_most_times, at_least_times, at_most_wider, at_least_wider}
 use Rattle.dl_model.proofs.Cauchy.{cauchy_low}
 use Rattle.dl_model.proofs.CompoundLaws.{sum_at_zero, power_within_one}
@@ -144,6 +148,17 @@ module _ (S K : ℕ) (lo hi lo' hi' : ℕ → ℕ) (F G : Family) (pos : 0 < S) 
         | inl far ↦ inr (omega arith)
         | inr near ↦ inl (subst (λ k. n ≤ k * S) (sym (min-eq_right near)) (div_ceil_times n S pos).0)
       ])
+
+-- a grid that is the convolution of two that enclose encloses the product
+pub convolution_encloses : {B : ℕ} (a b g : List (Iv B)) (n : ℕ) (F G : Family) → IsProper F → IsProper G
+    → n ≤ length a → n ≤ length b → length g ≡ n → IsConvolution n a b g
+    → GridEncloses a F → GridEncloses b G → GridEncloses g (product F G)
+convolution_encloses {B} a b g n F G p q in_a in_b e convolution of_a of_b y inside =
+    let within : y < n = omega (arith, e) in
+    subst₂ (λ l h. Holds ((product F G).cells y) (product F G).all (l over 2 ^ B) (h over 2 ^ B))
+    (sym (convolution.low y within)) (sym (convolution.high y within))
+    (encloses_rounded (2 ^ B) n (low_at a) (high_at a) (low_at b) (high_at b) F G (pow_pos B) p q
+    (λ x h. of_a x (omega arith)) (λ x h. of_b x (omega arith)) y within)
 
 -- ---- families with equal cells and whole weights
 

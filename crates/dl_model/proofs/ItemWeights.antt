@@ -1,63 +1,38 @@
--- The weights of a plan's items as the model reads them, and their probabilities and mean.
-use Rattle.std.proofs.Common.{ℕ, ◌≡◌, ◌+◌, ◌*◌, ◌<◌, ◌≤◌, List, [], ◌∷◌, nat_eq, arith, refl, sym, ap, ap₂, subst, subst₂, inl, inr, ◌∙◌}
+-- The probabilities of a plan's items, and their mean.
+use Rattle.std.proofs.Common.{ℕ, ◌≡◌, ◌*◌, ◌<◌, ◌≤◌, List, [], ◌∷◌, nat_eq, arith, refl, sym, ap, ap₂, subst, inl, inr, ◌∙◌}
 use mathlib.Core.Path.{fun_ext}
-use Rattle.std.specs.Prelude.{◌==◌, if◌then◌else◌}
 use Rattle.std.proofs.lemmas.Bool.{cases_eq, eq-eqb, ne_eqb}
 use Rattle.std.proofs.Math.Nat.{le_refl as le_refl_n}
 use Rattle.std.proofs.lemmas.List.Sums.{sum_by-cons}
 use Rattle.dl_exact.specs.Fraction.{whole, ◌over◌, ◌+ℚ◌, ◌*ℚ◌}
 use Rattle.dl_exact.specs.Sum.{sum_to}
-use Rattle.dl_exact.proofs.Over.{over_same, over_mul}
 use Rattle.dl_exact.proofs.Laws.{times_zero, times_plus}
 use Rattle.dl_exact.proofs.Sums.{sum_to_same, sum_to_plus, sum_to_zero}
 use Rattle.dl_plan.specs.declared.item.Item.{Item}
 use Rattle.dl_plan.specs.declared.severity.Sev.{Sev}
-use Rattle.dl_plan.specs.Weighted.{weight_at, weight_sum, weighted_sum, IsWeighted, greatest as greatest_amount}
+use Rattle.dl_plan.specs.Weighted.{weight_at, weight_sum, weighted_sum, IsWeighted, greatest}
 use Rattle.dl_plan.specs.Severity.{probability_of, pairs_of, mean_amount}
 use Rattle.dl_exact.proofs.Denominators.{over_zero, over_plus, over_times}
 use Rattle.dl_plan.proofs.Shares.{mean-shares}
 use Rattle.dl_plan.proofs.Means.{total_pos}
 use Rattle.dl_model.specs.Severity.{IsSeverity}
-use Rattle.dl_model.specs.Listed.{weighted, weight_of, total_weight, greatest, probability}
+use Rattle.dl_model.specs.Listed.{probability_at}
 use Rattle.dl_model.specs.Program.{where_true}
 use Rattle.dl_model.proofs.UnitLaws.{on, off, passed}
-use Rattle.dl_model.proofs.WeightLaws.{weight_of-cons, total_weight-cons}
-use Rattle.dl_model.proofs.SlowLaws.{weight_le}
+use Rattle.dl_model.proofs.WeightLaws.{part_of}
 use Rattle.dl_model.proofs.ListedLaws.{listed_severity}
-
--- the weight that an item gives to x
-abbrev pub part_of : ℕ → Item → ℕ
-part_of x item = if item.amount == x then item.weight else 0
-
-pub weight_same : (items : List Item) (x : ℕ) → weight_of (weighted items) x ≡ weight_at items x
-weight_same [] x = refl
-weight_same (item ∷ items) x =
-    weight_of-cons (item.amount, item.weight) (weighted items) x
-    ∙ ap (λ t. part_of x item + t) (weight_same items x)
-    ∙ sym (sum_by-cons (part_of x) item items)
-
-pub total_same : (items : List Item) → total_weight (weighted items) ≡ weight_sum items
-total_same [] = refl
-total_same (item ∷ items) =
-    total_weight-cons (item.amount, item.weight) (weighted items)
-    ∙ ap (λ t. item.weight + t) (total_same items)
-    ∙ sym (sum_by-cons (λ (i : Item). i.weight) item items)
-
--- no weight is above the total
-pub weight_within : (items : List Item) (x : ℕ) → weight_at items x ≤ weight_sum items
-weight_within items x = subst₂ (λ s t. s ≤ t) (weight_same items x) (total_same items) (weight_le (weighted items) x)
 
 -- the model's probabilities are shares of the total
 pub probability_is : (items : List Item) (total : ℕ) → weight_sum items ≡ total → (x : ℕ)
-    → probability (weighted items) x ≡ weight_at items x over total
-probability_is items total e x = ap₂ (λ u v. u over v) (weight_same items x) (total_same items ∙ e)
+    → probability_at items x ≡ weight_at items x over total
+probability_is items total e x = ap (λ t. weight_at items x over t) e
 
 -- they add up to 1 up to the greatest number, and there is none above
 pub shares_severity : (items : List Item) (total : ℕ) → IsWeighted items total
-    → IsSeverity (λ x. weight_at items x over total) (greatest (weighted items))
+    → IsSeverity (λ x. weight_at items x over total) (greatest items)
 shares_severity items total w =
-    subst (λ f. IsSeverity f (greatest (weighted items))) (fun_ext (probability_is items total w.sum))
-    (listed_severity (weighted items) (subst (λ n. 0 < n) (sym (total_same items ∙ w.sum)) (total_pos items total w)))
+    subst (λ f. IsSeverity f (greatest items)) (fun_ext (probability_is items total w.sum))
+    (listed_severity items (subst (λ n. 0 < n) (sym w.sum) (total_pos items total w)))
 
 -- ---- the mean
 
@@ -73,7 +48,7 @@ part_mean x t n pos = elim (cases_eq x.amount n) [
 ]
 
 -- each number times its probability, summed
-pub shares_mean : (items : List Item) (t far : ℕ) → 0 < t → greatest (weighted items) ≤ far
+pub shares_mean : (items : List Item) (t far : ℕ) → 0 < t → greatest items ≤ far
     → sum_to far (λ n. whole n *ℚ weight_at items n over t) ≡ weighted_sum items over t
 shares_mean [] t far pos h =
     sum_to_zero far _ (λ n b. ap (λ w. whole n *ℚ w) (over_zero t pos) ∙ times_zero _) ∙ sym (over_zero t pos)
@@ -89,14 +64,9 @@ shares_mean (x ∷ xs) t far pos h =
     ∙ over_plus (x.amount * x.weight) (weighted_sum xs) t pos
     ∙ ap (λ w. w over t) (sym (sum_by-cons (λ (i : Item). i.amount * i.weight) x xs))
 
-pub severity_mean : (sev : Sev) → sum_to (greatest (weighted sev.items))
+pub severity_mean : (sev : Sev) → sum_to (greatest sev.items)
     (λ j. whole j *ℚ probability_of sev j) ≡ mean_amount (pairs_of sev)
 severity_mean sev =
     let pos = total_pos sev.items sev.total sev.weighted in
-    shares_mean sev.items sev.total (greatest (weighted sev.items)) pos (le_refl_n _)
+    shares_mean sev.items sev.total (greatest sev.items) pos (le_refl_n _)
     ∙ sym (mean-shares sev.items sev.total pos)
-
--- the greatest amount of items is that of their list
-pub greatest_same : (items : List Item) → greatest (weighted items) ≡ greatest_amount items
-greatest_same [] = refl
-greatest_same (item ∷ items) = omega (arith, greatest_same items)

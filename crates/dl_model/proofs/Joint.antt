@@ -5,7 +5,7 @@ use Rattle.dl_exact.specs.Fraction.{Fraction, ◌*ℚ◌, whole}
 use Rattle.dl_exact.specs.Sum.{sum_pairs}
 use Rattle.dl_exact.proofs.Laws.{ring, times_zero, times_one, times_left_comm}
 use Rattle.dl_exact.proofs.Sums.{sum_pairs_same, sum_pairs_times, sum_pairs_assoc, sum_pairs_turn}
-use Rattle.dl_model.specs.Program.{Aggregate, AreUnits, Point, Joint, where_true, outcome, score, sum_over_outcomes, partial_sums}
+use Rattle.dl_model.specs.Program.{Aggregate, AreDeclarable, Point, Joint, where_true, outcome, score, sum_over_outcomes, partial_sums}
 use Rattle.dl_model.specs.Measures.{unit_of, without}
 use Rattle.dl_model.proofs.Outcomes.{outcomes_same, outcomes_times, first_unit, total_more}
 
@@ -28,7 +28,7 @@ exchange x p q r =
     ∙ sum_pairs_assoc x (λ a y b. q a *ℚ (p y *ℚ r b))
     ∙ sum_pairs_same x _ _ (λ a c e. sum_pairs_times c (q a) (λ y b. p y *ℚ r b))
 
-pub joint_cells : (us : List Aggregate) → AreUnits us → (i x N : ℕ) → i < length us
+pub joint_cells : (us : List Aggregate) → AreDeclarable us → (i x N : ℕ) → i < length us
     → partial_sums us (Joint i x) N ≡ sum_pairs x
     (λ y z. whole y *ℚ (unit_of us i).cells y N *ℚ partial_sums (without us i) (Point z) N)
 unfolding sum_over_outcomes

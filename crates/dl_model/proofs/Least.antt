@@ -97,7 +97,8 @@ pub value_of_least : (Q R Q' R' : Series) (k A B : Fraction) → whole 0 <ℚ k 
 value_of_least Q R Q' R' k A B kp r r' a b a' b' = (
   (λ l. (
     (λ m. (least_iff Q' R' A B l r' a' b').1
-        (times_le_cancel _ _ k kp (subst₂ (λ s t. s ≤ℚ t) (simp ring) (times_comm k A) ((least_iff Q R _ _ l r a b).0 m)))),
+        (times_le_cancel _ _ k kp (subst₂ (λ s t. s ≤ℚ t) (simp ring) (times_comm k A)
+        ((least_iff Q R _ _ l r a b).0 m)))),
     (λ m. (least_iff Q R _ _ l r a b).1 (subst₂ (λ s t. s ≤ℚ t) (simp ring) (times_comm A k)
         (times_le_times _ _ k ((least_iff Q' R' A B l r' a' b').0 m)))),
   )),

@@ -8,7 +8,6 @@ pub mod Cauchy
 pub mod CompoundLaws
 pub mod WeightLaws
 pub mod CountLaws
-pub mod SlowLaws
 pub mod FiniteCounts
 pub mod ListedLaws
 pub mod Horner
@@ -31,12 +30,10 @@ pub mod Outcomes
 pub mod Scores
 pub mod Ends
 pub mod Bracket
-pub mod Widths
 pub mod TailScores
 pub mod TailEnds
 pub mod Without
 pub mod Joint
-pub mod JointEnds
 pub mod CountBounds
 pub mod Bounded
 pub mod Clauses
@@ -44,9 +41,9 @@ pub mod Means
 pub mod CountMeans
 pub mod Beginnings
 pub mod ItemWeights
+pub mod WithinOne
 pub mod PlanUnits
 pub mod PlanMeans
 pub mod PlanThin
-pub mod SlowCounts
 pub mod Multiples
 pub mod ClauseMeans

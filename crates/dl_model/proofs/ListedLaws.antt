@@ -1,5 +1,5 @@
 -- One unit without an aggregate clause, and what encloses its probability where its counts and amounts are listed.
-use Rattle.std.proofs.Common.{ℕ, ◌≡◌, ◌+◌, ◌*◌, ◌<◌, nat_eq, sym, ap, ap₂, ◌∙◌, [], ◌∷◌, inl, inr}
+use Rattle.std.proofs.Common.{ℕ, ◌≡◌, ◌+◌, ◌*◌, ◌<◌, nat_eq, List, sym, ap, ap₂, ◌∙◌, [], ◌∷◌, inl, inr}
 use Rattle.std.specs.Prelude.{Bool, true, false}
 use Rattle.std.proofs.Math.Nat.{zero-add, le_refl as le_refl_n}
 use Rattle.std.proofs.lemmas.Bool.{cases_lt}
@@ -10,17 +10,16 @@ use Rattle.dl_exact.proofs.Sums.{sum_to_same}
 use Rattle.dl_model.specs.Series.{Holds}
 use Rattle.dl_model.specs.Compound.{power, cell}
 use Rattle.dl_model.specs.Severity.{IsSeverity}
-use Rattle.dl_model.specs.Listed.{Weighted, total_weight, probability, greatest}
-use Rattle.dl_model.specs.Program.{Aggregate, One, Point, where_true, outcome, sum_over_outcomes, partial_sums, listed}
+use Rattle.dl_plan.specs.declared.item.Item.{Item}
+use Rattle.dl_plan.specs.Weighted.{weight_sum, greatest}
+use Rattle.dl_model.specs.Listed.{probability_at, equally_likely}
+use Rattle.dl_model.specs.Program.{One, Point, where_true, outcome, sum_over_outcomes, partial_sums, plain, listed_aggregate}
 use Rattle.dl_model.proofs.Picks.{pick, pick_none}
 use Rattle.dl_model.proofs.CompoundLaws.{cell_past, cells_all}
 use Rattle.dl_model.proofs.FiniteCounts.{holds_reached, bounded_by_all, power_one}
 use Rattle.dl_model.proofs.WeightLaws.{probability-past, probabilities_all, probabilities_le}
 
 -- ---- one unit without an aggregate clause
-
-abbrev plain : (ℕ → Fraction) → (ℕ → Fraction) → ℕ → Aggregate
-plain w f m = record { count = w; severity = f; most = m; clause = λ s. s }
 
 score_point : (a : Fraction) (y x : ℕ) → a *ℚ where_true (nat_eq (0 + y) x) (whole 1) ≡ where_true (nat_eq y x) a
 score_point a y x = rw zero-add (by_test (nat_eq y x))
@@ -57,21 +56,22 @@ one_series w f m s N =
 
 -- ---- listed counts and amounts
 
-pub listed_severity : (amounts : Weighted) → 0 < total_weight amounts
-    → IsSeverity (probability amounts) (greatest amounts)
+pub listed_severity : (amounts : List Item) → 0 < weight_sum amounts
+    → IsSeverity (probability_at amounts) (greatest amounts)
 listed_severity amounts pos = record {
   add_up = probabilities_all amounts (greatest amounts) pos (le_refl_n _);
   past = λ j h. probability-past amounts j pos h;
 }
 
-pub listed_holds : (counts amounts : Weighted) (x : ℕ) (l h : Fraction) → 0 < total_weight counts
-    → 0 < total_weight amounts
-    → l ≤ℚ cell (probability counts) (probability amounts) x (greatest counts)
-    → cell (probability counts) (probability amounts) x (greatest counts) ≤ℚ h
-    → Holds (partial_sums (listed counts amounts ∷ []) (Point x)) (partial_sums (listed counts amounts ∷ []) One) l h
+pub listed_holds : (counts amounts : List Item) (x : ℕ) (l h : Fraction) → 0 < weight_sum counts
+    → 0 < weight_sum amounts
+    → l ≤ℚ cell (probability_at counts) (probability_at amounts) x (greatest counts)
+    → cell (probability_at counts) (probability_at amounts) x (greatest counts) ≤ℚ h
+    → Holds (partial_sums (listed_aggregate counts amounts ∷ []) (Point x))
+    (partial_sums (listed_aggregate counts amounts ∷ []) One) l h
 listed_holds counts amounts x l h p q low high =
-    let w = probability counts in
-    let f = probability amounts in
+    let w = probability_at counts in
+    let f = probability_at amounts in
     let s = listed_severity amounts q in
     holds_reached _ _ (cell w f x (greatest counts)) l h (greatest counts)
     (point_series w f (greatest amounts) s.past x (greatest counts))
@@ -82,7 +82,8 @@ listed_holds counts amounts x l h p q low high =
     (λ N. le_trans _ _ _ (le_of_eq _ _ (one_series w f (greatest amounts) s N)) (probabilities_le counts N p))
     low high
 
-pub one_claim : (f : ℕ → Fraction) (x : ℕ) → cell (probability ((1, 1) ∷ [])) f x (greatest ((1, 1) ∷ [])) ≡ f x
+pub one_claim : (f : ℕ → Fraction) (x : ℕ) → cell (probability_at (equally_likely (1 ∷ []))) f x
+    (greatest (equally_likely (1 ∷ []))) ≡ f x
 unfolding sum_to
 one_claim f x =
     ap₂ (λ s t. s +ℚ t) (zero_times (power f 0 x)) (one_times (power f 1 x) ∙ ap (λ g. g x) (power_one f)) ∙ zero_plus _

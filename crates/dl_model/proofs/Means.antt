@@ -9,7 +9,7 @@ use Rattle.dl_exact.proofs.Sums.{sum_to_same, sum_to_times, sum_to_swap, sum_to_
 use Rattle.dl_model.specs.Series.{Series, Rises, Holds, plus, times}
 use Rattle.dl_model.specs.Compound.{convolve, at_zero, power, cell}
 use Rattle.dl_model.specs.Severity.{IsSeverity}
-use Rattle.dl_model.specs.Program.{Aggregate, IsUnit, AreUnits, One, Mean, score, outcome, sum_over_outcomes, partial_sums}
+use Rattle.dl_model.specs.Program.{Aggregate, IsDeclarable, AreDeclarable, One, Mean, score, outcome, sum_over_outcomes, partial_sums}
 use Rattle.dl_model.proofs.Declared.{self_holds, at_least_plus, at_most_plus, at_least_times, at_most_times, scaled}
 use Rattle.dl_model.proofs.Cauchy.{cauchy_low, square_le_triangle}
 use Rattle.dl_model.proofs.Powers.{power_tilt}
@@ -70,15 +70,15 @@ module _ (f : ℕ → Fraction) (m : ℕ) (h : IsSeverity f m) where
 abbrev unit_mean : Aggregate → Series
 unit_mean u N = sum_to (N * u.most) (λ y. whole y *ℚ outcome u y N)
 
-pub mean_alone : (u : Aggregate) → IsUnit u → (N : ℕ) → partial_sums (u ∷ []) Mean N ≡ unit_mean u N
+pub mean_alone : (u : Aggregate) → IsDeclarable u → (N : ℕ) → partial_sums (u ∷ []) Mean N ≡ unit_mean u N
 unfolding sum_over_outcomes
 mean_alone u h N = mean_more u [] h N ∙ ap₂ (λ s t. s +ℚ t) (times_one _) (times_zero _) ∙ plus_zero _
 
-pub one_alone : (u : Aggregate) → IsUnit u → (N : ℕ) → partial_sums (u ∷ []) One N ≡ sum_to N u.count
+pub one_alone : (u : Aggregate) → IsDeclarable u → (N : ℕ) → partial_sums (u ∷ []) One N ≡ sum_to N u.count
 unfolding sum_over_outcomes
 one_alone u h N = total_more_all u [] h N ∙ times_one _
 
-pub mean_of_unit : (u : Aggregate) → IsUnit u → ((s : ℕ) → u.clause s ≡ s) → (l h : Fraction)
+pub mean_of_unit : (u : Aggregate) → IsDeclarable u → ((s : ℕ) → u.clause s ≡ s) → (l h : Fraction)
     → Holds (λ N. sum_to N (λ n. whole n *ℚ u.count n)) (λ N. sum_to N u.count) l h
     → Holds (partial_sums (u ∷ []) Mean) (partial_sums (u ∷ []) One)
     (sum_to u.most (λ j. whole j *ℚ u.severity j) *ℚ l) (sum_to u.most (λ j. whole j *ℚ u.severity j) *ℚ h)
@@ -92,7 +92,7 @@ mean_of_unit u is same l h v =
     (scaled E (λ N. sum_to N (λ n. whole n *ℚ u.count n)) (λ N. sum_to N u.count) l h v)
 
 -- the mean of a total is the sum of the means
-pub mean_of_total : (u : Aggregate) (us : List Aggregate) → IsUnit u → AreUnits us → (l h l' h' : Fraction)
+pub mean_of_total : (u : Aggregate) (us : List Aggregate) → IsDeclarable u → AreDeclarable us → (l h l' h' : Fraction)
     → Holds (partial_sums (u ∷ []) Mean) (partial_sums (u ∷ []) One) l h
     → Holds (partial_sums us Mean) (partial_sums us One) l' h'
     → Holds (partial_sums (u ∷ us) Mean) (partial_sums (u ∷ us) One) (l +ℚ l') (h +ℚ h')

@@ -15,13 +15,13 @@ use Rattle.dl_plan.specs.declared.item.Item.{Item}
 use Rattle.dl_plan.specs.declared.severity.Sev.{Sev}
 use Rattle.dl_plan.specs.Weighted.{weight_at, common_amount}
 use Rattle.dl_plan.specs.Severity.{probability_of}
-use Rattle.dl_plan.specs.Cession.{Clause, kept}
+use Rattle.dl_plan.specs.Clause.{Clause, kept}
 use Rattle.dl_exact.proofs.Denominators.{over_zero}
 use Rattle.dl_exact.proofs.Parts.{whole_num, whole_den}
 use Rattle.dl_plan.proofs.Means.{total_pos}
 use Rattle.dl_model.specs.Compound.{at_zero, power, cell}
-use Rattle.dl_model.specs.Plans.{clause_of}
-use Rattle.dl_model.proofs.ItemWeights.{part_of}
+use Rattle.dl_model.specs.Plans.{outcome_after}
+use Rattle.dl_model.proofs.WeightLaws.{part_of}
 
 -- the common divisor of d and the amounts
 abbrev divisor_from : ℕ → List Item → ℕ
@@ -74,6 +74,6 @@ no_cell_between sev w s N h =
     (no_power_between (probability_of sev) d none n s (λ p. h (s / d) (multiple_of d s p))) ∙ times_zero _)
 
 -- a whole number is its own floor
-pub clause_whole : (clause : Clause) (s y : ℕ) → kept clause s ≡ whole y → clause_of (Some clause) s ≡ y
+pub clause_whole : (clause : Clause) (s y : ℕ) → kept clause s ≡ whole y → outcome_after (Some clause) s ≡ y
 clause_whole clause s y e =
     ap (λ (x : Fraction). x.num / x.den) e ∙ ap₂ (λ a b. a / b) (whole_num y) (whole_den y) ∙ div-one y

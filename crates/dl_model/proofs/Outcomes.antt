@@ -11,7 +11,7 @@ use Rattle.dl_exact.proofs.Sums.{sum_to_same, sum_to_plus, sum_to_times, sum_to_
 use Rattle.dl_model.specs.Series.{Rises}
 use Rattle.dl_model.specs.Compound.{at_zero, convolve}
 use Rattle.dl_model.proofs.Powers.{at_zero_convolve, convolve_assoc, convolve_comm}
-use Rattle.dl_model.specs.Program.{Aggregate, One, Point, Mean, AreUnits, IsUnit, where_true, outcome, score, sum_over_outcomes, partial_sums}
+use Rattle.dl_model.specs.Program.{Aggregate, One, Point, Mean, AreDeclarable, IsDeclarable, where_true, outcome, score, sum_over_outcomes, partial_sums}
 use Rattle.dl_model.specs.Family.{Family, mapped, total, product, nothing, IsProper}
 use Rattle.dl_model.proofs.FamilyLaws.{proper_product, nothing_proper}
 use Rattle.dl_model.proofs.UnitLaws.{unit_within, unit_whole, unit_proper}
@@ -66,7 +66,7 @@ outcomes_le (u ∷ us) f g h N = sum_to_le (N * u.most) _ _
     (λ y b. times_le_both _ _ _ _ (le_refl _)
     (outcomes_le us (λ ys. f (y ∷ ys)) (λ ys. g (y ∷ ys)) (λ ys. h (y ∷ ys)) N))
 
-pub outcomes_rise : (us : List Aggregate) → AreUnits us → (f : List ℕ → Fraction) → Rises (sum_over_outcomes us f)
+pub outcomes_rise : (us : List Aggregate) → AreDeclarable us → (f : List ℕ → Fraction) → Rises (sum_over_outcomes us f)
 unfolding sum_over_outcomes
 outcomes_rise [] h f N = le_refl _
 outcomes_rise (u ∷ us) h f N =
@@ -95,7 +95,7 @@ total_below x y s k h = ap (λ b. where_true b k) (elim (cases_eq s (x - y)) [
 ])
 
 -- a score that is 0 but where the total is x, by the outcome of the first unit
-pub first_unit : (u : Aggregate) (us : List Aggregate) → IsUnit u → (v : ℕ → List ℕ → Fraction) (x N : ℕ)
+pub first_unit : (u : Aggregate) (us : List Aggregate) → IsDeclarable u → (v : ℕ → List ℕ → Fraction) (x N : ℕ)
     → sum_to (N * u.most) (λ y. outcome u y N *ℚ sum_over_outcomes us
     (λ ys. where_true (nat_eq (sum (y ∷ ys)) x) (v y ys)) N)
     ≡ sum_pairs x (λ y z. outcome u y N *ℚ sum_over_outcomes us (λ ys. where_true (nat_eq (sum ys) z) (v y ys)) N)
@@ -114,18 +114,18 @@ first_unit u us h v x N =
     ∙ sum_to_pairs x (λ y z. outcome u y N *ℚ sum_over_outcomes us (λ ys. where_true (nat_eq (sum ys) z) (v y ys)) N)
 
 -- one unit more
-pub total_more : (u : Aggregate) (us : List Aggregate) → IsUnit u → (x N : ℕ)
+pub total_more : (u : Aggregate) (us : List Aggregate) → IsDeclarable u → (x N : ℕ)
     → (total (u ∷ us)).cells x N ≡ (product (mapped u) (total us)).cells x N
 unfolding sum_over_outcomes
 total_more u us h x N = first_unit u us h (λ y ys. whole 1) x N
 
-pub total_more_all : (u : Aggregate) (us : List Aggregate) → IsUnit u → (N : ℕ)
+pub total_more_all : (u : Aggregate) (us : List Aggregate) → IsDeclarable u → (N : ℕ)
     → (total (u ∷ us)).all N ≡ (product (mapped u) (total us)).all N
 unfolding sum_over_outcomes
 total_more_all u us h N = sum_to_times_right _ _ _ ∙ ap (λ t. t *ℚ partial_sums us One N) (unit_whole u h N)
 
 -- the mean, by the outcome of the first unit
-pub mean_more : (u : Aggregate) (us : List Aggregate) → IsUnit u → (N : ℕ)
+pub mean_more : (u : Aggregate) (us : List Aggregate) → IsDeclarable u → (N : ℕ)
     → partial_sums (u ∷ us) Mean N ≡ sum_to (N * u.most)
     (λ y. whole y *ℚ outcome u y N) *ℚ partial_sums us One N +ℚ sum_to N u.count *ℚ partial_sums us Mean N
 unfolding sum_over_outcomes
@@ -154,7 +154,7 @@ proper_same F G cells all p = record {
   within = λ y N. subst₂ (λ s t. s ≤ℚ t) (sum_to_same y _ _ (λ i b. cells i N)) (all N) (p.within y N);
 }
 
-pub total_proper : (us : List Aggregate) → AreUnits us → IsProper (total us)
+pub total_proper : (us : List Aggregate) → AreDeclarable us → IsProper (total us)
 unfolding sum_over_outcomes
 total_proper [] h = proper_same nothing (total []) (λ x N. sym (no_units x N)) (λ N. refl) nothing_proper
 total_proper (u ∷ us) h =
@@ -167,11 +167,11 @@ total_proper (u ∷ us) h =
 abbrev points : List Aggregate → ℕ → ℕ → Fraction
 points us N x = partial_sums us (Point x) N
 
-points_more : (u : Aggregate) (us : List Aggregate) → IsUnit u → (N : ℕ)
+points_more : (u : Aggregate) (us : List Aggregate) → IsDeclarable u → (N : ℕ)
     → points (u ∷ us) N ≡ convolve (λ y. outcome u y N) (points us N)
 points_more u us h N = fun_ext (λ x. total_more u us h x N)
 
-points_append : (us vs : List Aggregate) → AreUnits us → (N : ℕ)
+points_append : (us vs : List Aggregate) → AreDeclarable us → (N : ℕ)
     → points (us ++ vs) N ≡ convolve (points us N) (points vs N)
 points_append [] vs h N =
     sym (ap (λ g. convolve g (points vs N)) (fun_ext (λ x. no_units x N)) ∙ at_zero_convolve (points vs N))
@@ -181,11 +181,11 @@ points_append (u ∷ us) vs h N =
     ∙ sym (ap (λ g. convolve g (points vs N)) (points_more u us h.0 N)
     ∙ convolve_assoc (λ y. outcome u y N) (points us N) (points vs N))
 
-pub total_append : (us vs : List Aggregate) → AreUnits us → (x N : ℕ)
+pub total_append : (us vs : List Aggregate) → AreDeclarable us → (x N : ℕ)
     → (total (us ++ vs)).cells x N ≡ (product (total us) (total vs)).cells x N
 total_append us vs h x N = ap (λ g. g x) (points_append us vs h N)
 
-pub total_append_all : (us vs : List Aggregate) → AreUnits us → (N : ℕ)
+pub total_append_all : (us vs : List Aggregate) → AreDeclarable us → (N : ℕ)
     → (total (us ++ vs)).all N ≡ (product (total us) (total vs)).all N
 unfolding sum_over_outcomes
 total_append_all [] vs h N = sym (one_times _)
@@ -194,11 +194,11 @@ total_append_all (u ∷ us) vs h N =
     ∙ sym (ap (λ t. t *ℚ partial_sums vs One N) (total_more_all u us h.0 N) ∙ times_assoc _ _ _)
 
 -- one unit alone
-pub total_alone : (u : Aggregate) → IsUnit u → (x N : ℕ) → (total (u ∷ [])).cells x N ≡ (mapped u).cells x N
+pub total_alone : (u : Aggregate) → IsDeclarable u → (x N : ℕ) → (total (u ∷ [])).cells x N ≡ (mapped u).cells x N
 total_alone u h x N =
     ap (λ g. g x) (points_more u [] h N ∙ convolve_comm _ _
     ∙ ap (λ g. convolve g (λ y. outcome u y N)) (fun_ext (λ x. no_units x N)) ∙ at_zero_convolve (λ y. outcome u y N))
 
-pub total_alone_all : (u : Aggregate) → IsUnit u → (N : ℕ) → (total (u ∷ [])).all N ≡ (mapped u).all N
+pub total_alone_all : (u : Aggregate) → IsDeclarable u → (N : ℕ) → (total (u ∷ [])).all N ≡ (mapped u).all N
 unfolding sum_over_outcomes
 total_alone_all u h N = total_more_all u [] h N ∙ times_one _

@@ -11,14 +11,14 @@ use Rattle.dl_plan.specs.declared.plan.Freq.{Freq}
 use Rattle.dl_plan.specs.declared.plan.Freq.TheVariants.{Fixed, Table, Bernoulli, Binomial, Poisson, Gamma}
 use Rattle.dl_plan.specs.declared.plan.Unit.{Unit as UnitOfPlan}
 use Rattle.dl_plan.specs.Severity.{pairs_of, mean_amount}
-use Rattle.dl_plan.specs.Count.{expected_count, IsCount as IsCountOfPlan}
+use Rattle.dl_plan.specs.Weighted.{greatest}
+use Rattle.dl_plan.specs.Count.{expected_count, IsClaimCount as IsCountOfPlan}
 use Rattle.dl_plan.specs.Valid.{IsValidUnit}
-use Rattle.dl_plan.proofs.Cessions.{num_le_den}
+use Rattle.dl_plan.proofs.Clauses.{num_le_den}
 use Rattle.dl_plan.proofs.Means.{total_pos}
 use Rattle.dl_model.specs.Series.{Series, Holds}
-use Rattle.dl_model.specs.Listed.{weighted, greatest}
 use Rattle.dl_model.specs.Program.{One, Mean, sum_over_outcomes, partial_sums}
-use Rattle.dl_model.specs.Plans.{count_weights, clause_of, aggregate_of}
+use Rattle.dl_model.specs.Plans.{count_weights, outcome_after, aggregate_of}
 use Rattle.dl_model.proofs.CountMeans.{finite_mean, fixed_mean, binomial_mean, poisson_mean, gamma_mean}
 use Rattle.dl_model.proofs.Means.{mean_of_unit, mean_of_total}
 use Rattle.dl_model.proofs.Bounded.{are_units}
@@ -32,7 +32,7 @@ HasMean w v = Holds (λ N. sum_to N (λ n. whole n *ℚ w n)) (λ N. sum_to N w)
 pub count_mean : (freq : Freq) → IsCountOfPlan freq → HasMean (count_weights freq) (expected_count freq)
 count_mean (Fixed m) h = fixed_mean m
 count_mean (Table counts total) h =
-    let far = greatest (weighted counts) in
+    let far = greatest counts in
     subst (λ v. HasMean (count_weights (Table counts total)) v)
     (shares_mean counts total far (total_pos counts total h.0) (le_refl_n far))
     (finite_mean _ far (shares_severity counts total h.0))
@@ -47,7 +47,7 @@ count_mean (Gamma zero mean) h = absurd (omega (arith, h))
 count_mean (Gamma (suc q) mean) h = gamma_mean q mean
 
 -- the declared mean of units lies from l to h
-abbrev MeanHolds : List UnitOfPlan → Fraction → Fraction → Type 0
+abbrev pub MeanHolds : List UnitOfPlan → Fraction → Fraction → Type 0
 MeanHolds units l h = Holds (partial_sums (map aggregate_of units) Mean) (partial_sums (map aggregate_of units) One) l h
 
 pub unit_mean : (cells : ℕ) (u : UnitOfPlan) → IsValidUnit cells u → u.cede ≡ None
@@ -55,11 +55,11 @@ pub unit_mean : (cells : ℕ) (u : UnitOfPlan) → IsValidUnit cells u → u.ced
     (expected_count u.freq *ℚ mean_amount (pairs_of u.sev))
 unit_mean cells u h none =
     let e = expected_count u.freq in
-    let value : sum_to (greatest (weighted u.sev.items))
+    let value : sum_to (greatest u.sev.items)
     (λ j. whole j *ℚ (aggregate_of u).severity j) *ℚ e ≡ e *ℚ mean_amount (pairs_of u.sev) =
     ap (λ m. m *ℚ e) (severity_mean u.sev) ∙ times_comm _ e in
     subst (λ v. MeanHolds (u ∷ []) v v) value
-    (mean_of_unit (aggregate_of u) (unit_declared cells u h).unit (λ s. ap (λ cede. clause_of cede s) none) e e
+    (mean_of_unit (aggregate_of u) (unit_declared cells u h).unit (λ s. ap (λ cede. outcome_after cede s) none) e e
     (count_mean u.freq h.count))
 
 -- a total of no units is 0

@@ -18,7 +18,7 @@ use Rattle.dl_plan.specs.declared.plan.Freq.TheVariants.{Fixed, Table, Bernoulli
 use Rattle.dl_plan.specs.declared.plan.Unit.{Unit as UnitOfPlan}
 use Rattle.dl_plan.specs.Weighted.{weight_at, weight_sum}
 use Rattle.dl_plan.specs.Severity.{Pairs, probability, probability_of, pairs_of, conditioned, mass, shares, Means}
-use Rattle.dl_plan.specs.Count.{expected_count, IsUnbounded, IsCount as IsCountOfPlan}
+use Rattle.dl_plan.specs.Count.{expected_count, IsUnbounded, IsClaimCount as IsCountOfPlan}
 use Rattle.dl_plan.specs.Valid.{thinned_mean}
 use Rattle.dl_exact.proofs.Denominators.{over_zero}
 use Rattle.dl_plan.proofs.Weights.{weight_sum_pos}
@@ -30,7 +30,7 @@ use Rattle.dl_model.specs.Plans.{compound_of}
 use Rattle.dl_model.proofs.PoissonTimes.{poisson_shares}
 use Rattle.dl_model.proofs.GammaThin.{gamma_shares}
 use Rattle.dl_model.proofs.Beginnings.{poisson_no_loss, gamma_no_loss}
-use Rattle.dl_model.proofs.ItemWeights.{part_of, weight_within}
+use Rattle.dl_model.proofs.WeightLaws.{part_of, weight_within}
 
 -- ---- the weights of the amounts above 0
 

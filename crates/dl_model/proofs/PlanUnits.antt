@@ -10,17 +10,17 @@ use Rattle.dl_plan.specs.declared.plan.Freq.{Freq}
 use Rattle.dl_plan.specs.declared.plan.Freq.TheVariants.{Fixed, Table, Bernoulli, Binomial, Poisson, Gamma}
 use Rattle.dl_plan.specs.declared.plan.Unit.{Unit as UnitOfPlan}
 use Rattle.dl_plan.specs.declared.plan.Plan.{Plan}
-use Rattle.dl_plan.specs.Cession.{Clause, kept, IsCession}
+use Rattle.dl_plan.specs.Clause.{Clause, kept, IsClause}
 use Rattle.dl_plan.specs.Parts.{kept_parts, parts_in_bucket}
-use Rattle.dl_plan.specs.Count.{IsCount as IsCountOfPlan}
+use Rattle.dl_plan.specs.Weighted.{greatest}
+use Rattle.dl_plan.specs.Count.{IsClaimCount as IsCountOfPlan}
 use Rattle.dl_plan.specs.Valid.{IsAggregate, IsValidUnit, IsValid}
-use Rattle.dl_plan.proofs.Cessions.{kept_is, bucket_pos, num_le_den}
+use Rattle.dl_plan.proofs.Clauses.{kept_is, bucket_pos, num_le_den}
 use Rattle.dl_plan.proofs.Apart.{kept_le}
-use Rattle.dl_model.specs.Listed.{weighted, greatest}
-use Rattle.dl_model.specs.Counts.{IsCount}
-use Rattle.dl_model.specs.Program.{AreUnits}
+use Rattle.dl_model.specs.Counts.{AreCountWeights}
+use Rattle.dl_model.specs.Program.{AreDeclarable}
 use Rattle.dl_model.specs.Measures.{IsDeclared, AreDeclared}
-use Rattle.dl_model.specs.Plans.{count_weights, clause_of, aggregate_of, aggregates_of}
+use Rattle.dl_model.specs.Plans.{count_weights, outcome_after, aggregate_of, aggregates_of}
 use Rattle.dl_model.proofs.CountBounds.{finite_count, fixed_count, binomial_count, poisson_count, gamma_of_count}
 use Rattle.dl_model.proofs.Bounded.{are_units}
 use Rattle.dl_model.proofs.ItemWeights.{shares_severity}
@@ -33,22 +33,22 @@ floor_le x n h =
     (subst (λ y. y ≤ℚ whole n) (sym (over_self x)) h) in
     div-le_of_le-mul x.den (omega (arith, cross))
 
-pub kept_within : (clause : Clause) (s : ℕ) → IsCession clause → kept clause s ≤ℚ whole s
+pub kept_within : (clause : Clause) (s : ℕ) → IsClause clause → kept clause s ≤ℚ whole s
 kept_within clause s h =
     let c = parts_in_bucket clause in
     subst (λ y. y ≤ℚ whole s) (sym (kept_is clause s))
     (over_le (kept_parts clause c s) c s 1 (bucket_pos clause) (omega arith) (omega (arith, kept_le clause c s h)))
 
 pub clause_within : (cells : ℕ) (sev : Sev) (cede : Option Clause) → IfSome cede (IsAggregate cells sev) → (s : ℕ)
-    → clause_of cede s ≤ s
+    → outcome_after cede s ≤ s
 clause_within cells sev None h s = le_refl_n s
-clause_within cells sev (Some clause) h s = floor_le (kept clause s) s (kept_within clause s h.cession)
+clause_within cells sev (Some clause) h s = floor_le (kept clause s) s (kept_within clause s h.accepted)
 
 -- ---- the count can be declared
 
-pub count_declared : (freq : Freq) → IsCountOfPlan freq → IsCount (count_weights freq)
+pub count_declared : (freq : Freq) → IsCountOfPlan freq → AreCountWeights (count_weights freq)
 count_declared (Fixed m) h = fixed_count m
-count_declared (Table counts total) h = finite_count _ (greatest (weighted counts)) (shares_severity counts total h.0)
+count_declared (Table counts total) h = finite_count _ (greatest counts) (shares_severity counts total h.0)
 count_declared (Bernoulli q) h = binomial_count 1 q.num q.den q.positive (num_le_den q h.within)
 count_declared (Binomial trials q) h = binomial_count trials q.num q.den q.positive (num_le_den q h.1.within)
 count_declared (Poisson mean) h = poisson_count mean
@@ -78,5 +78,5 @@ units_declared cells (u ∷ us) h = (
 pub plan_declared : (plan : Plan) → IsValid plan → AreDeclared (aggregates_of plan)
 plan_declared plan h = units_declared plan.cells plan.units h.units
 
-pub plan_units : (plan : Plan) → IsValid plan → AreUnits (aggregates_of plan)
+pub plan_units : (plan : Plan) → IsValid plan → AreDeclarable (aggregates_of plan)
 plan_units plan h = are_units (aggregates_of plan) (plan_declared plan h)

@@ -1,13 +1,13 @@
 -- Poisson counts: their weights, sums and bounds.
-use Rattle.std.proofs.Common.{◌≡◌, ℕ, suc, zero, ◌+◌, ◌*◌, ◌^◌, ◌<◌, ◌≤◌, arith, sym, ap, ap₂, subst, subst₂, ◌∙◌, mul-pos, mul-le-mul, le-mul_of_pos_right, add-suc, add-zero, pow-suc}
+use Rattle.std.proofs.Common.{◌≡◌, ℕ, suc, zero, ◌+◌, ◌*◌, ◌^◌, ◌<◌, ◌≤◌, arith, sym, ap, ap₂, subst₂, ◌∙◌, mul-pos, mul-le-mul, le-mul_of_pos_right, pow-suc}
 use Rattle.std.proofs.Math.Nat.{one-le-pow, zero-lt-suc, pow-zero}
 use Rattle.dl_exact.specs.Fraction.{Fraction, ◌+ℚ◌, ◌*ℚ◌, ◌≤ℚ◌, whole}
 use Rattle.dl_exact.specs.Power.{factorial}
 use Rattle.dl_exact.specs.Sum.{sum_to, sum_pairs}
 use Rattle.dl_exact.proofs.Over.{over_same, over_mul, over_self, over_le}
-use Rattle.dl_exact.proofs.Laws.{one_pos, times_comm, times_assoc, times_left_comm, times_one, times_cancel, le_refl, le_trans, plus_le_both, le_plus, times_le_times, times_le_cancel, plus_times, plus_assoc, whole_pos}
+use Rattle.dl_exact.proofs.Laws.{one_pos, times_comm, times_assoc, times_left_comm, times_one, times_cancel, le_trans, times_le_times, times_le_cancel, plus_times, whole_pos}
 use Rattle.dl_exact.proofs.RoundingLaws.{whole_le}
-use Rattle.dl_exact.proofs.Sums.{sum_to_grows, sum_pairs_same, sum_pairs_times, sum_pairs_weighed}
+use Rattle.dl_exact.proofs.Sums.{halving_bound, sum_pairs_same, sum_pairs_times, sum_pairs_weighed}
 use Rattle.dl_exact.proofs.Powers.{factorial_pos}
 use Rattle.dl_model.specs.Series.{IsBound}
 use Rattle.dl_model.specs.Compound.{convolve}
@@ -31,18 +31,6 @@ poisson_next v n =
     ∙ ap (λ t. t *ℚ poisson v n) (over_self v)
 
 -- ---- bounds
-
--- weights that at least halve from K on
-pub halving_bound : (w : ℕ → Fraction) (K : ℕ) → ((n : ℕ) → K ≤ n → w (suc n) +ℚ w (suc n) ≤ℚ w n)
-    → IsBound (λ N. sum_to N w) (sum_to K w +ℚ w K)
-unfolding sum_to
-halving_bound w K h N = le_trans _ _ _ (sum_to_grows N (K + N) w (omega arith)) (le_trans _ _ _ (le_plus _ _) (falls N))
-  where
-    falls : (m : ℕ) → sum_to (K + m) w +ℚ w (K + m) ≤ℚ sum_to K w +ℚ w K
-    falls zero = subst (λ k. sum_to k w +ℚ w k ≤ℚ sum_to K w +ℚ w K) (sym (add-zero K)) (le_refl _)
-    falls (suc m) = subst (λ k. sum_to k w +ℚ w k ≤ℚ sum_to K w +ℚ w K) (sym (add-suc K m))
-        (le_trans _ _ _ (subst (λ t. t ≤ℚ sum_to (K + m) w +ℚ w (K + m)) (sym (plus_assoc _ _ _))
-        (plus_le_both _ _ _ _ (le_refl (sum_to (K + m) w)) (h (K + m) (omega arith)))) (falls m))
 
 twice_below : (v : Fraction) (n : ℕ) → v.num + v.num ≤ n → v +ℚ v ≤ℚ whole (suc n)
 unfolding ◌+ℚ◌

@@ -1,15 +1,14 @@
 -- The declared probabilities add up to 1.
-use Rattle.std.proofs.Common.{◌≡◌, ℕ, suc, zero, ◌+◌, ◌*◌, ◌≤◌, arith, refl, sym, ap, subst, subst₂, ◌∙◌, add-zero, mul-le-mul_right, zero-mul}
+use Rattle.std.proofs.Common.{◌≡◌, ℕ, suc, zero, ◌+◌, ◌≤◌, arith, refl, sym, ap, subst, subst₂, ◌∙◌, add-zero}
 use Rattle.std.proofs.Math.Nat.{zero-lt-suc}
 use Rattle.dl_exact.specs.Fraction.{Fraction, ◌+ℚ◌, ◌*ℚ◌, ◌≤ℚ◌, ◌<ℚ◌, whole}
 use Rattle.dl_exact.specs.Sum.{sum_to}
-use Rattle.dl_model.specs.Series.{IsBound, AtLeast, Settles}
-use Rattle.dl_model.specs.Compound.{convolve, at_zero, power, cell}
+use Rattle.dl_model.specs.Series.{IsBound, Settles}
 use Rattle.dl_model.specs.Counts.{poisson}
-use Rattle.dl_exact.proofs.Laws.{plus_comm, times_comm, plus_times, times_plus, one_times, times_one, whole_suc, whole_pos, le_refl, le_trans, le_of_eq, le_of_lt, le_plus, plus_le_both, times_le_cancel, times_le_times, archimedes, times_le_both}
-use Rattle.dl_exact.proofs.Sums.{sum_to_same, sum_to_le, sum_to_grows, sum_to_times, sum_to_swap, sum_to_product}
-use Rattle.dl_model.proofs.PoissonWeights.{halving_bound, poisson_halves, poisson_zero}
-use Rattle.dl_model.proofs.Cauchy.{square_le_triangle}
+use Rattle.dl_exact.proofs.Laws.{plus_comm, times_comm, plus_times, times_plus, one_times, whole_suc, whole_pos, le_refl, le_trans, le_of_eq, le_of_lt, le_plus, plus_le_both, times_le_cancel, times_le_times, archimedes, times_le_both}
+use Rattle.dl_exact.proofs.Sums.{sum_to_grows}
+use Rattle.dl_exact.proofs.Sums.{halving_bound}
+use Rattle.dl_model.proofs.PoissonWeights.{poisson_halves, poisson_zero}
 
 -- weights that halve from K on come below every fraction
 falls_far : (w : ℕ → Fraction) (K : ℕ) → ((n : ℕ) → K ≤ n → w (suc n) +ℚ w (suc n) ≤ℚ w n) → (m : ℕ)

@@ -1,13 +1,12 @@
 -- The tail mean from the excess at the low end of the bracket.
-use Rattle.std.proofs.Common.{◌≡◌, inl, inr, ℕ, suc, zero, ◌+◌, ◌-◌, ◌<◌, ◌≤◌, min, arith, sym, ap, subst, subst₂, ◌∙◌, List}
+use Rattle.std.proofs.Common.{◌≡◌, inl, inr, ℕ, ◌+◌, ◌-◌, ◌<◌, ◌≤◌, min, arith, sym, ap, subst, subst₂, ◌∙◌, List}
 use Rattle.std.specs.Prelude.{sum, Some, None}
 use mathlib.Core.Path.{fun_ext}
 use Rattle.dl_exact.specs.Fraction.{Fraction, whole, ◌+ℚ◌, ◌-ℚ◌, ◌*ℚ◌, ◌/ℚ◌, ◌≤ℚ◌, ◌<ℚ◌}
-use Rattle.dl_exact.proofs.Laws.{ring, times_one, one_times, zero_times, times_assoc, plus_comm, plus_assoc, zero_plus, whole_plus, whole_suc, le_refl, le_trans, le_of_lt, lt_or_le, lt_not_le, plus_le_cancel, plus_le_both, le_plus, sub_plus, plus_cancel, div_times, times_plus, times_le_both}
+use Rattle.dl_exact.proofs.Laws.{ring, times_one, one_times, plus_comm, plus_assoc, zero_plus, whole_plus, le_refl, le_trans, le_of_lt, lt_or_le, lt_not_le, plus_le_cancel, plus_le_both, le_plus, sub_plus, plus_cancel, div_times, times_plus, times_le_both}
 use Rattle.dl_exact.proofs.RoundingLaws.{whole_le}
 use Rattle.dl_model.specs.Series.{Series, IsBound, Rises, AtMost, AtLeast, Holds, plus}
-use Rattle.dl_model.specs.Program.{Aggregate, AreUnits, One, Cdf, Layer, Tail, score, partial_sums}
-use Rattle.dl_exact.specs.Sum.{sum_below}
+use Rattle.dl_model.specs.Program.{Aggregate, AreDeclarable, One, Cdf, Layer, Tail, score, partial_sums}
 use Rattle.dl_exact.proofs.Sums.{sum_below_constant}
 use Rattle.dl_model.specs.Measures.{above, survival, IsQuantile}
 use Rattle.dl_model.proofs.Declared.{self_holds, at_most_plus, at_least_plus, at_most_wider, at_least_wider, scaled}
@@ -32,7 +31,7 @@ above_least us x p r v b e a = at_least_rest (partial_sums us (Cdf x)) (survival
     (λ n. plus_comm _ _ ∙ survival_rest us x n) b e a
 
 -- the difference is 0 where s is above p
-above_most : (us : List Aggregate) (x : ℕ) (p r s : Fraction) → AreUnits us → p +ℚ r ≡ whole 1
+above_most : (us : List Aggregate) (x : ℕ) (p r s : Fraction) → AreDeclarable us → p +ℚ r ≡ whole 1
     → AtLeast (partial_sums us (Cdf x)) (partial_sums us One) (p -ℚ s)
     → AtMost (survival us x) (partial_sums us One) (r +ℚ s)
 above_most us x p r s w e a = elim (lt_or_le p s) [
@@ -48,7 +47,7 @@ above_most us x p r s w e a = elim (lt_or_le p s) [
     turn : (a b c : Fraction) → a +ℚ (b +ℚ c) ≡ a +ℚ c +ℚ b
     turn a b c = simp ring
 
-layer_least : (us : List Aggregate) (k a : ℕ) (r : Fraction) → AreUnits us
+layer_least : (us : List Aggregate) (k a : ℕ) (r : Fraction) → AreDeclarable us
     → ((x : ℕ) → a ≤ x → x < a + k → AtLeast (survival us x) (partial_sums us One) r)
     → AtLeast (partial_sums us (Layer (Some k) a)) (partial_sums us One) (whole k *ℚ r)
 layer_least us k a r w h =
@@ -73,7 +72,7 @@ lt_plus x y h = elim (lt_or_le x (x +ℚ y)) [
       (subst₂ (λ s t. s ≤ℚ t) (plus_comm x y) (sym (zero_plus x)) l)))
 ]
 
-tail_holds : (us : List Aggregate) (c l h : Fraction) (q a : ℕ) → AreUnits us
+tail_holds : (us : List Aggregate) (c l h : Fraction) (q a : ℕ) → AreDeclarable us
     → Holds (partial_sums us (Layer None a)) (partial_sums us One) l h
     → Holds (λ N. whole q *ℚ partial_sums us One N +ℚ c *ℚ partial_sums us (Layer None a) N) (partial_sums us One)
     (whole q +ℚ c *ℚ l) (whole q +ℚ c *ℚ h)
@@ -96,7 +95,7 @@ rest_is : (p r : Fraction) → p +ℚ r ≡ whole 1 → whole 1 -ℚ p ≡ r
 rest_is p r e =
     plus_cancel (whole 1 -ℚ p) r p (sub_plus (whole 1) p (subst (λ t. p ≤ℚ t) e (le_plus p r)) ∙ sym e ∙ plus_comm p r)
 
-module _ (us : List Aggregate) (p r s v : Fraction) (a b q : ℕ) (proper : AreUnits us)
+module _ (us : List Aggregate) (p r s v : Fraction) (a b q : ℕ) (proper : AreDeclarable us)
     (bound : IsBound (partial_sums us One) v)
     (pr : p +ℚ r ≡ whole 1) (rp : whole 0 <ℚ r) (isq : IsQuantile us q p) (aq : a ≤ q) (qb : q ≤ b)
     (near : (x : ℕ) → a ≤ x → x < b → AtLeast (partial_sums us (Cdf x)) (partial_sums us One) (p -ℚ s))

@@ -8,7 +8,7 @@ use Rattle.dl_exact.proofs.Laws.{plus_zero, zero_plus, le_trans, le_of_eq, zero_
 use Rattle.dl_exact.proofs.Sums.{sum_to_same, sum_to_swap, sum_to_le, sum_to_grows, sum_to_none, sum_to_zero}
 use Rattle.dl_model.specs.Compound.{cell}
 use Rattle.dl_model.specs.Family.{compound, mapped, IsProper}
-use Rattle.dl_model.specs.Program.{Aggregate, IsUnit, outcome, where_true}
+use Rattle.dl_model.specs.Program.{Aggregate, IsDeclarable, outcome, where_true}
 use Rattle.dl_model.proofs.Picks.{pick, pick_none}
 use Rattle.dl_model.proofs.CompoundLaws.{severity_within_one, cell_past, cells_all}
 use Rattle.dl_model.proofs.FamilyLaws.{compound_proper}
@@ -42,7 +42,7 @@ where_le t y c d h = elim (cases_eq t y) [
   | inr e ↦ le_of_eq _ _ (off t y c e ∙ sym (off t y d e))
 ]
 
-module _ (u : Aggregate) (h : IsUnit u) where
+module _ (u : Aggregate) (h : IsDeclarable u) where
   pub unit_within : (y N : ℕ) → N * u.most < y → outcome u y N ≡ whole 0
   unit_within y N b =
       sum_to_zero (N * u.most) _ (λ s c. off (u.clause s) y (cell u.count u.severity s N) (omega (arith, h.clause s)))

@@ -1,5 +1,5 @@
 -- Probabilities from whole weights: none past the greatest number, and 1 in all.
-use Rattle.std.proofs.Common.{ℕ, ◌≡◌, ◌+◌, ◌<◌, ◌≤◌, zero, suc, arith, refl, sym, ap, ◌∙◌, List, [], ◌∷◌, length, map, inl, inr}
+use Rattle.std.proofs.Common.{ℕ, ◌≡◌, ◌+◌, ◌<◌, ◌≤◌, zero, suc, arith, refl, sym, ap, ◌∙◌, List, [], ◌∷◌, length, inl, inr}
 use Rattle.std.specs.Prelude.{if◌then◌else◌, ◌==◌, count_by}
 use Rattle.std.specs.Int.{sum_through}
 use Rattle.std.proofs.lemmas.Bool.{eq-eqb, ne_eqb, cases_lt}
@@ -9,23 +9,37 @@ use Rattle.dl_exact.specs.Fraction.{◌≤ℚ◌, whole}
 use Rattle.dl_exact.specs.Sum.{sum_to}
 use Rattle.dl_exact.proofs.Over.{over_same, over_le}
 use Rattle.dl_exact.proofs.Laws.{one_pos, le_trans, le_of_eq}
-use Rattle.dl_model.specs.Listed.{Weighted, weight_of, total_weight, probability, greatest}
+use Rattle.dl_plan.specs.declared.item.Item.{Item}
+use Rattle.dl_plan.specs.Weighted.{weight_at, weight_sum, greatest}
+use Rattle.dl_model.specs.Listed.{probability_at, equally_likely}
 use Rattle.dl_exact.proofs.SumsOver.{sum_to_over}
 
--- a step of a weight, and of the total
-pub weight_of-cons : (item : ℕ × ℕ) (items : Weighted) (x : ℕ)
-    → weight_of (item ∷ items) x ≡ (if item.0 == x then item.1 else 0) + weight_of items x
-weight_of-cons item items x = sum_by-cons (λ (i : ℕ × ℕ). if i.0 == x then i.1 else 0) item items
+-- the weight that an item gives to x
+abbrev pub part_of : ℕ → Item → ℕ
+part_of x item = if item.amount == x then item.weight else 0
 
-pub total_weight-cons : (item : ℕ × ℕ) (items : Weighted) → total_weight (item ∷ items) ≡ item.1 + total_weight items
-total_weight-cons item items = sum_by-cons (λ (i : ℕ × ℕ). i.1) item items
+-- a step of a weight, and of the total
+pub weight_at-cons : (item : Item) (items : List Item) (x : ℕ)
+    → weight_at (item ∷ items) x ≡ part_of x item + weight_at items x
+weight_at-cons item items x = sum_by-cons (part_of x) item items
+
+pub weight_sum-cons : (item : Item) (items : List Item) → weight_sum (item ∷ items) ≡ item.weight + weight_sum items
+weight_sum-cons item items = sum_by-cons (λ (i : Item). i.weight) item items
+
+-- no weight is above the total
+pub weight_within : (items : List Item) (x : ℕ) → weight_at items x ≤ weight_sum items
+weight_within [] x = omega arith
+weight_within (item ∷ items) x = elim (eqb_tells item.amount x) [
+  | inl p ↦ rw (weight_at-cons item items x, p.0) (omega (arith, weight_sum-cons item items, weight_within items x))
+  | inr p ↦ rw (weight_at-cons item items x, p.0) (omega (arith, weight_sum-cons item items, weight_within items x))
+]
 
 -- no weight stands past the greatest number
-pub weight_of-past : (items : Weighted) (x : ℕ) → greatest items < x → weight_of items x ≡ 0
-weight_of-past [] x h = refl
-weight_of-past (item ∷ items) x h =
-    rw (weight_of-cons item items x, ne_eqb item.0 x (omega arith))
-    (omega (arith, weight_of-past items x (omega arith)))
+pub weight_at-past : (items : List Item) (x : ℕ) → greatest items < x → weight_at items x ≡ 0
+weight_at-past [] x h = refl
+weight_at-past (item ∷ items) x h =
+    rw (weight_at-cons item items x, ne_eqb item.amount x (omega arith))
+    (omega (arith, weight_at-past items x (omega arith)))
 
 -- ---- sums of the weights
 
@@ -56,66 +70,70 @@ one_weight v w n = elim (cases_lt n v) [
 ]
 
 -- the weights of the places up to n, of one more item
-weights-cons : (item : ℕ × ℕ) (items : Weighted) (n : ℕ) → sum_through (weight_of (item ∷ items)) n
-    ≡ sum_through (λ x. if item.0 == x then item.1 else 0) n + sum_through (weight_of items) n
+weights-cons : (item : Item) (items : List Item) (n : ℕ) → sum_through (weight_at (item ∷ items)) n
+    ≡ sum_through (λ x. part_of x item) n + sum_through (weight_at items) n
 weights-cons item items n =
-    sum_through_same n _ (λ x. (if item.0 == x then item.1 else 0) + weight_of items x) (weight_of-cons item items)
-    ∙ sum_through_add n (λ x. if item.0 == x then item.1 else 0) (weight_of items)
+    sum_through_same n _ (λ x. (part_of x item) + weight_at items x) (weight_at-cons item items)
+    ∙ sum_through_add n (λ x. part_of x item) (weight_at items)
 
-no_weights : (n : ℕ) → sum_through (weight_of []) n ≡ 0
+no_weights : (n : ℕ) → sum_through (weight_at []) n ≡ 0
 no_weights zero = refl
 no_weights (suc n) = omega (arith, no_weights n)
 
 -- places up to n have at most all weight, and all of it from the greatest number on
-pub weights_le : (items : Weighted) (n : ℕ) → sum_through (weight_of items) n ≤ total_weight items
+pub weights_le : (items : List Item) (n : ℕ) → sum_through (weight_at items) n ≤ weight_sum items
 weights_le [] n = omega (arith, no_weights n)
 weights_le (item ∷ items) n =
     omega (
       arith,
       weights-cons item items n,
-      total_weight-cons item items,
-      one_weight item.0 item.1 n,
+      weight_sum-cons item items,
+      one_weight item.amount item.weight n,
       weights_le items n,
     )
 
-pub weights_all : (items : Weighted) (n : ℕ) → greatest items ≤ n → sum_through (weight_of items) n ≡ total_weight items
+pub weights_all : (items : List Item) (n : ℕ) → greatest items ≤ n → sum_through (weight_at items) n ≡ weight_sum items
 weights_all [] n h = no_weights n
 weights_all (item ∷ items) n h =
     omega (
       arith,
       weights-cons item items n,
-      total_weight-cons item items,
-      one_within item.0 item.1 n (omega arith),
+      weight_sum-cons item items,
+      one_within item.amount item.weight n (omega arith),
       weights_all items n (omega arith),
     )
 
 -- ---- probabilities
 
-pub probability-past : (items : Weighted) (x : ℕ) → 0 < total_weight items → greatest items < x
-    → probability items x ≡ whole 0
-probability-past items x pos h = over_same _ _ 0 1 pos one_pos (omega (arith, weight_of-past items x h))
+pub probability-past : (items : List Item) (x : ℕ) → 0 < weight_sum items → greatest items < x
+    → probability_at items x ≡ whole 0
+probability-past items x pos h = over_same _ _ 0 1 pos one_pos (omega (arith, weight_at-past items x h))
 
-pub probabilities_all : (items : Weighted) (n : ℕ) → 0 < total_weight items → greatest items ≤ n
-    → sum_to n (probability items) ≡ whole 1
+pub probabilities_all : (items : List Item) (n : ℕ) → 0 < weight_sum items → greatest items ≤ n
+    → sum_to n (probability_at items) ≡ whole 1
 probabilities_all items n pos h =
-    sum_to_over n (total_weight items) (weight_of items) pos
+    sum_to_over n (weight_sum items) (weight_at items) pos
     ∙ over_same _ _ 1 1 pos one_pos (omega (arith, weights_all items n h))
 
-pub probabilities_le : (items : Weighted) (n : ℕ) → 0 < total_weight items → sum_to n (probability items) ≤ℚ whole 1
+pub probabilities_le : (items : List Item) (n : ℕ) → 0 < weight_sum items → sum_to n (probability_at items) ≤ℚ whole 1
 probabilities_le items n pos = le_trans _ _ _
-    (le_of_eq _ _ (sum_to_over n (total_weight items) (weight_of items) pos))
+    (le_of_eq _ _ (sum_to_over n (weight_sum items) (weight_at items) pos))
     (over_le _ _ 1 1 pos one_pos (omega (arith, weights_le items n)))
 
 -- ---- numbers that are equally likely
 
-pub equal_total : (values : List ℕ) → total_weight (map (λ (v : ℕ). (v, 1)) values) ≡ length values
+pub equal_total : (values : List ℕ) → weight_sum (equally_likely values) ≡ length values
 equal_total [] = refl
-equal_total (v ∷ values) = omega (arith, total_weight-cons (v, 1) (map (λ (v : ℕ). (v, 1)) values), equal_total values)
+equal_total (v ∷ values) = omega (
+  arith,
+  weight_sum-cons (record { amount = v; weight = 1 }) (equally_likely values),
+  equal_total values,
+)
 
 pub equal_weight : (values : List ℕ) (x : ℕ)
-    → weight_of (map (λ (v : ℕ). (v, 1)) values) x ≡ count_by (λ v. v == x) values
+    → weight_at (equally_likely values) x ≡ count_by (λ v. v == x) values
 equal_weight [] x = refl
 equal_weight (v ∷ values) x =
-    weight_of-cons (v, 1) (map (λ (v : ℕ). (v, 1)) values) x
+    weight_at-cons (record { amount = v; weight = 1 }) (equally_likely values) x
     ∙ ap (λ t. (if v == x then 1 else 0) + t) (equal_weight values x)
     ∙ sym (sum_by-cons (λ (v : ℕ). if v == x then 1 else 0) v values)

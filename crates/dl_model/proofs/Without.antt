@@ -1,6 +1,6 @@
 -- The units without one of them.
 use Rattle.std.proofs.Common.{◌≡◌, ℕ, suc, zero, ◌+◌, ◌<◌, arith, refl, sym, ap, ◌∙◌, List, [], ◌∷◌, ◌++◌, length, take, drop, get_or, add-one}
-use Rattle.dl_model.specs.Program.{Aggregate, AreUnits}
+use Rattle.dl_model.specs.Program.{Aggregate, AreDeclarable}
 use Rattle.dl_model.specs.Family.{mapped}
 use Rattle.dl_model.specs.Measures.{unit_of, without}
 
@@ -18,7 +18,7 @@ unit_is [] i d h = absurd (omega arith)
 unit_is (u ∷ us) zero d h = refl
 unit_is (u ∷ us) (suc i) d h = unit_is us i d (omega arith)
 
-pub without_units : (us : List Aggregate) (i : ℕ) → AreUnits us → AreUnits (without us i)
+pub without_units : (us : List Aggregate) (i : ℕ) → AreDeclarable us → AreDeclarable (without us i)
 without_units [] i h = h
 without_units (u ∷ us) zero h = h.1
 without_units (u ∷ us) (suc i) h = (h.0, without_units us i h.1)

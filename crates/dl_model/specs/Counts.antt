@@ -8,12 +8,12 @@ use Rattle.dl_exact.specs.Sum.{sum_to}
 use Rattle.dl_model.specs.Series.{IsBound, Settles}
 use Rattle.dl_model.specs.Program.{where_true}
 
--- exactly m claims
+-- a fixed count: exactly m claims
 abbrev pub fixed : ℕ → ℕ → Fraction
 fixed m n = where_true (nat_eq n m) (whole 1)
 
--- m trials, each a claim with probability a / b: C(m, n) * a^n * (b - a)^(m - n) / b^m, and 0 above
--- m
+-- the binomial count: m trials, each a claim with probability a / b; C(m, n) * a^n * (b - a)^(m -
+-- n) / b^m, and 0 above m
 abbrev pub binomial : ℕ → ℕ → ℕ → ℕ → Fraction
 binomial m a b n = (choose m n * a ^ n * (b - a) ^ (m - n)) over (b ^ m)
 
@@ -21,7 +21,8 @@ binomial m a b n = (choose m n * a ^ n * (b - a) ^ (m - n)) over (b ^ m)
 unfoldable pub poisson : Fraction → ℕ → Fraction
 poisson v n = (v.num ^ n) over (v.den ^ n * factorial n)
 
--- the gamma count of shape r, where x is v / (r + v) for the mean v: C(r + n - 1, n) * x^n
+-- the gamma count of shape r (a negative binomial count, a Poisson count whose mean is mixed by a
+-- gamma), where x is v / (r + v) for the mean v: C(r + n - 1, n) * x^n
 unfoldable pub gamma : ℕ → Fraction → ℕ → Fraction
 gamma r x n = whole (choose (r + n - 1) n) *ℚ x ^ℚ n
 
@@ -29,15 +30,15 @@ gamma r x n = whole (choose (r + n - 1) n) *ℚ x ^ℚ n
 abbrev pub gamma_of : ℕ → Fraction → ℕ → Fraction
 gamma_of r v = gamma r (v /ℚ (whole r +ℚ v))
 
--- w are the weights of a count of the (a, b, 0) class: 1 at 0, and w (n + 1) = (a + b / (n + 1)) *
--- w n
+-- w are the weights of a count of the class (a, b, 0), with no negative a or b: 1 at 0, and
+-- w (n + 1) = (a + b / (n + 1)) * w n
 pub record IsPanjer (a b : Fraction) (w : ℕ → Fraction) : Type 0 where
   pub start : w zero ≡ whole 1
   pub next : (n : ℕ) → w (suc n) *ℚ whole (suc n) ≡ (a *ℚ whole (suc n) +ℚ b) *ℚ w n
 
 -- Count weights that can be declared: their sums, and those of each number times its weight, are
 -- bounded; some sum is above 0; and the sums come near their least upper bound.
-pub record IsCount (w : ℕ → Fraction) : Type 0 where
+pub record AreCountWeights (w : ℕ → Fraction) : Type 0 where
   pub bound : Fraction
   pub bounded : IsBound (λ N. sum_to N w) bound
   pub mean_bound : Fraction

@@ -26,19 +26,19 @@ mapped u = record { cells = outcome u; all = λ N. sum_to N u.count }
 abbrev pub total : List Aggregate → Family
 total us = record { cells = λ x. partial_sums us (Point x); all = partial_sums us One }
 
--- outcomes of two families added up, level by level
+-- independent outcomes of two families added up: their convolution, level by level
 abbrev pub product : Family → Family → Family
 product F G = record {
   cells = λ y N. sum_pairs y (λ i j. F.cells i N *ℚ G.cells j N);
   all = times F.all G.all;
 }
 
--- the outcome 0 alone
+-- the outcome 0 alone: a point mass at 0
 abbrev pub nothing : Family
 nothing = record { cells = λ y N. at_zero y; all = λ N. whole 1 }
 
--- n outcomes of F added up: at each level the n-th convolution power of its cells, and the n-th
--- power of its whole weight
+-- n outcomes of F added up: at each level the n-fold convolution of its cells, and the n-th power
+-- of its whole weight
 abbrev pub times_itself : Family → ℕ → Family
 times_itself F n = record { cells = λ y N. power (λ j. F.cells j N) n y; all = λ N. F.all N ^ℚ n }
 
@@ -48,10 +48,11 @@ pub record IsProper (F : Family) : Type 0 where
   pub all_rises : Rises F.all
   pub within : (y N : ℕ) → sum_to y (λ i. F.cells i N) ≤ℚ F.all N
 
--- A grid of K cells, with low ends lo y and high ends hi y in units of 1 / S, encloses F: each cell
--- holds the declared value.
-abbrev pub Encloses : ℕ → ℕ → (ℕ → ℕ) → (ℕ → ℕ) → Family → Type 0
-Encloses S K lo hi F = (y : ℕ) → y < K → Holds (F.cells y) F.all (lo y over S) (hi y over S)
+-- A grid of so many cells, with low ends lo y and high ends hi y in units of 1 / scale, encloses F:
+-- each cell holds the declared value.
+abbrev pub Encloses : (scale cells : ℕ) → (lo hi : ℕ → ℕ) → Family → Type 0
+Encloses scale cells lo hi F = (y : ℕ) → y < cells
+    → Holds (F.cells y) F.all (lo y over scale) (hi y over scale)
 
 -- Each cell of the grid holds the declared value of the family's cell over its whole weight.
 abbrev pub GridEncloses : {B : ℕ} → List (Iv B) → Family → Type 0

@@ -1,11 +1,10 @@
--- Quantiles, and the ends that an enclosing grid gives for a distribution, its layers and its joint
--- means.
-use Rattle.std.specs.Prelude.{ℕ, zero, suc, ◌≡◌, ◌+◌, ◌-◌, ◌<◌, ◌≤◌, min, nat_lt, Option, Some, List, [], ◌∷◌, sum}
-use Rattle.dl_exact.specs.Fraction.{Fraction, whole, ◌over◌, ◌+ℚ◌, ◌-ℚ◌, ◌<ℚ◌}
+-- Quantiles and their brackets, what is above a sum, one unit beside the others, and what can be
+-- declared and asked.
+use Rattle.std.specs.Prelude.{ℕ, zero, suc, ◌≡◌, ◌<◌, ◌≤◌, nat_lt, Option, Some, List, [], ◌∷◌, sum}
+use Rattle.dl_exact.specs.Fraction.{Fraction, whole, ◌+ℚ◌, ◌-ℚ◌, ◌<ℚ◌}
 use Rattle.dl_model.specs.Series.{Series, AtMost, AtLeast, Below}
-use Rattle.dl_exact.specs.Count.{count_below}
-use Rattle.dl_model.specs.Counts.{IsCount}
-use Rattle.dl_model.specs.Program.{Aggregate, IsUnit, Quantity, One, Point, Cdf, Mean, Layer, Tail, Joint, where_true, sum_over_outcomes, partial_sums}
+use Rattle.dl_model.specs.Counts.{AreCountWeights}
+use Rattle.dl_model.specs.Program.{Aggregate, IsDeclarable, Quantity, One, Point, Cdf, Mean, Layer, Tail, Joint, where_true, sum_over_outcomes, partial_sums}
 use Rattle.dl_model.specs.Family.{Family, mapped, nothing}
 
 -- 1 where the total is above x
@@ -29,12 +28,6 @@ pub record IsBracketed (units : List Aggregate) (lo : ℕ) (hi : Option ℕ)
   pub reached : (x : ℕ) → hi ≡ Some x
       → AtLeast (partial_sums units (Cdf x)) (partial_sums units One) p
 
--- inside the bracket and the K cells the distribution is within d of p
-abbrev pub IsTight : List Aggregate → ℕ → ℕ → Option ℕ → Fraction → Fraction → Type 0
-IsTight units K lo hi p d = (x : ℕ) → lo ≤ x → x < K → ((y : ℕ) → hi ≡ Some y → x < y)
-    → AtMost (partial_sums units (Cdf x)) (partial_sums units One) (p +ℚ d) × AtLeast
-    (partial_sums units (Cdf x)) (partial_sums units One) (p -ℚ d)
-
 -- the family of unit i, and the outcome 0 where there is none
 abbrev pub unit_of : List Aggregate → ℕ → Family
 unit_of [] i = nothing
@@ -47,29 +40,10 @@ without [] i = []
 without (u ∷ units) zero = units
 without (u ∷ units) (suc i) = u ∷ without units i
 
--- the low end of the distribution at x, from those of a grid: the sum up to x
-abbrev pub low_cdf : ℕ → (ℕ → ℕ) → ℕ → Fraction
-low_cdf S lo x = count_below (suc x) lo over S
-
--- the high end: the sum up to x, at most S
-abbrev pub high_cdf : ℕ → (ℕ → ℕ) → ℕ → Fraction
-high_cdf S hi x = min S (count_below (suc x) hi) over S
-
--- the low end of a layer with a limit, from the high ends of a grid: what the distribution leaves
--- of S, over the layer
-abbrev pub low_layer : ℕ → (ℕ → ℕ) → ℕ → ℕ → Fraction
-low_layer S hi limit attachment =
-    count_below limit (λ i. S - min S (count_below (suc (attachment + i)) hi)) over S
-
--- the high end, from the low ends of the grid
-abbrev pub high_layer : ℕ → (ℕ → ℕ) → ℕ → ℕ → Fraction
-high_layer S lo limit attachment =
-    count_below limit (λ i. S - count_below (suc (attachment + i)) lo) over S
-
 -- a unit that can be declared, its count included
 pub record IsDeclared (u : Aggregate) : Type 0 where
-  pub unit : IsUnit u
-  pub count : IsCount u.count
+  pub unit : IsDeclarable u
+  pub count : AreCountWeights u.count
 
 -- each of them is one
 abbrev pub AreDeclared : List Aggregate → Type 0

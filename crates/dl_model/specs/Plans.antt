@@ -7,14 +7,13 @@ use Rattle.dl_plan.specs.declared.plan.Freq.{Freq}
 use Rattle.dl_plan.specs.declared.plan.Freq.TheVariants.{Fixed, Table, Bernoulli, Binomial, Poisson, Gamma}
 use Rattle.dl_plan.specs.declared.plan.Unit.{Unit as UnitOfPlan}
 use Rattle.dl_plan.specs.declared.plan.Plan.{Plan}
-use Rattle.dl_plan.specs.Weighted.{weight_at}
+use Rattle.dl_plan.specs.Weighted.{weight_at, greatest}
 use Rattle.dl_plan.specs.Severity.{probability_of}
-use Rattle.dl_plan.specs.Cession.{Clause, ceded, kept}
-use Rattle.dl_model.specs.Listed.{weighted, greatest}
+use Rattle.dl_plan.specs.Clause.{Clause, ceded, kept}
 use Rattle.dl_model.specs.Counts.{fixed, binomial, poisson, gamma_of}
 use Rattle.dl_model.specs.Series.{Series}
-use Rattle.dl_model.specs.Program.{Aggregate, sum_over_outcomes}
-use Rattle.dl_model.specs.Family.{Family, compound, mapped, total}
+use Rattle.dl_model.specs.Program.{Aggregate, plain, sum_over_outcomes}
+use Rattle.dl_model.specs.Family.{Family, compound}
 
 -- the weight of each number of claims
 abbrev pub count_weights : Freq → ℕ → Fraction
@@ -28,17 +27,17 @@ count_weights (Gamma shape mean) = gamma_of shape mean
 -- What an aggregate clause makes of a sum. A sum of claims is a multiple of the common divisor of
 -- the amounts, and there the clause of a valid plan keeps a whole number; the floor gives a value
 -- at each other number, which no sum is.
-abbrev pub clause_of : Option Clause → ℕ → ℕ
-clause_of None s = s
-clause_of (Some clause) s = (kept clause s).num / (kept clause s).den
+abbrev pub outcome_after : Option Clause → ℕ → ℕ
+outcome_after None s = s
+outcome_after (Some clause) s = (kept clause s).num / (kept clause s).den
 
 -- the aggregate loss of a unit
 abbrev pub aggregate_of : UnitOfPlan → Aggregate
 aggregate_of u = record {
   count = count_weights u.freq;
   severity = probability_of u.sev;
-  most = greatest (weighted u.sev.items);
-  clause = clause_of u.cede;
+  most = greatest u.sev.items;
+  clause = outcome_after u.cede;
 }
 
 -- those of the units of a plan, in its order
@@ -51,12 +50,7 @@ compound_of freq sev = compound (count_weights freq) (probability_of sev)
 
 -- the sum of the claims of a unit, before its clause
 abbrev pub claims_of : UnitOfPlan → Aggregate
-claims_of u = record {
-  count = count_weights u.freq;
-  severity = probability_of u.sev;
-  most = greatest (weighted u.sev.items);
-  clause = λ s. s;
-}
+claims_of u = plain (count_weights u.freq) (probability_of u.sev) (greatest u.sev.items)
 
 -- the mean of what layers take of the sum of the claims, each by its share
 abbrev pub mean_ceded : UnitOfPlan → List CedeLayer → Series

@@ -1,11 +1,14 @@
 -- What independent units declare of their total.
-use Rattle.std.specs.Prelude.{ℕ, ◌-◌, ◌*◌, ◌≤◌, min, Bool, true, false, nat_eq, nat_le, Option, None, Some, List, [], ◌∷◌, sum, get_or}
+use Rattle.std.specs.Prelude.{ℕ, ◌-◌, ◌*◌, ◌≤◌, Bool, true, false, nat_eq, nat_le, Option, List, [], ◌∷◌, sum, get_or}
 use Rattle.dl_exact.specs.Fraction.{Fraction, whole, ◌+ℚ◌, ◌-ℚ◌, ◌*ℚ◌, ◌/ℚ◌}
 use Rattle.dl_exact.specs.Sum.{sum_to}
+use Rattle.dl_plan.specs.declared.item.Item.{Item}
+use Rattle.dl_plan.specs.Weighted.{greatest}
+use Rattle.dl_plan.specs.Clause.{layer}
 use Rattle.dl_model.specs.Series.{Series}
 use Rattle.dl_model.specs.Compound.{cell}
 use Rattle.dl_model.specs.Severity.{IsSeverity}
-use Rattle.dl_model.specs.Listed.{Weighted, probability, greatest}
+use Rattle.dl_model.specs.Listed.{probability_at}
 
 -- x where the test holds, else 0
 abbrev pub where_true : Bool → Fraction → Fraction
@@ -37,18 +40,13 @@ pub data Quantity : Type 0 where
   Tail : Fraction → ℕ → Quantity
   Joint : ℕ → ℕ → Quantity
 
--- the part of a loss above the attachment, at most the limit where there is one
-abbrev pub in_layer : Option ℕ → ℕ → ℕ → ℕ
-in_layer None attachment x = x - attachment
-in_layer (Some limit) attachment x = min (x - attachment) limit
-
 -- what a list of outcomes, one of each unit, counts for
 abbrev pub score : Quantity → List ℕ → Fraction
 score One ys = whole 1
 score (Point x) ys = where_true (nat_eq (sum ys) x) (whole 1)
 score (Cdf x) ys = where_true (nat_le (sum ys) x) (whole 1)
 score Mean ys = whole (sum ys)
-score (Layer limit attachment) ys = whole (in_layer limit attachment (sum ys))
+score (Layer limit attachment) ys = whole (layer limit attachment (sum ys))
 score (Tail p q) ys = whole q +ℚ whole (sum ys - q) /ℚ (whole 1 -ℚ p)
 score (Joint i x) ys = where_true (nat_eq (sum ys) x) (whole (get_or ys i 0))
 
@@ -64,22 +62,23 @@ sum_over_outcomes (u ∷ us) value N =
 abbrev pub partial_sums : List Aggregate → Quantity → Series
 partial_sums units quantity = sum_over_outcomes units (score quantity)
 
--- a unit of listed counts and listed amounts, without an aggregate clause
-abbrev pub listed : Weighted → Weighted → Aggregate
-listed counts amounts = record {
-  count = probability counts;
-  severity = probability amounts;
-  most = greatest amounts;
-  clause = λ s. s;
-}
+-- a unit without an aggregate clause: its outcome is the sum of its claims
+abbrev pub plain : (count severity : ℕ → Fraction) → (most : ℕ) → Aggregate
+plain count severity most =
+    record { count = count; severity = severity; most = most; clause = λ s. s }
+
+-- one of listed counts and listed amounts
+abbrev pub listed_aggregate : List Item → List Item → Aggregate
+listed_aggregate counts amounts =
+    plain (probability_at counts) (probability_at amounts) (greatest amounts)
 
 -- a unit that can be declared: its probabilities add up to 1, and its aggregate clause raises no
 -- sum
-pub record IsUnit (u : Aggregate) : Type 0 where
+pub record IsDeclarable (u : Aggregate) : Type 0 where
   pub severity : IsSeverity u.severity u.most
   pub clause : (s : ℕ) → u.clause s ≤ s
 
 -- each of them can be
-abbrev pub AreUnits : List Aggregate → Type 0
-AreUnits [] = Unit {0}
-AreUnits (u ∷ us) = IsUnit u × AreUnits us
+abbrev pub AreDeclarable : List Aggregate → Type 0
+AreDeclarable [] = Unit {0}
+AreDeclarable (u ∷ us) = IsDeclarable u × AreDeclarable us

@@ -57,4 +57,4 @@ IsLeastBound Q L = IsBound Q L × ((u : Fraction) → IsBound Q u → L ≤ℚ u
 -- term
 abbrev pub Settles : Series → Type 0
 Settles R = (p q : Fraction) → p +ℚ q ≡ whole 1 → whole 0 <ℚ q
-    → (K : ℕ) × ((N : ℕ) → p *ℚ R N ≤ℚ R K)
+    → (level : ℕ) × ((N : ℕ) → p *ℚ R N ≤ℚ R level)

@@ -13,7 +13,8 @@ pub record IsSeverity (f : ℕ → Fraction) (most : ℕ) : Type 0 where
   pub add_up : sum_to most f ≡ whole 1
   pub past : (j : ℕ) → most < j → f j ≡ whole 0
 
--- g is f conditioned on amounts above 0, and p is their probability
+-- g is f conditioned on amounts above 0, and p is their probability: what is left where the claims
+-- of amount 0 are not counted
 pub record IsPositivePart (f : ℕ → Fraction) (p : Fraction) (g : ℕ → Fraction) : Type 0 where
   pub no_zero : g zero ≡ whole 0
   pub share : f zero +ℚ p ≡ whole 1

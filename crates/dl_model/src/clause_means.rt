@@ -7,7 +7,7 @@ ghost use Rattle.dl_exact.specs.Sum.{sum_over};
 ghost use Rattle.dl_plan.specs.declared.cede.CedeLayer.{CedeLayer};
 ghost use Rattle.dl_plan.specs.declared.plan.Unit.{Unit as UnitOfPlan};
 ghost use Rattle.dl_plan.specs.Severity.{pairs_of, mean_amount};
-ghost use Rattle.dl_plan.specs.Cession.{Clause};
+ghost use Rattle.dl_plan.specs.Clause.{Clause};
 ghost use Rattle.dl_plan.specs.Count.{expected_count};
 ghost use Rattle.dl_plan.specs.Valid.{IsValidUnit};
 ghost use Rattle.dl_model.specs.Series.{Holds};
@@ -22,9 +22,10 @@ ghost use Rattle.dl_model.specs.Plans.{aggregate_of, compound_of, claims_of, mea
 pub fn law_claims()
     ensures declared { (cells : ℕ) (u : UnitOfPlan) → IsValidUnit cells u
         → IsDeclared (claims_of u) }
-    ensures encloses { (cells : ℕ) (u : UnitOfPlan) (S K : ℕ) (lo hi : ℕ → ℕ) → IsValidUnit cells u
-        → Encloses S K lo hi (compound_of u.freq u.sev)
-        → Encloses S K lo hi (total (claims_of u ∷ [])) }
+    ensures encloses { (cells : ℕ) (u : UnitOfPlan) (scale size : ℕ) (lo hi : ℕ → ℕ)
+        → IsValidUnit cells u
+        → Encloses scale size lo hi (compound_of u.freq u.sev)
+        → Encloses scale size lo hi (total (claims_of u ∷ [])) }
     ensures mean { (cells : ℕ) (u : UnitOfPlan) → IsValidUnit cells u
         → Holds (partial_sums (claims_of u ∷ []) Mean) (partial_sums (claims_of u ∷ []) One)
         (expected_count u.freq *ℚ mean_amount (pairs_of u.sev))
@@ -55,7 +56,8 @@ pub fn law_mean_ceded()
         → All (λ layer. Holds (partial_sums (claims_of u ∷ []) (Layer layer.limit layer.attach))
         (partial_sums (claims_of u ∷ []) One) (l layer) (h layer)) layers
         → Holds (mean_ceded u layers) (partial_sums (claims_of u ∷ []) One)
-        (sum_over layers (λ layer. layer.share *ℚ l layer)) (sum_over layers (λ layer. layer.share *ℚ h layer)) }
+        (sum_over layers (λ layer. layer.share *ℚ l layer))
+        (sum_over layers (λ layer. layer.share *ℚ h layer)) }
 {}
 
 /// The mean of a valid plan's unit after its aggregate clause: on the ceded side it is that of what

@@ -25,12 +25,12 @@ pub fn law_product_counts()
         (times (λ N. sum_to N v) (λ N. sum_to N w)) }
 {}
 
-/// The sums of Poisson weights are bounded: past a number `K` with twice the mean at most `K + 1`,
-/// by the weight of `K`.
+/// The sums of Poisson weights are bounded: past a number `most` with twice the mean at most `most
+/// + 1`, by the weight of `most`.
 pub fn law_poisson_bounded()
     ensures there { (v : Fraction) → (u : Fraction) × IsBound (λ N. sum_to N (poisson v)) u }
-    ensures past { (v : Fraction) (K : ℕ) → v +ℚ v ≤ℚ whole (suc K)
-        → IsBound (λ N. sum_to N (poisson v)) (sum_to K (poisson v) +ℚ poisson v K) }
+    ensures past { (v : Fraction) (most : ℕ) → v +ℚ v ≤ℚ whole (suc most)
+        → IsBound (λ N. sum_to N (poisson v)) (sum_to most (poisson v) +ℚ poisson v most) }
 {}
 
 /// The sums of the gamma weights of shape `s + 1` have the least upper bound `(1 / (1 - x))^(s +
@@ -58,8 +58,9 @@ pub fn law_common_factor()
 
 /// What encloses a family encloses each that has the same declared value in every cell.
 pub fn law_same_cells()
-    ensures { (S K : ℕ) (lo hi : ℕ → ℕ) (F G : Family) → SameCells F G → Encloses S K lo hi F
-        → Encloses S K lo hi G }
+    ensures { (scale cells : ℕ) (lo hi : ℕ → ℕ) (F G : Family) → SameCells F G
+        → Encloses scale cells lo hi F
+        → Encloses scale cells lo hi G }
 {}
 
 /// `n` compound sums with one count and severity, added up, are the compound sum whose count is `n`

@@ -10,7 +10,5 @@ pub mod measures;
 pub mod plans;
 pub mod programs;
 pub mod recursion;
-pub mod slow;
-pub mod slow_counts;
 pub mod totals;
 pub mod values;

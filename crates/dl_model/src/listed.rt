@@ -1,58 +1,52 @@
 //! The laws of a unit whose claim counts and amounts are listed, each with a whole weight.
 
-ghost use Rattle.std.specs.Prelude.{ℕ, suc, ◌≡◌, ◌+◌, ◌*◌, if◌then◌else◌, ◌<◌, ◌≤◌, ◌==◌, List, [], ◌∷◌, length, map, count_by};
+ghost use Rattle.std.specs.Prelude.{ℕ, suc, ◌≡◌, ◌+◌, ◌*◌, if◌then◌else◌, ◌<◌, ◌≤◌, ◌==◌, List, [], ◌∷◌, length, count_by};
 ghost use Rattle.dl_exact.specs.Fraction.{Fraction, whole, ◌over◌, ◌+ℚ◌, ◌*ℚ◌, ◌≤ℚ◌};
 ghost use Rattle.dl_exact.specs.Sum.{sum_to};
 ghost use Rattle.dl_model.specs.Series.{Holds};
 ghost use Rattle.dl_model.specs.Compound.{convolve, at_zero, cell, cell_from};
 ghost use Rattle.dl_exact.specs.Count.{count_pairs};
 ghost use Rattle.dl_plan.specs.declared.item.Item.{Item};
-ghost use Rattle.dl_plan.specs.Weighted.{weight_at, weight_sum};
-ghost use Rattle.dl_model.specs.Listed.{Weighted, weighted, weight_of, total_weight, probability, greatest};
-ghost use Rattle.dl_model.specs.Program.{One, Point, partial_sums, listed};
+ghost use Rattle.dl_plan.specs.Weighted.{weight_at, weight_sum, greatest};
+ghost use Rattle.dl_model.specs.Listed.{probability_at, equally_likely};
+ghost use Rattle.dl_model.specs.Program.{One, Point, partial_sums, listed_aggregate};
 
 /// The probabilities of listed numbers add up to 1 from the greatest number on, and to at most 1
 /// before it.
 pub fn law_probabilities()
-    ensures all { (items : Weighted) (n : ℕ) → 0 < total_weight items → greatest items ≤ n
-        → sum_to n (probability items) ≡ whole 1 }
-    ensures before { (items : Weighted) (n : ℕ) → 0 < total_weight items
-        → sum_to n (probability items) ≤ℚ whole 1 }
-    ensures past { (items : Weighted) (x : ℕ) → 0 < total_weight items → greatest items < x
-        → probability items x ≡ whole 0 }
-{}
-
-/// The model's weights of a plan's items are those of the plan.
-pub fn law_weighted()
-    ensures each { (items : List Item) (x : ℕ) → weight_of (weighted items) x ≡ weight_at items x }
-    ensures all { (items : List Item) → total_weight (weighted items) ≡ weight_sum items }
+    ensures all { (items : List Item) (n : ℕ) → 0 < weight_sum items → greatest items ≤ n
+        → sum_to n (probability_at items) ≡ whole 1 }
+    ensures before { (items : List Item) (n : ℕ) → 0 < weight_sum items
+        → sum_to n (probability_at items) ≤ℚ whole 1 }
+    ensures past { (items : List Item) (x : ℕ) → 0 < weight_sum items → greatest items < x
+        → probability_at items x ≡ whole 0 }
 {}
 
 /// Of equally likely numbers the weight of `x` is how often it stands there, and the whole weight
 /// is how many there are.
 pub fn law_equally_likely()
     ensures weight { (values : List ℕ) (x : ℕ)
-        → weight_of (map (λ (v : ℕ). (v, 1)) values) x ≡ count_by (λ v. v == x) values }
-    ensures total { (values : List ℕ) → total_weight (map (λ (v : ℕ). (v, 1)) values)
-        ≡ length values }
+        → weight_at (equally_likely values) x ≡ count_by (λ v. v == x) values }
+    ensures total { (values : List ℕ) → weight_sum (equally_likely values) ≡ length values }
 {}
 
 /// What encloses the part of the sum `x` that comes from at most the greatest listed count holds
 /// the declared probability of `x`.
 pub fn law_listed()
-    ensures { (counts amounts : Weighted) (x : ℕ) (l h : Fraction) → 0 < total_weight counts
-        → 0 < total_weight amounts
-        → l ≤ℚ cell (probability counts) (probability amounts) x (greatest counts)
-        → cell (probability counts) (probability amounts) x (greatest counts) ≤ℚ h
-        → Holds (partial_sums (listed counts amounts ∷ []) (Point x))
-        (partial_sums (listed counts amounts ∷ []) One) l h }
+    ensures { (counts amounts : List Item) (x : ℕ) (l h : Fraction) → 0 < weight_sum counts
+        → 0 < weight_sum amounts
+        → l ≤ℚ cell (probability_at counts) (probability_at amounts) x (greatest counts)
+        → cell (probability_at counts) (probability_at amounts) x (greatest counts) ≤ℚ h
+        → Holds (partial_sums (listed_aggregate counts amounts ∷ []) (Point x))
+        (partial_sums (listed_aggregate counts amounts ∷ []) One) l h }
 {}
 
 /// With exactly one claim the probability of the sum `x` is that of the amount `x`.
 pub fn law_one_claim()
-    ensures { (amounts : Weighted) (x : ℕ)
-        → cell (probability ((1, 1) ∷ [])) (probability amounts) x (greatest ((1, 1) ∷ []))
-        ≡ probability amounts x }
+    ensures { (amounts : List Item) (x : ℕ)
+        → cell (probability_at (equally_likely (1 ∷ []))) (probability_at amounts) x
+        (greatest (equally_likely (1 ∷ [])))
+        ≡ probability_at amounts x }
 {}
 
 /// Horner's rule, for every weight `w` of a count and every severity `f`: the greatest count leaves
@@ -66,22 +60,26 @@ pub fn law_horner()
     ensures none { (w f : ℕ → Fraction) (s N : ℕ) → cell_from w f 0 s N ≡ cell w f s N }
 {}
 
-/// A step of Horner's rule on a grid of `K` cells, in units of 1 / S, rounded outward: with `lo`
-/// below the severity, `low` below what stands after it, and `start` below the count's weight, the
-/// next low ends are a floor of the convolution, and `start` more at 0. The high ends go the other
-/// way.
+/// A step of Horner's rule on a grid of `cells` cells, in units of 1 / `scale`, rounded outward:
+/// with `lo` below the severity, `low` below what stands after it, and `start` below the count's
+/// weight, the next low ends are a floor of the convolution, and `start` more at 0. The high ends
+/// go the other way.
 pub fn law_horner_outward()
-    ensures low { (S K k N : ℕ) (w f : ℕ → Fraction) (lo low next : ℕ → ℕ) (start : ℕ) → 0 < S
-        → ((i : ℕ) → i < K → lo i over S ≤ℚ f i)
-        → ((j : ℕ) → j < K → low j over S ≤ℚ cell_from w f (suc k) j N)
-        → start over S ≤ℚ w k → ((s : ℕ) → s < K → next s * S ≤ count_pairs s (λ i j. lo i * low j))
-        → (s : ℕ) → s < K → ((if s == 0 then start else 0) + next s) over S ≤ℚ cell_from w f k s
+    ensures low { (scale cells k N : ℕ) (w f : ℕ → Fraction) (lo low next : ℕ → ℕ)
+        (start : ℕ) → 0 < scale
+        → ((i : ℕ) → i < cells → lo i over scale ≤ℚ f i)
+        → ((j : ℕ) → j < cells → low j over scale ≤ℚ cell_from w f (suc k) j N)
+        → start over scale ≤ℚ w k
+        → ((s : ℕ) → s < cells → next s * scale ≤ count_pairs s (λ i j. lo i * low j))
+        → (s : ℕ) → s < cells
+        → ((if s == 0 then start else 0) + next s) over scale ≤ℚ cell_from w f k s
         (suc N) }
-    ensures high { (S K k N : ℕ) (w f : ℕ → Fraction) (hi high next : ℕ → ℕ) (start : ℕ) → 0 < S
-        → ((i : ℕ) → i < K → f i ≤ℚ hi i over S)
-        → ((j : ℕ) → j < K → cell_from w f (suc k) j N ≤ℚ high j over S)
-        → w k ≤ℚ start over S → ((s : ℕ) → s < K
-        → count_pairs s (λ i j. hi i * high j) ≤ next s * S)
-        → (s : ℕ) → s < K → cell_from w f k s (suc N) ≤ℚ
-        ((if s == 0 then start else 0) + next s) over S }
+    ensures high { (scale cells k N : ℕ) (w f : ℕ → Fraction) (hi high next : ℕ → ℕ)
+        (start : ℕ) → 0 < scale
+        → ((i : ℕ) → i < cells → f i ≤ℚ hi i over scale)
+        → ((j : ℕ) → j < cells → cell_from w f (suc k) j N ≤ℚ high j over scale)
+        → w k ≤ℚ start over scale → ((s : ℕ) → s < cells
+        → count_pairs s (λ i j. hi i * high j) ≤ next s * scale)
+        → (s : ℕ) → s < cells → cell_from w f k s (suc N) ≤ℚ
+        ((if s == 0 then start else 0) + next s) over scale }
 {}

@@ -12,15 +12,15 @@ ghost use Rattle.dl_plan.specs.declared.plan.Unit.{Unit as UnitOfPlan};
 ghost use Rattle.dl_plan.specs.declared.plan.Plan.{Plan};
 ghost use Rattle.dl_plan.specs.Severity.{probability_of, pairs_of, mean_amount, conditioned, Means};
 ghost use Rattle.dl_plan.specs.Weighted.{common_amount};
-ghost use Rattle.dl_plan.specs.Cession.{Clause, kept};
-ghost use Rattle.dl_plan.specs.Count.{expected_count, IsUnbounded, IsCount as IsCountOfPlan};
+ghost use Rattle.dl_plan.specs.Clause.{Clause, kept};
+ghost use Rattle.dl_plan.specs.Count.{expected_count, IsUnbounded, IsClaimCount as IsCountOfPlan};
 ghost use Rattle.dl_plan.specs.Valid.{thinned_mean, IsValidUnit, IsValid};
 ghost use Rattle.dl_model.specs.Series.{IsBound, AtLeast, Holds};
 ghost use Rattle.dl_model.specs.Compound.{cell};
-ghost use Rattle.dl_model.specs.Program.{Quantity, One, Cdf, Mean, AreUnits, partial_sums};
+ghost use Rattle.dl_model.specs.Program.{Quantity, One, Cdf, Mean, AreDeclarable, partial_sums};
 ghost use Rattle.dl_model.specs.Family.{nothing, times_itself, SameCells};
 ghost use Rattle.dl_model.specs.Measures.{IsDeclared, AreDeclared, IsAsked, IsQuantile, IsBracketed};
-ghost use Rattle.dl_model.specs.Plans.{count_weights, clause_of, aggregate_of, aggregates_of, compound_of};
+ghost use Rattle.dl_model.specs.Plans.{count_weights, outcome_after, aggregate_of, aggregates_of, compound_of};
 
 use dl_plan::Plan;
 
@@ -30,14 +30,14 @@ pub fn law_declared()
     ensures unit { (cells : ℕ) (u : UnitOfPlan) → IsValidUnit cells u
         → IsDeclared (aggregate_of u) }
     ensures plan { (plan : Plan) → IsValid plan → AreDeclared (aggregates_of plan) }
-    ensures units { (plan : Plan) → IsValid plan → AreUnits (aggregates_of plan) }
+    ensures units { (plan : Plan) → IsValid plan → AreDeclarable (aggregates_of plan) }
 {}
 
 /// What a clause makes of a sum is what it keeps where that is whole; and no sum stands where it
 /// need not be: each is a multiple of the greatest common divisor of the amounts.
-pub fn law_clause_of()
+pub fn law_outcome_after()
     ensures whole { (clause : Clause) (s y : ℕ) → kept clause s ≡ whole y
-        → clause_of (Some clause) s ≡ y }
+        → outcome_after (Some clause) s ≡ y }
     ensures elsewhere { (sev : Sev) (w : ℕ → Fraction) (s N : ℕ)
         → ((n : ℕ) → s ≢ n * common_amount sev.items) → cell w (probability_of sev) s N ≡ whole 0 }
 {}
@@ -87,7 +87,8 @@ pub fn law_expected()
 pub fn law_plan_mean()
     ensures unit { (cells : ℕ) (u : UnitOfPlan) → IsValidUnit cells u → u.cede ≡ None
         → Holds (partial_sums (aggregate_of u ∷ []) Mean) (partial_sums (aggregate_of u ∷ []) One)
-        (expected_count u.freq *ℚ mean_amount (pairs_of u.sev)) (expected_count u.freq *ℚ mean_amount (pairs_of u.sev)) }
+        (expected_count u.freq *ℚ mean_amount (pairs_of u.sev))
+        (expected_count u.freq *ℚ mean_amount (pairs_of u.sev)) }
     ensures total { (plan : Plan) (l h : UnitOfPlan → Fraction) → IsValid plan
         → All (λ u. Holds (partial_sums (aggregate_of u ∷ []) Mean)
         (partial_sums (aggregate_of u ∷ []) One) (l u) (h u)) plan.units

@@ -4,19 +4,22 @@
 ghost use Rattle.std.specs.Prelude.{ℕ, suc, ◌≡◌, ◌<◌, ◌≤◌, List};
 ghost use Rattle.dl_exact.specs.Fraction.{Fraction, whole, ◌+ℚ◌, ◌<ℚ◌};
 ghost use Rattle.dl_model.specs.Series.{IsBound, AtLeast};
-ghost use Rattle.dl_model.specs.Listed.{Weighted, total_weight, probability};
-ghost use Rattle.dl_model.specs.Counts.{fixed, binomial, poisson, gamma_of, IsCount};
+ghost use Rattle.dl_plan.specs.declared.item.Item.{Item};
+ghost use Rattle.dl_plan.specs.Weighted.{weight_sum};
+ghost use Rattle.dl_model.specs.Listed.{probability_at};
+ghost use Rattle.dl_model.specs.Counts.{fixed, binomial, poisson, gamma_of, AreCountWeights};
 ghost use Rattle.dl_model.specs.Program.{Aggregate, Quantity, One, Cdf, partial_sums};
 ghost use Rattle.dl_model.specs.Measures.{AreDeclared, IsAsked};
 
 /// The counts that can be declared: exact, listed, of trials with probability `a / b`, Poisson, and
 /// gamma of shape `q + 1` and mean `v`.
 pub fn law_counts()
-    ensures fixed { (m : ℕ) → IsCount (fixed m) }
-    ensures listed { (counts : Weighted) → 0 < total_weight counts → IsCount (probability counts) }
-    ensures binomial { (m a b : ℕ) → 0 < b → a ≤ b → IsCount (binomial m a b) }
-    ensures poisson { (v : Fraction) → IsCount (poisson v) }
-    ensures gamma { (q : ℕ) (v : Fraction) → IsCount (gamma_of (suc q) v) }
+    ensures fixed { (m : ℕ) → AreCountWeights (fixed m) }
+    ensures listed { (counts : List Item) → 0 < weight_sum counts
+        → AreCountWeights (probability_at counts) }
+    ensures binomial { (m a b : ℕ) → 0 < b → a ≤ b → AreCountWeights (binomial m a b) }
+    ensures poisson { (v : Fraction) → AreCountWeights (poisson v) }
+    ensures gamma { (q : ℕ) (v : Fraction) → AreCountWeights (gamma_of (suc q) v) }
 {}
 
 /// Some fraction is a bound of every quantity that can be asked.

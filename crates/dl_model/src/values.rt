@@ -55,6 +55,6 @@ pub fn law_quotient()
 
 /// The value of 1 over a bounded series lies between the reciprocals of the bound and of any term.
 pub fn law_reciprocal()
-    ensures { (R : Series) (K : ℕ) (bound : Fraction) → whole 0 <ℚ R K → IsBound R bound
-        → Holds (λ N. whole 1) R (whole 1 /ℚ bound) (whole 1 /ℚ R K) }
+    ensures { (R : Series) (level : ℕ) (bound : Fraction) → whole 0 <ℚ R level → IsBound R bound
+        → Holds (λ N. whole 1) R (whole 1 /ℚ bound) (whole 1 /ℚ R level) }
 {}

@@ -6,9 +6,9 @@ use Rattle.std.proofs.lemmas.List.Elements.{All-head, All-tail}
 use Rattle.std.proofs.lemmas.List.Sums.{sum_by-cons}
 use Rattle.dl_exact.specs.Fraction.{whole, ◌≤ℚ◌}
 use Rattle.dl_plan.specs.declared.cede.CedeLayer.{CedeLayer}
-use Rattle.dl_plan.specs.Cession.{Clause, layer, IsBelowTop, Overlap, IsCession}
-use Rattle.dl_plan.specs.Parts.{part_of, kept_parts}
-use Rattle.dl_plan.proofs.Cessions.{scaled_le}
+use Rattle.dl_plan.specs.Clause.{Clause, layer, IsBelowTop, Overlap, IsClause}
+use Rattle.dl_plan.specs.Parts.{layer_parts, kept_parts}
+use Rattle.dl_plan.proofs.Clauses.{scaled_le}
 
 -- what of x lies in a layer
 abbrev pub taken : ℕ → CedeLayer → ℕ
@@ -20,7 +20,8 @@ pub record IsIn (x : ℕ) (l : CedeLayer) : Type 0 where
   pub below : IsBelowTop l.limit l.attach x
 
 -- the bucket x adds nothing to a layer, or one, and then it is in it
-grows_by : (limit : Option ℕ) (a x : ℕ) → (layer limit a (x + 1) ≡ layer limit a x) ⊎ ((layer limit a (x + 1) ≡ layer limit a x + 1) × (a ≤ x) × IsBelowTop limit a x)
+grows_by : (limit : Option ℕ) (a x : ℕ) → (layer limit a (x + 1) ≡ layer limit a x)
+    ⊎ ((layer limit a (x + 1) ≡ layer limit a x + 1) × (a ≤ x) × IsBelowTop limit a x)
 grows_by None a x = elim (cases_lt x a) [
   | inl h ↦ inl (omega (arith, h))
   | inr h ↦ inr (omega (arith, h), h, tt)
@@ -40,8 +41,10 @@ below_less (Some m) b a x h below = omega (arith, h, below)
 -- two layers that share a bucket overlap
 overlap : (l m : CedeLayer) (x : ℕ) → IsIn x l → IsIn x m → Overlap l m
 overlap l m x p q =
-    let a : max l.attach m.attach ≤ x = omega (arith, p.attached, q.attached) in
-    (below_less l.limit l.attach (max l.attach m.attach) x a p.below, below_less m.limit m.attach (max l.attach m.attach) x a q.below)
+    let a : max l.attach m.attach ≤ x = omega (arith, p.attached, q.attached) in (
+      below_less l.limit l.attach (max l.attach m.attach) x a p.below,
+      below_less m.limit m.attach (max l.attach m.attach) x a q.below,
+    )
 
 grows : (l : CedeLayer) (x : ℕ) → (taken (x + 1) l ≡ taken x l) ⊎ ((taken (x + 1) l ≡ taken x l + 1) × IsIn x l)
 grows l x = elim (grows_by l.limit l.attach x) [
@@ -49,41 +52,46 @@ grows l x = elim (grows_by l.limit l.attach x) [
   | inr e ↦ inr (e.0, record { attached = e.1; below = e.2 })
 ]
 
-part_same : (c x y : ℕ) (l : CedeLayer) → taken y l ≡ taken x l → part_of c y l ≡ part_of c x l
+part_same : (c x y : ℕ) (l : CedeLayer) → taken y l ≡ taken x l → layer_parts c y l ≡ layer_parts c x l
 part_same c x y l e = ap (λ n. l.share.num * (c / l.share.den) * n) e
 
 -- a bucket of a layer adds nothing to layers that are apart from it
-others_same : (c : ℕ) (l : CedeLayer) (ls : List CedeLayer) (x : ℕ) → IsIn x l → All (λ m. ¬ Overlap l m) ls → sum_by (part_of c (x + 1)) ls ≡ sum_by (part_of c x) ls
+others_same : (c : ℕ) (l : CedeLayer) (ls : List CedeLayer) (x : ℕ) → IsIn x l → All (λ m. ¬ Overlap l m) ls
+    → sum_by (layer_parts c (x + 1)) ls ≡ sum_by (layer_parts c x) ls
 others_same c l [] x p apart = refl
 others_same c l (m ∷ ms) x p apart =
-    sum_by-cons (part_of c (x + 1)) m ms
+    sum_by-cons (layer_parts c (x + 1)) m ms
     ∙ ap₂ (λ a b. a + b) (same_one (grows m x)) (others_same c l ms x p (All-tail (λ k. ¬ Overlap l k) m ms apart))
-    ∙ sym (sum_by-cons (part_of c x) m ms)
+    ∙ sym (sum_by-cons (layer_parts c x) m ms)
   where
-    same_one : (taken (x + 1) m ≡ taken x m) ⊎ ((taken (x + 1) m ≡ taken x m + 1) × IsIn x m) → part_of c (x + 1) m ≡ part_of c x m
+    same_one : (taken (x + 1) m ≡ taken x m) ⊎ ((taken (x + 1) m ≡ taken x m + 1) × IsIn x m)
+        → layer_parts c (x + 1) m ≡ layer_parts c x m
     same_one (inl e) = part_same c x (x + 1) m e
     same_one (inr e) = absurd (All-head (λ k. ¬ Overlap l k) m ms apart (overlap l m x p e.1))
 
-pub first_apart : (l : CedeLayer) (ls : List CedeLayer) → AllPairs (λ k m. ¬ Overlap k m) (l ∷ ls) → All (λ m. ¬ Overlap l m) ls
+pub first_apart : (l : CedeLayer) (ls : List CedeLayer) → AllPairs (λ k m. ¬ Overlap k m) (l ∷ ls)
+    → All (λ m. ¬ Overlap l m) ls
 first_apart l ls apart = λ k d h. apart zero (suc k) d (omega arith) (omega (arith, h))
 
-pub rest_apart : (l : CedeLayer) (ls : List CedeLayer) → AllPairs (λ k m. ¬ Overlap k m) (l ∷ ls) → AllPairs (λ k m. ¬ Overlap k m) ls
+pub rest_apart : (l : CedeLayer) (ls : List CedeLayer) → AllPairs (λ k m. ¬ Overlap k m) (l ∷ ls)
+    → AllPairs (λ k m. ¬ Overlap k m) ls
 rest_apart l ls apart = λ i j d p q. apart (suc i) (suc j) d (omega (arith, p)) (omega (arith, q))
 
 -- one bucket more: what is ceded does not fall, and grows by one bucket's parts at most
 ceded_more : (c x : ℕ) (ls : List CedeLayer) → AllPairs (λ k m. ¬ Overlap k m) ls → All (λ l. l.share ≤ℚ whole 1) ls
-    → (sum_by (part_of c x) ls ≤ sum_by (part_of c (x + 1)) ls) × (sum_by (part_of c (x + 1)) ls ≤ sum_by (part_of c x) ls + c)
+    → (sum_by (layer_parts c x) ls ≤ sum_by (layer_parts c (x + 1)) ls)
+    × (sum_by (layer_parts c (x + 1)) ls ≤ sum_by (layer_parts c x) ls + c)
 ceded_more c x [] apart within = (omega arith, omega arith)
 ceded_more c x (l ∷ ls) apart within =
-    let now = sum_by-cons (part_of c x) l ls in
-    let next = sum_by-cons (part_of c (x + 1)) l ls in
+    let now = sum_by-cons (layer_parts c x) l ls in
+    let next = sum_by-cons (layer_parts c (x + 1)) l ls in
     elim (grows l x) [
       | inl e ↦
           let one = part_same c x (x + 1) l e in
           let more = ceded_more c x ls (rest_apart l ls apart) (All-tail (λ k. k.share ≤ℚ whole 1) l ls within) in
           (omega (arith, now, next, one, more.0), omega (arith, now, next, one, more.1))
       | inr e ↦
-          let one : part_of c (x + 1) l ≡ part_of c x l + l.share.num * (c / l.share.den) =
+          let one : layer_parts c (x + 1) l ≡ layer_parts c x l + l.share.num * (c / l.share.den) =
           ap (λ n. l.share.num * (c / l.share.den) * n) e.0 ∙ omega arith in
           let same = others_same c l ls x e.1 (first_apart l ls apart) in
           let most = scaled_le l.share c (All-head (λ k. k.share ≤ℚ whole 1) l ls within) in
@@ -94,38 +102,45 @@ taken_none : (limit : Option ℕ) (a : ℕ) → layer limit a 0 ≡ 0
 taken_none None a = omega arith
 taken_none (Some l) a = omega arith
 
-none_ceded : (c : ℕ) (ls : List CedeLayer) → sum_by (part_of c 0) ls ≡ 0
+none_ceded : (c : ℕ) (ls : List CedeLayer) → sum_by (layer_parts c 0) ls ≡ 0
 none_ceded c [] = refl
 none_ceded c (l ∷ ls) =
-    let none : part_of c 0 l ≡ 0 = ap (λ n. l.share.num * (c / l.share.den) * n) (taken_none l.limit l.attach) ∙ omega arith in
-    sum_by-cons (part_of c 0) l ls ∙ ap₂ (λ a b. a + b) none (none_ceded c ls)
+    let none : layer_parts c 0 l ≡ 0 = ap (λ n. l.share.num * (c / l.share.den) * n) (taken_none l.limit l.attach)
+    ∙ omega arith in
+    sum_by-cons (layer_parts c 0) l ls ∙ ap₂ (λ a b. a + b) none (none_ceded c ls)
 
 -- what is ceded of x is at most x
-pub ceded_le : (clause : Clause) (c x : ℕ) → IsCession clause → sum_by (part_of c x) clause.1 ≤ x * c
-ceded_le clause c zero cession = omega (arith, none_ceded c clause.1)
-ceded_le clause c (suc x) cession =
-    let more : sum_by (part_of c (suc x)) clause.1 ≤ sum_by (part_of c x) clause.1 + c =
-    subst (λ n. sum_by (part_of c n) clause.1 ≤ sum_by (part_of c x) clause.1 + c) (omega arith) (ceded_more c x clause.1 cession.apart cession.within).1 in
-    omega (arith, more, ceded_le clause c x cession)
+pub ceded_le : (clause : Clause) (c x : ℕ) → IsClause clause → sum_by (layer_parts c x) clause.1 ≤ x * c
+ceded_le clause c zero accepted = omega (arith, none_ceded c clause.1)
+ceded_le clause c (suc x) accepted =
+    let more : sum_by (layer_parts c (suc x)) clause.1 ≤ sum_by (layer_parts c x) clause.1 + c =
+    subst (λ n. sum_by (layer_parts c n) clause.1 ≤ sum_by (layer_parts c x) clause.1 + c) (omega arith)
+    (ceded_more c x clause.1 accepted.apart accepted.within).1 in
+    omega (arith, more, ceded_le clause c x accepted)
 
-pub kept_le : (clause : Clause) (c x : ℕ) → IsCession clause → kept_parts clause c x ≤ x * c
-kept_le (true, layers) c x cession = omega arith
-kept_le (false, layers) c x cession = ceded_le (false, layers) c x cession
+pub kept_le : (clause : Clause) (c x : ℕ) → IsClause clause → kept_parts clause c x ≤ x * c
+kept_le (true, layers) c x accepted = omega arith
+kept_le (false, layers) c x accepted = ceded_le (false, layers) c x accepted
 
 pub kept_none : (clause : Clause) (c : ℕ) → kept_parts clause c 0 ≡ 0
 kept_none (true, layers) c = omega arith
 kept_none (false, layers) c = none_ceded c layers
 
-kept_more : (clause : Clause) (c x : ℕ) → IsCession clause → kept_parts clause c x ≤ kept_parts clause c (x + 1)
-kept_more (true, layers) c x cession =
-    omega (arith, (ceded_more c x layers cession.apart cession.within).1, ceded_le (true, layers) c x cession)
-kept_more (false, layers) c x cession = (ceded_more c x layers cession.apart cession.within).0
+kept_more : (clause : Clause) (c x : ℕ) → IsClause clause → kept_parts clause c x ≤ kept_parts clause c (x + 1)
+kept_more (true, layers) c x accepted =
+    omega (arith, (ceded_more c x layers accepted.apart accepted.within).1, ceded_le (true, layers) c x accepted)
+kept_more (false, layers) c x accepted = (ceded_more c x layers accepted.apart accepted.within).0
 
 -- what is kept never falls
-pub kept_rises : (clause : Clause) (c x n : ℕ) → IsCession clause → kept_parts clause c x ≤ kept_parts clause c (x + n)
-kept_rises clause c x zero cession =
+pub kept_rises : (clause : Clause) (c x n : ℕ) → IsClause clause → kept_parts clause c x ≤ kept_parts clause c (x + n)
+kept_rises clause c x zero accepted =
     let none : x + 0 ≡ x = omega arith in
     omega (arith, ap (λ y. kept_parts clause c y) none)
-kept_rises clause c x (suc n) cession =
+kept_rises clause c x (suc n) accepted =
     let next : x + suc n ≡ x + n + 1 = omega arith in
-    omega (arith, ap (λ y. kept_parts clause c y) next, kept_more clause c (x + n) cession, kept_rises clause c x n cession)
+    omega (
+      arith,
+      ap (λ y. kept_parts clause c y) next,
+      kept_more clause c (x + n) accepted,
+      kept_rises clause c x n accepted,
+    )

@@ -45,13 +45,16 @@ pub common_take-le : (xs : List Fraction) (i : ℕ) → common_denominator (take
 common_take-le xs i =
     let whole_list : common_denominator xs ≡ common_from (common_denominator (take i xs)) (drop i xs) =
     ap common_denominator (sym (take-append-drop i xs)) ∙ fold-append (λ k x. lcm k x.den) 1 (take i xs) (drop i xs) in
-    rw whole_list (le_of_dvd (common_from_pos _ (drop i xs) (common_from_pos 1 (take i xs) (omega arith))) (common_from_divides (common_denominator (take i xs)) (drop i xs)))
+    rw whole_list (le_of_dvd (common_from_pos _ (drop i xs) (common_from_pos 1 (take i xs) (omega arith)))
+    (common_from_divides (common_denominator (take i xs)) (drop i xs)))
 
 -- one fraction more
-pub common_step : (xs : List Fraction) (i : ℕ) (x : Fraction) (common d : ℕ) → i < length xs → x ≡ get_or xs i x → d ≡ x.den
+pub common_step : (xs : List Fraction) (i : ℕ) (x : Fraction) (common d : ℕ) → i < length xs
+    → x ≡ get_or xs i x → d ≡ x.den
     → common ≡ common_denominator (take i xs) → common_denominator (take (i + 1) xs) ≡ lcm common d
 common_step xs i x common d h is den so_far =
-    rw (so_far, den) (fold_more (λ m (y : Fraction). lcm m y.den) 1 xs i x h ∙ ap (λ (y : Fraction). lcm (common_denominator (take i xs)) y.den) (sym is))
+    rw (so_far, den) (fold_more (λ m (y : Fraction). lcm m y.den) 1 xs i x h
+    ∙ ap (λ (y : Fraction). lcm (common_denominator (take i xs)) y.den) (sym is))
 
 pub common_pos : (xs : List Fraction) → 0 < common_denominator xs
 common_pos xs = common_from_pos 1 xs (omega arith)

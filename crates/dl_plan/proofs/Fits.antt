@@ -1,5 +1,5 @@
 -- Fractions of small numbers are never refused.
-use Rattle.std.proofs.Common.{ℕ, ◌≡◌, ◌^◌, ◌<◌, ◌≤◌, Result, Ok, Err, IsOk, refl, subst, inl, inr, arith}
+use Rattle.std.proofs.Common.{ℕ, ◌≡◌, ◌^◌, ◌<◌, Result, Ok, Err, IsOk, refl, subst, inl, inr, arith}
 use Rattle.dl_exact.specs.Fraction.{Fraction, ◌over◌}
 use Rattle.dl_frac.specs.Exact.{FitsFrac, Gives}
 use Rattle.dl_exact.proofs.Parts.{over_num_le, over_den_le}

@@ -1,6 +1,6 @@
 pub mod Fits
 pub mod Common
-pub mod Cessions
+pub mod Clauses
 pub mod Apart
 pub mod Straight
 pub mod Reach
@@ -8,4 +8,6 @@ pub mod Horizons
 pub mod Weights
 pub mod Shares
 pub mod Means
+pub mod Positive
 pub mod NumeralLaws
+pub mod PlainBytes

@@ -32,13 +32,16 @@ trials_times t q =
     ∙ over_same (t * q.num) (1 * q.den) (t * q.num) q.den (omega (arith, q.positive)) q.positive (omega arith))
 
 -- the mean of a count times that of a severity
-pub mean_over : (x : Fraction) (sev : Sev) → (x.num * weighted_sum sev.items) over (x.den * sev.total) ≡ x *ℚ mean_amount (pairs_of sev)
+pub mean_over : (x : Fraction) (sev : Sev) → (x.num * weighted_sum sev.items) over (x.den * sev.total)
+    ≡ x *ℚ mean_amount (pairs_of sev)
 mean_over x sev =
     let h = total_pos sev.items sev.total sev.weighted in
-    sym (ap₂ (λ y z. y *ℚ z) (sym (over_self x)) (mean-shares sev.items sev.total h) ∙ over_mul x.num x.den (weighted_sum sev.items) sev.total x.positive h)
+    sym (ap₂ (λ y z. y *ℚ z) (sym (over_self x)) (mean-shares sev.items sev.total h)
+    ∙ over_mul x.num x.den (weighted_sum sev.items) sev.total x.positive h)
 
 pub positive_share : (w t : ℕ) → 0 < t → (t - w) over t ≡ whole 1 -ℚ w over t
-positive_share w t h = sym (over_sub 1 1 w t (omega arith) h ∙ over_same (1 * t - w * 1) (1 * t) (t - w) t (omega (arith, h)) h (ap₂ (λ a b. a * b) (omega arith) (omega arith)))
+positive_share w t h = sym (over_sub 1 1 w t (omega arith) h
+    ∙ over_same (1 * t - w * 1) (1 * t) (t - w) t (omega (arith, h)) h (ap₂ (λ a b. a * b) (omega arith) (omega arith)))
 
 -- ---- the weight of amount 0
 
@@ -46,22 +49,29 @@ none_at_zero : (xs : List Item) → All (λ (i : Item). 0 < i.amount) xs → wei
 none_at_zero [] h = refl
 none_at_zero (x ∷ xs) h =
     sum_by-cons (λ (i : Item). cond (i.amount == 0) i.weight 0) x xs
-    ∙ ap₂ (λ a b. a + b) (not_zero x.amount x.weight (All-head (λ (i : Item). 0 < i.amount) x xs h)) (none_at_zero xs (All-tail (λ (i : Item). 0 < i.amount) x xs h))
+    ∙ ap₂ (λ a b. a + b) (not_zero x.amount x.weight (All-head (λ (i : Item). 0 < i.amount) x xs h))
+    (none_at_zero xs (All-tail (λ (i : Item). 0 < i.amount) x xs h))
   where
     not_zero : (a w : ℕ) → 0 < a → cond (a == 0) w 0 ≡ 0
     not_zero a w p = grind arith
 
-later_above : (x : Item) (xs : List Item) → IsStrictlyIncreasing (amounts_of (x ∷ xs)) → All (λ (i : Item). 0 < i.amount) xs
-later_above x xs rising = go xs (λ k d h. AllPairs-from_increasing (amounts_of (x ∷ xs)) rising zero (suc k) d (omega arith) (omega (arith, h)))
+later_above : (x : Item) (xs : List Item) → IsStrictlyIncreasing (amounts_of (x ∷ xs))
+    → All (λ (i : Item). 0 < i.amount) xs
+later_above x xs rising = go xs (λ k d h. AllPairs-from_increasing (amounts_of (x ∷ xs)) rising zero (suc k) d
+    (omega arith) (omega (arith, h)))
   where
     go : (ys : List Item) → All (λ n. x.amount < n) (amounts_of ys) → All (λ (i : Item). 0 < i.amount) ys
     go [] h = λ k d p. absurd (omega (arith, p))
     go (y ∷ ys) h =
-        All-cons (λ (i : Item). 0 < i.amount) y ys (omega (arith, All-head (λ n. x.amount < n) y.amount (amounts_of ys) h)) (go ys (All-tail (λ n. x.amount < n) y.amount (amounts_of ys) h))
+        All-cons (λ (i : Item). 0 < i.amount) y ys
+        (omega (arith, All-head (λ n. x.amount < n) y.amount (amounts_of ys) h))
+        (go ys (All-tail (λ n. x.amount < n) y.amount (amounts_of ys) h))
 
-pub zero_first : (x : Item) (xs : List Item) → IsStrictlyIncreasing (amounts_of (x ∷ xs)) → weight_at (x ∷ xs) 0 ≡ cond (x.amount == 0) x.weight 0
+pub zero_first : (x : Item) (xs : List Item) → IsStrictlyIncreasing (amounts_of (x ∷ xs))
+    → weight_at (x ∷ xs) 0 ≡ cond (x.amount == 0) x.weight 0
 zero_first x xs rising =
-    sum_by-cons (λ (i : Item). cond (i.amount == 0) i.weight 0) x xs ∙ ap (λ n. cond (x.amount == 0) x.weight 0 + n) (none_at_zero xs (later_above x xs rising)) ∙ omega arith
+    sum_by-cons (λ (i : Item). cond (i.amount == 0) i.weight 0) x xs
+    ∙ ap (λ n. cond (x.amount == 0) x.weight 0 + n) (none_at_zero xs (later_above x xs rising)) ∙ omega arith
 
 part_of_weight : (a w : ℕ) → cond (a == 0) w 0 ≤ w
 part_of_weight a w = grind arith
@@ -69,16 +79,24 @@ part_of_weight a w = grind arith
 pub weight_at-le : (xs : List Item) → weight_at xs 0 ≤ weight_sum xs
 weight_at-le [] = omega arith
 weight_at-le (x ∷ xs) =
-    omega (arith, sum_by-cons (λ (i : Item). cond (i.amount == 0) i.weight 0) x xs, sum_by-cons (λ (i : Item). i.weight) x xs, weight_at-le xs, part_of_weight x.amount x.weight)
+    omega (
+      arith,
+      sum_by-cons (λ (i : Item). cond (i.amount == 0) i.weight 0) x xs,
+      sum_by-cons (λ (i : Item). i.weight) x xs,
+      weight_at-le xs,
+      part_of_weight x.amount x.weight,
+    )
 
-pub zero_yes : (xs : List Item) (d : Item) → 0 < length xs → IsStrictlyIncreasing (amounts_of xs) → (get_or xs zero d).amount ≡ 0 → (get_or xs zero d).weight ≡ weight_at xs 0
+pub zero_yes : (xs : List Item) (d : Item) → 0 < length xs → IsStrictlyIncreasing (amounts_of xs)
+    → (get_or xs zero d).amount ≡ 0 → (get_or xs zero d).weight ≡ weight_at xs 0
 zero_yes [] d some rising e = absurd (omega (arith, some))
 zero_yes (x ∷ xs) d some rising e = sym (zero_first x xs rising ∙ yes x.amount x.weight e)
   where
     yes : (a w : ℕ) → a ≡ 0 → cond (a == 0) w 0 ≡ w
     yes a w h = grind arith
 
-pub zero_no : (xs : List Item) (d : Item) → 0 < length xs → IsStrictlyIncreasing (amounts_of xs) → ((get_or xs zero d).amount ≡ 0 → ⊥) → 0 ≡ weight_at xs 0
+pub zero_no : (xs : List Item) (d : Item) → 0 < length xs → IsStrictlyIncreasing (amounts_of xs)
+    → ((get_or xs zero d).amount ≡ 0 → ⊥) → 0 ≡ weight_at xs 0
 zero_no [] d some rising e = absurd (omega (arith, some))
 zero_no (x ∷ xs) d some rising e = sym (zero_first x xs rising ∙ no x.amount x.weight e)
   where

@@ -36,7 +36,8 @@ pub record IsBent (f : ℕ → ℕ) (e : ℕ) (rise : ℕ) : Type 0 where
   pub line : (n : ℕ) → f (e + n) ≡ f e + n * rise
 
 -- where each value past e is the mean of the two beside it, the map is a straight line
-pub line_from : (f : ℕ → ℕ) (e : ℕ) → f e ≤ f (e + 1) → ((n : ℕ) → f (e + n) + f (e + n + 2) ≡ 2 * f (e + n + 1)) → (n : ℕ)
+pub line_from : (f : ℕ → ℕ) (e : ℕ) → f e ≤ f (e + 1)
+    → ((n : ℕ) → f (e + n) + f (e + n + 2) ≡ 2 * f (e + n + 1)) → (n : ℕ)
     → (f (e + n) ≡ f e + n * (f (e + 1) - f e)) × (f (e + n + 1) ≡ f e + (n + 1) * (f (e + 1) - f e))
 line_from f e step mean zero =
     let here : e + 0 ≡ e = omega arith in
@@ -122,11 +123,23 @@ module _ (f : ℕ → ℕ) (e w rise : ℕ) (bent : IsBent f e rise) where
       least : (r : ℕ) → IsSettledAt f w r → e + div_ceil (w - f e) rise ≤ r
       least r (inl reached) = elim (cases_lt r e) [
         | inl before ↦ absurd (omega (arith, reached, below, from_to r e (omega (arith, before))))
-        | inr after ↦ omega (arith, div_ceil_least (w - f e) rise (r - e) rising (omega (arith, past r after, reached)), after)
+        | inr after ↦ omega (
+          arith,
+          div_ceil_least (w - f e) rise (r - e) rising
+              (omega (arith, past r after, reached)),
+          after,
+        )
       ]
       least r (inr flat) = elim (cases_lt r e) [
         | inl before ↦ absurd (omega (arith, rising, (no_rise r (omega (arith, before)) flat).1))
         | inr after ↦
             let further : r + 1 - e ≡ r - e + 1 = omega (arith, after) in
-            absurd (omega (arith, rising, past r after, past (r + 1) (omega (arith, after)), ap (λ n. n * rise) further, flat (r + 1) (omega arith)))
+            absurd (omega (
+              arith,
+              rising,
+              past r after,
+              past (r + 1) (omega (arith, after)),
+              ap (λ n. n * rise) further,
+              flat (r + 1) (omega arith),
+            ))
       ]

@@ -5,7 +5,7 @@ use Rattle.std.specs.List.{All}
 use Rattle.std.proofs.lemmas.List.Elements.{All-cons, All-nil}
 use Rattle.std.proofs.lemmas.List.Filters.{sum_by-filter_both}
 use Rattle.dl_exact.specs.Fraction.{Fraction, whole, ◌over◌, ◌*ℚ◌, ◌/ℚ◌}
-use Rattle.dl_exact.proofs.Over.{over_same, over_mul, over_div}
+use Rattle.dl_exact.proofs.Over.{over_same, over_div}
 use Rattle.dl_plan.specs.declared.item.Item.{Item}
 use Rattle.dl_plan.specs.Weighted.{amounts_of, weight_sum, weight_at, weighted_sum}
 use Rattle.dl_plan.specs.Severity.{Pairs, probability, mass, mean_amount, conditioned, shares}
@@ -17,19 +17,22 @@ use Rattle.dl_exact.proofs.Denominators.{over_times}
 pub probability-shares : (xs : List Item) (t y : ℕ) → 0 < t → probability (shares xs t) y ≡ weight_at xs y over t
 probability-shares xs t y h =
     sum_over_map (λ (i : Item). (i.amount, i.weight over t)) (λ pair. cond (pair.0 == y) pair.1 (whole 0)) xs
-    ∙ sum_over_same _ (λ (i : Item). cond (i.amount == y) i.weight 0 over t) xs (λ i. if_over (i.amount == y) i.weight t h)
+    ∙ sum_over_same _ (λ (i : Item). cond (i.amount == y) i.weight 0 over t) xs
+    (λ i. if_over (i.amount == y) i.weight t h)
     ∙ sum_over_common (λ (i : Item). cond (i.amount == y) i.weight 0) t xs h
 
 pub mass-shares : (xs : List Item) (t : ℕ) → 0 < t → mass (shares xs t) ≡ weight_sum xs over t
 mass-shares xs t h =
-    sum_over_map (λ (i : Item). (i.amount, i.weight over t)) (λ pair. pair.1) xs ∙ sum_over_common (λ (i : Item). i.weight) t xs h
+    sum_over_map (λ (i : Item). (i.amount, i.weight over t)) (λ pair. pair.1) xs
+    ∙ sum_over_common (λ (i : Item). i.weight) t xs h
 
 -- ---- amounts above a
 
 abbrev pub items_over : ℕ → List Item → List Item
 items_over a xs = filter (λ (i : Item). nat_lt a i.amount) xs
 
-pub filter-shares : (a : ℕ) (xs : List Item) (t : ℕ) → filter (λ pair. nat_lt a pair.0) (shares xs t) ≡ shares (items_over a xs) t
+pub filter-shares : (a : ℕ) (xs : List Item) (t : ℕ) → filter (λ pair. nat_lt a pair.0) (shares xs t)
+    ≡ shares (items_over a xs) t
 filter-shares a [] t = refl
 filter-shares a (x ∷ xs) t = elim (cases_lt a x.amount) [
   | inl h ↦ rw (lt-ltb a x.amount h) (ap (λ ps. (x.amount, x.weight over t) ∷ ps) (filter-shares a xs t))
@@ -65,7 +68,8 @@ probability-conditioned a xs t y ht hv =
     let score : ℕ × Fraction → Fraction = λ pair. cond (pair.0 == y) pair.1 (whole 0) in
     ap value (filter-shares a xs t)
     ∙ sum_over_map (λ pair. (pair.0, pair.1 /ℚ mass (shares kept t))) score (shares kept t)
-    ∙ sum_over_map (λ (i : Item). (i.amount, i.weight over t)) (λ pair. cond (pair.0 == y) (pair.1 /ℚ mass (shares kept t)) (whole 0)) kept
+    ∙ sum_over_map (λ (i : Item). (i.amount, i.weight over t))
+    (λ pair. cond (pair.0 == y) (pair.1 /ℚ mass (shares kept t)) (whole 0)) kept
     ∙ sum_over_same _ (λ (i : Item). cond (i.amount == y) i.weight 0 over v) kept
     (λ i. ap (λ m. cond (i.amount == y) (i.weight over t /ℚ m) (whole 0)) (mass-shares kept t ht)
     ∙ ap (λ q. cond (i.amount == y) q (whole 0)) (share_of_share i.weight t v ht hv)
@@ -73,7 +77,11 @@ probability-conditioned a xs t y ht hv =
     ∙ sum_over_common (λ (i : Item). cond (i.amount == y) i.weight 0) v kept hv
 
 pub weight_over-le : (a : ℕ) (xs : List Item) → weight_sum (items_over a xs) ≤ weight_sum xs
-weight_over-le a xs = omega (arith, sum_by-filter_both (λ (i : Item). nat_lt a i.amount) (λ (i : Item). not (nat_lt a i.amount)) (λ i. refl) (λ (i : Item). i.weight) xs)
+weight_over-le a xs = omega (
+  arith,
+  sum_by-filter_both (λ (i : Item). nat_lt a i.amount)
+      (λ (i : Item). not (nat_lt a i.amount)) (λ i. refl) (λ (i : Item). i.weight) xs,
+)
 
 -- ---- the mean
 

@@ -4,9 +4,9 @@ use Rattle.std.specs.List.{All, sum_by}
 use Rattle.std.proofs.lemmas.List.Elements.{All-head, All-tail}
 use Rattle.std.proofs.lemmas.List.Sums.{sum_by-cons}
 use Rattle.dl_plan.specs.declared.cede.CedeLayer.{CedeLayer}
-use Rattle.dl_plan.specs.Cession.{Clause, layer, IsCession}
+use Rattle.dl_plan.specs.Clause.{Clause, layer, IsClause}
 use Rattle.dl_plan.specs.Horizon.{edge_of, edge}
-use Rattle.dl_plan.specs.Parts.{part_of, kept_parts}
+use Rattle.dl_plan.specs.Parts.{layer_parts, kept_parts}
 use Rattle.dl_plan.proofs.Apart.{ceded_le}
 
 -- b is not between x and y
@@ -27,28 +27,28 @@ layer_straight (Some l) a x s (inl p) (inr q) = omega (arith, p, q)
 layer_straight (Some l) a x s (inr p) q = omega (arith, p)
 
 ceded_straight : (c x s : ℕ) (ls : List CedeLayer) → All (IsClear x (x + 2 * s)) ls
-    → sum_by (part_of c x) ls + sum_by (part_of c (x + 2 * s)) ls ≡ 2 * sum_by (part_of c (x + s)) ls
+    → sum_by (layer_parts c x) ls + sum_by (layer_parts c (x + 2 * s)) ls ≡ 2 * sum_by (layer_parts c (x + s)) ls
 ceded_straight c x s [] clear = refl
 ceded_straight c x s (l ∷ ls) clear =
     let here = All-head (IsClear x (x + 2 * s)) l ls clear in
     omega (
       arith,
-      sum_by-cons (part_of c x) l ls,
-      sum_by-cons (part_of c (x + 2 * s)) l ls,
-      sum_by-cons (part_of c (x + s)) l ls,
+      sum_by-cons (layer_parts c x) l ls,
+      sum_by-cons (layer_parts c (x + 2 * s)) l ls,
+      sum_by-cons (layer_parts c (x + s)) l ls,
       ap (λ n. l.share.num * (c / l.share.den) * n) (layer_straight l.limit l.attach x s here.attach here.edge),
       ceded_straight c x s ls (All-tail (IsClear x (x + 2 * s)) l ls clear),
     )
 
 -- with no end between x and x + 2s, the middle value is the mean of the outer ones
-pub kept_straight : (clause : Clause) (c x s : ℕ) → IsCession clause → All (IsClear x (x + 2 * s)) clause.1
+pub kept_straight : (clause : Clause) (c x s : ℕ) → IsClause clause → All (IsClear x (x + 2 * s)) clause.1
     → kept_parts clause c x + kept_parts clause c (x + 2 * s) ≡ 2 * kept_parts clause c (x + s)
-kept_straight (true, layers) c x s cession clear =
+kept_straight (true, layers) c x s accepted clear =
     omega (
       arith,
       ceded_straight c x s layers clear,
-      ceded_le (true, layers) c x cession,
-      ceded_le (true, layers) c (x + s) cession,
-      ceded_le (true, layers) c (x + 2 * s) cession,
+      ceded_le (true, layers) c x accepted,
+      ceded_le (true, layers) c (x + s) accepted,
+      ceded_le (true, layers) c (x + 2 * s) accepted,
     )
-kept_straight (false, layers) c x s cession clear = ceded_straight c x s layers clear
+kept_straight (false, layers) c x s accepted clear = ceded_straight c x s layers clear

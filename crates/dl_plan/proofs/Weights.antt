@@ -39,7 +39,11 @@ times g item = record { amount = item.amount; weight = item.weight * g }
 pub weight_sum-times : (g : ℕ) (xs : List Item) → weight_sum (map (times g) xs) ≡ weight_sum xs * g
 weight_sum-times g [] = omega arith
 weight_sum-times g (x ∷ xs) =
-    rw (sum_by-cons (λ (i : Item). i.weight) (times g x) (map (times g) xs), sum_by-cons (λ (i : Item). i.weight) x xs, weight_sum-times g xs) (omega arith)
+    rw (
+      sum_by-cons (λ (i : Item). i.weight) (times g x) (map (times g) xs),
+      sum_by-cons (λ (i : Item). i.weight) x xs,
+      weight_sum-times g xs,
+    ) (omega arith)
 
 weight_of_one : (b : Bool) (w g : ℕ) → cond b (w * g) 0 ≡ cond b w 0 * g
 weight_of_one true w g = refl
@@ -49,7 +53,12 @@ pub weight_at-times : (g : ℕ) (xs : List Item) (y : ℕ) → weight_at (map (t
 weight_at-times g [] y = omega arith
 weight_at-times g (x ∷ xs) y =
     let f : Item → ℕ = λ i. cond (i.amount == y) i.weight 0 in
-    rw (sum_by-cons f (times g x) (map (times g) xs), sum_by-cons f x xs, weight_at-times g xs y, weight_of_one (x.amount == y) x.weight g) (omega arith)
+    rw (
+      sum_by-cons f (times g x) (map (times g) xs),
+      sum_by-cons f x xs,
+      weight_at-times g xs y,
+      weight_of_one (x.amount == y) x.weight g,
+    ) (omega arith)
 
 -- the divisor of d and the weights
 abbrev pub common_from : ℕ → List Item → ℕ
@@ -73,10 +82,12 @@ common-divides d (x ∷ xs) =
 
 pub common_pos : (xs : List Item) → 0 < length xs → All (λ (i : Item). 0 < i.weight) xs → 0 < common_weight xs
 common_pos [] some positive = absurd (omega (arith, some))
-common_pos (x ∷ xs) some positive = pos_of_dvd_of_pos (common-divides 0 (x ∷ xs) 0 x (omega arith)) (positive 0 x (omega arith))
+common_pos (x ∷ xs) some positive = pos_of_dvd_of_pos (common-divides 0 (x ∷ xs) 0 x (omega arith))
+    (positive 0 x (omega arith))
 
 -- a common divisor taken out and put back changes nothing
-pub times-divided : (g : ℕ) (xs : List Item) → All (λ (i : Item). g ∣ i.weight) xs → map (times g) (map (divided_by g) xs) ≡ xs
+pub times-divided : (g : ℕ) (xs : List Item) → All (λ (i : Item). g ∣ i.weight) xs
+    → map (times g) (map (divided_by g) xs) ≡ xs
 times-divided g [] d = refl
 times-divided g (x ∷ xs) d =
     ap₂ (λ (w : ℕ) (ys : List Item). record { amount = x.amount; weight = w } ∷ ys)
@@ -85,9 +96,14 @@ times-divided g (x ∷ xs) d =
 
 pub weight_sum_pos : (xs : List Item) → 0 < length xs → All (λ (i : Item). 0 < i.weight) xs → 0 < weight_sum xs
 weight_sum_pos [] some positive = absurd (omega (arith, some))
-weight_sum_pos (x ∷ xs) some positive = omega (arith, sum_by-cons (λ (i : Item). i.weight) x xs, positive 0 x (omega arith))
+weight_sum_pos (x ∷ xs) some positive = omega (
+  arith,
+  sum_by-cons (λ (i : Item). i.weight) x xs,
+  positive 0 x (omega arith),
+)
 
-divided_pos : (g : ℕ) (xs : List Item) → All (λ (i : Item). g ∣ i.weight) xs → All (λ (i : Item). 0 < i.weight) xs → All (λ (i : Item). 0 < i.weight) (map (divided_by g) xs)
+divided_pos : (g : ℕ) (xs : List Item) → All (λ (i : Item). g ∣ i.weight) xs → All (λ (i : Item). 0 < i.weight) xs
+    → All (λ (i : Item). 0 < i.weight) (map (divided_by g) xs)
 divided_pos g [] d positive = All-nil (λ (i : Item). 0 < i.weight)
 divided_pos g (x ∷ xs) d positive =
     let back : x.weight / g * g ≡ x.weight = div-mul_cancel g (d 0 x (omega arith)) in
@@ -96,7 +112,8 @@ divided_pos g (x ∷ xs) d positive =
       | inr h ↦ absurd (omega (arith, positive 0 x (omega arith), back, ap (λ q. q * g) (le_zero h)))
     ] in
     All-cons (λ (i : Item). 0 < i.weight) (divided_by g x) (map (divided_by g) xs) one
-    (divided_pos g xs (All-tail (λ (i : Item). g ∣ i.weight) x xs d) (All-tail (λ (i : Item). 0 < i.weight) x xs positive))
+    (divided_pos g xs (All-tail (λ (i : Item). g ∣ i.weight) x xs d)
+    (All-tail (λ (i : Item). 0 < i.weight) x xs positive))
 
 module _ (xs : List Item) (some : 0 < length xs) (positive : All (λ (i : Item). 0 < i.weight) xs) where
   abbrev g : ℕ
@@ -120,7 +137,8 @@ module _ (xs : List Item) (some : 0 < length xs) (positive : All (λ (i : Item).
   lowest : common_weight ys ≡ 1
   lowest =
       let e : common_weight ys * g ≡ 1 * g =
-      sym (common-times g 0 ys g_pos) ∙ ap (λ d. common_from d (map (times g) ys)) (nought_times g) ∙ ap common_weight back ∙ one_times g in
+      sym (common-times g 0 ys g_pos) ∙ ap (λ d. common_from d (map (times g) ys)) (nought_times g)
+      ∙ ap common_weight back ∙ one_times g in
       cancel (common_weight ys) 1 g g_pos e
 
   -- the greatest common divisor taken out
@@ -136,12 +154,14 @@ module _ (xs : List Item) (some : 0 < length xs) (positive : All (λ (i : Item).
 
   pub divided_means : (y : ℕ) → weight_at ys y over (weight_sum xs / g) ≡ weight_at xs y over weight_sum xs
   divided_means y =
-      let at_back : weight_at ys y * g ≡ weight_at xs y = sym (weight_at-times g ys y) ∙ ap (λ zs. weight_at zs y) back in
+      let at_back : weight_at ys y * g ≡ weight_at xs y = sym (weight_at-times g ys y)
+      ∙ ap (λ zs. weight_at zs y) back in
       let total : 0 < weight_sum xs = weight_sum_pos xs some positive in
       let part : 0 < weight_sum ys = pos_of_mul (weight_sum ys) g (subst (λ n. 0 < n) (sym sum_back) total) in
       ap (λ n. weight_at ys y over n) total_is
       ∙ over_same (weight_at ys y) (weight_sum ys) (weight_at xs y) (weight_sum xs) part total
-      (ap (λ n. weight_at ys y * n) (sym sum_back) ∙ swap_in (weight_at ys y) (weight_sum ys) g ∙ ap (λ n. n * weight_sum ys) at_back)
+      (ap (λ n. weight_at ys y * n) (sym sum_back) ∙ swap_in (weight_at ys y) (weight_sum ys) g
+      ∙ ap (λ n. n * weight_sum ys) at_back)
 
 -- one amount alone
 pub one_item : (items : List Item) (item : Item) → items ≡ [] → item.weight ≡ 1 → IsWeighted (items ++ item ∷ []) 1
@@ -157,16 +177,23 @@ one_item items item none weight = rw none (record {
 
 -- ---- the greatest amount
 
-greatest_front : (items : List Item) (i : ℕ) (d : Item) → i < length items → greatest (take (suc i) items) ≡ max (get_or items i d).amount (greatest (take i items))
+greatest_front : (items : List Item) (i : ℕ) (d : Item) → i < length items
+    → greatest (take (suc i) items) ≡ max (get_or items i d).amount (greatest (take i items))
 greatest_front [] i d inside = absurd (omega arith)
 greatest_front (item ∷ items) zero d inside = refl
 greatest_front (item ∷ items) (suc i) d inside = omega (arith, greatest_front items i d (omega arith))
 
 -- the greatest amount so far, and the next
-pub greatest_more : (items : List Item) (i : ℕ) (d : Item) → i < length items → greatest (take (i + 1) items) ≡ max (get_or items i d).amount (greatest (take i items))
+pub greatest_more : (items : List Item) (i : ℕ) (d : Item) → i < length items
+    → greatest (take (i + 1) items) ≡ max (get_or items i d).amount (greatest (take i items))
 greatest_more items i d inside = ap (λ k. greatest (take k items)) (add-one i) ∙ greatest_front items i d inside
 
 -- an item is at most a bound that all have
-pub greatest_within : (items : List Item) (most : ℕ) → ((i : ℕ) (d : Item) → i < length items → (get_or items i d).amount ≤ most) → greatest items ≤ most
+pub greatest_within : (items : List Item) (most : ℕ)
+    → ((i : ℕ) (d : Item) → i < length items → (get_or items i d).amount ≤ most) → greatest items ≤ most
 greatest_within [] most each = omega arith
-greatest_within (item ∷ items) most each = omega (arith, each 0 item (omega arith), greatest_within items most (λ i d h. each (suc i) d (omega arith)))
+greatest_within (item ∷ items) most each = omega (
+  arith,
+  each 0 item (omega arith),
+  greatest_within items most (λ i d h. each (suc i) d (omega arith)),
+)

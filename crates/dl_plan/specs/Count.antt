@@ -1,6 +1,6 @@
 -- Claim counts.
 use Rattle.std.specs.Prelude.{◌≤◌, ⊤, All}
-use Rattle.dl_limits.specs.Limits.{most_claims, most_shape}
+use Rattle.dl_limits.specs.Limits.{most_claims, most_count, most_shape}
 use Rattle.dl_exact.specs.Fraction.{Fraction, whole, ◌over◌, ◌*ℚ◌, ◌≤ℚ◌}
 use Rattle.dl_plan.specs.declared.plan.Freq.{Freq}
 use Rattle.dl_plan.specs.declared.plan.Freq.TheVariants.{Fixed, Table, Bernoulli, Binomial, Poisson, Gamma}
@@ -30,11 +30,13 @@ pub record IsProbability (q : Fraction) : Type 0 where
   pub within : q ≤ℚ whole 1
   pub admitted : IsAdmitted q
 
--- a listed count is made like a severity, with numbers of at most 256; fixed counts and trials are at most 65,536; a shape is from 1 to 10,000
-abbrev pub IsCount : Freq → Type 0
-IsCount (Fixed m) = m ≤ most_claims
-IsCount (Table counts total) = IsWeighted counts total × All (λ item. item.amount ≤ 256) counts
-IsCount (Bernoulli q) = IsProbability q
-IsCount (Binomial trials q) = (trials ≤ most_claims) × IsProbability q
-IsCount (Poisson mean) = ⊤
-IsCount (Gamma shape mean) = (1 ≤ shape) × (shape ≤ most_shape)
+-- a listed count is made like a severity, with numbers of at most 256; fixed counts and trials are
+-- at most 65,536; a shape is from 1 to 10,000
+abbrev pub IsClaimCount : Freq → Type 0
+IsClaimCount (Fixed m) = m ≤ most_claims
+IsClaimCount (Table counts total) = IsWeighted counts total
+    × All (λ item. item.amount ≤ most_count) counts
+IsClaimCount (Bernoulli q) = IsProbability q
+IsClaimCount (Binomial trials q) = (trials ≤ most_claims) × IsProbability q
+IsClaimCount (Poisson mean) = ⊤
+IsClaimCount (Gamma shape mean) = (1 ≤ shape) × (shape ≤ most_shape)

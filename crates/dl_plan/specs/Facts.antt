@@ -1,5 +1,5 @@
--- What there is to know of an ask before it is answered: a row for each, from which follow whether it
--- fits a grid and a plan, and how wide its answer may be.
+-- What there is to know of an ask before it is answered: a row for each, from which follow whether
+-- it fits a grid and a plan, and how wide its answer may be.
 use Rattle.std.specs.Prelude.{ℕ, ◌+◌, Option, Some, None, List}
 use Rattle.dl_exact.specs.Fraction.{Fraction}
 use Rattle.dl_plan.specs.declared.settings.Ask.{Ask}
@@ -7,8 +7,8 @@ use Rattle.dl_plan.specs.declared.settings.Ask.TheVariants.{Pmf, Cdf, Mean, Quan
 use Rattle.dl_plan.specs.declared.settings.Settings.{Settings}
 use Rattle.dl_plan.specs.Horizon.{edge_of}
 
--- the fewest cells of a grid that the ask lies inside, 0 where any will do; the unit that it names; the
--- probability that it is for; and the most that the settings let its ends lie apart
+-- the fewest cells of a grid that the ask lies inside, 0 where any will do; the unit that it names;
+-- the probability that it is for; and the most that the settings let its ends lie apart
 pub record AskFacts : Type 0 where
   pub reach : ℕ
   pub unit : Option (List ℕ)

@@ -1,5 +1,5 @@
 -- Lists of fractions with a common denominator, and fractions of small parts.
-use Rattle.std.specs.Prelude.{ℕ, ◌≡◌, ◌<◌, ◌≤◌, ◌^◌, List, fold}
+use Rattle.std.specs.Prelude.{ℕ, ◌≡◌, ◌*◌, ◌/◌, ◌<◌, ◌≤◌, List, fold}
 use Rattle.dl_limits.specs.Limits.{admitted_bound, most_parts}
 use Rattle.dl_exact.specs.Fraction.{Fraction}
 use Rattle.dl_exact.specs.Multiples.{lcm}
@@ -8,11 +8,15 @@ use Rattle.dl_exact.specs.Multiples.{lcm}
 abbrev pub common_denominator : List Fraction → ℕ
 common_denominator xs = fold (λ m x. lcm m x.den) 1 xs
 
--- it is at most 2^30
+-- fine: their common denominator is at most 2^30
 abbrev pub IsFine : List Fraction → Type 0
 IsFine xs = common_denominator xs ≤ most_parts
 
--- both parts are below 2^48
+-- x as a number of parts of which c make 1: its numerator over c, a multiple of its denominator
+abbrev pub numerator_over : (c : ℕ) → Fraction → ℕ
+numerator_over c x = x.num * (c / x.den)
+
+-- admitted: both parts are below 2^48
 pub record IsAdmitted (x : Fraction) : Type 0 where
   pub num : x.num < admitted_bound
   pub den : x.den < admitted_bound

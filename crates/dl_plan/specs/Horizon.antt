@@ -4,7 +4,7 @@ use Rattle.std.specs.Int.{div_ceil}
 use Rattle.dl_limits.specs.Limits.{most_cells}
 use Rattle.dl_exact.specs.Fraction.{whole, ◌≤ℚ◌}
 use Rattle.dl_plan.specs.declared.cede.CedeLayer.{CedeLayer}
-use Rattle.dl_plan.specs.Cession.{Clause, kept}
+use Rattle.dl_plan.specs.Clause.{Clause, kept}
 use Rattle.dl_plan.specs.Parts.{kept_parts, parts_in_bucket}
 
 -- where a layer from a ends; where it has no top, where it begins
@@ -21,7 +21,8 @@ last_edge layers = fold (λ m l. max m (edge l)) 1 layers
 
 -- at s the map has reached h, or it is constant from there on
 abbrev pub IsSettled : Clause → ℕ → ℕ → Type 0
-IsSettled clause h s = (whole h ≤ℚ kept clause s) ⊎ ((r : ℕ) → s ≤ r → kept clause r ≡ kept clause s)
+IsSettled clause h s = (whole h ≤ℚ kept clause s)
+    ⊎ ((r : ℕ) → s ≤ r → kept clause r ≡ kept clause s)
 
 -- the least number at which the map is settled
 pub record IsReach (clause : Clause) (h : ℕ) (s : ℕ) : Type 0 where
@@ -37,13 +38,13 @@ abbrev pub IsHorizonOf : Option Clause → ℕ → ℕ → Type 0
 IsHorizonOf None h k = k ≡ h
 IsHorizonOf (Some clause) h k = IsHorizon clause h k
 
--- after how many buckets a map that lacks so many parts has them, where it rises by the same in each: 0
--- where it does not rise
+-- after how many buckets a map that lacks so many parts has them, where it rises by the same in
+-- each: 0 where it does not rise
 abbrev pub buckets_behind : (missing rise : ℕ) → ℕ
 buckets_behind missing rise = if rise == 0 then 0 else div_ceil missing rise
 
--- That horizon as a number. Past the last edge what a clause keeps rises by the same in each bucket, so one
--- division tells from there when it has reached h.
+-- That horizon as a number. Past the last edge what a clause keeps rises by the same in each
+-- bucket, so one division tells from there when it has reached h.
 unfoldable pub horizon : Option Clause → ℕ → ℕ
 horizon None h = h
 horizon (Some clause) h =

@@ -1,7 +1,7 @@
 pub mod Fine
 pub mod Weighted
 pub mod Severity
-pub mod Cession
+pub mod Clause
 pub mod Horizon
 pub mod Parts
 pub mod Count
@@ -9,3 +9,4 @@ pub mod Valid
 pub mod Facts
 pub mod Ranges
 pub mod MeanWidth
+pub mod Plain

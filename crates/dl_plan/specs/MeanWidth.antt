@@ -1,8 +1,7 @@
--- How wide the mean of a unit may be, after its aggregate clause, from the spread of the grid of its
--- claims, in the units of both.
+-- How wide the mean of a unit may be, after its aggregate clause, from the spread of the grid of
+-- its claims, in the units of both.
 use Rattle.std.specs.Prelude.{ℕ, ◌+◌, ◌*◌, Option, Some, None, sum_by}
-use Rattle.dl_plan.specs.declared.cede.CedeLayer.{CedeLayer}
-use Rattle.dl_plan.specs.Cession.{Clause}
+use Rattle.dl_plan.specs.Clause.{Clause}
 
 -- what a layer adds: its limit times the spread and 3, or without a limit its attachment times the
 -- spread and 4

@@ -1,6 +1,6 @@
 -- The ranges of the settings, as the command line gives them.
-use Rattle.std.specs.Prelude.{ℕ, ◌^◌, ◌<◌, ◌≤◌, IfSome, length, All}
-use Rattle.dl_limits.specs.Limits.{most_log2}
+use Rattle.std.specs.Prelude.{◌^◌, ◌<◌, ◌≤◌, IfSome, length, All}
+use Rattle.dl_limits.specs.Limits.{most_asks, most_digits, most_log2}
 use Rattle.dl_exact.specs.Fraction.{Fraction, whole, ◌<ℚ◌}
 use Rattle.dl_plan.specs.declared.settings.Ask.{Ask}
 use Rattle.dl_plan.specs.declared.settings.Settings.{Settings}
@@ -22,14 +22,15 @@ pub record IsLevel (p : Fraction) : Type 0 where
 abbrev pub HasLevel : Ask → Type 0
 HasLevel ask = IfSome (facts_of ask).level IsLevel
 
--- a bucket size; from 2 to 4,096 cells; from 1 to 9 digits; widths of at least 1; and at most 256 asks
+-- a bucket size; from 2 to 4,096 cells; from 1 to 9 digits; widths of at least 1; and at most 256
+-- asks
 pub record AreInRange (settings : Settings) : Type 0 where
   pub bucket : IsBucket settings.bs
   pub some_cells : 1 ≤ settings.log2
   pub few_cells : settings.log2 ≤ most_log2
   pub some_digits : 1 ≤ settings.digits
-  pub few_digits : settings.digits ≤ 9
+  pub few_digits : settings.digits ≤ most_digits
   pub width : 1 ≤ settings.width
   pub mwidth : 1 ≤ settings.mwidth
   pub levels : All (λ asked. HasLevel asked.ask) settings.asks
-  pub few_asks : length settings.asks ≤ 256
+  pub few_asks : length settings.asks ≤ most_asks

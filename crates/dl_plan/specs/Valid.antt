@@ -1,6 +1,6 @@
 -- What a valid plan is.
 use Rattle.std.specs.Prelude.{ℕ, ◌≡◌, ◌≢◌, ◌*◌, ◌≤◌, ◌^◌, IfSome, length, All, AllPairs}
-use Rattle.dl_limits.specs.Limits.{most_amount, most_cells, most_expected, most_items, most_log2}
+use Rattle.dl_limits.specs.Limits.{most_amount, most_cells, most_expected, most_items, most_log2, most_units}
 use Rattle.dl_exact.specs.Fraction.{Fraction, whole, ◌-ℚ◌, ◌*ℚ◌, ◌≤ℚ◌, ◌<ℚ◌}
 use Rattle.dl_plan.specs.declared.cede.CedeLayer.{CedeLayer}
 use Rattle.dl_plan.specs.declared.severity.Sev.{Sev}
@@ -8,24 +8,30 @@ use Rattle.dl_plan.specs.declared.plan.Unit.{Unit as UnitOfPlan}
 use Rattle.dl_plan.specs.declared.plan.Plan.{Plan}
 use Rattle.dl_plan.specs.Fine.{IsAdmitted, IsWhole}
 use Rattle.dl_plan.specs.Weighted.{common_amount}
-use Rattle.dl_plan.specs.Severity.{probability_of}
-use Rattle.dl_plan.specs.Cession.{Clause, kept, IsCession}
+use Rattle.dl_plan.specs.Severity.{mean_amount, pairs_of, probability_of}
+use Rattle.dl_plan.specs.Clause.{Clause, kept, IsClause}
 use Rattle.dl_plan.specs.Horizon.{IsHorizon}
-use Rattle.dl_plan.specs.Count.{expected_count, IsUnbounded, IsCount}
+use Rattle.dl_plan.specs.Count.{expected_count, IsUnbounded, IsClaimCount}
 
--- the expected number of claims above 0: the expected count times the probability of a positive amount
+-- the mean of the sum of a unit's claims, in buckets: the expected count times the mean amount
+abbrev pub declared_mean : UnitOfPlan → Fraction
+declared_mean u = expected_count u.freq *ℚ mean_amount (pairs_of u.sev)
+
+-- the expected number of claims above 0: the expected count times the probability of a positive
+-- amount
 abbrev pub thinned_mean : UnitOfPlan → Fraction
 thinned_mean u = expected_count u.freq *ℚ (whole 1 -ℚ probability_of u.sev 0)
 
 -- limit and attachment are at most 2^20 buckets
-pub record IsNear (l : CedeLayer) : Type 0 where
+pub record IsWithinMostAmount (l : CedeLayer) : Type 0 where
   pub limit : IfSome l.limit (λ limit. limit ≤ most_amount)
   pub attach : l.attach ≤ most_amount
 
--- an aggregate clause over sums of this severity: it maps each multiple of the greatest common divisor of the amounts to a whole number, and its horizon is at most 16,384
+-- an aggregate clause over sums of this severity: it maps each multiple of the greatest common
+-- divisor of the amounts to a whole number, and its horizon is at most 16,384
 pub record IsAggregate (cells : ℕ) (sev : Sev) (clause : Clause) : Type 0 where
-  pub cession : IsCession clause
-  pub near : All IsNear clause.1
+  pub accepted : IsClause clause
+  pub near : All IsWithinMostAmount clause.1
   pub whole : (n : ℕ) → IsWhole (kept clause (n * common_amount sev.items))
   pub horizon : (k : ℕ) × IsHorizon clause cells k × (k ≤ most_cells)
 
@@ -33,16 +39,18 @@ pub record IsAggregate (cells : ℕ) (sev : Sev) (clause : Clause) : Type 0 wher
 pub record IsValidUnit (cells : ℕ) (u : UnitOfPlan) : Type 0 where
   pub amounts : All (λ item. item.amount ≤ most_amount) u.sev.items
   pub items : ¬ IsUnbounded u.freq → length u.sev.items ≤ most_items
-  pub count : IsCount u.freq
+  pub count : IsClaimCount u.freq
   pub expected : IsAdmitted (expected_count u.freq)
-  pub thinned : IsUnbounded u.freq → IsAdmitted (thinned_mean u) × (thinned_mean u ≤ℚ whole most_expected)
+  pub thinned : IsUnbounded u.freq → IsAdmitted (thinned_mean u)
+      × (thinned_mean u ≤ℚ whole most_expected)
   pub clause : IfSome u.cede (IsAggregate cells u.sev)
 
--- a bucket size above 0, a power of two from 2 to 4,096 cells, and 1 to 16 valid units with different names
+-- a bucket size above 0, a power of two from 2 to 4,096 cells, and 1 to 16 valid units with
+-- different names
 pub record IsValid (plan : Plan) : Type 0 where
   pub bucket : whole 0 <ℚ plan.bs
   pub cells : (k : ℕ) × (1 ≤ k) × (k ≤ most_log2) × (plan.cells ≡ 2 ^ k)
   pub some : 1 ≤ length plan.units
-  pub few : length plan.units ≤ 16
+  pub few : length plan.units ≤ most_units
   pub names : AllPairs (λ u v. u.name ≢ v.name) plan.units
   pub units : All (IsValidUnit plan.cells) plan.units

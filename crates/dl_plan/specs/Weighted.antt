@@ -1,5 +1,5 @@
 -- Amounts in buckets, or numbers of claims, with whole weights.
-use Rattle.std.specs.Prelude.{ℕ, ◌≡◌, ◌*◌, ◌/◌, ◌<◌, ◌≤◌, ◌^◌, ◌==◌, if◌then◌else◌, List, length, map, fold, sum_by, All, [], ◌∷◌, max}
+use Rattle.std.specs.Prelude.{ℕ, ◌≡◌, ◌*◌, ◌/◌, ◌<◌, ◌≤◌, ◌==◌, if◌then◌else◌, List, length, map, fold, sum_by, All, [], ◌∷◌, max}
 use Rattle.std.specs.List.Sorted.{IsStrictlyIncreasing}
 use Rattle.dl_limits.specs.Limits.{most_parts}
 use Rattle.dl_exact.specs.Gcd.{gcd}
@@ -31,7 +31,8 @@ divided_by d item = record { amount = item.amount; weight = item.weight / d }
 abbrev pub common_amount : List Item → ℕ
 common_amount items = fold (λ d item. gcd d item.amount) 0 items
 
--- at least one item, amounts rising, and weights above 0 that sum to the total, at most 2^30, and have no common divisor above 1
+-- at least one item, amounts rising, and weights above 0 that sum to the total, at most 2^30, and
+-- have no common divisor above 1
 pub record IsWeighted (items : List Item) (total : ℕ) : Type 0 where
   pub some : 0 < length items
   pub rising : IsStrictlyIncreasing (amounts_of items)

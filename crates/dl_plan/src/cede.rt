@@ -1,17 +1,18 @@
 //! Reinsurance clauses: a side, and layers with shares.
 
 ghost use Rattle.std.specs.Prelude.{◌≡◌, ◌<◌, ◌≤◌, ◌^◌, ◌*◌, ◌↔◌, IsTrue, Bool, List, None, All, AllPairs, length, sum_by, IfOk, OnOk, IfSome, MatchOption};
-ghost use Rattle.dl_limits.specs.Limits.{most_parts, sum_bound};
+ghost use Rattle.dl_limits.specs.Limits.{most_layers, most_parts, sum_bound};
 ghost use Rattle.dl_exact.specs.Fraction.{whole, ◌≤ℚ◌};
 ghost use Rattle.dl_plan.specs.declared.cede.CedeLayer.{CedeLayer};
 ghost use Rattle.dl_plan.specs.Fine.{IsFine, IsWhole, common_denominator};
-ghost use Rattle.dl_plan.specs.Cession.{layer, kept, layer_shares, IsBelowTop, Overlap, IsCession};
+ghost use Rattle.dl_plan.specs.Clause.{layer, kept, layer_shares, IsBelowTop, Overlap, IsClause};
 ghost use Rattle.dl_plan.specs.Horizon.{edge, edge_of, last_edge, IsHorizon};
-ghost use Rattle.dl_plan.specs.Parts.{part_of, kept_parts, parts_in_bucket};
+ghost use Rattle.dl_plan.specs.Parts.{layer_parts, kept_parts, parts_in_bucket};
 
-use crate::cession::{are_apart, shares_within};
-use crate::fine::common_denominator_of;
+use crate::fine::{common_denominator_of, numerator_over};
+use crate::layers::{are_apart, shares_within};
 use dl_frac::Frac;
+use dl_limits::MOST_LAYERS;
 use smallvec::SmallVec;
 use std::alloc::{AllocError, Global};
 use std::marker::Model;
@@ -35,7 +36,7 @@ impl Default for CedeLayer {
         ensures attach { result.attach ≡ 0 }
     {
         CedeLayer {
-            share: Frac::make(1, 1).unwrap(),
+            share: Frac::whole(1),
             limit: None,
             attach: 0,
         }
@@ -53,8 +54,8 @@ pub fn in_layer(x: u64, limit: Option<u32>, attach: u32) -> u64
     }
 }
 
-/// Where what lies above an attachment and within a limit ends, in buckets; without a limit, where it
-/// begins.
+/// Where what lies above an attachment and within a limit ends, in buckets; without a limit, where
+/// it begins.
 pub(crate) fn end_of(limit: Option<u32>, attach: u32) -> u64
     ensures value { result ≡ edge_of limit attach }
     ensures small { result < 2 ^ 33 }
@@ -108,16 +109,14 @@ pub struct Cede {
 
 impl Model for Cede {
     ghost use Rattle.std.specs.Prelude.{Bool, List};
-    ghost use Rattle.std.specs.Option.{SomeIff};
     ghost use Rattle.dl_plan.specs.declared.cede.CedeLayer.{CedeLayer};
-    ghost use Rattle.dl_plan.specs.Fine.{IsFine, common_denominator};
-    ghost use Rattle.dl_plan.specs.Cession.{layer_shares};
+    ghost use Rattle.dl_plan.specs.Clause.{IsCommonShare};
 
     ghost Value = { Bool × List CedeLayer };
 
     ghost view = { λ clause. (clause.net, clause.layers.items) };
 
-    ghost invariant = { λ clause. SomeIff clause.common (IsFine (layer_shares clause.layers.items)) (common_denominator (layer_shares clause.layers.items)) };
+    ghost invariant = { λ clause. IsCommonShare clause.layers.items clause.common };
 }
 
 impl Cede {
@@ -158,13 +157,13 @@ impl Cede {
         self.layers.as_slice()
     }
 
-    /// Whether `at` can be asked: there are 1 to 16 layers that do not overlap, with shares of at most 1
-    /// that have a common denominator of at most 2^30.
-    pub fn is_cession(&self) -> bool
-        ensures { IsTrue result ↔ IsCession self.now }
+    /// Whether `at` can be asked: there are 1 to 16 layers that do not overlap, with shares of at
+    /// most 1 that have a common denominator of at most 2^30.
+    pub fn is_clause(&self) -> bool
+        ensures { IsTrue result ↔ IsClause self.now }
     {
         let layers = self.layers();
-        if layers.is_empty() || layers.len() > 16 || self.common.is_none() {
+        if layers.is_empty() || layers.len() > MOST_LAYERS || self.common.is_none() {
             return false;
         }
         shares_within(layers) && are_apart(layers)
@@ -173,8 +172,9 @@ impl Cede {
     /// What the clause keeps of an amount of `x` buckets; `None` exactly where that is not whole.
     pub fn at(&self, x: u64) -> Option<u64>
         requires amount { x < sum_bound }
-        requires cession { IsCession self.now }
-        ensures value { MatchOption result (¬ IsWhole (kept self.now x)) (λ y. kept self.now x ≡ whole y) }
+        requires clause { IsClause self.now }
+        ensures value { MatchOption result (¬ IsWhole (kept self.now x))
+            (λ y. kept self.now x ≡ whole y) }
         ensures within { IfSome result (λ y. y ≤ x) }
     {
         let common = self.common() as u128;
@@ -186,10 +186,10 @@ impl Cede {
         }
     }
 
-    /// The horizon on so many cells: the greatest of 1, each edge, and the least amount at which what is
-    /// kept has reached the cells, or is constant from there on.
+    /// The horizon on so many cells: the greatest of 1, each edge, and the least amount at which
+    /// what is kept has reached the cells, or is constant from there on.
     pub fn horizon(&self, cells: u32) -> u128
-        requires { IsCession self.now }
+        requires { IsClause self.now }
         ensures { IsHorizon self.now cells result }
     {
         let edge = last_edge(self.layers());
@@ -204,9 +204,9 @@ impl Cede {
     }
 
     /// How many parts make a bucket: the common denominator of the shares.
-    #[tactic(auto, using(crate::proofs::Cessions::bucket_pos))]
+    #[tactic(auto, using(crate::proofs::Clauses::bucket_pos))]
     fn common(&self) -> u32
-        requires { IsCession self.now }
+        requires { IsClause self.now }
         ensures value { result ≡ parts_in_bucket self.now }
         ensures positive { 0 < result }
         ensures small { result ≤ most_parts }
@@ -217,7 +217,7 @@ impl Cede {
     /// What the clause keeps of an amount of `x` buckets, in parts.
     fn parts(&self, x: u64) -> u128
         requires amount { x < sum_bound }
-        requires cession { IsCession self.now }
+        requires clause { IsClause self.now }
         ensures value { result ≡ kept_parts self.now (parts_in_bucket self.now) x }
         ensures within { result ≤ x * parts_in_bucket self.now }
     {
@@ -257,17 +257,16 @@ fn shares_of(alloc: Global, layers: &[CedeLayer]) -> Result<Vec<Frac>, AllocErro
 
 /// What is ceded of `x`, in parts of which `common` make a bucket.
 fn ceded_parts(layers: &[CedeLayer], common: u32, x: u64) -> u128
-    requires few { length layers.now ≤ 16 }
+    requires few { length layers.now ≤ most_layers }
     requires within { All (λ l. l.share ≤ℚ whole 1) layers.now }
     requires fine { common ≤ most_parts }
     requires amount { x < sum_bound }
-    ensures value { result ≡ sum_by (part_of common x) layers.now }
+    ensures value { result ≡ sum_by (layer_parts common x) layers.now }
     ensures small { result ≤ length layers.now * (common * sum_bound) }
 {
     let mut parts = 0;
     'layers: for layer in layers {
-        let scaled = layer.share.num() * (common as u64 / layer.share.den());
-        parts += scaled as u128 * layer.taken(x) as u128;
+        parts += numerator_over(layer.share, common as u64) * layer.taken(x) as u128;
     }
     parts
 }

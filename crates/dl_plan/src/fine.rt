@@ -1,7 +1,8 @@
 //! Lists of fractions with a common denominator.
 
 ghost use Rattle.std.specs.Option.{SomeIff};
-ghost use Rattle.dl_plan.specs.Fine.{IsFine, common_denominator};
+ghost use Rattle.std.specs.Prelude.{◌≡◌};
+ghost use Rattle.dl_plan.specs.Fine.{IsFine, common_denominator, numerator_over};
 
 use dl_frac::{Frac, lcm_to};
 use dl_limits::MOST_PARTS;
@@ -18,4 +19,11 @@ pub fn common_denominator_of(fracs: &[Frac]) -> Option<u32>
         }
     }
     Some(common as u32)
+}
+
+/// The numerator of a fraction over `common`, a multiple of its denominator. Takes no memory.
+pub fn numerator_over(x: Frac, common: u64) -> u128
+    ensures { result ≡ numerator_over common x }
+{
+    x.num() as u128 * (common / x.den()) as u128
 }

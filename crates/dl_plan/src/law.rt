@@ -4,34 +4,43 @@ ghost use Rattle.std.specs.Prelude.{ℕ, ◌≡◌, ◌≤◌, ◌^◌, ◌↔�
 ghost use Rattle.dl_limits.specs.Limits.{most_amount};
 ghost use Rattle.dl_plan.specs.declared.plan.Plan.{Plan};
 ghost use Rattle.dl_plan.specs.Fine.{IsAdmitted};
-ghost use Rattle.dl_plan.specs.Cession.{Clause, IsCession};
+ghost use Rattle.dl_plan.specs.Clause.{Clause, IsClause};
 ghost use Rattle.dl_plan.specs.Horizon.{edge, IsSettled, IsHorizon, IsHorizonOf, horizon};
-ghost use Rattle.dl_plan.specs.Count.{expected_count, IsCount, IsUnbounded};
+ghost use Rattle.dl_plan.specs.Count.{expected_count, IsClaimCount, IsUnbounded};
 ghost use Rattle.dl_plan.specs.Valid.{thinned_mean, IsValid};
 ghost use Rattle.dl_frac.specs.Numerals as read;
 ghost use Rattle.dl_lexer.specs.Numerals as token;
 
-/// A text is spelled as a numeral that is read as a fraction exactly where it is spelled as the token.
+/// A text is spelled as a numeral that is read as a fraction exactly where it is spelled as the
+/// token.
 pub fn law_numerals()
-    ensures { (text : List ℕ) → read.IsNumeral text ↔ token.IsNumeral text }
+    ensures { (text : List ℕ) → read.IsNumeral text ↔ token.IsNumeralToken text }
 {}
 
-/// There is one horizon, and `horizon` tells it of every clause that is accepted. It is at least 1 and
-/// at least each edge, and there what a clause keeps has reached the cells, or is constant from there on.
+/// There is one horizon, and `horizon` tells it of every clause that is accepted. It is at least 1
+/// and at least each edge, and there what a clause keeps has reached the cells, or is constant from
+/// there on.
 pub fn law_horizon()
-    ensures one { (clause : Option Clause) (cells j k : ℕ) → IsHorizonOf clause cells j → IsHorizonOf clause cells k → j ≡ k }
-    ensures told { (clause : Option Clause) (cells : ℕ) → IfSome clause IsCession
+    ensures one { (clause : Option Clause) (cells j k : ℕ) → IsHorizonOf clause cells j
+        → IsHorizonOf clause cells k → j ≡ k }
+    ensures told { (clause : Option Clause) (cells : ℕ) → IfSome clause IsClause
         → IsHorizonOf clause cells (horizon clause cells) }
     ensures from_one { (clause : Clause) (cells k : ℕ) → IsHorizon clause cells k → 1 ≤ k }
-    ensures edges { (clause : Clause) (cells k : ℕ) → IsHorizon clause cells k → All (λ l. edge l ≤ k) clause.1 }
-    ensures settled { (clause : Clause) (cells k : ℕ) → IsCession clause → IsHorizon clause cells k → IsSettled clause cells k }
+    ensures edges { (clause : Clause) (cells k : ℕ) → IsHorizon clause cells k
+        → All (λ l. edge l ≤ k) clause.1 }
+    ensures settled { (clause : Clause) (cells k : ℕ) → IsClause clause → IsHorizon clause cells k
+        → IsSettled clause cells k }
 {}
 
-/// The units of a valid plan can be asked for their thinned mean, their mean and their horizon: what
-/// `Unit::thinned` (of Poisson and gamma counts), `Unit::mean_parts` and `Unit::horizon` require holds.
+/// The units of a valid plan can be asked for their thinned mean, their mean and their horizon:
+/// what `Unit::thinned` (of Poisson and gamma counts), `Unit::mean_parts` and `Unit::horizon`
+/// require holds.
 pub fn law_valid_units()
-    ensures counts { (plan : Plan) → IsValid plan → All (λ u. IsCount u.freq × IsAdmitted (expected_count u.freq)) plan.units }
-    ensures amounts { (plan : Plan) → IsValid plan → All (λ u. All (λ item. item.amount ≤ most_amount) u.sev.items) plan.units }
-    ensures thinned { (plan : Plan) → IsValid plan → All (λ u. IsUnbounded u.freq → IsAdmitted (thinned_mean u)) plan.units }
-    ensures clauses { (plan : Plan) → IsValid plan → All (λ u. IfSome u.cede IsCession) plan.units }
+    ensures counts { (plan : Plan) → IsValid plan
+        → All (λ u. IsClaimCount u.freq × IsAdmitted (expected_count u.freq)) plan.units }
+    ensures amounts { (plan : Plan) → IsValid plan
+        → All (λ u. All (λ item. item.amount ≤ most_amount) u.sev.items) plan.units }
+    ensures thinned { (plan : Plan) → IsValid plan
+        → All (λ u. IsUnbounded u.freq → IsAdmitted (thinned_mean u)) plan.units }
+    ensures clauses { (plan : Plan) → IsValid plan → All (λ u. IfSome u.cede IsClause) plan.units }
 {}

@@ -4,10 +4,10 @@
 
 mod asks;
 mod cede;
-mod cession;
 mod fine;
 mod item;
 mod law;
+mod layers;
 mod lowest;
 mod many;
 mod plan;
@@ -19,7 +19,7 @@ mod totals;
 mod unit;
 
 pub use cede::{Cede, CedeLayer, in_layer};
-pub use fine::common_denominator_of;
+pub use fine::{common_denominator_of, numerator_over};
 pub use item::Item;
 pub use law::{law_horizon, law_numerals, law_valid_units};
 pub use many::Many;

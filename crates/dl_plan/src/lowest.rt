@@ -15,14 +15,15 @@ use dl_frac::small_divisor;
 use std::alloc::{AllocError, Global};
 
 impl Sev {
-    /// The severity of rising amounts with weights above 0: their greatest common divisor is taken out.
-    /// Takes no memory.
+    /// The severity of rising amounts with weights above 0: their greatest common divisor is taken
+    /// out. Takes no memory.
     pub fn from_rising(items: Vec<Item>) -> Sev
         requires some { 0 < length items.items }
         requires rising { IsStrictlyIncreasing (amounts_of items.items) }
         requires positive { All (λ item. 0 < item.weight) items.items }
         requires within { weight_sum items.items ≤ most_parts }
-        ensures { (x : ℕ) → probability_of result x ≡ weight_at items.items x over weight_sum items.items }
+        ensures { (x : ℕ) → probability_of result x
+            ≡ weight_at items.items x over weight_sum items.items }
     {
         let common = divisor_of_weights(&items);
         let total = total_weight(&items) / common;
@@ -34,7 +35,9 @@ impl Sev {
 
     /// The severity conditioned on amounts above `attach`; `None` exactly where there is none.
     pub fn exceeding(&self, alloc: Global, attach: u32) -> Result<Option<Sev>, AllocError>
-        ensures { IfOk result (λ made. MatchOption made (All (λ item. item.amount ≤ attach) self.now.items) (λ sev. Means sev (conditioned attach (pairs_of self.now)))) }
+        ensures { IfOk result (λ made. MatchOption made
+            (All (λ item. item.amount ≤ attach) self.now.items)
+            (λ sev. Means sev (conditioned attach (pairs_of self.now)))) }
     {
         let kept = items_above(alloc, self.items.as_slice(), attach)?;
         if kept.is_empty() {
@@ -45,7 +48,9 @@ impl Sev {
 
     /// The severity conditioned on amounts above 0; `None` exactly where there is none.
     pub fn positive(&self, alloc: Global) -> Result<Option<Sev>, AllocError>
-        ensures { IfOk result (λ made. MatchOption made (All (λ item. item.amount ≤ 0) self.now.items) (λ sev. Means sev (conditioned 0 (pairs_of self.now)))) }
+        ensures { IfOk result (λ made. MatchOption made
+            (All (λ item. item.amount ≤ 0) self.now.items)
+            (λ sev. Means sev (conditioned 0 (pairs_of self.now)))) }
     {
         self.exceeding(alloc, 0)
     }
@@ -53,7 +58,8 @@ impl Sev {
 
 /// The items above an amount.
 fn items_above(alloc: Global, items: &[Item], attach: u32) -> Result<Vec<Item>, AllocError>
-    ensures { IfOk result (λ kept. kept.items ≡ filter (λ item. nat_lt attach item.amount) items.now) }
+    ensures { IfOk result (λ kept. kept.items
+        ≡ filter (λ item. nat_lt attach item.amount) items.now) }
 {
     let mut kept = Vec::new(alloc);
     'items: for &item in items {

@@ -32,4 +32,11 @@ impl<T> Many<T> {
     {
         &self.parts
     }
+
+    /// The parts as a vector; takes no memory.
+    pub fn into_vec(self) -> Vec<T>
+        ensures { result.items ≡ self }
+    {
+        self.parts
+    }
 }

@@ -39,7 +39,7 @@ fn push_layer(layers: &mut Vec<CedeLayer>, layer: Layer) -> Result<(), AllocErro
 
 /// What the clause keeps of `x`; none also where it is no clause.
 fn kept(cede: &Cede, x: u64) -> Option<u64> {
-    if x < 1 << 40 && cede.is_cession() {
+    if x < 1 << 40 && cede.is_clause() {
         cede.at(x)
     } else {
         None
@@ -66,7 +66,7 @@ fn unit_under(alloc: Global, cede: Option<Cede>) -> Result<Unit, AllocError> {
 /// The unit's horizon; none also where its clause is none.
 fn horizon_of(unit: &Unit, cells: u32) -> Option<u32> {
     if let Some(cede) = &unit.cede {
-        if !cede.is_cession() {
+        if !cede.is_clause() {
             return None;
         }
     }

@@ -3,17 +3,18 @@
 ghost use Rattle.std.specs.Prelude.{◌≡◌, ◌<◌, ◌≤◌, ◌^◌, All, length, IfSome, MatchOption};
 ghost use Rattle.std.specs.List.Sorted.{IsStrictlyIncreasing};
 ghost use Rattle.dl_limits.specs.Limits.{most_amount, most_cells};
-ghost use Rattle.dl_exact.specs.Fraction.{◌over◌, ◌*ℚ◌};
+ghost use Rattle.dl_exact.specs.Fraction.{whole, ◌over◌, ◌-ℚ◌, ◌*ℚ◌};
 ghost use Rattle.dl_plan.specs.Fine.{IsAdmitted};
 ghost use Rattle.dl_plan.specs.Weighted.{amounts_of, weight_at};
-ghost use Rattle.dl_plan.specs.Severity.{pairs_of, mean_amount};
-ghost use Rattle.dl_plan.specs.Count.{expected_count, IsCount};
-ghost use Rattle.dl_plan.specs.Cession.{IsCession};
+ghost use Rattle.dl_plan.specs.Severity.{pairs_of, mean_amount, probability_of};
+ghost use Rattle.dl_plan.specs.Count.{expected_count, IsClaimCount};
+ghost use Rattle.dl_plan.specs.Clause.{IsClause};
 ghost use Rattle.dl_plan.specs.Horizon.{IsHorizonOf, HorizonPasses};
-ghost use Rattle.dl_plan.specs.Valid.{thinned_mean};
+ghost use Rattle.dl_plan.specs.Valid.{declared_mean, thinned_mean};
 
 use crate::item::Item;
 use crate::plan::{Freq, Unit};
+use crate::severity::Sev;
 use crate::totals::weighted_sum;
 use dl_frac::Frac;
 use dl_limits::MOST_CELLS;
@@ -21,12 +22,12 @@ use dl_limits::MOST_CELLS;
 impl Freq {
     /// The expected number of claims, of a count of a valid plan.
     pub fn expected(&self) -> Frac
-        requires count { IsCount self.now }
+        requires count { IsClaimCount self.now }
         requires admitted { IsAdmitted (expected_count self.now) }
         ensures { result ≡ expected_count self.now }
     {
         match self {
-            Freq::Fixed(claims) => Frac::make(*claims as u128, 1).unwrap(),
+            Freq::Fixed(claims) => Frac::whole(*claims),
             Freq::Table { counts, total } => Frac::make(
                 weighted_sum(counts.as_slice()) as u128,
                 *total as u128,
@@ -42,28 +43,38 @@ impl Freq {
     }
 }
 
+impl Sev {
+    /// The probability of a positive amount. Takes no memory.
+    pub fn share_above_zero(&self) -> Frac
+        ensures { result ≡ whole 1 -ℚ probability_of self.now 0 }
+    {
+        let above = self.total - weight_of_zero(self.items.as_slice());
+        Frac::make(above as u128, self.total as u128).unwrap()
+    }
+}
+
 impl Unit {
-    /// The expected number of claims above 0 of a unit of a valid plan: the expected count times the
-    /// probability of a positive amount.
+    /// The expected number of claims above 0 of a unit of a valid plan: the expected count times
+    /// the probability of a positive amount.
     pub fn thinned(&self) -> Frac
-        requires count { IsCount self.now.freq }
+        requires count { IsClaimCount self.now.freq }
         requires expected { IsAdmitted (expected_count self.now.freq) }
         requires admitted { IsAdmitted (thinned_mean self.now) }
         ensures { result ≡ thinned_mean self.now }
     {
-        let total = self.sev.total;
-        let positive = total - weight_of_zero(self.sev.items.as_slice());
-        let share = Frac::make(positive as u128, total as u128).unwrap();
-        self.freq.expected().mul(share).unwrap()
+        self.freq
+            .expected()
+            .mul(self.sev.share_above_zero())
+            .unwrap()
     }
 
     /// A numerator below 2^100 and a denominator below 2^80 of the mean in buckets, before the
     /// aggregate clause, of a unit of a valid plan.
     pub fn mean_parts(&self) -> (u128, u128)
-        requires count { IsCount self.now.freq }
+        requires count { IsClaimCount self.now.freq }
         requires expected { IsAdmitted (expected_count self.now.freq) }
         requires near { All (λ item. item.amount ≤ most_amount) self.now.sev.items }
-        ensures value { result.0 over result.1 ≡ expected_count self.now.freq *ℚ mean_amount (pairs_of self.now.sev) }
+        ensures value { result.0 over result.1 ≡ declared_mean self.now }
         ensures num { result.0 < 2 ^ 100 }
         ensures den { result.1 < 2 ^ 80 }
         ensures positive { 0 < result.1 }
@@ -76,12 +87,14 @@ impl Unit {
         )
     }
 
-    /// The horizon of the unit's sums on so many cells: the cells without an aggregate clause; else the
-    /// greatest of 1, each edge of the clause, and the least sum at which what it keeps has reached the
-    /// cells, or is constant from there on. `None` exactly where it passes 16,384. Takes no memory.
+    /// The horizon of the unit's sums on so many cells: the cells without an aggregate clause; else
+    /// the greatest of 1, each edge of the clause, and the least sum at which what it keeps has
+    /// reached the cells, or is constant from there on. `None` exactly where it passes 16,384.
+    /// Takes no memory.
     pub fn horizon(&self, cells: u32) -> Option<u32>
-        requires { IfSome self.now.cede IsCession }
-        ensures { MatchOption result (HorizonPasses self.now.cede cells) (λ k. IsHorizonOf self.now.cede cells k × (k ≤ most_cells)) }
+        requires { IfSome self.now.cede IsClause }
+        ensures { MatchOption result (HorizonPasses self.now.cede cells)
+            (λ k. IsHorizonOf self.now.cede cells k × (k ≤ most_cells)) }
     {
         let horizon = match &self.cede {
             Some(cede) => cede.horizon(cells),

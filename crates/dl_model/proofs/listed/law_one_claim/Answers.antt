@@ -1,6 +1,6 @@
-use Rattle.dl_model.specs.Listed.{probability}
+use Rattle.dl_model.specs.Listed.{probability_at}
 use Rattle.dl_model.proofs.ListedLaws.{one_claim}
 use Rattle.dl_model.proofs.listed.law_one_claim.Goals as goal
 
 pub returns : goal.returns
-returns c amounts = one_claim (probability amounts)
+returns c amounts = one_claim (probability_at amounts)

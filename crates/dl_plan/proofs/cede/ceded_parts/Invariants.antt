@@ -1,10 +1,10 @@
 -- The parts are the sum over the layers read so far.
 use Rattle.std.proofs.Common.{◌≡◌, ◌≤◌, ◌^◌, ◌*◌, take, sum_by}
-use Rattle.dl_plan.specs.Parts.{part_of}
+use Rattle.dl_plan.specs.Parts.{layer_parts}
 use Rattle.dl_plan.proofs.cede.ceded_parts.Given as goal
 
 abbrev pub invariant-layers : goal.invariant-layers
 invariant-layers l = record {
-  so_far : l.parts ≡ sum_by (part_of l.fn.common l.fn.x) (take l.layer-index l.layers);
+  so_far : l.parts ≡ sum_by (layer_parts l.fn.common l.fn.x) (take l.layer-index l.layers);
   small : l.parts ≤ l.layer-index * (l.fn.common * 2 ^ 40);
 }

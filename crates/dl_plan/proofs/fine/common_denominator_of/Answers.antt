@@ -5,7 +5,8 @@ use Rattle.dl_plan.proofs.fine.common_denominator_of.Goals as goal
 
 pub fracs-preserved : goal.fracs-preserved
 fracs-preserved c =
-    let step = common_step c.args.fracs.now c.fracs.frac-index c.frac-item.result c.fracs.common c.den.result c.fracs-test.true c.frac-item.is c.den.ensures.part c.fracs.invariant.so_far in
+    let step = common_step c.args.fracs.now c.fracs.frac-index c.frac-item.result c.fracs.common c.den.result
+    c.fracs-test.true c.frac-item.is c.den.ensures.part c.fracs.invariant.so_far in
     let value = c.in-Some.ensures in
     record {
       so_far = value.1 ∙ sym step;
@@ -15,5 +16,6 @@ fracs-preserved c =
 
 pub returns-in-None : goal.returns-in-None
 returns-in-None c = λ fine.
-    let step = common_step c.args.fracs.now c.fracs.frac-index c.frac-item.result c.fracs.common c.den.result c.fracs-test.true c.frac-item.is c.den.ensures.part c.fracs.invariant.so_far in
+    let step = common_step c.args.fracs.now c.fracs.frac-index c.frac-item.result c.fracs.common c.den.result
+    c.fracs-test.true c.frac-item.is c.den.ensures.part c.fracs.invariant.so_far in
     c.in-None.ensures (omega (arith, step, common_take-le c.args.fracs.now (c.fracs.frac-index + 1), fine))

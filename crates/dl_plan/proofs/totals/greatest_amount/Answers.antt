@@ -3,4 +3,10 @@ use Rattle.dl_plan.proofs.Weights.{greatest_more}
 use Rattle.dl_plan.proofs.totals.greatest_amount.Goals as goal
 
 pub loop-item-preserved : goal.loop-item-preserved
-loop-item-preserved c = omega (arith, greatest_more c.args.items.now c.loop-item.item-index record { amount = 0; weight = 0 } c.loop-item-test.true)
+loop-item-preserved c = omega (
+  arith,
+  greatest_more c.args.items.now c.loop-item.item-index record {
+    amount = 0;
+    weight = 0;
+  } c.loop-item-test.true,
+)

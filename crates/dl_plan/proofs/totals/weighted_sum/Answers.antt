@@ -7,14 +7,32 @@ use Rattle.dl_plan.proofs.totals.weighted_sum.Goals as goal
 pub overflow_add-sum : goal.overflow_add-sum
 overflow_add-sum c =
     let d : Item = record { amount = 0; weight = 0 } in
-    let term = mul-le-mul_right (get_or c.args.items.now c.items.item-index d).weight (c.requires.near c.items.item-index d c.items-test.true) in
-    omega (arith, term, c.items.invariant.small, sum_by_more_le (λ (i : Item). i.weight) c.args.items.now c.items.item-index d c.items-test.true, c.requires.within)
+    let term = mul-le-mul_right (get_or c.args.items.now c.items.item-index d).weight
+    (c.requires.near c.items.item-index d c.items-test.true) in
+    omega (
+      arith,
+      term,
+      c.items.invariant.small,
+      sum_by_more_le
+          (λ (i : Item). i.weight) c.args.items.now c.items.item-index d c.items-test.true,
+      c.requires.within,
+    )
 
 pub items-preserved : goal.items-preserved
 items-preserved c =
     let d : Item = record { amount = 0; weight = 0 } in
-    let term = mul-le-mul_right (get_or c.args.items.now c.items.item-index d).weight (c.requires.near c.items.item-index d c.items-test.true) in
+    let term = mul-le-mul_right (get_or c.args.items.now c.items.item-index d).weight
+    (c.requires.near c.items.item-index d c.items-test.true) in
     record {
-      so_far = omega (arith, c.items.invariant.so_far, sum_by_more (λ (i : Item). i.amount * i.weight) c.args.items.now c.items.item-index d c.items-test.true);
-      small = omega (arith, term, c.items.invariant.small, sum_by_more (λ (i : Item). i.weight) c.args.items.now c.items.item-index d c.items-test.true);
+      so_far = omega (
+        arith,
+        c.items.invariant.so_far,
+        sum_by_more (λ (i : Item). i.amount * i.weight) c.args.items.now c.items.item-index d c.items-test.true,
+      );
+      small = omega (
+        arith,
+        term,
+        c.items.invariant.small,
+        sum_by_more (λ (i : Item). i.weight) c.args.items.now c.items.item-index d c.items-test.true,
+      );
     }

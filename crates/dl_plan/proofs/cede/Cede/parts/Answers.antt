@@ -1,8 +1,8 @@
 -- Layers that are apart cede at most the whole.
 use Rattle.std.proofs.Common.{◌∙◌, ap, ap₂, arith}
 use Rattle.std.specs.List.{sum_by}
-use Rattle.dl_plan.specs.Cession.{Clause}
-use Rattle.dl_plan.specs.Parts.{part_of, parts_in_bucket}
+use Rattle.dl_plan.specs.Clause.{Clause}
+use Rattle.dl_plan.specs.Parts.{layer_parts, parts_in_bucket}
 use Rattle.dl_plan.proofs.Apart.{ceded_le}
 use Rattle.dl_plan.proofs.cede.Cede.parts.Goals as goal
 
@@ -12,6 +12,6 @@ returns-else-self-clause-within c =
     omega (
       arith,
       c.ceded_parts-ceded.ensures.value,
-      ap₂ (λ k ls. sum_by (part_of k c.args.x) ls) c.common-common.ensures.value layers,
-      ceded_le c.args.self.now (parts_in_bucket c.args.self.now) c.args.x c.requires.cession,
+      ap₂ (λ k ls. sum_by (layer_parts k c.args.x) ls) c.common-common.ensures.value layers,
+      ceded_le c.args.self.now (parts_in_bucket c.args.self.now) c.args.x c.requires.clause,
     )

@@ -14,7 +14,8 @@ use Rattle.dl_plan.proofs.Means.{severity_total}
 use Rattle.dl_plan.proofs.severity.Sev.exceeding.Goals as goal
 
 kept_positive : (sev : Sev) (a : ℕ) → All (λ (i : Item). 0 < i.weight) (items_over a sev.items)
-kept_positive sev a = All-filter (λ (i : Item). nat_lt a i.amount) (λ (i : Item). 0 < i.weight) sev.items sev.weighted.positive
+kept_positive sev a = All-filter (λ (i : Item). nat_lt a i.amount)
+    (λ (i : Item). 0 < i.weight) sev.items sev.weighted.positive
 
 is_zero : (n : ℕ) → true ≡ (n == 0) → n ≡ 0
 is_zero n e = grind arith
@@ -22,32 +23,51 @@ is_zero n e = grind arith
 not_zero : (n : ℕ) → false ≡ (n == 0) → 0 < n
 not_zero n e = grind arith
 
-kept_is : (sev : Sev) (a y : ℕ) → 0 < length (items_over a sev.items) → weight_at (items_over a sev.items) y over weight_sum (items_over a sev.items) ≡ probability (conditioned a (shares sev.items sev.total)) y
-kept_is sev a y some = sym (probability-conditioned a sev.items sev.total y (severity_total sev) (weight_sum_pos (items_over a sev.items) some (kept_positive sev a)))
+kept_is : (sev : Sev) (a y : ℕ) → 0 < length (items_over a sev.items)
+    → weight_at (items_over a sev.items) y over weight_sum (items_over a sev.items)
+    ≡ probability (conditioned a (shares sev.items sev.total)) y
+kept_is sev a y some = sym (probability-conditioned a sev.items sev.total y (severity_total sev)
+    (weight_sum_pos (items_over a sev.items) some (kept_positive sev a)))
 
 pub returns-then-is_empty : goal.returns-then-is_empty
 returns-then-is_empty c =
-    let same : c.in_ok-kept.kept.items ≡ items_over c.args.attach c.args.self.now.items = c.in_ok-kept.ensures ∙ ap (items_over c.args.attach) c.as_slice.ensures in
-    none_over c.args.attach c.args.self.now.items (ap (λ (xs : List Item). length xs) (sym same) ∙ sym c.in_ok-kept.kept.ok.0 ∙ is_zero c.in_ok-kept.kept.len c.if-is_empty.ensures)
+    let same : c.in_ok-kept.kept.items ≡ items_over c.args.attach c.args.self.now.items = c.in_ok-kept.ensures
+    ∙ ap (items_over c.args.attach) c.as_slice.ensures in
+    none_over c.args.attach c.args.self.now.items (ap (λ (xs : List Item). length xs) (sym same)
+    ∙ sym c.in_ok-kept.kept.ok.0 ∙ is_zero c.in_ok-kept.kept.len c.if-is_empty.ensures)
 
 pub from_rising-requires-clause-rising : goal.from_rising-requires-clause-rising
 from_rising-requires-clause-rising c =
-    let same : c.in_ok-kept.kept.items ≡ items_over c.args.attach c.args.self.now.items = c.in_ok-kept.ensures ∙ ap (items_over c.args.attach) c.as_slice.ensures in
+    let same : c.in_ok-kept.kept.items ≡ items_over c.args.attach c.args.self.now.items = c.in_ok-kept.ensures
+    ∙ ap (items_over c.args.attach) c.as_slice.ensures in
     subst IsStrictlyIncreasing (sym (ap amounts_of same ∙ filter-amounts c.args.attach c.args.self.now.items))
-    (IsStrictlyIncreasing-filter (λ n. nat_lt c.args.attach n) (amounts_of c.args.self.now.items) c.args.self.now.weighted.rising)
+    (IsStrictlyIncreasing-filter (λ n. nat_lt c.args.attach n)
+    (amounts_of c.args.self.now.items) c.args.self.now.weighted.rising)
 
 pub from_rising-requires-clause-positive : goal.from_rising-requires-clause-positive
 from_rising-requires-clause-positive c =
-    let same : c.in_ok-kept.kept.items ≡ items_over c.args.attach c.args.self.now.items = c.in_ok-kept.ensures ∙ ap (items_over c.args.attach) c.as_slice.ensures in
+    let same : c.in_ok-kept.kept.items ≡ items_over c.args.attach c.args.self.now.items = c.in_ok-kept.ensures
+    ∙ ap (items_over c.args.attach) c.as_slice.ensures in
     subst (λ xs. All (λ (i : Item). 0 < i.weight) xs) (sym same) (kept_positive c.args.self.now c.args.attach)
 
 pub from_rising-requires-clause-within : goal.from_rising-requires-clause-within
 from_rising-requires-clause-within c =
-    let same : c.in_ok-kept.kept.items ≡ items_over c.args.attach c.args.self.now.items = c.in_ok-kept.ensures ∙ ap (items_over c.args.attach) c.as_slice.ensures in
-    omega (arith, ap weight_sum same, weight_over-le c.args.attach c.args.self.now.items, c.args.self.now.weighted.sum, c.args.self.now.weighted.within)
+    let same : c.in_ok-kept.kept.items ≡ items_over c.args.attach c.args.self.now.items = c.in_ok-kept.ensures
+    ∙ ap (items_over c.args.attach) c.as_slice.ensures in
+    omega (
+      arith,
+      ap weight_sum same,
+      weight_over-le c.args.attach c.args.self.now.items,
+      c.args.self.now.weighted.sum,
+      c.args.self.now.weighted.within,
+    )
 
 pub returns : goal.returns
 returns c = λ y.
-    let same : c.in_ok-kept.kept.items ≡ items_over c.args.attach c.args.self.now.items = c.in_ok-kept.ensures ∙ ap (items_over c.args.attach) c.as_slice.ensures in
-    let some : 0 < length (items_over c.args.attach c.args.self.now.items) = subst (λ (xs : List Item). 0 < length xs) same (omega (arith, c.in_ok-kept.kept.ok, not_zero c.in_ok-kept.kept.len c.if-is_empty.ensures)) in
-    c.from_rising.ensures y ∙ ap (λ (xs : List Item). weight_at xs y over weight_sum xs) same ∙ kept_is c.args.self.now c.args.attach y some
+    let same : c.in_ok-kept.kept.items ≡ items_over c.args.attach c.args.self.now.items = c.in_ok-kept.ensures
+    ∙ ap (items_over c.args.attach) c.as_slice.ensures in
+    let some : 0 < length (items_over c.args.attach c.args.self.now.items) =
+    subst (λ (xs : List Item). 0 < length xs) same
+    (omega (arith, c.in_ok-kept.kept.ok, not_zero c.in_ok-kept.kept.len c.if-is_empty.ensures)) in
+    c.from_rising.ensures y ∙ ap (λ (xs : List Item). weight_at xs y over weight_sum xs) same
+    ∙ kept_is c.args.self.now c.args.attach y some

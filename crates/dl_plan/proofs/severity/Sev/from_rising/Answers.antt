@@ -3,17 +3,36 @@ use Rattle.dl_plan.proofs.Weights.{common_pos, divided_is, divided_means}
 use Rattle.dl_plan.proofs.severity.Sev.from_rising.Goals as goal
 
 pub nonzero_div-total : goal.nonzero_div-total
-nonzero_div-total c = rw (c.divisor_of_weights-common.ensures, c.deref.ensures.value) (common_pos c.args.items.items c.requires.some c.requires.positive)
+nonzero_div-total c = rw (c.divisor_of_weights-common.ensures, c.deref.ensures.value)
+    (common_pos c.args.items.items c.requires.some c.requires.positive)
 
 pub divided-requires : goal.divided-requires
-divided-requires c = rw (c.divisor_of_weights-common.ensures, c.deref.ensures.value) (common_pos c.args.items.items c.requires.some c.requires.positive)
+divided-requires c = rw (c.divisor_of_weights-common.ensures, c.deref.ensures.value)
+    (common_pos c.args.items.items c.requires.some c.requires.positive)
 
 pub invariant_of-result : goal.invariant_of-result
 invariant_of-result c =
-    rw (c.from_vec.ensures, c.divided.ensures, c.total_weight.ensures, c.divisor_of_weights-common.ensures, c.deref.ensures.value, c.deref-2.ensures.value)
-    (record { weighted = divided_is c.args.items.items c.requires.some c.requires.positive c.requires.rising c.requires.within })
+    rw (
+      c.from_vec.ensures,
+      c.divided.ensures,
+      c.total_weight.ensures,
+      c.divisor_of_weights-common.ensures,
+      c.deref.ensures.value,
+      c.deref-2.ensures.value,
+    )
+    (record {
+      weighted = divided_is c.args.items.items c.requires.some c.requires.positive c.requires.rising
+          c.requires.within;
+    })
 
 pub returns : goal.returns
 returns c = λ x.
-    rw (c.from_vec.ensures, c.divided.ensures, c.total_weight.ensures, c.divisor_of_weights-common.ensures, c.deref.ensures.value, c.deref-2.ensures.value)
+    rw (
+      c.from_vec.ensures,
+      c.divided.ensures,
+      c.total_weight.ensures,
+      c.divisor_of_weights-common.ensures,
+      c.deref.ensures.value,
+      c.deref-2.ensures.value,
+    )
     (divided_means c.args.items.items c.requires.some c.requires.positive x)

@@ -1,0 +1,2 @@
+mod PointLaws
+mod CountLaws

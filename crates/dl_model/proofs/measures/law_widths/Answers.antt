@@ -1,8 +1,0 @@
-use Rattle.dl_model.proofs.Widths.{spread, layer_width}
-use Rattle.dl_model.proofs.measures.law_widths.Goals as goal
-
-pub returns-clause-spread : goal.returns-clause-spread
-returns-clause-spread c = spread
-
-pub returns-clause-layer : goal.returns-clause-layer
-returns-clause-layer c = layer_width

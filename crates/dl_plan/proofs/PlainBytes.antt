@@ -1,0 +1,21 @@
+-- Which bytes are plain.
+use Rattle.std.proofs.Common.{ℕ, ◌<◌, ◌≤◌, arith}
+use Rattle.dl_plan.specs.Plain.{IsPlainByte}
+
+-- a byte from `-` to below the backslash
+pub low_plain : (byte : ℕ) → 45 ≤ byte → byte < 92 → IsPlainByte byte
+low_plain byte h k = record {
+  above = omega arith;
+  quote_mark = λ e. omega arith;
+  comma = λ e. omega arith;
+  backslash = λ e. omega arith;
+}
+
+-- a byte from `a` on
+pub high_plain : (byte : ℕ) → 97 ≤ byte → IsPlainByte byte
+high_plain byte h = record {
+  above = omega arith;
+  quote_mark = λ e. omega arith;
+  comma = λ e. omega arith;
+  backslash = λ e. omega arith;
+}

@@ -1,6 +1,0 @@
--- Fewer layers are left.
-use Rattle.std.proofs.Common.{length}
-use Rattle.dl_plan.proofs.cession.+are_apart.Given as goal
-
-abbrev pub decreases-are_apart : goal.decreases-are_apart
-decreases-are_apart l = length l.layers.now

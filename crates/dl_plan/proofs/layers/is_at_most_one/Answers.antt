@@ -1,0 +1,22 @@
+-- At most 1 where the numerator is at most the denominator.
+use Rattle.std.proofs.Common.{ℕ, ◌≤◌, nat_le, IsTrue, subst, arith}
+use Rattle.dl_exact.specs.Fraction.{Fraction, whole, ◌≤ℚ◌}
+use Rattle.dl_exact.proofs.Over.{over_self, over_le}
+use Rattle.dl_plan.proofs.Clauses.{num_le_den}
+use Rattle.dl_plan.proofs.layers.is_at_most_one.Goals as goal
+
+test_is : (a b : ℕ) → IsTrue (nat_le a b) → a ≤ b
+test_is a b e = grind arith
+
+is_test : (a b : ℕ) → a ≤ b → IsTrue (nat_le a b)
+is_test a b e = grind arith
+
+within : (x : Fraction) → x.num ≤ x.den → x ≤ℚ whole 1
+within x h = subst (λ y. y ≤ℚ whole 1) (over_self x)
+    (over_le x.num x.den 1 1 x.positive (omega arith) (omega (arith, h)))
+
+pub returns : goal.returns
+returns c = (
+  λ given. within c.args.x (omega (arith, test_is _ _ given, c.num.ensures.part, c.den.ensures.part)),
+  λ is. is_test _ _ (omega (arith, num_le_den c.args.x is, c.num.ensures.part, c.den.ensures.part)),
+)
