@@ -1,6 +1,5 @@
 pub mod Firsts
 pub mod Nothing
-pub mod NumeralBounds
 pub mod ItemRanges
-pub mod UnitLists
-pub mod Spelled
+pub mod Reading
+pub mod ReadUnits

@@ -1,11 +1,11 @@
 -- Where no part has an answer.
-use Rattle.std.proofs.Common.{◌≡◌, ◌∙◌, List, [], ◌∷◌, ◌++◌, flat_map, Option, Some, None, Bool, true, false, not, refl, sym}
+use Rattle.std.proofs.Common.{◌≡◌, ◌∙◌, List, [], ◌∷◌, ◌++◌, Option, Some, None, Bool, true, false, not, refl, sym}
 use Rattle.std.specs.List.{All}
 use Rattle.std.specs.Option.{IfSome}
 use Rattle.std.proofs.lemmas.List.Elements.{All-nil, All-cons}
 use Rattle.dl_lexer.specs.declared.token.Span.{Span}
 use Rattle.dl_read.specs.First.{◌else◌, at_if, within, first_in, each_of}
-use Rattle.dl_read.proofs.Firsts.{first-append, first-flat_map}
+use Rattle.dl_read.proofs.Firsts.{first-append}
 
 pub else_first : {A : Type 0} (x y : Option A) → (x else y) ≡ None → x ≡ None
 else_first None y e = refl
@@ -19,7 +19,8 @@ module _ {A B : Type 0} (f : A → Option B) where
   pub none_each : (xs : List A) → first_in f xs ≡ None → All (λ x. f x ≡ None) xs
   unfolding first_in
   none_each [] e = All-nil (λ x. f x ≡ None)
-  none_each (x ∷ xs) e = All-cons (λ y. f y ≡ None) x xs (else_first (f x) (first_in f xs) e) (none_each xs (else_second (f x) (first_in f xs) e))
+  none_each (x ∷ xs) e = All-cons (λ y. f y ≡ None) x xs (else_first (f x) (first_in f xs) e)
+      (none_each xs (else_second (f x) (first_in f xs) e))
 
   pub none_left : (xs ys : List A) → first_in f (xs ++ ys) ≡ None → first_in f xs ≡ None
   none_left xs ys e = else_first _ (first_in f ys) (sym (first-append f xs ys) ∙ e)
@@ -35,12 +36,10 @@ module _ {A B : Type 0} (f : A → Option B) where
   unfolding first_in
   none_tail x xs e = else_second (f x) (first_in f xs) e
 
-  pub none_held : {X : Type 0} (g : X → List A) (o : Option X) → first_in f (each_of g o) ≡ None → IfSome o (λ x. first_in f (g x) ≡ None)
+  pub none_held : {X : Type 0} (g : X → List A) (o : Option X) → first_in f (each_of g o) ≡ None
+      → IfSome o (λ x. first_in f (g x) ≡ None)
   none_held g None e = tt
   none_held g (Some x) e = e
-
-pub none_parts : {X A B : Type 0} (f : A → Option B) (g : X → List A) (xs : List X) → first_in f (flat_map g xs) ≡ None → All (λ x. first_in f (g x) ≡ None) xs
-none_parts f g xs e = none_each (λ x. first_in f (g x)) xs (sym (first-flat_map f g xs) ∙ e)
 
 pub none_within : {A B : Type 0} (f : A → Option B) (o : Option A) → within f o ≡ None → IfSome o (λ x. f x ≡ None)
 none_within f None e = tt

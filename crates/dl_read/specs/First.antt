@@ -1,5 +1,7 @@
 -- The first part that breaks a rule, and the first rule that is broken.
-use Rattle.std.specs.Prelude.{Bool, true, false, List, [], ◌∷◌, ◌++◌, Option, Some, None}
+use Rattle.std.specs.Prelude.{◌≡◌, Bool, true, false, List, [], ◌∷◌, ◌++◌, Option, Some, None}
+use Rattle.std.specs.Fn.{Shared, FnReturnsAt}
+use denote.Ref.{Bor}
 use Rattle.dl_lexer.specs.declared.token.Span.{Span}
 
 infixr 6 ◌else◌
@@ -32,3 +34,12 @@ in_turn f seen (x ∷ xs) = f seen x else in_turn f (seen ++ x ∷ []) xs
 abbrev pub each_of : {A B : Type 0} → (A → List B) → Option A → List B
 each_of f None = []
 each_of f (Some x) = f x
+
+-- a rule may be asked of a part
+abbrev pub TakesPart : {F A B : Type 0} → Shared F (Bor A × Unit {0}) (Option B) → F → A → Type 0
+TakesPart g rule x = (p : Bor _) → p.now ≡ x → g.pre rule (p, tt)
+
+-- and tells of it what is wanted
+abbrev pub TellsPart : {F A B : Type 0} → Shared F (Bor A × Unit {0}) (Option B) → F
+    → (A → Option B) → A → Type 0
+TellsPart g rule broken x = (r : Option _) → FnReturnsAt g rule x r → r ≡ broken x

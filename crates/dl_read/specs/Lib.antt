@@ -1,7 +1,8 @@
 pub mod First
-pub mod Numerals
+pub mod BadNumerals
+pub mod Numbers
 pub mod Lists
 pub mod Rules
 pub mod Kept
-pub mod ListsKept
-pub mod ClausesSpelled
+pub mod Ranged
+pub mod Read

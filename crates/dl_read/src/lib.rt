@@ -1,10 +1,20 @@
 //! What a unit of a program writes: its numerals as fractions, and its lists as their values.
 #![tactic(auto)]
 
-mod lists;
+mod fault;
+mod numbers;
 mod numerals;
 mod places;
+mod ranges;
+mod read;
+mod stop;
+mod tree;
 
-pub use lists::{bad_range, is_above, list_too_long, list_values, range_of};
-pub use numerals::{bad_numeral, value};
-pub use places::place_if;
+pub use fault::ReadFault;
+pub use places::{first_place, place_if};
+pub use ranges::is_above;
+pub use read::read_unit;
+pub use tree::{
+    ReadAtom, ReadCeded, ReadClause, ReadCount, ReadExposure, ReadFreq, ReadLayer, ReadList,
+    ReadSev, ReadShare, ReadUnit,
+};

@@ -1,243 +1,311 @@
-//! The numerals of a unit.
+//! The numerals of a unit as fractions, in the order of the text: reading stops at the first bad
+//! one.
 
-ghost use Rattle.std.specs.Prelude.{◌≡◌, ◌<◌, ◌≤◌, ◌^◌, false, IfSome};
-ghost use Rattle.dl_lexer.specs.Numerals.{IsNumeral};
-ghost use Rattle.dl_ast.specs.WellFormed.{IsItem, IsList, IsAtom, IsSev, IsLimit, IsLayer, IsShare, IsCeded, IsCession, IsExposure, IsFreq, IsCount, IsUnit};
-ghost use Rattle.dl_read.specs.First.{first_in, each_of};
-ghost use Rattle.dl_read.specs.Numerals.{value, is_bad_numeral, bad_place, alone, in_item, in_list, in_atom, in_severity, in_limit, in_layer, in_share, in_ceded, in_clause, in_exposure, in_count, in_freq, in_distribution};
+ghost use Rattle.std.specs.Prelude.{◌≡◌, None, All, IfSome, map};
+ghost use Rattle.dl_exact.specs.Fraction.{whole};
+ghost use Rattle.dl_lexer.specs.Numerals.{IsNumeralToken};
+ghost use Rattle.dl_ast.specs.WellFormed.{IsFormedItem, IsFormedList, IsFormedAtom, IsFormedSeverity, IsFormedLimit, IsFormedLayer, IsFormedShare, IsFormedCeded, IsFormedCession, IsFormedExposure, IsFormedFrequency, IsFormedCount, IsFormedUnit};
+ghost use Rattle.dl_read.specs.First.{within, first_in};
+ghost use Rattle.dl_read.specs.BadNumerals.{value, bad_place, bad_in_item, bad_in_list, bad_in_pair, bad_in_severity, bad_in_limit, bad_in_layer, bad_in_share, bad_in_ceded, bad_in_clause, bad_in_exposure, bad_in_count, bad_in_freq, bad_in_distribution};
+ghost use Rattle.dl_read.specs.Numbers.{if_there, value_or, item_numbers, list_numbers, pair_numbers, severity_numbers, limit_number, layer_numbers, share_number, ceded_numbers, clause_numbers, exposure_numbers, freq_number, count_numbers, distribution_number, numbers_of};
 ghost use Rattle.dl_read.specs.Rules.{bad_numeral};
+ghost use Rattle.dl_read.specs.Read.{Reads};
 
+use crate::numbers::{
+    CountNumbers, ItemNumbers, ListNumbers, PairNumbers, SevNumbers, UnitNumbers,
+};
+use crate::stop::Stop;
+use crate::tree::{ReadCeded, ReadClause, ReadExposure, ReadFreq, ReadLayer, ReadShare};
 use dl_ast::{
     Atom, CededLayer, Cession, CountAst, Exposure, FreqAst, Layer, LimitAst, ListAst, ListItem,
     Numeral, SevAst, Share, UnitAst,
 };
 use dl_frac::{Frac, numeral};
-use dl_lexer::Span;
+use dl_plan::Many;
+use dl_sev::Range;
+use std::alloc::Global;
 
-/// What a good numeral is worth.
-pub fn value(number: &Numeral) -> Frac
-    requires spelled { IsNumeral number.now.text }
-    requires good { is_bad_numeral number.now ≡ false }
-    ensures value { result ≡ value number.now }
-    ensures num { result.num < 10 ^ 11 }
-    ensures den { result.den ≤ 10 ^ 11 }
+/// The numbers of a unit.
+pub(crate) fn unit_numbers(alloc: Global, unit: &UnitAst) -> Result<UnitNumbers, Stop>
+    requires { IsFormedUnit unit.now }
+    ensures { Reads (numbers_of unit.now) (bad_numeral unit.now) result }
 {
-    numeral(number.text.as_slice(), 11).unwrap()
+    let count = count_numbers(alloc, &unit.count)?;
+    let layer = own_layer_numbers(&unit.layer)?;
+    let sev = severity_numbers(alloc, &unit.sev)?;
+    let occ = own_clause_numbers(alloc, &unit.occ)?;
+    let freq = distribution_number(&unit.count)?;
+    let agr = own_clause_numbers(alloc, &unit.agr)?;
+    Ok(UnitNumbers {
+        name: unit.name.span,
+        count,
+        freq,
+        layer,
+        sev,
+        occ,
+        agr,
+    })
 }
 
-/// The place of the first bad numeral of a unit.
-pub fn bad_numeral(unit: &UnitAst) -> Option<Span>
-    requires { IsUnit unit.now }
-    ensures { result ≡ bad_numeral unit.now }
+/// The numbers of a claim count that stand before the severity.
+fn count_numbers(alloc: Global, count: &CountAst) -> Result<CountNumbers, Stop>
+    requires { IsFormedCount count.now }
+    ensures { Reads (count_numbers count.now) (bad_in_count count.now) result }
 {
-    bad_in_count(&unit.count)
-        .or(bad_in_own_layer(&unit.layer))
-        .or(bad_in_severity(&unit.sev))
-        .or(bad_in_own_clause(&unit.occ))
-        .or(bad_in_distribution(&unit.count))
-        .or(bad_in_own_clause(&unit.agr))
-}
-
-/// The place of a numeral that is bad.
-fn bad_place(number: &Numeral) -> Option<Span>
-    requires { IsNumeral number.now.text }
-    ensures { result ≡ bad_place number.now }
-{
-    match numeral(number.text.as_slice(), 11) {
-        Ok(_) => None,
-        Err(_) => Some(number.span),
-    }
-}
-
-/// The place of a bad numeral that may be missing.
-fn bad_in_part(part: &Option<Numeral>) -> Option<Span>
-    requires { IfSome part.now (λ n. IsNumeral n.text) }
-    ensures { result ≡ first_in bad_place (each_of alone part.now) }
-{
-    match part {
-        Some(number) => bad_place(number),
-        None => None,
-    }
-}
-
-/// The place of the first bad numeral of an item.
-#[tactic(auto, using(crate::proofs::Firsts::both_in, crate::proofs::Firsts::one_in))]
-fn bad_in_item(item: &ListItem) -> Option<Span>
-    requires { IsItem item.now }
-    ensures { result ≡ first_in bad_place (in_item item.now) }
-{
-    bad_place(&item.from)
-        .or(bad_in_part(&item.to))
-        .or(bad_in_part(&item.step))
-}
-
-/// The place of the first bad numeral of a list.
-fn bad_in_list(list: &ListAst) -> Option<Span>
-    requires { IsList list.now }
-    ensures { result ≡ first_in bad_place (in_list list.now) }
-{
-    'items: for item in list.items.as_slice() {
-        if let Some(place) = bad_in_item(item) {
-            return Some(place);
+    match count {
+        CountAst::Exposed { exposure, .. } => {
+            Ok(CountNumbers::Exposed(exposure_numbers(exposure)?))
+        }
+        CountAst::Listed { counts, probs, .. } => {
+            Ok(CountNumbers::Listed(pair_numbers(alloc, counts, probs)?))
         }
     }
-    None
 }
 
-/// The place of the first bad numeral of a list that may be missing.
-fn bad_in_second(list: &Option<ListAst>) -> Option<Span>
-    requires { IfSome list.now IsList }
-    ensures { result ≡ first_in bad_place (each_of in_list list.now) }
+/// The distribution of a claim count; listed counts have none, and any stands for it.
+fn distribution_number(count: &CountAst) -> Result<ReadFreq, Stop>
+    requires { IsFormedCount count.now }
+    ensures { Reads (distribution_number count.now) (bad_in_distribution count.now) result }
+{
+    match count {
+        CountAst::Exposed { freq, .. } => freq_number(freq),
+        CountAst::Listed { span, .. } => Ok(ReadFreq::Fixed(*span)),
+    }
+}
+
+/// The numbers of a severity.
+fn severity_numbers(alloc: Global, sev: &SevAst) -> Result<SevNumbers, Stop>
+    requires { IsFormedSeverity sev.now }
+    ensures { Reads (severity_numbers sev.now) (bad_in_severity sev.now) result }
+{
+    let atoms = atom_numbers(alloc, sev.atoms.as_slice())?;
+    let weights = second_numbers(alloc, &sev.weights)?;
+    Ok(SevNumbers {
+        atoms,
+        weights,
+        bang: sev.bang,
+        span: sev.span,
+    })
+}
+
+/// The numbers of atoms.
+fn atom_numbers(alloc: Global, atoms: &[Atom]) -> Result<Many<PairNumbers>, Stop>
+    requires { All IsFormedAtom atoms.now }
+    ensures { Reads (map (λ a. pair_numbers a.values a.probs) atoms.now)
+        (first_in (λ a. bad_in_pair a.values a.probs) atoms.now) result }
+{
+    let mut made = Vec::new(alloc);
+    'atoms: for atom in atoms {
+        match pair_numbers(alloc, &atom.values, &atom.probs) {
+            Ok(pair) => made.push(pair)?,
+            Err(stop) => return Err(stop),
+        }
+    }
+    Ok(Many::from_vec(made))
+}
+
+/// The numbers of two lists, of which the second may be missing.
+fn pair_numbers(
+    alloc: Global,
+    values: &ListAst,
+    probs: &Option<ListAst>,
+) -> Result<PairNumbers, Stop>
+    requires values { IsFormedList values.now }
+    requires probs { IfSome probs.now IsFormedList }
+    ensures { Reads (pair_numbers values.now probs.now) (bad_in_pair values.now probs.now) result }
+{
+    let values = list_numbers(alloc, values)?;
+    let probs = second_numbers(alloc, probs)?;
+    Ok(PairNumbers { values, probs })
+}
+
+/// The numbers of a list that may be missing.
+fn second_numbers(alloc: Global, list: &Option<ListAst>) -> Result<Option<ListNumbers>, Stop>
+    requires { IfSome list.now IsFormedList }
+    ensures { Reads (if_there list_numbers list.now) (within bad_in_list list.now) result }
 {
     match list {
-        Some(list) => bad_in_list(list),
-        None => None,
+        Some(list) => Ok(Some(list_numbers(alloc, list)?)),
+        None => Ok(None),
     }
 }
 
-/// The place of the first bad numeral of an atom.
-#[tactic(auto, using(crate::proofs::Firsts::both_in))]
-fn bad_in_atom(atom: &Atom) -> Option<Span>
-    requires { IsAtom atom.now }
-    ensures { result ≡ first_in bad_place (in_atom atom.now) }
+/// The numbers of a list.
+fn list_numbers(alloc: Global, list: &ListAst) -> Result<ListNumbers, Stop>
+    requires { IsFormedList list.now }
+    ensures { Reads (list_numbers list.now) (bad_in_list list.now) result }
 {
-    bad_in_list(&atom.values).or(bad_in_second(&atom.probs))
-}
-
-/// The place of the first bad numeral of a severity.
-fn bad_in_severity(sev: &SevAst) -> Option<Span>
-    requires { IsSev sev.now }
-    ensures { result ≡ first_in bad_place (in_severity sev.now) }
-{
-    'atoms: for atom in sev.atoms.as_slice() {
-        if let Some(place) = bad_in_atom(atom) {
-            return Some(place);
+    let mut made = Vec::new(alloc);
+    'items: for item in list.items.as_slice() {
+        match item_numbers(item) {
+            Ok(numbers) => made.push(numbers)?,
+            Err(stop) => return Err(stop),
         }
     }
-    bad_in_second(&sev.weights)
+    Ok(ListNumbers {
+        items: Many::from_vec(made),
+        span: list.span,
+    })
 }
 
-/// The place of a bad limit.
-#[tactic(auto, using(crate::proofs::Firsts::one_in, crate::proofs::Firsts::none_in))]
-fn bad_in_limit(limit: &LimitAst) -> Option<Span>
-    requires { IsLimit limit.now }
-    ensures { result ≡ first_in bad_place (in_limit limit.now) }
+/// The numbers of an item.
+fn item_numbers(item: &ListItem) -> Result<ItemNumbers, Stop>
+    requires { IsFormedItem item.now }
+    ensures { Reads (item_numbers item.now) (bad_in_item item.now) result }
 {
-    match limit {
-        LimitAst::Finite(number) => bad_place(number),
-        LimitAst::Infinite => None,
+    let from = number(&item.from)?;
+    let to = number_or(from, &item.to)?;
+    let step = number_or(Frac::whole(1), &item.step)?;
+    Ok(ItemNumbers {
+        range: Range { from, to, step },
+        several: item.to.is_some(),
+        span: item.span,
+    })
+}
+
+/// The value of a numeral that may be missing, and what stands for it.
+fn number_or(other: Frac, part: &Option<Numeral>) -> Result<Frac, Stop>
+    requires { IfSome part.now (λ n. IsNumeralToken n.text) }
+    ensures { Reads (value_or other part.now) (within bad_place part.now) result }
+{
+    match part {
+        Some(numeral) => number(numeral),
+        None => Ok(other),
     }
 }
 
-/// The place of the first bad numeral of a layer.
-#[tactic(auto, using(crate::proofs::Firsts::both_in, crate::proofs::Firsts::one_in))]
-fn bad_in_layer(layer: &Layer) -> Option<Span>
-    requires { IsLayer layer.now }
-    ensures { result ≡ first_in bad_place (in_layer layer.now) }
+/// The value of a numeral.
+fn number(written: &Numeral) -> Result<Frac, Stop>
+    requires { IsNumeralToken written.now.text }
+    ensures { Reads (value written.now) (bad_place written.now) result }
 {
-    bad_in_limit(&layer.limit).or(bad_place(&layer.attach))
+    match numeral(written.text.as_slice(), 11) {
+        Ok(value) => Ok(value),
+        Err(_) => Err(Stop::At(written.span)),
+    }
 }
 
-/// The place of the first bad numeral of a layer that may be missing.
-fn bad_in_own_layer(layer: &Option<Layer>) -> Option<Span>
-    requires { IfSome layer.now IsLayer }
-    ensures { result ≡ first_in bad_place (each_of in_layer layer.now) }
+/// The numbers of a layer that may be missing.
+fn own_layer_numbers(layer: &Option<Layer>) -> Result<Option<ReadLayer>, Stop>
+    requires { IfSome layer.now IsFormedLayer }
+    ensures { Reads (if_there layer_numbers layer.now) (within bad_in_layer layer.now) result }
 {
     match layer {
-        Some(layer) => bad_in_layer(layer),
-        None => None,
+        Some(layer) => Ok(Some(layer_numbers(layer)?)),
+        None => Ok(None),
     }
 }
 
-/// The place of a bad share.
-#[tactic(auto, using(crate::proofs::Firsts::one_in, crate::proofs::Firsts::none_in))]
-fn bad_in_share(share: &Share) -> Option<Span>
-    requires { IsShare share.now }
-    ensures { result ≡ first_in bad_place (in_share share.now) }
+/// The numbers of a layer.
+fn layer_numbers(layer: &Layer) -> Result<ReadLayer, Stop>
+    requires { IsFormedLayer layer.now }
+    ensures { Reads (layer_numbers layer.now) (bad_in_layer layer.now) result }
 {
-    match share {
-        Share::Whole => None,
-        Share::So(number) | Share::Po(number) => bad_place(number),
+    let limit = limit_number(&layer.limit)?;
+    let attach = number(&layer.attach)?;
+    Ok(ReadLayer {
+        limit,
+        attach,
+        span: layer.span,
+    })
+}
+
+/// The most that a layer pays; none where there is no limit.
+fn limit_number(limit: &LimitAst) -> Result<Option<Frac>, Stop>
+    requires { IsFormedLimit limit.now }
+    ensures { Reads (limit_number limit.now) (bad_in_limit limit.now) result }
+{
+    match limit {
+        LimitAst::Finite(numeral) => Ok(Some(number(numeral)?)),
+        LimitAst::Infinite => Ok(None),
     }
 }
 
-/// The place of the first bad numeral of a ceded layer.
-#[tactic(auto, using(crate::proofs::Firsts::both_in))]
-fn bad_in_ceded(ceded: &CededLayer) -> Option<Span>
-    requires { IsCeded ceded.now }
-    ensures { result ≡ first_in bad_place (in_ceded ceded.now) }
-{
-    bad_in_share(&ceded.share).or(bad_in_layer(&ceded.layer))
-}
-
-/// The place of the first bad numeral of a clause.
-fn bad_in_clause(clause: &Cession) -> Option<Span>
-    requires { IsCession clause.now }
-    ensures { result ≡ first_in bad_place (in_clause clause.now) }
-{
-    'layers: for layer in clause.layers.as_slice() {
-        if let Some(place) = bad_in_ceded(layer) {
-            return Some(place);
-        }
-    }
-    None
-}
-
-/// The place of the first bad numeral of a clause that may be missing.
-fn bad_in_own_clause(clause: &Option<Cession>) -> Option<Span>
-    requires { IfSome clause.now IsCession }
-    ensures { result ≡ first_in bad_place (each_of in_clause clause.now) }
+/// The numbers of a clause that may be missing.
+fn own_clause_numbers(alloc: Global, clause: &Option<Cession>) -> Result<Option<ReadClause>, Stop>
+    requires { IfSome clause.now IsFormedCession }
+    ensures { Reads (if_there clause_numbers clause.now) (within bad_in_clause clause.now) result }
 {
     match clause {
-        Some(clause) => bad_in_clause(clause),
-        None => None,
+        Some(clause) => Ok(Some(clause_numbers(alloc, clause)?)),
+        None => Ok(None),
     }
 }
 
-/// The place of the first bad numeral of an exposure.
-#[tactic(auto, using(crate::proofs::Firsts::both_in, crate::proofs::Firsts::one_in))]
-fn bad_in_exposure(exposure: &Exposure) -> Option<Span>
-    requires { IsExposure exposure.now }
-    ensures { result ≡ first_in bad_place (in_exposure exposure.now) }
+/// The numbers of a clause.
+fn clause_numbers(alloc: Global, clause: &Cession) -> Result<ReadClause, Stop>
+    requires { IsFormedCession clause.now }
+    ensures { Reads (clause_numbers clause.now) (bad_in_clause clause.now) result }
+{
+    let mut made = Vec::new(alloc);
+    'layers: for ceded in clause.layers.as_slice() {
+        let share = match share_number(&ceded.share) {
+            Ok(share) => share,
+            Err(stop) => return Err(stop),
+        };
+        let layer = match layer_numbers(&ceded.layer) {
+            Ok(layer) => layer,
+            Err(stop) => return Err(stop),
+        };
+        made.push(ReadCeded {
+            share,
+            layer,
+            span: ceded.span,
+        })?;
+    }
+    Ok(ReadClause {
+        net: clause.net,
+        layers: Many::from_vec(made),
+        span: clause.span,
+    })
+}
+
+/// A share.
+fn share_number(share: &Share) -> Result<ReadShare, Stop>
+    requires { IsFormedShare share.now }
+    ensures { Reads (share_number share.now) (bad_in_share share.now) result }
+{
+    match share {
+        Share::Whole => Ok(ReadShare::Whole),
+        Share::So(numeral) => Ok(ReadShare::So(number(numeral)?)),
+        Share::Po(numeral) => Ok(ReadShare::Po(number(numeral)?)),
+    }
+}
+
+/// The numbers of an exposure.
+fn exposure_numbers(exposure: &Exposure) -> Result<ReadExposure, Stop>
+    requires { IsFormedExposure exposure.now }
+    ensures { Reads (exposure_numbers exposure.now) (bad_in_exposure exposure.now) result }
 {
     match exposure {
-        Exposure::Claims(number, _) | Exposure::Loss(number, _) => bad_place(number),
-        Exposure::Premium { amount, ratio, .. } => { bad_place(amount).or(bad_place(ratio)) }
+        Exposure::Claims(numeral, span) => Ok(ReadExposure::Claims(number(numeral)?, *span)),
+        Exposure::Loss(numeral, span) => Ok(ReadExposure::Loss(number(numeral)?, *span)),
+        Exposure::Premium {
+            amount,
+            ratio,
+            span,
+        } => {
+            let amount = number(amount)?;
+            let ratio = number(ratio)?;
+            Ok(ReadExposure::Premium {
+                amount,
+                ratio,
+                span: *span,
+            })
+        }
     }
 }
 
-/// The place of the first bad numeral of a count that stands before the severity.
-#[tactic(auto, using(crate::proofs::Firsts::both_in))]
-fn bad_in_count(count: &CountAst) -> Option<Span>
-    requires { IsCount count.now }
-    ensures { result ≡ first_in bad_place (in_count count.now) }
-{
-    match count {
-        CountAst::Exposed { exposure, .. } => bad_in_exposure(exposure),
-        CountAst::Listed { counts, probs, .. } => { bad_in_list(counts).or(bad_in_second(probs)) }
-    }
-}
-
-/// The place of a bad numeral of a count that stands behind the severity.
-#[tactic(auto, using(crate::proofs::Firsts::none_in))]
-fn bad_in_distribution(count: &CountAst) -> Option<Span>
-    requires { IsCount count.now }
-    ensures { result ≡ first_in bad_place (in_distribution count.now) }
-{
-    match count {
-        CountAst::Exposed { freq, .. } => bad_in_freq(freq),
-        CountAst::Listed { .. } => None,
-    }
-}
-
-/// The place of a bad numeral of a distribution.
-#[tactic(auto, using(crate::proofs::Firsts::one_in, crate::proofs::Firsts::none_in))]
-fn bad_in_freq(freq: &FreqAst) -> Option<Span>
-    requires { IsFreq freq.now }
-    ensures { result ≡ first_in bad_place (in_freq freq.now) }
+/// A distribution.
+fn freq_number(freq: &FreqAst) -> Result<ReadFreq, Stop>
+    requires { IsFormedFrequency freq.now }
+    ensures { Reads (freq_number freq.now) (bad_in_freq freq.now) result }
 {
     match freq {
-        FreqAst::Binomial(number, _) | FreqAst::Gamma(number, _) => bad_place(number),
-        FreqAst::Fixed(_) | FreqAst::Poisson(_) | FreqAst::Bernoulli(_) => None,
+        FreqAst::Fixed(span) => Ok(ReadFreq::Fixed(*span)),
+        FreqAst::Poisson(span) => Ok(ReadFreq::Poisson(*span)),
+        FreqAst::Bernoulli(span) => Ok(ReadFreq::Bernoulli(*span)),
+        FreqAst::Binomial(numeral, span) => Ok(ReadFreq::Binomial(number(numeral)?, *span)),
+        FreqAst::Gamma(numeral, span) => Ok(ReadFreq::Gamma(number(numeral)?, *span)),
     }
 }

@@ -1,7 +1,7 @@
 //! The place of what breaks a rule.
 
-ghost use Rattle.std.specs.Prelude.{◌≡◌};
-ghost use Rattle.dl_read.specs.First.{at_if};
+ghost use Rattle.std.specs.Prelude.{◌≡◌, Option, All};
+ghost use Rattle.dl_read.specs.First.{at_if, first_in, TakesPart, TellsPart};
 
 use dl_lexer::Span;
 
@@ -10,4 +10,18 @@ pub fn place_if(test: bool, place: Span) -> Option<Span>
     ensures { result ≡ at_if test place }
 {
     if test { Some(place) } else { None }
+}
+
+/// The place that a rule tells for the first part that breaks it.
+pub fn first_place<T, F: Fn(&T) -> Option<Span>>(parts: &[T], rule: F) -> Option<Span>
+    requires { All (TakesPart F.Fn rule) parts.now }
+    ensures { (broken : T → Option Span) → All (TellsPart F.Fn rule broken) parts.now
+        → result ≡ first_in broken parts.now }
+{
+    'parts: for part in parts {
+        if let Some(place) = rule(part) {
+            return Some(place);
+        }
+    }
+    None
 }

@@ -10,10 +10,10 @@ use Rattle.std.proofs.lemmas.Grind.{div_ceil_times}
 use Rattle.std.proofs.lemmas.List.Elements.{All-nil, All-cons, All-head, All-tail}
 use Rattle.dl_plan.specs.declared.cede.CedeLayer.{CedeLayer}
 use Rattle.dl_plan.specs.Fine.{IsWhole}
-use Rattle.dl_plan.specs.Cession.{Clause, kept, IsCession}
+use Rattle.dl_plan.specs.Clause.{Clause, kept, IsClause}
 use Rattle.dl_plan.specs.Horizon.{edge}
 use Rattle.dl_plan.specs.Parts.{kept_parts, parts_in_bucket}
-use Rattle.dl_plan.proofs.Cessions.{kept_whole, kept_only}
+use Rattle.dl_plan.proofs.Clauses.{kept_whole, kept_only}
 use Rattle.dl_exact.proofs.Parts.{whole_den}
 use Rattle.dl_plan.proofs.Apart.{kept_none}
 use Rattle.dl_plan.proofs.Straight.{IsOutside, IsClear, kept_straight}
@@ -31,7 +31,7 @@ third c p q r mean first second =
 
 module _ (clause : Clause) (step : ℕ) where
   -- on a straight line two values decide the third
-  pub on_line : IsCession clause → (x : ℕ) → All (IsClear x (x + 2 * step)) clause.1 → IsWhole (kept clause x)
+  pub on_line : IsClause clause → (x : ℕ) → All (IsClear x (x + 2 * step)) clause.1 → IsWhole (kept clause x)
       → IsWhole (kept clause (x + step)) → IsWhole (kept clause (x + 2 * step))
   on_line cession x clear first second =
       let c = parts_in_bucket clause in
@@ -91,7 +91,7 @@ module _ (clause : Clause) (step : ℕ) where
       let rest : kept_parts clause c 0 % c ≡ 0 = rw (kept_none clause c) (omega arith) in
       ap (λ y. y.den) (kept_whole clause 0 c (kept_parts clause c 0) refl refl rest) ∙ whole_den _
 
-  two_fit : IsCession clause → 0 < step → IsWhole (kept clause step) → All (FitsLayer clause step) clause.1 → (n : ℕ)
+  two_fit : IsClause clause → 0 < step → IsWhole (kept clause step) → All (FitsLayer clause step) clause.1 → (n : ℕ)
       → IsWhole (kept clause (n * step)) × IsWhole (kept clause (n * step + step))
   two_fit cession pos one after zero = (
     subst (λ x. IsWhole (kept clause x)) (omega arith) none_whole,
@@ -112,7 +112,7 @@ module _ (clause : Clause) (step : ℕ) where
       last (inl there) before = there
       last (inr clear) before = on_line cession (n * step) clear before.0 before.1
 
-  pub fits_all : IsCession clause → 0 < step → IsWhole (kept clause step) → All (FitsLayer clause step) clause.1
+  pub fits_all : IsClause clause → 0 < step → IsWhole (kept clause step) → All (FitsLayer clause step) clause.1
       → FitsStep clause step
   fits_all cession pos one after = λ n. (two_fit cession pos one after n).0
 

@@ -4,4 +4,4 @@ pub mod Mixed
 pub mod Ranged
 pub mod Sharing
 pub mod Whole
-mod Lattices
+pub mod Lattices

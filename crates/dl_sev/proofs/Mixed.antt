@@ -15,7 +15,7 @@ use Rattle.dl_plan.proofs.Fits.{over_fits}
 use Rattle.dl_exact.proofs.Denominators.{over_zero, over_plus}
 use Rattle.dl_sev.specs.declared.weights.Weights.{Weights}
 use Rattle.dl_sev.specs.Weighing.{sum_of}
-use Rattle.dl_sev.specs.Steps.{scaled, mixture_of, share_of, weighed}
+use Rattle.dl_sev.specs.Steps.{scaled, mixture_of, mixed_probability, weighed}
 use Rattle.dl_plan.proofs.Means.{severity_total}
 
 abbrev pub firsts : Pairs → List ℕ
@@ -29,9 +29,9 @@ firsts-scaled s t [] = refl
 firsts-scaled s t (x ∷ xs) = ap (λ ns. x.amount ∷ ns) (firsts-scaled s t xs)
 
 seconds-scaled : (s : Fraction) (t : ℕ) (items : List Item)
-    → seconds (scaled s (shares items t)) ≡ map (share_of s t) items
+    → seconds (scaled s (shares items t)) ≡ map (mixed_probability s t) items
 seconds-scaled s t [] = refl
-seconds-scaled s t (x ∷ xs) = ap (λ ys. share_of s t x ∷ ys) (seconds-scaled s t xs)
+seconds-scaled s t (x ∷ xs) = ap (λ ys. mixed_probability s t x ∷ ys) (seconds-scaled s t xs)
 
 mixture-push : (t : ℕ) (atoms : List Sev) (ws : List ℕ) (a : Sev) (w : ℕ) → length atoms ≡ length ws
     → mixture_of t (atoms ++ a ∷ []) (ws ++ w ∷ []) ≡ mixture_of t atoms ws ++ scaled (w over t) (pairs_of a)
@@ -69,7 +69,7 @@ module _ (t : ℕ) (atoms : List Sev) (ws : List ℕ) (i d : ℕ) (a : Sev) (h :
       ∙ ap firsts (sym (mixture-more t atoms ws i d a h e is))
 
   pub probs-more : (old new : List Fraction) → old ≡ seconds (mixture_of t (take i atoms) (take i ws))
-      → new ≡ old ++ map (share_of (get_or ws i d over t) a.total) a.items
+      → new ≡ old ++ map (mixed_probability (get_or ws i d over t) a.total) a.items
       → new ≡ seconds (mixture_of t (take (i + 1) atoms) (take (i + 1) ws))
   probs-more old new before pushed =
       pushed ∙ ap₂ (λ xs ys. xs ++ ys) before (sym (seconds-scaled (get_or ws i d over t) a.total a.items))
@@ -122,12 +122,13 @@ product_is w v t u p q = sym (over_mul w t v u p q)
 
 pub shares-more : (s : Fraction) (t i : ℕ) (items : List Item) (d : Item) (start old new : List Fraction)
     (x : Fraction) → i < length items
-    → old ≡ start ++ map (share_of s t) (take i items) → new ≡ old ++ x ∷ [] → x ≡ share_of s t (get_or items i d)
-    → new ≡ start ++ map (share_of s t) (take (i + 1) items)
+    → old ≡ start ++ map (mixed_probability s t) (take i items) → new ≡ old ++ x ∷ []
+    → x ≡ mixed_probability s t (get_or items i d)
+    → new ≡ start ++ map (mixed_probability s t) (take (i + 1) items)
 shares-more s t i items d start old new x h before pushed value =
     pushed ∙ ap₂ (λ ys y. ys ++ y ∷ []) before value
-    ∙ append_assoc start (map (share_of s t) (take i items)) (share_of s t (get_or items i d) ∷ [])
-    ∙ ap (λ ys. start ++ ys) (sym (map_more (share_of s t) items i d h))
+    ∙ append_assoc start (map (mixed_probability s t) (take i items)) (mixed_probability s t (get_or items i d) ∷ [])
+    ∙ ap (λ ys. start ++ ys) (sym (map_more (mixed_probability s t) items i d h))
 
 pub mixture_whole : (t : ℕ) (atoms : List Sev) (ws : List ℕ) (i : ℕ) → length atoms ≤ i → length atoms ≡ length ws
     → mixture_of t (take i atoms) (take i ws) ≡ mixture_of t atoms ws
@@ -141,16 +142,16 @@ sum_of-append [] ys = sym (zero_plus (sum_of ys))
 sum_of-append (x ∷ xs) ys = ap (λ s. x +ℚ s) (sum_of-append xs ys) ∙ sym (plus_assoc x (sum_of xs) (sum_of ys))
 
 sum_of-shares : (s : Fraction) (t : ℕ) (items : List Item) → 0 < t
-    → sum_of (map (share_of s t) items) ≡ s *ℚ (weight_sum items over t)
+    → sum_of (map (mixed_probability s t) items) ≡ s *ℚ (weight_sum items over t)
 unfolding sum_over
 sum_of-shares s t [] h = sym (ap (λ y. s *ℚ y) (over_zero t h) ∙ times_zero s)
 sum_of-shares s t (x ∷ xs) h =
-    ap (λ y. share_of s t x +ℚ y) (sum_of-shares s t xs h)
+    ap (λ y. mixed_probability s t x +ℚ y) (sum_of-shares s t xs h)
     ∙ sym (times_plus s (x.weight over t) (weight_sum xs over t))
     ∙ ap (λ y. s *ℚ y) (over_plus x.weight (weight_sum xs) t h
     ∙ ap (λ n. n over t) (sym (sum_by-cons (λ (i : Item). i.weight) x xs)))
 
-sum_of-atom : (s : Fraction) (a : Sev) → sum_of (map (share_of s a.total) a.items) ≡ s
+sum_of-atom : (s : Fraction) (a : Sev) → sum_of (map (mixed_probability s a.total) a.items) ≡ s
 sum_of-atom s a =
     let pos = severity_total a in
     sum_of-shares s a.total a.items pos

@@ -7,6 +7,7 @@ use Rattle.std.proofs.lemmas.List.{take-append-drop, take_more, append-nil}
 use Rattle.std.proofs.lemmas.List.FromFn.{length-map-range_with_len, map-range_with_len_more}
 use Rattle.std.proofs.lemmas.Grind.{flat_map-append}
 use Prim.Native.Nat.{◌∣◌}
+use Rattle.dl_limits.specs.Limits.{most_range_parts}
 use Rattle.dl_exact.specs.Fraction.{Fraction, whole, ◌over◌, ◌+ℚ◌, ◌-ℚ◌, ◌*ℚ◌, ◌/ℚ◌, ◌≤ℚ◌, ◌<ℚ◌}
 use Rattle.dl_exact.specs.Rounding.{IsFloor}
 use Rattle.dl_exact.proofs.Over.{same, over_self, over_same, over_mul, over_sub, over_div, le_over, lt_over}
@@ -18,7 +19,7 @@ use Rattle.dl_plan.proofs.Fits.{over_fits}
 use Rattle.dl_sev.specs.declared.range.Range.{Range}
 use Rattle.dl_sev.specs.declared.fault.ExpandFault.{ExpandFault}
 use Rattle.dl_sev.specs.declared.fault.ExpandFault.TheVariants.{TooLong, OutOfMemory}
-use Rattle.dl_sev.specs.Weighing.{weight_of}
+use Rattle.dl_plan.specs.Fine.{numerator_over}
 use Rattle.dl_sev.specs.Ranges.{floor_of, steps_in, value_at, range_values, list_values, range_denominator, IsRange, RefusesRanges, PassesRoom}
 use Rattle.dl_sev.proofs.Sharing.{share_is}
 
@@ -51,13 +52,13 @@ module _ (r : Range) (range : IsRange r) (c : ℕ) (common : c ≡ range_denomin
   divides = subst (λ n. All (λ x. x.den ∣ n) numbers) (sym common) (den_divides 1 numbers)
 
   abbrev F : ℕ
-  F = weight_of c r.from
+  F = numerator_over c r.from
 
   abbrev T : ℕ
-  T = weight_of c r.to
+  T = numerator_over c r.to
 
   abbrev S : ℕ
-  S = weight_of c r.step
+  S = numerator_over c r.step
 
   from_is : r.from ≡ F over c
   from_is = sym (share_is r.from c pos (divides zero r.from (omega arith)))
@@ -68,20 +69,20 @@ module _ (r : Range) (range : IsRange r) (c : ℕ) (common : c ≡ range_denomin
   step_is : r.step ≡ S over c
   step_is = sym (share_is r.step c pos (divides (suc (suc zero)) r.from (omega arith)))
 
-  pub rising : weight_of c r.from ≤ weight_of c r.to
+  pub rising : numerator_over c r.from ≤ numerator_over c r.to
   rising = le_of_mul-le-mul_right (le_over F c T c pos pos
       (subst (λ y. F over c ≤ℚ y) to_is (subst (λ y. y ≤ℚ r.to) from_is range.rising))) pos
 
-  pub step_pos : 0 < weight_of c r.step
+  pub step_pos : 0 < numerator_over c r.step
   step_pos = omega (arith, lt_over 0 1 S c (omega arith) pos (subst (λ y. whole 0 <ℚ y) step_is range.step))
 
-  pub steps_are : steps_in r ≡ (weight_of c r.to - weight_of c r.from) / weight_of c r.step
+  pub steps_are : steps_in r ≡ (numerator_over c r.to - numerator_over c r.from) / numerator_over c r.step
   steps_are =
       ap floor_of (ap₂ (λ x y. (x -ℚ y) /ℚ r.step) to_is from_is ∙ ap (λ s. (T over c -ℚ F over c) /ℚ s) step_is
       ∙ ap (λ y. y /ℚ S over c) (minus_over T F c pos) ∙ ratio_over (T - F) S c pos step_pos)
       ∙ floor_over (T - F) S step_pos
 
-  pub value_is : (k : ℕ) → value_at r k ≡ (weight_of c r.from + k * weight_of c r.step) over c
+  pub value_is : (k : ℕ) → value_at r k ≡ (numerator_over c r.from + k * numerator_over c r.step) over c
   value_is k =
       ap₂ (λ x s. x +ℚ whole k *ℚ s) from_is step_is
       ∙ ap (λ y. F over c +ℚ y) (over_mul k 1 S c (omega arith) pos
@@ -92,12 +93,13 @@ module _ (r : Range) (range : IsRange r) (c : ℕ) (common : c ≡ range_denomin
   within : (k : ℕ) → k ≤ (T - F) / S → F + k * S ≤ T
   within k h = omega (arith, mul-le-mul_right S h, div-mul-le_self (T - F) S, rising)
 
-  pub value_fits : (k : ℕ) → c ≤ 1000000 → k ≤ (weight_of c r.to - weight_of c r.from) / weight_of c r.step
-      → FitsFrac ((weight_of c r.from + k * weight_of c r.step) over c)
+  pub value_fits : (k : ℕ) → c ≤ most_range_parts → k ≤ (numerator_over c r.to - numerator_over c r.from) /
+      numerator_over c r.step
+      → FitsFrac ((numerator_over c r.from + k * numerator_over c r.step) over c)
   value_fits k small h =
       let num : r.to.num ≤ 10 ^ 11 = omega (arith, range.digits) in
-      let part : c / r.to.den ≤ 1000000 = omega (arith, div-le_self c r.to.den, small) in
-      let top : T ≤ 10 ^ 11 * 1000000 = mul-le-mul num part in
+      let part : c / r.to.den ≤ most_range_parts = omega (arith, div-le_self c r.to.den, small) in
+      let top : T ≤ 10 ^ 11 * most_range_parts = mul-le-mul num part in
       over_fits _ c pos (omega (arith, within k h, top)) (omega (arith, small))
 
 pub values_length : (r : Range) → length (range_values r) ≡ steps_in r + 1
@@ -108,7 +110,8 @@ pub one_value : (r : Range) → IsRange r → r.from ≡ r.to → range_values r
 one_value r range same =
     let c = range_denominator r in
     let none : steps_in r ≡ 0 = steps_are r range c refl
-    ∙ ap (λ n. n / weight_of c r.step) (omega (arith, ap (weight_of c) same)) ∙ nothing_over (weight_of c r.step) in
+    ∙ ap (λ n. n / numerator_over c r.step) (omega (arith, ap (numerator_over c) same))
+    ∙ nothing_over (numerator_over c r.step) in
     ap (λ n. map (value_at r) (range_with_len 0 (n + 1))) none
     ∙ ap (λ y. y ∷ []) (value_is r range c refl zero ∙ ap (λ n. n over c) (omega arith)
     ∙ share_is r.from c (common_pos (r.from ∷ r.to ∷ r.step ∷ []))
@@ -140,9 +143,6 @@ part_le items i =
 pub some_if : {A : Type 0} (o : Option A) (P : Type 0) (v : A) → SomeIff o P v → P → IsSome o
 some_if None P v h p = absurd (h p)
 some_if (Some x) P v h p = refl
-
-pub some_value : {A : Type 0} (o : Option A) (P : Type 0) (v x : A) → SomeIff o P v → o ≡ Some x → x ≡ v
-some_value o P v x h e = (subst (λ p. SomeIff p P v) e h).1
 
 -- ---- one more
 

@@ -6,7 +6,7 @@ use Rattle.dl_exact.specs.Fraction.{Fraction, whole, ◌over◌, ◌<ℚ◌}
 use Rattle.dl_exact.proofs.Over.{over_lt, lt_over}
 use Rattle.dl_exact.proofs.Parts.{num_pos, quotient_is, whole_den}
 use Rattle.dl_plan.specs.Fine.{IsWhole}
-use Rattle.dl_plan.proofs.Cessions.{whole_if, whole_only}
+use Rattle.dl_plan.proofs.Clauses.{whole_if, whole_only}
 use Rattle.dl_sev.specs.Buckets.{buckets}
 
 pub zero_test : (a : ℕ) → IsTrue (nat_eq a 0) → a ≡ 0

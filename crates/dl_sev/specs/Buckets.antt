@@ -7,7 +7,7 @@ use Rattle.dl_sev.specs.declared.fault.AmountFault.{AmountFault}
 use Rattle.dl_sev.specs.declared.fault.AmountFault.TheVariants.{OffGrid, TooFar, OutOfMemory}
 
 -- both parts are below 10^18
-pub record IsModest (x : Fraction) : Type 0 where
+pub record HasPartsOf18Digits (x : Fraction) : Type 0 where
   pub num : x.num < 10 ^ 18
   pub den : x.den < 10 ^ 18
 
@@ -16,19 +16,19 @@ abbrev pub buckets : Fraction → Fraction → Fraction
 buckets bs x = x /ℚ bs
 
 -- the element at i is the first that P holds of
-pub record IsFirst (P : Fraction → Type 0) (xs : List Fraction) (i : ℕ) : Type 0 where
+pub record IsFirstWhere (P : Fraction → Type 0) (xs : List Fraction) (i : ℕ) : Type 0 where
   pub inside : i < length xs
   pub here : (d : Fraction) → P (slice_index_or xs i d)
   pub before : (k : ℕ) (d : Fraction) → k < i → ¬ P (slice_index_or xs k d)
 
 -- the amounts are the values in buckets, each at most 2^20
-pub record AreAmounts (values : List Fraction) (bs : Fraction) (made : List ℕ) : Type 0 where
+pub record AreInBuckets (values : List Fraction) (bs : Fraction) (made : List ℕ) : Type 0 where
   pub same : map whole made ≡ map (buckets bs) values
   pub near : All (λ amount. amount ≤ most_amount) made
 
 -- the first value that is no whole number of buckets; else the first above 2^20 of them
 abbrev pub RefusesAmounts : List Fraction → Fraction → AmountFault → Type 0
-RefusesAmounts values bs (OffGrid i) = IsFirst (λ x. ¬ IsWhole (buckets bs x)) values i
+RefusesAmounts values bs (OffGrid i) = IsFirstWhere (λ x. ¬ IsWhole (buckets bs x)) values i
 RefusesAmounts values bs (TooFar i) = All (λ x. IsWhole (buckets bs x)) values
-    × IsFirst (λ x. whole most_amount <ℚ buckets bs x) values i
+    × IsFirstWhere (λ x. whole most_amount <ℚ buckets bs x) values i
 RefusesAmounts values bs OutOfMemory = ⊤

@@ -3,7 +3,7 @@ use Rattle.std.specs.Prelude.{ℕ, ◌+◌, ◌*◌}
 use Rattle.std.specs.Int.{div_ceil}
 use Rattle.dl_plan.specs.Fine.{IsWhole}
 use Rattle.dl_plan.specs.declared.cede.CedeLayer.{CedeLayer}
-use Rattle.dl_plan.specs.Cession.{Clause, kept}
+use Rattle.dl_plan.specs.Clause.{Clause, kept}
 use Rattle.dl_plan.specs.Horizon.{edge}
 
 -- the clause maps every multiple of the step to a whole number

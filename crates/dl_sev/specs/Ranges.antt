@@ -1,6 +1,7 @@
 -- The values of a list: a, a + s, a + 2s, and so on, as long as the value does not pass b.
 use Rattle.std.specs.Prelude.{ℕ, ◌≡◌, ◌⊎◌, ◌+◌, ◌<◌, ◌≤◌, ◌/◌, ◌^◌, ⊤, List, [], ◌∷◌, length, map, flat_map}
 use Rattle.std.specs.List.{range_with_len}
+use Rattle.dl_limits.specs.Limits.{most_range_parts, most_values}
 use Rattle.dl_exact.specs.Fraction.{Fraction, whole, ◌+ℚ◌, ◌-ℚ◌, ◌*ℚ◌, ◌/ℚ◌, ◌≤ℚ◌, ◌<ℚ◌}
 use Rattle.dl_plan.specs.Fine.{common_denominator}
 use Rattle.dl_sev.specs.declared.range.Range.{Range}
@@ -30,7 +31,7 @@ abbrev pub range_denominator : Range → ℕ
 range_denominator r = common_denominator (r.from ∷ r.to ∷ r.step ∷ [])
 
 abbrev pub IsShared : Range → Type 0
-IsShared r = range_denominator r ≤ 1000000
+IsShared r = range_denominator r ≤ most_range_parts
 
 -- a step above 0 from the first value up to the last, which has at most 11 digits in its first
 -- part; one number, or numbers with a small common denominator
@@ -42,10 +43,10 @@ pub record IsRange (r : Range) : Type 0 where
 
 -- there are more than 1,024 values
 abbrev pub RefusesRanges : List Range → ExpandFault → Type 0
-RefusesRanges ranges TooLong = 1024 < length (list_values ranges)
+RefusesRanges ranges TooLong = most_values < length (list_values ranges)
 RefusesRanges ranges OutOfMemory = ⊤
 
 -- with the values of the range there are more than 1,024, of which there are some already
 abbrev pub PassesRoom : ℕ → Range → ExpandFault → Type 0
-PassesRoom already r TooLong = 1024 < already + length (range_values r)
+PassesRoom already r TooLong = most_values < already + length (range_values r)
 PassesRoom already r OutOfMemory = ⊤

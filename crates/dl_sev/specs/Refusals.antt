@@ -3,7 +3,7 @@ use Rattle.std.specs.Prelude.{ℕ, ◌≤◌, ⊤, List, map, All, Any}
 use Rattle.dl_plan.specs.declared.item.Item.{Item}
 use Rattle.dl_plan.specs.declared.severity.Sev.{Sev}
 use Rattle.dl_plan.specs.Fine.{IsFine, IsWhole}
-use Rattle.dl_plan.specs.Cession.{Clause, kept}
+use Rattle.dl_plan.specs.Clause.{Clause, kept}
 use Rattle.dl_sev.specs.declared.weights.Weights.{Weights}
 use Rattle.dl_sev.specs.Steps.{mixture}
 use Rattle.dl_sev.specs.declared.fault.MixFault.{MixFault}
@@ -19,10 +19,10 @@ RefusesAbove sev attach above_fault.NoneAbove = All (λ item. item.amount ≤ at
 RefusesAbove sev attach above_fault.OutOfMemory = ⊤
 
 -- the clause maps an amount to no whole number
-abbrev pub RefusesCession : List Item → Clause → CedeFault → Type 0
-RefusesCession items clause cede_fault.OffGrid =
+abbrev pub RefusesClause : List Item → Clause → CedeFault → Type 0
+RefusesClause items clause cede_fault.OffGrid =
     Any (λ item. ¬ IsWhole (kept clause item.amount)) items
-RefusesCession items clause cede_fault.OutOfMemory = ⊤
+RefusesClause items clause cede_fault.OutOfMemory = ⊤
 
 -- the products of a weight and an atom's probability have a common denominator above 2^30
 abbrev pub RefusesMixture : List Sev → Weights → MixFault → Type 0

@@ -4,7 +4,7 @@ use Rattle.dl_exact.specs.Fraction.{Fraction, ◌over◌, ◌*ℚ◌}
 use Rattle.dl_plan.specs.declared.item.Item.{Item}
 use Rattle.dl_plan.specs.declared.severity.Sev.{Sev}
 use Rattle.dl_plan.specs.Severity.{Pairs, pairs_of}
-use Rattle.dl_plan.specs.Cession.{Clause, layer, kept}
+use Rattle.dl_plan.specs.Clause.{Clause, layer, kept}
 use Rattle.dl_sev.specs.declared.weights.Weights.{Weights}
 
 -- each amount with its weight over the total
@@ -32,8 +32,8 @@ abbrev pub mixture : List Sev → Weights → Pairs
 mixture atoms weights = mixture_of weights.total atoms weights.weights
 
 -- the share of an item over a total
-abbrev pub share_of : Fraction → ℕ → Item → Fraction
-share_of share total item = share *ℚ item.weight over total
+abbrev pub mixed_probability : Fraction → ℕ → Item → Fraction
+mixed_probability share total item = share *ℚ item.weight over total
 
 -- each amount mapped, with its probability
 abbrev pub with_amounts : (ℕ → ℕ) → Pairs → Pairs

@@ -1,14 +1,10 @@
 -- Whole weights of a list of probabilities.
-use Rattle.std.specs.Prelude.{ℕ, ◌≢◌, ◌*◌, ◌/◌, ⊤, List}
+use Rattle.std.specs.Prelude.{◌≢◌, ⊤, List}
 use Rattle.dl_exact.specs.Fraction.{Fraction, whole}
 use Rattle.dl_exact.specs.Sum.{sum_over}
 use Rattle.dl_plan.specs.Fine.{IsFine}
 use Rattle.dl_sev.specs.declared.fault.WeighFault.{WeighFault}
 use Rattle.dl_sev.specs.declared.fault.WeighFault.TheVariants.{TooFine, NotOne, OutOfMemory}
-
--- the numerator over c, which is a multiple of the denominator
-abbrev pub weight_of : ℕ → Fraction → ℕ
-weight_of c x = x.num * (c / x.den)
 
 abbrev pub sum_of : List Fraction → Fraction
 sum_of xs = sum_over xs (λ x. x)

@@ -1,13 +1,12 @@
 //! Atoms and their mixture.
 
-ghost use Rattle.std.specs.Prelude.{◌≡◌, ◌++◌, ◌≤◌, ◌<◌, ◌^◌, length, map, sum, zip, IfOk, IfErr, OnOk, MatchResult};
+ghost use Rattle.std.specs.Prelude.{◌≡◌, ◌++◌, ◌≤◌, ◌<◌, ◌^◌, length, map, sum, zip, IfOk, OnOk, MatchResult};
 ghost use Rattle.dl_limits.specs.Limits.{most_parts};
 ghost use Rattle.dl_exact.specs.Fraction.{◌over◌};
 ghost use Rattle.dl_plan.specs.Fine.{IsFine};
 ghost use Rattle.dl_plan.specs.Weighted.{amounts_of};
 ghost use Rattle.dl_plan.specs.Severity.{Means};
-ghost use Rattle.dl_sev.specs.Steps.{weighed, items_of, mixture, share_of};
-ghost use Rattle.dl_sev.specs.declared.fault.MixFault.TheVariants.{OutOfMemory};
+ghost use Rattle.dl_sev.specs.Steps.{weighed, items_of, mixture, mixed_probability};
 ghost use Rattle.dl_sev.specs.Refusals.{RefusesMixture};
 
 use crate::fault::MixFault;
@@ -17,8 +16,8 @@ use dl_frac::Frac;
 use dl_plan::{Item, Sev, common_denominator_of};
 use std::alloc::{AllocError, Global};
 
-/// The severity of amounts with whole weights: equal amounts are added up, and weights of 0 dropped.
-/// The weights sum to their total, which is from 1 to 2^30.
+/// The severity of amounts with whole weights: equal amounts are added up, and weights of 0
+/// dropped. The weights sum to their total, which is from 1 to 2^30.
 pub fn merge(alloc: Global, amounts: &[u32], weights: &Weights) -> Result<Sev, AllocError>
     requires lengths { length amounts.now ≡ length weights.now.weights }
     requires sum { sum weights.now.weights ≡ weights.now.total }
@@ -44,8 +43,8 @@ fn items_of(alloc: Global, amounts: &[u32], weights: &[u32]) -> Result<Vec<Item>
     Ok(items)
 }
 
-/// The mixture of atoms: the probabilities of each times its weight over the total, which is from 1 to
-/// 2^30. `TooFine` exactly where these products have a common denominator above 2^30.
+/// The mixture of atoms: the probabilities of each times its weight over the total, which is from 1
+/// to 2^30. `TooFine` exactly where these products have a common denominator above 2^30.
 pub fn mix(alloc: Global, atoms: &[Sev], weights: &Weights) -> Result<Sev, MixFault>
     requires lengths { length atoms.now ≡ length weights.now.weights }
     requires sum { sum weights.now.weights ≡ weights.now.total }
@@ -70,9 +69,8 @@ pub fn mix(alloc: Global, atoms: &[Sev], weights: &Weights) -> Result<Sev, MixFa
 }
 
 /// The amounts of an atom put behind others.
-fn push_amounts(amounts: &mut Vec<u32>, items: &[Item]) -> Result<(), MixFault>
-    ensures ok { IfOk result (λ _. amounts.new.items ≡ amounts.old.items ++ amounts_of items.now) }
-    ensures refused { IfErr result (λ fault. fault ≡ OutOfMemory) }
+fn push_amounts(amounts: &mut Vec<u32>, items: &[Item]) -> Result<(), AllocError>
+    ensures { IfOk result (λ _. amounts.new.items ≡ amounts.old.items ++ amounts_of items.now) }
 {
     'items: for item in items {
         amounts.push(item.amount)?;
@@ -81,11 +79,12 @@ fn push_amounts(amounts: &mut Vec<u32>, items: &[Item]) -> Result<(), MixFault>
 }
 
 /// The probabilities of an atom, times `weight` over `total`, put behind others.
-fn push_probs(probs: &mut Vec<Frac>, atom: &Sev, weight: u32, total: u32) -> Result<(), MixFault>
+fn push_probs(probs: &mut Vec<Frac>, atom: &Sev, weight: u32, total: u32) -> Result<(), AllocError>
     requires some { 0 < total }
     requires within { total ≤ most_parts }
-    ensures ok { IfOk result (λ _. probs.new.items ≡ probs.old.items ++ map (share_of (weight over total) atom.now.total) atom.now.items) }
-    ensures refused { IfErr result (λ fault. fault ≡ OutOfMemory) }
+    ensures { IfOk result (λ _. probs.new.items
+        ≡ probs.old.items ++ map (mixed_probability (weight over total) atom.now.total)
+        atom.now.items) }
 {
     'items: for item in atom.items.as_slice() {
         let num = weight as u128 * item.weight as u128;

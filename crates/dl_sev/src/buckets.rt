@@ -1,11 +1,13 @@
 //! Values in money as whole numbers of buckets.
 
 ghost use Rattle.std.specs.Prelude.{◌≡◌, ◌≤◌, ◌^◌, ◌<◌, ℕ, map, All, length, slice_index_or, IfOk, IfErr, IfSome, IfNone, IsTrue, ◌↔◌, MatchResult};
+ghost use Rattle.dl_limits.specs.Limits.{most_values};
 ghost use Rattle.dl_exact.specs.Fraction.{Fraction, whole, ◌<ℚ◌};
 ghost use Rattle.dl_plan.specs.Fine.{IsWhole};
-ghost use Rattle.dl_sev.specs.Buckets.{IsModest, IsFirst, AreAmounts, RefusesAmounts, buckets};
+ghost use Rattle.dl_sev.specs.Buckets.{HasPartsOf18Digits, IsFirstWhere, AreInBuckets, RefusesAmounts, buckets};
 
 use crate::fault::AmountFault;
+use crate::list::put;
 use dl_frac::Frac;
 use dl_limits::MOST_AMOUNT;
 use std::alloc::Global;
@@ -15,10 +17,10 @@ use std::alloc::Global;
 /// 1,024 values, and the parts of each and of `bs` are below 10^18.
 pub fn amounts(alloc: Global, values: &[Frac], bs: Frac) -> Result<Vec<u32>, AmountFault>
     requires bucket { whole 0 <ℚ bs }
-    requires modest { IsModest bs }
-    requires count { length values.now ≤ 1024 }
-    requires parts { All IsModest values.now }
-    ensures { MatchResult result (λ made. AreAmounts values.now bs made.items)
+    requires modest { HasPartsOf18Digits bs }
+    requires count { length values.now ≤ most_values }
+    requires parts { All HasPartsOf18Digits values.now }
+    ensures { MatchResult result (λ made. AreInBuckets values.now bs made.items)
         (RefusesAmounts values.now bs) }
 {
     if let Some(at) = first_off_grid(values, bs) {
@@ -30,7 +32,7 @@ pub fn amounts(alloc: Global, values: &[Frac], bs: Frac) -> Result<Vec<u32>, Amo
         if amount > MOST_AMOUNT as u128 {
             return Err(AmountFault::TooFar(at as u32));
         }
-        made.push(amount as u32)?;
+        put(&mut made, amount as u32)?;
     }
     Ok(made)
 }
@@ -38,10 +40,10 @@ pub fn amounts(alloc: Global, values: &[Frac], bs: Frac) -> Result<Vec<u32>, Amo
 /// The place of the first value that is no whole number of buckets.
 fn first_off_grid(values: &[Frac], bs: Frac) -> Option<u32>
     requires bucket { whole 0 <ℚ bs }
-    requires modest { IsModest bs }
-    requires count { length values.now ≤ 1024 }
-    requires parts { All IsModest values.now }
-    ensures first { IfSome result (IsFirst (λ x. ¬ IsWhole (buckets bs x)) values.now) }
+    requires modest { HasPartsOf18Digits bs }
+    requires count { length values.now ≤ most_values }
+    requires parts { All HasPartsOf18Digits values.now }
+    ensures first { IfSome result (IsFirstWhere (λ x. ¬ IsWhole (buckets bs x)) values.now) }
     ensures none { IfNone result (All (λ x. IsWhole (buckets bs x)) values.now) }
 {
     'values: for (at, &value) in values.iter().enumerate() {
@@ -55,8 +57,8 @@ fn first_off_grid(values: &[Frac], bs: Frac) -> Option<u32>
 /// Whether a value is a whole number of buckets.
 fn is_on_grid(value: Frac, bs: Frac) -> bool
     requires bucket { whole 0 <ℚ bs }
-    requires modest { IsModest bs }
-    requires parts { IsModest value }
+    requires modest { HasPartsOf18Digits bs }
+    requires parts { HasPartsOf18Digits value }
     ensures { IsTrue result ↔ IsWhole (buckets bs value) }
 {
     (value.num() as u128 * bs.den() as u128) % (value.den() as u128 * bs.num() as u128) == 0
@@ -65,8 +67,8 @@ fn is_on_grid(value: Frac, bs: Frac) -> bool
 /// A value that is a whole number of buckets, as that number.
 fn quotient(value: Frac, bs: Frac) -> u128
     requires bucket { whole 0 <ℚ bs }
-    requires modest { IsModest bs }
-    requires parts { IsModest value }
+    requires modest { HasPartsOf18Digits bs }
+    requires parts { HasPartsOf18Digits value }
     requires on_grid { IsWhole (buckets bs value) }
     ensures { buckets bs value ≡ whole result }
 {

@@ -1,13 +1,15 @@
 //! The values of a list.
 
 ghost use Rattle.std.specs.Prelude.{◌≡◌, ◌≢◌, ◌++◌, ◌≤◌, All, length, IfOk, IfErr, MatchResult};
+ghost use Rattle.dl_limits.specs.Limits.{most_range_parts, most_values};
 ghost use Rattle.dl_sev.specs.Ranges.{IsRange, IsShared, RefusesRanges, PassesRoom, list_values, range_values, range_denominator};
 
 use crate::fault::ExpandFault;
+use crate::list::put;
 use crate::range::Range;
-use crate::weights::numerator;
 use dl_frac::Frac;
-use dl_plan::common_denominator_of;
+use dl_limits::MOST_VALUES;
+use dl_plan::{common_denominator_of, numerator_over};
 use std::alloc::Global;
 
 /// The values of the ranges in order. `TooLong` exactly where there are more than 1,024.
@@ -15,7 +17,7 @@ pub fn expand(alloc: Global, items: &[Range]) -> Result<Vec<Frac>, ExpandFault>
     requires { All IsRange items.now }
     ensures values { MatchResult result (λ values. values.items ≡ list_values items.now)
         (RefusesRanges items.now) }
-    ensures few { IfOk result (λ values. length values.items ≤ 1024) }
+    ensures few { IfOk result (λ values. length values.items ≤ most_values) }
 {
     let mut values = Vec::new(alloc);
     'items: for item in items {
@@ -29,10 +31,10 @@ pub fn expand(alloc: Global, items: &[Range]) -> Result<Vec<Frac>, ExpandFault>
 /// The values of a range put behind others.
 fn push_range(values: &mut Vec<Frac>, range: &Range) -> Result<(), ExpandFault>
     requires range { IsRange range.now }
-    requires room { length values.old.items ≤ 1024 }
+    requires room { length values.old.items ≤ most_values }
     ensures values { IfOk result (λ _. values.new.items
         ≡ values.old.items ++ range_values range.now) }
-    ensures few { IfOk result (λ _. length values.new.items ≤ 1024) }
+    ensures few { IfOk result (λ _. length values.new.items ≤ most_values) }
     ensures long { IfErr result (PassesRoom (length values.old.items) range.now) }
 {
     if range.from == range.to {
@@ -45,16 +47,16 @@ fn push_range(values: &mut Vec<Frac>, range: &Range) -> Result<(), ExpandFault>
 fn push_one(values: &mut Vec<Frac>, range: &Range) -> Result<(), ExpandFault>
     requires range { IsRange range.now }
     requires one { range.now.from ≡ range.now.to }
-    requires room { length values.old.items ≤ 1024 }
+    requires room { length values.old.items ≤ most_values }
     ensures values { IfOk result (λ _. values.new.items
         ≡ values.old.items ++ range_values range.now) }
-    ensures few { IfOk result (λ _. length values.new.items ≤ 1024) }
+    ensures few { IfOk result (λ _. length values.new.items ≤ most_values) }
     ensures long { IfErr result (PassesRoom (length values.old.items) range.now) }
 {
-    if values.len() >= 1024 {
+    if values.len() >= MOST_VALUES {
         return Err(ExpandFault::TooLong);
     }
-    values.push(range.from)?;
+    put(values, range.from)?;
     Ok(())
 }
 
@@ -62,22 +64,22 @@ fn push_one(values: &mut Vec<Frac>, range: &Range) -> Result<(), ExpandFault>
 fn push_steps(values: &mut Vec<Frac>, range: &Range, den: u64) -> Result<(), ExpandFault>
     requires range { IsRange range.now }
     requires den { den ≡ range_denominator range.now }
-    requires shared { den ≤ 1000000 }
-    requires room { length values.old.items ≤ 1024 }
+    requires shared { den ≤ most_range_parts }
+    requires room { length values.old.items ≤ most_values }
     ensures values { IfOk result (λ _. values.new.items
         ≡ values.old.items ++ range_values range.now) }
-    ensures few { IfOk result (λ _. length values.new.items ≤ 1024) }
+    ensures few { IfOk result (λ _. length values.new.items ≤ most_values) }
     ensures long { IfErr result (PassesRoom (length values.old.items) range.now) }
 {
-    let from = numerator(range.from, den);
-    let step = numerator(range.step, den);
-    let steps = (numerator(range.to, den) - from) / step;
-    if steps >= 1024 - values.len() as u128 {
+    let from = numerator_over(range.from, den);
+    let step = numerator_over(range.step, den);
+    let steps = (numerator_over(range.to, den) - from) / step;
+    if steps >= (MOST_VALUES - values.len()) as u128 {
         return Err(ExpandFault::TooLong);
     }
     'steps: for k in 0..steps as u64 + 1 {
         let value = Frac::make(from + k as u128 * step, den as u128).unwrap();
-        values.push(value)?;
+        put(values, value)?;
     }
     Ok(())
 }

@@ -1,6 +1,6 @@
 //! Why a step of a severity is refused.
 
-use std::alloc::{AllocError, AllocFailed};
+use std::alloc::AllocError;
 use thiserror::Error;
 
 /// Why a severity was not conditioned.
@@ -47,17 +47,6 @@ impl From<AllocError> for CedeFault {
     }
 }
 
-impl<T: Drop> From<AllocFailed<T>> for CedeFault {
-    ghost use Rattle.dl_sev.specs.declared.fault.CedeFault.TheVariants.{OutOfMemory};
-    ghost use Rattle.std.specs.Prelude.{◌≡◌};
-
-    ghost from_gives = { λ _ fault. fault ≡ OutOfMemory };
-
-    fn from(_failed: AllocFailed<T>) -> CedeFault {
-        CedeFault::OutOfMemory
-    }
-}
-
 /// Why probabilities have no whole weights.
 #[derive(Clone, Copy, Debug, PartialEq, Eq, Error)]
 pub enum WeighFault {
@@ -83,17 +72,6 @@ impl From<AllocError> for WeighFault {
     }
 }
 
-impl<T: Drop> From<AllocFailed<T>> for WeighFault {
-    ghost use Rattle.dl_sev.specs.declared.fault.WeighFault.TheVariants.{OutOfMemory};
-    ghost use Rattle.std.specs.Prelude.{◌≡◌};
-
-    ghost from_gives = { λ _ fault. fault ≡ OutOfMemory };
-
-    fn from(_failed: AllocFailed<T>) -> WeighFault {
-        WeighFault::OutOfMemory
-    }
-}
-
 /// Why atoms were not mixed.
 #[derive(Clone, Copy, Debug, PartialEq, Eq, Error)]
 pub enum MixFault {
@@ -112,17 +90,6 @@ impl From<AllocError> for MixFault {
     ghost from_gives = { λ _ fault. fault ≡ OutOfMemory };
 
     fn from(_error: AllocError) -> MixFault {
-        MixFault::OutOfMemory
-    }
-}
-
-impl<T: Drop> From<AllocFailed<T>> for MixFault {
-    ghost use Rattle.dl_sev.specs.declared.fault.MixFault.TheVariants.{OutOfMemory};
-    ghost use Rattle.std.specs.Prelude.{◌≡◌};
-
-    ghost from_gives = { λ _ fault. fault ≡ OutOfMemory };
-
-    fn from(_failed: AllocFailed<T>) -> MixFault {
         MixFault::OutOfMemory
     }
 }
@@ -152,17 +119,6 @@ impl From<AllocError> for AmountFault {
     }
 }
 
-impl<T: Drop> From<AllocFailed<T>> for AmountFault {
-    ghost use Rattle.dl_sev.specs.declared.fault.AmountFault.TheVariants.{OutOfMemory};
-    ghost use Rattle.std.specs.Prelude.{◌≡◌};
-
-    ghost from_gives = { λ _ fault. fault ≡ OutOfMemory };
-
-    fn from(_failed: AllocFailed<T>) -> AmountFault {
-        AmountFault::OutOfMemory
-    }
-}
-
 /// Why a list was not expanded.
 #[derive(Clone, Copy, Debug, PartialEq, Eq, Error)]
 pub enum ExpandFault {
@@ -181,17 +137,6 @@ impl From<AllocError> for ExpandFault {
     ghost from_gives = { λ _ fault. fault ≡ OutOfMemory };
 
     fn from(_error: AllocError) -> ExpandFault {
-        ExpandFault::OutOfMemory
-    }
-}
-
-impl<T: Drop> From<AllocFailed<T>> for ExpandFault {
-    ghost use Rattle.dl_sev.specs.declared.fault.ExpandFault.TheVariants.{OutOfMemory};
-    ghost use Rattle.std.specs.Prelude.{◌≡◌};
-
-    ghost from_gives = { λ _ fault. fault ≡ OutOfMemory };
-
-    fn from(_failed: AllocFailed<T>) -> ExpandFault {
         ExpandFault::OutOfMemory
     }
 }

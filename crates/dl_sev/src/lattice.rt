@@ -3,7 +3,7 @@
 ghost use Rattle.std.specs.Prelude.{◌<◌, ◌^◌, ◌↔◌, IsTrue, All};
 ghost use Rattle.dl_limits.specs.Limits.{sum_bound};
 ghost use Rattle.dl_plan.specs.Fine.{IsWhole};
-ghost use Rattle.dl_plan.specs.Cession.{kept, IsCession};
+ghost use Rattle.dl_plan.specs.Clause.{kept, IsClause};
 ghost use Rattle.dl_sev.specs.Fits.{FitsStep, FitsAfter, FitsLayer};
 
 use dl_plan::{Cede, CedeLayer};
@@ -12,7 +12,7 @@ use dl_plan::{Cede, CedeLayer};
 /// the ends of its layers what it keeps is a straight line, so the two multiples past each end
 /// decide. Takes no memory.
 pub fn fits(cede: &Cede, step: u32) -> bool
-    requires { IsCession cede.now }
+    requires { IsClause cede.now }
     ensures { IsTrue result ↔ FitsStep cede.now step }
 {
     step == 0 || is_whole_at(cede, step as u64) && fits_layers(cede, step)
@@ -21,7 +21,7 @@ pub fn fits(cede: &Cede, step: u32) -> bool
 /// Whether the multiples of `step` just past both ends of each layer are mapped to whole numbers.
 fn fits_layers(cede: &Cede, step: u32) -> bool
     requires step { 0 < step }
-    requires cession { IsCession cede.now }
+    requires clause { IsClause cede.now }
     ensures { IsTrue result ↔ All (FitsLayer cede.now step) cede.now.1 }
 {
     cede.layers()
@@ -32,7 +32,7 @@ fn fits_layers(cede: &Cede, step: u32) -> bool
 /// Whether those just past both ends of one layer are.
 fn fits_layer(cede: &Cede, step: u32, layer: &CedeLayer) -> bool
     requires step { 0 < step }
-    requires cession { IsCession cede.now }
+    requires clause { IsClause cede.now }
     ensures { IsTrue result ↔ FitsLayer cede.now step layer.now }
 {
     fits_after(cede, step, layer.attach as u64) && fits_after(cede, step, layer.edge())
@@ -43,7 +43,7 @@ fn fits_layer(cede: &Cede, step: u32, layer: &CedeLayer) -> bool
 fn fits_after(cede: &Cede, step: u32, place: u64) -> bool
     requires step { 0 < step }
     requires place { place < 2 ^ 33 }
-    requires cession { IsCession cede.now }
+    requires clause { IsClause cede.now }
     ensures { IsTrue result ↔ FitsAfter cede.now step place }
 {
     let first = place.div_ceil(step as u64) * step as u64;
@@ -53,7 +53,7 @@ fn fits_after(cede: &Cede, step: u32, place: u64) -> bool
 /// Whether the clause maps `x` to a whole number.
 fn is_whole_at(cede: &Cede, x: u64) -> bool
     requires amount { x < sum_bound }
-    requires cession { IsCession cede.now }
+    requires clause { IsClause cede.now }
     ensures { IsTrue result ↔ IsWhole (kept cede.now x) }
 {
     cede.at(x).is_some()

@@ -3,12 +3,13 @@
 ghost use Rattle.std.specs.Prelude.{◌≡◌, Option, map, All, IfOk, OnOk, MatchResult};
 ghost use Rattle.dl_plan.specs.Fine.{IsWhole};
 ghost use Rattle.dl_plan.specs.Severity.{pairs_of, conditioned, Means};
-ghost use Rattle.dl_plan.specs.Cession.{layer, kept, IsCession};
+ghost use Rattle.dl_plan.specs.Clause.{layer, kept, IsClause};
 ghost use Rattle.dl_sev.specs.Steps.{layered, ceded_each, with_amount};
-ghost use Rattle.dl_sev.specs.Refusals.{RefusesAbove, RefusesCession};
+ghost use Rattle.dl_sev.specs.Refusals.{RefusesAbove, RefusesClause};
 
 use crate::fault::{AboveFault, CedeFault};
 use crate::gather::gathered;
+use crate::list::put;
 use dl_plan::{Cede, Item, Sev, in_layer};
 use std::alloc::{AllocError, Global};
 
@@ -53,8 +54,8 @@ fn items_cut(
     Ok(made)
 }
 
-/// What of an amount lies above the attachment and within the limit.
-fn cut_amount(amount: u32, limit: Option<u32>, attach: u32) -> u32
+/// What of an amount lies above the attachment and within the limit, in buckets. Takes no memory.
+pub fn cut_amount(amount: u32, limit: Option<u32>, attach: u32) -> u32
     ensures { result ≡ layer limit attach amount }
 {
     in_layer(amount as u64, limit, attach) as u32
@@ -63,9 +64,9 @@ fn cut_amount(amount: u32, limit: Option<u32>, attach: u32) -> u32
 /// What the clause keeps of each amount. `OffGrid` exactly where that of an amount is no whole
 /// number of buckets.
 pub fn cede_each(alloc: Global, sev: &Sev, cede: &Cede) -> Result<Sev, CedeFault>
-    requires { IsCession cede.now }
+    requires { IsClause cede.now }
     ensures step { MatchResult result (λ made. Means made (ceded_each cede.now (pairs_of sev.now)))
-        (RefusesCession sev.now.items cede.now) }
+        (RefusesClause sev.now.items cede.now) }
     ensures whole { OnOk result (All (λ item. IsWhole (kept cede.now item.amount)) sev.now.items) }
 {
     let items = items_ceded(alloc, sev.items.as_slice(), cede)?;
@@ -74,10 +75,10 @@ pub fn cede_each(alloc: Global, sev: &Sev, cede: &Cede) -> Result<Sev, CedeFault
 
 /// The items with what the clause keeps of their amounts.
 fn items_ceded(alloc: Global, items: &[Item], cede: &Cede) -> Result<Vec<Item>, CedeFault>
-    requires { IsCession cede.now }
+    requires { IsClause cede.now }
     ensures step { MatchResult result (λ made. made.items
         ≡ map (with_amount (λ x. (kept cede.now x).num)) items.now)
-        (RefusesCession items.now cede.now) }
+        (RefusesClause items.now cede.now) }
     ensures whole { OnOk result (All (λ item. IsWhole (kept cede.now item.amount)) items.now) }
 {
     let mut made = Vec::new(alloc);
@@ -85,10 +86,14 @@ fn items_ceded(alloc: Global, items: &[Item], cede: &Cede) -> Result<Vec<Item>, 
         let Some(amount) = cede.at(item.amount as u64) else {
             return Err(CedeFault::OffGrid);
         };
-        made.push(Item {
-            amount: amount as u32,
-            weight: item.weight,
-        })?;
+        let amount = amount as u32;
+        put(
+            &mut made,
+            Item {
+                amount,
+                weight: item.weight,
+            },
+        )?;
     }
     Ok(made)
 }

@@ -10,6 +10,7 @@ mod fault;
 mod gather;
 mod lattice;
 mod layers;
+mod list;
 mod means;
 mod range;
 #[cfg(test)]
@@ -22,7 +23,7 @@ pub use buckets::amounts;
 pub use expand_list::expand;
 pub use fault::{AboveFault, AmountFault, CedeFault, ExpandFault, MixFault, WeighFault};
 pub use lattice::fits;
-pub use layers::{above, cede_each, cut};
+pub use layers::{above, cede_each, cut, cut_amount};
 pub use means::mean;
 pub use range::Range;
 pub use weighing::weigh;

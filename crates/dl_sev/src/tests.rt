@@ -2,7 +2,7 @@
 
 ghost use Rattle.std.specs.Prelude.{◌≡◌, ◌≤◌, ◌^◌, ◌↔◌, sum, IfOk, IsTrue};
 ghost use Rattle.dl_exact.specs.Fraction.{◌≤ℚ◌};
-ghost use Rattle.dl_sev.specs.Buckets.{IsModest};
+ghost use Rattle.dl_sev.specs.Buckets.{HasPartsOf18Digits};
 ghost use Rattle.dl_sev.specs.Ranges.{IsRange};
 
 use crate::{
@@ -15,7 +15,7 @@ use std::alloc::{AllocError, Global};
 use std::cmp::Ordering;
 
 /// Fractions of these parts; a part of 0 below the line is left out.
-fn fractions(alloc: Global, parts: &[(u64, u64)]) -> Result<Vec<Frac>, WeighFault> {
+fn fractions(alloc: Global, parts: &[(u64, u64)]) -> Result<Vec<Frac>, AllocError> {
     let mut probs = Vec::new(alloc);
     for &(num, den) in parts {
         if den > 0 {
@@ -140,13 +140,12 @@ fn merging(rt: HostRuntime) {
     );
 }
 
-/// The mixture of two atoms.
-fn mixed(
+/// The atoms that there are.
+fn atoms_of(
     alloc: Global,
     first: Option<Sev>,
     second: Option<Sev>,
-    parts: &[(u64, u64)],
-) -> Result<Sev, MixFault> {
+) -> Result<Vec<Sev>, AllocError> {
     let mut atoms = Vec::new(alloc);
     if let Some(atom) = first {
         atoms.push(atom)?;
@@ -154,6 +153,17 @@ fn mixed(
     if let Some(atom) = second {
         atoms.push(atom)?;
     }
+    Ok(atoms)
+}
+
+/// The mixture of two atoms.
+fn mixed(
+    alloc: Global,
+    first: Option<Sev>,
+    second: Option<Sev>,
+    parts: &[(u64, u64)],
+) -> Result<Sev, MixFault> {
+    let atoms = atoms_of(alloc, first, second)?;
     match weighed(alloc, parts) {
         Ok(weights) if weights.weights.as_slice().len() == atoms.len() => mix(
             alloc, &atoms, &weights,
@@ -246,7 +256,7 @@ fn clause(
             attach,
         }],
     )?;
-    Ok(if cede.is_cession() { Some(cede) } else { None })
+    Ok(if cede.is_clause() { Some(cede) } else { None })
 }
 
 #[test]
@@ -279,7 +289,7 @@ fn occurrence_clauses(rt: HostRuntime) -> Result<(), AllocError> {
 
 /// What the clause keeps of each amount.
 fn ceded(alloc: Global, sev: &Sev, cede: &Cede) -> Option<Sev> {
-    if cede.is_cession() {
+    if cede.is_clause() {
         cede_each(alloc, sev, cede).ok()
     } else {
         None
@@ -288,7 +298,7 @@ fn ceded(alloc: Global, sev: &Sev, cede: &Cede) -> Option<Sev> {
 
 /// Whether the clause fits the step; none where it is no clause.
 fn fits_step(cede: &Cede, step: u32) -> Option<bool> {
-    if cede.is_cession() {
+    if cede.is_clause() {
         Some(fits(cede, step))
     } else {
         None
@@ -471,7 +481,7 @@ fn amounts_of(
 
 /// Whether both parts are below 10^18.
 fn is_modest(x: Frac) -> bool
-    ensures { IsTrue result ↔ IsModest x }
+    ensures { IsTrue result ↔ HasPartsOf18Digits x }
 {
     x.num() < 1_000_000_000_000_000_000 && x.den() < 1_000_000_000_000_000_000
 }

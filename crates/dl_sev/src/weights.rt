@@ -3,12 +3,12 @@
 ghost use Rattle.std.specs.Prelude.{◌≡◌, ◌≤◌, ◌^◌, ◌↔◌, IfOk, IsTrue};
 ghost use Rattle.dl_limits.specs.Limits.{most_parts};
 ghost use Rattle.dl_exact.specs.Fraction.{whole};
-ghost use Rattle.dl_plan.specs.Fine.{common_denominator};
-ghost use Rattle.dl_sev.specs.Weighing.{weight_of, sum_of};
+ghost use Rattle.dl_plan.specs.Fine.{common_denominator, numerator_over};
+ghost use Rattle.dl_sev.specs.Weighing.{sum_of};
 ghost use Rattle.dl_sev.specs.Weighed.{IsWeighing};
 
 use dl_frac::Frac;
-use dl_plan::Many;
+use dl_plan::{Many, numerator_over};
 use std::alloc::{AllocError, Global};
 
 /// Whole weights, each of which has itself over the total as its probability.
@@ -20,13 +20,6 @@ pub struct Weights {
     pub total: u32,
 }
 
-/// The numerator of a fraction over a multiple of its denominator.
-pub(crate) fn numerator(x: Frac, den: u64) -> u128
-    ensures { result ≡ weight_of den x }
-{
-    x.num() as u128 * (den / x.den()) as u128
-}
-
 /// Whether fractions sum to 1, by their numerators over their common denominator.
 pub(crate) fn sum_to_one(probs: &[Frac], common: u32) -> bool
     requires { common ≡ common_denominator probs.now }
@@ -34,7 +27,7 @@ pub(crate) fn sum_to_one(probs: &[Frac], common: u32) -> bool
 {
     let mut left = common as u128;
     'probs: for &prob in probs {
-        let weight = numerator(prob, common as u64);
+        let weight = numerator_over(prob, common as u64);
         if weight > left {
             return false;
         }
@@ -52,7 +45,7 @@ pub(crate) fn over_common(alloc: Global, probs: &[Frac], common: u32) -> Result<
 {
     let mut weights = Vec::new(alloc);
     'probs: for &prob in probs {
-        weights.push(numerator(prob, common as u64) as u32)?;
+        weights.push(numerator_over(prob, common as u64) as u32)?;
     }
     Ok(Weights {
         weights: Many::from_vec(weights),

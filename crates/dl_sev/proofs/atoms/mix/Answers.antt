@@ -4,7 +4,7 @@ use Rattle.dl_exact.specs.Fraction.{◌over◌}
 use Rattle.dl_plan.specs.Fine.{IsFine}
 use Rattle.dl_plan.specs.Weighted.{amounts_of}
 use Rattle.dl_plan.specs.Severity.{probability}
-use Rattle.dl_sev.specs.Steps.{mixture_of, share_of}
+use Rattle.dl_sev.specs.Steps.{mixture_of, mixed_probability}
 use Rattle.dl_sev.proofs.Mixed.{amounts-more, probs-more, weighed-back, mixture_whole, mixture_one, firsts, seconds}
 use Rattle.dl_sev.specs.Weighing.{sum_of}
 use Rattle.dl_sev.proofs.atoms.mix.Goals as goal
@@ -14,30 +14,37 @@ atoms-preserved c =
     let atom = c.index-atoms-at.result in
     let t = c.args.weights.now.total in
     record {
-      amounts = amounts-more t c.args.atoms.now c.args.weights.now.weights c.atoms.at 0 atom c.atoms-test.true c.requires.lengths c.index-atoms-at.is c.atoms.amounts.items _ c.atoms.invariant.amounts
-          (c.in_ok-push_amounts.ensures.ok ∙ ap (λ xs. c.atoms.amounts.items ++ amounts_of xs) c.as_slice.ensures);
-      probs = probs-more t c.args.atoms.now c.args.weights.now.weights c.atoms.at 0 atom c.atoms-test.true c.requires.lengths c.index-atoms-at.is c.atoms.probs.items _ c.atoms.invariant.probs
-          (c.in_ok-push_probs.ensures.ok ∙ ap (λ ws. c.atoms.probs.items ++ map (share_of (get_or ws c.atoms.at 0 over t) atom.total) atom.items) c.as_slice-parts.ensures);
+      amounts = amounts-more t c.args.atoms.now c.args.weights.now.weights c.atoms.at 0 atom c.atoms-test.true
+          c.requires.lengths c.index-atoms-at.is c.atoms.amounts.items _ c.atoms.invariant.amounts
+          (c.in_ok-push_amounts.ensures ∙ ap (λ xs. c.atoms.amounts.items ++ amounts_of xs) c.as_slice.ensures);
+      probs = probs-more t c.args.atoms.now c.args.weights.now.weights c.atoms.at 0 atom c.atoms-test.true
+          c.requires.lengths c.index-atoms-at.is c.atoms.probs.items _ c.atoms.invariant.probs
+          (c.in_ok-push_probs.ensures ∙ ap (λ ws. c.atoms.probs.items ++ map
+          (mixed_probability (get_or ws c.atoms.at 0 over t) atom.total) atom.items) c.as_slice-parts.ensures);
     }
 
 pub over_common-requires-clause-one : goal.over_common-requires-clause-one
 over_common-requires-clause-one c =
     let t = c.args.weights.now.total in
-    let all = mixture_whole t c.args.atoms.now c.args.weights.now.weights c.atoms.at c.atoms-test.false c.requires.lengths in
+    let all = mixture_whole t c.args.atoms.now c.args.weights.now.weights c.atoms.at c.atoms-test.false
+    c.requires.lengths in
     ap sum_of (c.deref-2.ensures.value ∙ c.atoms.invariant.probs ∙ ap seconds all)
     ∙ mixture_one t c.args.atoms.now c.args.weights.now.weights c.requires.some c.requires.lengths c.requires.sum
 
 pub returns-clause-step : goal.returns-clause-step
 returns-clause-step c = λ x.
     let t = c.args.weights.now.total in
-    let all = mixture_whole t c.args.atoms.now c.args.weights.now.weights c.atoms.at c.atoms-test.false c.requires.lengths in
+    let all = mixture_whole t c.args.atoms.now c.args.weights.now.weights c.atoms.at c.atoms-test.false
+    c.requires.lengths in
     let amounts = c.deref-3.ensures.value ∙ c.atoms.invariant.amounts ∙ ap firsts all in
     let probs = c.in_ok-whole.ensures.shares ∙ c.deref-2.ensures.value ∙ c.atoms.invariant.probs ∙ ap seconds all in
     c.in_ok-merge.ensures x
-    ∙ ap (λ ps. probability ps x) (weighed-back (mixture_of t c.args.atoms.now c.args.weights.now.weights) c.deref-3.result.now c.in_ok-whole.whole amounts probs)
+    ∙ ap (λ ps. probability ps x) (weighed-back (mixture_of t c.args.atoms.now c.args.weights.now.weights)
+    c.deref-3.result.now c.in_ok-whole.whole amounts probs)
 
 pub returns-clause-fine : goal.returns-clause-fine
 returns-clause-fine c =
-    let all = mixture_whole c.args.weights.now.total c.args.atoms.now c.args.weights.now.weights c.atoms.at c.atoms-test.false c.requires.lengths in
+    let all = mixture_whole c.args.weights.now.total c.args.atoms.now c.args.weights.now.weights c.atoms.at
+    c.atoms-test.false c.requires.lengths in
     let told = rw c.in-Some.is at c.common_denominator_of.ensures in
     subst IsFine (c.deref.ensures.value ∙ c.atoms.invariant.probs ∙ ap seconds all) told.0

@@ -1,8 +1,9 @@
 -- The probabilities read so far stand behind the others.
 use Rattle.std.proofs.Common.{◌≡◌, ◌++◌, map, take}
 use Rattle.dl_exact.specs.Fraction.{◌over◌}
-use Rattle.dl_sev.specs.Steps.{share_of}
+use Rattle.dl_sev.specs.Steps.{mixed_probability}
 use Rattle.dl_sev.proofs.atoms.push_probs.Given as goal
 
 abbrev pub invariant-items : goal.invariant-items
-invariant-items l = l.probs.items ≡ l.initial.probs.items ++ map (share_of (l.fn.weight over l.fn.total) l.fn.atom.total) (take l.item-index l.fn.atom.items)
+invariant-items l = l.probs.items ≡ l.initial.probs.items ++ map
+    (mixed_probability (l.fn.weight over l.fn.total) l.fn.atom.total) (take l.item-index l.fn.atom.items)

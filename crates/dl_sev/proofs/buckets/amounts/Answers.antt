@@ -16,20 +16,25 @@ returns-then-amount c =
         inside = c.values-test.true;
         here = at_place
             (λ x. whole
-            (2 ^ 20) <ℚ buckets c.args.bs x) c.args.values.now c.values.at c.index-values-at.result c.values-test.true c.index-values-at.is far;
+            (2 ^ 20) <ℚ buckets c.args.bs x) c.args.values.now c.values.at c.index-values-at.result c.values-test.true
+            c.index-values-at.is far;
         before = c.values.invariant.before;
       },
     )
 
 pub values-preserved : goal.values-preserved
 values-preserved c = record {
-  same = more_amounts c.args.bs c.args.values.now c.values.at c.quotient-amount.result c.index-values-at.result c.values.made.items _ c.values-test.true c.index-values-at.is c.values.invariant.same c.in_ok-push.ensures.items c.quotient-amount.ensures;
-  near = rw c.in_ok-push.ensures.items (All-push
-      (λ amount. amount ≤ 2 ^ 20) c.values.made.items c.quotient-amount.result c.values.invariant.near c.if-amount.false);
+  same = more_amounts c.args.bs c.args.values.now c.values.at c.quotient-amount.result c.index-values-at.result
+      c.values.made.items _ c.values-test.true c.index-values-at.is c.values.invariant.same c.in_ok-put.ensures
+      c.quotient-amount.ensures;
+  near = rw c.in_ok-put.ensures (All-push
+      (λ amount. amount ≤ 2 ^ 20) c.values.made.items c.quotient-amount.result c.values.invariant.near
+      c.if-amount.false);
   before =
       more_before
       (λ x. ¬ (whole
-      (2 ^ 20) <ℚ buckets c.args.bs x)) c.args.values.now c.values.at c.index-values-at.result c.values-test.true c.index-values-at.is c.values.invariant.before
+      (2 ^ 20) <ℚ buckets c.args.bs x)) c.args.values.now c.values.at c.index-values-at.result c.values-test.true
+      c.index-values-at.is c.values.invariant.before
       (λ far. absurd (not_lt (lt_whole (2 ^ 20) c.quotient-amount.result
       (subst (λ y. whole (2 ^ 20) <ℚ y) c.quotient-amount.ensures far)) c.if-amount.false));
 }

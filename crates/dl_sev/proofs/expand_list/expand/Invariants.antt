@@ -1,10 +1,11 @@
 -- The values of the ranges read so far.
 use Rattle.std.proofs.Common.{◌≡◌, ◌≤◌, length, take}
+use Rattle.dl_limits.specs.Limits.{most_values}
 use Rattle.dl_sev.specs.Ranges.{list_values}
 use Rattle.dl_sev.proofs.expand_list.expand.Given as goal
 
 abbrev pub invariant-items : goal.invariant-items
 invariant-items l = record {
   so_far : l.values.items ≡ list_values (take l.item-index l.items);
-  few : length l.values.items ≤ 1024;
+  few : length l.values.items ≤ most_values;
 }

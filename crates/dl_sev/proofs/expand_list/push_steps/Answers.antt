@@ -3,25 +3,28 @@ use Rattle.std.proofs.Common.{ℕ, ◌≡◌, ◌∙◌, ◌+◌, ◌-◌, ◌*�
 use Rattle.std.proofs.Common.{List, length-append}
 use Rattle.std.specs.List.{range_with_len}
 use Rattle.std.proofs.lemmas.List.FromFn.{length-map-range_with_len}
+use Rattle.dl_limits.specs.Limits.{most_values}
 use Rattle.dl_exact.specs.Fraction.{Fraction, ◌over◌}
 use Rattle.dl_plan.proofs.Fits.{given_ok, given_value}
-use Rattle.dl_sev.specs.Weighing.{weight_of}
+use Rattle.dl_plan.specs.Fine.{numerator_over}
 use Rattle.dl_sev.specs.Ranges.{steps_in, value_at}
 use Rattle.dl_sev.proofs.Ranged.{pos, rising, step_pos, steps_are, value_is, value_fits, values_length, steps_more}
 use Rattle.dl_sev.proofs.expand_list.push_steps.Goals as goal
 
 pub overflow_sub-steps : goal.overflow_sub-steps
-overflow_sub-steps c = rw (c.numerator-from.ensures, c.numerator.ensures)
+overflow_sub-steps c = rw (c.numerator_over-from.ensures, c.numerator_over.ensures)
     (rising c.args.range.now c.requires.range c.args.den c.requires.den)
 
 pub nonzero_div-steps : goal.nonzero_div-steps
-nonzero_div-steps c = rw c.numerator-step.ensures (step_pos c.args.range.now c.requires.range c.args.den c.requires.den)
+nonzero_div-steps c = rw c.numerator_over-step.ensures
+    (step_pos c.args.range.now c.requires.range c.args.den c.requires.den)
 
 pub returns-then-steps-len-clause-long : goal.returns-then-steps-len-clause-long
 returns-then-steps-len-clause-long c =
     let steps = steps_are c.args.range.now c.requires.range c.args.den c.requires.den in
-    let count : 1024 - c.len.result ≤ steps_in c.args.range.now =
-    rw steps (rw (c.numerator.ensures, c.numerator-from.ensures, c.numerator-step.ensures) at c.if-steps-len.true) in
+    let count : most_values - c.len.result ≤ steps_in c.args.range.now =
+    rw steps (rw (c.numerator_over.ensures, c.numerator_over-from.ensures, c.numerator_over-step.ensures) at
+    c.if-steps-len.true) in
     omega (arith, count, values_length c.args.range.now, c.len.ensures, c.args.values.now.ok.0, c.requires.room)
 
 pub make-requires : goal.make-requires
@@ -33,32 +36,36 @@ step_within k n h = omega (arith, h)
 pub unwrap-value-requires : goal.unwrap-value-requires
 unwrap-value-requires c =
     let h : c.steps.k ≤
-    (weight_of c.args.den c.args.range.now.to - weight_of c.args.den c.args.range.now.from) / weight_of c.args.den c.args.range.now.step =
-    rw (c.numerator.ensures, c.numerator-from.ensures, c.numerator-step.ensures) at
+    (numerator_over c.args.den c.args.range.now.to - numerator_over c.args.den c.args.range.now.from) / numerator_over
+    c.args.den c.args.range.now.step =
+    rw (c.numerator_over.ensures, c.numerator_over-from.ensures, c.numerator_over-step.ensures) at
     (step_within c.steps.k
-    ((c.numerator.result - c.numerator-from.result) / c.numerator-step.result) c.steps-test.true) in
+    ((c.numerator_over.result - c.numerator_over-from.result) / c.numerator_over-step.result) c.steps-test.true) in
     given_ok _ _ c.make.ensures
-    (rw (c.numerator-from.ensures, c.numerator-step.ensures)
+    (rw (c.numerator_over-from.ensures, c.numerator_over-step.ensures)
     (value_fits c.args.range.now c.requires.range c.args.den c.requires.den c.steps.k c.requires.shared h))
 
 pub steps-preserved : goal.steps-preserved
 steps-preserved c =
     let value = given_value _ _ c.unwrap-value.result c.make.ensures c.unwrap-value.ensures
-    ∙ ap₂ (λ a b. (a + c.steps.k * b) over c.args.den) c.numerator-from.ensures c.numerator-step.ensures
+    ∙ ap₂ (λ a b. (a + c.steps.k * b) over c.args.den) c.numerator_over-from.ensures c.numerator_over-step.ensures
     ∙ sym (value_is c.args.range.now c.requires.range c.args.den c.requires.den c.steps.k) in
-    steps_more c.args.range.now c.args.values.now.items c.steps.values.items _ c.steps.k c.unwrap-value.result c.steps.invariant c.in_ok-push.ensures.items value
+    steps_more c.args.range.now c.args.values.now.items c.steps.values.items _ c.steps.k c.unwrap-value.result
+    c.steps.invariant c.in_ok-put.ensures value
 
 all_steps : (k n : ℕ) → n + 1 ≤ k → k ≤ n + 1 → k ≡ n + 1
 all_steps k n p q = omega (arith, p, q)
 
 pub returns-clause-values : goal.returns-clause-values
 returns-clause-values c =
-    let steps : (c.numerator.result - c.numerator-from.result) / c.numerator-step.result ≡ steps_in c.args.range.now =
-    rw (c.numerator.ensures, c.numerator-from.ensures, c.numerator-step.ensures)
+    let steps : (c.numerator_over.result - c.numerator_over-from.result) / c.numerator_over-step.result
+    ≡ steps_in c.args.range.now =
+    rw (c.numerator_over.ensures, c.numerator_over-from.ensures, c.numerator_over-step.ensures)
     (sym (steps_are c.args.range.now c.requires.range c.args.den c.requires.den)) in
     let count =
     all_steps c.steps.k
-    ((c.numerator.result - c.numerator-from.result) / c.numerator-step.result) c.steps-test.false c.steps.auto.k-end
+    ((c.numerator_over.result - c.numerator_over-from.result) / c.numerator_over-step.result) c.steps-test.false
+    c.steps.auto.k-end
     ∙ ap (λ n. n + 1) steps in
     c.steps.invariant ∙ ap (λ n. c.args.values.now.items ++ map (value_at c.args.range.now) (range_with_len 0 n)) count
 
@@ -66,7 +73,8 @@ pub returns-clause-few : goal.returns-clause-few
 returns-clause-few c =
     let count =
     all_steps c.steps.k
-    ((c.numerator.result - c.numerator-from.result) / c.numerator-step.result) c.steps-test.false c.steps.auto.k-end in
+    ((c.numerator_over.result - c.numerator_over-from.result) / c.numerator_over-step.result) c.steps-test.false
+    c.steps.auto.k-end in
     omega (
       arith,
       ap (λ (xs : List Fraction). length xs) c.steps.invariant,

@@ -7,10 +7,12 @@ pub items-preserved : goal.items-preserved
 items-preserved c = elim c.if-item-last.branch [
   | then-item-last w ↦
       rw (w.made-is, w.last-is)
-      (gathered-same c.args.items.now c.items.item-index c.items.made.items c.items.last _ c.items-test.true c.items.invariant w.if-item-last.true)
+      (gathered-same c.args.items.now c.items.item-index c.items.made.items c.items.last _ c.items-test.true
+      c.items.invariant w.if-item-last.true)
   | else-item-last+in_ok-push_weighed w ↦
       rw (w.made-is, w.last-is, w.in_ok-push_weighed.ensures)
-      (gathered-next c.args.items.now c.items.item-index c.items.made.items c.items.last _ c.items-test.true c.items.invariant c.requires.order w.if-item-last.false)
+      (gathered-next c.args.items.now c.items.item-index c.items.made.items c.items.last _ c.items-test.true
+      c.items.invariant c.requires.order w.if-item-last.false)
 ]
 
 pub returns-clause-rising : goal.returns-clause-rising

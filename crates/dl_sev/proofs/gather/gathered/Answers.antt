@@ -47,5 +47,7 @@ returns c = λ x.
     same_sum c.args.items.items c.sorted-sorted.result.items c.in_ok-rising.rising.items c.sorted-sorted.ensures.same
     (c.in_ok-rising.ensures.sum ∙ ap weight_sum c.deref.ensures.value) in
     let weight =
-    same_weights c.args.items.items c.sorted-sorted.result.items c.in_ok-rising.rising.items c.sorted-sorted.ensures.same (λ y. c.in_ok-rising.ensures.weights y ∙ ap (λ xs. weight_at xs y) c.deref.ensures.value) x in
+    same_weights c.args.items.items c.sorted-sorted.result.items c.in_ok-rising.rising.items
+    c.sorted-sorted.ensures.same (λ y. c.in_ok-rising.ensures.weights y
+    ∙ ap (λ xs. weight_at xs y) c.deref.ensures.value) x in
     c.from_rising.ensures x ∙ ap₂ (λ n d. n over d) weight sum

@@ -3,7 +3,7 @@ use Rattle.std.proofs.Common.{ℕ, ◌≡◌, ◌∙◌, ◌↔◌, IsTrue, Opti
 use Rattle.std.specs.Option.{MatchOption, is_some}
 use Rattle.dl_exact.specs.Fraction.{Fraction, whole}
 use Rattle.dl_plan.specs.Fine.{IsWhole}
-use Rattle.dl_plan.specs.Cession.{kept}
+use Rattle.dl_plan.specs.Clause.{kept}
 use Rattle.dl_exact.proofs.Parts.{whole_den}
 use Rattle.dl_sev.proofs.lattice.is_whole_at.Goals as goal
 

@@ -1,6 +1,6 @@
 -- The clause changes no weight.
 use Rattle.std.proofs.Common.{ℕ, ◌∙◌, ◌<◌, ◌≤◌, ◌^◌, map, ap, sym, subst}
-use Rattle.dl_plan.specs.Cession.{kept}
+use Rattle.dl_plan.specs.Clause.{kept}
 use Rattle.dl_sev.specs.Steps.{with_amount}
 use Rattle.dl_sev.proofs.Mapped.{mapped_sum, mapped_means}
 use Rattle.dl_plan.proofs.Means.{severity_total}

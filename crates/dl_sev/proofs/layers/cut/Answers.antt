@@ -4,7 +4,7 @@ use Rattle.dl_exact.specs.Fraction.{◌over◌}
 use Rattle.dl_plan.specs.declared.severity.Sev.{Sev}
 use Rattle.dl_plan.specs.Weighted.{weight_sum, weight_at}
 use Rattle.dl_plan.specs.Severity.{probability_of}
-use Rattle.dl_plan.specs.Cession.{layer}
+use Rattle.dl_plan.specs.Clause.{layer}
 use Rattle.dl_sev.specs.Steps.{with_amount}
 use Rattle.dl_sev.proofs.Mapped.{mapped_sum, mapped_means, if_ok}
 use Rattle.dl_plan.proofs.Means.{severity_total}
@@ -29,6 +29,7 @@ returns c =
     let items = c.in_ok-items_cut.ensures ∙ ap
     (map (with_amount (layer c.args.limit c.args.attach))) c.as_slice.ensures in
     if_ok c.gathered.result (λ (sev : Sev). (x : ℕ)
-    → probability_of sev x ≡ weight_at c.in_ok-items_cut.field-0.items x over weight_sum c.in_ok-items_cut.field-0.items) _
+    → probability_of sev x ≡ weight_at c.in_ok-items_cut.field-0.items x over weight_sum
+    c.in_ok-items_cut.field-0.items) _
     (λ sev means y. means y ∙ mapped_means c.args.sev.now
     (layer c.args.limit c.args.attach) _ y items) c.gathered.ensures

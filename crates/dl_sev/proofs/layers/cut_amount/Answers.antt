@@ -1,6 +1,6 @@
 -- What lies in a layer is not above the amount.
 use Rattle.std.proofs.Common.{arith}
-use Rattle.dl_plan.proofs.Cessions.{layer_le}
+use Rattle.dl_plan.proofs.Clauses.{layer_le}
 use Rattle.dl_sev.proofs.layers.cut_amount.Goals as goal
 
 pub overflow_cast-result : goal.overflow_cast-result

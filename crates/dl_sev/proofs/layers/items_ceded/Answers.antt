@@ -5,7 +5,7 @@ use Rattle.std.proofs.lemmas.Bool.{cases_lt}
 use Rattle.dl_exact.specs.Fraction.{Fraction, whole}
 use Rattle.dl_plan.specs.declared.item.Item.{Item}
 use Rattle.dl_plan.specs.Fine.{IsWhole}
-use Rattle.dl_plan.specs.Cession.{Clause, kept}
+use Rattle.dl_plan.specs.Clause.{Clause, kept}
 use Rattle.dl_exact.proofs.Parts.{whole_num, whole_den}
 use Rattle.dl_sev.specs.Steps.{with_amount}
 use Rattle.dl_sev.proofs.layers.items_ceded.Goals as goal
@@ -38,6 +38,8 @@ whole_more clause items i amount d h so_far value k e below = elim (cases_lt k i
 
 pub items-preserved : goal.items-preserved
 items-preserved c = record {
-  made = made_more c.args.cede.now c.args.items.now c.items.made.items _ c.items.item-index c.in-Some.amount _ c.items-test.true c.items.invariant.made c.in_ok-push.ensures.items c.in-Some.ensures.value;
-  whole = whole_more c.args.cede.now c.args.items.now c.items.item-index c.in-Some.amount _ c.items-test.true c.items.invariant.whole c.in-Some.ensures.value;
+  made = made_more c.args.cede.now c.args.items.now c.items.made.items _ c.items.item-index c.in-Some.amount _
+      c.items-test.true c.items.invariant.made c.in_ok-put.ensures c.in-Some.ensures.value;
+  whole = whole_more c.args.cede.now c.args.items.now c.items.item-index c.in-Some.amount _ c.items-test.true
+      c.items.invariant.whole c.in-Some.ensures.value;
 }

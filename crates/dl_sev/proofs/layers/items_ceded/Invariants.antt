@@ -2,7 +2,7 @@
 use Rattle.std.proofs.Common.{ℕ, ◌≡◌, ◌<◌, map, take, get_or}
 use Rattle.dl_plan.specs.declared.item.Item.{Item}
 use Rattle.dl_plan.specs.Fine.{IsWhole}
-use Rattle.dl_plan.specs.Cession.{kept}
+use Rattle.dl_plan.specs.Clause.{kept}
 use Rattle.dl_sev.specs.Steps.{with_amount}
 use Rattle.dl_sev.proofs.layers.items_ceded.Given as goal
 

@@ -1,6 +1,6 @@
 -- The items read so far, with their amounts cut.
 use Rattle.std.proofs.Common.{◌≡◌, map, take}
-use Rattle.dl_plan.specs.Cession.{layer}
+use Rattle.dl_plan.specs.Clause.{layer}
 use Rattle.dl_sev.specs.Steps.{with_amount}
 use Rattle.dl_sev.proofs.layers.items_cut.Given as goal
 

@@ -1,26 +1,26 @@
 -- Each weight is within the total, and over it is its probability.
 use Rattle.std.proofs.Common.{◌∙◌, ◌+◌, ◌<◌, sum, map, ap, sym, subst, arith}
 use Rattle.std.proofs.lemmas.List.{take_all}
-use Rattle.dl_sev.specs.Weighing.{weight_of}
+use Rattle.dl_plan.specs.Fine.{numerator_over}
 use Rattle.dl_plan.proofs.Common.{common_pos}
 use Rattle.dl_sev.proofs.Sharing.{part_within, weight_more, weighed_shares, sum_map, sum_one}
 use Rattle.dl_sev.proofs.weights.over_common.Goals as goal
 
-pub overflow_cast-numerator : goal.overflow_cast-numerator
-overflow_cast-numerator c =
+pub overflow_cast-numerator_over : goal.overflow_cast-numerator_over
+overflow_cast-numerator_over c =
     let more =
     weight_more c.args.probs.now c.args.common c.probs.prob-index c.prob-item.result c.probs-test.true c.prob-item.is in
     let most = part_within c.args.probs.now c.args.common (c.probs.prob-index + 1) c.requires.common c.requires.one in
-    omega (arith, more, most, c.numerator.ensures, c.requires.fine)
+    omega (arith, more, most, c.numerator_over.ensures, c.requires.fine)
 
 pub returns : goal.returns
 returns c =
     let weights = c.from_vec.ensures ∙ c.probs.invariant
-    ∙ ap (map (weight_of c.args.common)) (take_all c.probs.prob-index c.args.probs.now c.probs-test.false) in
+    ∙ ap (map (numerator_over c.args.common)) (take_all c.probs.prob-index c.args.probs.now c.probs-test.false) in
     record {
       shares = weighed_shares c.args.probs.now c.from_vec.result c.args.common weights c.requires.common;
       total = c.requires.common;
-      sum = ap sum weights ∙ sum_map (weight_of c.args.common) c.args.probs.now
+      sum = ap sum weights ∙ sum_map (numerator_over c.args.common) c.args.probs.now
           ∙ sum_one c.args.probs.now c.args.common c.requires.common c.requires.one;
       some = subst (λ n. 0 < n) (sym c.requires.common) (common_pos c.args.probs.now);
       within = c.requires.fine;

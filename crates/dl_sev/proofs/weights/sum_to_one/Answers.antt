@@ -2,7 +2,7 @@
 use Rattle.std.proofs.Common.{◌+◌, ap, arith}
 use Rattle.std.proofs.lemmas.List.{take_all}
 use Rattle.std.specs.List.{sum_by}
-use Rattle.dl_sev.specs.Weighing.{weight_of}
+use Rattle.dl_plan.specs.Fine.{numerator_over}
 use Rattle.dl_sev.proofs.Sharing.{part_within, whole_within, weight_more, one_sum}
 use Rattle.dl_sev.proofs.Whole.{zero_test, test_zero}
 use Rattle.dl_sev.proofs.weights.sum_to_one.Goals as goal
@@ -12,14 +12,15 @@ returns-then-weight-left c = (
   λ given. absurd (cc (given)),
   λ one.
       let more =
-      weight_more c.args.probs.now c.args.common c.probs.prob-index c.prob-item.result c.probs-test.true c.prob-item.is in
+      weight_more c.args.probs.now c.args.common c.probs.prob-index c.prob-item.result c.probs-test.true
+      c.prob-item.is in
       let most = part_within c.args.probs.now c.args.common (c.probs.prob-index + 1) c.requires one in
-      absurd (omega (arith, more, most, c.probs.invariant, c.numerator-weight.ensures, c.if-weight-left.true)),
+      absurd (omega (arith, more, most, c.probs.invariant, c.numerator_over-weight.ensures, c.if-weight-left.true)),
 )
 
 pub returns : goal.returns
 returns c =
-    let all = ap (sum_by (weight_of c.args.common))
+    let all = ap (sum_by (numerator_over c.args.common))
     (take_all c.probs.prob-index c.args.probs.now c.probs-test.false) in (
       λ none. one_sum c.args.probs.now c.args.common c.requires
           (omega (arith, all, c.probs.invariant, zero_test _ none)),

@@ -1,0 +1,104 @@
+-- Reading stops where the first of its parts does, and gives what its parts give.
+use Rattle.std.proofs.Common.{◌≡◌, ◌∙◌, ℕ, ◌+◌, ◌<◌, ◌≤◌, List, [], ◌∷◌, ◌++◌, flat_map, map, length, take, get_or, Option, Some, None, Result, Ok, Err, refl, sym, ap, ap₂, subst, arith}
+use Rattle.std.specs.Result.{IsErr, IsErrAnd}
+use Rattle.std.specs.Prelude.{is_some, Bool}
+use Rattle.std.proofs.lemmas.List.{append-nil, take_more, take_all, map-append}
+use Rattle.std.proofs.lemmas.List.Folds.{length-flat_map-take}
+use Rattle.dl_lexer.specs.declared.token.Span.{Span}
+use Rattle.dl_limits.specs.Limits.{most_values}
+use Rattle.dl_exact.specs.Fraction.{Fraction, whole}
+use Rattle.dl_sev.specs.declared.range.Range.{Range}
+use Rattle.dl_sev.specs.declared.fault.ExpandFault.{ExpandFault}
+use Rattle.dl_sev.specs.declared.fault.ExpandFault.TheVariants as expands
+use Rattle.dl_sev.specs.Ranges.{range_values, list_values, RefusesRanges, PassesRoom}
+use Rattle.dl_ast.specs.declared.ast.ListItem.{ListItem}
+use Rattle.dl_read.specs.declared.numbers.ItemNumbers.{ItemNumbers}
+use Rattle.dl_read.specs.declared.numbers.ListNumbers.{ListNumbers}
+use Rattle.dl_read.specs.declared.stop.Stop.{Stop}
+use Rattle.dl_read.specs.declared.stop.Stop.TheVariants.{At, OutOfMemory}
+use Rattle.dl_read.specs.First.{◌else◌, first_in}
+use Rattle.dl_read.specs.BadNumerals.{value}
+use Rattle.dl_read.specs.Numbers.{value_or, item_numbers}
+use Rattle.dl_read.specs.Rules.{long_list}
+use Rattle.dl_read.specs.Read.{item_values, Stops, Reads}
+use Rattle.dl_read.proofs.Firsts.{NoneBefore, found, ended, else_found, else_next, passes_limit, keeps_limit}
+
+-- ---- in turn
+
+pub stopped : (x y : Option Span) (stop : Stop) → Stops x stop → Stops (x else y) stop
+stopped x y (At place) h = else_found x y place h
+stopped x y OutOfMemory h = tt
+
+pub stopped_next : (x y : Option Span) (stop : Stop) → None ≡ x → Stops y stop → Stops (x else y) stop
+stopped_next x y (At place) none h = else_next x y (Some place) none h
+stopped_next x y OutOfMemory none h = tt
+
+pub stopped_as : (x y : Option Span) (stop : Stop) → x ≡ y → Stops x stop → Stops y stop
+stopped_as x y stop e h = subst (λ o. Stops o stop) e h
+
+-- where a call stops, its caller does
+pub told : {A : Type 0} (part : A) (broken : Option Span) (r : Result A Stop) (stop : Stop)
+    → IsErr r × IsErrAnd r (λ f. f ≡ stop) → Stops broken stop
+    → Reads part broken r
+told part broken (Ok x) stop h stops = absurd (cc (h.0))
+told part broken (Err f) stop h stops = subst (Stops broken) (sym h.1) stops
+
+-- ---- one part after another
+
+module _ {A : Type 0} (f : A → Option Span) (xs zs : List A) (same : zs ≡ xs) where
+  pub part_stopped : (i : ℕ) (x : A) (stop : Stop) → NoneBefore f zs i → i < length zs → x ≡ get_or zs i x
+      → Stops (f x) stop → Stops (first_in f xs) stop
+  part_stopped i x (At place) before lt is h = found f zs i x place before lt is h ∙ ap (first_in f) same
+  part_stopped i x OutOfMemory before lt is h = tt
+
+  pub none_stopped : (i : ℕ) → NoneBefore f zs i → length zs ≤ i → None ≡ first_in f xs
+  none_stopped i before le = ended f zs i before le ∙ ap (first_in f) same
+
+module _ {A B : Type 0} (g : A → B) where
+  pub made_more : (xs : List A) (i : ℕ) (x : A) (made more : List B) (y : B) → made ≡ map g (take i xs) → i < length xs
+      → x ≡ get_or xs i x
+      → more ≡ made ++ y ∷ [] → y ≡ g x → more ≡ map g (take (i + 1) xs)
+  made_more xs i x made more y so_far lt is e same =
+      e ∙ ap₂ (λ ys z. ys ++ z ∷ []) so_far same ∙ sym (map-append g (take i xs) (x ∷ []))
+      ∙ ap (map g) (sym (take_more xs i x lt ∙ ap (λ z. take i xs ++ z ∷ []) (sym is)))
+
+  pub made_all : (xs zs : List A) (i : ℕ) (made : List B) → zs ≡ xs → length zs ≤ i → made ≡ map g (take i zs)
+      → made ≡ map g xs
+  made_all xs zs i made same le e = e ∙ ap (map g) (take_all i zs le ∙ same)
+
+-- ---- an item
+
+pub item_is : (i : ListItem) (from to step one : Fraction) (several : Bool) → from ≡ value i.from
+    → to ≡ value_or from i.to → one ≡ whole 1
+    → step ≡ value_or one i.step → several ≡ is_some i.to
+    → record { range = record { from = from; to = to; step = step }; several = several; span = i.span } ≡ item_numbers i
+item_is i from to step one several e f g h k = rw (h, f, e, g, k) refl
+
+-- ---- the values of a list
+
+pub all_of : {A : Type 0} (f : ItemNumbers → List A) (items zs : List ItemNumbers) (i : ℕ) (made : List A) → zs ≡ items
+    → length zs ≤ i
+    → made ≡ flat_map f (take i zs) → made ≡ flat_map f items
+all_of f items zs i made same h e = e ∙ ap (flat_map f) (take_all i zs h ∙ same)
+
+-- with one item more there are more values than a list may have
+pub far_list : (l : ListNumbers) (zs : List ItemNumbers) (i : ℕ) (item : ItemNumbers) (values : List Fraction)
+    → zs ≡ l.items → i < length zs
+    → item ≡ get_or zs i item → values ≡ flat_map item_values (take i zs)
+    → most_values < length values + length (item_values item)
+    → Some l.span ≡ long_list l
+far_list l zs i item values same lt is so_far far =
+    passes_limit most_values (length (flat_map item_values l.items)) l.span
+    (omega (
+      arith,
+      far,
+      ap length so_far,
+      length-flat_map-take item_values zs i item lt,
+      ap (λ x. length (item_values x)) is,
+      ap (λ ys. length (flat_map item_values ys)) same,
+    ))
+
+pub short_list : (l : ListNumbers) (values : List Fraction) → values ≡ flat_map item_values l.items
+    → length values ≤ most_values → None ≡ long_list l
+short_list l values e few = keeps_limit most_values (length (flat_map item_values l.items)) l.span
+    (omega (arith, few, ap length e))

@@ -1,0 +1,13 @@
+-- The atoms so far, none of which has a bad numeral.
+use Rattle.std.proofs.Common.{◌≡◌, map, take}
+use Rattle.dl_ast.specs.declared.ast.Atom.{Atom}
+use Rattle.dl_read.specs.BadNumerals.{bad_in_pair}
+use Rattle.dl_read.specs.Numbers.{pair_numbers}
+use Rattle.dl_read.proofs.Firsts.{NoneBefore}
+use Rattle.dl_read.proofs.numerals.atom_numbers.Given as goal
+
+abbrev pub invariant-atoms : goal.invariant-atoms
+invariant-atoms l = record {
+  made : l.made.items ≡ map (λ (a : Atom). pair_numbers a.values a.probs) (take l.atom-index l.atoms);
+  good : NoneBefore (λ (a : Atom). bad_in_pair a.values a.probs) l.atoms l.atom-index;
+}

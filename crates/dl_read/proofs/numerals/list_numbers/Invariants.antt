@@ -1,0 +1,12 @@
+-- The items so far, none of which has a bad numeral.
+use Rattle.std.proofs.Common.{◌≡◌, map, take}
+use Rattle.dl_read.specs.BadNumerals.{bad_in_item}
+use Rattle.dl_read.specs.Numbers.{item_numbers}
+use Rattle.dl_read.proofs.Firsts.{NoneBefore}
+use Rattle.dl_read.proofs.numerals.list_numbers.Given as goal
+
+abbrev pub invariant-items : goal.invariant-items
+invariant-items l = record {
+  made : l.made.items ≡ map item_numbers (take l.item-index l.item-items);
+  good : NoneBefore bad_in_item l.item-items l.item-index;
+}

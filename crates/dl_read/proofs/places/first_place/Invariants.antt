@@ -1,0 +1,11 @@
+-- No part before breaks the rule, whatever it is that the rule tells.
+use Rattle.std.proofs.Common.{Option, All}
+use Rattle.dl_lexer.specs.declared.token.Span.{Span}
+use Rattle.dl_read.specs.First.{TellsPart}
+use Rattle.dl_read.proofs.Firsts.{NoneBefore}
+use Rattle.dl_read.proofs.places.first_place.Given as goal
+
+abbrev pub invariant-parts : goal.invariant-parts
+invariant-parts g l =
+    (broken : g.row.T.Denot → Option Span) → All (TellsPart g.F.Fn l.rule broken) l.parts
+    → NoneBefore broken l.parts l.part-index

@@ -1,0 +1,12 @@
+-- The values and the places of the items so far.
+use Rattle.std.proofs.Common.{◌≡◌, ◌≤◌, flat_map, take, length}
+use Rattle.dl_limits.specs.Limits.{most_values}
+use Rattle.dl_read.specs.Read.{item_values, item_places}
+use Rattle.dl_read.proofs.read.read_list.Given as goal
+
+abbrev pub invariant-items : goal.invariant-items
+invariant-items l = record {
+  values : l.values.items ≡ flat_map item_values (take l.item-index l.item-items);
+  places : l.places.items ≡ flat_map item_places (take l.item-index l.item-items);
+  few : length l.values.items ≤ most_values;
+}
