@@ -1,6 +1,13 @@
 -- Layers that keep the rules make a clause where their shares are fine.
-use Rattle.std.proofs.Common.{◌≡◌, ◌∙◌, ℕ, zero, suc, ◌*◌, ◌^◌, ◌<◌, ◌≤◌, ◌==◌, List, [], ◌∷◌, ◌++◌, length, map, take, get_or, nat_lt, Option, None, Bool, true, false, refl, sym, ap, ap₂, subst, arith, append_assoc, mul-pos, inl, inr}
-use Rattle.std.specs.Prelude.{◌||◌, nat_le}
+use Rattle.std.specs.Option.{IfSome}
+use Rattle.dl_limits.specs.Limits.{most_amount}
+use Rattle.dl_plan.specs.Valid.{IsWithinMostAmount}
+use Rattle.dl_amounts.specs.declared.grid.GridLayer.{GridLayer}
+use Rattle.dl_amounts.specs.GridKept.{IsGridLayer}
+use Rattle.std.proofs.lemmas.Bool.{or_parts, false_from_ne_true, leb-true, ltb-false}
+use Rattle.dl_read.proofs.ItemRanges.{not_above}
+use Rattle.std.proofs.Common.{◌≡◌, ◌∙◌, ℕ, zero, suc, ◌*◌, ◌^◌, ◌<◌, ◌≤◌, ◌==◌, List, [], ◌∷◌, ◌++◌, length, map, take, get_or, Option, None, true, false, sym, ap, ap₂, subst, arith, append_assoc, mul-pos, inl, inr, Some}
+use Rattle.std.specs.Prelude.{◌||◌}
 use Rattle.std.specs.List.{All, AllPairs, list_any}
 use Rattle.std.proofs.lemmas.Bool.Decides.{nat_tests}
 use Rattle.std.proofs.lemmas.List.{append-nil, get_or-take, get_or-map, length-map, length-take}
@@ -8,23 +15,20 @@ use Rattle.std.proofs.lemmas.List.Elements.{All-map}
 use Rattle.std.proofs.lemmas.List.Folds.{list_any_at}
 use Rattle.std.proofs.lemmas.Nat.Gcd.{le_of_dvd}
 use Rattle.std.proofs.lemmas.Simd.{map-map}
-use Rattle.dl_exact.specs.Fraction.{Fraction, whole, ◌/ℚ◌, ◌≤ℚ◌, ◌<ℚ◌}
+use Rattle.dl_exact.specs.Fraction.{Fraction, whole, ◌/ℚ◌, ◌≤ℚ◌}
 use Rattle.dl_exact.proofs.Over.{over_le}
 use Rattle.dl_frac.specs.Exact.{IsTooFine}
-use Rattle.dl_exact.proofs.Parts.{quotient_is, whole_num, whole_den}
+use Rattle.dl_exact.proofs.Parts.{quotient_is}
 use Rattle.dl_plan.specs.declared.cede.CedeLayer.{CedeLayer}
 use Rattle.dl_plan.specs.Fine.{IsFine, common_denominator}
-use Rattle.dl_plan.specs.Cession.{Overlap, IsCession}
-use Rattle.dl_plan.proofs.Cessions.{num_le_den}
+use Rattle.dl_plan.specs.Clause.{Overlap, IsClause}
+use Rattle.dl_plan.proofs.Clauses.{num_le_den}
 use Rattle.dl_plan.proofs.Common.{common_pos, den_divides}
-use Rattle.dl_ast.specs.declared.ast.LimitAst.{LimitAst}
-use Rattle.dl_ast.specs.declared.ast.LimitAst.TheVariants.{Finite, Infinite}
-use Rattle.dl_ast.specs.declared.ast.Share.{Share}
-use Rattle.dl_ast.specs.declared.ast.Share.TheVariants.{Whole, So, Po}
-use Rattle.dl_ast.specs.declared.ast.CededLayer.{CededLayer}
-use Rattle.dl_ast.specs.declared.ast.Cession.{Cession}
+use Rattle.dl_amounts.specs.declared.grid.GridShare.{GridShare}
+use Rattle.dl_amounts.specs.declared.grid.GridShare.TheVariants.{Whole, So, Po}
+use Rattle.dl_amounts.specs.declared.grid.GridCeded.{GridCeded}
+use Rattle.dl_amounts.specs.declared.grid.GridClause.{GridClause}
 use Rattle.dl_read.specs.First.{in_turn}
-use Rattle.dl_read.specs.Numerals.{value}
 use Rattle.dl_read.specs.Lists.{is_fine, is_above, is_zero}
 use Rattle.dl_amounts.specs.Clauses.{share_of, shares_of, ceded_layer, clause_of, overlaps}
 use Rattle.dl_amounts.specs.Rules.{share_exceeds, share_above_one_in, overlap_in}
@@ -32,55 +36,33 @@ use Rattle.dl_amounts.specs.ClausesKept.{IsClauseLayered}
 use Rattle.dl_read.proofs.Nothing.{else_first, else_second, none_each, not_at}
 use Rattle.dl_amounts.proofs.Turns.{yes_overlap, overlap_at, share_at}
 
-not_true : (b : Bool) → (b ≡ true → ⊥) → b ≡ false
-not_true true n = absurd (n refl)
-not_true false n = refl
-
 -- ---- fine shares
 
-fine_is : (xs : List Fraction) → is_fine xs ≡ true → IsFine xs
-fine_is xs e = within (common_denominator xs) e
-  where
-    within : (n : ℕ) → nat_le n (2 ^ 30) ≡ true → n ≤ 2 ^ 30
-    within n h = grind (arith, nat_tests, h)
-
 -- a share with a great denominator is not fine
-pub one_too_fine : (xs : List Fraction) (i : ℕ) (d : Fraction) → i < length xs → 2 ^ 30 < (get_or xs i d).den → is_fine xs ≡ false
-one_too_fine xs i d h far = not_true (is_fine xs) (λ yes. over (get_or xs i d).den (common_denominator xs) (le_of_dvd (common_pos xs) (den_divides 1 xs i d h)) (fine_is xs yes) far)
+pub one_too_fine : (xs : List Fraction) (i : ℕ) (d : Fraction) → i < length xs → 2 ^ 30 < (get_or xs i d).den
+    → is_fine xs ≡ false
+one_too_fine xs i d h far = false_from_ne_true (is_fine xs)
+    (λ yes. over (get_or xs i d).den (common_denominator xs) (le_of_dvd (common_pos xs) (den_divides 1 xs i d h))
+    (leb-true (common_denominator xs) (2 ^ 30) yes) far)
   where
     over : (n m : ℕ) → n ≤ m → m ≤ 2 ^ 30 → 2 ^ 30 < n → ⊥
     over n m p q r = omega (arith, p, q, r)
 
 -- ---- shares of at most 1
 
-not_above : (x y : Fraction) → is_above x y ≡ false → x.num * y.den ≤ y.num * x.den
-not_above x y h = at_most (y.num * x.den) (x.num * y.den) h
-  where
-    at_most : (m n : ℕ) → nat_lt m n ≡ false → n ≤ m
-    at_most m n h = grind (arith, nat_tests, h)
-
 pub part_tests : (x y : Fraction) → (is_above x y || is_zero y) ≡ false → (x.num * y.den ≤ y.num * x.den) × (0 < y.num)
-part_tests x y h = (not_above x y (first (is_above x y) (is_zero y) h), some y.num (second (is_above x y) (is_zero y) h))
+part_tests x y h =
+    let tests = or_parts (is_above x y) (is_zero y) h in
+    (ltb-false (y.num * x.den) (x.num * y.den) tests.0, some y.num tests.1)
   where
-    first : (a b : Bool) → (a || b) ≡ false → a ≡ false
-    first true b e = e
-    first false b e = refl
-
-    second : (a b : Bool) → (a || b) ≡ false → b ≡ false
-    second true b e = absurd (cc)
-    second false b e = e
-
     some : (n : ℕ) → (n == 0) ≡ false → 0 < n
     some n h = grind (arith, nat_tests, h)
-
-pub above_zero : (x : Fraction) → 0 < x.num → whole 0 <ℚ x
-unfolding ◌<ℚ◌
-above_zero x h = rw (whole_num 0, whole_den 0) (omega (arith, h))
 
 part_le : (x y : Fraction) → (is_above x y || is_zero y) ≡ false → x /ℚ y ≤ℚ whole 1
 part_le x y h =
     let tests = part_tests x y h in
-    subst (λ z. z ≤ℚ whole 1) (quotient_is x y) (over_le (x.num * y.den) (x.den * y.num) 1 1 (mul-pos x.positive tests.1) (omega arith) (omega (arith, tests.0)))
+    subst (λ z. z ≤ℚ whole 1) (quotient_is x y)
+    (over_le (x.num * y.den) (x.den * y.num) 1 1 (mul-pos x.positive tests.1) (omega arith) (omega (arith, tests.0)))
 
 -- a part of a limit that is too fine has a great denominator
 pub part_far : (x y : Fraction) → (is_above x y || is_zero y) ≡ false → IsTooFine (x /ℚ y) → 2 ^ 30 < (x /ℚ y).den
@@ -93,38 +75,41 @@ one_le : whole 1 ≤ℚ whole 1
 unfolding ◌≤ℚ◌
 one_le = omega arith
 
-le_if : (x y : Fraction) → is_above x y ≡ false → x ≤ℚ y
-unfolding ◌≤ℚ◌
-le_if x y h = not_above x y h
+share_le : (s : GridShare) → share_exceeds s ≡ false → share_of s ≤ℚ whole 1
+share_le Whole e = one_le
+share_le (So x) e = not_above x (whole 1) e
+share_le (Po x (Some n)) e = part_le x n e
+share_le (Po x None) e = absurd (cc)
 
-share_le : (s : Share) (limit : LimitAst) → share_exceeds s limit ≡ false → share_of s limit ≤ℚ whole 1
-share_le Whole limit e = one_le
-share_le (So n) limit e = le_if (value n) (whole 1) e
-share_le (Po n) (Finite m) e = part_le (value n) (value m) e
-share_le (Po n) Infinite e = absurd (cc)
-
-pub shares_kept : (c : Cession) → share_above_one_in c ≡ None → All (λ (l : CededLayer). share_exceeds l.share l.layer.limit ≡ false) c.layers
+pub shares_kept : (c : GridClause) → share_above_one_in c ≡ None
+    → All (λ (l : GridCeded). share_exceeds l.share ≡ false) c.layers
 unfolding share_above_one_in
 shares_kept c e k d h = not_at _ _ (none_each share_at c.layers e k d h)
 
 -- ---- no overlap
 
-pub turn_none : {A B : Type 0} (g : List A → A → Option B) (seen xs : List A) → in_turn g seen xs ≡ None → (j : ℕ) (d : A) → j < length xs → g (seen ++ take j xs) (get_or xs j d) ≡ None
+pub turn_none : {A B : Type 0} (g : List A → A → Option B) (seen xs : List A) → in_turn g seen xs ≡ None
+    → (j : ℕ) (d : A) → j < length xs → g (seen ++ take j xs) (get_or xs j d) ≡ None
 unfolding in_turn
 turn_none g seen [] e j d h = absurd (omega (arith, h))
 turn_none g seen (y ∷ ys) e zero d h = subst (λ s. g s y ≡ None) (sym (append-nil seen)) (else_first (g seen y) _ e)
-turn_none g seen (y ∷ ys) e (suc j) d h = subst (λ s. g s (get_or ys j d) ≡ None) (append_assoc seen (y ∷ []) (take j ys)) (turn_none g (seen ++ y ∷ []) ys (else_second (g seen y) _ e) j d (omega (arith, h)))
+turn_none g seen (y ∷ ys) e (suc j) d h = subst (λ s. g s (get_or ys j d) ≡ None)
+    (append_assoc seen (y ∷ []) (take j ys)) (turn_none g (seen ++ y ∷ []) ys (else_second (g seen y) _ e) j d
+    (omega (arith, h)))
 
-pairs_apart : (bs : Fraction) (xs : List CededLayer) → in_turn (overlap_at bs) [] xs ≡ None → (i j : ℕ) (d : CededLayer) → i < j → j < length xs
-    → overlaps (ceded_layer bs (get_or xs i d)) (ceded_layer bs (get_or xs j d)) ≡ true → ⊥
-pairs_apart bs xs e i j d p q meet =
-    let p_at = λ (m : CededLayer). overlaps (ceded_layer bs m) (ceded_layer bs (get_or xs j d)) in
-    let none : list_any p_at (take j xs) ≡ false = not_at _ _ (turn_none (overlap_at bs) [] xs e j d q) in
+pairs_apart : (xs : List GridCeded) → in_turn overlap_at [] xs ≡ None → (i j : ℕ) (d : GridCeded)
+    → i < j → j < length xs
+    → overlaps (ceded_layer (get_or xs i d)) (ceded_layer (get_or xs j d)) ≡ true → ⊥
+pairs_apart xs e i j d p q meet =
+    let p_at = λ (m : GridCeded). overlaps (ceded_layer m) (ceded_layer (get_or xs j d)) in
+    let none : list_any p_at (take j xs) ≡ false = not_at _ _ (turn_none overlap_at [] xs e j d q) in
     let same : get_or (take j xs) i d ≡ get_or xs i d = get_or-take j xs i d p in
-    let some : list_any p_at (take j xs) ≡ true = list_any_at p_at (take j xs) i d (omega (arith, p, q, length-take j xs)) (ap p_at same ∙ meet) in
+    let some : list_any p_at (take j xs) ≡ true = list_any_at p_at (take j xs) i d
+    (omega (arith, p, q, length-take j xs)) (ap p_at same ∙ meet) in
     absurd (cc (none, some))
 
-pairs_map : {X Y : Type 0} (R : Y → Y → Type 0) (f : X → Y) (xs : List X) → ((i j : ℕ) (d : X) → i < j → j < length xs → R (f (get_or xs i d)) (f (get_or xs j d))) → AllPairs R (map f xs)
+pairs_map : {X Y : Type 0} (R : Y → Y → Type 0) (f : X → Y) (xs : List X)
+    → ((i j : ℕ) (d : X) → i < j → j < length xs → R (f (get_or xs i d)) (f (get_or xs j d))) → AllPairs R (map f xs)
 pairs_map R f [] h i j d p q = absurd (omega (arith, q))
 pairs_map R f (y ∷ ys) h i j d p q =
     let lt : j < length (y ∷ ys) = omega (arith, q, length-map (y ∷ ys) f) in
@@ -133,25 +118,37 @@ pairs_map R f (y ∷ ys) h i j d p q =
 
 -- ---- the clause
 
-module _ (bs : Fraction) (c : Cession) (layered : IsClauseLayered bs c) where
-  turned : in_turn (overlap_at bs) [] c.layers ≡ None
+module _ (c : GridClause) (layered : IsClauseLayered c) where
+  turned : in_turn overlap_at [] c.layers ≡ None
   unfolding overlap_in
   turned = layered.apart
 
-  pub made_cession : is_fine (shares_of c) ≡ true → IsCession (clause_of bs c)
+  pub made_cession : is_fine (shares_of c) ≡ true → IsClause (clause_of c)
   made_cession fine = record {
-    some = omega (arith, length-map c.layers (ceded_layer bs), layered.on_grid.spelled.formed.some);
-    few = omega (arith, length-map c.layers (ceded_layer bs), layered.on_grid.few);
-    apart = pairs_map (λ l m. ¬ Overlap l m) (ceded_layer bs) c.layers (λ i j d p q o. pairs_apart bs c.layers turned i j d p q (yes_overlap (ceded_layer bs (get_or c.layers i d)) (ceded_layer bs (get_or c.layers j d)) o));
-    within = All-map (λ l. l.share ≤ℚ whole 1) (ceded_layer bs) c.layers (λ k d h. share_le (get_or c.layers k d).share (get_or c.layers k d).layer.limit (shares_kept c layered.within k d h));
-    fine = subst IsFine (sym (map-map (λ (l : CedeLayer). l.share) (ceded_layer bs) c.layers)) (fine_is (shares_of c) fine);
+    some = omega (arith, length-map c.layers ceded_layer, layered.grid.some);
+    few = omega (arith, length-map c.layers ceded_layer, layered.grid.few);
+    apart = pairs_map (λ l m. ¬ Overlap l m) ceded_layer c.layers
+        (λ i j d p q o. pairs_apart c.layers turned i j d p q
+        (yes_overlap (ceded_layer (get_or c.layers i d)) (ceded_layer (get_or c.layers j d)) o));
+    within = All-map (λ l. l.share ≤ℚ whole 1) ceded_layer c.layers
+        (λ k d h. share_le (get_or c.layers k d).share
+        (shares_kept c layered.within k d h));
+    fine = subst IsFine (sym (map-map (λ (l : CedeLayer). l.share) ceded_layer c.layers))
+        (leb-true (common_denominator (shares_of c)) (2 ^ 30) fine);
   }
 
-  pub no_cession : (IsCession (clause_of bs c) → ⊥) → is_fine (shares_of c) ≡ false
-  no_cession none = not_true (is_fine (shares_of c)) (λ fine. none (made_cession fine))
+  pub no_cession : (IsClause (clause_of c) → ⊥) → is_fine (shares_of c) ≡ false
+  no_cession none = false_from_ne_true (is_fine (shares_of c)) (λ fine. none (made_cession fine))
 
 pub layer_is : (l m : CedeLayer) → l.share ≡ m.share → l.limit ≡ m.limit → l.attach ≡ m.attach → l ≡ m
 layer_is l m s o a = ap₂ (λ (x : Fraction) (y : Option ℕ). make x y l.attach) s o ∙ ap (make m.share m.limit) a
   where
     make : Fraction → Option ℕ → ℕ → CedeLayer
     make x y n = record { share = x; limit = y; attach = n }
+
+pub near_is : (l : GridLayer) (m : CedeLayer) → m.limit ≡ l.limit → m.attach ≡ l.attach → IsGridLayer l
+    → IsWithinMostAmount m
+near_is l m limit attach near = record {
+  limit = subst (λ o. IfSome o (λ n. n ≤ most_amount)) (sym limit) near.limit;
+  attach = omega (arith, attach, near.attach);
+}

@@ -30,11 +30,14 @@ use Rattle.dl_amounts.proofs.Items.{Rising, rises, none_later}
 use Rattle.dl_amounts.proofs.Mixing.{mixture_fine}
 
 -- what holds of 0 and of each weight holds of the weight of each amount
-at_weight : (Q : ℕ → Type 0) (items : List Item) → Rising items → Q 0 → All (λ (i : Item). Q i.weight) items → (x : ℕ) → Q (weight_at items x)
+at_weight : (Q : ℕ → Type 0) (items : List Item) → Rising items → Q 0 → All (λ (i : Item). Q i.weight) items → (x : ℕ)
+    → Q (weight_at items x)
 at_weight Q [] rising none all x = none
 at_weight Q (i ∷ items) rising none all x = elim (eqb_tells i.amount x) [
   | inl same ↦
-      subst Q (sym (step ∙ ap₂ (λ b n. cond b i.weight 0 + n) same.0 (none_later items x (subst (λ n. All (λ (j : Item). n < j.amount) items) same.1 rising.0)) ∙ plus_none i.weight))
+      subst Q (sym (step ∙ ap₂ (λ b n. cond b i.weight 0 + n) same.0
+      (none_later items x (subst (λ n. All (λ (j : Item). n < j.amount) items) same.1 rising.0))
+      ∙ plus_none i.weight))
       (All-head (λ (j : Item). Q j.weight) i items all)
   | inr other ↦
       subst Q (sym (step ∙ ap (λ b. cond b i.weight 0 + weight_at items x) other.0 ∙ none_plus (weight_at items x)))
@@ -55,7 +58,8 @@ each_product : (P : Fraction → Type 0) (w : Fraction) (t : ℕ) (items : List 
 each_product P w t [] h = All-nil (λ (i : Item). P (w *ℚ i.weight over t))
 each_product P w t (i ∷ items) h =
     let others : List Fraction = map (λ pair. pair.1) (scaled w (shares items t)) in
-    All-cons (λ (j : Item). P (w *ℚ j.weight over t)) i items (All-head P (w *ℚ i.weight over t) others h) (each_product P w t items (All-tail P (w *ℚ i.weight over t) others h))
+    All-cons (λ (j : Item). P (w *ℚ j.weight over t)) i items (All-head P (w *ℚ i.weight over t) others h)
+    (each_product P w t items (All-tail P (w *ℚ i.weight over t) others h))
 
 -- what holds of 0 and of each product of an atom holds of each product of what it means
 atom_back : (P : Fraction → Type 0) (w : Fraction) (sev : Sev) (ps : Pairs) → Means sev ps → P (whole 0)
@@ -66,7 +70,8 @@ atom_back P w sev ps means none all x =
     (subst P (sym (ap (λ t. w *ℚ t) (zero_over sev.total (total_pos sev)) ∙ times_zero w)) none)
     (each_product P w sev.total sev.items all) x)
 
-mixture_back : (P : Fraction → Type 0) (t : ℕ) (atoms : List Sev) (ws : List ℕ) (lists : List Pairs) → AllZip Means atoms lists → P (whole 0)
+mixture_back : (P : Fraction → Type 0) (t : ℕ) (atoms : List Sev) (ws : List ℕ) (lists : List Pairs)
+    → AllZip Means atoms lists → P (whole 0)
     → All P (map (λ pair. pair.1) (mixture_of t atoms ws)) → All P (shares_in_mixture (map (λ w. w over t) ws) lists)
 mixture_back P t [] [] [] means none all = All-nil P
 mixture_back P t [] (w ∷ ws) [] means none all = All-nil P
@@ -76,25 +81,31 @@ mixture_back P t (a ∷ atoms) [] (ps ∷ lists) means none all = All-nil P
 mixture_back P t (a ∷ atoms) (w ∷ ws) (ps ∷ lists) means none all =
     let first : Pairs = scaled (w over t) (pairs_of a) in
     let others : Pairs = mixture_of t atoms ws in
-    let apart : All P (map (λ pair. pair.1) first ++ map (λ pair. pair.1) others) = subst (All P) (map-append (λ pair. pair.1) first others) all in
+    let apart : All P (map (λ pair. pair.1) first ++ map (λ pair. pair.1) others) =
+    subst (All P) (map-append (λ pair. pair.1) first others) all in
     All-append P (map (λ pair. w over t *ℚ probability ps pair.0) ps) (shares_in_mixture (map (λ v. v over t) ws) lists)
     (All-map P (λ (pair : ℕ × Fraction). w over t *ℚ probability ps pair.0) ps
-    (λ k d h. atom_back P (w over t) a ps means.0 none (all_left P (map (λ pair. pair.1) first) (map (λ pair. pair.1) others) apart) _))
-    (mixture_back P t atoms ws lists means.1 none (all_right P (map (λ pair. pair.1) first) (map (λ pair. pair.1) others) apart))
+    (λ k d h. atom_back P (w over t) a ps means.0 none
+    (all_left P (map (λ pair. pair.1) first) (map (λ pair. pair.1) others) apart) _))
+    (mixture_back P t atoms ws lists means.1 none
+    (all_right P (map (λ pair. pair.1) first) (map (λ pair. pair.1) others) apart))
 
-module _ (atoms : List Sev) (weights : Weights) (probs : List Fraction) (lists : List Pairs) (is : IsWeighing probs weights) (means : AllZip Means atoms lists) where
+module _ (atoms : List Sev) (weights : Weights) (probs : List Fraction) (lists : List Pairs)
+    (is : IsWeighing probs weights) (means : AllZip Means atoms lists) where
   fine_back : IsFine (map (λ pair. pair.1) (mixture atoms weights)) → IsFine (shares_in_mixture probs lists)
   fine_back fine =
       let all : List Fraction = map (λ pair. pair.1) (mixture atoms weights) in
       let c : ℕ = common_denominator all in
       fine_with (shares_in_mixture probs lists) all
       (subst (λ ws. All (λ x. x.den ∣ c) (shares_in_mixture ws lists)) is.shares
-      (mixture_back (λ x. x.den ∣ c) weights.total atoms weights.weights lists means (subst (λ d. d ∣ c) (sym (whole_den 0)) (common_from_divides 1 all)) (den_divides 1 all))) fine
+      (mixture_back (λ x. x.den ∣ c) weights.total atoms weights.weights lists means
+      (subst (λ d. d ∣ c) (sym (whole_den 0)) (common_from_divides 1 all)) (den_divides 1 all))) fine
 
   -- whether the products have a small common denominator
   pub fineness : (made : List Fraction) (o : Option ℕ) → made ≡ map (λ pair. pair.1) (mixture atoms weights)
       → SomeIff o (IsFine made) (common_denominator made) → is_some o ≡ is_fine (shares_in_mixture probs lists)
-  fineness made None same told = no _ (λ fine. told (subst IsFine (sym same) (mixture_fine atoms weights probs lists is means fine)))
+  fineness made None same told = no _ (λ fine.
+      told (subst IsFine (sym same) (mixture_fine atoms weights probs lists is means fine)))
     where
       no : (n : ℕ) → (n ≤ 2 ^ 30 → ⊥) → false ≡ nat_le n (2 ^ 30)
       no n never = elim (cases_lt (2 ^ 30) n) [

@@ -1,6 +1,8 @@
 pub mod Parts
 pub mod Values
-pub mod Layers
+pub mod Gridding
+pub mod Small
+pub mod GridUnits
 pub mod Shared
 pub mod Meaning
 pub mod Positive
@@ -10,7 +12,6 @@ pub mod FineUnits
 pub mod NotOne
 pub mod PastEdges
 pub mod OffGrid
-pub mod Flawed
 pub mod Turns
 pub mod ClauseGrids
 pub mod ClauseLaws

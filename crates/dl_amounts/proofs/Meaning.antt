@@ -5,10 +5,10 @@ use Rattle.std.proofs.lemmas.Bool.{cases_lt, lt-ltb, le-ltb}
 use Rattle.dl_exact.specs.Gcd.{gcd}
 use Rattle.dl_exact.specs.Fraction.{Fraction, nought, read_as, whole, ◌over◌, ◌+ℚ◌, ◌*ℚ◌, ◌/ℚ◌}
 use Rattle.dl_exact.specs.Sum.{sum_to, sum_over}
-use Rattle.dl_exact.proofs.Laws.{zero_plus, plus_zero, times_zero, zero_times, one_times, plus_assoc, times_plus, ring}
+use Rattle.dl_exact.proofs.Laws.{zero_plus, plus_zero, times_zero, zero_times, one_times, times_plus, ring}
 use Rattle.dl_exact.proofs.Laws.{by_two}
 use Rattle.dl_exact.proofs.Over.{same, over_same, over_mul, over_div}
-use Rattle.dl_exact.proofs.Sums.{sum_to_same, sum_to_plus, sum_over_map, sum_over_same}
+use Rattle.dl_exact.proofs.Sums.{sum_to_same, sum_to_plus, sum_over_map, sum_over_same, sum_over_append, sum_over_times}
 use Rattle.dl_plan.specs.declared.severity.Sev.{Sev}
 use Rattle.dl_plan.specs.Severity.{Pairs, probability, mass, conditioned, pairs_of, Means}
 use Rattle.dl_exact.proofs.Parts.{whole_num, whole_den}
@@ -41,7 +41,8 @@ none_below : (n a : ℕ) (g : ℕ → Fraction) (p : Fraction) → n < a → sum
 unfolding sum_to
 none_below zero a g p h = ap (λ t. g zero *ℚ t) (at_other a zero p (λ e. omega (arith, h, e))) ∙ times_zero _
 none_below (suc n) a g p h =
-    ap₂ (λ s t. s +ℚ g (suc n) *ℚ t) (none_below n a g p (omega (arith, h))) (at_other a (suc n) p (λ e. omega (arith, h, e)))
+    ap₂ (λ s t. s +ℚ g (suc n) *ℚ t) (none_below n a g p (omega (arith, h)))
+    (at_other a (suc n) p (λ e. omega (arith, h, e)))
     ∙ ap (λ t. whole 0 +ℚ t) (times_zero _) ∙ zero_plus _
 
 one_amount : (n a : ℕ) (g : ℕ → Fraction) (p : Fraction) → a ≤ n → sum_to n (λ x. g x *ℚ at a p x) ≡ g a *ℚ p
@@ -51,11 +52,13 @@ one_amount zero a g p h =
     rw e (ap (λ t. g zero *ℚ t) (at_itself zero p))
 one_amount (suc n) a g p h = elim (cases_lt a (suc n)) [
   | inl l ↦
-      ap₂ (λ s t. s +ℚ g (suc n) *ℚ t) (one_amount n a g p (omega (arith, l))) (at_other a (suc n) p (λ e. omega (arith, l, e)))
+      ap₂ (λ s t. s +ℚ g (suc n) *ℚ t) (one_amount n a g p (omega (arith, l)))
+      (at_other a (suc n) p (λ e. omega (arith, l, e)))
       ∙ ap (λ t. g a *ℚ p +ℚ t) (times_zero _) ∙ plus_zero _
   | inr l ↦
       let e : a ≡ suc n = omega (arith, h, l) in
-      rw e (ap₂ (λ s t. s +ℚ g (suc n) *ℚ t) (none_below n (suc n) g p (omega arith)) (at_itself (suc n) p) ∙ zero_plus _)
+      rw e (ap₂ (λ s t. s +ℚ g (suc n) *ℚ t) (none_below n (suc n) g p (omega arith)) (at_itself (suc n) p)
+      ∙ zero_plus _)
 ]
 
 none_at_all : (n : ℕ) (g : ℕ → Fraction) → sum_to n (λ x. g x *ℚ whole 0) ≡ whole 0
@@ -64,7 +67,8 @@ none_at_all zero g = times_zero _
 none_at_all (suc n) g = ap₂ (λ s t. s +ℚ t) (none_at_all n g) (times_zero _) ∙ zero_plus _
 
 -- the sum of a score over the pairs is that over the amounts, by their probabilities
-pub by_amounts : (n : ℕ) (g : ℕ → Fraction) (ps : Pairs) → bound ps ≤ n → scored g ps ≡ sum_to n (λ x. g x *ℚ probability ps x)
+pub by_amounts : (n : ℕ) (g : ℕ → Fraction) (ps : Pairs) → bound ps ≤ n
+    → scored g ps ≡ sum_to n (λ x. g x *ℚ probability ps x)
 unfolding sum_over
 by_amounts n g [] h = sym (none_at_all n g)
 by_amounts n g (p ∷ ps) h =
@@ -79,7 +83,8 @@ Alike ps qs = (x : ℕ) → probability ps x ≡ probability qs x
 pub scored_alike : (g : ℕ → Fraction) (ps qs : Pairs) → Alike ps qs → scored g ps ≡ scored g qs
 scored_alike g ps qs h =
     let n = bound ps + bound qs in
-    by_amounts n g ps (omega arith) ∙ sum_to_same n _ _ (λ x b. ap (λ t. g x *ℚ t) (h x)) ∙ sym (by_amounts n g qs (omega arith))
+    by_amounts n g ps (omega arith) ∙ sum_to_same n _ _ (λ x b. ap (λ t. g x *ℚ t) (h x))
+    ∙ sym (by_amounts n g qs (omega arith))
 
 -- ---- amounts mapped
 
@@ -100,7 +105,8 @@ mapped_alike f ps qs h y = mapped_score f ps y ∙ scored_alike (λ x. mark (f x
 
 -- ---- amounts above an attachment
 
-read_none : (n d : ℕ) (p : (d ≡ 0) ⊎ (0 < d)) (q : (((gcd n d == 1) ≡ true) × (gcd n d ≡ 1)) ⊎ (((gcd n d == 1) ≡ false) × (gcd n d ≡ 1 → ⊥))) → d ≡ 0 → read_as n d p q ≡ nought
+read_none : (n d : ℕ) (p : (d ≡ 0) ⊎ (0 < d)) (q : (((gcd n d == 1) ≡ true) × (gcd n d ≡ 1))
+    ⊎ (((gcd n d == 1) ≡ false) × (gcd n d ≡ 1 → ⊥))) → d ≡ 0 → read_as n d p q ≡ nought
 unfolding read_as
 read_none n d (inl none) q e = refl
 read_none n d (inr some) (inl lowest) e = absurd (omega (arith, some, e))
@@ -128,7 +134,9 @@ unfolding ◌/ℚ◌
 div_nothing x y e =
     let none : y.num ≡ 0 = ap (λ (t : Fraction). t.num) e ∙ whole_num 0 in
     ap (λ k. (x.num * y.den) over k) (ap (λ k. x.den * k) none ∙ times_nought x.den) ∙ over_nothing (x.num * y.den)
-    ∙ sym (ap (λ t. x *ℚ t) (ap (λ k. ((whole 1).num * y.den) over k) (ap (λ k. (whole 1).den * k) none ∙ times_nought (whole 1).den) ∙ over_nothing ((whole 1).num * y.den)) ∙ times_zero x)
+    ∙ sym (ap (λ t. x *ℚ t) (ap (λ k. ((whole 1).num * y.den) over k)
+    (ap (λ k. (whole 1).den * k) none ∙ times_nought (whole 1).den) ∙ over_nothing ((whole 1).num * y.den))
+    ∙ times_zero x)
 
 div_over : (n d m e : ℕ) → 0 < d → 0 < e → n over d /ℚ m over e ≡ n over d *ℚ (whole 1 /ℚ m over e)
 div_over n d m e hd he = elim (eq-zero-or-pos m) [
@@ -148,12 +156,14 @@ abbrev pub above : ℕ → Pairs → Pairs
 above a ps = filter (λ p. nat_lt a p.0) ps
 
 -- a sum over the pairs above a
-above_score : (a : ℕ) (g : ℕ → Fraction) (ps : Pairs) → scored g (above a ps) ≡ scored (λ x. cond (nat_lt a x) (g x) (whole 0)) ps
+above_score : (a : ℕ) (g : ℕ → Fraction) (ps : Pairs)
+    → scored g (above a ps) ≡ scored (λ x. cond (nat_lt a x) (g x) (whole 0)) ps
 unfolding sum_over
 above_score a g [] = refl
 above_score a g (p ∷ ps) = elim (cases_lt a p.0) [
   | inl h ↦ rw (lt-ltb a p.0 h) (ap (λ t. g p.0 *ℚ p.1 +ℚ t) (above_score a g ps))
-  | inr h ↦ rw (le-ltb a p.0 h) (above_score a g ps ∙ sym (ap (λ t. t +ℚ scored (λ x. cond (nat_lt a x) (g x) (whole 0)) ps) (zero_times p.1) ∙ zero_plus _))
+  | inr h ↦ rw (le-ltb a p.0 h) (above_score a g ps
+      ∙ sym (ap (λ t. t +ℚ scored (λ x. cond (nat_lt a x) (g x) (whole 0)) ps) (zero_times p.1) ∙ zero_plus _))
 ]
 
 above_alike : (a : ℕ) (g : ℕ → Fraction) (ps qs : Pairs) → Alike ps qs → scored g (above a ps) ≡ scored g (above a qs)
@@ -174,7 +184,8 @@ conditioned_score : (a : ℕ) (ps : Pairs) (y : ℕ)
 conditioned_score a ps y =
     let m = mass (above a ps) in
     sum_over_map (λ pair. (pair.0, pair.1 /ℚ m)) (λ pair. cond (pair.0 == y) pair.1 (whole 0)) (above a ps)
-    ∙ sum_over_same _ (λ pair. mark (pair.0 == y) *ℚ (whole 1 /ℚ m) *ℚ pair.1) (above a ps) (λ pair. marked_quotient (pair.0 == y) pair.1 m)
+    ∙ sum_over_same _ (λ pair. mark (pair.0 == y) *ℚ (whole 1 /ℚ m) *ℚ pair.1) (above a ps)
+    (λ pair. marked_quotient (pair.0 == y) pair.1 m)
 
 pub conditioned_alike : (a : ℕ) (ps qs : Pairs) → Alike ps qs → Alike (conditioned a ps) (conditioned a qs)
 conditioned_alike a ps qs h y =
@@ -185,33 +196,22 @@ conditioned_alike a ps qs h y =
 
 -- ---- the steps of a severity
 
--- the pairs of a severity are what it means
-pub own_pairs : (sev : Sev) → Means sev (pairs_of sev)
-own_pairs sev x = sym (probability-shares sev.items sev.total x (total_pos sev))
-
 pub alike_own : (sev : Sev) (ps : Pairs) → Means sev ps → Alike (pairs_of sev) ps
 alike_own sev ps h x = probability-shares sev.items sev.total x (total_pos sev) ∙ h x
 
 pub means_alike : (sev : Sev) (ps qs : Pairs) → Means sev ps → Alike ps qs → Means sev qs
 means_alike sev ps qs h alike x = h x ∙ alike x
 
-pub conditioned_means : (sev made : Sev) (ps : Pairs) (a : ℕ) → Means sev ps → Means made (conditioned a (pairs_of sev)) → Means made (conditioned a ps)
-conditioned_means sev made ps a h m = means_alike made _ _ m (conditioned_alike a (pairs_of sev) ps (alike_own sev ps h))
+pub conditioned_means : (sev made : Sev) (ps : Pairs) (a : ℕ) → Means sev ps → Means made (conditioned a (pairs_of sev))
+    → Means made (conditioned a ps)
+conditioned_means sev made ps a h m = means_alike made _ _ m
+    (conditioned_alike a (pairs_of sev) ps (alike_own sev ps h))
 
-pub mapped_means : (sev made : Sev) (ps : Pairs) (f : ℕ → ℕ) → Means sev ps → Means made (with_amounts f (pairs_of sev)) → Means made (with_amounts f ps)
+pub mapped_means : (sev made : Sev) (ps : Pairs) (f : ℕ → ℕ) → Means sev ps → Means made (with_amounts f (pairs_of sev))
+    → Means made (with_amounts f ps)
 mapped_means sev made ps f h m = means_alike made _ _ m (mapped_alike f (pairs_of sev) ps (alike_own sev ps h))
 
 -- ---- mixtures
-
-pub sum_over_append : {A : Type 0} (f : A → Fraction) (xs ys : List A) → sum_over (xs ++ ys) f ≡ sum_over xs f +ℚ sum_over ys f
-unfolding sum_over
-sum_over_append f [] ys = sym (zero_plus _)
-sum_over_append f (x ∷ xs) ys = ap (λ s. f x +ℚ s) (sum_over_append f xs ys) ∙ sym (plus_assoc _ _ _)
-
-pub sum_over_times : {A : Type 0} (w : Fraction) (f : A → Fraction) (xs : List A) → sum_over xs (λ x. w *ℚ f x) ≡ w *ℚ sum_over xs f
-unfolding sum_over
-sum_over_times w f [] = sym (times_zero w)
-sum_over_times w f (x ∷ xs) = ap (λ s. w *ℚ f x +ℚ s) (sum_over_times w f xs) ∙ sym (times_plus w (f x) (sum_over xs f))
 
 times_if : (b : Bool) (w p : Fraction) → cond b (w *ℚ p) (whole 0) ≡ w *ℚ cond b p (whole 0)
 times_if true w p = refl
@@ -237,6 +237,7 @@ mixture_alike t (a ∷ atoms) ws [] h x = absurd h
 mixture_alike t (a ∷ atoms) (w ∷ ws) (ps ∷ lists) h x =
     probability-append (scaled (w over t) (pairs_of a)) (mixture_of t atoms ws) x
     ∙ ap₂ (λ s r. s +ℚ r)
-    (probability-scaled (w over t) (pairs_of a) x ∙ ap (λ s. w over t *ℚ s) (alike_own a ps h.0 x) ∙ sym (probability-scaled (w over t) ps x))
+    (probability-scaled (w over t) (pairs_of a) x ∙ ap (λ s. w over t *ℚ s) (alike_own a ps h.0 x)
+    ∙ sym (probability-scaled (w over t) ps x))
     (mixture_alike t atoms ws lists h.1 x)
     ∙ sym (probability-append (scaled (w over t) ps) (mixed (map (λ v. v over t) ws) lists) x)

@@ -29,25 +29,33 @@ seconds-zip (x ∷ xs) [] e = absurd (omega (arith, e))
 seconds-zip (x ∷ xs) (y ∷ ys) e = ap (λ zs. y ∷ zs) (seconds-zip xs ys (omega (arith, e)))
 
 -- as many weights as probabilities
-pub weights_length : (probs : List Fraction) (made : Weights) → IsWeighing probs made → length made.weights ≡ length probs
+pub weights_length : (probs : List Fraction) (made : Weights) → IsWeighing probs made
+    → length made.weights ≡ length probs
 weights_length probs made is = sym (length-map made.weights (λ w. w over made.total)) ∙ ap length is.shares
 
-pub weighed_are : (xs : List ℕ) (probs : List Fraction) (made : Weights) → length xs ≡ length probs → IsWeighing probs made → weighed xs made ≡ zip xs probs
-weighed_are xs probs made same is = weighed-back (zip xs probs) xs made (firsts-zip xs probs same) (is.shares ∙ seconds-zip xs probs same)
+pub weighed_are : (xs : List ℕ) (probs : List Fraction) (made : Weights) → length xs ≡ length probs
+    → IsWeighing probs made → weighed xs made ≡ zip xs probs
+weighed_are xs probs made same is = weighed-back (zip xs probs) xs made (firsts-zip xs probs same)
+    (is.shares ∙ seconds-zip xs probs same)
 
 -- ---- one atom more
 
-pair-push : (xs : List Sev) (ys : List Pairs) (x : Sev) (y : Pairs) → AllZip Means xs ys → Means x y → AllZip Means (xs ++ x ∷ []) (ys ++ y ∷ [])
+pair-push : (xs : List Sev) (ys : List Pairs) (x : Sev) (y : Pairs) → AllZip Means xs ys → Means x y
+    → AllZip Means (xs ++ x ∷ []) (ys ++ y ∷ [])
 pair-push [] [] x y h m = (m, tt)
 pair-push [] (z ∷ ys) x y h m = absurd h
 pair-push (w ∷ xs) [] x y h m = absurd h
 pair-push (w ∷ xs) (z ∷ ys) x y h m = (h.0, pair-push xs ys x y h.1 m)
 
-pub pair-more : {A : Type 0} (g : A → Pairs) (atoms : List A) (i : ℕ) (a : A) (made new : List Sev) (x : Sev) → i < length atoms → a ≡ get_or atoms i a
-    → AllZip Means made (map g (take i atoms)) → new ≡ made ++ x ∷ [] → Means x (g a) → AllZip Means new (map g (take (i + 1) atoms))
+pub pair-more : {A : Type 0} (g : A → Pairs) (atoms : List A) (i : ℕ) (a : A) (made new : List Sev) (x : Sev)
+    → i < length atoms → a ≡ get_or atoms i a
+    → AllZip Means made (map g (take i atoms)) → new ≡ made ++ x ∷ [] → Means x (g a)
+    → AllZip Means new (map g (take (i + 1) atoms))
 pair-more g atoms i a made new x h is so_far pushed m =
-    subst (λ ys. AllZip Means new ys) (ap (λ (b : _). map g (take i atoms) ++ g b ∷ []) is ∙ sym (map_more g atoms i a h))
-    (subst (λ xs. AllZip Means xs (map g (take i atoms) ++ g a ∷ [])) (sym pushed) (pair-push made (map g (take i atoms)) x (g a) so_far m))
+    subst (λ ys. AllZip Means new ys) (ap (λ (b : _). map g (take i atoms) ++ g b ∷ []) is
+    ∙ sym (map_more g atoms i a h))
+    (subst (λ xs. AllZip Means xs (map g (take i atoms) ++ g a ∷ [])) (sym pushed)
+    (pair-push made (map g (take i atoms)) x (g a) so_far m))
 
 pub pair_length : (xs : List Sev) (ys : List Pairs) → AllZip Means xs ys → length xs ≡ length ys
 pair_length [] [] h = refl
@@ -57,13 +65,16 @@ pair_length (x ∷ xs) (y ∷ ys) h = ap suc (pair_length xs ys h.1)
 
 -- ---- the mixture
 
-module _ (atoms : List Sev) (weights : Weights) (shares : List Fraction) (lists : List Pairs) (is : IsWeighing shares weights) (means : AllZip Means atoms lists) where
+module _ (atoms : List Sev) (weights : Weights) (shares : List Fraction) (lists : List Pairs)
+    (is : IsWeighing shares weights) (means : AllZip Means atoms lists) where
   pub mixture_means : (made : Sev) → Means made (mixture atoms weights) → Means made (mixed shares lists)
-  mixture_means made h x = h x ∙ mixture_alike weights.total atoms weights.weights lists means x ∙ ap (λ ws. probability (mixed ws lists) x) is.shares
+  mixture_means made h x = h x ∙ mixture_alike weights.total atoms weights.weights lists means x
+      ∙ ap (λ ws. probability (mixed ws lists) x) is.shares
 
   pub mixture_fine : IsFine (shares_in_mixture shares lists) → IsFine (map (λ pair. pair.1) (mixture atoms weights))
   mixture_fine fine =
       let all : List Fraction = shares_in_mixture shares lists in
       fine_with (map (λ pair. pair.1) (mixture atoms weights)) all
       (mixture_products (λ x. x.den ∣ common_denominator all) weights.total atoms weights.weights lists means
-      (subst (λ ws. All (λ x. x.den ∣ common_denominator all) (shares_in_mixture ws lists)) (sym is.shares) (den_divides 1 all))) fine
+      (subst (λ ws. All (λ x. x.den ∣ common_denominator all) (shares_in_mixture ws lists)) (sym is.shares)
+      (den_divides 1 all))) fine

@@ -2,29 +2,25 @@
 use Rattle.std.proofs.Common.{ℕ, suc, ◌≡◌, ◌∙◌, ◌*◌, ◌/◌, ◌<◌, ◌≤◌, ◌^◌, ◌⊎◌, List, [], ◌∷◌, map, filter, zip, length, get_or, nat_lt, Option, Some, None, Bool, true, false, cond, refl, sym, ap, subst, arith, inl, inr, length-append}
 use Rattle.std.specs.List.{All}
 use Rattle.std.proofs.Math.Nat.{div-le_of_le-mul}
-use Rattle.std.proofs.lemmas.Bool.{cases_lt, lt-ltb, le-ltb}
+use Rattle.std.proofs.lemmas.Bool.{lt-ltb, le-ltb}
 use Rattle.std.proofs.lemmas.List.{length-map}
 use Rattle.std.proofs.lemmas.List.Elements.{All-nil, All-cons, All-head, All-tail, All-weaker, All-append, All-map}
-use Rattle.dl_exact.specs.Fraction.{Fraction, whole, ◌*ℚ◌, ◌<ℚ◌}
+use Rattle.dl_exact.specs.Fraction.{Fraction, ◌*ℚ◌}
 use Rattle.dl_plan.specs.Fine.{IsWhole}
 use Rattle.dl_plan.specs.declared.item.Item.{Item}
 use Rattle.dl_plan.specs.declared.severity.Sev.{Sev}
 use Rattle.dl_plan.specs.Severity.{Pairs, conditioned, pairs_of, shares, Means}
-use Rattle.dl_plan.specs.Cession.{Clause, layer, kept, IsCession}
+use Rattle.dl_plan.specs.Clause.{Clause, layer, kept, IsClause}
 use Rattle.dl_plan.specs.Parts.{kept_parts, parts_in_bucket}
-use Rattle.dl_exact.proofs.Parts.{whole_num, whole_den}
-use Rattle.dl_plan.proofs.Cessions.{layer_le, bucket_pos, kept_whole, kept_only}
+use Rattle.dl_exact.proofs.Parts.{whole_num}
+use Rattle.dl_plan.proofs.Clauses.{layer_le, bucket_pos, kept_whole, kept_only}
 use Rattle.dl_plan.proofs.Apart.{kept_le}
-use Rattle.dl_sev.specs.Buckets.{buckets}
 use Rattle.dl_sev.specs.Steps.{scaled, with_amounts, layered, ceded_each}
-use Rattle.dl_ast.specs.declared.ast.Atom.{Atom}
-use Rattle.dl_ast.specs.declared.ast.SevAst.{SevAst}
-use Rattle.dl_ast.specs.declared.ast.Layer.{Layer}
-use Rattle.dl_read.specs.Lists.{values_of, probs_of}
-use Rattle.dl_amounts.specs.Clauses.{number_of, limit_of}
-use Rattle.dl_amounts.specs.Severity.{atom_pairs, mixed, mixed_pairs, weights_of, attach_of, is_conditioned, layer_pairs, support}
-use Rattle.dl_amounts.specs.Parts.{IsAtomOnGrid, IsSevOnGrid}
-use Rattle.dl_amounts.proofs.Values.{whole_values, near_values, few_values}
+use Rattle.dl_amounts.specs.declared.grid.GridAtom.{GridAtom}
+use Rattle.dl_amounts.specs.declared.grid.GridSev.{GridSev}
+use Rattle.dl_amounts.specs.declared.grid.GridLayer.{GridLayer}
+use Rattle.dl_amounts.specs.Severity.{atom_probs, atom_pairs, mixed, mixed_pairs, weights_of, is_conditioned, layer_pairs, support}
+use Rattle.dl_amounts.specs.GridKept.{IsGridAtom, IsGridSev}
 use Rattle.dl_amounts.proofs.Items.{Rising, rises, items_in, support_all}
 use Rattle.dl_amounts.proofs.Positive.{is_positive}
 
@@ -34,33 +30,23 @@ Near b ps = All (λ pair. pair.0 ≤ b) ps
 
 -- ---- the atoms
 
-small : (x : Fraction) → IsWhole x → (whole (2 ^ 20) <ℚ x → ⊥) → x.num ≤ 2 ^ 20
-unfolding ◌<ℚ◌
-small x one near = elim (cases_lt (2 ^ 20) x.num) [
-  | inl h ↦ absurd (near (rw (whole_num (2 ^ 20), whole_den (2 ^ 20), one) (omega (arith, h))))
-  | inr h ↦ h
-]
-
 zip_near : (b : ℕ) (xs : List ℕ) (ys : List Fraction) → All (λ x. x ≤ b) xs → Near b (zip xs ys)
 zip_near b [] ys h = All-nil (λ pair. pair.0 ≤ b)
 zip_near b (x ∷ xs) [] h = All-nil (λ pair. pair.0 ≤ b)
 zip_near b (x ∷ xs) (y ∷ ys) h =
-    All-cons (λ pair. pair.0 ≤ b) (x, y) (zip xs ys) (All-head (λ n. n ≤ b) x xs h) (zip_near b xs ys (All-tail (λ n. n ≤ b) x xs h))
+    All-cons (λ pair. pair.0 ≤ b) (x, y) (zip xs ys) (All-head (λ n. n ≤ b) x xs h)
+    (zip_near b xs ys (All-tail (λ n. n ≤ b) x xs h))
 
-atom_near : (bs : Fraction) (a : Atom) → IsAtomOnGrid bs a → Near (2 ^ 20) (atom_pairs bs a)
-atom_near bs a on_grid =
-    zip_near (2 ^ 20) (map (number_of bs) (values_of a.values)) (probs_of a.values a.probs)
-    (All-map (λ n. n ≤ 2 ^ 20) (number_of bs) (values_of a.values)
-    (λ k d h. small (buckets bs (get_or (values_of a.values) k d)) (whole_values bs a on_grid k d h) (near_values bs a on_grid k d h)))
+atom_near : (a : GridAtom) → IsGridAtom a → Near (2 ^ 20) (atom_pairs a)
+atom_near a grid = zip_near (2 ^ 20) a.amounts (atom_probs a) grid.near
 
 zip_length : (xs : List ℕ) (ys : List Fraction) → length (zip xs ys) ≤ length xs
 zip_length [] ys = omega arith
 zip_length (x ∷ xs) [] = omega arith
 zip_length (x ∷ xs) (y ∷ ys) = omega (arith, zip_length xs ys)
 
-atom_few : (bs : Fraction) (a : Atom) → IsAtomOnGrid bs a → length (atom_pairs bs a) ≤ 1024
-atom_few bs a on_grid =
-    omega (arith, zip_length (map (number_of bs) (values_of a.values)) (probs_of a.values a.probs), length-map (values_of a.values) (number_of bs), few_values a.values on_grid.values)
+atom_few : (a : GridAtom) → IsGridAtom a → length (atom_pairs a) ≤ 1024
+atom_few a grid = omega (arith, zip_length a.amounts (atom_probs a), grid.few)
 
 -- ---- the mixture
 
@@ -71,9 +57,11 @@ all_mixed_near : (b : ℕ) (ws : List Fraction) (lists : List Pairs) → All (Ne
 all_mixed_near b [] lists h = All-nil (λ pair. pair.0 ≤ b)
 all_mixed_near b (w ∷ ws) [] h = All-nil (λ pair. pair.0 ≤ b)
 all_mixed_near b (w ∷ ws) (ps ∷ lists) h =
-    All-append (λ pair. pair.0 ≤ b) (scaled w ps) (mixed ws lists) (scaled_near b w ps (All-head (Near b) ps lists h)) (all_mixed_near b ws lists (All-tail (Near b) ps lists h))
+    All-append (λ pair. pair.0 ≤ b) (scaled w ps) (mixed ws lists) (scaled_near b w ps (All-head (Near b) ps lists h))
+    (all_mixed_near b ws lists (All-tail (Near b) ps lists h))
 
-all_mixed_few : (n : ℕ) (ws : List Fraction) (lists : List Pairs) → All (λ ps. length ps ≤ n) lists → length (mixed ws lists) ≤ length lists * n
+all_mixed_few : (n : ℕ) (ws : List Fraction) (lists : List Pairs) → All (λ ps. length ps ≤ n) lists
+    → length (mixed ws lists) ≤ length lists * n
 all_mixed_few n [] lists h = omega arith
 all_mixed_few n (w ∷ ws) [] h = omega arith
 all_mixed_few n (w ∷ ws) (ps ∷ lists) h =
@@ -85,27 +73,31 @@ all_mixed_few n (w ∷ ws) (ps ∷ lists) h =
       all_mixed_few n ws lists (All-tail (λ qs. length qs ≤ n) ps lists h),
     )
 
-module _ (bs : Fraction) (s : SevAst) (on_grid : IsSevOnGrid bs s) where
-  mixed_near : Near (2 ^ 20) (mixed_pairs bs s)
+module _ (s : GridSev) (grid : IsGridSev s) where
+  mixed_near : Near (2 ^ 20) (mixed_pairs s)
   mixed_near =
-      all_mixed_near (2 ^ 20) (weights_of s) (map (atom_pairs bs) s.atoms)
-      (All-map (Near (2 ^ 20)) (atom_pairs bs) s.atoms (All-weaker (IsAtomOnGrid bs) (λ a. Near (2 ^ 20) (atom_pairs bs a)) (atom_near bs) s.atoms on_grid.atoms))
+      all_mixed_near (2 ^ 20) (weights_of s) (map atom_pairs s.atoms)
+      (All-map (Near (2 ^ 20)) atom_pairs s.atoms
+      (All-weaker IsGridAtom (λ a. Near (2 ^ 20) (atom_pairs a)) (atom_near) s.atoms grid.atoms))
 
-  mixed_few : length (mixed_pairs bs s) ≤ 65536
+  mixed_few : length (mixed_pairs s) ≤ 65536
   mixed_few =
       omega (
         arith,
-        all_mixed_few 1024 (weights_of s) (map (atom_pairs bs) s.atoms)
-            (All-map (λ ps. length ps ≤ 1024) (atom_pairs bs) s.atoms (All-weaker (IsAtomOnGrid bs) (λ a. length (atom_pairs bs a) ≤ 1024) (atom_few bs) s.atoms on_grid.atoms)),
-        length-map s.atoms (atom_pairs bs),
-        on_grid.few,
+        all_mixed_few 1024 (weights_of s) (map atom_pairs s.atoms)
+            (All-map (λ ps. length ps ≤ 1024) atom_pairs s.atoms
+            (All-weaker IsGridAtom (λ a. length (atom_pairs a) ≤ 1024)
+            (atom_few) s.atoms grid.atoms)),
+        length-map s.atoms atom_pairs,
+        grid.few,
       )
 
 -- ---- the layer
 
 filter_near : (b : ℕ) (p : ℕ × Fraction → Bool) (ps : Pairs) → Near b ps → Near b (filter p ps)
 filter_near b p [] h = All-nil (λ pair. pair.0 ≤ b)
-filter_near b p (x ∷ ps) h = split (p x) (filter p ps) (All-head (λ pair. pair.0 ≤ b) x ps h) (filter_near b p ps (All-tail (λ pair. pair.0 ≤ b) x ps h))
+filter_near b p (x ∷ ps) h = split (p x) (filter p ps) (All-head (λ pair. pair.0 ≤ b) x ps h)
+    (filter_near b p ps (All-tail (λ pair. pair.0 ≤ b) x ps h))
   where
     split : (t : Bool) (qs : Pairs) → x.0 ≤ b → Near b qs → Near b (cond t (x ∷ qs) qs)
     split true qs one all = All-cons (λ pair. pair.0 ≤ b) x qs one all
@@ -120,31 +112,48 @@ filter_few p (x ∷ xs) = split (p x) (filter p xs) (filter_few p xs)
     split false ys h = omega (arith, h)
 
 conditioned_near : (b a : ℕ) (ps : Pairs) → Near b ps → Near b (conditioned a ps)
-conditioned_near b a ps h = All-map (λ pair. pair.0 ≤ b) _ (filter (λ pair. nat_lt a pair.0) ps) (filter_near b (λ pair. nat_lt a pair.0) ps h)
+conditioned_near b a ps h = All-map (λ pair. pair.0 ≤ b) _ (filter (λ pair. nat_lt a pair.0) ps)
+    (filter_near b (λ pair. nat_lt a pair.0) ps h)
 
 conditioned_few : (a : ℕ) (ps : Pairs) → length (conditioned a ps) ≤ length ps
-conditioned_few a ps = subst (λ n. n ≤ length ps) (sym (length-map (filter (λ pair. nat_lt a pair.0) ps) _)) (filter_few (λ pair. nat_lt a pair.0) ps)
+conditioned_few a ps = subst (λ n. n ≤ length ps) (sym (length-map (filter (λ pair. nat_lt a pair.0) ps) _))
+    (filter_few (λ pair. nat_lt a pair.0) ps)
 
 mapped_near : (b : ℕ) (f : ℕ → ℕ) (ps : Pairs) → ((x : ℕ) → f x ≤ x) → Near b ps → Near b (with_amounts f ps)
 mapped_near b f ps le h =
     All-map (λ pair. pair.0 ≤ b) (λ (pair : ℕ × Fraction). (f pair.0, pair.1)) ps
     (All-weaker (λ pair. pair.0 ≤ b) (λ pair. f pair.0 ≤ b) (λ pair near. omega (arith, le pair.0, near)) ps h)
 
-layered_near : (b : ℕ) (limit : Option ℕ) (a : ℕ) (large : Bool) (ps : Pairs) → Near b ps → Near b (layered limit a (cond large (conditioned a ps) ps))
-layered_near b limit a true ps h = mapped_near b (layer limit a) (conditioned a ps) (layer_le limit a) (conditioned_near b a ps h)
+layered_near : (b : ℕ) (limit : Option ℕ) (a : ℕ) (large : Bool) (ps : Pairs) → Near b ps
+    → Near b (layered limit a (cond large (conditioned a ps) ps))
+layered_near b limit a true ps h = mapped_near b (layer limit a) (conditioned a ps) (layer_le limit a)
+    (conditioned_near b a ps h)
 layered_near b limit a false ps h = mapped_near b (layer limit a) ps (layer_le limit a) h
 
-layered_few : (limit : Option ℕ) (a : ℕ) (large : Bool) (ps : Pairs) → length (layered limit a (cond large (conditioned a ps) ps)) ≤ length ps
-layered_few limit a true ps = omega (arith, length-map {B = ℕ × Fraction} (conditioned a ps) (λ (pair : ℕ × Fraction). (layer limit a pair.0, pair.1)), conditioned_few a ps)
-layered_few limit a false ps = omega (arith, length-map {B = ℕ × Fraction} ps (λ (pair : ℕ × Fraction). (layer limit a pair.0, pair.1)))
+layered_few : (limit : Option ℕ) (a : ℕ) (large : Bool) (ps : Pairs)
+    → length (layered limit a (cond large (conditioned a ps) ps)) ≤ length ps
+layered_few limit a true ps = omega (
+  arith,
+  length-map {B = ℕ × Fraction} (conditioned a ps)
+      (λ (pair : ℕ × Fraction). (layer limit a pair.0, pair.1)),
+  conditioned_few a ps,
+)
+layered_few limit a false ps = omega (
+  arith,
+  length-map {B = ℕ × Fraction} ps
+      (λ (pair : ℕ × Fraction). (layer limit a pair.0, pair.1)),
+)
 
-layer_near : (bs : Fraction) (b : ℕ) (o : Option Layer) (s : SevAst) → Near b (mixed_pairs bs s) → Near b (layer_pairs bs o s)
-layer_near bs b None s h = h
-layer_near bs b (Some l) s h = layered_near b (limit_of bs l.limit) (attach_of bs l) (is_conditioned bs l s) (mixed_pairs bs s) h
+layer_near : (b : ℕ) (o : Option GridLayer) (s : GridSev) → Near b (mixed_pairs s)
+    → Near b (layer_pairs o s)
+layer_near b None s h = h
+layer_near b (Some l) s h = layered_near b l.limit l.attach (is_conditioned l s)
+    (mixed_pairs s) h
 
-layer_few : (bs : Fraction) (o : Option Layer) (s : SevAst) → length (layer_pairs bs o s) ≤ length (mixed_pairs bs s)
-layer_few bs None s = omega arith
-layer_few bs (Some l) s = layered_few (limit_of bs l.limit) (attach_of bs l) (is_conditioned bs l s) (mixed_pairs bs s)
+layer_few : (o : Option GridLayer) (s : GridSev)
+    → length (layer_pairs o s) ≤ length (mixed_pairs s)
+layer_few None s = omega arith
+layer_few (Some l) s = layered_few l.limit l.attach (is_conditioned l s) (mixed_pairs s)
 
 -- ---- rising amounts that all stand in a list are no more than it has
 
@@ -177,15 +186,18 @@ no_more (x ∷ xs) ys rising all =
     omega (
       arith,
       fewer x.amount ys (All-head (λ (i : Item). Among ys i.amount) x xs all),
-      no_more xs (filter (nat_lt x.amount) ys) rising.1 (λ k d h. still_among x.amount (get_or xs k d).amount ys (rising.0 k d h) (rest k d h)),
+      no_more xs (filter (nat_lt x.amount) ys) rising.1
+          (λ k d h. still_among x.amount (get_or xs k d).amount ys (rising.0 k d h) (rest k d h)),
     )
 
 all_among : (xs : List ℕ) → All (Among xs) xs
 all_among [] = All-nil (Among [])
-all_among (x ∷ xs) = All-cons (Among (x ∷ xs)) x xs (inl refl) (All-weaker (Among xs) (Among (x ∷ xs)) (λ y h. inr h) xs (all_among xs))
+all_among (x ∷ xs) = All-cons (Among (x ∷ xs)) x xs (inl refl)
+    (All-weaker (Among xs) (Among (x ∷ xs)) (λ y h. inr h) xs (all_among xs))
 
 support_few : (ps : Pairs) → length (support ps) ≤ length ps
-support_few ps = subst (λ n. n ≤ length ps) (sym (length-map (filter (λ pair. is_positive pair.1) ps) (λ pair. pair.0))) (filter_few (λ pair. is_positive pair.1) ps)
+support_few ps = subst (λ n. n ≤ length ps) (sym (length-map (filter (λ pair. is_positive pair.1) ps) (λ pair. pair.0)))
+    (filter_few (λ pair. is_positive pair.1) ps)
 
 -- a severity has no more items than what it means has amounts
 pub items_few : (sev : Sev) (ps : Pairs) → Means sev ps → length sev.items ≤ length ps
@@ -193,47 +205,65 @@ items_few sev ps means =
     omega (
       arith,
       support_few ps,
-      no_more sev.items (support ps) (rises sev.items sev.weighted.rising) (items_in sev ps means (Among (support ps)) (all_among (support ps))),
+      no_more sev.items (support ps) (rises sev.items sev.weighted.rising)
+          (items_in sev ps means (Among (support ps)) (all_among (support ps))),
     )
 
-pub items_near : (b : ℕ) (sev : Sev) (ps : Pairs) → Means sev ps → Near b ps → All (λ (i : Item). i.amount ≤ b) sev.items
+pub items_near : (b : ℕ) (sev : Sev) (ps : Pairs) → Means sev ps → Near b ps
+    → All (λ (i : Item). i.amount ≤ b) sev.items
 items_near b sev ps means near = items_in sev ps means (λ x. x ≤ b) (support_all (λ x. x ≤ b) ps near)
 
-module _ (bs : Fraction) (o : Option Layer) (s : SevAst) (on_grid : IsSevOnGrid bs s) (sev : Sev) (means : Means sev (layer_pairs bs o s)) where
+module _ (o : Option GridLayer) (s : GridSev) (grid : IsGridSev s) (sev : Sev)
+    (means : Means sev (layer_pairs o s)) where
   pub in_layer_near : All (λ (i : Item). i.amount ≤ 2 ^ 20) sev.items
-  in_layer_near = items_near (2 ^ 20) sev (layer_pairs bs o s) means (layer_near bs (2 ^ 20) o s (mixed_near bs s on_grid))
+  in_layer_near = items_near (2 ^ 20) sev (layer_pairs o s) means
+      (layer_near (2 ^ 20) o s (mixed_near s grid))
 
   pub in_layer_few : length sev.items ≤ 65536
-  in_layer_few = omega (arith, items_few sev (layer_pairs bs o s) means, layer_few bs o s, mixed_few bs s on_grid)
+  in_layer_few = omega (arith, items_few sev (layer_pairs o s) means, layer_few o s, mixed_few s grid)
 
 -- ---- the occurrence clause
 
-kept_small : (clause : Clause) (x : ℕ) → IsCession clause → IsWhole (kept clause x) → (kept clause x).num ≤ x
+kept_small : (clause : Clause) (x : ℕ) → IsClause clause → IsWhole (kept clause x) → (kept clause x).num ≤ x
 kept_small clause x cession is =
     let c : ℕ = parts_in_bucket clause in
     let p : ℕ = kept_parts clause c x in
-    subst (λ n. n ≤ x) (sym (ap (λ (y : Fraction). y.num) (kept_whole clause x c p refl refl (kept_only clause x c p refl refl is)) ∙ whole_num (p / c)))
+    subst (λ n. n ≤ x) (sym (ap (λ (y : Fraction). y.num)
+    (kept_whole clause x c p refl refl (kept_only clause x c p refl refl is)) ∙ whole_num (p / c)))
     (at_most p c x (bucket_pos clause) (kept_le clause c x cession))
   where
     at_most : (p c x : ℕ) → 0 < c → p ≤ x * c → p / c ≤ x
     at_most p c x pos h = div-le_of_le-mul c (omega (arith, h))
 
-ceded_near : (b t : ℕ) (clause : Clause) (items : List Item) → IsCession clause → All (λ (i : Item). IsWhole (kept clause i.amount)) items
+ceded_near : (b t : ℕ) (clause : Clause) (items : List Item) → IsClause clause
+    → All (λ (i : Item). IsWhole (kept clause i.amount)) items
     → All (λ (i : Item). i.amount ≤ b) items → Near b (ceded_each clause (shares items t))
 ceded_near b t clause [] cession w h = All-nil (λ pair. pair.0 ≤ b)
 ceded_near b t clause (i ∷ items) cession w h =
     All-cons (λ pair. pair.0 ≤ b) _ (ceded_each clause (shares items t))
-    (omega (arith, kept_small clause i.amount cession (All-head (λ (j : Item). IsWhole (kept clause j.amount)) i items w), All-head (λ (j : Item). j.amount ≤ b) i items h))
-    (ceded_near b t clause items cession (All-tail (λ (j : Item). IsWhole (kept clause j.amount)) i items w) (All-tail (λ (j : Item). j.amount ≤ b) i items h))
+    (omega (
+      arith,
+      kept_small clause i.amount cession
+          (All-head (λ (j : Item). IsWhole (kept clause j.amount)) i items w),
+      All-head (λ (j : Item). j.amount ≤ b) i items h,
+    ))
+    (ceded_near b t clause items cession (All-tail (λ (j : Item). IsWhole (kept clause j.amount)) i items w)
+    (All-tail (λ (j : Item). j.amount ≤ b) i items h))
 
-ceded_length : (t : ℕ) (clause : Clause) (items : List Item) → length (ceded_each clause (shares items t)) ≡ length items
+ceded_length : (t : ℕ) (clause : Clause) (items : List Item)
+    → length (ceded_each clause (shares items t)) ≡ length items
 ceded_length t clause [] = refl
 ceded_length t clause (i ∷ items) = ap suc (ceded_length t clause items)
 
 module _ (clause : Clause) (sev made : Sev) (means : Means made (ceded_each clause (pairs_of sev))) where
-  pub ceded_items_near : (b : ℕ) → IsCession clause → All (λ (i : Item). IsWhole (kept clause i.amount)) sev.items
+  pub ceded_items_near : (b : ℕ) → IsClause clause → All (λ (i : Item). IsWhole (kept clause i.amount)) sev.items
       → All (λ (i : Item). i.amount ≤ b) sev.items → All (λ (i : Item). i.amount ≤ b) made.items
-  ceded_items_near b cession w h = items_near b made (ceded_each clause (pairs_of sev)) means (ceded_near b sev.total clause sev.items cession w h)
+  ceded_items_near b cession w h = items_near b made (ceded_each clause (pairs_of sev)) means
+      (ceded_near b sev.total clause sev.items cession w h)
 
   pub ceded_items_few : length made.items ≤ length sev.items
-  ceded_items_few = omega (arith, items_few made (ceded_each clause (pairs_of sev)) means, ceded_length sev.total clause sev.items)
+  ceded_items_few = omega (
+    arith,
+    items_few made (ceded_each clause (pairs_of sev)) means,
+    ceded_length sev.total clause sev.items,
+  )

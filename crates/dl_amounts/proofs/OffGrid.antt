@@ -1,16 +1,17 @@
 -- Whether the clauses of a unit map whole amounts to whole amounts.
-use Rattle.std.proofs.Common.{ℕ, ◌+◌, ◌≡◌, ◌∙◌, ◌<◌, ◌≤◌, ◌^◌, ◌&&◌, ◌↔◌, ◌++◌, IsTrue, IsSome, nat_le, map, take, drop, length, get_or, Bool, true, false, List, [], ◌∷◌, Option, Some, None, refl, sym, ap, ap₂, subst, arith}
+use Rattle.std.proofs.lemmas.Bool.{le-leb}
+use Rattle.std.proofs.Common.{ℕ, ◌+◌, ◌≡◌, ◌∙◌, ◌<◌, ◌^◌, ◌&&◌, ◌↔◌, ◌++◌, IsTrue, IsSome, map, take, drop, length, get_or, Bool, true, false, List, [], ◌∷◌, Option, Some, None, refl, sym, ap, ap₂, subst, arith}
 use Rattle.std.specs.List.{list_any}
 use Rattle.std.specs.Option.{MatchOption}
 use Rattle.std.proofs.Math.ListN.{set}
 use Rattle.std.proofs.lemmas.List.{length-map, length-take, drop_more, get_or_at, get_or_default}
 use Rattle.std.proofs.lemmas.List.Edits.{map_over_more}
 use Rattle.dl_exact.specs.Fraction.{Fraction, whole}
-use Rattle.dl_ast.specs.declared.ast.CededLayer.{CededLayer}
-use Rattle.dl_ast.specs.declared.ast.Cession.{Cession}
-use Rattle.dl_ast.specs.declared.ast.UnitAst.{UnitAst}
+use Rattle.dl_amounts.specs.declared.grid.GridCeded.{GridCeded}
+use Rattle.dl_amounts.specs.declared.grid.GridClause.{GridClause}
+use Rattle.dl_amounts.specs.declared.grid.GridUnit.{GridUnit}
 use Rattle.dl_plan.specs.Fine.{IsFine, IsWhole, common_denominator}
-use Rattle.dl_plan.specs.Cession.{Clause, kept, layer_shares, IsCession}
+use Rattle.dl_plan.specs.Clause.{Clause, kept, layer_shares, IsClause}
 use Rattle.dl_exact.proofs.Parts.{whole_num}
 use Rattle.dl_sev.specs.Fits.{FitsStep}
 use Rattle.dl_read.specs.First.{at_if, within}
@@ -18,7 +19,9 @@ use Rattle.dl_read.specs.Lists.{is_fine}
 use Rattle.dl_amounts.specs.Clauses.{ceded_layer, clause_of, shares_of, share_of, is_off, is_off_multiples}
 use Rattle.dl_amounts.specs.Severity.{severity_in_layer, final_severity, ceded_pairs, support}
 use Rattle.dl_amounts.specs.FineParts.{has_shares}
-use Rattle.dl_amounts.specs.Rules.{common_amount_of, off_grid_occurrence, off_grid_aggregate}
+use Rattle.dl_amounts.specs.Rules.{common_amount_of, off_grid_occurrence, off_grid_aggregate, off_grid_cession}
+use Rattle.dl_lexer.specs.declared.token.Span.{Span}
+use Rattle.dl_read.proofs.Firsts.{else_found, else_next}
 use Rattle.dl_read.proofs.Nothing.{not_at}
 use Rattle.dl_amounts.proofs.Values.{never}
 use Rattle.dl_amounts.proofs.Positive.{support-mapped}
@@ -26,20 +29,15 @@ use Rattle.dl_amounts.proofs.PastEdges.{whole_unless, fits_tried, tried_fits}
 
 -- ---- a clause with fine shares
 
-fine_is : (xs : List Fraction) → IsFine xs → is_fine xs ≡ true
-fine_is xs h = at_most (common_denominator xs) h
-  where
-    at_most : (n : ℕ) → n ≤ 2 ^ 30 → nat_le n (2 ^ 30) ≡ true
-    at_most n h = grind (arith, h)
+same_shares : (ls : List GridCeded)
+    → layer_shares (map ceded_layer ls) ≡ map (λ (l : GridCeded). share_of l.share) ls
+same_shares [] = refl
+same_shares (l ∷ ls) = ap (λ xs. share_of l.share ∷ xs) (same_shares ls)
 
-same_shares : (bs : Fraction) (ls : List CededLayer)
-    → layer_shares (map (ceded_layer bs) ls) ≡ map (λ (l : CededLayer). share_of l.share l.layer.limit) ls
-same_shares bs [] = refl
-same_shares bs (l ∷ ls) = ap (λ xs. share_of l.share l.layer.limit ∷ xs) (same_shares bs ls)
-
-pub cession_fine : (bs : Fraction) (c : Cession) (clause : Clause) → (clause ≡ clause_of bs c) × IsCession clause → is_fine (shares_of c) ≡ true
-cession_fine bs c clause told = fine_is (shares_of c) (subst IsFine
-    (ap (λ (d : Clause). layer_shares d.1) told.0 ∙ same_shares bs c.layers) told.1.fine)
+pub cession_fine : (c : GridClause) (clause : Clause) → (clause ≡ clause_of c) × IsClause clause
+    → is_fine (shares_of c) ≡ true
+cession_fine c clause told = le-leb (common_denominator (shares_of c)) (2 ^ 30) (subst IsFine
+    (ap (λ (d : Clause). layer_shares d.1) told.0 ∙ same_shares c.layers) told.1.fine)
 
 second : (a b : Bool) → a ≡ true → (a && b) ≡ b
 second true b e = refl
@@ -51,14 +49,18 @@ pub kept_some : (o : Option ℕ) (x : Fraction) → MatchOption o (¬ IsWhole x)
 kept_some None x h w = absurd (h w)
 kept_some (Some y) x h w = refl
 
-pub kept_num : (o : Option ℕ) (x : Fraction) (y : ℕ) → MatchOption o (¬ IsWhole x) (λ z. x ≡ whole z) → o ≡ Some y → x.num ≡ y
-kept_num o x y h is = ap (λ (z : Fraction). z.num) (subst (λ (p : Option ℕ). MatchOption p (¬ IsWhole x) (λ z. x ≡ whole z)) is h) ∙ whole_num y
+pub kept_num : (o : Option ℕ) (x : Fraction) (y : ℕ) → MatchOption o (¬ IsWhole x) (λ z. x ≡ whole z)
+    → o ≡ Some y → x.num ≡ y
+kept_num o x y h is = ap (λ (z : Fraction). z.num)
+    (subst (λ (p : Option ℕ). MatchOption p (¬ IsWhole x) (λ z. x ≡ whole z)) is h) ∙ whole_num y
 
-module _ (clause : Clause) (xs ys : List ℕ) (i : ℕ) (lt : i < length xs) (so_far : ys ≡ map (λ x. (kept clause x).num) (take i xs) ++ drop i xs) where
+module _ (clause : Clause) (xs ys : List ℕ) (i : ℕ) (lt : i < length xs)
+    (so_far : ys ≡ map (λ x. (kept clause x).num) (take i xs) ++ drop i xs) where
   next_is : (d : ℕ) → get_or ys i d ≡ get_or xs i d
   next_is d =
       let front = map (λ x. (kept clause x).num) (take i xs) in
-      let long : length front ≡ i = length-map (take i xs) (λ x. (kept clause x).num) ∙ omega (arith, lt, length-take i xs) in
+      let long : length front ≡ i = length-map (take i xs) (λ x. (kept clause x).num)
+      ∙ omega (arith, lt, length-take i xs) in
       let parts : ys ≡ front ++ get_or xs i d ∷ drop (i + 1) xs = so_far ∙ ap (λ l. front ++ l) (drop_more xs i d lt) in
       ap (λ l. get_or l i d) parts ∙ get_or_at front _ _ d i long
 
@@ -74,50 +76,90 @@ module _ (clause : Clause) (xs ys : List ℕ) (i : ℕ) (lt : i < length xs) (so
 
 -- ---- the occurrence clause
 
-module _ (bs : Fraction) (u : UnitAst) (c : Cession) (is : u.occ ≡ Some c) (clause : Clause)
-    (told : (clause ≡ clause_of bs c) × IsCession clause) (xs : List ℕ) (amounts : xs ≡ support (severity_in_layer bs u)) where
-  occurrence_is : off_grid_occurrence bs u ≡ at_if (list_any (is_off clause) xs) c.span
+pub no_occurrence : (u : GridUnit) (r : Option Span) → u.occ ≡ None → r ≡ off_grid_aggregate u → r ≡ off_grid_cession u
+unfolding off_grid_cession
+no_occurrence u r is e = else_next (off_grid_occurrence u) (off_grid_aggregate u) r
+    (sym (ap (within (λ (d : GridClause). at_if (is_fine (shares_of d)
+    && list_any (is_off (clause_of d)) (support (severity_in_layer u))) d.span)) is)) e
+
+pub no_shares : (u : GridUnit) (c : GridClause) → u.occ ≡ Some c → is_fine (shares_of c) ≡ false
+    → None ≡ off_grid_cession u
+unfolding off_grid_cession
+no_shares u c is coarse =
+    else_next (off_grid_occurrence u) (off_grid_aggregate u) None
+    (sym (ap (within (λ (d : GridClause). at_if (is_fine (shares_of d)
+    && list_any (is_off (clause_of d)) (support (severity_in_layer u))) d.span)) is
+    ∙ ap (λ b. at_if (b && list_any (is_off (clause_of c)) (support (severity_in_layer u))) c.span) coarse))
+    (coarse_aggregate u.agr (has_shares u.occ) (ap has_shares is ∙ coarse))
+  where
+    coarse_aggregate : (o : Option GridClause) (b : Bool) → b ≡ false
+        → None ≡ within (λ (d : GridClause). at_if (b && is_fine (shares_of d)
+        && is_off_multiples (clause_of d) (common_amount_of (support (final_severity u)))) d.span) o
+    coarse_aggregate None b e = refl
+    coarse_aggregate (Some d) b e = rw e refl
+
+module _ (u : GridUnit) (c : GridClause) (is : u.occ ≡ Some c) (clause : Clause)
+    (told : (clause ≡ clause_of c) × IsClause clause) (xs : List ℕ)
+    (amounts : xs ≡ support (severity_in_layer u)) where
+  occurrence_is : off_grid_occurrence u ≡ at_if (list_any (is_off clause) xs) c.span
   occurrence_is =
-      ap (within (λ (d : Cession). at_if (is_fine (shares_of d) && list_any (is_off (clause_of bs d)) (support (severity_in_layer bs u))) d.span)) is
-      ∙ ap (λ b. at_if b c.span) (second (is_fine (shares_of c)) _ (cession_fine bs c clause told)
+      ap (within (λ (d : GridClause). at_if (is_fine (shares_of d)
+      && list_any (is_off (clause_of d)) (support (severity_in_layer u))) d.span)) is
+      ∙ ap (λ b. at_if b c.span) (second (is_fine (shares_of c)) _ (cession_fine c clause told)
       ∙ ap₂ (λ d ys. list_any (is_off d) ys) (sym told.0) (sym amounts))
 
-  pub none_off : off_grid_occurrence bs u ≡ None → list_any (is_off clause) xs ≡ false
-  none_off none = not_at (list_any (is_off clause) xs) c.span (sym occurrence_is ∙ none)
+  pub occurrence_off : list_any (is_off clause) xs ≡ true → Some c.span ≡ off_grid_cession u
+  unfolding off_grid_cession
+  occurrence_off off = else_found (off_grid_occurrence u) (off_grid_aggregate u) c.span
+      (sym (occurrence_is ∙ ap (λ b. at_if b c.span) off))
 
-  pub final_of : (ys : List ℕ) → ys ≡ map (λ x. (kept clause x).num) xs → (has_shares u.occ ≡ true) × (ys ≡ support (final_severity bs u))
-  final_of ys mapped = (
-    ap has_shares is ∙ cession_fine bs c clause told,
-    mapped ∙ ap₂ (λ (d : Clause) zs. map (λ x. (kept d x).num) zs) told.0 amounts
-        ∙ sym (support-mapped (λ x. (kept (clause_of bs c) x).num) (severity_in_layer bs u))
-        ∙ ap (λ o. support (ceded_pairs bs o (severity_in_layer bs u))) (sym is),
-  )
+  pub occurrence_fits : (r : Option Span) → list_any (is_off clause) xs ≡ false → r ≡ off_grid_aggregate u
+      → r ≡ off_grid_cession u
+  unfolding off_grid_cession
+  occurrence_fits r none e = else_next (off_grid_occurrence u) (off_grid_aggregate u) r
+      (sym (occurrence_is ∙ ap (λ b. at_if b c.span) none)) e
+
+  pub shares_there : has_shares u.occ ≡ true
+  shares_there = ap has_shares is ∙ cession_fine c clause told
+
+  pub final_amounts : (ys : List ℕ) → ys ≡ map (λ x. (kept clause x).num) xs → ys ≡ support (final_severity u)
+  final_amounts ys mapped =
+      mapped ∙ ap₂ (λ (d : Clause) zs. map (λ x. (kept d x).num) zs) told.0 amounts
+      ∙ sym (support-mapped (λ x. (kept (clause_of c) x).num) (severity_in_layer u))
+      ∙ ap (λ o. support (ceded_pairs o (severity_in_layer u))) (sym is)
 
 -- ---- the aggregate clause
 
-module _ (bs : Fraction) (u : UnitAst) (c : Cession) (is : u.agr ≡ Some c) (clause : Clause) (told : (clause ≡ clause_of bs c) × IsCession clause)
-    (xs : List ℕ) (final : (has_shares u.occ ≡ true) × (xs ≡ support (final_severity bs u))) (step : ℕ) (common : step ≡ common_amount_of xs) where
+module _ (u : GridUnit) (c : GridClause) (is : u.agr ≡ Some c) (clause : Clause)
+    (told : (clause ≡ clause_of c) × IsClause clause)
+    (xs : List ℕ) (final : (has_shares u.occ ≡ true) × (xs ≡ support (final_severity u))) (step : ℕ)
+    (common : step ≡ common_amount_of xs) where
   aggregate_of : (off : Clause → ℕ → Bool)
-      → within (λ (d : Cession). at_if (has_shares u.occ && is_fine (shares_of d) && off (clause_of bs d)
-      (common_amount_of (support (final_severity bs u)))) d.span) u.agr ≡ at_if (off clause step) c.span
+      → within (λ (d : GridClause). at_if (has_shares u.occ && is_fine (shares_of d) && off (clause_of d)
+      (common_amount_of (support (final_severity u)))) d.span) u.agr ≡ at_if (off clause step) c.span
   aggregate_of off =
-      let last : ℕ = common_amount_of (support (final_severity bs u)) in
-      let same : off (clause_of bs c) last ≡ off clause step = ap₂ off (sym told.0) (sym (common ∙ ap common_amount_of final.1)) in
+      let last : ℕ = common_amount_of (support (final_severity u)) in
+      let same : off (clause_of c) last ≡ off clause step =
+      ap₂ off (sym told.0) (sym (common ∙ ap common_amount_of final.1)) in
       let fine : (has_shares u.occ && is_fine (shares_of c)) ≡ true =
-      second (has_shares u.occ) (is_fine (shares_of c)) final.0 ∙ cession_fine bs c clause told in
-      ap (within (λ (d : Cession). at_if (has_shares u.occ && is_fine (shares_of d) && off (clause_of bs d) last) d.span)) is
-      ∙ ap (λ b. at_if b c.span) (second (has_shares u.occ && is_fine (shares_of c)) (off (clause_of bs c) last) fine ∙ same)
+      second (has_shares u.occ) (is_fine (shares_of c)) final.0 ∙ cession_fine c clause told in
+      ap (within (λ (d : GridClause). at_if (has_shares u.occ && is_fine (shares_of d)
+      && off (clause_of d) last) d.span)) is
+      ∙ ap (λ b. at_if b c.span) (second (has_shares u.occ && is_fine (shares_of c))
+      (off (clause_of c) last) fine ∙ same)
 
-  aggregate_is : off_grid_aggregate bs u ≡ at_if (is_off_multiples clause step) c.span
+  aggregate_is : off_grid_aggregate u ≡ at_if (is_off_multiples clause step) c.span
   aggregate_is = aggregate_of is_off_multiples
 
-  pub none_off_multiples : off_grid_aggregate bs u ≡ None → is_off_multiples clause step ≡ false
+  pub none_off_multiples : off_grid_aggregate u ≡ None → is_off_multiples clause step ≡ false
   none_off_multiples none = not_at (is_off_multiples clause step) c.span (sym aggregate_is ∙ none)
 
-  pub aggregate_fits : (fits : Bool) → (IsTrue fits ↔ FitsStep clause step) → fits ≡ true → None ≡ off_grid_aggregate bs u
+  pub aggregate_fits : (fits : Bool) → (IsTrue fits ↔ FitsStep clause step) → fits ≡ true
+      → None ≡ off_grid_aggregate u
   aggregate_fits fits means h = sym (aggregate_is ∙ ap (λ b. at_if b c.span) (tried_fits clause step (means.0 h)))
 
-  pub aggregate_off : (fits : Bool) → (IsTrue fits ↔ FitsStep clause step) → fits ≡ false → Some c.span ≡ off_grid_aggregate bs u
+  pub aggregate_off : (fits : Bool) → (IsTrue fits ↔ FitsStep clause step) → fits ≡ false
+      → Some c.span ≡ off_grid_aggregate u
   aggregate_off fits means h = sym (aggregate_is ∙ ap (λ b. at_if b c.span)
       (must (is_off_multiples clause step) (λ none. cc (means.1 (fits_tried clause step told.1 none)))))
     where

@@ -1,39 +1,28 @@
 -- Past its greatest edge a clause's map is a straight line: what that makes of the multiples of a step.
 use Prim.Native.Nat.{◌∣◌}
-use Rattle.std.proofs.Common.{◌↔◌, is_some, length, get_or, mul-le-mul_right, ℕ, zero, suc, ◌≡◌, ◌∙◌, ◌+◌, ◌-◌, ◌*◌, ◌/◌, ◌%◌, ◌<◌, ◌≤◌, ◌==◌, ◌||◌, ◌&&◌, ◌⊎◌, nat_le, nat_lt, not, max, fold, Bool, true, false, List, [], ◌∷◌, Option, Some, None, refl, sym, ap, subst, arith, inl, inr, le_of_mul-le-mul_right}
+use Rattle.std.proofs.Common.{◌↔◌, is_some, length, get_or, mul-le-mul_right, ℕ, zero, suc, ◌≡◌, ◌∙◌, ◌+◌, ◌-◌, ◌*◌, ◌/◌, ◌%◌, ◌<◌, ◌≤◌, ◌==◌, ◌⊎◌, not, max, fold, Bool, true, false, List, [], ◌∷◌, Option, Some, None, refl, sym, ap, subst, arith, inl, inr}
 use Rattle.std.specs.List.{All, range_with_len}
 use Rattle.std.specs.Option.{MatchOption}
-use Rattle.std.specs.Int.{div_ceil}
-use Rattle.std.proofs.lemmas.Bool.{cases_lt}
+use Rattle.std.proofs.lemmas.Bool.{cases_lt, eqb-true, ne_eqb, not-false, not_from_false}
 use Rattle.std.proofs.lemmas.Nat.Gcd.{dvd_of_mod-eq-zero, mod-eq-zero_of_dvd}
 use Rattle.std.proofs.lemmas.List.Folds.{list_any_none}
 use Rattle.std.proofs.lemmas.List.FromFn.{length-range_with_len, get_or-range_with_len}
 use Rattle.std.proofs.Math.Nat.{dvd-add, dvd-sub, eq-zero-or-pos, le-max_left, le-max_right}
 use Rattle.std.proofs.lemmas.List.Elements.{All-nil, All-cons}
-use Rattle.std.proofs.lemmas.Grind.{common_steps}
-use Rattle.dl_exact.specs.Fraction.{Fraction, whole, ◌over◌, ◌≤ℚ◌}
-use Rattle.dl_exact.proofs.Laws.{le_of_eq}
-use Rattle.dl_exact.proofs.Over.{same, le_over}
+use Rattle.dl_exact.specs.Fraction.{Fraction, whole}
 use Rattle.dl_plan.specs.declared.cede.CedeLayer.{CedeLayer}
 use Rattle.dl_plan.specs.Fine.{IsWhole}
-use Rattle.dl_plan.specs.Cession.{Clause, kept, IsCession}
-use Rattle.dl_plan.specs.Horizon.{edge_of, edge}
-use Rattle.dl_plan.specs.Parts.{parts_in_bucket}
-use Rattle.dl_plan.proofs.Apart.{kept_rises}
-use Rattle.dl_plan.proofs.Cessions.{bucket_pos, kept_is, kept_whole, kept_only}
+use Rattle.dl_plan.specs.Clause.{Clause, kept, IsClause}
+use Rattle.dl_plan.specs.Horizon.{edge}
 use Rattle.dl_exact.proofs.Parts.{whole_den}
-use Rattle.dl_plan.proofs.Horizons.{parts_of}
-use Rattle.dl_plan.proofs.Reach.{line_from}
-use Rattle.dl_plan.proofs.Straight.{IsClear, kept_straight}
-use Rattle.dl_read.specs.Lists.{is_whole, is_above, is_same}
+use Rattle.dl_plan.proofs.Horizons.{attach_le}
+use Rattle.dl_plan.proofs.Straight.{IsClear}
+use Rattle.dl_sev.proofs.Lattices.{on_line}
+use Rattle.dl_read.specs.Lists.{is_whole}
 use Rattle.dl_amounts.specs.Clauses.{greatest_edge, is_off, is_off_multiples}
 use Rattle.dl_amounts.proofs.Values.{never}
 
 -- ---- edges
-
-attach_le : (limit : Option ℕ) (a : ℕ) → a ≤ edge_of limit a
-attach_le None a = omega arith
-attach_le (Some l) a = omega arith
 
 edges_from : ℕ → List CedeLayer → ℕ
 edges_from m ls = fold (λ greatest l. max greatest (edge l)) m ls
@@ -59,44 +48,23 @@ module _ (clause : Clause) (s : ℕ) (edges : greatest_edge clause ≤ s) where
 
 -- ---- amounts that are mapped to no whole number
 
-pub off_told : (o : Option ℕ) (off : Bool) (x : Fraction) → is_some o ≡ not off → MatchOption o (¬ IsWhole x) (λ y. x ≡ whole y)
+pub off_told : (o : Option ℕ) (off : Bool) (x : Fraction) → is_some o ≡ not off
+    → MatchOption o (¬ IsWhole x) (λ y. x ≡ whole y)
     → off ≡ not (is_whole x)
-off_told None true x e h = not_one x.den h
-  where
-    not_one : (n : ℕ) → (n ≡ 1 → ⊥) → true ≡ not (n == 1)
-    not_one n h = grind (arith, common_steps, h)
+off_told None true x e h = sym (not_from_false (x.den == 1) (ne_eqb x.den 1 h))
 off_told None false x e h = absurd (cc)
 off_told (Some y) true x e h = absurd (cc)
 off_told (Some y) false x e h = sym (ap (λ n. not (n == 1)) (ap (λ (z : Fraction). z.den) h ∙ whole_den y))
 
 pub whole_unless : (x : Fraction) → not (is_whole x) ≡ false → IsWhole x
-whole_unless x h = one_only x.den h
-  where
-    one_only : (n : ℕ) → not (n == 1) ≡ false → n ≡ 1
-    one_only n h = grind (arith, common_steps, h)
+whole_unless x h = eqb-true x.den 1 (not-false _ h)
 
 not_off : (x : Fraction) → IsWhole x → not (is_whole x) ≡ false
 not_off x h = ap (λ n. not (n == 1)) h
 
 -- ---- the multiples of a step
 
-third : (c p q r : ℕ) → p + r ≡ 2 * q → p % c ≡ 0 → q % c ≡ 0 → r % c ≡ 0
-third c p q r mean first second =
-    let twice : c ∣ 2 * q = subst (λ n. c ∣ n) (omega arith) (dvd-add c (dvd_of_mod-eq-zero c second) (dvd_of_mod-eq-zero c second)) in
-    let same : 2 * q - p ≡ r = omega (arith, mean) in
-    mod-eq-zero_of_dvd c (subst (λ n. c ∣ n) same (dvd-sub c twice (dvd_of_mod-eq-zero c first)))
-
 module _ (clause : Clause) (step : ℕ) where
-  -- on a straight line two values decide the third
-  on_line : IsCession clause → (x : ℕ) → All (IsClear x (x + 2 * step)) clause.1 → IsWhole (kept clause x) → IsWhole (kept clause (x + step))
-      → IsWhole (kept clause (x + 2 * step))
-  on_line cession x clear first second =
-      let c = parts_in_bucket clause in
-      let rest = third c (parts_of clause x) (parts_of clause (x + step)) (parts_of clause (x + 2 * step))
-      (kept_straight clause c x step cession clear)
-      (kept_only clause x c (parts_of clause x) refl refl first) (kept_only clause (x + step) c (parts_of clause (x + step)) refl refl second) in
-      ap (λ y. y.den) (kept_whole clause (x + 2 * step) c (parts_of clause (x + 2 * step)) refl refl rest) ∙ whole_den _
-
   abbrev tried : ℕ
   tried = greatest_edge clause / step + 3
 
@@ -111,9 +79,12 @@ module _ (clause : Clause) (step : ℕ) where
   past_edge : (e n s : ℕ) → 0 < s → e / s + 1 ≤ n → e ≤ n * s
   past_edge e n s pos h = omega (arith, mul-le-mul_right s h)
 
-  two_fit : IsCession clause → 0 < step → is_off_multiples clause step ≡ false → (n : ℕ)
+  two_fit : IsClause clause → 0 < step → is_off_multiples clause step ≡ false → (n : ℕ)
       → IsWhole (kept clause (n * step)) × IsWhole (kept clause (n * step + step))
-  two_fit cession pos none zero = (known none 0 (omega arith), subst (λ x. IsWhole (kept clause x)) (omega arith) (known none 1 (omega arith)))
+  two_fit cession pos none zero = (
+    known none 0 (omega arith),
+    subst (λ x. IsWhole (kept clause x)) (omega arith) (known none 1 (omega arith)),
+  )
   two_fit cession pos none (suc n) =
       let before = two_fit cession pos none n in
       let next : n * step + step ≡ suc n * step = omega arith in
@@ -122,24 +93,29 @@ module _ (clause : Clause) (step : ℕ) where
         subst (λ x. IsWhole (kept clause x)) further (last before (cases_lt (n + 2) tried)),
       )
     where
-      last : IsWhole (kept clause (n * step)) × IsWhole (kept clause (n * step + step)) → ((n + 2 < tried) ⊎ (tried ≤ n + 2))
+      last : IsWhole (kept clause (n * step)) × IsWhole (kept clause (n * step + step))
+          → ((n + 2 < tried) ⊎ (tried ≤ n + 2))
           → IsWhole (kept clause (n * step + 2 * step))
       last before (inl low) = subst (λ x. IsWhole (kept clause x)) (omega arith) (known none (n + 2) low)
       last before (inr high) =
-          on_line cession (n * step) (clear_at clause (n * step) (past_edge (greatest_edge clause) n step pos (omega (arith, high))) (n * step)
+          on_line clause step cession (n * step) (clear_at clause (n * step)
+          (past_edge (greatest_edge clause) n step pos (omega (arith, high))) (n * step)
           (n * step + 2 * step) (omega arith))
           before.0 before.1
 
   -- where the multiples that are tried are mapped to whole numbers, all are
-  pub fits_tried : IsCession clause → is_off_multiples clause step ≡ false → (n : ℕ) → IsWhole (kept clause (n * step))
+  pub fits_tried : IsClause clause → is_off_multiples clause step ≡ false → (n : ℕ) → IsWhole (kept clause (n * step))
   fits_tried cession none n = elim (eq-zero-or-pos step) [
-    | inl zero_step ↦ subst (λ x. IsWhole (kept clause x)) (omega (arith, ap (λ s. n * s) zero_step)) (known none 0 (omega arith))
+    | inl zero_step ↦ subst (λ x. IsWhole (kept clause x)) (omega (arith, ap (λ s. n * s) zero_step))
+        (known none 0 (omega arith))
     | inr pos ↦ (two_fit cession pos none n).0
   ]
 
   pub tried_fits : ((n : ℕ) → IsWhole (kept clause (n * step))) → is_off_multiples clause step ≡ false
   tried_fits whole_at = list_any_none (λ m. is_off clause (m * step)) (range_with_len 0 tried)
-      (λ k d h. not_off (kept clause (get_or (range_with_len 0 tried) k d * step)) (whole_at (get_or (range_with_len 0 tried) k d)))
+      (λ k d h. not_off (kept clause (get_or (range_with_len 0 tried) k d * step))
+      (whole_at (get_or (range_with_len 0 tried) k d)))
 
-  pub all_multiples : IsCession clause → (is_off_multiples clause step ≡ false) ↔ ((n : ℕ) → IsWhole (kept clause (n * step)))
+  pub all_multiples : IsClause clause → (is_off_multiples clause step ≡ false)
+      ↔ ((n : ℕ) → IsWhole (kept clause (n * step)))
   all_multiples cession = (fits_tried cession, tried_fits)

@@ -10,15 +10,14 @@ use Rattle.dl_exact.specs.Sum.{sum_over}
 use Rattle.dl_exact.proofs.Laws.{zero_or_pos, times_pos, times_zero, zero_times, div_pos, lt_of_lt_of_le, le_plus, le_trans, plus_comm}
 use Rattle.dl_exact.proofs.Parts.{num_pos, whole_num}
 use Rattle.dl_plan.specs.Severity.{Pairs, mass, conditioned}
-use Rattle.dl_plan.specs.Cession.{layer}
+use Rattle.dl_plan.specs.Clause.{layer}
 use Rattle.dl_sev.specs.Steps.{scaled, with_amounts, layered}
-use Rattle.dl_lexer.specs.declared.token.Span.{Span}
-use Rattle.dl_ast.specs.declared.ast.SevAst.{SevAst}
-use Rattle.dl_ast.specs.declared.ast.Layer.{Layer}
-use Rattle.dl_ast.specs.declared.ast.UnitAst.{UnitAst}
-use Rattle.dl_read.specs.First.{at_if}
-use Rattle.dl_amounts.specs.Clauses.{limit_of}
-use Rattle.dl_amounts.specs.Severity.{mixed, mixed_pairs, attach_of, is_conditioned, layer_pairs, support}
+use Rattle.dl_amounts.specs.declared.grid.GridSev.{GridSev}
+use Rattle.dl_amounts.specs.declared.grid.GridLayer.{GridLayer}
+use Rattle.dl_amounts.specs.declared.grid.GridUnit.{GridUnit}
+use Rattle.dl_read.specs.First.{at_if, within}
+use Rattle.dl_read.proofs.Nothing.{not_at}
+use Rattle.dl_amounts.specs.Severity.{mixed, mixed_pairs, is_conditioned, layer_pairs, support}
 use Rattle.dl_amounts.specs.Rules.{none_above}
 use Rattle.dl_amounts.proofs.Meaning.{above, div_as_times}
 
@@ -33,17 +32,21 @@ positive_no x e = le-ltb 0 x.num (subst (λ n. n ≤ 0) (sym (ap (λ (y : Fracti
 
 positive_times : (w p : Fraction) → is_positive (w *ℚ p) ≡ (is_positive w && is_positive p)
 positive_times w p = elim (zero_or_pos w) [
-  | inl e ↦ positive_no (w *ℚ p) (ap (λ t. t *ℚ p) e ∙ zero_times p) ∙ sym (ap (λ b. b && is_positive p) (positive_no w e))
+  | inl e ↦ positive_no (w *ℚ p) (ap (λ t. t *ℚ p) e ∙ zero_times p)
+      ∙ sym (ap (λ b. b && is_positive p) (positive_no w e))
   | inr h ↦ elim (zero_or_pos p) [
-    | inl f ↦ positive_no (w *ℚ p) (ap (λ t. w *ℚ t) f ∙ times_zero w) ∙ sym (ap₂ (λ b d. b && d) (positive_yes w h) (positive_no p f))
-    | inr k ↦ positive_yes (w *ℚ p) (times_pos w p h k) ∙ sym (ap₂ (λ b d. b && d) (positive_yes w h) (positive_yes p k))
+    | inl f ↦ positive_no (w *ℚ p) (ap (λ t. w *ℚ t) f ∙ times_zero w)
+        ∙ sym (ap₂ (λ b d. b && d) (positive_yes w h) (positive_no p f))
+    | inr k ↦ positive_yes (w *ℚ p) (times_pos w p h k)
+        ∙ sym (ap₂ (λ b d. b && d) (positive_yes w h) (positive_yes p k))
   ]
 ]
 
 -- a quotient by what is at least as large is positive with it
 positive_div : (p m : Fraction) → p ≤ℚ m → is_positive (p /ℚ m) ≡ is_positive p
 positive_div p m h = elim (zero_or_pos p) [
-  | inl e ↦ positive_no (p /ℚ m) (div_as_times p m ∙ ap (λ t. t *ℚ (whole 1 /ℚ m)) e ∙ zero_times _) ∙ sym (positive_no p e)
+  | inl e ↦ positive_no (p /ℚ m) (div_as_times p m ∙ ap (λ t. t *ℚ (whole 1 /ℚ m)) e ∙ zero_times _)
+      ∙ sym (positive_no p e)
   | inr k ↦ positive_yes (p /ℚ m) (div_pos p m k (lt_of_lt_of_le (whole 0) p m k h)) ∙ sym (positive_yes p k)
 ]
 
@@ -51,17 +54,22 @@ positive_div p m h = elim (zero_or_pos p) [
 
 pub support-append : (ps qs : Pairs) → support (ps ++ qs) ≡ support ps ++ support qs
 support-append ps qs =
-    ap (map (λ pair. pair.0)) (filter-append (λ pair. is_positive pair.1) ps qs) ∙ map-append (λ pair. pair.0) (filter (λ pair. is_positive pair.1) ps) (filter (λ pair. is_positive pair.1) qs)
+    ap (map (λ pair. pair.0)) (filter-append (λ pair. is_positive pair.1) ps qs)
+    ∙ map-append (λ pair. pair.0) (filter (λ pair. is_positive pair.1) ps) (filter (λ pair. is_positive pair.1) qs)
 
-kept_if : (b d : Bool) (x : ℕ) (xs ys : List ℕ) → ys ≡ cond b xs [] → cond (b && d) (x ∷ ys) ys ≡ cond b (cond d (x ∷ xs) xs) []
+kept_if : (b d : Bool) (x : ℕ) (xs ys : List ℕ) → ys ≡ cond b xs []
+    → cond (b && d) (x ∷ ys) ys ≡ cond b (cond d (x ∷ xs) xs) []
 kept_if true true x xs ys e = ap (λ zs. x ∷ zs) e
 kept_if true false x xs ys e = e
 kept_if false d x xs ys e = e
 
-pub support_step : (p : ℕ × Fraction) (ps : Pairs) → support (p ∷ ps) ≡ cond (is_positive p.1) (p.0 ∷ support ps) (support ps)
+pub support_step : (p : ℕ × Fraction) (ps : Pairs)
+    → support (p ∷ ps) ≡ cond (is_positive p.1) (p.0 ∷ support ps) (support ps)
 support_step p ps = split (is_positive p.1)
   where
-    split : (b : Bool) → map (λ (pair : ℕ × Fraction). pair.0) (cond b (p ∷ filter (λ pair. is_positive pair.1) ps) (filter (λ pair. is_positive pair.1) ps)) ≡ cond b (p.0 ∷ support ps) (support ps)
+    split : (b : Bool) → map (λ (pair : ℕ × Fraction). pair.0)
+        (cond b (p ∷ filter (λ pair. is_positive pair.1) ps) (filter (λ pair. is_positive pair.1) ps))
+        ≡ cond b (p.0 ∷ support ps) (support ps)
     split true = refl
     split false = refl
 
@@ -77,20 +85,24 @@ support-scaled w (p ∷ ps) =
     ∙ kept_if (is_positive w) (is_positive p.1) p.0 (support ps) (support (scaled w ps)) (support-scaled w ps)
     ∙ ap (λ xs. cond (is_positive w) xs []) (sym (support_step p ps))
 
-mapped_if : (f : ℕ → ℕ) (b : Bool) (x : ℕ) (xs ys : List ℕ) → ys ≡ map f xs → cond b (f x ∷ ys) ys ≡ map f (cond b (x ∷ xs) xs)
+mapped_if : (f : ℕ → ℕ) (b : Bool) (x : ℕ) (xs ys : List ℕ) → ys ≡ map f xs
+    → cond b (f x ∷ ys) ys ≡ map f (cond b (x ∷ xs) xs)
 mapped_if f true x xs ys e = ap (λ zs. f x ∷ zs) e
 mapped_if f false x xs ys e = e
 
 pub support-mapped : (f : ℕ → ℕ) (ps : Pairs) → support (with_amounts f ps) ≡ map f (support ps)
 support-mapped f [] = refl
 support-mapped f (p ∷ ps) =
-    support_step (f p.0, p.1) (with_amounts f ps) ∙ mapped_if f (is_positive p.1) p.0 (support ps) (support (with_amounts f ps)) (support-mapped f ps) ∙ ap (map f) (sym (support_step p ps))
+    support_step (f p.0, p.1) (with_amounts f ps) ∙ mapped_if f (is_positive p.1) p.0 (support ps)
+    (support (with_amounts f ps)) (support-mapped f ps) ∙ ap (map f) (sym (support_step p ps))
 
-filtered : (b : Bool) (test : ℕ → Bool) (x : ℕ) (xs ys : List ℕ) → ys ≡ filter test xs → test x ≡ true → cond b (x ∷ ys) ys ≡ filter test (cond b (x ∷ xs) xs)
+filtered : (b : Bool) (test : ℕ → Bool) (x : ℕ) (xs ys : List ℕ) → ys ≡ filter test xs → test x ≡ true
+    → cond b (x ∷ ys) ys ≡ filter test (cond b (x ∷ xs) xs)
 filtered true test x xs ys e passes = rw passes (ap (λ zs. x ∷ zs) e)
 filtered false test x xs ys e passes = e
 
-left_out : (b : Bool) (test : ℕ → Bool) (x : ℕ) (xs ys : List ℕ) → ys ≡ filter test xs → test x ≡ false → ys ≡ filter test (cond b (x ∷ xs) xs)
+left_out : (b : Bool) (test : ℕ → Bool) (x : ℕ) (xs ys : List ℕ) → ys ≡ filter test xs → test x ≡ false
+    → ys ≡ filter test (cond b (x ∷ xs) xs)
 left_out true test x xs ys e fails = rw fails e
 left_out false test x xs ys e fails = e
 
@@ -99,11 +111,13 @@ support-above a [] = refl
 support-above a (p ∷ ps) = elim (cases_lt a p.0) [
   | inl h ↦
       rw (lt-ltb a p.0 h)
-      (support_step p (above a ps) ∙ filtered (is_positive p.1) (nat_lt a) p.0 (support ps) (support (above a ps)) (support-above a ps) (lt-ltb a p.0 h)
+      (support_step p (above a ps) ∙ filtered (is_positive p.1) (nat_lt a) p.0 (support ps) (support (above a ps))
+      (support-above a ps) (lt-ltb a p.0 h)
       ∙ ap (filter (nat_lt a)) (sym (support_step p ps)))
   | inr h ↦
       rw (le-ltb a p.0 h)
-      (left_out (is_positive p.1) (nat_lt a) p.0 (support ps) (support (above a ps)) (support-above a ps) (le-ltb a p.0 h)
+      (left_out (is_positive p.1) (nat_lt a) p.0 (support ps) (support (above a ps)) (support-above a ps)
+      (le-ltb a p.0 h)
       ∙ ap (filter (nat_lt a)) (sym (support_step p ps)))
 ]
 
@@ -113,7 +127,9 @@ unfolding sum_over
 mass_bounds [] = All-nil (λ q. q.1 ≤ℚ mass [])
 mass_bounds (q ∷ qs) =
     All-cons (λ r. r.1 ≤ℚ mass (q ∷ qs)) q qs (le_plus q.1 (mass qs))
-    (All-weaker (λ r. r.1 ≤ℚ mass qs) (λ r. r.1 ≤ℚ mass (q ∷ qs)) (λ r h. le_trans r.1 (mass qs) (mass (q ∷ qs)) h (subst (λ t. mass qs ≤ℚ t) (plus_comm (mass qs) q.1) (le_plus (mass qs) q.1))) qs (mass_bounds qs))
+    (All-weaker (λ r. r.1 ≤ℚ mass qs) (λ r. r.1 ≤ℚ mass (q ∷ qs))
+    (λ r h. le_trans r.1 (mass qs) (mass (q ∷ qs)) h
+    (subst (λ t. mass qs ≤ℚ t) (plus_comm (mass qs) q.1) (le_plus (mass qs) q.1))) qs (mass_bounds qs))
 
 abbrev over_mass : Fraction → Pairs → Pairs
 over_mass m qs = map (λ pair. (pair.0, pair.1 /ℚ m)) qs
@@ -122,7 +138,8 @@ support-over : (m : Fraction) (qs : Pairs) → All (λ q. q.1 ≤ℚ m) qs → s
 support-over m [] h = refl
 support-over m (q ∷ qs) h =
     support_step (q.0, q.1 /ℚ m) (over_mass m qs)
-    ∙ ap₂ (λ b xs. cond b (q.0 ∷ xs) xs) (positive_div q.1 m (All-head (λ r. r.1 ≤ℚ m) q qs h)) (support-over m qs (All-tail (λ r. r.1 ≤ℚ m) q qs h))
+    ∙ ap₂ (λ b xs. cond b (q.0 ∷ xs) xs) (positive_div q.1 m (All-head (λ r. r.1 ≤ℚ m) q qs h))
+    (support-over m qs (All-tail (λ r. r.1 ≤ℚ m) q qs h))
     ∙ sym (support_step q qs)
 
 pub support-conditioned : (a : ℕ) (ps : Pairs) → support (conditioned a ps) ≡ filter (nat_lt a) (support ps)
@@ -130,18 +147,21 @@ support-conditioned a ps = support-over (mass (above a ps)) (above a ps) (mass_b
 
 -- ---- one more amount, and one more atom
 
-zip-push : (xs : List ℕ) (ys : List Fraction) (x : ℕ) (y : Fraction) → length xs ≡ length ys → zip (xs ++ x ∷ []) (ys ++ y ∷ []) ≡ zip xs ys ++ (x, y) ∷ []
+zip-push : {A B : Type 0} (xs : List A) (ys : List B) (x : A) (y : B) → length xs ≡ length ys
+    → zip (xs ++ x ∷ []) (ys ++ y ∷ []) ≡ zip xs ys ++ (x, y) ∷ []
 zip-push [] [] x y e = refl
 zip-push [] (z ∷ ys) x y e = absurd (omega (arith, e))
 zip-push (w ∷ xs) [] x y e = absurd (omega (arith, e))
 zip-push (w ∷ xs) (z ∷ ys) x y e = ap (λ ps. (w, z) ∷ ps) (zip-push xs ys x y (omega (arith, e)))
 
-zip-more : (xs : List ℕ) (ys : List Fraction) (i d : ℕ) (e : Fraction) → i < length xs → length xs ≡ length ys
+pub zip-more : {A B : Type 0} (xs : List A) (ys : List B) (i : ℕ) (d : A) (e : B) → i < length xs
+    → length xs ≡ length ys
     → zip (take (i + 1) xs) (take (i + 1) ys) ≡ zip (take i xs) (take i ys) ++ (get_or xs i d, get_or ys i e) ∷ []
 zip-more xs ys i d e h same =
     let below : i < length ys = omega (arith, h, same) in
     ap₂ zip (take_more xs i d h) (take_more ys i e below)
-    ∙ zip-push (take i xs) (take i ys) (get_or xs i d) (get_or ys i e) (length-take-le i xs (omega (arith, h)) ∙ sym (length-take-le i ys (omega (arith, below))))
+    ∙ zip-push (take i xs) (take i ys) (get_or xs i d) (get_or ys i e)
+    (length-take-le i xs (omega (arith, h)) ∙ sym (length-take-le i ys (omega (arith, below))))
 
 -- the amounts of the first i pairs
 abbrev pub support_to : List ℕ → List Fraction → ℕ → List ℕ
@@ -150,7 +170,8 @@ support_to xs ys i = support (zip (take i xs) (take i ys))
 support_to-more : (xs : List ℕ) (ys : List Fraction) (i d : ℕ) (e : Fraction) → i < length xs → length xs ≡ length ys
     → support_to xs ys (i + 1) ≡ support_to xs ys i ++ support ((get_or xs i d, get_or ys i e) ∷ [])
 support_to-more xs ys i d e h same =
-    ap support (zip-more xs ys i d e h same) ∙ support-append (zip (take i xs) (take i ys)) ((get_or xs i d, get_or ys i e) ∷ [])
+    ap support (zip-more xs ys i d e h same) ∙ support-append (zip (take i xs) (take i ys))
+    ((get_or xs i d, get_or ys i e) ∷ [])
 
 one_positive : (x : ℕ) (p : Fraction) (n : ℕ) → n ≡ p.num → 0 < n → support ((x, p) ∷ []) ≡ x ∷ []
 one_positive x p n e h = rw (lt-ltb 0 p.num (subst (λ k. 0 < k) e h)) refl
@@ -158,117 +179,117 @@ one_positive x p n e h = rw (lt-ltb 0 p.num (subst (λ k. 0 < k) e h)) refl
 one_zero : (x : ℕ) (p : Fraction) (n : ℕ) → n ≡ p.num → n ≤ 0 → support ((x, p) ∷ []) ≡ []
 one_zero x p n e h = rw (le-ltb 0 p.num (subst (λ k. k ≤ 0) e h)) refl
 
-module _ (start made : List ℕ) (xs : List ℕ) (ys : List Fraction) (i d : ℕ) (p : Fraction) (n : ℕ) (h : i < length xs) (same : length xs ≡ length ys)
+module _ (start made : List ℕ) (xs : List ℕ) (ys : List Fraction) (i d : ℕ) (p : Fraction) (n : ℕ) (h : i < length xs)
+    (same : length xs ≡ length ys)
     (is : p ≡ get_or ys i p) (num : n ≡ p.num) (so_far : made ≡ start ++ support_to xs ys i) where
-  pub positive-more : (new : List ℕ) → 0 < n → new ≡ made ++ get_or xs i d ∷ [] → new ≡ start ++ support_to xs ys (i + 1)
+  pub positive-more : (new : List ℕ) → 0 < n → new ≡ made ++ get_or xs i d ∷ []
+      → new ≡ start ++ support_to xs ys (i + 1)
   positive-more new pos pushed =
-      pushed ∙ ap₂ (λ zs ws. zs ++ ws) so_far (sym (one_positive (get_or xs i d) (get_or ys i p) n (num ∙ ap (λ (x : Fraction). x.num) is) pos))
+      pushed ∙ ap₂ (λ zs ws. zs ++ ws) so_far
+      (sym (one_positive (get_or xs i d) (get_or ys i p) n (num ∙ ap (λ (x : Fraction). x.num) is) pos))
       ∙ append_assoc start (support_to xs ys i) (support ((get_or xs i d, get_or ys i p) ∷ []))
       ∙ ap (λ zs. start ++ zs) (sym (support_to-more xs ys i d p h same))
 
   pub zero-more : n ≤ 0 → made ≡ start ++ support_to xs ys (i + 1)
   zero-more zero =
       so_far ∙ ap (λ zs. start ++ zs)
-      (sym (support_to-more xs ys i d p h same ∙ ap (λ ws. support_to xs ys i ++ ws) (one_zero (get_or xs i d) (get_or ys i p) n (num ∙ ap (λ (x : Fraction). x.num) is) zero) ∙ append-nil (support_to xs ys i)))
+      (sym (support_to-more xs ys i d p h same ∙ ap (λ ws. support_to xs ys i ++ ws)
+      (one_zero (get_or xs i d) (get_or ys i p) n (num ∙ ap (λ (x : Fraction). x.num) is) zero)
+      ∙ append-nil (support_to xs ys i)))
 
-mixed-push : (ws : List Fraction) (lists : List Pairs) (w : Fraction) (ps : Pairs) → length ws ≡ length lists → mixed (ws ++ w ∷ []) (lists ++ ps ∷ []) ≡ mixed ws lists ++ scaled w ps
+mixed-push : (ws : List Fraction) (lists : List Pairs) (w : Fraction) (ps : Pairs) → length ws ≡ length lists
+    → mixed (ws ++ w ∷ []) (lists ++ ps ∷ []) ≡ mixed ws lists ++ scaled w ps
 mixed-push [] [] w ps e = append-nil (scaled w ps)
 mixed-push [] (qs ∷ lists) w ps e = absurd (omega (arith, e))
 mixed-push (v ∷ ws) [] w ps e = absurd (omega (arith, e))
 mixed-push (v ∷ ws) (qs ∷ lists) w ps e =
-    ap (λ rs. scaled v qs ++ rs) (mixed-push ws lists w ps (omega (arith, e))) ∙ sym (append_assoc (scaled v qs) (mixed ws lists) (scaled w ps))
+    ap (λ rs. scaled v qs ++ rs) (mixed-push ws lists w ps (omega (arith, e)))
+    ∙ sym (append_assoc (scaled v qs) (mixed ws lists) (scaled w ps))
 
 -- the amounts of the first i atoms
 abbrev pub mixed_to : {A : Type 0} → (A → Pairs) → List Fraction → List A → ℕ → Pairs
 mixed_to g ws atoms i = mixed (take i ws) (map g (take i atoms))
 
-mixed_to-more : {A : Type 0} (g : A → Pairs) (ws : List Fraction) (atoms : List A) (i : ℕ) (w : Fraction) (a : A) → i < length atoms → length ws ≡ length atoms
+mixed_to-more : {A : Type 0} (g : A → Pairs) (ws : List Fraction) (atoms : List A) (i : ℕ) (w : Fraction) (a : A)
+    → i < length atoms → length ws ≡ length atoms
     → mixed_to g ws atoms (i + 1) ≡ mixed_to g ws atoms i ++ scaled (get_or ws i w) (g (get_or atoms i a))
 mixed_to-more g ws atoms i w a h same =
     let below : i < length ws = omega (arith, h, same) in
     ap₂ mixed (take_more ws i w below) (map_more g atoms i a h)
     ∙ mixed-push (take i ws) (map g (take i atoms)) (get_or ws i w) (g (get_or atoms i a))
-    (length-take-le i ws (omega (arith, below)) ∙ sym (length-map (take i atoms) g ∙ length-take-le i atoms (omega (arith, h))))
+    (length-take-le i ws (omega (arith, below))
+    ∙ sym (length-map (take i atoms) g ∙ length-take-le i atoms (omega (arith, h))))
 
-module _ {A : Type 0} (g : A → Pairs) (ws : List Fraction) (atoms : List A) (i : ℕ) (w : Fraction) (a : A) (n : ℕ) (made : List ℕ) (h : i < length atoms) (same : length ws ≡ length atoms)
-    (wis : w ≡ get_or ws i w) (ais : a ≡ get_or atoms i a) (num : n ≡ w.num) (so_far : made ≡ support (mixed_to g ws atoms i)) where
-  more : support (mixed_to g ws atoms (i + 1)) ≡ support (mixed_to g ws atoms i) ++ cond (is_positive w) (support (g a)) []
+module _ {A : Type 0} (g : A → Pairs) (ws : List Fraction) (atoms : List A) (i : ℕ) (w : Fraction) (a : A) (n : ℕ)
+    (made : List ℕ) (h : i < length atoms) (same : length ws ≡ length atoms)
+    (wis : w ≡ get_or ws i w) (ais : a ≡ get_or atoms i a) (num : n ≡ w.num)
+    (so_far : made ≡ support (mixed_to g ws atoms i)) where
+  more : support (mixed_to g ws atoms (i + 1)) ≡ support (mixed_to g ws atoms i) ++ cond (is_positive w)
+      (support (g a)) []
   more =
-      ap support (mixed_to-more g ws atoms i w a h same ∙ ap₂ (λ (v : Fraction) (b : A). mixed_to g ws atoms i ++ scaled v (g b)) (sym wis) (sym ais))
-      ∙ support-append (mixed_to g ws atoms i) (scaled w (g a)) ∙ ap (λ zs. support (mixed_to g ws atoms i) ++ zs) (support-scaled w (g a))
+      ap support (mixed_to-more g ws atoms i w a h same
+      ∙ ap₂ (λ (v : Fraction) (b : A). mixed_to g ws atoms i ++ scaled v (g b)) (sym wis) (sym ais))
+      ∙ support-append (mixed_to g ws atoms i) (scaled w (g a))
+      ∙ ap (λ zs. support (mixed_to g ws atoms i) ++ zs) (support-scaled w (g a))
 
   pub atom-more : (new : List ℕ) → 0 < n → new ≡ made ++ support (g a) → new ≡ support (mixed_to g ws atoms (i + 1))
   atom-more new pos pushed =
-      pushed ∙ ap₂ (λ zs b. zs ++ cond b (support (g a)) []) so_far (sym (lt-ltb 0 w.num (subst (λ k. 0 < k) num pos))) ∙ sym more
+      pushed ∙ ap₂ (λ zs b. zs ++ cond b (support (g a)) []) so_far (sym (lt-ltb 0 w.num (subst (λ k. 0 < k) num pos)))
+      ∙ sym more
 
   pub atom-none : n ≤ 0 → made ≡ support (mixed_to g ws atoms (i + 1))
   atom-none zero =
-      so_far ∙ sym (more ∙ ap (λ b. support (mixed_to g ws atoms i) ++ cond b (support (g a)) []) (le-ltb 0 w.num (subst (λ k. k ≤ 0) num zero)) ∙ append-nil (support (mixed_to g ws atoms i)))
+      so_far ∙ sym (more ∙ ap (λ b. support (mixed_to g ws atoms i) ++ cond b (support (g a)) [])
+      (le-ltb 0 w.num (subst (λ k. k ≤ 0) num zero)) ∙ append-nil (support (mixed_to g ws atoms i)))
 
-pub mixed_whole : {A : Type 0} (g : A → Pairs) (ws : List Fraction) (atoms : List A) (i : ℕ) → length atoms ≤ i → length ws ≡ length atoms → mixed_to g ws atoms i ≡ mixed ws (map g atoms)
-mixed_whole g ws atoms i h same = ap₂ mixed (take_all i ws (omega (arith, h, same))) (ap (map g) (take_all i atoms h))
+pub all-atoms : {A : Type 0} (g : A → Pairs) (ws : List Fraction) (atoms : List A) (i : ℕ) → length atoms ≤ i
+    → length ws ≡ length atoms → support (mixed_to g ws atoms i) ≡ support (mixed ws (map g atoms))
+all-atoms g ws atoms i le same = ap₂ (λ vs xs. support (mixed vs (map g xs)))
+    (take_all i ws (omega (arith, le, same))) (take_all i atoms le)
 
 -- ---- the layer
 
-support_if : (b : Bool) (a : ℕ) (ps : Pairs) → support (cond b (conditioned a ps) ps) ≡ cond b (filter (nat_lt a) (support ps)) (support ps)
+support_if : (b : Bool) (a : ℕ) (ps : Pairs) → support (cond b (conditioned a ps) ps)
+    ≡ cond b (filter (nat_lt a) (support ps)) (support ps)
 support_if true a ps = support-conditioned a ps
 support_if false a ps = refl
 
 layer_support : (b : Bool) (limit : Option ℕ) (a : ℕ) (ps : Pairs)
-    → support (layered limit a (cond b (conditioned a ps) ps)) ≡ map (layer limit a) (cond b (filter (nat_lt a) (support ps)) (support ps))
-layer_support b limit a ps = support-mapped (layer limit a) (cond b (conditioned a ps) ps) ∙ ap (map (layer limit a)) (support_if b a ps)
+    → support (layered limit a (cond b (conditioned a ps) ps))
+    ≡ map (layer limit a) (cond b (filter (nat_lt a) (support ps)) (support ps))
+layer_support b limit a ps = support-mapped (layer limit a) (cond b (conditioned a ps) ps)
+    ∙ ap (map (layer limit a)) (support_if b a ps)
 
 -- what the layer takes of the amounts
-pub taken_support : (bs : Fraction) (o : Option Layer) (l : Layer) (s : SevAst) (xs made : List ℕ) (limit : Option ℕ) (a : ℕ) (large : Bool)
-    → o ≡ Some l → xs ≡ support (mixed_pairs bs s) → limit ≡ limit_of bs l.limit → a ≡ attach_of bs l → large ≡ (not s.bang && nat_lt 0 a)
-    → made ≡ map (layer limit a) (cond large (filter (nat_lt a) xs) xs) → made ≡ support (layer_pairs bs o s)
-taken_support bs o l s xs made limit a large is amounts lim att test e =
-    e ∙ ap₂ (λ (m : Option ℕ) (n : ℕ). map (layer m n) (cond large (filter (nat_lt n) xs) xs)) lim att
-    ∙ ap₂ (λ (b : Bool) (ys : List ℕ). map (layer (limit_of bs l.limit) (attach_of bs l)) (cond b (filter (nat_lt (attach_of bs l)) ys) ys)) (test ∙ ap (λ n. not s.bang && nat_lt 0 n) att) amounts
-    ∙ sym (layer_support (not s.bang && nat_lt 0 (attach_of bs l)) (limit_of bs l.limit) (attach_of bs l) (mixed_pairs bs s))
-    ∙ ap (λ p. support (layer_pairs bs p s)) (sym is)
-
--- ---- whether the attachment is exceeded
-
-module _ (bs : Fraction) (u : UnitAst) where
-  pub no_layer : u.layer ≡ None → None ≡ none_above bs u
-  unfolding none_above
-  no_layer e = rw e refl
-
-  module _ (l : Layer) (a : ℕ) (is : u.layer ≡ Some l) (att : a ≡ attach_of bs l) where
-    at_layer : at_if (is_conditioned bs l u.sev && not (list_any (nat_lt (attach_of bs l)) (support (mixed_pairs bs u.sev)))) l.span ≡ none_above bs u
-    unfolding none_above
-    at_layer = rw is refl
-
-    pub unconditioned : (not u.sev.bang && nat_lt 0 a) ≡ false → None ≡ none_above bs u
-    unconditioned e =
-        ap (λ b. at_if (b && not (list_any (nat_lt (attach_of bs l)) (support (mixed_pairs bs u.sev)))) l.span) (sym (ap (λ n. not u.sev.bang && nat_lt 0 n) (sym att) ∙ e)) ∙ at_layer
-
-    module _ (xs : List ℕ) (some : Bool) (amounts : xs ≡ support (mixed_pairs bs u.sev)) (test : some ≡ list_any (nat_lt a) xs) (large : (not u.sev.bang && nat_lt 0 a) ≡ true) where
-      answer : at_if (not some) l.span ≡ none_above bs u
-      answer =
-          ap₂ (λ b d. at_if (b && not d) l.span) (sym large ∙ ap (λ n. not u.sev.bang && nat_lt 0 n) att) (test ∙ ap₂ (λ n ys. list_any (nat_lt n) ys) att amounts) ∙ at_layer
-
-      pub exceeded : some ≡ true → None ≡ none_above bs u
-      exceeded e = ap (λ b. at_if (not b) l.span) (sym e) ∙ answer
-
-      pub not_exceeded : some ≡ false → Some l.span ≡ none_above bs u
-      not_exceeded e = ap (λ b. at_if (not b) l.span) (sym e) ∙ answer
+pub taken_support : (o : Option GridLayer) (l : GridLayer) (s : GridSev) (xs made : List ℕ) (large : Bool) → o ≡ Some l
+    → xs ≡ support (mixed_pairs s) → large ≡ is_conditioned l s
+    → made ≡ map (layer l.limit l.attach) (cond large (filter (nat_lt l.attach) xs) xs)
+    → made ≡ support (layer_pairs o s)
+taken_support o l s xs made large is amounts test e =
+    e ∙ ap₂ (λ (b : Bool) (ys : List ℕ). map (layer l.limit l.attach) (cond b (filter (nat_lt l.attach) ys) ys)) test
+    amounts
+    ∙ sym (layer_support (is_conditioned l s) l.limit l.attach (mixed_pairs s))
+    ∙ ap (λ p. support (layer_pairs p s)) (sym is)
 
 -- what the layer makes of the mixture
-pub in_layer_is : (bs : Fraction) (o : Option Layer) (l : Layer) (s : SevAst) (limit : Option ℕ) (a : ℕ) (large : Bool)
-    → o ≡ Some l → limit ≡ limit_of bs l.limit → a ≡ attach_of bs l → (not s.bang && nat_lt 0 a) ≡ large
-    → layered limit a (cond large (conditioned a (mixed_pairs bs s)) (mixed_pairs bs s)) ≡ layer_pairs bs o s
-in_layer_is bs o l s limit a large is lim att test =
-    ap (λ b. layered limit a (cond b (conditioned a (mixed_pairs bs s)) (mixed_pairs bs s))) (sym test)
-    ∙ ap₂ (λ (m : Option ℕ) (n : ℕ). layered m n (cond (not s.bang && nat_lt 0 n) (conditioned n (mixed_pairs bs s)) (mixed_pairs bs s))) lim att
-    ∙ ap (λ p. layer_pairs bs p s) (sym is)
+pub in_layer_is : (o : Option GridLayer) (l : GridLayer) (s : GridSev) (large : Bool) → o ≡ Some l
+    → is_conditioned l s ≡ large
+    → layered l.limit l.attach (cond large (conditioned l.attach (mixed_pairs s)) (mixed_pairs s)) ≡ layer_pairs o s
+in_layer_is o l s large is test =
+    ap (λ b. layered l.limit l.attach (cond b (conditioned l.attach (mixed_pairs s)) (mixed_pairs s))) (sym test)
+    ∙ ap (λ p. layer_pairs p s) (sym is)
 
 -- an amount exceeds the attachment where it should
-pub reached : (bs : Fraction) (u : UnitAst) (l : Layer) (a : ℕ) → u.layer ≡ Some l → a ≡ attach_of bs l → (not u.sev.bang && nat_lt 0 a) ≡ true
-    → none_above bs u ≡ None → All (λ x. x ≤ a) (support (mixed_pairs bs u.sev)) → ⊥
-reached bs u l a is att large none all =
-    some_place l.span (not_exceeded bs u l a is att (support (mixed_pairs bs u.sev)) false refl (sym (list_any_none (nat_lt a) (support (mixed_pairs bs u.sev)) (λ k d h. le-ltb a _ (all k d h)))) large refl ∙ none)
+pub reached : (u : GridUnit) (l : GridLayer) → u.layer ≡ Some l → is_conditioned l u.sev ≡ true → none_above u ≡ None
+    → All (λ x. x ≤ l.attach) (support (mixed_pairs u.sev)) → ⊥
+unfolding none_above
+reached u l is large none all =
+    clash (is_conditioned l u.sev) (list_any (nat_lt l.attach) (support (mixed_pairs u.sev))) large
+    (list_any_none (nat_lt l.attach) (support (mixed_pairs u.sev)) (λ k d h. le-ltb l.attach _ (all k d h)))
+    (not_at _ l.span (ap (within (λ (m : GridLayer). at_if (is_conditioned m u.sev
+    && not (list_any (nat_lt m.attach) (support (mixed_pairs u.sev)))) m.span)) (sym is) ∙ none))
   where
-    some_place : (place : Span) → Some place ≡ None → ⊥
-    some_place place e = cc
+    clash : (a b : Bool) → a ≡ true → b ≡ false → (a && not b) ≡ false → ⊥
+    clash true true p q r = absurd (cc)
+    clash true false p q r = absurd (cc)
+    clash false b p q r = absurd (cc)

@@ -7,14 +7,14 @@ use Rattle.std.proofs.lemmas.List.Elements.{All-filter}
 use Rattle.dl_exact.specs.Fraction.{Fraction, whole, ◌over◌}
 use Rattle.dl_plan.specs.declared.item.Item.{Item}
 use Rattle.dl_plan.specs.declared.severity.Sev.{Sev}
-use Rattle.dl_plan.specs.Fine.{IsFine, common_denominator}
+use Rattle.dl_plan.specs.Fine.{IsFine, common_denominator, numerator_over}
 use Rattle.dl_plan.specs.Weighted.{weight_sum, weight_at}
 use Rattle.dl_plan.specs.Severity.{Pairs, pairs_of, conditioned, probability, Means}
 use Rattle.dl_plan.proofs.Common.{common_pos}
 use Rattle.dl_plan.proofs.Weights.{weight_sum_pos}
 use Rattle.dl_plan.proofs.Shares.{items_over, none_over, probability-conditioned, weight_over-le}
 use Rattle.dl_sev.specs.declared.weights.Weights.{Weights}
-use Rattle.dl_sev.specs.Weighing.{weight_of, sum_of}
+use Rattle.dl_sev.specs.Weighing.{sum_of}
 use Rattle.dl_sev.specs.Weighed.{IsWeighing}
 use Rattle.dl_sev.specs.Steps.{items_of, with_amount, with_amounts}
 use Rattle.dl_sev.proofs.Sharing.{shares_back, sum_one, sum_map}
@@ -26,11 +26,11 @@ use Rattle.dl_amounts.proofs.Tables.{gathered}
 -- whole weights of probabilities
 pub weighing : (xs : List Fraction) → IsFine xs → sum_of xs ≡ whole 1 → (made : Weights) × IsWeighing xs made
 weighing xs fine one = (
-  record { weights = map (weight_of (common_denominator xs)) xs; total = common_denominator xs },
+  record { weights = map (numerator_over (common_denominator xs)) xs; total = common_denominator xs },
   record {
     shares = shares_back xs;
     total = refl;
-    sum = sum_map (weight_of (common_denominator xs)) xs ∙ sum_one xs (common_denominator xs) refl one;
+    sum = sum_map (numerator_over (common_denominator xs)) xs ∙ sum_one xs (common_denominator xs) refl one;
     some = common_pos xs;
     within = fine;
   },
@@ -44,9 +44,11 @@ sev_of ps fine one =
     let is : IsWeighing (seconds ps) weights = w.1 in
     let items : List Item = items_of (firsts ps) weights.weights in
     let lengths : length (firsts ps) ≡ length weights.weights =
-    length-map ps (λ pair. pair.0) ∙ sym (sym (length-map weights.weights (λ v. v over weights.total)) ∙ ap length is.shares ∙ length-map ps (λ pair. pair.1)) in
+    length-map ps (λ pair. pair.0) ∙ sym (sym (length-map weights.weights (λ v. v over weights.total))
+    ∙ ap length is.shares ∙ length-map ps (λ pair. pair.1)) in
     let total : weight_sum items ≡ weights.total = weight_sum-items (firsts ps) weights.weights lengths ∙ is.sum in
-    let made = gathered items (subst (λ n. 0 < n) (sym total) is.some) (subst (λ n. n ≤ 2 ^ 30) (sym total) is.within) in (
+    let made = gathered items (subst (λ n. 0 < n) (sym total) is.some)
+    (subst (λ n. n ≤ 2 ^ 30) (sym total) is.within) in (
       made.0,
       λ x. made.1 x ∙ ap (λ n. weight_at items x over n) total ∙ sym (probability-weighed (firsts ps) weights x is.some)
           ∙ ap (λ qs. probability qs x) (weighed-back ps (firsts ps) weights refl is.shares),
@@ -57,17 +59,20 @@ pub mapped_sev : (f : ℕ → ℕ) (sev : Sev) → (made : Sev) × Means made (w
 mapped_sev f sev =
     let items : List Item = map (with_amount f) sev.items in
     let total : weight_sum items ≡ sev.total = mapped_sum sev f items refl in
-    let made = gathered items (subst (λ n. 0 < n) (sym total) (total_pos sev)) (subst (λ n. n ≤ 2 ^ 30) (sym total) sev.weighted.within) in
+    let made = gathered items (subst (λ n. 0 < n) (sym total) (total_pos sev))
+    (subst (λ n. n ≤ 2 ^ 30) (sym total) sev.weighted.within) in
     (made.0, λ x. made.1 x ∙ mapped_means sev f items x refl)
 
 -- the part above an amount that one exceeds
-pub exceeding_sev : (a : ℕ) (sev : Sev) → (All (λ (i : Item). i.amount ≤ a) sev.items → ⊥) → (made : Sev) × Means made (conditioned a (pairs_of sev))
+pub exceeding_sev : (a : ℕ) (sev : Sev) → (All (λ (i : Item). i.amount ≤ a) sev.items → ⊥)
+    → (made : Sev) × Means made (conditioned a (pairs_of sev))
 exceeding_sev a sev reached =
     let items : List Item = items_over a sev.items in
     let some : 0 < length items = elim (eq-zero-or-pos (length items)) [
       | inl none ↦ absurd (reached (none_over a sev.items none))
       | inr pos ↦ pos
     ] in
-    let pos : 0 < weight_sum items = weight_sum_pos items some (All-filter (λ (i : Item). nat_lt a i.amount) (λ (i : Item). 0 < i.weight) sev.items sev.weighted.positive) in
+    let pos : 0 < weight_sum items = weight_sum_pos items some
+    (All-filter (λ (i : Item). nat_lt a i.amount) (λ (i : Item). 0 < i.weight) sev.items sev.weighted.positive) in
     let made = gathered items pos (omega (arith, weight_over-le a sev.items, sev.weighted.sum, sev.weighted.within)) in
     (made.0, λ x. made.1 x ∙ sym (probability-conditioned a sev.items sev.total x (total_pos sev) pos))

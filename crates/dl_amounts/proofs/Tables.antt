@@ -50,9 +50,11 @@ summed items (suc n) = summed items n + weight_at items n
 
 table_sum : (items : List Item) (n : ℕ) → weight_sum (table items n) ≡ summed items n
 table_sum items zero = refl
-table_sum items (suc n) = weight_sum-with (table items n) (at_amount items n) ∙ ap (λ w. w + weight_at items n) (table_sum items n)
+table_sum items (suc n) = weight_sum-with (table items n) (at_amount items n)
+    ∙ ap (λ w. w + weight_at items n) (table_sum items n)
 
-weight_at-cons : (i : Item) (items : List Item) (x : ℕ) → weight_at (i ∷ items) x ≡ cond (i.amount == x) i.weight 0 + weight_at items x
+weight_at-cons : (i : Item) (items : List Item) (x : ℕ)
+    → weight_at (i ∷ items) x ≡ cond (i.amount == x) i.weight 0 + weight_at items x
 weight_at-cons i items x = sum_by-cons (λ (j : Item). cond (j.amount == x) j.weight 0) i items
 
 summed_none : (n : ℕ) → summed [] n ≡ 0
@@ -62,13 +64,23 @@ summed_none (suc n) = ap (λ w. w + 0) (summed_none n)
 summed_before : (i : Item) (items : List Item) (n : ℕ) → n ≤ i.amount → summed (i ∷ items) n ≡ summed items n
 summed_before i items zero h = refl
 summed_before i items (suc n) h =
-    omega (arith, summed_before i items n (omega (arith, h)), weight_at-cons i items n, earlier i.amount n i.weight (omega (arith, h)))
+    omega (
+      arith,
+      summed_before i items n (omega (arith, h)),
+      weight_at-cons i items n,
+      earlier i.amount n i.weight (omega (arith, h)),
+    )
 
 summed_cons : (i : Item) (items : List Item) (n : ℕ) → i.amount < n → summed (i ∷ items) n ≡ i.weight + summed items n
 summed_cons i items zero h = absurd (omega (arith, h))
 summed_cons i items (suc n) h = elim (cases_lt i.amount n) [
   | inl lt ↦ omega (arith, summed_cons i items n lt, weight_at-cons i items n, later i.amount n i.weight lt)
-  | inr le ↦ omega (arith, summed_before i items n le, weight_at-cons i items n, here i.amount n i.weight (omega (arith, le, h)))
+  | inr le ↦ omega (
+    arith,
+    summed_before i items n le,
+    weight_at-cons i items n,
+    here i.amount n i.weight (omega (arith, le, h)),
+  )
 ]
 
 -- past all amounts
@@ -79,25 +91,51 @@ beyond (i ∷ items) = suc i.amount + beyond items
 all_summed : (items : List Item) (n : ℕ) → beyond items ≤ n → summed items n ≡ weight_sum items
 all_summed [] n h = summed_none n
 all_summed (i ∷ items) n h =
-    omega (arith, summed_cons i items n (omega (arith, h)), all_summed items n (omega (arith, h)), sum_by-cons (λ (j : Item). j.weight) i items)
+    omega (
+      arith,
+      summed_cons i items n (omega (arith, h)),
+      all_summed items n (omega (arith, h)),
+      sum_by-cons (λ (j : Item). j.weight) i items,
+    )
 
 none_beyond : (items : List Item) (x : ℕ) → beyond items ≤ x → weight_at items x ≡ 0
 none_beyond [] x h = refl
 none_beyond (i ∷ items) x h =
-    omega (arith, weight_at-cons i items x, later i.amount x i.weight (omega (arith, h)), none_beyond items x (omega (arith, h)))
+    omega (
+      arith,
+      weight_at-cons i items x,
+      later i.amount x i.weight (omega (arith, h)),
+      none_beyond items x (omega (arith, h)),
+    )
 
 table_past : (items : List Item) (n x : ℕ) → n ≤ x → weight_at (table items n) x ≡ 0
 table_past items zero x h = refl
 table_past items (suc n) x h =
-    omega (arith, weight_at-with (table items n) (at_amount items n) x, table_past items n x (omega (arith, h)), later n x (weight_at items n) (omega (arith, h)))
+    omega (
+      arith,
+      weight_at-with (table items n) (at_amount items n) x,
+      table_past items n x (omega (arith, h)),
+      later n x (weight_at items n) (omega (arith, h)),
+    )
 
 table_at : (items : List Item) (n x : ℕ) → x < n → weight_at (table items n) x ≡ weight_at items x
 table_at items zero x h = absurd (omega (arith, h))
 table_at items (suc n) x h = elim (cases_lt x n) [
-  | inl lt ↦ omega (arith, weight_at-with (table items n) (at_amount items n) x, table_at items n x lt, earlier n x (weight_at items n) lt)
+  | inl lt ↦ omega (
+    arith,
+    weight_at-with (table items n) (at_amount items n) x,
+    table_at items n x lt,
+    earlier n x (weight_at items n) lt,
+  )
   | inr le ↦
       let same : n ≡ x = omega (arith, le, h) in
-      omega (arith, weight_at-with (table items n) (at_amount items n) x, table_past items n x le, here n x (weight_at items n) same, ap (weight_at items) same)
+      omega (
+        arith,
+        weight_at-with (table items n) (at_amount items n) x,
+        table_past items n x le,
+        here n x (weight_at items n) same,
+        ap (weight_at items) same,
+      )
 ]
 
 module _ (items : List Item) (some : 0 < weight_sum items) (within : weight_sum items ≤ 2 ^ 30) where
@@ -126,7 +164,8 @@ module _ (items : List Item) (some : 0 < weight_sum items) (within : weight_sum 
     record {
       items = map (divided_by (common_weight made)) made;
       total = weight_sum made / common_weight made;
-      weighted = divided_is made made_some (positive items (beyond items)) (rising items (beyond items)) (subst (λ n. n ≤ 2 ^ 30) (sym made_sum) within);
+      weighted = divided_is made made_some (positive items (beyond items)) (rising items (beyond items))
+          (subst (λ n. n ≤ 2 ^ 30) (sym made_sum) within);
     },
     λ x. divided_means made made_some (positive items (beyond items)) x ∙ ap₂ (λ n d. n over d) (made_at x) made_sum,
   )

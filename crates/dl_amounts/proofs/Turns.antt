@@ -1,22 +1,23 @@
 -- Layers that are looked at beside those before them.
-use Rattle.std.proofs.Common.{◌≡◌, ◌∙◌, ℕ, zero, suc, ◌+◌, ◌<◌, ◌≤◌, List, [], ◌∷◌, ◌++◌, length, take, drop, get_or, Option, Some, None, Bool, true, false, refl, sym, ap, ap₂, subst, arith, add-one, append_assoc, max}
+use Rattle.std.proofs.lemmas.Bool.{and_from, and_parts}
+use Rattle.dl_amounts.proofs.Values.{agree}
+use Rattle.std.proofs.Common.{◌≡◌, ◌∙◌, ℕ, zero, suc, ◌+◌, ◌<◌, ◌≤◌, List, [], ◌∷◌, ◌++◌, length, take, drop, get_or, Option, Some, None, Bool, true, refl, sym, ap, ap₂, subst, arith, add-one, append_assoc, max}
 use Rattle.std.specs.Prelude.{IsTrue, ◌↔◌, ◌&&◌}
 use Rattle.std.specs.List.{list_any}
 use Rattle.std.proofs.lemmas.Bool.Decides.{nat_tests}
-use Rattle.dl_exact.specs.Fraction.{Fraction}
 use Rattle.dl_lexer.specs.declared.token.Span.{Span}
 use Rattle.dl_plan.specs.declared.cede.CedeLayer.{CedeLayer}
-use Rattle.dl_plan.specs.Cession.{IsBelowTop, Overlap}
-use Rattle.dl_ast.specs.declared.ast.CededLayer.{CededLayer}
+use Rattle.dl_plan.specs.Clause.{IsBelowTop, Overlap}
+use Rattle.dl_amounts.specs.declared.grid.GridCeded.{GridCeded}
 use Rattle.dl_read.specs.First.{◌else◌, at_if, in_turn}
 use Rattle.dl_amounts.specs.Clauses.{overlaps, is_below_top, ceded_layer}
 use Rattle.dl_amounts.specs.Rules.{share_exceeds}
 
-abbrev pub overlap_at : Fraction → List CededLayer → CededLayer → Option Span
-overlap_at bs before l = at_if (list_any (λ m. overlaps (ceded_layer bs m) (ceded_layer bs l)) before) l.layer.span
+abbrev pub overlap_at : List GridCeded → GridCeded → Option Span
+overlap_at before l = at_if (list_any (λ m. overlaps (ceded_layer m) (ceded_layer l)) before) l.layer.span
 
-abbrev pub share_at : CededLayer → Option Span
-share_at l = at_if (share_exceeds l.share l.layer.limit) l.span
+abbrev pub share_at : GridCeded → Option Span
+share_at l = at_if (share_exceeds l.share) l.span
 
 -- ---- in turn
 
@@ -27,43 +28,49 @@ pub record NoneTurned {A B : Type 0} (f : List A → A → Option B) (xs : List 
 pub turn_start : {A B : Type 0} (f : List A → A → Option B) (xs : List A) → NoneTurned f xs 0
 turn_start f xs = record { same = refl }
 
-turn_from : {A B : Type 0} (f : List A → A → Option B) (seen xs : List A) (i : ℕ) (x : A) → i < length xs → x ≡ get_or xs i x
-    → in_turn f (seen ++ take i xs) (drop i xs) ≡ (f (seen ++ take i xs) x else in_turn f (seen ++ take (suc i) xs) (drop (suc i) xs))
+turn_from : {A B : Type 0} (f : List A → A → Option B) (seen xs : List A) (i : ℕ) (x : A) → i < length xs
+    → x ≡ get_or xs i x
+    → in_turn f (seen ++ take i xs) (drop i xs) ≡ (f (seen ++ take i xs) x
+    else in_turn f (seen ++ take (suc i) xs) (drop (suc i) xs))
 unfolding in_turn
 turn_from f seen [] i x lt e = absurd (omega arith)
 turn_from f seen (y ∷ xs) zero x lt e =
     ap₂ (λ z s. f (seen ++ []) z else in_turn f s xs) (sym e)
     (append_assoc seen [] (y ∷ []))
 turn_from f seen (y ∷ xs) (suc i) x lt e =
-    subst (λ s. in_turn f s (drop i xs) ≡ (f s x else in_turn f (seen ++ take (suc (suc i)) (y ∷ xs)) (drop (suc i) xs))) (append_assoc seen (y ∷ []) (take i xs))
-    (subst (λ s. in_turn f ((seen ++ y ∷ []) ++ take i xs) (drop i xs) ≡ (f ((seen ++ y ∷ []) ++ take i xs) x else in_turn f s (drop (suc i) xs))) (append_assoc seen (y ∷ []) (take (suc i) xs))
+    subst (λ s. in_turn f s (drop i xs) ≡ (f s x else in_turn f (seen ++ take (suc (suc i)) (y ∷ xs))
+    (drop (suc i) xs))) (append_assoc seen (y ∷ []) (take i xs))
+    (subst (λ s. in_turn f ((seen ++ y ∷ []) ++ take i xs) (drop i xs)
+    ≡ (f ((seen ++ y ∷ []) ++ take i xs) x else in_turn f s (drop (suc i) xs)))
+    (append_assoc seen (y ∷ []) (take (suc i) xs))
     (turn_from f (seen ++ y ∷ []) xs i x (omega arith) e))
 
 module _ {A B : Type 0} (f : List A → A → Option B) (xs : List A) (i : ℕ) where
-  pub turn_found : (x : A) (y : B) → NoneTurned f xs i → i < length xs → x ≡ get_or xs i x → Some y ≡ f (take i xs) x → Some y ≡ in_turn f [] xs
-  turn_found x y before lt is e = sym (before.same ∙ turn_from f [] xs i x lt is ∙ ap (λ o. o else in_turn f (take (suc i) xs) (drop (suc i) xs)) (sym e))
+  pub turn_found : (x : A) (y : B) → NoneTurned f xs i → i < length xs → x ≡ get_or xs i x → Some y ≡ f (take i xs) x
+      → Some y ≡ in_turn f [] xs
+  turn_found x y before lt is e = sym (before.same ∙ turn_from f [] xs i x lt is
+      ∙ ap (λ o. o else in_turn f (take (suc i) xs) (drop (suc i) xs)) (sym e))
 
-  pub turn_passed : (x : A) → NoneTurned f xs i → i < length xs → x ≡ get_or xs i x → None ≡ f (take i xs) x → NoneTurned f xs (i + 1)
+  pub turn_passed : (x : A) → NoneTurned f xs i → i < length xs → x ≡ get_or xs i x → None ≡ f (take i xs) x
+      → NoneTurned f xs (i + 1)
   turn_passed x before lt is e = record {
-    same = before.same ∙ turn_from f [] xs i x lt is ∙ ap (λ o. o else in_turn f (take (suc i) xs) (drop (suc i) xs)) (sym e) ∙ ap (λ n. in_turn f (take n xs) (drop n xs)) (sym (add-one i));
+    same = before.same ∙ turn_from f [] xs i x lt is ∙ ap (λ o. o else in_turn f (take (suc i) xs) (drop (suc i) xs))
+        (sym e) ∙ ap (λ n. in_turn f (take n xs) (drop n xs)) (sym (add-one i));
   }
 
-past : {A B : Type 0} (f : List A → A → Option B) (seen xs : List A) (i : ℕ) → length xs ≤ i → None ≡ in_turn f seen (drop i xs)
+past : {A B : Type 0} (f : List A → A → Option B) (seen xs : List A) (i : ℕ) → length xs ≤ i
+    → None ≡ in_turn f seen (drop i xs)
 unfolding in_turn
 past f seen [] zero le = refl
 past f seen [] (suc i) le = refl
 past f seen (x ∷ xs) zero le = absurd (omega arith)
 past f seen (x ∷ xs) (suc i) le = past f seen xs i (omega arith)
 
-pub turn_ended : {A B : Type 0} (f : List A → A → Option B) (xs : List A) (i : ℕ) → NoneTurned f xs i → length xs ≤ i → None ≡ in_turn f [] xs
+pub turn_ended : {A B : Type 0} (f : List A → A → Option B) (xs : List A) (i : ℕ) → NoneTurned f xs i → length xs ≤ i
+    → None ≡ in_turn f [] xs
 turn_ended f xs i before le = past f (take i xs) xs i le ∙ sym before.same
 
 -- ---- overlaps
-
-agree : (p q : Bool) → (p ≡ true → q ≡ true) → (q ≡ true → p ≡ true) → p ≡ q
-agree true q f g = sym (f refl)
-agree false true f g = g refl
-agree false false f g = refl
 
 below_is : (o : Option ℕ) (a x : ℕ) → is_below_top o a x ≡ true → IsBelowTop o a x
 below_is None a x e = tt
@@ -73,33 +80,29 @@ is_below : (o : Option ℕ) (a x : ℕ) → IsBelowTop o a x → is_below_top o 
 is_below None a x e = refl
 is_below (Some limit) a x e = grind (arith, nat_tests, e)
 
-both_yes : (a b : Bool) → (a && b) ≡ true → (a ≡ true) × (b ≡ true)
-both_yes true b e = (refl, e)
-both_yes false b e = absurd (cc)
-
-yes_both : (a b : Bool) → a ≡ true → b ≡ true → (a && b) ≡ true
-yes_both true b e f = f
-yes_both false b e f = absurd (cc)
-
 pub overlap_yes : (l m : CedeLayer) → overlaps l m ≡ true → Overlap l m
 overlap_yes l m e =
     let x : ℕ = max l.attach m.attach in
-    let both = both_yes (is_below_top l.limit l.attach x) (is_below_top m.limit m.attach x) e in
+    let both = and_parts (is_below_top l.limit l.attach x) (is_below_top m.limit m.attach x) e in
     (below_is l.limit l.attach x both.0, below_is m.limit m.attach x both.1)
 
 pub yes_overlap : (l m : CedeLayer) → Overlap l m → overlaps l m ≡ true
 yes_overlap l m o =
     let x : ℕ = max l.attach m.attach in
-    yes_both (is_below_top l.limit l.attach x) (is_below_top m.limit m.attach x) (is_below l.limit l.attach x o.0) (is_below m.limit m.attach x o.1)
+    and_from (is_below_top l.limit l.attach x) (is_below_top m.limit m.attach x) (is_below l.limit l.attach x o.0)
+    (is_below m.limit m.attach x o.1)
 
 pub overlap_test : (b : Bool) (l m : CedeLayer) → (IsTrue b ↔ Overlap l m) → b ≡ overlaps l m
 overlap_test b l m e = agree b (overlaps l m) (λ t. yes_overlap l m (e.0 t)) (λ t. e.1 (overlap_yes l m t))
 
 -- overlaps depend on limits and attachments alone
-pub same_overlaps : (l k m n : CedeLayer) → l.limit ≡ k.limit → l.attach ≡ k.attach → m.limit ≡ n.limit → m.attach ≡ n.attach → overlaps l m ≡ overlaps k n
+pub same_overlaps : (l k m n : CedeLayer) → l.limit ≡ k.limit → l.attach ≡ k.attach → m.limit ≡ n.limit
+    → m.attach ≡ n.attach → overlaps l m ≡ overlaps k n
 same_overlaps l k m n ll la ml ma =
-    ap₂ (λ (o : Option ℕ) (p : Option ℕ). is_below_top o l.attach (max l.attach m.attach) && is_below_top p m.attach (max l.attach m.attach)) ll ml
+    ap₂ (λ (o : Option ℕ) (p : Option ℕ). is_below_top o l.attach (max l.attach m.attach)
+    && is_below_top p m.attach (max l.attach m.attach)) ll ml
     ∙ ap₂ (λ (a : ℕ) (b : ℕ). is_below_top k.limit a (max a b) && is_below_top n.limit b (max a b)) la ma
 
-pub turn_in : {A B : Type 0} (f : List A → A → Option B) (xs zs : List A) (r : Option B) → zs ≡ xs → r ≡ in_turn f [] zs → r ≡ in_turn f [] xs
+pub turn_in : {A B : Type 0} (f : List A → A → Option B) (xs zs : List A) (r : Option B) → zs ≡ xs → r ≡ in_turn f [] zs
+    → r ≡ in_turn f [] xs
 turn_in f xs zs r same e = e ∙ ap (in_turn f []) same

@@ -1,7 +1,6 @@
 -- Whether the severity of a unit can be weighed, and what that leaves.
-use Rattle.std.proofs.Common.{ℕ, ◌≡◌, ◌∙◌, Bool, true, false, not, ◌&&◌, ◌||◌, nat_le, List, [], ◌∷◌, ◌++◌, map, flat_map, Option, Some, None, refl, sym, ap, subst, arith}
-use Rattle.std.specs.List.{AllZip, All, list_any, list_all}
-use Rattle.std.specs.Option.{MatchOption}
+use Rattle.std.proofs.Common.{◌≡◌, ◌∙◌, Bool, true, false, not, ◌&&◌, ◌||◌, List, [], ◌∷◌, map, Some, None, refl, sym, ap}
+use Rattle.std.specs.List.{AllZip, list_any, list_all}
 use Rattle.dl_exact.specs.Fraction.{Fraction}
 use Rattle.dl_plan.specs.Fine.{IsFine, common_denominator}
 use Rattle.dl_plan.specs.Severity.{Pairs, Means}
@@ -9,17 +8,14 @@ use Rattle.dl_plan.specs.declared.severity.Sev.{Sev}
 use Rattle.dl_sev.specs.declared.weights.Weights.{Weights}
 use Rattle.dl_sev.specs.Weighed.{IsWeighing}
 use Rattle.dl_sev.specs.Steps.{mixture}
-use Rattle.dl_ast.specs.declared.ast.Atom.{Atom}
-use Rattle.dl_ast.specs.declared.ast.ListAst.{ListAst}
-use Rattle.dl_ast.specs.declared.ast.SevAst.{SevAst}
-use Rattle.dl_ast.specs.declared.ast.UnitAst.{UnitAst}
-use Rattle.dl_read.specs.First.{each_of}
-use Rattle.dl_read.specs.Lists.{values_of, itself, is_fine}
-use Rattle.dl_amounts.specs.Severity.{mixture_shares, shares_in_mixture, severity_in_layer}
+use Rattle.dl_read.specs.declared.tree.ReadList.{ReadList}
+use Rattle.dl_amounts.specs.declared.grid.GridSev.{GridSev}
+use Rattle.dl_amounts.specs.declared.grid.GridUnit.{GridUnit}
+use Rattle.dl_read.specs.Lists.{is_fine}
+use Rattle.dl_amounts.specs.Severity.{own_lists, mixture_shares, shares_in_mixture, severity_in_layer}
 use Rattle.dl_amounts.specs.FineParts.{has_severity, IsWeighed}
 use Rattle.dl_amounts.proofs.FineLists.{coarse}
 use Rattle.dl_amounts.proofs.FineMixtures.{fineness}
-use Rattle.dl_amounts.proofs.Shared.{own_lists}
 
 pub all_not : {X : Type 0} (p : X → Bool) (xs : List X) → list_all p xs ≡ not (list_any (λ x. not (p x)) xs)
 all_not p [] = refl
@@ -29,34 +25,41 @@ all_not p (x ∷ xs) = both (p x) (list_all p xs) (list_any (λ y. not (p y)) xs
     both true b d h = h
     both false b d h = refl
 
-pub coarse_lists : (bs : Fraction) (s : SevAst) (b : Bool) → b ≡ list_any coarse (own_lists s) → b ≡ true → false ≡ has_severity bs s
-coarse_lists bs s b is told =
-    ap (λ d. d && is_fine (mixture_shares bs s)) (ap not (sym told ∙ is) ∙ sym (all_not (λ (l : ListAst). is_fine (values_of l)) (own_lists s)))
+pub coarse_lists : (s : GridSev) (b : Bool) → b ≡ list_any coarse (own_lists s) → b ≡ true
+    → false ≡ has_severity s
+coarse_lists s b is told =
+    ap (λ d. d && is_fine (mixture_shares s)) (ap not (sym told ∙ is)
+    ∙ sym (all_not (λ (l : ReadList). is_fine l.values) (own_lists s)))
 
-pub fine_lists : (bs : Fraction) (s : SevAst) (b : Bool) → b ≡ list_any coarse (own_lists s) → b ≡ false → is_fine (mixture_shares bs s) ≡ has_severity bs s
-fine_lists bs s b is told =
-    ap (λ d. d && is_fine (mixture_shares bs s)) (ap not (sym told ∙ is) ∙ sym (all_not (λ (l : ListAst). is_fine (values_of l)) (own_lists s)))
+pub fine_lists : (s : GridSev) (b : Bool) → b ≡ list_any coarse (own_lists s) → b ≡ false
+    → is_fine (mixture_shares s) ≡ has_severity s
+fine_lists s b is told =
+    ap (λ d. d && is_fine (mixture_shares s)) (ap not (sym told ∙ is)
+    ∙ sym (all_not (λ (l : ReadList). is_fine l.values) (own_lists s)))
 
 -- ---- the mixture
 
-module _ (atoms : List Sev) (weights : Weights) (probs : List Fraction) (lists : List Pairs) (is : IsWeighing probs weights) (means : AllZip Means atoms lists) where
+module _ (atoms : List Sev) (weights : Weights) (probs : List Fraction) (lists : List Pairs)
+    (is : IsWeighing probs weights) (means : AllZip Means atoms lists) where
   abbrev products : List Fraction
   products = map (λ pair. pair.1) (mixture atoms weights)
 
   pub mixed_fine : IsFine products → is_fine (shares_in_mixture probs lists) ≡ true
-  mixed_fine fine = sym (fineness atoms weights probs lists is means products (Some (common_denominator products)) refl (fine, refl))
+  mixed_fine fine = sym (fineness atoms weights probs lists is means products (Some (common_denominator products)) refl
+      (fine, refl))
 
   pub mixed_coarse : (IsFine products → ⊥) → is_fine (shares_in_mixture probs lists) ≡ false
   mixed_coarse coarse = sym (fineness atoms weights probs lists is means products None refl coarse)
 
 -- ---- the severity in the layer
 
-module _ (bs : Fraction) (u : UnitAst) (b : Bool) (told : b ≡ list_any coarse (own_lists u.sev)) where
-  pub unweighed_lists : b ≡ true → IsWeighed bs u None
-  unweighed_lists is = sym (coarse_lists bs u.sev b told is)
+module _ (u : GridUnit) (b : Bool) (told : b ≡ list_any coarse (own_lists u.sev)) where
+  pub unweighed_lists : b ≡ true → IsWeighed u None
+  unweighed_lists is = sym (coarse_lists u.sev b told is)
 
-  pub unweighed_mixture : b ≡ false → is_fine (mixture_shares bs u.sev) ≡ false → IsWeighed bs u None
-  unweighed_mixture is h = sym (fine_lists bs u.sev b told is) ∙ h
+  pub unweighed_mixture : b ≡ false → is_fine (mixture_shares u.sev) ≡ false → IsWeighed u None
+  unweighed_mixture is h = sym (fine_lists u.sev b told is) ∙ h
 
-  pub weighed : (sev : Sev) → b ≡ false → is_fine (mixture_shares bs u.sev) ≡ true → Means sev (severity_in_layer bs u) → IsWeighed bs u (Some sev)
-  weighed sev is h means = (sym (fine_lists bs u.sev b told is) ∙ h, means)
+  pub weighed : (sev : Sev) → b ≡ false → is_fine (mixture_shares u.sev) ≡ true → Means sev (severity_in_layer u)
+      → IsWeighed u (Some sev)
+  weighed sev is h means = (sym (fine_lists u.sev b told is) ∙ h, means)

@@ -1,11 +1,44 @@
--- What an amount in buckets must not be.
-use Rattle.std.specs.Prelude.{◌^◌, Bool, not}
+-- The flaws of amounts in buckets: the first place of an amount that is no whole number, and of one
+-- that is too large.
+use Rattle.std.specs.Prelude.{◌≡◌, Bool, not, Option, Some, None, Result, Ok, Err}
+use Rattle.dl_limits.specs.Limits.{most_amount}
 use Rattle.dl_exact.specs.Fraction.{Fraction, whole}
-use Rattle.dl_amounts.specs.declared.amounts.Flaw.{Flaw}
-use Rattle.dl_amounts.specs.declared.amounts.Flaw.TheVariants.{OffGrid, TooFar}
+use Rattle.dl_lexer.specs.declared.token.Span.{Span}
+use Rattle.dl_read.specs.First.{◌else◌}
 use Rattle.dl_read.specs.Lists.{is_whole, is_above}
+use Rattle.dl_amounts.specs.declared.fault.GridFault.{GridFault}
+use Rattle.dl_amounts.specs.declared.fault.GridFault.TheVariants as faults
+use Rattle.dl_amounts.specs.declared.flaws.Flaws.{Flaws}
+use Rattle.dl_amounts.specs.declared.flaws.Gridded.{Gridded}
 
--- no whole number, or above 2^20
-abbrev pub has_flaw : Flaw → Fraction → Bool
-has_flaw OffGrid x = not (is_whole x)
-has_flaw TooFar x = is_above x (whole (2 ^ 20))
+-- the places of both flaws, by the place where a test fails
+abbrev pub flaws_of : ((Fraction → Bool) → Option Span) → Flaws
+flaws_of fails = record {
+  off_grid = fails (λ x. not (is_whole x));
+  too_far = fails (λ x. is_above x (whole most_amount));
+}
+
+-- those of a part, and else those of a later one
+abbrev pub flaws_else : Flaws → Flaws → Flaws
+flaws_else first second = record {
+  off_grid = first.off_grid else second.off_grid;
+  too_far = first.too_far else second.too_far;
+}
+
+pub record IsClean (flaws : Flaws) : Type 0 where
+  pub on_grid : flaws.off_grid ≡ None
+  pub near : flaws.too_far ≡ None
+
+-- the places of the flaws are told; where there are none, the part is the one in whole buckets
+pub record IsGridded {A : Type 0} (fails : (Fraction → Bool) → Option Span) (right : A)
+    (made : Gridded A) : Type 0 where
+  pub flaws : made.flaws ≡ flaws_of fails
+  pub part : IsClean made.flaws → made.part ≡ right
+
+-- there are none; or the fault is the first of them
+abbrev pub TellsFlaws : {A : Type 0} → Flaws → Result A GridFault → Type 0
+TellsFlaws flaws (Ok _) = IsClean flaws
+TellsFlaws flaws (Err (faults.OffGrid place)) = flaws.off_grid ≡ Some place
+TellsFlaws flaws (Err (faults.TooFar place)) = (flaws.off_grid ≡ None)
+    × (flaws.too_far ≡ Some place)
+TellsFlaws flaws (Err faults.OutOfMemory) = ⊥

@@ -1,7 +1,10 @@
+pub mod Grid
 pub mod Clauses
 pub mod Severity
 pub mod FineParts
 pub mod Rules
+pub mod OnGrid
+pub mod GridKept
 pub mod Kept
 pub mod Parts
 pub mod ClausesKept

@@ -1,45 +1,304 @@
-//! Limits and attachments as whole numbers of buckets.
+//! The parts of a unit in whole buckets, each amount divided once.
 
-ghost use Rattle.std.specs.Prelude.{◌≡◌, ◌≤◌, ◌^◌, IfSome};
-ghost use Rattle.dl_read.specs.Numerals.{value};
-ghost use Rattle.dl_amounts.specs.Clauses.{number_of, limit_of};
-ghost use Rattle.dl_amounts.specs.Severity.{attach_of};
+ghost use Rattle.std.specs.Prelude.{◌≡◌, None, All, IfOk, IfSome, map};
+ghost use Rattle.dl_sev.specs.Buckets.{HasPartsOf18Digits, buckets};
 ghost use Rattle.dl_plan.specs.Ranges.{IsBucket};
-ghost use Rattle.dl_amounts.specs.Parts.{IsNumeralOnGrid, IsLayerOnGrid};
+ghost use Rattle.dl_read.specs.First.{at_if, first_in, within};
+ghost use Rattle.dl_read.specs.Numbers.{if_there};
+ghost use Rattle.dl_read.specs.Kept.{IsSmall, IsListRead, IsAtomRead, IsSevRead, IsLayerRead, IsCededRead, IsClauseRead, IsRead};
+ghost use Rattle.dl_amounts.specs.Flaws.{IsGridded};
+ghost use Rattle.dl_amounts.specs.Grid.{number_of, grid_atom, grid_severity, grid_layer, grid_share, grid_ceded, grid_clause};
+ghost use Rattle.dl_amounts.specs.GridKept.{IsGridUnit};
+ghost use Rattle.dl_amounts.specs.OnGrid.{GridsUnit};
+ghost use Rattle.dl_amounts.specs.Rules.{lengths_differ, not_one, list_fails, layer_fails, clause_fails};
 
-use dl_ast::{Layer, LimitAst, Numeral};
+use crate::fault::GridFault;
+use crate::flaws::{Flaws, Gridded};
+use crate::grid::{GridAtom, GridCeded, GridClause, GridLayer, GridSev, GridShare, GridUnit};
 use dl_frac::Frac;
-use dl_read::value;
+use dl_lexer::Span;
+use dl_limits::MOST_AMOUNT;
+use dl_plan::Many;
+use dl_read::{
+    ReadAtom, ReadCeded, ReadClause, ReadLayer, ReadList, ReadSev, ReadShare, ReadUnit, place_if,
+};
+use std::alloc::{AllocError, Global};
 
-/// An amount of money in buckets, at most 2^20 of them.
-fn number_of(number: &Numeral, bs: Frac) -> u32
+/// A unit in whole buckets; else the first amount that is no whole number of them, and where there
+/// is none the first that passes 2^20.
+pub fn grid_unit(alloc: Global, unit: ReadUnit, bs: Frac) -> Result<GridUnit, GridFault>
     requires bucket { IsBucket bs }
-    requires on_grid { IsNumeralOnGrid bs number.now }
-    ensures number { result ≡ number_of bs (value number.now) }
-    ensures near { result ≤ 2 ^ 20 }
+    requires read { IsRead unit }
+    requires lengths { lengths_differ unit ≡ None }
+    requires one { not_one unit ≡ None }
+    ensures answer { GridsUnit bs unit result }
+    ensures grid { IfOk result IsGridUnit }
 {
-    value(number).div(bs).unwrap().num() as u32
+    let layer = own_layer(unit.layer, bs);
+    let sev = grid_severity(alloc, unit.sev, bs)?;
+    let occ = own_clause(alloc, &unit.occ, bs)?;
+    let agr = own_clause(alloc, &unit.agr, bs)?;
+    layer
+        .flaws
+        .or(sev.flaws)
+        .or(occ.flaws)
+        .or(agr.flaws)
+        .told()?;
+    Ok(GridUnit {
+        name: unit.name,
+        count: unit.count,
+        layer: layer.part,
+        sev: sev.part,
+        occ: occ.part,
+        agr: agr.part,
+    })
 }
 
-/// Where a layer attaches, in buckets.
-pub fn attach_of(layer: &Layer, bs: Frac) -> u32
+/// The severity.
+fn grid_severity(alloc: Global, sev: ReadSev, bs: Frac) -> Result<Gridded<GridSev>, AllocError>
     requires bucket { IsBucket bs }
-    requires on_grid { IsLayerOnGrid bs layer.now }
-    ensures number { result ≡ attach_of bs layer.now }
-    ensures near { result ≤ 2 ^ 20 }
+    requires read { IsSevRead sev }
+    ensures { IfOk result (IsGridded (λ test. first_in (λ a. list_fails test bs a.values) sev.atoms)
+        (grid_severity bs sev)) }
 {
-    number_of(&layer.attach, bs)
+    let atoms = grid_atoms(alloc, sev.atoms.into_vec(), bs)?;
+    Ok(Gridded {
+        part: GridSev {
+            atoms: atoms.part,
+            weights: sev.weights,
+            bang: sev.bang,
+        },
+        flaws: atoms.flaws,
+    })
 }
 
-/// The most that a layer takes, in buckets; none where there is no limit.
-pub fn limit_of(layer: &Layer, bs: Frac) -> Option<u32>
+/// The atoms of a severity.
+fn grid_atoms(
+    alloc: Global,
+    atoms: Vec<ReadAtom>,
+    bs: Frac,
+) -> Result<Gridded<Many<GridAtom>>, AllocError>
     requires bucket { IsBucket bs }
-    requires on_grid { IsLayerOnGrid bs layer.now }
-    ensures number { result ≡ limit_of bs layer.now.limit }
-    ensures near { IfSome result (λ limit. limit ≤ 2 ^ 20) }
+    requires read { All IsAtomRead atoms.items }
+    ensures { IfOk result (IsGridded
+        (λ test. first_in (λ a. list_fails test bs a.values) atoms.items)
+        (map (grid_atom bs) atoms.items)) }
 {
-    match &layer.limit {
-        LimitAst::Finite(limit) => Some(number_of(limit, bs)),
-        LimitAst::Infinite => None,
+    let mut made = Vec::new(alloc);
+    let mut flaws = Flaws::none();
+    'atoms: for atom in atoms {
+        let one = grid_atom(alloc, atom, bs)?;
+        made.push(one.part)?;
+        flaws = flaws.or(one.flaws);
+    }
+    Ok(Gridded {
+        part: Many::from_vec(made),
+        flaws,
+    })
+}
+
+/// One atom.
+fn grid_atom(alloc: Global, atom: ReadAtom, bs: Frac) -> Result<Gridded<GridAtom>, AllocError>
+    requires bucket { IsBucket bs }
+    requires read { IsAtomRead atom }
+    ensures { IfOk result (IsGridded (λ test. list_fails test bs atom.values)
+        (grid_atom bs atom)) }
+{
+    let amounts = grid_amounts(alloc, &atom.values, bs)?;
+    Ok(Gridded {
+        part: GridAtom {
+            amounts: amounts.part,
+            probs: atom.probs,
+        },
+        flaws: amounts.flaws,
+    })
+}
+
+/// The amounts of a list.
+fn grid_amounts(alloc: Global, list: &ReadList, bs: Frac) -> Result<Gridded<Many<u32>>, AllocError>
+    requires bucket { IsBucket bs }
+    requires read { IsListRead list.now }
+    ensures { IfOk result (IsGridded (λ test. list_fails test bs list.now)
+        (map (number_of bs) list.now.values)) }
+{
+    let places = list.places.as_slice();
+    let mut made = Vec::new(alloc);
+    let mut flaws = Flaws::none();
+    'values: for (at, &value) in list.values.as_slice().iter().enumerate() {
+        let amount = grid_amount(value, bs, places[at]);
+        made.push(amount.part)?;
+        flaws = flaws.or(amount.flaws);
+    }
+    Ok(Gridded {
+        part: Many::from_vec(made),
+        flaws,
+    })
+}
+
+/// The layer of a unit, where there is one.
+fn own_layer(layer: Option<ReadLayer>, bs: Frac) -> Gridded<Option<GridLayer>>
+    requires bucket { IsBucket bs }
+    requires read { IfSome layer IsLayerRead }
+    ensures { IsGridded (λ test. within (layer_fails test bs) layer)
+        (if_there (grid_layer bs) layer) result }
+{
+    match layer {
+        Some(layer) => {
+            let made = grid_layer(layer, bs);
+            Gridded {
+                part: Some(made.part),
+                flaws: made.flaws,
+            }
+        }
+        None => Gridded {
+            part: None,
+            flaws: Flaws::none(),
+        },
+    }
+}
+
+/// A layer.
+fn grid_layer(layer: ReadLayer, bs: Frac) -> Gridded<GridLayer>
+    requires bucket { IsBucket bs }
+    requires read { IsLayerRead layer }
+    ensures { IsGridded (λ test. layer_fails test bs layer) (grid_layer bs layer) result }
+{
+    let limit = grid_limit(layer.limit, bs, layer.span);
+    let attach = grid_amount(layer.attach, bs, layer.span);
+    Gridded {
+        part: GridLayer {
+            limit: limit.part,
+            attach: attach.part,
+            span: layer.span,
+        },
+        flaws: limit.flaws.or(attach.flaws),
+    }
+}
+
+/// A limit that may be missing, of the layer at a place.
+fn grid_limit(limit: Option<Frac>, bs: Frac, place: Span) -> Gridded<Option<u32>>
+    requires bucket { IsBucket bs }
+    requires small { IfSome limit IsSmall }
+    ensures { IsGridded (λ test. within (λ x. at_if (test (buckets bs x)) place) limit)
+        (if_there (number_of bs) limit) result }
+{
+    match limit {
+        Some(limit) => {
+            let made = grid_amount(limit, bs, place);
+            Gridded {
+                part: Some(made.part),
+                flaws: made.flaws,
+            }
+        }
+        None => Gridded {
+            part: None,
+            flaws: Flaws::none(),
+        },
+    }
+}
+
+/// An amount of money at a place.
+fn grid_amount(amount: Frac, bs: Frac, place: Span) -> Gridded<u32>
+    requires bucket { IsBucket bs }
+    requires parts { HasPartsOf18Digits amount }
+    ensures { IsGridded (λ test. at_if (test (buckets bs amount)) place)
+        (number_of bs amount) result }
+{
+    let num = amount.num() as u128 * bs.den() as u128;
+    let den = amount.den() as u128 * bs.num() as u128;
+    let most = MOST_AMOUNT as u128;
+    Gridded {
+        part: (num / den).min(most) as u32,
+        flaws: Flaws {
+            off_grid: place_if(num % den != 0, place),
+            too_far: place_if(den * most < num, place),
+        },
+    }
+}
+
+/// A clause of a unit, where there is one.
+fn own_clause(
+    alloc: Global,
+    clause: &Option<ReadClause>,
+    bs: Frac,
+) -> Result<Gridded<Option<GridClause>>, AllocError>
+    requires bucket { IsBucket bs }
+    requires read { IfSome clause.now IsClauseRead }
+    ensures { IfOk result (IsGridded (λ test. within (clause_fails test bs) clause.now)
+        (if_there (grid_clause bs) clause.now)) }
+{
+    match clause {
+        Some(clause) => {
+            let made = grid_clause(alloc, clause, bs)?;
+            Ok(Gridded {
+                part: Some(made.part),
+                flaws: made.flaws,
+            })
+        }
+        None => Ok(Gridded {
+            part: None,
+            flaws: Flaws::none(),
+        }),
+    }
+}
+
+/// A clause.
+fn grid_clause(
+    alloc: Global,
+    clause: &ReadClause,
+    bs: Frac,
+) -> Result<Gridded<GridClause>, AllocError>
+    requires bucket { IsBucket bs }
+    requires read { IsClauseRead clause.now }
+    ensures { IfOk result (IsGridded (λ test. clause_fails test bs clause.now)
+        (grid_clause bs clause.now)) }
+{
+    let layers = grid_layers(alloc, clause.layers.as_slice(), bs)?;
+    Ok(Gridded {
+        part: GridClause {
+            net: clause.net,
+            layers: layers.part,
+            span: clause.span,
+        },
+        flaws: layers.flaws,
+    })
+}
+
+/// The layers of a clause.
+fn grid_layers(
+    alloc: Global,
+    layers: &[ReadCeded],
+    bs: Frac,
+) -> Result<Gridded<Many<GridCeded>>, AllocError>
+    requires bucket { IsBucket bs }
+    requires read { All IsCededRead layers.now }
+    ensures { IfOk result (IsGridded (λ test. first_in (λ c. layer_fails test bs c.layer)
+        layers.now) (map (grid_ceded bs) layers.now)) }
+{
+    let mut made = Vec::new(alloc);
+    let mut flaws = Flaws::none();
+    'layers: for ceded in layers {
+        let one = grid_layer(ceded.layer, bs);
+        made.push(GridCeded {
+            share: grid_share(&ceded.share, ceded.layer.limit),
+            layer: one.part,
+            span: ceded.span,
+        })?;
+        flaws = flaws.or(one.flaws);
+    }
+    Ok(Gridded {
+        part: Many::from_vec(made),
+        flaws,
+    })
+}
+
+/// A share of a layer with this limit in money.
+fn grid_share(share: &ReadShare, limit: Option<Frac>) -> GridShare
+    ensures { result ≡ grid_share share.now limit }
+{
+    match share {
+        ReadShare::Whole => GridShare::Whole,
+        ReadShare::So(share) => GridShare::So(*share),
+        ReadShare::Po(part) => GridShare::Po(*part, limit),
     }
 }

@@ -2,28 +2,27 @@
 
 ghost use Rattle.std.specs.Prelude.{◌≡◌, ◌≤◌, ◌^◌, None, true, false, map, All, length, IfOk, IfSome, MatchOption};
 ghost use Rattle.std.specs.List.{AllZip};
+ghost use Rattle.dl_limits.specs.Limits.{most_amount, most_items};
 ghost use Rattle.dl_plan.specs.Fine.{IsWhole};
-ghost use Rattle.dl_plan.specs.Cession.{kept};
+ghost use Rattle.dl_plan.specs.Clause.{kept};
 ghost use Rattle.dl_sev.specs.Steps.{ceded_each};
 ghost use Rattle.dl_amounts.specs.Clauses.{clause_of, shares_of};
 ghost use Rattle.dl_plan.specs.Severity.{pairs_of, conditioned, Means};
 ghost use Rattle.dl_sev.specs.Weighed.{IsWeighing};
-ghost use Rattle.dl_read.specs.Lists.{probs_of, is_fine};
-ghost use Rattle.dl_amounts.specs.Severity.{atom_pairs, weights_of, mixed_pairs, severity_in_layer, final_severity, mixture_shares};
+ghost use Rattle.dl_read.specs.Lists.{is_fine};
+ghost use Rattle.dl_amounts.specs.Severity.{atom_probs, atom_pairs, weights_of, mixed_pairs, severity_in_layer, final_severity, mixture_shares};
 ghost use Rattle.dl_amounts.specs.FineParts.{IsWeighed};
-ghost use Rattle.dl_amounts.specs.Rules.{not_one, none_above};
-ghost use Rattle.dl_plan.specs.Ranges.{IsBucket};
-ghost use Rattle.dl_amounts.specs.Kept.{IsOnGrid, IsFineSev};
-ghost use Rattle.dl_read.specs.Kept.{IsListRead};
-ghost use Rattle.dl_amounts.specs.Parts.{IsAtomOnGrid, IsSevOnGrid, AreProbabilities, IsSevShared};
+ghost use Rattle.dl_amounts.specs.Rules.{none_above};
+ghost use Rattle.dl_amounts.specs.Kept.{IsWeighted, IsFineSev};
+ghost use Rattle.dl_amounts.specs.GridKept.{IsGridAtom};
+ghost use Rattle.dl_amounts.specs.Parts.{IsSevWeighted, AreProbabilities, IsSevShared};
 ghost use Rattle.dl_amounts.specs.ClausesKept.{IsClauseLayered};
 
-use crate::atoms::{atom_amounts, atom_weights, list_probs};
-use crate::buckets::{attach_of, limit_of};
+use crate::atoms::{atom_probs, atom_weights};
 use crate::clauses::clause;
 use crate::fine::severity_too_fine;
+use crate::grid::{GridAtom, GridClause, GridSev, GridUnit};
 use crate::support::is_conditioned;
-use dl_ast::{Atom, Cession, Layer, SevAst, UnitAst};
 use dl_frac::Frac;
 use dl_plan::Sev;
 use dl_sev::{
@@ -31,35 +30,34 @@ use dl_sev::{
 };
 use std::alloc::{AllocError, Global};
 
-/// The severity in the layer, in buckets; `None` exactly where a list of probabilities of the severity
-/// or its mixture is not fine.
-pub fn weighed_severity(alloc: Global, unit: &UnitAst, bs: Frac) -> Result<Option<Sev>, AllocError>
-    requires bucket { IsBucket bs }
-    requires on_grid { IsOnGrid bs unit.now }
-    requires reached { none_above bs unit.now ≡ None }
-    requires one { not_one unit.now ≡ None }
-    ensures { IfOk result (IsWeighed bs unit.now) }
+/// The severity in the layer; `None` exactly where a list of probabilities of the
+/// severity or its mixture is not fine.
+pub fn weighed_severity(alloc: Global, unit: &GridUnit) -> Result<Option<Sev>, AllocError>
+    requires weighted { IsWeighted unit.now }
+    requires reached { none_above unit.now ≡ None }
+    ensures { IfOk result (IsWeighed unit.now) }
 {
-    let coarse = severity_too_fine(alloc, &unit.sev)?;
+    let coarse = severity_too_fine(&unit.sev);
     if coarse {
         return Ok(None);
     }
-    let Some(mixed) = mixture(alloc, &unit.sev, bs)? else {
+    let Some(mixed) = mixture(alloc, &unit.sev)? else {
         return Ok(None);
     };
-    let made = severity_in_layer(alloc, unit, bs, mixed)?;
+    let made = severity_in_layer(alloc, unit, mixed)?;
     Ok(Some(made))
 }
 
-/// The mixture of the atoms; `None` exactly where the products of a weight and a probability are not
-/// fine.
-fn mixture(alloc: Global, sev: &SevAst, bs: Frac) -> Result<Option<Sev>, AllocError>
-    requires bucket { IsBucket bs }
-    requires on_grid { IsSevOnGrid bs sev.now }
+/// The mixture of the atoms; `None` exactly where the products of a weight and a probability are
+/// not fine.
+fn mixture(alloc: Global, sev: &GridSev) -> Result<Option<Sev>, AllocError>
+    requires weighted { IsSevWeighted sev.now }
     requires shared { IsSevShared sev.now }
-    ensures { IfOk result (λ made. MatchOption made (is_fine (mixture_shares bs sev.now) ≡ false) (λ mixed. (is_fine (mixture_shares bs sev.now) ≡ true) × Means mixed (mixed_pairs bs sev.now))) }
+    ensures { IfOk result (λ made. MatchOption made (is_fine (mixture_shares sev.now) ≡ false)
+        (λ mixed. (is_fine (mixture_shares sev.now) ≡ true)
+        × Means mixed (mixed_pairs sev.now))) }
 {
-    let atoms = atom_severities(alloc, sev, bs)?;
+    let atoms = atom_severities(alloc, sev)?;
     let weights = mixing_weights(alloc, sev)?;
     match mix(alloc, &atoms, &weights) {
         Ok(made) => Ok(Some(made)),
@@ -69,9 +67,8 @@ fn mixture(alloc: Global, sev: &SevAst, bs: Frac) -> Result<Option<Sev>, AllocEr
 }
 
 /// The whole weights of the atoms.
-fn mixing_weights(alloc: Global, sev: &SevAst) -> Result<Weights, AllocError>
-    requires read { IfSome sev.now.weights IsListRead }
-    requires shared { AreProbabilities (weights_of sev.now) }
+fn mixing_weights(alloc: Global, sev: &GridSev) -> Result<Weights, AllocError>
+    requires { AreProbabilities (weights_of sev.now) }
     ensures { IfOk result (IsWeighing (weights_of sev.now)) }
 {
     let shares = atom_weights(alloc, &sev.weights)?;
@@ -79,30 +76,27 @@ fn mixing_weights(alloc: Global, sev: &SevAst) -> Result<Weights, AllocError>
 }
 
 /// The severity of each atom.
-fn atom_severities(alloc: Global, sev: &SevAst, bs: Frac) -> Result<Vec<Sev>, AllocError>
-    requires bucket { IsBucket bs }
-    requires on_grid { IsSevOnGrid bs sev.now }
+fn atom_severities(alloc: Global, sev: &GridSev) -> Result<Vec<Sev>, AllocError>
+    requires weighted { IsSevWeighted sev.now }
     requires shared { IsSevShared sev.now }
-    ensures { IfOk result (λ made. AllZip Means made.items (map (atom_pairs bs) sev.now.atoms)) }
+    ensures { IfOk result (λ made. AllZip Means made.items (map atom_pairs sev.now.atoms)) }
 {
     let mut made = Vec::new(alloc);
     'atoms: for atom in sev.atoms.as_slice() {
-        made.push(atom_severity(alloc, atom, bs)?)?;
+        made.push(atom_severity(alloc, atom)?)?;
     }
     Ok(made)
 }
 
 /// The severity of an atom.
-fn atom_severity(alloc: Global, atom: &Atom, bs: Frac) -> Result<Sev, AllocError>
-    requires bucket { IsBucket bs }
-    requires on_grid { IsAtomOnGrid bs atom.now }
-    requires shared { AreProbabilities (probs_of atom.now.values atom.now.probs) }
-    ensures { IfOk result (λ sev. Means sev (atom_pairs bs atom.now)) }
+fn atom_severity(alloc: Global, atom: &GridAtom) -> Result<Sev, AllocError>
+    requires grid { IsGridAtom atom.now }
+    requires shared { AreProbabilities (atom_probs atom.now) }
+    ensures { IfOk result (λ sev. Means sev (atom_pairs atom.now)) }
 {
-    let amounts = atom_amounts(alloc, atom, bs)?;
-    let probs = list_probs(alloc, &atom.values, &atom.probs, amounts.len())?;
+    let probs = atom_probs(alloc, atom)?;
     let weights = whole_weights(alloc, &probs)?;
-    merge(alloc, &amounts, &weights)
+    merge(alloc, atom.amounts.as_slice(), &weights)
 }
 
 /// The whole weights of probabilities.
@@ -119,22 +113,19 @@ pub fn whole_weights(alloc: Global, probs: &[Frac]) -> Result<Weights, AllocErro
 }
 
 /// What the layer makes of the mixture.
-fn severity_in_layer(alloc: Global, unit: &UnitAst, bs: Frac, mixed: Sev) -> Result<Sev, AllocError>
-    requires bucket { IsBucket bs }
-    requires on_grid { IsOnGrid bs unit.now }
-    requires reached { none_above bs unit.now ≡ None }
-    requires mixed { Means mixed (mixed_pairs bs unit.now.sev) }
-    ensures { IfOk result (λ sev. Means sev (severity_in_layer bs unit.now)) }
+fn severity_in_layer(alloc: Global, unit: &GridUnit, mixed: Sev) -> Result<Sev, AllocError>
+    requires weighted { IsWeighted unit.now }
+    requires reached { none_above unit.now ≡ None }
+    requires mixed { Means mixed (mixed_pairs unit.now.sev) }
+    ensures { IfOk result (λ sev. Means sev (severity_in_layer unit.now)) }
 {
     match &unit.layer {
         Some(layer) => {
-            let attach = attach_of(layer, bs);
-            let limit = limit_of(layer, bs);
-            if is_conditioned(unit.sev.bang, attach) {
-                let large = exceeding(alloc, &mixed, attach)?;
-                cut(alloc, &large, limit, attach)
+            if is_conditioned(unit.sev.bang, layer.attach) {
+                let large = exceeding(alloc, &mixed, layer.attach)?;
+                cut(alloc, &large, layer.limit, layer.attach)
             } else {
-                cut(alloc, &mixed, limit, attach)
+                cut(alloc, &mixed, layer.limit, layer.attach)
             }
         }
         None => Ok(mixed),
@@ -154,17 +145,18 @@ fn exceeding(alloc: Global, sev: &Sev, attach: u32) -> Result<Sev, AllocError>
 }
 
 /// What an occurrence clause with fine shares keeps of each amount, which is whole.
-fn ceded(alloc: Global, sev: &Sev, cession: &Cession, bs: Frac) -> Result<Sev, AllocError>
-    requires bucket { IsBucket bs }
-    requires layered { IsClauseLayered bs cession.now }
+fn ceded(alloc: Global, sev: &Sev, cession: &GridClause) -> Result<Sev, AllocError>
+    requires layered { IsClauseLayered cession.now }
     requires fine { is_fine (shares_of cession.now) ≡ true }
-    requires whole { All (λ item. IsWhole (kept (clause_of bs cession.now) item.amount)) sev.now.items }
-    requires near { All (λ item. item.amount ≤ 2 ^ 20) sev.now.items }
-    ensures means { IfOk result (λ made. Means made (ceded_each (clause_of bs cession.now) (pairs_of sev.now))) }
-    ensures near { IfOk result (λ made. All (λ item. item.amount ≤ 2 ^ 20) made.items) }
+    requires whole { All (λ item. IsWhole (kept (clause_of cession.now) item.amount))
+        sev.now.items }
+    requires near { All (λ item. item.amount ≤ most_amount) sev.now.items }
+    ensures means { IfOk result (λ made. Means made
+        (ceded_each (clause_of cession.now) (pairs_of sev.now))) }
+    ensures near { IfOk result (λ made. All (λ item. item.amount ≤ most_amount) made.items) }
     ensures few { IfOk result (λ made. length made.items ≤ length sev.now.items) }
 {
-    let Some(cede) = clause(alloc, cession, bs)? else {
+    let Some(cede) = clause(alloc, cession)? else {
         unreachable!()
     };
     match cede_each(alloc, sev, &cede) {
@@ -174,22 +166,16 @@ fn ceded(alloc: Global, sev: &Sev, cession: &Cession, bs: Frac) -> Result<Sev, A
     }
 }
 
-/// The final severity of a unit, in buckets, made of the severity in the layer.
-pub fn final_severity(
-    alloc: Global,
-    unit: &UnitAst,
-    bs: Frac,
-    layered: Sev,
-) -> Result<Sev, AllocError>
-    requires bucket { IsBucket bs }
-    requires fine { IsFineSev bs unit.now }
-    requires layered { Means layered (severity_in_layer bs unit.now) }
-    ensures means { IfOk result (λ sev. Means sev (final_severity bs unit.now)) }
-    ensures near { IfOk result (λ sev. All (λ item. item.amount ≤ 2 ^ 20) sev.items) }
-    ensures few { IfOk result (λ sev. length sev.items ≤ 65536) }
+/// The final severity of a unit, made of the severity in the layer.
+pub fn final_severity(alloc: Global, unit: &GridUnit, layered: Sev) -> Result<Sev, AllocError>
+    requires fine { IsFineSev unit.now }
+    requires layered { Means layered (severity_in_layer unit.now) }
+    ensures means { IfOk result (λ sev. Means sev (final_severity unit.now)) }
+    ensures near { IfOk result (λ sev. All (λ item. item.amount ≤ most_amount) sev.items) }
+    ensures few { IfOk result (λ sev. length sev.items ≤ most_items) }
 {
     match &unit.occ {
-        Some(cession) => ceded(alloc, &layered, cession, bs),
+        Some(cession) => ceded(alloc, &layered, cession),
         None => Ok(layered),
     }
 }

@@ -4,4 +4,5 @@ use Rattle.dl_plan.proofs.Fits.{given_ok, over_fits}
 use Rattle.dl_amounts.proofs.atoms.equal_shares.Goals as goal
 
 pub unwrap-share-requires : goal.unwrap-share-requires
-unwrap-share-requires c = given_ok _ _ c.make.ensures (over_fits 1 c.args.count c.requires.some (omega arith) (omega (arith, c.requires.few)))
+unwrap-share-requires c = given_ok _ _ c.make.ensures
+    (over_fits 1 c.args.count c.requires.some (omega arith) (omega (arith, c.requires.few)))

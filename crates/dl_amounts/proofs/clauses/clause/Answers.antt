@@ -2,7 +2,7 @@
 use Rattle.std.proofs.Common.{◌≡◌, ◌∙◌, List, map, true, false, sym, ap, subst}
 use Rattle.std.specs.Option.{MatchOption}
 use Rattle.dl_plan.specs.declared.cede.CedeLayer.{CedeLayer}
-use Rattle.dl_plan.specs.Cession.{IsCession}
+use Rattle.dl_plan.specs.Clause.{IsClause}
 use Rattle.dl_read.specs.Lists.{is_fine}
 use Rattle.dl_amounts.specs.Clauses.{ceded_layer, clause_of, shares_of}
 use Rattle.dl_amounts.proofs.ClauseLaws.{no_cession}
@@ -11,9 +11,11 @@ use Rattle.dl_amounts.proofs.clauses.clause.Goals as goal
 pub returns-clause-value : goal.returns-clause-value
 returns-clause-value c =
     let a = c.args.cession.now in
-    no_cession c.args.bs a c.requires.layered (λ cession.
-    let made : c.in-Some.layers.items ≡ map (ceded_layer c.args.bs) a.layers =
-    subst (λ o. MatchOption o (is_fine (shares_of a) ≡ false) (λ layers. layers.items ≡ map (ceded_layer c.args.bs) a.layers)) c.in-Some.is c.in_ok-layers.ensures.value in
-    let same : c.in_ok-clause.clause ≡ clause_of c.args.bs a = c.in_ok-clause.ensures ∙ ap (λ (ls : List CedeLayer). (a.net, ls)) (c.deref.ensures.value ∙ made) in
-    let is : c.is_cession.result ≡ true = c.is_cession.ensures.1 (subst IsCession (sym same) cession) in
-    absurd (cc (is, c.if-is_cession.false)))
+    no_cession a c.requires.layered (λ cession.
+    let made : c.in-Some.layers.items ≡ map ceded_layer a.layers =
+    subst (λ o. MatchOption o (is_fine (shares_of a) ≡ false)
+    (λ layers. layers.items ≡ map ceded_layer a.layers)) c.in-Some.is c.in_ok-layers.ensures.value in
+    let same : c.in_ok-clause.clause ≡ clause_of a = c.in_ok-clause.ensures
+    ∙ ap (λ (ls : List CedeLayer). (a.net, ls)) (c.deref.ensures.value ∙ made) in
+    let is : c.is_clause.result ≡ true = c.is_clause.ensures.1 (subst IsClause (sym same) cession) in
+    absurd (cc (is, c.if-is_clause.false)))

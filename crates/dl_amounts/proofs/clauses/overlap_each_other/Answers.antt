@@ -10,7 +10,8 @@ unwrap-share-requires c = given_ok _ _ c.make.ensures (over_fits 1 1 (omega arit
 
 pub returns : goal.returns
 returns c =
-    let first = ceded_layer c.args.bs c.args.first.now in
-    let second = ceded_layer c.args.bs c.args.second.now in
+    let first = ceded_layer c.args.first.now in
+    let second = ceded_layer c.args.second.now in
     overlap_test c.overlaps.result c.part_of.result c.part_of-2.result c.overlaps.ensures
-    ∙ same_overlaps c.part_of.result first c.part_of-2.result second c.part_of.ensures.limit c.part_of.ensures.attach c.part_of-2.ensures.limit c.part_of-2.ensures.attach
+    ∙ same_overlaps c.part_of.result first c.part_of-2.result second c.part_of.ensures.limit c.part_of.ensures.attach
+    c.part_of-2.ensures.limit c.part_of-2.ensures.attach

@@ -1,41 +1,28 @@
 -- The first layer that overlaps one before it.
-use Rattle.std.proofs.Common.{Some, None, ◌∙◌, sym, ap, subst}
-use Rattle.std.specs.List.{All}
-use Rattle.std.proofs.lemmas.List.Elements.{All-take}
-use Rattle.dl_ast.specs.declared.ast.CededLayer.{CededLayer}
+use Rattle.std.proofs.Common.{Some, None, ◌∙◌, sym, ap}
 use Rattle.dl_read.specs.First.{at_if}
 use Rattle.dl_amounts.specs.Rules.{overlap_in}
-use Rattle.dl_amounts.specs.Parts.{IsLayerOnGrid}
-use Rattle.dl_read.proofs.Firsts.{at_item}
-use Rattle.dl_amounts.proofs.ClauseGrids.{layers_on_grid}
 use Rattle.dl_amounts.proofs.Turns.{overlap_at, turn_found, turn_passed, turn_ended, turn_in}
 use Rattle.dl_amounts.proofs.clauses.overlap_in.Goals as goal
-
-pub overlaps_any-requires-clause-before : goal.overlaps_any-requires-clause-before
-overlaps_any-requires-clause-before c =
-    let P = λ (l : CededLayer). IsLayerOnGrid c.args.bs l.layer in
-    All-take P c.layers.at c.as_slice-layers.result.now (subst (λ xs. All P xs) (sym c.as_slice-layers.ensures) (layers_on_grid c.args.bs c.args.clause.now c.requires.on_grid))
-
-pub overlaps_any-requires-clause-on_grid : goal.overlaps_any-requires-clause-on_grid
-overlaps_any-requires-clause-on_grid c =
-    at_item (λ (l : CededLayer). IsLayerOnGrid c.args.bs l.layer) c.args.clause.now.layers c.as_slice-layers.result.now c.layers.at c.index-layers-at.result c.as_slice-layers.ensures
-    (layers_on_grid c.args.bs c.args.clause.now c.requires.on_grid) c.layers-test.true c.index-layers-at.is
 
 pub returns-then-overlaps_any : goal.returns-then-overlaps_any
 unfolding overlap_in
 returns-then-overlaps_any c =
     let place = c.index-layers-at.result.layer.span in
-    turn_in (overlap_at c.args.bs) c.args.clause.now.layers c.as_slice-layers.result.now (Some place) c.as_slice-layers.ensures
-    (turn_found (overlap_at c.args.bs) c.as_slice-layers.result.now c.layers.at c.index-layers-at.result place c.layers.invariant c.layers-test.true c.index-layers-at.is
+    turn_in overlap_at c.args.clause.now.layers c.as_slice-layers.result.now
+    (Some place) c.as_slice-layers.ensures
+    (turn_found overlap_at c.as_slice-layers.result.now c.layers.at c.index-layers-at.result place
+    c.layers.invariant c.layers-test.true c.index-layers-at.is
     (ap (λ b. at_if b place) (sym c.if-overlaps_any.true ∙ c.overlaps_any.ensures)))
 
 pub layers-preserved : goal.layers-preserved
 layers-preserved c =
-    turn_passed (overlap_at c.args.bs) c.as_slice-layers.result.now c.layers.at c.index-layers-at.result c.layers.invariant c.layers-test.true c.index-layers-at.is
+    turn_passed overlap_at c.as_slice-layers.result.now c.layers.at c.index-layers-at.result
+    c.layers.invariant c.layers-test.true c.index-layers-at.is
     (ap (λ b. at_if b c.index-layers-at.result.layer.span) (sym c.if-overlaps_any.false ∙ c.overlaps_any.ensures))
 
 pub returns : goal.returns
 unfolding overlap_in
 returns c =
-    turn_in (overlap_at c.args.bs) c.args.clause.now.layers c.as_slice-layers.result.now None c.as_slice-layers.ensures
-    (turn_ended (overlap_at c.args.bs) c.as_slice-layers.result.now c.layers.at c.layers.invariant c.layers-test.false)
+    turn_in overlap_at c.args.clause.now.layers c.as_slice-layers.result.now None c.as_slice-layers.ensures
+    (turn_ended overlap_at c.as_slice-layers.result.now c.layers.at c.layers.invariant c.layers-test.false)

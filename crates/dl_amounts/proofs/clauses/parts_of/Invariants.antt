@@ -1,12 +1,12 @@
 -- The layers read so far have their shares.
 use Rattle.std.proofs.Common.{◌≡◌, map, take}
 use Rattle.std.specs.List.{All}
-use Rattle.dl_plan.specs.Valid.{IsNear}
+use Rattle.dl_plan.specs.Valid.{IsWithinMostAmount}
 use Rattle.dl_amounts.specs.Clauses.{ceded_layer}
 use Rattle.dl_amounts.proofs.clauses.parts_of.Given as goal
 
 abbrev pub invariant-layers : goal.invariant-layers
 invariant-layers l = record {
-  made : l.layers.items ≡ map (ceded_layer l.fn.bs) (take l.ceded-index l.ceded-items);
-  near : All IsNear l.layers.items;
+  made : l.layers.items ≡ map ceded_layer (take l.ceded-index l.ceded-items);
+  near : All IsWithinMostAmount l.layers.items;
 }

@@ -2,17 +2,11 @@
 use Rattle.dl_read.specs.First.{within}
 use Rattle.dl_amounts.specs.Rules.{share_above_one_in, share_above_one}
 use Rattle.dl_read.proofs.Firsts.{else_or}
-use Rattle.dl_read.proofs.Spelled.{occ_spelled, agr_spelled}
 use Rattle.dl_amounts.proofs.clauses.share_above_one.Goals as goal
-
-pub share_in_own-requires : goal.share_in_own-requires
-share_in_own-requires c = record { spelled = occ_spelled c.args.unit.now c.requires.read.formed c.requires.read.numerals }
-
-pub share_in_own-requires-2 : goal.share_in_own-requires-2
-share_in_own-requires-2 c = record { spelled = agr_spelled c.args.unit.now c.requires.read.formed c.requires.read.numerals }
 
 pub returns : goal.returns
 unfolding share_above_one
 returns c =
     let u = c.args.unit.now in
-    else_or (within share_above_one_in u.occ) (within share_above_one_in u.agr) c.share_in_own.result c.share_in_own-2.result c.or.result c.or.ensures c.share_in_own.ensures c.share_in_own-2.ensures
+    else_or (within share_above_one_in u.occ) (within share_above_one_in u.agr) c.share_in_own.result
+    c.share_in_own-2.result c.or.result c.or.ensures c.share_in_own.ensures c.share_in_own-2.ensures

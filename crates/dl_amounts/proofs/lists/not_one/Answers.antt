@@ -2,36 +2,25 @@
 use Rattle.std.proofs.Common.{◌≡◌, List, Option, Some, None, ◌++◌, ◌∙◌, flat_map, append_assoc, refl, sym, ap}
 use Rattle.std.specs.Option.{option_or}
 use Rattle.dl_lexer.specs.declared.token.Span.{Span}
-use Rattle.dl_ast.specs.declared.ast.Atom.{Atom}
-use Rattle.dl_ast.specs.declared.ast.ListAst.{ListAst}
-use Rattle.dl_ast.specs.declared.ast.UnitAst.{UnitAst}
+use Rattle.dl_read.specs.declared.tree.ReadAtom.{ReadAtom}
+use Rattle.dl_read.specs.declared.tree.ReadList.{ReadList}
+use Rattle.dl_read.specs.declared.tree.ReadUnit.{ReadUnit}
 use Rattle.dl_read.specs.First.{first_in, each_of}
-use Rattle.dl_read.specs.Lists.{itself, lists_in_count, lists_in_severity, probs_in_count, prob_lists_of}
+use Rattle.dl_read.specs.Lists.{itself, probs_in_count, prob_lists_of}
 use Rattle.dl_amounts.specs.Rules.{list_not_one, not_one}
-use Rattle.dl_read.specs.Kept.{IsListRead}
 use Rattle.dl_read.proofs.Firsts.{both_in, same_place}
-use Rattle.dl_read.proofs.UnitLists.{all_left, all_right, lists_read}
 use Rattle.dl_amounts.proofs.lists.not_one.Goals as goal
 
-pub not_one_in_count-requires : goal.not_one_in_count-requires
-not_one_in_count-requires c =
-    let u = c.args.unit.now in
-    all_left IsListRead (lists_in_count u.count) (lists_in_severity u.sev) (lists_read u c.requires)
+module _ (u : ReadUnit) where
+  abbrev in_atoms : List ReadList
+  in_atoms = flat_map (λ (a : ReadAtom). each_of itself a.probs) u.sev.atoms
 
-pub not_one_in_severity-requires : goal.not_one_in_severity-requires
-not_one_in_severity-requires c =
-    let u = c.args.unit.now in
-    all_right IsListRead (lists_in_count u.count) (lists_in_severity u.sev) (lists_read u c.requires)
-
-module _ (u : UnitAst) where
-  abbrev in_atoms : List ListAst
-  in_atoms = flat_map (λ (a : Atom). each_of itself a.probs) u.sev.atoms
-
-  abbrev in_severity : List ListAst
+  abbrev in_severity : List ReadList
   in_severity = in_atoms ++ each_of itself u.sev.weights
 
   -- the probabilities of the count have a place, or none of them has
-  joined : (a r : Option Span) → a ≡ first_in list_not_one (probs_in_count u.count) → r ≡ option_or a (first_in list_not_one in_severity)
+  joined : (a r : Option Span) → a ≡ first_in list_not_one (probs_in_count u.count)
+      → r ≡ option_or a (first_in list_not_one in_severity)
       → r ≡ first_in list_not_one (prob_lists_of u)
   joined a r e p =
       both_in list_not_one (probs_in_count u.count) in_severity a (first_in list_not_one in_severity) r p e refl
@@ -39,11 +28,14 @@ module _ (u : UnitAst) where
 
 pub returns-in-Some : goal.returns-in-Some
 unfolding not_one
-returns-in-Some c = joined c.args.unit.now (Some c.in-Some.place) (Some c.in-Some.place) (sym c.in-Some.is ∙ c.in_ok-place.ensures) refl
+returns-in-Some c = joined c.args.unit.now (Some c.in-Some.place) (Some c.in-Some.place)
+    (sym c.in-Some.is ∙ c.in_ok-place.ensures) refl
 
 pub returns : goal.returns
 unfolding not_one
 returns c =
     let u = c.args.unit.now in
-    same_place c.not_one_in_severity.result (first_in list_not_one (in_severity u)) (first_in list_not_one (prob_lists_of u))
-    (joined u None (first_in list_not_one (in_severity u)) (sym c.in_default.is ∙ c.in_ok-place.ensures) refl) c.not_one_in_severity.ensures
+    same_place c.not_one_in_severity.result (first_in list_not_one (in_severity u))
+    (first_in list_not_one (prob_lists_of u))
+    (joined u None (first_in list_not_one (in_severity u)) (sym c.in_default.is ∙ c.in_ok-place.ensures) refl)
+    c.not_one_in_severity.ensures

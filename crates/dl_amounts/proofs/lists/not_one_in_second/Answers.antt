@@ -3,19 +3,15 @@ use Rattle.std.proofs.Common.{refl}
 use Rattle.dl_read.specs.Lists.{itself}
 use Rattle.dl_read.specs.First.{first_in, each_of}
 use Rattle.dl_amounts.specs.Rules.{list_not_one}
-use Rattle.dl_read.specs.Kept.{IsListRead}
 use Rattle.dl_read.proofs.Firsts.{one_in, held_in, missing_in, same_place}
-use Rattle.dl_read.proofs.UnitLists.{all_held}
 use Rattle.dl_amounts.proofs.lists.not_one_in_second.Goals as goal
-
-pub list_not_one-requires : goal.list_not_one-requires
-list_not_one-requires c = all_held IsListRead c.args.list.now c.in-Some.list c.in-Some.is c.requires
 
 pub returns-in-Some : goal.returns-in-Some
 returns-in-Some c =
     let l = c.in-Some.list in
     same_place c.list_not_one.result (list_not_one l) (first_in list_not_one (each_of itself c.args.list.now))
-    (held_in list_not_one itself c.args.list.now l (list_not_one l) c.in-Some.is (one_in list_not_one l (list_not_one l) refl)) c.list_not_one.ensures
+    (held_in list_not_one itself c.args.list.now l (list_not_one l) c.in-Some.is
+    (one_in list_not_one l (list_not_one l) refl)) c.list_not_one.ensures
 
 pub returns-in-None : goal.returns-in-None
 returns-in-None c = missing_in list_not_one itself c.args.list.now c.in-None.is

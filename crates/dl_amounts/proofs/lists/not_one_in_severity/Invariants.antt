@@ -1,5 +1,5 @@
 -- No atom before has probabilities that do not sum to 1.
-use Rattle.dl_ast.specs.declared.ast.Atom.{Atom}
+use Rattle.dl_read.specs.declared.tree.ReadAtom.{ReadAtom}
 use Rattle.dl_read.specs.First.{first_in, each_of}
 use Rattle.dl_read.specs.Lists.{itself}
 use Rattle.dl_amounts.specs.Rules.{list_not_one}
@@ -7,4 +7,5 @@ use Rattle.dl_read.proofs.Firsts.{NoneBefore}
 use Rattle.dl_amounts.proofs.lists.not_one_in_severity.Given as goal
 
 abbrev pub invariant-atoms : goal.invariant-atoms
-invariant-atoms l = NoneBefore (λ (a : Atom). first_in list_not_one (each_of itself a.probs)) l.atom-items l.atom-index
+invariant-atoms l = NoneBefore (λ (a : ReadAtom). first_in list_not_one (each_of itself a.probs))
+    l.atom-items l.atom-index

@@ -6,4 +6,4 @@ use Rattle.dl_amounts.specs.Severity.{atom_pairs}
 use Rattle.dl_amounts.proofs.severity.atom_severities.Given as goal
 
 abbrev pub invariant-atoms : goal.invariant-atoms
-invariant-atoms l = AllZip Means l.made.items (map (atom_pairs l.bs) (take l.atom-index l.fn.sev.atoms))
+invariant-atoms l = AllZip Means l.made.items (map atom_pairs (take l.atom-index l.fn.sev.atoms))

@@ -1,7 +1,7 @@
 -- The clause made is that of the text.
 use Rattle.std.proofs.Common.{◌∙◌, ◌^◌, ap, subst}
 use Rattle.dl_plan.specs.Severity.{probability, pairs_of}
-use Rattle.dl_plan.specs.Cession.{IsCession}
+use Rattle.dl_plan.specs.Clause.{IsClause}
 use Rattle.dl_sev.specs.Steps.{ceded_each}
 use Rattle.dl_amounts.specs.Clauses.{clause_of}
 use Rattle.dl_amounts.proofs.Near.{ceded_items_near, ceded_items_few}
@@ -15,9 +15,10 @@ returns-in-Ok-clause-means c =
 pub returns-in-Ok-clause-near : goal.returns-in-Ok-clause-near
 returns-in-Ok-clause-near c =
     let told = rw c.in-Some.is at c.in_ok-cede.ensures.value in
-    ceded_items_near (clause_of c.args.bs c.args.cession.now) c.args.sev.now c.in-Ok.made
-    (λ x. c.in-Ok.ensures.step x ∙ ap (λ clause. probability (ceded_each clause (pairs_of c.args.sev.now)) x) told) (2 ^ 20)
-    (subst IsCession told (rw c.in-Some.is at c.in_ok-cede.ensures.cession)) c.requires.whole c.requires.near
+    ceded_items_near (clause_of c.args.cession.now) c.args.sev.now c.in-Ok.made
+    (λ x. c.in-Ok.ensures.step x ∙ ap (λ clause. probability (ceded_each clause (pairs_of c.args.sev.now)) x) told)
+    (2 ^ 20)
+    (subst IsClause told (rw c.in-Some.is at c.in_ok-cede.ensures.cession)) c.requires.whole c.requires.near
 
 pub returns-in-Ok-clause-few : goal.returns-in-Ok-clause-few
 returns-in-Ok-clause-few c = ceded_items_few _ c.args.sev.now c.in-Ok.made c.in-Ok.ensures.step

@@ -3,49 +3,57 @@ use Rattle.std.proofs.Common.{◌≤◌, length, subst, arith}
 use Rattle.std.specs.Option.{IfSome}
 use Rattle.dl_plan.specs.Severity.{Means, pairs_of}
 use Rattle.dl_plan.specs.Fine.{IsWhole}
-use Rattle.dl_plan.specs.Cession.{kept}
+use Rattle.dl_plan.specs.Clause.{kept}
 use Rattle.dl_sev.specs.Steps.{ceded_each}
 use Rattle.dl_sev.proofs.Mapped.{if_ok}
 use Rattle.dl_amounts.specs.Clauses.{clause_of}
 use Rattle.dl_amounts.specs.Severity.{severity_in_layer}
 use Rattle.dl_amounts.specs.ClausesKept.{IsClauseLayered}
 use Rattle.dl_amounts.proofs.ClauseGrids.{occ_layered}
-use Rattle.dl_amounts.proofs.Parts.{sev_on_grid}
 use Rattle.dl_amounts.proofs.Near.{in_layer_near, in_layer_few}
 use Rattle.dl_amounts.proofs.Items.{items_in}
 use Rattle.dl_amounts.proofs.FineUnits.{shares_fine, support_whole, ceded_means}
 use Rattle.dl_amounts.proofs.severity.final_severity.Goals as goal
 
 pub ceded-requires-clause-layered : goal.ceded-requires-clause-layered
-ceded-requires-clause-layered c = subst (λ o. IfSome o (IsClauseLayered c.args.bs)) c.in-Some.is (occ_layered c.args.bs c.args.unit.now c.requires.fine.layered)
+ceded-requires-clause-layered c = subst (λ o. IfSome o IsClauseLayered) c.in-Some.is
+    (occ_layered c.args.unit.now c.requires.fine.layered)
 
 pub ceded-requires-clause-fine : goal.ceded-requires-clause-fine
-ceded-requires-clause-fine c = shares_fine c.args.bs c.args.unit.now c.requires.fine c.in-Some.cession c.in-Some.is
+ceded-requires-clause-fine c = shares_fine c.args.unit.now c.requires.fine c.in-Some.cession c.in-Some.is
 
 pub ceded-requires-clause-whole : goal.ceded-requires-clause-whole
 ceded-requires-clause-whole c =
-    items_in c.args.layered (severity_in_layer c.args.bs c.args.unit.now) c.requires.layered (λ x. IsWhole (kept (clause_of c.args.bs c.in-Some.cession) x))
-    (support_whole c.args.bs c.args.unit.now c.requires.fine c.in-Some.cession c.in-Some.is)
+    items_in c.args.layered (severity_in_layer c.args.unit.now) c.requires.layered
+    (λ x. IsWhole (kept (clause_of c.in-Some.cession) x))
+    (support_whole c.args.unit.now c.requires.fine c.in-Some.cession c.in-Some.is)
 
 pub ceded-requires-clause-near : goal.ceded-requires-clause-near
 ceded-requires-clause-near c =
-    in_layer_near c.args.bs c.args.unit.now.layer c.args.unit.now.sev (sev_on_grid c.args.bs c.args.unit.now c.requires.fine.layered.on_grid) c.args.layered c.requires.layered
+    in_layer_near c.args.unit.now.layer c.args.unit.now.sev
+    c.requires.fine.layered.weighted.grid.sev c.args.layered c.requires.layered
 
 pub returns-in-Some-clause-means : goal.returns-in-Some-clause-means
 returns-in-Some-clause-means c =
-    if_ok c.ceded.result (λ sev. Means sev (ceded_each (clause_of c.args.bs c.in-Some.cession) (pairs_of c.args.layered))) _
-    (λ sev means. ceded_means c.args.bs c.args.unit.now.occ c.in-Some.cession c.args.layered sev (severity_in_layer c.args.bs c.args.unit.now) c.in-Some.is c.requires.layered means)
+    if_ok c.ceded.result (λ sev. Means sev (ceded_each (clause_of c.in-Some.cession)
+    (pairs_of c.args.layered))) _
+    (λ sev means. ceded_means c.args.unit.now.occ c.in-Some.cession c.args.layered sev
+    (severity_in_layer c.args.unit.now) c.in-Some.is c.requires.layered means)
     c.ceded.ensures.means
 
 pub returns-in-Some-clause-few : goal.returns-in-Some-clause-few
 returns-in-Some-clause-few c =
-    let layered = in_layer_few c.args.bs c.args.unit.now.layer c.args.unit.now.sev (sev_on_grid c.args.bs c.args.unit.now c.requires.fine.layered.on_grid) c.args.layered c.requires.layered in
-    if_ok c.ceded.result (λ sev. length sev.items ≤ length c.args.layered.items) _ (λ sev h. omega (arith, h, layered)) c.ceded.ensures.few
+    let layered = in_layer_few c.args.unit.now.layer c.args.unit.now.sev
+    c.requires.fine.layered.weighted.grid.sev c.args.layered c.requires.layered in
+    if_ok c.ceded.result (λ sev. length sev.items ≤ length c.args.layered.items) _
+    (λ sev h. omega (arith, h, layered)) c.ceded.ensures.few
 
 pub returns-in-None-clause-near : goal.returns-in-None-clause-near
 returns-in-None-clause-near c =
-    in_layer_near c.args.bs c.args.unit.now.layer c.args.unit.now.sev (sev_on_grid c.args.bs c.args.unit.now c.requires.fine.layered.on_grid) c.args.layered c.requires.layered
+    in_layer_near c.args.unit.now.layer c.args.unit.now.sev
+    c.requires.fine.layered.weighted.grid.sev c.args.layered c.requires.layered
 
 pub returns-in-None-clause-few : goal.returns-in-None-clause-few
 returns-in-None-clause-few c =
-    in_layer_few c.args.bs c.args.unit.now.layer c.args.unit.now.sev (sev_on_grid c.args.bs c.args.unit.now c.requires.fine.layered.on_grid) c.args.layered c.requires.layered
+    in_layer_few c.args.unit.now.layer c.args.unit.now.sev
+    c.requires.fine.layered.weighted.grid.sev c.args.layered c.requires.layered

@@ -1,0 +1,293 @@
+-- The parts of a unit in whole buckets, and their flaws.
+use Rattle.std.proofs.Common.{ℕ, ◌≡◌, ◌∙◌, ◌+◌, ◌*◌, ◌/◌, ◌%◌, ◌<◌, ◌≤◌, ◌||◌, List, [], ◌∷◌, ◌++◌, map, zip, take, length, get_or, min, nat_eq, nat_lt, not, Bool, true, false, Option, Some, None, refl, sym, ap, ap₂, subst, arith, mul-pos, inl, inr}
+use Rattle.std.proofs.lemmas.Bool.{cases_lt, lt-ltb, ltb-true, eq-eqb, eqb-true}
+use Rattle.std.proofs.lemmas.List.{map-append, take_more, take_all}
+use Rattle.dl_limits.specs.Limits.{most_amount}
+use Rattle.dl_exact.specs.Fraction.{Fraction, whole, ◌over◌, ◌<ℚ◌}
+use Rattle.dl_exact.proofs.Over.{over_lt, lt_over}
+use Rattle.dl_exact.proofs.Parts.{num_pos, quotient_is, whole_num}
+use Rattle.dl_sev.specs.Buckets.{buckets}
+use Rattle.dl_sev.proofs.Whole.{divides_whole, whole_divides, quotient_whole, whole_lt}
+use Rattle.dl_lexer.specs.declared.token.Span.{Span}
+use Rattle.dl_read.specs.declared.tree.ReadList.{ReadList}
+use Rattle.dl_read.specs.declared.tree.ReadAtom.{ReadAtom}
+use Rattle.dl_read.specs.declared.tree.ReadLayer.{ReadLayer}
+use Rattle.dl_read.specs.declared.tree.ReadSev.{ReadSev}
+use Rattle.dl_read.specs.declared.tree.ReadCeded.{ReadCeded}
+use Rattle.dl_read.specs.declared.tree.ReadClause.{ReadClause}
+use Rattle.dl_read.specs.First.{◌else◌, at_if, within, first_in}
+use Rattle.dl_read.specs.Lists.{is_whole, is_above}
+use Rattle.dl_read.proofs.Firsts.{first-append, one_in}
+use Rattle.dl_read.proofs.Nothing.{else_first, else_second, not_at, not_then}
+use Rattle.dl_amounts.specs.declared.grid.GridAtom.{GridAtom}
+use Rattle.dl_amounts.specs.declared.grid.GridCeded.{GridCeded}
+use Rattle.dl_amounts.specs.declared.grid.GridLayer.{GridLayer}
+use Rattle.dl_amounts.specs.declared.grid.GridShare.{GridShare}
+use Rattle.dl_amounts.specs.declared.flaws.Flaws.{Flaws}
+use Rattle.dl_amounts.specs.declared.flaws.Gridded.{Gridded}
+use Rattle.dl_amounts.specs.Flaws.{flaws_of, flaws_else, IsClean, IsGridded}
+use Rattle.dl_amounts.specs.Grid.{number_of, grid_atom, grid_severity, grid_layer, grid_share, grid_ceded, grid_clause}
+use Rattle.dl_amounts.specs.Rules.{list_fails, limit_fails, layer_fails, clause_fails}
+use Rattle.dl_amounts.proofs.Positive.{zip-more}
+use Rattle.dl_amounts.proofs.Values.{agree}
+
+-- ---- an amount
+
+yes_above : (x y : Fraction) → y <ℚ x → is_above x y ≡ true
+unfolding ◌<ℚ◌
+yes_above x y h = lt-ltb (y.num * x.den) (x.num * y.den) h
+
+above_yes : (x y : Fraction) → is_above x y ≡ true → y <ℚ x
+unfolding ◌<ℚ◌
+above_yes x y h = ltb-true (y.num * x.den) (x.num * y.den) h
+
+-- a whole number that is not above the most
+not_far : (q : ℕ) (x : Fraction) → x ≡ whole q → is_above x (whole most_amount) ≡ false → q ≤ most_amount
+not_far q x e near = elim (cases_lt most_amount q) [
+  | inl far ↦ absurd (cc (
+    near,
+    yes_above x (whole most_amount)
+        (subst (λ y. whole most_amount <ℚ y) (sym e) (whole_lt most_amount q far)),
+  ))
+  | inr few ↦ few
+]
+
+-- n over e is the numerator and the denominator of an amount, m over d those of the bucket size
+module _ (x bs : Fraction) (n d e m : ℕ) (h : whole 0 <ℚ bs) (pn : n ≡ x.num) (pd : d ≡ bs.den) (pe : e ≡ x.den)
+    (pm : m ≡ bs.num) where
+  same : buckets bs x ≡ (n * d) over (e * m)
+  same = rw (pn, pd, pe, pm) (sym (quotient_is x bs))
+
+  pos : 0 < e * m
+  pos = mul-pos (subst (λ k. 0 < k) (sym pe) x.positive) (subst (λ k. 0 < k) (sym pm) (num_pos bs h))
+
+  off_grid_is : not (nat_eq (n * d % (e * m)) 0) ≡ not (is_whole (buckets bs x))
+  off_grid_is = ap not (agree _ _ (λ t. eq-eqb (buckets bs x).den 1 (divides_whole x bs n d e m h pn pd pe pm t))
+      (λ t. whole_divides x bs n d e m h pn pd pe pm (eqb-true (buckets bs x).den 1 t)))
+
+  far : whole most_amount <ℚ buckets bs x → e * m * 1048576 < n * d
+  far above = omega (
+    arith,
+    lt_over most_amount 1 (n * d) (e * m) (omega arith) pos (subst (λ y. whole most_amount <ℚ y) same above),
+  )
+
+  is_far : e * m * 1048576 < n * d → whole most_amount <ℚ buckets bs x
+  is_far more = subst (λ y. whole most_amount <ℚ y) (sym same)
+      (over_lt most_amount 1 (n * d) (e * m) (omega arith) pos (omega (arith, more)))
+
+  too_far_is : nat_lt (e * m * 1048576) (n * d) ≡ is_above (buckets bs x) (whole most_amount)
+  too_far_is = agree _ _ (λ t. yes_above (buckets bs x) (whole most_amount) (is_far (ltb-true _ _ t)))
+      (λ t. lt-ltb _ _ (far (above_yes (buckets bs x) (whole most_amount) t)))
+
+  number_is : (q : ℕ) → q ≡ min (n * d / (e * m)) 1048576 → not (is_whole (buckets bs x)) ≡ false
+      → is_above (buckets bs x) (whole most_amount) ≡ false → q ≡ number_of bs x
+  number_is q is on_grid near =
+      let k : ℕ = n * d / (e * m) in
+      let value : buckets bs x ≡ whole k =
+      quotient_whole x bs n d e m h pn pd pe pm (eqb-true (buckets bs x).den 1 (not_then _ on_grid)) in
+      is ∙ within_most k (not_far k (buckets bs x) value near)
+      ∙ sym (ap (λ (y : Fraction). y.num) value ∙ whole_num k)
+    where
+      within_most : (k : ℕ) → k ≤ 1048576 → min k 1048576 ≡ k
+      within_most k h = omega (arith, h)
+
+  pub amount_gridded : (place : Span) (q : ℕ) (off too : Option Span) → q ≡ min (n * d / (e * m)) 1048576
+      → off ≡ at_if (not (nat_eq (n * d % (e * m)) 0)) place → too ≡ at_if (nat_lt (e * m * 1048576) (n * d)) place
+      → IsGridded (λ test. at_if (test (buckets bs x)) place) (number_of bs x)
+      (record { part = q; flaws = record { off_grid = off; too_far = too } })
+  amount_gridded place q off too is off_is too_is =
+      let off_told : off ≡ at_if (not (is_whole (buckets bs x))) place = off_is ∙ ap (λ b. at_if b place) off_grid_is in
+      let far_told : too ≡ at_if (is_above (buckets bs x) (whole most_amount)) place =
+      too_is ∙ ap (λ b. at_if b place) too_far_is in
+      record {
+        flaws = ap₂ (λ a b. record { off_grid = a; too_far = b }) off_told far_told;
+        part = λ clean. number_is q is (not_at _ place (sym off_told ∙ clean.on_grid))
+            (not_at _ place (sym far_told ∙ clean.near));
+      }
+
+-- ---- parts that are made of others
+
+pub first_clean : (a b : Flaws) → IsClean (flaws_else a b) → IsClean a
+first_clean a b clean = record {
+  on_grid = else_first a.off_grid b.off_grid clean.on_grid;
+  near = else_first a.too_far b.too_far clean.near;
+}
+
+pub second_clean : (a b : Flaws) → IsClean (flaws_else a b) → IsClean b
+second_clean a b clean = record {
+  on_grid = else_second a.off_grid b.off_grid clean.on_grid;
+  near = else_second a.too_far b.too_far clean.near;
+}
+
+-- places that are the same for each test
+pub flaws_same : (f g : (Fraction → Bool) → Option Span) → ((test : Fraction → Bool) → f test ≡ g test)
+    → flaws_of f ≡ flaws_of g
+flaws_same f g e = ap₂ (λ a b. record { off_grid = a; too_far = b }) (e (λ x. not (is_whole x)))
+    (e (λ x. is_above x (whole most_amount)))
+
+-- two parts of one
+pub both_gridded : {A B C : Type 0} (make : A → B → C) (f g h : (Fraction → Bool) → Option Span) (x : A) (y : B)
+    (a : Gridded A) (b : Gridded B) (flaws : Flaws) → IsGridded f x a → IsGridded g y b
+    → ((test : Fraction → Bool) → (f test else g test) ≡ h test) → flaws ≡ flaws_else a.flaws b.flaws
+    → IsGridded h (make x y) (record { part = make a.part b.part; flaws = flaws })
+both_gridded make f g h x y a b flaws first second places is = record {
+  flaws = is ∙ ap₂ flaws_else first.flaws second.flaws ∙ flaws_same (λ test. f test else g test) h places;
+  part = λ clean.
+      let both : IsClean (flaws_else a.flaws b.flaws) = subst IsClean is clean in
+      ap₂ make (first.part (first_clean a.flaws b.flaws both)) (second.part (second_clean a.flaws b.flaws both));
+}
+
+-- the limit and the attachment of a layer have one place
+pub layer_places : (bs : Fraction) (l : ReadLayer) (test : Fraction → Bool)
+    → (within (λ x. at_if (test (buckets bs x)) l.span) l.limit else at_if (test (buckets bs l.attach)) l.span)
+    ≡ layer_fails test bs l
+unfolding layer_fails
+layer_places bs l test = go l.limit
+  where
+    go : (o : Option Fraction)
+        → (within (λ x. at_if (test (buckets bs x)) l.span) o else at_if (test (buckets bs l.attach)) l.span)
+        ≡ at_if (limit_fails test bs o || test (buckets bs l.attach)) l.span
+    go None = refl
+    go (Some n) = either (test (buckets bs n))
+      where
+        either : (b : Bool) → (at_if b l.span else at_if (test (buckets bs l.attach)) l.span)
+            ≡ at_if (b || test (buckets bs l.attach)) l.span
+        either true = refl
+        either false = refl
+
+-- ---- one part after another
+
+module _ {X A : Type 0} (fails : (Fraction → Bool) → X → Option Span) (g : X → A) where
+  pub none_gridded : (made : List A) (flaws : Flaws) → made ≡ [] → flaws.off_grid ≡ None → flaws.too_far ≡ None
+      → IsGridded (λ test. first_in (fails test) []) (map g []) (record { part = made; flaws = flaws })
+  unfolding first_in
+  none_gridded made flaws none off far = record {
+    flaws = ap₂ (λ a b. record { off_grid = a; too_far = b }) off far;
+    part = λ clean. none;
+  }
+
+  pub more_gridded : (xs : List X) (x : X) (made new : List A) (one : Gridded A) (flaws all : Flaws)
+      → IsGridded (λ test. first_in (fails test) xs) (map g xs) (record { part = made; flaws = flaws })
+      → IsGridded (λ test. fails test x) (g x) one → new ≡ made ++ one.part ∷ [] → all ≡ flaws_else flaws one.flaws
+      → IsGridded (λ test. first_in (fails test) (xs ++ x ∷ [])) (map g (xs ++ x ∷ []))
+      (record { part = new; flaws = all })
+  more_gridded xs x made new one flaws all before here pushed is =
+      let ones : IsGridded (λ test. first_in (fails test) (x ∷ [])) (g x) one = record {
+        flaws = here.flaws ∙ flaws_same (λ test. fails test x) (λ test. first_in (fails test) (x ∷ []))
+            (λ test. one_in (fails test) x (fails test x) refl);
+        part = here.part;
+      } in
+      let both = both_gridded (λ ys y. ys ++ y ∷ []) (λ test. first_in (fails test) xs)
+      (λ test. first_in (fails test) (x ∷ [])) (λ test. first_in (fails test) (xs ++ x ∷ [])) (map g xs) (g x)
+      (record { part = made; flaws = flaws }) one all before ones (λ test. sym (first-append (fails test) xs
+      (x ∷ []))) is in
+      record { flaws = both.flaws; part = λ clean. pushed ∙ both.part clean ∙ sym (map-append g xs (x ∷ [])) }
+
+  -- a loop over places in a list
+  pub next_gridded : (xs : List X) (i : ℕ) (x : X) (made new : List A) (one : Gridded A) (flaws all : Flaws)
+      → i < length xs → x ≡ get_or xs i x
+      → IsGridded (λ test. first_in (fails test) (take i xs)) (map g (take i xs))
+      (record { part = made; flaws = flaws })
+      → IsGridded (λ test. fails test x) (g x) one → new ≡ made ++ one.part ∷ [] → all ≡ flaws_else flaws one.flaws
+      → IsGridded (λ test. first_in (fails test) (take (i + 1) xs)) (map g (take (i + 1) xs))
+      (record { part = new; flaws = all })
+  next_gridded xs i x made new one flaws all lt at before here pushed is =
+      subst (λ ys. IsGridded (λ test. first_in (fails test) ys) (map g ys) (record { part = new; flaws = all }))
+      (sym (take_more xs i x lt ∙ ap (λ y. take i xs ++ y ∷ []) (sym at)))
+      (more_gridded (take i xs) x made new one flaws all before here pushed is)
+
+  pub all_gridded : (xs zs : List X) (made list : List A) (flaws : Flaws) → zs ≡ xs → list ≡ made
+      → IsGridded (λ test. first_in (fails test) zs) (map g zs) (record { part = made; flaws = flaws })
+      → IsGridded (λ test. first_in (fails test) xs) (map g xs) (record { part = list; flaws = flaws })
+  all_gridded xs zs made list flaws same is h =
+      subst (λ ys. IsGridded (λ test. first_in (fails test) xs) (map g xs) (record { part = ys; flaws = flaws }))
+      (sym is)
+      (subst (λ ys. IsGridded (λ test. first_in (fails test) ys) (map g ys)
+      (record { part = made; flaws = flaws })) same h)
+
+-- ---- the values of a list, each with its place
+
+abbrev pub value_fails : Fraction → (Fraction → Bool) → Fraction × Span → Option Span
+value_fails bs test pair = at_if (test (buckets bs pair.0)) pair.1
+
+abbrev pub value_number : Fraction → Fraction × Span → ℕ
+value_number bs pair = number_of bs pair.0
+
+pub next_amount : (bs : Fraction) (vs : List Fraction) (ps : List Span) (i : ℕ) (x : Fraction) (d : Span)
+    (made new : List ℕ) (one : Gridded ℕ) (flaws all : Flaws) → i < length vs → length vs ≡ length ps
+    → x ≡ get_or vs i x
+    → IsGridded (λ test. first_in (value_fails bs test) (zip (take i vs) (take i ps)))
+    (map (value_number bs) (zip (take i vs) (take i ps))) (record { part = made; flaws = flaws })
+    → IsGridded (λ test. at_if (test (buckets bs x)) (get_or ps i d)) (number_of bs x) one → new ≡ made ++ one.part ∷ []
+    → all ≡ flaws_else flaws one.flaws
+    → IsGridded (λ test. first_in (value_fails bs test) (zip (take (i + 1) vs) (take (i + 1) ps)))
+    (map (value_number bs) (zip (take (i + 1) vs) (take (i + 1) ps))) (record { part = new; flaws = all })
+next_amount bs vs ps i x d made new one flaws all lt same at before here pushed is =
+    subst (λ ys. IsGridded (λ test. first_in (value_fails bs test) ys) (map (value_number bs) ys)
+    (record { part = new; flaws = all }))
+    (sym (zip-more vs ps i x d lt same ∙ ap (λ y. zip (take i vs) (take i ps) ++ (y, get_or ps i d) ∷ []) (sym at)))
+    (more_gridded (value_fails bs) (value_number bs) (zip (take i vs) (take i ps)) (x, get_or ps i d) made new one flaws
+    all before here pushed is)
+
+pub all_amounts : (bs : Fraction) (l : ReadList) (vs : List Fraction) (ps : List Span) (i : ℕ) (made list : List ℕ)
+    (flaws : Flaws) → vs ≡ l.values → ps ≡ l.places → length l.places ≡ length l.values → length vs ≤ i → list ≡ made
+    → IsGridded (λ test. first_in (value_fails bs test) (zip (take i vs) (take i ps)))
+    (map (value_number bs) (zip (take i vs) (take i ps))) (record { part = made; flaws = flaws })
+    → IsGridded (λ test. list_fails test bs l) (map (number_of bs) l.values) (record { part = list; flaws = flaws })
+unfolding list_fails
+all_amounts bs l vs ps i made list flaws values places same le is h =
+    let whole_list : zip (take i vs) (take i ps) ≡ zip l.values l.places =
+    ap₂ zip (take_all i vs le ∙ values)
+    (take_all i ps (omega (arith, le, same, ap length values, ap length places)) ∙ places) in
+    let told = all_gridded (value_fails bs) (value_number bs) (zip l.values l.places) (zip (take i vs) (take i ps)) made
+    list flaws whole_list is h in
+    record { flaws = told.flaws; part = λ clean. told.part clean ∙ numbers l.values l.places (sym same) }
+  where
+    numbers : (xs : List Fraction) (qs : List Span) → length xs ≡ length qs
+        → map (value_number bs) (zip xs qs) ≡ map (number_of bs) xs
+    numbers [] qs e = refl
+    numbers (x ∷ xs) [] e = absurd (omega (arith, e))
+    numbers (x ∷ xs) (q ∷ qs) e = ap (λ ns. number_of bs x ∷ ns) (numbers xs qs (omega (arith, e)))
+
+-- ---- the layers of a clause
+
+pub ceded_gridded : (bs : Fraction) (c : ReadCeded) (share : GridShare) (layer : Gridded GridLayer)
+    → share ≡ grid_share c.share c.layer.limit
+    → IsGridded (λ test. layer_fails test bs c.layer) (grid_layer bs c.layer) layer
+    → IsGridded (λ test. layer_fails test bs c.layer) (grid_ceded bs c)
+    (record { part = record { share = share; layer = layer.part; span = c.span }; flaws = layer.flaws })
+ceded_gridded bs c share layer is told = record {
+  flaws = told.flaws;
+  part = λ clean. ap₂ (λ (s : GridShare) (l : GridLayer). record { share = s; layer = l; span = c.span }) is
+      (told.part clean);
+}
+
+-- ---- a clause, and a severity
+
+pub clause_gridded : (bs : Fraction) (c : ReadClause) (zs : List ReadCeded) (layers : Gridded (List GridCeded))
+    → zs ≡ c.layers
+    → IsGridded (λ test. first_in (λ (x : ReadCeded). layer_fails test bs x.layer) zs) (map (grid_ceded bs) zs) layers
+    → IsGridded (λ test. clause_fails test bs c) (grid_clause bs c)
+    (record { part = record { net = c.net; layers = layers.part; span = c.span }; flaws = layers.flaws })
+unfolding clause_fails
+clause_gridded bs c zs layers same told =
+    let all = all_gridded (λ test (x : ReadCeded). layer_fails test bs x.layer) (grid_ceded bs) c.layers zs layers.part
+    layers.part layers.flaws same refl told in
+    record {
+      flaws = all.flaws;
+      part = λ clean. ap (λ (ls : List GridCeded). record { net = c.net; layers = ls; span = c.span }) (all.part clean);
+    }
+
+pub severity_gridded : (bs : Fraction) (s : ReadSev) (zs : List ReadAtom) (atoms : Gridded (List GridAtom))
+    → zs ≡ s.atoms
+    → IsGridded (λ test. first_in (λ (a : ReadAtom). list_fails test bs a.values) zs) (map (grid_atom bs) zs) atoms
+    → IsGridded (λ test. first_in (λ (a : ReadAtom). list_fails test bs a.values) s.atoms) (grid_severity bs s)
+    (record { part = record { atoms = atoms.part; weights = s.weights; bang = s.bang }; flaws = atoms.flaws })
+severity_gridded bs s zs atoms same told =
+    let all = all_gridded (λ test (a : ReadAtom). list_fails test bs a.values) (grid_atom bs) s.atoms zs atoms.part
+    atoms.part atoms.flaws same refl told in
+    record {
+      flaws = all.flaws;
+      part = λ clean. ap (λ (xs : List GridAtom). record { atoms = xs; weights = s.weights; bang = s.bang })
+          (all.part clean);
+    }

@@ -1,0 +1,34 @@
+-- One layer more.
+use Rattle.std.proofs.lemmas.List.{take_all}
+use Rattle.dl_read.specs.declared.tree.ReadCeded.{ReadCeded}
+use Rattle.dl_amounts.specs.Grid.{grid_ceded}
+use Rattle.dl_amounts.specs.Rules.{layer_fails}
+use Rattle.dl_amounts.proofs.Gridding.{none_gridded, next_gridded, all_gridded, ceded_gridded}
+use Rattle.dl_amounts.proofs.buckets.grid_layers.Goals as goal
+
+pub layers-init : goal.layers-init
+layers-init c =
+    none_gridded (λ test (x : ReadCeded). layer_fails test c.args.bs x.layer) (grid_ceded c.args.bs)
+    c.new-made.result.items c.none-flaws.result c.new-made.ensures.items c.none-flaws.ensures.off_grid
+    c.none-flaws.ensures.too_far
+
+pub layers-preserved : goal.layers-preserved
+layers-preserved c =
+    next_gridded (λ test (x : ReadCeded). layer_fails test c.args.bs x.layer) (grid_ceded c.args.bs) c.args.layers.now
+    c.layers.ceded-index c.ceded-item.result c.layers.made.items c.push.new.self.items
+    (record {
+      part = record {
+        share = c.grid_share.result;
+        layer = c.grid_layer-one.result.part;
+        span = c.ceded-item.result.span;
+      };
+      flaws = c.grid_layer-one.result.flaws;
+    }) c.layers.flaws c.or-flaws.result c.layers-test.true c.ceded-item.is c.layers.invariant
+    (ceded_gridded c.args.bs c.ceded-item.result c.grid_share.result c.grid_layer-one.result c.grid_share.ensures
+    c.grid_layer-one.ensures) c.in_ok-push.ensures.items c.or-flaws.ensures
+
+pub returns : goal.returns
+returns c =
+    all_gridded (λ test (x : ReadCeded). layer_fails test c.args.bs x.layer) (grid_ceded c.args.bs) c.args.layers.now _
+    c.layers.made.items c.from_vec.result c.layers.flaws
+    (take_all c.layers.ceded-index c.args.layers.now c.layers-test.false) c.from_vec.ensures c.layers.invariant

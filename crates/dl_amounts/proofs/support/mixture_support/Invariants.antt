@@ -1,8 +1,0 @@
--- The amounts of positive probability of the atoms that were read.
-use Rattle.std.proofs.Common.{◌≡◌}
-use Rattle.dl_amounts.specs.Severity.{atom_pairs, support}
-use Rattle.dl_amounts.proofs.Positive.{mixed_to}
-use Rattle.dl_amounts.proofs.support.mixture_support.Given as goal
-
-abbrev pub invariant-atoms : goal.invariant-atoms
-invariant-atoms l = l.made.items ≡ support (mixed_to (atom_pairs l.bs) l.weights.items l.fn.sev.atoms l.at)

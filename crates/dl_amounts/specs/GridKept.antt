@@ -1,0 +1,47 @@
+-- What a unit in whole buckets keeps: small amounts, and lists, severities and clauses of some
+-- parts, but not too many. Lists that belong together are equally long, and fine probabilities sum
+-- to 1.
+use Rattle.std.specs.Prelude.{◌≡◌, ◌<◌, ◌≤◌, length, All, IfSome, IsSome, None, false}
+use Rattle.dl_limits.specs.Limits.{most_amount, most_atoms, most_layers, most_values}
+use Rattle.dl_read.specs.Lists.{is_not_one}
+use Rattle.dl_read.specs.Kept.{IsListRead, IsCountRead}
+use Rattle.dl_amounts.specs.declared.grid.GridAtom.{GridAtom}
+use Rattle.dl_amounts.specs.declared.grid.GridSev.{GridSev}
+use Rattle.dl_amounts.specs.declared.grid.GridLayer.{GridLayer}
+use Rattle.dl_amounts.specs.declared.grid.GridClause.{GridClause}
+use Rattle.dl_amounts.specs.declared.grid.GridUnit.{GridUnit}
+use Rattle.dl_amounts.specs.Severity.{prob_lists}
+use Rattle.dl_amounts.specs.Rules.{count_lengths}
+
+-- 1 to 1,024 amounts, each with one probability
+pub record IsGridAtom (a : GridAtom) : Type 0 where
+  pub some : 0 < length a.amounts
+  pub few : length a.amounts ≤ most_values
+  pub near : All (λ amount. amount ≤ most_amount) a.amounts
+  pub probs : IfSome a.probs (λ probs. length probs.values ≡ length a.amounts)
+
+-- 1 to 64 atoms; several have weights
+pub record IsGridSev (s : GridSev) : Type 0 where
+  pub some : 0 < length s.atoms
+  pub few : length s.atoms ≤ most_atoms
+  pub atoms : All IsGridAtom s.atoms
+  pub weights : IfSome s.weights IsListRead
+  pub several : 1 < length s.atoms → IsSome s.weights
+
+pub record IsGridLayer (l : GridLayer) : Type 0 where
+  pub limit : IfSome l.limit (λ limit. limit ≤ most_amount)
+  pub attach : l.attach ≤ most_amount
+
+pub record IsGridClause (c : GridClause) : Type 0 where
+  pub some : 0 < length c.layers
+  pub few : length c.layers ≤ most_layers
+  pub layers : All (λ l. IsGridLayer l.layer) c.layers
+
+pub record IsGridUnit (u : GridUnit) : Type 0 where
+  pub count : IsCountRead u.count
+  pub paired : count_lengths u.count ≡ None
+  pub layer : IfSome u.layer IsGridLayer
+  pub sev : IsGridSev u.sev
+  pub occ : IfSome u.occ IsGridClause
+  pub agr : IfSome u.agr IsGridClause
+  pub one : All (λ l. is_not_one l.values ≡ false) (prob_lists u)

@@ -1,0 +1,87 @@
+//! A unit in whole buckets.
+
+use dl_frac::Frac;
+use dl_lexer::Span;
+use dl_plan::Many;
+use dl_read::{ReadCount, ReadList};
+
+/// A discrete severity.
+#[derive(Drop)]
+pub struct GridAtom {
+    /// The amounts in buckets, 1 to 1,024 of them, each at most 2^20.
+    pub amounts: Many<u32>,
+    /// The probability of each; where there is none they are equally likely.
+    pub probs: Option<ReadList>,
+}
+
+/// The severity: one atom, or a mixture of several.
+#[derive(Drop)]
+pub struct GridSev {
+    /// The atoms, 1 to 64 of them.
+    pub atoms: Many<GridAtom>,
+    /// The weight of each atom.
+    pub weights: Option<ReadList>,
+    /// Whether a final `!` keeps the severity from being conditioned on exceeding the attachment.
+    pub bang: bool,
+}
+
+/// The part of a loss above the attachment, up to the limit.
+#[derive(Clone, Copy)]
+pub struct GridLayer {
+    /// The most that the layer pays, in buckets, at most 2^20; none where there is no limit.
+    pub limit: Option<u32>,
+    /// Where the layer attaches, in buckets, at most 2^20.
+    pub attach: u32,
+    /// The place of the layer.
+    pub span: Span,
+}
+
+/// How much of a layer is ceded.
+#[derive(Clone, Copy)]
+pub enum GridShare {
+    /// The whole layer.
+    Whole,
+    /// This share of the layer.
+    So(Frac),
+    /// This amount of money, out of this limit in money; none where there is no limit.
+    Po(Frac, Option<Frac>),
+}
+
+/// A layer of which a share is ceded.
+#[derive(Clone, Copy)]
+pub struct GridCeded {
+    /// How much of the layer is ceded.
+    pub share: GridShare,
+    /// The layer.
+    pub layer: GridLayer,
+    /// The place of both.
+    pub span: Span,
+}
+
+/// A reinsurance clause, of each claim or of the unit's sum.
+#[derive(Drop)]
+pub struct GridClause {
+    /// Whether the unit keeps what is not ceded; else it keeps what is ceded.
+    pub net: bool,
+    /// The ceded layers, 1 to 16 of them.
+    pub layers: Many<GridCeded>,
+    /// The place of the clause.
+    pub span: Span,
+}
+
+/// One unit.
+#[derive(Drop)]
+pub struct GridUnit {
+    /// The place of the unit's name.
+    pub name: Span,
+    /// How many claims there are.
+    pub count: ReadCount,
+    /// The layer of each claim, where there is one.
+    pub layer: Option<GridLayer>,
+    /// The severity of one claim.
+    pub sev: GridSev,
+    /// The reinsurance of each claim.
+    pub occ: Option<GridClause>,
+    /// The reinsurance of the unit's sum.
+    pub agr: Option<GridClause>,
+}
