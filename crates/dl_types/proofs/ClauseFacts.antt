@@ -1,5 +1,5 @@
--- What an aggregate clause of a valid plan keeps: its multiples are whole numbers, and its horizon is small. The greatest common divisor
--- of a severity's amounts is that of the amounts of positive probability of what it means.
+-- What an aggregate clause of a valid plan keeps: its multiples are whole numbers, and its horizon is small. The
+-- greatest common divisor of a severity's amounts is that of the amounts of positive probability of what it means.
 use Prim.Native.Nat.{◌∣◌}
 use Rattle.std.proofs.Common.{ℕ, ◌≡◌, ◌∙◌, ◌+◌, ◌*◌, ◌==◌, ◌⊎◌, fold, get_or, true, cond, List, [], ◌∷◌, Some, None, refl, sym, ap, subst, arith, inl, inr}
 use Rattle.std.specs.List.{All}
@@ -7,20 +7,20 @@ use Rattle.std.proofs.lemmas.Bool.Decides.{eqb_tells}
 use Rattle.std.proofs.lemmas.Nat.Gcd.{dvd_refl, dvd_trans, dvd-zero, dvd_antisymm}
 use Rattle.std.proofs.lemmas.List.Elements.{All-nil, All-cons, All-head, All-tail}
 use Rattle.std.proofs.lemmas.List.Sums.{sum_by-cons}
-use Rattle.dl_exact.specs.Fraction.{Fraction, whole, ◌over◌, ◌<ℚ◌}
+use Rattle.dl_exact.specs.Fraction.{whole, ◌over◌, ◌<ℚ◌}
 use Rattle.dl_exact.specs.Gcd.{gcd}
 use Rattle.dl_exact.proofs.GcdLaws.{gcd_is}
 use Rattle.dl_exact.proofs.Laws.{lt_not_le, le_refl}
 use Rattle.dl_plan.specs.Fine.{IsWhole}
-use Rattle.dl_plan.specs.Cession.{kept, IsCession}
+use Rattle.dl_plan.specs.Clause.{kept, IsClause}
 use Rattle.dl_plan.specs.declared.item.Item.{Item}
 use Rattle.dl_plan.specs.declared.severity.Sev.{Sev}
 use Rattle.dl_plan.specs.Weighted.{weight_at, common_amount}
 use Rattle.dl_plan.specs.Severity.{Pairs, Means}
 use Rattle.dl_exact.proofs.Denominators.{over_zero as zero_over}
 use Rattle.dl_plan.proofs.Means.{severity_total as total_pos}
-use Rattle.dl_ast.specs.declared.ast.Cession.{Cession}
-use Rattle.dl_ast.specs.declared.ast.UnitAst.{UnitAst}
+use Rattle.dl_amounts.specs.declared.grid.GridClause.{GridClause}
+use Rattle.dl_amounts.specs.declared.grid.GridUnit.{GridUnit}
 use Rattle.dl_amounts.specs.Clauses.{clause_of}
 use Rattle.dl_amounts.specs.Severity.{support, final_severity}
 use Rattle.dl_amounts.specs.FineParts.{has_shares}
@@ -38,22 +38,26 @@ module _ {A : Type 0} (f : A → ℕ) where
 
   divides_first : (g : ℕ) (xs : List A) → common_from g xs ∣ g
   divides_first g [] = dvd_refl g
-  divides_first g (x ∷ xs) = dvd_trans (common_from (gcd g (f x)) xs) (divides_first (gcd g (f x)) xs) (gcd_is g (f x)).0
+  divides_first g (x ∷ xs) = dvd_trans (common_from (gcd g (f x)) xs) (divides_first (gcd g (f x)) xs)
+      (gcd_is g (f x)).0
 
   divides_each : (g : ℕ) (xs : List A) → All (λ x. common_from g xs ∣ f x) xs
   divides_each g [] = All-nil (λ x. common_from g [] ∣ f x)
   divides_each g (x ∷ xs) =
-      All-cons (λ y. common_from g (x ∷ xs) ∣ f y) x xs (dvd_trans (common_from (gcd g (f x)) xs) (divides_first (gcd g (f x)) xs) (gcd_is g (f x)).1)
+      All-cons (λ y. common_from g (x ∷ xs) ∣ f y) x xs
+      (dvd_trans (common_from (gcd g (f x)) xs) (divides_first (gcd g (f x)) xs) (gcd_is g (f x)).1)
       (divides_each (gcd g (f x)) xs)
 
   greatest : (d g : ℕ) (xs : List A) → d ∣ g → All (λ x. d ∣ f x) xs → d ∣ common_from g xs
   greatest d g [] h all = h
   greatest d g (x ∷ xs) h all =
-      greatest d (gcd g (f x)) xs ((gcd_is g (f x)).2 d h (All-head (λ y. d ∣ f y) x xs all)) (All-tail (λ y. d ∣ f y) x xs all)
+      greatest d (gcd g (f x)) xs ((gcd_is g (f x)).2 d h (All-head (λ y. d ∣ f y) x xs all))
+      (All-tail (λ y. d ∣ f y) x xs all)
 
 -- ---- an amount with a weight is one of the items
 
-weight_found : (items : List Item) (x : ℕ) (Q : ℕ → Type 0) → All (λ (i : Item). Q i.amount) items → (weight_at items x ≡ 0) ⊎ Q x
+weight_found : (items : List Item) (x : ℕ) (Q : ℕ → Type 0) → All (λ (i : Item). Q i.amount) items
+    → (weight_at items x ≡ 0) ⊎ Q x
 weight_found [] x Q all = inl refl
 weight_found (i ∷ items) x Q all = elim (eqb_tells i.amount x) [
   | inl same ↦ inr (subst Q same.1 (All-head (λ (j : Item). Q j.amount) i items all))
@@ -80,21 +84,23 @@ module _ (sev : Sev) (ps : Pairs) (means : Means sev ps) where
       dvd_antisymm
       (greatest (λ (x : ℕ). x) (common_amount sev.items) 0 (support ps) (dvd-zero (common_amount sev.items))
       (support_in (λ x. common_amount sev.items ∣ x) (divides_each (λ (i : Item). i.amount) 0 sev.items)))
-      (greatest (λ (i : Item). i.amount) (common_amount_of (support ps)) 0 sev.items (dvd-zero (common_amount_of (support ps)))
+      (greatest (λ (i : Item). i.amount) (common_amount_of (support ps)) 0 sev.items
+      (dvd-zero (common_amount_of (support ps)))
       (items_in sev ps means (λ x. common_amount_of (support ps) ∣ x) (divides_each (λ (x : ℕ). x) 0 (support ps))))
 
 -- ---- the aggregate clause over sums of a severity
 
-module _ (bs : Fraction) (u : UnitAst) (c : Cession) (is : u.agr ≡ Some c) (cession : IsCession (clause_of bs c))
-    (none : off_grid_cession bs u ≡ None)
-    (has : has_shares u.occ ≡ true) (sev : Sev) (means : Means sev (final_severity bs u)) where
-  aggregate_none : off_grid_aggregate bs u ≡ None
+module _ (u : GridUnit) (c : GridClause) (is : u.agr ≡ Some c) (cession : IsClause (clause_of c))
+    (none : off_grid_cession u ≡ None)
+    (has : has_shares u.occ ≡ true) (sev : Sev) (means : Means sev (final_severity u)) where
+  aggregate_none : off_grid_aggregate u ≡ None
   unfolding off_grid_cession
-  aggregate_none = else_second (off_grid_occurrence bs u) (off_grid_aggregate bs u) none
+  aggregate_none = else_second (off_grid_occurrence u) (off_grid_aggregate u) none
 
   -- the clause maps each multiple of the greatest common divisor of the amounts to a whole number
-  pub sums_whole : (n : ℕ) → IsWhole (kept (clause_of bs c) (n * common_amount sev.items))
+  pub sums_whole : (n : ℕ) → IsWhole (kept (clause_of c) (n * common_amount sev.items))
   sums_whole =
-      fits_tried (clause_of bs c) (common_amount sev.items) cession
-      (none_off_multiples bs u c is (clause_of bs c) (refl, cession) (support (final_severity bs u)) (has, refl) (common_amount sev.items)
-      (same_common sev (final_severity bs u) means) aggregate_none)
+      fits_tried (clause_of c) (common_amount sev.items) cession
+      (none_off_multiples u c is (clause_of c) (refl, cession) (support (final_severity u)) (has, refl)
+      (common_amount sev.items)
+      (same_common sev (final_severity u) means) aggregate_none)

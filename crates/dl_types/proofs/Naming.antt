@@ -14,17 +14,21 @@ any_of p f [] = refl
 any_of p f (x ∷ xs) = ap (λ b. p (f x) || b) (any_of p f xs)
 
 -- whether one of the names that were taken up passes a test is whether that of one of the units does
-pub any_named : (p : List ℕ → Bool) (keys : List (Bor (List ℕ))) (before : List UnitAst) → map (λ (k : Bor (List ℕ)). k.now) keys ≡ names_of before
+pub any_named : (p : List ℕ → Bool) (keys : List (Bor (List ℕ))) (before : List UnitAst)
+    → map (λ (k : Bor (List ℕ)). k.now) keys ≡ names_of before
     → list_any (λ (k : Bor (List ℕ)). p k.now) keys ≡ list_any (λ (v : UnitAst). p v.name.text) before
 any_named p keys before same =
-    sym (any_of p (λ (k : Bor (List ℕ)). k.now) keys) ∙ ap (list_any p) same ∙ any_of p (λ (v : UnitAst). v.name.text) before
+    sym (any_of p (λ (k : Bor (List ℕ)). k.now) keys) ∙ ap (list_any p) same
+    ∙ any_of p (λ (v : UnitAst). v.name.text) before
 
 -- a place where the name is not new, and none where it is
-pub new_name : (place : Span) (is_new here there : Bool) → is_new ≡ not here → is_new ≡ true → here ≡ there → None ≡ at_if there place
+pub new_name : (place : Span) (is_new here there : Bool) → is_new ≡ not here → is_new ≡ true → here ≡ there
+    → None ≡ at_if there place
 new_name place is_new true there h new same = absurd (grind (arith, h, new))
 new_name place is_new false there h new same = ap (λ b. at_if b place) same
 
-pub old_name : (place : Span) (is_new here there : Bool) → is_new ≡ not here → is_new ≡ false → here ≡ there → Some place ≡ at_if there place
+pub old_name : (place : Span) (is_new here there : Bool) → is_new ≡ not here → is_new ≡ false → here ≡ there
+    → Some place ≡ at_if there place
 old_name place is_new true there h old same = ap (λ b. at_if b place) same
 old_name place is_new false there h old same = absurd (grind (arith, h, old))
 

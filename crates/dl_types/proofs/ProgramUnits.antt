@@ -4,13 +4,15 @@ use Rattle.std.specs.Str.{bytes_eq}
 use Rattle.std.specs.List.{AllZip, All, AllPairs}
 use Rattle.std.proofs.lemmas.List.{map-append, take_more, take_all}
 use Rattle.std.proofs.lemmas.List.Quantifiers.{all_pairs_push}
+use Rattle.std.proofs.lemmas.Slice.Zip.{all_zipped_more}
 use Rattle.std.proofs.lemmas.Slice.Eq.{bytes_eq-Decides}
 use Rattle.std.specs.Prelude.{Ok, Err, slice_get}
 use Rattle.dl_types.specs.declared.fault.CheckFault.{CheckFault}
 use Rattle.dl_types.specs.declared.fault.CheckFault.TheVariants.{Typing, OutOfMemory}
-use Rattle.dl_types.specs.Answer.{AnswersUnit, AnswersUnits, Answers}
+use Rattle.dl_types.specs.Answer.{AnswersUnit, AnswersUnits, IsCheckOf}
 use Rattle.dl_amounts.proofs.Turns.{turn_found, NoneTurned, turn_passed, turn_ended}
 use Rattle.std.proofs.lemmas.List.Elements.{All-nil, All-cons, All-head, All-tail, All-append}
+use Rattle.dl_limits.specs.Limits.{most_units}
 use Rattle.dl_exact.specs.Fraction.{Fraction, whole, ◌<ℚ◌}
 use Rattle.dl_plan.specs.declared.plan.Unit.{Unit as UnitOfPlan}
 use Rattle.dl_plan.specs.declared.settings.Settings.{Settings}
@@ -20,7 +22,7 @@ use Rattle.dl_read.specs.First.{◌else◌, in_turn}
 use Rattle.dl_lexer.specs.declared.token.Span.{Span}
 use Rattle.dl_types.specs.declared.rule.Rule.TheVariants as rules
 use Rattle.dl_types.specs.UnitNames.{names_of}
-use Rattle.dl_types.specs.Faults.{cells_of, fault_of_lists, first_fault_of, first_fault, breaks}
+use Rattle.dl_types.specs.Faults.{cells_asked, fault_of_lists, first_fault_of, first_fault, breaks}
 use Rattle.dl_types.specs.Plans.{IsUnitOf}
 use Rattle.dl_types.specs.Rules.{duplicate_name, seventeenth, too_many_units}
 use Rattle.dl_types.specs.Kept.{IsSet}
@@ -34,32 +36,29 @@ use Rattle.dl_amounts.proofs.Values.{never}
 pub record Planned (settings : Settings) (units : List UnitAst) (i : ℕ) (made : List UnitOfPlan) : Type 0 where
   pub turned : NoneTurned (first_fault_of settings) units i
   pub meant : AllZip (IsUnitOf settings.bs) (take i units) made
-  pub valid : All (IsValidUnit (cells_of settings)) made
+  pub valid : All (IsValidUnit (cells_asked settings)) made
   pub apart : AllPairs (λ u v. u.name ≢ v.name) made
 
 -- ---- one more
 
-pair_more : {A B : Type 0} (P : A → B → Type 0) (xs : List A) (ys : List B) (x : A) (y : B) → AllZip P xs ys → P x y → AllZip P (xs ++ x ∷ []) (ys ++ y ∷ [])
-pair_more P [] [] x y h p = (p, tt)
-pair_more P [] (b ∷ ys) x y h p = absurd h
-pair_more P (a ∷ xs) [] x y h p = absurd h
-pair_more P (a ∷ xs) (b ∷ ys) x y h p = (h.0, pair_more P xs ys x y h.1 p)
-
 -- a name that is not among those of the text is not among those of the plan
-new_name : (bs : Fraction) (text : List ℕ) (us : List UnitAst) (ms : List UnitOfPlan) → AllZip (IsUnitOf bs) us ms → All (λ (v : UnitAst). v.name.text ≢ text) us
+new_name : (bs : Fraction) (text : List ℕ) (us : List UnitAst) (ms : List UnitOfPlan) → AllZip (IsUnitOf bs) us ms
+    → All (λ (v : UnitAst). v.name.text ≢ text) us
     → All (λ (m : UnitOfPlan). m.name ≢ text) ms
 new_name bs text [] [] h all = All-nil (λ (m : UnitOfPlan). m.name ≢ text)
 new_name bs text [] (m ∷ ms) h all = absurd h
 new_name bs text (u ∷ us) [] h all = absurd h
 new_name bs text (u ∷ us) (m ∷ ms) h all =
-    All-cons (λ (n : UnitOfPlan). n.name ≢ text) m ms (λ e. All-head (λ (v : UnitAst). v.name.text ≢ text) u us all (sym h.0.name ∙ e))
+    All-cons (λ (n : UnitOfPlan). n.name ≢ text) m ms
+    (λ e. All-head (λ (v : UnitAst). v.name.text ≢ text) u us all (sym h.0.name ∙ e))
     (new_name bs text us ms h.1 (All-tail (λ (v : UnitAst). v.name.text ≢ text) u us all))
 
 none_broken : (unit : ℕ) (place : Option Span) → breaks unit rules.DuplicateName place ≡ None → place ≡ None
 none_broken unit None e = refl
 none_broken unit (Some place) e = absurd (cc)
 
-other_names : (before : List UnitAst) (u : UnitAst) → duplicate_name before u ≡ None → All (λ (v : UnitAst). v.name.text ≢ u.name.text) before
+other_names : (before : List UnitAst) (u : UnitAst) → duplicate_name before u ≡ None
+    → All (λ (v : UnitAst). v.name.text ≢ u.name.text) before
 unfolding duplicate_name
 other_names before u e k d h same =
     let found = (bytes_eq-Decides u.name.text (get_or before k d).name.text).1 (sym same) in
@@ -70,30 +69,41 @@ other_names before u e k d h same =
     true_not_false true e f = absurd (cc)
     true_not_false false e f = absurd (cc)
 
-no_duplicate : (settings : Settings) (before : List UnitAst) (u : UnitAst) → first_fault_of settings before u ≡ None → duplicate_name before u ≡ None
+no_duplicate : (settings : Settings) (before : List UnitAst) (u : UnitAst) → first_fault_of settings before u ≡ None
+    → duplicate_name before u ≡ None
 unfolding first_fault_of fault_of_lists
 no_duplicate settings before u e =
-    none_broken (length before) (duplicate_name before u) (else_first (breaks (length before) rules.DuplicateName (duplicate_name before u)) _ (else_first (fault_of_lists before u) _ e))
+    none_broken (length before) (duplicate_name before u)
+    (else_first (breaks (length before) rules.DuplicateName (duplicate_name before u)) _
+    (else_first (fault_of_lists before u) _ e))
 
 module _ (settings : Settings) (units : List UnitAst) (i : ℕ) (u : UnitAst) (made : List UnitOfPlan) where
   pub planned_more : (m : UnitOfPlan) → Planned settings units i made → i < length units → u ≡ get_or units i u
-      → (first_fault_of settings (take i units) u ≡ None) × IsUnitOf settings.bs u m × IsValidUnit (cells_of settings) m → Planned settings units (i + 1) (made ++ m ∷ [])
+      → (first_fault_of settings (take i units) u ≡ None) × IsUnitOf settings.bs u m
+      × IsValidUnit (cells_asked settings) m → Planned settings units (i + 1) (made ++ m ∷ [])
   planned_more m before lt is told =
-      let one_more : take (i + 1) units ≡ take i units ++ u ∷ [] = take_more units i u lt ∙ ap (λ (v : UnitAst). take i units ++ v ∷ []) (sym is) in
-      let others = new_name settings.bs u.name.text (take i units) made before.meant (other_names (take i units) u (no_duplicate settings (take i units) u told.0)) in
+      let one_more : take (i + 1) units ≡ take i units ++ u ∷ [] = take_more units i u lt
+      ∙ ap (λ (v : UnitAst). take i units ++ v ∷ []) (sym is) in
+      let others = new_name settings.bs u.name.text (take i units) made before.meant
+      (other_names (take i units) u (no_duplicate settings (take i units) u told.0)) in
       record {
         turned = turn_passed (first_fault_of settings) units i u before.turned lt is (sym told.0);
-        meant = subst (λ us. AllZip (IsUnitOf settings.bs) us (made ++ m ∷ [])) (sym one_more) (pair_more (IsUnitOf settings.bs) (take i units) made u m before.meant told.1);
-        valid = All-append (IsValidUnit (cells_of settings)) made (m ∷ []) before.valid (All-cons (IsValidUnit (cells_of settings)) m [] told.2 (All-nil (IsValidUnit (cells_of settings))));
-        apart = all_pairs_push (λ (v w : UnitOfPlan). v.name ≢ w.name) made m before.apart (λ k d h e. others k d h (e ∙ told.1.name));
+        meant = subst (λ us. AllZip (IsUnitOf settings.bs) us (made ++ m ∷ [])) (sym one_more)
+            (all_zipped_more (IsUnitOf settings.bs) (take i units) made u m before.meant told.1);
+        valid = All-append (IsValidUnit (cells_asked settings)) made (m ∷ []) before.valid
+            (All-cons (IsValidUnit (cells_asked settings)) m [] told.2 (All-nil (IsValidUnit (cells_asked settings))));
+        apart = all_pairs_push (λ (v w : UnitOfPlan). v.name ≢ w.name) made m before.apart
+            (λ k d h e. others k d h (e ∙ told.1.name));
       }
 
   pub planned_fault : (e : CheckFault) → Planned settings units i made → i < length units → u ≡ get_or units i u
       → AnswersUnit settings (take i units) u (Err e) → AnswersUnits settings units (Err e)
-  planned_fault (Typing f) before lt is told = sym (turn_found (first_fault_of settings) units i u f before.turned lt is (sym told))
+  planned_fault (Typing f) before lt is told =
+      sym (turn_found (first_fault_of settings) units i u f before.turned lt is (sym told))
   planned_fault OutOfMemory before lt is told = tt
 
-pub planned_all : (settings : Settings) (units : List UnitAst) (i : ℕ) (made : List UnitOfPlan) → Planned settings units i made → length units ≤ i
+pub planned_all : (settings : Settings) (units : List UnitAst) (i : ℕ) (made : List UnitOfPlan)
+    → Planned settings units i made → length units ≤ i
     → AnswersUnits settings units (Ok made)
 planned_all settings units i made before le = (
   sym (turn_ended (first_fault_of settings) units i before.turned le),
@@ -102,15 +112,17 @@ planned_all settings units i made before le = (
   before.apart,
 )
 
-pub names_more : (units : List UnitAst) (i : ℕ) (u : UnitAst) → i < length units → u ≡ get_or units i u → names_of (take i units) ++ u.name.text ∷ [] ≡ names_of (take (i + 1) units)
+pub names_more : (units : List UnitAst) (i : ℕ) (u : UnitAst) → i < length units → u ≡ get_or units i u
+    → names_of (take i units) ++ u.name.text ∷ [] ≡ names_of (take (i + 1) units)
 names_more units i u lt is =
-    sym (ap names_of (take_more units i u lt ∙ ap (λ (v : UnitAst). take i units ++ v ∷ []) (sym is)) ∙ map-append (λ (v : UnitAst). v.name.text) (take i units) (u ∷ []))
+    sym (ap names_of (take_more units i u lt ∙ ap (λ (v : UnitAst). take i units ++ v ∷ []) (sym is))
+    ∙ map-append (λ (v : UnitAst). v.name.text) (take i units) (u ∷ []))
 
 -- ---- the program
 
-pub few_units : (units : List UnitAst) → too_many_units units ≡ None → length units ≤ 16
+pub few_units : (units : List UnitAst) → too_many_units units ≡ None → length units ≤ most_units
 unfolding too_many_units
-few_units units e = few 16 units (none_there (slice_get units 16) e)
+few_units units e = few most_units units (none_there (slice_get units most_units) e)
   where
     none_there : (o : Option UnitAst) → seventeenth o ≡ None → o ≡ None
     none_there None h = refl
@@ -122,22 +134,28 @@ few_units units e = few 16 units (none_there (slice_get units 16) e)
     few (suc n) (x ∷ xs) h = omega (arith, few n xs h)
 
 module _ (program : Program) (settings : Settings) where
-  pub fault_of_units : (e : CheckFault) → too_many_units program.units ≡ None → AnswersUnits settings program.units (Err e) → Answers program settings (Err e)
+  pub fault_of_units : (e : CheckFault) → too_many_units program.units ≡ None
+      → AnswersUnits settings program.units (Err e) → IsCheckOf program settings (Err e)
   unfolding first_fault
-  fault_of_units (Typing f) few told = ap (λ p. breaks 16 rules.TooManyUnits p else in_turn (first_fault_of settings) [] program.units) few ∙ told
+  fault_of_units (Typing f) few told = ap (λ p. breaks most_units rules.TooManyUnits p
+      else in_turn (first_fault_of settings) [] program.units) few ∙ told
   fault_of_units OutOfMemory few told = tt
 
   pub fault_of_many : (place : Span) → too_many_units program.units ≡ Some place
-      → first_fault program settings ≡ Some (record { unit = 16; rule = rules.TooManyUnits; span = place })
+      → first_fault program settings ≡ Some (record { unit = most_units; rule = rules.TooManyUnits; span = place })
   unfolding first_fault
-  fault_of_many place many = ap (λ p. breaks 16 rules.TooManyUnits p else in_turn (first_fault_of settings) [] program.units) many
+  fault_of_many place many = ap (λ p. breaks most_units rules.TooManyUnits p
+      else in_turn (first_fault_of settings) [] program.units) many
 
-  pub plan_of_units : (plan : Plan) → plan.bs ≡ settings.bs → plan.cells ≡ cells_of settings → IsSet settings → IsWellFormed program → length program.units ≤ 16
-      → too_many_units program.units ≡ None → AnswersUnits settings program.units (Ok plan.units) → Answers program settings (Ok plan)
+  pub plan_of_units : (plan : Plan) → plan.bs ≡ settings.bs → plan.cells ≡ cells_asked settings → IsSet settings
+      → IsWellFormed program → length program.units ≤ most_units
+      → too_many_units program.units ≡ None → AnswersUnits settings program.units (Ok plan.units)
+      → IsCheckOf program settings (Ok plan)
   unfolding first_fault
   plan_of_units plan bs cells set formed few none told =
-      let as_many : length plan.units ≡ length program.units = pair_length (IsUnitOf settings.bs) program.units plan.units told.1 in (
-        ap (λ p. breaks 16 rules.TooManyUnits p else in_turn (first_fault_of settings) [] program.units) none ∙ told.0,
+      let as_many : length plan.units ≡ length program.units =
+      pair_length (IsUnitOf settings.bs) program.units plan.units told.1 in (
+        ap (λ p. breaks most_units rules.TooManyUnits p else in_turn (first_fault_of settings) [] program.units) none ∙ told.0,
         record { bucket = bs; cells = cells; units = told.1 },
         record {
           bucket = subst (λ x. whole 0 <ℚ x) (sym bs) set.bucket.above;
@@ -149,7 +167,8 @@ module _ (program : Program) (settings : Settings) where
         },
       )
     where
-      pair_length : {A B : Type 0} (P : A → B → Type 0) (xs : List A) (ys : List B) → AllZip P xs ys → length ys ≡ length xs
+      pair_length : {A B : Type 0} (P : A → B → Type 0) (xs : List A) (ys : List B) → AllZip P xs ys
+          → length ys ≡ length xs
       pair_length P [] [] h = refl
       pair_length P [] (y ∷ ys) h = absurd h
       pair_length P (x ∷ xs) [] h = absurd h

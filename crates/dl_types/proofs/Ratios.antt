@@ -1,5 +1,5 @@
 -- Quotients and products of fractions, cut across.
-use Rattle.std.proofs.Common.{◌≡◌, ◌∙◌, ℕ, ◌*◌, ◌^◌, ◌<◌, ◌≤◌, nat_lt, ◌&&◌, true, false, refl, sym, ap, ap₂, subst, arith, inl, inr, mul-pos, mul_comm}
+use Rattle.std.proofs.Common.{◌≡◌, ◌∙◌, ℕ, ◌*◌, ◌<◌, ◌≤◌, nat_lt, ◌&&◌, if◌then◌else◌, true, false, Some, None, refl, sym, ap, ap₂, subst, arith, inl, inr, mul-pos, mul_comm}
 use Rattle.std.proofs.Math.Nat.{mul-le-mul, pos_of_dvd_of_pos}
 use Prim.Native.Nat.{◌∣◌}
 use Rattle.dl_exact.specs.Gcd.{gcd}
@@ -10,7 +10,9 @@ use Rattle.dl_exact.proofs.Laws.{zero_times, times_comm}
 use Rattle.dl_frac.specs.Exact.{IsTooFine}
 use Rattle.dl_exact.proofs.Multiples.{lowest_parts, lowest_swap, lowest_times, lowest_product, part_divides}
 use Rattle.dl_exact.proofs.Parts.{lowest_num, lowest_den, product_is, quotient_is, whole_num, whole_den}
+use Rattle.dl_limits.specs.Limits.{admitted_bound, frac_bound}
 use Rattle.dl_read.specs.Lists.{is_admitted}
+use Rattle.dl_types.specs.Exposures.{admitted}
 
 num_divides : (n d : ℕ) → 0 < d → (n over d).num ∣ n
 num_divides n d h = subst (λ k. k ∣ n) (sym (num_of_over n d h)) (part_divides n (gcd n d) (gcd_is n d).0)
@@ -32,9 +34,11 @@ module _ (a b c d : ℕ) (hb : 0 < b) (hd : 0 < d) where
   pub crossed_lowest : gcd a b ≡ 1 → gcd c d ≡ 1 → gcd (up.num * down.num) (up.den * down.den) ≡ 1
   crossed_lowest e f =
       let left : gcd up.num (up.den * down.den) ≡ 1 =
-      lowest_times up.num up.den down.den down.positive up.lowest (lowest_parts a b _ _ e (num_divides a d hd) (den_divides c b hb)) in
+      lowest_times up.num up.den down.den down.positive up.lowest
+      (lowest_parts a b _ _ e (num_divides a d hd) (den_divides c b hb)) in
       let right : gcd down.num (up.den * down.den) ≡ 1 =
-      lowest_times down.num up.den down.den down.positive (lowest_parts c d _ _ f (num_divides c b hb) (den_divides a d hd)) down.lowest in
+      lowest_times down.num up.den down.den down.positive
+      (lowest_parts c d _ _ f (num_divides c b hb) (den_divides a d hd)) down.lowest in
       lowest_product up.num down.num (up.den * down.den) crossed_pos left right
 
   pub crossed_value : (up.num * down.num) over (up.den * down.den) ≡ (a * c) over (b * d)
@@ -42,7 +46,8 @@ module _ (a b c d : ℕ) (hb : 0 < b) (hd : 0 < d) where
 
 -- ---- quotients
 
-module _ (x y u v : Fraction) (n m d e : ℕ) (above : 0 < y.num) (tops : u ≡ x.num over y.num) (bottoms : v ≡ y.den over x.den)
+module _ (x y u v : Fraction) (n m d e : ℕ) (above : 0 < y.num) (tops : u ≡ x.num over y.num)
+    (bottoms : v ≡ y.den over x.den)
     (hn : n ≡ u.num) (hm : m ≡ v.num) (hd : d ≡ u.den) (he : e ≡ v.den) where
   num_is : n * m ≡ (x.num over y.num).num * (y.den over x.den).num
   num_is = ap₂ (λ a b. a * b) (hn ∙ ap (λ (z : Fraction). z.num) tops) (hm ∙ ap (λ (z : Fraction). z.num) bottoms)
@@ -52,7 +57,8 @@ module _ (x y u v : Fraction) (n m d e : ℕ) (above : 0 < y.num) (tops : u ≡ 
 
   pub quotient_lowest : gcd (n * m) (d * e) ≡ 1
   quotient_lowest =
-      ap₂ gcd num_is den_is ∙ crossed_lowest x.num x.den y.den y.num x.positive above x.lowest (lowest_swap y.num y.den y.lowest)
+      ap₂ gcd num_is den_is ∙ crossed_lowest x.num x.den y.den y.num x.positive above x.lowest
+      (lowest_swap y.num y.den y.lowest)
 
   pub quotient_value : (n * m) over (d * e) ≡ x /ℚ y
   quotient_value =
@@ -60,18 +66,21 @@ module _ (x y u v : Fraction) (n m d e : ℕ) (above : 0 < y.num) (tops : u ≡ 
 
 -- ---- products that may be too fine
 
-admitted_small : (n d : ℕ) → (nat_lt n (2 ^ 48) && nat_lt d (2 ^ 48)) ≡ true → (n < 2 ^ 48) × (d < 2 ^ 48)
-admitted_small n d h = grind arith
-
-not_admitted_num : (n d : ℕ) → 2 ^ 62 ≤ n → (nat_lt n (2 ^ 48) && nat_lt d (2 ^ 48)) ≡ false
+not_admitted_num : (n d : ℕ) → frac_bound ≤ n → (nat_lt n (admitted_bound) && nat_lt d (admitted_bound)) ≡ false
 not_admitted_num n d h = grind arith
 
-not_admitted_den : (n d : ℕ) → 2 ^ 62 ≤ d → (nat_lt n (2 ^ 48) && nat_lt d (2 ^ 48)) ≡ false
+not_admitted_den : (n d : ℕ) → frac_bound ≤ d → (nat_lt n (admitted_bound) && nat_lt d (admitted_bound)) ≡ false
 not_admitted_den n d h = grind arith
 
-pub too_fine_not_admitted : (x : Fraction) → IsTooFine x → is_admitted x ≡ false
+too_fine_not_admitted : (x : Fraction) → IsTooFine x → is_admitted x ≡ false
 too_fine_not_admitted x (inl h) = not_admitted_num x.num x.den h
 too_fine_not_admitted x (inr h) = not_admitted_den x.num x.den h
+
+refused : (x : Fraction) → is_admitted x ≡ false → None ≡ admitted true x
+refused x h = ap (λ b. if b then Some x else None) (sym h)
+
+pub too_fine_refused : (x : Fraction) → IsTooFine x → None ≡ admitted true x
+too_fine_refused x far = refused x (too_fine_not_admitted x far)
 
 at_least : (k m n : ℕ) → 0 < n → k ≤ m → k ≤ m * n
 at_least k m n h le =
@@ -106,14 +115,17 @@ module _ (x y : Fraction) where
       ap (λ (z : Fraction). z.den) (sym (product_value) ∙ sym (product_is first second))
       ∙ lowest_den _ _ (mul-pos first.positive second.positive) lowest_here
 
-  pub first_too_fine : 0 < y.num → IsTooFine first → is_admitted (x *ℚ y) ≡ false
+  pub first_too_fine : 0 < y.num → IsTooFine first → None ≡ admitted true (x *ℚ y)
   first_too_fine h (inl far) =
-      too_fine_not_admitted (x *ℚ y) (inl (subst (λ k. 2 ^ 62 ≤ k) (sym parts_num) (at_least _ first.num second.num (pos_num y.num x.den x.positive h) far)))
+      too_fine_refused (x *ℚ y)
+      (inl (subst (λ k. frac_bound ≤ k) (sym parts_num)
+      (at_least _ first.num second.num (pos_num y.num x.den x.positive h) far)))
   first_too_fine h (inr far) =
-      too_fine_not_admitted (x *ℚ y) (inr (subst (λ k. 2 ^ 62 ≤ k) (sym parts_den) (at_least _ first.den second.den second.positive far)))
+      too_fine_refused (x *ℚ y)
+      (inr (subst (λ k. frac_bound ≤ k) (sym parts_den) (at_least _ first.den second.den second.positive far)))
 
-pub second_too_fine : (x y : Fraction) → 0 < x.num → IsTooFine (y.num over x.den) → is_admitted (x *ℚ y) ≡ false
-second_too_fine x y h far = ap is_admitted (times_comm x y) ∙ first_too_fine y x h far
+pub second_too_fine : (x y : Fraction) → 0 < x.num → IsTooFine (y.num over x.den) → None ≡ admitted true (x *ℚ y)
+second_too_fine x y h far = first_too_fine y x h far ∙ ap (admitted true) (times_comm y x)
 
 pub nothing_left : (x y : Fraction) → x.num ≡ 0 → x *ℚ y ≡ whole 0
 nothing_left x y e = ap (λ z. z *ℚ y) (zero_of x e) ∙ zero_times y
@@ -124,8 +136,11 @@ nothing_left x y e = ap (λ z. z *ℚ y) (zero_of x e) ∙ zero_times y
 pub nothing_right : (x y : Fraction) → y.num ≡ 0 → x *ℚ y ≡ whole 0
 nothing_right x y e = times_comm x y ∙ nothing_left y x e
 
-pub zero_admitted : is_admitted (whole 0) ≡ true
-zero_admitted = rw (whole_num 0, whole_den 0) refl
+pub zero_admitted : Some (whole 0) ≡ admitted true (whole 0)
+zero_admitted = ap (λ b. if b then Some (whole 0) else None) (sym passes)
+  where
+    passes : is_admitted (whole 0) ≡ true
+    passes = rw (whole_num 0, whole_den 0) refl
 
 -- a number that is a number other than 0
 pub above_zero : (n m : ℕ) → (n ≡ 0 → ⊥) → n ≡ m → 0 < m

@@ -1,42 +1,61 @@
 -- What a check answers.
-use Rattle.std.specs.Prelude.{◌≡◌, ◌≢◌, Result, Ok, Err, List, [], All, AllPairs, Option, Some, None}
+use Rattle.std.specs.Prelude.{ℕ, ◌≡◌, ◌≢◌, Result, Ok, Err, List, [], All, AllPairs, Option, Some, None}
 use Rattle.dl_ast.specs.declared.ast.UnitAst.{UnitAst}
 use Rattle.dl_ast.specs.declared.ast.Program.{Program}
 use Rattle.dl_plan.specs.declared.plan.Unit.{Unit as UnitOfPlan}
 use Rattle.dl_plan.specs.declared.plan.Plan.{Plan}
 use Rattle.dl_plan.specs.declared.settings.Settings.{Settings}
 use Rattle.dl_plan.specs.Valid.{IsValidUnit, IsValid}
+use Rattle.dl_amounts.specs.declared.grid.GridUnit.{GridUnit}
 use Rattle.dl_types.specs.declared.fault.TypeFault.{TypeFault}
 use Rattle.dl_types.specs.declared.fault.CheckFault.{CheckFault}
 use Rattle.dl_types.specs.declared.fault.CheckFault.TheVariants.{Typing, OutOfMemory}
 use Rattle.dl_read.specs.First.{in_turn}
 use Rattle.std.specs.List.{AllZip}
-use Rattle.dl_types.specs.Faults.{cells_of, first_fault_of, first_fault}
-use Rattle.dl_types.specs.Plans.{IsUnitOf, IsPlanOf}
+use Rattle.dl_types.specs.Faults.{cells_asked, fault_on_grid, first_fault_of, first_fault}
+use Rattle.dl_types.specs.Plans.{IsUnitOn, IsUnitOf, IsPlanOf}
+
+-- a check stops at the first fault, or for want of memory
+abbrev pub StopsAt : Option TypeFault → CheckFault → Type 0
+StopsAt fault (Typing f) = fault ≡ Some f
+StopsAt fault OutOfMemory = Unit {0}
 
 -- a check of some rules tells their first fault, or that there is none
-abbrev pub Tells : {A : Type 0} → Option TypeFault → Result A CheckFault → Type 0
-Tells fault (Ok _) = fault ≡ None
-Tells fault (Err (Typing f)) = fault ≡ Some f
-Tells fault (Err OutOfMemory) = Unit {0}
+abbrev pub TellsFault : {A : Type 0} → Option TypeFault → Result A CheckFault → Type 0
+TellsFault fault (Ok _) = fault ≡ None
+TellsFault fault (Err stop) = StopsAt fault stop
 
--- the unit of the plan, which is valid, where the unit breaks no rule; the first fault, where it breaks one; or want of memory
+-- the unit of the plan with this name, which is valid, where the unit in whole buckets breaks no
+-- rule; the first fault, where it breaks one; or want of memory
+abbrev pub AnswersGrid : Settings → ℕ → List ℕ → GridUnit → Result UnitOfPlan CheckFault → Type 0
+AnswersGrid settings unit name u (Ok made) =
+    (fault_on_grid settings unit u ≡ None) × IsUnitOn settings.bs name u made
+    × IsValidUnit (cells_asked settings) made
+AnswersGrid settings unit name u (Err stop) = StopsAt (fault_on_grid settings unit u) stop
+
+-- the unit of the plan, which is valid, where the unit breaks no rule; the first fault, where it
+-- breaks one; or want of memory
 abbrev pub AnswersUnit : Settings → List UnitAst → UnitAst → Result UnitOfPlan CheckFault → Type 0
 AnswersUnit settings before u (Ok made) =
-    (first_fault_of settings before u ≡ None) × IsUnitOf settings.bs u made × IsValidUnit (cells_of settings) made
+    (first_fault_of settings before u ≡ None) × IsUnitOf settings.bs u made
+    × IsValidUnit (cells_asked settings) made
 AnswersUnit settings before u (Err (Typing fault)) = first_fault_of settings before u ≡ Some fault
 AnswersUnit settings before u (Err OutOfMemory) = Unit {0}
 
--- the units of the plan, which are valid and have different names; the first fault of the first unit that has one; or want of memory
+-- the units of the plan, which are valid and have different names; the first fault of the first
+-- unit that has one; or want of memory
 abbrev pub AnswersUnits : Settings → List UnitAst → Result (List UnitOfPlan) CheckFault → Type 0
 AnswersUnits settings units (Ok made) =
     (in_turn (first_fault_of settings) [] units ≡ None) × AllZip (IsUnitOf settings.bs) units made
-    × All (IsValidUnit (cells_of settings)) made × AllPairs (λ u v. u.name ≢ v.name) made
-AnswersUnits settings units (Err (Typing fault)) = in_turn (first_fault_of settings) [] units ≡ Some fault
+    × All (IsValidUnit (cells_asked settings)) made × AllPairs (λ u v. u.name ≢ v.name) made
+AnswersUnits settings units (Err (Typing fault)) =
+    in_turn (first_fault_of settings) [] units ≡ Some fault
 AnswersUnits settings units (Err OutOfMemory) = Unit {0}
 
--- the plan, which is valid, where no rule is broken; the first fault, where there is one; or want of memory
-abbrev pub Answers : Program → Settings → Result Plan CheckFault → Type 0
-Answers program settings (Ok plan) = (first_fault program settings ≡ None) × IsPlanOf program settings plan × IsValid plan
-Answers program settings (Err (Typing fault)) = first_fault program settings ≡ Some fault
-Answers program settings (Err OutOfMemory) = Unit {0}
+-- the plan, which is valid, where no rule is broken; the first fault, where there is one; or want
+-- of memory
+abbrev pub IsCheckOf : Program → Settings → Result Plan CheckFault → Type 0
+IsCheckOf program settings (Ok plan) = (first_fault program settings ≡ None)
+    × IsPlanOf program settings plan × IsValid plan
+IsCheckOf program settings (Err (Typing fault)) = first_fault program settings ≡ Some fault
+IsCheckOf program settings (Err OutOfMemory) = Unit {0}

@@ -1,87 +1,78 @@
 -- Expected claim counts. Amounts of money are over the bucket size bs.
-use Rattle.std.specs.Prelude.{◌≡◌, ◌&&◌, Bool, true, false, ◌++◌, flat_map, Option, Some, None}
-use Rattle.std.specs.List.{list_all}
-use Rattle.std.specs.Option.{MatchOption}
+use Rattle.std.specs.Prelude.{◌&&◌, Bool, true, false, if◌then◌else◌, Option, Some, None}
 use Rattle.dl_exact.specs.Fraction.{Fraction, whole, ◌-ℚ◌, ◌*ℚ◌, ◌/ℚ◌}
-use Rattle.dl_plan.specs.Severity.{probability, mean_amount}
-use Rattle.dl_ast.specs.declared.ast.Exposure.{Exposure}
-use Rattle.dl_ast.specs.declared.ast.Exposure.TheVariants.{Claims, Loss, Premium}
-use Rattle.dl_ast.specs.declared.ast.FreqAst.{FreqAst}
-use Rattle.dl_ast.specs.declared.ast.FreqAst.TheVariants.{Fixed, Poisson, Bernoulli, Binomial, Gamma}
-use Rattle.dl_ast.specs.declared.ast.SevAst.{SevAst}
-use Rattle.dl_ast.specs.declared.ast.Cession.{Cession}
-use Rattle.dl_ast.specs.declared.ast.UnitAst.{UnitAst}
-use Rattle.dl_ast.specs.declared.ast.CountAst.{CountAst}
-use Rattle.dl_ast.specs.declared.ast.CountAst.TheVariants.{Exposed, Listed}
-use Rattle.dl_read.specs.First.{each_of}
-use Rattle.dl_read.specs.Numerals.{value}
-use Rattle.dl_read.specs.Lists.{values_of, itself, is_fine, is_admitted}
-use Rattle.dl_amounts.specs.Clauses.{shares_of}
-use Rattle.dl_amounts.specs.Severity.{severity_in_layer, final_severity, mixture_shares}
+use Rattle.dl_plan.specs.Severity.{Pairs, probability, mean_amount}
+use Rattle.dl_read.specs.declared.tree.ReadExposure.{ReadExposure}
+use Rattle.dl_read.specs.declared.tree.ReadExposure.TheVariants.{Claims, Loss, Premium}
+use Rattle.dl_read.specs.declared.tree.ReadFreq.{ReadFreq}
+use Rattle.dl_read.specs.declared.tree.ReadFreq.TheVariants.{Fixed, Poisson, Bernoulli, Binomial, Gamma}
+use Rattle.dl_read.specs.declared.tree.ReadCount.{ReadCount}
+use Rattle.dl_read.specs.declared.tree.ReadCount.TheVariants.{Exposed, Listed}
+use Rattle.dl_read.specs.Lists.{is_admitted}
+use Rattle.dl_amounts.specs.declared.grid.GridUnit.{GridUnit}
+use Rattle.dl_amounts.specs.Severity.{severity_in_layer}
 use Rattle.dl_amounts.specs.FineParts.{has_severity}
 
--- the exposure of a count that has one
-abbrev pub exposure_of : CountAst → Option Exposure
-exposure_of (Exposed exposure freq) = Some exposure
-exposure_of (Listed counts probs _) = None
-
 -- the expected severity in money, after the layer and before the occurrence clause
-abbrev pub mean_in_money : Fraction → UnitAst → Fraction
-mean_in_money bs u = mean_amount (severity_in_layer bs u) *ℚ bs
+abbrev pub mean_in_money : Fraction → GridUnit → Fraction
+mean_in_money bs u = mean_amount (severity_in_layer u) *ℚ bs
 
 -- the expected loss, where the exposure is one
-abbrev pub expected_loss : Exposure → Option Fraction
+abbrev pub expected_loss : ReadExposure → Option Fraction
 expected_loss (Claims n _) = None
-expected_loss (Loss n _) = Some (value n)
-expected_loss (Premium p r _) = Some (value p *ℚ value r)
+expected_loss (Loss n _) = Some n
+expected_loss (Premium p r _) = Some (p *ℚ r)
 
 -- the expected count: the claims, or the expected loss over the expected severity
-abbrev pub expected_count : Fraction → UnitAst → Exposure → Fraction
-expected_count bs u (Claims n _) = value n
-expected_count bs u (Loss n _) = value n /ℚ mean_in_money bs u
-expected_count bs u (Premium p r _) = value p *ℚ value r /ℚ mean_in_money bs u
+abbrev pub expected_count : Fraction → GridUnit → ReadExposure → Fraction
+expected_count bs u (Claims n _) = n
+expected_count bs u (Loss n _) = n /ℚ mean_in_money bs u
+expected_count bs u (Premium p r _) = p *ℚ r /ℚ mean_in_money bs u
 
 -- the expected count is there: a loss or a premium needs the severity
-abbrev pub has_count : Fraction → UnitAst → Exposure → Bool
-has_count bs u (Claims n _) = true
-has_count bs u (Loss n _) = has_severity bs u.sev
-has_count bs u (Premium p r _) = has_severity bs u.sev
+abbrev pub has_count : GridUnit → ReadExposure → Bool
+has_count u (Claims n _) = true
+has_count u (Loss n _) = has_severity u.sev
+has_count u (Premium p r _) = has_severity u.sev
 
--- it is there, and both parts of it are below 2^48
-abbrev pub has_admitted : Fraction → UnitAst → Exposure → Bool
-has_admitted bs u exposure = has_count bs u exposure && is_admitted (expected_count bs u exposure)
+-- a number, where it is there and both parts of it are below 2^48
+abbrev pub admitted : Bool → Fraction → Option Fraction
+admitted has x = if has && is_admitted x then Some x else None
 
--- the answer is x, where x is there and both parts of it are below 2^48
-abbrev pub GivesAdmitted : Option Fraction → Bool → Fraction → Type 0
-GivesAdmitted answer has x = MatchOption answer ((has && is_admitted x) ≡ false) (λ n. (n ≡ x) × ((has && is_admitted x) ≡ true))
+-- the expected count of an exposure, where it is there and admitted
+abbrev pub exposed_claims : Fraction → GridUnit → ReadExposure → Option Fraction
+exposed_claims bs u exposure = admitted (has_count u exposure) (expected_count bs u exposure)
 
--- the answer is the expected count of an exposure, where it is there and admitted
-abbrev pub IsCounted : Fraction → UnitAst → Exposure → Option Fraction → Type 0
-IsCounted bs u exposure count =
-    MatchOption count (has_admitted bs u exposure ≡ false) (λ n. (n ≡ expected_count bs u exposure) × (has_admitted bs u exposure ≡ true))
+-- and that of the unit, where it lists no counts
+abbrev pub claims_of : Fraction → GridUnit → ReadCount → Option Fraction
+claims_of bs u (Exposed exposure freq) = exposed_claims bs u exposure
+claims_of bs u (Listed counts probs) = None
 
--- and of the exposure of the unit, if it has one
-abbrev pub IsExpected : Fraction → UnitAst → Option Fraction → Type 0
-IsExpected bs u count = (exposure : Exposure) → exposure_of u.count ≡ Some exposure → IsCounted bs u exposure count
+unfoldable pub expected_claims : Fraction → GridUnit → Option Fraction
+expected_claims bs u = claims_of bs u u.count
 
 -- a Poisson or a gamma count: there is no greatest number of claims
-abbrev pub is_unbounded : FreqAst → Bool
+abbrev pub is_unbounded : ReadFreq → Bool
 is_unbounded (Fixed _) = false
 is_unbounded (Poisson _) = true
 is_unbounded (Bernoulli _) = false
 is_unbounded (Binomial p _) = false
 is_unbounded (Gamma c _) = true
 
--- of so many claims, the expected number above 0: the number times the probability that a claim is above 0
-abbrev pub thinned : Fraction → UnitAst → Fraction → Fraction
-thinned bs u number = number *ℚ (whole 1 -ℚ probability (final_severity bs u) 0)
+-- the expected number of claims above 0: the expected claims times the probability that one is
+-- above 0
+abbrev pub thinned : Pairs → Fraction → Fraction
+thinned severity n = n *ℚ (whole 1 -ℚ probability severity 0)
 
-abbrev pub thinned_mean : Fraction → UnitAst → Exposure → Fraction
-thinned_mean bs u exposure = thinned bs u (expected_count bs u exposure)
+-- where both are there and admitted
+abbrev pub claims_above_zero : Pairs → Option Fraction → Option Fraction
+claims_above_zero severity None = None
+claims_above_zero severity (Some n) = admitted true (thinned severity n)
 
--- the answer is that of so many claims, where it is admitted
-abbrev pub IsThinned : Fraction → UnitAst → Fraction → Option Fraction → Type 0
-IsThinned bs u number mean = MatchOption mean (is_admitted (thinned bs u number) ≡ false) (λ m. (m ≡ thinned bs u number) × (is_admitted (thinned bs u number) ≡ true))
+-- a number that is there passes a test
+abbrev pub is_there_and : (Fraction → Bool) → Option Fraction → Bool
+is_there_and test None = false
+is_there_and test (Some n) = test n
 
 -- the shape of a gamma factor with this coefficient of variation
 abbrev pub shape_of : Fraction → Fraction

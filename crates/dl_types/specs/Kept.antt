@@ -1,34 +1,66 @@
--- What a unit keeps once the first rules are not broken: what later rules may ask of it.
-use Rattle.std.specs.Prelude.{◌≡◌, ◌^◌, ◌<◌, ◌≤◌, None, false}
-use Rattle.dl_exact.specs.Fraction.{Fraction, whole, ◌<ℚ◌}
-use Rattle.dl_ast.specs.declared.ast.UnitAst.{UnitAst}
-use Rattle.dl_ast.specs.WellFormed.{IsUnit}
+-- What a unit keeps once rules are not broken: what later steps may ask of it.
+use Rattle.std.specs.Prelude.{◌≡◌, ◌≤◌, ⊤, Option, true, false, IsSomeAnd}
+use Rattle.dl_limits.specs.Limits.{most_claims, most_log2, most_shape}
+use Rattle.dl_exact.specs.Fraction.{Fraction, whole, ◌/ℚ◌, ◌<ℚ◌}
 use Rattle.dl_plan.specs.declared.settings.Settings.{Settings}
-use Rattle.dl_amounts.specs.FineParts.{fractions_too_fine}
-use Rattle.dl_read.specs.Rules.{bad_numeral, bad_range, list_too_long}
-use Rattle.dl_amounts.specs.Rules.{lengths_differ, not_one, off_grid, too_far, weights_differ, none_above, overlap, share_above_one, off_grid_cession}
+use Rattle.dl_plan.specs.Fine.{IsAdmitted}
 use Rattle.dl_plan.specs.Ranges.{IsBucket}
-use Rattle.dl_amounts.specs.Kept.{IsLayered}
-use Rattle.dl_types.specs.Rules.{zero_mean, count_not_whole, count_above_one, trials_not_whole, shape_not_whole, too_fine, too_many_claims}
+use Rattle.dl_read.specs.declared.tree.ReadFreq.{ReadFreq}
+use Rattle.dl_read.specs.declared.tree.ReadFreq.TheVariants.{Fixed, Poisson, Bernoulli, Binomial, Gamma}
+use Rattle.dl_read.specs.declared.tree.ReadCount.{ReadCount}
+use Rattle.dl_read.specs.declared.tree.ReadCount.TheVariants.{Exposed, Listed}
+use Rattle.dl_read.specs.Kept.{IsFreqRead}
+use Rattle.dl_read.specs.Lists.{is_whole, is_zero, is_above}
+use Rattle.dl_types.specs.Exposures.{shape_of}
+use Rattle.dl_types.specs.Listed.{AreCounts}
+use Rattle.dl_types.specs.Rules.{passes}
 
 -- the settings as the command line gives them: a bucket size, and from 2 to 4,096 cells
 pub record IsSet (settings : Settings) : Type 0 where
   pub bucket : IsBucket settings.bs
   pub some : 1 ≤ settings.log2
-  pub few : settings.log2 ≤ 12
+  pub few : settings.log2 ≤ most_log2
 
--- its probabilities sum to 1, its clauses map whole amounts to whole amounts, its counts are whole, and all its fractions are fine
-pub record IsFineUnit (bs : Fraction) (u : UnitAst) : Type 0 where
-  pub layered : IsLayered bs u
-  pub one : not_one u ≡ None
-  pub ceded : off_grid_cession bs u ≡ None
-  pub counts : count_not_whole bs u ≡ None
-  pub fine : too_fine bs u ≡ None
+-- n claims are expected of trials with the probability p
+pub record AreTrials (p n : Fraction) : Type 0 where
+  pub above : whole 0 <ℚ p
+  pub within : is_above p (whole 1) ≡ false
+  pub whole : is_whole (n /ℚ p) ≡ true
 
--- the expected count can be counted with
-pub record IsExposedUnit (bs : Fraction) (u : UnitAst) : Type 0 where
-  pub above : zero_mean bs u ≡ None
-  pub within : count_above_one bs u ≡ None
-  pub trials : trials_not_whole bs u ≡ None
-  pub shape : shape_not_whole u ≡ None
-  pub few : too_many_claims bs u ≡ None
+-- a gamma factor with this coefficient of variation has a whole shape
+pub record IsShaped (c : Fraction) : Type 0 where
+  pub above : is_zero c ≡ false
+  pub whole : is_whole (shape_of c) ≡ true
+
+-- with n claims expected, what has to be whole is, and a probability is at most 1
+abbrev pub IsWholeFreq : ReadFreq → Fraction → Type 0
+IsWholeFreq (Fixed _) n = is_whole n ≡ true
+IsWholeFreq (Poisson _) n = ⊤
+IsWholeFreq (Bernoulli _) n = is_above n (whole 1) ≡ false
+IsWholeFreq (Binomial p _) n = AreTrials p n
+IsWholeFreq (Gamma c _) n = IsShaped c
+
+-- and what has to be small is
+abbrev pub IsSmallFreq : ReadFreq → Fraction → Type 0
+IsSmallFreq (Fixed _) n = passes n most_claims ≡ false
+IsSmallFreq (Poisson _) n = ⊤
+IsSmallFreq (Bernoulli _) n = ⊤
+IsSmallFreq (Binomial p _) n = passes (n /ℚ p) most_claims ≡ false
+IsSmallFreq (Gamma c _) n = passes (shape_of c) most_shape ≡ false
+
+-- a distribution that breaks no rule, with n claims expected
+pub record IsFreqKept (freq : ReadFreq) (n : Fraction) : Type 0 where
+  pub read : IsFreqRead freq
+  pub whole : IsWholeFreq freq n
+  pub few : IsSmallFreq freq n
+  pub admitted : IsAdmitted n
+
+-- a count whose number is there, and of which as much is whole as has to be
+abbrev pub IsWholeCount : ReadCount → Option Fraction → Type 0
+IsWholeCount (Exposed exposure freq) n = IsSomeAnd n (IsWholeFreq freq)
+IsWholeCount (Listed counts probs) n = ⊤
+
+-- a count that breaks no rule
+abbrev pub IsCountKept : ReadCount → Option Fraction → Type 0
+IsCountKept (Exposed exposure freq) n = IsSomeAnd n (IsFreqKept freq)
+IsCountKept (Listed counts probs) n = AreCounts counts probs

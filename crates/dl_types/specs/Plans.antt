@@ -1,5 +1,5 @@
 -- What a program means: its plan.
-use Rattle.std.specs.Prelude.{ℕ, ◌≡◌, List, map, zip, Option, Some, None}
+use Rattle.std.specs.Prelude.{ℕ, ◌≡◌, List, map, zip, Option, Some, None, IfSome, All}
 use Rattle.dl_exact.specs.Fraction.{Fraction, whole, ◌over◌, ◌/ℚ◌}
 use Rattle.dl_plan.specs.declared.plan.Freq.{Freq}
 use Rattle.dl_plan.specs.declared.plan.Freq.TheVariants as of_plan
@@ -9,55 +9,96 @@ use Rattle.dl_plan.specs.declared.settings.Settings.{Settings}
 use Rattle.dl_plan.specs.declared.item.Item.{Item}
 use Rattle.dl_plan.specs.Weighted.{weight_at}
 use Rattle.dl_plan.specs.Severity.{Pairs, probability, Means}
-use Rattle.dl_plan.specs.Cession.{Clause}
-use Rattle.dl_ast.specs.declared.ast.FreqAst.TheVariants.{Fixed, Poisson, Bernoulli, Binomial, Gamma}
-use Rattle.dl_ast.specs.declared.ast.CountAst.{CountAst}
-use Rattle.dl_ast.specs.declared.ast.CountAst.TheVariants.{Exposed, Listed}
-use Rattle.dl_ast.specs.declared.ast.ListAst.{ListAst}
-use Rattle.dl_ast.specs.declared.ast.Cession.{Cession}
+use Rattle.dl_plan.specs.Clause.{Clause, IsClause}
+use Rattle.dl_plan.specs.Count.{IsClaimCount, expected_count as expected_of_plan}
+use Rattle.dl_plan.specs.Fine.{IsAdmitted}
+use Rattle.dl_plan.specs.Valid.{IsWithinMostAmount}
+use Rattle.dl_read.specs.declared.tree.ReadFreq.{ReadFreq}
+use Rattle.dl_read.specs.declared.tree.ReadFreq.TheVariants.{Fixed, Poisson, Bernoulli, Binomial, Gamma}
+use Rattle.dl_read.specs.declared.tree.ReadCount.{ReadCount}
+use Rattle.dl_read.specs.declared.tree.ReadCount.TheVariants.{Exposed, Listed}
+use Rattle.dl_read.specs.declared.tree.ReadList.{ReadList}
+use Rattle.dl_amounts.specs.declared.grid.GridClause.{GridClause}
+use Rattle.dl_amounts.specs.declared.grid.GridUnit.{GridUnit}
+use Rattle.dl_amounts.specs.Grid.{grid_of}
+use Rattle.dl_read.specs.Read.{read_of}
 use Rattle.dl_ast.specs.declared.ast.UnitAst.{UnitAst}
 use Rattle.dl_ast.specs.declared.ast.Program.{Program}
 use Rattle.std.specs.List.{AllZip}
-use Rattle.dl_read.specs.Numerals.{value}
-use Rattle.dl_read.specs.Lists.{values_of, probs_of}
+use Rattle.dl_read.specs.Lists.{probs_of}
 use Rattle.dl_amounts.specs.Clauses.{clause_of}
 use Rattle.dl_amounts.specs.Severity.{final_severity}
 use Rattle.dl_types.specs.Exposures.{expected_count, shape_of}
-use Rattle.dl_types.specs.Faults.{cells_of}
+use Rattle.dl_types.specs.Faults.{cells_asked}
 
 -- each listed number of claims with its probability
-abbrev pub count_pairs : ListAst → Option ListAst → Pairs
-count_pairs counts probs = zip (map (λ x. x.num) (values_of counts)) (probs_of counts probs)
+abbrev pub count_pairs : ReadList → Option ReadList → Pairs
+count_pairs counts probs = zip (map (λ x. x.num) counts.values) (probs_of counts probs)
 
 -- a table of these numbers of claims, equal ones added up
-abbrev pub IsTableOf : ListAst → Option ListAst → Freq → Type 0
+abbrev pub IsTableOf : ReadList → Option ReadList → Freq → Type 0
 IsTableOf counts probs freq =
     (table : List Item) × (total : ℕ) × (freq ≡ of_plan.Table table total)
     × ((n : ℕ) → weight_at table n over total ≡ probability (count_pairs counts probs) n)
 
--- the claim count of the plan is that of the text; a binomial count has as many trials as the expected count over the probability of one
-abbrev pub IsCountOf : Fraction → UnitAst → CountAst → Freq → Type 0
-IsCountOf bs u (Exposed exposure (Fixed _)) freq = (m : ℕ) × (whole m ≡ expected_count bs u exposure) × (freq ≡ of_plan.Fixed m)
-IsCountOf bs u (Exposed exposure (Poisson _)) freq = freq ≡ of_plan.Poisson (expected_count bs u exposure)
-IsCountOf bs u (Exposed exposure (Bernoulli _)) freq = freq ≡ of_plan.Bernoulli (expected_count bs u exposure)
-IsCountOf bs u (Exposed exposure (Binomial p _)) freq =
-    (m : ℕ) × (whole m ≡ expected_count bs u exposure /ℚ value p) × (freq ≡ of_plan.Binomial m (value p))
-IsCountOf bs u (Exposed exposure (Gamma c _)) freq = (r : ℕ) × (whole r ≡ shape_of (value c)) × (freq ≡ of_plan.Gamma r (expected_count bs u exposure))
-IsCountOf bs u (Listed counts probs _) freq = IsTableOf counts probs freq
+-- with n claims expected, the claim count of the plan is that of the text; a binomial count has as
+-- many trials as n over the probability of one
+abbrev pub IsCountWith : ReadFreq → Fraction → Freq → Type 0
+IsCountWith (Fixed _) n freq = (m : ℕ) × (whole m ≡ n) × (freq ≡ of_plan.Fixed m)
+IsCountWith (Poisson _) n freq = freq ≡ of_plan.Poisson n
+IsCountWith (Bernoulli _) n freq = freq ≡ of_plan.Bernoulli n
+IsCountWith (Binomial p _) n freq =
+    (m : ℕ) × (whole m ≡ n /ℚ p) × (freq ≡ of_plan.Binomial m p)
+IsCountWith (Gamma c _) n freq = (r : ℕ) × (whole r ≡ shape_of c) × (freq ≡ of_plan.Gamma r n)
 
-abbrev pub aggregate_clause : Fraction → Option Cession → Option Clause
-aggregate_clause bs None = None
-aggregate_clause bs (Some c) = Some (clause_of bs c)
+abbrev pub IsCountOf : Fraction → GridUnit → ReadCount → Freq → Type 0
+IsCountOf bs u (Exposed exposure dist) freq = IsCountWith dist (expected_count bs u exposure) freq
+IsCountOf bs u (Listed counts probs) freq = IsTableOf counts probs freq
 
--- the unit of the plan has the name, the final severity, the claim count and the aggregate clause of the text
-pub record IsUnitOf (bs : Fraction) (u : UnitAst) (made : UnitOfPlan) : Type 0 where
-  pub name : made.name ≡ u.name.text
-  pub severity : Means made.sev (final_severity bs u)
+-- that count in numbers, where what has to be whole is
+abbrev pub freq_with : ReadFreq → Fraction → Freq
+freq_with (Fixed _) n = of_plan.Fixed n.num
+freq_with (Poisson _) n = of_plan.Poisson n
+freq_with (Bernoulli _) n = of_plan.Bernoulli n
+freq_with (Binomial p _) n = of_plan.Binomial (n /ℚ p).num p
+freq_with (Gamma c _) n = of_plan.Gamma (shape_of c).num n
+
+-- the table of listed counts, which is valid
+pub record IsTabled (counts : ReadList) (probs : Option ReadList) (freq : Freq) : Type 0 where
+  pub table : IsTableOf counts probs freq
+  pub valid : IsClaimCount freq
+  pub expected : IsAdmitted (expected_of_plan freq)
+
+-- the claim count that is made of the text
+abbrev pub IsCountMade : ReadCount → Option Fraction → Freq → Type 0
+IsCountMade (Exposed exposure dist) n freq = IfSome n (λ x. freq ≡ freq_with dist x)
+IsCountMade (Listed counts probs) n freq = IsTabled counts probs freq
+
+abbrev pub aggregate_clause : Option GridClause → Option Clause
+aggregate_clause None = None
+aggregate_clause (Some c) = Some (clause_of c)
+
+-- the aggregate clause, where there is one, with small layers
+pub record IsCedeOf (cession : Option GridClause) (made : Option Clause) : Type 0 where
+  pub same : made ≡ aggregate_clause cession
+  pub accepted : IfSome made IsClause
+  pub near : IfSome made (λ clause. All IsWithinMostAmount clause.1)
+
+-- the unit of the plan has the name, the final severity, the claim count and the aggregate clause
+-- of a unit in whole buckets
+pub record IsUnitOn (bs : Fraction) (text : List ℕ) (u : GridUnit) (made : UnitOfPlan) : Type 0 where
+  pub name : made.name ≡ text
+  pub severity : Means made.sev (final_severity u)
   pub count : IsCountOf bs u u.count made.freq
-  pub clause : made.cede ≡ aggregate_clause bs u.agr
+  pub clause : made.cede ≡ aggregate_clause u.agr
 
--- the plan of a program: the bucket size and the cells of the settings, and the units in the order of the text
+-- and those of the text
+abbrev pub IsUnitOf : Fraction → UnitAst → UnitOfPlan → Type 0
+IsUnitOf bs u made = IsUnitOn bs u.name.text (grid_of bs (read_of u)) made
+
+-- the plan of a program: the bucket size and the cells of the settings, and the units in the order
+-- of the text
 pub record IsPlanOf (program : Program) (settings : Settings) (plan : Plan) : Type 0 where
   pub bucket : plan.bs ≡ settings.bs
-  pub cells : plan.cells ≡ cells_of settings
+  pub cells : plan.cells ≡ cells_asked settings
   pub units : AllZip (IsUnitOf settings.bs) program.units plan.units

@@ -12,6 +12,7 @@ ghost use Rattle.dl_types.specs.Plans.{IsPlanOf};
 
 /// A program that breaks no rule has a plan, and that is valid.
 pub fn law_accepted()
-    ensures { (program : Program) (settings : Settings) → IsWellFormed program → IsSet settings → first_fault program settings ≡ None
+    ensures { (program : Program) (settings : Settings) → IsWellFormed program → IsSet settings
+        → first_fault program settings ≡ None
         → (plan : Plan) × IsPlanOf program settings plan × IsValid plan }
 {}

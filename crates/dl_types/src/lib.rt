@@ -7,7 +7,6 @@ mod exposures;
 mod fault;
 mod fine;
 mod frequencies;
-mod horizon;
 mod law;
 mod names;
 mod program;
@@ -15,7 +14,6 @@ mod ratio;
 mod rule;
 #[cfg(test)]
 mod tests;
-mod thinned;
 mod unit;
 
 pub use fault::{CheckFault, TypeFault};

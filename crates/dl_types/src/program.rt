@@ -1,16 +1,18 @@
 //! The plan of a program, or its first fault.
 
 ghost use Rattle.std.specs.Prelude.{◌≡◌, ◌≤◌, ℕ, [], None, All, length};
-ghost use Rattle.dl_ast.specs.WellFormed.{IsWellFormed, IsUnit};
+ghost use Rattle.dl_limits.specs.Limits.{most_units};
+ghost use Rattle.dl_ast.specs.WellFormed.{IsWellFormed, IsFormedUnit};
 ghost use Rattle.dl_types.specs.Rules.{too_many_units};
 ghost use Rattle.dl_types.specs.Kept.{IsSet};
-ghost use Rattle.dl_types.specs.Answer.{Answers, AnswersUnits};
+ghost use Rattle.dl_types.specs.Answer.{IsCheckOf, AnswersUnits};
 
 use crate::fault::{CheckFault, TypeFault};
 use crate::rule::Rule;
 use crate::unit::{cells, check_unit};
 use dl_ast::{Program, UnitAst};
 use dl_lexer::Span;
+use dl_limits::MOST_UNITS;
 use dl_plan::{Many, Plan, Settings, Unit};
 use indexmap::IndexSet;
 use std::alloc::Global;
@@ -24,11 +26,11 @@ use std::alloc::Global;
 pub fn check(alloc: Global, program: &Program, settings: &Settings) -> Result<Plan, CheckFault>
     requires formed { IsWellFormed program.now }
     requires set { IsSet settings.now }
-    ensures { Answers program.now settings.now result }
+    ensures { IsCheckOf program.now settings.now result }
 {
     if let Some(span) = too_many_units(program.units.as_slice()) {
         return Err(CheckFault::Typing(TypeFault {
-            unit: 16,
+            unit: MOST_UNITS as u32,
             rule: Rule::TooManyUnits,
             span,
         }));
@@ -48,7 +50,7 @@ pub fn check(alloc: Global, program: &Program, settings: &Settings) -> Result<Pl
 fn too_many_units(units: &[UnitAst]) -> Option<Span>
     ensures { result ≡ too_many_units units.now }
 {
-    match units.get(16) {
+    match units.get(MOST_UNITS) {
         Some(unit) => Some(unit.name.span),
         None => None,
     }
@@ -61,8 +63,8 @@ fn check_units(
     settings: &Settings,
 ) -> Result<Many<Unit>, CheckFault>
     requires set { IsSet settings.now }
-    requires few { length units.now ≤ 16 }
-    requires formed { All IsUnit units.now }
+    requires few { length units.now ≤ most_units }
+    requires formed { All IsFormedUnit units.now }
     ensures { AnswersUnits settings.now units.now result }
 {
     let mut names = IndexSet::new(alloc);

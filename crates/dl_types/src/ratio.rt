@@ -1,11 +1,11 @@
 //! Wide fractions: quotients of two fractions of small parts.
 
-ghost use Rattle.std.specs.Prelude.{◌≡◌, ◌<◌, true, false};
-ghost use Rattle.std.specs.Option.{MatchOption};
+ghost use Rattle.std.specs.Prelude.{◌≡◌, ◌<◌, true};
 ghost use Rattle.dl_exact.specs.Gcd.{gcd};
 ghost use Rattle.dl_exact.specs.Fraction.{whole, ◌*ℚ◌, ◌/ℚ◌, ◌<ℚ◌};
-ghost use Rattle.dl_read.specs.Lists.{is_admitted};
+ghost use Rattle.dl_types.specs.Exposures.{admitted};
 
+use crate::claims::admitted;
 use dl_frac::Frac;
 use std::marker::Model;
 
@@ -44,10 +44,10 @@ impl Ratio {
 
     /// The product, where both parts of it are below 2^48.
     pub(crate) fn times(self, o: Ratio) -> Option<Frac>
-        ensures { MatchOption result (is_admitted (self *ℚ o) ≡ false) (λ product. (product ≡ self *ℚ o) × (is_admitted (self *ℚ o) ≡ true)) }
+        ensures { result ≡ admitted true (self *ℚ o) }
     {
         if self.num == 0 || o.num == 0 {
-            return Some(Frac::make(0, 1).unwrap());
+            return Some(Frac::whole(0));
         }
         let Ok(first) = Frac::make(self.num, o.den) else {
             return None;
@@ -59,16 +59,5 @@ impl Ratio {
             Ok(product) => admitted(product),
             Err(_) => None,
         }
-    }
-}
-
-/// The value, where both parts of it are below 2^48.
-pub(crate) fn admitted(value: Frac) -> Option<Frac>
-    ensures { MatchOption result (is_admitted value ≡ false) (λ same. (same ≡ value) × (is_admitted value ≡ true)) }
-{
-    if value.num() < 1 << 48 && value.den() < 1 << 48 {
-        Some(value)
-    } else {
-        None
     }
 }

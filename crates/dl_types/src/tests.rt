@@ -1,17 +1,17 @@
-//! Each rule once broken, with its unit and where its place begins, worked by hand; and the numbers and
-//! the names of rules.
+//! Each rule once broken, with its unit and where its place begins, worked by hand; and the numbers
+//! and the names of rules.
 
 ghost use Rattle.dl_types.specs.Kept.{IsSet};
 
-use crate::exposures::one;
 use crate::{CheckFault, Rule, check};
+use dl_frac::Frac;
 use dl_lexer::lex;
 use dl_parser::parse;
 use dl_plan::{Form, Format, Many, Settings};
 use std::alloc::Global;
 
-/// A text, and the unit, the rule and the first byte of the place that it should be refused for; none
-/// where it breaks no rule.
+/// A text, and the unit, the rule and the first byte of the place that it should be refused for;
+/// none where it breaks no rule.
 type Case = (&'static [u8], Option<(u32, Rule, u32)>);
 
 const CASES: [Case; 34] = [
@@ -154,7 +154,7 @@ fn settings(alloc: Global) -> Settings
     Settings {
         form: Form::Run,
         make: None,
-        bs: one(),
+        bs: Frac::whole(1),
         log2: 4,
         digits: 6,
         width: 10,

@@ -4,7 +4,6 @@ use Rattle.dl_exact.specs.Fraction.{whole, ◌<ℚ◌}
 use Rattle.dl_plan.specs.Severity.{mean_amount, pairs_of}
 use Rattle.dl_amounts.specs.Severity.{severity_in_layer}
 use Rattle.dl_read.proofs.Nothing.{not_then}
-use Rattle.dl_amounts.proofs.Parts.{sev_on_grid}
 use Rattle.dl_amounts.proofs.Near.{in_layer_near}
 use Rattle.dl_amounts.proofs.Meaning.{scored_alike, alike_own}
 use Rattle.dl_types.proofs.Exposed.{mean_above}
@@ -12,16 +11,18 @@ use Rattle.dl_types.proofs.exposures.mean_in_layer.Goals as goal
 
 pub mean-requires : goal.mean-requires
 mean-requires c =
-    in_layer_near c.args.bs c.args.unit.now.layer c.args.unit.now.sev (sev_on_grid c.args.bs c.args.unit.now c.requires.on_grid) c.args.layered.now c.requires.layered
+    in_layer_near c.args.unit.now.layer c.args.unit.now.sev c.requires.grid.sev c.args.layered.now c.requires.layered
 
 pub returns-clause-mean : goal.returns-clause-mean
 returns-clause-mean c =
-    let ps = severity_in_layer c.args.bs c.args.unit.now in
-    c.mean.ensures ∙ scored_alike whole (pairs_of c.args.layered.now) ps (alike_own c.args.layered.now ps c.requires.layered)
+    let ps = severity_in_layer c.args.unit.now in
+    c.mean.ensures ∙ scored_alike whole (pairs_of c.args.layered.now) ps
+    (alike_own c.args.layered.now ps c.requires.layered)
 
 pub returns-clause-above : goal.returns-clause-above
 returns-clause-above c =
-    let ps = severity_in_layer c.args.bs c.args.unit.now in
+    let ps = severity_in_layer c.args.unit.now in
     let same : c.mean.result ≡ mean_amount ps =
-    c.mean.ensures ∙ scored_alike whole (pairs_of c.args.layered.now) ps (alike_own c.args.layered.now ps c.requires.layered) in
+    c.mean.ensures ∙ scored_alike whole (pairs_of c.args.layered.now) ps
+    (alike_own c.args.layered.now ps c.requires.layered) in
     subst (λ t. whole 0 <ℚ t) (sym same) (mean_above ps (not_then _ c.requires.loss))

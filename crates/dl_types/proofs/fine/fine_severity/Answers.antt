@@ -8,9 +8,8 @@ final_severity-requires-clause-fine c =
     let told = rw c.in-Some.is at c.requires.layered in
     record {
       layered = c.requires.unit;
-      one = c.requires.one;
       ceded = c.requires.ceded;
-      fine = fine_parts c.args.bs c.args.unit.now told.0 (sym c.in_ok-coarse.ensures ∙ c.if-coarse.false);
+      fine = fine_parts c.args.unit.now told.0 (sym c.in_ok-coarse.ensures ∙ c.if-coarse.false);
     }
 
 pub final_severity-requires-clause-layered : goal.final_severity-requires-clause-layered
@@ -21,14 +20,14 @@ final_severity-requires-clause-layered c =
 pub returns-in_default : goal.returns-in_default
 returns-in_default c =
     let told = rw c.in_default.is at c.requires.layered in
-    coarse_severity c.args.bs c.args.unit.now told
+    coarse_severity c.args.unit.now told
 
 pub returns-then-coarse : goal.returns-then-coarse
-returns-then-coarse c = coarse_parts c.args.bs c.args.unit.now (sym c.in_ok-coarse.ensures ∙ c.if-coarse.true)
+returns-then-coarse c = coarse_parts c.args.unit.now (sym c.in_ok-coarse.ensures ∙ c.if-coarse.true)
 
 pub returns : goal.returns
 returns c =
     let told = rw c.in-Some.is at c.requires.layered in (
-      fine_parts c.args.bs c.args.unit.now told.0 (sym c.in_ok-coarse.ensures ∙ c.if-coarse.false),
+      fine_parts c.args.unit.now told.0 (sym c.in_ok-coarse.ensures ∙ c.if-coarse.false),
       record { means = c.in_ok-made.ensures.means; near = c.in_ok-made.ensures.near; few = c.in_ok-made.ensures.few },
     )

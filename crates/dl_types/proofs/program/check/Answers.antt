@@ -1,5 +1,6 @@
 -- The seventeenth unit first; then the units in turn.
 use Rattle.std.proofs.Common.{◌∙◌, ◌≤◌, List, length, Err, Ok, ap, refl, sym, subst}
+use Rattle.dl_limits.specs.Limits.{most_units}
 use Rattle.dl_ast.specs.declared.ast.UnitAst.{UnitAst}
 use Rattle.dl_types.specs.Answer.{AnswersUnits}
 use Rattle.dl_types.specs.Rules.{too_many_units}
@@ -13,18 +14,22 @@ returns-in-Some c =
 
 pub check_units-requires-clause-few : goal.check_units-requires-clause-few
 check_units-requires-clause-few c =
-    subst (λ (us : List UnitAst). length us ≤ 16) (sym c.as_slice-2.ensures)
-    (few_units c.args.program.now.units (ap too_many_units (sym c.as_slice.ensures) ∙ sym c.too_many_units.ensures ∙ c.in_default.is))
+    subst (λ (us : List UnitAst). length us ≤ most_units) (sym c.as_slice-2.ensures)
+    (few_units c.args.program.now.units (ap too_many_units (sym c.as_slice.ensures) ∙ sym c.too_many_units.ensures
+    ∙ c.in_default.is))
 
 pub returns-in-Err : goal.returns-in-Err
 returns-in-Err c =
     fault_of_units c.args.program.now c.args.settings.now c.in-Err.fault
     (ap too_many_units (sym c.as_slice.ensures) ∙ sym c.too_many_units.ensures ∙ c.in_default.is)
-    (subst (λ (us : List UnitAst). AnswersUnits c.args.settings.now us (Err c.in-Err.fault)) c.as_slice-2.ensures c.in-Err.ensures)
+    (subst (λ (us : List UnitAst). AnswersUnits c.args.settings.now us (Err c.in-Err.fault)) c.as_slice-2.ensures
+    c.in-Err.ensures)
 
 pub returns-in-Ok : goal.returns-in-Ok
 returns-in-Ok c =
     let none = ap too_many_units (sym c.as_slice.ensures) ∙ sym c.too_many_units.ensures ∙ c.in_default.is in
-    plan_of_units c.args.program.now c.args.settings.now (record { bs = c.args.settings.now.bs; cells = c.cells.result; units = c.in-Ok.units }) refl c.cells.ensures
+    plan_of_units c.args.program.now c.args.settings.now
+    (record { bs = c.args.settings.now.bs; cells = c.cells.result; units = c.in-Ok.units }) refl c.cells.ensures
     c.requires.set c.requires.formed (few_units c.args.program.now.units none) none
-    (subst (λ (us : List UnitAst). AnswersUnits c.args.settings.now us (Ok c.in-Ok.units)) c.as_slice-2.ensures c.in-Ok.ensures)
+    (subst (λ (us : List UnitAst). AnswersUnits c.args.settings.now us (Ok c.in-Ok.units)) c.as_slice-2.ensures
+    c.in-Ok.ensures)

@@ -7,7 +7,12 @@ use Rattle.dl_plan.specs.Ranges.{IsBucket}
 use Rattle.dl_types.proofs.tests.settings.Goals as goal
 
 one_bucket : IsBucket (whole 1)
-one_bucket = record { above = whole_pos 1 (omega arith); num = omega (arith, whole_num 1); den = omega (arith, whole_den 1) }
+one_bucket = record {
+  above = whole_pos 1 (omega arith);
+  num = omega (arith, whole_num 1);
+  den =
+      omega (arith, whole_den 1);
+}
 
 pub returns : goal.returns
-returns c = record { bucket = subst IsBucket (sym c.one.ensures) one_bucket; some = omega arith; few = omega arith }
+returns c = record { bucket = subst IsBucket (sym c.whole.ensures) one_bucket; some = omega arith; few = omega arith }

@@ -1,47 +1,51 @@
 -- Where a part is too fine, the product is not admitted.
-use Rattle.std.proofs.Common.{◌≡◌, ◌∙◌, ap, ap₂, sym, subst, arith, false, true}
-use Rattle.std.specs.Option.{MatchOption}
+use Rattle.std.proofs.Common.{◌≡◌, ◌∙◌, Some, true, ap, ap₂, sym, subst}
 use Rattle.dl_exact.specs.Fraction.{Fraction, ◌over◌, ◌*ℚ◌, whole}
 use Rattle.dl_frac.specs.Exact.{IsTooFine}
-use Rattle.dl_plan.proofs.Fits.{over_fits, given_ok, given_value}
-use Rattle.dl_read.specs.Lists.{is_admitted}
-use Rattle.dl_types.proofs.Ratios.{first_too_fine, second_too_fine, product_value, too_fine_not_admitted, nothing_left, nothing_right, zero_admitted, above_zero}
+use Rattle.dl_types.specs.Exposures.{admitted}
+use Rattle.dl_types.proofs.Ratios.{first_too_fine, second_too_fine, product_value, too_fine_refused, nothing_left, nothing_right, zero_admitted, above_zero}
 use Rattle.dl_types.proofs.ratio.Ratio.times.Goals as goal
 use Rattle.dl_types.proofs.ratio.Ratio.times.Goals.{then-self-eq0-via-then-self-eq0, then-self-eq0-via-else-self-eq0+then-o-eq0}
-
-pub unwrap-requires : goal.unwrap-requires
-unwrap-requires c = given_ok _ (0 over 1) c.make.ensures (over_fits 0 1 (omega arith) (omega arith) (omega arith))
 
 pub returns-then-self-eq0 : goal.returns-then-self-eq0
 returns-then-self-eq0 c =
     let zero : c.args.self *ℚ c.args.o ≡ whole 0 = elim c.then-self-eq0.branch [
-      | then-self-eq0-via-then-self-eq0 w ↦ nothing_left c.args.self c.args.o (sym (ap (λ (z : Fraction). z.num) c.self.view_is) ∙ w.if-self-eq0.true)
-      | then-self-eq0-via-else-self-eq0+then-o-eq0 w ↦ nothing_right c.args.self c.args.o (sym (ap (λ (z : Fraction). z.num) c.o.view_is) ∙ w.if-o-eq0.true)
+      | then-self-eq0-via-then-self-eq0 w ↦ nothing_left c.args.self c.args.o
+          (sym (ap (λ (z : Fraction). z.num) c.self.view_is) ∙ w.if-self-eq0.true)
+      | then-self-eq0-via-else-self-eq0+then-o-eq0 w ↦ nothing_right c.args.self c.args.o
+          (sym (ap (λ (z : Fraction). z.num) c.o.view_is) ∙ w.if-o-eq0.true)
     ] in
-    (given_value _ (0 over 1) c.unwrap.result c.make.ensures c.unwrap.ensures ∙ sym zero, ap is_admitted zero ∙ zero_admitted)
+    ap (λ z. Some z) c.whole.ensures ∙ zero_admitted ∙ ap (admitted true) (sym zero)
 
 pub returns-in_default : goal.returns-in_default
 returns-in_default c =
     first_too_fine c.args.self c.args.o (above_zero _ _ c.if-o-eq0.false (ap (λ (z : Fraction). z.num) c.o.view_is))
-    (subst IsTooFine (ap₂ (λ n d. n over d) (ap (λ (z : Fraction). z.num) c.self.view_is) (ap (λ (z : Fraction). z.den) c.o.view_is)) c.in_default.ensures)
+    (subst IsTooFine (ap₂ (λ n d. n over d) (ap (λ (z : Fraction). z.num) c.self.view_is)
+    (ap (λ (z : Fraction). z.den) c.o.view_is)) c.in_default.ensures)
 
 pub returns-in_default-make : goal.returns-in_default-make
 returns-in_default-make c =
-    second_too_fine c.args.self c.args.o (above_zero _ _ c.if-self-eq0.false (ap (λ (z : Fraction). z.num) c.self.view_is))
-    (subst IsTooFine (ap₂ (λ n d. n over d) (ap (λ (z : Fraction). z.num) c.o.view_is) (ap (λ (z : Fraction). z.den) c.self.view_is)) c.in_default-make.ensures)
+    second_too_fine c.args.self c.args.o (above_zero _ _ c.if-self-eq0.false
+    (ap (λ (z : Fraction). z.num) c.self.view_is))
+    (subst IsTooFine (ap₂ (λ n d. n over d) (ap (λ (z : Fraction). z.num) c.o.view_is)
+    (ap (λ (z : Fraction). z.den) c.self.view_is)) c.in_default-make.ensures)
 
 pub returns-in-Ok-mul : goal.returns-in-Ok-mul
 returns-in-Ok-mul c =
     let product = ap₂ (λ a b. a *ℚ b)
-    (c.in-Ok.ensures.0 ∙ ap₂ (λ n d. n over d) (ap (λ (z : Fraction). z.num) c.self.view_is) (ap (λ (z : Fraction). z.den) c.o.view_is))
-    (c.in-Ok-make.ensures.0 ∙ ap₂ (λ n d. n over d) (ap (λ (z : Fraction). z.num) c.o.view_is) (ap (λ (z : Fraction). z.den) c.self.view_is))
+    (c.in-Ok.ensures.0 ∙ ap₂ (λ n d. n over d) (ap (λ (z : Fraction). z.num) c.self.view_is)
+    (ap (λ (z : Fraction). z.den) c.o.view_is))
+    (c.in-Ok-make.ensures.0 ∙ ap₂ (λ n d. n over d) (ap (λ (z : Fraction). z.num) c.o.view_is)
+    (ap (λ (z : Fraction). z.den) c.self.view_is))
     ∙ product_value c.args.self c.args.o in
-    subst (λ z. MatchOption c.admitted.result (is_admitted z ≡ false) (λ p. (p ≡ z) × (is_admitted z ≡ true))) (c.in-Ok-mul.ensures.0 ∙ product) c.admitted.ensures
+    c.admitted.ensures ∙ ap (admitted true) (c.in-Ok-mul.ensures.0 ∙ product)
 
 pub returns-in-Err : goal.returns-in-Err
 returns-in-Err c =
     let product = ap₂ (λ a b. a *ℚ b)
-    (c.in-Ok.ensures.0 ∙ ap₂ (λ n d. n over d) (ap (λ (z : Fraction). z.num) c.self.view_is) (ap (λ (z : Fraction). z.den) c.o.view_is))
-    (c.in-Ok-make.ensures.0 ∙ ap₂ (λ n d. n over d) (ap (λ (z : Fraction). z.num) c.o.view_is) (ap (λ (z : Fraction). z.den) c.self.view_is))
+    (c.in-Ok.ensures.0 ∙ ap₂ (λ n d. n over d) (ap (λ (z : Fraction). z.num) c.self.view_is)
+    (ap (λ (z : Fraction). z.den) c.o.view_is))
+    (c.in-Ok-make.ensures.0 ∙ ap₂ (λ n d. n over d) (ap (λ (z : Fraction). z.num) c.o.view_is)
+    (ap (λ (z : Fraction). z.den) c.self.view_is))
     ∙ product_value c.args.self c.args.o in
-    too_fine_not_admitted (c.args.self *ℚ c.args.o) (subst IsTooFine product c.in-Err.ensures)
+    too_fine_refused (c.args.self *ℚ c.args.o) (subst IsTooFine product c.in-Err.ensures)

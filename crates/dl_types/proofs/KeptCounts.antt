@@ -1,0 +1,124 @@
+-- What the rules on a count leave of it.
+use Rattle.std.proofs.Common.{◌≡◌, ◌||◌, ◌&&◌, Bool, true, false, not, if◌then◌else◌, [], Option, Some, None, refl}
+use Rattle.std.specs.List.{All}
+use Rattle.std.specs.Option.{IfSome}
+use Rattle.std.specs.Prelude.{is_some}
+use Rattle.std.proofs.lemmas.List.Elements.{All-head}
+use Rattle.dl_exact.specs.Fraction.{Fraction}
+use Rattle.dl_exact.proofs.Parts.{pos_num}
+use Rattle.dl_plan.specs.Fine.{IsAdmitted}
+use Rattle.dl_read.specs.declared.tree.ReadList.{ReadList}
+use Rattle.dl_read.specs.declared.tree.ReadExposure.{ReadExposure}
+use Rattle.dl_read.specs.declared.tree.ReadFreq.{ReadFreq}
+use Rattle.dl_read.specs.declared.tree.ReadFreq.TheVariants.{Fixed, Poisson, Bernoulli, Binomial, Gamma}
+use Rattle.dl_read.specs.declared.tree.ReadCount.{ReadCount}
+use Rattle.dl_read.specs.declared.tree.ReadCount.TheVariants.{Exposed, Listed}
+use Rattle.dl_read.specs.First.{each_of}
+use Rattle.dl_read.specs.Kept.{IsListRead, IsCountRead}
+use Rattle.dl_read.specs.Lists.{itself, probs_of, probs_in_count}
+use Rattle.dl_read.proofs.Nothing.{not_at, not_then}
+use Rattle.dl_amounts.specs.Parts.{AreProbabilities}
+use Rattle.dl_amounts.specs.Rules.{count_lengths}
+use Rattle.dl_amounts.proofs.Shared.{equal_probabilities}
+use Rattle.dl_types.specs.Exposures.{is_unbounded}
+use Rattle.dl_types.specs.Kept.{IsWholeFreq, IsSmallFreq, IsWholeCount, IsCountKept}
+use Rattle.dl_types.specs.Rules.{exposure_span, count_not_whole, count_above_one, trials_not_whole, shape_not_whole, exposed_too_fine, has_too_many_claims}
+use Rattle.dl_types.proofs.ExposedCounts.{zero_above}
+
+-- ---- tests
+
+none_of_three : (a b d : Bool) → (a || b || d) ≡ false → (a ≡ false) × (b ≡ false) × (d ≡ false)
+none_of_three true b d h = absurd (cc)
+none_of_three false true d h = absurd (cc)
+none_of_three false false d h = (refl, refl, h)
+
+neither : (a b : Bool) → (a || b) ≡ false → (a ≡ false) × (b ≡ false)
+neither true b h = absurd (cc)
+neither false b h = (refl, h)
+
+-- a number that is there is the one that it may be, which passes the test
+pub given : (b : Bool) (x n : Fraction) → (if b then Some x else None) ≡ Some n → (n ≡ x) × (b ≡ true)
+given true x n e = (cc, refl)
+given false x n e = absurd (cc)
+
+-- ---- what has to be whole
+
+-- the rules on whole numbers, with n claims expected
+pub record AreWhole (k : ReadCount) (n : Option Fraction) : Type 0 where
+  pub whole : count_not_whole k n ≡ None
+  pub within : count_above_one k n ≡ None
+  pub trials : trials_not_whole k n ≡ None
+  pub shape : shape_not_whole k ≡ None
+
+whole_freq : (e : ReadExposure) (f : ReadFreq) (n : Fraction) → AreWhole (Exposed e f) (Some n) → IsWholeFreq f n
+unfolding count_not_whole count_above_one trials_not_whole shape_not_whole
+whole_freq e (Fixed span) n are = not_then _ (not_at _ (exposure_span e) are.whole)
+whole_freq e (Poisson span) n are = tt
+whole_freq e (Bernoulli span) n are = not_at _ (exposure_span e) are.within
+whole_freq e (Binomial p span) n are =
+    let parts = none_of_three _ _ _ (not_at _ span are.trials) in
+    record { above = pos_num p (zero_above p.num parts.0); within = parts.1; whole = not_then _ parts.2 }
+whole_freq e (Gamma c span) n are =
+    let parts = neither _ _ (not_at _ span are.shape) in
+    record { above = parts.0; whole = not_then _ parts.1 }
+
+-- ---- what has to be there
+
+-- the number is there, and of an unbounded count the number above 0
+pub number_there : (e : ReadExposure) (f : ReadFreq) (n above : Option Fraction)
+    → exposed_too_fine (Exposed e f) n above ≡ false
+    → (is_some n ≡ true) × ((is_unbounded f && not (is_some above)) ≡ false)
+unfolding exposed_too_fine
+number_there e f n above fine =
+    let parts = none_of_three _ _ _ fine in
+    (not_then _ parts.1, parts.2)
+
+pub whole_count : (k : ReadCount) (n above : Option Fraction) → AreWhole k n → exposed_too_fine k n above ≡ false
+    → IsWholeCount k n
+whole_count (Exposed e f) None above are fine = absurd (cc ((number_there e f None above fine).0))
+whole_count (Exposed e f) (Some n) above are fine = whole_freq e f n are
+whole_count (Listed counts probs) n above are fine = tt
+
+-- ---- all rules
+
+-- and the rules on fractions and on sizes, with so many claims above 0; the lists are good, and the number is admitted
+pub record AreKept (k : ReadCount) (n above : Option Fraction) : Type 0 where
+  pub whole : AreWhole k n
+  pub fine : exposed_too_fine k n above ≡ false
+  pub few : has_too_many_claims k n above ≡ false
+  pub read : IsCountRead k
+  pub paired : count_lengths k ≡ None
+  pub shared : All (λ (l : ReadList). AreProbabilities l.values) (probs_in_count k)
+  pub admitted : IfSome n IsAdmitted
+
+small_freq : (e : ReadExposure) (f : ReadFreq) (n : Fraction) (above : Option Fraction)
+    → has_too_many_claims (Exposed e f) (Some n) above ≡ false → IsSmallFreq f n
+unfolding has_too_many_claims
+small_freq e (Fixed span) n above h = h
+small_freq e (Poisson span) n above h = tt
+small_freq e (Bernoulli span) n above h = tt
+small_freq e (Binomial p span) n above h = h
+small_freq e (Gamma c span) n above h = (neither _ _ h).1
+
+count_shares : (counts : ReadList) → IsListRead counts → (o : Option ReadList)
+    → All (λ (l : ReadList). AreProbabilities l.values) (each_of itself o) → AreProbabilities (probs_of counts o)
+count_shares counts read None h = equal_probabilities counts.values read.some read.few
+count_shares counts read (Some l) h = All-head (λ (m : ReadList). AreProbabilities m.values) l [] h
+
+pub count_kept : (k : ReadCount) (n above : Option Fraction) → AreKept k n above → IsCountKept k n
+unfolding count_not_whole has_too_many_claims
+count_kept (Exposed e f) None above are = absurd (cc ((number_there e f None above are.fine).0))
+count_kept (Exposed e f) (Some n) above are = record {
+  read = are.read.1;
+  whole = whole_freq e f n are.whole;
+  few = small_freq e f n above are.few;
+  admitted = are.admitted;
+}
+count_kept (Listed counts probs) n above are = record {
+  read = are.read.0;
+  second = are.read.1;
+  lengths = are.paired;
+  whole = not_at _ counts.span are.whole.whole;
+  few = are.few;
+  shares = count_shares counts are.read.0 probs are.shared;
+}

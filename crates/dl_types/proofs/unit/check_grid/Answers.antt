@@ -1,0 +1,65 @@
+-- Where no rule is broken, the parts of the plan are valid.
+use Rattle.std.proofs.Common.{ℕ, ◌∙◌, sym, ap, subst}
+use Rattle.dl_amounts.proofs.ClauseGrids.{agr_layered}
+use Rattle.dl_types.specs.declared.rule.Rule.TheVariants.{HorizonTooLarge}
+use Rattle.dl_types.specs.Faults.{breaks, fault_of_clauses, fault_of_count}
+use Rattle.dl_types.specs.Kept.{IsCountKept}
+use Rattle.dl_types.specs.Plans.{IsCountMade}
+use Rattle.dl_types.specs.Rules.{horizon_too_large}
+use Rattle.dl_types.proofs.UnitFacts.{fine_agr, kept_is, first_told, second_told, third_told, grid_told, grid_answer}
+use Rattle.dl_types.proofs.unit.check_grid.Goals as goal
+
+pub returns-in_err-amounts : goal.returns-in_err-amounts
+returns-in_err-amounts c =
+    let u = c.args.grid.now in
+    grid_told c.args.settings.now c.args.number u c.args.unit.now.name.text (fault_of_clauses c.args.number u)
+    c.from_residual.result c.in_err-amounts.field-0.0 c.from_residual.ensures c.in_err-amounts.ensures.told
+    (first_told c.args.settings.now c.args.number u)
+
+pub returns-in_err-claims : goal.returns-in_err-claims
+returns-in_err-claims c =
+    let u = c.args.grid.now in
+    let settings = c.args.settings.now in
+    grid_told settings c.args.number u c.args.unit.now.name.text (fault_of_count settings.bs c.args.number u)
+    c.from_residual-in_err-claims.result c.in_err-claims.field-0.0 c.from_residual-in_err-claims.ensures
+    c.in_err-claims.ensures.told (second_told settings c.args.number u c.in_ok-amounts.ensures.told)
+
+pub check_horizon-requires-clause-layered : goal.check_horizon-requires-clause-layered
+check_horizon-requires-clause-layered c = agr_layered c.args.grid.now c.in_ok-amounts.ensures.layered
+
+pub check_horizon-requires-clause-fine : goal.check_horizon-requires-clause-fine
+check_horizon-requires-clause-fine c =
+    fine_agr c.args.settings.now.bs c.args.number c.args.grid.now c.requires.grid c.in_ok-claims.ensures.told
+
+pub returns-in_err-cede : goal.returns-in_err-cede
+returns-in_err-cede c =
+    let u = c.args.grid.now in
+    let settings = c.args.settings.now in
+    let at = λ (k : ℕ). breaks c.args.number HorizonTooLarge (horizon_too_large k u.agr) in
+    grid_told settings c.args.number u c.args.unit.now.name.text (at c.cells.result)
+    c.from_residual-in_err-cede.result c.in_err-cede.field-0.0 c.from_residual-in_err-cede.ensures
+    c.in_err-cede.ensures.told
+    (λ t e. third_told settings c.args.number u c.in_ok-amounts.ensures.told c.in_ok-claims.ensures.told _
+    (sym (ap at c.cells.ensures) ∙ e))
+
+pub unit_count-requires : goal.unit_count-requires
+unit_count-requires c =
+    subst (IsCountKept c.args.grid.now.count) (sym c.in_ok-claims.ensures.count)
+    (kept_is c.args.settings.now.bs c.args.number c.args.grid.now c.requires.grid c.in_ok-claims.ensures.told)
+
+pub returns : goal.returns
+returns c =
+    let u = c.args.grid.now in
+    let settings = c.args.settings.now in
+    let at = λ (k : ℕ). breaks c.args.number HorizonTooLarge (horizon_too_large k u.agr) in
+    let none = third_told settings c.args.number u c.in_ok-amounts.ensures.told c.in_ok-claims.ensures.told _
+    (sym (ap at c.cells.ensures) ∙ c.in_ok-cede.ensures.told) in
+    grid_answer settings c.args.number u c.requires.grid none c.args.unit.now.name.text
+    (record {
+      name = c.in_ok-name.name;
+      sev = c.in_ok-claims.claims.severity;
+      freq = c.in_ok-freq.freq;
+      cede = c.in_ok-cede.cede;
+    }) (c.in_ok-name.ensures ∙ c.as_slice.ensures) c.in_ok-claims.ensures.claims.severity
+    (subst (λ n. IsCountMade u.count n c.in_ok-freq.freq) c.in_ok-claims.ensures.count c.in_ok-freq.ensures)
+    c.in_ok-cede.ensures.made

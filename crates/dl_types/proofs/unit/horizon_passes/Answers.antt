@@ -1,0 +1,19 @@
+-- The horizon that is looked at is the clause's.
+use Rattle.std.proofs.Common.{◌≡◌, ◌∙◌, ap}
+use Rattle.std.specs.Prelude.{nat_lt, Some}
+use Rattle.dl_limits.specs.Limits.{most_cells}
+use Rattle.dl_plan.specs.Clause.{Clause}
+use Rattle.dl_plan.specs.Horizon.{horizon}
+use Rattle.dl_plan.proofs.Horizons.{same_horizon, horizon_is}
+use Rattle.dl_read.specs.First.{at_if}
+use Rattle.dl_types.proofs.unit.horizon_passes.Goals as goal
+
+pub returns : goal.returns
+returns c =
+    let cells = c.args.cells in
+    let clause = c.args.made.now in
+    let same : c.horizon.result ≡ horizon (Some clause) cells =
+    same_horizon (Some clause) cells c.horizon.result _ c.horizon.ensures
+    (horizon_is (Some clause) cells c.requires.accepted) in
+    c.place_if.ensures ∙ ap (λ k. at_if (nat_lt most_cells k) c.args.cession.now.span) same
+    ∙ ap (λ (k : Clause). at_if (nat_lt most_cells (horizon (Some k) cells)) c.args.cession.now.span) c.requires.made
