@@ -3,36 +3,40 @@ use Rattle.std.proofs.Common.{ℕ, ◌≡◌, ◌+◌, ◌*◌, ◌^◌, ◌<◌
 use Rattle.std.specs.Prelude.{◌==◌, if◌then◌else◌}
 use Rattle.std.proofs.Math.Nat.{mul-le-mul}
 use Rattle.std.proofs.lemmas.Bool.Decides.{eqb_tells}
+use Rattle.dl_budget.specs.Sizes.{most_operands}
 use Rattle.dl_exact.specs.Fraction.{Fraction}
 use Rattle.dl_grid.specs.Width.{rounded_spread}
 use Rattle.dl_plan.specs.declared.item.Item.{Item}
 use Rattle.dl_plan.specs.declared.plan.Freq.{Freq}
 use Rattle.dl_plan.specs.declared.plan.Freq.TheVariants.{Poisson, Gamma}
 use Rattle.dl_plan.specs.declared.plan.Unit.{Unit as UnitOfPlan}
-use Rattle.dl_plan.specs.Count.{IsUnbounded, IsCount}
+use Rattle.dl_plan.specs.Count.{IsUnbounded, IsClaimCount}
 use Rattle.dl_plan.specs.Valid.{IsValidUnit, thinned_mean}
 use Rattle.dl_budget.specs.Claims.{count_budget, poisson_budget, gamma_budget, claims_budget}
 
 -- the budget by the count and the items that were read
 pub claims_of : (S K : ℕ) (u : UnitOfPlan) (freq : Freq) (items : List Item) → u.freq ≡ freq → items ≡ u.sev.items
     → count_budget S K (length items) (thinned_mean u) freq ≡ claims_budget S K u
-claims_of S K u freq items of_freq of_items = ap₂ (λ xs f. count_budget S K (length xs) (thinned_mean u) f) of_items (sym of_freq)
+claims_of S K u freq items of_freq of_items = ap₂ (λ xs f. count_budget S K (length xs) (thinned_mean u) f) of_items
+    (sym of_freq)
 
-pub count_of : (h : ℕ) (u : UnitOfPlan) (freq : Freq) → IsValidUnit h u → u.freq ≡ freq → IsCount freq
-count_of h u freq valid e = subst IsCount e valid.count
+pub count_of : (h : ℕ) (u : UnitOfPlan) (freq : Freq) → IsValidUnit h u → u.freq ≡ freq → IsClaimCount freq
+count_of h u freq valid e = subst IsClaimCount e valid.count
 
 -- a count with a greatest number has at most 65,536 amounts
-pub few_items : (h : ℕ) (u : UnitOfPlan) (freq : Freq) (items : List Item) → IsValidUnit h u → u.freq ≡ freq → ¬ IsUnbounded freq → items ≡ u.sev.items → length items ≤ 65536
+pub few_items : (h : ℕ) (u : UnitOfPlan) (freq : Freq) (items : List Item) → IsValidUnit h u → u.freq ≡ freq
+    → ¬ IsUnbounded freq → items ≡ u.sev.items → length items ≤ 65536
 few_items h u freq items valid e bounded same =
     subst (λ xs. length xs ≤ 65536) (sym same) (valid.items (subst (λ f. ¬ IsUnbounded f) (sym e) bounded))
 
-pub power_room : (K J m : ℕ) → K ≤ 16384 → J ≤ 196611 → m ≤ 65536 → m * rounded_spread K 0 J ≤ 15 * 2 ^ 30
+pub power_room : (K J m : ℕ) → K ≤ 16384 → J ≤ 196611 → m ≤ 65536 → m * rounded_spread K 0 J ≤ most_operands
 unfolding rounded_spread
 power_room K J m few items most =
     let one : J + 2 * K + 1 + 0 ≤ 229380 = omega arith in
     omega (arith, mul-le-mul most one)
 
-pub listed_begins : (K J m : ℕ) → K ≤ 16384 → J ≤ 65536 → m ≤ 256 → rounded_spread K 2 1 + m * rounded_spread K 2 J ≤ 15 * 2 ^ 30
+pub listed_begins : (K J m : ℕ) → K ≤ 16384 → J ≤ 65536 → m ≤ 256
+    → rounded_spread K 2 1 + m * rounded_spread K 2 J ≤ most_operands
 unfolding rounded_spread
 listed_begins K J m few items most =
     let one : J + 2 * K + 1 + 2 ≤ 98307 = omega arith in
@@ -40,7 +44,11 @@ listed_begins K J m few items most =
 
 -- 0 where n is 0
 where_none : (n x y : ℕ) → (n ≡ 0 → x ≡ 0) → (0 < n → x ≡ y) → x ≡ (if n == 0 then 0 else y)
-where_none n x y none some = elim (eqb_tells n 0) [ inl is ↦ rw is.0 (none is.1) | inr differs ↦ rw differs.0 (some (omega (arith, differs.1))) ]
+where_none n x y none some = elim (eqb_tells n 0) [
+  | inl is ↦ rw is.0 (none is.1)
+  | inr differs ↦ rw differs.0
+      (some (omega (arith, differs.1)))
+]
 
 pub poisson_value : (S K : ℕ) (u : UnitOfPlan) (mean m : Fraction) (x : ℕ) → u.freq ≡ Poisson mean → m ≡ thinned_mean u
     → (m.num ≡ 0 → x ≡ 0) → (0 < m.num → x ≡ poisson_budget S K m) → x ≡ claims_budget S K u
@@ -50,7 +58,8 @@ poisson_value S K u mean m x of_freq of_mean none some =
     ∙ ap (λ t. if t.num == 0 then 0 else poisson_budget S K t) of_mean
     ∙ claims_of S K u (Poisson mean) u.sev.items of_freq refl
 
-pub gamma_value : (S K : ℕ) (u : UnitOfPlan) (shape : ℕ) (mean m : Fraction) (x : ℕ) → u.freq ≡ Gamma shape mean → m ≡ thinned_mean u
+pub gamma_value : (S K : ℕ) (u : UnitOfPlan) (shape : ℕ) (mean m : Fraction) (x : ℕ) → u.freq ≡ Gamma shape mean
+    → m ≡ thinned_mean u
     → (m.num ≡ 0 → x ≡ 0) → (0 < m.num → x ≡ gamma_budget S K shape m) → x ≡ claims_budget S K u
 unfolding count_budget
 gamma_value S K u shape mean m x of_freq of_mean none some =

@@ -26,16 +26,22 @@ two_pos = omega arith
 
 half_enough : (m : Fraction) (h : ℕ) → IsHalf m h → m /ℚ whole (2 ^ h) ≤ℚ 1 over 2
 half_enough m h small =
-    subst (λ x. x ≤ℚ 1 over 2) (sym (halved_is m h)) (over_le m.num (m.den * 2 ^ h) 1 2 (mul-pos m.positive (pow_pos h)) two_pos (omega (arith, small)))
+    subst (λ x. x ≤ℚ 1 over 2) (sym (halved_is m h))
+    (over_le m.num (m.den * 2 ^ h) 1 2 (mul-pos m.positive (pow_pos h)) two_pos (omega (arith, small)))
 
 enough_half : (m : Fraction) (h : ℕ) → m /ℚ whole (2 ^ h) ≤ℚ 1 over 2 → IsHalf m h
 enough_half m h enough =
     let cross : m.num * 2 ≤ 1 * (m.den * 2 ^ h) =
-    le_over m.num (m.den * 2 ^ h) 1 2 (mul-pos m.positive (pow_pos h)) two_pos (subst (λ x. x ≤ℚ 1 over 2) (halved_is m h) enough) in
+    le_over m.num (m.den * 2 ^ h) 1 2 (mul-pos m.positive (pow_pos h)) two_pos
+    (subst (λ x. x ≤ℚ 1 over 2) (halved_is m h) enough) in
     omega (arith, cross)
 
 pub is_halvings : (m : Fraction) (h : ℕ) → IsHalf m h → ((i : ℕ) → IsHalf m i → h ≤ i) → IsHalvings m h
-is_halvings m h small least = record { enough = half_enough m h small; least = λ i enough. least i (enough_half m i enough) }
+is_halvings m h small least = record {
+  enough = half_enough m h small;
+  least = λ i enough.
+      least i (enough_half m i enough);
+}
 
 pub one_halvings : (m : Fraction) (h i : ℕ) → IsHalvings m h → IsHalvings m i → h ≡ i
 one_halvings m h i p q = omega (arith, p.least i q.enough, q.least h p.enough)
@@ -61,7 +67,8 @@ found (suc more) h m there = elim (leb_tells (2 * m.num) (2 ^ h * m.den)) [
     above : (i : ℕ) → h ≤ i → IsHalf m i → 2 ^ h * m.den < 2 * m.num → h + 1 ≤ i
     above i from small later = elim (cases_lt h i) [
       | inl far ↦ omega (arith, far)
-      | inr near ↦ let same : i ≡ h = omega (arith, near, from) in absurd (omega (arith, later, subst (λ t. IsHalf m t) same small))
+      | inr near ↦ let same : i ≡ h = omega (arith, near, from) in
+          absurd (omega (arith, later, subst (λ t. IsHalf m t) same small))
     ]
 
 at_last : (n : ℕ) → suc n ≡ 0 + (n + 1)
@@ -75,13 +82,16 @@ many (suc n) = omega (arith, many n, pow-suc 2 n)
 pub halvings_least : (m : Fraction) → IsHalvings m (halvings m)
 unfolding halvings
 halvings_least m =
-    let enough : IsHalf m (0 + (m.num + 1)) = subst (λ t. IsHalf m t) (at_last m.num) (omega (arith, mul-le-mul (many m.num) m.positive, pow-suc 2 m.num, ap (λ t. t * m.den) (pow-suc 2 m.num))) in
+    let enough : IsHalf m (0 + (m.num + 1)) = subst (λ t. IsHalf m t) (at_last m.num)
+    (omega (arith, mul-le-mul (many m.num) m.positive, pow-suc 2 m.num, ap (λ t. t * m.den) (pow-suc 2 m.num))) in
     let r = found (m.num + 1) 0 m enough in
     is_halvings m (halvings_from (m.num + 1) 0 m) r.half (λ i small. r.least i (omega arith) small)
 
 -- the first number of halvings that is enough
-pub first_halvings : (m : Fraction) (h : ℕ) → IsHalf m h → ((i : ℕ) → i < h → 2 ^ i * m.den < 2 * m.num) → IsHalvings m h
-first_halvings m h here more = is_halvings m h here (λ i small. elim (cases_lt i h) [ inl before ↦ absurd (omega (arith, more i before, small)) | inr after ↦ after ])
+pub first_halvings : (m : Fraction) (h : ℕ) → IsHalf m h → ((i : ℕ) → i < h → 2 ^ i * m.den < 2 * m.num)
+    → IsHalvings m h
+first_halvings m h here more = is_halvings m h here
+    (λ i small. elim (cases_lt i h) [ inl before ↦ absurd (omega (arith, more i before, small)) | inr after ↦ after ])
 
 pub halvings_value : (m : Fraction) (h : ℕ) → IsHalvings m h → h ≡ halvings m
 halvings_value m h p = one_halvings m h (halvings m) p (halvings_least m)
@@ -89,9 +99,11 @@ halvings_value m h p = one_halvings m h (halvings m) p (halvings_least m)
 -- a mean of at most 4,096
 pub half_after_13 : (m : Fraction) → m ≤ℚ whole 4096 → IsHalf m 13
 half_after_13 m within =
-    let cross : m.num * 1 ≤ 4096 * m.den = le_over m.num m.den 4096 1 m.positive one_pos (subst (λ x. x ≤ℚ whole 4096) (sym (over_self m)) within) in
+    let cross : m.num * 1 ≤ 4096 * m.den = le_over m.num m.den 4096 1 m.positive one_pos
+    (subst (λ x. x ≤ℚ whole 4096) (sym (over_self m)) within) in
     omega (arith, cross)
 
 -- a shift of one part that may lose its high bits
-pub half_by_shift : (m : Fraction) (h double den M : ℕ) → double ≡ 2 * m.num → den ≡ m.den → double ≤ den * 2 ^ h % M → IsHalf m h
+pub half_by_shift : (m : Fraction) (h double den M : ℕ) → double ≡ 2 * m.num → den ≡ m.den
+    → double ≤ den * 2 ^ h % M → IsHalf m h
 half_by_shift m h double den M e d test = omega (arith, test, mod-le (den * 2 ^ h) M, e, ap (λ t. t * 2 ^ h) d)

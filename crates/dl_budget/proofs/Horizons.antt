@@ -5,29 +5,34 @@ use Rattle.std.proofs.Math.Nat.{pow-le-pow_right}
 use Rattle.dl_plan.specs.declared.severity.Sev.{Sev}
 use Rattle.dl_plan.specs.declared.plan.Unit.{Unit as UnitOfPlan}
 use Rattle.dl_plan.specs.declared.plan.Plan.{Plan}
-use Rattle.dl_plan.specs.Cession.{Clause}
+use Rattle.dl_plan.specs.Clause.{Clause}
 use Rattle.dl_plan.specs.Horizon.{IsHorizonOf, HorizonPasses, horizon}
 use Rattle.dl_plan.specs.Valid.{IsAggregate, IsValidUnit, IsValid}
 use Rattle.dl_plan.proofs.Horizons.{same_horizon, horizon_is}
 use Rattle.dl_budget.specs.Claims.{claims_budget}
 
-clause_horizon : (cells : ℕ) (sev : Sev) (cede : Option Clause) → cells ≤ 16384 → IfSome cede (IsAggregate cells sev) → (k : ℕ) × IsHorizonOf cede cells k × (k ≤ 16384)
+clause_horizon : (cells : ℕ) (sev : Sev) (cede : Option Clause) → cells ≤ 16384 → IfSome cede (IsAggregate cells sev)
+    → (k : ℕ) × IsHorizonOf cede cells k × (k ≤ 16384)
 clause_horizon cells sev None few valid = (cells, refl, few)
 clause_horizon cells sev (Some clause) few valid = valid.horizon
 
-pub unit_horizon : (cells : ℕ) (u : UnitOfPlan) → cells ≤ 16384 → IsValidUnit cells u → (k : ℕ) × IsHorizonOf u.cede cells k × (k ≤ 16384)
+pub unit_horizon : (cells : ℕ) (u : UnitOfPlan) → cells ≤ 16384 → IsValidUnit cells u
+    → (k : ℕ) × IsHorizonOf u.cede cells k × (k ≤ 16384)
 unit_horizon cells u few valid = clause_horizon cells u.sev u.cede few valid.clause
 
 -- the horizon that is told of it
-clause_told : (h cells : ℕ) (sev : Sev) (cede : Option Clause) → IfSome cede (IsAggregate h sev) → IsHorizonOf cede cells (horizon cede cells)
+clause_told : (h cells : ℕ) (sev : Sev) (cede : Option Clause) → IfSome cede (IsAggregate h sev)
+    → IsHorizonOf cede cells (horizon cede cells)
 clause_told h cells sev None valid = horizon_is None cells tt
-clause_told h cells sev (Some clause) valid = horizon_is (Some clause) cells valid.cession
+clause_told h cells sev (Some clause) valid = horizon_is (Some clause) cells valid.accepted
 
 pub unit_told : (h cells : ℕ) (u : UnitOfPlan) → IsValidUnit h u → IsHorizonOf u.cede cells (horizon u.cede cells)
 unit_told h cells u valid = clause_told h cells u.sev u.cede valid.clause
 
-pub one_horizon : (h cells k : ℕ) (u : UnitOfPlan) → IsValidUnit h u → IsHorizonOf u.cede cells k → k ≡ horizon u.cede cells
-one_horizon h cells k u valid there = same_horizon u.cede cells k (horizon u.cede cells) there (unit_told h cells u valid)
+pub one_horizon : (h cells k : ℕ) (u : UnitOfPlan) → IsValidUnit h u → IsHorizonOf u.cede cells k
+    → k ≡ horizon u.cede cells
+one_horizon h cells k u valid there = same_horizon u.cede cells k (horizon u.cede cells) there
+    (unit_told h cells u valid)
 
 pub few_horizon : (cells : ℕ) (u : UnitOfPlan) → cells ≤ 16384 → IsValidUnit cells u → horizon u.cede cells ≤ 16384
 few_horizon cells u few valid =
@@ -36,17 +41,23 @@ few_horizon cells u few valid =
 
 pub few_cells : (plan : Plan) → IsValid plan → (1 ≤ plan.cells) × (plan.cells ≤ 4096)
 few_cells plan valid =
-    let most : 2 ^ valid.cells.0 ≤ 2 ^ 12 = pow-le-pow_right {n = 2} (omega arith) {i = valid.cells.0} {j = 12} valid.cells.2 in
-    let least : 2 ^ 1 ≤ 2 ^ valid.cells.0 = pow-le-pow_right {n = 2} (omega arith) {i = 1} {j = valid.cells.0} valid.cells.1 in
+    let most : 2 ^ valid.cells.0 ≤ 2 ^ 12 = pow-le-pow_right {n = 2}
+    (omega arith) {i = valid.cells.0} {j = 12} valid.cells.2 in
+    let least : 2 ^ 1 ≤ 2 ^ valid.cells.0 = pow-le-pow_right {n = 2}
+    (omega arith) {i = 1} {j = valid.cells.0} valid.cells.1 in
     (omega (arith, least, valid.cells.3), omega (arith, most, valid.cells.3))
 
 -- where there is a horizon of at most 16,384, it is found
-pub horizon_there : (cede : Option Clause) (cells : ℕ) (found : Option ℕ) → MatchOption found (HorizonPasses cede cells) (λ k. IsHorizonOf cede cells k × (k ≤ 16384))
+pub horizon_there : (cede : Option Clause) (cells : ℕ) (found : Option ℕ)
+    → MatchOption found (HorizonPasses cede cells) (λ k. IsHorizonOf cede cells k × (k ≤ 16384))
     → (k : ℕ) × IsHorizonOf cede cells k × (k ≤ 16384) → IsSome found
 horizon_there cede cells (Some k) told known = refl
-horizon_there cede cells None told known = absurd (omega (arith, told.2, known.2, same_horizon cede cells told.0 known.0 told.1 known.1))
+horizon_there cede cells None told known = absurd
+    (omega (arith, told.2, known.2, same_horizon cede cells told.0 known.0 told.1 known.1))
 
 -- a budget on the horizon that was found
-pub on_horizon : (S h cells : ℕ) (u : UnitOfPlan) (found b : ℕ) → IsValidUnit h u → IsHorizonOf u.cede cells found → b ≡ claims_budget S found u
+pub on_horizon : (S h cells : ℕ) (u : UnitOfPlan) (found b : ℕ) → IsValidUnit h u → IsHorizonOf u.cede cells found
+    → b ≡ claims_budget S found u
     → b ≡ claims_budget S (horizon u.cede cells) u
-on_horizon S h cells u found b valid there e = e ∙ ap (λ n. claims_budget S n u) (one_horizon h cells found u valid there)
+on_horizon S h cells u found b valid there e = e ∙ ap (λ n. claims_budget S n u)
+    (one_horizon h cells found u valid there)

@@ -7,4 +7,4 @@ pub mod Horizons
 pub mod Sums
 pub mod Means
 pub mod Tails
-pub mod TestLaws
+mod TestLaws

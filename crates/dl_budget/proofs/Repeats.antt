@@ -3,6 +3,7 @@ use Rattle.std.proofs.Common.{ℕ, zero, suc, ◌≡◌, ◌+◌, ◌*◌, ◌^�
 use Rattle.std.proofs.Math.Nat.{mul-le-mul_right, pow-le-pow_right}
 use Rattle.std.proofs.lemmas.Nat.{pow_pos}
 use Rattle.std.proofs.lemmas.Grind.{pow_more}
+use Rattle.dl_budget.specs.Sizes.{most_operands}
 use Rattle.dl_grid.specs.Width.{cv, pw, mixed_spread, rounded_spread, IsSizeWithin}
 use Rattle.dl_grid.proofs.WidthLaws.{mixed_next, pw_doubled}
 use Rattle.dl_budget.proofs.SizeLaws.{size_step_of, size_least, far_below, square_size, room_below}
@@ -14,26 +15,31 @@ pub doubled_value : (S k b n x z : ℕ) → x ≡ pw S k b (2 ^ n) → z ≡ cv 
 doubled_value S k b n x z before step = step ∙ ap (λ t. cv S k t t) before ∙ sym (pw_doubled S k b n)
 
 -- one number of claims more
-pub listed_size : (B k b n x z : ℕ) → B ≡ 56 → rounded_spread k 2 1 + (n + 1) * rounded_spread k 2 b ≤ 15 * 2 ^ 30
+pub listed_size : (B k b n x z : ℕ) → B ≡ 56 → rounded_spread k 2 1 + (n + 1) * rounded_spread k 2 b ≤ most_operands
     → IsSizeWithin (2 ^ B) (rounded_spread k 2 1 + n * rounded_spread k 2 b) (rounded_spread k 2 x)
-    → z ≡ cv (2 ^ B) k b x + 2 → IsSizeWithin (2 ^ B) (rounded_spread k 2 1 + (n + 1) * rounded_spread k 2 b) (rounded_spread k 2 z)
+    → z ≡ cv (2 ^ B) k b x + 2 → IsSizeWithin (2 ^ B) (rounded_spread k 2 1 + (n + 1) * rounded_spread k 2 b)
+    (rounded_spread k 2 z)
 listed_size B k b n x z e room size step =
-    let parts : rounded_spread k 2 b + (rounded_spread k 2 1 + n * rounded_spread k 2 b) ≡ rounded_spread k 2 1 + (n + 1) * rounded_spread k 2 b = omega arith in
+    let parts : rounded_spread k 2 b + (rounded_spread k 2 1 + n * rounded_spread k 2 b)
+    ≡ rounded_spread k 2 1 + (n + 1) * rounded_spread k 2 b = omega arith in
     subst (λ c. IsSizeWithin (2 ^ B) c (rounded_spread k 2 z)) parts
     (size_step_of (2 ^ B) k 2 _ _ b x z (pow_pos B)
     (omega (arith, parts, room, far_below B (rounded_spread k 2 1 + (n + 1) * rounded_spread k 2 b) e (omega arith)))
     (size_least (2 ^ B) _ _ (omega arith)) size step)
 
 -- one doubling more
-pub doubled_size : (B k b n x z : ℕ) → B ≡ 56 → 2 ^ (n + 1) * rounded_spread k 0 b ≤ 15 * 2 ^ 30
+pub doubled_size : (B k b n x z : ℕ) → B ≡ 56 → 2 ^ (n + 1) * rounded_spread k 0 b ≤ most_operands
     → IsSizeWithin (2 ^ B) (2 ^ n * rounded_spread k 0 b) (rounded_spread k 0 x) → z ≡ cv (2 ^ B) k x x
     → IsSizeWithin (2 ^ B) (2 ^ (n + 1) * rounded_spread k 0 b) (rounded_spread k 0 z)
 doubled_size B k b n x z e room size step =
     square_size B k b (2 ^ n) (2 ^ (n + 1)) x z e (omega (arith, pow_more 2 n)) room size step
 
 -- fewer steps have room too
-pub listed_room : (k b m n : ℕ) → m ≤ n → rounded_spread k 2 1 + n * rounded_spread k 2 b ≤ 15 * 2 ^ 30 → rounded_spread k 2 1 + m * rounded_spread k 2 b ≤ 15 * 2 ^ 30
+pub listed_room : (k b m n : ℕ) → m ≤ n → rounded_spread k 2 1 + n * rounded_spread k 2 b ≤ most_operands
+    → rounded_spread k 2 1 + m * rounded_spread k 2 b ≤ most_operands
 listed_room k b m n h room = omega (arith, room, mul-le-mul_right (rounded_spread k 2 b) h)
 
-pub doubled_room : (k b m n : ℕ) → m ≤ n → 2 ^ n * rounded_spread k 0 b ≤ 15 * 2 ^ 30 → 2 ^ m * rounded_spread k 0 b ≤ 15 * 2 ^ 30
-doubled_room k b m n h room = room_below (rounded_spread k 0 b) (2 ^ m) (2 ^ n) (pow-le-pow_right {n = 2} (omega arith) {i = m} {j = n} h) room
+pub doubled_room : (k b m n : ℕ) → m ≤ n → 2 ^ n * rounded_spread k 0 b ≤ most_operands
+    → 2 ^ m * rounded_spread k 0 b ≤ most_operands
+doubled_room k b m n h room = room_below (rounded_spread k 0 b) (2 ^ m) (2 ^ n)
+    (pow-le-pow_right {n = 2} (omega arith) {i = m} {j = n} h) room

@@ -1,8 +1,10 @@
--- How large spreads grow, over plain numbers. S is the scale, and a size is a spread with what one more convolution rounds.
+-- How large spreads grow, over plain numbers. S is the scale, and a size is a spread with what one more convolution
+-- rounds.
 use Rattle.std.proofs.Common.{ℕ, ◌≡◌, ◌+◌, ◌-◌, ◌*◌, ◌^◌, ◌<◌, ◌≤◌, arith, refl, sym, ap, subst, ◌∙◌}
 use Rattle.std.proofs.Math.Nat.{mul-le-mul, mul-le-mul_left, mul-le-mul_right, le_of_mul-le-mul_right}
 use Rattle.std.proofs.lemmas.Nat.{pow_pos}
 use Rattle.std.specs.Int.{div_ceil}
+use Rattle.dl_budget.specs.Sizes.{most_operands}
 use Rattle.dl_exact.proofs.RoundingLaws.{div_ceil_least}
 use Rattle.dl_grid.specs.Width.{cv, pw, rounded_spread, IsSizeWithin}
 use Rattle.dl_grid.proofs.WidthLaws.{size_step, size_joined, pw_even, pw_odd}
@@ -17,15 +19,19 @@ size_near S c x pos far size =
     let part : x * (65535 * S) ≤ x * (65536 * (S - c)) = mul-le-mul_left x (omega arith) in
     le_of_mul-le-mul_right {k = S} (omega (arith, part, size)) pos
 
-pub spread_near : (S k more c x : ℕ) → 0 < S → 65536 * c ≤ S → IsSizeWithin S c (rounded_spread k more x) → 65535 * x ≤ 65536 * c
+pub spread_near : (S k more c x : ℕ) → 0 < S → 65536 * c ≤ S → IsSizeWithin S c (rounded_spread k more x)
+    → 65535 * x ≤ 65536 * c
 unfolding rounded_spread
 spread_near S k more c x pos far size = omega (arith, size_near S c (x + 2 * k + 1 + more) pos far size)
 
 -- one step
-pub size_step_of : (S k more c d x y z : ℕ) → 0 < S → c + d ≤ S → IsSizeWithin S c (rounded_spread k more x) → IsSizeWithin S d (rounded_spread k more y)
+pub size_step_of : (S k more c d x y z : ℕ) → 0 < S → c + d ≤ S → IsSizeWithin S c (rounded_spread k more x)
+    → IsSizeWithin S d (rounded_spread k more y)
     → z ≡ cv S k x y + more → IsSizeWithin S (c + d) (rounded_spread k more z)
 size_step_of S k more c d x y z pos room hx hy e =
-    size_joined S c d _ _ _ pos room hx hy (subst (λ t. (S + rounded_spread k more t) * S ≤ (S + rounded_spread k more x) * (S + rounded_spread k more y)) (sym e) (size_step S k more x y pos))
+    size_joined S c d _ _ _ pos room hx hy
+    (subst (λ t. (S + rounded_spread k more t) * S ≤ (S + rounded_spread k more x) * (S + rounded_spread k more y))
+    (sym e) (size_step S k more x y pos))
 
 -- ---- at this profile's scale
 
@@ -34,32 +40,44 @@ pub far_below : (B c : ℕ) → B ≡ 56 → c ≤ 2 ^ 40 → 65536 * c ≤ 2 ^ 
 far_below B c e h = subst (λ b. 65536 * c ≤ 2 ^ b) (sym e) (omega arith)
 
 -- the spread of a unit
-pub unit_small : (B k more c x : ℕ) → B ≡ 56 → c ≤ 15 * 2 ^ 30 → IsSizeWithin (2 ^ B) c (rounded_spread k more x) → x ≤ 2 ^ 34
-unit_small B k more c x e room size = omega (arith, spread_near (2 ^ B) k more c x (pow_pos B) (far_below B c e (omega arith)) size)
+pub unit_small : (B k more c x : ℕ) → B ≡ 56 → c ≤ most_operands
+    → IsSizeWithin (2 ^ B) c (rounded_spread k more x) → x ≤ 2 ^ 34
+unit_small B k more c x e room size = omega (
+  arith,
+  spread_near (2 ^ B) k more c x (pow_pos B)
+      (far_below B c e (omega arith)) size,
+)
 
 -- ---- powers
 
 -- a square, and a square with one more
-pub square_size : (B k b m n x y : ℕ) → B ≡ 56 → m + m ≡ n → n * rounded_spread k 0 b ≤ 15 * 2 ^ 30 → IsSizeWithin (2 ^ B) (m * rounded_spread k 0 b) (rounded_spread k 0 x)
+pub square_size : (B k b m n x y : ℕ) → B ≡ 56 → m + m ≡ n → n * rounded_spread k 0 b ≤ most_operands
+    → IsSizeWithin (2 ^ B) (m * rounded_spread k 0 b) (rounded_spread k 0 x)
     → y ≡ cv (2 ^ B) k x x → IsSizeWithin (2 ^ B) (n * rounded_spread k 0 b) (rounded_spread k 0 y)
 square_size B k b m n x y e sum room size step =
-    let parts : m * rounded_spread k 0 b + m * rounded_spread k 0 b ≡ n * rounded_spread k 0 b = omega (arith, ap (λ t. t * rounded_spread k 0 b) sum) in
+    let parts : m * rounded_spread k 0 b + m * rounded_spread k 0 b ≡ n * rounded_spread k 0 b =
+    omega (arith, ap (λ t. t * rounded_spread k 0 b) sum) in
     subst (λ c. IsSizeWithin (2 ^ B) c (rounded_spread k 0 y)) parts
-    (size_step_of (2 ^ B) k 0 _ _ x x y (pow_pos B) (omega (arith, parts, room, far_below B (n * rounded_spread k 0 b) e (omega arith))) size size (step ∙ omega arith))
+    (size_step_of (2 ^ B) k 0 _ _ x x y (pow_pos B)
+    (omega (arith, parts, room, far_below B (n * rounded_spread k 0 b) e (omega arith))) size size
+    (step ∙ omega arith))
 
-pub next_size : (B k b m n x y : ℕ) → B ≡ 56 → m + 1 ≡ n → n * rounded_spread k 0 b ≤ 15 * 2 ^ 30 → IsSizeWithin (2 ^ B) (m * rounded_spread k 0 b) (rounded_spread k 0 x)
+pub next_size : (B k b m n x y : ℕ) → B ≡ 56 → m + 1 ≡ n → n * rounded_spread k 0 b ≤ most_operands
+    → IsSizeWithin (2 ^ B) (m * rounded_spread k 0 b) (rounded_spread k 0 x)
     → y ≡ cv (2 ^ B) k x b → IsSizeWithin (2 ^ B) (n * rounded_spread k 0 b) (rounded_spread k 0 y)
 next_size B k b m n x y e sum room size step =
-    let parts : m * rounded_spread k 0 b + rounded_spread k 0 b ≡ n * rounded_spread k 0 b = omega (arith, ap (λ t. t * rounded_spread k 0 b) sum) in
+    let parts : m * rounded_spread k 0 b + rounded_spread k 0 b ≡ n * rounded_spread k 0 b =
+    omega (arith, ap (λ t. t * rounded_spread k 0 b) sum) in
     subst (λ c. IsSizeWithin (2 ^ B) c (rounded_spread k 0 y)) parts
-    (size_step_of (2 ^ B) k 0 _ _ x b y (pow_pos B) (omega (arith, parts, room, far_below B (n * rounded_spread k 0 b) e (omega arith))) size
+    (size_step_of (2 ^ B) k 0 _ _ x b y (pow_pos B)
+    (omega (arith, parts, room, far_below B (n * rounded_spread k 0 b) e (omega arith))) size
     (size_least (2 ^ B) _ _ (omega arith)) (step ∙ omega arith))
 
 -- a smaller power has room too
-pub room_below : (c m n : ℕ) → m ≤ n → n * c ≤ 15 * 2 ^ 30 → m * c ≤ 15 * 2 ^ 30
+pub room_below : (c m n : ℕ) → m ≤ n → n * c ≤ most_operands → m * c ≤ most_operands
 room_below c m n h room = omega (arith, room, mul-le-mul_right c h)
 
-pub base_small : (k more b n : ℕ) → 1 ≤ n → n * rounded_spread k more b ≤ 15 * 2 ^ 30 → b ≤ 2 ^ 34
+pub base_small : (k more b n : ℕ) → 1 ≤ n → n * rounded_spread k more b ≤ most_operands → b ≤ 2 ^ 34
 unfolding rounded_spread
 base_small k more b n some room = omega (arith, room_below (b + 2 * k + 1 + more) 1 n some room)
 
@@ -75,15 +93,18 @@ next_value S k b m n x y some sum even step =
     step ∙ ap (λ t. cv S k t b) (even ∙ ap (pw S k b) double) ∙ sym (pw_odd S k b m some) ∙ ap (pw S k b) more
 
 -- a square's, and that of one more, from the half
-pub odd_size : (B k b m n x y z : ℕ) → B ≡ 56 → m + m + 1 ≡ n → n * rounded_spread k 0 b ≤ 15 * 2 ^ 30
-    → IsSizeWithin (2 ^ B) (m * rounded_spread k 0 b) (rounded_spread k 0 x) → y ≡ cv (2 ^ B) k x x → z ≡ cv (2 ^ B) k y b
+pub odd_size : (B k b m n x y z : ℕ) → B ≡ 56 → m + m + 1 ≡ n → n * rounded_spread k 0 b ≤ most_operands
+    → IsSizeWithin (2 ^ B) (m * rounded_spread k 0 b) (rounded_spread k 0 x) → y ≡ cv (2 ^ B) k x x
+    → z ≡ cv (2 ^ B) k y b
     → (y ≤ 2 ^ 34) × IsSizeWithin (2 ^ B) (n * rounded_spread k 0 b) (rounded_spread k 0 z)
 odd_size B k b m n x y z e sum room half square step =
-    let less : (m + m) * rounded_spread k 0 b ≤ 15 * 2 ^ 30 = room_below (rounded_spread k 0 b) (m + m) n (omega arith) room in
+    let less : (m + m) * rounded_spread k 0 b ≤ most_operands =
+    room_below (rounded_spread k 0 b) (m + m) n (omega arith) room in
     let even = square_size B k b m (m + m) x y e refl less half square in
     (unit_small B k 0 _ y e less even, next_size B k b (m + m) n y z e sum room even step)
 
 -- the product of two spreads below 2^40, over the scale
 pub joined_small : (B x y : ℕ) → B ≡ 56 → x ≤ 2 ^ 40 → y ≤ 2 ^ 40 → div_ceil (x * y) (2 ^ B) ≤ 2 ^ 24
 joined_small B x y e left right =
-    subst (λ b. div_ceil (x * y) (2 ^ b) ≤ 2 ^ 24) (sym e) (div_ceil_least (x * y) (2 ^ 56) (2 ^ 24) (pow_pos 56) (omega (arith, mul-le-mul left right)))
+    subst (λ b. div_ceil (x * y) (2 ^ b) ≤ 2 ^ 24) (sym e)
+    (div_ceil_least (x * y) (2 ^ 56) (2 ^ 24) (pow_pos 56) (omega (arith, mul-le-mul left right)))

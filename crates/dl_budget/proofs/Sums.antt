@@ -7,13 +7,14 @@ use Rattle.std.proofs.lemmas.List.{length-map, length-take, length-drop, take_al
 use Rattle.std.proofs.lemmas.List.Sums.{fold_more, fold-append}
 use Rattle.dl_grid.specs.Width.{cv, rounded_spread, IsSizeWithin, sum_spread}
 use Rattle.dl_plan.specs.declared.plan.Unit.{Unit as UnitOfPlan}
-use Rattle.dl_budget.specs.Sizes.{IsOfUnits}
+use Rattle.dl_budget.specs.Sizes.{most_unit_budget, IsOfUnits}
 use Rattle.dl_budget.specs.Units.{unit_budget, unit_budgets}
 use Rattle.dl_budget.proofs.SizeLaws.{size_least, size_step_of, spread_near, far_below}
 use Rattle.dl_exact.proofs.Lists.{from_there}
 
 -- the budget of the unit at a place
-budget_at : (S cells : ℕ) (us : List UnitOfPlan) (i : ℕ) (u : UnitOfPlan) → i < length us → get_or (unit_budgets S cells us) i 0 ≡ unit_budget S cells (get_or us i u)
+budget_at : (S cells : ℕ) (us : List UnitOfPlan) (i : ℕ) (u : UnitOfPlan) → i < length us
+    → get_or (unit_budgets S cells us) i 0 ≡ unit_budget S cells (get_or us i u)
 budget_at S cells [] i u inside = absurd (omega (arith, inside))
 budget_at S cells (v ∷ us) zero u inside = refl
 budget_at S cells (v ∷ us) (suc i) u inside = budget_at S cells us i u (omega (arith, inside))
@@ -22,12 +23,14 @@ pub budgets_length : (S cells : ℕ) (us : List UnitOfPlan) → length (unit_bud
 budgets_length S cells us = length-map us (unit_budget S cells)
 
 -- that of a unit which was read there
-pub budget_here : (S cells : ℕ) (us : List UnitOfPlan) (i b : ℕ) (u : UnitOfPlan) → i < length us → u ≡ get_or us i u → b ≡ unit_budget S cells u
+pub budget_here : (S cells : ℕ) (us : List UnitOfPlan) (i b : ℕ) (u : UnitOfPlan) → i < length us → u ≡ get_or us i u
+    → b ≡ unit_budget S cells u
     → b ≡ get_or (unit_budgets S cells us) i 0
 budget_here S cells us i b u inside is here = here ∙ ap (unit_budget S cells) is ∙ sym (budget_at S cells us i u inside)
 
 -- one more unit
-pub budget_next : (S cells : ℕ) (us : List UnitOfPlan) (i sum t x b : ℕ) (u : UnitOfPlan) → i < length us → u ≡ get_or us i u
+pub budget_next : (S cells : ℕ) (us : List UnitOfPlan) (i sum t x b : ℕ) (u : UnitOfPlan) → i < length us
+    → u ≡ get_or us i u
     → t ≡ fold (cv S cells) sum (take i (unit_budgets S cells us)) → b ≡ unit_budget S cells u → x ≡ cv S cells t b
     → x ≡ fold (cv S cells) sum (take (i + 1) (unit_budgets S cells us))
 budget_next S cells us i sum t x b u inside is before here step =
@@ -37,48 +40,59 @@ budget_next S cells us i sum t x b u inside is before here step =
 pub budget_all : (S cells : ℕ) (us : List UnitOfPlan) (i sum t : ℕ) → length us ≤ i
     → t ≡ fold (cv S cells) sum (take i (unit_budgets S cells us)) → t ≡ fold (cv S cells) sum (unit_budgets S cells us)
 budget_all S cells us i sum t past e =
-    e ∙ ap (fold (cv S cells) sum) (take_all i (unit_budgets S cells us) (omega (arith, budgets_length S cells us, past)))
+    e ∙ ap (fold (cv S cells) sum) (take_all i (unit_budgets S cells us)
+    (omega (arith, budgets_length S cells us, past)))
 
 -- ---- sizes
 
 -- n units come to at most half of 2^40
-units_small : (cells n : ℕ) → cells ≤ 4096 → n ≤ 16 → n * rounded_spread cells 0 (2 ^ 35) ≤ 549755944976
+units_small : (cells n : ℕ) → cells ≤ 4096 → n ≤ 16 → n * rounded_spread cells 0 most_unit_budget ≤ 549755944976
 unfolding rounded_spread
 units_small cells n few most =
     let one : 2 ^ 35 + 2 * cells + 1 + 0 ≤ 34359746561 = omega arith in
     omega (arith, mul-le-mul most one)
 
-pub unit_size : (B cells x : ℕ) → x ≤ 2 ^ 35 → IsOfUnits (2 ^ B) cells 1 x
+pub unit_size : (B cells x : ℕ) → x ≤ most_unit_budget → IsOfUnits (2 ^ B) cells 1 x
 unfolding rounded_spread
 unit_size B cells x small = size_least (2 ^ B) _ _ (omega (arith, small))
 
 -- a unit is not larger than one of the greatest budget
-one_unit : (B cells x : ℕ) → x ≤ 2 ^ 35 → IsSizeWithin (2 ^ B) (rounded_spread cells 0 (2 ^ 35)) (rounded_spread cells 0 x)
+one_unit : (B cells x : ℕ) → x ≤ most_unit_budget → IsSizeWithin (2 ^ B) (rounded_spread cells 0 most_unit_budget)
+    (rounded_spread cells 0 x)
 unfolding rounded_spread
 one_unit B cells x small = size_least (2 ^ B) _ _ (omega (arith, small))
 
 -- one unit more
-pub sum_size_next : (B cells n sum b x : ℕ) → B ≡ 56 → cells ≤ 4096 → n + 1 ≤ 16 → IsOfUnits (2 ^ B) cells n sum → b ≤ 2 ^ 35 → x ≡ cv (2 ^ B) cells sum b
+pub sum_size_next : (B cells n sum b x : ℕ) → B ≡ 56 → cells ≤ 4096 → n + 1 ≤ 16 → IsOfUnits (2 ^ B) cells n sum
+    → b ≤ most_unit_budget → x ≡ cv (2 ^ B) cells sum b
     → IsOfUnits (2 ^ B) cells (n + 1) x
 sum_size_next B cells n sum b x e few most before small step =
-    let r : ℕ = rounded_spread cells 0 (2 ^ 35) in
+    let r : ℕ = rounded_spread cells 0 most_unit_budget in
     let parts : n * r + r ≡ (n + 1) * r = omega arith in
     let far = far_below B ((n + 1) * r) e (omega (arith, units_small cells (n + 1) few most)) in
     subst (λ c. IsSizeWithin (2 ^ B) c (rounded_spread cells 0 x)) parts
-    (size_step_of (2 ^ B) cells 0 (n * r) r sum b x (pow_pos B) (omega (arith, parts, far)) before (one_unit B cells b small) (step ∙ omega arith))
+    (size_step_of (2 ^ B) cells 0 (n * r) r sum b x (pow_pos B) (omega (arith, parts, far)) before
+    (one_unit B cells b small) (step ∙ omega arith))
 
 pub sum_small : (B cells n x : ℕ) → B ≡ 56 → cells ≤ 4096 → n ≤ 16 → IsOfUnits (2 ^ B) cells n x → x < 2 ^ 40
 sum_small B cells n x e few most size =
     let units = units_small cells n few most in
-    omega (arith, units, spread_near (2 ^ B) cells 0 _ x (pow_pos B) (far_below B (n * rounded_spread cells 0 (2 ^ 35)) e (omega (arith, units))) size)
+    omega (
+      arith,
+      units,
+      spread_near (2 ^ B) cells 0 _ x (pow_pos B)
+          (far_below B (n * rounded_spread cells 0 most_unit_budget) e (omega (arith, units))) size,
+    )
 
 pub size_at : (B cells m n x : ℕ) → m ≡ n → IsOfUnits (2 ^ B) cells m x → IsOfUnits (2 ^ B) cells n x
 size_at B cells m n x e size = subst (λ t. IsOfUnits (2 ^ B) cells t x) e size
 
 -- ---- a first unit and the later ones
 
-pub sum_from_first : (S cells : ℕ) (us rest : List UnitOfPlan) (u : UnitOfPlan) (b x : ℕ) → 1 ≤ length us → rest ≡ drop 1 us → u ≡ get_or us 0 u
-    → b ≡ unit_budget S cells u → x ≡ fold (cv S cells) b (unit_budgets S cells rest) → x ≡ sum_spread S cells (unit_budgets S cells us)
+pub sum_from_first : (S cells : ℕ) (us rest : List UnitOfPlan) (u : UnitOfPlan) (b x : ℕ) → 1 ≤ length us
+    → rest ≡ drop 1 us → u ≡ get_or us 0 u
+    → b ≡ unit_budget S cells u → x ≡ fold (cv S cells) b (unit_budgets S cells rest)
+    → x ≡ sum_spread S cells (unit_budgets S cells us)
 sum_from_first S cells [] rest u b x some split is here later = absurd (omega (arith, some))
 sum_from_first S cells (v ∷ us) rest u b x some split is here later =
     later ∙ ap₂ (λ y t. fold (cv S cells) y (unit_budgets S cells t)) (here ∙ ap (unit_budget S cells) is) split
@@ -86,28 +100,35 @@ sum_from_first S cells (v ∷ us) rest u b x some split is here later =
 -- ---- all units but one
 
 -- the budgets of the first units, and of those after them
-budgets_first : (S cells n : ℕ) (us : List UnitOfPlan) → unit_budgets S cells (take n us) ≡ take n (unit_budgets S cells us)
+budgets_first : (S cells n : ℕ) (us : List UnitOfPlan)
+    → unit_budgets S cells (take n us) ≡ take n (unit_budgets S cells us)
 budgets_first S cells zero us = refl
 budgets_first S cells (suc n) [] = refl
 budgets_first S cells (suc n) (u ∷ us) = ap (λ t. unit_budget S cells u ∷ t) (budgets_first S cells n us)
 
-budgets_after : (S cells n : ℕ) (us : List UnitOfPlan) → unit_budgets S cells (drop n us) ≡ drop n (unit_budgets S cells us)
+budgets_after : (S cells n : ℕ) (us : List UnitOfPlan)
+    → unit_budgets S cells (drop n us) ≡ drop n (unit_budgets S cells us)
 budgets_after S cells zero us = refl
 budgets_after S cells (suc n) [] = refl
 budgets_after S cells (suc n) (u ∷ us) = budgets_after S cells n us
 
-sum_joined : (S cells : ℕ) (ds more : List ℕ) → 1 ≤ length ds → sum_spread S cells (ds ++ more) ≡ fold (cv S cells) (sum_spread S cells ds) more
+sum_joined : (S cells : ℕ) (ds more : List ℕ) → 1 ≤ length ds
+    → sum_spread S cells (ds ++ more) ≡ fold (cv S cells) (sum_spread S cells ds) more
 sum_joined S cells [] more some = absurd (omega (arith, some))
 sum_joined S cells (d ∷ ds) more some = fold-append (cv S cells) d ds more
 
 -- the units before i and those after it
-pub sum_of_others : (S cells : ℕ) (us before after : List UnitOfPlan) (i x y : ℕ) → before ≡ take i us → after ≡ drop (suc i) us → 1 ≤ length before
+pub sum_of_others : (S cells : ℕ) (us before after : List UnitOfPlan) (i x y : ℕ) → before ≡ take i us
+    → after ≡ drop (suc i) us → 1 ≤ length before
     → x ≡ sum_spread S cells (unit_budgets S cells before) → y ≡ fold (cv S cells) x (unit_budgets S cells after)
     → y ≡ sum_spread S cells (remove (unit_budgets S cells us) i)
 sum_of_others S cells us before after i x y cut rest some first further =
-    let front : unit_budgets S cells before ≡ take i (unit_budgets S cells us) = ap (unit_budgets S cells) cut ∙ budgets_first S cells i us in
-    let back : unit_budgets S cells after ≡ drop (suc i) (unit_budgets S cells us) = ap (unit_budgets S cells) rest ∙ budgets_after S cells (suc i) us in
-    let long : 1 ≤ length (take i (unit_budgets S cells us)) = omega (arith, some, ap length front, budgets_length S cells before) in
+    let front : unit_budgets S cells before ≡ take i (unit_budgets S cells us) = ap (unit_budgets S cells) cut
+    ∙ budgets_first S cells i us in
+    let back : unit_budgets S cells after ≡ drop (suc i) (unit_budgets S cells us) = ap (unit_budgets S cells) rest
+    ∙ budgets_after S cells (suc i) us in
+    let long : 1 ≤ length (take i (unit_budgets S cells us)) =
+    omega (arith, some, ap length front, budgets_length S cells before) in
     further ∙ ap₂ (fold (cv S cells)) (first ∙ ap (sum_spread S cells) front) back
     ∙ sym (sum_joined S cells (take i (unit_budgets S cells us)) (drop (suc i) (unit_budgets S cells us)) long)
 
@@ -116,16 +137,24 @@ pub sum_of_later : (S cells : ℕ) (us after : List UnitOfPlan) (i y : ℕ) → 
     → y ≡ sum_spread S cells (unit_budgets S cells after) → y ≡ sum_spread S cells (remove (unit_budgets S cells us) i)
 sum_of_later S cells us after i y none rest later =
     later ∙ ap (sum_spread S cells) (ap (unit_budgets S cells) rest ∙ budgets_after S cells (suc i) us)
-    ∙ ap (λ n. sum_spread S cells (take n (unit_budgets S cells us) ++ drop (suc i) (unit_budgets S cells us))) (sym none)
+    ∙ ap (λ n. sum_spread S cells (take n (unit_budgets S cells us) ++ drop (suc i) (unit_budgets S cells us)))
+    (sym none)
 
 -- the later units
 pub later_length : (us : List UnitOfPlan) → length (take (length us - 1) (drop 1 us)) ≡ length us - 1
 later_length us = ap length (from_there 0 us) ∙ length-drop 1 us
 
 -- the units before i and those after it are not more than all
-pub parts_length : (i : ℕ) (us : List UnitOfPlan) → length (take i us) + length (take (length us - (i + 1)) (drop (i + 1) us)) ≤ length us
-parts_length i us = omega (arith, length-take i us, length-take (length us - (i + 1)) (drop (i + 1) us), length-drop (i + 1) us)
+pub parts_length : (i : ℕ) (us : List UnitOfPlan)
+    → length (take i us) + length (take (length us - (i + 1)) (drop (i + 1) us)) ≤ length us
+parts_length i us = omega (
+  arith,
+  length-take i us,
+  length-take (length us - (i + 1)) (drop (i + 1) us),
+  length-drop (i + 1) us,
+)
 
 -- a unit that was read in a list is that of an equal one
-pub read_unit : (slice us : List UnitOfPlan) (i : ℕ) (u : UnitOfPlan) → slice ≡ us → u ≡ get_or slice i u → u ≡ get_or us i u
+pub read_unit : (slice us : List UnitOfPlan) (i : ℕ) (u : UnitOfPlan) → slice ≡ us → u ≡ get_or slice i u
+    → u ≡ get_or us i u
 read_unit slice us i u e is = is ∙ ap (λ t. get_or t i u) e

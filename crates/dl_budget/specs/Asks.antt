@@ -1,6 +1,7 @@
 -- The budget of an ask in units of 1/S, what it needs, and when it passes.
 use Rattle.std.specs.Prelude.{ℕ, ◌+◌, ◌-◌, ◌*◌, ◌^◌, ◌<◌, ◌≤◌, Option, IfSome, List, length, get_or, bytes_eq}
 use Rattle.std.specs.List.{position_or_len}
+use Rattle.dl_limits.specs.Limits.{rarest_parts}
 use Rattle.dl_exact.specs.Fraction.{Fraction, ◌over◌}
 use Rattle.dl_grid.specs.Width.{up, cv, layer_width, tail_width}
 use Rattle.dl_plan.specs.declared.plan.Unit.{Unit as UnitOfPlan}
@@ -16,9 +17,11 @@ use Rattle.dl_budget.specs.Units.{unit_budgets, total_budget, others_budget, mea
 abbrev pub place_of : List ℕ → List UnitOfPlan → ℕ
 place_of name units = position_or_len (λ u. bytes_eq u.name name) units
 
--- the share of unit i in the total: all of its outcomes beside all of those of the others, on each cell
+-- the share of unit i in the total: all of its outcomes beside all of those of the others, on each
+-- cell
 abbrev pub joint_budget : (S : ℕ) → Plan → ℕ → ℕ
-joint_budget S plan i = plan.cells * cv S plan.cells (get_or (unit_budgets S plan.cells plan.units) i 0) (others_budget S plan i)
+joint_budget S plan i = plan.cells * cv S plan.cells
+    (get_or (unit_budgets S plan.cells plan.units) i 0) (others_budget S plan i)
 
 -- that of the mean of a layer
 abbrev pub layer_mean_budget : (S : ℕ) → Plan → Option ℕ → ℕ → ℕ
@@ -30,8 +33,10 @@ abbrev pub tail_budget : (S : ℕ) → Plan → Fraction → ℕ
 tail_budget S plan p =
     tail_width p (mean_budget S plan) plan.cells (total_budget S plan)
 
+-- that of a share: it is told where the total is not too rare
 abbrev pub kappa_budget : (S : ℕ) → Plan → ℕ → ℕ
-kappa_budget S plan i = 2 ^ 16 * (plan.cells * total_budget S plan + joint_budget S plan i) + 2
+kappa_budget S plan i =
+    rarest_parts * (plan.cells * total_budget S plan + joint_budget S plan i) + 2
 
 -- the budget of an ask
 unfoldable pub ask_budget : (S : ℕ) → Plan → Ask → ℕ
@@ -52,7 +57,8 @@ in_digits S budget digits = 1 + up ((budget * 10 ^ digits) over S)
 abbrev pub needed : (S : ℕ) → Plan → Ask → ℕ → ℕ
 needed S plan ask digits = in_digits S (ask_budget S plan ask) digits
 
--- the most that the settings let an ask need: probabilities and quantiles have one limit, means the other
+-- the most that the settings let an ask need: probabilities and quantiles have one limit, means the
+-- other
 abbrev pub most_for : Settings → Ask → ℕ
 most_for settings ask = (facts_of ask).most settings
 

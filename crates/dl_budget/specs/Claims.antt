@@ -1,5 +1,5 @@
--- The budget of a unit before its aggregate clause: how far apart the ends of its grid's cells may lie in all, in units of 1/S. K is
--- the number of the grid's cells, and J the number of the severity's items.
+-- The budget of a unit before its aggregate clause: how far apart the ends of its grid's cells may
+-- lie in all, in units of 1/S, on a grid of so many cells.
 use Rattle.std.specs.Prelude.{ℕ, ◌+◌, ◌*◌, ◌^◌, ◌==◌, max, if◌then◌else◌, List, [], ◌∷◌, length}
 use Rattle.dl_exact.specs.Fraction.{Fraction, whole, ◌+ℚ◌, ◌*ℚ◌, ◌/ℚ◌}
 use Rattle.dl_grid.specs.Width.{up, pw, mixed_spread}
@@ -11,23 +11,27 @@ use Rattle.dl_plan.specs.Valid.{thinned_mean}
 use Rattle.dl_budget.specs.Halvings.{halvings}
 use Rattle.dl_plan.specs.Weighted.{greatest}
 
--- a Poisson count of mean m above 0: the base, and its power, a factor 2 for each halving
-unfoldable pub poisson_budget : (S K : ℕ) → Fraction → ℕ
-poisson_budget S K m = pw S K (8 * K + 128) (2 ^ halvings m)
+-- a Poisson count of a mean above 0: the base, and its power, a factor 2 for each halving
+unfoldable pub poisson_budget : (S cells : ℕ) → Fraction → ℕ
+poisson_budget S cells mean = pw S cells (8 * cells + 128) (2 ^ halvings mean)
 
--- a gamma count of mean m above 0: the base of shape 1, and its power
-unfoldable pub gamma_budget : (S K shape : ℕ) → Fraction → ℕ
-gamma_budget S K shape m = pw S K (up (whole (4 * K + 1) *ℚ (whole 1 +ℚ m /ℚ whole shape))) shape
+-- a gamma count of a mean above 0: the base of shape 1, and its power
+unfoldable pub gamma_budget : (S cells shape : ℕ) → Fraction → ℕ
+gamma_budget S cells shape mean =
+    pw S cells (up (whole (4 * cells + 1) *ℚ (whole 1 +ℚ mean /ℚ whole shape))) shape
 
--- by the kind of count; m is the thinned mean
-unfoldable pub count_budget : (S K J : ℕ) → Fraction → Freq → ℕ
-count_budget S K J m (Fixed claims) = pw S K J claims
-count_budget S K J m (Table counts total) = mixed_spread S K J (greatest counts)
-count_budget S K J m (Bernoulli q) = 3 * (J + 1)
-count_budget S K J m (Binomial trials q) = pw S K (3 * (J + 1)) trials
-count_budget S K J m (Poisson mean) = if m.num == 0 then 0 else poisson_budget S K m
-count_budget S K J m (Gamma shape mean) = if m.num == 0 then 0 else gamma_budget S K shape m
+-- by the kind of count, of a severity with so many items and of this thinned mean
+unfoldable pub count_budget : (S cells items : ℕ) → Fraction → Freq → ℕ
+count_budget S cells items thinned (Fixed claims) = pw S cells items claims
+count_budget S cells items thinned (Table counts total) =
+    mixed_spread S cells items (greatest counts)
+count_budget S cells items thinned (Bernoulli q) = 3 * (items + 1)
+count_budget S cells items thinned (Binomial trials q) = pw S cells (3 * (items + 1)) trials
+count_budget S cells items thinned (Poisson mean) =
+    if thinned.num == 0 then 0 else poisson_budget S cells thinned
+count_budget S cells items thinned (Gamma shape mean) =
+    if thinned.num == 0 then 0 else gamma_budget S cells shape thinned
 
 -- that of a unit
-abbrev pub claims_budget : (S K : ℕ) → UnitOfPlan → ℕ
-claims_budget S K u = count_budget S K (length u.sev.items) (thinned_mean u) u.freq
+abbrev pub claims_budget : (S cells : ℕ) → UnitOfPlan → ℕ
+claims_budget S cells u = count_budget S cells (length u.sev.items) (thinned_mean u) u.freq

@@ -10,7 +10,8 @@ pub record IsHalvings (m : Fraction) (h : ℕ) : Type 0 where
 -- that number, where it is at least h and at most `more` above it
 unfoldable pub halvings_from : (more h : ℕ) → Fraction → ℕ
 halvings_from zero h m = h
-halvings_from (suc more) h m = if nat_le (2 * m.num) (2 ^ h * m.den) then h else halvings_from more (h + 1) m
+halvings_from (suc more) h m = if nat_le (2 * m.num) (2 ^ h * m.den) then h
+    else halvings_from more (h + 1) m
 
 -- that number
 unfoldable pub halvings : Fraction → ℕ

@@ -1,8 +1,9 @@
 -- The budgets of a plan that most asks need.
-use Rattle.std.specs.Prelude.{ℕ, ◌≡◌, ◌^◌, ◌<◌, ◌≤◌}
+use Rattle.std.specs.Prelude.{ℕ, ◌≡◌, ◌<◌, ◌≤◌}
 use Rattle.dl_limits.specs.Limits.{budget_bound}
 use Rattle.dl_plan.specs.declared.plan.Plan.{Plan}
 use Rattle.dl_budget.specs.declared.once.Budgets.{Budgets}
+use Rattle.dl_budget.specs.Sizes.{most_mean_budget}
 use Rattle.dl_budget.specs.Units.{total_budget, mean_budget}
 
 -- the budgets of the plan's total and of its mean, neither too large to count with
@@ -10,4 +11,4 @@ pub record AreBudgetsOf (S : ℕ) (plan : Plan) (budgets : Budgets) : Type 0 whe
   pub total : budgets.total ≡ total_budget S plan
   pub mean : budgets.mean ≡ mean_budget S plan
   pub total_small : budgets.total < budget_bound
-  pub mean_small : budgets.mean ≤ 2 ^ 64
+  pub mean_small : budgets.mean ≤ most_mean_budget

@@ -1,18 +1,18 @@
--- The budgets of units and of their sums, in units of 1/S. Each unit has its own horizon: on so many
--- cells its claims are added up.
+-- The budgets of units and of their sums, in units of 1/S. Each unit has its own horizon: on so
+-- many cells its claims are added up.
 use Rattle.std.specs.Prelude.{ℕ, ◌*◌, Option, Some, None, List, map, sum_by, remove}
 use Rattle.dl_grid.specs.Width.{sum_spread}
 use Rattle.dl_plan.specs.declared.plan.Unit.{Unit as UnitOfPlan}
 use Rattle.dl_plan.specs.declared.plan.Plan.{Plan}
-use Rattle.dl_plan.specs.Cession.{Clause}
+use Rattle.dl_plan.specs.Clause.{Clause}
 use Rattle.dl_plan.specs.Horizon.{horizon}
 use Rattle.dl_budget.specs.Claims.{claims_budget}
 use Rattle.dl_plan.specs.MeanWidth.{mean_width}
 
--- U without an aggregate clause, and twice U with one
+-- the budget of a unit's claims, and twice that with an aggregate clause
 abbrev pub after_clause : Option Clause → ℕ → ℕ
-after_clause None U = U
-after_clause (Some clause) U = 2 * U
+after_clause None before = before
+after_clause (Some clause) before = 2 * before
 
 -- the budget of a unit on a grid of so many cells: its claims are added up on its horizon
 abbrev pub unit_budget : (S cells : ℕ) → UnitOfPlan → ℕ

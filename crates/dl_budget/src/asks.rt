@@ -1,10 +1,12 @@
 //! The budget of an ask, what it needs, and whether it passes.
 
 ghost use Rattle.std.specs.Prelude.{ℕ, ◌≡◌, ◌+◌, ◌*◌, ◌^◌, ◌<◌, ◌≤◌, ◌↔◌, List, All, IsTrue, length};
+ghost use Rattle.dl_limits.specs.Limits.{most_digits, most_units};
 ghost use Rattle.dl_plan.specs.declared.settings.Ask.TheVariants.{LayerMean};
 ghost use Rattle.dl_plan.specs.Ranges.{IsLevel};
 ghost use Rattle.dl_plan.specs.Valid.{IsValid};
 ghost use Rattle.dl_budget.specs.Asks.{IsInside, IsAskOf, place_of, ask_budget, layer_mean_budget, tail_budget, joint_budget, kappa_budget, in_digits, needed, Passes};
+ghost use Rattle.dl_budget.specs.Sizes.{most_ask_budget};
 ghost use Rattle.dl_budget.specs.Once.{AreBudgetsOf};
 
 use crate::once::{Budgets, budgets_of};
@@ -12,6 +14,7 @@ use crate::steps::joined;
 use crate::units::{others_budget, unit_budget};
 use dl_frac::Frac;
 use dl_grid::units_of_one;
+use dl_limits::RAREST_PARTS;
 use dl_plan::{Ask, Plan, Settings, Unit};
 
 /// The budget of an ask: how far apart the ends of its answer may lie before they are printed. It
@@ -22,7 +25,7 @@ pub fn ask_budget<const B: u32>(plan: &Plan, ask: &Ask) -> u128
     requires valid { IsValid plan.now }
     requires ask { IsAskOf plan.now ask.now }
     ensures value { result ≡ ask_budget (2 ^ B) plan.now ask.now }
-    ensures small { result ≤ 2 ^ 96 }
+    ensures small { result ≤ most_ask_budget }
 {
     ask_budget_with::<B>(plan, budgets_of::<B>(plan), ask)
 }
@@ -35,7 +38,7 @@ fn ask_budget_with<const B: u32>(plan: &Plan, budgets: Budgets, ask: &Ask) -> u1
     requires budgets { AreBudgetsOf (2 ^ B) plan.now budgets }
     requires ask { IsAskOf plan.now ask.now }
     ensures value { result ≡ ask_budget (2 ^ B) plan.now ask.now }
-    ensures small { result ≤ 2 ^ 96 }
+    ensures small { result ≤ most_ask_budget }
 {
     match ask {
         Ask::Pmf(_) | Ask::Cdf(_) | Ask::Quantile(_) => budgets.total,
@@ -65,7 +68,7 @@ fn layer_mean_budget<const B: u32>(
     requires budgets { AreBudgetsOf (2 ^ B) plan.now budgets }
     requires inside { IsInside plan.now.cells (LayerMean limit attach) }
     ensures value { result ≡ layer_mean_budget (2 ^ B) plan.now limit attach }
-    ensures small { result ≤ 2 ^ 96 }
+    ensures small { result ≤ most_ask_budget }
 {
     match limit {
         Some(limit) => limit as u128 * budgets.total,
@@ -79,7 +82,7 @@ fn tail_budget<const B: u32>(plan: &Plan, budgets: Budgets, p: Frac) -> u128
     requires budgets { AreBudgetsOf (2 ^ B) plan.now budgets }
     requires level { IsLevel p }
     ensures value { result ≡ tail_budget (2 ^ B) plan.now p }
-    ensures small { result ≤ 2 ^ 96 }
+    ensures small { result ≤ most_ask_budget }
 {
     let sums = 3 * plan.cells as u128 * budgets.total;
     let both = 2 * budgets.mean + sums;
@@ -106,15 +109,15 @@ fn kappa_budget<const B: u32>(plan: &Plan, budgets: Budgets, i: u32) -> u128
     requires budgets { AreBudgetsOf (2 ^ B) plan.now budgets }
     requires unit { i < length plan.now.units }
     ensures value { result ≡ kappa_budget (2 ^ B) plan.now i }
-    ensures small { result ≤ 2 ^ 96 }
+    ensures small { result ≤ most_ask_budget }
 {
     let total = plan.cells as u128 * budgets.total;
-    (1 << 16) * (total + joint_budget::<B>(plan, i)) + 2
+    RAREST_PARTS * (total + joint_budget::<B>(plan, i)) + 2
 }
 
 /// How many units come before the one of this name.
 pub fn place(units: &[Unit], name: &[u8]) -> u32
-    requires { length units.now ≤ 16 }
+    requires { length units.now ≤ most_units }
     ensures { result ≡ place_of name.now units.now }
 {
     let place = units.iter().position(|unit| unit.name.as_slice() == name);
@@ -124,8 +127,8 @@ pub fn place(units: &[Unit], name: &[u8]) -> u32
 /// How many units of the last of so many printed digits a budget comes to, and one more.
 fn in_digits<const B: u32>(budget: u128, digits: u32) -> u128
     requires scale { B ≡ 56 }
-    requires small { budget ≤ 2 ^ 96 }
-    requires digits { digits ≤ 9 }
+    requires small { budget ≤ most_ask_budget }
+    requires digits { digits ≤ most_digits }
     ensures { result ≡ in_digits (2 ^ B) budget digits }
 {
     1 + (budget * 10u128.pow(digits)).div_ceil(units_of_one(B))
@@ -137,7 +140,7 @@ pub fn needed<const B: u32>(plan: &Plan, ask: &Ask, digits: u32) -> u128
     requires scale { B ≡ 56 }
     requires valid { IsValid plan.now }
     requires ask { IsAskOf plan.now ask.now }
-    requires digits { digits ≤ 9 }
+    requires digits { digits ≤ most_digits }
     ensures { result ≡ needed (2 ^ B) plan.now ask.now digits }
 {
     needed_with::<B>(plan, budgets_of::<B>(plan), ask, digits)
@@ -149,7 +152,7 @@ pub fn needed_with<const B: u32>(plan: &Plan, budgets: Budgets, ask: &Ask, digit
     requires valid { IsValid plan.now }
     requires budgets { AreBudgetsOf (2 ^ B) plan.now budgets }
     requires ask { IsAskOf plan.now ask.now }
-    requires digits { digits ≤ 9 }
+    requires digits { digits ≤ most_digits }
     ensures { result ≡ needed (2 ^ B) plan.now ask.now digits }
 {
     in_digits::<B>(ask_budget_with::<B>(plan, budgets, ask), digits)
@@ -161,7 +164,7 @@ pub fn passes<const B: u32>(plan: &Plan, ask: &Ask, settings: &Settings) -> bool
     requires scale { B ≡ 56 }
     requires valid { IsValid plan.now }
     requires ask { IsAskOf plan.now ask.now }
-    requires digits { settings.now.digits ≤ 9 }
+    requires digits { settings.now.digits ≤ most_digits }
     ensures { IsTrue result ↔ Passes (2 ^ B) plan.now ask.now settings.now }
 {
     needed::<B>(plan, ask, settings.digits) <= ask.most_width(settings) as u128

@@ -1,9 +1,10 @@
 //! What convolutions make of a spread: one of them, powers, listed counts and halvings.
 
 ghost use Rattle.std.specs.Prelude.{ℕ, ◌≡◌, ◌+◌, ◌*◌, ◌^◌, ◌≤◌};
-ghost use Rattle.dl_limits.specs.Limits.{most_claims_budget, most_expected};
+ghost use Rattle.dl_limits.specs.Limits.{budget_bound, most_claims_budget, most_expected};
 ghost use Rattle.dl_exact.specs.Fraction.{whole, ◌≤ℚ◌};
 ghost use Rattle.dl_grid.specs.Width.{cv, pw, mixed_spread, rounded_spread, IsSizeWithin};
+ghost use Rattle.dl_budget.specs.Sizes.{most_operands};
 ghost use Rattle.dl_budget.specs.Halvings.{IsHalvings, halvings};
 
 use dl_frac::Frac;
@@ -12,8 +13,8 @@ use dl_grid::units_of_one;
 /// The spread of a convolution on `cells` cells, of grids with the spreads `x` and `y`.
 pub(crate) fn joined<const B: u32>(cells: u32, x: u128, y: u128) -> u128
     requires scale { B ≡ 56 }
-    requires left { x ≤ 2 ^ 40 }
-    requires right { y ≤ 2 ^ 40 }
+    requires left { x ≤ budget_bound }
+    requires right { y ≤ budget_bound }
     ensures value { result ≡ cv (2 ^ B) cells x y }
     ensures small { result ≤ 2 ^ 42 }
 {
@@ -24,9 +25,10 @@ pub(crate) fn joined<const B: u32>(cells: u32, x: u128, y: u128) -> u128
 /// The spread of the `n`-th power of a grid with the spread `base`.
 pub(crate) fn power<const B: u32>(cells: u32, base: u128, n: u32) -> u128
     requires scale { B ≡ 56 }
-    requires room { n * rounded_spread cells 0 base ≤ 15 * 2 ^ 30 }
+    requires room { n * rounded_spread cells 0 base ≤ most_operands }
     ensures value { result ≡ pw (2 ^ B) cells base n }
-    ensures size { 1 ≤ n → IsSizeWithin (2 ^ B) (n * rounded_spread cells 0 base) (rounded_spread cells 0 result) }
+    ensures size { 1 ≤ n → IsSizeWithin (2 ^ B) (n * rounded_spread cells 0 base)
+        (rounded_spread cells 0 result) }
     ensures small { result ≤ most_claims_budget }
 {
     if n == 0 {
@@ -47,7 +49,8 @@ pub(crate) fn power<const B: u32>(cells: u32, base: u128, n: u32) -> u128
 /// one claim has the spread `base`.
 pub(crate) fn listed<const B: u32>(cells: u32, base: u128, greatest: u32) -> u128
     requires scale { B ≡ 56 }
-    requires room { rounded_spread cells 2 1 + greatest * rounded_spread cells 2 base ≤ 15 * 2 ^ 30 }
+    requires room { rounded_spread cells 2 1 + greatest * rounded_spread cells 2 base
+        ≤ most_operands }
     ensures value { result ≡ mixed_spread (2 ^ B) cells base greatest }
     ensures small { result ≤ most_claims_budget }
 {
@@ -61,7 +64,7 @@ pub(crate) fn listed<const B: u32>(cells: u32, base: u128, greatest: u32) -> u12
 /// The spread of a grid with the spread `base` that is convolved with itself so many times.
 pub(crate) fn doubled<const B: u32>(cells: u32, base: u128, times: u32) -> u128
     requires scale { B ≡ 56 }
-    requires room { 2 ^ times * rounded_spread cells 0 base ≤ 15 * 2 ^ 30 }
+    requires room { 2 ^ times * rounded_spread cells 0 base ≤ most_operands }
     ensures value { result ≡ pw (2 ^ B) cells base (2 ^ times) }
     ensures small { result ≤ most_claims_budget }
 {

@@ -1,13 +1,9 @@
-//! Numbers of the width rule, worked out by exact fractions outside the program.
+//! Numbers of the width rule, worked out by exact fractions outside the program. What is told of a
+//! plan is tried in `dl_eval`, which has one, and in clients/calls.txt.
 
-ghost use Rattle.std.specs.Prelude.{◌≡◌, None, IfOk};
-ghost use Rattle.dl_plan.specs.Valid.{IsValid};
-
-use super::{ask_budget, halvings, needed, others_budget, passes, total_budget};
+use super::halvings;
 use crate::steps::{doubled, joined, listed, power};
-use dl_lexer::Text;
-use dl_plan::{Ask, CedeLayer, Form, Format, Freq, Item, Many, Plan, Settings, Sev, Unit};
-use std::alloc::{AllocError, Global};
+use dl_plan::CedeLayer;
 
 /// What so many steps make of a spread.
 #[derive(Clone, Copy, Debug)]
@@ -104,71 +100,4 @@ fn spreads_after_steps(rt: HostRuntime) {
     assert_eq!(rt; halvings_of_one(), 1);
     assert_eq!(rt; equal_units(30_065_232_854, 16), 481_045_353_881);
     assert_eq!(rt; equal_units(30_065_232_854, 15), 450_979_924_668);
-}
-
-/// A plan of one unit on 16 cells: two claims of one bucket each.
-fn two_claims(alloc: Global) -> Result<Plan, AllocError>
-    ensures { IfOk result (λ plan. IsValid plan × (plan.cells ≡ 16)) }
-{
-    let mut items = Vec::new(alloc);
-    items.push(Item {
-        amount: 1,
-        weight: 1,
-    })?;
-    let mut units = Vec::new(alloc);
-    units.push(Unit {
-        name: Text::from_vec(Vec::new(alloc)),
-        sev: Sev {
-            items: Many::from_vec(items),
-            total: 1,
-        },
-        freq: Freq::Fixed(2),
-        cede: None,
-    })?;
-    Ok(Plan {
-        bs: CedeLayer::default().share,
-        cells: 16,
-        units: Many::from_vec(units),
-    })
-}
-
-/// The settings with these widths, and 6 digits.
-fn settings(alloc: Global, width: u64, mwidth: u64) -> Settings
-    ensures { result.digits ≡ 6 }
-{
-    Settings {
-        form: Form::Run,
-        make: None,
-        bs: CedeLayer::default().share,
-        log2: 4,
-        digits: 6,
-        width,
-        mwidth,
-        format: Format::Plain,
-        asks: Many::from_vec(Vec::new(alloc)),
-    }
-}
-
-#[test]
-fn asks_about_two_claims(rt: HostRuntime) -> Result<(), AllocError> {
-    let alloc = rt.alloc();
-    let plan = two_claims(alloc)?;
-    assert_eq!(rt; total_budget::<56>(&plan), 35);
-    assert_eq!(rt; others_budget::<56>(&plan, 0), 0);
-    assert_eq!(rt; ask_budget::<56>(&plan, &Ask::Pmf(15)), 35);
-    assert_eq!(rt; ask_budget::<56>(&plan, &Ask::Mean), 1);
-    let layer = Ask::LayerMean {
-        limit: Some(12),
-        attach: 4,
-    };
-    assert_eq!(rt; ask_budget::<56>(&plan, &layer), 420);
-    let endless = Ask::LayerMean {
-        limit: None,
-        attach: 16,
-    };
-    assert_eq!(rt; ask_budget::<56>(&plan, &endless), 561);
-    assert_eq!(rt; needed::<56>(&plan, &Ask::Cdf(2), 6), 2);
-    assert!(rt; passes::<56>(&plan, &Ask::Cdf(2), &settings(alloc, 2, 1)));
-    assert!(rt; !passes::<56>(&plan, &Ask::Cdf(2), &settings(alloc, 1, 2)));
-    Ok(())
 }

@@ -1,11 +1,11 @@
 //! The budgets of units, of their sums and of their means.
 
 ghost use Rattle.std.specs.Prelude.{ℕ, ◌≡◌, ◌+◌, ◌*◌, ◌^◌, ◌<◌, ◌≤◌, List, All, length, sum_by, fold};
-ghost use Rattle.dl_limits.specs.Limits.{budget_bound, most_cells, most_claims_budget, most_plan_cells};
+ghost use Rattle.dl_limits.specs.Limits.{budget_bound, most_cells, most_claims_budget, most_layers, most_plan_cells, most_units};
 ghost use Rattle.dl_grid.specs.Width.{cv, sum_spread};
 ghost use Rattle.dl_plan.specs.Horizon.{IsHorizonOf};
-ghost use Rattle.dl_plan.specs.Valid.{IsNear, IsValidUnit, IsValid};
-ghost use Rattle.dl_budget.specs.Sizes.{IsOfUnits};
+ghost use Rattle.dl_plan.specs.Valid.{IsWithinMostAmount, IsValidUnit, IsValid};
+ghost use Rattle.dl_budget.specs.Sizes.{most_unit_budget, most_mean_budget, IsOfUnits};
 ghost use Rattle.dl_plan.specs.MeanWidth.{part_width};
 ghost use Rattle.dl_budget.specs.Units.{unit_budget, unit_budgets, unit_mean_budget, total_budget, others_budget, mean_budget};
 
@@ -32,7 +32,7 @@ pub fn unit_budget<const B: u32>(unit: &Unit, cells: u32) -> u128
     requires some { 1 ≤ cells }
     requires horizon { (k : ℕ) × IsHorizonOf unit.now.cede cells k × (k ≤ most_cells) }
     ensures value { result ≡ unit_budget (2 ^ B) cells unit.now }
-    ensures small { result ≤ 2 ^ 35 }
+    ensures small { result ≤ most_unit_budget }
 {
     let before = claims_budget::<B>(unit, horizon(unit, cells));
     match unit.cede {
@@ -48,9 +48,10 @@ fn with_units<const B: u32>(sum: u128, units: &[Unit], cells: u32) -> u128
     requires valid { All (IsValidUnit cells) units.now }
     requires some { 1 ≤ cells }
     requires few { cells ≤ most_plan_cells }
-    requires room { (n : ℕ) × (n + length units.now ≤ 16) × IsOfUnits (2 ^ B) cells n sum }
+    requires room { (n : ℕ) × (n + length units.now ≤ most_units) × IsOfUnits (2 ^ B) cells n sum }
     ensures value { result ≡ fold (cv (2 ^ B) cells) sum (unit_budgets (2 ^ B) cells units.now) }
-    ensures size { (n : ℕ) → n + length units.now ≤ 16 → IsOfUnits (2 ^ B) cells n sum → IsOfUnits (2 ^ B) cells (n + length units.now) result }
+    ensures size { (n : ℕ) → n + length units.now ≤ most_units → IsOfUnits (2 ^ B) cells n sum
+        → IsOfUnits (2 ^ B) cells (n + length units.now) result }
 {
     let mut total = sum;
     for unit in units {
@@ -65,7 +66,7 @@ fn sum_of<const B: u32>(units: &[Unit], cells: u32) -> u128
     requires valid { All (IsValidUnit cells) units.now }
     requires some { 1 ≤ cells }
     requires few { cells ≤ most_plan_cells }
-    requires units { length units.now ≤ 16 }
+    requires units { length units.now ≤ most_units }
     ensures value { result ≡ sum_spread (2 ^ B) cells (unit_budgets (2 ^ B) cells units.now) }
     ensures size { 1 ≤ length units.now → IsOfUnits (2 ^ B) cells (length units.now) result }
     ensures small { result < budget_bound }
@@ -110,7 +111,7 @@ pub fn others_budget<const B: u32>(plan: &Plan, i: u32) -> u128
 /// What a layer of an aggregate clause adds to the budget of a mean, for a budget before the
 /// clause.
 fn part_width(layer: &CedeLayer, before: u128) -> u128
-    requires near { IsNear layer.now }
+    requires near { IsWithinMostAmount layer.now }
     requires small { before ≤ most_claims_budget }
     ensures value { result ≡ part_width before layer.now.limit layer.now.attach }
     ensures small { result ≤ 2 ^ 55 }
@@ -123,8 +124,8 @@ fn part_width(layer: &CedeLayer, before: u128) -> u128
 
 /// What the layers of an aggregate clause add together.
 fn layers_budget(layers: &[CedeLayer], before: u128) -> u128
-    requires few { length layers.now ≤ 16 }
-    requires near { All IsNear layers.now }
+    requires few { length layers.now ≤ most_layers }
+    requires near { All IsWithinMostAmount layers.now }
     requires small { before ≤ most_claims_budget }
     ensures value { result ≡ sum_by (λ l. part_width before l.limit l.attach) layers.now }
     ensures small { result ≤ 2 ^ 59 }
@@ -158,7 +159,7 @@ pub(crate) fn mean_budget<const B: u32>(plan: &Plan) -> u128
     requires scale { B ≡ 56 }
     requires valid { IsValid plan.now }
     ensures value { result ≡ mean_budget (2 ^ B) plan.now }
-    ensures small { result ≤ 2 ^ 64 }
+    ensures small { result ≤ most_mean_budget }
 {
     let units = plan.units.as_slice();
     let mut sum = 0;

@@ -7,12 +7,10 @@ use Rattle.dl_model.specs.Series.{IsBound, Holds}
 use Rattle.dl_model.specs.Counts.{poisson, gamma}
 use Rattle.dl_exact.proofs.Over.{over_le, over_add, over_mul, over_same, over_lt}
 use Rattle.dl_exact.proofs.Laws.{ring, one_pos, one_times, times_comm, le_refl, le_trans, times_le_times, times_le_cancel, plus_le_both, plus_times, times_plus, whole_pos, whole_plus, whole_times, over_times_whole, times_le_both}
-use Rattle.dl_model.proofs.PoissonWeights.{halving_bound}
+use Rattle.dl_exact.proofs.Sums.{halving_bound}
 use Rattle.dl_model.proofs.PoissonWeights.{poisson_next}
 use Rattle.dl_model.proofs.Gamma.{geometric_low, geometric_least}
-
-pub whole_le : (m n : ℕ) → m ≤ n → whole m ≤ℚ whole n
-whole_le m n h = over_le m 1 n 1 one_pos one_pos (omega (arith, h))
+use Rattle.dl_exact.proofs.RoundingLaws.{whole_le}
 
 -- ---- geometric
 
@@ -93,20 +91,6 @@ module _ (num den : ℕ) (den_pos : 0 < den) where
       (le_trans _ _ _
       (subst (λ x. C *ℚ poisson (num over den) n *ℚ whole num ≤ℚ x) (sym (whole_times t num))
       (times_le_times _ _ (whole num) h)) (whole_le _ _ p)))
-
-pub low_sum : (C : Fraction) (w : ℕ → Fraction) (n a b : ℕ) → whole a ≤ℚ C *ℚ sum_to n w → whole b ≤ℚ C *ℚ w (suc n)
-    → whole (a + b) ≤ℚ C *ℚ sum_to (suc n) w
-unfolding sum_to
-low_sum C w n a b p q =
-    subst₂ (λ x y. x ≤ℚ y) (sym (whole_plus a b)) (sym (times_plus C (sum_to n w) (w (suc n))))
-    (plus_le_both _ _ _ _ p q)
-
-pub high_sum : (C : Fraction) (w : ℕ → Fraction) (n a b : ℕ) → C *ℚ sum_to n w ≤ℚ whole a → C *ℚ w (suc n) ≤ℚ whole b
-    → C *ℚ sum_to (suc n) w ≤ℚ whole (a + b)
-unfolding sum_to
-high_sum C w n a b p q =
-    subst₂ (λ x y. x ≤ℚ y) (sym (times_plus C (sum_to n w) (w (suc n)))) (sym (whole_plus a b))
-    (plus_le_both _ _ _ _ p q)
 
 -- x / T and y / T stand round 1 over the sum of the weights, from rounded sums up to K and the rounded last term
 pub poisson_holds : (v : Fraction) (K T a b t x y : ℕ) → v +ℚ v ≤ℚ whole 1 → 0 < T

@@ -10,9 +10,9 @@ use Rattle.dl_exact.specs.Count.{count_pairs}
 use Rattle.dl_exact.proofs.Laws.{times_one, le_of_eq}
 use Rattle.dl_direct.specs.declared.parts.Part.{Part}
 use Rattle.dl_direct.specs.Runs.{part_at}
-use Rattle.dl_direct.specs.Slide.{share, Follows, IsRound}
+use Rattle.dl_direct.specs.Slide.{contribution, FollowsInWhole, IsRound}
 use Rattle.dl_direct.proofs.Rounding.{ceil_reaches}
-use Rattle.dl_direct.proofs.Pairs.{share_pairs}
+use Rattle.dl_direct.proofs.Pairs.{contribution_pairs}
 use Rattle.dl_direct.proofs.Steps.{low_step, high_step}
 
 -- a cell at the end
@@ -44,23 +44,23 @@ pushed r e n low high x y p q h f g = record {
 }
 
 module _ (parts : List Part) (a b q : ℕ) (r : ℕ → Fraction) (amounts : All (λ p. 0 < p.amount) parts) (q_pos : 0 < q)
-    (F : Follows parts a b q r) (e m : ℕ) (low high : List ℕ) (R : IsRound r e (suc m) low high) where
-  pub next_low : (d sum : ℕ) → d ≡ q * suc m → sum ≡ sum_by (share a b low (suc m)) parts
+    (F : FollowsInWhole parts a b q r) (e m : ℕ) (low high : List ℕ) (R : IsRound r e (suc m) low high) where
+  pub next_low : (d sum : ℕ) → d ≡ q * suc m → sum ≡ sum_by (contribution a b low (suc m)) parts
       → whole (sum / d * 2 ^ e) ≤ℚ whole (2 ^ 61) *ℚ r (suc m)
   next_low d sum p s =
       let f : ℕ → ℕ → ℕ = λ i k. (a * suc m + b * suc i) * part_at parts (suc i) in
       let c : sum / d * (q * suc m) ≤ count_pairs m (λ i k. f i k * get_or low k 0) =
-      subst₂ (λ x y. sum / d * x ≤ y) p (s ∙ share_pairs a b m low parts amounts) (div-mul-le_self sum d) in
+      subst₂ (λ x y. sum / d * x ≤ y) p (s ∙ contribution_pairs a b m low parts amounts) (div-mul-le_self sum d) in
       low_step m (q * suc m) (2 ^ e) (whole (2 ^ 61)) f r (mul-pos q_pos (zero-lt-suc m)) (F.next m)
       (λ k. get_or low k 0) (sum / d) c (λ k l. R.low_end k (omega (arith, l)))
 
-  pub next_high : (d sum : ℕ) → d ≡ q * suc m → sum ≡ sum_by (share a b high (suc m)) parts
+  pub next_high : (d sum : ℕ) → d ≡ q * suc m → sum ≡ sum_by (contribution a b high (suc m)) parts
       → whole (2 ^ 61) *ℚ r (suc m) ≤ℚ whole ((sum + (d - 1)) / d * 2 ^ e)
   next_high d sum p s =
       let f : ℕ → ℕ → ℕ = λ i k. (a * suc m + b * suc i) * part_at parts (suc i) in
       let dp : 0 < d = subst (λ t. 0 < t) (sym p) (mul-pos q_pos (zero-lt-suc m)) in
       let c : count_pairs m (λ i k. f i k * get_or high k 0) ≤ (sum + (d - 1)) / d * (q * suc m) =
-      subst₂ (λ x y. y ≤ (sum + (d - 1)) / d * x) p (s ∙ share_pairs a b m high parts amounts)
+      subst₂ (λ x y. y ≤ (sum + (d - 1)) / d * x) p (s ∙ contribution_pairs a b m high parts amounts)
       (ceil_reaches sum d dp) in
       high_step m (q * suc m) (2 ^ e) (whole (2 ^ 61)) f r (mul-pos q_pos (zero-lt-suc m)) (F.next m)
       (λ k. get_or high k 0) ((sum + (d - 1)) / d) c (λ k l. R.high_end k (omega (arith, l)))

@@ -10,4 +10,3 @@ pub mod Grow
 pub mod Place
 pub mod Top
 pub mod Units
-pub mod Severities

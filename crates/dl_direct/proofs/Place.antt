@@ -58,11 +58,6 @@ raised_high : (o p d m s : ℕ) → s ≡ d + m → p ≤ o * 2 ^ d → p * 2 ^ 
 raised_high o p d m s e h =
     subst (λ t. p * 2 ^ m ≤ o * t) (sym (ap (λ t. 2 ^ t) e ∙ pow-add 2 d m)) (omega (arith, mul-le-mul_right (2 ^ m) h))
 
-pub placed_none : (B : ℕ) (start : Scaled) (e : ℕ) (low high : List ℕ) (lo hi : ℕ → ℕ)
-    → IsPlaced B start e 0 low high lo hi
-placed_none B start e low high lo hi =
-    record { low_end = λ k b. absurd (omega (arith, b)); high_end = λ k b. absurd (omega (arith, b)) }
-
 -- the same ends
 pub placed_same : (B : ℕ) (start : Scaled) (e n : ℕ) (low high : List ℕ) (lo hi lo' hi' : ℕ → ℕ)
     → ((k : ℕ) → lo k ≡ lo' k) → ((k : ℕ) → hi k ≡ hi' k)

@@ -9,9 +9,9 @@ use Rattle.dl_exact.specs.Count.{count_below}
 use Rattle.dl_direct.specs.declared.parts.Part.{Part}
 use Rattle.dl_direct.specs.declared.parts.Run.{Run}
 use Rattle.dl_direct.specs.declared.parts.Amounts.{Amounts}
-use Rattle.dl_direct.specs.Runs.{in_a_row, run_parts, parts_of, part_sum, AreAmounts}
-use Rattle.dl_direct.specs.Slide.{share, sum_to_cell, sums_before}
-use Rattle.dl_direct.proofs.Reach.{share_yes, share_no}
+use Rattle.dl_direct.specs.Runs.{in_a_row, run_parts, all_parts, part_sum, ArePositiveAmounts}
+use Rattle.dl_direct.specs.Slide.{contribution, sum_to_cell, sums_before}
+use Rattle.dl_direct.proofs.Reach.{contribution_yes, contribution_no}
 
 -- ---- the amounts of a run
 
@@ -58,7 +58,7 @@ runs_positive (run ∷ runs) h =
     (row_positive run.amount run.count run.weight (h zero run (zero-lt-suc _)))
     (runs_positive runs (λ k d q. h (suc k) d (omega (arith, q))))
 
-pub all_positive : (amounts : Amounts) → AreAmounts amounts → All (λ p. 0 < p.amount) (parts_of amounts)
+pub all_positive : (amounts : Amounts) → ArePositiveAmounts amounts → All (λ p. 0 < p.amount) (all_parts amounts)
 all_positive amounts h =
     All-append (λ (p : Part). 0 < p.amount) amounts.parts.items (flat_map run_parts amounts.runs.items) h.parts
     (runs_positive amounts.runs.items h.runs)
@@ -79,43 +79,50 @@ runs_more_le f runs i d h =
     (take i runs) = runs_sum f (take i runs) in
     omega (arith, e, runs_sum f runs, sum_by_more_le (λ (run : Run). sum_by f (run_parts run)) runs i d h)
 
+pub run_fits : (K : ℕ) (runs : List Run) (i : ℕ) (d : Run) → i < length runs
+    → K * part_sum (flat_map run_parts runs) < 2 ^ 64 → K * part_sum (run_parts (get_or runs i d)) < 2 ^ 64
+run_fits K runs i d h room =
+    omega (arith, room, mul-le-mul_left K (runs_more_le (λ (p : Part). p.weight) runs i d h))
+
 -- ---- bounds
 
 module _ (a b s : ℕ) (cells : List ℕ) (small : (k : ℕ) → get_or cells k 0 ≤ 2 ^ 62) where
-  share_le : (p : Part) → share a b cells s p ≤ (a + b) * s * p.weight * 2 ^ 62
-  share_le p = elim (cases_lt s p.amount) [
-    | inl l ↦ subst (λ t. t ≤ (a + b) * s * p.weight * 2 ^ 62) (sym (share_no a b cells s p l)) (omega arith)
+  contribution_le : (p : Part) → contribution a b cells s p ≤ (a + b) * s * p.weight * 2 ^ 62
+  contribution_le p = elim (cases_lt s p.amount) [
+    | inl l ↦ subst (λ t. t ≤ (a + b) * s * p.weight * 2 ^ 62) (sym (contribution_no a b cells s p l)) (omega arith)
     | inr l ↦
         let f : a * s + b * p.amount ≤ (a + b) * s = omega (arith, mul-le-mul_left b l) in
-        subst (λ t. t ≤ (a + b) * s * p.weight * 2 ^ 62) (sym (share_yes a b cells s p l))
+        subst (λ t. t ≤ (a + b) * s * p.weight * 2 ^ 62) (sym (contribution_yes a b cells s p l))
         (mul-le-mul (mul-le-mul_right p.weight f) (small (s - p.amount)))
   ]
 
-  pub shares_le : (parts : List Part) → sum_by (share a b cells s) parts ≤ (a + b) * s * part_sum parts * 2 ^ 62
-  shares_le [] = omega arith
-  shares_le (p ∷ ps) =
-      let e : sum_by (share a b cells s) (p ∷ ps) ≡ share a b cells s p + sum_by (share a b cells s) ps =
-      sum_by-cons (share a b cells s) p ps in
+  pub contributions_le : (parts : List Part) → sum_by (contribution a b cells s) parts ≤
+      (a + b) * s * part_sum parts * 2 ^ 62
+  contributions_le [] = omega arith
+  contributions_le (p ∷ ps) =
+      let e : sum_by (contribution a b cells s) (p ∷ ps) ≡ contribution a b cells s p + sum_by
+      (contribution a b cells s) ps =
+      sum_by-cons (contribution a b cells s) p ps in
       let w : part_sum (p ∷ ps) ≡ p.weight + part_sum ps = sum_by-cons (λ (p : Part). p.weight) p ps in
-      subst (λ t. sum_by (share a b cells s) (p ∷ ps) ≤ (a + b) * s * t * 2 ^ 62) (sym w)
-      (omega (arith, e, share_le p, shares_le ps))
+      subst (λ t. sum_by (contribution a b cells s) (p ∷ ps) ≤ (a + b) * s * t * 2 ^ 62) (sym w)
+      (omega (arith, e, contribution_le p, contributions_le ps))
 
-  pub shares_top : (parts : List Part) → (a + b) * s * part_sum parts < 2 ^ 64
-      → sum_by (share a b cells s) parts ≤ 2 ^ 126
-  shares_top parts h = omega (arith, shares_le parts, h)
+  pub contributions_top : (parts : List Part) → (a + b) * s * part_sum parts < 2 ^ 64
+      → sum_by (contribution a b cells s) parts ≤ 2 ^ 126
+  contributions_top parts h = omega (arith, contributions_le parts, h)
 
 -- the amounts of one more run of those stay within the whole
 pub run_room : (a b s : ℕ) (cells : List ℕ) → ((k : ℕ) → get_or cells k 0 ≤ 2 ^ 62)
     → (runs : List Run) (i : ℕ) (d : Run) → i < length runs → (a + b) * s * part_sum (flat_map run_parts runs) < 2 ^ 64
-    → (sum x : ℕ) → sum ≡ sum_by (share a b cells s) (flat_map run_parts (take i runs))
-    → x ≡ sum_by (share a b cells s) (run_parts (get_or runs i d)) → sum + x ≤ 2 ^ 126
+    → (sum x : ℕ) → sum ≡ sum_by (contribution a b cells s) (flat_map run_parts (take i runs))
+    → x ≡ sum_by (contribution a b cells s) (run_parts (get_or runs i d)) → sum + x ≤ 2 ^ 126
 run_room a b s cells small runs i d h room sum x p q =
     omega (
       arith,
       p,
       q,
-      runs_more_le (share a b cells s) runs i d h,
-      shares_top a b s cells small
+      runs_more_le (contribution a b cells s) runs i d h,
+      contributions_top a b s cells small
           (flat_map run_parts runs) room,
     )
 
@@ -124,25 +131,26 @@ run_room a b s cells small runs i d h room sum x p q =
 module _ (a b s : ℕ) (cells : List ℕ) where
   -- all amounts from m on, by the sums up to the cell that lies m before
   pub onward_is : (k m : ℕ) → k + m ≡ s
-      → (a * s + b * m) * sum_to_cell cells k + b * sums_before cells k ≡ sum_by (share a b cells s)
+      → (a * s + b * m) * sum_to_cell cells k + b * sums_before cells k ≡ sum_by (contribution a b cells s)
       (in_a_row m (suc k) 1)
   unfolding in_a_row count_below
   onward_is zero m e =
       let at : s - m ≡ 0 = omega (arith, e) in
-      let one : share a b cells s (record { amount = m; weight = 1 }) ≡ (a * s + b * m) * 1 * get_or cells 0 0 =
-      share_yes a b cells s (record { amount = m; weight = 1 }) (omega (arith, e))
+      let one : contribution a b cells s (record { amount = m; weight = 1 }) ≡ (a * s + b * m) * 1 * get_or cells 0 0 =
+      contribution_yes a b cells s (record { amount = m; weight = 1 }) (omega (arith, e))
       ∙ ap (λ t. (a * s + b * m) * 1 * get_or cells t 0) at in
       omega (arith, one)
   onward_is (suc k) m e =
       let at : s - m ≡ suc k = omega (arith, e) in
-      let one : share a b cells s (record { amount = m; weight = 1 }) ≡ (a * s + b * m) * 1 * get_or cells (suc k) 0 =
-      share_yes a b cells s (record { amount = m; weight = 1 }) (omega (arith, e))
+      let one : contribution a b cells s (record { amount = m; weight = 1 })
+      ≡ (a * s + b * m) * 1 * get_or cells (suc k) 0 =
+      contribution_yes a b cells s (record { amount = m; weight = 1 }) (omega (arith, e))
       ∙ ap (λ t. (a * s + b * m) * 1 * get_or cells t 0) at in
       let ih = onward_is k (suc m) (omega (arith, e)) in
       step (a * s) b m (sum_to_cell cells k) (get_or cells (suc k) 0) (sums_before cells k)
-      (sum_by (share a b cells s) (in_a_row (suc m) (suc k) 1)) ih
-      ∙ ap (λ t. t + sum_by (share a b cells s) (in_a_row (suc m) (suc k) 1)) (sym one)
-      ∙ sym (sum_by-cons (share a b cells s) (record { amount = m; weight = 1 }) (in_a_row (suc m) (suc k) 1))
+      (sum_by (contribution a b cells s) (in_a_row (suc m) (suc k) 1)) ih
+      ∙ ap (λ t. t + sum_by (contribution a b cells s) (in_a_row (suc m) (suc k) 1)) (sym one)
+      ∙ sym (sum_by-cons (contribution a b cells s) (record { amount = m; weight = 1 }) (in_a_row (suc m) (suc k) 1))
     where
       step : (p b m S c T R : ℕ) → (p + b * suc m) * S + b * T ≡ R
           → (p + b * m) * (S + c) + b * (T + S) ≡ (p + b * m) * 1 * c + R
@@ -150,34 +158,34 @@ module _ (a b s : ℕ) (cells : List ℕ) where
 
   -- what all amounts from m on give, each of weight 1
   abbrev pub onward : ℕ → ℕ
-  onward m = sum_by (share a b cells s) (in_a_row m (suc s - m) 1)
+  onward m = sum_by (contribution a b cells s) (in_a_row m (suc s - m) 1)
 
   -- w times what m gives, and w times those past m
   one_more : (m w : ℕ)
-      → share a b cells s (record { amount = m; weight = w }) + w * sum_by (share a b cells s)
-      (in_a_row (suc m) (suc s - suc m) 1) ≡ w * sum_by (share a b cells s) (in_a_row m (suc s - m) 1)
+      → contribution a b cells s (record { amount = m; weight = w }) + w * sum_by (contribution a b cells s)
+      (in_a_row (suc m) (suc s - suc m) 1) ≡ w * sum_by (contribution a b cells s) (in_a_row m (suc s - m) 1)
   unfolding in_a_row
   one_more m w = elim (cases_lt s m) [
     | inl l ↦
         let x : suc s - suc m ≡ 0 = omega (arith, l) in
         let y : suc s - m ≡ 0 = omega (arith, l) in
-        ap₂ (λ u v. u + w * sum_by (share a b cells s) (in_a_row (suc m) v 1))
-        (share_no a b cells s (record { amount = m; weight = w }) l) x
-        ∙ none_plus _ ∙ ap (λ v. w * sum_by (share a b cells s) (in_a_row m v 1)) (sym y)
+        ap₂ (λ u v. u + w * sum_by (contribution a b cells s) (in_a_row (suc m) v 1))
+        (contribution_no a b cells s (record { amount = m; weight = w }) l) x
+        ∙ none_plus _ ∙ ap (λ v. w * sum_by (contribution a b cells s) (in_a_row m v 1)) (sym y)
     | inr l ↦
         let y : suc s - m ≡ suc (suc s - suc m) = omega (arith, l) in
-        let rest = sum_by (share a b cells s) (in_a_row (suc m) (suc s - suc m) 1) in
+        let rest = sum_by (contribution a b cells s) (in_a_row (suc m) (suc s - suc m) 1) in
         let c = get_or cells (s - m) 0 in
-        let here : share a b cells s (record { amount = m; weight = w }) ≡ (a * s + b * m) * w * c =
-        share_yes a b cells s (record { amount = m; weight = w }) l in
-        let one : share a b cells s (record { amount = m; weight = 1 }) ≡ (a * s + b * m) * 1 * c =
-        share_yes a b cells s (record { amount = m; weight = 1 }) l in
+        let here : contribution a b cells s (record { amount = m; weight = w }) ≡ (a * s + b * m) * w * c =
+        contribution_yes a b cells s (record { amount = m; weight = w }) l in
+        let one : contribution a b cells s (record { amount = m; weight = 1 }) ≡ (a * s + b * m) * 1 * c =
+        contribution_yes a b cells s (record { amount = m; weight = 1 }) l in
         ap (λ t. t + w * rest) here ∙ join (a * s + b * m) w c rest
         ∙ ap (λ t. w * (t + rest)) (sym one)
         ∙ ap (λ t. w * t)
-        (sym (sum_by-cons (share a b cells s) (record { amount = m; weight = 1 })
+        (sym (sum_by-cons (contribution a b cells s) (record { amount = m; weight = 1 })
         (in_a_row (suc m) (suc s - suc m) 1)))
-        ∙ ap (λ v. w * sum_by (share a b cells s) (in_a_row m v 1)) (sym y)
+        ∙ ap (λ v. w * sum_by (contribution a b cells s) (in_a_row m v 1)) (sym y)
   ]
     where
       none_plus : (x : ℕ) → 0 + x ≡ x
@@ -188,10 +196,11 @@ module _ (a b s : ℕ) (cells : List ℕ) where
 
   -- what a run gives, and its weight times what the amounts past its last would
   pub run_is : (m n w : ℕ)
-      → sum_by (share a b cells s) (in_a_row m n w) + w * sum_by (share a b cells s)
-      (in_a_row (m + n) (suc s - (m + n)) 1) ≡ w * sum_by (share a b cells s) (in_a_row m (suc s - m) 1)
+      → sum_by (contribution a b cells s) (in_a_row m n w) + w * sum_by (contribution a b cells s)
+      (in_a_row (m + n) (suc s - (m + n)) 1) ≡ w * sum_by (contribution a b cells s) (in_a_row m (suc s - m) 1)
   unfolding in_a_row
-  run_is m zero w = none_plus _ ∙ ap (λ t. w * sum_by (share a b cells s) (in_a_row t (suc s - t) 1)) (plus_none m)
+  run_is m zero w = none_plus _ ∙ ap (λ t. w * sum_by (contribution a b cells s) (in_a_row t (suc s - t) 1))
+      (plus_none m)
     where
       none_plus : (x : ℕ) → 0 + x ≡ x
       none_plus x = omega arith
@@ -199,11 +208,11 @@ module _ (a b s : ℕ) (cells : List ℕ) where
       plus_none : (m : ℕ) → m + 0 ≡ m
       plus_none m = omega arith
   run_is m (suc n) w =
-      let head : sum_by (share a b cells s) (in_a_row m (suc n) w) ≡ share a b cells s
-      (record { amount = m; weight = w }) + sum_by (share a b cells s) (in_a_row (suc m) n w) =
-      sum_by-cons (share a b cells s) (record { amount = m; weight = w }) (in_a_row (suc m) n w) in
-      ap₂ (λ u t. u + w * sum_by (share a b cells s) (in_a_row t (suc s - t) 1)) head (over m n)
-      ∙ turn (share a b cells s (record { amount = m; weight = w })) _ _ _ (run_is (suc m) n w) ∙ one_more m w
+      let head : sum_by (contribution a b cells s) (in_a_row m (suc n) w) ≡ contribution a b cells s
+      (record { amount = m; weight = w }) + sum_by (contribution a b cells s) (in_a_row (suc m) n w) =
+      sum_by-cons (contribution a b cells s) (record { amount = m; weight = w }) (in_a_row (suc m) n w) in
+      ap₂ (λ u t. u + w * sum_by (contribution a b cells s) (in_a_row t (suc s - t) 1)) head (over m n)
+      ∙ turn (contribution a b cells s (record { amount = m; weight = w })) _ _ _ (run_is (suc m) n w) ∙ one_more m w
     where
       over : (m n : ℕ) → m + suc n ≡ suc m + n
       over m n = omega arith
@@ -213,19 +222,19 @@ module _ (a b s : ℕ) (cells : List ℕ) where
 
   -- the amounts past the last of a run give at most what all from its first on do; the difference is the run's
   pub past_le : (m n : ℕ)
-      → sum_by (share a b cells s) (in_a_row (m + n) (suc s - (m + n)) 1) ≤ sum_by (share a b cells s)
+      → sum_by (contribution a b cells s) (in_a_row (m + n) (suc s - (m + n)) 1) ≤ sum_by (contribution a b cells s)
       (in_a_row m (suc s - m) 1)
   past_le m n = less _ _ _ (run_is m n 1)
     where
       less : (r y x : ℕ) → r + 1 * y ≡ 1 * x → y ≤ x
       less r y x h = omega (arith, h)
 
-  pub run_less : (m n w x y : ℕ) → x ≡ sum_by (share a b cells s) (in_a_row m (suc s - m) 1)
-      → y ≡ sum_by (share a b cells s) (in_a_row (m + n) (suc s - (m + n)) 1)
-      → (x - y) * w ≡ sum_by (share a b cells s) (in_a_row m n w)
+  pub run_less : (m n w x y : ℕ) → x ≡ sum_by (contribution a b cells s) (in_a_row m (suc s - m) 1)
+      → y ≡ sum_by (contribution a b cells s) (in_a_row (m + n) (suc s - (m + n)) 1)
+      → (x - y) * w ≡ sum_by (contribution a b cells s) (in_a_row m n w)
   run_less m n w x y p q =
-      let r : sum_by (share a b cells s) (in_a_row m n w) + w * y ≡ w * x =
-      ap (λ t. sum_by (share a b cells s) (in_a_row m n w) + w * t) q ∙ run_is m n w ∙ ap (λ t. w * t) (sym p) in
+      let r : sum_by (contribution a b cells s) (in_a_row m n w) + w * y ≡ w * x =
+      ap (λ t. sum_by (contribution a b cells s) (in_a_row m n w) + w * t) q ∙ run_is m n w ∙ ap (λ t. w * t) (sym p) in
       let less : y ≤ x = subst₂ (λ s t. s ≤ t) (sym q) (sym p) (past_le m n) in
       apart x y w _ less r
     where
@@ -239,12 +248,12 @@ module _ (a b s : ℕ) (cells : List ℕ) where
 -- the same where the sums of the cells have names, and its size
 module _ (a b s m : ℕ) (cells : List ℕ) (f g x y : ℕ) (within : m ≤ s) (factor : f ≡ a * s + b * m) (step : g ≡ b) where
   pub onward_at : x ≡ sum_to_cell cells (s - m) → y ≡ sums_before cells (s - m)
-      → f * x + g * y ≡ sum_by (share a b cells s) (in_a_row m (suc s - m) 1)
+      → f * x + g * y ≡ sum_by (contribution a b cells s) (in_a_row m (suc s - m) 1)
   onward_at p q =
       let k : suc (s - m) ≡ suc s - m = omega (arith, within) in
       ap₂ (λ u v. u * x + v * y) factor step ∙ ap₂ (λ u v. (a * s + b * m) * u + b * v) p q
       ∙ onward_is a b s cells (s - m) m (omega (arith, within))
-      ∙ ap (λ t. sum_by (share a b cells s) (in_a_row m t 1)) k
+      ∙ ap (λ t. sum_by (contribution a b cells s) (in_a_row m t 1)) k
 
 -- the factors of the sums
 pub factor_small : (a b s m f : ℕ) → m ≤ s → (a + b) * s < 2 ^ 32 → f ≡ a * s + b * m → f ≤ 2 ^ 32
@@ -264,21 +273,3 @@ part_pushed f parts rest p =
     sum_by-append f (parts ++ p ∷ []) rest in
     let g : sum_by f (parts ++ rest) ≡ sum_by f parts + sum_by f rest = sum_by-append f parts rest in
     omega (arith, e, g, sum_by_push f parts p)
-
-pub run_pushed : (f : Part → ℕ) (parts : List Part) (runs : List Run) (run : Run)
-    → sum_by f (parts ++ flat_map run_parts (runs ++ run ∷ [])) ≡ sum_by f (parts ++ flat_map run_parts runs) + sum_by f
-    (run_parts run)
-run_pushed f parts runs run =
-    let e : sum_by f (parts ++ flat_map run_parts (runs ++ run ∷ [])) ≡ sum_by f parts + sum_by f
-    (flat_map run_parts (runs ++ run ∷ [])) = sum_by-append f parts (flat_map run_parts (runs ++ run ∷ [])) in
-    let g : sum_by f (parts ++ flat_map run_parts runs) ≡ sum_by f parts + sum_by f (flat_map run_parts runs) =
-    sum_by-append f parts (flat_map run_parts runs) in
-    omega (
-      arith,
-      e,
-      g,
-      runs_sum f (runs ++ run ∷ []),
-      runs_sum f runs,
-      sum_by_push
-          (λ (run : Run). sum_by f (run_parts run)) runs run,
-    )

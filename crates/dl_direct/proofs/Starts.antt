@@ -4,8 +4,7 @@ use Rattle.std.proofs.Math.Nat.{zero-lt-suc, one-le-pow, pow-le-pow_right, lt-di
 use Rattle.dl_exact.specs.Fraction.{Fraction, ◌over◌, ◌*ℚ◌, ◌≤ℚ◌, whole}
 use Rattle.dl_exact.specs.Sum.{sum_to}
 use Rattle.dl_model.specs.Series.{Series, AtMost, AtLeast, Holds, times}
-use Rattle.dl_model.specs.Compound.{convolve, at_zero, power}
-use Rattle.dl_model.proofs.Powers.{convolve_comm, at_zero_convolve}
+use Rattle.dl_model.specs.Compound.{convolve}
 use Rattle.dl_exact.proofs.Over.{over_le, over_mul}
 use Rattle.dl_exact.proofs.Laws.{one_times, le_refl, le_of_eq}
 use Rattle.dl_model.proofs.Declared.{at_most_wider, at_least_wider, at_most_times, at_least_times}
@@ -68,7 +67,3 @@ start_times v w l h e l' h' e' x y d H K p q =
       most_from (times one one) (times V W) one C (y over 2 ^ d) (λ n. (n, le_of_eq _ _ same))
           (λ n. (n + n, cauchy_high n v w)) (at_most_wider (times one one) (times V W) _ _ high b),
     )
-
-pub power_one : (w : ℕ → Fraction) → power w 1 ≡ w
-unfolding power
-power_one w = convolve_comm w at_zero ∙ at_zero_convolve w

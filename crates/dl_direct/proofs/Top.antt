@@ -22,7 +22,7 @@ use Rattle.dl_direct.specs.declared.start.Scaled.{Scaled}
 use Rattle.dl_model.specs.Counts.{IsPanjer}
 use Rattle.dl_direct.specs.Start.{HoldsNoClaim}
 use Rattle.dl_direct.specs.Runs.{part_at}
-use Rattle.dl_direct.specs.Slide.{Follows, IsRound}
+use Rattle.dl_direct.specs.Slide.{FollowsInWhole, IsRound}
 use Rattle.dl_direct.specs.Placed.{IsPlaced, IsScaled}
 use Rattle.dl_model.proofs.Panjer.{recursion_there, recursion_next}
 use Rattle.dl_direct.proofs.Starts.{two_pos}
@@ -144,7 +144,7 @@ module _ (f w : ℕ → Fraction) (z : f zero ≡ whole 0) (severity : IsWithinO
 -- ---- the recursion in whole numbers
 
 pub follows : (f w : ℕ → Fraction) (x : Fraction) (a b q : ℕ) (parts : List Part) → f zero ≡ whole 0
-    → IsPanjer (whole a *ℚ x) (whole b *ℚ x) w → IsScaled parts q x f → Follows parts a b q (λ s. cell w f s s)
+    → IsPanjer (whole a *ℚ x) (whole b *ℚ x) w → IsScaled parts q x f → FollowsInWhole parts a b q (λ s. cell w f s s)
 follows f w x a b q parts z P W =
     let r : ℕ → Fraction = λ s. cell w f s s in
     let R : Recursion (whole a *ℚ x) (whole b *ℚ x) f r = recursion_there f w (whole a *ℚ x) (whole b *ℚ x) z P in

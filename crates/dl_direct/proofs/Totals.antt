@@ -4,10 +4,12 @@ use Rattle.std.proofs.Math.ListN.{get_or-append}
 use Rattle.std.proofs.Math.Seq.{get_or-append_seam}
 use Rattle.std.proofs.lemmas.List.{get_or-take, length-take}
 use Rattle.std.proofs.lemmas.Bool.{cases_lt}
+use Rattle.dl_limits.specs.Limits.{most_cells}
 use Rattle.dl_exact.specs.Count.{count_below}
 use Rattle.dl_exact.proofs.Counts.{below_bound, below_same}
+use Rattle.dl_direct.specs.declared.cells.Total.{Total}
 use Rattle.dl_direct.specs.declared.cells.Sums.{Sums}
-use Rattle.dl_direct.specs.Slide.{sum_to_cell, sums_before, IsSum, AreSums}
+use Rattle.dl_direct.specs.Slide.{sum_to_cell, sums_before, IsTotal, IsSum, AreSums}
 
 -- ---- bounds
 
@@ -24,39 +26,38 @@ before_sums_le ends k M h =
         more : (i : ℕ) → i < k → suc i ≤ k
         more i l = omega (arith, l)
 
-pub to_cell_small : (ends : List ℕ) (k x : ℕ) → ((i : ℕ) → get_or ends i 0 ≤ 2 ^ 62) → k < 16384
-    → x ≡ sum_to_cell ends k → x ≤ 2 ^ 76
-to_cell_small ends k x h l e = omega (arith, to_cell_le ends k (2 ^ 62) h, e, l)
-
-pub before_small : (ends : List ℕ) (k x : ℕ) → ((i : ℕ) → get_or ends i 0 ≤ 2 ^ 62) → k < 16384 → x ≡ sums_before ends k
-    → x ≤ 2 ^ 90
-before_small ends k x h l e =
-    omega (arith, before_sums_le ends k (2 ^ 62) h, e, mul-le-mul (least l) (mul-le-mul_right (2 ^ 62) (least l)))
+pub total_small : (ends : List ℕ) (k : ℕ) (total : Total) → ((i : ℕ) → get_or ends i 0 ≤ 2 ^ 62) → k < most_cells
+    → IsTotal ends k total → (total.cells ≤ 2 ^ 76) × (total.before ≤ 2 ^ 90)
+total_small ends k total h l is = (
+  omega (arith, to_cell_le ends k (2 ^ 62) h, is.cells, l),
+  omega (
+    arith,
+    before_sums_le ends k (2 ^ 62) h,
+    is.before,
+    mul-le-mul (least l) (mul-le-mul_right (2 ^ 62) (least l)),
+  ),
+)
   where
-    least : {k : ℕ} → k < 16384 → k ≤ 16384
+    least : {k : ℕ} → k < most_cells → k ≤ most_cells
     least {k} l = omega (arith, l)
 
 -- ---- one more cell
 
-pub first_sum : (low high : List ℕ) (sums : Sums) → sums.low ≡ get_or low 0 0 → sums.high ≡ get_or high 0 0
-    → sums.low_before ≡ 0 → sums.high_before ≡ 0 → IsSum low high 0 sums
+pub first_total : (ends : List ℕ) (total : Total) → total.cells ≡ get_or ends 0 0 → total.before ≡ 0
+    → IsTotal ends 0 total
 unfolding count_below
-first_sum low high sums p q r s =
-    record { low_sum = p ∙ none_plus _; high_sum = q ∙ none_plus _; low_before = r; high_before = s }
+first_total ends total p q = record { cells = p ∙ none_plus _; before = q }
   where
     none_plus : (x : ℕ) → x ≡ 0 + x
     none_plus x = omega arith
 
-pub next_sum : (low high : List ℕ) (k : ℕ) (before sums : Sums) → IsSum low high k before
-    → sums.low ≡ before.low + get_or low (suc k) 0 → sums.high ≡ before.high + get_or high (suc k) 0
-    → sums.low_before ≡ before.low_before + before.low → sums.high_before ≡ before.high_before + before.high
-    → IsSum low high (suc k) sums
+pub next_total : (ends : List ℕ) (k : ℕ) (last total : Total) → IsTotal ends k last
+    → total.cells ≡ last.cells + get_or ends (suc k) 0 → total.before ≡ last.before + last.cells
+    → IsTotal ends (suc k) total
 unfolding count_below
-next_sum low high k before sums b p q r s = record {
-  low_sum = p ∙ ap (λ t. t + get_or low (suc k) 0) b.low_sum;
-  high_sum = q ∙ ap (λ t. t + get_or high (suc k) 0) b.high_sum;
-  low_before = r ∙ ap₂ (λ s t. s + t) b.low_before b.low_sum;
-  high_before = s ∙ ap₂ (λ s t. s + t) b.high_before b.high_sum;
+next_total ends k last total is p q = record {
+  cells = p ∙ ap (λ t. t + get_or ends (suc k) 0) is.cells;
+  before = q ∙ ap₂ (λ s t. s + t) is.before is.cells;
 }
 
 pub sums_none : (low high : List ℕ) → AreSums [] low high
@@ -74,24 +75,25 @@ sums_pushed low high sums one h g k d l = elim (cases_lt k (length sums)) [
 
 -- ---- cells that change
 
+is_total_same : (ends more : List ℕ) (k : ℕ) (total : Total) → ((i : ℕ) → i ≤ k → get_or more i 0 ≡ get_or ends i 0)
+    → IsTotal ends k total → IsTotal more k total
+is_total_same ends more k total same is = record {
+  cells = is.cells ∙ to k (omega arith);
+  before = is.before
+      ∙ below_same k (λ i. sum_to_cell ends i) (λ i. sum_to_cell more i) (λ i m. to i (omega (arith, m)));
+}
+  where
+    to : (j : ℕ) → j ≤ k → sum_to_cell ends j ≡ sum_to_cell more j
+    to j l = below_same (suc j) (λ i. get_or ends i 0) (λ i. get_or more i 0)
+        (λ i m. sym (same i (omega (arith, l, m))))
+
 is_sum_same : (low high low' high' : List ℕ) (k : ℕ) (sums : Sums)
     → ((i : ℕ) → i ≤ k → get_or low' i 0 ≡ get_or low i 0) → ((i : ℕ) → i ≤ k → get_or high' i 0 ≡ get_or high i 0)
     → IsSum low high k sums → IsSum low' high' k sums
-is_sum_same low high low' high' k sums p q h =
-    let to : (ends ends' : List ℕ) (j : ℕ) → j ≤ k → ((i : ℕ) → i ≤ k → get_or ends' i 0 ≡ get_or ends i 0)
-    → sum_to_cell ends j ≡ sum_to_cell ends' j =
-    λ ends ends' j l e. below_same (suc j) (λ i. get_or ends i 0) (λ i. get_or ends' i 0)
-    (λ i m. sym (e i (omega (arith, l, m)))) in
-    let before : (ends ends' : List ℕ) → ((i : ℕ) → i ≤ k → get_or ends' i 0 ≡ get_or ends i 0)
-    → sums_before ends k ≡ sums_before ends' k =
-    λ ends ends' e. below_same k (λ i. sum_to_cell ends i) (λ i. sum_to_cell ends' i)
-    (λ i m. to ends ends' i (omega (arith, m)) e) in
-    record {
-      low_sum = h.low_sum ∙ to low low' k (omega arith) p;
-      high_sum = h.high_sum ∙ to high high' k (omega arith) q;
-      low_before = h.low_before ∙ before low low' p;
-      high_before = h.high_before ∙ before high high' q;
-    }
+is_sum_same low high low' high' k sums p q h = record {
+  low_total = is_total_same low low' k sums.low p h.low_total;
+  high_total = is_total_same high high' k sums.high q h.high_total;
+}
 
 -- the first n sums, where the first n cells stay
 pub sums_kept : (n : ℕ) (sums : List Sums) (low high low' high' : List ℕ)

@@ -123,8 +123,9 @@ gamma_steps (suc s) b x p e =
     let q : s ≡ b = omega (arith, e) in
     subst₂ (λ a b. IsPanjer a (whole b *ℚ x) (gamma (suc s) x)) (sym (one_times x)) q (gamma_class s x)
 
-pub share_is : (num den s : ℕ) → 0 < den → 0 < s → num over (num + s * den) ≡ num over den /ℚ (whole s +ℚ num over den)
-share_is num den s d p =
+pub contribution_is : (num den s : ℕ) → 0 < den → 0 < s
+    → num over (num + s * den) ≡ num over den /ℚ (whole s +ℚ num over den)
+contribution_is num den s d p =
     let q : 0 < s * den = mul-pos p d in
     let r : 0 < s * den + num * 1 = omega (arith, q) in
     let e : whole s +ℚ num over den ≡ (s * den + num * 1) over (1 * den) = over_add s 1 num den one_pos d in

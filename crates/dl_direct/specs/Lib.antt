@@ -1,3 +1,4 @@
+pub mod Sizes
 pub mod Runs
 pub mod Slide
 pub mod Start

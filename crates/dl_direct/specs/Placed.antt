@@ -1,19 +1,20 @@
 -- The cells of the recursion times the probability of no claim, as a grid.
 use Rattle.std.specs.Prelude.{ℕ, ◌≡◌, ◌+◌, ◌*◌, ◌^◌, ◌<◌, ◌≤◌, ◌⊎◌, List, slice_index}
 use Rattle.dl_exact.specs.Fraction.{Fraction, whole, ◌*ℚ◌}
+use Rattle.dl_direct.specs.Sizes.{start_bits}
 use Rattle.dl_direct.specs.declared.parts.Part.{Part}
 use Rattle.dl_direct.specs.declared.start.Scaled.{Scaled}
 use Rattle.dl_direct.specs.Runs.{part_at}
 
--- The ends lo and hi of the first n cells in units of 1 / 2^B: each is on its side of the product of
--- the recursion's end, which is in units of 2^e / 2^61, and the end of the probability of no claim;
--- or a high end is 1.
+-- The ends lo and hi of the first n cells in units of 1 / 2^B: each is on its side of the product
+-- of the recursion's end, which is in units of 2^e / 2^61, and the end of the probability of no
+-- claim; or a high end is 1.
 pub record IsPlaced (B : ℕ) (start : Scaled) (e n : ℕ) (low high : List ℕ) (lo hi : ℕ → ℕ)
     : Type 0 where
   pub low_end : (k : ℕ) → k < n
-      → lo k * 2 ^ (61 + start.exponent) ≤ slice_index low k * start.low * 2 ^ (e + B)
+      → lo k * 2 ^ (start_bits + start.exponent) ≤ slice_index low k * start.low * 2 ^ (e + B)
   pub high_end : (k : ℕ) → k < n
-      → (slice_index high k * start.high * 2 ^ (e + B) ≤ hi k * 2 ^ (61 + start.exponent))
+      → (slice_index high k * start.high * 2 ^ (e + B) ≤ hi k * 2 ^ (start_bits + start.exponent))
       ⊎ (hi k ≡ 2 ^ B)
 
 -- each part's weight is q times x times the probability of its amount

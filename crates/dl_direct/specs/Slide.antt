@@ -1,38 +1,41 @@
--- Panjer's recursion in whole numbers (Loss Models, "The recursive method"), and cells that share an
--- exponent.
+-- Panjer's recursion in whole numbers (Loss Models, "The recursive method"), and cells that share
+-- an exponent.
 use Rattle.std.specs.Prelude.{ℕ, zero, suc, ◌≡◌, ◌+◌, ◌-◌, ◌*◌, ◌^◌, ◌<◌, ◌≤◌, if◌then◌else◌, nat_le, List, get_or, slice_index, length}
 use Rattle.dl_exact.specs.Fraction.{Fraction, whole, ◌*ℚ◌, ◌≤ℚ◌}
 use Rattle.dl_exact.specs.Sum.{sum_pairs}
 use Rattle.dl_exact.specs.Count.{count_below}
+use Rattle.dl_direct.specs.Sizes.{start_bits, most_end}
 use Rattle.dl_direct.specs.declared.parts.Part.{Part}
+use Rattle.dl_direct.specs.declared.cells.Total.{Total}
 use Rattle.dl_direct.specs.declared.cells.Sums.{Sums}
 use Rattle.dl_direct.specs.Runs.{part_at}
 
 -- what one part gives to cell s: (a * s + b * amount) * weight times the cell that lies its amount
 -- before, where there is one
-abbrev pub share : ℕ → ℕ → List ℕ → ℕ → Part → ℕ
-share a b cells s p =
+abbrev pub contribution : ℕ → ℕ → List ℕ → ℕ → Part → ℕ
+contribution a b cells s p =
     if nat_le p.amount s
     then (a * s + b * p.amount) * p.weight * slice_index cells (s - p.amount) else 0
 
 -- the recursion in whole numbers: q * (n + 1) * r (n + 1) is the sum over the amounts 1 + i and the
 -- cells k with i + k = n
-pub record Follows (parts : List Part) (a b q : ℕ) (r : ℕ → Fraction) : Type 0 where
+pub record FollowsInWhole (parts : List Part) (a b q : ℕ) (r : ℕ → Fraction) : Type 0 where
   pub start : r zero ≡ whole 1
   pub next : (n : ℕ) → whole (q * suc n) *ℚ r (suc n)
       ≡ sum_pairs n (λ i k. whole ((a * suc n + b * suc i) * part_at parts (suc i)) *ℚ r k)
 
 -- in units of 2^e the numbers stand round 2^61 times r k, for each k below n
 pub record IsRound (r : ℕ → Fraction) (e n : ℕ) (low high : List ℕ) : Type 0 where
-  pub low_end : (k : ℕ) → k < n → whole (slice_index low k * 2 ^ e) ≤ℚ whole (2 ^ 61) *ℚ r k
-  pub high_end : (k : ℕ) → k < n → whole (2 ^ 61) *ℚ r k ≤ℚ whole (slice_index high k * 2 ^ e)
+  pub low_end : (k : ℕ) → k < n → whole (slice_index low k * 2 ^ e) ≤ℚ whole (2 ^ start_bits) *ℚ r k
+  pub high_end : (k : ℕ) → k < n → whole (2 ^ start_bits) *ℚ r k ≤ℚ whole
+      (slice_index high k * 2 ^ e)
 
 -- the ends of as many cells, each at most 2^62; those of the first cells are 0, and 0 or 1, which
 -- no shift down changes
-pub record IsSettled (low high : List ℕ) (first : ℕ) : Type 0 where
+pub record AreSlideCells (low high : List ℕ) (first : ℕ) : Type 0 where
   pub alike : length high ≡ length low
-  pub low_small : (k : ℕ) → slice_index low k ≤ 2 ^ 62
-  pub high_small : (k : ℕ) → slice_index high k ≤ 2 ^ 62
+  pub low_small : (k : ℕ) → slice_index low k ≤ most_end
+  pub high_small : (k : ℕ) → slice_index high k ≤ most_end
   pub low_settled : (k : ℕ) → k < first → slice_index low k ≡ 0
   pub high_settled : (k : ℕ) → k < first → slice_index high k ≤ 1
 
@@ -44,12 +47,15 @@ sum_to_cell ends k = count_below (suc k) (λ i. slice_index ends i)
 abbrev pub sums_before : List ℕ → ℕ → ℕ
 sums_before ends k = count_below k (λ i. sum_to_cell ends i)
 
--- the sums up to cell k
+-- the sums of ends up to cell k
+pub record IsTotal (ends : List ℕ) (k : ℕ) (total : Total) : Type 0 where
+  pub cells : total.cells ≡ sum_to_cell ends k
+  pub before : total.before ≡ sums_before ends k
+
+-- those of the low ends and of the high ends
 pub record IsSum (low high : List ℕ) (k : ℕ) (sums : Sums) : Type 0 where
-  pub low_sum : sums.low ≡ sum_to_cell low k
-  pub high_sum : sums.high ≡ sum_to_cell high k
-  pub low_before : sums.low_before ≡ sums_before low k
-  pub high_before : sums.high_before ≡ sums_before high k
+  pub low_total : IsTotal low k sums.low
+  pub high_total : IsTotal high k sums.high
 
 -- the sums up to each of the first cells
 abbrev pub AreSums : List Sums → List ℕ → List ℕ → Type 0

@@ -1,13 +1,16 @@
 //! The grids of units whose counts are of the (a, b, 0) class, by one recursion.
 
 ghost use Rattle.std.specs.Prelude.{◌≡◌, ℕ, ◌+◌, ◌-◌, ◌*◌, ◌^◌, ◌<◌, ◌≤◌, length, IfOk, IfSome, IsTrue};
+ghost use Rattle.dl_limits.specs.Limits.{most_cells, most_expected, most_shape, most_parts, admitted_bound, frac_bound};
 ghost use Rattle.dl_exact.specs.Fraction.{Fraction, whole, ◌over◌, ◌*ℚ◌, ◌≤ℚ◌};
 ghost use Rattle.dl_grid.specs.Cells.{IsGrid};
 ghost use Rattle.dl_model.specs.Counts.{poisson, gamma_of, IsPanjer};
 ghost use Rattle.dl_model.specs.Family.{compound, GridEncloses};
 ghost use Rattle.dl_plan.specs.Severity.{probability_of};
+ghost use Rattle.dl_direct.specs.Sizes.{most_start};
 ghost use Rattle.dl_direct.specs.Start.{HoldsNoClaim};
 
+use crate::cells::START_BITS;
 use crate::first::{gamma_start, poisson_start};
 use crate::parts::amounts_of;
 use crate::placing::place;
@@ -18,8 +21,8 @@ use dl_grid::Grid;
 use dl_plan::Sev;
 use std::alloc::{AllocError, Global};
 
-/// How the weights of a count step: the weight of `n + 1` claims is `(a + b / (n + 1)) * num / base`
-/// times that of `n`.
+/// How the weights of a count step: the weight of `n + 1` claims is `(a + b / (n + 1)) * num /
+/// base` times that of `n`.
 #[derive(Clone, Copy)]
 struct Steps {
     a: u64,
@@ -28,15 +31,15 @@ struct Steps {
     base: u64,
 }
 
-/// Whether the sums of the recursion stay in their words: the factors of a cell in 64 bits, and what it
-/// is divided by in 64 bits.
+/// Whether the sums of the recursion stay in their words: the factors of a cell in 64 bits, and
+/// what it is divided by in 64 bits.
 fn fits(steps: Steps, total: u32, cells: u32) -> bool
     requires a_small { steps.a ≤ 1 }
-    requires b_small { steps.b ≤ 10000 }
-    requires num_small { steps.num < 2 ^ 48 }
-    requires base_small { steps.base < 2 ^ 62 }
-    requires total_small { total ≤ 2 ^ 30 }
-    requires cells_small { cells ≤ 16384 }
+    requires b_small { steps.b ≤ most_shape }
+    requires num_small { steps.num < admitted_bound }
+    requires base_small { steps.base < frac_bound }
+    requires total_small { total ≤ most_parts }
+    requires cells_small { cells ≤ most_cells }
     ensures factors { IsTrue result → (steps.a + steps.b) * cells * (steps.num * total) < 2 ^ 64 }
     ensures divisors { IsTrue result → steps.base * total * cells < 2 ^ 64 }
 {
@@ -47,8 +50,8 @@ fn fits(steps: Steps, total: u32, cells: u32) -> bool
     factors * weights < limit && divisor * u128::from(cells) < limit
 }
 
-/// The grid of the compound sum of a count whose weights step so, and whose probability of no claim is
-/// `start`; none where the numbers are too long.
+/// The grid of the compound sum of a count whose weights step so, and whose probability of no claim
+/// is `start`; none where the numbers are too long.
 fn compound_direct<const B: u32>(
     alloc: Global,
     sev: &Sev,
@@ -62,16 +65,17 @@ fn compound_direct<const B: u32>(
     requires base_positive { 0 < steps.base }
     requires some_step { 0 < steps.a + steps.b }
     requires a_small { steps.a ≤ 1 }
-    requires b_small { steps.b ≤ 10000 }
-    requires num_small { steps.num < 2 ^ 48 }
-    requires base_small { steps.base < 2 ^ 62 }
-    requires low_small { start.low ≤ 2 ^ 63 }
-    requires high_small { start.high ≤ 2 ^ 63 }
+    requires b_small { steps.b ≤ most_shape }
+    requires num_small { steps.num < admitted_bound }
+    requires base_small { steps.base < frac_bound }
+    requires low_small { start.low ≤ most_start }
+    requires high_small { start.high ≤ most_start }
     requires some { 1 ≤ cells }
-    requires few { cells ≤ 16384 }
+    requires few { cells ≤ most_cells }
     ensures cells { IfOk result (λ made. IfSome made (λ g. length g ≡ cells)) }
     ensures encloses { IfOk result (λ made. IfSome made (λ g. (w : ℕ → Fraction)
-        → IsPanjer (whole steps.a *ℚ steps.num over steps.base) (whole steps.b *ℚ steps.num over steps.base) w
+        → IsPanjer (whole steps.a *ℚ steps.num over steps.base)
+        (whole steps.b *ℚ steps.num over steps.base) w
         → HoldsNoClaim w start → GridEncloses g (compound w (probability_of sev.now)))) }
 {
     if !fits(steps, sev.total, cells) {
@@ -80,7 +84,7 @@ fn compound_direct<const B: u32>(
     let amounts = amounts_of(alloc, sev.items.as_slice(), steps.num)?;
     let divisor = steps.base * u64::from(sev.total);
     let x = recur(alloc, &amounts, steps.a, steps.b, divisor, cells as usize)?;
-    let scale = 61 + u64::from(start.exponent);
+    let scale = START_BITS + u64::from(start.exponent);
     let raised = x.shift + u64::from(B);
     if raised > scale {
         return Ok(None);
@@ -90,9 +94,9 @@ fn compound_direct<const B: u32>(
 }
 
 /// The first `cells` cells of a Poisson number of claims of this mean, by one recursion, without a
-/// bound on their spread. None where the numbers of the recursion are too long: where `cells` times the
-/// total of the weights times a part of the mean reaches 2^64, or the cells grow too large beside
-/// cell 0.
+/// bound on their spread. None where the numbers of the recursion are too long: where `cells` times
+/// the total of the weights times a part of the mean reaches 2^64, or the cells grow too large
+/// beside cell 0.
 pub fn poisson_direct<const B: u32>(
     alloc: Global,
     sev: &Sev,
@@ -102,11 +106,11 @@ pub fn poisson_direct<const B: u32>(
     requires scale_above { 1 ≤ B }
     requires scale_below { B ≤ 56 }
     requires no_zero { probability_of sev.now 0 ≡ whole 0 }
-    requires num { mean.num < 2 ^ 48 }
-    requires den { mean.den < 2 ^ 48 }
-    requires within { mean ≤ℚ whole 4096 }
+    requires num { mean.num < admitted_bound }
+    requires den { mean.den < admitted_bound }
+    requires within { mean ≤ℚ whole most_expected }
     requires some { 1 ≤ cells }
-    requires few { cells ≤ 16384 }
+    requires few { cells ≤ most_cells }
     ensures cells { IfOk result (λ made. IfSome made (λ g. length g ≡ cells)) }
     ensures encloses { IfOk result (λ made. IfSome made (λ g.
         GridEncloses g (compound (poisson mean) (probability_of sev.now)))) }
@@ -121,9 +125,9 @@ pub fn poisson_direct<const B: u32>(
     compound_direct(alloc, sev, steps, start, cells)
 }
 
-/// The first `cells` cells of a gamma number of claims of this shape and mean, by one recursion, without
-/// a bound on their spread. None as for a Poisson number: the shape times the cells, and the second part
-/// of the mean times the shape, count there too.
+/// The first `cells` cells of a gamma number of claims of this shape and mean, by one recursion,
+/// without a bound on their spread. None as for a Poisson number: the shape times the cells, and
+/// the second part of the mean times the shape, count there too.
 pub fn gamma_direct<const B: u32>(
     alloc: Global,
     sev: &Sev,
@@ -135,11 +139,11 @@ pub fn gamma_direct<const B: u32>(
     requires scale_below { B ≤ 56 }
     requires no_zero { probability_of sev.now 0 ≡ whole 0 }
     requires shape_above { 1 ≤ shape }
-    requires shape_below { shape ≤ 10000 }
-    requires num { mean.num < 2 ^ 48 }
-    requires den { mean.den < 2 ^ 48 }
+    requires shape_below { shape ≤ most_shape }
+    requires num { mean.num < admitted_bound }
+    requires den { mean.den < admitted_bound }
     requires some { 1 ≤ cells }
-    requires few { cells ≤ 16384 }
+    requires few { cells ≤ most_cells }
     ensures cells { IfOk result (λ made. IfSome made (λ g. length g ≡ cells)) }
     ensures encloses { IfOk result (λ made. IfSome made (λ g.
         GridEncloses g (compound (gamma_of shape mean) (probability_of sev.now)))) }

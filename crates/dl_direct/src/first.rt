@@ -1,17 +1,20 @@
 //! The probability of no claim of Poisson and of gamma counts.
 
 ghost use Rattle.std.specs.Prelude.{◌≡◌, ◌+◌, ◌*◌, ◌^◌, ◌<◌, ◌≤◌};
+ghost use Rattle.dl_limits.specs.Limits.{most_expected, most_shape, admitted_bound};
 ghost use Rattle.dl_exact.specs.Fraction.{◌over◌};
 ghost use Rattle.dl_model.specs.Counts.{poisson, gamma};
+ghost use Rattle.dl_direct.specs.Sizes.{most_start};
 ghost use Rattle.dl_direct.specs.Start.{HoldsNoClaim};
 
 use crate::start::{Scaled, TOP, power_of};
 
-/// Of the geometric count with the ratio `num / (num + rest)`: the rest of 1, `rest / (num + rest)`.
+/// Of the geometric count with the ratio `num / (num + rest)`: the rest of 1, `rest / (num +
+/// rest)`.
 fn geometric_start(num: u64, rest: u64) -> Scaled
     requires positive { 0 < rest }
     requires room { num + rest < 2 ^ 64 }
-    ensures top { result.high ≤ 2 ^ 63 }
+    ensures top { result.high ≤ most_start }
     ensures exponent { result.exponent ≡ 63 }
     ensures order { result.low ≤ result.high }
     ensures holds { HoldsNoClaim (gamma 1 (num over (num + rest))) result }
@@ -28,12 +31,13 @@ fn geometric_start(num: u64, rest: u64) -> Scaled
 /// How many terms of the exponential's series past the first are added up.
 const TERMS: u64 = 18;
 
-/// Of the Poisson count of mean `num / den`, at most 1/2: exp of minus the mean, by its inverse. The terms
-/// of the series are rounded each; as they at least halve, the last one stands once more for the rest.
+/// Of the Poisson count of mean `num / den`, at most 1/2: exp of minus the mean, by its inverse.
+/// The terms of the series are rounded each; as they at least halve, the last one stands once more
+/// for the rest.
 fn exponential_start(num: u64, den: u64) -> Scaled
     requires positive { 0 < den }
     requires half { num + num ≤ den }
-    ensures top { result.high ≤ 2 ^ 63 }
+    ensures top { result.high ≤ most_start }
     ensures exponent { result.exponent ≡ 63 }
     ensures order { result.low ≤ result.high }
     ensures holds { HoldsNoClaim (poisson (num over den)) result }
@@ -57,14 +61,14 @@ fn exponential_start(num: u64, den: u64) -> Scaled
     }
 }
 
-/// Of the Poisson count of mean `num / den`, at most 4,096: a power of that of an equal share of the
-/// mean, at most 1/2. The shares are a power of two.
+/// Of the Poisson count of mean `num / den`, at most 4,096: a power of that of an equal share of
+/// the mean, at most 1/2. The shares are a power of two.
 pub(crate) fn poisson_start(num: u64, den: u64) -> Scaled
     requires positive { 0 < den }
-    requires num_small { num < 2 ^ 48 }
-    requires den_small { den < 2 ^ 48 }
-    requires mean { num ≤ 4096 * den }
-    ensures top { result.high ≤ 2 ^ 63 }
+    requires num_small { num < admitted_bound }
+    requires den_small { den < admitted_bound }
+    requires mean { num ≤ most_expected * den }
+    ensures top { result.high ≤ most_start }
     ensures order { result.low ≤ result.high }
     ensures holds { HoldsNoClaim (poisson (num over den)) result }
 {
@@ -75,15 +79,15 @@ pub(crate) fn poisson_start(num: u64, den: u64) -> Scaled
     power_of(exponential_start(num, u64::from(shares) * den), shares)
 }
 
-/// Of the gamma count of this shape and mean `num / den`: the power by the shape of that of the geometric
-/// count of the mean over the shape.
+/// Of the gamma count of this shape and mean `num / den`: the power by the shape of that of the
+/// geometric count of the mean over the shape.
 pub(crate) fn gamma_start(num: u64, den: u64, shape: u32) -> Scaled
     requires positive { 0 < den }
-    requires num_small { num < 2 ^ 48 }
-    requires den_small { den < 2 ^ 48 }
+    requires num_small { num < admitted_bound }
+    requires den_small { den < admitted_bound }
     requires shape_positive { 0 < shape }
-    requires shape_small { shape ≤ 10000 }
-    ensures top { result.high ≤ 2 ^ 63 }
+    requires shape_small { shape ≤ most_shape }
+    ensures top { result.high ≤ most_start }
     ensures order { result.low ≤ result.high }
     ensures holds { HoldsNoClaim (gamma shape (num over (num + shape * den))) result }
 {

@@ -1,10 +1,10 @@
-//! The amounts of a claim with their weights in whole numbers: those that lie one bucket apart and have
-//! one weight as runs, and the others one by one.
+//! The amounts of a claim with their weights in whole numbers: those that lie one bucket apart and
+//! have one weight as runs, and the others one by one.
 
 ghost use Rattle.std.specs.Prelude.{◌≡◌, ℕ, ◌+◌, ◌*◌, ◌^◌, ◌<◌, ◌≤◌, All, IfOk, sum_by};
 ghost use Rattle.dl_plan.specs.Weighted.{weight_sum, weight_at};
 ghost use Rattle.dl_direct.specs.declared.parts.Part.{Part};
-ghost use Rattle.dl_direct.specs.Runs.{run_parts, parts_of, part_sum, part_at, AreAmounts};
+ghost use Rattle.dl_direct.specs.Runs.{run_parts, all_parts, part_sum, part_at, ArePositiveAmounts};
 
 use dl_plan::Item;
 use std::alloc::{AllocError, Global};
@@ -43,12 +43,12 @@ const LONG: usize = 16;
 
 /// Adds the amounts of a run: as a run where it is long, else one by one.
 fn add(amounts: &mut Amounts, run: Run) -> Result<(), AllocError>
-    requires sound { AreAmounts amounts.old }
+    requires sound { ArePositiveAmounts amounts.old }
     requires amount { 0 < run.amount }
     requires end { run.amount + run.count ≤ 2 ^ 32 }
-    ensures sound { IfOk result (λ u. AreAmounts amounts.new) }
-    ensures parts { IfOk result (λ u. (f : Part → ℕ) → sum_by f (parts_of amounts.new)
-        ≡ sum_by f (parts_of amounts.old) + sum_by f (run_parts run)) }
+    ensures sound { IfOk result (λ u. ArePositiveAmounts amounts.new) }
+    ensures parts { IfOk result (λ u. (f : Part → ℕ) → sum_by f (all_parts amounts.new)
+        ≡ sum_by f (all_parts amounts.old) + sum_by f (run_parts run)) }
 {
     if run.count >= LONG {
         amounts.runs.push(run)?;
@@ -82,10 +82,10 @@ fn alone(item: Item, factor: u64) -> Run
 pub(crate) fn amounts_of(alloc: Global, items: &[Item], factor: u64) -> Result<Amounts, AllocError>
     requires room { factor * weight_sum items.now < 2 ^ 64 }
     requires no_zero { All (λ item. 0 < item.amount) items.now }
-    ensures sound { IfOk result (λ amounts. AreAmounts amounts) }
-    ensures sum { IfOk result (λ amounts. part_sum (parts_of amounts)
+    ensures sound { IfOk result (λ amounts. ArePositiveAmounts amounts) }
+    ensures sum { IfOk result (λ amounts. part_sum (all_parts amounts)
         ≡ factor * weight_sum items.now) }
-    ensures each { IfOk result (λ amounts. (j : ℕ) → part_at (parts_of amounts) j
+    ensures each { IfOk result (λ amounts. (j : ℕ) → part_at (all_parts amounts) j
         ≡ factor * weight_at items.now j) }
 {
     let mut amounts = Amounts {

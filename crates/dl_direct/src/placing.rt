@@ -1,8 +1,10 @@
 //! From the cells of the recursion to a grid.
 
 ghost use Rattle.std.specs.Prelude.{◌≡◌, ◌+◌, ◌*◌, ◌^◌, ◌<◌, ◌≤◌, ◌⊎◌, length, IfOk};
+ghost use Rattle.dl_limits.specs.Limits.{most_cells};
 ghost use Rattle.dl_grid.specs.Cells.{low_at, high_at};
-ghost use Rattle.dl_direct.specs.Slide.{IsSettled};
+ghost use Rattle.dl_direct.specs.Sizes.{start_bits, most_end, most_start};
+ghost use Rattle.dl_direct.specs.Slide.{AreSlideCells};
 ghost use Rattle.dl_direct.specs.Placed.{IsPlaced};
 
 use crate::cells::Slid;
@@ -10,26 +12,29 @@ use crate::start::Scaled;
 use dl_grid::{Grid, units_of_one};
 use std::alloc::{AllocError, Global};
 
+/// The product of two ends has fewer bits.
+const PRODUCT_BITS: u64 = 126;
+
 /// The product by `down` bits down, rounded down, and at most `one`.
 fn narrow_low(a: u64, b: u64, down: u64, one: u128) -> u128
-    requires a_small { a ≤ 2 ^ 62 }
-    requires b_small { b ≤ 2 ^ 63 }
+    requires a_small { a ≤ most_end }
+    requires b_small { b ≤ most_start }
     ensures top { result ≤ one }
     ensures below { result * 2 ^ down ≤ a * b }
 {
-    let d = if down > 126 { 126 } else { down };
+    let d = down.min(PRODUCT_BITS);
     let x = (u128::from(a) * u128::from(b)) >> d;
     if x > one { one } else { x }
 }
 
 /// The product by `down` bits down, rounded up, or `one` where it is more.
 fn narrow_high(a: u64, b: u64, down: u64, one: u128) -> u128
-    requires a_small { a ≤ 2 ^ 62 }
-    requires b_small { b ≤ 2 ^ 63 }
+    requires a_small { a ≤ most_end }
+    requires b_small { b ≤ most_start }
     ensures top { result ≤ one }
     ensures above { (a * b ≤ result * 2 ^ down) ⊎ (result ≡ one) }
 {
-    let d = if down > 126 { 126 } else { down };
+    let d = down.min(PRODUCT_BITS);
     let product = u128::from(a) * u128::from(b);
     if product == 0 {
         return 0;
@@ -48,12 +53,12 @@ pub(crate) fn place<const B: u32>(
 ) -> Result<Grid<B>, AllocError>
     requires scale_above { 1 ≤ B }
     requires scale_below { B ≤ 56 }
-    requires settled { IsSettled x.now.low.items x.now.high.items x.now.first }
+    requires settled { AreSlideCells x.now.low.items x.now.high.items x.now.first }
     requires some { 1 ≤ length x.now.low.items }
-    requires few { length x.now.low.items ≤ 16384 }
-    requires low_small { start.low ≤ 2 ^ 63 }
-    requires high_small { start.high ≤ 2 ^ 63 }
-    requires scale { 61 + start.exponent ≡ down + (x.now.shift + B) }
+    requires few { length x.now.low.items ≤ most_cells }
+    requires low_small { start.low ≤ most_start }
+    requires high_small { start.high ≤ most_start }
+    requires scale { start_bits + start.exponent ≡ down + (x.now.shift + B) }
     ensures cells { IfOk result (λ g. length g ≡ length x.now.low.items) }
     ensures placed { IfOk result (λ g. IsPlaced B start x.now.shift (length x.now.low.items)
         x.now.low.items x.now.high.items (low_at g) (high_at g)) }

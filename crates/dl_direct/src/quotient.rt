@@ -1,5 +1,5 @@
-//! Quotients by divisors that grow little by little. Each is guessed from a guess at the inverse of its
-//! divisor, and the guess is tried: it makes a quotient faster, and no other than it is.
+//! Quotients by divisors that grow little by little. Each is guessed from a guess at the inverse of
+//! its divisor, and the guess is tried: it makes a quotient faster, and no other than it is.
 
 ghost use Rattle.std.specs.Prelude.{◌≡◌, ◌/◌, ◌<◌, ◌≤◌};
 
@@ -13,10 +13,10 @@ pub struct Inverse {
 }
 
 /// 2^127.
-const WHOLE: u128 = 170141183460469231731687303715884105728;
+const WHOLE: u128 = 1 << 127;
 
 /// 2^64.
-const WORD: u128 = 18446744073709551616;
+const WORD: u128 = 1 << 64;
 
 /// From so many cells on the next divisor is near enough to the last.
 const NEAR: usize = 256;
@@ -26,8 +26,8 @@ fn word(n: u128) -> u64 {
     n.min(WORD - 1) as u64
 }
 
-/// A nearer guess at 2^127 over `shifted`, by one round of Newton's method: it doubles the number of right
-/// bits.
+/// A nearer guess at 2^127 over `shifted`, by one round of Newton's method: it doubles the number
+/// of right bits.
 fn nearer(about: u64, shifted: u64) -> u64 {
     let about = u128::from(about);
     let product = (about * u128::from(shifted)) >> 64;

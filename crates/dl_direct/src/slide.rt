@@ -1,9 +1,11 @@
 //! The recursion: cells that share one exponent and slide down together.
 
 ghost use Rattle.std.specs.Prelude.{◌≡◌, ℕ, ◌+◌, ◌-◌, ◌*◌, ◌/◌, ◌^◌, ◌<◌, ◌≤◌, suc, length, slice_index, IfOk};
+ghost use Rattle.dl_limits.specs.Limits.{most_cells};
 ghost use Rattle.dl_exact.specs.Fraction.{Fraction, whole, ◌*ℚ◌, ◌≤ℚ◌};
-ghost use Rattle.dl_direct.specs.Runs.{parts_of, part_sum, AreAmounts};
-ghost use Rattle.dl_direct.specs.Slide.{Follows, AreSums, IsRound, IsSettled};
+ghost use Rattle.dl_direct.specs.Sizes.{most_end, most_given};
+ghost use Rattle.dl_direct.specs.Runs.{all_parts, part_sum, ArePositiveAmounts};
+ghost use Rattle.dl_direct.specs.Slide.{FollowsInWhole, AreSums, IsRound, AreSlideCells};
 
 use crate::cells::{Ends, Slid};
 use crate::parts::Amounts;
@@ -12,10 +14,10 @@ use crate::sums::reach;
 use std::alloc::{AllocError, Global};
 
 /// 2^61: cell 0, before any shift.
-const START: u64 = 2305843009213693952;
+const START: u64 = 1 << 61;
 
 /// 2^62: the greatest end of a cell.
-const LIMIT: u128 = 4611686018427387904;
+const LIMIT: u128 = 1 << 62;
 
 /// Each number over 256, rounded down. Those before `first` are 0.
 fn lower(cells: &mut [u64], first: usize)
@@ -30,7 +32,7 @@ fn lower(cells: &mut [u64], first: usize)
 /// Each number over 256, rounded up. Those before `first` are at most 1.
 fn raise(cells: &mut [u64], first: usize)
     requires settled { (k : ℕ) → k < first → slice_index cells.old k ≤ 1 }
-    requires small { (k : ℕ) → slice_index cells.old k ≤ 2 ^ 62 }
+    requires small { (k : ℕ) → slice_index cells.old k ≤ most_end }
     ensures each { (k : ℕ) → slice_index cells.new k ≡ (slice_index cells.old k + 255) / 256 }
 {
     for i in first..cells.len() {
@@ -58,10 +60,10 @@ fn advance(low: &[u64], high: &[u64], first: usize) -> usize
 
 /// Shifts all cells down by 8 bits, low ends by floor and high ends by ceiling.
 fn shift_cells(x: &mut Slid)
-    requires sound { IsSettled x.old.low.items x.old.high.items x.old.first }
+    requires sound { AreSlideCells x.old.low.items x.old.high.items x.old.first }
     requires within { x.old.first ≤ length x.old.low.items }
     requires room { x.old.shift + 8 < 2 ^ 64 }
-    ensures sound { IsSettled x.new.low.items x.new.high.items x.new.first }
+    ensures sound { AreSlideCells x.new.low.items x.new.high.items x.new.first }
     ensures within { x.new.first ≤ length x.new.low.items }
     ensures cells { length x.new.low.items ≡ length x.old.low.items }
     ensures shift { x.new.shift ≡ x.old.shift + 8 }
@@ -78,10 +80,10 @@ fn shift_cells(x: &mut Slid)
 
 /// Shifts all cells down by 8 bits. The sums over cells that this changes are to be made again.
 fn shrink(x: &mut Slid)
-    requires sound { IsSettled x.old.low.items x.old.high.items x.old.first }
+    requires sound { AreSlideCells x.old.low.items x.old.high.items x.old.first }
     requires within { x.old.first ≤ length x.old.low.items }
     requires room { x.old.shift + 8 < 2 ^ 64 }
-    ensures sound { IsSettled x.new.low.items x.new.high.items x.new.first }
+    ensures sound { AreSlideCells x.new.low.items x.new.high.items x.new.first }
     ensures within { x.new.first ≤ length x.new.low.items }
     ensures cells { length x.new.low.items ≡ length x.old.low.items }
     ensures shift { x.new.shift ≡ x.old.shift + 8 }
@@ -99,16 +101,16 @@ fn shrink(x: &mut Slid)
 
 /// Shifts all cells down, and the next one with them, until that one is at most 2^62.
 fn fit(x: &mut Slid, next: Ends) -> Ends
-    requires sound { IsSettled x.old.low.items x.old.high.items x.old.first }
+    requires sound { AreSlideCells x.old.low.items x.old.high.items x.old.first }
     requires within { x.old.first ≤ length x.old.low.items }
     requires room { x.old.shift + 64 < 2 ^ 64 }
-    requires small { next.high ≤ 2 ^ 126 }
-    ensures sound { IsSettled x.new.low.items x.new.high.items x.new.first }
+    requires small { next.high ≤ most_given }
+    ensures sound { AreSlideCells x.new.low.items x.new.high.items x.new.first }
     ensures within { x.new.first ≤ length x.new.low.items }
     ensures cells { length x.new.low.items ≡ length x.old.low.items }
     ensures shift { x.new.shift ≤ x.old.shift + 64 }
     ensures order { result.low ≤ result.high }
-    ensures small { result.high ≤ 2 ^ 62 }
+    ensures small { result.high ≤ most_end }
     ensures round { (r : ℕ → Fraction) (n : ℕ)
         → IsRound r x.old.shift n x.old.low.items x.old.high.items
         → IsRound r x.new.shift n x.new.low.items x.new.high.items }
@@ -144,7 +146,7 @@ fn fit(x: &mut Slid, next: Ends) -> Ends
 /// The sums over `d`, the low one rounded down and the high one up.
 fn divided(sums: Ends, d: u64, inverse: Inverse) -> Ends
     requires positive { 0 < d }
-    requires high_room { sums.high ≤ 2 ^ 126 }
+    requires high_room { sums.high ≤ most_given }
     ensures low { result.low ≡ sums.low / d }
     ensures high { result.high ≡ (sums.high + (d - 1)) / d }
 {
@@ -155,7 +157,8 @@ fn divided(sums: Ends, d: u64, inverse: Inverse) -> Ends
     }
 }
 
-/// Adds the next cell. The inverse is a guess for the divisor of the last one, and then of this one.
+/// Adds the next cell. The inverse is a guess for the divisor of the last one, and then of this
+/// one.
 fn grow(
     x: &mut Slid,
     inverse: &mut Inverse,
@@ -164,25 +167,27 @@ fn grow(
     b: u64,
     q: u64,
 ) -> Result<(), AllocError>
-    requires sound { IsSettled x.old.low.items x.old.high.items x.old.first }
+    requires sound { AreSlideCells x.old.low.items x.old.high.items x.old.first }
     requires within { x.old.first ≤ length x.old.low.items }
     requires sums { AreSums x.old.sums.items x.old.low.items x.old.high.items }
     requires sums_within { length x.old.sums.items ≤ length x.old.low.items }
     requires some { 0 < length x.old.low.items }
-    requires few { length x.old.low.items ≤ 16384 }
+    requires few { length x.old.low.items ≤ most_cells }
     requires room { x.old.shift + 64 < 2 ^ 64 }
-    requires amounts { AreAmounts amounts.now }
+    requires amounts { ArePositiveAmounts amounts.now }
     requires steps { (a + b) * length x.old.low.items < 2 ^ 32 }
-    requires weights { (a + b) * length x.old.low.items * part_sum (parts_of amounts.now) < 2 ^ 64 }
+    requires weights { (a + b) * length x.old.low.items * part_sum
+        (all_parts amounts.now) < 2 ^ 64 }
     requires divisor { 0 < q }
     requires divisors { q * length x.old.low.items < 2 ^ 64 }
-    ensures sound { IfOk result (λ u. IsSettled x.new.low.items x.new.high.items x.new.first) }
+    ensures sound { IfOk result (λ u. AreSlideCells x.new.low.items x.new.high.items x.new.first) }
     ensures within { IfOk result (λ u. x.new.first ≤ length x.new.low.items) }
     ensures sums { IfOk result (λ u. AreSums x.new.sums.items x.new.low.items x.new.high.items) }
     ensures sums_within { IfOk result (λ u. length x.new.sums.items ≤ length x.new.low.items) }
     ensures cells { IfOk result (λ u. length x.new.low.items ≡ length x.old.low.items + 1) }
     ensures shift { IfOk result (λ u. x.new.shift ≤ x.old.shift + 64) }
-    ensures round { IfOk result (λ u. (r : ℕ → Fraction) → Follows (parts_of amounts.now) a b q r
+    ensures round { IfOk result (λ u. (r : ℕ → Fraction)
+        → FollowsInWhole (all_parts amounts.now) a b q r
         → IsRound r x.old.shift (length x.old.low.items) x.old.low.items x.old.high.items
         → IsRound r x.new.shift (length x.new.low.items) x.new.low.items x.new.high.items) }
 {
@@ -196,8 +201,8 @@ fn grow(
     Ok(())
 }
 
-/// The first `cells` cells of the recursion. It takes memory once for each end, for exactly these cells;
-/// and for sums up to them where the amounts have runs.
+/// The first `cells` cells of the recursion. It takes memory once for each end, for exactly these
+/// cells; and for sums up to them where the amounts have runs.
 pub(crate) fn recur(
     alloc: Global,
     amounts: &Amounts,
@@ -207,16 +212,17 @@ pub(crate) fn recur(
     cells: usize,
 ) -> Result<Slid, AllocError>
     requires some { 0 < cells }
-    requires few { cells ≤ 16384 }
-    requires amounts { AreAmounts amounts.now }
+    requires few { cells ≤ most_cells }
+    requires amounts { ArePositiveAmounts amounts.now }
     requires steps { (a + b) * cells < 2 ^ 32 }
-    requires weights { (a + b) * cells * part_sum (parts_of amounts.now) < 2 ^ 64 }
+    requires weights { (a + b) * cells * part_sum (all_parts amounts.now) < 2 ^ 64 }
     requires divisor { 0 < q }
     requires divisors { q * cells < 2 ^ 64 }
     ensures cells { IfOk result (λ g. length g.low.items ≡ cells) }
     ensures shift { IfOk result (λ g. g.shift ≤ 64 * cells) }
-    ensures sound { IfOk result (λ g. IsSettled g.low.items g.high.items g.first) }
-    ensures round { IfOk result (λ g. (r : ℕ → Fraction) → Follows (parts_of amounts.now) a b q r
+    ensures sound { IfOk result (λ g. AreSlideCells g.low.items g.high.items g.first) }
+    ensures round { IfOk result (λ g. (r : ℕ → Fraction)
+        → FollowsInWhole (all_parts amounts.now) a b q r
         → IsRound r g.shift cells g.low.items g.high.items) }
 {
     let mut low = Vec::with_capacity(alloc, cells)?;

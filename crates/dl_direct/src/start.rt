@@ -3,6 +3,7 @@
 ghost use Rattle.std.specs.Prelude.{◌≡◌, ℕ, ◌+◌, ◌*◌, ◌^◌, ◌<◌, ◌≤◌};
 ghost use Rattle.dl_exact.specs.Fraction.{Fraction};
 ghost use Rattle.dl_model.specs.Compound.{convolve, power};
+ghost use Rattle.dl_direct.specs.Sizes.{most_start};
 ghost use Rattle.dl_direct.specs.Start.{HoldsNoClaim};
 
 /// The numbers from `low / 2^exponent` to `high / 2^exponent`, both ends among them.
@@ -17,19 +18,19 @@ pub struct Scaled {
 }
 
 /// 2^63: the greatest high end.
-pub(crate) const TOP: u128 = 9223372036854775808;
+pub(crate) const TOP: u128 = 1 << 63;
 
-/// The product, rounded outward: the probability of no claim in two counts together. At least 62 bits
-/// of a high end are kept.
+/// The product, rounded outward: the probability of no claim in two counts together. At least 62
+/// bits of a high end are kept.
 pub(crate) fn times(a: Scaled, b: Scaled) -> Scaled
-    requires a_top { a.high ≤ 2 ^ 63 }
+    requires a_top { a.high ≤ most_start }
     requires a_least { 63 ≤ a.exponent }
     requires a_order { a.low ≤ a.high }
-    requires b_top { b.high ≤ 2 ^ 63 }
+    requires b_top { b.high ≤ most_start }
     requires b_least { 63 ≤ b.exponent }
     requires b_order { b.low ≤ b.high }
     requires room { a.exponent + b.exponent < 2 ^ 32 }
-    ensures top { result.high ≤ 2 ^ 63 }
+    ensures top { result.high ≤ most_start }
     ensures least { 63 ≤ result.exponent }
     ensures order { result.low ≤ result.high }
     ensures room { result.exponent ≤ a.exponent + b.exponent }
@@ -55,12 +56,12 @@ pub(crate) fn times(a: Scaled, b: Scaled) -> Scaled
 
 /// The n-th power: the probability of no claim in n such counts together.
 pub(crate) fn power_of(x: Scaled, n: u32) -> Scaled
-    requires top { x.high ≤ 2 ^ 63 }
+    requires top { x.high ≤ most_start }
     requires least { 63 ≤ x.exponent }
     requires order { x.low ≤ x.high }
     requires positive { 0 < n }
     requires room { n * x.exponent < 2 ^ 32 }
-    ensures top { result.high ≤ 2 ^ 63 }
+    ensures top { result.high ≤ most_start }
     ensures least { 63 ≤ result.exponent }
     ensures order { result.low ≤ result.high }
     ensures room { result.exponent ≤ n * x.exponent }

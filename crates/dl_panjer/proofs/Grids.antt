@@ -1,12 +1,12 @@
 -- The list of cells that the recursion makes is a grid, follows the declared recursion, and encloses the compound sum.
-use Rattle.std.proofs.Common.{ℕ, zero, suc, ◌≡◌, ◌+◌, ◌-◌, ◌*◌, ◌^◌, ◌<◌, ◌≤◌, Bool, true, false, List, length, arith, refl, sym, ap, subst, subst₂, ◌∙◌}
+use Rattle.std.proofs.Common.{ℕ, suc, ◌≡◌, ◌+◌, ◌-◌, ◌*◌, ◌^◌, ◌<◌, ◌≤◌, Bool, true, false, List, length, arith, sym, ap, subst, subst₂, ◌∙◌}
 use Rattle.std.specs.Prelude.{All}
 use Rattle.std.proofs.lemmas.Nat.{pow_pos}
 use Rattle.dl_exact.specs.Fraction.{Fraction, ◌over◌, ◌+ℚ◌, ◌*ℚ◌, ◌/ℚ◌, ◌≤ℚ◌, whole}
 use Rattle.dl_exact.specs.Sum.{sum_to}
 use Rattle.dl_exact.proofs.Denominators.{over_zero}
 use Rattle.dl_exact.proofs.Over.{over_same, over_mul, over_le, over_add, over_cross}
-use Rattle.dl_exact.proofs.Laws.{one_pos, zero_times, le_trans}
+use Rattle.dl_exact.proofs.Laws.{one_pos, le_trans}
 use Rattle.dl_exact.proofs.RoundingLaws.{le_whole}
 use Rattle.dl_iv.specs.declared.interval.Iv.{Iv}
 use Rattle.dl_grid.specs.Cells.{low_at, high_at, spread, IsGrid}
@@ -20,6 +20,7 @@ use Rattle.dl_model.specs.Counts.{poisson, gamma_of, IsPanjer}
 use Rattle.dl_model.specs.Family.{compound, GridEncloses}
 use Rattle.dl_model.specs.Severity.{IsWithinOne}
 use Rattle.dl_model.proofs.Panjer.{poisson_class}
+use Rattle.dl_model.proofs.WithinOne.{within_one}
 use Rattle.dl_plan.specs.declared.item.Item.{Item}
 use Rattle.dl_plan.specs.declared.severity.Sev.{Sev}
 use Rattle.dl_plan.specs.Severity.{probability_of}
@@ -30,10 +31,10 @@ use Rattle.dl_panjer.specs.Bases.{FollowsRounded, IsPoissonBase, IsGeometricBase
 use Rattle.dl_panjer.proofs.Recursions.{poisson_follows, geometric_follows}
 use Rattle.dl_panjer.proofs.Outward.{poisson_outward, geometric_outward}
 use Rattle.dl_panjer.proofs.Compounds.{poisson_base, geometric_base, geometric_start, geometric_class}
-use Rattle.dl_panjer.proofs.Severities.{within_one, zero_weight, amounts_positive}
 use Rattle.dl_panjer.proofs.Mass.{low_mass}
 use Rattle.dl_panjer.proofs.Spreads.{all_widths, half_spread, geometric_spread}
-use Rattle.dl_plan.proofs.Means.{total_pos}
+use Rattle.dl_plan.proofs.Means.{severity_total}
+use Rattle.dl_plan.proofs.Positive.{zero_weight, amounts_positive}
 
 -- the list follows the recursion of items, total and rate
 pub record IsMade {B : ℕ} (by_amount : Bool) (items : List Item) (total : ℕ) (rate : Fraction) (cells : List (Iv B))
@@ -46,15 +47,13 @@ pub record IsMade {B : ℕ} (by_amount : Bool) (items : List Item) (total : ℕ)
   pub total_above : 0 < total
   pub sum : weight_sum items ≡ total
   pub no_zero : weight_at items 0 ≡ 0
+  pub within : IsWithinOne (λ j. weight_at items j over total)
 
 module _ {B : ℕ} (b : Bool) (items : List Item) (T : ℕ) (rate : Fraction) (cells : List (Iv B)) (K : ℕ)
     (made : IsMade b items T rate cells K) where
   -- the same, said of the list's own length
   own : Follows (2 ^ B) b items T rate (low_at cells) (high_at cells) (length cells)
   own = subst (λ k. Follows (2 ^ B) b items T rate (low_at cells) (high_at cells) k) (sym made.length_is) made.follows
-
-  severity : IsWithinOne (λ j. weight_at items j over T)
-  severity = within_one items T made.total_above made.sum made.no_zero
 
   grid : (x y : Fraction) (w : ℕ → Fraction)
       → FollowsOutward (2 ^ B) (length cells) x y (λ j. weight_at items j over T) (low_at cells) (high_at cells)
@@ -65,7 +64,7 @@ module _ {B : ℕ} (b : Bool) (items : List Item) (T : ℕ) (rate : Fraction) (c
       let mass = low_mass (2 ^ B) n x y (λ j. weight_at items j over T) w (low_at cells) (high_at cells)
       (subst (λ k. FollowsOutward (2 ^ B) k x y (λ j. weight_at items j over T) (low_at cells) (high_at cells))
       (sym e) F)
-      (ap (λ n. n over T) made.no_zero ∙ over_zero T made.total_above) P (pow_pos B) severity start in
+      (ap (λ n. n over T) made.no_zero ∙ over_zero T made.total_above) P (pow_pos B) made.within start in
       record {
         some = omega (arith, made.length_is, made.some);
         few = omega (arith, made.length_is, made.few);
@@ -103,7 +102,7 @@ module _ {B : ℕ} (items : List Item) (T : ℕ) (v : Fraction) (cells : List (I
 
   pub poisson_encloses : GridEncloses cells (compound (poisson v) (λ j. weight_at items j over T))
   poisson_encloses =
-      poisson_base items T v cells made.total_above (severity true items T v cells K made) made.no_zero follows_p start
+      poisson_base items T v cells made.total_above made.within made.no_zero follows_p start
 
 pub poisson_widths : {B : ℕ} (items : List Item) (T : ℕ) (v : Fraction) (cells : List (Iv B)) (K : ℕ)
     → IsMade true items T v cells K → v.num + v.num ≤ v.den → high_at cells 0 ≤ low_at cells 0 + 64
@@ -134,7 +133,7 @@ module _ {B : ℕ} (items : List Item) (T : ℕ) (v : Fraction) (cells : List (I
 
   pub geometric_encloses : GridEncloses cells (compound (gamma_of 1 v) (λ j. weight_at items j over T))
   geometric_encloses =
-      geometric_base items T v cells made.total_above (severity false items T (v /ℚ (whole 1 +ℚ v)) cells K made)
+      geometric_base items T v cells made.total_above made.within
       made.no_zero follows_g low high
 
 pub geometric_widths : {B : ℕ} (items : List Item) (T p d : ℕ) (cells : List (Iv B)) (K : ℕ) → 0 < d
@@ -166,16 +165,16 @@ pub made_of : {B : ℕ} (b : Bool) (sev : Sev) (items : List Item) (v r : Fracti
     → All (λ cell. cell.hi ≤ 2 ^ B) cells → Follows (2 ^ B) b items sev.total r (low_at cells) (high_at cells) K
     → probability_of sev 0 ≡ whole 0 → IsMade b sev.items sev.total v cells K
 made_of {B} b sev items v r cells K same rate_is some few length_is small follows none =
-    let pos : 0 < sev.total = total_pos sev.items sev.total sev.weighted in
     record {
       length_is = length_is;
       some = some;
       few = few;
       small = small;
       follows = subst₂ (λ xs t. Follows (2 ^ B) b xs sev.total t (low_at cells) (high_at cells) K) same rate_is follows;
-      total_above = pos;
+      total_above = severity_total sev;
       sum = sev.weighted.sum;
-      no_zero = zero_weight sev.items sev.total pos none;
+      no_zero = zero_weight sev none;
+      within = within_one sev;
     }
 
 pub poisson_is_base : {B : ℕ} (sev : Sev) (v : Fraction) (cells : List (Iv B)) (K : ℕ)
@@ -194,8 +193,7 @@ pub items_positive : (sev : Sev) (items : List Item) → items ≡ sev.items →
     → All (λ item. 0 < item.amount) items
 items_positive sev items same none =
     subst (λ xs. All (λ item. 0 < item.amount) xs) (sym same)
-    (amounts_positive sev.items (zero_weight sev.items sev.total
-    (total_pos sev.items sev.total sev.weighted) none) sev.weighted.positive)
+    (amounts_positive sev none)
 
 pub items_weighted : (sev : Sev) (items : List Item) → items ≡ sev.items → IsWeighted items sev.total
 items_weighted sev items same = subst (λ xs. IsWeighted xs sev.total) (sym same) sev.weighted

@@ -6,17 +6,12 @@ use Rattle.std.proofs.lemmas.Bool.{eq-eqb, ne_eqb, cases_lt}
 use Rattle.std.proofs.lemmas.List.Elements.{All-tail}
 use Rattle.std.proofs.lemmas.List.Sums.{sum_by-cons, sum_by-take-drop}
 use Rattle.dl_exact.specs.Count.{count_below}
-use Rattle.dl_exact.proofs.Counts.{below_same, below_le, below_plus, below_times, below_pairs, pairs_le}
+use Rattle.dl_exact.proofs.Counts.{below_same, below_le, below_plus, below_times, below_pairs, pairs_le, below_none}
 use Rattle.dl_plan.specs.declared.item.Item.{Item}
 use Rattle.dl_plan.specs.Weighted.{weight_at, weight_sum}
-use Rattle.dl_panjer.specs.Cells.{share, coefficient, weighed}
+use Rattle.dl_panjer.specs.Cells.{counted, coefficient, next_sum}
 
 -- ---- one place of a sum
-
-below_none : (n : ℕ) (f : ℕ → ℕ) → ((i : ℕ) → i < n → f i ≡ 0) → count_below n f ≡ 0
-unfolding count_below
-below_none zero f h = refl
-below_none (suc n) f h = omega (arith, below_none n f (λ i b. h i (omega arith)), h n (omega arith))
 
 below_one : (n a : ℕ) (f : ℕ → ℕ) → a < n → ((i : ℕ) → i < n → i ≢ a → f i ≡ 0) → count_below n f ≡ f a
 unfolding count_below
@@ -41,27 +36,27 @@ weight_below (item ∷ items) m x far h =
     rw (weight_at-cons item items x, ne_eqb item.amount x (omega (arith, far 0 item (omega arith))), zero-add)
     (weight_below items m x (All-tail (λ i. m < i.amount) item items far) h)
 
-share_plus : (b : Bool) (j m n : ℕ) → share b j (m + n) ≡ share b j m + share b j n
-share_plus true j m n = omega arith
-share_plus false j m n = refl
+counted_plus : (b : Bool) (j m n : ℕ) → counted b j (m + n) ≡ counted b j m + counted b j n
+counted_plus true j m n = omega arith
+counted_plus false j m n = refl
 
-share_zero : (b : Bool) (j : ℕ) → share b j 0 ≡ 0
-share_zero true j = omega arith
-share_zero false j = refl
+counted_zero : (b : Bool) (j : ℕ) → counted b j 0 ≡ 0
+counted_zero true j = omega arith
+counted_zero false j = refl
 
 -- one item's part of the sum
 one_item : (b : Bool) (s : ℕ) (g : ℕ → ℕ) (item : Item) → 0 < item.amount → item.amount ≤ suc s
-    → count_below (suc s) (λ i. share b (suc i) (if item.amount == suc i then item.weight else 0) * g
-    (s - i)) ≡ share b item.amount item.weight * g (suc s - item.amount)
+    → count_below (suc s) (λ i. counted b (suc i) (if item.amount == suc i then item.weight else 0) * g
+    (s - i)) ≡ counted b item.amount item.weight * g (suc s - item.amount)
 one_item b s g item some near =
     let a : ℕ = item.amount - 1 in
     let e : suc a ≡ item.amount = omega (arith, some) in
     below_one (suc s) a _ (omega (arith, some, near)) (λ i inside other.
-    ap (λ t. share b (suc i) (if t then item.weight else 0) * g (s - i))
+    ap (λ t. counted b (suc i) (if t then item.weight else 0) * g (s - i))
     (ne_eqb item.amount (suc i) (omega (arith, other, e)))
-    ∙ ap (λ t. t * g (s - i)) (share_zero b (suc i)) ∙ nothing (g (s - i)))
-    ∙ ap (λ t. share b (suc a) (if t then item.weight else 0) * g (s - a)) (eq-eqb item.amount (suc a) (sym e))
-    ∙ ap₂ (λ t u. share b t item.weight * g u) e (omega (arith, some, near))
+    ∙ ap (λ t. t * g (s - i)) (counted_zero b (suc i)) ∙ nothing (g (s - i)))
+    ∙ ap (λ t. counted b (suc a) (if t then item.weight else 0) * g (s - a)) (eq-eqb item.amount (suc a) (sym e))
+    ∙ ap₂ (λ t u. counted b t item.weight * g u) e (omega (arith, some, near))
   where
     nothing : (n : ℕ) → 0 * n ≡ 0
     nothing n = omega arith
@@ -70,48 +65,48 @@ one_item b s g item some near =
 pub near_items : (b : Bool) (s : ℕ) (g : ℕ → ℕ) (items : List Item) → All (λ item. 0 < item.amount) items
     → All (λ item. item.amount ≤ suc s) items
     → count_below (suc s) (λ i. coefficient b items i * g (s - i)) ≡ sum_by
-    (λ item. share b item.amount item.weight * g (suc s - item.amount)) items
+    (λ item. counted b item.amount item.weight * g (suc s - item.amount)) items
 near_items b s g [] some near =
-    below_none (suc s) _ (λ i inside. ap (λ t. t * g (s - i)) (share_zero b (suc i)) ∙ nothing (g (s - i)))
+    below_none (suc s) _ (λ i inside. ap (λ t. t * g (s - i)) (counted_zero b (suc i)) ∙ nothing (g (s - i)))
   where
     nothing : (n : ℕ) → 0 * n ≡ 0
     nothing n = omega arith
 near_items b s g (item ∷ items) some near =
     below_same (suc s) _ _ (λ i inside.
-    ap (λ t. share b (suc i) t * g (s - i)) (weight_at-cons item items (suc i))
-    ∙ ap (λ t. t * g (s - i)) (share_plus b (suc i) (if item.amount == suc i then item.weight else 0)
+    ap (λ t. counted b (suc i) t * g (s - i)) (weight_at-cons item items (suc i))
+    ∙ ap (λ t. t * g (s - i)) (counted_plus b (suc i) (if item.amount == suc i then item.weight else 0)
     (weight_at items (suc i)))
-    ∙ split (share b (suc i) (if item.amount == suc i then item.weight else 0)) (coefficient b items i) (g (s - i)))
-    ∙ below_plus (suc s) (λ i. share b (suc i) (if item.amount == suc i then item.weight else 0) * g (s - i))
+    ∙ split (counted b (suc i) (if item.amount == suc i then item.weight else 0)) (coefficient b items i) (g (s - i)))
+    ∙ below_plus (suc s) (λ i. counted b (suc i) (if item.amount == suc i then item.weight else 0) * g (s - i))
     (λ i. coefficient b items i * g (s - i))
     ∙ ap₂ (λ t u. t + u) (one_item b s g item (some 0 item (omega arith)) (near 0 item (omega arith)))
     (near_items b s g items (All-tail (λ i. 0 < i.amount) item items some)
     (All-tail (λ i. i.amount ≤ suc s) item items near))
-    ∙ sym (sum_by-cons (λ (i : Item). share b i.amount i.weight * g (suc s - i.amount)) item items)
+    ∙ sym (sum_by-cons (λ (i : Item). counted b i.amount i.weight * g (suc s - i.amount)) item items)
   where
     split : (m n k : ℕ) → (m + n) * k ≡ m * k + n * k
     split m n k = omega arith
 
 -- the first r items reach up to s + 1, and no later one does
-pub items_weighed : (b : Bool) (s r : ℕ) (g : ℕ → ℕ) (items : List Item) → All (λ item. 0 < item.amount) (take r items)
+pub items_next_sum : (b : Bool) (s r : ℕ) (g : ℕ → ℕ) (items : List Item) → All (λ item. 0 < item.amount) (take r items)
     → All (λ item. item.amount ≤ suc s) (take r items)
     → All (λ item. suc s < item.amount) (drop r items)
-    → sum_by (λ item. share b item.amount item.weight * g (suc s - item.amount)) (take r items) ≡ weighed
+    → sum_by (λ item. counted b item.amount item.weight * g (suc s - item.amount)) (take r items) ≡ next_sum
     (coefficient b items) g s
-items_weighed b s r g items some near far =
+items_next_sum b s r g items some near far =
     sym (near_items b s g (take r items) some near)
     ∙ below_same (suc s) _ _ (λ i inside.
     let whole = sum_by-take-drop (λ (item : Item). if item.amount == suc i then item.weight else 0) items r in
     let none : weight_at (drop r items) (suc i) ≡ 0 =
     weight_below (drop r items) (suc s) (suc i) far (omega (arith, inside)) in
-    ap (λ t. share b (suc i) t * g (s - i)) (omega (arith, whole, none)))
+    ap (λ t. counted b (suc i) t * g (s - i)) (omega (arith, whole, none)))
     ∙ below_pairs s (λ i k. coefficient b items i * g k)
 
 -- ---- bounds
 
-pub share_le : (b : Bool) (j n m : ℕ) → 1 ≤ m → j ≤ m → share b j n ≤ m * n
-share_le true j n m h k = mul-le-mul_right n k
-share_le false j n m h k = omega (arith, mul-le-mul_right n h)
+pub counted_le : (b : Bool) (j n m : ℕ) → 1 ≤ m → j ≤ m → counted b j n ≤ m * n
+counted_le true j n m h k = mul-le-mul_right n k
+counted_le false j n m h k = omega (arith, mul-le-mul_right n h)
 
 pub sum_le : (f g : Item → ℕ) (items : List Item) → All (λ item. f item ≤ g item) items
     → sum_by f items ≤ sum_by g items
@@ -136,17 +131,18 @@ sum_times k f (item ∷ items) =
 -- what is added up over items up to m, of ends of at most e
 pub items_fit : (b : Bool) (m e : ℕ) (g : ℕ → ℕ) (items : List Item) → 1 ≤ m → ((k : ℕ) → g k ≤ e)
     → All (λ item. item.amount ≤ m) items
-    → sum_by (λ item. share b item.amount item.weight * g (m - item.amount)) items ≤ m * e * weight_sum items
+    → sum_by (λ item. counted b item.amount item.weight * g (m - item.amount)) items ≤ m * e * weight_sum items
 items_fit b m e g items some ends near =
-    let each : sum_by (λ item. share b item.amount item.weight * g (m - item.amount)) items ≤ sum_by
+    let each : sum_by (λ item. counted b item.amount item.weight * g (m - item.amount)) items ≤ sum_by
     (λ item. m * e * item.weight) items =
     sum_le _ _ items (λ k d inside. one (get_or items k d) (near k d inside)) in
     omega (arith, each, sum_times (m * e) (λ item. item.weight) items)
   where
-    one : (item : Item) → item.amount ≤ m → share b item.amount item.weight * g (m - item.amount) ≤ m * e * item.weight
+    one : (item : Item) → item.amount ≤ m → counted b item.amount item.weight * g (m - item.amount)
+        ≤ m * e * item.weight
     one item h =
-        let product : share b item.amount item.weight * g (m - item.amount) ≤ m * item.weight * e =
-        mul-le-mul (share_le b item.amount item.weight m some h) (ends (m - item.amount)) in
+        let product : counted b item.amount item.weight * g (m - item.amount) ≤ m * item.weight * e =
+        mul-le-mul (counted_le b item.amount item.weight m some h) (ends (m - item.amount)) in
         omega (arith, product)
 
 -- ---- what all amounts count for
@@ -186,7 +182,7 @@ weights_within n (item ∷ items) =
     )
 
 pub coefficients_within : (b : Bool) (s : ℕ) (items : List Item)
-    → count_below (suc s) (coefficient b items) ≤ share b (suc s) (weight_sum items)
+    → count_below (suc s) (coefficient b items) ≤ counted b (suc s) (weight_sum items)
 coefficients_within false s items = weights_within (suc s) items
 coefficients_within true s items =
     let each : count_below (suc s) (coefficient true items) ≤ count_below (suc s)
@@ -204,8 +200,8 @@ coefficients_within true s items =
     turned i s w h = omega (arith, mul-le-mul_right w h)
 
 -- of ends of at most m
-pub weighed_le : (c ends : ℕ → ℕ) (s m : ℕ) → ((k : ℕ) → ends k ≤ m) → weighed c ends s ≤ count_below (suc s) c * m
-weighed_le c ends s m bound =
+pub next_sum_le : (c ends : ℕ → ℕ) (s m : ℕ) → ((k : ℕ) → ends k ≤ m) → next_sum c ends s ≤ count_below (suc s) c * m
+next_sum_le c ends s m bound =
     omega (
       arith,
       pairs_le s (λ i k. c i * ends k) (λ i k. c i * m) (λ i k. mul-le-mul_left (c i) (bound k)),
@@ -213,12 +209,12 @@ weighed_le c ends s m bound =
       below_times (suc s) m c,
     )
 
-pub weighed_rises : (c f g : ℕ → ℕ) (s : ℕ) → ((k : ℕ) → f k ≤ g k) → weighed c f s ≤ weighed c g s
-weighed_rises c f g s h = pairs_le s (λ i k. c i * f k) (λ i k. c i * g k) (λ i k. mul-le-mul_left (c i) (h k))
+pub next_sum_rises : (c f g : ℕ → ℕ) (s : ℕ) → ((k : ℕ) → f k ≤ g k) → next_sum c f s ≤ next_sum c g s
+next_sum_rises c f g s h = pairs_le s (λ i k. c i * f k) (λ i k. c i * g k) (λ i k. mul-le-mul_left (c i) (h k))
 
 -- only the ends up to s count
-pub weighed_same : (c f g : ℕ → ℕ) (s : ℕ) → ((k : ℕ) → k ≤ s → f k ≡ g k) → weighed c f s ≡ weighed c g s
-weighed_same c f g s h =
+pub next_sum_same : (c f g : ℕ → ℕ) (s : ℕ) → ((k : ℕ) → k ≤ s → f k ≡ g k) → next_sum c f s ≡ next_sum c g s
+next_sum_same c f g s h =
     sym (below_pairs s (λ i k. c i * f k))
     ∙ below_same (suc s) (λ i. c i * f (s - i)) (λ i. c i * g (s - i))
     (λ i inside. ap (λ t. c i * t) (h (s - i) (omega arith)))

@@ -1,5 +1,4 @@
 pub mod ItemSums
-pub mod Severities
 pub mod Reading
 pub mod Steps
 pub mod Recursions

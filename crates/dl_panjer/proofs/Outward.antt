@@ -6,7 +6,7 @@ use Rattle.std.specs.Int.{div_ceil}
 use Rattle.dl_exact.specs.Fraction.{Fraction, ◌over◌, ◌+ℚ◌, ◌*ℚ◌, ◌/ℚ◌, ◌≤ℚ◌, ◌<ℚ◌, whole}
 use Rattle.dl_exact.specs.Rounding.{IsFloor}
 use Rattle.dl_exact.proofs.Over.{over_same, over_mul}
-use Rattle.dl_exact.proofs.Laws.{one_pos, ring, times_assoc, zero_times, zero_plus, plus_zero, le_refl, le_trans, whole_pos, times_cancel, div_times, lt_of_lt_of_le, le_plus, over_times_whole, times_le_both}
+use Rattle.dl_exact.proofs.Laws.{one_pos, ring, times_assoc, zero_times, zero_plus, plus_zero, le_refl, le_trans, whole_pos, times_cancel, div_times, over_times_whole, times_le_both}
 use Rattle.dl_exact.proofs.RoundingLaws.{floor_div, ceiling_div}
 use Rattle.dl_exact.proofs.Sums.{sum_pairs_same, sum_pairs_times}
 use Rattle.dl_exact.specs.Count.{count_pairs}
@@ -15,7 +15,7 @@ use Rattle.dl_iv.specs.declared.interval.Iv.{Iv}
 use Rattle.dl_grid.specs.Cells.{low_at, high_at}
 use Rattle.dl_plan.specs.declared.item.Item.{Item}
 use Rattle.dl_plan.specs.Weighted.{weight_at}
-use Rattle.dl_panjer.specs.Cells.{coefficient, weighed}
+use Rattle.dl_panjer.specs.Cells.{coefficient, next_sum}
 use Rattle.dl_panjer.specs.Outward.{FollowsOutward, IsCeilingWithin}
 use Rattle.dl_panjer.specs.Bases.{FollowsRounded}
 use Rattle.dl_exact.proofs.SumsOver.{sum_pairs_over}
@@ -37,16 +37,16 @@ pub outward : {B : ℕ} (b : Bool) (factor : ℕ → Fraction) (items : List Ite
     (x y : Fraction)
     → 0 < T
     → ((g : ℕ → ℕ) (s : ℕ) → from_before x y (λ j. weight_at items j over T) (λ k. whole (g k)) s
-    ≡ factor s *ℚ weighed (coefficient b items) g s over T)
+    ≡ factor s *ℚ next_sum (coefficient b items) g s over T)
     → FollowsRounded b factor items T grid
     → FollowsOutward (2 ^ B) (length grid) x y (λ j. weight_at items j over T) (low_at grid) (high_at grid)
 outward {B} b factor items T grid x y pos same F = record {
   low = λ s inside.
       subst (λ t. whole (low_at grid (suc s)) ≤ℚ t) (sym (same (low_at grid) s))
-      (floor_part T (weighed (coefficient b items) (low_at grid) s) (factor s) pos _ (F.low s inside));
+      (floor_part T (next_sum (coefficient b items) (low_at grid) s) (factor s) pos _ (F.low s inside));
   high = λ s inside.
       subst (λ t. (t ≤ℚ whole (high_at grid (suc s))) ⊎ (2 ^ B ≤ high_at grid (suc s))) (sym (same (high_at grid) s))
-      (ceiling_part T (weighed (coefficient b items) (high_at grid) s) (factor s) pos (2 ^ B) _ (F.high s inside));
+      (ceiling_part T (next_sum (coefficient b items) (high_at grid) s) (factor s) pos (2 ^ B) _ (F.high s inside));
 }
 
 module _ (items : List Item) (T : ℕ) (v : Fraction) (T_pos : 0 < T) where
@@ -58,7 +58,7 @@ module _ (items : List Item) (T : ℕ) (v : Fraction) (T_pos : 0 < T) where
   by_number g s =
       sum_pairs_same s _ (λ i k. v /ℚ whole (suc s) *ℚ (suc i * weight_at items (suc i) * g k) over T) (λ i k e.
       ap (λ t. (t +ℚ v *ℚ suc i over suc s) *ℚ chance (suc i) *ℚ whole (g k)) refl
-      ∙ ap (λ t. t *ℚ chance (suc i) *ℚ whole (g k)) (zero_plus _ ∙ share i)
+      ∙ ap (λ t. t *ℚ chance (suc i) *ℚ whole (g k)) (zero_plus _ ∙ by_suc i)
       ∙ turn (v /ℚ whole (suc s)) (whole (suc i)) (chance (suc i)) (whole (g k))
       ∙ ap (λ t. v /ℚ whole (suc s) *ℚ t) (item i k))
       ∙ sum_pairs_times s (v /ℚ whole (suc s)) _
@@ -73,8 +73,8 @@ module _ (items : List Item) (T : ℕ) (v : Fraction) (T_pos : 0 < T) where
       move : (a b c : Fraction) → a *ℚ b *ℚ c ≡ a *ℚ c *ℚ b
       move a b c = simp ring
 
-      share : (i : ℕ) → v *ℚ suc i over suc s ≡ v /ℚ whole (suc s) *ℚ whole (suc i)
-      share i = times_cancel _ _ (whole (suc s)) S'
+      by_suc : (i : ℕ) → v *ℚ suc i over suc s ≡ v /ℚ whole (suc s) *ℚ whole (suc i)
+      by_suc i = times_cancel _ _ (whole (suc s)) S'
           (times_assoc _ _ _ ∙ ap (λ t. v *ℚ t) (over_times_whole (suc i) (suc s) (zero-lt-suc s))
           ∙ sym (move _ _ _ ∙ ap (λ t. t *ℚ whole (suc i)) (div_times v (whole (suc s)) S')))
 

@@ -2,16 +2,16 @@
 use Rattle.std.proofs.Common.{ℕ, suc, ◌≡◌, ◌+◌, ◌*◌, ◌/◌, ◌<◌, ◌^◌, true, false, length, mul_comm, arith, sym, ap, subst, ◌∙◌, mul-pos, List}
 use Rattle.std.specs.Int.{div_ceil}
 use Rattle.std.proofs.Math.Nat.{zero-lt-suc}
-use Rattle.dl_exact.specs.Fraction.{Fraction, ◌over◌, ◌+ℚ◌, ◌*ℚ◌, ◌/ℚ◌, ◌<ℚ◌, whole}
+use Rattle.dl_exact.specs.Fraction.{Fraction, ◌over◌, ◌+ℚ◌, ◌*ℚ◌, ◌/ℚ◌, whole}
 use Rattle.dl_exact.specs.Rounding.{IsFloor, IsCeiling}
 use Rattle.dl_exact.proofs.Over.{over_self, over_same, over_add, over_mul, over_div}
-use Rattle.dl_exact.proofs.Laws.{one_pos, times_assoc, times_cancel, div_times, le_plus, lt_of_lt_of_le, whole_pos, times_comm}
+use Rattle.dl_exact.proofs.Laws.{one_pos, times_comm}
 use Rattle.dl_exact.proofs.RoundingLaws.{floor_div, ceiling_div}
 use Rattle.dl_exact.proofs.Denominators.{units_of}
 use Rattle.dl_plan.specs.declared.item.Item.{Item}
 use Rattle.dl_iv.specs.declared.interval.Iv.{Iv}
 use Rattle.dl_grid.specs.Cells.{low_at, high_at}
-use Rattle.dl_panjer.specs.Cells.{coefficient, weighed, Follows}
+use Rattle.dl_panjer.specs.Cells.{coefficient, next_sum, Follows}
 use Rattle.dl_panjer.specs.Bases.{FollowsRounded}
 
 -- mean / k by the parts of the mean
@@ -34,12 +34,12 @@ pub poisson_follows : {B : ℕ} (items : List Item) (T : ℕ) (v : Fraction) (ce
     → FollowsRounded true (λ s. v /ℚ whole (suc s)) items T cells
 poisson_follows {B} items T v cells F = record {
   low = λ s inside.
-      let x : ℕ = weighed (coefficient true items) (low_at cells) s / T in
+      let x : ℕ = next_sum (coefficient true items) (low_at cells) s / T in
       subst (λ n. IsFloor (v /ℚ whole (suc s) *ℚ whole x) n) (sym (F.low s inside))
       (subst (λ t. IsFloor t (x * v.num / (suc s * v.den))) (by_number x s v)
       (floor_div (x * v.num) (suc s * v.den) (mul-pos (zero-lt-suc s) v.positive)));
   high = λ s inside.
-      let y : ℕ = div_ceil (weighed (coefficient true items) (high_at cells) s) T in (
+      let y : ℕ = div_ceil (next_sum (coefficient true items) (high_at cells) s) T in (
         div_ceil (y * v.num) (suc s * v.den),
         subst (λ t. IsCeiling t (div_ceil (y * v.num) (suc s * v.den))) (by_number y s v)
             (ceiling_div (y * v.num) (suc s * v.den) (mul-pos (zero-lt-suc s) v.positive)),
@@ -57,11 +57,11 @@ pub geometric_follows : {B : ℕ} (items : List Item) (T : ℕ) (r : Fraction) (
     → FollowsRounded false (λ s. r) items T cells
 geometric_follows {B} items T r cells F = record {
   low = λ s inside.
-      let x : ℕ = weighed (coefficient false items) (low_at cells) s / T in
+      let x : ℕ = next_sum (coefficient false items) (low_at cells) s / T in
       subst (λ n. IsFloor (r *ℚ whole x) n) (sym (F.low s inside))
       (subst (λ t. IsFloor t (x * r.num / r.den)) (by_rate x r) (floor_div (x * r.num) r.den r.positive));
   high = λ s inside.
-      let y : ℕ = div_ceil (weighed (coefficient false items) (high_at cells) s) T in (
+      let y : ℕ = div_ceil (next_sum (coefficient false items) (high_at cells) s) T in (
         div_ceil (y * r.num) r.den,
         subst (λ t. IsCeiling t (div_ceil (y * r.num) r.den)) (by_rate y r) (ceiling_div (y * r.num) r.den r.positive),
         F.high s inside,

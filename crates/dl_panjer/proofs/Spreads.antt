@@ -8,9 +8,9 @@ use Rattle.dl_exact.specs.Count.{count_below}
 use Rattle.dl_exact.proofs.Counts.{below_le, below_plus, below_times, below_constant, below_pairs, pairs_plus, pairs_same, pairs_within, below_grows}
 use Rattle.dl_plan.specs.declared.item.Item.{Item}
 use Rattle.dl_plan.specs.Weighted.{weight_at, weight_sum}
-use Rattle.dl_panjer.specs.Cells.{share, coefficient, weighed, Follows}
+use Rattle.dl_panjer.specs.Cells.{counted, coefficient, next_sum, Follows}
 use Rattle.dl_panjer.proofs.ItemSums.{weights_within}
-use Rattle.dl_panjer.proofs.Steps.{share_pos}
+use Rattle.dl_panjer.proofs.Steps.{counted_pos}
 
 -- one step: D is what the sum of the high ends is above that of the low ends
 step_width : (L D T num d lo w : ℕ) → 0 < T → 0 < d → num ≤ d → lo ≡ L / T * num / d
@@ -36,16 +36,17 @@ step_width L D T num d lo w T_pos pos small low high =
       mul-le-mul_left T small,
     )
 
-share_out : (b : Bool) (j den T w C num : ℕ) → 0 < j
-    → w * (share b j den * T) ≤ share b j C * num + 4 * (share b j den * T) → w * (den * T) ≤ C * num + 4 * (den * T)
-share_out true j den T w C num pos h = le_of_mul-le-mul_right {k = j} (omega (arith, h)) pos
-share_out false j den T w C num pos h = h
+counted_out : (b : Bool) (j den T w C num : ℕ) → 0 < j
+    → w * (counted b j den * T) ≤ counted b j C * num + 4 * (counted b j den * T)
+    → w * (den * T) ≤ C * num + 4 * (den * T)
+counted_out true j den T w C num pos h = le_of_mul-le-mul_right {k = j} (omega (arith, h)) pos
+counted_out false j den T w C num pos h = h
 
 -- what amounts count for is at most the cell's number times their weights
-pub weighed_share : (b : Bool) (items : List Item) (ends : ℕ → ℕ) (s : ℕ)
-    → weighed (coefficient b items) ends s ≤ share b (suc s) (weighed (λ i. weight_at items (suc i)) ends s)
-weighed_share false items ends s = omega arith
-weighed_share true items ends s =
+pub next_sum_counted : (b : Bool) (items : List Item) (ends : ℕ → ℕ) (s : ℕ)
+    → next_sum (coefficient b items) ends s ≤ counted b (suc s) (next_sum (λ i. weight_at items (suc i)) ends s)
+next_sum_counted false items ends s = omega arith
+next_sum_counted true items ends s =
     let each : count_below (suc s) (λ i. suc i * weight_at items (suc i) * ends (s - i)) ≤ count_below (suc s)
     (λ i. weight_at items (suc i) * ends (s - i) * suc s) =
     below_le (suc s) _ _ (λ i inside. turned (suc i) (suc s) (weight_at items (suc i)) (ends (s - i))
@@ -61,37 +62,37 @@ weighed_share true items ends s =
     turned : (i s w e : ℕ) → i ≤ s → i * w * e ≤ w * e * s
     turned i s w e h = omega (arith, mul-le-mul_right (w * e) h)
 
-weighed_plus : (c f g : ℕ → ℕ) (s : ℕ) → weighed c (λ k. f k + g k) s ≡ weighed c f s + weighed c g s
-weighed_plus c f g s = pairs_same s (λ i k. c i * (f k + g k)) (λ i k. c i * f k + c i * g k) (λ i k. omega arith)
+next_sum_plus : (c f g : ℕ → ℕ) (s : ℕ) → next_sum c (λ k. f k + g k) s ≡ next_sum c f s + next_sum c g s
+next_sum_plus c f g s = pairs_same s (λ i k. c i * (f k + g k)) (λ i k. c i * f k + c i * g k) (λ i k. omega arith)
     ∙ pairs_plus s (λ i k. c i * f k) (λ i k. c i * g k)
 
 module _ (b : Bool) (items : List Item) (S T : ℕ) (rate : Fraction) (lo hi w : ℕ → ℕ) (K : ℕ)
     (F : Follows S b items T rate lo hi K) (T_pos : 0 < T)
     (at_most_one : rate.num ≤ rate.den) (apart : (k : ℕ) → hi k ≡ lo k + w k) where
-  widths : (s : ℕ) → suc s < K → rate.den * T * w (suc s) ≤ rate.num * weighed (λ i. weight_at items (suc i)) w s + 4 *
+  widths : (s : ℕ) → suc s < K → rate.den * T * w (suc s) ≤ rate.num * next_sum (λ i. weight_at items (suc i)) w s + 4 *
       (rate.den * T)
   widths s inside =
-      let d : ℕ = share b (suc s) rate.den in
-      let L : ℕ = weighed (coefficient b items) lo s in
-      let D : ℕ = weighed (coefficient b items) w s in
-      let H : weighed (coefficient b items) hi s ≡ L + D =
+      let d : ℕ = counted b (suc s) rate.den in
+      let L : ℕ = next_sum (coefficient b items) lo s in
+      let D : ℕ = next_sum (coefficient b items) w s in
+      let H : next_sum (coefficient b items) hi s ≡ L + D =
       pairs_same s (λ i k. coefficient b items i * hi k) (λ i k. coefficient b items i * (lo k + w k))
-      (λ i k. ap (λ t. coefficient b items i * t) (apart k)) ∙ weighed_plus (coefficient b items) lo w s in
-      let pos : 0 < d = share_pos b (suc s) rate.den (zero-lt-suc s) rate.positive in
+      (λ i k. ap (λ t. coefficient b items i * t) (apart k)) ∙ next_sum_plus (coefficient b items) lo w s in
+      let pos : 0 < d = counted_pos b (suc s) rate.den (zero-lt-suc s) rate.positive in
       let high : lo (suc s) + w (suc s) ≤ div_ceil (div_ceil (L + D) T * rate.num) d =
       subst (λ t. lo (suc s) + w (suc s) ≤ div_ceil (div_ceil t T * rate.num) d) H
       (omega (arith, apart (suc s), F.high s inside)) in
       let one = step_width L D T rate.num d (lo (suc s)) (w (suc s)) T_pos pos
       (wider b (suc s) rate.num rate.den (zero-lt-suc s) at_most_one) (F.low s inside) high in
-      let shared : D * rate.num ≤ share b (suc s) (weighed (λ i. weight_at items (suc i)) w s) * rate.num =
-      mul-le-mul_right rate.num (weighed_share b items w s) in
+      let shared : D * rate.num ≤ counted b (suc s) (next_sum (λ i. weight_at items (suc i)) w s) * rate.num =
+      mul-le-mul_right rate.num (next_sum_counted b items w s) in
       omega (
         arith,
-        share_out b (suc s) rate.den T (w (suc s)) (weighed (λ i. weight_at items (suc i)) w s) rate.num
+        counted_out b (suc s) rate.den T (w (suc s)) (next_sum (λ i. weight_at items (suc i)) w s) rate.num
             (zero-lt-suc s) (omega (arith, one, shared)),
       )
     where
-      wider : (b : Bool) (j n d : ℕ) → 0 < j → n ≤ d → n ≤ share b j d
+      wider : (b : Bool) (j n d : ℕ) → 0 < j → n ≤ d → n ≤ counted b j d
       wider true j n d pos h =
           let grown : 1 * d ≤ j * d = mul-le-mul_right d pos in
           omega (arith, grown, h)
@@ -103,21 +104,21 @@ module _ (b : Bool) (items : List Item) (S T : ℕ) (rate : Fraction) (lo hi w :
   all_widths n last sum =
       let v : ℕ → ℕ = λ i. weight_at items (suc i) in
       let A : ℕ = rate.den * T in
-      let each : count_below n (λ s. w (suc s) * A) ≤ count_below n (λ s. weighed v w s * rate.num + 4 * A) =
+      let each : count_below n (λ s. w (suc s) * A) ≤ count_below n (λ s. next_sum v w s * rate.num + 4 * A) =
       below_le n _ _ (λ s inside. omega (arith, widths s (omega (arith, inside, last)))) in
-      let pairs : count_below n (weighed v w) ≤ count_below n v * count_below n w = pairs_within n v w in
+      let pairs : count_below n (next_sum v w) ≤ count_below n v * count_below n w = pairs_within n v w in
       let within : count_below n v * count_below n w ≤ T * count_below (suc n) w =
       mul-le-mul (subst (λ t. count_below n v ≤ t) sum (weights_within n items))
       (below_grows n (suc n) w (omega arith)) in
-      let scaled : count_below n (weighed v w) * rate.num ≤ T * count_below (suc n) w * rate.num =
+      let scaled : count_below n (next_sum v w) * rate.num ≤ T * count_below (suc n) w * rate.num =
       mul-le-mul_right rate.num (omega (arith, pairs, within)) in
       le_of_mul-le-mul_right {k = T} (
       omega (
         arith,
         each,
         below_times n A (λ s. w (suc s)),
-        below_plus n (λ s. weighed v w s * rate.num) (λ s. 4 * A),
-        below_times n rate.num (weighed v w),
+        below_plus n (λ s. next_sum v w s * rate.num) (λ s. 4 * A),
+        below_times n rate.num (next_sum v w),
         below_constant n (4 * A),
         scaled,
       )

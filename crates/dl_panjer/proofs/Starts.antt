@@ -1,18 +1,14 @@
 -- Cell 0 of a Poisson grid and of a geometric grid.
-use Rattle.std.proofs.Common.{ℕ, zero, suc, ◌≡◌, ◌+◌, ◌*◌, ◌/◌, ◌^◌, ◌<◌, ◌≤◌, arith, sym, ap, subst, subst₂, ◌∙◌, mul-pos, inl, inr}
-use Rattle.std.specs.Prelude.{min}
+use Rattle.std.proofs.Common.{ℕ, zero, suc, ◌≡◌, ◌+◌, ◌*◌, ◌/◌, ◌^◌, ◌<◌, ◌≤◌, arith, sym, ap, subst, subst₂, ◌∙◌, mul-pos}
 use Rattle.std.specs.Int.{div_ceil}
-use Rattle.std.proofs.Math.Nat.{zero-lt-suc, min-le_left, min-eq_left, min-eq_right, lt-div-mul-add}
-use Rattle.std.proofs.lemmas.Bool.{cases_lt}
-use Rattle.std.proofs.lemmas.Nat.{pow_pos}
+use Rattle.std.proofs.Math.Nat.{zero-lt-suc, lt-div-mul-add}
 use Rattle.dl_exact.specs.Fraction.{Fraction, ◌over◌, ◌+ℚ◌, ◌*ℚ◌, ◌/ℚ◌, ◌≤ℚ◌, whole}
 use Rattle.dl_exact.specs.Sum.{sum_to}
 use Rattle.dl_exact.proofs.Over.{over_same, over_add, over_div}
-use Rattle.dl_exact.proofs.Laws.{one_pos, one_times, times_cancel, le_refl, le_trans, whole_pos}
+use Rattle.dl_exact.proofs.Laws.{one_pos, times_cancel, le_refl, le_trans, whole_pos}
 use Rattle.dl_exact.proofs.RoundingLaws.{div_ceil_least}
 use Rattle.dl_exact.proofs.Sums.{sum_to_same}
 use Rattle.dl_iv.specs.declared.interval.Iv.{Iv}
-use Rattle.dl_exact.proofs.Denominators.{over_le_over, over_one}
 use Rattle.dl_model.specs.Series.{Holds}
 use Rattle.dl_model.specs.Counts.{poisson}
 use Rattle.dl_model.proofs.PoissonWeights.{poisson_zero, poisson_next}

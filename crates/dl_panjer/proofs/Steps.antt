@@ -13,99 +13,102 @@ use Rattle.dl_exact.specs.Count.{count_below}
 use Rattle.dl_grid.proofs.PlaceSums.{low_at_front, high_at_front, low_at_pushed, high_at_pushed}
 use Rattle.dl_plan.specs.declared.item.Item.{Item}
 use Rattle.dl_plan.specs.Weighted.{weight_sum}
-use Rattle.dl_plan.proofs.Cessions.{num_le_den}
-use Rattle.dl_panjer.specs.Cells.{share, coefficient, weighed, low_next, high_next, Follows}
-use Rattle.dl_panjer.proofs.ItemSums.{coefficients_within, weighed_le, weighed_rises, weighed_same}
+use Rattle.dl_plan.proofs.Clauses.{num_le_den}
+use Rattle.dl_panjer.specs.Cells.{counted, coefficient, next_sum, low_next, high_next, Follows}
+use Rattle.dl_panjer.proofs.ItemSums.{coefficients_within, next_sum_le, next_sum_rises, next_sum_same}
 
-pub share_pos : (b : Bool) (j n : ℕ) → 0 < j → 0 < n → 0 < share b j n
-share_pos true j n p q = mul-pos p q
-share_pos false j n p q = q
+pub counted_pos : (b : Bool) (j n : ℕ) → 0 < j → 0 < n → 0 < counted b j n
+counted_pos true j n p q = mul-pos p q
+counted_pos false j n p q = q
 
-share_turn : (b : Bool) (j m n : ℕ) → share b j m * n ≡ share b j n * m
-share_turn true j m n = omega arith
-share_turn false j m n = omega arith
+counted_turn : (b : Bool) (j m n : ℕ) → counted b j m * n ≡ counted b j n * m
+counted_turn true j m n = omega arith
+counted_turn false j m n = omega arith
 
-share_most : (b : Bool) (j n : ℕ) → j ≤ 16384 → n ≤ 2 ^ 56 → share b j n ≤ 2 ^ 70
-share_most true j n p q =
+counted_most : (b : Bool) (j n : ℕ) → j ≤ 16384 → n ≤ 2 ^ 56 → counted b j n ≤ 2 ^ 70
+counted_most true j n p q =
     let h : j * n ≤ 16384 * 2 ^ 56 = mul-le-mul p q in
     omega (arith, h)
-share_most false j n p q = omega (arith, q)
+counted_most false j n p q = omega (arith, q)
 
 module _ (b : Bool) (items : List Item) (T S : ℕ) (s : ℕ) (T_pos : 0 < T) (sum : weight_sum items ≡ T) where
-  weighed_within : (ends : ℕ → ℕ) → ((k : ℕ) → ends k ≤ S)
-      → weighed (coefficient b items) ends s ≤ share b (suc s) S * T
-  weighed_within ends bound =
-      let all : count_below (suc s) (coefficient b items) * S ≤ share b (suc s) (weight_sum items) * S =
+  next_sum_within : (ends : ℕ → ℕ) → ((k : ℕ) → ends k ≤ S)
+      → next_sum (coefficient b items) ends s ≤ counted b (suc s) S * T
+  next_sum_within ends bound =
+      let all : count_below (suc s) (coefficient b items) * S ≤ counted b (suc s) (weight_sum items) * S =
       mul-le-mul_right S (coefficients_within b s items) in
-      let turned : share b (suc s) (weight_sum items) * S ≡ share b (suc s) S * T = ap (λ t. share b (suc s) t * S) sum
-      ∙ share_turn b (suc s) T S in
-      omega (arith, weighed_le (coefficient b items) ends s S bound, all, turned)
+      let turned : counted b (suc s) (weight_sum items) * S ≡ counted b (suc s) S * T =
+      ap (λ t. counted b (suc s) t * S) sum
+      ∙ counted_turn b (suc s) T S in
+      omega (arith, next_sum_le (coefficient b items) ends s S bound, all, turned)
 
-  pub low_share : (ends : ℕ → ℕ) → ((k : ℕ) → ends k ≤ S) → weighed (coefficient b items) ends s / T ≤ share b (suc s) S
-  low_share ends bound = div-le_of_le-mul T (omega (arith, weighed_within ends bound))
+  pub low_counted : (ends : ℕ → ℕ) → ((k : ℕ) → ends k ≤ S)
+      → next_sum (coefficient b items) ends s / T ≤ counted b (suc s) S
+  low_counted ends bound = div-le_of_le-mul T (omega (arith, next_sum_within ends bound))
 
-  pub high_share : (ends : ℕ → ℕ) → ((k : ℕ) → ends k ≤ S)
-      → div_ceil (weighed (coefficient b items) ends s) T ≤ share b (suc s) S
-  high_share ends bound = div_ceil_least _ T _ T_pos (weighed_within ends bound)
+  pub high_counted : (ends : ℕ → ℕ) → ((k : ℕ) → ends k ≤ S)
+      → div_ceil (next_sum (coefficient b items) ends s) T ≤ counted b (suc s) S
+  high_counted ends bound = div_ceil_least _ T _ T_pos (next_sum_within ends bound)
 
   module _ (rate : Fraction) (at_most_one : rate ≤ℚ whole 1) where
     pub low_next_le : (ends : ℕ → ℕ) → ((k : ℕ) → ends k ≤ S) → low_next b items T rate ends s ≤ S
     low_next_le ends bound =
-        let x : ℕ = weighed (coefficient b items) ends s / T in
-        let product : x * rate.num ≤ share b (suc s) S * rate.den =
-        mul-le-mul (low_share ends bound) (num_le_den rate at_most_one) in
-        div-le_of_le-mul _ (omega (arith, product, share_turn b (suc s) S rate.den))
+        let x : ℕ = next_sum (coefficient b items) ends s / T in
+        let product : x * rate.num ≤ counted b (suc s) S * rate.den =
+        mul-le-mul (low_counted ends bound) (num_le_den rate at_most_one) in
+        div-le_of_le-mul _ (omega (arith, product, counted_turn b (suc s) S rate.den))
 
     pub next_order : (lo hi : ℕ → ℕ) → ((k : ℕ) → lo k ≤ hi k) → ((k : ℕ) → lo k ≤ S)
         → low_next b items T rate lo s ≤ high_next S b items T rate hi s
     next_order lo hi order bound =
-        let d : ℕ = share b (suc s) rate.den in
-        let inner : weighed (coefficient b items) lo s / T ≤ div_ceil (weighed (coefficient b items) hi s) T =
-        floor_le_ceiling _ _ T T T_pos (omega arith) (weighed_rises (coefficient b items) lo hi s order) in
+        let d : ℕ = counted b (suc s) rate.den in
+        let inner : next_sum (coefficient b items) lo s / T ≤ div_ceil (next_sum (coefficient b items) hi s) T =
+        floor_le_ceiling _ _ T T T_pos (omega arith) (next_sum_rises (coefficient b items) lo hi s order) in
         let outer : low_next b items T rate lo s ≤ div_ceil
-        (div_ceil (weighed (coefficient b items) hi s) T * rate.num) d =
-        floor_le_ceiling _ _ d d (share_pos b (suc s) rate.den (zero-lt-suc s) rate.positive) (omega arith)
+        (div_ceil (next_sum (coefficient b items) hi s) T * rate.num) d =
+        floor_le_ceiling _ _ d d (counted_pos b (suc s) rate.den (zero-lt-suc s) rate.positive) (omega arith)
         (mul-le-mul_right rate.num inner) in
         omega (arith, low_next_le lo bound, outer)
 
 -- a step fits where the ends are at most 2^56 and the rate's first part is below 2^48
-pub step_fits : (b : Bool) (j S x num : ℕ) → j ≤ 16384 → S ≤ 2 ^ 56 → x ≤ share b j S → num < 2 ^ 48 → x * num < 2 ^ 128
+pub step_fits : (b : Bool) (j S x num : ℕ) → j ≤ 16384 → S ≤ 2 ^ 56 → x ≤ counted b j S → num < 2 ^ 48
+    → x * num < 2 ^ 128
 step_fits b j S x num few one le small =
-    let wide : x ≤ 2 ^ 70 = omega (arith, le, share_most b j S few one) in
+    let wide : x ≤ 2 ^ 70 = omega (arith, le, counted_most b j S few one) in
     let least : num ≤ 2 ^ 48 = omega (arith, small) in
     let product : x * num ≤ 2 ^ 70 * 2 ^ 48 = mul-le-mul wide least in
     omega (arith, product)
 
 -- the ends of the next of m cells, as the code makes them
 pub cell_low : (b : Bool) (items : List Item) (T : ℕ) (rate : Fraction) (ends : ℕ → ℕ) (m x total num den : ℕ) → 1 ≤ m
-    → x ≡ weighed (coefficient b items) ends (m - 1) → total ≡ T → num ≡ rate.num → den ≡ share b m rate.den
+    → x ≡ next_sum (coefficient b items) ends (m - 1) → total ≡ T → num ≡ rate.num → den ≡ counted b m rate.den
     → x / total * num / den ≡ low_next b items T rate ends (m - 1)
 cell_low b items T rate ends m x total num den some p q r t =
     let e : m ≡ suc (m - 1) = omega (arith, some) in
-    ap₂ (λ u v. u / v) (ap₂ (λ u v. u * v) (ap₂ (λ u v. u / v) p q) r) (t ∙ ap (λ k. share b k rate.den) e)
+    ap₂ (λ u v. u / v) (ap₂ (λ u v. u * v) (ap₂ (λ u v. u / v) p q) r) (t ∙ ap (λ k. counted b k rate.den) e)
 
 pub cell_high : (S : ℕ) (b : Bool) (items : List Item) (T : ℕ) (rate : Fraction) (ends : ℕ → ℕ) (m x total num den : ℕ)
     → 1 ≤ m
-    → x ≡ weighed (coefficient b items) ends (m - 1) → total ≡ T → num ≡ rate.num → den ≡ share b m rate.den
+    → x ≡ next_sum (coefficient b items) ends (m - 1) → total ≡ T → num ≡ rate.num → den ≡ counted b m rate.den
     → min S (div_ceil (div_ceil x total * num) den) ≡ high_next S b items T rate ends (m - 1)
 cell_high S b items T rate ends m x total num den some p q r t =
     let e : m ≡ suc (m - 1) = omega (arith, some) in
     ap (min S) (ap₂ (λ u v. div_ceil u v) (ap₂ (λ u v. u * v) (ap₂ (λ u v. div_ceil u v) p q) r)
-    (t ∙ ap (λ k. share b k rate.den) e))
+    (t ∙ ap (λ k. counted b k rate.den) e))
 
 -- ---- a step reads only the ends up to s
 
 pub low_next_same : (b : Bool) (items : List Item) (T : ℕ) (rate : Fraction) (f g : ℕ → ℕ) (s : ℕ)
     → ((k : ℕ) → k ≤ s → f k ≡ g k) → low_next b items T rate f s ≡ low_next b items T rate g s
 low_next_same b items T rate f g s h =
-    ap (λ t. t / T * rate.num / share b (suc s) rate.den) (weighed_same (coefficient b items) f g s h)
+    ap (λ t. t / T * rate.num / counted b (suc s) rate.den) (next_sum_same (coefficient b items) f g s h)
 
 pub high_next_same : (S : ℕ) (b : Bool) (items : List Item) (T : ℕ) (rate : Fraction) (f g : ℕ → ℕ) (s : ℕ)
     → ((k : ℕ) → k ≤ s → f k ≡ g k)
     → high_next S b items T rate f s ≡ high_next S b items T rate g s
 high_next_same S b items T rate f g s h =
-    ap (λ t. min S (div_ceil (div_ceil t T * rate.num) (share b (suc s) rate.den)))
-    (weighed_same (coefficient b items) f g s h)
+    ap (λ t. min S (div_ceil (div_ceil t T * rate.num) (counted b (suc s) rate.den)))
+    (next_sum_same (coefficient b items) f g s h)
 
 -- one more cell
 pub follows_pushed : {B : ℕ} (b : Bool) (items : List Item) (T : ℕ) (rate : Fraction) (cells : List (Iv B))

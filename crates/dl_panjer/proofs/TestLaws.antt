@@ -1,15 +1,13 @@
 -- What the tests ask of their numbers.
 use Rattle.std.proofs.Common.{ℕ, ◌≡◌, ◌+◌, ◌*◌, ◌^◌, ◌<◌, ◌≤◌, List, [], ◌∷◌, ◌++◌, arith, subst, mul-le-mul_right, ◌∙◌, sym, ap}
-use Rattle.std.specs.Prelude.{All, if◌then◌else◌}
+use Rattle.std.specs.Prelude.{if◌then◌else◌}
 use Rattle.std.proofs.lemmas.Bool.{ne_eqb}
-use Rattle.std.proofs.lemmas.List.Elements.{All-nil, All-cons}
 use Rattle.std.proofs.Math.Nat.{zero-lt-suc}
-use Rattle.dl_exact.specs.Gcd.{gcd, euclid}
 use Rattle.dl_exact.specs.Fraction.{Fraction, ◌over◌, ◌/ℚ◌, ◌≤ℚ◌, whole}
 use Rattle.dl_exact.proofs.Over.{over_div, over_le, over_same}
 use Rattle.dl_exact.proofs.Laws.{one_pos}
 use Rattle.dl_plan.specs.declared.item.Item.{Item}
-use Rattle.dl_plan.specs.Weighted.{IsWeighted, weight_at}
+use Rattle.dl_plan.specs.Weighted.{weight_at}
 use Rattle.dl_exact.proofs.Parts.{over_den_le}
 
 pub print_fits : (h b : ℕ) → h ≤ 2 ^ b → h * 10 ^ 9 ≤ 2 ^ 127 * 2 ^ b

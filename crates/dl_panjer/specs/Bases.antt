@@ -10,7 +10,7 @@ use Rattle.dl_exp.specs.Exponential.{EnclosesExp}
 use Rattle.dl_model.specs.Recursion.{Recursion}
 use Rattle.dl_plan.specs.declared.item.Item.{Item}
 use Rattle.dl_plan.specs.declared.severity.Sev.{Sev}
-use Rattle.dl_panjer.specs.Cells.{coefficient, weighed}
+use Rattle.dl_panjer.specs.Cells.{coefficient, next_sum}
 use Rattle.dl_panjer.specs.Outward.{IsCeilingWithin}
 
 -- cell 0 encloses exp(-v), the probability that there is no claim: it is at most 3 units wide, and
@@ -30,11 +30,11 @@ pub record StartsAtExp {B : ℕ} (v : Fraction) (grid : List (Iv B)) : Type 0 wh
 pub record FollowsRounded {B : ℕ} (by_amount : Bool) (factor : ℕ → Fraction) (items : List Item)
     (total : ℕ) (grid : List (Iv B)) : Type 0 where
   pub low : (s : ℕ) → suc s < length grid
-      → IsFloor (factor s *ℚ whole (weighed (coefficient by_amount items) (low_at grid) s / total))
+      → IsFloor (factor s *ℚ whole (next_sum (coefficient by_amount items) (low_at grid) s / total))
       (low_at grid (suc s))
   pub high : (s : ℕ) → suc s < length grid
       → IsCeilingWithin (2 ^ B)
-      (factor s *ℚ whole (div_ceil (weighed (coefficient by_amount items) (high_at grid) s) total))
+      (factor s *ℚ whole (div_ceil (next_sum (coefficient by_amount items) (high_at grid) s) total))
       (high_at grid (suc s))
 
 -- the recursion of the Poisson count of mean v

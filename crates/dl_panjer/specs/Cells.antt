@@ -1,5 +1,5 @@
 -- One step of a grid's recursion, in whole numbers.
-use Rattle.std.specs.Prelude.{ℕ, suc, Bool, ◌≡◌, ◌*◌, ◌/◌, ◌<◌, List, min, if◌then◌else◌}
+use Rattle.std.specs.Prelude.{ℕ, suc, Bool, ◌≡◌, ◌-◌, ◌*◌, ◌/◌, ◌<◌, List, min, if◌then◌else◌}
 use Rattle.std.specs.Int.{div_ceil}
 use Rattle.dl_exact.specs.Fraction.{Fraction}
 use Rattle.dl_exact.specs.Count.{count_pairs}
@@ -7,31 +7,36 @@ use Rattle.dl_plan.specs.declared.item.Item.{Item}
 use Rattle.dl_plan.specs.Weighted.{weight_at}
 
 -- n counted by an amount, or n alone
-abbrev pub share : Bool → ℕ → ℕ → ℕ
-share by_amount amount n = if by_amount then amount * n else n
+abbrev pub counted : Bool → ℕ → ℕ → ℕ
+counted by_amount amount n = if by_amount then amount * n else n
+
+-- what an item gives to cell n: what it counts for times the end of the cell that lies its amount
+-- before
+abbrev pub given : Bool → (ℕ → ℕ) → ℕ → Item → ℕ
+given by_amount ends n item = counted by_amount item.amount item.weight * ends (n - item.amount)
 
 -- what the amount i + 1 counts for
 abbrev pub coefficient : Bool → List Item → ℕ → ℕ
-coefficient by_amount items i = share by_amount (suc i) (weight_at items (suc i))
+coefficient by_amount items i = counted by_amount (suc i) (weight_at items (suc i))
 
 -- the ends of the cells up to s, each times what the amount counts for that leads from it to cell s
 -- + 1
-abbrev pub weighed : (ℕ → ℕ) → (ℕ → ℕ) → ℕ → ℕ
-weighed c ends s = count_pairs s (λ i k. c i * ends k)
+abbrev pub next_sum : (ℕ → ℕ) → (ℕ → ℕ) → ℕ → ℕ
+next_sum c ends s = count_pairs s (λ i k. c i * ends k)
 
--- the ends of cell s + 1 from those before it, in units of 1 / S
+-- the ends of cell s + 1 from those before it, in units of 1 / scale
 abbrev pub low_next : Bool → List Item → ℕ → Fraction → (ℕ → ℕ) → ℕ → ℕ
 low_next by_amount items total rate ends s =
-    weighed (coefficient by_amount items) ends s / total * rate.num / share by_amount
+    next_sum (coefficient by_amount items) ends s / total * rate.num / counted by_amount
     (suc s) rate.den
 
 abbrev pub high_next : ℕ → Bool → List Item → ℕ → Fraction → (ℕ → ℕ) → ℕ → ℕ
-high_next S by_amount items total rate ends s =
-    min S (div_ceil (div_ceil (weighed (coefficient by_amount items) ends s) total * rate.num)
-    (share by_amount (suc s) rate.den))
+high_next scale by_amount items total rate ends s =
+    min scale (div_ceil (div_ceil (next_sum (coefficient by_amount items) ends s) total * rate.num)
+    (counted by_amount (suc s) rate.den))
 
--- each of the first K cells but the first is made from those before it
-pub record Follows (S : ℕ) (by_amount : Bool) (items : List Item) (total : ℕ) (rate : Fraction)
-    (lo hi : ℕ → ℕ) (K : ℕ) : Type 0 where
-  pub low : (s : ℕ) → suc s < K → lo (suc s) ≡ low_next by_amount items total rate lo s
-  pub high : (s : ℕ) → suc s < K → hi (suc s) ≡ high_next S by_amount items total rate hi s
+-- each of so many cells but the first is made from those before it
+pub record Follows (scale : ℕ) (by_amount : Bool) (items : List Item) (total : ℕ)
+    (rate : Fraction) (lo hi : ℕ → ℕ) (cells : ℕ) : Type 0 where
+  pub low : (s : ℕ) → suc s < cells → lo (suc s) ≡ low_next by_amount items total rate lo s
+  pub high : (s : ℕ) → suc s < cells → hi (suc s) ≡ high_next scale by_amount items total rate hi s

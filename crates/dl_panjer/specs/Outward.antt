@@ -4,14 +4,14 @@ use Rattle.dl_exact.specs.Fraction.{Fraction, whole, ◌≤ℚ◌}
 use Rattle.dl_exact.specs.Rounding.{IsCeiling}
 use Rattle.dl_model.specs.Recursion.{from_before}
 
--- In units of 1 / S: of the first K cells each but the first has ends below and above what the
--- recursion makes of the ends before it; a high end of S or more is high enough.
-pub record FollowsOutward (S K : ℕ) (a b : Fraction) (f : ℕ → Fraction)
+-- In units of 1 / scale: of so many cells each but the first has ends below and above what the
+-- recursion makes of the ends before it; a high end of the scale or more is high enough.
+pub record FollowsOutward (scale cells : ℕ) (a b : Fraction) (f : ℕ → Fraction)
     (lo hi : ℕ → ℕ) : Type 0 where
-  pub low : (s : ℕ) → suc s < K → whole (lo (suc s)) ≤ℚ from_before a b f (λ k. whole (lo k)) s
-  pub high : (s : ℕ) → suc s < K
-      → (from_before a b f (λ k. whole (hi k)) s ≤ℚ whole (hi (suc s))) ⊎ (S ≤ hi (suc s))
+  pub low : (s : ℕ) → suc s < cells → whole (lo (suc s)) ≤ℚ from_before a b f (λ k. whole (lo k)) s
+  pub high : (s : ℕ) → suc s < cells
+      → (from_before a b f (λ k. whole (hi k)) s ≤ℚ whole (hi (suc s))) ⊎ (scale ≤ hi (suc s))
 
--- n is the least of S and the ceiling of x
+-- n is the ceiling of x, or `most` where that is less
 abbrev pub IsCeilingWithin : ℕ → Fraction → ℕ → Type 0
-IsCeilingWithin S x n = (m : ℕ) × IsCeiling x m × (n ≡ min S m)
+IsCeilingWithin most x n = (m : ℕ) × IsCeiling x m × (n ≡ min most m)

@@ -1,10 +1,11 @@
 //! The recursion, from cell 0 on.
 
 ghost use Rattle.std.specs.Prelude.{◌≡◌, ℕ, suc, ◌+◌, ◌-◌, ◌*◌, ◌^◌, ◌<◌, ◌≤◌, length, All, IfOk};
+ghost use Rattle.dl_limits.specs.Limits.{most_cells, admitted_bound};
 ghost use Rattle.dl_exact.specs.Fraction.{whole, ◌≤ℚ◌};
 ghost use Rattle.dl_grid.specs.Cells.{low_at, high_at, low_ends, high_ends};
 ghost use Rattle.dl_plan.specs.Weighted.{weight_sum, IsWeighted};
-ghost use Rattle.dl_panjer.specs.Cells.{share, coefficient, low_next, high_next, Follows};
+ghost use Rattle.dl_panjer.specs.Cells.{counted, coefficient, low_next, high_next, Follows};
 
 use crate::sums::sums_before;
 use dl_frac::Frac;
@@ -24,12 +25,12 @@ fn next_cell<const B: u32, const BY_AMOUNT: bool>(
     requires scale_above { 1 ≤ B }
     requires scale_below { B ≤ 56 }
     requires some { 1 ≤ length cells.now }
-    requires few { length cells.now ≤ 16384 }
+    requires few { length cells.now ≤ most_cells }
     requires small { All (λ cell. cell.hi ≤ 2 ^ B) cells.now }
     requires weighted { IsWeighted items.now total }
     requires no_zero { All (λ item. 0 < item.amount) items.now }
     requires rate { rate ≤ℚ whole 1 }
-    requires rate_num { rate.num < 2 ^ 48 }
+    requires rate_num { rate.num < admitted_bound }
     ensures low { result.lo ≡ low_next BY_AMOUNT items.now total rate (low_at cells.now)
         (length cells.now - 1) }
     ensures high { result.hi ≡ high_next (2 ^ B) BY_AMOUNT items.now total rate (high_at cells.now)
@@ -47,8 +48,8 @@ fn next_cell<const B: u32, const BY_AMOUNT: bool>(
 
 /// By what the rate's first part is divided at cell `number`.
 fn divisor<const BY_AMOUNT: bool>(den: u64, number: usize) -> u128
-    requires { number ≤ 16384 }
-    ensures { result ≡ share BY_AMOUNT number den }
+    requires { number ≤ most_cells }
+    ensures { result ≡ counted BY_AMOUNT number den }
 {
     if BY_AMOUNT {
         number as u128 * u128::from(den)
@@ -67,12 +68,12 @@ pub(crate) fn follow<const B: u32, const BY_AMOUNT: bool>(
     cells: u32,
 ) -> Result<Vec<Iv<B>>, AllocError>
     requires some { 1 ≤ cells }
-    requires few { cells ≤ 16384 }
+    requires few { cells ≤ most_cells }
     requires small { start.hi ≤ 2 ^ B }
     requires weighted { IsWeighted items.now total }
     requires no_zero { All (λ item. 0 < item.amount) items.now }
     requires rate { rate ≤ℚ whole 1 }
-    requires rate_num { rate.num < 2 ^ 48 }
+    requires rate_num { rate.num < admitted_bound }
     ensures cells { IfOk result (λ list. length list.items ≡ cells) }
     ensures start_low { IfOk result (λ list. low_at list.items 0 ≡ start.entry.lo) }
     ensures start_high { IfOk result (λ list. high_at list.items 0 ≡ start.entry.hi) }

@@ -1,6 +1,7 @@
 //! The geometric count.
 
 ghost use Rattle.std.specs.Prelude.{◌≡◌, ℕ, ◌+◌, ◌*◌, ◌^◌, ◌<◌, ◌≤◌, length, IfOk};
+ghost use Rattle.dl_limits.specs.Limits.{most_cells, most_shape, admitted_bound};
 ghost use Rattle.dl_exact.specs.Fraction.{whole, ◌+ℚ◌, ◌*ℚ◌, ◌/ℚ◌};
 ghost use Rattle.dl_exact.specs.Rounding.{IsFloor, IsCeiling};
 ghost use Rattle.dl_grid.specs.Cells.{low_at, high_at, spread};
@@ -11,7 +12,7 @@ ghost use Rattle.dl_plan.specs.Severity.{probability_of};
 ghost use Rattle.dl_panjer.specs.Bases.{IsGeometricBase};
 
 use crate::follow::{ends_of, follow};
-use crate::rates::fraction;
+use crate::rates::{fraction, shared};
 use dl_frac::Frac;
 use dl_grid::Grid;
 use dl_iv::Iv;
@@ -31,11 +32,11 @@ pub fn geometric_base<const B: u32>(
     requires scale_below { B ≤ 56 }
     requires no_zero { probability_of sev.now 0 ≡ whole 0 }
     requires shape_above { 1 ≤ shape }
-    requires shape_below { shape ≤ 10000 }
-    requires num { mean.num < 2 ^ 48 }
-    requires den { mean.den < 2 ^ 48 }
+    requires shape_below { shape ≤ most_shape }
+    requires num { mean.num < admitted_bound }
+    requires den { mean.den < admitted_bound }
     requires some { 1 ≤ cells }
-    requires few { cells ≤ 16384 }
+    requires few { cells ≤ most_cells }
     ensures cells { IfOk result (λ g. length g ≡ cells) }
     ensures start_low { IfOk result (λ g. IsFloor
         (whole (2 ^ B) /ℚ (whole 1 +ℚ mean /ℚ whole shape)) (low_at g 0)) }
@@ -47,8 +48,7 @@ pub fn geometric_base<const B: u32>(
     ensures spread { IfOk result (λ g. spread g ≤ up
         (whole (4 * cells + 1) *ℚ (whole 1 +ℚ mean /ℚ whole shape))) }
 {
-    let num = mean.num();
-    let den = mean.den() * u64::from(shape);
+    let (num, den) = shared(mean, shape);
     let rate = fraction(num, num + den);
     let start = Iv::enclose(u128::from(den), u128::from(num + den));
     let list = follow::<B, false>(alloc, sev.items.as_slice(), sev.total, rate, start, cells)?;

@@ -18,23 +18,25 @@ ghost use Rattle.dl_panjer.specs.Outward.{FollowsOutward};
 ghost use Rattle.dl_panjer.specs.Bases.{IsPoissonBase, IsGeometricBase, StandsByRecursion};
 
 /// In a grid that follows the recursion outward each cell stands to cell 0 as the recursion says:
-/// the low ends below, and the high ends above while none has reached `S`.
+/// the low ends below, and the high ends above while none has reached the scale.
 pub fn law_outward()
-    ensures low { (S K : ℕ) (a b : Fraction) (f : ℕ → Fraction) (lo hi : ℕ → ℕ)
-        → FollowsOutward S K a b f lo hi → (r : ℕ → Fraction) → Recursion a b f r
-        → (s : ℕ) → s < K → whole (lo s) ≤ℚ whole (lo 0) *ℚ r s }
-    ensures high { (S K : ℕ) (a b : Fraction) (f : ℕ → Fraction) (lo hi : ℕ → ℕ)
-        → FollowsOutward S K a b f lo hi → (r : ℕ → Fraction) → Recursion a b f r
-        → (s : ℕ) → s < K → ((k : ℕ) → k ≤ s → hi k < S) → whole (hi 0) *ℚ r s ≤ℚ whole (hi s) }
+    ensures low { (scale cells : ℕ) (a b : Fraction) (f : ℕ → Fraction) (lo hi : ℕ → ℕ)
+        → FollowsOutward scale cells a b f lo hi → (r : ℕ → Fraction) → Recursion a b f r
+        → (s : ℕ) → s < cells → whole (lo s) ≤ℚ whole (lo 0) *ℚ r s }
+    ensures high { (scale cells : ℕ) (a b : Fraction) (f : ℕ → Fraction) (lo hi : ℕ → ℕ)
+        → FollowsOutward scale cells a b f lo hi → (r : ℕ → Fraction) → Recursion a b f r
+        → (s : ℕ) → s < cells → ((k : ℕ) → k ≤ s → hi k < scale)
+        → whole (hi 0) *ℚ r s ≤ℚ whole (hi s) }
 {}
 
 /// Such a grid encloses the compound sum where its cell 0 holds the reciprocal of the sum of the
 /// count's weights.
 pub fn law_base()
-    ensures { (S K : ℕ) (a b : Fraction) (f w : ℕ → Fraction) (lo hi : ℕ → ℕ)
-        → FollowsOutward S K a b f lo hi → f 0 ≡ whole 0 → IsPanjer a b w → 0 < S → IsWithinOne f
-        → Holds (λ N. whole 1) (λ N. sum_to N w) (lo 0 over S) (hi 0 over S)
-        → Encloses S K lo hi (compound w f) }
+    ensures { (scale cells : ℕ) (a b : Fraction) (f w : ℕ → Fraction) (lo hi : ℕ → ℕ)
+        → FollowsOutward scale cells a b f lo hi → f 0 ≡ whole 0 → IsPanjer a b w → 0 < scale
+        → IsWithinOne f
+        → Holds (λ N. whole 1) (λ N. sum_to N w) (lo 0 over scale) (hi 0 over scale)
+        → Encloses scale cells lo hi (compound w f) }
 {}
 
 /// The two roundings of a Poisson grid and of a geometric grid are outward.
@@ -85,6 +87,7 @@ pub fn law_stands()
 /// no claim.
 pub fn law_exponential()
     ensures series { (B : ℕ) (v : Fraction) (interval : Iv B) → EnclosesExp v interval
-        ↔ Holds (λ N. whole 1) (exponential_sum v) (interval.lo over 2 ^ B) (interval.hi over 2 ^ B) }
+        ↔ Holds (λ N. whole 1) (exponential_sum v) (interval.lo over 2 ^ B)
+        (interval.hi over 2 ^ B) }
     ensures weights { (v : Fraction) (N : ℕ) → sum_to N (poisson v) ≡ exponential_sum v N }
 {}

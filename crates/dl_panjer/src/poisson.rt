@@ -1,6 +1,7 @@
 //! The Poisson count.
 
 ghost use Rattle.std.specs.Prelude.{◌≡◌, ℕ, ◌+◌, ◌*◌, ◌^◌, ◌<◌, ◌≤◌, length, IfOk};
+ghost use Rattle.dl_limits.specs.Limits.{most_cells, admitted_bound};
 ghost use Rattle.dl_exact.specs.Fraction.{whole, ◌over◌, ◌/ℚ◌, ◌≤ℚ◌};
 ghost use Rattle.dl_grid.specs.Cells.{spread};
 ghost use Rattle.dl_model.specs.Counts.{poisson};
@@ -31,10 +32,10 @@ pub fn poisson_base<const B: u32>(
     requires no_zero { probability_of sev.now 0 ≡ whole 0 }
     requires halvings { halvings ≤ 13 }
     requires half { mean /ℚ whole (2 ^ halvings) ≤ℚ 1 over 2 }
-    requires num { mean.num < 2 ^ 48 }
-    requires den { mean.den < 2 ^ 48 }
+    requires num { mean.num < admitted_bound }
+    requires den { mean.den < admitted_bound }
     requires some { 1 ≤ cells }
-    requires few { cells ≤ 16384 }
+    requires few { cells ≤ most_cells }
     ensures cells { IfOk result (λ g. length g ≡ cells) }
     ensures start { IfOk result (λ g. StartsAtExp (mean /ℚ whole (2 ^ halvings)) g) }
     ensures follows { IfOk result (λ g. IsPoissonBase sev.now (mean /ℚ whole (2 ^ halvings)) g) }

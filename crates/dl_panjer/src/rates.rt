@@ -1,17 +1,32 @@
 //! Fractions of small parts.
 
-ghost use Rattle.std.specs.Prelude.{◌≡◌, ◌^◌, ◌<◌, ◌≤◌};
-ghost use Rattle.dl_exact.specs.Fraction.{◌over◌};
+ghost use Rattle.std.specs.Prelude.{◌≡◌, ◌+◌, ◌^◌, ◌<◌, ◌≤◌};
+ghost use Rattle.dl_limits.specs.Limits.{most_shape, admitted_bound, frac_bound};
+ghost use Rattle.dl_exact.specs.Fraction.{whole, ◌over◌, ◌/ℚ◌};
 
 use dl_frac::Frac;
 
 /// `num` over `den`. Both are so small that their fraction is never too fine.
 pub(crate) fn fraction(num: u64, den: u64) -> Frac
     requires positive { 0 < den }
-    requires small_num { num < 2 ^ 62 }
-    requires small_den { den < 2 ^ 62 }
+    requires small_num { num < frac_bound }
+    requires small_den { den < frac_bound }
     ensures value { result ≡ num over den }
     ensures num { result.num ≤ num }
 {
     Frac::make(u128::from(num), u128::from(den)).unwrap()
+}
+
+/// A mean over a shape, as two whole numbers whose fraction it is.
+pub(crate) fn shared(mean: Frac, shape: u32) -> (u64, u64)
+    requires shape_above { 1 ≤ shape }
+    requires shape_below { shape ≤ most_shape }
+    requires num { mean.num < admitted_bound }
+    requires den { mean.den < admitted_bound }
+    ensures positive { 0 < result.1 }
+    ensures small { result.0 < admitted_bound }
+    ensures together { result.0 + result.1 < frac_bound }
+    ensures value { result.0 over result.1 ≡ mean /ℚ whole shape }
+{
+    (mean.num(), mean.den() * u64::from(shape))
 }

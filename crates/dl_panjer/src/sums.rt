@@ -1,10 +1,11 @@
 //! The sums from which one cell is made.
 
-ghost use Rattle.std.specs.Prelude.{◌≡◌, ℕ, suc, ◌+◌, ◌-◌, ◌*◌, ◌^◌, ◌<◌, ◌≤◌, length, All, slice_index_or};
+ghost use Rattle.std.specs.Prelude.{◌≡◌, ℕ, suc, ◌+◌, ◌-◌, ◌*◌, ◌^◌, ◌<◌, ◌≤◌, length, sum_by, All, slice_index_or};
 ghost use Rattle.std.specs.List.Sorted.{IsStrictlyIncreasing};
+ghost use Rattle.dl_limits.specs.Limits.{most_cells, most_parts};
 ghost use Rattle.dl_grid.specs.Cells.{low_at, high_at};
 ghost use Rattle.dl_plan.specs.Weighted.{amounts_of, weight_sum, weight_at};
-ghost use Rattle.dl_panjer.specs.Cells.{share, coefficient, weighed};
+ghost use Rattle.dl_panjer.specs.Cells.{counted, coefficient, given, next_sum};
 
 use dl_iv::Iv;
 use dl_plan::Item;
@@ -23,7 +24,7 @@ fn reached(items: &[Item], most: usize) -> usize
 
 /// What an item counts for: its amount times its weight, or its weight alone.
 fn factor<const BY_AMOUNT: bool>(item: &Item) -> u64
-    ensures { result ≡ share BY_AMOUNT item.now.amount item.now.weight }
+    ensures { result ≡ counted BY_AMOUNT item.now.amount item.now.weight }
 {
     if BY_AMOUNT {
         u64::from(item.amount) * u64::from(item.weight)
@@ -41,31 +42,49 @@ fn product(factor: u64, end: u128) -> u128
 }
 
 /// The sums of the products of each amount's factor and the low end, and the high end, of the cell
-/// that the amount leaves of the next cell's number.
-pub(crate) fn sums_before<const B: u32, const BY_AMOUNT: bool>(
-    items: &[Item],
-    cells: &[Iv<B>],
-) -> (u128, u128)
+/// that the amount leaves of the next cell's number, which no amount passes.
+fn sums_over<const B: u32, const BY_AMOUNT: bool>(items: &[Item], cells: &[Iv<B>]) -> (u128, u128)
     requires scale { B ≤ 56 }
     requires some { 1 ≤ length cells.now }
-    requires few { length cells.now ≤ 16384 }
+    requires few { length cells.now ≤ most_cells }
     requires small { All (λ cell. cell.hi ≤ 2 ^ B) cells.now }
-    requires rising { IsStrictlyIncreasing (amounts_of items.now) }
     requires no_zero { All (λ item. 0 < item.amount) items.now }
-    requires within { weight_sum items.now ≤ 2 ^ 30 }
-    ensures low { result.0 ≡ weighed (coefficient BY_AMOUNT items.now) (low_at cells.now)
-        (length cells.now - 1) }
-    ensures high { result.1 ≡ weighed (coefficient BY_AMOUNT items.now) (high_at cells.now)
-        (length cells.now - 1) }
+    requires near { All (λ item. item.amount ≤ length cells.now) items.now }
+    requires within { weight_sum items.now ≤ most_parts }
+    ensures low { result.0 ≡ sum_by (given BY_AMOUNT (low_at cells.now) (length cells.now))
+        items.now }
+    ensures high { result.1 ≡ sum_by (given BY_AMOUNT (high_at cells.now) (length cells.now))
+        items.now }
 {
     let next = cells.len();
     let mut low = 0;
     let mut high = 0;
-    'items: for item in &items[..reached(items, next)] {
+    'items: for item in items {
         let cell = &cells[next - item.amount as usize];
         let factor = factor::<BY_AMOUNT>(item);
         low += product(factor, cell.lo);
         high += product(factor, cell.hi);
     }
     (low, high)
+}
+
+/// Such sums for all amounts: those that pass the next cell's number lead from no cell to it.
+pub(crate) fn sums_before<const B: u32, const BY_AMOUNT: bool>(
+    items: &[Item],
+    cells: &[Iv<B>],
+) -> (u128, u128)
+    requires scale { B ≤ 56 }
+    requires some { 1 ≤ length cells.now }
+    requires few { length cells.now ≤ most_cells }
+    requires small { All (λ cell. cell.hi ≤ 2 ^ B) cells.now }
+    requires rising { IsStrictlyIncreasing (amounts_of items.now) }
+    requires no_zero { All (λ item. 0 < item.amount) items.now }
+    requires within { weight_sum items.now ≤ most_parts }
+    ensures low { result.0 ≡ next_sum (coefficient BY_AMOUNT items.now) (low_at cells.now)
+        (length cells.now - 1) }
+    ensures high { result.1 ≡ next_sum (coefficient BY_AMOUNT items.now) (high_at cells.now)
+        (length cells.now - 1) }
+{
+    let near = &items[..reached(items, cells.len())];
+    sums_over::<B, BY_AMOUNT>(near, cells)
 }

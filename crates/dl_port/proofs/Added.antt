@@ -1,7 +1,6 @@
 -- What encloses a sum of units after one more is taken in, and how wide it is.
 use Rattle.std.proofs.Common.{ℕ, zero, suc, ◌≡◌, ◌+◌, ◌-◌, ◌*◌, ◌/◌, ◌^◌, ◌<◌, ◌≤◌, List, [], ◌∷◌, ◌++◌, length, get_or, take, drop, map, arith, refl, sym, ap, ap₂, subst, subst₂, ◌∙◌, append_assoc, zero-add, add-one}
-use Rattle.std.specs.Prelude.{min, All, Result, Ok, Err, IfOk}
-use Rattle.std.specs.Int.{div_ceil}
+use Rattle.std.specs.Prelude.{All}
 use Rattle.std.specs.List.{fold, remove}
 use Rattle.std.proofs.lemmas.Nat.{pow_pos}
 use Rattle.std.proofs.lemmas.List.Elements.{All-take, All-drop}
@@ -10,110 +9,120 @@ use Rattle.std.proofs.lemmas.List.Sums.{fold_more, fold-append, sum_by-cons, sum
 use Rattle.std.proofs.lemmas.List.{get_or-map, get_or_default, get_or-take, get_or-drop, length-map, length-take, length-drop, take_all, drop_all, map-append}
 use Rattle.dl_exact.specs.Fraction.{◌over◌}
 use Rattle.dl_iv.specs.declared.interval.Iv.{Iv}
+use Rattle.dl_grid.specs.Convolution.{IsConvolution}
 use Rattle.dl_grid.specs.Cells.{low_at, high_at, spread, all_at_zero}
-use Rattle.dl_exact.specs.Count.{count_pairs}
 use Rattle.dl_grid.specs.Width.{cv, sum_spread}
 use Rattle.dl_grid.proofs.WidthLaws.{cv_rises}
+use Rattle.dl_grid.proofs.CellSets.{low_take, high_take}
 use Rattle.dl_model.specs.Series.{Holds}
-use Rattle.dl_model.specs.Program.{Aggregate, IsUnit, AreUnits, sum_over_outcomes}
+use Rattle.dl_model.specs.Program.{Aggregate, IsDeclarable, AreDeclarable, sum_over_outcomes}
 use Rattle.dl_model.specs.Family.{Family, mapped, total, product, nothing, IsProper, GridEncloses}
 use Rattle.dl_model.specs.Measures.{unit_of, without}
-use Rattle.dl_model.proofs.FamilyLaws.{encloses_rounded, encloses_same}
+use Rattle.dl_model.proofs.FamilyLaws.{convolution_encloses, encloses_same}
 use Rattle.dl_model.proofs.FiniteCounts.{nothing_encloses}
+use Rattle.dl_model.proofs.Without.{without_suc}
 use Rattle.dl_model.proofs.Outcomes.{no_units as nowhere, total_alone, total_alone_all, total_append, total_append_all, total_proper}
 use Rattle.dl_port.specs.Sums.{EncloseEach}
 
 -- ---- lists of units
 
-pub units_first : (n : ℕ) (us : List Aggregate) → AreUnits us → AreUnits (take n us)
+pub units_first : (n : ℕ) (us : List Aggregate) → AreDeclarable us → AreDeclarable (take n us)
 units_first zero us w = tt
 units_first (suc n) [] w = tt
 units_first (suc n) (u ∷ us) w = (w.0, units_first n us w.1)
 
-pub units_after : (n : ℕ) (us : List Aggregate) → AreUnits us → AreUnits (drop n us)
+pub units_after : (n : ℕ) (us : List Aggregate) → AreDeclarable us → AreDeclarable (drop n us)
 units_after zero us w = w
 units_after (suc n) [] w = tt
 units_after (suc n) (u ∷ us) w = units_after n us w.1
 
-pub units_joined : (us vs : List Aggregate) → AreUnits us → AreUnits vs → AreUnits (us ++ vs)
+pub units_joined : (us vs : List Aggregate) → AreDeclarable us → AreDeclarable vs → AreDeclarable (us ++ vs)
 units_joined [] vs w z = z
 units_joined (u ∷ us) vs w z = (w.0, units_joined us vs w.1 z)
 
 -- the unit at a place
-pub unit_at : (us : List Aggregate) (i : ℕ) → i < length us → AreUnits us
-    → (u : Aggregate) × (take (suc i) us ≡ take i us ++ u ∷ []) × (unit_of us i ≡ mapped u) × IsUnit u
+pub unit_at : (us : List Aggregate) (i : ℕ) → i < length us → AreDeclarable us
+    → (u : Aggregate) × (take (suc i) us ≡ take i us ++ u ∷ []) × (unit_of us i ≡ mapped u) × IsDeclarable u
 unit_at [] i h w = absurd (omega arith)
 unit_at (u ∷ us) zero h w = (u, refl, refl, w.0)
 unit_at (u ∷ us) (suc i) h w = let r = unit_at us i (omega arith) w.1 in (r.0, ap (λ t. u ∷ t) r.1, r.2, r.3)
 
 -- ---- one more unit
 
--- a grid with the ends that a convolution rounds to encloses the product
-pub convolved : {B : ℕ} (a b g : List (Iv B)) (n : ℕ) (F G : Family) → IsProper F → IsProper G → n ≤ length a → n ≤ length b → length g ≡ n
-    → ((s : ℕ) → s < n → low_at g s ≡ count_pairs s (λ i j. low_at a i * low_at b j) / 2 ^ B)
-    → ((s : ℕ) → s < n → high_at g s ≡ min (2 ^ B) (div_ceil (count_pairs s (λ i j. high_at a i * high_at b j)) (2 ^ B)))
-    → GridEncloses a F → GridEncloses b G → GridEncloses g (product F G)
-convolved {B} a b g n F G p q in_a in_b e low high of_a of_b y inside =
-    let within : y < n = omega (arith, e) in
-    subst₂ (λ l h. Holds ((product F G).cells y) (product F G).all (l over 2 ^ B) (h over 2 ^ B)) (sym (low y within)) (sym (high y within))
-    (encloses_rounded (2 ^ B) n (low_at a) (high_at a) (low_at b) (high_at b) F G (pow_pos B) p q (λ x h. of_a x (omega arith)) (λ x h. of_b x (omega arith)) y within)
-
-pub alone : {B : ℕ} (g : List (Iv B)) (u : Aggregate) → IsUnit u → GridEncloses g (mapped u) → GridEncloses g (total (u ∷ []))
-alone {B} g u h = encloses_same (2 ^ B) (length g) (low_at g) (high_at g) (mapped u) (total (u ∷ [])) (λ x N. sym (total_alone u h x N)) (λ N. sym (total_alone_all u h N))
+pub alone : {B : ℕ} (g : List (Iv B)) (u : Aggregate) → IsDeclarable u → GridEncloses g (mapped u)
+    → GridEncloses g (total (u ∷ []))
+alone {B} g u h = encloses_same (2 ^ B) (length g) (low_at g) (high_at g) (mapped u) (total (u ∷ []))
+    (λ x N. sym (total_alone u h x N)) (λ N. sym (total_alone_all u h N))
 
 -- the convolution of two sums
-pub two_sums : {B : ℕ} (a b g : List (Iv B)) (n : ℕ) (us vs : List Aggregate) → AreUnits us → AreUnits vs → n ≤ length a → n ≤ length b → length g ≡ n
-    → ((s : ℕ) → s < n → low_at g s ≡ count_pairs s (λ i j. low_at a i * low_at b j) / 2 ^ B)
-    → ((s : ℕ) → s < n → high_at g s ≡ min (2 ^ B) (div_ceil (count_pairs s (λ i j. high_at a i * high_at b j)) (2 ^ B)))
+pub two_sums : {B : ℕ} (a b g : List (Iv B)) (n : ℕ) (us vs : List Aggregate) → AreDeclarable us → AreDeclarable vs
+    → n ≤ length a → n ≤ length b → length g ≡ n
+    → IsConvolution n a b g
     → GridEncloses a (total us) → GridEncloses b (total vs) → GridEncloses g (total (us ++ vs))
-two_sums {B} a b g n us vs w z in_a in_b e low high of_a of_b =
+two_sums {B} a b g n us vs w z in_a in_b e conv of_a of_b =
     encloses_same (2 ^ B) (length g) (low_at g) (high_at g) (product (total us) (total vs)) (total (us ++ vs))
     (λ x N. sym (total_append us vs w x N)) (λ N. sym (total_append_all us vs w N))
-    (convolved a b g n (total us) (total vs) (total_proper us w) (total_proper vs z) in_a in_b e low high of_a of_b)
+    (convolution_encloses a b g n (total us) (total vs) (total_proper us w)
+    (total_proper vs z) in_a in_b e conv of_a of_b)
 
-one_more : {B : ℕ} (a b g : List (Iv B)) (n : ℕ) (us : List Aggregate) (u : Aggregate) → AreUnits us → IsUnit u → n ≤ length a → n ≤ length b → length g ≡ n
-    → ((s : ℕ) → s < n → low_at g s ≡ count_pairs s (λ i j. low_at a i * low_at b j) / 2 ^ B)
-    → ((s : ℕ) → s < n → high_at g s ≡ min (2 ^ B) (div_ceil (count_pairs s (λ i j. high_at a i * high_at b j)) (2 ^ B)))
+one_more : {B : ℕ} (a b g : List (Iv B)) (n : ℕ) (us : List Aggregate) (u : Aggregate) → AreDeclarable us
+    → IsDeclarable u → n ≤ length a → n ≤ length b → length g ≡ n
+    → IsConvolution n a b g
     → GridEncloses a (total us) → GridEncloses b (mapped u) → GridEncloses g (total (us ++ u ∷ []))
-one_more {B} a b g n us u w h in_a in_b e low high of_a of_b = two_sums a b g n us (u ∷ []) w (h, tt) in_a in_b e low high of_a (alone b u h of_b)
+one_more {B} a b g n us u w h in_a in_b e conv of_a of_b =
+    two_sums a b g n us (u ∷ []) w (h, tt) in_a in_b e conv of_a (alone b u h of_b)
 
 -- the unit at place i of a list joins those before it
-pub joins : {B : ℕ} (a b g : List (Iv B)) (n i : ℕ) (us vs : List Aggregate) → AreUnits us → AreUnits vs → i < length vs → n ≤ length a → n ≤ length b → length g ≡ n
-    → ((s : ℕ) → s < n → low_at g s ≡ count_pairs s (λ i j. low_at a i * low_at b j) / 2 ^ B)
-    → ((s : ℕ) → s < n → high_at g s ≡ min (2 ^ B) (div_ceil (count_pairs s (λ i j. high_at a i * high_at b j)) (2 ^ B)))
-    → GridEncloses a (total (us ++ take i vs)) → GridEncloses b (unit_of vs i) → GridEncloses g (total (us ++ take (suc i) vs))
-joins {B} a b g n i us vs w z inside in_a in_b e low high of_a of_b =
+pub joins : {B : ℕ} (a b g : List (Iv B)) (n i : ℕ) (us vs : List Aggregate) → AreDeclarable us → AreDeclarable vs
+    → i < length vs → n ≤ length a → n ≤ length b → length g ≡ n
+    → IsConvolution n a b g
+    → GridEncloses a (total (us ++ take i vs)) → GridEncloses b (unit_of vs i)
+    → GridEncloses g (total (us ++ take (suc i) vs))
+joins {B} a b g n i us vs w z inside in_a in_b e conv of_a of_b =
     let r = unit_at vs i inside z in
     subst (λ t. GridEncloses g (total t)) (sym (ap (λ t. us ++ t) r.1 ∙ sym (append_assoc us (take i vs) (r.0 ∷ []))))
-    (one_more a b g n (us ++ take i vs) r.0 (units_joined us (take i vs) w (units_first i vs z)) r.3 in_a in_b e low high of_a
+    (one_more a b g n (us ++ take i vs) r.0 (units_joined us (take i vs) w (units_first i vs z)) r.3 in_a in_b e
+    conv of_a
     (subst (λ F. GridEncloses b F) r.2 of_b))
 
-pub widens : {B : ℕ} (grids : List (List (Iv B))) (k i x y z : ℕ) (b : List (Iv B)) → i < length grids → b ≡ get_or grids i b
+pub widens : {B : ℕ} (grids : List (List (Iv B))) (k i x y z : ℕ) (b : List (Iv B)) → i < length grids
+    → b ≡ get_or grids i b
     → y ≤ cv (2 ^ B) k x (spread b) → x ≤ fold (cv (2 ^ B) k) z (take i (map spread grids))
     → y ≤ fold (cv (2 ^ B) k) z (take (i + 1) (map spread grids))
 widens {B} grids k i x y z b inside is h before =
     let more = fold_more (cv (2 ^ B) k) z (map spread grids) i 0 (rw length-map inside) in
     let here : get_or (map spread grids) i 0 ≡ spread b = get_or-map spread grids i b 0 inside ∙ sym (ap spread is) in
-    rw (more, here) (omega (arith, h, cv_rises (2 ^ B) k k x (fold (cv (2 ^ B) k) z (take i (map spread grids))) (spread b) (spread b) (pow_pos B) (omega arith) before (omega arith)))
+    rw (more, here) (omega (
+      arith,
+      h,
+      cv_rises (2 ^ B) k k x (fold (cv (2 ^ B) k) z (take i (map spread grids)))
+          (spread b) (spread b) (pow_pos B) (omega arith) before (omega arith),
+    ))
 
 -- the grid at a place encloses the unit there
-pub encloses_at : {B : ℕ} (grids : List (List (Iv B))) (us : List Aggregate) (i : ℕ) (g : List (Iv B)) → EncloseEach grids us → i < length grids
+pub encloses_at : {B : ℕ} (grids : List (List (Iv B))) (us : List Aggregate) (i : ℕ) (g : List (Iv B))
+    → EncloseEach grids us → i < length grids
     → g ≡ get_or grids i g → GridEncloses g (unit_of us i)
-encloses_at grids us i g e inside is = subst (λ t. GridEncloses t (unit_of us i)) (get_or_default grids i [] g inside ∙ sym is) (e.each i inside)
+encloses_at grids us i g e inside is = subst (λ t. GridEncloses t (unit_of us i))
+    (get_or_default grids i [] g inside ∙ sym is) (e.each i inside)
 
-pub all_taken : {B : ℕ} (g : List (Iv B)) (i n : ℕ) (us vs : List Aggregate) → i ≡ n → n ≡ length vs → GridEncloses g (total (us ++ take i vs)) → GridEncloses g (total (us ++ vs))
+pub all_taken : {B : ℕ} (g : List (Iv B)) (i n : ℕ) (us vs : List Aggregate) → i ≡ n → n ≡ length vs
+    → GridEncloses g (total (us ++ take i vs)) → GridEncloses g (total (us ++ vs))
 all_taken g i n us vs e h of_g = subst (λ t. GridEncloses g (total (us ++ t))) (take_all i vs (omega arith)) of_g
 
 -- ---- parts of a list of grids
 
-pub long_enough : {B : ℕ} (grids : List (List (Iv B))) (n i : ℕ) (g : List (Iv B)) → i < length grids → g ≡ get_or grids i g → All (λ t. n ≤ length t) grids → n ≤ length g
+pub long_enough : {B : ℕ} (grids : List (List (Iv B))) (n i : ℕ) (g : List (Iv B)) → i < length grids
+    → g ≡ get_or grids i g → All (λ t. n ≤ length t) grids → n ≤ length g
 long_enough grids n i g inside is each = subst (λ t. n ≤ length t) (sym is) (each i g inside)
 
-pub each_first : {B : ℕ} (n : ℕ) (grids : List (List (Iv B))) (us : List Aggregate) → EncloseEach grids us → EncloseEach (take n grids) (take n us)
+pub each_first : {B : ℕ} (n : ℕ) (grids : List (List (Iv B))) (us : List Aggregate) → EncloseEach grids us
+    → EncloseEach (take n grids) (take n us)
 each_first n grids us e = record {
   as_many = omega (arith, e.as_many, length-take n grids, length-take n us);
   each = λ i h. let k : (i < n) × (i < length grids) = omega (arith, h, length-take n grids) in
-      subst₂ (λ g F. GridEncloses g F) (sym (get_or-take n grids i [] k.0)) (sym (unit_first n i us k.0)) (e.each i k.1);
+      subst₂ (λ g F. GridEncloses g F) (sym (get_or-take n grids i [] k.0)) (sym (unit_first n i us k.0))
+      (e.each i k.1);
 }
   where
     unit_first : (n i : ℕ) (us : List Aggregate) → i < n → unit_of (take n us) i ≡ unit_of us i
@@ -122,7 +131,8 @@ each_first n grids us e = record {
     unit_first (suc n) zero (u ∷ us) h = refl
     unit_first (suc n) (suc i) (u ∷ us) h = unit_first n i us (omega arith)
 
-pub each_after : {B : ℕ} (n : ℕ) (grids : List (List (Iv B))) (us : List Aggregate) → EncloseEach grids us → EncloseEach (drop n grids) (drop n us)
+pub each_after : {B : ℕ} (n : ℕ) (grids : List (List (Iv B))) (us : List Aggregate) → EncloseEach grids us
+    → EncloseEach (drop n grids) (drop n us)
 each_after n grids us e = record {
   as_many = omega (arith, e.as_many, length-drop n grids, length-drop n us);
   each = λ i h. let k : n + i < length grids = omega (arith, h, length-drop n grids) in
@@ -134,131 +144,122 @@ each_after n grids us e = record {
     unit_after (suc n) i [] = refl
     unit_after (suc n) i (u ∷ us) = unit_after n i us ∙ ap (λ k. unit_of (u ∷ us) k) (sym (suc-add n i))
 
-pub without_is : (us : List Aggregate) (i : ℕ) → without us i ≡ take i us ++ drop (suc i) us
-without_is [] zero = refl
-without_is [] (suc i) = refl
-without_is (u ∷ us) zero = refl
-without_is (u ∷ us) (suc i) = ap (λ t. u ∷ t) (without_is us i)
-
 -- a part of a list up to its end
 pub to_the_end : {A : Type 0} (n : ℕ) (xs : List A) → take (length xs - n) (drop n xs) ≡ drop n xs
 to_the_end n xs = take_all (length xs - n) (drop n xs) (omega (arith, length-drop n xs))
 
 -- ---- the sum of all units
 
-low_take : {B : ℕ} (cells : List (Iv B)) (n x : ℕ) → x < n → low_at (take n cells) x ≡ low_at cells x
-unfolding low_at
-low_take [] zero x inside = absurd (omega arith)
-low_take [] (suc n) x inside = refl
-low_take (c ∷ cs) zero x inside = absurd (omega arith)
-low_take (c ∷ cs) (suc n) zero inside = refl
-low_take (c ∷ cs) (suc n) (suc x) inside = low_take cs n x (omega arith)
-
-high_take : {B : ℕ} (cells : List (Iv B)) (n x : ℕ) → x < n → high_at (take n cells) x ≡ high_at cells x
-unfolding high_at
-high_take [] zero x inside = absurd (omega arith)
-high_take [] (suc n) x inside = refl
-high_take (c ∷ cs) zero x inside = absurd (omega arith)
-high_take (c ∷ cs) (suc n) zero inside = refl
-high_take (c ∷ cs) (suc n) (suc x) inside = high_take cs n x (omega arith)
-
-pub first_cells : {B : ℕ} (g : List (Iv B)) (n : ℕ) (F : Family) → n ≤ length g → GridEncloses g F → GridEncloses (take n g) F
+pub first_cells : {B : ℕ} (g : List (Iv B)) (n : ℕ) (F : Family) → n ≤ length g → GridEncloses g F
+    → GridEncloses (take n g) F
 first_cells {B} g n F within of_g y inside =
     let e : y < n = omega (arith, inside, length-take n g) in
-    subst₂ (λ l h. Holds (F.cells y) F.all (l over 2 ^ B) (h over 2 ^ B)) (sym (low_take g n y e)) (sym (high_take g n y e)) (of_g y (omega arith))
+    subst₂ (λ l h. Holds (F.cells y) F.all (l over 2 ^ B) (h over 2 ^ B)) (sym (low_take g n y e))
+    (sym (high_take g n y e)) (of_g y (omega arith))
 
-pub all_units : {B : ℕ} (grids rest : List (List (Iv B))) (first sum g : List (Iv B)) (k : ℕ) (us : List Aggregate) → 1 ≤ length grids → rest ≡ drop 1 grids
+pub all_units : {B : ℕ} (grids rest : List (List (Iv B))) (first sum g : List (Iv B)) (k : ℕ) (us : List Aggregate)
+    → 1 ≤ length grids → rest ≡ drop 1 grids
     → first ≡ get_or grids 0 first → k ≤ length first → sum ≡ take k first
-    → ((ws vs : List Aggregate) → AreUnits ws → AreUnits vs → GridEncloses sum (total ws) → EncloseEach rest vs → GridEncloses g (total (ws ++ vs)))
-    → AreUnits us → EncloseEach grids us → GridEncloses g (total us)
+    → ((ws vs : List Aggregate) → AreDeclarable ws → AreDeclarable vs → GridEncloses sum (total ws)
+    → EncloseEach rest vs → GridEncloses g (total (ws ++ vs)))
+    → AreDeclarable us → EncloseEach grids us → GridEncloses g (total us)
 all_units [] rest first sum g k us some split is within of_first further w e = absurd (omega arith)
 all_units (b ∷ bs) rest first sum g k [] some split is within of_first further w e = absurd (omega (arith, e.as_many))
 all_units (b ∷ bs) rest first sum g k (u ∷ us) some split is within of_first further w e =
     further (u ∷ []) us (w.0, tt) w.1
     (subst (λ t. GridEncloses t (total (u ∷ []))) (sym of_first)
-    (alone (take k first) u w.0 (first_cells first k (mapped u) within (subst (λ t. GridEncloses t (mapped u)) (sym is) (e.each 0 (omega arith))))))
+    (alone (take k first) u w.0 (first_cells first k (mapped u) within
+    (subst (λ t. GridEncloses t (mapped u)) (sym is) (e.each 0 (omega arith))))))
     (subst (λ t. EncloseEach t us) (sym split) (each_after 1 (b ∷ bs) (u ∷ us) e))
 
 -- ---- spreads
 
 pub fold_rises : (S k x y : ℕ) (zs : List ℕ) → 0 < S → x ≤ y → fold (cv S k) x zs ≤ fold (cv S k) y zs
 fold_rises S k x y [] pos h = h
-fold_rises S k x y (z ∷ zs) pos h = fold_rises S k (cv S k x z) (cv S k y z) zs pos (cv_rises S k k x y z z pos (omega arith) h (omega arith))
+fold_rises S k x y (z ∷ zs) pos h = fold_rises S k (cv S k x z) (cv S k y z) zs pos
+    (cv_rises S k k x y z z pos (omega arith) h (omega arith))
 
 -- a grid that begins with the first cells of the first grid
-pub all_spread : {B : ℕ} (grids rest : List (List (Iv B))) (first : List (Iv B)) (k x y : ℕ) → 1 ≤ length grids → rest ≡ drop 1 grids → first ≡ get_or grids 0 first
-    → x ≡ spread (take k first) → y ≤ fold (cv (2 ^ B) k) x (map spread rest) → y ≤ sum_spread (2 ^ B) k (map spread grids)
+pub all_spread : {B : ℕ} (grids rest : List (List (Iv B))) (first : List (Iv B)) (k x y : ℕ) → 1 ≤ length grids
+    → rest ≡ drop 1 grids → first ≡ get_or grids 0 first
+    → x ≡ spread (take k first) → y ≤ fold (cv (2 ^ B) k) x (map spread rest)
+    → y ≤ sum_spread (2 ^ B) k (map spread grids)
 all_spread [] rest first k x y some split is e h = absurd (omega arith)
 all_spread {B} (b ∷ bs) rest first k x y some split is e h =
-    omega (arith, h, ap (λ t. fold (cv (2 ^ B) k) x (map spread t)) split, fold_rises (2 ^ B) k x (spread b) (map spread bs) (pow_pos B) (omega (arith, e, ap spread is, sum_by-take-le (λ (cell : Iv B). cell.hi - cell.lo) first k)))
+    omega (
+      arith,
+      h,
+      ap (λ t. fold (cv (2 ^ B) k) x (map spread t)) split,
+      fold_rises (2 ^ B) k x (spread b) (map spread bs) (pow_pos B)
+          (omega (arith, e, ap spread is, sum_by-take-le (λ (cell : Iv B). cell.hi - cell.lo) first k)),
+    )
 
 -- a sum of some units, and further ones
-pub further_spread : (S k x y : ℕ) (zs more : List ℕ) → 0 < S → 1 ≤ length zs → x ≤ sum_spread S k zs → y ≤ fold (cv S k) x more → y ≤ sum_spread S k (zs ++ more)
+pub further_spread : (S k x y : ℕ) (zs more : List ℕ) → 0 < S → 1 ≤ length zs → x ≤ sum_spread S k zs
+    → y ≤ fold (cv S k) x more → y ≤ sum_spread S k (zs ++ more)
 further_spread S k x y [] more pos some h g = absurd (omega arith)
 further_spread S k x y (z ∷ zs) more pos some h g =
     omega (arith, g, fold_rises S k x (fold (cv S k) z zs) more pos h, fold-append (cv S k) z zs more)
 
--- a grid whose cells are numbers
-pub no_spread : {B : ℕ} (cells : List (Iv B)) → ((x : ℕ) → low_at cells x ≡ high_at cells x) → spread cells ≡ 0
-unfolding low_at high_at
-no_spread [] e = refl
-no_spread {B} (c ∷ cs) e = omega (arith, sum_by-cons (λ (cell : Iv B). cell.hi - cell.lo) c cs, e 0, no_spread cs (λ x. e (suc x)))
-
 -- ---- no unit
 
-pub no_units : {B : ℕ} (g : List (Iv B)) → ((x : ℕ) → low_at g x ≡ all_at_zero (2 ^ B) x) → ((x : ℕ) → high_at g x ≡ all_at_zero (2 ^ B) x) → GridEncloses g (total [])
+pub no_units : {B : ℕ} (g : List (Iv B)) → ((x : ℕ) → low_at g x ≡ all_at_zero (2 ^ B) x)
+    → ((x : ℕ) → high_at g x ≡ all_at_zero (2 ^ B) x) → GridEncloses g (total [])
 unfolding sum_over_outcomes all_at_zero
 no_units {B} g low high =
     encloses_same (2 ^ B) (length g) (low_at g) (high_at g) nothing (total []) (λ x N. sym (nowhere x N)) (λ N. refl)
-    (nothing_encloses (2 ^ B) (length g) (low_at g) (high_at g) (pow_pos B) (omega (arith, low 0)) (omega (arith, high 0)) (none low))
+    (nothing_encloses (2 ^ B) (length g) (low_at g) (high_at g) (pow_pos B) (omega (arith, low 0))
+    (omega (arith, high 0)) (none low))
   where
     none : ((x : ℕ) → low_at g x ≡ all_at_zero (2 ^ B) x) → (y : ℕ) → 0 < y → low_at g y ≡ 0
     none e zero h = absurd (omega arith)
     none e (suc y) h = e (suc y)
 
--- what holds of a call's value, by two facts that hold of it
-pub if_ok_two : {T E : Type 0} (r : Result T E) (P Q Z : T → Type 0) → ((x : T) → P x → Q x → Z x) → IfOk r P → IfOk r Q → IfOk r Z
-if_ok_two (Ok x) P Q Z f p q = f x p q
-if_ok_two (Err e) P Q Z f p q = tt
-
 -- ---- the sum of all units but one
 
 -- the units before i and those after it
-pub both_sides : {B : ℕ} (grids before after : List (List (Iv B))) (sum g : List (Iv B)) (i : ℕ) (us : List Aggregate) → before ≡ take i grids → after ≡ drop (suc i) grids
-    → ((vs : List Aggregate) → AreUnits vs → EncloseEach before vs → GridEncloses sum (total vs))
-    → ((ws vs : List Aggregate) → AreUnits ws → AreUnits vs → GridEncloses sum (total ws) → EncloseEach after vs → GridEncloses g (total (ws ++ vs)))
-    → AreUnits us → EncloseEach grids us → GridEncloses g (total (without us i))
+pub both_sides : {B : ℕ} (grids before after : List (List (Iv B))) (sum g : List (Iv B)) (i : ℕ) (us : List Aggregate)
+    → before ≡ take i grids → after ≡ drop (suc i) grids
+    → ((vs : List Aggregate) → AreDeclarable vs → EncloseEach before vs → GridEncloses sum (total vs))
+    → ((ws vs : List Aggregate) → AreDeclarable ws → AreDeclarable vs → GridEncloses sum (total ws)
+    → EncloseEach after vs → GridEncloses g (total (ws ++ vs)))
+    → AreDeclarable us → EncloseEach grids us → GridEncloses g (total (without us i))
 both_sides grids before after sum g i us cut rest first further w e =
     let front = units_first i us w in
-    subst (λ t. GridEncloses g (total t)) (sym (without_is us i))
+    subst (λ t. GridEncloses g (total t)) (sym (without_suc us i))
     (further (take i us) (drop (suc i) us) front (units_after (suc i) us w)
     (first (take i us) front (subst (λ t. EncloseEach t (take i us)) (sym cut) (each_first i grids us e)))
     (subst (λ t. EncloseEach t (drop (suc i) us)) (sym rest) (each_after (suc i) grids us e)))
 
 -- no unit before i
-pub after_alone : {B : ℕ} (grids after : List (List (Iv B))) (g : List (Iv B)) (i : ℕ) (us : List Aggregate) → i ≡ 0 → after ≡ drop (suc i) grids
-    → ((vs : List Aggregate) → AreUnits vs → EncloseEach after vs → GridEncloses g (total vs)) → AreUnits us → EncloseEach grids us → GridEncloses g (total (without us i))
+pub after_alone : {B : ℕ} (grids after : List (List (Iv B))) (g : List (Iv B)) (i : ℕ) (us : List Aggregate) → i ≡ 0
+    → after ≡ drop (suc i) grids
+    → ((vs : List Aggregate) → AreDeclarable vs → EncloseEach after vs → GridEncloses g (total vs)) → AreDeclarable us
+    → EncloseEach grids us → GridEncloses g (total (without us i))
 after_alone grids after g i us none rest all w e =
-    subst (λ t. GridEncloses g (total t)) (sym (without_is us i ∙ ap (λ k. take k us ++ drop (suc i) us) none))
-    (all (drop (suc i) us) (units_after (suc i) us w) (subst (λ t. EncloseEach t (drop (suc i) us)) (sym rest) (each_after (suc i) grids us e)))
+    subst (λ t. GridEncloses g (total t)) (sym (without_suc us i ∙ ap (λ k. take k us ++ drop (suc i) us) none))
+    (all (drop (suc i) us) (units_after (suc i) us w)
+    (subst (λ t. EncloseEach t (drop (suc i) us)) (sym rest) (each_after (suc i) grids us e)))
 
 -- no other unit
-pub alone_left : {B : ℕ} (grids : List (List (Iv B))) (g : List (Iv B)) (i : ℕ) (us : List Aggregate) → i ≡ 0 → length grids ≤ 1
+pub alone_left : {B : ℕ} (grids : List (List (Iv B))) (g : List (Iv B)) (i : ℕ) (us : List Aggregate) → i ≡ 0
+    → length grids ≤ 1
     → GridEncloses g (total []) → EncloseEach grids us → GridEncloses g (total (without us i))
 alone_left grids g i us none few of_g e =
-    subst (λ t. GridEncloses g (total t)) (sym (without_is us i ∙ ap (λ k. take k us ++ drop (suc i) us) none ∙ drop_all (suc i) us (omega (arith, e.as_many)))) of_g
+    subst (λ t. GridEncloses g (total t)) (sym (without_suc us i ∙ ap (λ k. take k us ++ drop (suc i) us) none
+    ∙ drop_all (suc i) us (omega (arith, e.as_many)))) of_g
 
-pub both_spreads : {B : ℕ} (grids before after : List (List (Iv B))) (k i x y : ℕ) → before ≡ take i grids → after ≡ drop (suc i) grids → 1 ≤ length before
-    → x ≤ sum_spread (2 ^ B) k (map spread before) → y ≤ fold (cv (2 ^ B) k) x (map spread after) → y ≤ sum_spread (2 ^ B) k (map spread (remove grids i))
+pub both_spreads : {B : ℕ} (grids before after : List (List (Iv B))) (k i x y : ℕ) → before ≡ take i grids
+    → after ≡ drop (suc i) grids → 1 ≤ length before
+    → x ≤ sum_spread (2 ^ B) k (map spread before) → y ≤ fold (cv (2 ^ B) k) x (map spread after)
+    → y ≤ sum_spread (2 ^ B) k (map spread (remove grids i))
 both_spreads {B} grids before after k i x y cut rest some h g =
     subst (λ t. y ≤ sum_spread (2 ^ B) k (map spread t)) (ap₂ (λ s t. s ++ t) cut rest)
     (subst (λ t. y ≤ sum_spread (2 ^ B) k t) (sym (map-append spread before after))
     (further_spread (2 ^ B) k x y (map spread before) (map spread after) (pow_pos B) (rw length-map some) h g))
 
--- the rest of a list after i
-pub from_there : {A : Type 0} (i : ℕ) (xs : List A) → take (length xs - (i + 1)) (drop (i + 1) xs) ≡ drop (suc i) xs
-from_there i xs = to_the_end (i + 1) xs ∙ ap (λ k. drop k xs) (add-one i)
-
 -- the rest of a list of grids after i, as a slice reads it
-pub all_within : {B : ℕ} (k : ℕ) (grids : List (List (Iv B))) (i : ℕ) → All (λ t. k ≤ length t) grids → All (λ t. k ≤ length t) (take (length grids - i) (drop i grids))
-all_within k grids i each = All-take (λ t. k ≤ length t) (length grids - i) (drop i grids) (All-drop (λ t. k ≤ length t) i grids each)
+pub all_within : {B : ℕ} (k : ℕ) (grids : List (List (Iv B))) (i : ℕ) → All (λ t. k ≤ length t) grids
+    → All (λ t. k ≤ length t) (take (length grids - i) (drop i grids))
+all_within k grids i each = All-take (λ t. k ≤ length t) (length grids - i) (drop i grids)
+    (All-drop (λ t. k ≤ length t) i grids each)

@@ -1,7 +1,6 @@
 -- Sums of the first units and of the last, and what they add up to.
 use Rattle.std.proofs.Common.{ℕ, zero, suc, ◌≡◌, ◌+◌, ◌-◌, ◌*◌, ◌/◌, ◌^◌, ◌<◌, ◌≤◌, List, [], ◌∷◌, ◌++◌, length, get_or, take, drop, map, inl, inr, arith, refl, sym, ap, ap₂, subst, subst₂, ◌∙◌, add-one}
-use Rattle.std.specs.Prelude.{min, Bool, true, false, IsTrue, Any, Option, Some, None, IfSome, MatchOption, Result, Ok, Err, IfOk}
-use Rattle.std.specs.Int.{div_ceil}
+use Rattle.std.specs.Prelude.{Bool, true, false, IsTrue, Any, Option, Some, None, IfSome, MatchOption}
 use Rattle.std.specs.Option.{option_to_list}
 use Rattle.std.specs.List.{fold, remove, slice_get}
 use Rattle.std.proofs.lemmas.List.Sums.{fold_more, sum_by-take-le}
@@ -11,20 +10,16 @@ use Rattle.std.proofs.lemmas.Option.{slice_get-get_or}
 use Rattle.std.proofs.lemmas.Bool.{cases_lt}
 use Rattle.std.proofs.Math.Seq.{get_or-append_seam}
 use Rattle.dl_iv.specs.declared.interval.Iv.{Iv}
-use Rattle.dl_model.specs.Program.{Aggregate, IsUnit, AreUnits}
+use Rattle.dl_model.specs.Program.{Aggregate, IsDeclarable, AreDeclarable}
 use Rattle.dl_model.specs.Family.{mapped, total, GridEncloses}
 use Rattle.dl_model.specs.Measures.{unit_of}
+use Rattle.dl_grid.specs.Convolution.{IsConvolution}
 use Rattle.dl_grid.specs.Cells.{low_at, high_at, spread}
-use Rattle.dl_exact.specs.Count.{count_pairs}
 use Rattle.dl_grid.specs.Width.{cv, sum_spread}
 use Rattle.dl_grid.proofs.WidthLaws.{cv_rises}
+use Rattle.dl_model.proofs.Without.{without_suc}
 use Rattle.dl_port.specs.Shared.{EnclosesSum, IsSumOfPart, IsTotal, IsSumWithout, AreSumsOfEnds}
-use Rattle.dl_port.proofs.Added.{first_cells, units_first, units_after, unit_at, without_is, alone, joins, encloses_at}
-
--- what holds of a call's value, by three facts that hold of it
-pub if_ok_three : {T E : Type 0} (r : Result T E) (P Q R Z : T → Type 0) → ((x : T) → P x → Q x → R x → Z x) → IfOk r P → IfOk r Q → IfOk r R → IfOk r Z
-if_ok_three (Ok x) P Q R Z f p q r = f x p q r
-if_ok_three (Err e) P Q R Z f p q r = tt
+use Rattle.dl_port.proofs.Added.{first_cells, units_first, units_after, unit_at, alone, joins, encloses_at}
 
 append_none : {A : Type 0} (xs : List A) → xs ++ [] ≡ xs
 append_none [] = refl
@@ -32,28 +27,40 @@ append_none {A} (x ∷ xs) = ap (λ (t : List A). x ∷ t) (append_none xs)
 
 -- ---- one of the two sums has no units
 
-pub alone_before : {B : ℕ} (a g : List (Iv B)) (n : ℕ) (before after : Option (List (Iv B))) (us vs : List Aggregate) → before ≡ Some a → after ≡ None
-    → IfSome before (λ t. n ≤ length t) → g ≡ take n a → EnclosesSum before us → EnclosesSum after vs → GridEncloses g (total (us ++ vs))
+pub alone_before : {B : ℕ} (a g : List (Iv B)) (n : ℕ) (before after : Option (List (Iv B))) (us vs : List Aggregate)
+    → before ≡ Some a → after ≡ None
+    → IfSome before (λ t. n ≤ length t) → g ≡ take n a → EnclosesSum before us → EnclosesSum after vs
+    → GridEncloses g (total (us ++ vs))
 alone_before a g n before after us vs e h within is of_us of_vs =
-    subst₂ (λ s t. GridEncloses s (total t)) (sym is) (sym (ap (λ t. us ++ t) (subst (λ t. EnclosesSum t vs) h of_vs) ∙ append_none us))
-    (first_cells a n (total us) (subst (λ t. IfSome t (λ t. n ≤ length t)) e within) (subst (λ t. EnclosesSum t us) e of_us))
+    subst₂ (λ s t. GridEncloses s (total t)) (sym is)
+    (sym (ap (λ t. us ++ t) (subst (λ t. EnclosesSum t vs) h of_vs) ∙ append_none us))
+    (first_cells a n (total us) (subst (λ t. IfSome t (λ t. n ≤ length t)) e within)
+    (subst (λ t. EnclosesSum t us) e of_us))
 
-pub alone_after : {B : ℕ} (b g : List (Iv B)) (n : ℕ) (before after : Option (List (Iv B))) (us vs : List Aggregate) → before ≡ None → after ≡ Some b
-    → IfSome after (λ t. n ≤ length t) → g ≡ take n b → EnclosesSum before us → EnclosesSum after vs → GridEncloses g (total (us ++ vs))
+pub alone_after : {B : ℕ} (b g : List (Iv B)) (n : ℕ) (before after : Option (List (Iv B))) (us vs : List Aggregate)
+    → before ≡ None → after ≡ Some b
+    → IfSome after (λ t. n ≤ length t) → g ≡ take n b → EnclosesSum before us → EnclosesSum after vs
+    → GridEncloses g (total (us ++ vs))
 alone_after b g n before after us vs e h within is of_us of_vs =
     subst₂ (λ s t. GridEncloses s (total t)) (sym is) (sym (ap (λ t. t ++ vs) (subst (λ t. EnclosesSum t us) e of_us)))
-    (first_cells b n (total vs) (subst (λ t. IfSome t (λ t. n ≤ length t)) h within) (subst (λ t. EnclosesSum t vs) h of_vs))
+    (first_cells b n (total vs) (subst (λ t. IfSome t (λ t. n ≤ length t)) h within)
+    (subst (λ t. EnclosesSum t vs) h of_vs))
 
-pub none_at_all : {B : ℕ} (g : List (Iv B)) (before after : Option (List (Iv B))) (us vs : List Aggregate) → before ≡ None → after ≡ None
+pub none_at_all : {B : ℕ} (g : List (Iv B)) (before after : Option (List (Iv B))) (us vs : List Aggregate)
+    → before ≡ None → after ≡ None
     → GridEncloses g (total []) → EnclosesSum before us → EnclosesSum after vs → GridEncloses g (total (us ++ vs))
 none_at_all g before after us vs e h of_none of_us of_vs =
-    subst (λ t. GridEncloses g (total t)) (sym (ap₂ (λ s t. s ++ t) (subst (λ t. EnclosesSum t us) e of_us) (subst (λ t. EnclosesSum t vs) h of_vs))) of_none
+    subst (λ t. GridEncloses g (total t))
+    (sym (ap₂ (λ s t. s ++ t) (subst (λ t. EnclosesSum t us) e of_us) (subst (λ t. EnclosesSum t vs) h of_vs)))
+    of_none
 
 -- ---- the spread that a sum may have
 
 -- the grid at place i is taken in
-pub one_wider : {B : ℕ} (grids : List (List (Iv B))) (k i x y z : ℕ) (b : List (Iv B)) → i < length grids → b ≡ get_or grids i b
-    → y ≡ cv (2 ^ B) k x (spread b) → x ≡ fold (cv (2 ^ B) k) z (take i (map spread grids)) → y ≡ fold (cv (2 ^ B) k) z (take (i + 1) (map spread grids))
+pub one_wider : {B : ℕ} (grids : List (List (Iv B))) (k i x y z : ℕ) (b : List (Iv B)) → i < length grids
+    → b ≡ get_or grids i b
+    → y ≡ cv (2 ^ B) k x (spread b) → x ≡ fold (cv (2 ^ B) k) z (take i (map spread grids))
+    → y ≡ fold (cv (2 ^ B) k) z (take (i + 1) (map spread grids))
 one_wider {B} grids k i x y z b inside is h before =
     let more = fold_more (cv (2 ^ B) k) z (map spread grids) i 0 (rw length-map inside) in
     let here : get_or (map spread grids) i 0 ≡ spread b = get_or-map spread grids i b 0 inside ∙ sym (ap spread is) in
@@ -61,36 +68,44 @@ one_wider {B} grids k i x y z b inside is h before =
 
 -- ---- the sums of the last units
 
-unit_from : (us : List Aggregate) (i : ℕ) → i < length us → AreUnits us → (u : Aggregate) × (drop i us ≡ u ∷ drop (suc i) us) × (unit_of us i ≡ mapped u) × IsUnit u
+unit_from : (us : List Aggregate) (i : ℕ) → i < length us → AreDeclarable us
+    → (u : Aggregate) × (drop i us ≡ u ∷ drop (suc i) us) × (unit_of us i ≡ mapped u) × IsDeclarable u
 unit_from [] i h w = absurd (omega arith)
 unit_from (u ∷ us) zero h w = (u, refl, refl, w.0)
 unit_from (u ∷ us) (suc i) h w = let r = unit_from us i (omega arith) w.1 in (r.0, r.1, r.2, r.3)
 
 -- the unit at place i joins those after it
-pub from_unit : {B : ℕ} (k : ℕ) (grids : List (List (Iv B))) (i : ℕ) (b sum : List (Iv B)) (after : Option (List (Iv B))) → i < length grids → b ≡ get_or grids i b
+pub from_unit : {B : ℕ} (k : ℕ) (grids : List (List (Iv B))) (i : ℕ) (b sum : List (Iv B))
+    (after : Option (List (Iv B))) → i < length grids → b ≡ get_or grids i b
     → IsSumOfPart k grids (drop (suc i)) after → length sum ≡ k
-    → ((us vs : List Aggregate) → AreUnits us → AreUnits vs → EnclosesSum (Some b) us → EnclosesSum after vs → GridEncloses sum (total (us ++ vs)))
+    → ((us vs : List Aggregate) → AreDeclarable us → AreDeclarable vs → EnclosesSum (Some b) us → EnclosesSum after vs
+    → GridEncloses sum (total (us ++ vs)))
     → IsSumOfPart k grids (drop i) (Some sum)
 from_unit k grids i b sum after inside is rest cells both = record {
   cells = cells;
   encloses = λ us w e. let r = unit_from us i (omega (arith, e.as_many)) w in
       subst (λ t. GridEncloses sum (total t)) (sym r.1)
       (both (r.0 ∷ []) (drop (suc i) us) (r.3, tt) (units_after (suc i) us w)
-      (alone b r.0 r.3 (subst (λ F. GridEncloses b F) r.2 (encloses_at grids us i b e inside is))) (rest.encloses us w e));
+      (alone b r.0 r.3 (subst (λ F. GridEncloses b F) r.2 (encloses_at grids us i b e inside is)))
+      (rest.encloses us w e));
 }
 
 -- the last of these sums; there is none before the first is made
-pub last_end : {B : ℕ} (k i : ℕ) (grids ends : List (List (Iv B))) → length ends + i ≡ length grids → AreSumsOfEnds k grids ends
+pub last_end : {B : ℕ} (k i : ℕ) (grids ends : List (List (Iv B))) → length ends + i ≡ length grids
+    → AreSumsOfEnds k grids ends
     → IsSumOfPart k grids (drop i) (slice_get ends (length ends - 1))
 last_end k i grids [] e each = record { cells = tt; encloses = λ us w h. drop_all i us (omega (arith, e, h.as_many)) }
 last_end {B} k i grids (b ∷ bs) e each =
     let n = length (b ∷ bs) - 1 in
-    subst₂ (λ m (s : Option (List (Iv B))). IsSumOfPart k grids (drop m) s) (omega (arith, e)) (sym (slice_get-get_or (b ∷ bs) n [] (omega arith))) (each n (omega arith))
+    subst₂ (λ m (s : Option (List (Iv B))). IsSumOfPart k grids (drop m) s) (omega (arith, e))
+    (sym (slice_get-get_or (b ∷ bs) n [] (omega arith))) (each n (omega arith))
 
-pub one_more_end : {B : ℕ} (k i : ℕ) (grids ends : List (List (Iv B))) (sum : List (Iv B)) → length ends + suc i ≡ length grids → AreSumsOfEnds k grids ends
+pub one_more_end : {B : ℕ} (k i : ℕ) (grids ends : List (List (Iv B))) (sum : List (Iv B))
+    → length ends + suc i ≡ length grids → AreSumsOfEnds k grids ends
     → IsSumOfPart k grids (drop i) (Some sum) → AreSumsOfEnds k grids (ends ++ sum ∷ [])
 one_more_end {B} k i grids ends sum e each new j h = elim (cases_lt j (length ends)) [
-  | inl before ↦ subst (λ (t : List (Iv B)). IsSumOfPart k grids (drop (length grids - suc j)) (Some t)) (sym (get_or_append_left ends (sum ∷ []) [] j before)) (each j before)
+  | inl before ↦ subst (λ (t : List (Iv B)). IsSumOfPart k grids (drop (length grids - suc j)) (Some t))
+      (sym (get_or_append_left ends (sum ∷ []) [] j before)) (each j before)
   | inr after ↦
       let last : j ≡ length ends = omega (arith, h, length-append ends (sum ∷ [])) in
       subst₂ (λ m (t : List (Iv B)). IsSumOfPart k grids (drop m) (Some t)) (omega (arith, e, last))
@@ -99,34 +114,44 @@ one_more_end {B} k i grids ends sum e each new j h = elim (cases_lt j (length en
 
 -- ---- the sum of all units but one
 
-pub both_parts : {B : ℕ} (k i : ℕ) (grids : List (List (Iv B))) (before after : Option (List (Iv B))) (sum : List (Iv B)) → IsSumOfPart k grids (take i) before
+pub both_parts : {B : ℕ} (k i : ℕ) (grids : List (List (Iv B))) (before after : Option (List (Iv B)))
+    (sum : List (Iv B)) → IsSumOfPart k grids (take i) before
     → IsSumOfPart k grids (drop (suc i)) after → length sum ≡ k
-    → ((us vs : List Aggregate) → AreUnits us → AreUnits vs → EnclosesSum before us → EnclosesSum after vs → GridEncloses sum (total (us ++ vs)))
+    → ((us vs : List Aggregate) → AreDeclarable us → AreDeclarable vs → EnclosesSum before us → EnclosesSum after vs
+    → GridEncloses sum (total (us ++ vs)))
     → spread sum ≤ sum_spread (2 ^ B) k (map spread (remove grids i)) → IsSumWithout k grids i sum
 both_parts k i grids before after sum first last cells both narrow = record {
   cells = cells;
-  encloses = λ us w e. subst (λ t. GridEncloses sum (total t)) (sym (without_is us i))
-      (both (take i us) (drop (suc i) us) (units_first i us w) (units_after (suc i) us w) (first.encloses us w e) (last.encloses us w e));
+  encloses = λ us w e. subst (λ t. GridEncloses sum (total t)) (sym (without_suc us i))
+      (both (take i us) (drop (suc i) us) (units_first i us w) (units_after (suc i) us w) (first.encloses us w e)
+      (last.encloses us w e));
   narrow = narrow;
 }
 
 -- the sum of the last units leaves their list; of all that is left, each is the sum of fewer
 module _ {B : ℕ} (k i : ℕ) (grids old new : List (List (Iv B))) where
-  pub popped : (m n : ℕ) (top : Option (List (Iv B))) → m ≡ length old → MatchOption top ((m ≡ 0) × (n ≡ 0)) (λ _. n + 1 ≡ m) → old ≡ new ++ option_to_list top
-      → length old ≡ length grids - suc i → i < length grids → AreSumsOfEnds k grids old → IsSumOfPart k grids (drop (suc i)) top
-  popped m n None many cases e left inside each = record { cells = tt; encloses = λ us w h. drop_all (suc i) us (omega (arith, h.as_many, cases.0, many, left)) }
+  pub popped : (m n : ℕ) (top : Option (List (Iv B))) → m ≡ length old
+      → MatchOption top ((m ≡ 0) × (n ≡ 0)) (λ _. n + 1 ≡ m) → old ≡ new ++ option_to_list top
+      → length old ≡ length grids - suc i → i < length grids → AreSumsOfEnds k grids old
+      → IsSumOfPart k grids (drop (suc i)) top
+  popped m n None many cases e left inside each =
+      record { cells = tt; encloses = λ us w h. drop_all (suc i) us (omega (arith, h.as_many, cases.0, many, left)) }
   popped m n (Some sum) many cases e left inside each =
       let longer : length old ≡ length new + 1 = omega (arith, ap length e, length-append new (sum ∷ [])) in
       let place : length grids - suc (length new) ≡ suc i = omega (arith, longer, left) in
-      let last : get_or old (length new) [] ≡ sum = ap (λ (t : List (List (Iv B))). get_or t (length new) []) e ∙ get_or-append_seam new sum [] [] in
-      subst₂ (λ m (t : List (Iv B)). IsSumOfPart k grids (drop m) (Some t)) place last (each (length new) (omega (arith, longer)))
+      let last : get_or old (length new) [] ≡ sum = ap (λ (t : List (List (Iv B))). get_or t (length new) []) e
+      ∙ get_or-append_seam new sum [] [] in
+      subst₂ (λ m (t : List (Iv B)). IsSumOfPart k grids (drop m) (Some t)) place last
+      (each (length new) (omega (arith, longer)))
 
-  pub popped_length : (m n : ℕ) (top : Option (List (Iv B))) → m ≡ length old → MatchOption top ((m ≡ 0) × (n ≡ 0)) (λ _. n + 1 ≡ m) → old ≡ new ++ option_to_list top
+  pub popped_length : (m n : ℕ) (top : Option (List (Iv B))) → m ≡ length old
+      → MatchOption top ((m ≡ 0) × (n ≡ 0)) (λ _. n + 1 ≡ m) → old ≡ new ++ option_to_list top
       → length old ≡ length grids - suc i → length new ≡ length grids - suc (i + 1)
   popped_length m n None many cases e left = omega (arith, ap length e, length-append new [], many, cases.0, left)
   popped_length m n (Some sum) many cases e left = omega (arith, ap length e, length-append new (sum ∷ []), left)
 
-  pub popped_rest : (more : List (List (Iv B))) → old ≡ new ++ more → AreSumsOfEnds k grids old → AreSumsOfEnds k grids new
+  pub popped_rest : (more : List (List (Iv B))) → old ≡ new ++ more → AreSumsOfEnds k grids old
+      → AreSumsOfEnds k grids new
   popped_rest more e each j h =
       subst (λ (t : List (Iv B)). IsSumOfPart k grids (drop (length grids - suc j)) (Some t))
       (ap (λ (t : List (List (Iv B))). get_or t j []) e ∙ get_or_append_left new more [] j h)
@@ -137,62 +162,84 @@ module _ {B : ℕ} (k i : ℕ) (grids old new : List (List (Iv B))) where
 pub no_first : {B : ℕ} (k : ℕ) (grids : List (List (Iv B))) → IsSumOfPart k grids (take 0) None
 no_first k grids = record { cells = tt; encloses = λ us w e. refl }
 
-pub first_taken : {B : ℕ} (k : ℕ) (grids : List (List (Iv B))) (first sum : List (Iv B)) → 1 ≤ length grids → first ≡ get_or grids 0 first → k ≤ length first → sum ≡ take k first
+pub first_taken : {B : ℕ} (k : ℕ) (grids : List (List (Iv B))) (first sum : List (Iv B)) → 1 ≤ length grids
+    → first ≡ get_or grids 0 first → k ≤ length first → sum ≡ take k first
     → IsSumOfPart k grids (take 1) (Some sum)
 first_taken {B} k grids first sum some is long e = record {
   cells = omega (arith, ap length e, length-take k first);
   encloses = λ us w each. let r = unit_at us 0 (omega (arith, each.as_many)) w in
       subst₂ (λ (s : List (Iv B)) t. GridEncloses s (total t)) (sym e) (sym r.1)
-      (alone (take k first) r.0 r.3 (first_cells first k (mapped r.0) long (subst (λ F. GridEncloses first F) r.2 (encloses_at grids us 0 first each some is))));
+      (alone (take k first) r.0 r.3 (first_cells first k (mapped r.0) long
+      (subst (λ F. GridEncloses first F) r.2 (encloses_at grids us 0 first each some is))));
 }
 
-pub next_taken : {B : ℕ} (k i : ℕ) (grids : List (List (Iv B))) (a b g : List (Iv B)) → IsSumOfPart k grids (take i) (Some a) → i < length grids → b ≡ get_or grids i b
-    → k ≤ length b → length g ≡ k → ((s : ℕ) → s < k → low_at g s ≡ count_pairs s (λ i j. low_at a i * low_at b j) / 2 ^ B)
-    → ((s : ℕ) → s < k → high_at g s ≡ min (2 ^ B) (div_ceil (count_pairs s (λ i j. high_at a i * high_at b j)) (2 ^ B))) → IsSumOfPart k grids (take (i + 1)) (Some g)
-next_taken {B} k i grids a b g part inside is long cells low high = record {
+pub next_taken : {B : ℕ} (k i : ℕ) (grids : List (List (Iv B))) (a b g : List (Iv B))
+    → IsSumOfPart k grids (take i) (Some a) → i < length grids → b ≡ get_or grids i b
+    → k ≤ length b → length g ≡ k → IsConvolution k a b g
+    → IsSumOfPart k grids (take (i + 1)) (Some g)
+next_taken {B} k i grids a b g part inside is long cells conv = record {
   cells = cells;
   encloses = λ us w each. subst (λ n. GridEncloses g (total (take n us))) (sym (add-one i))
-      (joins a b g k i [] us tt w (omega (arith, each.as_many)) (omega (arith, part.cells)) long cells low high (part.encloses us w each) (encloses_at grids us i b each inside is));
+      (joins a b g k i [] us tt w (omega (arith, each.as_many)) (omega (arith, part.cells)) long cells conv
+      (part.encloses us w each) (encloses_at grids us i b each inside is));
 }
 
-sum_more : (S k : ℕ) (zs : List ℕ) (i d : ℕ) → 1 ≤ i → i < length zs → sum_spread S k (take (i + 1) zs) ≡ cv S k (sum_spread S k (take i zs)) (get_or zs i d)
+sum_more : (S k : ℕ) (zs : List ℕ) (i d : ℕ) → 1 ≤ i → i < length zs
+    → sum_spread S k (take (i + 1) zs) ≡ cv S k (sum_spread S k (take i zs)) (get_or zs i d)
 sum_more S k [] i d some inside = absurd (omega arith)
 sum_more S k (z ∷ zs) zero d some inside = absurd (omega arith)
 sum_more S k (z ∷ zs) (suc i) d some inside =
-    ap (λ n. sum_spread S k (take n (z ∷ zs))) (add-one (suc i)) ∙ ap (λ n. fold (cv S k) z (take n zs)) (sym (add-one i)) ∙ fold_more (cv S k) z zs i d (omega arith)
+    ap (λ n. sum_spread S k (take n (z ∷ zs))) (add-one (suc i))
+    ∙ ap (λ n. fold (cv S k) z (take n zs)) (sym (add-one i)) ∙ fold_more (cv S k) z zs i d (omega arith)
 
-pub first_narrow : {B : ℕ} (k : ℕ) (grids : List (List (Iv B))) (first sum : List (Iv B)) → 1 ≤ length grids → first ≡ get_or grids 0 first → sum ≡ take k first
+pub first_narrow : {B : ℕ} (k : ℕ) (grids : List (List (Iv B))) (first sum : List (Iv B)) → 1 ≤ length grids
+    → first ≡ get_or grids 0 first → sum ≡ take k first
     → spread sum ≤ sum_spread (2 ^ B) k (take 1 (map spread grids))
 first_narrow k [] first sum some is e = absurd (omega arith)
-first_narrow {B} k (b ∷ bs) first sum some is e = omega (arith, ap spread e, ap spread is, sum_by-take-le (λ (cell : Iv B). cell.hi - cell.lo) first k)
+first_narrow {B} k (b ∷ bs) first sum some is e =
+    omega (arith, ap spread e, ap spread is, sum_by-take-le (λ (cell : Iv B). cell.hi - cell.lo) first k)
 
-pub next_narrow : {B : ℕ} (k i x y : ℕ) (grids : List (List (Iv B))) (b : List (Iv B)) → 1 ≤ i → i < length grids → b ≡ get_or grids i b → y ≤ cv (2 ^ B) k x (spread b)
+pub next_narrow : {B : ℕ} (k i x y : ℕ) (grids : List (List (Iv B))) (b : List (Iv B)) → 1 ≤ i → i < length grids
+    → b ≡ get_or grids i b → y ≤ cv (2 ^ B) k x (spread b)
     → x ≤ sum_spread (2 ^ B) k (take i (map spread grids)) → y ≤ sum_spread (2 ^ B) k (take (i + 1) (map spread grids))
 next_narrow {B} k i x y grids b some inside is h before =
     let more = sum_more (2 ^ B) k (map spread grids) i 0 some (rw length-map inside) in
     let here : get_or (map spread grids) i 0 ≡ spread b = get_or-map spread grids i b 0 inside ∙ sym (ap spread is) in
-    rw (more, here) (omega (arith, h, cv_rises (2 ^ B) k k x (sum_spread (2 ^ B) k (take i (map spread grids))) (spread b) (spread b) (pow_pos B) (omega arith) before (omega arith)))
+    rw (more, here) (omega (
+      arith,
+      h,
+      cv_rises (2 ^ B) k k x (sum_spread (2 ^ B) k (take i (map spread grids)))
+          (spread b) (spread b) (pow_pos B) (omega arith) before (omega arith),
+    ))
 
-pub all_of_them : {B : ℕ} (k i : ℕ) (grids : List (List (Iv B))) (sum : List (Iv B)) → i ≡ length grids → IsSumOfPart k grids (take i) (Some sum)
+pub all_of_them : {B : ℕ} (k i : ℕ) (grids : List (List (Iv B))) (sum : List (Iv B)) → i ≡ length grids
+    → IsSumOfPart k grids (take i) (Some sum)
     → spread sum ≤ sum_spread (2 ^ B) k (take i (map spread grids)) → IsTotal k grids sum
 all_of_them {B} k i grids sum all part narrow = record {
   cells = part.cells;
-  encloses = λ us w e. subst (λ t. GridEncloses sum (total t)) (take_all i us (omega (arith, all, e.as_many))) (part.encloses us w e);
-  narrow = subst (λ t. spread sum ≤ sum_spread (2 ^ B) k t) (take_all i (map spread grids) (rw length-map (omega (arith, all)))) narrow;
+  encloses = λ us w e. subst (λ t. GridEncloses sum (total t)) (take_all i us (omega (arith, all, e.as_many)))
+      (part.encloses us w e);
+  narrow = subst (λ t. spread sum ≤ sum_spread (2 ^ B) k t)
+      (take_all i (map spread grids) (rw length-map (omega (arith, all)))) narrow;
 }
 
 -- ---- which units are asked for
 
-pub some_asked : (asked : List Bool) (i : ℕ) → i < length asked → IsTrue (get_or asked i false) → Any (λ a. IsTrue a) asked
+pub some_asked : (asked : List Bool) (i : ℕ) → i < length asked → IsTrue (get_or asked i false)
+    → Any (λ a. IsTrue a) asked
 some_asked asked i inside h = (i, true, inside, get_or_default asked i true false inside ∙ h, refl)
 
 -- what holds of each of a list's items, and of one more
-pub one_more_holds : {A : Type 0} (P : ℕ → Option A → Type 0) (xs ys : List (Option A)) (x : Option A) (i : ℕ) → ys ≡ xs ++ x ∷ [] → length xs ≡ i
+pub one_more_holds : {A : Type 0} (P : ℕ → Option A → Type 0) (xs ys : List (Option A)) (x : Option A) (i : ℕ)
+    → ys ≡ xs ++ x ∷ [] → length xs ≡ i
     → ((j : ℕ) → j < i → P j (get_or xs j None)) → P i x → (j : ℕ) → j < i + 1 → P j (get_or ys j None)
 one_more_holds {A} P xs ys x i e many before here j h = elim (cases_lt j i) [
-  | inl less ↦ subst (λ (t : Option A). P j t) (sym (ap (λ (t : List (Option A)). get_or t j None) e ∙ get_or_append_left xs (x ∷ []) None j (omega (arith, many, less)))) (before j less)
+  | inl less ↦ subst (λ (t : Option A). P j t)
+      (sym (ap (λ (t : List (Option A)). get_or t j None) e
+      ∙ get_or_append_left xs (x ∷ []) None j (omega (arith, many, less)))) (before j less)
   | inr last ↦
       let same : i ≡ j = omega (arith, h, last) in
       subst₂ (λ n (t : Option A). P n t) same
-      (sym (ap₂ (λ (t : List (Option A)) n. get_or t n None) e (sym (many ∙ same)) ∙ get_or-append_seam xs x [] None)) here
+      (sym (ap₂ (λ (t : List (Option A)) n. get_or t n None) e (sym (many ∙ same)) ∙ get_or-append_seam xs x [] None))
+      here
 ]

@@ -3,28 +3,34 @@ use Rattle.std.specs.Prelude.{ℕ, suc, ◌≡◌, ◌+◌, ◌-◌, ◌^◌, �
 use Rattle.std.specs.List.{remove}
 use Rattle.dl_iv.specs.declared.interval.Iv.{Iv}
 use Rattle.dl_grid.specs.Cells.{spread}
-use Rattle.dl_model.specs.Program.{Aggregate, AreUnits}
+use Rattle.dl_model.specs.Program.{Aggregate, AreDeclarable}
 use Rattle.dl_model.specs.Family.{total, GridEncloses}
 use Rattle.dl_model.specs.Measures.{without}
 use Rattle.dl_grid.specs.Width.{sum_spread}
 use Rattle.dl_port.specs.Sums.{EncloseEach}
 
--- k cells that enclose the sum of all units, as narrow as where the units are taken in one by one, in order
+-- k cells that enclose the sum of all units, as narrow as where the units are taken in one by one,
+-- in order
 pub record IsTotal {B : ℕ} (k : ℕ) (grids : List (List (Iv B))) (sum : List (Iv B)) : Type 0 where
   pub cells : length sum ≡ k
-  pub encloses : (us : List Aggregate) → AreUnits us → EncloseEach grids us → GridEncloses sum (total us)
+  pub encloses : (us : List Aggregate) → AreDeclarable us → EncloseEach grids us
+      → GridEncloses sum (total us)
   pub narrow : spread sum ≤ sum_spread (2 ^ B) k (map spread grids)
 
 -- the same for the sum of all units but unit i
-pub record IsSumWithout {B : ℕ} (k : ℕ) (grids : List (List (Iv B))) (i : ℕ) (sum : List (Iv B)) : Type 0 where
+pub record IsSumWithout {B : ℕ} (k : ℕ) (grids : List (List (Iv B))) (i : ℕ)
+    (sum : List (Iv B)) : Type 0 where
   pub cells : length sum ≡ k
-  pub encloses : (us : List Aggregate) → AreUnits us → EncloseEach grids us → GridEncloses sum (total (without us i))
+  pub encloses : (us : List Aggregate) → AreDeclarable us → EncloseEach grids us
+      → GridEncloses sum (total (without us i))
   pub narrow : spread sum ≤ sum_spread (2 ^ B) k (map spread (remove grids i))
 
 -- for each unit that is asked for, the sum of all other units, and none for the others
-pub record AreSumsWithout {B : ℕ} (k : ℕ) (grids : List (List (Iv B))) (asked : List Bool) (sums : List (Option (List (Iv B)))) : Type 0 where
+pub record AreSumsWithout {B : ℕ} (k : ℕ) (grids : List (List (Iv B))) (asked : List Bool)
+    (sums : List (Option (List (Iv B)))) : Type 0 where
   pub as_many : length sums ≡ length grids
-  pub there : (i : ℕ) → i < length grids → IsSome (get_or sums i None) ↔ IsTrue (get_or asked i false)
+  pub there : (i : ℕ) → i < length grids → IsSome (get_or sums i None)
+      ↔ IsTrue (get_or asked i false)
   pub each : (i : ℕ) → i < length grids → IfSome (get_or sums i None) (IsSumWithout k grids i)
 
 -- a grid that encloses the sum of some units, and none where there are no units
@@ -32,16 +38,20 @@ abbrev pub EnclosesSum : {B : ℕ} → Option (List (Iv B)) → List Aggregate �
 EnclosesSum None us = us ≡ []
 EnclosesSum (Some sum) us = GridEncloses sum (total us)
 
--- k cells that enclose the sum of the units that `part` takes from all, and none where it takes no units
-pub record IsSumOfPart {B : ℕ} (k : ℕ) (grids : List (List (Iv B))) (part : List Aggregate → List Aggregate) (sum : Option (List (Iv B))) : Type 0 where
+-- k cells that enclose the sum of the units that `part` takes from all, and none where it takes no
+-- units
+pub record IsSumOfPart {B : ℕ} (k : ℕ) (grids : List (List (Iv B)))
+    (part : List Aggregate → List Aggregate) (sum : Option (List (Iv B))) : Type 0 where
   pub cells : IfSome sum (λ g. length g ≡ k)
-  pub encloses : (us : List Aggregate) → AreUnits us → EncloseEach grids us → EnclosesSum sum (part us)
+  pub encloses : (us : List Aggregate) → AreDeclarable us → EncloseEach grids us
+      → EnclosesSum sum (part us)
 
 -- at each place j the sum of the last j + 1 units
 abbrev pub AreSumsOfEnds : {B : ℕ} → ℕ → List (List (Iv B)) → List (List (Iv B)) → Type 0
-AreSumsOfEnds k grids ends = (j : ℕ) → j < length ends → IsSumOfPart k grids (drop (length grids - suc j)) (Some (get_or ends j []))
+AreSumsOfEnds k grids ends = (j : ℕ) → j < length ends
+    → IsSumOfPart k grids (drop (length grids - suc j)) (Some (get_or ends j []))
 
 -- the sums of the last unit, of the last two, and so on up to all but the first
-pub record AreEnds {B : ℕ} (k : ℕ) (grids ends : List (List (Iv B))) : Type 0 where
+pub record AreSuffixSums {B : ℕ} (k : ℕ) (grids ends : List (List (Iv B))) : Type 0 where
   pub as_many : length ends + 1 ≡ length grids
   pub each : AreSumsOfEnds k grids ends

@@ -1,10 +1,10 @@
-//! Totals of a program's units: from one grid for each unit, the grid of the sum of all units, and of
-//! the sum of all units but one. The units are independent, so that each unit is taken in by one
+//! Totals of a program's units: from one grid for each unit, the grid of the sum of all units, and
+//! of the sum of all units but one. The units are independent, so that each unit is taken in by one
 //! product. Where several of these sums are wanted, they share their parts.
 //!
-//! The clauses speak of every list of units whose probabilities add up to 1 and whose aggregate clauses
-//! raise no sum (`AreUnits`). Of a valid plan these are its units, `aggregates_of plan`, by
-//! `dl_model::plans::law_declared`.
+//! The clauses speak of every list of units whose probabilities add up to 1 and whose aggregate
+//! clauses raise no sum (`AreDeclarable`). Of a valid plan these are its units, `aggregates_of
+//! plan`, by `dl_model::plans::law_declared`.
 #![tactic(auto)]
 
 mod runs;
@@ -17,7 +17,7 @@ ghost use Rattle.std.specs.Prelude.{◌≡◌, ℕ, ◌^◌, ◌<◌, ◌≤◌,
 ghost use Rattle.std.specs.List.{fold, remove};
 ghost use Rattle.dl_grid.specs.Cells.{spread};
 ghost use Rattle.dl_grid.specs.Width.{cv, sum_spread};
-ghost use Rattle.dl_model.specs.Program.{Aggregate, AreUnits};
+ghost use Rattle.dl_model.specs.Program.{Aggregate, AreDeclarable};
 ghost use Rattle.dl_model.specs.Family.{total, GridEncloses};
 ghost use Rattle.dl_model.specs.Measures.{without};
 ghost use Rattle.dl_port.specs.Sums.{EncloseEach};
@@ -41,9 +41,12 @@ fn with_units<const B: u32>(
     requires in_sum { length sum ≡ cells }
     requires in_each { All (λ g. cells ≤ length g) units.now }
     ensures cells { IfOk result (λ g. length g ≡ cells) }
-    ensures encloses { IfOk result (λ g. (us vs : List Aggregate) → AreUnits us → AreUnits vs
-        → GridEncloses sum.entry (total us) → EncloseEach units.now vs → GridEncloses g (total (us ++ vs))) }
-    ensures spread { IfOk result (λ g. spread g ≤ fold (cv (2 ^ B) cells) (spread sum.entry) (map spread units.now)) }
+    ensures encloses { IfOk result (λ g. (us vs : List Aggregate) → AreDeclarable us
+        → AreDeclarable vs
+        → GridEncloses sum.entry (total us) → EncloseEach units.now vs
+        → GridEncloses g (total (us ++ vs))) }
+    ensures spread { IfOk result (λ g. spread g ≤ fold (cv (2 ^ B) cells) (spread sum.entry)
+        (map spread units.now)) }
 {
     let mut sum = sum;
     for unit in units {
@@ -75,14 +78,16 @@ fn in_order<const B: u32>(
     requires some { 1 ≤ cells }
     requires in_each { All (λ g. cells ≤ length g) units.now }
     ensures cells { IfOk result (λ g. length g ≡ cells) }
-    ensures encloses { IfOk result (λ g. (us : List Aggregate) → AreUnits us → EncloseEach units.now us → GridEncloses g (total us)) }
+    ensures encloses { IfOk result (λ g. (us : List Aggregate) → AreDeclarable us
+        → EncloseEach units.now us → GridEncloses g (total us)) }
     ensures spread { IfOk result (λ g. spread g ≤ sum_spread (2 ^ B) cells (map spread units.now)) }
 {
     let first = Grid::truncate(alloc, &units[0], cells)?;
     with_units(alloc, work, first, &units[1..], cells)
 }
 
-/// The sum of all units: of the first ones that have one grid, by squaring, and then of each further one.
+/// The sum of all units: of the first ones that have one grid, by squaring, and then of each
+/// further one.
 fn first_together<const B: u32>(
     alloc: Global,
     work: &mut Workspace,
@@ -93,15 +98,16 @@ fn first_together<const B: u32>(
     requires some { 1 ≤ cells }
     requires in_each { All (λ g. cells ≤ length g) units.now }
     ensures cells { IfOk result (λ g. length g ≡ cells) }
-    ensures encloses { IfOk result (λ g. (us : List Aggregate) → AreUnits us → EncloseEach units.now us → GridEncloses g (total us)) }
+    ensures encloses { IfOk result (λ g. (us : List Aggregate) → AreDeclarable us
+        → EncloseEach units.now us → GridEncloses g (total us)) }
 {
     let many = alike(units);
     let first = repeated(alloc, work, &units[0], many, cells)?;
     with_units(alloc, work, first, &units[many..], cells)
 }
 
-/// The first `cells` cells of the sum of all units. There is at least one unit, and each grid has at
-/// least these cells.
+/// The first `cells` cells of the sum of all units. There is at least one unit, and each grid has
+/// at least these cells.
 pub fn total<const B: u32>(
     alloc: Global,
     units: &[Grid<B>],
@@ -111,15 +117,16 @@ pub fn total<const B: u32>(
     requires some { 1 ≤ cells }
     requires in_each { All (λ g. cells ≤ length g) units.now }
     ensures cells { IfOk result (λ g. length g ≡ cells) }
-    ensures encloses { IfOk result (λ g. (us : List Aggregate) → AreUnits us → EncloseEach units.now us → GridEncloses g (total us)) }
+    ensures encloses { IfOk result (λ g. (us : List Aggregate) → AreDeclarable us
+        → EncloseEach units.now us → GridEncloses g (total us)) }
     ensures spread { IfOk result (λ g. spread g ≤ sum_spread (2 ^ B) cells (map spread units.now)) }
 {
     total_with(alloc, &mut Workspace::new(alloc), units, cells)
 }
 
-/// The same sum, by products in a workspace that is lent. The first units that have one grid are added
-/// up by squaring. Where that comes out wider than it may be when the units are taken in one by one,
-/// they are taken in one by one.
+/// The same sum, by products in a workspace that is lent. The first units that have one grid are
+/// added up by squaring. Where that comes out wider than it may be when the units are taken in one
+/// by one, they are taken in one by one.
 pub fn total_with<const B: u32>(
     alloc: Global,
     work: &mut Workspace,
@@ -130,7 +137,8 @@ pub fn total_with<const B: u32>(
     requires some { 1 ≤ cells }
     requires in_each { All (λ g. cells ≤ length g) units.now }
     ensures cells { IfOk result (λ g. length g ≡ cells) }
-    ensures encloses { IfOk result (λ g. (us : List Aggregate) → AreUnits us → EncloseEach units.now us → GridEncloses g (total us)) }
+    ensures encloses { IfOk result (λ g. (us : List Aggregate) → AreDeclarable us
+        → EncloseEach units.now us → GridEncloses g (total us)) }
     ensures spread { IfOk result (λ g. spread g ≤ sum_spread (2 ^ B) cells (map spread units.now)) }
 {
     let sum = first_together(alloc, work, units, cells)?;
@@ -154,13 +162,16 @@ pub fn others<const B: u32>(
     requires some { 1 ≤ cells }
     requires in_each { All (λ g. cells ≤ length g) units.now }
     ensures cells { IfOk result (λ g. length g ≡ cells) }
-    ensures encloses { IfOk result (λ g. (us : List Aggregate) → AreUnits us → EncloseEach units.now us → GridEncloses g (total (without us i))) }
-    ensures spread { IfOk result (λ g. spread g ≤ sum_spread (2 ^ B) cells (map spread (remove units.now i))) }
+    ensures encloses { IfOk result (λ g. (us : List Aggregate) → AreDeclarable us
+        → EncloseEach units.now us → GridEncloses g (total (without us i))) }
+    ensures spread { IfOk result (λ g. spread g ≤ sum_spread (2 ^ B) cells
+        (map spread (remove units.now i))) }
 {
     others_with(alloc, &mut Workspace::new(alloc), units, i, cells)
 }
 
-/// The same sum, by products in a workspace that is lent: the units are taken in one by one, in order.
+/// The same sum, by products in a workspace that is lent: the units are taken in one by one, in
+/// order.
 pub fn others_with<const B: u32>(
     alloc: Global,
     work: &mut Workspace,
@@ -172,8 +183,10 @@ pub fn others_with<const B: u32>(
     requires some { 1 ≤ cells }
     requires in_each { All (λ g. cells ≤ length g) units.now }
     ensures cells { IfOk result (λ g. length g ≡ cells) }
-    ensures encloses { IfOk result (λ g. (us : List Aggregate) → AreUnits us → EncloseEach units.now us → GridEncloses g (total (without us i))) }
-    ensures spread { IfOk result (λ g. spread g ≤ sum_spread (2 ^ B) cells (map spread (remove units.now i))) }
+    ensures encloses { IfOk result (λ g. (us : List Aggregate) → AreDeclarable us
+        → EncloseEach units.now us → GridEncloses g (total (without us i))) }
+    ensures spread { IfOk result (λ g. spread g ≤ sum_spread (2 ^ B) cells
+        (map spread (remove units.now i))) }
 {
     let before = &units[..i as usize];
     let after = &units[i as usize + 1..];

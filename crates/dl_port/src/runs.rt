@@ -1,7 +1,7 @@
 //! Sums of units that have one grid, by squaring.
 
 ghost use Rattle.std.specs.Prelude.{◌≡◌, ℕ, ◌^◌, ◌<◌, ◌≤◌, List, [], length, get_or, replicate, IsTrue, IfOk};
-ghost use Rattle.dl_model.specs.Program.{Aggregate, AreUnits};
+ghost use Rattle.dl_model.specs.Program.{Aggregate, AreDeclarable};
 ghost use Rattle.dl_model.specs.Family.{total, GridEncloses};
 ghost use Rattle.dl_port.specs.Sums.{EncloseEach};
 
@@ -31,8 +31,8 @@ pub(crate) fn alike<const B: u32>(units: &[Grid<B>]) -> usize
     units.len()
 }
 
-/// The sum of `many` units that have this grid. That of an even number is the square of the sum of half
-/// of them, and that of an odd number has one unit more.
+/// The sum of `many` units that have this grid. That of an even number is the square of the sum of
+/// half of them, and that of an odd number has one unit more.
 pub(crate) fn repeated<const B: u32>(
     alloc: Global,
     work: &mut Workspace,
@@ -44,7 +44,8 @@ pub(crate) fn repeated<const B: u32>(
     requires some { 1 ≤ cells }
     requires in_unit { cells ≤ length unit.now }
     ensures cells { IfOk result (λ g. length g ≡ cells) }
-    ensures encloses { IfOk result (λ g. (us : List Aggregate) → AreUnits us → EncloseEach (replicate many unit.now) us → GridEncloses g (total us)) }
+    ensures encloses { IfOk result (λ g. (us : List Aggregate) → AreDeclarable us
+        → EncloseEach (replicate many unit.now) us → GridEncloses g (total us)) }
 {
     if many == 1 {
         return Grid::truncate(alloc, unit, cells);

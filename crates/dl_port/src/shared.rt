@@ -1,11 +1,13 @@
-//! The sum of all units, and those of all units but one, from sums that they share. The sum of all units
-//! but one is one product: of the sum of the units before it, and of the sum of those after it.
+//! The sum of all units, and those of all units but one, from sums that they share. The sum of all
+//! units but one is one product: of the sum of the units before it, and of the sum of those after
+//! it.
 
 ghost use Rattle.std.specs.Prelude.{◌≡◌, ℕ, ◌^◌, ◌<◌, ◌≤◌, ◌↔◌, suc, List, [], ◌∷◌, length, ◌++◌, take, drop, get_or, false, IsTrue, IsSome, Any, All, IfOk, IfSome};
 ghost use Rattle.std.specs.Option.{option_copied};
-ghost use Rattle.dl_model.specs.Program.{Aggregate, AreUnits};
+ghost use Rattle.dl_limits.specs.Limits.{most_units};
+ghost use Rattle.dl_model.specs.Program.{Aggregate, AreDeclarable};
 ghost use Rattle.dl_model.specs.Family.{total, GridEncloses};
-ghost use Rattle.dl_port.specs.Shared.{EnclosesSum, IsSumOfPart, AreEnds, IsTotal, IsSumWithout, AreSumsWithout};
+ghost use Rattle.dl_port.specs.Shared.{EnclosesSum, IsSumOfPart, AreSuffixSums, IsTotal, IsSumWithout, AreSumsWithout};
 
 use crate::widths::spread_without;
 use crate::{no_units, others_with, total_with};
@@ -22,8 +24,8 @@ pub struct Sums<const B: u32> {
     pub others: Vec<Option<Grid<B>>>,
 }
 
-/// The sum of two sums of units, of which either may have no units. Where both have none, it is surely 0,
-/// on the first cells of the grid `like`.
+/// The sum of two sums of units, of which either may have no units. Where both have none, it is
+/// surely 0, on the first cells of the grid `like`.
 fn joined<const B: u32>(
     alloc: Global,
     work: &mut Workspace,
@@ -37,8 +39,10 @@ fn joined<const B: u32>(
     requires in_before { IfSome (option_copied before) (λ g. cells ≤ length g) }
     requires in_after { IfSome (option_copied after) (λ g. cells ≤ length g) }
     ensures cells { IfOk result (λ g. length g ≡ cells) }
-    ensures encloses { IfOk result (λ g. (us vs : List Aggregate) → AreUnits us → AreUnits vs
-        → EnclosesSum (option_copied before.entry) us → EnclosesSum (option_copied after.entry) vs → GridEncloses g (total (us ++ vs))) }
+    ensures encloses { IfOk result (λ g. (us vs : List Aggregate) → AreDeclarable us
+        → AreDeclarable vs
+        → EnclosesSum (option_copied before.entry) us → EnclosesSum (option_copied after.entry) vs
+        → GridEncloses g (total (us ++ vs))) }
 {
     match (before, after) {
         (Some(first), Some(second)) => product(alloc, work, first, second, cells),
@@ -48,8 +52,8 @@ fn joined<const B: u32>(
     }
 }
 
-/// The sums of the last units: of the last one, of the last two, and so on up to all but the first. Each
-/// comes from the one before by one product.
+/// The sums of the last units: of the last one, of the last two, and so on up to all but the first.
+/// Each comes from the one before by one product.
 fn sums_of_ends<const B: u32>(
     alloc: Global,
     work: &mut Workspace,
@@ -59,7 +63,7 @@ fn sums_of_ends<const B: u32>(
     requires units { 1 ≤ length units.now }
     requires some { 1 ≤ cells }
     requires in_each { All (λ g. cells ≤ length g) units.now }
-    ensures { IfOk result (λ ends. AreEnds cells units.now ends.items) }
+    ensures { IfOk result (λ ends. AreSuffixSums cells units.now ends.items) }
 {
     let mut ends = Vec::new(alloc);
     for i in (1..units.len()).rev() {
@@ -81,7 +85,8 @@ fn ends_where_asked<const B: u32>(
     requires units { 1 ≤ length units.now }
     requires some { 1 ≤ cells }
     requires in_each { All (λ g. cells ≤ length g) units.now }
-    ensures { IfOk result (λ ends. Any (λ a. IsTrue a) asked.now → AreEnds cells units.now ends.items) }
+    ensures { IfOk result (λ ends. Any (λ a. IsTrue a) asked.now
+        → AreSuffixSums cells units.now ends.items) }
 {
     if asked.iter().any(|asked| *asked) {
         return sums_of_ends(alloc, work, units, cells);
@@ -89,9 +94,9 @@ fn ends_where_asked<const B: u32>(
     Ok(Vec::new(alloc))
 }
 
-/// The sum of all units but unit `i`, where it is asked for, from the sum of the units before it and that
-/// of the units after it. Where it comes out wider than it may be when the others are taken in one by
-/// one, they are taken in one by one.
+/// The sum of all units but unit `i`, where it is asked for, from the sum of the units before it
+/// and that of the units after it. Where it comes out wider than it may be when the others are
+/// taken in one by one, they are taken in one by one.
 fn others_where_asked<const B: u32>(
     alloc: Global,
     work: &mut Workspace,
@@ -107,7 +112,8 @@ fn others_where_asked<const B: u32>(
     requires some { 1 ≤ cells }
     requires in_each { All (λ g. cells ≤ length g) units.now }
     requires before { IsSumOfPart cells units.now (take i) (option_copied before) }
-    requires after { IsTrue (get_or asked.now i false) → IsSumOfPart cells units.now (drop (suc i)) (option_copied after) }
+    requires after { IsTrue (get_or asked.now i false)
+        → IsSumOfPart cells units.now (drop (suc i)) (option_copied after) }
     ensures there { IfOk result (λ sum. IsSome sum ↔ IsTrue (get_or asked.now i false)) }
     ensures sum { IfOk result (λ sum. IfSome sum (IsSumWithout cells units.now i)) }
 {
@@ -124,10 +130,10 @@ fn others_where_asked<const B: u32>(
     Ok(Some(sum))
 }
 
-/// The first `cells` cells of the sum of all units, and for each unit that is asked for, of the sum of all
-/// other units. These are as wide as those of `total` and `others` may be, and come from sums that they
-/// share: where none comes out wider, at most three products for each unit, however many are asked for.
-/// There is at least one unit, and each grid has at least these cells.
+/// The first `cells` cells of the sum of all units, and for each unit that is asked for, of the sum
+/// of all other units. These are as wide as those of `total` and `others` may be, and come from
+/// sums that they share: where none comes out wider, at most three products for each unit, however
+/// many are asked for. There is at least one unit, and each grid has at least these cells.
 pub fn total_and_others<const B: u32>(
     alloc: Global,
     work: &mut Workspace,
@@ -136,12 +142,13 @@ pub fn total_and_others<const B: u32>(
     cells: u32,
 ) -> Result<Sums<B>, AllocError>
     requires units { 1 ≤ length units.now }
-    requires few { length units.now ≤ 16 }
+    requires few { length units.now ≤ most_units }
     requires asked { length asked.now ≡ length units.now }
     requires some { 1 ≤ cells }
     requires in_each { All (λ g. cells ≤ length g) units.now }
     ensures total { IfOk result (λ sums. IsTotal cells units.now sums.total) }
-    ensures others { IfOk result (λ sums. AreSumsWithout cells units.now asked.now sums.others.items) }
+    ensures others { IfOk result (λ sums.
+        AreSumsWithout cells units.now asked.now sums.others.items) }
 {
     let mut ends = ends_where_asked(alloc, work, units, asked, cells)?;
     let mut others = Vec::new(alloc);
@@ -167,11 +174,12 @@ pub fn total_and_others<const B: u32>(
     Ok(Sums { total, others })
 }
 
-/// The same sums of one unit alone, where no other sum is asked for. The total is the unit's grid, which
-/// is moved and not copied.
+/// The same sums of one unit alone, where no other sum is asked for. The total is the unit's grid,
+/// which is moved and not copied.
 pub fn sums_of_one<const B: u32>(alloc: Global, unit: Grid<B>) -> Result<Sums<B>, AllocError>
     ensures total { IfOk result (λ sums. IsTotal (length unit.entry) (unit.entry ∷ []) sums.total) }
-    ensures others { IfOk result (λ sums. AreSumsWithout (length unit.entry) (unit.entry ∷ []) (false ∷ []) sums.others.items) }
+    ensures others { IfOk result (λ sums. AreSumsWithout (length unit.entry) (unit.entry ∷ [])
+        (false ∷ []) sums.others.items) }
 {
     let mut others = Vec::new(alloc);
     others.push(None)?;

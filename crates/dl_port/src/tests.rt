@@ -12,8 +12,9 @@ const CELLS: u32 = 7;
 /// Three units: how many sixths each outcome from 0 to 3 has.
 const UNITS: [[u8; 4]; 3] = [[2, 4, 0, 0], [3, 0, 3, 0], [1, 2, 2, 1]];
 
-/// Whether all units are like the first, how many of them are taken, the one that is left out of the sum,
-/// and the probability of each total from 0 to 6, in parts of 216, worked out by exact fractions.
+/// Whether all units are like the first, how many of them are taken, the one that is left out of
+/// the sum, and the probability of each total from 0 to 6, in parts of 216, worked out by exact
+/// fractions.
 #[derive(Clone, Copy, Debug)]
 struct Case {
     alike: bool,
@@ -127,57 +128,26 @@ fn answer<const B: u32>(alloc: Global, case: Case) -> Result<bool, AllocError>
     Ok(holds(&sum, case.want) && holds_shared(alloc, taken, case)?)
 }
 
+fn sum_of(alike: bool, taken: usize, without: Option<u32>, want: [u8; 7]) -> Case {
+    Case {
+        alike,
+        taken,
+        without,
+        want,
+    }
+}
+
 #[test]
 fn sums_of_units(rt: HostRuntime) {
     let cases = [
-        Case {
-            alike: false,
-            taken: 3,
-            without: None,
-            want: [6, 24, 42, 54, 48, 30, 12],
-        },
-        Case {
-            alike: false,
-            taken: 3,
-            without: Some(0),
-            want: [18, 36, 54, 54, 36, 18, 0],
-        },
-        Case {
-            alike: false,
-            taken: 3,
-            without: Some(1),
-            want: [12, 48, 72, 60, 24, 0, 0],
-        },
-        Case {
-            alike: false,
-            taken: 3,
-            without: Some(2),
-            want: [36, 72, 36, 72, 0, 0, 0],
-        },
-        Case {
-            alike: false,
-            taken: 1,
-            without: None,
-            want: [72, 144, 0, 0, 0, 0, 0],
-        },
-        Case {
-            alike: false,
-            taken: 1,
-            without: Some(0),
-            want: [216, 0, 0, 0, 0, 0, 0],
-        },
-        Case {
-            alike: true,
-            taken: 3,
-            without: None,
-            want: [8, 48, 96, 64, 0, 0, 0],
-        },
-        Case {
-            alike: true,
-            taken: 3,
-            without: Some(1),
-            want: [24, 96, 96, 0, 0, 0, 0],
-        },
+        sum_of(false, 3, None, [6, 24, 42, 54, 48, 30, 12]),
+        sum_of(false, 3, Some(0), [18, 36, 54, 54, 36, 18, 0]),
+        sum_of(false, 3, Some(1), [12, 48, 72, 60, 24, 0, 0]),
+        sum_of(false, 3, Some(2), [36, 72, 36, 72, 0, 0, 0]),
+        sum_of(false, 1, None, [72, 144, 0, 0, 0, 0, 0]),
+        sum_of(false, 1, Some(0), [216, 0, 0, 0, 0, 0, 0]),
+        sum_of(true, 3, None, [8, 48, 96, 64, 0, 0, 0]),
+        sum_of(true, 3, Some(1), [24, 96, 96, 0, 0, 0, 0]),
     ];
     for case in &cases {
         let alloc = rt.alloc();

@@ -31,7 +31,8 @@ pub(crate) fn spread_of_sum<const B: u32>(units: &[Grid<B>], cells: u32) -> Opti
 /// The same for the sum of all units but unit `i`, counted from 0; 0 where there is no other.
 pub(crate) fn spread_without<const B: u32>(units: &[Grid<B>], i: u32, cells: u32) -> Option<u128>
     requires { i < length units.now }
-    ensures { IfSome result (λ most. most ≡ sum_spread (2 ^ B) cells (map spread (remove units.now i))) }
+    ensures { IfSome result (λ most. most ≡ sum_spread (2 ^ B) cells
+        (map spread (remove units.now i))) }
 {
     let before = &units[..i as usize];
     let after = &units[i as usize + 1..];

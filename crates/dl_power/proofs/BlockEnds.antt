@@ -19,8 +19,10 @@ use Rattle.dl_power.specs.Powers.{LieBetween}
 use Rattle.dl_power.proofs.HornerSteps.{shifted, pairs_low, pairs_high, sum_over}
 
 -- what counts from k on come to adds up to at most 1
-pub cells_within_one : (w f : ℕ → Fraction) → IsWithinOne w → IsWithinOne f → (k N : ℕ) → IsWithinOne (λ s. cell_from w f k s N)
-cells_within_one w f p q k N n = le_trans _ _ _ ((compound_proper (λ i. w (k + i)) f q).within n N) (le_trans _ _ _ (shifted w k N) (p (k + N)))
+pub cells_within_one : (w f : ℕ → Fraction) → IsWithinOne w → IsWithinOne f → (k N : ℕ)
+    → IsWithinOne (λ s. cell_from w f k s N)
+cells_within_one w f p q k N n = le_trans _ _ _ ((compound_proper (λ i. w (k + i)) f q).within n N)
+    (le_trans _ _ _ (shifted w k N) (p (k + N)))
 
 module _ (S : ℕ) (pos : 0 < S) where
   -- low ends below what adds up to at most 1 add up to at most S
@@ -29,14 +31,16 @@ module _ (S : ℕ) (pos : 0 < S) where
   low_sums zero lo = ap (λ t. t over S) (omega arith)
   low_sums (suc n) lo = ap (λ t. t +ℚ lo (suc n) over S) (low_sums n lo) ∙ over_plus _ _ S pos
 
-  pub mass_within : (n : ℕ) (lo : ℕ → ℕ) (c : ℕ → Fraction) → IsWithinOne c → ((s : ℕ) → s < n → lo s over S ≤ℚ c s) → count_below n lo ≤ S
+  pub mass_within : (n : ℕ) (lo : ℕ → ℕ) (c : ℕ → Fraction) → IsWithinOne c → ((s : ℕ) → s < n → lo s over S ≤ℚ c s)
+      → count_below n lo ≤ S
   unfolding count_below
   mass_within zero lo c p low = omega arith
   mass_within (suc n) lo c p low =
       omega (
         arith,
         le_over _ _ _ _ pos one_pos
-            (subst (λ t. t ≤ℚ whole 1) (low_sums n lo) (le_trans _ _ _ (sum_to_le n _ c (λ s b. low s (omega arith))) (p n))),
+            (subst (λ t. t ≤ℚ whole 1) (low_sums n lo)
+            (le_trans _ _ _ (sum_to_le n _ c (λ s b. low s (omega arith))) (p n))),
       )
 
   -- lowered to 1 where it is above
@@ -53,36 +57,44 @@ module _ (S : ℕ) (pos : 0 < S) where
   below_min : (h : ℕ) (x : Fraction) → h over S ≤ℚ x → min S h over S ≤ℚ x
   below_min h x low = le_trans _ _ _ (over_le _ _ _ _ pos pos (mul-le-mul_right S (omega arith))) low
 
-  pub product_between : (K : ℕ) (lo hi lo' hi' g g' : ℕ → ℕ) (f c : ℕ → Fraction) → LieBetween S K lo hi f → LieBetween S K lo' hi' c
+  pub product_between : (K : ℕ) (lo hi lo' hi' g g' : ℕ → ℕ) (f c : ℕ → Fraction) → LieBetween S K lo hi f
+      → LieBetween S K lo' hi' c
       → ((s : ℕ) → convolve f c s ≤ℚ whole 1)
       → ((s : ℕ) → s < K → g s ≡ count_pairs s (λ i j. lo i * lo' j) / S)
       → ((s : ℕ) → s < K → g' s ≡ min S (div_ceil (count_pairs s (λ i j. hi i * hi' j)) S))
       → LieBetween S K g g' (convolve f c)
   product_between K lo hi lo' hi' g g' f c of_f of_c one e e' = record {
-    low = λ s inside. subst (λ t. t over S ≤ℚ convolve f c s) (sym (e s inside)) (pairs_low S pos K lo hi lo' hi' f c of_f of_c s inside);
+    low = λ s inside. subst (λ t. t over S ≤ℚ convolve f c s) (sym (e s inside))
+        (pairs_low S pos K lo hi lo' hi' f c of_f of_c s inside);
     high = λ s inside. subst (λ t. convolve f c s ≤ℚ t over S) (sym (e' s inside))
         (clamped _ _ (one s) (pairs_high S pos K lo hi lo' hi' f c of_f of_c s inside));
   }
 
-  pub sum_between : (K : ℕ) (lo hi lo' hi' g g' : ℕ → ℕ) (b c both : ℕ → Fraction) → LieBetween S K lo hi b → LieBetween S K lo' hi' c
+  pub sum_between : (K : ℕ) (lo hi lo' hi' g g' : ℕ → ℕ) (b c both : ℕ → Fraction) → LieBetween S K lo hi b
+      → LieBetween S K lo' hi' c
       → ((s : ℕ) → both s ≡ b s +ℚ c s) → ((s : ℕ) → both s ≤ℚ whole 1)
-      → ((s : ℕ) → s < K → g s ≡ min S (lo s + lo' s)) → ((s : ℕ) → s < K → g' s ≡ min S (hi s + hi' s)) → LieBetween S K g g' both
+      → ((s : ℕ) → s < K → g s ≡ min S (lo s + lo' s)) → ((s : ℕ) → s < K → g' s ≡ min S (hi s + hi' s))
+      → LieBetween S K g g' both
   sum_between K lo hi lo' hi' g g' b c both of_b of_c sum one e e' = record {
     low = λ s inside. subst (λ t. t over S ≤ℚ both s) (sym (e s inside))
         (below_min _ _ (subst (λ t. (lo s + lo' s) over S ≤ℚ t) (sym (sum s))
-        (le_trans _ _ _ (le_of_eq _ _ (sum_over S pos (lo s) (lo' s))) (plus_le_both _ _ _ _ (of_b.low s inside) (of_c.low s inside)))));
+        (le_trans _ _ _ (le_of_eq _ _ (sum_over S pos (lo s) (lo' s)))
+        (plus_le_both _ _ _ _ (of_b.low s inside) (of_c.low s inside)))));
     high = λ s inside. subst (λ t. both s ≤ℚ t over S) (sym (e' s inside))
         (clamped _ _ (one s) (subst (λ t. t ≤ℚ (hi s + hi' s) over S) (sym (sum s))
-        (le_trans _ _ _ (plus_le_both _ _ _ _ (of_b.high s inside) (of_c.high s inside)) (le_of_eq _ _ (sym (sum_over S pos (hi s) (hi' s)))))));
+        (le_trans _ _ _ (plus_le_both _ _ _ _ (of_b.high s inside) (of_c.high s inside))
+        (le_of_eq _ _ (sym (sum_over S pos (hi s) (hi' s)))))));
   }
 
   module _ (total : ℕ) (there : 0 < total) where
     -- weights over the total times ends
-    mixed_sums : (m : ℕ) (a b : ℕ → ℕ) → sum_to m (λ i. a i over total *ℚ b i over S) ≡ count_below (suc m) (λ i. a i * b i) over (total * S)
+    mixed_sums : (m : ℕ) (a b : ℕ → ℕ) → sum_to m (λ i. a i over total *ℚ b i over S)
+        ≡ count_below (suc m) (λ i. a i * b i) over (total * S)
     unfolding sum_to count_below
     mixed_sums zero a b = over_mul _ _ _ _ there pos ∙ ap (λ t. t over (total * S)) (omega arith)
     mixed_sums (suc m) a b =
-        ap₂ (λ s t. s +ℚ t) (mixed_sums m a b) (over_mul _ _ _ _ there pos) ∙ over_plus _ _ (total * S) (mul-pos there pos)
+        ap₂ (λ s t. s +ℚ t) (mixed_sums m a b) (over_mul _ _ _ _ there pos)
+        ∙ over_plus _ _ (total * S) (mul-pos there pos)
 
     pub mixed_between : (K m k : ℕ) (a : ℕ → ℕ) (lo hi : ℕ → ℕ → ℕ) (g g' : ℕ → ℕ) (w f : ℕ → Fraction)
         → ((i : ℕ) → i ≤ m → a i over total ≡ w (k + i)) → ((i : ℕ) → i ≤ m → LieBetween S K (lo i) (hi i) (power f i))
@@ -102,7 +114,8 @@ module _ (S : ℕ) (pos : 0 < S) where
           let n = count_below (suc m) (λ i. a i * hi i s) in
           subst (λ t. cell_from w f k s m ≤ℚ t over S) (sym (e' s inside))
           (clamped _ _ (one s)
-          (le_trans _ _ _ (sum_to_le m _ _ (λ i b. subst (λ t. t *ℚ power f i s ≤ℚ a i over total *ℚ hi i s over S) (chance i b)
+          (le_trans _ _ _ (sum_to_le m _ _ (λ i b. subst
+          (λ t. t *ℚ power f i s ≤ℚ a i over total *ℚ hi i s over S) (chance i b)
           (times_le_both _ _ _ _ (le_refl _) ((of_f i b).high s inside))))
           (le_trans _ _ _ (le_of_eq _ _ (mixed_sums m a (λ i. hi i s)))
           (over_le n (total * S) (div_ceil n total) S (mul-pos there pos) pos (raised n S)))));

@@ -1,5 +1,5 @@
 -- Grids of blocks: their two lists are ends of a grid, between which what the counts come to lies.
-use Rattle.std.proofs.Common.{ℕ, zero, suc, ◌≡◌, ◌+◌, ◌-◌, ◌*◌, ◌/◌, ◌^◌, ◌<◌, ◌≤◌, List, [], length, get_or, arith, refl, sym, ap, ap₂, subst, subst₂, ◌∙◌}
+use Rattle.std.proofs.Common.{ℕ, suc, ◌≡◌, ◌+◌, ◌-◌, ◌*◌, ◌/◌, ◌^◌, ◌<◌, ◌≤◌, List, [], length, get_or, arith, refl, sym, ap, subst, ◌∙◌}
 use Rattle.std.specs.Prelude.{min}
 use Rattle.std.specs.Int.{div_ceil}
 use Rattle.std.proofs.Math.Nat.{div-mul-le_self, le_of_mul-le-mul_right, mul-le-mul_left}
@@ -13,74 +13,87 @@ use Rattle.dl_exact.specs.Count.{count_below}
 use Rattle.dl_exact.proofs.Counts.{below_le}
 use Rattle.dl_model.specs.Compound.{cell_from}
 use Rattle.dl_model.specs.Severity.{IsWithinOne}
-use Rattle.dl_model.specs.Listed.{weighted, probability}
+use Rattle.dl_model.specs.Listed.{probability_at}
 use Rattle.dl_model.proofs.ItemWeights.{probability_is}
 use Rattle.dl_plan.specs.declared.item.Item.{Item}
 use Rattle.dl_plan.specs.Weighted.{weight_at, weight_sum}
-use Rattle.dl_power.specs.Powers.{LieBetween, Between, ArePowers, weighed}
+use Rattle.dl_power.specs.Powers.{LieBetween, Between, ArePowers, mixture_end}
 use Rattle.dl_power.proofs.WeightLists.{probabilities_within}
 use Rattle.dl_power.proofs.HornerSteps.{from_within_one}
-use Rattle.dl_power.proofs.EndLists.{weighed_is, made_ends}
+use Rattle.dl_power.proofs.EndLists.{mixture_end_is, made_ends}
 use Rattle.dl_power.proofs.BlockEnds.{mass_within, cells_within_one, mixed_between}
 
 -- a grid made from two lists
-pub as_made : {B : ℕ} (g : List (Iv B)) (lows highs : List ℕ) (K : ℕ) (c : ℕ → Fraction) → low_ends g ≡ lows → high_ends g ≡ highs
+pub as_made : {B : ℕ} (g : List (Iv B)) (lows highs : List ℕ) (K : ℕ) (c : ℕ → Fraction) → low_ends g ≡ lows
+    → high_ends g ≡ highs
     → LieBetween (2 ^ B) K (λ x. get_or lows x 0) (λ x. get_or highs x 0) c → Between K g c
 as_made {B} g lows highs K c e h between = record {
-  low = λ s inside. subst (λ t. t over 2 ^ B ≤ℚ c s) (ap (λ t. get_or t s 0) (sym e) ∙ low_at_ends g s) (between.low s inside);
-  high = λ s inside. subst (λ t. c s ≤ℚ t over 2 ^ B) (ap (λ t. get_or t s 0) (sym h) ∙ high_at_ends g s) (between.high s inside);
+  low = λ s inside. subst (λ t. t over 2 ^ B ≤ℚ c s) (ap (λ t. get_or t s 0) (sym e) ∙ low_at_ends g s)
+      (between.low s inside);
+  high = λ s inside. subst (λ t. c s ≤ℚ t over 2 ^ B) (ap (λ t. get_or t s 0) (sym h) ∙ high_at_ends g s)
+      (between.high s inside);
 }
 
 floor_ceiling : (S low high total : ℕ) → 0 < total → low ≤ high → min S (low / total) ≤ min S (div_ceil high total)
 floor_ceiling S low high total pos order =
     let between : low / total ≤ div_ceil high total =
-    le_of_mul-le-mul_right {k = total} (omega (arith, div-mul-le_self low total, order, (div_ceil_times high total pos).0)) pos in
+    le_of_mul-le-mul_right {k = total}
+    (omega (arith, div-mul-le_self low total, order, (div_ceil_times high total pos).0)) pos in
     omega (arith, between)
 
-weighed_order : {B : ℕ} (weights : List ℕ) (grids : List (List (Iv B))) (x : ℕ) → length weights ≡ length grids
-    → weighed weights grids (λ t. low_at t x) ≤ weighed weights grids (λ t. high_at t x)
-weighed_order weights grids x e =
+mixture_end_order : {B : ℕ} (weights : List ℕ) (grids : List (List (Iv B))) (x : ℕ) → length weights ≡ length grids
+    → mixture_end weights grids (λ t. low_at t x) ≤ mixture_end weights grids (λ t. high_at t x)
+mixture_end_order weights grids x e =
     omega (
       arith,
-      weighed_is weights grids (λ t. low_at t x) e,
-      weighed_is weights grids (λ t. high_at t x) e,
-      below_le (length grids) (λ i. get_or weights i 0 * low_at (get_or grids i []) x) (λ i. get_or weights i 0 * high_at (get_or grids i []) x)
+      mixture_end_is weights grids (λ t. low_at t x) e,
+      mixture_end_is weights grids (λ t. high_at t x) e,
+      below_le (length grids) (λ i. get_or weights i 0 * low_at (get_or grids i []) x)
+          (λ i. get_or weights i 0 * high_at (get_or grids i []) x)
           (λ i b. mul-le-mul_left (get_or weights i 0) (low_le_high (get_or grids i []) x)),
     )
 
 module _ {B : ℕ} (powers : List (List (Iv B))) (weights lows highs : List ℕ) (items : List Item) (total first K : ℕ)
-    (there : 0 < total) (sum : weight_sum items ≡ total) (some : 1 ≤ length powers) (many : length weights ≡ length powers)
+    (there : 0 < total) (sum : weight_sum items ≡ total) (some : 1 ≤ length powers)
+    (many : length weights ≡ length powers)
     (chance : (i : ℕ) → i < length powers → get_or weights i 0 ≡ weight_at items (first + i))
-    (low : (x : ℕ) → x < K → get_or lows x 0 ≡ min (2 ^ B) (weighed weights powers (λ t. low_at t x) / total))
-    (high : (x : ℕ) → x < K → get_or highs x 0 ≡ min (2 ^ B) (div_ceil (weighed weights powers (λ t. high_at t x)) total)) where
+    (low : (x : ℕ) → x < K → get_or lows x 0 ≡ min (2 ^ B) (mixture_end weights powers (λ t. low_at t x) / total))
+    (high : (x : ℕ) → x < K → get_or highs x 0 ≡ min (2 ^ B)
+    (div_ceil (mixture_end weights powers (λ t. high_at t x)) total)) where
   pub mixture_between : (f : ℕ → Fraction) → IsWithinOne f → ArePowers K f powers
-      → LieBetween (2 ^ B) K (λ x. get_or lows x 0) (λ x. get_or highs x 0) (λ s. cell_from (probability (weighted items)) f first s (length powers - 1))
+      → LieBetween (2 ^ B) K (λ x. get_or lows x 0) (λ x. get_or highs x 0)
+      (λ s. cell_from (probability_at items) f first s (length powers - 1))
   mixture_between f q of_f =
       let S : ℕ = 2 ^ B in
       let m : ℕ = length powers - 1 in
       let all : length powers ≡ suc m = omega arith in
-      let w : ℕ → Fraction = probability (weighted items) in
-      mixed_between S (pow_pos B) total there K m first (λ i. get_or weights i 0) (λ i x. low_at (get_or powers i []) x) (λ i x. high_at (get_or powers i []) x)
+      let w : ℕ → Fraction = probability_at items in
+      mixed_between S (pow_pos B) total there K m first (λ i. get_or weights i 0) (λ i x. low_at (get_or powers i []) x)
+      (λ i x. high_at (get_or powers i []) x)
       (λ x. get_or lows x 0) (λ x. get_or highs x 0) w f
       (λ i b. ap (λ t. t over total) (chance i (omega arith)) ∙ sym (probability_is items total sum (first + i)))
       (λ i b. of_f i (omega arith))
       (λ s. from_within_one w f (probabilities_within items total sum there) q first s m)
-      (λ s b. low s b ∙ ap (λ t. min S (t / total)) (weighed_is weights powers (λ t. low_at t s) many
+      (λ s b. low s b ∙ ap (λ t. min S (t / total)) (mixture_end_is weights powers (λ t. low_at t s) many
       ∙ ap (λ n. count_below n (λ i. get_or weights i 0 * low_at (get_or powers i []) s)) all))
-      (λ s b. high s b ∙ ap (λ t. min S (div_ceil t total)) (weighed_is weights powers (λ t. high_at t s) many
+      (λ s b. high s b ∙ ap (λ t. min S (div_ceil t total)) (mixture_end_is weights powers (λ t. high_at t s) many
       ∙ ap (λ n. count_below n (λ i. get_or weights i 0 * high_at (get_or powers i []) s)) all))
 
   pub mixture_ends : 1 ≤ B → B ≤ 56 → 1 ≤ K → K ≤ 16384 → length lows ≡ K → length highs ≡ K
       → (f : ℕ → Fraction) → IsWithinOne f → ArePowers K f powers → AreEnds B lows highs
   mixture_ends above below one few many_lows many_highs f q of_f =
-      made_ends B K lows highs (λ x. get_or lows x 0) (λ x. get_or highs x 0) above below one few many_lows many_highs (λ x b. refl) (λ x b. refl)
+      made_ends B K lows highs (λ x. get_or lows x 0) (λ x. get_or highs x 0) above below one few many_lows many_highs
+      (λ x b. refl) (λ x b. refl)
       (λ x b. omega (
         arith,
         low x b,
         high x b,
-        floor_ceiling (2 ^ B) (weighed weights powers (λ t. low_at t x)) (weighed weights powers (λ t. high_at t x)) total there (weighed_order weights powers x many),
+        floor_ceiling (2 ^ B) (mixture_end weights powers (λ t. low_at t x))
+            (mixture_end weights powers (λ t. high_at t x)) total there (mixture_end_order weights powers x many),
       ))
       (λ x b. omega (arith, high x b))
-      (mass_within (2 ^ B) (pow_pos B) K (λ x. get_or lows x 0) (λ s. cell_from (probability (weighted items)) f first s (length powers - 1))
-      (cells_within_one (probability (weighted items)) f (probabilities_within items total sum there) q first (length powers - 1))
+      (mass_within (2 ^ B) (pow_pos B) K (λ x. get_or lows x 0)
+      (λ s. cell_from (probability_at items) f first s (length powers - 1))
+      (cells_within_one (probability_at items) f (probabilities_within items total sum there) q first
+      (length powers - 1))
       (λ s b. (mixture_between f q of_f).low s b))

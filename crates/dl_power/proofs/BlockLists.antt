@@ -1,5 +1,5 @@
 -- The powers that all blocks share, and which counts each block has.
-use Rattle.std.proofs.Common.{ℕ, suc, ◌≡◌, ◌+◌, ◌-◌, ◌*◌, ◌/◌, ◌^◌, ◌<◌, ◌≤◌, List, [], length, get_or, take, arith, refl, sym, ap, ap₂, subst, ◌∙◌}
+use Rattle.std.proofs.Common.{ℕ, suc, ◌≡◌, ◌+◌, ◌-◌, ◌*◌, ◌/◌, ◌^◌, ◌<◌, ◌≤◌, List, length, get_or, take, arith, sym, ap, ap₂, subst, ◌∙◌}
 use Rattle.std.specs.Prelude.{All}
 use Rattle.std.proofs.Math.Nat.{div-add-mod, mod-lt, div-mul-le_self, mul-le-mul_right, sub-zero, zero-mul}
 use Rattle.std.proofs.lemmas.List.{length-take-le}
@@ -11,8 +11,10 @@ use Rattle.dl_model.specs.Severity.{IsWithinOne}
 use Rattle.dl_power.specs.Powers.{Between, ArePowers}
 use Rattle.dl_power.proofs.PowerGrids.{first_powers, power_at}
 
-module _ {B : ℕ} (base : List (Iv B)) (all items : List (List (Iv B))) (n K : ℕ) (value : all ≡ items) (many : length items ≡ suc n)
-    (same : All (λ g. length g ≡ K) items) (powers : (f : ℕ → Fraction) → IsWithinOne f → Between K base f → ArePowers K f items) where
+module _ {B : ℕ} (base : List (Iv B)) (all items : List (List (Iv B))) (n K : ℕ) (value : all ≡ items)
+    (many : length items ≡ suc n)
+    (same : All (λ g. length g ≡ K) items) (powers : (f : ℕ → Fraction) → IsWithinOne f → Between K base f
+    → ArePowers K f items) where
   pub taken_long : length (take n all) ≡ n
   taken_long = length-take-le n all (omega (arith, ap length value, many))
 
@@ -25,8 +27,10 @@ module _ {B : ℕ} (base : List (Iv B)) (all items : List (List (Iv B))) (n K : 
   pub step_long : (step : List (Iv B)) → step ≡ get_or items n step → length step ≡ K
   step_long step is = ap length is ∙ same n step (omega (arith, many))
 
-  pub step_power : (step : List (Iv B)) (m : ℕ) → step ≡ get_or items n step → n ≡ suc m → (f : ℕ → Fraction) → IsWithinOne f → Between K base f → Between K step (power f (suc m))
-  step_power step m is e f q of_f = subst (λ k. Between K step (power f k)) e (power_at K n f items step (omega (arith, many)) is (powers f q of_f))
+  pub step_power : (step : List (Iv B)) (m : ℕ) → step ≡ get_or items n step → n ≡ suc m → (f : ℕ → Fraction)
+      → IsWithinOne f → Between K base f → Between K step (power f (suc m))
+  step_power step m is e f q of_f = subst (λ k. Between K step (power f k)) e
+      (power_at K n f items step (omega (arith, many)) is (powers f q of_f))
 
 -- ---- the first count of each block; a is the greatest count, and c how many counts a block has
 
@@ -34,7 +38,12 @@ pub last_near : (a c x y : ℕ) → a < 2 ^ 32 → x ≡ a / c → y ≡ c → x
 last_near a c x y small e h = omega (arith, ap₂ (λ s t. s * t) e h, div-mul-le_self a c)
 
 pub near : (a c d x y : ℕ) → a < 2 ^ 32 → x ≡ a / c - d - 1 → y ≡ c → x * y < 2 ^ 33
-near a c d x y small e h = omega (arith, ap₂ (λ s t. s * t) e h, mul-le-mul_right c (less (a / c) d), div-mul-le_self a c)
+near a c d x y small e h = omega (
+  arith,
+  ap₂ (λ s t. s * t) e h,
+  mul-le-mul_right c (less (a / c) d),
+  div-mul-le_self a c,
+)
   where
     less : (b d : ℕ) → b - d - 1 ≤ b
     less b d = omega arith

@@ -1,6 +1,5 @@
 -- What encloses the powers of a family, and one claim.
 use Rattle.std.proofs.Common.{ℕ, zero, suc, ◌≡◌, ◌+◌, ◌*◌, ◌/◌, ◌^◌, ◌<◌, ◌≤◌, List, length, take, arith, refl, sym, ap, subst, subst₂, ◌∙◌}
-use Rattle.std.specs.Prelude.{min}
 use Rattle.std.specs.Int.{div_ceil}
 use Rattle.std.proofs.lemmas.Bool.{ne_eqb}
 use Rattle.std.proofs.lemmas.Nat.{pow_pos}
@@ -12,37 +11,30 @@ use Rattle.dl_exact.proofs.Over.{over_le}
 use Rattle.dl_exact.proofs.Laws.{times_one}
 use Rattle.dl_iv.specs.declared.interval.Iv.{Iv}
 use Rattle.dl_grid.specs.Cells.{low_at, high_at, all_at_zero}
-use Rattle.dl_exact.specs.Count.{count_pairs}
+use Rattle.dl_grid.specs.Convolution.{IsConvolution}
 use Rattle.dl_model.specs.Series.{Holds}
 use Rattle.dl_model.specs.Program.{where_true}
-use Rattle.dl_model.specs.Listed.{weighted, probability}
+use Rattle.dl_model.specs.Listed.{probability_at}
 use Rattle.dl_model.specs.Counts.{fixed}
 use Rattle.dl_model.specs.Family.{Family, compound, product, nothing, times_itself, IsProper, Encloses, GridEncloses}
-use Rattle.dl_model.proofs.FamilyLaws.{encloses_rounded, encloses_same, encloses_power, itself_none, itself_one, itself_proper}
+use Rattle.dl_model.proofs.FamilyLaws.{convolution_encloses, encloses_same, encloses_power, itself_none, itself_one, itself_proper}
 use Rattle.dl_model.proofs.FiniteCounts.{nothing_encloses, finite_encloses, fixed_sum, fixed_cell, power_one}
 use Rattle.dl_plan.specs.declared.item.Item.{Item}
 use Rattle.dl_plan.specs.Weighted.{weight_at, weight_sum}
 use Rattle.dl_grid.proofs.CellSets.{low_take, high_take}
 use Rattle.dl_model.proofs.ItemWeights.{probability_is}
 
--- a grid with the ends that a convolution rounds to encloses the product
-pub convolved : {B : ℕ} (a b g : List (Iv B)) (n : ℕ) (F G : Family) → IsProper F → IsProper G → n ≤ length a → n ≤ length b → length g ≡ n
-    → ((s : ℕ) → s < n → low_at g s ≡ count_pairs s (λ i j. low_at a i * low_at b j) / 2 ^ B)
-    → ((s : ℕ) → s < n → high_at g s ≡ min (2 ^ B) (div_ceil (count_pairs s (λ i j. high_at a i * high_at b j)) (2 ^ B)))
-    → GridEncloses a F → GridEncloses b G → GridEncloses g (product F G)
-convolved {B} a b g n F G p q in_a in_b e low high of_a of_b y inside =
-    let within : y < n = omega (arith, e) in
-    subst₂ (λ l h. Holds ((product F G).cells y) (product F G).all (l over 2 ^ B) (h over 2 ^ B)) (sym (low y within)) (sym (high y within))
-    (encloses_rounded (2 ^ B) n (low_at a) (high_at a) (low_at b) (high_at b) F G (pow_pos B) p q (λ x h. of_a x (omega arith)) (λ x h. of_b x (omega arith)) y within)
-
 -- ---- powers of a family
 
-pub no_copy : {B : ℕ} (g : List (Iv B)) (F : Family) → ((x : ℕ) → low_at g x ≡ all_at_zero (2 ^ B) x) → ((x : ℕ) → high_at g x ≡ all_at_zero (2 ^ B) x)
+pub no_copy : {B : ℕ} (g : List (Iv B)) (F : Family) → ((x : ℕ) → low_at g x ≡ all_at_zero (2 ^ B) x)
+    → ((x : ℕ) → high_at g x ≡ all_at_zero (2 ^ B) x)
     → GridEncloses g (times_itself F 0)
 unfolding ◌^ℚ◌ all_at_zero
 no_copy {B} g F low high =
-    encloses_same (2 ^ B) (length g) (low_at g) (high_at g) nothing (times_itself F 0) (λ y N. sym (itself_none F y N)) (λ N. refl)
-    (nothing_encloses (2 ^ B) (length g) (low_at g) (high_at g) (pow_pos B) (omega (arith, low 0)) (omega (arith, high 0)) (none low))
+    encloses_same (2 ^ B) (length g) (low_at g) (high_at g) nothing (times_itself F 0)
+    (λ y N. sym (itself_none F y N)) (λ N. refl)
+    (nothing_encloses (2 ^ B) (length g) (low_at g) (high_at g) (pow_pos B) (omega (arith, low 0))
+    (omega (arith, high 0)) (none low))
   where
     none : ((x : ℕ) → low_at g x ≡ all_at_zero (2 ^ B) x) → (y : ℕ) → 0 < y → low_at g y ≡ 0
     none e zero h = absurd (omega arith)
@@ -50,42 +42,48 @@ no_copy {B} g F low high =
 
 one_copy : {B : ℕ} (g : List (Iv B)) (F : Family) → GridEncloses g F → GridEncloses g (times_itself F 1)
 unfolding ◌^ℚ◌
-one_copy {B} g F = encloses_same (2 ^ B) (length g) (low_at g) (high_at g) F (times_itself F 1) (λ y N. sym (itself_one F y N)) (λ N. sym (times_one (F.all N)))
+one_copy {B} g F = encloses_same (2 ^ B) (length g) (low_at g) (high_at g) F (times_itself F 1)
+    (λ y N. sym (itself_one F y N)) (λ N. sym (times_one (F.all N)))
 
-pub first_cells : {B : ℕ} (g : List (Iv B)) (n : ℕ) (F : Family) → length (take n g) ≡ n → n ≤ length g → GridEncloses g F → GridEncloses (take n g) (times_itself F 1)
+pub first_cells : {B : ℕ} (g : List (Iv B)) (n : ℕ) (F : Family) → length (take n g) ≡ n → n ≤ length g
+    → GridEncloses g F → GridEncloses (take n g) (times_itself F 1)
 first_cells {B} g n F e within of_g = one_copy (take n g) F (λ y inside.
-    subst₂ (λ l h. Holds (F.cells y) F.all (l over 2 ^ B) (h over 2 ^ B)) (sym (low_take g n y (omega (arith, e)))) (sym (high_take g n y (omega (arith, e)))) (of_g y (omega (arith, e))))
+    subst₂ (λ l h. Holds (F.cells y) F.all (l over 2 ^ B) (h over 2 ^ B)) (sym (low_take g n y (omega (arith, e))))
+    (sym (high_take g n y (omega (arith, e)))) (of_g y (omega (arith, e))))
 
-more_copies : {B : ℕ} (g : List (Iv B)) (F : Family) (m n k : ℕ) → m + n ≡ k → GridEncloses g (product (times_itself F m) (times_itself F n)) → GridEncloses g (times_itself F k)
-more_copies {B} g F m n k e of_g = subst (λ t. GridEncloses g (times_itself F t)) e (encloses_power (2 ^ B) (length g) (low_at g) (high_at g) F m n of_g)
+more_copies : {B : ℕ} (g : List (Iv B)) (F : Family) (m n k : ℕ) → m + n ≡ k
+    → GridEncloses g (product (times_itself F m) (times_itself F n)) → GridEncloses g (times_itself F k)
+more_copies {B} g F m n k e of_g = subst (λ t. GridEncloses g (times_itself F t)) e
+    (encloses_power (2 ^ B) (length g) (low_at g) (high_at g) F m n of_g)
 
 -- the square of half as many copies
-pub squared : {B : ℕ} (a g : List (Iv B)) (n m k : ℕ) (F : Family) → IsProper F → m + m ≡ k → n ≤ length a → length g ≡ n
-    → ((s : ℕ) → s < n → low_at g s ≡ count_pairs s (λ i j. low_at a i * low_at a j) / 2 ^ B)
-    → ((s : ℕ) → s < n → high_at g s ≡ min (2 ^ B) (div_ceil (count_pairs s (λ i j. high_at a i * high_at a j)) (2 ^ B)))
-    → GridEncloses a (times_itself F m) → GridEncloses g (times_itself F k)
-squared a g n m k F p sum in_a e low high of_a =
+pub squared : {B : ℕ} (a g : List (Iv B)) (n m k : ℕ) (F : Family) → IsProper F → m + m ≡ k → n ≤ length a
+    → length g ≡ n → IsConvolution n a a g → GridEncloses a (times_itself F m) → GridEncloses g (times_itself F k)
+squared a g n m k F p sum in_a e is of_a =
     let q = itself_proper F p m in
-    more_copies g F m m k sum (convolved a a g n (times_itself F m) (times_itself F m) q q in_a in_a e low high of_a of_a)
+    more_copies g F m m k sum
+    (convolution_encloses a a g n (times_itself F m) (times_itself F m) q q in_a in_a e is of_a of_a)
 
 -- one copy more
-pub one_more : {B : ℕ} (a b g : List (Iv B)) (n m k : ℕ) (F : Family) → IsProper F → m + 1 ≡ k → n ≤ length a → n ≤ length b → length g ≡ n
-    → ((s : ℕ) → s < n → low_at g s ≡ count_pairs s (λ i j. low_at a i * low_at b j) / 2 ^ B)
-    → ((s : ℕ) → s < n → high_at g s ≡ min (2 ^ B) (div_ceil (count_pairs s (λ i j. high_at a i * high_at b j)) (2 ^ B)))
+pub one_more : {B : ℕ} (a b g : List (Iv B)) (n m k : ℕ) (F : Family) → IsProper F → m + 1 ≡ k → n ≤ length a
+    → n ≤ length b → length g ≡ n → IsConvolution n a b g
     → GridEncloses a (times_itself F m) → GridEncloses b F → GridEncloses g (times_itself F k)
-one_more a b g n m k F p sum in_a in_b e low high of_a of_b =
+one_more a b g n m k F p sum in_a in_b e is of_a of_b =
     more_copies g F m 1 k sum
-    (convolved a b g n (times_itself F m) (times_itself F 1) (itself_proper F p m) (itself_proper F p 1) in_a in_b e low high of_a (one_copy b F of_b))
+    (convolution_encloses a b g n (times_itself F m) (times_itself F 1) (itself_proper F p m)
+    (itself_proper F p 1) in_a in_b e is of_a (one_copy b F of_b))
 
 -- ---- one claim
 
 no_more : (n : ℕ) → 1 < n → fixed 1 n ≡ whole 0
 no_more n h = ap (λ t. where_true t (whole 1)) (ne_eqb n 1 (omega arith))
 
-pub one_claim : (S K : ℕ) (lo hi : ℕ → ℕ) (f : ℕ → Fraction) → ((y : ℕ) → y < K → lo y over S ≤ℚ f y) → ((y : ℕ) → y < K → f y ≤ℚ hi y over S)
+pub one_claim : (S K : ℕ) (lo hi : ℕ → ℕ) (f : ℕ → Fraction) → ((y : ℕ) → y < K → lo y over S ≤ℚ f y)
+    → ((y : ℕ) → y < K → f y ≤ℚ hi y over S)
     → Encloses S K lo hi (compound (fixed 1) f)
 one_claim S K lo hi f low high =
-    let same : (y : ℕ) → (compound (fixed 1) f).cells y 1 ≡ f y = λ y. fixed_cell 1 f y 1 (omega arith) ∙ ap (λ g. g y) (power_one f) in
+    let same : (y : ℕ) → (compound (fixed 1) f).cells y 1 ≡ f y = λ y. fixed_cell 1 f y 1 (omega arith)
+    ∙ ap (λ g. g y) (power_one f) in
     finite_encloses (fixed 1) f 1 (fixed_sum 1 1 (omega arith)) no_more S K lo hi
     (λ y h. subst (λ t. lo y over S ≤ℚ t) (sym (same y)) (low y h))
     (λ y h. subst (λ t. t ≤ℚ hi y over S) (sym (same y)) (high y h))
@@ -101,9 +99,12 @@ share_high S w total pos p = over_le _ _ _ _ p pos (omega (arith, (div_ceil_time
 pub listed_claim : {B : ℕ} (grid : List (Iv B)) (items : List Item) (total : ℕ) → weight_sum items ≡ total → 0 < total
     → ((y : ℕ) → y < length grid → low_at grid y ≡ 2 ^ B * weight_at items y / total)
     → ((y : ℕ) → y < length grid → high_at grid y ≡ div_ceil (2 ^ B * weight_at items y) total)
-    → GridEncloses grid (compound (fixed 1) (probability (weighted items)))
+    → GridEncloses grid (compound (fixed 1) (probability_at items))
 listed_claim {B} grid items total sum pos low high =
-    let chance : (y : ℕ) → weight_at items y over total ≡ probability (weighted items) y = λ y. sym (probability_is items total sum y) in
-    one_claim (2 ^ B) (length grid) (low_at grid) (high_at grid) (probability (weighted items))
-    (λ y h. subst₂ (λ l x. l over 2 ^ B ≤ℚ x) (sym (low y h)) (chance y) (share_low (2 ^ B) (weight_at items y) total (pow_pos B) pos))
-    (λ y h. subst₂ (λ t x. x ≤ℚ t over 2 ^ B) (sym (high y h)) (chance y) (share_high (2 ^ B) (weight_at items y) total (pow_pos B) pos))
+    let chance : (y : ℕ) → weight_at items y over total ≡ probability_at items y = λ y.
+    sym (probability_is items total sum y) in
+    one_claim (2 ^ B) (length grid) (low_at grid) (high_at grid) (probability_at items)
+    (λ y h. subst₂ (λ l x. l over 2 ^ B ≤ℚ x) (sym (low y h)) (chance y)
+    (share_low (2 ^ B) (weight_at items y) total (pow_pos B) pos))
+    (λ y h. subst₂ (λ t x. x ≤ℚ t over 2 ^ B) (sym (high y h)) (chance y)
+    (share_high (2 ^ B) (weight_at items y) total (pow_pos B) pos))

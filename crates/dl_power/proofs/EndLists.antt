@@ -1,6 +1,6 @@
 -- Lists of numbers as loops make them, and the ends of a grid made from two of them.
-use Rattle.std.proofs.Common.{ℕ, zero, suc, ◌≡◌, ◌+◌, ◌*◌, ◌^◌, ◌<◌, ◌≤◌, List, [], ◌∷◌, ◌++◌, length, get_or, arith, refl, sym, ap, ap₂, subst, inl, inr, ◌∙◌}
-use Rattle.std.specs.Prelude.{All, sum, sum_by, zip}
+use Rattle.std.proofs.Common.{ℕ, ◌≡◌, ◌+◌, ◌*◌, ◌^◌, ◌<◌, ◌≤◌, List, [], ◌∷◌, ◌++◌, length, get_or, arith, refl, sym, ap, ap₂, inl, inr, ◌∙◌}
+use Rattle.std.specs.Prelude.{All, sum, zip}
 use Rattle.std.proofs.Math.Seq.{get_or-append_seam}
 use Rattle.std.proofs.Math.ListN.{get_or-eq_default}
 use Rattle.std.proofs.Math.Nat.{le_trans, mul-le-mul, pow-le-pow_right}
@@ -10,13 +10,15 @@ use Rattle.std.proofs.lemmas.Bool.{cases_lt}
 use Rattle.std.proofs.lemmas.List.Elements.{All-weaker}
 use Rattle.std.proofs.lemmas.Grind.{get_or_default_zero}
 use Rattle.dl_iv.specs.declared.interval.Iv.{Iv}
-use Rattle.dl_grid.specs.Cells.{low_at, high_at, AreEnds}
+use Rattle.dl_grid.specs.Cells.{AreEnds}
 use Rattle.dl_exact.specs.Count.{count_below}
 use Rattle.dl_exact.proofs.Counts.{below_first, below_more, below_same}
-use Rattle.dl_power.specs.Powers.{weighed}
+use Rattle.dl_power.specs.Powers.{mixture_end}
+use Rattle.dl_conv.proofs.Ends.{sum_total}
 
 -- the items so far, and the next
-pub one_more_item : (xs ys : List ℕ) (v i : ℕ) (h : ℕ → ℕ) → ys ≡ xs ++ v ∷ [] → length xs ≡ i → ((k : ℕ) → k < i → get_or xs k 0 ≡ h k) → v ≡ h i
+pub one_more_item : (xs ys : List ℕ) (v i : ℕ) (h : ℕ → ℕ) → ys ≡ xs ++ v ∷ [] → length xs ≡ i
+    → ((k : ℕ) → k < i → get_or xs k 0 ≡ h k) → v ≡ h i
     → (k : ℕ) → k < i + 1 → get_or ys k 0 ≡ h k
 one_more_item xs ys v i h e many before here k inside = elim (cases_lt k i) [
   | inl less ↦ ap (λ t. get_or t k 0) e ∙ get_or_append_left xs (v ∷ []) 0 k (omega (arith, many)) ∙ before k less
@@ -27,30 +29,27 @@ one_more_item xs ys v i h e many before here k inside = elim (cases_lt k i) [
 ]
 
 -- a sum of ends by the places of the grids
-pub weighed_is : {B : ℕ} (weights : List ℕ) (grids : List (List (Iv B))) (end : List (Iv B) → ℕ) → length weights ≡ length grids
-    → weighed weights grids end ≡ count_below (length grids) (λ i. get_or weights i 0 * end (get_or grids i []))
+pub mixture_end_is : {B : ℕ} (weights : List ℕ) (grids : List (List (Iv B))) (end : List (Iv B) → ℕ)
+    → length weights ≡ length grids
+    → mixture_end weights grids end ≡ count_below (length grids) (λ i. get_or weights i 0 * end (get_or grids i []))
 unfolding count_below
-weighed_is [] [] end e = refl
-weighed_is [] (g ∷ gs) end e = absurd (omega (arith, e))
-weighed_is (w ∷ ws) [] end e = absurd (omega (arith, e))
-weighed_is {B} (w ∷ ws) (g ∷ gs) end e =
+mixture_end_is [] [] end e = refl
+mixture_end_is [] (g ∷ gs) end e = absurd (omega (arith, e))
+mixture_end_is (w ∷ ws) [] end e = absurd (omega (arith, e))
+mixture_end_is {B} (w ∷ ws) (g ∷ gs) end e =
     omega (
       arith,
       sum_by-cons (λ (pair : ℕ × List (Iv B)). pair.0 * end pair.1) (w, g) (zip ws gs),
-      weighed_is ws gs end (omega (arith, e)),
+      mixture_end_is ws gs end (omega (arith, e)),
       below_first (length gs) (λ i. get_or (w ∷ ws) i 0 * end (get_or (g ∷ gs) i [])),
     )
 
--- a sum by the places of a list
-pub sum_places : (xs : List ℕ) → sum xs ≡ count_below (length xs) (λ i. get_or xs i 0)
-unfolding count_below
-sum_places [] = refl
-sum_places (x ∷ xs) = omega (arith, sum_by-cons (λ (e : ℕ). e) x xs, sum_places xs, below_first (length xs) (λ i. get_or (x ∷ xs) i 0))
-
 -- two lists of ends, told place by place
-pub made_ends : (B K : ℕ) (lows highs : List ℕ) (low high : ℕ → ℕ) → 1 ≤ B → B ≤ 56 → 1 ≤ K → K ≤ 16384 → length lows ≡ K → length highs ≡ K
+pub made_ends : (B K : ℕ) (lows highs : List ℕ) (low high : ℕ → ℕ) → 1 ≤ B → B ≤ 56 → 1 ≤ K → K ≤ 16384
+    → length lows ≡ K → length highs ≡ K
     → ((x : ℕ) → x < K → get_or lows x 0 ≡ low x) → ((x : ℕ) → x < K → get_or highs x 0 ≡ high x)
-    → ((x : ℕ) → x < K → low x ≤ high x) → ((x : ℕ) → x < K → high x ≤ 2 ^ B) → count_below K low ≤ 2 ^ B → AreEnds B lows highs
+    → ((x : ℕ) → x < K → low x ≤ high x) → ((x : ℕ) → x < K → high x ≤ 2 ^ B) → count_below K low ≤ 2 ^ B
+    → AreEnds B lows highs
 made_ends B K lows highs low high above below some few many many' at at' order small mass = record {
   scale_above = above;
   scale_below = below;
@@ -61,15 +60,28 @@ made_ends B K lows highs low high above below some few many many' at at' order s
     | inl inside ↦ omega (arith, at x inside, at' x inside, order x inside)
     | inr past ↦ omega (arith, get_or-eq_default lows 0 {n = x} (omega (arith, many)))
   ];
-  small = λ x d inside. omega (arith, get_or_default_zero highs x d inside, at' x (omega (arith, many')), small x (omega (arith, many')));
-  mass = omega (arith, sum_places lows, ap (λ n. count_below n (λ i. get_or lows i 0)) many, below_same K (λ i. get_or lows i 0) low at, mass);
+  small = λ x d inside. omega (
+    arith,
+    get_or_default_zero highs x d inside,
+    at' x (omega (arith, many')),
+    small x (omega (arith, many')),
+  );
+  mass = omega (
+    arith,
+    sum_total lows,
+    ap (λ n. count_below n (λ i. get_or lows i 0)) many,
+    below_same K (λ i. get_or lows i 0) low at,
+    mass,
+  );
 }
 
 -- the next grid's end
-pub weighed_more : {B : ℕ} (weights : List ℕ) (grids : List (List (Iv B))) (g : List (Iv B)) (i sum w v : ℕ) (end : List (Iv B) → ℕ) → i < length grids
+pub mixture_end_more : {B : ℕ} (weights : List ℕ) (grids : List (List (Iv B))) (g : List (Iv B)) (i sum w v : ℕ)
+    (end : List (Iv B) → ℕ) → i < length grids
     → g ≡ get_or grids i g → w ≡ get_or weights i 0 → v ≡ end g
-    → sum ≡ count_below i (λ k. get_or weights k 0 * end (get_or grids k [])) → sum + w * v ≡ count_below (i + 1) (λ k. get_or weights k 0 * end (get_or grids k []))
-weighed_more weights grids g i sum w v end inside is e h before =
+    → sum ≡ count_below i (λ k. get_or weights k 0 * end (get_or grids k []))
+    → sum + w * v ≡ count_below (i + 1) (λ k. get_or weights k 0 * end (get_or grids k []))
+mixture_end_more weights grids g i sum w v end inside is e h before =
     let same : get_or grids i [] ≡ g = get_or_default grids i [] g inside ∙ sym is in
     let product : w * v ≡ get_or weights i 0 * end (get_or grids i []) = ap₂ (λ s t. s * t) e (h ∙ ap end (sym same)) in
     omega (arith, product, before, below_more i (λ k. get_or weights k 0 * end (get_or grids k [])))
@@ -81,4 +93,5 @@ product_small w v B few small below =
 
 -- ends at any scale
 pub ends_small : (B : ℕ) (ends : List ℕ) → B ≤ 56 → All (λ e. e ≤ 2 ^ B) ends → All (λ e. e ≤ 2 ^ 56) ends
-ends_small B ends below small = All-weaker (λ e. e ≤ 2 ^ B) (λ e. e ≤ 2 ^ 56) (λ e h. le_trans h (pow-le-pow_right {n = 2} (omega arith) {i = B} {j = 56} below)) ends small
+ends_small B ends below small = All-weaker (λ e. e ≤ 2 ^ B) (λ e. e ≤ 2 ^ 56)
+    (λ e h. le_trans h (pow-le-pow_right {n = 2} (omega arith) {i = B} {j = 56} below)) ends small

@@ -1,8 +1,8 @@
 -- A block of counts, and the counts after it: Horner's rule in steps of several claims.
-use Rattle.std.proofs.Common.{ℕ, zero, suc, ◌≡◌, ◌+◌, ◌*◌, ◌<◌, ◌≤◌, arith, refl, sym, ap, ap₂, subst, ◌∙◌}
-use Rattle.dl_exact.specs.Fraction.{Fraction, whole, ◌+ℚ◌, ◌*ℚ◌, ◌≤ℚ◌}
+use Rattle.std.proofs.Common.{ℕ, zero, suc, ◌≡◌, ◌+◌, arith, refl, sym, ap, ap₂, ◌∙◌}
+use Rattle.dl_exact.specs.Fraction.{Fraction, ◌+ℚ◌, ◌*ℚ◌}
 use Rattle.dl_exact.specs.Sum.{sum_to, sum_pairs}
-use Rattle.dl_exact.proofs.Laws.{plus_assoc, times_left_comm, le_trans, le_of_eq}
+use Rattle.dl_exact.proofs.Laws.{plus_assoc, times_left_comm}
 use Rattle.dl_exact.proofs.Sums.{sum_to_same, sum_to_times, sum_pairs_same, sum_pairs_times, sum_pairs_sum_to}
 use Rattle.dl_model.specs.Compound.{convolve, power, cell_from}
 use Rattle.dl_model.proofs.Powers.{power_plus}
@@ -18,7 +18,8 @@ split m (suc n) f =
     ap (λ k. sum_to k f) e ∙ ap₂ (λ s t. s +ℚ t) (split m n f) (ap f (sym e)) ∙ plus_assoc _ _ _
 
 module _ (w f : ℕ → Fraction) where
-  later : (k m n s : ℕ) → w (k + (suc m + n)) *ℚ power f (suc m + n) s ≡ sum_pairs s (λ i j. power f (suc m) i *ℚ (w (k + suc m + n) *ℚ power f n j))
+  later : (k m n s : ℕ) → w (k + (suc m + n)) *ℚ power f (suc m + n) s
+      ≡ sum_pairs s (λ i j. power f (suc m) i *ℚ (w (k + suc m + n) *ℚ power f n j))
   later k m n s =
       let e : k + (suc m + n) ≡ k + suc m + n = omega arith in
       ap₂ (λ x y. w x *ℚ y s) e (power_plus f (suc m) n)
@@ -27,7 +28,8 @@ module _ (w f : ℕ → Fraction) where
 
   -- the block of the counts from k to k + m, and m + 1 claims before each of the counts after them
   pub block_next : (k m n s : ℕ)
-      → cell_from w f k s (suc m + n) ≡ cell_from w f k s m +ℚ convolve (power f (suc m)) (λ j. cell_from w f (k + suc m) j n) s
+      → cell_from w f k s (suc m + n) ≡ cell_from w f k s m +ℚ convolve (power f (suc m))
+      (λ j. cell_from w f (k + suc m) j n) s
   block_next k m n s =
       split m n (λ i. w (k + i) *ℚ power f i s)
       ∙ ap (λ t. cell_from w f k s m +ℚ t)

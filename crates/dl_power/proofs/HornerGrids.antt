@@ -8,59 +8,66 @@ use Rattle.dl_grid.specs.Cells.{low_at, high_at, all_at_zero}
 use Rattle.dl_exact.specs.Count.{count_pairs}
 use Rattle.dl_model.specs.Compound.{cell, cell_from}
 use Rattle.dl_model.specs.Severity.{IsWithinOne}
-use Rattle.dl_model.specs.Listed.{weighted, probability, greatest}
+use Rattle.dl_model.specs.Listed.{probability_at}
 use Rattle.dl_model.specs.Counts.{fixed}
 use Rattle.dl_model.specs.Family.{compound, GridEncloses}
 use Rattle.dl_model.proofs.FiniteCounts.{finite_encloses, severity_between}
 use Rattle.dl_model.proofs.Horner.{horner_end}
 use Rattle.dl_model.proofs.WeightLaws.{probabilities_all, probability-past}
 use Rattle.dl_plan.specs.declared.item.Item.{Item}
-use Rattle.dl_plan.specs.Weighted.{weight_at, weight_sum}
-use Rattle.dl_model.proofs.ItemWeights.{total_same, probability_is}
+use Rattle.dl_plan.specs.Weighted.{weight_at, weight_sum, greatest}
+use Rattle.dl_model.proofs.ItemWeights.{probability_is}
 use Rattle.dl_power.proofs.WeightLists.{probabilities_within}
 use Rattle.dl_power.proofs.Enclosing.{share_low, share_high}
 use Rattle.dl_power.specs.Powers.{LieBetween}
 use Rattle.dl_power.proofs.HornerSteps.{starts, goes_on}
 
 -- a share, rounded outward, holds its probability
-share_below : (S total : ℕ) (items : List Item) (k a : ℕ) → 0 < S → 0 < total → weight_sum items ≡ total → a ≡ S * weight_at items k / total
-    → a over S ≤ℚ probability (weighted items) k
+share_below : (S total : ℕ) (items : List Item) (k a : ℕ) → 0 < S → 0 < total → weight_sum items ≡ total
+    → a ≡ S * weight_at items k / total
+    → a over S ≤ℚ probability_at items k
 share_below S total items k a pos p sum e =
-    subst (λ t. t over S ≤ℚ probability (weighted items) k) (sym e)
-    (subst (λ x. (S * weight_at items k / total) over S ≤ℚ x) (sym (probability_is items total sum k)) (share_low S (weight_at items k) total pos p))
+    subst (λ t. t over S ≤ℚ probability_at items k) (sym e)
+    (subst (λ x. (S * weight_at items k / total) over S ≤ℚ x) (sym (probability_is items total sum k))
+    (share_low S (weight_at items k) total pos p))
 
-share_above : (S total : ℕ) (items : List Item) (k b : ℕ) → 0 < S → 0 < total → weight_sum items ≡ total → b ≡ div_ceil (S * weight_at items k) total
-    → probability (weighted items) k ≤ℚ b over S
+share_above : (S total : ℕ) (items : List Item) (k b : ℕ) → 0 < S → 0 < total → weight_sum items ≡ total
+    → b ≡ div_ceil (S * weight_at items k) total
+    → probability_at items k ≤ℚ b over S
 share_above S total items k b pos p sum e =
-    subst (λ t. probability (weighted items) k ≤ℚ t over S) (sym e)
-    (subst (λ x. x ≤ℚ div_ceil (S * weight_at items k) total over S) (sym (probability_is items total sum k)) (share_high S (weight_at items k) total pos p))
+    subst (λ t. probability_at items k ≤ℚ t over S) (sym e)
+    (subst (λ x. x ≤ℚ div_ceil (S * weight_at items k) total over S) (sym (probability_is items total sum k))
+    (share_high S (weight_at items k) total pos p))
 
 module _ (S K total : ℕ) (items : List Item) (pos : 0 < S) (p : 0 < total) (sum : weight_sum items ≡ total) where
   pub starts_at : (f : ℕ → Fraction) (g g' : ℕ → ℕ) (a b k m : ℕ) → m ≡ k
       → a ≡ S * weight_at items k / total → b ≡ div_ceil (S * weight_at items k) total
       → ((s : ℕ) → g s ≡ all_at_zero a s) → ((s : ℕ) → g' s ≡ all_at_zero b s)
-      → LieBetween S K g g' (λ s. cell_from (probability (weighted items)) f m s 0)
+      → LieBetween S K g g' (λ s. cell_from (probability_at items) f m s 0)
   starts_at f g g' a b k m e low high of_low of_high =
-      subst (λ t. LieBetween S K g g' (λ s. cell_from (probability (weighted items)) f t s 0)) (sym e)
-      (starts S pos K (probability (weighted items)) f g g' a b k
+      subst (λ t. LieBetween S K g g' (λ s. cell_from (probability_at items) f t s 0)) (sym e)
+      (starts S pos K (probability_at items) f g g' a b k
       (share_below S total items k a pos p sum low) (share_above S total items k b pos p sum high) of_low of_high)
 
-  pub goes_on_at : (f : ℕ → Fraction) (lo hi lo' hi' g g' : ℕ → ℕ) (a b k m N k' N' : ℕ) → IsWithinOne f → LieBetween S K lo hi f
+  pub goes_on_at : (f : ℕ → Fraction) (lo hi lo' hi' g g' : ℕ → ℕ) (a b k m N k' N' : ℕ) → IsWithinOne f
+      → LieBetween S K lo hi f
       → suc k ≡ m → k' ≡ k → N' ≡ suc N
       → a ≡ S * weight_at items k / total → b ≡ div_ceil (S * weight_at items k) total
-      → LieBetween S K lo' hi' (λ s. cell_from (probability (weighted items)) f m s N)
+      → LieBetween S K lo' hi' (λ s. cell_from (probability_at items) f m s N)
       → ((s : ℕ) → s < K → g s ≡ count_pairs s (λ i j. lo i * lo' j) / S + all_at_zero a s)
       → ((s : ℕ) → s < K → g' s ≡ min (min S (div_ceil (count_pairs s (λ i j. hi i * hi' j)) S) + all_at_zero b s) S)
-      → LieBetween S K g g' (λ s. cell_from (probability (weighted items)) f k' s N')
+      → LieBetween S K g g' (λ s. cell_from (probability_at items) f k' s N')
   goes_on_at f lo hi lo' hi' g g' a b k m N k' N' q of_f next e n low high before of_low of_high =
-      let w : ℕ → Fraction = probability (weighted items) in
+      let w : ℕ → Fraction = probability_at items in
       subst (λ t. LieBetween S K g g' (λ s. cell_from w f t s N')) (sym e)
       (subst (λ t. LieBetween S K g g' (λ s. cell_from w f k s t)) (sym n)
       (goes_on S pos K lo hi w f (probabilities_within items total sum p) q of_f lo' hi' g g' a b k m N next
-      (share_below S total items k a pos p sum low) (share_above S total items k b pos p sum high) before of_low of_high))
+      (share_below S total items k a pos p sum low) (share_above S total items k b pos p sum high) before
+      of_low of_high))
 
 -- what encloses one claim lies between its ends
-pub one_between : {B : ℕ} (base : List (Iv B)) (K : ℕ) (f : ℕ → Fraction) → K ≤ length base → GridEncloses base (compound (fixed 1) f)
+pub one_between : {B : ℕ} (base : List (Iv B)) (K : ℕ) (f : ℕ → Fraction) → K ≤ length base
+    → GridEncloses base (compound (fixed 1) f)
     → LieBetween (2 ^ B) K (low_at base) (high_at base) f
 one_between {B} base K f within e = record {
   low = λ s inside. (severity_between (2 ^ B) (length base) (low_at base) (high_at base) f e s (omega arith)).0;
@@ -68,15 +75,18 @@ one_between {B} base K f within e = record {
 }
 
 -- down to no claim
-pub ends : {B : ℕ} (grid : List (Iv B)) (items : List Item) (total : ℕ) (f : ℕ → Fraction) (K k N : ℕ) → 0 < total → weight_sum items ≡ total
-    → k ≡ 0 → greatest (weighted items) ≤ N → length grid ≡ K
-    → LieBetween (2 ^ B) K (low_at grid) (high_at grid) (λ s. cell_from (probability (weighted items)) f k s N)
-    → GridEncloses grid (compound (probability (weighted items)) f)
+pub ends : {B : ℕ} (grid : List (Iv B)) (items : List Item) (total : ℕ) (f : ℕ → Fraction) (K k N : ℕ) → 0 < total
+    → weight_sum items ≡ total
+    → k ≡ 0 → greatest items ≤ N → length grid ≡ K
+    → LieBetween (2 ^ B) K (low_at grid) (high_at grid) (λ s. cell_from (probability_at items) f k s N)
+    → GridEncloses grid (compound (probability_at items) f)
 ends {B} grid items total f K k N pos sum none all e between =
-    let w : ℕ → Fraction = probability (weighted items) in
-    let there = subst (λ t. 0 < t) (sym (total_same items ∙ sum)) pos in
-    let last : (s : ℕ) → cell_from w f k s N ≡ cell w f s N = λ s. ap (λ t. cell_from w f t s N) none ∙ horner_end w f s N in
-    finite_encloses w f N (probabilities_all (weighted items) N there (omega (arith, all))) (λ n past. probability-past (weighted items) n there (omega (arith, all)))
+    let w : ℕ → Fraction = probability_at items in
+    let there = subst (λ t. 0 < t) (sym sum) pos in
+    let last : (s : ℕ) → cell_from w f k s N ≡ cell w f s N = λ s. ap (λ t. cell_from w f t s N) none
+    ∙ horner_end w f s N in
+    finite_encloses w f N (probabilities_all items N there (omega (arith, all)))
+    (λ n past. probability-past items n there (omega (arith, all)))
     (2 ^ B) (length grid) (low_at grid) (high_at grid)
     (λ s inside. subst (λ t. low_at grid s over 2 ^ B ≤ℚ t) (last s) (between.low s (omega (arith, e))))
     (λ s inside. subst (λ t. t ≤ℚ high_at grid s over 2 ^ B) (last s) (between.high s (omega (arith, e))))

@@ -2,7 +2,7 @@
 use Rattle.std.proofs.Common.{ℕ, zero, suc, ◌≡◌, ◌+◌, ◌*◌, ◌/◌, ◌^◌, ◌<◌, ◌≤◌, List, length, arith, sym, ap, subst, inl, inr, ◌∙◌, mul-pos}
 use Rattle.std.specs.Prelude.{min}
 use Rattle.std.specs.Int.{div_ceil}
-use Rattle.std.proofs.Math.Nat.{add-zero, div-mul-le_self, mul-le-mul, mul-le-mul_right, le_of_mul-le-mul_right}
+use Rattle.std.proofs.Math.Nat.{add-zero, div-mul-le_self, mul-le-mul_right}
 use Rattle.std.proofs.lemmas.Bool.{cases_lt}
 use Rattle.std.proofs.lemmas.Nat.{pow_pos}
 use Rattle.std.proofs.lemmas.Grind.{div_ceil_times}
@@ -13,8 +13,8 @@ use Rattle.dl_exact.proofs.Laws.{one_pos, le_refl, le_trans, le_of_eq, zero_le, 
 use Rattle.dl_exact.proofs.Sums.{sum_to_le, sum_pairs_same, item_le_sum, sum_pairs_le}
 use Rattle.dl_iv.specs.declared.interval.Iv.{Iv}
 use Rattle.dl_grid.specs.Cells.{low_at, mass_low, all_at_zero}
-use Rattle.dl_exact.specs.Count.{count_pairs, count_below}
-use Rattle.dl_exact.proofs.Counts.{below_le, below_same, below_times, pairs_within}
+use Rattle.dl_exact.specs.Count.{count_pairs}
+use Rattle.dl_exact.proofs.Counts.{below_same}
 use Rattle.dl_grid.proofs.PlaceSums.{whole_mass, low_within}
 use Rattle.dl_model.specs.Compound.{convolve, at_zero, power, cell_from}
 use Rattle.dl_power.specs.Powers.{LieBetween}
@@ -22,27 +22,21 @@ use Rattle.dl_model.specs.Severity.{IsWithinOne}
 use Rattle.dl_model.proofs.CompoundLaws.{power_within_one}
 use Rattle.dl_exact.proofs.SumsOver.{sum_pairs_over}
 use Rattle.dl_model.proofs.Horner.{horner_start, horner_next}
+use Rattle.dl_grid.proofs.Products.{floors_within}
+use Rattle.dl_grid.specs.Convolution.{IsConvolution}
 
 -- ---- the mass
 
 -- the low ends of a convolution with what adds up to at most 1 add up to no more than before
-pub floors_within : (n one most : ℕ) (a b : ℕ → ℕ) → 0 < one → count_below n a ≤ one → count_below n b ≤ most
-    → count_below n (λ s. count_pairs s (λ i j. a i * b j) / one) ≤ most
-floors_within n one most a b pos p q =
-    let scaled : count_below n (λ s. count_pairs s (λ i j. a i * b j) / one * one) ≤ count_below n (λ s. count_pairs s (λ i j. a i * b j)) =
-    below_le n _ _ (λ s b. div-mul-le_self _ one) in
-    let all : count_below n (λ s. count_pairs s (λ i j. a i * b j)) ≤ count_below n a * count_below n b = pairs_within n a b in
-    let times = below_times n one (λ s. count_pairs s (λ i j. a i * b j) / one) in
-    le_of_mul-le-mul_right {k = one} (omega (arith, scaled, all, times, mul-le-mul p q)) pos
-
 pub convolved_mass : {B : ℕ} (a b cells : List (Iv B)) (n : ℕ) → mass_low a ≤ 2 ^ B → length cells ≡ n
-    → ((s : ℕ) → s < n → low_at cells s ≡ count_pairs s (λ i j. low_at a i * low_at b j) / 2 ^ B) → mass_low cells ≤ mass_low b
-convolved_mass {B} a b cells n top e low =
+    → IsConvolution n a b cells → mass_low cells ≤ mass_low b
+convolved_mass {B} a b cells n top e is =
     omega (
       arith,
       whole_mass n cells e,
-      below_same n (low_at cells) (λ s. count_pairs s (λ i j. low_at a i * low_at b j) / 2 ^ B) low,
-      floors_within n (2 ^ B) (mass_low b) (low_at a) (low_at b) (pow_pos B) (omega (arith, low_within n a)) (low_within n b),
+      below_same n (low_at cells) (λ s. count_pairs s (λ i j. low_at a i * low_at b j) / 2 ^ B) is.low,
+      floors_within n (2 ^ B) (mass_low b) (low_at a) (low_at b) (pow_pos B) (omega (arith, low_within n a))
+          (low_within n b),
     )
 
 -- ---- what the counts from k on come to
@@ -52,10 +46,12 @@ unfolding sum_to
 shifted w k zero = subst (λ t. w t ≤ℚ sum_to t w) (sym (add-zero k)) (item_le_sum k w)
 shifted w k (suc N) =
     let e : suc (k + N) ≡ k + suc N = omega arith in
-    subst (λ t. sum_to (suc N) (λ n. w (k + n)) ≤ℚ sum_to t w) e (plus_le_both _ _ _ _ (shifted w k N) (le_of_eq _ _ (ap w (sym e))))
+    subst (λ t. sum_to (suc N) (λ n. w (k + n)) ≤ℚ sum_to t w) e
+    (plus_le_both _ _ _ _ (shifted w k N) (le_of_eq _ _ (ap w (sym e))))
 
 -- at most 1
-pub from_within_one : (w f : ℕ → Fraction) → IsWithinOne w → IsWithinOne f → (k s N : ℕ) → cell_from w f k s N ≤ℚ whole 1
+pub from_within_one : (w f : ℕ → Fraction) → IsWithinOne w → IsWithinOne f → (k s N : ℕ)
+    → cell_from w f k s N ≤ℚ whole 1
 from_within_one w f p q k s N =
     le_trans _ _ _ (sum_to_le N _ (λ n. w (k + n)) (λ n b.
     subst (λ t. w (k + n) *ℚ power f n s ≤ℚ t) (times_one _) (times_le_both _ _ _ _ (le_refl _)
@@ -71,8 +67,10 @@ module _ (S : ℕ) (pos : 0 < S) where
       let e : x + y ≡ y + x = omega arith in
       subst (λ t. x over S +ℚ y over S ≤ℚ t over S) e (le_of_eq _ _ (sym (sum_over x y)))
 
-  products : (n : ℕ) (a b : ℕ → ℕ) → sum_pairs n (λ i j. a i over S *ℚ b j over S) ≡ count_pairs n (λ i j. a i * b j) over (S * S)
-  products n a b = sum_pairs_same n _ _ (λ i j e. over_mul (a i) S (b j) S pos pos) ∙ sum_pairs_over n (S * S) (λ i j. a i * b j) (mul-pos pos pos)
+  products : (n : ℕ) (a b : ℕ → ℕ) → sum_pairs n (λ i j. a i over S *ℚ b j over S)
+      ≡ count_pairs n (λ i j. a i * b j) over (S * S)
+  products n a b = sum_pairs_same n _ _ (λ i j e. over_mul (a i) S (b j) S pos pos)
+      ∙ sum_pairs_over n (S * S) (λ i j. a i * b j) (mul-pos pos pos)
 
   none_over : 0 over S ≡ whole 0
   none_over = over_same 0 S 0 1 pos one_pos (omega arith)
@@ -87,10 +85,12 @@ module _ (S : ℕ) (pos : 0 < S) where
   zero_high b zero x h = subst (λ t. t ≤ℚ b over S) (sym (times_one x)) h
   zero_high b (suc s) x h = le_of_eq _ _ (times_zero x ∙ sym none_over)
 
-  module _ (K : ℕ) (lo hi lo' hi' : ℕ → ℕ) (f c : ℕ → Fraction) (of_f : LieBetween S K lo hi f) (of_c : LieBetween S K lo' hi' c) where
+  module _ (K : ℕ) (lo hi lo' hi' : ℕ → ℕ) (f c : ℕ → Fraction) (of_f : LieBetween S K lo hi f)
+      (of_c : LieBetween S K lo' hi' c) where
     pub pairs_low : (s : ℕ) → s < K → (count_pairs s (λ i j. lo i * lo' j) / S) over S ≤ℚ convolve f c s
     pairs_low s inside = le_trans _ _ _
-        (over_le _ _ _ _ pos (mul-pos pos pos) (omega (arith, mul-le-mul_right S (div-mul-le_self (count_pairs s (λ i j. lo i * lo' j)) S))))
+        (over_le _ _ _ _ pos (mul-pos pos pos)
+        (omega (arith, mul-le-mul_right S (div-mul-le_self (count_pairs s (λ i j. lo i * lo' j)) S))))
         (le_trans _ _ _ (le_of_eq _ _ (sym (products s lo lo')))
         (sum_pairs_le s _ _ (λ i j e. times_le_both _ _ _ _ (of_f.low i (omega arith)) (of_c.low j (omega arith)))))
 
@@ -98,7 +98,8 @@ module _ (S : ℕ) (pos : 0 < S) where
     pairs_high s inside = le_trans _ _ _
         (sum_pairs_le s _ _ (λ i j e. times_le_both _ _ _ _ (of_f.high i (omega arith)) (of_c.high j (omega arith))))
         (le_trans _ _ _ (le_of_eq _ _ (products s hi hi'))
-        (over_le _ _ _ _ (mul-pos pos pos) pos (omega (arith, mul-le-mul_right S (div_ceil_times (count_pairs s (λ i j. hi i * hi' j)) S pos).0))))
+        (over_le _ _ _ _ (mul-pos pos pos) pos
+        (omega (arith, mul-le-mul_right S (div_ceil_times (count_pairs s (λ i j. hi i * hi' j)) S pos).0))))
 
   -- lowered to 1 where that is less
   lowered : (h b s : ℕ) (x : Fraction) → x ≤ℚ whole 1 → x ≤ℚ (h + b) over S → x ≤ℚ min (min S h + b) S over S
@@ -113,7 +114,8 @@ module _ (S : ℕ) (pos : 0 < S) where
 
   -- the greatest count
   pub starts : (K : ℕ) (w f : ℕ → Fraction) (g g' : ℕ → ℕ) (a b k : ℕ) → a over S ≤ℚ w k → w k ≤ℚ b over S
-      → ((s : ℕ) → g s ≡ all_at_zero a s) → ((s : ℕ) → g' s ≡ all_at_zero b s) → LieBetween S K g g' (λ s. cell_from w f k s 0)
+      → ((s : ℕ) → g s ≡ all_at_zero a s) → ((s : ℕ) → g' s ≡ all_at_zero b s)
+      → LieBetween S K g g' (λ s. cell_from w f k s 0)
   starts K w f g g' a b k low high e e' = record {
     low = λ s inside. subst (λ t. t ≤ℚ cell_from w f k s 0) (ap (λ t. t over S) (sym (e s)))
         (le_trans _ _ _ (zero_low a s (w k) low) (le_of_eq _ _ (sym (horner_start w f k s))));
@@ -121,7 +123,8 @@ module _ (S : ℕ) (pos : 0 < S) where
         (le_trans _ _ _ (le_of_eq _ _ (horner_start w f k s)) (zero_high b s (w k) high));
   }
 
-  module _ (K : ℕ) (lo hi : ℕ → ℕ) (w f : ℕ → Fraction) (p : IsWithinOne w) (q : IsWithinOne f) (of_f : LieBetween S K lo hi f) where
+  module _ (K : ℕ) (lo hi : ℕ → ℕ) (w f : ℕ → Fraction) (p : IsWithinOne w) (q : IsWithinOne f)
+      (of_f : LieBetween S K lo hi f) where
     -- each count before it
     pub goes_on : (lo' hi' g g' : ℕ → ℕ) (a b k m N : ℕ) → suc k ≡ m → a over S ≤ℚ w k → w k ≤ℚ b over S
         → LieBetween S K lo' hi' (λ s. cell_from w f m s N)
@@ -135,12 +138,15 @@ module _ (S : ℕ) (pos : 0 < S) where
           low = λ s inside.
               subst (λ t. t over S ≤ℚ cell_from w f k s (suc N)) (sym (e s inside ∙ omega arith))
               (le_trans _ _ _ (le_of_eq _ _ (sum_over (all_at_zero a s) (count_pairs s (λ i j. lo i * lo' j) / S)))
-              (le_trans _ _ _ (plus_le_both _ _ _ _ (zero_low a s (w k) low) (pairs_low K lo hi lo' hi' f (λ j. cell_from w f m j N) of_f before s inside))
+              (le_trans _ _ _ (plus_le_both _ _ _ _ (zero_low a s (w k) low)
+              (pairs_low K lo hi lo' hi' f (λ j. cell_from w f m j N) of_f before s inside))
               (le_of_eq _ _ (sym (step s)))));
           high = λ s inside.
               subst (λ t. cell_from w f k s (suc N) ≤ℚ t over S) (sym (e' s inside))
-              (lowered (div_ceil (count_pairs s (λ i j. hi i * hi' j)) S) (all_at_zero b s) s (cell_from w f k s (suc N)) (from_within_one w f p q k s (suc N))
+              (lowered (div_ceil (count_pairs s (λ i j. hi i * hi' j)) S) (all_at_zero b s) s
+              (cell_from w f k s (suc N)) (from_within_one w f p q k s (suc N))
               (le_trans _ _ _ (le_of_eq _ _ (step s))
-              (le_trans _ _ _ (plus_le_both _ _ _ _ (zero_high b s (w k) high) (pairs_high K lo hi lo' hi' f (λ j. cell_from w f m j N) of_f before s inside))
+              (le_trans _ _ _ (plus_le_both _ _ _ _ (zero_high b s (w k) high)
+              (pairs_high K lo hi lo' hi' f (λ j. cell_from w f m j N) of_f before s inside))
               (turned (all_at_zero b s) (div_ceil (count_pairs s (λ i j. hi i * hi' j)) S)))));
         }

@@ -4,7 +4,6 @@ pub mod GiantSteps
 mod HornerSteps
 mod BlockEnds
 pub mod Spreads
-pub mod Results
 mod EndLists
 mod BlockGrids
 mod PowerGrids

@@ -1,5 +1,5 @@
 -- Grids of the powers of a severity: the first two, the next one, and those of what a grid's own low ends are.
-use Rattle.std.proofs.Common.{ℕ, zero, suc, ◌≡◌, ◌+◌, ◌-◌, ◌*◌, ◌/◌, ◌^◌, ◌<◌, ◌≤◌, List, [], ◌∷◌, ◌++◌, length, get_or, take, arith, refl, sym, ap, ap₂, subst, subst₂, inl, inr, ◌∙◌}
+use Rattle.std.proofs.Common.{ℕ, zero, suc, ◌≡◌, ◌+◌, ◌*◌, ◌/◌, ◌^◌, ◌<◌, ◌≤◌, List, [], ◌∷◌, ◌++◌, length, get_or, take, arith, sym, ap, ap₂, subst, subst₂, inl, inr, ◌∙◌}
 use Rattle.std.specs.Prelude.{min, All}
 use Rattle.std.specs.Int.{div_ceil}
 use Rattle.std.proofs.Math.Seq.{get_or-append_seam}
@@ -8,7 +8,7 @@ use Rattle.std.proofs.lemmas.Bool.{cases_lt}
 use Rattle.std.proofs.lemmas.List.{get_or_append_left, get_or_default, get_or-take, length-take, length-append}
 use Rattle.std.proofs.lemmas.List.Elements.{All-push}
 use Rattle.std.proofs.lemmas.Nat.{pow_pos}
-use Rattle.dl_exact.specs.Fraction.{Fraction, whole, ◌over◌, ◌*ℚ◌, ◌≤ℚ◌}
+use Rattle.dl_exact.specs.Fraction.{Fraction, whole, ◌over◌, ◌≤ℚ◌}
 use Rattle.dl_exact.proofs.Over.{over_le, over_same}
 use Rattle.dl_exact.proofs.Laws.{one_pos, le_refl, le_trans, le_of_eq}
 use Rattle.dl_iv.specs.declared.interval.Iv.{Iv}
@@ -23,7 +23,7 @@ use Rattle.dl_model.proofs.CompoundLaws.{power_within_one}
 use Rattle.dl_model.proofs.FiniteCounts.{power_one}
 use Rattle.dl_model.proofs.Powers.{power_plus}
 use Rattle.dl_exact.proofs.Sums.{item_le_sum}
-use Rattle.dl_power.specs.Powers.{LieBetween, Between, ArePowers}
+use Rattle.dl_power.specs.Powers.{Between, ArePowers}
 use Rattle.dl_power.proofs.BlockEnds.{low_sums, product_between}
 
 -- a grid's own low ends are probabilities that it holds
@@ -42,28 +42,35 @@ own_between {B} base K = record {
 }
 
 -- the grid at a place
-pub power_at : {B : ℕ} (K n : ℕ) (f : ℕ → Fraction) (grids : List (List (Iv B))) (g : List (Iv B)) → n < length grids → g ≡ get_or grids n g → ArePowers K f grids
+pub power_at : {B : ℕ} (K n : ℕ) (f : ℕ → Fraction) (grids : List (List (Iv B))) (g : List (Iv B)) → n < length grids
+    → g ≡ get_or grids n g → ArePowers K f grids
     → Between K g (power f n)
-power_at K n f grids g inside is of_f = subst (λ t. Between K t (power f n)) (get_or_default grids n [] g inside ∙ sym is) (of_f n inside)
+power_at K n f grids g inside is of_f = subst (λ t. Between K t (power f n))
+    (get_or_default grids n [] g inside ∙ sym is) (of_f n inside)
 
-pub first_powers : {B : ℕ} (K m : ℕ) (f : ℕ → Fraction) (grids : List (List (Iv B))) → ArePowers K f grids → ArePowers K f (take m grids)
+pub first_powers : {B : ℕ} (K m : ℕ) (f : ℕ → Fraction) (grids : List (List (Iv B))) → ArePowers K f grids
+    → ArePowers K f (take m grids)
 first_powers K m f grids of_f n inside =
     let both : (n < m) × (n < length grids) = omega (arith, inside, length-take m grids) in
     subst (λ t. Between K t (power f n)) (sym (get_or-take m grids n [] both.0)) (of_f n both.1)
 
-pub more_powers : {B : ℕ} (K n : ℕ) (f : ℕ → Fraction) (xs ys : List (List (Iv B))) (g : List (Iv B)) → ys ≡ xs ++ g ∷ [] → length xs ≡ n → ArePowers K f xs
+pub more_powers : {B : ℕ} (K n : ℕ) (f : ℕ → Fraction) (xs ys : List (List (Iv B))) (g : List (Iv B))
+    → ys ≡ xs ++ g ∷ [] → length xs ≡ n → ArePowers K f xs
     → Between K g (power f n) → ArePowers K f ys
 more_powers {B} K n f xs ys g e many before here i inside = elim (cases_lt i n) [
   | inl less ↦ subst (λ t. Between K t (power f i))
-      (sym (ap (λ (t : List (List (Iv B))). get_or t i []) e ∙ get_or_append_left xs (g ∷ []) [] i (omega (arith, many, less)))) (before i (omega (arith, many, less)))
+      (sym (ap (λ (t : List (List (Iv B))). get_or t i []) e
+      ∙ get_or_append_left xs (g ∷ []) [] i (omega (arith, many, less)))) (before i (omega (arith, many, less)))
   | inr past ↦
       let at : n ≡ i = omega (arith, past, inside, ap length e, length-append xs (g ∷ []), many) in
       subst₂ (λ t j. Between K t (power f j))
-      (sym (ap₂ (λ (t : List (List (Iv B))) j. get_or t j []) e (sym (many ∙ at)) ∙ get_or-append_seam xs g [] [])) at here
+      (sym (ap₂ (λ (t : List (List (Iv B))) j. get_or t j []) e (sym (many ∙ at)) ∙ get_or-append_seam xs g [] [])) at
+      here
 ]
 
 -- no claim, and one claim
-pub no_claim : {B : ℕ} (g : List (Iv B)) (K : ℕ) (f : ℕ → Fraction) → ((x : ℕ) → low_at g x ≡ all_at_zero (2 ^ B) x) → ((x : ℕ) → high_at g x ≡ all_at_zero (2 ^ B) x)
+pub no_claim : {B : ℕ} (g : List (Iv B)) (K : ℕ) (f : ℕ → Fraction) → ((x : ℕ) → low_at g x ≡ all_at_zero (2 ^ B) x)
+    → ((x : ℕ) → high_at g x ≡ all_at_zero (2 ^ B) x)
     → Between K g (power f 0)
 unfolding power all_at_zero at_zero
 no_claim {B} g K f low high = record {
@@ -75,7 +82,8 @@ no_claim {B} g K f low high = record {
     surely zero = over_same _ _ 1 1 (pow_pos B) one_pos (omega arith)
     surely (suc s) = over_same _ _ 0 1 (pow_pos B) one_pos (omega arith)
 
-pub one_claim : {B : ℕ} (base g : List (Iv B)) (K : ℕ) (f : ℕ → Fraction) → g ≡ take K base → Between K base f → Between K g (power f 1)
+pub one_claim : {B : ℕ} (base g : List (Iv B)) (K : ℕ) (f : ℕ → Fraction) → g ≡ take K base → Between K base f
+    → Between K g (power f 1)
 one_claim {B} base g K f is of_f =
     subst₂ (λ t c. Between K t c) (sym is) (sym (power_one f)) (record {
       low = λ s inside. subst (λ t. t over 2 ^ B ≤ℚ f s) (sym (low_take base K s inside)) (of_f.low s inside);
@@ -85,13 +93,16 @@ one_claim {B} base g K f is of_f =
 -- the product of two powers
 pub joined_powers : {B : ℕ} (a b g : List (Iv B)) (K m n k : ℕ) (f : ℕ → Fraction) → m + n ≡ k → IsWithinOne f
     → ((s : ℕ) → s < K → low_at g s ≡ count_pairs s (λ i j. low_at a i * low_at b j) / 2 ^ B)
-    → ((s : ℕ) → s < K → high_at g s ≡ min (2 ^ B) (div_ceil (count_pairs s (λ i j. high_at a i * high_at b j)) (2 ^ B)))
+    → ((s : ℕ) → s < K → high_at g s ≡ min (2 ^ B)
+    (div_ceil (count_pairs s (λ i j. high_at a i * high_at b j)) (2 ^ B)))
     → Between K a (power f m) → Between K b (power f n) → Between K g (power f k)
 joined_powers {B} a b g K m n k f sum q low high of_a of_b =
     let same : convolve (power f m) (power f n) ≡ power f k = sym (power_plus f m n) ∙ ap (power f) sum in
     subst (λ c. Between K g c) same
-    (product_between (2 ^ B) (pow_pos B) K (low_at a) (high_at a) (low_at b) (high_at b) (low_at g) (high_at g) (power f m) (power f n) of_a of_b
-    (λ s. subst (λ c. c s ≤ℚ whole 1) (sym same) (le_trans _ _ _ (item_le_sum s (power f k)) (power_within_one f q k s))) low high)
+    (product_between (2 ^ B) (pow_pos B) K (low_at a) (high_at a) (low_at b) (high_at b) (low_at g) (high_at g)
+    (power f m) (power f n) of_a of_b
+    (λ s. subst (λ c. c s ≤ℚ whole 1) (sym same)
+    (le_trans _ _ _ (item_le_sum s (power f k)) (power_within_one f q k s))) low high)
 
 -- lists of grids as a loop makes them
 pub no_powers : {B : ℕ} (K : ℕ) (f : ℕ → Fraction) (grids : List (List (Iv B))) → grids ≡ [] → ArePowers K f grids
@@ -100,9 +111,13 @@ no_powers K f grids e n inside = absurd (omega (arith, inside, ap length e))
 pub no_grids : {B : ℕ} (grids : List (List (Iv B))) (K : ℕ) → grids ≡ [] → All (λ t. length t ≡ K) grids
 no_grids grids K e n d inside = absurd (omega (arith, inside, ap length e))
 
-pub all_more : {B : ℕ} (xs ys : List (List (Iv B))) (g : List (Iv B)) (K : ℕ) → ys ≡ xs ++ g ∷ [] → All (λ t. length t ≡ K) xs → length g ≡ K → All (λ t. length t ≡ K) ys
-all_more xs ys g K e before here = subst (All (λ t. length t ≡ K)) (sym e) (All-push (λ t. length t ≡ K) xs g before here)
+pub all_more : {B : ℕ} (xs ys : List (List (Iv B))) (g : List (Iv B)) (K : ℕ) → ys ≡ xs ++ g ∷ []
+    → All (λ t. length t ≡ K) xs → length g ≡ K → All (λ t. length t ≡ K) ys
+all_more xs ys g K e before here = subst (All (λ t. length t ≡ K)) (sym e)
+    (All-push (λ t. length t ≡ K) xs g before here)
 
-pub next_at : {B : ℕ} (K : ℕ) (f : ℕ → Fraction) (xs ys : List (List (Iv B))) (g : List (Iv B)) → xs ≡ ys → (ArePowers K f xs → Between K g (power f (length xs)))
+pub next_at : {B : ℕ} (K : ℕ) (f : ℕ → Fraction) (xs ys : List (List (Iv B))) (g : List (Iv B)) → xs ≡ ys
+    → (ArePowers K f xs → Between K g (power f (length xs)))
     → ArePowers K f ys → Between K g (power f (length ys))
-next_at K f xs ys g e = subst (λ t. (ArePowers K f xs → Between K g (power f (length xs))) → ArePowers K f t → Between K g (power f (length t))) e (λ next. next)
+next_at K f xs ys g e = subst (λ t. (ArePowers K f xs → Between K g (power f (length xs))) → ArePowers K f t
+    → Between K g (power f (length t))) e (λ next. next)

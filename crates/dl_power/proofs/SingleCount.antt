@@ -1,15 +1,14 @@
 -- A list of one number of claims.
-use Rattle.std.proofs.Common.{ℕ, ◌≡◌, ◌+◌, ◌^◌, ◌<◌, List, [], ◌∷◌, length, get_or, arith, refl, sym, ap, subst, inl, inr, ◌∙◌, nat_eq, ne_eqb}
+use Rattle.std.proofs.Common.{ℕ, ◌≡◌, ◌^◌, ◌<◌, List, [], ◌∷◌, length, get_or, arith, sym, subst, inl, inr, nat_eq, ne_eqb}
 use mathlib.Core.Path.{fun_ext}
-use Rattle.std.specs.Prelude.{true, false, ◌==◌, if◌then◌else◌}
+use Rattle.std.specs.Prelude.{true, false}
 use Rattle.std.proofs.lemmas.Bool.Decides.{eqb_tells}
-use Rattle.dl_exact.specs.Fraction.{Fraction, whole, ◌over◌}
+use Rattle.dl_exact.specs.Fraction.{Fraction}
 use Rattle.dl_exact.proofs.Over.{over_same}
 use Rattle.dl_exact.proofs.Laws.{one_pos}
 use Rattle.dl_iv.specs.declared.interval.Iv.{Iv}
 use Rattle.dl_grid.specs.Cells.{low_at, high_at}
-use Rattle.dl_model.specs.Program.{where_true}
-use Rattle.dl_model.specs.Listed.{weighted, probability}
+use Rattle.dl_model.specs.Listed.{probability_at}
 use Rattle.dl_model.specs.Counts.{fixed}
 use Rattle.dl_model.specs.Severity.{IsWithinOne}
 use Rattle.dl_model.specs.Family.{Family, IsProper, compound, times_itself, GridEncloses}
@@ -26,7 +25,7 @@ alike a n e = elim (eqb_tells n a) [
   | inr p ↦ absurd (p.1 (sym e))
 ]
 
-surely : (item : Item) (n : ℕ) → 0 < weight_sum (item ∷ []) → probability (weighted (item ∷ [])) n ≡ fixed item.amount n
+surely : (item : Item) (n : ℕ) → 0 < weight_sum (item ∷ []) → probability_at (item ∷ []) n ≡ fixed item.amount n
 surely item n pos = elim (eqb_tells item.amount n) [
   | inl p ↦ rw (p.0, alike item.amount n p.1) (over_same _ _ 1 1 (omega arith) one_pos (omega arith))
   | inr p ↦
@@ -34,10 +33,12 @@ surely item n pos = elim (eqb_tells item.amount n) [
       rw (p.0, other) (over_same _ _ 0 1 (omega arith) one_pos (omega arith))
 ]
 
-pub single_count : {B : ℕ} (base : List (Iv B)) (items : List Item) (d : Item) (total : ℕ) (g : List (Iv B)) → length items ≡ 1
+pub single_count : {B : ℕ} (base : List (Iv B)) (items : List Item) (d : Item) (total : ℕ) (g : List (Iv B))
+    → length items ≡ 1
     → weight_sum items ≡ total → 0 < total
     → ((F : Family) → IsProper F → GridEncloses base F → GridEncloses g (times_itself F (get_or items 0 d).amount))
-    → (f : ℕ → Fraction) → IsWithinOne f → GridEncloses base (compound (fixed 1) f) → GridEncloses g (compound (probability (weighted items)) f)
+    → (f : ℕ → Fraction) → IsWithinOne f → GridEncloses base (compound (fixed 1) f)
+    → GridEncloses g (compound (probability_at items) f)
 single_count base [] d total g one sum pos powers f q of_base = absurd (omega arith)
 single_count base (i ∷ j ∷ items) d total g one sum pos powers f q of_base = absurd (omega arith)
 single_count {B} base (i ∷ []) d total g one sum pos powers f q of_base =

@@ -1,17 +1,24 @@
 -- How the width rule bounds the spread of each step.
-use Rattle.std.proofs.Common.{ℕ, suc, ◌≡◌, ◌+◌, ◌*◌, ◌<◌, ◌≤◌, arith, refl, ap}
+use Rattle.std.proofs.Common.{ℕ, suc, ◌≡◌, ◌+◌, ◌*◌, ◌<◌, ◌≤◌, arith, ap}
 use Rattle.dl_grid.specs.Width.{cv, pw, mixed_spread}
 use Rattle.dl_grid.proofs.WidthLaws.{cv_rises, pw_even, pw_odd}
 
 -- a square, and a square with one more
 pub squared_width : (S k b m n x y : ℕ) → 0 < S → 1 ≤ m → m + m ≡ n → x ≤ cv S k y y → y ≤ pw S k b m → x ≤ pw S k b n
 squared_width S k b m n x y pos some e h half =
-    omega (arith, h, cv_rises S k k y (pw S k b m) y (pw S k b m) pos (omega arith) half half, pw_even S k b m some, ap (λ t. pw S k b t) (double m n e))
+    omega (
+      arith,
+      h,
+      cv_rises S k k y (pw S k b m) y (pw S k b m) pos (omega arith) half half,
+      pw_even S k b m some,
+      ap (λ t. pw S k b t) (double m n e),
+    )
   where
     double : (m n : ℕ) → m + m ≡ n → 2 * m ≡ n
     double m n e = omega arith
 
-pub one_more_width : (S k b m n x y : ℕ) → 0 < S → 1 ≤ m → m + m + 1 ≡ n → x ≤ cv S k y b → y ≤ pw S k b (m + m) → x ≤ pw S k b n
+pub one_more_width : (S k b m n x y : ℕ) → 0 < S → 1 ≤ m → m + m + 1 ≡ n → x ≤ cv S k y b → y ≤ pw S k b (m + m)
+    → x ≤ pw S k b n
 one_more_width S k b m n x y pos some e h even =
     omega (
       arith,
@@ -28,7 +35,8 @@ one_more_width S k b m n x y pos some e h even =
     double : (m : ℕ) → 2 * m ≡ m + m
     double m = omega arith
 
-pub mixed_more : (S k b c x y more : ℕ) → 0 < S → x ≤ cv S k b y + more → more ≤ 1 → y ≤ mixed_spread S k b c → x ≤ mixed_spread S k b (suc c)
+pub mixed_more : (S k b c x y more : ℕ) → 0 < S → x ≤ cv S k b y + more → more ≤ 1 → y ≤ mixed_spread S k b c
+    → x ≤ mixed_spread S k b (suc c)
 unfolding mixed_spread
 mixed_more S k b c x y more pos h small before =
     omega (arith, h, cv_rises S k k b b y (mixed_spread S k b c) pos (omega arith) (omega arith) before)

@@ -1,9 +1,9 @@
 -- One step of Horner's rule in blocks, on grids.
-use Rattle.std.proofs.Common.{ℕ, suc, ◌≡◌, ◌+◌, ◌-◌, ◌*◌, ◌/◌, ◌^◌, ◌<◌, ◌≤◌, List, length, get_or, arith, refl, sym, ap, subst, subst₂, ◌∙◌}
+use Rattle.std.proofs.Common.{ℕ, suc, ◌≡◌, ◌+◌, ◌*◌, ◌/◌, ◌^◌, ◌<◌, ◌≤◌, List, length, get_or, arith, refl, sym, subst₂, ◌∙◌}
 use Rattle.std.specs.Prelude.{min}
 use Rattle.std.specs.Int.{div_ceil}
 use Rattle.std.proofs.lemmas.Nat.{pow_pos}
-use Rattle.dl_exact.specs.Fraction.{Fraction, whole, ◌over◌, ◌+ℚ◌, ◌≤ℚ◌}
+use Rattle.dl_exact.specs.Fraction.{Fraction, whole, ◌+ℚ◌, ◌≤ℚ◌}
 use Rattle.dl_exact.proofs.Laws.{le_trans, le_of_eq, le_plus, plus_comm}
 use Rattle.dl_iv.specs.declared.interval.Iv.{Iv}
 use Rattle.dl_grid.specs.Cells.{low_at, high_at, AreEnds}
@@ -23,7 +23,8 @@ from_same K g w f k n k' n' e h = subst₂ (λ i j. Between K g (λ s. cell_from
 
 module _ {B : ℕ} (block step later moved : List (Iv B)) (lows highs : List ℕ) (K : ℕ)
     (moved_low : (s : ℕ) → s < K → low_at moved s ≡ count_pairs s (λ i j. low_at step i * low_at later j) / 2 ^ B)
-    (moved_high : (s : ℕ) → s < K → high_at moved s ≡ min (2 ^ B) (div_ceil (count_pairs s (λ i j. high_at step i * high_at later j)) (2 ^ B)))
+    (moved_high : (s : ℕ) → s < K → high_at moved s ≡ min (2 ^ B)
+    (div_ceil (count_pairs s (λ i j. high_at step i * high_at later j)) (2 ^ B)))
     (low : (x : ℕ) → x < K → get_or lows x 0 ≡ min (2 ^ B) (low_at moved x + low_at block x))
     (high : (x : ℕ) → x < K → get_or highs x 0 ≡ min (2 ^ B) (high_at moved x + high_at block x)) where
   pub step_between : (w f : ℕ → Fraction) (k m n : ℕ) → IsStep K w f k m n block step later
@@ -32,19 +33,23 @@ module _ {B : ℕ} (block step later moved : List (Iv B)) (lows highs : List ℕ
       let after : ℕ → Fraction = λ j. cell_from w f (k + suc m) j n in
       let all : (s : ℕ) → cell_from w f k s (suc m + n) ≡ convolve (power f (suc m)) after s +ℚ cell_from w f k s m =
       λ s. block_next w f k m n s ∙ plus_comm _ _ in
-      let one : (s : ℕ) → cell_from w f k s (suc m + n) ≤ℚ whole 1 = λ s. from_within_one w f p.counts p.amounts k s (suc m + n) in
+      let one : (s : ℕ) → cell_from w f k s (suc m + n) ≤ℚ whole 1 = λ s.
+      from_within_one w f p.counts p.amounts k s (suc m + n) in
       let less : (s : ℕ) → convolve (power f (suc m)) after s ≤ℚ whole 1 =
       λ s. le_trans _ _ _ (le_plus _ (cell_from w f k s m)) (le_trans _ _ _ (le_of_eq _ _ (sym (all s))) (one s)) in
-      sum_between (2 ^ B) (pow_pos B) K (low_at moved) (high_at moved) (low_at block) (high_at block) (λ x. get_or lows x 0) (λ x. get_or highs x 0)
+      sum_between (2 ^ B) (pow_pos B) K (low_at moved) (high_at moved) (low_at block) (high_at block)
+      (λ x. get_or lows x 0) (λ x. get_or highs x 0)
       (convolve (power f (suc m)) after) (λ s. cell_from w f k s m) (λ s. cell_from w f k s (suc m + n))
-      (product_between (2 ^ B) (pow_pos B) K (low_at step) (high_at step) (low_at later) (high_at later) (low_at moved) (high_at moved) (power f (suc m)) after
+      (product_between (2 ^ B) (pow_pos B) K (low_at step) (high_at step) (low_at later) (high_at later) (low_at moved)
+      (high_at moved) (power f (suc m)) after
       p.of_step p.of_later less moved_low moved_high)
       p.of_block all one low high
 
   pub step_ends : 1 ≤ B → B ≤ 56 → 1 ≤ K → K ≤ 16384 → length lows ≡ K → length highs ≡ K
       → (w f : ℕ → Fraction) (k m n : ℕ) → IsStep K w f k m n block step later → AreEnds B lows highs
   step_ends above below some few many many' w f k m n p =
-      made_ends B K lows highs (λ x. get_or lows x 0) (λ x. get_or highs x 0) above below some few many many' (λ x b. refl) (λ x b. refl)
+      made_ends B K lows highs (λ x. get_or lows x 0) (λ x. get_or highs x 0) above below some few many many'
+      (λ x b. refl) (λ x b. refl)
       (λ x b. omega (arith, low x b, high x b, low_le_high moved x, low_le_high block x))
       (λ x b. omega (arith, high x b))
       (mass_within (2 ^ B) (pow_pos B) K (λ x. get_or lows x 0) (λ s. cell_from w f k s (suc m + n))

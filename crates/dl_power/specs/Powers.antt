@@ -4,7 +4,18 @@ use Rattle.dl_exact.specs.Fraction.{Fraction, ◌over◌, ◌≤ℚ◌}
 use Rattle.dl_iv.specs.declared.interval.Iv.{Iv}
 use Rattle.dl_grid.specs.Cells.{low_at, high_at}
 use Rattle.dl_model.specs.Compound.{power, cell_from}
+use Rattle.dl_model.specs.Counts.{fixed}
+use Rattle.dl_model.specs.Family.{compound, GridEncloses}
+use Rattle.dl_model.specs.Listed.{probability_at}
 use Rattle.dl_model.specs.Severity.{IsWithinOne}
+use Rattle.dl_plan.specs.declared.item.Item.{Item}
+
+-- what `base` holds of one claim, `grid` holds of the sum of such claims whose number the table
+-- lists
+abbrev pub EnclosesListed : {B : ℕ} → List (Iv B) → List Item → List (Iv B) → Type 0
+EnclosesListed base table grid = (f : ℕ → Fraction) → IsWithinOne f
+    → GridEncloses base (compound (fixed 1) f)
+    → GridEncloses grid (compound (probability_at table) f)
 
 -- the first K values lie between ends in units of 1/S
 pub record LieBetween (S K : ℕ) (lo hi : ℕ → ℕ) (c : ℕ → Fraction) : Type 0 where
@@ -20,12 +31,14 @@ abbrev pub ArePowers : {B : ℕ} → ℕ → (ℕ → Fraction) → List (List (
 ArePowers K f grids = (n : ℕ) → n < length grids → Between K (get_or grids n []) (power f n)
 
 -- the sum of the grids' ends at one place, each times its weight
-abbrev pub weighed : {B : ℕ} → List ℕ → List (List (Iv B)) → (List (Iv B) → ℕ) → ℕ
-weighed weights grids end = sum_by (λ pair. pair.0 * end pair.1) (zip weights grids)
+abbrev pub mixture_end : {B : ℕ} → List ℕ → List (List (Iv B)) → (List (Iv B) → ℕ) → ℕ
+mixture_end weights grids end = sum_by (λ pair. pair.0 * end pair.1) (zip weights grids)
 
--- one step of Horner's rule: between the ends of three grids lie what the counts from k to k + m come to, m + 1 claims, and what the
--- n + 1 counts after them come to, each without m + 1 of its claims; all of them are probabilities
-pub record IsStep {B : ℕ} (K : ℕ) (w f : ℕ → Fraction) (k m n : ℕ) (block step later : List (Iv B)) : Type 0 where
+-- one step of Horner's rule: between the ends of three grids lie what the counts from k to k + m
+-- come to, m + 1 claims, and what the n + 1 counts after them come to, each without m + 1 of its
+-- claims; all of them are probabilities
+pub record IsStep {B : ℕ} (K : ℕ) (w f : ℕ → Fraction) (k m n : ℕ)
+    (block step later : List (Iv B)) : Type 0 where
   pub counts : IsWithinOne w
   pub amounts : IsWithinOne f
   pub of_block : Between K block (λ s. cell_from w f k s m)

@@ -1,5 +1,5 @@
-//! A listed number of claims by few products: Horner's rule in steps of several claims. A block has the
-//! counts between one step and the next; it is a mixture of low powers, which all blocks share
+//! A listed number of claims by few products: Horner's rule in steps of several claims. A block has
+//! the counts between one step and the next; it is a mixture of low powers, which all blocks share
 //! (Paterson and Stockmeyer, On the number of nonscalar multiplications necessary to evaluate
 //! polynomials).
 
@@ -7,12 +7,9 @@ ghost use Rattle.std.specs.Prelude.{◌≡◌, ℕ, suc, ◌+◌, ◌^◌, ◌<�
 ghost use Rattle.dl_exact.specs.Fraction.{Fraction};
 ghost use Rattle.dl_grid.specs.Cells.{low_at, high_at};
 ghost use Rattle.dl_model.specs.Compound.{power, cell_from};
-ghost use Rattle.dl_model.specs.Listed.{weighted, probability, greatest};
-ghost use Rattle.dl_model.specs.Counts.{fixed};
 ghost use Rattle.dl_model.specs.Severity.{IsWithinOne};
-ghost use Rattle.dl_model.specs.Family.{compound, GridEncloses};
-ghost use Rattle.dl_plan.specs.Weighted.{weight_sum};
-ghost use Rattle.dl_power.specs.Powers.{Between, ArePowers, IsStep};
+ghost use Rattle.dl_plan.specs.Weighted.{weight_sum, greatest};
+ghost use Rattle.dl_power.specs.Powers.{EnclosesListed, Between, ArePowers, IsStep};
 
 use crate::mixture::block;
 use crate::shares::greatest_of;
@@ -32,7 +29,8 @@ fn next_power<const B: u32>(
     requires two { 2 ≤ length powers.now }
     requires same { All (λ g. length g ≡ cells) powers.now }
     ensures cells { IfOk result (λ g. length g ≡ cells) }
-    ensures between { IfOk result (λ g. (f : ℕ → Fraction) → IsWithinOne f → ArePowers cells f powers.now
+    ensures between { IfOk result (λ g. (f : ℕ → Fraction) → IsWithinOne f
+        → ArePowers cells f powers.now
         → Between cells g (power f (length powers.now))) }
 {
     let claims = powers.len();
@@ -57,7 +55,8 @@ fn powers_to<const B: u32>(
     requires few { most < 2 ^ 32 }
     ensures many { IfOk result (λ list. length list.items ≡ suc most) }
     ensures same { IfOk result (λ list. All (λ g. length g ≡ cells) list.items) }
-    ensures powers { IfOk result (λ list. (f : ℕ → Fraction) → IsWithinOne f → Between cells base.now f
+    ensures powers { IfOk result (λ list. (f : ℕ → Fraction) → IsWithinOne f
+        → Between cells base.now f
         → ArePowers cells f list.items) }
 {
     base.cells();
@@ -104,7 +103,8 @@ fn with_later<const B: u32>(
     requires step { (w : ℕ → Fraction) × (f : ℕ → Fraction) × (k : ℕ) × (m : ℕ) × (n : ℕ)
         × IsStep cells w f k m n block.now step.now later.now }
     ensures cells { IfOk result (λ g. length g ≡ cells) }
-    ensures between { IfOk result (λ g. (w f : ℕ → Fraction) (k m n : ℕ) → IsStep cells w f k m n block.now step.now later.now
+    ensures between { IfOk result (λ g. (w f : ℕ → Fraction) (k m n : ℕ)
+        → IsStep cells w f k m n block.now step.now later.now
         → Between cells g (λ s. cell_from w f k s (suc m + n))) }
 {
     let moved = product(alloc, work, step, later, cells)?;
@@ -114,16 +114,16 @@ fn with_later<const B: u32>(
     Ok(Grid::from_ends(lows, highs))
 }
 
-/// How many counts a block has where `greatest` is the greatest count: about the square root of their
-/// number, so that powers and blocks are about as many.
+/// How many counts a block has where `greatest` is the greatest count: about the square root of
+/// their number, so that powers and blocks are about as many.
 fn block_length(greatest: u32) -> u32
     ensures { 1 ≤ result }
 {
     greatest.saturating_add(1).isqrt().max(1)
 }
 
-/// The first `cells` cells of the sum of a listed number of claims, by about twice as many products as
-/// the square root of the greatest number says. It holds as many grids as half of these.
+/// The first `cells` cells of the sum of a listed number of claims, by about twice as many products
+/// as the square root of the greatest number says. It holds as many grids as half of these.
 pub(crate) fn by_blocks<const B: u32>(
     alloc: Global,
     work: &mut Workspace,
@@ -137,8 +137,7 @@ pub(crate) fn by_blocks<const B: u32>(
     requires some { 1 ≤ cells }
     requires within { cells ≤ length base.now }
     ensures cells { IfOk result (λ g. length g ≡ cells) }
-    ensures encloses { IfOk result (λ g. (f : ℕ → Fraction) → IsWithinOne f → GridEncloses base.now (compound (fixed 1) f)
-        → GridEncloses g (compound (probability (weighted table.now)) f)) }
+    ensures encloses { IfOk result (λ g. EnclosesListed base.now table.now g) }
 {
     base.cells();
     let greatest = greatest_of(table);

@@ -3,8 +3,9 @@
 ghost use Rattle.std.specs.Prelude.{◌≡◌, ℕ, ◌*◌, ◌/◌, ◌^◌, ◌<◌, ◌≤◌, length, IfOk};
 ghost use Rattle.std.specs.Int.{div_ceil};
 ghost use Rattle.std.specs.List.Sorted.{IsStrictlyIncreasing};
+ghost use Rattle.dl_limits.specs.Limits.{most_cells};
 ghost use Rattle.dl_grid.specs.Cells.{low_at, high_at, spread};
-ghost use Rattle.dl_model.specs.Listed.{weighted, probability};
+ghost use Rattle.dl_model.specs.Listed.{probability_at};
 ghost use Rattle.dl_model.specs.Counts.{fixed};
 ghost use Rattle.dl_model.specs.Family.{compound, GridEncloses};
 ghost use Rattle.dl_plan.specs.Weighted.{amounts_of, weight_at, weight_sum};
@@ -14,8 +15,8 @@ use dl_grid::Grid;
 use dl_plan::Item;
 use std::alloc::{AllocError, Global};
 
-/// The first `cells` cells of one claim: each holds the probability of its amount, its weight over the
-/// total, rounded outward once. The amounts rise; those past the grid are left out.
+/// The first `cells` cells of one claim: each holds the probability of its amount, its weight over
+/// the total, rounded outward once. The amounts rise; those past the grid are left out.
 pub fn claim_grid<const B: u32>(
     alloc: Global,
     amounts: &[Item],
@@ -28,11 +29,14 @@ pub fn claim_grid<const B: u32>(
     requires sum { weight_sum amounts.now ≡ total }
     requires positive { 0 < total }
     requires some { 1 ≤ cells }
-    requires few { cells ≤ 16384 }
+    requires few { cells ≤ most_cells }
     ensures cells { IfOk result (λ g. length g ≡ cells) }
-    ensures low { IfOk result (λ g. (x : ℕ) → x < cells → low_at g x ≡ 2 ^ B * weight_at amounts.now x / total) }
-    ensures high { IfOk result (λ g. (x : ℕ) → x < cells → high_at g x ≡ div_ceil (2 ^ B * weight_at amounts.now x) total) }
-    ensures encloses { IfOk result (λ g. GridEncloses g (compound (fixed 1) (probability (weighted amounts.now)))) }
+    ensures low { IfOk result (λ g. (x : ℕ) → x < cells
+        → low_at g x ≡ 2 ^ B * weight_at amounts.now x / total) }
+    ensures high { IfOk result (λ g. (x : ℕ) → x < cells
+        → high_at g x ≡ div_ceil (2 ^ B * weight_at amounts.now x) total) }
+    ensures encloses { IfOk result (λ g. GridEncloses g
+        (compound (fixed 1) (probability_at amounts.now))) }
     ensures spread { IfOk result (λ g. spread g ≤ length amounts.now) }
 {
     let mut grid = nowhere(alloc, cells)?;

@@ -2,15 +2,11 @@
 
 ghost use Rattle.std.specs.Prelude.{◌≡◌, ℕ, suc, ◌+◌, ◌-◌, ◌*◌, ◌/◌, ◌^◌, ◌<◌, ◌≤◌, min, length, IfOk};
 ghost use Rattle.std.specs.Int.{div_ceil};
-ghost use Rattle.dl_exact.specs.Fraction.{Fraction};
 ghost use Rattle.dl_grid.specs.Cells.{low_at, high_at, mass_low, spread, all_at_zero};
 ghost use Rattle.dl_exact.specs.Count.{count_pairs};
 ghost use Rattle.dl_grid.specs.Width.{cv, mixed_spread};
-ghost use Rattle.dl_model.specs.Listed.{weighted, probability, greatest};
-ghost use Rattle.dl_model.specs.Counts.{fixed};
-ghost use Rattle.dl_model.specs.Severity.{IsWithinOne};
-ghost use Rattle.dl_model.specs.Family.{compound, GridEncloses};
-ghost use Rattle.dl_plan.specs.Weighted.{weight_sum};
+ghost use Rattle.dl_plan.specs.Weighted.{weight_sum, greatest};
+ghost use Rattle.dl_power.specs.Powers.{EnclosesListed};
 
 use crate::blocks::by_blocks;
 use crate::powers::power_with;
@@ -55,11 +51,15 @@ fn one_claim_more<const B: u32>(
     requires mass { mass_low later.now + share.lo ≤ 2 ^ B }
     ensures cells { IfOk result (λ g. length g ≡ cells) }
     ensures low { IfOk result (λ g. (s : ℕ) → s < cells → low_at g s
-        ≡ count_pairs s (λ i j. low_at base.now i * low_at later.now j) / 2 ^ B + all_at_zero share.entry.lo s) }
+        ≡ count_pairs s (λ i j. low_at base.now i * low_at later.now j) / 2 ^ B
+        + all_at_zero share.entry.lo s) }
     ensures high { IfOk result (λ g. (s : ℕ) → s < cells → high_at g s
-        ≡ min (min (2 ^ B) (div_ceil (count_pairs s (λ i j. high_at base.now i * high_at later.now j)) (2 ^ B)) + all_at_zero share.entry.hi s) (2 ^ B)) }
+        ≡ min (min (2 ^ B)
+        (div_ceil (count_pairs s (λ i j. high_at base.now i * high_at later.now j)) (2 ^ B))
+        + all_at_zero share.entry.hi s) (2 ^ B)) }
     ensures mass { IfOk result (λ g. mass_low g ≤ mass_low later.now + share.entry.lo) }
-    ensures spread { IfOk result (λ g. spread g ≤ cv (2 ^ B) cells (spread base.now) (spread later.now) + (share.entry.hi - share.entry.lo)) }
+    ensures spread { IfOk result (λ g. spread g ≤ cv (2 ^ B) cells (spread base.now)
+        (spread later.now) + (share.entry.hi - share.entry.lo)) }
 {
     base.cells();
     let mut grid = product(alloc, work, base, later, cells)?;
@@ -67,8 +67,8 @@ fn one_claim_more<const B: u32>(
     Ok(grid)
 }
 
-/// The sum of a listed number of claims by Horner's rule: it goes from the greatest number down, with
-/// one product for each number below it. Besides the base two grids are held at a time.
+/// The sum of a listed number of claims by Horner's rule: it goes from the greatest number down,
+/// with one product for each number below it. Besides the base two grids are held at a time.
 fn by_horner<const B: u32>(
     alloc: Global,
     work: &mut Workspace,
@@ -82,9 +82,9 @@ fn by_horner<const B: u32>(
     requires some { 1 ≤ cells }
     requires within { cells ≤ length base.now }
     ensures cells { IfOk result (λ g. length g ≡ cells) }
-    ensures encloses { IfOk result (λ g. (f : ℕ → Fraction) → IsWithinOne f → GridEncloses base.now (compound (fixed 1) f)
-        → GridEncloses g (compound (probability (weighted table.now)) f)) }
-    ensures spread { IfOk result (λ g. spread g ≤ mixed_spread (2 ^ B) cells (spread base.now) (greatest (weighted table.now))) }
+    ensures encloses { IfOk result (λ g. EnclosesListed base.now table.now g) }
+    ensures spread { IfOk result (λ g. spread g ≤ mixed_spread (2 ^ B) cells (spread base.now)
+        (greatest table.now)) }
 {
     base.cells();
     let greatest = greatest_of(table);
@@ -101,7 +101,8 @@ fn by_horner<const B: u32>(
     Ok(grid)
 }
 
-/// The sum of a listed number of claims by fewer products: where one number is listed it is a power.
+/// The sum of a listed number of claims by fewer products: where one number is listed it is a
+/// power.
 fn by_fewer<const B: u32>(
     alloc: Global,
     work: &mut Workspace,
@@ -115,8 +116,7 @@ fn by_fewer<const B: u32>(
     requires some { 1 ≤ cells }
     requires within { cells ≤ length base.now }
     ensures cells { IfOk result (λ g. length g ≡ cells) }
-    ensures encloses { IfOk result (λ g. (f : ℕ → Fraction) → IsWithinOne f → GridEncloses base.now (compound (fixed 1) f)
-        → GridEncloses g (compound (probability (weighted table.now)) f)) }
+    ensures encloses { IfOk result (λ g. EnclosesListed base.now table.now g) }
 {
     if table.len() == 1 {
         return power_with(alloc, work, base, table[0].amount, cells);
@@ -124,8 +124,8 @@ fn by_fewer<const B: u32>(
     by_blocks(alloc, work, base, table, total, cells)
 }
 
-/// The first `cells` cells of the sum of a listed number of claims: `table` has the numbers of claims,
-/// each with its weight out of `total`, and `base` is the grid of one claim.
+/// The first `cells` cells of the sum of a listed number of claims: `table` has the numbers of
+/// claims, each with its weight out of `total`, and `base` is the grid of one claim.
 pub fn mix_counts<const B: u32>(
     alloc: Global,
     base: &Grid<B>,
@@ -138,15 +138,15 @@ pub fn mix_counts<const B: u32>(
     requires some { 1 ≤ cells }
     requires within { cells ≤ length base.now }
     ensures cells { IfOk result (λ g. length g ≡ cells) }
-    ensures encloses { IfOk result (λ g. (f : ℕ → Fraction) → IsWithinOne f → GridEncloses base.now (compound (fixed 1) f)
-        → GridEncloses g (compound (probability (weighted table.now)) f)) }
-    ensures spread { IfOk result (λ g. spread g ≤ mixed_spread (2 ^ B) cells (spread base.now) (greatest (weighted table.now))) }
+    ensures encloses { IfOk result (λ g. EnclosesListed base.now table.now g) }
+    ensures spread { IfOk result (λ g. spread g ≤ mixed_spread (2 ^ B) cells (spread base.now)
+        (greatest table.now)) }
 {
     mix_counts_with(alloc, &mut Workspace::new(alloc), base, table, total, cells)
 }
 
-/// The same sum, by products in a workspace that is lent: by as few as there can be; where that comes
-/// out wider than by Horner's rule it may be, by Horner's rule.
+/// The same sum, by products in a workspace that is lent: by as few as there can be; where that
+/// comes out wider than by Horner's rule it may be, by Horner's rule.
 pub fn mix_counts_with<const B: u32>(
     alloc: Global,
     work: &mut Workspace,
@@ -160,9 +160,9 @@ pub fn mix_counts_with<const B: u32>(
     requires some { 1 ≤ cells }
     requires within { cells ≤ length base.now }
     ensures cells { IfOk result (λ g. length g ≡ cells) }
-    ensures encloses { IfOk result (λ g. (f : ℕ → Fraction) → IsWithinOne f → GridEncloses base.now (compound (fixed 1) f)
-        → GridEncloses g (compound (probability (weighted table.now)) f)) }
-    ensures spread { IfOk result (λ g. spread g ≤ mixed_spread (2 ^ B) cells (spread base.now) (greatest (weighted table.now))) }
+    ensures encloses { IfOk result (λ g. EnclosesListed base.now table.now g) }
+    ensures spread { IfOk result (λ g. spread g ≤ mixed_spread (2 ^ B) cells (spread base.now)
+        (greatest table.now)) }
 {
     let grid = by_fewer(alloc, work, base, table, total, cells)?;
     if let Some(most) = spread_of_counts::<B>(base.spread(), greatest_of(table), cells) {

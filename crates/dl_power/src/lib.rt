@@ -1,6 +1,6 @@
 //! Sums of claims: the grid of one claim, of a fixed number of claims, and of a listed number of
-//! claims. Each cell holds the declared probability of its sum, and how far its ends lie apart follows
-//! from the width rule.
+//! claims. Each cell holds the declared probability of its sum, and how far its ends lie apart
+//! follows from the width rule.
 #![tactic(auto)]
 
 mod blocks;
@@ -9,10 +9,9 @@ mod counts;
 mod mixture;
 mod powers;
 mod shares;
-#[cfg(test)]
-mod tests;
 mod widths;
 
 pub use claims::claim_grid;
 pub use counts::{mix_counts, mix_counts_with};
 pub use powers::{power, power_with};
+pub use shares::nowhere;

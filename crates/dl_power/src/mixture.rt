@@ -1,13 +1,15 @@
-//! A mixture of grids: the ends of each cell, each times its grid's weight, over the total of the weights.
+//! A mixture of grids: the ends of each cell, each times its grid's weight, over the total of the
+//! weights.
 
 ghost use Rattle.std.specs.Prelude.{◌≡◌, ℕ, ◌+◌, ◌-◌, ◌*◌, ◌^◌, ◌<◌, ◌≤◌, length, get_or, All, IfOk};
+ghost use Rattle.dl_limits.specs.Limits.{most_cells};
 ghost use Rattle.dl_exact.specs.Fraction.{Fraction};
 ghost use Rattle.dl_grid.specs.Cells.{low_at, high_at};
 ghost use Rattle.dl_model.specs.Compound.{cell_from};
-ghost use Rattle.dl_model.specs.Listed.{weighted, probability};
+ghost use Rattle.dl_model.specs.Listed.{probability_at};
 ghost use Rattle.dl_model.specs.Severity.{IsWithinOne};
 ghost use Rattle.dl_plan.specs.Weighted.{weight_at, weight_sum};
-ghost use Rattle.dl_power.specs.Powers.{Between, ArePowers, weighed};
+ghost use Rattle.dl_power.specs.Powers.{Between, ArePowers, mixture_end};
 
 use crate::shares::weight_of;
 use dl_grid::{Grid, units_of_one};
@@ -25,7 +27,8 @@ fn weights_from(
     requires few { many < 2 ^ 32 }
     requires near { first < 2 ^ 33 }
     ensures many { IfOk result (λ list. length list.items ≡ many) }
-    ensures each { IfOk result (λ list. (i : ℕ) → i < many → get_or list.items i 0 ≡ weight_at table.now (first + i)) }
+    ensures each { IfOk result (λ list. (i : ℕ) → i < many
+        → get_or list.items i 0 ≡ weight_at table.now (first + i)) }
 {
     let mut weights = Vec::with_capacity(alloc, many)?;
     for i in 0..many {
@@ -40,8 +43,8 @@ fn sums_at<const B: u32>(weights: &[u32], grids: &[Grid<B>], x: usize) -> (u128,
     requires as_many { length weights.now ≡ length grids.now }
     requires few { length grids.now < 2 ^ 32 }
     requires inside { All (λ g. x < length g) grids.now }
-    ensures low { result.0 ≡ weighed weights.now grids.now (λ g. low_at g x) }
-    ensures high { result.1 ≡ weighed weights.now grids.now (λ g. high_at g x) }
+    ensures low { result.0 ≡ mixture_end weights.now grids.now (λ g. low_at g x) }
+    ensures high { result.1 ≡ mixture_end weights.now grids.now (λ g. high_at g x) }
     ensures small { result.1 ≤ 2 ^ 120 }
 {
     let mut low = 0;
@@ -55,8 +58,8 @@ fn sums_at<const B: u32>(weights: &[u32], grids: &[Grid<B>], x: usize) -> (u128,
     (low, high)
 }
 
-/// The counts from `first` on, as many as there are powers: of each its power, times its weight over
-/// the total. The cells are rounded once.
+/// The counts from `first` on, as many as there are powers: of each its power, times its weight
+/// over the total. The cells are rounded once.
 pub(crate) fn block<const B: u32>(
     alloc: Global,
     powers: &[Grid<B>],
@@ -70,15 +73,17 @@ pub(crate) fn block<const B: u32>(
     requires sum { weight_sum table.now ≡ total }
     requires positive { 0 < total }
     requires some { 1 ≤ cells }
-    requires few { cells ≤ 16384 }
+    requires few { cells ≤ most_cells }
     requires one { 1 ≤ length powers.now }
     requires most { length powers.now < 2 ^ 32 }
     requires near { first < 2 ^ 33 }
     requires same { All (λ g. length g ≡ cells) powers.now }
     requires powers { (f : ℕ → Fraction) × IsWithinOne f × ArePowers cells f powers.now }
     ensures cells { IfOk result (λ g. length g ≡ cells) }
-    ensures between { IfOk result (λ g. (f : ℕ → Fraction) → IsWithinOne f → ArePowers cells f powers.now
-        → Between cells g (λ s. cell_from (probability (weighted table.now)) f first s (length powers.now - 1))) }
+    ensures between { IfOk result (λ g. (f : ℕ → Fraction) → IsWithinOne f
+        → ArePowers cells f powers.now
+        → Between cells g (λ s. cell_from (probability_at table.now) f first s
+        (length powers.now - 1))) }
 {
     let weights = weights_from(alloc, table, first, powers.len())?;
     let total = u128::from(total);

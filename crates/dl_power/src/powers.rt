@@ -9,10 +9,10 @@ use dl_grid::Grid;
 use dl_product::{Workspace, product, square};
 use std::alloc::{AllocError, Global};
 
-/// The first `cells` cells of the `n`-th convolution power: the outcomes of `n` independent copies of
-/// what the base holds, added up. An even power is the square of its half, and an odd one that of the
-/// number before it and one copy more, so there are at most two products for each binary digit of
-/// `n`. Besides the base at most two grids are held at a time.
+/// The first `cells` cells of the `n`-th convolution power: the outcomes of `n` independent copies
+/// of what the base holds, added up. An even power is the square of its half, and an odd one that
+/// of the number before it and one copy more, so there are at most two products for each binary
+/// digit of `n`. Besides the base at most two grids are held at a time.
 pub fn power<const B: u32>(
     alloc: Global,
     base: &Grid<B>,
@@ -22,7 +22,8 @@ pub fn power<const B: u32>(
     requires some { 1 ≤ cells }
     requires within { cells ≤ length base.now }
     ensures cells { IfOk result (λ g. length g ≡ cells) }
-    ensures encloses { IfOk result (λ g. (F : Family) → IsProper F → GridEncloses base.now F → GridEncloses g (times_itself F n)) }
+    ensures encloses { IfOk result (λ g. (F : Family) → IsProper F → GridEncloses base.now F
+        → GridEncloses g (times_itself F n)) }
     ensures spread { IfOk result (λ g. spread g ≤ pw (2 ^ B) cells (spread base.now) n) }
 {
     power_with(alloc, &mut Workspace::new(alloc), base, n, cells)
@@ -39,7 +40,8 @@ pub fn power_with<const B: u32>(
     requires some { 1 ≤ cells }
     requires within { cells ≤ length base.now }
     ensures cells { IfOk result (λ g. length g ≡ cells) }
-    ensures encloses { IfOk result (λ g. (F : Family) → IsProper F → GridEncloses base.now F → GridEncloses g (times_itself F n)) }
+    ensures encloses { IfOk result (λ g. (F : Family) → IsProper F → GridEncloses base.now F
+        → GridEncloses g (times_itself F n)) }
     ensures spread { IfOk result (λ g. spread g ≤ pw (2 ^ B) cells (spread base.now) n) }
 {
     base.cells();

@@ -2,10 +2,10 @@
 
 ghost use Rattle.std.specs.Prelude.{◌≡◌, ℕ, ◌+◌, ◌-◌, ◌*◌, ◌/◌, ◌^◌, ◌==◌, ◌<◌, ◌≤◌, if◌then◌else◌, length, List, IfOk};
 ghost use Rattle.std.specs.Int.{div_ceil};
+ghost use Rattle.dl_limits.specs.Limits.{most_cells};
 ghost use Rattle.dl_grid.specs.Cells.{low_at, high_at, mass_low, spread};
-ghost use Rattle.dl_model.specs.Listed.{weighted, weight_of, total_weight, greatest};
 ghost use Rattle.dl_plan.specs.declared.item.Item.{Item};
-ghost use Rattle.dl_plan.specs.Weighted.{weight_at, weight_sum};
+ghost use Rattle.dl_plan.specs.Weighted.{weight_at, weight_sum, greatest};
 
 use dl_grid::Grid;
 use dl_iv::Iv;
@@ -28,7 +28,7 @@ pub(crate) fn weight_of(items: &[Item], x: u64) -> u32
 
 /// The greatest number of a list, 0 of none.
 pub(crate) fn greatest_of(items: &[Item]) -> u32
-    ensures { result ≡ greatest (weighted items.now) }
+    ensures { result ≡ greatest items.now }
 {
     let mut most: u32 = 0;
     for item in items {
@@ -50,12 +50,12 @@ pub(crate) fn share<const B: u32>(weight: u32, total: u32) -> Iv<B>
     Iv::enclose(u128::from(weight), u128::from(total))
 }
 
-/// The grid whose cells are all 0.
-pub(crate) fn nowhere<const B: u32>(alloc: Global, cells: u32) -> Result<Grid<B>, AllocError>
+/// The grid whose cells are all 0: no probability is in it yet. An error is a want of memory.
+pub fn nowhere<const B: u32>(alloc: Global, cells: u32) -> Result<Grid<B>, AllocError>
     requires scale_above { 1 ≤ B }
     requires scale_below { B ≤ 56 }
     requires some { 1 ≤ cells }
-    requires few { cells ≤ 16384 }
+    requires few { cells ≤ most_cells }
     ensures cells { IfOk result (λ g. length g ≡ cells) }
     ensures low { IfOk result (λ g. (x : ℕ) → low_at g x ≡ 0) }
     ensures high { IfOk result (λ g. (x : ℕ) → high_at g x ≡ 0) }
@@ -73,8 +73,10 @@ pub(crate) fn put<const B: u32>(grid: &mut Grid<B>, x: u32, v: Iv<B>)
     requires small { v.hi ≤ 2 ^ B }
     requires mass { mass_low grid.old + v.lo ≤ 2 ^ B }
     ensures cells { length grid.new ≡ length grid.old }
-    ensures low { (y : ℕ) → y < length grid.old → low_at grid.new y ≡ (if x == y then v.entry.lo else low_at grid.old y) }
-    ensures high { (y : ℕ) → y < length grid.old → high_at grid.new y ≡ (if x == y then v.entry.hi else high_at grid.old y) }
+    ensures low { (y : ℕ) → y < length grid.old
+        → low_at grid.new y ≡ (if x == y then v.entry.lo else low_at grid.old y) }
+    ensures high { (y : ℕ) → y < length grid.old
+        → high_at grid.new y ≡ (if x == y then v.entry.hi else high_at grid.old y) }
     ensures mass { mass_low grid.new ≤ mass_low grid.old + v.entry.lo }
     ensures spread { spread grid.new ≤ spread grid.old + (v.entry.hi - v.entry.lo) }
 {

@@ -17,7 +17,8 @@ elsewhere a w y other = ap (λ b. min (if b then w else 0) 1) (ne_eqb a y other)
 
 none_before : (n a w : ℕ) → n ≤ a → count_below n (λ y. min (at_place a w y) 1) ≡ 0
 none_before n a w before =
-    let same = below_same n (λ y. min (at_place a w y) 1) (λ y. 0) (λ y h. elsewhere a w y (λ e. absurd (omega (arith, h, e)))) in
+    let same = below_same n (λ y. min (at_place a w y) 1) (λ y. 0)
+    (λ y h. elsewhere a w y (λ e. absurd (omega (arith, h, e)))) in
     omega (arith, same, below_constant n 0)
 
 one_place : (n a w : ℕ) → count_below n (λ y. min (at_place a w y) 1) ≤ 1
@@ -32,7 +33,8 @@ one_place (suc n) a w = elim (cases_lt a n) [
 pub places : (items : List Item) (n : ℕ) → count_below n (λ y. min (weight_at items y) 1) ≤ length items
 places [] n = omega (arith, below_constant n 0)
 places (item ∷ items) n =
-    let each = below_le n (λ y. min (weight_at (item ∷ items) y) 1) (λ y. min (at_place item.amount item.weight y) 1 + min (weight_at items y) 1)
+    let each = below_le n (λ y. min (weight_at (item ∷ items) y) 1)
+    (λ y. min (at_place item.amount item.weight y) 1 + min (weight_at items y) 1)
     (λ y h. omega (arith, sum_by-cons (λ (i : Item). if i.amount == y then i.weight else 0) item items)) in
     omega (
       arith,

@@ -63,13 +63,23 @@ two_small (suc zero) d h = omega arith
 two_small (suc (suc k)) d h = absurd (omega (arith, h))
 
 pub small_over : (n d : ℕ) → 0 < d → n < 2 ^ 48 → d < 2 ^ 48 → IsAdmitted (n over d)
-small_over n d pos small few = record { num = omega (arith, num_of_over-le n d pos, small); den = omega (arith, den_of_over-le n d pos, few) }
+small_over n d pos small few = record {
+  num = omega (arith, num_of_over-le n d pos, small);
+  den =
+      omega (arith, den_of_over-le n d pos, few);
+}
 
 pub third : (q : Fraction) → q ≡ 1 over 3 → IsProbability q
-third q e = subst IsProbability (sym e) (record { within = over_le 1 3 1 1 (zero-lt-suc 2) (zero-lt-suc 0) (omega arith); admitted = small_over 1 3 (zero-lt-suc 2) (omega arith) (omega arith) })
+third q e = subst IsProbability (sym e)
+    (record {
+      within = over_le 1 3 1 1 (zero-lt-suc 2) (zero-lt-suc 0) (omega arith);
+      admitted =
+          small_over 1 3 (zero-lt-suc 2) (omega arith) (omega arith);
+    })
 
 pub two_thirds : (q : Fraction) → q ≡ 1 over 3 → IsAdmitted (whole 2 *ℚ q)
-two_thirds q e = subst IsAdmitted (sym (ap (λ t. whole 2 *ℚ t) e ∙ over_mul 2 1 1 3 (zero-lt-suc 0) (zero-lt-suc 2))) (small_over 2 3 (zero-lt-suc 2) (omega arith) (omega arith))
+two_thirds q e = subst IsAdmitted (sym (ap (λ t. whole 2 *ℚ t) e ∙ over_mul 2 1 1 3 (zero-lt-suc 0) (zero-lt-suc 2)))
+    (small_over 2 3 (zero-lt-suc 2) (omega arith) (omega arith))
 
 pub small_parts : (x : Fraction) → x.num ≤ 3 → x.den ≤ 3 → IsAdmitted x
 small_parts x num den = record { num = omega (arith, num); den = omega (arith, den) }
@@ -98,4 +108,5 @@ four_weighted = record {
     four_positive (suc (suc k)) d h = absurd (omega (arith, h))
 
 pub at_most_4096 : (m : Fraction) (n d : ℕ) → m ≡ n over d → 0 < d → n ≤ 4096 → m ≤ℚ whole 4096
-at_most_4096 m n d e pos small = subst (λ t. t ≤ℚ whole 4096) (sym e) (over_le n d 4096 1 pos (zero-lt-suc 0) (omega (arith, small, mul-le-mul_left 4096 pos)))
+at_most_4096 m n d e pos small = subst (λ t. t ≤ℚ whole 4096) (sym e)
+    (over_le n d 4096 1 pos (zero-lt-suc 0) (omega (arith, small, mul-le-mul_left 4096 pos)))

@@ -6,7 +6,7 @@ use Rattle.std.proofs.lemmas.Bool.{cases_lt}
 use Rattle.std.proofs.lemmas.Nat.{pow_pos}
 use Rattle.dl_exact.specs.Fraction.{Fraction, ◌over◌}
 use Rattle.dl_exact.specs.Sum.{sum_to}
-use Rattle.dl_exact.proofs.RoundingLaws.{div_ceil_least}
+use Rattle.dl_exact.proofs.RoundingLaws.{div_ceil_least, part_within}
 use Rattle.dl_iv.specs.declared.interval.Iv.{Iv}
 use Rattle.dl_grid.specs.Cells.{low_at, high_at, spread, all_at_zero, IsGrid}
 use Rattle.dl_grid.proofs.CellLaws.{high_at_get, low_at_read, high_at_read}
@@ -23,9 +23,10 @@ use Rattle.dl_plan.specs.Weighted.{weight_at}
 use Rattle.dl_grid.proofs.CellSets.{low_added, high_added, high_kept, high_joined}
 use Rattle.dl_unit.specs.Trials.{low_trial, high_trial}
 use Rattle.dl_unit.proofs.Places.{places}
-use Rattle.dl_unit.proofs.Trials.{trial_mass, trial_width, part_within, zero_below, trial_encloses}
+use Rattle.dl_unit.proofs.Trials.{trial_mass, trial_width, zero_below, trial_encloses}
 
-high_small : {B : ℕ} (cells : List (Iv B)) (y : ℕ) (d : Iv B) → IsGrid cells → y < length cells → high_at cells y ≤ 2 ^ B
+high_small : {B : ℕ} (cells : List (Iv B)) (y : ℕ) (d : Iv B) → IsGrid cells → y < length cells
+    → high_at cells y ≤ 2 ^ B
 high_small cells y d grid inside = omega (arith, grid.small y d inside, high_at_get cells y d inside)
 
 -- the rest has room in cell 0
@@ -41,12 +42,14 @@ room_at_zero {B} claim q grid within =
     )
 
 -- the cells of a claim times q, and cell 0 written anew from what it was
-module _ {B : ℕ} (claim list : List (Iv B)) (q : Fraction) (first v : Iv B) (of_claim : IsGrid claim) (within : q.num ≤ q.den)
+module _ {B : ℕ} (claim list : List (Iv B)) (q : Fraction) (first v : Iv B) (of_claim : IsGrid claim)
+    (within : q.num ≤ q.den)
     (many : length list ≡ length claim) (here : first ≡ get_or list 0 first) where
   some : 1 ≤ length list
   some = omega (arith, many, of_claim.some)
 
-  pub first_small : ((y : ℕ) → y < length claim → high_at list y ≡ div_ceil (high_at claim y * q.num) q.den) → first.hi ≤ 2 ^ B
+  pub first_small : ((y : ℕ) → y < length claim → high_at list y ≡ div_ceil (high_at claim y * q.num) q.den)
+      → first.hi ≤ 2 ^ B
   first_small high =
       omega (
         arith,
@@ -61,7 +64,13 @@ module _ {B : ℕ} (claim list : List (Iv B)) (q : Fraction) (first v : Iv B) (o
       → (y : ℕ) → y < length claim → low_at (set list 0 v) y ≡ low_trial (2 ^ B) q (low_at claim) y
   trial_low low e y inside =
       let more : ℕ = 2 ^ B * (q.den - q.num) / q.den in
-      let held : v.lo ≡ low_at list 0 + more = omega (arith, e, low_at_read list 0 first some here, low 0 of_claim.some, room_at_zero claim q of_claim within) in
+      let held : v.lo ≡ low_at list 0 + more = omega (
+        arith,
+        e,
+        low_at_read list 0 first some here,
+        low 0 of_claim.some,
+        room_at_zero claim q of_claim within,
+      ) in
       low_added list v more some held y ∙ ap (λ t. t + all_at_zero more y) (low y inside)
 
   pub trial_high : ((y : ℕ) → y < length claim → high_at list y ≡ div_ceil (high_at claim y * q.num) q.den)
@@ -70,10 +79,16 @@ module _ {B : ℕ} (claim list : List (Iv B)) (q : Fraction) (first v : Iv B) (o
   trial_high high e y inside =
       let more : ℕ = div_ceil (2 ^ B * (q.den - q.num)) q.den in
       let held : v.hi ≡ min (high_at list 0 + more) (2 ^ B) = omega (arith, e, high_at_read list 0 first some here) in
-      let small : high_at list y ≤ 2 ^ B = omega (arith, high y inside, part_within (high_at claim y) q.num q.den q.positive within, high_small claim y v of_claim inside) in
+      let small : high_at list y ≤ 2 ^ B = omega (
+        arith,
+        high y inside,
+        part_within (high_at claim y) q.num q.den q.positive within,
+        high_small claim y v of_claim inside,
+      ) in
       omega (
         arith,
-        high_joined (high_at list) (high_at (set list 0 v)) more (2 ^ B) (high_added list v _ some held) (high_kept list v) y small,
+        high_joined (high_at list) (high_at (set list 0 v)) more (2 ^ B) (high_added list v _ some held)
+            (high_kept list v) y small,
         ap (λ t. min (2 ^ B) (t + all_at_zero more y)) (high y inside),
       )
 
@@ -86,7 +101,8 @@ weight_there S w total pos = elim (cases_lt 0 w) [
       omega (arith, div_ceil_least (S * w) total 0 pos (omega (arith, ap (λ t. S * t) nothing)))
 ]
 
-module _ {B : ℕ} (claim g : List (Iv B)) (q : Fraction) (within : q.num ≤ q.den) (of_claim : IsGrid claim) (many : length g ≡ length claim)
+module _ {B : ℕ} (claim g : List (Iv B)) (q : Fraction) (within : q.num ≤ q.den) (of_claim : IsGrid claim)
+    (many : length g ≡ length claim)
     (low : (y : ℕ) → y < length claim → low_at g y ≡ low_trial (2 ^ B) q (low_at claim) y)
     (high : (y : ℕ) → y < length claim → high_at g y ≡ high_trial (2 ^ B) q (high_at claim) y) where
   pub trial_grid : IsGrid g
@@ -98,16 +114,19 @@ module _ {B : ℕ} (claim g : List (Iv B)) (q : Fraction) (within : q.num ≤ q.
       arith,
       whole_mass (length claim) g many,
       below_same (length claim) (low_at g) (low_trial (2 ^ B) q (low_at claim)) low,
-      trial_mass (2 ^ B) (length claim) q (low_at claim) within (omega (arith, low_within (length claim) claim, of_claim.mass)),
+      trial_mass (2 ^ B) (length claim) q (low_at claim) within
+          (omega (arith, low_within (length claim) claim, of_claim.mass)),
     );
   }
 
-  pub trial_spread : (items : List Item) (total : ℕ) → 0 < total → ((y : ℕ) → y < length claim → high_at claim y ≡ div_ceil (2 ^ B * weight_at items y) total)
+  pub trial_spread : (items : List Item) (total : ℕ) → 0 < total
+      → ((y : ℕ) → y < length claim → high_at claim y ≡ div_ceil (2 ^ B * weight_at items y) total)
       → spread claim ≤ length items → spread g ≤ 3 * (length items + 1)
   trial_spread items total pos held narrow =
       let n : ℕ = length claim in
       let there : ℕ → ℕ = λ y. min (weight_at items y) 1 in
-      let each = below_le n (width_at g) (λ y. width_at claim y + there y + all_at_zero 1 y) (λ y inside. widths y inside) in
+      let each = below_le n (width_at g) (λ y. width_at claim y + there y + all_at_zero 1 y)
+      (λ y inside. widths y inside) in
       omega (
         arith,
         whole_spread n g many,
@@ -120,7 +139,8 @@ module _ {B : ℕ} (claim g : List (Iv B)) (q : Fraction) (within : q.num ≤ q.
         narrow,
       )
     where
-      widths : (y : ℕ) → y < length claim → width_at g y ≤ width_at claim y + min (weight_at items y) 1 + all_at_zero 1 y
+      widths : (y : ℕ) → y < length claim → width_at g y ≤ width_at claim y + min
+          (weight_at items y) 1 + all_at_zero 1 y
       widths y inside =
           omega (
             arith,
@@ -132,11 +152,13 @@ module _ {B : ℕ} (claim g : List (Iv B)) (q : Fraction) (within : q.num ≤ q.
           )
 
 -- it encloses the sum of one trial
-pub grid_encloses : {B : ℕ} (claim g : List (Iv B)) (q : Fraction) (f : ℕ → Fraction) → q.num ≤ q.den → IsWithinOne f → length g ≡ length claim
+pub grid_encloses : {B : ℕ} (claim g : List (Iv B)) (q : Fraction) (f : ℕ → Fraction) → q.num ≤ q.den → IsWithinOne f
+    → length g ≡ length claim
     → ((y : ℕ) → y < length claim → low_at g y ≡ low_trial (2 ^ B) q (low_at claim) y)
     → ((y : ℕ) → y < length claim → high_at g y ≡ high_trial (2 ^ B) q (high_at claim) y)
     → GridEncloses claim (compound (fixed 1) f) → GridEncloses g (compound (binomial 1 q.num q.den) f)
 grid_encloses {B} claim g q f within proper many low high of_claim y inside =
     let here : y < length claim = omega (arith, many) in
-    subst₂ (λ l h. Holds (cell (binomial 1 q.num q.den) f y) (λ N. sum_to N (binomial 1 q.num q.den)) (l over 2 ^ B) (h over 2 ^ B)) (sym (low y here)) (sym (high y here))
+    subst₂ (λ l h. Holds (cell (binomial 1 q.num q.den) f y) (λ N. sum_to N (binomial 1 q.num q.den)) (l over 2 ^ B)
+    (h over 2 ^ B)) (sym (low y here)) (sym (high y here))
     (trial_encloses (2 ^ B) (length claim) q (low_at claim) (high_at claim) f (pow_pos B) within proper of_claim y here)

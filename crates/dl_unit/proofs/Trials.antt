@@ -30,7 +30,8 @@ unfolding all_at_zero
 zero_below zero r = omega (arith, below_nothing (all_at_zero r))
 zero_below (suc n) r = omega (arith, below_first n (all_at_zero r), below_constant n 0)
 
-pub trial_mass : (S n : ℕ) (q : Fraction) (lo : ℕ → ℕ) → q.num ≤ q.den → count_below n lo ≤ S → count_below n (low_trial S q lo) ≤ S
+pub trial_mass : (S n : ℕ) (q : Fraction) (lo : ℕ → ℕ) → q.num ≤ q.den → count_below n lo ≤ S
+    → count_below n (low_trial S q lo) ≤ S
 trial_mass S n q lo within mass =
     let a : ℕ = q.num in
     let b : ℕ = q.den in
@@ -48,10 +49,6 @@ trial_mass S n q lo within mass =
   where
     parts : (a b : ℕ) → a ≤ b → a + (b - a) ≡ b
     parts a b h = omega arith
-
--- a part of a number is not above it
-pub part_within : (h a b : ℕ) → 0 < b → a ≤ b → div_ceil (h * a) b ≤ h
-part_within h a b pos within = div_ceil_least (h * a) b h pos (mul-le-mul_left h within)
 
 -- ---- spread
 
@@ -78,7 +75,8 @@ trial_width S q lo hi y within order =
     let d : ℕ = hi y - lo y in
     let e : lo y + d ≡ hi y = omega (arith, order) in
     let part : div_ceil (hi y * q.num) q.den ≤ lo y * q.num / q.den + d + min (hi y) 1 =
-    subst (λ h. div_ceil (h * q.num) q.den ≤ lo y * q.num / q.den + d + min h 1) e (part_apart (lo y) d q.num q.den q.positive within) in
+    subst (λ h. div_ceil (h * q.num) q.den ≤ lo y * q.num / q.den + d + min h 1) e
+    (part_apart (lo y) d q.num q.den q.positive within) in
     omega (arith, part, rest_apart (S * (q.den - q.num)) q.den y q.positive)
 
 -- ---- enclosure
@@ -96,21 +94,29 @@ rest_low S n b (suc y) pos p = le_trans _ _ _ (le_of_eq _ _ (over_zero S pos)) (
 
 rest_high : (S n b y : ℕ) → 0 < S → 0 < b → n over b *ℚ at_zero y ≤ℚ all_at_zero (div_ceil (S * n) b) y over S
 unfolding all_at_zero at_zero
-rest_high S n b zero pos p = subst (λ t. t ≤ℚ div_ceil (S * n) b over S) (sym (times_one (n over b))) (enclose_high S pos n b p)
+rest_high S n b zero pos p = subst (λ t. t ≤ℚ div_ceil (S * n) b over S) (sym (times_one (n over b)))
+    (enclose_high S pos n b p)
 rest_high S n b (suc y) pos p = le_trans _ _ _ (le_of_eq _ _ (times_zero (n over b))) (zero_le _)
 
 -- the cell y of one trial in the order of its ends
-trial_cell : (f : ℕ → Fraction) (a b y : ℕ) → 0 < b → cell (binomial 1 a b) f y 1 ≡ f y *ℚ a over b +ℚ (b - a) over b *ℚ at_zero y
-trial_cell f a b y pos = one_trial_cell f a b y pos ∙ plus_comm _ _ ∙ ap (λ t. t +ℚ (b - a) over b *ℚ at_zero y) (times_comm _ _)
+trial_cell : (f : ℕ → Fraction) (a b y : ℕ) → 0 < b → cell (binomial 1 a b) f y 1
+    ≡ f y *ℚ a over b +ℚ (b - a) over b *ℚ at_zero y
+trial_cell f a b y pos = one_trial_cell f a b y pos ∙ plus_comm _ _
+    ∙ ap (λ t. t +ℚ (b - a) over b *ℚ at_zero y) (times_comm _ _)
 
 pub trial_encloses : (S K : ℕ) (q : Fraction) (lo hi : ℕ → ℕ) (f : ℕ → Fraction) → 0 < S → q.num ≤ q.den → IsWithinOne f
-    → Encloses S K lo hi (compound (fixed 1) f) → Encloses S K (low_trial S q lo) (high_trial S q hi) (compound (binomial 1 q.num q.den) f)
+    → Encloses S K lo hi (compound (fixed 1) f) → Encloses S K (low_trial S q lo) (high_trial S q hi)
+    (compound (binomial 1 q.num q.den) f)
 trial_encloses S K q lo hi f pos within proper claim =
     finite_encloses (binomial 1 a b) f 1 all.add_up (λ n far. all.past n far) S K (low_trial S q lo) (high_trial S q hi)
     (λ y h. subst (λ t. low_trial S q lo y over S ≤ℚ t) (sym (trial_cell f a b y q.positive))
-    (add_low S pos _ _ _ _ (scale_low S pos (lo y) a b (f y) q.positive (severity_between S K lo hi f claim y h).0) (rest_low S (b - a) b y pos q.positive)))
-    (λ y h. least_above S _ _ (top y) (subst (λ t. t ≤ℚ (div_ceil (hi y * a) b + all_at_zero (div_ceil (S * (b - a)) b) y) over S) (sym (trial_cell f a b y q.positive))
-    (add_high S pos _ _ _ _ (scale_high S pos (hi y) a b (f y) q.positive (severity_between S K lo hi f claim y h).1) (rest_high S (b - a) b y pos q.positive))))
+    (add_low S pos _ _ _ _ (scale_low S pos (lo y) a b (f y) q.positive (severity_between S K lo hi f claim y h).0)
+    (rest_low S (b - a) b y pos q.positive)))
+    (λ y h. least_above S _ _ (top y)
+    (subst (λ t. t ≤ℚ (div_ceil (hi y * a) b + all_at_zero (div_ceil (S * (b - a)) b) y) over S)
+    (sym (trial_cell f a b y q.positive))
+    (add_high S pos _ _ _ _ (scale_high S pos (hi y) a b (f y) q.positive (severity_between S K lo hi f claim y h).1)
+    (rest_high S (b - a) b y pos q.positive))))
   where
     a : ℕ
     a = q.num
@@ -123,4 +129,5 @@ trial_encloses S K q lo hi f pos within proper claim =
 
     top : (y : ℕ) → cell (binomial 1 a b) f y 1 ≤ℚ S over S
     top y = le_trans _ _ _ (item_le_sum y (λ i. cell (binomial 1 a b) f i 1))
-        (le_trans _ _ _ ((compound_proper (binomial 1 a b) f proper).within y 1) (le_of_eq _ _ (all.add_up ∙ sym (over_one S pos))))
+        (le_trans _ _ _ ((compound_proper (binomial 1 a b) f proper).within y 1)
+        (le_of_eq _ _ (all.add_up ∙ sym (over_one S pos))))

@@ -1,7 +1,8 @@
-//! The grids of claims above 0 whose number has no greatest, by one recursion at the full mean where
-//! that comes out narrow enough, else by halvings or by shares.
+//! The grids of claims above 0 whose number has no greatest, by one recursion at the full mean
+//! where that comes out narrow enough, else by halvings or by shares.
 
 ghost use Rattle.std.specs.Prelude.{◌≡◌, ℕ, ◌^◌, ◌<◌, ◌≤◌, length, IfOk, IsTrue};
+ghost use Rattle.dl_limits.specs.Limits.{most_cells};
 ghost use Rattle.dl_exact.specs.Fraction.{Fraction};
 ghost use Rattle.dl_grid.specs.Cells.{spread};
 ghost use Rattle.dl_model.specs.Family.{GridEncloses};
@@ -19,11 +20,11 @@ use dl_plan::{Sev, Unit};
 use dl_product::Workspace;
 use std::alloc::{AllocError, Global};
 
-/// Whether a grid's spread is at most the unit's budget on its cells. Budgets are computed at the scale
-/// of 56 bits alone, so at another none is found narrow.
+/// Whether a grid's spread is at most the unit's budget on its cells. Budgets are computed at the
+/// scale of 56 bits alone, so at another none is found narrow.
 fn is_narrow<const B: u32>(unit: &Unit, grid: &Grid<B>) -> bool
     requires valid { (h : ℕ) × IsValidUnit h unit.now }
-    requires few { length grid.now ≤ 16384 }
+    requires few { length grid.now ≤ most_cells }
     ensures { IsTrue result → spread grid.now ≤ claims_budget (2 ^ B) (length grid.now) unit.now }
 {
     if B != 56 {
@@ -47,7 +48,7 @@ pub(crate) fn poisson_grid<const B: u32>(
     requires expected { 0 < (thinned_mean unit.now).num }
     requires means { Means positive.now (conditioned 0 (pairs_of unit.now.sev)) }
     requires some { 1 ≤ cells }
-    requires few { cells ≤ 16384 }
+    requires few { cells ≤ most_cells }
     ensures cells { IfOk result (λ g. length g ≡ cells) }
     ensures encloses { IfOk result (λ g. GridEncloses g (compound_of unit.now.freq unit.now.sev)) }
     ensures spread { IfOk result (λ g. spread g ≤ claims_budget (2 ^ B) cells unit.now) }
@@ -77,7 +78,7 @@ pub(crate) fn gamma_grid<const B: u32>(
     requires expected { 0 < (thinned_mean unit.now).num }
     requires means { Means positive.now (conditioned 0 (pairs_of unit.now.sev)) }
     requires some { 1 ≤ cells }
-    requires few { cells ≤ 16384 }
+    requires few { cells ≤ most_cells }
     ensures cells { IfOk result (λ g. length g ≡ cells) }
     ensures encloses { IfOk result (λ g. GridEncloses g (compound_of unit.now.freq unit.now.sev)) }
     ensures spread { IfOk result (λ g. spread g ≤ claims_budget (2 ^ B) cells unit.now) }

@@ -1,6 +1,7 @@
 //! The grids of units whose counts have a greatest number of claims.
 
 ghost use Rattle.std.specs.Prelude.{◌≡◌, ℕ, ◌+◌, ◌*◌, ◌^◌, ◌≤◌, length, All, IfOk};
+ghost use Rattle.dl_limits.specs.Limits.{most_cells};
 ghost use Rattle.dl_exact.specs.Fraction.{◌over◌};
 ghost use Rattle.dl_grid.specs.Cells.{spread};
 ghost use Rattle.dl_grid.specs.Width.{pw, mixed_spread};
@@ -31,7 +32,7 @@ pub(crate) fn fixed_claims<const B: u32>(
     requires scale_above { 1 ≤ B }
     requires scale_below { B ≤ 56 }
     requires some { 1 ≤ cells }
-    requires few { cells ≤ 16384 }
+    requires few { cells ≤ most_cells }
     ensures cells { IfOk result (λ g. length g ≡ cells) }
     ensures encloses { IfOk result (λ g.
         GridEncloses g (compound (fixed claims) (probability_of sev.now))) }
@@ -54,10 +55,11 @@ pub(crate) fn listed_claims<const B: u32>(
     requires scale_below { B ≤ 56 }
     requires weighted { IsWeighted counts.now total }
     requires some { 1 ≤ cells }
-    requires few { cells ≤ 16384 }
+    requires few { cells ≤ most_cells }
     ensures cells { IfOk result (λ g. length g ≡ cells) }
     ensures encloses { IfOk result (λ g.
-        GridEncloses g (compound (λ n. weight_at counts.now n over total) (probability_of sev.now))) }
+        GridEncloses g (compound (λ n. weight_at counts.now n over total)
+        (probability_of sev.now))) }
     ensures spread { IfOk result (λ g.
         spread g ≤ mixed_spread (2 ^ B) cells (length sev.now.items) (greatest counts.now)) }
 {
@@ -78,7 +80,7 @@ pub(crate) fn binomial_claims<const B: u32>(
     requires scale_below { B ≤ 56 }
     requires probability { IsProbability q }
     requires some { 1 ≤ cells }
-    requires few { cells ≤ 16384 }
+    requires few { cells ≤ most_cells }
     ensures cells { IfOk result (λ g. length g ≡ cells) }
     ensures encloses { IfOk result (λ g.
         GridEncloses g (compound (binomial trials q.num q.den) (probability_of sev.now))) }

@@ -8,6 +8,8 @@ mod direct;
 mod finite;
 mod law;
 #[cfg(test)]
+mod power_tests;
+#[cfg(test)]
 mod tests;
 mod trial;
 mod unbounded;

@@ -2,7 +2,7 @@
 
 ghost use Rattle.std.specs.Prelude.{◌≡◌, ℕ, ◌^◌, ◌<◌, ◌≤◌, length, All, IfOk};
 ghost use Rattle.dl_exact.specs.Fraction.{whole, ◌over◌};
-ghost use Rattle.dl_plan.specs.Count.{expected_count, IsUnbounded, IsCount};
+ghost use Rattle.dl_plan.specs.Count.{expected_count, IsUnbounded, IsClaimCount};
 ghost use Rattle.dl_plan.specs.Fine.{IsAdmitted};
 ghost use Rattle.dl_plan.specs.Severity.{probability_of};
 ghost use Rattle.dl_plan.specs.Valid.{IsValidUnit};
@@ -54,7 +54,8 @@ fn claims(alloc: Global) -> Result<Sev, AllocError>
 
 /// No claim once in four times, else two.
 fn none_or_two(alloc: Global) -> Result<Freq, AllocError>
-    ensures { IfOk result (λ freq. IsCount freq × IsAdmitted (expected_count freq) × (¬ IsUnbounded freq)) }
+    ensures { IfOk result (λ freq. IsClaimCount freq × IsAdmitted (expected_count freq)
+        × (¬ IsUnbounded freq)) }
 {
     let mut counts = Vec::new(alloc);
     counts.push(Item {
@@ -75,7 +76,7 @@ fn none_or_two(alloc: Global) -> Result<Freq, AllocError>
 fn grid_of<const B: u32>(alloc: Global, freq: Freq) -> Result<Grid<B>, AllocError>
     requires above { 1 ≤ B }
     requires below { B ≤ 56 }
-    requires count { IsCount freq }
+    requires count { IsClaimCount freq }
     requires expected { IsAdmitted (expected_count freq) }
     requires bounded { ¬ IsUnbounded freq }
 {
@@ -190,7 +191,8 @@ struct CountOf {
     shape: u32,
 }
 
-/// Sixteen cells of both counts: whether the recursion at the full mean meets the other way, for each.
+/// Sixteen cells of both counts: whether the recursion at the full mean meets the other way, for
+/// each.
 fn both_meet<const B: u32>(alloc: Global, sev: &Sev, of: CountOf) -> Result<bool, AllocError>
     requires above { 1 ≤ B }
     requires below { B ≤ 56 }

@@ -2,6 +2,7 @@
 
 ghost use Rattle.std.specs.Prelude.{◌≡◌, ℕ, ◌+◌, ◌-◌, ◌*◌, ◌/◌, ◌^◌, ◌<◌, ◌≤◌, min, length, IfOk};
 ghost use Rattle.std.specs.Int.{div_ceil};
+ghost use Rattle.dl_limits.specs.Limits.{most_cells};
 ghost use Rattle.dl_grid.specs.Cells.{low_at, high_at, spread, IsGrid};
 ghost use Rattle.dl_model.specs.Counts.{binomial};
 ghost use Rattle.dl_model.specs.Family.{compound, GridEncloses};
@@ -52,7 +53,8 @@ fn first_cell<const B: u32>(part: Iv<B>, q: Frac) -> Iv<B>
     requires probability { IsProbability q }
     requires small { part.hi ≤ 2 ^ B }
     ensures low { result.lo ≡ min (part.entry.lo + 2 ^ B * (q.den - q.num) / q.den) (2 ^ B) }
-    ensures high { result.hi ≡ min (part.entry.hi + div_ceil (2 ^ B * (q.den - q.num)) q.den) (2 ^ B) }
+    ensures high { result.hi ≡ min (part.entry.hi + div_ceil (2 ^ B * (q.den - q.num)) q.den)
+        (2 ^ B) }
 {
     let none = Iv::enclose(u128::from(q.den() - q.num()), u128::from(q.den()));
     part.add(none).clamp_to(units_of_one(B))
@@ -84,7 +86,7 @@ pub(crate) fn one_trial<const B: u32>(
     requires scale_below { B ≤ 56 }
     requires probability { IsProbability q }
     requires some { 1 ≤ cells }
-    requires few { cells ≤ 16384 }
+    requires few { cells ≤ most_cells }
     ensures cells { IfOk result (λ g. length g ≡ cells) }
     ensures encloses { IfOk result (λ g.
         GridEncloses g (compound (binomial 1 q.num q.den) (probability_of sev.now))) }

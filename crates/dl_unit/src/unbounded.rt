@@ -2,6 +2,7 @@
 //! left out first: the count is then that of the claims above 0.
 
 ghost use Rattle.std.specs.Prelude.{◌≡◌, ℕ, ◌+◌, ◌*◌, ◌^◌, ◌<◌, ◌≤◌, length, IfOk, Some, None};
+ghost use Rattle.dl_limits.specs.Limits.{most_cells, most_expected, most_shape};
 ghost use Rattle.dl_exact.specs.Fraction.{whole, ◌/ℚ◌, ◌≤ℚ◌};
 ghost use Rattle.dl_grid.specs.Cells.{spread};
 ghost use Rattle.dl_model.specs.Counts.{poisson, gamma_of};
@@ -52,9 +53,9 @@ pub(crate) fn poisson_claims<const B: u32>(
     requires scale_below { B ≤ 56 }
     requires no_zero { probability_of sev.now 0 ≡ whole 0 }
     requires admitted { IsAdmitted mean }
-    requires within { mean ≤ℚ whole 4096 }
+    requires within { mean ≤ℚ whole most_expected }
     requires some { 1 ≤ cells }
-    requires few { cells ≤ 16384 }
+    requires few { cells ≤ most_cells }
     ensures cells { IfOk result (λ g. length g ≡ cells) }
     ensures encloses { IfOk result (λ g.
         GridEncloses g (times_itself (compound (poisson (mean /ℚ whole (2 ^ halvings mean)))
@@ -81,9 +82,9 @@ pub(crate) fn gamma_claims<const B: u32>(
     requires no_zero { probability_of sev.now 0 ≡ whole 0 }
     requires admitted { IsAdmitted mean }
     requires shape_above { 1 ≤ shape }
-    requires shape_below { shape ≤ 10000 }
+    requires shape_below { shape ≤ most_shape }
     requires some { 1 ≤ cells }
-    requires few { cells ≤ 16384 }
+    requires few { cells ≤ most_cells }
     ensures cells { IfOk result (λ g. length g ≡ cells) }
     ensures encloses { IfOk result (λ g.
         GridEncloses g (times_itself (compound (gamma_of 1 (mean /ℚ whole shape))

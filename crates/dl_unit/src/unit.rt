@@ -1,6 +1,7 @@
 //! The grid of a unit, by the kind of its count.
 
 ghost use Rattle.std.specs.Prelude.{◌≡◌, ℕ, ◌^◌, ◌≤◌, length, IfOk};
+ghost use Rattle.dl_limits.specs.Limits.{most_cells};
 ghost use Rattle.dl_exact.specs.Fraction.{Fraction};
 ghost use Rattle.dl_grid.specs.Cells.{spread};
 ghost use Rattle.dl_model.specs.Family.{GridEncloses};
@@ -29,7 +30,7 @@ pub fn unit_grid<const B: u32>(
     requires scale_below { B ≤ 56 }
     requires valid { (h : ℕ) × IsValidUnit h unit.now }
     requires some { 1 ≤ cells }
-    requires few { cells ≤ 16384 }
+    requires few { cells ≤ most_cells }
     ensures cells { IfOk result (λ g. length g ≡ cells) }
     ensures encloses { IfOk result (λ g. GridEncloses g (compound_of unit.now.freq unit.now.sev)) }
     ensures spread { IfOk result (λ g. spread g ≤ claims_budget (2 ^ B) cells unit.now) }
@@ -48,7 +49,7 @@ pub fn unit_grid_with<const B: u32>(
     requires scale_below { B ≤ 56 }
     requires valid { (h : ℕ) × IsValidUnit h unit.now }
     requires some { 1 ≤ cells }
-    requires few { cells ≤ 16384 }
+    requires few { cells ≤ most_cells }
     ensures cells { IfOk result (λ g. length g ≡ cells) }
     ensures encloses { IfOk result (λ g. GridEncloses g (compound_of unit.now.freq unit.now.sev)) }
     ensures spread { IfOk result (λ g. spread g ≤ claims_budget (2 ^ B) cells unit.now) }
@@ -77,7 +78,7 @@ fn poisson_unit<const B: u32>(
     requires valid { (h : ℕ) × IsValidUnit h unit.now }
     requires count { (mean : Fraction) × (unit.now.freq ≡ Poisson mean) }
     requires some { 1 ≤ cells }
-    requires few { cells ≤ 16384 }
+    requires few { cells ≤ most_cells }
     ensures cells { IfOk result (λ g. length g ≡ cells) }
     ensures encloses { IfOk result (λ g. GridEncloses g (compound_of unit.now.freq unit.now.sev)) }
     ensures spread { IfOk result (λ g. spread g ≤ claims_budget (2 ^ B) cells unit.now) }
@@ -101,7 +102,7 @@ fn gamma_unit<const B: u32>(
     requires valid { (h : ℕ) × IsValidUnit h unit.now }
     requires count { (mean : Fraction) × (unit.now.freq ≡ Gamma shape mean) }
     requires some { 1 ≤ cells }
-    requires few { cells ≤ 16384 }
+    requires few { cells ≤ most_cells }
     ensures cells { IfOk result (λ g. length g ≡ cells) }
     ensures encloses { IfOk result (λ g. GridEncloses g (compound_of unit.now.freq unit.now.sev)) }
     ensures spread { IfOk result (λ g. spread g ≤ claims_budget (2 ^ B) cells unit.now) }

@@ -1,6 +1,8 @@
 use Rattle.std.proofs.Common.{arith, sym, ◌∙◌}
 use Rattle.dl_grid.proofs.CellLaws.{scale_of}
-use Rattle.dl_port.proofs.Added.{no_units, no_spread, if_ok_two}
+use Rattle.dl_grid.proofs.CellSets.{spread_none}
+use Rattle.dl_exact.proofs.Results.{if_ok_two}
+use Rattle.dl_port.proofs.Added.{no_units}
 use Rattle.dl_port.proofs.no_units.Goals as goal
 
 pub zero-requires : goal.zero-requires
@@ -9,7 +11,9 @@ zero-requires g c =
     (omega arith, (scale.0, (scale.1, (c.requires.some, omega (arith, c.cells.ensures.grid.few, c.requires.within)))))
 
 pub returns-clause-encloses : goal.returns-clause-encloses
-returns-clause-encloses g c = if_ok_two c.zero.result _ _ _ (λ grid low high. no_units grid low high) c.zero.ensures.low c.zero.ensures.high
+returns-clause-encloses g c = if_ok_two c.zero.result _ _ _
+    (λ grid low high. no_units grid low high) c.zero.ensures.low c.zero.ensures.high
 
 pub returns-clause-spread : goal.returns-clause-spread
-returns-clause-spread g c = if_ok_two c.zero.result _ _ _ (λ grid low high. no_spread grid (λ x. low x ∙ sym (high x))) c.zero.ensures.low c.zero.ensures.high
+returns-clause-spread g c = if_ok_two c.zero.result _ _ _
+    (λ grid low high. spread_none grid (λ x. high x ∙ sym (low x))) c.zero.ensures.low c.zero.ensures.high

@@ -1,20 +1,23 @@
 use Rattle.std.proofs.Common.{◌≡◌, ◌≤◌, arith, refl, take, length}
 use Rattle.std.proofs.lemmas.Grind.{common_steps}
 use Rattle.std.proofs.lemmas.Result.{IfOk-weaker}
-use Rattle.dl_port.proofs.Added.{both_sides, both_spreads, after_alone, alone_left, from_there}
+use Rattle.dl_exact.proofs.Lists.{from_there}
+use Rattle.dl_port.proofs.Added.{both_sides, both_spreads, after_alone, alone_left}
 use Rattle.dl_port.proofs.others_with.Goals as goal
 
 pub returns-then-not-is_empty-clause-encloses : goal.returns-then-not-is_empty-clause-encloses
 returns-then-not-is_empty-clause-encloses g c =
     IfOk-weaker c.with_units.result _ _ (λ sum further us w each.
-    both_sides c.args.units.now _ _ c.in_ok-sum.sum sum c.args.i us refl (from_there c.args.i c.args.units.now) c.in_ok-sum.ensures.encloses further w each)
+    both_sides c.args.units.now _ _ c.in_ok-sum.sum sum c.args.i us refl
+    (from_there c.args.i c.args.units.now) c.in_ok-sum.ensures.encloses further w each)
     c.with_units.ensures.encloses
 
 pub returns-then-not-is_empty-clause-spread : goal.returns-then-not-is_empty-clause-spread
 returns-then-not-is_empty-clause-spread g c =
     let some : 1 ≤ length (take c.args.i c.args.units.now) = grind (arith, common_steps) in
     IfOk-weaker c.with_units.result _ _ (λ sum narrow.
-    both_spreads c.args.units.now _ _ c.args.cells c.args.i _ _ refl (from_there c.args.i c.args.units.now) some c.in_ok-sum.ensures.spread narrow)
+    both_spreads c.args.units.now _ _ c.args.cells c.args.i _ _ refl
+    (from_there c.args.i c.args.units.now) some c.in_ok-sum.ensures.spread narrow)
     c.with_units.ensures.spread
 
 pub returns-then-not-is_empty-2-clause-encloses : goal.returns-then-not-is_empty-2-clause-encloses
@@ -28,5 +31,6 @@ pub returns-clause-encloses : goal.returns-clause-encloses
 returns-clause-encloses g c =
     let first : c.args.i ≡ 0 = grind (arith, common_steps) in
     let alone : length c.args.units.now ≤ 1 = grind (arith, common_steps) in
-    IfOk-weaker c.no_units.result _ _ (λ sum of_sum us w each. alone_left c.args.units.now sum c.args.i us first alone of_sum each)
+    IfOk-weaker c.no_units.result _ _ (λ sum of_sum us w each.
+    alone_left c.args.units.now sum c.args.i us first alone of_sum each)
     c.no_units.ensures.encloses

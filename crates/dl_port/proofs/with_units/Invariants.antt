@@ -2,7 +2,7 @@ use Rattle.std.proofs.Common.{◌≡◌, ◌^◌, ◌≤◌, List, ◌++◌, len
 use Rattle.std.specs.List.{fold}
 use Rattle.dl_grid.specs.Cells.{spread}
 use Rattle.dl_grid.specs.Width.{cv}
-use Rattle.dl_model.specs.Program.{Aggregate, AreUnits}
+use Rattle.dl_model.specs.Program.{Aggregate, AreDeclarable}
 use Rattle.dl_model.specs.Family.{total, GridEncloses}
 use Rattle.dl_port.specs.Sums.{EncloseEach}
 use Rattle.dl_port.proofs.with_units.Given as goal
@@ -10,7 +10,8 @@ use Rattle.dl_port.proofs.with_units.Given as goal
 abbrev pub invariant-loop-unit : goal.invariant-loop-unit
 invariant-loop-unit g l = record {
   cells : length l.sum ≡ l.cells;
-  encloses : (us vs : List Aggregate) → AreUnits us → AreUnits vs → GridEncloses l.fn.sum (total us) → EncloseEach l.units vs
+  encloses : (us vs : List Aggregate) → AreDeclarable us → AreDeclarable vs → GridEncloses l.fn.sum (total us)
+      → EncloseEach l.units vs
       → GridEncloses l.sum (total (us ++ take l.unit-index vs));
   spread : spread l.sum ≤ fold (cv (2 ^ g.row.B) l.cells) (spread l.fn.sum) (take l.unit-index (map spread l.units));
 }

@@ -9,11 +9,15 @@ use Rattle.dl_budget.proofs.asks.place.Goals as goal
 
 -- a place among n, and n where there is none
 found_or_all : (place n : ℕ) → place ≤ n → unwrap_or (cond (ltb place n) (Some place) None) n ≡ place
-found_or_all place n within = elim (leb_tells (suc place) n) [ inl inside ↦ rw inside.0 refl | inr past ↦ rw past.0 (omega (arith, within, past.1)) ]
+found_or_all place n within = elim (leb_tells (suc place) n)
+    [ inl inside ↦ rw inside.0 refl | inr past ↦ rw past.0 (omega (arith, within, past.1)) ]
 
 pub returns : goal.returns
 returns c =
-    let found : c.position-place.result ≡ cond (ltb (place_of c.args.name.now c.args.units.now) (length c.args.units.now)) (Some (place_of c.args.name.now c.args.units.now)) None =
-    position_from_yields_List (λ unit. bytes_eq unit.name c.args.name.now) _ _ c.position-place.result c.position-place.ensures.ran (YieldsList-from_slice _ c.iter.ensures.rest) (λ x b q k. search (rules, tests)) in
+    let found : c.position-place.result ≡ cond (ltb (place_of c.args.name.now c.args.units.now)
+    (length c.args.units.now)) (Some (place_of c.args.name.now c.args.units.now)) None =
+    position_from_yields_List (λ unit. bytes_eq unit.name c.args.name.now) _ _ c.position-place.result
+    c.position-place.ensures.ran (YieldsList-from_slice _ c.iter.ensures.rest) (λ x b q k. search (rules, tests)) in
     c.unwrap_or.ensures ∙ ap (λ r. unwrap_or r (length c.args.units.now)) found
-    ∙ found_or_all (place_of c.args.name.now c.args.units.now) (length c.args.units.now) (prefix_len-le-length _ c.args.units.now)
+    ∙ found_or_all (place_of c.args.name.now c.args.units.now) (length c.args.units.now)
+    (prefix_len-le-length _ c.args.units.now)

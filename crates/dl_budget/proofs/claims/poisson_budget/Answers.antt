@@ -10,4 +10,5 @@ doubled-requires-clause-room g c = poisson_room c.args.cells c.halvings.result c
 pub returns-clause-value : goal.returns-clause-value
 unfolding poisson_budget
 returns-clause-value g c some =
-    c.doubled.ensures.value ∙ ap (λ h. pw (2 ^ g.row.B) c.args.cells (8 * c.args.cells + 128) (2 ^ h)) c.halvings.ensures.value
+    c.doubled.ensures.value ∙ ap (λ h. pw (2 ^ g.row.B) c.args.cells (8 * c.args.cells + 128) (2 ^ h))
+    c.halvings.ensures.value

@@ -14,38 +14,51 @@ returns-then-n-eq1-clause-small g t c = base_small c.args.cells 0 c.args.base c.
 
 pub returns-then-n-eq0-2-clause-value : goal.returns-then-n-eq0-2-clause-value
 returns-then-n-eq0-2-clause-value g t c =
-    square_value (2 ^ g.row.B) c.args.cells c.args.base (c.args.n / 2) c.args.n _ _ (omega arith) (omega arith) c.power-half.ensures.value c.joined-even.ensures.value
+    square_value (2 ^ g.row.B) c.args.cells c.args.base (c.args.n / 2) c.args.n _ _ (omega arith)
+    (omega arith) c.power-half.ensures.value c.joined-even.ensures.value
 
 pub returns-then-n-eq0-2-clause-size : goal.returns-then-n-eq0-2-clause-size
 returns-then-n-eq0-2-clause-size g t c some =
-    square_size g.row.B c.args.cells c.args.base (c.args.n / 2) c.args.n _ _ c.requires.scale (omega arith) c.requires.room (c.power-half.ensures.size (omega arith)) c.joined-even.ensures.value
+    square_size g.row.B c.args.cells c.args.base (c.args.n / 2) c.args.n _ _ c.requires.scale
+    (omega arith) c.requires.room (c.power-half.ensures.size (omega arith)) c.joined-even.ensures.value
 
 pub returns-then-n-eq0-2-clause-small : goal.returns-then-n-eq0-2-clause-small
 returns-then-n-eq0-2-clause-small g t c =
     unit_small g.row.B c.args.cells 0 _ _ c.requires.scale c.requires.room
-    (square_size g.row.B c.args.cells c.args.base (c.args.n / 2) c.args.n _ _ c.requires.scale (omega arith) c.requires.room (c.power-half.ensures.size (omega arith)) c.joined-even.ensures.value)
+    (square_size g.row.B c.args.cells c.args.base (c.args.n / 2) c.args.n _ _ c.requires.scale
+    (omega arith) c.requires.room (c.power-half.ensures.size (omega arith)) c.joined-even.ensures.value)
 
 pub joined-requires-clause-left : goal.joined-requires-clause-left
 joined-requires-clause-left g t c =
     omega (
       arith,
-      (odd_size g.row.B c.args.cells c.args.base (c.args.n / 2) c.args.n _ _ _ c.requires.scale (omega arith) c.requires.room (c.power-half.ensures.size (omega arith)) c.joined-even.ensures.value refl).0,
+      (odd_size g.row.B c.args.cells c.args.base (c.args.n / 2) c.args.n _ _ _ c.requires.scale
+          (omega arith) c.requires.room (c.power-half.ensures.size (omega arith)) c.joined-even.ensures.value refl).0,
     )
 
 pub joined-requires-clause-right : goal.joined-requires-clause-right
-joined-requires-clause-right g t c = omega (arith, base_small c.args.cells 0 c.args.base c.args.n (omega arith) c.requires.room)
+joined-requires-clause-right g t c = omega (
+  arith,
+  base_small c.args.cells 0 c.args.base c.args.n
+      (omega arith) c.requires.room,
+)
 
 pub returns-clause-value : goal.returns-clause-value
 returns-clause-value g t c =
     next_value (2 ^ g.row.B) c.args.cells c.args.base (c.args.n / 2) c.args.n _ _ (omega arith) (omega arith)
-    (square_value (2 ^ g.row.B) c.args.cells c.args.base (c.args.n / 2) (c.args.n / 2 + c.args.n / 2) _ _ (omega arith) (omega arith) c.power-half.ensures.value c.joined-even.ensures.value)
+    (square_value (2 ^ g.row.B) c.args.cells c.args.base (c.args.n / 2) (c.args.n / 2 + c.args.n / 2) _ _ (omega arith)
+    (omega arith) c.power-half.ensures.value c.joined-even.ensures.value)
     c.joined.ensures.value
 
 pub returns-clause-size : goal.returns-clause-size
 returns-clause-size g t c some =
-    (odd_size g.row.B c.args.cells c.args.base (c.args.n / 2) c.args.n _ _ _ c.requires.scale (omega arith) c.requires.room (c.power-half.ensures.size (omega arith)) c.joined-even.ensures.value c.joined.ensures.value).1
+    (odd_size g.row.B c.args.cells c.args.base (c.args.n / 2) c.args.n _ _ _ c.requires.scale
+    (omega arith) c.requires.room (c.power-half.ensures.size (omega arith)) c.joined-even.ensures.value
+    c.joined.ensures.value).1
 
 pub returns-clause-small : goal.returns-clause-small
 returns-clause-small g t c =
     unit_small g.row.B c.args.cells 0 _ _ c.requires.scale c.requires.room
-    (odd_size g.row.B c.args.cells c.args.base (c.args.n / 2) c.args.n _ _ _ c.requires.scale (omega arith) c.requires.room (c.power-half.ensures.size (omega arith)) c.joined-even.ensures.value c.joined.ensures.value).1
+    (odd_size g.row.B c.args.cells c.args.base (c.args.n / 2) c.args.n _ _ _ c.requires.scale
+    (omega arith) c.requires.room (c.power-half.ensures.size (omega arith)) c.joined-even.ensures.value
+    c.joined.ensures.value).1

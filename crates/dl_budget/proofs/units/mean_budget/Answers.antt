@@ -10,12 +10,14 @@ unit_mean_budget-sum-requires-clause-few g c = (few_cells c.args.plan.now c.requ
 
 pub loop-unit-preserved : goal.loop-unit-preserved
 loop-unit-preserved g c = record {
-  value = mean_next (2 ^ g.row.B) c.args.plan.now.cells c.as_slice-units.result.now c.loop-unit.unit-index _ _ c.unit-item.result (omega arith) c.unit-item.is
+  value = mean_next (2 ^ g.row.B) c.args.plan.now.cells c.as_slice-units.result.now c.loop-unit.unit-index _ _
+      c.unit-item.result (omega arith) c.unit-item.is
       c.loop-unit.invariant.value c.unit_mean_budget-sum.ensures.value;
   small = omega arith;
 }
 
 pub returns-clause-value : goal.returns-clause-value
 returns-clause-value g c =
-    mean_all (2 ^ g.row.B) c.args.plan.now.cells c.as_slice-units.result.now c.loop-unit.unit-index _ (omega arith) c.loop-unit.invariant.value
+    mean_all (2 ^ g.row.B) c.args.plan.now.cells c.as_slice-units.result.now c.loop-unit.unit-index _
+    (omega arith) c.loop-unit.invariant.value
     ∙ ap (sum_by (unit_mean_budget (2 ^ g.row.B) c.args.plan.now.cells)) c.as_slice-units.ensures

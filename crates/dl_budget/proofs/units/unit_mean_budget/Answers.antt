@@ -8,6 +8,9 @@ use Rattle.dl_budget.proofs.units.unit_mean_budget.Goals as goal
 
 pub returns-in-Some-clause-value : goal.returns-in-Some-clause-value
 returns-in-Some-clause-value g c =
-    let before = on_horizon (2 ^ g.row.B) c.args.cells c.args.cells c.args.unit.now c.horizon.result _ c.requires.valid c.horizon.ensures.horizon c.claims_budget-before.ensures.value in
-    ap (λ t. 1 + t) (c.layers_budget.ensures.value ∙ ap₂ (λ budget layers. sum_by (λ l. part_width budget l.limit l.attach) layers) before c.layers.ensures)
-    ∙ ap (λ clause. mean_width clause (claims_budget (2 ^ g.row.B) (horizon c.args.unit.now.cede c.args.cells) c.args.unit.now)) (sym c.in-Some.is)
+    let before = on_horizon (2 ^ g.row.B) c.args.cells c.args.cells c.args.unit.now c.horizon.result _ c.requires.valid
+    c.horizon.ensures.horizon c.claims_budget-before.ensures.value in
+    ap (λ t. 1 + t) (c.layers_budget.ensures.value
+    ∙ ap₂ (λ budget layers. sum_by (λ l. part_width budget l.limit l.attach) layers) before c.layers.ensures)
+    ∙ ap (λ clause. mean_width clause (claims_budget (2 ^ g.row.B)
+    (horizon c.args.unit.now.cede c.args.cells) c.args.unit.now)) (sym c.in-Some.is)

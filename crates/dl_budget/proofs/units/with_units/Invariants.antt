@@ -7,6 +7,8 @@ use Rattle.dl_budget.proofs.units.with_units.Given as goal
 
 abbrev pub invariant-loop-unit : goal.invariant-loop-unit
 invariant-loop-unit g l = record {
-  value : l.total ≡ fold (cv (2 ^ g.row.B) l.cells) l.sum (take l.unit-index (unit_budgets (2 ^ g.row.B) l.cells l.units));
-  size : (n : ℕ) → n + length l.units ≤ 16 → IsOfUnits (2 ^ g.row.B) l.cells n l.sum → IsOfUnits (2 ^ g.row.B) l.cells (n + l.unit-index) l.total;
+  value : l.total ≡ fold (cv (2 ^ g.row.B) l.cells) l.sum
+      (take l.unit-index (unit_budgets (2 ^ g.row.B) l.cells l.units));
+  size : (n : ℕ) → n + length l.units ≤ 16 → IsOfUnits (2 ^ g.row.B) l.cells n l.sum
+      → IsOfUnits (2 ^ g.row.B) l.cells (n + l.unit-index) l.total;
 }

@@ -1,17 +1,23 @@
-use Rattle.std.proofs.Common.{◌≡◌, ℕ, ◌+◌, ◌*◌, ◌^◌, ◌<◌, length, All, refl, sym, ap, subst, ◌∙◌, mul-pos}
+use Rattle.std.proofs.Common.{◌≡◌, ℕ, zero, suc, ◌+◌, ◌*◌, ◌^◌, ◌<◌, length, All, arith, refl, sym, ap, subst, ◌∙◌, mul-pos}
 use Rattle.dl_exact.specs.Fraction.{Fraction, whole, ◌over◌, ◌*ℚ◌}
 use Rattle.dl_grid.specs.Cells.{low_at, high_at}
 use Rattle.dl_model.specs.Compound.{cell}
 use Rattle.dl_model.specs.Family.{compound, Encloses}
 use Rattle.dl_plan.specs.Severity.{probability_of}
 use Rattle.dl_plan.specs.Weighted.{weight_sum, weight_at}
-use Rattle.dl_direct.specs.Runs.{parts_of, part_at}
+use Rattle.dl_direct.specs.Runs.{all_parts, part_at}
 use Rattle.dl_direct.specs.Slide.{IsRound}
 use Rattle.dl_direct.specs.Placed.{IsPlaced, IsScaled}
-use Rattle.dl_direct.proofs.Severities.{total_positive, within_one, amounts_positive, one_factor}
+use Rattle.dl_plan.proofs.Positive.{amounts_positive}
+use Rattle.dl_model.proofs.WithinOne.{within_one}
 use Rattle.dl_direct.proofs.Units.{chance_scaled}
 use Rattle.dl_direct.proofs.Top.{follows, placed_encloses}
 use Rattle.dl_direct.proofs.direct.compound_direct.Goals as goal
+use Rattle.dl_plan.proofs.Means.{severity_total}
+
+one_factor : (s n : ℕ) → 0 < s → s * n < 2 ^ 64 → n < 2 ^ 64
+one_factor zero n p h = absurd (omega (arith, p))
+one_factor (suc s) n p h = omega (arith, h)
 
 pub amounts_of-requires-clause-room : goal.amounts_of-requires-clause-room
 amounts_of-requires-clause-room g c =
@@ -28,7 +34,7 @@ amounts_of-requires-clause-no_zero g c =
 
 pub recur-requires-clause-divisor : goal.recur-requires-clause-divisor
 recur-requires-clause-divisor g c =
-    mul-pos c.requires.base_positive (subst (λ t. 0 < t) (sym c.from.ensures) (total_positive c.args.sev.now))
+    mul-pos c.requires.base_positive (subst (λ t. 0 < t) (sym c.from.ensures) (severity_total c.args.sev.now))
 
 pub returns-clause-encloses : goal.returns-clause-encloses
 returns-clause-encloses g c w P H =
@@ -37,7 +43,7 @@ returns-clause-encloses g c w P H =
     let f : ℕ → Fraction = probability_of sev in
     let s = c.args.steps in
     let x = s.num over s.base in
-    let parts = parts_of c.in_ok-amounts.amounts in
+    let parts = all_parts c.in_ok-amounts.amounts in
     let slid = c.in_ok-x.x in
     let grid = c.in_ok-grid.grid in
     let each : (j : ℕ) → part_at parts j ≡ s.num * weight_at sev.items j =
@@ -45,7 +51,7 @@ returns-clause-encloses g c w P H =
     let scaled : IsScaled parts (s.base * c.from.result) x f =
     λ j. ap (λ t. whole (s.base * t) *ℚ (x *ℚ f j)) c.from.ensures
     ∙ chance_scaled s.base sev.total s.num (weight_at sev.items j) (part_at parts j) c.requires.base_positive
-    (total_positive sev) (each j) in
+    (severity_total sev) (each j) in
     let round : IsRound (λ k. cell w f k k) slid.shift c.args.cells slid.low.items slid.high.items =
     c.in_ok-x.ensures.round (λ k. cell w f k k)
     (follows f w x s.a s.b (s.base * c.from.result) parts c.requires.no_zero P scaled) in

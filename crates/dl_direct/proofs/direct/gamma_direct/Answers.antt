@@ -5,7 +5,7 @@ use Rattle.dl_exact.specs.Fraction.{whole, ◌over◌, ◌+ℚ◌, ◌*ℚ◌, �
 use Rattle.dl_exact.proofs.Over.{over_self}
 use Rattle.dl_model.specs.Counts.{gamma, IsPanjer}
 use Rattle.dl_direct.specs.Start.{HoldsNoClaim}
-use Rattle.dl_direct.proofs.Units.{gamma_steps, share_is}
+use Rattle.dl_direct.proofs.Units.{gamma_steps, contribution_is}
 use Rattle.dl_direct.proofs.direct.gamma_direct.Goals as goal
 
 pub returns-clause-encloses : goal.returns-clause-encloses
@@ -13,7 +13,7 @@ returns-clause-encloses g c =
     let v = c.args.mean in
     let s = c.args.shape in
     let ratio = v /ℚ (whole s +ℚ v) in
-    let is : v.num over (v.num + s * v.den) ≡ ratio = share_is v.num v.den s v.positive c.requires.shape_above
+    let is : v.num over (v.num + s * v.den) ≡ ratio = contribution_is v.num v.den s v.positive c.requires.shape_above
     ∙ ap (λ t. t /ℚ (whole s +ℚ t)) (over_self v) in
     let start = c.gamma_start-start.result in
     let first : c.num.result over (c.num.result + s * c.den.result) ≡ ratio =
@@ -27,4 +27,5 @@ returns-clause-encloses g c =
     IfOk-weaker c.compound_direct.result _ _ (λ made told. IfSome_then made told (λ grid all.
     all (gamma s ratio)
     (subst (λ t. IsPanjer (whole 1 *ℚ t) (whole c.from.result *ℚ t) (gamma s ratio)) (sym again)
-    (gamma_steps s c.from.result ratio c.requires.shape_above c.from.ensures)) holds)) c.compound_direct.ensures.encloses
+    (gamma_steps s c.from.result ratio c.requires.shape_above c.from.ensures)) holds))
+    c.compound_direct.ensures.encloses

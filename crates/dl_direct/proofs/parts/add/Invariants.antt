@@ -1,13 +1,13 @@
 use Rattle.std.proofs.Common.{◌≡◌, ℕ, ◌+◌}
 use Rattle.std.specs.List.{sum_by}
 use Rattle.dl_direct.specs.declared.parts.Part.{Part}
-use Rattle.dl_direct.specs.Runs.{in_a_row, parts_of, AreAmounts}
+use Rattle.dl_direct.specs.Runs.{in_a_row, all_parts, ArePositiveAmounts}
 use Rattle.dl_direct.proofs.parts.add.Given as goal
 
 abbrev pub invariant-each : goal.invariant-each
 invariant-each l = record {
-  sound : AreAmounts l.amounts;
+  sound : ArePositiveAmounts l.amounts;
   parts : (f : Part → ℕ)
-      → sum_by f (parts_of l.amounts) ≡ sum_by f (parts_of l.initial.amounts) + sum_by f
+      → sum_by f (all_parts l.amounts) ≡ sum_by f (all_parts l.initial.amounts) + sum_by f
       (in_a_row l.run.amount l.k l.run.weight);
 }

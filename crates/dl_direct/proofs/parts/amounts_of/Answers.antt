@@ -5,7 +5,7 @@ use Rattle.std.specs.List.{All, sum_by, flat_map}
 use Rattle.dl_plan.specs.declared.item.Item.{Item}
 use Rattle.dl_direct.specs.declared.parts.Part.{Part}
 use Rattle.dl_direct.specs.declared.parts.Run.{Run}
-use Rattle.dl_direct.specs.Runs.{in_a_row, run_parts, parts_of}
+use Rattle.dl_direct.specs.Runs.{in_a_row, run_parts, all_parts}
 use Rattle.dl_direct.proofs.Runs.{row_none}
 use Rattle.dl_direct.proofs.Units.{times_item, times_sum, times_each, item_joined, item_begun}
 use Rattle.dl_direct.proofs.parts.amounts_of.Goals as goal
@@ -50,7 +50,8 @@ items-preserved c =
             end = omega (arith, w.if-next-run.true, e.end);
             parts = λ f.
                 item_joined f k xs n d c.items-test.true c.items.run.amount c.items.run.count c.items.run.weight
-                (sum_by f (parts_of c.items.amounts)) (sym e.amount ∙ w.if-next-run.true) (sym e.weight ∙ w.if-next-run-2.true) (i.parts f);
+                (sum_by f (all_parts c.items.amounts)) (sym e.amount ∙ w.if-next-run.true)
+                (sym e.weight ∙ w.if-next-run-2.true) (i.parts f);
           })
       | else-next-run+in_ok-add w ↦
           rw (w.amounts-is, w.run-is) (record {
@@ -58,10 +59,10 @@ items-preserved c =
             amount = subst (λ t. 0 < t) (sym e.amount) (c.requires.no_zero n d c.items-test.true);
             end = omega (arith, e.end, e.count);
             parts = λ f.
-                ap (λ t. sum_by f (parts_of w.add.new.amounts) + sum_by f (run_parts t))
+                ap (λ t. sum_by f (all_parts w.add.new.amounts) + sum_by f (run_parts t))
                 (alone_is next (get_or xs n d) k e.amount e.count e.weight)
                 ∙ item_begun f k xs n d c.items-test.true (k * (get_or xs n d).weight)
-                (sum_by f (parts_of w.add.new.amounts)) refl (w.in_ok-add.ensures.parts f ∙ i.parts f);
+                (sum_by f (all_parts w.add.new.amounts)) refl (w.in_ok-add.ensures.parts f ∙ i.parts f);
           })
     ]
 

@@ -1,16 +1,16 @@
 use Rattle.std.proofs.Common.{◌≡◌, ℕ, ◌+◌, ◌^◌, ◌<◌, ◌≤◌, take}
 use Rattle.std.specs.List.{sum_by}
 use Rattle.dl_direct.specs.declared.parts.Part.{Part}
-use Rattle.dl_direct.specs.Runs.{run_parts, parts_of, AreAmounts}
+use Rattle.dl_direct.specs.Runs.{run_parts, all_parts, ArePositiveAmounts}
 use Rattle.dl_direct.proofs.Units.{times_item}
 use Rattle.dl_direct.proofs.parts.amounts_of.Given as goal
 
 abbrev pub invariant-items : goal.invariant-items
 invariant-items l = record {
-  sound : AreAmounts l.amounts;
+  sound : ArePositiveAmounts l.amounts;
   amount : 0 < l.run.amount;
   end : l.run.amount + l.run.count ≤ 2 ^ 32;
   parts : (f : Part → ℕ)
-      → sum_by f (parts_of l.amounts) + sum_by f (run_parts l.run) ≡ sum_by (λ item. f (times_item l.factor item))
+      → sum_by f (all_parts l.amounts) + sum_by f (run_parts l.run) ≡ sum_by (λ item. f (times_item l.factor item))
       (take l.item-index l.items);
 }

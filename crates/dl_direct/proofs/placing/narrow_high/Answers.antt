@@ -1,18 +1,14 @@
 use Rattle.std.proofs.Common.{◌≡◌, inl, ℕ, ◌+◌, ◌-◌, ◌*◌, ◌/◌, ◌^◌, ◌<◌, ◌≤◌, arith, ap₂, subst}
 use Rattle.dl_direct.proofs.Place.{up_reaches}
 use Rattle.dl_direct.proofs.placing.narrow_high.Goals as goal
-use Rattle.dl_direct.proofs.placing.narrow_high.Goals.{then-down-gt126, else-down-gt126}
 
 pub returns-else-x-one-clause-above : goal.returns-else-x-one-clause-above
 returns-else-x-one-clause-above c =
     let p = c.from.result * c.from-2.result in
     let p_is : p ≡ c.args.a * c.args.b = ap₂ (λ s t. s * t) c.from.ensures c.from-2.ensures in
     let pos : 0 < p = pos_of c.if-product-eq0.false in
-    let d = c.if-down-gt126.d in
-    let le : d ≤ c.args.down = elim c.if-down-gt126.branch [
-      | then-down-gt126 w ↦ omega (arith, w.d-is, w.if-down-gt126.true)
-      | else-down-gt126 w ↦ omega (arith, w.d-is)
-    ] in
+    let d = c.min-d.result in
+    let le : d ≤ c.args.down = omega (arith, c.min-d.ensures) in
     inl (subst (λ t. t ≤ ((p - 1) / 2 ^ d + 1) * 2 ^ c.args.down) p_is (up_reaches p d c.args.down pos le))
   where
     pos_of : {p : ℕ} → (p ≡ 0 → ⊥) → 0 < p

@@ -1,11 +1,11 @@
 use Rattle.std.proofs.Common.{◌≡◌, ℕ, ◌+◌, ◌*◌, ◌-◌, ◌^◌, ◌≤◌, length}
 use Rattle.dl_exact.specs.Fraction.{Fraction, whole, ◌≤ℚ◌}
-use Rattle.dl_direct.specs.Slide.{AreSums, IsSettled, IsRound}
+use Rattle.dl_direct.specs.Slide.{AreSums, AreSlideCells, IsRound}
 use Rattle.dl_direct.proofs.slide.fit.Given as goal
 
 abbrev pub invariant-loop-k : goal.invariant-loop-k
 invariant-loop-k l = record {
-  sound : IsSettled l.x.low.items l.x.high.items l.x.first;
+  sound : AreSlideCells l.x.low.items l.x.high.items l.x.first;
   within : l.x.first ≤ length l.x.low.items;
   sums : AreSums l.initial.x.sums.items l.initial.x.low.items l.initial.x.high.items
       → AreSums l.x.sums.items l.x.low.items l.x.high.items;

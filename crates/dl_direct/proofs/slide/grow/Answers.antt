@@ -1,8 +1,8 @@
 use Rattle.std.proofs.Common.{◌≡◌, suc, ◌-◌, ◌*◌, ◌^◌, length, ◌∷◌, [], ◌++◌, arith, sym, ap, subst, subst₂, ◌≤◌, ◌∙◌, length-append}
 use Rattle.std.specs.List.{sum_by}
 use Rattle.dl_exact.specs.Fraction.{whole, ◌*ℚ◌, ◌≤ℚ◌}
-use Rattle.dl_direct.specs.Runs.{parts_of}
-use Rattle.dl_direct.specs.Slide.{share, AreSums, IsRound}
+use Rattle.dl_direct.specs.Runs.{all_parts}
+use Rattle.dl_direct.specs.Slide.{contribution, AreSums, IsRound}
 use Rattle.dl_direct.proofs.Grow.{pushed, next_low, next_high}
 use Rattle.dl_direct.proofs.Runs.{all_positive}
 use Rattle.dl_direct.proofs.Totals.{sums_grown}
@@ -29,7 +29,7 @@ returns-clause-round c r F R =
     let m = n - 1 in
     let e : n ≡ suc m = omega (arith, c.requires.some) in
     let d = c.args.q * c.len-n.result in
-    let parts = parts_of c.args.amounts.now in
+    let parts = all_parts c.args.amounts.now in
     let amounts = all_positive c.args.amounts.now c.requires.amounts in
     let d_is : d ≡ c.args.q * suc m = ap (λ t. c.args.q * t) (c.len-n.ensures ∙ x.low.ok.0 ∙ e) in
     let Q : IsRound r x.shift (suc m) x.low.items x.high.items =
@@ -39,10 +39,10 @@ returns-clause-round c r F R =
     let Z : IsRound r z.shift (suc m) z.low.items z.high.items =
     subst (λ t. IsRound r t (suc m) z.low.items z.high.items) (sym told.same_shift)
     (subst₂ (λ l h. IsRound r x.shift (suc m) l h) (sym low_same) (sym high_same) Q) in
-    let lo_sum : c.in_ok-sums.sums.low ≡ sum_by (share c.args.a c.args.b x.low.items (suc m)) parts = told.low
-    ∙ ap (λ t. sum_by (share c.args.a c.args.b x.low.items t) parts) e in
-    let hi_sum : c.in_ok-sums.sums.high ≡ sum_by (share c.args.a c.args.b x.high.items (suc m)) parts = told.high
-    ∙ ap (λ t. sum_by (share c.args.a c.args.b x.high.items t) parts) e in
+    let lo_sum : c.in_ok-sums.sums.low ≡ sum_by (contribution c.args.a c.args.b x.low.items (suc m)) parts = told.low
+    ∙ ap (λ t. sum_by (contribution c.args.a c.args.b x.low.items t) parts) e in
+    let hi_sum : c.in_ok-sums.sums.high ≡ sum_by (contribution c.args.a c.args.b x.high.items (suc m)) parts = told.high
+    ∙ ap (λ t. sum_by (contribution c.args.a c.args.b x.high.items t) parts) e in
     let lo_old : whole (c.divided.result.low * 2 ^ x.shift) ≤ℚ whole (2 ^ 61) *ℚ r (suc m) =
     subst (λ t. whole (t * 2 ^ x.shift) ≤ℚ whole (2 ^ 61) *ℚ r (suc m)) (sym c.divided.ensures.low)
     (next_low parts c.args.a c.args.b c.args.q r amounts c.requires.divisor F x.shift m x.low.items x.high.items

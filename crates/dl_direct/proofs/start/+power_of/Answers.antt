@@ -2,8 +2,8 @@ use Rattle.std.proofs.Common.{◌≡◌, suc, ◌+◌, ◌/◌, arith, sym, ap, 
 use Rattle.dl_model.specs.Compound.{power}
 use Rattle.dl_model.proofs.Powers.{power_plus}
 use Rattle.dl_direct.specs.Start.{HoldsNoClaim}
-use Rattle.dl_direct.proofs.Starts.{power_one}
 use Rattle.dl_direct.proofs.start.+power_of.Goals as goal
+use Rattle.dl_model.proofs.FiniteCounts.{power_one}
 
 pub returns-then-n-eq1-clause-holds : goal.returns-then-n-eq1-clause-holds
 returns-then-n-eq1-clause-holds t c w h =

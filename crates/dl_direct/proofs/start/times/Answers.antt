@@ -52,4 +52,5 @@ loop-k-preserved c =
 
 pub returns-clause-holds : goal.returns-clause-holds
 returns-clause-holds c v w H K =
-    start_times v w _ _ _ _ _ _ c.loop-k.low c.loop-k.high c.loop-k.exponent H K c.loop-k.invariant.low c.loop-k.invariant.high
+    start_times v w _ _ _ _ _ _ c.loop-k.low c.loop-k.high c.loop-k.exponent H K c.loop-k.invariant.low
+    c.loop-k.invariant.high

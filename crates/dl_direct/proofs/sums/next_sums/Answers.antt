@@ -1,85 +1,56 @@
-use Rattle.std.proofs.Common.{◌≡◌, suc, ◌+◌, ◌-◌, ◌<◌, length, get_or, arith, refl, sym, ap, subst, ◌∙◌}
+use Rattle.std.proofs.Common.{◌≡◌, ℕ, suc, ◌+◌, ◌-◌, ◌<◌, List, length, get_or, arith, sym, ap, subst, ◌∙◌}
+use Rattle.dl_direct.specs.declared.cells.Total.{Total}
 use Rattle.dl_direct.specs.declared.cells.Sums.{Sums}
-use Rattle.dl_direct.specs.Slide.{IsSum}
-use Rattle.dl_direct.proofs.Totals.{to_cell_small, before_small, first_sum, next_sum}
+use Rattle.dl_direct.specs.Slide.{IsSum, AreSums}
+use Rattle.dl_direct.proofs.Totals.{total_small, first_total, next_total}
 use Rattle.dl_direct.proofs.sums.next_sums.Goals as goal
 
-abbrev none : Sums
-none = record { low = 0; low_before = 0; high = 0; high_before = 0 }
+abbrev none : Total
+none = record { cells = 0; before = 0 }
+
+abbrev nothing : Sums
+nothing = record { low = none; high = none }
+
+last_is : (low high : List ℕ) (sums : List Sums) → 0 < length sums → AreSums sums low high
+    → IsSum low high (length sums - 1) (get_or sums (length sums - 1) nothing)
+last_is low high sums some all = all (length sums - 1) nothing (omega (arith, some))
 
 pub returns-then-k-eq0 : goal.returns-then-k-eq0
 returns-then-k-eq0 c =
-    let k : length c.args.sums.now ≡ 0 = c.if-k-eq0.true in
-    let low : c.from-low.result ≡ get_or c.args.low.now 0 0 = c.from-low.ensures
-    ∙ ap (λ i. get_or c.args.low.now i 0) k in
-    let high : c.from-high.result ≡ get_or c.args.high.now 0 0 = c.from-high.ensures
-    ∙ ap (λ i. get_or c.args.high.now i 0) k in
     subst (λ i. IsSum c.args.low.now c.args.high.now i
-    (record { low = c.from-low.result; low_before = 0; high = c.from-high.result; high_before = 0 })) (sym k)
-    (first_sum c.args.low.now c.args.high.now _ low high refl refl)
+    (record { low = c.first_total.result; high = c.first_total-then-k-eq0.result })) (sym c.if-k-eq0.true)
+    (record {
+      low_total = first_total c.args.low.now _ c.first_total.ensures.cells c.first_total.ensures.before;
+      high_total = first_total c.args.high.now _ c.first_total-then-k-eq0.ensures.cells
+          c.first_total-then-k-eq0.ensures.before;
+    })
+
+pub next_total-requires : goal.next_total-requires
+next_total-requires c =
+    let is = last_is c.args.low.now c.args.high.now c.args.sums.now (omega (arith, c.if-k-eq0.false)) c.requires.sums in
+    let small = total_small c.args.low.now (length c.args.sums.now - 1) _ c.requires.low_small
+    (omega (arith, c.requires.within, c.requires.few)) is.low_total in
+    record { cells_small = small.0; before_small = small.1 }
+
+pub next_total-requires-2 : goal.next_total-requires-2
+next_total-requires-2 c =
+    let is = last_is c.args.low.now c.args.high.now c.args.sums.now (omega (arith, c.if-k-eq0.false)) c.requires.sums in
+    let small = total_small c.args.high.now (length c.args.sums.now - 1) _ c.requires.high_small
+    (omega (arith, c.requires.within, c.requires.few)) is.high_total in
+    record { cells_small = small.0; before_small = small.1 }
 
 pub returns : goal.returns
 returns c =
-    let sums = c.args.sums.now in
-    let j = length sums - 1 in
-    let b : Sums = get_or sums j none in
-    let k : length sums ≡ suc j = omega (arith, c.if-k-eq0.false) in
-    let low : c.from-low.result ≡ get_or c.args.low.now (suc j) 0 = c.from-low.ensures
-    ∙ ap (λ i. get_or c.args.low.now i 0) k in
-    let high : c.from-high.result ≡ get_or c.args.high.now (suc j) 0 = c.from-high.ensures
-    ∙ ap (λ i. get_or c.args.high.now i 0) k in
-    let before : IsSum c.args.low.now c.args.high.now j b = c.requires.sums j none (omega (arith, k)) in
+    let j = length c.args.sums.now - 1 in
+    let last = get_or c.args.sums.now j nothing in
+    let k : length c.args.sums.now ≡ suc j = omega (arith, c.if-k-eq0.false) in
+    let is = last_is c.args.low.now c.args.high.now c.args.sums.now (omega (arith, c.if-k-eq0.false)) c.requires.sums in
     subst (λ i. IsSum c.args.low.now c.args.high.now i
-    (record {
-      low = b.low + c.from-low.result;
-      low_before = b.low_before + b.low;
-      high =
-          b.high + c.from-high.result;
-      high_before = b.high_before + b.high;
-    })) (sym k)
-    (next_sum c.args.low.now c.args.high.now j b _ before (ap (λ t. b.low + t) low)
-    (ap (λ t. b.high + t) high) refl refl)
-
-pub overflow_add-result : goal.overflow_add-result
-overflow_add-result c =
-    let sums = c.args.sums.now in
-    let j = length sums - 1 in
-    let l : j < 16384 = omega (arith, c.requires.within, c.requires.few) in
-    let is : IsSum c.args.low.now c.args.high.now j (get_or sums j none) =
-    c.requires.sums j none (omega (arith, c.if-k-eq0.false)) in
-    let sum = to_cell_small c.args.low.now j _ c.requires.low_small l is.low_sum in
-    let before = before_small c.args.low.now j _ c.requires.low_small l is.low_before in
-    omega (arith, sum, before, c.from-low.ensures, c.requires.low_small (length sums))
-
-pub overflow_add-result-2 : goal.overflow_add-result-2
-overflow_add-result-2 c =
-    let sums = c.args.sums.now in
-    let j = length sums - 1 in
-    let l : j < 16384 = omega (arith, c.requires.within, c.requires.few) in
-    let is : IsSum c.args.low.now c.args.high.now j (get_or sums j none) =
-    c.requires.sums j none (omega (arith, c.if-k-eq0.false)) in
-    let sum = to_cell_small c.args.low.now j _ c.requires.low_small l is.low_sum in
-    let before = before_small c.args.low.now j _ c.requires.low_small l is.low_before in
-    omega (arith, sum, before, c.from-low.ensures, c.requires.low_small (length sums))
-
-pub overflow_add-result-3 : goal.overflow_add-result-3
-overflow_add-result-3 c =
-    let sums = c.args.sums.now in
-    let j = length sums - 1 in
-    let l : j < 16384 = omega (arith, c.requires.within, c.requires.few) in
-    let is : IsSum c.args.low.now c.args.high.now j (get_or sums j none) =
-    c.requires.sums j none (omega (arith, c.if-k-eq0.false)) in
-    let sum = to_cell_small c.args.high.now j _ c.requires.high_small l is.high_sum in
-    let before = before_small c.args.high.now j _ c.requires.high_small l is.high_before in
-    omega (arith, sum, before, c.from-high.ensures, c.requires.high_small (length sums))
-
-pub overflow_add-result-4 : goal.overflow_add-result-4
-overflow_add-result-4 c =
-    let sums = c.args.sums.now in
-    let j = length sums - 1 in
-    let l : j < 16384 = omega (arith, c.requires.within, c.requires.few) in
-    let is : IsSum c.args.low.now c.args.high.now j (get_or sums j none) =
-    c.requires.sums j none (omega (arith, c.if-k-eq0.false)) in
-    let sum = to_cell_small c.args.high.now j _ c.requires.high_small l is.high_sum in
-    let before = before_small c.args.high.now j _ c.requires.high_small l is.high_before in
-    omega (arith, sum, before, c.from-high.ensures, c.requires.high_small (length sums))
+    (record { low = c.next_total.result; high = c.next_total-2.result })) (sym k) (record {
+      low_total = next_total c.args.low.now j last.low c.next_total.result is.low_total
+          (c.next_total.ensures.cells ∙ ap (λ i. last.low.cells + get_or c.args.low.now i 0) k)
+          c.next_total.ensures.before;
+      high_total = next_total c.args.high.now j last.high c.next_total-2.result is.high_total
+          (c.next_total-2.ensures.cells ∙ ap (λ i. last.high.cells + get_or c.args.high.now i 0) k)
+          c.next_total-2.ensures.before;
+    })

@@ -1,13 +1,13 @@
 use Rattle.std.proofs.Common.{◌≡◌, length, take}
 use Rattle.std.specs.List.{sum_by, flat_map}
 use Rattle.dl_direct.specs.Runs.{run_parts}
-use Rattle.dl_direct.specs.Slide.{share}
+use Rattle.dl_direct.specs.Slide.{contribution}
 use Rattle.dl_direct.proofs.sums.reach_runs.Given as goal
 
 abbrev pub invariant-loop-run : goal.invariant-loop-run
 invariant-loop-run l = record {
-  low : l.low_sum ≡ sum_by (share l.a l.b l.x.low.items (length l.x.low.items))
+  low : l.low_sum ≡ sum_by (contribution l.a l.b l.x.low.items (length l.x.low.items))
       (flat_map run_parts (take l.run-index l.runs));
-  high : l.high_sum ≡ sum_by (share l.a l.b l.x.high.items (length l.x.low.items))
+  high : l.high_sum ≡ sum_by (contribution l.a l.b l.x.high.items (length l.x.low.items))
       (flat_map run_parts (take l.run-index l.runs));
 }

@@ -37,5 +37,6 @@ loop-s-preserved g c =
       start_low = low_at_front list (cell ∷ []) 0 (omega (arith, i.cells, some)) ∙ i.start_low;
       start_high = high_at_front list (cell ∷ []) 0 (omega (arith, i.cells, some)) ∙ i.start_high;
       follows =
-          follows_pushed b c.args.items.now c.args.total c.args.rate list cell c.loop-s.s i.cells some i.follows low high;
+          follows_pushed b c.args.items.now c.args.total c.args.rate list cell c.loop-s.s i.cells some
+          i.follows low high;
     })

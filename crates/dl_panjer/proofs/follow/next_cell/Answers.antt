@@ -2,11 +2,12 @@ use Rattle.std.proofs.Common.{ℕ, suc, ◌≡◌, ◌-◌, ◌/◌, ◌≤◌, 
 use Rattle.std.specs.Prelude.{not}
 use Rattle.dl_grid.specs.Cells.{low_at, high_at}
 use Rattle.dl_grid.proofs.CellLaws.{one_fits}
-use Rattle.dl_panjer.specs.Cells.{share}
-use Rattle.dl_panjer.proofs.Reading.{low_at_most, high_at_most, low_le_high}
-use Rattle.dl_panjer.proofs.Steps.{low_share, high_share, next_order, step_fits, cell_low, cell_high}
+use Rattle.dl_panjer.specs.Cells.{counted}
+use Rattle.dl_panjer.proofs.Reading.{low_at_most, high_at_most}
+use Rattle.dl_panjer.proofs.Steps.{low_counted, high_counted, next_order, step_fits, cell_low, cell_high}
 use Rattle.dl_plan.proofs.Means.{total_pos}
 use Rattle.dl_panjer.proofs.follow.next_cell.Goals as goal
+use Rattle.dl_grid.proofs.EndLists.{low_le_high}
 
 pub nonzero_div-result : goal.nonzero_div-result
 nonzero_div-result g c =
@@ -21,9 +22,9 @@ overflow_mul-result g c =
     let cells = c.args.cells.now in
     let s : ℕ = length cells - 1 in
     let w = c.requires.weighted in
-    let x : c.sums_before-low.result.0 / c.from-total.result ≤ share b (suc s) (2 ^ g.row.B) =
+    let x : c.sums_before-low.result.0 / c.from-total.result ≤ counted b (suc s) (2 ^ g.row.B) =
     rw (c.sums_before-low.ensures.low, c.from-total.ensures)
-    (low_share b c.args.items.now c.args.total (2 ^ g.row.B) s (total_pos c.args.items.now c.args.total w) w.sum
+    (low_counted b c.args.items.now c.args.total (2 ^ g.row.B) s (total_pos c.args.items.now c.args.total w) w.sum
     (low_at cells) (low_at_most cells c.requires.small)) in
     omega (
       arith,
@@ -38,9 +39,9 @@ overflow_mul-div_ceil g c =
     let cells = c.args.cells.now in
     let s : ℕ = length cells - 1 in
     let w = c.requires.weighted in
-    let x : c.div_ceil.result ≤ share b (suc s) (2 ^ g.row.B) =
+    let x : c.div_ceil.result ≤ counted b (suc s) (2 ^ g.row.B) =
     rw (c.div_ceil.ensures, c.sums_before-low.ensures.high, c.from-total.ensures)
-    (high_share b c.args.items.now c.args.total (2 ^ g.row.B) s (total_pos c.args.items.now c.args.total w) w.sum
+    (high_counted b c.args.items.now c.args.total (2 ^ g.row.B) s (total_pos c.args.items.now c.args.total w) w.sum
     (high_at cells) (high_at_most cells c.requires.small)) in
     omega (
       arith,
@@ -54,8 +55,8 @@ invariant_of-result-clause-ordered g c =
     let b = not (eqb g.row.BY_AMOUNT 0) in
     let cells = c.args.cells.now in
     let w = c.requires.weighted in
-    let divisor : c.divisor-den.result ≡ share b (length cells) c.args.rate.den = c.divisor-den.ensures
-    ∙ ap (share b (length cells)) c.den.ensures.part in
+    let divisor : c.divisor-den.result ≡ counted b (length cells) c.args.rate.den = c.divisor-den.ensures
+    ∙ ap (counted b (length cells)) c.den.ensures.part in
     let low = cell_low b c.args.items.now c.args.total c.args.rate (low_at cells)
     (length cells) _ _ _ _ c.requires.some c.sums_before-low.ensures.low c.from-total.ensures
     (c.from-num.ensures ∙ c.num.ensures.part) divisor in
@@ -78,7 +79,7 @@ returns-clause-low g c =
     cell_low b c.args.items.now c.args.total c.args.rate (low_at cells)
     (length cells) _ _ _ _ c.requires.some c.sums_before-low.ensures.low c.from-total.ensures
     (c.from-num.ensures ∙ c.num.ensures.part)
-    (c.divisor-den.ensures ∙ ap (share b (length cells)) c.den.ensures.part)
+    (c.divisor-den.ensures ∙ ap (counted b (length cells)) c.den.ensures.part)
 
 pub returns-clause-high : goal.returns-clause-high
 returns-clause-high g c =
@@ -88,4 +89,4 @@ returns-clause-high g c =
     (cell_high (2 ^ g.row.B) b c.args.items.now c.args.total c.args.rate (high_at cells)
     (length cells) _ _ _ _ c.requires.some c.sums_before-low.ensures.high c.from-total.ensures
     (c.from-num.ensures ∙ c.num.ensures.part)
-    (c.divisor-den.ensures ∙ ap (share b (length cells)) c.den.ensures.part))
+    (c.divisor-den.ensures ∙ ap (counted b (length cells)) c.den.ensures.part))

@@ -43,14 +43,16 @@ pub exp_neg-start-requires : goal.exp_neg-start-requires
 exp_neg-start-requires g c =
     let half : c.fraction-rate.result ≤ℚ 1 over 2 =
     subst (λ t. t ≤ℚ 1 over 2)
-    (sym (rate_is c.fraction-rate.result c.args.mean c.num.result c.den.result c.args.halvings c.requires.halvings c.num.ensures.part c.den.ensures.part c.fraction-rate.ensures.value)) c.requires.half in
+    (sym (rate_is c.fraction-rate.result c.args.mean c.num.result c.den.result c.args.halvings c.requires.halvings
+    c.num.ensures.part c.den.ensures.part c.fraction-rate.ensures.value)) c.requires.half in
     (omega arith, (c.requires.scale_above, (c.requires.scale_below, half)))
 
 pub follow-requires : goal.follow-requires
 follow-requires g c =
     let half : c.fraction-rate.result ≤ℚ 1 over 2 =
     subst (λ t. t ≤ℚ 1 over 2)
-    (sym (rate_is c.fraction-rate.result c.args.mean c.num.result c.den.result c.args.halvings c.requires.halvings c.num.ensures.part c.den.ensures.part c.fraction-rate.ensures.value)) c.requires.half in
+    (sym (rate_is c.fraction-rate.result c.args.mean c.num.result c.den.result c.args.halvings c.requires.halvings
+    c.num.ensures.part c.den.ensures.part c.fraction-rate.ensures.value)) c.requires.half in
     let small : c.fraction-rate.result.num < 2 ^ 48 =
     omega (arith, c.fraction-rate.ensures.num, c.num.ensures.part, c.requires.num) in (
       omega arith,
@@ -74,10 +76,12 @@ follow-requires g c =
 
 pub from_ends-requires : goal.from_ends-requires
 from_ends-requires g c =
-    let e = rate_is c.fraction-rate.result c.args.mean c.num.result c.den.result c.args.halvings c.requires.halvings c.num.ensures.part c.den.ensures.part c.fraction-rate.ensures.value in
+    let e = rate_is c.fraction-rate.result c.args.mean c.num.result c.den.result c.args.halvings c.requires.halvings
+    c.num.ensures.part c.den.ensures.part c.fraction-rate.ensures.value in
     let v = c.args.mean /ℚ whole (2 ^ c.args.halvings) in
     let made =
-    made_of true c.args.sev.now c.as_slice.result.now v c.fraction-rate.result c.in_ok-list.list.items c.args.cells c.as_slice.ensures e c.requires.some c.requires.few
+    made_of true c.args.sev.now c.as_slice.result.now v c.fraction-rate.result c.in_ok-list.list.items c.args.cells
+    c.as_slice.ensures e c.requires.some c.requires.few
     c.in_ok-list.ensures.cells c.in_ok-list.ensures.small c.in_ok-list.ensures.follows c.requires.no_zero in (
       omega arith,
       made_ends c.in_ok-list.list.items _ _ _ c.deref.ensures.value c.in_ok-lows.ensures.low c.in_ok-lows.ensures.high
@@ -90,39 +94,54 @@ from_ends-requires g c =
 
 pub returns-clause-follows : goal.returns-clause-follows
 returns-clause-follows g c =
-    let e = rate_is c.fraction-rate.result c.args.mean c.num.result c.den.result c.args.halvings c.requires.halvings c.num.ensures.part c.den.ensures.part c.fraction-rate.ensures.value in
+    let e = rate_is c.fraction-rate.result c.args.mean c.num.result c.den.result c.args.halvings c.requires.halvings
+    c.num.ensures.part c.den.ensures.part c.fraction-rate.ensures.value in
     let v = c.args.mean /ℚ whole (2 ^ c.args.halvings) in
-    rw (made_grid c.in_ok-list.list.items c.from_ends.result _ _ _ c.deref.ensures.value c.in_ok-lows.ensures.low c.in_ok-lows.ensures.high c.from_ends.ensures.low c.from_ends.ensures.high) (poisson_is_base c.args.sev.now v c.in_ok-list.list.items c.args.cells
-    (made_of true c.args.sev.now c.as_slice.result.now v c.fraction-rate.result c.in_ok-list.list.items c.args.cells c.as_slice.ensures e c.requires.some c.requires.few
+    rw (made_grid c.in_ok-list.list.items c.from_ends.result _ _ _ c.deref.ensures.value c.in_ok-lows.ensures.low
+    c.in_ok-lows.ensures.high c.from_ends.ensures.low c.from_ends.ensures.high)
+    (poisson_is_base c.args.sev.now v c.in_ok-list.list.items c.args.cells
+    (made_of true c.args.sev.now c.as_slice.result.now v c.fraction-rate.result c.in_ok-list.list.items c.args.cells
+    c.as_slice.ensures e c.requires.some c.requires.few
     c.in_ok-list.ensures.cells c.in_ok-list.ensures.small c.in_ok-list.ensures.follows c.requires.no_zero))
 
 pub returns-clause-encloses : goal.returns-clause-encloses
 returns-clause-encloses g c =
-    let e = rate_is c.fraction-rate.result c.args.mean c.num.result c.den.result c.args.halvings c.requires.halvings c.num.ensures.part c.den.ensures.part c.fraction-rate.ensures.value in
+    let e = rate_is c.fraction-rate.result c.args.mean c.num.result c.den.result c.args.halvings c.requires.halvings
+    c.num.ensures.part c.den.ensures.part c.fraction-rate.ensures.value in
     let v = c.args.mean /ℚ whole (2 ^ c.args.halvings) in
     let made =
-    made_of true c.args.sev.now c.as_slice.result.now v c.fraction-rate.result c.in_ok-list.list.items c.args.cells c.as_slice.ensures e c.requires.some c.requires.few
+    made_of true c.args.sev.now c.as_slice.result.now v c.fraction-rate.result c.in_ok-list.list.items c.args.cells
+    c.as_slice.ensures e c.requires.some c.requires.few
     c.in_ok-list.ensures.cells c.in_ok-list.ensures.small c.in_ok-list.ensures.follows c.requires.no_zero in
-    rw (made_grid c.in_ok-list.list.items c.from_ends.result _ _ _ c.deref.ensures.value c.in_ok-lows.ensures.low c.in_ok-lows.ensures.high c.from_ends.ensures.low c.from_ends.ensures.high) (poisson_encloses c.args.sev.now.items c.args.sev.now.total v c.in_ok-list.list.items c.args.cells made
+    rw (made_grid c.in_ok-list.list.items c.from_ends.result _ _ _ c.deref.ensures.value c.in_ok-lows.ensures.low
+    c.in_ok-lows.ensures.high c.from_ends.ensures.low c.from_ends.ensures.high)
+    (poisson_encloses c.args.sev.now.items c.args.sev.now.total v c.in_ok-list.list.items c.args.cells made
     (poisson_start v c.exp_neg-start.result (low_at c.in_ok-list.list.items 0) (high_at c.in_ok-list.list.items 0)
     (subst (λ t. EnclosesExp t c.exp_neg-start.result) e c.exp_neg-start.ensures.encloses)
     c.in_ok-list.ensures.start_low c.in_ok-list.ensures.start_high))
 
 pub returns-clause-spread : goal.returns-clause-spread
 returns-clause-spread g c =
-    let e = rate_is c.fraction-rate.result c.args.mean c.num.result c.den.result c.args.halvings c.requires.halvings c.num.ensures.part c.den.ensures.part c.fraction-rate.ensures.value in
+    let e = rate_is c.fraction-rate.result c.args.mean c.num.result c.den.result c.args.halvings c.requires.halvings
+    c.num.ensures.part c.den.ensures.part c.fraction-rate.ensures.value in
     let v = c.args.mean /ℚ whole (2 ^ c.args.halvings) in
     let made =
-    made_of true c.args.sev.now c.as_slice.result.now v c.fraction-rate.result c.in_ok-list.list.items c.args.cells c.as_slice.ensures e c.requires.some c.requires.few
+    made_of true c.args.sev.now c.as_slice.result.now v c.fraction-rate.result c.in_ok-list.list.items c.args.cells
+    c.as_slice.ensures e c.requires.some c.requires.few
     c.in_ok-list.ensures.cells c.in_ok-list.ensures.small c.in_ok-list.ensures.follows c.requires.no_zero in
-    rw (made_grid c.in_ok-list.list.items c.from_ends.result _ _ _ c.deref.ensures.value c.in_ok-lows.ensures.low c.in_ok-lows.ensures.high c.from_ends.ensures.low c.from_ends.ensures.high) (poisson_widths c.args.sev.now.items c.args.sev.now.total v c.in_ok-list.list.items c.args.cells made (half_parts v c.requires.half)
+    rw (made_grid c.in_ok-list.list.items c.from_ends.result _ _ _ c.deref.ensures.value c.in_ok-lows.ensures.low
+    c.in_ok-lows.ensures.high c.from_ends.ensures.low c.from_ends.ensures.high)
+    (poisson_widths c.args.sev.now.items c.args.sev.now.total v c.in_ok-list.list.items c.args.cells made
+    (half_parts v c.requires.half)
     (rw (c.in_ok-list.ensures.start_low, c.in_ok-list.ensures.start_high)
     (omega (arith, c.exp_neg-start.ensures.narrow))))
 
 pub returns-clause-start : goal.returns-clause-start
 returns-clause-start g c =
-    let e = rate_is c.fraction-rate.result c.args.mean c.num.result c.den.result c.args.halvings c.requires.halvings c.num.ensures.part c.den.ensures.part c.fraction-rate.ensures.value in
-    rw (made_grid c.in_ok-list.list.items c.from_ends.result _ _ _ c.deref.ensures.value c.in_ok-lows.ensures.low c.in_ok-lows.ensures.high c.from_ends.ensures.low c.from_ends.ensures.high) (record {
+    let e = rate_is c.fraction-rate.result c.args.mean c.num.result c.den.result c.args.halvings c.requires.halvings
+    c.num.ensures.part c.den.ensures.part c.fraction-rate.ensures.value in
+    rw (made_grid c.in_ok-list.list.items c.from_ends.result _ _ _ c.deref.ensures.value c.in_ok-lows.ensures.low
+    c.in_ok-lows.ensures.high c.from_ends.ensures.low c.from_ends.ensures.high) (record {
       first = c.exp_neg-start.result;
       low = c.in_ok-list.ensures.start_low;
       high = c.in_ok-list.ensures.start_high;

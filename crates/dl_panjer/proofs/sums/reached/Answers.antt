@@ -1,7 +1,7 @@
 use Rattle.std.proofs.Common.{leb, leb-true, arith, rules}
 use Rattle.std.proofs.lemmas.Bool.{leb-false}
 use Rattle.std.proofs.lemmas.List.Sorted.{IsPartitionPoint-from_clause, IsPartitionedBy-leb}
-use Rattle.dl_panjer.proofs.Severities.{amounts_rise}
+use Rattle.dl_panjer.proofs.Reading.{amounts_rise}
 use Rattle.dl_panjer.proofs.sums.reached.Goals as goal
 
 pub returns-clause-before : goal.returns-clause-before

@@ -10,4 +10,5 @@ returns-clause-total g c = only_total c.args.unit
 pub returns-clause-others : goal.returns-clause-others
 returns-clause-others g c =
     none_without c.args.unit c.push.new.self.items
-    (c.in_ok-push.ensures.items ∙ ap (λ (t : List (Option (List (Iv g.row.B)))). t ++ None ∷ []) c.new-others.ensures.items)
+    (c.in_ok-push.ensures.items ∙ ap (λ (t : List (Option (List (Iv g.row.B)))). t ++ None ∷ [])
+    c.new-others.ensures.items)

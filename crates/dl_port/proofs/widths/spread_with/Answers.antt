@@ -9,5 +9,7 @@ joined_spread-requires g c = (scale_of c.unit-item.result c.cells.ensures.grid.s
 
 pub loop-unit-preserved : goal.loop-unit-preserved
 loop-unit-preserved g c =
-    one_wider c.args.units.now c.args.cells c.loop-unit.unit-index c.loop-unit.most c.in_ok-most.most c.args.sum c.unit-item.result (omega arith) c.unit-item.is
-    (c.in_ok-most.ensures ∙ ap (λ t. cv (2 ^ g.row.B) c.args.cells c.loop-unit.most t) c.spread.ensures) c.loop-unit.invariant
+    one_wider c.args.units.now c.args.cells c.loop-unit.unit-index c.loop-unit.most c.in_ok-most.most c.args.sum
+    c.unit-item.result (omega arith) c.unit-item.is
+    (c.in_ok-most.ensures.value ∙ ap (λ t. cv (2 ^ g.row.B) c.args.cells c.loop-unit.most t) c.spread.ensures)
+    c.loop-unit.invariant

@@ -1,5 +1,4 @@
-use Rattle.std.proofs.Common.{ℕ, ◌≡◌, ◌+◌, ◌∷◌, [], length, arith, sym, ap, ◌∙◌}
-use Rattle.std.specs.Prelude.{All}
+use Rattle.std.proofs.Common.{length, arith, ap, ◌∙◌}
 use Rattle.std.proofs.lemmas.List.{length-take-le}
 use Rattle.dl_grid.proofs.CellLaws.{scale_of}
 use Rattle.dl_power.proofs.PowerGrids.{no_powers, no_grids, all_more, more_powers, no_claim, one_claim, next_at}
@@ -15,12 +14,17 @@ loop-claims-init g c =
     let none = c.new-powers.ensures.items in
     record {
       many = omega (arith, c.in_ok-push.ensures.len, c.in_ok-push-2.ensures.len, ap length none);
-      same = all_more c.push.new.self.items c.push-2.new.self.items c.in_ok-truncate.field-0 c.args.cells c.in_ok-push-2.ensures.items
-          (all_more c.new-powers.result.items c.push.new.self.items c.in_ok-zero.field-0 c.args.cells c.in_ok-push.ensures.items (no_grids c.new-powers.result.items c.args.cells none) c.in_ok-zero.ensures.cells)
+      same = all_more c.push.new.self.items c.push-2.new.self.items c.in_ok-truncate.field-0 c.args.cells
+          c.in_ok-push-2.ensures.items
+          (all_more c.new-powers.result.items c.push.new.self.items c.in_ok-zero.field-0 c.args.cells
+          c.in_ok-push.ensures.items (no_grids c.new-powers.result.items c.args.cells none)
+          c.in_ok-zero.ensures.cells)
           (ap length c.in_ok-truncate.ensures ∙ length-take-le c.args.cells c.args.base.now c.requires.within);
       powers = λ f q of_f.
-          more_powers c.args.cells 1 f c.push.new.self.items c.push-2.new.self.items c.in_ok-truncate.field-0 c.in_ok-push-2.ensures.items (omega (arith, c.in_ok-push.ensures.len, ap length none))
-          (more_powers c.args.cells 0 f c.new-powers.result.items c.push.new.self.items c.in_ok-zero.field-0 c.in_ok-push.ensures.items (ap length none)
+          more_powers c.args.cells 1 f c.push.new.self.items c.push-2.new.self.items c.in_ok-truncate.field-0
+          c.in_ok-push-2.ensures.items (omega (arith, c.in_ok-push.ensures.len, ap length none))
+          (more_powers c.args.cells 0 f c.new-powers.result.items c.push.new.self.items c.in_ok-zero.field-0
+          c.in_ok-push.ensures.items (ap length none)
           (no_powers c.args.cells f c.new-powers.result.items none)
           (no_claim c.in_ok-zero.field-0 c.args.cells f c.in_ok-zero.ensures.low c.in_ok-zero.ensures.high))
           (one_claim c.args.base.now c.in_ok-truncate.field-0 c.args.cells f c.in_ok-truncate.ensures of_f);
@@ -29,9 +33,12 @@ loop-claims-init g c =
 pub loop-claims-preserved : goal.loop-claims-preserved
 loop-claims-preserved g c = record {
   many = omega (arith, c.in_ok-push-3.ensures.len, c.loop-claims.invariant.many);
-  same = all_more c.loop-claims.powers.items c.push-in-loop-claims.new.self.items c.in_ok-next.next c.args.cells c.in_ok-push-3.ensures.items c.loop-claims.invariant.same c.in_ok-next.ensures.cells;
+  same = all_more c.loop-claims.powers.items c.push-in-loop-claims.new.self.items c.in_ok-next.next c.args.cells
+      c.in_ok-push-3.ensures.items c.loop-claims.invariant.same c.in_ok-next.ensures.cells;
   powers = λ f q of_f.
       let before = c.loop-claims.invariant.powers f q of_f in
-      more_powers c.args.cells (length c.loop-claims.powers.items) f c.loop-claims.powers.items c.push-in-loop-claims.new.self.items c.in_ok-next.next c.in_ok-push-3.ensures.items (omega arith) before
-      (next_at c.args.cells f c.as_slice.result.now c.loop-claims.powers.items c.in_ok-next.next c.as_slice.ensures.value (c.in_ok-next.ensures.between f q) before);
+      more_powers c.args.cells (length c.loop-claims.powers.items) f c.loop-claims.powers.items
+      c.push-in-loop-claims.new.self.items c.in_ok-next.next c.in_ok-push-3.ensures.items (omega arith) before
+      (next_at c.args.cells f c.as_slice.result.now c.loop-claims.powers.items c.in_ok-next.next
+      c.as_slice.ensures.value (c.in_ok-next.ensures.between f q) before);
 }

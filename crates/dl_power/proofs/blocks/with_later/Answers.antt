@@ -1,4 +1,4 @@
-use Rattle.std.proofs.Common.{ℕ, ◌≡◌, ◌+◌, ◌^◌, ◌<◌, ◌≤◌, length, get_or, arith, refl, ap, ap₂, ◌∙◌}
+use Rattle.std.proofs.Common.{ℕ, ◌≡◌, ◌+◌, ◌^◌, ◌<◌, get_or, arith, ap₂, ◌∙◌}
 use Rattle.std.specs.Prelude.{min}
 use Rattle.dl_grid.specs.Cells.{low_at, high_at}
 use Rattle.dl_power.proofs.EndLists.{ends_small}
@@ -7,39 +7,54 @@ use Rattle.dl_power.proofs.StepGrids.{step_between, step_ends}
 use Rattle.dl_power.proofs.blocks.with_later.Goals as goal
 
 pub added-requires-clause-in_first : goal.added-requires-clause-in_first
-added-requires-clause-in_first g c = ends_small g.row.B c.lows.result.now c.moved.invariant.scale_below c.lows.ensures.small
+added-requires-clause-in_first g c = ends_small g.row.B c.lows.result.now c.moved.invariant.scale_below
+    c.lows.ensures.small
 
 pub added-requires-clause-in_second : goal.added-requires-clause-in_second
-added-requires-clause-in_second g c = ends_small g.row.B c.lows-2.result.now c.moved.invariant.scale_below c.lows-2.ensures.small
+added-requires-clause-in_second g c = ends_small g.row.B c.lows-2.result.now c.moved.invariant.scale_below
+    c.lows-2.ensures.small
 
 pub added-requires-2-clause-in_first : goal.added-requires-2-clause-in_first
-added-requires-2-clause-in_first g c = ends_small g.row.B c.highs.result.now c.moved.invariant.scale_below c.highs.ensures.small
+added-requires-2-clause-in_first g c = ends_small g.row.B c.highs.result.now c.moved.invariant.scale_below
+    c.highs.ensures.small
 
 pub added-requires-2-clause-in_second : goal.added-requires-2-clause-in_second
-added-requires-2-clause-in_second g c = ends_small g.row.B c.highs-2.result.now c.moved.invariant.scale_below c.highs-2.ensures.small
+added-requires-2-clause-in_second g c = ends_small g.row.B c.highs-2.result.now c.moved.invariant.scale_below
+    c.highs-2.ensures.small
 
 pub from_ends-requires : goal.from_ends-requires
 from_ends-requires g c =
     let one = c.units_of_one-one.ensures in
-    let low : (x : ℕ) → x < c.args.cells → get_or c.in_ok-lows.lows.items x 0 ≡ min (2 ^ g.row.B) (low_at c.in_ok-moved.moved x + low_at c.args.block.now x) =
-    λ x b. c.in_ok-lows.ensures.each x (omega (arith, c.lows.ensures.cells, c.in_ok-moved.ensures.cells)) ∙ ap₂ (λ s t. min s t) one (ap₂ (λ s t. s + t) (c.lows.ensures.each x) (c.lows-2.ensures.each x)) in
-    let high : (x : ℕ) → x < c.args.cells → get_or c.in_ok-highs.highs.items x 0 ≡ min (2 ^ g.row.B) (high_at c.in_ok-moved.moved x + high_at c.args.block.now x) =
-    λ x b. c.in_ok-highs.ensures.each x (omega (arith, c.highs.ensures.cells, c.in_ok-moved.ensures.cells)) ∙ ap₂ (λ s t. min s t) one (ap₂ (λ s t. s + t) (c.highs.ensures.each x) (c.highs-2.ensures.each x)) in
+    let low : (x : ℕ) → x < c.args.cells → get_or c.in_ok-lows.lows.items x 0
+    ≡ min (2 ^ g.row.B) (low_at c.in_ok-moved.moved x + low_at c.args.block.now x) =
+    λ x b. c.in_ok-lows.ensures.each x (omega (arith, c.lows.ensures.cells, c.in_ok-moved.ensures.cells))
+    ∙ ap₂ (λ s t. min s t) one (ap₂ (λ s t. s + t) (c.lows.ensures.each x) (c.lows-2.ensures.each x)) in
+    let high : (x : ℕ) → x < c.args.cells → get_or c.in_ok-highs.highs.items x 0
+    ≡ min (2 ^ g.row.B) (high_at c.in_ok-moved.moved x + high_at c.args.block.now x) =
+    λ x b. c.in_ok-highs.ensures.each x (omega (arith, c.highs.ensures.cells, c.in_ok-moved.ensures.cells))
+    ∙ ap₂ (λ s t. min s t) one (ap₂ (λ s t. s + t) (c.highs.ensures.each x) (c.highs-2.ensures.each x)) in
     let s = c.requires.step in (
       omega arith,
-      step_ends c.args.block.now c.args.step.now c.args.later.now c.in_ok-moved.moved c.in_ok-lows.lows.items c.in_ok-highs.highs.items c.args.cells
-          c.in_ok-moved.ensures.low c.in_ok-moved.ensures.high low high c.moved.invariant.scale_above c.moved.invariant.scale_below c.requires.some
+      step_ends c.args.block.now c.args.step.now c.args.later.now c.in_ok-moved.moved c.in_ok-lows.lows.items
+          c.in_ok-highs.highs.items c.args.cells
+          c.in_ok-moved.ensures.convolution.low c.in_ok-moved.ensures.convolution.high low high
+          c.moved.invariant.scale_above c.moved.invariant.scale_below c.requires.some
           (omega (arith, c.moved.invariant.few, c.lows.ensures.grid.few, c.in_ok-moved.ensures.cells))
-          (omega (arith, c.in_ok-lows.ensures.many, c.lows.ensures.cells, c.in_ok-moved.ensures.cells)) (omega (arith, c.in_ok-highs.ensures.many, c.highs.ensures.cells, c.in_ok-moved.ensures.cells))
+          (omega (arith, c.in_ok-lows.ensures.many, c.lows.ensures.cells, c.in_ok-moved.ensures.cells))
+          (omega (arith, c.in_ok-highs.ensures.many, c.highs.ensures.cells, c.in_ok-moved.ensures.cells))
           s.0 s.1 s.2 s.3 s.4 s.5,
     )
 
 pub returns-clause-between : goal.returns-clause-between
 returns-clause-between g c w f k m n p =
     let one = c.units_of_one-one.ensures in
-    as_made c.from_ends.result c.in_ok-lows.lows.items c.in_ok-highs.highs.items c.args.cells _ c.from_ends.ensures.low c.from_ends.ensures.high
-    (step_between c.args.block.now c.args.step.now c.args.later.now c.in_ok-moved.moved c.in_ok-lows.lows.items c.in_ok-highs.highs.items c.args.cells
-    c.in_ok-moved.ensures.low c.in_ok-moved.ensures.high
-    (λ x b. c.in_ok-lows.ensures.each x (omega (arith, c.lows.ensures.cells, c.in_ok-moved.ensures.cells)) ∙ ap₂ (λ s t. min s t) one (ap₂ (λ s t. s + t) (c.lows.ensures.each x) (c.lows-2.ensures.each x)))
-    (λ x b. c.in_ok-highs.ensures.each x (omega (arith, c.highs.ensures.cells, c.in_ok-moved.ensures.cells)) ∙ ap₂ (λ s t. min s t) one (ap₂ (λ s t. s + t) (c.highs.ensures.each x) (c.highs-2.ensures.each x)))
+    as_made c.from_ends.result c.in_ok-lows.lows.items c.in_ok-highs.highs.items c.args.cells _ c.from_ends.ensures.low
+    c.from_ends.ensures.high
+    (step_between c.args.block.now c.args.step.now c.args.later.now c.in_ok-moved.moved c.in_ok-lows.lows.items
+    c.in_ok-highs.highs.items c.args.cells
+    c.in_ok-moved.ensures.convolution.low c.in_ok-moved.ensures.convolution.high
+    (λ x b. c.in_ok-lows.ensures.each x (omega (arith, c.lows.ensures.cells, c.in_ok-moved.ensures.cells))
+    ∙ ap₂ (λ s t. min s t) one (ap₂ (λ s t. s + t) (c.lows.ensures.each x) (c.lows-2.ensures.each x)))
+    (λ x b. c.in_ok-highs.ensures.each x (omega (arith, c.highs.ensures.cells, c.in_ok-moved.ensures.cells))
+    ∙ ap₂ (λ s t. min s t) one (ap₂ (λ s t. s + t) (c.highs.ensures.each x) (c.highs-2.ensures.each x)))
     w f k m n p)

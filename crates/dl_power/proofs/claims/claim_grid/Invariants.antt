@@ -8,7 +8,8 @@ abbrev pub invariant-loop-item : goal.invariant-loop-item
 invariant-loop-item g l = record {
   cells : length l.grid ≡ l.cells;
   low : (y : ℕ) → y < l.cells → low_at l.grid y ≡ 2 ^ g.row.B * weight_at (take l.item-index l.amounts) y / l.total;
-  high : (y : ℕ) → y < l.cells → high_at l.grid y ≡ div_ceil (2 ^ g.row.B * weight_at (take l.item-index l.amounts) y) l.total;
+  high : (y : ℕ) → y < l.cells → high_at l.grid y ≡ div_ceil
+      (2 ^ g.row.B * weight_at (take l.item-index l.amounts) y) l.total;
   mass : mass_low l.grid * l.total ≤ 2 ^ g.row.B * weight_sum (take l.item-index l.amounts);
   spread : spread l.grid ≤ l.item-index;
 }

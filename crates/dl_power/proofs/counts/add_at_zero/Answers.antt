@@ -10,7 +10,8 @@ returns-clause-low g c =
     rw c.set.ensures (low_added c.args.grid.now c.clamp_to.result c.args.more.lo (omega arith) (omega arith))
 
 pub returns-clause-high : goal.returns-clause-high
-returns-clause-high g c = rw c.set.ensures (high_added c.args.grid.now c.clamp_to.result (min (high_at c.args.grid.now 0 + c.args.more.hi) (2 ^ g.row.B)) (omega arith) (omega arith))
+returns-clause-high g c = rw c.set.ensures (high_added c.args.grid.now c.clamp_to.result
+    (min (high_at c.args.grid.now 0 + c.args.more.hi) (2 ^ g.row.B)) (omega arith) (omega arith))
 
 pub returns-clause-others : goal.returns-clause-others
 returns-clause-others g c x = rw c.set.ensures (high_kept c.args.grid.now c.clamp_to.result x)

@@ -3,7 +3,7 @@ use Rattle.dl_exact.specs.Fraction.{Fraction}
 use Rattle.dl_grid.specs.Cells.{low_at, high_at, mass_low, spread}
 use Rattle.dl_model.specs.Compound.{cell_from}
 use Rattle.dl_model.specs.Severity.{IsWithinOne}
-use Rattle.dl_model.specs.Listed.{weighted, probability}
+use Rattle.dl_model.specs.Listed.{probability_at}
 use Rattle.dl_grid.specs.Width.{mixed_spread}
 use Rattle.dl_power.proofs.WeightLists.{shares_below}
 use Rattle.dl_power.specs.Powers.{LieBetween}
@@ -16,5 +16,6 @@ invariant-loop-step g l = record {
   mass : mass_low l.grid + shares_below (2 ^ g.row.B) l.total l.table (l.greatest - l.step) ≤ 2 ^ g.row.B;
   spread : spread l.grid ≤ mixed_spread (2 ^ g.row.B) l.cells (spread l.base) l.step;
   between : (f : ℕ → Fraction) → IsWithinOne f → LieBetween (2 ^ g.row.B) l.cells (low_at l.base) (high_at l.base) f
-      → LieBetween (2 ^ g.row.B) l.cells (low_at l.grid) (high_at l.grid) (λ s. cell_from (probability (weighted l.table)) f (l.greatest - l.step) s l.step);
+      → LieBetween (2 ^ g.row.B) l.cells (low_at l.grid) (high_at l.grid)
+      (λ s. cell_from (probability_at l.table) f (l.greatest - l.step) s l.step);
 }

@@ -1,8 +1,8 @@
-use Rattle.std.proofs.Common.{ℕ, ◌≡◌, ◌+◌, ◌/◌, ◌^◌, arith, ap, ap₂, ◌∙◌}
+use Rattle.std.proofs.Common.{ℕ, ◌≡◌, ◌/◌, ◌^◌, arith, ap, ap₂, ◌∙◌}
 use Rattle.std.specs.Prelude.{min}
 use Rattle.std.specs.Int.{div_ceil}
 use Rattle.dl_grid.specs.Cells.{low_at, high_at}
-use Rattle.dl_power.specs.Powers.{weighed}
+use Rattle.dl_power.specs.Powers.{mixture_end}
 use Rattle.dl_power.proofs.EndLists.{one_more_item}
 use Rattle.dl_power.proofs.BlockGrids.{as_made, mixture_between, mixture_ends}
 use Rattle.dl_power.proofs.mixture.block.Goals as goal
@@ -13,34 +13,41 @@ loop-x-preserved g c =
     let weights = c.in_ok-weights.weights.items in
     let one = c.units_of_one-one.ensures in
     let total = c.from-total.ensures in
-    let given = ap (λ ws. weighed ws c.args.powers.now (λ t. low_at t x)) c.as_slice.ensures.value in
-    let given' = ap (λ ws. weighed ws c.args.powers.now (λ t. high_at t x)) c.as_slice.ensures.value in
+    let given = ap (λ ws. mixture_end ws c.args.powers.now (λ t. low_at t x)) c.as_slice.ensures.value in
+    let given' = ap (λ ws. mixture_end ws c.args.powers.now (λ t. high_at t x)) c.as_slice.ensures.value in
     record {
       lows = omega (arith, c.in_ok-push.ensures.len, c.loop-x.invariant.lows);
       highs = omega (arith, c.in_ok-push-2.ensures.len, c.loop-x.invariant.highs);
       low = one_more_item c.loop-x.lows.items c.push.new.self.items c.min.result x
-          (λ k. min (2 ^ g.row.B) (weighed weights c.args.powers.now (λ t. low_at t k) / c.args.total)) c.in_ok-push.ensures.items c.loop-x.invariant.lows c.loop-x.invariant.low
+          (λ k. min (2 ^ g.row.B) (mixture_end weights c.args.powers.now (λ t. low_at t k) / c.args.total))
+          c.in_ok-push.ensures.items c.loop-x.invariant.lows c.loop-x.invariant.low
           (c.min.ensures ∙ ap₂ (λ s t. min s t) one (ap₂ (λ s t. s / t) (c.sums_at-low.ensures.low ∙ given) total));
       high = one_more_item c.loop-x.highs.items c.push-in-loop-x.new.self.items c.min-in-loop-x.result x
-          (λ k. min (2 ^ g.row.B) (div_ceil (weighed weights c.args.powers.now (λ t. high_at t k)) c.args.total)) c.in_ok-push-2.ensures.items c.loop-x.invariant.highs c.loop-x.invariant.high
-          (c.min-in-loop-x.ensures ∙ ap₂ (λ s t. min s t) one (c.div_ceil.ensures ∙ ap₂ (λ s t. div_ceil s t) (c.sums_at-low.ensures.high ∙ given') total));
+          (λ k. min (2 ^ g.row.B) (div_ceil (mixture_end weights c.args.powers.now (λ t. high_at t k)) c.args.total))
+          c.in_ok-push-2.ensures.items c.loop-x.invariant.highs c.loop-x.invariant.high
+          (c.min-in-loop-x.ensures ∙ ap₂ (λ s t. min s t) one
+          (c.div_ceil.ensures ∙ ap₂ (λ s t. div_ceil s t) (c.sums_at-low.ensures.high ∙ given') total));
     }
 
 pub from_ends-requires : goal.from_ends-requires
 from_ends-requires g c =
     let all : c.loop-x.x ≡ c.args.cells = omega arith in (
       omega arith,
-      mixture_ends c.args.powers.now c.in_ok-weights.weights.items c.loop-x.lows.items c.loop-x.highs.items c.args.table.now c.args.total c.args.first c.args.cells
+      mixture_ends c.args.powers.now c.in_ok-weights.weights.items c.loop-x.lows.items c.loop-x.highs.items
+          c.args.table.now c.args.total c.args.first c.args.cells
           c.requires.positive c.requires.sum c.requires.one c.in_ok-weights.ensures.many c.in_ok-weights.ensures.each
           (λ x b. c.loop-x.invariant.low x (omega arith)) (λ x b. c.loop-x.invariant.high x (omega arith))
-          c.requires.scale_above c.requires.scale_below c.requires.some c.requires.few (omega (arith, c.loop-x.invariant.lows)) (omega (arith, c.loop-x.invariant.highs))
+          c.requires.scale_above c.requires.scale_below c.requires.some c.requires.few
+          (omega (arith, c.loop-x.invariant.lows)) (omega (arith, c.loop-x.invariant.highs))
           c.requires.powers.0 c.requires.powers.1 c.requires.powers.2,
     )
 
 pub returns-clause-between : goal.returns-clause-between
 returns-clause-between g c f q of_f =
     let all : c.loop-x.x ≡ c.args.cells = omega arith in
-    as_made c.from_ends.result c.loop-x.lows.items c.loop-x.highs.items c.args.cells _ c.from_ends.ensures.low c.from_ends.ensures.high
-    (mixture_between c.args.powers.now c.in_ok-weights.weights.items c.loop-x.lows.items c.loop-x.highs.items c.args.table.now c.args.total c.args.first c.args.cells
+    as_made c.from_ends.result c.loop-x.lows.items c.loop-x.highs.items c.args.cells _ c.from_ends.ensures.low
+    c.from_ends.ensures.high
+    (mixture_between c.args.powers.now c.in_ok-weights.weights.items c.loop-x.lows.items c.loop-x.highs.items
+    c.args.table.now c.args.total c.args.first c.args.cells
     c.requires.positive c.requires.sum c.requires.one c.in_ok-weights.ensures.many c.in_ok-weights.ensures.each
     (λ x b. c.loop-x.invariant.low x (omega arith)) (λ x b. c.loop-x.invariant.high x (omega arith)) f q of_f)

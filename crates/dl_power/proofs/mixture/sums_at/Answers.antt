@@ -1,12 +1,18 @@
-use Rattle.std.proofs.Common.{◌<◌, ◌≡◌, ◌*◌, ◌^◌, ◌≤◌, [], length, get_or, arith, refl, sym, ap, ◌∙◌}
+use Rattle.std.proofs.Common.{◌<◌, ◌≡◌, ◌*◌, ◌^◌, ◌≤◌, [], length, get_or, arith, sym, ap, ◌∙◌}
 use Rattle.dl_grid.specs.Cells.{low_at, high_at}
 use Rattle.dl_exact.specs.Count.{count_below}
 use Rattle.dl_exact.proofs.Counts.{below_nothing}
-use Rattle.dl_power.proofs.EndLists.{weighed_is, weighed_more, product_small}
+use Rattle.dl_power.proofs.EndLists.{mixture_end_is, mixture_end_more, product_small}
 use Rattle.dl_power.proofs.mixture.sums_at.Goals as goal
 
 pub loop-i-init : goal.loop-i-init
-loop-i-init g c = record { low = sym (below_nothing _); high = sym (below_nothing _); small_low = omega arith; small = omega arith }
+loop-i-init g c = record {
+  low = sym (below_nothing _);
+  high = sym (below_nothing _);
+  small_low = omega arith;
+  small =
+      omega arith;
+}
 
 pub loop-i-preserved : goal.loop-i-preserved
 loop-i-preserved g c =
@@ -14,15 +20,25 @@ loop-i-preserved g c =
     let inside : c.loop-i.i < length c.args.grids.now = omega arith in
     let grid = c.index-grids-i.result in
     let weight : c.from-weight.result ≡ get_or c.args.weights.now c.loop-i.i 0 = c.from-weight.ensures in
-    let long : x < length grid = omega (arith, c.requires.inside c.loop-i.i c.index-grids-i.result inside, ap length c.index-grids-i.is) in
+    let long : x < length grid = omega (
+      arith,
+      c.requires.inside c.loop-i.i c.index-grids-i.result inside,
+      ap length c.index-grids-i.is,
+    ) in
     let small : c.from-weight.result * get_or c.highs.result.now x 0 ≤ 2 ^ 88 =
-    product_small c.from-weight.result (get_or c.highs.result.now x 0) g.row.B (omega (arith, weight, c.type_inv.weights c.loop-i.i)) (c.highs.ensures.small x 0 (omega (arith, c.highs.ensures.cells, long))) c.requires.scale in
+    product_small c.from-weight.result (get_or c.highs.result.now x 0) g.row.B
+    (omega (arith, weight, c.type_inv.weights c.loop-i.i))
+    (c.highs.ensures.small x 0 (omega (arith, c.highs.ensures.cells, long))) c.requires.scale in
     let small_low : c.from-weight.result * get_or c.lows.result.now x 0 ≤ 2 ^ 88 =
-    product_small c.from-weight.result (get_or c.lows.result.now x 0) g.row.B (omega (arith, weight, c.type_inv.weights c.loop-i.i)) (c.lows.ensures.small x 0 (omega (arith, c.lows.ensures.cells, long))) c.requires.scale in
+    product_small c.from-weight.result (get_or c.lows.result.now x 0) g.row.B
+    (omega (arith, weight, c.type_inv.weights c.loop-i.i))
+    (c.lows.ensures.small x 0 (omega (arith, c.lows.ensures.cells, long))) c.requires.scale in
     record {
-      low = weighed_more c.args.weights.now c.args.grids.now grid c.loop-i.i c.loop-i.low c.from-weight.result (get_or c.lows.result.now x 0) (λ g. low_at g x) inside c.index-grids-i.is weight
+      low = mixture_end_more c.args.weights.now c.args.grids.now grid c.loop-i.i c.loop-i.low c.from-weight.result
+          (get_or c.lows.result.now x 0) (λ g. low_at g x) inside c.index-grids-i.is weight
           (c.lows.ensures.each x) c.loop-i.invariant.low;
-      high = weighed_more c.args.weights.now c.args.grids.now grid c.loop-i.i c.loop-i.high c.from-weight.result (get_or c.highs.result.now x 0) (λ g. high_at g x) inside c.index-grids-i.is weight
+      high = mixture_end_more c.args.weights.now c.args.grids.now grid c.loop-i.i c.loop-i.high c.from-weight.result
+          (get_or c.highs.result.now x 0) (λ g. high_at g x) inside c.index-grids-i.is weight
           (c.highs.ensures.each x) c.loop-i.invariant.high;
       small_low = omega (arith, c.loop-i.invariant.small_low, small_low);
       small = omega (arith, c.loop-i.invariant.small, small);
@@ -31,11 +47,13 @@ loop-i-preserved g c =
 pub returns-clause-low : goal.returns-clause-low
 returns-clause-low g c =
     let all : c.loop-i.i ≡ length c.args.grids.now = omega arith in
-    c.loop-i.invariant.low ∙ ap (λ n. count_below n (λ i. get_or c.args.weights.now i 0 * low_at (get_or c.args.grids.now i []) c.args.x)) all
-    ∙ sym (weighed_is c.args.weights.now c.args.grids.now (λ g. low_at g c.args.x) c.requires.as_many)
+    c.loop-i.invariant.low ∙ ap (λ n. count_below n
+    (λ i. get_or c.args.weights.now i 0 * low_at (get_or c.args.grids.now i []) c.args.x)) all
+    ∙ sym (mixture_end_is c.args.weights.now c.args.grids.now (λ g. low_at g c.args.x) c.requires.as_many)
 
 pub returns-clause-high : goal.returns-clause-high
 returns-clause-high g c =
     let all : c.loop-i.i ≡ length c.args.grids.now = omega arith in
-    c.loop-i.invariant.high ∙ ap (λ n. count_below n (λ i. get_or c.args.weights.now i 0 * high_at (get_or c.args.grids.now i []) c.args.x)) all
-    ∙ sym (weighed_is c.args.weights.now c.args.grids.now (λ g. high_at g c.args.x) c.requires.as_many)
+    c.loop-i.invariant.high ∙ ap (λ n. count_below n
+    (λ i. get_or c.args.weights.now i 0 * high_at (get_or c.args.grids.now i []) c.args.x)) all
+    ∙ sym (mixture_end_is c.args.weights.now c.args.grids.now (λ g. high_at g c.args.x) c.requires.as_many)

@@ -3,13 +3,17 @@ use Rattle.dl_grid.proofs.CellSets.{low_set, high_set, mass_set, spread_set}
 use Rattle.dl_power.proofs.shares.put.Goals as goal
 
 pub returns-then-x-cells-clause-low : goal.returns-then-x-cells-clause-low
-returns-then-x-cells-clause-low g c y inside = rw c.set.ensures (low_set c.args.grid.now c.args.x y c.args.v (omega arith))
+returns-then-x-cells-clause-low g c y inside = rw c.set.ensures
+    (low_set c.args.grid.now c.args.x y c.args.v (omega arith))
 
 pub returns-then-x-cells-clause-high : goal.returns-then-x-cells-clause-high
-returns-then-x-cells-clause-high g c y inside = rw c.set.ensures (high_set c.args.grid.now c.args.x y c.args.v (omega arith))
+returns-then-x-cells-clause-high g c y inside = rw c.set.ensures
+    (high_set c.args.grid.now c.args.x y c.args.v (omega arith))
 
 pub returns-then-x-cells-clause-mass : goal.returns-then-x-cells-clause-mass
-returns-then-x-cells-clause-mass g c = rw c.set.ensures (omega (arith, mass_set c.args.grid.now c.args.x c.args.v (omega arith)))
+returns-then-x-cells-clause-mass g c = rw c.set.ensures
+    (omega (arith, mass_set c.args.grid.now c.args.x c.args.v (omega arith)))
 
 pub returns-then-x-cells-clause-spread : goal.returns-then-x-cells-clause-spread
-returns-then-x-cells-clause-spread g c = rw c.set.ensures (omega (arith, spread_set c.args.grid.now c.args.x c.args.v (omega arith)))
+returns-then-x-cells-clause-spread g c = rw c.set.ensures
+    (omega (arith, spread_set c.args.grid.now c.args.x c.args.v (omega arith)))

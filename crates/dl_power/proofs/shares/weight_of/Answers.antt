@@ -1,7 +1,7 @@
 use Rattle.std.proofs.Common.{arith}
 use Rattle.std.proofs.lemmas.List.Sums.{sum_by_more_le_part}
 use Rattle.dl_plan.specs.declared.item.Item.{Item}
-use Rattle.dl_model.proofs.ItemWeights.{part_of}
+use Rattle.dl_model.proofs.WeightLaws.{part_of}
 use Rattle.dl_power.proofs.WeightLists.{part_le}
 use Rattle.dl_power.proofs.shares.weight_of.Goals as goal
 
@@ -9,6 +9,7 @@ pub overflow_add-weight : goal.overflow_add-weight
 overflow_add-weight c =
     omega (
       arith,
-      sum_by_more_le_part (part_of c.args.x) (λ (i : Item). i.weight) c.args.items.now c.loop-item.item-index record { amount = 0; weight = 0 }
+      sum_by_more_le_part (part_of c.args.x) (λ (i : Item). i.weight) c.args.items.now c.loop-item.item-index
+          record { amount = 0; weight = 0 }
           c.loop-item-test.true (part_le c.args.x),
     )

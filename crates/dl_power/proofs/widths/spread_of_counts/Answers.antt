@@ -1,4 +1,4 @@
-use Rattle.std.proofs.Common.{◌+◌, ◌^◌, arith, sym}
+use Rattle.std.proofs.Common.{◌^◌, arith, sym}
 use Rattle.dl_grid.proofs.WidthLaws.{mixed_none, mixed_next}
 use Rattle.dl_power.proofs.widths.spread_of_counts.Goals as goal
 
@@ -7,4 +7,5 @@ loop-init g c = sym (mixed_none (2 ^ g.row.B) c.args.cells c.args.base)
 
 pub loop-preserved : goal.loop-preserved
 loop-preserved g c =
-    rw (mixed_next (2 ^ g.row.B) c.args.cells c.args.base c.loop.counter, ← c.loop.invariant) (omega (arith, c.in_ok-most.ensures.1, c.in_ok-joined_spread.ensures))
+    rw (mixed_next (2 ^ g.row.B) c.args.cells c.args.base c.loop.counter, ← c.loop.invariant)
+    (omega (arith, c.in_ok-most.ensures.1, c.in_ok-joined_spread.ensures.value))

@@ -2,8 +2,9 @@ use Rattle.std.proofs.Common.{arith, subst}
 use Rattle.std.proofs.lemmas.Result.{IfOk-weaker}
 use Rattle.dl_model.specs.Counts.{fixed}
 use Rattle.dl_model.specs.Family.{compound, GridEncloses}
-use Rattle.dl_unit.proofs.Severities.{positive_total, probability_same}
+use Rattle.dl_unit.proofs.Severities.{probability_same}
 use Rattle.dl_unit.proofs.claim.one_claim.Goals as goal
+use Rattle.dl_plan.proofs.Means.{severity_total}
 
 pub claim_grid-requires : goal.claim_grid-requires
 claim_grid-requires g c = rw c.as_slice.ensures (
@@ -12,11 +13,19 @@ claim_grid-requires g c = rw c.as_slice.ensures (
     c.requires.scale_above,
     (
       c.requires.scale_below,
-      (c.args.sev.now.weighted.rising, (c.args.sev.now.weighted.sum, (positive_total c.args.sev.now, (c.requires.some, c.requires.few)))),
+      (
+        c.args.sev.now.weighted.rising,
+        (
+          c.args.sev.now.weighted.sum,
+          (severity_total c.args.sev.now, (c.requires.some, c.requires.few)),
+        ),
+      ),
     ),
   ),
 )
 
 pub returns-clause-encloses : goal.returns-clause-encloses
 returns-clause-encloses g c =
-    IfOk-weaker c.claim_grid.result _ _ (λ grid of_claim. subst (λ f. GridEncloses grid (compound (fixed 1) f)) (probability_same c.args.sev.now) (rw c.as_slice.ensures at of_claim)) c.claim_grid.ensures.encloses
+    IfOk-weaker c.claim_grid.result _ _ (λ grid of_claim.
+    subst (λ f. GridEncloses grid (compound (fixed 1) f)) (probability_same c.args.sev.now)
+    (rw c.as_slice.ensures at of_claim)) c.claim_grid.ensures.encloses

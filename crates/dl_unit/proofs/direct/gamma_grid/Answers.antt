@@ -18,34 +18,65 @@ pub gamma_direct-requires : goal.gamma_direct-requires
 gamma_direct-requires g c =
     let u = c.args.unit.now in
     let small = c.requires.valid.1.thinned (gamma_unbounded u c.args.shape c.requires.count.0 c.requires.count.1) in
-    let shape = count_of c.requires.valid.0 u (Gamma c.args.shape c.requires.count.0) c.requires.valid.1 c.requires.count.1 in
-    rw c.thinned-mean.ensures
-    (omega arith, (c.requires.scale_above, (c.requires.scale_below, (no_zero u.sev c.args.positive.now c.requires.means, (shape.0, (shape.1, (small.0.num, (small.0.den, (c.requires.some, c.requires.few)))))))))
+    let shape = count_of c.requires.valid.0 u (Gamma c.args.shape c.requires.count.0) c.requires.valid.1
+    c.requires.count.1 in
+    rw c.thinned-mean.ensures (
+      omega arith,
+      (
+        c.requires.scale_above,
+        (
+          c.requires.scale_below,
+          (
+            no_zero u.sev c.args.positive.now c.requires.means,
+            (shape.0, (shape.1, (small.0.num, (small.0.den, (c.requires.some, c.requires.few))))),
+          ),
+        ),
+      ),
+    )
 
 pub returns-then-is_narrow-clause-encloses : goal.returns-then-is_narrow-clause-encloses
 returns-then-is_narrow-clause-encloses g c =
     let u = c.args.unit.now in
     let s = c.args.positive.now in
-    let shape = count_of c.requires.valid.0 u (Gamma c.args.shape c.requires.count.0) c.requires.valid.1 c.requires.count.1 in
+    let shape = count_of c.requires.valid.0 u (Gamma c.args.shape c.requires.count.0) c.requires.valid.1
+    c.requires.count.1 in
     let told : GridEncloses c.in-Some.grid (compound (gamma_of c.args.shape c.thinned-mean.result) (probability_of s)) =
-    subst (λ made. IfSome made (λ grid. GridEncloses grid (compound (gamma_of c.args.shape c.thinned-mean.result) (probability_of s)))) c.in-Some.is c.in_ok-grid.ensures.encloses in
-    grid_same c.in-Some.grid _ _ (gamma_whole u s c.args.shape c.requires.count.0 c.requires.count.1 shape.0 c.requires.means)
-    (subst (λ m. GridEncloses c.in-Some.grid (compound (gamma_of c.args.shape m) (probability_of s))) c.thinned-mean.ensures told)
+    subst (λ made. IfSome made (λ grid. GridEncloses grid
+    (compound (gamma_of c.args.shape c.thinned-mean.result) (probability_of s)))) c.in-Some.is
+    c.in_ok-grid.ensures.encloses in
+    grid_same c.in-Some.grid _ _ (gamma_whole u s c.args.shape c.requires.count.0 c.requires.count.1 shape.0
+    c.requires.means)
+    (subst (λ m. GridEncloses c.in-Some.grid (compound (gamma_of c.args.shape m) (probability_of s)))
+    c.thinned-mean.ensures told)
 
 pub gamma_claims-requires : goal.gamma_claims-requires
 gamma_claims-requires g c =
     let u = c.args.unit.now in
     let small = c.requires.valid.1.thinned (gamma_unbounded u c.args.shape c.requires.count.0 c.requires.count.1) in
-    let shape = count_of c.requires.valid.0 u (Gamma c.args.shape c.requires.count.0) c.requires.valid.1 c.requires.count.1 in
-    rw c.thinned-mean.ensures
-    (omega arith, (c.requires.scale_above, (c.requires.scale_below, (no_zero u.sev c.args.positive.now c.requires.means, (small.0, (shape.0, (shape.1, (c.requires.some, c.requires.few))))))))
+    let shape = count_of c.requires.valid.0 u (Gamma c.args.shape c.requires.count.0) c.requires.valid.1
+    c.requires.count.1 in
+    rw c.thinned-mean.ensures (
+      omega arith,
+      (
+        c.requires.scale_above,
+        (
+          c.requires.scale_below,
+          (
+            no_zero u.sev c.args.positive.now c.requires.means,
+            (small.0, (shape.0, (shape.1, (c.requires.some, c.requires.few)))),
+          ),
+        ),
+      ),
+    )
 
 pub returns-clause-encloses : goal.returns-clause-encloses
 returns-clause-encloses g c =
     let u = c.args.unit.now in
-    let shape = count_of c.requires.valid.0 u (Gamma c.args.shape c.requires.count.0) c.requires.valid.1 c.requires.count.1 in
+    let shape = count_of c.requires.valid.0 u (Gamma c.args.shape c.requires.count.0) c.requires.valid.1
+    c.requires.count.1 in
     IfOk-weaker c.gamma_claims.result _ _ (λ grid copies.
-    grid_same grid _ _ (gamma_thinned u c.args.positive.now c.args.shape c.requires.count.0 c.requires.count.1 shape.0 c.requires.means) (rw c.thinned-mean.ensures at copies)) c.gamma_claims.ensures.encloses
+    grid_same grid _ _ (gamma_thinned u c.args.positive.now c.args.shape c.requires.count.0 c.requires.count.1 shape.0
+    c.requires.means) (rw c.thinned-mean.ensures at copies)) c.gamma_claims.ensures.encloses
 
 pub returns-clause-spread : goal.returns-clause-spread
 returns-clause-spread g c =
@@ -54,5 +85,6 @@ returns-clause-spread g c =
       arith,
       narrow,
       ap (gamma_budget (2 ^ g.row.B) c.args.cells c.args.shape) c.thinned-mean.ensures,
-      gamma_some (2 ^ g.row.B) c.args.cells c.args.unit.now c.args.shape c.requires.count.0 c.requires.count.1 c.requires.expected,
+      gamma_some (2 ^ g.row.B) c.args.cells c.args.unit.now c.args.shape c.requires.count.0 c.requires.count.1
+          c.requires.expected,
     )) c.gamma_claims.ensures.spread

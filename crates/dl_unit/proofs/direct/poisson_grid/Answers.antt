@@ -18,15 +18,27 @@ pub poisson_direct-requires : goal.poisson_direct-requires
 poisson_direct-requires g c =
     let u = c.args.unit.now in
     let small = c.requires.valid.1.thinned (poisson_unbounded u c.requires.count.0 c.requires.count.1) in
-    rw c.thinned-mean.ensures
-    (omega arith, (c.requires.scale_above, (c.requires.scale_below, (no_zero u.sev c.args.positive.now c.requires.means, (small.0.num, (small.0.den, (small.1, (c.requires.some, c.requires.few))))))))
+    rw c.thinned-mean.ensures (
+      omega arith,
+      (
+        c.requires.scale_above,
+        (
+          c.requires.scale_below,
+          (
+            no_zero u.sev c.args.positive.now c.requires.means,
+            (small.0.num, (small.0.den, (small.1, (c.requires.some, c.requires.few)))),
+          ),
+        ),
+      ),
+    )
 
 pub returns-then-is_narrow-clause-encloses : goal.returns-then-is_narrow-clause-encloses
 returns-then-is_narrow-clause-encloses g c =
     let u = c.args.unit.now in
     let s = c.args.positive.now in
     let told : GridEncloses c.in-Some.grid (compound (poisson c.thinned-mean.result) (probability_of s)) =
-    subst (λ made. IfSome made (λ grid. GridEncloses grid (compound (poisson c.thinned-mean.result) (probability_of s)))) c.in-Some.is c.in_ok-grid.ensures.encloses in
+    subst (λ made. IfSome made (λ grid. GridEncloses grid
+    (compound (poisson c.thinned-mean.result) (probability_of s)))) c.in-Some.is c.in_ok-grid.ensures.encloses in
     grid_same c.in-Some.grid _ _ (poisson_whole u s c.requires.count.0 c.requires.count.1 c.requires.means)
     (subst (λ m. GridEncloses c.in-Some.grid (compound (poisson m) (probability_of s))) c.thinned-mean.ensures told)
 
@@ -34,14 +46,24 @@ pub poisson_claims-requires : goal.poisson_claims-requires
 poisson_claims-requires g c =
     let u = c.args.unit.now in
     let small = c.requires.valid.1.thinned (poisson_unbounded u c.requires.count.0 c.requires.count.1) in
-    rw c.thinned-mean.ensures
-    (omega arith, (c.requires.scale_above, (c.requires.scale_below, (no_zero u.sev c.args.positive.now c.requires.means, (small.0, (small.1, (c.requires.some, c.requires.few)))))))
+    rw c.thinned-mean.ensures (
+      omega arith,
+      (
+        c.requires.scale_above,
+        (
+          c.requires.scale_below,
+          (no_zero u.sev c.args.positive.now c.requires.means, (small.0, (small.1, (c.requires.some, c.requires.few)))),
+        ),
+      ),
+    )
 
 pub returns-clause-encloses : goal.returns-clause-encloses
 returns-clause-encloses g c =
     let u = c.args.unit.now in
     IfOk-weaker c.poisson_claims.result _ _ (λ grid copies.
-    grid_same grid _ _ (poisson_thinned u c.args.positive.now c.requires.count.0 (halvings (thinned_mean u)) c.requires.count.1 c.requires.means) (rw c.thinned-mean.ensures at copies)) c.poisson_claims.ensures.encloses
+    grid_same grid _ _ (poisson_thinned u c.args.positive.now c.requires.count.0
+    (halvings (thinned_mean u)) c.requires.count.1 c.requires.means) (rw c.thinned-mean.ensures at copies))
+    c.poisson_claims.ensures.encloses
 
 pub returns-clause-spread : goal.returns-clause-spread
 returns-clause-spread g c =

@@ -7,16 +7,23 @@ use Rattle.dl_model.proofs.Beginnings.{trials}
 use Rattle.dl_model.proofs.FamilyLaws.{compound_proper}
 use Rattle.dl_plan.specs.Severity.{probability_of}
 use Rattle.dl_unit.proofs.Families.{grid_same}
-use Rattle.dl_unit.proofs.Severities.{within_one}
 use Rattle.dl_unit.proofs.finite.binomial_claims.Goals as goal
+use Rattle.dl_model.proofs.WithinOne.{within_one}
 
 pub returns-clause-encloses : goal.returns-clause-encloses
 returns-clause-encloses g c =
     IfOk-weaker c.power_with.result _ _ (λ grid copies.
-    grid_same grid _ _ (trials (probability_of c.args.sev.now) c.args.trials c.args.q.num c.args.q.den c.args.q.positive)
-    (copies _ (compound_proper (binomial 1 c.args.q.num c.args.q.den) (probability_of c.args.sev.now) (within_one c.args.sev.now)) c.in_ok-trial.ensures.encloses)) c.power_with.ensures.encloses
+    grid_same grid _ _ (trials (probability_of c.args.sev.now) c.args.trials c.args.q.num c.args.q.den
+    c.args.q.positive)
+    (copies _ (compound_proper (binomial 1 c.args.q.num c.args.q.den) (probability_of c.args.sev.now)
+    (within_one c.args.sev.now)) c.in_ok-trial.ensures.encloses)) c.power_with.ensures.encloses
 
 pub returns-clause-spread : goal.returns-clause-spread
 returns-clause-spread g c =
     IfOk-weaker c.power_with.result _ _ (λ grid narrow.
-    omega (arith, narrow, pw_rises (2 ^ g.row.B) c.args.cells c.args.cells _ _ c.args.trials (pow_pos g.row.B) (omega arith) c.in_ok-trial.ensures.spread)) c.power_with.ensures.spread
+    omega (
+      arith,
+      narrow,
+      pw_rises (2 ^ g.row.B) c.args.cells c.args.cells _ _ c.args.trials (pow_pos g.row.B)
+          (omega arith) c.in_ok-trial.ensures.spread,
+    )) c.power_with.ensures.spread

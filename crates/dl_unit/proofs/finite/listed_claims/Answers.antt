@@ -1,4 +1,4 @@
-use Rattle.std.proofs.Common.{◌^◌, arith, ap, subst}
+use Rattle.std.proofs.Common.{◌^◌, arith, subst}
 use Rattle.std.proofs.lemmas.Nat.{pow_pos}
 use Rattle.std.proofs.lemmas.Result.{IfOk-weaker}
 use mathlib.Core.Path.{fun_ext}
@@ -6,23 +6,31 @@ use Rattle.dl_grid.specs.Cells.{spread}
 use Rattle.dl_model.specs.Family.{compound, GridEncloses}
 use Rattle.dl_plan.specs.Severity.{probability_of}
 use Rattle.dl_model.proofs.ItemWeights.{probability_is}
-use Rattle.dl_grid.specs.Width.{mixed_spread}
 use Rattle.dl_plan.specs.Weighted.{greatest}
-use Rattle.dl_unit.proofs.Severities.{within_one}
-use Rattle.dl_model.proofs.ItemWeights.{greatest_same}
 use Rattle.dl_grid.proofs.WidthLaws.{mixed_rises}
 use Rattle.dl_plan.proofs.Means.{total_pos}
 use Rattle.dl_unit.proofs.finite.listed_claims.Goals as goal
+use Rattle.dl_model.proofs.WithinOne.{within_one}
 
 pub mix_counts_with-requires : goal.mix_counts_with-requires
-mix_counts_with-requires g c =
-    (omega arith, (c.requires.weighted.sum, (total_pos c.args.counts.now c.args.total c.requires.weighted, (c.requires.some, omega (arith, c.in_ok-claim.ensures.cells)))))
+mix_counts_with-requires g c = (
+  omega arith,
+  (
+    c.requires.weighted.sum,
+    (
+      total_pos c.args.counts.now c.args.total c.requires.weighted,
+      (c.requires.some, omega (arith, c.in_ok-claim.ensures.cells)),
+    ),
+  ),
+)
 
 pub returns-clause-encloses : goal.returns-clause-encloses
 returns-clause-encloses g c =
     IfOk-weaker c.mix_counts_with.result _ _ (λ grid mixed.
-    subst (λ w. GridEncloses grid (compound w (probability_of c.args.sev.now))) (fun_ext (probability_is c.args.counts.now c.args.total c.requires.weighted.sum))
-    (mixed (probability_of c.args.sev.now) (within_one c.args.sev.now) c.in_ok-claim.ensures.encloses)) c.mix_counts_with.ensures.encloses
+    subst (λ w. GridEncloses grid (compound w (probability_of c.args.sev.now)))
+    (fun_ext (probability_is c.args.counts.now c.args.total c.requires.weighted.sum))
+    (mixed (probability_of c.args.sev.now) (within_one c.args.sev.now) c.in_ok-claim.ensures.encloses))
+    c.mix_counts_with.ensures.encloses
 
 pub returns-clause-spread : goal.returns-clause-spread
 returns-clause-spread g c =
@@ -30,6 +38,6 @@ returns-clause-spread g c =
     omega (
       arith,
       narrow,
-      ap (λ n. mixed_spread (2 ^ g.row.B) c.args.cells (spread c.in_ok-claim.claim) n) (greatest_same c.args.counts.now),
-      mixed_rises (2 ^ g.row.B) c.args.cells c.args.cells _ _ (greatest c.args.counts.now) (pow_pos g.row.B) (omega arith) c.in_ok-claim.ensures.spread,
+      mixed_rises (2 ^ g.row.B) c.args.cells c.args.cells _ _ (greatest c.args.counts.now) (pow_pos g.row.B)
+          (omega arith) c.in_ok-claim.ensures.spread,
     )) c.mix_counts_with.ensures.spread

@@ -11,7 +11,8 @@ trials_severity : (m a b : ℕ) → 0 < b → a ≤ b → IsSeverity (binomial m
 trials_severity m a b pos h =
     let once : m * 1 ≡ m = omega arith in
     subst (λ k. IsSeverity (binomial m a b) k) once
-    (subst (λ w. IsSeverity w (m * 1)) (binomial_power a b pos m) (power_severity (binomial 1 a b) 1 (trial a b pos h) m))
+    (subst (λ w. IsSeverity w (m * 1)) (binomial_power a b pos m)
+    (power_severity (binomial 1 a b) 1 (trial a b pos h) m))
 
 pub returns-clause-add_up : goal.returns-clause-add_up
 returns-clause-add_up c m a b pos h = (trials_severity m a b pos h).add_up

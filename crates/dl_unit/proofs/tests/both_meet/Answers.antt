@@ -7,7 +7,12 @@ use Rattle.dl_unit.proofs.tests.both_meet.Goals as goal
 pub poisson_claims-requires : goal.poisson_claims-requires
 poisson_claims-requires g c =
     let told = c.fraction-mean.ensures in
-    let admitted : IsAdmitted c.fraction-mean.result = record { num = omega (arith, told.num, c.if-of-gt4096.false); den = omega (arith, told.den, c.if-of-gt4096-2.false) } in (
+    let admitted : IsAdmitted c.fraction-mean.result =
+    record {
+      num = omega (arith, told.num, c.if-of-gt4096.false);
+      den =
+          omega (arith, told.den, c.if-of-gt4096-2.false);
+    } in (
       omega arith,
       (
         c.requires.above,
@@ -18,7 +23,8 @@ poisson_claims-requires g c =
             (
               admitted,
               (
-                at_most_4096 c.fraction-mean.result c.args.of.num c.args.of.den told.value (some c.if-of-eq0.false) c.if-of-gt4096.false,
+                at_most_4096 c.fraction-mean.result c.args.of.num c.args.of.den told.value
+                    (some c.if-of-eq0.false) c.if-of-gt4096.false,
                 (omega arith, omega arith),
               ),
             ),
@@ -45,7 +51,8 @@ poisson_direct-requires g c =
               (
                 omega (arith, told.den, c.if-of-gt4096-2.false),
                 (
-                  at_most_4096 c.fraction-mean.result c.args.of.num c.args.of.den told.value (some c.if-of-eq0.false) c.if-of-gt4096.false,
+                  at_most_4096 c.fraction-mean.result c.args.of.num c.args.of.den told.value
+                      (some c.if-of-eq0.false) c.if-of-gt4096.false,
                   (omega arith, omega arith),
                 ),
               ),

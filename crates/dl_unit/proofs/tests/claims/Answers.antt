@@ -3,4 +3,12 @@ use Rattle.dl_unit.proofs.tests.claims.Goals as goal
 
 pub invariant_of-result : goal.invariant_of-result
 invariant_of-result c =
-    record { weighted = rw (c.from_vec.ensures, c.in_ok-push-3.ensures.items, c.in_ok-push-2.ensures.items, c.in_ok-push.ensures.items, c.new-items.ensures.items) three_weighted }
+    record {
+      weighted = rw (
+        c.from_vec.ensures,
+        c.in_ok-push-3.ensures.items,
+        c.in_ok-push-2.ensures.items,
+        c.in_ok-push.ensures.items,
+        c.new-items.ensures.items,
+      ) three_weighted;
+    }

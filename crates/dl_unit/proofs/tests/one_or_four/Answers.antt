@@ -5,8 +5,16 @@ use Rattle.dl_unit.proofs.tests.one_or_four.Goals as goal
 
 pub invariant_of-result : goal.invariant_of-result
 invariant_of-result c =
-    record { weighted = rw (c.from_vec.ensures, c.in_ok-push-2.ensures.items, c.in_ok-push.ensures.items, c.new-items.ensures.items) four_weighted }
+    record {
+      weighted = rw (
+        c.from_vec.ensures,
+        c.in_ok-push-2.ensures.items,
+        c.in_ok-push.ensures.items,
+        c.new-items.ensures.items,
+      ) four_weighted;
+    }
 
 pub returns : goal.returns
 returns c =
-    rw (c.from_vec.ensures, c.in_ok-push-2.ensures.items, c.in_ok-push.ensures.items, c.new-items.ensures.items) (over_zero 2 (zero-lt-suc 1))
+    rw (c.from_vec.ensures, c.in_ok-push-2.ensures.items, c.in_ok-push.ensures.items, c.new-items.ensures.items)
+    (over_zero 2 (zero-lt-suc 1))

@@ -4,11 +4,15 @@ use Rattle.dl_unit.proofs.trial.grid_of.Goals as goal
 
 pub from_ends-requires : goal.from_ends-requires
 from_ends-requires g c =
-    let all : length c.args.cells.now ≤ c.loop-cell.cell-index = omega arith in
-    (omega arith, both_lists c.args.cells.now c.loop-cell.cell-index c.loop-cell.lows.items c.loop-cell.highs.items c.requires all c.loop-cell.invariant.low c.loop-cell.invariant.high)
+    let all : length c.args.cells.now ≤ c.loop-cell.cell-index = omega arith in (
+      omega arith,
+      both_lists c.args.cells.now c.loop-cell.cell-index c.loop-cell.lows.items c.loop-cell.highs.items
+          c.requires all c.loop-cell.invariant.low c.loop-cell.invariant.high,
+    )
 
 pub returns : goal.returns
 returns g c =
     let all : length c.args.cells.now ≤ c.loop-cell.cell-index = omega arith in
-    cells_made c.args.cells.now c.from_ends.result c.loop-cell.cell-index c.loop-cell.lows.items c.loop-cell.highs.items all c.loop-cell.invariant.low c.loop-cell.invariant.high
+    cells_made c.args.cells.now c.from_ends.result c.loop-cell.cell-index c.loop-cell.lows.items c.loop-cell.highs.items
+    all c.loop-cell.invariant.low c.loop-cell.invariant.high
     c.from_ends.ensures.low c.from_ends.ensures.high

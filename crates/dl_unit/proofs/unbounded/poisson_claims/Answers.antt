@@ -8,9 +8,9 @@ use Rattle.dl_model.specs.Counts.{poisson}
 use Rattle.dl_model.specs.Family.{compound, times_itself, GridEncloses}
 use Rattle.dl_model.proofs.FamilyLaws.{compound_proper}
 use Rattle.dl_plan.specs.Severity.{probability_of}
-use Rattle.dl_unit.proofs.Severities.{within_one}
 use Rattle.dl_unit.proofs.Widths.{poisson_within}
 use Rattle.dl_unit.proofs.unbounded.poisson_claims.Goals as goal
+use Rattle.dl_model.proofs.WithinOne.{within_one}
 
 shifted : (h : ℕ) → h ≤ 13 → 1 * 2 ^ h % 2 ^ 32 ≡ 2 ^ h
 shifted h few =
@@ -23,12 +23,17 @@ returns-clause-encloses g c =
     let f = probability_of c.args.sev.now in
     let h = c.halvings-halvings.result in
     IfOk-weaker c.power_with.result _ _ (λ grid copies.
-    subst (λ k. GridEncloses grid (times_itself (compound (poisson (c.args.mean /ℚ whole (2 ^ k))) f) (2 ^ k))) c.halvings-halvings.ensures.value
-    (subst (λ n. GridEncloses grid (times_itself (compound (poisson (c.args.mean /ℚ whole (2 ^ h))) f) n)) (shifted h c.halvings-halvings.ensures.small)
-    (copies _ (compound_proper (poisson (c.args.mean /ℚ whole (2 ^ h))) f (within_one c.args.sev.now)) c.in_ok-base.ensures.encloses))) c.power_with.ensures.encloses
+    subst (λ k. GridEncloses grid (times_itself (compound (poisson (c.args.mean /ℚ whole (2 ^ k))) f) (2 ^ k)))
+    c.halvings-halvings.ensures.value
+    (subst (λ n. GridEncloses grid (times_itself (compound (poisson (c.args.mean /ℚ whole (2 ^ h))) f) n))
+    (shifted h c.halvings-halvings.ensures.small)
+    (copies _ (compound_proper (poisson (c.args.mean /ℚ whole (2 ^ h))) f (within_one c.args.sev.now))
+    c.in_ok-base.ensures.encloses))) c.power_with.ensures.encloses
 
 pub returns-clause-spread : goal.returns-clause-spread
 returns-clause-spread g c =
     IfOk-weaker c.power_with.result _ _ (λ grid narrow.
-    poisson_within (2 ^ g.row.B) c.args.cells (spread c.in_ok-base.base) _ _ c.halvings-halvings.result c.args.mean (pow_pos g.row.B)
-    (shifted c.halvings-halvings.result c.halvings-halvings.ensures.small) c.halvings-halvings.ensures.value c.in_ok-base.ensures.spread narrow) c.power_with.ensures.spread
+    poisson_within (2 ^ g.row.B) c.args.cells (spread c.in_ok-base.base) _ _ c.halvings-halvings.result c.args.mean
+    (pow_pos g.row.B)
+    (shifted c.halvings-halvings.result c.halvings-halvings.ensures.small) c.halvings-halvings.ensures.value
+    c.in_ok-base.ensures.spread narrow) c.power_with.ensures.spread

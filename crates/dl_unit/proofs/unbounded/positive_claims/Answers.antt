@@ -7,10 +7,12 @@ use Rattle.dl_unit.proofs.Positive.{no_parts}
 use Rattle.dl_unit.proofs.unbounded.positive_claims.Goals as goal
 
 pub returns-then-num-eq0-clause-none : goal.returns-then-num-eq0-clause-none
-returns-then-num-eq0-clause-none c e = sym c.thinned.ensures ∙ no_parts c.thinned.result (sym c.num.ensures.part ∙ c.if-num-eq0.true)
+returns-then-num-eq0-clause-none c e = sym c.thinned.ensures
+    ∙ no_parts c.thinned.result (sym c.num.ensures.part ∙ c.if-num-eq0.true)
 
 pub returns-clause-none : goal.returns-clause-none
 returns-clause-none c =
     IfOk-weaker c.positive.result _ _ (λ made of_made e.
     no_amount_thinned c.args.unit.now
-    (subst (λ o. MatchOption o (All (λ item. item.amount ≤ 0) c.args.unit.now.sev.items) (λ sev. Means sev (conditioned 0 (pairs_of c.args.unit.now.sev)))) e of_made)) c.positive.ensures
+    (subst (λ o. MatchOption o (All (λ item. item.amount ≤ 0) c.args.unit.now.sev.items)
+    (λ sev. Means sev (conditioned 0 (pairs_of c.args.unit.now.sev)))) e of_made)) c.positive.ensures

@@ -3,7 +3,7 @@ use Rattle.dl_model.specs.Family.{nothing}
 use Rattle.dl_model.specs.Plans.{compound_of}
 use Rattle.dl_model.proofs.PlanThin.{none_thinned}
 use Rattle.dl_grid.proofs.CellSets.{spread_none}
-use Rattle.dl_power.proofs.Results.{if_ok_three}
+use Rattle.dl_exact.proofs.Results.{if_ok_three}
 use Rattle.dl_unit.proofs.Families.{grid_same, no_loss}
 use Rattle.dl_unit.proofs.CountKinds.{gamma_unbounded}
 use Rattle.dl_unit.proofs.unit.gamma_unit.Goals as goal
@@ -14,9 +14,12 @@ returns-in-None-clause-encloses g c =
     let none = c.in_ok-positive.ensures.none c.in-None.is in
     if_ok_three c.zero.result _ _ _ _ (λ grid cells low high.
     grid_same grid nothing (compound_of u.freq u.sev)
-    (none_thinned u.freq u.sev c.requires.valid.1.count (gamma_unbounded u c.args.shape c.requires.count.0 c.requires.count.1) none) (no_loss grid low high))
+    (none_thinned u.freq u.sev c.requires.valid.1.count
+    (gamma_unbounded u c.args.shape c.requires.count.0 c.requires.count.1) none) (no_loss grid low high))
     c.zero.ensures.cells c.zero.ensures.low c.zero.ensures.high
 
 pub returns-in-None-clause-spread : goal.returns-in-None-clause-spread
 returns-in-None-clause-spread g c =
-    if_ok_three c.zero.result _ _ _ _ (λ grid cells low high. omega (arith, spread_none grid (λ x. high x ∙ sym (low x)))) c.zero.ensures.cells c.zero.ensures.low c.zero.ensures.high
+    if_ok_three c.zero.result _ _ _ _ (λ grid cells low high.
+    omega (arith, spread_none grid (λ x. high x ∙ sym (low x)))) c.zero.ensures.cells c.zero.ensures.low
+    c.zero.ensures.high

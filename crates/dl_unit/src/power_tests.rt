@@ -1,8 +1,10 @@
-ghost use Rattle.std.specs.Prelude.{◌≡◌, ◌≤◌};
+//! Sums of a fixed and of a listed number of claims, worked by whole numbers of any size.
 
-use super::{claim_grid, mix_counts, power};
+ghost use Rattle.std.specs.Prelude.{◌≡◌, ◌≤◌, length, IfOk};
+
 use dl_grid::Grid;
 use dl_plan::Item;
+use dl_power::{claim_grid, mix_counts, power};
 use std::alloc::{AllocError, Global};
 
 /// The ends of the cells from 0 to 12, and the spread of the whole grid.
@@ -145,10 +147,13 @@ fn has<const B: u32>(grid: &Grid<B>, want: &Ends) -> bool {
     same
 }
 
-/// Whether the sums of dice are those that were worked out, at one scale.
-fn agrees<const B: u32>(alloc: Global, want: &Sums) -> Result<bool, AllocError>
+/// The first `cells` cells of a die.
+fn die<const B: u32>(alloc: Global, cells: u32) -> Result<Grid<B>, AllocError>
     requires scale_above { 1 ≤ B }
     requires scale_below { B ≤ 56 }
+    requires some { 1 ≤ cells }
+    requires few { cells ≤ 49 }
+    ensures { IfOk result (λ g. length g ≡ cells) }
 {
     let faces = [
         Item {
@@ -176,6 +181,14 @@ fn agrees<const B: u32>(alloc: Global, want: &Sums) -> Result<bool, AllocError>
             weight: 1,
         },
     ];
+    claim_grid::<B>(alloc, &faces, 6, cells)
+}
+
+/// Whether the sums of dice are those that were worked out, at one scale.
+fn agrees<const B: u32>(alloc: Global, want: &Sums) -> Result<bool, AllocError>
+    requires scale_above { 1 ≤ B }
+    requires scale_below { B ≤ 56 }
+{
     let counts = [
         Item {
             amount: 0,
@@ -190,7 +203,7 @@ fn agrees<const B: u32>(alloc: Global, want: &Sums) -> Result<bool, AllocError>
             weight: 1,
         },
     ];
-    let die = claim_grid::<B>(alloc, &faces, 6, 13)?;
+    let die = die::<B>(alloc, 13)?;
     let two = power(alloc, &die, 2, 13)?;
     let three = power(alloc, &die, 3, 13)?;
     let mixed = mix_counts(alloc, &die, &counts, 3, 13)?;
@@ -226,34 +239,8 @@ fn item(amount: u32, weight: u32) -> Item
 
 /// Whether the cells of counts that take three blocks hold what was worked out.
 fn are_held(alloc: Global) -> Result<bool, AllocError> {
-    let faces = [
-        Item {
-            amount: 1,
-            weight: 1,
-        },
-        Item {
-            amount: 2,
-            weight: 1,
-        },
-        Item {
-            amount: 3,
-            weight: 1,
-        },
-        Item {
-            amount: 4,
-            weight: 1,
-        },
-        Item {
-            amount: 5,
-            weight: 1,
-        },
-        Item {
-            amount: 6,
-            weight: 1,
-        },
-    ];
     let counts = [item(0, 1), item(3, 2), item(4, 1), item(5, 3), item(8, 1)];
-    let die = claim_grid::<56>(alloc, &faces, 6, 49)?;
+    let die = die::<56>(alloc, 49)?;
     let sum = mix_counts(alloc, &die, &counts, 8, 49)?;
     let mut held = sum.spread() <= 857;
     for (x, floor, ceiling) in COUNTED {

@@ -1,0 +1,13 @@
+use Rattle.std.proofs.Common.{◌≡◌, take, eqb, length}
+use Rattle.std.specs.Prelude.{sum_by, not}
+use Rattle.dl_grid.specs.Cells.{low_at, high_at}
+use Rattle.dl_panjer.specs.Cells.{given}
+use Rattle.dl_panjer.proofs.sums.sums_over.Given as goal
+
+abbrev pub invariant-items : goal.invariant-items
+invariant-items g l = record {
+  low : l.low ≡ sum_by (given (not (eqb g.row.BY_AMOUNT 0)) (low_at l.cells) (length l.cells))
+      (take l.item-index l.items);
+  high : l.high ≡ sum_by (given (not (eqb g.row.BY_AMOUNT 0)) (high_at l.cells) (length l.cells))
+      (take l.item-index l.items);
+}
