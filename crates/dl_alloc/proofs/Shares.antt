@@ -1,11 +1,11 @@
 -- What a unit has where the total is x is at most x, so its joint mean is at most x times the probability of x.
-use Rattle.std.proofs.Common.{ℕ, zero, suc, ◌≡◌, inl, inr, ◌*◌, ◌<◌, ◌≤◌, arith, sym, ap, subst, ◌∙◌, List, [], ◌∷◌, get_or, mul-pos, ne_eqb, eq-eqb}
+use Rattle.std.proofs.Common.{ℕ, inl, inr, ◌*◌, ◌<◌, ◌≤◌, arith, sym, ap, subst, ◌∙◌, List, get_or, ne_eqb, eq-eqb}
 use Rattle.std.specs.Prelude.{sum}
 use Rattle.std.proofs.Math.Nat.{mul-le-mul_right}
 use Rattle.std.proofs.lemmas.Bool.{cases_eq, cases_lt}
 use Rattle.dl_exact.specs.Fraction.{whole, ◌over◌, ◌*ℚ◌, ◌≤ℚ◌}
-use Rattle.dl_exact.proofs.Over.{over_same, over_mul, over_lt}
-use Rattle.dl_exact.proofs.Laws.{one_pos, le_refl, le_trans, le_of_eq, zero_le, times_one, times_assoc, times_le_both}
+use Rattle.dl_exact.proofs.Over.{over_lt}
+use Rattle.dl_exact.proofs.Laws.{le_refl, le_trans, le_of_eq, zero_le, times_one, times_assoc, times_le_both}
 use Rattle.dl_exact.proofs.RoundingLaws.{whole_le}
 use Rattle.dl_exact.proofs.Denominators.{over_times}
 use Rattle.dl_exact.proofs.Lists.{item_le_total}
@@ -13,23 +13,27 @@ use Rattle.dl_model.specs.Series.{AtMost, AtLeast}
 use Rattle.dl_model.specs.Program.{Aggregate, One, Point, Joint, where_true, score, partial_sums}
 use Rattle.dl_model.specs.Measures.{AreDeclared}
 use Rattle.dl_model.proofs.Alike.{not_both}
-use Rattle.dl_model.proofs.Outcomes.{sum-cons, outcomes_le, outcomes_times, outcomes_rise}
+use Rattle.dl_model.proofs.Outcomes.{outcomes_le, outcomes_times, outcomes_rise}
 use Rattle.dl_model.proofs.Bounded.{are_units, quantity_bounded, whole_positive}
 
 score_le : (i x : ℕ) (ys : List ℕ) → score (Joint i x) ys ≤ℚ whole x *ℚ score (Point x) ys
 score_le i x ys = elim (cases_eq (sum ys) x) [
-  | inl e ↦ subst (λ b. where_true b (whole (get_or ys i 0)) ≤ℚ whole x *ℚ where_true b (whole 1)) (sym (eq-eqb (sum ys) x e))
+  | inl e ↦ subst (λ b. where_true b (whole (get_or ys i 0)) ≤ℚ whole x *ℚ where_true b (whole 1))
+      (sym (eq-eqb (sum ys) x e))
       (subst (λ t. whole (get_or ys i 0) ≤ℚ t) (sym (times_one (whole x)))
       (whole_le (get_or ys i 0) x (omega (arith, item_le_total ys i, e))))
-  | inr n ↦ subst (λ b. where_true b (whole (get_or ys i 0)) ≤ℚ whole x *ℚ where_true b (whole 1)) (sym (ne_eqb (sum ys) x n)) (zero_le _)
+  | inr n ↦ subst (λ b. where_true b (whole (get_or ys i 0)) ≤ℚ whole x *ℚ where_true b (whole 1))
+      (sym (ne_eqb (sum ys) x n)) (zero_le _)
 ]
 
-joint_le_point : (us : List Aggregate) (i x N : ℕ) → partial_sums us (Joint i x) N ≤ℚ whole x *ℚ partial_sums us (Point x) N
+joint_le_point : (us : List Aggregate) (i x N : ℕ)
+    → partial_sums us (Joint i x) N ≤ℚ whole x *ℚ partial_sums us (Point x) N
 joint_le_point us i x N =
     le_trans _ _ _ (outcomes_le us (score (Joint i x)) (λ ys. whole x *ℚ score (Point x) ys) (score_le i x) N)
     (le_of_eq _ _ (outcomes_times us (whole x) (score (Point x)) N))
 
-joint_most : (us : List Aggregate) (i x h S : ℕ) → 0 < S → AtMost (partial_sums us (Point x)) (partial_sums us One) (h over S)
+joint_most : (us : List Aggregate) (i x h S : ℕ) → 0 < S
+    → AtMost (partial_sums us (Point x)) (partial_sums us One) (h over S)
     → AtMost (partial_sums us (Joint i x)) (partial_sums us One) ((x * h) over S)
 joint_most us i x h S s at N u bound =
     le_trans _ _ _ (joint_le_point us i x N)
@@ -46,8 +50,13 @@ low_share us i x l h S d s low at = elim (cases_lt (x * h) l) [
   | inl above ↦
       let bound = quantity_bounded us One d tt in
       let some = whole_positive us d in
-      absurd (not_both (partial_sums us One) (outcomes_rise us (are_units us d) (score One)) bound.0 some.0 bound.1 some.1
-      (partial_sums us (Joint i x)) (l over S) low ((x * h) over S, over_lt (x * h) S l S s s (mul_lt above), joint_most us i x h S s at))
+      absurd (not_both (partial_sums us One) (outcomes_rise us (are_units us d) (score One)) bound.0 some.0
+      bound.1 some.1
+      (partial_sums us (Joint i x)) (l over S) low (
+        (x * h) over S,
+        over_lt (x * h) S l S s s (mul_lt above),
+        joint_most us i x h S s at,
+      ))
 ]
   where
     mul_lt : x * h < l → x * h * S < l * S

@@ -16,45 +16,48 @@ use Rattle.dl_exact.proofs.Counts.{below_same, below_plus, pairs_le, pairs_same}
 use Rattle.dl_grid.proofs.PlaceSums.{width_at, high_is, low_within, width_within}
 use Rattle.dl_grid.proofs.WidthLaws.{cv_is}
 use Rattle.dl_model.specs.Series.{Holds}
-use Rattle.dl_model.specs.Program.{Aggregate, AreUnits, One, Joint, partial_sums}
+use Rattle.dl_model.specs.Program.{Aggregate, AreDeclarable, One, Joint, partial_sums}
 use Rattle.dl_model.specs.Family.{total, GridEncloses}
 use Rattle.dl_model.specs.Measures.{unit_of, without}
 use Rattle.dl_model.proofs.Declared.{at_least_wider, at_most_wider}
-use Rattle.dl_model.proofs.JointEnds.{joint_ends}
+use Rattle.dl_alloc.proofs.JointEnds.{joint_ends}
 use Rattle.dl_alloc.specs.Weighted.{low_weighted, high_weighted}
 use Rattle.dl_alloc.proofs.WeightedSums.{weighted_top, weighted_width, one_more, one_more_fits}
 
 -- ---- how large they are
 
-low_mass : {B : ℕ} (cells : List (Iv B)) (n : ℕ) → IsGrid cells → count_below n (low_at cells) ≤ 2 ^ B
-low_mass cells n grid = omega (arith, low_within n cells, grid.mass)
-
 -- the high ends of a narrow grid add up to less than 2
-high_mass : {B : ℕ} (cells : List (Iv B)) (n : ℕ) → IsGrid cells → spread cells < 2 ^ B → count_below n (high_at cells) ≤ 2 * 2 ^ B
+high_mass : {B : ℕ} (cells : List (Iv B)) (n : ℕ) → IsGrid cells → spread cells < 2 ^ B
+    → count_below n (high_at cells) ≤ 2 * 2 ^ B
 high_mass cells n grid narrow =
     omega (
       arith,
       below_same n (high_at cells) (λ x. low_at cells x + width_at cells x) (λ x b. high_is cells x),
       below_plus n (low_at cells) (width_at cells),
-      low_mass cells n grid,
+      low_within n cells,
+      grid.mass,
       width_within n cells,
     )
 
 top : (S x : ℕ) → x * (2 * S) * (2 * S) ≡ 4 * x * S * S
 top S x = omega arith
 
-pub high_top : {B : ℕ} (unit others : List (Iv B)) (x : ℕ) → IsGrid unit → IsGrid others → spread unit < 2 ^ B → spread others < 2 ^ B
+pub high_top : {B : ℕ} (unit others : List (Iv B)) (x : ℕ) → IsGrid unit → IsGrid others → spread unit < 2 ^ B
+    → spread others < 2 ^ B
     → high_weighted unit others x ≤ 4 * x * 2 ^ B * 2 ^ B
 high_top {B} unit others x p q v w =
     let most = weighted_top x (2 * 2 ^ B) (2 * 2 ^ B) (high_at unit) (high_at others)
     (high_mass unit (x + 1) p v) (high_mass others (x + 1) q w) in
     omega (arith, most, top (2 ^ B) x)
 
-pub end_top : {B : ℕ} (unit others : List (Iv B)) (x : ℕ) → IsGrid unit → IsGrid others → spread unit < 2 ^ B → spread others < 2 ^ B
+pub end_top : {B : ℕ} (unit others : List (Iv B)) (x : ℕ) → IsGrid unit → IsGrid others → spread unit < 2 ^ B
+    → spread others < 2 ^ B
     → div_ceil (high_weighted unit others x) (2 ^ B) ≤ 4 * x * 2 ^ B
-end_top {B} unit others x p q v w = div_ceil_least _ (2 ^ B) (4 * x * 2 ^ B) (pow_pos B) (high_top unit others x p q v w)
+end_top {B} unit others x p q v w = div_ceil_least _ (2 ^ B) (4 * x * 2 ^ B) (pow_pos B)
+    (high_top unit others x p q v w)
 
-pub end_fits : {B : ℕ} (unit others : List (Iv B)) (x : ℕ) → IsGrid unit → IsGrid others → x < length unit → spread unit < 2 ^ B
+pub end_fits : {B : ℕ} (unit others : List (Iv B)) (x : ℕ) → IsGrid unit → IsGrid others → x < length unit
+    → spread unit < 2 ^ B
     → spread others < 2 ^ B
     → div_ceil (high_weighted unit others x) (2 ^ B) ≤ 2 ^ 127
 end_fits {B} unit others x p q inside v w =
@@ -63,7 +66,8 @@ end_fits {B} unit others x p q inside v w =
     omega (arith, end_top unit others x p q v w, most)
 
 -- and up to 8192 it can be divided by a probability
-pub end_divisible : {B : ℕ} (cells : List (Iv B)) (x hi : ℕ) → IsGrid cells → hi ≤ 4 * x * 2 ^ B → x ≤ 8192 → hi * 2 ^ B ≤ 2 ^ 127
+pub end_divisible : {B : ℕ} (cells : List (Iv B)) (x hi : ℕ) → IsGrid cells → hi ≤ 4 * x * 2 ^ B → x ≤ 8192
+    → hi * 2 ^ B ≤ 2 ^ 127
 end_divisible {B} cells x hi p h few =
     let one : 2 ^ B ≤ 2 ^ 56 = one_fits B (scale_of cells p.some).1 in
     let four : 4 * x ≤ 2 ^ 15 = omega arith in
@@ -100,30 +104,35 @@ module _ {B : ℕ} (unit others : List (Iv B)) (x y sum : ℕ) (own other : Iv B
   low_step e = (
     one_more y x sum own.lo other.lo (low_at unit) (low_at others) e own_low other_low,
     fits (2 ^ B) x _ scale (omega (arith, p.few))
-        (one_more_fits y x (2 * 2 ^ B) (2 * 2 ^ B) sum own.lo other.lo (low_at unit) (low_at others) here e own_low other_low
-        (omega (arith, low_mass unit (x + 1) p)) (omega (arith, low_mass others (x + 1) q))),
+        (one_more_fits y x (2 * 2 ^ B) (2 * 2 ^ B) sum own.lo other.lo (low_at unit)
+        (low_at others) here e own_low other_low
+        (omega (arith, low_within (x + 1) unit, p.mass)) (omega (arith, low_within (x + 1) others, q.mass))),
   )
 
-  pub high_step : spread unit < 2 ^ B → spread others < 2 ^ B → sum ≡ count_below y (λ y. y * high_at unit y * high_at others (x - y))
+  pub high_step : spread unit < 2 ^ B → spread others < 2 ^ B
+      → sum ≡ count_below y (λ y. y * high_at unit y * high_at others (x - y))
       → (sum + y * own.hi * other.hi ≡ count_below (y + 1) (λ y. y * high_at unit y * high_at others (x - y)))
       × (sum + y * own.hi * other.hi < 2 ^ 128)
   high_step narrow thin e = (
     one_more y x sum own.hi other.hi (high_at unit) (high_at others) e own_high other_high,
     fits (2 ^ B) x _ scale (omega (arith, p.few))
-        (one_more_fits y x (2 * 2 ^ B) (2 * 2 ^ B) sum own.hi other.hi (high_at unit) (high_at others) here e own_high other_high
+        (one_more_fits y x (2 * 2 ^ B) (2 * 2 ^ B) sum own.hi other.hi (high_at unit)
+        (high_at others) here e own_high other_high
         (high_mass unit (x + 1) p narrow) (high_mass others (x + 1) q thin)),
   )
 
 -- ---- what they hold
 
-pub joint_holds : {B : ℕ} (unit others : List (Iv B)) (us : List Aggregate) (i x : ℕ) → x < length unit → x < length others → AreUnits us
+pub joint_holds : {B : ℕ} (unit others : List (Iv B)) (us : List Aggregate) (i x : ℕ) → x < length unit
+    → x < length others → AreDeclarable us
     → i < length us
     → GridEncloses unit (unit_of us i) → GridEncloses others (total (without us i))
     → Holds (partial_sums us (Joint i x)) (partial_sums us One)
     ((low_weighted unit others x / 2 ^ B) over 2 ^ B) (div_ceil (high_weighted unit others x) (2 ^ B) over 2 ^ B)
 joint_holds {B} unit others us i x inside beside units here e f =
     let s = pow_pos B in
-    let exact = joint_ends us (2 ^ B) (length unit) (length others) (low_at unit) (high_at unit) (low_at others) (high_at others)
+    let exact = joint_ends us (2 ^ B) (length unit) (length others) (low_at unit) (high_at unit) (low_at others)
+    (high_at others)
     i x units s here inside beside e f in (
       at_least_wider (partial_sums us (Joint i x)) (partial_sums us One) _ _ exact.0
           (round_down (low_weighted unit others x) (2 ^ B) (2 ^ B) _ s s (le_refl _)),
@@ -144,4 +153,5 @@ joint_width {B} unit others x p q inside =
     rw (parts, cv_is (2 ^ B) n (spread unit) (spread others) (pow_pos B))
     (weighted_width x n (2 ^ B) (spread unit) (spread others)
     (low_at unit) (width_at unit) (low_at others) (width_at others) inside (pow_pos B)
-    (low_mass unit (x + 1) p) (width_within (x + 1) unit) (low_mass others (x + 1) q) (width_within (x + 1) others))
+    (omega (arith, low_within (x + 1) unit, p.mass)) (width_within (x + 1) unit)
+    (omega (arith, low_within (x + 1) others, q.mass)) (width_within (x + 1) others))

@@ -1,19 +1,15 @@
--- Sums of y * f y * g z over all y + z = x, in plain numbers: how large they are, and how far apart two of them lie once rounded.
+-- Sums of y * f y * g z over all y + z = x, in plain numbers: how large they are, and how far apart two of them lie
+-- once rounded.
 use Rattle.std.proofs.Common.{ℕ, suc, ◌≡◌, ◌+◌, ◌-◌, ◌*◌, ◌/◌, ◌<◌, ◌≤◌, arith, ap, ap₂, ◌∙◌}
 use Rattle.std.specs.Int.{div_ceil}
 use Rattle.std.proofs.Math.Nat.{mul-le-mul, mul-le-mul_left, mul-le-mul_right, le_of_mul-le-mul_right, lt-div-mul-add, le_trans, le_refl}
-use native.Mathlib.Decide.{le_ind}
 use Rattle.std.proofs.lemmas.Grind.{div_ceil_times}
 use Rattle.dl_iv.proofs.Rounding.{ceiling_reaches}
 use Rattle.dl_exact.specs.Count.{count_pairs, count_below}
-use Rattle.dl_exact.proofs.Counts.{below_more, below_le, below_times, below_pairs, pairs_same, pairs_within}
+use Rattle.dl_exact.proofs.Counts.{below_grows, below_more, below_le, below_times, below_pairs, pairs_same, pairs_within}
 use Rattle.dl_grid.proofs.Products.{products_apart, pairs_apart}
 
 -- the sum over the first places
-below_grows : (m n : ℕ) (f : ℕ → ℕ) → m ≤ n → count_below m f ≤ count_below n f
-unfolding count_below
-below_grows m n f h = le_ind (λ k. count_below m f ≤ count_below k f) (le_refl _) (λ k _ p. omega (arith, p)) n h
-
 -- no outcome up to x is above x
 weighted_le : (n x : ℕ) (f : ℕ → ℕ) → n ≤ x + 1 → count_below n (λ y. y * f y) ≤ x * count_below n f
 weighted_le n x f h =
@@ -22,10 +18,12 @@ weighted_le n x f h =
     omega (arith, each, below_times n x f)
 
 -- the products at places that add up to s, of numbers that add up to at most p and q
-pairs_under : (s p q : ℕ) (a b : ℕ → ℕ) → count_below (s + 1) a ≤ p → count_below (s + 1) b ≤ q → count_pairs s (λ i j. a i * b j) ≤ p * q
+pairs_under : (s p q : ℕ) (a b : ℕ → ℕ) → count_below (s + 1) a ≤ p → count_below (s + 1) b ≤ q
+    → count_pairs s (λ i j. a i * b j) ≤ p * q
 pairs_under s p q a b h k =
     let here = below_more s (λ s. count_pairs s (λ i j. a i * b j)) in
-    let all : count_below (s + 1) (λ s. count_pairs s (λ i j. a i * b j)) ≤ count_below (s + 1) a * count_below (s + 1) b =
+    let all : count_below (s + 1) (λ s. count_pairs s (λ i j. a i * b j)) ≤ count_below
+    (s + 1) a * count_below (s + 1) b =
     pairs_within (s + 1) a b in
     omega (arith, here, all, mul-le-mul h k)
 
@@ -38,20 +36,29 @@ weighted_top x p q f g h k = pairs_under x (x * p) q (λ y. y * f y) g (weighted
 
 -- ---- a walk over the outcomes
 
-pub one_more : (i x total u v : ℕ) (f g : ℕ → ℕ) → total ≡ count_below i (λ y. y * f y * g (x - y)) → u ≡ f i → v ≡ g (x - i)
+pub one_more : (i x total u v : ℕ) (f g : ℕ → ℕ) → total ≡ count_below i (λ y. y * f y * g (x - y)) → u ≡ f i
+    → v ≡ g (x - i)
     → total + i * u * v ≡ count_below (i + 1) (λ y. y * f y * g (x - y))
 one_more i x total u v f g e h k = omega (arith, e, below_more i (λ y. y * f y * g (x - y)), ap₂ (λ s t. i * s * t) h k)
 
-pub one_more_fits : (i x p q total u v : ℕ) (f g : ℕ → ℕ) → i ≤ x → total ≡ count_below i (λ y. y * f y * g (x - y)) → u ≡ f i
+pub one_more_fits : (i x p q total u v : ℕ) (f g : ℕ → ℕ) → i ≤ x
+    → total ≡ count_below i (λ y. y * f y * g (x - y)) → u ≡ f i
     → v ≡ g (x - i)
     → count_below (x + 1) f ≤ p → count_below (x + 1) g ≤ q → total + i * u * v ≤ x * p * q
 one_more_fits i x p q total u v f g inside e h k above beside =
     let grown = below_grows (i + 1) (suc x) (λ y. y * f y * g (x - y)) (omega arith) in
-    omega (arith, one_more i x total u v f g e h k, grown, below_pairs x (λ y z. y * f y * g z), weighted_top x p q f g above beside)
+    omega (
+      arith,
+      one_more i x total u v f g e h k,
+      grown,
+      below_pairs x (λ y z. y * f y * g z),
+      weighted_top x p q f g above beside,
+    )
 
 pub all_places : (i x total : ℕ) (f g : ℕ → ℕ) → i ≡ suc x → total ≡ count_below i (λ y. y * f y * g (x - y))
     → total ≡ count_pairs x (λ y z. y * f y * g z)
-all_places i x total f g e h = h ∙ ap (λ n. count_below n (λ y. y * f y * g (x - y))) e ∙ below_pairs x (λ y z. y * f y * g z)
+all_places i x total f g e h = h ∙ ap (λ n. count_below n (λ y. y * f y * g (x - y))) e
+    ∙ below_pairs x (λ y z. y * f y * g z)
 
 -- ---- the width
 
@@ -63,7 +70,8 @@ weighted_apart x a c b d =
     pairs_same x (λ y z. y * (a y + c y) * (b z + d z)) (λ y z. (y * a y + y * c y) * (b z + d z)) (λ y z. omega arith)
     ∙ pairs_apart x (λ y. y * a y) (λ y. y * c y) b d
 
-apart_top : (x one v w : ℕ) (a c b d : ℕ → ℕ) → count_below (x + 1) a ≤ one → count_below (x + 1) c ≤ v → count_below (x + 1) b ≤ one
+apart_top : (x one v w : ℕ) (a c b d : ℕ → ℕ) → count_below (x + 1) a ≤ one → count_below (x + 1) c ≤ v
+    → count_below (x + 1) b ≤ one
     → count_below (x + 1) d ≤ w
     → products_apart (λ y. y * a y) (λ y. y * c y) b d x ≤ x * (one * w + (v * one + v * w))
 unfolding products_apart
@@ -102,5 +110,6 @@ weighted_width x n one v w a c b d inside pos p q r t =
     let low = count_pairs x (λ y z. y * a y * b z) in
     let more = products_apart (λ y. y * a y) (λ y. y * c y) b d x in
     let near : div_ceil (low + more) one * one ≤ (low / one + 2) * one + more = rounded one low more pos in
-    let whole = divided x one v w more (low / one + 2) (div_ceil (low + more) one) pos near (apart_top x one v w a c b d p q r t) in
+    let whole = divided x one v w more (low / one + 2) (div_ceil (low + more) one) pos near
+    (apart_top x one v w a c b d p q r t) in
     rw (weighted_apart x a c b d) (omega (arith, whole, enough x n (v + w + div_ceil (v * w) one) inside))

@@ -1,4 +1,5 @@
--- A unit's outcomes where the total is x, each weighted by the ends of its probability and of what the others leave, in units of 1/S^2.
+-- A unit's outcomes where the total is x, each weighted by the ends of its probability and of what
+-- the others leave, in units of 1/S^2.
 use Rattle.std.specs.Prelude.{ℕ, ◌*◌, List}
 use Rattle.dl_iv.specs.declared.interval.Iv.{Iv}
 use Rattle.dl_grid.specs.Cells.{low_at, high_at}

@@ -2,29 +2,29 @@
 
 ghost use Rattle.std.specs.Prelude.{◌≡◌, ℕ, ◌+◌, ◌-◌, ◌*◌, ◌^◌, ◌<◌, ◌≤◌, ◌↔◌, IsNone, IfSome};
 ghost use Rattle.dl_exact.specs.Fraction.{◌over◌};
+ghost use Rattle.dl_limits.specs.Limits.{rarest_parts};
 ghost use Rattle.dl_model.specs.Series.{Series, AtLeast, Holds};
 
 use dl_grid::units_of_one;
 use dl_iv::Iv;
+use dl_limits::RAREST_PARTS;
 
-/// The least probability that a mean is divided by is one of so many equal parts of 1.
-const PARTS_OF_ONE: u128 = 1 << 16;
-
-/// The conditional mean, in buckets: a joint mean divided by the probability `at` of its total. None
-/// where the low end of that probability is below `2^-16`. Where the low end of the quotient is at most
-/// `k` buckets, the answer is at most `2^16` times as wide as `k` widths of the probability and the
-/// width of the joint mean together, and 2 units for rounding.
+/// The conditional mean, in buckets: a joint mean divided by the probability `at` of its total.
+/// None where the low end of that probability is below one in `RAREST_PARTS`. Where the low end of
+/// the quotient is at most `k` buckets, the answer is at most so many times as wide as `k` widths
+/// of the probability and the width of the joint mean together, and 2 units for rounding.
 pub fn conditional_mean<const B: u32>(joint: Iv<B>, at: Iv<B>) -> Option<Iv<B>>
     requires small { joint.hi * 2 ^ B ≤ 2 ^ 127 }
-    ensures none { IsNone result ↔ (at.entry.lo * 2 ^ 16 < 2 ^ B) }
+    ensures none { IsNone result ↔ (at.entry.lo * rarest_parts < 2 ^ B) }
     ensures holds { IfSome result (λ r. (Q R O : Series)
         → Holds Q O (joint.entry.lo over 2 ^ B) (joint.entry.hi over 2 ^ B)
         → Holds R O (at.entry.lo over 2 ^ B) (at.entry.hi over 2 ^ B)
-        → AtLeast R O (1 over 2 ^ 16) × Holds Q R (r.lo over 2 ^ B) (r.hi over 2 ^ B)) }
+        → AtLeast R O (1 over rarest_parts) × Holds Q R (r.lo over 2 ^ B) (r.hi over 2 ^ B)) }
     ensures width { IfSome result (λ r. (k : ℕ) → joint.entry.lo ≤ k * at.entry.hi
-        → r.hi - r.lo ≤ 2 ^ 16 * (k * (at.entry.hi - at.entry.lo) + (joint.entry.hi - joint.entry.lo)) + 2) }
+        → r.hi - r.lo ≤ rarest_parts
+        * (k * (at.entry.hi - at.entry.lo) + (joint.entry.hi - joint.entry.lo)) + 2) }
 {
-    let least = units_of_one(B).div_ceil(PARTS_OF_ONE);
+    let least = units_of_one(B).div_ceil(RAREST_PARTS);
     if at.lo < least {
         return None;
     }

@@ -1,12 +1,14 @@
 //! The share of one unit in a total: the mean of its outcome where the total is a given amount, and
-//! the same given that amount. Each comes from the grids of the unit and of all other units, holds the
-//! declared value, and takes no memory.
+//! the same given that amount. Each comes from the grids of the unit and of all other units, holds
+//! the declared value, and takes no memory.
 //!
-//! The units of every valid plan meet the premises on units here, by `dl_model::plans::law_declared`.
+//! The units of every valid plan meet the premises on units here, by
+//! `dl_model::plans::law_declared`.
 #![tactic(auto)]
 
 mod conditional;
 mod joint;
+pub mod laws;
 #[cfg(test)]
 mod tests;
 

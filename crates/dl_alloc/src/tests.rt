@@ -1,4 +1,4 @@
-ghost use Rattle.std.specs.Prelude.{◌≡◌, ◌≤◌, length, IfOk};
+ghost use Rattle.std.specs.Prelude.{◌≤◌};
 
 use crate::{conditional_mean, joint_mean};
 use dl_grid::{Grid, units_of_one};
@@ -20,32 +20,15 @@ struct Case {
     at: u8,
 }
 
-/// Writes a cell, where the grid stays one.
-fn write<const B: u32>(g: &mut Grid<B>, x: u32, v: Iv<B>)
-    requires scale_above { 1 ≤ B }
-    requires scale_below { B ≤ 56 }
-    ensures { length g.new ≡ length g.old }
-{
-    let one = units_of_one(B);
-    if v.hi > one || x >= g.cells() {
-        return;
-    }
-    let others = g.mass_low().saturating_sub(g.at(x).lo);
-    if others + v.lo <= one {
-        g.set(x, v);
-    }
-}
-
 /// The grid of one of the two, each probability enclosed on its own.
 fn grid<const B: u32>(alloc: Global, parts: &[u8; 7]) -> Result<Grid<B>, AllocError>
     requires scale_above { 1 ≤ B }
     requires scale_below { B ≤ 56 }
-    ensures { IfOk result (λ g. length g ≡ 7) }
 {
     let mut g = Grid::<B>::zero(alloc, 7)?;
     for x in 0..7u32 {
         let v = Iv::enclose(u128::from(parts[x as usize]), 6);
-        write(&mut g, x, v);
+        g.put(x, v);
     }
     Ok(g)
 }
@@ -58,7 +41,10 @@ fn shares<const B: u32>(alloc: Global, case: &Case) -> Result<Option<Shares>, Al
     let one = units_of_one(B);
     let unit = grid::<B>(alloc, &UNIT)?;
     let other = grid::<B>(alloc, &OTHER)?;
-    if case.x >= 7 || unit.spread() >= one || other.spread() >= one {
+    if case.x >= 7 || case.x >= unit.cells() || case.x >= other.cells() {
+        return Ok(None);
+    }
+    if unit.spread() >= one || other.spread() >= one {
         return Ok(None);
     }
     let joint = joint_mean(&unit, &other, case.x);

@@ -10,16 +10,16 @@ use Rattle.dl_iv.specs.declared.interval.Iv.{Iv}
 use Rattle.dl_grid.specs.Cells.{low_at, high_at}
 use Rattle.dl_plan.specs.declared.plan.Unit.{Unit as UnitOfPlan}
 use Rattle.dl_plan.specs.Severity.{probability_of}
-use Rattle.dl_plan.specs.Cession.{Clause, kept}
+use Rattle.dl_plan.specs.Clause.{Clause, kept}
 use Rattle.dl_plan.specs.Horizon.{IsHorizonOf}
 use Rattle.dl_plan.specs.Valid.{IsAggregate, IsValidUnit}
 use Rattle.dl_exact.proofs.Parts.{whole_num, whole_den}
 use Rattle.dl_plan.proofs.Horizons.{horizon_one, horizon_settled}
 use Rattle.dl_model.specs.Series.{Holds}
-use Rattle.dl_model.specs.Program.{Aggregate, IsUnit, outcome}
-use Rattle.dl_model.specs.Listed.{weighted, greatest}
+use Rattle.dl_model.specs.Program.{Aggregate, IsDeclarable, outcome}
+use Rattle.dl_plan.specs.Weighted.{greatest}
 use Rattle.dl_model.specs.Family.{mapped, Encloses, GridEncloses}
-use Rattle.dl_model.specs.Plans.{count_weights, clause_of, aggregate_of, compound_of}
+use Rattle.dl_model.specs.Plans.{count_weights, outcome_after, aggregate_of, compound_of}
 use Rattle.dl_model.proofs.PlanUnits.{unit_declared}
 use Rattle.dl_cede.specs.Kept.{sum_kept, sum_elsewhere, IsTakenIn, IsLeft}
 use Rattle.dl_cede.proofs.Mapped.{unit_of, kept_few, kept_rest}
@@ -46,30 +46,40 @@ module _ (u : UnitOfPlan) (clause : Clause) (all : ℕ) (valid : IsValidUnit all
   agg = subst (λ t. IfSome t (IsAggregate all u.sev)) is valid.clause
 
   abbrev most : ℕ
-  most = greatest (weighted u.sev.items)
+  most = greatest u.sev.items
 
   abbrev this : Aggregate
   this = unit_of u.sev clause all most (count_weights u.freq) agg
 
   same_unit : aggregate_of u ≡ this
-  same_unit = ap (λ cede. record { count = count_weights u.freq; severity = probability_of u.sev; most = most; clause = clause_of cede }) is
+  same_unit = ap (λ cede. record {
+    count = count_weights u.freq;
+    severity = probability_of u.sev;
+    most = most;
+    clause =
+        outcome_after cede;
+  }) is
 
-  unit : IsUnit this
-  unit = subst IsUnit same_unit (unit_declared all u valid).unit
+  unit : IsDeclarable this
+  unit = subst IsDeclarable same_unit (unit_declared all u valid).unit
 
-  to_cell : (S y l h : ℕ) → Holds (outcome this y) (λ N. sum_to N (count_weights u.freq)) (l over S) (h over S) → HoldsCell u S y l h
-  to_cell S y l h holds = subst (λ a. Holds (outcome a y) (λ N. sum_to N (count_weights u.freq)) (l over S) (h over S)) (sym same_unit)
+  to_cell : (S y l h : ℕ) → Holds (outcome this y) (λ N. sum_to N (count_weights u.freq)) (l over S) (h over S)
+      → HoldsCell u S y l h
+  to_cell S y l h holds = subst (λ a. Holds (outcome a y) (λ N. sum_to N (count_weights u.freq)) (l over S) (h over S))
+      (sym same_unit)
       holds
 
-  few_at : (S K : ℕ) (lo hi : ℕ → ℕ) (n y : ℕ) → 0 < S → IsHorizonOf (Some clause) n K → Encloses S K lo hi (compound_of u.freq u.sev)
+  few_at : (S K : ℕ) (lo hi : ℕ → ℕ) (n y : ℕ) → 0 < S → IsHorizonOf (Some clause) n K
+      → Encloses S K lo hi (compound_of u.freq u.sev)
       → y < n → kept clause K ≢ whole y → HoldsCell u S y (sum_kept clause K lo y) (min S (sum_kept clause K hi y))
   few_at S zero lo hi n y pos h e inside other = absurd (omega (arith, horizon_one clause n 0 h))
   few_at S (suc k) lo hi n y pos h e inside other =
       to_cell S y (sum_kept clause (suc k) lo y) (min S (sum_kept clause (suc k) hi y))
       (kept_few u.sev clause all most (count_weights u.freq) agg S k lo hi pos unit e n y
-      (horizon_settled clause n (suc k) agg.cession h) inside other)
+      (horizon_settled clause n (suc k) agg.accepted h) inside other)
 
-  rest_at : (S K : ℕ) (lo hi : ℕ → ℕ) (n y : ℕ) → 0 < S → IsHorizonOf (Some clause) n K → Encloses S K lo hi (compound_of u.freq u.sev)
+  rest_at : (S K : ℕ) (lo hi : ℕ → ℕ) (n y : ℕ) → 0 < S → IsHorizonOf (Some clause) n K
+      → Encloses S K lo hi (compound_of u.freq u.sev)
       → y < n → kept clause K ≡ whole y → sum_elsewhere clause K lo y ≤ S
       → HoldsCell u S y (S - min S (sum_elsewhere clause K hi y)) (S - sum_elsewhere clause K lo y)
   rest_at S zero lo hi n y pos h e inside here fits = absurd (omega (arith, horizon_one clause n 0 h))
@@ -77,7 +87,7 @@ module _ (u : UnitOfPlan) (clause : Clause) (all : ℕ) (valid : IsValidUnit all
       let count = (unit_declared all u valid).count in
       to_cell S y (S - min S (sum_elsewhere clause (suc k) hi y)) (S - sum_elsewhere clause (suc k) lo y)
       (kept_rest u.sev clause all most (count_weights u.freq) agg S k lo hi pos unit e count.bound n y count.bounded
-      (horizon_settled clause n (suc k) agg.cession h) inside here fits)
+      (horizon_settled clause n (suc k) agg.accepted h) inside here fits)
 
   pub encloses : {B : ℕ} (sums grid : List (Iv B)) (n : ℕ) → IsHorizonOf u.cede n (length sums)
       → GridEncloses sums (compound_of u.freq u.sev) → length grid ≡ n
@@ -89,9 +99,11 @@ module _ (u : UnitOfPlan) (clause : Clause) (all : ℕ) (valid : IsValidUnit all
       elim (tells_whole (kept clause (length sums)) y) [
         | inl here ↦
             let left = past y there here in
-            subst₂ (HoldsCell u (2 ^ B) y) (sym (left.low ∙ clamped (2 ^ B) (sum_elsewhere clause (length sums) (high_at sums) y)))
+            subst₂ (HoldsCell u (2 ^ B) y)
+            (sym (left.low ∙ clamped (2 ^ B) (sum_elsewhere clause (length sums) (high_at sums) y)))
             (sym left.high)
-            (rest_at (2 ^ B) (length sums) (low_at sums) (high_at sums) n y (pow_pos B) same_horizon e there here left.within)
+            (rest_at (2 ^ B) (length sums) (low_at sums) (high_at sums) n y
+            (pow_pos B) same_horizon e there here left.within)
         | inr other ↦
             let taken = inside y there other in
             subst₂ (HoldsCell u (2 ^ B) y) (sym taken.low) (sym taken.high)

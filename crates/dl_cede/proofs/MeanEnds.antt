@@ -1,23 +1,26 @@
 -- The mean of a unit after its clause, from the ends of its parts.
-use Rattle.std.proofs.Common.{ℕ, ◌≡◌, ◌+◌, ◌-◌, ◌^◌, ◌<◌, ◌≤◌, List, [], ◌∷◌, ◌++◌, length, get_or, take, Option, Some, None, true, false, add-one, refl, sym, ap, ap₂, subst, subst₂, ◌∙◌}
+use Rattle.std.proofs.Common.{ℕ, ◌≡◌, ◌+◌, ◌-◌, ◌*◌, ◌/◌, ◌^◌, ◌<◌, ◌≤◌, List, [], ◌∷◌, ◌++◌, length, get_or, take, Option, Some, None, true, false, add-one, sym, ap, ap₂, subst, subst₂, ◌∙◌}
 use Rattle.std.specs.Prelude.{IfSome, All}
+use Rattle.std.specs.Int.{div_ceil}
 use Rattle.std.proofs.Math.Nat.{le_refl as le_refl_n}
 use Rattle.std.proofs.Math.Seq.{take-suc}
 use Rattle.std.proofs.lemmas.List.{take_all}
 use Rattle.std.proofs.lemmas.Nat.{pow_pos}
-use Rattle.dl_exact.specs.Fraction.{Fraction, ◌over◌, ◌*ℚ◌}
+use Rattle.dl_exact.specs.Fraction.{Fraction, whole, ◌over◌, ◌*ℚ◌}
+use Rattle.dl_exact.specs.Rounding.{IsFloor, IsCeiling}
 use Rattle.dl_exact.proofs.Over.{over_self}
 use Rattle.dl_exact.proofs.Laws.{times_comm}
+use Rattle.dl_exact.proofs.RoundingLaws.{floor_div, ceiling_div}
 use Rattle.dl_iv.specs.declared.interval.Iv.{Iv}
 use Rattle.dl_iv.specs.Enclosure.{LiesIn}
-use Rattle.dl_exact.proofs.Denominators.{over_split as over_plus, over_minus, over_zero}
+use Rattle.dl_exact.proofs.Denominators.{over_split as over_plus, over_minus, over_times, over_zero}
 use Rattle.dl_iv.proofs.Enclosures.{lies_between}
 use Rattle.dl_grid.specs.Cells.{low_at, high_at}
 use Rattle.dl_plan.specs.declared.cede.CedeLayer.{CedeLayer}
 use Rattle.dl_plan.specs.declared.plan.Unit.{Unit as UnitOfPlan}
-use Rattle.dl_plan.specs.Cession.{Clause}
-use Rattle.dl_plan.specs.Horizon.{edge_of, edge, IsHorizonOf}
-use Rattle.dl_plan.specs.Valid.{IsAggregate, IsValidUnit}
+use Rattle.dl_plan.specs.Clause.{Clause}
+use Rattle.dl_plan.specs.Horizon.{edge, IsHorizonOf}
+use Rattle.dl_plan.specs.Valid.{IsAggregate, IsValidUnit, declared_mean}
 use Rattle.dl_plan.proofs.Horizons.{horizon_edges}
 use Rattle.dl_model.specs.Series.{Holds}
 use Rattle.dl_model.specs.Program.{Aggregate, One, Mean, Layer, partial_sums}
@@ -26,35 +29,44 @@ use Rattle.dl_model.specs.Measures.{AreDeclared}
 use Rattle.dl_model.specs.Plans.{aggregate_of, compound_of, claims_of, mean_ceded}
 use Rattle.dl_model.proofs.Declared.{at_least_wider, at_most_wider}
 use Rattle.dl_model.proofs.ClauseMeans.{claims_declared, claims_enclosed, claims_mean, none_ceded, alone_ceded, both_ceded, no_clause, ceded_mean, net_mean}
-use Rattle.dl_measures.specs.Layers.{cells_under}
-use Rattle.dl_cede.specs.Means.{HoldsClaims, HoldsCeded, HoldsMean}
-use Rattle.dl_cede.proofs.MeanSizes.{declared_mean}
+use Rattle.dl_cede.specs.Means.{AreNearestEnds, HoldsClaims, HoldsCeded, HoldsMean}
 
 -- ---- the sum of the claims
 
-pub claims_hold : {B : ℕ} (u : UnitOfPlan) (mean : Iv B) (num den : ℕ) → (cells : ℕ) × IsValidUnit cells u → num over den ≡ declared_mean u
+pub claims_hold : {B : ℕ} (u : UnitOfPlan) (mean : Iv B) (num den : ℕ) → (cells : ℕ) × IsValidUnit cells u
+    → num over den ≡ declared_mean u
     → LiesIn (num over den) mean → HoldsClaims u mean
 claims_hold u mean num den valid value lies =
     let exact = claims_mean valid.0 u valid.1 in
     let here : LiesIn (declared_mean u) mean = subst (λ t. LiesIn t mean) value lies in
     (at_least_wider _ _ _ _ exact.0 here.low, at_most_wider _ _ _ _ exact.1 here.high)
 
--- ---- one layer
+-- a mean that is rounded once
+pub nearest_ends : {B : ℕ} (u : UnitOfPlan) (mean : Iv B) (num den : ℕ) → 0 < den → num over den ≡ declared_mean u
+    → mean.lo ≡ 2 ^ B * num / den → mean.hi ≡ div_ceil (2 ^ B * num) den → AreNearestEnds u mean
+nearest_ends {B} u mean num den pos value low high =
+    let units : (2 ^ B * num) over den ≡ whole (2 ^ B) *ℚ declared_mean u =
+    sym (over_times (2 ^ B) num den pos) ∙ ap (λ x. whole (2 ^ B) *ℚ x) value in record {
+      floor = rw low (subst (λ x. IsFloor x (2 ^ B * num / den)) units (floor_div (2 ^ B * num) den pos));
+      ceiling = rw high (subst (λ x. IsCeiling x (div_ceil (2 ^ B * num) den)) units
+          (ceiling_div (2 ^ B * num) den pos));
+    }
 
-pub under_edge : (limit : Option ℕ) (attach : ℕ) → cells_under limit attach ≡ edge_of limit attach
-under_edge None attach = refl
-under_edge (Some limit) attach = refl
+-- ---- one layer
 
 -- what holds of the mean of a layer of every total that the grid encloses
 abbrev LayerHolds : {B : ℕ} → List (Iv B) → CedeLayer → Iv B → Iv B → Type 0
 LayerHolds {B} cells l claims mean = (us : List Aggregate) → AreDeclared us → GridEncloses cells (total us)
-    → (l.limit ≡ None → Holds (partial_sums us Mean) (partial_sums us One) (claims.lo over 2 ^ B) (claims.hi over 2 ^ B))
+    → (l.limit ≡ None → Holds (partial_sums us Mean) (partial_sums us One) (claims.lo over 2 ^ B)
+    (claims.hi over 2 ^ B))
     → Holds (partial_sums us (Layer l.limit l.attach)) (partial_sums us One) (mean.lo over 2 ^ B) (mean.hi over 2 ^ B)
 
-pub part_holds : {B : ℕ} (grid : List (Iv B)) (l : CedeLayer) (claims mean part : Iv B) (num den : ℕ) → num ≡ l.share.num
+pub part_holds : {B : ℕ} (grid : List (Iv B)) (l : CedeLayer) (claims mean part : Iv B) (num den : ℕ)
+    → num ≡ l.share.num
     → den ≡ l.share.den
     → ((x : Fraction) → LiesIn x mean → LiesIn (x *ℚ num over den) part) → LayerHolds grid l claims mean
-    → (cells : ℕ) (u : UnitOfPlan) → IsValidUnit cells u → GridEncloses grid (compound_of u.freq u.sev) → HoldsClaims u claims → HoldsCeded
+    → (cells : ℕ) (u : UnitOfPlan) → IsValidUnit cells u → GridEncloses grid (compound_of u.freq u.sev)
+    → HoldsClaims u claims → HoldsCeded
     u (l ∷ []) part
 part_holds {B} grid l claims mean part num den n d scales holds cells u valid encloses full =
     let share : num over den ≡ l.share = ap₂ (λ a b. a over b) n d ∙ over_self l.share in
@@ -63,8 +75,10 @@ part_holds {B} grid l claims mean part num den n d scales holds cells u valid en
     let layer = holds (claims_of u ∷ []) (claims_declared cells u valid, tt)
     (claims_enclosed cells u (2 ^ B) (length grid) (low_at grid) (high_at grid) valid encloses) (λ e. full) in
     let exact = alone_ceded u l (mean.lo over 2 ^ B) (mean.hi over 2 ^ B) layer in (
-      at_least_wider _ _ _ _ exact.0 (scaled (mean.lo over 2 ^ B) (lies_between mean.lo mean (le_refl_n mean.lo) mean.ordered)).low,
-      at_most_wider _ _ _ _ exact.1 (scaled (mean.hi over 2 ^ B) (lies_between mean.hi mean mean.ordered (le_refl_n mean.hi))).high,
+      at_least_wider _ _ _ _ exact.0 (scaled (mean.lo over 2 ^ B)
+          (lies_between mean.lo mean (le_refl_n mean.lo) mean.ordered)).low,
+      at_most_wider _ _ _ _ exact.1 (scaled (mean.hi over 2 ^ B)
+          (lies_between mean.hi mean mean.ordered (le_refl_n mean.hi))).high,
     )
 
 -- ---- the layers, one after another
@@ -73,10 +87,12 @@ pub ceded_start : {B : ℕ} (u : UnitOfPlan) (layers : List CedeLayer) (mean : I
     → HoldsCeded u (take 0 layers) mean
 ceded_start {B} u layers mean low high =
     subst₂ (λ l h. Holds (mean_ceded u []) (partial_sums (claims_of u ∷ []) One) l h)
-    (sym (ap (λ n. n over 2 ^ B) low ∙ over_zero (2 ^ B) (pow_pos B))) (sym (ap (λ n. n over 2 ^ B) high ∙ over_zero (2 ^ B) (pow_pos B)))
+    (sym (ap (λ n. n over 2 ^ B) low ∙ over_zero (2 ^ B) (pow_pos B)))
+    (sym (ap (λ n. n over 2 ^ B) high ∙ over_zero (2 ^ B) (pow_pos B)))
     (none_ceded u)
 
-pub ceded_next : {B : ℕ} (cells : ℕ) (u : UnitOfPlan) (layers : List CedeLayer) (i : ℕ) (l : CedeLayer) (before part after : Iv B)
+pub ceded_next : {B : ℕ} (cells : ℕ) (u : UnitOfPlan) (layers : List CedeLayer) (i : ℕ) (l : CedeLayer)
+    (before part after : Iv B)
     → i < length layers
     → l ≡ get_or layers i l → after.lo ≡ before.lo + part.lo → after.hi ≡ before.hi + part.hi → IsValidUnit cells u
     → HoldsCeded u (take i layers) before → HoldsCeded u (l ∷ []) part → HoldsCeded u (take (i + 1) layers) after
@@ -84,36 +100,44 @@ ceded_next {B} cells u layers i l before part after inside is low high valid hol
     let more : take (i + 1) layers ≡ take i layers ++ (l ∷ []) =
     ap (λ k. take k layers) (add-one i) ∙ take-suc layers i l inside ∙ ap (λ k. take i layers ++ (k ∷ [])) (sym is) in
     let both = both_ceded cells u (take i layers) (l ∷ []) _ _ _ _ valid holds here in
-    subst (λ ls. Holds (mean_ceded u ls) (partial_sums (claims_of u ∷ []) One) (after.lo over 2 ^ B) (after.hi over 2 ^ B)) (sym more)
+    subst (λ ls. Holds (mean_ceded u ls) (partial_sums (claims_of u ∷ []) One) (after.lo over 2 ^ B)
+    (after.hi over 2 ^ B)) (sym more)
     (subst₂ (λ a b. Holds (mean_ceded u (take i layers ++ (l ∷ []))) (partial_sums (claims_of u ∷ []) One) a b)
     (sym (ap (λ n. n over 2 ^ B) low ∙ over_plus before.lo part.lo (2 ^ B) (pow_pos B)))
     (sym (ap (λ n. n over 2 ^ B) high ∙ over_plus before.hi part.hi (2 ^ B) (pow_pos B))) both)
 
 -- ---- after the clause
 
-pub aggregate : (cells : ℕ) (u : UnitOfPlan) (clause : Clause) → u.cede ≡ Some clause → IsValidUnit cells u → IsAggregate cells u.sev clause
+pub aggregate : (cells : ℕ) (u : UnitOfPlan) (clause : Clause) → u.cede ≡ Some clause → IsValidUnit cells u
+    → IsAggregate cells u.sev clause
 aggregate cells u clause is valid = subst (λ t. IfSome t (IsAggregate cells u.sev)) is valid.clause
 
-pub edges_inside : (cells k : ℕ) (cede : Option Clause) (clause : Clause) → cede ≡ Some clause → IsHorizonOf cede cells k
+pub edges_inside : (cells k : ℕ) (cede : Option Clause) (clause : Clause) → cede ≡ Some clause
+    → IsHorizonOf cede cells k
     → All (λ l. edge l ≤ k) clause.1
-edges_inside cells k cede clause is horizon = horizon_edges clause cells k (subst (λ t. IsHorizonOf t cells k) is horizon)
+edges_inside cells k cede clause is horizon = horizon_edges clause cells k
+    (subst (λ t. IsHorizonOf t cells k) is horizon)
 
 pub plain_holds : {B : ℕ} (u : UnitOfPlan) (mean : Iv B) → u.cede ≡ None → HoldsClaims u mean → HoldsMean u mean
 plain_holds {B} u mean none holds =
-    subst (λ a. Holds (partial_sums (a ∷ []) Mean) (partial_sums (a ∷ []) One) (mean.lo over 2 ^ B) (mean.hi over 2 ^ B))
+    subst (λ a. Holds (partial_sums (a ∷ []) Mean) (partial_sums (a ∷ []) One) (mean.lo over 2 ^ B)
+    (mean.hi over 2 ^ B))
     (sym (no_clause u none)) holds
 
--- what holds of an interval for every unit with this clause, where the grid encloses the sum of its claims, and `claims` its mean
+-- what holds of an interval for every unit with this clause, where the grid encloses the sum of its claims, and
+-- `claims` its mean
 abbrev OnEachUnit : {B : ℕ} → List (Iv B) → Clause → Iv B → (UnitOfPlan → Type 0) → Type 0
 OnEachUnit grid clause claims P = (cells : ℕ) (u : UnitOfPlan) → IsValidUnit cells u → u.cede ≡ Some clause
     → GridEncloses grid (compound_of u.freq u.sev) → HoldsClaims u claims → P u
 
 module _ {B : ℕ} (grid : List (Iv B)) (clause : Clause) (claims ceded : Iv B)
-    (taken : (cells : ℕ) (u : UnitOfPlan) → IsValidUnit cells u → GridEncloses grid (compound_of u.freq u.sev) → HoldsClaims u claims
+    (taken : (cells : ℕ) (u : UnitOfPlan) → IsValidUnit cells u → GridEncloses grid (compound_of u.freq u.sev)
+    → HoldsClaims u claims
     → HoldsCeded u clause.1 ceded) where
   pub ceded_holds : clause.0 ≡ false → OnEachUnit grid clause claims (λ u. HoldsMean u ceded)
   ceded_holds side cells u valid is encloses full =
-      ceded_mean cells u clause valid is (ceded.lo over 2 ^ B) (ceded.hi over 2 ^ B) side (taken cells u valid encloses full)
+      ceded_mean cells u clause valid is (ceded.lo over 2 ^ B) (ceded.hi over 2 ^ B) side
+      (taken cells u valid encloses full)
 
   pub net_holds : (mean : Iv B) → clause.0 ≡ true → mean.lo ≡ claims.lo - ceded.hi → mean.hi ≡ claims.hi - ceded.lo
       → OnEachUnit grid clause claims (λ u. HoldsMean u mean)
@@ -123,8 +147,10 @@ module _ {B : ℕ} (grid : List (Iv B)) (clause : Clause) (claims ceded : Iv B)
       (sym (ap (λ n. n over 2 ^ B) high ∙ over_minus claims.hi ceded.lo (2 ^ B) (pow_pos B)))
       (net_mean cells u clause valid is _ _ _ _ side (taken cells u valid encloses full) full)
 
-pub all_taken : {B : ℕ} (u : UnitOfPlan) (layers seen : List CedeLayer) (n : ℕ) (mean : Iv B) → seen ≡ layers → length seen ≤ n
+pub all_taken : {B : ℕ} (u : UnitOfPlan) (layers seen : List CedeLayer) (n : ℕ) (mean : Iv B) → seen ≡ layers
+    → length seen ≤ n
     → HoldsCeded u (take n seen) mean → HoldsCeded u layers mean
 all_taken {B} u layers seen n mean same all holds =
-    subst (λ ls. Holds (mean_ceded u ls) (partial_sums (claims_of u ∷ []) One) (mean.lo over 2 ^ B) (mean.hi over 2 ^ B))
+    subst (λ ls. Holds (mean_ceded u ls) (partial_sums (claims_of u ∷ []) One) (mean.lo over 2 ^ B)
+    (mean.hi over 2 ^ B))
     (take_all n seen all ∙ same) holds

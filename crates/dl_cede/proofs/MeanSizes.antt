@@ -24,9 +24,9 @@ use Rattle.dl_plan.specs.declared.plan.Unit.{Unit as UnitOfPlan}
 use Rattle.dl_plan.specs.Weighted.{weight_sum, weight_at, weighted_sum, IsWeighted}
 use Rattle.dl_plan.specs.Severity.{probability_of, pairs_of, mean_amount}
 use Rattle.dl_plan.specs.Fine.{common_denominator, IsFine}
-use Rattle.dl_plan.specs.Cession.{Clause, IsBelowTop, Overlap, layer_shares, IsCession}
-use Rattle.dl_plan.specs.Count.{expected_count, IsUnbounded, IsCount}
-use Rattle.dl_plan.specs.Valid.{IsNear, IsValidUnit}
+use Rattle.dl_plan.specs.Clause.{Clause, IsBelowTop, Overlap, layer_shares, IsClause}
+use Rattle.dl_plan.specs.Count.{expected_count, IsUnbounded, IsClaimCount}
+use Rattle.dl_plan.specs.Valid.{IsWithinMostAmount, IsValidUnit, declared_mean}
 use Rattle.dl_plan.proofs.Common.{den_divides, common_pos}
 use Rattle.dl_plan.proofs.Means.{total_pos, positive_share}
 use Rattle.dl_plan.proofs.Shares.{mean-shares}
@@ -34,10 +34,6 @@ use Rattle.dl_plan.proofs.Apart.{first_apart, rest_apart}
 use Rattle.dl_grid.specs.Width.{layer_width}
 use Rattle.dl_measures.specs.Layers.{layer_most}
 use Rattle.dl_plan.specs.MeanWidth.{part_width}
-
--- the mean of a unit's claims
-abbrev pub declared_mean : UnitOfPlan → Fraction
-declared_mean u = expected_count u.freq *ℚ mean_amount (pairs_of u.sev)
 
 -- ---- how large it is
 
@@ -47,13 +43,15 @@ item_within n a w within = elim (eqb_tells a 0) [
   | inr some ↦ rw some.0 (omega (arith, mul-le-mul_right w within))
 ]
 
-amounts_within : (n : ℕ) (xs : List Item) → All (λ item. item.amount ≤ n) xs → weighted_sum xs + n * weight_at xs 0 ≤ n * weight_sum xs
+amounts_within : (n : ℕ) (xs : List Item) → All (λ item. item.amount ≤ n) xs
+    → weighted_sum xs + n * weight_at xs 0 ≤ n * weight_sum xs
 amounts_within n [] near = omega arith
 amounts_within n (x ∷ xs) near =
     let zero_weight : weight_at (x ∷ xs) 0 ≡ cond (x.amount == 0) x.weight 0 + weight_at xs 0 = sum_by-cons
     (λ (item : Item). cond (item.amount == 0) item.weight 0) x xs in
     let weight : weight_sum (x ∷ xs) ≡ x.weight + weight_sum xs = sum_by-cons (λ (item : Item). item.weight) x xs in
-    let weighted : weighted_sum (x ∷ xs) ≡ x.amount * x.weight + weighted_sum xs = sum_by-cons (λ (item : Item). item.amount * item.weight)
+    let weighted : weighted_sum (x ∷ xs) ≡ x.amount * x.weight + weighted_sum xs =
+    sum_by-cons (λ (item : Item). item.amount * item.weight)
     x xs in
     omega (
       arith,
@@ -74,44 +72,62 @@ mean_within : (sev : Sev) → All (λ item. item.amount ≤ 2 ^ 20) sev.items
 mean_within sev near =
     let pos = total_pos sev.items sev.total sev.weighted in
     let sums : weighted_sum sev.items + 2 ^ 20 * weight_at sev.items 0 ≤ 2 ^ 20 * sev.total = subst
-    (λ t. weighted_sum sev.items + 2 ^ 20 * weight_at sev.items 0 ≤ 2 ^ 20 * t) sev.weighted.sum (amounts_within (2 ^ 20) sev.items near) in
-    let within : weighted_sum sev.items over sev.total ≤ℚ ((sev.total - weight_at sev.items 0) * 2 ^ 20) over (sev.total * 1) =
-    over_le (weighted_sum sev.items) sev.total ((sev.total - weight_at sev.items 0) * 2 ^ 20) (sev.total * 1) pos (omega (arith, pos))
-    (omega (arith, mul-le-mul_right sev.total (positive_within (2 ^ 20) (weighted_sum sev.items) (weight_at sev.items 0) sev.total sums)))
+    (λ t. weighted_sum sev.items + 2 ^ 20 * weight_at sev.items 0 ≤ 2 ^ 20 * t) sev.weighted.sum
+    (amounts_within (2 ^ 20) sev.items near) in
+    let within : weighted_sum sev.items over sev.total ≤ℚ ((sev.total - weight_at sev.items 0) * 2 ^ 20) over
+    (sev.total * 1) =
+    over_le (weighted_sum sev.items) sev.total ((sev.total - weight_at sev.items 0) * 2 ^ 20) (sev.total * 1) pos
+    (omega (arith, pos))
+    (omega (
+      arith,
+      mul-le-mul_right sev.total (positive_within (2 ^ 20) (weighted_sum sev.items)
+          (weight_at sev.items 0) sev.total sums),
+    ))
     in
-    let parts : (whole 1 -ℚ probability_of sev 0) *ℚ whole (2 ^ 20) ≡ ((sev.total - weight_at sev.items 0) * 2 ^ 20) over (sev.total * 1) =
+    let parts : (whole 1 -ℚ probability_of sev 0) *ℚ whole (2 ^ 20)
+    ≡ ((sev.total - weight_at sev.items 0) * 2 ^ 20) over (sev.total * 1) =
     ap (λ t. t *ℚ whole (2 ^ 20)) (sym (positive_share (weight_at sev.items 0) sev.total pos)) ∙ over_mul
     (sev.total - weight_at sev.items 0) sev.total (2 ^ 20) 1 pos one_pos in
-    subst (λ t. mean_amount (pairs_of sev) ≤ℚ t) (sym parts) (subst (λ t. t ≤ℚ ((sev.total - weight_at sev.items 0) * 2 ^ 20) over
+    subst (λ t. mean_amount (pairs_of sev) ≤ℚ t) (sym parts)
+    (subst (λ t. t ≤ℚ ((sev.total - weight_at sev.items 0) * 2 ^ 20) over
     (sev.total * 1)) (sym (mean-shares sev.items sev.total pos)) within)
 
 at_most_one : (u : UnitOfPlan) → whole 1 -ℚ probability_of u.sev 0 ≤ℚ whole 1
 at_most_one u = subst (λ t. whole 1 -ℚ probability_of u.sev 0 ≤ℚ t) (sub_nothing_from (whole 1))
-    (sub_le_both (whole 1) (whole 1) (probability_of u.sev 0) (whole 0) (le_refl (whole 1)) (zero_le (probability_of u.sev 0)))
+    (sub_le_both (whole 1) (whole 1) (probability_of u.sev 0) (whole 0) (le_refl (whole 1))
+    (zero_le (probability_of u.sev 0)))
   where
     sub_nothing_from : (x : Fraction) → x -ℚ whole 0 ≡ x
     sub_nothing_from x = sym (plus_zero (x -ℚ whole 0)) ∙ sub_plus x (whole 0) (zero_le x)
 
 times_at_most_one : (x y z : Fraction) → y ≤ℚ whole 1 → x ≤ℚ z → x *ℚ y ≤ℚ z
-times_at_most_one x y z h p = le_trans (x *ℚ y) x z (subst₂ (λ s t. s ≤ℚ t) (times_comm y x) (one_times x) (times_le_times y (whole 1) x h))
+times_at_most_one x y z h p = le_trans (x *ℚ y) x z
+    (subst₂ (λ s t. s ≤ℚ t) (times_comm y x) (one_times x) (times_le_times y (whole 1) x h))
     p
 
 listed_within : (counts : List Item) (total : ℕ) → IsWeighted counts total → All (λ item. item.amount ≤ 256) counts
     → weighted_sum counts over total ≤ℚ whole 65536
 listed_within counts total w near =
     over_le (weighted_sum counts) total 65536 1 (total_pos counts total w) one_pos
-    (omega (arith, subst (λ t. weighted_sum counts + 256 * weight_at counts 0 ≤ 256 * t) w.sum (amounts_within 256 counts near)))
+    (omega (
+      arith,
+      subst (λ t. weighted_sum counts + 256 * weight_at counts 0 ≤ 256 * t) w.sum
+          (amounts_within 256 counts near),
+    ))
 
 -- the thinned mean is at most 65,536
-few_claims : (freq : Freq) (y : Fraction) → IsCount freq → y ≤ℚ whole 1 → (IsUnbounded freq → expected_count freq *ℚ y ≤ℚ whole 4096)
+few_claims : (freq : Freq) (y : Fraction) → IsClaimCount freq → y ≤ℚ whole 1
+    → (IsUnbounded freq → expected_count freq *ℚ y ≤ℚ whole 4096)
     → expected_count freq *ℚ y ≤ℚ whole 65536
 few_claims (Fixed m) y count one slow = times_at_most_one (whole m) y (whole 65536) one (whole_le m 65536 count)
-few_claims (Table counts total) y count one slow = times_at_most_one (weighted_sum counts over total) y (whole 65536) one
+few_claims (Table counts total) y count one slow = times_at_most_one (weighted_sum counts over total) y
+    (whole 65536) one
     (listed_within counts total count.0 count.1)
 few_claims (Bernoulli q) y count one slow = times_at_most_one q y (whole 65536) one
     (le_trans q (whole 1) (whole 65536) count.within (whole_le 1 65536 (omega arith)))
 few_claims (Binomial trials q) y count one slow =
-    times_at_most_one (whole trials *ℚ q) y (whole 65536) one (times_at_most_one (whole trials) q (whole 65536) count.1.within
+    times_at_most_one (whole trials *ℚ q) y (whole 65536) one
+    (times_at_most_one (whole trials) q (whole 65536) count.1.within
     (whole_le trials 65536 count.0))
 few_claims (Poisson mean) y count one slow = le_trans _ _ _ (slow tt) (whole_le 4096 65536 (omega arith))
 few_claims (Gamma shape mean) y count one slow = le_trans _ _ _ (slow tt) (whole_le 4096 65536 (omega arith))
@@ -120,10 +136,12 @@ unit_within : (cells : ℕ) (u : UnitOfPlan) → IsValidUnit cells u → declare
 unit_within cells u valid =
     let x : Fraction = expected_count u.freq in
     let y : Fraction = whole 1 -ℚ probability_of u.sev 0 in
-    let amounts : mean_amount (pairs_of u.sev) *ℚ x ≤ℚ y *ℚ whole (2 ^ 20) *ℚ x = times_le_times _ _ x (mean_within u.sev valid.amounts) in
+    let amounts : mean_amount (pairs_of u.sev) *ℚ x ≤ℚ y *ℚ whole (2 ^ 20) *ℚ x =
+    times_le_times _ _ x (mean_within u.sev valid.amounts) in
     let turned : y *ℚ whole (2 ^ 20) *ℚ x ≡ x *ℚ y *ℚ whole (2 ^ 20) = times_comm (y *ℚ whole (2 ^ 20)) x ∙ sym
     (times_assoc x y (whole (2 ^ 20))) in
-    let claims : x *ℚ y ≤ℚ whole 65536 = few_claims u.freq y valid.count (at_most_one u) (λ slow. (valid.thinned slow).1) in
+    let claims : x *ℚ y ≤ℚ whole 65536 = few_claims u.freq y valid.count (at_most_one u)
+    (λ slow. (valid.thinned slow).1) in
     le_trans _ _ _ (subst₂ (λ s t. s ≤ℚ t) (times_comm (mean_amount (pairs_of u.sev)) x) turned amounts)
     (times_le_times (x *ℚ y) (whole 65536) (whole (2 ^ 20)) claims)
 
@@ -131,7 +149,8 @@ pub unit_small : (B : ℕ) (u : UnitOfPlan) (num den : ℕ) → B ≤ 56 → (ce
     → num over den ≡ declared_mean u
     → div_ceil (2 ^ B * num) den ≤ 2 ^ 92
 unit_small B u num den scale valid pos parts =
-    let within : num over den ≤ℚ whole 65536 *ℚ whole (2 ^ 20) = subst (λ t. t ≤ℚ whole 65536 *ℚ whole (2 ^ 20)) (sym parts)
+    let within : num over den ≤ℚ whole 65536 *ℚ whole (2 ^ 20) =
+    subst (λ t. t ≤ℚ whole 65536 *ℚ whole (2 ^ 20)) (sym parts)
     (unit_within valid.0 u valid.1) in
     let cross : num * 1 ≤ (65536 * 2 ^ 20) * den = le_over num den (65536 * 2 ^ 20) 1 pos one_pos
     (subst (λ t. num over den ≤ℚ t) (sym (whole_times 65536 (2 ^ 20))) within) in
@@ -159,7 +178,8 @@ pub share_within : (hi num den : ℕ) → num ≤ den → 0 < den → div_ceil (
 share_within hi num den within pos = div_ceil_least (hi * num) den hi pos (mul-le-mul_left hi within)
 
 -- it widens by the rounding alone
-pub share_width : (lo hi num den : ℕ) → lo ≤ hi → num ≤ den → 0 < den → div_ceil (hi * num) den ≤ lo * num / den + (hi - lo) + 1
+pub share_width : (lo hi num den : ℕ) → lo ≤ hi → num ≤ den → 0 < den
+    → div_ceil (hi * num) den ≤ lo * num / den + (hi - lo) + 1
 share_width lo hi num den ordered within pos =
     let w = hi - lo in
     let q = lo * num / den in
@@ -169,7 +189,8 @@ share_width lo hi num den ordered within pos =
     let part : lo * num % den < den = mod-lt (lo * num) pos in
     div_ceil_least (hi * num) den (q + w + 1) pos (omega (arith, ap (λ t. t * num) top, rest, whole_part, part))
 
-pub part_narrow : (limit : Option ℕ) (attach claims spread wide : ℕ) → claims ≤ 1 → wide ≤ layer_width limit attach claims spread + 1
+pub part_narrow : (limit : Option ℕ) (attach claims spread wide : ℕ) → claims ≤ 1
+    → wide ≤ layer_width limit attach claims spread + 1
     → wide ≤ part_width spread limit attach
 part_narrow None attach claims spread wide narrow h = omega (arith, narrow, h)
 part_narrow (Some limit) attach claims spread wide narrow h = omega (arith, narrow, h)
@@ -191,23 +212,28 @@ abbrev pub mosts : ℕ → ℕ → List CedeLayer → ℕ
 mosts one mean layers = sum_by (λ (l : CedeLayer). layer_most l.limit one mean) layers
 
 module _ (one mean : ℕ) (scale : one ≤ 2 ^ 56) where
-  others_small : (l : CedeLayer) (ls : List CedeLayer) → l.limit ≡ None → All (λ m. ¬ Overlap l m) ls → All IsNear ls
+  others_small : (l : CedeLayer) (ls : List CedeLayer) → l.limit ≡ None → All (λ m. ¬ Overlap l m) ls
+      → All IsWithinMostAmount ls
       → mosts one mean ls ≤ length ls * 2 ^ 76
   others_small l [] none apart near = omega arith
   others_small l (m ∷ ms) none apart near =
-      let limited : m.limit ≡ None → ⊥ = λ e. All-head (λ k. ¬ Overlap l k) m ms apart (no_top l.limit _ _ none, no_top m.limit _ _ e) in
-      let here : layer_most m.limit one mean ≤ 2 ^ 76 = with_limit m.limit one mean limited (All-head IsNear m ms near).limit scale in
-      let rest = others_small l ms none (All-tail (λ k. ¬ Overlap l k) m ms apart) (All-tail IsNear m ms near) in
+      let limited : m.limit ≡ None → ⊥ = λ e. All-head (λ k. ¬ Overlap l k) m ms apart
+      (no_top l.limit _ _ none, no_top m.limit _ _ e) in
+      let here : layer_most m.limit one mean ≤ 2 ^ 76 = with_limit m.limit one mean limited
+      (All-head IsWithinMostAmount m ms near).limit scale in
+      let rest = others_small l ms none (All-tail (λ k. ¬ Overlap l k) m ms apart)
+      (All-tail IsWithinMostAmount m ms near) in
       omega (arith, sum_by-cons (λ (k : CedeLayer). layer_most k.limit one mean) m ms, here, rest)
 
-  one_more : (l : CedeLayer) (ls : List CedeLayer) (limit : Option ℕ) → l.limit ≡ limit → All (λ m. ¬ Overlap l m) ls → All IsNear (l ∷ ls)
+  one_more : (l : CedeLayer) (ls : List CedeLayer) (limit : Option ℕ) → l.limit ≡ limit → All (λ m. ¬ Overlap l m) ls
+      → All IsWithinMostAmount (l ∷ ls)
       → mosts one mean ls ≤ length ls * 2 ^ 76 + mean → mosts one mean (l ∷ ls) ≤ length (l ∷ ls) * 2 ^ 76 + mean
   one_more l ls None e apart near rest =
       omega (
         arith,
         sum_by-cons (λ (k : CedeLayer). layer_most k.limit one mean) l ls,
         ap (λ t. layer_most t one mean) e,
-        others_small l ls e apart (All-tail IsNear l ls near),
+        others_small l ls e apart (All-tail IsWithinMostAmount l ls near),
       )
   one_more l ls (Some k) e apart near rest =
       let limited : l.limit ≡ None → ⊥ = λ none. cc in
@@ -215,14 +241,15 @@ module _ (one mean : ℕ) (scale : one ≤ 2 ^ 56) where
         arith,
         sum_by-cons (λ (k : CedeLayer). layer_most k.limit one mean) l ls,
         rest,
-        with_limit l.limit one mean limited (All-head IsNear l ls near).limit scale,
+        with_limit l.limit one mean limited (All-head IsWithinMostAmount l ls near).limit scale,
       )
 
-  pub mosts_small : (ls : List CedeLayer) → AllPairs (λ l m. ¬ Overlap l m) ls → All IsNear ls
+  pub mosts_small : (ls : List CedeLayer) → AllPairs (λ l m. ¬ Overlap l m) ls → All IsWithinMostAmount ls
       → mosts one mean ls ≤ length ls * 2 ^ 76 + mean
   mosts_small [] apart near = omega arith
   mosts_small (l ∷ ls) apart near =
-      one_more l ls l.limit refl (first_apart l ls apart) near (mosts_small ls (rest_apart l ls apart) (All-tail IsNear l ls near))
+      one_more l ls l.limit refl (first_apart l ls apart) near
+      (mosts_small ls (rest_apart l ls apart) (All-tail IsWithinMostAmount l ls near))
 
 -- the layers of a clause, as seen by a walk
 module _ (clause : Clause) (seen : List CedeLayer) (same : seen ≡ clause.1) where
@@ -231,7 +258,8 @@ module _ (clause : Clause) (seen : List CedeLayer) (same : seen ≡ clause.1) wh
     pub each_at : (P : CedeLayer → Type 0) → All P clause.1 → P l
     each_at P all = subst P (sym is) (subst (λ ls. All P ls) (sym same) all i l inside)
 
-    pub more_most : (one mean before part : ℕ) → before ≤ mosts one mean (take i seen) → part ≤ layer_most l.limit one mean
+    pub more_most : (one mean before part : ℕ) → before ≤ mosts one mean (take i seen)
+        → part ≤ layer_most l.limit one mean
         → before + part ≤ mosts one mean (take (i + 1) seen)
     more_most one mean before part h k =
         let f : CedeLayer → ℕ = λ m. layer_most m.limit one mean in
@@ -244,7 +272,7 @@ module _ (clause : Clause) (seen : List CedeLayer) (same : seen ≡ clause.1) wh
         let f : CedeLayer → ℕ = λ m. part_width spread m.limit m.attach in
         omega (arith, h, k, sum_by_more f seen i l inside, ap f is)
 
-  pub most_fits : (one mean n hi : ℕ) → IsCession clause → All IsNear clause.1 → one ≤ 2 ^ 56 → mean ≤ 2 ^ 92
+  pub most_fits : (one mean n hi : ℕ) → IsClause clause → All IsWithinMostAmount clause.1 → one ≤ 2 ^ 56 → mean ≤ 2 ^ 92
       → hi ≤ mosts one mean (take n seen) → hi ≤ 2 ^ 93
   most_fits one mean n hi cession near scale small h =
       let few : length clause.1 * 2 ^ 76 ≤ 16 * 2 ^ 76 = mul-le-mul_right (2 ^ 76) cession.few in
@@ -260,7 +288,8 @@ module _ (clause : Clause) (seen : List CedeLayer) (same : seen ≡ clause.1) wh
 
 pub fine_shares : (layers : List CedeLayer) → IsFine (layer_shares layers) → All (λ l. l.share.den ≤ 2 ^ 30) layers
 fine_shares layers fine = λ i d inside.
-    let few : i < length (layer_shares layers) = omega (arith, inside, length-map layers (λ (l : CedeLayer). l.share)) in
+    let few : i < length (layer_shares layers) = omega
+    (arith, inside, length-map layers (λ (l : CedeLayer). l.share)) in
     let divides : (get_or (layer_shares layers) i d.share).den ∣ common_denominator (layer_shares layers) =
     den_divides 1 (layer_shares layers) i d.share few in
     let here : (get_or (layer_shares layers) i d.share).den ≡ (get_or layers i d).share.den =

@@ -4,14 +4,15 @@ use Rattle.std.specs.Prelude.{if◌then◌else◌}
 use Rattle.dl_iv.specs.declared.interval.Iv.{Iv}
 use Rattle.dl_grid.specs.Cells.{low_at, high_at, mass_low, spread}
 use Rattle.dl_grid.proofs.PlaceSums.{high_is, width_within}
-use Rattle.dl_plan.specs.Cession.{Clause}
+use Rattle.dl_plan.specs.Clause.{Clause}
 use Rattle.dl_exact.specs.Count.{count_below}
 use Rattle.dl_grid.proofs.CellSets.{low_set, high_set, spread_set}
 use Rattle.dl_cede.specs.Kept.{width_at, where_whole, sum_elsewhere, IsTakenIn, IsLeft}
 use Rattle.dl_cede.proofs.Walk.{whole_le, kept_or_elsewhere, elsewhere_wide}
 
 -- the sums that are taken in are no wider than all
-whole_spread : {B : ℕ} (clause : Clause) (sums : List (Iv B)) → count_below (length sums) (where_whole clause (width_at sums)) ≤ spread sums
+whole_spread : {B : ℕ} (clause : Clause) (sums : List (Iv B))
+    → count_below (length sums) (where_whole clause (width_at sums)) ≤ spread sums
 whole_spread clause sums =
     omega (arith, whole_le clause (width_at sums) (length sums), width_within (length sums) sums)
 
@@ -19,7 +20,8 @@ pub all_spread : {B : ℕ} (clause : Clause) (sums grid : List (Iv B))
     → spread grid ≤ count_below (length sums) (where_whole clause (width_at sums)) → spread grid ≤ 2 * spread sums
 all_spread clause sums grid before = omega (arith, before, whole_spread clause sums)
 
-module _ {B : ℕ} (clause : Clause) (sums grid : List (Iv B)) (t : ℕ) (at : t < length grid) (taken : IsTakenIn clause sums grid t) where
+module _ {B : ℕ} (clause : Clause) (sums grid : List (Iv B)) (t : ℕ) (at : t < length grid)
+    (taken : IsTakenIn clause sums grid t) where
   wide : sum_elsewhere clause (length sums) (high_at sums) t
       ≡ sum_elsewhere clause (length sums) (low_at sums) t + sum_elsewhere clause (length sums) (width_at sums) t
   wide = elsewhere_wide clause (low_at sums) (high_at sums) (length sums) t (λ s. omega (arith, high_is sums s))
@@ -28,18 +30,29 @@ module _ {B : ℕ} (clause : Clause) (sums grid : List (Iv B)) (t : ℕ) (at : t
   pub rest_mass : (lo : ℕ) → mass_low grid ≤ count_below (length sums) (where_whole clause (low_at sums))
       → sum_elsewhere clause (length sums) (low_at sums) t ≤ 2 ^ B
       → lo ≡ 2 ^ B - sum_elsewhere clause (length sums) (high_at sums) t → mass_low grid - low_at grid t + lo ≤ 2 ^ B
-  rest_mass lo mass fits e = omega (arith, mass, fits, e, taken.low, wide, kept_or_elsewhere clause (low_at sums) (length sums) t)
+  rest_mass lo mass fits e = omega (
+    arith,
+    mass,
+    fits,
+    e,
+    taken.low,
+    wide,
+    kept_or_elsewhere clause (low_at sums) (length sums) t,
+  )
 
   module _ (v : Iv B) (low : v.lo ≡ 2 ^ B - sum_elsewhere clause (length sums) (high_at sums) t)
       (high : v.hi ≡ 2 ^ B - sum_elsewhere clause (length sums) (low_at sums) t) where
-    pub rest_spread : spread grid ≤ count_below (length sums) (where_whole clause (width_at sums)) → spread (set grid t v) ≤ 2 * spread sums
+    pub rest_spread : spread grid ≤ count_below (length sums) (where_whole clause (width_at sums))
+        → spread (set grid t v) ≤ 2 * spread sums
     rest_spread before =
-        let whole : count_below (length sums) (where_whole clause (width_at sums)) ≤ spread sums = whole_spread clause sums in
+        let whole : count_below (length sums) (where_whole clause (width_at sums)) ≤ spread sums =
+        whole_spread clause sums in
         let rest : v.hi - v.lo ≤ spread sums = omega
         (arith, low, high, wide, whole, kept_or_elsewhere clause (width_at sums) (length sums) t) in
         omega (arith, spread_set grid t v at, before, whole, rest)
 
-    pub rest_left : sum_elsewhere clause (length sums) (low_at sums) t ≤ 2 ^ B → (y : ℕ) → t ≡ y → IsLeft clause sums (set grid t v) y
+    pub rest_left : sum_elsewhere clause (length sums) (low_at sums) t ≤ 2 ^ B → (y : ℕ) → t ≡ y
+        → IsLeft clause sums (set grid t v) y
     rest_left within y same =
         subst (IsLeft clause sums (set grid t v)) same record {
           low = low_set grid t t v at ∙ ap (λ b. if b then v.lo else low_at grid t) (eq-eqb t t refl) ∙ low;

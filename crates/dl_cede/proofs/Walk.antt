@@ -6,10 +6,10 @@ use Rattle.dl_exact.specs.Fraction.{Fraction, whole}
 use Rattle.dl_iv.specs.declared.interval.Iv.{Iv}
 use Rattle.dl_grid.specs.Cells.{low_at, high_at, IsGrid}
 use Rattle.dl_plan.specs.Fine.{IsWhole}
-use Rattle.dl_plan.specs.Cession.{Clause, kept}
+use Rattle.dl_plan.specs.Clause.{Clause, kept}
 use Rattle.dl_exact.proofs.Parts.{whole_den}
 use Rattle.dl_exact.specs.Count.{count_below}
-use Rattle.dl_model.specs.Plans.{clause_of}
+use Rattle.dl_model.specs.Plans.{outcome_after}
 use Rattle.dl_exact.proofs.Counts.{below_more as count_below_more, below_nothing as count_below_none}
 use Rattle.dl_model.proofs.Multiples.{clause_whole}
 use Rattle.dl_grid.proofs.CellSets.{low_set, high_set}
@@ -19,7 +19,8 @@ use Rattle.dl_cede.specs.Kept.{where_whole, sum_kept, sum_elsewhere}
 
 pub where_here : (clause : Clause) (f : ℕ → ℕ) (s y : ℕ) → kept clause s ≡ whole y → where_whole clause f s ≡ f s
 unfolding where_whole
-where_here clause f s y e = ap (λ b. if b then f s else 0) (eq-eqb (kept clause s).den 1 (ap (λ (x : Fraction). x.den) e ∙ whole_den y))
+where_here clause f s y e = ap (λ b. if b then f s else 0)
+    (eq-eqb (kept clause s).den 1 (ap (λ (x : Fraction). x.den) e ∙ whole_den y))
 
 pub where_not : (clause : Clause) (f : ℕ → ℕ) (s : ℕ) → ¬ IsWhole (kept clause s) → where_whole clause f s ≡ 0
 unfolding where_whole
@@ -33,15 +34,16 @@ none false = refl
 pub kept_here : (clause : Clause) (f : ℕ → ℕ) (s x y : ℕ) → kept clause s ≡ whole y
     → sum_kept clause (s + 1) f x ≡ sum_kept clause s f x + (if nat_eq y x then f s else 0)
 kept_here clause f s x y e =
-    count_below_more s (λ s. if nat_eq (clause_of (Some clause) s) x then where_whole clause f s else 0)
+    count_below_more s (λ s. if nat_eq (outcome_after (Some clause) s) x then where_whole clause f s else 0)
     ∙ ap (λ t. sum_kept clause s f x + (if nat_eq t x then where_whole clause f s else 0)) (clause_whole clause s y e)
     ∙ ap (λ t. sum_kept clause s f x + (if nat_eq y x then t else 0)) (where_here clause f s y e)
 
 pub elsewhere_here : (clause : Clause) (f : ℕ → ℕ) (s x y : ℕ) → kept clause s ≡ whole y
     → sum_elsewhere clause (s + 1) f x ≡ sum_elsewhere clause s f x + (if nat_eq y x then 0 else f s)
 elsewhere_here clause f s x y e =
-    count_below_more s (λ s. if nat_eq (clause_of (Some clause) s) x then 0 else where_whole clause f s)
-    ∙ ap (λ t. sum_elsewhere clause s f x + (if nat_eq t x then 0 else where_whole clause f s)) (clause_whole clause s y e)
+    count_below_more s (λ s. if nat_eq (outcome_after (Some clause) s) x then 0 else where_whole clause f s)
+    ∙ ap (λ t. sum_elsewhere clause s f x + (if nat_eq t x then 0 else where_whole clause f s))
+    (clause_whole clause s y e)
     ∙ ap (λ t. sum_elsewhere clause s f x + (if nat_eq y x then 0 else t)) (where_here clause f s y e)
 
 pub whole_here : (clause : Clause) (f : ℕ → ℕ) (s y : ℕ) → kept clause s ≡ whole y
@@ -50,13 +52,14 @@ whole_here clause f s y e = count_below_more s (where_whole clause f)
     ∙ ap (λ t. count_below s (where_whole clause f) + t) (where_here clause f s y e)
 
 -- one of which it keeps no whole number
-pub kept_not : (clause : Clause) (f : ℕ → ℕ) (s x : ℕ) → ¬ IsWhole (kept clause s) → sum_kept clause (s + 1) f x ≡ sum_kept clause s f x
+pub kept_not : (clause : Clause) (f : ℕ → ℕ) (s x : ℕ) → ¬ IsWhole (kept clause s)
+    → sum_kept clause (s + 1) f x ≡ sum_kept clause s f x
 kept_not clause f s x n =
     omega (
       arith,
-      count_below_more s (λ s. if nat_eq (clause_of (Some clause) s) x then where_whole clause f s else 0),
-      ap (λ t. if nat_eq (clause_of (Some clause) s) x then t else 0) (where_not clause f s n)
-          ∙ none (nat_eq (clause_of (Some clause) s) x),
+      count_below_more s (λ s. if nat_eq (outcome_after (Some clause) s) x then where_whole clause f s else 0),
+      ap (λ t. if nat_eq (outcome_after (Some clause) s) x then t else 0) (where_not clause f s n)
+          ∙ none (nat_eq (outcome_after (Some clause) s) x),
     )
 
 pub elsewhere_not : (clause : Clause) (f : ℕ → ℕ) (s x : ℕ) → ¬ IsWhole (kept clause s)
@@ -64,9 +67,9 @@ pub elsewhere_not : (clause : Clause) (f : ℕ → ℕ) (s x : ℕ) → ¬ IsWho
 elsewhere_not clause f s x n =
     omega (
       arith,
-      count_below_more s (λ s. if nat_eq (clause_of (Some clause) s) x then 0 else where_whole clause f s),
-      ap (λ t. if nat_eq (clause_of (Some clause) s) x then 0 else t) (where_not clause f s n)
-          ∙ none (nat_eq (clause_of (Some clause) s) x),
+      count_below_more s (λ s. if nat_eq (outcome_after (Some clause) s) x then 0 else where_whole clause f s),
+      ap (λ t. if nat_eq (outcome_after (Some clause) s) x then 0 else t) (where_not clause f s n)
+          ∙ none (nat_eq (outcome_after (Some clause) s) x),
     )
 
 pub whole_not : (clause : Clause) (f : ℕ → ℕ) (s : ℕ) → ¬ IsWhole (kept clause s)
@@ -94,7 +97,12 @@ pub kept_or_elsewhere : (clause : Clause) (f : ℕ → ℕ) (n y : ℕ)
 unfolding count_below
 kept_or_elsewhere clause f zero y = refl
 kept_or_elsewhere clause f (suc n) y =
-    omega (arith, kept_or_elsewhere clause f n y, either (nat_eq (clause_of (Some clause) n) y) (where_whole clause f n))
+    omega (
+      arith,
+      kept_or_elsewhere clause f n y,
+      either (nat_eq (outcome_after (Some clause) n) y)
+          (where_whole clause f n),
+    )
   where
     either : (b : Bool) (m : ℕ) → (if b then m else 0) + (if b then 0 else m) ≡ m
     either true m = omega arith
@@ -109,22 +117,25 @@ elsewhere_wide clause lo hi (suc n) y h =
     omega (
       arith,
       elsewhere_wide clause lo hi n y h,
-      wide (nat_eq (clause_of (Some clause) n) y) (nat_eq (kept clause n).den 1) (lo n)
+      wide (nat_eq (outcome_after (Some clause) n) y) (nat_eq (kept clause n).den 1) (lo n)
           (hi n) (h n),
     )
   where
     wide : (b c : Bool) (l m : ℕ) → l ≤ m
-        → (if b then 0 else (if c then m else 0)) ≡ (if b then 0 else (if c then l else 0)) + (if b then 0 else (if c then m - l else 0))
+        → (if b then 0 else (if c then m else 0)) ≡ (if b then 0 else (if c then l else 0)) +
+        (if b then 0 else (if c then m - l else 0))
     wide true c l m h = refl
     wide false true l m h = omega (arith, h)
     wide false false l m h = refl
 
 -- ---- one cell takes in more
 
-pub low_more : {B : ℕ} (cells : List (Iv B)) (y x : ℕ) (v : Iv B) (more : ℕ) → y < length cells → v.lo ≡ low_at cells y + more
+pub low_more : {B : ℕ} (cells : List (Iv B)) (y x : ℕ) (v : Iv B) (more : ℕ) → y < length cells
+    → v.lo ≡ low_at cells y + more
     → low_at (set cells y v) x ≡ low_at cells x + (if y == x then more else 0)
 low_more cells y x v more inside e = elim (eqb_tells y x) [
-  | inl p ↦ rw (p.0, ← p.1) (low_set cells y y v inside ∙ ap (λ b. if b then v.lo else low_at cells y) (eq-eqb y y refl) ∙ e)
+  | inl p ↦ rw (p.0, ← p.1) (low_set cells y y v inside
+      ∙ ap (λ b. if b then v.lo else low_at cells y) (eq-eqb y y refl) ∙ e)
   | inr p ↦ rw p.0 (low_set cells y x v inside ∙ ap (λ b. if b then v.lo else low_at cells x) p.0 ∙ omega arith)
 ]
 
@@ -132,9 +143,11 @@ pub high_more : {B : ℕ} (cells : List (Iv B)) (y x : ℕ) (v : Iv B) (more top
     → v.hi ≡ min (high_at cells y + more) top → high_at cells x ≤ top
     → high_at (set cells y v) x ≡ min top (high_at cells x + (if y == x then more else 0))
 high_more cells y x v more top inside e small = elim (eqb_tells y x) [
-  | inl p ↦ rw (p.0, ← p.1) (high_set cells y y v inside ∙ ap (λ b. if b then v.hi else high_at cells y) (eq-eqb y y refl)
+  | inl p ↦ rw (p.0, ← p.1) (high_set cells y y v inside
+      ∙ ap (λ b. if b then v.hi else high_at cells y) (eq-eqb y y refl)
       ∙ omega (arith, e))
-  | inr p ↦ rw p.0 (high_set cells y x v inside ∙ ap (λ b. if b then v.hi else high_at cells x) p.0 ∙ omega (arith, small))
+  | inr p ↦ rw p.0 (high_set cells y x v inside ∙ ap (λ b. if b then v.hi else high_at cells x) p.0
+      ∙ omega (arith, small))
 ]
 
 -- y lies past the grid, and x on it
@@ -154,7 +167,8 @@ pub elsewhere_same : (clause : Clause) (f : ℕ → ℕ) (s x y total : ℕ) →
 elsewhere_same clause f s x y total here same e =
     omega (arith, e, elsewhere_here clause f s y x here, ap (λ b. if b then 0 else f s) (eq-eqb x y same))
 
-pub elsewhere_fits : {B : ℕ} (clause : Clause) (cells : List (Iv B)) (s y total part : ℕ) → IsGrid cells → s < length cells
+pub elsewhere_fits : {B : ℕ} (clause : Clause) (cells : List (Iv B)) (s y total part : ℕ) → IsGrid cells
+    → s < length cells
     → total ≡ sum_elsewhere clause s (high_at cells) y → part ≡ high_at cells s → total + part ≤ 2 ^ 71
 elsewhere_fits {B} clause cells s y total part grid inside e h =
     omega (
@@ -177,15 +191,24 @@ pub kept_fits : {B : ℕ} (clause : Clause) (cells : List (Iv B)) (s mass part :
     → mass ≤ count_below s (where_whole clause (low_at cells)) → part ≡ low_at cells s
     → mass + part ≤ 2 ^ B
 kept_fits clause cells s mass part grid h e =
-    omega (arith, h, e, whole_le clause (low_at cells) s, count_below_more s (low_at cells), low_most cells (s + 1) grid)
+    omega (
+      arith,
+      h,
+      e,
+      whole_le clause (low_at cells) s,
+      count_below_more s (low_at cells),
+      low_most cells (s + 1) grid,
+    )
 
 -- the cell of x after a sum of which the clause keeps y
-pub kept_more : (clause : Clause) (f : ℕ → ℕ) (s x y old new part : ℕ) → kept clause s ≡ whole y → part ≡ f s → old ≡ sum_kept clause s f x
+pub kept_more : (clause : Clause) (f : ℕ → ℕ) (s x y old new part : ℕ) → kept clause s ≡ whole y → part ≡ f s
+    → old ≡ sum_kept clause s f x
     → new ≡ old + (if y == x then part else 0) → new ≡ sum_kept clause (s + 1) f x
 kept_more clause f s x y old new part here h e more =
     omega (arith, e, more, kept_here clause f s x y here, ap (λ t. if y == x then t else 0) h)
 
-pub kept_more_clamped : (clause : Clause) (f : ℕ → ℕ) (s x y top old new part : ℕ) → kept clause s ≡ whole y → part ≡ f s
+pub kept_more_clamped : (clause : Clause) (f : ℕ → ℕ) (s x y top old new part : ℕ)
+    → kept clause s ≡ whole y → part ≡ f s
     → old ≡ min top (sum_kept clause s f x)
     → new ≡ min top (old + (if y == x then part else 0)) → new ≡ min top (sum_kept clause (s + 1) f x)
 kept_more_clamped clause f s x y top old new part here h e more =

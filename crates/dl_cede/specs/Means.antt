@@ -1,10 +1,12 @@
--- The mean of what a clause keeps of the sum of a unit's claims: what an interval is to hold, and how wide it may be.
-use Rattle.std.specs.Prelude.{ℕ, ◌+◌, ◌*◌, ◌^◌, Option, None, Some, List, [], ◌∷◌, sum_by}
-use Rattle.dl_exact.specs.Fraction.{◌over◌}
+-- The mean of what a clause keeps of the sum of a unit's claims: what an interval is to hold, and
+-- how wide it may be.
+use Rattle.std.specs.Prelude.{ℕ, ◌^◌, List, [], ◌∷◌}
+use Rattle.dl_exact.specs.Fraction.{whole, ◌over◌, ◌*ℚ◌}
+use Rattle.dl_exact.specs.Rounding.{IsFloor, IsCeiling}
 use Rattle.dl_iv.specs.declared.interval.Iv.{Iv}
 use Rattle.dl_plan.specs.declared.cede.CedeLayer.{CedeLayer}
 use Rattle.dl_plan.specs.declared.plan.Unit.{Unit as UnitOfPlan}
-use Rattle.dl_plan.specs.Cession.{Clause}
+use Rattle.dl_plan.specs.Valid.{declared_mean}
 use Rattle.dl_model.specs.Series.{Holds}
 use Rattle.dl_model.specs.Program.{One, Mean, partial_sums}
 use Rattle.dl_model.specs.Plans.{aggregate_of, claims_of, mean_ceded}
@@ -12,14 +14,23 @@ use Rattle.dl_model.specs.Plans.{aggregate_of, claims_of, mean_ceded}
 -- the interval holds the mean of the sum of the claims, before the clause
 abbrev pub HoldsClaims : {B : ℕ} → UnitOfPlan → Iv B → Type 0
 HoldsClaims {B} u mean =
-    Holds (partial_sums (claims_of u ∷ []) Mean) (partial_sums (claims_of u ∷ []) One) (mean.lo over 2 ^ B) (mean.hi over 2 ^ B)
+    Holds (partial_sums (claims_of u ∷ []) Mean) (partial_sums (claims_of u ∷ []) One)
+    (mean.lo over 2 ^ B) (mean.hi over 2 ^ B)
+
+-- the ends are the floor and the ceiling of that mean in the units of the scale: no interval that
+-- holds it is narrower
+pub record AreNearestEnds {B : ℕ} (u : UnitOfPlan) (mean : Iv B) : Type 0 where
+  pub floor : IsFloor (whole (2 ^ B) *ℚ declared_mean u) mean.lo
+  pub ceiling : IsCeiling (whole (2 ^ B) *ℚ declared_mean u) mean.hi
 
 -- the interval holds the mean of what layers take of that sum, each by its share
 abbrev pub HoldsCeded : {B : ℕ} → UnitOfPlan → List CedeLayer → Iv B → Type 0
 HoldsCeded {B} u layers mean =
-    Holds (mean_ceded u layers) (partial_sums (claims_of u ∷ []) One) (mean.lo over 2 ^ B) (mean.hi over 2 ^ B)
+    Holds (mean_ceded u layers) (partial_sums (claims_of u ∷ []) One) (mean.lo over 2 ^ B)
+    (mean.hi over 2 ^ B)
 
 -- the interval holds the mean of the unit, after its clause
 abbrev pub HoldsMean : {B : ℕ} → UnitOfPlan → Iv B → Type 0
 HoldsMean {B} u mean =
-    Holds (partial_sums (aggregate_of u ∷ []) Mean) (partial_sums (aggregate_of u ∷ []) One) (mean.lo over 2 ^ B) (mean.hi over 2 ^ B)
+    Holds (partial_sums (aggregate_of u ∷ []) Mean) (partial_sums (aggregate_of u ∷ []) One)
+    (mean.lo over 2 ^ B) (mean.hi over 2 ^ B)

@@ -1,12 +1,13 @@
 //! The grid of what a clause keeps.
 
 ghost use Rattle.std.specs.Prelude.{◌≡◌, ◌≢◌, ℕ, ◌+◌, ◌-◌, ◌*◌, ◌^◌, ◌<◌, ◌≤◌, ◌==◌, if◌then◌else◌, min, length, IfOk, IsSome, MatchOption};
+ghost use Rattle.dl_limits.specs.Limits.{most_cells};
 ghost use Rattle.dl_exact.specs.Fraction.{whole};
 ghost use Rattle.dl_grid.specs.Cells.{low_at, high_at, mass_low, spread};
 ghost use Rattle.dl_exact.specs.Count.{count_below};
 ghost use Rattle.dl_model.specs.Family.{mapped, GridEncloses};
 ghost use Rattle.dl_model.specs.Plans.{aggregate_of, compound_of};
-ghost use Rattle.dl_plan.specs.Cession.{kept, IsCession};
+ghost use Rattle.dl_plan.specs.Clause.{kept, IsClause};
 ghost use Rattle.dl_plan.specs.Horizon.{IsHorizonOf};
 ghost use Rattle.dl_plan.specs.Valid.{IsValidUnit};
 ghost use Rattle.dl_cede.specs.Kept.{width_at, where_whole, sum_elsewhere, IsTakenIn, IsLeft};
@@ -14,27 +15,11 @@ ghost use Rattle.dl_cede.specs.Kept.{width_at, where_whole, sum_elsewhere, IsTak
 use dl_grid::{Grid, units_of_one};
 use dl_iv::Iv;
 use dl_plan::{Cede, Unit};
+use dl_power::nowhere;
 use std::alloc::{AllocError, Global};
 
-/// The grid whose cells are all 0.
-fn nowhere<const B: u32>(alloc: Global, cells: u32) -> Result<Grid<B>, AllocError>
-    requires scale_above { 1 ≤ B }
-    requires scale_below { B ≤ 56 }
-    requires some { 1 ≤ cells }
-    requires few { cells ≤ 16384 }
-    ensures cells { IfOk result (λ g. length g ≡ cells) }
-    ensures low { IfOk result (λ g. (x : ℕ) → low_at g x ≡ 0) }
-    ensures high { IfOk result (λ g. (x : ℕ) → high_at g x ≡ 0) }
-    ensures mass { IfOk result (λ g. mass_low g ≡ 0) }
-    ensures spread { IfOk result (λ g. spread g ≡ 0) }
-{
-    let mut grid = Grid::zero(alloc, cells)?;
-    grid.set(0, Iv::point(0));
-    Ok(grid)
-}
-
-/// Adds `more` to the cell of `y` buckets, and lowers its high end to 1 where it is above. Nothing is
-/// added where `y` lies past the grid.
+/// Adds `more` to the cell of `y` buckets, and lowers its high end to 1 where it is above. Nothing
+/// is added where `y` lies past the grid.
 fn add_at<const B: u32>(grid: &mut Grid<B>, y: u64, more: Iv<B>)
     requires small { more.hi ≤ 2 ^ B }
     requires mass { mass_low grid.old + more.lo ≤ 2 ^ B }
@@ -42,7 +27,8 @@ fn add_at<const B: u32>(grid: &mut Grid<B>, y: u64, more: Iv<B>)
     ensures low { (x : ℕ) → x < length grid.old
         → low_at grid.new x ≡ low_at grid.old x + (if y == x then more.entry.lo else 0) }
     ensures high { (x : ℕ) → x < length grid.old
-        → high_at grid.new x ≡ min (2 ^ B) (high_at grid.old x + (if y == x then more.entry.hi else 0)) }
+        → high_at grid.new x
+        ≡ min (2 ^ B) (high_at grid.old x + (if y == x then more.entry.hi else 0)) }
     ensures mass { mass_low grid.new ≤ mass_low grid.old + more.entry.lo }
     ensures spread { spread grid.new ≤ spread grid.old + (more.entry.hi - more.entry.lo) }
 {
@@ -53,8 +39,8 @@ fn add_at<const B: u32>(grid: &mut Grid<B>, y: u64, more: Iv<B>)
     }
 }
 
-/// Each cell of `sums` is taken in by the cell of what the clause keeps of its number of buckets. What
-/// lies past the first `cells` cells is left out.
+/// Each cell of `sums` is taken in by the cell of what the clause keeps of its number of buckets.
+/// What lies past the first `cells` cells is left out.
 fn taken_in<const B: u32>(
     alloc: Global,
     cede: &Cede,
@@ -63,9 +49,9 @@ fn taken_in<const B: u32>(
 ) -> Result<Grid<B>, AllocError>
     requires scale_above { 1 ≤ B }
     requires scale_below { B ≤ 56 }
-    requires cession { IsCession cede.now }
+    requires clause { IsClause cede.now }
     requires some { 1 ≤ cells }
-    requires few { cells ≤ 16384 }
+    requires few { cells ≤ most_cells }
     ensures cells { IfOk result (λ g. length g ≡ cells) }
     ensures ends { IfOk result (λ g. (y : ℕ) → y < cells → IsTakenIn cede.now sums.now g y) }
     ensures mass { IfOk result (λ g. mass_low g
@@ -86,7 +72,7 @@ fn taken_in<const B: u32>(
 fn elsewhere<const B: u32>(cede: &Cede, sums: &Grid<B>, y: u32) -> Iv<B>
     requires scale_above { 1 ≤ B }
     requires scale_below { B ≤ 56 }
-    requires cession { IsCession cede.now }
+    requires clause { IsClause cede.now }
     ensures low { result.lo ≡ sum_elsewhere cede.now (length sums.now) (low_at sums.now) y }
     ensures high { result.hi ≡ sum_elsewhere cede.now (length sums.now) (high_at sums.now) y }
     ensures within { result.lo ≤ 2 ^ B }
@@ -104,7 +90,7 @@ fn elsewhere<const B: u32>(cede: &Cede, sums: &Grid<B>, y: u32) -> Iv<B>
 
 /// What the clause keeps of the first sum past a grid, where that is a whole number below `cells`.
 fn kept_past(cede: &Cede, sums: u32, cells: u32) -> Option<u32>
-    requires cession { IsCession cede.now }
+    requires clause { IsClause cede.now }
     ensures { MatchOption result ((y : ℕ) → y < cells → kept cede.now sums ≢ whole y)
         (λ y. (y < cells) × (kept cede.now sums ≡ whole y)) }
 {
@@ -114,9 +100,9 @@ fn kept_past(cede: &Cede, sums: u32, cells: u32) -> Option<u32>
     }
 }
 
-/// The first `cells` cells of what the clause keeps of a sum. Each takes in the cells of all sums that
-/// the clause maps to it; where the first sum past the grid is one of them, it is what the cells of all
-/// other sums leave of 1.
+/// The first `cells` cells of what the clause keeps of a sum. Each takes in the cells of all sums
+/// that the clause maps to it; where the first sum past the grid is one of them, it is what the
+/// cells of all other sums leave of 1.
 pub(crate) fn kept_cells<const B: u32>(
     alloc: Global,
     cede: &Cede,
@@ -125,11 +111,12 @@ pub(crate) fn kept_cells<const B: u32>(
 ) -> Result<Grid<B>, AllocError>
     requires scale_above { 1 ≤ B }
     requires scale_below { B ≤ 56 }
-    requires cession { IsCession cede.now }
+    requires clause { IsClause cede.now }
     requires some { 1 ≤ cells }
-    requires few { cells ≤ 16384 }
+    requires few { cells ≤ most_cells }
     ensures cells { IfOk result (λ g. length g ≡ cells) }
-    ensures inside { IfOk result (λ g. (y : ℕ) → y < cells → kept cede.now (length sums.now) ≢ whole y
+    ensures inside { IfOk result (λ g. (y : ℕ) → y < cells
+        → kept cede.now (length sums.now) ≢ whole y
         → IsTakenIn cede.now sums.now g y) }
     ensures past { IfOk result (λ g. (y : ℕ) → y < cells → kept cede.now (length sums.now) ≡ whole y
         → IsLeft cede.now sums.now g y) }
@@ -142,12 +129,13 @@ pub(crate) fn kept_cells<const B: u32>(
     Ok(grid)
 }
 
-/// The first `cells` cells of what the aggregate clause of a unit keeps, from a grid of the unit's sum
-/// of claims on as many cells as its horizon says. The unit is of a valid plan.
+/// The first `cells` cells of what the aggregate clause of a unit keeps, from a grid of the unit's
+/// sum of claims on as many cells as its horizon says. The unit is of a valid plan.
 ///
-/// Each cell takes in the cells of the sums that the clause maps to it. Past the horizon the clause has
-/// reached the cells, or is constant: then one cell takes in all of the large sums, and it is what the
-/// cells of all other sums leave of 1. The result is the one allocation, and `AllocError` its refusal.
+/// Each cell takes in the cells of the sums that the clause maps to it. Past the horizon the clause
+/// has reached the cells, or is constant: then one cell takes in all of the large sums, and it is
+/// what the cells of all other sums leave of 1. The result is the one allocation, and `AllocError`
+/// its refusal.
 pub fn cede_grid<const B: u32>(
     alloc: Global,
     unit: &Unit,
@@ -157,7 +145,7 @@ pub fn cede_grid<const B: u32>(
     requires scale_above { 1 ≤ B }
     requires scale_below { B ≤ 56 }
     requires some { 1 ≤ cells }
-    requires few { cells ≤ 16384 }
+    requires few { cells ≤ most_cells }
     requires valid { (all : ℕ) × IsValidUnit all unit.now }
     requires clause { IsSome unit.now.cede }
     requires horizon { IsHorizonOf unit.now.cede cells (length grid.now) }

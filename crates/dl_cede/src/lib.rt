@@ -1,10 +1,12 @@
-//! Aggregate clauses: what is kept of a unit's sum of claims, from the grid of the sum, and its mean.
+//! Aggregate clauses: what is kept of a unit's sum of claims, from the grid of the sum, and its
+//! mean.
 //!
-//! A clause maps each sum to a number of buckets and never falls, so that a few cells of the sum tell
-//! each cell of what is kept. The cell that takes in all large sums is told by what the others leave of
-//! 1. The mean is told by the means of the clause's layers, and by the mean of the sum, which needs no
-//! grid: so no part of it is cut off where the grid ends. The clauses speak of a unit of a valid plan,
-//! whatever its count.
+//! A clause maps each sum to a number of buckets and never falls, so that a few cells of the sum
+//! tell each cell of what is kept. The cell that takes in all large sums is told by what the others
+//! leave of
+//! 1. The mean is told by the means of the clause's layers, and by the mean of the sum, which needs
+//! no grid: so no part of it is cut off where the grid ends. The clauses speak of a unit of a valid
+//!    plan, whatever its count.
 #![tactic(auto)]
 
 mod grid;

@@ -1,17 +1,18 @@
 //! The mean of what a clause keeps.
 
-ghost use Rattle.std.specs.Prelude.{ℕ, ◌≡◌, ◌+◌, ◌-◌, ◌^◌, ◌≤◌, Some, [], ◌∷◌, length, All, sum_by};
+ghost use Rattle.std.specs.Prelude.{ℕ, ◌≡◌, ◌+◌, ◌-◌, ◌^◌, ◌≤◌, None, Some, [], ◌∷◌, length, All, sum_by};
+ghost use Rattle.dl_limits.specs.Limits.{most_parts};
 ghost use Rattle.dl_exact.specs.Fraction.{whole, ◌≤ℚ◌};
 ghost use Rattle.dl_grid.specs.Cells.{spread};
 ghost use Rattle.dl_plan.specs.declared.plan.Unit.{Unit as UnitOfPlan};
-ghost use Rattle.dl_plan.specs.Cession.{IsCession};
+ghost use Rattle.dl_plan.specs.Clause.{IsClause};
 ghost use Rattle.dl_plan.specs.Horizon.{edge, IsHorizonOf};
-ghost use Rattle.dl_plan.specs.Valid.{IsNear, IsValidUnit};
+ghost use Rattle.dl_plan.specs.Valid.{IsWithinMostAmount, IsValidUnit};
 ghost use Rattle.dl_model.specs.Family.{GridEncloses};
 ghost use Rattle.dl_model.specs.Plans.{compound_of};
 ghost use Rattle.dl_measures.specs.Layers.{layer_most};
 ghost use Rattle.dl_plan.specs.MeanWidth.{part_width, mean_width};
-ghost use Rattle.dl_cede.specs.Means.{HoldsClaims, HoldsCeded, HoldsMean};
+ghost use Rattle.dl_cede.specs.Means.{AreNearestEnds, HoldsClaims, HoldsCeded, HoldsMean};
 
 use dl_grid::Grid;
 use dl_iv::Iv;
@@ -25,6 +26,7 @@ pub fn claims_mean<const B: u32>(unit: &Unit) -> Iv<B>
     requires scale_below { B ≤ 56 }
     requires valid { (cells : ℕ) × IsValidUnit cells unit.now }
     ensures holds { HoldsClaims unit.now result }
+    ensures ends { AreNearestEnds unit.now result }
     ensures width { result.hi ≤ result.lo + 1 }
     ensures small { result.hi ≤ 2 ^ 92 }
 {
@@ -32,35 +34,39 @@ pub fn claims_mean<const B: u32>(unit: &Unit) -> Iv<B>
     Iv::enclose(num, den)
 }
 
-/// The mean of what a layer takes of the sum of a unit's claims, by its share, in buckets, from the grid
-/// of the sum and from its mean `claims`.
+/// The mean of what a layer takes of the sum of a unit's claims, by its share, in buckets, from the
+/// grid of the sum and from its mean `claims`.
 fn part_of<const B: u32>(layer: &CedeLayer, grid: &Grid<B>, claims: Iv<B>) -> Iv<B>
-    requires near { IsNear layer.now }
+    requires near { IsWithinMostAmount layer.now }
     requires share { layer.now.share ≤ℚ whole 1 }
-    requires fine { layer.now.share.den ≤ 2 ^ 30 }
+    requires fine { layer.now.share.den ≤ most_parts }
     requires inside { edge layer.now ≤ length grid.now }
     requires narrow { claims.hi ≤ claims.lo + 1 }
     requires small { claims.hi ≤ 2 ^ 92 }
     ensures holds { (cells : ℕ) (u : UnitOfPlan) → IsValidUnit cells u
-        → GridEncloses grid.now (compound_of u.freq u.sev) → HoldsClaims u claims.entry → HoldsCeded u (layer.now ∷ []) result }
-    ensures width { result.hi - result.lo ≤ part_width (spread grid.now) layer.now.limit layer.now.attach }
+        → GridEncloses grid.now (compound_of u.freq u.sev) → HoldsClaims u claims.entry
+        → HoldsCeded u (layer.now ∷ []) result }
+    ensures width { result.hi - result.lo ≤ part_width
+        (spread grid.now) layer.now.limit layer.now.attach }
     ensures small { result.hi ≤ layer_most layer.now.limit (2 ^ B) claims.entry.hi }
 {
     let mean = layer_mean(grid, layer.limit, layer.attach, claims);
     mean.scale(layer.share.num(), layer.share.den())
 }
 
-/// The mean of what the layers of a clause take of the sum of a unit's claims, each by its share, in
-/// buckets, from the grid of the sum and from its mean `claims`.
+/// The mean of what the layers of a clause take of the sum of a unit's claims, each by its share,
+/// in buckets, from the grid of the sum and from its mean `claims`.
 fn ceded_mean<const B: u32>(cede: &Cede, grid: &Grid<B>, claims: Iv<B>) -> Iv<B>
-    requires cession { IsCession cede.now }
-    requires near { All IsNear cede.now.1 }
+    requires clause { IsClause cede.now }
+    requires near { All IsWithinMostAmount cede.now.1 }
     requires inside { All (λ l. edge l ≤ length grid.now) cede.now.1 }
     requires narrow { claims.hi ≤ claims.lo + 1 }
     requires small { claims.hi ≤ 2 ^ 92 }
     ensures holds { (cells : ℕ) (u : UnitOfPlan) → IsValidUnit cells u
-        → GridEncloses grid.now (compound_of u.freq u.sev) → HoldsClaims u claims.entry → HoldsCeded u cede.now.1 result }
-    ensures width { result.hi - result.lo ≤ sum_by (λ l. part_width (spread grid.now) l.limit l.attach) cede.now.1 }
+        → GridEncloses grid.now (compound_of u.freq u.sev) → HoldsClaims u claims.entry
+        → HoldsCeded u cede.now.1 result }
+    ensures width { result.hi - result.lo ≤ sum_by
+        (λ l. part_width (spread grid.now) l.limit l.attach) cede.now.1 }
     ensures small { result.hi ≤ 2 ^ 93 }
 {
     let mut ceded = Iv::point(0);
@@ -71,16 +77,17 @@ fn ceded_mean<const B: u32>(cede: &Cede, grid: &Grid<B>, claims: Iv<B>) -> Iv<B>
     ceded
 }
 
-/// The mean of what a clause keeps of the sum of a unit's claims, in buckets: on the ceded side what its
-/// layers take, and on the net side what this leaves of `claims`, the mean of the sum.
+/// The mean of what a clause keeps of the sum of a unit's claims, in buckets: on the ceded side
+/// what its layers take, and on the net side what this leaves of `claims`, the mean of the sum.
 pub(crate) fn kept_mean<const B: u32>(cede: &Cede, grid: &Grid<B>, claims: Iv<B>) -> Iv<B>
-    requires cession { IsCession cede.now }
-    requires near { All IsNear cede.now.1 }
+    requires clause { IsClause cede.now }
+    requires near { All IsWithinMostAmount cede.now.1 }
     requires inside { All (λ l. edge l ≤ length grid.now) cede.now.1 }
     requires narrow { claims.hi ≤ claims.lo + 1 }
     requires small { claims.hi ≤ 2 ^ 92 }
     ensures holds { (cells : ℕ) (u : UnitOfPlan) → IsValidUnit cells u → u.cede ≡ Some cede.now
-        → GridEncloses grid.now (compound_of u.freq u.sev) → HoldsClaims u claims.entry → HoldsMean u result }
+        → GridEncloses grid.now (compound_of u.freq u.sev) → HoldsClaims u claims.entry
+        → HoldsMean u result }
     ensures width { result.hi - result.lo ≤ mean_width (Some cede.now) (spread grid.now) }
     ensures small { result.hi ≤ 2 ^ 93 }
 {
@@ -92,10 +99,10 @@ pub(crate) fn kept_mean<const B: u32>(cede: &Cede, grid: &Grid<B>, claims: Iv<B>
     }
 }
 
-/// The mean of a unit of a valid plan after its aggregate clause, in buckets, from the grid of the sum
-/// of its claims before the clause. The grid is as long as the clause's horizon for some number of
-/// cells, so that each layer begins on it, and ends on it where it has a limit. Without a clause the grid
-/// is not looked at. It takes no memory.
+/// The mean of a unit of a valid plan after its aggregate clause, in buckets, from the grid of the
+/// sum of its claims before the clause. The grid is as long as the clause's horizon for some number
+/// of cells, so that each layer begins on it, and ends on it where it has a limit. Without a clause
+/// the grid is not looked at. It takes no memory.
 pub fn cede_mean<const B: u32>(unit: &Unit, grid: &Grid<B>) -> Iv<B>
     requires scale_above { 1 ≤ B }
     requires scale_below { B ≤ 56 }
@@ -103,6 +110,7 @@ pub fn cede_mean<const B: u32>(unit: &Unit, grid: &Grid<B>) -> Iv<B>
     requires horizon { (cells : ℕ) × IsHorizonOf unit.now.cede cells (length grid.now) }
     requires encloses { GridEncloses grid.now (compound_of unit.now.freq unit.now.sev) }
     ensures holds { HoldsMean unit.now result }
+    ensures plain { unit.now.cede ≡ None → AreNearestEnds unit.now result }
     ensures width { result.hi - result.lo ≤ mean_width unit.now.cede (spread grid.now) }
     ensures small { result.hi ≤ 2 ^ 93 }
 {

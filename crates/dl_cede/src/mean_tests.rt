@@ -10,8 +10,8 @@ use dl_iv::Iv;
 use dl_plan::{Cede, CedeLayer};
 use std::alloc::{AllocError, Global};
 
-/// One layer with a share in halves: what it takes is kept, or left out. The mean is so many 72nds of a
-/// bucket. Of the sum so many cells are there.
+/// One layer with a share in halves: what it takes is kept, or left out. The mean is so many 72nds
+/// of a bucket. Of the sum so many cells are there.
 #[derive(Clone, Copy, Debug)]
 struct Case {
     net: bool,
@@ -40,7 +40,7 @@ fn is_held<const B: u32>(alloc: Global, case: Case) -> Result<bool, AllocError>
     if case.cells == 0 || case.cells > 13 || layer.edge() > u64::from(case.cells) {
         return Ok(false);
     }
-    if !cede.is_cession() {
+    if !cede.is_clause() {
         return Ok(false);
     }
     let one = units_of_one(B);

@@ -12,8 +12,8 @@ use std::alloc::{AllocError, Global};
 /// In how many of 36 throws the two dice show so many points.
 const DICE: [u32; 13] = [0, 0, 1, 2, 3, 4, 5, 6, 5, 4, 3, 2, 1];
 
-/// Each point costs so many buckets. One layer with a share in halves: what it takes is kept, or left
-/// out. Of the first `cells` cells each is to have its part of 36.
+/// Each point costs so many buckets. One layer with a share in halves: what it takes is kept, or
+/// left out. Of the first `cells` cells each is to have its part of 36.
 #[derive(Clone, Copy, Debug)]
 struct Case {
     buckets: u32,
@@ -95,7 +95,7 @@ fn answer<const B: u32>(alloc: Global, case: Case) -> Result<bool, AllocError>
         attach: case.attach,
     };
     let cede = Cede::from_slice(alloc, case.net, &[layer])?;
-    if !cede.is_cession() || case.cells == 0 || case.cells > 8 {
+    if !cede.is_clause() || case.cells == 0 || case.cells > 8 {
         return Ok(false);
     }
     let horizon = cede.horizon(case.cells);

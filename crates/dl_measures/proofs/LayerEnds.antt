@@ -20,42 +20,59 @@ use Rattle.dl_model.proofs.Declared.{at_most_wider}
 use Rattle.dl_model.proofs.Minus.{at_most_minus}
 use Rattle.dl_model.proofs.Outcomes.{outcomes_rise}
 use Rattle.dl_model.proofs.Scores.{mean_split}
-use Rattle.dl_model.proofs.Ends.{layer_ends, excess_ends}
+use Rattle.dl_model.proofs.Ends.{excess_ends}
+use Rattle.dl_measures.proofs.CellEnds.{layer_ends}
 use Rattle.dl_exact.proofs.Denominators.{over_plus}
 use Rattle.dl_exact.proofs.Counts.{below_more, below_bound}
 use Rattle.dl_model.proofs.Bounded.{are_units, quantity_bounded}
-use Rattle.dl_model.proofs.Widths.{layer_width as layer_apart}
+use Rattle.dl_measures.proofs.Widths.{layer_width as layer_apart}
 use Rattle.dl_grid.specs.Width.{layer_width}
-use Rattle.dl_measures.specs.Layers.{cells_under, layer_most}
+use Rattle.dl_plan.specs.Horizon.{edge_of}
+use Rattle.dl_measures.specs.Layers.{layer_most}
 use Rattle.dl_measures.proofs.Sums.{apart, low_most}
 use Rattle.dl_measures.proofs.Reached.{more}
 
 -- the ends of the layer of a limit, in units of 1/S
 abbrev pub low_units : {B : ℕ} → List (Iv B) → ℕ → ℕ → ℕ
-low_units {B} cells limit attachment = count_below limit (λ i. 2 ^ B - min (2 ^ B) (count_below (suc (attachment + i)) (high_at cells)))
+low_units {B} cells limit attachment = count_below limit
+    (λ i. 2 ^ B - min (2 ^ B) (count_below (suc (attachment + i)) (high_at cells)))
 
 abbrev pub high_units : {B : ℕ} → List (Iv B) → ℕ → ℕ → ℕ
-high_units {B} cells limit attachment = count_below limit (λ i. 2 ^ B - count_below (suc (attachment + i)) (low_at cells))
+high_units {B} cells limit attachment = count_below limit
+    (λ i. 2 ^ B - count_below (suc (attachment + i)) (low_at cells))
 
-pub with_limit : {B : ℕ} (cells : List (Iv B)) (us : List Aggregate) (limit attachment : ℕ) → IsGrid cells → AreDeclared us → GridEncloses cells (total us)
+pub with_limit : {B : ℕ} (cells : List (Iv B)) (us : List Aggregate) (limit attachment : ℕ) → IsGrid cells
+    → AreDeclared us → GridEncloses cells (total us)
     → attachment + limit ≤ length cells
-    → Holds (partial_sums us (Layer (Some limit) attachment)) (partial_sums us One) (low_units cells limit attachment over 2 ^ B) (high_units cells limit attachment over 2 ^ B)
+    → Holds (partial_sums us (Layer (Some limit) attachment)) (partial_sums us One)
+    (low_units cells limit attachment over 2 ^ B) (high_units cells limit attachment over 2 ^ B)
 with_limit {B} cells us limit attachment grid d e inside =
     let bound = quantity_bounded us One d tt in
-    layer_ends us (2 ^ B) (length cells) (low_at cells) (high_at cells) bound.0 (are_units us d) (pow_pos B) e bound.1 (low_most cells (length cells) grid) limit attachment inside
+    layer_ends us (2 ^ B) (length cells) (low_at cells) (high_at cells) bound.0 (are_units us d) (pow_pos B) e bound.1
+    (low_most cells (length cells) grid) limit attachment inside
 
-pub limit_width : {B : ℕ} (cells : List (Iv B)) (limit attachment : ℕ) → high_units cells limit attachment - low_units cells limit attachment ≤ limit * spread cells
+pub limit_width : {B : ℕ} (cells : List (Iv B)) (limit attachment : ℕ)
+    → high_units cells limit attachment - low_units cells limit attachment ≤ limit * spread cells
 limit_width {B} cells limit attachment =
-    omega (arith, layer_apart (2 ^ B) limit attachment (spread cells) (low_at cells) (high_at cells) (λ i h. apart cells (suc (attachment + i))))
+    omega (
+      arith,
+      layer_apart (2 ^ B) limit attachment (spread cells) (low_at cells) (high_at cells)
+          (λ i h. apart cells (suc (attachment + i))),
+    )
 
 -- what a layer below leaves of the mean of the total
 excess_low : (us : List Aggregate) (attachment S l h m n : ℕ) → 0 < S → AreDeclared us
-    → Holds (partial_sums us Mean) (partial_sums us One) (m over S) (n over S) → Holds (partial_sums us (Layer (Some attachment) 0)) (partial_sums us One) (l over S) (h over S)
+    → Holds (partial_sums us Mean) (partial_sums us One) (m over S) (n over S)
+    → Holds (partial_sums us (Layer (Some attachment) 0)) (partial_sums us One) (l over S) (h over S)
     → AtLeast (partial_sums us (Layer None attachment)) (partial_sums us One) ((m - h) over S)
 excess_low us attachment S l h m n s d mean layer = elim (cases_lt m h) [
-  | inl less ↦ λ N u b. subst (λ t. t ≤ℚ u) (sym (ap (λ t. t *ℚ partial_sums us One N) (none (m - h) (omega arith)) ∙ zero_times (partial_sums us One N))) (zero_le u)
-  | inr more ↦ (excess_ends us attachment (l over S) (h over S) (m over S) (n over S) ((m - h) over S) (n over S) (quantity_bounded us One d tt).0 (are_units us d) (quantity_bounded us One d tt).1 mean layer
-      (subst (λ t. t ≤ℚ m over S) (sym (over_plus (m - h) h S s)) (over_le _ _ _ _ s s (mul-le-mul_right S (omega arith))))
+  | inl less ↦ λ N u b. subst (λ t. t ≤ℚ u)
+      (sym (ap (λ t. t *ℚ partial_sums us One N) (none (m - h) (omega arith)) ∙ zero_times (partial_sums us One N)))
+      (zero_le u)
+  | inr more ↦ (excess_ends us attachment (l over S) (h over S) (m over S) (n over S) ((m - h) over S) (n over S)
+      (quantity_bounded us One d tt).0 (are_units us d) (quantity_bounded us One d tt).1 mean layer
+      (subst (λ t. t ≤ℚ m over S) (sym (over_plus (m - h) h S s))
+      (over_le _ _ _ _ s s (mul-le-mul_right S (omega arith))))
       (subst (λ t. n over S ≤ℚ t) (sym (over_plus n l S s)) (over_le _ _ _ _ s s (mul-le-mul_right S (omega arith))))).0
 ]
   where
@@ -63,25 +80,34 @@ excess_low us attachment S l h m n s d mean layer = elim (cases_lt m h) [
     none k e = over_same k S 0 1 s one_pos (omega (arith, ap (λ t. t * 1) e))
 
 excess_high : (us : List Aggregate) (attachment S l h m n : ℕ) → 0 < S → AreDeclared us
-    → Holds (partial_sums us Mean) (partial_sums us One) (m over S) (n over S) → Holds (partial_sums us (Layer (Some attachment) 0)) (partial_sums us One) (l over S) (h over S)
+    → Holds (partial_sums us Mean) (partial_sums us One) (m over S) (n over S)
+    → Holds (partial_sums us (Layer (Some attachment) 0)) (partial_sums us One) (l over S) (h over S)
     → AtMost (partial_sums us (Layer None attachment)) (partial_sums us One) ((n - l) over S)
 excess_high us attachment S l h m n s d mean layer =
     let w = are_units us d in
-    let parts : partial_sums us Mean ≡ plus (partial_sums us (Layer None attachment)) (partial_sums us (Layer (Some attachment) 0)) = fun_ext (λ N. sym (mean_split us attachment N)) in
-    let enough : n over S ≤ℚ (n - l) over S +ℚ l over S = subst (λ t. n over S ≤ℚ t) (sym (over_plus (n - l) l S s)) (over_le _ _ _ _ s s (mul-le-mul_right S (omega arith))) in
-    at_most_minus (partial_sums us (Layer None attachment)) (partial_sums us (Layer (Some attachment) 0)) (partial_sums us One) ((n - l) over S) (l over S)
+    let parts : partial_sums us Mean ≡ plus (partial_sums us (Layer None attachment))
+    (partial_sums us (Layer (Some attachment) 0)) = fun_ext (λ N. sym (mean_split us attachment N)) in
+    let enough : n over S ≤ℚ (n - l) over S +ℚ l over S = subst (λ t. n over S ≤ℚ t) (sym (over_plus (n - l) l S s))
+    (over_le _ _ _ _ s s (mul-le-mul_right S (omega arith))) in
+    at_most_minus (partial_sums us (Layer None attachment)) (partial_sums us (Layer (Some attachment) 0))
+    (partial_sums us One) ((n - l) over S) (l over S)
     (outcomes_rise us w (score (Layer None attachment))) (outcomes_rise us w (score (Layer (Some attachment) 0)))
-    (subst (λ t. AtMost t (partial_sums us One) ((n - l) over S +ℚ l over S)) parts (at_most_wider (partial_sums us Mean) (partial_sums us One) (n over S) ((n - l) over S +ℚ l over S) mean.1 enough))
+    (subst (λ t. AtMost t (partial_sums us One) ((n - l) over S +ℚ l over S)) parts
+    (at_most_wider (partial_sums us Mean) (partial_sums us One) (n over S)
+    ((n - l) over S +ℚ l over S) mean.1 enough))
     layer.0
 
-pub no_limit : {B : ℕ} (cells : List (Iv B)) (us : List Aggregate) (attachment m n : ℕ) → IsGrid cells → AreDeclared us → GridEncloses cells (total us)
+pub no_limit : {B : ℕ} (cells : List (Iv B)) (us : List Aggregate) (attachment m n : ℕ) → IsGrid cells → AreDeclared us
+    → GridEncloses cells (total us)
     → attachment ≤ length cells → Holds (partial_sums us Mean) (partial_sums us One) (m over 2 ^ B) (n over 2 ^ B)
     → Holds (partial_sums us (Layer None attachment)) (partial_sums us One)
     ((m - high_units cells attachment 0) over 2 ^ B) ((n - low_units cells attachment 0) over 2 ^ B)
 no_limit {B} cells us attachment m n grid d e inside mean =
     let layer = with_limit cells us attachment 0 grid d e (omega arith) in (
-      excess_low us attachment (2 ^ B) (low_units cells attachment 0) (high_units cells attachment 0) m n (pow_pos B) d mean layer,
-      excess_high us attachment (2 ^ B) (low_units cells attachment 0) (high_units cells attachment 0) m n (pow_pos B) d mean layer,
+      excess_low us attachment (2 ^ B) (low_units cells attachment 0) (high_units cells attachment 0) m n
+          (pow_pos B) d mean layer,
+      excess_high us attachment (2 ^ B) (low_units cells attachment 0) (high_units cells attachment 0) m n
+          (pow_pos B) d mean layer,
     )
 
 pub no_limit_width : {B : ℕ} (cells : List (Iv B)) (attachment m n : ℕ) → m ≤ n
@@ -93,23 +119,43 @@ no_limit_width cells attachment m n h = omega (arith, limit_width cells attachme
 next : (attachment i : ℕ) → suc (attachment + i) ≡ attachment + (i + 1)
 next attachment i = omega arith
 
-pub low_more : {B : ℕ} (cells : List (Iv B)) (attachment i s t d : ℕ) → s ≡ low_units cells i attachment → d ≡ count_below (attachment + (i + 1)) (high_at cells)
+pub low_more : {B : ℕ} (cells : List (Iv B)) (attachment i s t d : ℕ) → s ≡ low_units cells i attachment
+    → d ≡ count_below (attachment + (i + 1)) (high_at cells)
     → t ≡ 2 ^ B - d → s + t ≡ low_units cells (i + 1) attachment
 low_more {B} cells attachment i s t d e h k =
-    omega (arith, e, h, k, ap (λ n. count_below n (high_at cells)) (next attachment i), below_more i (λ i. 2 ^ B - min (2 ^ B) (count_below (suc (attachment + i)) (high_at cells))))
+    omega (
+      arith,
+      e,
+      h,
+      k,
+      ap (λ n. count_below n (high_at cells)) (next attachment i),
+      below_more i (λ i. 2 ^ B - min (2 ^ B) (count_below (suc (attachment + i)) (high_at cells))),
+    )
 
-pub high_more : {B : ℕ} (cells : List (Iv B)) (attachment i s t d : ℕ) → s ≡ high_units cells i attachment → d ≡ count_below (attachment + (i + 1)) (low_at cells)
+pub high_more : {B : ℕ} (cells : List (Iv B)) (attachment i s t d : ℕ) → s ≡ high_units cells i attachment
+    → d ≡ count_below (attachment + (i + 1)) (low_at cells)
     → t ≡ 2 ^ B - d → s + t ≡ high_units cells (i + 1) attachment
 high_more {B} cells attachment i s t d e h k =
-    omega (arith, e, h, k, ap (λ n. count_below n (low_at cells)) (next attachment i), below_more i (λ i. 2 ^ B - count_below (suc (attachment + i)) (low_at cells)))
+    omega (
+      arith,
+      e,
+      h,
+      k,
+      ap (λ n. count_below n (low_at cells)) (next attachment i),
+      below_more i (λ i. 2 ^ B - count_below (suc (attachment + i)) (low_at cells)),
+    )
 
-pub one_cell_more : (f : ℕ → ℕ) (attachment i s t : ℕ) → s ≡ count_below (attachment + i) f → t ≡ f (attachment + i) → s + t ≡ count_below (attachment + (i + 1)) f
+pub one_cell_more : (f : ℕ → ℕ) (attachment i s t : ℕ) → s ≡ count_below (attachment + i) f → t ≡ f (attachment + i)
+    → s + t ≡ count_below (attachment + (i + 1)) f
 one_cell_more f attachment i s t e h = more f (attachment + i) s t e h ∙ ap (λ n. count_below n f) (next attachment i)
 
-high_units_most : {B : ℕ} (cells : List (Iv B)) (limit attachment : ℕ) → high_units cells limit attachment ≤ limit * 2 ^ B
-high_units_most {B} cells limit attachment = below_bound limit (2 ^ B) (λ i. 2 ^ B - count_below (suc (attachment + i)) (low_at cells)) (λ i h. omega arith)
+high_units_most : {B : ℕ} (cells : List (Iv B)) (limit attachment : ℕ)
+    → high_units cells limit attachment ≤ limit * 2 ^ B
+high_units_most {B} cells limit attachment = below_bound limit (2 ^ B)
+    (λ i. 2 ^ B - count_below (suc (attachment + i)) (low_at cells)) (λ i h. omega arith)
 
-pub mean_fits : {B : ℕ} (cells : List (Iv B)) (attachment i s t d : ℕ) → IsGrid cells → i ≤ length cells → s ≡ high_units cells i attachment → t ≡ 2 ^ B - d → s + t ≤ 2 ^ 71
+pub mean_fits : {B : ℕ} (cells : List (Iv B)) (attachment i s t d : ℕ) → IsGrid cells → i ≤ length cells
+    → s ≡ high_units cells i attachment → t ≡ 2 ^ B - d → s + t ≤ 2 ^ 71
 mean_fits {B} cells attachment i s t d grid inside e h =
     let scale : B ≤ 56 = (scale_of cells grid.some).1 in
     let few : i ≤ 16384 = omega (arith, grid.few) in
@@ -126,36 +172,47 @@ module _ {B : ℕ} (cells seen : List (Iv B)) (limit : Option ℕ) (attachment k
   at_high : hi ≡ high_units cells k attachment
   at_high = high ∙ ap (λ t. high_units t k attachment) same
 
-  pub some_holds : (us : List Aggregate) → limit ≡ Some k → IsGrid cells → AreDeclared us → GridEncloses cells (total us) → cells_under limit attachment ≤ length cells
+  pub some_holds : (us : List Aggregate) → limit ≡ Some k → IsGrid cells → AreDeclared us
+      → GridEncloses cells (total us) → edge_of limit attachment ≤ length cells
       → Holds (partial_sums us (Layer limit attachment)) (partial_sums us One) (lo over 2 ^ B) (hi over 2 ^ B)
   some_holds us is grid d e inside =
-      subst (λ t. Holds (partial_sums us (Layer t attachment)) (partial_sums us One) (lo over 2 ^ B) (hi over 2 ^ B)) (sym is)
-      (subst₂ (λ l h. Holds (partial_sums us (Layer (Some k) attachment)) (partial_sums us One) (l over 2 ^ B) (h over 2 ^ B)) (sym at_low) (sym at_high)
-      (with_limit cells us k attachment grid d e (subst (λ t. cells_under t attachment ≤ length cells) is inside)))
+      subst (λ t. Holds (partial_sums us (Layer t attachment)) (partial_sums us One) (lo over 2 ^ B) (hi over 2 ^ B))
+      (sym is)
+      (subst₂ (λ l h. Holds (partial_sums us (Layer (Some k) attachment)) (partial_sums us One) (l over 2 ^ B)
+      (h over 2 ^ B)) (sym at_low) (sym at_high)
+      (with_limit cells us k attachment grid d e (subst (λ t. edge_of t attachment ≤ length cells) is inside)))
 
   pub some_width : (mean : ℕ) → limit ≡ Some k → hi - lo ≤ layer_width limit attachment mean (spread cells)
-  some_width mean is = subst (λ t. hi - lo ≤ layer_width t attachment mean (spread cells)) (sym is) (omega (arith, at_low, at_high, limit_width cells k attachment))
+  some_width mean is = subst (λ t. hi - lo ≤ layer_width t attachment mean (spread cells)) (sym is)
+      (omega (arith, at_low, at_high, limit_width cells k attachment))
 
   pub some_most : (mean : ℕ) → limit ≡ Some k → hi ≤ layer_most limit (2 ^ B) mean
-  some_most mean is = subst (λ t. hi ≤ layer_most t (2 ^ B) mean) (sym is) (omega (arith, at_high, high_units_most cells k attachment))
+  some_most mean is = subst (λ t. hi ≤ layer_most t (2 ^ B) mean) (sym is)
+      (omega (arith, at_high, high_units_most cells k attachment))
 
 module _ {B : ℕ} (cells seen : List (Iv B)) (limit : Option ℕ) (attachment lo hi l h m n : ℕ) (same : seen ≡ cells)
-    (low : l ≡ low_units seen attachment 0) (high : h ≡ high_units seen attachment 0) (left_low : lo ≡ m - h) (left_high : hi ≡ n - l) where
+    (low : l ≡ low_units seen attachment 0) (high : h ≡ high_units seen attachment 0) (left_low : lo ≡ m - h)
+    (left_high : hi ≡ n - l) where
   below_low : l ≡ low_units cells attachment 0
   below_low = low ∙ ap (λ t. low_units t attachment 0) same
 
   below_high : h ≡ high_units cells attachment 0
   below_high = high ∙ ap (λ t. high_units t attachment 0) same
 
-  pub none_holds : (us : List Aggregate) → limit ≡ None → IsGrid cells → AreDeclared us → GridEncloses cells (total us) → cells_under limit attachment ≤ length cells
+  pub none_holds : (us : List Aggregate) → limit ≡ None → IsGrid cells → AreDeclared us → GridEncloses cells (total us)
+      → edge_of limit attachment ≤ length cells
       → (limit ≡ None → Holds (partial_sums us Mean) (partial_sums us One) (m over 2 ^ B) (n over 2 ^ B))
       → Holds (partial_sums us (Layer limit attachment)) (partial_sums us One) (lo over 2 ^ B) (hi over 2 ^ B)
   none_holds us is grid d e inside mean =
-      subst (λ t. Holds (partial_sums us (Layer t attachment)) (partial_sums us One) (lo over 2 ^ B) (hi over 2 ^ B)) (sym is)
-      (subst₂ (λ s t. Holds (partial_sums us (Layer None attachment)) (partial_sums us One) (s over 2 ^ B) (t over 2 ^ B))
+      subst (λ t. Holds (partial_sums us (Layer t attachment)) (partial_sums us One) (lo over 2 ^ B) (hi over 2 ^ B))
+      (sym is)
+      (subst₂ (λ s t. Holds (partial_sums us (Layer None attachment)) (partial_sums us One) (s over 2 ^ B)
+      (t over 2 ^ B))
       (sym (left_low ∙ ap (λ t. m - t) below_high)) (sym (left_high ∙ ap (λ t. n - t) below_low))
-      (no_limit cells us attachment m n grid d e (subst (λ t. cells_under t attachment ≤ length cells) is inside) (mean is)))
+      (no_limit cells us attachment m n grid d e (subst (λ t. edge_of t attachment ≤ length cells) is inside)
+      (mean is)))
 
   pub none_width : limit ≡ None → m ≤ n → hi - lo ≤ layer_width limit attachment (n - m) (spread cells)
   none_width is ordered =
-      subst (λ t. hi - lo ≤ layer_width t attachment (n - m) (spread cells)) (sym is) (omega (arith, left_low, left_high, below_low, below_high, no_limit_width cells attachment m n ordered))
+      subst (λ t. hi - lo ≤ layer_width t attachment (n - m) (spread cells)) (sym is)
+      (omega (arith, left_low, left_high, below_low, below_high, no_limit_width cells attachment m n ordered))

@@ -1,3 +1,6 @@
+pub mod CellEnds
+mod FoundBrackets
+mod Widths
 pub mod Sums
 pub mod Reached
 pub mod LayerEnds

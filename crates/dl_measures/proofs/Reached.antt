@@ -12,13 +12,15 @@ use Rattle.dl_iv.specs.declared.interval.Iv.{Iv}
 use Rattle.dl_grid.specs.Cells.{low_at, high_at, spread, IsGrid}
 use Rattle.dl_grid.proofs.CellLaws.{scale_of, one_fits}
 use Rattle.dl_exact.specs.Count.{count_below}
-use Rattle.dl_model.specs.Program.{Aggregate, AreUnits, One}
+use Rattle.dl_model.specs.Program.{Aggregate, AreDeclarable, One}
 use Rattle.dl_model.specs.Family.{total, Encloses, GridEncloses}
-use Rattle.dl_model.specs.Measures.{low_cdf, high_cdf, IsQuantile, IsBracketed, IsTight, AreDeclared}
+use Rattle.dl_model.specs.Measures.{IsQuantile, IsBracketed, AreDeclared}
+use Rattle.dl_measures.specs.Ends.{low_cdf, high_cdf, IsTight}
 use Rattle.dl_exact.proofs.Counts.{below_nothing, below_grows}
-use Rattle.dl_model.proofs.Bracket.{bracket, tight, high_rises, quantile_inside}
+use Rattle.dl_model.proofs.Bracket.{quantile_inside}
+use Rattle.dl_measures.proofs.FoundBrackets.{bracket, tight, high_rises}
 use Rattle.dl_model.proofs.Bounded.{are_units, quantity_bounded, whole_positive}
-use Rattle.dl_measures.specs.Brackets.{IsFirst, IsFirstFound}
+use Rattle.dl_measures.specs.Brackets.{IsFirstAtLeast, IsFirstFound}
 use Rattle.dl_measures.proofs.Sums.{apart, low_high, low_most, high_most}
 
 -- ---- a sum of units against the probability
@@ -31,16 +33,19 @@ module _ (S c : ℕ) (p : Fraction) (s : 0 < S) where
   low_reaches h = subst (λ t. t ≤ℚ c over S) (over_self p) (over_le p.num p.den c S p.positive s h)
 
   pub high_short : c * p.den < p.num * S → min S c over S <ℚ p
-  high_short h = subst (λ t. min S c over S <ℚ t) (over_self p) (over_lt (min S c) S p.num p.den s p.positive (omega (arith, h, mul-le-mul_right p.den (smaller S c))))
+  high_short h = subst (λ t. min S c over S <ℚ t) (over_self p)
+      (over_lt (min S c) S p.num p.den s p.positive (omega (arith, h, mul-le-mul_right p.den (smaller S c))))
     where
       smaller : (a b : ℕ) → min a b ≤ b
       smaller a b = omega arith
 
   pub high_reaches : p <ℚ whole 1 → p.num * S ≤ c * p.den → p ≤ℚ min S c over S
-  high_reaches below h = subst (λ t. t ≤ℚ min S c over S) (over_self p) (over_le p.num p.den (min S c) S p.positive s (elim (cases_lt S c) [
-    | inl l ↦ subst (λ t. p.num * S ≤ t * p.den) (sym (left S c l)) (omega (arith, mul-le-mul_right S (at_most p below)))
-    | inr l ↦ subst (λ t. p.num * S ≤ t * p.den) (sym (right S c l)) h
-  ]))
+  high_reaches below h = subst (λ t. t ≤ℚ min S c over S) (over_self p)
+      (over_le p.num p.den (min S c) S p.positive s (elim (cases_lt S c) [
+        | inl l ↦ subst (λ t. p.num * S ≤ t * p.den) (sym (left S c l))
+            (omega (arith, mul-le-mul_right S (at_most p below)))
+        | inr l ↦ subst (λ t. p.num * S ≤ t * p.den) (sym (right S c l)) h
+      ]))
     where
       left : (a b : ℕ) → a < b → min a b ≡ a
       left a b l = omega arith
@@ -49,32 +54,42 @@ module _ (S c : ℕ) (p : Fraction) (s : 0 < S) where
       right a b l = omega arith
 
       at_most : (p : Fraction) → p <ℚ whole 1 → p.num ≤ p.den
-      at_most p h = omega (arith, lt_over p.num p.den 1 1 p.positive (omega arith) (subst (λ t. t <ℚ whole 1) (sym (over_self p)) h))
+      at_most p h = omega (
+        arith,
+        lt_over p.num p.den 1 1 p.positive (omega arith)
+            (subst (λ t. t <ℚ whole 1) (sym (over_self p)) h),
+      )
 
 -- ---- what the two first cells say
 
-module _ (us : List Aggregate) (S K : ℕ) (lo hi : ℕ → ℕ) (p : Fraction) (a : ℕ) (s : 0 < S) (e : Encloses S K lo hi (total us)) (w : AreUnits us)
-    (first : IsFirst (high_cdf S hi) p K a) where
+module _ (us : List Aggregate) (S K : ℕ) (lo hi : ℕ → ℕ) (p : Fraction) (a : ℕ) (s : 0 < S)
+    (e : Encloses S K lo hi (total us)) (w : AreDeclarable us)
+    (first : IsFirstAtLeast (high_cdf S hi) p K a) where
   pub bracketed : (b : Option ℕ) → IsFirstFound (low_cdf S lo) p K b → IsBracketed us a b p
   bracketed b found = bracket us S K lo hi p a b w s e first.within first.before (there b found)
     where
-      there : (b : Option ℕ) → IsFirstFound (low_cdf S lo) p K b → (x : ℕ) → b ≡ Some x → (x < K) × (p ≤ℚ low_cdf S lo x)
+      there : (b : Option ℕ) → IsFirstFound (low_cdf S lo) p K b → (x : ℕ) → b ≡ Some x
+          → (x < K) × (p ≤ℚ low_cdf S lo x)
       there None f x is = absurd (none-some x is)
       there (Some h) f x is = subst (λ t. (t < K) × (p ≤ℚ low_cdf S lo t)) (same h x is) (f.0, f.1.reached f.0)
         where
           same : (h x : ℕ) → Some h ≡ Some x → h ≡ x
           same h x is = cc
 
-  pub tightened : (b : Option ℕ) (spread : ℕ) → IsFirstFound (low_cdf S lo) p K b → ((x : ℕ) → x < K → count_below (suc x) hi ≤ count_below (suc x) lo + spread)
+  pub tightened : (b : Option ℕ) (spread : ℕ) → IsFirstFound (low_cdf S lo) p K b
+      → ((x : ℕ) → x < K → count_below (suc x) hi ≤ count_below (suc x) lo + spread)
       → IsTight us K a b p (spread over S)
   tightened b spread found narrow =
-      tight us S K lo hi p a b spread w s e (λ x from inside. le_trans _ _ _ (first.reached (omega arith)) (high_rises S hi a x s from)) (short b found) narrow
+      tight us S K lo hi p a b spread w s e (λ x from inside.
+      le_trans _ _ _ (first.reached (omega arith)) (high_rises S hi a x s from)) (short b found) narrow
     where
-      short : (b : Option ℕ) → IsFirstFound (low_cdf S lo) p K b → (x : ℕ) → x < K → ((y : ℕ) → b ≡ Some y → x < y) → low_cdf S lo x <ℚ p
+      short : (b : Option ℕ) → IsFirstFound (low_cdf S lo) p K b → (x : ℕ) → x < K → ((y : ℕ) → b ≡ Some y → x < y)
+          → low_cdf S lo x <ℚ p
       short None f x inside before = f.before x inside
       short (Some h) f x inside before = f.1.before x (before h refl)
 
-pub holds_quantile : (us : List Aggregate) (p : Fraction) (a q : ℕ) (b : Option ℕ) → AreDeclared us → IsQuantile us q p → IsBracketed us a b p
+pub holds_quantile : (us : List Aggregate) (p : Fraction) (a q : ℕ) (b : Option ℕ) → AreDeclared us → IsQuantile us q p
+    → IsBracketed us a b p
     → (a ≤ q) × ((x : ℕ) → b ≡ Some x → q ≤ x)
 holds_quantile us p a q b d is held =
     let bound = quantity_bounded us One d tt in
@@ -83,8 +98,8 @@ holds_quantile us p a q b d is held =
 
 -- ---- a walk over the grid
 
--- What the sums of the ends of the first x cells have shown, against `goal` in units of 1/S and 1/den: a is the first cell at which the
--- high ends reach it, and x where they have not yet; the low ends have not.
+-- What the sums of the ends of the first x cells have shown, against `goal` in units of 1/S and 1/den: a is the first
+-- cell at which the high ends reach it, and x where they have not yet; the low ends have not.
 pub record Walked (lo hi : ℕ → ℕ) (den goal x a low high : ℕ) : Type 0 where
   pub low_sum : low ≡ count_below x lo
   pub high_sum : high ≡ count_below x hi
@@ -109,11 +124,13 @@ unfolding count_below
 more f x s t e h = omega (arith, e, h)
 
 -- up to the next cell the low ends have not reached the goal
-still_short : (f : ℕ → ℕ) (den goal x s y : ℕ) → s ≡ count_below (suc x) f → s * den < goal → y < x + 1 → count_below (suc y) f * den < goal
+still_short : (f : ℕ → ℕ) (den goal x s y : ℕ) → s ≡ count_below (suc x) f → s * den < goal → y < x + 1
+    → count_below (suc y) f * den < goal
 still_short f den goal x s y e h inside =
     omega (arith, h, ap (λ t. t * den) e, mul-le-mul_right den (below_grows (suc y) (suc x) f (omega arith)))
 
-module _ (lo hi : ℕ → ℕ) (den goal x a low high l h : ℕ) (w : Walked lo hi den goal x a low high) (is_low : l ≡ lo x) (is_high : h ≡ hi x) (short : (low + l) * den < goal) where
+module _ (lo hi : ℕ → ℕ) (den goal x a low high l h : ℕ) (w : Walked lo hi den goal x a low high) (is_low : l ≡ lo x)
+    (is_high : h ≡ hi x) (short : (low + l) * den < goal) where
   pub passed : (high + h) * den < goal → Walked lo hi den goal (x + 1) (x + 1) (low + l) (high + h)
   passed high_too = record {
     low_sum = more lo x low l w.low_sum is_low ∙ ap (λ k. count_below k lo) (sym (add-one x));
@@ -132,7 +149,8 @@ module _ (lo hi : ℕ → ℕ) (den goal x a low high l h : ℕ) (w : Walked lo 
     before = w.before;
     reached = λ i. elim (cases_lt a x) [
       | inl less ↦ w.reached less
-      | inr last ↦ subst (λ k. goal ≤ count_below (suc k) hi * den) (same last) (subst (λ t. goal ≤ t * den) (more hi x high h w.high_sum is_high) enough)
+      | inr last ↦ subst (λ k. goal ≤ count_below (suc k) hi * den) (same last)
+          (subst (λ t. goal ≤ t * den) (more hi x high h w.high_sum is_high) enough)
     ];
     not_yet = λ y i. still_short lo den goal x (low + l) y (more lo x low l w.low_sum is_low) short i;
   }
@@ -142,34 +160,51 @@ module _ (lo hi : ℕ → ℕ) (den goal x a low high l h : ℕ) (w : Walked lo 
 
 -- ---- what the walk has found, for a grid of K cells
 
-module _ {B : ℕ} (cells : List (Iv B)) (p : Fraction) (den goal x a low high : ℕ) (w : Walked (low_at cells) (high_at cells) den goal x a low high)
+module _ {B : ℕ} (cells : List (Iv B)) (p : Fraction) (den goal x a low high : ℕ)
+    (w : Walked (low_at cells) (high_at cells) den goal x a low high)
     (e : den ≡ p.den) (g : goal ≡ p.num * 2 ^ B) (below : p <ℚ whole 1) where
   before_high : (y : ℕ) → y < a → high_cdf (2 ^ B) (high_at cells) y <ℚ p
-  before_high y i = high_short (2 ^ B) (count_below (suc y) (high_at cells)) p (pow_pos B) (omega (arith, w.before y i, g, ap (λ t. count_below (suc y) (high_at cells) * t) e))
+  before_high y i = high_short (2 ^ B) (count_below (suc y) (high_at cells)) p (pow_pos B)
+      (omega (arith, w.before y i, g, ap (λ t. count_below (suc y) (high_at cells) * t) e))
 
   before_low : (y : ℕ) → y < x → low_cdf (2 ^ B) (low_at cells) y <ℚ p
-  before_low y i = low_short (2 ^ B) (count_below (suc y) (low_at cells)) p (pow_pos B) (omega (arith, w.not_yet y i, g, ap (λ t. count_below (suc y) (low_at cells) * t) e))
+  before_low y i = low_short (2 ^ B) (count_below (suc y) (low_at cells)) p (pow_pos B)
+      (omega (arith, w.not_yet y i, g, ap (λ t. count_below (suc y) (low_at cells) * t) e))
 
   at_high : (y : ℕ) → goal ≤ count_below (suc y) (high_at cells) * den → p ≤ℚ high_cdf (2 ^ B) (high_at cells) y
-  at_high y i = high_reaches (2 ^ B) (count_below (suc y) (high_at cells)) p (pow_pos B) below (omega (arith, i, g, ap (λ t. count_below (suc y) (high_at cells) * t) e))
+  at_high y i = high_reaches (2 ^ B) (count_below (suc y) (high_at cells)) p (pow_pos B) below
+      (omega (arith, i, g, ap (λ t. count_below (suc y) (high_at cells) * t) e))
 
   -- the low ends reach the goal at x
-  pub found_low : (l : ℕ) → x < length cells → l ≡ low_at cells x → goal ≤ (low + l) * den → IsFirst (low_cdf (2 ^ B) (low_at cells)) p (length cells) x
+  pub found_low : (l : ℕ) → x < length cells → l ≡ low_at cells x → goal ≤ (low + l) * den
+      → IsFirstAtLeast (low_cdf (2 ^ B) (low_at cells)) p (length cells) x
   found_low l inside is enough = record {
     within = omega arith;
     before = before_low;
     reached = λ i. low_reaches (2 ^ B) (count_below (suc x) (low_at cells)) p (pow_pos B)
-        (omega (arith, enough, g, ap (λ t. t * den) (more (low_at cells) x low l w.low_sum is), ap (λ t. count_below (suc x) (low_at cells) * t) e));
+        (omega (
+          arith,
+          enough,
+          g,
+          ap (λ t. t * den) (more (low_at cells) x low l w.low_sum is),
+          ap (λ t. count_below (suc x) (low_at cells) * t) e,
+        ));
   }
 
-  pub found_high : (l : ℕ) → x < length cells → l ≡ low_at cells x → goal ≤ (low + l) * den → IsFirst (high_cdf (2 ^ B) (high_at cells)) p (length cells) a
+  pub found_high : (l : ℕ) → x < length cells → l ≡ low_at cells x → goal ≤ (low + l) * den
+      → IsFirstAtLeast (high_cdf (2 ^ B) (high_at cells)) p (length cells) a
   found_high l inside is enough = record {
     within = omega (arith, w.within);
     before = before_high;
     reached = λ i. at_high a (elim (cases_lt a x) [
       | inl less ↦ w.reached less
       | inr last ↦ subst (λ k. goal ≤ count_below (suc k) (high_at cells) * den) (same last)
-          (omega (arith, enough, ap (λ t. t * den) (more (low_at cells) x low l w.low_sum is), mul-le-mul_right den (low_high cells (suc x))))
+          (omega (
+            arith,
+            enough,
+            ap (λ t. t * den) (more (low_at cells) x low l w.low_sum is),
+            mul-le-mul_right den (low_high cells (suc x)),
+          ))
     ]);
   }
     where
@@ -177,23 +212,38 @@ module _ {B : ℕ} (cells : List (Iv B)) (p : Fraction) (den goal x a low high :
       same last = omega (arith, w.within)
 
   -- the low ends have nowhere reached it
-  pub ended_low : x ≡ length cells → IsFirst (low_cdf (2 ^ B) (low_at cells)) p (length cells) (length cells)
-  ended_low all = record { within = omega arith; before = λ y i. before_low y (omega arith); reached = λ i. absurd (omega arith) }
+  pub ended_low : x ≡ length cells → IsFirstAtLeast (low_cdf (2 ^ B) (low_at cells)) p (length cells) (length cells)
+  ended_low all = record {
+    within = omega arith;
+    before = λ y i. before_low y (omega arith);
+    reached = λ i.
+        absurd (omega arith);
+  }
 
-  pub ended_high : x ≡ length cells → IsFirst (high_cdf (2 ^ B) (high_at cells)) p (length cells) a
-  ended_high all = record { within = omega (arith, w.within); before = before_high; reached = λ i. at_high a (w.reached (omega arith)) }
+  pub ended_high : x ≡ length cells → IsFirstAtLeast (high_cdf (2 ^ B) (high_at cells)) p (length cells) a
+  ended_high all = record {
+    within = omega (arith, w.within);
+    before = before_high;
+    reached = λ i.
+        at_high a (w.reached (omega arith));
+  }
 
 -- ---- what the bracket holds
 
-module _ {B : ℕ} (cells : List (Iv B)) (p : Fraction) (a : ℕ) (b : Option ℕ) (first : IsFirst (high_cdf (2 ^ B) (high_at cells)) p (length cells) a)
+module _ {B : ℕ} (cells : List (Iv B)) (p : Fraction) (a : ℕ) (b : Option ℕ)
+    (first : IsFirstAtLeast (high_cdf (2 ^ B) (high_at cells)) p (length cells) a)
     (found : IsFirstFound (low_cdf (2 ^ B) (low_at cells)) p (length cells) b) where
-  pub is_bracket : (us : List Aggregate) → AreUnits us → GridEncloses cells (total us) → IsBracketed us a b p
-  is_bracket us w e = bracketed us (2 ^ B) (length cells) (low_at cells) (high_at cells) p a (pow_pos B) e w first b found
+  pub is_bracket : (us : List Aggregate) → AreDeclarable us → GridEncloses cells (total us) → IsBracketed us a b p
+  is_bracket us w e = bracketed us (2 ^ B) (length cells) (low_at cells) (high_at cells) p a
+      (pow_pos B) e w first b found
 
-  pub is_tight : (us : List Aggregate) → AreUnits us → GridEncloses cells (total us) → IsTight us (length cells) a b p (spread cells over 2 ^ B)
-  is_tight us w e = tightened us (2 ^ B) (length cells) (low_at cells) (high_at cells) p a (pow_pos B) e w first b (spread cells) found (λ x i. apart cells (suc x))
+  pub is_tight : (us : List Aggregate) → AreDeclarable us → GridEncloses cells (total us)
+      → IsTight us (length cells) a b p (spread cells over 2 ^ B)
+  is_tight us w e = tightened us (2 ^ B) (length cells) (low_at cells) (high_at cells) p a (pow_pos B) e w first b
+      (spread cells) found (λ x i. apart cells (suc x))
 
-  pub is_around : (us : List Aggregate) (q : ℕ) → AreDeclared us → GridEncloses cells (total us) → IsQuantile us q p → (a ≤ q) × ((x : ℕ) → b ≡ Some x → q ≤ x)
+  pub is_around : (us : List Aggregate) (q : ℕ) → AreDeclared us → GridEncloses cells (total us) → IsQuantile us q p
+      → (a ≤ q) × ((x : ℕ) → b ≡ Some x → q ≤ x)
   is_around us q d e is = holds_quantile us p a q b d is (is_bracket us (are_units us d) e)
 
 -- ---- sizes
@@ -201,14 +251,26 @@ module _ {B : ℕ} (cells : List (Iv B)) (p : Fraction) (a : ℕ) (b : Option �
 pub product_fits : (s den : ℕ) → s ≤ 2 ^ 70 → den ≤ 1000000000 → s * den < 2 ^ 128
 product_fits s den h k = let most : s * den ≤ 2 ^ 70 * 1000000000 = mul-le-mul h k in omega (arith, most)
 
-pub low_fits : {B : ℕ} (cells : List (Iv B)) (x low l : ℕ) → IsGrid cells → low ≡ count_below x (low_at cells) → l ≡ low_at cells x → low + l ≤ 2 ^ 70
+pub low_fits : {B : ℕ} (cells : List (Iv B)) (x low l : ℕ) → IsGrid cells → low ≡ count_below x (low_at cells)
+    → l ≡ low_at cells x → low + l ≤ 2 ^ 70
 low_fits {B} cells x low l grid e is =
-    omega (arith, more (low_at cells) x low l e is, low_most cells (suc x) grid, one_fits B (scale_of cells grid.some).1)
+    omega (
+      arith,
+      more (low_at cells) x low l e is,
+      low_most cells (suc x) grid,
+      one_fits B (scale_of cells grid.some).1,
+    )
 
-pub high_fits : {B : ℕ} (cells : List (Iv B)) (x high h : ℕ) → IsGrid cells → x < length cells → high ≡ count_below x (high_at cells) → h ≡ high_at cells x → high + h ≤ 2 ^ 70
-high_fits cells x high h grid inside e is = omega (arith, more (high_at cells) x high h e is, high_most cells (suc x) grid (omega arith))
+pub high_fits : {B : ℕ} (cells : List (Iv B)) (x high h : ℕ) → IsGrid cells → x < length cells
+    → high ≡ count_below x (high_at cells) → h ≡ high_at cells x → high + h ≤ 2 ^ 70
+high_fits cells x high h grid inside e is = omega (
+  arith,
+  more (high_at cells) x high h e is,
+  high_most cells (suc x) grid (omega arith),
+)
 
-pub goal_fits : (p : Fraction) (B num one : ℕ) → B ≤ 56 → p <ℚ whole 1 → p.den ≤ 1000000000 → num ≡ p.num → one ≡ 2 ^ B → num * one < 2 ^ 128
+pub goal_fits : (p : Fraction) (B num one : ℕ) → B ≤ 56 → p <ℚ whole 1 → p.den ≤ 1000000000 → num ≡ p.num → one ≡ 2 ^ B
+    → num * one < 2 ^ 128
 goal_fits p B num one scale below small e h =
     let first : num ≤ 1000000000 = omega (arith, num_small p below, e) in
     let second : one ≤ 2 ^ 56 = omega (arith, h, one_fits B scale) in
@@ -216,4 +278,8 @@ goal_fits p B num one scale below small e h =
     omega (arith, most)
   where
     num_small : (p : Fraction) → p <ℚ whole 1 → p.num ≤ p.den
-    num_small p h = omega (arith, lt_over p.num p.den 1 1 p.positive (omega arith) (subst (λ t. t <ℚ whole 1) (sym (over_self p)) h))
+    num_small p h = omega (
+      arith,
+      lt_over p.num p.den 1 1 p.positive (omega arith)
+          (subst (λ t. t <ℚ whole 1) (sym (over_self p)) h),
+    )

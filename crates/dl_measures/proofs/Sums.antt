@@ -1,16 +1,13 @@
 -- The sums of the ends of a grid's first cells, as a loop makes them.
-use Rattle.std.proofs.Common.{ℕ, zero, suc, ◌≡◌, ◌+◌, ◌-◌, ◌*◌, ◌^◌, ◌<◌, ◌≤◌, List, [], ◌∷◌, length, get_or, take, arith, refl, ◌∙◌}
+use Rattle.std.proofs.Common.{ℕ, zero, suc, ◌≡◌, ◌+◌, ◌-◌, ◌*◌, ◌^◌, ◌<◌, ◌≤◌, List, [], ◌∷◌, length, get_or, take, arith, refl}
 use Rattle.std.proofs.lemmas.List.Sums.{sum_by-cons}
 use Rattle.std.proofs.Math.Nat.{mul-le-mul}
 use Rattle.dl_iv.specs.declared.interval.Iv.{Iv}
-use Rattle.dl_grid.specs.Cells.{low_at, high_at, mass_low, mass_high, spread, IsGrid}
+use Rattle.dl_grid.specs.Cells.{low_at, high_at, mass_high, spread, IsGrid}
 use Rattle.dl_grid.proofs.CellLaws.{scale_of, one_fits}
 use Rattle.dl_exact.specs.Count.{count_below}
 use Rattle.dl_exact.proofs.Counts.{below_first, below_bound}
-use Rattle.dl_grid.proofs.PlaceSums.{low_sum, low_within, width_within, high_is}
-
-pub low_mass : {B : ℕ} (n : ℕ) (cells : List (Iv B)) → count_below n (low_at cells) ≡ mass_low (take n cells)
-low_mass n cells = low_sum n cells
+use Rattle.dl_grid.proofs.PlaceSums.{low_within, width_within, high_is}
 
 -- where there are no cells, the high ends are 0
 none_high : {B : ℕ} (n : ℕ) (cells : List (Iv B)) → cells ≡ [] → count_below n (high_at cells) ≡ 0
@@ -24,7 +21,12 @@ unfolding high_at count_below
 high_mass zero cells = refl
 high_mass {B} (suc n) [] = none_high {B = B} (suc n) [] refl
 high_mass {B} (suc n) (c ∷ cs) =
-    omega (arith, below_first n (high_at (c ∷ cs)), high_mass n cs, sum_by-cons (λ (cell : Iv B). cell.hi) c (take n cs))
+    omega (
+      arith,
+      below_first n (high_at (c ∷ cs)),
+      high_mass n cs,
+      sum_by-cons (λ (cell : Iv B). cell.hi) c (take n cs),
+    )
 
 -- ---- how large they are
 
@@ -35,14 +37,17 @@ pub high_end : {B : ℕ} (cells : List (Iv B)) (x : ℕ) → IsGrid cells → hi
 unfolding high_at
 high_end cells x grid = ends cells x grid.small
   where
-    ends : {B : ℕ} (cells : List (Iv B)) (x : ℕ) → ((k : ℕ) (d : Iv B) → k < length cells → (get_or cells k d).hi ≤ 2 ^ B) → high_at cells x ≤ 2 ^ B
+    ends : {B : ℕ} (cells : List (Iv B)) (x : ℕ)
+        → ((k : ℕ) (d : Iv B) → k < length cells → (get_or cells k d).hi ≤ 2 ^ B) → high_at cells x ≤ 2 ^ B
     ends [] x small = omega arith
     ends (c ∷ cs) zero small = small 0 c (omega arith)
     ends (c ∷ cs) (suc x) small = ends cs x (λ k d h. small (suc k) d (omega arith))
 
-pub high_most : {B : ℕ} (cells : List (Iv B)) (n : ℕ) → IsGrid cells → n ≤ length cells → count_below n (high_at cells) ≤ 2 ^ 70
+pub high_most : {B : ℕ} (cells : List (Iv B)) (n : ℕ) → IsGrid cells → n ≤ length cells
+    → count_below n (high_at cells) ≤ 2 ^ 70
 high_most {B} cells n grid inside =
-    let sum : count_below n (high_at cells) ≤ n * 2 ^ B = below_bound n (2 ^ B) (high_at cells) (λ i h. high_end cells i grid) in
+    let sum : count_below n (high_at cells) ≤ n * 2 ^ B =
+    below_bound n (2 ^ B) (high_at cells) (λ i h. high_end cells i grid) in
     let few : n ≤ 16384 = omega (arith, grid.few) in
     let most : n * 2 ^ B ≤ 16384 * 2 ^ 56 = mul-le-mul few (one_fits B (scale_of cells grid.some).1) in
     omega (arith, sum, most)
@@ -54,10 +59,12 @@ unfolding count_below
 low_high cells zero = omega arith
 low_high cells (suc n) = omega (arith, low_high cells n, high_is cells n)
 
-pub apart : {B : ℕ} (cells : List (Iv B)) (n : ℕ) → count_below n (high_at cells) ≤ count_below n (low_at cells) + spread cells
+pub apart : {B : ℕ} (cells : List (Iv B)) (n : ℕ)
+    → count_below n (high_at cells) ≤ count_below n (low_at cells) + spread cells
 unfolding count_below
 apart {B} cells n = omega (arith, split n, width_within n cells)
   where
-    split : (n : ℕ) → count_below n (high_at cells) ≡ count_below n (low_at cells) + count_below n (λ x. high_at cells x - low_at cells x)
+    split : (n : ℕ) → count_below n (high_at cells) ≡ count_below n (low_at cells) + count_below n
+        (λ x. high_at cells x - low_at cells x)
     split zero = refl
     split (suc n) = omega (arith, split n, high_is cells n)

@@ -18,12 +18,13 @@ use Rattle.dl_grid.proofs.CellLaws.{scale_of, one_fits, sum_fits, width_within}
 use Rattle.dl_model.specs.Series.{IsBound, AtMost, AtLeast, Holds}
 use Rattle.dl_exact.specs.Count.{count_below}
 use Rattle.dl_model.specs.Program.{Aggregate, One, Cdf, Layer, Tail, partial_sums}
-use Rattle.dl_model.specs.Measures.{low_cdf, high_cdf, IsQuantile, IsTight, AreDeclared}
+use Rattle.dl_model.specs.Measures.{IsQuantile, AreDeclared}
+use Rattle.dl_measures.specs.Ends.{low_cdf, high_cdf, IsTight}
 use Rattle.dl_model.proofs.Declared.{at_most_wider}
 use Rattle.dl_model.proofs.TailScores.{tail_excess}
 use Rattle.dl_model.proofs.TailEnds.{tail_least, tail_most}
 use Rattle.dl_model.proofs.Bounded.{are_units, quantity_bounded}
-use Rattle.dl_measures.specs.Brackets.{IsFirst, IsFirstFound}
+use Rattle.dl_measures.specs.Brackets.{IsFirstAtLeast, IsFirstFound}
 use Rattle.dl_grid.specs.Width.{tail_width}
 use Rattle.dl_measures.proofs.Sums.{low_high, low_most}
 
@@ -31,7 +32,11 @@ use Rattle.dl_measures.proofs.Sums.{low_high, low_most}
 
 module _ (p : Fraction) (below : p <ℚ whole 1) where
   pub num_below : p.num < p.den
-  num_below = omega (arith, lt_over p.num p.den 1 1 p.positive one_pos (subst (λ t. t <ℚ whole 1) (sym (over_self p)) below))
+  num_below = omega (
+    arith,
+    lt_over p.num p.den 1 1 p.positive one_pos
+        (subst (λ t. t <ℚ whole 1) (sym (over_self p)) below),
+  )
 
   pub rest_above : 0 < p.den - p.num
   rest_above = omega (arith, num_below)
@@ -42,7 +47,8 @@ module _ (p : Fraction) (below : p <ℚ whole 1) where
   pub parts : p +ℚ rest ≡ whole 1
   unfolding rest
   parts =
-      ap (λ t. t +ℚ (p.den - p.num) over p.den) (sym (over_self p)) ∙ over_add p.num p.den (p.den - p.num) p.den p.positive p.positive
+      ap (λ t. t +ℚ (p.den - p.num) over p.den) (sym (over_self p))
+      ∙ over_add p.num p.den (p.den - p.num) p.den p.positive p.positive
       ∙ over_same _ _ 1 1 (mul-pos p.positive p.positive) one_pos (whole_again p.num p.den (omega (arith, num_below)))
     where
       whole_again : (n d : ℕ) → n ≤ d → (n * d + (d - n) * d) * 1 ≡ 1 * (d * d)
@@ -57,7 +63,8 @@ module _ (p : Fraction) (below : p <ℚ whole 1) where
 
   pub inverse : whole 1 /ℚ rest ≡ p.den over (p.den - p.num)
   unfolding rest
-  inverse = over_div 1 1 (p.den - p.num) p.den one_pos p.positive rest_above ∙ ap₂ (λ s t. s over t) (times_one p.den) (times_one (p.den - p.num))
+  inverse = over_div 1 1 (p.den - p.num) p.den one_pos p.positive rest_above
+      ∙ ap₂ (λ s t. s over t) (times_one p.den) (times_one (p.den - p.num))
     where
       times_one : (n : ℕ) → 1 * n ≡ n
       times_one n = omega arith
@@ -71,19 +78,27 @@ module _ (S k d a : ℕ) (s : 0 < S) (pos : 0 < k) where
   from_a : (x : ℕ) → whole a +ℚ d over k *ℚ x over S ≡ (a * (k * S) + d * x * 1) over (1 * (k * S))
   from_a x = ap (λ t. whole a +ℚ t) (part x) ∙ over_add a 1 (d * x) (k * S) one_pos (mul-pos pos s)
 
-  pub low_below : (c w l m : ℕ) → c * w ≤ l → m ≡ a * S + (l - c * w) * d / k → m over S +ℚ whole c *ℚ (d over k *ℚ w over S) ≤ℚ whole a +ℚ d over k *ℚ l over S
+  pub low_below : (c w l m : ℕ) → c * w ≤ l → m ≡ a * S + (l - c * w) * d / k
+      → m over S +ℚ whole c *ℚ (d over k *ℚ w over S) ≤ℚ whole a +ℚ d over k *ℚ l over S
   low_below c w l m enough is =
       subst₂ (λ x y. x ≤ℚ y)
-      (sym (ap (λ t. m over S +ℚ t) (ap (λ t. whole c *ℚ t) (part w) ∙ over_mul c 1 (d * w) (k * S) one_pos (mul-pos pos s))
+      (sym (ap (λ t. m over S +ℚ t) (ap (λ t. whole c *ℚ t) (part w)
+      ∙ over_mul c 1 (d * w) (k * S) one_pos (mul-pos pos s))
       ∙ over_add m S (c * (d * w)) (1 * (k * S)) s (mul-pos one_pos (mul-pos pos s))))
       (sym (from_a l))
-      (over_le _ _ _ _ (mul-pos s (mul-pos one_pos (mul-pos pos s))) (mul-pos one_pos (mul-pos pos s)) (omega (arith, mul-le-mul_right (S * (k * S)) numbers)))
+      (over_le _ _ _ _ (mul-pos s (mul-pos one_pos (mul-pos pos s))) (mul-pos one_pos (mul-pos pos s))
+      (omega (arith, mul-le-mul_right (S * (k * S)) numbers)))
     where
       scaled : (t o : ℕ) → l ≡ t + o → (q : ℕ) → q * k ≤ t * d → (a * S + q) * k + o * d ≤ a * S * k + d * l
       scaled t o split q below = omega (arith, ap (λ x. d * x) split, below)
 
       numbers : m * k + c * (d * w) ≤ a * S * k + d * l
-      numbers = omega (arith, scaled (l - c * w) (c * w) (omega arith) ((l - c * w) * d / k) (div-mul-le_self ((l - c * w) * d) k), ap (λ x. x * k) is)
+      numbers = omega (
+        arith,
+        scaled (l - c * w) (c * w) (omega arith) ((l - c * w) * d / k)
+            (div-mul-le_self ((l - c * w) * d) k),
+        ap (λ x. x * k) is,
+      )
 
   pub high_above : (h n : ℕ) → n ≡ a * S + div_ceil (h * d) k → whole a +ℚ d over k *ℚ h over S ≤ℚ n over S
   high_above h n is =
@@ -96,38 +111,53 @@ module _ (S k d a : ℕ) (s : 0 < S) (pos : 0 < k) where
 -- ---- the ends hold the tail mean
 
 -- no tail mean is below the quantile
-from_the_quantile : (us : List Aggregate) (p : Fraction) (a q : ℕ) → p <ℚ whole 1 → a ≤ q → AtLeast (partial_sums us (Tail p q)) (partial_sums us One) (whole a)
+from_the_quantile : (us : List Aggregate) (p : Fraction) (a q : ℕ) → p <ℚ whole 1 → a ≤ q
+    → AtLeast (partial_sums us (Tail p q)) (partial_sums us One) (whole a)
 from_the_quantile us p a q below from N u bound =
     le_trans _ _ _ (times_le_both _ _ _ _ (whole_le a q from) (le_refl (partial_sums us One N)))
-    (le_trans _ _ _ (subst (λ t. whole q *ℚ partial_sums us One N ≤ℚ t) (sym (tail_excess us p q N below)) (le_plus _ _)) (bound N))
+    (le_trans _ _ _ (subst (λ t. whole q *ℚ partial_sums us One N ≤ℚ t) (sym (tail_excess us p q N below))
+    (le_plus _ _)) (bound N))
 
-module _ (us : List Aggregate) (p : Fraction) (S a b q w l h : ℕ) (s : 0 < S) (declared : AreDeclared us) (below : p <ℚ whole 1) (is : IsQuantile us q p) (from : a ≤ q) (to : q ≤ b)
+module _ (us : List Aggregate) (p : Fraction) (S a b q w l h : ℕ) (s : 0 < S) (declared : AreDeclared us)
+    (below : p <ℚ whole 1) (is : IsQuantile us q p) (from : a ≤ q) (to : q ≤ b)
     (near : (x : ℕ) → a ≤ x → x < b → AtLeast (partial_sums us (Cdf x)) (partial_sums us One) (p -ℚ w over S))
     (excess : Holds (partial_sums us (Layer None a)) (partial_sums us One) (l over S) (h over S)) where
   weight : (u : Fraction) × IsBound (partial_sums us One) u
   weight = quantity_bounded us One declared tt
 
-  tail_low : (m : ℕ) → m ≡ a * S + (l - (b - a) * w) * p.den / (p.den - p.num) → AtLeast (partial_sums us (Tail p q)) (partial_sums us One) (m over S)
+  tail_low : (m : ℕ) → m ≡ a * S + (l - (b - a) * w) * p.den / (p.den - p.num)
+      → AtLeast (partial_sums us (Tail p q)) (partial_sums us One) (m over S)
   tail_low m e = elim (cases_lt l ((b - a) * w)) [
-    | inl less ↦ subst (λ t. AtLeast (partial_sums us (Tail p q)) (partial_sums us One) t) (sym (over_same m S a 1 s one_pos (none less))) (from_the_quantile us p a q below from)
-    | inr enough ↦ tail_least us p (rest p below) (w over S) weight.0 a b q (are_units us declared) weight.1 (parts p below) (rest_pos p below) is from to near (l over S) (h over S) excess (m over S)
+    | inl less ↦ subst (λ t. AtLeast (partial_sums us (Tail p q)) (partial_sums us One) t)
+        (sym (over_same m S a 1 s one_pos (none less))) (from_the_quantile us p a q below from)
+    | inr enough ↦ tail_least us p (rest p below) (w over S) weight.0 a b q (are_units us declared) weight.1
+        (parts p below) (rest_pos p below) is from to near (l over S) (h over S) excess (m over S)
         (subst (λ t. m over S +ℚ whole (b - a) *ℚ (t *ℚ w over S) ≤ℚ whole a +ℚ t *ℚ l over S) (sym (inverse p below))
         (low_below S (p.den - p.num) p.den a s (rest_above p below) (b - a) w l m enough e))
   ]
     where
       none : l < (b - a) * w → m * 1 ≡ a * S
-      none less = omega (arith, e, div-le_self ((l - (b - a) * w) * p.den) (p.den - p.num), ap (λ t. t * p.den) (nothing_left l ((b - a) * w) less))
+      none less = omega (
+        arith,
+        e,
+        div-le_self ((l - (b - a) * w) * p.den) (p.den - p.num),
+        ap (λ t. t * p.den) (nothing_left l ((b - a) * w) less),
+      )
         where
           nothing_left : (x y : ℕ) → x < y → x - y ≡ 0
           nothing_left x y h = omega arith
 
-  tail_high : (n : ℕ) → n ≡ a * S + div_ceil (h * p.den) (p.den - p.num) → AtMost (partial_sums us (Tail p q)) (partial_sums us One) (n over S)
+  tail_high : (n : ℕ) → n ≡ a * S + div_ceil (h * p.den) (p.den - p.num)
+      → AtMost (partial_sums us (Tail p q)) (partial_sums us One) (n over S)
   tail_high n e =
       at_most_wider (partial_sums us (Tail p q)) (partial_sums us One) _ (n over S)
-      (tail_most us p (rest p below) (w over S) weight.0 a b q (are_units us declared) weight.1 (parts p below) (rest_pos p below) is from to near (l over S) (h over S) excess)
-      (subst (λ t. whole a +ℚ t *ℚ h over S ≤ℚ n over S) (sym (inverse p below)) (high_above S (p.den - p.num) p.den a s (rest_above p below) h n e))
+      (tail_most us p (rest p below) (w over S) weight.0 a b q (are_units us declared) weight.1 (parts p below)
+      (rest_pos p below) is from to near (l over S) (h over S) excess)
+      (subst (λ t. whole a +ℚ t *ℚ h over S ≤ℚ n over S) (sym (inverse p below))
+      (high_above S (p.den - p.num) p.den a s (rest_above p below) h n e))
 
-  pub tail_holds : (m n : ℕ) → m ≡ a * S + (l - (b - a) * w) * p.den / (p.den - p.num) → n ≡ a * S + div_ceil (h * p.den) (p.den - p.num)
+  pub tail_holds : (m n : ℕ) → m ≡ a * S + (l - (b - a) * w) * p.den / (p.den - p.num)
+      → n ≡ a * S + div_ceil (h * p.den) (p.den - p.num)
       → Holds (partial_sums us (Tail p q)) (partial_sums us One) (m over S) (n over S)
   tail_holds m n low high = (tail_low m low, tail_high n high)
 
@@ -135,20 +165,23 @@ module _ (us : List Aggregate) (p : Fraction) (S a b q w l h : ℕ) (s : 0 < S) 
 
 -- a quotient rounded up and one rounded down
 quotients_apart : (k d x y D : ℕ) → 0 < k → y ≤ x + D → div_ceil (y * d) k ≤ x * d / k + 1 + div_ceil (D * d) k
-quotients_apart k d x y D pos h = div_ceil_least (y * d) k _ pos (omega (arith, mul-le-mul_right d h, ceiling_reaches (D * d) k pos, below_next (x * d) k pos))
+quotients_apart k d x y D pos h = div_ceil_least (y * d) k _ pos
+    (omega (arith, mul-le-mul_right d h, ceiling_reaches (D * d) k pos, below_next (x * d) k pos))
   where
     below_next : (n k : ℕ) → 0 < k → n ≤ (n / k + 1) * k
     below_next n k pos = omega (arith, div-add-mod' n k, mod-lt n pos)
 
 pub tail_narrow : (p : Fraction) (S a b K w M l h m n : ℕ) → p <ℚ whole 1 → a ≤ K → b ≤ K → h - l ≤ M + a * w
-    → m ≡ a * S + (l - (b - a) * w) * p.den / (p.den - p.num) → n ≡ a * S + div_ceil (h * p.den) (p.den - p.num) → n - m ≤ tail_width p M K w
+    → m ≡ a * S + (l - (b - a) * w) * p.den / (p.den - p.num) → n ≡ a * S + div_ceil (h * p.den) (p.den - p.num)
+    → n - m ≤ tail_width p M K w
 tail_narrow p S a b K w M l h m n below a_in b_in narrow low high =
     omega (
       arith,
       low,
       high,
       up_quotient ((2 * M + 3 * K * w) * p.den) (p.den - p.num) (rest_above p below),
-      quotients_apart (p.den - p.num) p.den (l - (b - a) * w) h (2 * M + 3 * K * w) (rest_above p below) (omega (arith, narrow, mul-le-mul_right w a_in, mul-le-mul_right w (further a b K b_in))),
+      quotients_apart (p.den - p.num) p.den (l - (b - a) * w) h (2 * M + 3 * K * w) (rest_above p below)
+          (omega (arith, narrow, mul-le-mul_right w a_in, mul-le-mul_right w (further a b K b_in))),
     )
   where
     further : (a b K : ℕ) → b ≤ K → b - a ≤ K
@@ -158,9 +191,16 @@ tail_narrow p S a b K w M l h m n below a_in b_in narrow low high =
 ceiling_within : (x k : ℕ) → 0 < k → div_ceil x k ≤ x
 ceiling_within x k pos = div_ceil_least x k x pos (omega (arith, mul-le-mul_left x pos))
 
-pub tail_most_units : (p : Fraction) (S a K M h n : ℕ) → p <ℚ whole 1 → a ≤ K → h ≤ M → n ≡ a * S + div_ceil (h * p.den) (p.den - p.num) → n ≤ K * S + M * p.den
+pub tail_most_units : (p : Fraction) (S a K M h n : ℕ) → p <ℚ whole 1 → a ≤ K → h ≤ M
+    → n ≡ a * S + div_ceil (h * p.den) (p.den - p.num) → n ≤ K * S + M * p.den
 tail_most_units p S a K M h n below a_in small high =
-    omega (arith, high, mul-le-mul_right S a_in, mul-le-mul_right p.den small, ceiling_within (h * p.den) (p.den - p.num) (rest_above p below))
+    omega (
+      arith,
+      high,
+      mul-le-mul_right S a_in,
+      mul-le-mul_right p.den small,
+      ceiling_within (h * p.den) (p.den - p.num) (rest_above p below),
+    )
 
 pub product_most : (h d : ℕ) → h ≤ 2 ^ 97 → d ≤ 1000000000 → h * d ≤ 2 ^ 97 * 1000000000
 product_most h d small few = mul-le-mul small few
@@ -174,23 +214,27 @@ few n k inside all = omega arith
 -- so many buckets of a grid
 pub buckets_fit : {B : ℕ} (cells : List (Iv B)) (n : ℕ) → IsGrid cells → n ≤ length cells → n * 2 ^ B ≤ 2 ^ 70
 buckets_fit {B} cells n grid inside =
-    let most : n * 2 ^ B ≤ 16384 * 2 ^ 56 = mul-le-mul (few n (length cells) inside grid.few) (one_fits B (scale_of cells grid.some).1) in
+    let most : n * 2 ^ B ≤ 16384 * 2 ^ 56 = mul-le-mul (few n (length cells) inside grid.few)
+    (one_fits B (scale_of cells grid.some).1) in
     omega (arith, most)
 
 spread_most : {B : ℕ} (cells : List (Iv B)) → IsGrid cells → spread cells ≤ 2 ^ 70
 spread_most {B} cells grid =
-    subst (λ t. spread t ≤ 2 ^ 70) (take_all (length cells) cells (omega arith)) (sum_fits cells (λ (cell : Iv B). cell.hi - cell.lo) (length cells) grid width_within)
+    subst (λ t. spread t ≤ 2 ^ 70) (take_all (length cells) cells (omega arith))
+    (sum_fits cells (λ (cell : Iv B). cell.hi - cell.lo) (length cells) grid width_within)
 
 -- the spread of a grid, over so many cells
 pub slack_fits : {B : ℕ} (cells : List (Iv B)) (n : ℕ) → IsGrid cells → n ≤ length cells → n * spread cells ≤ 2 ^ 84
 slack_fits cells n grid inside =
-    let most : n * spread cells ≤ 16384 * 2 ^ 70 = mul-le-mul (few n (length cells) inside grid.few) (spread_most cells grid) in
+    let most : n * spread cells ≤ 16384 * 2 ^ 70 = mul-le-mul (few n (length cells) inside grid.few)
+    (spread_most cells grid) in
     omega (arith, most)
 
 -- ---- the bracket of a quantile
 
 -- the low end of the distribution does not reach p before the high end does
-pub in_order : {B : ℕ} (cells : List (Iv B)) (p : Fraction) (a b : ℕ) → IsGrid cells → IsFirst (high_cdf (2 ^ B) (high_at cells)) p (length cells) a
+pub in_order : {B : ℕ} (cells : List (Iv B)) (p : Fraction) (a b : ℕ) → IsGrid cells
+    → IsFirstAtLeast (high_cdf (2 ^ B) (high_at cells)) p (length cells) a
     → IsFirstFound (low_cdf (2 ^ B) (low_at cells)) p (length cells) (Some b) → a ≤ b
 in_order {B} cells p a b grid high low = elim (cases_lt b a) [
   | inr after ↦ after
@@ -198,7 +242,10 @@ in_order {B} cells p a b grid high low = elim (cases_lt b a) [
 ]
   where
     ends : (x : ℕ) → low_cdf (2 ^ B) (low_at cells) x ≤ℚ high_cdf (2 ^ B) (high_at cells) x
-    ends x = over_le _ _ _ _ (pow_pos B) (pow_pos B) (mul-le-mul_right (2 ^ B) (both (count_below (suc x) (low_at cells)) (2 ^ B) (count_below (suc x) (high_at cells)) (low_most cells (suc x) grid) (low_high cells (suc x))))
+    ends x = over_le _ _ _ _ (pow_pos B) (pow_pos B)
+        (mul-le-mul_right (2 ^ B) (both (count_below (suc x) (low_at cells)) (2 ^ B)
+        (count_below (suc x) (high_at cells))
+        (low_most cells (suc x) grid) (low_high cells (suc x))))
       where
         both : (l s h : ℕ) → l ≤ s → l ≤ h → l ≤ min s h
         both l s h p q = omega arith
@@ -206,7 +253,8 @@ in_order {B} cells p a b grid high low = elim (cases_lt b a) [
 -- inside its bracket the distribution is near p
 pub near_level : (us : List Aggregate) (K a b : ℕ) (p d : Fraction) → b ≤ K → IsTight us K a (Some b) p d
     → (x : ℕ) → a ≤ x → x < b → AtLeast (partial_sums us (Cdf x)) (partial_sums us One) (p -ℚ d)
-near_level us K a b p d inside tight x from to = (tight x from (omega arith) (λ y e. subst (λ t. x < t) (same y e) to)).1
+near_level us K a b p d inside tight x from to =
+    (tight x from (omega arith) (λ y e. subst (λ t. x < t) (same y e) to)).1
   where
     same : (y : ℕ) → Some b ≡ Some y → b ≡ y
     same y e = cc

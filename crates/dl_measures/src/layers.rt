@@ -9,7 +9,8 @@ ghost use Rattle.dl_model.specs.Program.{Aggregate, One, Mean, Layer, partial_su
 ghost use Rattle.dl_model.specs.Family.{total, GridEncloses};
 ghost use Rattle.dl_model.specs.Measures.{AreDeclared};
 ghost use Rattle.dl_grid.specs.Width.{layer_width};
-ghost use Rattle.dl_measures.specs.Layers.{cells_under, layer_most};
+ghost use Rattle.dl_plan.specs.Horizon.{edge_of};
+ghost use Rattle.dl_measures.specs.Layers.{layer_most};
 
 use dl_grid::Grid;
 use dl_iv::Iv;
@@ -32,8 +33,10 @@ fn sum_below<const B: u32>(g: &Grid<B>, cells: u32) -> Iv<B>
 /// added up over the layer.
 fn finite_layer<const B: u32>(g: &Grid<B>, limit: u32, attach: u32) -> Iv<B>
     requires inside { attach + limit ≤ length g.now }
-    ensures low { result.lo ≡ count_below limit (λ i. 2 ^ B - min (2 ^ B) (count_below (suc (attach + i)) (high_at g.now))) }
-    ensures high { result.hi ≡ count_below limit (λ i. 2 ^ B - count_below (suc (attach + i)) (low_at g.now)) }
+    ensures low { result.lo ≡ count_below limit
+        (λ i. 2 ^ B - min (2 ^ B) (count_below (suc (attach + i)) (high_at g.now))) }
+    ensures high { result.hi ≡ count_below limit
+        (λ i. 2 ^ B - count_below (suc (attach + i)) (low_at g.now)) }
 {
     prove!(attach <= g.cells());
     let mut distribution = sum_below(g, attach);
@@ -45,16 +48,20 @@ fn finite_layer<const B: u32>(g: &Grid<B>, limit: u32, attach: u32) -> Iv<B>
     mean
 }
 
-/// The mean of what lies in a layer, in buckets: the part of the total above `attach`, at most `limit`
-/// where there is one. Without a limit it is what the layer below `attach` leaves of `mean`, which is
-/// then to hold the mean of the total. A layer with a limit lies inside the grid, and one without a
-/// limit begins there.
+/// The mean of what lies in a layer, in buckets: the part of the total above `attach`, at most
+/// `limit` where there is one. Without a limit it is what the layer below `attach` leaves of
+/// `mean`, which is then to hold the mean of the total. A layer with a limit lies inside the grid,
+/// and one without a limit begins there.
 pub fn layer_mean<const B: u32>(g: &Grid<B>, limit: Option<u32>, attach: u32, mean: Iv<B>) -> Iv<B>
-    requires { cells_under limit attach ≤ length g.now }
+    requires { edge_of limit attach ≤ length g.now }
     ensures holds { (us : List Aggregate) → AreDeclared us → GridEncloses g.now (total us)
-        → (limit ≡ None → Holds (partial_sums us Mean) (partial_sums us One) (mean.entry.lo over 2 ^ B) (mean.entry.hi over 2 ^ B))
-        → Holds (partial_sums us (Layer limit attach)) (partial_sums us One) (result.lo over 2 ^ B) (result.hi over 2 ^ B) }
-    ensures width { result.hi - result.lo ≤ layer_width limit attach (mean.entry.hi - mean.entry.lo) (spread g.now) }
+        → (limit ≡ None
+        → Holds (partial_sums us Mean) (partial_sums us One) (mean.entry.lo over 2 ^ B)
+        (mean.entry.hi over 2 ^ B))
+        → Holds (partial_sums us (Layer limit attach)) (partial_sums us One) (result.lo over 2 ^ B)
+        (result.hi over 2 ^ B) }
+    ensures width { result.hi - result.lo ≤ layer_width limit attach (mean.entry.hi - mean.entry.lo)
+        (spread g.now) }
     ensures most { result.hi ≤ layer_most limit (2 ^ B) mean.entry.hi }
 {
     prove!(attach <= g.cells());

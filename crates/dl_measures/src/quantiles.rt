@@ -3,10 +3,11 @@
 ghost use Rattle.std.specs.Prelude.{◌≡◌, ℕ, ◌^◌, ◌<◌, ◌≤◌, List, length, Some};
 ghost use Rattle.dl_exact.specs.Fraction.{whole, ◌over◌, ◌<ℚ◌};
 ghost use Rattle.dl_grid.specs.Cells.{low_at, high_at, spread};
-ghost use Rattle.dl_model.specs.Program.{Aggregate, AreUnits};
+ghost use Rattle.dl_model.specs.Program.{Aggregate, AreDeclarable};
 ghost use Rattle.dl_model.specs.Family.{total, GridEncloses};
-ghost use Rattle.dl_model.specs.Measures.{low_cdf, high_cdf, IsQuantile, IsBracketed, IsTight, AreDeclared};
-ghost use Rattle.dl_measures.specs.Brackets.{IsFirst, IsFirstFound};
+ghost use Rattle.dl_model.specs.Measures.{IsQuantile, IsBracketed, AreDeclared};
+ghost use Rattle.dl_measures.specs.Ends.{low_cdf, high_cdf, IsTight};
+ghost use Rattle.dl_measures.specs.Brackets.{IsFirstAtLeast, IsFirstFound};
 
 use dl_frac::Frac;
 use dl_grid::{Grid, units_of_one};
@@ -21,18 +22,20 @@ pub struct Bracket {
     pub hi: Option<u32>,
 }
 
-/// The bracket of the quantile at `p`, which is below 1, with parts of at most `10^9`: the first cell
-/// at which the high end of the distribution is at least `p`, and the first at which the low end is.
-/// Between them the distribution is within the spread of the grid of `p`.
+/// The bracket of the quantile at `p`, which is below 1, with parts of at most `10^9`: the first
+/// cell at which the high end of the distribution is at least `p`, and the first at which the low
+/// end is. Between them the distribution is within the spread of the grid of `p`.
 pub fn quantile<const B: u32>(g: &Grid<B>, p: Frac) -> Bracket
     requires below_one { p <ℚ whole 1 }
     requires small { p.den ≤ 1000000000 }
-    ensures lo { IsFirst (high_cdf (2 ^ B) (high_at g.now)) p (length g.now) result.lo }
+    ensures lo { IsFirstAtLeast (high_cdf (2 ^ B) (high_at g.now)) p (length g.now) result.lo }
     ensures hi { IsFirstFound (low_cdf (2 ^ B) (low_at g.now)) p (length g.now) result.hi }
-    ensures holds { (us : List Aggregate) → AreUnits us → GridEncloses g.now (total us) → IsBracketed us result.lo result.hi p }
-    ensures tight { (us : List Aggregate) → AreUnits us → GridEncloses g.now (total us)
+    ensures holds { (us : List Aggregate) → AreDeclarable us → GridEncloses g.now (total us)
+        → IsBracketed us result.lo result.hi p }
+    ensures tight { (us : List Aggregate) → AreDeclarable us → GridEncloses g.now (total us)
         → IsTight us (length g.now) result.lo result.hi p (spread g.now over 2 ^ B) }
-    ensures quantile { (us : List Aggregate) (q : ℕ) → AreDeclared us → GridEncloses g.now (total us) → IsQuantile us q p
+    ensures quantile { (us : List Aggregate) (q : ℕ) → AreDeclared us
+        → GridEncloses g.now (total us) → IsQuantile us q p
         → (result.lo ≤ q) × ((x : ℕ) → result.hi ≡ Some x → q ≤ x) }
 {
     let cells = g.cells();

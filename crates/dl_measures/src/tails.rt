@@ -7,7 +7,8 @@ ghost use Rattle.dl_grid.specs.Cells.{low_at, spread};
 ghost use Rattle.dl_model.specs.Series.{Holds};
 ghost use Rattle.dl_model.specs.Program.{Aggregate, One, Mean, Tail, partial_sums};
 ghost use Rattle.dl_model.specs.Family.{total, GridEncloses};
-ghost use Rattle.dl_model.specs.Measures.{low_cdf, IsQuantile, AreDeclared};
+ghost use Rattle.dl_model.specs.Measures.{IsQuantile, AreDeclared};
+ghost use Rattle.dl_measures.specs.Ends.{low_cdf};
 ghost use Rattle.dl_measures.specs.Brackets.{IsFirstFound};
 ghost use Rattle.dl_grid.specs.Width.{tail_width};
 
@@ -34,18 +35,23 @@ fn over_the_rest<const B: u32>(excess: Iv<B>, slack: u128, p: Frac) -> Iv<B>
 }
 
 /// The tail mean at `p`, in buckets: the mean of the total over its greatest outcomes, whose
-/// probability is `1 - p`. It is the quantile at `p`, and the mean of what lies above the quantile over
-/// `1 - p`. `p` is below 1, with parts of at most `10^9`, and `mean` is to hold the mean of the total.
-/// None exactly where the bracket of the quantile has no high end.
+/// probability is `1 - p`. It is the quantile at `p`, and the mean of what lies above the quantile
+/// over `1 - p`. `p` is below 1, with parts of at most `10^9`, and `mean` is to hold the mean of
+/// the total. None exactly where the bracket of the quantile has no high end.
 pub fn tail_mean<const B: u32>(g: &Grid<B>, p: Frac, mean: Iv<B>) -> Option<Iv<B>>
     requires below_one { p <ℚ whole 1 }
     requires small { p.den ≤ 1000000000 }
     requires mean { mean.hi ≤ 2 ^ 97 }
-    ensures none { IsNone result ↔ IsFirstFound (low_cdf (2 ^ B) (low_at g.now)) p (length g.now) None }
+    ensures none { IsNone result ↔ IsFirstFound (low_cdf (2 ^ B) (low_at g.now)) p
+        (length g.now) None }
     ensures holds { (us : List Aggregate) (q : ℕ) → AreDeclared us → GridEncloses g.now (total us)
-        → Holds (partial_sums us Mean) (partial_sums us One) (mean.entry.lo over 2 ^ B) (mean.entry.hi over 2 ^ B) → IsQuantile us q p
-        → IfSome result (λ r. Holds (partial_sums us (Tail p q)) (partial_sums us One) (r.lo over 2 ^ B) (r.hi over 2 ^ B)) }
-    ensures width { IfSome result (λ r. r.hi - r.lo ≤ tail_width p (mean.entry.hi - mean.entry.lo) (length g.now) (spread g.now)) }
+        → Holds (partial_sums us Mean) (partial_sums us One) (mean.entry.lo over 2 ^ B)
+        (mean.entry.hi over 2 ^ B) → IsQuantile us q p
+        → IfSome result
+        (λ r. Holds (partial_sums us (Tail p q)) (partial_sums us One) (r.lo over 2 ^ B)
+        (r.hi over 2 ^ B)) }
+    ensures width { IfSome result (λ r. r.hi - r.lo ≤ tail_width p (mean.entry.hi - mean.entry.lo)
+        (length g.now) (spread g.now)) }
     ensures most { IfSome result (λ r. r.hi ≤ length g.now * 2 ^ B + mean.entry.hi * p.den) }
 {
     let bracket = quantile(g, p);

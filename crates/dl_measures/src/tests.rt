@@ -1,4 +1,4 @@
-ghost use Rattle.std.specs.Prelude.{◌≡◌, ◌≤◌, IsTrue, length, IfOk, IfSome};
+ghost use Rattle.std.specs.Prelude.{◌≤◌, IsTrue, IfSome};
 ghost use Rattle.dl_exact.specs.Fraction.{whole, ◌<ℚ◌};
 
 use crate::{Bracket, layer_mean, quantile, tail_mean};
@@ -10,8 +10,8 @@ use std::alloc::{AllocError, Global};
 /// How many parts of 216 each total from 0 to 6 has. The mean is 19/6.
 const PARTS: [u8; 7] = [6, 24, 42, 54, 48, 30, 12];
 
-/// The bracket at a probability on so many cells, at the scales 1, 48 and 56: worked out from the parts
-/// by exact fractions.
+/// The bracket at a probability on so many cells, at the scales 1, 48 and 56: worked out from the
+/// parts by exact fractions.
 #[derive(Clone, Copy, Debug)]
 struct Reached {
     cells: u32,
@@ -27,8 +27,8 @@ struct Covered {
     want: (u8, u8),
 }
 
-/// A tail mean of the total, or of the sum of two dice on 16 cells, by exact fractions; none where the
-/// grid ends before the quantile.
+/// A tail mean of the total, or of the sum of two dice on 16 cells, by exact fractions; none where
+/// the grid ends before the quantile.
 #[derive(Clone, Copy, Debug)]
 struct Beyond {
     dice: bool,
@@ -37,34 +37,17 @@ struct Beyond {
     want: Option<(u8, u8)>,
 }
 
-/// Writes a cell, where the grid stays one.
-fn write<const B: u32>(g: &mut Grid<B>, x: u32, v: Iv<B>)
-    requires scale_above { 1 ≤ B }
-    requires scale_below { B ≤ 56 }
-    ensures { length g.new ≡ length g.old }
-{
-    let one = units_of_one(B);
-    if v.hi > one || x >= g.cells() {
-        return;
-    }
-    let others = g.mass_low().saturating_sub(g.at(x).lo);
-    if others + v.lo <= one {
-        g.set(x, v);
-    }
-}
-
 /// The grid of the total, each probability enclosed on its own.
 fn grid<const B: u32>(alloc: Global, cells: u32) -> Result<Grid<B>, AllocError>
     requires scale_above { 1 ≤ B }
     requires scale_below { B ≤ 56 }
     requires some { 1 ≤ cells }
     requires few { cells ≤ 7 }
-    ensures { IfOk result (λ g. length g ≡ cells) }
 {
     let mut g = Grid::<B>::zero(alloc, cells)?;
     for x in 0..cells {
         let v = Iv::enclose(u128::from(PARTS[x as usize]), 216);
-        write(&mut g, x, v);
+        g.put(x, v);
     }
     Ok(g)
 }
@@ -75,10 +58,10 @@ fn dice<const B: u32>(alloc: Global) -> Result<Grid<B>, AllocError>
     requires scale_below { B ≤ 56 }
 {
     let mut g = Grid::<B>::zero(alloc, 16)?;
-    write(&mut g, 0, Iv::point(0));
+    g.put(0, Iv::point(0));
     for x in 2..13u32 {
         let v = Iv::enclose(u128::from(6 - x.abs_diff(7).min(6)), 36);
-        write(&mut g, x, v);
+        g.put(x, v);
     }
     Ok(g)
 }
@@ -137,7 +120,7 @@ fn holds<const B: u32>(alloc: Global, case: &Covered) -> Result<bool, AllocError
     let g = grid::<B>(alloc, 7)?;
     let limit = case.limit.map(|limit| limit.min(7));
     let attach = case.attach.min(7);
-    if attach + limit.unwrap_or(0) > 7 {
+    if attach + limit.unwrap_or(0) > g.cells() {
         return Ok(false);
     }
     let mean = layer_mean(&g, limit, attach, Iv::enclose(19, 6));

@@ -12,7 +12,12 @@ units_of_one-one-requires g c = (scale_of c.args.unit.now c.cells.ensures.grid.s
 
 pub invariant_of-result-clause-ordered : goal.invariant_of-result-clause-ordered
 invariant_of-result-clause-ordered g c =
-    rw (c.div_ceil.ensures, c.weighted_sums-low.ensures.low, c.weighted_sums-low.ensures.high, c.units_of_one-one.ensures)
+    rw (
+      c.div_ceil.ensures,
+      c.weighted_sums-low.ensures.low,
+      c.weighted_sums-low.ensures.high,
+      c.units_of_one-one.ensures,
+    )
     (ends_order c.args.unit.now c.args.others.now c.args.x)
 
 pub invariant_of-result-clause-in_range : goal.invariant_of-result-clause-in_range
@@ -49,7 +54,8 @@ returns-clause-width g c =
       c.weighted_sums-low.ensures.high,
       c.units_of_one-one.ensures,
     )
-    (joint_width c.args.unit.now c.args.others.now c.args.x c.cells.ensures.grid c.cells-2.ensures.grid c.requires.in_unit)
+    (joint_width c.args.unit.now c.args.others.now c.args.x c.cells.ensures.grid c.cells-2.ensures.grid
+    c.requires.in_unit)
 
 pub returns-clause-below : goal.returns-clause-below
 returns-clause-below g c us i h declared here e f at =

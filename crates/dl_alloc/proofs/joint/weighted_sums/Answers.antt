@@ -13,7 +13,8 @@ overflow_mul-low-in-loop-y g c =
     omega (
       arith,
       (low_step c.args.unit.now c.args.others.now c.args.x c.loop-y.y c.loop-y.low c.at-own.result c.at-other.result
-          c.requires.unit c.requires.others c.requires.in_unit c.requires.in_others (omega arith) c.at-own.ensures.low c.at-own.ensures.high c.at-other.ensures.low c.at-other.ensures.high
+          c.requires.unit c.requires.others c.requires.in_unit c.requires.in_others
+          (omega arith) c.at-own.ensures.low c.at-own.ensures.high c.at-other.ensures.low c.at-other.ensures.high
           c.loop-y.invariant.low).1,
     )
 
@@ -22,7 +23,8 @@ overflow_add-low g c =
     omega (
       arith,
       (low_step c.args.unit.now c.args.others.now c.args.x c.loop-y.y c.loop-y.low c.at-own.result c.at-other.result
-          c.requires.unit c.requires.others c.requires.in_unit c.requires.in_others (omega arith) c.at-own.ensures.low c.at-own.ensures.high c.at-other.ensures.low c.at-other.ensures.high
+          c.requires.unit c.requires.others c.requires.in_unit c.requires.in_others
+          (omega arith) c.at-own.ensures.low c.at-own.ensures.high c.at-other.ensures.low c.at-other.ensures.high
           c.loop-y.invariant.low).1,
     )
 
@@ -31,7 +33,8 @@ overflow_mul-high-in-loop-y g c =
     omega (
       arith,
       (high_step c.args.unit.now c.args.others.now c.args.x c.loop-y.y c.loop-y.high c.at-own.result c.at-other.result
-          c.requires.unit c.requires.others c.requires.in_unit c.requires.in_others (omega arith) c.at-own.ensures.low c.at-own.ensures.high c.at-other.ensures.low c.at-other.ensures.high
+          c.requires.unit c.requires.others c.requires.in_unit c.requires.in_others
+          (omega arith) c.at-own.ensures.low c.at-own.ensures.high c.at-other.ensures.low c.at-other.ensures.high
           c.requires.unit_narrow c.requires.others_narrow c.loop-y.invariant.high).1,
     )
 
@@ -40,24 +43,30 @@ overflow_add-high g c =
     omega (
       arith,
       (high_step c.args.unit.now c.args.others.now c.args.x c.loop-y.y c.loop-y.high c.at-own.result c.at-other.result
-          c.requires.unit c.requires.others c.requires.in_unit c.requires.in_others (omega arith) c.at-own.ensures.low c.at-own.ensures.high c.at-other.ensures.low c.at-other.ensures.high
+          c.requires.unit c.requires.others c.requires.in_unit c.requires.in_others
+          (omega arith) c.at-own.ensures.low c.at-own.ensures.high c.at-other.ensures.low c.at-other.ensures.high
           c.requires.unit_narrow c.requires.others_narrow c.loop-y.invariant.high).1,
     )
 
 pub loop-y-preserved : goal.loop-y-preserved
 loop-y-preserved g c = record {
   low = (low_step c.args.unit.now c.args.others.now c.args.x c.loop-y.y c.loop-y.low c.at-own.result c.at-other.result
-      c.requires.unit c.requires.others c.requires.in_unit c.requires.in_others (omega arith) c.at-own.ensures.low c.at-own.ensures.high c.at-other.ensures.low c.at-other.ensures.high
+      c.requires.unit c.requires.others c.requires.in_unit c.requires.in_others
+      (omega arith) c.at-own.ensures.low c.at-own.ensures.high c.at-other.ensures.low c.at-other.ensures.high
       c.loop-y.invariant.low).0;
-  high = (high_step c.args.unit.now c.args.others.now c.args.x c.loop-y.y c.loop-y.high c.at-own.result c.at-other.result
-      c.requires.unit c.requires.others c.requires.in_unit c.requires.in_others (omega arith) c.at-own.ensures.low c.at-own.ensures.high c.at-other.ensures.low c.at-other.ensures.high
+  high = (high_step c.args.unit.now c.args.others.now c.args.x c.loop-y.y c.loop-y.high c.at-own.result
+      c.at-other.result
+      c.requires.unit c.requires.others c.requires.in_unit c.requires.in_others
+      (omega arith) c.at-own.ensures.low c.at-own.ensures.high c.at-other.ensures.low c.at-other.ensures.high
       c.requires.unit_narrow c.requires.others_narrow c.loop-y.invariant.high).0;
 }
 
 pub returns-clause-low : goal.returns-clause-low
 returns-clause-low g c =
-    all_places c.loop-y.y c.args.x c.loop-y.low (low_at c.args.unit.now) (low_at c.args.others.now) (omega arith) c.loop-y.invariant.low
+    all_places c.loop-y.y c.args.x c.loop-y.low (low_at c.args.unit.now) (low_at c.args.others.now)
+    (omega arith) c.loop-y.invariant.low
 
 pub returns-clause-high : goal.returns-clause-high
 returns-clause-high g c =
-    all_places c.loop-y.y c.args.x c.loop-y.high (high_at c.args.unit.now) (high_at c.args.others.now) (omega arith) c.loop-y.invariant.high
+    all_places c.loop-y.y c.args.x c.loop-y.high (high_at c.args.unit.now) (high_at c.args.others.now)
+    (omega arith) c.loop-y.invariant.high

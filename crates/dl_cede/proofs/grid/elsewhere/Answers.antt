@@ -1,9 +1,8 @@
 use Rattle.std.proofs.Common.{◌≡◌, ◌≢◌, ◌<◌, length, arith, sym, ap, subst, ◌∙◌}
 use Rattle.dl_exact.specs.Fraction.{whole}
-use Rattle.dl_plan.specs.Cession.{kept}
+use Rattle.dl_plan.specs.Clause.{kept}
 use Rattle.dl_plan.specs.Fine.{IsWhole}
 use Rattle.dl_grid.specs.Cells.{low_at, high_at}
-use Rattle.dl_grid.proofs.CellLaws.{low_at_read, high_at_read}
 use Rattle.dl_exact.proofs.Counts.{below_nothing as count_below_none}
 use Rattle.dl_cede.specs.Kept.{sum_elsewhere}
 use Rattle.dl_cede.proofs.Walk.{elsewhere_other, elsewhere_same, elsewhere_not, elsewhere_fits, elsewhere_mass}
@@ -31,21 +30,25 @@ pub loop-s-preserved : goal.loop-s-preserved
 loop-s-preserved g c =
     elim c.match-at.branch [
       | in-Some+then-x-from w ↦
-          let here : kept c.args.cede.now c.loop-s.s ≡ whole w.in-Some.x = ap (kept c.args.cede.now) (sym c.from.ensures)
+          let here : kept c.args.cede.now c.loop-s.s ≡ whole w.in-Some.x =
+          ap (kept c.args.cede.now) (sym c.from.ensures)
           ∙ w.in-Some.ensures.value in
           let inside : c.loop-s.s < length c.args.sums.now = omega arith in
           let other : w.in-Some.x ≢ c.args.y = λ e. w.if-x-from.true (e ∙ sym w.from-in-Some.ensures) in
           rw w.total-is record {
-            low = w.add-total.ensures.low ∙ elsewhere_other c.args.cede.now (low_at c.args.sums.now) c.loop-s.s w.in-Some.x c.args.y _ _
+            low = w.add-total.ensures.low ∙ elsewhere_other c.args.cede.now
+                (low_at c.args.sums.now) c.loop-s.s w.in-Some.x c.args.y _ _
                 here other c.loop-s.invariant.low
                 w.at-then-x-from.ensures.low;
             high = w.add-total.ensures.high
-                ∙ elsewhere_other c.args.cede.now (high_at c.args.sums.now) c.loop-s.s w.in-Some.x c.args.y _ _ here other
+                ∙ elsewhere_other c.args.cede.now (high_at c.args.sums.now) c.loop-s.s w.in-Some.x c.args.y
+                _ _ here other
                 c.loop-s.invariant.high
                 w.at-then-x-from.ensures.high;
           }
       | in-Some+else-x-from w ↦
-          let here : kept c.args.cede.now c.loop-s.s ≡ whole w.in-Some.x = ap (kept c.args.cede.now) (sym c.from.ensures)
+          let here : kept c.args.cede.now c.loop-s.s ≡ whole w.in-Some.x =
+          ap (kept c.args.cede.now) (sym c.from.ensures)
           ∙ w.in-Some.ensures.value in
           let same : w.in-Some.x ≡ c.args.y = w.if-x-from.false ∙ w.from-in-Some.ensures in
           rw w.total-is record {
@@ -55,11 +58,14 @@ loop-s-preserved g c =
                 c.loop-s.invariant.high;
           }
       | in_default w ↦
-          let none : ¬ IsWhole (kept c.args.cede.now c.loop-s.s) = subst (λ t. ¬ IsWhole (kept c.args.cede.now t)) c.from.ensures
+          let none : ¬ IsWhole (kept c.args.cede.now c.loop-s.s) =
+          subst (λ t. ¬ IsWhole (kept c.args.cede.now t)) c.from.ensures
           w.in_default.ensures.value in
           rw w.total-is record {
-            low = c.loop-s.invariant.low ∙ sym (elsewhere_not c.args.cede.now (low_at c.args.sums.now) c.loop-s.s c.args.y none);
-            high = c.loop-s.invariant.high ∙ sym (elsewhere_not c.args.cede.now (high_at c.args.sums.now) c.loop-s.s c.args.y none);
+            low = c.loop-s.invariant.low ∙ sym (elsewhere_not c.args.cede.now
+                (low_at c.args.sums.now) c.loop-s.s c.args.y none);
+            high = c.loop-s.invariant.high ∙ sym (elsewhere_not c.args.cede.now
+                (high_at c.args.sums.now) c.loop-s.s c.args.y none);
           }
     ]
 

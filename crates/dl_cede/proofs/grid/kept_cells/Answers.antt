@@ -1,6 +1,6 @@
 use Rattle.std.proofs.Common.{◌≡◌, ◌<◌, length, arith, sym, ap, ◌∙◌}
 use Rattle.dl_exact.specs.Fraction.{whole}
-use Rattle.dl_plan.specs.Cession.{kept}
+use Rattle.dl_plan.specs.Clause.{kept}
 use Rattle.dl_cede.proofs.Ceded.{same_whole}
 use Rattle.dl_cede.proofs.Rest.{all_spread, rest_mass, rest_spread, rest_left, others_taken}
 use Rattle.dl_cede.proofs.grid.kept_cells.Goals as goal
@@ -17,7 +17,8 @@ set-requires g c =
           inside,
           (
             omega (arith, c.complement.ensures.high),
-            rest_mass c.args.cede.now c.args.sums.now c.in_ok-grid.grid c.in-Some.y inside (c.in_ok-grid.ensures.ends c.in-Some.y at)
+            rest_mass c.args.cede.now c.args.sums.now c.in_ok-grid.grid c.in-Some.y inside
+                (c.in_ok-grid.ensures.ends c.in-Some.y at)
                 c.complement.result.lo
                 c.in_ok-grid.ensures.mass (omega (arith, c.elsewhere.ensures.within, c.elsewhere.ensures.low))
                 (omega (arith, c.complement.ensures.low, c.elsewhere.ensures.high)),
@@ -29,9 +30,11 @@ set-requires g c =
 pub returns-clause-inside : goal.returns-clause-inside
 returns-clause-inside g c y within other = elim c.match-kept_past.branch [
   | in-Some w ↦
-      let here : kept c.args.cede.now (length c.args.sums.now) ≡ whole w.in-Some.y = ap (kept c.args.cede.now) (sym c.cells.ensures.count)
+      let here : kept c.args.cede.now (length c.args.sums.now) ≡ whole w.in-Some.y =
+      ap (kept c.args.cede.now) (sym c.cells.ensures.count)
       ∙ w.in-Some.ensures.1 in
-      let at : w.in-Some.y < length c.in_ok-grid.grid = omega (arith, w.in-Some.ensures.0, c.in_ok-grid.ensures.cells) in
+      let at : w.in-Some.y < length c.in_ok-grid.grid =
+      omega (arith, w.in-Some.ensures.0, c.in_ok-grid.ensures.cells) in
       rw (w.grid-is, w.set.ensures) (others_taken c.args.cede.now c.args.sums.now c.in_ok-grid.grid w.in-Some.y at
       (c.in_ok-grid.ensures.ends w.in-Some.y w.in-Some.ensures.0)
       w.complement.result y (λ same. other (here ∙ ap whole same)) (c.in_ok-grid.ensures.ends y within))
@@ -41,25 +44,30 @@ returns-clause-inside g c y within other = elim c.match-kept_past.branch [
 pub returns-clause-past : goal.returns-clause-past
 returns-clause-past g c y within here = elim c.match-kept_past.branch [
   | in-Some w ↦
-      let there : kept c.args.cede.now (length c.args.sums.now) ≡ whole w.in-Some.y = ap (kept c.args.cede.now) (sym c.cells.ensures.count)
+      let there : kept c.args.cede.now (length c.args.sums.now) ≡ whole w.in-Some.y =
+      ap (kept c.args.cede.now) (sym c.cells.ensures.count)
       ∙ w.in-Some.ensures.1 in
-      let at : w.in-Some.y < length c.in_ok-grid.grid = omega (arith, w.in-Some.ensures.0, c.in_ok-grid.ensures.cells) in
+      let at : w.in-Some.y < length c.in_ok-grid.grid =
+      omega (arith, w.in-Some.ensures.0, c.in_ok-grid.ensures.cells) in
       rw (w.grid-is, w.set.ensures) (rest_left c.args.cede.now c.args.sums.now c.in_ok-grid.grid w.in-Some.y at
       (c.in_ok-grid.ensures.ends w.in-Some.y w.in-Some.ensures.0)
       w.complement.result (omega (arith, w.complement.ensures.low, w.elsewhere.ensures.high))
       (omega (arith, w.complement.ensures.high, w.elsewhere.ensures.low))
-      (omega (arith, w.elsewhere.ensures.within, w.elsewhere.ensures.low)) y (same_whole w.in-Some.y y (sym there ∙ here)))
+      (omega (arith, w.elsewhere.ensures.within, w.elsewhere.ensures.low)) y
+      (same_whole w.in-Some.y y (sym there ∙ here)))
   | in_default w ↦ absurd (w.in_default.ensures y within (ap (kept c.args.cede.now) c.cells.ensures.count ∙ here))
 ]
 
 pub returns-clause-spread : goal.returns-clause-spread
 returns-clause-spread g c = elim c.match-kept_past.branch [
   | in-Some w ↦
-      let at : w.in-Some.y < length c.in_ok-grid.grid = omega (arith, w.in-Some.ensures.0, c.in_ok-grid.ensures.cells) in
+      let at : w.in-Some.y < length c.in_ok-grid.grid =
+      omega (arith, w.in-Some.ensures.0, c.in_ok-grid.ensures.cells) in
       rw (w.grid-is, w.set.ensures) (rest_spread c.args.cede.now c.args.sums.now c.in_ok-grid.grid w.in-Some.y at
       (c.in_ok-grid.ensures.ends w.in-Some.y w.in-Some.ensures.0)
       w.complement.result (omega (arith, w.complement.ensures.low, w.elsewhere.ensures.high))
       (omega (arith, w.complement.ensures.high, w.elsewhere.ensures.low))
       c.in_ok-grid.ensures.spread)
-  | in_default w ↦ rw w.grid-is (all_spread c.args.cede.now c.args.sums.now c.in_ok-grid.grid c.in_ok-grid.ensures.spread)
+  | in_default w ↦ rw w.grid-is (all_spread c.args.cede.now c.args.sums.now c.in_ok-grid.grid
+      c.in_ok-grid.ensures.spread)
 ]

@@ -1,15 +1,17 @@
 use Rattle.std.proofs.Common.{◌≡◌, arith, sym, ap, ◌∙◌}
 use Rattle.dl_exact.specs.Fraction.{Fraction}
-use Rattle.dl_plan.specs.Cession.{kept}
+use Rattle.dl_plan.specs.Clause.{kept}
 use Rattle.dl_exact.proofs.Parts.{whole_den}
 use Rattle.dl_cede.proofs.Ceded.{same_whole}
 use Rattle.dl_cede.proofs.grid.kept_past.Goals as goal
 
 pub returns-in_default : goal.returns-in_default
 returns-in_default c y inside e =
-    let same : c.in-Some.y ≡ y = same_whole c.in-Some.y y (sym c.in-Some.ensures.value ∙ ap (kept c.args.cede.now) c.from.ensures ∙ e) in
+    let same : c.in-Some.y ≡ y = same_whole c.in-Some.y y
+    (sym c.in-Some.ensures.value ∙ ap (kept c.args.cede.now) c.from.ensures ∙ e) in
     omega (arith, same)
 
 pub returns-in_default-2 : goal.returns-in_default-2
 returns-in_default-2 c y inside e =
-    c.in_default.ensures.value (ap (λ (q : Fraction). q.den) (ap (kept c.args.cede.now) c.from.ensures ∙ e) ∙ whole_den y)
+    c.in_default.ensures.value (ap (λ (q : Fraction). q.den) (ap (kept c.args.cede.now) c.from.ensures ∙ e)
+    ∙ whole_den y)

@@ -1,9 +1,8 @@
 use Rattle.std.proofs.Common.{◌≡◌, ◌<◌, ◌^◌, length, min, arith, sym, ap, subst, ◌∙◌}
 use Rattle.dl_exact.specs.Fraction.{whole}
-use Rattle.dl_plan.specs.Cession.{kept}
+use Rattle.dl_plan.specs.Clause.{kept}
 use Rattle.dl_plan.specs.Fine.{IsWhole}
 use Rattle.dl_grid.specs.Cells.{low_at, high_at}
-use Rattle.dl_grid.proofs.CellLaws.{low_at_read, high_at_read}
 use Rattle.dl_exact.proofs.Counts.{below_nothing as count_below_none}
 use Rattle.dl_cede.specs.Kept.{width_at, sum_kept}
 use Rattle.dl_cede.proofs.Walk.{kept_fits, kept_more, kept_more_clamped, from_none, whole_here, kept_not, whole_not}
@@ -44,14 +43,16 @@ pub loop-s-preserved : goal.loop-s-preserved
 loop-s-preserved g c =
     elim c.match-at.branch [
       | in-Some w ↦
-          let here : kept c.args.cede.now c.loop-s.s ≡ whole w.in-Some.y = ap (kept c.args.cede.now) (sym c.from.ensures)
+          let here : kept c.args.cede.now c.loop-s.s ≡ whole w.in-Some.y =
+          ap (kept c.args.cede.now) (sym c.from.ensures)
           ∙ w.in-Some.ensures.value in
           let inside : c.loop-s.s < length c.args.sums.now = omega arith in
           let low = w.at-in-Some.ensures.low in
           let high = w.at-in-Some.ensures.high in
           rw w.grid-is record {
             cells = w.add_at.ensures.cells ∙ c.loop-s.invariant.cells;
-            low = λ y h. kept_more c.args.cede.now (low_at c.args.sums.now) c.loop-s.s y w.in-Some.y _ _ w.at-in-Some.result.lo here
+            low = λ y h. kept_more c.args.cede.now (low_at c.args.sums.now) c.loop-s.s y w.in-Some.y _ _
+                w.at-in-Some.result.lo here
                 low (c.loop-s.invariant.low y h)
                 (w.add_at.ensures.low y (omega (arith, h, c.loop-s.invariant.cells)));
             high = λ y h. kept_more_clamped c.args.cede.now (high_at c.args.sums.now) c.loop-s.s y w.in-Some.y _ _ _
@@ -76,15 +77,26 @@ loop-s-preserved g c =
             );
           }
       | in_default w ↦
-          let none : ¬ IsWhole (kept c.args.cede.now c.loop-s.s) = subst (λ t. ¬ IsWhole (kept c.args.cede.now t)) c.from.ensures
+          let none : ¬ IsWhole (kept c.args.cede.now c.loop-s.s) =
+          subst (λ t. ¬ IsWhole (kept c.args.cede.now t)) c.from.ensures
           w.in_default.ensures.value in
           rw w.grid-is record {
             cells = c.loop-s.invariant.cells;
-            low = λ y h. c.loop-s.invariant.low y h ∙ sym (kept_not c.args.cede.now (low_at c.args.sums.now) c.loop-s.s y none);
+            low = λ y h. c.loop-s.invariant.low y h
+                ∙ sym (kept_not c.args.cede.now (low_at c.args.sums.now) c.loop-s.s y none);
             high = λ y h. c.loop-s.invariant.high y h
                 ∙ ap (min (2 ^ g.row.B)) (sym (kept_not c.args.cede.now (high_at c.args.sums.now) c.loop-s.s y none));
-            mass = omega (arith, c.loop-s.invariant.mass, whole_not c.args.cede.now (low_at c.args.sums.now) c.loop-s.s none);
-            spread = omega (arith, c.loop-s.invariant.spread, whole_not c.args.cede.now (width_at c.args.sums.now) c.loop-s.s none);
+            mass = omega (
+              arith,
+              c.loop-s.invariant.mass,
+              whole_not c.args.cede.now
+                  (low_at c.args.sums.now) c.loop-s.s none,
+            );
+            spread = omega (
+              arith,
+              c.loop-s.invariant.spread,
+              whole_not c.args.cede.now (width_at c.args.sums.now) c.loop-s.s none,
+            );
           }
     ]
 
@@ -93,5 +105,6 @@ returns-clause-ends g c y inside =
     let all : c.loop-s.s ≡ length c.args.sums.now = omega arith in
     record {
       low = c.loop-s.invariant.low y inside ∙ ap (λ n. sum_kept c.args.cede.now n (low_at c.args.sums.now) y) all;
-      high = c.loop-s.invariant.high y inside ∙ ap (λ n. min (2 ^ g.row.B) (sum_kept c.args.cede.now n (high_at c.args.sums.now) y)) all;
+      high = c.loop-s.invariant.high y inside
+          ∙ ap (λ n. min (2 ^ g.row.B) (sum_kept c.args.cede.now n (high_at c.args.sums.now) y)) all;
     }

@@ -9,18 +9,21 @@ kept_mean-requires g c =
     let valid = c.requires.valid in
     let horizon = c.requires.horizon in
     let clause = aggregate valid.0 c.args.unit.now c.in-Some.cede c.in-Some.is valid.1 in
-    let inside = edges_inside horizon.0 (length c.args.grid.now) c.args.unit.now.cede c.in-Some.cede c.in-Some.is horizon.1 in
+    let inside = edges_inside horizon.0 (length c.args.grid.now) c.args.unit.now.cede c.in-Some.cede
+    c.in-Some.is horizon.1 in
     let mean = c.claims_mean-claims.ensures in
-    (omega arith, (omega arith, (clause.cession, (clause.near, (inside, (mean.width, mean.small))))))
+    (omega arith, (omega arith, (clause.accepted, (clause.near, (inside, (mean.width, mean.small))))))
 
 pub returns-in-Some-clause-holds : goal.returns-in-Some-clause-holds
 returns-in-Some-clause-holds g c =
     let valid = c.requires.valid in
-    c.kept_mean.ensures.holds valid.0 c.args.unit.now valid.1 c.in-Some.is c.requires.encloses c.claims_mean-claims.ensures.holds
+    c.kept_mean.ensures.holds valid.0 c.args.unit.now valid.1 c.in-Some.is c.requires.encloses
+    c.claims_mean-claims.ensures.holds
 
 pub returns-in-Some-clause-width : goal.returns-in-Some-clause-width
 returns-in-Some-clause-width g c =
     omega (arith, c.kept_mean.ensures.width, ap (λ cede. mean_width cede (spread c.args.grid.now)) c.in-Some.is)
 
 pub returns-in-None-clause-holds : goal.returns-in-None-clause-holds
-returns-in-None-clause-holds g c = plain_holds c.args.unit.now c.claims_mean-claims.result c.in-None.is c.claims_mean-claims.ensures.holds
+returns-in-None-clause-holds g c = plain_holds c.args.unit.now c.claims_mean-claims.result c.in-None.is
+    c.claims_mean-claims.ensures.holds

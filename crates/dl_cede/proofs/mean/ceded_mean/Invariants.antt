@@ -11,8 +11,10 @@ use Rattle.dl_cede.proofs.mean.ceded_mean.Given as goal
 
 abbrev pub invariant-layers : goal.invariant-layers
 invariant-layers g l = record {
-  holds : (cells : ℕ) (u : UnitOfPlan) → IsValidUnit cells u → GridEncloses l.grid (compound_of u.freq u.sev) → HoldsClaims u l.claims
+  holds : (cells : ℕ) (u : UnitOfPlan) → IsValidUnit cells u → GridEncloses l.grid (compound_of u.freq u.sev)
+      → HoldsClaims u l.claims
       → HoldsCeded u (take l.layer-index l.layers) l.ceded;
-  width : l.ceded.hi - l.ceded.lo ≤ sum_by (λ k. part_width (spread l.grid) k.limit k.attach) (take l.layer-index l.layers);
+  width : l.ceded.hi - l.ceded.lo ≤ sum_by (λ k. part_width (spread l.grid) k.limit k.attach)
+      (take l.layer-index l.layers);
   small : l.ceded.hi ≤ mosts (2 ^ g.row.B) l.claims.hi (take l.layer-index l.layers);
 }

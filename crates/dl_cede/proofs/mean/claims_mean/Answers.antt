@@ -1,12 +1,13 @@
 use Rattle.std.proofs.Common.{arith}
 use Rattle.dl_cede.proofs.MeanSizes.{unit_small}
-use Rattle.dl_cede.proofs.MeanEnds.{claims_hold}
+use Rattle.dl_cede.proofs.MeanEnds.{claims_hold, nearest_ends}
 use Rattle.dl_cede.proofs.mean.claims_mean.Goals as goal
 
 pub enclose-requires : goal.enclose-requires
 enclose-requires g c =
     let parts = c.mean_parts-num.ensures in
-    let small = unit_small g.row.B c.args.unit.now c.mean_parts-num.result.0 c.mean_parts-num.result.1 c.requires.scale_below
+    let small = unit_small g.row.B c.args.unit.now c.mean_parts-num.result.0 c.mean_parts-num.result.1
+    c.requires.scale_below
     c.requires.valid parts.positive parts.value in (
       omega arith,
       (
@@ -29,12 +30,19 @@ returns-clause-holds g c =
     claims_hold c.args.unit.now c.enclose.result c.mean_parts-num.result.0 c.mean_parts-num.result.1 c.requires.valid
     c.mean_parts-num.ensures.value c.enclose.ensures.holds
 
+pub returns-clause-ends : goal.returns-clause-ends
+returns-clause-ends g c =
+    let parts = c.mean_parts-num.ensures in
+    nearest_ends c.args.unit.now c.enclose.result c.mean_parts-num.result.0 c.mean_parts-num.result.1 parts.positive
+    parts.value c.enclose.ensures.low c.enclose.ensures.high
+
 pub returns-clause-small : goal.returns-clause-small
 returns-clause-small g c =
     let parts = c.mean_parts-num.ensures in
     omega (
       arith,
       c.enclose.ensures.high,
-      unit_small g.row.B c.args.unit.now c.mean_parts-num.result.0 c.mean_parts-num.result.1 c.requires.scale_below c.requires.valid
+      unit_small g.row.B c.args.unit.now c.mean_parts-num.result.0 c.mean_parts-num.result.1 c.requires.scale_below
+          c.requires.valid
           parts.positive parts.value,
     )

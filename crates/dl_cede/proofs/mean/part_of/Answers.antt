@@ -1,5 +1,5 @@
 use Rattle.std.proofs.Common.{◌-◌, ◌≤◌, arith}
-use Rattle.dl_plan.proofs.Cessions.{num_le_den}
+use Rattle.dl_plan.proofs.Clauses.{num_le_den}
 use Rattle.dl_grid.proofs.CellLaws.{one_fits}
 use Rattle.dl_cede.proofs.MeanSizes.{most_small, share_fits, share_within, share_width, part_narrow}
 use Rattle.dl_cede.proofs.MeanEnds.{part_holds}
@@ -23,7 +23,8 @@ scale-requires g c =
 
 pub returns-clause-holds : goal.returns-clause-holds
 returns-clause-holds g c =
-    part_holds c.args.grid.now c.args.layer.now c.args.claims c.layer_mean-mean.result c.scale.result c.num.result c.den.result
+    part_holds c.args.grid.now c.args.layer.now c.args.claims c.layer_mean-mean.result c.scale.result
+    c.num.result c.den.result
     c.num.ensures.part c.den.ensures.part
     c.scale.ensures.holds c.layer_mean-mean.ensures.holds
 
@@ -38,7 +39,8 @@ returns-clause-width g c =
     ) in
     let wide = share_width c.layer_mean-mean.result.lo c.layer_mean-mean.result.hi c.num.result c.den.result
     c.layer_mean-mean.result.ordered within c.den.ensures.positive in
-    part_narrow c.args.layer.now.limit c.args.layer.now.attach (c.args.claims.hi - c.args.claims.lo) _ _ (omega (arith, c.requires.narrow))
+    part_narrow c.args.layer.now.limit c.args.layer.now.attach (c.args.claims.hi - c.args.claims.lo) _ _
+    (omega (arith, c.requires.narrow))
     (omega (arith, wide, c.scale.ensures.low, c.scale.ensures.high, c.layer_mean-mean.ensures.width))
 
 pub returns-clause-small : goal.returns-clause-small

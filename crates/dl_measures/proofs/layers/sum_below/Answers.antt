@@ -28,6 +28,18 @@ add-sum-requires g c = (
 
 pub loop-x-preserved : goal.loop-x-preserved
 loop-x-preserved g c = record {
-  low = omega (arith, c.add-sum.ensures.low, below_more c.loop-x.x (low_at c.args.g.now), c.loop-x.invariant.low, c.at.ensures.low);
-  high = omega (arith, c.add-sum.ensures.high, below_more c.loop-x.x (high_at c.args.g.now), c.loop-x.invariant.high, c.at.ensures.high);
+  low = omega (
+    arith,
+    c.add-sum.ensures.low,
+    below_more c.loop-x.x (low_at c.args.g.now),
+    c.loop-x.invariant.low,
+    c.at.ensures.low,
+  );
+  high = omega (
+    arith,
+    c.add-sum.ensures.high,
+    below_more c.loop-x.x (high_at c.args.g.now),
+    c.loop-x.invariant.high,
+    c.at.ensures.high,
+  );
 }

@@ -13,39 +13,61 @@ pub overflow_mul-goal : goal.overflow_mul-goal
 overflow_mul-goal g c =
     omega (
       arith,
-      goal_fits c.args.p g.row.B c.from.result c.units_of_one.result (scale_of c.args.g.now c.cells-cells.ensures.grid.some).1
+      goal_fits c.args.p g.row.B c.from.result c.units_of_one.result
+          (scale_of c.args.g.now c.cells-cells.ensures.grid.some).1
           c.requires.below_one c.requires.small (c.from.ensures ∙ c.num.ensures.part) c.units_of_one.ensures,
     )
 
 pub loop-x-init : goal.loop-x-init
-loop-x-init g c = start (low_at c.args.g.now) (high_at c.args.g.now) c.from-den.result (c.from.result * c.units_of_one.result)
+loop-x-init g c = start (low_at c.args.g.now) (high_at c.args.g.now) c.from-den.result
+    (c.from.result * c.units_of_one.result)
 
 pub overflow_add-low : goal.overflow_add-low
 overflow_add-low g c =
-    omega (arith, low_fits c.args.g.now c.loop-x.x c.loop-x.low c.at-cell.result.lo c.cells-cells.ensures.grid c.loop-x.invariant.low_sum c.at-cell.ensures.low)
+    omega (
+      arith,
+      low_fits c.args.g.now c.loop-x.x c.loop-x.low c.at-cell.result.lo c.cells-cells.ensures.grid
+          c.loop-x.invariant.low_sum c.at-cell.ensures.low,
+    )
 
 pub overflow_add-high : goal.overflow_add-high
 overflow_add-high g c =
-    omega (arith, high_fits c.args.g.now c.loop-x.x c.loop-x.high c.at-cell.result.hi c.cells-cells.ensures.grid (omega arith) c.loop-x.invariant.high_sum c.at-cell.ensures.high)
+    omega (
+      arith,
+      high_fits c.args.g.now c.loop-x.x c.loop-x.high c.at-cell.result.hi c.cells-cells.ensures.grid
+          (omega arith) c.loop-x.invariant.high_sum c.at-cell.ensures.high,
+    )
 
 pub overflow_mul-low : goal.overflow_mul-low
 overflow_mul-low g c =
-    let fits = low_fits c.args.g.now c.loop-x.x c.loop-x.low c.at-cell.result.lo c.cells-cells.ensures.grid c.loop-x.invariant.low_sum c.at-cell.ensures.low in
-    omega (arith, product_fits (c.loop-x.low + c.at-cell.result.lo) c.from-den.result fits (omega (arith, c.from-den.ensures, c.den.ensures.part, c.requires.small)))
+    let fits = low_fits c.args.g.now c.loop-x.x c.loop-x.low c.at-cell.result.lo c.cells-cells.ensures.grid
+    c.loop-x.invariant.low_sum c.at-cell.ensures.low in
+    omega (
+      arith,
+      product_fits (c.loop-x.low + c.at-cell.result.lo) c.from-den.result fits
+          (omega (arith, c.from-den.ensures, c.den.ensures.part, c.requires.small)),
+    )
 
 pub overflow_mul-high : goal.overflow_mul-high
 overflow_mul-high g c =
-    let fits = high_fits c.args.g.now c.loop-x.x c.loop-x.high c.at-cell.result.hi c.cells-cells.ensures.grid (omega arith) c.loop-x.invariant.high_sum c.at-cell.ensures.high in
-    omega (arith, product_fits (c.loop-x.high + c.at-cell.result.hi) c.from-den.result fits (omega (arith, c.from-den.ensures, c.den.ensures.part, c.requires.small)))
+    let fits = high_fits c.args.g.now c.loop-x.x c.loop-x.high c.at-cell.result.hi c.cells-cells.ensures.grid
+    (omega arith) c.loop-x.invariant.high_sum c.at-cell.ensures.high in
+    omega (
+      arith,
+      product_fits (c.loop-x.high + c.at-cell.result.hi) c.from-den.result fits
+          (omega (arith, c.from-den.ensures, c.den.ensures.part, c.requires.small)),
+    )
 
 pub loop-x-preserved : goal.loop-x-preserved
 loop-x-preserved g c =
     let low = c.at-cell.ensures.low in
     let high = c.at-cell.ensures.high in
     elim c.if-high-den.branch [
-      | then-high-den w ↦ rw w.lo-is (passed (low_at c.args.g.now) (high_at c.args.g.now) c.from-den.result (c.from.result * c.units_of_one.result) c.loop-x.x c.loop-x.lo c.loop-x.low c.loop-x.high
+      | then-high-den w ↦ rw w.lo-is (passed (low_at c.args.g.now) (high_at c.args.g.now) c.from-den.result
+          (c.from.result * c.units_of_one.result) c.loop-x.x c.loop-x.lo c.loop-x.low c.loop-x.high
           c.at-cell.result.lo c.at-cell.result.hi c.loop-x.invariant low high c.if-low-den.false w.if-high-den.true)
-      | else-high-den w ↦ rw w.lo-is (stayed (low_at c.args.g.now) (high_at c.args.g.now) c.from-den.result (c.from.result * c.units_of_one.result) c.loop-x.x c.loop-x.lo c.loop-x.low c.loop-x.high
+      | else-high-den w ↦ rw w.lo-is (stayed (low_at c.args.g.now) (high_at c.args.g.now) c.from-den.result
+          (c.from.result * c.units_of_one.result) c.loop-x.x c.loop-x.lo c.loop-x.low c.loop-x.high
           c.at-cell.result.lo c.at-cell.result.hi c.loop-x.invariant low high c.if-low-den.false w.if-high-den.false)
     ]
 
@@ -55,9 +77,13 @@ returns-then-low-den g c =
     let low = c.at-cell.ensures.low in
     let den : c.from-den.result ≡ c.args.p.den = c.from-den.ensures ∙ c.den.ensures.part in
     let parts : c.from.result * c.units_of_one.result ≡ c.args.p.num * 2 ^ g.row.B = cc in
-    let lo = found_high c.args.g.now c.args.p c.from-den.result (c.from.result * c.units_of_one.result) c.loop-x.x c.loop-x.lo c.loop-x.low c.loop-x.high c.loop-x.invariant den parts c.requires.below_one
+    let lo = found_high c.args.g.now c.args.p c.from-den.result
+    (c.from.result * c.units_of_one.result) c.loop-x.x c.loop-x.lo c.loop-x.low c.loop-x.high c.loop-x.invariant den
+    parts c.requires.below_one
     c.at-cell.result.lo inside low c.if-low-den.true in
-    let hi = found_low c.args.g.now c.args.p c.from-den.result (c.from.result * c.units_of_one.result) c.loop-x.x c.loop-x.lo c.loop-x.low c.loop-x.high c.loop-x.invariant den parts c.requires.below_one
+    let hi = found_low c.args.g.now c.args.p c.from-den.result
+    (c.from.result * c.units_of_one.result) c.loop-x.x c.loop-x.lo c.loop-x.low c.loop-x.high c.loop-x.invariant den
+    parts c.requires.below_one
     c.at-cell.result.lo inside low c.if-low-den.true in
     record {
       lo = lo;
@@ -72,8 +98,12 @@ returns g c =
     let all : c.loop-x.x ≡ length c.args.g.now = omega arith in
     let den : c.from-den.result ≡ c.args.p.den = c.from-den.ensures ∙ c.den.ensures.part in
     let parts : c.from.result * c.units_of_one.result ≡ c.args.p.num * 2 ^ g.row.B = cc in
-    let lo = ended_high c.args.g.now c.args.p c.from-den.result (c.from.result * c.units_of_one.result) c.loop-x.x c.loop-x.lo c.loop-x.low c.loop-x.high c.loop-x.invariant den parts c.requires.below_one all in
-    let hi = ended_low c.args.g.now c.args.p c.from-den.result (c.from.result * c.units_of_one.result) c.loop-x.x c.loop-x.lo c.loop-x.low c.loop-x.high c.loop-x.invariant den parts c.requires.below_one all in
+    let lo = ended_high c.args.g.now c.args.p c.from-den.result
+    (c.from.result * c.units_of_one.result) c.loop-x.x c.loop-x.lo c.loop-x.low c.loop-x.high c.loop-x.invariant den
+    parts c.requires.below_one all in
+    let hi = ended_low c.args.g.now c.args.p c.from-den.result
+    (c.from.result * c.units_of_one.result) c.loop-x.x c.loop-x.lo c.loop-x.low c.loop-x.high c.loop-x.invariant den
+    parts c.requires.below_one all in
     record {
       lo = lo;
       hi = hi;

@@ -8,13 +8,18 @@ overflow_sub-den g c = omega (arith, c.num.ensures.part, c.den-2.ensures.part, n
 pub scale-requires : goal.scale-requires
 scale-requires g c =
     let few : c.den.result ≤ 1000000000 = omega (arith, c.den.ensures.part, c.requires.small) in
-    let left : 0 < c.den-2.result - c.num.result = omega (arith, c.num.ensures.part, c.den-2.ensures.part, rest_above c.args.p c.requires.below_one) in (
+    let left : 0 < c.den-2.result - c.num.result = omega
+    (arith, c.num.ensures.part, c.den-2.ensures.part, rest_above c.args.p c.requires.below_one) in (
       omega arith,
       (
         left,
         (
           omega (arith, product_most c.args.excess.hi c.den.result c.requires.excess few),
-          omega (arith, quotient_fits c.args.excess.hi c.den.result (c.den-2.result - c.num.result) left c.requires.excess few),
+          omega (
+            arith,
+            quotient_fits c.args.excess.hi c.den.result
+                (c.den-2.result - c.num.result) left c.requires.excess few,
+          ),
         ),
       ),
     )

@@ -4,7 +4,7 @@ use Rattle.std.proofs.lemmas.Nat.{pow_pos}
 use Rattle.dl_exact.specs.Fraction.{◌over◌}
 use Rattle.dl_exact.proofs.Laws.{lt_not_le}
 use Rattle.dl_grid.specs.Cells.{low_at, spread}
-use Rattle.dl_model.specs.Measures.{low_cdf, IsTight}
+use Rattle.dl_measures.specs.Ends.{low_cdf, IsTight}
 use Rattle.dl_model.proofs.Bounded.{are_units}
 use Rattle.dl_measures.specs.Brackets.{IsFirstFound}
 use Rattle.dl_measures.proofs.TailLaws.{in_order, near_level, tail_holds, tail_narrow, tail_most_units, buckets_fit, slack_fits, quotient_fits, rest_above}
@@ -12,14 +12,21 @@ use Rattle.dl_measures.proofs.tails.tail_mean.Goals as goal
 
 pub overflow_sub-hi : goal.overflow_sub-hi
 overflow_sub-hi g c =
-    in_order c.args.g.now c.args.p c.quantile-bracket.result.lo c.in_ok-hi.hi c.cells.ensures.grid c.quantile-bracket.ensures.lo
-    (subst (IsFirstFound (low_cdf (2 ^ g.row.B) (low_at c.args.g.now)) c.args.p (length c.args.g.now)) c.in_ok-hi.was c.quantile-bracket.ensures.hi)
+    in_order c.args.g.now c.args.p c.quantile-bracket.result.lo c.in_ok-hi.hi c.cells.ensures.grid
+    c.quantile-bracket.ensures.lo
+    (subst (IsFirstFound (low_cdf (2 ^ g.row.B) (low_at c.args.g.now)) c.args.p (length c.args.g.now)) c.in_ok-hi.was
+    c.quantile-bracket.ensures.hi)
 
 pub overflow_mul-slack : goal.overflow_mul-slack
 overflow_mul-slack g c =
-    let found = subst (IsFirstFound (low_cdf (2 ^ g.row.B) (low_at c.args.g.now)) c.args.p (length c.args.g.now)) c.in_ok-hi.was c.quantile-bracket.ensures.hi in
+    let found = subst (IsFirstFound (low_cdf (2 ^ g.row.B) (low_at c.args.g.now)) c.args.p (length c.args.g.now))
+    c.in_ok-hi.was c.quantile-bracket.ensures.hi in
     let inside : c.from.result ≤ length c.args.g.now = omega (arith, found.0, c.from.ensures) in
-    omega (arith, slack_fits c.args.g.now c.from.result c.cells.ensures.grid inside, ap (λ t. c.from.result * t) c.spread.ensures)
+    omega (
+      arith,
+      slack_fits c.args.g.now c.from.result c.cells.ensures.grid inside,
+      ap (λ t. c.from.result * t) c.spread.ensures,
+    )
 
 pub add-requires : goal.add-requires
 add-requires g c = (
@@ -30,33 +37,50 @@ add-requires g c = (
     ap₂ (λ s t. s * t) c.from-2.ensures c.units_of_one.ensures,
     buckets_fit c.args.g.now c.quantile-bracket.result.lo c.cells.ensures.grid c.quantile-bracket.ensures.lo.within,
     c.over_the_rest.ensures.high,
-    quotient_fits c.layer_mean-excess.result.hi c.args.p.den (c.args.p.den - c.args.p.num) (rest_above c.args.p c.requires.below_one)
+    quotient_fits c.layer_mean-excess.result.hi c.args.p.den (c.args.p.den - c.args.p.num)
+        (rest_above c.args.p c.requires.below_one)
         (omega (arith, c.layer_mean-excess.ensures.most, c.requires.mean)) c.requires.small,
   ),
 )
 
 pub returns : goal.returns
 returns g c =
-    let found = subst (IsFirstFound (low_cdf (2 ^ g.row.B) (low_at c.args.g.now)) c.args.p (length c.args.g.now)) c.in_ok-hi.was c.quantile-bracket.ensures.hi in
+    let found = subst (IsFirstFound (low_cdf (2 ^ g.row.B) (low_at c.args.g.now)) c.args.p (length c.args.g.now))
+    c.in_ok-hi.was c.quantile-bracket.ensures.hi in
     let low : c.add.result.lo ≡ c.quantile-bracket.result.lo * 2 ^ g.row.B
-    + (c.layer_mean-excess.result.lo - (c.in_ok-hi.hi - c.quantile-bracket.result.lo) * spread c.args.g.now) * c.args.p.den / (c.args.p.den - c.args.p.num) =
-    c.add.ensures.low ∙ ap₂ (λ s t. s + t) (c.point-start.ensures.low ∙ ap₂ (λ s t. s * t) c.from-2.ensures c.units_of_one.ensures)
-    (c.over_the_rest.ensures.low ∙ ap (λ t. (c.layer_mean-excess.result.lo - t) * c.args.p.den / (c.args.p.den - c.args.p.num)) (ap₂ (λ s t. s * t) c.from.ensures c.spread.ensures)) in
-    let high : c.add.result.hi ≡ c.quantile-bracket.result.lo * 2 ^ g.row.B + div_ceil (c.layer_mean-excess.result.hi * c.args.p.den) (c.args.p.den - c.args.p.num) =
-    c.add.ensures.high ∙ ap₂ (λ s t. s + t) (c.point-start.ensures.high ∙ ap₂ (λ s t. s * t) c.from-2.ensures c.units_of_one.ensures) c.over_the_rest.ensures.high in
+    + (c.layer_mean-excess.result.lo - (c.in_ok-hi.hi - c.quantile-bracket.result.lo) * spread c.args.g.now) *
+    c.args.p.den / (c.args.p.den - c.args.p.num) =
+    c.add.ensures.low ∙ ap₂ (λ s t. s + t) (c.point-start.ensures.low
+    ∙ ap₂ (λ s t. s * t) c.from-2.ensures c.units_of_one.ensures)
+    (c.over_the_rest.ensures.low ∙ ap (λ t. (c.layer_mean-excess.result.lo - t) * c.args.p.den /
+    (c.args.p.den - c.args.p.num)) (ap₂ (λ s t. s * t) c.from.ensures c.spread.ensures)) in
+    let high : c.add.result.hi ≡ c.quantile-bracket.result.lo * 2 ^ g.row.B + div_ceil
+    (c.layer_mean-excess.result.hi * c.args.p.den) (c.args.p.den - c.args.p.num) =
+    c.add.ensures.high ∙ ap₂ (λ s t. s + t) (c.point-start.ensures.high
+    ∙ ap₂ (λ s t. s * t) c.from-2.ensures c.units_of_one.ensures) c.over_the_rest.ensures.high in
     record {
-      none = (λ e. absurd (cc), λ first. absurd (lt_not_le _ _ (first.before c.in_ok-hi.hi found.0) (found.1.reached found.0)));
+      none = (
+        λ e. absurd (cc),
+        λ first. absurd (lt_not_le _ _ (first.before c.in_ok-hi.hi found.0)
+            (found.1.reached found.0)),
+      );
       holds = λ us q d e mean is.
           let around = c.quantile-bracket.ensures.quantile us q d e is in
-          let tight = subst (λ t. IsTight us (length c.args.g.now) c.quantile-bracket.result.lo t c.args.p (spread c.args.g.now over 2 ^ g.row.B)) c.in_ok-hi.was
+          let tight = subst (λ t. IsTight us (length c.args.g.now) c.quantile-bracket.result.lo t c.args.p
+          (spread c.args.g.now over 2 ^ g.row.B)) c.in_ok-hi.was
           (c.quantile-bracket.ensures.tight us (are_units us d) e) in
-          tail_holds us c.args.p (2 ^ g.row.B) c.quantile-bracket.result.lo c.in_ok-hi.hi q (spread c.args.g.now) c.layer_mean-excess.result.lo c.layer_mean-excess.result.hi (pow_pos g.row.B)
+          tail_holds us c.args.p (2 ^ g.row.B) c.quantile-bracket.result.lo c.in_ok-hi.hi q
+          (spread c.args.g.now) c.layer_mean-excess.result.lo c.layer_mean-excess.result.hi (pow_pos g.row.B)
           d c.requires.below_one is around.0 (around.1 c.in_ok-hi.hi c.in_ok-hi.was)
-          (near_level us (length c.args.g.now) c.quantile-bracket.result.lo c.in_ok-hi.hi c.args.p _ (omega (arith, found.0)) tight)
+          (near_level us (length c.args.g.now) c.quantile-bracket.result.lo c.in_ok-hi.hi c.args.p _
+          (omega (arith, found.0)) tight)
           (c.layer_mean-excess.ensures.holds us d e (λ _. mean)) c.add.result.lo c.add.result.hi low high;
-      width = tail_narrow c.args.p (2 ^ g.row.B) c.quantile-bracket.result.lo c.in_ok-hi.hi (length c.args.g.now) (spread c.args.g.now) (c.args.mean.hi - c.args.mean.lo)
-          c.layer_mean-excess.result.lo c.layer_mean-excess.result.hi c.add.result.lo c.add.result.hi c.requires.below_one c.quantile-bracket.ensures.lo.within (omega (arith, found.0))
+      width = tail_narrow c.args.p (2 ^ g.row.B) c.quantile-bracket.result.lo c.in_ok-hi.hi (length c.args.g.now)
+          (spread c.args.g.now) (c.args.mean.hi - c.args.mean.lo)
+          c.layer_mean-excess.result.lo c.layer_mean-excess.result.hi c.add.result.lo c.add.result.hi
+          c.requires.below_one c.quantile-bracket.ensures.lo.within (omega (arith, found.0))
           c.layer_mean-excess.ensures.width low high;
-      most = tail_most_units c.args.p (2 ^ g.row.B) c.quantile-bracket.result.lo (length c.args.g.now) c.args.mean.hi c.layer_mean-excess.result.hi c.add.result.hi c.requires.below_one
+      most = tail_most_units c.args.p (2 ^ g.row.B) c.quantile-bracket.result.lo
+          (length c.args.g.now) c.args.mean.hi c.layer_mean-excess.result.hi c.add.result.hi c.requires.below_one
           c.quantile-bracket.ensures.lo.within c.layer_mean-excess.ensures.most high;
     }

@@ -7,4 +7,5 @@ pub returns : goal.returns
 returns c is =
     let below : c.num.result < c.den.result = search rules in
     subst (λ t. t <ℚ whole 1) (over_self c.args.p)
-    (over_lt c.args.p.num c.args.p.den 1 1 c.args.p.positive (omega arith) (omega (arith, below, c.num.ensures.part, c.den.ensures.part)))
+    (over_lt c.args.p.num c.args.p.den 1 1 c.args.p.positive (omega arith)
+    (omega (arith, below, c.num.ensures.part, c.den.ensures.part)))

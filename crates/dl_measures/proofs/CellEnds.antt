@@ -1,0 +1,66 @@
+-- The ends of a distribution and of a layer, from those of the cells of an enclosing grid.
+use Rattle.std.proofs.Common.{◌≡◌, inl, inr, ℕ, suc, ◌+◌, ◌-◌, ◌<◌, ◌≤◌, min, arith, sym, ap, subst, subst₂, ◌∙◌, List}
+use Rattle.std.specs.Prelude.{Some}
+use Rattle.std.proofs.Math.Nat.{min-eq_left, min-eq_right}
+use mathlib.Core.Path.{fun_ext}
+use Rattle.std.proofs.lemmas.Bool.{cases_lt}
+use Rattle.dl_exact.specs.Fraction.{Fraction, ◌over◌}
+use Rattle.dl_exact.specs.Sum.{sum_to, sum_below}
+use Rattle.dl_exact.specs.Count.{count_below}
+use Rattle.dl_exact.proofs.Counts.{below_grows}
+use Rattle.dl_exact.proofs.Denominators.{over_one, over_rest}
+use Rattle.dl_exact.proofs.SumsOver.{to_over, below_over}
+use Rattle.dl_model.specs.Series.{IsBound, AtMost, Holds}
+use Rattle.dl_model.specs.Program.{Aggregate, AreDeclarable, One, Point, Cdf, Layer, score, partial_sums}
+use Rattle.dl_model.specs.Family.{total, Encloses}
+use Rattle.dl_model.specs.Measures.{above, survival}
+use Rattle.dl_model.proofs.Outcomes.{outcomes_rise}
+use Rattle.dl_model.proofs.Scores.{cdf_points, layer_survivals}
+use Rattle.dl_model.proofs.Ends.{to_holds, below_holds, cdf_most_one, above_ends}
+use Rattle.dl_measures.specs.Ends.{low_cdf, high_cdf, low_layer, high_layer}
+
+pub cdf_ends : (us : List Aggregate) (S K : ℕ) (lo hi : ℕ → ℕ) → AreDeclarable us → 0 < S
+    → Encloses S K lo hi (total us)
+    → (x : ℕ) → x < K → Holds (partial_sums us (Cdf x)) (partial_sums us One) (low_cdf S lo x) (high_cdf S hi x)
+cdf_ends us S K lo hi w s e x xk =
+    let R = partial_sums us One in
+    let Q : partial_sums us (Cdf x) ≡ (λ N. sum_to x (λ i. partial_sums us (Point i) N)) =
+    fun_ext (λ N. cdf_points us x N) in
+    let h : Holds (λ N. sum_to x (λ i. partial_sums us (Point i) N)) R (sum_to x (λ y. lo y over S))
+    (sum_to x (λ y. hi y over S)) =
+    to_holds x (λ i. partial_sums us (Point i)) R (λ y. lo y over S) (λ y. hi y over S)
+    (λ i. outcomes_rise us w (score (Point i))) (λ i b. e i (omega arith)) in
+    let g : Holds (partial_sums us (Cdf x)) R (low_cdf S lo x) (count_below (suc x) hi over S) =
+    subst (λ t. Holds t R (low_cdf S lo x) (count_below (suc x) hi over S)) (sym Q)
+    (subst₂ (λ l h. Holds (λ N. sum_to x (λ i. partial_sums us (Point i) N)) R l h) (to_over x S lo s)
+    (to_over x S hi s) h) in (
+      g.0,
+      elim (cases_lt S (count_below (suc x) hi)) [
+        | inl l ↦ subst (λ t. AtMost (partial_sums us (Cdf x)) (partial_sums us One) t)
+            (sym (ap (λ t. t over S) (min-eq_left (omega arith)) ∙ over_one S s)) (cdf_most_one us x)
+        | inr l ↦ subst (λ t. AtMost (partial_sums us (Cdf x)) (partial_sums us One) (t over S))
+            (sym (min-eq_right l)) g.1
+      ],
+    )
+
+pub layer_ends : (us : List Aggregate) (S K : ℕ) (lo hi : ℕ → ℕ) (v : Fraction) → AreDeclarable us → 0 < S
+    → Encloses S K lo hi (total us)
+    → IsBound (partial_sums us One) v → count_below K lo ≤ S → (L A : ℕ) → A + L ≤ K
+    → Holds (partial_sums us (Layer (Some L) A)) (partial_sums us One) (low_layer S hi L A) (high_layer S lo L A)
+layer_ends us S K lo hi v w s e b m L A k =
+    let R = partial_sums us One in
+    let l : ℕ → ℕ = λ i. S - min S (count_below (suc (A + i)) hi) in
+    let h : ℕ → ℕ = λ i. S - count_below (suc (A + i)) lo in
+    let Q : partial_sums us (Layer (Some L) A) ≡ (λ N. sum_below L (λ i. survival us (A + i) N)) =
+    fun_ext (λ N. layer_survivals us L A N) in
+    let g : Holds (λ N. sum_below L (λ i. survival us (A + i) N)) R (sum_below L (λ i. l i over S))
+    (sum_below L (λ i. h i over S)) =
+    below_holds L (λ i. survival us (A + i)) R (λ i. l i over S) (λ i. h i over S)
+    (λ i. outcomes_rise us w (above (A + i)))
+    (λ i c. above_ends us (A + i) (low_cdf S lo (A + i)) (high_cdf S hi (A + i)) (l i over S) (h i over S) v w b
+    (over_rest (count_below (suc (A + i)) lo) S s (omega (arith, below_grows (suc (A + i)) K lo (omega arith))))
+    (over_rest (min S (count_below (suc (A + i)) hi)) S s (omega arith))
+    (cdf_ends us S K lo hi w s e (A + i) (omega arith))) in
+    subst (λ t. Holds t R (low_layer S hi L A) (high_layer S lo L A)) (sym Q)
+    (subst₂ (λ x y. Holds (λ N. sum_below L (λ i. survival us (A + i) N)) R x y) (below_over L S l s)
+    (below_over L S h s) g)
