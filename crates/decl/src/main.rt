@@ -3,6 +3,9 @@
 //! standard error. The program ends with the number of the status.
 #![tactic(auto)]
 
+ghost use Rattle.std.specs.Prelude.{◌≡◌, ◌≢◌};
+ghost use Rattle.dl_top.specs.Statuses.{code_of};
+
 use dl_outside::{StdSink, StdSource};
 use dl_top::{Status, run};
 use std::env;
@@ -13,7 +16,10 @@ use std::process::ExitCode;
 const NO_WORDS: u8 = 1;
 
 /// The number for words that cannot be had: that of want of memory where there was none for them.
-fn code_without_words(cause: ErrorKind) -> u8 {
+fn code_without_words(cause: ErrorKind) -> u8
+    ensures memory { cause ≡ ErrorKind.OutOfMemory → result ≡ code_of Status.OutOfMemory }
+    ensures other { cause ≢ ErrorKind.OutOfMemory → result ≡ 1 }
+{
     match cause {
         ErrorKind::OutOfMemory => Status::OutOfMemory.code(),
         _ => NO_WORDS,

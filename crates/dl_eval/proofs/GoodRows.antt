@@ -10,19 +10,20 @@ use Rattle.dl_iv.specs.declared.interval.Iv.{Iv}
 use Rattle.dl_exact.proofs.Denominators.{over_le_over, over_split as over_plus}
 use Rattle.dl_grid.specs.Cells.{low_at, high_at, mass_low, mass_high, spread, IsGrid}
 use Rattle.dl_exact.proofs.Counts.{below_more}
-use Rattle.dl_grid.proofs.PlaceSums.{width_at, high_is, width_within}
+use Rattle.dl_grid.proofs.PlaceSums.{low_sum, width_at, high_is, width_within}
 use Rattle.dl_exact.specs.Count.{count_below}
 use Rattle.dl_model.specs.Series.{Holds, Below}
-use Rattle.dl_model.specs.Program.{Aggregate, AreUnits, One, Point, Cdf, Mean, Layer, partial_sums}
+use Rattle.dl_model.specs.Program.{Aggregate, AreDeclarable, One, Point, Cdf, Mean, Layer, partial_sums}
 use Rattle.dl_model.specs.Family.{total, GridEncloses}
-use Rattle.dl_model.specs.Measures.{low_cdf, high_cdf, IsBracketed, IsTight, AreDeclared}
+use Rattle.dl_model.specs.Measures.{IsBracketed, AreDeclared}
+use Rattle.dl_measures.specs.Ends.{low_cdf, high_cdf, IsTight}
 use Rattle.dl_model.specs.Plans.{aggregates_of}
 use Rattle.dl_model.proofs.Declared.{at_least_wider, at_most_wider}
-use Rattle.dl_model.proofs.Ends.{cdf_ends}
+use Rattle.dl_measures.proofs.CellEnds.{cdf_ends}
 use Rattle.dl_model.proofs.PlanUnits.{plan_declared, plan_units}
-use Rattle.dl_measures.specs.Brackets.{IsFirst, IsFirstFound}
+use Rattle.dl_measures.specs.Brackets.{IsFirstAtLeast, IsFirstFound}
 use Rattle.dl_grid.specs.Width.{layer_width}
-use Rattle.dl_measures.proofs.Sums.{low_mass, high_mass, low_most, low_high, apart}
+use Rattle.dl_measures.proofs.Sums.{high_mass, low_most, low_high, apart}
 use Rattle.dl_plan.specs.declared.plan.Plan.{Plan}
 use Rattle.dl_plan.specs.declared.settings.Ask.TheVariants as asks
 use Rattle.dl_plan.specs.Valid.{IsValid}
@@ -40,16 +41,18 @@ use Rattle.dl_eval.proofs.Printed.{declared_ends}
 pub cell_apart : (g : List (Iv 56)) (x : ℕ) → high_at g x ≤ low_at g x + spread g
 cell_apart g x = omega (arith, high_is g x, width_within (x + 1) g, below_more x (width_at g))
 
-pub point_answer : (plan : Plan) (g : List (Iv 56)) (d x lo hi : ℕ) (row : Row) → lo ≡ low_at g x → hi ≡ high_at g x → x < length g
+pub point_answer : (plan : Plan) (g : List (Iv 56)) (d x lo hi : ℕ) (row : Row) → lo ≡ low_at g x → hi ≡ high_at g x
+    → x < length g
     → IsTotalOf plan g → Prints lo hi d row → IsAnswerTo plan d (asks.Pmf x) row
 unfolding ask_budget
 point_answer plan g d x lo hi row low high inside t printed =
     declared_ends plan (Point x) lo hi d (total_budget S plan) row printed
-    (subst (λ l. Declares plan (Point x) (l over S) (hi over S)) (sym low) (subst (λ h. Declares plan (Point x) (low_at g x over S) (h over S)) (sym high) (t.encloses x inside)))
+    (subst (λ l. Declares plan (Point x) (l over S) (hi over S)) (sym low)
+    (subst (λ h. Declares plan (Point x) (low_at g x over S) (h over S)) (sym high) (t.encloses x inside)))
     (omega (arith, low, high, cell_apart g x, t.narrow))
 
 cdf_low : (g : List (Iv 56)) (x : ℕ) → mass_low (take (x + 1) g) ≡ count_below (suc x) (low_at g)
-cdf_low g x = sym (low_mass (x + 1) g) ∙ ap (λ n. count_below n (low_at g)) (add-one x)
+cdf_low g x = sym (low_sum (x + 1) g) ∙ ap (λ n. count_below n (low_at g)) (add-one x)
 
 cdf_high : (g : List (Iv 56)) (x : ℕ) → mass_high (take (x + 1) g) ≡ count_below (suc x) (high_at g)
 cdf_high g x = sym (high_mass (x + 1) g) ∙ ap (λ n. count_below n (high_at g)) (add-one x)
@@ -62,23 +65,29 @@ pub cdf_answer : (plan : Plan) (g : List (Iv 56)) (d x lo hi : ℕ) (row : Row)
     → IsValid plan → IsTotalOf plan g → Prints lo hi d row → IsAnswerTo plan d (asks.Cdf x) row
 unfolding ask_budget
 cdf_answer plan g d x lo hi row low high inside valid t printed =
-    let ends = cdf_ends (aggregates_of plan) (2 ^ 56) (length g) (low_at g) (high_at g) (plan_units plan valid) (pow_pos 56) t.encloses x inside in
+    let ends = cdf_ends (aggregates_of plan) (2 ^ 56) (length g) (low_at g) (high_at g) (plan_units plan valid)
+    (pow_pos 56) t.encloses x inside in
     let low_sum : count_below (suc x) (low_at g) ≡ mass_low (take (x + 1) g) = sym (cdf_low g x) in
     let high_sum : count_below (suc x) (high_at g) ≡ mass_high (take (x + 1) g) = sym (cdf_high g x) in
     declared_ends plan (Cdf x) lo hi d (total_budget S plan) row printed (
-      at_least_wider _ _ _ _ ends.0 (over_le_over lo (count_below (suc x) (low_at g)) (2 ^ 56) (pow_pos 56) (omega (arith, low, low_sum))),
-      at_most_wider _ _ _ _ ends.1 (over_le_over (min (2 ^ 56) (count_below (suc x) (high_at g))) hi (2 ^ 56) (pow_pos 56) (omega (arith, high, high_sum))),
+      at_least_wider _ _ _ _ ends.0 (over_le_over lo (count_below (suc x) (low_at g)) (2 ^ 56) (pow_pos 56)
+          (omega (arith, low, low_sum))),
+      at_most_wider _ _ _ _ ends.1 (over_le_over (min (2 ^ 56) (count_below (suc x) (high_at g))) hi (2 ^ 56)
+          (pow_pos 56) (omega (arith, high, high_sum))),
     )
     (least_apart (2 ^ 56) (mass_low (take (x + 1) g)) (mass_high (take (x + 1) g)) (total_budget S plan) lo hi low high
     (omega (arith, apart g (suc x), low_sum, high_sum, t.narrow)))
 
 -- ---- means
 
-pub mean_answer : (plan : Plan) (d : ℕ) (mean : Iv 56) (row : Row) → IsMeanOf plan mean → Prints mean.lo mean.hi d row → IsAnswerTo plan d asks.Mean row
+pub mean_answer : (plan : Plan) (d : ℕ) (mean : Iv 56) (row : Row) → IsMeanOf plan mean → Prints mean.lo mean.hi d row
+    → IsAnswerTo plan d asks.Mean row
 unfolding ask_budget
-mean_answer plan d mean row m printed = declared_ends plan Mean mean.lo mean.hi d (mean_budget S plan) row printed m.holds m.narrow
+mean_answer plan d mean row m printed = declared_ends plan Mean mean.lo mean.hi d
+    (mean_budget S plan) row printed m.holds m.narrow
 
-layer_narrow : (plan : Plan) (limit : Option ℕ) (attach mean spread : ℕ) → mean ≤ mean_budget S plan → spread ≤ total_budget S plan
+layer_narrow : (plan : Plan) (limit : Option ℕ) (attach mean spread : ℕ) → mean ≤ mean_budget S plan
+    → spread ≤ total_budget S plan
     → layer_width limit attach mean spread ≤ layer_mean_budget S plan limit attach
 layer_narrow plan None attach mean spread p q = omega (arith, p, mul-le-mul_left attach q)
 layer_narrow plan (Some limit) attach mean spread p q = mul-le-mul_left limit q
@@ -88,19 +97,27 @@ pub layer_answer : (plan : Plan) (g : List (Iv 56)) (mean : Iv 56) (d attach lo 
     → (limit ≡ None → Holds (partial_sums us Mean) (partial_sums us One) (mean.lo over 2 ^ 56) (mean.hi over 2 ^ 56))
     → Holds (partial_sums us (Layer limit attach)) (partial_sums us One) (lo over 2 ^ 56) (hi over 2 ^ 56))
     → hi - lo ≤ layer_width limit attach (mean.hi - mean.lo) (spread g)
-    → IsValid plan → IsTotalOf plan g → IsMeanOf plan mean → Prints lo hi d row → IsAnswerTo plan d (asks.LayerMean limit attach) row
+    → IsValid plan → IsTotalOf plan g → IsMeanOf plan mean → Prints lo hi d row
+    → IsAnswerTo plan d (asks.LayerMean limit attach) row
 unfolding ask_budget
 layer_answer plan g mean d attach lo hi limit row holds width valid t m printed =
     declared_ends plan (Layer limit attach) lo hi d (layer_mean_budget S plan limit attach) row printed
     (holds (aggregates_of plan) (plan_declared plan valid) t.encloses (λ none. m.holds))
-    (omega (arith, width, layer_narrow plan limit attach (mean.hi - mean.lo) (spread g) (omega (arith, m.narrow)) t.narrow))
+    (omega (
+      arith,
+      width,
+      layer_narrow plan limit attach (mean.hi - mean.lo) (spread g)
+          (omega (arith, m.narrow)) t.narrow,
+    ))
 
 -- ---- quantiles
 
 pub plus_lt : (x y z : Fraction) → x <ℚ y → x +ℚ z <ℚ y +ℚ z
-plus_lt x y z h = elim (lt_or_le (x +ℚ z) (y +ℚ z)) [ inl less ↦ less | inr not_less ↦ absurd (lt_not_le x y h (plus_le_cancel y x z not_less)) ]
+plus_lt x y z h = elim (lt_or_le (x +ℚ z) (y +ℚ z))
+    [ inl less ↦ less | inr not_less ↦ absurd (lt_not_le x y h (plus_le_cancel y x z not_less)) ]
 
-wider_tight : (us : List Aggregate) (K L lo : ℕ) (hi : Option ℕ) (p d e : Fraction) → K ≡ L → d ≤ℚ e → IsTight us K lo hi p d → IsTight us L lo hi p e
+wider_tight : (us : List Aggregate) (K L lo : ℕ) (hi : Option ℕ) (p d e : Fraction) → K ≡ L → d ≤ℚ e
+    → IsTight us K lo hi p d → IsTight us L lo hi p e
 wider_tight us K L lo hi p d e same wider tight = λ x from inside before.
     let both = tight x from (omega (arith, inside, same)) before in (
       at_most_wider _ _ _ _ both.0 (plus_le_both p p d e (le_refl p) wider),
@@ -109,49 +126,63 @@ wider_tight us K L lo hi p d e same wider tight = λ x from inside before.
 
 ends_order : (g : List (Iv 56)) (x : ℕ) → IsGrid g → low_cdf (2 ^ 56) (low_at g) x ≤ℚ high_cdf (2 ^ 56) (high_at g) x
 ends_order g x grid =
-    over_le_over (count_below (suc x) (low_at g)) (min (2 ^ 56) (count_below (suc x) (high_at g))) (2 ^ 56) (pow_pos 56) (omega (arith, low_most g (suc x) grid, low_high g (suc x)))
+    over_le_over (count_below (suc x) (low_at g)) (min (2 ^ 56) (count_below (suc x) (high_at g))) (2 ^ 56) (pow_pos 56)
+    (omega (arith, low_most g (suc x) grid, low_high g (suc x)))
 
 bracket_inside : (g : List (Iv 56)) (p : Fraction) (cells lo : ℕ) (hi : Option ℕ) → IsGrid g → length g ≡ cells
-    → IsFirst (high_cdf (2 ^ 56) (high_at g)) p (length g) lo → IsFirstFound (low_cdf (2 ^ 56) (low_at g)) p (length g) hi
+    → IsFirstAtLeast (high_cdf (2 ^ 56) (high_at g)) p (length g) lo
+    → IsFirstFound (low_cdf (2 ^ 56) (low_at g)) p (length g) hi
     → MatchOption hi (lo ≤ cells) (λ x. (lo ≤ x) × (x < cells))
 bracket_inside g p cells lo None grid same first found = omega (arith, first.within, same)
 bracket_inside g p cells lo (Some x) grid same first found = (not_after, omega (arith, found.0, same))
   where
     not_after : lo ≤ x
     not_after = elim (cases_lt x lo) [
-      | inl before ↦ absurd (lt_not_le _ p (first.before x before) (le_trans p _ _ (found.1.reached found.0) (ends_order g x grid)))
+      | inl before ↦ absurd (lt_not_le _ p (first.before x before)
+          (le_trans p _ _ (found.1.reached found.0) (ends_order g x grid)))
       | inr after ↦ after
     ]
 
-beyond_below : (us : List Aggregate) (g : List (Iv 56)) (p d : Fraction) (x : ℕ) → AreUnits us → GridEncloses g (total us) → x < length g
-    → low_cdf (2 ^ 56) (low_at g) x <ℚ p → spread g over 2 ^ 56 ≤ℚ d → Below (partial_sums us (Cdf x)) (partial_sums us One) (p +ℚ d)
+beyond_below : (us : List Aggregate) (g : List (Iv 56)) (p d : Fraction) (x : ℕ) → AreDeclarable us
+    → GridEncloses g (total us) → x < length g
+    → low_cdf (2 ^ 56) (low_at g) x <ℚ p → spread g over 2 ^ 56 ≤ℚ d
+    → Below (partial_sums us (Cdf x)) (partial_sums us One) (p +ℚ d)
 beyond_below us g p d x units encloses inside below narrow =
     let ends = cdf_ends us (2 ^ 56) (length g) (low_at g) (high_at g) units (pow_pos 56) encloses x inside in
-    let sum : min (2 ^ 56) (count_below (suc x) (high_at g)) over 2 ^ 56 ≤ℚ (count_below (suc x) (low_at g) + spread g) over 2 ^ 56 =
+    let sum : min (2 ^ 56) (count_below (suc x) (high_at g)) over 2 ^ 56 ≤ℚ
+    (count_below (suc x) (low_at g) + spread g) over 2 ^ 56 =
     over_le_over _ _ (2 ^ 56) (pow_pos 56) (omega (arith, apart g (suc x))) in
-    let parts : (count_below (suc x) (low_at g) + spread g) over 2 ^ 56 ≡ low_cdf (2 ^ 56) (low_at g) x +ℚ spread g over 2 ^ 56 =
+    let parts : (count_below (suc x) (low_at g) + spread g) over 2 ^ 56
+    ≡ low_cdf (2 ^ 56) (low_at g) x +ℚ spread g over 2 ^ 56 =
     over_plus (count_below (suc x) (low_at g)) (spread g) (2 ^ 56) (pow_pos 56) in
     let high : high_cdf (2 ^ 56) (high_at g) x ≤ℚ low_cdf (2 ^ 56) (low_at g) x +ℚ d =
-    le_trans _ _ _ (subst (λ t. high_cdf (2 ^ 56) (high_at g) x ≤ℚ t) parts sum) (plus_le_both _ _ _ _ (le_refl (low_cdf (2 ^ 56) (low_at g) x)) narrow) in
+    le_trans _ _ _ (subst (λ t. high_cdf (2 ^ 56) (high_at g) x ≤ℚ t) parts sum)
+    (plus_le_both _ _ _ _ (le_refl (low_cdf (2 ^ 56) (low_at g) x)) narrow) in
     (low_cdf (2 ^ 56) (low_at g) x +ℚ d, plus_lt _ p d below, at_most_wider _ _ _ _ ends.1 high)
 
 -- where the grid ends before p is reached, the distribution is below p there, or a little above
-pub ends_below : (plan : Plan) (g : List (Iv 56)) (p : Fraction) → IsFirst (low_cdf (2 ^ 56) (low_at g)) p (length g) (length g)
+pub ends_below : (plan : Plan) (g : List (Iv 56)) (p : Fraction)
+    → IsFirstAtLeast (low_cdf (2 ^ 56) (low_at g)) p (length g) (length g)
     → IsValid plan → IsTotalOf plan g → IsBelow plan (at_the_end plan) (p +ℚ total_error plan)
 ends_below plan g p last valid t =
     let some = few_cells plan valid in
-    beyond_below (aggregates_of plan) g p (total_error plan) (plan.cells - 1) (plan_units plan valid) t.encloses (omega (arith, t.cells, some.0))
+    beyond_below (aggregates_of plan) g p (total_error plan) (plan.cells - 1) (plan_units plan valid) t.encloses
+    (omega (arith, t.cells, some.0))
     (last.before (plan.cells - 1) (omega (arith, t.cells, some.0)))
     (over_le_over (spread g) (total_budget S plan) (2 ^ 56) (pow_pos 56) t.narrow)
 
-pub is_bracket : (plan : Plan) (g : List (Iv 56)) (p : Fraction) (lo : ℕ) (hi : Option ℕ) (row : Row) → row.low ≡ Whole lo → row.high ≡ bracket_end hi
-    → IsFirst (high_cdf (2 ^ 56) (high_at g)) p (length g) lo → IsFirstFound (low_cdf (2 ^ 56) (low_at g)) p (length g) hi
-    → ((us : List Aggregate) → AreUnits us → GridEncloses g (total us) → IsBracketed us lo hi p)
-    → ((us : List Aggregate) → AreUnits us → GridEncloses g (total us) → IsTight us (length g) lo hi p (spread g over 2 ^ 56))
+pub is_bracket : (plan : Plan) (g : List (Iv 56)) (p : Fraction) (lo : ℕ) (hi : Option ℕ) (row : Row)
+    → row.low ≡ Whole lo → row.high ≡ bracket_end hi
+    → IsFirstAtLeast (high_cdf (2 ^ 56) (high_at g)) p (length g) lo
+    → IsFirstFound (low_cdf (2 ^ 56) (low_at g)) p (length g) hi
+    → ((us : List Aggregate) → AreDeclarable us → GridEncloses g (total us) → IsBracketed us lo hi p)
+    → ((us : List Aggregate) → AreDeclarable us → GridEncloses g (total us)
+    → IsTight us (length g) lo hi p (spread g over 2 ^ 56))
     → IsGrid g → IsValid plan → IsTotalOf plan g → IsBracket plan p (total_error plan) row
 is_bracket plan g p lo hi row is_low is_high first found holds tight grid valid t =
     let units = plan_units plan valid in
-    let narrow : spread g over 2 ^ 56 ≤ℚ total_budget S plan over 2 ^ 56 = over_le_over (spread g) (total_budget S plan) (2 ^ 56) (pow_pos 56) t.narrow in
+    let narrow : spread g over 2 ^ 56 ≤ℚ total_budget S plan over 2 ^ 56 =
+    over_le_over (spread g) (total_budget S plan) (2 ^ 56) (pow_pos 56) t.narrow in
     record {
       lo = lo;
       hi = hi;
@@ -159,6 +190,8 @@ is_bracket plan g p lo hi row is_low is_high first found holds tight grid valid 
       is_high = is_high;
       inside = bracket_inside g p plan.cells lo hi grid t.cells first found;
       bracketed = holds (aggregates_of plan) units t.encloses;
-      tight = wider_tight (aggregates_of plan) (length g) plan.cells lo hi p _ _ t.cells narrow (tight (aggregates_of plan) units t.encloses);
-      beyond = λ none. ends_below plan g p (subst (λ (h : Option ℕ). IsFirstFound (low_cdf (2 ^ 56) (low_at g)) p (length g) h) none found) valid t;
+      tight = wider_tight (aggregates_of plan) (length g) plan.cells lo hi p _ _ t.cells narrow
+          (tight (aggregates_of plan) units t.encloses);
+      beyond = λ none. ends_below plan g p
+          (subst (λ (h : Option ℕ). IsFirstFound (low_cdf (2 ^ 56) (low_at g)) p (length g) h) none found) valid t;
     }

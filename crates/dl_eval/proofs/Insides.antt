@@ -4,14 +4,17 @@ use Rattle.std.specs.Prelude.{Option, None, Some, All}
 use Rattle.dl_iv.specs.declared.interval.Iv.{Iv}
 use Rattle.dl_plan.specs.declared.settings.Asked.{Asked}
 use Rattle.dl_plan.specs.declared.settings.Ask.TheVariants.{LayerMean}
-use Rattle.dl_measures.specs.Layers.{cells_under}
+use Rattle.dl_plan.specs.Horizon.{edge_of}
 use Rattle.dl_budget.specs.Asks.{IsInside}
 
 -- an ask that was read there has what all have
-pub ask_has : (P : Asked → Type 0) (all asks : List Asked) (i : ℕ) (a : Asked) → all ≡ asks → a ≡ get_or all i a → i < length all → All P asks → P a
-ask_has P all asks i a same is inside each = subst P (sym (is ∙ ap (λ t. get_or t i a) same)) (each i a (omega (arith, inside, ap (λ t. length t) same)))
+pub ask_has : (P : Asked → Type 0) (all asks : List Asked) (i : ℕ) (a : Asked) → all ≡ asks → a ≡ get_or all i a
+    → i < length all → All P asks → P a
+ask_has P all asks i a same is inside each = subst P (sym (is ∙ ap (λ t. get_or t i a) same))
+    (each i a (omega (arith, inside, ap (λ t. length t) same)))
 
 -- a layer inside the grid is one of the total that was made
-pub layer_inside : (cells : ℕ) (g : List (Iv 56)) (limit : Option ℕ) (attach : ℕ) → IsInside cells (LayerMean limit attach) → length g ≡ cells → cells_under limit attach ≤ length g
+pub layer_inside : (cells : ℕ) (g : List (Iv 56)) (limit : Option ℕ) (attach : ℕ)
+    → IsInside cells (LayerMean limit attach) → length g ≡ cells → edge_of limit attach ≤ length g
 layer_inside cells g None attach inside same = omega (arith, inside, same)
 layer_inside cells g (Some limit) attach inside same = omega (arith, inside, same)

@@ -10,3 +10,4 @@ pub mod Means
 pub mod GoodRows
 pub mod Tails
 pub mod ShareLaws
+mod TestLaws

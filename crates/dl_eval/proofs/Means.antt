@@ -20,11 +20,11 @@ use Rattle.dl_model.proofs.Bounded.{are_units}
 use Rattle.dl_model.proofs.ClauseMeans.{no_clause}
 use Rattle.dl_model.proofs.Means.{mean_of_total}
 use Rattle.dl_model.proofs.PlanUnits.{unit_declared, units_declared}
-use Rattle.dl_model.proofs.PlanMeans.{units_mean}
+use Rattle.dl_model.proofs.PlanMeans.{MeanHolds, units_mean}
 use Rattle.dl_plan.specs.declared.cede.CedeLayer.{CedeLayer}
 use Rattle.dl_plan.specs.declared.plan.Unit.{Unit as UnitOfPlan}
 use Rattle.dl_plan.specs.declared.plan.Plan.{Plan}
-use Rattle.dl_plan.specs.Cession.{Clause}
+use Rattle.dl_plan.specs.Clause.{Clause}
 use Rattle.dl_plan.specs.Horizon.{IsHorizonOf, horizon}
 use Rattle.dl_plan.specs.Valid.{IsValidUnit, IsValid}
 use Rattle.dl_budget.specs.Claims.{claims_budget}
@@ -37,19 +37,23 @@ use Rattle.dl_eval.specs.Totals.{IsUnitMean, AreUnitMeans, IsMeanOf}
 
 -- ---- of a unit without a clause
 
-pub plain_mean : (cells : ℕ) (u : UnitOfPlan) (mean : Iv 56) → u.cede ≡ None → HoldsClaims u mean → mean.hi ≤ mean.lo + 1 → IsUnitMean cells u mean
+pub plain_mean : (cells : ℕ) (u : UnitOfPlan) (mean : Iv 56) → u.cede ≡ None → HoldsClaims u mean
+    → mean.hi ≤ mean.lo + 1 → IsUnitMean cells u mean
 plain_mean cells u mean none holds narrow = record {
-  holds = subst (λ a. Holds (partial_sums (a ∷ []) Mean) (partial_sums (a ∷ []) One) (mean.lo over 2 ^ 56) (mean.hi over 2 ^ 56)) (sym (no_clause u none)) holds;
+  holds = subst (λ a. Holds (partial_sums (a ∷ []) Mean) (partial_sums (a ∷ []) One) (mean.lo over 2 ^ 56)
+      (mean.hi over 2 ^ 56)) (sym (no_clause u none)) holds;
   narrow = omega (arith, narrow, ap (λ c. clause_mean c (claims_budget (2 ^ 56) (horizon u.cede cells) u)) none);
 }
 
 -- ---- of a unit with a clause
 
-layer_rises : (v w : ℕ) (limit : Option ℕ) (attach : ℕ) → v ≤ w → part_width v limit attach ≤ layer_budget w limit attach
+layer_rises : (v w : ℕ) (limit : Option ℕ) (attach : ℕ) → v ≤ w
+    → part_width v limit attach ≤ layer_budget w limit attach
 layer_rises v w None attach h = omega (arith, mul-le-mul_left attach h)
 layer_rises v w (Some limit) attach h = omega (arith, mul-le-mul_left limit h)
 
-layers_rise : (v w : ℕ) (layers : List CedeLayer) → v ≤ w → sum_by (λ l. part_width v l.limit l.attach) layers ≤ sum_by (λ l. layer_budget w l.limit l.attach) layers
+layers_rise : (v w : ℕ) (layers : List CedeLayer) → v ≤ w
+    → sum_by (λ l. part_width v l.limit l.attach) layers ≤ sum_by (λ l. layer_budget w l.limit l.attach) layers
 layers_rise v w [] h = omega arith
 layers_rise v w (l ∷ layers) h =
     omega (
@@ -65,8 +69,10 @@ clause_rises v w None h = omega arith
 clause_rises v w (Some clause) h = omega (arith, layers_rise v w clause.1 h)
 
 pub clause_unit_mean : (cells : ℕ) (u : UnitOfPlan) (g : List (Iv 56)) (mean : Iv 56) → IsValidUnit cells u
-    → Holds (partial_sums (aggregate_of u ∷ []) Mean) (partial_sums (aggregate_of u ∷ []) One) (mean.lo over 2 ^ 56) (mean.hi over 2 ^ 56)
-    → mean.hi - mean.lo ≤ mean_width u.cede (spread g) → IsHorizonOf u.cede cells (length g) → spread g ≤ claims_budget S (length g) u → IsUnitMean cells u mean
+    → Holds (partial_sums (aggregate_of u ∷ []) Mean) (partial_sums (aggregate_of u ∷ []) One) (mean.lo over 2 ^ 56)
+    (mean.hi over 2 ^ 56)
+    → mean.hi - mean.lo ≤ mean_width u.cede (spread g) → IsHorizonOf u.cede cells (length g)
+    → spread g ≤ claims_budget S (length g) u → IsUnitMean cells u mean
 clause_unit_mean cells u g mean valid holds width there narrow = record {
   holds = holds;
   narrow =
@@ -74,7 +80,8 @@ clause_unit_mean cells u g mean valid holds width there narrow = record {
         arith,
         width,
         clause_rises (spread g) (claims_budget (2 ^ 56) (horizon u.cede cells) u) u.cede
-            (subst (λ n. spread g ≤ claims_budget (2 ^ 56) n u) (one_horizon cells cells (length g) u valid there) narrow),
+            (subst (λ n. spread g ≤ claims_budget (2 ^ 56) n u)
+            (one_horizon cells cells (length g) u valid there) narrow),
       );
 }
 
@@ -86,15 +93,12 @@ lows means = sum_by (λ mean. mean.lo) means
 abbrev highs : List (Iv 56) → ℕ
 highs means = sum_by (λ mean. mean.hi) means
 
-later_means : (cells : ℕ) (u : UnitOfPlan) (us : List UnitOfPlan) (m : Iv 56) (means : List (Iv 56)) → AreUnitMeans cells (u ∷ us) (m ∷ means) → AreUnitMeans cells us means
+later_means : (cells : ℕ) (u : UnitOfPlan) (us : List UnitOfPlan) (m : Iv 56) (means : List (Iv 56))
+    → AreUnitMeans cells (u ∷ us) (m ∷ means) → AreUnitMeans cells us means
 later_means cells u us m means each = record {
   as_many = omega (arith, each.as_many);
   each = λ i v n inside. each.each (suc i) v n (omega (arith, inside));
 }
-
--- the declared mean of units lies from l to h
-abbrev MeanHolds : List UnitOfPlan → Fraction → Fraction → Type 0
-MeanHolds units l h = Holds (partial_sums (map aggregate_of units) Mean) (partial_sums (map aggregate_of units) One) l h
 
 nothing : UnitOfPlan → Fraction
 nothing u = whole 0
@@ -103,20 +107,27 @@ no_units : MeanHolds [] (0 over 2 ^ 56) (0 over 2 ^ 56)
 unfolding sum_over
 no_units =
     subst (λ v. MeanHolds [] v v) (sym (over_same 0 (2 ^ 56) 0 1 (pow_pos 56) one_pos refl))
-    (units_mean 0 nothing nothing [] (λ i d inside. absurd (omega (arith, inside))) (λ i d inside. absurd (omega (arith, inside))))
+    (units_mean 0 nothing nothing [] (λ i d inside. absurd (omega (arith, inside)))
+    (λ i d inside. absurd (omega (arith, inside))))
 
-means_hold : (cells : ℕ) (us : List UnitOfPlan) (means : List (Iv 56)) → All (IsValidUnit cells) us → AreUnitMeans cells us means
+means_hold : (cells : ℕ) (us : List UnitOfPlan) (means : List (Iv 56)) → All (IsValidUnit cells) us
+    → AreUnitMeans cells us means
     → MeanHolds us (lows means over 2 ^ 56) (highs means over 2 ^ 56)
 means_hold cells [] [] valid each = no_units
 means_hold cells [] (m ∷ means) valid each = absurd (omega (arith, each.as_many))
 means_hold cells (u ∷ us) [] valid each = absurd (omega (arith, each.as_many))
 means_hold cells (u ∷ us) (m ∷ means) valid each =
     let rest = All-tail (IsValidUnit cells) u us valid in
-    let low : (m.lo + lows means) over 2 ^ 56 ≡ m.lo over 2 ^ 56 +ℚ lows means over 2 ^ 56 = over_plus m.lo (lows means) (2 ^ 56) (pow_pos 56) in
-    let high : (m.hi + highs means) over 2 ^ 56 ≡ m.hi over 2 ^ 56 +ℚ highs means over 2 ^ 56 = over_plus m.hi (highs means) (2 ^ 56) (pow_pos 56) in
-    let sums : MeanHolds (u ∷ us) (m.lo over 2 ^ 56 +ℚ lows means over 2 ^ 56) (m.hi over 2 ^ 56 +ℚ highs means over 2 ^ 56) =
-    mean_of_total (aggregate_of u) (map aggregate_of us) (unit_declared cells u (All-head (IsValidUnit cells) u us valid)).unit
-    (are_units (map aggregate_of us) (units_declared cells us rest)) (m.lo over 2 ^ 56) (m.hi over 2 ^ 56) (lows means over 2 ^ 56) (highs means over 2 ^ 56)
+    let low : (m.lo + lows means) over 2 ^ 56 ≡ m.lo over 2 ^ 56 +ℚ lows means over 2 ^ 56 =
+    over_plus m.lo (lows means) (2 ^ 56) (pow_pos 56) in
+    let high : (m.hi + highs means) over 2 ^ 56 ≡ m.hi over 2 ^ 56 +ℚ highs means over 2 ^ 56 =
+    over_plus m.hi (highs means) (2 ^ 56) (pow_pos 56) in
+    let sums : MeanHolds (u ∷ us) (m.lo over 2 ^ 56 +ℚ lows means over 2 ^ 56)
+    (m.hi over 2 ^ 56 +ℚ highs means over 2 ^ 56) =
+    mean_of_total (aggregate_of u) (map aggregate_of us)
+    (unit_declared cells u (All-head (IsValidUnit cells) u us valid)).unit
+    (are_units (map aggregate_of us) (units_declared cells us rest)) (m.lo over 2 ^ 56) (m.hi over 2 ^ 56)
+    (lows means over 2 ^ 56) (highs means over 2 ^ 56)
     (each.each 0 u m (omega arith)).holds (means_hold cells us means rest (later_means cells u us m means each)) in
     subst₂ (MeanHolds (u ∷ us))
     (sym low ∙ ap (λ t. t over 2 ^ 56) (sym (sum_by-cons (λ (mean : Iv 56). mean.lo) m means)))
@@ -137,15 +148,23 @@ means_narrow cells (u ∷ us) (m ∷ means) each =
       sum_by-cons (unit_mean_budget (2 ^ 56) cells) u us,
     )
 
-pub means_small : (means : List (Iv 56)) → length means ≤ 16 → All (λ mean. mean.hi ≤ 2 ^ 93) means → sum_by (λ mean. mean.hi) means ≤ 2 ^ 97
+pub means_small : (means : List (Iv 56)) → length means ≤ 16 → All (λ mean. mean.hi ≤ 2 ^ 93) means
+    → sum_by (λ mean. mean.hi) means ≤ 2 ^ 97
 means_small means few small = omega (arith, few, sum_small means small)
   where
     sum_small : (means : List (Iv 56)) → All (λ mean. mean.hi ≤ 2 ^ 93) means → highs means ≤ length means * 2 ^ 93
     sum_small [] small = omega arith
     sum_small (m ∷ means) small =
-        omega (arith, small 0 m (omega arith), sum_small means (All-tail (λ (mean : Iv 56). mean.hi ≤ 2 ^ 93) m means small), sum_by-cons (λ (mean : Iv 56). mean.hi) m means)
+        omega (
+          arith,
+          small 0 m (omega arith),
+          sum_small means
+              (All-tail (λ (mean : Iv 56). mean.hi ≤ 2 ^ 93) m means small),
+          sum_by-cons (λ (mean : Iv 56). mean.hi) m means,
+        )
 
-pub is_mean : (means : List (Iv 56)) (mean : Iv 56) → mean.lo ≡ sum_by (λ mean. mean.lo) means → mean.hi ≡ sum_by (λ mean. mean.hi) means
+pub is_mean : (means : List (Iv 56)) (mean : Iv 56) → mean.lo ≡ sum_by (λ mean. mean.lo) means
+    → mean.hi ≡ sum_by (λ mean. mean.hi) means
     → (plan : Plan) → IsValid plan → AreUnitMeans plan.cells plan.units means → IsMeanOf plan mean
 is_mean means mean low high plan valid each = record {
   holds = rw (low, high) (means_hold plan.cells plan.units means valid.units each);

@@ -12,17 +12,21 @@ use Rattle.dl_budget.specs.Units.{unit_budget}
 use Rattle.dl_budget.proofs.Horizons.{few_cells, unit_horizon}
 use Rattle.dl_eval.specs.Totals.{AreUnitGrids, AreOthersOf, AreOthers}
 
-pub read_as : {A : Type 0} (slice xs : List A) (i : ℕ) (x d : A) → slice ≡ xs → x ≡ get_or slice i x → i < length xs → x ≡ get_or xs i d
+pub read_as : {A : Type 0} (slice xs : List A) (i : ℕ) (x d : A) → slice ≡ xs → x ≡ get_or slice i x → i < length xs
+    → x ≡ get_or xs i d
 read_as slice xs i x d same is inside = is ∙ ap (λ t. get_or t i x) same ∙ get_or_default xs i x d inside
 
 -- ---- units
 
 -- a unit of a valid plan has a horizon
-pub unit_there : (plan : Plan) (units : List UnitOfPlan) (i : ℕ) (u : UnitOfPlan) → units ≡ plan.units → u ≡ get_or units i u → i < length plan.units → IsValid plan
+pub unit_there : (plan : Plan) (units : List UnitOfPlan) (i : ℕ) (u : UnitOfPlan) → units ≡ plan.units
+    → u ≡ get_or units i u → i < length plan.units → IsValid plan
     → IsValidUnit plan.cells u
-unit_there plan units i u same is inside valid = subst (IsValidUnit plan.cells) (sym (is ∙ ap (λ t. get_or t i u) same)) (valid.units i u inside)
+unit_there plan units i u same is inside valid = subst (IsValidUnit plan.cells) (sym (is ∙ ap (λ t. get_or t i u) same))
+    (valid.units i u inside)
 
-pub horizon_there : (plan : Plan) (units : List UnitOfPlan) (i : ℕ) (u : UnitOfPlan) → units ≡ plan.units → u ≡ get_or units i u → i < length plan.units → IsValid plan
+pub horizon_there : (plan : Plan) (units : List UnitOfPlan) (i : ℕ) (u : UnitOfPlan) → units ≡ plan.units
+    → u ≡ get_or units i u → i < length plan.units → IsValid plan
     → (k : ℕ) × IsHorizonOf u.cede plan.cells k × (k ≤ 16384)
 horizon_there plan units i u same is inside valid =
     unit_horizon plan.cells u (omega (arith, (few_cells plan valid).1)) (unit_there plan units i u same is inside valid)
@@ -30,17 +34,28 @@ horizon_there plan units i u same is inside valid =
 -- ---- grids
 
 -- the spread of a unit's grid is within its budget
-pub spread_within : (plan : Plan) (units : List UnitOfPlan) (grids slice : List (List (Iv 56))) (u : UnitOfPlan) (g : List (Iv 56)) (i budget : ℕ)
-    → units ≡ plan.units → u ≡ get_or units i u → slice ≡ grids → g ≡ get_or slice i g → i < length plan.units → AreUnitGrids plan.cells plan.units grids
+pub spread_within : (plan : Plan) (units : List UnitOfPlan) (grids slice : List (List (Iv 56))) (u : UnitOfPlan)
+    (g : List (Iv 56)) (i budget : ℕ)
+    → units ≡ plan.units → u ≡ get_or units i u → slice ≡ grids → g ≡ get_or slice i g → i < length plan.units
+    → AreUnitGrids plan.cells plan.units grids
     → budget ≡ unit_budget (2 ^ 56) plan.cells u → spread g ≤ budget
 spread_within plan units grids slice u g i budget same is sliced read inside each value =
     let v : UnitOfPlan = get_or plan.units i u in
     let e : u ≡ v = is ∙ ap (λ t. get_or t i u) same in
     let narrow : spread (get_or grids i []) ≤ unit_budget (2 ^ 56) plan.cells v = (each.each i u inside).narrow in
-    omega (arith, narrow, ap spread (read_as slice grids i g [] sliced read (omega (arith, inside, each.as_many))), ap (unit_budget (2 ^ 56) plan.cells) e, value)
+    omega (
+      arith,
+      narrow,
+      ap spread (read_as slice grids i g [] sliced read (omega (arith, inside, each.as_many))),
+      ap (unit_budget (2 ^ 56) plan.cells) e,
+      value,
+    )
 
 -- the grid of all other units that was read there
-pub others_there : (plan : Plan) (slice others : List (Option (List (Iv 56)))) (i : ℕ) (read : Option (List (Iv 56))) (g : List (Iv 56))
-    → slice ≡ others → read ≡ get_or slice i read → read ≡ Some g → i < length plan.units → AreOthers plan others → AreOthersOf plan i g
+pub others_there : (plan : Plan) (slice others : List (Option (List (Iv 56)))) (i : ℕ) (read : Option (List (Iv 56)))
+    (g : List (Iv 56))
+    → slice ≡ others → read ≡ get_or slice i read → read ≡ Some g → i < length plan.units → AreOthers plan others
+    → AreOthersOf plan i g
 others_there plan slice others i read g same is there inside all =
-    subst (λ (o : Option (List (Iv 56))). IfSome o (AreOthersOf plan i)) (sym (read_as slice others i read None same is (omega (arith, inside, all.as_many))) ∙ there) (all.each i inside)
+    subst (λ (o : Option (List (Iv 56))). IfSome o (AreOthersOf plan i))
+    (sym (read_as slice others i read None same is (omega (arith, inside, all.as_many))) ∙ there) (all.each i inside)

@@ -1,23 +1,19 @@
 -- Numbers that are printed from an interval.
 use Rattle.std.proofs.Common.{ℕ, ◌≡◌, ◌+◌, ◌*◌, ◌/◌, ◌^◌, ◌<◌, ◌≤◌, arith}
 use Rattle.std.specs.Int.{div_ceil}
-use Rattle.std.proofs.Math.Nat.{mul-le-mul_right, le_of_mul-le-mul_right}
+use Rattle.std.proofs.Math.Nat.{mul-le-mul_right, le_of_mul-le-mul_right, one-le-pow}
 use Rattle.std.proofs.lemmas.Nat.{pow_pos}
 use Rattle.std.proofs.lemmas.Grind.{div_ceil_times}
 use Rattle.dl_exact.specs.Fraction.{Fraction, ◌over◌, ◌≤ℚ◌}
-use Rattle.dl_exact.proofs.Laws.{le_refl}
+use Rattle.dl_exact.proofs.Over.{over_le}
 use Rattle.dl_exact.proofs.RoundingLaws.{div_ceil_least}
-use Rattle.dl_iv.specs.declared.interval.Iv.{Iv}
-use Rattle.dl_iv.specs.Enclosure.{LiesIn}
-use Rattle.dl_exact.proofs.Denominators.{over_le_over}
 use Rattle.dl_grid.proofs.WidthLaws.{up_quotient}
 use Rattle.dl_model.specs.Program.{Quantity, One, Tail}
 use Rattle.dl_model.proofs.Declared.{at_least_wider, at_most_wider}
 use Rattle.dl_plan.specs.declared.plan.Plan.{Plan}
-use Rattle.dl_report.specs.declared.report.End.TheVariants.{Number}
 use Rattle.dl_report.specs.declared.report.Row.{Row}
 use Rattle.dl_budget.specs.Asks.{in_digits}
-use Rattle.dl_eval.specs.Rows.{S as one, Declares, DeclaresGiven, DeclaresTail, AreEnds}
+use Rattle.dl_eval.specs.Rows.{S as one, Declares, DeclaresGiven, DeclaresTail, AreRowEnds}
 use Rattle.dl_eval.specs.Totals.{Prints}
 
 floor_least : (l S : ℕ) → 0 < S → l < (l / S + 1) * S
@@ -27,64 +23,61 @@ floor_below : (l S : ℕ) → 0 < S → l / S * S ≤ l
 floor_below l S pos = grind arith
 
 ceiling_apart : (S l h b : ℕ) → 0 < S → h ≤ l + b → div_ceil h S ≤ l / S + (1 + div_ceil b S)
-ceiling_apart S l h b pos apart = div_ceil_least h S (l / S + (1 + div_ceil b S)) pos (omega (arith, apart, floor_least l S pos, (div_ceil_times b S pos).0))
+ceiling_apart S l h b pos apart = div_ceil_least h S (l / S + (1 + div_ceil b S)) pos
+    (omega (arith, apart, floor_least l S pos, (div_ceil_times b S pos).0))
 
 floor_ceiling : (S l h : ℕ) → 0 < S → l ≤ h → l / S ≤ div_ceil h S
 floor_ceiling S l h pos order =
     let scaled : l / S * S ≤ div_ceil h S * S = omega (arith, order, floor_below l S pos, (div_ceil_times h S pos).0) in
     le_of_mul-le-mul_right {k = S} scaled pos
 
-printed_apart : (S lo hi budget d : ℕ) → 0 < S → hi ≤ lo + budget → div_ceil (hi * 10 ^ d) S ≤ lo * 10 ^ d / S + in_digits S budget d
+printed_apart : (S lo hi budget d : ℕ) → 0 < S → hi ≤ lo + budget
+    → div_ceil (hi * 10 ^ d) S ≤ lo * 10 ^ d / S + in_digits S budget d
 unfolding in_digits
 printed_apart S lo hi budget d pos apart =
-    omega (arith, up_quotient (budget * 10 ^ d) S pos, ceiling_apart S (lo * 10 ^ d) (hi * 10 ^ d) (budget * 10 ^ d) pos (omega (arith, mul-le-mul_right (10 ^ d) apart)))
+    omega (
+      arith,
+      up_quotient (budget * 10 ^ d) S pos,
+      ceiling_apart S (lo * 10 ^ d) (hi * 10 ^ d) (budget * 10 ^ d) pos
+          (omega (arith, mul-le-mul_right (10 ^ d) apart)),
+    )
 
-pub low_lies : (value : Iv 56) → LiesIn (value.lo over 2 ^ 56) value
-low_lies value = record { low = le_refl (value.lo over 2 ^ 56); high = over_le_over value.lo value.hi (2 ^ 56) (pow_pos 56) value.ordered }
+floor_over : (S l d : ℕ) → 0 < S → (l * 10 ^ d / S) over 10 ^ d ≤ℚ l over S
+floor_over S l d pos =
+    over_le (l * 10 ^ d / S) (10 ^ d) l S (one-le-pow d 10 (omega arith)) pos (floor_below (l * 10 ^ d) S pos)
 
-pub high_lies : (value : Iv 56) → LiesIn (value.hi over 2 ^ 56) value
-high_lies value = record { low = over_le_over value.lo value.hi (2 ^ 56) (pow_pos 56) value.ordered; high = le_refl (value.hi over 2 ^ 56) }
-
--- printed numbers
-pub prints : (value : Iv 56) (d low high : ℕ) (row : Row) → row.low ≡ Number low → row.high ≡ Number high
-    → low ≡ value.lo * 10 ^ d / 2 ^ 56 → high ≡ div_ceil (value.hi * 10 ^ d) (2 ^ 56)
-    → ((x : Fraction) → LiesIn x value → low over 10 ^ d ≤ℚ x) → ((x : Fraction) → LiesIn x value → x ≤ℚ high over 10 ^ d)
-    → Prints value.lo value.hi d row
-prints value d low high row is_low is_high of_low of_high below above = record {
-  low = low;
-  high = high;
-  is_low = is_low;
-  is_high = is_high;
-  order = omega (arith, of_low, of_high, floor_ceiling (2 ^ 56) (value.lo * 10 ^ d) (value.hi * 10 ^ d) (pow_pos 56) (mul-le-mul_right (10 ^ d) value.ordered));
-  narrow = λ budget apart. omega (arith, of_low, of_high, printed_apart (2 ^ 56) value.lo value.hi budget d (pow_pos 56) apart);
-  below = below (value.lo over 2 ^ 56) (low_lies value);
-  above = above (value.hi over 2 ^ 56) (high_lies value);
-}
+ceiling_over : (S h d : ℕ) → 0 < S → h over S ≤ℚ div_ceil (h * 10 ^ d) S over 10 ^ d
+ceiling_over S h d pos =
+    over_le h S (div_ceil (h * 10 ^ d) S) (10 ^ d) pos (one-le-pow d 10 (omega arith))
+    (div_ceil_times (h * 10 ^ d) S pos).0
 
 -- what lies between two numbers lies between any that are farther apart
 abbrev pub Widens : (Fraction → Fraction → Type 0) → Type 0
 Widens LiesBetween = (l m h k : Fraction) → m ≤ℚ l → h ≤ℚ k → LiesBetween l h → LiesBetween m k
 
 pub given_widens : (plan : Plan) (given quantity : Quantity) → Widens (DeclaresGiven plan given quantity)
-given_widens plan given quantity l m h k low high holds = (at_least_wider _ _ _ _ holds.0 low, at_most_wider _ _ _ _ holds.1 high)
+given_widens plan given quantity l m h k low high holds =
+    (at_least_wider _ _ _ _ holds.0 low, at_most_wider _ _ _ _ holds.1 high)
 
 pub tail_widens : (plan : Plan) (p : Fraction) → Widens (DeclaresTail plan p)
 tail_widens plan p l m h k low high holds = λ q is. given_widens plan One (Tail p q) l m h k low high (holds q is)
 
 -- what is printed holds what lies between the ends
-pub are_ends : (LiesBetween : Fraction → Fraction → Type 0) (lo hi d budget : ℕ) (row : Row) → Widens LiesBetween → Prints lo hi d row
-    → LiesBetween (lo over one) (hi over one) → hi ≤ lo + budget → AreEnds LiesBetween d (in_digits one budget d) row
+pub are_ends : (LiesBetween : Fraction → Fraction → Type 0) (lo hi d budget : ℕ) (row : Row) → Widens LiesBetween
+    → Prints lo hi d row
+    → LiesBetween (lo over one) (hi over one) → hi ≤ lo + budget → AreRowEnds LiesBetween d (in_digits one budget d) row
 are_ends LiesBetween lo hi d budget row widens printed holds apart = record {
-  low = printed.low;
-  high = printed.high;
+  low = lo * 10 ^ d / one;
+  high = div_ceil (hi * 10 ^ d) one;
   is_low = printed.is_low;
   is_high = printed.is_high;
-  order = printed.order;
-  narrow = printed.narrow budget apart;
-  holds = widens (lo over one) (printed.low over 10 ^ d) (hi over one) (printed.high over 10 ^ d) printed.below printed.above holds;
+  order = floor_ceiling one (lo * 10 ^ d) (hi * 10 ^ d) (pow_pos 56) (mul-le-mul_right (10 ^ d) printed.ordered);
+  narrow = printed_apart one lo hi budget d (pow_pos 56) apart;
+  holds = widens _ _ _ _ (floor_over one lo d (pow_pos 56)) (ceiling_over one hi d (pow_pos 56)) holds;
 }
 
-pub declared_ends : (plan : Plan) (quantity : Quantity) (lo hi d budget : ℕ) (row : Row) → Prints lo hi d row → Declares plan quantity (lo over one) (hi over one)
-    → hi ≤ lo + budget → AreEnds (Declares plan quantity) d (in_digits one budget d) row
+pub declared_ends : (plan : Plan) (quantity : Quantity) (lo hi d budget : ℕ) (row : Row) → Prints lo hi d row
+    → Declares plan quantity (lo over one) (hi over one)
+    → hi ≤ lo + budget → AreRowEnds (Declares plan quantity) d (in_digits one budget d) row
 declared_ends plan quantity lo hi d budget row printed holds apart =
     are_ends (Declares plan quantity) lo hi d budget row (given_widens plan One quantity) printed holds apart

@@ -11,7 +11,7 @@ use Rattle.dl_grid.specs.Cells.{low_at, high_at, spread}
 use Rattle.dl_grid.specs.Width.{cv}
 use Rattle.dl_grid.proofs.WidthLaws.{cv_rises}
 use Rattle.dl_model.specs.Series.{Series, AtLeast, AtMost, Holds}
-use Rattle.dl_model.specs.Program.{Aggregate, AreUnits, One, Point, Joint, partial_sums}
+use Rattle.dl_model.specs.Program.{Aggregate, AreDeclarable, One, Point, Joint, partial_sums}
 use Rattle.dl_model.specs.Family.{total, GridEncloses}
 use Rattle.dl_model.specs.Measures.{unit_of, without, AreDeclared}
 use Rattle.dl_model.specs.Plans.{aggregate_of, aggregates_of}
@@ -23,7 +23,7 @@ use Rattle.dl_plan.specs.Valid.{IsValid}
 use Rattle.dl_report.specs.declared.report.Row.{Row}
 use Rattle.dl_budget.specs.Units.{unit_budgets, total_budget, others_budget}
 use Rattle.dl_budget.specs.Asks.{place_of, joint_budget, kappa_budget, tail_budget, ask_budget, in_digits}
-use Rattle.dl_eval.specs.Rows.{S, DeclaresGiven, least_likely, IsBelow, IsTailMean, IsBeyond, IsShare, IsTooRare, IsAnswerTo, total_error}
+use Rattle.dl_eval.specs.Rows.{S, DeclaresGiven, least_likely, IsBelow, IsTailMean, IsBeyond, IsShareOfUnit, IsTooRare, IsAnswerTo, total_error}
 use Rattle.dl_eval.specs.Totals.{AreUnitGrids, IsTotalOf, AreOthersOf, IsJointOf, Prints}
 use Rattle.dl_eval.proofs.Printed.{are_ends, declared_ends, given_widens}
 use Rattle.dl_eval.proofs.Totals.{each_encloses, each_cells, unit_narrow}
@@ -31,18 +31,24 @@ use Rattle.dl_eval.proofs.GoodRows.{cell_apart, plus_lt}
 
 -- ---- joint means
 
-joint_width : (S K u v x y : ℕ) (g : List (Iv 56)) → 0 < S → length g ≡ K → u ≤ x → v ≤ y → length g * cv S (length g) u v ≤ K * cv S K x y
+joint_width : (S K u v x y : ℕ) (g : List (Iv 56)) → 0 < S → length g ≡ K → u ≤ x → v ≤ y
+    → length g * cv S (length g) u v ≤ K * cv S K x y
 joint_width S K u v x y g pos same p q =
-    subst (λ n. n * cv S n u v ≤ K * cv S K x y) (sym same) (mul-le-mul_left K (cv_rises S K K u x v y pos (omega arith) p q))
+    subst (λ n. n * cv S n u v ≤ K * cv S K x y) (sym same)
+    (mul-le-mul_left K (cv_rises S K K u x v y pos (omega arith) p q))
 
 pub is_joint : (plan : Plan) (grids : List (List (Iv 56))) (unit others : List (Iv 56)) (i at : ℕ) (mean : Iv 56)
-    → ((us : List Aggregate) (j : ℕ) → AreUnits us → j < length us → GridEncloses unit (unit_of us j) → GridEncloses others (total (without us j))
+    → ((us : List Aggregate) (j : ℕ) → AreDeclarable us → j < length us → GridEncloses unit (unit_of us j)
+    → GridEncloses others (total (without us j))
     → Holds (partial_sums us (Joint j at)) (partial_sums us One) (mean.lo over 2 ^ 56) (mean.hi over 2 ^ 56))
     → mean.hi - mean.lo ≤ length unit * cv (2 ^ 56) (length unit) (spread unit) (spread others)
-    → unit ≡ get_or grids i [] → i < length plan.units → IsValid plan → AreUnitGrids plan.cells plan.units grids → AreOthersOf plan i others → IsJointOf plan i at mean
+    → unit ≡ get_or grids i [] → i < length plan.units → IsValid plan → AreUnitGrids plan.cells plan.units grids
+    → AreOthersOf plan i others → IsJointOf plan i at mean
 is_joint plan grids unit others i at mean holds width is inside valid units rest = record {
-  holds = holds (aggregates_of plan) i (plan_units plan valid) (omega (arith, inside, length-map plan.units aggregate_of))
-      (subst (λ g. GridEncloses g (unit_of (aggregates_of plan) i)) (sym is) (each_encloses plan.cells plan.units grids i inside units)) rest.encloses;
+  holds = holds (aggregates_of plan) i (plan_units plan valid)
+      (omega (arith, inside, length-map plan.units aggregate_of))
+      (subst (λ g. GridEncloses g (unit_of (aggregates_of plan) i)) (sym is)
+      (each_encloses plan.cells plan.units grids i inside units)) rest.encloses;
   narrow = omega (arith, mean.ordered, width, wide);
 }
   where
@@ -50,22 +56,30 @@ is_joint plan grids unit others i at mean holds width is inside valid units rest
     same = each_cells plan.cells plan.units grids unit i is inside units
 
     wide : length unit * cv (2 ^ 56) (length unit) (spread unit) (spread others) ≤ joint_budget S plan i
-    wide = joint_width (2 ^ 56) plan.cells (spread unit) (spread others) (get_or (unit_budgets S plan.cells plan.units) i 0) (others_budget S plan i) unit (pow_pos 56) same
-        (subst (λ g. spread g ≤ get_or (unit_budgets S plan.cells plan.units) i 0) (sym is) (unit_narrow plan.cells plan.units grids i inside units)) rest.narrow
+    wide = joint_width (2 ^ 56) plan.cells (spread unit) (spread others)
+        (get_or (unit_budgets S plan.cells plan.units) i 0) (others_budget S plan i) unit (pow_pos 56) same
+        (subst (λ g. spread g ≤ get_or (unit_budgets S plan.cells plan.units) i 0) (sym is)
+        (unit_narrow plan.cells plan.units grids i inside units)) rest.narrow
 
 -- a unit has at most the whole of a total
 pub is_below : (plan : Plan) (grids : List (List (Iv 56))) (unit others : List (Iv 56)) (i at low : ℕ)
-    → ((us : List Aggregate) (j h : ℕ) → AreDeclared us → j < length us → GridEncloses unit (unit_of us j) → GridEncloses others (total (without us j))
+    → ((us : List Aggregate) (j h : ℕ) → AreDeclared us → j < length us → GridEncloses unit (unit_of us j)
+    → GridEncloses others (total (without us j))
     → AtMost (partial_sums us (Point at)) (partial_sums us One) (h over 2 ^ 56) → low ≤ at * h)
-    → unit ≡ get_or grids i [] → i < length plan.units → IsValid plan → AreUnitGrids plan.cells plan.units grids → GridEncloses others (total (without (aggregates_of plan) i))
-    → (h : ℕ) → AtMost (partial_sums (aggregates_of plan) (Point at)) (partial_sums (aggregates_of plan) One) (h over S) → low ≤ at * h
+    → unit ≡ get_or grids i [] → i < length plan.units → IsValid plan → AreUnitGrids plan.cells plan.units grids
+    → GridEncloses others (total (without (aggregates_of plan) i))
+    → (h : ℕ) → AtMost (partial_sums (aggregates_of plan) (Point at)) (partial_sums (aggregates_of plan) One) (h over S)
+    → low ≤ at * h
 is_below plan grids unit others i at low below is inside valid units rest h most =
-    below (aggregates_of plan) i h (plan_declared plan valid) (omega (arith, inside, length-map plan.units aggregate_of))
-    (subst (λ g. GridEncloses g (unit_of (aggregates_of plan) i)) (sym is) (each_encloses plan.cells plan.units grids i inside units)) rest most
+    below (aggregates_of plan) i h (plan_declared plan valid)
+    (omega (arith, inside, length-map plan.units aggregate_of))
+    (subst (λ g. GridEncloses g (unit_of (aggregates_of plan) i)) (sym is)
+    (each_encloses plan.cells plan.units grids i inside units)) rest most
 
 -- ---- shares
 
-share_width : (K D J at low high l h w : ℕ) → at ≤ K → high ≤ low + D → h ≤ l + J → w ≤ 2 ^ 16 * (at * (high - low) + (h - l)) + 2
+share_width : (K D J at low high l h w : ℕ) → at ≤ K → high ≤ low + D → h ≤ l + J
+    → w ≤ 2 ^ 16 * (at * (high - low) + (h - l)) + 2
     → w ≤ 2 ^ 16 * (K * D + J) + 2
 share_width K D J at low high l h w inside cell joint width =
     let product : at * (high - low) ≤ K * D = mul-le-mul inside (narrow_cell low high D cell) in
@@ -75,38 +89,54 @@ share_width K D J at low high l h w inside cell joint width =
     narrow_cell : (low high D : ℕ) → high ≤ low + D → high - low ≤ D
     narrow_cell low high D cell = omega (arith, cell)
 
-pub cell_holds : (plan : Plan) (g : List (Iv 56)) (at low high : ℕ) → low ≡ low_at g at → high ≡ high_at g at → at < plan.cells → IsTotalOf plan g
-    → Holds (partial_sums (aggregates_of plan) (Point at)) (partial_sums (aggregates_of plan) One) (low over S) (high over S)
-cell_holds plan g at low high of_low of_high inside t = rw (of_low, of_high) (t.encloses at (omega (arith, inside, t.cells)))
+pub cell_holds : (plan : Plan) (g : List (Iv 56)) (at low high : ℕ) → low ≡ low_at g at → high ≡ high_at g at
+    → at < plan.cells → IsTotalOf plan g
+    → Holds (partial_sums (aggregates_of plan) (Point at)) (partial_sums (aggregates_of plan) One) (low over S)
+    (high over S)
+cell_holds plan g at low high of_low of_high inside t =
+    rw (of_low, of_high) (t.encloses at (omega (arith, inside, t.cells)))
 
 pub share_answer : (plan : Plan) (g : List (Iv 56)) (joint : Iv 56) (i at low high d lo hi : ℕ) (row : Row)
     → low ≡ low_at g at → high ≡ high_at g at
-    → ((Q R O : Series) → Holds Q O (joint.lo over 2 ^ 56) (joint.hi over 2 ^ 56) → Holds R O (low over 2 ^ 56) (high over 2 ^ 56)
+    → ((Q R O : Series) → Holds Q O (joint.lo over 2 ^ 56) (joint.hi over 2 ^ 56)
+    → Holds R O (low over 2 ^ 56) (high over 2 ^ 56)
     → AtLeast R O (1 over 2 ^ 16) × Holds Q R (lo over 2 ^ 56) (hi over 2 ^ 56))
     → ((k : ℕ) → joint.lo ≤ k * high → hi - lo ≤ 2 ^ 16 * (k * (high - low) + (joint.hi - joint.lo)) + 2)
-    → ((h : ℕ) → AtMost (partial_sums (aggregates_of plan) (Point at)) (partial_sums (aggregates_of plan) One) (h over S) → joint.lo ≤ at * h)
+    → ((h : ℕ) → AtMost (partial_sums (aggregates_of plan) (Point at)) (partial_sums (aggregates_of plan) One)
+    (h over S) → joint.lo ≤ at * h)
     → at < plan.cells → IsTotalOf plan g → IsJointOf plan i at joint → Prints lo hi d row
-    → IsShare plan i at d (in_digits S (kappa_budget S plan i) d) row
+    → IsShareOfUnit plan i at d (in_digits S (kappa_budget S plan i) d) row
 share_answer plan g joint i at low high d lo hi row of_low of_high divided width below inside t j printed =
-    let cell : Holds (partial_sums (aggregates_of plan) (Point at)) (partial_sums (aggregates_of plan) One) (low over S) (high over S) =
+    let cell : Holds (partial_sums (aggregates_of plan) (Point at)) (partial_sums (aggregates_of plan) One) (low over S)
+    (high over S) =
     cell_holds plan g at low high of_low of_high inside t in
-    let both = divided (partial_sums (aggregates_of plan) (Joint i at)) (partial_sums (aggregates_of plan) (Point at)) (partial_sums (aggregates_of plan) One) j.holds cell in
+    let both = divided (partial_sums (aggregates_of plan) (Joint i at)) (partial_sums (aggregates_of plan) (Point at))
+    (partial_sums (aggregates_of plan) One) j.holds cell in
     let apart : high ≤ low + total_budget S plan = omega (arith, of_low, of_high, cell_apart g at, t.narrow) in
     record {
       likely = both.0;
-      ends = are_ends (DeclaresGiven plan (Point at) (Joint i at)) lo hi d (kappa_budget S plan i) row (given_widens plan (Point at) (Joint i at)) printed both.1
-          (omega (arith, share_width plan.cells (total_budget S plan) (joint_budget S plan i) at low high joint.lo joint.hi (hi - lo) (omega (arith, inside)) apart j.narrow (width at (below high cell.1))));
+      ends = are_ends (DeclaresGiven plan (Point at) (Joint i at)) lo hi d (kappa_budget S plan i) row
+          (given_widens plan (Point at) (Joint i at)) printed both.1
+          (omega (
+            arith,
+            share_width plan.cells (total_budget S plan)
+                (joint_budget S plan i) at low high joint.lo joint.hi (hi - lo) (omega (arith, inside)) apart j.narrow
+                (width at (below high cell.1)),
+          ));
     }
 
 -- ---- totals that are too rare
 
-pub rare_answer : (plan : Plan) (g : List (Iv 56)) (at low high : ℕ) → low ≡ low_at g at → high ≡ high_at g at → low * 2 ^ 16 < 2 ^ 56
+pub rare_answer : (plan : Plan) (g : List (Iv 56)) (at low high : ℕ) → low ≡ low_at g at → high ≡ high_at g at
+    → low * 2 ^ 16 < 2 ^ 56
     → at < plan.cells → IsTotalOf plan g → IsBelow plan (Point at) (least_likely +ℚ total_error plan)
 rare_answer plan g at low high of_low of_high rare inside t =
     let D : ℕ = total_budget S plan in
     let cell = cell_holds plan g at low high of_low of_high inside t in
-    let sum : high over 2 ^ 56 ≤ℚ (low + D) over 2 ^ 56 = over_le_over high (low + D) (2 ^ 56) (pow_pos 56) (omega (arith, of_low, of_high, cell_apart g at, t.narrow)) in
-    let less : low over 2 ^ 56 <ℚ 1 over 2 ^ 16 = over_lt low (2 ^ 56) 1 (2 ^ 16) (pow_pos 56) (omega arith) (omega (arith, rare)) in (
+    let sum : high over 2 ^ 56 ≤ℚ (low + D) over 2 ^ 56 =
+    over_le_over high (low + D) (2 ^ 56) (pow_pos 56) (omega (arith, of_low, of_high, cell_apart g at, t.narrow)) in
+    let less : low over 2 ^ 56 <ℚ 1 over 2 ^ 16 = over_lt low (2 ^ 56) 1 (2 ^ 16) (pow_pos 56) (omega arith)
+    (omega (arith, rare)) in (
       low over 2 ^ 56 +ℚ D over 2 ^ 56,
       plus_lt (low over 2 ^ 56) (1 over 2 ^ 16) (D over 2 ^ 56) less,
       at_most_wider _ _ _ _ cell.1 (subst (λ t. high over 2 ^ 56 ≤ℚ t) (over_plus low D (2 ^ 56) (pow_pos 56)) sum),
@@ -114,20 +144,25 @@ rare_answer plan g at low high of_low of_high rare inside t =
 
 -- ---- what is asked
 
-pub joint_asked : (plan : Plan) (unit : List ℕ) (at i d : ℕ) (mean : Iv 56) (row : Row) → i ≡ place_of unit plan.units → IsJointOf plan i at mean
+pub joint_asked : (plan : Plan) (unit : List ℕ) (at i d : ℕ) (mean : Iv 56) (row : Row) → i ≡ place_of unit plan.units
+    → IsJointOf plan i at mean
     → Prints mean.lo mean.hi d row → IsAnswerTo plan d (asks.Joint unit at) row
 unfolding ask_budget
 joint_asked plan unit at i d mean row place joint printed =
     let there : IsJointOf plan (place_of unit plan.units) at mean = subst (λ n. IsJointOf plan n at mean) place joint in
-    declared_ends plan (Joint (place_of unit plan.units) at) mean.lo mean.hi d (joint_budget S plan (place_of unit plan.units)) row printed there.holds there.narrow
+    declared_ends plan (Joint (place_of unit plan.units) at) mean.lo mean.hi d
+    (joint_budget S plan (place_of unit plan.units)) row printed there.holds there.narrow
 
 pub share_asked : (plan : Plan) (unit : List ℕ) (at i d : ℕ) (row : Row) → i ≡ place_of unit plan.units
-    → IsShare plan i at d (in_digits S (kappa_budget S plan i) d) row ⊎ IsTooRare plan at (total_error plan) row → IsAnswerTo plan d (asks.Kappa unit at) row
+    → IsShareOfUnit plan i at d (in_digits S (kappa_budget S plan i) d) row ⊎ IsTooRare plan at (total_error plan) row
+    → IsAnswerTo plan d (asks.Kappa unit at) row
 unfolding ask_budget
 share_asked plan unit at i d row place told =
-    subst (λ n. IsShare plan n at d (in_digits S (kappa_budget S plan n) d) row ⊎ IsTooRare plan at (total_error plan) row) place told
+    subst (λ n. IsShareOfUnit plan n at d (in_digits S (kappa_budget S plan n) d) row
+    ⊎ IsTooRare plan at (total_error plan) row) place told
 
 pub tail_asked : (plan : Plan) (p : Fraction) (d : ℕ) (row : Row)
-    → IsTailMean plan p d (in_digits S (tail_budget S plan p) d) row ⊎ IsBeyond plan p (total_error plan) row → IsAnswerTo plan d (asks.Tail p) row
+    → IsTailMean plan p d (in_digits S (tail_budget S plan p) d) row ⊎ IsBeyond plan p (total_error plan) row
+    → IsAnswerTo plan d (asks.Tail p) row
 unfolding ask_budget
 tail_asked plan p d row told = told

@@ -16,13 +16,14 @@ use Rattle.dl_exact.specs.Count.{count_below}
 use Rattle.dl_model.specs.Series.{Holds}
 use Rattle.dl_model.specs.Program.{Aggregate, One, Mean, Tail, partial_sums}
 use Rattle.dl_model.specs.Family.{total, GridEncloses}
-use Rattle.dl_model.specs.Measures.{low_cdf, IsQuantile, AreDeclared}
+use Rattle.dl_model.specs.Measures.{IsQuantile, AreDeclared}
+use Rattle.dl_measures.specs.Ends.{low_cdf}
 use Rattle.dl_model.specs.Plans.{aggregates_of}
 use Rattle.dl_model.proofs.Declared.{at_least_wider}
 use Rattle.dl_exact.proofs.Counts.{below_grows as count_below_grows}
-use Rattle.dl_model.proofs.Ends.{cdf_ends}
+use Rattle.dl_measures.proofs.CellEnds.{cdf_ends}
 use Rattle.dl_model.proofs.PlanUnits.{plan_declared, plan_units}
-use Rattle.dl_measures.specs.Brackets.{IsFirst}
+use Rattle.dl_measures.specs.Brackets.{IsFirstAtLeast}
 use Rattle.dl_plan.specs.declared.plan.Plan.{Plan}
 use Rattle.dl_plan.specs.Ranges.{IsLevel}
 use Rattle.dl_plan.specs.Valid.{IsValid}
@@ -39,13 +40,23 @@ use Rattle.dl_eval.proofs.Printed.{are_ends, tail_widens}
 
 up_rises : (m n d : ℕ) → 0 < d → m ≤ n → up (m over d) ≤ up (n over d)
 up_rises m n d pos h =
-    omega (arith, up_quotient m d pos, up_quotient n d pos, div_ceil_least m d (div_ceil n d) pos (omega (arith, h, (div_ceil_times n d pos).0)))
+    omega (
+      arith,
+      up_quotient m d pos,
+      up_quotient n d pos,
+      div_ceil_least m d (div_ceil n d) pos (omega (arith, h, (div_ceil_times n d pos).0)),
+    )
 
 tail_narrow : (p : Fraction) (mean most cells w budget : ℕ) → p.num < p.den → mean ≤ most → w ≤ budget
     → tail_width p mean cells w ≤ up (((2 * most + 3 * cells * budget) * p.den) over (p.den - p.num)) + 4
 tail_narrow p mean most cells w budget below of_mean of_spread =
-    let sums : 2 * mean + 3 * cells * w ≤ 2 * most + 3 * cells * budget = omega (arith, of_mean, mul-le-mul_left (3 * cells) of_spread) in
-    omega (arith, up_rises ((2 * mean + 3 * cells * w) * p.den) ((2 * most + 3 * cells * budget) * p.den) (p.den - p.num) (omega (arith, below)) (mul-le-mul_right p.den sums))
+    let sums : 2 * mean + 3 * cells * w ≤ 2 * most + 3 * cells * budget =
+    omega (arith, of_mean, mul-le-mul_left (3 * cells) of_spread) in
+    omega (
+      arith,
+      up_rises ((2 * mean + 3 * cells * w) * p.den) ((2 * most + 3 * cells * budget) * p.den)
+          (p.den - p.num) (omega (arith, below)) (mul-le-mul_right p.den sums),
+    )
 
 -- ---- where it is told
 
@@ -53,13 +64,16 @@ low_rises : (g : List (Iv 56)) (x y : ℕ) → x ≤ y → count_below (suc x) (
 low_rises g x y h = count_below_grows (suc x) (suc y) (low_at g) (omega (arith, h))
 
 low_cdf_rises : (g : List (Iv 56)) (x y : ℕ) → x ≤ y → low_cdf (2 ^ 56) (low_at g) x ≤ℚ low_cdf (2 ^ 56) (low_at g) y
-low_cdf_rises g x y h = over_le_over (count_below (suc x) (low_at g)) (count_below (suc y) (low_at g)) (2 ^ 56) (pow_pos 56) (low_rises g x y h)
+low_cdf_rises g x y h = over_le_over (count_below (suc x) (low_at g)) (count_below (suc y) (low_at g)) (2 ^ 56)
+    (pow_pos 56) (low_rises g x y h)
 
 below_before : (p x y : Fraction) → x ≤ℚ y → y <ℚ p → x <ℚ p
-below_before p x y order below = elim (lt_or_le x p) [ inl less ↦ less | inr not_less ↦ absurd (lt_not_le y p below (le_trans p x y not_less order)) ]
+below_before p x y order below = elim (lt_or_le x p)
+    [ inl less ↦ less | inr not_less ↦ absurd (lt_not_le y p below (le_trans p x y not_less order)) ]
 
 -- where some low end reaches p, the last one does
-last_reaches : (g : List (Iv 56)) (p : Fraction) (n x : ℕ) → x + 1 ≡ n → ¬ IsFirst (low_cdf (2 ^ 56) (low_at g)) p n n → p ≤ℚ low_cdf (2 ^ 56) (low_at g) x
+last_reaches : (g : List (Iv 56)) (p : Fraction) (n x : ℕ) → x + 1 ≡ n
+    → ¬ IsFirstAtLeast (low_cdf (2 ^ 56) (low_at g)) p n n → p ≤ℚ low_cdf (2 ^ 56) (low_at g) x
 last_reaches g p n x last found = elim (lt_or_le (low_cdf (2 ^ 56) (low_at g) x) p) [
   | inl below ↦
       absurd (found (record {
@@ -70,15 +84,17 @@ last_reaches g p n x last found = elim (lt_or_le (low_cdf (2 ^ 56) (low_at g) x)
   | inr reached ↦ reached
 ]
 
-tail_reached : (plan : Plan) (g : List (Iv 56)) (p : Fraction) → ¬ IsFirst (low_cdf (2 ^ 56) (low_at g)) p (length g) (length g)
+tail_reached : (plan : Plan) (g : List (Iv 56)) (p : Fraction)
+    → ¬ IsFirstAtLeast (low_cdf (2 ^ 56) (low_at g)) p (length g) (length g)
     → IsValid plan → IsTotalOf plan g → IsAtLeast plan (at_the_end plan) p
 tail_reached plan g p found valid t =
     let some = few_cells plan valid in
-    let ends = cdf_ends (aggregates_of plan) (2 ^ 56) (length g) (low_at g) (high_at g) (plan_units plan valid) (pow_pos 56) t.encloses (plan.cells - 1) (omega (arith, t.cells, some.0)) in
+    let ends = cdf_ends (aggregates_of plan) (2 ^ 56) (length g) (low_at g) (high_at g) (plan_units plan valid)
+    (pow_pos 56) t.encloses (plan.cells - 1) (omega (arith, t.cells, some.0)) in
     at_least_wider _ _ _ _ ends.0 (last_reaches g p (length g) (plan.cells - 1) (omega (arith, t.cells, some.0)) found)
 
 pub tail_answer : (plan : Plan) (g : List (Iv 56)) (mean : Iv 56) (p : Fraction) (d lo hi : ℕ) (row : Row)
-    → ¬ IsFirst (low_cdf (2 ^ 56) (low_at g)) p (length g) (length g)
+    → ¬ IsFirstAtLeast (low_cdf (2 ^ 56) (low_at g)) p (length g) (length g)
     → ((us : List Aggregate) (q : ℕ) → AreDeclared us → GridEncloses g (total us)
     → Holds (partial_sums us Mean) (partial_sums us One) (mean.lo over 2 ^ 56) (mean.hi over 2 ^ 56) → IsQuantile us q p
     → Holds (partial_sums us (Tail p q)) (partial_sums us One) (lo over 2 ^ 56) (hi over 2 ^ 56))
@@ -94,4 +110,5 @@ tail_answer plan g mean p d lo hi row found holds width level valid t m printed 
   where
     wide : tail_width p (mean.hi - mean.lo) (length g) (spread g) ≤ tail_budget S plan p
     wide = subst (λ n. tail_width p (mean.hi - mean.lo) n (spread g) ≤ tail_budget S plan p) (sym t.cells)
-        (tail_narrow p (mean.hi - mean.lo) (mean_budget S plan) plan.cells (spread g) (total_budget S plan) (level_below p level.below) (omega (arith, m.narrow)) t.narrow)
+        (tail_narrow p (mean.hi - mean.lo) (mean_budget S plan) plan.cells (spread g) (total_budget S plan)
+        (level_below p level.below) (omega (arith, m.narrow)) t.narrow)

@@ -10,7 +10,7 @@ use Rattle.dl_grid.specs.Width.{cv, sum_spread as sum_budget, sum_spread}
 use Rattle.dl_grid.proofs.WidthLaws.{cv_rises}
 use Rattle.dl_model.specs.Family.{mapped, GridEncloses}
 use Rattle.dl_model.specs.Measures.{unit_of}
-use Rattle.dl_model.specs.Plans.{clause_of, aggregate_of, aggregates_of, compound_of}
+use Rattle.dl_model.specs.Plans.{outcome_after, aggregate_of, aggregates_of, compound_of}
 use Rattle.dl_model.proofs.FamilyLaws.{encloses_same}
 use Rattle.dl_model.proofs.UnitLaws.{unit_plain}
 use Rattle.dl_model.proofs.PlanUnits.{unit_declared, plan_units}
@@ -31,28 +31,35 @@ use Rattle.dl_eval.specs.Totals.{AreUnitGrids, AreShared, IsTotalOf, AreOthersOf
 
 -- ---- what the grids enclose
 
-unit_there : (us : List UnitOfPlan) (i : ℕ) (u : UnitOfPlan) → i < length us → unit_of (map aggregate_of us) i ≡ mapped (aggregate_of (get_or us i u))
+unit_there : (us : List UnitOfPlan) (i : ℕ) (u : UnitOfPlan) → i < length us
+    → unit_of (map aggregate_of us) i ≡ mapped (aggregate_of (get_or us i u))
 unit_there [] i u inside = absurd (omega (arith, inside))
 unit_there (v ∷ us) zero u inside = refl
 unit_there (v ∷ us) (suc i) u inside = unit_there us i u (omega (arith, inside))
 
-pub plain_encloses : (g : List (Iv 56)) (cells : ℕ) (u : UnitOfPlan) → IsValidUnit cells u → u.cede ≡ None → GridEncloses g (compound_of u.freq u.sev) → GridEncloses g (mapped (aggregate_of u))
+pub plain_encloses : (g : List (Iv 56)) (cells : ℕ) (u : UnitOfPlan) → IsValidUnit cells u → u.cede ≡ None
+    → GridEncloses g (compound_of u.freq u.sev) → GridEncloses g (mapped (aggregate_of u))
 plain_encloses g cells u valid none encloses =
     encloses_same (2 ^ 56) (length g) (low_at g) (high_at g) (compound_of u.freq u.sev) (mapped (aggregate_of u))
-    (λ y N. sym (unit_plain (aggregate_of u) (unit_declared cells u valid).unit (λ s. ap (λ c. clause_of c s) none) y N)) (λ N. refl) encloses
+    (λ y N. sym (unit_plain (aggregate_of u) (unit_declared cells u valid).unit
+    (λ s. ap (λ c. outcome_after c s) none) y N)) (λ N. refl) encloses
 
-pub each_encloses : (cells : ℕ) (us : List UnitOfPlan) (grids : List (List (Iv 56))) (i : ℕ) → i < length us → AreUnitGrids cells us grids
+pub each_encloses : (cells : ℕ) (us : List UnitOfPlan) (grids : List (List (Iv 56))) (i : ℕ) → i < length us
+    → AreUnitGrids cells us grids
     → GridEncloses (get_or grids i []) (unit_of (map aggregate_of us) i)
 each_encloses cells [] grids i inside each = absurd (omega (arith, inside))
 each_encloses cells (u ∷ us) grids i inside each =
-    subst (λ F. GridEncloses (get_or grids i []) F) (sym (unit_there (u ∷ us) i u inside)) (each.each i u inside).encloses
+    subst (λ F. GridEncloses (get_or grids i []) F) (sym (unit_there (u ∷ us) i u inside))
+    (each.each i u inside).encloses
 
-pub each_cells : (cells : ℕ) (us : List UnitOfPlan) (grids : List (List (Iv 56))) (g : List (Iv 56)) (i : ℕ) → g ≡ get_or grids i [] → i < length us → AreUnitGrids cells us grids
+pub each_cells : (cells : ℕ) (us : List UnitOfPlan) (grids : List (List (Iv 56))) (g : List (Iv 56)) (i : ℕ)
+    → g ≡ get_or grids i [] → i < length us → AreUnitGrids cells us grids
     → length g ≡ cells
 each_cells cells [] grids g i is inside each = absurd (omega (arith, inside))
 each_cells cells (u ∷ us) grids g i is inside each = ap (λ t. length t) is ∙ (each.each i u inside).cells
 
-enclose_each : (plan : Plan) (grids : List (List (Iv 56))) → AreUnitGrids plan.cells plan.units grids → EncloseEach grids (aggregates_of plan)
+enclose_each : (plan : Plan) (grids : List (List (Iv 56))) → AreUnitGrids plan.cells plan.units grids
+    → EncloseEach grids (aggregates_of plan)
 enclose_each plan grids each = record {
   as_many = each.as_many ∙ sym (length-map plan.units aggregate_of);
   each = λ i inside. each_encloses plan.cells plan.units grids i (omega (arith, inside, each.as_many)) each;
@@ -76,7 +83,11 @@ record AreNoMore (xs ys : List ℕ) : Type 0 where
   each : (i : ℕ) → i < length xs → get_or xs i 0 ≤ get_or ys i 0
 
 later_no_more : (x y : ℕ) (xs ys : List ℕ) → AreNoMore (x ∷ xs) (y ∷ ys) → AreNoMore xs ys
-later_no_more x y xs ys h = record { as_many = omega (arith, h.as_many); each = λ i inside. h.each (suc i) (omega (arith, inside)) }
+later_no_more x y xs ys h = record {
+  as_many = omega (arith, h.as_many);
+  each = λ i inside.
+      h.each (suc i) (omega (arith, inside));
+}
 
 one_no_more : (x y : ℕ) (xs ys : List ℕ) → x ≤ y → AreNoMore xs ys → AreNoMore (x ∷ xs) (y ∷ ys)
 one_no_more x y xs ys first h = record { as_many = omega (arith, h.as_many); each = each }
@@ -90,29 +101,34 @@ removed_no_more i [] [] h = subst₂ AreNoMore (sym (remove_none i)) (sym (remov
 removed_no_more i [] (y ∷ ys) h = absurd (omega (arith, h.as_many))
 removed_no_more i (x ∷ xs) [] h = absurd (omega (arith, h.as_many))
 removed_no_more zero (x ∷ xs) (y ∷ ys) h = later_no_more x y xs ys h
-removed_no_more (suc i) (x ∷ xs) (y ∷ ys) h = one_no_more x y (remove xs i) (remove ys i) (h.each 0 (omega arith)) (removed_no_more i xs ys (later_no_more x y xs ys h))
+removed_no_more (suc i) (x ∷ xs) (y ∷ ys) h = one_no_more x y (remove xs i) (remove ys i) (h.each 0 (omega arith))
+    (removed_no_more i xs ys (later_no_more x y xs ys h))
 
 folds_rise : (S k x y : ℕ) (xs ys : List ℕ) → 0 < S → x ≤ y → AreNoMore xs ys → fold (cv S k) x xs ≤ fold (cv S k) y ys
 folds_rise S k x y [] [] pos start h = start
 folds_rise S k x y [] (b ∷ ys) pos start h = absurd (omega (arith, h.as_many))
 folds_rise S k x y (a ∷ xs) [] pos start h = absurd (omega (arith, h.as_many))
 folds_rise S k x y (a ∷ xs) (b ∷ ys) pos start h =
-    folds_rise S k (cv S k x a) (cv S k y b) xs ys pos (cv_rises S k k x y a b pos (omega arith) start (h.each 0 (omega arith))) (later_no_more a b xs ys h)
+    folds_rise S k (cv S k x a) (cv S k y b) xs ys pos
+    (cv_rises S k k x y a b pos (omega arith) start (h.each 0 (omega arith))) (later_no_more a b xs ys h)
 
 sums_rise : (S k : ℕ) (xs ys : List ℕ) → 0 < S → AreNoMore xs ys → sum_spread S k xs ≤ sum_budget S k ys
 sums_rise S k [] [] pos h = omega arith
 sums_rise S k [] (b ∷ ys) pos h = absurd (omega (arith, h.as_many))
 sums_rise S k (a ∷ xs) [] pos h = absurd (omega (arith, h.as_many))
-sums_rise S k (a ∷ xs) (b ∷ ys) pos h = folds_rise S k a b xs ys pos (h.each 0 (omega arith)) (later_no_more a b xs ys h)
+sums_rise S k (a ∷ xs) (b ∷ ys) pos h = folds_rise S k a b xs ys pos (h.each 0 (omega arith))
+    (later_no_more a b xs ys h)
 
 -- the grid of a unit stays within its budget
-pub unit_narrow : (cells : ℕ) (us : List UnitOfPlan) (grids : List (List (Iv 56))) (i : ℕ) → i < length us → AreUnitGrids cells us grids
+pub unit_narrow : (cells : ℕ) (us : List UnitOfPlan) (grids : List (List (Iv 56))) (i : ℕ) → i < length us
+    → AreUnitGrids cells us grids
     → spread (get_or grids i []) ≤ get_or (unit_budgets (2 ^ 56) cells us) i 0
 unit_narrow cells [] grids i inside each = absurd (omega (arith, inside))
 unit_narrow cells (u ∷ us) grids i inside each =
     let v : UnitOfPlan = get_or (u ∷ us) i u in
     let same : unit_budget (2 ^ 56) cells v ≡ get_or (unit_budgets (2 ^ 56) cells (u ∷ us)) i 0 =
-    budget_here (2 ^ 56) cells (u ∷ us) i (unit_budget (2 ^ 56) cells v) v inside (get_or_default (u ∷ us) i u v inside) refl in
+    budget_here (2 ^ 56) cells (u ∷ us) i (unit_budget (2 ^ 56) cells v) v inside
+    (get_or_default (u ∷ us) i u v inside) refl in
     omega (arith, (each.each i u inside).narrow, same)
 
 each_narrow : (plan : Plan) (grids : List (List (Iv 56))) → AreUnitGrids plan.cells plan.units grids
@@ -121,12 +137,17 @@ each_narrow plan grids each = record {
   as_many = length-map grids spread ∙ each.as_many ∙ sym (budgets_length (2 ^ 56) plan.cells plan.units);
   each = λ i inside.
       let there : i < length grids = omega (arith, inside, length-map grids spread) in
-      omega (arith, get_or-map spread grids i [] 0 there, unit_narrow plan.cells plan.units grids i (omega (arith, there, each.as_many)) each);
+      omega (
+        arith,
+        get_or-map spread grids i [] 0 there,
+        unit_narrow plan.cells plan.units grids i (omega (arith, there, each.as_many)) each,
+      );
 }
 
 -- ---- the total
 
-pub is_total : (plan : Plan) (grids : List (List (Iv 56))) (g : List (Iv 56)) → IsValid plan → AreUnitGrids plan.cells plan.units grids
+pub is_total : (plan : Plan) (grids : List (List (Iv 56))) (g : List (Iv 56)) → IsValid plan
+    → AreUnitGrids plan.cells plan.units grids
     → IsTotal plan.cells grids g → IsTotalOf plan g
 is_total plan grids g valid each sum = record {
   cells = sum.cells;
@@ -136,7 +157,8 @@ is_total plan grids g valid each sum = record {
 
 -- ---- all units but one
 
-others_of : (plan : Plan) (grids : List (List (Iv 56))) (i : ℕ) (g : List (Iv 56)) → IsValid plan → AreUnitGrids plan.cells plan.units grids
+others_of : (plan : Plan) (grids : List (List (Iv 56))) (i : ℕ) (g : List (Iv 56)) → IsValid plan
+    → AreUnitGrids plan.cells plan.units grids
     → IsSumWithout plan.cells grids i g → AreOthersOf plan i g
 others_of plan grids i g valid each sum = record {
   cells = sum.cells;
@@ -149,22 +171,27 @@ others_of plan grids i g valid each sum = record {
   );
 }
 
-pub some_weaker : {A : Type 0} (made : Option A) (P Q : A → Type 0) → IfSome made P → ((x : A) → P x → Q x) → IfSome made Q
+pub some_weaker : {A : Type 0} (made : Option A) (P Q : A → Type 0) → IfSome made P → ((x : A) → P x → Q x)
+    → IfSome made Q
 some_weaker None P Q is weaker = tt
 some_weaker (Some x) P Q is weaker = weaker x is
 
-pub are_others : (plan : Plan) (grids : List (List (Iv 56))) (asked : List Bool) (sums : List (Option (List (Iv 56)))) → IsValid plan → AreUnitGrids plan.cells plan.units grids
+pub are_others : (plan : Plan) (grids : List (List (Iv 56))) (asked : List Bool) (sums : List (Option (List (Iv 56))))
+    → IsValid plan → AreUnitGrids plan.cells plan.units grids
     → AreSumsWithout plan.cells grids asked sums → AreOthers plan sums
 are_others plan grids asked sums valid each rest = record {
   as_many = rest.as_many ∙ each.as_many;
   each = λ i inside.
-      some_weaker (get_or sums i None) (IsSumWithout plan.cells grids i) (AreOthersOf plan i) (rest.each i (omega (arith, inside, each.as_many)))
+      some_weaker (get_or sums i None) (IsSumWithout plan.cells grids i) (AreOthersOf plan i)
+      (rest.each i (omega (arith, inside, each.as_many)))
       (λ g sum. others_of plan grids i g valid each sum);
 }
 
 -- where an ask is for a unit's share, the sum of all others is there
-pub has_others : (plan : Plan) (grids : List (List (Iv 56))) (all : List Asked) (asked : List Bool) (made : Grids) → AreUnitGrids plan.cells plan.units grids
-    → AreShared plan.units all asked → AreSumsWithout plan.cells grids asked made.sums.others.items → All (λ a. NamesUnit plan.units a.ask) all → All (λ a. HasOthers plan.units made a.ask) all
+pub has_others : (plan : Plan) (grids : List (List (Iv 56))) (all : List Asked) (asked : List Bool) (made : Grids)
+    → AreUnitGrids plan.cells plan.units grids
+    → AreShared plan.units all asked → AreSumsWithout plan.cells grids asked made.sums.others.items
+    → All (λ a. NamesUnit plan.units a.ask) all → All (λ a. HasOthers plan.units made a.ask) all
 has_others plan grids all asked made each shared rest named = λ k d inside i is.
     let place : i < length plan.units = names_shared plan.units (get_or all k d).ask i (named k d inside) is in
     (rest.there i (omega (arith, place, each.as_many))).1
@@ -175,19 +202,20 @@ has_others plan grids all asked made each shared rest named = λ k d inside i is
     named_place units None i named is = absurd (cc)
     named_place units (Some name) i named is = let same : place_of name units ≡ i = cc in omega (arith, same, named)
 
-    names_shared : (units : List UnitOfPlan) (ask : Ask) (i : ℕ) → NamesUnit units ask → shared_unit units ask ≡ Some i → i < length units
+    names_shared : (units : List UnitOfPlan) (ask : Ask) (i : ℕ) → NamesUnit units ask → shared_unit units ask ≡ Some i
+        → i < length units
     names_shared units ask i named is = named_place units (facts_of ask).unit i named is
 
 -- each grid has the cells
-pub long_enough : (cells : ℕ) (us : List UnitOfPlan) (grids : List (List (Iv 56))) → AreUnitGrids cells us grids → All (λ g. cells ≤ length g) grids
+pub long_enough : (cells : ℕ) (us : List UnitOfPlan) (grids : List (List (Iv 56))) → AreUnitGrids cells us grids
+    → All (λ g. cells ≤ length g) grids
 long_enough cells [] grids each = λ i d inside. absurd (omega (arith, inside, each.as_many))
 long_enough cells (u ∷ us) grids each = λ i d inside.
-    omega (arith, (each.each i u (omega (arith, inside, each.as_many))).cells, ap (λ t. length t) (get_or_default grids i d [] inside))
-
--- a unit that was read there is valid
-pub unit_valid : (plan : Plan) (units : List UnitOfPlan) (i : ℕ) (u : UnitOfPlan) → units ≡ plan.units → IsValid plan → i < length units → u ≡ get_or units i u → IsValidUnit plan.cells u
-unit_valid plan units i u same valid inside is =
-    subst (IsValidUnit plan.cells) (sym (is ∙ ap (λ t. get_or t i u) same)) (valid.units i u (omega (arith, inside, ap (λ t. length t) same)))
+    omega (
+      arith,
+      (each.each i u (omega (arith, inside, each.as_many))).cells,
+      ap (λ t. length t) (get_or_default grids i d [] inside),
+    )
 
 -- ---- one unit alone
 
@@ -198,12 +226,15 @@ only_one xs (y ∷ rest) x is one = absurd (omega (arith, ap (λ t. length t) is
 
 -- its grid is that of the total
 module _ (plan : Plan) (grids : List (List (Iv 56))) (g : List (Iv 56)) (made : Grids) where
-  pub grids_of_one : IsValid plan → AreUnitGrids plan.cells plan.units grids → grids ≡ g ∷ [] → IsTotal (length g) (g ∷ []) made.sums.total
+  pub grids_of_one : IsValid plan → AreUnitGrids plan.cells plan.units grids → grids ≡ g ∷ []
+      → IsTotal (length g) (g ∷ []) made.sums.total
       → AreSumsWithout (length g) (g ∷ []) (false ∷ []) made.sums.others.items → AreGridsOf plan made
   grids_of_one valid each only total rest =
-      let long : length g ≡ plan.cells = each_cells plan.cells plan.units grids g 0 (sym (ap (λ t. get_or t 0 []) only)) (omega (arith, valid.some)) each in
+      let long : length g ≡ plan.cells = each_cells plan.cells plan.units grids g 0 (sym (ap (λ t. get_or t 0 []) only))
+      (omega (arith, valid.some)) each in
       let of_total = subst₂ (λ k t. IsTotal k t made.sums.total) long (sym only) total in
-      let of_rest = subst₂ (λ k t. AreSumsWithout k t (false ∷ []) made.sums.others.items) long (sym only) rest in record {
+      let of_rest = subst₂ (λ k t. AreSumsWithout k t (false ∷ []) made.sums.others.items) long
+      (sym only) rest in record {
         units = λ i inside some. absurd (unasked i ((of_rest.there i (omega (arith, inside, each.as_many))).0 some));
         others = are_others plan grids (false ∷ []) made.sums.others.items valid each of_rest;
         total = is_total plan grids made.sums.total valid each of_total;

@@ -6,7 +6,7 @@ use Rattle.dl_grid.specs.Cells.{spread}
 use Rattle.dl_model.specs.Family.{mapped, GridEncloses}
 use Rattle.dl_model.specs.Plans.{aggregate_of, compound_of}
 use Rattle.dl_plan.specs.declared.plan.Unit.{Unit as UnitOfPlan}
-use Rattle.dl_plan.specs.Cession.{Clause}
+use Rattle.dl_plan.specs.Clause.{Clause}
 use Rattle.dl_plan.specs.Horizon.{IsHorizonOf, horizon}
 use Rattle.dl_plan.specs.Valid.{IsValidUnit}
 use Rattle.dl_plan.proofs.Horizons.{horizon_one}
@@ -22,23 +22,36 @@ horizon_some (Some clause) h k some horizon = horizon_one clause h k horizon
 
 budget_at : (cells : ℕ) (u : UnitOfPlan) (g : List (Iv 56)) → IsValidUnit cells u → IsHorizonOf u.cede cells (length g)
     → spread g ≤ claims_budget (2 ^ 56) (length g) u → spread g ≤ claims_budget (2 ^ 56) (horizon u.cede cells) u
-budget_at cells u g valid there narrow = subst (λ n. spread g ≤ claims_budget (2 ^ 56) n u) (one_horizon cells cells (length g) u valid there) narrow
+budget_at cells u g valid there narrow = subst (λ n. spread g ≤ claims_budget (2 ^ 56) n u)
+    (one_horizon cells cells (length g) u valid there) narrow
 
 -- without a clause the outcomes are the sums of claims
-pub plain_grid : (cells : ℕ) (u : UnitOfPlan) (g : List (Iv 56)) → IsValidUnit cells u → u.cede ≡ None → IsHorizonOf u.cede cells (length g)
+pub plain_grid : (cells : ℕ) (u : UnitOfPlan) (g : List (Iv 56)) → IsValidUnit cells u → u.cede ≡ None
+    → IsHorizonOf u.cede cells (length g)
     → GridEncloses g (compound_of u.freq u.sev) → spread g ≤ claims_budget (2 ^ 56) (length g) u → IsUnitGrid cells u g
 plain_grid cells u g valid none there encloses narrow = record {
   cells = subst (λ c. IsHorizonOf c cells (length g)) none there;
   encloses = plain_encloses g cells u valid none encloses;
-  narrow = omega (arith, budget_at cells u g valid there narrow, ap (λ c. after_clause c (claims_budget (2 ^ 56) (horizon u.cede cells) u)) none);
+  narrow = omega (
+    arith,
+    budget_at cells u g valid there narrow,
+    ap (λ c. after_clause c (claims_budget (2 ^ 56) (horizon u.cede cells) u)) none,
+  );
 }
 
 -- with a clause the spread is at most doubled
-pub ceded_grid : (cells : ℕ) (u : UnitOfPlan) (clause : Clause) (claims g : List (Iv 56)) → IsValidUnit cells u → u.cede ≡ Some clause → IsHorizonOf u.cede cells (length claims)
-    → spread claims ≤ claims_budget (2 ^ 56) (length claims) u → length g ≡ cells → GridEncloses g (mapped (aggregate_of u)) → spread g ≤ 2 * spread claims
+pub ceded_grid : (cells : ℕ) (u : UnitOfPlan) (clause : Clause) (claims g : List (Iv 56)) → IsValidUnit cells u
+    → u.cede ≡ Some clause → IsHorizonOf u.cede cells (length claims)
+    → spread claims ≤ claims_budget (2 ^ 56) (length claims) u → length g ≡ cells
+    → GridEncloses g (mapped (aggregate_of u)) → spread g ≤ 2 * spread claims
     → IsUnitGrid cells u g
 ceded_grid cells u clause claims g valid some there narrow same encloses twice = record {
   cells = same;
   encloses = encloses;
-  narrow = omega (arith, twice, budget_at cells u claims valid there narrow, ap (λ c. after_clause c (claims_budget (2 ^ 56) (horizon u.cede cells) u)) some);
+  narrow = omega (
+    arith,
+    twice,
+    budget_at cells u claims valid there narrow,
+    ap (λ c. after_clause c (claims_budget (2 ^ 56) (horizon u.cede cells) u)) some,
+  );
 }

@@ -15,7 +15,8 @@ pub record IsGoodReport (plan : Plan) (settings : Settings) (report : Report) : 
   pub as_many : length report.rows ≡ length settings.asks
   pub rows : All (λ pair. IsGood plan settings.digits pair.0 pair.1) (zip settings.asks report.rows)
 
--- each ask lies inside the grid; each names a unit of the plan, if it names one; and each passes the width rule
+-- each ask lies inside the grid; each names a unit of the plan, if it names one; and each passes
+-- the width rule
 abbrev pub AreInside : Plan → Settings → Type 0
 AreInside plan settings = All (λ asked. IsInside plan.cells asked.ask) settings.asks
 
@@ -34,15 +35,19 @@ pub record IsFirstNot (P : Asked → Type 0) (all : List Asked) (i : ℕ) : Type
 -- ask i is the first that needs more width than the settings give, and it needs this one
 pub record IsFirstWide (plan : Plan) (settings : Settings) (i width : ℕ) : Type 0 where
   pub first : IsFirstNot (λ asked. Passes S plan asked.ask settings) settings.asks i
-  pub needs : (default : Asked) → width ≡ needed S plan (get_or settings.asks i default).ask settings.digits
+  pub needs : (default : Asked) → width ≡ needed S plan
+      (get_or settings.asks i default).ask settings.digits
 
--- the first ask that passes the grid; else the first that names no unit; else the first that needs too much width
-abbrev pub Refuses : Plan → Settings → EvalFault → Type 0
-Refuses plan settings (AskBeyond i) = IsFirstNot (λ asked. IsInside plan.cells asked.ask) settings.asks i
-Refuses plan settings (UnknownUnit i) = AreInside plan settings × IsFirstNot (λ asked. NamesUnit plan.units asked.ask) settings.asks i
-Refuses plan settings (TooWide i width) =
+-- the first ask that passes the grid; else the first that names no unit; else the first that needs
+-- too much width
+abbrev pub RefusesAsk : Plan → Settings → EvalFault → Type 0
+RefusesAsk plan settings (AskBeyond i) = IsFirstNot
+    (λ asked. IsInside plan.cells asked.ask) settings.asks i
+RefusesAsk plan settings (UnknownUnit i) = AreInside plan settings
+    × IsFirstNot (λ asked. NamesUnit plan.units asked.ask) settings.asks i
+RefusesAsk plan settings (TooWide i width) =
     AreInside plan settings × NameUnits plan settings × IsFirstWide plan settings i width
-Refuses plan settings OutOfMemory = ⊤
+RefusesAsk plan settings OutOfMemory = ⊤
 
 -- no ask is refused
 pub record AreAdmitted (plan : Plan) (settings : Settings) : Type 0 where

@@ -1,9 +1,12 @@
--- When a row of a report is good: its ends hold what the plan declares, and lie no farther apart than is needed.
+-- When a row of a report is good: its ends hold what the plan declares, and lie no farther apart
+-- than is needed.
 use Rattle.std.specs.Prelude.{ℕ, ◌≡◌, ◌+◌, ◌-◌, ◌^◌, ◌<◌, ◌≤◌, ◌⊎◌, Option, None, Some, MatchOption, List}
+use Rattle.dl_limits.specs.Limits.{rarest_parts}
 use Rattle.dl_exact.specs.Fraction.{Fraction, ◌over◌, ◌+ℚ◌}
 use Rattle.dl_model.specs.Series.{Holds, AtLeast, AtMost, Below}
 use Rattle.dl_model.specs.Program.{Quantity, One, Point, Cdf, Mean, Layer, Tail, Joint, partial_sums}
-use Rattle.dl_model.specs.Measures.{IsQuantile, IsBracketed, IsTight}
+use Rattle.dl_model.specs.Measures.{IsQuantile, IsBracketed}
+use Rattle.dl_measures.specs.Ends.{IsTight}
 use Rattle.dl_model.specs.Plans.{aggregates_of}
 use Rattle.dl_plan.specs.declared.plan.Plan.{Plan}
 use Rattle.dl_plan.specs.declared.settings.Ask.{Ask}
@@ -23,7 +26,8 @@ S = 2 ^ 56
 
 -- the quantity, given another one, lies from l to h: its declared value over that of the other
 abbrev pub DeclaresGiven : Plan → (given quantity : Quantity) → Fraction → Fraction → Type 0
-DeclaresGiven plan given quantity l h = Holds (partial_sums (aggregates_of plan) quantity) (partial_sums (aggregates_of plan) given) l h
+DeclaresGiven plan given quantity l h = Holds (partial_sums (aggregates_of plan) quantity)
+    (partial_sums (aggregates_of plan) given) l h
 
 -- the quantity lies from l to h
 abbrev pub Declares : Plan → Quantity → Fraction → Fraction → Type 0
@@ -31,17 +35,21 @@ Declares plan quantity l h = DeclaresGiven plan One quantity l h
 
 -- the tail mean at p lies from l to h, at each quantile that p has
 abbrev pub DeclaresTail : Plan → Fraction → Fraction → Fraction → Type 0
-DeclaresTail plan p l h = (q : ℕ) → IsQuantile (aggregates_of plan) q p → Declares plan (Tail p q) l h
+DeclaresTail plan p l h = (q : ℕ) → IsQuantile (aggregates_of plan) q p
+    → Declares plan (Tail p q) l h
 
 -- the quantity is at least v, at most v, or below v
 abbrev pub IsAtLeast : Plan → Quantity → Fraction → Type 0
-IsAtLeast plan quantity v = AtLeast (partial_sums (aggregates_of plan) quantity) (partial_sums (aggregates_of plan) One) v
+IsAtLeast plan quantity v = AtLeast (partial_sums (aggregates_of plan) quantity)
+    (partial_sums (aggregates_of plan) One) v
 
 abbrev pub IsAtMost : Plan → Quantity → Fraction → Type 0
-IsAtMost plan quantity v = AtMost (partial_sums (aggregates_of plan) quantity) (partial_sums (aggregates_of plan) One) v
+IsAtMost plan quantity v = AtMost (partial_sums (aggregates_of plan) quantity)
+    (partial_sums (aggregates_of plan) One) v
 
 abbrev pub IsBelow : Plan → Quantity → Fraction → Type 0
-IsBelow plan quantity v = Below (partial_sums (aggregates_of plan) quantity) (partial_sums (aggregates_of plan) One) v
+IsBelow plan quantity v = Below (partial_sums (aggregates_of plan) quantity)
+    (partial_sums (aggregates_of plan) One) v
 
 -- the distribution at the last cell of the grid
 abbrev pub at_the_end : Plan → Quantity
@@ -49,12 +57,14 @@ at_the_end plan = Cdf (plan.cells - 1)
 
 -- the least probability of a total over which a share is told
 abbrev pub least_likely : Fraction
-least_likely = 1 over 2 ^ 16
+least_likely = 1 over rarest_parts
 
 -- ---- rows
 
--- two numbers with d digits behind the point between which it lies, at most so many units of the last digit apart
-pub record AreEnds (LiesBetween : Fraction → Fraction → Type 0) (d most : ℕ) (row : Row) : Type 0 where
+-- two numbers with d digits behind the point between which it lies, at most so many units of the
+-- last digit apart
+pub record AreRowEnds (LiesBetween : Fraction → Fraction → Type 0) (d most : ℕ)
+    (row : Row) : Type 0 where
   pub low : ℕ
   pub high : ℕ
   pub is_low : row.low ≡ Number low
@@ -68,8 +78,9 @@ abbrev pub bracket_end : Option ℕ → End
 bracket_end None = Beyond
 bracket_end (Some hi) = Whole hi
 
--- A bracket of the quantile at p: the distribution is below p before it and at least p at its end, and within d of p inside it. Its
--- end lies past the grid only where the distribution at the last cell is below p + d.
+-- A bracket of the quantile at p: the distribution is below p before it and at least p at its end,
+-- and within d of p inside it. Its end lies past the grid only where the distribution at the last
+-- cell is below p + d.
 pub record IsBracket (plan : Plan) (p d : Fraction) (row : Row) : Type 0 where
   pub lo : ℕ
   pub hi : Option ℕ
@@ -83,7 +94,7 @@ pub record IsBracket (plan : Plan) (p d : Fraction) (row : Row) : Type 0 where
 -- A tail mean at p in numbers. They come only where the distribution reaches p inside the grid.
 pub record IsTailMean (plan : Plan) (p : Fraction) (d most : ℕ) (row : Row) : Type 0 where
   pub reached : IsAtLeast plan (at_the_end plan) p
-  pub ends : AreEnds (DeclaresTail plan p) d most row
+  pub ends : AreRowEnds (DeclaresTail plan p) d most row
 
 -- No tail mean at p: only where the distribution at the last cell is below p + d.
 pub record IsBeyond (plan : Plan) (p d : Fraction) (row : Row) : Type 0 where
@@ -91,12 +102,14 @@ pub record IsBeyond (plan : Plan) (p d : Fraction) (row : Row) : Type 0 where
   pub is_high : row.high ≡ Beyond
   pub below : IsBelow plan (at_the_end plan) (p +ℚ d)
 
--- The share of unit i in the total x in numbers: its mean outcome, given that total. They come only where the total is not too rare.
-pub record IsShare (plan : Plan) (i x d most : ℕ) (row : Row) : Type 0 where
+-- The share of unit i in the total x in numbers: its mean outcome, given that total. They come only
+-- where the total is not too rare.
+pub record IsShareOfUnit (plan : Plan) (i x d most : ℕ) (row : Row) : Type 0 where
   pub likely : IsAtLeast plan (Point x) least_likely
-  pub ends : AreEnds (DeclaresGiven plan (Point x) (Joint i x)) d most row
+  pub ends : AreRowEnds (DeclaresGiven plan (Point x) (Joint i x)) d most row
 
--- No share in the total x: only where the probability of that total is below the least that is likely enough, and d.
+-- No share in the total x: only where the probability of that total is below the least that is
+-- likely enough, and d.
 pub record IsTooRare (plan : Plan) (x : ℕ) (d : Fraction) (row : Row) : Type 0 where
   pub is_low : row.low ≡ Absent
   pub is_high : row.high ≡ Absent
@@ -108,18 +121,22 @@ total_error plan = total_budget S plan over S
 
 -- a good answer to an ask, with d digits
 abbrev pub IsAnswerTo : Plan → ℕ → Ask → Row → Type 0
-IsAnswerTo plan d (asks.Pmf x) row = AreEnds (Declares plan (Point x)) d (needed S plan (asks.Pmf x) d) row
-IsAnswerTo plan d (asks.Cdf x) row = AreEnds (Declares plan (Cdf x)) d (needed S plan (asks.Cdf x) d) row
-IsAnswerTo plan d asks.Mean row = AreEnds (Declares plan Mean) d (needed S plan asks.Mean d) row
+IsAnswerTo plan d (asks.Pmf x) row = AreRowEnds (Declares plan (Point x)) d
+    (needed S plan (asks.Pmf x) d) row
+IsAnswerTo plan d (asks.Cdf x) row = AreRowEnds (Declares plan (Cdf x)) d
+    (needed S plan (asks.Cdf x) d) row
+IsAnswerTo plan d asks.Mean row = AreRowEnds (Declares plan Mean) d (needed S plan asks.Mean d) row
 IsAnswerTo plan d (asks.Quantile p) row = IsBracket plan p (total_error plan) row
 IsAnswerTo plan d (asks.LayerMean limit attach) row =
-    AreEnds (Declares plan (Layer limit attach)) d (needed S plan (asks.LayerMean limit attach) d) row
+    AreRowEnds (Declares plan (Layer limit attach)) d
+    (needed S plan (asks.LayerMean limit attach) d) row
 IsAnswerTo plan d (asks.Tail p) row =
     IsTailMean plan p d (needed S plan (asks.Tail p) d) row ⊎ IsBeyond plan p (total_error plan) row
 IsAnswerTo plan d (asks.Joint unit at) row =
-    AreEnds (Declares plan (Joint (place_of unit plan.units) at)) d (needed S plan (asks.Joint unit at) d) row
+    AreRowEnds (Declares plan (Joint (place_of unit plan.units) at)) d
+    (needed S plan (asks.Joint unit at) d) row
 IsAnswerTo plan d (asks.Kappa unit at) row =
-    IsShare plan (place_of unit plan.units) at d (needed S plan (asks.Kappa unit at) d) row
+    IsShareOfUnit plan (place_of unit plan.units) at d (needed S plan (asks.Kappa unit at) d) row
     ⊎ IsTooRare plan at (total_error plan) row
 
 -- the ask as it was written, and a good answer

@@ -1,6 +1,8 @@
--- What the rows are made from: the grids and the means of the units, of their total, and of all but one.
-use Rattle.std.specs.Prelude.{ℕ, ◌≡◌, ◌+◌, ◌<◌, ◌≤◌, ◌^◌, ◌↔◌, Bool, false, IsTrue, Option, None, Some, IsSome, IfSome, option_map, Any, List, [], ◌∷◌, length, get_or}
-use Rattle.dl_exact.specs.Fraction.{◌over◌, ◌≤ℚ◌}
+-- What the rows are made from: the grids and the means of the units, of their total, and of all but
+-- one.
+use Rattle.std.specs.Prelude.{ℕ, ◌≡◌, ◌+◌, ◌*◌, ◌/◌, ◌<◌, ◌≤◌, ◌^◌, ◌↔◌, Bool, false, IsTrue, Option, None, Some, IsSome, IfSome, option_map, Any, List, [], ◌∷◌, length, get_or}
+use Rattle.std.specs.Int.{div_ceil}
+use Rattle.dl_exact.specs.Fraction.{◌over◌}
 use Rattle.dl_iv.specs.declared.interval.Iv.{Iv}
 use Rattle.dl_grid.specs.Cells.{spread}
 use Rattle.dl_model.specs.Series.{Holds}
@@ -16,9 +18,18 @@ use Rattle.dl_plan.specs.Facts.{facts_of}
 use Rattle.dl_budget.specs.Units.{unit_budget, unit_mean_budget, total_budget, others_budget, mean_budget}
 use Rattle.dl_report.specs.declared.report.End.TheVariants.{Number}
 use Rattle.dl_report.specs.declared.report.Row.{Row}
-use Rattle.dl_budget.specs.Asks.{place_of, joint_budget, in_digits}
+use Rattle.dl_budget.specs.Asks.{place_of, joint_budget}
 use Rattle.dl_eval.specs.declared.grids.Grids.{Grids}
 use Rattle.dl_eval.specs.Rows.{S, Declares}
+
+-- ---- how large means can be
+
+-- the high end of the mean of a unit, and of that of the total, in units of 1/S
+abbrev pub most_unit_mean : ℕ
+most_unit_mean = 2 ^ 93
+
+abbrev pub most_mean : ℕ
+most_mean = 2 ^ 97
 
 -- ---- units
 
@@ -30,18 +41,22 @@ pub record IsUnitGrid (H : ℕ) (u : UnitOfPlan) (g : List (Iv 56)) : Type 0 whe
 
 -- the mean of a unit's outcomes, within its budget
 pub record IsUnitMean (H : ℕ) (u : UnitOfPlan) (mean : Iv 56) : Type 0 where
-  pub holds : Holds (partial_sums (aggregate_of u ∷ []) Mean) (partial_sums (aggregate_of u ∷ []) One) (mean.lo over S) (mean.hi over S)
+  pub holds : Holds (partial_sums (aggregate_of u ∷ []) Mean)
+      (partial_sums (aggregate_of u ∷ []) One) (mean.lo over S) (mean.hi over S)
   pub narrow : mean.hi ≤ mean.lo + unit_mean_budget S H u
 
 -- one grid for each unit, in order
-pub record AreUnitGrids (cells : ℕ) (units : List UnitOfPlan) (grids : List (List (Iv 56))) : Type 0 where
+pub record AreUnitGrids (cells : ℕ) (units : List UnitOfPlan)
+    (grids : List (List (Iv 56))) : Type 0 where
   pub as_many : length grids ≡ length units
-  pub each : (i : ℕ) (u : UnitOfPlan) → i < length units → IsUnitGrid cells (get_or units i u) (get_or grids i [])
+  pub each : (i : ℕ) (u : UnitOfPlan) → i < length units
+      → IsUnitGrid cells (get_or units i u) (get_or grids i [])
 
 -- one mean for each unit, in order
 pub record AreUnitMeans (cells : ℕ) (units : List UnitOfPlan) (means : List (Iv 56)) : Type 0 where
   pub as_many : length means ≡ length units
-  pub each : (i : ℕ) (u : UnitOfPlan) (m : Iv 56) → i < length units → IsUnitMean cells (get_or units i u) (get_or means i m)
+  pub each : (i : ℕ) (u : UnitOfPlan) (m : Iv 56) → i < length units
+      → IsUnitMean cells (get_or units i u) (get_or means i m)
 
 -- ---- sums of units
 
@@ -71,18 +86,21 @@ shared_unit units ask = option_map (λ name. place_of name units) (facts_of ask)
 -- whether each unit is one whose share an ask is for
 pub record AreShared (units : List UnitOfPlan) (all : List Asked) (asked : List Bool) : Type 0 where
   pub as_many : length asked ≡ length units
-  pub each : (i : ℕ) → i < length units → IsTrue (get_or asked i false) ↔ Any (λ a. shared_unit units a.ask ≡ Some i) all
+  pub each : (i : ℕ) → i < length units → IsTrue (get_or asked i false)
+      ↔ Any (λ a. shared_unit units a.ask ≡ Some i) all
 
 -- the grid of all other units is there for the unit whose share an ask is for
 abbrev pub HasOthers : List UnitOfPlan → Grids → Ask → Type 0
-HasOthers units grids ask = (i : ℕ) → shared_unit units ask ≡ Some i → IsSome (get_or grids.sums.others.items i None)
+HasOthers units grids ask = (i : ℕ) → shared_unit units ask ≡ Some i
+    → IsSome (get_or grids.sums.others.items i None)
 
 -- for each unit, where it is there, the grid of the sum of all others
 pub record AreOthers (plan : Plan) (others : List (Option (List (Iv 56)))) : Type 0 where
   pub as_many : length others ≡ length plan.units
   pub each : (i : ℕ) → i < length plan.units → IfSome (get_or others i None) (AreOthersOf plan i)
 
--- the grids of the units, where that of all others is there for one of them; those of all but one, and that of the total
+-- the grids of the units, where that of all others is there for one of them; those of all but one,
+-- and that of the total
 pub record AreGridsOf (plan : Plan) (grids : Grids) : Type 0 where
   pub units : (i : ℕ) → i < length plan.units → IsSome (get_or grids.sums.others.items i None)
       → AreUnitGrids plan.cells plan.units grids.units.items
@@ -96,13 +114,9 @@ pub record IsJointOf (plan : Plan) (i at : ℕ) (mean : Iv 56) : Type 0 where
 
 -- ---- what is printed
 
--- The row holds the ends lo and hi, in units of 1/S, rounded outward to d digits. What is at most so wide stays within what is needed.
+-- the row holds the ends lo and hi, in units of 1/S: the low end rounded down to d digits, the high
+-- end up
 pub record Prints (lo hi d : ℕ) (row : Row) : Type 0 where
-  pub low : ℕ
-  pub high : ℕ
-  pub is_low : row.low ≡ Number low
-  pub is_high : row.high ≡ Number high
-  pub order : low ≤ high
-  pub narrow : (budget : ℕ) → hi ≤ lo + budget → high ≤ low + in_digits S budget d
-  pub below : low over 10 ^ d ≤ℚ lo over S
-  pub above : hi over S ≤ℚ high over 10 ^ d
+  pub is_low : row.low ≡ Number (lo * 10 ^ d / S)
+  pub is_high : row.high ≡ Number (div_ceil (hi * 10 ^ d) S)
+  pub ordered : lo ≤ hi

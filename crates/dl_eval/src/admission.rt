@@ -1,10 +1,11 @@
 //! Which asks are refused.
 
 ghost use Rattle.std.specs.Prelude.{◌<◌, ◌≤◌, ◌↔◌, IsTrue, ℕ, List, None, All, MatchOption, MatchResult, length};
+ghost use Rattle.dl_limits.specs.Limits.{most_asks, most_units};
 ghost use Rattle.dl_plan.specs.Ranges.{AreInRange};
 ghost use Rattle.dl_plan.specs.Valid.{IsValid};
 ghost use Rattle.dl_budget.specs.Asks.{IsInside, NamesUnit};
-ghost use Rattle.dl_eval.specs.Answers.{AreInside, NameUnits, AllPass, IsFirstNot, IsFirstWide, AreAdmitted, Refuses};
+ghost use Rattle.dl_eval.specs.Answers.{AreInside, NameUnits, AllPass, IsFirstNot, IsFirstWide, AreAdmitted, RefusesAsk};
 
 use crate::fault::EvalFault;
 use dl_budget::{budgets_of, needed_with, place};
@@ -19,7 +20,7 @@ fn is_inside(cells: u32, ask: &Ask) -> bool
 
 /// Whether a unit that an ask names is there.
 fn names_unit(units: &[Unit], ask: &Ask) -> bool
-    requires few { length units.now ≤ 16 }
+    requires few { length units.now ≤ most_units }
     ensures { IsTrue result ↔ NamesUnit units.now ask.now }
 {
     match ask.unit() {
@@ -30,8 +31,9 @@ fn names_unit(units: &[Unit], ask: &Ask) -> bool
 
 /// The first ask that lies past the grid.
 fn first_beyond(cells: u32, asks: &[Asked]) -> Option<u32>
-    requires few { length asks.now ≤ 256 }
-    ensures { MatchOption result (All (λ asked. IsInside cells asked.ask) asks.now) (IsFirstNot (λ asked. IsInside cells asked.ask) asks.now) }
+    requires few { length asks.now ≤ most_asks }
+    ensures { MatchOption result (All (λ asked. IsInside cells asked.ask) asks.now)
+        (IsFirstNot (λ asked. IsInside cells asked.ask) asks.now) }
 {
     for i in 0..asks.len() {
         if !is_inside(cells, &asks[i].ask) {
@@ -43,9 +45,10 @@ fn first_beyond(cells: u32, asks: &[Asked]) -> Option<u32>
 
 /// The first ask that names no unit.
 fn first_unknown(units: &[Unit], asks: &[Asked]) -> Option<u32>
-    requires units { length units.now ≤ 16 }
-    requires few { length asks.now ≤ 256 }
-    ensures { MatchOption result (All (λ asked. NamesUnit units.now asked.ask) asks.now) (IsFirstNot (λ asked. NamesUnit units.now asked.ask) asks.now) }
+    requires units { length units.now ≤ most_units }
+    requires few { length asks.now ≤ most_asks }
+    ensures { MatchOption result (All (λ asked. NamesUnit units.now asked.ask) asks.now)
+        (IsFirstNot (λ asked. NamesUnit units.now asked.ask) asks.now) }
 {
     for i in 0..asks.len() {
         if !names_unit(units, &asks[i].ask) {
@@ -55,14 +58,15 @@ fn first_unknown(units: &[Unit], asks: &[Asked]) -> Option<u32>
     None
 }
 
-/// The first ask that needs more width than the settings give, and the width it needs. The budgets of
-/// the total and of its mean are made once for all asks.
+/// The first ask that needs more width than the settings give, and the width it needs. The budgets
+/// of the total and of its mean are made once for all asks.
 fn first_wide(plan: &Plan, settings: &Settings) -> Option<(u32, u128)>
     requires valid { IsValid plan.now }
     requires ranges { AreInRange settings.now }
     requires inside { AreInside plan.now settings.now }
     requires named { NameUnits plan.now settings.now }
-    ensures { MatchOption result (AllPass plan.now settings.now) (λ wide. IsFirstWide plan.now settings.now wide.0 wide.1) }
+    ensures { MatchOption result (AllPass plan.now settings.now)
+        (λ wide. IsFirstWide plan.now settings.now wide.0 wide.1) }
 {
     let asks = settings.asks.as_slice();
     let budgets = budgets_of::<56>(plan);
@@ -76,12 +80,13 @@ fn first_wide(plan: &Plan, settings: &Settings) -> Option<(u32, u128)>
     None
 }
 
-/// Refuses the first ask past the grid, else the first that names no unit, else the first that needs
-/// more width than the settings give. Takes no memory.
+/// Refuses the first ask past the grid, else the first that names no unit, else the first that
+/// needs more width than the settings give. Takes no memory.
 pub(crate) fn admit(plan: &Plan, settings: &Settings) -> Result<(), EvalFault>
     requires valid { IsValid plan.now }
     requires ranges { AreInRange settings.now }
-    ensures { MatchResult result (λ _. AreAdmitted plan.now settings.now) (Refuses plan.now settings.now) }
+    ensures { MatchResult result (λ _. AreAdmitted plan.now settings.now)
+        (RefusesAsk plan.now settings.now) }
 {
     let asks = settings.asks.as_slice();
     if let Some(i) = first_beyond(plan.cells, asks) {

@@ -5,8 +5,8 @@ ghost use Rattle.dl_plan.specs.declared.settings.Ask.TheVariants as kinds;
 ghost use Rattle.dl_plan.specs.Ranges.{AreInRange};
 ghost use Rattle.dl_plan.specs.Valid.{IsValid};
 ghost use Rattle.dl_budget.specs.Asks.{NamesUnit};
-ghost use Rattle.dl_eval.specs.Answers.{AreInside, NameUnits, IsGoodReport, IsAnswered, Refuses};
-ghost use Rattle.dl_eval.specs.Totals.{AreGridsOf, HasOthers, IsMeanOf};
+ghost use Rattle.dl_eval.specs.Answers.{AreInside, NameUnits, IsGoodReport, IsAnswered, RefusesAsk};
+ghost use Rattle.dl_eval.specs.Totals.{most_mean, AreGridsOf, HasOthers, IsMeanOf};
 
 use crate::admission::admit;
 use crate::fault::EvalFault;
@@ -46,8 +46,8 @@ struct Parts {
     mean: Iv<56>,
 }
 
-/// What the rows of a valid plan are made from. Where all asks are for the mean, the only grids made
-/// on the way are those of units with an aggregate clause.
+/// What the rows of a valid plan are made from. Where all asks are for the mean, the only grids
+/// made on the way are those of units with an aggregate clause.
 fn parts_for(
     alloc: Global,
     work: &mut Workspace,
@@ -60,9 +60,10 @@ fn parts_for(
         AreGridsOf plan.now made)) }
     ensures there { IfOk result (λ parts. IfSome parts.grids (λ made.
         All (λ asked. HasOthers plan.now.units made asked.ask) asks.now)) }
-    ensures none { IfOk result (λ parts. parts.grids ≡ None → All (λ asked. asked.ask ≡ kinds.Mean) asks.now) }
+    ensures none { IfOk result (λ parts. parts.grids ≡ None
+        → All (λ asked. asked.ask ≡ kinds.Mean) asks.now) }
     ensures mean { IfOk result (λ parts. IsMeanOf plan.now parts.mean) }
-    ensures small { IfOk result (λ parts. parts.mean.hi ≤ 2 ^ 97) }
+    ensures small { IfOk result (λ parts. parts.mean.hi ≤ most_mean) }
 {
     if are_means(asks) {
         let means = unit_means(alloc, work, plan)?;
@@ -94,9 +95,10 @@ fn report(
     requires grids { IfSome parts.now.grids (λ made. AreGridsOf plan.now made) }
     requires there { IfSome parts.now.grids (λ made.
         All (λ asked. HasOthers plan.now.units made asked.ask) settings.now.asks) }
-    requires none { parts.now.grids ≡ None → All (λ asked. asked.ask ≡ kinds.Mean) settings.now.asks }
+    requires none { parts.now.grids ≡ None
+        → All (λ asked. asked.ask ≡ kinds.Mean) settings.now.asks }
     requires mean { IsMeanOf plan.now parts.now.mean }
-    requires small { parts.now.mean.hi ≤ 2 ^ 97 }
+    requires small { parts.now.mean.hi ≤ most_mean }
     ensures { IfOk result (λ report. IsGoodReport plan.now settings.now report) }
 {
     let asks = settings.asks.as_slice();
@@ -118,12 +120,14 @@ fn report(
     })
 }
 
-/// A row for each ask, in order; or the first ask that lies past the grid, else the first that names
-/// no unit, else the first that needs more width than the settings give, with the width it needs.
+/// A row for each ask, in order; or the first ask that lies past the grid, else the first that
+/// names no unit, else the first that needs more width than the settings give, with the width it
+/// needs.
 pub fn evaluate(alloc: Global, plan: &Plan, settings: &Settings) -> Result<Report, EvalFault>
     requires valid { IsValid plan.now }
     requires ranges { AreInRange settings.now }
-    ensures { MatchResult result (IsAnswered plan.now settings.now) (Refuses plan.now settings.now) }
+    ensures { MatchResult result (IsAnswered plan.now settings.now)
+        (RefusesAsk plan.now settings.now) }
 {
     admit(plan, settings)?;
     let mut work = Workspace::new(alloc);

@@ -1,6 +1,7 @@
 //! The grids that rows are made from.
 
 ghost use Rattle.std.specs.Prelude.{◌≡◌, ◌≤◌, ◌↔◌, IsTrue, Some, All, Any, IfOk, length};
+ghost use Rattle.dl_limits.specs.Limits.{most_units};
 ghost use Rattle.dl_plan.specs.Valid.{IsValid};
 ghost use Rattle.dl_budget.specs.Asks.{NamesUnit};
 ghost use Rattle.dl_eval.specs.Totals.{AreUnitGrids, AreGridsOf, AreShared, HasOthers, shared_unit};
@@ -23,7 +24,7 @@ pub(crate) struct Grids {
 
 /// Whether an ask is for the share of unit `i`, counted from 0.
 fn is_for_share(units: &[Unit], ask: &Ask, i: u32) -> bool
-    requires few { length units.now ≤ 16 }
+    requires few { length units.now ≤ most_units }
     ensures { IsTrue result ↔ (shared_unit units.now ask.now ≡ Some i) }
 {
     match ask.unit() {
@@ -34,7 +35,7 @@ fn is_for_share(units: &[Unit], ask: &Ask, i: u32) -> bool
 
 /// Whether some ask is for the share of unit `i`.
 fn is_shared(units: &[Unit], asks: &[Asked], i: u32) -> bool
-    requires few { length units.now ≤ 16 }
+    requires few { length units.now ≤ most_units }
     ensures { IsTrue result ↔ Any (λ asked. shared_unit units.now asked.ask ≡ Some i) asks.now }
 {
     asks.iter().any(|asked| is_for_share(units, &asked.ask, i))
@@ -42,7 +43,7 @@ fn is_shared(units: &[Unit], asks: &[Asked], i: u32) -> bool
 
 /// For each unit, whether an ask is for its share.
 fn shared_units(alloc: Global, units: &[Unit], asks: &[Asked]) -> Result<Vec<bool>, AllocError>
-    requires few { length units.now ≤ 16 }
+    requires few { length units.now ≤ most_units }
     ensures { IfOk result (λ asked. AreShared units.now asks.now asked.items) }
 {
     let mut asked = Vec::new(alloc);
@@ -52,8 +53,9 @@ fn shared_units(alloc: Global, units: &[Unit], asks: &[Asked]) -> Result<Vec<boo
     Ok(asked)
 }
 
-/// The grids that the rows of a valid plan are made from, where those of its units' outcomes are there.
-/// The grid of an only unit whose share no ask is for is that of the total: it is moved and not copied.
+/// The grids that the rows of a valid plan are made from, where those of its units' outcomes are
+/// there. The grid of an only unit whose share no ask is for is that of the total: it is moved and
+/// not copied.
 pub(crate) fn grids_of(
     alloc: Global,
     work: &mut Workspace,
@@ -65,7 +67,8 @@ pub(crate) fn grids_of(
     requires named { All (λ asked. NamesUnit plan.now.units asked.ask) asks.now }
     requires units { AreUnitGrids plan.now.cells plan.now.units units.items }
     ensures grids { IfOk result (λ grids. AreGridsOf plan.now grids) }
-    ensures there { IfOk result (λ grids. All (λ asked. HasOthers plan.now.units grids asked.ask) asks.now) }
+    ensures there { IfOk result (λ grids.
+        All (λ asked. HasOthers plan.now.units grids asked.ask) asks.now) }
 {
     if units.len() == 1 && !is_shared(plan.units.as_slice(), asks, 0) {
         let mut units = units;
@@ -88,7 +91,8 @@ fn shared_grids(
     requires named { All (λ asked. NamesUnit plan.now.units asked.ask) asks.now }
     requires units { AreUnitGrids plan.now.cells plan.now.units units.items }
     ensures grids { IfOk result (λ grids. AreGridsOf plan.now grids) }
-    ensures there { IfOk result (λ grids. All (λ asked. HasOthers plan.now.units grids asked.ask) asks.now) }
+    ensures there { IfOk result (λ grids.
+        All (λ asked. HasOthers plan.now.units grids asked.ask) asks.now) }
 {
     let asked = shared_units(alloc, plan.units.as_slice(), asks)?;
     let sums = total_and_others(alloc, work, units.as_slice(), asked.as_slice(), plan.cells)?;

@@ -1,18 +1,20 @@
 //! The mean of a total.
 
 ghost use Rattle.std.specs.Prelude.{◌≤◌, ◌^◌, ℕ, List, All, length};
+ghost use Rattle.dl_limits.specs.Limits.{most_units};
 ghost use Rattle.dl_plan.specs.declared.plan.Plan.{Plan};
 ghost use Rattle.dl_plan.specs.Valid.{IsValid};
-ghost use Rattle.dl_eval.specs.Totals.{AreUnitMeans, IsMeanOf};
+ghost use Rattle.dl_eval.specs.Totals.{most_unit_mean, most_mean, AreUnitMeans, IsMeanOf};
 
 use dl_iv::Iv;
 
 /// The mean of the total of a valid plan, in buckets: the sum of the means of its units.
 pub(crate) fn total_mean(means: &[Iv<56>]) -> Iv<56>
-    requires few { length means.now ≤ 16 }
-    requires small { All (λ mean. mean.hi ≤ 2 ^ 93) means.now }
-    ensures mean { (plan : Plan) → IsValid plan → AreUnitMeans plan.cells plan.units means.now → IsMeanOf plan result }
-    ensures small { result.hi ≤ 2 ^ 97 }
+    requires few { length means.now ≤ most_units }
+    requires small { All (λ mean. mean.hi ≤ most_unit_mean) means.now }
+    ensures mean { (plan : Plan) → IsValid plan → AreUnitMeans plan.cells plan.units means.now
+        → IsMeanOf plan result }
+    ensures small { result.hi ≤ most_mean }
 {
     Iv::sum(means)
 }

@@ -1,13 +1,14 @@
 //! The row of an ask.
 
 ghost use Rattle.std.specs.Prelude.{◌≡◌, ◌≤◌, ◌^◌, ◌⊎◌, ℕ, List, None, IfOk, IfSome};
+ghost use Rattle.dl_limits.specs.Limits.{most_digits};
 ghost use Rattle.dl_plan.specs.declared.plan.Plan.{Plan as PlanValue};
 ghost use Rattle.dl_plan.specs.declared.settings.Ask.TheVariants as asks;
 ghost use Rattle.dl_plan.specs.Ranges.{IsLevel, HasLevel};
 ghost use Rattle.dl_plan.specs.Valid.{IsValid};
 ghost use Rattle.dl_budget.specs.Asks.{IsInside, NamesUnit, tail_budget, in_digits};
 ghost use Rattle.dl_eval.specs.Rows.{S, IsBracket, IsTailMean, IsBeyond, IsAnswerTo, IsGood, bracket_end, total_error};
-ghost use Rattle.dl_eval.specs.Totals.{IsTotalOf, IsMeanOf, AreGridsOf, HasOthers, Prints};
+ghost use Rattle.dl_eval.specs.Totals.{most_mean, IsTotalOf, IsMeanOf, AreGridsOf, HasOthers, Prints};
 
 use crate::grids::Grids;
 use crate::shares::{joint_of, share_row};
@@ -38,7 +39,7 @@ pub(crate) fn ends_row(
     digits: u32,
     value: Iv<56>,
 ) -> Result<Row, AllocError>
-    requires digits { digits ≤ 9 }
+    requires digits { digits ≤ most_digits }
     ensures ask { IfOk result (λ row. row.ask ≡ asked.now.text) }
     ensures ends { IfOk result (λ row. Prints value.lo value.hi digits row) }
 {
@@ -60,7 +61,8 @@ fn bracket_end(hi: Option<u32>) -> End
 fn quantile_row(alloc: Global, asked: &Asked, total: &Grid<56>, p: Frac) -> Result<Row, AllocError>
     requires level { IsLevel p }
     ensures ask { IfOk result (λ row. row.ask ≡ asked.now.text) }
-    ensures bracket { IfOk result (λ row. (plan : PlanValue) → IsValid plan → IsTotalOf plan total.now
+    ensures bracket { IfOk result (λ row. (plan : PlanValue) → IsValid plan
+        → IsTotalOf plan total.now
         → IsBracket plan p (total_error plan) row) }
 {
     total.cells();
@@ -69,7 +71,8 @@ fn quantile_row(alloc: Global, asked: &Asked, total: &Grid<56>, p: Frac) -> Resu
     row_with(alloc, asked, End::Whole(bracket.lo), end)
 }
 
-/// The row of an ask for the tail mean at `p`; without numbers where the grid ends before the quantile.
+/// The row of an ask for the tail mean at `p`; without numbers where the grid ends before the
+/// quantile.
 fn tail_row(
     alloc: Global,
     asked: &Asked,
@@ -78,9 +81,9 @@ fn tail_row(
     p: Frac,
     mean: Iv<56>,
 ) -> Result<Row, AllocError>
-    requires digits { digits ≤ 9 }
+    requires digits { digits ≤ most_digits }
     requires level { IsLevel p }
-    requires small { mean.hi ≤ 2 ^ 97 }
+    requires small { mean.hi ≤ most_mean }
     ensures ask { IfOk result (λ row. row.ask ≡ asked.now.text) }
     ensures tail { IfOk result (λ row. (plan : PlanValue) → IsValid plan
         → IsTotalOf plan total.now → IsMeanOf plan mean
@@ -102,7 +105,7 @@ fn grid_row(
     grids: &Grids,
     mean: Iv<56>,
 ) -> Result<Row, AllocError>
-    requires digits { digits ≤ 9 }
+    requires digits { digits ≤ most_digits }
     requires level { HasLevel asked.now.ask }
     requires valid { IsValid plan.now }
     requires inside { IsInside plan.now.cells asked.now.ask }
@@ -110,7 +113,7 @@ fn grid_row(
     requires grids { AreGridsOf plan.now grids.now }
     requires there { HasOthers plan.now.units grids.now asked.now.ask }
     requires mean { IsMeanOf plan.now mean }
-    requires small { mean.hi ≤ 2 ^ 97 }
+    requires small { mean.hi ≤ most_mean }
     ensures ask { IfOk result (λ row. row.ask ≡ asked.now.text) }
     ensures answer { IfOk result (λ row. IsAnswerTo plan.now digits asked.now.ask row) }
 {
@@ -146,7 +149,7 @@ pub(crate) fn row(
     grids: &Option<Grids>,
     mean: Iv<56>,
 ) -> Result<Row, AllocError>
-    requires digits { digits ≤ 9 }
+    requires digits { digits ≤ most_digits }
     requires level { HasLevel asked.now.ask }
     requires valid { IsValid plan.now }
     requires inside { IsInside plan.now.cells asked.now.ask }
@@ -155,7 +158,7 @@ pub(crate) fn row(
     requires there { IfSome grids.now (λ made. HasOthers plan.now.units made asked.now.ask) }
     requires none { grids.now ≡ None → asked.now.ask ≡ asks.Mean }
     requires mean { IsMeanOf plan.now mean }
-    requires small { mean.hi ≤ 2 ^ 97 }
+    requires small { mean.hi ≤ most_mean }
     ensures { IfOk result (λ row. IsGood plan.now digits asked.now row) }
 {
     match grids {

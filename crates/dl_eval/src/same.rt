@@ -97,7 +97,8 @@ pub(crate) fn are_alike(a: &Unit, b: &Unit) -> bool
 pub(crate) fn first_alike(units: &[Unit], many: usize, unit: &Unit) -> Option<usize>
     requires { many ≤ length units.now }
     ensures inside { IfSome result (λ j. j < many) }
-    ensures alike { IfSome result (λ j. (u : UnitOfPlan) → AreAlike (get_or units.now j u) unit.now) }
+    ensures alike { IfSome result (λ j. (u : UnitOfPlan)
+        → AreAlike (get_or units.now j u) unit.now) }
 {
     for j in 0..many {
         if are_alike(&units[j], unit) {

@@ -1,11 +1,12 @@
 //! The share of a unit in a total.
 
 ghost use Rattle.std.specs.Prelude.{◌≡◌, ◌*◌, ◌^◌, ◌<◌, ◌≤◌, ◌⊎◌, IsSome, None, ℕ, IfOk, length, get_or};
+ghost use Rattle.dl_limits.specs.Limits.{most_digits};
 ghost use Rattle.dl_exact.specs.Fraction.{◌over◌};
 ghost use Rattle.dl_model.specs.Program.{Point};
 ghost use Rattle.dl_plan.specs.Valid.{IsValid};
 ghost use Rattle.dl_budget.specs.Asks.{kappa_budget, in_digits};
-ghost use Rattle.dl_eval.specs.Rows.{S, IsAtMost, IsShare, IsTooRare, total_error};
+ghost use Rattle.dl_eval.specs.Rows.{S, IsAtMost, IsShareOfUnit, IsTooRare, total_error};
 ghost use Rattle.dl_eval.specs.Totals.{AreGridsOf, IsJointOf};
 
 use crate::grids::Grids;
@@ -37,8 +38,8 @@ pub(crate) fn joint_of(plan: &Plan, grids: &Grids, i: u32, at: u32) -> Iv<56>
     }
 }
 
-/// The row of an ask for the mean outcome of unit `i`, given that the total is `at`; without numbers
-/// where that total may be too rare.
+/// The row of an ask for the mean outcome of unit `i`, given that the total is `at`; without
+/// numbers where that total may be too rare.
 pub(crate) fn share_row(
     alloc: Global,
     asked: &Asked,
@@ -48,14 +49,15 @@ pub(crate) fn share_row(
     i: u32,
     at: u32,
 ) -> Result<Row, AllocError>
-    requires digits { digits ≤ 9 }
+    requires digits { digits ≤ most_digits }
     requires valid { IsValid plan.now }
     requires grids { AreGridsOf plan.now grids.now }
     requires unit { i < length plan.now.units }
     requires there { IsSome (get_or grids.now.sums.others.items i None) }
     requires inside { at < plan.now.cells }
     ensures ask { IfOk result (λ row. row.ask ≡ asked.now.text) }
-    ensures share { IfOk result (λ row. IsShare plan.now i at digits (in_digits S (kappa_budget S plan.now i) digits) row
+    ensures share { IfOk result (λ row. IsShareOfUnit plan.now i at digits
+        (in_digits S (kappa_budget S plan.now i) digits) row
         ⊎ IsTooRare plan.now at (total_error plan.now) row) }
 {
     let joint = joint_of(plan, grids, i, at);

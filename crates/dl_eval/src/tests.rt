@@ -1,10 +1,11 @@
 //! One small plan: two claims of one bucket each, which come to 2 for sure.
 
-ghost use Rattle.std.specs.Prelude.{◌≤◌, IfOk};
+ghost use Rattle.std.specs.Prelude.{◌≡◌, ◌≤◌, IfOk};
 ghost use Rattle.dl_plan.specs.Ranges.{IsLevel, HasLevel, AreInRange};
 ghost use Rattle.dl_plan.specs.Valid.{IsValid};
 
 use crate::{EvalFault, evaluate};
+use dl_budget::{ask_budget, needed, others_budget, total_budget};
 use dl_frac::Frac;
 use dl_lexer::Text;
 use dl_plan::{Ask, Asked, CedeLayer, Form, Format, Freq, Item, Many, Plan, Settings, Sev, Unit};
@@ -13,7 +14,7 @@ use std::alloc::{AllocError, Global};
 
 /// The plan, on 16 cells.
 fn two_claims(alloc: Global) -> Result<Plan, AllocError>
-    ensures { IfOk result (λ plan. IsValid plan) }
+    ensures { IfOk result (λ plan. IsValid plan × (plan.cells ≡ 16)) }
 {
     let mut items = Vec::new(alloc);
     items.push(Item {
@@ -80,37 +81,88 @@ fn half() -> Frac
     Frac::make(1, 2).unwrap()
 }
 
-/// The ends of the one row of an ask for the joint mean of a unit of this name at 2.
-fn joint_ends(alloc: Global, name: &[u8]) -> Result<Option<(End, End)>, EvalFault> {
-    let unit = Text::copy(alloc, name)?;
-    ends(alloc, Ask::Joint { unit, at: 2 }, 2)
+/// Whether an ask is answered by these ends, where a probability may be 2 wide.
+fn lies_between(alloc: Global, ask: Ask, low: End, high: End) -> bool
+    requires { HasLevel ask }
+{
+    match ends(alloc, ask, 2) {
+        Ok(Some(ends)) => ends.0 == low && ends.1 == high,
+        _ => false,
+    }
 }
 
-/// The ends of the one row of an ask for the share of the unit in this total.
-fn share_ends(alloc: Global, at: u32) -> Result<Option<(End, End)>, EvalFault> {
-    let unit = Text::copy(alloc, b"")?;
-    ends(alloc, Ask::Kappa { unit, at }, 2)
+/// Whether an ask is answered by this number alone.
+fn is_number(alloc: Global, ask: Ask, number: u128) -> bool
+    requires { HasLevel ask }
+{
+    lies_between(alloc, ask, End::Number(number), End::Number(number))
+}
+
+/// Whether an ask is refused so, where a probability may be so wide.
+fn is_refused(alloc: Global, ask: Ask, width: u64, fault: EvalFault) -> bool
+    requires level { HasLevel ask }
+    requires width { 1 ≤ width }
+{
+    match ends(alloc, ask, width) {
+        Err(found) => found == fault,
+        Ok(_) => false,
+    }
 }
 
 #[test]
-fn one_row_each(rt: HostRuntime) {
+fn probabilities(rt: HostRuntime) {
     let alloc = rt.alloc();
-    let one = End::Number(1_000_000);
-    let none = End::Number(0);
-    let two = End::Number(2_000_000);
-    assert_eq!(rt; ends(alloc, Ask::Pmf(2), 2), Ok(Some((one, one))));
-    assert_eq!(rt; ends(alloc, Ask::Cdf(1), 2), Ok(Some((none, none))));
-    assert_eq!(rt; ends(alloc, Ask::Mean, 2), Ok(Some((two, two))));
+    assert!(rt; is_number(alloc, Ask::Pmf(2), 1_000_000));
+    assert!(rt; is_number(alloc, Ask::Cdf(1), 0));
+}
+
+#[test]
+fn means(rt: HostRuntime) {
+    let alloc = rt.alloc();
     let layer = Ask::LayerMean {
         limit: Some(1),
         attach: 1,
     };
-    assert_eq!(rt; ends(alloc, layer, 2), Ok(Some((one, one))));
-    assert_eq!(rt; ends(alloc, Ask::Tail(half()), 2), Ok(Some((two, two))));
-    assert_eq!(rt; joint_ends(alloc, b""), Ok(Some((two, two))));
-    assert_eq!(rt; share_ends(alloc, 2), Ok(Some((two, two))));
-    assert_eq!(rt; share_ends(alloc, 3), Ok(Some((End::Absent, End::Absent))));
-    assert_eq!(rt; joint_ends(alloc, b"A"), Err(EvalFault::UnknownUnit(0)));
-    assert_eq!(rt; ends(alloc, Ask::Pmf(16), 2), Err(EvalFault::AskBeyond(0)));
-    assert_eq!(rt; ends(alloc, Ask::Pmf(2), 1), Err(EvalFault::TooWide(0, 2)));
+    assert!(rt; is_number(alloc, Ask::Mean, 2_000_000));
+    assert!(rt; is_number(alloc, layer, 1_000_000));
+    assert!(rt; is_number(alloc, Ask::Tail(half()), 2_000_000));
+}
+
+#[test]
+fn shares(rt: HostRuntime) -> Result<(), AllocError> {
+    let alloc = rt.alloc();
+    let unit = Text::copy(alloc, b"")?;
+    assert!(rt; is_number(alloc, Ask::Joint { unit, at: 2 }, 2_000_000));
+    let unit = Text::copy(alloc, b"")?;
+    assert!(rt; is_number(alloc, Ask::Kappa { unit, at: 2 }, 2_000_000));
+    let unit = Text::copy(alloc, b"")?;
+    let rare = Ask::Kappa { unit, at: 3 };
+    assert!(rt; lies_between(alloc, rare, End::Absent, End::Absent));
+    Ok(())
+}
+
+#[test]
+fn refusals(rt: HostRuntime) -> Result<(), AllocError> {
+    let alloc = rt.alloc();
+    let unit = Text::copy(alloc, b"A")?;
+    let named = Ask::Joint { unit, at: 2 };
+    assert!(rt; is_refused(alloc, named, 2, EvalFault::UnknownUnit(0)));
+    assert!(rt; is_refused(alloc, Ask::Pmf(16), 2, EvalFault::AskBeyond(0)));
+    assert!(rt; is_refused(alloc, Ask::Pmf(2), 1, EvalFault::TooWide(0, 2)));
+    Ok(())
+}
+
+#[test]
+fn budgets(rt: HostRuntime) -> Result<(), AllocError> {
+    let plan = two_claims(rt.alloc())?;
+    assert_eq!(rt; total_budget::<56>(&plan), 35);
+    assert_eq!(rt; others_budget::<56>(&plan, 0), 0);
+    assert_eq!(rt; ask_budget::<56>(&plan, &Ask::Mean), 1);
+    let layer = Ask::LayerMean {
+        limit: Some(12),
+        attach: 4,
+    };
+    assert_eq!(rt; ask_budget::<56>(&plan, &layer), 420);
+    assert_eq!(rt; needed::<56>(&plan, &Ask::Cdf(2), 6), 2);
+    Ok(())
 }

@@ -1,6 +1,7 @@
 //! What is made of each unit: the grid of its outcomes, and their mean.
 
 ghost use Rattle.std.specs.Prelude.{ℕ, List, ◌≡◌, ◌<◌, ◌≤◌, ◌^◌, All, IfOk, length, get_or};
+ghost use Rattle.dl_limits.specs.Limits.{most_cells, most_plan_cells};
 ghost use Rattle.dl_iv.specs.declared.interval.Iv.{Iv as IvValue};
 ghost use Rattle.dl_grid.specs.Cells.{spread};
 ghost use Rattle.dl_model.specs.Family.{GridEncloses};
@@ -10,7 +11,7 @@ ghost use Rattle.dl_plan.specs.Horizon.{IsHorizonOf};
 ghost use Rattle.dl_plan.specs.Valid.{IsValidUnit, IsValid};
 ghost use Rattle.dl_budget.specs.Claims.{claims_budget};
 ghost use Rattle.dl_eval.specs.Rows.{S};
-ghost use Rattle.dl_eval.specs.Totals.{IsUnitGrid, IsUnitMean, AreUnitGrids, AreUnitMeans};
+ghost use Rattle.dl_eval.specs.Totals.{most_unit_mean, IsUnitGrid, IsUnitMean, AreUnitGrids, AreUnitMeans};
 
 use crate::same::first_alike;
 use dl_cede::{cede_grid, cede_mean, claims_mean};
@@ -34,10 +35,10 @@ pub(crate) struct Outcomes {
 fn horizon(unit: &Unit, cells: u32) -> u32
     requires valid { IsValidUnit cells unit.now }
     requires some { 1 ≤ cells }
-    requires few { cells ≤ 4096 }
+    requires few { cells ≤ most_plan_cells }
     ensures horizon { IsHorizonOf unit.now.cede cells result }
     ensures some { 1 ≤ result }
-    ensures few { result ≤ 16384 }
+    ensures few { result ≤ most_cells }
 {
     unit.horizon(cells).unwrap()
 }
@@ -52,7 +53,7 @@ fn claims_grid(
 ) -> Result<Grid<56>, AllocError>
     requires valid { IsValidUnit cells unit.now }
     requires some { 1 ≤ cells }
-    requires few { cells ≤ 4096 }
+    requires few { cells ≤ most_plan_cells }
     ensures horizon { IfOk result (λ g. IsHorizonOf unit.now.cede cells (length g)) }
     ensures encloses { IfOk result (λ g. GridEncloses g (compound_of unit.now.freq unit.now.sev)) }
     ensures spread { IfOk result (λ g. spread g ≤ claims_budget S (length g) unit.now) }
@@ -69,7 +70,7 @@ fn after_clause(
 ) -> Result<Grid<56>, AllocError>
     requires valid { IsValidUnit cells unit.now }
     requires some { 1 ≤ cells }
-    requires few { cells ≤ 4096 }
+    requires few { cells ≤ most_plan_cells }
     requires horizon { IsHorizonOf unit.now.cede cells (length claims) }
     requires encloses { GridEncloses claims (compound_of unit.now.freq unit.now.sev) }
     requires spread { spread claims ≤ claims_budget S (length claims) unit.now }
@@ -90,10 +91,10 @@ fn outcomes_of(
 ) -> Result<(Grid<56>, Iv<56>), AllocError>
     requires valid { IsValidUnit cells unit.now }
     requires some { 1 ≤ cells }
-    requires few { cells ≤ 4096 }
+    requires few { cells ≤ most_plan_cells }
     ensures grid { IfOk result (λ made. IsUnitGrid cells unit.now made.0) }
     ensures mean { IfOk result (λ made. IsUnitMean cells unit.now made.1) }
-    ensures small { IfOk result (λ made. made.1.hi ≤ 2 ^ 93) }
+    ensures small { IfOk result (λ made. made.1.hi ≤ most_unit_mean) }
 {
     let claims = claims_grid(alloc, work, unit, cells)?;
     let mean = cede_mean(unit, &claims);
@@ -101,8 +102,8 @@ fn outcomes_of(
     Ok((grid, mean))
 }
 
-/// The grid of a unit's outcomes, and their mean, where those of the first units are there: those of a
-/// unit that is like it are copied, and else they are worked out.
+/// The grid of a unit's outcomes, and their mean, where those of the first units are there: those
+/// of a unit that is like it are copied, and else they are worked out.
 fn outcomes_after(
     alloc: Global,
     work: &mut Workspace,
@@ -114,17 +115,17 @@ fn outcomes_after(
 ) -> Result<(Grid<56>, Iv<56>), AllocError>
     requires valid { IsValidUnit cells unit.now }
     requires some { 1 ≤ cells }
-    requires few { cells ≤ 4096 }
+    requires few { cells ≤ most_plan_cells }
     requires there { length grids.now ≤ length units.now }
     requires as_many { length means.now ≡ length grids.now }
     requires grids { (i : ℕ) (u : UnitOfPlan) (g : List (IvValue 56)) → i < length grids.now
         → IsUnitGrid cells (get_or units.now i u) (get_or grids.now i g) }
     requires means { (i : ℕ) (u : UnitOfPlan) (m : IvValue 56) → i < length grids.now
         → IsUnitMean cells (get_or units.now i u) (get_or means.now i m) }
-    requires small { All (λ mean. mean.hi ≤ 2 ^ 93) means.now }
+    requires small { All (λ mean. mean.hi ≤ most_unit_mean) means.now }
     ensures grid { IfOk result (λ made. IsUnitGrid cells unit.now made.0) }
     ensures mean { IfOk result (λ made. IsUnitMean cells unit.now made.1) }
-    ensures small { IfOk result (λ made. made.1.hi ≤ 2 ^ 93) }
+    ensures small { IfOk result (λ made. made.1.hi ≤ most_unit_mean) }
 {
     let Some(j) = first_alike(units, grids.len(), unit) else {
         return outcomes_of(alloc, work, unit, cells);
@@ -133,17 +134,19 @@ fn outcomes_after(
     Ok((grid, means[j]))
 }
 
-/// The grids of the outcomes of a valid plan's units, and their means. Units that are alike are worked
-/// out once.
+/// The grids of the outcomes of a valid plan's units, and their means. Units that are alike are
+/// worked out once.
 pub(crate) fn unit_outcomes(
     alloc: Global,
     work: &mut Workspace,
     plan: &Plan,
 ) -> Result<Outcomes, AllocError>
     requires valid { IsValid plan.now }
-    ensures grids { IfOk result (λ made. AreUnitGrids plan.now.cells plan.now.units made.grids.items) }
-    ensures means { IfOk result (λ made. AreUnitMeans plan.now.cells plan.now.units made.means.items) }
-    ensures small { IfOk result (λ made. All (λ mean. mean.hi ≤ 2 ^ 93) made.means.items) }
+    ensures grids { IfOk result (λ made. AreUnitGrids plan.now.cells plan.now.units
+        made.grids.items) }
+    ensures means { IfOk result (λ made. AreUnitMeans plan.now.cells plan.now.units
+        made.means.items) }
+    ensures small { IfOk result (λ made. All (λ mean. mean.hi ≤ most_unit_mean) made.means.items) }
 {
     let units = plan.units.as_slice();
     let mut grids = Vec::new(alloc);
@@ -173,9 +176,9 @@ fn mean_of(
 ) -> Result<Iv<56>, AllocError>
     requires valid { IsValidUnit cells unit.now }
     requires some { 1 ≤ cells }
-    requires few { cells ≤ 4096 }
+    requires few { cells ≤ most_plan_cells }
     ensures mean { IfOk result (λ mean. IsUnitMean cells unit.now mean) }
-    ensures small { IfOk result (λ mean. mean.hi ≤ 2 ^ 93) }
+    ensures small { IfOk result (λ mean. mean.hi ≤ most_unit_mean) }
 {
     match unit.cede {
         Some(_) => {
@@ -194,7 +197,7 @@ pub(crate) fn unit_means(
 ) -> Result<Vec<Iv<56>>, AllocError>
     requires valid { IsValid plan.now }
     ensures means { IfOk result (λ means. AreUnitMeans plan.now.cells plan.now.units means.items) }
-    ensures small { IfOk result (λ means. All (λ mean. mean.hi ≤ 2 ^ 93) means.items) }
+    ensures small { IfOk result (λ means. All (λ mean. mean.hi ≤ most_unit_mean) means.items) }
 {
     let units = plan.units.as_slice();
     let mut means = Vec::new(alloc);

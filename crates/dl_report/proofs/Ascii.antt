@@ -4,7 +4,7 @@ use Rattle.std.proofs.lemmas.Str.{IsAscii-append}
 use Rattle.std.proofs.lemmas.Str.Ascii.{IsAscii-nil}
 use Rattle.std.specs.Fmt.{decimal}
 use Rattle.std.specs.Str.{IsAscii}
-use Rattle.dl_report.specs.Ends.{fixed, last_digits}
+use Rattle.dl_report.specs.Ends.{with_digits, last_digits}
 
 pub one_ascii : (byte : ℕ) → byte < 128 → IsAscii (byte ∷ [])
 one_ascii byte h zero = h
@@ -13,9 +13,10 @@ one_ascii byte h (suc i) = omega arith
 digits_ascii : (d n : ℕ) → IsAscii (last_digits d n)
 unfolding last_digits
 digits_ascii zero n = IsAscii-nil
-digits_ascii (suc d) n = IsAscii-append ((48 + n / 10 ^ d % 10) ∷ []) (last_digits d n) (one_ascii _ (omega arith)) (digits_ascii d n)
+digits_ascii (suc d) n = IsAscii-append ((48 + n / 10 ^ d % 10) ∷ []) (last_digits d n) (one_ascii _ (omega arith))
+    (digits_ascii d n)
 
 -- a number is, where its whole part is
-pub fixed_ascii : (d n : ℕ) → IsAscii (decimal (n / 10 ^ d)) → IsAscii (fixed d n)
-fixed_ascii d n whole = IsAscii-append (decimal (n / 10 ^ d) ++ codes ".") (last_digits d n)
+pub with_digits_ascii : (d n : ℕ) → IsAscii (decimal (n / 10 ^ d)) → IsAscii (with_digits d n)
+with_digits_ascii d n whole = IsAscii-append (decimal (n / 10 ^ d) ++ codes ".") (last_digits d n)
     (IsAscii-append (decimal (n / 10 ^ d)) (codes ".") whole (one_ascii 46 (omega arith))) (digits_ascii d n)

@@ -31,7 +31,8 @@ same_escape (b ∷ rest) = ap (λ r. if b == 34 then 34 ∷ b ∷ r else b ∷ r
 same_field : (text : List ℕ) → field_text default_writer text ≡ field text
 same_field text = ap₂ (λ b (t : List ℕ). if b then 34 ∷ (t ++ (34 ∷ [])) else text) (same_need text) (same_escape text)
 
-layout : (a b c : List ℕ) → (a ++ (44 ∷ (b ++ (44 ∷ (c ++ []))))) ++ (10 ∷ []) ≡ a ++ (44 ∷ []) ++ b ++ (44 ∷ []) ++ c ++ (10 ∷ [])
+layout : (a b c : List ℕ) → (a ++ (44 ∷ (b ++ (44 ∷ (c ++ []))))) ++ (10 ∷ [])
+    ≡ a ++ (44 ∷ []) ++ b ++ (44 ∷ []) ++ c ++ (10 ∷ [])
 layout a b c = simp (append_assoc, append-nil) refl
 
 pub same_record : (a b c : List ℕ) → row_text default_writer (a ∷ b ∷ c ∷ []) ≡ record_text a b c

@@ -11,10 +11,12 @@ use Rattle.dl_exact.specs.Fraction.{Fraction}
 use Rattle.dl_frac.specs.Exact.{FitsFrac}
 use Rattle.dl_report.specs.Ends.{end_text}
 use Rattle.dl_report.specs.Objects.{fraction_text, json_of, row_object, with_commas}
-use Rattle.dl_report.specs.Plain.{IsPlain, IsPlainByte}
+use Rattle.dl_plan.specs.Plain.{IsPlainByte}
+use Rattle.dl_plan.proofs.PlainBytes.{low_plain}
+use Rattle.dl_report.specs.Plain.{IsPlain}
 use Rattle.dl_report.specs.declared.report.Report.{Report}
 use Rattle.dl_report.specs.declared.report.Row.{Row}
-use Rattle.dl_report.proofs.EndLaws.{decimal_plain, end_told, end_plain, low_plain}
+use Rattle.dl_report.proofs.EndLaws.{decimal_plain, end_told, end_plain}
 use Rattle.dl_report.proofs.Parting.{parted}
 use Rattle.dl_report.proofs.RowLaws.{no_comma, same_row}
 
@@ -49,15 +51,18 @@ plain_escape byte h =
 plain_text : (text : List ℕ) → All IsPlainByte text → escape text ≡ text
 plain_text [] all = refl
 plain_text (byte ∷ rest) all =
-    ap₂ (λ (x y : List ℕ). x ++ y) (plain_escape byte (All-head IsPlainByte byte rest all)) (plain_text rest (All-tail IsPlainByte byte rest all))
+    ap₂ (λ (x y : List ℕ). x ++ y) (plain_escape byte (All-head IsPlainByte byte rest all))
+    (plain_text rest (All-tail IsPlainByte byte rest all))
 
 plain_quoted : (text : List ℕ) → All IsPlainByte text → quoted text ≡ 34 ∷ (text ++ 34 ∷ [])
 plain_quoted text all = ap (λ (t : List ℕ). 34 ∷ (t ++ 34 ∷ [])) (plain_text text all)
 
 object_layout : (ask high low rest : List ℕ)
-    → codes "{\"ask\":" ++ (34 ∷ (ask ++ 34 ∷ [])) ++ codes ",\"high\":" ++ (34 ∷ (high ++ 34 ∷ [])) ++ codes ",\"low\":"
+    → codes "{\"ask\":" ++ (34 ∷ (ask ++ 34 ∷ [])) ++ codes ",\"high\":" ++ (34 ∷ (high ++ 34 ∷ []))
+    ++ codes ",\"low\":"
     ++ (34 ∷ (low ++ 34 ∷ [])) ++ codes "}" ++ rest
-    ≡ codes "{\"ask\":\"" ++ (ask ++ 34 ∷ (codes ",\"high\":\"" ++ (high ++ 34 ∷ (codes ",\"low\":\"" ++ (low ++ 34 ∷ (codes "}" ++ rest))))))
+    ≡ codes "{\"ask\":\"" ++ (ask ++ 34 ∷ (codes ",\"high\":\"" ++
+    (high ++ 34 ∷ (codes ",\"low\":\"" ++ (low ++ 34 ∷ (codes "}" ++ rest))))))
 object_layout ask high low rest = simp append_assoc refl
 
 object_is : (d : ℕ) (row : Row) (rest : List ℕ) → IsPlain row
@@ -65,13 +70,17 @@ object_is : (d : ℕ) (row : Row) (rest : List ℕ) → IsPlain row
     ≡ codes "{\"ask\":\"" ++ (row.ask ++ 34 ∷ (codes ",\"high\":\"" ++ (end_text d row.high
     ++ 34 ∷ (codes ",\"low\":\"" ++ (end_text d row.low ++ 34 ∷ (codes "}" ++ rest))))))
 object_is d row rest h =
-    ap₂ (λ (ask high : List ℕ). codes "{\"ask\":" ++ ask ++ codes ",\"high\":" ++ high ++ codes ",\"low\":" ++ quoted (end_text d row.low)
-    ++ codes "}" ++ rest) (plain_quoted row.ask h.ask) (plain_quoted (end_text d row.high) (end_plain d row.high h.high))
-    ∙ ap (λ (low : List ℕ). codes "{\"ask\":" ++ (34 ∷ (row.ask ++ 34 ∷ [])) ++ codes ",\"high\":" ++ (34 ∷ (end_text d row.high ++ 34 ∷ []))
+    ap₂ (λ (ask high : List ℕ). codes "{\"ask\":" ++ ask ++ codes ",\"high\":" ++ high ++ codes ",\"low\":" ++ quoted
+    (end_text d row.low)
+    ++ codes "}" ++ rest) (plain_quoted row.ask h.ask)
+    (plain_quoted (end_text d row.high) (end_plain d row.high h.high))
+    ∙ ap (λ (low : List ℕ). codes "{\"ask\":" ++ (34 ∷ (row.ask ++ 34 ∷ [])) ++ codes ",\"high\":" ++
+    (34 ∷ (end_text d row.high ++ 34 ∷ []))
     ++ codes ",\"low\":" ++ low ++ codes "}" ++ rest) (plain_quoted (end_text d row.low) (end_plain d row.low h.low))
     ∙ (object_layout row.ask (end_text d row.high) (end_text d row.low) rest)
 
-object_told : (d f : ℕ) (r s : Row) (x y : List ℕ) → IsPlain r → IsPlain s → row_object d r ++ x ≡ row_object f s ++ y → (r ≡ s) × (x ≡ y)
+object_told : (d f : ℕ) (r s : Row) (x y : List ℕ) → IsPlain r → IsPlain s → row_object d r ++ x ≡ row_object f s ++ y
+    → (r ≡ s) × (x ≡ y)
 object_told d f r s x y p q e =
     let start = append_cancel_left (codes "{\"ask\":\"") _ _ (sym (object_is d r x p) ∙ e ∙ object_is f s y q) in
     let ask = parted 34 r.ask s.ask _ _ (no_quote_mark _ p.ask) (no_quote_mark _ q.ask) start in
@@ -95,7 +104,8 @@ more_told d f [] [] p q e = refl
 more_told d f [] (s ∷ b) p q e = absurd (first_differs _ _ (λ h. omega (arith, h)) e)
 more_told d f (r ∷ a) [] p q e = absurd (first_differs _ _ (λ h. omega (arith, h)) e)
 more_told d f (r ∷ a) (s ∷ b) p q e =
-    let behind = append_cancel_left (codes ",") ((row_object d r ++ flat_map (λ next. codes "," ++ next) (map (row_object d) a)) ++ codes "]}\n")
+    let behind = append_cancel_left (codes ",")
+    ((row_object d r ++ flat_map (λ next. codes "," ++ next) (map (row_object d) a)) ++ codes "]}\n")
     ((row_object f s ++ flat_map (λ next. codes "," ++ next) (map (row_object f) b)) ++ codes "]}\n") e in
     let first = object_told d f r s (more d a) (more f b) (All-head IsPlain r a p) (All-head IsPlain s b q)
     (sym (append_assoc (row_object d r) _ (codes "]}\n")) ∙ behind ∙ append_assoc (row_object f s) _ (codes "]}\n")) in
@@ -128,26 +138,34 @@ fraction_plain x h = go (x.den == 1)
         (All-push IsPlainByte (decimal x.num) 47 num (low_plain 47 (omega arith) (omega arith))) den
 
 report_layout : (bs cells rows : List ℕ)
-    → codes "{\"bs\":" ++ (34 ∷ (bs ++ 34 ∷ [])) ++ codes ",\"cells\":" ++ cells ++ codes ",\"rows\":[" ++ rows ++ codes "]}\n"
-    ≡ codes "{\"bs\":\"" ++ (bs ++ 34 ∷ (codes ",\"cells\":" ++ (cells ++ 44 ∷ (codes "\"rows\":[" ++ (rows ++ codes "]}\n")))))
+    → codes "{\"bs\":" ++ (34 ∷ (bs ++ 34 ∷ [])) ++ codes ",\"cells\":" ++ cells ++ codes ",\"rows\":[" ++ rows
+    ++ codes "]}\n"
+    ≡ codes "{\"bs\":\"" ++ (bs ++ 34 ∷ (codes ",\"cells\":" ++
+    (cells ++ 44 ∷ (codes "\"rows\":[" ++ (rows ++ codes "]}\n")))))
 report_layout bs cells rows = simp append_assoc refl
 
 report_is : (report : Report) (bs : Fraction) (cells : ℕ) → FitsFrac bs
     → json_of report bs cells
     ≡ codes "{\"bs\":\"" ++ (fraction_text bs ++ 34 ∷ (codes ",\"cells\":"
-    ++ (decimal cells ++ 44 ∷ (codes "\"rows\":[" ++ (with_commas (map (row_object report.digits) report.rows) ++ codes "]}\n")))))
+    ++ (decimal cells ++ 44 ∷ (codes "\"rows\":[" ++
+    (with_commas (map (row_object report.digits) report.rows) ++ codes "]}\n")))))
 report_is report bs cells h =
-    ap (λ (size : List ℕ). codes "{\"bs\":" ++ size ++ codes ",\"cells\":" ++ decimal cells ++ codes ",\"rows\":[" ++ with_commas
-    (map (row_object report.digits) report.rows) ++ codes "]}\n") (plain_quoted (fraction_text bs) (fraction_plain bs h))
+    ap (λ (size : List ℕ). codes "{\"bs\":" ++ size ++ codes ",\"cells\":" ++ decimal cells ++ codes ",\"rows\":["
+    ++ with_commas
+    (map (row_object report.digits) report.rows) ++ codes "]}\n")
+    (plain_quoted (fraction_text bs) (fraction_plain bs h))
     ∙ report_layout (fraction_text bs) (decimal cells) (with_commas (map (row_object report.digits) report.rows))
 
-pub reports_told : (a b : Report) (x y : Fraction) (m n : ℕ) → FitsFrac x → FitsFrac y → m < 2 ^ 32 → n < 2 ^ 32 → All IsPlain a.rows → All
+pub reports_told : (a b : Report) (x y : Fraction) (m n : ℕ) → FitsFrac x → FitsFrac y → m < 2 ^ 32 → n < 2 ^ 32
+    → All IsPlain a.rows → All
     IsPlain b.rows
     → json_of a x m ≡ json_of b y n → a.rows ≡ b.rows
 reports_told a b x y m n fits_x fits_y small_m small_n plain_a plain_b e =
-    let start = append_cancel_left (codes "{\"bs\":\"") _ _ (sym (report_is a x m fits_x) ∙ e ∙ report_is b y n fits_y) in
+    let start = append_cancel_left (codes "{\"bs\":\"") _ _
+    (sym (report_is a x m fits_x) ∙ e ∙ report_is b y n fits_y) in
     let bs = parted 34 (fraction_text x) (fraction_text y) _ _ (no_quote_mark _ (fraction_plain x fits_x))
     (no_quote_mark _ (fraction_plain y fits_y)) start in
-    let cells = parted 44 (decimal m) (decimal n) _ _ (no_comma _ (decimal_plain m (omega arith))) (no_comma _ (decimal_plain n (omega arith)))
+    let cells = parted 44 (decimal m) (decimal n) _ _ (no_comma _ (decimal_plain m (omega arith)))
+    (no_comma _ (decimal_plain n (omega arith)))
     (append_cancel_left (codes ",\"cells\":") _ _ bs.1) in
     objects_told a.digits b.digits a.rows b.rows plain_a plain_b (append_cancel_left (codes "\"rows\":[") _ _ cells.1)

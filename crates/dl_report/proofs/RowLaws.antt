@@ -8,7 +8,8 @@ use Rattle.std.specs.Prelude.{if◌then◌else◌}
 use Rattle.dl_report.specs.Ends.{end_text}
 use Rattle.dl_report.specs.Lines.{line}
 use Rattle.dl_report.specs.Records.{calls_for_quotes, doubled, field, row_record}
-use Rattle.dl_report.specs.Plain.{IsPlain, IsPlainByte}
+use Rattle.dl_plan.specs.Plain.{IsPlainByte}
+use Rattle.dl_report.specs.Plain.{IsPlain}
 use Rattle.dl_report.specs.declared.report.Row.{Row}
 use Rattle.dl_report.proofs.EndLaws.{end_told, end_plain}
 use Rattle.dl_report.proofs.Parting.{parted}
@@ -38,34 +39,45 @@ spaced c d row rest = row.ask ++ c ∷ (end_text d row.low ++ c ∷ (end_text d 
 abbrev pub Separates : ℕ → Type 0
 Separates c = (text : List ℕ) → All IsPlainByte text → All (λ byte. byte ≢ c) text
 
-row_told : (c d f : ℕ) (r s : Row) (x y : List ℕ) → Separates c → IsPlain r → IsPlain s → spaced c d r x ≡ spaced c f s y → (r ≡ s) × (x ≡ y)
+row_told : (c d f : ℕ) (r s : Row) (x y : List ℕ) → Separates c → IsPlain r → IsPlain s
+    → spaced c d r x ≡ spaced c f s y → (r ≡ s) × (x ≡ y)
 row_told c d f r s x y no_c p q e =
     let ask = parted c r.ask s.ask _ _ (no_c _ p.ask) (no_c _ q.ask) e in
-    let low = parted c (end_text d r.low) (end_text f s.low) _ _ (no_c _ (end_plain d r.low p.low)) (no_c _ (end_plain f s.low q.low)) ask.1 in
+    let low = parted c (end_text d r.low) (end_text f s.low) _ _ (no_c _ (end_plain d r.low p.low))
+    (no_c _ (end_plain f s.low q.low)) ask.1 in
     let high = parted 10 (end_text d r.high) (end_text f s.high) x y (no_newline _ (end_plain d r.high p.high))
-    (no_newline _ (end_plain f s.high q.high)) low.1 in
-    (same_row r s ask.0 (end_told d f r.low s.low p.low q.low low.0) (end_told d f r.high s.high p.high q.high high.0), high.1)
+    (no_newline _ (end_plain f s.high q.high)) low.1 in (
+      same_row r s ask.0 (end_told d f r.low s.low p.low q.low low.0)
+          (end_told d f r.high s.high p.high q.high high.0),
+      high.1,
+    )
 
 -- rows are told by what is written of each, where that is its parts with a separator between them
-pub rows_told : (c : ℕ) (write : ℕ → Row → List ℕ) → Separates c → ((d : ℕ) (row : Row) (rest : List ℕ) → IsPlain row → write d row
+pub rows_told : (c : ℕ) (write : ℕ → Row → List ℕ) → Separates c
+    → ((d : ℕ) (row : Row) (rest : List ℕ) → IsPlain row → write d row
     ++ rest ≡ spaced c d row rest)
     → (d f : ℕ) (a b : List Row) → All IsPlain a → All IsPlain b → flat_map (write d) a ≡ flat_map (write f) b → a ≡ b
 rows_told c write no_c is d f [] [] p q e = refl
-rows_told c write no_c is d f [] (s ∷ b) p q e = absurd (not_empty s.ask _ c (sym (is f s _ (All-head IsPlain s b q)) ∙ sym e))
-rows_told c write no_c is d f (r ∷ a) [] p q e = absurd (not_empty r.ask _ c (sym (is d r _ (All-head IsPlain r a p)) ∙ e))
+rows_told c write no_c is d f [] (s ∷ b) p q e = absurd
+    (not_empty s.ask _ c (sym (is f s _ (All-head IsPlain s b q)) ∙ sym e))
+rows_told c write no_c is d f (r ∷ a) [] p q e = absurd
+    (not_empty r.ask _ c (sym (is d r _ (All-head IsPlain r a p)) ∙ e))
 rows_told c write no_c is d f (r ∷ a) (s ∷ b) p q e =
     let plain_r = All-head IsPlain r a p in
     let plain_s = All-head IsPlain s b q in
     let first = row_told c d f r s (flat_map (write d) a) (flat_map (write f) b) no_c plain_r plain_s
     (sym (is d r _ plain_r) ∙ e ∙ is f s _ plain_s) in
-    ap₂ (λ x xs. x ∷ xs) first.0 (rows_told c write no_c is d f a b (All-tail IsPlain r a p) (All-tail IsPlain s b q) first.1)
+    ap₂ (λ x xs. x ∷ xs) first.0 (rows_told c write no_c is d f a b (All-tail IsPlain r a p)
+    (All-tail IsPlain s b q) first.1)
 
 line_is : (ask low high rest : List ℕ) → ask ++ codes " " ++ low ++ codes " " ++ high ++ codes "\n" ++ rest ≡ ask
     ++ 32 ∷ (low ++ 32 ∷ (high ++ 10 ∷ rest))
 line_is ask low high rest = simp append_assoc refl
 
-pub lines_told : (d f : ℕ) (a b : List Row) → All IsPlain a → All IsPlain b → flat_map (line d) a ≡ flat_map (line f) b → a ≡ b
-lines_told = rows_told 32 line no_blank (λ d row rest _. line_is row.ask (end_text d row.low) (end_text d row.high) rest)
+pub lines_told : (d f : ℕ) (a b : List Row) → All IsPlain a → All IsPlain b
+    → flat_map (line d) a ≡ flat_map (line f) b → a ≡ b
+lines_told = rows_told 32 line no_blank (λ d row rest _.
+    line_is row.ask (end_text d row.low) (end_text d row.high) rest)
 
 -- a field of plain bytes needs no quote marks
 plain_field : (text : List ℕ) → All IsPlainByte text → field text ≡ text
@@ -98,5 +110,6 @@ plain_record d row rest h =
     )
     (record_is row.ask (end_text d row.low) (end_text d row.high) rest)
 
-pub records_told : (d f : ℕ) (a b : List Row) → All IsPlain a → All IsPlain b → flat_map (row_record d) a ≡ flat_map (row_record f) b → a ≡ b
+pub records_told : (d f : ℕ) (a b : List Row) → All IsPlain a → All IsPlain b
+    → flat_map (row_record d) a ≡ flat_map (row_record f) b → a ≡ b
 records_told = rows_told 44 row_record no_comma plain_record

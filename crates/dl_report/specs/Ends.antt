@@ -10,12 +10,12 @@ last_digits zero n = []
 last_digits (suc d) n = (48 + n / 10 ^ d % 10) ∷ last_digits d n
 
 -- n over 10^d: the whole part, a point, and d digits
-abbrev pub fixed : ℕ → ℕ → List ℕ
-fixed d n = decimal (n / 10 ^ d) ++ codes "." ++ last_digits d n
+abbrev pub with_digits : ℕ → ℕ → List ℕ
+with_digits d n = decimal (n / 10 ^ d) ++ codes "." ++ last_digits d n
 
 -- an end, its number with d digits behind the point
 unfoldable pub end_text : ℕ → End → List ℕ
-end_text d (Number n) = fixed d n
+end_text d (Number n) = with_digits d n
 end_text d (Whole x) = decimal x
 end_text d Beyond = codes "beyond"
 end_text d Absent = codes "-"

@@ -16,7 +16,8 @@ fraction_text x = if x.den == 1 then decimal x.num else decimal x.num ++ codes "
 -- the object of a row, its members in the order of their names
 abbrev pub row_object : ℕ → Row → List ℕ
 row_object d row =
-    codes "{\"ask\":" ++ quoted row.ask ++ codes ",\"high\":" ++ quoted (end_text d row.high) ++ codes ",\"low\":" ++ quoted (end_text d row.low)
+    codes "{\"ask\":" ++ quoted row.ask ++ codes ",\"high\":" ++ quoted (end_text d row.high)
+    ++ codes ",\"low\":" ++ quoted (end_text d row.low)
     ++ codes "}"
 
 -- texts with a comma between them
@@ -28,7 +29,8 @@ with_commas (text ∷ rest) = text ++ flat_map (λ next. codes "," ++ next) rest
 abbrev pub json_of : Report → Fraction → ℕ → List ℕ
 json_of report bs cells =
     codes "{\"bs\":" ++ quoted (fraction_text bs) ++ codes ",\"cells\":" ++ decimal cells
-    ++ codes ",\"rows\":[" ++ with_commas (map (row_object report.digits) report.rows) ++ codes "]}\n"
+    ++ codes ",\"rows\":[" ++ with_commas (map (row_object report.digits) report.rows)
+    ++ codes "]}\n"
 
 -- each ask is text
 abbrev pub AsksAreText : Report → Type 0

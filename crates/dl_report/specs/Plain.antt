@@ -1,15 +1,9 @@
 -- Rows that can be read back from each form of a report.
-use Rattle.std.specs.Prelude.{ℕ, ◌≢◌, ◌<◌, ◌^◌, ⊤, All}
+use Rattle.std.specs.Prelude.{◌<◌, ◌^◌, ⊤, All}
+use Rattle.dl_plan.specs.Plain.{IsPlainByte}
 use Rattle.dl_report.specs.declared.report.End.{End}
 use Rattle.dl_report.specs.declared.report.End.TheVariants.{Number, Whole, Beyond, Absent}
 use Rattle.dl_report.specs.declared.report.Row.{Row}
-
--- a byte above the blank that is no quote mark, no comma and no backslash
-pub record IsPlainByte (byte : ℕ) : Type 0 where
-  pub above : 32 < byte
-  pub quote_mark : byte ≢ 34
-  pub comma : byte ≢ 44
-  pub backslash : byte ≢ 92
 
 -- the number of an end has at most 128 bits, and an amount at most 32
 abbrev pub IsInRange : End → Type 0

@@ -3,7 +3,8 @@
 ghost use Rattle.std.specs.Prelude.{◌≡◌, ◌<◌, ◌≤◌, ◌++◌, ◌+◌, ◌/◌, ◌%◌, IfOk, OnOk};
 ghost use Rattle.std.specs.Fmt.{decimal};
 ghost use Rattle.std.specs.Str.{IsAscii, IsUtf8};
-ghost use Rattle.dl_report.specs.Ends.{last_digits, fixed, end_text};
+ghost use Rattle.dl_limits.specs.Limits.{most_digits};
+ghost use Rattle.dl_report.specs.Ends.{last_digits, with_digits, end_text};
 
 use crate::report::End;
 use itoa::Buffer;
@@ -20,7 +21,7 @@ fn digit(number: u128, power: u128) -> u8
 /// Appends the last decimal digits of a number, the highest first.
 #[tactic(auto, unfolding(crate::specs::Ends::last_digits))]
 fn push_digits(text: &mut Vec<u8>, number: u128, places: u32) -> Result<(), AllocError>
-    requires { places ≤ 9 }
+    requires { places ≤ most_digits }
     ensures { OnOk result (text.new.items ≡ text.old.items ++ last_digits places number) }
 {
     for done in 0..places {
@@ -40,9 +41,9 @@ pub fn push_whole(text: &mut Vec<u8>, number: u128) -> Result<(), AllocError>
 
 /// Appends a number of units of the last of these digits behind the point.
 fn push_number(text: &mut Vec<u8>, digits: u32, number: u128) -> Result<(), AllocError>
-    requires { digits ≤ 9 }
-    ensures appends { OnOk result (text.new.items ≡ text.old.items ++ fixed digits number) }
-    ensures ascii { OnOk result (IsAscii (fixed digits number)) }
+    requires { digits ≤ most_digits }
+    ensures appends { OnOk result (text.new.items ≡ text.old.items ++ with_digits digits number) }
+    ensures ascii { OnOk result (IsAscii (with_digits digits number)) }
 {
     push_whole(text, number / 10u128.pow(digits))?;
     text.extend_from_slice(b".")?;
@@ -52,7 +53,7 @@ fn push_number(text: &mut Vec<u8>, digits: u32, number: u128) -> Result<(), Allo
 /// Appends an end.
 #[tactic(auto, unfolding(crate::specs::Ends::end_text))]
 pub fn push_end(text: &mut Vec<u8>, digits: u32, end: End) -> Result<(), AllocError>
-    requires { digits ≤ 9 }
+    requires { digits ≤ most_digits }
     ensures appends { OnOk result (text.new.items ≡ text.old.items ++ end_text digits end) }
     ensures ascii { OnOk result (IsAscii (end_text digits end)) }
 {
@@ -66,7 +67,7 @@ pub fn push_end(text: &mut Vec<u8>, digits: u32, end: End) -> Result<(), AllocEr
 
 /// The bytes of an end.
 pub fn end_bytes(alloc: Global, digits: u32, end: End) -> Result<Vec<u8>, AllocError>
-    requires { digits ≤ 9 }
+    requires { digits ≤ most_digits }
     ensures value { IfOk result (λ bytes. bytes.items ≡ end_text digits end) }
     ensures utf8 { IfOk result (λ bytes. IsUtf8 bytes.items) }
 {

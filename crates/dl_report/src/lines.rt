@@ -1,7 +1,8 @@
 //! A report as lines.
 
 ghost use Rattle.std.specs.Prelude.{◌≡◌, ◌≤◌, ◌++◌, IfOk, OnOk};
-ghost use Rattle.dl_report.specs.Lines.{line, text_of};
+ghost use Rattle.dl_limits.specs.Limits.{most_digits};
+ghost use Rattle.dl_report.specs.Lines.{line, lines_of};
 
 use crate::ends::push_end;
 use crate::report::{Report, Row};
@@ -9,7 +10,7 @@ use std::alloc::{AllocError, Global};
 
 /// Appends the line of a row.
 fn push_line(text: &mut Vec<u8>, digits: u32, row: &Row) -> Result<(), AllocError>
-    requires { digits ≤ 9 }
+    requires { digits ≤ most_digits }
     ensures { OnOk result (text.new.items ≡ text.old.items ++ line digits row.now) }
 {
     text.extend_from_slice(row.ask.as_slice())?;
@@ -22,8 +23,8 @@ fn push_line(text: &mut Vec<u8>, digits: u32, row: &Row) -> Result<(), AllocErro
 
 /// The report as lines: the ask, the low end and the high end, with a blank between them.
 pub fn text(alloc: Global, report: &Report) -> Result<Vec<u8>, AllocError>
-    requires { report.now.digits ≤ 9 }
-    ensures { IfOk result (λ text. text.items ≡ text_of report.now) }
+    requires { report.now.digits ≤ most_digits }
+    ensures { IfOk result (λ text. text.items ≡ lines_of report.now) }
 {
     let mut text = Vec::new(alloc);
     for row in report.rows.as_slice() {

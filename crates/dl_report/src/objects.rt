@@ -3,6 +3,7 @@
 ghost use Rattle.std.specs.Prelude.{◌≡◌, ◌≤◌, ◌++◌, IfOk, OnOk};
 ghost use Rattle.std.specs.Str.{IsAscii, IsUtf8};
 ghost use Rattle.serde_json.specs.View.{items_view, view};
+ghost use Rattle.dl_limits.specs.Limits.{most_digits};
 ghost use Rattle.dl_report.specs.Objects.{AsksAreText, fraction_text, json_of};
 ghost use Rattle.dl_report.specs.Values.{report_data, row_data};
 
@@ -35,7 +36,7 @@ fn as_text(bytes: &[u8]) -> &str
 
 /// A row as a JSON object.
 fn row_value(alloc: Global, digits: u32, row: &Row) -> Result<Value, AllocError>
-    requires digits { digits ≤ 9 }
+    requires digits { digits ≤ most_digits }
     requires ask { IsUtf8 row.now.ask }
     ensures { IfOk result (λ value. view value ≡ row_data digits row.now) }
 {
@@ -47,7 +48,8 @@ fn row_value(alloc: Global, digits: u32, row: &Row) -> Result<Value, AllocError>
 
 /// A report of these rows as a JSON object.
 fn report_value(alloc: Global, bs: Frac, cells: u32, rows: Vec<Value>) -> Result<Value, AllocError>
-    ensures { IfOk result (λ value. view value ≡ report_data (fraction_text bs) cells (items_view rows.items)) }
+    ensures { IfOk result (λ value. view value ≡ report_data (fraction_text bs) cells
+        (items_view rows.items)) }
 {
     let mut size = Vec::new(alloc);
     push_fraction(&mut size, bs)?;
@@ -56,7 +58,7 @@ fn report_value(alloc: Global, bs: Frac, cells: u32, rows: Vec<Value>) -> Result
 
 /// The report as a JSON object, with the bucket size in money and the number of the grid's cells.
 pub fn json(alloc: Global, report: &Report, bs: Frac, cells: u32) -> Result<Vec<u8>, AllocError>
-    requires digits { report.now.digits ≤ 9 }
+    requires digits { report.now.digits ≤ most_digits }
     requires asks { AsksAreText report.now }
     ensures { IfOk result (λ text. text.items ≡ json_of report.now bs cells) }
 {

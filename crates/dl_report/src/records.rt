@@ -1,6 +1,7 @@
 //! A report as comma-separated values.
 
 ghost use Rattle.std.specs.Prelude.{◌≡◌, ◌≤◌, ◌++◌, ℕ, List, IfOk, OnOk};
+ghost use Rattle.dl_limits.specs.Limits.{most_digits};
 ghost use Rattle.dl_report.specs.Records.{csv_of, record_text, row_record};
 ghost use Rattle.dl_report.specs.Writing.{HasWritten};
 
@@ -16,7 +17,8 @@ fn write_record(
     low: &[u8],
     high: &[u8],
 ) -> Result<(), AllocError>
-    ensures { OnOk result ((text : List ℕ) → HasWritten writer.old text → HasWritten writer.new (text ++ record_text ask.now low.now high.now)) }
+    ensures { OnOk result ((text : List ℕ) → HasWritten writer.old text
+        → HasWritten writer.new (text ++ record_text ask.now low.now high.now)) }
 {
     let fields = [ask, low, high];
     match writer.write_fields(&fields) {
@@ -32,8 +34,9 @@ fn write_row(
     digits: u32,
     row: &Row,
 ) -> Result<(), AllocError>
-    requires { digits ≤ 9 }
-    ensures { OnOk result ((text : List ℕ) → HasWritten writer.old text → HasWritten writer.new (text ++ row_record digits row.now)) }
+    requires { digits ≤ most_digits }
+    ensures { OnOk result ((text : List ℕ) → HasWritten writer.old text
+        → HasWritten writer.new (text ++ row_record digits row.now)) }
 {
     let low = end_bytes(alloc, digits, row.low)?;
     let high = end_bytes(alloc, digits, row.high)?;
@@ -42,7 +45,7 @@ fn write_row(
 
 /// The report as comma-separated values: the names of the three fields, then a record for each row.
 pub fn csv(alloc: Global, report: &Report) -> Result<Vec<u8>, AllocError>
-    requires { report.now.digits ≤ 9 }
+    requires { report.now.digits ≤ most_digits }
     ensures { IfOk result (λ text. text.items ≡ csv_of report.now) }
 {
     let mut writer = WriterBuilder::new().from_writer(Vec::new(alloc));

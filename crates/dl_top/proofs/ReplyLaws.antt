@@ -14,10 +14,11 @@ use Rattle.dl_plan.specs.declared.settings.Asked.{Asked}
 use Rattle.dl_plan.specs.declared.settings.Settings.{Settings}
 use Rattle.dl_words.specs.declared.fault.UsageFault.{UsageFault}
 use Rattle.dl_words.specs.Words.{words_of}
+use Rattle.dl_words.proofs.RangeLaws.{settings_in}
 use Rattle.dl_types.specs.Faults.{first_fault}
 use Rattle.dl_eval.specs.declared.fault.EvalFault.{EvalFault}
 use Rattle.dl_eval.specs.declared.fault.EvalFault.TheVariants.{AskBeyond, UnknownUnit, TooWide, OutOfMemory as NoRoom}
-use Rattle.dl_eval.specs.Answers.{IsFirstNot, AreAdmitted, Refuses as RefusesAsks}
+use Rattle.dl_eval.specs.Answers.{IsFirstNot, AreAdmitted, RefusesAsk as RefusesAsks}
 use Rattle.std.specs.Prelude.{zip}
 use Rattle.std.proofs.lemmas.List.Elements.{All-nil, All-cons, All-head, All-tail, All-map}
 use Rattle.std.proofs.lemmas.Str.{IsUtf8-string_bytes}
@@ -39,9 +40,12 @@ use Rattle.dl_parser.specs.Viable.{Stops}
 use Rattle.dl_top.specs.Answers.{HasTokens, SpellsProgram, IsAccepted, HasForm, Refuses, of_asks, usage, not_read, too_long, bad_byte, continuous, syntax, typing, asking}
 use Rattle.dl_top.specs.Replies.{IsReply, Tells}
 
--- a refusal is the reply where the words and the input give its fault, and its text needs no more of the text than its place
-pub refused : (words : List (List ℕ)) (input source : List ℕ) (tokens : List Token) (r : Reply) (fault : Fault) → Tells r fault source tokens
-    → fault_line fault source tokens ≡ fault_line fault input tokens → Refuses words input fault tokens → IsReply words input r
+-- a refusal is the reply where the words and the input give its fault, and its text needs no more of the text than its
+-- place
+pub refused : (words : List (List ℕ)) (input source : List ℕ) (tokens : List Token) (r : Reply) (fault : Fault)
+    → Tells r fault source tokens
+    → fault_line fault source tokens ≡ fault_line fault input tokens → Refuses words input fault tokens
+    → IsReply words input r
 refused words input source tokens (Answer text) fault h e a = absurd h
 refused words input source tokens (Refusal f text) fault h e a = rw h.0 (tokens, a, (h.1 ∙ e))
 refused words input source tokens OutOfMemory fault h e a = tt
@@ -62,20 +66,19 @@ taken (Some left) None n h = absurd h
 taken (Some left) (Some rest) n h = h.0
 
 -- what a text spells is spelled by all of its token lists, of which there is one
-respelled : (input : List ℕ) (p : Program) (tokens : List Token) → SpellsProgram input p → HasTokens input tokens → Spells program p (lexemes input tokens)
+respelled : (input : List ℕ) (p : Program) (tokens : List Token) → SpellsProgram input p → HasTokens input tokens
+    → Spells program p (lexemes input tokens)
 respelled input p tokens s has =
-    subst (λ ts. Spells program p (lexemes input ts)) (cover_one input (length input) s.tokens tokens s.has.covered has.covered) s.spelled
+    subst (λ ts. Spells program p (lexemes input ts))
+    (cover_one input (length input) s.tokens tokens s.has.covered has.covered) s.spelled
 
 -- a text spells one program
 one_spelled : (input : List ℕ) (p q : Program) → SpellsProgram input p → SpellsProgram input q → p ≡ q
 one_spelled input p q s t = one_program p q (lexemes input s.tokens) s.spelled (respelled input q s.tokens t s.has)
 
 -- words have one answer
-abbrev pub settings_in : Settings → Result Settings UsageFault → Settings
-settings_in default (Ok settings) = settings
-settings_in default (Err fault) = default
-
-no_fault : (words : List (List ℕ)) (settings : Settings) (fault : UsageFault) → words_of words ≡ Ok settings → words_of words ≡ Err fault → ⊥
+no_fault : (words : List (List ℕ)) (settings : Settings) (fault : UsageFault) → words_of words ≡ Ok settings
+    → words_of words ≡ Err fault → ⊥
 no_fault words settings fault e f = differ (sym e ∙ f)
   where
     differ : Ok settings ≡ Err fault → ⊥
@@ -95,25 +98,32 @@ an_ask = record { text = []; ask = Mean }
 none_first : (P : Asked → Type 0) (asks : List Asked) (i : ℕ) → All P asks → IsFirstNot P asks i → ⊥
 none_first P asks i all first = first.here an_ask (all i an_ask first.inside)
 
-admitted_not_refused : (plan : Plan) (settings : Settings) (of : EvalFault) (fault : Fault) → of_asks of fault → AreAdmitted plan settings
+admitted_not_refused : (plan : Plan) (settings : Settings) (of : EvalFault) (fault : Fault) → of_asks of fault
+    → AreAdmitted plan settings
     → RefusesAsks plan settings of → ⊥
 admitted_not_refused plan settings (AskBeyond i) fault is a r = none_first _ settings.asks i a.inside r
 admitted_not_refused plan settings (UnknownUnit i) fault is a r = none_first _ settings.asks i a.named r.1
-admitted_not_refused plan settings (TooWide i width) fault is a (inside, named, wide) = none_first _ settings.asks i a.pass wide.first
+admitted_not_refused plan settings (TooWide i width) fault is a (inside, named, wide) =
+    none_first _ settings.asks i a.pass wide.first
 admitted_not_refused plan settings NoRoom fault is admitted r = absurd is
 
 -- a text that spells a program is not refused before its rules
-not_unspelled : (input : List ℕ) (p : Program) (tokens : List Token) (k : ℕ) → SpellsProgram input p → HasTokens input tokens → Stops (lexemes input tokens) k → ⊥
+not_unspelled : (input : List ℕ) (p : Program) (tokens : List Token) (k : ℕ) → SpellsProgram input p
+    → HasTokens input tokens → Stops (lexemes input tokens) k → ⊥
 not_unspelled input p tokens k spells has stops = stops.unspelled p (respelled input p tokens spells has)
 
 -- an accepted text is refused for a failed read alone
-pub accepted : (words : List (List ℕ)) (input : List ℕ) (fault : Fault) (tokens : List Token) → IsAccepted words input → Refuses words input fault tokens → fault ≡ Read
+pub accepted : (words : List (List ℕ)) (input : List ℕ) (fault : Fault) (tokens : List Token) → IsAccepted words input
+    → Refuses words input fault tokens → fault ≡ Read
 accepted words input fault tokens a (usage f e) = absurd (no_fault words a.settings f a.asks.say e)
 accepted words input fault tokens a (not_read settings say seedless) = refl
 accepted words input fault tokens a (too_long settings say long) = absurd (omega (arith, a.spells.has.fits, long))
-accepted words input fault tokens a (bad_byte settings say at fits bad) = absurd (covered_not_bad input a.spells.tokens at a.spells.has.covered bad)
-accepted words input fault tokens a (continuous settings say ts k has stops here) = absurd (not_unspelled input a.program ts k a.spells has stops)
-accepted words input fault tokens a (syntax settings say ts k has stops not_here) = absurd (not_unspelled input a.program ts k a.spells has stops)
+accepted words input fault tokens a (bad_byte settings say at fits bad) =
+    absurd (covered_not_bad input a.spells.tokens at a.spells.has.covered bad)
+accepted words input fault tokens a (continuous settings say ts k has stops here) =
+    absurd (not_unspelled input a.program ts k a.spells has stops)
+accepted words input fault tokens a (syntax settings say ts k has stops not_here) =
+    absurd (not_unspelled input a.program ts k a.spells has stops)
 accepted words input fault tokens a (typing settings asks p spells f first) =
     let same : a.program ≡ p = one_spelled input a.program p a.spells spells in
     let set : a.settings ≡ settings = same_settings words a.settings settings a.asks.say asks.say in
@@ -122,8 +132,10 @@ accepted words input fault tokens a (typing settings asks p spells f first) =
 accepted words input fault tokens a (asking settings asks plan means of f is refuses) =
     let set : settings ≡ a.settings = same_settings words settings a.settings asks.say a.asks.say in
     let same : means.program ≡ a.program = one_spelled input means.program a.program means.spells a.spells in
-    let planned : IsPlanOf a.program a.settings plan = subst (λ s. IsPlanOf a.program s plan) set (subst (λ p. IsPlanOf p settings plan) same means.planned) in
-    absurd (admitted_not_refused plan a.settings of f is (a.admitted plan planned means.valid) (subst (λ s. RefusesAsks plan s of) set refuses))
+    let planned : IsPlanOf a.program a.settings plan = subst (λ s. IsPlanOf a.program s plan) set
+    (subst (λ p. IsPlanOf p settings plan) same means.planned) in
+    absurd (admitted_not_refused plan a.settings of f is (a.admitted plan planned means.valid)
+    (subst (λ s. RefusesAsks plan s of) set refuses))
 
 -- words have one form
 run_not_fmt : (words : List (List ℕ)) (a b : Settings) → Say words a → Say words b → a.form ≡ Run → b.form ≡ Fmt → ⊥
@@ -133,13 +145,17 @@ run_not_fmt words a b e f run fmt = differ (sym run ∙ ap (λ s. s.form) (same_
     differ e = grind (arith, e)
 
 -- a text whose canonical form is wanted, and that spells a program, is refused for a failed read alone
-pub has_form : (words : List (List ℕ)) (input : List ℕ) (fault : Fault) (tokens : List Token) → HasForm words input → Refuses words input fault tokens → fault ≡ Read
+pub has_form : (words : List (List ℕ)) (input : List ℕ) (fault : Fault) (tokens : List Token) → HasForm words input
+    → Refuses words input fault tokens → fault ≡ Read
 has_form words input fault tokens a (usage f e) = absurd (no_fault words a.settings f a.formats.say e)
 has_form words input fault tokens a (not_read settings say seedless) = refl
 has_form words input fault tokens a (too_long settings say long) = absurd (omega (arith, a.spells.has.fits, long))
-has_form words input fault tokens a (bad_byte settings say at fits bad) = absurd (covered_not_bad input a.spells.tokens at a.spells.has.covered bad)
-has_form words input fault tokens a (continuous settings say ts k has stops here) = absurd (not_unspelled input a.program ts k a.spells has stops)
-has_form words input fault tokens a (syntax settings say ts k has stops not_here) = absurd (not_unspelled input a.program ts k a.spells has stops)
+has_form words input fault tokens a (bad_byte settings say at fits bad) =
+    absurd (covered_not_bad input a.spells.tokens at a.spells.has.covered bad)
+has_form words input fault tokens a (continuous settings say ts k has stops here) =
+    absurd (not_unspelled input a.program ts k a.spells has stops)
+has_form words input fault tokens a (syntax settings say ts k has stops not_here) =
+    absurd (not_unspelled input a.program ts k a.spells has stops)
 has_form words input fault tokens a (typing settings asks p spells f first) =
     absurd (run_not_fmt words settings a.settings asks.say a.formats.say asks.form a.formats.form)
 has_form words input fault tokens a (asking settings asks plan means of f is refuses) =
@@ -148,25 +164,18 @@ has_form words input fault tokens a (asking settings asks plan means of f is ref
 -- ---- which text the words are about
 
 -- a made one
-pub made_input : (words : List (List ℕ)) (settings : Settings) (seed : ℕ) (left : Option (List ℕ)) (P : List ℕ → Type 0) → Say words settings
+pub made_input : (words : List (List ℕ)) (settings : Settings) (seed : ℕ) (left : Option (List ℕ)) (P : List ℕ → Type 0)
+    → Say words settings
     → settings.make ≡ Some seed → P (made_of seed) → IfSome (input_of words left) P
 unfolding input_of
 made_input words settings seed left P say named p = rw (say, named) p
 
 -- what the source has left
-pub read_input : (words : List (List ℕ)) (settings : Settings) (left : Option (List ℕ)) (P : List ℕ → Type 0) → Say words settings
+pub read_input : (words : List (List ℕ)) (settings : Settings) (left : Option (List ℕ)) (P : List ℕ → Type 0)
+    → Say words settings
     → settings.make ≡ None → IfSome left P → IfSome (input_of words left) P
 unfolding input_of
 read_input words settings left P say seedless p = rw (say, seedless) p
-
--- words that name no seed name none
-pub not_made : (words : List (List ℕ)) (settings : Settings) → Say words settings → settings.make ≡ None → ¬ MakeText words
-not_made words settings say seedless m = some_not_none m.seed (sym m.named ∙ ap (λ s. s.make) (same_settings words m.settings settings m.say say) ∙ seedless)
-
--- nothing is taken from a source that is not read
-pub takes_nothing : (left : Option (List ℕ)) → Takes left left 0
-takes_nothing None = tt
-takes_nothing (Some left) = (omega (arith), refl)
 
 -- ---- what the callees want
 
@@ -176,7 +185,8 @@ words_text words = All-map IsUtf8 string_bytes words (λ k d h. IsUtf8-string_by
 
 -- the rows of a good report have the asks as they were written
 rows_text : (plan : Plan) (d : ℕ) (asks : List Asked) (rows : List Row) → length rows ≡ length asks
-    → All (λ pair. IsGood plan d pair.0 pair.1) (zip asks rows) → All (λ asked. IsUtf8 asked.text) asks → All (λ row. IsUtf8 row.ask) rows
+    → All (λ pair. IsGood plan d pair.0 pair.1) (zip asks rows) → All (λ asked. IsUtf8 asked.text) asks
+    → All (λ row. IsUtf8 row.ask) rows
 rows_text plan d [] [] e good texts = All-nil (λ row. IsUtf8 row.ask)
 rows_text plan d [] (r ∷ rs) e good texts = absurd (omega (arith, e))
 rows_text plan d (a ∷ more) [] e good texts = All-nil (λ row. IsUtf8 row.ask)
@@ -184,13 +194,16 @@ rows_text plan d (a ∷ more) (r ∷ rs) e good texts =
     let here : IsGood plan d a r = All-head (λ pair. IsGood plan d pair.0 pair.1) (a, r) (zip more rs) good in
     let text : IsUtf8 a.text = All-head (λ asked. IsUtf8 asked.text) a more texts in
     All-cons (λ row. IsUtf8 row.ask) r rs (subst IsUtf8 (sym here.ask) text)
-    (rows_text plan d more rs (omega (arith, e)) (All-tail (λ pair. IsGood plan d pair.0 pair.1) (a, r) (zip more rs) good)
+    (rows_text plan d more rs (omega (arith, e))
+    (All-tail (λ pair. IsGood plan d pair.0 pair.1) (a, r) (zip more rs) good)
     (All-tail (λ asked. IsUtf8 asked.text) a more texts))
 
-pub answered_text : (plan : Plan) (settings : Settings) (report : Rows) → IsAnswered plan settings report → All (λ asked. IsUtf8 asked.text) settings.asks
+pub answered_text : (plan : Plan) (settings : Settings) (report : Rows) → IsAnswered plan settings report
+    → All (λ asked. IsUtf8 asked.text) settings.asks
     → AsksAreText report
 answered_text plan settings report (admitted, good) texts =
     rows_text plan settings.digits settings.asks report.rows good.as_many good.rows texts
 
-pub answered_digits : (plan : Plan) (settings : Settings) (report : Rows) → IsAnswered plan settings report → settings.digits ≤ 9 → report.digits ≤ 9
+pub answered_digits : (plan : Plan) (settings : Settings) (report : Rows) → IsAnswered plan settings report
+    → settings.digits ≤ 9 → report.digits ≤ 9
 answered_digits plan settings report (admitted, good) few = omega (arith, good.digits, few)

@@ -13,46 +13,40 @@ use Rattle.dl_plan.specs.declared.settings.Format.{Format}
 use Rattle.dl_plan.specs.declared.settings.Format.TheVariants.{Plain, Csv, Json}
 use Rattle.dl_plan.specs.Ranges.{IsBucket}
 use Rattle.dl_plan.specs.Valid.{IsValid}
-use Rattle.dl_words.specs.Plain.{IsPlainByte as IsPlainInWords}
+use Rattle.dl_plan.specs.Plain.{IsPlainByte}
 use Rattle.dl_words.proofs.PlainAsks.{asks_are_plain}
 use Rattle.dl_words.proofs.RangeLaws.{words_in_range}
 use Rattle.dl_report.specs.declared.report.Report.{Report}
 use Rattle.dl_report.specs.declared.report.Row.{Row}
-use Rattle.dl_report.specs.Plain.{IsPlainByte, IsPlain, IsInRange}
+use Rattle.dl_report.specs.Plain.{IsPlain, IsInRange}
 use Rattle.dl_report.proofs.RowLaws.{lines_told, records_told}
 use Rattle.dl_report.proofs.ObjectLaws.{reports_told}
 use Rattle.dl_eval.specs.Rows.{IsGood}
-use Rattle.dl_top.specs.Answers.{Asks, Means}
+use Rattle.dl_top.specs.Answers.{Asks, MeansPlan}
 use Rattle.dl_top.specs.Reports.{written}
 use Rattle.dl_top.specs.Told.{MayWrite, HoldsItsEnds}
 
-plain_bytes : (text : List ℕ) → All IsPlainInWords text → All IsPlainByte text
-plain_bytes [] h = All-nil IsPlainByte
-plain_bytes (b ∷ text) h =
-    let here : IsPlainInWords b = All-head IsPlainInWords b text h in
-    All-cons IsPlainByte b text
-    (record { above = here.above; quote_mark = here.quote_mark; comma = here.comma; backslash = here.backslash })
-    (plain_bytes text (All-tail IsPlainInWords b text h))
-
 abbrev IsPlainAsk : Asked → Type 0
-IsPlainAsk asked = All IsPlainInWords asked.text
+IsPlainAsk asked = All IsPlainByte asked.text
 
 abbrev HoldsEnds : Row → Type 0
 HoldsEnds row = IsInRange row.low × IsInRange row.high
 
 -- the rows of a good report over plain asks are plain
 plain_rows : (plan : Plan) (d : ℕ) (asks : List Asked) (rows : List Row) → length rows ≡ length asks
-    → All (λ pair. IsGood plan d pair.0 pair.1) (zip asks rows) → All IsPlainAsk asks → All HoldsEnds rows → All IsPlain rows
+    → All (λ pair. IsGood plan d pair.0 pair.1) (zip asks rows) → All IsPlainAsk asks → All HoldsEnds rows
+    → All IsPlain rows
 plain_rows plan d [] [] e good plain ends = All-nil IsPlain
 plain_rows plan d [] (r ∷ rs) e good plain ends = absurd (omega (arith, e))
 plain_rows plan d (a ∷ more) [] e good plain ends = All-nil IsPlain
 plain_rows plan d (a ∷ more) (r ∷ rs) e good plain ends =
     let here : IsGood plan d a r = All-head (λ pair. IsGood plan d pair.0 pair.1) (a, r) (zip more rs) good in
-    let text : All IsPlainByte a.text = plain_bytes a.text (All-head IsPlainAsk a more plain) in
+    let text : All IsPlainByte a.text = All-head IsPlainAsk a more plain in
     let both : HoldsEnds r = All-head HoldsEnds r rs ends in
     All-cons IsPlain r rs
     (record { ask = subst (All IsPlainByte) (sym here.ask) text; low = both.0; high = both.1 })
-    (plain_rows plan d more rs (omega (arith, e)) (All-tail (λ pair. IsGood plan d pair.0 pair.1) (a, r) (zip more rs) good)
+    (plain_rows plan d more rs (omega (arith, e))
+    (All-tail (λ pair. IsGood plan d pair.0 pair.1) (a, r) (zip more rs) good)
     (All-tail IsPlainAsk a more plain) (All-tail HoldsEnds r rs ends))
 
 written_plain : (words : List (List ℕ)) (input : List ℕ) (settings : Settings) (plan : Plan) (report : Report)
@@ -74,15 +68,20 @@ few_cells plan valid = few valid.cells.0 valid.cells.2 valid.cells.3
         let most : 2 ^ k ≤ 2 ^ 12 = pow-le-pow_right {n = 2} (omega (arith)) {i = k} {j = 12} small in
         omega (arith, most, e)
 
-by_form : (format : Format) (plan : Plan) (a b : Report) → FitsFrac plan.bs → plan.cells < 2 ^ 32 → All IsPlain a.rows → All IsPlain b.rows
+by_form : (format : Format) (plan : Plan) (a b : Report) → FitsFrac plan.bs → plan.cells < 2 ^ 32 → All IsPlain a.rows
+    → All IsPlain b.rows
     → written format plan a ≡ written format plan b → a.rows ≡ b.rows
 by_form Plain plan a b f c p q same = lines_told a.digits b.digits a.rows b.rows p q same
 by_form Csv plan a b f c p q same =
     records_told a.digits b.digits a.rows b.rows p q (append_cancel_left (codes "ask,low,high\n") _ _ same)
 by_form Json plan a b f c p q same = reports_told a b plan.bs plan.bs plan.cells plan.cells f f c c p q same
 
-pub rows_told : (words : List (List ℕ)) (input : List ℕ) (settings : Settings) (plan : Plan) (a b : Report) → MayWrite words input settings plan a
-    → MayWrite words input settings plan b → written settings.format plan a ≡ written settings.format plan b → a.rows ≡ b.rows
+pub rows_told : (words : List (List ℕ)) (input : List ℕ) (settings : Settings) (plan : Plan) (a b : Report)
+    → MayWrite words input settings plan a
+    → MayWrite words input settings plan b → written settings.format plan a ≡ written settings.format plan b
+    → a.rows ≡ b.rows
 rows_told words input settings plan a b x y =
-    by_form settings.format plan a b (fits plan settings (words_in_range words settings x.asks.say).bucket x.means.planned.bucket)
-    (few_cells plan x.means.valid) (written_plain words input settings plan a x) (written_plain words input settings plan b y)
+    by_form settings.format plan a b (fits plan settings
+    (words_in_range words settings x.asks.say).bucket x.means.planned.bucket)
+    (few_cells plan x.means.valid) (written_plain words input settings plan a x)
+    (written_plain words input settings plan b y)

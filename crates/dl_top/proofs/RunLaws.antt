@@ -1,8 +1,8 @@
 -- What a call leaves behind once the text of a fault was written, whole or in part.
 use Rattle.std.proofs.Common.{ℕ, ◌≡◌, List, [], Option, None, Some, arith, refl, sym}
-use Rattle.std.proofs.lemmas.List.{append-nil}
 use Rattle.std.specs.Io.KnownBytes.{Appends}
 use Rattle.dl_outside.specs.Bytes.{AppendsPartOf}
+use Rattle.dl_outside.proofs.Appended.{appends_nothing}
 use Rattle.dl_lexer.specs.declared.token.Token.{Token}
 use Rattle.dl_words.specs.declared.fault.UsageFault.{UsageFault}
 use Rattle.dl_top.specs.declared.status.Status.{Status}
@@ -15,19 +15,19 @@ use Rattle.dl_top.specs.Answers.{Answers, Refuses, IsAccepted, HasForm, refused}
 use Rattle.dl_top.specs.Runs.{Answered, PartOfMessage}
 use Rattle.dl_top.proofs.ReplyLaws.{accepted, has_form}
 
-appends_nothing : (held : Option (List ℕ)) → Appends held held []
-appends_nothing None = tt
-appends_nothing (Some bytes) = sym (append-nil bytes)
-
 -- the fault that a text was made of
 abbrev pub IsTold : List (List ℕ) → List ℕ → Fault → List ℕ → Type 0
-IsTold words input fault text = (tokens : List Token) × Refuses words input fault tokens × (text ≡ fault_line fault input tokens)
+IsTold words input fault text = (tokens : List Token) × Refuses words input fault tokens
+    × (text ≡ fault_line fault input tokens)
 
-told_answer : (words : List (List ℕ)) (input : List ℕ) (fault : Fault) (text : List ℕ) → IsTold words input fault text → Answers words input (status_of fault) [] text
+told_answer : (words : List (List ℕ)) (input : List ℕ) (fault : Fault) (text : List ℕ) → IsTold words input fault text
+    → Answers words input (status_of fault) [] text
 told_answer words input fault text (tokens, refuses, is) = rw is (refused fault tokens refuses)
 
-pub message : (words : List (List ℕ)) (input : List ℕ) (fault : Fault) (text : List ℕ) (status : Status) (out err err' : Option (List ℕ))
-    → IsTold words input fault text → status ≡ status_of fault → Appends err err' text → Answered words input status out out err err'
+pub message : (words : List (List ℕ)) (input : List ℕ) (fault : Fault) (text : List ℕ) (status : Status)
+    (out err err' : Option (List ℕ))
+    → IsTold words input fault text → status ≡ status_of fault → Appends err err' text
+    → Answered words input status out out err err'
 message words input fault text status out err err' is e gains = record {
   report = [];
   message = text;
@@ -60,8 +60,10 @@ usage_of_status (AskBeyond i) e = absurd (grind (arith, e))
 usage_of_status (UnknownUnit i) e = absurd (grind (arith, e))
 usage_of_status (TooWide i width) e = absurd (grind (arith, e))
 
-pub part : (words : List (List ℕ)) (input : List ℕ) (fault : Fault) (text : List ℕ) (err err' : Option (List ℕ)) {ReadFailed : Type 0}
-    → IsTold words input fault text → (fault ≡ Read → ReadFailed) → AppendsPartOf err err' text → PartOfMessage words input ReadFailed err err'
+pub part : (words : List (List ℕ)) (input : List ℕ) (fault : Fault) (text : List ℕ)
+    (err err' : Option (List ℕ)) {ReadFailed : Type 0}
+    → IsTold words input fault text → (fault ≡ Read → ReadFailed) → AppendsPartOf err err' text
+    → PartOfMessage words input ReadFailed err err'
 part words input fault text err err' is read gains = record {
   status = status_of fault;
   message = text;
@@ -71,14 +73,16 @@ part words input fault text err err' is read gains = record {
 }
 
 -- an accepted text ends well
-pub ends_well : (words : List (List ℕ)) (input : List ℕ) (fault : Fault) (text : List ℕ) (status : Status) → IsTold words input fault text → status ≡ status_of fault
+pub ends_well : (words : List (List ℕ)) (input : List ℕ) (fault : Fault) (text : List ℕ) (status : Status)
+    → IsTold words input fault text → status ≡ status_of fault
     → IsAccepted words input → IsAnswerEnd status
 ends_well words input fault text status (tokens, refuses, is) e a =
     let read : fault ≡ Read = accepted words input fault tokens a refuses in
     rw (e, read) tt
 
 -- and so does a text whose canonical form is wanted
-pub ends_formatted : (words : List (List ℕ)) (input : List ℕ) (fault : Fault) (text : List ℕ) (status : Status) → IsTold words input fault text → status ≡ status_of fault
+pub ends_formatted : (words : List (List ℕ)) (input : List ℕ) (fault : Fault) (text : List ℕ) (status : Status)
+    → IsTold words input fault text → status ≡ status_of fault
     → HasForm words input → IsAnswerEnd status
 ends_formatted words input fault text status (tokens, refuses, is) e a =
     let read : fault ≡ Read = has_form words input fault tokens a refuses in

@@ -1,5 +1,6 @@
 -- What the program answers to words and an input: how it ends, and what it writes.
 use Rattle.std.specs.Prelude.{◌≡◌, ℕ, ◌<◌, ◌≤◌, List, [], length, Err, Some, None}
+use Rattle.dl_limits.specs.Limits.{most_text}
 use Rattle.dl_lexer.specs.declared.token.Token.{Token}
 use Rattle.dl_lexer.specs.Cutting.{Covers, IsBad}
 use Rattle.dl_ast.specs.declared.ast.Program.{Program}
@@ -20,7 +21,7 @@ use Rattle.dl_types.specs.Plans.{IsPlanOf}
 use Rattle.dl_report.specs.declared.report.Report.{Report}
 use Rattle.dl_eval.specs.declared.fault.EvalFault.{EvalFault}
 use Rattle.dl_eval.specs.declared.fault.EvalFault.TheVariants as evals
-use Rattle.dl_eval.specs.Answers.{IsAnswered, AreAdmitted, Refuses as RefusesAsks}
+use Rattle.dl_eval.specs.Answers.{IsAnswered, AreAdmitted, RefusesAsk as RefusesAsks}
 use Rattle.dl_top.specs.declared.status.Status.{Status}
 use Rattle.dl_top.specs.declared.status.Status.TheVariants as statuses
 use Rattle.dl_top.specs.declared.fault.Fault.{Fault}
@@ -41,7 +42,7 @@ pub record Formats (words : List (List ℕ)) (settings : Settings) : Type 0 wher
 
 -- the text is not too long, and these are its tokens
 pub record HasTokens (input : List ℕ) (tokens : List Token) : Type 0 where
-  pub fits : length input ≤ 1048576
+  pub fits : length input ≤ most_text
   pub covered : Covers input (length input) tokens
 
 -- the text spells this program
@@ -51,7 +52,7 @@ pub record SpellsProgram (input : List ℕ) (p : Program) : Type 0 where
   pub spelled : Spells program p (lexemes input tokens)
 
 -- the text spells a program that breaks no rule, and means this plan
-pub record Means (input : List ℕ) (settings : Settings) (plan : Plan) : Type 0 where
+pub record MeansPlan (input : List ℕ) (settings : Settings) (plan : Plan) : Type 0 where
   pub program : Program
   pub spells : SpellsProgram input program
   pub faultless : first_fault program settings ≡ None
@@ -65,41 +66,55 @@ of_asks (evals.UnknownUnit i) fault = fault ≡ faults.UnknownUnit i
 of_asks (evals.TooWide i width) fault = fault ≡ faults.TooWide i width
 of_asks evals.OutOfMemory fault = ⊥
 
--- Why nothing that was asked for is written, and the tokens in which the fault has its place. A fault of the words comes first, then
--- one of the text's length, bytes, tokens and syntax. Only words that ask go on to the rules, and then to the asks. Where the words
--- name no seed, a failed read may come instead of any fault behind those of the words; the contract of `run` says with which cause.
+-- Why nothing that was asked for is written, and the tokens in which the fault has its place. A
+-- fault of the words comes first, then one of the text's length, bytes, tokens and syntax. Only
+-- words that ask go on to the rules, and then to the asks. Where the words name no seed, a failed
+-- read may come instead of any fault behind those of the words; the contract of `run` says with
+-- which cause.
 pub data Refuses (words : List (List ℕ)) (input : List ℕ) : Fault → List Token → Type 0 where
-  usage : (fault : UsageFault) → words_of words ≡ Err fault → Refuses words input (faults.Usage fault) []
-  not_read : (settings : Settings) → Say words settings → settings.make ≡ None → Refuses words input faults.Read []
-  too_long : (settings : Settings) → Say words settings → 1048576 < length input → Refuses words input faults.TooLong []
-  bad_byte : (settings : Settings) → Say words settings → (at : ℕ) → length input ≤ 1048576 → IsBad input at → Refuses words input (faults.BadByte at) []
-  continuous : (settings : Settings) → Say words settings → (tokens : List Token) (k : ℕ) → HasTokens input tokens → Stops (lexemes input tokens) k
+  usage : (fault : UsageFault) → words_of words ≡ Err fault
+      → Refuses words input (faults.Usage fault) []
+  not_read : (settings : Settings) → Say words settings → settings.make ≡ None
+      → Refuses words input faults.Read []
+  too_long : (settings : Settings) → Say words settings → most_text < length input
+      → Refuses words input faults.TooLong []
+  bad_byte : (settings : Settings) → Say words settings → (at : ℕ) → length input ≤ most_text
+      → IsBad input at → Refuses words input (faults.BadByte at) []
+  continuous : (settings : Settings) → Say words settings → (tokens : List Token) (k : ℕ)
+      → HasTokens input tokens → Stops (lexemes input tokens) k
       → IsContinuous (lexemes input tokens) k → Refuses words input (faults.Continuous k) tokens
-  syntax : (settings : Settings) → Say words settings → (tokens : List Token) (k : ℕ) → HasTokens input tokens → Stops (lexemes input tokens) k
+  syntax : (settings : Settings) → Say words settings → (tokens : List Token) (k : ℕ)
+      → HasTokens input tokens → Stops (lexemes input tokens) k
       → ¬ IsContinuous (lexemes input tokens) k → Refuses words input (faults.Syntax k) tokens
-  typing : (settings : Settings) → Asks words settings → (p : Program) → SpellsProgram input p → (fault : TypeFault)
+  typing : (settings : Settings) → Asks words settings → (p : Program) → SpellsProgram input p
+      → (fault : TypeFault)
       → first_fault p settings ≡ Some fault → Refuses words input (faults.Typing fault) []
-  asking : (settings : Settings) → Asks words settings → (plan : Plan) → Means input settings plan → (of : EvalFault) (fault : Fault) → of_asks of fault
+  asking : (settings : Settings) → Asks words settings → (plan : Plan)
+      → MeansPlan input settings plan → (of : EvalFault) (fault : Fault) → of_asks of fault
       → RefusesAsks plan settings of → Refuses words input fault []
 
--- How the program ends, what it writes to the output, and what it writes of a fault. The output gains a canonical text or a report.
+-- How the program ends, what it writes to the output, and what it writes of a fault. The output
+-- gains a canonical text or a report.
 pub data Answers (words : List (List ℕ)) (input : List ℕ) : Status → List ℕ → List ℕ → Type 0 where
   refused : (fault : Fault) (tokens : List Token) → Refuses words input fault tokens
       → Answers words input (status_of fault) [] (fault_line fault input tokens)
   formatted : (settings : Settings) → Formats words settings → (p : Program) → SpellsProgram input p
       → Answers words input statuses.Done (canonical p) []
-  reported : (settings : Settings) (plan : Plan) (report : Report) → Asks words settings → Means input settings plan → IsAnswered plan settings report
+  reported : (settings : Settings) (plan : Plan) (report : Report) → Asks words settings
+      → MeansPlan input settings plan → IsAnswered plan settings report
       → Answers words input statuses.Done (written settings.format plan report) []
 
--- The words ask, the text spells a program that breaks no rule, and each ask is admitted, whichever way the plan is written: inside
--- the grid, of a unit that is there, and no narrower than the width rule lets it be.
+-- The words ask, the text spells a program that breaks no rule, and each ask is admitted, whichever
+-- way the plan is written: inside the grid, of a unit that is there, and no narrower than the width
+-- rule lets it be.
 pub record IsAccepted (words : List (List ℕ)) (input : List ℕ) : Type 0 where
   pub settings : Settings
   pub asks : Asks words settings
   pub program : Program
   pub spells : SpellsProgram input program
   pub faultless : first_fault program settings ≡ None
-  pub admitted : (plan : Plan) → IsPlanOf program settings plan → IsValid plan → AreAdmitted plan settings
+  pub admitted : (plan : Plan) → IsPlanOf program settings plan → IsValid plan
+      → AreAdmitted plan settings
 
 -- the words want the canonical form, and the text spells a program, which may break a rule
 pub record HasForm (words : List (List ℕ)) (input : List ℕ) : Type 0 where

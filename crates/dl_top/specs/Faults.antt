@@ -28,7 +28,8 @@ status_of (TooWide i width) = statuses.TooWide
 
 -- the line and the column of a place
 abbrev pub place_text : List ℕ → ℕ → List ℕ
-place_text source at = decimal (line_of source at) ++ codes ":" ++ decimal (column_of source at) ++ codes ": "
+place_text source at = decimal (line_of source at) ++ codes ":" ++ decimal (column_of source at)
+    ++ codes ": "
 
 -- where a token starts; past the last one, where the text ends
 abbrev pub token_start : List ℕ → Option Token → ℕ
@@ -51,7 +52,8 @@ usage_text (usage.Ask i) = ask_text i ++ codes "not an ask"
 -- the place, the unit, and the rule by its number and its name
 abbrev pub typing_text : TypeFault → List ℕ → List ℕ
 typing_text fault source =
-    place_text source fault.span.start ++ codes "unit " ++ decimal fault.unit ++ codes ": rule " ++ decimal (rule_number fault.rule) ++ codes " "
+    place_text source fault.span.start ++ codes "unit " ++ decimal fault.unit ++ codes ": rule "
+    ++ decimal (rule_number fault.rule) ++ codes " "
     ++ rule_name fault.rule
 
 -- what is wrong, in a text with these tokens
@@ -60,8 +62,10 @@ reason (Usage fault) source tokens = usage_text fault
 reason Read source tokens = codes "the input could not be read"
 reason TooLong source tokens = codes "the input has more than 1048576 bytes"
 reason (BadByte at) source tokens = place_text source at ++ codes "no token begins here"
-reason (Syntax k) source tokens = place_text source (token_start source (slice_get tokens k)) ++ codes "syntax"
-reason (Continuous k) source tokens = place_text source (token_start source (slice_get tokens k)) ++ codes "continuous severity " ++ token_text source (slice_get tokens k)
+reason (Syntax k) source tokens = place_text source (token_start source (slice_get tokens k))
+    ++ codes "syntax"
+reason (Continuous k) source tokens = place_text source (token_start source (slice_get tokens k))
+    ++ codes "continuous severity " ++ token_text source (slice_get tokens k)
 reason (Typing fault) source tokens = typing_text fault source
 reason (AskBeyond i) source tokens = ask_text i ++ codes "beyond the grid"
 reason (UnknownUnit i) source tokens = ask_text i ++ codes "no such unit"
@@ -74,12 +78,4 @@ fault_line fault source tokens = codes "decl: " ++ reason fault source tokens ++
 -- the place of a bad byte lies in the text
 abbrev pub HasPlace : Fault → List ℕ → Type 0
 HasPlace (BadByte at) source = at ≤ length source
-HasPlace (Usage fault) source = ⊤
-HasPlace Read source = ⊤
-HasPlace TooLong source = ⊤
-HasPlace (Syntax k) source = ⊤
-HasPlace (Continuous k) source = ⊤
-HasPlace (Typing fault) source = ⊤
-HasPlace (AskBeyond i) source = ⊤
-HasPlace (UnknownUnit i) source = ⊤
-HasPlace (TooWide i width) source = ⊤
+HasPlace fault source = ⊤

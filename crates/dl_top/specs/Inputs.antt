@@ -31,10 +31,11 @@ abbrev pub text_for : Option ℕ → Option (List ℕ) → Option (List ℕ)
 text_for (Some seed) left = Some (made_of seed)
 text_for None left = left
 
-abbrev pub text_of : Result Settings UsageFault → Option (List ℕ) → Option (List ℕ)
-text_of (Ok settings) left = text_for settings.make left
-text_of (Err fault) left = left
+abbrev pub text_by : Result Settings UsageFault → Option (List ℕ) → Option (List ℕ)
+text_by (Ok settings) left = text_for settings.make left
+text_by (Err fault) left = left
 
--- the text that the words are about: a made program where they name a seed, else what the source has left, where it tells that
+-- the text that the words are about: a made program where they name a seed, else what the source
+-- has left, where it tells that
 unfoldable pub input_of : List (List ℕ) → Option (List ℕ) → Option (List ℕ)
-input_of words left = text_of (words_of words) left
+input_of words left = text_by (words_of words) left

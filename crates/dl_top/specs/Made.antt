@@ -29,7 +29,8 @@ claims_text i claims = codes "agg U" ++ decimal i ++ codes " " ++ decimal claims
 
 abbrev pub unit_text : ℕ → ℕ → ℕ → List ℕ
 unit_text i claims greatest =
-    claims_text i claims ++ codes "dsev [1:" ++ decimal greatest ++ codes "] " ++ frequency i ++ codes "\n"
+    claims_text i claims ++ codes "dsev [1:" ++ decimal greatest ++ codes "] " ++ frequency i
+    ++ codes "\n"
 
 -- the line of the unit behind k others: of its two draws the first is for the claims
 abbrev pub unit_line : ℕ → ℕ → List ℕ

@@ -13,13 +13,15 @@ use Rattle.dl_top.specs.Answers.{Answers, Refuses}
 -- the reply is what the program answers to the words and the input, unless memory ran out
 abbrev pub IsReply : List (List ℕ) → List ℕ → Reply → Type 0
 IsReply words input (Answer text) = Answers words input statuses.Done text.items []
-IsReply words input (Refusal fault text) = (tokens : List Token) × Refuses words input fault tokens × (text.items ≡ fault_line fault input tokens)
+IsReply words input (Refusal fault text) = (tokens : List Token) × Refuses words input fault tokens
+    × (text.items ≡ fault_line fault input tokens)
 IsReply words input OutOfMemory = ⊤
 
 -- the reply is a refusal for this fault, with its text, unless memory ran out
 abbrev pub Tells : Reply → Fault → List ℕ → List Token → Type 0
 Tells (Answer text) fault source tokens = ⊥
-Tells (Refusal f text) fault source tokens = (f ≡ fault) × (text.items ≡ fault_line fault source tokens)
+Tells (Refusal f text) fault source tokens = (f ≡ fault)
+    × (text.items ≡ fault_line fault source tokens)
 Tells OutOfMemory fault source tokens = ⊤
 
 -- a refusal because a read failed

@@ -4,11 +4,11 @@ use Rattle.dl_plan.specs.declared.settings.Format.{Format}
 use Rattle.dl_plan.specs.declared.settings.Format.TheVariants.{Plain, Csv, Json}
 use Rattle.dl_plan.specs.declared.plan.Plan.{Plan}
 use Rattle.dl_report.specs.declared.report.Report.{Report}
-use Rattle.dl_report.specs.Lines.{text_of}
+use Rattle.dl_report.specs.Lines.{lines_of}
 use Rattle.dl_report.specs.Records.{csv_of}
 use Rattle.dl_report.specs.Objects.{json_of}
 
 abbrev pub written : Format → Plan → Report → List ℕ
-written Plain plan report = text_of report
+written Plain plan report = lines_of report
 written Csv plan report = csv_of report
 written Json plan report = json_of report plan.bs plan.cells

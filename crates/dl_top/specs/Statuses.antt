@@ -16,44 +16,26 @@ code_of AskFault = 8
 
 -- a canonical text, a report or the text of a fault was written whole
 abbrev pub IsWritten : Status → Type 0
-IsWritten Done = ⊤
-IsWritten Usage = ⊤
-IsWritten Refused = ⊤
-IsWritten TooWide = ⊤
-IsWritten ReadFault = ⊤
 IsWritten WriteFault = ⊥
 IsWritten OutOfMemory = ⊥
-IsWritten AskFault = ⊤
+IsWritten status = ⊤
 
 -- the text of a fault was written whole
 abbrev pub IsRefusal : Status → Type 0
 IsRefusal Done = ⊥
-IsRefusal Usage = ⊤
-IsRefusal Refused = ⊤
-IsRefusal TooWide = ⊤
-IsRefusal ReadFault = ⊤
-IsRefusal WriteFault = ⊥
-IsRefusal OutOfMemory = ⊥
-IsRefusal AskFault = ⊤
+IsRefusal status = IsWritten status
 
 -- the words were not understood, unless the fault's text could not be made or written
 abbrev pub IsUsageEnd : Status → Type 0
-IsUsageEnd Done = ⊥
 IsUsageEnd Usage = ⊤
-IsUsageEnd Refused = ⊥
-IsUsageEnd TooWide = ⊥
-IsUsageEnd ReadFault = ⊥
 IsUsageEnd WriteFault = ⊤
 IsUsageEnd OutOfMemory = ⊤
-IsUsageEnd AskFault = ⊥
+IsUsageEnd status = ⊥
 
 -- neither the words, nor the text, nor the asks were at fault
 abbrev pub IsAnswerEnd : Status → Type 0
-IsAnswerEnd Done = ⊤
 IsAnswerEnd Usage = ⊥
 IsAnswerEnd Refused = ⊥
 IsAnswerEnd TooWide = ⊥
-IsAnswerEnd ReadFault = ⊤
-IsAnswerEnd WriteFault = ⊤
-IsAnswerEnd OutOfMemory = ⊤
 IsAnswerEnd AskFault = ⊥
+IsAnswerEnd status = ⊤

@@ -2,6 +2,7 @@
 
 ghost use Rattle.std.specs.Prelude.{◌≡◌, ◌≤◌, ◌++◌, IfOk, OnOk, length, slice_get, codes};
 ghost use Rattle.std.specs.Fmt.{decimal};
+ghost use Rattle.dl_limits.specs.Limits.{most_text};
 ghost use Rattle.dl_parser.specs.Placed.{AllInside};
 ghost use Rattle.dl_top.specs.Faults.{status_of, fault_line, place_text, token_start, token_text, ask_text, usage_text, typing_text, reason, HasPlace};
 
@@ -53,7 +54,7 @@ impl Fault {
 
 /// Where token `k` starts; past the last one, where the text ends.
 fn start_of(source: &[u8], tokens: &[Token], k: u32) -> u32
-    requires short { length source.now ≤ 1048576 }
+    requires short { length source.now ≤ most_text }
     requires inside { AllInside source.now tokens.now }
     ensures start { result ≡ token_start source.now (slice_get tokens.now k) }
     ensures within { result ≤ length source.now }
@@ -66,7 +67,7 @@ fn start_of(source: &[u8], tokens: &[Token], k: u32) -> u32
 
 /// Appends the line and the column of a place.
 fn push_place(alloc: Global, text: &mut Vec<u8>, source: &[u8], at: u32) -> Result<(), AllocError>
-    requires short { length source.now ≤ 1048576 }
+    requires short { length source.now ≤ most_text }
     requires within { at ≤ length source.now }
     ensures { OnOk result (text.new.items ≡ text.old.items ++ place_text source.now at) }
 {
@@ -80,7 +81,8 @@ fn push_place(alloc: Global, text: &mut Vec<u8>, source: &[u8], at: u32) -> Resu
 /// Appends the bytes of token `k`; none past the last one.
 fn push_token(text: &mut Vec<u8>, source: &[u8], tokens: &[Token], k: u32) -> Result<(), AllocError>
     requires inside { AllInside source.now tokens.now }
-    ensures { OnOk result (text.new.items ≡ text.old.items ++ token_text source.now (slice_get tokens.now k)) }
+    ensures { OnOk result (text.new.items ≡ text.old.items ++ token_text source.now
+        (slice_get tokens.now k)) }
 {
     match tokens.get(k as usize) {
         Some(token) => {
@@ -119,7 +121,7 @@ fn push_typing(
     source: &[u8],
     typing: TypeFault,
 ) -> Result<(), AllocError>
-    requires short { length source.now ≤ 1048576 }
+    requires short { length source.now ≤ most_text }
     ensures { OnOk result (text.new.items ≡ text.old.items ++ typing_text typing source.now) }
 {
     // a place past the end is the end, and has its line and column
@@ -139,7 +141,8 @@ fn push_typing(
 
 /// Appends the width that an ask needs.
 fn push_width(alloc: Global, text: &mut Vec<u8>, ask: u32, width: u128) -> Result<(), AllocError>
-    ensures { OnOk result (text.new.items ≡ text.old.items ++ ask_text ask ++ codes "needs width " ++ decimal width) }
+    ensures { OnOk result (text.new.items ≡ text.old.items ++ ask_text ask ++ codes "needs width "
+        ++ decimal width) }
 {
     push_ask(alloc, text, ask)?;
     text.extend_from_slice(b"needs width ")?;
@@ -154,7 +157,7 @@ fn push_reason(
     source: &[u8],
     tokens: &[Token],
 ) -> Result<(), AllocError>
-    requires short { length source.now ≤ 1048576 }
+    requires short { length source.now ≤ most_text }
     requires place { HasPlace fault source.now }
     requires inside { AllInside source.now tokens.now }
     ensures { OnOk result (text.new.items ≡ text.old.items ++ reason fault source.now tokens.now) }
@@ -197,7 +200,7 @@ pub fn fault_text(
     source: &[u8],
     tokens: &[Token],
 ) -> Result<Vec<u8>, AllocError>
-    requires short { length source.now ≤ 1048576 }
+    requires short { length source.now ≤ most_text }
     requires place { HasPlace fault.now source.now }
     requires inside { AllInside source.now tokens.now }
     ensures { IfOk result (λ text. text.items ≡ fault_line fault.now source.now tokens.now) }

@@ -1,5 +1,5 @@
-//! Whole calls whose objects fail at each call in turn, and texts that end anywhere. The values were
-//! worked apart from the program.
+//! Whole calls whose objects fail at each call in turn, and texts that end anywhere. The values
+//! were worked apart from the program.
 
 use super::*;
 use crate::tests::{DIE, Objects, STEADY, call};
@@ -73,8 +73,8 @@ struct Due<'a> {
     message: &'a [u8],
 }
 
-/// What is due where an object fails after `moved` bytes went through it, if the call comes so far: it
-/// has its own answer else.
+/// What is due where an object fails after `moved` bytes went through it, if the call comes so far:
+/// it has its own answer else.
 fn due_of<'a>(failing: Object, moved: usize, input: &[u8], own: Due<'a>) -> Due<'a> {
     let none: &'a [u8] = b"";
     match failing {

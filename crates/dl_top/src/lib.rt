@@ -1,9 +1,9 @@
 //! The top call: from the words and the bytes read to the bytes written.
 //!
 //! [`run`] answers the asks of its words about one program, or writes that program in its canonical
-//! form. The program is what the source has left, or one that is [`made`]. Everything that is written
-//! is made in memory first, and goes to one of two sinks: what was asked for to the one, the text of a
-//! fault to the other.
+//! form. The program is what the source has left, or one that is [`made`]. Everything that is
+//! written is made in memory first, and goes to one of two sinks: what was asked for to the one,
+//! the text of a fault to the other.
 #![tactic(auto)]
 
 mod fault;
@@ -11,16 +11,15 @@ mod generator;
 #[cfg(test)]
 mod hostile;
 mod law;
-#[cfg(test)]
-mod made_tests;
 mod reply;
 mod status;
 #[cfg(test)]
 mod tests;
 
-ghost use Rattle.std.specs.Prelude.{◌≡◌, ◌≢◌, ◌⊎◌, ℕ, List, [], Err, IfSome, map};
+ghost use Rattle.std.specs.Prelude.{◌≡◌, ◌≢◌, ◌+◌, ◌⊎◌, ℕ, List, [], Err, IfSome, map};
 ghost use Rattle.std.specs.Io.KnownBytes.{Appends};
 ghost use Rattle.std.specs.String.{string_bytes};
+ghost use Rattle.dl_limits.specs.Limits.{most_text};
 ghost use Rattle.dl_outside.specs.Faults.{Rose};
 ghost use Rattle.dl_outside.specs.Bytes.{TakesAtMost, AppendsPartOf};
 ghost use Rattle.dl_words.specs.declared.fault.UsageFault.{UsageFault};
@@ -48,12 +47,14 @@ pub fn run<R: Source, O: Sink, E: Sink>(
     out: &mut O,
     err: &mut E,
 ) -> Status
-    // What is written is the answer to the words and the input, where the words make it or the source
-    // tells its bytes: a report in which each interval holds the declared value, each bracket the
-    // declared quantile, and each is as narrow as asked; or the canonical text; or the first fault,
-    // with the width that is needed where that is it.
-    ensures answer { IfSome (input_of (map string_bytes words.now) (R.left src.old)) (λ input. IsWritten result →
-        Answered (map string_bytes words.now) input result (O.held out.old) (O.held out.new) (E.held err.old) (E.held err.new)) }
+    // What is written is the answer to the words and the input, where the words make it or the
+    // source tells its bytes: a report in which each interval holds the declared value, each
+    // bracket the declared quantile, and each is as narrow as asked; or the canonical text; or the
+    // first fault, with the width that is needed where that is it.
+    ensures answer { IfSome (input_of (map string_bytes words.now) (R.left src.old))
+        (λ input. IsWritten result →
+        Answered (map string_bytes words.now) input result
+        (O.held out.old) (O.held out.new) (E.held err.old) (E.held err.new)) }
 
     // Words that ask, and a program that breaks no rule and admits the asks, end in a report.
     ensures complete { IfSome (input_of (map string_bytes words.now) (R.left src.old)) (λ input.
@@ -68,19 +69,23 @@ pub fn run<R: Source, O: Sink, E: Sink>(
     ensures refused { IsRefusal result → out.new ≡ out.old }
     ensures memory { result ≡ Status.OutOfMemory → (out.new ≡ out.old) × (err.new ≡ err.old) }
 
-    // A fault of the words comes from the words alone, and the source is not read. Its text is told,
-    // whole, or in part where the write failed.
+    // A fault of the words comes from the words alone, and the source is not read. Its text is
+    // told, whole, or in part where the write failed.
     ensures usage { result ≡ Status.Usage → HasFault (map string_bytes words.now) }
-    ensures unread { HasFault (map string_bytes words.now) → IsUsageEnd result × (src.new ≡ src.old) }
-    ensures usage_text { (fault : UsageFault) → words_of (map string_bytes words.now) ≡ Err fault → result ≡ Status.Usage
+    ensures unread { HasFault (map string_bytes words.now)
+        → IsUsageEnd result × (src.new ≡ src.old) }
+    ensures usage_text { (fault : UsageFault) → words_of (map string_bytes words.now) ≡ Err fault
+        → result ≡ Status.Usage
         → Appends (E.held err.old) (E.held err.new) (fault_line (Fault.Usage fault) [] []) }
-    ensures usage_part { (fault : UsageFault) → words_of (map string_bytes words.now) ≡ Err fault → result ≡ Status.WriteFault
+    ensures usage_part { (fault : UsageFault) → words_of (map string_bytes words.now) ≡ Err fault
+        → result ≡ Status.WriteFault
         → AppendsPartOf (E.held err.old) (E.held err.new) (fault_line (Fault.Usage fault) [] []) }
 
-    // Where a program is made the source is not read. Of a longer input than an input may be, one byte
-    // more is taken.
-    ensures made { MakeText (map string_bytes words.now) → (src.new ≡ src.old) × (result ≢ Status.ReadFault) }
-    ensures taken { TakesAtMost (R.left src.old) (R.left src.new) 1048577 }
+    // Where a program is made the source is not read. Of a longer input than an input may be, one
+    // byte more is taken.
+    ensures made { MakeText (map string_bytes words.now)
+        → (src.new ≡ src.old) × (result ≢ Status.ReadFault) }
+    ensures taken { TakesAtMost (R.left src.old) (R.left src.new) (most_text + 1) }
 
     // A failed read has its cause, and is told.
     ensures read_cause { result ≡ Status.ReadFault → Rose (R.faults src.old) (R.faults src.new) }
@@ -88,14 +93,16 @@ pub fn run<R: Source, O: Sink, E: Sink>(
     ensures read_text { result ≡ Status.ReadFault →
         Appends (E.held err.old) (E.held err.new) (fault_line Fault.Read [] []) }
 
-    // A failed write has its cause: one sink holds a part of the answer, and the other is as it was.
+    // A failed write has its cause: one sink holds a part of the answer, and the other is as it
+    // was.
     ensures write_cause { result ≡ Status.WriteFault →
         (Rose (O.faults out.old) (O.faults out.new) × (err.new ≡ err.old)
         × IfSome (input_of (map string_bytes words.now) (R.left src.old)) (λ input.
         PartOfReport (map string_bytes words.now) input (O.held out.old) (O.held out.new)))
         ⊎ (Rose (E.faults err.old) (E.faults err.new) × (out.new ≡ out.old)
         × IfSome (input_of (map string_bytes words.now) (R.left src.old)) (λ input.
-        PartOfMessage (map string_bytes words.now) input (Rose (R.faults src.old) (R.faults src.new)) (E.held err.old) (E.held err.new))) }
+        PartOfMessage (map string_bytes words.now) input
+        (Rose (R.faults src.old) (R.faults src.new)) (E.held err.old) (E.held err.new))) }
 {
     match reply_to(alloc, words, src) {
         Reply::Answer(text) => match write_all(out, text.as_slice()) {

@@ -1,7 +1,8 @@
 //! What is answered, before any of it is written.
 
-ghost use Rattle.std.specs.Prelude.{◌≡◌, ℕ, ◌≤◌, List, [], None, All, Err, IsUtf8, IfSome, IfOk, map, length};
+ghost use Rattle.std.specs.Prelude.{◌≡◌, ℕ, ◌+◌, ◌≤◌, List, [], None, All, Err, IsUtf8, IfSome, IfOk, map, length};
 ghost use Rattle.std.specs.String.{string_bytes};
+ghost use Rattle.dl_limits.specs.Limits.{most_digits, most_text};
 ghost use Rattle.dl_outside.specs.Faults.{Rose};
 ghost use Rattle.dl_outside.specs.Bytes.{TakesAtMost};
 ghost use Rattle.dl_ast.specs.WellFormed.{IsWellFormed};
@@ -15,7 +16,7 @@ ghost use Rattle.dl_top.specs.Faults.{HasPlace};
 ghost use Rattle.dl_top.specs.Made.{made_of};
 ghost use Rattle.dl_top.specs.Inputs.{Say, HasFault, MakeText, ReadText, input_of};
 ghost use Rattle.dl_top.specs.Reports.{written};
-ghost use Rattle.dl_top.specs.Answers.{Asks, Formats, HasTokens, SpellsProgram, Means};
+ghost use Rattle.dl_top.specs.Answers.{Asks, Formats, HasTokens, SpellsProgram, MeansPlan};
 ghost use Rattle.dl_top.specs.Replies.{IsReply, Tells, IsUsage, IsReadFault, IsOfText};
 
 use crate::fault::{Fault, fault_text};
@@ -23,6 +24,7 @@ use crate::generator::made;
 use dl_ast::Program;
 use dl_eval::{EvalFault, evaluate};
 use dl_lexer::{LexFault, Token, lex};
+use dl_limits::MOST_TEXT;
 use dl_outside::{ReadEnd, Source, read_all};
 use dl_parser::{ParseFault, parse};
 use dl_plan::{Form, Format, Plan, Settings};
@@ -31,9 +33,6 @@ use dl_report::{Report, csv, json, text};
 use dl_types::{CheckFault, check};
 use dl_words::{WordsFault, read_words};
 use std::alloc::{AllocError, Global};
-
-/// The most bytes of an input.
-const LONGEST: usize = 1_048_576;
 
 /// What is to be written.
 #[derive(Drop)]
@@ -48,7 +47,7 @@ pub enum Reply {
 
 /// The refusal with the text of a fault.
 fn refusal(alloc: Global, fault: Fault, source: &[u8], tokens: &[Token]) -> Reply
-    requires short { length source.now ≤ 1048576 }
+    requires short { length source.now ≤ most_text }
     requires place { HasPlace fault source.now }
     requires inside { AllInside source.now tokens.now }
     ensures { Tells result fault source.now tokens.now }
@@ -66,7 +65,7 @@ fn in_form(
     plan: &Plan,
     settings: &Settings,
 ) -> Result<Vec<u8>, AllocError>
-    requires digits { report.now.digits ≤ 9 }
+    requires digits { report.now.digits ≤ most_digits }
     requires asks { AsksAreText report.now }
     ensures { IfOk result (λ text. text.items ≡ written settings.now.format plan.now report.now) }
 {
@@ -83,7 +82,7 @@ fn reply_to_plan(alloc: Global, settings: &Settings, plan: &Plan) -> Reply
     requires texts { All (λ asked. IsUtf8 asked.text) settings.now.asks }
     requires valid { IsValid plan.now }
     ensures reply { (words : List (List ℕ)) (input : List ℕ) → Asks words settings.now
-        → Means input settings.now plan.now → IsReply words input result }
+        → MeansPlan input settings.now plan.now → IsReply words input result }
     ensures of_text { IsOfText result }
 {
     match evaluate(alloc, plan, settings) {
@@ -105,7 +104,7 @@ fn reply_to_asks(alloc: Global, settings: &Settings, program: &Program, input: &
     requires ranges { AreInRange settings.now }
     requires texts { All (λ asked. IsUtf8 asked.text) settings.now.asks }
     requires formed { IsWellFormed program.now }
-    requires short { length input.now ≤ 1048576 }
+    requires short { length input.now ≤ most_text }
     ensures reply { (words : List (List ℕ)) → Asks words settings.now
         → SpellsProgram input.now program.now → IsReply words input.now result }
     ensures of_text { IsOfText result }
@@ -135,7 +134,7 @@ fn reply_to_program(alloc: Global, settings: &Settings, program: &Program, input
     requires ranges { AreInRange settings.now }
     requires texts { All (λ asked. IsUtf8 asked.text) settings.now.asks }
     requires formed { IsWellFormed program.now }
-    requires short { length input.now ≤ 1048576 }
+    requires short { length input.now ≤ most_text }
     ensures reply { (words : List (List ℕ)) → Say words settings.now
         → SpellsProgram input.now program.now → IsReply words input.now result }
     ensures of_text { IsOfText result }
@@ -151,7 +150,8 @@ fn reply_to_tokens(alloc: Global, settings: &Settings, input: &[u8], tokens: &[T
     requires ranges { AreInRange settings.now }
     requires texts { All (λ asked. IsUtf8 asked.text) settings.now.asks }
     requires tokens { HasTokens input.now tokens.now }
-    ensures reply { (words : List (List ℕ)) → Say words settings.now → IsReply words input.now result }
+    ensures reply { (words : List (List ℕ)) → Say words settings.now
+        → IsReply words input.now result }
     ensures of_text { IsOfText result }
 {
     match parse(alloc, input, tokens) {
@@ -166,10 +166,11 @@ fn reply_to_tokens(alloc: Global, settings: &Settings, input: &[u8], tokens: &[T
 fn reply_to_text(alloc: Global, settings: &Settings, input: &[u8]) -> Reply
     requires ranges { AreInRange settings.now }
     requires texts { All (λ asked. IsUtf8 asked.text) settings.now.asks }
-    ensures reply { (words : List (List ℕ)) → Say words settings.now → IsReply words input.now result }
+    ensures reply { (words : List (List ℕ)) → Say words settings.now
+        → IsReply words input.now result }
     ensures of_text { IsOfText result }
 {
-    if input.len() > LONGEST {
+    if input.len() > MOST_TEXT {
         return refusal(alloc, Fault::TooLong, &[], &[]);
     }
     match lex(alloc, input) {
@@ -183,7 +184,8 @@ fn reply_to_text(alloc: Global, settings: &Settings, input: &[u8]) -> Reply
 fn reply_to_made(alloc: Global, settings: &Settings, seed: u32) -> Reply
     requires ranges { AreInRange settings.now }
     requires texts { All (λ asked. IsUtf8 asked.text) settings.now.asks }
-    ensures reply { (words : List (List ℕ)) → Say words settings.now → IsReply words (made_of seed) result }
+    ensures reply { (words : List (List ℕ)) → Say words settings.now
+        → IsReply words (made_of seed) result }
     ensures of_text { IsOfText result }
 {
     match made(alloc, seed) {
@@ -197,13 +199,14 @@ fn reply_to_source<R: Source>(alloc: Global, settings: &Settings, src: &mut R) -
     requires ranges { AreInRange settings.now }
     requires texts { All (λ asked. IsUtf8 asked.text) settings.now.asks }
     requires seedless { settings.now.make ≡ None }
-    ensures reply { IfSome (R.left src.old) (λ input. (words : List (List ℕ)) → Say words settings.now → IsReply words input result) }
+    ensures reply { IfSome (R.left src.old) (λ input. (words : List (List ℕ))
+        → Say words settings.now → IsReply words input result) }
     ensures read_cause { IsReadFault result → Rose (R.faults src.old) (R.faults src.new) }
     ensures read_text { IsReadFault result → Tells result Fault.Read [] [] }
     ensures not_usage { ¬ IsUsage result }
-    ensures taken { TakesAtMost (R.left src.old) (R.left src.new) 1048577 }
+    ensures taken { TakesAtMost (R.left src.old) (R.left src.new) (most_text + 1) }
 {
-    match read_all(alloc, src, LONGEST) {
+    match read_all(alloc, src, MOST_TEXT) {
         Ok(input) => reply_to_text(alloc, settings, input.as_slice()),
         Err(ReadEnd::Fault) => refusal(alloc, Fault::Read, &[], &[]),
         Err(ReadEnd::TooLong) => refusal(alloc, Fault::TooLong, &[], &[]),
@@ -213,7 +216,8 @@ fn reply_to_source<R: Source>(alloc: Global, settings: &Settings, src: &mut R) -
 
 /// The answer to the words, over the program that they make or what is left of the input.
 pub fn reply_to<R: Source>(alloc: Global, words: &[String], src: &mut R) -> Reply
-    ensures reply { IfSome (input_of (map string_bytes words.now) (R.left src.old)) (λ input. IsReply (map string_bytes words.now) input result) }
+    ensures reply { IfSome (input_of (map string_bytes words.now) (R.left src.old))
+        (λ input. IsReply (map string_bytes words.now) input result) }
 
     // A fault of the words comes from them alone, and is told; the source is not read.
     ensures usage { IsUsage result → HasFault (map string_bytes words.now) }
@@ -221,8 +225,9 @@ pub fn reply_to<R: Source>(alloc: Global, words: &[String], src: &mut R) -> Repl
         → Tells result (Fault.Usage fault) [] [] × (src.new ≡ src.old) }
 
     // Where a program is made the source is not read.
-    ensures made { MakeText (map string_bytes words.now) → (src.new ≡ src.old) × ¬ IsReadFault result }
-    ensures taken { TakesAtMost (R.left src.old) (R.left src.new) 1048577 }
+    ensures made { MakeText (map string_bytes words.now)
+        → (src.new ≡ src.old) × ¬ IsReadFault result }
+    ensures taken { TakesAtMost (R.left src.old) (R.left src.new) (most_text + 1) }
 
     // A failed read has its cause.
     ensures read_cause { IsReadFault result → Rose (R.faults src.old) (R.faults src.new) }

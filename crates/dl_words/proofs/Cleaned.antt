@@ -22,7 +22,8 @@ abbrev pub cleaned : Option (List Part) → Option (List Part)
 cleaned None = None
 cleaned (Some ps) = if is_clean ps then Some ps else None
 
-cleaned_part : (p : Part) (o : Option (List Part)) → cleaned (with_part p o) ≡ (if is_clean_part p then with_part p (cleaned o) else None)
+cleaned_part : (p : Part) (o : Option (List Part)) → cleaned (with_part p o)
+    ≡ (if is_clean_part p then with_part p (cleaned o) else None)
 cleaned_part p None = go (is_clean_part p)
   where
     go : (b : Bool) → ◌≡◌ {A = Option (List Part)} None (if b then None else None)
@@ -30,7 +31,8 @@ cleaned_part p None = go (is_clean_part p)
     go false = refl
 cleaned_part p (Some ps) = go (is_clean_part p) refl (is_clean ps) refl
   where
-    go : (a : Bool) → is_clean_part p ≡ a → (b : Bool) → is_clean ps ≡ b → cleaned (with_part p (Some ps)) ≡ (if is_clean_part p then with_part p (cleaned (Some ps)) else None)
+    go : (a : Bool) → is_clean_part p ≡ a → (b : Bool) → is_clean ps ≡ b
+        → cleaned (with_part p (Some ps)) ≡ (if is_clean_part p then with_part p (cleaned (Some ps)) else None)
     go true e true f = rw (e, f) refl
     go true e false f = rw (e, f) refl
     go false e b f = rw e refl
@@ -39,10 +41,14 @@ cleaned_part p (Some ps) = go (is_clean_part p) refl (is_clean ps) refl
 not_clean : (p : Part) (o : Option (List Part)) → is_clean_part p ≡ false → cleaned (with_part p o) ≡ None
 not_clean p o e = cleaned_part p o ∙ (rw e refl)
 
-same_part : (p : Part) (o q : Option (List Part)) → cleaned o ≡ cleaned q → cleaned (with_part p o) ≡ cleaned (with_part p q)
-same_part p o q e = cleaned_part p o ∙ ap (λ x. if is_clean_part p then with_part p x else None) e ∙ sym (cleaned_part p q)
+same_part : (p : Part) (o q : Option (List Part)) → cleaned o ≡ cleaned q
+    → cleaned (with_part p o) ≡ cleaned (with_part p q)
+same_part p o q e = cleaned_part p o ∙ ap (λ x. if is_clean_part p then with_part p x else None) e
+    ∙ sym (cleaned_part p q)
 
-same_kind : (word : Text) (k : Kind) (f g : Mode → Option (List Part)) → ((mode : Mode) → cleaned (f mode) ≡ cleaned (g mode)) → cleaned (read_kind word k f) ≡ cleaned (read_kind word k g)
+same_kind : (word : Text) (k : Kind) (f g : Mode → Option (List Part))
+    → ((mode : Mode) → cleaned (f mode) ≡ cleaned (g mode))
+    → cleaned (read_kind word k f) ≡ cleaned (read_kind word k g)
 same_kind word ends f g h = h ended
 same_kind word (whole name v) f g h = same_part (option name v) _ _ (h between)
 same_kind word (begins name) f g h = h (value name)
@@ -58,7 +64,8 @@ pub kinds : (w : Text) → SameKind w
 kinds [] = alike refl
 kinds (c ∷ cs) = go (c == 45) refl cs
   where
-    flags : (d : ℕ) (ds : Text) → c == 45 ≡ true → d == 45 ≡ false → (b : Bool) → is_some (slice_get (chars (d ∷ ds)) 0) ≡ b → SameKind (c ∷ d ∷ ds)
+    flags : (d : ℕ) (ds : Text) → c == 45 ≡ true → d == 45 ≡ false → (b : Bool)
+        → is_some (slice_get (chars (d ∷ ds)) 0) ≡ b → SameKind (c ∷ d ∷ ds)
     flags d ds e f true g = alike (rw (e, f, g) refl)
     flags d ds e f false g = hyphen (rw (e, f, g) refl) (rw (e, f) refl) (rw e refl)
 
@@ -71,7 +78,9 @@ kinds (c ∷ cs) = go (c == 45) refl cs
     go true e [] = hyphen (rw e refl) (rw e refl) (rw e refl)
     go true e (d ∷ ds) = second d ds e (d == 45) refl
 
-between_same : (word : Text) (f g : Mode → Option (List Part)) → SameKind word → ((mode : Mode) → cleaned (f mode) ≡ cleaned (g mode)) → cleaned (read_kind word (clap_kind word) f) ≡ cleaned (read_kind word (kind_of word) g)
+between_same : (word : Text) (f g : Mode → Option (List Part)) → SameKind word
+    → ((mode : Mode) → cleaned (f mode) ≡ cleaned (g mode))
+    → cleaned (read_kind word (clap_kind word) f) ≡ cleaned (read_kind word (kind_of word) g)
 between_same word f g (alike e) h = rw e (same_kind word (kind_of word) f g h)
 between_same word f g (hyphen e k n) h = rw (e, k) (not_clean (positional word) (f between) n)
 
@@ -84,7 +93,8 @@ plain_kind (c ∷ cs) h = go (c == 45) refl
     go true e = absurd (true≢false (sym (rw e at h)))
     go false e = rw e refl
 
-value_same : (name word : Text) (o q : Option (List Part)) → cleaned o ≡ cleaned q → cleaned (value_kind name word (clap_kind word) o) ≡ cleaned (with_part (option name word) q)
+value_same : (name word : Text) (o q : Option (List Part)) → cleaned o ≡ cleaned q
+    → cleaned (value_kind name word (clap_kind word) o) ≡ cleaned (with_part (option name word) q)
 value_same name word o q h = go (begins_plainly word) refl
   where
     or_none : (k : Kind) → begins_plainly word ≡ false → cleaned (value_kind name word k o) ≡ None
@@ -94,7 +104,8 @@ value_same name word o q h = go (begins_plainly word) refl
     or_none plain n = not_clean (option name word) o n
     or_none misfit n = refl
 
-    go : (b : Bool) → begins_plainly word ≡ b → cleaned (value_kind name word (clap_kind word) o) ≡ cleaned (with_part (option name word) q)
+    go : (b : Bool) → begins_plainly word ≡ b → cleaned (value_kind name word (clap_kind word) o)
+        ≡ cleaned (with_part (option name word) q)
     go true e = rw (plain_kind word e) (same_part (option name word) o q h)
     go false e = or_none (clap_kind word) e ∙ sym (not_clean (option name word) q e)
 

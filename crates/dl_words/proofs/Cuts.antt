@@ -33,7 +33,8 @@ module _ (p : ℕ → Bool) where
 abbrev both_now : Bor Text × Bor Text → Text × Text
 both_now cut = (cut.0.now, cut.1.now)
 
-pub cut_is : (s : ℕ) (text : Text) (r : Option (Bor Text × Bor Text)) → IsSplitOnceResult s text r → s < 128 → option_map both_now r ≡ cut_at s text
+pub cut_is : (s : ℕ) (text : Text) (r : Option (Bor Text × Bor Text)) → IsSplitOnceResult s text r → s < 128
+    → option_map both_now r ≡ cut_at s text
 cut_is s text None h small =
     let none : list_any (λ b. b == s) text ≡ false = none_any _ text (split_once_first s text None h small) in
     rw none refl
@@ -42,7 +43,9 @@ cut_is s text (Some x) h small =
     let some : list_any (λ b. b == s) text ≡ true = found_any _ text f.0 in
     rw (some, f.1, f.2) refl
 
-pub behind_is : (text : Text) (r : Option (Bor Text)) → MatchOption r ((rest : Text) → text ≢ 115 ∷ rest) (λ x. text ≡ 115 ∷ x.now) → option_map (λ s. s.now) r ≡ behind_s text
+pub behind_is : (text : Text) (r : Option (Bor Text))
+    → MatchOption r ((rest : Text) → text ≢ 115 ∷ rest) (λ x. text ≡ 115 ∷ x.now)
+    → option_map (λ s. s.now) r ≡ behind_s text
 behind_is text (Some x) h = rw h refl
 behind_is [] None h = refl
 behind_is (c ∷ cs) None h = elim (cases (c == 115)) [

@@ -30,10 +30,10 @@ use Rattle.dl_words.specs.Command.{command}
 use Rattle.dl_words.specs.Faults.{Explains, ExplainsAsks}
 use Rattle.dl_words.specs.Found.{answer_in, asks_in, form_in, list_of, values_in}
 use Rattle.dl_words.specs.Options.{Row, Values, are_taken, form_named, format_named, is_taken, options}
-use Rattle.dl_words.specs.Parts.{Part, Mode, is_name, kind_of, parts_from, parts_of, positionals_of, values_of}
+use Rattle.dl_words.specs.Parts.{Part, Mode, is_name, kind_of, parts_from, command_parts, positionals_of, option_values}
 use Rattle.dl_words.specs.Parts.Part.{option, positional}
 use Rattle.dl_words.specs.Parts.Mode.{between, value, ended}
-use Rattle.dl_words.specs.Spelling.{Text, begins_plainly, is_bucket, is_whole}
+use Rattle.dl_words.specs.Spelling.{Text, begins_plainly, is_bucket, is_number_within}
 use Rattle.dl_words.specs.Words.{admits, answer, to_parts, to_positionals, with_asks, words_of}
 use Rattle.dl_words.proofs.Numerals.{both, numeral_test}
 use Rattle.dl_words.proofs.Reading.{clap_from, clap_kind, seen}
@@ -54,9 +54,12 @@ unfolding parts_from
 parts_named [] between n = tt
 parts_named [] (value name) n = tt
 parts_named [] ended n = tt
-parts_named (word ∷ rest) between n = named_read word (kind_of word) _ (kind_named word (named_kind word (seen word)) (kinds word)) (parts_named rest)
-parts_named (word ∷ rest) (value name) n = with_named (option name word) (parts_from between rest) (λ ps q. (n, q)) (parts_named rest between tt)
-parts_named (word ∷ rest) ended n = with_named (positional word) (parts_from ended rest) (λ ps q. q) (parts_named rest ended tt)
+parts_named (word ∷ rest) between n = named_read word (kind_of word) _
+    (kind_named word (named_kind word (seen word)) (kinds word)) (parts_named rest)
+parts_named (word ∷ rest) (value name) n = with_named (option name word) (parts_from between rest) (λ ps q. (n, q))
+    (parts_named rest between tt)
+parts_named (word ∷ rest) ended n = with_named (positional word) (parts_from ended rest) (λ ps q. q)
+    (parts_named rest ended tt)
 
 -- ---- values that an option takes begin with no hyphen
 
@@ -70,14 +73,15 @@ number_plain (c ∷ cs) rest h = digit_plain c (cs ++ rest) (digit_or_not c h.1.
 decimal_plain : (text rest : Text) → IsDecimal text → begins_plainly (text ++ rest) ≡ true
 decimal_plain text rest (plain n) = number_plain text rest n
 decimal_plain text rest (pointed [] back a b some cut) = rw cut refl
-decimal_plain text rest (pointed (c ∷ cs) back a b some cut) = rw cut (digit_plain c ((cs ++ 46 ∷ back) ++ rest) (digit_or_not c a.0))
+decimal_plain text rest (pointed (c ∷ cs) back a b some cut) =
+    rw cut (digit_plain c ((cs ++ 46 ∷ back) ++ rest) (digit_or_not c a.0))
 
 numeral_plain : (text : Text) → IsNumeral text → begins_plainly text ≡ true
 numeral_plain text (decimal d) = ap begins_plainly (sym (append-nil text)) ∙ decimal_plain text [] d
 numeral_plain text (percent front d cut) = rw cut (decimal_plain front (37 ∷ []) d)
 numeral_plain text (fraction first second a b cut) = rw cut (number_plain first (47 ∷ second) a)
 
-whole_plain : (low high : ℕ) (text : Text) → is_whole low high text ≡ true → begins_plainly text ≡ true
+whole_plain : (low high : ℕ) (text : Text) → is_number_within low high text ≡ true → begins_plainly text ≡ true
 whole_plain low high [] h = refl
 whole_plain low high (c ∷ cs) h =
     let digits = both _ _ (both _ _ (both _ _ (both _ _ h).0).0).0 in
@@ -87,7 +91,8 @@ bucket_plain : (text : Text) → is_bucket text ≡ true → begins_plainly text
 bucket_plain text h = numeral_plain text ((numeral_test text).0 (both _ _ (both _ _ h).0).0)
 
 -- a text that is one of some names
-named_plain : (text name : Text) (P : Type 0) → begins_plainly name ≡ true → (bytes_eq text name ≡ false → begins_plainly text ≡ true) → begins_plainly text ≡ true
+named_plain : (text name : Text) (P : Type 0) → begins_plainly name ≡ true
+    → (bytes_eq text name ≡ false → begins_plainly text ≡ true) → begins_plainly text ≡ true
 named_plain text name P p other = go (bytes_eq text name) refl
   where
     go : (b : Bool) → bytes_eq text name ≡ b → begins_plainly text ≡ true
@@ -96,7 +101,8 @@ named_plain text name P p other = go (bytes_eq text name) refl
 
 format_plain : (text : Text) → is_some (format_named text) ≡ true → begins_plainly text ≡ true
 format_plain text h =
-    named_plain text (codes "text") ⊤ refl (λ a. named_plain text (codes "csv") ⊤ refl (λ b. named_plain text (codes "json") ⊤ refl (λ c.
+    named_plain text (codes "text") ⊤ refl (λ a. named_plain text (codes "csv") ⊤ refl
+    (λ b. named_plain text (codes "json") ⊤ refl (λ c.
     let none : is_some (format_named text) ≡ false = rw (a, b, c) refl in
     absurd (true≢false (sym h ∙ none)))))
 
@@ -106,7 +112,8 @@ form_plain text h =
     let none : is_some (form_named text) ≡ false = rw (a, b) refl in
     absurd (true≢false (sym h ∙ none))))
 
-taken_plain : (takes : Text → Bool) → ((text : Text) → takes text ≡ true → begins_plainly text ≡ true) → (texts : List Text) → list_all takes texts ≡ true → list_all begins_plainly texts ≡ true
+taken_plain : (takes : Text → Bool) → ((text : Text) → takes text ≡ true → begins_plainly text ≡ true)
+    → (texts : List Text) → list_all takes texts ≡ true → list_all begins_plainly texts ≡ true
 taken_plain takes f [] h = refl
 taken_plain takes f (text ∷ texts) h =
     let t = both (takes text) _ h in
@@ -133,7 +140,16 @@ ArePlain (row ∷ rows) = ((text : Text) → row.1 text ≡ true → begins_plai
 are_plain : ArePlain options
 are_plain = (
   whole_plain 0 4294967295,
-  (bucket_plain, (whole_plain 1 12, (whole_plain 1 9, (whole_plain 1 1000000000, (whole_plain 1 1000000000000, (format_plain, tt)))))),
+  (
+    bucket_plain,
+    (
+      whole_plain 1 12,
+      (
+        whole_plain 1 9,
+        (whole_plain 1 1000000000, (whole_plain 1 1000000000000, (format_plain, tt))),
+      ),
+    ),
+  ),
 )
 
 module _ (values : Values) where
@@ -144,38 +160,52 @@ module _ (values : Values) where
   abbrev pub has_name : List Row → Text → Bool
   has_name rows name = list_any (λ row. bytes_eq row.0 name) rows
 
-  pub values_plain : (rows : List Row) → ArePlain rows → all_taken rows ≡ true → (name : Text) → has_name rows name ≡ true → list_all begins_plainly (values name) ≡ true
+  pub values_plain : (rows : List Row) → ArePlain rows → all_taken rows ≡ true → (name : Text)
+      → has_name rows name ≡ true → list_all begins_plainly (values name) ≡ true
   values_plain [] p t name is = absurd (true≢false (sym is))
   values_plain (row ∷ rows) p t name is = go (bytes_eq row.0 name) refl (values_plain rows p.1 (both _ _ t).1 name)
     where
       own : list_all begins_plainly (values row.0) ≡ true
-      own = taken_plain row.1 p.0 (values row.0) (both (nat_le (length (values row.0)) 1) (list_all row.1 (values row.0)) (both (is_taken row.1 (values row.0)) (all_taken rows) t).0).1
+      own = taken_plain row.1 p.0 (values row.0)
+          (both (nat_le (length (values row.0)) 1) (list_all row.1 (values row.0))
+          (both (is_taken row.1 (values row.0)) (all_taken rows) t).0).1
 
-      go : (b : Bool) → bytes_eq row.0 name ≡ b → (has_name rows name ≡ true → list_all begins_plainly (values name) ≡ true) → list_all begins_plainly (values name) ≡ true
+      go : (b : Bool) → bytes_eq row.0 name ≡ b
+          → (has_name rows name ≡ true → list_all begins_plainly (values name) ≡ true)
+          → list_all begins_plainly (values name) ≡ true
       go true e rest = subst (λ n. list_all begins_plainly (values n) ≡ true) ((bytes_eq-Decides row.0 name).0 e) own
       go false e rest = rest (sym (ap (λ b. b || has_name rows name) e) ∙ is)
 
   -- an option that stands twice is not taken
-  pub twice_untaken : (rows : List Row) (name : Text) → has_name rows name ≡ true → 2 ≤ length (values name) → all_taken rows ≡ false
+  pub twice_untaken : (rows : List Row) (name : Text) → has_name rows name ≡ true → 2 ≤ length (values name)
+      → all_taken rows ≡ false
   twice_untaken [] name is two = absurd (true≢false (sym is))
   twice_untaken (row ∷ rows) name is two = go (bytes_eq row.0 name) refl (λ is. twice_untaken rows name is two)
     where
-      go : (b : Bool) → bytes_eq row.0 name ≡ b → (has_name rows name ≡ true → all_taken rows ≡ false) → all_taken (row ∷ rows) ≡ false
+      go : (b : Bool) → bytes_eq row.0 name ≡ b → (has_name rows name ≡ true → all_taken rows ≡ false)
+          → all_taken (row ∷ rows) ≡ false
       go true e rest =
-          let own : 2 ≤ length (values row.0) = subst (λ n. 2 ≤ length (values n)) (sym ((bytes_eq-Decides row.0 name).0 e)) two in
+          let own : 2 ≤ length (values row.0) = subst (λ n. 2 ≤ length (values n))
+          (sym ((bytes_eq-Decides row.0 name).0 e)) two in
           here _ _ (here _ _ (too_many (length (values row.0)) own))
       go false e rest = later _ _ (rest (sym (ap (λ b. b || has_name rows name) e) ∙ is))
 
 -- ---- parts that are not clean are refused
 
-clean_of : (ps : List Part) → AllNamed ps → ((name : Text) → is_name name ≡ true → list_all begins_plainly (values_of name ps) ≡ true) → list_all begins_plainly (positionals_of ps) ≡ true → is_clean ps ≡ true
+clean_of : (ps : List Part) → AllNamed ps → ((name : Text) → is_name name ≡ true
+    → list_all begins_plainly (option_values name ps) ≡ true) → list_all begins_plainly (positionals_of ps) ≡ true
+    → is_clean ps ≡ true
 clean_of [] named options words = refl
 clean_of (option n v ∷ ps) named options words =
-    let own : list_all begins_plainly (v ∷ values_of n ps) ≡ true = subst (λ b. list_all begins_plainly (if b then v ∷ values_of n ps else values_of n ps) ≡ true) (bytes_same n) (options n named.0) in
+    let own : list_all begins_plainly (v ∷ option_values n ps) ≡ true =
+    subst (λ b. list_all begins_plainly (if b then v ∷ option_values n ps else option_values n ps) ≡ true)
+    (bytes_same n) (options n named.0) in
     let here = both (begins_plainly v) _ own in
     rw here.0 (clean_of ps named.1 (λ name is. rest name (bytes_eq n name) (options name is)) words)
   where
-    rest : (name : Text) (b : Bool) → list_all begins_plainly (if b then v ∷ values_of name ps else values_of name ps) ≡ true → list_all begins_plainly (values_of name ps) ≡ true
+    rest : (name : Text) (b : Bool)
+        → list_all begins_plainly (if b then v ∷ option_values name ps else option_values name ps) ≡ true
+        → list_all begins_plainly (option_values name ps) ≡ true
     rest name true h = (both (begins_plainly v) _ h).1
     rest name false h = h
 clean_of (positional w ∷ ps) named options words =
@@ -191,7 +221,8 @@ abbrev pub fits_positionals : Values → List Text → Bool
 fits_positionals values [] = false
 fits_positionals values (form ∷ asks) = fits (form_named form) values asks
 
-misfit_line : (values : Values) (words : List Text) → fits_positionals values words ≡ false → to_positionals values words ≡ Err Line
+misfit_line : (values : Values) (words : List Text) → fits_positionals values words ≡ false
+    → to_positionals values words ≡ Err Line
 misfit_line values [] h = refl
 misfit_line values (form ∷ asks) h = go (form_named form) h
   where
@@ -199,11 +230,13 @@ misfit_line values (form ∷ asks) h = go (form_named form) h
     go None e = refl
     go (Some f) e = rw e refl
 
-fits_plain : (values : Values) (words : List Text) → fits_positionals values words ≡ true → (are_taken values ≡ true) × (list_all begins_plainly words ≡ true)
+fits_plain : (values : Values) (words : List Text) → fits_positionals values words ≡ true
+    → (are_taken values ≡ true) × (list_all begins_plainly words ≡ true)
 fits_plain values [] h = absurd (true≢false (sym h))
 fits_plain values (form ∷ asks) h = go (form_named form) refl h
   where
-    go : (o : Option Form) → form_named form ≡ o → fits o values asks ≡ true → (are_taken values ≡ true) × (list_all begins_plainly (form ∷ asks) ≡ true)
+    go : (o : Option Form) → form_named form ≡ o → fits o values asks ≡ true
+        → (are_taken values ≡ true) × (list_all begins_plainly (form ∷ asks) ≡ true)
     go None e f = absurd (true≢false (sym f))
     go (Some f) e g =
         let t = both _ _ (both _ _ g).0 in
@@ -211,9 +244,10 @@ fits_plain values (form ∷ asks) h = go (form_named form) refl h
 
 -- the values of some parts
 abbrev pub values_with : List Part → Values
-values_with ps name = values_of name ps
+values_with ps name = option_values name ps
 
-fitting_clean : (ps : List Part) → AllNamed ps → fits_positionals (values_with ps) (positionals_of ps) ≡ true → is_clean ps ≡ true
+fitting_clean : (ps : List Part) → AllNamed ps → fits_positionals (values_with ps) (positionals_of ps) ≡ true
+    → is_clean ps ≡ true
 fitting_clean ps named h =
     let t = fits_plain (values_with ps) (positionals_of ps) h in
     clean_of ps named (values_plain (values_with ps) options are_plain t.0) t.1
@@ -222,17 +256,21 @@ same_judged : (o : Option (List Part)) → IfParts o AllNamed → to_parts (clea
 same_judged None named = refl
 same_judged (Some ps) named = go (is_clean ps) refl (fits_positionals (values_with ps) (positionals_of ps)) refl
   where
-    go : (a : Bool) → is_clean ps ≡ a → (b : Bool) → fits_positionals (values_with ps) (positionals_of ps) ≡ b → to_parts (cleaned (Some ps)) ≡ to_parts (Some ps)
+    go : (a : Bool) → is_clean ps ≡ a → (b : Bool) → fits_positionals (values_with ps) (positionals_of ps) ≡ b
+        → to_parts (cleaned (Some ps)) ≡ to_parts (Some ps)
     go true e b f = rw e refl
     go false e true f = absurd (true≢false (sym (fitting_clean ps named f) ∙ e))
     go false e false f = rw e (sym (misfit_line (values_with ps) (positionals_of ps) f))
 
 pub answer_is : (words : List Text) → words_of words ≡ to_parts (clap_from between words)
-answer_is words = sym (same_judged (parts_of words) (parts_named words between tt)) ∙ sym (ap to_parts (same_cleaned words between)) ∙ same_judged (clap_from between words) (all_named words between tt)
+answer_is words = sym (same_judged (command_parts words) (parts_named words between tt))
+    ∙ sym (ap to_parts (same_cleaned words between)) ∙ same_judged (clap_from between words)
+    (all_named words between tt)
 
 -- ---- what a refusal of `clap` gives
 
-untaken_misfit : (values : Values) (words : List Text) → are_taken values ≡ false → fits_positionals values words ≡ false
+untaken_misfit : (values : Values) (words : List Text) → are_taken values ≡ false
+    → fits_positionals values words ≡ false
 untaken_misfit values [] h = refl
 untaken_misfit values (form ∷ asks) h = go (form_named form)
   where
@@ -244,14 +282,17 @@ pub refused : (words : List Text) → Unfit words → words_of words ≡ Err Lin
 refused words (no_parts e) = answer_is words ∙ ap to_parts e
 refused words (no_form ps e none) = answer_is words ∙ ap to_parts e ∙ ap (to_positionals (values_with ps)) none
 refused words (stands_twice ps e name is two) =
-    answer_is words ∙ ap to_parts e ∙ misfit_line (values_with ps) (positionals_of ps) (untaken_misfit (values_with ps) (positionals_of ps) (twice_untaken (values_with ps) options name is two))
+    answer_is words ∙ ap to_parts e ∙ misfit_line (values_with ps) (positionals_of ps)
+    (untaken_misfit (values_with ps) (positionals_of ps) (twice_untaken (values_with ps) options name is two))
 
 -- ---- what a parse gives
 
-first_of-all_of : (id : Text) (rows : List FoundRow) → first_of id rows ≡ option_and_then (λ vs. slice_get vs 0) (all_of id rows)
+first_of-all_of : (id : Text) (rows : List FoundRow)
+    → first_of id rows ≡ option_and_then (λ vs. slice_get vs 0) (all_of id rows)
 first_of-all_of id rows = go (find (λ r. bytes_eq r.id id) rows)
   where
-    go : (o : Option FoundRow) → option_and_then (λ r. slice_get r.values 0) o ≡ option_and_then (λ vs. slice_get vs 0) (option_map (λ r. r.values) o)
+    go : (o : Option FoundRow) → option_and_then (λ r. slice_get r.values 0) o
+        ≡ option_and_then (λ vs. slice_get vs 0) (option_map (λ r. r.values) o)
     go None = refl
     go (Some r) = refl
 
@@ -269,70 +310,122 @@ asks_more [] = refl
 asks_more (w ∷ ws) = refl
 
 -- an answer depends on the values of the seven names alone
-same_values : (f g : Values) → ((name : Text) → is_name name ≡ true → f name ≡ g name) → (form : Option Form) (asks : List Text) → answer form f asks ≡ answer form g asks
+same_values : (f g : Values) → ((name : Text) → is_name name ≡ true → f name ≡ g name)
+    → (form : Option Form) (asks : List Text) → answer form f asks ≡ answer form g asks
 same_values f g h None asks = refl
 same_values f g h (Some Run) asks = go (asks_of asks)
   where
-    go : (r : Result (List Asked) ℕ) → (if are_taken f && list_all begins_plainly asks && admits Run f asks then with_asks Run f r else Err Line) ≡ (if are_taken g && list_all begins_plainly asks && admits Run g asks then with_asks Run g r else Err Line)
-    go (Ok v) = rw (h (codes "make") refl, h (codes "bs") refl, h (codes "log2") refl, h (codes "digits") refl, h (codes "width") refl, h (codes "mwidth") refl, h (codes "format") refl) refl
-    go (Err i) = rw (h (codes "make") refl, h (codes "bs") refl, h (codes "log2") refl, h (codes "digits") refl, h (codes "width") refl, h (codes "mwidth") refl, h (codes "format") refl) refl
+    go : (r : Result (List Asked) ℕ) → (if are_taken f && list_all begins_plainly asks && admits Run f asks
+        then with_asks Run f r else Err Line) ≡ (if are_taken g && list_all begins_plainly asks && admits Run g asks
+        then with_asks Run g r else Err Line)
+    go (Ok v) = rw (
+      h (codes "make") refl,
+      h (codes "bs") refl,
+      h (codes "log2") refl,
+      h (codes "digits") refl,
+      h (codes "width") refl,
+      h (codes "mwidth") refl,
+      h (codes "format") refl,
+    ) refl
+    go (Err i) = rw (
+      h (codes "make") refl,
+      h (codes "bs") refl,
+      h (codes "log2") refl,
+      h (codes "digits") refl,
+      h (codes "width") refl,
+      h (codes "mwidth") refl,
+      h (codes "format") refl,
+    ) refl
 same_values f g h (Some Fmt) asks = go (asks_of asks)
   where
-    go : (r : Result (List Asked) ℕ) → (if are_taken f && list_all begins_plainly asks && admits Fmt f asks then with_asks Fmt f r else Err Line) ≡ (if are_taken g && list_all begins_plainly asks && admits Fmt g asks then with_asks Fmt g r else Err Line)
-    go (Ok v) = rw (h (codes "make") refl, h (codes "bs") refl, h (codes "log2") refl, h (codes "digits") refl, h (codes "width") refl, h (codes "mwidth") refl, h (codes "format") refl) refl
-    go (Err i) = rw (h (codes "make") refl, h (codes "bs") refl, h (codes "log2") refl, h (codes "digits") refl, h (codes "width") refl, h (codes "mwidth") refl, h (codes "format") refl) refl
+    go : (r : Result (List Asked) ℕ) → (if are_taken f && list_all begins_plainly asks && admits Fmt f asks
+        then with_asks Fmt f r else Err Line) ≡ (if are_taken g && list_all begins_plainly asks && admits Fmt g asks
+        then with_asks Fmt g r else Err Line)
+    go (Ok v) = rw (
+      h (codes "make") refl,
+      h (codes "bs") refl,
+      h (codes "log2") refl,
+      h (codes "digits") refl,
+      h (codes "width") refl,
+      h (codes "mwidth") refl,
+      h (codes "format") refl,
+    ) refl
+    go (Err i) = rw (
+      h (codes "make") refl,
+      h (codes "bs") refl,
+      h (codes "log2") refl,
+      h (codes "digits") refl,
+      h (codes "width") refl,
+      h (codes "mwidth") refl,
+      h (codes "format") refl,
+    ) refl
 
-by_positionals : (values : Values) (words : List Text) → to_positionals values words ≡ answer (option_and_then form_named (slice_get words 0)) values (drop 1 words)
+by_positionals : (values : Values) (words : List Text)
+    → to_positionals values words ≡ answer (option_and_then form_named (slice_get words 0)) values (drop 1 words)
 by_positionals values [] = refl
 by_positionals values (form ∷ asks) = refl
 
 -- what was found of a parse with these matches
-pub given : (words : List Text) (ps : List Part) (m : Matched words ps) (found : Found) → rows_of found ≡ matches_of command words → words_of words ≡ answer_in found
+pub given : (words : List Text) (ps : List Part) (m : Matched words ps) (found : Found)
+    → rows_of found ≡ matches_of command words → words_of words ≡ answer_in found
 given words ps m found same =
-    let first : (id : Text) → first_value found id ≡ option_and_then (λ vs. slice_get vs 0) (all_of id (matches_of command words)) =
-    λ id. first_value-rows found id ∙ first_of-all_of id (rows_of found) ∙ ap (λ rows. option_and_then (λ vs. slice_get vs 0) (all_of id rows)) same in
-    let values : (name : Text) → is_name name ≡ true → values_of name ps ≡ values_in found name =
-    λ name is. sym (ap list_of (first name ∙ ap (option_and_then (λ vs. slice_get vs 0)) (m.options name is)) ∙ one_more (values_of name ps) (m.once name is)) in
+    let first : (id : Text) → first_value found id ≡ option_and_then (λ vs. slice_get vs 0)
+    (all_of id (matches_of command words)) =
+    λ id. first_value-rows found id ∙ first_of-all_of id (rows_of found)
+    ∙ ap (λ rows. option_and_then (λ vs. slice_get vs 0) (all_of id rows)) same in
+    let values : (name : Text) → is_name name ≡ true → option_values name ps ≡ values_in found name =
+    λ name is. sym (ap list_of (first name ∙ ap (option_and_then (λ vs. slice_get vs 0)) (m.options name is))
+    ∙ one_more (option_values name ps) (m.once name is)) in
     let form : option_and_then form_named (slice_get (positionals_of ps) 0) ≡ form_in found =
-    ap (option_and_then form_named) (sym (first (codes "form") ∙ ap (option_and_then (λ vs. slice_get vs 0)) m.form ∙ first_more (positionals_of ps))) in
+    ap (option_and_then form_named) (sym (first (codes "form") ∙ ap (option_and_then (λ vs. slice_get vs 0)) m.form
+    ∙ first_more (positionals_of ps))) in
     let asks : drop 1 (positionals_of ps) ≡ asks_in found =
-    sym (ap (λ o. unwrap_or o []) (raw_values-rows found (codes "asks") ∙ ap (all_of (codes "asks")) same ∙ m.asks) ∙ asks_more (drop 1 (positionals_of ps))) in
+    sym (ap (λ o. unwrap_or o []) (raw_values-rows found (codes "asks") ∙ ap (all_of (codes "asks")) same ∙ m.asks)
+    ∙ asks_more (drop 1 (positionals_of ps))) in
     answer_is words ∙ ap to_parts m.parts ∙ by_positionals (values_with ps) (positionals_of ps)
     ∙ same_values (values_with ps) (values_in found) values _ _ ∙ ap₂ (λ f a. answer f (values_in found) a) form asks
 
 -- ---- what is found, judged
 
-pub misfit_found : (found : Found) (form : Form) → Some form ≡ form_in found → fits (Some form) (values_in found) (asks_in found) ≡ false → answer_in found ≡ Err Line
+pub misfit_found : (found : Found) (form : Form) → Some form ≡ form_in found
+    → fits (Some form) (values_in found) (asks_in found) ≡ false → answer_in found ≡ Err Line
 misfit_found found form e f = ap (λ o. answer o (values_in found) (asks_in found)) (sym e) ∙ (rw f refl)
 
-pub fitting_found : (found : Found) (form : Form) → Some form ≡ form_in found → fits (Some form) (values_in found) (asks_in found) ≡ true
+pub fitting_found : (found : Found) (form : Form) → Some form ≡ form_in found
+    → fits (Some form) (values_in found) (asks_in found) ≡ true
     → answer_in found ≡ with_asks form (values_in found) (asks_of (asks_in found))
 fitting_found found form e f = ap (λ o. answer o (values_in found) (asks_in found)) (sym e) ∙ (rw f refl)
 
 -- the texts that were found, and the test of their first bytes
-pub texts_found : (o : Option (Bor (List (Bor Text)))) (texts d : Bor (List (Bor Text))) (q : Option (List Text)) → texts ≡ unwrap_or o d → d.now ≡ []
+pub texts_found : (o : Option (Bor (List (Bor Text)))) (texts d : Bor (List (Bor Text))) (q : Option (List Text))
+    → texts ≡ unwrap_or o d → d.now ≡ []
     → option_map (λ s. lent s.now) o ≡ q → lent texts.now ≡ unwrap_or q []
 texts_found o texts d q e none h = ap (λ s. lent s.now) e ∙ go o q h
   where
-    go : (o : Option (Bor (List (Bor Text)))) (q : Option (List Text)) → option_map (λ s. lent s.now) o ≡ q → lent (unwrap_or o d).now ≡ unwrap_or q []
+    go : (o : Option (Bor (List (Bor Text)))) (q : Option (List Text)) → option_map (λ s. lent s.now) o ≡ q
+        → lent (unwrap_or o d).now ≡ unwrap_or q []
     go None None h = ap lent none
     go None (Some q) h = absurd (true≢false (ap is_some (sym h)))
     go (Some s) None h = absurd (true≢false (ap is_some h))
     go (Some s) (Some q) h = ap (λ o. unwrap_or o []) h
 
-pub plain_found : (r : Bool) (texts : List (Bor Text)) (asks : List Text) → r ≡ list_all (λ text. begins_plainly text.now) texts → lent texts ≡ asks → r ≡ list_all begins_plainly asks
-plain_found r texts asks h e = h ∙ sym (list_all-map begins_plainly (λ text. text.now) texts) ∙ ap (list_all begins_plainly) e
+pub plain_found : (r : Bool) (texts : List (Bor Text)) (asks : List Text)
+    → r ≡ list_all (λ text. begins_plainly text.now) texts → lent texts ≡ asks → r ≡ list_all begins_plainly asks
+plain_found r texts asks h e = h ∙ sym (list_all-map begins_plainly (λ text. text.now) texts)
+    ∙ ap (list_all begins_plainly) e
 
 pub all_three : (a b c : Bool) → a ≡ true → b ≡ true → c ≡ true → (a && b && c) ≡ true
 all_three a b c h k l = rw (h, k, l) refl
 
 -- the first misfit of the asks is the answer's fault
-pub explained : (form : Form) (values : Values) (asks : Result (List Asked) ℕ) (a : Result Settings UsageFault) (fault : WordsFault) → a ≡ with_asks form values asks → ExplainsAsks asks fault → Explains a fault
+pub explained : (form : Form) (values : Values) (asks : Result (List Asked) ℕ) (a : Result Settings UsageFault)
+    (fault : WordsFault) → a ≡ with_asks form values asks → ExplainsAsks asks fault → Explains a fault
 explained form values asks a (Usage Line) e h = absurd h
 explained form values asks a (Usage (Ask i)) e h = e ∙ ap (with_asks form values) h
 explained form values asks a OutOfMemory e h = tt
 
 -- asks that are read, or a first misfit among them, are no misfit of the command
-pub asks_no_line : (form : Form) (values : Values) (asks : Result (List Asked) ℕ) → with_asks form values asks ≡ Err Line → ⊥
+pub asks_no_line : (form : Form) (values : Values) (asks : Result (List Asked) ℕ)
+    → with_asks form values asks ≡ Err Line → ⊥
 asks_no_line form values (Ok asks) e = absurd (cc)
 asks_no_line form values (Err i) e = absurd (cc)

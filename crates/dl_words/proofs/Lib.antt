@@ -10,6 +10,5 @@ pub mod Cleaned
 pub mod Judged
 pub mod TableLaws
 pub mod WrittenLaws
-pub mod SmallNumerals
 pub mod RangeLaws
 pub mod PlainAsks

@@ -13,10 +13,10 @@ use Rattle.dl_lexer.specs.Tokens.{begins_with_letter}
 use Rattle.dl_plan.specs.declared.settings.Ask.{Ask}
 use Rattle.dl_plan.specs.declared.settings.Asked.{Asked}
 use Rattle.dl_plan.specs.declared.settings.Settings.{Settings}
-use Rattle.dl_words.specs.Parts.{parts_of}
-use Rattle.dl_words.specs.Plain.{IsPlainByte}
+use Rattle.dl_words.specs.Parts.{command_parts}
+use Rattle.dl_plan.specs.Plain.{IsPlainByte}
 use Rattle.dl_words.specs.Spelling.{Text, is_amount, is_number, is_numeral, is_probability, is_word}
-use Rattle.dl_words.specs.Table.{Spells, pmf, cdf, mean, q, tail, layer, no_limit, joint, kappa}
+use Rattle.dl_words.specs.Table.{SpellsAsk, pmf, cdf, mean, q, tail, layer, no_limit, joint, kappa}
 use Rattle.dl_words.specs.Words.{words_of}
 use Rattle.dl_words.proofs.Numerals.{both, number_test, numeral_test}
 use Rattle.dl_words.proofs.RangeLaws.{AreFrom, all_true, asks_each, from_parts, some_parts}
@@ -49,7 +49,8 @@ word_plain b h = plain_byte b (grind (arith, nat_tests, h))
 module _ (p : ℕ → Bool) (each : (b : ℕ) → p b ≡ true → IsPlainByte b) where
   passed : (text : Text) → IsTrue (list_all p text) → ArePlain text
   passed [] h = All-nil IsPlainByte
-  passed (b ∷ text) h = let t = both (p b) (list_all p text) h in All-cons IsPlainByte b text (each b t.0) (passed text t.1)
+  passed (b ∷ text) h = let t = both (p b) (list_all p text) h in
+      All-cons IsPlainByte b text (each b t.0) (passed text t.1)
 
 literal : (text : Text) → IsTrue (list_all is_plain text) → ArePlain text
 literal = passed is_plain plain_byte
@@ -71,12 +72,15 @@ number_plain text n = digits_plain text (both _ _ ((number_test text).1 n)).1
 decimal_plain : (text : Text) → IsDecimal text → ArePlain text
 decimal_plain text (plain n) = number_plain text n
 decimal_plain text (pointed front back a b some cut) =
-    subst ArePlain (sym cut) (around front back 46 refl (digits_plain front ((digits_pass front).1 a)) (digits_plain back ((digits_pass back).1 b)))
+    subst ArePlain (sym cut) (around front back 46 refl (digits_plain front ((digits_pass front).1 a))
+    (digits_plain back ((digits_pass back).1 b)))
 
 numeral_plain : (text : Text) → IsNumeral text → ArePlain text
 numeral_plain text (decimal d) = decimal_plain text d
-numeral_plain text (percent front d cut) = subst ArePlain (sym cut) (around front [] 37 refl (decimal_plain front d) (All-nil IsPlainByte))
-numeral_plain text (fraction first second a b cut) = subst ArePlain (sym cut) (around first second 47 refl (number_plain first a) (number_plain second b))
+numeral_plain text (percent front d cut) = subst ArePlain (sym cut)
+    (around front [] 37 refl (decimal_plain front d) (All-nil IsPlainByte))
+numeral_plain text (fraction first second a b cut) =
+    subst ArePlain (sym cut) (around first second 47 refl (number_plain first a) (number_plain second b))
 
 amount_plain : (text : Text) → IsTrue (is_amount text) → ArePlain text
 amount_plain text h = digits_plain text (both _ _ (both (is_number text) _ h).0).1
@@ -95,7 +99,7 @@ behind head rest text e h p = subst ArePlain (sym e) (together head rest (litera
 named : (name x : Text) → IsTrue (is_word name) → IsTrue (is_amount x) → ArePlain (name ++ (codes ":" ++ x))
 named name x n h = around name x 58 refl (name_plain name n) (amount_plain x h)
 
-spelled_plain : (text : Text) (ask : Ask) → Spells text ask → ArePlain text
+spelled_plain : (text : Text) (ask : Ask) → SpellsAsk text ask → ArePlain text
 spelled_plain text ask (pmf x h e) = behind (codes "pmf:") x text e refl (amount_plain x h)
 spelled_plain text ask (cdf x h e) = behind (codes "cdf:") x text e refl (amount_plain x h)
 spelled_plain text ask (mean e) = subst ArePlain (sym e) (literal (codes "mean") refl)
@@ -103,20 +107,25 @@ spelled_plain text ask (q p h e) = behind (codes "q:") p text e refl (probabilit
 spelled_plain text ask (tail p h e) = behind (codes "tail:") p text e refl (probability_plain p h)
 spelled_plain text ask (layer limit attach l h e) =
     behind (codes "layer:") (limit ++ (codes "xs" ++ attach)) text e refl
-    (together limit (codes "xs" ++ attach) (amount_plain limit l) (together (codes "xs") attach (literal (codes "xs") refl) (amount_plain attach h)))
+    (together limit (codes "xs" ++ attach) (amount_plain limit l)
+    (together (codes "xs") attach (literal (codes "xs") refl) (amount_plain attach h)))
 spelled_plain text ask (no_limit attach h e) = behind (codes "layer:infxs") attach text e refl (amount_plain attach h)
-spelled_plain text ask (joint name x n h e) = behind (codes "joint:") (name ++ (codes ":" ++ x)) text e refl (named name x n h)
-spelled_plain text ask (kappa name x n h e) = behind (codes "kappa:") (name ++ (codes ":" ++ x)) text e refl (named name x n h)
+spelled_plain text ask (joint name x n h e) = behind (codes "joint:") (name ++ (codes ":" ++ x)) text e refl
+    (named name x n h)
+spelled_plain text ask (kappa name x n h e) = behind (codes "kappa:") (name ++ (codes ":" ++ x)) text e refl
+    (named name x n h)
 
 -- ---- the law
 
 abbrev pub HasPlainText : Asked → Type 0
 HasPlainText asked = ArePlain asked.text
 
-pub asks_are_plain : (words : List Text) (settings : Settings) → words_of words ≡ Ok settings → All HasPlainText settings.asks
+pub asks_are_plain : (words : List Text) (settings : Settings) → words_of words ≡ Ok settings
+    → All HasPlainText settings.asks
 asks_are_plain words settings e =
-    let from = from_parts settings (λ _. ⊤) (parts_of words) (some_parts (parts_of words)) e in
+    let from = from_parts settings (λ _. ⊤) (command_parts words) (some_parts (command_parts words)) e in
     let a : AreFrom from.0 settings = from.2 in
     let asks : All HasPlainText a.asks = subst (λ r. IfOk r (All HasPlainText)) a.read
-    (asks_each (λ _. ⊤) HasPlainText (λ text ask is _. spelled_plain text ask (table_back text ask is)) a.texts (all_true a.texts)) in
+    (asks_each (λ _. ⊤) HasPlainText (λ text ask is _. spelled_plain text ask (table_back text ask is)) a.texts
+    (all_true a.texts)) in
     subst (λ s. All HasPlainText s.asks) a.is asks

@@ -17,15 +17,15 @@ use Rattle.dl_plan.specs.Ranges.{IsBucket, IsLevel, HasLevel, AreInRange}
 use Rattle.dl_words.specs.declared.fault.UsageFault.{UsageFault}
 use Rattle.dl_words.specs.Asks.{ask_of, asks_of, with_ask}
 use Rattle.dl_words.specs.Options.{Values, are_taken, form_named, is_make_alone, is_taken, or_default, settings_of}
-use Rattle.dl_words.specs.Parts.{Part, Mode, Kind, kind_of, parts_from, parts_of, positionals_of, read_kind, values_of, with_part}
+use Rattle.dl_words.specs.Parts.{Part, Mode, Kind, kind_of, parts_from, command_parts, positionals_of, read_kind, option_values, with_part}
 use Rattle.dl_words.specs.Parts.Part.{option, positional}
 use Rattle.dl_words.specs.Parts.Mode.{between, value, ended}
 use Rattle.dl_words.specs.Parts.Kind.{ends, whole as joined_kind, begins, plain, misfit}
-use Rattle.dl_words.specs.Spelling.{Text, begins_plainly, is_bucket, is_numeral, is_probability, is_whole, number}
-use Rattle.dl_words.specs.Table.{Spells, pmf, cdf, mean, q, tail, layer, no_limit, joint, kappa}
+use Rattle.dl_words.specs.Spelling.{Text, begins_plainly, is_bucket, is_numeral, is_probability, is_number_within, number}
+use Rattle.dl_words.specs.Table.{SpellsAsk, pmf, cdf, mean, q, tail, layer, no_limit, joint, kappa}
 use Rattle.dl_words.specs.Words.{admits, answer, to_parts, to_positionals, with_asks, words_of}
 use Rattle.dl_words.proofs.Numerals.{both}
-use Rattle.dl_words.proofs.SmallNumerals.{IsSmall, numeral_small}
+use Rattle.dl_frac.proofs.SmallNumerals.{IsSmall, numeral_small}
 use Rattle.dl_words.proofs.TableLaws.{table_back}
 
 -- ---- the values of the options
@@ -47,13 +47,19 @@ below_one x h = rw (whole_num 1, whole_den 1) (omega (arith, h))
 bucket : (text : Text) → IsTrue (is_bucket text) → IsBucket (numeral_value text)
 bucket text h =
     let t = both (is_numeral text && not (is_bad 11 text)) _ h in
-    let small : IsSmall 11 (numeral_value text) = numeral_small 9 text (not_bad (is_bad 11 text) (both (is_numeral text) _ t.0).1) in
-    record { above = pos_num (numeral_value text) (less 0 (numeral_value text).num t.1); num = small.num; den = small.den }
+    let small : IsSmall 11 (numeral_value text) = numeral_small 9 text
+    (not_bad (is_bad 11 text) (both (is_numeral text) _ t.0).1) in
+    record {
+      above = pos_num (numeral_value text) (less 0 (numeral_value text).num t.1);
+      num = small.num;
+      den = small.den;
+    }
 
 level : (text : Text) → IsTrue (is_probability text) → IsLevel (numeral_value text)
 level text h =
     let t = both (is_numeral text && not (is_bad 9 text)) _ h in
-    let small : IsSmall 9 (numeral_value text) = numeral_small 7 text (not_bad (is_bad 9 text) (both (is_numeral text) _ t.0).1) in
+    let small : IsSmall 9 (numeral_value text) = numeral_small 7 text
+    (not_bad (is_bad 9 text) (both (is_numeral text) _ t.0).1) in
     record {
       below = below_one (numeral_value text) (less (numeral_value text).num (numeral_value text).den t.1);
       num = omega (arith, small.num);
@@ -68,27 +74,32 @@ one_bucket = record {
 }
 
 -- what holds of the default and of each value that is taken holds of what stands
-taken : {A : Type 0} (P : A → Type 0) (takes : Text → Bool) (default : A) (read : Text → A) (texts : List Text) → P default
-    → ((text : Text) → IsTrue (takes text) → P (read text)) → IsTrue (is_taken takes texts) → P (or_default default read texts)
+taken : {A : Type 0} (P : A → Type 0) (takes : Text → Bool) (default : A) (read : Text → A) (texts : List Text)
+    → P default
+    → ((text : Text) → IsTrue (takes text) → P (read text)) → IsTrue (is_taken takes texts)
+    → P (or_default default read texts)
 taken P takes default read [] p f h = p
-taken P takes default read (text ∷ texts) p f h = f text (both (takes text) _ (both (nat_le (length (text ∷ texts)) 1) _ h).1).0
+taken P takes default read (text ∷ texts) p f h =
+    f text (both (takes text) _ (both (nat_le (length (text ∷ texts)) 1) _ h).1).0
 
 -- a number of the settings lies between its bounds
 abbrev pub Between : ℕ → ℕ → ℕ → Type 0
 Between low high n = (low ≤ n) × (n ≤ high)
 
-number_between : (low high : ℕ) (text : Text) → IsTrue (is_whole low high text) → Between low high (number text)
+number_between : (low high : ℕ) (text : Text) → IsTrue (is_number_within low high text) → Between low high (number text)
 number_between low high text h =
     let t = both _ (nat_le (number text) high) h in
     (most low (number text) (both _ (nat_le low (number text)) t.0).1, most (number text) high t.1)
 
 module _ (low high default : ℕ) (texts : List Text) where
-  pub between_of : Between low high default → IsTrue (is_taken (is_whole low high) texts) → Between low high (or_default default number texts)
-  between_of d h = taken (Between low high) (is_whole low high) default number texts d (number_between low high) h
+  pub between_of : Between low high default → IsTrue (is_taken (is_number_within low high) texts)
+      → Between low high (or_default default number texts)
+  between_of d h =
+      taken (Between low high) (is_number_within low high) default number texts d (number_between low high) h
 
 -- ---- the asks
 
-spelled_level : (text : Text) (ask : Ask) → Spells text ask → HasLevel ask
+spelled_level : (text : Text) (ask : Ask) → SpellsAsk text ask → HasLevel ask
 spelled_level text ask (pmf x h e) = tt
 spelled_level text ask (cdf x h e) = tt
 spelled_level text ask (mean e) = tt
@@ -99,8 +110,10 @@ spelled_level text ask (no_limit attach h e) = tt
 spelled_level text ask (joint name x n h e) = tt
 spelled_level text ask (kappa name x n h e) = tt
 
-module _ (P : Text → Type 0) (Q : Asked → Type 0) (each : (text : Text) (ask : Ask) → ask_of text ≡ Some ask → P text → Q (record { text = text; ask = ask })) where
-  one_more : (text : Text) (ask : Option Ask) (rest : Result (List Asked) ℕ) → ((x : Ask) → ask ≡ Some x → Q (record { text = text; ask = x }))
+module _ (P : Text → Type 0) (Q : Asked → Type 0) (each : (text : Text) (ask : Ask) → ask_of text ≡ Some ask → P text
+    → Q (record { text = text; ask = ask })) where
+  one_more : (text : Text) (ask : Option Ask) (rest : Result (List Asked) ℕ)
+      → ((x : Ask) → ask ≡ Some x → Q (record { text = text; ask = x }))
       → IfOk rest (All Q) → IfOk (with_ask text ask rest) (All Q)
   one_more text None rest f h = tt
   one_more text (Some ask) (Err i) f h = tt
@@ -111,9 +124,11 @@ module _ (P : Text → Type 0) (Q : Asked → Type 0) (each : (text : Text) (ask
   unfolding asks_of
   asks_each [] p = All-nil Q
   asks_each (text ∷ texts) p =
-      one_more text (ask_of text) (asks_of texts) (λ ask e. each text ask e (All-head P text texts p)) (asks_each texts (All-tail P text texts p))
+      one_more text (ask_of text) (asks_of texts) (λ ask e. each text ask e (All-head P text texts p))
+      (asks_each texts (All-tail P text texts p))
 
-count_more : (text : Text) (ask : Option Ask) (rest : Result (List Asked) ℕ) (n : ℕ) → IfOk rest (λ asks. length asks ≡ n)
+count_more : (text : Text) (ask : Option Ask) (rest : Result (List Asked) ℕ) (n : ℕ)
+    → IfOk rest (λ asks. length asks ≡ n)
     → IfOk (with_ask text ask rest) (λ asks. length asks ≡ suc n)
 count_more text None rest n h = tt
 count_more text (Some ask) (Err i) n h = tt
@@ -137,7 +152,8 @@ few Fmt values asks h = none (length asks) (both (length asks == 0) (is_make_alo
 -- ---- the settings of a form, of the values of the options and of asks
 
 module _ (form : Form) (values : Values) (texts : List Text) (asks : List Asked) where
-  pub ranges : IsTrue (are_taken values) → IsTrue (admits form values texts) → asks_of texts ≡ Ok asks → AreInRange (settings_of form values asks)
+  pub ranges : IsTrue (are_taken values) → IsTrue (admits form values texts) → asks_of texts ≡ Ok asks
+      → AreInRange (settings_of form values asks)
   ranges taken_all admitted e =
       let make = both _ _ taken_all in
       let bs = both _ _ make.1 in
@@ -148,10 +164,13 @@ module _ (form : Form) (values : Values) (texts : List Text) (asks : List Asked)
       let cells = between_of 1 12 10 (values (codes "log2")) (omega arith, omega arith) log2.0 in
       let places = between_of 1 9 6 (values (codes "digits")) (omega arith, omega arith) digits.0 in
       let wide = between_of 1 1000000000 10 (values (codes "width")) (omega arith, omega arith) width.0 in
-      let mean_wide = between_of 1 1000000000000 1000000 (values (codes "mwidth")) (omega arith, omega arith) mwidth.0 in
-      let levels : All (λ asked. HasLevel asked.ask) asks = subst (λ r. IfOk r (All (λ asked. HasLevel asked.ask))) e (asks_each (λ _. ⊤) (λ asked. HasLevel asked.ask)
+      let mean_wide = between_of 1 1000000000000 1000000 (values (codes "mwidth"))
+      (omega arith, omega arith) mwidth.0 in
+      let levels : All (λ asked. HasLevel asked.ask) asks = subst (λ r. IfOk r (All (λ asked. HasLevel asked.ask))) e
+      (asks_each (λ _. ⊤) (λ asked. HasLevel asked.ask)
       (λ text ask is _. spelled_level text ask (table_back text ask is)) texts (all_true texts)) in
-      let same : length asks ≡ length texts = subst (λ r. IfOk r (λ all. length all ≡ length texts)) e (as_many texts) in
+      let same : length asks ≡ length texts = subst (λ r. IfOk r (λ all. length all ≡ length texts)) e
+      (as_many texts) in
       record {
         bucket = taken IsBucket is_bucket (whole 1) numeral_value (values (codes "bs")) one_bucket bucket bs.0;
         some_cells = cells.0;
@@ -193,7 +212,8 @@ ok_same : (a b : Settings) → the_result a ≡ the_result b → a ≡ b
 ok_same a b e = ap (λ r. settings_in a r) e
 
 module _ (settings : Settings) where
-  asked : (word : Text) (form : Form) (values : Values) (texts : List Text) (r : Result (List Asked) ℕ) → asks_of texts ≡ r → IsTrue (are_taken values)
+  asked : (word : Text) (form : Form) (values : Values) (texts : List Text) (r : Result (List Asked) ℕ)
+      → asks_of texts ≡ r → IsTrue (are_taken values)
       → IsTrue (admits form values texts) → with_asks form values r ≡ Ok settings → AreFrom (word ∷ texts) settings
   asked word form values texts (Err i) is t a w = absurd (err_not_ok _ settings w)
   asked word form values texts (Ok asks) is t a w = record {
@@ -209,41 +229,54 @@ module _ (settings : Settings) where
     is = ok_same _ settings w;
   }
 
-  answered : (word : Text) (form : Option Form) (values : Values) (texts : List Text) → answer form values texts ≡ Ok settings → AreFrom (word ∷ texts) settings
+  answered : (word : Text) (form : Option Form) (values : Values) (texts : List Text)
+      → answer form values texts ≡ Ok settings → AreFrom (word ∷ texts) settings
   answered word None values texts e = absurd (err_not_ok _ settings e)
-  answered word (Some form) values texts e = go (are_taken values && list_all begins_plainly texts && admits form values texts) refl
+  answered word (Some form) values texts e = go (are_taken values && list_all begins_plainly texts
+      && admits form values texts) refl
     where
-      go : (b : Bool) → (are_taken values && list_all begins_plainly texts && admits form values texts) ≡ b → AreFrom (word ∷ texts) settings
+      go : (b : Bool) → (are_taken values && list_all begins_plainly texts && admits form values texts) ≡ b
+          → AreFrom (word ∷ texts) settings
       go false h = absurd (err_not_ok _ settings (rw h at e))
       go true h =
           let t = both _ (admits form values texts) h in
           asked word form values texts (asks_of texts) refl (both (are_taken values) _ t.0).0 t.1 (rw h at e)
 
-  from_positionals : (values : Values) (words : List Text) → to_positionals values words ≡ Ok settings → AreFrom words settings
+  from_positionals : (values : Values) (words : List Text) → to_positionals values words ≡ Ok settings
+      → AreFrom words settings
   from_positionals values [] e = absurd (err_not_ok _ settings e)
   from_positionals values (word ∷ texts) e = answered word (form_named word) values texts e
 
   -- the settings of parts are from their positionals
-  pub from_parts : (P : List Text → Type 0) (parts : Option (List Part)) → IfSome parts (λ ps. P (positionals_of ps)) → to_parts parts ≡ Ok settings
+  pub from_parts : (P : List Text → Type 0) (parts : Option (List Part)) → IfSome parts (λ ps. P (positionals_of ps))
+      → to_parts parts ≡ Ok settings
       → (positionals : List Text) × P positionals × AreFrom positionals settings
   from_parts P None p e = absurd (err_not_ok _ settings e)
-  from_parts P (Some ps) p e = (positionals_of ps, p, from_positionals (λ name. values_of name ps) (positionals_of ps) e)
+  from_parts P (Some ps) p e = (
+    positionals_of ps,
+    p,
+    from_positionals (λ name. option_values name ps)
+        (positionals_of ps) e,
+  )
 
 -- ---- positionals are words
 
 abbrev pub AreTexts : List Part → Type 0
 AreTexts ps = All IsUtf8 (positionals_of ps)
 
-with_texts : (part : Part) (o : Option (List Part)) → ((ps : List Part) → AreTexts ps → AreTexts (part ∷ ps)) → IfSome o AreTexts → IfSome (with_part part o) AreTexts
+with_texts : (part : Part) (o : Option (List Part)) → ((ps : List Part) → AreTexts ps → AreTexts (part ∷ ps))
+    → IfSome o AreTexts → IfSome (with_part part o) AreTexts
 with_texts part None f h = tt
 with_texts part (Some ps) f h = f ps h
 
-kind_texts : (word : Text) (k : Kind) (next : Mode → Option (List Part)) → IsUtf8 word → ((mode : Mode) → IfSome (next mode) AreTexts)
+kind_texts : (word : Text) (k : Kind) (next : Mode → Option (List Part)) → IsUtf8 word
+    → ((mode : Mode) → IfSome (next mode) AreTexts)
     → IfSome (read_kind word k next) AreTexts
 kind_texts word ends next u h = h ended
 kind_texts word (joined_kind name v) next u h = with_texts (option name v) (next between) (λ ps q. q) (h between)
 kind_texts word (begins name) next u h = h (value name)
-kind_texts word plain next u h = with_texts (positional word) (next between) (λ ps q. All-cons IsUtf8 word (positionals_of ps) u q) (h between)
+kind_texts word plain next u h = with_texts (positional word) (next between)
+    (λ ps q. All-cons IsUtf8 word (positionals_of ps) u q) (h between)
 kind_texts word misfit next u h = tt
 
 parts_texts : (words : List Text) (mode : Mode) → All IsUtf8 words → IfSome (parts_from mode words) AreTexts
@@ -251,10 +284,13 @@ unfolding parts_from
 parts_texts [] between u = All-nil IsUtf8
 parts_texts [] (value name) u = tt
 parts_texts [] ended u = All-nil IsUtf8
-parts_texts (word ∷ rest) between u = kind_texts word (kind_of word) (λ mode. parts_from mode rest) (All-head IsUtf8 word rest u)
+parts_texts (word ∷ rest) between u = kind_texts word (kind_of word) (λ mode. parts_from mode rest)
+    (All-head IsUtf8 word rest u)
     (λ mode. parts_texts rest mode (All-tail IsUtf8 word rest u))
-parts_texts (word ∷ rest) (value name) u = with_texts (option name word) (parts_from between rest) (λ ps q. q) (parts_texts rest between (All-tail IsUtf8 word rest u))
-parts_texts (word ∷ rest) ended u = with_texts (positional word) (parts_from ended rest) (λ ps q. All-cons IsUtf8 word (positionals_of ps) (All-head IsUtf8 word rest u) q)
+parts_texts (word ∷ rest) (value name) u = with_texts (option name word) (parts_from between rest) (λ ps q. q)
+    (parts_texts rest between (All-tail IsUtf8 word rest u))
+parts_texts (word ∷ rest) ended u = with_texts (positional word) (parts_from ended rest)
+    (λ ps q. All-cons IsUtf8 word (positionals_of ps) (All-head IsUtf8 word rest u) q)
     (parts_texts rest ended (All-tail IsUtf8 word rest u))
 
 pub some_parts : (o : Option (List Part)) → IfSome o (λ ps. ⊤)
@@ -265,13 +301,14 @@ some_parts (Some ps) = tt
 
 pub words_in_range : (words : List Text) (settings : Settings) → words_of words ≡ Ok settings → AreInRange settings
 words_in_range words settings e =
-    let from = from_parts settings (λ _. ⊤) (parts_of words) (some_parts (parts_of words)) e in
+    let from = from_parts settings (λ _. ⊤) (command_parts words) (some_parts (command_parts words)) e in
     let a : AreFrom from.0 settings = from.2 in
     subst AreInRange a.is (ranges a.form a.values a.texts a.asks a.taken a.admitted a.read)
 
-pub words_are_text : (words : List Text) (settings : Settings) → All IsUtf8 words → words_of words ≡ Ok settings → All (λ asked. IsUtf8 asked.text) settings.asks
+pub words_are_text : (words : List Text) (settings : Settings) → All IsUtf8 words → words_of words ≡ Ok settings
+    → All (λ asked. IsUtf8 asked.text) settings.asks
 words_are_text words settings u e =
-    let from = from_parts settings (All IsUtf8) (parts_of words) (parts_texts words between u) e in
+    let from = from_parts settings (All IsUtf8) (command_parts words) (parts_texts words between u) e in
     let a : AreFrom from.0 settings = from.2 in
     let all : All IsUtf8 (a.word ∷ a.texts) = subst (All IsUtf8) a.front from.1 in
     let asks : All (λ asked. IsUtf8 asked.text) a.asks = subst (λ r. IfOk r (All (λ asked. IsUtf8 asked.text))) a.read

@@ -1,4 +1,5 @@
--- The words as `clap` reads them: a lone hyphen is a plain word, and no option takes a value that begins with a hyphen, but for a lone one.
+-- The words as `clap` reads them: a lone hyphen is a plain word, and no option takes a value that begins with a hyphen,
+-- but for a lone one.
 use Rattle.std.proofs.Common.{◌≡◌, ℕ, Bool, true, false, refl, List, [], ◌∷◌, Option, Some, None, ◌==◌}
 use Rattle.std.specs.Prelude.{if◌then◌else◌, is_some, slice_get}
 use Rattle.std.specs.List.{list_any, before_first, after_first}
@@ -44,13 +45,17 @@ long_kind name (Some v) = if is_name name then whole name v else misfit
 
 pub data Seen : Text → Type 0 where
   seen_ends : (w : Text) → bytes_eq w hyphens ≡ true → clap_kind w ≡ ends → Seen w
-  seen_long : (w name : Text) (v : Option Text) → bytes_eq w hyphens ≡ false → long_of w ≡ Some (name, v) → clap_kind w ≡ long_kind name v → Seen w
-  seen_short : (w : Text) (x : ℕ) (xs : Text) → bytes_eq w hyphens ≡ false → long_of w ≡ None → short_of w ≡ Some (x ∷ xs)
+  seen_long : (w name : Text) (v : Option Text) → bytes_eq w hyphens ≡ false → long_of w ≡ Some (name, v)
+      → clap_kind w ≡ long_kind name v → Seen w
+  seen_short : (w : Text) (x : ℕ) (xs : Text) → bytes_eq w hyphens ≡ false → long_of w ≡ None
+      → short_of w ≡ Some (x ∷ xs)
       → clap_kind w ≡ flag_kind (x ∷ xs) → Seen w
-  seen_plain : (w : Text) → bytes_eq w hyphens ≡ false → long_of w ≡ None → short_of w ≡ None → clap_kind w ≡ plain → Seen w
+  seen_plain : (w : Text) → bytes_eq w hyphens ≡ false → long_of w ≡ None → short_of w ≡ None
+      → clap_kind w ≡ plain → Seen w
 
 named_kind : (text : Text) (b n : Bool) → list_any is_equals text ≡ b → is_name (before_first is_equals text) ≡ n
-    → (if n then (if b then whole (before_first is_equals text) (after_first is_equals text) else begins (before_first is_equals text)) else misfit)
+    → (if n then (if b then whole (before_first is_equals text) (after_first is_equals text)
+    else begins (before_first is_equals text)) else misfit)
     ≡ long_kind (before_first is_equals text) (if b then Some (after_first is_equals text) else None)
 named_kind text true true e f = rw f refl
 named_kind text true false e f = rw f refl
@@ -65,7 +70,8 @@ seen (c ∷ cs) = go (c == 45) refl cs
     third d e [] true f = seen_ends _ (rw (e, f) refl) (rw (e, f) refl)
     third d e (x ∷ xs) true f =
         let text : Text = x ∷ xs in
-        seen_long _ (before_first is_equals text) (if list_any is_equals text then Some (after_first is_equals text) else None)
+        seen_long _ (before_first is_equals text) (if list_any is_equals text
+        then Some (after_first is_equals text) else None)
         (rw (e, f) refl) (rw (e, f) refl) (rw (e, f) (named_kind text _ _ refl refl))
     third d e ds false f = seen_short _ d ds (rw (e, f) refl) (rw (e, f) refl) (rw (e, f) refl) (rw (e, f) refl)
 

@@ -21,24 +21,29 @@ use Rattle.dl_words.specs.Spelling.{Text}
 use Rattle.dl_words.proofs.Simulation.{Fails, Use, bytes_same, fault, faults, step}
 use Rattle.std.proofs.lemmas.Bool.{and_parts}
 
-all_of-same : (id : Text) (how : Reading) (s : ValueSource) (vs : List Text) (rows : List Row) → all_of id (with_values id how s vs rows) ≡ Some (unwrap_or (all_of id rows) [] ++ vs)
+all_of-same : (id : Text) (how : Reading) (s : ValueSource) (vs : List Text) (rows : List Row)
+    → all_of id (with_values id how s vs rows) ≡ Some (unwrap_or (all_of id rows) [] ++ vs)
 all_of-same id how s vs [] = rw (bytes_same id) refl
 all_of-same id how s vs (r ∷ rs) = go (all_of-same id how s vs rs) (bytes_eq r.id id) refl
   where
     go : all_of id (with_values id how s vs rs) ≡ Some (unwrap_or (all_of id rs) [] ++ vs)
-        → (b : Bool) → bytes_eq r.id id ≡ b → all_of id (with_values id how s vs (r ∷ rs)) ≡ Some (unwrap_or (all_of id (r ∷ rs)) [] ++ vs)
+        → (b : Bool) → bytes_eq r.id id ≡ b → all_of id (with_values id how s vs (r ∷ rs))
+        ≡ Some (unwrap_or (all_of id (r ∷ rs)) [] ++ vs)
     go rest true e = rw (e, e) refl
     go rest false e = rw (e, e) rest
 
-all_of-other : (id other : Text) (how : Reading) (s : ValueSource) (vs : List Text) (rows : List Row) → bytes_eq id other ≡ false → all_of other (with_values id how s vs rows) ≡ all_of other rows
+all_of-other : (id other : Text) (how : Reading) (s : ValueSource) (vs : List Text) (rows : List Row)
+    → bytes_eq id other ≡ false → all_of other (with_values id how s vs rows) ≡ all_of other rows
 all_of-other id other how s vs [] d = rw d refl
 all_of-other id other how s vs (r ∷ rs) d = go (bytes_eq r.id id) refl (all_of-other id other how s vs rs d)
   where
-    skip : (c : Bool) → bytes_eq r.id other ≡ c → all_of other (with_values id how s vs rs) ≡ all_of other rs → all_of other (r ∷ with_values id how s vs rs) ≡ all_of other (r ∷ rs)
+    skip : (c : Bool) → bytes_eq r.id other ≡ c → all_of other (with_values id how s vs rs) ≡ all_of other rs
+        → all_of other (r ∷ with_values id how s vs rs) ≡ all_of other (r ∷ rs)
     skip true f h = rw f refl
     skip false f h = rw f h
 
-    go : (b : Bool) → bytes_eq r.id id ≡ b → all_of other (with_values id how s vs rs) ≡ all_of other rs → all_of other (with_values id how s vs (r ∷ rs)) ≡ all_of other (r ∷ rs)
+    go : (b : Bool) → bytes_eq r.id id ≡ b → all_of other (with_values id how s vs rs) ≡ all_of other rs
+        → all_of other (with_values id how s vs (r ∷ rs)) ≡ all_of other (r ∷ rs)
     go true e h =
         let same : r.id ≡ id = (bytes_eq-Decides r.id id).0 e in
         let miss : bytes_eq r.id other ≡ false = subst (λ t. bytes_eq t other ≡ false) (sym same) d in
@@ -57,15 +62,18 @@ has_row-all_of : (id : Text) (rows : List Row) → has_row id rows ≡ is_some (
 has_row-all_of id [] = refl
 has_row-all_of id (r ∷ rs) = go (has_row-all_of id rs) (bytes_eq r.id id) refl
   where
-    go : has_row id rs ≡ is_some (all_of id rs) → (b : Bool) → bytes_eq r.id id ≡ b → has_row id (r ∷ rs) ≡ is_some (all_of id (r ∷ rs))
+    go : has_row id rs ≡ is_some (all_of id rs) → (b : Bool) → bytes_eq r.id id ≡ b
+        → has_row id (r ∷ rs) ≡ is_some (all_of id (r ∷ rs))
     go h true e = rw e refl
     go h false e = rw e h
 
 -- ---- uses of arguments that keep their values: one that may stand once, or one that gathers them
 
 pub data Kept (s : Shape) (id : Text) : Type 0 where
-  kept_once : (a : Rule) → arg_by_id s.rules id ≡ Some a → a.id ≡ id → action_of a ≡ Set → ((v : Text) (r : List Row) → use_fault false a (v ∷ []) r ≡ repeat_fault false a.id r) → Kept s id
-  kept_all : (a : Rule) → arg_by_id s.rules id ≡ Some a → a.id ≡ id → action_of a ≡ Append → ((v : Text) (r : List Row) → use_fault false a (v ∷ []) r ≡ []) → Kept s id
+  kept_once : (a : Rule) → arg_by_id s.rules id ≡ Some a → a.id ≡ id → action_of a ≡ Set
+      → ((v : Text) (r : List Row) → use_fault false a (v ∷ []) r ≡ repeat_fault false a.id r) → Kept s id
+  kept_all : (a : Rule) → arg_by_id s.rules id ≡ Some a → a.id ≡ id → action_of a ≡ Append
+      → ((v : Text) (r : List Row) → use_fault false a (v ∷ []) r ≡ []) → Kept s id
 
 -- the argument of this id may stand once
 abbrev pub IsSingle : Shape → Text → Type 0
@@ -86,7 +94,8 @@ abbrev pub more : Option (List Text) → List Text → Option (List Text)
 more o [] = o
 more o (v ∷ vs) = Some (unwrap_or o [] ++ v ∷ vs)
 
-more-more : (o : Option (List Text)) (v : Text) (vs : List Text) → more (Some (unwrap_or o [] ++ v ∷ [])) vs ≡ more o (v ∷ vs)
+more-more : (o : Option (List Text)) (v : Text) (vs : List Text)
+    → more (Some (unwrap_or o [] ++ v ∷ [])) vs ≡ more o (v ∷ vs)
 more-more o v [] = refl
 more-more o v (w ∷ vs) = ap Some (append_assoc (unwrap_or o []) (v ∷ []) (w ∷ vs))
 
@@ -103,35 +112,44 @@ both_empty (k ∷ ks) b h = absurd (subst Fails h tt)
 
 module _ (s : Shape) where
   -- what a use with no fault does
-  use_once : (r : List Row) (u : Use) (a : Rule) → arg_by_id s.rules u.0 ≡ Some a → a.id ≡ u.0 → action_of a ≡ Set → ((v : Text) (r : List Row) → use_fault false a (v ∷ []) r ≡ repeat_fault false a.id r)
+  use_once : (r : List Row) (u : Use) (a : Rule) → arg_by_id s.rules u.0 ≡ Some a → a.id ≡ u.0 → action_of a ≡ Set
+      → ((v : Text) (r : List Row) → use_fault false a (v ∷ []) r ≡ repeat_fault false a.id r)
       → fault s r u ≡ [] → has_row u.0 r ≡ false
-  use_once r u a found same action uf h = subst (λ t. has_row t r ≡ false) same (no_repeat a.id r (sym (uf u.1 r) ∙ (rw found at h)))
+  use_once r u a found same action uf h = subst (λ t. has_row t r ≡ false) same
+      (no_repeat a.id r (sym (uf u.1 r) ∙ (rw found at h)))
 
-  step_same : (r : List Row) (u : Use) → Kept s u.0 → fault s r u ≡ [] → all_of u.0 (step s r u) ≡ Some (unwrap_or (all_of u.0 r) [] ++ u.1 ∷ [])
+  step_same : (r : List Row) (u : Use) → Kept s u.0 → fault s r u ≡ []
+      → all_of u.0 (step s r u) ≡ Some (unwrap_or (all_of u.0 r) [] ++ u.1 ∷ [])
   step_same r u (kept_once a found same action uf) h =
       let fresh : has_row u.0 r ≡ false = use_once r u a found same action uf h in
       let gone : without u.0 r ≡ r = without-none u.0 r fresh in
       rw (found, action, same, gone) (all_of-same u.0 _ _ (u.1 ∷ []) r)
   step_same r u (kept_all a found same action uf) h = rw (found, action, same) (all_of-same u.0 _ _ (u.1 ∷ []) r)
 
-  step_other : (r : List Row) (u : Use) (id : Text) → bytes_eq u.0 id ≡ false → Kept s u.0 → fault s r u ≡ [] → all_of id (step s r u) ≡ all_of id r
+  step_other : (r : List Row) (u : Use) (id : Text) → bytes_eq u.0 id ≡ false → Kept s u.0 → fault s r u ≡ []
+      → all_of id (step s r u) ≡ all_of id r
   step_other r u id d (kept_once a found same action uf) h =
       let gone : without u.0 r ≡ r = without-none u.0 r (use_once r u a found same action uf h) in
       rw (found, action, same, gone) (all_of-other u.0 id _ _ (u.1 ∷ []) r d)
-  step_other r u id d (kept_all a found same action uf) h = rw (found, action, same) (all_of-other u.0 id _ _ (u.1 ∷ []) r d)
+  step_other r u id d (kept_all a found same action uf) h =
+      rw (found, action, same) (all_of-other u.0 id _ _ (u.1 ∷ []) r d)
 
   -- what an id has at the end
-  pub gathered : (us : List Use) (r : List Row) (id : Text) → AllKept s us → faults s r us ≡ [] → all_of id (fold (step s) r us) ≡ more (all_of id r) (values_in id us)
+  pub gathered : (us : List Use) (r : List Row) (id : Text) → AllKept s us → faults s r us ≡ []
+      → all_of id (fold (step s) r us) ≡ more (all_of id r) (values_in id us)
   gathered [] r id kept h = refl
   gathered (u ∷ us) r id kept h =
       let parts = both_empty (fault s r u) _ h in
       go (gathered us (step s r u) id kept.1 parts.1) parts.0 (bytes_eq u.0 id) refl
     where
-      go : all_of id (fold (step s) (step s r u) us) ≡ more (all_of id (step s r u)) (values_in id us) → fault s r u ≡ [] → (b : Bool) → bytes_eq u.0 id ≡ b
+      go : all_of id (fold (step s) (step s r u) us) ≡ more (all_of id (step s r u)) (values_in id us)
+          → fault s r u ≡ [] → (b : Bool) → bytes_eq u.0 id ≡ b
           → all_of id (fold (step s) (step s r u) us) ≡ more (all_of id r) (values_in id (u ∷ us))
       go rest none true e =
           let is : u.0 ≡ id = (bytes_eq-Decides u.0 id).0 e in
-          let same : all_of id (step s r u) ≡ Some (unwrap_or (all_of id r) [] ++ u.1 ∷ []) = subst (λ t. all_of t (step s r u) ≡ Some (unwrap_or (all_of t r) [] ++ u.1 ∷ [])) is (step_same r u kept.0 none) in
+          let same : all_of id (step s r u) ≡ Some (unwrap_or (all_of id r) [] ++ u.1 ∷ []) =
+          subst (λ t. all_of t (step s r u) ≡ Some (unwrap_or (all_of t r) [] ++ u.1 ∷ [])) is
+          (step_same r u kept.0 none) in
           rest ∙ ap (λ o. more o (values_in id us)) same ∙ more-more (all_of id r) u.1 (values_in id us) ∙ (rw e refl)
       go rest none false e = rest ∙ ap (λ o. more o (values_in id us)) (step_other r u id e kept.0 none) ∙ (rw e refl)
 
@@ -139,15 +157,19 @@ module _ (s : Shape) where
   abbrev pub count : Text → List Row → List Use → ℕ
   count id r us = (if is_some (all_of id r) then 1 else 0) + length (values_in id us)
 
-  counted : (us : List Use) (r : List Row) (u : Use) (id : Text) → Kept s u.0 → fault s r u ≡ [] → IsSingle s id → count id (step s r u) us ≡ count id r (u ∷ us)
+  counted : (us : List Use) (r : List Row) (u : Use) (id : Text) → Kept s u.0 → fault s r u ≡ [] → IsSingle s id
+      → count id (step s r u) us ≡ count id r (u ∷ us)
   counted us r u id k h single = go (bytes_eq u.0 id) refl k
     where
       go : (b : Bool) → bytes_eq u.0 id ≡ b → Kept s u.0 → count id (step s r u) us ≡ count id r (u ∷ us)
       go true e (kept_once a found same action uf) =
           let is : u.0 ≡ id = (bytes_eq-Decides u.0 id).0 e in
-          let before : is_some (all_of u.0 r) ≡ false = sym (has_row-all_of u.0 r) ∙ use_once r u a found same action uf h in
+          let before : is_some (all_of u.0 r) ≡ false = sym (has_row-all_of u.0 r)
+          ∙ use_once r u a found same action uf h in
           let none : is_some (all_of id r) ≡ false = subst (λ t. is_some (all_of t r) ≡ false) is before in
-          let after : is_some (all_of id (step s r u)) ≡ true = subst (λ t. is_some (all_of t (step s r u)) ≡ true) is (ap is_some (step_same r u (kept_once a found same action uf) h)) in
+          let after : is_some (all_of id (step s r u)) ≡ true =
+          subst (λ t. is_some (all_of t (step s r u)) ≡ true) is
+          (ap is_some (step_same r u (kept_once a found same action uf) h)) in
           rw (e, none, after) (omega arith)
       go true e (kept_all a found same action uf) =
           let is : u.0 ≡ id = (bytes_eq-Decides u.0 id).0 e in
@@ -155,7 +177,8 @@ module _ (s : Shape) where
       go false e k = rw (e, step_other r u id e k h) refl
 
   -- with no fault an id that may stand once does so
-  pub at_most_once : (us : List Use) (r : List Row) (id : Text) → AllKept s us → IsSingle s id → faults s r us ≡ [] → count id r us ≤ 1
+  pub at_most_once : (us : List Use) (r : List Row) (id : Text) → AllKept s us → IsSingle s id → faults s r us ≡ []
+      → count id r us ≤ 1
   at_most_once [] r id kept single h = go (is_some (all_of id r))
     where
       go : (b : Bool) → (if b then 1 else 0) + 0 ≤ 1
@@ -163,27 +186,32 @@ module _ (s : Shape) where
       go false = omega arith
   at_most_once (u ∷ us) r id kept single h =
       let parts = both_empty (fault s r u) _ h in
-      subst (λ n. n ≤ 1) (counted us r u id kept.0 parts.0 single) (at_most_once us (step s r u) id kept.1 single parts.1)
+      subst (λ n. n ≤ 1) (counted us r u id kept.0 parts.0 single)
+      (at_most_once us (step s r u) id kept.1 single parts.1)
 
   -- a fault means that one stands twice
-  pub twice : (us : List Use) (r : List Row) → AllKept s us → Fails (faults s r us) → (id : Text) × IsSingle s id × (2 ≤ count id r us)
+  pub twice : (us : List Use) (r : List Row) → AllKept s us → Fails (faults s r us) → (id : Text) × IsSingle s id
+      × (2 ≤ count id r us)
   twice [] r kept h = absurd h
   twice (u ∷ us) r kept h = go (λ k. twice us (step s r u) kept.1 k) (fault s r u) refl kept.0 h
     where
       single_of : (a : Rule) (id : Text) → arg_by_id s.rules id ≡ Some a → action_of a ≡ Set → IsSingle s id
       single_of a id found action = λ b is. ap (λ o. action_of (unwrap_or o a)) (sym is ∙ found) ∙ action
 
-      there : (a : Rule) → a.id ≡ u.0 → (b : Bool) → has_row a.id r ≡ b → Fails (repeat_fault false a.id r) → 2 ≤ count u.0 r (u ∷ us)
+      there : (a : Rule) → a.id ≡ u.0 → (b : Bool) → has_row a.id r ≡ b → Fails (repeat_fault false a.id r)
+          → 2 ≤ count u.0 r (u ∷ us)
       there a same false e f =
           let none : repeat_fault false a.id r ≡ [] = rw e refl in
           absurd (subst Fails none f)
       there a same true e f =
-          let some : is_some (all_of u.0 r) ≡ true = sym (has_row-all_of u.0 r) ∙ subst (λ t. has_row t r ≡ true) same e in
+          let some : is_some (all_of u.0 r) ≡ true = sym (has_row-all_of u.0 r)
+          ∙ subst (λ t. has_row t r ≡ true) same e in
           let here : bytes_eq u.0 u.0 ≡ true = bytes_same u.0 in
           rw (some, here) (omega arith)
 
       go : (Fails (faults s (step s r u) us) → (id : Text) × IsSingle s id × (2 ≤ count id (step s r u) us))
-          → (f : Kinds) → fault s r u ≡ f → Kept s u.0 → Fails (or_else f (faults s (step s r u) us)) → (id : Text) × IsSingle s id × (2 ≤ count id r (u ∷ us))
+          → (f : Kinds) → fault s r u ≡ f → Kept s u.0 → Fails (or_else f (faults s (step s r u) us))
+          → (id : Text) × IsSingle s id × (2 ≤ count id r (u ∷ us))
       go rest [] e k h =
           let got = rest h in
           (got.0, got.1, subst (λ n. 2 ≤ n) (counted us r u got.0 k e got.1) got.2)
@@ -204,13 +232,15 @@ strong None = refl
 strong (Some CommandLine) = refl
 strong (Some DefaultValue) = refl
 
-with_explicit : (id : Text) (how : Reading) (vs : List Text) (rows : List Row) → explicit rows ≡ true → explicit (with_values id how CommandLine vs rows) ≡ true
+with_explicit : (id : Text) (how : Reading) (vs : List Text) (rows : List Row) → explicit rows ≡ true
+    → explicit (with_values id how CommandLine vs rows) ≡ true
 with_explicit id how vs [] h = refl
 with_explicit id how vs (r ∷ rs) h =
     let parts = and_parts (explicit_source r.source) _ h in
     go (with_explicit id how vs rs parts.1) parts.0 parts.1 (bytes_eq r.id id) refl
   where
-    go : explicit (with_values id how CommandLine vs rs) ≡ true → explicit_source r.source ≡ true → explicit rs ≡ true → (b : Bool) → bytes_eq r.id id ≡ b → explicit (with_values id how CommandLine vs (r ∷ rs)) ≡ true
+    go : explicit (with_values id how CommandLine vs rs) ≡ true → explicit_source r.source ≡ true → explicit rs ≡ true
+        → (b : Bool) → bytes_eq r.id id ≡ b → explicit (with_values id how CommandLine vs (r ∷ rs)) ≡ true
     go rest here tail true e = rw (e, strong r.source) tail
     go rest here tail false e = rw (e, here) rest
 
@@ -220,15 +250,18 @@ without_explicit id (r ∷ rs) h =
     let parts = and_parts (explicit_source r.source) _ h in
     go (without_explicit id rs parts.1) parts.0 parts.1 (bytes_eq r.id id) refl
   where
-    go : explicit (without id rs) ≡ true → explicit_source r.source ≡ true → explicit rs ≡ true → (b : Bool) → bytes_eq r.id id ≡ b → explicit (without id (r ∷ rs)) ≡ true
+    go : explicit (without id rs) ≡ true → explicit_source r.source ≡ true → explicit rs ≡ true → (b : Bool)
+        → bytes_eq r.id id ≡ b → explicit (without id (r ∷ rs)) ≡ true
     go rest here tail true e = rw e tail
     go rest here tail false e = rw (e, here) rest
 
 step_explicit : (s : Shape) (r : List Row) (u : Use) → Kept s u.0 → explicit r ≡ true → explicit (step s r u) ≡ true
-step_explicit s r u (kept_once a found same action uf) h = rw (found, action, same) (with_explicit u.0 _ (u.1 ∷ []) (without u.0 r) (without_explicit u.0 r h))
+step_explicit s r u (kept_once a found same action uf) h =
+    rw (found, action, same) (with_explicit u.0 _ (u.1 ∷ []) (without u.0 r) (without_explicit u.0 r h))
 step_explicit s r u (kept_all a found same action uf) h = rw (found, action, same) (with_explicit u.0 _ (u.1 ∷ []) r h)
 
-pub all_explicit : (s : Shape) (us : List Use) (r : List Row) → AllKept s us → explicit r ≡ true → explicit (fold (step s) r us) ≡ true
+pub all_explicit : (s : Shape) (us : List Use) (r : List Row) → AllKept s us → explicit r ≡ true
+    → explicit (fold (step s) r us) ≡ true
 all_explicit s [] r kept h = h
 all_explicit s (u ∷ us) r kept h = all_explicit s us (step s r u) kept.1 (step_explicit s r u kept.0 h)
 
@@ -238,6 +271,7 @@ given_explicit id (r ∷ rs) h =
     let parts = and_parts (explicit_source r.source) _ h in
     go (given_explicit id rs parts.1) parts.0 (bytes_eq r.id id) refl
   where
-    go : is_given id rs ≡ is_some (all_of id rs) → explicit_source r.source ≡ true → (b : Bool) → bytes_eq r.id id ≡ b → is_given id (r ∷ rs) ≡ is_some (all_of id (r ∷ rs))
+    go : is_given id rs ≡ is_some (all_of id rs) → explicit_source r.source ≡ true → (b : Bool) → bytes_eq r.id id ≡ b
+        → is_given id (r ∷ rs) ≡ is_some (all_of id (r ∷ rs))
     go rest here true e = rw (e, here) refl
     go rest here false e = rw e rest

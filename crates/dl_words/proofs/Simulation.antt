@@ -53,12 +53,14 @@ pub record TakesOne (s : Shape) (id : Text) (a : Rule) : Type 0 where
 -- what the arguments of a long name are: none, one that always fails, or one that takes a value
 pub data LongMet (s : Shape) (name : Text) : Option Rule → Bool → Type 0 where
   no_long : LongMet s name None false
-  help_long : (a : Rule) → takes_values a ≡ false → ((r : List Row) → Fails (use_fault false a [] r)) → LongMet s name (Some a) false
+  help_long : (a : Rule) → takes_values a ≡ false → ((r : List Row) → Fails (use_fault false a [] r))
+      → LongMet s name (Some a) false
   takes_long : (a : Rule) → TakesOne s name a → LongMet s name (Some a) true
 
 pub data ShortMet : Option Rule → Type 0 where
   no_short : ShortMet None
-  help_short : (a : Rule) → takes_values a ≡ false → ((r : List Row) → Fails (use_fault false a [] r)) → ShortMet (Some a)
+  help_short : (a : Rule) → takes_values a ≡ false → ((r : List Row) → Fails (use_fault false a [] r))
+      → ShortMet (Some a)
 
 -- the place of the next positional: the first, or one after it
 abbrev pub position_of : Bool → ℕ
@@ -98,7 +100,8 @@ module _ (s : Shape) where
   faults r (u ∷ us) = or_else (fault r u) (faults (step r u) us)
 
   abbrev pub total : Walk → List Text → Kinds
-  total w words = or_else (walk_fault s [] w words) (settle_fault s.rules s.args_override_self (fold (walked s.rules []) w words).held)
+  total w words = or_else (walk_fault s [] w words)
+      (settle_fault s.rules s.args_override_self (fold (walked s.rules []) w words).held)
 
   abbrev pub final : Walk → List Text → List Row
   final w words = (settled s.rules (fold (walked s.rules []) w words).held).rows
@@ -121,13 +124,15 @@ pub total_turn : (s : Shape) (w after : Walk) (word : Text) (rest : List Text) (
     → total s w (word ∷ rest) ≡ or_else f (total s after rest)
 unfolding walk_fault
 total_turn s w after word rest f t =
-    or_else-assoc (turn_fault s [] w word) _ _ ∙ ap₂ (λ (g : Kinds) (v : Walk). or_else g (total s v rest)) t.fault t.walk
+    or_else-assoc (turn_fault s [] w word) _ _ ∙ ap₂ (λ (g : Kinds) (v : Walk). or_else g (total s v rest))
+    t.fault t.walk
 
 pub final_turn : (s : Shape) (w after : Walk) (word : Text) (rest : List Text) (f : Kinds) → Turns s w word f after
     → final s w (word ∷ rest) ≡ final s after rest
 final_turn s w after word rest f t = ap (λ (v : Walk). final s v rest) t.walk
 
-pub fails_turn : (s : Shape) (w : Walk) (word : Text) (rest : List Text) → Fails (turn_fault s [] w word) → Fails (total s w (word ∷ rest))
+pub fails_turn : (s : Shape) (w : Walk) (word : Text) (rest : List Text) → Fails (turn_fault s [] w word)
+    → Fails (total s w (word ∷ rest))
 unfolding walk_fault
 fails_turn s w word rest h = fails_first _ _ (fails_first _ _ h)
 
@@ -137,7 +142,8 @@ no_subcommand (wants id) word = refl
 no_subcommand several word = refl
 
 -- `--`
-pub turns_ends : (s : Shape) (r : List Row) (p : Option (Text × List Text)) (waiting : Waiting) (position : ℕ) (word : Text) → bytes_eq word hyphens ≡ true
+pub turns_ends : (s : Shape) (r : List Row) (p : Option (Text × List Text)) (waiting : Waiting) (position : ℕ)
+    (word : Text) → bytes_eq word hyphens ≡ true
     → Turns s (stand r p waiting position false) word [] (stand r p waiting position true)
 unfolding walked
 turns_ends s r p waiting position word e = record {
@@ -146,27 +152,34 @@ turns_ends s r p waiting position word e = record {
 }
 
 -- a long name
-long_turn : (s : Shape) (r : List Row) (p : Option (Text × List Text)) (waiting : Waiting) (position : ℕ) (word name : Text) (v : Option Text) → bytes_eq word hyphens ≡ false
-    → long_of word ≡ Some (name, v) → Fails (long_fault s.rules s.args_override_self (arg_by_long s.rules name) v (stand r p waiting position false).held)
+long_turn : (s : Shape) (r : List Row) (p : Option (Text × List Text)) (waiting : Waiting) (position : ℕ)
+    (word name : Text) (v : Option Text) → bytes_eq word hyphens ≡ false
+    → long_of word ≡ Some (name, v) → Fails (long_fault s.rules s.args_override_self (arg_by_long s.rules name) v
+    (stand r p waiting position false).held)
     → Fails (turn_fault s [] (stand r p waiting position false) word)
 long_turn s r p waiting position word name v e l h = rw (no_subcommand waiting word, e, l) (fails_first _ _ h)
 
 -- one that no option has
-misfit_long : (s : Shape) (place : Bool → Text) (ready : IsReady s place) (h : Held) (name : Text) (v : Option Text) → is_name name ≡ false
+misfit_long : (s : Shape) (place : Bool → Text) (ready : IsReady s place) (h : Held) (name : Text) (v : Option Text)
+    → is_name name ≡ false
     → Fails (long_fault s.rules s.args_override_self (arg_by_long s.rules name) v h)
 misfit_long s place ready h name v not_name = go (arg_by_long s.rules name) (is_name name) (ready.long name) not_name v
   where
-    go : (o : Option Rule) (b : Bool) → LongMet s name o b → b ≡ false → (u : Option Text) → Fails (long_fault s.rules s.args_override_self o u h)
+    go : (o : Option Rule) (b : Bool) → LongMet s name o b → b ≡ false → (u : Option Text)
+        → Fails (long_fault s.rules s.args_override_self o u h)
     go _ _ no_long e u = tt
     go _ _ (help_long a takes refuses) e (Some u) = rw takes tt
     go _ _ (help_long a takes refuses) e None = rw (takes, ready.once) (fails_next _ _ (refuses _))
     go _ _ (takes_long a t) e u = absurd (true≢false e)
 
 -- an option with its value in the same word
-pub turns_whole : (s : Shape) (r : List Row) (p : Option (Text × List Text)) (waiting : Waiting) (position : ℕ) (word name v : Text) (a : Rule) → bytes_eq word hyphens ≡ false
-    → long_of word ≡ Some (name, Some v) → arg_by_long s.rules name ≡ Some a → takes_values a ≡ true → s.args_override_self ≡ false
+pub turns_whole : (s : Shape) (r : List Row) (p : Option (Text × List Text)) (waiting : Waiting) (position : ℕ)
+    (word name v : Text) (a : Rule) → bytes_eq word hyphens ≡ false
+    → long_of word ≡ Some (name, Some v) → arg_by_long s.rules name ≡ Some a → takes_values a ≡ true
+    → s.args_override_self ≡ false
     → Turns s (stand r p waiting position false) word
-    (or_else (settle_fault s.rules s.args_override_self (stand r p waiting position false).held) (use_fault false a (v ∷ []) (settled_rows s.rules p r)))
+    (or_else (settle_fault s.rules s.args_override_self (stand r p waiting position false).held)
+    (use_fault false a (v ∷ []) (settled_rows s.rules p r)))
     (stand (used a (v ∷ []) (settled_rows s.rules p r)) None idle position false)
 unfolding walked
 turns_whole s r p waiting position word name v a e l found takes once = record {
@@ -175,9 +188,11 @@ turns_whole s r p waiting position word name v a e l found takes once = record {
 }
 
 -- an option that waits for its value
-pub turns_begins : (s : Shape) (r : List Row) (p : Option (Text × List Text)) (waiting : Waiting) (position : ℕ) (word name : Text) (a : Rule) → bytes_eq word hyphens ≡ false
+pub turns_begins : (s : Shape) (r : List Row) (p : Option (Text × List Text)) (waiting : Waiting) (position : ℕ)
+    (word name : Text) (a : Rule) → bytes_eq word hyphens ≡ false
     → long_of word ≡ Some (name, None) → arg_by_long s.rules name ≡ Some a → takes_values a ≡ true → a.id ≡ name
-    → Turns s (stand r p waiting position false) word (settle_fault s.rules s.args_override_self (stand r p waiting position false).held)
+    → Turns s (stand r p waiting position false) word
+    (settle_fault s.rules s.args_override_self (stand r p waiting position false).held)
     (stand (settled_rows s.rules p r) (Some (name, [])) (wants name) position false)
 unfolding walked
 turns_begins s r p waiting position word name a e l found takes same = record {
@@ -185,14 +200,19 @@ turns_begins s r p waiting position word name a e l found takes same = record {
   walk = rw (no_subcommand waiting word, e, l, found, takes, same) refl;
 }
 
-short_fails : (s : Shape) (o : Option Rule) → ShortMet o → s.args_override_self ≡ false → (rest : Text) (h : Held) (next : Held → Kinds)
+short_fails : (s : Shape) (o : Option Rule) → ShortMet o → s.args_override_self ≡ false
+    → (rest : Text) (h : Held) (next : Held → Kinds)
     → Fails (short_fault s.rules s.args_override_self o rest h next)
 short_fails s _ no_short once rest h next = tt
-short_fails s _ (help_short a takes refuses) once rest h next = rw (takes, once) (fails_first (react_fault s.rules false a [] h) (next (reacted s.rules a [] h)) (fails_next (settle_fault s.rules false h) (use_fault false a [] (settled s.rules h).rows) (refuses _)))
+short_fails s _ (help_short a takes refuses) once rest h next =
+    rw (takes, once) (fails_first (react_fault s.rules false a [] h) (next (reacted s.rules a [] h))
+    (fails_next (settle_fault s.rules false h) (use_fault false a [] (settled s.rules h).rows) (refuses _)))
 
 -- a bundle of flags that has a first character
-short_turn : (s : Shape) (place : Bool → Text) (ready : IsReady s place) (r : List Row) (p : Option (Text × List Text)) (waiting : Waiting) (position : ℕ) (word : Text) (x : ℕ) (xs : Text) (c : ℕ)
-    → bytes_eq word hyphens ≡ false → long_of word ≡ None → short_of word ≡ Some (x ∷ xs) → slice_get (chars (x ∷ xs)) 0 ≡ Some c
+short_turn : (s : Shape) (place : Bool → Text) (ready : IsReady s place) (r : List Row) (p : Option (Text × List Text))
+    (waiting : Waiting) (position : ℕ) (word : Text) (x : ℕ) (xs : Text) (c : ℕ)
+    → bytes_eq word hyphens ≡ false → long_of word ≡ None → short_of word ≡ Some (x ∷ xs)
+    → slice_get (chars (x ∷ xs)) 0 ≡ Some c
     → Fails (turn_fault s [] (stand r p waiting position false) word)
 unfolding flags_fault
 short_turn s place ready r p waiting position word x xs c e l f first =
@@ -201,16 +221,20 @@ short_turn s place ready r p waiting position word x xs c e l f first =
 -- a word that is no flag
 pub record IsNoFlag (s : Shape) (word : Text) : Type 0 where
   pub met : (r : List Row) (p : Option (Text × List Text)) (waiting : Waiting) (position : ℕ)
-      → word_met s.rules [] false waiting position word (stand r p waiting position false).held ≡ plain_word s.rules waiting word (stand r p waiting position false).held
-  pub fault : (r : List Row) (p : Option (Text × List Text)) (waiting : Waiting) (position : ℕ) → word_fault s [] false waiting word (stand r p waiting position false).held ≡ []
+      → word_met s.rules [] false waiting position word (stand r p waiting position false).held
+      ≡ plain_word s.rules waiting word (stand r p waiting position false).held
+  pub fault : (r : List Row) (p : Option (Text × List Text)) (waiting : Waiting) (position : ℕ)
+      → word_fault s [] false waiting word (stand r p waiting position false).held ≡ []
 
-plain_no_flag : (s : Shape) (word : Text) → bytes_eq word hyphens ≡ false → long_of word ≡ None → short_of word ≡ None → IsNoFlag s word
+plain_no_flag : (s : Shape) (word : Text) → bytes_eq word hyphens ≡ false → long_of word ≡ None → short_of word ≡ None
+    → IsNoFlag s word
 plain_no_flag s word e l f = record {
   met = λ r p waiting position. rw (no_subcommand waiting word, e, l, f) refl;
   fault = λ r p waiting position. rw (no_subcommand waiting word, e, l, f) refl;
 }
 
-short_no_flag : (s : Shape) (word : Text) (x : ℕ) (xs : Text) → bytes_eq word hyphens ≡ false → long_of word ≡ None → short_of word ≡ Some (x ∷ xs)
+short_no_flag : (s : Shape) (word : Text) (x : ℕ) (xs : Text) → bytes_eq word hyphens ≡ false → long_of word ≡ None
+    → short_of word ≡ Some (x ∷ xs)
     → slice_get (chars (x ∷ xs)) 0 ≡ None → IsNoFlag s word
 unfolding flags_fault bundle_met
 short_no_flag s word x xs e l f none = record {
@@ -231,23 +255,45 @@ and_false true = refl
 and_false false = refl
 
 -- a positional
-turns_positional : (s : Shape) (place : Bool → Text) (ready : IsReady s place) (r : List Row) (p : Option (Text × List Text)) (first b : Bool) (word : Text) → IsNoFlag s word
-    → Turns s (stand r p (calm b) (position_of first) false) word (settle_fault s.rules s.args_override_self (stand r p idle 0 false).held)
-    (stand (settled_rows s.rules p r) (Some (place first, word ∷ [])) (calm (is_multiple (ready.positional first))) 2 false)
+turns_positional : (s : Shape) (place : Bool → Text) (ready : IsReady s place) (r : List Row)
+    (p : Option (Text × List Text)) (first b : Bool) (word : Text) → IsNoFlag s word
+    → Turns s (stand r p (calm b) (position_of first) false) word
+    (settle_fault s.rules s.args_override_self (stand r p idle 0 false).held)
+    (stand (settled_rows s.rules p r) (Some (place first, word ∷ []))
+    (calm (is_multiple (ready.positional first))) 2 false)
 unfolding walked
 turns_positional s place ready r p first b word no_flag =
     let several_is = (ready.takes first).single in
     let alone = and_false (is_pending (ready.positional first) p) in
     let same = (ready.takes first).same in
     record {
-      fault = rw (no_flag.fault r p (calm b) (position_of first), no_flag.met r p (calm b) (position_of first), calm_plain s.rules b word (stand r p idle 0 false).held, ready.at first, several_is, alone) refl;
-      walk = rw (no_flag.met r p (calm b) (position_of first), calm_plain s.rules b word (stand r p idle 0 false).held, ready.at first, ready.next first, several_is, alone, ready.goes_on first, ← same) refl;
+      fault = rw (
+        no_flag.fault r p (calm b) (position_of first),
+        no_flag.met r p (calm b) (position_of first),
+        calm_plain s.rules b word (stand r p idle 0 false).held,
+        ready.at first,
+        several_is,
+        alone,
+      ) refl;
+      walk = rw (
+        no_flag.met r p (calm b) (position_of first),
+        calm_plain s.rules b word (stand r p idle 0 false).held,
+        ready.at first,
+        ready.next first,
+        several_is,
+        alone,
+        ready.goes_on first,
+        ← same,
+      ) refl;
     }
 
 -- a word after `--`
-turns_trailing : (s : Shape) (place : Bool → Text) (ready : IsReady s place) (r : List Row) (p : Option (Text × List Text)) (waiting : Waiting) (first : Bool) (word : Text)
-    → Turns s (stand r p waiting (position_of first) true) word (settle_fault s.rules s.args_override_self (stand r p idle 0 false).held)
-    (stand (settled_rows s.rules p r) (Some (place first, word ∷ [])) (calm (is_multiple (ready.positional first))) 2 true)
+turns_trailing : (s : Shape) (place : Bool → Text) (ready : IsReady s place) (r : List Row)
+    (p : Option (Text × List Text)) (waiting : Waiting) (first : Bool) (word : Text)
+    → Turns s (stand r p waiting (position_of first) true) word
+    (settle_fault s.rules s.args_override_self (stand r p idle 0 false).held)
+    (stand (settled_rows s.rules p r) (Some (place first, word ∷ []))
+    (calm (is_multiple (ready.positional first))) 2 true)
 unfolding walked
 turns_trailing s place ready r p waiting first word =
     let several_is = (ready.takes first).single in
@@ -262,13 +308,18 @@ pub bytes_same : (t : Text) → bytes_eq t t ≡ true
 bytes_same t = (bytes_eq-Decides t t).1 refl
 
 -- the value of an option that waits
-turns_value : (s : Shape) (r : List Row) (name word : Text) (a : Rule) (position : ℕ) → TakesOne s name a → IsNoFlag s word
-    → Turns s (stand r (Some (name, [])) (wants name) position false) word [] (stand r (Some (name, word ∷ [])) idle position false)
+turns_value : (s : Shape) (r : List Row) (name word : Text) (a : Rule) (position : ℕ) → TakesOne s name a
+    → IsNoFlag s word
+    → Turns s (stand r (Some (name, [])) (wants name) position false) word []
+    (stand r (Some (name, word ∷ [])) idle position false)
 unfolding walked
 turns_value s r name word a position t no_flag =
     let same = t.same in
     record {
-      fault = rw (no_flag.fault r (Some (name, [])) (wants name) position, no_flag.met r (Some (name, [])) (wants name) position) refl;
+      fault = rw (
+        no_flag.fault r (Some (name, [])) (wants name) position,
+        no_flag.met r (Some (name, [])) (wants name) position,
+      ) refl;
       walk = rw (no_flag.met r (Some (name, [])) (wants name) position, t.found, t.most, same, bytes_same name) refl;
     }
 
@@ -290,84 +341,116 @@ Agrees t f F G (Some ps) = (t ≡ F ps) × (f ≡ G ps)
 same_fails : (a b : Kinds) → a ≡ b → Fails b → Fails a
 same_fails a b e h = subst Fails (sym e) h
 
-moved : (o : Option (List Part)) (t u : Kinds) (f g : List Row) (F : List Part → Kinds) (G : List Part → List Row) → Agrees u g F G o → t ≡ u → f ≡ g → Agrees t f F G o
+moved : (o : Option (List Part)) (t u : Kinds) (f g : List Row) (F : List Part → Kinds) (G : List Part → List Row)
+    → Agrees u g F G o → t ≡ u → f ≡ g → Agrees t f F G o
 moved None t u f g F G h e k = same_fails t u e h
 moved (Some ps) t u f g F G h e k = (e ∙ h.0, k ∙ h.1)
 
-later : (o : Option (List Part)) (t u more : Kinds) (f g : List Row) (F H : List Part → Kinds) (G K : List Part → List Row) → Agrees u g H K o
-    → t ≡ or_else more u → f ≡ g → ((ps : List Part) → F ps ≡ or_else more (H ps)) → ((ps : List Part) → G ps ≡ K ps) → Agrees t f F G o
+later : (o : Option (List Part)) (t u more : Kinds) (f g : List Row) (F H : List Part → Kinds)
+    (G K : List Part → List Row) → Agrees u g H K o
+    → t ≡ or_else more u → f ≡ g → ((ps : List Part) → F ps ≡ or_else more (H ps)) → ((ps : List Part) → G ps ≡ K ps)
+    → Agrees t f F G o
 later None t u more f g F H G K h e k first second = same_fails t (or_else more u) e (fails_next more u h)
-later (Some ps) t u more f g F H G K h e k first second = (e ∙ ap (or_else more) h.0 ∙ sym (first ps), k ∙ h.1 ∙ sym (second ps))
+later (Some ps) t u more f g F H G K h e k first second =
+    (e ∙ ap (or_else more) h.0 ∙ sym (first ps), k ∙ h.1 ∙ sym (second ps))
 
-extend : (o : Option (List Part)) (part : Part) (t u more : Kinds) (f g : List Row) (F H : List Part → Kinds) (G K : List Part → List Row) → Agrees u g H K o
-    → t ≡ or_else more u → f ≡ g → ((ps : List Part) → F (part ∷ ps) ≡ or_else more (H ps)) → ((ps : List Part) → G (part ∷ ps) ≡ K ps) → Agrees t f F G (with_part part o)
+extend : (o : Option (List Part)) (part : Part) (t u more : Kinds) (f g : List Row) (F H : List Part → Kinds)
+    (G K : List Part → List Row) → Agrees u g H K o
+    → t ≡ or_else more u → f ≡ g → ((ps : List Part) → F (part ∷ ps) ≡ or_else more (H ps))
+    → ((ps : List Part) → G (part ∷ ps) ≡ K ps) → Agrees t f F G (with_part part o)
 extend None part t u more f g F H G K h e k first second = same_fails t (or_else more u) e (fails_next more u h)
-extend (Some ps) part t u more f g F H G K h e k first second = (e ∙ ap (or_else more) h.0 ∙ sym (first ps), k ∙ h.1 ∙ sym (second ps))
+extend (Some ps) part t u more f g F H G K h e k first second =
+    (e ∙ ap (or_else more) h.0 ∙ sym (first ps), k ∙ h.1 ∙ sym (second ps))
 
 module _ (s : Shape) (place : Bool → Text) where
   abbrev pub Sim : Mode → List Text → Type 0
-  Sim between words = (first b : Bool) (p : Option Use) (r : List Row) → Agrees (total s (stand r (pend p) (calm b) (position_of first) false) words)
-      (final s (stand r (pend p) (calm b) (position_of first) false) words) (λ ps. faults s r (joined p (uses_of place first ps)))
+  Sim between words = (first b : Bool) (p : Option Use) (r : List Row)
+      → Agrees (total s (stand r (pend p) (calm b) (position_of first) false) words)
+      (final s (stand r (pend p) (calm b) (position_of first) false) words)
+      (λ ps. faults s r (joined p (uses_of place first ps)))
       (λ ps. fold (step s) r (joined p (uses_of place first ps))) (clap_from between words)
-  Sim (value name) words = (a : Rule) → TakesOne s name a → (first : Bool) (r : List Row) → Agrees (total s (stand r (Some (name, [])) (wants name) (position_of first) false) words)
-      (final s (stand r (Some (name, [])) (wants name) (position_of first) false) words) (λ ps. faults s r (uses_of place first ps))
+  Sim (value name) words = (a : Rule) → TakesOne s name a → (first : Bool) (r : List Row)
+      → Agrees (total s (stand r (Some (name, [])) (wants name) (position_of first) false) words)
+      (final s (stand r (Some (name, [])) (wants name) (position_of first) false) words)
+      (λ ps. faults s r (uses_of place first ps))
       (λ ps. fold (step s) r (uses_of place first ps)) (clap_from (value name) words)
-  Sim ended words = (first : Bool) (waiting : Waiting) (p : Option Use) (r : List Row) → Agrees (total s (stand r (pend p) waiting (position_of first) true) words)
-      (final s (stand r (pend p) waiting (position_of first) true) words) (λ ps. faults s r (joined p (uses_of place first ps)))
+  Sim ended words = (first : Bool) (waiting : Waiting) (p : Option Use) (r : List Row)
+      → Agrees (total s (stand r (pend p) waiting (position_of first) true) words)
+      (final s (stand r (pend p) waiting (position_of first) true) words)
+      (λ ps. faults s r (joined p (uses_of place first ps)))
       (λ ps. fold (step s) r (joined p (uses_of place first ps))) (clap_from ended words)
 
   module _ (ready : IsReady s place) where
     pending_fault : Option Use → List Row → Kinds
     pending_fault p r = settle_fault s.rules s.args_override_self (stand r (pend p) idle 0 false).held
 
-    joined_faults : (p : Option Use) (r : List Row) (us : List Use) → faults s r (joined p us) ≡ or_else (pending_fault p r) (faults s (settled_rows s.rules (pend p) r) us)
+    joined_faults : (p : Option Use) (r : List Row) (us : List Use)
+        → faults s r (joined p us) ≡ or_else (pending_fault p r) (faults s (settled_rows s.rules (pend p) r) us)
     unfolding pending_fault
     joined_faults None r us = refl
     joined_faults (Some u) r us = rw ready.once refl
 
-    joined_rows : (p : Option Use) (r : List Row) (us : List Use) → fold (step s) r (joined p us) ≡ fold (step s) (settled_rows s.rules (pend p) r) us
+    joined_rows : (p : Option Use) (r : List Row) (us : List Use)
+        → fold (step s) r (joined p us) ≡ fold (step s) (settled_rows s.rules (pend p) r) us
     joined_rows None r us = refl
     joined_rows (Some u) r us = refl
 
-    met_takes : (name : Text) (o : Option Rule) (b : Bool) → LongMet s name o b → b ≡ true → (a : Rule) × (o ≡ Some a) × TakesOne s name a
+    met_takes : (name : Text) (o : Option Rule) (b : Bool) → LongMet s name o b → b ≡ true
+        → (a : Rule) × (o ≡ Some a) × TakesOne s name a
     met_takes name _ _ no_long e = absurd (true≢false (sym e))
     met_takes name _ _ (help_long a takes refuses) e = absurd (true≢false (sym e))
     met_takes name _ _ (takes_long a t) e = (a, refl, t)
 
-    one_fault : (name : Text) (a : Rule) → TakesOne s name a → (p : Option Use) (r : List Row) (v : Text) (us : List Use)
-        → faults s r (joined p ((name, v) ∷ us)) ≡ or_else (or_else (pending_fault p r) (use_fault false a (v ∷ []) (settled_rows s.rules (pend p) r)))
+    one_fault : (name : Text) (a : Rule) → TakesOne s name a
+        → (p : Option Use) (r : List Row) (v : Text) (us : List Use)
+        → faults s r (joined p ((name, v) ∷ us)) ≡ or_else
+        (or_else (pending_fault p r) (use_fault false a (v ∷ []) (settled_rows s.rules (pend p) r)))
         (faults s (used a (v ∷ []) (settled_rows s.rules (pend p) r)) us)
     one_fault name a t p r v us =
         joined_faults p r ((name, v) ∷ us)
-        ∙ ap (λ (o : Option Rule). or_else (pending_fault p r) (or_else (option_map_or (λ b. use_fault false b (v ∷ []) (settled_rows s.rules (pend p) r)) o []) (faults s (used_by_id o (v ∷ []) (settled_rows s.rules (pend p) r)) us))) t.found
+        ∙ ap (λ (o : Option Rule). or_else (pending_fault p r)
+        (or_else (option_map_or (λ b. use_fault false b (v ∷ []) (settled_rows s.rules (pend p) r)) o [])
+        (faults s (used_by_id o (v ∷ []) (settled_rows s.rules (pend p) r)) us))) t.found
         ∙ sym (or_else-assoc (pending_fault p r) _ _)
 
     one_use : (name : Text) (a : Rule) → TakesOne s name a → (p : Option Use) (r : List Row) (v : Text) (us : List Use)
-        → fold (step s) r (joined p ((name, v) ∷ us)) ≡ fold (step s) (used a (v ∷ []) (settled_rows s.rules (pend p) r)) us
+        → fold (step s) r (joined p ((name, v) ∷ us)) ≡ fold (step s)
+        (used a (v ∷ []) (settled_rows s.rules (pend p) r)) us
     one_use name a t p r v us =
-        joined_rows p r ((name, v) ∷ us) ∙ ap (λ (o : Option Rule). fold (step s) (used_by_id o (v ∷ []) (settled_rows s.rules (pend p) r)) us) t.found
+        joined_rows p r ((name, v) ∷ us) ∙ ap (λ (o : Option Rule).
+        fold (step s) (used_by_id o (v ∷ []) (settled_rows s.rules (pend p) r)) us) t.found
 
     -- an option with no value
-    starved : (name : Text) (a : Rule) → TakesOne s name a → (r : List Row) → Fails (settle_fault s.rules s.args_override_self (stand r (Some (name, [])) idle 0 false).held)
+    starved : (name : Text) (a : Rule) → TakesOne s name a → (r : List Row)
+        → Fails (settle_fault s.rules s.args_override_self (stand r (Some (name, [])) idle 0 false).held)
     starved name a t r = rw (t.found, t.least) tt
 
     starved_ends : (name : Text) (a : Rule) → TakesOne s name a → (first : Bool) (r : List Row) (words : List Text)
         → Fails (total s (stand r (Some (name, [])) (wants name) (position_of first) true) words)
     unfolding walk_fault
     starved_ends name a t first r [] = starved name a t r
-    starved_ends name a t first r (word ∷ rest) = fails_turn s (stand r (Some (name, [])) (wants name) (position_of first) true) word rest (same_fails _ _ (turns_trailing s place ready r (Some (name, [])) (wants name) first word).fault (starved name a t r))
+    starved_ends name a t first r (word ∷ rest) = fails_turn s
+        (stand r (Some (name, [])) (wants name) (position_of first) true) word rest
+        (same_fails _ _ (turns_trailing s place ready r (Some (name, [])) (wants name) first word).fault
+        (starved name a t r))
 
     -- where the walk ends
     at_end : (first : Bool) (waiting : Waiting) (is_trailing : Bool) (p : Option Use) (r : List Row)
-        → Agrees (total s (stand r (pend p) waiting (position_of first) is_trailing) []) (final s (stand r (pend p) waiting (position_of first) is_trailing) [])
-        (λ ps. faults s r (joined p (uses_of place first ps))) (λ ps. fold (step s) r (joined p (uses_of place first ps))) (Some [])
+        → Agrees (total s (stand r (pend p) waiting (position_of first) is_trailing) [])
+        (final s (stand r (pend p) waiting (position_of first) is_trailing) [])
+        (λ ps. faults s r (joined p (uses_of place first ps)))
+        (λ ps. fold (step s) r (joined p (uses_of place first ps))) (Some [])
     unfolding walk_fault pending_fault
     at_end first waiting is_trailing p r = (sym (joined_faults p r [] ∙ or_else-nil _), sym (joined_rows p r []))
 
     -- a positional
-    plain_word_sim : (word : Text) (rest : List Text) → IsNoFlag s word → Sim between rest → (first b : Bool) (p : Option Use) (r : List Row)
-        → Agrees (total s (stand r (pend p) (calm b) (position_of first) false) (word ∷ rest)) (final s (stand r (pend p) (calm b) (position_of first) false) (word ∷ rest))
-        (λ ps. faults s r (joined p (uses_of place first ps))) (λ ps. fold (step s) r (joined p (uses_of place first ps))) (with_part (positional word) (clap_from between rest))
+    plain_word_sim : (word : Text) (rest : List Text) → IsNoFlag s word → Sim between rest
+        → (first b : Bool) (p : Option Use) (r : List Row)
+        → Agrees (total s (stand r (pend p) (calm b) (position_of first) false) (word ∷ rest))
+        (final s (stand r (pend p) (calm b) (position_of first) false) (word ∷ rest))
+        (λ ps. faults s r (joined p (uses_of place first ps)))
+        (λ ps. fold (step s) r (joined p (uses_of place first ps)))
+        (with_part (positional word) (clap_from between rest))
     unfolding pending_fault
     plain_word_sim word rest no_flag next first b p r =
         let turn = turns_positional s place ready r (pend p) first b word no_flag in
@@ -378,60 +461,87 @@ module _ (s : Shape) (place : Bool → Text) where
         (λ ps. joined_rows p r ((place first, word) ∷ uses_of place false ps))
 
     -- a word that begins with two hyphens, and a name
-    long_word_sim : (word name : Text) (v : Option Text) (rest : List Text) → bytes_eq word hyphens ≡ false → long_of word ≡ Some (name, v) → ((mode : Mode) → Sim mode rest)
+    long_word_sim : (word name : Text) (v : Option Text) (rest : List Text) → bytes_eq word hyphens ≡ false
+        → long_of word ≡ Some (name, v) → ((mode : Mode) → Sim mode rest)
         → (first b : Bool) (p : Option Use) (r : List Row)
-        → Agrees (total s (stand r (pend p) (calm b) (position_of first) false) (word ∷ rest)) (final s (stand r (pend p) (calm b) (position_of first) false) (word ∷ rest))
-        (λ ps. faults s r (joined p (uses_of place first ps))) (λ ps. fold (step s) r (joined p (uses_of place first ps)))
+        → Agrees (total s (stand r (pend p) (calm b) (position_of first) false) (word ∷ rest))
+        (final s (stand r (pend p) (calm b) (position_of first) false) (word ∷ rest))
+        (λ ps. faults s r (joined p (uses_of place first ps)))
+        (λ ps. fold (step s) r (joined p (uses_of place first ps)))
         (read_kind word (long_kind name v) (λ mode. clap_from mode rest))
     unfolding pending_fault
     long_word_sim word name v rest e l next first b p r = go (is_name name) refl v l
       where
         go : (n : Bool) → is_name name ≡ n → (u : Option Text) → long_of word ≡ Some (name, u)
-            → Agrees (total s (stand r (pend p) (calm b) (position_of first) false) (word ∷ rest)) (final s (stand r (pend p) (calm b) (position_of first) false) (word ∷ rest))
-            (λ ps. faults s r (joined p (uses_of place first ps))) (λ ps. fold (step s) r (joined p (uses_of place first ps)))
+            → Agrees (total s (stand r (pend p) (calm b) (position_of first) false) (word ∷ rest))
+            (final s (stand r (pend p) (calm b) (position_of first) false) (word ∷ rest))
+            (λ ps. faults s r (joined p (uses_of place first ps)))
+            (λ ps. fold (step s) r (joined p (uses_of place first ps)))
             (read_kind word (long_kind name u) (λ mode. clap_from mode rest))
-        go false n None k = rw n (fails_turn s _ word rest (long_turn s r (pend p) (calm b) (position_of first) word name None e k (misfit_long s place ready _ name None n)))
-        go false n (Some u) k = rw n (fails_turn s _ word rest (long_turn s r (pend p) (calm b) (position_of first) word name (Some u) e k (misfit_long s place ready _ name (Some u) n)))
+        go false n None k = rw n (fails_turn s _ word rest
+            (long_turn s r (pend p) (calm b) (position_of first) word name None e k
+            (misfit_long s place ready _ name None n)))
+        go false n (Some u) k = rw n (fails_turn s _ word rest
+            (long_turn s r (pend p) (calm b) (position_of first) word name (Some u) e k
+            (misfit_long s place ready _ name (Some u) n)))
         go true n None k =
             let a = met_takes name _ _ (ready.long name) n in
-            let turn = turns_begins s r (pend p) (calm b) (position_of first) word name a.0 e k a.1 a.2.takes a.2.same in
-            rw n (later (clap_from (value name) rest) _ _ _ _ _ _ _ _ _ (next (value name) a.0 a.2 first (settled_rows s.rules (pend p) r)) (total_turn s _ _ word rest _ turn) (final_turn s _ _ word rest _ turn)
+            let turn = turns_begins s r (pend p) (calm b) (position_of first) word name a.0 e k a.1
+            a.2.takes a.2.same in
+            rw n (later (clap_from (value name) rest) _ _ _ _ _ _ _ _ _
+            (next (value name) a.0 a.2 first (settled_rows s.rules (pend p) r)) (total_turn s _ _ word rest _ turn)
+            (final_turn s _ _ word rest _ turn)
             (λ ps. joined_faults p r (uses_of place first ps)) (λ ps. joined_rows p r (uses_of place first ps)))
         go true n (Some u) k =
             let a = met_takes name _ _ (ready.long name) n in
-            let turn = turns_whole s r (pend p) (calm b) (position_of first) word name u a.0 e k a.1 a.2.takes ready.once in
+            let turn = turns_whole s r (pend p) (calm b) (position_of first) word name u a.0 e k a.1 a.2.takes
+            ready.once in
             rw n (extend (clap_from between rest) (option name u) _ _ _ _ _ _ _ _ _
             (next between first false None (used a.0 (u ∷ []) (settled_rows s.rules (pend p) r)))
             (total_turn s _ _ word rest _ turn) (final_turn s _ _ word rest _ turn)
-            (λ ps. one_fault name a.0 a.2 p r u (uses_of place first ps)) (λ ps. one_use name a.0 a.2 p r u (uses_of place first ps)))
+            (λ ps. one_fault name a.0 a.2 p r u (uses_of place first ps))
+            (λ ps. one_use name a.0 a.2 p r u (uses_of place first ps)))
 
-    char_kind : (word : Text) (x : ℕ) (xs : Text) (rest : List Text) → bytes_eq word hyphens ≡ false → long_of word ≡ None → short_of word ≡ Some (x ∷ xs) → Sim between rest
+    char_kind : (word : Text) (x : ℕ) (xs : Text) (rest : List Text) → bytes_eq word hyphens ≡ false
+        → long_of word ≡ None → short_of word ≡ Some (x ∷ xs) → Sim between rest
         → (first b : Bool) (p : Option Use) (r : List Row)
-        → Agrees (total s (stand r (pend p) (calm b) (position_of first) false) (word ∷ rest)) (final s (stand r (pend p) (calm b) (position_of first) false) (word ∷ rest))
-        (λ ps. faults s r (joined p (uses_of place first ps))) (λ ps. fold (step s) r (joined p (uses_of place first ps)))
+        → Agrees (total s (stand r (pend p) (calm b) (position_of first) false) (word ∷ rest))
+        (final s (stand r (pend p) (calm b) (position_of first) false) (word ∷ rest))
+        (λ ps. faults s r (joined p (uses_of place first ps)))
+        (λ ps. fold (step s) r (joined p (uses_of place first ps)))
         (read_kind word (flag_kind (x ∷ xs)) (λ mode. clap_from mode rest))
     char_kind word x xs rest e l f next first b p r = go (slice_get (chars (x ∷ xs)) 0) refl
       where
         go : (o : Option ℕ) → slice_get (chars (x ∷ xs)) 0 ≡ o
-            → Agrees (total s (stand r (pend p) (calm b) (position_of first) false) (word ∷ rest)) (final s (stand r (pend p) (calm b) (position_of first) false) (word ∷ rest))
-            (λ ps. faults s r (joined p (uses_of place first ps))) (λ ps. fold (step s) r (joined p (uses_of place first ps)))
+            → Agrees (total s (stand r (pend p) (calm b) (position_of first) false) (word ∷ rest))
+            (final s (stand r (pend p) (calm b) (position_of first) false) (word ∷ rest))
+            (λ ps. faults s r (joined p (uses_of place first ps)))
+            (λ ps. fold (step s) r (joined p (uses_of place first ps)))
             (read_kind word (flag_kind (x ∷ xs)) (λ mode. clap_from mode rest))
         go None k = rw k (plain_word_sim word rest (short_no_flag s word x xs e l f k) next first b p r)
         go (Some c) k = rw k (fails_turn s (stand r (pend p) (calm b) (position_of first) false) word rest
             (short_turn s place ready r (pend p) (calm b) (position_of first) word x xs c e l f k))
 
-    between_sim : (word : Text) (rest : List Text) → Seen word → ((mode : Mode) → Sim mode rest) → Sim between (word ∷ rest)
+    between_sim : (word : Text) (rest : List Text) → Seen word → ((mode : Mode) → Sim mode rest)
+        → Sim between (word ∷ rest)
     between_sim _ rest (seen_ends word e k) next = λ first b p r.
         let turn = turns_ends s r (pend p) (calm b) (position_of first) word e in
-        rw k (moved (clap_from ended rest) _ _ _ _ _ _ (next ended first (calm b) p r) (total_turn s _ _ word rest _ turn) (final_turn s _ _ word rest _ turn))
-    between_sim _ rest (seen_long word name v e l k) next = λ first b p r. rw k (long_word_sim word name v rest e l next first b p r)
-    between_sim _ rest (seen_short word x xs e l f k) next = λ first b p r. rw k (char_kind word x xs rest e l f (next between) first b p r)
-    between_sim _ rest (seen_plain word e l f k) next = λ first b p r. rw k (plain_word_sim word rest (plain_no_flag s word e l f) (next between) first b p r)
+        rw k (moved (clap_from ended rest) _ _ _ _ _ _ (next ended first (calm b) p r)
+        (total_turn s _ _ word rest _ turn) (final_turn s _ _ word rest _ turn))
+    between_sim _ rest (seen_long word name v e l k) next = λ first b p r.
+        rw k (long_word_sim word name v rest e l next first b p r)
+    between_sim _ rest (seen_short word x xs e l f k) next = λ first b p r.
+        rw k (char_kind word x xs rest e l f (next between) first b p r)
+    between_sim _ rest (seen_plain word e l f k) next = λ first b p r.
+        rw k (plain_word_sim word rest (plain_no_flag s word e l f) (next between) first b p r)
 
     -- the word after the name of an option
-    value_word_sim : (name word : Text) (rest : List Text) → IsNoFlag s word → Sim between rest → (a : Rule) → TakesOne s name a → (first : Bool) (r : List Row)
-        → Agrees (total s (stand r (Some (name, [])) (wants name) (position_of first) false) (word ∷ rest)) (final s (stand r (Some (name, [])) (wants name) (position_of first) false) (word ∷ rest))
-        (λ ps. faults s r (uses_of place first ps)) (λ ps. fold (step s) r (uses_of place first ps)) (with_part (option name word) (clap_from between rest))
+    value_word_sim : (name word : Text) (rest : List Text) → IsNoFlag s word → Sim between rest → (a : Rule)
+        → TakesOne s name a → (first : Bool) (r : List Row)
+        → Agrees (total s (stand r (Some (name, [])) (wants name) (position_of first) false) (word ∷ rest))
+        (final s (stand r (Some (name, [])) (wants name) (position_of first) false) (word ∷ rest))
+        (λ ps. faults s r (uses_of place first ps)) (λ ps. fold (step s) r (uses_of place first ps))
+        (with_part (option name word) (clap_from between rest))
     value_word_sim name word rest no_flag next a t first r =
         let turn = turns_value s r name word a (position_of first) t no_flag in
         extend (clap_from between rest) (option name word) _ _ [] _ _ _ _ _ _ (next first false (Some (name, word)) r)
@@ -439,17 +549,20 @@ module _ (s : Shape) (place : Bool → Text) where
 
     -- a long name where a value is wanted
     starved_long : (name : Text) (a : Rule) → TakesOne s name a → (r : List Row) (other : Text) (v : Option Text)
-        → Fails (long_fault s.rules s.args_override_self (arg_by_long s.rules other) v (stand r (Some (name, [])) idle 0 false).held)
+        → Fails (long_fault s.rules s.args_override_self (arg_by_long s.rules other) v
+        (stand r (Some (name, [])) idle 0 false).held)
     starved_long name a t r other v = go (arg_by_long s.rules other) (is_name other) (ready.long other) v
       where
-        go : (o : Option Rule) (b : Bool) → LongMet s other o b → (u : Option Text) → Fails (long_fault s.rules s.args_override_self o u (stand r (Some (name, [])) idle 0 false).held)
+        go : (o : Option Rule) (b : Bool) → LongMet s other o b → (u : Option Text)
+            → Fails (long_fault s.rules s.args_override_self o u (stand r (Some (name, [])) idle 0 false).held)
         go _ _ no_long u = tt
         go _ _ (help_long h takes refuses) (Some u) = rw takes tt
         go _ _ (help_long h takes refuses) None = rw takes (fails_first _ _ (starved name a t r))
         go _ _ (takes_long h x) (Some u) = rw x.takes (fails_first _ _ (starved name a t r))
         go _ _ (takes_long h x) None = rw x.takes (starved name a t r)
 
-    no_value : (name word other : Text) (v : Option Text) (o : Option (List Part)) → value_kind name word (long_kind other v) o ≡ None
+    no_value : (name word other : Text) (v : Option Text) (o : Option (List Part))
+        → value_kind name word (long_kind other v) o ≡ None
     no_value name word other v o = go (is_name other) refl v
       where
         go : (n : Bool) → is_name other ≡ n → (u : Option Text) → value_kind name word (long_kind other u) o ≡ None
@@ -458,35 +571,46 @@ module _ (s : Shape) (place : Bool → Text) where
         go false n None = rw n refl
         go false n (Some u) = rw n refl
 
-    value_char : (name word : Text) (x : ℕ) (xs : Text) (rest : List Text) → bytes_eq word hyphens ≡ false → long_of word ≡ None → short_of word ≡ Some (x ∷ xs) → Sim between rest
+    value_char : (name word : Text) (x : ℕ) (xs : Text) (rest : List Text) → bytes_eq word hyphens ≡ false
+        → long_of word ≡ None → short_of word ≡ Some (x ∷ xs) → Sim between rest
         → (a : Rule) → TakesOne s name a → (first : Bool) (r : List Row)
-        → Agrees (total s (stand r (Some (name, [])) (wants name) (position_of first) false) (word ∷ rest)) (final s (stand r (Some (name, [])) (wants name) (position_of first) false) (word ∷ rest))
-        (λ ps. faults s r (uses_of place first ps)) (λ ps. fold (step s) r (uses_of place first ps)) (value_kind name word (flag_kind (x ∷ xs)) (clap_from between rest))
+        → Agrees (total s (stand r (Some (name, [])) (wants name) (position_of first) false) (word ∷ rest))
+        (final s (stand r (Some (name, [])) (wants name) (position_of first) false) (word ∷ rest))
+        (λ ps. faults s r (uses_of place first ps)) (λ ps. fold (step s) r (uses_of place first ps))
+        (value_kind name word (flag_kind (x ∷ xs)) (clap_from between rest))
     value_char name word x xs rest e l f next a t first r = go (slice_get (chars (x ∷ xs)) 0) refl
       where
         go : (o : Option ℕ) → slice_get (chars (x ∷ xs)) 0 ≡ o
-            → Agrees (total s (stand r (Some (name, [])) (wants name) (position_of first) false) (word ∷ rest)) (final s (stand r (Some (name, [])) (wants name) (position_of first) false) (word ∷ rest))
-            (λ ps. faults s r (uses_of place first ps)) (λ ps. fold (step s) r (uses_of place first ps)) (value_kind name word (flag_kind (x ∷ xs)) (clap_from between rest))
+            → Agrees (total s (stand r (Some (name, [])) (wants name) (position_of first) false) (word ∷ rest))
+            (final s (stand r (Some (name, [])) (wants name) (position_of first) false) (word ∷ rest))
+            (λ ps. faults s r (uses_of place first ps)) (λ ps. fold (step s) r (uses_of place first ps))
+            (value_kind name word (flag_kind (x ∷ xs)) (clap_from between rest))
         go None k = rw k (value_word_sim name word rest (short_no_flag s word x xs e l f k) next a t first r)
         go (Some c) k = rw k (fails_turn s (stand r (Some (name, [])) (wants name) (position_of first) false) word rest
             (short_turn s place ready r (Some (name, [])) (wants name) (position_of first) word x xs c e l f k))
 
-    value_sim : (name word : Text) (rest : List Text) → Seen word → ((mode : Mode) → Sim mode rest) → Sim (value name) (word ∷ rest)
+    value_sim : (name word : Text) (rest : List Text) → Seen word → ((mode : Mode) → Sim mode rest)
+        → Sim (value name) (word ∷ rest)
     value_sim name _ rest (seen_ends word e k) next = λ a t first r.
         let turn = turns_ends s r (Some (name, [])) (wants name) (position_of first) word e in
         rw k (same_fails _ _ (total_turn s _ _ word rest _ turn) (starved_ends name a t first r rest))
     value_sim name _ rest (seen_long word other v e l k) next = λ a t first r.
-        rw (k, no_value name word other v (clap_from between rest)) (fails_turn s (stand r (Some (name, [])) (wants name) (position_of first) false) word rest
-        (long_turn s r (Some (name, [])) (wants name) (position_of first) word other v e l (starved_long name a t r other v)))
-    value_sim name _ rest (seen_short word x xs e l f k) next = λ a t first r. rw k (value_char name word x xs rest e l f (next between) a t first r)
-    value_sim name _ rest (seen_plain word e l f k) next = λ a t first r. rw k (value_word_sim name word rest (plain_no_flag s word e l f) (next between) a t first r)
+        rw (k, no_value name word other v (clap_from between rest))
+        (fails_turn s (stand r (Some (name, [])) (wants name) (position_of first) false) word rest
+        (long_turn s r (Some (name, [])) (wants name) (position_of first) word other v e l
+        (starved_long name a t r other v)))
+    value_sim name _ rest (seen_short word x xs e l f k) next = λ a t first r.
+        rw k (value_char name word x xs rest e l f (next between) a t first r)
+    value_sim name _ rest (seen_plain word e l f k) next = λ a t first r.
+        rw k (value_word_sim name word rest (plain_no_flag s word e l f) (next between) a t first r)
 
     ended_sim : (word : Text) (rest : List Text) → Sim ended rest → Sim ended (word ∷ rest)
     unfolding pending_fault
     ended_sim word rest next = λ first waiting p r.
         let turn = turns_trailing s place ready r (pend p) waiting first word in
         extend (clap_from ended rest) (positional word) _ _ _ _ _ _ _ _ _
-        (next false (calm (is_multiple (ready.positional first))) (Some (place first, word)) (settled_rows s.rules (pend p) r))
+        (next false (calm (is_multiple (ready.positional first))) (Some (place first, word))
+        (settled_rows s.rules (pend p) r))
         (total_turn s _ _ word rest _ turn) (final_turn s _ _ word rest _ turn)
         (λ ps. joined_faults p r ((place first, word) ∷ uses_of place false ps))
         (λ ps. joined_rows p r ((place first, word) ∷ uses_of place false ps))

@@ -12,14 +12,15 @@ use Rattle.dl_lexer.specs.Bytes.{is_word_byte}
 use Rattle.dl_lexer.specs.Tokens.{begins_with_letter}
 use Rattle.dl_plan.specs.declared.settings.Ask.{Ask}
 use Rattle.dl_plan.specs.declared.settings.Ask.TheVariants.{Pmf, Cdf, Mean, Quantile, LayerMean, Tail, Joint, Kappa}
-use Rattle.dl_words.specs.Asks.{amount_of, ask_between, ask_of, behind_s, cut_at, layer_between, layer_of, limit_of, probability_of, unit_parts}
+use Rattle.dl_words.specs.Asks.{amount_written, ask_between, ask_of, behind_s, cut_at, layer_between, layer_of, limit_written, probability_written, unit_parts}
 use Rattle.dl_words.specs.Spelling.{Text, is_amount, is_probability, is_word, number}
-use Rattle.dl_words.specs.Table.{Spells, pmf, cdf, mean, q, tail, layer, no_limit, joint, kappa}
+use Rattle.dl_words.specs.Table.{SpellsAsk, pmf, cdf, mean, q, tail, layer, no_limit, joint, kappa}
 use Rattle.dl_words.proofs.Numerals.{after_at, any_at, before_at, both, cut_first}
 
 -- ---- texts without a sign
 
-none_of : (is_good : ℕ → Bool) (s : ℕ) → ((b : ℕ) → is_good b ≡ true → (b == s) ≡ false) → (text : Text) → list_all is_good text ≡ true → list_any (λ b. b == s) text ≡ false
+none_of : (is_good : ℕ → Bool) (s : ℕ) → ((b : ℕ) → is_good b ≡ true → (b == s) ≡ false) → (text : Text)
+    → list_all is_good text ≡ true → list_any (λ b. b == s) text ≡ false
 none_of is_good s f [] h = refl
 none_of is_good s f (b ∷ bs) h =
     let t = both (is_good b) _ h in
@@ -39,7 +40,8 @@ name_no_colon text h = none_of is_word_byte 58 word_no_colon text (both (begins_
 
 -- ---- a row of the table is read
 
-cut_there : (s : ℕ) (front back : Text) → list_any (λ b. b == s) front ≡ false → cut_at s (front ++ s ∷ back) ≡ Some (front, back)
+cut_there : (s : ℕ) (front back : Text) → list_any (λ b. b == s) front ≡ false
+    → cut_at s (front ++ s ∷ back) ≡ Some (front, back)
 cut_there s front back h = rw (any_at s front back, before_at s front back h, after_at s front back h) refl
 
 not_inf : (text : Text) → IsTrue (is_amount text) → bytes_eq text (codes "inf") ≡ false
@@ -51,15 +53,19 @@ not_inf text h = go (bytes_eq text (codes "inf")) refl
         let same : text ≡ codes "inf" = (bytes_eq-Decides text (codes "inf")).0 e in
         absurd (true≢false (sym (ap is_amount (sym same) ∙ h)))
 
-layer_read : (limit attach : Text) → IsTrue (is_amount limit) → IsTrue (is_amount attach) → layer_of (limit ++ 120 ∷ 115 ∷ attach) ≡ Some (LayerMean (Some (number limit)) (number attach))
+layer_read : (limit attach : Text) → IsTrue (is_amount limit) → IsTrue (is_amount attach)
+    → layer_of (limit ++ 120 ∷ 115 ∷ attach) ≡ Some (LayerMean (Some (number limit)) (number attach))
 layer_read limit attach l a =
-    ap (option_and_then (λ cut. layer_between cut.0 cut.1)) (cut_there 120 limit (115 ∷ attach) (amount_no_x limit l)) ∙ (rw (not_inf limit l, l, a) refl)
+    ap (option_and_then (λ cut. layer_between cut.0 cut.1)) (cut_there 120 limit (115 ∷ attach) (amount_no_x limit l))
+    ∙ (rw (not_inf limit l, l, a) refl)
 
-unit_read : (name x : Text) → IsTrue (is_word name) → IsTrue (is_amount x) → unit_parts (name ++ 58 ∷ x) ≡ Some (name, number x)
+unit_read : (name x : Text) → IsTrue (is_word name) → IsTrue (is_amount x)
+    → unit_parts (name ++ 58 ∷ x) ≡ Some (name, number x)
 unit_read name x n a =
-    ap (option_and_then (λ cut. if is_word cut.0 then option_map (λ x. (cut.0, x)) (amount_of cut.1) else None)) (cut_there 58 name x (name_no_colon name n)) ∙ (rw (n, a) refl)
+    ap (option_and_then (λ cut. if is_word cut.0 then option_map (λ x. (cut.0, x)) (amount_written cut.1) else None))
+    (cut_there 58 name x (name_no_colon name n)) ∙ (rw (n, a) refl)
 
-pub table_read : (text : Text) (ask : Ask) → Spells text ask → ask_of text ≡ Some ask
+pub table_read : (text : Text) (ask : Ask) → SpellsAsk text ask → ask_of text ≡ Some ask
 unfolding ask_of
 table_read text _ (pmf x h e) = rw (e, h) refl
 table_read text _ (cdf x h e) = rw (e, h) refl
@@ -85,30 +91,37 @@ tested true x y e = (refl, some_is x y e)
 tested false x y e = not_some y e
 
 -- a part that is read, and an ask of it
-mapped : {A B : Type 0} (f : A → B) (o : Option A) (y : B) → option_map f o ≡ Some y → (x : A) × (o ≡ Some x) × (f x ≡ y)
+mapped : {A B : Type 0} (f : A → B) (o : Option A) (y : B) → option_map f o ≡ Some y
+    → (x : A) × (o ≡ Some x) × (f x ≡ y)
 mapped f None y e = not_some y e
 mapped f (Some x) y e = (x, refl, some_is (f x) y e)
 
-chained : {A B : Type 0} (f : A → Option B) (o : Option A) (y : B) → option_and_then f o ≡ Some y → (x : A) × (o ≡ Some x) × (f x ≡ Some y)
+chained : {A B : Type 0} (f : A → Option B) (o : Option A) (y : B) → option_and_then f o ≡ Some y
+    → (x : A) × (o ≡ Some x) × (f x ≡ Some y)
 chained f None y e = not_some y e
 chained f (Some x) y e = (x, refl, e)
 
 -- the part is the amount that the text writes
-amount_back : (mk : ℕ → Ask) (text : Text) (ask : Ask) → option_map mk (amount_of text) ≡ Some ask → IsTrue (is_amount text) × (mk (number text) ≡ ask)
+amount_back : (mk : ℕ → Ask) (text : Text) (ask : Ask) → option_map mk (amount_written text) ≡ Some ask
+    → IsTrue (is_amount text) × (mk (number text) ≡ ask)
 amount_back mk text ask e =
-    let m = mapped mk (amount_of text) ask e in
+    let m = mapped mk (amount_written text) ask e in
     let t = tested (is_amount text) (number text) m.0 m.1 in
     (t.0, ap mk t.1 ∙ m.2)
 
-probability_back : (mk : Fraction → Ask) (text : Text) (ask : Ask) → option_map mk (probability_of text) ≡ Some ask → IsTrue (is_probability text) × (mk (numeral_value text) ≡ ask)
+probability_back : (mk : Fraction → Ask) (text : Text) (ask : Ask) → option_map mk (probability_written text) ≡ Some ask
+    → IsTrue (is_probability text) × (mk (numeral_value text) ≡ ask)
 probability_back mk text ask e =
-    let m = mapped mk (probability_of text) ask e in
+    let m = mapped mk (probability_written text) ask e in
     let t = tested (is_probability text) (numeral_value text) m.0 m.1 in
     (t.0, ap mk t.1 ∙ m.2)
 
 cut_back : (s : ℕ) (text : Text) (cut : Text × Text) → cut_at s text ≡ Some cut → text ≡ cut.0 ++ s ∷ cut.1
 cut_back s text cut e =
-    let t = tested (list_any (λ b. b == s) text) (before_first (λ b. b == s) text, after_first (λ b. b == s) text) cut e in
+    let t = tested (list_any (λ b. b == s) text) (
+      before_first (λ b. b == s) text,
+      after_first (λ b. b == s) text,
+    ) cut e in
     cut_first s text t.0 ∙ ap (λ c. c.0 ++ s ∷ c.1) t.1
 
 -- the unit's name and the amount
@@ -121,12 +134,14 @@ record UnitParts (text : Text) (parts : Text × ℕ) : Type 0 where
 
 unit_back : (text : Text) (parts : Text × ℕ) → unit_parts text ≡ Some parts → UnitParts text parts
 unit_back text parts e =
-    let c = chained (λ cut. if is_word cut.0 then option_map (λ x. (cut.0, x)) (amount_of cut.1) else None) (cut_at 58 text) parts e in
+    let c = chained (λ cut. if is_word cut.0 then option_map (λ x. (cut.0, x)) (amount_written cut.1) else None)
+    (cut_at 58 text) parts e in
     go c.0 (cut_back 58 text c.0 c.1) c.2
   where
-    amount_in : (cut : Text × Text) → text ≡ cut.0 ++ 58 ∷ cut.1 → is_word cut.0 ≡ true → option_map (λ x. (cut.0, x)) (amount_of cut.1) ≡ Some parts → UnitParts text parts
+    amount_in : (cut : Text × Text) → text ≡ cut.0 ++ 58 ∷ cut.1 → is_word cut.0 ≡ true
+        → option_map (λ x. (cut.0, x)) (amount_written cut.1) ≡ Some parts → UnitParts text parts
     amount_in cut spelled named e =
-        let m = mapped (λ x. (cut.0, x)) (amount_of cut.1) parts e in
+        let m = mapped (λ x. (cut.0, x)) (amount_written cut.1) parts e in
         let t = tested (is_amount cut.1) (number cut.1) m.0 m.1 in
         let name : cut.0 ≡ parts.0 = ap (λ p. p.0) m.2 in
         record {
@@ -137,13 +152,16 @@ unit_back text parts e =
           spelled = spelled ∙ ap (λ n. n ++ 58 ∷ cut.1) name;
         }
 
-    go : (cut : Text × Text) → text ≡ cut.0 ++ 58 ∷ cut.1 → (if is_word cut.0 then option_map (λ x. (cut.0, x)) (amount_of cut.1) else None) ≡ Some parts → UnitParts text parts
+    go : (cut : Text × Text) → text ≡ cut.0 ++ 58 ∷ cut.1
+        → (if is_word cut.0 then option_map (λ x. (cut.0, x)) (amount_written cut.1) else None) ≡ Some parts
+        → UnitParts text parts
     go cut spelled e = by (is_word cut.0) refl
       where
         by : (b : Bool) → is_word cut.0 ≡ b → UnitParts text parts
         by true h = amount_in cut spelled h ((rw h refl) ∙ e)
         by false h =
-            let none : (if is_word cut.0 then option_map (λ x. (cut.0, x)) (amount_of cut.1) else None) ≡ None = rw h refl in
+            let none : (if is_word cut.0 then option_map (λ x. (cut.0, x)) (amount_written cut.1) else None)
+            ≡ None = rw h refl in
             not_some parts (sym none ∙ e)
 
 -- `s` and an attachment behind a limit
@@ -159,68 +177,84 @@ data Limit (text : Text) : Option ℕ → Type 0 where
   finite : IsTrue (is_amount text) → Limit text (Some (number text))
   infinite : text ≡ codes "inf" → Limit text None
 
-limit_back : (text : Text) (l : Option ℕ) → limit_of text ≡ Some l → Limit text l
+limit_back : (text : Text) (l : Option ℕ) → limit_written text ≡ Some l → Limit text l
 limit_back text l e = go (bytes_eq text (codes "inf")) refl
   where
     go : (b : Bool) → bytes_eq text (codes "inf") ≡ b → Limit text l
     go true h =
-        let none : limit_of text ≡ Some None = rw h refl in
+        let none : limit_written text ≡ Some None = rw h refl in
         subst (Limit text) (some_is None l (sym none ∙ e)) (infinite ((bytes_eq-Decides text (codes "inf")).0 h))
     go false h =
-        let some : limit_of text ≡ option_map Some (amount_of text) = rw h refl in
-        let m = mapped Some (amount_of text) l (sym some ∙ e) in
+        let some : limit_written text ≡ option_map Some (amount_written text) = rw h refl in
+        let m = mapped Some (amount_written text) l (sym some ∙ e) in
         let t = tested (is_amount text) (number text) m.0 m.1 in
         subst (Limit text) (ap Some t.1 ∙ m.2) (finite t.0)
 
-layer_spelled : (text limit attach : Text) (l : Option ℕ) → Limit limit l → IsTrue (is_amount attach) → text ≡ codes "layer:" ++ (limit ++ 120 ∷ 115 ∷ attach) → Spells text (LayerMean l (number attach))
+layer_spelled : (text limit attach : Text) (l : Option ℕ) → Limit limit l → IsTrue (is_amount attach)
+    → text ≡ codes "layer:" ++ (limit ++ 120 ∷ 115 ∷ attach) → SpellsAsk text (LayerMean l (number attach))
 layer_spelled text limit attach _ (finite h) a e = layer limit attach h a e
-layer_spelled text limit attach _ (infinite same) a e = no_limit attach a (e ∙ ap (λ l. codes "layer:" ++ (l ++ 120 ∷ 115 ∷ attach)) same)
+layer_spelled text limit attach _ (infinite same) a e =
+    no_limit attach a (e ∙ ap (λ l. codes "layer:" ++ (l ++ 120 ∷ 115 ∷ attach)) same)
 
-layer_back : (text rest : Text) (ask : Ask) → text ≡ codes "layer:" ++ rest → layer_of rest ≡ Some ask → Spells text ask
+layer_back : (text rest : Text) (ask : Ask) → text ≡ codes "layer:" ++ rest → layer_of rest ≡ Some ask
+    → SpellsAsk text ask
 layer_back text rest ask spelled e =
     let c = chained (λ cut. layer_between cut.0 cut.1) (cut_at 120 rest) ask e in
-    let d = chained (λ attach. option_and_then (λ l. option_map (LayerMean l) (amount_of attach)) (limit_of c.0.0)) (behind_s c.0.1) ask c.2 in
-    let f = chained (λ l. option_map (LayerMean l) (amount_of d.0)) (limit_of c.0.0) ask d.2 in
+    let d = chained (λ attach. option_and_then (λ l. option_map (LayerMean l) (amount_written attach))
+    (limit_written c.0.0)) (behind_s c.0.1) ask c.2 in
+    let f = chained (λ l. option_map (LayerMean l) (amount_written d.0)) (limit_written c.0.0) ask d.2 in
     let a = amount_back (LayerMean f.0) d.0 ask f.2 in
-    let parts : rest ≡ c.0.0 ++ 120 ∷ 115 ∷ d.0 = cut_back 120 rest c.0 c.1 ∙ ap (λ r. c.0.0 ++ 120 ∷ r) (behind_back c.0.1 d.0 d.1) in
-    subst (Spells text) a.1 (layer_spelled text c.0.0 d.0 f.0 (limit_back c.0.0 f.0 f.1) a.0 (spelled ∙ ap (λ r. codes "layer:" ++ r) parts))
+    let parts : rest ≡ c.0.0 ++ 120 ∷ 115 ∷ d.0 = cut_back 120 rest c.0 c.1
+    ∙ ap (λ r. c.0.0 ++ 120 ∷ r) (behind_back c.0.1 d.0 d.1) in
+    subst (SpellsAsk text) a.1 (layer_spelled text c.0.0 d.0 f.0 (limit_back c.0.0 f.0 f.1) a.0
+    (spelled ∙ ap (λ r. codes "layer:" ++ r) parts))
 
 -- what stands in front of the colon is this name, or another
 module _ (text head rest : Text) (ask : Ask) (spelled : text ≡ head ++ 58 ∷ rest) where
   choice : (name : Text) (there other : Option Ask) → (if bytes_eq head name then there else other) ≡ Some ask
-      → (text ≡ name ++ 58 ∷ rest → there ≡ Some ask → Spells text ask) → (other ≡ Some ask → Spells text ask) → Spells text ask
+      → (text ≡ name ++ 58 ∷ rest → there ≡ Some ask → SpellsAsk text ask) → (other ≡ Some ask → SpellsAsk text ask)
+      → SpellsAsk text ask
   choice name there other e f g = go (bytes_eq head name) refl
     where
-      go : (b : Bool) → bytes_eq head name ≡ b → Spells text ask
+      go : (b : Bool) → bytes_eq head name ≡ b → SpellsAsk text ask
       go true h = f (spelled ∙ ap (λ n. n ++ 58 ∷ rest) ((bytes_eq-Decides head name).0 h)) ((rw h refl) ∙ e)
       go false h = g ((rw h refl) ∙ e)
 
-  between_back : ask_between head rest ≡ Some ask → Spells text ask
+  between_back : ask_between head rest ≡ Some ask → SpellsAsk text ask
   between_back e =
-      choice (codes "pmf") _ _ e (λ t there. let a = amount_back Pmf rest ask there in subst (Spells text) a.1 (pmf rest a.0 t)) (λ e.
-      choice (codes "cdf") _ _ e (λ t there. let a = amount_back Cdf rest ask there in subst (Spells text) a.1 (cdf rest a.0 t)) (λ e.
-      choice (codes "q") _ _ e (λ t there. let a = probability_back Quantile rest ask there in subst (Spells text) a.1 (q rest a.0 t)) (λ e.
-      choice (codes "tail") _ _ e (λ t there. let a = probability_back Tail rest ask there in subst (Spells text) a.1 (tail rest a.0 t)) (λ e.
+      choice (codes "pmf") _ _ e (λ t there. let a = amount_back Pmf rest ask there in
+      subst (SpellsAsk text) a.1 (pmf rest a.0 t)) (λ e.
+      choice (codes "cdf") _ _ e (λ t there. let a = amount_back Cdf rest ask there in
+      subst (SpellsAsk text) a.1 (cdf rest a.0 t)) (λ e.
+      choice (codes "q") _ _ e (λ t there. let a = probability_back Quantile rest ask there in
+      subst (SpellsAsk text) a.1 (q rest a.0 t)) (λ e.
+      choice (codes "tail") _ _ e (λ t there. let a = probability_back Tail rest ask there in
+      subst (SpellsAsk text) a.1 (tail rest a.0 t)) (λ e.
       choice (codes "layer") _ _ e (λ t there. layer_back text rest ask t there) (λ e.
-      choice (codes "joint") _ _ e (λ t there. unit_spelled (codes "joint:") Joint t there (λ name x n a s. joint name x n a s)) (λ e.
-      choice (codes "kappa") _ _ e (λ t there. unit_spelled (codes "kappa:") Kappa t there (λ name x n a s. kappa name x n a s)) (λ e.
+      choice (codes "joint") _ _ e (λ t there. unit_spelled (codes "joint:") Joint t there
+      (λ name x n a s. joint name x n a s)) (λ e.
+      choice (codes "kappa") _ _ e (λ t there. unit_spelled (codes "kappa:") Kappa t there
+      (λ name x n a s. kappa name x n a s)) (λ e.
       not_some ask e)))))))
     where
-      unit_spelled : (front : Text) (mk : Text → ℕ → Ask) → text ≡ front ++ rest → option_map (λ parts. mk parts.0 parts.1) (unit_parts rest) ≡ Some ask
-          → ((name x : Text) → IsTrue (is_word name) → IsTrue (is_amount x) → text ≡ front ++ (name ++ 58 ∷ x) → Spells text (mk name (number x))) → Spells text ask
+      unit_spelled : (front : Text) (mk : Text → ℕ → Ask) → text ≡ front ++ rest
+          → option_map (λ parts. mk parts.0 parts.1) (unit_parts rest) ≡ Some ask
+          → ((name x : Text) → IsTrue (is_word name) → IsTrue (is_amount x) → text ≡ front ++ (name ++ 58 ∷ x)
+          → SpellsAsk text (mk name (number x))) → SpellsAsk text ask
       unit_spelled front mk t e row =
           let m = mapped (λ parts. mk parts.0 parts.1) (unit_parts rest) ask e in
           let u = unit_back rest m.0 m.1 in
-          subst (Spells text) (ap (mk m.0.0) u.value ∙ m.2) (row m.0.0 u.x u.named u.amount (t ∙ ap (λ r. front ++ r) u.spelled))
+          subst (SpellsAsk text) (ap (mk m.0.0) u.value ∙ m.2)
+          (row m.0.0 u.x u.named u.amount (t ∙ ap (λ r. front ++ r) u.spelled))
 
-pub table_back : (text : Text) (ask : Ask) → ask_of text ≡ Some ask → Spells text ask
+pub table_back : (text : Text) (ask : Ask) → ask_of text ≡ Some ask → SpellsAsk text ask
 unfolding ask_of
 table_back text ask e = go (bytes_eq text (codes "mean")) refl
   where
-    go : (b : Bool) → bytes_eq text (codes "mean") ≡ b → Spells text ask
+    go : (b : Bool) → bytes_eq text (codes "mean") ≡ b → SpellsAsk text ask
     go true h =
         let is : ask_of text ≡ Some Mean = rw h refl in
-        subst (Spells text) (some_is Mean ask (sym is ∙ e)) (mean ((bytes_eq-Decides text (codes "mean")).0 h))
+        subst (SpellsAsk text) (some_is Mean ask (sym is ∙ e)) (mean ((bytes_eq-Decides text (codes "mean")).0 h))
     go false h =
         let is : ask_of text ≡ option_and_then (λ cut. ask_between cut.0 cut.1) (cut_at 58 text) = rw h refl in
         let c = chained (λ cut. ask_between cut.0 cut.1) (cut_at 58 text) ask (sym is ∙ e) in

@@ -13,7 +13,7 @@ use Rattle.clap.specs.Simple.{App, Shape, built, entered, matches_of}
 use Rattle.clap.specs.Faults.{repeat_fault, check_fault, default_fault, defaults_fault, entered_fault, fault_of, level_fault, settle_fault, use_fault, walk_fault}
 use Rattle.dl_words.specs.Command.{command}
 use Rattle.dl_words.specs.Spelling.{Text}
-use Rattle.dl_words.specs.Parts.{Part, Mode, Kind, is_name, positionals_of, values_of, with_part, read_kind}
+use Rattle.dl_words.specs.Parts.{Part, Mode, Kind, is_name, positionals_of, option_values, with_part, read_kind}
 use Rattle.dl_words.specs.Parts.Part.{option, positional}
 use Rattle.dl_words.specs.Parts.Mode.{between, value, ended}
 use Rattle.dl_words.specs.Parts.Kind.{ends, whole, begins, plain, misfit}
@@ -32,9 +32,12 @@ rule_at k = Rattle.std.specs.List.slice_index_or shape.rules k (Rattle.clap.spec
 
 -- ---- the command is one that the walk's lemmas cover
 
-takes_literal : (name : Text) (a : Rule) → arg_by_id shape.rules name ≡ Some a → a.id ≡ name → Rattle.clap.specs.Walk.takes_values a ≡ true → Rattle.clap.specs.Walk.takes_several a ≡ false
-    → Rattle.clap.specs.Walk.most_values a ≡ 1 → (Rattle.clap.specs.Facts.unwrap_or_range a.range).start_inclusive ≡ 1 → TakesOne shape name a
-takes_literal name a found same takes single most least = record { found = found; same = same; takes = takes; single = single; most = most; least = least }
+takes_literal : (name : Text) (a : Rule) → arg_by_id shape.rules name ≡ Some a → a.id ≡ name
+    → Rattle.clap.specs.Walk.takes_values a ≡ true → Rattle.clap.specs.Walk.takes_several a ≡ false
+    → Rattle.clap.specs.Walk.most_values a ≡ 1 → (Rattle.clap.specs.Facts.unwrap_or_range a.range).start_inclusive ≡ 1
+    → TakesOne shape name a
+takes_literal name a found same takes single most least =
+    record { found = found; same = same; takes = takes; single = single; most = most; least = least }
 
 -- a name is this one, or another
 split : (P : Text → Type 0) (name k : Text) → P k → (bytes_eq k name ≡ false → P name) → P name
@@ -46,14 +49,22 @@ split P name k here other = go (bytes_eq k name) refl
 
 long_met : (name : Text) → LongMet shape name (arg_by_long shape.rules name) (is_name name)
 long_met name =
-    split (λ t. LongMet shape t (arg_by_long shape.rules t) (is_name t)) name (codes "make") (takes_long (rule_at 2) (takes_literal (codes "make") (rule_at 2) refl refl refl refl refl refl)) (λ e0.
-    split (λ t. LongMet shape t (arg_by_long shape.rules t) (is_name t)) name (codes "bs") (takes_long (rule_at 3) (takes_literal (codes "bs") (rule_at 3) refl refl refl refl refl refl)) (λ e1.
-    split (λ t. LongMet shape t (arg_by_long shape.rules t) (is_name t)) name (codes "log2") (takes_long (rule_at 4) (takes_literal (codes "log2") (rule_at 4) refl refl refl refl refl refl)) (λ e2.
-    split (λ t. LongMet shape t (arg_by_long shape.rules t) (is_name t)) name (codes "digits") (takes_long (rule_at 5) (takes_literal (codes "digits") (rule_at 5) refl refl refl refl refl refl)) (λ e3.
-    split (λ t. LongMet shape t (arg_by_long shape.rules t) (is_name t)) name (codes "width") (takes_long (rule_at 6) (takes_literal (codes "width") (rule_at 6) refl refl refl refl refl refl)) (λ e4.
-    split (λ t. LongMet shape t (arg_by_long shape.rules t) (is_name t)) name (codes "mwidth") (takes_long (rule_at 7) (takes_literal (codes "mwidth") (rule_at 7) refl refl refl refl refl refl)) (λ e5.
-    split (λ t. LongMet shape t (arg_by_long shape.rules t) (is_name t)) name (codes "format") (takes_long (rule_at 8) (takes_literal (codes "format") (rule_at 8) refl refl refl refl refl refl)) (λ e6.
-    split (λ t. LongMet shape t (arg_by_long shape.rules t) (is_name t)) name (codes "help") (help_long (rule_at 9) refl (λ r. tt)) (λ e7.
+    split (λ t. LongMet shape t (arg_by_long shape.rules t) (is_name t)) name (codes "make")
+    (takes_long (rule_at 2) (takes_literal (codes "make") (rule_at 2) refl refl refl refl refl refl)) (λ e0.
+    split (λ t. LongMet shape t (arg_by_long shape.rules t) (is_name t)) name (codes "bs")
+    (takes_long (rule_at 3) (takes_literal (codes "bs") (rule_at 3) refl refl refl refl refl refl)) (λ e1.
+    split (λ t. LongMet shape t (arg_by_long shape.rules t) (is_name t)) name (codes "log2")
+    (takes_long (rule_at 4) (takes_literal (codes "log2") (rule_at 4) refl refl refl refl refl refl)) (λ e2.
+    split (λ t. LongMet shape t (arg_by_long shape.rules t) (is_name t)) name (codes "digits")
+    (takes_long (rule_at 5) (takes_literal (codes "digits") (rule_at 5) refl refl refl refl refl refl)) (λ e3.
+    split (λ t. LongMet shape t (arg_by_long shape.rules t) (is_name t)) name (codes "width")
+    (takes_long (rule_at 6) (takes_literal (codes "width") (rule_at 6) refl refl refl refl refl refl)) (λ e4.
+    split (λ t. LongMet shape t (arg_by_long shape.rules t) (is_name t)) name (codes "mwidth")
+    (takes_long (rule_at 7) (takes_literal (codes "mwidth") (rule_at 7) refl refl refl refl refl refl)) (λ e5.
+    split (λ t. LongMet shape t (arg_by_long shape.rules t) (is_name t)) name (codes "format")
+    (takes_long (rule_at 8) (takes_literal (codes "format") (rule_at 8) refl refl refl refl refl refl)) (λ e6.
+    split (λ t. LongMet shape t (arg_by_long shape.rules t) (is_name t)) name (codes "help")
+    (help_long (rule_at 9) refl (λ r. tt)) (λ e7.
     rw (e0, e1, e2, e3, e4, e5, e6, e7) no_long))))))))
 
 short_met : (c : ℕ) → ShortMet (arg_by_short shape.rules c)
@@ -97,7 +108,8 @@ ready = record {
 
 -- ---- the fault and the matches are the walk's
 
-no_subcommand_entered : (stop : Option (Text × List Text)) → (entered (built command) stop ≡ None) × (entered_fault (built command) stop ≡ [])
+no_subcommand_entered : (stop : Option (Text × List Text)) → (entered (built command) stop ≡ None)
+    × (entered_fault (built command) stop ≡ [])
 no_subcommand_entered None = (refl, refl)
 no_subcommand_entered (Some p) = (refl, refl)
 
@@ -115,7 +127,8 @@ same_rows a rows e = go (has_row a.id rows)
 no_default_fault : (a : Rule) (rows : List Row) → a.defaults ≡ [] → default_fault rows a ≡ []
 no_default_fault a rows e = go (has_row a.id rows)
   where
-    go : (b : Bool) → (if b || is_empty a.defaults then [] else Rattle.clap.specs.Faults.given_default_fault a a.defaults) ≡ []
+    go : (b : Bool) → (if b || is_empty a.defaults then []
+        else Rattle.clap.specs.Faults.given_default_fault a a.defaults) ≡ []
     go true = refl
     go false = rw e refl
 
@@ -126,7 +139,8 @@ all_same_rows (a ∷ rest) rows h = rw (same_rows a rows h.0) (all_same_rows res
 no_defaults_fault : (rules : List Rule) (rows : List Row) → NoDefaults rules → defaults_fault rows rules ≡ []
 unfolding defaults_fault
 no_defaults_fault [] rows h = refl
-no_defaults_fault (a ∷ rest) rows h = rw (no_default_fault a rows h.0, same_rows a rows h.0) (no_defaults_fault rest rows h.1)
+no_defaults_fault (a ∷ rest) rows h = rw (no_default_fault a rows h.0, same_rows a rows h.0)
+    (no_defaults_fault rest rows h.1)
 
 abbrev pub start : Walk
 start = walk_from nothing_held
@@ -148,15 +162,19 @@ check_is rows = go (is_given (codes "form") rows) refl
     go true e = rw e refl
     go false e = rw e refl
 
-level_is : (words : List Text) → level_fault shape [] nothing_held words false [] ≡ or_else (total shape start words) (missing (final shape start words))
+level_is : (words : List Text) → level_fault shape [] nothing_held words false []
+    ≡ or_else (total shape start words) (missing (final shape start words))
 level_is words =
     let wf : Kinds = walk_fault shape [] start words in
     let sf : Kinds = settle_fault shape.rules shape.args_override_self (walk shape.rules [] nothing_held words).held in
-    ap (λ k. or_else wf (or_else sf k)) (ap₂ or_else (no_defaults_fault shape.rules (settled shape.rules (walk shape.rules [] nothing_held words).held).rows literal)
+    ap (λ k. or_else wf (or_else sf k))
+    (ap₂ or_else (no_defaults_fault shape.rules
+    (settled shape.rules (walk shape.rules [] nothing_held words).held).rows literal)
     (ap (λ rows. check_fault shape rows false) (matches_are words) ∙ check_is (final shape start words)))
     ∙ sym (or_else-assoc wf sf (missing (final shape start words)))
 
-pub fault_is : (words : List Text) → fault_of command words ≡ or_else (total shape start words) (missing (final shape start words))
+pub fault_is : (words : List Text) → fault_of command words
+    ≡ or_else (total shape start words) (missing (final shape start words))
 fault_is words =
     let stop : Option (Text × List Text) = (walk shape.rules [] nothing_held words).stopped in
     let nowhere = no_subcommand_entered stop in
@@ -177,7 +195,8 @@ abbrev pub NamedIn : Mode → Type 0
 NamedIn (value n) = is_name n ≡ true
 NamedIn _ = ⊤
 
-pub with_named : (part : Part) (o : Option (List Part)) → ((ps : List Part) → AllNamed ps → AllNamed (part ∷ ps)) → IfParts o AllNamed → IfParts (with_part part o) AllNamed
+pub with_named : (part : Part) (o : Option (List Part)) → ((ps : List Part) → AllNamed ps → AllNamed (part ∷ ps))
+    → IfParts o AllNamed → IfParts (with_part part o) AllNamed
 with_named part None f h = tt
 with_named part (Some ps) f h = f ps h
 
@@ -208,14 +227,16 @@ named_kind _ (seen_long w name v e l k) = rw k (named_long name v)
 named_kind _ (seen_short w x xs e l f k) = rw k (named_flag (x ∷ xs))
 named_kind _ (seen_plain w e l f k) = rw k tt
 
-pub named_read : (word : Text) (k : Kind) (next : Mode → Option (List Part)) → NamedKind k → ((mode : Mode) → NamedIn mode → IfParts (next mode) AllNamed) → IfParts (read_kind word k next) AllNamed
+pub named_read : (word : Text) (k : Kind) (next : Mode → Option (List Part)) → NamedKind k
+    → ((mode : Mode) → NamedIn mode → IfParts (next mode) AllNamed) → IfParts (read_kind word k next) AllNamed
 named_read word ends next n h = h ended tt
 named_read word (whole name v) next n h = with_named (option name v) (next between) (λ ps q. (n, q)) (h between tt)
 named_read word (begins name) next n h = h (value name) n
 named_read word plain next n h = with_named (positional word) (next between) (λ ps q. q) (h between tt)
 named_read word misfit next n h = tt
 
-named_value : (name word : Text) (k : Kind) (o : Option (List Part)) → is_name name ≡ true → IfParts o AllNamed → IfParts (value_kind name word k o) AllNamed
+named_value : (name word : Text) (k : Kind) (o : Option (List Part)) → is_name name ≡ true → IfParts o AllNamed
+    → IfParts (value_kind name word k o) AllNamed
 named_value name word ends o n h = tt
 named_value name word (whole m v) o n h = tt
 named_value name word (begins m) o n h = tt
@@ -228,14 +249,20 @@ all_named [] (value name) n = tt
 all_named [] ended n = tt
 all_named (word ∷ rest) between n = named_read word (clap_kind word) _ (named_kind word (seen word)) (all_named rest)
 all_named (word ∷ rest) (value name) n = named_value name word (clap_kind word) _ n (all_named rest between tt)
-all_named (word ∷ rest) ended n = with_named (positional word) (clap_from ended rest) (λ ps q. q) (all_named rest ended tt)
+all_named (word ∷ rest) ended n = with_named (positional word) (clap_from ended rest) (λ ps q. q)
+    (all_named rest ended tt)
 
 -- ---- what the uses of the parts have
 
 -- what holds of each name holds of a name
-pub by_name : (P : Text → Type 0) → P (codes "make") → P (codes "bs") → P (codes "log2") → P (codes "digits") → P (codes "width") → P (codes "mwidth") → P (codes "format") → (name : Text) → is_name name ≡ true → P name
+pub by_name : (P : Text → Type 0) → P (codes "make") → P (codes "bs") → P (codes "log2") → P (codes "digits")
+    → P (codes "width") → P (codes "mwidth") → P (codes "format") → (name : Text) → is_name name ≡ true → P name
 by_name P make bs log2 digits width mwidth format name h =
-    split P name (codes "make") make (λ e0. split P name (codes "bs") bs (λ e1. split P name (codes "log2") log2 (λ e2. split P name (codes "digits") digits (λ e3. split P name (codes "width") width (λ e4. split P name (codes "mwidth") mwidth (λ e5. split P name (codes "format") format (λ e6. absurd (true≢false (sym h ∙ (rw (e0, e1, e2, e3, e4, e5, e6) refl))))))))))
+    split P name (codes "make") make (λ e0. split P name (codes "bs") bs
+    (λ e1. split P name (codes "log2") log2 (λ e2. split P name (codes "digits") digits
+    (λ e3. split P name (codes "width") width (λ e4. split P name (codes "mwidth") mwidth
+    (λ e5. split P name (codes "format") format
+    (λ e6. absurd (true≢false (sym h ∙ (rw (e0, e1, e2, e3, e4, e5, e6) refl))))))))))
 
 kept_name : (name : Text) → is_name name ≡ true → Kept shape name
 kept_name = by_name (Kept shape)
@@ -277,9 +304,11 @@ no_name : (first : Bool) (name : Text) → is_name name ≡ true → bytes_eq na
 no_name true = by_name (λ n. bytes_eq n (codes "form") ≡ false) refl refl refl refl refl refl refl
 no_name false = by_name (λ n. bytes_eq n (codes "asks") ≡ false) refl refl refl refl refl refl refl
 
-named_values : (ps : List Part) (first : Bool) (name : Text) → is_name name ≡ true → values_in name (uses_of place first ps) ≡ values_of name ps
+named_values : (ps : List Part) (first : Bool) (name : Text) → is_name name ≡ true
+    → values_in name (uses_of place first ps) ≡ option_values name ps
 named_values [] first name h = refl
-named_values (option n v ∷ ps) first name h = ap (λ l. if bytes_eq n name then v ∷ l else l) (named_values ps first name h)
+named_values (option n v ∷ ps) first name h = ap (λ l. if bytes_eq n name then v ∷ l else l)
+    (named_values ps first name h)
 named_values (positional w ∷ ps) first name h = rw (no_place first name h) (named_values ps false name h)
 
 no_more_forms : (ps : List Part) → AllNamed ps → values_in (codes "form") (uses_of place false ps) ≡ []
@@ -297,7 +326,8 @@ more_asks [] h = refl
 more_asks (option n v ∷ ps) h = rw (no_name false n h.0) (more_asks ps h.1)
 more_asks (positional w ∷ ps) h = ap (λ l. w ∷ l) (more_asks ps h)
 
-all_asks : (ps : List Part) → AllNamed ps → values_in (codes "asks") (uses_of place true ps) ≡ drop 1 (positionals_of ps)
+all_asks : (ps : List Part) → AllNamed ps → values_in (codes "asks") (uses_of place true ps)
+    ≡ drop 1 (positionals_of ps)
 all_asks [] h = refl
 all_asks (option n v ∷ ps) h = rw (no_name false n h.0) (all_asks ps h.1)
 all_asks (positional w ∷ ps) h = more_asks ps h
@@ -310,18 +340,21 @@ other_name m id h n = go (bytes_eq m id) refl
     go true e = absurd (true≢false (sym (subst (λ t. is_name t ≡ true) ((bytes_eq-Decides m id).0 e) h) ∙ n))
 
 -- an id that is no name and not of the asks stands once at most
-no_others : (ps : List Part) (id : Text) → AllNamed ps → is_name id ≡ false → bytes_eq (codes "asks") id ≡ false → values_in id (uses_of place false ps) ≡ []
+no_others : (ps : List Part) (id : Text) → AllNamed ps → is_name id ≡ false → bytes_eq (codes "asks") id ≡ false
+    → values_in id (uses_of place false ps) ≡ []
 no_others [] id h n a = refl
 no_others (option m v ∷ ps) id h n a =
     rw (other_name m id h.0 n) (no_others ps id h.1 n a)
 no_others (positional w ∷ ps) id h n a = rw a (no_others ps id h n a)
 
-one_other : (ps : List Part) (id : Text) → AllNamed ps → is_name id ≡ false → bytes_eq (codes "asks") id ≡ false → length (values_in id (uses_of place true ps)) ≤ 1
+one_other : (ps : List Part) (id : Text) → AllNamed ps → is_name id ≡ false → bytes_eq (codes "asks") id ≡ false
+    → length (values_in id (uses_of place true ps)) ≤ 1
 one_other [] id h n a = omega arith
 one_other (option m v ∷ ps) id h n a = rw (other_name m id h.0 n) (one_other ps id h.1 n a)
 one_other (positional w ∷ ps) id h n a = go (bytes_eq (codes "form") id) refl
   where
-    go : (b : Bool) → bytes_eq (codes "form") id ≡ b → length (values_in id (uses_of place true (positional w ∷ ps))) ≤ 1
+    go : (b : Bool) → bytes_eq (codes "form") id ≡ b
+        → length (values_in id (uses_of place true (positional w ∷ ps))) ≤ 1
     go true e = rw (e, no_others ps id h n a) (omega arith)
     go false e = rw (e, no_others ps id h n a) (omega arith)
 
@@ -330,8 +363,9 @@ one_other (positional w ∷ ps) id h n a = go (bytes_eq (codes "form") id) refl
 -- the matches hold the values of the parts
 pub record Matched (words : List Text) (ps : List Part) : Type 0 where
   pub parts : clap_from between words ≡ Some ps
-  pub once : (name : Text) → is_name name ≡ true → length (values_of name ps) ≤ 1
-  pub options : (name : Text) → is_name name ≡ true → all_of name (matches_of command words) ≡ more None (values_of name ps)
+  pub once : (name : Text) → is_name name ≡ true → length (option_values name ps) ≤ 1
+  pub options : (name : Text) → is_name name ≡ true → all_of name (matches_of command words)
+      ≡ more None (option_values name ps)
   pub form : all_of (codes "form") (matches_of command words) ≡ more None (take 1 (positionals_of ps))
   pub asks : all_of (codes "asks") (matches_of command words) ≡ more None (drop 1 (positionals_of ps))
 
@@ -339,7 +373,8 @@ pub record Matched (words : List Text) (ps : List Part) : Type 0 where
 pub data Unfit (words : List Text) : Type 0 where
   no_parts : clap_from between words ≡ None → Unfit words
   no_form : (ps : List Part) → clap_from between words ≡ Some ps → positionals_of ps ≡ [] → Unfit words
-  stands_twice : (ps : List Part) → clap_from between words ≡ Some ps → (name : Text) → is_name name ≡ true → 2 ≤ length (values_of name ps) → Unfit words
+  stands_twice : (ps : List Part) → clap_from between words ≡ Some ps → (name : Text) → is_name name ≡ true
+      → 2 ≤ length (option_values name ps) → Unfit words
 
 from_zero : (n : ℕ) → 0 + n ≤ 1 → n ≤ 1
 from_zero n h = omega arith
@@ -347,27 +382,35 @@ from_zero n h = omega arith
 two_from_zero : (n : ℕ) → 2 ≤ 0 + n → 2 ≤ n
 two_from_zero n h = omega arith
 
-start_sim : (words : List Text) → Agrees (total shape start words) (final shape start words) (λ ps. faults shape [] (uses_of place true ps)) (λ ps. fold (step shape) [] (uses_of place true ps)) (clap_from between words)
+start_sim : (words : List Text) → Agrees (total shape start words) (final shape start words)
+    (λ ps. faults shape [] (uses_of place true ps)) (λ ps. fold (step shape) [] (uses_of place true ps))
+    (clap_from between words)
 start_sim words = sim shape place ready words between true false None []
 
 pub matched : (words : List Text) → fault_of command words ≡ [] → (ps : List Part) × Matched words ps
 matched words none = go (clap_from between words) refl (start_sim words) (all_named words between tt)
   where
     go : (o : Option (List Part)) → clap_from between words ≡ o
-        → Agrees (total shape start words) (final shape start words) (λ ps. faults shape [] (uses_of place true ps)) (λ ps. fold (step shape) [] (uses_of place true ps)) o
+        → Agrees (total shape start words) (final shape start words) (λ ps. faults shape [] (uses_of place true ps))
+        (λ ps. fold (step shape) [] (uses_of place true ps)) o
         → IfParts o AllNamed → (ps : List Part) × Matched words ps
     go None e h n = absurd (subst Fails (both_empty (total shape start words) _ (sym (fault_is words) ∙ none)).0 h)
     go (Some ps) e h n =
-        let quiet : faults shape [] (uses_of place true ps) ≡ [] = sym h.0 ∙ (both_empty (total shape start words) _ (sym (fault_is words) ∙ none)).0 in
+        let quiet : faults shape [] (uses_of place true ps) ≡ [] = sym h.0
+        ∙ (both_empty (total shape start words) _ (sym (fault_is words) ∙ none)).0 in
         let rows : matches_of command words ≡ fold (step shape) [] (uses_of place true ps) = matches_are words ∙ h.1 in
         let kept : AllKept shape (uses_of place true ps) = all_kept ps true n in (
           ps,
           record {
             parts = e;
-            once = λ name is. subst (λ l. length l ≤ 1) (named_values ps true name is) (from_zero _ (at_most_once shape (uses_of place true ps) [] name kept (single_name name is) quiet));
-            options = λ name is. ap (all_of name) rows ∙ gathered shape (uses_of place true ps) [] name kept quiet ∙ ap (more None) (named_values ps true name is);
-            form = ap (all_of (codes "form")) rows ∙ gathered shape (uses_of place true ps) [] (codes "form") kept quiet ∙ ap (more None) (forms ps n);
-            asks = ap (all_of (codes "asks")) rows ∙ gathered shape (uses_of place true ps) [] (codes "asks") kept quiet ∙ ap (more None) (all_asks ps n);
+            once = λ name is. subst (λ l. length l ≤ 1) (named_values ps true name is)
+                (from_zero _ (at_most_once shape (uses_of place true ps) [] name kept (single_name name is) quiet));
+            options = λ name is. ap (all_of name) rows ∙ gathered shape (uses_of place true ps) [] name kept quiet
+                ∙ ap (more None) (named_values ps true name is);
+            form = ap (all_of (codes "form")) rows ∙ gathered shape (uses_of place true ps) [] (codes "form") kept quiet
+                ∙ ap (more None) (forms ps n);
+            asks = ap (all_of (codes "asks")) rows ∙ gathered shape (uses_of place true ps) [] (codes "asks") kept quiet
+                ∙ ap (more None) (all_asks ps n);
           },
         )
 
@@ -376,29 +419,37 @@ not_missing rows e h =
     let none : missing rows ≡ [] = rw e refl in
     subst Fails none h
 
-no_words : (ps : List Part) → AllNamed ps → (ws : List Text) → positionals_of ps ≡ ws → faults shape [] (uses_of place true ps) ≡ [] → Fails (missing (fold (step shape) [] (uses_of place true ps))) → positionals_of ps ≡ []
+no_words : (ps : List Part) → AllNamed ps → (ws : List Text) → positionals_of ps ≡ ws
+    → faults shape [] (uses_of place true ps) ≡ [] → Fails (missing (fold (step shape) [] (uses_of place true ps)))
+    → positionals_of ps ≡ []
 no_words ps n [] e f h = e
 no_words ps n (w ∷ ws) e f h =
     let kept : AllKept shape (uses_of place true ps) = all_kept ps true n in
     let has : all_of (codes "form") (fold (step shape) [] (uses_of place true ps)) ≡ Some (w ∷ []) =
-    gathered shape (uses_of place true ps) [] (codes "form") kept f ∙ ap (more None) (forms ps n) ∙ ap (λ ts. more None (take 1 ts)) e in
+    gathered shape (uses_of place true ps) [] (codes "form") kept f ∙ ap (more None) (forms ps n)
+    ∙ ap (λ ts. more None (take 1 ts)) e in
     let given : is_given (codes "form") (fold (step shape) [] (uses_of place true ps)) ≡ true =
-    given_explicit (codes "form") (fold (step shape) [] (uses_of place true ps)) (all_explicit shape (uses_of place true ps) [] kept refl) ∙ ap is_some has in
+    given_explicit (codes "form") (fold (step shape) [] (uses_of place true ps))
+    (all_explicit shape (uses_of place true ps) [] kept refl) ∙ ap is_some has in
     absurd (not_missing (fold (step shape) [] (uses_of place true ps)) given h)
 
 pub unfit : (words : List Text) → Fails (fault_of command words) → Unfit words
 unfit words some = go (clap_from between words) refl (start_sim words) (all_named words between tt)
   where
-    doubled : (ps : List Part) → AllNamed ps → (id : Text) → IsSingle shape id → 2 ≤ length (values_in id (uses_of place true ps)) → (n : Bool) → is_name id ≡ n → (a : Bool) → bytes_eq (codes "asks") id ≡ a
-        → (is_name id ≡ true) × (2 ≤ length (values_of id ps))
+    doubled : (ps : List Part) → AllNamed ps → (id : Text) → IsSingle shape id
+        → 2 ≤ length (values_in id (uses_of place true ps)) → (n : Bool) → is_name id ≡ n → (a : Bool)
+        → bytes_eq (codes "asks") id ≡ a
+        → (is_name id ≡ true) × (2 ≤ length (option_values id ps))
     doubled ps named id single two true n a e = (n, subst (λ l. 2 ≤ length l) (named_values ps true id n) two)
-    doubled ps named id single two false n true e = absurd (asks_not_single (subst (IsSingle shape) (sym ((bytes_eq-Decides (codes "asks") id).0 e)) single))
+    doubled ps named id single two false n true e = absurd
+        (asks_not_single (subst (IsSingle shape) (sym ((bytes_eq-Decides (codes "asks") id).0 e)) single))
     doubled ps named id single two false n false e =
         let one = one_other ps id named n e in
         absurd (omega (arith, one, two))
 
     go : (o : Option (List Part)) → clap_from between words ≡ o
-        → Agrees (total shape start words) (final shape start words) (λ ps. faults shape [] (uses_of place true ps)) (λ ps. fold (step shape) [] (uses_of place true ps)) o
+        → Agrees (total shape start words) (final shape start words) (λ ps. faults shape [] (uses_of place true ps))
+        (λ ps. fold (step shape) [] (uses_of place true ps)) o
         → IfParts o AllNamed → Unfit words
     go None e h n = no_parts e
     go (Some ps) e h n =
@@ -411,8 +462,10 @@ unfit words some = go (clap_from between words) refl (start_sim words) (all_name
         either (k ∷ ks) f =
             let loud : Fails (faults shape [] (uses_of place true ps)) = subst Fails (sym f) tt in
             let got = twice shape (uses_of place true ps) [] (all_kept ps true n) loud in
-            let both = doubled ps n got.0 got.1 (two_from_zero _ got.2) (is_name got.0) refl (bytes_eq (codes "asks") got.0) refl in
+            let both = doubled ps n got.0 got.1 (two_from_zero _ got.2) (is_name got.0) refl
+            (bytes_eq (codes "asks") got.0) refl in
             stands_twice ps e got.0 both.0 both.1
         either [] f =
-            let absent : Fails (missing (final shape start words)) = subst Fails (fault_is words ∙ ap (λ k. or_else k (missing (final shape start words))) (h.0 ∙ f)) some in
+            let absent : Fails (missing (final shape start words)) =
+            subst Fails (fault_is words ∙ ap (λ k. or_else k (missing (final shape start words))) (h.0 ∙ f)) some in
             no_form ps e (no_words ps n (positionals_of ps) refl f (subst (λ rows. Fails (missing rows)) h.1 absent))

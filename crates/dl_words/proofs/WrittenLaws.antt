@@ -20,7 +20,8 @@ no_equals : (name : Text) → is_name name ≡ true → list_any is_equals name 
 no_equals = by_name (λ name. list_any is_equals name ≡ false) refl refl refl refl refl refl refl
 
 all_before : (name : Text) → list_any is_equals name ≡ false → before_first is_equals name ≡ name
-all_before name h = ap (before_first is_equals) (sym (append-nil name)) ∙ before_none is_equals name [] h ∙ append-nil name
+all_before name h = ap (before_first is_equals) (sym (append-nil name)) ∙ before_none is_equals name [] h
+    ∙ append-nil name
 
 -- two hyphens and a name
 whole_kind : (name v : Text) → is_name name ≡ true → kind_of (codes "--" ++ (name ++ (codes "=" ++ v))) ≡ whole name v
@@ -59,9 +60,12 @@ all_positional (word ∷ rest) = ap (with_part (positional word)) (all_positiona
 pub written_read : (words : List Text) (ps : List Part) → AreParts words ps → parts_from between words ≡ Some ps
 unfolding parts_from
 written_read _ _ nothing = refl
-written_read _ _ (joined name v rest ps is h) = rw (whole_kind name v is) (ap (with_part (option name v)) (written_read rest ps h))
-written_read _ _ (apart name v rest ps is h) = rw (begins_kind name is) (ap (with_part (option name v)) (written_read rest ps h))
-written_read _ _ (word_plain word rest ps is h) = rw (plain_kind word is) (ap (with_part (positional word)) (written_read rest ps h))
+written_read _ _ (joined name v rest ps is h) = rw (whole_kind name v is)
+    (ap (with_part (option name v)) (written_read rest ps h))
+written_read _ _ (apart name v rest ps is h) = rw (begins_kind name is)
+    (ap (with_part (option name v)) (written_read rest ps h))
+written_read _ _ (word_plain word rest ps is h) = rw (plain_kind word is)
+    (ap (with_part (positional word)) (written_read rest ps h))
 written_read _ _ (all_plain rest) = all_positional rest
 
 -- ---- what is read is written
@@ -69,7 +73,8 @@ written_read _ _ (all_plain rest) = all_positional rest
 -- a word that is read as its kind is written so
 pub data Written (word : Text) : Kind → Type 0 where
   is_ends : word ≡ codes "--" → Written word ends
-  is_whole : (name v : Text) → is_name name ≡ true → word ≡ codes "--" ++ (name ++ (codes "=" ++ v)) → Written word (whole name v)
+  is_number_within : (name v : Text) → is_name name ≡ true → word ≡ codes "--" ++ (name ++ (codes "=" ++ v))
+      → Written word (whole name v)
   is_begins : (name : Text) → is_name name ≡ true → word ≡ codes "--" ++ name → Written word (begins name)
   is_plain : begins_plainly word ≡ true → Written word plain
   is_misfit : Written word misfit
@@ -77,10 +82,13 @@ pub data Written (word : Text) : Kind → Type 0 where
 named_written : (word text : Text) → word ≡ codes "--" ++ text → Written word (named text)
 named_written word text e = go (is_name (before_first is_equals text)) refl (list_any is_equals text) refl
   where
-    go : (a : Bool) → is_name (before_first is_equals text) ≡ a → (b : Bool) → list_any is_equals text ≡ b → Written word (named text)
+    go : (a : Bool) → is_name (before_first is_equals text) ≡ a → (b : Bool) → list_any is_equals text ≡ b
+        → Written word (named text)
     go false h b k = rw h is_misfit
-    go true h true k = rw (h, k) (is_whole (before_first is_equals text) (after_first is_equals text) h (e ∙ ap (λ t. codes "--" ++ t) (cut_first 61 text k)))
-    go true h false k = rw (h, k) (is_begins (before_first is_equals text) h (e ∙ ap (λ t. codes "--" ++ t) (sym (all_before text k))))
+    go true h true k = rw (h, k) (is_number_within (before_first is_equals text) (after_first is_equals text) h
+        (e ∙ ap (λ t. codes "--" ++ t) (cut_first 61 text k)))
+    go true h false k = rw (h, k) (is_begins (before_first is_equals text) h
+        (e ∙ ap (λ t. codes "--" ++ t) (sym (all_before text k))))
 
 hyphen_is : (c : ℕ) → (c == 45) ≡ true → c ≡ 45
 hyphen_is c h = grind (arith, nat_tests, h)
@@ -89,7 +97,8 @@ written : (word : Text) → Written word (kind_of word)
 written [] = is_plain refl
 written (c ∷ cs) = go (c == 45) refl cs
   where
-    second : (d : ℕ) (ds : Text) → (c == 45) ≡ true → (b : Bool) → d == 45 ≡ b → Written (c ∷ d ∷ ds) (kind_of (c ∷ d ∷ ds))
+    second : (d : ℕ) (ds : Text) → (c == 45) ≡ true → (b : Bool) → d == 45 ≡ b
+        → Written (c ∷ d ∷ ds) (kind_of (c ∷ d ∷ ds))
     second d ds e false f = rw (e, f) is_misfit
     second d [] e true f = rw (e, f) (is_ends (rw (hyphen_is c e, hyphen_is d f) refl))
     second d (x ∷ xs) e true f =
@@ -101,7 +110,8 @@ written (c ∷ cs) = go (c == 45) refl cs
     go true e [] = rw e is_misfit
     go true e (d ∷ ds) = second d ds e (d == 45) refl
 
-some_parts : (part : Part) (o : Option (List Part)) (ps : List Part) → with_part part o ≡ Some ps → (qs : List Part) × (o ≡ Some qs) × (part ∷ qs ≡ ps)
+some_parts : (part : Part) (o : Option (List Part)) (ps : List Part) → with_part part o ≡ Some ps
+    → (qs : List Part) × (o ≡ Some qs) × (part ∷ qs ≡ ps)
 some_parts part None ps e = absurd (cc)
 some_parts part (Some qs) ps e = (qs, refl, cc)
 
@@ -109,12 +119,15 @@ some_parts part (Some qs) ps e = (qs, refl, cc)
 abbrev IsRead : Mode → List Text → Type 0
 IsRead between rest = (ps : List Part) → parts_from between rest ≡ Some ps → AreParts rest ps
 IsRead ended rest = (ps : List Part) → parts_from ended rest ≡ Some ps → map positional rest ≡ ps
-IsRead (value name) rest = (is_name name ≡ true) → (ps : List Part) → parts_from (value name) rest ≡ Some ps → AreParts ((codes "--" ++ name) ∷ rest) ps
+IsRead (value name) rest = (is_name name ≡ true) → (ps : List Part) → parts_from (value name) rest ≡ Some ps
+    → AreParts ((codes "--" ++ name) ∷ rest) ps
 
-between_read : (word : Text) (rest : List Text) (k : Kind) → Written word k → ((mode : Mode) → IsRead mode rest) → (ps : List Part)
+between_read : (word : Text) (rest : List Text) (k : Kind) → Written word k → ((mode : Mode) → IsRead mode rest)
+    → (ps : List Part)
     → read_kind word k (λ mode. parts_from mode rest) ≡ Some ps → AreParts (word ∷ rest) ps
-between_read word rest _ (is_ends e) next ps h = rw e (subst (AreParts (codes "--" ∷ rest)) (next ended ps h) (all_plain rest))
-between_read word rest _ (is_whole name v is e) next ps h =
+between_read word rest _ (is_ends e) next ps h =
+    rw e (subst (AreParts (codes "--" ∷ rest)) (next ended ps h) (all_plain rest))
+between_read word rest _ (is_number_within name v is e) next ps h =
     let t = some_parts (option name v) (parts_from between rest) ps h in
     rw e (subst (AreParts _) t.2 (joined name v rest t.0 is (next between t.0 t.1)))
 between_read word rest _ (is_begins name is e) next ps h = rw e (next (value name) is ps h)
@@ -128,7 +141,8 @@ unfolding parts_from
 read_written [] between = λ ps h. let e : [] ≡ ps = cc in subst (AreParts []) e nothing
 read_written [] ended = λ ps h. cc
 read_written [] (value name) = λ is ps h. absurd (cc)
-read_written (word ∷ rest) between = λ ps h. between_read word rest (kind_of word) (written word) (read_written rest) ps h
+read_written (word ∷ rest) between = λ ps h. between_read word rest (kind_of word) (written word)
+    (read_written rest) ps h
 read_written (word ∷ rest) ended = λ ps h.
     let t = some_parts (positional word) (parts_from ended rest) ps h in
     ap (λ qs. positional word ∷ qs) (read_written rest ended t.0 t.1) ∙ t.2

@@ -13,19 +13,21 @@ use Rattle.dl_words.specs.Spelling.{Text, is_amount, is_probability, is_word, nu
 -- what stands in front of the first byte that is the sign, and what stands behind it
 abbrev pub cut_at : ℕ → Text → Option (Text × Text)
 cut_at sign text =
-    if list_any (λ b. b == sign) text then Some (before_first (λ b. b == sign) text, after_first (λ b. b == sign) text) else None
+    if list_any (λ b. b == sign) text then Some
+    (before_first (λ b. b == sign) text, after_first (λ b. b == sign) text) else None
 
 -- `x`, `L` or `A`
-abbrev pub amount_of : Text → Option ℕ
-amount_of text = if is_amount text then Some (number text) else None
+abbrev pub amount_written : Text → Option ℕ
+amount_written text = if is_amount text then Some (number text) else None
 
 -- `p`
-abbrev pub probability_of : Text → Option Fraction
-probability_of text = if is_probability text then Some (numeral_value text) else None
+abbrev pub probability_written : Text → Option Fraction
+probability_written text = if is_probability text then Some (numeral_value text) else None
 
 -- `L` with its amount, or `inf`, which is no limit
-abbrev pub limit_of : Text → Option (Option ℕ)
-limit_of text = if bytes_eq text (codes "inf") then Some None else option_map Some (amount_of text)
+abbrev pub limit_written : Text → Option (Option ℕ)
+limit_written text =
+    if bytes_eq text (codes "inf") then Some None else option_map Some (amount_written text)
 
 -- what stands behind an `s` that begins the text
 abbrev pub behind_s : Text → Option Text
@@ -35,7 +37,8 @@ behind_s (c ∷ rest) = if c == 115 then Some rest else None
 -- `L`, and `sA`
 abbrev pub layer_between : Text → Text → Option Ask
 layer_between limit rest =
-    option_and_then (λ attach. option_and_then (λ l. option_map (LayerMean l) (amount_of attach)) (limit_of limit)) (behind_s rest)
+    option_and_then (λ attach. option_and_then (λ l.
+    option_map (LayerMean l) (amount_written attach)) (limit_written limit)) (behind_s rest)
 
 -- `LxsA`
 abbrev pub layer_of : Text → Option Ask
@@ -43,28 +46,34 @@ layer_of text = option_and_then (λ cut. layer_between cut.0 cut.1) (cut_at 120 
 
 -- `NAME:x`
 abbrev pub unit_parts : Text → Option (Text × ℕ)
-unit_parts text = option_and_then (λ cut. if is_word cut.0 then option_map (λ x. (cut.0, x)) (amount_of cut.1) else None) (cut_at 58 text)
+unit_parts text = option_and_then (λ cut. if is_word cut.0
+    then option_map (λ x. (cut.0, x)) (amount_written cut.1) else None) (cut_at 58 text)
 
 -- what stands in front of the first colon, and what stands behind it
 abbrev pub ask_between : Text → Text → Option Ask
 ask_between head rest =
-    if bytes_eq head (codes "pmf") then option_map Pmf (amount_of rest)
-    else if bytes_eq head (codes "cdf") then option_map Cdf (amount_of rest)
-    else if bytes_eq head (codes "q") then option_map Quantile (probability_of rest)
-    else if bytes_eq head (codes "tail") then option_map Tail (probability_of rest)
+    if bytes_eq head (codes "pmf") then option_map Pmf (amount_written rest)
+    else if bytes_eq head (codes "cdf") then option_map Cdf (amount_written rest)
+    else if bytes_eq head (codes "q") then option_map Quantile (probability_written rest)
+    else if bytes_eq head (codes "tail") then option_map Tail (probability_written rest)
     else if bytes_eq head (codes "layer") then layer_of rest
-    else if bytes_eq head (codes "joint") then option_map (λ parts. Joint parts.0 parts.1) (unit_parts rest)
-    else if bytes_eq head (codes "kappa") then option_map (λ parts. Kappa parts.0 parts.1) (unit_parts rest)
+    else if bytes_eq head (codes "joint") then option_map (λ parts. Joint parts.0 parts.1)
+    (unit_parts rest)
+    else if bytes_eq head (codes "kappa") then option_map (λ parts. Kappa parts.0 parts.1)
+    (unit_parts rest)
     else None
 
 -- what the text asks, where it is spelled as an ask
 unfoldable pub ask_of : Text → Option Ask
-ask_of text = if bytes_eq text (codes "mean") then Some Mean else option_and_then (λ cut. ask_between cut.0 cut.1) (cut_at 58 text)
+ask_of text = if bytes_eq text (codes "mean") then Some Mean
+    else option_and_then (λ cut. ask_between cut.0 cut.1) (cut_at 58 text)
 
--- an ask with the text that it was written with, in front of the others or of the first misfit's index
+-- an ask with the text that it was written with, in front of the others or of the first misfit's
+-- index
 abbrev pub with_ask : Text → Option Ask → Result (List Asked) ℕ → Result (List Asked) ℕ
 with_ask text None rest = Err 0
-with_ask text (Some ask) rest = result_map_both (λ asks. record { text = text; ask = ask } ∷ asks) (λ i. 1 + i) rest
+with_ask text (Some ask) rest = result_map_both (λ asks. record { text = text; ask = ask } ∷ asks)
+    (λ i. 1 + i) rest
 
 -- what the texts ask, or the index of the first that is not spelled as an ask
 unfoldable pub asks_of : List Text → Result (List Asked) ℕ

@@ -14,11 +14,11 @@ asks = record (new_rule (codes "asks")) { action = Some Append }
 abbrev pub option_of : Text → Rule
 option_of name = record (new_rule name) { long = Some name }
 
-abbrev pub bare : App
-bare = on_top (λ s. record s { no_binary_name = true }) (new_app (codes "decl"))
+abbrev pub bare_command : App
+bare_command = on_top (λ s. record s { no_binary_name = true }) (new_app (codes "decl"))
 
 abbrev pub places : App
-places = with_rule (with_rule bare form) asks
+places = with_rule (with_rule bare_command form) asks
 
 -- the command with one more option
 abbrev pub with_option : App → Text → App
@@ -27,5 +27,6 @@ with_option app name = with_rule app (option_of name)
 -- a form, asks, and seven options with a value each
 abbrev pub command : App
 command =
-    with_option (with_option (with_option (with_option (with_option (with_option (with_option places (codes "make")) (codes "bs"))
+    with_option (with_option (with_option
+    (with_option (with_option (with_option (with_option places (codes "make")) (codes "bs"))
     (codes "log2")) (codes "digits")) (codes "width")) (codes "mwidth")) (codes "format")

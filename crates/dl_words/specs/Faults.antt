@@ -1,5 +1,7 @@
 -- What a fault of the words tells.
-use Rattle.std.specs.Prelude.{ℕ, ◌≡◌, ⊤, List, Result, Err}
+use Rattle.std.specs.Prelude.{ℕ, ◌≡◌, ◌≢◌, ◌⊎◌, ⊤, List, Result, Err}
+use Rattle.clap.specs.declared.error.kind.ErrorKind.{ErrorKind}
+use Rattle.clap.specs.declared.error.kind.ErrorKind.TheVariants as refusals
 use Rattle.dl_plan.specs.declared.settings.Asked.{Asked}
 use Rattle.dl_plan.specs.declared.settings.Settings.{Settings}
 use Rattle.dl_words.specs.declared.fault.UsageFault.{UsageFault}
@@ -11,6 +13,13 @@ use Rattle.dl_words.specs.declared.fault.WordsFault.TheVariants.{Usage, OutOfMem
 abbrev pub Explains : Result Settings UsageFault → WordsFault → Type 0
 Explains answer (Usage fault) = answer ≡ Err fault
 Explains answer OutOfMemory = ⊤
+
+-- what a refusal by `clap` of this kind tells: that memory ran out where it says so, and else that
+-- the words do not fit the command
+abbrev pub TellsRefusal : ErrorKind → WordsFault → Type 0
+TellsRefusal kind fault =
+    ((kind ≡ refusals.OutOfMemory) × (fault ≡ OutOfMemory))
+    ⊎ ((kind ≢ refusals.OutOfMemory) × (fault ≡ Usage Line))
 
 -- the fault is the first misfit of the asks, or memory ran out
 abbrev pub ExplainsAsks : Result (List Asked) ℕ → WordsFault → Type 0

@@ -29,7 +29,10 @@ asks_in found = unwrap_or (option_map raw_values (matched_of found (codes "asks"
 abbrev pub answer_in : Found → Result Settings UsageFault
 answer_in found = answer (form_in found) (values_in found) (asks_in found)
 
--- a reader's answer: the value of an option or what stands for it, or none where the option does not take what stands there
-abbrev pub Takes : {A : Type 0} → (Text → Bool) → A → (Text → A) → List Text → Option A → Type 0
-Takes takes default read texts result =
-    MatchOption result (is_taken takes texts ≡ false) (λ value. (is_taken takes texts ≡ true) × (value ≡ or_default default read texts))
+-- a reader's answer: the value of an option or what stands for it, or none where the option does
+-- not take what stands there
+abbrev pub TakesOption : {A : Type 0} → (Text → Bool) → A → (Text → A) → List Text
+    → Option A → Type 0
+TakesOption takes default read texts result =
+    MatchOption result (is_taken takes texts ≡ false)
+    (λ value. (is_taken takes texts ≡ true) × (value ≡ or_default default read texts))

@@ -8,4 +8,3 @@ pub mod Words
 pub mod Command
 pub mod Found
 pub mod Faults
-pub mod Plain

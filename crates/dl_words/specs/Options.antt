@@ -1,7 +1,9 @@
--- The options of the command line, the values that each takes, and what stands for one that is not there.
+-- The options of the command line, the values that each takes, and what stands for one that is not
+-- there.
 use Rattle.std.specs.Prelude.{ℕ, Bool, List, [], ◌∷◌, ◌&&◌, Option, Some, None, codes, if◌then◌else◌, is_some, length, drop, nat_le, unwrap_or, ◌==◌}
 use Rattle.std.specs.List.{list_all}
 use Rattle.std.specs.Str.{bytes_eq}
+use Rattle.dl_limits.specs.Limits.{most_digits, most_log2}
 use Rattle.dl_exact.specs.Fraction.{whole}
 use Rattle.dl_frac.specs.Numerals.{numeral_value}
 use Rattle.dl_plan.specs.declared.settings.Asked.{Asked}
@@ -10,7 +12,7 @@ use Rattle.dl_plan.specs.declared.settings.Form.TheVariants.{Run, Fmt}
 use Rattle.dl_plan.specs.declared.settings.Format.{Format}
 use Rattle.dl_plan.specs.declared.settings.Format.TheVariants.{Plain, Csv, Json}
 use Rattle.dl_plan.specs.declared.settings.Settings.{Settings}
-use Rattle.dl_words.specs.Spelling.{Text, is_bucket, is_whole, number}
+use Rattle.dl_words.specs.Spelling.{Text, is_bucket, is_number_within, number}
 
 -- the format of this name
 abbrev pub format_named : Text → Option Format
@@ -37,12 +39,12 @@ Row = Text × (Text → Bool)
 -- the table of the options
 abbrev pub options : List Row
 options =
-    (codes "make", is_whole 0 4294967295)
+    (codes "make", is_number_within 0 4294967295)
     ∷ (codes "bs", is_bucket)
-    ∷ (codes "log2", is_whole 1 12)
-    ∷ (codes "digits", is_whole 1 9)
-    ∷ (codes "width", is_whole 1 1000000000)
-    ∷ (codes "mwidth", is_whole 1 1000000000000)
+    ∷ (codes "log2", is_number_within 1 most_log2)
+    ∷ (codes "digits", is_number_within 1 most_digits)
+    ∷ (codes "width", is_number_within 1 1000000000)
+    ∷ (codes "mwidth", is_number_within 1 1000000000000)
     ∷ (codes "format", is_format)
     ∷ []
 

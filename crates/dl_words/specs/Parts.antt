@@ -16,7 +16,8 @@ pub data Mode : Type 0 where
   value : Text → Mode
   ended : Mode
 
--- what a word between two parts is: `--`, `--NAME=v`, `--NAME`, a word that no hyphen begins, or one that fits nothing
+-- what a word between two parts is: `--`, `--NAME=v`, `--NAME`, a word that no hyphen begins, or
+-- one that fits nothing
 pub data Kind : Type 0 where
   ends : Kind
   whole : Text → Text → Kind
@@ -72,14 +73,15 @@ parts_from between (word ∷ rest) = read_kind word (kind_of word) (λ mode. par
 parts_from (value name) (word ∷ rest) = with_part (option name word) (parts_from between rest)
 parts_from ended (word ∷ rest) = with_part (positional word) (parts_from ended rest)
 
-abbrev pub parts_of : List Text → Option (List Part)
-parts_of = parts_from between
+abbrev pub command_parts : List Text → Option (List Part)
+command_parts = parts_from between
 
 -- the values that stand with an option's name
-abbrev pub values_of : Text → List Part → List Text
-values_of name [] = []
-values_of name (option n v ∷ ps) = if bytes_eq n name then v ∷ values_of name ps else values_of name ps
-values_of name (positional w ∷ ps) = values_of name ps
+abbrev pub option_values : Text → List Part → List Text
+option_values name [] = []
+option_values name (option n v ∷ ps) = if bytes_eq n name then v ∷ option_values name ps
+    else option_values name ps
+option_values name (positional w ∷ ps) = option_values name ps
 
 -- the positionals
 abbrev pub positionals_of : List Part → List Text

@@ -24,8 +24,9 @@ abbrev pub number : Text → ℕ
 number text = digits_value 10 text
 
 -- 1 to 15 digits that write a number from low to high
-abbrev pub is_whole : ℕ → ℕ → Text → Bool
-is_whole low high text = is_number_of 15 text && nat_le low (number text) && nat_le (number text) high
+abbrev pub is_number_within : ℕ → ℕ → Text → Bool
+is_number_within low high text = is_number_of 15 text && nat_le low (number text)
+    && nat_le (number text) high
 
 -- 1 to 9 digits
 abbrev pub is_amount : Text → Bool
@@ -35,14 +36,17 @@ is_amount = is_number_of 9
 abbrev pub is_decimal : Text → Bool
 is_decimal text =
     if list_any is_point text
-    then nat_lt 1 (length text) && list_all is_ascii_digit (before_first is_point text) && list_all is_ascii_digit (after_first is_point text)
+    then nat_lt 1 (length text) && list_all is_ascii_digit (before_first is_point text)
+    && list_all is_ascii_digit (after_first is_point text)
     else is_number text
 
 -- a fraction, a percent or a decimal
 abbrev pub is_numeral : Text → Bool
 is_numeral text =
-    if list_any is_slash text then is_number (before_first is_slash text) && is_number (after_first is_slash text)
-    else if list_any is_percent text then is_decimal (before_first is_percent text) && length (after_first is_percent text) == 0
+    if list_any is_slash text then is_number (before_first is_slash text)
+    && is_number (after_first is_slash text)
+    else if list_any is_percent text then is_decimal (before_first is_percent text)
+    && length (after_first is_percent text) == 0
     else is_decimal text
 
 -- a numeral above 0 that is not bad with 11 digits
@@ -51,7 +55,8 @@ is_bucket text = is_numeral text && not (is_bad 11 text) && nat_lt 0 (numeral_va
 
 -- a numeral below 1 that is not bad with 9 digits
 abbrev pub is_probability : Text → Bool
-is_probability text = is_numeral text && not (is_bad 9 text) && nat_lt (numeral_value text).num (numeral_value text).den
+is_probability text = is_numeral text && not (is_bad 9 text)
+    && nat_lt (numeral_value text).num (numeral_value text).den
 
 -- spelled as a word: a letter, then letters, digits, `_` and `-`
 abbrev pub is_word : Text → Bool

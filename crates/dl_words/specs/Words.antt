@@ -1,6 +1,7 @@
 -- What the words ask for, or their first fault.
 use Rattle.std.specs.Prelude.{ℕ, ◌==◌, ◌&&◌, Bool, List, [], ◌∷◌, Option, Some, None, Result, Ok, Err, length, nat_le, nat_lt, if◌then◌else◌}
 use Rattle.std.specs.List.{list_all}
+use Rattle.dl_limits.specs.Limits.{most_asks}
 use Rattle.dl_plan.specs.declared.settings.Asked.{Asked}
 use Rattle.dl_plan.specs.declared.settings.Form.{Form}
 use Rattle.dl_plan.specs.declared.settings.Form.TheVariants.{Run, Fmt}
@@ -9,12 +10,12 @@ use Rattle.dl_words.specs.declared.fault.UsageFault.{UsageFault}
 use Rattle.dl_words.specs.declared.fault.UsageFault.TheVariants.{Line, Ask}
 use Rattle.dl_words.specs.Asks.{asks_of}
 use Rattle.dl_words.specs.Options.{Values, are_taken, form_named, is_make_alone, settings_of}
-use Rattle.dl_words.specs.Parts.{Part, parts_of, positionals_of, values_of}
+use Rattle.dl_words.specs.Parts.{Part, command_parts, positionals_of, option_values}
 use Rattle.dl_words.specs.Spelling.{Text, begins_plainly}
 
 -- `run` has 1 to 256 asks; `fmt` has none, and no option but `--make`
 abbrev pub admits : Form → Values → List Text → Bool
-admits Run values asks = nat_lt 0 (length asks) && nat_le (length asks) 256
+admits Run values asks = nat_lt 0 (length asks) && nat_le (length asks) most_asks
 admits Fmt values asks = length asks == 0 && is_make_alone values
 
 -- the settings with these asks, or the index of the first that is none
@@ -26,7 +27,8 @@ with_asks form values (Err i) = Err (Ask i)
 abbrev pub answer : Option Form → Values → List Text → Result Settings UsageFault
 answer None values asks = Err Line
 answer (Some form) values asks =
-    if are_taken values && list_all begins_plainly asks && admits form values asks then with_asks form values (asks_of asks) else Err Line
+    if are_taken values && list_all begins_plainly asks && admits form values asks
+    then with_asks form values (asks_of asks) else Err Line
 
 -- the answer to the values of the options and the positionals: the first positional is the form
 abbrev pub to_positionals : Values → List Text → Result Settings UsageFault
@@ -35,8 +37,8 @@ to_positionals values (form ∷ asks) = answer (form_named form) values asks
 
 abbrev pub to_parts : Option (List Part) → Result Settings UsageFault
 to_parts None = Err Line
-to_parts (Some ps) = to_positionals (λ name. values_of name ps) (positionals_of ps)
+to_parts (Some ps) = to_positionals (λ name. option_values name ps) (positionals_of ps)
 
 -- what the words ask for, or their first fault
 abbrev pub words_of : List Text → Result Settings UsageFault
-words_of words = to_parts (parts_of words)
+words_of words = to_parts (command_parts words)

@@ -1,7 +1,8 @@
 //! What asks are, by their spelling.
 
 ghost use Rattle.std.specs.Prelude.{◌≡◌, ◌<◌, ◌≤◌, IfErr, IfOk, Ok, length, map, option_map};
-ghost use Rattle.dl_words.specs.Asks.{ask_between, ask_of, asks_of, cut_at, behind_s, layer_between, layer_of, limit_of, unit_parts};
+ghost use Rattle.dl_limits.specs.Limits.{most_asks};
+ghost use Rattle.dl_words.specs.Asks.{ask_between, ask_of, asks_of, cut_at, behind_s, layer_between, layer_of, limit_written, unit_parts};
 ghost use Rattle.dl_words.specs.Faults.{ExplainsAsks};
 
 use crate::fault::{UsageFault, WordsFault};
@@ -12,7 +13,7 @@ use std::alloc::{AllocError, Global};
 
 /// What the texts ask, or the index of the first that is not spelled as an ask.
 pub(crate) fn read_asks(alloc: Global, texts: &[&str]) -> Result<Vec<Asked>, WordsFault>
-    requires { length texts.now ≤ 256 }
+    requires { length texts.now ≤ most_asks }
     ensures asks { IfOk result (λ asks.
         asks_of (map (λ text. text.now) texts.now) ≡ Ok asks.items) }
     ensures fault { IfErr result (ExplainsAsks (asks_of (map (λ text. text.now) texts.now))) }
@@ -85,7 +86,7 @@ fn behind_s(text: &str) -> Option<&str>
 
 /// `L` with its amount, or `inf`.
 fn read_limit(text: &str) -> Option<Option<u32>>
-    ensures { result ≡ limit_of text.now }
+    ensures { result ≡ limit_written text.now }
 {
     if text == "inf" {
         return Some(None);

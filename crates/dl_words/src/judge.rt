@@ -15,14 +15,15 @@ use crate::fault::{UsageFault, WordsFault};
 use crate::options::{form_named, is_make_alone, settings_of};
 use crate::spelling::begins_plainly;
 use clap::ArgMatches;
+use dl_limits::MOST_ASKS;
 use dl_plan::{Form, Many, Settings};
 use std::alloc::Global;
 
 /// The words do not fit the command.
 const LINE: WordsFault = WordsFault::Usage(UsageFault::Line);
 
-/// The settings of what was found, or the first fault. Where what was found does not fit the command,
-/// it says so, and never that memory ran out.
+/// The settings of what was found, or the first fault. Where what was found does not fit the
+/// command, it says so, and never that memory ran out.
 pub(crate) fn judge(alloc: Global, matches: &ArgMatches<'_>) -> Result<Settings, WordsFault>
     ensures settings { IfOk result (λ settings. answer_in (found_of matches.now) ≡ Ok settings) }
     ensures fault { IfErr result (Explains (answer_in (found_of matches.now))) }
@@ -67,7 +68,7 @@ fn admits(form: Form, matches: &ArgMatches<'_>, texts: &[&str]) -> bool
         (map (λ text. text.now) texts.now) }
 {
     match form {
-        Form::Run => !texts.is_empty() && texts.len() <= 256,
+        Form::Run => !texts.is_empty() && texts.len() <= MOST_ASKS,
         Form::Fmt => texts.is_empty() && is_make_alone(matches),
     }
 }

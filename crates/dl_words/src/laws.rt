@@ -7,18 +7,18 @@ ghost use Rattle.dl_lexer.specs.Tokens.{IsWord};
 ghost use Rattle.dl_plan.specs.declared.settings.Ask.{Ask};
 ghost use Rattle.dl_words.specs.Asks.{ask_of};
 ghost use Rattle.dl_words.specs.AsWritten.{AreParts};
-ghost use Rattle.dl_words.specs.Parts.{Part, parts_of};
+ghost use Rattle.dl_words.specs.Parts.{Part, command_parts};
 ghost use Rattle.dl_words.specs.Spelling.{is_numeral, is_word};
-ghost use Rattle.dl_words.specs.Table.{Spells};
+ghost use Rattle.dl_words.specs.Table.{SpellsAsk};
 
 /// What is read as an ask is exactly what the table of the asks has; so no text is two asks.
 pub fn law_asks()
-    ensures table { (text : List ℕ) (ask : Ask) → (ask_of text ≡ Some ask) ↔ Spells text ask }
+    ensures table { (text : List ℕ) (ask : Ask) → (ask_of text ≡ Some ask) ↔ SpellsAsk text ask }
 {}
 
 /// The tests of a numeral and of a name pass exactly the numerals and the words of a program.
 pub fn law_spellings()
-    ensures numeral { (text : List ℕ) → IsTrue (is_numeral text) ↔ token.IsNumeral text }
+    ensures numeral { (text : List ℕ) → IsTrue (is_numeral text) ↔ token.IsNumeralToken text }
     ensures word { (text : List ℕ) → IsTrue (is_word text) ↔ IsWord text }
 {}
 
@@ -26,5 +26,5 @@ pub fn law_spellings()
 /// so no words have two.
 pub fn law_parts()
     ensures { (words : List (List ℕ)) (parts : List Part)
-        → (parts_of words ≡ Some parts) ↔ AreParts words parts }
+        → (command_parts words ≡ Some parts) ↔ AreParts words parts }
 {}

@@ -5,13 +5,14 @@ ghost use Rattle.clap.specs.Matches.{found_of, first_value};
 ghost use Rattle.dl_exact.specs.Fraction.{whole};
 ghost use Rattle.dl_frac.specs.Numerals.{numeral_value};
 ghost use Rattle.dl_plan.specs.declared.settings.Format.TheVariants.{Plain};
-ghost use Rattle.dl_words.specs.Found.{Takes, values_in};
+ghost use Rattle.dl_words.specs.Found.{TakesOption, values_in};
 ghost use Rattle.dl_words.specs.Options.{are_taken, form_named, format_named, format_of, is_format, is_make_alone, no_seed, seed_of, settings_of};
-ghost use Rattle.dl_words.specs.Spelling.{is_bucket, is_whole, number};
+ghost use Rattle.dl_words.specs.Spelling.{is_bucket, is_number_within, number};
 
 use crate::spelling::{bucket, whole};
 use clap::ArgMatches;
 use dl_frac::Frac;
+use dl_limits::{MOST_DIGITS, MOST_LOG2};
 use dl_plan::{Form, Format, Many, Settings};
 use std::alloc::Global;
 
@@ -23,8 +24,8 @@ pub(crate) fn settings_of(alloc: Global, form: Form, matches: &ArgMatches<'_>) -
 {
     let make = seed(matches)?;
     let bs = bucket_size(matches)?;
-    let log2 = number_of(matches, "log2", 12, 10)? as u32;
-    let digits = number_of(matches, "digits", 9, 6)? as u32;
+    let log2 = number_of(matches, "log2", MOST_LOG2 as u64, 10)? as u32;
+    let digits = number_of(matches, "digits", MOST_DIGITS as u64, 6)? as u32;
     let width = number_of(matches, "width", 1_000_000_000, 10)?;
     let mwidth = number_of(matches, "mwidth", 1_000_000_000_000, 1_000_000)?;
     let format = format_of(matches)?;
@@ -43,7 +44,7 @@ pub(crate) fn settings_of(alloc: Global, form: Form, matches: &ArgMatches<'_>) -
 
 /// The value of `--make`.
 fn seed(matches: &ArgMatches<'_>) -> Option<Option<u32>>
-    ensures { Takes (is_whole 0 4294967295) no_seed seed_of
+    ensures { TakesOption (is_number_within 0 4294967295) no_seed seed_of
         (values_in (found_of matches.now) (codes "make")) result }
 {
     match matches.get_str("make") {
@@ -54,26 +55,19 @@ fn seed(matches: &ArgMatches<'_>) -> Option<Option<u32>>
 
 /// The value of `--bs`.
 fn bucket_size(matches: &ArgMatches<'_>) -> Option<Frac>
-    ensures { Takes is_bucket (whole 1) numeral_value
+    ensures { TakesOption is_bucket (whole 1) numeral_value
         (values_in (found_of matches.now) (codes "bs")) result }
 {
     match matches.get_str("bs") {
         Some(text) => bucket(text),
-        None => Some(one()),
+        None => Some(Frac::whole(1)),
     }
-}
-
-/// One unit of money.
-fn one() -> Frac
-    ensures { result ≡ whole 1 }
-{
-    Frac::make(1, 1).unwrap()
 }
 
 /// The value of an option that takes whole numbers from 1 to `high`.
 fn number_of(matches: &ArgMatches<'_>, name: &str, high: u64, default: u64) -> Option<u64>
     requires { default ≤ high }
-    ensures value { Takes (is_whole 1 high) default number
+    ensures value { TakesOption (is_number_within 1 high) default number
         (values_in (found_of matches.now) name.now) result }
     ensures within { IfSome result (λ value. value ≤ high) }
 {
@@ -85,7 +79,7 @@ fn number_of(matches: &ArgMatches<'_>, name: &str, high: u64, default: u64) -> O
 
 /// The value of `--format`.
 fn format_of(matches: &ArgMatches<'_>) -> Option<Format>
-    ensures { Takes is_format Plain format_of
+    ensures { TakesOption is_format Plain format_of
         (values_in (found_of matches.now) (codes "format")) result }
 {
     match matches.get_str("format") {

@@ -1,10 +1,10 @@
-//! What the words' definitions say of the settings. Nothing here runs: each law is the contract of a
-//! function with an empty body.
+//! What the words' definitions say of the settings. Nothing here runs: each law is the contract of
+//! a function with an empty body.
 
 ghost use Rattle.std.specs.Prelude.{◌≡◌, List, ℕ, All, IsUtf8, Ok};
 ghost use Rattle.dl_plan.specs.declared.settings.Settings.{Settings};
 ghost use Rattle.dl_plan.specs.Ranges.{AreInRange};
-ghost use Rattle.dl_words.specs.Plain.{IsPlainByte};
+ghost use Rattle.dl_plan.specs.Plain.{IsPlainByte};
 ghost use Rattle.dl_words.specs.Words.{words_of};
 
 /// What good words say lies in its ranges, and each ask is text where each word is.

@@ -2,7 +2,7 @@
 
 ghost use Rattle.std.specs.Prelude.{◌≡◌, IfErr, IfOk, Ok, map};
 ghost use Rattle.std.specs.String.{string_bytes};
-ghost use Rattle.dl_words.specs.Faults.{Explains};
+ghost use Rattle.dl_words.specs.Faults.{Explains, TellsRefusal};
 ghost use Rattle.dl_words.specs.Words.{words_of};
 
 use crate::command::simple_command;
@@ -26,9 +26,16 @@ pub fn read_words(alloc: Global, words: &[String]) -> Result<Settings, WordsFaul
     };
     match command.try_get_matches_from(words) {
         Ok(matches) => judge(alloc, &matches),
-        Err(error) => match error.kind() {
-            ErrorKind::OutOfMemory => Err(WordsFault::OutOfMemory),
-            _ => Err(WordsFault::Usage(UsageFault::Line)),
-        },
+        Err(error) => Err(refusal(error.kind())),
+    }
+}
+
+/// What a refusal by `clap` tells. A misfit of the words is never want of memory.
+fn refusal(kind: ErrorKind) -> WordsFault
+    ensures { TellsRefusal kind result }
+{
+    match kind {
+        ErrorKind::OutOfMemory => WordsFault::OutOfMemory,
+        _ => WordsFault::Usage(UsageFault::Line),
     }
 }

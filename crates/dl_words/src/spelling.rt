@@ -6,8 +6,8 @@ ghost use Rattle.std.specs.List.{list_all};
 ghost use Rattle.dl_frac.specs.Numerals.{is_bad, numeral_value};
 ghost use Rattle.dl_lexer.specs.Bytes.{is_word_byte};
 ghost use Rattle.dl_lexer.specs.Tokens.{begins_with_letter};
-ghost use Rattle.dl_words.specs.Asks.{amount_of, probability_of};
-ghost use Rattle.dl_words.specs.Spelling.{begins_plainly, is_bucket, is_number_of, is_numeral, is_whole, is_word, number};
+ghost use Rattle.dl_words.specs.Asks.{amount_written, probability_written};
+ghost use Rattle.dl_words.specs.Spelling.{begins_plainly, is_bucket, is_number_of, is_numeral, is_number_within, is_word, number};
 
 use dl_frac::{Frac, is_numeral, numeral};
 
@@ -35,7 +35,8 @@ fn are_digits(text: &[u8]) -> bool
 
 /// The number that 1 to 15 digits write, where it lies from `low` to `high`.
 pub(crate) fn whole(text: &str, low: u64, high: u64) -> Option<u64>
-    ensures value { result ≡ (if is_whole low high text.now then Some (number text.now) else None) }
+    ensures value { result ≡ (if is_number_within low high text.now
+        then Some (number text.now) else None) }
     ensures within { IfSome result (λ value. value ≤ high) }
 {
     match number(text, 15) {
@@ -46,7 +47,7 @@ pub(crate) fn whole(text: &str, low: u64, high: u64) -> Option<u64>
 
 /// The number that 1 to 9 digits write.
 pub(crate) fn amount(text: &str) -> Option<u32>
-    ensures { result ≡ amount_of text.now }
+    ensures { result ≡ amount_written text.now }
 {
     match number(text, 9) {
         Some(value) => Some(value as u32),
@@ -81,7 +82,7 @@ pub(crate) fn bucket(text: &str) -> Option<Frac>
 
 /// The value of a numeral below 1 that is not bad with 9 digits.
 pub(crate) fn probability(text: &str) -> Option<Frac>
-    ensures { result ≡ probability_of text.now }
+    ensures { result ≡ probability_written text.now }
 {
     match fraction(text, 9) {
         Some(value) if value.num() < value.den() => Some(value),

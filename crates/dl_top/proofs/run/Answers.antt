@@ -7,40 +7,52 @@ use Rattle.dl_top.proofs.RunLaws.{IsTold, message, read_of_status, usage_of_stat
 use Rattle.dl_top.proofs.run.Goals as goal
 
 pub returns-in-Ok-write_all-clause-answer : goal.returns-in-Ok-write_all-clause-answer
-returns-in-Ok-write_all-clause-answer g c = told _ {P = λ input. IsTold _ input c.in-Refusal.fault c.in-Refusal.text.items} c.in-Refusal.ensures.reply (λ input is written.
-    message _ input _ _ c.status.result _ _ _ is c.status.ensures (rw c.as_slice-in-Refusal.ensures.value at c.in-Ok-write_all.ensures.whole))
+returns-in-Ok-write_all-clause-answer g c =
+    told _ {P = λ input. IsTold _ input c.in-Refusal.fault c.in-Refusal.text.items} c.in-Refusal.ensures.reply
+    (λ input is written.
+    message _ input _ _ c.status.result _ _ _ is c.status.ensures
+    (rw c.as_slice-in-Refusal.ensures.value at c.in-Ok-write_all.ensures.whole))
 
 pub returns-in-Ok-write_all-clause-complete : goal.returns-in-Ok-write_all-clause-complete
-returns-in-Ok-write_all-clause-complete g c = told _ {P = λ input. IsTold _ input c.in-Refusal.fault c.in-Refusal.text.items} c.in-Refusal.ensures.reply (λ input is accepted.
+returns-in-Ok-write_all-clause-complete g c =
+    told _ {P = λ input. IsTold _ input c.in-Refusal.fault c.in-Refusal.text.items} c.in-Refusal.ensures.reply
+    (λ input is accepted.
     ends_well _ input _ _ c.status.result is c.status.ensures accepted)
 
 pub returns-in-Ok-write_all-clause-usage : goal.returns-in-Ok-write_all-clause-usage
-returns-in-Ok-write_all-clause-usage g c e = c.in-Refusal.ensures.usage (usage_of_status c.in-Refusal.fault (sym c.status.ensures ∙ e))
+returns-in-Ok-write_all-clause-usage g c e = c.in-Refusal.ensures.usage
+    (usage_of_status c.in-Refusal.fault (sym c.status.ensures ∙ e))
 
 pub returns-in-Refusal-clause-write_cause : goal.returns-in-Refusal-clause-write_cause
 returns-in-Refusal-clause-write_cause g c e = inr (
   c.in-Err-write_all.ensures.fault,
   refl,
-  told _ {P = λ input. IsTold _ input c.in-Refusal.fault c.in-Refusal.text.items} c.in-Refusal.ensures.reply (λ input is.
-      part _ input _ _ _ _ is c.in-Refusal.ensures.read_cause (rw c.as_slice-in-Refusal.ensures.value at c.in-Err-write_all.ensures.part)),
+  told _ {P = λ input. IsTold _ input c.in-Refusal.fault c.in-Refusal.text.items}
+      c.in-Refusal.ensures.reply (λ input is.
+      part _ input _ _ _ _ is c.in-Refusal.ensures.read_cause
+      (rw c.as_slice-in-Refusal.ensures.value at c.in-Err-write_all.ensures.part)),
 )
 
 pub returns-in-Ok-write_all-clause-read_words : goal.returns-in-Ok-write_all-clause-read_words
-returns-in-Ok-write_all-clause-read_words g c e = c.in-Refusal.ensures.read_words (read_of_status c.in-Refusal.fault (sym c.status.ensures ∙ e))
+returns-in-Ok-write_all-clause-read_words g c e = c.in-Refusal.ensures.read_words
+    (read_of_status c.in-Refusal.fault (sym c.status.ensures ∙ e))
 
 pub returns-in-Answer-clause-write_cause : goal.returns-in-Answer-clause-write_cause
 returns-in-Answer-clause-write_cause g c e = inl (
   c.in-Err.ensures.fault,
   refl,
-  told _ {P = λ input. Answers _ input Done c.in-Answer.text.items []} c.in-Answer.ensures.reply (λ input answer. record {
-    report = c.in-Answer.text.items;
-    answer = answer;
-    gains = rw c.as_slice.ensures.value at c.in-Err.ensures.part;
-  }),
+  told _ {P = λ input. Answers _ input Done c.in-Answer.text.items []} c.in-Answer.ensures.reply
+      (λ input answer. record {
+        report = c.in-Answer.text.items;
+        answer = answer;
+        gains = rw c.as_slice.ensures.value at c.in-Err.ensures.part;
+      }),
 )
 
 pub returns-in-Ok-write_all-clause-formatted : goal.returns-in-Ok-write_all-clause-formatted
-returns-in-Ok-write_all-clause-formatted g c = told _ {P = λ input. IsTold _ input c.in-Refusal.fault c.in-Refusal.text.items} c.in-Refusal.ensures.reply (λ input is form.
+returns-in-Ok-write_all-clause-formatted g c =
+    told _ {P = λ input. IsTold _ input c.in-Refusal.fault c.in-Refusal.text.items} c.in-Refusal.ensures.reply
+    (λ input is form.
     ends_formatted _ input _ _ c.status.result is c.status.ensures form)
 
 pub returns-in-Ok-write_all-clause-unread : goal.returns-in-Ok-write_all-clause-unread

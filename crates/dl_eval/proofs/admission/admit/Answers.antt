@@ -7,7 +7,8 @@ pub returns-in-Some-first_wide : goal.returns-in-Some-first_wide
 returns-in-Some-first_wide c =
     let plan = c.args.plan.now in (
       subst (λ asks. All (λ a. IsInside plan.cells a.ask) asks) c.as_slice-asks.ensures c.in_default.ensures,
-      subst₂ (λ units asks. All (λ a. NamesUnit units a.ask) asks) c.as_slice.ensures c.as_slice-asks.ensures c.in_default-first_unknown.ensures,
+      subst₂ (λ units asks. All (λ a. NamesUnit units a.ask) asks) c.as_slice.ensures c.as_slice-asks.ensures
+          c.in_default-first_unknown.ensures,
       c.in-Some-first_wide.ensures,
     )
 
@@ -15,6 +16,7 @@ pub returns : goal.returns
 returns c =
     let plan = c.args.plan.now in record {
       inside = subst (λ asks. All (λ a. IsInside plan.cells a.ask) asks) c.as_slice-asks.ensures c.in_default.ensures;
-      named = subst₂ (λ units asks. All (λ a. NamesUnit units a.ask) asks) c.as_slice.ensures c.as_slice-asks.ensures c.in_default-first_unknown.ensures;
+      named = subst₂ (λ units asks. All (λ a. NamesUnit units a.ask) asks) c.as_slice.ensures c.as_slice-asks.ensures
+          c.in_default-first_unknown.ensures;
       pass = c.in_default-first_wide.ensures;
     }

@@ -5,4 +5,5 @@ use Rattle.dl_eval.proofs.evaluation.parts_for.Goals as goal
 pub returns-then-are_means-clause-mean : goal.returns-then-are_means-clause-mean
 returns-then-are_means-clause-mean c =
     let plan = c.args.plan.now in
-    c.total_mean.ensures.mean plan c.requires.valid (subst (AreUnitMeans plan.cells plan.units) (sym c.as_slice.ensures.value) c.in_ok-means.ensures.means)
+    c.total_mean.ensures.mean plan c.requires.valid
+    (subst (AreUnitMeans plan.cells plan.units) (sym c.as_slice.ensures.value) c.in_ok-means.ensures.means)

@@ -11,9 +11,11 @@ pub total_and_others-requires : goal.total_and_others-requires
 total_and_others-requires c =
     let plan = c.args.plan.now in
     let grids = c.as_slice-2 in
-    let many : length grids.result.now ≡ length plan.units = ap (λ t. length t) grids.ensures.value ∙ c.requires.units.as_many in
+    let many : length grids.result.now ≡ length plan.units = ap (λ t. length t) grids.ensures.value
+    ∙ c.requires.units.as_many in
     let asked : length c.as_slice-3.result.now ≡ length plan.units =
-    ap (λ t. length t) c.as_slice-3.ensures.value ∙ c.in_ok-asked.ensures.as_many ∙ ap (λ t. length t) c.as_slice.ensures in (
+    ap (λ t. length t) c.as_slice-3.ensures.value ∙ c.in_ok-asked.ensures.as_many
+    ∙ ap (λ t. length t) c.as_slice.ensures in (
       omega arith,
       (
         omega arith,
@@ -25,7 +27,8 @@ total_and_others-requires c =
               omega (arith, many, asked),
               (
                 (few_cells plan c.requires.valid).0,
-                subst (All (λ (g : List (Iv 56)). plan.cells ≤ length g)) (sym grids.ensures.value) (long_enough plan.cells plan.units c.args.units.items c.requires.units),
+                subst (All (λ (g : List (Iv 56)). plan.cells ≤ length g)) (sym grids.ensures.value)
+                    (long_enough plan.cells plan.units c.args.units.items c.requires.units),
               ),
             ),
           ),
@@ -38,8 +41,10 @@ returns-clause-grids c =
     let plan = c.args.plan.now in
     let sums = c.in_ok-sums.sums in record {
       units = λ i inside some. c.requires.units;
-      others = are_others plan c.args.units.items c.as_slice-3.result.now sums.others.items c.requires.valid c.requires.units
-          (subst (λ grids. AreSumsWithout plan.cells grids c.as_slice-3.result.now sums.others.items) c.as_slice-2.ensures.value c.in_ok-sums.ensures.others);
+      others = are_others plan c.args.units.items c.as_slice-3.result.now sums.others.items c.requires.valid
+          c.requires.units
+          (subst (λ grids. AreSumsWithout plan.cells grids c.as_slice-3.result.now sums.others.items)
+          c.as_slice-2.ensures.value c.in_ok-sums.ensures.others);
       total = is_total plan c.args.units.items sums.total c.requires.valid c.requires.units
           (subst (λ grids. IsTotal plan.cells grids sums.total) c.as_slice-2.ensures.value c.in_ok-sums.ensures.total);
     }
@@ -48,6 +53,9 @@ pub returns-clause-there : goal.returns-clause-there
 returns-clause-there c =
     let plan = c.args.plan.now in
     let sums = c.in_ok-sums.sums in
-    let rest = subst₂ (λ grids asked. AreSumsWithout plan.cells grids asked sums.others.items) c.as_slice-2.ensures.value c.as_slice-3.ensures.value c.in_ok-sums.ensures.others in
-    has_others plan c.args.units.items c.args.asks.now c.in_ok-asked.asked.items (record { units = c.args.units; sums = sums }) c.requires.units
-    (subst (λ units. AreShared units c.args.asks.now c.in_ok-asked.asked.items) c.as_slice.ensures c.in_ok-asked.ensures) rest c.requires.named
+    let rest = subst₂ (λ grids asked. AreSumsWithout plan.cells grids asked sums.others.items)
+    c.as_slice-2.ensures.value c.as_slice-3.ensures.value c.in_ok-sums.ensures.others in
+    has_others plan c.args.units.items c.args.asks.now c.in_ok-asked.asked.items
+    (record { units = c.args.units; sums = sums }) c.requires.units
+    (subst (λ units. AreShared units c.args.asks.now c.in_ok-asked.asked.items) c.as_slice.ensures
+    c.in_ok-asked.ensures) rest c.requires.named

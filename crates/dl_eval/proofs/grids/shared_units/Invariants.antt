@@ -6,5 +6,6 @@ use Rattle.dl_eval.proofs.grids.shared_units.Given as goal
 abbrev pub invariant-loop-i : goal.invariant-loop-i
 invariant-loop-i l = record {
   as_many : length l.asked.items ≡ l.i;
-  each : (k : ℕ) → k < l.i → IsTrue (get_or l.asked.items k false) ↔ Any (λ a. shared_unit l.units a.ask ≡ Some k) l.asks;
+  each : (k : ℕ) → k < l.i → IsTrue (get_or l.asked.items k false)
+      ↔ Any (λ a. shared_unit l.units a.ask ≡ Some k) l.asks;
 }

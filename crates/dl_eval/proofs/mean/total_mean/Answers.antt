@@ -3,7 +3,13 @@ use Rattle.dl_eval.proofs.Means.{means_small, is_mean}
 use Rattle.dl_eval.proofs.mean.total_mean.Goals as goal
 
 pub sum-requires : goal.sum-requires
-sum-requires c = (omega arith, (omega arith, (omega arith, omega (arith, means_small c.args.means.now c.requires.few c.requires.small))))
+sum-requires c = (
+  omega arith,
+  (
+    omega arith,
+    (omega arith, omega (arith, means_small c.args.means.now c.requires.few c.requires.small)),
+  ),
+)
 
 pub returns-clause-mean : goal.returns-clause-mean
 returns-clause-mean c = is_mean c.args.means.now c.sum.result c.sum.ensures.low c.sum.ensures.high

@@ -22,7 +22,8 @@ layer_mean-layer-requires c =
       omega arith,
       (
         omega arith,
-        layer_inside c.args.plan.now.cells grids.sums.total c.in-LayerMean.limit c.in-LayerMean.attach (rw c.in-LayerMean.is at c.requires.inside)
+        layer_inside c.args.plan.now.cells grids.sums.total c.in-LayerMean.limit c.in-LayerMean.attach
+            (rw c.in-LayerMean.is at c.requires.inside)
             c.requires.grids.total.cells,
       ),
     )
@@ -30,22 +31,27 @@ layer_mean-layer-requires c =
 pub returns-in-Pmf-clause-answer : goal.returns-in-Pmf-clause-answer
 returns-in-Pmf-clause-answer c =
     IfOk-weaker c.ends_row.result _ _ (λ row printed.
-    rw c.in-Pmf.is (point_answer c.args.plan.now c.args.grids.now.sums.total c.args.digits c.in-Pmf.x c.at.result.lo c.at.result.hi row c.at.ensures.low c.at.ensures.high
+    rw c.in-Pmf.is (point_answer c.args.plan.now c.args.grids.now.sums.total c.args.digits c.in-Pmf.x c.at.result.lo
+    c.at.result.hi row c.at.ensures.low c.at.ensures.high
     (omega (arith, rw c.in-Pmf.is at c.requires.inside, c.requires.grids.total.cells)) c.requires.grids.total printed))
     c.ends_row.ensures.ends
 
 pub returns-in-Cdf-clause-answer : goal.returns-in-Cdf-clause-answer
 returns-in-Cdf-clause-answer c =
     IfOk-weaker c.ends_row-in-Cdf.result _ _ (λ row printed.
-    rw c.in-Cdf.is (cdf_answer c.args.plan.now c.args.grids.now.sums.total c.args.digits c.in-Cdf.x c.cdf.result.lo c.cdf.result.hi row c.cdf.ensures.low c.cdf.ensures.high
-    (omega (arith, rw c.in-Cdf.is at c.requires.inside, c.requires.grids.total.cells)) c.requires.valid c.requires.grids.total printed))
+    rw c.in-Cdf.is (cdf_answer c.args.plan.now c.args.grids.now.sums.total c.args.digits c.in-Cdf.x c.cdf.result.lo
+    c.cdf.result.hi row c.cdf.ensures.low c.cdf.ensures.high
+    (omega (arith, rw c.in-Cdf.is at c.requires.inside, c.requires.grids.total.cells)) c.requires.valid
+    c.requires.grids.total printed))
     c.ends_row-in-Cdf.ensures.ends
 
 pub returns-in-LayerMean-clause-answer : goal.returns-in-LayerMean-clause-answer
 returns-in-LayerMean-clause-answer c =
     IfOk-weaker c.ends_row-in-LayerMean.result _ _ (λ row printed.
-    rw c.in-LayerMean.is (layer_answer c.args.plan.now c.args.grids.now.sums.total c.args.mean c.args.digits c.in-LayerMean.attach c.layer_mean-layer.result.lo c.layer_mean-layer.result.hi
-    c.in-LayerMean.limit row c.layer_mean-layer.ensures.holds c.layer_mean-layer.ensures.width c.requires.valid c.requires.grids.total c.requires.mean printed))
+    rw c.in-LayerMean.is (layer_answer c.args.plan.now c.args.grids.now.sums.total c.args.mean c.args.digits
+    c.in-LayerMean.attach c.layer_mean-layer.result.lo c.layer_mean-layer.result.hi
+    c.in-LayerMean.limit row c.layer_mean-layer.ensures.holds c.layer_mean-layer.ensures.width c.requires.valid
+    c.requires.grids.total c.requires.mean printed))
     c.ends_row-in-LayerMean.ensures.ends
 
 pub returns-in-Mean-clause-answer : goal.returns-in-Mean-clause-answer
@@ -64,13 +70,15 @@ returns-in-Tail-clause-answer c =
 pub returns-in-Joint-clause-answer : goal.returns-in-Joint-clause-answer
 returns-in-Joint-clause-answer c =
     IfOk-weaker c.ends_row-in-Joint.result _ _ (λ row printed.
-    rw c.in-Joint.is (joint_asked c.args.plan.now c.in-Joint.unit c.in-Joint.at c.place-i.result c.args.digits c.joint_of.result row
+    rw c.in-Joint.is (joint_asked c.args.plan.now c.in-Joint.unit c.in-Joint.at c.place-i.result c.args.digits
+    c.joint_of.result row
     (c.place-i.ensures ∙ ap₂ place_of c.as_slice-in-Joint.ensures c.as_slice.ensures) c.joint_of.ensures.joint printed))
     c.ends_row-in-Joint.ensures.ends
 
 pub returns-in-Kappa-clause-answer : goal.returns-in-Kappa-clause-answer
 returns-in-Kappa-clause-answer c =
     IfOk-weaker c.share_row.result _ _ (λ row told.
-    rw c.in-Kappa.is (share_asked c.args.plan.now c.in-Kappa.unit c.in-Kappa.at c.place-i-in-Kappa.result c.args.digits row
+    rw c.in-Kappa.is (share_asked c.args.plan.now c.in-Kappa.unit c.in-Kappa.at c.place-i-in-Kappa.result
+    c.args.digits row
     (c.place-i-in-Kappa.ensures ∙ ap₂ place_of c.as_slice-in-Kappa-2.ensures c.as_slice-in-Kappa.ensures) told))
     c.share_row.ensures.share

@@ -1,5 +1,5 @@
 use Rattle.std.proofs.Common.{◌∙◌}
-use Rattle.dl_port.proofs.Added.{if_ok_two}
+use Rattle.dl_exact.proofs.Results.{if_ok_two}
 use Rattle.dl_eval.proofs.GoodRows.{is_bracket}
 use Rattle.dl_eval.proofs.rows.quantile_row.Goals as goal
 
@@ -7,6 +7,7 @@ pub returns-clause-bracket : goal.returns-clause-bracket
 returns-clause-bracket c =
     let bracket = c.quantile-bracket in
     if_ok_two c.row_with.result _ _ _ (λ row low high plan valid t.
-    is_bracket plan c.args.total.now c.args.p bracket.result.lo bracket.result.hi row low (high ∙ c.bracket_end-end.ensures) bracket.ensures.lo bracket.ensures.hi
+    is_bracket plan c.args.total.now c.args.p bracket.result.lo bracket.result.hi row low
+    (high ∙ c.bracket_end-end.ensures) bracket.ensures.lo bracket.ensures.hi
     bracket.ensures.holds bracket.ensures.tight c.cells.ensures.grid valid t)
     c.row_with.ensures.low c.row_with.ensures.high

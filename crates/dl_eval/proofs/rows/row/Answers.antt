@@ -1,4 +1,4 @@
-use Rattle.dl_port.proofs.Added.{if_ok_two}
+use Rattle.dl_exact.proofs.Results.{if_ok_two}
 use Rattle.dl_eval.proofs.GoodRows.{mean_answer}
 use Rattle.dl_eval.proofs.rows.row.Goals as goal
 
@@ -6,6 +6,7 @@ pub returns-in-None : goal.returns-in-None
 returns-in-None c =
     if_ok_two c.ends_row.result _ _ _ (λ row word printed. record {
       ask = word;
-      answer = rw (c.requires.none c.in-None.is) (mean_answer c.args.plan.now c.args.digits c.args.mean row c.requires.mean printed);
+      answer = rw (c.requires.none c.in-None.is)
+          (mean_answer c.args.plan.now c.args.digits c.args.mean row c.requires.mean printed);
     })
     c.ends_row.ensures.ask c.ends_row.ensures.ends

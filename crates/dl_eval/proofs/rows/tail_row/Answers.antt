@@ -1,6 +1,6 @@
 use Rattle.std.proofs.Common.{inl, inr, refl}
 use Rattle.std.proofs.lemmas.Result.{IfOk-weaker}
-use Rattle.dl_port.proofs.Added.{if_ok_two}
+use Rattle.dl_exact.proofs.Results.{if_ok_two}
 use Rattle.dl_eval.proofs.GoodRows.{ends_below}
 use Rattle.dl_eval.proofs.Tails.{tail_answer}
 use Rattle.dl_eval.proofs.rows.tail_row.Goals as goal
@@ -9,7 +9,8 @@ pub returns-in-Some-clause-tail : goal.returns-in-Some-clause-tail
 returns-in-Some-clause-tail c =
     IfOk-weaker c.ends_row.result _ _ (λ row printed plan valid t m. inl (
     tail_answer plan c.args.total.now c.args.mean c.args.p c.args.digits c.in-Some.tail.lo c.in-Some.tail.hi row
-    (λ none. let some = c.in-Some.ensures.none.1 none in cc) c.in-Some.ensures.holds c.in-Some.ensures.width c.requires.level valid t m printed))
+    (λ none. let some = c.in-Some.ensures.none.1 none in cc) c.in-Some.ensures.holds c.in-Some.ensures.width
+    c.requires.level valid t m printed))
     c.ends_row.ensures.ends
 
 pub returns-in-None-clause-tail : goal.returns-in-None-clause-tail

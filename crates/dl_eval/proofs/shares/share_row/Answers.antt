@@ -1,6 +1,6 @@
 use Rattle.std.proofs.Common.{arith, inl, inr, refl}
 use Rattle.std.proofs.lemmas.Result.{IfOk-weaker}
-use Rattle.dl_port.proofs.Added.{if_ok_two}
+use Rattle.dl_exact.proofs.Results.{if_ok_two}
 use Rattle.dl_eval.proofs.ShareLaws.{share_answer, rare_answer}
 use Rattle.dl_eval.proofs.shares.share_row.Goals as goal
 
@@ -11,8 +11,10 @@ at-requires c =
 pub returns-in-Some-clause-share : goal.returns-in-Some-clause-share
 returns-in-Some-clause-share c =
     IfOk-weaker c.ends_row.result _ _ (λ row printed. inl (
-    share_answer c.args.plan.now c.args.grids.now.sums.total c.joint_of-joint.result c.args.i c.args.at c.at.result.lo c.at.result.hi c.args.digits c.in-Some.share.lo c.in-Some.share.hi row
-    c.at.ensures.low c.at.ensures.high c.in-Some.ensures.holds c.in-Some.ensures.width c.joint_of-joint.ensures.below c.requires.inside c.requires.grids.total
+    share_answer c.args.plan.now c.args.grids.now.sums.total c.joint_of-joint.result c.args.i c.args.at c.at.result.lo
+    c.at.result.hi c.args.digits c.in-Some.share.lo c.in-Some.share.hi row
+    c.at.ensures.low c.at.ensures.high c.in-Some.ensures.holds c.in-Some.ensures.width c.joint_of-joint.ensures.below
+    c.requires.inside c.requires.grids.total
     c.joint_of-joint.ensures.joint printed))
     c.ends_row.ensures.ends
 
@@ -21,7 +23,8 @@ returns-in-None-clause-share c =
     if_ok_two c.row_with.result _ _ _ (λ row low high. inr (record {
       is_low = low;
       is_high = high;
-      rare = rare_answer c.args.plan.now c.args.grids.now.sums.total c.args.at c.at.result.lo c.at.result.hi c.at.ensures.low c.at.ensures.high (c.in-None.ensures.none.0 refl)
+      rare = rare_answer c.args.plan.now c.args.grids.now.sums.total c.args.at c.at.result.lo c.at.result.hi
+          c.at.ensures.low c.at.ensures.high (c.in-None.ensures.none.0 refl)
           c.requires.inside c.requires.grids.total;
     }))
     c.row_with.ensures.low c.row_with.ensures.high

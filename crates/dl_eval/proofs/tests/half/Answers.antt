@@ -15,9 +15,11 @@ half_level = record {
 }
 
 pub unwrap-requires : goal.unwrap-requires
-unwrap-requires c = given_ok c.make.result (1 over 2) c.make.ensures (over_fits 1 2 (omega arith) (omega arith) (omega arith))
+unwrap-requires c = given_ok c.make.result (1 over 2) c.make.ensures
+    (over_fits 1 2 (omega arith) (omega arith) (omega arith))
 
 pub returns : goal.returns
 returns c =
-    let made : (c.unwrap.result ≡ 1 over 2) × FitsFrac (1 over 2) = subst (λ r. Gives r (1 over 2)) c.unwrap.ensures c.make.ensures in
+    let made : (c.unwrap.result ≡ 1 over 2) × FitsFrac (1 over 2) =
+    subst (λ r. Gives r (1 over 2)) c.unwrap.ensures c.make.ensures in
     subst IsLevel (sym made.0) half_level

@@ -11,5 +11,6 @@ unwrap-requires c =
 
 pub returns-clause-some : goal.returns-clause-some
 returns-clause-some c =
-    let found : IsHorizonOf c.args.unit.now.cede c.args.cells c.unwrap.result × (c.unwrap.result ≤ 16384) = rw c.unwrap.ensures at c.horizon.ensures in
+    let found : IsHorizonOf c.args.unit.now.cede c.args.cells c.unwrap.result × (c.unwrap.result ≤ 16384) =
+    rw c.unwrap.ensures at c.horizon.ensures in
     horizon_some c.args.unit.now.cede c.args.cells c.unwrap.result c.requires.some found.0

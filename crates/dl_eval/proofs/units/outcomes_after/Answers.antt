@@ -8,8 +8,10 @@ returns-clause-grid c =
     let unit = c.args.unit.now in
     let grid = c.index-grids-j in
     let j = c.in-Some.j in
-    alike_grid c.args.cells (get_or c.args.units.now j unit) unit (get_or c.args.grids.now j grid.result) c.in_ok-grid.grid (c.in-Some.ensures.alike unit)
-    (c.requires.grids j unit grid.result (omega (arith, c.in-Some.ensures.inside))) (c.in_ok-grid.ensures ∙ ap (take c.args.cells) grid.is)
+    alike_grid c.args.cells (get_or c.args.units.now j unit) unit
+    (get_or c.args.grids.now j grid.result) c.in_ok-grid.grid (c.in-Some.ensures.alike unit)
+    (c.requires.grids j unit grid.result (omega (arith, c.in-Some.ensures.inside)))
+    (c.in_ok-grid.ensures ∙ ap (take c.args.cells) grid.is)
 
 pub returns-clause-mean : goal.returns-clause-mean
 returns-clause-mean c =
@@ -17,5 +19,6 @@ returns-clause-mean c =
     let mean = c.index-means-j in
     let j = c.in-Some.j in
     subst (IsUnitMean c.args.cells unit) (sym mean.is)
-    (alike_mean c.args.cells (get_or c.args.units.now j unit) unit (get_or c.args.means.now j mean.result) (c.in-Some.ensures.alike unit)
+    (alike_mean c.args.cells (get_or c.args.units.now j unit) unit (get_or c.args.means.now j mean.result)
+    (c.in-Some.ensures.alike unit)
     (c.requires.means j unit mean.result (omega (arith, c.in-Some.ensures.inside))))

@@ -10,10 +10,14 @@ mean_of-requires-clause-few c = (few_cells c.args.plan.now c.requires.valid).1
 
 pub loop-unit-preserved : goal.loop-unit-preserved
 loop-unit-preserved c = record {
-  many_means = pushed_length c.loop-unit.means.items c.push.new.self.items c.loop-unit.unit-index c.in_ok-mean.mean c.loop-unit.invariant.many_means c.in_ok-push.ensures.items;
-  means = each_next (IsUnitMean c.args.plan.now.cells) c.as_slice-units.result.now c.loop-unit.means.items c.push.new.self.items c.loop-unit.unit-index c.unit-item.result c.in_ok-mean.mean
-      c.loop-unit.invariant.many_means c.loop-unit.invariant.means c.in_ok-push.ensures.items c.loop-unit-test.true c.unit-item.is c.in_ok-mean.ensures.mean;
-  small = all_pushed (λ (mean : Iv 56). mean.hi ≤ 2 ^ 93) c.loop-unit.means.items c.push.new.self.items c.in_ok-mean.mean c.loop-unit.invariant.small c.in_ok-push.ensures.items
+  many_means = pushed_length c.loop-unit.means.items c.push.new.self.items c.loop-unit.unit-index c.in_ok-mean.mean
+      c.loop-unit.invariant.many_means c.in_ok-push.ensures.items;
+  means = each_next (IsUnitMean c.args.plan.now.cells) c.as_slice-units.result.now c.loop-unit.means.items
+      c.push.new.self.items c.loop-unit.unit-index c.unit-item.result c.in_ok-mean.mean
+      c.loop-unit.invariant.many_means c.loop-unit.invariant.means c.in_ok-push.ensures.items c.loop-unit-test.true
+      c.unit-item.is c.in_ok-mean.ensures.mean;
+  small = all_pushed (λ (mean : Iv 56). mean.hi ≤ 2 ^ 93) c.loop-unit.means.items c.push.new.self.items
+      c.in_ok-mean.mean c.loop-unit.invariant.small c.in_ok-push.ensures.items
       c.in_ok-mean.ensures.small;
 }
 

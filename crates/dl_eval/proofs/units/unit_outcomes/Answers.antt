@@ -11,24 +11,43 @@ outcomes_after-requires-clause-few c = (few_cells c.args.plan.now c.requires.val
 pub outcomes_after-requires-clause-grids : goal.outcomes_after-requires-clause-grids
 outcomes_after-requires-clause-grids c i u g inside =
     let read = c.as_slice.ensures.value in
-    subst (λ (t : List (List (Iv 56))). IsUnitGrid c.args.plan.now.cells (get_or c.as_slice-units.result.now i u) (get_or t i g)) (sym read)
-    (c.loop-unit.invariant.grids i u g (omega (arith, inside, ap (λ (t : List (List (Iv 56))). length t) read, c.loop-unit.invariant.many_grids)))
+    subst (λ (t : List (List (Iv 56))). IsUnitGrid c.args.plan.now.cells (get_or c.as_slice-units.result.now i u)
+    (get_or t i g)) (sym read)
+    (c.loop-unit.invariant.grids i u g (omega (
+      arith,
+      inside,
+      ap (λ (t : List (List (Iv 56))). length t) read,
+      c.loop-unit.invariant.many_grids,
+    )))
 
 pub outcomes_after-requires-clause-means : goal.outcomes_after-requires-clause-means
 outcomes_after-requires-clause-means c i u m inside =
     let grids = c.as_slice.ensures.value in
-    subst (λ (t : List (Iv 56)). IsUnitMean c.args.plan.now.cells (get_or c.as_slice-units.result.now i u) (get_or t i m)) (sym c.as_slice-in-loop-unit.ensures.value)
-    (c.loop-unit.invariant.means i u m (omega (arith, inside, ap (λ (t : List (List (Iv 56))). length t) grids, c.loop-unit.invariant.many_grids)))
+    subst (λ (t : List (Iv 56)). IsUnitMean c.args.plan.now.cells (get_or c.as_slice-units.result.now i u)
+    (get_or t i m)) (sym c.as_slice-in-loop-unit.ensures.value)
+    (c.loop-unit.invariant.means i u m (omega (
+      arith,
+      inside,
+      ap (λ (t : List (List (Iv 56))). length t) grids,
+      c.loop-unit.invariant.many_grids,
+    )))
 
 pub loop-unit-preserved : goal.loop-unit-preserved
 loop-unit-preserved c = record {
-  many_grids = pushed_length c.loop-unit.grids.items c.push.new.self.items c.loop-unit.unit-index c.in_ok-grid.grid c.loop-unit.invariant.many_grids c.in_ok-push.ensures.items;
-  grids = each_next (IsUnitGrid c.args.plan.now.cells) c.as_slice-units.result.now c.loop-unit.grids.items c.push.new.self.items c.loop-unit.unit-index c.unit-item.result c.in_ok-grid.grid
-      c.loop-unit.invariant.many_grids c.loop-unit.invariant.grids c.in_ok-push.ensures.items c.loop-unit-test.true c.unit-item.is c.in_ok-grid.ensures.grid;
-  many_means = pushed_length c.loop-unit.means.items c.push-in-loop-unit.new.self.items c.loop-unit.unit-index c.in_ok-grid.mean c.loop-unit.invariant.many_means c.in_ok-push-2.ensures.items;
-  means = each_next (IsUnitMean c.args.plan.now.cells) c.as_slice-units.result.now c.loop-unit.means.items c.push-in-loop-unit.new.self.items c.loop-unit.unit-index c.unit-item.result c.in_ok-grid.mean
-      c.loop-unit.invariant.many_means c.loop-unit.invariant.means c.in_ok-push-2.ensures.items c.loop-unit-test.true c.unit-item.is c.in_ok-grid.ensures.mean;
-  small = all_pushed (λ (mean : Iv 56). mean.hi ≤ 2 ^ 93) c.loop-unit.means.items c.push-in-loop-unit.new.self.items c.in_ok-grid.mean c.loop-unit.invariant.small c.in_ok-push-2.ensures.items
+  many_grids = pushed_length c.loop-unit.grids.items c.push.new.self.items c.loop-unit.unit-index c.in_ok-grid.grid
+      c.loop-unit.invariant.many_grids c.in_ok-push.ensures.items;
+  grids = each_next (IsUnitGrid c.args.plan.now.cells) c.as_slice-units.result.now c.loop-unit.grids.items
+      c.push.new.self.items c.loop-unit.unit-index c.unit-item.result c.in_ok-grid.grid
+      c.loop-unit.invariant.many_grids c.loop-unit.invariant.grids c.in_ok-push.ensures.items c.loop-unit-test.true
+      c.unit-item.is c.in_ok-grid.ensures.grid;
+  many_means = pushed_length c.loop-unit.means.items c.push-in-loop-unit.new.self.items c.loop-unit.unit-index
+      c.in_ok-grid.mean c.loop-unit.invariant.many_means c.in_ok-push-2.ensures.items;
+  means = each_next (IsUnitMean c.args.plan.now.cells) c.as_slice-units.result.now c.loop-unit.means.items
+      c.push-in-loop-unit.new.self.items c.loop-unit.unit-index c.unit-item.result c.in_ok-grid.mean
+      c.loop-unit.invariant.many_means c.loop-unit.invariant.means c.in_ok-push-2.ensures.items c.loop-unit-test.true
+      c.unit-item.is c.in_ok-grid.ensures.mean;
+  small = all_pushed (λ (mean : Iv 56). mean.hi ≤ 2 ^ 93) c.loop-unit.means.items c.push-in-loop-unit.new.self.items
+      c.in_ok-grid.mean c.loop-unit.invariant.small c.in_ok-push-2.ensures.items
       c.in_ok-grid.ensures.small;
 }
 

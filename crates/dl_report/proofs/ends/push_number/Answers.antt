@@ -2,7 +2,7 @@ use Rattle.std.proofs.Common.{rules, ◌/◌, arith, subst}
 use Rattle.std.proofs.Math.Nat.{one-le-pow}
 use Rattle.std.specs.Fmt.{decimal}
 use Rattle.std.specs.Str.{IsAscii}
-use Rattle.dl_report.proofs.Ascii.{fixed_ascii}
+use Rattle.dl_report.proofs.Ascii.{with_digits_ascii}
 use Rattle.dl_report.proofs.ends.push_number.Goals as goal
 
 pub nonzero_div-number : goal.nonzero_div-number
@@ -10,6 +10,7 @@ nonzero_div-number c = omega (arith, c.pow.ensures, one-le-pow c.args.digits 10 
 
 pub returns-clause-ascii : goal.returns-clause-ascii
 returns-clause-ascii c =
-    let whole = fixed_ascii c.args.digits c.args.number (subst (λ power. IsAscii (decimal (c.args.number / power))) c.pow.ensures
+    let whole = with_digits_ascii c.args.digits c.args.number
+    (subst (λ power. IsAscii (decimal (c.args.number / power))) c.pow.ensures
     c.in_ok-push_whole.ensures.ascii) in
     search rules

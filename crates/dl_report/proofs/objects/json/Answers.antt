@@ -16,9 +16,11 @@ row_value-requires-clause-ask c =
     let at = c.loop-row.row-index in
     let is = c.as_slice-row-items.ensures in
     let lt : at < length rows = subst (λ (list : List Row). at < length list) is c.loop-row-test.true in
-    let row : c.row-item.result ≡ get_or rows at c.row-item.result = subst (λ list. c.row-item.result ≡ get_or list at c.row-item.result) is
+    let row : c.row-item.result ≡ get_or rows at c.row-item.result =
+    subst (λ list. c.row-item.result ≡ get_or list at c.row-item.result) is
     c.row-item.is in
-    subst (λ (row : Row). IsUtf8 row.ask) (sym row) (All-get_or (λ (row : Row). IsUtf8 row.ask) rows at c.row-item.result lt c.requires.asks)
+    subst (λ (row : Row). IsUtf8 row.ask) (sym row)
+    (All-get_or (λ (row : Row). IsUtf8 row.ask) rows at c.row-item.result lt c.requires.asks)
 
 pub returns : goal.returns
 returns c =
@@ -27,8 +29,11 @@ returns c =
     let all : take c.loop-row.row-index rows ≡ rows = take_all _ _ (search rules) in
     let list : items_view c.loop-row.rows.items ≡ items_of (map (row_data digits) rows) = ap items_of
     (c.loop-row.invariant ∙ ap (map (row_data digits)) all) in
-    let object : view c.in_ok-whole.whole ≡ report_data (fraction_text c.args.bs) c.args.cells (items_of (map (row_data digits) rows)) =
+    let object : view c.in_ok-whole.whole ≡ report_data (fraction_text c.args.bs) c.args.cells
+    (items_of (map (row_data digits) rows)) =
     c.in_ok-whole.ensures ∙ ap (report_data (fraction_text c.args.bs) c.args.cells) list in
-    let text = c.in_ok-text.ensures.text (ap has_float object ∙ no_float (fraction_text c.args.bs) c.args.cells digits rows) in
-    c.in_ok-push-2.ensures.items ∙ ap (λ (t : List ℕ). t ++ codes "\n") (text ∙ ap compact_text object) ∙ report_text c.args.report.now c.args.bs
+    let text = c.in_ok-text.ensures.text (ap has_float object
+    ∙ no_float (fraction_text c.args.bs) c.args.cells digits rows) in
+    c.in_ok-push-2.ensures.items ∙ ap (λ (t : List ℕ). t ++ codes "\n") (text ∙ ap compact_text object)
+    ∙ report_text c.args.report.now c.args.bs
     c.args.cells

@@ -8,5 +8,6 @@ pub loop-word-preserved : goal.loop-word-preserved
 loop-word-preserved c =
     let text : IsUtf8 c.in_ok-ask.ask = subst IsUtf8 (sym c.in_ok-ask.ensures) c.as_bytes.ensures.utf8 in
     let items = c.in_ok-push.ensures.items in
-    subst (All (λ (row : Row). IsUtf8 row.ask)) (sym items) (All-push (λ (row : Row). IsUtf8 row.ask) c.loop-word.rows.items _
+    subst (All (λ (row : Row). IsUtf8 row.ask)) (sym items)
+    (All-push (λ (row : Row). IsUtf8 row.ask) c.loop-word.rows.items _
     c.loop-word.invariant text)

@@ -13,7 +13,8 @@ loop-before-preserved c =
     let claims = c.below-claims.ensures in
     let greatest = c.below-greatest.ensures in (
       c.in_ok-push_unit.ensures
-          ∙ ap (λ ys. ys ++ unit_text (c.loop-before.before + 1) (20 + c.below-claims.result) (5 + c.below-greatest.result)) so_far.0
+          ∙ ap (λ ys. ys ++ unit_text (c.loop-before.before + 1) (20 + c.below-claims.result)
+          (5 + c.below-greatest.result)) so_far.0
           ∙ line_next c.args.n c.loop-before.before _ _ _ _ _
           (codes "port Made\n") so_far.1 claims.next greatest.next claims.drawn greatest.drawn,
       draws_next c.args.n c.loop-before.before _ _ _ so_far.1 claims.next greatest.next,

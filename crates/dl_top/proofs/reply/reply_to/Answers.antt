@@ -20,16 +20,20 @@ pub reply_to_source-requires-clause-texts : goal.reply_to_source-requires-clause
 reply_to_source-requires-clause-texts g c = words_are_text _ _ (words_text c.args.words.now) c.in-Ok.ensures.settings
 
 pub returns-in-Err-Usage-clause-reply : goal.returns-in-Err-Usage-clause-reply
-returns-in-Err-Usage-clause-reply g c = always _ {Q = λ input. IsReply (map string_bytes c.args.words.now) input c.refusal.result} (λ input.
+returns-in-Err-Usage-clause-reply g c = always _ {Q = λ input.
+    IsReply (map string_bytes c.args.words.now) input c.refusal.result} (λ input.
     refused _ input _ _ c.refusal.result _ c.refusal.ensures refl
     (usage _ (rw c.in-Err-Usage.field-0-is at c.in-Err-Usage.ensures.fault)))
 
 pub returns-in-Some-clause-reply : goal.returns-in-Some-clause-reply
 returns-in-Some-clause-reply g c =
-    made_input _ _ _ _ _ c.in-Ok.ensures.settings c.in-Some.is (c.reply_to_made.ensures.reply _ c.in-Ok.ensures.settings)
+    made_input _ _ _ _ _ c.in-Ok.ensures.settings c.in-Some.is
+    (c.reply_to_made.ensures.reply _ c.in-Ok.ensures.settings)
 
 pub returns-in-Ok-clause-reply : goal.returns-in-Ok-clause-reply
 returns-in-Ok-clause-reply g c =
-    read_input _ _ _ (λ input. IsReply (map string_bytes c.args.words.now) input c.reply_to_source.result) c.in-Ok.ensures.settings c.in-None.is
-    (told _ {P = λ input. (words : List (List ℕ)) → Say words c.in-Ok.settings → IsReply words input c.reply_to_source.result}
+    read_input _ _ _ (λ input. IsReply (map string_bytes c.args.words.now) input c.reply_to_source.result)
+    c.in-Ok.ensures.settings c.in-None.is
+    (told _ {P = λ input. (words : List (List ℕ)) → Say words c.in-Ok.settings
+    → IsReply words input c.reply_to_source.result}
     c.reply_to_source.ensures.reply (λ input reply. reply _ c.in-Ok.ensures.settings))

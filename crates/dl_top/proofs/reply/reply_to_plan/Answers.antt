@@ -14,19 +14,23 @@ in_form-requires-clause-asks c = answered_text _ _ _ c.in-Ok.ensures c.requires.
 
 pub returns-in-Ok-in_form-clause-reply : goal.returns-in-Ok-in_form-clause-reply
 returns-in-Ok-in_form-clause-reply c words input asks means =
-    subst (λ bytes. Answers words input Done bytes []) (sym c.in-Ok-in_form.ensures) (reported _ _ _ asks means c.in-Ok.ensures)
+    subst (λ bytes. Answers words input Done bytes []) (sym c.in-Ok-in_form.ensures)
+    (reported _ _ _ asks means c.in-Ok.ensures)
 
 pub returns-in-Err-AskBeyond-clause-reply : goal.returns-in-Err-AskBeyond-clause-reply
 returns-in-Err-AskBeyond-clause-reply c words input asks means =
     refused words input _ _ c.refusal.result _ c.refusal.ensures refl
-    (asking _ asks _ means (AskBeyond c.in-Err-AskBeyond.ask) _ refl (rw c.in-Err-AskBeyond.field-0-is at c.in-Err-AskBeyond.ensures))
+    (asking _ asks _ means (AskBeyond c.in-Err-AskBeyond.ask) _ refl
+    (rw c.in-Err-AskBeyond.field-0-is at c.in-Err-AskBeyond.ensures))
 
 pub returns-in-Err-UnknownUnit-clause-reply : goal.returns-in-Err-UnknownUnit-clause-reply
 returns-in-Err-UnknownUnit-clause-reply c words input asks means =
     refused words input _ _ c.refusal-in-Err-UnknownUnit.result _ c.refusal-in-Err-UnknownUnit.ensures refl
-    (asking _ asks _ means (UnknownUnit c.in-Err-UnknownUnit.ask) _ refl (rw c.in-Err-UnknownUnit.field-0-is at c.in-Err-UnknownUnit.ensures))
+    (asking _ asks _ means (UnknownUnit c.in-Err-UnknownUnit.ask) _ refl
+    (rw c.in-Err-UnknownUnit.field-0-is at c.in-Err-UnknownUnit.ensures))
 
 pub returns-in-Err-TooWide-clause-reply : goal.returns-in-Err-TooWide-clause-reply
 returns-in-Err-TooWide-clause-reply c words input asks means =
     refused words input _ _ c.refusal-in-Err-TooWide.result _ c.refusal-in-Err-TooWide.ensures refl
-    (asking _ asks _ means (TooWide c.in-Err-TooWide.ask c.in-Err-TooWide.width) _ refl (rw c.in-Err-TooWide.field-0-is at c.in-Err-TooWide.ensures))
+    (asking _ asks _ means (TooWide c.in-Err-TooWide.ask c.in-Err-TooWide.width) _ refl
+    (rw c.in-Err-TooWide.field-0-is at c.in-Err-TooWide.ensures))

@@ -1,5 +1,6 @@
 -- The reply to what the source has left.
 use Rattle.std.proofs.Common.{◌≡◌, ◌+◌, ◌≤◌, refl, arith, length, ℕ, List}
+use Rattle.dl_limits.specs.Limits.{most_text}
 use Rattle.dl_top.specs.Inputs.{Say}
 use Rattle.dl_top.specs.Answers.{not_read, too_long}
 use Rattle.dl_top.specs.Replies.{IsReply}
@@ -7,15 +8,19 @@ use Rattle.dl_top.proofs.ReplyLaws.{refused, told, taken, always}
 use Rattle.dl_top.proofs.reply.reply_to_source.Goals as goal
 
 pub returns-in-Ok-clause-reply : goal.returns-in-Ok-clause-reply
-returns-in-Ok-clause-reply g c = told _ {P = λ left. c.in-Ok.input.items ≡ left} c.in-Ok.ensures.whole (λ input whole words say.
+returns-in-Ok-clause-reply g c = told _ {P = λ left. c.in-Ok.input.items ≡ left} c.in-Ok.ensures.whole
+    (λ input whole words say.
     rw (c.as_slice.ensures.value, whole) at c.reply_to_text.ensures.reply words say)
 
 pub returns-in-Err-Fault-clause-reply : goal.returns-in-Err-Fault-clause-reply
 returns-in-Err-Fault-clause-reply g c = always _
     {Q = λ input. (words : List (List ℕ)) → Say words c.args.settings.now → IsReply words input c.refusal.result}
-    (λ input words say. refused words input _ _ c.refusal.result _ c.refusal.ensures refl (not_read _ say c.requires.seedless))
+    (λ input words say. refused words input _ _ c.refusal.result _ c.refusal.ensures refl
+    (not_read _ say c.requires.seedless))
 
 pub returns-in-Err-TooLong-clause-reply : goal.returns-in-Err-TooLong-clause-reply
 returns-in-Err-TooLong-clause-reply g c =
-    told _ {P = λ left. 1048576 + 1 ≤ length left} (taken _ _ _ (c.read_all.ensures.too_long cc)) (λ input more words say.
-    refused words input _ _ c.refusal-in-Err-TooLong.result _ c.refusal-in-Err-TooLong.ensures refl (too_long _ say (omega (arith, more))))
+    told _ {P = λ left. most_text + 1 ≤ length left} (taken _ _ _ (c.read_all.ensures.too_long cc))
+    (λ input more words say.
+    refused words input _ _ c.refusal-in-Err-TooLong.result _ c.refusal-in-Err-TooLong.ensures refl
+    (too_long _ say (omega (arith, more))))

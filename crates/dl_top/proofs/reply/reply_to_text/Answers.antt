@@ -10,12 +10,13 @@ refusal-requires-in-Err-BadByte-clause-place c =
     let bad : IsBad c.args.input.now c.in-Err-BadByte.at = c.lex.ensures.bad_byte c.in-Err-BadByte.at cc in
     omega (arith, bad.within)
 
-pub returns-then-input-gt-LONGEST-clause-reply : goal.returns-then-input-gt-LONGEST-clause-reply
-returns-then-input-gt-LONGEST-clause-reply c words say =
-    refused words _ _ _ c.refusal.result _ c.refusal.ensures refl (too_long _ say (omega (arith, c.if-input-gt-LONGEST.true)))
+pub returns-then-input-gt-MOST_TEXT-clause-reply : goal.returns-then-input-gt-MOST_TEXT-clause-reply
+returns-then-input-gt-MOST_TEXT-clause-reply c words say =
+    refused words _ _ _ c.refusal.result _ c.refusal.ensures refl
+    (too_long _ say (omega (arith, c.if-input-gt-MOST_TEXT.true)))
 
 pub returns-in-Err-BadByte-clause-reply : goal.returns-in-Err-BadByte-clause-reply
 returns-in-Err-BadByte-clause-reply c words say =
     let bad : IsBad c.args.input.now c.in-Err-BadByte.at = c.lex.ensures.bad_byte c.in-Err-BadByte.at cc in
     refused words _ _ _ c.refusal-in-Err-BadByte.result _ c.refusal-in-Err-BadByte.ensures refl
-    (bad_byte _ say _ (omega (arith, c.if-input-gt-LONGEST.false)) bad)
+    (bad_byte _ say _ (omega (arith, c.if-input-gt-MOST_TEXT.false)) bad)

@@ -5,4 +5,5 @@ use Rattle.dl_words.proofs.Cuts.{behind_is}
 use Rattle.dl_words.proofs.asks.behind_s.Goals as goal
 
 pub returns : goal.returns
-returns c = behind_is c.args.text.now c.strip_prefix.result (strip_prefix_char 115 c.args.text.now c.strip_prefix.result c.strip_prefix.ensures.cases (omega arith))
+returns c = behind_is c.args.text.now c.strip_prefix.result
+    (strip_prefix_char 115 c.args.text.now c.strip_prefix.result c.strip_prefix.ensures.cases (omega arith))

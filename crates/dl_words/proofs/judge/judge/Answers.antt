@@ -16,16 +16,20 @@ use Rattle.dl_words.proofs.judge.judge.Goals.{then-not-begin_plainly-via-then-no
 
 pub returns-in_default-settings_of-clause-fault : goal.returns-in_default-settings_of-clause-fault
 returns-in_default-settings_of-clause-fault c =
-    misfit_found (found_of c.args.matches.now) c.in-Some.form c.in-Some.ensures (here _ _ (here _ _ c.in_default-settings_of.ensures.none))
+    misfit_found (found_of c.args.matches.now) c.in-Some.form c.in-Some.ensures
+    (here _ _ (here _ _ c.in_default-settings_of.ensures.none))
 
 pub returns-then-not-begin_plainly-clause-fault : goal.returns-then-not-begin_plainly-clause-fault
 returns-then-not-begin_plainly-clause-fault c =
     let found = found_of c.args.matches.now in
-    let texts = texts_found c.get_strs.result c.unwrap_or-texts.result _ _ c.unwrap_or-texts.ensures refl c.get_strs.ensures in
-    let plain = plain_found c.begin_plainly.result c.unwrap_or-texts.result.now (asks_in found) c.begin_plainly.ensures texts in
+    let texts = texts_found c.get_strs.result c.unwrap_or-texts.result _ _ c.unwrap_or-texts.ensures refl
+    c.get_strs.ensures in
+    let plain = plain_found c.begin_plainly.result c.unwrap_or-texts.result.now
+    (asks_in found) c.begin_plainly.ensures texts in
     misfit_found found c.in-Some.form c.in-Some.ensures (elim c.then-not-begin_plainly.branch [
       | then-not-begin_plainly-via-then-not-begin_plainly w ↦
-          here (are_taken (values_in found) && list_all begins_plainly (asks_in found)) _ (later (are_taken (values_in found)) _ (sym plain ∙ w.if-not-begin_plainly.true))
+          here (are_taken (values_in found) && list_all begins_plainly (asks_in found)) _
+          (later (are_taken (values_in found)) _ (sym plain ∙ w.if-not-begin_plainly.true))
       | then-not-begin_plainly-via-else-not-begin_plainly+then-not-admits w ↦
           later (are_taken (values_in found) && list_all begins_plainly (asks_in found)) _
           (ap (admits c.in-Some.form (values_in found)) (sym texts) ∙ sym w.admits.ensures ∙ w.if-not-admits.true)
@@ -34,25 +38,33 @@ returns-then-not-begin_plainly-clause-fault c =
 pub returns-in-Ok-clause-settings : goal.returns-in-Ok-clause-settings
 returns-in-Ok-clause-settings c =
     let found = found_of c.args.matches.now in
-    let texts = texts_found c.get_strs.result c.unwrap_or-texts.result _ _ c.unwrap_or-texts.ensures refl c.get_strs.ensures in
-    let plain = plain_found c.begin_plainly.result c.unwrap_or-texts.result.now (asks_in found) c.begin_plainly.ensures texts in
-    let fits = all_three (are_taken (values_in found)) (list_all begins_plainly (asks_in found)) (admits c.in-Some.form (values_in found) (asks_in found))
+    let texts = texts_found c.get_strs.result c.unwrap_or-texts.result _ _ c.unwrap_or-texts.ensures refl
+    c.get_strs.ensures in
+    let plain = plain_found c.begin_plainly.result c.unwrap_or-texts.result.now
+    (asks_in found) c.begin_plainly.ensures texts in
+    let fits = all_three (are_taken (values_in found)) (list_all begins_plainly (asks_in found))
+    (admits c.in-Some.form (values_in found) (asks_in found))
     c.in-Some-settings_of.ensures.some.0 (sym plain ∙ c.if-not-begin_plainly.false)
     (ap (admits c.in-Some.form (values_in found)) (sym texts) ∙ sym c.admits.ensures ∙ c.if-not-admits.false) in
     fitting_found found c.in-Some.form c.in-Some.ensures fits
     ∙ ap (with_asks c.in-Some.form (values_in found)) (ap asks_of (sym texts) ∙ c.in-Ok.ensures.asks)
-    ∙ ap {A = Settings} (λ settings. Ok (record settings { asks = c.in-Ok.asks.items })) (sym c.in-Some-settings_of.ensures.some.1)
+    ∙ ap {A = Settings} (λ settings. Ok (record settings { asks = c.in-Ok.asks.items }))
+    (sym c.in-Some-settings_of.ensures.some.1)
     ∙ ap (λ asks. Ok (record c.in-Some-settings_of.settings { asks = asks })) (sym c.from_vec.ensures)
 
 pub returns-clause-fault : goal.returns-clause-fault
 returns-clause-fault c =
     let found = found_of c.args.matches.now in
-    let texts = texts_found c.get_strs.result c.unwrap_or-texts.result _ _ c.unwrap_or-texts.ensures refl c.get_strs.ensures in
-    let plain = plain_found c.begin_plainly.result c.unwrap_or-texts.result.now (asks_in found) c.begin_plainly.ensures texts in
-    let fits = all_three (are_taken (values_in found)) (list_all begins_plainly (asks_in found)) (admits c.in-Some.form (values_in found) (asks_in found))
+    let texts = texts_found c.get_strs.result c.unwrap_or-texts.result _ _ c.unwrap_or-texts.ensures refl
+    c.get_strs.ensures in
+    let plain = plain_found c.begin_plainly.result c.unwrap_or-texts.result.now
+    (asks_in found) c.begin_plainly.ensures texts in
+    let fits = all_three (are_taken (values_in found)) (list_all begins_plainly (asks_in found))
+    (admits c.in-Some.form (values_in found) (asks_in found))
     c.in-Some-settings_of.ensures.some.0 (sym plain ∙ c.if-not-begin_plainly.false)
     (ap (admits c.in-Some.form (values_in found)) (sym texts) ∙ sym c.admits.ensures ∙ c.if-not-admits.false) in
-    explained c.in-Some.form (values_in found) (asks_of (asks_in found)) (answer_in found) c.in-Err.fault (fitting_found found c.in-Some.form c.in-Some.ensures fits)
+    explained c.in-Some.form (values_in found) (asks_of (asks_in found)) (answer_in found) c.in-Err.fault
+    (fitting_found found c.in-Some.form c.in-Some.ensures fits)
     (subst (λ asks. ExplainsAsks (asks_of asks) c.in-Err.fault) texts c.in-Err.ensures.fault)
 
 -- where what was found fits the command, it is no misfit of it
@@ -62,9 +74,13 @@ returns-in-Ok-clause-line c = λ line. let settings = returns-in-Ok-clause-setti
 pub returns-clause-line : goal.returns-clause-line
 returns-clause-line c =
     let found = found_of c.args.matches.now in
-    let texts = texts_found c.get_strs.result c.unwrap_or-texts.result _ _ c.unwrap_or-texts.ensures refl c.get_strs.ensures in
-    let plain = plain_found c.begin_plainly.result c.unwrap_or-texts.result.now (asks_in found) c.begin_plainly.ensures texts in
-    let fits = all_three (are_taken (values_in found)) (list_all begins_plainly (asks_in found)) (admits c.in-Some.form (values_in found) (asks_in found))
+    let texts = texts_found c.get_strs.result c.unwrap_or-texts.result _ _ c.unwrap_or-texts.ensures refl
+    c.get_strs.ensures in
+    let plain = plain_found c.begin_plainly.result c.unwrap_or-texts.result.now
+    (asks_in found) c.begin_plainly.ensures texts in
+    let fits = all_three (are_taken (values_in found)) (list_all begins_plainly (asks_in found))
+    (admits c.in-Some.form (values_in found) (asks_in found))
     c.in-Some-settings_of.ensures.some.0 (sym plain ∙ c.if-not-begin_plainly.false)
     (ap (admits c.in-Some.form (values_in found)) (sym texts) ∙ sym c.admits.ensures ∙ c.if-not-admits.false) in
-    λ line. absurd (asks_no_line c.in-Some.form (values_in found) (asks_of (asks_in found)) (sym (fitting_found found c.in-Some.form c.in-Some.ensures fits) ∙ line))
+    λ line. absurd (asks_no_line c.in-Some.form (values_in found) (asks_of (asks_in found))
+    (sym (fitting_found found c.in-Some.form c.in-Some.ensures fits) ∙ line))

@@ -1,5 +1,5 @@
 -- What `clap` refuses is a misfit of the command, and what it finds is what the parts say.
-use Rattle.std.proofs.Common.{◌≡◌, ◌∙◌, inl, inr, sym, ap, subst, map, List, [], ◌∷◌}
+use Rattle.std.proofs.Common.{◌≡◌, ◌⊎◌, ◌∙◌, Err, Result, inl, inr, sym, ap, subst, map, List, [], ◌∷◌}
 use Rattle.std.specs.String.{string_bytes}
 use Rattle.std.proofs.lemmas.Result.{IfErr-weaker, IfOk-weaker}
 use Rattle.clap.specs.Faults.{fault_of, is_simple_and_free}
@@ -8,7 +8,13 @@ use Rattle.clap.specs.Matches.{found_of}
 use Rattle.clap.specs.Simple.{App, app_of, is_simple, matches_of}
 use Rattle.clap.specs.Walk.{rows_of}
 use Rattle.dl_words.specs.Command.{command}
-use Rattle.dl_words.specs.Faults.{Explains}
+use Rattle.clap.specs.declared.error.kind.ErrorKind.{ErrorKind}
+use Rattle.clap.specs.declared.error.kind.ErrorKind.TheVariants as refusals
+use Rattle.dl_plan.specs.declared.settings.Settings.{Settings}
+use Rattle.dl_words.specs.declared.fault.UsageFault.{UsageFault}
+use Rattle.dl_words.specs.declared.fault.UsageFault.TheVariants.{Line}
+use Rattle.dl_words.specs.declared.fault.WordsFault.{WordsFault}
+use Rattle.dl_words.specs.Faults.{Explains, TellsRefusal}
 use Rattle.dl_words.specs.Found.{answer_in}
 use Rattle.dl_words.specs.Spelling.{Text}
 use Rattle.dl_words.specs.Words.{words_of}
@@ -23,20 +29,32 @@ fails_of : (kinds : Kinds) (k : _) → IsAmong k kinds → Fails kinds
 fails_of [] k h = absurd h
 fails_of (x ∷ xs) k h = tt
 
-pub returns : goal.returns
-returns c =
+-- a refusal explains the words: either memory ran out, or they do not fit the command
+refusal_explains : (kind : ErrorKind) (fault : WordsFault) (answer : Result Settings UsageFault)
+    → TellsRefusal kind fault → (kind ≡ refusals.OutOfMemory) ⊎ (answer ≡ Err Line) → Explains answer fault
+refusal_explains kind fault answer (inl memory) cause = subst (Explains answer) (sym memory.1) tt
+refusal_explains kind fault answer (inr other) (inl memory) = absurd (other.0 memory)
+refusal_explains kind fault answer (inr other) (inr line) = subst (Explains answer) (sym other.1) line
+
+pub returns-in-Err-try_get_matches_from : goal.returns-in-Err-try_get_matches_from
+returns-in-Err-try_get_matches_from c =
     let words : List Text = map string_bytes c.args.words.now in
     let app : app_of c.in-Ok.command ≡ command = c.in-Ok.ensures in
     let kinds : HasKind (fault_of command words) c.in-Err-try_get_matches_from.error =
-    subst (λ (a : App). HasKind (fault_of a words) c.in-Err-try_get_matches_from.error) app (c.in-Err-try_get_matches_from.ensures.kinds (ap is_simple_and_free app ∙ simple_command_is)) in
-    let failed : Fails (fault_of command words) = elim kinds [
-      | inl memory ↦ absurd (c.in_default.not-OutOfMemory (c.kind.ensures ∙ memory))
-      | inr among ↦ fails_of (fault_of command words) _ among
+    subst (λ (a : App). HasKind (fault_of a words) c.in-Err-try_get_matches_from.error) app
+    (c.in-Err-try_get_matches_from.ensures.kinds (ap is_simple_and_free app ∙ simple_command_is)) in
+    let cause : (c.kind.result ≡ refusals.OutOfMemory) ⊎ (words_of words ≡ Err Line) = elim kinds [
+      | inl memory ↦ inl (c.kind.ensures ∙ memory)
+      | inr among ↦ inr (refused words (unfit words (fails_of (fault_of command words) _ among)))
     ] in
-    record { settings = tt; fault = refused words (unfit words failed) }
+    record {
+      settings = tt;
+      fault = refusal_explains c.kind.result c.refusal.result (words_of words) c.refusal.ensures cause;
+    }
 
 -- the answer to what was found is the answer to the words
-found_answer : (words : List Text) (app : App) (found : _) → app ≡ command → fault_of app words ≡ [] → rows_of found ≡ matches_of app words → words_of words ≡ answer_in found
+found_answer : (words : List Text) (app : App) (found : _) → app ≡ command → fault_of app words ≡ []
+    → rows_of found ≡ matches_of app words → words_of words ≡ answer_in found
 found_answer words app found e none rows =
     let got = matched words (subst (λ (a : App). fault_of a words ≡ []) e none) in
     given words got.0 got.1 found (rows ∙ ap (λ (a : App). matches_of a words) e)
@@ -44,13 +62,17 @@ found_answer words app found e none rows =
 pub returns-in-Ok-try_get_matches_from-clause-settings : goal.returns-in-Ok-try_get_matches_from-clause-settings
 returns-in-Ok-try_get_matches_from-clause-settings c =
     let app = c.in-Ok.ensures in
-    let same = found_answer (map string_bytes c.args.words.now) (app_of c.in-Ok.command) (found_of c.in-Ok-try_get_matches_from.matches) app
-    (c.in-Ok-try_get_matches_from.ensures.kinds (ap is_simple_and_free app ∙ simple_command_is)) (c.in-Ok-try_get_matches_from.ensures.matches (ap is_simple app ∙ simple_is)).0 in
+    let same = found_answer (map string_bytes c.args.words.now) (app_of c.in-Ok.command)
+    (found_of c.in-Ok-try_get_matches_from.matches) app
+    (c.in-Ok-try_get_matches_from.ensures.kinds (ap is_simple_and_free app ∙ simple_command_is))
+    (c.in-Ok-try_get_matches_from.ensures.matches (ap is_simple app ∙ simple_is)).0 in
     IfOk-weaker c.judge.result _ _ (λ s h. same ∙ h) c.judge.ensures.settings
 
 pub returns-in-Ok-try_get_matches_from-clause-fault : goal.returns-in-Ok-try_get_matches_from-clause-fault
 returns-in-Ok-try_get_matches_from-clause-fault c =
     let app = c.in-Ok.ensures in
-    let same = found_answer (map string_bytes c.args.words.now) (app_of c.in-Ok.command) (found_of c.in-Ok-try_get_matches_from.matches) app
-    (c.in-Ok-try_get_matches_from.ensures.kinds (ap is_simple_and_free app ∙ simple_command_is)) (c.in-Ok-try_get_matches_from.ensures.matches (ap is_simple app ∙ simple_is)).0 in
+    let same = found_answer (map string_bytes c.args.words.now) (app_of c.in-Ok.command)
+    (found_of c.in-Ok-try_get_matches_from.matches) app
+    (c.in-Ok-try_get_matches_from.ensures.kinds (ap is_simple_and_free app ∙ simple_command_is))
+    (c.in-Ok-try_get_matches_from.ensures.matches (ap is_simple app ∙ simple_is)).0 in
     IfErr-weaker c.judge.result _ _ (λ e h. subst (λ a. Explains a e) (sym same) h) c.judge.ensures.fault

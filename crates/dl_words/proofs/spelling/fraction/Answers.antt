@@ -8,7 +8,8 @@ use Rattle.dl_words.proofs.spelling.fraction.Goals as goal
 pub returns-then-not-is_numeral : goal.returns-then-not-is_numeral
 returns-then-not-is_numeral c =
     let bytes : c.as_bytes.result.now ≡ c.args.text.now = search rules in
-    let no : is_numeral c.args.text.now ≡ false = ap is_numeral (sym bytes) ∙ sym (numeral_is c.as_bytes.result.now _ c.is_numeral.ensures) ∙ c.if-not-is_numeral.true in
+    let no : is_numeral c.args.text.now ≡ false = ap is_numeral (sym bytes)
+    ∙ sym (numeral_is c.as_bytes.result.now _ c.is_numeral.ensures) ∙ c.if-not-is_numeral.true in
     rw no refl
 
 pub numeral-requires-clause-spelled : goal.numeral-requires-clause-spelled
@@ -20,6 +21,9 @@ pub returns-in-Ok : goal.returns-in-Ok
 returns-in-Ok c =
     let bytes : c.as_bytes.result.now ≡ c.args.text.now = search rules in
     let again : c.as_bytes-2.result.now ≡ c.args.text.now = search rules in
-    let yes : is_numeral c.args.text.now ≡ true = ap is_numeral (sym bytes) ∙ sym (numeral_is c.as_bytes.result.now _ c.is_numeral.ensures) ∙ c.if-not-is_numeral.false in
-    let good : is_bad c.args.digits c.args.text.now ≡ false = ap (is_bad c.args.digits) (sym again) ∙ not_passed (is_bad c.args.digits c.as_bytes-2.result.now) (λ h. absurd (let e : false ≡ true = c.in-Ok.ensures.bad.1 h in cc)) in
+    let yes : is_numeral c.args.text.now ≡ true = ap is_numeral (sym bytes)
+    ∙ sym (numeral_is c.as_bytes.result.now _ c.is_numeral.ensures) ∙ c.if-not-is_numeral.false in
+    let good : is_bad c.args.digits c.args.text.now ≡ false = ap (is_bad c.args.digits) (sym again)
+    ∙ not_passed (is_bad c.args.digits c.as_bytes-2.result.now)
+    (λ h. absurd (let e : false ≡ true = c.in-Ok.ensures.bad.1 h in cc)) in
     rw (yes, good, ← again, ← c.in-Ok.ensures.value) refl

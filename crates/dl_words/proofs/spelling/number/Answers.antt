@@ -16,7 +16,8 @@ returns-in-Err c =
     let some : 0 < length t = search rules in
     let most : length t ≤ 15 = search rules in
     let small : digits_value 10 t < 10 ^ 15 = digits_value_short own t 15 digits most in
-    let refused : (0 < length t) × (digits_value 10 t < 2 ^ 64) → ⊥ = parse_digits own 64 t (Err c.in-Err.field-0) c.in-Err.ensures.value.0 digits in
+    let refused : (0 < length t) × (digits_value 10 t < 2 ^ 64)
+    → ⊥ = parse_digits own 64 t (Err c.in-Err.field-0) c.in-Err.ensures.value.0 digits in
     absurd (refused (some, omega arith))
 
 pub returns-in-Ok-clause-below : goal.returns-in-Ok-clause-below
