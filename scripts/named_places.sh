@@ -1,7 +1,7 @@
 #!/usr/bin/env sh
 # Checks that what the pages name is there: files of a crate ('dl_x/src/y.rt' stands for crates/dl_x/src/y.rt), other files of the
-# repository, laws ('law_x' is a function), and that each crate has its line in docs/ARCHITECTURE.md and docs/PROOFS.md. The last
-# line is 'N passed, M failed'.
+# repository, laws ('law_x' is a function), definitions ('IsX' stands in the specs/ of a crate), and that each crate has its line in
+# docs/ARCHITECTURE.md and docs/PROOFS.md. The last line is 'N passed, M failed'.
 set -u
 cd "$(dirname "$0")/.." || exit 1
 passed=0
@@ -33,6 +33,9 @@ for place in $(named '(docs|bench|scripts|clients|examples|share)/[A-Za-z0-9_./-
 done
 for law in $(grep -ohE '\blaw_[a-z_]+' $pages | sort -u); do
     is_there "$law" grep -rqE "fn $law\(" crates --include=*.rt
+done
+for word in $(grep -ohE '`(Is|Are|Has|Holds|Declares)[A-Za-z]*' docs/DEFINITIONS.md docs/PROOFS.md | tr -d '`' | sort -u); do
+    is_there "$word" grep -rqE "\b$word\b" crates --include=*.antt --exclude-dir=out --exclude-dir=proofs
 done
 for crate in $(sed -n 's/^\([a-z_]*\)[^:#]*:.*/\1/p' crates.txt); do
     is_there "the map's row of $crate" grep -q "^| \`$crate\` |" docs/ARCHITECTURE.md
