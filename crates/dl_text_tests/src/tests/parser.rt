@@ -1,8 +1,7 @@
 //! The parser: texts worked by hand from the grammar.
 
-use dl_lexer::lex;
-use dl_limits::MOST_TEXT;
-use dl_parser::{ParseFault, parse};
+use crate::tests::helpers::program_of;
+use dl_parser::ParseFault;
 use std::alloc::Global;
 
 /// What a text should give: its number of units, or its fault.
@@ -218,24 +217,18 @@ const CASES: [Case; 84] = [
     ),
 ];
 
-/// How many units the program has, or why there is none; nothing where the text has no tokens.
-fn units(alloc: Global, source: &[u8]) -> Option<Result<usize, ParseFault>> {
-    if source.len() > MOST_TEXT {
-        return None;
-    }
-    let Ok(tokens) = lex(alloc, source) else {
-        return None;
-    };
-    match parse(alloc, source, &tokens) {
-        Ok(program) => Some(Ok(program.units.as_slice().len())),
-        Err(fault) => Some(Err(fault)),
+/// Whether a text gives this: a program of so many units, or a fault.
+fn gives(alloc: Global, source: &[u8], want: Result<usize, ParseFault>) -> bool {
+    match program_of(alloc, source) {
+        Some(Ok(program)) => want == Ok(program.units.as_slice().len()),
+        Some(Err(fault)) => want == Err(fault),
+        None => false,
     }
 }
 
 #[test]
 fn texts(rt: HostRuntime) {
     for (source, want) in &CASES {
-        let got = units(rt.alloc(), source);
-        assert_eq!(rt; got, Some(*want));
+        assert!(rt; gives(rt.alloc(), source, *want));
     }
 }

@@ -2,6 +2,7 @@
 
 ghost use Rattle.std.specs.Prelude.{◌≡◌, ◌≤◌, length, IfOk};
 
+use crate::tests::helpers::DIE;
 use dl_grid::Grid;
 use dl_plan::Item;
 use dl_power::{claim_grid, mix_counts, power};
@@ -155,33 +156,7 @@ fn die<const B: u32>(alloc: Global, cells: u32) -> Result<Grid<B>, AllocError>
     requires few { cells ≤ 49 }
     ensures { IfOk result (λ g. length g ≡ cells) }
 {
-    let faces = [
-        Item {
-            amount: 1,
-            weight: 1,
-        },
-        Item {
-            amount: 2,
-            weight: 1,
-        },
-        Item {
-            amount: 3,
-            weight: 1,
-        },
-        Item {
-            amount: 4,
-            weight: 1,
-        },
-        Item {
-            amount: 5,
-            weight: 1,
-        },
-        Item {
-            amount: 6,
-            weight: 1,
-        },
-    ];
-    claim_grid::<B>(alloc, &faces, 6, cells)
+    claim_grid::<B>(alloc, &DIE, 6, cells)
 }
 
 /// Whether the sums of dice are those that were worked out, at one scale.

@@ -1,0 +1,4 @@
+mod eval;
+mod helpers;
+mod hostile;
+mod top;

@@ -1,0 +1,85 @@
+//! Values of `exp(-x)` worked outside the program, to 60 digits.
+
+ghost use Rattle.std.specs.Prelude.{◌≤◌};
+
+use dl_exp::exp_neg;
+use dl_frac::Frac;
+use std::cmp::Ordering;
+
+/// A fraction, and how many whole units are in the exponential of minus it, at the scales 1, 48 and
+/// 56.
+#[derive(Clone, Copy, Debug)]
+struct Case {
+    num: u64,
+    den: u64,
+    units: [u128; 3],
+}
+
+/// The ends that are found, where the fraction is at most 1/2.
+#[tactic(auto, using(dl_exact::proofs::Laws::le_of_lt, dl_exact::proofs::Laws::le_of_eq))]
+fn enclosed<const B: u32>(case: Case) -> Option<(u128, u128)>
+    requires above { 1 ≤ B }
+    requires below { B ≤ 56 }
+{
+    if case.den == 0 {
+        return None;
+    }
+    let x = Frac::make(u128::from(case.num), u128::from(case.den)).ok()?;
+    let half = Frac::make(1, 2).ok()?;
+    match x.compare(half) {
+        Ordering::Less | Ordering::Equal => {
+            let interval = exp_neg::<B>(x);
+            Some((interval.lo, interval.hi))
+        }
+        Ordering::Greater => None,
+    }
+}
+
+/// The ends stand round the value, and at most 3 units apart.
+fn holds(ends: Option<(u128, u128)>, units: u128) -> bool {
+    match ends {
+        Some((lo, hi)) => lo <= units && units <= hi && hi - lo <= 3,
+        None => false,
+    }
+}
+
+#[test]
+fn values(rt: HostRuntime) {
+    let table = [
+        Case {
+            num: 0,
+            den: 1,
+            units: [2, 1 << 48, 1 << 56],
+        },
+        Case {
+            num: 1,
+            den: 2,
+            units: [1, 170723203316912, 43705140049129551],
+        },
+        Case {
+            num: 1,
+            den: 3,
+            units: [1, 201685633956213, 51631522292790566],
+        },
+        Case {
+            num: 1,
+            den: 10,
+            units: [1, 254689091168601, 65200407339162068],
+        },
+        Case {
+            num: 1,
+            den: 1 << 40,
+            units: [1, 281474976710400, 72057594037862400],
+        },
+        Case {
+            num: (1 << 61) - 1,
+            den: (1 << 62) - 1,
+            units: [1, 170723203316912, 43705140049129551],
+        },
+    ];
+    for case in table {
+        assert!(rt; holds(enclosed::<1>(case), case.units[0]));
+        assert!(rt; holds(enclosed::<48>(case), case.units[1]));
+        assert!(rt; holds(enclosed::<56>(case), case.units[2]));
+    }
+}

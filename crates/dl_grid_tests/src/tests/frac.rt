@@ -1,0 +1,279 @@
+//! Values worked outside the program, by exact fractions.
+
+use dl_frac::{BadNumeral, Frac, TooFine, is_numeral, lcm_to, numeral, small_divisor};
+use std::cmp::Ordering;
+
+const TOP: u64 = (1 << 62) - 1;
+
+const HALF: u64 = 1 << 61;
+
+type Parts = (u64, u64);
+
+fn of(parts: Parts) -> Option<Frac> {
+    if parts.1 == 0 {
+        return None;
+    }
+    Frac::make(parts.0 as u128, parts.1 as u128).ok()
+}
+
+fn made_of(num: u128, den: u128) -> Option<Parts> {
+    if den == 0 {
+        return None;
+    }
+    shown(Frac::make(num, den))
+}
+
+fn shown(answer: Result<Frac, TooFine>) -> Option<Parts> {
+    let value = answer.ok()?;
+    Some((value.num(), value.den()))
+}
+
+fn quotient(x: Frac, y: Frac) -> Option<Parts> {
+    if y.num() == 0 {
+        return None;
+    }
+    shown(x.div(y))
+}
+
+fn answers(first: Parts, second: Parts) -> Option<(Option<Parts>, Option<Parts>, Option<Parts>)> {
+    let (x, y) = (of(first)?, of(second)?);
+    Some((shown(x.add(y)), shown(x.mul(y)), quotient(x, y)))
+}
+
+fn ordered(first: Parts, second: Parts) -> Option<(Ordering, bool)> {
+    let (x, y) = (of(first)?, of(second)?);
+    Some((x.compare(y), x == y))
+}
+
+fn multiple_of(x: u64, y: u64, limit: u64) -> Option<u64> {
+    if x == 0 || y == 0 {
+        return None;
+    }
+    lcm_to(x, y, limit)
+}
+
+/// Where the text is a numeral, its value, if that is not bad.
+fn read(text: &[u8], limit: u32) -> Option<Option<Parts>> {
+    if limit > 11 {
+        return None;
+    }
+    if is_numeral(text) {
+        return Some(value_of(numeral(text, limit)));
+    }
+    None
+}
+
+fn value_of(answer: Result<Frac, BadNumeral>) -> Option<Parts> {
+    let value = answer.ok()?;
+    Some((value.num(), value.den()))
+}
+
+/// Two fractions; their sum, product and quotient where they fit; their order.
+type Pair = (
+    Parts,
+    Parts,
+    Option<Parts>,
+    Option<Parts>,
+    Option<Parts>,
+    Ordering,
+);
+
+const NEAR_THE_TOP: [Pair; 10] = [
+    (
+        (1, 2),
+        (1, 3),
+        Some((5, 6)),
+        Some((1, 6)),
+        Some((3, 2)),
+        Ordering::Greater,
+    ),
+    (
+        (1, 6),
+        (1, 10),
+        Some((4, 15)),
+        Some((1, 60)),
+        Some((5, 3)),
+        Ordering::Greater,
+    ),
+    (
+        (0, 1),
+        (5, 7),
+        Some((5, 7)),
+        Some((0, 1)),
+        Some((0, 1)),
+        Ordering::Less,
+    ),
+    (
+        (TOP - 1, 1),
+        (1, 1),
+        Some((TOP, 1)),
+        Some((TOP - 1, 1)),
+        Some((TOP - 1, 1)),
+        Ordering::Greater,
+    ),
+    (
+        (TOP, 1),
+        (1, 1),
+        None,
+        Some((TOP, 1)),
+        Some((TOP, 1)),
+        Ordering::Greater,
+    ),
+    (
+        (HALF - 1, HALF),
+        (1, HALF),
+        Some((1, 1)),
+        None,
+        Some((HALF - 1, 1)),
+        Ordering::Greater,
+    ),
+    (
+        (1, TOP),
+        (1, TOP - 1),
+        None,
+        None,
+        Some((TOP - 1, TOP)),
+        Ordering::Less,
+    ),
+    (
+        (TOP, 2),
+        (2, 3),
+        None,
+        Some((1537228672809129301, 1)),
+        None,
+        Ordering::Greater,
+    ),
+    (
+        (1 << 31, 1),
+        (1 << 31, 1),
+        Some((1 << 32, 1)),
+        None,
+        Some((1, 1)),
+        Ordering::Equal,
+    ),
+    (
+        (HALF - 2, HALF - 1),
+        (HALF - 1, HALF - 2),
+        None,
+        Some((1, 1)),
+        None,
+        Ordering::Less,
+    ),
+];
+
+/// Whether the two fractions of a row have what it tells of them.
+fn holds(row: &Pair) -> bool {
+    answers(row.0, row.1) == Some((row.2, row.3, row.4))
+        && ordered(row.0, row.1) == Some((row.5, row.5 == Ordering::Equal))
+}
+
+#[test]
+fn near_the_top(rt: HostRuntime) {
+    for row in &NEAR_THE_TOP {
+        assert!(rt; holds(row));
+    }
+}
+
+#[test]
+fn made(rt: HostRuntime) {
+    // two parts, and the fraction of them in lowest terms where it fits
+    let table = [
+        (1 << 100, 1 << 99, Some((2, 1))),
+        (1 << 62, 2, Some((HALF, 1))),
+        (1 << 127, 3 << 126, Some((2, 3))),
+        (1 << 62, 1, None),
+        (1, 1 << 62, None),
+    ];
+    for (num, den, value) in table {
+        assert_eq!(rt; made_of(num, den), value);
+    }
+}
+
+#[test]
+fn scaled(rt: HostRuntime) {
+    // a fraction, its floor and its ceiling in units of 1 / 2^56
+    let table = [
+        ((1, 3), 24019198012642645, 24019198012642646),
+        ((1, 2), 36028797018963968, 36028797018963968),
+        ((1, TOP), 0, 1),
+        (
+            (TOP, 1),
+            332306998946228968153894171032158208,
+            332306998946228968153894171032158208,
+        ),
+        ((TOP, TOP - 1), 72057594037927936, 72057594037927937),
+    ];
+    for (parts, floor, ceiling) in table {
+        if let Some(x) = of(parts) {
+            assert_eq!(rt; x.floor_scaled::<56>(), floor);
+            assert_eq!(rt; x.ceil_scaled::<56>(), ceiling);
+        }
+    }
+}
+
+#[test]
+fn divisors(rt: HostRuntime) {
+    // two numbers, and their greatest common divisor
+    let table = [
+        (12, 18, 6),
+        (7, 0, 7),
+        (0, 7, 7),
+        (0, 0, 0),
+        (u32::MAX, 65_537, 65_537),
+    ];
+    for (x, y, divisor) in table {
+        assert_eq!(rt; small_divisor(x, y), divisor);
+    }
+}
+
+#[test]
+fn multiples(rt: HostRuntime) {
+    // two numbers, a limit, and their least common multiple where it is within the limit
+    let table = [
+        (4, 6, 12, Some(12)),
+        (4, 6, 11, None),
+        (1 << 63, 1 << 62, 1 << 63, Some(1 << 63)),
+        (u64::MAX, u64::MAX - 1, u64::MAX, None),
+    ];
+    for (x, y, limit, multiple) in table {
+        assert_eq!(rt; multiple_of(x, y, limit), multiple);
+    }
+}
+
+/// A numeral, the limit of its digits, and its value where it is not bad.
+const NUMERALS: [(&'static str, u32, Option<Parts>); 18] = [
+    ("0", 11, Some((0, 1))),
+    ("007", 3, Some((7, 1))),
+    ("007", 2, None),
+    ("99999999999", 11, Some((99999999999, 1))),
+    ("099999999999", 11, None),
+    ("5.", 1, Some((5, 1))),
+    (".5", 1, Some((1, 2))),
+    ("12.50", 4, Some((25, 2))),
+    ("12.50", 3, None),
+    ("12%", 4, Some((3, 25))),
+    ("12%", 3, None),
+    (".5%", 3, Some((1, 200))),
+    ("0%", 1, None),
+    ("0/5", 1, Some((0, 1))),
+    ("5/0", 11, None),
+    ("6/04", 2, Some((3, 2))),
+    ("6/04", 1, None),
+    ("06/4", 1, None),
+];
+
+#[test]
+fn numerals(rt: HostRuntime) {
+    for (text, limit, value) in NUMERALS {
+        assert!(rt; read(text.as_bytes(), limit) == Some(value), "{text}");
+    }
+}
+
+#[test]
+fn no_numerals(rt: HostRuntime) {
+    for text in [
+        "", ".", "%", "1.2.3", "1/", "/2", "1/2%", "1.5/2", "-1", "1e3", "5%%", "1 ",
+    ] {
+        assert!(rt; !is_numeral(text.as_bytes()), "{text}");
+    }
+}

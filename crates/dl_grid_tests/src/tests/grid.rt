@@ -1,0 +1,223 @@
+//! What a grid tells of its cells.
+
+ghost use Rattle.std.specs.Prelude.{◌≤◌, ◌<◌, ◌^◌};
+
+use crate::tests::helpers::is_so;
+use dl_grid::{Grid, units_of_one};
+use dl_iv::Iv;
+use std::alloc::{AllocError, Global};
+
+/// One write to a cell. The ends are in halves of 1.
+#[derive(Clone, Copy, Debug)]
+struct Write {
+    x: u32,
+    low: u8,
+    high: u8,
+}
+
+/// What a grid tells of itself: its cells, and in halves of 1 the ends of its first and of its last
+/// cell, those of the probability of all cells, its mass and its spread.
+#[derive(Clone, Copy, Debug, PartialEq, Eq)]
+struct Told {
+    cells: u32,
+    first: (u128, u128),
+    last: (u128, u128),
+    all: (u128, u128),
+    mass: u128,
+    spread: u128,
+}
+
+/// A grid that begins as zero on `cells` cells, is written to twice, and is cut to `kept` cells.
+#[derive(Clone, Copy, Debug)]
+struct Case {
+    cells: u32,
+    writes: [Write; 2],
+    kept: u32,
+    want: Told,
+}
+
+const NO_WRITE: Write = Write {
+    x: 0,
+    low: 2,
+    high: 2,
+};
+
+fn half_of_one(bits: u32) -> u128
+    requires scale_above { 1 ≤ bits }
+    requires scale_below { bits ≤ 56 }
+    ensures some { 0 < result }
+    ensures fits { result ≤ 2 ^ 56 }
+{
+    units_of_one(bits) / 2
+}
+
+fn apply<const B: u32>(g: &mut Grid<B>, write: Write) -> bool
+    requires scale_above { 1 ≤ B }
+    requires scale_below { B ≤ 56 }
+{
+    let one = units_of_one(B);
+    let half = half_of_one(B);
+    let lo = u128::from(write.low) * half;
+    let hi = u128::from(write.high) * half;
+    if lo > hi {
+        return false;
+    }
+    if hi > one {
+        return false;
+    }
+    g.put(write.x, Iv { lo, hi })
+}
+
+fn halves<const B: u32>(ends: Iv<B>) -> (u128, u128) {
+    let half = half_of_one(B);
+    (ends.lo / half, ends.hi / half)
+}
+
+fn tell<const B: u32>(g: &Grid<B>) -> Option<Told>
+    requires scale_above { 1 ≤ B }
+    requires scale_below { B ≤ 56 }
+{
+    if g.cells() == 0 {
+        return None;
+    }
+    let last = g.cells() - 1;
+    let half = half_of_one(B);
+    Some(Told {
+        cells: g.cells(),
+        first: halves(g.at(0)),
+        last: halves(g.at(last)),
+        all: halves(g.cdf(last)),
+        mass: g.mass_low() / half,
+        spread: g.spread() / half,
+    })
+}
+
+/// What is told by a grid of the ends that the first cells have.
+fn cut<const B: u32>(alloc: Global, g: &Grid<B>, cells: u32) -> Result<Option<Told>, AllocError>
+    requires scale_above { 1 ≤ B }
+    requires scale_below { B ≤ 56 }
+{
+    if cells == 0 || cells > g.cells() {
+        return Ok(None);
+    }
+    let kept = Grid::truncate(alloc, g, cells)?;
+    let lows = Vec::from_slice(alloc, kept.lows())?;
+    let highs = Vec::from_slice(alloc, kept.highs())?;
+    let copy = Grid::<B>::from_ends(lows, highs);
+    Ok(tell(&copy))
+}
+
+fn answer<const B: u32>(alloc: Global, case: &Case) -> Result<Option<Told>, AllocError>
+    requires scale_above { 1 ≤ B }
+    requires scale_below { B ≤ 56 }
+{
+    if case.cells == 0 || case.cells > 16384 {
+        return Ok(None);
+    }
+    let mut g = Grid::<B>::zero(alloc, case.cells)?;
+    let mut good = true;
+    for write in case.writes {
+        good = apply(&mut g, write) && good;
+    }
+    if good {
+        cut(alloc, &g, case.kept)
+    } else {
+        Ok(None)
+    }
+}
+
+/// Whether a case is told as it is wanted, at three scales.
+fn is_told(alloc: Global, case: &Case) -> Result<bool, AllocError> {
+    let want = Some(case.want);
+    Ok(
+        answer::<1>(alloc, case)? == want
+            && answer::<48>(alloc, case)? == want
+            && answer::<56>(alloc, case)? == want,
+    )
+}
+
+const CASES: [Case; 4] = [
+    Case {
+        cells: 4,
+        writes: [NO_WRITE; 2],
+        kept: 4,
+        want: Told {
+            cells: 4,
+            first: (2, 2),
+            last: (0, 0),
+            all: (2, 2),
+            mass: 2,
+            spread: 0,
+        },
+    },
+    // zero on four cells cut to two is zero on two
+    Case {
+        cells: 4,
+        writes: [NO_WRITE; 2],
+        kept: 2,
+        want: Told {
+            cells: 2,
+            first: (2, 2),
+            last: (0, 0),
+            all: (2, 2),
+            mass: 2,
+            spread: 0,
+        },
+    },
+    // the high ends pass 1
+    Case {
+        cells: 4,
+        writes: [
+            Write {
+                x: 0,
+                low: 1,
+                high: 2,
+            },
+            Write {
+                x: 2,
+                low: 0,
+                high: 1,
+            },
+        ],
+        kept: 3,
+        want: Told {
+            cells: 3,
+            first: (1, 2),
+            last: (0, 1),
+            all: (1, 2),
+            mass: 1,
+            spread: 2,
+        },
+    },
+    Case {
+        cells: 1,
+        writes: [
+            Write {
+                x: 0,
+                low: 0,
+                high: 1,
+            },
+            Write {
+                x: 0,
+                low: 1,
+                high: 1,
+            },
+        ],
+        kept: 1,
+        want: Told {
+            cells: 1,
+            first: (1, 1),
+            last: (1, 1),
+            all: (1, 1),
+            mass: 1,
+            spread: 0,
+        },
+    },
+];
+
+#[test]
+fn grids_tell(rt: HostRuntime) {
+    for case in &CASES {
+        assert!(rt; is_so(is_told(rt.alloc(), case)), "{case:?}");
+    }
+}

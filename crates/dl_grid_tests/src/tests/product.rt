@@ -1,0 +1,251 @@
+//! Products of grids, all ways beside the plain convolution.
+
+ghost use Rattle.std.specs.Prelude.{◌≤◌, length};
+
+use crate::tests::helpers::{are_same, empty, is_so, part};
+use dl_conv::convolve_plain;
+use dl_grid::{Grid, units_of_one};
+use dl_iv::Iv;
+use dl_product::{Workspace, product, square};
+use std::alloc::{AllocError, Global};
+
+/// The ends of a cell, as parts of 1.
+#[derive(Clone, Copy, Debug, PartialEq, Eq)]
+enum Ends {
+    /// Both 0.
+    Zero,
+    /// One of so many equal parts, rounded down and up.
+    Part(u32),
+    /// From 0 to 1.
+    Unknown,
+    /// Both 1.
+    Sure,
+}
+
+/// A grid with the same ends at some cells, and 0 elsewhere.
+#[derive(Clone, Copy, Debug, PartialEq, Eq)]
+struct Shape {
+    ends: Ends,
+    start: u32,
+    count: u32,
+}
+
+/// Two grids on so many cells.
+#[derive(Clone, Copy, Debug)]
+struct Case {
+    cells: u32,
+    first: Shape,
+    second: Shape,
+}
+
+fn interval<const B: u32>(ends: Ends) -> Iv<B>
+    requires scale_above { 1 ≤ B }
+    requires scale_below { B ≤ 56 }
+{
+    let one = units_of_one(B);
+    match ends {
+        Ends::Zero => Iv { lo: 0, hi: 0 },
+        Ends::Part(0) => Iv { lo: 0, hi: one },
+        Ends::Part(parts) => part(parts),
+        Ends::Unknown => Iv { lo: 0, hi: one },
+        Ends::Sure => Iv { lo: one, hi: one },
+    }
+}
+
+fn shaped<const B: u32>(
+    alloc: Global,
+    cells: u32,
+    shape: Shape,
+) -> Result<Option<Grid<B>>, AllocError>
+    requires scale_above { 1 ≤ B }
+    requires scale_below { B ≤ 56 }
+{
+    if cells == 0 || cells > 16384 || shape.start > cells || shape.count > cells - shape.start {
+        return Ok(None);
+    }
+    let Some(mut g) = empty::<B>(alloc, cells)? else {
+        return Ok(None);
+    };
+    let mut good = true;
+    for x in shape.start..shape.start + shape.count {
+        good = g.put(x, interval(shape.ends)) && good;
+    }
+    Ok(if good { Some(g) } else { None })
+}
+
+/// Whether the product of two grids has the cells of their plain convolution.
+fn product_agrees<const B: u32>(
+    alloc: Global,
+    work: &mut Workspace,
+    a: &Grid<B>,
+    b: &Grid<B>,
+    cells: u32,
+) -> Result<bool, AllocError>
+    requires some { 1 ≤ cells }
+    requires in_first { cells ≤ length a.now }
+    requires in_second { cells ≤ length b.now }
+{
+    let found = product(alloc, work, a, b, cells)?;
+    let wanted = convolve_plain(alloc, a, b, cells)?;
+    Ok(are_same(&found, &wanted))
+}
+
+/// Whether the square of a grid has them.
+fn square_agrees<const B: u32>(
+    alloc: Global,
+    work: &mut Workspace,
+    a: &Grid<B>,
+    cells: u32,
+) -> Result<bool, AllocError>
+    requires some { 1 ≤ cells }
+    requires inside { cells ≤ length a.now }
+{
+    let found = square(alloc, work, a, cells)?;
+    let wanted = convolve_plain(alloc, a, a, cells)?;
+    Ok(are_same(&found, &wanted))
+}
+
+/// Whether the product has the cells of the plain convolution, and so has the square of the first
+/// grid.
+fn both_agree<const B: u32>(
+    alloc: Global,
+    work: &mut Workspace,
+    a: &Grid<B>,
+    b: &Grid<B>,
+    cells: u32,
+) -> Result<bool, AllocError> {
+    if cells == 0 || cells > a.cells() || cells > b.cells() {
+        return Ok(false);
+    }
+    Ok(product_agrees(alloc, work, a, b, cells)? && square_agrees(alloc, work, a, cells)?)
+}
+
+/// Whether there are two grids, and they are so.
+fn are_so<const B: u32>(
+    alloc: Global,
+    work: &mut Workspace,
+    a: &Option<Grid<B>>,
+    b: &Option<Grid<B>>,
+    cells: u32,
+) -> Result<bool, AllocError> {
+    match (a, b) {
+        (Some(a), Some(b)) => both_agree(alloc, work, a, b, cells),
+        _ => Ok(false),
+    }
+}
+
+/// Whether the grids of a case are so.
+fn agrees<const B: u32>(
+    alloc: Global,
+    work: &mut Workspace,
+    case: &Case,
+) -> Result<bool, AllocError>
+    requires scale_above { 1 ≤ B }
+    requires scale_below { B ≤ 56 }
+{
+    let a = shaped::<B>(alloc, case.cells, case.first)?;
+    let b = shaped::<B>(alloc, case.cells, case.second)?;
+    are_so(alloc, work, &a, &b, case.cells)
+}
+
+fn alike(ends: Ends, start: u32, count: u32) -> Shape {
+    Shape { ends, start, count }
+}
+
+fn pair(cells: u32, first: Shape, second: Shape) -> Case {
+    Case {
+        cells,
+        first,
+        second,
+    }
+}
+
+#[test]
+fn all_ways_give_the_same_cells(rt: HostRuntime) {
+    let cases = [
+        pair(1, alike(Ends::Sure, 0, 1), alike(Ends::Part(3), 0, 1)),
+        pair(1, alike(Ends::Zero, 0, 1), alike(Ends::Unknown, 0, 1)),
+        // both lists short of the grid, the product within it, at its end, and past it
+        pair(40, alike(Ends::Part(7), 3, 7), alike(Ends::Part(9), 5, 9)),
+        pair(20, alike(Ends::Part(7), 3, 7), alike(Ends::Part(9), 5, 9)),
+        pair(16, alike(Ends::Part(2), 8, 2), alike(Ends::Part(8), 8, 8)),
+        // a shift, and nothing at all
+        pair(50, alike(Ends::Sure, 13, 1), alike(Ends::Part(20), 9, 20)),
+        pair(50, alike(Ends::Sure, 0, 1), alike(Ends::Sure, 49, 1)),
+        pair(50, alike(Ends::Zero, 0, 50), alike(Ends::Part(50), 0, 50)),
+        // by transforms: whole lists, one after another in the same room, and a long and a short
+        // one
+        pair(
+            700,
+            alike(Ends::Part(700), 0, 700),
+            alike(Ends::Part(650), 50, 650),
+        ),
+        pair(
+            650,
+            alike(Ends::Unknown, 0, 650),
+            alike(Ends::Part(640), 0, 640),
+        ),
+        pair(
+            1500,
+            alike(Ends::Part(700), 1, 700),
+            alike(Ends::Part(400), 5, 400),
+        ),
+        // too large for transforms
+        pair(
+            2100,
+            alike(Ends::Unknown, 0, 2100),
+            alike(Ends::Unknown, 0, 2100),
+        ),
+    ];
+    let alloc = rt.alloc();
+    let mut work = Workspace::new(alloc);
+    for case in &cases {
+        assert!(rt; is_so(agrees::<56>(alloc, &mut work, case)), "{case:?}");
+        assert!(rt; is_so(agrees::<1>(alloc, &mut work, case)), "{case:?}");
+    }
+}
+
+/// Cells of the sum of two equally likely ones of 700 amounts, worked out by whole numbers of any
+/// size.
+const SUMS: [(u32, u128, u128); 5] = [
+    (0, 147056314363, 147056314364),
+    (1, 294112628726, 294112628727),
+    (349, 51469710027090, 51469710027092),
+    (698, 102792363739818, 102792363739821),
+    (699, 102939420054181, 102939420054184),
+];
+
+/// Whether a grid has these cells.
+fn has_sums(g: &Grid<56>) -> bool {
+    let mut same = true;
+    for (x, low, high) in &SUMS {
+        let i = *x as usize;
+        same = same && g.lows().get(i) == Some(low) && g.highs().get(i) == Some(high);
+    }
+    same
+}
+
+/// Whether the product of a grid of 700 cells with itself and its square have them.
+fn both_have_sums(alloc: Global, work: &mut Workspace, a: &Grid<56>) -> Result<bool, AllocError> {
+    if a.cells() != 700 {
+        return Ok(false);
+    }
+    let twice = product(alloc, work, a, a, 700)?;
+    let squared = square(alloc, work, a, 700)?;
+    Ok(has_sums(&twice) && has_sums(&squared))
+}
+
+/// Whether those of the grid of 700 equal parts have them.
+fn is_told(alloc: Global, work: &mut Workspace) -> Result<bool, AllocError> {
+    match shaped::<56>(alloc, 700, alike(Ends::Part(700), 0, 700))? {
+        Some(a) => both_have_sums(alloc, work, &a),
+        None => Ok(false),
+    }
+}
+
+#[test]
+fn equal_parts(rt: HostRuntime) {
+    let alloc = rt.alloc();
+    let mut work = Workspace::new(alloc);
+    assert!(rt; is_so(is_told(alloc, &mut work)));
+}

@@ -1,0 +1,6 @@
+mod alloc;
+mod cede;
+mod cede_means;
+mod helpers;
+mod measures;
+mod port;

@@ -1,0 +1,285 @@
+//! Quantities of a total.
+
+ghost use Rattle.std.specs.Prelude.{◌≤◌, IsTrue, IfSome};
+ghost use Rattle.dl_exact.specs.Fraction.{whole, ◌<ℚ◌};
+
+use crate::tests::helpers::{DICE, grid, is_near};
+use dl_frac::Frac;
+use dl_iv::Iv;
+use dl_measures::{layer_mean, quantile, tail_mean};
+use std::alloc::{AllocError, Global};
+
+/// How many parts of 216 each total from 0 to 6 has. The mean is 19/6.
+const PARTS: [u8; 7] = [6, 24, 42, 54, 48, 30, 12];
+
+/// The bracket at a probability on so many cells, at the scales 1, 48 and 56: worked out from the
+/// parts by exact fractions.
+#[derive(Clone, Copy)]
+struct Reached {
+    cells: u32,
+    p: (u32, u32),
+    want: [(u32, Option<u32>); 3],
+}
+
+/// A layer, and its mean by exact fractions.
+#[derive(Clone, Copy)]
+struct Covered {
+    limit: Option<u32>,
+    attach: u32,
+    want: (u32, u32),
+}
+
+/// A tail mean of the total, or of the sum of two dice on 16 cells, by exact fractions; none where
+/// the grid ends before the quantile.
+#[derive(Clone, Copy)]
+struct Beyond {
+    dice: bool,
+    cells: u32,
+    p: (u32, u32),
+    want: Option<(u32, u32)>,
+}
+
+const BRACKETS: [Reached; 10] = [
+    Reached {
+        cells: 7,
+        p: (0, 1),
+        want: [(0, Some(0)), (0, Some(0)), (0, Some(0))],
+    },
+    Reached {
+        cells: 7,
+        p: (1, 36),
+        want: [(0, None), (0, Some(1)), (0, Some(1))],
+    },
+    Reached {
+        cells: 7,
+        p: (5, 12),
+        want: [(0, None), (3, Some(3)), (3, Some(3))],
+    },
+    Reached {
+        cells: 7,
+        p: (9, 10),
+        want: [(1, None), (5, Some(5)), (5, Some(5))],
+    },
+    Reached {
+        cells: 7,
+        p: (17, 18),
+        want: [(1, None), (5, Some(6)), (5, Some(6))],
+    },
+    Reached {
+        cells: 7,
+        p: (999999999, 1000000000),
+        want: [(1, None), (6, Some(6)), (6, Some(6))],
+    },
+    Reached {
+        cells: 4,
+        p: (7, 12),
+        want: [(1, None), (3, None), (3, None)],
+    },
+    Reached {
+        cells: 4,
+        p: (9, 10),
+        want: [(1, None), (4, None), (4, None)],
+    },
+    Reached {
+        cells: 1,
+        p: (1, 100),
+        want: [(0, None), (0, Some(0)), (0, Some(0))],
+    },
+    Reached {
+        cells: 1,
+        p: (1, 2),
+        want: [(0, None), (1, None), (1, None)],
+    },
+];
+
+const LAYERS: [Covered; 7] = [
+    Covered {
+        limit: Some(3),
+        attach: 1,
+        want: (35, 18),
+    },
+    Covered {
+        limit: Some(7),
+        attach: 0,
+        want: (19, 6),
+    },
+    Covered {
+        limit: Some(0),
+        attach: 2,
+        want: (0, 1),
+    },
+    Covered {
+        limit: Some(2),
+        attach: 5,
+        want: (1, 18),
+    },
+    Covered {
+        limit: None,
+        attach: 0,
+        want: (19, 6),
+    },
+    Covered {
+        limit: None,
+        attach: 4,
+        want: (1, 4),
+    },
+    Covered {
+        limit: None,
+        attach: 7,
+        want: (0, 1),
+    },
+];
+
+const TAILS: [Beyond; 6] = [
+    Beyond {
+        dice: true,
+        cells: 16,
+        p: (9, 10),
+        want: Some((100, 9)),
+    },
+    Beyond {
+        dice: false,
+        cells: 7,
+        p: (0, 1),
+        want: Some((19, 6)),
+    },
+    Beyond {
+        dice: false,
+        cells: 7,
+        p: (5, 12),
+        want: Some((29, 7)),
+    },
+    Beyond {
+        dice: false,
+        cells: 7,
+        p: (9, 10),
+        want: Some((50, 9)),
+    },
+    Beyond {
+        dice: false,
+        cells: 4,
+        p: (1, 2),
+        want: Some((13, 3)),
+    },
+    Beyond {
+        dice: false,
+        cells: 4,
+        p: (9, 10),
+        want: None,
+    },
+];
+
+fn is_below_one(p: Frac) -> bool
+    ensures { IsTrue result → p <ℚ whole 1 }
+{
+    p.num() < p.den()
+}
+
+/// The fraction, where it is a probability that may be asked for.
+fn level(p: (u32, u32)) -> Option<Frac>
+    ensures below_one { IfSome result (λ p. p <ℚ whole 1) }
+    ensures small { IfSome result (λ p. p.den ≤ 1000000000) }
+{
+    if p.1 == 0 {
+        return None;
+    }
+    let Ok(p) = Frac::make(u128::from(p.0), u128::from(p.1)) else {
+        return None;
+    };
+    if is_below_one(p) && p.den() <= 1_000_000_000 {
+        Some(p)
+    } else {
+        None
+    }
+}
+
+/// Whether the bracket at one scale is as it should be.
+fn is_reached<const B: u32>(
+    alloc: Global,
+    case: &Reached,
+    want: (u32, Option<u32>),
+) -> Result<bool, AllocError>
+    requires scale_above { 1 ≤ B }
+    requires scale_below { B ≤ 56 }
+{
+    let g = grid::<B>(alloc, &PARTS, 216, 1, case.cells.clamp(1, 7))?;
+    let Some(p) = level(case.p) else {
+        return Ok(false);
+    };
+    let bracket = quantile(&g, p);
+    Ok(bracket.lo == want.0 && bracket.hi == want.1)
+}
+
+/// Whether the mean of the layer holds its value, and is narrow.
+fn holds<const B: u32>(alloc: Global, case: &Covered) -> Result<bool, AllocError>
+    requires scale_above { 1 ≤ B }
+    requires scale_below { B ≤ 56 }
+{
+    let g = grid::<B>(alloc, &PARTS, 216, 1, 7)?;
+    let limit = case.limit.map(|limit| limit.min(7));
+    let attach = case.attach.min(7);
+    if attach + limit.unwrap_or(0) > g.cells() {
+        return Ok(false);
+    }
+    let mean = layer_mean(&g, limit, attach, Iv::enclose(19, 6));
+    Ok(is_near(mean, case.want, 64))
+}
+
+/// Whether the tail mean holds its value, and is narrow, or there is none, as is wanted.
+fn holds_tail<const B: u32>(alloc: Global, case: &Beyond) -> Result<bool, AllocError>
+    requires scale_above { 1 ≤ B }
+    requires scale_below { B ≤ 56 }
+{
+    let g = if case.dice {
+        grid::<B>(alloc, &DICE, 36, 1, 16)?
+    } else {
+        grid::<B>(alloc, &PARTS, 216, 1, case.cells.clamp(1, 7))?
+    };
+    let mean = if case.dice {
+        Iv::enclose(7, 1)
+    } else {
+        Iv::enclose(19, 6)
+    };
+    let Some(p) = level(case.p) else {
+        return Ok(false);
+    };
+    if mean.hi > 1 << 97 {
+        return Ok(false);
+    }
+    Ok(match (tail_mean(&g, p, mean), case.want) {
+        (Some(mean), Some(want)) => is_near(mean, want, 2048),
+        (None, None) => true,
+        _ => false,
+    })
+}
+
+#[test]
+fn brackets(rt: HostRuntime) -> Result<(), AllocError> {
+    for (i, case) in BRACKETS.iter().enumerate() {
+        let alloc = rt.alloc();
+        assert!(rt; is_reached::<1>(alloc, case, case.want[0])?, "{i}");
+        assert!(rt; is_reached::<48>(alloc, case, case.want[1])?, "{i}");
+        assert!(rt; is_reached::<56>(alloc, case, case.want[2])?, "{i}");
+    }
+    Ok(())
+}
+
+#[test]
+fn layers(rt: HostRuntime) -> Result<(), AllocError> {
+    for (i, case) in LAYERS.iter().enumerate() {
+        let alloc = rt.alloc();
+        assert!(rt; holds::<48>(alloc, case)?, "{i}");
+        assert!(rt; holds::<56>(alloc, case)?, "{i}");
+    }
+    Ok(())
+}
+
+#[test]
+fn tails(rt: HostRuntime) -> Result<(), AllocError> {
+    for (i, case) in TAILS.iter().enumerate() {
+        let alloc = rt.alloc();
+        assert!(rt; holds_tail::<48>(alloc, case)?, "{i}");
+        assert!(rt; holds_tail::<56>(alloc, case)?, "{i}");
+    }
+    Ok(())
+}

@@ -1,0 +1,167 @@
+//! Totals of three units, and of all but one.
+
+ghost use Rattle.std.specs.Prelude.{◌≡◌, ◌≤◌, length, All, IfOk};
+
+use crate::tests::helpers::{are_near, grid};
+use dl_grid::Grid;
+use dl_port::{others, sums_of_one, total, total_and_others};
+use dl_product::Workspace;
+use std::alloc::{AllocError, Global};
+
+/// The cells of each grid: the greatest total is 6.
+const CELLS: u32 = 7;
+
+/// Three units: how many sixths each outcome from 0 to 3 has.
+const UNITS: [[u8; 4]; 3] = [[2, 4, 0, 0], [3, 0, 3, 0], [1, 2, 2, 1]];
+
+/// Whether all units are like the first, how many of them are taken, the one that is left out of
+/// the sum, and the probability of each total from 0 to 6, in parts of 216, worked out by exact
+/// fractions.
+#[derive(Clone, Copy)]
+struct Case {
+    alike: bool,
+    taken: usize,
+    without: Option<u32>,
+    want: [u8; 7],
+}
+
+const CASES: [Case; 8] = [
+    Case {
+        alike: false,
+        taken: 3,
+        without: None,
+        want: [6, 24, 42, 54, 48, 30, 12],
+    },
+    Case {
+        alike: false,
+        taken: 3,
+        without: Some(0),
+        want: [18, 36, 54, 54, 36, 18, 0],
+    },
+    Case {
+        alike: false,
+        taken: 3,
+        without: Some(1),
+        want: [12, 48, 72, 60, 24, 0, 0],
+    },
+    Case {
+        alike: false,
+        taken: 3,
+        without: Some(2),
+        want: [36, 72, 36, 72, 0, 0, 0],
+    },
+    Case {
+        alike: false,
+        taken: 1,
+        without: None,
+        want: [72, 144, 0, 0, 0, 0, 0],
+    },
+    Case {
+        alike: false,
+        taken: 1,
+        without: Some(0),
+        want: [216, 0, 0, 0, 0, 0, 0],
+    },
+    Case {
+        alike: true,
+        taken: 3,
+        without: None,
+        want: [8, 48, 96, 64, 0, 0, 0],
+    },
+    Case {
+        alike: true,
+        taken: 3,
+        without: Some(1),
+        want: [24, 96, 96, 0, 0, 0, 0],
+    },
+];
+
+/// A unit, each outcome enclosed on its own.
+fn unit<const B: u32>(alloc: Global, sixths: &[u8; 4]) -> Result<Grid<B>, AllocError>
+    requires scale_above { 1 ≤ B }
+    requires scale_below { B ≤ 56 }
+    ensures { IfOk result (λ g. length g ≡ 7) }
+{
+    grid(alloc, sixths, 6, 1, CELLS)
+}
+
+/// Whether each cell holds its probability, and is narrow.
+fn holds<const B: u32>(g: &Grid<B>, want: &[u8; 7]) -> bool
+    requires scale_below { B ≤ 56 }
+{
+    g.cells() == CELLS && are_near(g, want, 216, 60)
+}
+
+/// Whether the same sum holds where it comes with all others, or none.
+fn holds_shared<const B: u32>(
+    alloc: Global,
+    units: &[Grid<B>],
+    case: &Case,
+) -> Result<bool, AllocError>
+    requires scale_below { B ≤ 56 }
+    requires some { 1 ≤ length units.now }
+    requires few { length units.now ≤ 3 }
+    requires in_each { All (λ g. 7 ≤ length g) units.now }
+{
+    let asked = [case.without.is_some(); 3];
+    let sums = total_and_others(
+        alloc,
+        &mut Workspace::new(alloc),
+        units,
+        &asked[..units.len()],
+        CELLS,
+    )?;
+    let others = sums.others.as_slice();
+    let Some(i) = case.without else {
+        return Ok(holds(&sums.total, &case.want) && others.iter().all(|sum| sum.is_none()));
+    };
+    Ok(match others.get(i as usize) {
+        Some(Some(sum)) => holds(sum, &case.want),
+        _ => false,
+    })
+}
+
+/// Whether the sum of the first unit alone is that unit's grid, and no other is there.
+fn holds_alone<const B: u32>(alloc: Global) -> Result<bool, AllocError>
+    requires scale_above { 1 ≤ B }
+    requires scale_below { B ≤ 56 }
+{
+    let sums = sums_of_one(alloc, unit::<B>(alloc, &UNITS[0])?)?;
+    let none = sums.others.as_slice().iter().all(|sum| sum.is_none());
+    Ok(holds(&sums.total, &[72, 144, 0, 0, 0, 0, 0]) && none && sums.others.len() == 1)
+}
+
+fn answer<const B: u32>(alloc: Global, case: &Case) -> Result<bool, AllocError>
+    requires scale_above { 1 ≤ B }
+    requires scale_below { B ≤ 56 }
+{
+    let units = [
+        unit::<B>(alloc, &UNITS[0])?,
+        unit::<B>(alloc, if case.alike { &UNITS[0] } else { &UNITS[1] })?,
+        unit::<B>(alloc, if case.alike { &UNITS[0] } else { &UNITS[2] })?,
+    ];
+    let taken = &units[..case.taken.clamp(1, 3)];
+    let sum = match case.without {
+        Some(i) if (i as usize) < taken.len() => others(alloc, taken, i, CELLS)?,
+        _ => total(alloc, taken, CELLS)?,
+    };
+    Ok(holds(&sum, &case.want) && holds_shared(alloc, taken, case)?)
+}
+
+#[test]
+fn sums_of_units(rt: HostRuntime) -> Result<(), AllocError> {
+    for (i, case) in CASES.iter().enumerate() {
+        let alloc = rt.alloc();
+        assert!(rt; answer::<48>(alloc, case)?, "{i}");
+        assert!(rt; answer::<56>(alloc, case)?, "{i}");
+    }
+    Ok(())
+}
+
+#[test]
+fn one_unit_alone(rt: HostRuntime) -> Result<(), AllocError> {
+    let alloc = rt.alloc();
+    assert!(rt; holds_alone::<48>(alloc)?);
+    assert!(rt; holds_alone::<56>(alloc)?);
+    Ok(())
+}

@@ -1,0 +1,4 @@
+mod helpers;
+mod plan;
+mod sev;
+mod types;

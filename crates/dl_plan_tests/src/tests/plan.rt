@@ -1,0 +1,263 @@
+//! Plans: clauses, horizons, severities and means, in exact fractions.
+
+use crate::tests::helpers::{Layer, clause, shows};
+use dl_frac::Frac;
+use dl_lexer::Text;
+use dl_plan::{Cede, Freq, Item, Sev, Unit, greatest_amount, in_layer};
+use std::alloc::{AllocError, Global};
+
+/// What the clause keeps of `x`; none also where it is no clause.
+fn kept(cede: &Cede, x: u64) -> Option<u64> {
+    if x < 1 << 40 && cede.is_clause() {
+        cede.at(x)
+    } else {
+        None
+    }
+}
+
+/// A unit of one claim of one bucket.
+fn unit_under(alloc: Global, cede: Option<Cede>) -> Result<Unit, AllocError> {
+    let items = Vec::from_array(
+        alloc,
+        [Item {
+            amount: 1,
+            weight: 1,
+        }],
+    )?;
+    Ok(Unit {
+        name: Text::from_vec(Vec::new(alloc)),
+        sev: Sev::from_rising(items),
+        freq: Freq::Fixed(1),
+        cede,
+    })
+}
+
+/// The unit's horizon; none also where its clause is none.
+fn horizon_of(unit: &Unit, cells: u32) -> Option<u32> {
+    if let Some(cede) = &unit.cede {
+        if !cede.is_clause() {
+            return None;
+        }
+    }
+    unit.horizon(cells)
+}
+
+#[test]
+fn one_layer(rt: HostRuntime) {
+    // below it, at its start, inside, at its top, above it; no limit
+    let table = [
+        (3, Some(3), 4, 0),
+        (4, Some(3), 4, 0),
+        (5, Some(3), 4, 1),
+        (7, Some(3), 4, 3),
+        (8, Some(3), 4, 3),
+        (10, None, 4, 6),
+        (1 << 40, None, u32::MAX, 1_095_216_660_481),
+    ];
+    for (x, limit, attach, wanted) in table {
+        assert_eq!(rt; in_layer(x, limit, attach), wanted);
+    }
+}
+
+fn of(amount: u32) -> Item {
+    Item { amount, weight: 1 }
+}
+
+#[test]
+fn greatest_of_items(rt: HostRuntime) {
+    assert_eq!(rt; greatest_amount(&[]), 0);
+    assert_eq!(rt; greatest_amount(&[of(3), of(7), of(5)]), 7);
+}
+
+/// A half of 4 above 2.
+const HALF: Layer = Layer(1, 2, Some(4), 2);
+
+/// A third of all.
+const THIRD: Layer = Layer(1, 3, None, 0);
+
+/// All above 10.
+const UPPER: Layer = Layer(1, 1, None, 10);
+
+/// A clause by its side and its layers, an amount or a number of cells, and what is wanted for it.
+type Row<A, B> = (bool, Layer, Option<Layer>, A, Option<B>);
+
+/// What clauses keep of an amount.
+const KEPT: [Row<u64, u64>; 15] = [
+    // a layer not reached, half used up, used up; an odd amount of half buckets
+    (true, HALF, None, 2, Some(2)),
+    (true, HALF, None, 4, Some(3)),
+    (true, HALF, None, 10, Some(8)),
+    (true, HALF, None, 3, None),
+    // the other side, and no limit
+    (false, HALF, None, 10, Some(2)),
+    (false, THIRD, None, 48, Some(16)),
+    (false, THIRD, None, 49, None),
+    // two layers: 2 of the first, 3 of the second
+    (false, HALF, Some(UPPER), 13, Some(5)),
+    (true, HALF, Some(UPPER), 13, Some(8)),
+    // layers that overlap in one bucket, and layers that meet
+    (false, HALF, Some(Layer(1, 1, Some(1), 5)), 8, None),
+    (false, HALF, Some(Layer(1, 1, Some(1), 6)), 8, Some(3)),
+    // a share of 1, and one above
+    (true, Layer(1, 1, Some(5), 5), None, 7, Some(5)),
+    (true, Layer(4, 3, Some(6), 5), None, 11, None),
+    // a common denominator of 2^30, and above
+    (false, Layer(1, 1 << 30, None, 0), None, 1 << 30, Some(1)),
+    (false, Layer(1, (1 << 30) + 1, None, 0), None, 0, None),
+];
+
+/// The horizons of clauses on a grid of so many cells.
+const HORIZONS: [Row<u32, u32>; 16] = [
+    // the edge 6, at which 4 is kept; past it s - 2
+    (true, HALF, None, 1, Some(6)),
+    (true, HALF, None, 4, Some(6)),
+    (true, HALF, None, 5, Some(7)),
+    (true, HALF, None, 16, Some(18)),
+    (true, HALF, None, 16_382, Some(16_384)),
+    (true, HALF, None, 16_383, None),
+    // 30 at the edge 50, past it s - 20
+    (true, Layer(1, 1, Some(20), 30), None, 1_024, Some(1_044)),
+    // constant from the edge on
+    (false, HALF, None, 16, Some(6)),
+    (true, Layer(1, 1, None, 7), None, 16, Some(7)),
+    // nothing is kept, from the start
+    (true, Layer(1, 1, None, 0), None, 16, Some(1)),
+    // a third of s
+    (false, THIRD, None, 16, Some(48)),
+    (false, THIRD, None, 5_461, Some(16_383)),
+    (false, THIRD, None, 5_462, None),
+    // two layers: 2 at the edge 10, past it s - 8
+    (false, HALF, Some(UPPER), 16, Some(24)),
+    // an edge at 16,384, and past it
+    (false, Layer(1, 1, Some(1), 16_383), None, 16, Some(16_384)),
+    (false, Layer(1, 1, Some(1), 16_384), None, 16, None),
+];
+
+/// What a clause keeps of an amount.
+fn kept_by(
+    alloc: Global,
+    net: bool,
+    first: Layer,
+    second: Option<Layer>,
+    x: u64,
+) -> Result<Option<u64>, AllocError> {
+    let cede = clause(alloc, net, first, second)?;
+    Ok(kept(&cede, x))
+}
+
+#[test]
+fn what_clauses_keep(rt: HostRuntime) -> Result<(), AllocError> {
+    for &(net, first, second, x, wanted) in &KEPT {
+        assert_eq!(rt; kept_by(rt.alloc(), net, first, second, x)?, wanted);
+    }
+    Ok(())
+}
+
+/// The horizon of a unit with a clause.
+fn horizon_under(
+    alloc: Global,
+    net: bool,
+    first: Layer,
+    second: Option<Layer>,
+    cells: u32,
+) -> Result<Option<u32>, AllocError> {
+    let cede = clause(alloc, net, first, second)?;
+    let unit = unit_under(alloc, Some(cede))?;
+    Ok(horizon_of(&unit, cells))
+}
+
+#[test]
+fn horizons(rt: HostRuntime) -> Result<(), AllocError> {
+    for &(net, first, second, cells, wanted) in &HORIZONS {
+        assert_eq!(rt;
+            horizon_under(rt.alloc(), net, first, second, cells)?,
+            wanted
+        );
+    }
+    Ok(())
+}
+
+#[test]
+fn horizon_of_no_clause(rt: HostRuntime) -> Result<(), AllocError> {
+    let plain = unit_under(rt.alloc(), None)?;
+    assert_eq!(rt; horizon_of(&plain, 16_384), Some(16_384));
+    assert_eq!(rt; horizon_of(&plain, 16_385), None);
+    Ok(())
+}
+
+/// Amounts 0, 1 and 4 with probabilities 1/4, 1/4 and 1/2.
+fn some_claims(alloc: Global) -> Result<Sev, AllocError> {
+    let items = [
+        Item {
+            amount: 0,
+            weight: 3,
+        },
+        Item {
+            amount: 1,
+            weight: 3,
+        },
+        Item {
+            amount: 4,
+            weight: 6,
+        },
+    ];
+    Ok(Sev::from_rising(Vec::from_array(alloc, items)?))
+}
+
+#[test]
+fn above_zero(rt: HostRuntime) -> Result<(), AllocError> {
+    let alloc = rt.alloc();
+    let claims = some_claims(alloc)?;
+    assert!(rt; shows(&claims, &[(0, 1), (1, 1), (4, 2)], 4));
+    let positive = claims.positive(alloc)?;
+    assert!(rt; positive.is_some_and(|sev| shows(&sev, &[(1, 1), (4, 2)], 3)));
+    let none = Sev::from_rising(Vec::from_array(
+        alloc,
+        [Item {
+            amount: 0,
+            weight: 5,
+        }],
+    )?);
+    assert!(rt; none.positive(alloc)?.is_none());
+    Ok(())
+}
+
+/// The thinned mean and the mean of claims of a Poisson count of small mean, each as two numbers.
+fn means_of(alloc: Global, sev: Sev, num: u32, den: u32) -> Option<((u64, u64), (u128, u128))> {
+    if den == 0
+        || !sev
+            .items
+            .as_slice()
+            .iter()
+            .all(|item| item.amount <= 1 << 20)
+    {
+        return None;
+    }
+    let mean = Frac::make(num as u128, den as u128).ok()?;
+    if mean.num() >= 1 << 17 || mean.den() >= 1 << 17 {
+        return None;
+    }
+    let unit = Unit {
+        name: Text::from_vec(Vec::new(alloc)),
+        sev,
+        freq: Freq::Poisson(mean),
+        cede: None,
+    };
+    let thinned = unit.thinned();
+    Some(((thinned.num(), thinned.den()), unit.mean_parts()))
+}
+
+#[test]
+fn means(rt: HostRuntime) -> Result<(), AllocError> {
+    let alloc = rt.alloc();
+    // 4/3 claims: 1 of them above 0; the mean is 4/3 of 9/4
+    assert_eq!(rt;
+        means_of(alloc, some_claims(alloc)?, 4, 3),
+        Some(((1, 1), (36, 12)))
+    );
+    assert_eq!(rt;
+        means_of(alloc, some_claims(alloc)?, 0, 1),
+        Some(((0, 1), (0, 4)))
+    );
+    Ok(())
+}

@@ -1,0 +1,218 @@
+//! Each rule once broken, with its unit and where its place begins, worked by hand; and the numbers
+//! and the names of rules.
+
+ghost use Rattle.std.specs.Prelude.{IfSome};
+ghost use Rattle.dl_ast.specs.WellFormed.{IsWellFormed};
+ghost use Rattle.dl_types.specs.Kept.{IsSet};
+
+use dl_ast::Program;
+use dl_frac::Frac;
+use dl_lexer::lex;
+use dl_parser::parse;
+use dl_plan::{Form, Format, Items, Settings};
+use dl_types::{CheckFault, Rule, check};
+use std::alloc::Global;
+
+/// A text, and the unit, the rule and the first byte of the place that it should be refused for;
+/// none where it breaks no rule.
+type Case = (&'static [u8], Option<(u32, Rule, u32)>);
+
+const CASES: [Case; 34] = [
+    (
+        b"port P agg A 1 claims dsev [1] fixed agg A 1 claims dsev [1] fixed",
+        Some((1, Rule::DuplicateName, 41)),
+    ),
+    (
+        b"agg A 123456789012 claims dsev [1] fixed",
+        Some((0, Rule::BadNumeral, 6)),
+    ),
+    (
+        b"agg A 1 claims dsev [1 2] [.5 1/0] fixed",
+        Some((0, Rule::BadNumeral, 30)),
+    ),
+    (
+        b"agg A 1 claims dsev [1 3:2] fixed",
+        Some((0, Rule::BadRange, 23)),
+    ),
+    (
+        b"agg A 1 claims dsev [1 1:9:0] fixed",
+        Some((0, Rule::BadRange, 23)),
+    ),
+    (
+        b"agg A 1 claims dsev [1:1025] fixed",
+        Some((0, Rule::ListTooLong, 20)),
+    ),
+    (
+        b"agg A 1 claims dsev [1 2] [1] fixed",
+        Some((0, Rule::LengthsDiffer, 26)),
+    ),
+    (
+        b"agg A 1 claims dsev [1 2] [.5 .4] fixed",
+        Some((0, Rule::NotOne, 26)),
+    ),
+    (
+        b"agg A 1 claims 1.5 xs 0 dsev [1] fixed",
+        Some((0, Rule::OffGrid, 15)),
+    ),
+    (
+        b"agg A 1 claims dsev [1 1.5] fixed",
+        Some((0, Rule::OffGrid, 23)),
+    ),
+    (
+        b"agg A 1 claims dsev [1048577] fixed",
+        Some((0, Rule::TooFar, 21)),
+    ),
+    (
+        b"agg A 1 claims dsev [1] dsev [2] wts [1] fixed",
+        Some((0, Rule::WeightsDiffer, 37)),
+    ),
+    (
+        b"agg A 1 claims inf xs 6 dsev [1:6] fixed",
+        Some((0, Rule::NoneAbove, 15)),
+    ),
+    (
+        b"agg A 1 claims dsev [1] occurrence net of 3 xs 2 and 4 xs 4 fixed",
+        Some((0, Rule::Overlap, 53)),
+    ),
+    (
+        b"agg A 1 claims dsev [1] occurrence net of 1.5 so 4 xs 2 fixed",
+        Some((0, Rule::ShareAboveOne, 42)),
+    ),
+    (
+        b"agg A 1 claims dsev [3] occurrence net of .5 so 4 xs 2 fixed",
+        Some((0, Rule::OffGridCession, 24)),
+    ),
+    (
+        b"agg A 1 claims dsev [1] fixed aggregate net of .5 so inf xs 0",
+        Some((0, Rule::OffGridCession, 30)),
+    ),
+    (
+        b"agg A 10 loss dsev [0] fixed",
+        Some((0, Rule::ZeroMean, 6)),
+    ),
+    (
+        b"agg A 10 loss dsev [4] fixed",
+        Some((0, Rule::CountNotWhole, 6)),
+    ),
+    (
+        b"agg A dfreq [1 1.5] dsev [1]",
+        Some((0, Rule::CountNotWhole, 12)),
+    ),
+    (
+        b"agg A 2 claims dsev [1] bernoulli",
+        Some((0, Rule::CountAboveOne, 6)),
+    ),
+    (
+        b"agg A 1 claims dsev [1] binomial .3",
+        Some((0, Rule::TrialsNotWhole, 24)),
+    ),
+    (
+        b"agg A 1 claims dsev [1] mixed gamma .3",
+        Some((0, Rule::ShapeNotWhole, 24)),
+    ),
+    (
+        b"agg A 1 claims dsev [1 2] [1/1073741827 .5] fixed",
+        Some((0, Rule::TooFine, 4)),
+    ),
+    (
+        b"agg A 65537 claims dsev [1] fixed",
+        Some((0, Rule::TooManyClaims, 4)),
+    ),
+    (
+        b"agg A 8193 claims dsev [0 1] poisson",
+        Some((0, Rule::TooManyClaims, 4)),
+    ),
+    (
+        b"agg A 1 claims dsev [1] fixed aggregate net of 1 xs 16384",
+        Some((0, Rule::HorizonTooLarge, 30)),
+    ),
+    (
+        b"port P agg A 1 claims dsev [1] fixed agg B 1 claims dsev [1] fixed agg C 1 \
+          claims dsev [1] fixed agg D 1 claims dsev [1] fixed agg E 1 claims dsev [1] \
+          fixed agg F 1 claims dsev [1] fixed agg G 1 claims dsev [1] fixed agg H 1 claims \
+          dsev [1] fixed agg I 1 claims dsev [1] fixed agg J 1 claims dsev [1] fixed agg K \
+          1 claims dsev [1] fixed agg L 1 claims dsev [1] fixed agg M 1 claims dsev [1] \
+          fixed agg N 1 claims dsev [1] fixed agg O 1 claims dsev [1] fixed agg P 1 claims \
+          dsev [1] fixed agg Q 1 claims dsev [1] fixed",
+        Some((16, Rule::TooManyUnits, 491)),
+    ),
+    (b"agg A 1 claims inf xs 6 dsev [1:6] ! fixed", None),
+    (b"agg A 10 premium at .5 lr dsev [2 3] fixed", None),
+    (b"agg A 8192 claims dsev [0 1] poisson", None),
+    (
+        b"agg A 1 claims dsev [2] fixed aggregate net of .5 so inf xs 0",
+        None,
+    ),
+    (
+        b"agg A 1 claims dsev [1] fixed aggregate net of 1 xs 16383",
+        None,
+    ),
+    (b"agg A 4 claims dsev [1] mixed gamma .5", None),
+];
+
+/// Buckets of size 1, and a grid of 16 cells.
+fn settings(alloc: Global) -> Settings
+    ensures { IsSet result }
+{
+    Settings {
+        form: Form::Run,
+        make: None,
+        bs: Frac::whole(1),
+        log2: 4,
+        digits: 6,
+        width: 10,
+        mwidth: 1_000_000,
+        format: Format::Plain,
+        asks: Items::from_vec(Vec::new(alloc)),
+    }
+}
+
+/// The program of a text, where it is one.
+fn program_of(alloc: Global, text: &[u8]) -> Option<Program>
+    ensures { IfSome result IsWellFormed }
+{
+    if text.len() > 1_048_576 {
+        return None;
+    }
+    let tokens = lex(alloc, text).ok()?;
+    parse(alloc, text, &tokens).ok()
+}
+
+/// What a text is refused for, if it is; nothing where it is no program.
+fn first_fault(alloc: Global, text: &[u8]) -> Option<Option<(u32, Rule, u32)>> {
+    let program = program_of(alloc, text)?;
+    fault_in(alloc, &program)
+}
+
+/// What a program is refused for, if it is.
+fn fault_in(alloc: Global, program: &Program) -> Option<Option<(u32, Rule, u32)>>
+    requires { IsWellFormed program.now }
+{
+    match check(alloc, program, &settings(alloc)) {
+        Ok(_) => Some(None),
+        Err(CheckFault::Typing(fault)) => Some(Some((fault.unit, fault.rule, fault.span.start))),
+        Err(CheckFault::OutOfMemory) => None,
+    }
+}
+
+#[test]
+fn rules(rt: HostRuntime) {
+    for (text, want) in &CASES {
+        let got = first_fault(rt.alloc(), text);
+        assert_eq!(rt; got, Some(*want));
+    }
+}
+
+#[test]
+fn numbers(rt: HostRuntime) {
+    assert_eq!(rt; Rule::DuplicateName.number(), 1);
+    assert_eq!(rt; Rule::NotOne.number(), 6);
+    assert_eq!(rt; Rule::TooManyUnits.number(), 22);
+}
+
+#[test]
+fn names(rt: HostRuntime) {
+    assert_eq!(rt; Rule::DuplicateName.name(), "DuplicateName");
+    assert_eq!(rt; Rule::NotOne.name(), "NotOne");
+    assert_eq!(rt; Rule::TooManyUnits.name(), "TooManyUnits");
+}

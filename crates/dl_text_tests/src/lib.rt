@@ -1,0 +1,6 @@
+//! The tests of the crates between bytes and syntax, of the words of the command line and of
+//! reports, on values worked by hand.
+#![tactic(auto)]
+
+#[cfg(test)]
+mod tests;

@@ -1,0 +1,9 @@
+mod ast;
+mod endless;
+mod helpers;
+mod lexer;
+mod outside;
+mod parser;
+mod printer;
+mod report;
+mod words;

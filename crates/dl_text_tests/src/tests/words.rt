@@ -1,0 +1,311 @@
+//! Words and what they say, worked by hand from the table of the words.
+
+use dl_plan::{Ask, Form, Format, Settings};
+use dl_words::{UsageFault, WordsFault, read_words};
+use std::alloc::{AllocError, Global};
+use std::test::Fail;
+
+/// Words that do not fit the command.
+const MISFITS: [&str; 63] = [
+    "",
+    "run",
+    "mean",
+    "RUN mean",
+    "help",
+    "--help",
+    "-h",
+    "run mean --help",
+    "run mean -h",
+    "run mean --version",
+    "run -",
+    "run mean -",
+    "run mean -x",
+    "run -- -h",
+    "run -- -",
+    "run mean -- --log2 4",
+    "run mean --log2",
+    "run mean --log2=",
+    "run mean --log2 --",
+    "run mean --log2 -4",
+    "run mean --log2=-4",
+    "run mean --log2 +4",
+    "run mean --log2 4.0",
+    "run mean --log2 0",
+    "run mean --log2 13",
+    "run mean --log2 0000000000000004",
+    "run mean --log2 4 --log2=4",
+    "run mean --log2=4 --log2 5",
+    "run mean --log 4",
+    "run mean -log2 4",
+    "run mean --nothing 4",
+    "run mean --digits 0",
+    "run mean --digits 10",
+    "run mean --width 0",
+    "run mean --width 1000000001",
+    "run mean --mwidth 0",
+    "run mean --mwidth 1000000000001",
+    "run mean --make",
+    "run mean --make -1",
+    "run mean --make 4294967296",
+    "run mean --bs 0",
+    "run mean --bs 0/5",
+    "run mean --bs 5/0",
+    "run mean --bs -1",
+    "run mean --bs 1e3",
+    "run mean --bs one",
+    "run mean --bs 123456789012",
+    "run mean --bs 1234567890.1%",
+    "run mean --format",
+    "run mean --format TEXT",
+    "run mean --format xml",
+    "run pmf --log2 13",
+    "fmt mean",
+    "fmt -- mean",
+    "fmt --bs 1",
+    "fmt --log2 10",
+    "fmt --digits 6",
+    "fmt --width 10",
+    "fmt --mwidth 10",
+    "fmt --format text",
+    "fmt --make 1 --make 1",
+    "--make 7",
+    "-- -",
+];
+
+/// Texts that are not asks.
+const NO_ASKS: [&str; 42] = [
+    "",
+    "Mean",
+    "mean:",
+    "mean:1",
+    "median",
+    "pmf",
+    "pmf:",
+    "pmf:x",
+    "pmf:+1",
+    "pmf:1.0",
+    "pmf:1:2",
+    "pmf:0123456789",
+    "cdf:0000000000",
+    "PMF:1",
+    ":1",
+    "q",
+    "q:",
+    "q:1",
+    "q:1.0",
+    "q:2",
+    "q:100%",
+    "q:5/5",
+    "q:1/0",
+    "q:0.123456789",
+    "q:12.345678%",
+    "q:1/1234567890",
+    "q:1e-1",
+    "tail:1",
+    "tail:",
+    "layer:",
+    "layer:5",
+    "layer:5xs",
+    "layer:xs5",
+    "layer:5x5",
+    "layer:5xs5xs5",
+    "layer:infxsinf",
+    "layer:INFxs5",
+    "layer:1234567890xs5",
+    "joint:A",
+    "joint::1",
+    "joint:1A:1",
+    "kappa:A:1:1",
+];
+
+/// Asks, the place of each in the table of asks, and their numbers: a limit is 1 more, 0 where
+/// there is none, and a unit is the length of its name.
+const ASKS: [(&str, u32, u64, u64); 17] = [
+    ("pmf:0", 0, 0, 0),
+    ("pmf:012345678", 0, 12345678, 0),
+    ("cdf:999999999", 1, 999999999, 0),
+    ("mean", 2, 0, 0),
+    ("q:0", 3, 0, 1),
+    ("q:0.99", 3, 99, 100),
+    ("q:.5", 3, 1, 2),
+    ("q:0.12345678", 3, 6172839, 50000000),
+    ("q:12.34567%", 3, 1234567, 10000000),
+    ("q:999999998/999999999", 3, 999999998, 999999999),
+    ("tail:99%", 4, 99, 100),
+    ("layer:5xs10", 5, 6, 10),
+    ("layer:0xs000000000", 5, 1, 0),
+    ("layer:infxs7", 5, 0, 7),
+    ("joint:agg:4", 6, 3, 4),
+    ("kappa:Motor-1_x:200", 7, 9, 200),
+    ("kappa:inf:0", 7, 3, 0),
+];
+
+fn words(alloc: Global, line: &str) -> Result<Vec<String>, AllocError> {
+    let mut words = Vec::new(alloc);
+    for word in line.split(' ') {
+        words.push(String::from_str(alloc, word)?)?;
+    }
+    Ok(words)
+}
+
+fn read(alloc: Global, line: &str) -> Result<Settings, WordsFault> {
+    read_words(alloc, words(alloc, line)?.as_slice())
+}
+
+fn shown(ask: &Ask) -> (u32, u64, u64) {
+    match ask {
+        Ask::Pmf(at) => (0, *at as u64, 0),
+        Ask::Cdf(at) => (1, *at as u64, 0),
+        Ask::Mean => (2, 0, 0),
+        Ask::Quantile(p) => (3, p.num(), p.den()),
+        Ask::Tail(p) => (4, p.num(), p.den()),
+        Ask::LayerMean { limit, attach } => {
+            (5, limit.map_or(0, |limit| limit as u64 + 1), *attach as u64)
+        }
+        Ask::Joint { unit, at } => (6, unit.as_slice().len() as u64, *at as u64),
+        Ask::Kappa { unit, at } => (7, unit.as_slice().len() as u64, *at as u64),
+    }
+}
+
+/// Whether the settings begin with this ask.
+fn is_first(settings: &Settings, text: &str, numbers: (u32, u64, u64)) -> bool {
+    match settings.asks.as_slice().first() {
+        Some(asked) => { asked.text.as_slice() == text.as_bytes() && shown(&asked.ask) == numbers }
+        None => false,
+    }
+}
+
+/// The bucket size, and the numbers of the options.
+fn numbers(settings: &Settings) -> [u64; 6] {
+    [
+        settings.bs.num(),
+        settings.bs.den(),
+        settings.log2 as u64,
+        settings.digits as u64,
+        settings.width,
+        settings.mwidth,
+    ]
+}
+
+/// Whether the settings are those of `run mean`.
+fn are_plain(settings: &Settings) -> bool {
+    settings.form == Form::Run
+        && settings.make.is_none()
+        && numbers(settings) == [1, 1, 10, 6, 10, 1000000]
+        && settings.format == Format::Plain
+        && settings.asks.as_slice().len() == 1
+}
+
+#[test]
+fn settings(rt: HostRuntime) {
+    let settings = read(rt.alloc(), "run mean").expect(&rt, "settings");
+    assert!(rt; are_plain(&settings));
+}
+
+/// Each option in turn, with a value that is not its default.
+const OPTIONS: &str = "--make=4294967295 --bs 2.5 run --log2 000000000000012 pmf:007 --digits=09 \
+    --width 1000000000 --mwidth=1000000000000 --format json -- cdf:1";
+
+/// Whether the settings are those that each option says.
+fn are_chosen(settings: &Settings) -> bool {
+    settings.make == Some(4294967295)
+        && numbers(settings) == [5, 2, 12, 9, 1000000000, 1000000000000]
+        && settings.format == Format::Json
+        && settings.asks.as_slice().len() == 2
+        && is_first(settings, "pmf:007", (0, 7, 0))
+}
+
+#[test]
+fn options(rt: HostRuntime) {
+    let settings = read(rt.alloc(), OPTIONS).expect(&rt, "settings");
+    assert!(rt; are_chosen(&settings));
+}
+
+/// Whether the words ask for the canonical text.
+fn is_fmt(alloc: Global, line: &str) -> bool {
+    match read(alloc, line) {
+        Ok(read) => read.form == Form::Fmt && read.asks.as_slice().is_empty(),
+        Err(_) => false,
+    }
+}
+
+#[test]
+fn fmt(rt: HostRuntime) {
+    for line in &["fmt", "fmt --", "-- fmt", "fmt --make 0", "--make=00 fmt"] {
+        assert!(rt; is_fmt(rt.alloc(), line), "{line}");
+    }
+}
+
+/// Whether the words do not fit the command.
+fn is_misfit(alloc: Global, line: &str) -> bool {
+    is_line_fault(&read(alloc, line))
+}
+
+/// Whether the words were refused as a whole.
+fn is_line_fault(read: &Result<Settings, WordsFault>) -> bool {
+    matches!(read, Err(WordsFault::Usage(UsageFault::Line)))
+}
+
+#[test]
+fn misfits(rt: HostRuntime) {
+    for line in &MISFITS {
+        assert!(rt; is_misfit(rt.alloc(), line), "{line}");
+    }
+    assert!(rt; is_line_fault(&read_words(rt.alloc(), &[])));
+}
+
+/// Whether the text is read as this ask.
+fn is_asked(alloc: Global, case: &(&str, u32, u64, u64)) -> Result<bool, Fail> {
+    let &(text, kind, first, second) = case;
+    let line = format!(in alloc; "run {text}")?;
+    match read(alloc, line.as_str()) {
+        Ok(settings) => Ok(is_first(&settings, text, (kind, first, second))),
+        Err(_) => Ok(false),
+    }
+}
+
+/// Whether the text is refused as an ask.
+fn is_no_ask(alloc: Global, text: &str) -> Result<bool, Fail> {
+    let line = format!(in alloc; "run mean {text} pmf")?;
+    let read = read(alloc, line.as_str());
+    Ok(matches!(read, Err(WordsFault::Usage(UsageFault::Ask(1)))))
+}
+
+#[test]
+fn asks(rt: HostRuntime) -> Result<(), Fail> {
+    for case in &ASKS {
+        assert!(rt; is_asked(rt.alloc(), case)?, "{}", case.0);
+    }
+    Ok(())
+}
+
+#[test]
+fn no_asks(rt: HostRuntime) -> Result<(), Fail> {
+    for text in &NO_ASKS {
+        assert!(rt; is_no_ask(rt.alloc(), text)?, "{text}");
+    }
+    Ok(())
+}
+
+/// What the words say that ask so often for the mean.
+fn means(alloc: Global, count: usize) -> Result<Settings, WordsFault> {
+    let mut line = words(alloc, "run")?;
+    for _ in 0..count {
+        line.push(String::from_str(alloc, "mean")?)?;
+    }
+    read_words(alloc, line.as_slice())
+}
+
+/// Whether so many asks for the mean are read.
+fn are_read(alloc: Global, count: usize) -> bool {
+    match means(alloc, count) {
+        Ok(settings) => settings.asks.as_slice().len() == count,
+        Err(_) => false,
+    }
+}
+
+#[test]
+fn many_asks(rt: HostRuntime) {
+    assert!(rt; are_read(rt.alloc(), 256));
+    assert!(rt; is_line_fault(&means(rt.alloc(), 257)));
+}

@@ -1,0 +1,126 @@
+-- What the tests ask of their numbers.
+use Rattle.std.proofs.Common.{ℕ, zero, suc, ◌≡◌, ◌*◌, ◌^◌, ◌<◌, ◌≤◌, [], ◌∷◌, arith, refl, sym, ap, subst, ◌∙◌, mul-le-mul_left, mul-le-mul_right}
+use Rattle.std.specs.Prelude.{All}
+use Rattle.std.specs.List.Sorted.{IsStrictlyIncreasing}
+use Rattle.std.proofs.Math.Nat.{zero-lt-suc}
+use Rattle.dl_exact.specs.Gcd.{gcd, euclid}
+use Rattle.dl_exact.specs.Fraction.{Fraction, ◌over◌, ◌*ℚ◌, ◌/ℚ◌, ◌≤ℚ◌, whole}
+use Rattle.dl_exact.proofs.Over.{over_div, over_le, over_mul}
+use Rattle.dl_exact.proofs.Laws.{one_pos}
+use Rattle.dl_exact.proofs.RoundingLaws.{whole_le}
+use Rattle.dl_plan.specs.declared.item.Item.{Item}
+use Rattle.dl_plan.specs.Count.{IsProbability}
+use Rattle.dl_plan.specs.Fine.{HasPartsOf48Bits}
+use Rattle.dl_plan.specs.Weighted.{IsWeighted}
+use Rattle.dl_exact.proofs.Parts.{over_num_le as num_of_over-le, over_den_le as den_of_over-le}
+
+abbrev pub item : ℕ → ℕ → Item
+item a w = record { amount = a; weight = w }
+
+rising_three : IsStrictlyIncreasing (0 ∷ 1 ∷ 3 ∷ [])
+rising_three zero h = omega arith
+rising_three (suc zero) h = omega arith
+rising_three (suc (suc k)) h = absurd (omega (arith, h))
+
+rising_two : IsStrictlyIncreasing (0 ∷ 2 ∷ [])
+rising_two zero h = omega arith
+rising_two (suc k) h = absurd (omega (arith, h))
+
+three_positive : All (λ (i : Item). 0 < i.weight) (item 0 1 ∷ item 1 2 ∷ item 3 1 ∷ [])
+three_positive zero d h = omega arith
+three_positive (suc zero) d h = omega arith
+three_positive (suc (suc zero)) d h = omega arith
+three_positive (suc (suc (suc k))) d h = absurd (omega (arith, h))
+
+two_positive : All (λ (i : Item). 0 < i.weight) (item 0 1 ∷ item 2 3 ∷ [])
+two_positive zero d h = omega arith
+two_positive (suc zero) d h = omega arith
+two_positive (suc (suc k)) d h = absurd (omega (arith, h))
+
+pub three_weighted : IsWeighted (item 0 1 ∷ item 1 2 ∷ item 3 1 ∷ []) 4
+unfolding gcd euclid
+three_weighted = record {
+  some = omega arith;
+  rising = rising_three;
+  positive = three_positive;
+  sum = refl;
+  within = omega arith;
+  lowest = refl;
+}
+
+pub two_weighted : IsWeighted (item 0 1 ∷ item 2 3 ∷ []) 4
+unfolding gcd euclid
+two_weighted = record {
+  some = omega arith;
+  rising = rising_two;
+  positive = two_positive;
+  sum = refl;
+  within = omega arith;
+  lowest = refl;
+}
+
+pub two_small : All (λ (i : Item). i.amount ≤ 256) (item 0 1 ∷ item 2 3 ∷ [])
+two_small zero d h = omega arith
+two_small (suc zero) d h = omega arith
+two_small (suc (suc k)) d h = absurd (omega (arith, h))
+
+pub small_over : (n d : ℕ) → 0 < d → n < 2 ^ 48 → d < 2 ^ 48 → HasPartsOf48Bits (n over d)
+small_over n d pos small few = record {
+  num = omega (arith, num_of_over-le n d pos, small);
+  den =
+      omega (arith, den_of_over-le n d pos, few);
+}
+
+pub third : (q : Fraction) → q ≡ 1 over 3 → IsProbability q
+third q e = subst IsProbability (sym e)
+    (record {
+      within = over_le 1 3 1 1 (zero-lt-suc 2) (zero-lt-suc 0) (omega arith);
+      admitted =
+          small_over 1 3 (zero-lt-suc 2) (omega arith) (omega arith);
+    })
+
+pub two_thirds : (q : Fraction) → q ≡ 1 over 3 → HasPartsOf48Bits (whole 2 *ℚ q)
+two_thirds q e = subst HasPartsOf48Bits
+    (sym (ap (λ t. whole 2 *ℚ t) e ∙ over_mul 2 1 1 3 (zero-lt-suc 0) (zero-lt-suc 2)))
+    (small_over 2 3 (zero-lt-suc 2) (omega arith) (omega arith))
+
+pub small_parts : (x : Fraction) → x.num ≤ 3 → x.den ≤ 3 → HasPartsOf48Bits x
+small_parts x num den = record { num = omega (arith, num); den = omega (arith, den) }
+
+pub few_claims : (m : Fraction) → m ≡ 3 over 2 → m ≤ℚ whole 4096
+few_claims m e = subst (λ t. t ≤ℚ whole 4096) (sym e) (over_le 3 2 4096 1 (zero-lt-suc 1) (zero-lt-suc 0) (omega arith))
+
+pub four_weighted : IsWeighted (item 1 1 ∷ item 4 1 ∷ []) 2
+unfolding gcd euclid
+four_weighted = record {
+  some = omega arith;
+  rising = rising_four;
+  positive = four_positive;
+  sum = refl;
+  within = omega arith;
+  lowest = refl;
+}
+  where
+    rising_four : IsStrictlyIncreasing (1 ∷ 4 ∷ [])
+    rising_four zero h = omega arith
+    rising_four (suc k) h = absurd (omega (arith, h))
+
+    four_positive : All (λ (i : Item). 0 < i.weight) (item 1 1 ∷ item 4 1 ∷ [])
+    four_positive zero d h = omega arith
+    four_positive (suc zero) d h = omega arith
+    four_positive (suc (suc k)) d h = absurd (omega (arith, h))
+
+pub at_most_4096 : (m : Fraction) (n d : ℕ) → m ≡ n over d → 0 < d → n ≤ 4096 → m ≤ℚ whole 4096
+at_most_4096 m n d e pos small = subst (λ t. t ≤ℚ whole 4096) (sym e)
+    (over_le n d 4096 1 pos (zero-lt-suc 0) (omega (arith, small, mul-le-mul_left 4096 pos)))
+
+pub print_fits : (h b : ℕ) → h ≤ 2 ^ b → h * 10 ^ 9 ≤ 2 ^ 127 * 2 ^ b
+print_fits h b le = omega (arith, mul-le-mul_right (10 ^ 9) le)
+
+pub half_of : (m : Fraction) → m ≡ 1 over 2 → m /ℚ whole (2 ^ 0) ≤ℚ 1 over 2
+half_of m e = subst (λ t. t /ℚ whole 1 ≤ℚ 1 over 2) (sym e)
+    (subst (λ t. t ≤ℚ 1 over 2) (sym (over_div 1 2 1 1 (zero-lt-suc 1) one_pos one_pos))
+    (over_le _ _ 1 2 (zero-lt-suc 1) (zero-lt-suc 1) (omega arith)))
+
+pub one_is_small : (m : Fraction) → m ≡ whole 1 → m ≤ℚ whole 4096
+one_is_small m e = subst (λ t. t ≤ℚ whole 4096) (sym e) (whole_le 1 4096 (omega arith))

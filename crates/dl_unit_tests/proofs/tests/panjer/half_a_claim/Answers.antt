@@ -1,0 +1,12 @@
+use Rattle.std.proofs.Common.{◌<◌, ◌^◌, arith}
+use Rattle.dl_unit_tests.proofs.TestLaws.{half_of}
+use Rattle.dl_unit_tests.proofs.tests.panjer.half_a_claim.Goals as goal
+
+pub poisson_base-requires : goal.poisson_base-requires
+poisson_base-requires g c =
+    let num : c.fraction.result.num < 2 ^ 48 = omega (arith, c.fraction.ensures.num) in
+    let den : c.fraction.result.den < 2 ^ 48 = omega (arith, c.fraction.ensures.den) in
+    let half = half_of c.fraction.result c.fraction.ensures.value in
+    let zero = c.in_ok-sev.ensures in
+    let up = c.requires.above in
+    (omega arith, (omega arith, (omega arith, (num, (den, (omega arith, (half, (zero, (up, c.requires.below)))))))))

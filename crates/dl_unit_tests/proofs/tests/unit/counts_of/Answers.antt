@@ -1,0 +1,25 @@
+use Rattle.std.proofs.Common.{arith}
+use Rattle.dl_unit_tests.proofs.TestLaws.{few_claims, small_parts}
+use Rattle.dl_unit_tests.proofs.tests.unit.counts_of.Goals as goal
+
+pub poisson_claims-requires : goal.poisson_claims-requires
+poisson_claims-requires g c =
+    let admitted = small_parts c.fraction.result c.fraction.ensures.num (omega (arith, c.fraction.ensures.den)) in (
+      omega arith,
+      (
+        c.requires.above,
+        (
+          c.requires.below,
+          (
+            c.in_ok-claim.ensures,
+            (
+              admitted,
+              (
+                few_claims c.fraction.result c.fraction.ensures.value,
+                (omega arith, omega arith),
+              ),
+            ),
+          ),
+        ),
+      ),
+    )

@@ -1,0 +1,198 @@
+use crate::tests::helpers::DIE;
+use dl_by_hand::listed::listed_point;
+use dl_by_hand::unbounded::{gamma_point, poisson_point};
+use dl_plan::Item;
+
+/// Claims of 1, of 0, and of 0 or 1 alike.
+const ONE: [Item; 1] = [Item {
+    amount: 1,
+    weight: 1,
+}];
+
+const NOTHING: [Item; 1] = [Item {
+    amount: 0,
+    weight: 1,
+}];
+
+const HALF: [Item; 2] = [
+    Item {
+        amount: 0,
+        weight: 1,
+    },
+    Item {
+        amount: 1,
+        weight: 1,
+    },
+];
+
+const NOTHING_TWICE: [Item; 1] = [Item {
+    amount: 0,
+    weight: 2,
+}];
+
+/// A claim of 1 with probability 3 / 4, else of 4.
+const UNEQUAL: [Item; 2] = [
+    Item {
+        amount: 1,
+        weight: 3,
+    },
+    Item {
+        amount: 4,
+        weight: 1,
+    },
+];
+
+/// A part of the whole in millionths, rounded down, where both stand over one denominator.
+fn millionths(part: (u128, u128), whole: (u128, u128)) -> Option<u128> {
+    if part.1 != whole.1 {
+        return None;
+    }
+    part.0.checked_mul(1_000_000)?.checked_div(whole.0)
+}
+
+#[test]
+fn listed(rt: HostRuntime) {
+    // two dice: a sum of 2, and of 7
+    let two = [Item {
+        amount: 2,
+        weight: 1,
+    }];
+    let dice = [
+        listed_point(&two, &DIE, 2, 2),
+        listed_point(&two, &DIE, 7, 2),
+    ];
+    assert_eq!(rt; dice, [(1, 36), (6, 36)]);
+
+    // no claim at all
+    let none = [
+        listed_point(&NOTHING, &DIE, 0, 0),
+        listed_point(&NOTHING, &DIE, 1, 0),
+    ];
+    assert_eq!(rt; none, [(1, 1), (0, 1)]);
+
+    // no claim, a quarter; one claim of 1, and of 4; 1 and 4 in either order; past the greatest sum
+    let mixed = [
+        Item {
+            amount: 0,
+            weight: 1,
+        },
+        Item {
+            amount: 1,
+            weight: 1,
+        },
+        Item {
+            amount: 2,
+            weight: 2,
+        },
+    ];
+    let sums = [
+        listed_point(&mixed, &UNEQUAL, 0, 2),
+        listed_point(&mixed, &UNEQUAL, 1, 2),
+        listed_point(&mixed, &UNEQUAL, 4, 2),
+        listed_point(&mixed, &UNEQUAL, 5, 2),
+        listed_point(&mixed, &UNEQUAL, 9, 2),
+    ];
+    assert_eq!(rt; sums, [(16, 64), (12, 64), (4, 64), (12, 64), (0, 64)]);
+}
+
+/// Of at most 3 claims, 1 and 4 make 5; of none there is 0 alone.
+#[test]
+fn unbounded(rt: HostRuntime) {
+    let sums = [
+        poisson_point((3, 2), &UNEQUAL, 5, 3),
+        gamma_point(3, (1, 2), &UNEQUAL, 5, 3),
+        poisson_point((3, 2), &UNEQUAL, 0, 0),
+        gamma_point(3, (1, 2), &UNEQUAL, 1, 0),
+    ];
+    assert_eq!(rt; sums, [(1296, 3072), (1008, 21952), (1, 1), (0, 1)]);
+}
+
+/// A Poisson count of mean 2 has no claim with probability 1 / e^2 = 0.1353352.., and one with
+/// 2 / e^2 = 0.2706705... Of mean 4, where every other claim is 0, the mean that is left is 2:
+/// the mean 4 has 1 / e^4 = 0.0183156...
+#[test]
+fn poisson(rt: HostRuntime) {
+    let all = poisson_point((2, 1), &NOTHING, 0, 12);
+    let thinned_all = poisson_point((4, 1), &NOTHING_TWICE, 0, 17);
+    let kept_all = poisson_point((4, 1), &NOTHING, 0, 17);
+    let parts = [
+        millionths(poisson_point((2, 1), &ONE, 0, 12), all),
+        millionths(poisson_point((2, 1), &ONE, 1, 12), all),
+        millionths(poisson_point((4, 1), &HALF, 0, 17), thinned_all),
+        millionths(poisson_point((4, 1), &ONE, 0, 17), kept_all),
+    ];
+    let want = [Some(135_335), Some(270_670), Some(135_335), Some(18_315)];
+    assert_eq!(rt; parts, want);
+}
+
+/// A gamma count of shape 4 and mean 2 has no claim with probability (4 / 6)^4 = 16 / 81 =
+/// 0.1975308.., and one with 64 / 243 = 0.2633744..; of shape 1 it has none with 1 / 3. Of shape 1
+/// and mean 1, where every other claim is 0, there is none above 0 with 2 / 3, and not with 1 / 2.
+#[test]
+fn gamma(rt: HostRuntime) {
+    let all = gamma_point(4, (2, 1), &NOTHING, 0, 17);
+    let other_all = gamma_point(1, (2, 1), &NOTHING, 0, 17);
+    let thinned_all = gamma_point(1, (1, 1), &NOTHING_TWICE, 0, 18);
+    let kept_all = gamma_point(1, (1, 1), &NOTHING, 0, 18);
+    let parts = [
+        millionths(gamma_point(4, (2, 1), &ONE, 0, 17), all),
+        millionths(gamma_point(4, (2, 1), &ONE, 1, 17), all),
+        millionths(gamma_point(1, (2, 1), &ONE, 0, 17), other_all),
+        millionths(gamma_point(1, (1, 1), &HALF, 0, 18), thinned_all),
+        millionths(gamma_point(1, (1, 1), &ONE, 0, 18), kept_all),
+    ];
+    let want = [
+        Some(197_531),
+        Some(263_374),
+        Some(333_559),
+        Some(666_667),
+        Some(500_000),
+    ];
+    assert_eq!(rt; parts, want);
+}
+
+/// With at most 3 claims the parts of all sums add up to the whole: 6 + 12 + 12 + 8 = 38 sixths.
+/// Since twice the mean 2 is at most 3 + 1, no sum of weights is above 38 / 6 + 8 / 6 = 7.66..; it
+/// is above 2 + 1, and 10 / 2 + 4 / 2 = 7 is no bound: with at most 12 claims the sum is 7.389...
+#[test]
+fn sums(rt: HostRuntime) {
+    let three = [
+        poisson_point((2, 1), &ONE, 0, 3),
+        poisson_point((2, 1), &ONE, 1, 3),
+        poisson_point((2, 1), &ONE, 2, 3),
+        poisson_point((2, 1), &ONE, 3, 3),
+        poisson_point((2, 1), &NOTHING, 0, 3),
+    ];
+    assert_eq!(rt; three, [(6, 6), (12, 6), (12, 6), (8, 6), (38, 6)]);
+    let others = [
+        poisson_point((2, 1), &ONE, 2, 2),
+        poisson_point((2, 1), &NOTHING, 0, 2),
+        poisson_point((2, 1), &NOTHING, 0, 12),
+    ];
+    assert_eq!(rt; others, [(4, 2), (10, 2), (3_539_368_960, 479_001_600)]);
+}
+
+/// Two Poisson counts of mean 1, with 6, 6, 3, 1 sixths, make one of mean 2: three claims have (6 *
+/// 1 + 6 * 3 + 3 * 6 + 1 * 6) / 36 = 8 / 6, and one count alone has 1 / 6. The square of its sum up
+/// to 3 claims, (16 / 6)^2, is not the sum 38 / 6 of both: only the least upper bounds agree. Two
+/// geometric counts of mean 1, with 8, 4, 2, 1 eighths, make the gamma count of shape 2 and mean 2:
+/// three claims have 4 * 8 / 64.
+#[test]
+fn added(rt: HostRuntime) {
+    let poisson = [
+        poisson_point((1, 1), &ONE, 0, 3),
+        poisson_point((1, 1), &ONE, 1, 3),
+        poisson_point((1, 1), &ONE, 2, 3),
+        poisson_point((1, 1), &ONE, 3, 3),
+        poisson_point((1, 1), &NOTHING, 0, 3),
+    ];
+    assert_eq!(rt; poisson, [(6, 6), (6, 6), (3, 6), (1, 6), (16, 6)]);
+    let gamma = [
+        gamma_point(1, (1, 1), &ONE, 0, 3),
+        gamma_point(1, (1, 1), &ONE, 1, 3),
+        gamma_point(1, (1, 1), &ONE, 2, 3),
+        gamma_point(1, (1, 1), &ONE, 3, 3),
+        gamma_point(2, (2, 1), &ONE, 3, 3),
+    ];
+    assert_eq!(rt; gamma, [(8, 8), (4, 8), (2, 8), (1, 8), (32, 64)]);
+}

@@ -1,0 +1,76 @@
+//! What several files of tests share: a die, the claim of one bucket, fractions, nine digits.
+
+ghost use Rattle.std.specs.Prelude.{◌≡◌, ◌<◌, ◌≤◌, IfOk};
+ghost use Rattle.dl_exact.specs.Fraction.{whole, ◌over◌};
+ghost use Rattle.dl_plan.specs.Severity.{probability_of};
+
+use dl_frac::Frac;
+use dl_grid::Grid;
+use dl_plan::{Item, Items, Sev};
+use std::alloc::{AllocError, Global};
+
+/// The faces of a die, each as likely as the others.
+pub(crate) const DIE: [Item; 6] = [
+    Item {
+        amount: 1,
+        weight: 1,
+    },
+    Item {
+        amount: 2,
+        weight: 1,
+    },
+    Item {
+        amount: 3,
+        weight: 1,
+    },
+    Item {
+        amount: 4,
+        weight: 1,
+    },
+    Item {
+        amount: 5,
+        weight: 1,
+    },
+    Item {
+        amount: 6,
+        weight: 1,
+    },
+];
+
+/// `num` over `den`.
+pub(crate) fn fraction(num: u32, den: u32) -> Frac
+    requires { 0 < den }
+    ensures value { result ≡ num over den }
+    ensures num { result.num ≤ num }
+    ensures den { result.den ≤ den }
+{
+    Frac::make(u128::from(num), u128::from(den)).unwrap()
+}
+
+/// The claim that surely comes to one bucket.
+pub(crate) fn one_bucket(alloc: Global) -> Result<Sev, AllocError>
+    ensures { IfOk result (λ sev. probability_of sev 0 ≡ whole 0) }
+{
+    let mut items = Vec::new(alloc);
+    items.push(Item {
+        amount: 1,
+        weight: 1,
+    })?;
+    Ok(Sev {
+        items: Items::from_vec(items),
+        total: 1,
+    })
+}
+
+/// Each cell lies between these numbers of the ninth digit and the next ones.
+#[tactic(auto, using(crate::proofs::TestLaws::print_fits))]
+pub(crate) fn agrees<const B: u32>(grid: &Grid<B>, lows: &[u32]) -> bool {
+    let mut same = grid.cells() as usize == lows.len();
+    for x in 0..grid.cells() {
+        if let Some(low) = lows.get(x as usize) {
+            let (down, up) = grid.at(x).print_ends(9);
+            same = same && down == u128::from(*low) && up == u128::from(*low) + 1;
+        }
+    }
+    same
+}
