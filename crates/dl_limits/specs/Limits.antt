@@ -1,5 +1,5 @@
 -- The bounds of a plan, of its settings and of the numbers that are made from them, each once.
-use Rattle.std.specs.Prelude.{ℕ, ◌^◌}
+use Rattle.std.specs.Prelude.{ℕ, ◌*◌, ◌^◌}
 
 -- ---- a plan
 
@@ -103,3 +103,40 @@ most_claims_budget = 2 ^ 34
 -- the budget of a sum of units is below this
 abbrev pub budget_bound : ℕ
 budget_bound = 2 ^ 40
+
+-- ---- how wide an answer can be, in units of 1 / 2^56
+
+-- the operands of a power, of a listed count or of halvings, each with its roundings, all together:
+-- what they come to is then at most the greatest budget of a unit's claims
+abbrev pub most_operands : ℕ
+most_operands = 15 * 2 ^ 30
+
+-- a unit after its aggregate clause
+abbrev pub most_unit_budget : ℕ
+most_unit_budget = 2 ^ 35
+
+-- the mean of the total
+abbrev pub most_mean_budget : ℕ
+most_mean_budget = 2 ^ 64
+
+-- an ask
+abbrev pub most_ask_budget : ℕ
+most_ask_budget = 2 ^ 96
+
+-- ---- the one recursion of a unit's mean, in whole numbers
+
+-- cell 0 begins as 2 to this power
+abbrev pub start_bits : ℕ
+start_bits = 61
+
+-- the greatest end of a cell
+abbrev pub most_end : ℕ
+most_end = 2 ^ 62
+
+-- the greatest high end of the probability of no claim, in its own units
+abbrev pub most_start : ℕ
+most_start = 2 ^ 63
+
+-- the most that all amounts give to a cell: less than 2^64 times the greatest end
+abbrev pub most_given : ℕ
+most_given = 2 ^ 126

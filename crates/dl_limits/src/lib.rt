@@ -58,3 +58,12 @@ pub const FRAC_BOUND: u128 = 1 << 62;
 
 /// The greatest common denominator of fractions that are used together.
 pub const MOST_PARTS: u64 = 1 << 30;
+
+/// The budget of a sum of units is below this, in units of 1 / 2^56.
+pub const BUDGET_BOUND: u128 = 1 << 40;
+
+/// The greatest end of a cell of the one recursion of a unit's mean.
+pub const MOST_END: u128 = 1 << 62;
+
+/// The greatest high end of the probability of no claim in that recursion, in its own units.
+pub const MOST_START: u128 = 1 << 63;
