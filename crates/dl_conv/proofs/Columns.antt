@@ -1,14 +1,8 @@
 -- One sum of a product of two lists: the products of the items whose places add up to s, place by place of the first.
-use Rattle.std.proofs.Common.{ℕ, suc, ◌≡◌, ◌+◌, ◌-◌, ◌*◌, ◌^◌, ◌<◌, ◌≤◌, List, length, get_or, arith, sym, ap₂, inl, inr, ◌∙◌}
-use Rattle.std.specs.Prelude.{min, All}
-use Rattle.std.proofs.Math.Nat.{mul-le-mul}
+use Rattle.std.specs.Prelude.{max}
+use Rattle.dl_conv.proofs.Common.{ℕ, suc, ◌≡◌, ◌+◌, ◌-◌, ◌*◌, ◌^◌, ◌<◌, ◌≤◌, List, length, get_or, arith, sym, ap₂, inl, inr, ◌∙◌, min, All, mul-le-mul, cases_lt, most_cells, count_below, below_none, below_more, below_bound, below_pairs, IsSame, pair_sum}
 use Rattle.std.proofs.lemmas.List.{get_or_past}
-use Rattle.std.proofs.lemmas.Bool.{cases_lt}
-use Rattle.dl_limits.specs.Limits.{most_cells}
-use Rattle.dl_exact.specs.Count.{count_below}
-use Rattle.dl_exact.proofs.Counts.{below_none, below_rest, below_more, below_bound, below_pairs, nothing_times, times_nothing}
-use Rattle.dl_conv.specs.Modulo.{IsSame}
-use Rattle.dl_conv.specs.Sums.{pair_sum}
+use Rattle.dl_exact.proofs.Counts.{below_rest, nothing_times, times_nothing}
 use Rattle.dl_conv.proofs.Same.{same, same_sym, same_then, same_plus}
 
 pub end_fits : (xs : List ℕ) → All (λ x. x ≤ 2 ^ 56) xs → (k : ℕ) → get_or xs k 0 ≤ 2 ^ 56
@@ -34,6 +28,14 @@ column_ends xs ys s n within enough =
     sym (below_rest n (suc s) (λ k. get_or xs k 0 * get_or ys (s - k) 0) (omega arith)
     (λ k b c. nothing_times (get_or xs k 0) (get_or ys (s - k) 0) (get_or_past xs k 0 (omega (arith, enough, b, c)))))
     ∙ below_pairs s (λ i j. get_or xs i 0 * get_or ys j 0)
+
+-- past n there is none before the second list ends
+pub column_cut : (xs ys : List ℕ) (s from n i : ℕ) → n ≤ i → i ≤ max n from → from ≡ s + 1 - length ys
+    → column xs ys s i ≡ column xs ys s n
+column_cut xs ys s from n i b within e =
+    below_rest n i (λ k. get_or xs k 0 * get_or ys (s - k) 0) b
+    (λ k c d. times_nothing (get_or xs k 0) (get_or ys (s - k) 0)
+    (get_or_past ys (s - k) 0 (omega (arith, c, d, within, e))))
 
 -- one product more, exactly
 pub column_next : (xs ys : List ℕ) (s i total part : ℕ) → total ≡ column xs ys s i

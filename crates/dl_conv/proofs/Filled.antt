@@ -1,6 +1,6 @@
 -- Lists of numbers that a loop fills place by place.
-use Rattle.std.proofs.Common.{ℕ, ◌≡◌, ◌<◌, ◌≤◌, List, ◌++◌, length, get_or, take, drop, arith, ap, ◌∙◌}
-use Rattle.std.proofs.lemmas.List.{take_all, drop_all, append-nil}
+use Rattle.dl_conv.proofs.Common.{ℕ, ◌≡◌, ◌<◌, ◌≤◌, List, ◌++◌, length, get_or, take, drop, arith, ap, ◌∙◌, take_all}
+use Rattle.std.proofs.lemmas.List.{drop_all, append-nil}
 
 -- the first n items of ys are those of f
 pub record IsFilled (f : ℕ → ℕ) (ys : List ℕ) (n : ℕ) : Type 0 where

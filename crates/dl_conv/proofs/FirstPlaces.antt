@@ -1,13 +1,6 @@
 -- The first places of a product from the product of the first halves and two shorter ones.
-use Rattle.std.proofs.Common.{ℕ, suc, ◌≡◌, ◌+◌, ◌-◌, ◌*◌, ◌%◌, ◌^◌, ◌<◌, ◌≤◌, List, length, take, drop, map, arith, sym, subst, ap, ap₂, inl, inr, ◌∙◌}
-use Rattle.std.specs.Prelude.{All}
-use Rattle.std.proofs.Math.Nat.{mod-eq_of_lt, mul-le-mul}
-use Rattle.std.proofs.lemmas.Bool.{cases_lt}
-use Rattle.std.proofs.lemmas.List.{length-drop, take_all, get_or-take}
+use Rattle.dl_conv.proofs.Common.{ℕ, suc, ◌≡◌, ◌+◌, ◌-◌, ◌*◌, ◌%◌, ◌^◌, ◌<◌, ◌≤◌, List, length, take, drop, map, arith, sym, subst, ap, ap₂, inl, inr, ◌∙◌, All, mod-eq_of_lt, mul-le-mul, cases_lt, length-drop, take_all, count_below, below_bound, below_pairs, pair_sum}
 use Rattle.std.proofs.lemmas.List.Folds.{map_fixed}
-use Rattle.dl_exact.specs.Count.{count_below}
-use Rattle.dl_exact.proofs.Counts.{below_bound, below_pairs}
-use Rattle.dl_conv.specs.Sums.{pair_sum}
 use Rattle.dl_conv.proofs.Columns.{end_fits}
 use Rattle.dl_conv.proofs.Karatsuba.{item, short_first, short_later}
 
@@ -38,30 +31,26 @@ exact_sum a b new s p q fits few e =
 
 module _ (a b : List ℕ) (h n : ℕ) (small_a : All (λ x. x ≤ 2 ^ 56) a) (small_b : All (λ y. y ≤ 2 ^ 56) b)
     (few : n ≤ 16384) (half : n ≤ 2 * h) (less : h < n)
-    (in_a : n ≤ length a) (in_b : n ≤ length b) (product copied one : List ℕ)
-    (product_is : (s : ℕ) → s < 2 * h → item product s ≡ pair_sum (take h a) (take h b) s)
-    (copied_is : copied ≡ take n product)
+    (in_a : n ≤ length a) (in_b : n ≤ length b) (start one : List ℕ)
+    (start_is : (s : ℕ) → s < n → item start s ≡ pair_sum (take h a) (take h b) s)
     (one_is : (t : ℕ) → t < n - h → item one t ≡ pair_sum (take (length a - h) (drop h a)) b t) where
-  start_is : (s : ℕ) → s < n → item copied s ≡ pair_sum (take h a) (take h b) s
-  start_is s inside = ap (λ xs. item xs s) copied_is ∙ get_or-take n product s 0 inside ∙ product_is s (omega arith)
-
   one_whole : (t : ℕ) → t < n - h → item one t ≡ pair_sum (drop h a) b t
   one_whole t inside = one_is t inside ∙ ap (λ xs. pair_sum xs b t)
       (take_all (length a - h) (drop h a) (omega (arith, length-drop h a)))
 
-  sum_is : (t : ℕ) → t < n - h → pair_sum a b (h + t) ≡ item copied (h + t) + (item one t + pair_sum a (drop h b) t)
+  sum_is : (t : ℕ) → t < n - h → pair_sum a b (h + t) ≡ item start (h + t) + (item one t + pair_sum a (drop h b) t)
   sum_is t inside = omega (arith, short_later h t a b (omega arith), start_is (h + t) (omega arith), one_whole t inside)
 
-  fits : (t : ℕ) → t < n - h → item copied (h + t) + (item one t + pair_sum a (drop h b) t) < 2 ^ 128
+  fits : (t : ℕ) → t < n - h → item start (h + t) + (item one t + pair_sum a (drop h b) t) < 2 ^ 128
   fits t inside = omega (arith, sum_is t inside, sum_bound a b (h + t) small_a small_b (omega arith))
 
-  pub one_fits : (t : ℕ) → t < n - h → item copied (h + t) + item one t < 2 ^ 128
+  pub one_fits : (t : ℕ) → t < n - h → item start (h + t) + item one t < 2 ^ 128
   one_fits t inside = omega (arith, fits t inside)
 
   module _ (two added : List ℕ) (two_is : (t : ℕ) → t < n - h
       → item two t ≡ pair_sum a (take (length b - h) (drop h b)) t)
-      (first_added : (t : ℕ) → t < n - h → item added (h + t) ≡ item copied (h + t) + item one t)
-      (first_kept : (s : ℕ) → s < h → item added s ≡ item copied s) where
+      (first_added : (t : ℕ) → t < n - h → item added (h + t) ≡ item start (h + t) + item one t)
+      (first_kept : (s : ℕ) → s < h → item added s ≡ item start s) where
     two_whole : (t : ℕ) → t < n - h → item two t ≡ pair_sum a (drop h b) t
     two_whole t inside = two_is t inside ∙ ap (λ ys. pair_sum a ys t)
         (take_all (length b - h) (drop h b) (omega (arith, length-drop h b)))

@@ -1,6 +1,7 @@
 -- Lists that a loop writes place by place.
-use Rattle.std.proofs.Common.{ℕ, ◌≡◌, ◌+◌, ◌<◌, ◌≤◌, List, length, get_or, set, map, arith, ap, sym, inl, inr, ◌∙◌}
-use Rattle.std.proofs.lemmas.List.{get_or-set_same, get_or-set_other, get_or-map}
+use Rattle.dl_conv.proofs.Common.{ℕ, ◌≡◌, ◌+◌, ◌<◌, ◌≤◌, List, length, get_or, map, arith, ap, sym, inl, inr, ◌∙◌, get_or-set_other}
+use Rattle.std.proofs.Common.{set}
+use Rattle.std.proofs.lemmas.List.{get_or-set_same, get_or-map}
 use Rattle.std.proofs.lemmas.Bool.Decides.{eqb_tells}
 
 -- each of the first n items meets P

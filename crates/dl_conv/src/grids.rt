@@ -1,11 +1,9 @@
-ghost use Rattle.std.specs.Prelude.{◌≡◌, ℕ, ◌*◌, ◌/◌, ◌^◌, ◌<◌, ◌≤◌, min, length, get_or, All, IfOk};
+ghost use Rattle.std.specs.Prelude.{◌≡◌, ℕ, ◌*◌, ◌/◌, ◌^◌, ◌<◌, ◌≤◌, min, length, replicate, get_or, All, IfOk};
 ghost use Rattle.std.specs.Int.{div_ceil};
 ghost use Rattle.dl_grid.specs.Cells.{low_at, high_at, spread};
 ghost use Rattle.dl_exact.specs.Count.{count_pairs};
 ghost use Rattle.dl_grid.specs.Convolution.{IsConvolution};
 ghost use Rattle.dl_grid.specs.Width.{cv};
-ghost use Rattle.dl_limits.specs.Limits.{most_cells};
-ghost use Rattle.dl_conv.specs.Sums.{pair_sum, halved_from};
 
 use crate::plain::plain_sums;
 use crate::short::{halved_sums, work_for};
@@ -63,23 +61,16 @@ pub fn grid_of_sums<const B: u32>(
     Grid::from_ends(lows, highs)
 }
 
-/// The first `cells` items of the product of two lists, each product of two items made for itself.
-fn plain_product(
-    alloc: Global,
-    a: &[u128],
-    b: &[u128],
-    cells: usize,
-) -> Result<Vec<u128>, AllocError>
-    requires first { All (λ x. x ≤ 2 ^ 56) a.now }
-    requires second { All (λ y. y ≤ 2 ^ 56) b.now }
-    requires few { cells ≤ most_cells }
-    ensures cells { IfOk result (λ v. length v.items ≡ cells) }
-    ensures each { IfOk result (λ v. (s : ℕ) → s < cells
-        → get_or v.items s 0 ≡ pair_sum a.now b.now s) }
+/// Two lists of so many zeros: room for the sums of the low ends and of the high ends of two grids.
+pub fn room_for_sums(alloc: Global, cells: u32) -> Result<(Vec<u128>, Vec<u128>), AllocError>
+    ensures low { IfOk result (λ v. v.0.items ≡ replicate cells 0) }
+    ensures high { IfOk result (λ v. v.1.items ≡ replicate cells 0) }
+    ensures low_cells { IfOk result (λ v. length v.0.items ≡ cells) }
+    ensures high_cells { IfOk result (λ v. length v.1.items ≡ cells) }
 {
-    let mut out = Vec::from_elem(alloc, 0, cells)?;
-    plain_sums(a, b, out.as_mut_slice());
-    Ok(out)
+    let lows = Vec::from_elem(alloc, 0, cells as usize)?;
+    let highs = Vec::from_elem(alloc, 0, cells as usize)?;
+    Ok((lows, highs))
 }
 
 /// What `convolve` gives, with each product of two ends made for itself. It takes memory for
@@ -97,34 +88,10 @@ pub fn convolve_plain<const B: u32>(
     ensures convolution { IfOk result (λ g. IsConvolution cells a.now b.now g) }
     ensures spread { IfOk result (λ g. spread g ≤ cv (2 ^ B) cells (spread a.now) (spread b.now)) }
 {
-    let lows = plain_product(alloc, a.lows(), b.lows(), cells as usize)?;
-    let highs = plain_product(alloc, a.highs(), b.highs(), cells as usize)?;
+    let (mut lows, mut highs) = room_for_sums(alloc, cells)?;
+    plain_sums(a.lows(), b.lows(), lows.as_mut_slice());
+    plain_sums(a.highs(), b.highs(), highs.as_mut_slice());
     Ok(grid_of_sums(a, b, lows, highs))
-}
-
-/// The first `cells` items of the product of two lists of at least as many, by halves where there
-/// are many.
-fn halved_product(
-    alloc: Global,
-    a: &[u128],
-    b: &[u128],
-    cells: usize,
-    work: &mut [u128],
-) -> Result<Vec<u128>, AllocError>
-    requires first { All (λ x. x ≤ 2 ^ 56) a.now }
-    requires second { All (λ y. y ≤ 2 ^ 56) b.now }
-    requires in_first { cells ≤ length a.now }
-    requires in_second { cells ≤ length b.now }
-    requires few { cells ≤ most_cells }
-    requires work { halved_from ≤ cells → 6 * cells ≤ length work.old }
-    ensures cells { IfOk result (λ v. length v.items ≡ cells) }
-    ensures each { IfOk result (λ v. (s : ℕ) → s < cells
-        → get_or v.items s 0 ≡ pair_sum a.now b.now s) }
-    ensures work { length work.new ≡ length work.old }
-{
-    let mut out = Vec::from_elem(alloc, 0, cells)?;
-    halved_sums(a, b, out.as_mut_slice(), work);
-    Ok(out)
 }
 
 /// The first `cells` cells of the convolution of `a` and `b`. The spread is at most what the width
@@ -143,10 +110,14 @@ pub fn convolve<const B: u32>(
     ensures convolution { IfOk result (λ g. IsConvolution cells a.now b.now g) }
     ensures spread { IfOk result (λ g. spread g ≤ cv (2 ^ B) cells (spread a.now) (spread b.now)) }
 {
-    let count = cells as usize;
-    let mut room = Vec::from_elem(alloc, 0, work_for(cells))?;
-    let work = room.as_mut_slice();
-    let lows = halved_product(alloc, a.lows(), b.lows(), count, work)?;
-    let highs = halved_product(alloc, a.highs(), b.highs(), count, work)?;
+    let mut work = Vec::from_elem(alloc, 0, work_for(cells))?;
+    let (mut lows, mut highs) = room_for_sums(alloc, cells)?;
+    halved_sums(a.lows(), b.lows(), lows.as_mut_slice(), work.as_mut_slice());
+    halved_sums(
+        a.highs(),
+        b.highs(),
+        highs.as_mut_slice(),
+        work.as_mut_slice(),
+    );
     Ok(grid_of_sums(a, b, lows, highs))
 }

@@ -8,11 +8,9 @@ mod halves;
 mod plain;
 mod ring;
 mod short;
-#[cfg(test)]
-mod tests;
 
-pub use grids::{convolve, convolve_plain, grid_of_sums};
+pub use grids::{convolve, convolve_plain, grid_of_sums, room_for_sums};
 pub use halves::halved;
-pub use plain::{plain_sums, product_of_ends};
+pub use plain::{plain_sums, product_of_ends, sum_up_to};
 pub use ring::{Counted, Ring, Words};
 pub use short::{halved_sums, work_for};

@@ -1,4 +1,5 @@
-ghost use Rattle.std.specs.Prelude.{◌≡◌, ℕ, ◌*◌, ◌^◌, ◌<◌, ◌≤◌, length, get_or, All};
+ghost use Rattle.std.specs.Prelude.{◌≡◌, ℕ, ◌+◌, ◌-◌, ◌*◌, ◌^◌, ◌<◌, ◌≤◌, length, get_or, All};
+ghost use Rattle.dl_exact.specs.Count.{count_below};
 ghost use Rattle.dl_limits.specs.Limits.{most_cells};
 ghost use Rattle.dl_conv.specs.Sums.{pair_sum};
 
@@ -11,6 +12,24 @@ pub fn product_of_ends(x: u128, y: u128) -> u128
     u128::from(x as u64) * u128::from(y as u64)
 }
 
+/// The sum of the products of the first `to` items of `a` and of the items of `b`, of those whose
+/// places add up to `s`.
+pub fn sum_up_to(a: &[u128], b: &[u128], s: usize, to: usize) -> u128
+    requires first { All (λ x. x ≤ 2 ^ 56) a.now }
+    requires second { All (λ y. y ≤ 2 ^ 56) b.now }
+    requires few { s < most_cells }
+    requires inside { to ≤ length a.now }
+    requires within { to ≤ s + 1 }
+    ensures { result ≡ count_below to (λ k. get_or a.now k 0 * get_or b.now (s - k) 0) }
+{
+    let from = (s + 1).saturating_sub(b.len());
+    let mut sum = 0;
+    for i in from..to {
+        sum += product_of_ends(a[i], b[s - i]);
+    }
+    sum
+}
+
 /// The sum of the products of items whose places add up to `s`, in two lists of any lengths.
 fn sum_at(a: &[u128], b: &[u128], s: usize) -> u128
     requires first { All (λ x. x ≤ 2 ^ 56) a.now }
@@ -18,13 +37,8 @@ fn sum_at(a: &[u128], b: &[u128], s: usize) -> u128
     requires few { s < most_cells }
     ensures { result ≡ pair_sum a.now b.now s }
 {
-    let from = (s + 1).saturating_sub(b.len());
     let to = a.len().min(s + 1);
-    let mut sum = 0;
-    for i in from..to {
-        sum += product_of_ends(a[i], b[s - i]);
-    }
-    sum
+    sum_up_to(a, b, s, to)
 }
 
 /// The first items of the product of two lists of any lengths, as many as `out` has, each as the

@@ -1,4 +1,4 @@
-ghost use Rattle.std.specs.Prelude.{◌≡◌, ℕ, ◌+◌, ◌*◌, ◌^◌, ◌<◌, ◌≤◌, length, get_or, All};
+ghost use Rattle.std.specs.Prelude.{◌≡◌, ℕ, ◌+◌, ◌*◌, ◌^◌, ◌<◌, ◌≤◌, length, get_or, take, All};
 ghost use Rattle.dl_limits.specs.Limits.{most_cells};
 ghost use Rattle.dl_conv.specs.Sums.{pair_sum, halved_from, IsHalvable};
 
@@ -52,6 +52,24 @@ fn exact_product(a: &[u128], b: &[u128], out: &mut [u128], work: &mut [u128])
     halved(&mut Words, a, b, out, work);
 }
 
+/// The first items of the product of the first `half` items of two lists, as many as `out` has.
+fn first_sums(a: &[u128], b: &[u128], half: usize, out: &mut [u128], work: &mut [u128])
+    requires halvable { IsHalvable half }
+    requires few { half ≤ most_cells }
+    requires in_first { half ≤ length a.now }
+    requires in_second { half ≤ length b.now }
+    requires enough { length out.old ≤ 2 * half }
+    requires work { 6 * half ≤ length work.old }
+    requires first { All (λ x. x ≤ 2 ^ 56) a.now }
+    requires second { All (λ y. y ≤ 2 ^ 56) b.now }
+    ensures each { (s : ℕ) → s < length out.old
+        → get_or out.new s 0 ≡ pair_sum (take half a.now) (take half b.now) s }
+{
+    let (product, spare) = work.split_at_mut(2 * half);
+    exact_product(&a[..half], &b[..half], product, spare);
+    out.copy_from_slice(&product[..out.len()]);
+}
+
 /// Adds `more` to the items of `out` from `start` on.
 fn add_from(out: &mut [u128], start: usize, more: &[u128])
     requires within { start + length more.now ≤ length out.old }
@@ -84,9 +102,7 @@ pub fn halved_sums(a: &[u128], b: &[u128], out: &mut [u128], work: &mut [u128])
         return;
     }
     let half = half_length(cells);
-    let (product, spare) = work.split_at_mut(2 * half);
-    exact_product(&a[..half], &b[..half], product, spare);
-    out.copy_from_slice(&product[..cells]);
+    first_sums(a, b, half, out, work);
     let (cross, spare) = work.split_at_mut(cells - half);
     halved_sums(&a[half..], b, cross, spare);
     add_from(out, half, cross);

@@ -1,10 +1,8 @@
 -- The laws of sums of whole numbers, and of those over the pairs of places that add up to another.
-use Rattle.std.proofs.Common.{ℕ, zero, suc, inl, inr, ◌≡◌, ◌≢◌, ◌+◌, ◌-◌, ◌*◌, ◌<◌, ◌≤◌, arith, refl, sym, ap, ap₂, ◌∙◌, add-one}
+use Rattle.dl_exact.proofs.Common.{ℕ, zero, suc, inl, inr, ◌≡◌, ◌+◌, ◌-◌, ◌*◌, ◌<◌, ◌≤◌, arith, refl, sym, ap, ap₂, ◌∙◌, add-one, le_ind, sub-zero, suc-sub-suc, mul-le-mul_left, cases_lt, count_below, count_pairs}
+use Rattle.std.proofs.Common.{◌≢◌}
 use mathlib.Core.Path.{fun_ext}
-use native.Mathlib.Decide.{le_ind}
-use Rattle.std.proofs.Math.Nat.{sub-zero, suc-sub-suc, mul-le-mul_left, le_refl}
-use Rattle.std.proofs.lemmas.Bool.{cases_lt}
-use Rattle.dl_exact.specs.Count.{count_below, count_pairs}
+use Rattle.std.proofs.Math.Nat.{le_refl}
 
 pub below_nothing : (f : ℕ → ℕ) → count_below 0 f ≡ 0
 unfolding count_below

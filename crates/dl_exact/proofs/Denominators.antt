@@ -1,9 +1,5 @@
 -- Numbers over one denominator: as numbers of units, of which d make 1.
-use Rattle.std.proofs.Common.{◌≡◌, ℕ, ◌+◌, ◌-◌, ◌*◌, ◌/◌, ◌<◌, ◌≤◌, arith, sym, ap, subst, ◌∙◌, mul-pos, mul_comm, mul-le-mul_right}
-use Rattle.std.proofs.Math.Nat.{mul-sub, eq_of_mul-eq-mul_right}
-use Rattle.std.specs.Int.{div_ceil}
-use Rattle.dl_exact.specs.Fraction.{Fraction, whole, ◌over◌, ◌+ℚ◌, ◌-ℚ◌, ◌*ℚ◌, ◌≤ℚ◌, ◌<ℚ◌}
-use Rattle.dl_exact.specs.Rounding.{IsFloor, IsCeiling}
+use Rattle.dl_exact.proofs.Common.{◌≡◌, ℕ, ◌+◌, ◌-◌, ◌*◌, ◌/◌, ◌<◌, ◌≤◌, arith, sym, ap, subst, ◌∙◌, mul-pos, mul_comm, mul-le-mul_right, mul-sub, eq_of_mul-eq-mul_right, div_ceil, Fraction, whole, ◌over◌, ◌+ℚ◌, ◌-ℚ◌, ◌*ℚ◌, ◌≤ℚ◌, ◌<ℚ◌, IsFloor, IsCeiling}
 use Rattle.dl_exact.proofs.Over.{over_self, over_same, over_add, over_sub, over_mul, over_le, over_lt, le_over}
 use Rattle.dl_exact.proofs.Laws.{one_pos, le_of_eq}
 use Rattle.dl_exact.proofs.RoundingLaws.{floor_div, ceiling_div}

@@ -1,8 +1,6 @@
 -- The laws of fractions, each from one of numbers.
-use Rattle.std.proofs.Common.{◌≡◌, ◌⊎◌, inl, inr, ℕ, suc, zero, ◌+◌, ◌*◌, ◌-◌, ◌<◌, ◌≤◌, arith, sym, ap, subst, subst₂, ◌∙◌, mul-pos, mul-le-mul_right, mul-le-mul, le_of_mul-le-mul_right, le-mul_of_pos_right}
-use Rattle.std.proofs.Math.Nat.{zero-lt-suc}
-use Rattle.std.proofs.lemmas.Bool.{cases_lt}
-use Rattle.dl_exact.specs.Fraction.{Fraction, ◌over◌, ◌+ℚ◌, ◌-ℚ◌, ◌*ℚ◌, ◌/ℚ◌, ◌≤ℚ◌, ◌<ℚ◌, whole}
+use Rattle.dl_exact.proofs.Common.{◌≡◌, inl, inr, ℕ, suc, zero, ◌+◌, ◌*◌, ◌-◌, ◌<◌, ◌≤◌, arith, sym, ap, subst, subst₂, ◌∙◌, mul-pos, mul-le-mul_right, le_of_mul-le-mul_right, le-mul_of_pos_right, zero-lt-suc, cases_lt, Fraction, ◌over◌, ◌+ℚ◌, ◌-ℚ◌, ◌*ℚ◌, ◌/ℚ◌, ◌≤ℚ◌, ◌<ℚ◌, whole}
+use Rattle.std.proofs.Common.{◌⊎◌, mul-le-mul}
 use Rattle.dl_exact.proofs.Over.{by_over, over_same, over_add, over_sub, over_mul, over_div, over_le, le_over, over_lt, lt_over}
 
 pub by_two : (P : Fraction → Fraction → Type 0)

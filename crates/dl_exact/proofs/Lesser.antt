@@ -1,7 +1,7 @@
 -- The lesser of two fractions is one of them.
-use Rattle.std.proofs.Common.{◌≡◌, ℕ, ◌*◌, ◌<◌, min, arith, inl, inr, sym, ap, subst, ◌∙◌, mul-pos}
-use Rattle.std.proofs.lemmas.Bool.{cases_lt}
-use Rattle.dl_exact.specs.Fraction.{Fraction, ◌over◌, ◌≤ℚ◌, lesser}
+use Rattle.dl_exact.proofs.Common.{◌≡◌, ℕ, ◌*◌, ◌<◌, arith, inl, inr, sym, ap, subst, ◌∙◌, mul-pos, cases_lt, Fraction, ◌over◌, ◌≤ℚ◌}
+use Rattle.std.proofs.Common.{min}
+use Rattle.dl_exact.specs.Fraction.{lesser}
 use Rattle.dl_exact.proofs.Over.{over_same, over_self}
 use Rattle.dl_exact.proofs.Laws.{le_refl, le_trans, le_of_lt, lt_or_le}
 use Rattle.dl_exact.proofs.Denominators.{over_le_over}

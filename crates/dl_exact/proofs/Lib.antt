@@ -1,3 +1,4 @@
+mod Common
 pub mod GcdLaws
 pub mod Multiples
 pub mod Over

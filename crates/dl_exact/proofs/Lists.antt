@@ -1,8 +1,8 @@
 -- Parts of lists from a place on, and one number of a list beside their sum.
-use Rattle.std.proofs.Common.{◌≡◌, ℕ, zero, suc, ◌+◌, ◌-◌, ◌≤◌, List, [], ◌∷◌, length, take, drop, get_or, arith, ap, ◌∙◌, length-drop, add-one}
+use Rattle.dl_exact.proofs.Common.{◌≡◌, ℕ, zero, suc, ◌+◌, ◌-◌, ◌≤◌, List, [], ◌∷◌, arith, ap, ◌∙◌, add-one, sum_by-cons}
+use Rattle.std.proofs.Common.{length, take, drop, get_or, length-drop}
 use Rattle.std.specs.List.{sum}
 use Rattle.std.proofs.lemmas.List.{take_all}
-use Rattle.std.proofs.lemmas.List.Sums.{sum_by-cons}
 
 -- what follows a place, up to the end
 pub rest_whole : {A : Type 0} (xs : List A) (i : ℕ) → take (length xs - i) (drop i xs) ≡ drop i xs

@@ -1,7 +1,6 @@
 -- The laws of powers of fractions and of factorials.
-use Rattle.std.proofs.Common.{◌≡◌, ℕ, suc, zero, ◌+◌, ◌<◌, sym, ap, ◌∙◌, mul-pos, zero-add, suc-add}
-use Rattle.std.proofs.Math.Nat.{zero-lt-suc}
-use Rattle.dl_exact.specs.Fraction.{Fraction, whole, ◌*ℚ◌, ◌<ℚ◌}
+use Rattle.dl_exact.proofs.Common.{◌≡◌, ℕ, suc, zero, ◌+◌, ◌<◌, sym, ap, ◌∙◌, mul-pos, zero-lt-suc, Fraction, whole, ◌*ℚ◌, ◌<ℚ◌}
+use Rattle.std.proofs.Common.{zero-add, suc-add}
 use Rattle.dl_exact.specs.Power.{◌^ℚ◌, factorial}
 use Rattle.dl_exact.proofs.Laws.{ring, one_pos, one_times, times_one, times_assoc, times_pos, whole_pos}
 

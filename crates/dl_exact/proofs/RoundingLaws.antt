@@ -1,12 +1,8 @@
 -- Quotients of whole numbers are floors and ceilings, and there is one of each.
-use Rattle.std.proofs.Common.{◌≡◌, ℕ, ◌*◌, ◌/◌, ◌<◌, ◌≤◌, arith, inl, inr}
-use Rattle.std.proofs.Math.Nat.{div-mul-le_self, mul-le-mul_left, mul-le-mul_right}
+use Rattle.dl_exact.proofs.Common.{◌≡◌, ℕ, ◌*◌, ◌/◌, ◌<◌, ◌≤◌, arith, inl, inr, mul-le-mul_left, cases_lt, div_ceil, Fraction, ◌over◌, ◌≤ℚ◌, whole, IsFloor, IsCeiling}
+use Rattle.std.proofs.Math.Nat.{div-mul-le_self, mul-le-mul_right}
 use Rattle.std.proofs.lemmas.Nat.{le-div}
-use Rattle.std.proofs.lemmas.Bool.{cases_lt}
 use Rattle.std.proofs.lemmas.Grind.{div_ceil_times}
-use Rattle.std.specs.Int.{div_ceil}
-use Rattle.dl_exact.specs.Fraction.{Fraction, ◌over◌, ◌≤ℚ◌, whole}
-use Rattle.dl_exact.specs.Rounding.{IsFloor, IsCeiling}
 use Rattle.dl_exact.proofs.Over.{over_le, le_over}
 use Rattle.dl_exact.proofs.Laws.{one_pos}
 

@@ -1,11 +1,8 @@
 -- Sums over one denominator, and sums in whole units.
-use Rattle.std.proofs.Common.{◌≡◌, ℕ, suc, zero, ◌+◌, ◌*◌, ◌<◌, List, [], ◌∷◌, Bool, true, false, cond, arith, refl, sym, ap, subst₂, ◌∙◌, mul-pos}
+use Rattle.dl_exact.proofs.Common.{◌≡◌, ℕ, suc, zero, ◌+◌, ◌*◌, ◌<◌, List, [], ◌∷◌, arith, refl, sym, ap, subst₂, ◌∙◌, mul-pos, sum_by-cons, Fraction, whole, ◌over◌, ◌+ℚ◌, ◌*ℚ◌, ◌≤ℚ◌, sum_to, sum_below, sum_pairs, sum_over, count_below, count_pairs}
+use Rattle.std.proofs.Common.{Bool, true, false, cond}
 use Rattle.std.specs.Int.{sum_through}
 use Rattle.std.specs.List.{sum_by}
-use Rattle.std.proofs.lemmas.List.Sums.{sum_by-cons}
-use Rattle.dl_exact.specs.Fraction.{Fraction, whole, ◌over◌, ◌+ℚ◌, ◌*ℚ◌, ◌≤ℚ◌}
-use Rattle.dl_exact.specs.Sum.{sum_to, sum_below, sum_pairs, sum_over}
-use Rattle.dl_exact.specs.Count.{count_below, count_pairs}
 use Rattle.dl_exact.proofs.Over.{over_mul}
 use Rattle.dl_exact.proofs.Laws.{times_plus, whole_plus, plus_le_both}
 use Rattle.dl_exact.proofs.Sums.{sum_pairs_same}

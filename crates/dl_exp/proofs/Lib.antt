@@ -1,3 +1,4 @@
+mod Common
 pub mod Terms
 pub mod Roundings
 pub mod Reciprocals

@@ -1,12 +1,7 @@
 -- Reciprocals in whole units, rounded down and up.
-use Rattle.std.proofs.Common.{◌≡◌, ℕ, ◌+◌, ◌*◌, ◌/◌, ◌^◌, ◌<◌, ◌≤◌, arith, sym, ap, subst, subst₂, ◌∙◌, mul-pos, mul-le-mul, mul-le-mul_left, mul-le-mul_right, le_of_mul-le-mul_right}
-use Rattle.std.proofs.Math.Nat.{lt-div-mul-add}
-use Rattle.std.proofs.lemmas.Grind.{div_ceil_times}
-use Rattle.std.specs.Int.{div_ceil}
-use Rattle.dl_exact.specs.Fraction.{Fraction, ◌over◌, ◌*ℚ◌, ◌≤ℚ◌, ◌<ℚ◌, whole}
-use Rattle.dl_exact.proofs.Laws.{ring, le_refl, le_trans, one_times, times_le_cancel, times_pos, whole_pos, whole_times, over_times_whole, times_le_both}
-use Rattle.dl_exact.proofs.RoundingLaws.{whole_le, div_ceil_least, part_within}
-use Rattle.dl_iv.proofs.Rounding.{power_le}
+use Rattle.dl_exp.proofs.Common.{◌≡◌, ℕ, ◌+◌, ◌*◌, ◌/◌, ◌^◌, ◌<◌, ◌≤◌, arith, sym, ap, subst, subst₂, ◌∙◌, mul-pos, mul-le-mul_left, mul-le-mul_right, le_of_mul-le-mul_right, lt-div-mul-add, div_ceil_times, div_ceil, Fraction, ◌over◌, ◌*ℚ◌, ◌≤ℚ◌, ◌<ℚ◌, whole, ring, le_refl, le_trans, times_le_cancel, whole_pos, whole_times, over_times_whole, times_le_both, whole_le, part_within, power_le}
+use Rattle.std.proofs.Common.{mul-le-mul}
+use Rattle.dl_exact.proofs.Laws.{one_times, times_pos}
 
 module _ (S T : ℕ) (S_pos : 0 < S) (T_pos : 0 < T) where
   units_pos : whole 0 <ℚ whole S *ℚ whole T

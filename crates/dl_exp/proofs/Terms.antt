@@ -1,16 +1,11 @@
 -- The terms of the exponential's series: each from the one before, in whole units, and the sum of all that follow.
-use Rattle.std.proofs.Common.{◌≡◌, ℕ, suc, zero, ◌+◌, ◌*◌, ◌<◌, ◌≤◌, arith, sym, ap, subst, subst₂, ◌∙◌, mul-pos, add-suc, add-zero}
-use Rattle.std.proofs.Math.Nat.{zero-lt-suc}
-use Rattle.dl_exact.specs.Fraction.{Fraction, ◌over◌, ◌+ℚ◌, ◌*ℚ◌, ◌/ℚ◌, ◌≤ℚ◌, ◌<ℚ◌, whole}
+use Rattle.dl_exp.proofs.Common.{◌≡◌, ℕ, suc, zero, ◌+◌, ◌*◌, ◌≤◌, arith, sym, ap, subst, subst₂, ◌∙◌, mul-pos, zero-lt-suc, Fraction, ◌over◌, ◌*ℚ◌, ◌≤ℚ◌, ◌<ℚ◌, whole, sum_to, ring, le_trans, times_one, times_le_cancel, whole_pos, whole_plus, whole_times, over_times_whole, whole_le, exponential_term}
+use Rattle.dl_exact.specs.Fraction.{◌+ℚ◌, ◌/ℚ◌}
 use Rattle.dl_exact.specs.Power.{◌^ℚ◌, factorial}
-use Rattle.dl_exact.specs.Sum.{sum_to}
 use Rattle.dl_exact.proofs.Over.{over_self, le_over}
-use Rattle.dl_exact.proofs.Laws.{one_pos, ring, le_refl, le_trans, le_plus, plus_le_both, plus_assoc, plus_times, times_plus, times_comm, times_one, times_le_times, times_le_cancel, times_cancel, div_times, whole_pos, whole_plus, whole_times, over_times_whole}
-use Rattle.dl_exact.proofs.RoundingLaws.{whole_le}
+use Rattle.dl_exact.proofs.Laws.{one_pos, plus_times, times_comm, times_le_times, times_cancel, div_times}
 use Rattle.dl_exact.proofs.Sums.{halving_bound}
 use Rattle.dl_exact.proofs.Powers.{factorial_pos}
-use Rattle.dl_exact.proofs.SumsOver.{low_sum, high_sum}
-use Rattle.dl_exp.specs.Exponential.{exponential_term}
 
 pub term_zero : (x : Fraction) → exponential_term x zero ≡ whole 1
 unfolding exponential_term factorial ◌^ℚ◌

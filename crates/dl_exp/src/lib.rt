@@ -9,9 +9,6 @@ ghost use Rattle.dl_exp.specs.Exponential.{exponential_sum, EnclosesExp};
 use dl_frac::Frac;
 use dl_iv::Iv;
 
-#[cfg(test)]
-mod tests;
-
 /// How many units make 1 in the sums of the series: 2^63, so that a unit times a part of a fraction
 /// fits.
 const ONE: u128 = 1 << 63;

@@ -1,15 +1,12 @@
 -- Sums and products of fractions by parts from which the common divisors were taken out first.
-use Rattle.std.proofs.Common.{◌≡◌, ℕ, ◌+◌, ◌*◌, ◌/◌, ◌<◌, ◌≤◌, arith, sym, ap, ap₂, subst, ◌∙◌, mul-pos, add_comm}
-use Rattle.std.proofs.Math.Nat.{dvd-mul_left, dvd-mul_right, div-mul_cancel, eq_of_mul-eq-mul_right, pos_of_dvd_of_pos}
-use Rattle.std.proofs.Common.{◌^◌, ◌%◌}
-use Rattle.std.proofs.Math.Nat.{pow-le-pow_right, mod-eq_of_lt}
+use Rattle.dl_frac.proofs.Common.{◌≡◌, ℕ, ◌+◌, ◌*◌, ◌<◌, ◌≤◌, arith, sym, ap, ap₂, subst, ◌∙◌, ◌^◌, pow-le-pow_right, gcd, ◌over◌, gcd_is, gcd_pos, cut_pos, cut_lowest, lowest_swap}
+use Rattle.std.proofs.Common.{◌/◌, mul-pos, add_comm, ◌%◌}
+use Rattle.std.proofs.Math.Nat.{dvd-mul_left, dvd-mul_right, div-mul_cancel, eq_of_mul-eq-mul_right, pos_of_dvd_of_pos, mod-eq_of_lt}
 use Prim.Native.Nat.{◌∣◌}
 use Rattle.std.proofs.lemmas.Nat.Gcd.{dvd_trans, dvd_refl}
-use Rattle.dl_exact.specs.Gcd.{gcd}
-use Rattle.dl_exact.specs.Fraction.{◌over◌}
-use Rattle.dl_exact.proofs.GcdLaws.{gcd_is, gcd_pos, cut_left, cut_right, cut_pos, cut_lowest}
+use Rattle.dl_exact.proofs.GcdLaws.{cut_left, cut_right}
 use Rattle.dl_exact.proofs.Over.{over_same}
-use Rattle.dl_exact.proofs.Multiples.{lowest_swap, lowest_parts, lowest_times, lowest_plus, lowest_product, part_divides}
+use Rattle.dl_exact.proofs.Multiples.{lowest_parts, lowest_times, lowest_plus, lowest_product, part_divides}
 
 -- ---- products, cut across
 

@@ -1,21 +1,14 @@
 -- How the digits, the places and the parts of a text change with one more byte.
-use Rattle.std.proofs.Common.{◌≡◌, ◌≢◌, ◌⊎◌, inl, inr, ℕ, suc, ◌+◌, ◌*◌, ◌-◌, ◌^◌, ◌<◌, ◌≤◌, Bool, true, false, cond, ◌||◌, List, [], ◌∷◌, ◌++◌, length, take, drop, get_or, append_assoc, arith, refl, sym, ap, ap₂, ◌∙◌, mul_comm}
-use Rattle.std.specs.Prelude.{◌==◌, nat_lt, IsTrue, ◌↔◌}
+use Rattle.dl_frac.proofs.Common.{◌≡◌, inl, inr, ℕ, suc, ◌+◌, ◌*◌, ◌-◌, ◌^◌, ◌<◌, ◌≤◌, Bool, true, false, cond, ◌||◌, List, [], ◌∷◌, ◌++◌, length, take, drop, get_or, arith, refl, sym, ap, ap₂, ◌∙◌, ◌==◌, nat_lt, IsTrue, ◌↔◌, list_any, before_first, after_first, position_or_len, is_ascii_digit, digit_value, AllDigits, length-append, append-nil, take-append-drop, take_more, nat_tests, pow-le-pow_right, whole, ◌over◌, ◌/ℚ◌, rest_whole, is_point, is_percent, is_slash, digits_in, digit_count, number_in, places_in, numeral_value, is_bad, IsDecimal, plain, pointed}
+use Rattle.std.proofs.Common.{◌≢◌, ◌⊎◌, append_assoc, mul_comm}
 use Rattle.std.proofs.lemmas.Nat.{pow-add}
-use Rattle.std.specs.List.{list_any, before_first, after_first, position_or_len}
-use Rattle.std.specs.Char.{is_ascii_digit, digit_value}
-use Rattle.std.specs.Str.Parse.{AllDigits, IsNumeral as IsNumber, digits_value}
-use Rattle.std.proofs.lemmas.List.{length-append, append-nil, take-append-drop, take_more}
+use Rattle.std.specs.Str.Parse.{IsNumeral as IsNumber, digits_value}
 use Rattle.std.proofs.lemmas.List.Elements.{filter-append}
 use Rattle.std.proofs.lemmas.List.Folds.{list_any-append}
 use Rattle.std.proofs.lemmas.Int.Digits.{digits_value_push}
-use Rattle.std.proofs.lemmas.Bool.Decides.{nat_tests}
-use Rattle.std.proofs.Math.Nat.{pow-le-pow_right}
-use Rattle.dl_exact.specs.Fraction.{whole, ◌over◌, ◌/ℚ◌}
 use Rattle.dl_exact.proofs.Over.{over_div}
 use Rattle.dl_exact.proofs.Laws.{one_pos}
-use Rattle.dl_exact.proofs.Lists.{rest_whole}
-use Rattle.dl_frac.specs.Numerals.{is_point, is_percent, is_slash, digits_in, digit_count, number_in, places_in, decimal_value, numeral_value, is_bad, IsDecimal, plain, pointed}
+use Rattle.dl_frac.specs.Numerals.{decimal_value}
 use Rattle.std.proofs.lemmas.Bool.{or_parts, lt-ltb, ltb-true}
 
 pub cases : (b : Bool) → (b ≡ true) ⊎ (b ≡ false)

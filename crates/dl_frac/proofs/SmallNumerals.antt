@@ -1,13 +1,8 @@
 -- The parts of a numeral that is not bad are small.
-use Rattle.std.proofs.Common.{◌≡◌, inl, inr, ℕ, suc, ◌-◌, ◌*◌, ◌^◌, ◌<◌, ◌≤◌, true, false, List, [], ◌∷◌, arith, refl, sym, ap, ◌∙◌}
-use Rattle.std.specs.Prelude.{◌==◌, ◌||◌, nat_lt, IsTrue}
-use Rattle.std.specs.List.{list_any, list_all, before_first, after_first}
-use Rattle.std.specs.Char.{is_ascii_digit}
-use Rattle.std.proofs.Math.Nat.{pow-le-pow_right, one-le-pow}
+use Rattle.dl_frac.proofs.Common.{◌≡◌, inl, inr, ℕ, suc, ◌-◌, ◌*◌, ◌^◌, ◌<◌, ◌≤◌, true, false, List, [], ◌∷◌, arith, refl, sym, ap, ◌∙◌, ◌==◌, nat_lt, IsTrue, list_any, list_all, before_first, after_first, is_ascii_digit, pow-le-pow_right, nat_tests, Fraction, ◌over◌, is_point, is_slash, is_percent, digits_in, digit_count, number_in, places_in, numeral_value, is_bad}
+use Rattle.std.specs.Prelude.{◌||◌}
+use Rattle.std.proofs.Math.Nat.{one-le-pow}
 use Rattle.std.proofs.lemmas.Int.Digits.{digits_value-lt}
-use Rattle.std.proofs.lemmas.Bool.Decides.{nat_tests}
-use Rattle.dl_exact.specs.Fraction.{Fraction, ◌over◌}
-use Rattle.dl_frac.specs.Numerals.{is_point, is_slash, is_percent, digits_in, digit_count, number_in, places_in, numeral_value, is_bad}
 use Rattle.dl_frac.proofs.NumeralLaws.{cases, after_yes, after_none, count-append, plain_value, plain_bad, hundredth}
 use Rattle.dl_frac.proofs.SpellingLaws.{digits_pass}
 use Rattle.dl_exact.proofs.Parts.{over_num_le as num_of_over-le, over_den_le as den_of_over-le}

@@ -1,16 +1,14 @@
 -- What the first sign in a text tells of how the text is spelled.
-use Rattle.std.proofs.Common.{◌≡◌, inl, inr, ℕ, suc, zero, ◌+◌, ◌-◌, ◌<◌, ◌≤◌, Bool, true, false, cond, List, [], ◌∷◌, ◌++◌, length, take, drop, get_or, Some, None, arith, refl, sym, ap, subst, ◌∙◌}
-use Rattle.std.specs.Prelude.{◌==◌, ◌&&◌, nat_lt, IsTrue, ◌↔◌}
-use Rattle.std.specs.List.{list_any, list_all, before_first, after_first, position, position_or_len}
-use Rattle.std.specs.Char.{is_ascii_digit, digit_value}
-use Rattle.std.specs.Str.Parse.{AllDigits, IsNumeral as IsNumber}
-use Rattle.std.proofs.lemmas.List.{length-append, append-nil, append_cancel_right}
+use Rattle.dl_frac.proofs.Common.{◌≡◌, inl, inr, ℕ, suc, ◌+◌, ◌-◌, ◌<◌, ◌≤◌, Bool, true, false, cond, List, [], ◌∷◌, ◌++◌, length, take, drop, get_or, arith, refl, sym, ap, subst, ◌∙◌, ◌==◌, nat_lt, IsTrue, ◌↔◌, list_any, list_all, before_first, after_first, position_or_len, is_ascii_digit, digit_value, AllDigits, length-append, append-nil, nat_tests, is_point, is_percent, is_slash, IsDecimal, plain, pointed, decimal, percent, rest_whole}
+use Rattle.std.proofs.Common.{zero, Some, None}
+use Rattle.std.specs.Prelude.{◌&&◌}
+use Rattle.std.specs.List.{position}
+use Rattle.std.specs.Str.Parse.{IsNumeral as IsNumber}
+use Rattle.std.proofs.lemmas.List.{append_cancel_right}
 use Rattle.std.proofs.lemmas.List.Folds.{list_any_at}
 use Rattle.std.proofs.lemmas.List.Quantifiers.{position-Some}
-use Rattle.std.proofs.lemmas.Bool.Decides.{nat_tests}
-use Rattle.dl_frac.specs.Numerals.{is_point, is_percent, is_slash, IsDecimal, plain, pointed, IsNumeral, decimal, percent, fraction}
+use Rattle.dl_frac.specs.Numerals.{IsNumeral, fraction}
 use Rattle.dl_frac.proofs.NumeralLaws.{cases, cut_at, before_none, after_none, before_yes, after_yes, digit_or_not, no_sign, point_no_digit, slash_no_digit, decimal_marks, any_push_no}
-use Rattle.dl_exact.proofs.Lists.{rest_whole}
 
 -- ---- digits
 

@@ -9,8 +9,6 @@ mod laws;
 mod numerals;
 mod reading;
 mod spelling;
-#[cfg(test)]
-mod tests;
 
 pub use arithmetic::{Frac, TooFine};
 pub use divisors::{lcm_to, small_divisor};

@@ -1,12 +1,6 @@
 -- What the ends of a list of cells are at one place, and how large they can be.
-use Rattle.std.proofs.Common.{ℕ, zero, suc, ◌≡◌, ◌+◌, ◌-◌, ◌*◌, ◌^◌, ◌<◌, ◌≤◌, List, [], ◌∷◌, length, get_or, set, take, replicate, arith, refl, ap, ◌∙◌}
-use Rattle.std.specs.Prelude.{All, sum_by}
-use Rattle.std.proofs.Math.Nat.{mul-le-mul, pow-le-pow_right}
-use Rattle.std.proofs.lemmas.List.{length-set}
-use Rattle.std.proofs.lemmas.List.Elements.{All-set}
-use Rattle.std.proofs.lemmas.List.Sums.{sum_by-set, sum_by_more, sum_by-le, sum_by-take-le}
-use Rattle.dl_iv.specs.declared.interval.Iv.{Iv}
-use Rattle.dl_grid.specs.Cells.{low_at, high_at, mass_low, all_at_zero, IsGrid}
+use Rattle.dl_grid.proofs.Common.{ℕ, zero, suc, ◌≡◌, ◌-◌, ◌*◌, ◌^◌, ◌<◌, ◌≤◌, List, [], ◌∷◌, length, get_or, take, arith, refl, ap, ◌∙◌, All, mul-le-mul, pow-le-pow_right, sum_by-le, sum_by-take-le, Iv, low_at, high_at, IsGrid}
+use Rattle.std.specs.Prelude.{sum_by}
 
 -- the ends of a cell by its place, and of one that was read
 pub low_at_get : {B : ℕ} (cells : List (Iv B)) (x : ℕ) (d : Iv B) → x < length cells

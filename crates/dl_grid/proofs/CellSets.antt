@@ -1,10 +1,8 @@
 -- The ends, the mass and the spread of a grid after one cell was written, and of its first cells.
-use Rattle.std.proofs.Common.{ℕ, zero, suc, ◌≡◌, ◌≢◌, ◌+◌, ◌-◌, ◌<◌, ◌≤◌, List, [], ◌∷◌, length, set, take, arith, refl, ap, inl, inr, ◌∙◌}
-use Rattle.std.specs.Prelude.{◌==◌, if◌then◌else◌, min}
-use Rattle.std.proofs.lemmas.Bool.Decides.{eqb_tells}
-use Rattle.std.proofs.lemmas.List.Sums.{sum_by-cons, sum_by-set, get_or-le-sum_by}
-use Rattle.dl_iv.specs.declared.interval.Iv.{Iv}
-use Rattle.dl_grid.specs.Cells.{low_at, high_at, mass_low, spread, all_at_zero}
+use Rattle.dl_grid.proofs.Common.{ℕ, zero, suc, ◌≡◌, ◌+◌, ◌-◌, ◌<◌, ◌≤◌, List, [], ◌∷◌, length, set, take, arith, refl, ap, inl, inr, ◌∙◌, min, eqb_tells, sum_by-cons, sum_by-set, Iv, low_at, high_at, mass_low, spread, all_at_zero}
+use Rattle.std.proofs.Common.{◌≢◌}
+use Rattle.std.specs.Prelude.{◌==◌, if◌then◌else◌}
+use Rattle.std.proofs.lemmas.List.Sums.{get_or-le-sum_by}
 use Rattle.dl_grid.proofs.CellLaws.{low_at_get, high_at_get}
 
 low_here : {B : ℕ} (cells : List (Iv B)) (i : ℕ) (v : Iv B) → i < length cells → low_at (set cells i v) i ≡ v.lo

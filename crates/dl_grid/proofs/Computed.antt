@@ -1,5 +1,5 @@
 -- A number that is computed where it fits.
-use Rattle.std.proofs.Common.{ℕ, ◌≡◌, ◌∙◌, refl}
+use Rattle.dl_grid.proofs.Common.{ℕ, ◌≡◌, ◌∙◌, refl}
 use Rattle.std.specs.Prelude.{Option, Some, None, IfSome, IsSome, SomeIff}
 
 pub some_is : (r : Option ℕ) (P : Type 0) (v w : ℕ) → SomeIff r P v → v ≡ w → IfSome r (λ x. x ≡ w)

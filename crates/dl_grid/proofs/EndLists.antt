@@ -1,19 +1,17 @@
 -- Cells as two lists of ends: one determines the other, and both change alike.
-use Rattle.std.proofs.Common.{ℕ, zero, suc, ◌≡◌, ◌+◌, ◌-◌, ◌*◌, ◌^◌, ◌<◌, ◌≤◌, List, [], ◌∷◌, ◌++◌, length, get_or, set, take, map, replicate, arith, refl, sym, subst, ap, ap₂, inl, inr, ◌∙◌}
-use Rattle.std.specs.Prelude.{◌⊎◌, All, sum, sum_by}
+use Rattle.dl_grid.proofs.Common.{ℕ, zero, suc, ◌≡◌, ◌+◌, ◌-◌, ◌*◌, ◌^◌, ◌<◌, ◌≤◌, List, [], ◌∷◌, ◌++◌, length, get_or, set, take, arith, refl, sym, subst, ap, ap₂, inl, inr, ◌∙◌, All, mul-le-mul, pow-le-pow_right, length-take-le, take_all, eqb_tells, sum_by-cons, sum_by-take-le, sum_by-set, sum_by-le, Iv, low_at, high_at, mass_low, spread, all_at_zero, IsGrid}
+use Rattle.std.proofs.Common.{replicate}
+use Rattle.std.specs.Prelude.{◌⊎◌, sum}
 use Rattle.std.proofs.lemmas.Grind.{get_or_default_zero}
 use Rattle.std.proofs.lemmas.Bool.{cases_lt}
 use Rattle.std.proofs.Math.Bridge.{le_prop}
-use Rattle.std.proofs.Math.Nat.{mul-le-mul, pow-le-pow_right}
-use Rattle.std.proofs.lemmas.List.{length-map, length-replicate, get_or-replicate, map-append, get_or-map, length-take-le, take_all, length-set, take-map, map-set, get_or-take, get_or-set_same, get_or-set_other}
+use Rattle.std.proofs.lemmas.List.{length-map, length-replicate, get_or-replicate, map-append, get_or-map, length-set, take-map, map-set, get_or-take, get_or-set_same, get_or-set_other}
 use Rattle.std.proofs.Math.ListN.{get_or-eq_default}
-use Rattle.std.proofs.lemmas.Bool.Decides.{eqb_tells}
 use Rattle.std.proofs.lemmas.List.Elements.{All-replicate, All-take, All-set, All-weaker, All-map, All-tail, All-head}
 use Rattle.std.proofs.lemmas.List.Folds.{sum_by-replicate}
-use Rattle.std.proofs.lemmas.List.Sums.{sum_by-cons, sum-map, sum_by-take-le, sum_by-set, sum_by-le}
-use Rattle.dl_iv.specs.declared.interval.Iv.{Iv}
+use Rattle.std.proofs.lemmas.List.Sums.{sum-map}
 use Rattle.dl_grid.proofs.CellLaws.{scale_of, one_fits}
-use Rattle.dl_grid.specs.Cells.{low_at, high_at, low_ends, high_ends, cell_by, cells_of, mass_low, mass_high, spread, all_at_zero, IsGrid, AreEnds}
+use Rattle.dl_grid.specs.Cells.{low_ends, high_ends, cell_by, cells_of, mass_high, AreEnds}
 
 -- an end by its place
 pub low_at_ends : {B : ℕ} (cells : List (Iv B)) (x : ℕ) → get_or (low_ends cells) x 0 ≡ low_at cells x

@@ -1,3 +1,4 @@
+mod Common
 pub mod CellLaws
 pub mod EndLists
 pub mod CellSets

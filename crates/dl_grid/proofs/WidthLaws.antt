@@ -1,9 +1,8 @@
 -- The width rule's laws, over plain numbers.
-use Rattle.std.proofs.Common.{ℕ, zero, suc, ◌≡◌, ◌+◌, ◌-◌, ◌*◌, ◌^◌, ◌<◌, ◌≤◌, arith, refl, sym, ap, subst, ◌∙◌, add-one}
-use Rattle.std.specs.Int.{div_ceil}
-use Rattle.std.proofs.Math.Nat.{mul-le-mul, mul-le-mul_left, mul-pos, le_of_mul-le-mul_right}
-use Rattle.std.proofs.lemmas.Grind.{div_ceil_times, pow_more}
-use Rattle.std.proofs.lemmas.Nat.{pow_pos}
+use Rattle.dl_grid.proofs.Common.{ℕ, zero, suc, ◌≡◌, ◌+◌, ◌-◌, ◌*◌, ◌^◌, ◌<◌, ◌≤◌, arith, refl, sym, ap, subst, ◌∙◌, div_ceil, mul-le-mul, le_of_mul-le-mul_right, div_ceil_times, pow_pos}
+use Rattle.std.proofs.Common.{add-one}
+use Rattle.std.proofs.Math.Nat.{mul-le-mul_left, mul-pos}
+use Rattle.std.proofs.lemmas.Grind.{pow_more}
 use Rattle.dl_exact.specs.Fraction.{Fraction, ◌over◌}
 use Rattle.dl_exact.specs.Rounding.{IsCeiling}
 use Rattle.dl_exact.proofs.Over.{over_self}

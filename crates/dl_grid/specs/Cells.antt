@@ -1,7 +1,7 @@
 -- A grid as the list of its cells, one for each number of buckets: its ends, its mass and its
 -- spread, in units of 1 / 2^B.
 use Rattle.std.specs.Prelude.{ℕ, zero, suc, ◌-◌, ◌^◌, ◌<◌, ◌≤◌, ◌≡◌, ◌⊎◌, List, [], ◌∷◌, ◌++◌, length, get_or, map, All, sum, sum_by}
-use Rattle.std.proofs.Common.{inl, inr}
+use Rattle.std.proofs.Common.{inr}
 use Rattle.std.proofs.lemmas.Bool.{cases_lt}
 use Rattle.dl_limits.specs.Limits.{most_cells}
 use Rattle.dl_iv.specs.declared.interval.Iv.{Iv}

@@ -6,8 +6,6 @@
 
 mod grid;
 mod laws;
-#[cfg(test)]
-mod tests;
 mod widths;
 
 pub use dl_iv::units_of_one;

@@ -1,9 +1,6 @@
 -- Plainer bounds from which the conditions of the rounded operations follow.
-use Rattle.std.proofs.Common.{ℕ, ◌+◌, ◌*◌, ◌/◌, ◌^◌, ◌<◌, ◌≤◌, arith, refl}
-use Rattle.std.proofs.Math.Nat.{lt-div-mul-add, le-mul_of_pos_right, mul-le-mul_right, le_trans}
-use Rattle.std.specs.Int.{div_ceil}
-use Rattle.std.proofs.lemmas.Nat.{pow_pos}
-use Rattle.dl_exact.proofs.RoundingLaws.{div_ceil_least}
+use Rattle.dl_iv.proofs.Common.{ℕ, ◌+◌, ◌*◌, ◌/◌, ◌^◌, ◌<◌, ◌≤◌, arith, refl, le-mul_of_pos_right, mul-le-mul_right, le_trans, div_ceil, pow_pos, div_ceil_least}
+use Rattle.std.proofs.Math.Nat.{lt-div-mul-add}
 use Rattle.dl_iv.proofs.Rounding.{power_le}
 
 -- a fraction below 2^71 can be enclosed

@@ -1,9 +1,6 @@
 -- Laws of intervals and the fractions that lie in them.
-use Rattle.std.proofs.Common.{ℕ, ◌≤◌, ◌^◌}
-use Rattle.std.proofs.lemmas.Nat.{pow_pos}
-use Rattle.dl_exact.specs.Fraction.{Fraction, ◌over◌}
+use Rattle.dl_iv.proofs.Common.{ℕ, ◌≤◌, ◌^◌, pow_pos, Fraction, ◌over◌, Iv}
 use Rattle.dl_exact.proofs.Laws.{le_trans}
-use Rattle.dl_iv.specs.declared.interval.Iv.{Iv}
 use Rattle.dl_iv.specs.Enclosure.{LiesIn}
 use Rattle.dl_exact.proofs.Denominators.{over_le_over}
 

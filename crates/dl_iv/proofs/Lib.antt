@@ -1,3 +1,4 @@
+mod Common
 pub mod Rounding
 pub mod Operations
 pub mod SumLaws

@@ -1,11 +1,6 @@
 -- The law that a sum of intervals holds the sums of their values.
-use Rattle.std.proofs.Common.{ℕ, ◌^◌, List, sym, subst, sum_by}
+use Rattle.dl_iv.proofs.Common.{ℕ, ◌^◌, List, sym, subst, sum_by, pow_pos, Fraction, ◌over◌, ◌+ℚ◌, ◌≤ℚ◌, sum_over, le_of_eq, Iv}
 use Rattle.std.proofs.lemmas.List.Sums.{sum_by-cons}
-use Rattle.std.proofs.lemmas.Nat.{pow_pos}
-use Rattle.dl_exact.specs.Fraction.{Fraction, ◌over◌, ◌+ℚ◌, ◌≤ℚ◌}
-use Rattle.dl_exact.specs.Sum.{sum_over}
-use Rattle.dl_exact.proofs.Laws.{le_of_eq}
-use Rattle.dl_iv.specs.declared.interval.Iv.{Iv}
 use Rattle.dl_iv.specs.Enclosure.{EachLiesIn, nothing, then}
 use Rattle.dl_exact.proofs.Denominators.{over_zero}
 use Rattle.dl_iv.proofs.Operations.{add_low, add_high}

@@ -8,8 +8,6 @@ mod exact;
 mod interval;
 mod laws;
 mod rounded;
-#[cfg(test)]
-mod tests;
 
 pub use exact::units_of_one;
 pub use interval::Iv;

@@ -1,3 +1,4 @@
+mod Common
 pub mod Mirror
 pub mod Placed
 pub mod Zeros

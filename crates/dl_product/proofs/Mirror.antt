@@ -1,6 +1,5 @@
 -- A sum whose terms are alike from both ends is twice its first half.
-use Rattle.std.proofs.Common.{ℕ, zero, suc, ◌≡◌, ◌+◌, ◌-◌, ◌*◌, arith, sym, ap, ◌∙◌}
-use Rattle.dl_exact.specs.Count.{count_below, count_pairs}
+use Rattle.dl_product.proofs.Common.{ℕ, zero, suc, ◌≡◌, ◌+◌, ◌-◌, ◌*◌, arith, sym, ap, ◌∙◌, count_below, count_pairs}
 use Rattle.dl_exact.proofs.Counts.{below_first, below_pairs}
 
 -- an even number of terms

@@ -1,40 +1,12 @@
 -- A product that is written into the middle of a list of zeros.
-use Rattle.std.proofs.Common.{ℕ, ◌≡◌, ◌+◌, ◌-◌, ◌*◌, ◌<◌, ◌≤◌, inl, inr, List, ◌++◌, take, drop, length, get_or}
-use Rattle.std.proofs.Common.{arith, refl, sym, ap, ap₂, ◌∙◌, length-append, length-drop}
+use Rattle.dl_product.proofs.Common.{ℕ, ◌≡◌, ◌+◌, ◌-◌, ◌*◌, ◌<◌, inl, inr, List, take, drop, length, get_or, arith, refl, sym, ap, ap₂, ◌∙◌, cases_lt, get_or-take, get_or-drop, length-take, pairs_same, pair_sum}
+use Rattle.std.proofs.Common.{◌++◌, length-drop}
 use Rattle.std.specs.Prelude.{min}
 use Rattle.std.proofs.Math.ListN.{get_or-append}
-use Rattle.std.proofs.lemmas.Bool.{cases_lt}
-use Rattle.std.proofs.Math.ListN.{replicate}
-use Rattle.std.proofs.lemmas.List.{get_or-take, get_or-drop, get_or-append_right, length-take}
-use Rattle.std.proofs.lemmas.List.{get_or-replicate, get_or_past, length-replicate}
-use Rattle.dl_exact.proofs.Counts.{pairs_same}
-use Rattle.dl_conv.specs.Sums.{pair_sum}
-use Rattle.dl_conv.proofs.Filled.{written}
+use Rattle.std.proofs.lemmas.List.{get_or-append_right}
 use Rattle.dl_product.specs.Windows.{IsWindow}
 use Rattle.dl_product.proofs.Zeros.{before_both, shift_both, past_both, window_at}
 use borrow.Rule.Slice.PartMut.{post_of}
-
-zeros_at : (n z i : ℕ) → z ≡ 0 → get_or (replicate n z) i 0 ≡ z
-zeros_at n z i e = elim (cases_lt i n) [
-  | inl b ↦ get_or-replicate n i z 0 b
-  | inr b ↦ get_or_past (replicate n z) i 0 (omega (arith, b, length-replicate n z)) ∙ sym e
-]
-
-placed_long : (zeros new : List ℕ) (place count n : ℕ) → length zeros ≡ n → place + count ≤ n
-    → length new ≡ count
-    → length (take place zeros ++ (new ++ post_of place (place + count - place) zeros)) ≡ n
-placed_long zeros new place count n e b h =
-    let post = post_of place (place + count - place) zeros in
-    omega (
-      arith,
-      e,
-      h,
-      length-append (take place zeros) (new ++ post),
-      length-append new post,
-      length-take place zeros,
-      length-drop (place + count - place) (drop place zeros),
-      length-drop place zeros,
-    )
 
 -- the products of the windows are those of the lists, further on
 windows_sum : (a b : List ℕ) (p q e f t : ℕ) → IsWindow a p e → IsWindow b q f
@@ -79,30 +51,21 @@ placed_at a b zeros new p q e f place count cells x y is_place is_count long non
     ]
 
 -- a list of zeros with the product of the windows at its place is the product of the lists
-pub product_placed : (a b items zeros new : List ℕ) (p q e f place count cells n : ℕ) → IsWindow a p e → IsWindow b q f
-    → place ≡ min cells (p + q) → count ≡ min (cells - place) (e - p + (f - q))
-    → items ≡ replicate cells 0 → length items ≡ cells → n ≡ cells → zeros ≡ items
-    → length new ≡ length (take (place + count - place) (drop place zeros))
+pub product_placed : (a b zeros new : List ℕ) (p q e f place count : ℕ) → IsWindow a p e → IsWindow b q f
+    → place ≡ min (length zeros) (p + q) → count ≡ min (length zeros - place) (e - p + (f - q))
+    → ((i : ℕ) → get_or zeros i 0 ≡ 0) → length new ≡ length (take (place + count - place) (drop place zeros))
     → ((t : ℕ) → t < length (take (place + count - place) (drop place zeros))
     → get_or new t 0 ≡ pair_sum (take (e - p) (drop p a)) (take (f - q) (drop q b)) t)
-    → let all = take place zeros ++ (new ++ post_of place (place + count - place) zeros) in
-    (s : ℕ) → s < cells → get_or (take n (all ++ drop (length all) items)) s 0 ≡ pair_sum a b s
-product_placed a b items zeros new p q e f place count cells n x y is_place is_count none len is_n same new_len each s
-    inside =
-    let long : length zeros ≡ cells = omega (arith, ap length same, len) in
+    → (s : ℕ) → s < length zeros
+    → get_or (take place zeros ++ (new ++ post_of place (place + count - place) zeros)) s 0 ≡ pair_sum a b s
+product_placed a b zeros new p q e f place count x y is_place is_count none new_len each s inside =
     let part : length (take (place + count - place) (drop place zeros)) ≡ count =
     omega (
       arith,
       length-take (place + count - place) (drop place zeros),
       length-drop place zeros,
-      long,
       is_place,
       is_count,
     ) in
-    let new_long : length new ≡ count = omega (arith, new_len, part) in
-    ap (λ l. get_or l s 0) (written items (take place zeros ++ (new ++ post_of place (place + count - place) zeros)) n
-    (placed_long zeros new place count (length items) (omega (arith, long, len))
-    (omega (arith, len, is_place, is_count)) new_long) (omega (arith, is_n, len)))
-    ∙ placed_at a b zeros new p q e f place count cells x y is_place is_count long
-    (λ i. ap (λ l. get_or l i 0) (same ∙ none) ∙ zeros_at cells 0 i refl) new_long
-    (λ t d. each t (omega (arith, d, part))) s inside
+    placed_at a b zeros new p q e f place count (length zeros) x y is_place is_count refl none
+    (omega (arith, new_len, part)) (λ t d. each t (omega (arith, d, part))) s inside

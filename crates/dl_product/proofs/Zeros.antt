@@ -1,12 +1,7 @@
 -- Products of lists that begin and end with zeros.
-use Rattle.std.proofs.Common.{ℕ, zero, suc, ◌≡◌, ◌+◌, ◌-◌, ◌*◌, ◌<◌, ◌≤◌, inl, inr, List, take, drop, length}
-use Rattle.std.proofs.Common.{get_or}
-use Rattle.std.proofs.Common.{arith, refl, sym, ap, ap₂, ◌∙◌}
+use Rattle.dl_product.proofs.Common.{ℕ, zero, suc, ◌≡◌, ◌+◌, ◌-◌, ◌*◌, ◌<◌, ◌≤◌, inl, inr, List, take, drop, length, get_or, arith, refl, sym, ap, ap₂, ◌∙◌, cases_lt, get_or-take, get_or-drop, get_or_past, length-take, count_pairs, pairs_same, times_nothing}
 use Rattle.std.proofs.Math.Nat.{suc-add}
-use Rattle.std.proofs.lemmas.Bool.{cases_lt}
-use Rattle.std.proofs.lemmas.List.{get_or-take, get_or-drop, get_or_past, length-take}
-use Rattle.dl_exact.specs.Count.{count_pairs}
-use Rattle.dl_exact.proofs.Counts.{pairs_none, pairs_same, nothing_times, times_nothing}
+use Rattle.dl_exact.proofs.Counts.{pairs_none, nothing_times}
 
 -- no product where all first items up to there are 0
 pub low_first : (n : ℕ) (f g : ℕ → ℕ) → ((i : ℕ) → i ≤ n → f i ≡ 0) → count_pairs n (λ i j. f i * g j) ≡ 0

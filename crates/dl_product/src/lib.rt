@@ -7,10 +7,6 @@ mod lists;
 mod products;
 mod room;
 mod short;
-#[cfg(test)]
-mod tests;
-#[cfg(test)]
-mod transform_tests;
 mod windows;
 
 pub use products::{product, square};

@@ -85,31 +85,34 @@ fn multiply(
     multiply_plainly(alloc, a, b, out)
 }
 
-/// The first `cells` items of the product of two lists.
+/// The first items of the product of two lists, in the place of as many zeros.
 pub(crate) fn sums(
     alloc: Global,
     work: &mut Workspace,
     a: &[u128],
     b: &[u128],
-    cells: usize,
-) -> Result<Vec<u128>, AllocError>
+    out: &mut [u128],
+) -> Result<(), AllocError>
     requires first { All (λ x. x ≤ 2 ^ 56) a.now }
     requires second { All (λ y. y ≤ 2 ^ 56) b.now }
     requires first_few { length a.now ≤ most_cells }
     requires second_few { length b.now ≤ most_cells }
-    requires few { cells ≤ most_cells }
-    ensures cells { IfOk result (λ v. length v.items ≡ cells) }
-    ensures each { IfOk result (λ v. (s : ℕ) → s < cells
-        → get_or v.items s 0 ≡ pair_sum a.now b.now s) }
+    requires few { length out.old ≤ most_cells }
+    requires zeros { (s : ℕ) → get_or out.old s 0 ≡ 0 }
+    ensures { IfOk result (λ _. (s : ℕ) → s < length out.old
+        → get_or out.new s 0 ≡ pair_sum a.now b.now s) }
 {
     let (p, e) = window_of(a);
     let (q, f) = window_of(b);
-    let place = cells.min(p + q);
-    let count = (cells - place).min(e - p + (f - q));
-    let mut out = Vec::from_elem(alloc, 0, cells)?;
-    let part = &mut out.as_mut_slice()[place..place + count];
-    multiply(alloc, work, &a[p..e], &b[q..f], part)?;
-    Ok(out)
+    let place = out.len().min(p + q);
+    let count = (out.len() - place).min(e - p + (f - q));
+    multiply(
+        alloc,
+        work,
+        &a[p..e],
+        &b[q..f],
+        &mut out[place..place + count],
+    )
 }
 
 /// The first items of the product of a list with itself, as many as `out` has room for, the shorter
@@ -135,25 +138,22 @@ fn multiply_by_itself(
     Ok(())
 }
 
-/// The first `cells` items of the product of a list with itself.
+/// The first items of the product of a list with itself, in the place of as many zeros.
 pub(crate) fn square_sums(
     alloc: Global,
     work: &mut Workspace,
     a: &[u128],
-    cells: usize,
-) -> Result<Vec<u128>, AllocError>
+    out: &mut [u128],
+) -> Result<(), AllocError>
     requires items { All (λ x. x ≤ 2 ^ 56) a.now }
     requires items_few { length a.now ≤ most_cells }
-    requires few { cells ≤ most_cells }
-    ensures cells { IfOk result (λ v. length v.items ≡ cells) }
-    ensures each { IfOk result (λ v. (s : ℕ) → s < cells
-        → get_or v.items s 0 ≡ pair_sum a.now a.now s) }
+    requires few { length out.old ≤ most_cells }
+    requires zeros { (s : ℕ) → get_or out.old s 0 ≡ 0 }
+    ensures { IfOk result (λ _. (s : ℕ) → s < length out.old
+        → get_or out.new s 0 ≡ pair_sum a.now a.now s) }
 {
     let (p, e) = window_of(a);
-    let place = cells.min(p + p);
-    let count = (cells - place).min(e - p + (e - p));
-    let mut out = Vec::from_elem(alloc, 0, cells)?;
-    let part = &mut out.as_mut_slice()[place..place + count];
-    multiply_by_itself(alloc, work, &a[p..e], part)?;
-    Ok(out)
+    let place = out.len().min(p + p);
+    let count = (out.len() - place).min(e - p + (e - p));
+    multiply_by_itself(alloc, work, &a[p..e], &mut out[place..place + count])
 }

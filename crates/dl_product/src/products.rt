@@ -5,7 +5,7 @@ ghost use Rattle.dl_grid.specs.Width.{cv};
 
 use crate::lists::{square_sums, sums};
 use crate::room::Workspace;
-use dl_conv::grid_of_sums;
+use dl_conv::{grid_of_sums, room_for_sums};
 use dl_grid::Grid;
 use std::alloc::{AllocError, Global};
 
@@ -19,15 +19,16 @@ pub fn product<const B: u32>(
     b: &Grid<B>,
     cells: u32,
 ) -> Result<Grid<B>, AllocError>
-    requires some { 1 ≤ cells }
     requires in_first { cells ≤ length a.now }
+    requires some { 1 ≤ cells }
     requires in_second { cells ≤ length b.now }
-    ensures cells { IfOk result (λ g. length g ≡ cells) }
-    ensures convolution { IfOk result (λ g. IsConvolution cells a.now b.now g) }
     ensures spread { IfOk result (λ g. spread g ≤ cv (2 ^ B) cells (spread a.now) (spread b.now)) }
+    ensures convolution { IfOk result (λ g. IsConvolution cells a.now b.now g) }
+    ensures cells { IfOk result (λ g. length g ≡ cells) }
 {
-    let lows = sums(alloc, work, a.lows(), b.lows(), cells as usize)?;
-    let highs = sums(alloc, work, a.highs(), b.highs(), cells as usize)?;
+    let (mut lows, mut highs) = room_for_sums(alloc, cells)?;
+    sums(alloc, work, a.lows(), b.lows(), lows.as_mut_slice())?;
+    sums(alloc, work, a.highs(), b.highs(), highs.as_mut_slice())?;
     Ok(grid_of_sums(a, b, lows, highs))
 }
 
@@ -44,7 +45,8 @@ pub fn square<const B: u32>(
     ensures convolution { IfOk result (λ g. IsConvolution cells a.now a.now g) }
     ensures spread { IfOk result (λ g. spread g ≤ cv (2 ^ B) cells (spread a.now) (spread a.now)) }
 {
-    let lows = square_sums(alloc, work, a.lows(), cells as usize)?;
-    let highs = square_sums(alloc, work, a.highs(), cells as usize)?;
+    let (mut lows, mut highs) = room_for_sums(alloc, cells)?;
+    square_sums(alloc, work, a.lows(), lows.as_mut_slice())?;
+    square_sums(alloc, work, a.highs(), highs.as_mut_slice())?;
     Ok(grid_of_sums(a, a, lows, highs))
 }

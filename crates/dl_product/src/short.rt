@@ -2,7 +2,7 @@ ghost use Rattle.std.specs.Prelude.{◌≡◌, ℕ, ◌*◌, ◌/◌, ◌%◌, �
 ghost use Rattle.dl_limits.specs.Limits.{most_cells};
 ghost use Rattle.dl_conv.specs.Sums.{pair_sum};
 
-use dl_conv::product_of_ends;
+use dl_conv::{product_of_ends, sum_up_to};
 
 /// The square of the item in the middle, where `s` is twice its place, and else 0.
 fn middle(a: &[u128], s: usize) -> u128
@@ -25,11 +25,7 @@ fn square_at(a: &[u128], s: usize) -> u128
     ensures { result ≡ pair_sum a.now a.now s }
 {
     let half = (s + 1) / 2;
-    let from = (s + 1).saturating_sub(a.len());
-    let mut sum = 0;
-    for i in from..half {
-        sum += product_of_ends(a[i], a[s - i]);
-    }
+    let sum = sum_up_to(a, a, s, half.min(a.len()));
     2 * sum + middle(a, s)
 }
 

@@ -1,9 +1,6 @@
 -- One step of a pass at a node of a right table: what it makes of the two halves of a list.
-use Rattle.std.proofs.Common.{ℕ, ◌≡◌, ◌+◌, ◌-◌, ◌*◌, ◌^◌, ◌<◌, ◌≤◌, List, ◌++◌, take, drop, length, slice_index, get_or}
-use Rattle.std.proofs.Common.{arith, sym, ap, subst}
-use Rattle.dl_transform.specs.Residue.{Same}
-use Rattle.dl_transform.specs.Polynomial.{eval}
-use Rattle.dl_transform.specs.Table.{point, IsTable}
+use Rattle.dl_transform.proofs.Common.{ℕ, ◌≡◌, ◌+◌, ◌-◌, ◌*◌, ◌^◌, ◌<◌, ◌≤◌, List, ◌++◌, take, drop, length, slice_index, get_or, arith, sym, ap, subst, Same, eval, point}
+use Rattle.dl_transform.specs.Table.{IsTable}
 use Rattle.dl_transform.specs.declared.tables.Table.{Table}
 use Rattle.dl_transform.proofs.Residues.{same_trans, same_of}
 use Rattle.dl_transform.proofs.Nodes.{inside_roots}

@@ -1,9 +1,6 @@
 -- A polynomial of 2 * m items at a number whose power m is c is one of m items there.
-use Rattle.std.proofs.Common.{ℕ, ◌≡◌, ◌+◌, ◌-◌, ◌*◌, ◌^◌, ◌<◌, ◌≤◌, arith, sym, ap}
-use Rattle.dl_transform.specs.Residue.{Same}
-use Rattle.dl_transform.specs.Polynomial.{eval}
-use Rattle.dl_transform.proofs.Residues.{same_refl, same_of, same_by, same_sym, same_trans, same_times, same_plus}
-use Rattle.dl_transform.proofs.Residues.{same_cancel}
+use Rattle.dl_transform.proofs.Common.{ℕ, ◌≡◌, ◌+◌, ◌-◌, ◌*◌, ◌^◌, ◌<◌, ◌≤◌, arith, sym, ap, Same, eval}
+use Rattle.dl_transform.proofs.Residues.{same_refl, same_of, same_by, same_sym, same_trans, same_times, same_plus, same_cancel}
 use Rattle.dl_transform.proofs.Values.{eval_same, eval_linear, eval_split}
 
 pub half_value : (p m : ℕ) (x u : ℕ → ℕ) (c r : ℕ) → Same p (r ^ m) c

@@ -1,11 +1,6 @@
 -- Powers of the numbers that stand at the nodes.
-use Rattle.std.proofs.Common.{ℕ, zero, suc, ◌≡◌, ◌+◌, ◌-◌, ◌*◌, ◌/◌, ◌%◌, ◌^◌, ◌<◌, ◌≤◌, inl, inr, List, length}
-use Rattle.std.proofs.Common.{slice_index, arith, refl, ap, ap₂, subst, ◌∙◌, pow-suc, mul-le-mul_left}
-use Rattle.std.proofs.Math.Nat.{pow-zero}
-use Rattle.std.proofs.lemmas.Nat.{pow_pos, pow-add}
-use Rattle.std.proofs.lemmas.Bool.{cases_lt}
-use Rattle.dl_transform.specs.Residue.{Same}
-use Rattle.dl_transform.specs.Table.{point}
+use Rattle.dl_transform.proofs.Common.{ℕ, zero, suc, ◌≡◌, ◌+◌, ◌-◌, ◌*◌, ◌/◌, ◌%◌, ◌^◌, ◌<◌, ◌≤◌, inl, inr, List, length, slice_index, arith, refl, ap, ap₂, subst, ◌∙◌, pow-suc, mul-le-mul_left, pow-zero, pow_pos, cases_lt, Same, point}
+use Rattle.std.proofs.lemmas.Nat.{pow-add}
 use Rattle.dl_transform.proofs.Residues.{same_of, same_by, same_trans, same_times}
 
 -- the square of each root is the number at its node

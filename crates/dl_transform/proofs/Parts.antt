@@ -1,13 +1,7 @@
 -- The two halves of a list, and what the passes make of them.
-use Rattle.std.proofs.Common.{ℕ, suc, ◌≡◌, ◌+◌, ◌-◌, ◌*◌, ◌/◌, ◌^◌, ◌<◌, ◌≤◌, inl, inr, List, ◌++◌, take, drop}
-use Rattle.std.proofs.Common.{length, slice_index, get_or, arith, refl, sym, ap, ap₂, subst, ◌∙◌, pow-suc}
+use Rattle.dl_transform.proofs.Common.{ℕ, suc, ◌≡◌, ◌+◌, ◌-◌, ◌*◌, ◌/◌, ◌^◌, ◌<◌, ◌≤◌, inl, inr, List, ◌++◌, take, drop, length, slice_index, get_or, arith, refl, sym, ap, ap₂, subst, ◌∙◌, pow-suc, get_or-take, get_or-drop, get_or_past, pow_pos, cases_lt, Same, eval, point}
 use Rattle.std.proofs.Math.ListN.{get_or-append}
-use Rattle.std.proofs.lemmas.List.{get_or-take, get_or-drop, get_or-append_right, get_or_past, length-take}
-use Rattle.std.proofs.lemmas.Nat.{pow_pos}
-use Rattle.std.proofs.lemmas.Bool.{cases_lt}
-use Rattle.dl_transform.specs.Residue.{Same}
-use Rattle.dl_transform.specs.Polynomial.{eval}
-use Rattle.dl_transform.specs.Table.{point}
+use Rattle.std.proofs.lemmas.List.{get_or-append_right, length-take}
 use Rattle.dl_transform.proofs.Residues.{same_refl, same_of, same_sym, same_trans}
 use Rattle.dl_transform.proofs.Nodes.{IsTree, point_even, point_odd, node_power, inside_roots}
 use Rattle.dl_transform.proofs.Halves.{half_value, low_back, high_back}

@@ -1,11 +1,9 @@
 -- What one product modulo p needs.
-use Rattle.std.proofs.Common.{ℕ, ◌≡◌, ◌+◌, ◌-◌, ◌*◌, ◌/◌, ◌%◌, ◌^◌, ◌<◌, ◌≤◌, arith, ap, ◌∙◌, div-mul-le_self}
-use Rattle.std.proofs.Common.{mul-le-mul_left, mul-le-mul_right, mul-le-mul}
-use Rattle.std.proofs.lemmas.Nat.{div-add-mod', div_below}
+use Rattle.dl_transform.proofs.Common.{ℕ, ◌≡◌, ◌+◌, ◌-◌, ◌*◌, ◌/◌, ◌%◌, ◌^◌, ◌<◌, ◌≤◌, arith, ap, ◌∙◌, mul-le-mul_left, mul-le-mul_right, Same}
+use Rattle.std.proofs.Common.{div-mul-le_self}
+use Rattle.std.proofs.lemmas.Nat.{div-add-mod'}
 use Rattle.std.proofs.Math.Nat.{lt-div-mul-add, le_of_mul-le-mul_right, lt_of_mul-lt-mul_right}
-use Rattle.dl_transform.specs.Residue.{Same}
-use Rattle.dl_transform.proofs.Residues.{same_by, same_trans, same_mod, same_times, same_refl, same_plus, same_sym}
-use Rattle.dl_transform.proofs.Residues.{same_cancel}
+use Rattle.dl_transform.proofs.Residues.{same_by, same_trans, same_mod, same_times, same_refl, same_plus, same_sym, same_cancel}
 
 -- the quotient times p is at most the product
 pub quotient_low : (x w q p : ℕ) → q * p ≤ w * 2 ^ 64 → x * q / 2 ^ 64 * p ≤ x * w
@@ -48,14 +46,6 @@ filled_same p a k h =
     let m = (a % 2 ^ 64 * k) % 2 ^ 64 in
     let d : (a + m * p) / 2 ^ 64 * 2 ^ 64 + (a + m * p) % 2 ^ 64 ≡ a + m * p = div-add-mod' (a + m * p) (2 ^ 64) in
     same_by p ((a + m * p) / 2 ^ 64 * 2 ^ 64) a 0 m (omega (arith, d, filled a k p h))
-
-pub filled_small : (p x y m : ℕ) → p < 2 ^ 62 → x < 2 * p → y < 2 * p → m < 2 ^ 64
-    → (x * y + m * p) / 2 ^ 64 < 2 * p
-filled_small p x y m s h k l =
-    let a : x * y ≤ (2 * p) * (2 * p) = mul-le-mul (omega arith) (omega arith) in
-    let b : m * p ≤ (2 ^ 64 - 1) * p = mul-le-mul_right p (omega arith) in
-    let e : 4 * p * p ≤ 2 ^ 64 * p = mul-le-mul_right p (omega arith) in
-    div_below (x * y + m * p) (2 ^ 64) (2 * p) (omega arith) (omega (arith, a, b, e, h))
 
 pub less_same : (most x p k : ℕ) → most ≤ x → most ≡ k * p → Same p (x - most) x
 less_same most x p k h e = same_by p (x - most) x k 0 (omega (arith, h, e))

@@ -1,8 +1,7 @@
 -- Remainders keep sums and products.
-use Rattle.std.proofs.Common.{ℕ, zero, suc, ◌≡◌, ◌+◌, ◌-◌, ◌*◌, ◌%◌, ◌<◌, arith, refl, sym, ap, ap₂, ◌∙◌}
-use Rattle.std.proofs.Math.Nat.{add-mod, add-mul-mod_self_right, mod-mod, mod-eq_of_lt}
+use Rattle.dl_transform.proofs.Common.{ℕ, zero, suc, ◌≡◌, ◌+◌, ◌-◌, ◌*◌, ◌%◌, ◌<◌, arith, refl, sym, ap, ap₂, ◌∙◌, mod-eq_of_lt, Same}
+use Rattle.std.proofs.Math.Nat.{add-mod, add-mul-mod_self_right, mod-mod}
 use Rattle.std.proofs.lemmas.Nat.{mul-mod}
-use Rattle.dl_transform.specs.Residue.{Same}
 
 pub same_refl : (p a : ℕ) → Same p a a
 same_refl p a = record { is = refl }

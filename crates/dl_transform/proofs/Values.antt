@@ -1,11 +1,7 @@
 -- Values of polynomials: sums, halves, products.
-use Rattle.std.proofs.Common.{ℕ, zero, suc, ◌≡◌, ◌+◌, ◌*◌, ◌^◌, ◌<◌, ◌≤◌, arith, refl, sym, ap, ◌∙◌, pow-suc}
-use Rattle.std.proofs.Math.Nat.{suc-add, pow-zero}
+use Rattle.dl_transform.proofs.Common.{ℕ, zero, suc, ◌≡◌, ◌+◌, ◌*◌, ◌^◌, ◌<◌, ◌≤◌, arith, refl, sym, ap, ◌∙◌, pow-suc, pow-zero, Same, count_pairs, pairs_none, eval}
+use Rattle.std.proofs.Math.Nat.{suc-add}
 use mathlib.Core.Path.{fun_ext}
-use Rattle.dl_transform.specs.Residue.{Same}
-use Rattle.dl_exact.specs.Count.{count_pairs}
-use Rattle.dl_exact.proofs.Counts.{pairs_none}
-use Rattle.dl_transform.specs.Polynomial.{eval}
 use Rattle.dl_transform.proofs.Residues.{same_refl, same_plus, same_times}
 
 pub eval_same : (p n : ℕ) (f g : ℕ → ℕ) (r : ℕ) → ((i : ℕ) → i < n → Same p (f i) (g i))

@@ -1,19 +1,11 @@
 -- The product of two lists from its remainders.
-use Rattle.std.proofs.Common.{ℕ, zero, suc, ◌≡◌, ◌+◌, ◌-◌, ◌*◌, ◌/◌, ◌%◌, ◌^◌, ◌<◌, ◌≤◌, List, [], ◌∷◌, length}
-use Rattle.std.proofs.Common.{get_or, sum_by, mul-le-mul_left, mul-le-mul_right, arith, sym, ap, ap₂, ◌∙◌}
+use Rattle.dl_transform.proofs.Common.{ℕ, zero, suc, ◌≡◌, ◌+◌, ◌-◌, ◌*◌, ◌/◌, ◌%◌, ◌^◌, ◌<◌, ◌≤◌, List, length, get_or, sum_by, mul-le-mul_left, mul-le-mul_right, arith, sym, ap, ap₂, ◌∙◌, inl, inr, div_below, cases_lt, get_or_past, Same, count_pairs, pairs_none, eval}
+use Rattle.std.proofs.Common.{[], ◌∷◌, All}
 use Rattle.std.proofs.Math.Nat.{div-add-mod, pow-le-pow_right, mul-le-mul}
-use Rattle.std.proofs.Common.{All, inl, inr}
-use Rattle.std.proofs.lemmas.Nat.{div_below, mod_below}
-use Rattle.std.proofs.lemmas.Bool.{cases_lt}
-use Rattle.std.proofs.lemmas.List.{get_or_past}
+use Rattle.std.proofs.lemmas.Nat.{mod_below}
 use Rattle.std.proofs.lemmas.List.Elements.{All-get_or}
 use Rattle.std.proofs.lemmas.List.Sums.{sum_by-cons}
-use Rattle.dl_transform.specs.Residue.{Same}
-use Rattle.dl_exact.specs.Count.{count_pairs}
-use Rattle.dl_exact.proofs.Counts.{pairs_none}
-use Rattle.dl_transform.specs.Polynomial.{eval}
-use Rattle.dl_transform.proofs.Residues.{same_refl, same_of, same_by, same_sym, same_trans, same_times, same_cancel}
-use Rattle.dl_transform.proofs.Residues.{same_below, same_mod}
+use Rattle.dl_transform.proofs.Residues.{same_refl, same_of, same_by, same_sym, same_trans, same_times, same_cancel, same_below, same_mod}
 use Rattle.dl_transform.proofs.Values.{eval_scale, eval_padded, eval_product}
 
 -- the value of the product of two lists with room for it

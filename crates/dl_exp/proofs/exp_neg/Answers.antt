@@ -1,9 +1,8 @@
-use Rattle.std.proofs.Common.{refl, ◌^◌, ◌<◌, arith, div-mul-le_self}
+use Rattle.dl_exp.proofs.Common.{◌^◌, ◌<◌, arith, div-mul-le_self, ceiling_reaches, floor_le_ceiling, power_le, part_within}
+use Rattle.std.proofs.Common.{refl}
 use Rattle.std.proofs.lemmas.Nat.{pow_pos}
-use Rattle.dl_iv.proofs.Rounding.{ceiling_reaches, floor_le_ceiling, power_le}
 use Rattle.dl_frac.proofs.FractionLaws.{unit_fits}
 use Rattle.dl_exp.proofs.Reciprocals.{low_reciprocal, high_reciprocal, narrow, reciprocal_fits}
-use Rattle.dl_exact.proofs.RoundingLaws.{part_within}
 use Rattle.dl_exp.proofs.exp_neg.Goals as goal
 
 pub invariant_of-result-clause-ordered : goal.invariant_of-result-clause-ordered

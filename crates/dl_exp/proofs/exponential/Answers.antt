@@ -1,13 +1,6 @@
-use Rattle.std.proofs.Common.{◌≡◌, ℕ, suc, ◌+◌, ◌*◌, ◌/◌, ◌^◌, ◌<◌, ◌≤◌, arith, sym, subst, subst₂, ap, ap₂, ◌∙◌, mul-pos, mul-le-mul_right, div-mul-le_self, add-one}
-use Rattle.std.proofs.Math.Nat.{zero-lt-suc}
-use Rattle.std.specs.Int.{div_ceil}
-use Rattle.dl_exact.specs.Fraction.{whole, ◌*ℚ◌, ◌≤ℚ◌}
-use Rattle.dl_exact.specs.Sum.{sum_to}
-use Rattle.dl_exact.proofs.Laws.{le_of_eq, le_refl, le_trans, times_one, times_plus, plus_le_both, whole_plus, times_le_both}
-use Rattle.dl_exact.proofs.RoundingLaws.{div_ceil_least}
-use Rattle.dl_iv.proofs.Rounding.{ceiling_reaches, floor_le_ceiling}
-use Rattle.dl_exp.specs.Exponential.{exponential_term, exponential_sum}
-use Rattle.dl_exact.proofs.SumsOver.{low_sum, high_sum}
+use Rattle.dl_exp.proofs.Common.{◌≡◌, ℕ, suc, ◌+◌, ◌*◌, ◌/◌, ◌^◌, ◌<◌, ◌≤◌, arith, sym, subst, subst₂, ap, ◌∙◌, mul-pos, mul-le-mul_right, div-mul-le_self, zero-lt-suc, div_ceil, whole, ◌*ℚ◌, ◌≤ℚ◌, sum_to, le_refl, le_trans, times_one, times_plus, plus_le_both, whole_plus, times_le_both, div_ceil_least, ceiling_reaches, floor_le_ceiling, exponential_term, exponential_sum, low_sum, high_sum}
+use Rattle.std.proofs.Common.{ap₂, add-one}
+use Rattle.dl_exact.proofs.Laws.{le_of_eq}
 use Rattle.dl_exp.proofs.Terms.{term_zero, low_term, high_term, half_parts, rest_bound}
 use Rattle.dl_exp.proofs.Roundings.{fall, fall_zero, fall_far, fall_next, fallen, near_next}
 use Rattle.dl_exp.proofs.exponential.Goals as goal

@@ -1,6 +1,4 @@
-use Rattle.std.proofs.Common.{◌+◌, ◌*◌, ◌^◌, ◌≤◌}
-use Rattle.dl_exact.specs.Fraction.{whole, ◌*ℚ◌, ◌≤ℚ◌}
-use Rattle.dl_exp.specs.Exponential.{exponential_term, exponential_sum}
+use Rattle.dl_exp.proofs.Common.{◌+◌, ◌*◌, ◌^◌, ◌≤◌, whole, ◌*ℚ◌, ◌≤ℚ◌, exponential_term, exponential_sum}
 use Rattle.dl_exp.proofs.Roundings.{fall}
 use Rattle.dl_exp.proofs.exponential.Given as goal
 

@@ -1,7 +1,4 @@
-use Rattle.std.proofs.Common.{◌/◌, ◌^◌, arith, refl, length, get_or, sym, ap, ◌∙◌}
-use Rattle.std.specs.Prelude.{min}
-use Rattle.std.specs.Int.{div_ceil}
-use Rattle.dl_grid.proofs.CellLaws.{scale_of}
+use Rattle.dl_conv.proofs.Common.{◌/◌, ◌^◌, arith, refl, length, get_or, sym, ap, ◌∙◌, min, div_ceil, scale_of}
 use Rattle.dl_grid.proofs.EndLists.{low_at_ends, high_at_ends, low_ends_long}
 use Rattle.dl_conv.proofs.Filled.{written, made_by}
 use Rattle.dl_conv.proofs.Ends.{lows, highs, convolved_ends, convolved_spread, all_fit}

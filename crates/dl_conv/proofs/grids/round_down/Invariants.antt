@@ -1,4 +1,4 @@
-use Rattle.std.proofs.Common.{◌/◌, ◌^◌}
+use Rattle.dl_conv.proofs.Common.{◌/◌, ◌^◌}
 use Rattle.dl_conv.proofs.Filled.{IsMapped}
 use Rattle.dl_conv.proofs.grids.round_down.Given as goal
 

@@ -1,6 +1,4 @@
-use Rattle.std.proofs.Common.{◌^◌}
-use Rattle.std.specs.Prelude.{min}
-use Rattle.std.specs.Int.{div_ceil}
+use Rattle.dl_conv.proofs.Common.{◌^◌, min, div_ceil}
 use Rattle.dl_conv.proofs.Filled.{IsMapped}
 use Rattle.dl_conv.proofs.grids.round_up.Given as goal
 

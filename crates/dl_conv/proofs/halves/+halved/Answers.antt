@@ -1,7 +1,5 @@
-use Rattle.std.proofs.Common.{◌-◌, ◌/◌, ◌≡◌, arith, length, take, drop, subst, sym, refl, ◌∙◌}
+use Rattle.dl_conv.proofs.Common.{◌-◌, ◌/◌, ◌≡◌, arith, length, take, drop, subst, sym, refl, ◌∙◌, length-take-le, length-drop, IsHalvable}
 use Rattle.std.proofs.Math.Nat.{one-le-pow}
-use Rattle.std.proofs.lemmas.List.{length-take-le, length-drop}
-use Rattle.dl_conv.specs.Sums.{IsHalvable}
 use Rattle.dl_conv.proofs.Halving.{half_halvable, half_even, half_less, three_of, small_remainder, values_small, halved_value}
 use Rattle.dl_conv.proofs.halves.+halved.Goals as goal
 
@@ -105,3 +103,20 @@ returns-clause-value g t c s inside =
     refl (λ t h. c.add_middle.ensures.value t (omega arith)) (λ s h. c.add_middle.ensures.first s h)
     (λ s h. c.add_middle.ensures.last s (omega arith))
     s (omega (arith, inside, c.requires.room)))
+
+pub add_halves-requires : goal.add_halves-requires
+add_halves-requires g t c =
+    let even = half_even (length c.args.a.now) c.requires.halvable c.if-a-eq-BLOCK.false in omega arith
+
+pub add_halves-requires-2 : goal.add_halves-requires-2
+add_halves-requires-2 g t c =
+    let even = half_even (length c.args.a.now) c.requires.halvable c.if-a-eq-BLOCK.false in omega arith
+
+pub take_off-requires-clause-low : goal.take_off-requires-clause-low
+take_off-requires-clause-low g t c = omega arith
+
+pub take_off-requires-clause-high : goal.take_off-requires-clause-high
+take_off-requires-clause-high g t c = omega arith
+
+pub add_middle-requires : goal.add_middle-requires
+add_middle-requires g t c = omega arith

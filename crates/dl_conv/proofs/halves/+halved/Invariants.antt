@@ -1,4 +1,4 @@
-use Rattle.std.proofs.Common.{length}
+use Rattle.dl_conv.proofs.Common.{length}
 use Rattle.dl_conv.proofs.halves.+halved.Given as goal
 
 abbrev pub decreases-halved : goal.decreases-halved

@@ -1,5 +1,4 @@
-use Rattle.std.proofs.Common.{arith, map, ap₂, ◌+◌, ◌∙◌}
-use Rattle.std.proofs.lemmas.List.{map-set, length-map}
+use Rattle.dl_conv.proofs.Common.{arith, map, ap₂, ◌+◌, ◌∙◌, map-set, length-map}
 use Rattle.dl_conv.proofs.Written.{changed_more, value_read}
 use Rattle.dl_conv.proofs.Same.{same, same_then}
 use Rattle.dl_conv.proofs.halves.add_middle.Goals as goal

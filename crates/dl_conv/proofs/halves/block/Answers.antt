@@ -1,6 +1,4 @@
-use Rattle.std.proofs.Common.{arith, map}
-use Rattle.std.proofs.lemmas.List.{map-set, length-map}
-use Rattle.dl_exact.proofs.Counts.{below_more}
+use Rattle.dl_conv.proofs.Common.{arith, map, map-set, length-map, below_more}
 use Rattle.dl_conv.proofs.Written.{fills_more}
 use Rattle.dl_conv.proofs.Karatsuba.{column_size, block_size}
 use Rattle.dl_conv.proofs.halves.block.Goals as goal

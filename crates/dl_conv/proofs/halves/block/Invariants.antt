@@ -1,7 +1,4 @@
-use Rattle.std.proofs.Common.{◌+◌, ◌≤◌, map}
-use Rattle.dl_exact.specs.Count.{count_below}
-use Rattle.dl_conv.specs.Modulo.{IsSame}
-use Rattle.dl_conv.specs.Sums.{pair_sum}
+use Rattle.dl_conv.proofs.Common.{◌+◌, ◌≤◌, map, count_below, IsSame, pair_sum}
 use Rattle.dl_conv.proofs.Written.{Fills}
 use Rattle.dl_conv.proofs.Karatsuba.{column_size}
 use Rattle.dl_conv.proofs.halves.block.Given as goal

@@ -1,5 +1,4 @@
-use Rattle.std.proofs.Common.{arith, map, ◌-◌, sym, ◌∙◌}
-use Rattle.std.proofs.lemmas.List.{length-map}
+use Rattle.dl_conv.proofs.Common.{arith, map, ◌-◌, sym, ◌∙◌, length-map}
 use Rattle.dl_conv.proofs.Written.{value_read}
 use Rattle.dl_conv.proofs.Same.{same, same_then}
 use Rattle.dl_conv.proofs.Columns.{column_begins, column_ends, column_more}

@@ -1,6 +1,4 @@
-use Rattle.std.proofs.Common.{◌+◌, ◌-◌, ◌*◌, ◌≤◌, get_or, map}
-use Rattle.dl_exact.specs.Count.{count_below}
-use Rattle.dl_conv.specs.Modulo.{IsSame}
+use Rattle.dl_conv.proofs.Common.{◌+◌, ◌-◌, ◌*◌, ◌≤◌, get_or, map, count_below, IsSame}
 use Rattle.dl_conv.proofs.halves.column.Given as goal
 
 abbrev pub invariant-loop-i : goal.invariant-loop-i

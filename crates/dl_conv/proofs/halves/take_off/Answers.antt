@@ -1,5 +1,4 @@
-use Rattle.std.proofs.Common.{arith, map, ◌∙◌}
-use Rattle.std.proofs.lemmas.List.{map-set, length-map, get_or-set_other}
+use Rattle.dl_conv.proofs.Common.{arith, map, ◌∙◌, map-set, length-map, get_or-set_other}
 use Rattle.dl_conv.proofs.Written.{fills_more, value_read}
 use Rattle.dl_conv.proofs.Karatsuba.{taken_off}
 use Rattle.dl_conv.proofs.halves.take_off.Goals as goal

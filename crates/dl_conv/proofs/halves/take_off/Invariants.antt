@@ -1,5 +1,4 @@
-use Rattle.std.proofs.Common.{◌≡◌, ◌+◌, ◌≤◌, ℕ, get_or, map}
-use Rattle.dl_conv.specs.Modulo.{IsSame}
+use Rattle.dl_conv.proofs.Common.{◌≡◌, ◌+◌, ◌≤◌, ℕ, get_or, map, IsSame}
 use Rattle.dl_conv.proofs.Written.{Fills}
 use Rattle.dl_conv.proofs.halves.take_off.Given as goal
 

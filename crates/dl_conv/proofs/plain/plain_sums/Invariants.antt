@@ -1,4 +1,4 @@
-use Rattle.dl_conv.specs.Sums.{pair_sum}
+use Rattle.dl_conv.proofs.Common.{pair_sum}
 use Rattle.dl_conv.proofs.Filled.{IsFilled}
 use Rattle.dl_conv.proofs.plain.plain_sums.Given as goal
 

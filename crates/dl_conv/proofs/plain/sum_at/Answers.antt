@@ -1,29 +1,7 @@
-use Rattle.std.proofs.Common.{arith, sym, ◌∙◌}
-use Rattle.dl_conv.proofs.Columns.{column_begins, column_ends, column_next, column_fits}
+use Rattle.std.proofs.Common.{arith, ◌∙◌}
+use Rattle.dl_conv.proofs.Columns.{column_ends}
 use Rattle.dl_conv.proofs.plain.sum_at.Goals as goal
-
-pub loop-i-init : goal.loop-i-init
-loop-i-init c = record {
-  within = omega arith;
-  sum = sym (column_begins c.args.a.now c.args.b.now c.args.s _ (omega arith));
-}
-
-pub overflow_add-sum : goal.overflow_add-sum
-overflow_add-sum c =
-    omega (
-      arith,
-      column_fits c.args.a.now c.args.b.now c.args.s c.loop-i.i _ _ c.requires.first c.requires.second
-          (omega (arith, c.requires.few)) c.loop-i.invariant.sum c.product_of_ends-sum.ensures,
-    )
-
-pub loop-i-preserved : goal.loop-i-preserved
-loop-i-preserved c = record {
-  within = omega arith;
-  sum = column_next c.args.a.now c.args.b.now c.args.s c.loop-i.i _ _ c.loop-i.invariant.sum
-      c.product_of_ends-sum.ensures;
-}
 
 pub returns : goal.returns
 returns c =
-    c.loop-i.invariant.sum
-    ∙ column_ends c.args.a.now c.args.b.now c.args.s c.loop-i.i (omega (arith, c.loop-i.invariant.within)) (omega arith)
+    c.sum_up_to.ensures ∙ column_ends c.args.a.now c.args.b.now c.args.s _ (omega arith) (omega arith)

@@ -1,24 +1,7 @@
-use Rattle.std.proofs.Common.{ℕ, ◌-◌, ◌≡◌, ◌≤◌, ◌^◌, arith, length, take, drop}
-use Rattle.std.proofs.lemmas.List.{length-take-le, length-drop}
+use Rattle.dl_conv.proofs.Common.{ℕ, ◌-◌, ◌≡◌, ◌≤◌, ◌^◌, arith, length, take, drop, length-take-le, length-drop}
 use Rattle.std.proofs.lemmas.List.Elements.{All-take, All-drop}
 use Rattle.dl_conv.proofs.FirstPlaces.{one_fits, two_fits, all_sums}
 use Rattle.dl_conv.proofs.short.+halved_sums.Goals as goal
-
-pub halved_sums-requires : goal.halved_sums-requires
-halved_sums-requires t c =
-    let h : ℕ = c.half_length-half.result in
-    let long = length-drop h c.args.a.now in
-    let back : length (take (length c.args.a.now - h) (drop h c.args.a.now)) ≡ length c.args.a.now - h =
-    length-take-le (length c.args.a.now - h) (drop h c.args.a.now) (omega arith) in (
-      omega (arith, c.decreases),
-      (
-        All-take (λ x. x ≤ 2 ^ 56) _ _ (All-drop (λ x. x ≤ 2 ^ 56) h c.args.a.now c.requires.first),
-        (
-          c.requires.second,
-          (omega (arith, back), (omega arith, (omega arith, λ many. omega arith))),
-        ),
-      ),
-    )
 
 pub halved_sums-requires-2 : goal.halved_sums-requires-2
 halved_sums-requires-2 t c =
@@ -41,9 +24,8 @@ add_from-requires-clause-fits t c k inside =
     let h : ℕ = c.half_length-half.result in
     one_fits c.args.a.now c.args.b.now h (length c.args.out.now) c.requires.first c.requires.second c.requires.few
     c.half_length-half.ensures.enough
-    c.half_length-half.ensures.less c.requires.in_first c.requires.in_second c.exact_product.new.out
-    c.copy_from_slice.new.self c.halved_sums.new.out
-    (λ s b. c.exact_product.ensures.each s (omega arith)) c.copy_from_slice.ensures.after
+    c.half_length-half.ensures.less c.requires.in_first c.requires.in_second c.first_sums.new.out
+    c.halved_sums.new.out c.first_sums.ensures.each
     (λ s b. c.halved_sums.ensures.each s (omega arith)) k (omega arith)
 
 pub add_from-requires-2-clause-fits : goal.add_from-requires-2-clause-fits
@@ -51,9 +33,8 @@ add_from-requires-2-clause-fits t c k inside =
     let h : ℕ = c.half_length-half.result in
     two_fits c.args.a.now c.args.b.now h (length c.args.out.now) c.requires.first c.requires.second c.requires.few
     c.half_length-half.ensures.enough
-    c.half_length-half.ensures.less c.requires.in_first c.requires.in_second c.exact_product.new.out
-    c.copy_from_slice.new.self c.halved_sums.new.out
-    (λ s b. c.exact_product.ensures.each s (omega arith)) c.copy_from_slice.ensures.after
+    c.half_length-half.ensures.less c.requires.in_first c.requires.in_second c.first_sums.new.out
+    c.halved_sums.new.out c.first_sums.ensures.each
     (λ s b. c.halved_sums.ensures.each s (omega arith))
     c.halved_sums-2.new.out c.add_from.new.out (λ s b. c.halved_sums-2.ensures.each s (omega arith))
     (λ s b. c.add_from.ensures.each s (omega arith)) (λ s b. c.add_from.ensures.first s b) k (omega arith)
@@ -64,9 +45,8 @@ returns t c = record {
       let h : ℕ = c.half_length-half.result in
       all_sums c.args.a.now c.args.b.now h (length c.args.out.now) c.requires.first c.requires.second c.requires.few
       c.half_length-half.ensures.enough
-      c.half_length-half.ensures.less c.requires.in_first c.requires.in_second c.exact_product.new.out
-      c.copy_from_slice.new.self c.halved_sums.new.out
-      (λ s b. c.exact_product.ensures.each s (omega arith)) c.copy_from_slice.ensures.after
+      c.half_length-half.ensures.less c.requires.in_first c.requires.in_second c.first_sums.new.out
+      c.halved_sums.new.out c.first_sums.ensures.each
       (λ s b. c.halved_sums.ensures.each s (omega arith))
       c.halved_sums-2.new.out c.add_from.new.out (λ s b. c.halved_sums-2.ensures.each s (omega arith))
       (λ s b. c.add_from.ensures.each s (omega arith)) (λ s b. c.add_from.ensures.first s b)

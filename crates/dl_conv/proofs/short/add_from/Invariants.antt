@@ -1,4 +1,4 @@
-use Rattle.std.proofs.Common.{◌≡◌, ◌+◌, get_or}
+use Rattle.dl_conv.proofs.Common.{◌≡◌, ◌+◌, get_or}
 use Rattle.dl_conv.proofs.Written.{Changed}
 use Rattle.dl_conv.proofs.short.add_from.Given as goal
 

@@ -1,5 +1,4 @@
-use Rattle.std.proofs.Common.{arith}
-use Rattle.std.proofs.lemmas.Grind.{get_or_default_zero}
+use Rattle.dl_conv.proofs.Common.{arith, get_or_default_zero}
 use Rattle.dl_conv.proofs.FirstPlaces.{exact_sum}
 use Rattle.dl_conv.proofs.short.exact_product.Goals as goal
 

@@ -1,4 +1,4 @@
-use Rattle.std.proofs.Common.{◌≡◌, ◌*◌, ◌^◌, ◌<◌}
+use Rattle.dl_conv.proofs.Common.{◌≡◌, ◌*◌, ◌^◌, ◌<◌}
 use Rattle.dl_conv.proofs.short.half_length.Given as goal
 
 abbrev pub invariant-loop-doublings : goal.invariant-loop-doublings

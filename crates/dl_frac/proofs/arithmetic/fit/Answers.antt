@@ -1,6 +1,6 @@
 -- In lowest terms the two parts are those of their fraction.
-use Rattle.std.proofs.Common.{arith, inl, inr}
-use Rattle.dl_exact.proofs.Parts.{lowest_self, lowest_num, lowest_den}
+use Rattle.dl_frac.proofs.Common.{arith, inl, inr, lowest_self}
+use Rattle.dl_exact.proofs.Parts.{lowest_num, lowest_den}
 use Rattle.dl_frac.proofs.arithmetic.fit.Goals as goal
 
 pub returns-then-den-lt-FRAC_BOUND : goal.returns-then-den-lt-FRAC_BOUND

@@ -1,7 +1,5 @@
 -- The parts that are left after the common divisor is taken out are in lowest terms, and no greater.
-use Rattle.std.proofs.Common.{◌∙◌}
-use Rattle.dl_exact.proofs.GcdLaws.{cut_pos, cut_lowest}
-use Rattle.dl_exact.proofs.Parts.{lowest_self, cut_same}
+use Rattle.dl_frac.proofs.Common.{◌∙◌, cut_pos, cut_lowest, lowest_self, cut_same}
 use Rattle.dl_frac.proofs.arithmetic.reduced.Goals as goal
 
 pub invariant_of-result : goal.invariant_of-result

@@ -1,7 +1,5 @@
 -- One step of Euclid, and the end where nothing is left.
-use Rattle.std.proofs.Common.{◌<◌, ◌∙◌, sym, subst}
-use Rattle.dl_exact.proofs.GcdLaws.{gcd_pos}
-use Rattle.dl_exact.proofs.Multiples.{gcd-zero, gcd-mod}
+use Rattle.dl_frac.proofs.Common.{◌<◌, ◌∙◌, sym, subst, gcd_pos, gcd-zero, gcd-mod}
 use Rattle.dl_frac.proofs.divisors.divisor.Goals as goal
 
 pub steps-preserved : goal.steps-preserved

@@ -1,6 +1,5 @@
 -- A step keeps the divisors of the pair, and its second number falls.
-use Rattle.std.proofs.Common.{◌≡◌}
-use Rattle.dl_exact.specs.Gcd.{gcd}
+use Rattle.dl_frac.proofs.Common.{◌≡◌, gcd}
 use Rattle.dl_frac.proofs.divisors.divisor.Given as goal
 
 abbrev pub decreases-steps : goal.decreases-steps

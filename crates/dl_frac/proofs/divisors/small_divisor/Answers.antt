@@ -1,10 +1,7 @@
 -- A common divisor is not above both numbers.
-use Rattle.std.proofs.Common.{ℕ, ◌^◌, ◌<◌, arith, inl, inr}
+use Rattle.dl_frac.proofs.Common.{ℕ, ◌^◌, ◌<◌, arith, inl, inr, gcd, gcd_is, gcd-zero}
 use Rattle.std.proofs.Math.Nat.{eq-zero-or-pos}
 use Rattle.std.proofs.lemmas.Nat.Gcd.{le_of_dvd}
-use Rattle.dl_exact.specs.Gcd.{gcd}
-use Rattle.dl_exact.proofs.GcdLaws.{gcd_is}
-use Rattle.dl_exact.proofs.Multiples.{gcd-zero}
 use Rattle.dl_frac.proofs.divisors.small_divisor.Goals as goal
 
 gcd_below : (a b m : ℕ) → a < m → b < m → gcd a b < m

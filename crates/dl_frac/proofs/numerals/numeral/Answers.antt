@@ -1,10 +1,7 @@
 -- Up to a slash the text so far is the first part; without one it is a decimal or a percent.
-use Rattle.std.proofs.Common.{◌≡◌, ◌<◌, ◌+◌, true, false, take, drop, sym, subst, refl, arith}
-use Rattle.std.specs.List.{list_any}
-use Rattle.std.proofs.lemmas.List.{take-append-drop, take_more, take_all}
-use Rattle.dl_frac.specs.Numerals.{is_slash, digit_count, is_bad}
+use Rattle.dl_frac.proofs.Common.{◌≡◌, ◌<◌, ◌+◌, true, false, take, drop, sym, subst, refl, arith, list_any, take-append-drop, take_more, is_slash, digit_count, is_bad, IsReadingOf}
+use Rattle.std.proofs.lemmas.List.{take_all}
 use Rattle.dl_frac.proofs.NumeralLaws.{few_tens, early_bad, slash_value_at, slash_bad_at, plain_value, plain_bad, front_push, within_limit}
-use Rattle.dl_frac.specs.Reads.{IsReadingOf}
 use Rattle.dl_frac.proofs.numerals.numeral.Goals as goal
 
 pub bytes-init : goal.bytes-init

@@ -1,8 +1,5 @@
 -- The number is that of the whole text, and digits that pass the limit at some byte pass it in the whole.
-use Rattle.std.proofs.Common.{◌≡◌, ◌<◌, ◌+◌, ◌||◌, true, take, drop, ap, sym, subst, arith}
-use Rattle.std.specs.Prelude.{◌==◌, nat_lt}
-use Rattle.std.proofs.lemmas.List.{take-append-drop, take_more}
-use Rattle.dl_frac.specs.Numerals.{digit_count, number_in}
+use Rattle.dl_frac.proofs.Common.{◌≡◌, ◌<◌, ◌+◌, ◌||◌, true, take, drop, ap, sym, subst, arith, ◌==◌, nat_lt, take-append-drop, take_more, digit_count, number_in}
 use Rattle.dl_frac.proofs.NumeralLaws.{few_tens, too_many}
 use Rattle.dl_frac.proofs.numerals.ratio.Goals as goal
 

@@ -1,6 +1,5 @@
 -- What is read is the text so far.
-use Rattle.std.proofs.Common.{take}
-use Rattle.dl_frac.specs.Reads.{IsReadingOf}
+use Rattle.dl_frac.proofs.Common.{take, IsReadingOf}
 use Rattle.dl_frac.proofs.numerals.ratio.Given as goal
 
 abbrev pub invariant-bytes : goal.invariant-bytes

@@ -1,7 +1,5 @@
 -- Round the first point there are digits; without one all are digits.
-use Rattle.std.proofs.Common.{◌∙◌, sym, arith}
-use Rattle.std.proofs.lemmas.Bool.Decides.{nat_tests}
-use Rattle.dl_frac.specs.Numerals.{is_point, plain}
+use Rattle.dl_frac.proofs.Common.{◌∙◌, sym, arith, nat_tests, is_point, plain}
 use Rattle.dl_frac.proofs.SpellingLaws.{number_pass, first_place, no_place, pointed_there, pointed_back, unpointed, clash}
 use Rattle.dl_frac.proofs.spelling.is_decimal.Goals as goal
 use Rattle.dl_frac.proofs.spelling.is_decimal.Goals.{then-text-gt1, else-text-gt1}

@@ -1,6 +1,5 @@
 -- The test of each byte.
-use Rattle.std.proofs.Common.{arith}
-use Rattle.std.proofs.lemmas.Bool.Decides.{nat_tests}
+use Rattle.dl_frac.proofs.Common.{arith, nat_tests}
 use Rattle.dl_frac.proofs.SpellingLaws.{number_pass}
 use Rattle.dl_frac.proofs.spelling.is_number.Goals as goal
 

@@ -1,6 +1,5 @@
 -- Round the first slash there are numbers; without one the last byte tells a percent from a decimal.
-use Rattle.std.proofs.Common.{◌≡◌, ℕ, List, [], ◌∷◌, ◌++◌, ◌∙◌, ap, sym}
-use Rattle.dl_frac.specs.Numerals.{is_slash, decimal, percent}
+use Rattle.dl_frac.proofs.Common.{◌≡◌, ℕ, List, [], ◌∷◌, ◌++◌, ◌∙◌, ap, sym, is_slash, decimal, percent}
 use Rattle.dl_frac.proofs.SpellingLaws.{first_place, no_place, fraction_there, fraction_back, percent_back, decimal_back, last_is, clash}
 use Rattle.dl_frac.proofs.spelling.is_numeral.Goals as goal
 

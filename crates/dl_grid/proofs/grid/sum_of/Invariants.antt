@@ -1,4 +1,4 @@
-use Rattle.std.proofs.Common.{◌≡◌, take, sum}
+use Rattle.dl_grid.proofs.Common.{◌≡◌, take, sum}
 use Rattle.dl_grid.proofs.grid.sum_of.Given as goal
 
 abbrev pub invariant-loop-end : goal.invariant-loop-end

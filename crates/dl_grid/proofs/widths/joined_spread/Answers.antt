@@ -1,6 +1,4 @@
-use Rattle.std.proofs.Common.{◌^◌, arith, ap₂}
-use Rattle.std.specs.Int.{div_ceil}
-use Rattle.std.proofs.lemmas.Nat.{pow_pos}
+use Rattle.dl_grid.proofs.Common.{◌^◌, arith, ap₂, div_ceil, pow_pos}
 use Rattle.dl_grid.proofs.WidthLaws.{cv_is}
 use Rattle.dl_grid.proofs.Computed.{some_is, is_told}
 use Rattle.dl_grid.proofs.widths.joined_spread.Goals as goal

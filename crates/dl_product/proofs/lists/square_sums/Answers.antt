@@ -1,14 +1,11 @@
-use Rattle.std.proofs.Common.{arith}
+use Rattle.dl_product.proofs.Common.{arith, if_ok_two}
 use Rattle.dl_product.proofs.Placed.{product_placed}
 use Rattle.dl_product.proofs.lists.square_sums.Goals as goal
 
-pub returns-clause-each : goal.returns-clause-each
-returns-clause-each c s inside =
-    product_placed c.args.a.now c.args.a.now c.in_ok-out.out.items c.as_mut_slice.result.now
-    c.multiply_by_itself.new.out
-    c.window_of-p.result.0 c.window_of-p.result.0 c.window_of-p.result.1 c.window_of-p.result.1 c.min-place.result
-    c.min-count.result
-    c.args.cells c.in_ok-out.out.len c.window_of-p.ensures c.window_of-p.ensures c.min-place.ensures (omega arith)
-    (c.in_ok-out.ensures.items_if_clones_equal (λ y same. same)) (omega (arith, c.in_ok-out.ensures.len))
-    (omega (arith, c.in_ok-out.ensures.len))
-    c.as_mut_slice.ensures.value (omega arith) c.in_ok-multiply_by_itself.ensures s inside
+pub returns : goal.returns
+returns c =
+    if_ok_two c.multiply_by_itself.result _ _ _
+    (λ _ each _ s inside. product_placed c.args.a.now c.args.a.now c.args.out.now
+    c.multiply_by_itself.new.out _ _ _ _ _ _ c.window_of-p.ensures c.window_of-p.ensures c.min-place.ensures
+    c.min-count.ensures
+    c.requires.zeros (omega arith) each s inside) c.multiply_by_itself.ensures c.multiply_by_itself.ensures

@@ -1,6 +1,4 @@
-use Rattle.std.proofs.Common.{◌/◌, arith}
-use Rattle.std.proofs.Math.Nat.{mul-le-mul}
-use Rattle.dl_conv.proofs.Columns.{end_fits}
+use Rattle.dl_product.proofs.Common.{◌/◌, arith, mul-le-mul, end_fits}
 use Rattle.dl_product.proofs.short.middle.Goals as goal
 
 pub returns-clause-small : goal.returns-clause-small

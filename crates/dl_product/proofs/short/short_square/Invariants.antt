@@ -1,4 +1,4 @@
-use Rattle.dl_conv.specs.Sums.{pair_sum}
+use Rattle.dl_product.proofs.Common.{pair_sum}
 use Rattle.dl_conv.proofs.Filled.{IsFilled}
 use Rattle.dl_product.proofs.short.short_square.Given as goal
 

@@ -1,4 +1,4 @@
-use Rattle.std.proofs.Common.{ℕ, ◌≡◌, ◌+◌, ◌≤◌, length, get_or}
+use Rattle.dl_product.proofs.Common.{ℕ, ◌≡◌, ◌+◌, ◌≤◌, length, get_or}
 use Rattle.dl_product.proofs.windows.end_of.Given as goal
 
 abbrev pub invariant-loop-i : goal.invariant-loop-i

@@ -1,4 +1,4 @@
-use Rattle.std.proofs.Common.{ℕ, ◌≡◌, ◌<◌, get_or}
+use Rattle.dl_product.proofs.Common.{ℕ, ◌≡◌, ◌<◌, get_or}
 use Rattle.dl_product.proofs.windows.start_of.Given as goal
 
 abbrev pub invariant-loop-i : goal.invariant-loop-i

@@ -1,4 +1,4 @@
-use Rattle.std.proofs.Common.{ℕ, ◌<◌}
+use Rattle.dl_transform.proofs.Common.{ℕ, ◌<◌}
 use Rattle.dl_transform.specs.Table.{IsRoot}
 use Rattle.dl_transform.proofs.checks.are_roots.Given as goal
 

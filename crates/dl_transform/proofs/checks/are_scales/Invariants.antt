@@ -1,4 +1,4 @@
-use Rattle.std.proofs.Common.{ℕ, ◌<◌}
+use Rattle.dl_transform.proofs.Common.{ℕ, ◌<◌}
 use Rattle.dl_transform.specs.Table.{IsScale}
 use Rattle.dl_transform.proofs.checks.are_scales.Given as goal
 

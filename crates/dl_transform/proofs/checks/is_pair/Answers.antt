@@ -1,5 +1,4 @@
-use Rattle.std.proofs.Common.{◌≡◌, ◌*◌, arith}
-use Rattle.std.proofs.lemmas.Bool.{eqb-true}
+use Rattle.dl_transform.proofs.Common.{◌≡◌, ◌*◌, arith, eqb-true}
 use Rattle.dl_transform.proofs.Residues.{same_trans, same_of, same_sym}
 use Rattle.dl_transform.proofs.checks.is_pair.Goals as goal
 

@@ -1,6 +1,4 @@
-use Rattle.std.proofs.Common.{◌≡◌, ◌*◌, ◌%◌, ◌^◌, ◌<◌, arith, sym, subst, ◌∙◌}
-use Rattle.std.proofs.Math.Nat.{mod-eq_of_lt}
-use Rattle.std.proofs.lemmas.Bool.{eqb-true}
+use Rattle.dl_transform.proofs.Common.{◌≡◌, ◌*◌, ◌%◌, ◌^◌, ◌<◌, arith, sym, subst, ◌∙◌, mod-eq_of_lt, eqb-true}
 use Rattle.std.proofs.lemmas.Nat.{one_shl, mul-mod_first}
 use Rattle.dl_transform.proofs.checks.is_undoing.Goals as goal
 

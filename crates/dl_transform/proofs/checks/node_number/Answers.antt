@@ -1,6 +1,5 @@
-use Rattle.std.proofs.Common.{◌≡◌, ◌%◌, ◌/◌, ◌-◌, get_or, arith, ap, ◌∙◌}
+use Rattle.dl_transform.proofs.Common.{◌≡◌, ◌%◌, ◌/◌, ◌-◌, get_or, arith, ap, ◌∙◌, point}
 use Rattle.std.proofs.lemmas.Grind.{get_or_default_zero}
-use Rattle.dl_transform.specs.Table.{point}
 use Rattle.dl_transform.proofs.checks.node_number.Goals as goal
 
 pub returns-then-k-eq0 : goal.returns-then-k-eq0

@@ -1,4 +1,4 @@
-use Rattle.std.proofs.Common.{◌^◌, get_or, arith}
+use Rattle.dl_transform.proofs.Common.{◌^◌, get_or, arith}
 use Rattle.dl_transform.proofs.Wholes.{word_at, sums_small, too_large, words_fit}
 use Rattle.dl_transform.proofs.combined.checked_product.Goals as goal
 

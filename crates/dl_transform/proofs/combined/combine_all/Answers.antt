@@ -1,5 +1,4 @@
-use Rattle.std.proofs.Common.{ℕ, ◌≡◌, ◌*◌, ◌^◌, ◌<◌, ◌≤◌, get_or, arith, subst}
-use Rattle.dl_transform.specs.Residue.{Same}
+use Rattle.dl_transform.proofs.Common.{ℕ, ◌≡◌, ◌*◌, ◌^◌, ◌<◌, ◌≤◌, get_or, arith, subst, Same}
 use Rattle.dl_transform.proofs.Residues.{same_trans}
 use Rattle.dl_transform.proofs.Steps.{set_done}
 use Rattle.dl_transform.proofs.Wholes.{two_room}

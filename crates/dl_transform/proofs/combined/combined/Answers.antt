@@ -1,4 +1,4 @@
-use Rattle.std.proofs.Common.{◌≡◌, ◌+◌, ◌-◌, ◌*◌, ◌<◌, arith}
+use Rattle.dl_transform.proofs.Common.{◌≡◌, ◌+◌, ◌-◌, ◌*◌, ◌<◌, arith}
 use Rattle.dl_transform.proofs.Residues.{same_trans}
 use Rattle.dl_transform.proofs.Wholes.{from_two}
 use Rattle.dl_transform.proofs.combined.combined.Goals as goal

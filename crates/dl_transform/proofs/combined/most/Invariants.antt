@@ -1,4 +1,4 @@
-use Rattle.std.proofs.Common.{ℕ, ◌<◌, ◌≤◌, get_or}
+use Rattle.dl_transform.proofs.Common.{ℕ, ◌<◌, ◌≤◌, get_or}
 use Rattle.dl_transform.proofs.combined.most.Given as goal
 
 abbrev pub invariant-loop-x : goal.invariant-loop-x

@@ -1,5 +1,4 @@
-use Rattle.std.proofs.Common.{◌*◌, ◌^◌, ◌<◌, length, get_or, arith}
-use Rattle.dl_exact.specs.Count.{count_pairs}
+use Rattle.dl_transform.proofs.Common.{◌*◌, ◌^◌, ◌<◌, length, get_or, arith, count_pairs}
 use Rattle.dl_transform.proofs.Wholes.{levels_room}
 use Rattle.dl_transform.proofs.combined.product.Goals as goal
 

@@ -1,4 +1,4 @@
-use Rattle.std.proofs.Common.{◌≡◌, ◌*◌, arith}
+use Rattle.dl_transform.proofs.Common.{◌≡◌, ◌*◌, arith}
 use Rattle.dl_transform.proofs.Residues.{same_trans}
 use Rattle.dl_transform.proofs.combined.scaled.Goals as goal
 

@@ -1,4 +1,4 @@
-use Rattle.std.proofs.Common.{◌≡◌, ◌*◌, ◌^◌, ◌≤◌, take, sum_by}
+use Rattle.dl_transform.proofs.Common.{◌≡◌, ◌*◌, ◌^◌, ◌≤◌, take, sum_by}
 use Rattle.dl_transform.proofs.combined.total.Given as goal
 
 abbrev pub invariant-loop-x : goal.invariant-loop-x

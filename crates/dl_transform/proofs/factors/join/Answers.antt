@@ -1,4 +1,4 @@
-use Rattle.std.proofs.Common.{◌*◌, ◌+◌, ◌-◌, arith, refl}
+use Rattle.dl_transform.proofs.Common.{◌*◌, ◌+◌, ◌-◌, arith, refl}
 use Rattle.dl_transform.proofs.Quotients.{joined}
 use Rattle.dl_transform.proofs.factors.join.Goals as goal
 

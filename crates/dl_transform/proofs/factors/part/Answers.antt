@@ -1,5 +1,4 @@
-use Rattle.std.proofs.Common.{◌≡◌, ◌*◌, arith, refl}
-use Rattle.dl_transform.specs.Residue.{Same}
+use Rattle.dl_transform.proofs.Common.{◌≡◌, ◌*◌, arith, refl, Same}
 use Rattle.dl_transform.proofs.Residues.{same_plus, same_trans, same_of}
 use Rattle.dl_transform.proofs.Quotients.{parted}
 use Rattle.dl_transform.proofs.factors.part.Goals as goal

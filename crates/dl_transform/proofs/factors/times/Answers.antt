@@ -1,4 +1,4 @@
-use Rattle.std.proofs.Common.{◌*◌, ◌^◌, ◌/◌, arith, refl}
+use Rattle.dl_transform.proofs.Common.{◌*◌, ◌^◌, ◌/◌, arith, refl}
 use Rattle.dl_transform.proofs.Quotients.{quotient_low, quotient_high, left_same}
 use Rattle.dl_transform.proofs.factors.times.Goals as goal
 

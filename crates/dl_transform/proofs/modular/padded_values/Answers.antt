@@ -1,8 +1,4 @@
-use Rattle.std.proofs.Common.{ℕ, ◌≡◌, ◌+◌, ◌-◌, ◌*◌, ◌^◌, ◌<◌, ◌≤◌, take, drop, length, slice_index, get_or, arith}
-use Rattle.std.proofs.Common.{refl, ap, subst, ◌∙◌}
-use Rattle.std.proofs.lemmas.List.{get_or-take, get_or-drop, get_or_past}
-use Rattle.dl_transform.specs.Polynomial.{eval}
-use Rattle.dl_transform.specs.Table.{point}
+use Rattle.dl_transform.proofs.Common.{ℕ, ◌≡◌, ◌+◌, ◌-◌, ◌*◌, ◌^◌, ◌<◌, ◌≤◌, take, drop, length, slice_index, get_or, arith, refl, ap, subst, ◌∙◌, get_or-take, get_or-drop, get_or_past, eval, point}
 use Rattle.dl_transform.proofs.Residues.{same_trans, same_of}
 use Rattle.dl_transform.proofs.Parts.{IsBelow, below, half_of, roots_small, join_small, values_step}
 use Rattle.dl_transform.proofs.modular.padded_values.Goals as goal

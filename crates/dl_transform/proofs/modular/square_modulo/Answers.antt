@@ -1,6 +1,4 @@
-use Rattle.std.proofs.Common.{◌*◌, ◌^◌, get_or, sym}
-use Rattle.dl_exact.specs.Count.{count_pairs}
-use Rattle.dl_transform.specs.Table.{point}
+use Rattle.dl_transform.proofs.Common.{◌*◌, ◌^◌, get_or, sym, count_pairs, point}
 use Rattle.dl_transform.proofs.Residues.{same_trans, same_of, same_times}
 use Rattle.dl_transform.proofs.Wholes.{product_value}
 use Rattle.dl_transform.proofs.modular.square_modulo.Goals as goal

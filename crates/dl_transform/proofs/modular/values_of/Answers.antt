@@ -1,6 +1,4 @@
-use Rattle.std.proofs.Common.{◌≡◌, ◌+◌, ◌*◌, ◌^◌, get_or, arith, ap}
-use Rattle.dl_transform.specs.Polynomial.{eval}
-use Rattle.dl_transform.specs.Table.{point}
+use Rattle.dl_transform.proofs.Common.{◌≡◌, ◌+◌, ◌*◌, ◌^◌, get_or, arith, ap, eval, point}
 use Rattle.dl_transform.proofs.Residues.{same_trans, same_of}
 use Rattle.dl_transform.proofs.Values.{eval_same}
 use Rattle.dl_transform.proofs.modular.values_of.Goals as goal

@@ -1,6 +1,4 @@
-use Rattle.std.proofs.Common.{◌+◌, ◌-◌, ◌*◌, ◌/◌, ◌^◌, take, drop, length, get_or, arith, refl, ap, ◌∙◌}
-use Rattle.std.proofs.lemmas.Nat.{pow_pos}
-use Rattle.dl_transform.specs.Table.{point}
+use Rattle.dl_transform.proofs.Common.{◌+◌, ◌-◌, ◌*◌, ◌/◌, ◌^◌, take, drop, length, get_or, arith, refl, ap, ◌∙◌, pow_pos, point}
 use Rattle.dl_transform.proofs.Parts.{below, half_of, join_small, items_leaf}
 use Rattle.dl_transform.proofs.AfterSteps.{front_small, back_small, items_after}
 use Rattle.dl_transform.proofs.passes.+to_items.Goals as goal
@@ -15,24 +13,6 @@ pub inverse-w-requires-clause-inside : goal.inverse-w-requires-clause-inside
 inverse-w-requires-clause-inside t c =
     (below c.args.levels c.args.node (length c.args.table.now.roots.items) c.if-levels-eq0.false
     c.requires.within).inside
-
-pub overflow_mul-node : goal.overflow_mul-node
-overflow_mul-node t c =
-    let b = (below c.args.levels c.args.node (length c.args.table.now.roots.items) c.if-levels-eq0.false
-    c.requires.within) in
-    omega (arith, b.inside, c.requires.table.few)
-
-pub overflow_mul-node-2 : goal.overflow_mul-node-2
-overflow_mul-node-2 t c =
-    let b = (below c.args.levels c.args.node (length c.args.table.now.roots.items) c.if-levels-eq0.false
-    c.requires.within) in
-    omega (arith, b.inside, c.requires.table.few)
-
-pub overflow_add-node : goal.overflow_add-node
-overflow_add-node t c =
-    let b = (below c.args.levels c.args.node (length c.args.table.now.roots.items) c.if-levels-eq0.false
-    c.requires.within) in
-    omega (arith, b.inside, c.requires.table.few)
 
 pub to_items-requires : goal.to_items-requires
 to_items-requires t c =
@@ -100,3 +80,21 @@ returns-clause-items t c =
     c.to_items-2.new.x c.join_all.new.low c.join_all.new.high c.inverse-w.ensures.value (pow_pos (c.args.levels - 1))
     c.to_items.ensures.items c.to_items-2.ensures.items (omega (arith, half, c.requires.size, b.twice))
     (omega (arith, half, c.requires.size, b.twice)) c.join_all.ensures.low c.join_all.ensures.high
+
+pub overflow_mul-node : goal.overflow_mul-node
+overflow_mul-node t c =
+    let b = (below c.args.levels c.args.node (length c.args.table.now.roots.items) c.if-levels-eq0.false
+    c.requires.within) in
+    omega (arith, b.inside, c.requires.table.few)
+
+pub overflow_mul-node-2 : goal.overflow_mul-node-2
+overflow_mul-node-2 t c =
+    let b = (below c.args.levels c.args.node (length c.args.table.now.roots.items) c.if-levels-eq0.false
+    c.requires.within) in
+    omega (arith, b.inside, c.requires.table.few)
+
+pub overflow_add-node : goal.overflow_add-node
+overflow_add-node t c =
+    let b = (below c.args.levels c.args.node (length c.args.table.now.roots.items) c.if-levels-eq0.false
+    c.requires.within) in
+    omega (arith, b.inside, c.requires.table.few)

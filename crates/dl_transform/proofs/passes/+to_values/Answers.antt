@@ -1,7 +1,6 @@
-use Rattle.std.proofs.Common.{◌+◌, ◌-◌, ◌*◌, ◌/◌, ◌^◌, take, drop, length, get_or, arith, refl, ap, ◌∙◌}
-use Rattle.dl_transform.specs.Table.{point}
+use Rattle.dl_transform.proofs.Common.{◌+◌, ◌-◌, ◌*◌, ◌/◌, ◌^◌, take, drop, length, get_or, arith, refl, ap, ◌∙◌, point}
 use Rattle.dl_transform.proofs.Parts.{below, half_of, join_small, values_leaf}
-use Rattle.dl_transform.proofs.AfterSteps.{front_small, back_small, values_after}
+use Rattle.dl_transform.proofs.AfterSteps.{front_small, values_after}
 use Rattle.dl_transform.proofs.passes.+to_values.Goals as goal
 
 pub returns-then-levels-eq0-clause-values : goal.returns-then-levels-eq0-clause-values
@@ -27,29 +26,6 @@ pub part_all-requires-clause-low_small : goal.part_all-requires-clause-low_small
 part_all-requires-clause-low_small t c =
     front_small (length c.args.x.now / 2) (4 * c.args.table.now.p) c.args.x.now _ c.split_at_mut-low.ensures.front
     c.requires.small
-
-pub part_all-requires-clause-high_small : goal.part_all-requires-clause-high_small
-part_all-requires-clause-high_small t c =
-    back_small (length c.args.x.now / 2) (4 * c.args.table.now.p) c.args.x.now _ c.split_at_mut-low.ensures.back
-    c.requires.small
-
-pub overflow_mul-node : goal.overflow_mul-node
-overflow_mul-node t c =
-    let b = (below c.args.levels c.args.node (length c.args.table.now.roots.items) c.if-levels-eq0.false
-    c.requires.within) in
-    omega (arith, b.inside, c.requires.table.few)
-
-pub overflow_mul-node-2 : goal.overflow_mul-node-2
-overflow_mul-node-2 t c =
-    let b = (below c.args.levels c.args.node (length c.args.table.now.roots.items) c.if-levels-eq0.false
-    c.requires.within) in
-    omega (arith, b.inside, c.requires.table.few)
-
-pub overflow_add-node : goal.overflow_add-node
-overflow_add-node t c =
-    let b = (below c.args.levels c.args.node (length c.args.table.now.roots.items) c.if-levels-eq0.false
-    c.requires.within) in
-    omega (arith, b.inside, c.requires.table.few)
 
 pub to_values-requires : goal.to_values-requires
 to_values-requires t c =
@@ -89,3 +65,21 @@ returns-clause-values t c =
     c.part_all.new.high c.to_values.new.x c.to_values-2.new.x c.root-w.ensures.value
     (omega (arith, half, c.requires.size, b.twice)) c.part_all.ensures.low c.part_all.ensures.high
     (omega (arith, half, c.requires.size, b.twice)) c.to_values.ensures.values c.to_values-2.ensures.values
+
+pub overflow_mul-node : goal.overflow_mul-node
+overflow_mul-node t c =
+    let b = (below c.args.levels c.args.node (length c.args.table.now.roots.items) c.if-levels-eq0.false
+    c.requires.within) in
+    omega (arith, b.inside, c.requires.table.few)
+
+pub overflow_mul-node-2 : goal.overflow_mul-node-2
+overflow_mul-node-2 t c =
+    let b = (below c.args.levels c.args.node (length c.args.table.now.roots.items) c.if-levels-eq0.false
+    c.requires.within) in
+    omega (arith, b.inside, c.requires.table.few)
+
+pub overflow_add-node : goal.overflow_add-node
+overflow_add-node t c =
+    let b = (below c.args.levels c.args.node (length c.args.table.now.roots.items) c.if-levels-eq0.false
+    c.requires.within) in
+    omega (arith, b.inside, c.requires.table.few)

@@ -1,5 +1,5 @@
-use Rattle.std.proofs.Common.{◌*◌, ◌<◌, ◌+◌, get_or, arith, ap₂, subst₂, length}
-use Rattle.dl_transform.specs.Residue.{Same}
+use Rattle.dl_transform.proofs.Common.{◌*◌, ◌<◌, ◌+◌, get_or, arith, ap₂, length, Same}
+use Rattle.std.proofs.Common.{subst₂}
 use Rattle.dl_transform.proofs.Residues.{same_trans, same_of}
 use Rattle.dl_transform.proofs.Steps.{set_each, set_done, set_rest}
 use Rattle.dl_transform.proofs.passes.join_all.Goals as goal

@@ -1,5 +1,4 @@
-use Rattle.std.proofs.Common.{◌*◌, ◌<◌, get_or, arith, refl, length}
-use Rattle.dl_transform.specs.Residue.{Same}
+use Rattle.dl_transform.proofs.Common.{◌*◌, ◌<◌, get_or, arith, refl, length, Same}
 use Rattle.dl_transform.proofs.Steps.{set_done}
 use Rattle.dl_transform.proofs.passes.load_front.Goals as goal
 

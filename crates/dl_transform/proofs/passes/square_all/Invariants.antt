@@ -1,5 +1,4 @@
-use Rattle.std.proofs.Common.{ℕ, ◌≡◌, ◌*◌, ◌^◌, ◌<◌, ◌≤◌, get_or}
-use Rattle.dl_transform.specs.Residue.{Same}
+use Rattle.dl_transform.proofs.Common.{ℕ, ◌≡◌, ◌*◌, ◌^◌, ◌<◌, ◌≤◌, get_or, Same}
 use Rattle.dl_transform.proofs.passes.square_all.Given as goal
 
 abbrev pub invariant-loop-i : goal.invariant-loop-i

@@ -1,20 +1,7 @@
-use Rattle.std.proofs.Common.{◌+◌, ◌*◌, get_or, arith, refl}
-use Rattle.dl_transform.specs.Table.{point}
+use Rattle.dl_transform.proofs.Common.{◌+◌, ◌*◌, get_or, arith, refl, point}
 use Rattle.dl_transform.proofs.Parts.{join_small, items_leaf}
-use Rattle.dl_transform.proofs.AfterSteps.{front_small, back_small, items_after}
+use Rattle.dl_transform.proofs.AfterSteps.{items_after}
 use Rattle.dl_transform.proofs.passes.to_items_2.Goals as goal
-
-pub inverse-w-requires-clause-inside : goal.inverse-w-requires-clause-inside
-inverse-w-requires-clause-inside c =
-    omega (arith, c.requires.within)
-
-pub join_all-requires-clause-low_small : goal.join_all-requires-clause-low_small
-join_all-requires-clause-low_small c =
-    front_small 1 (2 * c.args.table.now.p) c.args.x.now _ c.split_at_mut-low.ensures.front c.requires.small
-
-pub join_all-requires-clause-high_small : goal.join_all-requires-clause-high_small
-join_all-requires-clause-high_small c =
-    back_small 1 (2 * c.args.table.now.p) c.args.x.now _ c.split_at_mut-low.ensures.back c.requires.small
 
 pub returns-clause-small : goal.returns-clause-small
 returns-clause-small c =

@@ -1,20 +1,7 @@
-use Rattle.std.proofs.Common.{◌+◌, ◌*◌, get_or, arith, refl}
-use Rattle.dl_transform.specs.Table.{point}
+use Rattle.dl_transform.proofs.Common.{◌+◌, ◌*◌, get_or, arith, refl, point}
 use Rattle.dl_transform.proofs.Parts.{join_small, values_leaf}
-use Rattle.dl_transform.proofs.AfterSteps.{front_small, back_small, values_after}
+use Rattle.dl_transform.proofs.AfterSteps.{values_after}
 use Rattle.dl_transform.proofs.passes.to_values_2.Goals as goal
-
-pub root-w-requires-clause-inside : goal.root-w-requires-clause-inside
-root-w-requires-clause-inside c =
-    omega (arith, c.requires.within)
-
-pub part_all-requires-clause-low_small : goal.part_all-requires-clause-low_small
-part_all-requires-clause-low_small c =
-    front_small 1 (4 * c.args.table.now.p) c.args.x.now _ c.split_at_mut-low.ensures.front c.requires.small
-
-pub part_all-requires-clause-high_small : goal.part_all-requires-clause-high_small
-part_all-requires-clause-high_small c =
-    back_small 1 (4 * c.args.table.now.p) c.args.x.now _ c.split_at_mut-low.ensures.back c.requires.small
 
 pub returns-clause-small : goal.returns-clause-small
 returns-clause-small c =

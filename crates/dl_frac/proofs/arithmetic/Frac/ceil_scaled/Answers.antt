@@ -1,5 +1,5 @@
 -- The unit is below 2^64, so the shift loses nothing.
-use Rattle.std.proofs.Common.{◌^◌}
+use Rattle.dl_frac.proofs.Common.{◌^◌}
 use Rattle.dl_exact.proofs.Denominators.{ceiling_units}
 use Rattle.dl_frac.proofs.FractionLaws.{unit_fits}
 use Rattle.dl_frac.proofs.arithmetic.Frac.ceil_scaled.Goals as goal

@@ -1,8 +1,6 @@
 -- The quotient by its definition: the product with the second fraction turned over.
-use Rattle.std.proofs.Common.{◌<◌, subst, sym}
-use Rattle.dl_exact.specs.Fraction.{Fraction}
-use Rattle.dl_exact.proofs.Multiples.{lowest_swap}
-use Rattle.dl_exact.proofs.Parts.{quotient_is, num_pos}
+use Rattle.dl_frac.proofs.Common.{◌<◌, subst, sym, Fraction, lowest_swap, num_pos}
+use Rattle.dl_exact.proofs.Parts.{quotient_is}
 use Rattle.dl_frac.proofs.arithmetic.Frac.div.Goals as goal
 
 pub product-requires-clause-right : goal.product-requires-clause-right

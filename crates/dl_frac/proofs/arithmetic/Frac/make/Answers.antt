@@ -1,6 +1,5 @@
 -- The parts that are left after the common divisor is taken out.
-use Rattle.dl_exact.proofs.GcdLaws.{cut_pos, cut_lowest}
-use Rattle.dl_exact.proofs.Parts.{cut_same}
+use Rattle.dl_frac.proofs.Common.{cut_pos, cut_lowest, cut_same}
 use Rattle.dl_frac.proofs.arithmetic.Frac.make.Goals as goal
 
 pub fit-requires-clause-positive : goal.fit-requires-clause-positive

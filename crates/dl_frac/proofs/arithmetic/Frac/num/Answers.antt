@@ -1,5 +1,6 @@
 -- A fraction is above 0 exactly where its first part is.
-use Rattle.dl_exact.proofs.Parts.{num_pos, pos_num}
+use Rattle.dl_frac.proofs.Common.{num_pos}
+use Rattle.dl_exact.proofs.Parts.{pos_num}
 use Rattle.dl_frac.proofs.arithmetic.Frac.num.Goals as goal
 
 pub returns-clause-above : goal.returns-clause-above

@@ -1,8 +1,5 @@
 -- A percent has a hundred times the second part of its decimal.
-use Rattle.std.proofs.Common.{◌≡◌, ◌∙◌, true, sym, ap₂, arith}
-use Rattle.std.specs.List.{list_any}
-use Rattle.dl_exact.specs.Fraction.{whole, ◌over◌, ◌/ℚ◌}
-use Rattle.dl_frac.specs.Numerals.{is_percent}
+use Rattle.dl_frac.proofs.Common.{◌≡◌, ◌∙◌, true, sym, ap₂, arith, list_any, whole, ◌over◌, ◌/ℚ◌, is_percent}
 use Rattle.dl_frac.proofs.NumeralLaws.{few_tens, hundredth}
 use Rattle.dl_frac.proofs.reading.Reading.decimal.Goals as goal
 

@@ -1,7 +1,6 @@
 -- What one more digit changes.
-use Rattle.std.proofs.Common.{◌+◌, ◌*◌, ◌∙◌, ap, sym, arith, inl, inr}
+use Rattle.dl_frac.proofs.Common.{◌+◌, ◌*◌, ◌∙◌, ap, sym, arith, inl, inr, is_point, is_percent}
 use Rattle.dl_frac.proofs.NumeralLaws.{digit_is, count_push, number_push, scale_push, any_push_no, no_mark}
-use Rattle.dl_frac.specs.Numerals.{is_point, is_percent}
 use Rattle.dl_frac.proofs.reading.Reading.push_digit.Goals as goal
 use Rattle.dl_frac.proofs.reading.Reading.push_digit.Goals.{then-self, else-self}
 

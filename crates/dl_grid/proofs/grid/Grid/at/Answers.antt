@@ -1,5 +1,4 @@
-use Rattle.std.proofs.Common.{arith, refl}
-use Rattle.std.proofs.Math.Nat.{pow-le-pow_right}
+use Rattle.dl_grid.proofs.Common.{arith, pow-le-pow_right}
 use Rattle.dl_grid.proofs.EndLists.{viewed, read_at, read_small, low_le_high, ends_long}
 use Rattle.dl_grid.proofs.grid.Grid.at.Goals as goal
 

@@ -1,6 +1,4 @@
-use Rattle.std.proofs.Common.{arith, ap, sum, take, ◌+◌, ◌∙◌, length}
-use Rattle.std.proofs.Math.Nat.{pow-le-pow_right}
-use Rattle.std.proofs.lemmas.List.{length-take-le}
+use Rattle.dl_grid.proofs.Common.{arith, ap, sum, take, ◌+◌, ◌∙◌, pow-le-pow_right, length-take-le}
 use Rattle.dl_grid.proofs.EndLists.{viewed, ends_long, low_sum, high_sum, lows_small, ends_fit, high_few, spread_is}
 use Rattle.dl_grid.proofs.grid.Grid.cdf.Goals as goal
 

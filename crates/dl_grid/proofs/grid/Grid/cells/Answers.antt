@@ -1,6 +1,4 @@
-use Rattle.std.proofs.Common.{arith}
-use Rattle.std.proofs.lemmas.List.{length-map}
-use Rattle.dl_iv.specs.declared.interval.Iv.{Iv}
+use Rattle.dl_grid.proofs.Common.{arith}
 use Rattle.dl_grid.proofs.EndLists.{viewed, ends_long, grid_of_ends}
 use Rattle.dl_grid.proofs.grid.Grid.cells.Goals as goal
 

@@ -1,5 +1,5 @@
+use Rattle.dl_grid.proofs.Common.{refl}
 use Rattle.dl_grid.proofs.EndLists.{viewed, grid_of_ends}
-use Rattle.std.proofs.Common.{refl}
 use Rattle.dl_grid.proofs.grid.Grid.from_ends.Goals as goal
 
 pub returns-clause-low : goal.returns-clause-low

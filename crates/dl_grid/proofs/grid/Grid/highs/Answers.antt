@@ -1,5 +1,5 @@
-use Rattle.std.proofs.Common.{arith, sym, ap, length, ◌∙◌}
-use Rattle.dl_grid.proofs.EndLists.{viewed, low_ends_long, high_ends_long, low_at_ends, high_at_ends, low_le_high, lows_small, grid_of_ends, ends_below}
+use Rattle.dl_grid.proofs.Common.{sym, ◌∙◌}
+use Rattle.dl_grid.proofs.EndLists.{viewed, high_ends_long, high_at_ends, low_le_high, grid_of_ends, ends_below}
 use Rattle.dl_grid.proofs.grid.Grid.highs.Goals as goal
 
 pub returns-clause-ends : goal.returns-clause-ends
@@ -17,9 +17,6 @@ returns-clause-each g c x =
 
 pub returns-clause-order : goal.returns-clause-order
 returns-clause-order g c x = low_le_high c.args.self.now x
-
-pub returns-clause-small : goal.returns-clause-small
-returns-clause-small g c = rw c.as_slice.ensures.value c.self.invariant.small
 
 pub returns-clause-grid : goal.returns-clause-grid
 returns-clause-grid g c = grid_of_ends _ (viewed c.args.self.now c.self.invariant c.self.view_is).ends

@@ -1,4 +1,4 @@
-use Rattle.std.proofs.Common.{ap, ◌∙◌, sum}
+use Rattle.dl_grid.proofs.Common.{ap, ◌∙◌, sum}
 use Rattle.dl_grid.proofs.EndLists.{viewed, low_total}
 use Rattle.dl_grid.proofs.grid.Grid.mass_low.Goals as goal
 

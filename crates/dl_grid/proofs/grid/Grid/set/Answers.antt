@@ -1,4 +1,4 @@
-use Rattle.std.proofs.Common.{arith, ◌∙◌}
+use Rattle.dl_grid.proofs.Common.{arith}
 use Rattle.dl_grid.proofs.EndLists.{viewed, ends_long, ends_set, view_set, low_total, low_at_now}
 use Rattle.dl_grid.proofs.grid.Grid.set.Goals as goal
 

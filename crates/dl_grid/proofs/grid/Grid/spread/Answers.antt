@@ -1,11 +1,6 @@
-use Rattle.std.proofs.Common.{arith, ap, sum, ◌∙◌}
-use Rattle.dl_grid.proofs.EndLists.{viewed, low_total, high_total, lows_small, ends_fit_all, high_few, spread_is}
+use Rattle.dl_grid.proofs.Common.{arith, ap, sum, ◌∙◌}
+use Rattle.dl_grid.proofs.EndLists.{viewed, low_total, high_total, ends_fit_all, high_few, spread_is}
 use Rattle.dl_grid.proofs.grid.Grid.spread.Goals as goal
-
-pub sum_of-low-requires : goal.sum_of-low-requires
-sum_of-low-requires g c =
-    rw c.as_slice.ensures.value (ends_fit_all _ c.self.invariant.scale_below c.self.invariant.few
-    (lows_small c.self.invariant))
 
 pub sum_of-high-requires : goal.sum_of-high-requires
 sum_of-high-requires g c =

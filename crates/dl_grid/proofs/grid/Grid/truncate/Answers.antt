@@ -1,5 +1,4 @@
-use Rattle.std.proofs.Common.{arith, take, length}
-use Rattle.std.proofs.lemmas.List.{length-take-le}
+use Rattle.dl_grid.proofs.Common.{arith, length-take-le}
 use Rattle.dl_grid.proofs.EndLists.{viewed, ends_long, ends_taken, view_taken}
 use Rattle.dl_grid.proofs.grid.Grid.truncate.Goals as goal
 

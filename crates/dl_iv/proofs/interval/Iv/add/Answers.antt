@@ -1,4 +1,4 @@
-use Rattle.std.proofs.lemmas.Nat.{pow_pos}
+use Rattle.dl_iv.proofs.Common.{pow_pos}
 use Rattle.dl_iv.proofs.Operations.{add_low, add_high}
 use Rattle.dl_iv.proofs.interval.Iv.add.Goals as goal
 

@@ -1,6 +1,4 @@
-use Rattle.std.proofs.Common.{arith}
-use Rattle.std.proofs.Math.Nat.{mul-le-mul_right}
-use Rattle.std.proofs.lemmas.Nat.{pow_pos}
+use Rattle.dl_iv.proofs.Common.{arith, mul-le-mul_right, pow_pos}
 use Rattle.dl_iv.proofs.Rounding.{floor_le_ceiling}
 use Rattle.dl_iv.proofs.Operations.{div_low, div_high, above_zero}
 use Rattle.dl_iv.proofs.interval.Iv.div.Goals as goal

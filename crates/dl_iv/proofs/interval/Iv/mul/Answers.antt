@@ -1,7 +1,5 @@
-use Rattle.std.proofs.Common.{◌*◌, ◌^◌, ◌≤◌, arith}
+use Rattle.dl_iv.proofs.Common.{◌*◌, ◌^◌, ◌≤◌, arith, pow_pos, div_ceil_least}
 use Rattle.std.proofs.Math.Nat.{mul-le-mul, mul-le-mul_left, le_refl}
-use Rattle.std.proofs.lemmas.Nat.{pow_pos}
-use Rattle.dl_exact.proofs.RoundingLaws.{div_ceil_least}
 use Rattle.dl_iv.proofs.Rounding.{floor_le_ceiling, two_le}
 use Rattle.dl_iv.proofs.Operations.{mul_low, mul_high}
 use Rattle.dl_iv.proofs.interval.Iv.mul.Goals as goal

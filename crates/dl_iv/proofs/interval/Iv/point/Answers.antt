@@ -1,4 +1,4 @@
-use Rattle.dl_exact.proofs.Laws.{le_refl}
+use Rattle.dl_iv.proofs.Common.{le_refl}
 use Rattle.dl_iv.proofs.interval.Iv.point.Goals as goal
 
 pub returns-clause-holds : goal.returns-clause-holds

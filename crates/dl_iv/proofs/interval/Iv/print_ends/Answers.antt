@@ -1,9 +1,5 @@
-use Rattle.std.proofs.Common.{◌≡◌, ℕ, ◌+◌, ◌*◌, ◌/◌, ◌%◌, ◌^◌, ◌<◌, ◌≤◌, arith, sym, subst}
-use Rattle.std.proofs.Math.Nat.{mul-le-mul_right, div-le_of_le-mul, one-le-pow}
-use Rattle.std.specs.Int.{div_ceil}
-use Rattle.std.proofs.lemmas.Nat.{pow_pos}
-use Rattle.dl_exact.specs.Fraction.{◌over◌, ◌≤ℚ◌}
-use Rattle.dl_exact.proofs.RoundingLaws.{div_ceil_least}
+use Rattle.dl_iv.proofs.Common.{◌≡◌, ℕ, ◌+◌, ◌*◌, ◌/◌, ◌%◌, ◌^◌, ◌<◌, ◌≤◌, arith, sym, subst, mul-le-mul_right, div-le_of_le-mul, div_ceil, pow_pos, ◌over◌, ◌≤ℚ◌, div_ceil_least}
+use Rattle.std.proofs.Math.Nat.{one-le-pow}
 use Rattle.dl_iv.proofs.Rounding.{floor_by_step, ceiling_by_step}
 use Rattle.dl_iv.proofs.Operations.{print_low, print_high}
 use Rattle.dl_iv.proofs.interval.Iv.print_ends.Goals as goal

@@ -1,4 +1,4 @@
-use Rattle.std.proofs.lemmas.Nat.{pow_pos}
+use Rattle.dl_iv.proofs.Common.{pow_pos}
 use Rattle.dl_iv.proofs.Operations.{sub_low, sub_high}
 use Rattle.dl_iv.proofs.interval.Iv.sub_floor0.Goals as goal
 

@@ -1,7 +1,6 @@
-use Rattle.std.proofs.Common.{◌≡◌, ℕ, ◌≤◌, ◌^◌, List, length, take, sum_by, sym, ap, subst, ◌∙◌}
+use Rattle.dl_iv.proofs.Common.{◌≡◌, ℕ, ◌≤◌, ◌^◌, List, take, sum_by, sym, ap, subst, ◌∙◌, ◌over◌, ◌≤ℚ◌, sum_over}
+use Rattle.std.proofs.Common.{length}
 use Rattle.std.proofs.lemmas.List.{take_all}
-use Rattle.dl_exact.specs.Fraction.{◌over◌, ◌≤ℚ◌}
-use Rattle.dl_exact.specs.Sum.{sum_over}
 use Rattle.dl_iv.proofs.SumLaws.{sum_low, sum_high}
 use Rattle.dl_iv.proofs.interval.Iv.sum.Goals as goal
 

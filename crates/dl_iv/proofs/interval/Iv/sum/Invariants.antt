@@ -1,4 +1,4 @@
-use Rattle.std.proofs.Common.{◌≡◌, sum_by, take}
+use Rattle.dl_iv.proofs.Common.{◌≡◌, sum_by, take}
 use Rattle.dl_iv.proofs.interval.Iv.sum.Given as goal
 
 abbrev pub invariant-loop-item : goal.invariant-loop-item

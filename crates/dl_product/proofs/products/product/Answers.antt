@@ -1,0 +1,8 @@
+use Rattle.dl_product.proofs.Common.{rules, arith, written}
+use Rattle.dl_product.proofs.products.product.Goals as goal
+
+pub grid_of_sums-requires : goal.grid_of_sums-requires
+grid_of_sums-requires g c =
+    let down = written c.in_ok-lows.lows.items c.sums.new.out c.in_ok-lows.lows.len (omega arith) (omega arith) in
+    let up = written c.in_ok-lows.highs.items c.sums-2.new.out c.in_ok-lows.highs.len (omega arith) (omega arith) in
+    rw (down, up) (search rules)
