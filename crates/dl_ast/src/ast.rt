@@ -1,8 +1,7 @@
 //! The nodes of the syntax, from the program down to its numerals. A span runs from the start of a
 //! node's first token to the end of its last one, and counts bytes of the text.
 
-use crate::items::Items;
-use dl_lexer::{Span, Text};
+use dl_lexer::{Items, Span, Text};
 
 /// A program: one unit, or a portfolio of units.
 #[derive(Drop)]

@@ -12,15 +12,12 @@ ghost use Rattle.dl_ast.specs.Grammar.{program};
 ghost use Rattle.dl_ast.specs.WellFormed.{IsWellFormed};
 
 pub mod ast;
-pub mod items;
-#[cfg(test)]
-mod tests;
 
 pub use ast::{
     Atom, CededLayer, Cession, CountAst, Exposure, FreqAst, Layer, LimitAst, ListAst, ListItem,
     NameAst, Numeral, PortHead, Program, SevAst, Share, UnitAst,
 };
-pub use items::Items;
+pub use dl_lexer::Items;
 
 /// Each kind has a token: some text is spelled so.
 pub fn law_each_kind()

@@ -1,13 +1,6 @@
 -- Where a blank stands no token begins.
-use Rattle.std.proofs.Common.{ℕ, zero, suc, ◌≡◌, ◌≢◌, ◌∙◌, ◌+◌, ◌<◌, ◌≤◌, List, [], ◌∷◌, length, take, Bool, true, false, ◌||◌, ◌==◌, cond, refl, ap, arith, Some, slice_get}
-use Rattle.std.specs.List.{prefix_len}
-use Rattle.std.proofs.lemmas.Bool.Decides.{nat_tests}
-use Rattle.dl_lexer.specs.declared.token.Sign.{Sign}
-use Rattle.dl_lexer.specs.declared.token.Sign.TheVariants.{Open, Close, Colon, Comma, Bang}
-use Rattle.dl_lexer.specs.Bytes.{is_letter, is_digit, is_white, is_comment_byte}
-use Rattle.dl_lexer.specs.Numerals.{IsNumeralToken}
-use Rattle.dl_lexer.specs.Tokens.{sign_byte}
-use Rattle.dl_lexer.specs.Cutting.{NoToken, blank_length}
+use Rattle.dl_lexer.proofs.Common.{ℕ, zero, suc, ◌≡◌, ◌≢◌, ◌∙◌, ◌+◌, ◌<◌, ◌≤◌, List, [], ◌∷◌, length, take, Bool, true, false, ◌||◌, ◌==◌, cond, refl, ap, arith, Some, slice_get, prefix_len, nat_tests, Sign, Open, Close, Colon, Comma, Bang, is_letter, is_digit, IsNumeralToken, sign_byte, NoToken, blank_length}
+use Rattle.dl_lexer.specs.Bytes.{is_white, is_comment_byte}
 use Rattle.dl_lexer.proofs.Longest.{longest_none}
 use Rattle.dl_lexer.proofs.TokenKinds.{begins_numeral, numeral_begins, longest_nothing}
 

@@ -1,11 +1,5 @@
 -- The cutting of a text goes one way only: a text has at most one cover up to any place, and at most one bad place.
-use Rattle.std.proofs.Common.{ℕ, zero, suc, ◌≡◌, ◌∙◌, ◌+◌, ◌<◌, ◌≤◌, List, [], ◌∷◌, ◌++◌, length, take, drop, refl, sym, ap, arith, append_assoc, subst}
-use Rattle.std.proofs.lemmas.List.{append-nil}
-use Rattle.dl_lexer.specs.declared.token.Kind.{Kind}
-use Rattle.dl_lexer.specs.declared.token.Token.{Token}
-use Rattle.dl_lexer.specs.Tokens.{IsSpelled, IsToken}
-use Rattle.dl_lexer.specs.Cutting.{IsLongest, NoToken, blank_length, token_of, Covers, nothing, blank, token, IsBad}
-use Rattle.std.proofs.lemmas.Bool.{cases_lt}
+use Rattle.dl_lexer.proofs.Common.{ℕ, zero, suc, ◌≡◌, ◌∙◌, ◌+◌, ◌<◌, ◌≤◌, List, [], ◌∷◌, ◌++◌, length, take, drop, refl, sym, ap, arith, append_assoc, subst, append-nil, Kind, Token, IsSpelled, IsToken, IsLongest, NoToken, blank_length, token_of, Covers, nothing, blank, token, IsBad, cases_lt}
 use Rattle.dl_lexer.proofs.Longest.{either}
 use Rattle.dl_lexer.proofs.TokenKinds.{kind_one, token_some}
 

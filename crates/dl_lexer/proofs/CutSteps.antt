@@ -1,10 +1,6 @@
 -- One step of the cutting: what stands at the front of the rest of a text goes on with its cover, or is a bad place.
-use Rattle.std.proofs.Common.{ℕ, ◌≡◌, ◌∙◌, ◌+◌, ◌-◌, ◌<◌, List, [], ◌∷◌, ◌++◌, length, take, drop, sym, ap, arith, subst, length-drop}
+use Rattle.dl_lexer.proofs.Common.{ℕ, ◌≡◌, ◌∙◌, ◌+◌, ◌-◌, ◌<◌, List, [], ◌∷◌, ◌++◌, length, take, drop, sym, ap, arith, subst, length-drop, Kind, Token, IsSpelled, IsToken, IsLongest, blank_length, token_of, Covers, blank, token}
 use Rattle.std.proofs.lemmas.List.{take_all}
-use Rattle.dl_lexer.specs.declared.token.Kind.{Kind}
-use Rattle.dl_lexer.specs.declared.token.Token.{Token}
-use Rattle.dl_lexer.specs.Tokens.{IsSpelled, IsToken}
-use Rattle.dl_lexer.specs.Cutting.{IsLongest, NoToken, blank_length, token_of, Covers, blank, token, IsBad}
 use Rattle.dl_lexer.proofs.BlankLemmas.{blank_no_token}
 
 pub blank_step : (source : List ℕ) (at n : ℕ) (tokens : List Token) → Covers source at tokens

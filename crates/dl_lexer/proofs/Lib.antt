@@ -1,3 +1,4 @@
+mod Common
 pub mod BlankLemmas
 pub mod CoverLaws
 pub mod CutSteps

@@ -1,7 +1,5 @@
 -- The longest start of some bytes that is spelled in a way.
-use Rattle.std.proofs.Common.{ℕ, ◌≡◌, ◌≤◌, ◌⊎◌, List, length, take, max, inl, inr, arith}
-use Rattle.std.proofs.lemmas.Bool.{cases_lt}
-use Rattle.dl_lexer.specs.Cutting.{IsLongest}
+use Rattle.dl_lexer.proofs.Common.{ℕ, ◌≡◌, ◌≤◌, ◌⊎◌, List, length, take, max, inl, inr, arith, cases_lt, IsLongest}
 
 -- a bound on either kind is one on both
 pub either : {A B : Type 0} {C : Type 0} → A ⊎ B → (A → C) → (B → C) → C

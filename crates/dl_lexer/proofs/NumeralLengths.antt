@@ -1,15 +1,9 @@
 -- The longest decimal, percent and fraction at the front of some bytes.
-use Rattle.std.proofs.Common.{ℕ, zero, suc, ◌≡◌, ◌≢◌, ◌∙◌, ◌+◌, ◌<◌, ◌≤◌, ◌⊎◌, List, [], ◌∷◌, ◌++◌, length, get_or, take, drop, Bool, ◌||◌, ◌==◌, false, true, max, inl, inr, refl, sym, ap, arith, append_assoc, length-append, length-drop, Some, slice_get, subst}
-use Rattle.std.specs.List.{list_all, prefix_len}
+use Rattle.dl_lexer.proofs.Common.{ℕ, zero, suc, ◌≡◌, ◌≢◌, ◌∙◌, ◌+◌, ◌<◌, ◌≤◌, ◌⊎◌, List, [], ◌∷◌, ◌++◌, length, get_or, take, drop, Bool, ◌||◌, ◌==◌, false, true, max, inl, inr, refl, sym, ap, arith, append_assoc, length-append, length-drop, Some, slice_get, subst, list_all, prefix_len, take-append-drop, length-take-le, cases_lt, and_parts, prefix_len-le-length, slice_get_within, get_or_from_slice_get, is_digit, IsDecimalToken, digits, digits_point, point_digits, percent, fraction, IsNumeralToken, a_decimal, a_percent, a_fraction, IsLongest}
 use Rattle.std.proofs.Math.Seq.{take-append_seam}
-use Rattle.std.proofs.lemmas.List.{take-append-drop, length-take-le, get_or-take}
-use Rattle.std.proofs.lemmas.Bool.{cases_lt, and_parts}
-use Rattle.std.proofs.lemmas.List.Sums.{prefix_len-le-length}
+use Rattle.std.proofs.lemmas.List.{get_or-take}
 use Rattle.std.proofs.lemmas.List.Folds.{length-prefix_len, list_all-append, list_all_at}
-use Rattle.std.proofs.lemmas.Option.{slice_get_within, get_or_from_slice_get}
-use Rattle.dl_lexer.specs.Bytes.{is_digit}
-use Rattle.dl_lexer.specs.Numerals.{AreDigits, IsDecimalToken, digits, digits_point, point_digits, IsPercent, percent, IsFraction, fraction, IsNumeralToken, a_decimal, a_percent, a_fraction}
-use Rattle.dl_lexer.specs.Cutting.{IsLongest}
+use Rattle.dl_lexer.specs.Numerals.{AreDigits, IsPercent, IsFraction}
 use Rattle.dl_lexer.proofs.Prefix.{prefix_passes, prefix_most, prefix_ends, passes_prefix, take_around, get_behind, drop_behind}
 use Rattle.dl_lexer.proofs.Longest.{either, longest_either, longest_none}
 

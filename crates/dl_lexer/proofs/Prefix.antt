@@ -1,10 +1,6 @@
 -- How many elements a list begins with that pass a test.
-use Rattle.std.proofs.Common.{ℕ, suc, ◌≡◌, ◌∙◌, ◌+◌, ◌<◌, ◌≤◌, List, [], ◌∷◌, ◌++◌, length, get_or, take, drop, Bool, true, false, cond, ◌&&◌, refl, sym, ap, arith, add-one, drop-cons, Some, slice_get, subst}
-use Rattle.std.specs.List.{list_all, prefix_len}
-use Rattle.std.proofs.Math.Seq.{drop-append-add, take-append-add}
-use Rattle.std.proofs.lemmas.List.{take-append-drop, length-take-le}
-use Rattle.std.proofs.lemmas.Option.{slice_get_within, get_or_from_slice_get}
-use Rattle.std.proofs.lemmas.Bool.{and_parts}
+use Rattle.dl_lexer.proofs.Common.{ℕ, suc, ◌≡◌, ◌∙◌, ◌+◌, ◌<◌, ◌≤◌, List, [], ◌∷◌, ◌++◌, length, get_or, take, drop, Bool, true, false, cond, refl, sym, ap, arith, add-one, drop-cons, Some, slice_get, subst, list_all, prefix_len, take-append-add, take-append-drop, length-take-le, slice_get_within, get_or_from_slice_get, and_parts}
+use Rattle.std.proofs.Math.Seq.{drop-append-add}
 
 -- elements that pass, at the front, are counted
 pub passes_prefix : (p : ℕ → Bool) (b rest : List ℕ) → list_all p b ≡ true → length b ≤ prefix_len p (b ++ rest)

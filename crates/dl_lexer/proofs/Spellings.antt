@@ -1,15 +1,8 @@
 -- Words of keywords: a keyword is found by its spelling, so no two share one.
-use Rattle.std.proofs.Common.{ℕ, ◌≡◌, ◌≢◌, ◌∙◌, ◌+◌, ◌<◌, ◌≤◌, List, [], ◌∷◌, length, get_or, drop, map, Bool, true, false, ◌&&◌, cond, refl, sym, ap, add-one, drop-cons, Option, Some, None, IfSome, IfNone}
-use Rattle.std.specs.Str.{bytes_eq}
+use Rattle.dl_lexer.proofs.Common.{ℕ, ◌≡◌, ◌≢◌, ◌∙◌, ◌+◌, ◌<◌, ◌≤◌, List, [], ◌∷◌, length, get_or, drop, map, Bool, true, false, ◌&&◌, cond, refl, sym, ap, add-one, drop-cons, Some, IfSome, bytes_eq, bytes_eq-Decides, Keyword, list_all, is_word_byte, begins_with_letter, IsWord, spelling, first_spelled, and_parts}
+use Rattle.std.proofs.Common.{Option, None, IfNone}
 use Rattle.std.proofs.lemmas.List.{drop_all}
-use Rattle.std.proofs.lemmas.Slice.Eq.{bytes_eq-Decides}
-use Rattle.dl_lexer.specs.declared.token.Keyword.{Keyword}
 use Rattle.dl_lexer.specs.declared.token.Keyword.TheVariants.{Agg, Port, Claim, Claims, Loss, Prem, Premium, At, Lr, Dfreq, Dsev, Sev, Dhistogram, Xps, Xs, Inf, Occurrence, Aggregate, Net, Of, Ceded, To, And, So, Po, Fixed, Poisson, Bernoulli, Binomial, Mixed, Gamma, Wts, Lognorm, Expon, Pareto, Weibull, Norm, Uniform, Beta, Chistogram, Note, Geometric, Zt, Zm, Common}
-use Rattle.std.specs.List.{list_all}
-use Rattle.dl_lexer.specs.Bytes.{is_word_byte}
-use Rattle.dl_lexer.specs.Tokens.{begins_with_letter, IsWord}
-use Rattle.dl_lexer.specs.Keywords.{spelling, first_spelled}
-use Rattle.std.proofs.lemmas.Bool.{and_parts}
 
 -- the keywords in the order of the table
 abbrev pub keywords : List Keyword

@@ -1,23 +1,11 @@
 -- What bytes that spell a token begin with, so that they spell a token of one kind, and where the longest one ends.
-use Rattle.std.proofs.Common.{ℕ, zero, suc, ◌≡◌, ◌≢◌, ◌∙◌, ◌<◌, ◌≤◌, ◌⊎◌, List, [], ◌∷◌, ◌++◌, length, take, Bool, true, false, ◌||◌, ◌==◌, inl, inr, refl, sym, ap, arith, append_assoc, if◌then◌else◌, Some, slice_get, subst}
-use Rattle.std.specs.List.{list_all}
-use Rattle.std.proofs.lemmas.Bool.Decides.{nat_tests}
-use Rattle.std.proofs.lemmas.List.{length-take-le, append-nil}
-use Rattle.std.proofs.lemmas.Option.{slice_get_within}
-use Rattle.dl_lexer.specs.declared.token.Keyword.{Keyword}
-use Rattle.dl_lexer.specs.declared.token.Sign.{Sign}
-use Rattle.dl_lexer.specs.declared.token.Sign.TheVariants.{Open, Close, Colon, Comma, Bang}
-use Rattle.dl_lexer.specs.declared.token.Kind.{Kind}
+use Rattle.dl_lexer.proofs.Common.{ℕ, zero, suc, ◌≡◌, ◌≢◌, ◌∙◌, ◌<◌, ◌≤◌, ◌⊎◌, List, [], ◌∷◌, ◌++◌, length, take, Bool, true, false, ◌||◌, ◌==◌, inl, inr, refl, sym, ap, arith, append_assoc, Some, slice_get, subst, list_all, nat_tests, length-take-le, append-nil, slice_get_within, Keyword, Sign, Open, Close, Colon, Comma, Bang, Kind, is_letter, is_digit, is_word_byte, spelling, IsDecimalToken, digits, digits_point, point_digits, percent, fraction, IsNumeralToken, a_decimal, a_percent, a_fraction, begins_with_letter, IsWord, IsNote, note, sign_byte, IsSpelled, IsToken, IsLongest, NoToken, and_parts}
+use Rattle.std.proofs.Common.{if◌then◌else◌}
 use Rattle.dl_lexer.specs.declared.token.Kind.TheVariants as kind
-use Rattle.dl_lexer.specs.Bytes.{is_letter, is_digit, is_word_byte}
-use Rattle.dl_lexer.specs.Keywords.{spelling}
-use Rattle.dl_lexer.specs.Numerals.{IsDigits, IsDecimalToken, digits, digits_point, point_digits, percent, fraction, IsNumeralToken, a_decimal, a_percent, a_fraction}
-use Rattle.dl_lexer.specs.Tokens.{begins_with_letter, IsWord, IsNote, note, sign_byte, IsSpelled, IsToken}
-use Rattle.dl_lexer.specs.Cutting.{IsLongest, NoToken}
+use Rattle.dl_lexer.specs.Numerals.{IsDigits}
 use Rattle.dl_lexer.proofs.Longest.{either}
 use Rattle.dl_lexer.proofs.Spellings.{spelling_one, keyword_is_word}
 use Rattle.dl_lexer.proofs.WordLengths.{begins_take, word_parts}
-use Rattle.std.proofs.lemmas.Bool.{and_parts}
 
 -- a digit or a point
 abbrev pub begins_numeral : List ℕ → Bool

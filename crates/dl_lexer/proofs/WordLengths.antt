@@ -1,18 +1,9 @@
 -- The longest word and the longest note at the front of some bytes.
-use Rattle.std.proofs.Common.{ℕ, zero, suc, ◌≡◌, ◌≢◌, ◌∙◌, ◌+◌, ◌<◌, ◌≤◌, List, [], ◌∷◌, ◌++◌, length, take, drop, true, false, refl, sym, ap, arith, append_assoc, length-append, Some, slice_get, subst, codes}
-use Rattle.std.specs.List.{list_all, prefix_len}
-use Rattle.std.proofs.Math.Seq.{take-append-add}
-use Rattle.std.proofs.lemmas.List.{take-append-drop, length-take-le}
-use Rattle.std.proofs.lemmas.List.Sums.{prefix_len-le-length}
-use Rattle.std.proofs.lemmas.Option.{slice_get_within}
-use Rattle.std.specs.Str.{bytes_eq}
-use Rattle.std.proofs.lemmas.Slice.Eq.{bytes_eq-Decides}
-use Rattle.dl_lexer.specs.Bytes.{is_word_byte, is_note_byte}
-use Rattle.dl_lexer.specs.Tokens.{begins_with_letter, IsWord, IsNote, note}
-use Rattle.dl_lexer.specs.Cutting.{IsLongest}
+use Rattle.dl_lexer.proofs.Common.{ℕ, zero, suc, ◌≡◌, ◌≢◌, ◌∙◌, ◌+◌, ◌<◌, ◌≤◌, List, [], ◌∷◌, ◌++◌, length, take, drop, true, false, refl, sym, ap, arith, append_assoc, length-append, Some, slice_get, subst, list_all, prefix_len, take-append-add, take-append-drop, length-take-le, prefix_len-le-length, slice_get_within, bytes_eq, bytes_eq-Decides, is_word_byte, begins_with_letter, IsWord, IsNote, note, IsLongest, and_parts}
+use Rattle.std.proofs.Common.{codes}
+use Rattle.dl_lexer.specs.Bytes.{is_note_byte}
 use Rattle.dl_lexer.proofs.Prefix.{prefix_passes, prefix_most, prefix_ends, take_around, get_behind}
 use Rattle.dl_lexer.proofs.Longest.{longest_none}
-use Rattle.std.proofs.lemmas.Bool.{and_parts}
 
 -- a start of the bytes begins as they do
 pub begins_take : (m : ℕ) (bytes : List ℕ) → 0 < m → begins_with_letter (take m bytes) ≡ begins_with_letter bytes

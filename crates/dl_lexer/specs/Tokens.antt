@@ -31,11 +31,7 @@ pub data IsNote (bytes : List ℕ) : Type 0 where
 
 -- the byte of a sign
 abbrev pub sign_byte : Sign → ℕ
-sign_byte Open = 91
-sign_byte Close = 93
-sign_byte Colon = 58
-sign_byte Comma = 44
-sign_byte Bang = 33
+sign_byte sign = elim sign [ Open ↦ 91 | Close ↦ 93 | Colon ↦ 58 | Comma ↦ 44 | Bang ↦ 33 ]
 
 -- the bytes spell a token of this kind
 abbrev pub IsSpelled : Kind → List ℕ → Type 0

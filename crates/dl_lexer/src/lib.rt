@@ -4,15 +4,14 @@
 
 pub mod cut;
 mod front;
+pub mod items;
 pub mod law;
 pub mod place;
 pub mod text;
 pub mod token;
 
 pub use cut::{LexFault, lex};
+pub use items::Items;
 pub use place::line_col;
 pub use text::Text;
 pub use token::{Keyword, Kind, Sign, Span, Token};
-
-#[cfg(test)]
-mod tests;

@@ -8,13 +8,9 @@
 #![tactic(auto)]
 
 mod drop_sink;
-#[cfg(test)]
-mod endless;
 mod memory;
 mod schedule;
 mod system;
-#[cfg(test)]
-mod tests;
 mod whole;
 
 ghost use Rattle.std.specs.Prelude.{◌≡◌, ℕ, ◌≤◌, List, [], Option, Result, OnErr, OnOk};

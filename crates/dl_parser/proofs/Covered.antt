@@ -1,18 +1,16 @@
 -- The tokens that cover a text lie in it, are no more than its bytes, and are real.
-use Rattle.std.proofs.Common.{◌≡◌, ℕ, zero, suc, ◌+◌, ◌-◌, ◌≤◌, ◌<◌, Bool, true, false, List, [], ◌∷◌, length, take, drop, sym, subst, arith, length-append, length-drop, if◌then◌else◌, Fits, w32}
-use Rattle.std.specs.Prelude.{All, ◌==◌}
+use Rattle.dl_parser.proofs.Common.{◌≡◌, ℕ, suc, ◌+◌, ◌-◌, ◌≤◌, Bool, true, false, List, [], ◌∷◌, length, take, drop, sym, subst, arith, length-append, All, ◌==◌, All-nil, lexeme, IsReal}
+use Rattle.std.proofs.Common.{length-drop, if◌then◌else◌, Fits, w32}
 use Rattle.std.specs.List.{prefix_len}
 use Rattle.std.proofs.lemmas.List.{map-append}
 use Rattle.std.proofs.lemmas.List.Sums.{prefix_len-le-length}
-use Rattle.std.proofs.lemmas.List.Elements.{All-nil, All-push}
+use Rattle.std.proofs.lemmas.List.Elements.{All-push}
 use Rattle.dl_limits.specs.Limits.{most_text}
-use Rattle.dl_lexer.specs.declared.token.Kind.{Kind}
 use Rattle.dl_lexer.specs.declared.token.Token.{Token}
 use Rattle.dl_lexer.specs.Bytes.{is_white, is_comment_byte}
 use Rattle.dl_lexer.specs.Tokens.{IsSpelled}
 use Rattle.dl_lexer.specs.Cutting.{Covers, nothing, blank, token, blank_length, token_of}
-use Rattle.dl_lexer.proofs.TokenKinds.{token_some}
-use Rattle.dl_ast.specs.Lexemes.{lexeme, lexemes, IsReal}
+use Rattle.dl_ast.specs.Lexemes.{lexemes}
 use Rattle.dl_parser.specs.Placed.{Inside, AllInside}
 use Rattle.dl_lexer.proofs.CoverLaws.{token_takes}
 

@@ -1,3 +1,4 @@
+mod Common
 mod Sets
 mod Starts
 mod ReadsBack

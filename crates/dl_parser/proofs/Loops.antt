@@ -1,15 +1,9 @@
 -- A loop that reads any number of things.
-use Rattle.std.proofs.Common.{◌≡◌, ℕ, zero, suc, ◌≤◌, ◌<◌, Bool, true, false, List, [], ◌∷◌, ◌++◌, length, refl, sym, ap, ◌∙◌, arith, append_assoc}
-use Rattle.std.proofs.lemmas.List.{append-nil}
-use Rattle.dl_lexer.specs.declared.token.Kind.{Kind}
-use Rattle.dl_ast.specs.Lexemes.{Lexeme}
-use Rattle.dl_ast.specs.Rules.{Rule, many}
-use Rattle.dl_parser.specs.Reading.{Place, Outcome, got, stuck, ◌>>=◌, begins, first, repeat, front, read, is_plain}
-use Rattle.dl_ast.specs.Grammar.{some_of}
+use Rattle.dl_parser.proofs.Common.{◌≡◌, ℕ, zero, suc, ◌≤◌, ◌<◌, Bool, true, false, List, [], ◌∷◌, ◌++◌, length, refl, sym, ap, ◌∙◌, arith, append_assoc, append-nil, Lexeme, Rule, many, Place, Outcome, got, stuck, ◌>>=◌, begins, first, repeat, read, is_plain, some_of, and_parts}
+use Rattle.dl_parser.specs.Reading.{front}
 use Rattle.dl_parser.proofs.ReadsBack.{bind_of, is_no, whole_none}
 use Rattle.dl_parser.proofs.Took.{none_left}
 use Rattle.dl_parser.proofs.Stopped.{less}
-use Rattle.std.proofs.lemmas.Bool.{and_parts}
 
 -- the count that bounds the loop doesn't matter
 

@@ -1,12 +1,8 @@
 -- A spelling is read as what it spells.
-use Rattle.std.proofs.Common.{◌≡◌, ℕ, zero, suc, ◌≤◌, Bool, true, false, cond, ◌&&◌, ◌||◌, List, [], ◌∷◌, ◌++◌, length, Some, None, refl, sym, ap, ◌∙◌, subst, inl, inr, arith, append_assoc, length-append}
-use Rattle.dl_lexer.specs.declared.token.Kind.{Kind}
-use Rattle.dl_ast.specs.Lexemes.{Lexeme}
-use Rattle.dl_ast.specs.Rules.{Rule, one, ◌▸◌, ◌or◌, maybe, many, made, node, Each, Spells, end_of, span_of}
-use Rattle.dl_parser.specs.Reading.{Place, Outcome, got, ◌>>=◌, same_kind, among, begins, start_of, is_empty, first, goes_on, clears, repeat, read, apart, is_plain}
-use Rattle.dl_parser.proofs.Sets.{same_is, same_self, apart_at}
+use Rattle.dl_parser.proofs.Common.{◌≡◌, ℕ, zero, suc, ◌≤◌, Bool, true, false, cond, ◌&&◌, ◌||◌, List, [], ◌∷◌, ◌++◌, length, Some, None, refl, sym, ap, ◌∙◌, subst, inl, inr, arith, append_assoc, length-append, Kind, Lexeme, Rule, one, ◌▸◌, ◌or◌, maybe, many, made, node, Each, Spells, end_of, span_of, Place, Outcome, got, ◌>>=◌, among, begins, start_of, is_empty, first, goes_on, repeat, read, apart, is_plain, and_parts, or_parts}
+use Rattle.dl_parser.specs.Reading.{clears}
+use Rattle.dl_parser.proofs.Sets.{same_self, apart_at}
 use Rattle.dl_parser.proofs.Starts.{end_append, first_is, spelled_empty}
-use Rattle.std.proofs.lemmas.Bool.{and_parts, or_parts}
 
 -- a spelling is read as what it spells, where what follows doesn't go on with it
 

@@ -1,15 +1,11 @@
 -- Kinds, and lists of them.
-use Rattle.std.proofs.Common.{◌≡◌, zero, suc, arith, Bool, true, false, cond, ◌&&◌, ◌||◌, List, [], ◌∷◌, ◌++◌, refl, sym, ap, ◌∙◌, subst, rules}
+use Rattle.dl_parser.proofs.Common.{◌≡◌, zero, suc, arith, Bool, true, false, cond, ◌||◌, List, [], ◌∷◌, ◌++◌, refl, sym, ap, subst, rules, Kind, Word, Sign, same_kind, among, apart}
 use Rattle.std.specs.Prelude.{Contains}
 use Rattle.std.proofs.lemmas.Map.Views.{Contains-from_any}
 use denote.Enum.Bare.{same_true, true_same}
 use Rattle.dl_lexer.specs.contracts.token.Keyword.{the_type as keywords}
 use Rattle.dl_lexer.specs.contracts.token.Sign.{the_type as signs}
-use Rattle.dl_lexer.specs.declared.token.Kind.{Kind}
-use Rattle.dl_lexer.specs.declared.token.Kind.TheVariants.{Word, Name, Numeral, Note, Sign}
-use Rattle.dl_ast.specs.Lexemes.{Lexeme}
-use Rattle.dl_parser.specs.Reading.{same_kind, among, begins, apart}
-use Rattle.std.proofs.lemmas.Bool.{or_parts}
+use Rattle.dl_lexer.specs.declared.token.Kind.TheVariants.{Name, Numeral, Note}
 
 pub same_is : (a b : Kind) → same_kind a b ≡ true → a ≡ b
 same_is (Word a) (Word b) h = ap Word (same_true keywords (search rules) a b h)

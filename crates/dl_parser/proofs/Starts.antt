@@ -1,11 +1,6 @@
 -- What the tokens of a spelling begin with.
-use Rattle.std.proofs.Common.{◌≡◌, ℕ, Bool, true, false, cond, ◌&&◌, ◌||◌, List, [], ◌∷◌, ◌++◌, Some, None, refl, sym, ap, ◌∙◌, ◌⊎◌, inl, inr}
-use Rattle.dl_lexer.specs.declared.token.Kind.{Kind}
-use Rattle.dl_ast.specs.Lexemes.{Lexeme}
-use Rattle.dl_ast.specs.Rules.{Rule, one, ◌▸◌, ◌or◌, maybe, many, made, node, Each, Spells, end_of}
-use Rattle.dl_parser.specs.Reading.{Place, Outcome, got, stuck, ◌>>=◌, among, is_empty, first}
+use Rattle.dl_parser.proofs.Common.{◌≡◌, ℕ, Bool, true, false, cond, ◌||◌, List, [], ◌∷◌, ◌++◌, Some, None, refl, sym, ap, ◌∙◌, ◌⊎◌, inl, inr, Kind, Lexeme, Rule, one, ◌▸◌, ◌or◌, maybe, many, made, node, Each, Spells, end_of, Place, Outcome, got, stuck, ◌>>=◌, among, is_empty, first}
 use Rattle.dl_parser.proofs.Sets.{same_self, among_append}
-use Rattle.std.proofs.lemmas.Bool.{or_right, or_left}
 
 -- the outcome of a chain, by its first part
 

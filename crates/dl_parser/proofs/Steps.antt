@@ -1,14 +1,8 @@
 -- A parser takes tokens, and its loops.
-use Rattle.std.proofs.Common.{◌≡◌, ◌<◌, true, false, cond, length, map}
-use Rattle.std.proofs.lemmas.List.{length-map}
+use Rattle.dl_parser.proofs.Common.{◌≡◌, ◌<◌, true, false, cond, length, map, length-map, Rule, many, got, is_empty, is_plain, read, lexeme, place, and_parts}
 use Rattle.dl_parser.specs.declared.cursor.Parser.{Parser}
-use Rattle.dl_ast.specs.Rules.{Rule, many}
-use Rattle.dl_parser.specs.Reading.{got, is_empty, is_plain, read}
-use Rattle.dl_ast.specs.Lexemes.{lexeme}
-use Rattle.dl_parser.specs.Parsing.{place}
 use Rattle.dl_parser.proofs.ReadsBack.{is_no}
 use Rattle.dl_parser.proofs.Stopped.{less}
-use Rattle.std.proofs.lemmas.Bool.{and_parts}
 
 pub fewer_tokens : {A : Type 0} (a : Rule A) → is_plain (many a) ≡ true → (p q : Parser) (x : A)
     → read a (place p) ≡ got x (place q) → length q.rest.now < length p.rest.now

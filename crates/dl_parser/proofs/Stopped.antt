@@ -1,18 +1,9 @@
 -- Where reading stops, the tokens so far go on with a token of the wanted kind and with no other.
-use Rattle.std.proofs.Common.{◌≡◌, ℕ, zero, suc, ◌≤◌, ◌<◌, Bool, true, false, cond, ◌&&◌, ◌||◌, List, [], ◌∷◌, ◌++◌, length, Some, None, refl, sym, ap, ◌∙◌, subst, ◌⊎◌, inl, inr, arith, append_assoc, length-append}
-use Rattle.std.proofs.lemmas.List.{append-nil}
-use Rattle.dl_lexer.specs.declared.token.Kind.{Kind}
-use Rattle.std.specs.Prelude.{All}
-use Rattle.std.proofs.lemmas.List.Elements.{All-nil, All-cons, All-append}
-use Rattle.dl_ast.specs.Lexemes.{Lexeme, IsReal}
-use Rattle.dl_ast.proofs.Samples.{token_of, token_kind, token_real}
-use Rattle.dl_ast.specs.Rules.{Rule, one, ◌▸◌, ◌or◌, maybe, many, made, node, Each, Spells, end_of, span_of}
-use Rattle.dl_parser.specs.Reading.{Place, Outcome, got, stuck, ◌>>=◌, same_kind, among, begins, start_of, is_empty, first, watched, goes_on, one_at, repeat, read, is_plain}
-use Rattle.dl_parser.proofs.Sets.{same_is, among_append}
-use Rattle.dl_parser.proofs.Starts.{bind_stuck, chosen, no_append, spelled_empty}
-use Rattle.dl_parser.proofs.ReadsBack.{bind_of, is_no, not_both, whole}
+use Rattle.dl_parser.proofs.Common.{◌≡◌, ℕ, zero, suc, ◌≤◌, ◌<◌, true, false, ◌&&◌, List, [], ◌∷◌, ◌++◌, length, Some, None, refl, sym, ap, ◌∙◌, subst, inl, inr, arith, append_assoc, length-append, append-nil, Kind, All, All-nil, All-cons, Lexeme, IsReal, token_of, token_kind, token_real, Rule, one, ◌▸◌, ◌or◌, maybe, many, made, node, Each, Spells, span_of, Place, Outcome, got, stuck, ◌>>=◌, same_kind, begins, start_of, is_empty, first, watched, goes_on, one_at, repeat, read, is_plain, and_parts, or_parts}
+use Rattle.std.proofs.lemmas.List.Elements.{All-append}
+use Rattle.dl_parser.proofs.Starts.{bind_stuck, chosen, spelled_empty}
+use Rattle.dl_parser.proofs.ReadsBack.{bind_of, is_no, not_both}
 use Rattle.dl_parser.proofs.Took.{Alike, Took, alike_behind, alike_left, alike_right, fewer, shorter, test_same, took}
-use Rattle.std.proofs.lemmas.Bool.{and_parts, or_parts, or_cases}
 
 -- where reading stops, the tokens before go on with a token of the wanted kind, and with none that the tests take for
 -- another

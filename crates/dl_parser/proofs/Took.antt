@@ -1,13 +1,8 @@
 -- What was read is spelled, and is read in the same way where what is left begins alike.
-use Rattle.std.proofs.Common.{◌≡◌, ℕ, zero, suc, ◌≤◌, ◌<◌, Bool, true, false, cond, ◌&&◌, ◌||◌, List, [], ◌∷◌, ◌++◌, length, Some, None, refl, sym, ap, ◌∙◌, subst, inl, inr, arith, append_assoc, length-append}
-use Rattle.dl_lexer.specs.declared.token.Kind.{Kind}
-use Rattle.dl_ast.specs.Lexemes.{Lexeme}
-use Rattle.dl_ast.specs.Rules.{Rule, one, ◌▸◌, ◌or◌, maybe, many, made, node, Each, Spells, end_of, span_of}
-use Rattle.dl_parser.specs.Reading.{Place, Outcome, got, stuck, same_kind, among, begins, start_of, is_empty, first, watched, one_at, repeat, read, is_plain}
+use Rattle.dl_parser.proofs.Common.{◌≡◌, ℕ, zero, suc, ◌≤◌, ◌<◌, Bool, true, false, ◌||◌, List, [], ◌∷◌, ◌++◌, length, Some, None, refl, sym, ap, ◌∙◌, subst, inl, inr, arith, append_assoc, length-append, Kind, Lexeme, Rule, one, ◌▸◌, ◌or◌, maybe, many, made, node, Each, Spells, end_of, span_of, Place, Outcome, got, stuck, same_kind, among, begins, start_of, is_empty, first, watched, one_at, repeat, read, is_plain, and_parts}
 use Rattle.dl_parser.proofs.Sets.{same_is, same_self}
 use Rattle.dl_parser.proofs.Starts.{among_left, among_right, bind_got, chosen, end_append, spelled_empty}
 use Rattle.dl_parser.proofs.ReadsBack.{bind_of, is_no, not_both, span_same, whole_none}
-use Rattle.std.proofs.lemmas.Bool.{and_parts, or_right}
 
 -- what was read is spelled, and reading goes on in the same way where what is left begins alike
 

@@ -1,29 +1,17 @@
 -- From reading to what a parse says.
-use Rattle.std.proofs.Common.{◌≡◌, ℕ, zero, suc, ◌+◌, ◌≤◌, ◌<◌, Bool, true, false, cond, ◌&&◌, List, [], ◌∷◌, ◌++◌, length, take, drop, refl, sym, ap, ◌∙◌, subst, ◌⊎◌, inl, inr, arith, append_assoc, length-append}
-use Rattle.std.specs.Prelude.{All}
-use Rattle.std.proofs.lemmas.List.{append-nil}
-use Rattle.std.proofs.lemmas.List.Elements.{All-nil, All-cons}
-use Rattle.std.proofs.lemmas.Bool.{cases_lt, and_parts}
+use Rattle.dl_parser.proofs.Common.{◌≡◌, ℕ, zero, suc, ◌+◌, ◌≤◌, ◌<◌, Bool, true, false, cond, ◌&&◌, List, [], ◌∷◌, ◌++◌, length, take, drop, refl, sym, ap, ◌∙◌, subst, ◌⊎◌, inl, inr, arith, append_assoc, length-append, All, append-nil, All-nil, All-cons, and_parts, Kind, Word, Lexeme, IsReal, Spells, end_of, numeral, name, note, limit, layer, side, freq, claims, premium, head, item, next_item, items, list, atom, weighted, mixture, sev, cession, next_cession, layers, clause, ratio, exposure, loss, ending, closing, exposed, listed, counted, body, unit, units, token_of, token_kind, token_real, Place, Outcome, got, stuck, same_kind, among, begins, watched, read, apart, plain}
+use Rattle.std.proofs.lemmas.Bool.{cases_lt}
 use Rattle.dl_lexer.specs.declared.token.Keyword.TheVariants as words
-use Rattle.dl_lexer.specs.declared.token.Kind.{Kind}
-use Rattle.dl_lexer.specs.declared.token.Kind.TheVariants.{Word}
 use Rattle.dl_ast.specs.declared.ast.Program.{Program}
-use Rattle.dl_ast.specs.Lexemes.{Lexeme, IsReal}
-use Rattle.dl_ast.specs.Rules.{Spells, end_of}
-use Rattle.dl_ast.specs.Grammar.{numeral, name, note, limit, layer, side, freq, claims, premium, head}
 use Rattle.dl_ast.specs.Grammar.{program}
 use Rattle.dl_parser.specs.Factored as factored
-use Rattle.dl_parser.specs.Factored.{item, next_item, items, list, atom, weighted, mixture, sev, cession, next_cession, layers, clause, ratio, exposure, exposed, listed, counted, unit, units}
-use Rattle.dl_ast.proofs.Samples.{token_of, token_kind, token_real}
 use Rattle.dl_parser.specs.declared.syntax.ParseFault.TheVariants as faults
-use Rattle.dl_parser.specs.Reading.{Place, Outcome, got, stuck, same_kind, among, begins, watched, read, apart}
 use Rattle.dl_parser.specs.Viable.{Begins, Viable, Stops, continuous, IsContinuous, IsRefused}
 use Rattle.dl_parser.proofs.Sets.{same_is, same_self, apart_at, among_contains, contains_among}
 use Rattle.dl_parser.proofs.ReadsBack.{whole}
 use Rattle.dl_parser.proofs.Took.{took, Took, Alike}
 use Rattle.dl_parser.proofs.Stopped.{nothing_on, stopped, Stopped}
 use Rattle.dl_parser.proofs.Written.{program_alike}
-use Rattle.dl_parser.specs.Plain.{plain}
 
 abbrev at_start : List Lexeme → Place
 at_start ts = record { end = 0; rest = ts }
@@ -91,12 +79,14 @@ unlike ks h k f t = differ (same_kind h k) (same_kind h k) refl
 -- no test tells a continuous word from dhistogram
 apart_words : apart continuous (watched factored.program) ≡ true
 unfolding factored.program numeral name note item next_item items list limit layer atom weighted mixture sev cession
-    side next_cession layers clause freq claims premium ratio exposure exposed listed counted unit head units
+    side next_cession layers clause freq claims premium ratio exposure loss ending closing exposed listed counted body
+    unit head units
 apart_words = refl
 
 not_watched : among (Word words.Dhistogram) (watched factored.program) ≡ false
 unfolding factored.program numeral name note item next_item items list limit layer atom weighted mixture sev cession
-    side next_cession layers clause freq claims premium ratio exposure exposed listed counted unit head units
+    side next_cession layers clause freq claims premium ratio exposure loss ending closing exposed listed counted body
+    unit head units
 not_watched = refl
 
 apart_kinds : (js ks : List Kind) (h k : Kind) → apart js ks ≡ true → among h js ≡ true → among k ks ≡ true

@@ -1,10 +1,8 @@
 -- The grammar as it is read spells the same as the grammar as it is written.
-use Rattle.std.proofs.Common.{◌≡◌, ℕ, List, [], ◌∷◌, ◌++◌, Option, Some, None, refl, sym, ap, ◌∙◌, subst, inl, inr, append_assoc}
-use Rattle.std.proofs.lemmas.List.{append-nil}
+use Rattle.dl_parser.proofs.Common.{◌≡◌, ℕ, List, [], ◌∷◌, ◌++◌, Some, None, refl, sym, ap, ◌∙◌, subst, inl, inr, append_assoc, append-nil, Kind, Word, Sign, Atom, Lexeme, Rule, ◌▸◌, ◌or◌, maybe, many, made, node, Each, Spells, span_of, some_of, numeral, name, note, layer, limit, freq, premium, loss, ending, closing, body, item, next_item, items, list, atom, weighted, mixture, sev, cession, next_cession, layers, clause, ratio, exposure, exposed, listed, counted, unit, units}
+use Rattle.std.proofs.Common.{Option}
 use Rattle.dl_lexer.specs.declared.token.Keyword.TheVariants as words
 use Rattle.dl_lexer.specs.declared.token.Sign.TheVariants as signs
-use Rattle.dl_lexer.specs.declared.token.Kind.{Kind}
-use Rattle.dl_lexer.specs.declared.token.Kind.TheVariants.{Word, Sign}
 use Rattle.dl_lexer.specs.declared.token.Span.{Span}
 use Rattle.dl_ast.specs.declared.ast.NameAst.{NameAst}
 use Rattle.dl_ast.specs.declared.ast.Numeral.{Numeral}
@@ -13,33 +11,36 @@ use Rattle.dl_ast.specs.declared.ast.ListAst.{ListAst}
 use Rattle.dl_ast.specs.declared.ast.LimitAst.{LimitAst}
 use Rattle.dl_ast.specs.declared.ast.LimitAst.TheVariants as limits
 use Rattle.dl_ast.specs.declared.ast.Layer.{Layer}
-use Rattle.dl_ast.specs.declared.ast.Atom.{Atom}
 use Rattle.dl_ast.specs.declared.ast.CededLayer.{CededLayer}
 use Rattle.dl_ast.specs.declared.ast.SevAst.{SevAst}
 use Rattle.dl_ast.specs.declared.ast.CountAst.{CountAst}
+use Rattle.dl_ast.specs.declared.ast.CountAst.TheVariants as counts
 use Rattle.dl_ast.specs.declared.ast.Cession.{Cession}
 use Rattle.dl_ast.specs.declared.ast.FreqAst.{FreqAst}
 use Rattle.dl_ast.specs.declared.ast.Exposure.{Exposure}
 use Rattle.dl_ast.specs.declared.ast.Exposure.TheVariants as exposures
 use Rattle.dl_ast.specs.declared.ast.UnitAst.{UnitAst}
-use Rattle.dl_ast.specs.Lexemes.{Lexeme}
-use Rattle.dl_ast.specs.Rules.{Rule, one, ◌▸◌, ◌or◌, maybe, many, made, node, Each, Spells, span_of}
 use Rattle.dl_ast.specs.Grammar as written
-use Rattle.dl_ast.specs.Grammar.{◌≫◌, ◌≪◌, some_of, spanned, numeral, name, note, layer, limit, whole, so, po, side, freq, claims, premium, exposed_unit, listed_unit, head}
-use Rattle.dl_parser.specs.Factored.{SpellAlike, item_of, item, next_item, items, list, atom, weighted, mix_of, mixture, sev, whole_of, behind_number, cession, next_cession, layers, clause, occ, agr, ratio, base, exposure, exposed, listed, counted, unit, units, program}
+use Rattle.dl_ast.specs.Grammar.{◌≫◌, ◌≪◌, spanned, whole, so, po, exposed_unit, listed_unit}
+use Rattle.dl_parser.specs.declared.units.Loss.{Loss}
+use Rattle.dl_parser.specs.declared.units.Body.{Body}
+use Rattle.dl_parser.specs.Factored.{named, SpellAlike, item_of, mix_of, whole_of, behind_number, occ, agr, base, program}
 
 -- rules that are made alike of rules that spell alike do so
 
-same : {A : Type 0} (a : Rule A) → SpellAlike a a
-same a = record { to = λ x ts s. s; from = λ x ts s. s }
+same : {A : Type 0} {a : Rule A} → SpellAlike a a
+same {A} {a} = record { to = λ x ts s. s; from = λ x ts s. s }
 
 seq_into : {A B : Type 0} (a c : Rule A) (b d : Rule B) → ((x : A) (ts : List Lexeme) → Spells a x ts → Spells c x ts)
     → ((y : B) (ts : List Lexeme) → Spells b y ts → Spells d y ts)
     → (p : A × B) (ts : List Lexeme) → Spells (a ▸ b) p ts → Spells (c ▸ d) p ts
 seq_into a c b d f g p ts (us, vs, h, s, t) = (us, vs, h, f p.0 us s, g p.1 vs t)
 
-alike_seq : {A B : Type 0} (a c : Rule A) (b d : Rule B) → SpellAlike a c → SpellAlike b d → SpellAlike (a ▸ b) (c ▸ d)
-alike_seq a c b d f g = record { to = seq_into a c b d f.to g.to; from = seq_into c a d b f.from g.from }
+alike_seq : {A B : Type 0} {a c : Rule A} {b d : Rule B} → SpellAlike a c → SpellAlike b d → SpellAlike (a ▸ b) (c ▸ d)
+alike_seq {A} {B} {a} {c} {b} {d} f g = record {
+  to = seq_into a c b d f.to g.to;
+  from = seq_into c a d b f.from g.from;
+}
 
 or_into : {A : Type 0} (a c b d : Rule A) → ((x : A) (ts : List Lexeme) → Spells a x ts → Spells c x ts)
     → ((x : A) (ts : List Lexeme) → Spells b x ts → Spells d x ts)
@@ -47,47 +48,46 @@ or_into : {A : Type 0} (a c b d : Rule A) → ((x : A) (ts : List Lexeme) → Sp
 or_into a c b d f g x ts (inl s) = inl (f x ts s)
 or_into a c b d f g x ts (inr s) = inr (g x ts s)
 
-alike_or : {A : Type 0} (a c b d : Rule A) → SpellAlike a c → SpellAlike b d → SpellAlike (a or b) (c or d)
-alike_or a c b d f g = record { to = or_into a c b d f.to g.to; from = or_into c a d b f.from g.from }
+alike_or : {A : Type 0} {a c b d : Rule A} → SpellAlike a c → SpellAlike b d → SpellAlike (a or b) (c or d)
+alike_or {A} {a} {c} {b} {d} f g = record { to = or_into a c b d f.to g.to; from = or_into c a d b f.from g.from }
 
 maybe_into : {A : Type 0} (a c : Rule A) → ((x : A) (ts : List Lexeme) → Spells a x ts → Spells c x ts)
     → (o : Option A) (ts : List Lexeme) → Spells (maybe a) o ts → Spells (maybe c) o ts
 maybe_into a c f None ts s = s
 maybe_into a c f (Some x) ts s = f x ts s
 
-alike_maybe : {A : Type 0} (a c : Rule A) → SpellAlike a c → SpellAlike (maybe a) (maybe c)
-alike_maybe a c f = record { to = maybe_into a c f.to; from = maybe_into c a f.from }
+alike_maybe : {A : Type 0} {a c : Rule A} → SpellAlike a c → SpellAlike (maybe a) (maybe c)
+alike_maybe {A} {a} {c} f = record { to = maybe_into a c f.to; from = maybe_into c a f.from }
 
 many_into : {A : Type 0} (a c : Rule A) → ((x : A) (ts : List Lexeme) → Spells a x ts → Spells c x ts)
     → (xs : List A) (ts : List Lexeme) → Each (Spells a) xs ts → Each (Spells c) xs ts
 many_into a c f [] ts s = s
 many_into a c f (x ∷ xs) ts (us, vs, h, s, t) = (us, vs, h, f x us s, many_into a c f xs vs t)
 
-alike_many : {A : Type 0} (a c : Rule A) → SpellAlike a c → SpellAlike (many a) (many c)
-alike_many a c f = record { to = many_into a c f.to; from = many_into c a f.from }
+alike_many : {A : Type 0} {a c : Rule A} → SpellAlike a c → SpellAlike (many a) (many c)
+alike_many {A} {a} {c} f = record { to = many_into a c f.to; from = many_into c a f.from }
 
-alike_made : {A B : Type 0} (f : A → B) (a c : Rule A) → SpellAlike a c → SpellAlike (made f a) (made f c)
-alike_made f a c g =
+alike_made : {A B : Type 0} {f : A → B} {a c : Rule A} → SpellAlike a c → SpellAlike (made f a) (made f c)
+alike_made {A} {B} {f} {a} {c} g =
     record { to = λ y ts (x, e, s). (x, e, g.to x ts s); from = λ y ts (x, e, s). (x, e, g.from x ts s) }
 
-alike_node : {A B : Type 0} (f : A → Span → B) (a c : Rule A) → SpellAlike a c → SpellAlike (node f a) (node f c)
-alike_node f a c g =
+alike_node : {A B : Type 0} {f : A → Span → B} {a c : Rule A} → SpellAlike a c → SpellAlike (node f a) (node f c)
+alike_node {A} {B} {f} {a} {c} g =
     record { to = λ y ts (x, e, s). (x, e, g.to x ts s); from = λ y ts (x, e, s). (x, e, g.from x ts s) }
 
-alike_behind : {A : Type 0} (k : Kind) (a c : Rule A) → SpellAlike a c → SpellAlike (k ≫ a) (k ≫ c)
-alike_behind k a c f = alike_made (λ p. p.1) (one k ▸ a) (one k ▸ c) (alike_seq (one k) (one k) a c (same (one k)) f)
+alike_behind : {A : Type 0} (k : Kind) {a c : Rule A} → SpellAlike a c → SpellAlike (k ≫ a) (k ≫ c)
+alike_behind {A} k {a} {c} f = alike_made (alike_seq same f)
 
-alike_some_of : {A : Type 0} (a c b d : Rule A) → SpellAlike a c → SpellAlike b d
+alike_some_of : {A : Type 0} {a c b d : Rule A} → SpellAlike a c → SpellAlike b d
     → SpellAlike (some_of a b) (some_of c d)
-alike_some_of a c b d f g =
-    alike_made (λ p. p.0 ∷ p.1) (a ▸ many b) (c ▸ many d) (alike_seq a c (many b) (many d) f (alike_many b d g))
+alike_some_of {A} {a} {c} {b} {d} f g = alike_made (alike_seq f (alike_many g))
 
 by : {A : Type 0} (a b c : Rule A) → SpellAlike a b → SpellAlike b c → SpellAlike a c
 by a b c f g = record { to = λ x ts s. g.to x ts (f.to x ts s); from = λ x ts s. f.from x ts (g.from x ts s) }
 
 -- nothing behind
-no_tail : (ts us vs : List Lexeme) → ts ≡ us ++ vs → vs ≡ [] → ts ≡ us
-no_tail ts us vs h e = h ∙ ap (λ zs. us ++ zs) e ∙ append-nil us
+no_tail : {ts us vs : List Lexeme} → ts ≡ us ++ vs → vs ≡ [] → ts ≡ us
+no_tail {ts} {us} {vs} h e = h ∙ ap (λ zs. us ++ zs) e ∙ append-nil us
 
 -- behind a token of a kind
 pub behind : {A : Type 0} (k : Kind) (r : Rule A) (x : A) (ts : List Lexeme) → Spells (k ≫ r) x ts
@@ -123,7 +123,7 @@ item_range n m None x ts us ws t h k e a b = (
       h,
       a,
       lead (Sign signs.Colon) numeral m t ws k
-          (subst (Spells numeral m) (sym (no_tail ws b.0 b.1 b.2 b.4)) b.3),
+          (subst (Spells numeral m) (sym (no_tail b.2 b.4)) b.3),
     ),
   )),
 )
@@ -141,7 +141,7 @@ item_to n None x ts us vs h e a b = (
   λ span. record { from = n; to = None; step = None; span = span },
   e,
   inl
-      (n, refl, subst (Spells numeral n) (sym (no_tail ts us vs h b)) a),
+      (n, refl, subst (Spells numeral n) (sym (no_tail h b)) a),
 )
 item_to n (Some q) x ts us vs h e a b =
     let c = behind (Sign signs.Colon) (numeral ▸ maybe second) q vs b in
@@ -189,25 +189,23 @@ item_alike = record { to = λ x ts (p, e, (us, vs, h, a, b)). item_to p.0 p.1 x 
 
 next_item_alike : SpellAlike next_item written.next_item
 unfolding next_item written.next_item
-next_item_alike = alike_made (λ p. p.1) _ _ (alike_seq _ _ item written.item (same _) item_alike)
+next_item_alike = alike_made (alike_seq same item_alike)
 
 list_alike : SpellAlike list written.list
 unfolding list items written.list
-list_alike = alike_node _ _ _ (alike_behind (Sign signs.Open) _ _
-    (alike_made (λ p. p.0) _ _ (alike_seq _ _ _ _
-    (alike_some_of item written.item next_item written.next_item item_alike next_item_alike) (same _))))
+list_alike = alike_node
+    (alike_behind (Sign signs.Open) (alike_made (alike_seq (alike_some_of item_alike next_item_alike) same)))
 
 lists_alike : SpellAlike (list ▸ maybe list) (written.list ▸ maybe written.list)
 lists_alike =
-    alike_seq list written.list (maybe list) (maybe written.list) list_alike (alike_maybe list written.list list_alike)
+    alike_seq list_alike (alike_maybe list_alike)
 
 atom_alike : SpellAlike atom written.atom
 unfolding atom written.atom
-atom_alike = alike_made _ _ _ (alike_or _ _ _ _ (alike_behind (Word words.Dsev) _ _ lists_alike)
-    (alike_behind (Word words.Sev) _ _ (alike_behind (Word words.Dhistogram) _ _
-    (alike_behind (Word words.Xps) _ _ lists_alike))))
+atom_alike = alike_made (alike_or (alike_behind (Word words.Dsev) lists_alike) (alike_behind (Word words.Sev)
+    (alike_behind (Word words.Dhistogram) (alike_behind (Word words.Xps) lists_alike))))
 
--- the mixture, of the same atoms and lists
+-- the mixture, of the same and lists
 
 mixture_of : Rule Atom → Rule ListAst → Rule (List Atom × Option ListAst)
 mixture_of a l = made (λ x. (x ∷ [], None)) a or made (λ (x, (others, weights)). (x ∷ others, Some weights))
@@ -217,7 +215,7 @@ mixture_to : (a : Atom) (o : Option (List Atom × ListAst)) (x : List Atom × Op
     → ts ≡ us ++ vs → x ≡ mix_of (a, o) → Spells atom a us → Spells (maybe weighted) o vs
     → Spells (mixture_of atom list) x ts
 unfolding mixture_of weighted
-mixture_to a None x ts us vs h e s b = inl (a, e, subst (Spells atom a) (sym (no_tail ts us vs h b)) s)
+mixture_to a None x ts us vs h e s b = inl (a, e, subst (Spells atom a) (sym (no_tail h b)) s)
 mixture_to a (Some q) x ts us vs h e s b = inr ((a, q), e, (us, vs, h, s, b))
 
 mixture_from : (x : List Atom × Option ListAst) (ts : List Lexeme) → Spells (mixture_of atom list) x ts
@@ -230,14 +228,12 @@ pub mixture_alike : SpellAlike mixture written.mixture
 unfolding mixture mixture_of written.mixture
 mixture_alike = by mixture (mixture_of atom list) written.mixture
     (record { to = λ x ts (p, e, (us, vs, h, a, b)). mixture_to p.0 p.1 x ts us vs h e a b; from = mixture_from })
-    (alike_or _ _ _ _ (alike_made _ atom written.atom atom_alike) (alike_made _ _ _
-    (alike_seq atom written.atom _ _ atom_alike
-    (alike_seq _ _ _ _ (alike_many atom written.atom atom_alike)
-    (alike_behind (Word words.Wts) list written.list list_alike)))))
+    (alike_or (alike_made atom_alike) (alike_made (alike_seq atom_alike (alike_seq (alike_many atom_alike)
+    (alike_behind (Word words.Wts) list_alike)))))
 
 sev_alike : SpellAlike sev written.sev
 unfolding sev written.sev
-sev_alike = alike_node _ _ _ (alike_seq mixture written.mixture _ _ mixture_alike (same _))
+sev_alike = alike_node (alike_seq mixture_alike same)
 
 -- exposure
 
@@ -397,94 +393,131 @@ cession_alike = record { to = cession_to; from = cession_from }
 
 next_cession_alike : SpellAlike next_cession written.next_cession
 unfolding next_cession written.next_cession
-next_cession_alike = alike_behind (Word words.And) cession written.cession cession_alike
+next_cession_alike = alike_behind (Word words.And) cession_alike
 
 clause_alike : (k : Kind) → SpellAlike (clause k) (written.clause k)
 unfolding clause layers written.clause
-clause_alike k = alike_node _ _ _ (alike_behind k _ _ (alike_seq side side _ _ (same side)
-    (alike_some_of cession written.cession next_cession written.next_cession cession_alike next_cession_alike)))
+clause_alike k = alike_node (alike_behind k (alike_seq same (alike_some_of cession_alike next_cession_alike)))
 
--- the unit, of the same parts
+-- the unit, of the same
 
-abbrev exposed_parts : Rule (NameAst × (Exposure ×
-    (Option Layer × (SevAst × (Option Cession × (FreqAst × (Option Cession × Option (List ℕ))))))))
+abbrev ExposedParts : Type 0
+ExposedParts = NameAst × (Exposure ×
+    (Option Layer × (SevAst × (Option Cession × (FreqAst × (Option Cession × Option (List ℕ)))))))
+
+abbrev ListedParts : Type 0
+ListedParts = NameAst × (CountAst ×
+    (Option Layer × (SevAst × (Option Cession × (Option Cession × Option (List ℕ))))))
+
+abbrev exposed_parts : Rule ExposedParts
 exposed_parts = name ▸ exposure ▸ maybe layer ▸ sev ▸ maybe occ ▸ freq ▸ maybe agr ▸ maybe note
 
-abbrev listed_parts : Rule (NameAst × (CountAst ×
-    (Option Layer × (SevAst × (Option Cession × (Option Cession × Option (List ℕ)))))))
+abbrev listed_parts : Rule ListedParts
 listed_parts = name ▸ listed ▸ maybe layer ▸ sev ▸ maybe occ ▸ maybe agr ▸ maybe note
 
 unit_of_parts : Rule UnitAst
 unit_of_parts = made exposed_unit (Word words.Agg ≫ exposed_parts) or made listed_unit (Word words.Agg ≫ listed_parts)
 
-unit_to : (n : NameAst) (g : NameAst → UnitAst) (x : UnitAst) (ts us ws : List Lexeme) (t : Lexeme)
-    → ts ≡ t ∷ (us ++ ws) → t.kind ≡ Word words.Agg → x ≡ g n → Spells name n us → Spells (counted or exposed) g ws
-    → Spells unit_of_parts x ts
-unfolding unit_of_parts counted exposed
-unit_to n g x ts us ws t h k e a (inl (v, f, s)) = inr (
-  (n, v),
-  e ∙ ap (λ make. make n) f,
-  subst (Spells (Word words.Agg ≫ listed_parts) (n, v)) (sym h)
-      (lead (Word words.Agg) (listed_parts) (n, v) t (us ++ ws) k (us, ws, refl, a, s)),
-)
-unit_to n g x ts us ws t h k e a (inr (v, f, s)) = inl (
-  (n, v),
-  e ∙ ap (λ make. make n) f,
-  subst (Spells (Word words.Agg ≫ exposed_parts) (n, v)) (sym h)
-      (lead (Word words.Agg) (exposed_parts) (n, v) t (us ++ ws) k (us, ws, refl, a, s)),
+-- what stands behind the sizes of the claims, all in one row
+row_of_loss : {A B : Type 0} (a : Rule A) (r : Rule B) (x : A) (l : Loss) (y : B) (ts : List Lexeme)
+    → Spells (a ▸ loss ▸ r) (x, (l, y)) ts
+    → Spells (a ▸ maybe layer ▸ sev ▸ maybe occ ▸ r) (x, (l.layer, (l.sev, (l.occ, y)))) ts
+unfolding loss
+row_of_loss a r x l y ts (us, vs, h, s, (ps, qs, i, (p, e, (p0, p1, j, t, (s0, s1, k, u, w))), v)) = (
+  us,
+  vs,
+  h,
+  s,
+  subst (λ (m : Loss). Spells (maybe layer ▸ sev ▸ maybe occ ▸ r) (m.layer, (m.sev, (m.occ, y))) vs) (sym e) (
+    p0,
+    p1 ++ qs,
+    i ∙ ap (λ zs. zs ++ qs) j ∙ append_assoc p0 p1 qs,
+    t,
+    (s0, s1 ++ qs, ap (λ zs. zs ++ qs) k ∙ append_assoc s0 s1 qs, u, (s1, qs, refl, w, v)),
+  ),
 )
 
-unit_from : (x : UnitAst) (ts : List Lexeme) → Spells unit_of_parts x ts → Spells unit x ts
-unfolding unit_of_parts unit counted exposed
-unit_from x ts (inl (p, e, s)) =
-    let c = behind (Word words.Agg) (exposed_parts) p ts s in
-    let make : NameAst → UnitAst = λ n. exposed_unit (n, p.1) in (
-      (p.0, make),
-      e,
-      subst (Spells (Word words.Agg ≫ name ▸ (counted or exposed)) (p.0, make)) (sym c.3)
-          (lead (Word words.Agg) (name ▸ (counted or exposed)) (p.0, make) c.0 c.1 c.2
-          (c.4.0, c.4.1, c.4.2, c.4.3, inr (p.1, refl, c.4.4))),
+loss_of_row : {A B : Type 0} (a : Rule A) (r : Rule B) (x : A) (l : Loss) (y : B) (ts : List Lexeme)
+    → Spells (a ▸ maybe layer ▸ sev ▸ maybe occ ▸ r) (x, (l.layer, (l.sev, (l.occ, y)))) ts
+    → Spells (a ▸ loss ▸ r) (x, (l, y)) ts
+unfolding loss
+loss_of_row a r x l y ts (us, vs, h, s, (p0, p1, i, t, (s0, s1, j, u, (o0, o1, k, w, v)))) = (
+  us,
+  vs,
+  h,
+  s,
+  (
+    p0 ++ (s0 ++ o0),
+    o1,
+    i ∙ ap (λ zs. p0 ++ zs) (j ∙ ap (λ zs. s0 ++ zs) k ∙ sym (append_assoc s0 o0 o1))
+        ∙ sym (append_assoc p0 (s0 ++ o0) o1),
+    ((l.layer, (l.sev, l.occ)), refl, (p0, s0 ++ o0, refl, t, (s0, o0, refl, u, w))),
+    v,
+  ),
+)
+
+unit_to : (n : NameAst) (b : Body) (x : UnitAst) (ts us ws : List Lexeme) (t : Lexeme) → ts ≡ t ∷ (us ++ ws)
+    → t.kind ≡ Word words.Agg → x ≡ named n b → Spells name n us → Spells body b ws → Spells unit_of_parts x ts
+unfolding unit_of_parts body counted exposed closing ending
+unit_to n b x ts us ws t h k e a (inl (v, f, s)) =
+    let p : ListedParts = (n, (v.0, (v.1.0.layer, (v.1.0.sev, (v.1.0.occ, v.1.1))))) in inr (
+      p,
+      e ∙ ap (named n) f,
+      subst (Spells (Word words.Agg ≫ listed_parts) p) (sym h) (lead (Word words.Agg) listed_parts p t (us ++ ws) k
+          (us, ws, refl, a, row_of_loss listed ending v.0 v.1.0 v.1.1 ws s)),
     )
-unit_from x ts (inr (p, e, s)) =
-    let c = behind (Word words.Agg) (listed_parts) p ts s in
-    let make : NameAst → UnitAst = λ n. listed_unit (n, p.1) in (
-      (p.0, make),
+unit_to n b x ts us ws t h k e a (inr (v, f, s)) =
+    let p : ExposedParts = (n, (v.0, (v.1.0.layer, (v.1.0.sev, (v.1.0.occ, v.1.1))))) in inl (
+      p,
+      e ∙ ap (named n) f,
+      subst (Spells (Word words.Agg ≫ exposed_parts) p) (sym h) (lead (Word words.Agg) exposed_parts p t (us ++ ws) k
+          (us, ws, refl, a, row_of_loss exposure closing v.0 v.1.0 v.1.1 ws s)),
+    )
+
+unit_from : (x : UnitAst) (ts : List Lexeme) → Spells unit_of_parts x ts → Spells unit x ts
+unfolding unit_of_parts unit body counted exposed closing ending
+unit_from x ts (inl ((n, (v, (y, (m, (o, r))))), e, s)) =
+    let l : Loss = record { layer = y; sev = m; occ = o } in
+    let b : Body = record { count = counts.Exposed v r.0; loss = l; agr = r.1.0; note = r.1.1 } in
+    let c = behind (Word words.Agg) exposed_parts (n, (v, (y, (m, (o, r))))) ts s in (
+      (n, b),
       e,
-      subst (Spells (Word words.Agg ≫ name ▸ (counted or exposed)) (p.0, make)) (sym c.3)
-          (lead (Word words.Agg) (name ▸ (counted or exposed)) (p.0, make) c.0 c.1 c.2
-          (c.4.0, c.4.1, c.4.2, c.4.3, inl (p.1, refl, c.4.4))),
+      subst (Spells (Word words.Agg ≫ name ▸ body) (n, b)) (sym c.3)
+          (lead (Word words.Agg) (name ▸ body) (n, b) c.0 c.1 c.2
+          (c.4.0, c.4.1, c.4.2, c.4.3, inr ((v, (l, r)), refl, loss_of_row exposure closing v l r c.4.1 c.4.4))),
+    )
+unit_from x ts (inr ((n, (v, (y, (m, (o, r))))), e, s)) =
+    let l : Loss = record { layer = y; sev = m; occ = o } in
+    let b : Body = record { count = v; loss = l; agr = r.0; note = r.1 } in
+    let c = behind (Word words.Agg) listed_parts (n, (v, (y, (m, (o, r))))) ts s in (
+      (n, b),
+      e,
+      subst (Spells (Word words.Agg ≫ name ▸ body) (n, b)) (sym c.3)
+          (lead (Word words.Agg) (name ▸ body) (n, b) c.0 c.1 c.2
+          (c.4.0, c.4.1, c.4.2, c.4.3, inl ((v, (l, r)), refl, loss_of_row listed ending v l r c.4.1 c.4.4))),
     )
 
 listed_alike : SpellAlike listed written.listed
 unfolding listed written.listed
-listed_alike = alike_node _ _ _ (alike_behind (Word words.Dfreq) _ _ lists_alike)
+listed_alike = alike_node (alike_behind (Word words.Dfreq) lists_alike)
 
 pub unit_alike : SpellAlike unit written.unit
 unfolding unit unit_of_parts written.unit
 unit_alike = by unit unit_of_parts written.unit
     (record {
       to = λ x ts (p, e, s).
-          let c = behind (Word words.Agg) (name ▸ (counted or exposed)) p ts s in
+          let c = behind (Word words.Agg) (name ▸ body) p ts s in
           unit_to p.0 p.1 x ts c.4.0 c.4.1 c.0 (c.3 ∙ ap (λ zs. c.0 ∷ zs) c.4.2) c.2 e c.4.3 c.4.4;
       from = unit_from;
     })
-    (alike_or _ _ _ _
-    (alike_made exposed_unit _ _ (alike_behind (Word words.Agg) _ _
-    (alike_seq name name _ _ (same name) (alike_seq exposure written.exposure _ _ exposure_alike
-    (alike_seq _ _ _ _ (same (maybe layer))
-    (alike_seq sev written.sev _ _ sev_alike
-    (alike_seq _ _ _ _ (alike_maybe occ written.occ (clause_alike (Word words.Occurrence)))
-    (alike_seq freq freq _ _ (same freq)
-    (alike_seq _ _ _ _ (alike_maybe agr written.agr (clause_alike (Word words.Aggregate))) (same (maybe note)))))))))))
-    (alike_made listed_unit _ _ (alike_behind (Word words.Agg) _ _
-    (alike_seq name name _ _ (same name) (alike_seq listed written.listed _ _ listed_alike
-    (alike_seq _ _ _ _ (same (maybe layer))
-    (alike_seq sev written.sev _ _ sev_alike
-    (alike_seq _ _ _ _ (alike_maybe occ written.occ (clause_alike (Word words.Occurrence)))
-    (alike_seq _ _ _ _ (alike_maybe agr written.agr (clause_alike (Word words.Aggregate))) (same (maybe note)))))))))))
+    (alike_or (alike_made (alike_behind (Word words.Agg) (alike_seq same
+    (alike_seq exposure_alike (alike_seq same (alike_seq sev_alike (alike_seq (alike_maybe
+    (clause_alike (Word words.Occurrence))) (alike_seq same (alike_seq (alike_maybe (clause_alike
+    (Word words.Aggregate))) same))))))))) (alike_made (alike_behind (Word words.Agg) (alike_seq same
+    (alike_seq listed_alike (alike_seq same (alike_seq sev_alike (alike_seq (alike_maybe
+    (clause_alike (Word words.Occurrence))) (alike_seq (alike_maybe (clause_alike (Word words.Aggregate)))
+    same)))))))))
 
 pub program_alike : SpellAlike program written.program
 unfolding program units written.program
-program_alike = alike_or _ _ _ _ (alike_made _ unit written.unit unit_alike)
-    (alike_made _ _ _ (alike_seq head head _ _ (same head)
-    (alike_some_of unit written.unit unit written.unit unit_alike unit_alike)))
+program_alike = alike_or (alike_made unit_alike) (alike_made (alike_seq same (alike_some_of unit_alike unit_alike)))

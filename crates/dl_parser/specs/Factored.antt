@@ -1,6 +1,6 @@
 -- The grammar as the parser reads it: where the alternatives of a line begin alike, what they share
 -- is read once. The rules of Grammar, and each rule here with the spelling of its namesake there.
-use Rattle.std.specs.Prelude.{List, [], ◌∷◌, Option, Some, None, is_some}
+use Rattle.std.specs.Prelude.{ℕ, List, [], ◌∷◌, Option, Some, None, is_some}
 use Rattle.dl_lexer.specs.declared.token.Keyword.TheVariants as words
 use Rattle.dl_lexer.specs.declared.token.Sign.TheVariants as signs
 use Rattle.dl_lexer.specs.declared.token.Kind.{Kind}
@@ -18,13 +18,16 @@ use Rattle.dl_ast.specs.declared.ast.CountAst.{CountAst}
 use Rattle.dl_ast.specs.declared.ast.CountAst.TheVariants as counts
 use Rattle.dl_ast.specs.declared.ast.CededLayer.{CededLayer}
 use Rattle.dl_ast.specs.declared.ast.Cession.{Cession}
+use Rattle.dl_ast.specs.declared.ast.FreqAst.{FreqAst}
 use Rattle.dl_ast.specs.declared.ast.Exposure.{Exposure}
 use Rattle.dl_ast.specs.declared.ast.Exposure.TheVariants as exposures
 use Rattle.dl_ast.specs.declared.ast.UnitAst.{UnitAst}
 use Rattle.dl_ast.specs.declared.ast.Program.{Program}
+use Rattle.dl_parser.specs.declared.units.Loss.{Loss}
+use Rattle.dl_parser.specs.declared.units.Body.{Body}
 use Rattle.dl_ast.specs.Lexemes.{Lexeme}
 use Rattle.dl_ast.specs.Rules.{Rule, one, ◌▸◌, ◌or◌, maybe, many, made, node, Spells}
-use Rattle.dl_ast.specs.Grammar.{◌≫◌, ◌≪◌, ◌means◌, some_of, spanned, numeral, name, note, layer, whole, so, po, side, freq, claims, premium, exposed_unit, listed_unit, head}
+use Rattle.dl_ast.specs.Grammar.{◌≫◌, ◌≪◌, ◌means◌, some_of, spanned, numeral, name, note, layer, whole, so, po, side, freq, claims, premium, listed_unit, head}
 
 -- NUMERAL (':' NUMERAL (':' NUMERAL)?)?
 abbrev pub item_of : Numeral × Option (Numeral × Option Numeral) → Span → ListItem
@@ -118,19 +121,38 @@ exposure = spanned (made (λ p. p.1 p.0) (numeral ▸ base))
 
 -- unit := 'agg' NAME ('dfreq' list list? layer? sev occ? agr? NOTE? | exposure layer? sev occ? freq
 -- agr? NOTE?)
-unfoldable pub exposed : Rule (NameAst → UnitAst)
-exposed = made (λ parts n. exposed_unit (n, parts))
-    (exposure ▸ maybe layer ▸ sev ▸ maybe occ ▸ freq ▸ maybe agr ▸ maybe note)
+unfoldable pub loss : Rule Loss
+loss = made (λ p. record { layer = p.0; sev = p.1.0; occ = p.1.1 }) (maybe layer ▸ sev ▸ maybe occ)
+
+unfoldable pub ending : Rule (Option Cession × Option (List ℕ))
+ending = maybe agr ▸ maybe note
+
+unfoldable pub closing : Rule (FreqAst × (Option Cession × Option (List ℕ)))
+closing = freq ▸ ending
+
+unfoldable pub exposed : Rule Body
+exposed =
+    made (λ (e, (l, (f, (a, t)))). record
+    { count = counts.Exposed e f; loss = l; agr = a; note = t })
+    (exposure ▸ loss ▸ closing)
 
 unfoldable pub listed : Rule CountAst
 listed = node (λ p span. counts.Listed p.0 p.1 span) (Word words.Dfreq ≫ list ▸ maybe list)
 
-unfoldable pub counted : Rule (NameAst → UnitAst)
-counted = made (λ parts n. listed_unit (n, parts))
-    (listed ▸ maybe layer ▸ sev ▸ maybe occ ▸ maybe agr ▸ maybe note)
+unfoldable pub counted : Rule Body
+counted =
+    made (λ (c, (l, (a, t))). record { count = c; loss = l; agr = a; note = t })
+    (listed ▸ loss ▸ ending)
+
+unfoldable pub body : Rule Body
+body = counted or exposed
+
+abbrev pub named : NameAst → Body → UnitAst
+named n b = listed_unit
+    (n, (b.count, (b.loss.layer, (b.loss.sev, (b.loss.occ, (b.agr, b.note))))))
 
 unfoldable pub unit : Rule UnitAst
-unit = made (λ p. p.1 p.0) (Word words.Agg ≫ name ▸ (counted or exposed))
+unit = made (λ p. named p.0 p.1) (Word words.Agg ≫ name ▸ body)
 
 -- program := unit | 'port' NAME NOTE? unit unit*
 unfoldable pub units : Rule (List UnitAst)

@@ -7,7 +7,7 @@ use Rattle.dl_ast.specs.Grammar.{premium, head}
 use Rattle.dl_parser.specs.Reading.{is_plain}
 use Rattle.dl_parser.specs.Factored.{item, next_item, items, list, atom, weighted, mixture, sev}
 use Rattle.dl_parser.specs.Factored.{cession, next_cession, layers, clause, ratio, exposure}
-use Rattle.dl_parser.specs.Factored.{exposed, listed, counted, unit, units, program}
+use Rattle.dl_parser.specs.Factored.{loss, ending, closing, exposed, listed, counted, body, unit, units, program}
 
 pub record IsPlainGrammar : Type 0 where
   pub whole : is_plain program ≡ true
@@ -18,7 +18,8 @@ pub record IsPlainGrammar : Type 0 where
 
 pub plain : IsPlainGrammar
 unfolding numeral name note item next_item items list limit layer atom weighted mixture sev cession
-    side next_cession layers clause freq claims premium ratio exposure exposed listed counted unit
+    side next_cession layers clause freq claims premium ratio exposure loss ending closing exposed
+    listed counted body unit
     head units program
 plain = record {
   whole = refl;

@@ -43,7 +43,7 @@ impl<'a> Parser<'a> {
     }
 
     /// Whether a layer follows.
-    #[tactic(auto, unfolding(dl_ast::specs::Grammar::layer, dl_ast::specs::Grammar::limit, dl_ast::specs::Grammar::numeral))]
+    #[tactic(auto, unfolding(dl_ast::specs::Grammar::layer, dl_ast::specs::Grammar::limit, dl_ast::specs::Grammar::numeral,))]
     fn is_layer_next(&self) -> bool
         ensures { result ≡ begins (first layer) (place self.now).rest }
     {

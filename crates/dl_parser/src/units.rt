@@ -1,16 +1,52 @@
 //! Units, and the program that is made of them.
 
 ghost use Rattle.std.specs.Prelude.{◌≡◌};
-ghost use Rattle.dl_ast.specs.Rules.{made};
 ghost use Rattle.dl_ast.specs.Grammar.{freq, head};
-ghost use Rattle.dl_parser.specs.Factored.{ratio, exposure, exposed, listed, counted, program};
+ghost use Rattle.dl_parser.specs.Factored.{ratio, exposure, loss, ending, closing, exposed, listed, counted, body, named, program};
 ghost use Rattle.dl_parser.specs.Parsing.{ReadsBy};
 
 use crate::cursor::Parser;
 use crate::parts::Part;
 use crate::stop::Stop;
-use dl_ast::{CountAst, Exposure, FreqAst, Items, NameAst, Numeral, PortHead, Program, UnitAst};
-use dl_lexer::{Keyword, Kind};
+use dl_ast::{
+    Cession, CountAst, Exposure, FreqAst, Items, Layer, NameAst, Numeral, PortHead, Program,
+    SevAst, UnitAst,
+};
+use dl_lexer::{Keyword, Kind, Text};
+
+/// The sizes of a unit's claims: `layer? sev occ?`.
+#[derive(Drop)]
+struct Loss {
+    layer: Option<Layer>,
+    sev: SevAst,
+    occ: Option<Cession>,
+}
+
+/// A unit but for its name.
+#[derive(Drop)]
+struct Body {
+    count: CountAst,
+    loss: Loss,
+    agr: Option<Cession>,
+    note: Option<Text>,
+}
+
+impl Body {
+    /// The unit of this name.
+    fn named(self, name: NameAst) -> UnitAst
+        ensures { result ≡ named name self }
+    {
+        UnitAst {
+            name,
+            count: self.count,
+            layer: self.loss.layer,
+            sev: self.loss.sev,
+            occ: self.loss.occ,
+            agr: self.agr,
+            note: self.note,
+        }
+    }
+}
 
 impl<'a> Parser<'a> {
     /// `'fixed' | 'poisson' | 'bernoulli' | 'binomial' NUMERAL | 'mixed' 'gamma' NUMERAL`
@@ -105,51 +141,84 @@ impl<'a> Parser<'a> {
         })
     }
 
-    /// Behind the unit's name, `exposure layer? sev occ? freq agr? NOTE?`
-    #[tactic(auto, unfolding(crate::specs::Factored::exposed))]
-    fn exposed(&mut self, name: NameAst) -> Result<UnitAst, Stop>
+    /// `layer? sev occ?`
+    #[tactic(auto, unfolding(crate::specs::Factored::loss))]
+    fn loss(&mut self) -> Result<Loss, Stop>
         ensures source { self.new.source ≡ self.old.source }
-        ensures reads { ReadsBy (made (λ make. make name) exposed) self.old self.new result }
+        ensures reads { ReadsBy loss self.old self.new result }
     {
-        let exposure = self.exposure()?;
         let layer = self.layer_option()?;
         let sev = self.sev()?;
         let occ = self.clause_option(Kind::Word(Keyword::Occurrence))?;
-        let freq = self.freq()?;
+        Ok(Loss { layer, sev, occ })
+    }
+
+    /// `agr? NOTE?`
+    #[tactic(auto, unfolding(crate::specs::Factored::ending))]
+    fn ending(&mut self) -> Result<(Option<Cession>, Option<Text>), Stop>
+        ensures source { self.new.source ≡ self.old.source }
+        ensures reads { ReadsBy ending self.old self.new result }
+    {
         let agr = self.clause_option(Kind::Word(Keyword::Aggregate))?;
         let note = self.note_option()?;
-        Ok(UnitAst {
-            name,
+        Ok((agr, note))
+    }
+
+    /// `freq agr? NOTE?`
+    #[tactic(auto, unfolding(crate::specs::Factored::closing))]
+    fn closing(&mut self) -> Result<(FreqAst, (Option<Cession>, Option<Text>)), Stop>
+        ensures source { self.new.source ≡ self.old.source }
+        ensures reads { ReadsBy closing self.old self.new result }
+    {
+        let freq = self.freq()?;
+        let ending = self.ending()?;
+        Ok((freq, ending))
+    }
+
+    /// `exposure layer? sev occ? freq agr? NOTE?`
+    #[tactic(auto, unfolding(crate::specs::Factored::exposed))]
+    fn exposed(&mut self) -> Result<Body, Stop>
+        ensures source { self.new.source ≡ self.old.source }
+        ensures reads { ReadsBy exposed self.old self.new result }
+    {
+        let exposure = self.exposure()?;
+        let loss = self.loss()?;
+        let (freq, (agr, note)) = self.closing()?;
+        Ok(Body {
             count: CountAst::Exposed { exposure, freq },
-            layer,
-            sev,
-            occ,
+            loss,
             agr,
             note,
         })
     }
 
-    /// Behind the unit's name, `'dfreq' list list? layer? sev occ? agr? NOTE?`
+    /// `'dfreq' list list? layer? sev occ? agr? NOTE?`
     #[tactic(auto, unfolding(crate::specs::Factored::counted))]
-    fn counted(&mut self, name: NameAst) -> Result<UnitAst, Stop>
+    fn counted(&mut self) -> Result<Body, Stop>
         ensures source { self.new.source ≡ self.old.source }
-        ensures reads { ReadsBy (made (λ make. make name) counted) self.old self.new result }
+        ensures reads { ReadsBy counted self.old self.new result }
     {
         let count = self.listed()?;
-        let layer = self.layer_option()?;
-        let sev = self.sev()?;
-        let occ = self.clause_option(Kind::Word(Keyword::Occurrence))?;
-        let agr = self.clause_option(Kind::Word(Keyword::Aggregate))?;
-        let note = self.note_option()?;
-        Ok(UnitAst {
-            name,
+        let loss = self.loss()?;
+        let (agr, note) = self.ending()?;
+        Ok(Body {
             count,
-            layer,
-            sev,
-            occ,
+            loss,
             agr,
             note,
         })
+    }
+
+    /// What stands behind a unit's name: its next token tells which of the two.
+    #[tactic(auto, unfolding(crate::specs::Factored::body, crate::specs::Factored::counted, crate::specs::Factored::listed,))]
+    fn body(&mut self) -> Result<Body, Stop>
+        ensures source { self.new.source ≡ self.old.source }
+        ensures reads { ReadsBy body self.old self.new result }
+    {
+        if self.is_next(Kind::Word(Keyword::Dfreq)) {
+            return self.counted();
+        }
+        self.exposed()
     }
 }
 
@@ -162,14 +231,12 @@ impl Part for UnitAst {
     ghost next_rule = { unit };
 
     /// `'agg' NAME`, and what follows the name.
-    #[tactic(auto, unfolding(crate::specs::Factored::unit, crate::specs::Factored::counted, crate::specs::Factored::listed,))]
+    #[tactic(auto, unfolding(crate::specs::Factored::unit))]
     fn first(parser: &mut Parser<'_>) -> Result<UnitAst, Stop> {
         parser.take(Kind::Word(Keyword::Agg))?;
         let name = parser.name()?;
-        if parser.is_next(Kind::Word(Keyword::Dfreq)) {
-            return parser.counted(name);
-        }
-        parser.exposed(name)
+        let body = parser.body()?;
+        Ok(body.named(name))
     }
 
     fn next(parser: &mut Parser<'_>) -> Result<UnitAst, Stop> {

@@ -1,23 +1,23 @@
 -- A token is the longest that begins where it stands, whatever follows a sign, and where a blank, `:` or `]` follows
 -- any other token.
-use Rattle.std.proofs.Common.{ℕ, zero, suc, ◌≡◌, ◌≢◌, ◌∙◌, ◌+◌, ◌<◌, ◌≤◌, List, [], ◌∷◌, ◌++◌, length, take, Bool, true, false, ◌&&◌, ◌||◌, ◌==◌, refl, sym, ap, arith, subst, append_assoc, length-append, Some, slice_get, codes}
-use Rattle.std.specs.List.{list_all, prefix_len}
+use Rattle.dl_printer.proofs.Common.{ℕ, suc, ◌≡◌, ◌∙◌, ◌+◌, ◌<◌, List, [], ◌∷◌, ◌++◌, length, take, Bool, true, false, ◌||◌, refl, sym, ap, arith, subst, append_assoc, length-append, Some, codes, sign_byte, IsSpelled, IsToken, is_tight_behind}
+use Rattle.std.proofs.Common.{zero, ◌≢◌, ◌≤◌, ◌==◌, slice_get}
 use Rattle.std.proofs.Math.Seq.{take-append_seam}
+use Rattle.dl_lexer.specs.declared.token.Kind.{Kind}
+use Rattle.dl_lexer.specs.Bytes.{is_white, is_letter, is_digit, is_word_byte, is_note_byte}
+use Rattle.dl_lexer.specs.Tokens.{begins_with_letter, IsWord, IsNote, note}
+use Rattle.dl_lexer.specs.Cutting.{IsLongest}
+use Rattle.std.specs.List.{list_all, prefix_len}
 use Rattle.std.proofs.lemmas.Bool.Decides.{nat_tests}
 use Rattle.std.proofs.lemmas.List.Folds.{list_all-append}
 use Rattle.dl_lexer.specs.declared.token.Sign.{Sign}
-use Rattle.dl_lexer.specs.declared.token.Kind.{Kind}
 use Rattle.dl_lexer.specs.declared.token.Kind.TheVariants as kinds
-use Rattle.dl_lexer.specs.Bytes.{is_white, is_letter, is_digit, is_word_byte, is_note_byte}
 use Rattle.dl_lexer.specs.Numerals.{IsDecimalToken, digits, digits_point, point_digits, percent, fraction, IsNumeralToken, a_decimal, a_percent, a_fraction}
-use Rattle.dl_lexer.specs.Tokens.{begins_with_letter, IsWord, IsNote, note, sign_byte, IsSpelled, IsToken}
-use Rattle.dl_lexer.specs.Cutting.{IsLongest}
 use Rattle.dl_lexer.proofs.Prefix.{prefix_most, prefix_ends, get_behind}
 use Rattle.dl_lexer.proofs.Longest.{longest_none}
 use Rattle.dl_lexer.proofs.Spellings.{keyword_is_word}
 use Rattle.dl_lexer.proofs.WordLengths.{word_parts, word_longest, note_none, note_closed}
 use Rattle.dl_lexer.proofs.TokenKinds.{begins_numeral, numeral_begins, longest_note, longest_word, longest_numeral, longest_sign, sign_no_letter, sign_no_numeral}
-use Rattle.dl_printer.specs.Canonical.{is_tight_behind}
 use Rattle.std.proofs.lemmas.Bool.{and_from, and_parts}
 
 -- a blank, `:` or `]`

@@ -1,12 +1,10 @@
 -- A text that grows by some tokens and then by others.
-use Rattle.std.proofs.Common.{ℕ, ◌≡◌, ◌∙◌, ◌+◌, ◌<◌, List, [], ◌∷◌, ◌++◌, length, take, get_or, refl, sym, ap, append_assoc, add-one, Some}
-use Rattle.std.specs.List.{flat_map}
+use Rattle.dl_printer.proofs.Common.{ℕ, ◌≡◌, ◌∙◌, ◌+◌, ◌<◌, List, [], ◌∷◌, ◌++◌, length, take, refl, sym, ap, append_assoc, Some, flat_map, Piece, gap, spaced}
+use Rattle.std.proofs.Common.{get_or, add-one}
+use Rattle.std.proofs.lemmas.List.{append-nil}
+use Rattle.dl_printer.specs.Printing.{with_pieces, SoFar}
 use Rattle.std.proofs.Math.Seq.{take-suc}
 use Rattle.std.proofs.lemmas.Grind.{flat_map-append}
-use Rattle.std.proofs.lemmas.List.{append-nil}
-use Rattle.dl_printer.specs.Pieces.{Piece}
-use Rattle.dl_printer.specs.Canonical.{gap, spaced}
-use Rattle.dl_printer.specs.Printing.{SoFar, with_pieces}
 
 pub with_append : (t : SoFar) (us vs : List Piece) → with_pieces t (us ++ vs) ≡ with_pieces (with_pieces t us) vs
 unfolding with_pieces

@@ -1,21 +1,12 @@
 -- The canonical tokens of a well-formed node are tokens, and spell the node by its line of the grammar.
-use Rattle.std.proofs.Common.{◌≡◌, ◌∙◌, ◌<◌, ℕ, suc, List, [], ◌∷◌, ◌++◌, map, length, Option, Some, None, Bool, true, false, refl, sym, ap, arith, append_assoc, is_some}
+use Rattle.dl_printer.proofs.Common.{◌≡◌, ◌∙◌, ◌<◌, ℕ, suc, List, [], ◌∷◌, ◌++◌, map, length, Option, Some, None, Bool, true, false, refl, sym, ap, arith, append_assoc, flat_map, sign_byte, Program, Lexeme, Piece, piece, word_piece, name_piece, numeral_piece, note_piece, optional, behind_colon, item_pieces, list_pieces, limit_pieces, layer_pieces, atom_pieces, weights_pieces, bang_pieces, sev_pieces, share_pieces, ceded_pieces, and_ceded_pieces, ceded_layers_pieces, side_pieces, clause_pieces, freq_pieces, exposure_pieces, listed_pieces, count_pieces, late_count_pieces, unit_pieces, head_pieces, program_pieces}
+use Rattle.std.proofs.Common.{is_some}
 use Rattle.std.specs.Prelude.{All, IfSome, IsSome}
 use Rattle.std.specs.Option.{option_map}
-use Rattle.std.specs.List.{flat_map}
-use Rattle.std.proofs.lemmas.Iterator.Adapters.{option_map_id}
 use Rattle.std.proofs.lemmas.List.{append-nil}
 use Rattle.std.proofs.lemmas.List.Elements.{All-head, All-tail}
 use Rattle.dl_lexer.specs.declared.token.Keyword.{Keyword}
-use Rattle.dl_lexer.specs.declared.token.Keyword.TheVariants as words
-use Rattle.dl_lexer.specs.declared.token.Sign.TheVariants as signs
-use Rattle.dl_lexer.specs.declared.token.Kind.TheVariants as kinds
-use Rattle.dl_lexer.specs.declared.token.Kind.TheVariants.{Word, Sign}
 use Rattle.dl_lexer.specs.declared.token.Span.{Span}
-use Rattle.dl_lexer.specs.Keywords.{spelling}
-use Rattle.dl_lexer.specs.Tokens.{sign_byte}
-use Rattle.dl_ast.specs.declared.ast.NameAst.{NameAst}
-use Rattle.dl_ast.specs.declared.ast.Numeral.{Numeral}
 use Rattle.dl_ast.specs.declared.ast.ListItem.{ListItem}
 use Rattle.dl_ast.specs.declared.ast.ListAst.{ListAst}
 use Rattle.dl_ast.specs.declared.ast.LimitAst.{LimitAst}
@@ -27,60 +18,62 @@ use Rattle.dl_ast.specs.declared.ast.PortHead.{PortHead}
 use Rattle.dl_ast.specs.declared.ast.CountAst.{CountAst}
 use Rattle.dl_ast.specs.declared.ast.CountAst.TheVariants.{Exposed, Listed}
 use Rattle.dl_ast.specs.declared.ast.Share.{Share}
-use Rattle.dl_ast.specs.declared.ast.Share.TheVariants as shares
 use Rattle.dl_ast.specs.declared.ast.CededLayer.{CededLayer}
 use Rattle.dl_ast.specs.declared.ast.Cession.{Cession}
 use Rattle.dl_ast.specs.declared.ast.FreqAst.{FreqAst}
-use Rattle.dl_ast.specs.declared.ast.FreqAst.TheVariants as freqs
 use Rattle.dl_ast.specs.declared.ast.Exposure.{Exposure}
 use Rattle.dl_ast.specs.declared.ast.Exposure.TheVariants.{Claims, Loss, Premium}
 use Rattle.dl_ast.specs.declared.ast.UnitAst.{UnitAst}
-use Rattle.dl_ast.specs.declared.ast.Program.{Program}
-use Rattle.dl_ast.specs.Lexemes.{Lexeme}
-use Rattle.dl_ast.specs.Rules.{Rule, one, ◌▸◌, maybe, many}
-use Rattle.dl_ast.specs.Grammar.{◌≫◌, ◌≪◌, ◌means◌, some_of, numeral, name, note, item, next_item, list, limit, layer, atom, mixture, sev, cession, side, next_cession, clause, freq, claims, premium, exposure, listed, exposed_unit, listed_unit, unit, head, program}
-use Rattle.dl_ast.specs.WellFormed.{IsFormedName, IsFormedNumeral, IsFormedNote, IsFormedItem, IsFormedList, IsFormedLimit, IsFormedLayer, IsFormedAtom, IsFormedSeverity, IsFormedShare, IsFormedCeded, IsFormedCession, IsFormedFrequency, IsFormedExposure, IsFormedUnit, IsFormedHead, IsWellFormed}
-use Rattle.dl_printer.specs.Pieces.{Piece, piece, word_piece, name_piece, numeral_piece, note_piece, optional, behind_colon, item_pieces, list_pieces, limit_pieces, layer_pieces, atom_pieces, weights_pieces, bang_pieces, sev_pieces, share_pieces, ceded_pieces, and_ceded_pieces, ceded_layers_pieces, side_pieces, clause_pieces, freq_pieces, exposure_pieces, listed_pieces, count_pieces, late_count_pieces, unit_pieces, head_pieces, program_pieces}
-use Rattle.dl_printer.specs.Apart.{nowhere, bare_name, bare_numeral, bare_item, bare_list, bare_limit, bare_layer, bare_atom, bare_sev, bare_ceded, bare_cession, bare_freq, bare_exposure, bare_count, bare_unit, bare_head, bare}
-use Rattle.dl_printer.proofs.Shown.{piece_of, Shows, shows_one, shows_seq, shows_left, shows_right, shows_none, shows_some, shows_maybe, shows_many, shows_made, shows_node, shows_behind, shows_before, shows_means, shows_some_of, shows_seen, shows_as}
+use Rattle.dl_ast.specs.Rules.{Rule, one, ◌▸◌, maybe}
+use Rattle.dl_ast.specs.Grammar.{◌≫◌, ◌≪◌, ◌means◌, some_of, program, numeral, name, note, item, next_item, list, limit, layer, atom, mixture, sev, cession, side, next_cession, clause, freq, claims, premium, exposure, listed, exposed_unit, listed_unit, unit, head}
+use Rattle.dl_ast.specs.WellFormed.{IsWellFormed, IsFormedName, IsFormedNumeral, IsFormedNote, IsFormedItem, IsFormedList, IsFormedLimit, IsFormedLayer, IsFormedAtom, IsFormedSeverity, IsFormedShare, IsFormedCeded, IsFormedCession, IsFormedFrequency, IsFormedExposure, IsFormedUnit, IsFormedHead}
+use Rattle.dl_printer.specs.Apart.{bare_numeral, bare_item, bare_list, bare_limit, bare_layer, bare_atom, bare_sev, bare_ceded, bare_cession, bare_freq, bare_exposure, bare_count, bare_unit, bare_head, bare, nowhere, bare_name}
+use Rattle.std.proofs.lemmas.Iterator.Adapters.{option_map_id}
+use Rattle.dl_lexer.specs.declared.token.Keyword.TheVariants as words
+use Rattle.dl_lexer.specs.declared.token.Sign.TheVariants as signs
+use Rattle.dl_lexer.specs.declared.token.Kind.TheVariants as kinds
+use Rattle.dl_lexer.specs.declared.token.Kind.TheVariants.{Word, Sign}
+use Rattle.dl_lexer.specs.Keywords.{spelling}
+use Rattle.dl_ast.specs.declared.ast.NameAst.{NameAst}
+use Rattle.dl_ast.specs.declared.ast.Numeral.{Numeral}
+use Rattle.dl_ast.specs.declared.ast.Share.TheVariants as shares
+use Rattle.dl_ast.specs.declared.ast.FreqAst.TheVariants as freqs
+use Rattle.dl_printer.proofs.Shown.{piece_of, Shows, shows_one, shows_seq, shows_left, shows_right, shows_none, shows_some, shows_maybe, shows_many, shows_made, shows_node, shows_spanned, shows_behind, shows_before, shows_means, shows_some_of, shows_seen, shows_as}
 
 -- a keyword or a sign before or behind
 
-behind_word : {A S : Type 0} (k : Keyword) (a : Rule A) (f : A → S) (s : S) (us : List Piece) → Shows a f s us
+behind_word : {A S : Type 0} (k : Keyword) {a : Rule A} {f : A → S} {s : S} {us : List Piece} → Shows a f s us
     → Shows (Word k ≫ a) f s (word_piece k ++ us)
-behind_word k a f s us x = shows_behind (Word k) (spelling k) a f s us refl x
+behind_word {A} {S} k {a} {f} {s} {us} x = shows_behind (Word k) (spelling k) refl x
 
-before_word : {A S : Type 0} (k : Keyword) (a : Rule A) (f : A → S) (s : S) (us : List Piece) → Shows a f s us
+before_word : {A S : Type 0} (k : Keyword) {a : Rule A} {f : A → S} {s : S} {us : List Piece} → Shows a f s us
     → Shows (a ≪ Word k) f s (us ++ word_piece k)
-before_word k a f s us x = shows_before (Word k) (spelling k) a f s us refl x
+before_word {A} {S} k {a} {f} {s} {us} x = shows_before (Word k) (spelling k) refl x
 
-word_means : {A S : Type 0} (k : Keyword) (x : A) (f : A → S) → Shows (Word k means x) f (f x) (word_piece k)
-word_means k x f = shows_means (Word k) (spelling k) x f refl
+word_means : {A S : Type 0} (k : Keyword) {x : A} {f : A → S} → Shows (Word k means x) f (f x) (word_piece k)
+word_means {A} {S} k {x} {f} = shows_means (Word k) (spelling k) refl
 
 -- numbers, names and notes
 
 numeral_shown : (n : Numeral) → IsFormedNumeral n → Shows numeral bare_numeral (bare_numeral n) (numeral_piece n)
 unfolding numeral
-numeral_shown n h = shows_made _ (one kinds.Numeral) piece_of bare_numeral _ _ _ (shows_one kinds.Numeral n.text h)
+numeral_shown n h = shows_made (shows_one kinds.Numeral n.text h)
     (λ t e. ap (λ p. record { text = p.text; span = nowhere }) e)
 
 name_shown : (n : NameAst) → IsFormedName n → Shows name bare_name (bare_name n) (name_piece n)
 unfolding name
-name_shown n h = shows_made _ (one kinds.Name) piece_of bare_name _ _ _ (shows_one kinds.Name n.text h)
+name_shown n h = shows_made (shows_one kinds.Name n.text h)
     (λ t e. ap (λ p. record { text = p.text; span = nowhere }) e)
 
 note_shown : (n : List ℕ) → IsFormedNote n → Shows note (λ x. x) n (note_piece n)
 unfolding note
-note_shown n h =
-    shows_made _ (one kinds.Note) piece_of (λ x. x) _ _ _ (shows_one kinds.Note n h) (λ t e. ap (λ p. p.text) e)
+note_shown n h = shows_made (shows_one kinds.Note n h) (λ t e. ap (λ p. p.text) e)
 
 -- lists
 
 behind_colon_shown : (n : Numeral) → IsFormedNumeral n
     → Shows (Sign signs.Colon ≫ numeral) bare_numeral (bare_numeral n) (behind_colon n)
-behind_colon_shown n h =
-    shows_behind (Sign signs.Colon) (sign_byte signs.Colon ∷ []) numeral bare_numeral (bare_numeral n)
-    (numeral_piece n) refl (numeral_shown n h)
+behind_colon_shown n h = shows_behind (Sign signs.Colon) (sign_byte signs.Colon ∷ []) refl (numeral_shown n h)
 
 -- an item as it is made with any span
 abbrev ItemMade : (Span → ListItem) → Span → ListItem
@@ -91,84 +84,58 @@ item_of : (from : Numeral) (to step : Option Numeral) (span : Span)
     → Shows item bare_item (bare_item (record { from = from; to = to; step = step; span = span }))
     (item_pieces (record { from = from; to = to; step = step; span = span }))
 unfolding item item_pieces optional piece
-item_of from None None span h = shows_node _ _ ItemMade bare_item _ _ _
-    (shows_left _ _ ItemMade _ _ (shows_made _ numeral bare_numeral ItemMade (bare_numeral from) _ _
-    (numeral_shown from h.from)
-    (λ n e. ap (λ m _. record { from = m; to = None; step = None; span = nowhere }) e)))
-    (λ make at e. ap (λ m. m at) e)
+item_of from None None span h = shows_spanned (shows_left (shows_made (numeral_shown from h.from) (λ n e. ap
+    (λ m _. record { from = m; to = None; step = None; span = nowhere }) e)))
 item_of from None (Some step) span h = let none : false ≡ true = h.beside refl in absurd cc
-item_of from (Some to) None span h = shows_node _ _ ItemMade bare_item _ _ _
-    (shows_right _ _ ItemMade _ _ (shows_left _ _ ItemMade _ _
-    (shows_made _ (numeral ▸ Sign signs.Colon ≫ numeral) (λ p. (bare_numeral p.0, bare_numeral p.1)) ItemMade
-    (bare_numeral from, bare_numeral to) _ _
-    (shows_seq numeral _ bare_numeral bare_numeral _ _ _ _ (numeral_shown from h.from) (behind_colon_shown to h.to))
+item_of from (Some to) None span h = shows_spanned
+    (shows_right (shows_left (shows_made (shows_seq (numeral_shown from h.from) (behind_colon_shown to h.to))
     (λ n e. ap (λ m _. record { from = m.0; to = Some m.1; step = None; span = nowhere }) e))))
-    (λ make at e. ap (λ m. m at) e)
-item_of from (Some to) (Some step) span h = shows_node _ _ ItemMade bare_item _ _ _
-    (shows_right _ _ ItemMade _ _ (shows_right _ _ ItemMade _ _
-    (shows_made _ (numeral ▸ Sign signs.Colon ≫ numeral ▸ Sign signs.Colon ≫ numeral)
-    (λ p. (bare_numeral p.0, (bare_numeral p.1.0, bare_numeral p.1.1))) ItemMade
-    (bare_numeral from, (bare_numeral to, bare_numeral step)) _ _
-    (shows_seq numeral _ bare_numeral (λ p. (bare_numeral p.0, bare_numeral p.1)) _ _ _ _ (numeral_shown from h.from)
-    (shows_behind (Sign signs.Colon) (sign_byte signs.Colon ∷ []) _ (λ p. (bare_numeral p.0, bare_numeral p.1)) _ _ refl
-    (shows_seq numeral _ bare_numeral bare_numeral _ _ _ _ (numeral_shown to h.to) (behind_colon_shown step h.step))))
+item_of from (Some to) (Some step) span h = shows_spanned
+    (shows_right (shows_right (shows_made (shows_seq (numeral_shown from h.from)
+    (shows_behind (Sign signs.Colon) (sign_byte signs.Colon ∷ []) refl
+    (shows_seq (numeral_shown to h.to) (behind_colon_shown step h.step))))
     (λ n e. ap (λ m _. record { from = m.0; to = Some m.1.0; step = Some m.1.1; span = nowhere }) e))))
-    (λ make at e. ap (λ m. m at) e)
 
 item_shown : (i : ListItem) → IsFormedItem i → Shows item bare_item (bare_item i) (item_pieces i)
 item_shown i h = item_of i.from i.to i.step i.span h
 
 next_item_shown : (i : ListItem) → IsFormedItem i → Shows next_item bare_item (bare_item i) (item_pieces i)
 unfolding next_item
-next_item_shown i h =
-    shows_made _ (maybe (one (Sign signs.Comma)) ▸ item) (λ p. (option_map piece_of p.0, bare_item p.1)) bare_item
-    (None, bare_item i) _ _
-    (shows_seq (maybe (one (Sign signs.Comma))) item (option_map piece_of) bare_item None _ [] _
-    (shows_none _ piece_of) (item_shown i h))
-    (λ p e. ap (λ q. q.1) e)
+next_item_shown i h = shows_made (shows_seq (shows_none {f = piece_of}) (item_shown i h)) (λ p e. ap (λ q. q.1) e)
 
 items_shown : (is : List ListItem) → 0 < length is → All IsFormedItem is
     → Shows (some_of item next_item) (map bare_item) (map bare_item is) (flat_map item_pieces is)
 items_shown [] some h = absurd (omega arith)
-items_shown (i ∷ is) some h =
-    shows_some_of item next_item bare_item item_pieces item_pieces IsFormedItem item_shown next_item_shown i is
-    (All-head IsFormedItem i is h) (All-tail IsFormedItem i is h)
+items_shown (i ∷ is) some h = shows_some_of item_shown next_item_shown i is (All-head IsFormedItem i is h)
+    (All-tail IsFormedItem i is h)
 
 list_shown : (l : ListAst) → IsFormedList l → Shows list bare_list (bare_list l) (list_pieces l)
 unfolding list list_pieces
-list_shown l h = shows_node _ _ (map bare_item) bare_list (map bare_item l.items) _ _
-    (shows_as _ _ _ _ _ (shows_behind (Sign signs.Open) (sign_byte signs.Open ∷ []) _ (map bare_item) _ _ refl
-    (shows_before (Sign signs.Close) (sign_byte signs.Close ∷ []) _ (map bare_item) _ _ refl
-    (items_shown l.items h.some h.items)))
-    (simp append_assoc))
-    (λ is at e. ap (λ js. record { items = js; span = nowhere }) e)
+list_shown l h = shows_node (shows_as (shows_behind (Sign signs.Open) (sign_byte signs.Open ∷ []) refl
+    (shows_before (Sign signs.Close) (sign_byte signs.Close ∷ []) refl (items_shown l.items h.some h.items)))
+    (simp append_assoc)) (λ is at e. ap (λ js. record { items = js; span = nowhere }) e)
 
 list_option_shown : (o : Option ListAst) → IfSome o IsFormedList
     → Shows (maybe list) (option_map bare_list) (option_map bare_list o)
     (optional list_pieces o)
-list_option_shown o h = shows_maybe list bare_list list_pieces IsFormedList list_shown o h
+list_option_shown o h = shows_maybe list_shown o h
 
 -- layers
 
 limit_shown : (l : LimitAst) → IsFormedLimit l → Shows limit bare_limit (bare_limit l) (limit_pieces l)
 unfolding limit limit_pieces
-limit_shown (Finite n) h =
-    shows_left _ _ bare_limit _ _ (shows_made _ numeral bare_numeral bare_limit (bare_numeral n) _ _
-    (numeral_shown n h) (λ m e. ap Finite e))
-limit_shown Infinite h = shows_right _ _ bare_limit _ _ (word_means words.Inf Infinite bare_limit)
+limit_shown (Finite n) h = shows_left (shows_made (numeral_shown n h) (λ m e. ap Finite e))
+limit_shown Infinite h = shows_right (word_means words.Inf)
 
 layer_shown : (l : Layer) → IsFormedLayer l → Shows layer bare_layer (bare_layer l) (layer_pieces l)
 unfolding layer layer_pieces
-layer_shown l h =
-    shows_node _ _ (λ p. (bare_limit p.0, bare_numeral p.1)) bare_layer (bare_limit l.limit, bare_numeral l.attach) _ _
-    (shows_seq (limit ≪ Word words.Xs) numeral bare_limit bare_numeral _ _ _ _
-    (before_word words.Xs limit bare_limit _ _ (limit_shown l.limit h.limit)) (numeral_shown l.attach h.attach))
-    (λ p at e. ap (λ q. record { limit = q.0; attach = q.1; span = nowhere }) e)
+layer_shown l h = shows_node (shows_seq (before_word words.Xs (limit_shown l.limit h.limit))
+    (numeral_shown l.attach h.attach)) (λ p at e. ap (λ q. record { limit = q.0; attach = q.1; span = nowhere }) e)
 
 layer_option_shown : (o : Option Layer) → IfSome o IsFormedLayer
     → Shows (maybe layer) (option_map bare_layer) (option_map bare_layer o)
     (optional layer_pieces o)
-layer_option_shown o h = shows_maybe layer bare_layer layer_pieces IsFormedLayer layer_shown o h
+layer_option_shown o h = shows_maybe layer_shown o h
 
 -- severities
 
@@ -179,15 +146,13 @@ bare_lists p = (bare_list p.0, option_map bare_list p.1)
 lists_shown : (l : ListAst) (o : Option ListAst) → IsFormedList l → IfSome o IsFormedList
     → Shows (list ▸ maybe list) bare_lists (bare_list l, option_map bare_list o)
     (list_pieces l ++ optional list_pieces o)
-lists_shown l o h k =
-    shows_seq list (maybe list) bare_list (option_map bare_list) _ _ _ _ (list_shown l h) (list_option_shown o k)
+lists_shown l o h k = shows_seq (list_shown l h) (list_option_shown o k)
 
 atom_shown : (a : Atom) → IsFormedAtom a → Shows atom bare_atom (bare_atom a) (atom_pieces a)
 unfolding atom atom_pieces
-atom_shown a h = shows_made _ _ bare_lists bare_atom (bare_list a.values, option_map bare_list a.probs) _ _
-    (shows_as _ _ _ _ _ (shows_left _ _ bare_lists _ _ (behind_word words.Dsev _ bare_lists _ _
-    (lists_shown a.values a.probs h.values h.probs))) (simp append_assoc))
-    (λ p e. ap (λ q. record { values = q.0; probs = q.1 }) e)
+atom_shown a h = shows_made
+    (shows_as (shows_left (behind_word words.Dsev (lists_shown a.values a.probs h.values h.probs)))
+    (simp append_assoc)) (λ p e. ap (λ q. record { values = q.0; probs = q.1 }) e)
 
 -- the atoms and their weights
 abbrev bare_mixture : List Atom × Option ListAst → List Atom × Option ListAst
@@ -200,22 +165,14 @@ mixture_shown : (others : List Atom) (w : Option ListAst) → 0 < length others 
     (flat_map atom_pieces others ++ optional weights_pieces w)
 unfolding mixture optional
 mixture_shown [] w some h k several = absurd (omega arith)
-mixture_shown (a ∷ []) None some h k several =
-    shows_left _ _ bare_mixture _ _ (shows_made _ atom bare_atom bare_mixture (bare_atom a) _ _
-    (shows_as _ _ _ _ _ (atom_shown a (All-head IsFormedAtom a [] h)) (simp append-nil))
+mixture_shown (a ∷ []) None some h k several = shows_left
+    (shows_made (shows_as (atom_shown a (All-head IsFormedAtom a [] h)) (simp append-nil))
     (λ b e. ap (λ c. (c ∷ [], None)) e))
 mixture_shown (a ∷ b ∷ others) None some h k several = let none : false ≡ true = several (omega arith) in absurd cc
-mixture_shown (a ∷ others) (Some w) some h k several = shows_right _ _ bare_mixture _ _
-    (shows_made _ (atom ▸ many atom ▸ Word words.Wts ≫ list)
-    (λ p. (bare_atom p.0, (map bare_atom p.1.0, bare_list p.1.1))) bare_mixture
-    (bare_atom a, (map bare_atom others, bare_list w)) _ _
-    (shows_as _ _ _ _ _ (shows_seq atom _ bare_atom (λ p. (map bare_atom p.0, bare_list p.1)) _ _ _ _
-    (atom_shown a (All-head IsFormedAtom a others h))
-    (shows_seq (many atom) _ (map bare_atom) bare_list _ _ _ _
-    (shows_many atom bare_atom atom_pieces IsFormedAtom atom_shown others (All-tail IsFormedAtom a others h))
-    (behind_word words.Wts list bare_list _ _ (list_shown w k))))
-    (simp append_assoc))
-    (λ p e. ap (λ q. (q.0 ∷ q.1.0, Some q.1.1)) e))
+mixture_shown (a ∷ others) (Some w) some h k several = shows_right
+    (shows_made (shows_as (shows_seq (atom_shown a (All-head IsFormedAtom a others h))
+    (shows_seq (shows_many atom_shown others (All-tail IsFormedAtom a others h))
+    (behind_word words.Wts (list_shown w k)))) (simp append_assoc)) (λ p e. ap (λ q. (q.0 ∷ q.1.0, Some q.1.1)) e))
 
 some_is : (y : Option Lexeme) (p : Piece) → option_map piece_of y ≡ Some p → is_some y ≡ true
 some_is None p e = absurd cc
@@ -227,19 +184,14 @@ none_is (Some t) e = absurd cc
 
 bang_shown : (b : Bool) → Shows (maybe (one (Sign signs.Bang))) is_some b (bang_pieces b)
 unfolding bang_pieces
-bang_shown true = shows_seen _ (option_map piece_of) is_some _ _ _
-    (shows_some _ piece_of _ _ (shows_one (Sign signs.Bang) (sign_byte signs.Bang ∷ []) refl)) (λ y e. some_is y _ e)
-bang_shown false =
-    shows_seen _ (option_map piece_of) is_some _ _ _ (shows_none (one (Sign signs.Bang)) piece_of) (λ y e. none_is y e)
+bang_shown true = shows_seen (shows_some (shows_one (Sign signs.Bang) (sign_byte signs.Bang ∷ []) refl))
+    (λ y e. some_is y _ e)
+bang_shown false = shows_seen (shows_none {f = piece_of}) (λ y e. none_is y e)
 
 sev_shown : (s : SevAst) → IsFormedSeverity s → Shows sev bare_sev (bare_sev s) (sev_pieces s)
 unfolding sev sev_pieces
-sev_shown s h =
-    shows_node _ _ (λ p. (bare_mixture p.0, is_some p.1)) bare_sev (bare_mixture (s.atoms, s.weights), s.bang) _ _
-    (shows_seq mixture _ bare_mixture is_some _ _ _ _
-    (mixture_shown s.atoms s.weights h.some h.atoms h.weights h.several)
-    (bang_shown s.bang))
-    (λ p at e. ap (λ q. record { atoms = q.0.0; weights = q.0.1; bang = q.1; span = nowhere }) e)
+sev_shown s h = shows_node (shows_seq (mixture_shown s.atoms s.weights h.some h.atoms h.weights h.several)
+    (bang_shown s.bang)) (λ p at e. ap (λ q. record { atoms = q.0.0; weights = q.0.1; bang = q.1; span = nowhere }) e)
 
 -- cessions
 
@@ -250,36 +202,28 @@ part_shown : (k : Keyword) (n : Numeral) (l : Layer) → IsFormedNumeral n → I
     → Shows {X = Numeral × Layer} {S = Numeral × Layer} (numeral ▸ Word k ≫ layer)
     (λ p. (bare_numeral p.0, bare_layer p.1))
     (bare_numeral n, bare_layer l) (numeral_piece n ++ (word_piece k ++ layer_pieces l))
-part_shown k n l h j = shows_seq numeral _ bare_numeral bare_layer _ _ _ _ (numeral_shown n h)
-    (behind_word k layer bare_layer _ _ (layer_shown l j))
+part_shown k n l h j = shows_seq (numeral_shown n h) (behind_word k (layer_shown l j))
 
 ceded_of : (s : Share) (l : Layer) (span : Span) → IsFormedShare s → IsFormedLayer l
     → Shows cession bare_ceded (bare_ceded (record { share = s; layer = l; span = span }))
     (ceded_pieces (record { share = s; layer = l; span = span }))
 unfolding cession ceded_pieces share_pieces
-ceded_of shares.Whole l span h k = shows_node _ _ CededMade bare_ceded _ _ _
-    (shows_left _ _ CededMade _ _ (shows_made _ layer bare_layer CededMade (bare_layer l) _ _ (layer_shown l k)
-    (λ m e. ap (λ n _. record { share = shares.Whole; layer = n; span = nowhere }) e)))
-    (λ make at e. ap (λ m. m at) e)
-ceded_of (shares.So n) l span h k = shows_node _ _ CededMade bare_ceded _ _ _
-    (shows_right _ _ CededMade _ _ (shows_left _ _ CededMade _ _
-    (shows_made _ _ (λ p. (bare_numeral p.0, bare_layer p.1)) CededMade (bare_numeral n, bare_layer l) _ _
-    (shows_as _ _ _ _ _ (part_shown words.So n l h k) (simp append_assoc))
+ceded_of shares.Whole l span h k = shows_spanned
+    (shows_left
+    (shows_made (layer_shown l k) (λ m e. ap (λ n _. record { share = shares.Whole; layer = n; span = nowhere }) e)))
+ceded_of (shares.So n) l span h k = shows_spanned
+    (shows_right (shows_left (shows_made (shows_as (part_shown words.So n l h k) (simp append_assoc))
     (λ m e. ap (λ q _. record { share = shares.So q.0; layer = q.1; span = nowhere }) e))))
-    (λ make at e. ap (λ m. m at) e)
-ceded_of (shares.Po n) l span h k = shows_node _ _ CededMade bare_ceded _ _ _
-    (shows_right _ _ CededMade _ _ (shows_right _ _ CededMade _ _
-    (shows_made _ _ (λ p. (bare_numeral p.0, bare_layer p.1)) CededMade (bare_numeral n, bare_layer l) _ _
-    (shows_as _ _ _ _ _ (part_shown words.Po n l h k) (simp append_assoc))
+ceded_of (shares.Po n) l span h k = shows_spanned
+    (shows_right (shows_right (shows_made (shows_as (part_shown words.Po n l h k) (simp append_assoc))
     (λ m e. ap (λ q _. record { share = shares.Po q.0; layer = q.1; span = nowhere }) e))))
-    (λ make at e. ap (λ m. m at) e)
 
 ceded_shown : (c : CededLayer) → IsFormedCeded c → Shows cession bare_ceded (bare_ceded c) (ceded_pieces c)
 ceded_shown c h = ceded_of c.share c.layer c.span h.share h.layer
 
 and_ceded_shown : (c : CededLayer) → IsFormedCeded c → Shows next_cession bare_ceded (bare_ceded c) (and_ceded_pieces c)
 unfolding next_cession and_ceded_pieces
-and_ceded_shown c h = behind_word words.And cession bare_ceded _ _ (ceded_shown c h)
+and_ceded_shown c h = behind_word words.And (ceded_shown c h)
 
 layers_shown : (cs : List CededLayer) → 0 < length cs → All IsFormedCeded cs
     → Shows (some_of cession next_cession) (map bare_ceded) (map bare_ceded cs) (ceded_layers_pieces cs)
@@ -287,30 +231,26 @@ unfolding ceded_layers_pieces
 layers_shown [] some h = absurd (omega arith)
 layers_shown
     (c ∷ cs) some h =
-    shows_some_of cession next_cession bare_ceded ceded_pieces and_ceded_pieces IsFormedCeded ceded_shown
+    shows_some_of ceded_shown
     and_ceded_shown c cs
     (All-head IsFormedCeded c cs h) (All-tail IsFormedCeded c cs h)
 
 side_shown : (b : Bool) → Shows side (λ x. x) b (side_pieces b)
 unfolding side side_pieces
-side_shown true = shows_left _ _ (λ x. x) _ _ (behind_word words.Net _ (λ x. x) _ _ (word_means words.Of true (λ x. x)))
-side_shown false =
-    shows_right _ _ (λ x. x) _ _ (behind_word words.Ceded _ (λ x. x) _ _ (word_means words.To false (λ x. x)))
+side_shown true = shows_left (behind_word words.Net (word_means words.Of))
+side_shown false = shows_right (behind_word words.Ceded (word_means words.To))
 
 clause_shown : (k : Keyword) (c : Cession) → IsFormedCession c
     → Shows (clause (Word k)) bare_cession (bare_cession c) (clause_pieces k c)
 unfolding clause clause_pieces
-clause_shown k c h = shows_node _ _ (λ p. (p.0, map bare_ceded p.1)) bare_cession (c.net, map bare_ceded c.layers) _ _
-    (shows_as _ _ _ _ _ (behind_word k _ (λ p. (p.0, map bare_ceded p.1)) _ _
-    (shows_seq side _ (λ x. x) (map bare_ceded) _ _ _ _ (side_shown c.net) (layers_shown c.layers h.some h.layers)))
-    (simp append_assoc))
-    (λ p at e. ap (λ q. record { net = q.0; layers = q.1; span = nowhere }) e)
+clause_shown k c h = shows_node
+    (shows_as (behind_word k (shows_seq (side_shown c.net) (layers_shown c.layers h.some h.layers)))
+    (simp append_assoc)) (λ p at e. ap (λ q. record { net = q.0; layers = q.1; span = nowhere }) e)
 
 clause_option_shown : (k : Keyword) (o : Option Cession) → IfSome o IsFormedCession
     → Shows (maybe (clause (Word k))) (option_map bare_cession) (option_map bare_cession o)
     (optional (clause_pieces k) o)
-clause_option_shown k o h = shows_maybe (clause (Word k)) bare_cession (clause_pieces k) IsFormedCession
-    (clause_shown k) o h
+clause_option_shown k o h = shows_maybe (clause_shown k) o h
 
 -- claim counts
 
@@ -319,32 +259,15 @@ FreqMade make span = bare_freq (make span)
 
 freq_shown : (f : FreqAst) → IsFormedFrequency f → Shows freq bare_freq (bare_freq f) (freq_pieces f)
 unfolding freq freq_pieces
-freq_shown (freqs.Fixed span) h = shows_node _ _ FreqMade bare_freq _ _ _
-    (shows_left _ _ FreqMade _ _ (word_means words.Fixed (λ at. freqs.Fixed at) FreqMade))
-    (λ make at e. ap (λ m. m at) e)
-freq_shown (freqs.Poisson span) h = shows_node _ _ FreqMade bare_freq _ _ _
-    (shows_right _ _ FreqMade _ _ (shows_left _ _ FreqMade _ _
-    (word_means words.Poisson (λ at. freqs.Poisson at) FreqMade)))
-    (λ make at e. ap (λ m. m at) e)
-freq_shown (freqs.Bernoulli span) h = shows_node _ _ FreqMade bare_freq _ _ _
-    (shows_right _ _ FreqMade _ _ (shows_right _ _ FreqMade _ _
-    (shows_left _ _ FreqMade _ _ (word_means words.Bernoulli (λ at. freqs.Bernoulli at) FreqMade))))
-    (λ make at e. ap (λ m. m at) e)
-freq_shown (freqs.Binomial n span) h = shows_node _ _ FreqMade bare_freq _ _ _
-    (shows_right _ _ FreqMade _ _ (shows_right _ _ FreqMade _ _
-    (shows_right _ _ FreqMade _ _ (shows_left _ _ FreqMade _ _
-    (shows_made _ _ bare_numeral FreqMade (bare_numeral n) _ _
-    (behind_word words.Binomial numeral bare_numeral _ _ (numeral_shown n h))
-    (λ m e. ap (λ q _. freqs.Binomial q nowhere) e))))))
-    (λ make at e. ap (λ m. m at) e)
-freq_shown (freqs.Gamma n span) h = shows_node _ _ FreqMade bare_freq _ _ _
-    (shows_right _ _ FreqMade _ _ (shows_right _ _ FreqMade _ _
-    (shows_right _ _ FreqMade _ _ (shows_right _ _ FreqMade _ _
-    (shows_made _ _ bare_numeral FreqMade (bare_numeral n) _ _
-    (shows_as _ _ _ _ _ (behind_word words.Mixed _ bare_numeral _ _
-    (behind_word words.Gamma numeral bare_numeral _ _ (numeral_shown n h))) (simp append_assoc))
+freq_shown (freqs.Fixed span) h = shows_spanned (shows_left (word_means words.Fixed))
+freq_shown (freqs.Poisson span) h = shows_spanned (shows_right (shows_left (word_means words.Poisson)))
+freq_shown (freqs.Bernoulli span) h = shows_spanned
+    (shows_right (shows_right (shows_left (word_means words.Bernoulli))))
+freq_shown (freqs.Binomial n span) h = shows_spanned (shows_right (shows_right (shows_right (shows_left (shows_made
+    (behind_word words.Binomial (numeral_shown n h)) (λ m e. ap (λ q _. freqs.Binomial q nowhere) e))))))
+freq_shown (freqs.Gamma n span) h = shows_spanned (shows_right (shows_right (shows_right (shows_right (shows_made
+    (shows_as (behind_word words.Mixed (behind_word words.Gamma (numeral_shown n h))) (simp append_assoc))
     (λ m e. ap (λ q _. freqs.Gamma q nowhere) e))))))
-    (λ make at e. ap (λ m. m at) e)
 
 abbrev ExposureMade : (Span → Exposure) → Span → Exposure
 ExposureMade make span = bare_exposure (make span)
@@ -352,122 +275,72 @@ ExposureMade make span = bare_exposure (make span)
 claims_shown : Shows claims piece_of (record { kind = Word words.Claims; text = spelling words.Claims })
     (word_piece words.Claims)
 unfolding claims
-claims_shown = shows_right _ _ piece_of _ _ (shows_one (Word words.Claims) (spelling words.Claims) refl)
+claims_shown = shows_right (shows_one (Word words.Claims) (spelling words.Claims) refl)
 
 premium_shown : Shows premium piece_of (record { kind = Word words.Premium; text = spelling words.Premium })
     (word_piece words.Premium)
 unfolding premium
-premium_shown = shows_right _ _ piece_of _ _ (shows_one (Word words.Premium) (spelling words.Premium) refl)
+premium_shown = shows_right (shows_one (Word words.Premium) (spelling words.Premium) refl)
 
 exposure_shown : (x : Exposure) → IsFormedExposure x
     → Shows exposure bare_exposure (bare_exposure x) (exposure_pieces x)
 unfolding exposure exposure_pieces
-exposure_shown (Claims n span) h = shows_node _ _ ExposureMade bare_exposure _ _ _
-    (shows_left _ _ ExposureMade _ _ (shows_made _ _ _ ExposureMade _ _ _
-    (shows_seq numeral claims bare_numeral piece_of _ _ _ _ (numeral_shown n h) claims_shown)
+exposure_shown (Claims n span) h = shows_spanned (shows_left (shows_made (shows_seq (numeral_shown n h) claims_shown)
     (λ p e. ap (λ q _. Claims q.0 nowhere) e)))
-    (λ make at e. ap (λ m. m at) e)
-exposure_shown (Loss n span) h = shows_node _ _ ExposureMade bare_exposure _ _ _
-    (shows_right _ _ ExposureMade _ _ (shows_left _ _ ExposureMade _ _ (shows_made _ _ bare_numeral ExposureMade _ _ _
-    (before_word words.Loss numeral bare_numeral _ _ (numeral_shown n h)) (λ p e. ap (λ q _. Loss q nowhere) e))))
-    (λ make at e. ap (λ m. m at) e)
-exposure_shown (Premium n r span) h = shows_node _ _ ExposureMade bare_exposure _ _ _
-    (shows_right _ _ ExposureMade _ _ (shows_right _ _ ExposureMade _ _ (shows_made _ _ _ ExposureMade _ _ _
-    (shows_as _ _ _ _ _ (shows_seq numeral _ bare_numeral _ _ _ _ _ (numeral_shown n h.0)
-    (shows_seq premium _ piece_of bare_numeral _ _ _ _ premium_shown
-    (behind_word words.At _ bare_numeral _ _ (before_word words.Lr numeral bare_numeral _ _ (numeral_shown r h.1)))))
-    (simp append_assoc))
-    (λ p e. ap (λ q _. Premium q.0 q.1.1 nowhere) e))))
-    (λ make at e. ap (λ m. m at) e)
+exposure_shown (Loss n span) h = shows_spanned (shows_right (shows_left (shows_made (before_word words.Loss
+    (numeral_shown n h)) (λ p e. ap (λ q _. Loss q nowhere) e))))
+exposure_shown (Premium n r span) h = shows_spanned (shows_right (shows_right (shows_made (shows_as (shows_seq
+    (numeral_shown n h.0) (shows_seq premium_shown (behind_word words.At (before_word words.Lr
+    (numeral_shown r h.1))))) (simp append_assoc)) (λ p e. ap (λ q _. Premium q.0 q.1.1 nowhere) e))))
 
 listed_shown : (l : ListAst) (o : Option ListAst) (span : Span) → IsFormedList l → IfSome o IsFormedList
     → Shows listed bare_count (bare_count (Listed l o span)) (listed_pieces l o)
 unfolding listed listed_pieces
-listed_shown l o span h k = shows_node _ _ bare_lists bare_count _ _ _
-    (shows_as _ _ _ _ _ (behind_word words.Dfreq _ bare_lists _ _ (lists_shown l o h k)) (simp append_assoc))
+listed_shown l o span h k = shows_node (shows_as (behind_word words.Dfreq (lists_shown l o h k)) (simp append_assoc))
     (λ p at e. ap (λ q. Listed q.0 q.1 nowhere) e)
 
 -- units and programs
 
 note_option_shown : (o : Option (List ℕ)) → IfSome o IsFormedNote
     → Shows (maybe note) (λ x. x) o (optional note_piece o)
-note_option_shown o h =
-    shows_seen _ (option_map (λ x. x)) (λ x. x) _ _ _ (shows_maybe note (λ x. x) note_piece IsFormedNote note_shown o h)
-    (λ y e. sym (option_map_id y) ∙ e ∙ option_map_id o)
+note_option_shown o h = shows_seen (shows_maybe note_shown o h) (λ y e. sym (option_map_id y) ∙ e ∙ option_map_id o)
 
 unit_of : (n : NameAst) (c : CountAst) (l : Option Layer) (s : SevAst) (o a : Option Cession) (t : Option (List ℕ))
     → IsFormedUnit (record { name = n; count = c; layer = l; sev = s; occ = o; agr = a; note = t })
     → Shows unit bare_unit (bare_unit (record { name = n; count = c; layer = l; sev = s; occ = o; agr = a; note = t }))
     (unit_pieces (record { name = n; count = c; layer = l; sev = s; occ = o; agr = a; note = t }))
 unfolding unit unit_pieces count_pieces late_count_pieces
-unit_of n (Exposed e f) l s o a t h = shows_left _ _ bare_unit _ _ (shows_made exposed_unit _ _ bare_unit _ _ _
-    (shows_as _ _ _ _ _ (behind_word words.Agg _ _ _ _ (shows_seq name _ bare_name _ _ _ _ _ (name_shown n h.name)
-    (shows_seq exposure _ bare_exposure _ _ _ _ _ (exposure_shown e h.count.0)
-    (shows_seq (maybe layer) _ (option_map bare_layer) _ _ _ _ _ (layer_option_shown l h.layer)
-    (shows_seq sev _ bare_sev _ _ _ _ _ (sev_shown s h.sev)
-    (shows_seq (maybe (clause (Word words.Occurrence))) _ (option_map bare_cession) _ _ _ _ _
-    (clause_option_shown words.Occurrence o h.occ)
-    (shows_seq freq _ bare_freq _ _ _ _ _ (freq_shown f h.count.1)
-    (shows_seq (maybe (clause (Word words.Aggregate))) (maybe note) (option_map bare_cession) (λ x. x) _ _ _ _
-    (clause_option_shown words.Aggregate a h.agr) (note_option_shown t h.note)))))))))
-    (simp append_assoc))
-    (λ p e. ap
-    (λ q. record {
-      name = q.0;
-      count = Exposed q.1.0 q.1.1.1.1.1.0;
-      layer = q.1.1.0;
-      sev = q.1.1.1.0;
-      occ = q.1.1.1.1.0;
-      agr = q.1.1.1.1.1.1.0;
-      note = q.1.1.1.1.1.1.1;
-    }) e))
-unit_of n (Listed c p span) l s o a t h = shows_right _ _ bare_unit _ _ (shows_made listed_unit _ _ bare_unit _ _ _
-    (shows_as _ _ _ _ _ (behind_word words.Agg _ _ _ _ (shows_seq name _ bare_name _ _ _ _ _ (name_shown n h.name)
-    (shows_seq listed _ bare_count _ _ _ _ _ (listed_shown c p span h.count.0 h.count.1)
-    (shows_seq (maybe layer) _ (option_map bare_layer) _ _ _ _ _ (layer_option_shown l h.layer)
-    (shows_seq sev _ bare_sev _ _ _ _ _ (sev_shown s h.sev)
-    (shows_seq (maybe (clause (Word words.Occurrence))) _ (option_map bare_cession) _ _ _ _ _
-    (clause_option_shown words.Occurrence o h.occ)
-    (shows_seq (maybe (clause (Word words.Aggregate))) (maybe note) (option_map bare_cession) (λ x. x) _ _ _ _
-    (clause_option_shown words.Aggregate a h.agr) (note_option_shown t h.note))))))))
-    (simp (append_assoc, append-nil)))
-    (λ p e. ap
-    (λ q. record {
-      name = q.0;
-      count = q.1.0;
-      layer = q.1.1.0;
-      sev = q.1.1.1.0;
-      occ = q.1.1.1.1.0;
-      agr = q.1.1.1.1.1.0;
-      note = q.1.1.1.1.1.1;
-    }) e))
+unit_of n (Exposed e f) l s o a t h = shows_left (shows_made (shows_as (behind_word words.Agg (shows_seq
+    (name_shown n h.name) (shows_seq (exposure_shown e h.count.0) (shows_seq (layer_option_shown l h.layer)
+    (shows_seq (sev_shown s h.sev) (shows_seq (clause_option_shown words.Occurrence o h.occ)
+    (shows_seq (freq_shown f h.count.1) (shows_seq (clause_option_shown words.Aggregate a h.agr)
+    (note_option_shown t h.note))))))))) (simp append_assoc)) (λ p e. ap exposed_unit e))
+unit_of n (Listed c p span) l s o a t h = shows_right (shows_made (shows_as (behind_word words.Agg (shows_seq
+    (name_shown n h.name) (shows_seq (listed_shown c p span h.count.0 h.count.1) (shows_seq
+    (layer_option_shown l h.layer)
+    (shows_seq (sev_shown s h.sev) (shows_seq (clause_option_shown words.Occurrence o h.occ)
+    (shows_seq (clause_option_shown words.Aggregate a h.agr) (note_option_shown t h.note))))))))
+    (simp (append_assoc, append-nil))) (λ p e. ap listed_unit e))
 
 unit_shown : (u : UnitAst) → IsFormedUnit u → Shows unit bare_unit (bare_unit u) (unit_pieces u)
 unit_shown u h = unit_of u.name u.count u.layer u.sev u.occ u.agr u.note h
 
 head_shown : (h : PortHead) → IsFormedHead h → Shows head bare_head (bare_head h) (head_pieces h)
 unfolding head head_pieces
-head_shown h k = shows_made _ _ _ bare_head _ _ _
-    (shows_as _ _ _ _ _ (behind_word words.Port _ _ _ _
-    (shows_seq name (maybe note) bare_name (λ x. x) _ _ _ _ (name_shown h.name k.name)
-    (note_option_shown h.note k.note))) (simp append_assoc))
-    (λ p e. ap (λ q. record { name = q.0; note = q.1 }) e)
+head_shown h k = shows_made (shows_as (behind_word words.Port (shows_seq (name_shown h.name k.name)
+    (note_option_shown h.note k.note))) (simp append_assoc)) (λ p e. ap (λ q. record { name = q.0; note = q.1 }) e)
 
 program_of : (h : Option PortHead) (us : List UnitAst) → IsWellFormed (record { port = h; units = us })
     → Shows program bare (bare (record { port = h; units = us })) (program_pieces (record { port = h; units = us }))
 unfolding program program_pieces optional
 program_of None [] w = absurd (omega (arith, w.some))
-program_of None (u ∷ []) w = shows_left _ _ bare _ _ (shows_made _ unit bare_unit bare (bare_unit u) _ _
-    (shows_as _ _ _ _ _ (unit_shown u (All-head IsFormedUnit u [] w.units)) (simp append-nil))
-    (λ v e. ap (λ x. record { port = None; units = x ∷ [] }) e))
+program_of None (u ∷ []) w = shows_left (shows_made (shows_as (unit_shown u (All-head IsFormedUnit u [] w.units))
+    (simp append-nil)) (λ v e. ap (λ x. record { port = None; units = x ∷ [] }) e))
 program_of None (u ∷ v ∷ us) w = let one : suc (suc (length us)) ≡ 1 = w.one refl in absurd (omega arith)
 program_of (Some h) [] w = absurd (omega (arith, w.some))
-program_of (Some h) (u ∷ us) w = shows_right _ _ bare _ _ (shows_made _ (head ▸ some_of unit unit)
-    (λ p. (bare_head p.0, map bare_unit p.1)) bare (bare_head h, map bare_unit (u ∷ us)) _ _
-    (shows_seq head _ bare_head (map bare_unit) _ _ _ _ (head_shown h w.head)
-    (shows_some_of unit unit bare_unit unit_pieces unit_pieces IsFormedUnit unit_shown unit_shown u us
-    (All-head IsFormedUnit u us w.units)
-    (All-tail IsFormedUnit u us w.units)))
+program_of (Some h) (u ∷ us) w = shows_right
+    (shows_made (shows_seq (head_shown h w.head) (shows_some_of unit_shown unit_shown u us
+    (All-head IsFormedUnit u us w.units) (All-tail IsFormedUnit u us w.units)))
     (λ p e. ap (λ q. record { port = Some q.0; units = q.1 }) e))
 
 -- so is the program

@@ -1,9 +1,7 @@
 -- The canonical tokens of a node do not depend on its spans.
-use Rattle.std.proofs.Common.{◌≡◌, ◌∙◌, List, [], ◌∷◌, ◌++◌, map, Option, Some, None, codes, refl, sym, ap}
+use Rattle.dl_printer.proofs.Common.{◌≡◌, ◌∙◌, List, [], ◌∷◌, ◌++◌, map, Option, Some, None, codes, refl, sym, ap, flat_map, Program, Piece, word_piece, name_piece, numeral_piece, optional, note_piece, behind_colon, item_pieces, list_pieces, limit_pieces, layer_pieces, atom_pieces, weights_pieces, bang_pieces, sev_pieces, share_pieces, ceded_pieces, and_ceded_pieces, ceded_layers_pieces, side_pieces, clause_pieces, freq_pieces, exposure_pieces, listed_pieces, count_pieces, late_count_pieces, unit_pieces, head_pieces, program_pieces, spaced, canonical}
 use Rattle.std.specs.Option.{option_map}
-use Rattle.std.specs.List.{flat_map}
 use Rattle.dl_lexer.specs.declared.token.Keyword.{Keyword}
-use Rattle.dl_lexer.specs.declared.token.Keyword.TheVariants as words
 use Rattle.dl_ast.specs.declared.ast.ListItem.{ListItem}
 use Rattle.dl_ast.specs.declared.ast.ListAst.{ListAst}
 use Rattle.dl_ast.specs.declared.ast.LimitAst.{LimitAst}
@@ -15,18 +13,16 @@ use Rattle.dl_ast.specs.declared.ast.PortHead.{PortHead}
 use Rattle.dl_ast.specs.declared.ast.CountAst.{CountAst}
 use Rattle.dl_ast.specs.declared.ast.CountAst.TheVariants.{Exposed, Listed}
 use Rattle.dl_ast.specs.declared.ast.Share.{Share}
-use Rattle.dl_ast.specs.declared.ast.Share.TheVariants.{Whole, So, Po}
 use Rattle.dl_ast.specs.declared.ast.CededLayer.{CededLayer}
 use Rattle.dl_ast.specs.declared.ast.Cession.{Cession}
 use Rattle.dl_ast.specs.declared.ast.FreqAst.{FreqAst}
-use Rattle.dl_ast.specs.declared.ast.FreqAst.TheVariants.{Fixed, Poisson, Bernoulli, Binomial, Gamma}
 use Rattle.dl_ast.specs.declared.ast.Exposure.{Exposure}
 use Rattle.dl_ast.specs.declared.ast.Exposure.TheVariants.{Claims, Loss, Premium}
 use Rattle.dl_ast.specs.declared.ast.UnitAst.{UnitAst}
-use Rattle.dl_ast.specs.declared.ast.Program.{Program}
-use Rattle.dl_printer.specs.Pieces.{Piece, word_piece, name_piece, numeral_piece, optional, note_piece, behind_colon, item_pieces, list_pieces, limit_pieces, layer_pieces, atom_pieces, weights_pieces, bang_pieces, sev_pieces, share_pieces, ceded_pieces, and_ceded_pieces, ceded_layers_pieces, side_pieces, clause_pieces, freq_pieces, exposure_pieces, listed_pieces, count_pieces, late_count_pieces, unit_pieces, head_pieces, program_pieces}
-use Rattle.dl_printer.specs.Canonical.{spaced, canonical}
-use Rattle.dl_printer.specs.Apart.{bare_numeral, bare_item, bare_list, bare_limit, bare_layer, bare_atom, bare_sev, bare_share, bare_ceded, bare_cession, bare_freq, bare_exposure, bare_count, bare_unit, bare_head, bare, SameProgram}
+use Rattle.dl_printer.specs.Apart.{bare_numeral, bare_item, bare_list, bare_limit, bare_layer, bare_atom, bare_sev, bare_ceded, bare_cession, bare_freq, bare_exposure, bare_count, bare_unit, bare_head, bare, SameProgram, bare_share}
+use Rattle.dl_lexer.specs.declared.token.Keyword.TheVariants as words
+use Rattle.dl_ast.specs.declared.ast.Share.TheVariants.{Whole, So, Po}
+use Rattle.dl_ast.specs.declared.ast.FreqAst.TheVariants.{Fixed, Poisson, Bernoulli, Binomial, Gamma}
 
 -- what holds of each holds of all, and of what may be left out
 

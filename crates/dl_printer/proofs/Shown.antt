@@ -1,16 +1,13 @@
 -- Tokens that are these pieces, wherever they stand, spell something by a rule: what it is apart from spans is known.
-use Rattle.std.proofs.Common.{◌≡◌, ◌∙◌, ℕ, List, [], ◌∷◌, ◌++◌, map, Option, Some, None, refl, ap, subst, inl, inr}
+use Rattle.dl_printer.proofs.Common.{◌≡◌, ◌∙◌, ℕ, List, [], ◌∷◌, ◌++◌, map, Option, Some, None, refl, ap, subst, flat_map, IsSpelled, Lexeme, Piece, piece, optional}
+use Rattle.std.proofs.Common.{inl, inr}
 use Rattle.std.specs.Prelude.{All, IfSome}
 use Rattle.std.specs.Option.{option_map}
-use Rattle.std.specs.List.{flat_map}
-use Rattle.std.proofs.lemmas.List.Elements.{All-nil, All-cons, All-head, All-tail, All-append}
+use Rattle.std.proofs.lemmas.List.Elements.{All-head, All-tail, All-nil, All-cons, All-append}
 use Rattle.dl_lexer.specs.declared.token.Kind.{Kind}
 use Rattle.dl_lexer.specs.declared.token.Span.{Span}
-use Rattle.dl_lexer.specs.Tokens.{IsSpelled}
-use Rattle.dl_ast.specs.Lexemes.{Lexeme}
-use Rattle.dl_ast.specs.Rules.{Rule, one, ◌▸◌, ◌or◌, maybe, many, made, node, Spells, span_of}
-use Rattle.dl_ast.specs.Grammar.{◌≫◌, ◌≪◌, ◌means◌, some_of}
-use Rattle.dl_printer.specs.Pieces.{Piece, piece, optional}
+use Rattle.dl_ast.specs.Rules.{Rule, one, ◌▸◌, maybe, many, Spells, ◌or◌, made, node, span_of}
+use Rattle.dl_ast.specs.Grammar.{◌≫◌, ◌≪◌, ◌means◌, some_of, spanned}
 
 -- a token without its place
 abbrev pub piece_of : Lexeme → Piece
@@ -69,18 +66,18 @@ pub shows_one : (k : Kind) (text : List ℕ) → IsSpelled k text
     → Shows (one k) piece_of (record { kind = k; text = text }) (piece k text)
 unfolding piece
 shows_one k text h = record {
-  real = All-cons IsPiece (record { kind = k; text = text }) [] h (All-nil IsPiece);
-  shows = one_shown
-      (record { kind = k; text = text });
+  real = All-cons IsPiece (record { kind = k; text = text }) [] h
+      (All-nil IsPiece);
+  shows = one_shown (record { kind = k; text = text });
 }
 
 -- the ways to make a rule
 
-pub shows_seq : {A B S T : Type 0} (a : Rule A) (b : Rule B) (f : A → S) (g : B → T) (s : S) (t : T)
-    (us vs : List Piece) → Shows a f s us
+pub shows_seq : {A B S T : Type 0} {a : Rule A} {b : Rule B} {f : A → S} {g : B → T} {s : S} {t : T}
+    {us vs : List Piece} → Shows a f s us
     → Shows b g t vs
     → Shows {X = A × B} {S = S × T} (a ▸ b) (λ p. (f p.0, g p.1)) (s, t) (us ++ vs)
-shows_seq a b f g s t us vs x y = record {
+shows_seq {A} {B} {S} {T} {a} {b} {f} {g} {s} {t} {us} {vs} x y = record {
   real = All-append IsPiece us vs x.real y.real;
   shows = λ ts e. let parts = split us vs ts e in
       let left = x.shows parts.front parts.first in
@@ -93,17 +90,17 @@ shows_seq a b f g s t us vs x y = record {
       };
 }
 
-pub shows_left : {A S : Type 0} (a b : Rule A) (f : A → S) (s : S) (us : List Piece) → Shows a f s us
+pub shows_left : {A S : Type 0} {a b : Rule A} {f : A → S} {s : S} {us : List Piece} → Shows a f s us
     → Shows (a or b) f s us
-shows_left a b f s us x = record {
+shows_left {A} {S} {a} {b} {f} {s} {us} x = record {
   real = x.real;
   shows = λ ts e. let left = x.shows ts e in
       record { value = left.value; same = left.same; spelled = inl left.spelled };
 }
 
-pub shows_right : {A S : Type 0} (a b : Rule A) (f : A → S) (s : S) (us : List Piece) → Shows b f s us
+pub shows_right : {A S : Type 0} {a b : Rule A} {f : A → S} {s : S} {us : List Piece} → Shows b f s us
     → Shows (a or b) f s us
-shows_right a b f s us x = record {
+shows_right {A} {S} {a} {b} {f} {s} {us} x = record {
   real = x.real;
   shows = λ ts e. let right = x.shows ts e in
       record { value = right.value; same = right.same; spelled = inr right.spelled };
@@ -113,24 +110,30 @@ no_tokens : (ts : List Lexeme) → pieces_of ts ≡ [] → ts ≡ []
 no_tokens [] e = refl
 no_tokens (t ∷ ts) e = absurd cc
 
-pub shows_none : {A S : Type 0} (a : Rule A) (f : A → S) → Shows (maybe a) (option_map f) None []
-shows_none a f =
-    record { real = All-nil IsPiece; shows = λ ts e. record { value = None; same = refl; spelled = no_tokens ts e } }
+pub shows_none : {A S : Type 0} {a : Rule A} {f : A → S} → Shows (maybe a) (option_map f) None []
+shows_none {A} {S} {a} {f} = record {
+  real = All-nil IsPiece;
+  shows = λ ts e. record {
+    value = None;
+    same = refl;
+    spelled = no_tokens ts e;
+  };
+}
 
-pub shows_some : {A S : Type 0} (a : Rule A) (f : A → S) (s : S) (us : List Piece) → Shows a f s us
+pub shows_some : {A S : Type 0} {a : Rule A} {f : A → S} {s : S} {us : List Piece} → Shows a f s us
     → Shows (maybe a) (option_map f) (Some s) us
-shows_some a f s us x = record {
+shows_some {A} {S} {a} {f} {s} {us} x = record {
   real = x.real;
   shows = λ ts e. let some = x.shows ts e in
       record { value = Some some.value; same = ap Some some.same; spelled = some.spelled };
 }
 
-pub shows_maybe : {A S : Type 0} (a : Rule A) (f : A → S) (pieces : A → List Piece) (P : A → Type 0)
+pub shows_maybe : {A S : Type 0} {a : Rule A} {f : A → S} {pieces : A → List Piece} {P : A → Type 0}
     → ((x : A) → P x → Shows a f (f x) (pieces x))
     → (o : Option A) → IfSome o P → Shows (maybe a) (option_map f) (option_map f o) (optional pieces o)
 unfolding optional
-shows_maybe a f pieces P each None h = shows_none a f
-shows_maybe a f pieces P each (Some x) h = shows_some a f (f x) (pieces x) (each x h)
+shows_maybe {A} {S} {a} {f} {pieces} {P} each None h = shows_none
+shows_maybe {A} {S} {a} {f} {pieces} {P} each (Some x) h = shows_some (each x h)
 
 many_shown : {A S : Type 0} (a : Rule A) (f : A → S) (s : S) (ss : List S) (us vs : List Piece) → Shows a f s us
     → Shows (many a) (map f) ss vs → Shows (many a) (map f) (s ∷ ss) (us ++ vs)
@@ -147,20 +150,26 @@ many_shown a f s ss us vs x y = record {
       };
 }
 
-pub shows_many : {A S : Type 0} (a : Rule A) (f : A → S) (pieces : A → List Piece) (P : A → Type 0)
+pub shows_many : {A S : Type 0} {a : Rule A} {f : A → S} {pieces : A → List Piece} {P : A → Type 0}
     → ((x : A) → P x → Shows a f (f x) (pieces x))
     → (xs : List A) → All P xs → Shows (many a) (map f) (map f xs) (flat_map pieces xs)
-shows_many a f pieces P each [] h =
-    record { real = All-nil IsPiece; shows = λ ts e. record { value = []; same = refl; spelled = no_tokens ts e } }
-shows_many a f pieces P each (x ∷ xs) h =
-    many_shown a f (f x) (map f xs) (pieces x) (flat_map pieces xs) (each x (All-head P x xs h))
-    (shows_many a f pieces P each xs (All-tail P x xs h))
+shows_many {A} {S} {a} {f} {pieces} {P} each [] h = record {
+  real = All-nil IsPiece;
+  shows = λ ts e. record {
+    value =
+        [];
+    same = refl;
+    spelled = no_tokens ts e;
+  };
+}
+shows_many {A} {S} {a} {f} {pieces} {P} each (x ∷ xs) h = many_shown a f (f x) (map f xs) (pieces x)
+    (flat_map pieces xs) (each x (All-head P x xs h)) (shows_many each xs (All-tail P x xs h))
 
-pub shows_made : {A B S T : Type 0} (h : A → B) (a : Rule A) (f : A → S) (g : B → T) (s : S) (t : T) (us : List Piece)
+pub shows_made : {A B S T : Type 0} {h : A → B} {a : Rule A} {f : A → S} {g : B → T} {s : S} {t : T} {us : List Piece}
     → Shows a f s us
     → ((y : A) → f y ≡ s → g (h y) ≡ t)
     → Shows (made h a) g t us
-shows_made h a f g s t us x same = record {
+shows_made {A} {B} {S} {T} {h} {a} {f} {g} {s} {t} {us} x same = record {
   real = x.real;
   shows = λ ts e. let inner = x.shows ts e in record {
     value = h inner.value;
@@ -170,11 +179,11 @@ shows_made h a f g s t us x same = record {
   };
 }
 
-pub shows_node : {A B S T : Type 0} (h : A → Span → B) (a : Rule A) (f : A → S) (g : B → T) (s : S) (t : T)
-    (us : List Piece)
+pub shows_node : {A B S T : Type 0} {h : A → Span → B} {a : Rule A} {f : A → S} {g : B → T} {s : S} {t : T}
+    {us : List Piece}
     → Shows a f s us
     → ((y : A) (span : Span) → f y ≡ s → g (h y span) ≡ t) → Shows (node h a) g t us
-shows_node h a f g s t us x same = record {
+shows_node {A} {B} {S} {T} {h} {a} {f} {g} {s} {t} {us} x same = record {
   real = x.real;
   shows = λ ts e. let inner = x.shows ts e in
       record {
@@ -185,11 +194,17 @@ shows_node h a f g s t us x same = record {
       };
 }
 
+-- an alternative that needs the span of the whole
+pub shows_spanned : {A S : Type 0} {r : Rule (Span → A)} {g : A → S} {t : S} {us : List Piece}
+    → Shows {S = Span → S} r (λ make at. g (make at)) (λ _. t) us → Shows (spanned r) g t us
+shows_spanned {A} {S} {r} {g} {t} {us} x = shows_node {f = λ make at. g (make at)} {s = λ _. t} x
+    (λ make at e. ap (λ m. m at) e)
+
 -- the same, seen in another way
-pub shows_seen : {A S T : Type 0} (a : Rule A) (f : A → S) (g : A → T) (s : S) (t : T) (us : List Piece)
+pub shows_seen : {A S T : Type 0} {a : Rule A} {f : A → S} {g : A → T} {s : S} {t : T} {us : List Piece}
     → Shows a f s us
     → ((y : A) → f y ≡ s → g y ≡ t) → Shows a g t us
-shows_seen a f g s t us x same = record {
+shows_seen {A} {S} {T} {a} {f} {g} {s} {t} {us} x same = record {
   real = x.real;
   shows = λ ts e. let inner = x.shows ts e in
       record { value = inner.value; same = same inner.value inner.same; spelled = inner.spelled };
@@ -197,41 +212,31 @@ shows_seen a f g s t us x same = record {
 
 -- a token before or behind
 
-pub shows_behind : {A S : Type 0} (k : Kind) (text : List ℕ) (a : Rule A) (f : A → S) (s : S) (us : List Piece)
+pub shows_behind : {A S : Type 0} (k : Kind) (text : List ℕ) {a : Rule A} {f : A → S} {s : S} {us : List Piece}
     → IsSpelled k text
     → Shows a f s us → Shows (k ≫ a) f s (piece k text ++ us)
-shows_behind k text a f s us h x = shows_made (λ p. p.1) (one k ▸ a) (λ p. (piece_of p.0, f p.1)) f
-    (record { kind = k; text = text }, s) s (piece k text ++ us)
-    (shows_seq (one k) a piece_of f (record { kind = k; text = text }) s (piece k text) us (shows_one k text h) x)
+shows_behind {A} {S} k text {a} {f} {s} {us} h x = shows_made (shows_seq (shows_one k text h) x)
     (λ p e. ap (λ q. q.1) e)
 
-pub shows_before : {A S : Type 0} (k : Kind) (text : List ℕ) (a : Rule A) (f : A → S) (s : S) (us : List Piece)
+pub shows_before : {A S : Type 0} (k : Kind) (text : List ℕ) {a : Rule A} {f : A → S} {s : S} {us : List Piece}
     → IsSpelled k text
     → Shows a f s us → Shows (a ≪ k) f s (us ++ piece k text)
-shows_before k text a f s us h x = shows_made (λ p. p.0) (a ▸ one k) (λ p. (f p.0, piece_of p.1)) f
-    (s, record { kind = k; text = text }) s (us ++ piece k text)
-    (shows_seq a (one k) f piece_of s (record { kind = k; text = text }) us (piece k text) x (shows_one k text h))
+shows_before {A} {S} k text {a} {f} {s} {us} h x = shows_made (shows_seq x (shows_one k text h))
     (λ p e. ap (λ q. q.0) e)
 
-pub shows_means : {A S : Type 0} (k : Kind) (text : List ℕ) (x : A) (f : A → S) → IsSpelled k text
+pub shows_means : {A S : Type 0} (k : Kind) (text : List ℕ) {x : A} {f : A → S} → IsSpelled k text
     → Shows (k means x) f (f x) (piece k text)
-shows_means k text x f h =
-    shows_made (λ _. x) (one k) piece_of f (record { kind = k; text = text }) (f x) (piece k text)
-    (shows_one k text h) (λ y e. refl)
+shows_means {A} {S} k text {x} {f} h = shows_made (shows_one k text h) (λ y e. refl)
 
 -- the first, and then any number of others
-pub shows_some_of : {A S : Type 0} (a b : Rule A) (f : A → S) (first others : A → List Piece) (P : A → Type 0)
+pub shows_some_of : {A S : Type 0} {a b : Rule A} {f : A → S} {first others : A → List Piece} {P : A → Type 0}
     → ((x : A) → P x → Shows a f (f x) (first x)) → ((x : A) → P x → Shows b f (f x) (others x))
     → (x : A) (xs : List A) → P x → All P xs
     → Shows (some_of a b) (map f) (map f (x ∷ xs)) (first x ++ flat_map others xs)
-shows_some_of a b f first others P m n x xs h hs =
-    shows_made (λ p. p.0 ∷ p.1) (a ▸ many b) (λ p. (f p.0, map f p.1)) (map f)
-    (f x, map f xs) (map f (x ∷ xs)) (first x ++ flat_map others xs)
-    (shows_seq a (many b) f (map f) (f x) (map f xs) (first x) (flat_map others xs) (m x h)
-    (shows_many b f others P n xs hs))
-    (λ p e. ap (λ q. q.0 ∷ q.1) e)
+shows_some_of {A} {S} {a} {b} {f} {first} {others} {P} m n x xs h hs = shows_made
+    (shows_seq (m x h) (shows_many n xs hs)) (λ p e. ap (λ q. q.0 ∷ q.1) e)
 
 -- the same pieces in other brackets
-pub shows_as : {A S : Type 0} (a : Rule A) (f : A → S) (s : S) (us vs : List Piece) → Shows a f s us → us ≡ vs
+pub shows_as : {A S : Type 0} {a : Rule A} {f : A → S} {s : S} {us vs : List Piece} → Shows a f s us → us ≡ vs
     → Shows a f s vs
-shows_as a f s us vs x e = subst (λ ps. Shows a f s ps) e x
+shows_as {A} {S} {a} {f} {s} {us} {vs} x e = subst (λ ps. Shows a f s ps) e x

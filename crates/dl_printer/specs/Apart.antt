@@ -57,10 +57,10 @@ bare_atom a = record { values = bare_list a.values; probs = option_map bare_list
 
 abbrev pub bare_sev : SevAst → SevAst
 bare_sev s = record {
+  span = nowhere;
   atoms = map bare_atom s.atoms;
   weights = option_map bare_list s.weights;
   bang = s.bang;
-  span = nowhere;
 }
 
 abbrev pub bare_share : Share → Share
@@ -94,11 +94,11 @@ abbrev pub bare_unit : UnitAst → UnitAst
 bare_unit u = record {
   name = bare_name u.name;
   count = bare_count u.count;
+  note = u.note;
   layer = option_map bare_layer u.layer;
   sev = bare_sev u.sev;
   occ = option_map bare_cession u.occ;
   agr = option_map bare_cession u.agr;
-  note = u.note;
 }
 
 abbrev pub bare_head : PortHead → PortHead

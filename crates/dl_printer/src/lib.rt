@@ -9,13 +9,9 @@ ghost use Rattle.dl_printer.specs.Canonical.{canonical};
 mod law;
 mod layers;
 mod lists;
-#[cfg(test)]
-mod parser_tests;
 mod parts;
 mod printer;
 mod severity;
-#[cfg(test)]
-mod tests;
 mod units;
 
 use crate::printer::Printer;

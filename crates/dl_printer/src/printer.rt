@@ -95,7 +95,7 @@ impl Printer {
     }
 
     /// A token, with what stands before it.
-    #[tactic(auto, unfolding(crate::specs::Canonical::gap, crate::specs::Printing::with_pieces, crate::specs::Pieces::piece))]
+    #[tactic(auto, unfolding(crate::specs::Canonical::gap, crate::specs::Printing::with_pieces, crate::specs::Pieces::piece,))]
     fn put(&mut self, kind: Kind, bytes: &[u8]) -> Result<(), AllocError>
         ensures { OnOk result (self.new ≡ with_pieces self.old (piece kind bytes.now)) }
     {

@@ -1,6 +1,5 @@
 -- Each step of the cutting goes on with the cover, and takes at least one byte.
-use Rattle.std.proofs.Common.{sym, subst, arith}
-use Rattle.dl_lexer.specs.Cutting.{Covers, nothing}
+use Rattle.dl_lexer.proofs.Common.{sym, subst, arith, Covers, nothing}
 use Rattle.dl_lexer.proofs.CoverLaws.{token_takes}
 use Rattle.dl_lexer.proofs.CutSteps.{blank_step, token_step}
 use Rattle.dl_lexer.proofs.cut.lex.Goals as goal

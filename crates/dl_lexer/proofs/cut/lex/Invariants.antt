@@ -1,6 +1,5 @@
 -- What the cutting keeps: the tokens so far cover the text up to the place that it has reached.
-use Rattle.std.proofs.Common.{◌-◌, ◌≤◌, length}
-use Rattle.dl_lexer.specs.Cutting.{Covers}
+use Rattle.dl_lexer.proofs.Common.{◌-◌, ◌≤◌, length, Covers}
 use Rattle.dl_lexer.proofs.cut.lex.Given as goal
 
 abbrev pub invariant-cutting : goal.invariant-cutting

@@ -1,7 +1,5 @@
 -- Where no letter begins the bytes, the longest token is a numeral or a sign.
-use Rattle.std.proofs.Common.{◌≡◌, ◌∙◌, arith, sym, subst}
-use Rattle.dl_lexer.specs.Cutting.{IsLongest}
-use Rattle.dl_lexer.specs.Numerals.{IsNumeralToken}
+use Rattle.dl_lexer.proofs.Common.{◌≡◌, ◌∙◌, arith, sym, subst, IsLongest, IsNumeralToken}
 use Rattle.dl_lexer.proofs.TokenKinds.{longest_numeral, longest_sign, longest_nothing}
 use Rattle.dl_lexer.proofs.cut.token_at.Goals as goal
 

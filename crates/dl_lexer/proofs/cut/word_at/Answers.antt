@@ -1,5 +1,5 @@
 -- Where a letter begins the bytes, the longest token is a note or a word, and a word is a keyword or a name.
-use Rattle.std.proofs.Common.{arith, sym}
+use Rattle.dl_lexer.proofs.Common.{arith, sym}
 use Rattle.dl_lexer.specs.declared.token.Kind.TheVariants as kind
 use Rattle.dl_lexer.proofs.TokenKinds.{longest_note, longest_word}
 use Rattle.dl_lexer.proofs.WordLengths.{word_some}

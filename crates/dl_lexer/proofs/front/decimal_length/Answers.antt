@@ -1,7 +1,5 @@
 -- The longest decimal, with a point behind the first digits or without.
-use Rattle.std.proofs.Common.{arith, sym, subst}
-use Rattle.dl_lexer.specs.Cutting.{IsLongest}
-use Rattle.dl_lexer.specs.Numerals.{IsDecimalToken}
+use Rattle.dl_lexer.proofs.Common.{arith, sym, subst, IsLongest, IsDecimalToken}
 use Rattle.dl_lexer.proofs.NumeralLengths.{decimal_no_point, decimal_with_point, decimal_with_bare_point}
 use Rattle.dl_lexer.proofs.front.decimal_length.Goals as goal
 

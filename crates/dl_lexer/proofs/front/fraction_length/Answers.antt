@@ -1,5 +1,5 @@
 -- The fraction, with digits on both sides of its slash.
-use Rattle.std.proofs.Common.{arith}
+use Rattle.dl_lexer.proofs.Common.{arith}
 use Rattle.dl_lexer.proofs.Longest.{either}
 use Rattle.dl_lexer.proofs.NumeralLengths.{fraction_with_slash, fraction_with_bare_slash, fraction_no_slash}
 use Rattle.dl_lexer.proofs.front.fraction_length.Goals as goal

@@ -1,7 +1,5 @@
 -- The note, where its text ends with a closing brace.
-use Rattle.std.proofs.Common.{◌≢◌, ◌+◌, List, ℕ, sym, subst, Some, slice_get, rules}
-use Rattle.dl_lexer.specs.Tokens.{IsNote}
-use Rattle.dl_lexer.specs.Cutting.{IsLongest}
+use Rattle.dl_lexer.proofs.Common.{◌≢◌, ◌+◌, List, ℕ, sym, subst, Some, slice_get, rules, IsNote, IsLongest}
 use Rattle.dl_lexer.proofs.WordLengths.{note_closed, note_open, note_none, note_begins, note_begins_not}
 use Rattle.dl_lexer.proofs.front.note_length.Goals as goal
 

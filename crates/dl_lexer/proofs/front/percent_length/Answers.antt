@@ -1,5 +1,5 @@
 -- The percent: the longest decimal, and a percent sign behind it.
-use Rattle.std.proofs.Common.{arith, rules}
+use Rattle.dl_lexer.proofs.Common.{arith, rules}
 use Rattle.dl_lexer.proofs.NumeralLengths.{percent_with_mark, percent_without_mark}
 use Rattle.dl_lexer.proofs.front.percent_length.Goals as goal
 use Rattle.dl_lexer.proofs.front.percent_length.Goals.{else-decimal-gt0-via-then-decimal-gt0+else-is_at, else-decimal-gt0-via-else-decimal-gt0}

@@ -1,6 +1,5 @@
 -- The bytes so far are all of the class, and the rest goes on with the run.
-use Rattle.std.proofs.Common.{◌≡◌, ◌+◌, drop}
-use Rattle.std.specs.List.{prefix_len}
+use Rattle.dl_lexer.proofs.Common.{◌≡◌, ◌+◌, drop, prefix_len}
 use Rattle.dl_lexer.specs.Classes.{is_in}
 use Rattle.dl_lexer.proofs.front.run_length.Given as goal
 

@@ -1,5 +1,5 @@
 -- The word: the run of its bytes, where a letter begins them.
-use Rattle.std.proofs.Common.{◌∙◌, sym}
+use Rattle.dl_lexer.proofs.Common.{◌∙◌, sym}
 use Rattle.dl_lexer.proofs.WordLengths.{word_longest, word_none}
 use Rattle.dl_lexer.proofs.front.word_length.Goals as goal
 

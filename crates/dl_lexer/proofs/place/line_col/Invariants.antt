@@ -1,5 +1,5 @@
 -- The line and the column of the place that the loop has reached.
-use Rattle.std.proofs.Common.{◌≡◌, ◌≤◌, ◌+◌}
+use Rattle.dl_lexer.proofs.Common.{◌≡◌, ◌≤◌, ◌+◌}
 use Rattle.dl_lexer.specs.Lines.{line_of, column_of}
 use Rattle.dl_lexer.proofs.place.line_col.Given as goal
 

@@ -1,6 +1,5 @@
 -- One entry of the table is compared, and the rest is searched.
-use Rattle.std.proofs.Common.{◌≡◌, ◌≢◌, ◌∙◌, List, ℕ, ap, sym, rules}
-use Rattle.dl_lexer.specs.Keywords.{first_spelled}
+use Rattle.dl_lexer.proofs.Common.{◌≡◌, ◌≢◌, ◌∙◌, List, ℕ, ap, sym, rules, first_spelled}
 use Rattle.dl_lexer.proofs.Spellings.{first_spelled_here, first_spelled_later, rest_of_table, table_ends}
 use Rattle.dl_lexer.proofs.token.find_in.Goals as goal
 

@@ -1,6 +1,5 @@
 -- The rest of the table finds what the whole table finds.
-use Rattle.std.proofs.Common.{◌≡◌, drop, map}
-use Rattle.dl_lexer.specs.Keywords.{first_spelled}
+use Rattle.dl_lexer.proofs.Common.{◌≡◌, drop, map, first_spelled}
 use Rattle.dl_lexer.proofs.token.find_in.Given as goal
 
 abbrev pub invariant-loop-keyword : goal.invariant-loop-keyword

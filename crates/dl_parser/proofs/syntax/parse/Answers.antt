@@ -1,9 +1,6 @@
 -- The three ends of a parse, and that what is left is no longer than all.
-use Rattle.std.proofs.Common.{rules, ◌≡◌, ℕ, ◌+◌, ◌-◌, ◌<◌, ◌≤◌, List, [], ◌∷◌, length, map, arith, refl, ap, false}
-use Rattle.std.specs.Prelude.{◌==◌}
-use Rattle.std.proofs.lemmas.List.{length-map}
+use Rattle.dl_parser.proofs.Common.{rules, ◌≡◌, ℕ, ◌+◌, ◌-◌, ◌<◌, ◌≤◌, List, [], ◌∷◌, length, map, arith, refl, ap, false, ◌==◌, length-map, place}
 use Rattle.std.proofs.lemmas.Bool.Decides.{nat_tests}
-use Rattle.dl_parser.specs.Parsing.{place}
 use Rattle.dl_ast.proofs.Formed.{program_formed}
 use Rattle.dl_parser.proofs.Covered.{covered_inside, covered_real, covered_few}
 use Rattle.dl_parser.proofs.Whole.{read_whole, read_further, read_stuck, left_got, left_stuck}

@@ -1,16 +1,13 @@
 -- Since a text has one token list, and that spells one program.
-use Rattle.std.proofs.Common.{◌≡◌, ◌∙◌, sym, ap, subst, List, length}
+use Rattle.dl_printer.proofs.Common.{◌≡◌, ◌∙◌, sym, ap, subst, List, length, Program, lexemes, canonical}
 use Rattle.dl_lexer.specs.declared.token.Token.{Token}
 use Rattle.dl_lexer.specs.Cutting.{Covers}
-use Rattle.dl_lexer.proofs.CoverLaws.{cover_one}
-use Rattle.dl_ast.specs.declared.ast.Program.{Program}
-use Rattle.dl_ast.specs.Lexemes.{lexemes}
 use Rattle.dl_ast.specs.Rules.{Spells}
 use Rattle.dl_ast.specs.Grammar.{program}
 use Rattle.dl_ast.specs.WellFormed.{IsWellFormed}
-use Rattle.dl_parser.proofs.Whole.{one_program}
-use Rattle.dl_printer.specs.Canonical.{canonical}
 use Rattle.dl_printer.specs.Apart.{bare, SameProgram}
+use Rattle.dl_lexer.proofs.CoverLaws.{cover_one}
+use Rattle.dl_parser.proofs.Whole.{one_program}
 use Rattle.dl_printer.proofs.Cut.{reads_back}
 use Rattle.dl_printer.proofs.SameText.{same_text}
 use Rattle.dl_printer.proofs.law.law_reads_nothing_else.Goals as goal

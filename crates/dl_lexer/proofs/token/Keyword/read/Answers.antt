@@ -1,6 +1,5 @@
 -- What the table finds is spelled so, and where it finds nothing no keyword is.
-use Rattle.std.proofs.Common.{◌≡◌, IfSome, sym, subst}
-use Rattle.dl_lexer.specs.Keywords.{spelling}
+use Rattle.dl_lexer.proofs.Common.{◌≡◌, IfSome, sym, subst, spelling}
 use Rattle.dl_lexer.proofs.Spellings.{keywords, first_spelled_is, none_spelled}
 use Rattle.dl_lexer.proofs.token.Keyword.read.Goals as goal
 

@@ -1,9 +1,6 @@
 -- The loop over atoms reads as many as there are.
-use Rattle.std.proofs.Common.{rules, sym, [], ◌∷◌, ◌++◌, ap, ◌∙◌, append_assoc}
-use Rattle.std.proofs.lemmas.List.{append-nil}
-use Rattle.dl_parser.specs.Factored.{atom}
+use Rattle.dl_parser.proofs.Common.{rules, sym, [], ◌∷◌, ◌++◌, ap, ◌∙◌, append_assoc, append-nil, atom, plain}
 use Rattle.dl_parser.proofs.Loops.{loop_at_start, loop_goes_on, loop_ends}
-use Rattle.dl_parser.specs.Plain.{plain}
 use Rattle.dl_parser.proofs.Steps.{fewer_tokens}
 use Rattle.dl_parser.proofs.cursor.Parser.more_atoms.Goals as goal
 

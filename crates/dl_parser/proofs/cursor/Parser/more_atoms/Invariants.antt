@@ -1,10 +1,5 @@
 -- What the loop over atoms has read, and that tokens are taken.
-use Rattle.std.proofs.Common.{◌≡◌, List, ◌++◌, length}
-use Rattle.dl_ast.specs.declared.ast.Atom.{Atom}
-use Rattle.dl_ast.specs.Rules.{many}
-use Rattle.dl_parser.specs.Reading.{read}
-use Rattle.dl_parser.specs.Parsing.{place}
-use Rattle.dl_parser.specs.Factored.{atom}
+use Rattle.dl_parser.proofs.Common.{◌≡◌, List, ◌++◌, length, Atom, many, read, place, atom}
 use Rattle.dl_parser.proofs.Loops.{Loops}
 use Rattle.dl_parser.proofs.cursor.Parser.more_atoms.Given as goal
 

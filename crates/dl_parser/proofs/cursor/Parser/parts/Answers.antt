@@ -1,5 +1,5 @@
 -- The loop over parts reads as many as there are.
-use Rattle.std.proofs.Common.{rules, sym}
+use Rattle.dl_parser.proofs.Common.{rules, sym}
 use Rattle.dl_parser.proofs.Loops.{loop_starts, loop_goes_on}
 use Rattle.dl_parser.proofs.Steps.{fewer_tokens}
 use Rattle.dl_parser.proofs.cursor.Parser.parts.Goals as goal

@@ -1,8 +1,5 @@
 -- What the loop over parts has read, and that tokens are taken.
-use Rattle.std.proofs.Common.{◌≡◌, length}
-use Rattle.dl_ast.specs.Grammar.{some_of}
-use Rattle.dl_parser.specs.Reading.{read}
-use Rattle.dl_parser.specs.Parsing.{place}
+use Rattle.dl_parser.proofs.Common.{◌≡◌, length, some_of, read, place}
 use Rattle.dl_parser.proofs.Loops.{Loops}
 use Rattle.dl_parser.proofs.cursor.Parser.parts.Given as goal
 

@@ -1,6 +1,4 @@
-use Rattle.std.proofs.Common.{◌≡◌, take}
-use Rattle.std.specs.List.{flat_map}
-use Rattle.dl_printer.specs.Pieces.{and_ceded_pieces}
+use Rattle.dl_printer.proofs.Common.{◌≡◌, take, flat_map, and_ceded_pieces}
 use Rattle.dl_printer.specs.Printing.{with_pieces}
 use Rattle.dl_printer.proofs.printer.Printer.more_layers.Given as goal
 

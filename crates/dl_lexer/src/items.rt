@@ -1,4 +1,4 @@
-//! A list of parts that a node of the syntax owns.
+//! A list of parts that one thing owns, as a node of the syntax.
 
 ghost use Rattle.std.specs.Prelude.{◌≡◌};
 
@@ -31,5 +31,12 @@ impl<T> Items<T> {
         ensures { result.now ≡ self.now }
     {
         &self.items
+    }
+
+    /// The parts as a vector; takes no memory.
+    pub fn into_vec(self) -> Vec<T>
+        ensures { result.items ≡ self }
+    {
+        self.items
     }
 }
