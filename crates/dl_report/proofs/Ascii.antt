@@ -1,10 +1,6 @@
 -- Digits are written in ASCII.
-use Rattle.std.proofs.Common.{ℕ, ◌+◌, ◌<◌, ◌^◌, ◌/◌, ◌%◌, zero, suc, [], ◌∷◌, ◌++◌, arith, codes}
-use Rattle.std.proofs.lemmas.Str.{IsAscii-append}
+use Rattle.dl_report.proofs.Common.{ℕ, ◌+◌, ◌<◌, ◌^◌, ◌/◌, ◌%◌, zero, suc, [], ◌∷◌, ◌++◌, arith, codes, IsAscii-append, decimal, IsAscii, with_digits, last_digits}
 use Rattle.std.proofs.lemmas.Str.Ascii.{IsAscii-nil}
-use Rattle.std.specs.Fmt.{decimal}
-use Rattle.std.specs.Str.{IsAscii}
-use Rattle.dl_report.specs.Ends.{with_digits, last_digits}
 
 pub one_ascii : (byte : ℕ) → byte < 128 → IsAscii (byte ∷ [])
 one_ascii byte h zero = h

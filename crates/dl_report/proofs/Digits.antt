@@ -1,6 +1,5 @@
 -- The last decimal digits of a number, one after another.
-use Rattle.std.proofs.Common.{ℕ, ◌≡◌, ◌+◌, ◌-◌, ◌/◌, ◌%◌, ◌^◌, ◌<◌, suc, ◌∷◌, arith, refl}
-use Rattle.dl_report.specs.Ends.{last_digits}
+use Rattle.dl_report.proofs.Common.{ℕ, ◌≡◌, ◌+◌, ◌-◌, ◌/◌, ◌%◌, ◌^◌, ◌<◌, suc, ◌∷◌, arith, refl, last_digits}
 
 -- the next of them, and those behind it
 pub next_digit : (n places done : ℕ) → done < places

@@ -1,11 +1,5 @@
 -- How a fraction is written.
-use Rattle.std.proofs.Common.{◌≡◌, ◌≢◌, ◌∙◌, ◌++◌, ℕ, List, ap, sym, subst, codes, ne_eqb, arith, append_assoc}
-use Rattle.std.proofs.lemmas.Str.{IsAscii-append}
-use Rattle.std.specs.Fmt.{decimal}
-use Rattle.std.specs.Prelude.{◌==◌, if◌then◌else◌}
-use Rattle.std.specs.Str.{IsAscii}
-use Rattle.dl_exact.specs.Fraction.{Fraction}
-use Rattle.dl_report.specs.Objects.{fraction_text}
+use Rattle.dl_report.proofs.Common.{◌≡◌, ◌≢◌, ◌∙◌, ◌++◌, ℕ, List, ap, sym, subst, codes, ne_eqb, arith, append_assoc, IsAscii-append, decimal, ◌==◌, if◌then◌else◌, IsAscii, Fraction, fraction_text}
 use Rattle.dl_report.proofs.Ascii.{one_ascii}
 
 pub whole_text : (x : Fraction) → x.den ≡ 1 → fraction_text x ≡ decimal x.num

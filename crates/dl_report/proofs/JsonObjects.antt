@@ -1,17 +1,8 @@
 -- The text of a report's JSON is that of the crate `serde_json`.
-use Rattle.std.proofs.Common.{◌≡◌, ◌∙◌, ℕ, true, false, refl, sym, ap, ap₂, List, [], ◌∷◌, ◌++◌, append_assoc, codes, map, decimal}
-use Rattle.std.specs.Prelude.{◌||◌}
-use Rattle.std.specs.List.{flat_map}
-use Rattle.json.specs.Print.{quoted}
+use Rattle.dl_report.proofs.Common.{◌≡◌, ◌∙◌, ℕ, true, false, refl, sym, ap, ap₂, List, [], ◌∷◌, ◌++◌, append_assoc, codes, map, ◌||◌, flat_map, quoted, items_of, compact_text, has_float, Fraction, end_text, fraction_text, json_of, row_object, with_commas, report_data, row_data, Report, Row}
+use Rattle.std.proofs.Common.{decimal}
 use Rattle.json.proofs.OnLiterals.{json_on_literals}
-use Rattle.serde_json.specs.View.{items_of}
-use Rattle.serde_json.specs.Written.{compact_text, has_float, items_have_float, items_text}
-use Rattle.dl_exact.specs.Fraction.{Fraction}
-use Rattle.dl_report.specs.Ends.{end_text}
-use Rattle.dl_report.specs.Objects.{fraction_text, json_of, row_object, with_commas}
-use Rattle.dl_report.specs.Values.{report_data, row_data}
-use Rattle.dl_report.specs.declared.report.Report.{Report}
-use Rattle.dl_report.specs.declared.report.Row.{Row}
+use Rattle.serde_json.specs.Written.{items_have_float, items_text}
 
 no_floats : (d : ℕ) (rows : List Row) → items_have_float (items_of (map (row_data d) rows)) ≡ false
 no_floats d [] = refl

@@ -1,21 +1,8 @@
 -- Rows are told by their JSON objects.
-use Rattle.std.proofs.Common.{ℕ, ◌≡◌, ◌≢◌, ◌∙◌, ◌<◌, ◌^◌, Bool, true, false, List, [], ◌∷◌, ◌++◌}
-use Rattle.std.proofs.Common.{refl, sym, ap, ap₂, get_or, map, All, arith, codes, append_assoc, ne_eqb, leb-true, nat_lt}
-use Rattle.std.proofs.lemmas.List.{append_cancel_left}
-use Rattle.std.proofs.lemmas.List.Elements.{All-head, All-tail, All-weaker, All-append, All-push}
-use Rattle.std.specs.Fmt.{decimal}
-use Rattle.std.specs.List.{flat_map}
-use Rattle.std.specs.Prelude.{◌==◌, if◌then◌else◌}
-use Rattle.json.specs.Print.{escape, escape_byte, quoted}
-use Rattle.dl_exact.specs.Fraction.{Fraction}
+use Rattle.dl_report.proofs.Common.{ℕ, ◌≡◌, ◌≢◌, ◌∙◌, ◌<◌, ◌^◌, Bool, true, false, List, [], ◌∷◌, ◌++◌, refl, sym, ap, ap₂, get_or, map, All, arith, codes, append_assoc, ne_eqb, leb-true, append_cancel_left, All-head, All-tail, All-weaker, All-append, All-push, decimal, flat_map, ◌==◌, if◌then◌else◌, quoted, Fraction, end_text, fraction_text, json_of, row_object, with_commas, IsPlainByte, low_plain, IsPlain, Report, Row}
+use Rattle.std.proofs.Common.{nat_lt}
+use Rattle.json.specs.Print.{escape, escape_byte}
 use Rattle.dl_frac.specs.Exact.{FitsFrac}
-use Rattle.dl_report.specs.Ends.{end_text}
-use Rattle.dl_report.specs.Objects.{fraction_text, json_of, row_object, with_commas}
-use Rattle.dl_plan.specs.Plain.{IsPlainByte}
-use Rattle.dl_plan.proofs.PlainBytes.{low_plain}
-use Rattle.dl_report.specs.Plain.{IsPlain}
-use Rattle.dl_report.specs.declared.report.Report.{Report}
-use Rattle.dl_report.specs.declared.report.Row.{Row}
 use Rattle.dl_report.proofs.EndLaws.{decimal_plain, end_told, end_plain}
 use Rattle.dl_report.proofs.Parting.{parted}
 use Rattle.dl_report.proofs.RowLaws.{no_comma, same_row}

@@ -1,16 +1,6 @@
 -- Rows are told by their lines, and by their records.
-use Rattle.std.proofs.Common.{ℕ, ◌≡◌, ◌≢◌, ◌∙◌, List, [], ◌∷◌, ◌++◌, refl, sym}
-use Rattle.std.proofs.Common.{ap, ap₂, length, All, arith, codes, append_assoc, length-append, false, ne_eqb}
-use Rattle.std.proofs.lemmas.List.Elements.{All-head, All-tail, All-weaker}
+use Rattle.dl_report.proofs.Common.{ℕ, ◌≡◌, ◌≢◌, ◌∙◌, List, [], ◌∷◌, ◌++◌, refl, sym, ap, ap₂, length, All, arith, codes, append_assoc, length-append, false, ne_eqb, All-head, All-tail, All-weaker, flat_map, list_any, if◌then◌else◌, end_text, line, calls_for_quotes, doubled, field, row_record, IsPlainByte, IsPlain, Row}
 use Rattle.std.proofs.lemmas.List.Folds.{list_any_none}
-use Rattle.std.specs.List.{flat_map, list_any}
-use Rattle.std.specs.Prelude.{if◌then◌else◌}
-use Rattle.dl_report.specs.Ends.{end_text}
-use Rattle.dl_report.specs.Lines.{line}
-use Rattle.dl_report.specs.Records.{calls_for_quotes, doubled, field, row_record}
-use Rattle.dl_plan.specs.Plain.{IsPlainByte}
-use Rattle.dl_report.specs.Plain.{IsPlain}
-use Rattle.dl_report.specs.declared.report.Row.{Row}
 use Rattle.dl_report.proofs.EndLaws.{end_told, end_plain}
 use Rattle.dl_report.proofs.Parting.{parted}
 

@@ -7,8 +7,6 @@ mod lines;
 mod objects;
 mod records;
 mod report;
-#[cfg(test)]
-mod tests;
 
 pub use law::{law_csv_tells_rows, law_json_tells_rows, law_text_tells_rows};
 pub use lines::text;

@@ -1,7 +1,7 @@
 //! What a report says.
 
 use dl_lexer::Text;
-use dl_plan::Many;
+use dl_plan::Items;
 
 /// An end of an answer.
 #[derive(Clone, Copy, Debug, PartialEq, Eq)]
@@ -33,5 +33,5 @@ pub struct Report {
     /// How many digits stand behind the point, from 0 to 9.
     pub digits: u32,
     /// A row for each ask.
-    pub rows: Many<Row>,
+    pub rows: Items<Row>,
 }

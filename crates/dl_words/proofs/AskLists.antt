@@ -1,12 +1,8 @@
 -- The asks of two lists of texts, one behind the other.
-use Rattle.std.proofs.Common.{◌≡◌, ◌∙◌, ℕ, suc, ◌+◌, ◌<◌, List, [], ◌∷◌, ◌++◌, length, map, take, drop, get_or, append_assoc, Option, Some, None, Result, Ok, Err, arith, refl, sym, ap}
+use Rattle.dl_words.proofs.Common.{◌≡◌, ◌∙◌, ℕ, suc, ◌+◌, ◌<◌, List, [], ◌∷◌, ◌++◌, length, map, take, drop, append_assoc, Option, Some, None, Result, Ok, Err, arith, refl, sym, ap, Bor, Ask, Asked, ask_of, asks_of, with_ask, Text}
+use Rattle.std.proofs.Common.{get_or}
 use Rattle.std.specs.Prelude.{min}
-use Rattle.std.specs.Borrow.{Bor}
 use Rattle.std.proofs.lemmas.List.{length-map, length-take, map-append, take-append-drop, take_more}
-use Rattle.dl_plan.specs.declared.settings.Ask.{Ask}
-use Rattle.dl_plan.specs.declared.settings.Asked.{Asked}
-use Rattle.dl_words.specs.Asks.{ask_of, asks_of, with_ask}
-use Rattle.dl_words.specs.Spelling.{Text}
 
 -- the asks of so many texts, and then those of more
 abbrev pub followed : Result (List Asked) ℕ → ℕ → Result (List Asked) ℕ → Result (List Asked) ℕ

@@ -1,12 +1,6 @@
 -- Parts with no hyphen at the start of a value or a positional are read alike.
-use Rattle.std.proofs.Common.{◌≡◌, ◌∙◌, ℕ, Bool, true, false, refl, sym, ap, List, [], ◌∷◌, Option, Some, None, true≢false, ◌==◌}
-use Rattle.std.specs.Prelude.{if◌then◌else◌, is_some, slice_get, ◌&&◌}
-use Rattle.std.specs.Str.{chars}
-use Rattle.dl_words.specs.Parts.{Part, Mode, Kind, kind_of, parts_from, read_kind, with_part}
-use Rattle.dl_words.specs.Parts.Part.{option, positional}
-use Rattle.dl_words.specs.Parts.Mode.{between, value, ended}
-use Rattle.dl_words.specs.Parts.Kind.{ends, whole, begins, plain, misfit}
-use Rattle.dl_words.specs.Spelling.{Text, begins_plainly}
+use Rattle.dl_words.proofs.Common.{◌≡◌, ◌∙◌, ℕ, Bool, true, false, refl, sym, ap, List, [], ◌∷◌, Option, Some, None, true≢false, if◌then◌else◌, is_some, slice_get, ◌&&◌, chars, Part, Mode, Kind, kind_of, parts_from, read_kind, with_part, option, positional, between, value, ended, ends, whole, begins, plain, misfit, Text, begins_plainly}
+use Rattle.std.proofs.Common.{◌==◌}
 use Rattle.dl_words.proofs.Reading.{clap_from, clap_kind, value_kind}
 
 abbrev pub is_clean_part : Part → Bool

@@ -1,13 +1,9 @@
 -- What `split_once` and `strip_prefix` say, in the words of the definitions.
-use Rattle.std.proofs.Common.{◌≡◌, ◌≢◌, ℕ, ◌+◌, ◌<◌, Bool, true, false, [], ◌∷◌, length, Option, Some, None, arith, refl, ap, inl, inr}
-use Rattle.std.specs.Prelude.{◌==◌, option_map, MatchOption}
-use Rattle.std.specs.Borrow.{Bor}
-use Rattle.std.specs.List.{list_any, position_or_len}
-use Rattle.std.proofs.lemmas.Bool.Decides.{nat_tests}
+use Rattle.dl_words.proofs.Common.{◌≡◌, ℕ, ◌+◌, ◌<◌, Bool, true, false, [], ◌∷◌, length, Option, Some, None, arith, refl, ap, inl, inr, ◌==◌, option_map, Bor, list_any, nat_tests, cases, behind_s, cut_at, Text}
+use Rattle.std.proofs.Common.{◌≢◌}
+use Rattle.std.specs.Prelude.{MatchOption}
+use Rattle.std.specs.List.{position_or_len}
 use Rattle.std.proofs.lemmas.Str.Pattern.{IsSplitOnceResult, split_once_first}
-use Rattle.dl_frac.proofs.NumeralLaws.{cases}
-use Rattle.dl_words.specs.Asks.{behind_s, cut_at}
-use Rattle.dl_words.specs.Spelling.{Text}
 
 module _ (p : ℕ → Bool) where
   near_place : (x : ℕ) (xs : Text) → p x ≡ true → position_or_len p (x ∷ xs) ≡ 0

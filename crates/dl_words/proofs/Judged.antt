@@ -1,40 +1,19 @@
 -- The answer to what `clap` found is the answer to the words.
-use Rattle.std.proofs.Common.{◌≡◌, ◌∙◌, ℕ, Bool, true, false, refl, sym, ap, ap₂, subst, List, [], ◌∷◌, ◌++◌, Option, Some, None, Result, Ok, Err, codes, true≢false, length, drop, arith, ◌≤◌}
-use Rattle.std.specs.Prelude.{if◌then◌else◌, is_some, slice_get, take, nat_le, ◌&&◌, ◌||◌, option_and_then, option_map, find, unwrap_or, ⊤}
-use Rattle.std.specs.Borrow.{Bor}
-use Rattle.std.specs.Char.{is_ascii_digit}
-use Rattle.std.specs.List.{list_all, list_any}
-use Rattle.std.specs.Str.{bytes_eq}
+use Rattle.dl_words.proofs.Common.{◌≡◌, ◌∙◌, ℕ, Bool, true, false, refl, sym, ap, ap₂, subst, List, [], ◌∷◌, ◌++◌, Option, Some, None, Result, Ok, Err, codes, true≢false, length, drop, arith, ◌≤◌, if◌then◌else◌, is_some, slice_get, nat_le, ◌&&◌, ◌||◌, option_and_then, option_map, unwrap_or, ⊤, Bor, is_ascii_digit, list_all, list_any, bytes_eq, append-nil, bytes_eq-Decides, nat_tests, all_of, rows_of, matches_of, IsDecimal, pointed, IsNumeral, decimal, percent, fraction, Asked, Form, Run, Fmt, Settings, UsageFault, Line, WordsFault, asks_of, command, Explains, ExplainsAsks, answer_in, asks_in, values_in, Values, are_taken, form_named, is_taken, Part, Mode, is_name, kind_of, parts_from, command_parts, positionals_of, option_values, option, positional, between, value, ended, Text, begins_plainly, is_bucket, is_number_within, admits, answer, to_parts, to_positionals, with_asks, words_of}
+use mathlib.Core.Path.{fun_ext}
+use Rattle.std.specs.Prelude.{take, find}
 use Rattle.std.specs.Str.Parse.{IsNumeral as IsNumber}
-use Rattle.std.proofs.lemmas.List.{append-nil}
 use Rattle.std.proofs.lemmas.List.Folds.{list_all-map}
-use Rattle.std.proofs.lemmas.Slice.Eq.{bytes_eq-Decides}
-use Rattle.std.proofs.lemmas.Bool.Decides.{nat_tests}
 use Rattle.clap.specs.Matches.{first_value}
 use Rattle.clap.specs.declared.parser.matches.Found.{Found}
-use Rattle.clap.specs.Walk.{Row as FoundRow, all_of, first_of, rows_of}
-use Rattle.clap.specs.Simple.{matches_of}
+use Rattle.clap.specs.Walk.{Row as FoundRow, first_of}
 use Rattle.clap.proofs.WalkLemmas.{first_value-rows, raw_values-rows}
-use Rattle.dl_frac.specs.Numerals.{IsDecimal, plain, pointed, IsNumeral, decimal, percent, fraction}
+use Rattle.dl_frac.specs.Numerals.{plain}
 use Rattle.dl_frac.proofs.NumeralLaws.{digit_or_not}
-use Rattle.dl_plan.specs.declared.settings.Asked.{Asked}
-use Rattle.dl_plan.specs.declared.settings.Form.{Form}
-use Rattle.dl_plan.specs.declared.settings.Form.TheVariants.{Run, Fmt}
-use Rattle.dl_plan.specs.declared.settings.Settings.{Settings}
-use Rattle.dl_words.specs.declared.fault.UsageFault.{UsageFault}
-use Rattle.dl_words.specs.declared.fault.UsageFault.TheVariants.{Line, Ask}
-use Rattle.dl_words.specs.declared.fault.WordsFault.{WordsFault}
+use Rattle.dl_words.specs.declared.fault.UsageFault.TheVariants.{Ask}
 use Rattle.dl_words.specs.declared.fault.WordsFault.TheVariants.{Usage, OutOfMemory}
-use Rattle.dl_words.specs.Asks.{asks_of}
-use Rattle.dl_words.specs.Command.{command}
-use Rattle.dl_words.specs.Faults.{Explains, ExplainsAsks}
-use Rattle.dl_words.specs.Found.{answer_in, asks_in, form_in, list_of, values_in}
-use Rattle.dl_words.specs.Options.{Row, Values, are_taken, form_named, format_named, is_taken, options}
-use Rattle.dl_words.specs.Parts.{Part, Mode, is_name, kind_of, parts_from, command_parts, positionals_of, option_values}
-use Rattle.dl_words.specs.Parts.Part.{option, positional}
-use Rattle.dl_words.specs.Parts.Mode.{between, value, ended}
-use Rattle.dl_words.specs.Spelling.{Text, begins_plainly, is_bucket, is_number_within}
-use Rattle.dl_words.specs.Words.{admits, answer, to_parts, to_positionals, with_asks, words_of}
+use Rattle.dl_words.specs.Found.{form_in, list_of}
+use Rattle.dl_words.specs.Options.{Row, format_named, options}
 use Rattle.dl_words.proofs.Numerals.{both, numeral_test}
 use Rattle.dl_words.proofs.Reading.{clap_from, clap_kind, seen}
 use Rattle.dl_words.proofs.AskLists.{lent}
@@ -309,56 +288,33 @@ asks_more : (ws : List Text) → unwrap_or (more None ws) [] ≡ ws
 asks_more [] = refl
 asks_more (w ∷ ws) = refl
 
--- an answer depends on the values of the seven names alone
+-- the values of the seven names, and none of another
+abbrev named_values : Values → Values
+named_values f name = if is_name name then f name else []
+
+abbrev told : Form → Values → List Text → Result (List Asked) ℕ → Result Settings UsageFault
+told form f asks r =
+    if are_taken f && list_all begins_plainly asks && admits form f asks then with_asks form f r else Err Line
+
+told_by_name : (form : Form) (f : Values) (asks : List Text) (r : Result (List Asked) ℕ)
+    → told form f asks r ≡ told form (named_values f) asks r
+told_by_name Run f asks (Ok v) = refl
+told_by_name Run f asks (Err i) = refl
+told_by_name Fmt f asks (Ok v) = refl
+told_by_name Fmt f asks (Err i) = refl
+
+-- an answer depends on these values alone
 same_values : (f g : Values) → ((name : Text) → is_name name ≡ true → f name ≡ g name)
     → (form : Option Form) (asks : List Text) → answer form f asks ≡ answer form g asks
 same_values f g h None asks = refl
-same_values f g h (Some Run) asks = go (asks_of asks)
+same_values f g h (Some form) asks =
+    told_by_name form f asks (asks_of asks)
+    ∙ ap (λ (v : Values). told form v asks (asks_of asks)) (fun_ext (λ name. go name (is_name name) refl))
+    ∙ sym (told_by_name form g asks (asks_of asks))
   where
-    go : (r : Result (List Asked) ℕ) → (if are_taken f && list_all begins_plainly asks && admits Run f asks
-        then with_asks Run f r else Err Line) ≡ (if are_taken g && list_all begins_plainly asks && admits Run g asks
-        then with_asks Run g r else Err Line)
-    go (Ok v) = rw (
-      h (codes "make") refl,
-      h (codes "bs") refl,
-      h (codes "log2") refl,
-      h (codes "digits") refl,
-      h (codes "width") refl,
-      h (codes "mwidth") refl,
-      h (codes "format") refl,
-    ) refl
-    go (Err i) = rw (
-      h (codes "make") refl,
-      h (codes "bs") refl,
-      h (codes "log2") refl,
-      h (codes "digits") refl,
-      h (codes "width") refl,
-      h (codes "mwidth") refl,
-      h (codes "format") refl,
-    ) refl
-same_values f g h (Some Fmt) asks = go (asks_of asks)
-  where
-    go : (r : Result (List Asked) ℕ) → (if are_taken f && list_all begins_plainly asks && admits Fmt f asks
-        then with_asks Fmt f r else Err Line) ≡ (if are_taken g && list_all begins_plainly asks && admits Fmt g asks
-        then with_asks Fmt g r else Err Line)
-    go (Ok v) = rw (
-      h (codes "make") refl,
-      h (codes "bs") refl,
-      h (codes "log2") refl,
-      h (codes "digits") refl,
-      h (codes "width") refl,
-      h (codes "mwidth") refl,
-      h (codes "format") refl,
-    ) refl
-    go (Err i) = rw (
-      h (codes "make") refl,
-      h (codes "bs") refl,
-      h (codes "log2") refl,
-      h (codes "digits") refl,
-      h (codes "width") refl,
-      h (codes "mwidth") refl,
-      h (codes "format") refl,
-    ) refl
+    go : (name : Text) (b : Bool) → is_name name ≡ b → (if b then f name else []) ≡ (if b then g name else [])
+    go name true e = h name e
+    go name false e = refl
 
 by_positionals : (values : Values) (words : List Text)
     → to_positionals values words ≡ answer (option_and_then form_named (slice_get words 0)) values (drop 1 words)

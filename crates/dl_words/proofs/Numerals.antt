@@ -1,16 +1,14 @@
 -- The test of a numeral passes exactly what is spelled as one.
-use Rattle.std.proofs.Common.{◌≡◌, ◌∙◌, inl, inr, ℕ, ◌+◌, ◌<◌, Bool, true, false, [], ◌∷◌, ◌++◌, length, take, drop, Option, Some, None, arith, refl, sym, ap, ap₂}
-use Rattle.std.specs.Prelude.{◌==◌, ◌&&◌, ◌||◌, nat_lt, IsTrue, ◌↔◌}
-use Rattle.std.specs.List.{list_any, list_all, before_first, after_first, position}
-use Rattle.std.specs.Char.{is_ascii_digit}
+use Rattle.dl_words.proofs.Common.{◌≡◌, ◌∙◌, inl, inr, ℕ, ◌+◌, ◌<◌, Bool, true, false, [], ◌∷◌, ◌++◌, length, take, drop, Option, Some, None, arith, refl, sym, ap, ap₂, ◌==◌, ◌&&◌, nat_lt, IsTrue, list_any, list_all, before_first, after_first, is_ascii_digit, append-nil, nat_tests, IsDecimal, pointed, IsNumeral, decimal, percent, fraction, cases, before_none, digits_pass, Text, is_number, is_numeral}
+use Rattle.std.specs.Prelude.{◌↔◌}
+use Rattle.std.specs.List.{position}
 use Rattle.std.specs.Str.Parse.{IsNumeral as IsNumber}
-use Rattle.std.proofs.lemmas.List.{length-append, append-nil}
+use Rattle.std.proofs.lemmas.List.{length-append}
 use Rattle.std.proofs.lemmas.List.Folds.{list_any-append}
-use Rattle.std.proofs.lemmas.Bool.Decides.{nat_tests}
-use Rattle.dl_frac.specs.Numerals.{is_point, is_percent, is_slash, IsDecimal, plain, pointed, IsNumeral, decimal, percent, fraction}
-use Rattle.dl_frac.proofs.NumeralLaws.{cases, cut_at, before_none, after_none, before_yes, after_yes, no_sign, point_no_digit, slash_no_digit, decimal_marks, any_push_no}
-use Rattle.dl_frac.proofs.SpellingLaws.{FirstPlace, clash, digits_pass, first_place, no_place, unpointed}
-use Rattle.dl_words.specs.Spelling.{Text, is_decimal, is_number, is_numeral}
+use Rattle.dl_frac.specs.Numerals.{is_point, is_percent, is_slash, plain}
+use Rattle.dl_frac.proofs.NumeralLaws.{cut_at, after_none, before_yes, after_yes, no_sign, point_no_digit, slash_no_digit, decimal_marks, any_push_no}
+use Rattle.dl_frac.proofs.SpellingLaws.{FirstPlace, clash, first_place, no_place, unpointed}
+use Rattle.dl_words.specs.Spelling.{is_decimal}
 use Rattle.std.proofs.lemmas.Bool.{or_right}
 
 -- ---- tests

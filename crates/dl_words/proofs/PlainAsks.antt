@@ -1,23 +1,10 @@
 -- The asks of good words are written with plain bytes alone.
-use Rattle.std.proofs.Common.{◌≡◌, ℕ, Bool, true, refl, sym, subst, List, [], ◌∷◌, ◌++◌, All, Ok, IfOk, arith, codes}
-use Rattle.std.specs.Prelude.{nat_lt, ◌&&◌, ◌==◌, not, IsTrue, ⊤}
-use Rattle.std.specs.List.{list_all}
-use Rattle.std.specs.Char.{is_ascii_digit}
+use Rattle.dl_words.proofs.Common.{◌≡◌, ℕ, Bool, true, refl, sym, subst, List, [], ◌∷◌, ◌++◌, All, Ok, IfOk, arith, codes, nat_lt, ◌&&◌, ◌==◌, IsTrue, ⊤, list_all, is_ascii_digit, All-nil, All-cons, nat_tests, IsDecimal, pointed, IsNumeral, decimal, percent, fraction, digits_pass, is_word_byte, begins_with_letter, Ask, Asked, Settings, command_parts, Text, is_amount, is_number, is_numeral, is_probability, is_word, SpellsAsk, pmf, cdf, mean, q, tail, layer, no_limit, joint, kappa, words_of}
+use Rattle.std.specs.Prelude.{not}
 use Rattle.std.specs.Str.Parse.{IsNumeral as IsNumber}
-use Rattle.std.proofs.lemmas.List.Elements.{All-nil, All-cons, All-append}
-use Rattle.std.proofs.lemmas.Bool.Decides.{nat_tests}
-use Rattle.dl_frac.specs.Numerals.{IsDecimal, plain, pointed, IsNumeral, decimal, percent, fraction}
-use Rattle.dl_frac.proofs.SpellingLaws.{digits_pass}
-use Rattle.dl_lexer.specs.Bytes.{is_word_byte}
-use Rattle.dl_lexer.specs.Tokens.{begins_with_letter}
-use Rattle.dl_plan.specs.declared.settings.Ask.{Ask}
-use Rattle.dl_plan.specs.declared.settings.Asked.{Asked}
-use Rattle.dl_plan.specs.declared.settings.Settings.{Settings}
-use Rattle.dl_words.specs.Parts.{command_parts}
+use Rattle.std.proofs.lemmas.List.Elements.{All-append}
+use Rattle.dl_frac.specs.Numerals.{plain}
 use Rattle.dl_plan.specs.Plain.{IsPlainByte}
-use Rattle.dl_words.specs.Spelling.{Text, is_amount, is_number, is_numeral, is_probability, is_word}
-use Rattle.dl_words.specs.Table.{SpellsAsk, pmf, cdf, mean, q, tail, layer, no_limit, joint, kappa}
-use Rattle.dl_words.specs.Words.{words_of}
 use Rattle.dl_words.proofs.Numerals.{both, number_test, numeral_test}
 use Rattle.dl_words.proofs.RangeLaws.{AreFrom, all_true, asks_each, from_parts, some_parts}
 use Rattle.dl_words.proofs.TableLaws.{table_back}

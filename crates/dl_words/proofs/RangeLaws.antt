@@ -1,29 +1,13 @@
 -- What good words say lies in its ranges, and the asks are words.
-use Rattle.std.proofs.Common.{◌≡◌, ℕ, suc, ◌<◌, ◌≤◌, Bool, true, false, not, refl, ap, subst, List, [], ◌∷◌, length, All, Option, Some, None, Result, Ok, Err, IfOk, IfSome, arith, IsUtf8, codes}
-use Rattle.std.specs.Prelude.{nat_le, nat_lt, ◌&&◌, ◌==◌, IsTrue, ⊤}
-use Rattle.std.specs.List.{list_all}
-use Rattle.std.proofs.lemmas.List.Elements.{All-nil, All-cons, All-head, All-tail}
-use Rattle.std.proofs.lemmas.Bool.Decides.{nat_tests}
-use Rattle.dl_exact.specs.Fraction.{Fraction, whole, ◌<ℚ◌}
+use Rattle.dl_words.proofs.Common.{◌≡◌, ℕ, suc, ◌<◌, ◌≤◌, Bool, true, false, refl, ap, subst, List, [], ◌∷◌, length, All, Option, Some, None, Result, Ok, Err, IfOk, arith, codes, nat_le, nat_lt, ◌&&◌, ◌==◌, IsTrue, ⊤, list_all, All-nil, All-cons, nat_tests, Fraction, is_bad, numeral_value, Ask, Asked, Form, Run, Fmt, Settings, UsageFault, ask_of, asks_of, with_ask, Values, are_taken, form_named, is_taken, Part, Mode, Kind, kind_of, parts_from, command_parts, positionals_of, read_kind, option_values, with_part, option, positional, between, value, ended, ends, begins, plain, misfit, Text, begins_plainly, is_bucket, is_numeral, is_probability, is_number_within, number, SpellsAsk, pmf, cdf, mean, q, tail, layer, no_limit, joint, kappa, admits, answer, to_parts, to_positionals, with_asks, words_of}
+use Rattle.std.proofs.Common.{not, IfSome, IsUtf8}
+use Rattle.std.proofs.lemmas.List.Elements.{All-head, All-tail}
+use Rattle.dl_exact.specs.Fraction.{whole, ◌<ℚ◌}
 use Rattle.dl_exact.proofs.Laws.{whole_pos, one_pos}
 use Rattle.dl_exact.proofs.Parts.{over_num_le as num_of_over-le, over_den_le as den_of_over-le, whole_num, whole_den, pos_num}
-use Rattle.dl_frac.specs.Numerals.{is_bad, numeral_value}
-use Rattle.dl_plan.specs.declared.settings.Ask.{Ask}
-use Rattle.dl_plan.specs.declared.settings.Asked.{Asked}
-use Rattle.dl_plan.specs.declared.settings.Form.{Form}
-use Rattle.dl_plan.specs.declared.settings.Form.TheVariants.{Run, Fmt}
-use Rattle.dl_plan.specs.declared.settings.Settings.{Settings}
 use Rattle.dl_plan.specs.Ranges.{IsBucket, IsLevel, HasLevel, AreInRange}
-use Rattle.dl_words.specs.declared.fault.UsageFault.{UsageFault}
-use Rattle.dl_words.specs.Asks.{ask_of, asks_of, with_ask}
-use Rattle.dl_words.specs.Options.{Values, are_taken, form_named, is_make_alone, is_taken, or_default, settings_of}
-use Rattle.dl_words.specs.Parts.{Part, Mode, Kind, kind_of, parts_from, command_parts, positionals_of, read_kind, option_values, with_part}
-use Rattle.dl_words.specs.Parts.Part.{option, positional}
-use Rattle.dl_words.specs.Parts.Mode.{between, value, ended}
-use Rattle.dl_words.specs.Parts.Kind.{ends, whole as joined_kind, begins, plain, misfit}
-use Rattle.dl_words.specs.Spelling.{Text, begins_plainly, is_bucket, is_numeral, is_probability, is_number_within, number}
-use Rattle.dl_words.specs.Table.{SpellsAsk, pmf, cdf, mean, q, tail, layer, no_limit, joint, kappa}
-use Rattle.dl_words.specs.Words.{admits, answer, to_parts, to_positionals, with_asks, words_of}
+use Rattle.dl_words.specs.Options.{is_make_alone, or_default, settings_of}
+use Rattle.dl_words.specs.Parts.Kind.{whole as joined_kind}
 use Rattle.dl_words.proofs.Numerals.{both}
 use Rattle.dl_frac.proofs.SmallNumerals.{IsSmall, numeral_small}
 use Rattle.dl_words.proofs.TableLaws.{table_back}
@@ -192,11 +176,11 @@ pub record AreFrom (positionals : List Text) (settings : Settings) : Type 0 wher
   pub form : Form
   pub values : Values
   pub asks : List Asked
+  pub is : settings_of form values asks ≡ settings
   pub front : positionals ≡ word ∷ texts
   pub taken : IsTrue (are_taken values)
   pub admitted : IsTrue (admits form values texts)
   pub read : asks_of texts ≡ Ok asks
-  pub is : settings_of form values asks ≡ settings
 
 err_not_ok : (fault : UsageFault) (settings : Settings) → Err fault ≡ Ok settings → ⊥
 err_not_ok fault settings e = grind (arith, e)
@@ -222,11 +206,11 @@ module _ (settings : Settings) where
     form = form;
     values = values;
     asks = asks;
+    is = ok_same _ settings w;
     front = refl;
     taken = t;
     admitted = a;
     read = is;
-    is = ok_same _ settings w;
   }
 
   answered : (word : Text) (form : Option Form) (values : Values) (texts : List Text)

@@ -1,15 +1,8 @@
 -- The words as `clap` reads them: a lone hyphen is a plain word, and no option takes a value that begins with a hyphen,
 -- but for a lone one.
-use Rattle.std.proofs.Common.{◌≡◌, ℕ, Bool, true, false, refl, List, [], ◌∷◌, Option, Some, None, ◌==◌}
-use Rattle.std.specs.Prelude.{if◌then◌else◌, is_some, slice_get}
-use Rattle.std.specs.List.{list_any, before_first, after_first}
-use Rattle.std.specs.Str.{bytes_eq, chars}
-use Rattle.clap.specs.Lexer.{long_of, short_of}
-use Rattle.dl_words.specs.Spelling.{Text}
-use Rattle.dl_words.specs.Parts.{Part, Mode, Kind, after_hyphens, is_equals, is_name, read_kind, with_part}
-use Rattle.dl_words.specs.Parts.Part.{option, positional}
-use Rattle.dl_words.specs.Parts.Mode.{between, value, ended}
-use Rattle.dl_words.specs.Parts.Kind.{ends, whole, begins, plain, misfit}
+use Rattle.dl_words.proofs.Common.{◌≡◌, ℕ, Bool, true, false, refl, List, [], ◌∷◌, Option, Some, None, if◌then◌else◌, is_some, slice_get, list_any, before_first, after_first, bytes_eq, chars, long_of, short_of, Text, Part, Mode, Kind, is_equals, is_name, read_kind, with_part, option, positional, between, value, ended, ends, whole, begins, plain, misfit}
+use Rattle.std.proofs.Common.{◌==◌}
+use Rattle.dl_words.specs.Parts.{after_hyphens}
 
 abbrev pub flag_kind : Text → Kind
 flag_kind flags = if is_some (slice_get (chars flags) 0) then misfit else plain

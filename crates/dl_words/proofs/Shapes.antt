@@ -1,8 +1,5 @@
 -- What `clap` builds of the command.
-use Rattle.std.proofs.Common.{◌≡◌, refl, true}
-use Rattle.clap.specs.Simple.{Shape, built, is_simple}
-use Rattle.clap.specs.Faults.{is_simple_and_free}
-use Rattle.dl_words.specs.Command.{command}
+use Rattle.dl_words.proofs.Common.{◌≡◌, refl, true, Shape, built, is_simple, is_simple_and_free, command}
 
 abbrev pub shape : Shape
 shape = (built command).top

@@ -1,20 +1,9 @@
 -- The walk of `clap` over the words uses their parts in turn.
-use Rattle.std.proofs.Common.{◌≡◌, ◌∙◌, ℕ, Bool, true, false, refl, sym, ap, ap₂, subst, List, [], ◌∷◌, Option, Some, None, true≢false}
-use Rattle.std.specs.Prelude.{if◌then◌else◌, slice_get, ◌&&◌, ⊤}
-use Rattle.std.specs.List.{fold}
+use Rattle.dl_words.proofs.Common.{◌≡◌, ◌∙◌, ℕ, Bool, true, false, refl, sym, ap, ap₂, subst, List, [], ◌∷◌, Option, Some, None, true≢false, if◌then◌else◌, slice_get, ◌&&◌, ⊤, fold, bytes_eq, chars, bytes_eq-Decides, long_of, short_of, Kinds, or_else, Row, Rule, Walk, arg_by_id, arg_by_index, arg_by_long, arg_by_short, settled, Shape, settle_fault, use_fault, Text, Part, Mode, is_name, read_kind, with_part, option, positional, between, value, ended}
 use Rattle.std.specs.Option.{option_map_or}
-use Rattle.std.specs.Str.{bytes_eq, chars}
-use Rattle.std.proofs.lemmas.Slice.Eq.{bytes_eq-Decides}
-use Rattle.clap.specs.Lexer.{long_of, short_of}
-use Rattle.clap.specs.Kinds.{Kinds, or_else}
 use Rattle.clap.specs.Facts.{unwrap_or_range}
-use Rattle.clap.specs.Walk.{Held, Names, Row, Rule, Step, Waiting, Walk, arg_by_id, arg_by_index, arg_by_long, arg_by_short, bundle_met, idle, is_multiple, most_values, option as wants, positional as several, plain as bundle_plain, reacted, settled, settled_rows, subcommand_met, takes_several, takes_values, plain_word, word_met, value as value_step, used, used_by_id, walk, walk_from, walked, is_pending}
-use Rattle.clap.specs.Simple.{Shape}
-use Rattle.clap.specs.Faults.{flags_fault, long_fault, react_fault, settle_fault, short_fault, turn_fault, use_fault, word_fault, walk_fault}
-use Rattle.dl_words.specs.Spelling.{Text}
-use Rattle.dl_words.specs.Parts.{Part, Mode, is_name, read_kind, with_part}
-use Rattle.dl_words.specs.Parts.Part.{option, positional}
-use Rattle.dl_words.specs.Parts.Mode.{between, value, ended}
+use Rattle.clap.specs.Walk.{Held, Names, Step, Waiting, bundle_met, idle, is_multiple, most_values, option as wants, positional as several, plain as bundle_plain, reacted, settled_rows, subcommand_met, takes_several, takes_values, plain_word, word_met, value as value_step, used, used_by_id, walked, is_pending}
+use Rattle.clap.specs.Faults.{flags_fault, long_fault, react_fault, short_fault, turn_fault, word_fault, walk_fault}
 use Rattle.dl_words.proofs.Reading.{Seen, clap_from, flag_kind, hyphens, long_kind, seen, seen_ends, seen_long, seen_plain, seen_short, value_kind}
 
 -- ---- kinds

@@ -1,20 +1,7 @@
 -- What is read as an ask is what the table of the asks has.
-use Rattle.std.proofs.Common.{◌≡◌, ◌∙◌, ℕ, Bool, true, false, refl, sym, ap, subst, [], ◌∷◌, ◌++◌, Option, Some, None, codes, true≢false, arith}
-use Rattle.std.specs.Prelude.{◌==◌, IsTrue, if◌then◌else◌, option_map, option_and_then}
-use Rattle.std.specs.Char.{is_ascii_digit}
-use Rattle.std.specs.List.{list_all, list_any, before_first, after_first}
-use Rattle.std.specs.Str.{bytes_eq}
-use Rattle.std.proofs.lemmas.Bool.Decides.{nat_tests}
-use Rattle.std.proofs.lemmas.Slice.Eq.{bytes_eq-Decides}
-use Rattle.dl_exact.specs.Fraction.{Fraction}
-use Rattle.dl_frac.specs.Numerals.{numeral_value}
-use Rattle.dl_lexer.specs.Bytes.{is_word_byte}
-use Rattle.dl_lexer.specs.Tokens.{begins_with_letter}
-use Rattle.dl_plan.specs.declared.settings.Ask.{Ask}
+use Rattle.dl_words.proofs.Common.{◌≡◌, ◌∙◌, ℕ, Bool, true, false, refl, sym, ap, subst, [], ◌∷◌, ◌++◌, Option, Some, None, codes, true≢false, arith, ◌==◌, IsTrue, if◌then◌else◌, option_map, option_and_then, is_ascii_digit, list_all, list_any, before_first, after_first, bytes_eq, nat_tests, bytes_eq-Decides, Fraction, numeral_value, is_word_byte, begins_with_letter, Ask, ask_of, behind_s, cut_at, Text, is_amount, is_probability, is_word, number, SpellsAsk, pmf, cdf, mean, q, tail, layer, no_limit, joint, kappa}
 use Rattle.dl_plan.specs.declared.settings.Ask.TheVariants.{Pmf, Cdf, Mean, Quantile, LayerMean, Tail, Joint, Kappa}
-use Rattle.dl_words.specs.Asks.{amount_written, ask_between, ask_of, behind_s, cut_at, layer_between, layer_of, limit_written, probability_written, unit_parts}
-use Rattle.dl_words.specs.Spelling.{Text, is_amount, is_probability, is_word, number}
-use Rattle.dl_words.specs.Table.{SpellsAsk, pmf, cdf, mean, q, tail, layer, no_limit, joint, kappa}
+use Rattle.dl_words.specs.Asks.{amount_written, ask_between, layer_between, layer_of, limit_written, probability_written, unit_parts}
 use Rattle.dl_words.proofs.Numerals.{after_at, any_at, before_at, both, cut_first}
 
 -- ---- texts without a sign

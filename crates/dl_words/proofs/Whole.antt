@@ -1,22 +1,11 @@
 -- What `clap` makes of any words, by their parts.
-use Rattle.std.proofs.Common.{◌≡◌, ◌∙◌, ℕ, Bool, true, false, refl, sym, ap, ap₂, subst, List, [], ◌∷◌, Option, Some, None, codes, true≢false, length, arith, ◌+◌, ◌≤◌, ◌==◌}
-use Rattle.std.specs.Prelude.{if◌then◌else◌, is_some, unwrap_or, slice_get, ⊤, take, drop, ◌||◌}
-use Rattle.std.specs.List.{fold, list_any}
-use Rattle.std.specs.Str.{bytes_eq, chars}
-use Rattle.std.proofs.lemmas.Slice.Eq.{bytes_eq-Decides}
-use Rattle.clap.specs.Kinds.{Kinds, or_else}
-use Rattle.clap.specs.Facts.{explicit_source}
-use Rattle.clap.specs.Walk.{Row, Rule, Walk, action_of, all_of, arg_by_id, arg_by_index, arg_by_long, arg_by_short, default_rows, finished, has_row, is_empty, nothing_held, reading_by, settled, walk, walk_from, with_default}
-use Rattle.clap.specs.Takes.{is_given}
+use Rattle.dl_words.proofs.Common.{◌≡◌, ◌∙◌, ℕ, Bool, true, false, refl, sym, ap, ap₂, subst, List, [], ◌∷◌, Option, Some, None, codes, true≢false, length, arith, ◌+◌, ◌≤◌, if◌then◌else◌, is_some, unwrap_or, slice_get, ⊤, ◌||◌, fold, bytes_eq, chars, bytes_eq-Decides, Kinds, or_else, Row, Rule, Walk, action_of, all_of, arg_by_id, arg_by_index, arg_by_long, arg_by_short, has_row, settled, walk, walk_from, is_given, built, matches_of, repeat_fault, fault_of, settle_fault, command, Text, Part, Mode, Kind, is_name, positionals_of, option_values, with_part, read_kind, option, positional, between, value, ended, ends, whole, begins, plain, misfit}
+use Rattle.std.proofs.Common.{◌==◌}
+use Rattle.std.specs.Prelude.{take, drop}
+use Rattle.clap.specs.Walk.{default_rows, finished, is_empty, nothing_held, reading_by, with_default}
 use Rattle.clap.specs.declared.error.kind.ErrorKind.TheVariants as kind
-use Rattle.clap.specs.Simple.{App, Shape, built, entered, matches_of}
-use Rattle.clap.specs.Faults.{repeat_fault, check_fault, default_fault, defaults_fault, entered_fault, fault_of, level_fault, settle_fault, use_fault, walk_fault}
-use Rattle.dl_words.specs.Command.{command}
-use Rattle.dl_words.specs.Spelling.{Text}
-use Rattle.dl_words.specs.Parts.{Part, Mode, Kind, is_name, positionals_of, option_values, with_part, read_kind}
-use Rattle.dl_words.specs.Parts.Part.{option, positional}
-use Rattle.dl_words.specs.Parts.Mode.{between, value, ended}
-use Rattle.dl_words.specs.Parts.Kind.{ends, whole, begins, plain, misfit}
+use Rattle.clap.specs.Simple.{entered}
+use Rattle.clap.specs.Faults.{check_fault, default_fault, defaults_fault, entered_fault, level_fault, walk_fault}
 use Rattle.dl_words.proofs.Reading.{Seen, clap_from, flag_kind, long_kind, seen, seen_ends, seen_long, seen_plain, seen_short, clap_kind, value_kind}
 use Rattle.dl_words.proofs.Shapes.{shape}
 use Rattle.dl_words.proofs.Simulation.{Agrees, Fails, IsReady, LongMet, ShortMet, TakesOne, faults, final, help_long, help_short, no_long, no_short, or_else-assoc, or_else-nil, position_of, sim, step, takes_long, total, uses_of}

@@ -1,16 +1,7 @@
 -- The parts of the words are those that they are written as.
-use Rattle.std.proofs.Common.{◌≡◌, ◌∙◌, ℕ, Bool, true, false, refl, sym, ap, subst, List, [], ◌∷◌, ◌++◌, Option, Some, None, codes, map, true≢false, arith}
-use Rattle.std.specs.Prelude.{◌==◌}
-use Rattle.std.specs.List.{list_any, before_first, after_first}
-use Rattle.std.proofs.lemmas.Bool.Decides.{nat_tests}
-use Rattle.std.proofs.lemmas.List.{append-nil}
-use Rattle.dl_frac.proofs.NumeralLaws.{before_none}
+use Rattle.dl_words.proofs.Common.{◌≡◌, ◌∙◌, ℕ, Bool, true, false, refl, sym, ap, subst, List, [], ◌∷◌, ◌++◌, Option, Some, None, codes, map, true≢false, arith, ◌==◌, list_any, before_first, after_first, nat_tests, append-nil, before_none, Part, Mode, Kind, is_equals, is_name, kind_of, parts_from, read_kind, with_part, option, positional, between, value, ended, ends, whole, begins, plain, misfit, Text, begins_plainly}
 use Rattle.dl_words.specs.AsWritten.{AreParts, nothing, joined, apart, plain as word_plain, ended as all_plain}
-use Rattle.dl_words.specs.Parts.{Part, Mode, Kind, is_equals, is_name, kind_of, named, parts_from, read_kind, with_part}
-use Rattle.dl_words.specs.Parts.Part.{option, positional}
-use Rattle.dl_words.specs.Parts.Mode.{between, value, ended}
-use Rattle.dl_words.specs.Parts.Kind.{ends, whole, begins, plain, misfit}
-use Rattle.dl_words.specs.Spelling.{Text, begins_plainly}
+use Rattle.dl_words.specs.Parts.{named}
 use Rattle.dl_words.proofs.Numerals.{after_at, any_at, before_at, cut_first}
 use Rattle.dl_words.proofs.Whole.{by_name}
 

@@ -1,7 +1,7 @@
 //! The command that `clap` reads the words by.
 
 ghost use Rattle.std.specs.Prelude.{◌≡◌, IfOk};
-ghost use Rattle.clap.specs.Words.{app_of};
+ghost use Rattle.clap.specs.Words.{App, app_of};
 ghost use Rattle.dl_words.specs.Command.{command, places, with_option};
 
 use clap::{Arg, ArgAction, Command};
@@ -11,13 +11,13 @@ use std::alloc::{AllocError, Global};
 pub(crate) fn simple_command<'a>(alloc: Global) -> Result<Command<'a>, AllocError>
     ensures { IfOk result (λ c. app_of c ≡ command) }
 {
-    let mut command = with_places(alloc)?;
-    command = with_option(alloc, command, "make")?;
-    command = with_option(alloc, command, "bs")?;
-    command = with_option(alloc, command, "log2")?;
-    command = with_option(alloc, command, "digits")?;
-    command = with_option(alloc, command, "width")?;
-    command = with_option(alloc, command, "mwidth")?;
+    let command = with_places(alloc);
+    let command = with_option(alloc, command, "make");
+    let command = with_option(alloc, command, "bs");
+    let command = with_option(alloc, command, "log2");
+    let command = with_option(alloc, command, "digits");
+    let command = with_option(alloc, command, "width");
+    let command = with_option(alloc, command, "mwidth");
     with_option(alloc, command, "format")
 }
 
@@ -25,21 +25,20 @@ pub(crate) fn simple_command<'a>(alloc: Global) -> Result<Command<'a>, AllocErro
 fn with_places<'a>(alloc: Global) -> Result<Command<'a>, AllocError>
     ensures { IfOk result (λ c. app_of c ≡ places) }
 {
-    let form = Arg::new(alloc, "form").required(true);
-    let asks = Arg::new(alloc, "asks").action(ArgAction::Append);
-    Command::new(alloc, "decl")
+    let command = Command::new(alloc, "decl")
         .no_binary_name(true)
-        .arg(form)?
-        .arg(asks)
+        .arg(Arg::new(alloc, "form").required(true))?;
+    command.arg(Arg::new(alloc, "asks").action(ArgAction::Append))
 }
 
-/// The command with one more option.
+/// The command with one more option, where there was room for the command.
 fn with_option<'a>(
     alloc: Global,
-    command: Command<'a>,
+    command: Result<Command<'a>, AllocError>,
     name: &'a str,
 ) -> Result<Command<'a>, AllocError>
-    ensures { IfOk result (λ c. app_of c ≡ with_option (app_of command.entry) name.entry.now) }
+    ensures { (app : App) → IfOk command.entry (λ c. app_of c ≡ app)
+        → IfOk result (λ c. app_of c ≡ with_option app name.entry.now) }
 {
-    command.arg(Arg::new(alloc, name).long(name))
+    command?.arg(Arg::new(alloc, name).long(name))
 }

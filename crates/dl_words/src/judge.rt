@@ -16,7 +16,7 @@ use crate::options::{form_named, is_make_alone, settings_of};
 use crate::spelling::begins_plainly;
 use clap::ArgMatches;
 use dl_limits::MOST_ASKS;
-use dl_plan::{Form, Many, Settings};
+use dl_plan::{Form, Items, Settings};
 use std::alloc::Global;
 
 /// The words do not fit the command.
@@ -41,7 +41,7 @@ pub(crate) fn judge(alloc: Global, matches: &ArgMatches<'_>) -> Result<Settings,
     }
     match read_asks(alloc, texts) {
         Ok(asks) => Ok(Settings {
-            asks: Many::from_vec(asks),
+            asks: Items::from_vec(asks),
             ..settings
         }),
         Err(fault) => Err(fault),

@@ -10,8 +10,6 @@ mod options;
 mod ranges;
 mod read;
 mod spelling;
-#[cfg(test)]
-mod tests;
 
 pub use fault::{UsageFault, WordsFault};
 pub use laws::{law_asks, law_parts, law_spellings};

@@ -13,7 +13,7 @@ use crate::spelling::{bucket, whole};
 use clap::ArgMatches;
 use dl_frac::Frac;
 use dl_limits::{MOST_DIGITS, MOST_LOG2};
-use dl_plan::{Form, Format, Many, Settings};
+use dl_plan::{Form, Format, Items, Settings};
 use std::alloc::Global;
 
 /// The settings of a form with no asks yet, where each option takes its value.
@@ -38,7 +38,7 @@ pub(crate) fn settings_of(alloc: Global, form: Form, matches: &ArgMatches<'_>) -
         width,
         mwidth,
         format,
-        asks: Many::from_vec(Vec::new(alloc)),
+        asks: Items::from_vec(Vec::new(alloc)),
     })
 }
 

@@ -1,7 +1,4 @@
-use Rattle.std.proofs.Common.{◌++◌, ap, subst, sym, ◌∙◌}
-use Rattle.std.proofs.lemmas.Str.{IsUtf8-from_ascii}
-use Rattle.std.specs.Str.{IsUtf8}
-use Rattle.dl_report.specs.Ends.{end_text}
+use Rattle.dl_report.proofs.Common.{◌++◌, ap, subst, sym, ◌∙◌, IsUtf8-from_ascii, IsUtf8, end_text}
 use Rattle.dl_report.proofs.ends.end_bytes.Goals as goal
 
 pub returns-clause-utf8 : goal.returns-clause-utf8

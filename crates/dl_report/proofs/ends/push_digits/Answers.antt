@@ -1,5 +1,4 @@
-use Rattle.std.proofs.Common.{◌-◌, arith}
-use Rattle.std.proofs.Math.Nat.{one-le-pow}
+use Rattle.dl_report.proofs.Common.{◌-◌, arith, one-le-pow}
 use Rattle.std.proofs.lemmas.List.{append_assoc}
 use Rattle.dl_report.proofs.Digits.{next_digit}
 use Rattle.dl_report.proofs.ends.push_digits.Goals as goal

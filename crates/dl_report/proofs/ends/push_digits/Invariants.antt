@@ -1,5 +1,4 @@
-use Rattle.std.proofs.Common.{◌≡◌, ◌++◌, ◌-◌}
-use Rattle.dl_report.specs.Ends.{last_digits}
+use Rattle.dl_report.proofs.Common.{◌≡◌, ◌++◌, ◌-◌, last_digits}
 use Rattle.dl_report.proofs.ends.push_digits.Given as goal
 
 abbrev pub invariant-loop-done : goal.invariant-loop-done

@@ -1,7 +1,4 @@
-use Rattle.std.proofs.Common.{rules, ◌/◌, arith, subst}
-use Rattle.std.proofs.Math.Nat.{one-le-pow}
-use Rattle.std.specs.Fmt.{decimal}
-use Rattle.std.specs.Str.{IsAscii}
+use Rattle.dl_report.proofs.Common.{rules, ◌/◌, arith, subst, one-le-pow, decimal, IsAscii}
 use Rattle.dl_report.proofs.Ascii.{with_digits_ascii}
 use Rattle.dl_report.proofs.ends.push_number.Goals as goal
 

@@ -1,5 +1,4 @@
-use Rattle.std.proofs.Common.{codes}
-use Rattle.std.proofs.lemmas.List.{append_cancel_left}
+use Rattle.dl_report.proofs.Common.{codes, append_cancel_left}
 use Rattle.dl_report.proofs.RowLaws.{records_told}
 use Rattle.dl_report.proofs.law.law_csv_tells_rows.Goals as goal
 

@@ -1,6 +1,4 @@
-use Rattle.std.proofs.Common.{◌≡◌, take}
-use Rattle.std.specs.List.{flat_map}
-use Rattle.dl_report.specs.Lines.{line}
+use Rattle.dl_report.proofs.Common.{◌≡◌, take, flat_map, line}
 use Rattle.dl_report.proofs.lines.text.Given as goal
 
 abbrev pub invariant-loop-row : goal.invariant-loop-row

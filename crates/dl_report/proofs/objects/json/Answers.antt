@@ -1,12 +1,7 @@
-use Rattle.std.proofs.Common.{◌≡◌, ◌∙◌, ◌++◌, ◌<◌, List, ℕ, rules, ap, subst, sym, map, take, get_or, length, codes}
+use Rattle.dl_report.proofs.Common.{◌≡◌, ◌∙◌, ◌++◌, ◌<◌, List, ℕ, rules, ap, subst, sym, map, take, get_or, length, codes, IsUtf8, items_of, view, compact_text, has_float, fraction_text, report_data, row_data, Row}
 use Rattle.std.proofs.lemmas.List.{take_all}
 use Rattle.std.proofs.lemmas.List.Elements.{All-get_or}
-use Rattle.std.specs.Str.{IsUtf8}
-use Rattle.serde_json.specs.View.{items_of, items_view, view}
-use Rattle.serde_json.specs.Written.{compact_text, has_float}
-use Rattle.dl_report.specs.Objects.{fraction_text}
-use Rattle.dl_report.specs.Values.{report_data, row_data}
-use Rattle.dl_report.specs.declared.report.Row.{Row}
+use Rattle.serde_json.specs.View.{items_view}
 use Rattle.dl_report.proofs.JsonObjects.{no_float, report_text}
 use Rattle.dl_report.proofs.objects.json.Goals as goal
 

@@ -1,6 +1,4 @@
-use Rattle.std.proofs.Common.{◌≡◌, map, take}
-use Rattle.serde_json.specs.View.{view}
-use Rattle.dl_report.specs.Values.{row_data}
+use Rattle.dl_report.proofs.Common.{◌≡◌, map, take, view, row_data}
 use Rattle.dl_report.proofs.objects.json.Given as goal
 
 abbrev pub invariant-loop-row : goal.invariant-loop-row

@@ -1,7 +1,5 @@
-use Rattle.std.proofs.Common.{◌≡◌, ◌≢◌, ◌∙◌, ◌++◌, ap, subst, sym, codes, List, ℕ}
+use Rattle.dl_report.proofs.Common.{◌≡◌, ◌≢◌, ◌∙◌, ◌++◌, ap, subst, sym, codes, List, ℕ, decimal, IsAscii}
 use Rattle.std.proofs.lemmas.Result.{on_ok_weaker}
-use Rattle.std.specs.Fmt.{decimal}
-use Rattle.std.specs.Str.{IsAscii}
 use Rattle.dl_report.proofs.Fractions.{whole_text, parts_ascii, parts_behind}
 use Rattle.dl_report.proofs.objects.push_fraction.Goals as goal
 

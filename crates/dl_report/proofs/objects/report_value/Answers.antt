@@ -1,7 +1,4 @@
-use Rattle.std.proofs.Common.{◌++◌, ◌∙◌, ap, subst, sym}
-use Rattle.std.proofs.lemmas.Str.{IsUtf8-from_ascii}
-use Rattle.std.specs.Str.{IsUtf8}
-use Rattle.dl_report.specs.Objects.{fraction_text}
+use Rattle.dl_report.proofs.Common.{◌++◌, ◌∙◌, ap, subst, sym, IsUtf8-from_ascii, IsUtf8, fraction_text}
 use Rattle.dl_report.proofs.objects.report_value.Goals as goal
 
 pub as_text-requires : goal.as_text-requires

@@ -1,5 +1,4 @@
-use Rattle.std.proofs.Common.{subst, sym}
-use Rattle.std.specs.Str.{IsUtf8}
+use Rattle.dl_report.proofs.Common.{subst, sym, IsUtf8}
 use Rattle.dl_report.proofs.objects.row_value.Goals as goal
 
 pub as_text-requires : goal.as_text-requires

@@ -1,12 +1,9 @@
-use Rattle.std.proofs.Common.{◌≡◌, ◌∙◌, ◌++◌, ◌+◌, ◌<◌, ℕ, List, [], ◌∷◌, sym, ap, ap₂, subst, length, take, get_or, codes, add-one}
+use Rattle.dl_report.proofs.Common.{◌≡◌, ◌∙◌, ◌++◌, ◌+◌, ◌<◌, ℕ, List, [], ◌∷◌, sym, ap, ap₂, subst, length, take, get_or, codes, flat_map, row_record, HasWritten, Row}
+use Rattle.std.proofs.Common.{add-one}
 use Rattle.std.specs.Prelude.{Vec}
 use Rattle.std.specs.declared.alloc.Global.{Global}
-use Rattle.std.specs.List.{flat_map}
 use Rattle.std.proofs.Math.Seq.{take-suc}
 use Rattle.std.proofs.lemmas.List.{flat_map_more}
-use Rattle.dl_report.specs.Records.{row_record}
-use Rattle.dl_report.specs.Writing.{HasWritten}
-use Rattle.dl_report.specs.declared.report.Row.{Row}
 use Rattle.dl_report.proofs.records.csv.Goals as goal
 
 -- one more row

@@ -1,7 +1,5 @@
-use Rattle.std.proofs.Common.{◌≡◌, ◌++◌, ℕ, List, refl, subst}
+use Rattle.dl_report.proofs.Common.{◌≡◌, ◌++◌, ℕ, List, refl, subst, record_text, row_record, HasWritten}
 use Rattle.std.specs.Prelude.{OnOk}
-use Rattle.dl_report.specs.Records.{record_text, row_record}
-use Rattle.dl_report.specs.Writing.{HasWritten}
 use Rattle.dl_report.proofs.records.write_row.Goals as goal
 
 pub returns : goal.returns

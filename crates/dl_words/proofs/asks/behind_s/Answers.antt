@@ -1,5 +1,5 @@
 -- The one byte is an `s`.
-use Rattle.std.proofs.Common.{arith}
+use Rattle.dl_words.proofs.Common.{arith}
 use Rattle.std.proofs.lemmas.Str.Pattern.{strip_prefix_char}
 use Rattle.dl_words.proofs.Cuts.{behind_is}
 use Rattle.dl_words.proofs.asks.behind_s.Goals as goal

@@ -1,6 +1,5 @@
 -- One more text.
-use Rattle.std.proofs.Common.{◌∙◌, ◌++◌, ◌∷◌, [], Ok, sym, ap}
-use Rattle.dl_words.specs.Asks.{asks_of}
+use Rattle.dl_words.proofs.Common.{◌∙◌, ◌++◌, ◌∷◌, [], Ok, sym, ap, asks_of}
 use Rattle.dl_words.proofs.AskLists.{lent_ask, lent_misfit}
 use Rattle.dl_words.proofs.asks.read_asks.Goals as goal
 

@@ -1,6 +1,5 @@
 -- The texts so far are asks.
-use Rattle.std.proofs.Common.{◌≡◌, Ok, map, take}
-use Rattle.dl_words.specs.Asks.{asks_of}
+use Rattle.dl_words.proofs.Common.{◌≡◌, Ok, map, take, asks_of}
 use Rattle.dl_words.proofs.asks.read_asks.Given as goal
 
 abbrev pub invariant-loop-index : goal.invariant-loop-index

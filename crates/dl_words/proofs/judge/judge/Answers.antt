@@ -1,15 +1,5 @@
 -- The tests of the answer, in the order of the code.
-use Rattle.std.proofs.Common.{◌∙◌, refl, sym, ap, subst, Ok}
-use Rattle.std.specs.Prelude.{◌&&◌}
-use Rattle.std.specs.List.{list_all}
-use Rattle.clap.specs.Matches.{found_of}
-use Rattle.dl_plan.specs.declared.settings.Settings.{Settings}
-use Rattle.dl_words.specs.Asks.{asks_of}
-use Rattle.dl_words.specs.Faults.{ExplainsAsks}
-use Rattle.dl_words.specs.Found.{answer_in, asks_in, values_in}
-use Rattle.dl_words.specs.Options.{are_taken}
-use Rattle.dl_words.specs.Spelling.{begins_plainly}
-use Rattle.dl_words.specs.Words.{admits, with_asks}
+use Rattle.dl_words.proofs.Common.{◌∙◌, refl, sym, ap, subst, Ok, ◌&&◌, list_all, found_of, Settings, asks_of, ExplainsAsks, answer_in, asks_in, values_in, are_taken, begins_plainly, admits, with_asks}
 use Rattle.dl_words.proofs.Judged.{all_three, asks_no_line, explained, fitting_found, here, later, misfit_found, plain_found, texts_found}
 use Rattle.dl_words.proofs.judge.judge.Goals as goal
 use Rattle.dl_words.proofs.judge.judge.Goals.{then-not-begin_plainly-via-then-not-begin_plainly, then-not-begin_plainly-via-else-not-begin_plainly+then-not-admits}

@@ -1,23 +1,13 @@
 -- What `clap` refuses is a misfit of the command, and what it finds is what the parts say.
-use Rattle.std.proofs.Common.{◌≡◌, ◌⊎◌, ◌∙◌, Err, Result, inl, inr, sym, ap, subst, map, List, [], ◌∷◌}
+use Rattle.dl_words.proofs.Common.{◌≡◌, ◌∙◌, Err, Result, inl, inr, sym, ap, subst, map, List, [], ◌∷◌, fault_of, is_simple_and_free, Kinds, found_of, App, is_simple, matches_of, rows_of, command, Settings, UsageFault, Line, WordsFault, Explains, answer_in, Text, words_of}
+use Rattle.std.proofs.Common.{◌⊎◌}
 use Rattle.std.specs.String.{string_bytes}
 use Rattle.std.proofs.lemmas.Result.{IfErr-weaker, IfOk-weaker}
-use Rattle.clap.specs.Faults.{fault_of, is_simple_and_free}
-use Rattle.clap.specs.Kinds.{HasKind, IsAmong, Kinds}
-use Rattle.clap.specs.Matches.{found_of}
-use Rattle.clap.specs.Simple.{App, app_of, is_simple, matches_of}
-use Rattle.clap.specs.Walk.{rows_of}
-use Rattle.dl_words.specs.Command.{command}
+use Rattle.clap.specs.Kinds.{HasKind, IsAmong}
+use Rattle.clap.specs.Simple.{app_of}
 use Rattle.clap.specs.declared.error.kind.ErrorKind.{ErrorKind}
 use Rattle.clap.specs.declared.error.kind.ErrorKind.TheVariants as refusals
-use Rattle.dl_plan.specs.declared.settings.Settings.{Settings}
-use Rattle.dl_words.specs.declared.fault.UsageFault.{UsageFault}
-use Rattle.dl_words.specs.declared.fault.UsageFault.TheVariants.{Line}
-use Rattle.dl_words.specs.declared.fault.WordsFault.{WordsFault}
-use Rattle.dl_words.specs.Faults.{Explains, TellsRefusal}
-use Rattle.dl_words.specs.Found.{answer_in}
-use Rattle.dl_words.specs.Spelling.{Text}
-use Rattle.dl_words.specs.Words.{words_of}
+use Rattle.dl_words.specs.Faults.{TellsRefusal}
 use Rattle.dl_words.proofs.Judged.{given, refused}
 use Rattle.dl_words.proofs.Shapes.{simple_command_is, simple_is}
 use Rattle.dl_words.proofs.Simulation.{Fails}

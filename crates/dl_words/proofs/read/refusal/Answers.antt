@@ -1,5 +1,5 @@
 -- Want of memory is told as such, and nothing else is.
-use Rattle.std.proofs.Common.{inl, inr, refl}
+use Rattle.dl_words.proofs.Common.{inl, inr, refl}
 use Rattle.dl_words.proofs.read.refusal.Goals as goal
 
 pub returns-in-OutOfMemory : goal.returns-in-OutOfMemory

@@ -1,7 +1,5 @@
 -- The numeral's own test is the one of the words.
-use Rattle.std.proofs.Common.{rules, ◌≡◌, ◌∙◌, true, false, refl, sym, ap, subst}
-use Rattle.dl_frac.specs.Numerals.{IsNumeral, is_bad}
-use Rattle.dl_words.specs.Spelling.{is_numeral}
+use Rattle.dl_words.proofs.Common.{rules, ◌≡◌, ◌∙◌, true, false, refl, sym, ap, subst, IsNumeral, is_bad, is_numeral}
 use Rattle.dl_words.proofs.Numerals.{not_passed, numeral_is}
 use Rattle.dl_words.proofs.spelling.fraction.Goals as goal
 
