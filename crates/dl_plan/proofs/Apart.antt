@@ -1,13 +1,6 @@
 -- Layers that do not overlap take, together, at most what there is.
-use Rattle.std.proofs.Common.{ℕ, zero, suc, ◌≡◌, ◌∙◌, ◌+◌, ◌*◌, ◌/◌, ◌≤◌, ◌⊎◌, max, List, [], ◌∷◌, Option, Some, None, true, false, refl, sym, ap, ap₂, subst, arith, inl, inr}
-use Rattle.std.specs.List.{All, AllPairs, sum_by}
-use Rattle.std.proofs.lemmas.Bool.{cases_lt}
-use Rattle.std.proofs.lemmas.List.Elements.{All-head, All-tail}
-use Rattle.std.proofs.lemmas.List.Sums.{sum_by-cons}
-use Rattle.dl_exact.specs.Fraction.{whole, ◌≤ℚ◌}
-use Rattle.dl_plan.specs.declared.cede.CedeLayer.{CedeLayer}
-use Rattle.dl_plan.specs.Clause.{Clause, layer, IsBelowTop, Overlap, IsClause}
-use Rattle.dl_plan.specs.Parts.{layer_parts, kept_parts}
+use Rattle.dl_plan.proofs.Common.{ℕ, zero, suc, ◌≡◌, ◌∙◌, ◌+◌, ◌*◌, ◌/◌, ◌≤◌, ◌⊎◌, max, List, [], ◌∷◌, Option, Some, None, true, false, refl, sym, ap, ap₂, subst, arith, inl, inr, All, AllPairs, sum_by, cases_lt, All-head, All-tail, sum_by-cons, whole, ◌≤ℚ◌, CedeLayer, Clause, layer, Overlap, IsClause, layer_parts, kept_parts}
+use Rattle.dl_plan.specs.Clause.{IsBelowTop}
 use Rattle.dl_plan.proofs.Clauses.{scaled_le}
 
 -- what of x lies in a layer

@@ -1,21 +1,15 @@
 -- What a clause cedes, over the common denominator of its shares.
-use Rattle.std.proofs.Common.{ℕ, ◌≡◌, ◌∙◌, ◌-◌, ◌*◌, ◌/◌, ◌%◌, ◌<◌, ◌≤◌, true, false, List, [], ◌∷◌, Option, Some, None, sym, ap, ap₂, subst, arith, mul-pos, mul-le-mul_right}
-use Rattle.std.specs.List.{All, sum_by}
-use Rattle.std.proofs.lemmas.List.Elements.{All-nil, All-cons, All-tail}
-use Rattle.std.proofs.lemmas.List.Sums.{sum_by-cons}
-use Rattle.std.proofs.Math.Nat.{div-mul-le_self, div-mul_cancel, div-add-mod}
+use Rattle.dl_plan.proofs.Common.{ℕ, ◌≡◌, ◌∙◌, ◌-◌, ◌*◌, ◌/◌, ◌<◌, ◌≤◌, true, false, List, [], ◌∷◌, Option, Some, None, sym, ap, ap₂, subst, arith, mul-pos, mul-le-mul_right, All, sum_by, All-nil, All-cons, All-tail, sum_by-cons, div-mul_cancel, ◌∣◌, gcd, Fraction, whole, ◌over◌, ◌-ℚ◌, ◌*ℚ◌, ◌≤ℚ◌, gcd_is, over_self, over_same, over_mul, over_sub, le_over, CedeLayer, Clause, layer, layer_shares, layer_parts, kept_parts, parts_in_bucket}
+use Rattle.std.proofs.Common.{◌%◌}
+use Rattle.std.proofs.Math.Nat.{div-mul-le_self, div-add-mod}
 use Rattle.std.proofs.lemmas.Nat.Gcd.{mod-eq-zero_of_dvd}
-use Prim.Native.Nat.{◌∣◌}
-use Rattle.dl_exact.specs.Gcd.{gcd}
-use Rattle.dl_exact.specs.Fraction.{Fraction, whole, ◌over◌, ◌+ℚ◌, ◌-ℚ◌, ◌*ℚ◌, ◌≤ℚ◌}
+use Rattle.dl_exact.specs.Fraction.{◌+ℚ◌}
 use Rattle.dl_exact.specs.Sum.{sum_over}
-use Rattle.dl_exact.proofs.GcdLaws.{gcd_is, cut_right}
-use Rattle.dl_exact.proofs.Over.{over_self, over_same, over_mul, over_sub, le_over, over_den}
-use Rattle.dl_plan.specs.declared.cede.CedeLayer.{CedeLayer}
+use Rattle.dl_exact.proofs.GcdLaws.{cut_right}
+use Rattle.dl_exact.proofs.Over.{over_den}
 use Rattle.dl_plan.specs.Fine.{IsWhole}
-use Rattle.dl_plan.specs.Clause.{Clause, layer, layer_shares, ceded, kept}
-use Rattle.dl_plan.specs.Parts.{layer_parts, kept_parts, parts_in_bucket}
-use Rattle.dl_plan.proofs.Common.{den_divides, common_from_pos}
+use Rattle.dl_plan.specs.Clause.{ceded, kept}
+use Rattle.dl_plan.proofs.CommonDenominators.{den_divides, common_from_pos}
 use Rattle.dl_exact.proofs.Denominators.{over_zero, over_plus}
 
 -- ---- one layer

@@ -1,7 +1,7 @@
 -- Fractions of small numbers are never refused.
-use Rattle.std.proofs.Common.{ℕ, ◌≡◌, ◌^◌, ◌<◌, Result, Ok, Err, IsOk, refl, subst, inl, inr, arith}
-use Rattle.dl_exact.specs.Fraction.{Fraction, ◌over◌}
-use Rattle.dl_frac.specs.Exact.{FitsFrac, Gives}
+use Rattle.dl_plan.proofs.Common.{ℕ, ◌≡◌, ◌^◌, ◌<◌, refl, subst, inl, inr, arith, Fraction, ◌over◌, FitsFrac}
+use Rattle.std.proofs.Common.{Result, Ok, Err, IsOk}
+use Rattle.dl_frac.specs.Exact.{Gives}
 use Rattle.dl_exact.proofs.Parts.{over_num_le, over_den_le}
 
 pub over_fits : (n d : ℕ) → 0 < d → n < 2 ^ 62 → d < 2 ^ 62 → FitsFrac (n over d)

@@ -1,19 +1,9 @@
 -- The horizon of a clause, over the common denominator of its shares.
-use Rattle.std.proofs.Common.{ℕ, refl, ◌≡◌, ◌∙◌, ◌+◌, ◌-◌, ◌*◌, ◌<◌, ◌≤◌, max, fold, List, [], ◌∷◌, Option, Some, None, sym, ap, subst, arith, inl, inr}
-use Rattle.std.specs.List.{All}
-use Rattle.std.specs.Prelude.{IfSome}
-use Rattle.std.specs.Int.{div_ceil}
+use Rattle.dl_plan.proofs.Common.{ℕ, refl, ◌≡◌, ◌∙◌, ◌+◌, ◌-◌, ◌*◌, ◌<◌, ◌≤◌, max, fold, List, [], ◌∷◌, Option, Some, None, sym, ap, subst, arith, inl, inr, All, IfSome, div_ceil, cases_lt, All-nil, All-cons, whole, ◌over◌, ◌≤ℚ◌, over_le, le_over, CedeLayer, Clause, IsClause, edge_of, edge, last_edge, IsHorizon, kept_parts, parts_in_bucket}
 use Rattle.std.proofs.Math.Nat.{le-max_left, le-max_right}
-use Rattle.std.proofs.lemmas.Bool.{cases_lt}
 use Rattle.std.proofs.lemmas.Bool.Decides.{eqb_tells}
-use Rattle.std.proofs.lemmas.List.Elements.{All-nil, All-cons}
-use Rattle.dl_exact.specs.Fraction.{whole, ◌over◌, ◌≤ℚ◌}
-use Rattle.dl_exact.proofs.Over.{over_le, le_over}
 use Rattle.dl_exact.proofs.Denominators.{same_num}
-use Rattle.dl_plan.specs.declared.cede.CedeLayer.{CedeLayer}
-use Rattle.dl_plan.specs.Clause.{Clause, IsClause}
-use Rattle.dl_plan.specs.Horizon.{edge_of, edge, last_edge, IsSettled, IsReach, IsHorizon, IsHorizonOf, buckets_behind, horizon}
-use Rattle.dl_plan.specs.Parts.{kept_parts, parts_in_bucket}
+use Rattle.dl_plan.specs.Horizon.{IsSettled, IsReach, IsHorizonOf, buckets_behind, horizon}
 use Rattle.dl_plan.proofs.Clauses.{bucket_pos, kept_is}
 use Rattle.dl_plan.proofs.Apart.{kept_rises}
 use Rattle.dl_plan.proofs.Straight.{IsClear, kept_straight}

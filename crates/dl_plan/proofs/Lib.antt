@@ -1,5 +1,6 @@
+mod Common
 pub mod Fits
-pub mod Common
+pub mod CommonDenominators
 pub mod Clauses
 pub mod Apart
 pub mod Straight
@@ -11,3 +12,4 @@ pub mod Means
 pub mod Positive
 pub mod NumeralLaws
 pub mod PlainBytes
+pub mod Buckets

@@ -1,22 +1,11 @@
 -- Expected counts and means, as fractions.
-use Rattle.std.proofs.Common.{ℕ, zero, suc, ◌≡◌, ◌∙◌, ◌+◌, ◌*◌, ◌-◌, ◌<◌, ◌≤◌, List, [], ◌∷◌, length, get_or, cond, ◌==◌, refl, sym, ap, ap₂, subst, arith}
-use Rattle.std.specs.List.{All}
-use Rattle.std.specs.List.Sorted.{IsStrictlyIncreasing}
+use Rattle.dl_plan.proofs.Common.{ℕ, zero, suc, ◌≡◌, ◌∙◌, ◌+◌, ◌*◌, ◌-◌, ◌<◌, ◌≤◌, List, [], ◌∷◌, length, get_or, cond, ◌==◌, refl, sym, ap, ap₂, subst, arith, All, IsStrictlyIncreasing, All-head, All-tail, All-cons, sum_by-cons, Fraction, whole, ◌over◌, ◌*ℚ◌, ◌-ℚ◌, over_self, over_same, over_mul, over_sub, FitsFrac, Item, Sev, amounts_of, weight_sum, weight_at, weighted_sum, IsWeighted, pairs_of, mean_amount}
 use Rattle.std.proofs.lemmas.List.Kept.{AllPairs-from_increasing}
-use Rattle.std.proofs.lemmas.List.Elements.{All-head, All-tail, All-cons}
-use Rattle.std.proofs.lemmas.List.Sums.{sum_by-cons}
-use Rattle.dl_exact.specs.Fraction.{Fraction, whole, ◌over◌, ◌*ℚ◌, ◌-ℚ◌}
-use Rattle.dl_exact.proofs.Over.{over_self, over_same, over_mul, over_sub}
-use Rattle.dl_frac.specs.Exact.{FitsFrac}
-use Rattle.dl_plan.specs.declared.item.Item.{Item}
-use Rattle.dl_plan.specs.declared.severity.Sev.{Sev}
-use Rattle.dl_plan.specs.Fine.{IsAdmitted}
-use Rattle.dl_plan.specs.Weighted.{amounts_of, weight_sum, weight_at, weighted_sum, IsWeighted}
-use Rattle.dl_plan.specs.Severity.{pairs_of, mean_amount}
+use Rattle.dl_plan.specs.Fine.{HasPartsOf48Bits}
 use Rattle.dl_plan.proofs.Weights.{weight_sum_pos}
 use Rattle.dl_plan.proofs.Shares.{mean-shares}
 
-pub admitted_fits : (x : Fraction) → IsAdmitted x → FitsFrac x
+pub admitted_fits : (x : Fraction) → HasPartsOf48Bits x → FitsFrac x
 admitted_fits x h = record { num = omega (arith, h.num); den = omega (arith, h.den) }
 
 pub total_pos : (items : List Item) (total : ℕ) → IsWeighted items total → 0 < total

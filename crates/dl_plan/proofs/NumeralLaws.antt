@@ -1,5 +1,5 @@
 -- The two spellings of a numeral are one.
-use Rattle.std.proofs.Common.{ℕ, ◌≡◌, List, [], ◌∷◌, IsTrue, refl, sym, subst, arith}
+use Rattle.dl_plan.proofs.Common.{ℕ, ◌≡◌, List, [], ◌∷◌, IsTrue, refl, sym, subst, arith}
 use Rattle.std.proofs.Math.Path.{fun_ext}
 use Rattle.std.specs.List.{list_all}
 use Rattle.std.specs.Char.{is_ascii_digit}

@@ -1,5 +1,5 @@
 -- Which bytes are plain.
-use Rattle.std.proofs.Common.{ℕ, ◌<◌, ◌≤◌, arith}
+use Rattle.dl_plan.proofs.Common.{ℕ, ◌<◌, ◌≤◌, arith}
 use Rattle.dl_plan.specs.Plain.{IsPlainByte}
 
 -- a byte from `-` to below the backslash

@@ -1,15 +1,10 @@
 -- A severity without amount 0.
-use Rattle.std.proofs.Common.{ℕ, ◌≡◌, ◌<◌, ◌≤◌, get_or, arith, ap, inl, inr}
+use Rattle.dl_plan.proofs.Common.{ℕ, ◌≡◌, ◌<◌, ◌≤◌, get_or, arith, ap, inl, inr, cases_lt, whole, le_over, Item, Sev, weight_at}
 use Rattle.std.specs.Prelude.{All, if◌then◌else◌, ◌==◌}
-use Rattle.std.proofs.lemmas.Bool.{cases_lt, eq-eqb}
+use Rattle.std.proofs.lemmas.Bool.{eq-eqb}
 use Rattle.std.proofs.lemmas.List.Sums.{get_or-le-sum_by}
-use Rattle.dl_exact.specs.Fraction.{whole}
-use Rattle.dl_exact.proofs.Over.{le_over}
 use Rattle.dl_exact.proofs.Laws.{one_pos, le_of_eq}
-use Rattle.dl_plan.specs.declared.item.Item.{Item}
-use Rattle.dl_plan.specs.declared.severity.Sev.{Sev}
 use Rattle.dl_plan.specs.Severity.{probability_of}
-use Rattle.dl_plan.specs.Weighted.{weight_at}
 use Rattle.dl_plan.proofs.Means.{severity_total}
 
 pub zero_weight : (sev : Sev) → probability_of sev 0 ≡ whole 0 → weight_at sev.items 0 ≡ 0

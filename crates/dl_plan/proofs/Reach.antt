@@ -1,8 +1,6 @@
 -- The least number at which a map is settled: one that never falls, and is a straight line from some number on.
-use Rattle.std.proofs.Common.{ℕ, zero, suc, ◌≡◌, ◌∙◌, ◌+◌, ◌-◌, ◌*◌, ◌<◌, ◌≤◌, ◌⊎◌, max, refl, sym, ap, subst, arith, inl, inr}
-use Rattle.std.specs.Int.{div_ceil}
+use Rattle.dl_plan.proofs.Common.{ℕ, zero, suc, ◌≡◌, ◌∙◌, ◌+◌, ◌-◌, ◌*◌, ◌<◌, ◌≤◌, ◌⊎◌, max, refl, sym, ap, subst, arith, inl, inr, div_ceil, cases_lt}
 use Rattle.std.proofs.Math.Nat.{max-eq_left}
-use Rattle.std.proofs.lemmas.Bool.{cases_lt}
 use Rattle.std.proofs.lemmas.Grind.{div_ceil_times}
 use Rattle.dl_exact.proofs.RoundingLaws.{div_ceil_least}
 

@@ -1,14 +1,11 @@
 -- What whole weights mean, and the conditioning on large amounts.
-use Rattle.std.proofs.Common.{ℕ, suc, ◌≡◌, ◌∙◌, ◌*◌, ◌<◌, ◌≤◌, List, [], ◌∷◌, length, map, cond, not, nat_lt, ◌==◌, filter, refl, ap, arith, mul-pos, inl, inr}
-use Rattle.std.proofs.lemmas.Bool.{cases_lt, lt-ltb, le-ltb}
-use Rattle.std.specs.List.{All}
-use Rattle.std.proofs.lemmas.List.Elements.{All-cons, All-nil}
+use Rattle.dl_plan.proofs.Common.{ℕ, suc, ◌≡◌, ◌∙◌, ◌*◌, ◌<◌, ◌≤◌, List, [], ◌∷◌, length, map, cond, nat_lt, ◌==◌, refl, ap, arith, mul-pos, inl, inr, cases_lt, All, All-cons, All-nil, Fraction, whole, ◌over◌, ◌*ℚ◌, over_same, Item, amounts_of, weight_sum, weight_at, weighted_sum, probability, mean_amount, conditioned, shares}
+use Rattle.std.proofs.Common.{not, filter}
+use Rattle.std.proofs.lemmas.Bool.{lt-ltb, le-ltb}
 use Rattle.std.proofs.lemmas.List.Filters.{sum_by-filter_both}
-use Rattle.dl_exact.specs.Fraction.{Fraction, whole, ◌over◌, ◌*ℚ◌, ◌/ℚ◌}
-use Rattle.dl_exact.proofs.Over.{over_same, over_div}
-use Rattle.dl_plan.specs.declared.item.Item.{Item}
-use Rattle.dl_plan.specs.Weighted.{amounts_of, weight_sum, weight_at, weighted_sum}
-use Rattle.dl_plan.specs.Severity.{Pairs, probability, mass, mean_amount, conditioned, shares}
+use Rattle.dl_exact.specs.Fraction.{◌/ℚ◌}
+use Rattle.dl_exact.proofs.Over.{over_div}
+use Rattle.dl_plan.specs.Severity.{Pairs, mass}
 use Rattle.dl_exact.proofs.SumsOver.{sum_over_common, if_over}
 use Rattle.dl_exact.proofs.Sums.{sum_over_map, sum_over_same}
 use Rattle.dl_exact.proofs.Denominators.{over_times}

@@ -1,12 +1,5 @@
 -- Between the ends of its layers, what a clause keeps is a straight line.
-use Rattle.std.proofs.Common.{ℕ, ◌≡◌, ◌+◌, ◌*◌, ◌/◌, ◌≤◌, ◌⊎◌, List, [], ◌∷◌, Option, Some, None, true, false, refl, ap, arith, inl, inr}
-use Rattle.std.specs.List.{All, sum_by}
-use Rattle.std.proofs.lemmas.List.Elements.{All-head, All-tail}
-use Rattle.std.proofs.lemmas.List.Sums.{sum_by-cons}
-use Rattle.dl_plan.specs.declared.cede.CedeLayer.{CedeLayer}
-use Rattle.dl_plan.specs.Clause.{Clause, layer, IsClause}
-use Rattle.dl_plan.specs.Horizon.{edge_of, edge}
-use Rattle.dl_plan.specs.Parts.{layer_parts, kept_parts}
+use Rattle.dl_plan.proofs.Common.{ℕ, ◌≡◌, ◌+◌, ◌*◌, ◌/◌, ◌≤◌, ◌⊎◌, List, [], ◌∷◌, Option, Some, None, true, false, refl, ap, arith, inl, inr, All, sum_by, All-head, All-tail, sum_by-cons, CedeLayer, Clause, layer, IsClause, edge_of, edge, layer_parts, kept_parts}
 use Rattle.dl_plan.proofs.Apart.{ceded_le}
 
 -- b is not between x and y

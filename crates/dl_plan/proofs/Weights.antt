@@ -1,21 +1,12 @@
 -- Lists of weights and their greatest common divisor.
-use Rattle.std.proofs.Common.{ℕ, ◌≡◌, ◌∙◌, ◌*◌, ◌/◌, ◌<◌, ◌≤◌, ◌^◌, List, [], ◌∷◌, length, map, fold, Bool, true, false, cond, ◌==◌, refl, sym, ap, ap₂, subst, arith, inl, inr, ◌++◌, suc, zero, ◌+◌, max, get_or, take, add-one}
-use Rattle.std.proofs.Math.Nat.{div-mul_cancel, mul-div_cancel, pos_of_dvd_of_pos, eq_of_mul-eq-mul_right, div-le_self}
-use Prim.Native.Nat.{◌∣◌}
-use Rattle.std.proofs.lemmas.Bool.{cases_lt}
-use Rattle.std.proofs.lemmas.Nat.Gcd.{dvd_trans, dvd_refl}
-use Rattle.std.specs.List.{All}
-use Rattle.std.specs.List.Sorted.{IsStrictlyIncreasing}
+use Rattle.dl_plan.proofs.Common.{ℕ, ◌≡◌, ◌∙◌, ◌*◌, ◌/◌, ◌<◌, ◌≤◌, ◌^◌, List, [], ◌∷◌, length, map, fold, true, false, cond, ◌==◌, refl, sym, ap, ap₂, subst, arith, inl, inr, ◌++◌, suc, zero, ◌+◌, max, get_or, take, div-mul_cancel, ◌∣◌, cases_lt, dvd_trans, dvd_refl, All, IsStrictlyIncreasing, All-cons, All-nil, All-tail, sum_by-cons, gcd, ◌over◌, gcd_is, over_same, Item, amounts_of, weight_sum, weight_at, common_weight, divided_by, IsWeighted, greatest}
+use Rattle.std.proofs.Common.{Bool, add-one}
+use Rattle.std.proofs.Math.Nat.{mul-div_cancel, pos_of_dvd_of_pos, eq_of_mul-eq-mul_right, div-le_self}
 use Rattle.std.proofs.lemmas.List.{length-map}
 use Rattle.std.proofs.lemmas.Simd.{map-map}
-use Rattle.std.proofs.lemmas.List.Elements.{All-cons, All-nil, All-tail}
-use Rattle.std.proofs.lemmas.List.Sums.{sum_by-cons}
-use Rattle.dl_exact.specs.Gcd.{gcd, euclid}
-use Rattle.dl_exact.specs.Fraction.{◌over◌}
-use Rattle.dl_exact.proofs.GcdLaws.{gcd_is, gcd-scale}
-use Rattle.dl_exact.proofs.Over.{over_same, pos_of_mul}
-use Rattle.dl_plan.specs.declared.item.Item.{Item}
-use Rattle.dl_plan.specs.Weighted.{amounts_of, weight_sum, weight_at, common_weight, divided_by, IsWeighted, greatest}
+use Rattle.dl_exact.specs.Gcd.{euclid}
+use Rattle.dl_exact.proofs.GcdLaws.{gcd-scale}
+use Rattle.dl_exact.proofs.Over.{pos_of_mul}
 
 le_zero : {n : ℕ} → n ≤ 0 → n ≡ 0
 le_zero h = omega (arith, h)

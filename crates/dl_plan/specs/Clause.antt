@@ -5,7 +5,7 @@ use Rattle.dl_exact.specs.Fraction.{Fraction, whole, ◌-ℚ◌, ◌*ℚ◌, ◌
 use Rattle.dl_exact.specs.Sum.{sum_over}
 use Rattle.dl_plan.specs.declared.cede.CedeLayer.{CedeLayer}
 use Rattle.std.specs.Option.{SomeIff}
-use Rattle.dl_plan.specs.Fine.{IsFine, common_denominator}
+use Rattle.dl_plan.specs.Fine.{IsFineTo30Bits, common_denominator}
 
 -- what of x lies above the attachment a and within the limit, if there is one
 abbrev pub layer : Option ℕ → ℕ → ℕ → ℕ
@@ -22,7 +22,7 @@ layer_shares layers = map (λ l. l.share) layers
 -- the common denominator of the shares, where they are fine
 abbrev pub IsCommonShare : List CedeLayer → Option ℕ → Type 0
 IsCommonShare layers common =
-    SomeIff common (IsFine (layer_shares layers)) (common_denominator (layer_shares layers))
+    SomeIff common (IsFineTo30Bits (layer_shares layers)) (common_denominator (layer_shares layers))
 
 -- a side, and layers with their shares
 abbrev pub Clause : Type 0
@@ -49,4 +49,4 @@ pub record IsClause (clause : Clause) : Type 0 where
   pub few : length clause.1 ≤ most_layers
   pub apart : AllPairs (λ l m. ¬ Overlap l m) clause.1
   pub within : All (λ l. l.share ≤ℚ whole 1) clause.1
-  pub fine : IsFine (layer_shares clause.1)
+  pub fine : IsFineTo30Bits (layer_shares clause.1)

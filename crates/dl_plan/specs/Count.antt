@@ -4,7 +4,7 @@ use Rattle.dl_limits.specs.Limits.{most_claims, most_count, most_shape}
 use Rattle.dl_exact.specs.Fraction.{Fraction, whole, ◌over◌, ◌*ℚ◌, ◌≤ℚ◌}
 use Rattle.dl_plan.specs.declared.plan.Freq.{Freq}
 use Rattle.dl_plan.specs.declared.plan.Freq.TheVariants.{Fixed, Table, Bernoulli, Binomial, Poisson, Gamma}
-use Rattle.dl_plan.specs.Fine.{IsAdmitted}
+use Rattle.dl_plan.specs.Fine.{HasPartsOf48Bits}
 use Rattle.dl_plan.specs.Weighted.{IsWeighted, weighted_sum}
 
 -- the expected number of claims
@@ -28,7 +28,7 @@ IsUnbounded (Gamma shape mean) = ⊤
 -- at most 1, with both parts below 2^48
 pub record IsProbability (q : Fraction) : Type 0 where
   pub within : q ≤ℚ whole 1
-  pub admitted : IsAdmitted q
+  pub admitted : HasPartsOf48Bits q
 
 -- a listed count is made like a severity, with numbers of at most 256; fixed counts and trials are
 -- at most 65,536; a shape is from 1 to 10,000

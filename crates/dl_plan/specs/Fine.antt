@@ -8,16 +8,16 @@ use Rattle.dl_exact.specs.Multiples.{lcm}
 abbrev pub common_denominator : List Fraction → ℕ
 common_denominator xs = fold (λ m x. lcm m x.den) 1 xs
 
--- fine: their common denominator is at most 2^30
-abbrev pub IsFine : List Fraction → Type 0
-IsFine xs = common_denominator xs ≤ most_parts
+-- fine to 30 bits: their common denominator is at most 2^30
+abbrev pub IsFineTo30Bits : List Fraction → Type 0
+IsFineTo30Bits xs = common_denominator xs ≤ most_parts
 
 -- x as a number of parts of which c make 1: its numerator over c, a multiple of its denominator
 abbrev pub numerator_over : (c : ℕ) → Fraction → ℕ
 numerator_over c x = x.num * (c / x.den)
 
--- admitted: both parts are below 2^48
-pub record IsAdmitted (x : Fraction) : Type 0 where
+-- both parts are below 2^48
+pub record HasPartsOf48Bits (x : Fraction) : Type 0 where
   pub num : x.num < admitted_bound
   pub den : x.den < admitted_bound
 

@@ -6,7 +6,7 @@ use Rattle.dl_plan.specs.declared.cede.CedeLayer.{CedeLayer}
 use Rattle.dl_plan.specs.declared.severity.Sev.{Sev}
 use Rattle.dl_plan.specs.declared.plan.Unit.{Unit as UnitOfPlan}
 use Rattle.dl_plan.specs.declared.plan.Plan.{Plan}
-use Rattle.dl_plan.specs.Fine.{IsAdmitted, IsWhole}
+use Rattle.dl_plan.specs.Fine.{HasPartsOf48Bits, IsWhole}
 use Rattle.dl_plan.specs.Weighted.{common_amount}
 use Rattle.dl_plan.specs.Severity.{mean_amount, pairs_of, probability_of}
 use Rattle.dl_plan.specs.Clause.{Clause, kept, IsClause}
@@ -40,8 +40,8 @@ pub record IsValidUnit (cells : ℕ) (u : UnitOfPlan) : Type 0 where
   pub amounts : All (λ item. item.amount ≤ most_amount) u.sev.items
   pub items : ¬ IsUnbounded u.freq → length u.sev.items ≤ most_items
   pub count : IsClaimCount u.freq
-  pub expected : IsAdmitted (expected_count u.freq)
-  pub thinned : IsUnbounded u.freq → IsAdmitted (thinned_mean u)
+  pub expected : HasPartsOf48Bits (expected_count u.freq)
+  pub thinned : IsUnbounded u.freq → HasPartsOf48Bits (thinned_mean u)
       × (thinned_mean u ≤ℚ whole most_expected)
   pub clause : IfSome u.cede (IsAggregate cells u.sev)
 

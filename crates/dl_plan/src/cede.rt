@@ -4,7 +4,7 @@ ghost use Rattle.std.specs.Prelude.{◌≡◌, ◌<◌, ◌≤◌, ◌^◌, ◌*
 ghost use Rattle.dl_limits.specs.Limits.{most_layers, most_parts, sum_bound};
 ghost use Rattle.dl_exact.specs.Fraction.{whole, ◌≤ℚ◌};
 ghost use Rattle.dl_plan.specs.declared.cede.CedeLayer.{CedeLayer};
-ghost use Rattle.dl_plan.specs.Fine.{IsFine, IsWhole, common_denominator};
+ghost use Rattle.dl_plan.specs.Fine.{IsFineTo30Bits, IsWhole, common_denominator};
 ghost use Rattle.dl_plan.specs.Clause.{layer, kept, layer_shares, IsBelowTop, Overlap, IsClause};
 ghost use Rattle.dl_plan.specs.Horizon.{edge, edge_of, last_edge, IsHorizon};
 ghost use Rattle.dl_plan.specs.Parts.{layer_parts, kept_parts, parts_in_bucket};

@@ -2,14 +2,14 @@
 
 ghost use Rattle.std.specs.Option.{SomeIff};
 ghost use Rattle.std.specs.Prelude.{◌≡◌};
-ghost use Rattle.dl_plan.specs.Fine.{IsFine, common_denominator, numerator_over};
+ghost use Rattle.dl_plan.specs.Fine.{IsFineTo30Bits, common_denominator, numerator_over};
 
 use dl_frac::{Frac, lcm_to};
 use dl_limits::MOST_PARTS;
 
 /// The common denominator of the fractions; `None` exactly where it passes 2^30. Takes no memory.
 pub fn common_denominator_of(fracs: &[Frac]) -> Option<u32>
-    ensures { SomeIff result (IsFine fracs.now) (common_denominator fracs.now) }
+    ensures { SomeIff result (IsFineTo30Bits fracs.now) (common_denominator fracs.now) }
 {
     let mut common = 1;
     'fracs: for frac in fracs {

@@ -3,7 +3,7 @@
 ghost use Rattle.std.specs.Prelude.{ℕ, ◌≡◌, ◌≤◌, ◌^◌, ◌↔◌, Option, List, All, IfSome};
 ghost use Rattle.dl_limits.specs.Limits.{most_amount};
 ghost use Rattle.dl_plan.specs.declared.plan.Plan.{Plan};
-ghost use Rattle.dl_plan.specs.Fine.{IsAdmitted};
+ghost use Rattle.dl_plan.specs.Fine.{HasPartsOf48Bits};
 ghost use Rattle.dl_plan.specs.Clause.{Clause, IsClause};
 ghost use Rattle.dl_plan.specs.Horizon.{edge, IsSettled, IsHorizon, IsHorizonOf, horizon};
 ghost use Rattle.dl_plan.specs.Count.{expected_count, IsClaimCount, IsUnbounded};
@@ -37,10 +37,10 @@ pub fn law_horizon()
 /// require holds.
 pub fn law_valid_units()
     ensures counts { (plan : Plan) → IsValid plan
-        → All (λ u. IsClaimCount u.freq × IsAdmitted (expected_count u.freq)) plan.units }
+        → All (λ u. IsClaimCount u.freq × HasPartsOf48Bits (expected_count u.freq)) plan.units }
     ensures amounts { (plan : Plan) → IsValid plan
         → All (λ u. All (λ item. item.amount ≤ most_amount) u.sev.items) plan.units }
     ensures thinned { (plan : Plan) → IsValid plan
-        → All (λ u. IsUnbounded u.freq → IsAdmitted (thinned_mean u)) plan.units }
+        → All (λ u. IsUnbounded u.freq → HasPartsOf48Bits (thinned_mean u)) plan.units }
     ensures clauses { (plan : Plan) → IsValid plan → All (λ u. IfSome u.cede IsClause) plan.units }
 {}

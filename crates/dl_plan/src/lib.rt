@@ -9,20 +9,17 @@ mod item;
 mod law;
 mod layers;
 mod lowest;
-mod many;
 mod plan;
 mod settings;
 mod severity;
-#[cfg(test)]
-mod tests;
 mod totals;
 mod unit;
 
 pub use cede::{Cede, CedeLayer, in_layer};
+pub use dl_lexer::Items;
 pub use fine::{common_denominator_of, numerator_over};
 pub use item::Item;
 pub use law::{law_horizon, law_numerals, law_valid_units};
-pub use many::Many;
 pub use plan::{Freq, Plan, Unit};
 pub use settings::{Ask, Asked, Form, Format, Settings};
 pub use severity::Sev;

@@ -8,10 +8,10 @@ ghost use Rattle.dl_plan.specs.Weighted.{amounts_of, weight_sum, weight_at, comm
 ghost use Rattle.dl_plan.specs.Severity.{probability_of, pairs_of, conditioned, Means};
 
 use crate::item::Item;
-use crate::many::Many;
 use crate::severity::Sev;
 use crate::totals::total_weight;
 use dl_frac::small_divisor;
+use dl_lexer::Items;
 use std::alloc::{AllocError, Global};
 
 impl Sev {
@@ -28,7 +28,7 @@ impl Sev {
         let common = divisor_of_weights(&items);
         let total = total_weight(&items) / common;
         Sev {
-            items: Many::from_vec(divided(items, common)),
+            items: Items::from_vec(divided(items, common)),
             total,
         }
     }

@@ -2,10 +2,9 @@
 
 use crate::cede::Cede;
 use crate::item::Item;
-use crate::many::Many;
 use crate::severity::Sev;
 use dl_frac::Frac;
-use dl_lexer::Text;
+use dl_lexer::{Items, Text};
 
 /// The claim count of a unit.
 #[derive(Drop)]
@@ -15,7 +14,7 @@ pub enum Freq {
     /// Listed numbers of claims, rising, each with a whole weight.
     Table {
         /// The numbers of claims.
-        counts: Many<Item>,
+        counts: Items<Item>,
         /// The sum of their weights.
         total: u32,
     },
@@ -60,5 +59,5 @@ pub struct Plan {
     /// How many cells the grid has.
     pub cells: u32,
     /// The units in the order of the text.
-    pub units: Many<Unit>,
+    pub units: Items<Unit>,
 }

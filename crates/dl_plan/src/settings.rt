@@ -1,8 +1,7 @@
 //! The settings of a run, and what it asks.
 
-use crate::many::Many;
 use dl_frac::Frac;
-use dl_lexer::Text;
+use dl_lexer::{Items, Text};
 
 /// What is done with the text.
 #[derive(Clone, Copy, Debug, PartialEq, Eq)]
@@ -89,5 +88,5 @@ pub struct Settings {
     /// How the report is written.
     pub format: Format,
     /// What is asked, in order.
-    pub asks: Many<Asked>,
+    pub asks: Items<Asked>,
 }

@@ -3,14 +3,14 @@
 ghost use Rattle.dl_plan.specs.Weighted.{IsWeighted};
 
 use crate::item::Item;
-use crate::many::Many;
+use dl_lexer::Items;
 
 /// A severity in buckets: distinct amounts, each of which has its weight over the total as its
 /// probability.
 #[derive(Drop)]
 pub struct Sev {
     /// The amounts, rising, each of positive weight.
-    pub items: Many<Item>,
+    pub items: Items<Item>,
     /// The sum of the weights, at most 2^30. The weights have no common divisor above 1.
     pub total: u32,
     pub ghost weighted: { IsWeighted items total },

@@ -4,7 +4,7 @@ ghost use Rattle.std.specs.Prelude.{◌≡◌, ◌<◌, ◌≤◌, ◌^◌, All,
 ghost use Rattle.std.specs.List.Sorted.{IsStrictlyIncreasing};
 ghost use Rattle.dl_limits.specs.Limits.{most_amount, most_cells};
 ghost use Rattle.dl_exact.specs.Fraction.{whole, ◌over◌, ◌-ℚ◌, ◌*ℚ◌};
-ghost use Rattle.dl_plan.specs.Fine.{IsAdmitted};
+ghost use Rattle.dl_plan.specs.Fine.{HasPartsOf48Bits};
 ghost use Rattle.dl_plan.specs.Weighted.{amounts_of, weight_at};
 ghost use Rattle.dl_plan.specs.Severity.{pairs_of, mean_amount, probability_of};
 ghost use Rattle.dl_plan.specs.Count.{expected_count, IsClaimCount};
@@ -23,7 +23,7 @@ impl Freq {
     /// The expected number of claims, of a count of a valid plan.
     pub fn expected(&self) -> Frac
         requires count { IsClaimCount self.now }
-        requires admitted { IsAdmitted (expected_count self.now) }
+        requires admitted { HasPartsOf48Bits (expected_count self.now) }
         ensures { result ≡ expected_count self.now }
     {
         match self {
@@ -58,8 +58,8 @@ impl Unit {
     /// the probability of a positive amount.
     pub fn thinned(&self) -> Frac
         requires count { IsClaimCount self.now.freq }
-        requires expected { IsAdmitted (expected_count self.now.freq) }
-        requires admitted { IsAdmitted (thinned_mean self.now) }
+        requires expected { HasPartsOf48Bits (expected_count self.now.freq) }
+        requires admitted { HasPartsOf48Bits (thinned_mean self.now) }
         ensures { result ≡ thinned_mean self.now }
     {
         self.freq
@@ -72,7 +72,7 @@ impl Unit {
     /// aggregate clause, of a unit of a valid plan.
     pub fn mean_parts(&self) -> (u128, u128)
         requires count { IsClaimCount self.now.freq }
-        requires expected { IsAdmitted (expected_count self.now.freq) }
+        requires expected { HasPartsOf48Bits (expected_count self.now.freq) }
         requires near { All (λ item. item.amount ≤ most_amount) self.now.sev.items }
         ensures value { result.0 over result.1 ≡ declared_mean self.now }
         ensures num { result.0 < 2 ^ 100 }

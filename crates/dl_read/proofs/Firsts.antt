@@ -1,12 +1,8 @@
 -- The first answer in a list that is made of others, and in the items that a loop reads in order.
-use Rattle.std.proofs.Common.{◌≡◌, ℕ, zero, suc, ◌+◌, ◌<◌, ◌≤◌, List, [], ◌∷◌, ◌++◌, map, flat_map, length, drop, get_or, Option, Some, None, true, false, not, ◌≢◌, Result, refl, sym, ap, ap₂, subst, ◌∙◌, arith, add-one}
-use Rattle.std.specs.List.{All}
+use Rattle.dl_read.proofs.Common.{◌≡◌, ℕ, zero, suc, ◌+◌, ◌<◌, ◌≤◌, List, [], ◌∷◌, ◌++◌, map, flat_map, length, get_or, Option, Some, None, true, false, not, Result, refl, sym, ap, ap₂, subst, ◌∙◌, arith, All, nat_lt, ◌==◌, All-nil, All-cons, All-head, All-tail, nat_tests, Span, ◌else◌, at_if, first_in, each_of}
+use Rattle.std.proofs.Common.{drop, add-one}
 use Rattle.std.specs.Option.{option_or}
-use Rattle.std.specs.Prelude.{nat_lt, ◌==◌, IfOk}
-use Rattle.std.proofs.lemmas.List.Elements.{All-nil, All-cons, All-head, All-tail}
-use Rattle.std.proofs.lemmas.Bool.Decides.{nat_tests}
-use Rattle.dl_lexer.specs.declared.token.Span.{Span}
-use Rattle.dl_read.specs.First.{◌else◌, at_if, first_in, each_of}
+use Rattle.std.specs.Prelude.{IfOk}
 
 -- ---- lists made of others
 

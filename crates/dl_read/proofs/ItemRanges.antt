@@ -1,27 +1,17 @@
 -- What good numbers and a good range say of an item.
-use Rattle.std.proofs.Common.{◌≡◌, inl, inr, ℕ, zero, suc, ◌+◌, ◌*◌, ◌/◌, ◌-◌, ◌^◌, ◌<◌, ◌≤◌, List, [], ◌∷◌, ◌||◌, ◌&&◌, Bool, true, false, map, flat_map, None, refl, sym, subst, arith, mul-le-mul, mul-le-mul_right}
-use Rattle.std.specs.Prelude.{◌==◌, nat_lt}
-use Rattle.std.specs.List.{All, range_with_len}
+use Rattle.dl_read.proofs.Common.{◌≡◌, ℕ, zero, suc, ◌+◌, ◌<◌, ◌≤◌, List, [], ◌∷◌, Bool, true, false, map, flat_map, None, refl, sym, subst, arith, ◌==◌, nat_lt, All, range_with_len, nat_tests, All-nil, All-cons, All-head, All-tail, Fraction, whole, ltb-false, Range, IsRange, steps_in, value_at, range_values, range_denominator, ItemNumbers, ListNumbers, bad_item, IsSmall, IsItemNumbered, IsItemRanged, IsListRanged, item_values}
+use Rattle.std.proofs.Common.{inl, inr, ◌*◌, ◌/◌, ◌-◌, ◌^◌, ◌||◌, ◌&&◌, mul-le-mul, mul-le-mul_right}
 use Rattle.std.proofs.Math.Nat.{div-mul-le_self, div-le_self}
-use Rattle.std.proofs.lemmas.Bool.Decides.{nat_tests}
-use Rattle.std.proofs.lemmas.List.Elements.{All-nil, All-cons, All-head, All-tail, All-append}
-use Rattle.dl_exact.specs.Fraction.{Fraction, whole, ◌over◌, ◌≤ℚ◌, ◌<ℚ◌}
-use Rattle.std.proofs.lemmas.Bool.{ltb-false}
+use Rattle.std.proofs.lemmas.List.Elements.{All-append}
+use Rattle.dl_exact.specs.Fraction.{◌over◌, ◌≤ℚ◌, ◌<ℚ◌}
 use Rattle.dl_limits.specs.Limits.{most_range_parts}
 use Rattle.dl_exact.proofs.Laws.{le_refl}
 use Rattle.dl_exact.proofs.Parts.{whole_num, pos_num, over_num_le as num_of_over-le, over_den_le as den_of_over-le}
-use Rattle.dl_sev.specs.declared.range.Range.{Range}
 use Rattle.dl_sev.specs.Buckets.{HasPartsOf18Digits}
-use Rattle.dl_sev.specs.Ranges.{IsRange, steps_in, value_at, range_values, range_denominator}
 use Rattle.dl_plan.specs.Fine.{numerator_over}
 use Rattle.dl_sev.proofs.Ranged.{pos, rising, steps_are, value_is, one_value}
-use Rattle.dl_read.specs.declared.numbers.ItemNumbers.{ItemNumbers}
-use Rattle.dl_read.specs.declared.numbers.ListNumbers.{ListNumbers}
 use Rattle.dl_read.specs.Lists.{is_above, is_zero}
-use Rattle.dl_read.specs.Rules.{is_no_range, bad_item}
-use Rattle.dl_read.specs.Kept.{IsSmall}
-use Rattle.dl_read.specs.Ranged.{IsItemNumbered, IsItemRanged, IsListRanged}
-use Rattle.dl_read.specs.Read.{item_values}
+use Rattle.dl_read.specs.Rules.{is_no_range}
 use Rattle.dl_read.proofs.Nothing.{not_at}
 
 -- ---- the range of an item

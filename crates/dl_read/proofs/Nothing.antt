@@ -1,10 +1,5 @@
 -- Where no part has an answer.
-use Rattle.std.proofs.Common.{◌≡◌, ◌∙◌, List, [], ◌∷◌, ◌++◌, Option, Some, None, Bool, true, false, not, refl, sym}
-use Rattle.std.specs.List.{All}
-use Rattle.std.specs.Option.{IfSome}
-use Rattle.std.proofs.lemmas.List.Elements.{All-nil, All-cons}
-use Rattle.dl_lexer.specs.declared.token.Span.{Span}
-use Rattle.dl_read.specs.First.{◌else◌, at_if, within, first_in, each_of}
+use Rattle.dl_read.proofs.Common.{◌≡◌, ◌∙◌, List, [], ◌∷◌, ◌++◌, Option, Some, None, Bool, true, false, not, refl, sym, All, IfSome, All-nil, All-cons, Span, ◌else◌, at_if, within, first_in}
 use Rattle.dl_read.proofs.Firsts.{first-append}
 
 pub else_first : {A : Type 0} (x y : Option A) → (x else y) ≡ None → x ≡ None
@@ -24,22 +19,6 @@ module _ {A B : Type 0} (f : A → Option B) where
 
   pub none_left : (xs ys : List A) → first_in f (xs ++ ys) ≡ None → first_in f xs ≡ None
   none_left xs ys e = else_first _ (first_in f ys) (sym (first-append f xs ys) ∙ e)
-
-  pub none_right : (xs ys : List A) → first_in f (xs ++ ys) ≡ None → first_in f ys ≡ None
-  none_right xs ys e = else_second (first_in f xs) _ (sym (first-append f xs ys) ∙ e)
-
-  pub none_head : (x : A) (xs : List A) → first_in f (x ∷ xs) ≡ None → f x ≡ None
-  unfolding first_in
-  none_head x xs e = else_first (f x) (first_in f xs) e
-
-  pub none_tail : (x : A) (xs : List A) → first_in f (x ∷ xs) ≡ None → first_in f xs ≡ None
-  unfolding first_in
-  none_tail x xs e = else_second (f x) (first_in f xs) e
-
-  pub none_held : {X : Type 0} (g : X → List A) (o : Option X) → first_in f (each_of g o) ≡ None
-      → IfSome o (λ x. first_in f (g x) ≡ None)
-  none_held g None e = tt
-  none_held g (Some x) e = e
 
 pub none_within : {A B : Type 0} (f : A → Option B) (o : Option A) → within f o ≡ None → IfSome o (λ x. f x ≡ None)
 none_within f None e = tt

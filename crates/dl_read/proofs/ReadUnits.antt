@@ -1,19 +1,13 @@
 -- What is read of a unit that is readable: small numbers, and lists, severities and clauses of some parts, but not too
 -- many.
-use Rattle.std.proofs.Common.{◌≡◌, ◌∙◌, ◌+◌, ◌<◌, List, [], ◌∷◌, map, flat_map, length, nat_lt, Option, Some, None, true, false, refl, sym, ap, subst, arith, length-append}
-use Rattle.std.specs.Prelude.{is_some}
-use Rattle.std.specs.List.{range_with_len}
-use Rattle.std.specs.Option.{IfSome, IsSome}
+use Rattle.dl_read.proofs.Common.{◌≡◌, ◌∙◌, ◌+◌, ◌<◌, List, [], ◌∷◌, map, flat_map, length, Option, Some, None, true, false, refl, sym, ap, subst, arith, is_some, range_with_len, IfSome, Span, Fraction, whole, steps_in, value_at, ListItem, Atom, IsFormedItem, ItemNumbers, ListNumbers, ◌else◌, at_if, within, first_in, value, bad_place, bad_in_item, bad_in_pair, bad_in_layer, bad_in_share, bad_in_ceded, value_or, item_numbers, pair_numbers, ceded_numbers, bad_item, range_in_list, range_in_count, range_in_severity, long_list, long_pair, IsSmall, IsItemNumbered, IsListRanged, item_values, item_places, read_pair, ltb-false, most_values}
+use Rattle.std.proofs.Common.{nat_lt, length-append}
+use Rattle.std.specs.Option.{IsSome}
 use Rattle.std.proofs.lemmas.List.{length-map, length-replicate}
 use Rattle.std.proofs.lemmas.List.Elements.{All-map}
 use Rattle.std.proofs.lemmas.List.FromFn.{length-range_with_len}
-use Rattle.dl_lexer.specs.declared.token.Span.{Span}
-use Rattle.dl_exact.specs.Fraction.{Fraction, whole}
-use Rattle.dl_sev.specs.Ranges.{steps_in, value_at}
 use Rattle.dl_ast.specs.declared.ast.Numeral.{Numeral}
-use Rattle.dl_ast.specs.declared.ast.ListItem.{ListItem}
 use Rattle.dl_ast.specs.declared.ast.ListAst.{ListAst}
-use Rattle.dl_ast.specs.declared.ast.Atom.{Atom}
 use Rattle.dl_ast.specs.declared.ast.SevAst.{SevAst}
 use Rattle.dl_ast.specs.declared.ast.LimitAst.{LimitAst}
 use Rattle.dl_ast.specs.declared.ast.LimitAst.TheVariants.{Finite, Infinite}
@@ -29,21 +23,17 @@ use Rattle.dl_ast.specs.declared.ast.FreqAst.TheVariants.{Fixed, Poisson, Bernou
 use Rattle.dl_ast.specs.declared.ast.CountAst.{CountAst}
 use Rattle.dl_ast.specs.declared.ast.CountAst.TheVariants.{Exposed, Listed}
 use Rattle.dl_ast.specs.declared.ast.UnitAst.{UnitAst}
-use Rattle.dl_ast.specs.WellFormed.{IsFormedItem, IsFormedList, IsFormedSeverity, IsFormedCession, IsFormedCount, IsFormedUnit}
-use Rattle.dl_read.specs.declared.numbers.ItemNumbers.{ItemNumbers}
-use Rattle.dl_read.specs.declared.numbers.ListNumbers.{ListNumbers}
+use Rattle.dl_ast.specs.WellFormed.{IsFormedList, IsFormedSeverity, IsFormedCession, IsFormedCount, IsFormedUnit}
 use Rattle.dl_read.specs.declared.numbers.PairNumbers.{PairNumbers}
 use Rattle.dl_read.specs.declared.numbers.UnitNumbers.{UnitNumbers}
 use Rattle.dl_read.specs.declared.tree.ReadUnit.{ReadUnit}
-use Rattle.dl_read.specs.First.{◌else◌, at_if, within, first_in}
-use Rattle.dl_read.specs.BadNumerals.{value, bad_place, bad_in_item, bad_in_list, bad_in_pair, bad_in_severity, bad_in_limit, bad_in_layer, bad_in_share, bad_in_ceded, bad_in_clause, bad_in_exposure, bad_in_count, bad_in_freq, bad_in_distribution}
-use Rattle.dl_read.specs.Numbers.{if_there, value_or, item_numbers, list_numbers, pair_numbers, severity_numbers, limit_number, layer_numbers, share_number, ceded_numbers, clause_numbers, exposure_numbers, freq_number, count_numbers, distribution_number, numbers_of}
-use Rattle.dl_read.specs.Rules.{bad_numeral, bad_range, list_too_long, bad_item, range_in_list, range_in_pair, range_in_count, range_in_severity, long_list, long_pair, long_count, long_severity, long_clause, long_numbers}
-use Rattle.dl_read.specs.Kept.{IsSmall, IsListRead, IsAtomRead, IsSevRead, IsLayerRead, IsShareRead, IsCededRead, IsClauseRead, IsExposureRead, IsFreqRead, IsCountRead, IsRead}
-use Rattle.dl_read.specs.Ranged.{IsItemNumbered, IsListRanged, IsPairRanged, IsSevRanged, IsCountRanged, IsRanged}
-use Rattle.dl_read.specs.Read.{item_values, item_places, read_list, read_pair, read_severity, read_count, read_numbers, read_of, IsReadable}
-use Rattle.std.proofs.lemmas.Bool.{ltb-false}
-use Rattle.dl_limits.specs.Limits.{most_values, most_atoms, most_layers}
+use Rattle.dl_read.specs.BadNumerals.{bad_in_list, bad_in_severity, bad_in_limit, bad_in_clause, bad_in_exposure, bad_in_count, bad_in_freq, bad_in_distribution}
+use Rattle.dl_read.specs.Numbers.{if_there, list_numbers, severity_numbers, limit_number, layer_numbers, share_number, clause_numbers, exposure_numbers, freq_number, count_numbers, distribution_number, numbers_of}
+use Rattle.dl_read.specs.Rules.{bad_numeral, bad_range, list_too_long, range_in_pair, long_count, long_severity, long_clause, long_numbers}
+use Rattle.dl_read.specs.Kept.{IsListRead, IsAtomRead, IsSevRead, IsLayerRead, IsShareRead, IsCededRead, IsClauseRead, IsExposureRead, IsFreqRead, IsCountRead, IsRead}
+use Rattle.dl_read.specs.Ranged.{IsPairRanged, IsSevRanged, IsCountRanged, IsRanged}
+use Rattle.dl_read.specs.Read.{read_list, read_severity, read_count, read_numbers, read_of, IsReadable}
+use Rattle.dl_limits.specs.Limits.{most_atoms, most_layers}
 use Rattle.dl_frac.proofs.SmallNumerals.{numeral_small}
 use Rattle.dl_read.proofs.ItemRanges.{item_ranged, list_modest}
 use Rattle.dl_read.proofs.Firsts.{from_map}

@@ -1,26 +1,12 @@
 -- Reading stops where the first of its parts does, and gives what its parts give.
-use Rattle.std.proofs.Common.{◌≡◌, ◌∙◌, ℕ, ◌+◌, ◌<◌, ◌≤◌, List, [], ◌∷◌, ◌++◌, flat_map, map, length, take, get_or, Option, Some, None, Result, Ok, Err, refl, sym, ap, ap₂, subst, arith}
-use Rattle.std.specs.Result.{IsErr, IsErrAnd}
-use Rattle.std.specs.Prelude.{is_some, Bool}
-use Rattle.std.proofs.lemmas.List.{append-nil, take_more, take_all, map-append}
+use Rattle.dl_read.proofs.Common.{◌≡◌, ◌∙◌, ℕ, ◌+◌, ◌<◌, ◌≤◌, List, [], ◌∷◌, ◌++◌, flat_map, map, length, take, get_or, Option, Some, None, refl, sym, ap, ap₂, arith, is_some, Span, most_values, Fraction, whole, ListItem, ItemNumbers, ListNumbers, ◌else◌, first_in, value, value_or, item_numbers, long_list, item_values}
+use Rattle.std.specs.Prelude.{Bool}
+use Rattle.std.proofs.lemmas.List.{take_more, take_all, map-append}
 use Rattle.std.proofs.lemmas.List.Folds.{length-flat_map-take}
-use Rattle.dl_lexer.specs.declared.token.Span.{Span}
-use Rattle.dl_limits.specs.Limits.{most_values}
-use Rattle.dl_exact.specs.Fraction.{Fraction, whole}
-use Rattle.dl_sev.specs.declared.range.Range.{Range}
-use Rattle.dl_sev.specs.declared.fault.ExpandFault.{ExpandFault}
 use Rattle.dl_sev.specs.declared.fault.ExpandFault.TheVariants as expands
-use Rattle.dl_sev.specs.Ranges.{range_values, list_values, RefusesRanges, PassesRoom}
-use Rattle.dl_ast.specs.declared.ast.ListItem.{ListItem}
-use Rattle.dl_read.specs.declared.numbers.ItemNumbers.{ItemNumbers}
-use Rattle.dl_read.specs.declared.numbers.ListNumbers.{ListNumbers}
 use Rattle.dl_read.specs.declared.stop.Stop.{Stop}
 use Rattle.dl_read.specs.declared.stop.Stop.TheVariants.{At, OutOfMemory}
-use Rattle.dl_read.specs.First.{◌else◌, first_in}
-use Rattle.dl_read.specs.BadNumerals.{value}
-use Rattle.dl_read.specs.Numbers.{value_or, item_numbers}
-use Rattle.dl_read.specs.Rules.{long_list}
-use Rattle.dl_read.specs.Read.{item_values, Stops, Reads}
+use Rattle.dl_read.specs.Read.{Stops}
 use Rattle.dl_read.proofs.Firsts.{NoneBefore, found, ended, else_found, else_next, passes_limit, keeps_limit}
 
 -- ---- in turn
@@ -32,16 +18,6 @@ stopped x y OutOfMemory h = tt
 pub stopped_next : (x y : Option Span) (stop : Stop) → None ≡ x → Stops y stop → Stops (x else y) stop
 stopped_next x y (At place) none h = else_next x y (Some place) none h
 stopped_next x y OutOfMemory none h = tt
-
-pub stopped_as : (x y : Option Span) (stop : Stop) → x ≡ y → Stops x stop → Stops y stop
-stopped_as x y stop e h = subst (λ o. Stops o stop) e h
-
--- where a call stops, its caller does
-pub told : {A : Type 0} (part : A) (broken : Option Span) (r : Result A Stop) (stop : Stop)
-    → IsErr r × IsErrAnd r (λ f. f ≡ stop) → Stops broken stop
-    → Reads part broken r
-told part broken (Ok x) stop h stops = absurd (cc (h.0))
-told part broken (Err f) stop h stops = subst (Stops broken) (sym h.1) stops
 
 -- ---- one part after another
 

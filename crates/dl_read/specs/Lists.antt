@@ -49,9 +49,6 @@ is_zero x = x.num == 0
 abbrev pub is_above : Fraction → Fraction → Bool
 is_above x y = nat_lt (y.num * x.den) (x.num * y.den)
 
-abbrev pub is_same : Fraction → Fraction → Bool
-is_same x y = (x.num == y.num) && (x.den == y.den)
-
 -- a fine list that does not sum to 1
 abbrev pub is_not_one : List Fraction → Bool
 is_not_one xs = is_fine xs && not (is_one (sum_of xs))

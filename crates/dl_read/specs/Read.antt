@@ -11,6 +11,7 @@ use Rattle.dl_read.specs.declared.tree.ReadSev.{ReadSev}
 use Rattle.dl_read.specs.declared.tree.ReadFreq.{ReadFreq}
 use Rattle.dl_read.specs.declared.tree.ReadCount.{ReadCount}
 use Rattle.dl_read.specs.declared.tree.ReadCount.TheVariants.{Exposed, Listed}
+use Rattle.dl_read.specs.declared.tree.ReadLists.{ReadLists}
 use Rattle.dl_read.specs.declared.tree.ReadUnit.{ReadUnit}
 use Rattle.dl_read.specs.declared.numbers.ItemNumbers.{ItemNumbers}
 use Rattle.dl_read.specs.declared.numbers.ListNumbers.{ListNumbers}
@@ -55,6 +56,9 @@ read_severity s = record {
 abbrev pub read_count : CountNumbers → ReadFreq → ReadCount
 read_count (numbers.Exposed exposure) freq = Exposed exposure freq
 read_count (numbers.Listed p) freq = Listed (read_list p.values) (if_there read_list p.probs)
+
+abbrev pub read_lists : UnitNumbers → ReadLists
+read_lists u = record { count = read_count u.count u.freq; sev = read_severity u.sev }
 
 unfoldable pub read_numbers : UnitNumbers → ReadUnit
 read_numbers u = record {

@@ -2,7 +2,7 @@
 
 use crate::tree::{ReadClause, ReadExposure, ReadFreq, ReadLayer};
 use dl_lexer::Span;
-use dl_plan::Many;
+use dl_plan::Items;
 use dl_sev::Range;
 
 /// An item of a list.
@@ -20,7 +20,7 @@ pub(crate) struct ItemNumbers {
 #[derive(Drop)]
 pub(crate) struct ListNumbers {
     /// Its items, at least one.
-    pub(crate) items: Many<ItemNumbers>,
+    pub(crate) items: Items<ItemNumbers>,
     /// The place of the list.
     pub(crate) span: Span,
 }
@@ -38,7 +38,7 @@ pub(crate) struct PairNumbers {
 #[derive(Drop)]
 pub(crate) struct SevNumbers {
     /// The amounts of each atom, and their probabilities.
-    pub(crate) atoms: Many<PairNumbers>,
+    pub(crate) atoms: Items<PairNumbers>,
     /// The weight of each atom.
     pub(crate) weights: Option<ListNumbers>,
     /// Whether a final `!` keeps the severity from being conditioned on exceeding the attachment.

@@ -14,18 +14,19 @@ ghost use Rattle.dl_read.specs.Read.{Reads};
 use crate::numbers::{
     CountNumbers, ItemNumbers, ListNumbers, PairNumbers, SevNumbers, UnitNumbers,
 };
-use crate::stop::Stop;
+use crate::stop::{Stop, push_part};
 use crate::tree::{ReadCeded, ReadClause, ReadExposure, ReadFreq, ReadLayer, ReadShare};
 use dl_ast::{
     Atom, CededLayer, Cession, CountAst, Exposure, FreqAst, Layer, LimitAst, ListAst, ListItem,
     Numeral, SevAst, Share, UnitAst,
 };
 use dl_frac::{Frac, numeral};
-use dl_plan::Many;
+use dl_plan::Items;
 use dl_sev::Range;
 use std::alloc::Global;
 
 /// The numbers of a unit.
+#[tactic(auto, unfolding(crate::specs::Rules::bad_numeral, crate::specs::Numbers::numbers_of))]
 pub(crate) fn unit_numbers(alloc: Global, unit: &UnitAst) -> Result<UnitNumbers, Stop>
     requires { IsFormedUnit unit.now }
     ensures { Reads (numbers_of unit.now) (bad_numeral unit.now) result }
@@ -89,7 +90,7 @@ fn severity_numbers(alloc: Global, sev: &SevAst) -> Result<SevNumbers, Stop>
 }
 
 /// The numbers of atoms.
-fn atom_numbers(alloc: Global, atoms: &[Atom]) -> Result<Many<PairNumbers>, Stop>
+fn atom_numbers(alloc: Global, atoms: &[Atom]) -> Result<Items<PairNumbers>, Stop>
     requires { All IsFormedAtom atoms.now }
     ensures { Reads (map (λ a. pair_numbers a.values a.probs) atoms.now)
         (first_in (λ a. bad_in_pair a.values a.probs) atoms.now) result }
@@ -97,11 +98,11 @@ fn atom_numbers(alloc: Global, atoms: &[Atom]) -> Result<Many<PairNumbers>, Stop
     let mut made = Vec::new(alloc);
     'atoms: for atom in atoms {
         match pair_numbers(alloc, &atom.values, &atom.probs) {
-            Ok(pair) => made.push(pair)?,
+            Ok(pair) => push_part(&mut made, pair)?,
             Err(stop) => return Err(stop),
         }
     }
-    Ok(Many::from_vec(made))
+    Ok(Items::from_vec(made))
 }
 
 /// The numbers of two lists, of which the second may be missing.
@@ -138,12 +139,12 @@ fn list_numbers(alloc: Global, list: &ListAst) -> Result<ListNumbers, Stop>
     let mut made = Vec::new(alloc);
     'items: for item in list.items.as_slice() {
         match item_numbers(item) {
-            Ok(numbers) => made.push(numbers)?,
+            Ok(numbers) => push_part(&mut made, numbers)?,
             Err(stop) => return Err(stop),
         }
     }
     Ok(ListNumbers {
-        items: Many::from_vec(made),
+        items: Items::from_vec(made),
         span: list.span,
     })
 }
@@ -247,15 +248,16 @@ fn clause_numbers(alloc: Global, clause: &Cession) -> Result<ReadClause, Stop>
             Ok(layer) => layer,
             Err(stop) => return Err(stop),
         };
-        made.push(ReadCeded {
+        let part = ReadCeded {
             share,
             layer,
             span: ceded.span,
-        })?;
+        };
+        push_part(&mut made, part)?;
     }
     Ok(ReadClause {
         net: clause.net,
-        layers: Many::from_vec(made),
+        layers: Items::from_vec(made),
         span: clause.span,
     })
 }

@@ -7,7 +7,7 @@ ghost use Rattle.dl_sev.specs.Ranges.{IsRange, PassesRoom};
 ghost use Rattle.dl_read.specs.First.{◌else◌, within, first_in};
 ghost use Rattle.dl_read.specs.Numbers.{if_there};
 ghost use Rattle.dl_read.specs.Rules.{long_list, long_pair, long_count, long_severity, long_clause, long_numbers};
-ghost use Rattle.dl_read.specs.Read.{item_values, item_places, read_list, read_pair, read_severity, read_count, read_numbers, Reads, ReadsUnit};
+ghost use Rattle.dl_read.specs.Read.{item_values, item_places, read_list, read_pair, read_severity, read_count, read_lists, read_numbers, Reads, ReadsUnit};
 ghost use Rattle.dl_read.specs.Kept.{IsRead};
 ghost use Rattle.dl_read.specs.Ranged.{IsListRanged, IsPairRanged, IsSevRanged, IsCountRanged, IsRanged};
 
@@ -17,13 +17,15 @@ use crate::numbers::{
 };
 use crate::numerals::unit_numbers;
 use crate::ranges::bad_range;
-use crate::stop::Stop;
-use crate::tree::{ReadAtom, ReadClause, ReadCount, ReadFreq, ReadList, ReadSev, ReadUnit};
+use crate::stop::{Stop, push_part};
+use crate::tree::{
+    ReadAtom, ReadClause, ReadCount, ReadFreq, ReadList, ReadLists, ReadSev, ReadUnit,
+};
 use dl_ast::UnitAst;
 use dl_frac::Frac;
 use dl_lexer::Span;
 use dl_limits::{MOST_ATOMS, MOST_LAYERS, MOST_VALUES};
-use dl_plan::Many;
+use dl_plan::Items;
 use dl_sev::{ExpandFault, expand};
 use std::alloc::{AllocError, Global};
 
@@ -50,23 +52,33 @@ pub fn read_unit(alloc: Global, unit: &UnitAst) -> Result<ReadUnit, ReadFault>
 }
 
 /// A unit by its numbers, with good ranges.
+#[tactic(auto, unfolding(crate::specs::Read::read_numbers))]
 fn read_numbers(alloc: Global, unit: UnitNumbers) -> Result<ReadUnit, Stop>
     requires { IsRanged unit }
     ensures { Reads (read_numbers unit) (long_numbers unit) result }
 {
-    let count = read_count(alloc, &unit.count, unit.freq)?;
-    let sev = read_severity(alloc, &unit.sev)?;
-    if let Some(place) = long_clause(&unit.occ).or(long_clause(&unit.agr)) {
-        return Err(Stop::At(place));
-    }
+    let lists = read_lists(alloc, &unit)?;
     Ok(ReadUnit {
         name: unit.name,
-        count,
+        count: lists.count,
         layer: unit.layer,
-        sev,
+        sev: lists.sev,
         occ: unit.occ,
         agr: unit.agr,
     })
+}
+
+/// The lists of a unit whose clauses are short.
+fn read_lists(alloc: Global, unit: &UnitNumbers) -> Result<ReadLists, Stop>
+    requires { IsRanged unit.now }
+    ensures { Reads (read_lists unit.now) (long_numbers unit.now) result }
+{
+    let count = read_count(alloc, &unit.count, unit.freq)?;
+    let sev = read_severity(alloc, &unit.sev)?;
+    match long_clause(&unit.occ).or(long_clause(&unit.agr)) {
+        Some(place) => Err(Stop::At(place)),
+        None => Ok(ReadLists { count, sev }),
+    }
 }
 
 /// The place of a clause that has more than 16 layers.
@@ -118,18 +130,18 @@ fn read_severity(alloc: Global, sev: &SevNumbers) -> Result<ReadSev, Stop>
 }
 
 /// The atoms of a severity.
-fn read_atoms(alloc: Global, atoms: &[PairNumbers]) -> Result<Many<ReadAtom>, Stop>
+fn read_atoms(alloc: Global, atoms: &[PairNumbers]) -> Result<Items<ReadAtom>, Stop>
     requires { All IsPairRanged atoms.now }
     ensures { Reads (map read_pair atoms.now) (first_in long_pair atoms.now) result }
 {
     let mut made = Vec::new(alloc);
     'atoms: for atom in atoms {
         match read_pair(alloc, atom) {
-            Ok(pair) => made.push(pair)?,
+            Ok(pair) => push_part(&mut made, pair)?,
             Err(stop) => return Err(stop),
         }
     }
-    Ok(Many::from_vec(made))
+    Ok(Items::from_vec(made))
 }
 
 /// Two lists, of which the second may be missing.
@@ -168,8 +180,8 @@ fn read_list(alloc: Global, list: &ListNumbers) -> Result<ReadList, Stop>
         }
     }
     Ok(ReadList {
-        values: Many::from_vec(values),
-        places: Many::from_vec(places),
+        values: Items::from_vec(values),
+        places: Items::from_vec(places),
         span: list.span,
     })
 }

@@ -1,17 +1,16 @@
 //! Where reading stops.
 
+ghost use Rattle.std.specs.Prelude.{◌≡◌, ◌∷◌, ◌++◌, [], IfOk};
+
 use dl_lexer::Span;
-use std::alloc::{AllocError, AllocFailed};
-use thiserror::Error;
+use std::alloc::AllocError;
 
 /// The first place where the rule that is looked at is broken.
-#[derive(Clone, Copy, Debug, PartialEq, Eq, Error)]
+#[derive(Clone, Copy)]
 pub(crate) enum Stop {
     /// The place.
-    #[error("a rule is broken")]
     At(Span),
     /// Memory ran out.
-    #[error("out of memory")]
     OutOfMemory,
 }
 
@@ -26,13 +25,10 @@ impl From<AllocError> for Stop {
     }
 }
 
-impl<T: Drop> From<AllocFailed<T>> for Stop {
-    ghost use Rattle.dl_read.specs.declared.stop.Stop.TheVariants.{OutOfMemory};
-    ghost use Rattle.std.specs.Prelude.{◌≡◌};
-
-    ghost from_gives = { λ _ stop. stop ≡ OutOfMemory };
-
-    fn from(_failed: AllocFailed<T>) -> Stop {
-        Stop::OutOfMemory
-    }
+/// A part put behind others.
+pub(crate) fn push_part<T: Drop>(parts: &mut Vec<T>, part: T) -> Result<(), AllocError>
+    ensures { IfOk result (λ _. parts.new.items ≡ parts.old.items ++ part ∷ []) }
+{
+    parts.push(part)?;
+    Ok(())
 }

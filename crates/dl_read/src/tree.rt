@@ -2,15 +2,15 @@
 
 use dl_frac::Frac;
 use dl_lexer::Span;
-use dl_plan::Many;
+use dl_plan::Items;
 
 /// A list.
 #[derive(Drop)]
 pub struct ReadList {
     /// The values of its items in order, 1 to 1,024 of them.
-    pub values: Many<Frac>,
+    pub values: Items<Frac>,
     /// For each value the place of its item.
-    pub places: Many<Span>,
+    pub places: Items<Span>,
     /// The place of the list.
     pub span: Span,
 }
@@ -28,7 +28,7 @@ pub struct ReadAtom {
 #[derive(Drop)]
 pub struct ReadSev {
     /// The atoms, 1 to 64 of them.
-    pub atoms: Many<ReadAtom>,
+    pub atoms: Items<ReadAtom>,
     /// The weight of each atom.
     pub weights: Option<ReadList>,
     /// Whether a final `!` keeps the severity from being conditioned on exceeding the attachment.
@@ -74,7 +74,7 @@ pub struct ReadClause {
     /// Whether the unit keeps what is not ceded; else it keeps what is ceded.
     pub net: bool,
     /// The ceded layers, 1 to 16 of them.
-    pub layers: Many<ReadCeded>,
+    pub layers: Items<ReadCeded>,
     /// The place of the clause.
     pub span: Span,
 }
@@ -129,6 +129,15 @@ pub enum ReadCount {
         /// The probability of each; where there is none they are equally likely.
         probs: Option<ReadList>,
     },
+}
+
+/// The lists of a unit.
+#[derive(Drop)]
+pub(crate) struct ReadLists {
+    /// How many claims there are.
+    pub(crate) count: ReadCount,
+    /// The severity of one claim.
+    pub(crate) sev: ReadSev,
 }
 
 /// One unit.

@@ -1,20 +1,15 @@
 -- Where the multiples just past each end of a layer are mapped to whole numbers, all multiples are.
-use Rattle.std.proofs.Common.{ℕ, zero, suc, ◌≡◌, ◌∙◌, ◌+◌, ◌-◌, ◌*◌, ◌%◌, ◌<◌, ◌≤◌, ◌⊎◌, List, [], ◌∷◌, refl, sym, ap, subst, arith, inl, inr}
-use Rattle.std.specs.List.{All}
+use Rattle.dl_sev.proofs.Common.{ℕ, zero, suc, ◌≡◌, ◌∙◌, ◌+◌, ◌-◌, ◌*◌, ◌%◌, ◌<◌, ◌≤◌, List, [], ◌∷◌, refl, sym, ap, subst, arith, inl, inr, All, ◌∣◌, cases_lt, All-nil, All-cons, All-head, All-tail, IsWhole, Clause, kept, whole_den}
+use Rattle.std.proofs.Common.{◌⊎◌}
 use Rattle.std.specs.Int.{div_ceil}
 use Rattle.std.proofs.Math.Nat.{dvd-add, dvd-sub, lt_of_mul-lt-mul_right}
-use Prim.Native.Nat.{◌∣◌}
-use Rattle.std.proofs.lemmas.Bool.{cases_lt}
 use Rattle.std.proofs.lemmas.Nat.Gcd.{dvd_of_mod-eq-zero, mod-eq-zero_of_dvd}
 use Rattle.std.proofs.lemmas.Grind.{div_ceil_times}
-use Rattle.std.proofs.lemmas.List.Elements.{All-nil, All-cons, All-head, All-tail}
 use Rattle.dl_plan.specs.declared.cede.CedeLayer.{CedeLayer}
-use Rattle.dl_plan.specs.Fine.{IsWhole}
-use Rattle.dl_plan.specs.Clause.{Clause, kept, IsClause}
+use Rattle.dl_plan.specs.Clause.{IsClause}
 use Rattle.dl_plan.specs.Horizon.{edge}
 use Rattle.dl_plan.specs.Parts.{kept_parts, parts_in_bucket}
 use Rattle.dl_plan.proofs.Clauses.{kept_whole, kept_only}
-use Rattle.dl_exact.proofs.Parts.{whole_den}
 use Rattle.dl_plan.proofs.Apart.{kept_none}
 use Rattle.dl_plan.proofs.Straight.{IsOutside, IsClear, kept_straight}
 use Rattle.dl_sev.specs.Fits.{FitsStep, FitsAfter, FitsLayer}

@@ -1,18 +1,9 @@
 -- Items with their amounts mapped, and lists of amounts with whole weights.
-use Rattle.std.proofs.Common.{ℕ, ◌≡◌, ◌∙◌, ◌+◌, ◌<◌, List, [], ◌∷◌, ◌++◌, length, map, zip, sum, get_or, take, refl, sym, ap, ap₂, subst, arith, Result, Ok, Err, IfOk}
-use Rattle.std.proofs.lemmas.List.{length-take-le, take_more}
+use Rattle.dl_sev.proofs.Common.{ℕ, ◌≡◌, ◌∙◌, ◌+◌, ◌<◌, List, [], ◌∷◌, ◌++◌, length, map, zip, sum, get_or, take, refl, sym, ap, ap₂, arith, length-take-le, take_more, sum_by-cons, ◌over◌, Item, Sev, weight_sum, weight_at, probability, shares, pairs_of, Weights, weighed, items_of, with_amount, severity_total}
+use Rattle.std.proofs.Common.{Result, Ok, Err, IfOk}
 use Rattle.std.proofs.lemmas.Simd.{map-map}
-use Rattle.std.proofs.lemmas.List.Sums.{sum_by-cons}
-use Rattle.dl_exact.specs.Fraction.{◌over◌}
-use Rattle.dl_plan.specs.declared.item.Item.{Item}
-use Rattle.dl_plan.specs.declared.severity.Sev.{Sev}
-use Rattle.dl_plan.specs.Weighted.{weight_sum, weight_at}
-use Rattle.dl_plan.specs.Severity.{probability, shares, pairs_of}
-use Rattle.dl_plan.proofs.Weights.{weight_sum_pos}
 use Rattle.dl_plan.proofs.Shares.{probability-shares}
-use Rattle.dl_sev.specs.declared.weights.Weights.{Weights}
-use Rattle.dl_sev.specs.Steps.{weighed, items_of, with_amounts, with_amount}
-use Rattle.dl_plan.proofs.Means.{severity_total}
+use Rattle.dl_sev.specs.Steps.{with_amounts}
 
 pub weight_sum-mapped : (f : ℕ → ℕ) (xs : List Item) → weight_sum (map (with_amount f) xs) ≡ weight_sum xs
 weight_sum-mapped f [] = refl

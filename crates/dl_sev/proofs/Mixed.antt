@@ -1,22 +1,10 @@
 -- Atoms one after another, with their amounts and their probabilities apart.
-use Rattle.std.proofs.Common.{ℕ, ◌≡◌, ◌∙◌, ◌+◌, ◌*◌, ◌<◌, ◌≤◌, ◌^◌, List, [], ◌∷◌, ◌++◌, length, map, zip, get_or, take, sum, refl, sym, ap, ap₂, subst, arith, append_assoc, mul-pos, mul-le-mul}
-use Rattle.std.proofs.lemmas.List.{length-take-le, take_more, map-append, map_more, append-nil, take_all}
-use Rattle.std.proofs.lemmas.List.Sums.{sum_by_more_le, sum_by-cons}
-use Rattle.dl_exact.specs.Fraction.{Fraction, whole, ◌over◌, ◌+ℚ◌, ◌*ℚ◌}
-use Rattle.dl_exact.proofs.Over.{over_mul, over_same}
+use Rattle.dl_sev.proofs.Common.{ℕ, ◌≡◌, ◌∙◌, ◌+◌, ◌*◌, ◌<◌, ◌≤◌, ◌^◌, List, [], ◌∷◌, ◌++◌, length, map, zip, get_or, take, sum, refl, sym, ap, ap₂, subst, arith, append_assoc, mul-pos, mul-le-mul, length-take-le, take_more, map-append, map_more, append-nil, take_all, sum_by-cons, Fraction, whole, ◌over◌, ◌+ℚ◌, ◌*ℚ◌, over_mul, over_same, sum_over, FitsFrac, Item, Sev, amounts_of, weight_sum, shares, pairs_of, over_fits, over_plus, Weights, sum_of, mixture_of, mixed_probability, weighed, severity_total}
+use Rattle.std.proofs.lemmas.List.Sums.{sum_by_more_le}
 use Rattle.dl_exact.proofs.Laws.{zero_plus, plus_assoc, times_plus, times_zero, times_one}
-use Rattle.dl_exact.specs.Sum.{sum_over}
-use Rattle.dl_frac.specs.Exact.{FitsFrac}
-use Rattle.dl_plan.specs.declared.item.Item.{Item}
-use Rattle.dl_plan.specs.declared.severity.Sev.{Sev}
-use Rattle.dl_plan.specs.Weighted.{amounts_of, weight_sum}
-use Rattle.dl_plan.specs.Severity.{Pairs, shares, pairs_of}
-use Rattle.dl_plan.proofs.Fits.{over_fits}
-use Rattle.dl_exact.proofs.Denominators.{over_zero, over_plus}
-use Rattle.dl_sev.specs.declared.weights.Weights.{Weights}
-use Rattle.dl_sev.specs.Weighing.{sum_of}
-use Rattle.dl_sev.specs.Steps.{scaled, mixture_of, mixed_probability, weighed}
-use Rattle.dl_plan.proofs.Means.{severity_total}
+use Rattle.dl_plan.specs.Severity.{Pairs}
+use Rattle.dl_exact.proofs.Denominators.{over_zero}
+use Rattle.dl_sev.specs.Steps.{scaled}
 
 abbrev pub firsts : Pairs → List ℕ
 firsts ps = map (λ pair. pair.0) ps

@@ -1,26 +1,20 @@
 -- The numbers of a range over one denominator.
-use Rattle.std.proofs.Common.{ℕ, zero, suc, ◌≡◌, ◌∙◌, ◌+◌, ◌-◌, ◌*◌, ◌/◌, ◌<◌, ◌≤◌, ◌^◌, List, [], ◌∷◌, ◌++◌, length, map, take, drop, Option, Some, None, refl, sym, ap, ap₂, subst, arith, mul-pos, mul-le-mul, mul-le-mul_right, le_of_mul-le-mul_right, length-append, mul_comm, append_assoc, get_or, true, false, ◌&&◌, nat_eq}
+use Rattle.dl_sev.proofs.Common.{ℕ, zero, suc, ◌≡◌, ◌∙◌, ◌+◌, ◌-◌, ◌*◌, ◌/◌, ◌<◌, ◌≤◌, ◌^◌, List, [], ◌∷◌, ◌++◌, length, map, take, Option, Some, None, refl, sym, ap, ap₂, subst, arith, mul-pos, mul-le-mul, length-append, append_assoc, get_or, true, false, nat_eq, All, range_with_len, take_more, append-nil, length-map-range_with_len, ◌∣◌, Fraction, whole, ◌over◌, ◌+ℚ◌, ◌*ℚ◌, ◌<ℚ◌, over_self, over_same, over_mul, le_over, lt_over, FitsFrac, common_pos, den_divides, over_plus, over_fits, numerator_over, steps_in, value_at, list_values}
+use Rattle.std.proofs.Common.{drop, mul-le-mul_right, le_of_mul-le-mul_right, mul_comm, ◌&&◌}
 use Rattle.std.proofs.Math.Nat.{mul-sub, div-mul-le_self, div-le_self}
 use Rattle.std.specs.Option.{SomeIff, IsSome}
-use Rattle.std.specs.List.{All, range_with_len}
-use Rattle.std.proofs.lemmas.List.{take-append-drop, take_more, append-nil}
-use Rattle.std.proofs.lemmas.List.FromFn.{length-map-range_with_len, map-range_with_len_more}
+use Rattle.std.proofs.lemmas.List.{take-append-drop}
+use Rattle.std.proofs.lemmas.List.FromFn.{map-range_with_len_more}
 use Rattle.std.proofs.lemmas.Grind.{flat_map-append}
-use Prim.Native.Nat.{◌∣◌}
 use Rattle.dl_limits.specs.Limits.{most_range_parts}
-use Rattle.dl_exact.specs.Fraction.{Fraction, whole, ◌over◌, ◌+ℚ◌, ◌-ℚ◌, ◌*ℚ◌, ◌/ℚ◌, ◌≤ℚ◌, ◌<ℚ◌}
+use Rattle.dl_exact.specs.Fraction.{◌-ℚ◌, ◌/ℚ◌, ◌≤ℚ◌}
 use Rattle.dl_exact.specs.Rounding.{IsFloor}
-use Rattle.dl_exact.proofs.Over.{same, over_self, over_same, over_mul, over_sub, over_div, le_over, lt_over}
+use Rattle.dl_exact.proofs.Over.{same, over_sub, over_div}
 use Rattle.dl_exact.proofs.RoundingLaws.{floor_div, floor_one}
-use Rattle.dl_frac.specs.Exact.{FitsFrac}
-use Rattle.dl_plan.proofs.Common.{common_pos, den_divides}
-use Rattle.dl_exact.proofs.Denominators.{over_plus}
-use Rattle.dl_plan.proofs.Fits.{over_fits}
 use Rattle.dl_sev.specs.declared.range.Range.{Range}
 use Rattle.dl_sev.specs.declared.fault.ExpandFault.{ExpandFault}
 use Rattle.dl_sev.specs.declared.fault.ExpandFault.TheVariants.{TooLong, OutOfMemory}
-use Rattle.dl_plan.specs.Fine.{numerator_over}
-use Rattle.dl_sev.specs.Ranges.{floor_of, steps_in, value_at, range_values, list_values, range_denominator, IsRange, RefusesRanges, PassesRoom}
+use Rattle.dl_sev.specs.Ranges.{floor_of, range_values, range_denominator, IsRange, RefusesRanges, PassesRoom}
 use Rattle.dl_sev.proofs.Sharing.{share_is}
 
 floor_over : (n d : ℕ) → 0 < d → floor_of (n over d) ≡ n / d

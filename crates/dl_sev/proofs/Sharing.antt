@@ -1,19 +1,10 @@
 -- Fractions over their common denominator.
-use Rattle.std.proofs.Common.{ℕ, ◌≡◌, ◌∙◌, ◌+◌, ◌*◌, ◌/◌, ◌<◌, ◌≤◌, List, [], ◌∷◌, length, map, sum, get_or, take, refl, sym, ap, ap₂, arith}
-use Rattle.std.specs.List.{All, sum_by}
+use Rattle.dl_sev.proofs.Common.{ℕ, ◌≡◌, ◌∙◌, ◌+◌, ◌*◌, ◌/◌, ◌<◌, ◌≤◌, List, [], ◌∷◌, length, map, sum, get_or, take, refl, sym, ap, ap₂, arith, All, sum_by, ◌∣◌, take_all, All-head, All-tail, sum_by-cons, sum_by_more, Fraction, whole, ◌over◌, ◌+ℚ◌, sum_over, over_self, over_same, le_over, numerator_over, common_pos, den_divides, sum_of}
 use Rattle.std.proofs.Math.Nat.{div-mul_cancel}
-use Prim.Native.Nat.{◌∣◌}
-use Rattle.std.proofs.lemmas.List.{take_all}
-use Rattle.std.proofs.lemmas.List.Elements.{All-head, All-tail}
-use Rattle.std.proofs.lemmas.List.Sums.{sum_by-cons, sum_by_more, sum_by-take-le}
-use Rattle.dl_exact.specs.Fraction.{Fraction, whole, ◌over◌, ◌+ℚ◌}
-use Rattle.dl_exact.specs.Sum.{sum_over}
-use Rattle.dl_exact.proofs.Over.{over_self, over_same, le_over}
+use Rattle.std.proofs.lemmas.List.Sums.{sum_by-take-le}
 use Rattle.dl_exact.proofs.Laws.{le_of_eq}
-use Rattle.dl_plan.specs.Fine.{common_denominator, numerator_over}
-use Rattle.dl_plan.proofs.Common.{common_pos, den_divides}
+use Rattle.dl_plan.specs.Fine.{common_denominator}
 use Rattle.dl_exact.proofs.SumsOver.{sum_over_common}
-use Rattle.dl_sev.specs.Weighing.{sum_of}
 
 pub share_is : (x : Fraction) (c : ℕ) → 0 < c → x.den ∣ c → numerator_over c x over c ≡ x
 share_is x c h d =

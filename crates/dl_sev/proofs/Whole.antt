@@ -1,13 +1,8 @@
 -- Values over a bucket size, whole or not.
-use Rattle.std.proofs.Common.{ℕ, ◌≡◌, ◌∙◌, ◌+◌, ◌*◌, ◌/◌, ◌%◌, ◌<◌, List, [], ◌∷◌, ◌++◌, length, map, get_or, take, nat_eq, IsTrue, refl, sym, ap, ap₂, subst, arith, mul-pos, inl, inr}
-use Rattle.std.proofs.lemmas.Bool.{cases_lt}
-use Rattle.std.proofs.lemmas.List.{get_or_default, map_more, map-append}
-use Rattle.dl_exact.specs.Fraction.{Fraction, whole, ◌over◌, ◌<ℚ◌}
-use Rattle.dl_exact.proofs.Over.{over_lt, lt_over}
-use Rattle.dl_exact.proofs.Parts.{num_pos, quotient_is, whole_den}
-use Rattle.dl_plan.specs.Fine.{IsWhole}
+use Rattle.dl_sev.proofs.Common.{ℕ, ◌≡◌, ◌∙◌, ◌+◌, ◌*◌, ◌/◌, ◌%◌, ◌<◌, List, [], ◌∷◌, ◌++◌, length, map, get_or, take, nat_eq, IsTrue, refl, sym, ap, ap₂, subst, arith, mul-pos, inl, inr, cases_lt, get_or_default, map_more, map-append, Fraction, whole, ◌over◌, ◌<ℚ◌, lt_over, whole_den, IsWhole, buckets}
+use Rattle.dl_exact.proofs.Over.{over_lt}
+use Rattle.dl_exact.proofs.Parts.{num_pos, quotient_is}
 use Rattle.dl_plan.proofs.Clauses.{whole_if, whole_only}
-use Rattle.dl_sev.specs.Buckets.{buckets}
 
 pub zero_test : (a : ℕ) → IsTrue (nat_eq a 0) → a ≡ 0
 zero_test a e = grind arith
@@ -17,10 +12,10 @@ test_zero a e = rw e refl
 
 module _ (x bs : Fraction) (n d e m : ℕ) (h : whole 0 <ℚ bs) (pn : n ≡ x.num) (pd : d ≡ bs.den) (pe : e ≡ x.den)
     (pm : m ≡ bs.num) where
-  same : buckets bs x ≡ (n * d) over (e * m)
+  pub same : buckets bs x ≡ (n * d) over (e * m)
   same = rw (pn, pd, pe, pm) (sym (quotient_is x bs))
 
-  pos : 0 < e * m
+  pub pos : 0 < e * m
   pos = mul-pos (subst (λ k. 0 < k) (sym pe) x.positive) (subst (λ k. 0 < k) (sym pm) (num_pos bs h))
 
   pub divides_whole : IsTrue (nat_eq (n * d % (e * m)) 0) → IsWhole (buckets bs x)

@@ -2,7 +2,7 @@
 use Rattle.std.specs.Prelude.{ℕ, ◌≤◌, ⊤, List, map, All, Any}
 use Rattle.dl_plan.specs.declared.item.Item.{Item}
 use Rattle.dl_plan.specs.declared.severity.Sev.{Sev}
-use Rattle.dl_plan.specs.Fine.{IsFine, IsWhole}
+use Rattle.dl_plan.specs.Fine.{IsFineTo30Bits, IsWhole}
 use Rattle.dl_plan.specs.Clause.{Clause, kept}
 use Rattle.dl_sev.specs.declared.weights.Weights.{Weights}
 use Rattle.dl_sev.specs.Steps.{mixture}
@@ -27,5 +27,5 @@ RefusesClause items clause cede_fault.OutOfMemory = ⊤
 -- the products of a weight and an atom's probability have a common denominator above 2^30
 abbrev pub RefusesMixture : List Sev → Weights → MixFault → Type 0
 RefusesMixture atoms weights mix_fault.TooFine =
-    ¬ IsFine (map (λ pair. pair.1) (mixture atoms weights))
+    ¬ IsFineTo30Bits (map (λ pair. pair.1) (mixture atoms weights))
 RefusesMixture atoms weights mix_fault.OutOfMemory = ⊤

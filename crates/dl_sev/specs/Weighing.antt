@@ -2,7 +2,7 @@
 use Rattle.std.specs.Prelude.{◌≢◌, ⊤, List}
 use Rattle.dl_exact.specs.Fraction.{Fraction, whole}
 use Rattle.dl_exact.specs.Sum.{sum_over}
-use Rattle.dl_plan.specs.Fine.{IsFine}
+use Rattle.dl_plan.specs.Fine.{IsFineTo30Bits}
 use Rattle.dl_sev.specs.declared.fault.WeighFault.{WeighFault}
 use Rattle.dl_sev.specs.declared.fault.WeighFault.TheVariants.{TooFine, NotOne, OutOfMemory}
 
@@ -11,6 +11,6 @@ sum_of xs = sum_over xs (λ x. x)
 
 -- the probabilities have a common denominator above 2^30; or they do not sum to 1
 abbrev pub RefusesWeights : List Fraction → WeighFault → Type 0
-RefusesWeights probs TooFine = ¬ IsFine probs
-RefusesWeights probs NotOne = IsFine probs × (sum_of probs ≢ whole 1)
+RefusesWeights probs TooFine = ¬ IsFineTo30Bits probs
+RefusesWeights probs NotOne = IsFineTo30Bits probs × (sum_of probs ≢ whole 1)
 RefusesWeights probs OutOfMemory = ⊤

@@ -3,7 +3,7 @@
 ghost use Rattle.std.specs.Prelude.{◌≡◌, ◌++◌, ◌≤◌, ◌<◌, ◌^◌, length, map, sum, zip, IfOk, OnOk, MatchResult};
 ghost use Rattle.dl_limits.specs.Limits.{most_parts};
 ghost use Rattle.dl_exact.specs.Fraction.{◌over◌};
-ghost use Rattle.dl_plan.specs.Fine.{IsFine};
+ghost use Rattle.dl_plan.specs.Fine.{IsFineTo30Bits};
 ghost use Rattle.dl_plan.specs.Weighted.{amounts_of};
 ghost use Rattle.dl_plan.specs.Severity.{Means};
 ghost use Rattle.dl_sev.specs.Steps.{weighed, items_of, mixture, mixed_probability};
@@ -52,7 +52,8 @@ pub fn mix(alloc: Global, atoms: &[Sev], weights: &Weights) -> Result<Sev, MixFa
     requires within { weights.now.total ≤ most_parts }
     ensures step { MatchResult result (λ made. Means made (mixture atoms.now weights.now))
         (RefusesMixture atoms.now weights.now) }
-    ensures fine { OnOk result (IsFine (map (λ pair. pair.1) (mixture atoms.now weights.now))) }
+    ensures fine { OnOk result
+        (IsFineTo30Bits (map (λ pair. pair.1) (mixture atoms.now weights.now))) }
 {
     let mut amounts = Vec::new(alloc);
     let mut probs = Vec::new(alloc);

@@ -13,8 +13,6 @@ mod layers;
 mod list;
 mod means;
 mod range;
-#[cfg(test)]
-mod tests;
 mod weighing;
 mod weights;
 

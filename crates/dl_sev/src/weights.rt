@@ -8,14 +8,14 @@ ghost use Rattle.dl_sev.specs.Weighing.{sum_of};
 ghost use Rattle.dl_sev.specs.Weighed.{IsWeighing};
 
 use dl_frac::Frac;
-use dl_plan::{Many, numerator_over};
+use dl_plan::{Items, numerator_over};
 use std::alloc::{AllocError, Global};
 
 /// Whole weights, each of which has itself over the total as its probability.
 #[derive(Drop)]
 pub struct Weights {
     /// The weights, in order.
-    pub weights: Many<u32>,
+    pub weights: Items<u32>,
     /// What they sum to.
     pub total: u32,
 }
@@ -48,7 +48,7 @@ pub(crate) fn over_common(alloc: Global, probs: &[Frac], common: u32) -> Result<
         weights.push(numerator_over(prob, common as u64) as u32)?;
     }
     Ok(Weights {
-        weights: Many::from_vec(weights),
+        weights: Items::from_vec(weights),
         total: common,
     })
 }

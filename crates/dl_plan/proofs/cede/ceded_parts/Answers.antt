@@ -1,14 +1,8 @@
 -- A layer cedes at most all of the amount.
-use Rattle.std.proofs.Common.{ℕ, ◌≡◌, ◌∙◌, ◌<◌, ◌≤◌, ◌^◌, ◌*◌, ◌+◌, List, length, get_or, take, sum_by}
-use Rattle.std.proofs.Common.{arith, sym, ap, subst, mul-le-mul}
-use Rattle.std.specs.List.{All}
-use Rattle.std.proofs.lemmas.List.Sums.{sum_by_more}
+use Rattle.dl_plan.proofs.Common.{ℕ, ◌≡◌, ◌∙◌, ◌<◌, ◌≤◌, ◌^◌, ◌*◌, ◌+◌, List, length, get_or, take, arith, sym, ap, subst, All, sum_by_more, whole, ◌≤ℚ◌, CedeLayer, layer, layer_parts}
+use Rattle.std.proofs.Common.{sum_by, mul-le-mul}
 use Rattle.dl_limits.specs.Limits.{most_layers}
-use Rattle.dl_exact.specs.Fraction.{whole, ◌≤ℚ◌}
-use Rattle.dl_plan.specs.declared.cede.CedeLayer.{CedeLayer}
-use Rattle.dl_plan.specs.Clause.{layer}
 use Rattle.dl_plan.specs.Fine.{numerator_over}
-use Rattle.dl_plan.specs.Parts.{layer_parts}
 use Rattle.dl_plan.proofs.Clauses.{scaled_le, layer_le}
 use Rattle.dl_plan.proofs.cede.ceded_parts.Goals as goal
 

@@ -1,6 +1,6 @@
 -- The parts are the sum over the layers read so far.
-use Rattle.std.proofs.Common.{◌≡◌, ◌≤◌, ◌^◌, ◌*◌, take, sum_by}
-use Rattle.dl_plan.specs.Parts.{layer_parts}
+use Rattle.dl_plan.proofs.Common.{◌≡◌, ◌≤◌, ◌^◌, ◌*◌, take, layer_parts}
+use Rattle.std.proofs.Common.{sum_by}
 use Rattle.dl_plan.proofs.cede.ceded_parts.Given as goal
 
 abbrev pub invariant-layers : goal.invariant-layers

@@ -1,6 +1,5 @@
 -- The greatest edge of the layers read so far.
-use Rattle.std.proofs.Common.{◌≡◌, ◌<◌, ◌≤◌, ◌^◌, take}
-use Rattle.dl_plan.specs.Horizon.{last_edge}
+use Rattle.dl_plan.proofs.Common.{◌≡◌, ◌<◌, ◌≤◌, ◌^◌, take, last_edge}
 use Rattle.dl_plan.proofs.cede.last_edge.Given as goal
 
 abbrev pub invariant-layers : goal.invariant-layers

@@ -1,6 +1,5 @@
 -- The shares of the layers read so far.
-use Rattle.std.proofs.Common.{◌≡◌, take}
-use Rattle.dl_plan.specs.Clause.{layer_shares}
+use Rattle.dl_plan.proofs.Common.{◌≡◌, take, layer_shares}
 use Rattle.dl_plan.proofs.cede.shares_of.Given as goal
 
 abbrev pub invariant-layers : goal.invariant-layers

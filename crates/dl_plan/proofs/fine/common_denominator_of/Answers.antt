@@ -1,6 +1,6 @@
 -- The common multiple does not fall as more fractions are read.
-use Rattle.std.proofs.Common.{◌∙◌, ◌+◌, arith, sym}
-use Rattle.dl_plan.proofs.Common.{lcm_pos, common_step, common_take-le}
+use Rattle.dl_plan.proofs.Common.{◌∙◌, ◌+◌, arith, sym}
+use Rattle.dl_plan.proofs.CommonDenominators.{lcm_pos, common_step, common_take-le}
 use Rattle.dl_plan.proofs.fine.common_denominator_of.Goals as goal
 
 pub fracs-preserved : goal.fracs-preserved

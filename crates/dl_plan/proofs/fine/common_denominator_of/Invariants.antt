@@ -1,6 +1,5 @@
 -- The common multiple is that of the fractions read so far.
-use Rattle.std.proofs.Common.{◌≡◌, ◌<◌, ◌≤◌, ◌^◌, take}
-use Rattle.dl_plan.specs.Fine.{common_denominator}
+use Rattle.dl_plan.proofs.Common.{◌≡◌, ◌<◌, ◌≤◌, ◌^◌, take, common_denominator}
 use Rattle.dl_plan.proofs.fine.common_denominator_of.Given as goal
 
 abbrev pub invariant-fracs : goal.invariant-fracs

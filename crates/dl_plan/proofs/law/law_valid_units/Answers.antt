@@ -1,8 +1,5 @@
 -- Each is a part of what a valid unit is.
-use Rattle.std.proofs.Common.{ℕ, Option, Some, None}
-use Rattle.std.specs.Prelude.{IfSome}
-use Rattle.dl_plan.specs.declared.severity.Sev.{Sev}
-use Rattle.dl_plan.specs.Clause.{Clause, IsClause}
+use Rattle.dl_plan.proofs.Common.{ℕ, Option, Some, None, IfSome, Sev, Clause, IsClause}
 use Rattle.dl_plan.specs.Valid.{IsAggregate}
 use Rattle.dl_plan.proofs.law.law_valid_units.Goals as goal
 

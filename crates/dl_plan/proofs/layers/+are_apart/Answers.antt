@@ -1,9 +1,6 @@
 -- The first layer against the others, and the others among themselves.
-use Rattle.std.proofs.Common.{List, sym, subst}
-use Rattle.std.specs.List.{AllPairs}
+use Rattle.dl_plan.proofs.Common.{List, sym, subst, AllPairs, CedeLayer, Overlap}
 use Rattle.std.proofs.lemmas.List.Kept.{AllPairs-cons}
-use Rattle.dl_plan.specs.declared.cede.CedeLayer.{CedeLayer}
-use Rattle.dl_plan.specs.Clause.{Overlap}
 use Rattle.dl_plan.proofs.Apart.{first_apart, rest_apart}
 use Rattle.dl_plan.proofs.layers.+are_apart.Goals as goal
 

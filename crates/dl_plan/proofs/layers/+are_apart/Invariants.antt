@@ -1,5 +1,5 @@
 -- Fewer layers are left.
-use Rattle.std.proofs.Common.{length}
+use Rattle.dl_plan.proofs.Common.{length}
 use Rattle.dl_plan.proofs.layers.+are_apart.Given as goal
 
 abbrev pub decreases-are_apart : goal.decreases-are_apart

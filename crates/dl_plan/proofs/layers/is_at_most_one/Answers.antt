@@ -1,7 +1,6 @@
 -- At most 1 where the numerator is at most the denominator.
-use Rattle.std.proofs.Common.{ℕ, ◌≤◌, nat_le, IsTrue, subst, arith}
-use Rattle.dl_exact.specs.Fraction.{Fraction, whole, ◌≤ℚ◌}
-use Rattle.dl_exact.proofs.Over.{over_self, over_le}
+use Rattle.dl_plan.proofs.Common.{ℕ, ◌≤◌, IsTrue, subst, arith, Fraction, whole, ◌≤ℚ◌, over_self, over_le}
+use Rattle.std.proofs.Common.{nat_le}
 use Rattle.dl_plan.proofs.Clauses.{num_le_den}
 use Rattle.dl_plan.proofs.layers.is_at_most_one.Goals as goal
 

@@ -1,6 +1,5 @@
 -- The items read so far are divided, and the others as they were.
-use Rattle.std.proofs.Common.{◌≡◌, ◌++◌, take, drop, map}
-use Rattle.dl_plan.specs.Weighted.{divided_by}
+use Rattle.dl_plan.proofs.Common.{◌≡◌, ◌++◌, take, drop, map, divided_by}
 use Rattle.dl_plan.proofs.lowest.divided.Given as goal
 
 abbrev pub invariant-items : goal.invariant-items

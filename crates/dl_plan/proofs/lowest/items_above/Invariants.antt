@@ -1,5 +1,5 @@
 -- The items kept are those above the amount among the ones read so far.
-use Rattle.std.proofs.Common.{◌≡◌, take}
+use Rattle.dl_plan.proofs.Common.{◌≡◌, take}
 use Rattle.std.specs.Prelude.{nat_lt, filter}
 use Rattle.dl_plan.proofs.lowest.items_above.Given as goal
 

@@ -1,4 +1,4 @@
-use Rattle.std.proofs.Common.{arith}
+use Rattle.dl_plan.proofs.Common.{arith}
 use Rattle.dl_plan.proofs.Weights.{greatest_more}
 use Rattle.dl_plan.proofs.totals.greatest_amount.Goals as goal
 

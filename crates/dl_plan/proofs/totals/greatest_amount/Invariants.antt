@@ -1,5 +1,4 @@
-use Rattle.std.proofs.Common.{◌≡◌, take}
-use Rattle.dl_plan.specs.Weighted.{greatest}
+use Rattle.dl_plan.proofs.Common.{◌≡◌, take, greatest}
 use Rattle.dl_plan.proofs.totals.greatest_amount.Given as goal
 
 abbrev pub invariant-loop-item : goal.invariant-loop-item

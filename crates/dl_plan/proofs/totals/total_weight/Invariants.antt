@@ -1,6 +1,5 @@
 -- The sum is that of the items read so far.
-use Rattle.std.proofs.Common.{◌≡◌, take}
-use Rattle.dl_plan.specs.Weighted.{weight_sum}
+use Rattle.dl_plan.proofs.Common.{◌≡◌, take, weight_sum}
 use Rattle.dl_plan.proofs.totals.total_weight.Given as goal
 
 abbrev pub invariant-items : goal.invariant-items

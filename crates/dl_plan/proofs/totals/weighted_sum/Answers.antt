@@ -1,7 +1,6 @@
 -- An amount of at most 2^20 counts at most 2^20 times its weight.
-use Rattle.std.proofs.Common.{◌*◌, get_or, arith, mul-le-mul_right}
-use Rattle.std.proofs.lemmas.List.Sums.{sum_by_more, sum_by_more_le}
-use Rattle.dl_plan.specs.declared.item.Item.{Item}
+use Rattle.dl_plan.proofs.Common.{◌*◌, get_or, arith, mul-le-mul_right, sum_by_more, Item}
+use Rattle.std.proofs.lemmas.List.Sums.{sum_by_more_le}
 use Rattle.dl_plan.proofs.totals.weighted_sum.Goals as goal
 
 pub overflow_add-sum : goal.overflow_add-sum

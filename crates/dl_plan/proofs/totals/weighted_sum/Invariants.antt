@@ -1,6 +1,5 @@
 -- The sum over the items read so far.
-use Rattle.std.proofs.Common.{◌≡◌, ◌≤◌, ◌*◌, ◌^◌, take}
-use Rattle.dl_plan.specs.Weighted.{weight_sum, weighted_sum}
+use Rattle.dl_plan.proofs.Common.{◌≡◌, ◌≤◌, ◌*◌, ◌^◌, take, weight_sum, weighted_sum}
 use Rattle.dl_plan.proofs.totals.weighted_sum.Given as goal
 
 abbrev pub invariant-items : goal.invariant-items

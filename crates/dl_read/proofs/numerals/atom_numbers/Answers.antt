@@ -1,8 +1,5 @@
 -- One atom more, as long as none has a bad numeral.
-use Rattle.std.proofs.Common.{◌∙◌, refl}
-use Rattle.dl_ast.specs.declared.ast.Atom.{Atom}
-use Rattle.dl_read.specs.BadNumerals.{bad_in_pair}
-use Rattle.dl_read.specs.Numbers.{pair_numbers}
+use Rattle.dl_read.proofs.Common.{◌∙◌, refl, Atom, bad_in_pair, pair_numbers}
 use Rattle.dl_read.proofs.Firsts.{passed}
 use Rattle.dl_read.proofs.Reading.{part_stopped, none_stopped, made_more, made_all}
 use Rattle.dl_read.proofs.numerals.atom_numbers.Goals as goal
@@ -17,8 +14,8 @@ pub atoms-preserved : goal.atoms-preserved
 atoms-preserved c = record {
   made = made_more (λ (a : Atom). pair_numbers a.values a.probs) c.args.atoms.now c.atoms.atom-index c.atom-item.result
       c.atoms.made.items
-      c.push.new.self.items c.in-Ok.pair c.atoms.invariant.made c.atoms-test.true c.atom-item.is
-      c.in_ok-push-in-Ok.ensures.items c.in-Ok.ensures.0;
+      c.push_part.new.parts.items c.in-Ok.pair c.atoms.invariant.made c.atoms-test.true c.atom-item.is
+      c.in_ok-push_part-in-Ok.ensures c.in-Ok.ensures.0;
   good = passed (λ (a : Atom). bad_in_pair a.values a.probs) c.args.atoms.now c.atoms.atom-index c.atom-item.result
       c.atoms.invariant.good
       c.atoms-test.true c.atom-item.is c.in-Ok.ensures.1;

@@ -1,8 +1,5 @@
 -- The atoms so far, none of which has a bad numeral.
-use Rattle.std.proofs.Common.{◌≡◌, map, take}
-use Rattle.dl_ast.specs.declared.ast.Atom.{Atom}
-use Rattle.dl_read.specs.BadNumerals.{bad_in_pair}
-use Rattle.dl_read.specs.Numbers.{pair_numbers}
+use Rattle.dl_read.proofs.Common.{◌≡◌, map, take, Atom, bad_in_pair, pair_numbers}
 use Rattle.dl_read.proofs.Firsts.{NoneBefore}
 use Rattle.dl_read.proofs.numerals.atom_numbers.Given as goal
 

@@ -1,8 +1,6 @@
 -- One layer more, as long as none has a bad numeral.
-use Rattle.std.proofs.Common.{◌∙◌, ap, ap₂, None}
+use Rattle.dl_read.proofs.Common.{◌∙◌, ap, ap₂, None, bad_in_share, bad_in_layer, bad_in_ceded, ceded_numbers}
 use Rattle.dl_ast.specs.WellFormed.{IsFormedCeded}
-use Rattle.dl_read.specs.BadNumerals.{bad_in_share, bad_in_layer, bad_in_ceded}
-use Rattle.dl_read.specs.Numbers.{ceded_numbers}
 use Rattle.dl_read.proofs.Firsts.{passed, at_item, else_next}
 use Rattle.dl_read.proofs.Reading.{stopped, stopped_next, part_stopped, none_stopped, made_more, made_all}
 use Rattle.dl_read.proofs.numerals.clause_numbers.Goals as goal
@@ -32,7 +30,8 @@ returns-in-Err-layer_numbers c =
     let stop = c.in-Err-layer_numbers.stop in
     part_stopped bad_in_ceded c.args.clause.now.layers c.as_slice-ceded-items.result.now c.as_slice-ceded-items.ensures
     c.layers.ceded-index c.ceded-item.result stop c.layers.invariant.good c.layers-test.true c.ceded-item.is
-    (stopped_next (bad_in_share c.ceded-item.result.share) (bad_in_layer c.ceded-item.result.layer) stop c.in-Ok.ensures.1
+    (stopped_next (bad_in_share c.ceded-item.result.share) (bad_in_layer c.ceded-item.result.layer) stop
+    c.in-Ok.ensures.1
     c.in-Err-layer_numbers.ensures)
 
 pub layers-preserved : goal.layers-preserved
@@ -40,12 +39,15 @@ layers-preserved c =
     let zs = c.as_slice-ceded-items.result.now in
     let ceded = c.ceded-item.result in
     record {
-      made = made_more ceded_numbers zs c.layers.ceded-index ceded c.layers.made.items c.push.new.self.items
+      made = made_more ceded_numbers zs c.layers.ceded-index ceded c.layers.made.items c.push_part.new.parts.items
           (record { share = c.in-Ok.share; layer = c.in-Ok-layer_numbers.layer; span = ceded.span })
-          c.layers.invariant.made c.layers-test.true c.ceded-item.is c.in_ok-push.ensures.items
-          (ap₂ (λ s l. record { share = s; layer = l; span = ceded.span }) c.in-Ok.ensures.0 c.in-Ok-layer_numbers.ensures.0);
-      good = passed bad_in_ceded zs c.layers.ceded-index ceded c.layers.invariant.good c.layers-test.true c.ceded-item.is
-          (else_next (bad_in_share ceded.share) (bad_in_layer ceded.layer) None c.in-Ok.ensures.1 c.in-Ok-layer_numbers.ensures.1);
+          c.layers.invariant.made c.layers-test.true c.ceded-item.is c.in_ok-push_part.ensures
+          (ap₂ (λ s l. record { share = s; layer = l; span = ceded.span }) c.in-Ok.ensures.0
+          c.in-Ok-layer_numbers.ensures.0);
+      good = passed bad_in_ceded zs c.layers.ceded-index ceded c.layers.invariant.good c.layers-test.true
+          c.ceded-item.is
+          (else_next (bad_in_share ceded.share) (bad_in_layer ceded.layer) None c.in-Ok.ensures.1
+          c.in-Ok-layer_numbers.ensures.1);
     }
 
 pub returns : goal.returns

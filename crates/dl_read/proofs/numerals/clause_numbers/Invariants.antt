@@ -1,7 +1,5 @@
 -- The layers so far, none of which has a bad numeral.
-use Rattle.std.proofs.Common.{◌≡◌, map, take}
-use Rattle.dl_read.specs.BadNumerals.{bad_in_ceded}
-use Rattle.dl_read.specs.Numbers.{ceded_numbers}
+use Rattle.dl_read.proofs.Common.{◌≡◌, map, take, bad_in_ceded, ceded_numbers}
 use Rattle.dl_read.proofs.Firsts.{NoneBefore}
 use Rattle.dl_read.proofs.numerals.clause_numbers.Given as goal
 

@@ -1,8 +1,5 @@
 -- One item more, as long as none has a bad numeral.
-use Rattle.std.proofs.Common.{◌∙◌, ap}
-use Rattle.dl_ast.specs.WellFormed.{IsFormedItem}
-use Rattle.dl_read.specs.BadNumerals.{bad_in_item}
-use Rattle.dl_read.specs.Numbers.{item_numbers}
+use Rattle.dl_read.proofs.Common.{◌∙◌, ap, IsFormedItem, bad_in_item, item_numbers}
 use Rattle.dl_read.proofs.Firsts.{passed, at_item}
 use Rattle.dl_read.proofs.Reading.{part_stopped, none_stopped, made_more, made_all}
 use Rattle.dl_read.proofs.numerals.list_numbers.Goals as goal
@@ -23,8 +20,8 @@ pub items-preserved : goal.items-preserved
 items-preserved c = record {
   made = made_more item_numbers c.as_slice-item-items.result.now c.items.item-index c.item-item.result
       c.items.made.items
-      c.push.new.self.items c.in-Ok.numbers c.items.invariant.made c.items-test.true c.item-item.is
-      c.in_ok-push-in-Ok.ensures.items c.in-Ok.ensures.0;
+      c.push_part.new.parts.items c.in-Ok.numbers c.items.invariant.made c.items-test.true c.item-item.is
+      c.in_ok-push_part-in-Ok.ensures c.in-Ok.ensures.0;
   good = passed bad_in_item c.as_slice-item-items.result.now c.items.item-index c.item-item.result
       c.items.invariant.good
       c.items-test.true c.item-item.is c.in-Ok.ensures.1;

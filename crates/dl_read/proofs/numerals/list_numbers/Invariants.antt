@@ -1,7 +1,5 @@
 -- The items so far, none of which has a bad numeral.
-use Rattle.std.proofs.Common.{◌≡◌, map, take}
-use Rattle.dl_read.specs.BadNumerals.{bad_in_item}
-use Rattle.dl_read.specs.Numbers.{item_numbers}
+use Rattle.dl_read.proofs.Common.{◌≡◌, map, take, bad_in_item, item_numbers}
 use Rattle.dl_read.proofs.Firsts.{NoneBefore}
 use Rattle.dl_read.proofs.numerals.list_numbers.Given as goal
 

@@ -1,6 +1,5 @@
 -- The first part of which the rule tells a place is the first that breaks it.
-use Rattle.std.proofs.Common.{◌∙◌, refl, sym}
-use Rattle.dl_read.specs.First.{TellsPart}
+use Rattle.dl_read.proofs.Common.{◌∙◌, refl, sym, TellsPart}
 use Rattle.dl_read.proofs.Firsts.{found, passed, ended, at_item}
 use Rattle.dl_read.proofs.places.first_place.Goals as goal
 

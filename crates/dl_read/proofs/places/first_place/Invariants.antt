@@ -1,7 +1,6 @@
 -- No part before breaks the rule, whatever it is that the rule tells.
-use Rattle.std.proofs.Common.{Option, All}
-use Rattle.dl_lexer.specs.declared.token.Span.{Span}
-use Rattle.dl_read.specs.First.{TellsPart}
+use Rattle.dl_read.proofs.Common.{Option, Span, TellsPart}
+use Rattle.std.proofs.Common.{All}
 use Rattle.dl_read.proofs.Firsts.{NoneBefore}
 use Rattle.dl_read.proofs.places.first_place.Given as goal
 

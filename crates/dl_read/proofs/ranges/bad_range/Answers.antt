@@ -1,5 +1,5 @@
 -- The lists of the count stand before those of the severity.
-use Rattle.dl_read.specs.Rules.{range_in_count, range_in_severity}
+use Rattle.dl_read.proofs.Common.{range_in_count, range_in_severity}
 use Rattle.dl_read.proofs.Firsts.{else_or}
 use Rattle.dl_read.proofs.ranges.bad_range.Goals as goal
 

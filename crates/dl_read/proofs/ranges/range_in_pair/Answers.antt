@@ -1,6 +1,5 @@
 -- The first list, and the second.
-use Rattle.dl_read.specs.First.{within}
-use Rattle.dl_read.specs.Rules.{range_in_list}
+use Rattle.dl_read.proofs.Common.{within, range_in_list}
 use Rattle.dl_read.proofs.Firsts.{else_or}
 use Rattle.dl_read.proofs.ranges.range_in_pair.Goals as goal
 

@@ -1,9 +1,7 @@
 -- No part of the common denominator passes the whole.
-use Rattle.std.proofs.Common.{◌≤◌, ◌<◌, ◌∷◌, [], ap, ap₂, ◌∙◌, arith}
+use Rattle.dl_read.proofs.Common.{◌≤◌, ◌<◌, ◌∷◌, [], ap, ap₂, ◌∙◌, arith, Range, range_denominator}
 use Rattle.dl_exact.specs.Multiples.{lcm}
-use Rattle.dl_plan.proofs.Common.{common_take-le, lcm_pos}
-use Rattle.dl_sev.specs.declared.range.Range.{Range}
-use Rattle.dl_sev.specs.Ranges.{range_denominator}
+use Rattle.dl_plan.proofs.CommonDenominators.{common_take-le, lcm_pos}
 use Rattle.dl_read.proofs.ranges.shared_denominator.Goals as goal
 
 first_le : (r : Range) → lcm 1 r.from.den ≤ range_denominator r

@@ -1,5 +1,6 @@
 -- So many copies so far.
-use Rattle.std.proofs.Common.{◌≡◌, ◌++◌, replicate}
+use Rattle.dl_read.proofs.Common.{◌≡◌, ◌++◌}
+use Rattle.std.proofs.Common.{replicate}
 use Rattle.dl_read.proofs.read.push_copies.Given as goal
 
 abbrev pub invariant-copies : goal.invariant-copies

@@ -1,7 +1,5 @@
 -- One atom more, as long as none has a list that is too long.
-use Rattle.std.proofs.Common.{◌∙◌, refl}
-use Rattle.dl_read.specs.Rules.{long_pair}
-use Rattle.dl_read.specs.Read.{read_pair}
+use Rattle.dl_read.proofs.Common.{◌∙◌, refl, long_pair, read_pair}
 use Rattle.dl_read.proofs.Firsts.{passed}
 use Rattle.dl_read.proofs.Reading.{part_stopped, none_stopped, made_more, made_all}
 use Rattle.dl_read.proofs.read.read_atoms.Goals as goal
@@ -15,8 +13,8 @@ returns-in-Err c =
 pub atoms-preserved : goal.atoms-preserved
 atoms-preserved c = record {
   made = made_more read_pair c.args.atoms.now c.atoms.atom-index c.atom-item.result c.atoms.made.items
-      c.push.new.self.items c.in-Ok.pair
-      c.atoms.invariant.made c.atoms-test.true c.atom-item.is c.in_ok-push-in-Ok.ensures.items c.in-Ok.ensures.0;
+      c.push_part.new.parts.items c.in-Ok.pair
+      c.atoms.invariant.made c.atoms-test.true c.atom-item.is c.in_ok-push_part-in-Ok.ensures c.in-Ok.ensures.0;
   short = passed long_pair c.args.atoms.now c.atoms.atom-index c.atom-item.result c.atoms.invariant.short
       c.atoms-test.true c.atom-item.is
       c.in-Ok.ensures.1;

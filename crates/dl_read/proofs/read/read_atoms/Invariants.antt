@@ -1,7 +1,5 @@
 -- The atoms so far, none of which has a list that is too long.
-use Rattle.std.proofs.Common.{◌≡◌, map, take}
-use Rattle.dl_read.specs.Rules.{long_pair}
-use Rattle.dl_read.specs.Read.{read_pair}
+use Rattle.dl_read.proofs.Common.{◌≡◌, map, take, long_pair, read_pair}
 use Rattle.dl_read.proofs.Firsts.{NoneBefore}
 use Rattle.dl_read.proofs.read.read_atoms.Given as goal
 

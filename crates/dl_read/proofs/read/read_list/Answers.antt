@@ -1,9 +1,5 @@
 -- One item more, as long as there are at most 1,024 values.
-use Rattle.std.proofs.Common.{◌∙◌, subst, ap₂, length}
-use Rattle.dl_sev.specs.declared.fault.ExpandFault.{ExpandFault}
-use Rattle.dl_sev.specs.Ranges.{PassesRoom}
-use Rattle.dl_read.specs.Ranged.{IsItemRanged}
-use Rattle.dl_read.specs.Read.{item_values, item_places}
+use Rattle.dl_read.proofs.Common.{◌∙◌, subst, ap₂, length, ExpandFault, PassesRoom, IsItemRanged, item_values, item_places}
 use Rattle.dl_read.proofs.Firsts.{at_item}
 use Rattle.dl_read.proofs.Reading.{far_list, short_list, all_of}
 use Rattle.dl_read.proofs.read.read_list.Goals as goal

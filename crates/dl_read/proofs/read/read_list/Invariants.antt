@@ -1,7 +1,5 @@
 -- The values and the places of the items so far.
-use Rattle.std.proofs.Common.{◌≡◌, ◌≤◌, flat_map, take, length}
-use Rattle.dl_limits.specs.Limits.{most_values}
-use Rattle.dl_read.specs.Read.{item_values, item_places}
+use Rattle.dl_read.proofs.Common.{◌≡◌, ◌≤◌, flat_map, take, length, most_values, item_values, item_places}
 use Rattle.dl_read.proofs.read.read_list.Given as goal
 
 abbrev pub invariant-items : goal.invariant-items

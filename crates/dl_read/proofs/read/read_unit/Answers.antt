@@ -1,5 +1,5 @@
 -- The rules in turn, on what was read.
-use Rattle.std.proofs.Common.{Some, sym}
+use Rattle.dl_read.proofs.Common.{Some, sym}
 use Rattle.dl_read.proofs.ReadUnits.{range_place, long_place, numbers_ranged, whole_read, whole_kept}
 use Rattle.dl_read.proofs.read.read_unit.Goals as goal
 

@@ -1,7 +1,5 @@
 -- One amount with its weight more.
-use Rattle.std.proofs.Common.{ℕ, ◌≡◌, ◌∙◌, ◌<◌, ◌+◌, List, ◌++◌, ◌∷◌, [], length, take, get_or, ap, sym, subst}
-use Rattle.dl_plan.specs.declared.item.Item.{Item}
-use Rattle.dl_sev.specs.Steps.{items_of}
+use Rattle.dl_sev.proofs.Common.{ℕ, ◌≡◌, ◌∙◌, ◌<◌, ◌+◌, List, ◌++◌, ◌∷◌, [], length, take, get_or, ap, sym, subst, Item, items_of}
 use Rattle.dl_sev.proofs.Mapped.{items_of-more}
 use Rattle.dl_sev.proofs.atoms.items_of.Goals as goal
 

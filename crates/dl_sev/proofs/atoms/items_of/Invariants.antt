@@ -1,6 +1,5 @@
 -- The amounts and weights read so far.
-use Rattle.std.proofs.Common.{◌≡◌, take}
-use Rattle.dl_sev.specs.Steps.{items_of}
+use Rattle.dl_sev.proofs.Common.{◌≡◌, take, items_of}
 use Rattle.dl_sev.proofs.atoms.items_of.Given as goal
 
 abbrev pub invariant-amounts : goal.invariant-amounts

@@ -1,11 +1,5 @@
 -- The weights sum to the total.
-use Rattle.std.proofs.Common.{ℕ, ◌≡◌, ◌∙◌, List, length, sum, ap, ap₂, sym, arith}
-use Rattle.dl_exact.specs.Fraction.{◌over◌}
-use Rattle.dl_plan.specs.declared.item.Item.{Item}
-use Rattle.dl_plan.specs.declared.severity.Sev.{Sev}
-use Rattle.dl_plan.specs.Weighted.{weight_sum, weight_at}
-use Rattle.dl_plan.specs.Severity.{probability_of}
-use Rattle.dl_sev.specs.Steps.{items_of}
+use Rattle.dl_sev.proofs.Common.{ℕ, ◌≡◌, ◌∙◌, List, length, sum, ap, ap₂, sym, arith, ◌over◌, Item, Sev, weight_sum, weight_at, probability_of, items_of}
 use Rattle.dl_sev.proofs.Mapped.{weight_sum-items, probability-weighed, if_ok}
 use Rattle.dl_sev.proofs.atoms.merge.Goals as goal
 

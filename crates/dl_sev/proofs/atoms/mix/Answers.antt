@@ -1,12 +1,7 @@
 -- The amounts with the weights of the products are the mixture.
-use Rattle.std.proofs.Common.{◌∙◌, ◌++◌, map, get_or, ap, subst}
-use Rattle.dl_exact.specs.Fraction.{◌over◌}
-use Rattle.dl_plan.specs.Fine.{IsFine}
-use Rattle.dl_plan.specs.Weighted.{amounts_of}
-use Rattle.dl_plan.specs.Severity.{probability}
-use Rattle.dl_sev.specs.Steps.{mixture_of, mixed_probability}
+use Rattle.dl_sev.proofs.Common.{◌∙◌, ◌++◌, map, get_or, ap, subst, ◌over◌, amounts_of, probability, mixture_of, mixed_probability, sum_of}
+use Rattle.dl_plan.specs.Fine.{IsFineTo30Bits}
 use Rattle.dl_sev.proofs.Mixed.{amounts-more, probs-more, weighed-back, mixture_whole, mixture_one, firsts, seconds}
-use Rattle.dl_sev.specs.Weighing.{sum_of}
 use Rattle.dl_sev.proofs.atoms.mix.Goals as goal
 
 pub atoms-preserved : goal.atoms-preserved
@@ -47,4 +42,4 @@ returns-clause-fine c =
     let all = mixture_whole c.args.weights.now.total c.args.atoms.now c.args.weights.now.weights c.atoms.at
     c.atoms-test.false c.requires.lengths in
     let told = rw c.in-Some.is at c.common_denominator_of.ensures in
-    subst IsFine (c.deref.ensures.value ∙ c.atoms.invariant.probs ∙ ap seconds all) told.0
+    subst IsFineTo30Bits (c.deref.ensures.value ∙ c.atoms.invariant.probs ∙ ap seconds all) told.0

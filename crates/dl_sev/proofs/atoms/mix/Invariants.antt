@@ -1,6 +1,5 @@
 -- The amounts and the probabilities of the atoms read so far.
-use Rattle.std.proofs.Common.{◌≡◌, map, take}
-use Rattle.dl_sev.specs.Steps.{mixture_of}
+use Rattle.dl_sev.proofs.Common.{◌≡◌, map, take, mixture_of}
 use Rattle.dl_sev.proofs.atoms.mix.Given as goal
 
 abbrev pub invariant-atoms : goal.invariant-atoms

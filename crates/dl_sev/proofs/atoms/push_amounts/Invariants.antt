@@ -1,6 +1,5 @@
 -- The amounts read so far stand behind the others.
-use Rattle.std.proofs.Common.{◌≡◌, ◌++◌, take}
-use Rattle.dl_plan.specs.Weighted.{amounts_of}
+use Rattle.dl_sev.proofs.Common.{◌≡◌, ◌++◌, take, amounts_of}
 use Rattle.dl_sev.proofs.atoms.push_amounts.Given as goal
 
 abbrev pub invariant-items : goal.invariant-items

@@ -1,11 +1,6 @@
 -- A product of small parts is not refused.
-use Rattle.std.proofs.Common.{◌∙◌, ◌<◌, List, length, get_or, ap, subst}
-use Rattle.dl_exact.specs.Fraction.{◌over◌}
-use Rattle.dl_plan.specs.declared.item.Item.{Item}
-use Rattle.dl_plan.proofs.Fits.{given_ok, given_value}
-use Rattle.dl_sev.specs.Steps.{mixed_probability}
+use Rattle.dl_sev.proofs.Common.{◌∙◌, ◌<◌, List, length, get_or, ap, subst, ◌over◌, Item, given_ok, given_value, mixed_probability, severity_total}
 use Rattle.dl_sev.proofs.Mixed.{fits_at, product_is, shares-more}
-use Rattle.dl_plan.proofs.Means.{severity_total}
 use Rattle.dl_sev.proofs.atoms.push_probs.Goals as goal
 
 pub unwrap-requires : goal.unwrap-requires

@@ -1,7 +1,5 @@
 -- The probabilities read so far stand behind the others.
-use Rattle.std.proofs.Common.{◌≡◌, ◌++◌, map, take}
-use Rattle.dl_exact.specs.Fraction.{◌over◌}
-use Rattle.dl_sev.specs.Steps.{mixed_probability}
+use Rattle.dl_sev.proofs.Common.{◌≡◌, ◌++◌, map, take, ◌over◌, mixed_probability}
 use Rattle.dl_sev.proofs.atoms.push_probs.Given as goal
 
 abbrev pub invariant-items : goal.invariant-items

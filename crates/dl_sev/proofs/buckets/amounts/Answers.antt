@@ -1,8 +1,5 @@
 -- A value that is near is made; the first that is not ends it.
-use Rattle.std.proofs.Common.{ℕ, ◌<◌, ◌≤◌, ◌^◌, sym, subst, arith}
-use Rattle.std.proofs.lemmas.List.Elements.{All-push}
-use Rattle.dl_exact.specs.Fraction.{whole, ◌<ℚ◌}
-use Rattle.dl_sev.specs.Buckets.{buckets}
+use Rattle.dl_sev.proofs.Common.{ℕ, ◌<◌, ◌≤◌, ◌^◌, sym, subst, arith, All-push, whole, ◌<ℚ◌, buckets}
 use Rattle.dl_sev.proofs.Whole.{whole_lt, lt_whole, more_amounts, more_before, at_place}
 use Rattle.dl_sev.proofs.buckets.amounts.Goals as goal
 

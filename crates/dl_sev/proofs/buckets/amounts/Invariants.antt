@@ -1,8 +1,6 @@
 -- The values read so far are made, and none is too far.
-use Rattle.std.proofs.Common.{ℕ, ◌≡◌, ◌<◌, ◌≤◌, ◌^◌, get_or, map, take}
+use Rattle.dl_sev.proofs.Common.{ℕ, ◌≡◌, ◌<◌, ◌≤◌, ◌^◌, get_or, map, take, Fraction, whole, ◌<ℚ◌, buckets}
 use Rattle.std.specs.Prelude.{All}
-use Rattle.dl_exact.specs.Fraction.{Fraction, whole, ◌<ℚ◌}
-use Rattle.dl_sev.specs.Buckets.{buckets}
 use Rattle.dl_sev.proofs.buckets.amounts.Given as goal
 
 abbrev pub invariant-values : goal.invariant-values

@@ -1,8 +1,5 @@
 -- The values read so far are whole.
-use Rattle.std.proofs.Common.{ℕ, ◌<◌, get_or}
-use Rattle.dl_exact.specs.Fraction.{Fraction}
-use Rattle.dl_plan.specs.Fine.{IsWhole}
-use Rattle.dl_sev.specs.Buckets.{buckets}
+use Rattle.dl_sev.proofs.Common.{ℕ, ◌<◌, get_or, Fraction, IsWhole, buckets}
 use Rattle.dl_sev.proofs.buckets.first_off_grid.Given as goal
 
 abbrev pub invariant-values : goal.invariant-values

@@ -1,5 +1,5 @@
 -- What is too long so far is too long.
-use Rattle.std.proofs.Common.{length}
+use Rattle.dl_sev.proofs.Common.{length}
 use Rattle.dl_sev.proofs.Ranged.{refuses, more_fits}
 use Rattle.dl_sev.proofs.expand_list.expand.Goals as goal
 

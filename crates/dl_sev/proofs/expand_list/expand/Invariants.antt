@@ -1,7 +1,5 @@
 -- The values of the ranges read so far.
-use Rattle.std.proofs.Common.{◌≡◌, ◌≤◌, length, take}
-use Rattle.dl_limits.specs.Limits.{most_values}
-use Rattle.dl_sev.specs.Ranges.{list_values}
+use Rattle.dl_sev.proofs.Common.{◌≡◌, ◌≤◌, length, take, most_values, list_values}
 use Rattle.dl_sev.proofs.expand_list.expand.Given as goal
 
 abbrev pub invariant-items : goal.invariant-items

@@ -1,5 +1,5 @@
 -- One value.
-use Rattle.std.proofs.Common.{◌∙◌, ◌++◌, ap, sym}
+use Rattle.dl_sev.proofs.Common.{◌∙◌, ◌++◌, ap, sym}
 use Rattle.dl_sev.proofs.Ranged.{one_value}
 use Rattle.dl_sev.proofs.expand_list.push_one.Goals as goal
 

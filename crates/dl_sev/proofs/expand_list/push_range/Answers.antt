@@ -1,5 +1,5 @@
 -- Ranges of one number, and others.
-use Rattle.std.proofs.Common.{inl, inr}
+use Rattle.dl_sev.proofs.Common.{inl, inr}
 use Rattle.dl_sev.proofs.Ranged.{equal_if, not_equal}
 use Rattle.dl_sev.proofs.expand_list.push_range.Goals as goal
 

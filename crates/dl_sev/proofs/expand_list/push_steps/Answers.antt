@@ -1,13 +1,5 @@
 -- Each step is one value more.
-use Rattle.std.proofs.Common.{ℕ, ◌≡◌, ◌∙◌, ◌+◌, ◌-◌, ◌*◌, ◌/◌, ◌<◌, ◌≤◌, ◌++◌, length, map, ap, ap₂, sym, arith}
-use Rattle.std.proofs.Common.{List, length-append}
-use Rattle.std.specs.List.{range_with_len}
-use Rattle.std.proofs.lemmas.List.FromFn.{length-map-range_with_len}
-use Rattle.dl_limits.specs.Limits.{most_values}
-use Rattle.dl_exact.specs.Fraction.{Fraction, ◌over◌}
-use Rattle.dl_plan.proofs.Fits.{given_ok, given_value}
-use Rattle.dl_plan.specs.Fine.{numerator_over}
-use Rattle.dl_sev.specs.Ranges.{steps_in, value_at}
+use Rattle.dl_sev.proofs.Common.{ℕ, ◌≡◌, ◌∙◌, ◌+◌, ◌-◌, ◌*◌, ◌/◌, ◌<◌, ◌≤◌, ◌++◌, length, map, ap, ap₂, sym, arith, List, length-append, range_with_len, length-map-range_with_len, most_values, Fraction, ◌over◌, given_ok, given_value, numerator_over, steps_in, value_at}
 use Rattle.dl_sev.proofs.Ranged.{pos, rising, step_pos, steps_are, value_is, value_fits, values_length, steps_more}
 use Rattle.dl_sev.proofs.expand_list.push_steps.Goals as goal
 

@@ -1,7 +1,5 @@
 -- The values of the steps so far stand behind the others.
-use Rattle.std.proofs.Common.{◌≡◌, ◌++◌, map}
-use Rattle.std.specs.List.{range_with_len}
-use Rattle.dl_sev.specs.Ranges.{value_at}
+use Rattle.dl_sev.proofs.Common.{◌≡◌, ◌++◌, map, range_with_len, value_at}
 use Rattle.dl_sev.proofs.expand_list.push_steps.Given as goal
 
 abbrev pub invariant-steps : goal.invariant-steps

@@ -1,5 +1,5 @@
 -- The common denominator of a range is small, so it is there.
-use Rattle.std.proofs.Common.{arith}
+use Rattle.dl_sev.proofs.Common.{arith}
 use Rattle.dl_sev.proofs.Ranged.{some_if}
 use Rattle.dl_sev.proofs.expand_list.shared_denominator.Goals as goal
 

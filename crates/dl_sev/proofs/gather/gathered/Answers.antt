@@ -1,9 +1,7 @@
 -- A sort changes no sum.
-use Rattle.std.proofs.Common.{ℕ, ◌≡◌, ◌∙◌, ◌==◌, ◌<◌, ◌≤◌, List, [], ◌∷◌, length, cond, ap, ap₂, sym, subst, arith, zero-lt-suc, IsPermutation, ◌^◌}
+use Rattle.dl_sev.proofs.Common.{ℕ, ◌≡◌, ◌∙◌, ◌==◌, ◌<◌, ◌≤◌, List, [], ◌∷◌, length, cond, ap, ap₂, sym, subst, arith, ◌^◌, ◌over◌, Item, weight_sum, weight_at}
+use Rattle.std.proofs.Common.{zero-lt-suc, IsPermutation}
 use Rattle.std.proofs.lemmas.List.Sorted.{sum_by-IsPermutation}
-use Rattle.dl_exact.specs.Fraction.{◌over◌}
-use Rattle.dl_plan.specs.declared.item.Item.{Item}
-use Rattle.dl_plan.specs.Weighted.{weight_sum, weight_at}
 use Rattle.dl_sev.proofs.gather.gathered.Goals as goal
 
 some_items : (xs : List Item) → 0 < weight_sum xs → 0 < length xs

@@ -1,5 +1,5 @@
 -- The multiples past the ends decide.
-use Rattle.std.proofs.Common.{arith, refl}
+use Rattle.dl_sev.proofs.Common.{arith, refl}
 use Rattle.dl_sev.proofs.Lattices.{fits_all, fits_none, fits_one, fits_ends}
 use Rattle.dl_sev.proofs.lattice.fits.Goals as goal
 

@@ -1,10 +1,7 @@
 -- What the map gives is whole, or there is none.
-use Rattle.std.proofs.Common.{ℕ, ◌≡◌, ◌∙◌, ◌↔◌, IsTrue, Option, Some, None, refl, ap}
+use Rattle.dl_sev.proofs.Common.{ℕ, ◌≡◌, ◌∙◌, IsTrue, Option, Some, None, refl, ap, Fraction, whole, IsWhole, kept, whole_den}
+use Rattle.std.proofs.Common.{◌↔◌}
 use Rattle.std.specs.Option.{MatchOption, is_some}
-use Rattle.dl_exact.specs.Fraction.{Fraction, whole}
-use Rattle.dl_plan.specs.Fine.{IsWhole}
-use Rattle.dl_plan.specs.Clause.{kept}
-use Rattle.dl_exact.proofs.Parts.{whole_den}
 use Rattle.dl_sev.proofs.lattice.is_whole_at.Goals as goal
 
 tells : (kept : Fraction) (answer : Option ℕ) → MatchOption answer (¬ IsWhole kept) (λ y. kept ≡ whole y)

@@ -1,9 +1,6 @@
 -- The clause changes no weight.
-use Rattle.std.proofs.Common.{ℕ, ◌∙◌, ◌<◌, ◌≤◌, ◌^◌, map, ap, sym, subst}
-use Rattle.dl_plan.specs.Clause.{kept}
-use Rattle.dl_sev.specs.Steps.{with_amount}
+use Rattle.dl_sev.proofs.Common.{ℕ, ◌∙◌, ◌<◌, ◌≤◌, ◌^◌, map, ap, sym, subst, kept, with_amount, severity_total}
 use Rattle.dl_sev.proofs.Mapped.{mapped_sum, mapped_means}
-use Rattle.dl_plan.proofs.Means.{severity_total}
 use Rattle.dl_sev.proofs.layers.cede_each.Goals as goal
 
 pub gathered-requires-clause-some : goal.gathered-requires-clause-some

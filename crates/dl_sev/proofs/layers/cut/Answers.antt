@@ -1,13 +1,6 @@
 -- The layer changes no weight.
-use Rattle.std.proofs.Common.{ℕ, ◌≡◌, ◌∙◌, ◌<◌, ◌≤◌, ◌^◌, map, ap, sym, subst}
-use Rattle.dl_exact.specs.Fraction.{◌over◌}
-use Rattle.dl_plan.specs.declared.severity.Sev.{Sev}
-use Rattle.dl_plan.specs.Weighted.{weight_sum, weight_at}
-use Rattle.dl_plan.specs.Severity.{probability_of}
-use Rattle.dl_plan.specs.Clause.{layer}
-use Rattle.dl_sev.specs.Steps.{with_amount}
+use Rattle.dl_sev.proofs.Common.{ℕ, ◌≡◌, ◌∙◌, ◌<◌, ◌≤◌, ◌^◌, map, ap, sym, subst, ◌over◌, Sev, weight_sum, weight_at, probability_of, layer, with_amount, severity_total}
 use Rattle.dl_sev.proofs.Mapped.{mapped_sum, mapped_means, if_ok}
-use Rattle.dl_plan.proofs.Means.{severity_total}
 use Rattle.dl_sev.proofs.layers.cut.Goals as goal
 
 pub gathered-requires-clause-some : goal.gathered-requires-clause-some

@@ -1,5 +1,5 @@
 -- What lies in a layer is not above the amount.
-use Rattle.std.proofs.Common.{arith}
+use Rattle.dl_sev.proofs.Common.{arith}
 use Rattle.dl_plan.proofs.Clauses.{layer_le}
 use Rattle.dl_sev.proofs.layers.cut_amount.Goals as goal
 

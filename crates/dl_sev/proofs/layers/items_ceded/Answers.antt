@@ -1,13 +1,6 @@
 -- One item more is mapped.
-use Rattle.std.proofs.Common.{ℕ, ◌≡◌, ◌∙◌, ◌+◌, ◌<◌, List, [], ◌∷◌, ◌++◌, length, take, map, get_or, ap, ap₂, sym, subst, arith, inl, inr}
-use Rattle.std.proofs.lemmas.List.{get_or_default, map_more}
-use Rattle.std.proofs.lemmas.Bool.{cases_lt}
-use Rattle.dl_exact.specs.Fraction.{Fraction, whole}
-use Rattle.dl_plan.specs.declared.item.Item.{Item}
-use Rattle.dl_plan.specs.Fine.{IsWhole}
-use Rattle.dl_plan.specs.Clause.{Clause, kept}
-use Rattle.dl_exact.proofs.Parts.{whole_num, whole_den}
-use Rattle.dl_sev.specs.Steps.{with_amount}
+use Rattle.dl_sev.proofs.Common.{ℕ, ◌≡◌, ◌∙◌, ◌+◌, ◌<◌, List, [], ◌∷◌, ◌++◌, length, take, map, get_or, ap, ap₂, sym, subst, arith, inl, inr, get_or_default, map_more, cases_lt, Fraction, whole, Item, IsWhole, Clause, kept, whole_den, with_amount}
+use Rattle.dl_exact.proofs.Parts.{whole_num}
 use Rattle.dl_sev.proofs.layers.items_ceded.Goals as goal
 
 made_more : (clause : Clause) (items made new : List Item) (i amount : ℕ) (d : Item) → i < length items

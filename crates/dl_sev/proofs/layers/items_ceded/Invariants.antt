@@ -1,9 +1,5 @@
 -- The items read so far, with what the clause keeps of their amounts.
-use Rattle.std.proofs.Common.{ℕ, ◌≡◌, ◌<◌, map, take, get_or}
-use Rattle.dl_plan.specs.declared.item.Item.{Item}
-use Rattle.dl_plan.specs.Fine.{IsWhole}
-use Rattle.dl_plan.specs.Clause.{kept}
-use Rattle.dl_sev.specs.Steps.{with_amount}
+use Rattle.dl_sev.proofs.Common.{ℕ, ◌≡◌, ◌<◌, map, take, get_or, Item, IsWhole, kept, with_amount}
 use Rattle.dl_sev.proofs.layers.items_ceded.Given as goal
 
 abbrev pub invariant-items : goal.invariant-items

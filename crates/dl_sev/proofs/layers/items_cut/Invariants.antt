@@ -1,7 +1,5 @@
 -- The items read so far, with their amounts cut.
-use Rattle.std.proofs.Common.{◌≡◌, map, take}
-use Rattle.dl_plan.specs.Clause.{layer}
-use Rattle.dl_sev.specs.Steps.{with_amount}
+use Rattle.dl_sev.proofs.Common.{◌≡◌, map, take, layer, with_amount}
 use Rattle.dl_sev.proofs.layers.items_cut.Given as goal
 
 abbrev pub invariant-items : goal.invariant-items

@@ -1,10 +1,7 @@
 -- The sum of amount times weight over the total.
-use Rattle.std.proofs.Common.{◌∙◌, ap, sym, arith}
-use Rattle.dl_exact.specs.Fraction.{◌over◌}
-use Rattle.dl_plan.specs.Weighted.{weighted_sum, weight_sum}
-use Rattle.dl_plan.proofs.Fits.{over_fits, given_ok, given_value}
+use Rattle.dl_sev.proofs.Common.{◌∙◌, ap, sym, arith, ◌over◌, weight_sum, over_fits, given_ok, given_value, severity_total}
+use Rattle.dl_plan.specs.Weighted.{weighted_sum}
 use Rattle.dl_plan.proofs.Shares.{mean-shares}
-use Rattle.dl_plan.proofs.Means.{severity_total}
 use Rattle.dl_sev.proofs.means.mean.Goals as goal
 
 pub weighted_sum-sum-requires-clause-within : goal.weighted_sum-sum-requires-clause-within

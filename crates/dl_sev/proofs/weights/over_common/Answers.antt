@@ -1,8 +1,5 @@
 -- Each weight is within the total, and over it is its probability.
-use Rattle.std.proofs.Common.{◌∙◌, ◌+◌, ◌<◌, sum, map, ap, sym, subst, arith}
-use Rattle.std.proofs.lemmas.List.{take_all}
-use Rattle.dl_plan.specs.Fine.{numerator_over}
-use Rattle.dl_plan.proofs.Common.{common_pos}
+use Rattle.dl_sev.proofs.Common.{◌∙◌, ◌+◌, ◌<◌, sum, map, ap, sym, subst, arith, take_all, numerator_over, common_pos}
 use Rattle.dl_sev.proofs.Sharing.{part_within, weight_more, weighed_shares, sum_map, sum_one}
 use Rattle.dl_sev.proofs.weights.over_common.Goals as goal
 

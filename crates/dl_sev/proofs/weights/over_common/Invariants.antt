@@ -1,6 +1,5 @@
 -- The weights of the fractions read so far.
-use Rattle.std.proofs.Common.{◌≡◌, take, map}
-use Rattle.dl_plan.specs.Fine.{numerator_over}
+use Rattle.dl_sev.proofs.Common.{◌≡◌, take, map, numerator_over}
 use Rattle.dl_sev.proofs.weights.over_common.Given as goal
 
 abbrev pub invariant-probs : goal.invariant-probs

@@ -1,8 +1,5 @@
 -- Weights that pass the common denominator, or fall short of it, do not sum to 1.
-use Rattle.std.proofs.Common.{◌+◌, ap, arith}
-use Rattle.std.proofs.lemmas.List.{take_all}
-use Rattle.std.specs.List.{sum_by}
-use Rattle.dl_plan.specs.Fine.{numerator_over}
+use Rattle.dl_sev.proofs.Common.{◌+◌, ap, arith, take_all, sum_by, numerator_over}
 use Rattle.dl_sev.proofs.Sharing.{part_within, whole_within, weight_more, one_sum}
 use Rattle.dl_sev.proofs.Whole.{zero_test, test_zero}
 use Rattle.dl_sev.proofs.weights.sum_to_one.Goals as goal

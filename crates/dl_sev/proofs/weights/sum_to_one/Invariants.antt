@@ -1,6 +1,6 @@
 -- What the weights read so far leave of the whole.
-use Rattle.std.proofs.Common.{◌≡◌, ◌+◌, take, sum_by}
-use Rattle.dl_plan.specs.Fine.{numerator_over}
+use Rattle.dl_sev.proofs.Common.{◌≡◌, ◌+◌, take, numerator_over}
+use Rattle.std.proofs.Common.{sum_by}
 use Rattle.dl_sev.proofs.weights.sum_to_one.Given as goal
 
 abbrev pub invariant-probs : goal.invariant-probs

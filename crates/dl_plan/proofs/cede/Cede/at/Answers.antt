@@ -1,5 +1,5 @@
 -- What is kept is whole where a bucket's parts divide its parts.
-use Rattle.std.proofs.Common.{◌≤◌, ◌*◌, ◌/◌, ap, arith}
+use Rattle.dl_plan.proofs.Common.{◌≤◌, ◌*◌, ◌/◌, ap, arith}
 use Rattle.std.proofs.Math.Nat.{div-le_of_le-mul}
 use Rattle.dl_plan.proofs.Clauses.{kept_whole, kept_only}
 use Rattle.dl_plan.proofs.cede.Cede.at.Goals as goal

@@ -1,9 +1,5 @@
 -- Up to the last edge, or on the line past it.
-use Rattle.std.proofs.Common.{ℕ, ◌≡◌, ◌∙◌, ◌+◌, ◌-◌, ◌*◌, ◌≤◌, arith, ap, ap₂, sym, subst}
-use Rattle.std.specs.Int.{div_ceil}
-use Rattle.dl_plan.specs.Clause.{Clause, IsClause}
-use Rattle.dl_plan.specs.Horizon.{last_edge, IsHorizon}
-use Rattle.dl_plan.specs.Parts.{parts_in_bucket}
+use Rattle.dl_plan.proofs.Common.{ℕ, ◌≡◌, ◌∙◌, ◌+◌, ◌-◌, ◌*◌, ◌≤◌, arith, ap, ap₂, sym, subst, div_ceil, Clause, IsClause, last_edge, IsHorizon, parts_in_bucket}
 use Rattle.dl_plan.proofs.Horizons.{parts_of, horizon_flat, horizon_line}
 use Rattle.dl_plan.proofs.Apart.{kept_rises}
 use Rattle.dl_plan.proofs.cede.Cede.horizon.Goals as goal

@@ -1,8 +1,5 @@
 -- Layers that are apart cede at most the whole.
-use Rattle.std.proofs.Common.{◌∙◌, ap, ap₂, arith}
-use Rattle.std.specs.List.{sum_by}
-use Rattle.dl_plan.specs.Clause.{Clause}
-use Rattle.dl_plan.specs.Parts.{layer_parts, parts_in_bucket}
+use Rattle.dl_plan.proofs.Common.{◌∙◌, ap, ap₂, arith, sum_by, Clause, layer_parts, parts_in_bucket}
 use Rattle.dl_plan.proofs.Apart.{ceded_le}
 use Rattle.dl_plan.proofs.cede.Cede.parts.Goals as goal
 

@@ -1,7 +1,5 @@
 -- An admitted count is not refused.
-use Rattle.std.proofs.Common.{◌≡◌, ◌∙◌, ◌*◌, ap, ap₂, sym, subst}
-use Rattle.dl_exact.specs.Fraction.{◌over◌}
-use Rattle.dl_frac.specs.Exact.{FitsFrac}
+use Rattle.dl_plan.proofs.Common.{◌≡◌, ◌∙◌, ◌*◌, ap, ap₂, sym, subst, ◌over◌, FitsFrac}
 use Rattle.dl_plan.specs.Count.{IsClaimCount, expected_count}
 use Rattle.dl_plan.proofs.Fits.{given_ok, given_value}
 use Rattle.dl_plan.proofs.Means.{admitted_fits, total_pos, trials_times}

@@ -1,8 +1,5 @@
 -- The product of a count and the mean of a severity.
-use Rattle.std.proofs.Common.{◌∙◌, ◌*◌, ap, ap₂, mul-pos}
-use Rattle.dl_exact.specs.Fraction.{◌over◌, ◌*ℚ◌}
-use Rattle.dl_plan.specs.Severity.{pairs_of, mean_amount}
-use Rattle.dl_plan.specs.Weighted.{weighted_sum}
+use Rattle.dl_plan.proofs.Common.{◌∙◌, ◌*◌, ap, ap₂, mul-pos, ◌over◌, ◌*ℚ◌, pairs_of, mean_amount, weighted_sum}
 use Rattle.dl_plan.proofs.Means.{mean_over, total_pos}
 use Rattle.dl_plan.proofs.plan.Unit.mean_parts.Goals as goal
 

@@ -1,7 +1,5 @@
 -- An admitted mean is not refused.
-use Rattle.std.proofs.Common.{◌∙◌, ap₂, sym, subst}
-use Rattle.dl_exact.specs.Fraction.{◌*ℚ◌}
-use Rattle.dl_frac.specs.Exact.{FitsFrac}
+use Rattle.dl_plan.proofs.Common.{◌∙◌, ap₂, sym, subst, ◌*ℚ◌, FitsFrac}
 use Rattle.dl_plan.proofs.Fits.{given_ok, given_value}
 use Rattle.dl_plan.proofs.Means.{admitted_fits}
 use Rattle.dl_plan.proofs.plan.Unit.thinned.Goals as goal

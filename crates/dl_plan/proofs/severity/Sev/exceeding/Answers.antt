@@ -1,13 +1,8 @@
 -- The items above an amount are rising, of positive weights, and weigh no more.
-use Rattle.std.proofs.Common.{ℕ, ◌≡◌, ◌∙◌, ◌<◌, List, nat_lt, length, All, true, false, ◌==◌, sym, ap, subst, arith}
-use Rattle.std.specs.List.Sorted.{IsStrictlyIncreasing}
+use Rattle.dl_plan.proofs.Common.{ℕ, ◌≡◌, ◌∙◌, ◌<◌, List, nat_lt, length, true, false, ◌==◌, sym, ap, subst, arith, IsStrictlyIncreasing, ◌over◌, Item, Sev, amounts_of, weight_sum, weight_at, probability, conditioned, shares}
+use Rattle.std.proofs.Common.{All}
 use Rattle.std.proofs.lemmas.List.Kept.{IsStrictlyIncreasing-filter}
 use Rattle.std.proofs.lemmas.List.Elements.{All-filter}
-use Rattle.dl_exact.specs.Fraction.{◌over◌}
-use Rattle.dl_plan.specs.declared.item.Item.{Item}
-use Rattle.dl_plan.specs.declared.severity.Sev.{Sev}
-use Rattle.dl_plan.specs.Weighted.{amounts_of, weight_sum, weight_at}
-use Rattle.dl_plan.specs.Severity.{probability, conditioned, shares}
 use Rattle.dl_plan.proofs.Weights.{weight_sum_pos}
 use Rattle.dl_plan.proofs.Shares.{items_over, none_over, filter-amounts, probability-conditioned, weight_over-le}
 use Rattle.dl_plan.proofs.Means.{severity_total}

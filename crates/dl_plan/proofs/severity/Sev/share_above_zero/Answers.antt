@@ -1,7 +1,5 @@
 -- The share of the weights of positive amounts.
-use Rattle.std.proofs.Common.{◌∙◌, ap, arith}
-use Rattle.dl_exact.specs.Fraction.{whole, ◌over◌, ◌-ℚ◌}
-use Rattle.dl_plan.specs.Weighted.{weight_at}
+use Rattle.dl_plan.proofs.Common.{◌∙◌, ap, arith, whole, ◌over◌, ◌-ℚ◌, weight_at}
 use Rattle.dl_plan.proofs.Fits.{over_fits, given_ok, given_value}
 use Rattle.dl_plan.proofs.Means.{total_pos, positive_share, weight_at-le}
 use Rattle.dl_plan.proofs.severity.Sev.share_above_zero.Goals as goal
