@@ -1,14 +1,6 @@
 -- What the clauses of a unit keep.
-use Rattle.std.proofs.Common.{◌≡◌, Option, Some, None}
-use Rattle.std.specs.Option.{IfSome}
-use Rattle.dl_read.specs.First.{◌else◌, within}
-use Rattle.dl_read.proofs.Nothing.{else_first, else_second}
-use Rattle.dl_amounts.specs.declared.grid.GridClause.{GridClause}
-use Rattle.dl_amounts.specs.declared.grid.GridUnit.{GridUnit}
-use Rattle.dl_amounts.specs.GridKept.{IsGridClause}
-use Rattle.dl_amounts.specs.Rules.{overlap_in, overlap, share_above_one_in, share_above_one}
+use Rattle.dl_amounts.proofs.Common.{◌≡◌, Option, Some, None, IfSome, ◌else◌, within, else_first, else_second, GridClause, GridUnit, IsGridClause, overlap_in, overlap, share_above_one_in, share_above_one, IsClauseLayered}
 use Rattle.dl_amounts.specs.Kept.{IsLayered}
-use Rattle.dl_amounts.specs.ClausesKept.{IsClauseLayered}
 
 clause_layered : (o : Option GridClause) → IfSome o IsGridClause → within overlap_in o ≡ None
     → within share_above_one_in o ≡ None → IfSome o IsClauseLayered

@@ -1,39 +1,18 @@
 -- Layers that keep the rules make a clause where their shares are fine.
-use Rattle.std.specs.Option.{IfSome}
-use Rattle.dl_limits.specs.Limits.{most_amount}
-use Rattle.dl_plan.specs.Valid.{IsWithinMostAmount}
-use Rattle.dl_amounts.specs.declared.grid.GridLayer.{GridLayer}
-use Rattle.dl_amounts.specs.GridKept.{IsGridLayer}
-use Rattle.std.proofs.lemmas.Bool.{or_parts, false_from_ne_true, leb-true, ltb-false}
-use Rattle.dl_read.proofs.ItemRanges.{not_above}
-use Rattle.std.proofs.Common.{◌≡◌, ◌∙◌, ℕ, zero, suc, ◌*◌, ◌^◌, ◌<◌, ◌≤◌, ◌==◌, List, [], ◌∷◌, ◌++◌, length, map, take, get_or, Option, None, true, false, sym, ap, ap₂, subst, arith, append_assoc, mul-pos, inl, inr, Some}
-use Rattle.std.specs.Prelude.{◌||◌}
-use Rattle.std.specs.List.{All, AllPairs, list_any}
-use Rattle.std.proofs.lemmas.Bool.Decides.{nat_tests}
-use Rattle.std.proofs.lemmas.List.{append-nil, get_or-take, get_or-map, length-map, length-take}
-use Rattle.std.proofs.lemmas.List.Elements.{All-map}
-use Rattle.std.proofs.lemmas.List.Folds.{list_any_at}
+use Rattle.dl_amounts.proofs.Common.{or_parts, false_from_ne_true, leb-true, ◌≡◌, ◌∙◌, ℕ, zero, suc, ◌*◌, ◌^◌, ◌<◌, ◌≤◌, ◌==◌, List, [], ◌∷◌, ◌++◌, length, map, take, get_or, Option, None, true, false, sym, ap, ap₂, subst, arith, append_assoc, mul-pos, inl, inr, Some, All, list_any, nat_tests, append-nil, get_or-map, length-map, length-take, All-map, list_any_at, Fraction, whole, ◌/ℚ◌, ◌≤ℚ◌, quotient_is, CedeLayer, IsFineTo30Bits, common_denominator, Overlap, IsClause, common_pos, den_divides, GridCeded, GridClause, in_turn, is_fine, is_above, share_of, shares_of, ceded_layer, clause_of, overlaps, share_exceeds, share_above_one_in, overlap_in, IsClauseLayered, else_first, else_second, none_each, not_at}
+use Rattle.std.proofs.lemmas.Bool.{ltb-false}
+use Rattle.std.specs.List.{AllPairs}
+use Rattle.std.proofs.lemmas.List.{get_or-take}
 use Rattle.std.proofs.lemmas.Nat.Gcd.{le_of_dvd}
+use Rattle.dl_amounts.specs.declared.grid.GridShare.{GridShare}
+use Rattle.dl_read.specs.Lists.{is_zero}
+use Rattle.dl_read.proofs.ItemRanges.{not_above}
+use Rattle.std.specs.Prelude.{◌||◌}
 use Rattle.std.proofs.lemmas.Simd.{map-map}
-use Rattle.dl_exact.specs.Fraction.{Fraction, whole, ◌/ℚ◌, ◌≤ℚ◌}
 use Rattle.dl_exact.proofs.Over.{over_le}
 use Rattle.dl_frac.specs.Exact.{IsTooFine}
-use Rattle.dl_exact.proofs.Parts.{quotient_is}
-use Rattle.dl_plan.specs.declared.cede.CedeLayer.{CedeLayer}
-use Rattle.dl_plan.specs.Fine.{IsFine, common_denominator}
-use Rattle.dl_plan.specs.Clause.{Overlap, IsClause}
 use Rattle.dl_plan.proofs.Clauses.{num_le_den}
-use Rattle.dl_plan.proofs.Common.{common_pos, den_divides}
-use Rattle.dl_amounts.specs.declared.grid.GridShare.{GridShare}
 use Rattle.dl_amounts.specs.declared.grid.GridShare.TheVariants.{Whole, So, Po}
-use Rattle.dl_amounts.specs.declared.grid.GridCeded.{GridCeded}
-use Rattle.dl_amounts.specs.declared.grid.GridClause.{GridClause}
-use Rattle.dl_read.specs.First.{in_turn}
-use Rattle.dl_read.specs.Lists.{is_fine, is_above, is_zero}
-use Rattle.dl_amounts.specs.Clauses.{share_of, shares_of, ceded_layer, clause_of, overlaps}
-use Rattle.dl_amounts.specs.Rules.{share_exceeds, share_above_one_in, overlap_in}
-use Rattle.dl_amounts.specs.ClausesKept.{IsClauseLayered}
-use Rattle.dl_read.proofs.Nothing.{else_first, else_second, none_each, not_at}
 use Rattle.dl_amounts.proofs.Turns.{yes_overlap, overlap_at, share_at}
 
 -- ---- fine shares
@@ -133,7 +112,7 @@ module _ (c : GridClause) (layered : IsClauseLayered c) where
     within = All-map (λ l. l.share ≤ℚ whole 1) ceded_layer c.layers
         (λ k d h. share_le (get_or c.layers k d).share
         (shares_kept c layered.within k d h));
-    fine = subst IsFine (sym (map-map (λ (l : CedeLayer). l.share) ceded_layer c.layers))
+    fine = subst IsFineTo30Bits (sym (map-map (λ (l : CedeLayer). l.share) ceded_layer c.layers))
         (leb-true (common_denominator (shares_of c)) (2 ^ 30) fine);
   }
 
@@ -145,10 +124,3 @@ layer_is l m s o a = ap₂ (λ (x : Fraction) (y : Option ℕ). make x y l.attac
   where
     make : Fraction → Option ℕ → ℕ → CedeLayer
     make x y n = record { share = x; limit = y; attach = n }
-
-pub near_is : (l : GridLayer) (m : CedeLayer) → m.limit ≡ l.limit → m.attach ≡ l.attach → IsGridLayer l
-    → IsWithinMostAmount m
-near_is l m limit attach near = record {
-  limit = subst (λ o. IfSome o (λ n. n ≤ most_amount)) (sym limit) near.limit;
-  attach = omega (arith, attach, near.attach);
-}

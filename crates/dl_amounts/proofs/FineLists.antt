@@ -1,13 +1,6 @@
 -- Lists of which one is not fine.
-use Rattle.std.proofs.Common.{◌≡◌, ◌∙◌, Bool, not, ◌||◌, List, [], ◌∷◌, flat_map, refl, ap}
-use Rattle.std.specs.List.{list_any}
+use Rattle.dl_amounts.proofs.Common.{◌≡◌, ◌∙◌, Bool, not, ◌||◌, List, [], ◌∷◌, flat_map, refl, ap, list_any, ReadList, GridAtom, GridSev, own_lists, each_of, itself, is_fine}
 use Rattle.std.proofs.lemmas.List.Folds.{list_any-append}
-use Rattle.dl_read.specs.declared.tree.ReadList.{ReadList}
-use Rattle.dl_amounts.specs.declared.grid.GridAtom.{GridAtom}
-use Rattle.dl_amounts.specs.declared.grid.GridSev.{GridSev}
-use Rattle.dl_amounts.specs.Severity.{own_lists}
-use Rattle.dl_read.specs.First.{each_of}
-use Rattle.dl_read.specs.Lists.{itself, is_fine}
 
 -- a list is not fine
 abbrev pub coarse : ReadList → Bool

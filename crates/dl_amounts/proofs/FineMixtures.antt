@@ -1,30 +1,11 @@
 -- The products of the atoms of a mixture are fine exactly where those of the text are.
-use Rattle.std.proofs.Common.{ℕ, ◌≡◌, ◌∙◌, ◌+◌, ◌<◌, ◌≤◌, ◌^◌, ◌==◌, List, [], ◌∷◌, ◌++◌, map, nat_le, Option, Some, None, true, false, cond, sym, ap, ap₂, subst, arith, inl, inr}
-use Rattle.std.specs.List.{AllZip, All}
+use Rattle.dl_amounts.proofs.Common.{ℕ, ◌≡◌, ◌∙◌, ◌+◌, ◌<◌, ◌≤◌, ◌^◌, ◌==◌, List, [], ◌∷◌, ◌++◌, map, Option, Some, None, true, false, cond, sym, ap, ap₂, subst, arith, inl, inr, AllZip, All, ◌∣◌, cases_lt, eqb_tells, map-append, All-nil, All-cons, All-head, All-tail, All-append, All-map, sum_by-cons, Fraction, whole, ◌over◌, ◌*ℚ◌, times_zero, Item, Sev, IsFineTo30Bits, common_denominator, weight_at, Pairs, probability, pairs_of, shares, Means, den_divides, whole_den, Weights, IsWeighing, scaled, mixture_of, mixture, is_fine, shares_in_mixture}
+use Rattle.std.proofs.Common.{nat_le}
+use Rattle.dl_plan.proofs.CommonDenominators.{common_from_divides}
 use Rattle.std.specs.Prelude.{is_some}
 use Rattle.std.specs.Option.{SomeIff}
-use Prim.Native.Nat.{◌∣◌}
-use Rattle.std.proofs.lemmas.Bool.{cases_lt}
-use Rattle.std.proofs.lemmas.Bool.Decides.{eqb_tells}
-use Rattle.std.proofs.lemmas.List.{map-append}
-use Rattle.std.proofs.lemmas.List.Elements.{All-nil, All-cons, All-head, All-tail, All-append, All-map}
-use Rattle.std.proofs.lemmas.List.Sums.{sum_by-cons}
-use Rattle.dl_exact.specs.Fraction.{Fraction, whole, ◌over◌, ◌*ℚ◌}
-use Rattle.dl_exact.proofs.Laws.{times_zero}
-use Rattle.dl_plan.specs.declared.item.Item.{Item}
-use Rattle.dl_plan.specs.declared.severity.Sev.{Sev}
-use Rattle.dl_plan.specs.Fine.{IsFine, common_denominator}
-use Rattle.dl_plan.specs.Weighted.{weight_at}
-use Rattle.dl_plan.specs.Severity.{Pairs, probability, pairs_of, shares, Means}
-use Rattle.dl_plan.proofs.Common.{den_divides, common_from_divides}
-use Rattle.dl_exact.proofs.Parts.{whole_den}
 use Rattle.dl_exact.proofs.Denominators.{over_zero as zero_over}
-use Rattle.dl_sev.specs.declared.weights.Weights.{Weights}
-use Rattle.dl_sev.specs.Weighed.{IsWeighing}
-use Rattle.dl_sev.specs.Steps.{scaled, mixture_of, mixture}
 use Rattle.dl_plan.proofs.Means.{severity_total as total_pos}
-use Rattle.dl_read.specs.Lists.{is_fine}
-use Rattle.dl_amounts.specs.Severity.{shares_in_mixture}
 use Rattle.dl_amounts.proofs.Shared.{all_left, all_right, fine_with}
 use Rattle.dl_amounts.proofs.Items.{Rising, rises, none_later}
 use Rattle.dl_amounts.proofs.Mixing.{mixture_fine}
@@ -92,7 +73,8 @@ mixture_back P t (a ∷ atoms) (w ∷ ws) (ps ∷ lists) means none all =
 
 module _ (atoms : List Sev) (weights : Weights) (probs : List Fraction) (lists : List Pairs)
     (is : IsWeighing probs weights) (means : AllZip Means atoms lists) where
-  fine_back : IsFine (map (λ pair. pair.1) (mixture atoms weights)) → IsFine (shares_in_mixture probs lists)
+  fine_back : IsFineTo30Bits (map (λ pair. pair.1) (mixture atoms weights)) → IsFineTo30Bits
+      (shares_in_mixture probs lists)
   fine_back fine =
       let all : List Fraction = map (λ pair. pair.1) (mixture atoms weights) in
       let c : ℕ = common_denominator all in
@@ -103,9 +85,9 @@ module _ (atoms : List Sev) (weights : Weights) (probs : List Fraction) (lists :
 
   -- whether the products have a small common denominator
   pub fineness : (made : List Fraction) (o : Option ℕ) → made ≡ map (λ pair. pair.1) (mixture atoms weights)
-      → SomeIff o (IsFine made) (common_denominator made) → is_some o ≡ is_fine (shares_in_mixture probs lists)
+      → SomeIff o (IsFineTo30Bits made) (common_denominator made) → is_some o ≡ is_fine (shares_in_mixture probs lists)
   fineness made None same told = no _ (λ fine.
-      told (subst IsFine (sym same) (mixture_fine atoms weights probs lists is means fine)))
+      told (subst IsFineTo30Bits (sym same) (mixture_fine atoms weights probs lists is means fine)))
     where
       no : (n : ℕ) → (n ≤ 2 ^ 30 → ⊥) → false ≡ nat_le n (2 ^ 30)
       no n never = elim (cases_lt (2 ^ 30) n) [
@@ -115,7 +97,7 @@ module _ (atoms : List Sev) (weights : Weights) (probs : List Fraction) (lists :
         where
           above : (m : ℕ) → 2 ^ 30 < m → false ≡ nat_le m (2 ^ 30)
           above m h = grind arith
-  fineness made (Some m) same told = yes _ (fine_back (subst IsFine same told.0))
+  fineness made (Some m) same told = yes _ (fine_back (subst IsFineTo30Bits same told.0))
     where
       yes : (n : ℕ) → n ≤ 2 ^ 30 → true ≡ nat_le n (2 ^ 30)
       yes n h = grind arith

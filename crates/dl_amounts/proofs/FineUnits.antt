@@ -1,26 +1,9 @@
 -- What a unit that keeps all rules on its severity gives.
-use Rattle.std.proofs.lemmas.Bool.{leb-true}
-use Rattle.dl_amounts.proofs.PastEdges.{whole_unless}
-use Rattle.std.proofs.Common.{get_or, ◌≡◌, ◌^◌, ◌||◌, ◌&&◌, not, Bool, true, false, Option, Some, None, refl, sym, subst}
-use Rattle.std.specs.List.{All, list_any}
-use Rattle.std.specs.Option.{IfSome}
-use Rattle.dl_read.specs.declared.tree.ReadList.{ReadList}
-use Rattle.dl_amounts.specs.declared.grid.GridClause.{GridClause}
-use Rattle.dl_amounts.specs.declared.grid.GridUnit.{GridUnit}
-use Rattle.dl_plan.specs.Fine.{IsFine, IsWhole, common_denominator}
-use Rattle.dl_plan.specs.Severity.{Pairs, Means, pairs_of}
-use Rattle.dl_plan.specs.Clause.{kept}
-use Rattle.dl_plan.specs.declared.severity.Sev.{Sev}
-use Rattle.dl_sev.specs.Steps.{ceded_each}
-use Rattle.dl_read.specs.First.{at_if}
-use Rattle.dl_read.specs.Lists.{is_fine}
-use Rattle.dl_amounts.specs.Clauses.{clause_of, shares_of, is_off}
-use Rattle.dl_amounts.specs.Severity.{prob_lists, severity_in_layer, ceded_pairs, mixture_shares, support}
+use Rattle.dl_amounts.proofs.Common.{leb-true, get_or, ◌≡◌, ◌^◌, ◌||◌, ◌&&◌, not, Bool, true, false, Option, Some, None, refl, sym, subst, All, list_any, IfSome, ReadList, GridClause, GridUnit, IsFineTo30Bits, IsWhole, common_denominator, Pairs, Means, pairs_of, kept, Sev, ceded_each, at_if, is_fine, clause_of, shares_of, is_off, prob_lists, severity_in_layer, ceded_pairs, mixture_shares, support, off_grid_cession, IsSevShared, else_first, not_at, not_then}
 use Rattle.dl_amounts.specs.FineParts.{has_shares}
-use Rattle.dl_amounts.specs.Rules.{off_grid_cession}
 use Rattle.dl_amounts.specs.Kept.{IsFineSev}
-use Rattle.dl_amounts.specs.Parts.{IsSevShared}
-use Rattle.dl_read.proofs.Nothing.{else_first, none_within, not_at, not_then}
+use Rattle.dl_read.proofs.Nothing.{none_within}
+use Rattle.dl_amounts.proofs.PastEdges.{whole_unless}
 use Rattle.dl_amounts.proofs.Values.{never}
 use Rattle.dl_amounts.proofs.Shared.{sev_shared}
 use Rattle.dl_amounts.proofs.Meaning.{mapped_means}
@@ -43,7 +26,7 @@ module _ (u : GridUnit) (fine : IsFineSev u) where
   pub unit_shared : IsSevShared u.sev
   unit_shared = sev_shared u fine.layered.weighted.grid facts.0
 
-  pub mixture_fine : IsFine (mixture_shares u.sev)
+  pub mixture_fine : IsFineTo30Bits (mixture_shares u.sev)
   mixture_fine = leb-true (common_denominator (mixture_shares u.sev)) (2 ^ 30) (not_then _ facts.2)
 
   module _ (c : GridClause) (is : u.occ ≡ Some c) where

@@ -1,37 +1,21 @@
 -- A unit in whole buckets, by its parts.
-use Rattle.std.proofs.Common.{◌≡◌, ◌∙◌, List, [], ◌∷◌, ◌++◌, map, flat_map, false, Bool, Option, Some, None, Result, Ok, Err, refl, sym, ap, subst, append_assoc, arith}
-use Rattle.std.specs.List.{All}
-use Rattle.std.proofs.lemmas.List.{length-map}
-use Rattle.std.proofs.lemmas.List.Elements.{All-map}
-use Rattle.std.specs.Option.{IfSome}
-use Rattle.std.specs.Result.{IsErr, IsErrAnd}
-use Rattle.dl_exact.specs.Fraction.{Fraction}
-use Rattle.dl_read.specs.declared.tree.ReadList.{ReadList}
-use Rattle.dl_read.specs.declared.tree.ReadAtom.{ReadAtom}
+use Rattle.dl_amounts.proofs.Common.{◌≡◌, ◌∙◌, List, [], ◌∷◌, ◌++◌, map, flat_map, false, Bool, Option, Some, None, refl, sym, ap, subst, append_assoc, arith, All, length-map, All-map, IfSome, Fraction, ReadList, ReadAtom, ◌else◌, first_in, within, each_of, itself, probs_in_count, prob_lists_of, is_not_one, else_first, else_second, none_each, not_at, GridAtom, GridSev, GridLayer, GridUnit, flaws_else, IsGridded, grid_atom, grid_severity, grid_layer, grid_clause, IsGridAtom, IsGridLayer, IsGridClause, IsGridUnit, own_lists, other_length, list_not_one, not_one, list_fails, layer_fails, clause_fails}
+use Rattle.std.proofs.Common.{Result, Ok, Err}
 use Rattle.dl_read.specs.declared.tree.ReadLayer.{ReadLayer}
 use Rattle.dl_read.specs.declared.tree.ReadClause.{ReadClause}
 use Rattle.dl_read.specs.declared.tree.ReadUnit.{ReadUnit}
-use Rattle.dl_read.specs.First.{◌else◌, first_in, within, each_of}
-use Rattle.dl_read.specs.Lists.{itself, probs_in_count, prob_lists_of, is_not_one}
 use Rattle.dl_read.specs.Numbers.{if_there}
 use Rattle.dl_read.specs.Kept.{IsClauseRead, IsRead}
-use Rattle.dl_read.proofs.Firsts.{else_assoc}
-use Rattle.dl_read.proofs.Nothing.{else_first, else_second, none_each, not_at}
-use Rattle.dl_amounts.specs.declared.grid.GridAtom.{GridAtom}
-use Rattle.dl_amounts.specs.declared.grid.GridSev.{GridSev}
-use Rattle.dl_amounts.specs.declared.grid.GridLayer.{GridLayer}
-use Rattle.dl_amounts.specs.declared.grid.GridClause.{GridClause}
-use Rattle.dl_amounts.specs.declared.grid.GridUnit.{GridUnit}
-use Rattle.dl_amounts.specs.declared.fault.GridFault.{GridFault}
-use Rattle.dl_amounts.specs.declared.fault.GridFault.TheVariants.{OffGrid, TooFar, OutOfMemory}
 use Rattle.dl_amounts.specs.declared.flaws.Flaws.{Flaws}
 use Rattle.dl_amounts.specs.declared.flaws.Gridded.{Gridded}
-use Rattle.dl_amounts.specs.Flaws.{flaws_else, IsClean, IsGridded, TellsFlaws}
-use Rattle.dl_amounts.specs.Grid.{grid_atom, grid_severity, grid_layer, grid_clause, grid_of}
-use Rattle.dl_amounts.specs.GridKept.{IsGridAtom, IsGridLayer, IsGridClause, IsGridUnit}
+use Rattle.dl_amounts.specs.Flaws.{TellsFlaws}
+use Rattle.dl_amounts.specs.Grid.{grid_clauses, grid_of}
+use Rattle.dl_amounts.specs.Rules.{count_lengths, lengths_differ, amount_fails, off_grid, too_far}
+use Rattle.std.specs.Prelude.{IfOk}
+use Rattle.dl_amounts.specs.declared.grid.GridClauses.{GridClauses}
+use Rattle.dl_amounts.specs.declared.fault.GridFault.{GridFault}
+use Rattle.dl_amounts.specs.declared.fault.GridFault.TheVariants.{OffGrid, TooFar, OutOfMemory}
 use Rattle.dl_amounts.specs.OnGrid.{GridsUnit}
-use Rattle.dl_amounts.specs.Severity.{own_lists}
-use Rattle.dl_amounts.specs.Rules.{count_lengths, other_length, lengths_differ, list_not_one, not_one, list_fails, layer_fails, clause_fails, amount_fails, off_grid, too_far}
 use Rattle.dl_amounts.proofs.Gridding.{both_gridded}
 use Rattle.dl_amounts.proofs.Small.{off, far, atom_small, layer_small, clause_small}
 
@@ -66,75 +50,61 @@ each_one u e k d h = not_at _ _ (none_each list_not_one (prob_lists_of u) e k d 
 
 -- ---- the unit
 
-module _ (bs : Fraction) (u : ReadUnit) (layer : Gridded (Option GridLayer)) (sev : Gridded GridSev)
-    (occ agr : Gridded (Option GridClause))
-    (own_layer : IsGridded (λ test. within (layer_fails test bs) u.layer) (if_there (grid_layer bs) u.layer) layer)
-    (own_sev : IsGridded (λ test. first_in (λ (a : ReadAtom). list_fails test bs a.values) u.sev.atoms)
-    (grid_severity bs u.sev) sev)
-    (own_occ : IsGridded (λ test. within (clause_fails test bs) u.occ) (if_there (grid_clause bs) u.occ) occ)
-    (own_agr : IsGridded (λ test. within (clause_fails test bs) u.agr) (if_there (grid_clause bs) u.agr) agr)
-    (two three all : Flaws) (first : two ≡ flaws_else layer.flaws sev.flaws)
-    (second : three ≡ flaws_else two occ.flaws) (third : all ≡ flaws_else three agr.flaws) where
-  abbrev made : GridUnit
-  made = record {
-    name = u.name;
-    count = u.count;
-    layer = layer.part;
-    sev = sev.part;
-    occ = occ.part;
-    agr = agr.part;
-  }
-
-  unit_gridded : IsGridded (λ test. amount_fails test bs u) (grid_of bs u) (record { part = made; flaws = all })
+module _ (bs : Fraction) (u : ReadUnit) where
+  pub unit_gridded : (layer : Gridded (Option GridLayer)) (sev : Gridded GridSev) (clauses : Gridded GridClauses)
+      (rest all : Flaws)
+      → IsGridded (λ test. within (layer_fails test bs) u.layer) (if_there (grid_layer bs) u.layer) layer
+      → IsGridded (λ test. first_in (λ (a : ReadAtom). list_fails test bs a.values) u.sev.atoms)
+      (grid_severity bs u.sev) sev
+      → IsGridded (λ test. within (clause_fails test bs) u.occ else within (clause_fails test bs) u.agr)
+      (grid_clauses bs u) clauses
+      → rest ≡ flaws_else sev.flaws clauses.flaws → all ≡ flaws_else layer.flaws rest
+      → IsGridded (λ test. amount_fails test bs u) (grid_of bs u) (record {
+        part = record {
+          name = u.name;
+          count = u.count;
+          layer = layer.part;
+          sev = sev.part;
+          occ = clauses.part.occ;
+          agr = clauses.part.agr;
+        };
+        flaws = all;
+      })
   unfolding amount_fails grid_of
-  unit_gridded =
-      let in_layer = λ (test : Fraction → Bool). within (layer_fails test bs) u.layer in
+  unit_gridded layer sev clauses rest all own_layer own_sev own_clauses first second =
       let in_atoms = λ (test : Fraction → Bool). first_in (λ (a : ReadAtom). list_fails test bs a.values) u.sev.atoms in
-      let in_occ = λ (test : Fraction → Bool). within (clause_fails test bs) u.occ in
-      let in_agr = λ (test : Fraction → Bool). within (clause_fails test bs) u.agr in
-      let g2 = both_gridded (λ (l : Option GridLayer) (s : GridSev). (l, s)) in_layer in_atoms
-      (λ test. in_layer test else in_atoms test) (if_there (grid_layer bs) u.layer)
-      (grid_severity bs u.sev) layer sev two
-      own_layer own_sev (λ test. refl) first in
-      let g3 = both_gridded (λ (p : Option GridLayer × GridSev) (o : Option GridClause). (p, o))
-      (λ test. in_layer test else in_atoms test) in_occ (λ test. (in_layer test else in_atoms test) else in_occ test)
-      (if_there (grid_layer bs) u.layer, grid_severity bs u.sev) (if_there (grid_clause bs) u.occ)
-      (record { part = (layer.part, sev.part); flaws = two }) occ three g2 own_occ (λ test. refl) second in
-      both_gridded (λ (p : (Option GridLayer × GridSev) × Option GridClause) (a : Option GridClause). record {
+      let in_clauses = λ (test : Fraction → Bool).
+      (within (clause_fails test bs) u.occ else within (clause_fails test bs) u.agr) in
+      both_gridded (λ (l : Option GridLayer) (p : GridSev × GridClauses). record {
         name = u.name;
         count = u.count;
-        layer = p.0.0;
-        sev = p.0.1;
-        occ = p.1;
-        agr = a;
+        layer = l;
+        sev = p.0;
+        occ = p.1.occ;
+        agr = p.1.agr;
       })
-      (λ test. (in_layer test else in_atoms test) else in_occ test) in_agr (λ test. amount_fails test bs u)
-      ((if_there (grid_layer bs) u.layer, grid_severity bs u.sev), if_there (grid_clause bs) u.occ)
-      (if_there (grid_clause bs) u.agr) (record { part = ((layer.part, sev.part), occ.part); flaws = three }) agr all g3
-      own_agr
-      (λ test. else_assoc (in_layer test else in_atoms test) (in_occ test) (in_agr test)
-      ∙ else_assoc (in_layer test) (in_atoms test) (in_occ test else in_agr test)) third
+      (λ test. within (layer_fails test bs) u.layer) (λ test. in_atoms test else in_clauses test)
+      (λ test. amount_fails test bs u) (if_there (grid_layer bs) u.layer) (grid_severity bs u.sev, grid_clauses bs u)
+      layer (record { part = (sev.part, clauses.part); flaws = rest }) all own_layer
+      (both_gridded (λ (s : GridSev) (k : GridClauses). (s, k)) in_atoms in_clauses
+      (λ test. in_atoms test else in_clauses test) (grid_severity bs u.sev) (grid_clauses bs u) sev clauses rest own_sev
+      own_clauses (λ test. refl) first) (λ test. refl) second
 
-  off_is : all.off_grid ≡ off_grid bs u
-  unfolding off_grid
-  off_is = ap (λ (f : Flaws). f.off_grid) unit_gridded.flaws
-
-  far_is : all.too_far ≡ too_far bs u
-  unfolding too_far
-  far_is = ap (λ (f : Flaws). f.too_far) unit_gridded.flaws
-
-  pub gridded : IsClean all → (made ≡ grid_of bs u) × (off_grid bs u ≡ None) × (too_far bs u ≡ None)
-  gridded clean = (unit_gridded.part clean, sym off_is ∙ clean.on_grid, sym far_is ∙ clean.near)
-
-  fault_told : (fault : GridFault) → TellsFlaws {A = GridUnit} all (Err fault) → GridsUnit bs u (Err fault)
-  fault_told (OffGrid place) h = sym off_is ∙ h
-  fault_told (TooFar place) h = (sym off_is ∙ h.0, sym far_is ∙ h.1)
-  fault_told OutOfMemory h = absurd h
-
-  pub refused : (r : Result GridUnit GridFault) (fault : GridFault) → IsErr r × IsErrAnd r (λ f. f ≡ fault)
-      → TellsFlaws {A = GridUnit} all (Err fault) → GridsUnit bs u r
-  refused (Ok made) fault h told = absurd (cc (h.0))
-  refused (Err f) fault h told = subst (λ g. GridsUnit bs u (Err g)) (sym h.1) (fault_told fault told)
+  -- what the flaws tell is what the rules tell
+  pub answered : (made : Gridded GridUnit) → IsGridded (λ test. amount_fails test bs u) (grid_of bs u) made
+      → (r : Result GridUnit GridFault) → TellsFlaws made.flaws r → IfOk r (λ x. x ≡ made.part) → GridsUnit bs u r
+  unfolding off_grid too_far
+  answered made h (Ok x) clean is = (
+    is ∙ h.part clean,
+    sym (ap (λ (f : Flaws). f.off_grid) h.flaws) ∙ clean.on_grid,
+    sym (ap (λ (f : Flaws). f.too_far) h.flaws) ∙ clean.near,
+  )
+  answered made h (Err (OffGrid place)) told is = sym (ap (λ (f : Flaws). f.off_grid) h.flaws) ∙ told
+  answered made h (Err (TooFar place)) told is = (
+    sym (ap (λ (f : Flaws). f.off_grid) h.flaws) ∙ told.0,
+    sym (ap (λ (f : Flaws). f.too_far) h.flaws) ∙ told.1,
+  )
+  answered made h (Err OutOfMemory) told is = absurd told
 
 -- ---- what the unit keeps
 
@@ -200,3 +170,9 @@ module _ (bs : Fraction) (u : ReadUnit) (read : IsRead u) (lengths : lengths_dif
     agr = clause_there u.agr read.agr (clauses_pass off unit_off).1 (clauses_pass far unit_far).1;
     one = subst (All (λ (l : ReadList). is_not_one l.values ≡ false)) (same_lists bs u) (each_one u one);
   }
+
+pub told_kept : (bs : Fraction) (u : ReadUnit) → IsRead u → lengths_differ u ≡ None → not_one u ≡ None
+    → (r : Result GridUnit GridFault) → GridsUnit bs u r → IfOk r IsGridUnit
+told_kept bs u read lengths one (Ok made) told = subst IsGridUnit (sym told.0)
+    (grid_is bs u read lengths one told.1 told.2)
+told_kept bs u read lengths one (Err f) told = tt

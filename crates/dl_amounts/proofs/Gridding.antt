@@ -1,33 +1,20 @@
 -- The parts of a unit in whole buckets, and their flaws.
-use Rattle.std.proofs.Common.{ℕ, ◌≡◌, ◌∙◌, ◌+◌, ◌*◌, ◌/◌, ◌%◌, ◌<◌, ◌≤◌, ◌||◌, List, [], ◌∷◌, ◌++◌, map, zip, take, length, get_or, min, nat_eq, nat_lt, not, Bool, true, false, Option, Some, None, refl, sym, ap, ap₂, subst, arith, mul-pos, inl, inr}
-use Rattle.std.proofs.lemmas.Bool.{cases_lt, lt-ltb, ltb-true, eq-eqb, eqb-true}
-use Rattle.std.proofs.lemmas.List.{map-append, take_more, take_all}
+use Rattle.dl_amounts.proofs.Common.{ℕ, ◌≡◌, ◌∙◌, ◌+◌, ◌*◌, ◌/◌, ◌%◌, ◌<◌, ◌≤◌, ◌||◌, List, [], ◌∷◌, ◌++◌, map, zip, take, length, get_or, nat_lt, not, Bool, true, false, Option, Some, None, refl, sym, ap, ap₂, subst, arith, inl, inr, cases_lt, lt-ltb, eq-eqb, eqb-true, map-append, take_more, take_all, Fraction, whole, ◌over◌, ◌<ℚ◌, over_lt, whole_num, Span, ReadList, ReadAtom, ReadCeded, ◌else◌, at_if, within, first_in, is_whole, is_above, one_in, else_first, else_second, not_at, not_then, GridAtom, GridCeded, GridLayer, flaws_else, IsClean, IsGridded, number_of, grid_atom, grid_severity, grid_layer, grid_ceded, grid_clause, list_fails, limit_fails, layer_fails, clause_fails}
+use Rattle.std.proofs.Common.{min, nat_eq}
+use Rattle.std.proofs.lemmas.Bool.{ltb-true}
 use Rattle.dl_limits.specs.Limits.{most_amount}
-use Rattle.dl_exact.specs.Fraction.{Fraction, whole, ◌over◌, ◌<ℚ◌}
-use Rattle.dl_exact.proofs.Over.{over_lt, lt_over}
-use Rattle.dl_exact.proofs.Parts.{num_pos, quotient_is, whole_num}
+use Rattle.dl_exact.proofs.Over.{lt_over}
 use Rattle.dl_sev.specs.Buckets.{buckets}
-use Rattle.dl_sev.proofs.Whole.{divides_whole, whole_divides, quotient_whole, whole_lt}
-use Rattle.dl_lexer.specs.declared.token.Span.{Span}
-use Rattle.dl_read.specs.declared.tree.ReadList.{ReadList}
-use Rattle.dl_read.specs.declared.tree.ReadAtom.{ReadAtom}
 use Rattle.dl_read.specs.declared.tree.ReadLayer.{ReadLayer}
-use Rattle.dl_read.specs.declared.tree.ReadSev.{ReadSev}
-use Rattle.dl_read.specs.declared.tree.ReadCeded.{ReadCeded}
 use Rattle.dl_read.specs.declared.tree.ReadClause.{ReadClause}
-use Rattle.dl_read.specs.First.{◌else◌, at_if, within, first_in}
-use Rattle.dl_read.specs.Lists.{is_whole, is_above}
-use Rattle.dl_read.proofs.Firsts.{first-append, one_in}
-use Rattle.dl_read.proofs.Nothing.{else_first, else_second, not_at, not_then}
-use Rattle.dl_amounts.specs.declared.grid.GridAtom.{GridAtom}
-use Rattle.dl_amounts.specs.declared.grid.GridCeded.{GridCeded}
-use Rattle.dl_amounts.specs.declared.grid.GridLayer.{GridLayer}
+use Rattle.dl_read.proofs.Firsts.{first-append}
 use Rattle.dl_amounts.specs.declared.grid.GridShare.{GridShare}
 use Rattle.dl_amounts.specs.declared.flaws.Flaws.{Flaws}
 use Rattle.dl_amounts.specs.declared.flaws.Gridded.{Gridded}
-use Rattle.dl_amounts.specs.Flaws.{flaws_of, flaws_else, IsClean, IsGridded}
-use Rattle.dl_amounts.specs.Grid.{number_of, grid_atom, grid_severity, grid_layer, grid_share, grid_ceded, grid_clause}
-use Rattle.dl_amounts.specs.Rules.{list_fails, limit_fails, layer_fails, clause_fails}
+use Rattle.dl_amounts.specs.Flaws.{flaws_of}
+use Rattle.dl_amounts.specs.Grid.{grid_share}
+use Rattle.dl_sev.proofs.Whole.{same, pos, divides_whole, whole_divides, quotient_whole, whole_lt}
+use Rattle.dl_read.specs.declared.tree.ReadSev.{ReadSev}
 use Rattle.dl_amounts.proofs.Positive.{zip-more}
 use Rattle.dl_amounts.proofs.Values.{agree}
 
@@ -55,12 +42,6 @@ not_far q x e near = elim (cases_lt most_amount q) [
 -- n over e is the numerator and the denominator of an amount, m over d those of the bucket size
 module _ (x bs : Fraction) (n d e m : ℕ) (h : whole 0 <ℚ bs) (pn : n ≡ x.num) (pd : d ≡ bs.den) (pe : e ≡ x.den)
     (pm : m ≡ bs.num) where
-  same : buckets bs x ≡ (n * d) over (e * m)
-  same = rw (pn, pd, pe, pm) (sym (quotient_is x bs))
-
-  pos : 0 < e * m
-  pos = mul-pos (subst (λ k. 0 < k) (sym pe) x.positive) (subst (λ k. 0 < k) (sym pm) (num_pos bs h))
-
   off_grid_is : not (nat_eq (n * d % (e * m)) 0) ≡ not (is_whole (buckets bs x))
   off_grid_is = ap not (agree _ _ (λ t. eq-eqb (buckets bs x).den 1 (divides_whole x bs n d e m h pn pd pe pm t))
       (λ t. whole_divides x bs n d e m h pn pd pe pm (eqb-true (buckets bs x).den 1 t)))
@@ -68,12 +49,13 @@ module _ (x bs : Fraction) (n d e m : ℕ) (h : whole 0 <ℚ bs) (pn : n ≡ x.n
   far : whole most_amount <ℚ buckets bs x → e * m * 1048576 < n * d
   far above = omega (
     arith,
-    lt_over most_amount 1 (n * d) (e * m) (omega arith) pos (subst (λ y. whole most_amount <ℚ y) same above),
+    lt_over most_amount 1 (n * d) (e * m) (omega arith) (pos x bs n d e m h pn pd pe pm)
+        (subst (λ y. whole most_amount <ℚ y) (same x bs n d e m h pn pd pe pm) above),
   )
 
   is_far : e * m * 1048576 < n * d → whole most_amount <ℚ buckets bs x
-  is_far more = subst (λ y. whole most_amount <ℚ y) (sym same)
-      (over_lt most_amount 1 (n * d) (e * m) (omega arith) pos (omega (arith, more)))
+  is_far more = subst (λ y. whole most_amount <ℚ y) (sym (same x bs n d e m h pn pd pe pm))
+      (over_lt most_amount 1 (n * d) (e * m) (omega arith) (pos x bs n d e m h pn pd pe pm) (omega (arith, more)))
 
   too_far_is : nat_lt (e * m * 1048576) (n * d) ≡ is_above (buckets bs x) (whole most_amount)
   too_far_is = agree _ _ (λ t. yes_above (buckets bs x) (whole most_amount) (is_far (ltb-true _ _ t)))

@@ -1,26 +1,12 @@
 -- The items of a severity stand among the amounts of positive probability of what it means.
-use Rattle.dl_read.proofs.Firsts.{from_map}
-use Rattle.std.proofs.Common.{◌≡◌, ◌∙◌, ℕ, zero, suc, ◌+◌, ◌<◌, ◌≤◌, ◌==◌, List, [], ◌∷◌, map, Bool, true, false, cond, get_or, refl, sym, ap, ap₂, subst, arith, inl, inr}
-use Rattle.std.specs.List.{AllZip, All}
+use Rattle.dl_amounts.proofs.Common.{◌≡◌, ◌∙◌, ℕ, zero, suc, ◌+◌, ◌<◌, ◌≤◌, ◌==◌, List, [], ◌∷◌, map, Bool, true, false, cond, get_or, refl, sym, ap, ap₂, subst, arith, inl, inr, AllZip, All, eqb_tells, All-nil, All-cons, All-head, All-tail, All-weaker, All-append, sum_by-cons, map-append, Fraction, whole, ◌over◌, ◌+ℚ◌, ◌*ℚ◌, ◌≤ℚ◌, ◌<ℚ◌, cases_lt, zero_plus, zero_or_pos, lt_of_lt_of_le, le_plus, plus_comm, over_lt, Item, Sev, amounts_of, weight_at, Pairs, probability, pairs_of, shares, Means, scaled, mixture_of, support, shares_in_mixture}
 use Rattle.std.specs.List.Sorted.{IsStrictlyIncreasing}
-use Rattle.std.proofs.lemmas.Bool.Decides.{eqb_tells}
-use Rattle.std.proofs.lemmas.List.Kept.{AllPairs-from_increasing}
-use Rattle.std.proofs.lemmas.List.Elements.{All-nil, All-cons, All-head, All-tail, All-weaker, All-append}
-use Rattle.std.proofs.lemmas.List.Sums.{sum_by-cons}
-use Rattle.std.proofs.lemmas.List.{map-append}
-use Rattle.dl_exact.specs.Fraction.{Fraction, whole, ◌over◌, ◌+ℚ◌, ◌*ℚ◌, ◌≤ℚ◌, ◌<ℚ◌}
 use Rattle.dl_exact.specs.Sum.{sum_over}
-use Rattle.std.proofs.lemmas.Bool.{cases_lt}
-use Rattle.dl_exact.proofs.Laws.{zero_plus, zero_or_pos, lt_not_le, lt_of_lt_of_le, le_refl, le_plus, plus_comm}
+use Rattle.dl_exact.proofs.Laws.{lt_not_le, le_refl}
+use Rattle.dl_read.proofs.Firsts.{from_map}
+use Rattle.std.proofs.lemmas.List.Kept.{AllPairs-from_increasing}
 use Rattle.dl_exact.proofs.Denominators.{over_zero as zero_over}
-use Rattle.dl_exact.proofs.Over.{over_lt}
-use Rattle.dl_plan.specs.declared.item.Item.{Item}
-use Rattle.dl_plan.specs.declared.severity.Sev.{Sev}
-use Rattle.dl_plan.specs.Weighted.{amounts_of, weight_at}
-use Rattle.dl_plan.specs.Severity.{Pairs, probability, pairs_of, shares, Means}
-use Rattle.dl_sev.specs.Steps.{scaled, mixture_of}
 use Rattle.dl_plan.proofs.Means.{severity_total as total_pos}
-use Rattle.dl_amounts.specs.Severity.{support, shares_in_mixture}
 use Rattle.dl_amounts.proofs.Shared.{all_left, all_right}
 use Rattle.dl_amounts.proofs.Positive.{is_positive, positive_yes, positive_no, support_step}
 

@@ -1,22 +1,14 @@
 -- What a severity means tells what each step makes of it.
-use Rattle.std.proofs.Common.{ℕ, zero, suc, ◌≡◌, ◌∙◌, ◌+◌, ◌*◌, ◌/◌, ◌<◌, ◌≤◌, ◌⊎◌, List, [], ◌∷◌, ◌++◌, map, filter, Bool, true, false, cond, nat_lt, ◌==◌, refl, sym, ap, ap₂, arith, mul-pos, inl, inr}
+use Rattle.dl_amounts.proofs.Common.{ℕ, zero, suc, ◌≡◌, ◌∙◌, ◌+◌, ◌*◌, ◌/◌, ◌<◌, ◌≤◌, ◌⊎◌, List, [], ◌∷◌, ◌++◌, map, filter, Bool, true, false, cond, nat_lt, ◌==◌, refl, sym, ap, ap₂, arith, mul-pos, inl, inr, cases_lt, lt-ltb, le-ltb, Fraction, whole, ◌over◌, ◌+ℚ◌, ◌*ℚ◌, ◌/ℚ◌, zero_plus, times_zero, zero_times, over_same, Sev, Pairs, probability, mass, conditioned, pairs_of, Means, whole_num, whole_den, scaled, mixture_of, with_amounts, AllZip, mixed}
 use Rattle.std.proofs.Math.Nat.{eq-zero-or-pos}
-use Rattle.std.proofs.lemmas.Bool.{cases_lt, lt-ltb, le-ltb}
 use Rattle.dl_exact.specs.Gcd.{gcd}
-use Rattle.dl_exact.specs.Fraction.{Fraction, nought, read_as, whole, ◌over◌, ◌+ℚ◌, ◌*ℚ◌, ◌/ℚ◌}
-use Rattle.dl_exact.specs.Sum.{sum_to, sum_over}
-use Rattle.dl_exact.proofs.Laws.{zero_plus, plus_zero, times_zero, zero_times, one_times, times_plus, ring}
-use Rattle.dl_exact.proofs.Laws.{by_two}
-use Rattle.dl_exact.proofs.Over.{same, over_same, over_mul, over_div}
-use Rattle.dl_exact.proofs.Sums.{sum_to_same, sum_to_plus, sum_over_map, sum_over_same, sum_over_append, sum_over_times}
-use Rattle.dl_plan.specs.declared.severity.Sev.{Sev}
-use Rattle.dl_plan.specs.Severity.{Pairs, probability, mass, conditioned, pairs_of, Means}
-use Rattle.dl_exact.proofs.Parts.{whole_num, whole_den}
+use Rattle.dl_exact.specs.Fraction.{nought, read_as}
+use Rattle.dl_exact.specs.Sum.{sum_over, sum_to}
+use Rattle.dl_exact.proofs.Laws.{plus_zero, one_times, times_plus, ring, by_two}
+use Rattle.dl_exact.proofs.Over.{same, over_mul, over_div}
+use Rattle.dl_exact.proofs.Sums.{sum_over_map, sum_to_same, sum_to_plus, sum_over_same, sum_over_append, sum_over_times}
 use Rattle.dl_plan.proofs.Shares.{probability-shares}
-use Rattle.dl_sev.specs.Steps.{scaled, mixture_of, with_amounts}
 use Rattle.dl_plan.proofs.Means.{severity_total as total_pos}
-use Rattle.std.specs.List.{AllZip}
-use Rattle.dl_amounts.specs.Severity.{mixed}
 
 -- ---- a sum over pairs, by amounts
 

@@ -1,18 +1,6 @@
 -- The severities of the atoms, and their mixture, mean what the text says.
-use Rattle.std.proofs.Common.{◌≡◌, ◌∙◌, ℕ, suc, ◌+◌, ◌<◌, List, [], ◌∷◌, ◌++◌, map, zip, length, take, get_or, refl, sym, ap, subst, arith}
-use Rattle.std.specs.List.{AllZip, All}
-use Prim.Native.Nat.{◌∣◌}
-use Rattle.std.proofs.lemmas.List.{length-map, map_more}
-use Rattle.dl_exact.specs.Fraction.{Fraction, ◌over◌}
-use Rattle.dl_plan.specs.declared.severity.Sev.{Sev}
-use Rattle.dl_plan.specs.Fine.{IsFine, common_denominator}
-use Rattle.dl_plan.specs.Severity.{Pairs, probability, Means}
-use Rattle.dl_plan.proofs.Common.{den_divides}
-use Rattle.dl_sev.specs.declared.weights.Weights.{Weights}
-use Rattle.dl_sev.specs.Weighed.{IsWeighing}
-use Rattle.dl_sev.specs.Steps.{weighed, mixture}
+use Rattle.dl_amounts.proofs.Common.{◌≡◌, ◌∙◌, ℕ, suc, ◌+◌, ◌<◌, List, [], ◌∷◌, ◌++◌, map, zip, length, take, get_or, refl, sym, ap, subst, arith, AllZip, All, ◌∣◌, length-map, map_more, Fraction, ◌over◌, Sev, IsFineTo30Bits, common_denominator, Pairs, probability, Means, den_divides, Weights, IsWeighing, weighed, mixture, mixed, shares_in_mixture}
 use Rattle.dl_sev.proofs.Mixed.{firsts, seconds, weighed-back}
-use Rattle.dl_amounts.specs.Severity.{mixed, shares_in_mixture}
 use Rattle.dl_amounts.proofs.Shared.{fine_with}
 use Rattle.dl_amounts.proofs.Meaning.{mixture_alike}
 use Rattle.dl_amounts.proofs.Items.{mixture_products}
@@ -71,7 +59,8 @@ module _ (atoms : List Sev) (weights : Weights) (shares : List Fraction) (lists 
   mixture_means made h x = h x ∙ mixture_alike weights.total atoms weights.weights lists means x
       ∙ ap (λ ws. probability (mixed ws lists) x) is.shares
 
-  pub mixture_fine : IsFine (shares_in_mixture shares lists) → IsFine (map (λ pair. pair.1) (mixture atoms weights))
+  pub mixture_fine : IsFineTo30Bits (shares_in_mixture shares lists) → IsFineTo30Bits
+      (map (λ pair. pair.1) (mixture atoms weights))
   mixture_fine fine =
       let all : List Fraction = shares_in_mixture shares lists in
       fine_with (map (λ pair. pair.1) (mixture atoms weights)) all

@@ -1,26 +1,10 @@
 -- How large the amounts of a severity are, and how many there are.
-use Rattle.std.proofs.Common.{ℕ, suc, ◌≡◌, ◌∙◌, ◌*◌, ◌/◌, ◌<◌, ◌≤◌, ◌^◌, ◌⊎◌, List, [], ◌∷◌, map, filter, zip, length, get_or, nat_lt, Option, Some, None, Bool, true, false, cond, refl, sym, ap, subst, arith, inl, inr, length-append}
-use Rattle.std.specs.List.{All}
+use Rattle.dl_amounts.proofs.Common.{ℕ, suc, ◌≡◌, ◌∙◌, ◌*◌, ◌/◌, ◌<◌, ◌≤◌, ◌^◌, ◌⊎◌, List, [], ◌∷◌, map, filter, zip, length, get_or, nat_lt, Option, Some, None, Bool, true, false, cond, refl, sym, ap, subst, arith, inl, inr, All, lt-ltb, le-ltb, length-map, All-nil, All-cons, All-head, All-tail, All-weaker, All-append, All-map, Fraction, ◌*ℚ◌, IsWhole, Item, Sev, Pairs, conditioned, pairs_of, shares, Means, Clause, layer, kept, IsClause, whole_num, scaled, with_amounts, layered, ceded_each, GridAtom, GridSev, GridLayer, atom_probs, atom_pairs, mixed, mixed_pairs, weights_of, is_conditioned, layer_pairs, support, IsGridAtom, IsGridSev}
+use Rattle.std.proofs.Common.{length-append}
 use Rattle.std.proofs.Math.Nat.{div-le_of_le-mul}
-use Rattle.std.proofs.lemmas.Bool.{lt-ltb, le-ltb}
-use Rattle.std.proofs.lemmas.List.{length-map}
-use Rattle.std.proofs.lemmas.List.Elements.{All-nil, All-cons, All-head, All-tail, All-weaker, All-append, All-map}
-use Rattle.dl_exact.specs.Fraction.{Fraction, ◌*ℚ◌}
-use Rattle.dl_plan.specs.Fine.{IsWhole}
-use Rattle.dl_plan.specs.declared.item.Item.{Item}
-use Rattle.dl_plan.specs.declared.severity.Sev.{Sev}
-use Rattle.dl_plan.specs.Severity.{Pairs, conditioned, pairs_of, shares, Means}
-use Rattle.dl_plan.specs.Clause.{Clause, layer, kept, IsClause}
 use Rattle.dl_plan.specs.Parts.{kept_parts, parts_in_bucket}
-use Rattle.dl_exact.proofs.Parts.{whole_num}
 use Rattle.dl_plan.proofs.Clauses.{layer_le, bucket_pos, kept_whole, kept_only}
 use Rattle.dl_plan.proofs.Apart.{kept_le}
-use Rattle.dl_sev.specs.Steps.{scaled, with_amounts, layered, ceded_each}
-use Rattle.dl_amounts.specs.declared.grid.GridAtom.{GridAtom}
-use Rattle.dl_amounts.specs.declared.grid.GridSev.{GridSev}
-use Rattle.dl_amounts.specs.declared.grid.GridLayer.{GridLayer}
-use Rattle.dl_amounts.specs.Severity.{atom_probs, atom_pairs, mixed, mixed_pairs, weights_of, is_conditioned, layer_pairs, support}
-use Rattle.dl_amounts.specs.GridKept.{IsGridAtom, IsGridSev}
 use Rattle.dl_amounts.proofs.Items.{Rising, rises, items_in, support_all}
 use Rattle.dl_amounts.proofs.Positive.{is_positive}
 

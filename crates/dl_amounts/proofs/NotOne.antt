@@ -1,21 +1,10 @@
 -- Which lists of probabilities are fine and do not sum to 1.
-use Rattle.std.proofs.lemmas.Bool.{ne_eqb, eq-eqb, le-leb, and_right, not_from_true}
-use Rattle.std.proofs.Common.{◌≡◌, ◌≢◌, ◌∙◌, ℕ, ◌^◌, ◌≤◌, true, false, not, ◌&&◌, List, sum, Some, None, refl, sym, ap, arith}
-use Rattle.std.specs.Prelude.{nat_le}
-use Rattle.std.specs.List.{sum_by}
-use Rattle.std.proofs.lemmas.Bool.Decides.{nat_tests}
-use Rattle.dl_exact.specs.Fraction.{Fraction, whole, ◌over◌}
-use Rattle.dl_exact.proofs.Over.{over_self, over_same}
-use Rattle.dl_plan.specs.Fine.{IsFine, common_denominator}
-use Rattle.dl_exact.proofs.Parts.{whole_num, whole_den}
+use Rattle.dl_amounts.proofs.Common.{ne_eqb, eq-eqb, le-leb, ◌≡◌, ◌≢◌, ◌∙◌, ℕ, ◌^◌, ◌≤◌, true, false, not, ◌&&◌, List, Some, None, refl, sym, ap, arith, sum_by, nat_tests, Fraction, whole, ◌over◌, over_self, over_same, IsFineTo30Bits, common_denominator, whole_num, whole_den, Weights, sum_of, IsWeighing, Span, at_if, is_fine, is_one, is_not_one}
+use Rattle.std.proofs.lemmas.Bool.{and_right, not_from_true}
+use Rattle.std.proofs.Common.{sum}
 use Rattle.dl_exact.proofs.Sums.{sum_over_map}
 use Rattle.dl_exact.proofs.SumsOver.{sum_over_common}
-use Rattle.dl_sev.specs.declared.weights.Weights.{Weights}
-use Rattle.dl_sev.specs.Weighing.{sum_of}
-use Rattle.dl_sev.specs.Weighed.{IsWeighing}
-use Rattle.dl_lexer.specs.declared.token.Span.{Span}
-use Rattle.dl_read.specs.First.{at_if}
-use Rattle.dl_read.specs.Lists.{is_fine, is_one, is_not_one}
+use Rattle.std.specs.Prelude.{nat_le}
 
 -- equal parts are those of 1
 one_by_parts : (x : Fraction) → x.num ≡ x.den → x ≡ whole 1
@@ -49,11 +38,11 @@ module _ (xs : List Fraction) (place : Span) where
       ap (λ b. at_if b place) (sym (and_right (is_fine xs) (not (is_one (sum_of xs)))
       (not_from_true _ (one_test (sum_of xs) (weighed_sum xs made weighed)))))
 
-  pub keeps_coarse : ¬ IsFine xs → None ≡ at_if (is_not_one xs) place
+  pub keeps_coarse : ¬ IsFineTo30Bits xs → None ≡ at_if (is_not_one xs) place
   keeps_coarse coarse = ap (λ b. at_if (b && not (is_one (sum_of xs))) place)
       (sym (coarse_test (common_denominator xs) (2 ^ 30) coarse))
 
-  pub breaks_one : IsFine xs → sum_of xs ≢ whole 1 → Some place ≡ at_if (is_not_one xs) place
+  pub breaks_one : IsFineTo30Bits xs → sum_of xs ≢ whole 1 → Some place ≡ at_if (is_not_one xs) place
   breaks_one fine other =
       ap (λ b. at_if (b && not false) place) (sym (le-leb (common_denominator xs) (2 ^ 30) fine))
       ∙ ap (λ b. at_if (is_fine xs && not b) place) (sym (not_one_test (sum_of xs) other))

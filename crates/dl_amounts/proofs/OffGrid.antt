@@ -1,28 +1,14 @@
 -- Whether the clauses of a unit map whole amounts to whole amounts.
-use Rattle.std.proofs.lemmas.Bool.{le-leb}
-use Rattle.std.proofs.Common.{ℕ, ◌+◌, ◌≡◌, ◌∙◌, ◌<◌, ◌^◌, ◌&&◌, ◌↔◌, ◌++◌, IsTrue, IsSome, map, take, drop, length, get_or, Bool, true, false, List, [], ◌∷◌, Option, Some, None, refl, sym, ap, ap₂, subst, arith}
-use Rattle.std.specs.List.{list_any}
-use Rattle.std.specs.Option.{MatchOption}
-use Rattle.std.proofs.Math.ListN.{set}
-use Rattle.std.proofs.lemmas.List.{length-map, length-take, drop_more, get_or_at, get_or_default}
-use Rattle.std.proofs.lemmas.List.Edits.{map_over_more}
-use Rattle.dl_exact.specs.Fraction.{Fraction, whole}
-use Rattle.dl_amounts.specs.declared.grid.GridCeded.{GridCeded}
-use Rattle.dl_amounts.specs.declared.grid.GridClause.{GridClause}
-use Rattle.dl_amounts.specs.declared.grid.GridUnit.{GridUnit}
-use Rattle.dl_plan.specs.Fine.{IsFine, IsWhole, common_denominator}
-use Rattle.dl_plan.specs.Clause.{Clause, kept, layer_shares, IsClause}
-use Rattle.dl_exact.proofs.Parts.{whole_num}
-use Rattle.dl_sev.specs.Fits.{FitsStep}
-use Rattle.dl_read.specs.First.{at_if, within}
-use Rattle.dl_read.specs.Lists.{is_fine}
-use Rattle.dl_amounts.specs.Clauses.{ceded_layer, clause_of, shares_of, share_of, is_off, is_off_multiples}
-use Rattle.dl_amounts.specs.Severity.{severity_in_layer, final_severity, ceded_pairs, support}
+use Rattle.dl_amounts.proofs.Common.{le-leb, ℕ, ◌+◌, ◌≡◌, ◌∙◌, ◌<◌, ◌^◌, ◌&&◌, ◌↔◌, ◌++◌, map, take, drop, length, get_or, Bool, true, false, List, [], ◌∷◌, Option, Some, None, refl, sym, ap, ap₂, subst, arith, list_any, MatchOption, length-map, length-take, Fraction, whole, GridCeded, GridClause, GridUnit, IsFineTo30Bits, IsWhole, common_denominator, Clause, kept, IsClause, whole_num, at_if, within, is_fine, ceded_layer, clause_of, shares_of, share_of, is_off, is_off_multiples, severity_in_layer, final_severity, ceded_pairs, support, common_amount_of, off_grid_aggregate, off_grid_cession, Span, not_at}
+use Rattle.std.proofs.Common.{IsTrue}
+use Rattle.std.proofs.lemmas.List.{drop_more, get_or_at, get_or_default}
+use Rattle.dl_plan.specs.Clause.{layer_shares}
 use Rattle.dl_amounts.specs.FineParts.{has_shares}
-use Rattle.dl_amounts.specs.Rules.{common_amount_of, off_grid_occurrence, off_grid_aggregate, off_grid_cession}
-use Rattle.dl_lexer.specs.declared.token.Span.{Span}
+use Rattle.dl_amounts.specs.Rules.{off_grid_occurrence}
+use Rattle.std.proofs.Math.ListN.{set}
+use Rattle.std.proofs.lemmas.List.Edits.{map_over_more}
+use Rattle.dl_sev.specs.Fits.{FitsStep}
 use Rattle.dl_read.proofs.Firsts.{else_found, else_next}
-use Rattle.dl_read.proofs.Nothing.{not_at}
 use Rattle.dl_amounts.proofs.Values.{never}
 use Rattle.dl_amounts.proofs.Positive.{support-mapped}
 use Rattle.dl_amounts.proofs.PastEdges.{whole_unless, fits_tried, tried_fits}
@@ -36,7 +22,7 @@ same_shares (l ∷ ls) = ap (λ xs. share_of l.share ∷ xs) (same_shares ls)
 
 pub cession_fine : (c : GridClause) (clause : Clause) → (clause ≡ clause_of c) × IsClause clause
     → is_fine (shares_of c) ≡ true
-cession_fine c clause told = le-leb (common_denominator (shares_of c)) (2 ^ 30) (subst IsFine
+cession_fine c clause told = le-leb (common_denominator (shares_of c)) (2 ^ 30) (subst IsFineTo30Bits
     (ap (λ (d : Clause). layer_shares d.1) told.0 ∙ same_shares c.layers) told.1.fine)
 
 second : (a b : Bool) → a ≡ true → (a && b) ≡ b
@@ -44,10 +30,6 @@ second true b e = refl
 second false b e = absurd (cc)
 
 -- ---- one amount after another
-
-pub kept_some : (o : Option ℕ) (x : Fraction) → MatchOption o (¬ IsWhole x) (λ y. x ≡ whole y) → IsWhole x → IsSome o
-kept_some None x h w = absurd (h w)
-kept_some (Some y) x h w = refl
 
 pub kept_num : (o : Option ℕ) (x : Fraction) (y : ℕ) → MatchOption o (¬ IsWhole x) (λ z. x ≡ whole z)
     → o ≡ Some y → x.num ≡ y
@@ -118,9 +100,6 @@ module _ (u : GridUnit) (c : GridClause) (is : u.occ ≡ Some c) (clause : Claus
   unfolding off_grid_cession
   occurrence_fits r none e = else_next (off_grid_occurrence u) (off_grid_aggregate u) r
       (sym (occurrence_is ∙ ap (λ b. at_if b c.span) none)) e
-
-  pub shares_there : has_shares u.occ ≡ true
-  shares_there = ap has_shares is ∙ cession_fine c clause told
 
   pub final_amounts : (ys : List ℕ) → ys ≡ map (λ x. (kept clause x).num) xs → ys ≡ support (final_severity u)
   final_amounts ys mapped =

@@ -1,19 +1,9 @@
 -- What a unit in whole buckets keeps of its lists.
-use Rattle.std.proofs.Common.{◌≡◌, ℕ, ◌<◌, ◌==◌, length, not, Option, Some, None, arith, inl, inr}
-use Rattle.std.specs.Option.{IfSome, IsSome}
-use Rattle.std.proofs.lemmas.Bool.{cases_lt, eqb-true}
+use Rattle.dl_amounts.proofs.Common.{◌≡◌, ℕ, ◌<◌, ◌==◌, length, not, Option, Some, None, arith, inl, inr, IfSome, cases_lt, eqb-true, ◌over◌, ReadList, at_if, within, not_at, not_then, GridAtom, GridUnit, probs_among, atom_probs, weights_in, IsGridAtom, IsSevWeighted}
+use Rattle.std.specs.Option.{IsSome}
 use Rattle.std.proofs.lemmas.List.{length-replicate}
-use Rattle.dl_exact.specs.Fraction.{◌over◌}
-use Rattle.dl_read.specs.declared.tree.ReadList.{ReadList}
-use Rattle.dl_read.specs.First.{at_if, within}
-use Rattle.dl_read.proofs.Nothing.{not_at, not_then}
-use Rattle.dl_amounts.specs.declared.grid.GridAtom.{GridAtom}
-use Rattle.dl_amounts.specs.declared.grid.GridUnit.{GridUnit}
-use Rattle.dl_amounts.specs.Severity.{probs_among, atom_probs, weights_in}
-use Rattle.dl_amounts.specs.GridKept.{IsGridAtom}
 use Rattle.dl_amounts.specs.Rules.{weights_differ}
 use Rattle.dl_amounts.specs.Kept.{IsWeighted}
-use Rattle.dl_amounts.specs.Parts.{IsSevWeighted}
 
 -- one weight for each atom
 one_each : (o : Option ReadList) (n : ℕ) → 0 < n → (1 < n → IsSome o)

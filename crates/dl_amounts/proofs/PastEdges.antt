@@ -1,25 +1,15 @@
 -- Past its greatest edge a clause's map is a straight line: what that makes of the multiples of a step.
-use Prim.Native.Nat.{◌∣◌}
-use Rattle.std.proofs.Common.{◌↔◌, is_some, length, get_or, mul-le-mul_right, ℕ, zero, suc, ◌≡◌, ◌∙◌, ◌+◌, ◌-◌, ◌*◌, ◌/◌, ◌%◌, ◌<◌, ◌≤◌, ◌==◌, ◌⊎◌, not, max, fold, Bool, true, false, List, [], ◌∷◌, Option, Some, None, refl, sym, ap, subst, arith, inl, inr}
-use Rattle.std.specs.List.{All, range_with_len}
-use Rattle.std.specs.Option.{MatchOption}
-use Rattle.std.proofs.lemmas.Bool.{cases_lt, eqb-true, ne_eqb, not-false, not_from_false}
-use Rattle.std.proofs.lemmas.Nat.Gcd.{dvd_of_mod-eq-zero, mod-eq-zero_of_dvd}
-use Rattle.std.proofs.lemmas.List.Folds.{list_any_none}
+use Rattle.dl_amounts.proofs.Common.{◌↔◌, length, get_or, ℕ, zero, suc, ◌≡◌, ◌∙◌, ◌+◌, ◌*◌, ◌/◌, ◌<◌, ◌≤◌, ◌==◌, ◌⊎◌, not, max, Bool, true, false, List, [], ◌∷◌, Option, Some, None, sym, ap, subst, arith, inl, inr, All, MatchOption, cases_lt, eqb-true, ne_eqb, not-false, list_any_none, All-nil, All-cons, Fraction, whole, CedeLayer, IsWhole, Clause, kept, IsClause, whole_den, is_whole, is_off, is_off_multiples}
+use Rattle.std.proofs.Common.{is_some, mul-le-mul_right, ◌-◌, fold}
+use Rattle.std.specs.List.{range_with_len}
+use Rattle.std.proofs.lemmas.Bool.{not_from_false}
+use Rattle.std.proofs.Math.Nat.{eq-zero-or-pos, le-max_left, le-max_right}
+use Rattle.dl_amounts.specs.Clauses.{greatest_edge}
 use Rattle.std.proofs.lemmas.List.FromFn.{length-range_with_len, get_or-range_with_len}
-use Rattle.std.proofs.Math.Nat.{dvd-add, dvd-sub, eq-zero-or-pos, le-max_left, le-max_right}
-use Rattle.std.proofs.lemmas.List.Elements.{All-nil, All-cons}
-use Rattle.dl_exact.specs.Fraction.{Fraction, whole}
-use Rattle.dl_plan.specs.declared.cede.CedeLayer.{CedeLayer}
-use Rattle.dl_plan.specs.Fine.{IsWhole}
-use Rattle.dl_plan.specs.Clause.{Clause, kept, IsClause}
 use Rattle.dl_plan.specs.Horizon.{edge}
-use Rattle.dl_exact.proofs.Parts.{whole_den}
 use Rattle.dl_plan.proofs.Horizons.{attach_le}
 use Rattle.dl_plan.proofs.Straight.{IsClear}
 use Rattle.dl_sev.proofs.Lattices.{on_line}
-use Rattle.dl_read.specs.Lists.{is_whole}
-use Rattle.dl_amounts.specs.Clauses.{greatest_edge, is_off, is_off_multiples}
 use Rattle.dl_amounts.proofs.Values.{never}
 
 -- ---- edges

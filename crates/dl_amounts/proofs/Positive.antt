@@ -1,23 +1,9 @@
 -- The amounts of positive probability, step by step.
-use Rattle.std.proofs.Common.{◌≡◌, ◌∙◌, ℕ, ◌+◌, ◌<◌, ◌≤◌, ◌&&◌, List, [], ◌∷◌, ◌++◌, map, filter, zip, length, take, get_or, nat_lt, not, Bool, true, false, Option, Some, None, cond, refl, sym, ap, ap₂, subst, arith, inl, inr, append_assoc}
-use Rattle.std.specs.List.{All, list_any}
-use Rattle.std.proofs.lemmas.Bool.{cases_lt, lt-ltb, le-ltb}
-use Rattle.std.proofs.lemmas.List.{map-append, map_more, take_more, take_all, length-map, length-take-le, append-nil}
-use Rattle.std.proofs.lemmas.List.Folds.{list_any_none}
-use Rattle.std.proofs.lemmas.List.Elements.{All-nil, All-cons, All-head, All-tail, All-weaker, filter-append}
-use Rattle.dl_exact.specs.Fraction.{Fraction, whole, ◌*ℚ◌, ◌/ℚ◌, ◌≤ℚ◌, ◌<ℚ◌}
+use Rattle.dl_amounts.proofs.Common.{◌≡◌, ◌∙◌, ℕ, ◌+◌, ◌<◌, ◌≤◌, ◌&&◌, List, [], ◌∷◌, ◌++◌, map, filter, zip, length, take, get_or, nat_lt, not, Bool, true, false, Option, Some, None, cond, refl, sym, ap, ap₂, subst, arith, inl, inr, append_assoc, All, list_any, cases_lt, lt-ltb, le-ltb, map-append, map_more, take_more, take_all, length-map, append-nil, list_any_none, All-nil, All-cons, All-head, All-tail, All-weaker, Fraction, whole, ◌*ℚ◌, ◌/ℚ◌, ◌≤ℚ◌, ◌<ℚ◌, zero_or_pos, times_zero, zero_times, lt_of_lt_of_le, le_plus, plus_comm, num_pos, whole_num, Pairs, mass, conditioned, layer, scaled, with_amounts, layered, GridSev, GridLayer, GridUnit, at_if, within, not_at, mixed, mixed_pairs, is_conditioned, layer_pairs, support}
+use Rattle.std.proofs.lemmas.List.{length-take-le}
+use Rattle.std.proofs.lemmas.List.Elements.{filter-append}
 use Rattle.dl_exact.specs.Sum.{sum_over}
-use Rattle.dl_exact.proofs.Laws.{zero_or_pos, times_pos, times_zero, zero_times, div_pos, lt_of_lt_of_le, le_plus, le_trans, plus_comm}
-use Rattle.dl_exact.proofs.Parts.{num_pos, whole_num}
-use Rattle.dl_plan.specs.Severity.{Pairs, mass, conditioned}
-use Rattle.dl_plan.specs.Clause.{layer}
-use Rattle.dl_sev.specs.Steps.{scaled, with_amounts, layered}
-use Rattle.dl_amounts.specs.declared.grid.GridSev.{GridSev}
-use Rattle.dl_amounts.specs.declared.grid.GridLayer.{GridLayer}
-use Rattle.dl_amounts.specs.declared.grid.GridUnit.{GridUnit}
-use Rattle.dl_read.specs.First.{at_if, within}
-use Rattle.dl_read.proofs.Nothing.{not_at}
-use Rattle.dl_amounts.specs.Severity.{mixed, mixed_pairs, is_conditioned, layer_pairs, support}
+use Rattle.dl_exact.proofs.Laws.{times_pos, div_pos, le_trans}
 use Rattle.dl_amounts.specs.Rules.{none_above}
 use Rattle.dl_amounts.proofs.Meaning.{above, div_as_times}
 

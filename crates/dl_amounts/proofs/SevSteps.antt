@@ -1,30 +1,19 @@
 -- Each step of a severity that is not refused gives one.
-use Rattle.std.proofs.Common.{ℕ, ◌≡◌, ◌∙◌, ◌<◌, ◌≤◌, ◌^◌, List, map, length, nat_lt, refl, sym, ap, subst, arith, inl, inr}
-use Rattle.std.specs.List.{All}
+use Rattle.dl_amounts.proofs.Common.{ℕ, ◌≡◌, ◌∙◌, ◌<◌, ◌≤◌, ◌^◌, List, map, length, nat_lt, refl, sym, ap, subst, arith, inl, inr, All, length-map, Fraction, whole, ◌over◌, Item, Sev, IsFineTo30Bits, common_denominator, weight_sum, weight_at, Pairs, pairs_of, conditioned, probability, Means, common_pos, Weights, sum_of, IsWeighing, with_amounts}
 use Rattle.std.proofs.Math.Nat.{eq-zero-or-pos}
-use Rattle.std.proofs.lemmas.List.{length-map}
+use Rattle.dl_plan.specs.Fine.{numerator_over}
+use Rattle.dl_sev.specs.Steps.{items_of, with_amount}
+use Rattle.dl_sev.proofs.Mixed.{firsts, seconds, weighed-back}
 use Rattle.std.proofs.lemmas.List.Elements.{All-filter}
-use Rattle.dl_exact.specs.Fraction.{Fraction, whole, ◌over◌}
-use Rattle.dl_plan.specs.declared.item.Item.{Item}
-use Rattle.dl_plan.specs.declared.severity.Sev.{Sev}
-use Rattle.dl_plan.specs.Fine.{IsFine, common_denominator, numerator_over}
-use Rattle.dl_plan.specs.Weighted.{weight_sum, weight_at}
-use Rattle.dl_plan.specs.Severity.{Pairs, pairs_of, conditioned, probability, Means}
-use Rattle.dl_plan.proofs.Common.{common_pos}
 use Rattle.dl_plan.proofs.Weights.{weight_sum_pos}
 use Rattle.dl_plan.proofs.Shares.{items_over, none_over, probability-conditioned, weight_over-le}
-use Rattle.dl_sev.specs.declared.weights.Weights.{Weights}
-use Rattle.dl_sev.specs.Weighing.{sum_of}
-use Rattle.dl_sev.specs.Weighed.{IsWeighing}
-use Rattle.dl_sev.specs.Steps.{items_of, with_amount, with_amounts}
 use Rattle.dl_sev.proofs.Sharing.{shares_back, sum_one, sum_map}
 use Rattle.dl_plan.proofs.Means.{severity_total as total_pos}
 use Rattle.dl_sev.proofs.Mapped.{weight_sum-items, probability-weighed, mapped_sum, mapped_means}
-use Rattle.dl_sev.proofs.Mixed.{firsts, seconds, weighed-back}
 use Rattle.dl_amounts.proofs.Tables.{gathered}
 
 -- whole weights of probabilities
-pub weighing : (xs : List Fraction) → IsFine xs → sum_of xs ≡ whole 1 → (made : Weights) × IsWeighing xs made
+pub weighing : (xs : List Fraction) → IsFineTo30Bits xs → sum_of xs ≡ whole 1 → (made : Weights) × IsWeighing xs made
 weighing xs fine one = (
   record { weights = map (numerator_over (common_denominator xs)) xs; total = common_denominator xs },
   record {
@@ -37,7 +26,7 @@ weighing xs fine one = (
 )
 
 -- amounts with probabilities that are fine and sum to 1
-pub sev_of : (ps : Pairs) → IsFine (seconds ps) → sum_of (seconds ps) ≡ whole 1 → (sev : Sev) × Means sev ps
+pub sev_of : (ps : Pairs) → IsFineTo30Bits (seconds ps) → sum_of (seconds ps) ≡ whole 1 → (sev : Sev) × Means sev ps
 sev_of ps fine one =
     let w = weighing (seconds ps) fine one in
     let weights : Weights = w.0 in

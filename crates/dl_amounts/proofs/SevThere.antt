@@ -1,28 +1,7 @@
 -- A unit whose fractions are fine has a final severity.
-use Rattle.std.proofs.Common.{ℕ, ◌≡◌, ◌∙◌, ◌≤◌, ◌^◌, List, [], ◌∷◌, map, length, Bool, true, false, cond, Option, Some, None, refl, sym, subst, arith}
-use Rattle.std.specs.List.{All, AllZip}
-use Rattle.std.specs.Option.{IfSome}
-use Rattle.std.proofs.lemmas.List.{length-map}
-use Rattle.std.proofs.lemmas.List.Elements.{All-head, All-tail}
-use Rattle.dl_exact.specs.Fraction.{whole}
-use Rattle.dl_plan.specs.declared.item.Item.{Item}
-use Rattle.dl_plan.specs.declared.severity.Sev.{Sev}
-use Rattle.dl_plan.specs.Fine.{IsFine, IsWhole}
-use Rattle.dl_plan.specs.Severity.{Pairs, conditioned, Means}
-use Rattle.dl_plan.specs.Clause.{Clause, layer, kept, IsClause}
-use Rattle.dl_sev.specs.Weighing.{sum_of}
-use Rattle.dl_sev.specs.Steps.{mixture, layered}
-use Rattle.dl_sev.proofs.Mixed.{mixture_one}
-use Rattle.dl_amounts.specs.declared.grid.GridAtom.{GridAtom}
-use Rattle.dl_amounts.specs.declared.grid.GridLayer.{GridLayer}
-use Rattle.dl_amounts.specs.declared.grid.GridClause.{GridClause}
-use Rattle.dl_amounts.specs.declared.grid.GridUnit.{GridUnit}
-use Rattle.dl_amounts.specs.Clauses.{clause_of}
-use Rattle.dl_amounts.specs.Severity.{atom_probs, atom_pairs, weights_of, mixed_pairs, is_conditioned, layer_pairs, severity_in_layer, ceded_pairs, final_severity}
+use Rattle.dl_amounts.proofs.Common.{ℕ, ◌≡◌, ◌∙◌, ◌≤◌, ◌^◌, List, [], ◌∷◌, map, length, Bool, true, false, cond, Option, Some, None, refl, sym, subst, arith, All, AllZip, IfSome, length-map, All-head, All-tail, whole, Item, Sev, IsFineTo30Bits, IsWhole, Pairs, conditioned, Means, Clause, layer, kept, IsClause, sum_of, mixture, layered, GridAtom, GridLayer, GridClause, GridUnit, clause_of, atom_probs, atom_pairs, weights_of, mixed_pairs, is_conditioned, layer_pairs, severity_in_layer, ceded_pairs, final_severity, IsGridAtom, IsSevWeighted, IsSevShared, AreProbabilities, IsClauseLayered}
 use Rattle.dl_amounts.specs.Kept.{IsFineSev}
-use Rattle.dl_amounts.specs.GridKept.{IsGridAtom}
-use Rattle.dl_amounts.specs.Parts.{IsSevWeighted, IsSevShared, AreProbabilities}
-use Rattle.dl_amounts.specs.ClausesKept.{IsClauseLayered}
+use Rattle.dl_sev.proofs.Mixed.{mixture_one}
 use Rattle.dl_amounts.proofs.Parts.{sev_weighted, probs_length}
 use Rattle.dl_amounts.proofs.Mixing.{seconds-zip, pair_length, weights_length, mixture_means, mixture_fine as products_fine}
 use Rattle.dl_amounts.proofs.Meaning.{conditioned_means, mapped_means}
@@ -42,7 +21,7 @@ atom_sev : (a : GridAtom) → IsGridAtom a → AreProbabilities (atom_probs a)
     → Meant (atom_pairs a)
 atom_sev a grid shared =
     let same = seconds-zip a.amounts (atom_probs a) (sym (probs_length a grid)) in
-    sev_of (atom_pairs a) (subst IsFine same shared.fine) (subst (λ xs. sum_of xs ≡ whole 1) same shared.one)
+    sev_of (atom_pairs a) (subst IsFineTo30Bits same shared.fine) (subst (λ xs. sum_of xs ≡ whole 1) same shared.one)
 
 atom_sevs : (atoms : List GridAtom) → All IsGridAtom atoms
     → All (λ a. AreProbabilities (atom_probs a)) atoms

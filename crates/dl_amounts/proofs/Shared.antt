@@ -1,32 +1,15 @@
 -- Fine probabilities that sum to 1.
-use Rattle.std.proofs.lemmas.Bool.{not-false, leb-true, eqb-true}
-use Rattle.std.proofs.Common.{◌≡◌, ◌∙◌, ℕ, suc, ◌+◌, ◌<◌, ◌≤◌, ◌^◌, List, [], ◌∷◌, ◌++◌, map, flat_map, length, get_or, not, ◌&&◌, Bool, true, false, Option, Some, None, refl, sym, ap, subst, arith}
-use Rattle.std.specs.List.{All, list_any, sum_by}
-use Prim.Native.Nat.{◌∣◌}
+use Rattle.dl_amounts.proofs.Common.{not-false, leb-true, eqb-true, ◌≡◌, ◌∙◌, ℕ, suc, ◌+◌, ◌<◌, ◌≤◌, ◌^◌, List, [], ◌∷◌, ◌++◌, map, flat_map, length, get_or, not, ◌&&◌, Bool, true, false, Option, Some, None, refl, sym, ap, subst, arith, All, list_any, sum_by, ◌∣◌, All-nil, All-cons, All-head, All-tail, sum_by-cons, Fraction, whole, ◌over◌, over_self, over_same, IsFineTo30Bits, common_denominator, common_pos, sum_of, ReadList, GridAtom, GridSev, GridUnit, each_of, itself, probs_in_count, is_fine, is_one, is_not_one, probs_among, weights_in, own_lists, prob_lists, AreProbabilities, IsSevShared, IsGridSev, IsGridUnit}
 use Rattle.std.proofs.lemmas.Nat.Gcd.{dvd_of_mod-eq-zero, le_of_dvd}
-use Rattle.std.proofs.lemmas.List.Elements.{All-nil, All-cons, All-head, All-tail}
-use Rattle.std.proofs.lemmas.List.Sums.{sum_by-cons}
 use Rattle.std.proofs.lemmas.Simd.{splat_is_map}
 use Rattle.dl_exact.specs.Gcd.{gcd}
-use Rattle.dl_exact.specs.Fraction.{Fraction, whole, ◌over◌}
-use Rattle.dl_exact.proofs.Over.{over_self, over_same, over_den as den_of_over}
+use Rattle.dl_exact.proofs.Over.{over_den as den_of_over}
+use Rattle.dl_plan.proofs.CommonDenominators.{common_from}
+use Rattle.dl_exact.proofs.Sums.{sum_over_map}
+use Rattle.dl_exact.proofs.SumsOver.{sum_over_common}
 use Rattle.dl_exact.proofs.GcdLaws.{gcd_is}
 use Rattle.dl_exact.proofs.Multiples.{lcm_least, part_divides}
 use Rattle.dl_exact.specs.Multiples.{lcm}
-use Rattle.dl_plan.specs.Fine.{IsFine, common_denominator}
-use Rattle.dl_plan.proofs.Common.{common_from, common_pos}
-use Rattle.dl_exact.proofs.Sums.{sum_over_map}
-use Rattle.dl_exact.proofs.SumsOver.{sum_over_common}
-use Rattle.dl_sev.specs.Weighing.{sum_of}
-use Rattle.dl_read.specs.declared.tree.ReadList.{ReadList}
-use Rattle.dl_amounts.specs.declared.grid.GridAtom.{GridAtom}
-use Rattle.dl_amounts.specs.declared.grid.GridSev.{GridSev}
-use Rattle.dl_amounts.specs.declared.grid.GridUnit.{GridUnit}
-use Rattle.dl_read.specs.First.{each_of}
-use Rattle.dl_read.specs.Lists.{itself, probs_in_count, is_fine, is_one, is_not_one}
-use Rattle.dl_amounts.specs.Severity.{probs_among, weights_in, own_lists, prob_lists}
-use Rattle.dl_amounts.specs.Parts.{AreProbabilities, IsSevShared}
-use Rattle.dl_amounts.specs.GridKept.{IsGridSev, IsGridUnit}
 use Rattle.dl_amounts.proofs.Values.{never}
 
 -- ---- common denominators
@@ -45,7 +28,8 @@ pub common_divides : (xs : List Fraction) (c : ℕ) → All (λ x. x.den ∣ c) 
 common_divides xs c all = common_divides_from 1 xs c (one_divides c) all
 
 -- each denominator of the one list divides the common denominator of the other, which is fine
-pub fine_with : (xs ys : List Fraction) → All (λ x. x.den ∣ common_denominator ys) xs → IsFine ys → IsFine xs
+pub fine_with : (xs ys : List Fraction) → All (λ x. x.den ∣ common_denominator ys) xs → IsFineTo30Bits ys →
+    IsFineTo30Bits xs
 fine_with xs ys all fine = omega (
   arith,
   fine,

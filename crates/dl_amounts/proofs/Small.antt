@@ -1,28 +1,11 @@
 -- What the rules on amounts leave: small numbers of buckets.
-use Rattle.std.proofs.lemmas.Bool.{or_parts, eqb-true}
-use Rattle.std.proofs.Common.{ℕ, ◌≡◌, ◌∙◌, ◌*◌, ◌≤◌, ◌==◌, List, [], ◌∷◌, map, zip, length, nat_lt, not, Bool, false, Option, Some, None, sym, arith}
-use Rattle.std.specs.List.{All}
-use Rattle.std.specs.Option.{IfSome}
-use Rattle.std.proofs.lemmas.List.{length-map}
-use Rattle.std.proofs.lemmas.List.Elements.{All-nil, All-cons, All-map}
+use Rattle.dl_amounts.proofs.Common.{or_parts, eqb-true, ℕ, ◌≡◌, ◌∙◌, ◌*◌, ◌≤◌, ◌==◌, List, [], ◌∷◌, map, zip, length, nat_lt, not, Bool, false, Option, Some, None, sym, arith, All, IfSome, length-map, All-nil, All-cons, All-map, Fraction, whole, whole_num, whole_den, Span, ReadList, ReadAtom, ReadCeded, at_if, first_in, within, is_whole, is_above, else_first, else_second, none_each, not_at, not_then, number_of, grid_atom, grid_layer, grid_ceded, grid_clause, IsGridAtom, IsGridLayer, IsGridClause, other_length, list_fails, limit_fails, layer_fails, clause_fails}
 use Rattle.dl_limits.specs.Limits.{most_amount}
-use Rattle.dl_exact.specs.Fraction.{Fraction, whole}
-use Rattle.dl_exact.proofs.Parts.{whole_num, whole_den}
-use Rattle.dl_lexer.specs.declared.token.Span.{Span}
 use Rattle.dl_sev.specs.Buckets.{buckets}
-use Rattle.dl_read.specs.declared.tree.ReadList.{ReadList}
-use Rattle.dl_read.specs.declared.tree.ReadAtom.{ReadAtom}
 use Rattle.dl_read.specs.declared.tree.ReadLayer.{ReadLayer}
-use Rattle.dl_read.specs.declared.tree.ReadCeded.{ReadCeded}
 use Rattle.dl_read.specs.declared.tree.ReadClause.{ReadClause}
-use Rattle.dl_read.specs.First.{at_if, first_in, within}
-use Rattle.dl_read.specs.Lists.{is_whole, is_above}
 use Rattle.dl_read.specs.Numbers.{if_there}
-use Rattle.dl_read.specs.Kept.{IsListRead, IsAtomRead, IsClauseRead}
-use Rattle.dl_read.proofs.Nothing.{else_first, else_second, none_each, not_at, not_then}
-use Rattle.dl_amounts.specs.Grid.{number_of, grid_atom, grid_layer, grid_ceded, grid_clause}
-use Rattle.dl_amounts.specs.GridKept.{IsGridAtom, IsGridLayer, IsGridClause}
-use Rattle.dl_amounts.specs.Rules.{other_length, list_fails, limit_fails, layer_fails, clause_fails}
+use Rattle.dl_read.specs.Kept.{IsAtomRead, IsClauseRead, IsListRead}
 
 -- ---- a number
 

@@ -1,14 +1,7 @@
 -- Items in any order give a severity: equal amounts are added up, rising.
-use Rattle.std.proofs.Common.{ℕ, zero, suc, ◌≡◌, ◌∙◌, ◌+◌, ◌/◌, ◌<◌, ◌≤◌, ◌^◌, ◌==◌, List, [], ◌∷◌, map, length, cond, refl, sym, ap, ap₂, subst, arith, inl, inr}
-use Rattle.std.specs.List.{All}
+use Rattle.dl_amounts.proofs.Common.{ℕ, zero, suc, ◌≡◌, ◌∙◌, ◌+◌, ◌/◌, ◌<◌, ◌≤◌, ◌^◌, ◌==◌, List, [], ◌∷◌, map, length, cond, refl, sym, ap, ap₂, subst, arith, inl, inr, All, cases_lt, All-nil, sum_by-cons, ◌over◌, Item, Sev, amounts_of, weight_sum, weight_at}
 use Rattle.std.specs.List.Sorted.{IsStrictlyIncreasing}
-use Rattle.std.proofs.lemmas.Bool.{cases_lt}
-use Rattle.std.proofs.lemmas.List.Elements.{All-nil}
-use Rattle.std.proofs.lemmas.List.Sums.{sum_by-cons}
-use Rattle.dl_exact.specs.Fraction.{◌over◌}
-use Rattle.dl_plan.specs.declared.item.Item.{Item}
-use Rattle.dl_plan.specs.declared.severity.Sev.{Sev}
-use Rattle.dl_plan.specs.Weighted.{amounts_of, weight_sum, weight_at, common_weight, divided_by}
+use Rattle.dl_plan.specs.Weighted.{common_weight, divided_by}
 use Rattle.dl_plan.specs.Severity.{probability_of}
 use Rattle.dl_plan.proofs.Weights.{divided_is, divided_means}
 use Rattle.dl_sev.specs.Steps.{with_weighed}

@@ -1,17 +1,9 @@
 -- Layers that are looked at beside those before them.
-use Rattle.std.proofs.lemmas.Bool.{and_from, and_parts}
-use Rattle.dl_amounts.proofs.Values.{agree}
-use Rattle.std.proofs.Common.{◌≡◌, ◌∙◌, ℕ, zero, suc, ◌+◌, ◌<◌, ◌≤◌, List, [], ◌∷◌, ◌++◌, length, take, drop, get_or, Option, Some, None, Bool, true, refl, sym, ap, ap₂, subst, arith, add-one, append_assoc, max}
-use Rattle.std.specs.Prelude.{IsTrue, ◌↔◌, ◌&&◌}
-use Rattle.std.specs.List.{list_any}
-use Rattle.std.proofs.lemmas.Bool.Decides.{nat_tests}
-use Rattle.dl_lexer.specs.declared.token.Span.{Span}
-use Rattle.dl_plan.specs.declared.cede.CedeLayer.{CedeLayer}
-use Rattle.dl_plan.specs.Clause.{IsBelowTop, Overlap}
-use Rattle.dl_amounts.specs.declared.grid.GridCeded.{GridCeded}
-use Rattle.dl_read.specs.First.{◌else◌, at_if, in_turn}
-use Rattle.dl_amounts.specs.Clauses.{overlaps, is_below_top, ceded_layer}
-use Rattle.dl_amounts.specs.Rules.{share_exceeds}
+use Rattle.dl_amounts.proofs.Common.{◌≡◌, ◌∙◌, ℕ, zero, suc, ◌+◌, ◌<◌, ◌≤◌, List, [], ◌∷◌, ◌++◌, length, take, drop, get_or, Option, Some, None, true, refl, sym, ap, ap₂, subst, arith, append_assoc, max, list_any, nat_tests, Span, CedeLayer, Overlap, GridCeded, ◌else◌, at_if, in_turn, overlaps, ceded_layer, share_exceeds}
+use Rattle.std.proofs.Common.{add-one}
+use Rattle.dl_plan.specs.Clause.{IsBelowTop}
+use Rattle.dl_amounts.specs.Clauses.{is_below_top}
+use Rattle.std.proofs.lemmas.Bool.{and_from}
 
 abbrev pub overlap_at : List GridCeded → GridCeded → Option Span
 overlap_at before l = at_if (list_any (λ m. overlaps (ceded_layer m) (ceded_layer l)) before) l.layer.span
@@ -72,36 +64,15 @@ turn_ended f xs i before le = past f (take i xs) xs i le ∙ sym before.same
 
 -- ---- overlaps
 
-below_is : (o : Option ℕ) (a x : ℕ) → is_below_top o a x ≡ true → IsBelowTop o a x
-below_is None a x e = tt
-below_is (Some limit) a x e = grind (arith, nat_tests, e)
-
 is_below : (o : Option ℕ) (a x : ℕ) → IsBelowTop o a x → is_below_top o a x ≡ true
 is_below None a x e = refl
 is_below (Some limit) a x e = grind (arith, nat_tests, e)
-
-pub overlap_yes : (l m : CedeLayer) → overlaps l m ≡ true → Overlap l m
-overlap_yes l m e =
-    let x : ℕ = max l.attach m.attach in
-    let both = and_parts (is_below_top l.limit l.attach x) (is_below_top m.limit m.attach x) e in
-    (below_is l.limit l.attach x both.0, below_is m.limit m.attach x both.1)
 
 pub yes_overlap : (l m : CedeLayer) → Overlap l m → overlaps l m ≡ true
 yes_overlap l m o =
     let x : ℕ = max l.attach m.attach in
     and_from (is_below_top l.limit l.attach x) (is_below_top m.limit m.attach x) (is_below l.limit l.attach x o.0)
     (is_below m.limit m.attach x o.1)
-
-pub overlap_test : (b : Bool) (l m : CedeLayer) → (IsTrue b ↔ Overlap l m) → b ≡ overlaps l m
-overlap_test b l m e = agree b (overlaps l m) (λ t. yes_overlap l m (e.0 t)) (λ t. e.1 (overlap_yes l m t))
-
--- overlaps depend on limits and attachments alone
-pub same_overlaps : (l k m n : CedeLayer) → l.limit ≡ k.limit → l.attach ≡ k.attach → m.limit ≡ n.limit
-    → m.attach ≡ n.attach → overlaps l m ≡ overlaps k n
-same_overlaps l k m n ll la ml ma =
-    ap₂ (λ (o : Option ℕ) (p : Option ℕ). is_below_top o l.attach (max l.attach m.attach)
-    && is_below_top p m.attach (max l.attach m.attach)) ll ml
-    ∙ ap₂ (λ (a : ℕ) (b : ℕ). is_below_top k.limit a (max a b) && is_below_top n.limit b (max a b)) la ma
 
 pub turn_in : {A B : Type 0} (f : List A → A → Option B) (xs zs : List A) (r : Option B) → zs ≡ xs → r ≡ in_turn f [] zs
     → r ≡ in_turn f [] xs

@@ -1,8 +1,5 @@
 -- Tests of which one holds where the other does, and that no item of a list passes.
-use Rattle.std.proofs.Common.{◌≡◌, List, get_or, Bool, true, false, refl, sym}
-use Rattle.std.specs.List.{All, list_any}
-use Rattle.std.proofs.lemmas.Bool.{false_from_ne_true}
-use Rattle.std.proofs.lemmas.List.Folds.{list_any_at}
+use Rattle.dl_amounts.proofs.Common.{◌≡◌, List, get_or, Bool, true, false, refl, sym, All, list_any, false_from_ne_true, list_any_at}
 
 pub agree : (p q : Bool) → (p ≡ true → q ≡ true) → (q ≡ true → p ≡ true) → p ≡ q
 agree true q f g = sym (f refl)

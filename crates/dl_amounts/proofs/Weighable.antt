@@ -1,18 +1,6 @@
 -- Whether the severity of a unit can be weighed, and what that leaves.
-use Rattle.std.proofs.Common.{◌≡◌, ◌∙◌, Bool, true, false, not, ◌&&◌, ◌||◌, List, [], ◌∷◌, map, Some, None, refl, sym, ap}
-use Rattle.std.specs.List.{AllZip, list_any, list_all}
-use Rattle.dl_exact.specs.Fraction.{Fraction}
-use Rattle.dl_plan.specs.Fine.{IsFine, common_denominator}
-use Rattle.dl_plan.specs.Severity.{Pairs, Means}
-use Rattle.dl_plan.specs.declared.severity.Sev.{Sev}
-use Rattle.dl_sev.specs.declared.weights.Weights.{Weights}
-use Rattle.dl_sev.specs.Weighed.{IsWeighing}
-use Rattle.dl_sev.specs.Steps.{mixture}
-use Rattle.dl_read.specs.declared.tree.ReadList.{ReadList}
-use Rattle.dl_amounts.specs.declared.grid.GridSev.{GridSev}
-use Rattle.dl_amounts.specs.declared.grid.GridUnit.{GridUnit}
-use Rattle.dl_read.specs.Lists.{is_fine}
-use Rattle.dl_amounts.specs.Severity.{own_lists, mixture_shares, shares_in_mixture, severity_in_layer}
+use Rattle.dl_amounts.proofs.Common.{◌≡◌, ◌∙◌, Bool, true, false, not, ◌&&◌, ◌||◌, List, [], ◌∷◌, map, Some, None, refl, sym, ap, AllZip, list_any, Fraction, IsFineTo30Bits, common_denominator, Pairs, Means, Sev, Weights, IsWeighing, mixture, ReadList, GridSev, GridUnit, is_fine, own_lists, mixture_shares, shares_in_mixture, severity_in_layer}
+use Rattle.std.specs.List.{list_all}
 use Rattle.dl_amounts.specs.FineParts.{has_severity, IsWeighed}
 use Rattle.dl_amounts.proofs.FineLists.{coarse}
 use Rattle.dl_amounts.proofs.FineMixtures.{fineness}
@@ -44,11 +32,11 @@ module _ (atoms : List Sev) (weights : Weights) (probs : List Fraction) (lists :
   abbrev products : List Fraction
   products = map (λ pair. pair.1) (mixture atoms weights)
 
-  pub mixed_fine : IsFine products → is_fine (shares_in_mixture probs lists) ≡ true
+  pub mixed_fine : IsFineTo30Bits products → is_fine (shares_in_mixture probs lists) ≡ true
   mixed_fine fine = sym (fineness atoms weights probs lists is means products (Some (common_denominator products)) refl
       (fine, refl))
 
-  pub mixed_coarse : (IsFine products → ⊥) → is_fine (shares_in_mixture probs lists) ≡ false
+  pub mixed_coarse : (IsFineTo30Bits products → ⊥) → is_fine (shares_in_mixture probs lists) ≡ false
   mixed_coarse coarse = sym (fineness atoms weights probs lists is means products None refl coarse)
 
 -- ---- the severity in the layer

@@ -18,6 +18,7 @@ use Rattle.dl_amounts.specs.declared.grid.GridShare.{GridShare}
 use Rattle.dl_amounts.specs.declared.grid.GridShare.TheVariants.{Whole, So, Po}
 use Rattle.dl_amounts.specs.declared.grid.GridCeded.{GridCeded}
 use Rattle.dl_amounts.specs.declared.grid.GridClause.{GridClause}
+use Rattle.dl_amounts.specs.declared.grid.GridClauses.{GridClauses}
 use Rattle.dl_amounts.specs.declared.grid.GridUnit.{GridUnit}
 
 -- an amount of money as a number of buckets, where it is a whole one
@@ -59,6 +60,12 @@ grid_clause bs c = record {
   net = c.net;
   layers = map (grid_ceded bs) c.layers;
   span = c.span;
+}
+
+abbrev pub grid_clauses : Fraction → ReadUnit → GridClauses
+grid_clauses bs u = record {
+  occ = if_there (grid_clause bs) u.occ;
+  agr = if_there (grid_clause bs) u.agr;
 }
 
 unfoldable pub grid_of : Fraction → ReadUnit → GridUnit

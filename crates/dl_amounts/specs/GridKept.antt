@@ -22,11 +22,11 @@ pub record IsGridAtom (a : GridAtom) : Type 0 where
 
 -- 1 to 64 atoms; several have weights
 pub record IsGridSev (s : GridSev) : Type 0 where
+  pub atoms : All IsGridAtom s.atoms
   pub some : 0 < length s.atoms
   pub few : length s.atoms ≤ most_atoms
-  pub atoms : All IsGridAtom s.atoms
-  pub weights : IfSome s.weights IsListRead
   pub several : 1 < length s.atoms → IsSome s.weights
+  pub weights : IfSome s.weights IsListRead
 
 pub record IsGridLayer (l : GridLayer) : Type 0 where
   pub limit : IfSome l.limit (λ limit. limit ≤ most_amount)

@@ -1,7 +1,7 @@
 -- Fine probabilities, and what a severity keeps once the first rules are not broken.
 use Rattle.std.specs.Prelude.{List, ◌≡◌, length, All}
 use Rattle.dl_exact.specs.Fraction.{Fraction, whole}
-use Rattle.dl_plan.specs.Fine.{IsFine}
+use Rattle.dl_plan.specs.Fine.{IsFineTo30Bits}
 use Rattle.dl_sev.specs.Weighing.{sum_of}
 use Rattle.dl_amounts.specs.declared.grid.GridSev.{GridSev}
 use Rattle.dl_amounts.specs.Severity.{atom_probs, weights_of}
@@ -14,7 +14,7 @@ pub record IsSevWeighted (s : GridSev) : Type 0 where
 
 -- fractions with a common denominator of at most 2^30 that sum to 1
 pub record AreProbabilities (xs : List Fraction) : Type 0 where
-  pub fine : IsFine xs
+  pub fine : IsFineTo30Bits xs
   pub one : sum_of xs ≡ whole 1
 
 -- the probabilities of each atom, and the weights of the atoms

@@ -1,6 +1,7 @@
 //! The probabilities of an atom, and the weights of the atoms.
 
 ghost use Rattle.std.specs.Prelude.{◌≡◌, ◌≤◌, ◌<◌, replicate, IfOk};
+ghost use Rattle.dl_limits.specs.Limits.{most_values};
 ghost use Rattle.dl_exact.specs.Fraction.{◌over◌};
 ghost use Rattle.dl_read.specs.Lists.{probs_of};
 ghost use Rattle.dl_read.specs.Kept.{IsListRead};
@@ -31,7 +32,7 @@ pub(crate) fn probs_among(
     probs: &Option<ReadList>,
 ) -> Result<Vec<Frac>, AllocError>
     requires some { 0 < count }
-    requires few { count ≤ 1024 }
+    requires few { count ≤ most_values }
     ensures { IfOk result (λ made. made.items ≡ probs_among count probs.now) }
 {
     match probs {
@@ -51,7 +52,7 @@ pub(crate) fn atom_probs(alloc: Global, atom: &GridAtom) -> Result<Vec<Frac>, Al
 /// So many equal shares of 1.
 fn equal_shares(alloc: Global, count: usize) -> Result<Vec<Frac>, AllocError>
     requires some { 0 < count }
-    requires few { count ≤ 1024 }
+    requires few { count ≤ most_values }
     ensures { IfOk result (λ made. made.items ≡ replicate count (1 over count)) }
 {
     let share = Frac::make(1, count as u128).unwrap();

@@ -3,22 +3,24 @@
 ghost use Rattle.std.specs.Prelude.{◌≡◌, None, All, IfOk, IfSome, map};
 ghost use Rattle.dl_sev.specs.Buckets.{HasPartsOf18Digits, buckets};
 ghost use Rattle.dl_plan.specs.Ranges.{IsBucket};
-ghost use Rattle.dl_read.specs.First.{at_if, first_in, within};
+ghost use Rattle.dl_read.specs.First.{◌else◌, at_if, first_in, within};
 ghost use Rattle.dl_read.specs.Numbers.{if_there};
 ghost use Rattle.dl_read.specs.Kept.{IsSmall, IsListRead, IsAtomRead, IsSevRead, IsLayerRead, IsCededRead, IsClauseRead, IsRead};
 ghost use Rattle.dl_amounts.specs.Flaws.{IsGridded};
-ghost use Rattle.dl_amounts.specs.Grid.{number_of, grid_atom, grid_severity, grid_layer, grid_share, grid_ceded, grid_clause};
+ghost use Rattle.dl_amounts.specs.Grid.{number_of, grid_atom, grid_severity, grid_layer, grid_share, grid_ceded, grid_clause, grid_clauses, grid_of};
 ghost use Rattle.dl_amounts.specs.GridKept.{IsGridUnit};
 ghost use Rattle.dl_amounts.specs.OnGrid.{GridsUnit};
-ghost use Rattle.dl_amounts.specs.Rules.{lengths_differ, not_one, list_fails, layer_fails, clause_fails};
+ghost use Rattle.dl_amounts.specs.Rules.{lengths_differ, not_one, list_fails, layer_fails, clause_fails, amount_fails};
 
 use crate::fault::GridFault;
 use crate::flaws::{Flaws, Gridded};
-use crate::grid::{GridAtom, GridCeded, GridClause, GridLayer, GridSev, GridShare, GridUnit};
+use crate::grid::{
+    GridAtom, GridCeded, GridClause, GridClauses, GridLayer, GridSev, GridShare, GridUnit,
+};
 use dl_frac::Frac;
 use dl_lexer::Span;
 use dl_limits::MOST_AMOUNT;
-use dl_plan::Many;
+use dl_plan::Items;
 use dl_read::{
     ReadAtom, ReadCeded, ReadClause, ReadLayer, ReadList, ReadSev, ReadShare, ReadUnit, place_if,
 };
@@ -34,23 +36,46 @@ pub fn grid_unit(alloc: Global, unit: ReadUnit, bs: Frac) -> Result<GridUnit, Gr
     ensures answer { GridsUnit bs unit result }
     ensures grid { IfOk result IsGridUnit }
 {
+    grid_parts(alloc, unit, bs)?.told()
+}
+
+/// A unit in whole buckets with its flaws.
+fn grid_parts(alloc: Global, unit: ReadUnit, bs: Frac) -> Result<Gridded<GridUnit>, AllocError>
+    requires bucket { IsBucket bs }
+    requires read { IsRead unit }
+    ensures { IfOk result (IsGridded (λ test. amount_fails test bs unit) (grid_of bs unit)) }
+{
+    let clauses = own_clauses(alloc, &unit, bs)?;
     let layer = own_layer(unit.layer, bs);
     let sev = grid_severity(alloc, unit.sev, bs)?;
+    Ok(Gridded {
+        part: GridUnit {
+            name: unit.name,
+            count: unit.count,
+            layer: layer.part,
+            sev: sev.part,
+            occ: clauses.part.occ,
+            agr: clauses.part.agr,
+        },
+        flaws: layer.flaws.or(sev.flaws.or(clauses.flaws)),
+    })
+}
+
+/// The clauses of a unit.
+fn own_clauses(alloc: Global, unit: &ReadUnit, bs: Frac) -> Result<Gridded<GridClauses>, AllocError>
+    requires bucket { IsBucket bs }
+    requires read { IsRead unit.now }
+    ensures { IfOk result (IsGridded (λ test. within (clause_fails test bs) unit.now.occ
+        else within (clause_fails test bs) unit.now.agr) (grid_clauses bs unit.now)) }
+{
     let occ = own_clause(alloc, &unit.occ, bs)?;
     let agr = own_clause(alloc, &unit.agr, bs)?;
-    layer
-        .flaws
-        .or(sev.flaws)
-        .or(occ.flaws)
-        .or(agr.flaws)
-        .told()?;
-    Ok(GridUnit {
-        name: unit.name,
-        count: unit.count,
-        layer: layer.part,
-        sev: sev.part,
-        occ: occ.part,
-        agr: agr.part,
+    Ok(Gridded {
+        part: GridClauses {
+            occ: occ.part,
+            agr: agr.part,
+        },
+        flaws: occ.flaws.or(agr.flaws),
     })
 }
 
@@ -77,7 +102,7 @@ fn grid_atoms(
     alloc: Global,
     atoms: Vec<ReadAtom>,
     bs: Frac,
-) -> Result<Gridded<Many<GridAtom>>, AllocError>
+) -> Result<Gridded<Items<GridAtom>>, AllocError>
     requires bucket { IsBucket bs }
     requires read { All IsAtomRead atoms.items }
     ensures { IfOk result (IsGridded
@@ -92,7 +117,7 @@ fn grid_atoms(
         flaws = flaws.or(one.flaws);
     }
     Ok(Gridded {
-        part: Many::from_vec(made),
+        part: Items::from_vec(made),
         flaws,
     })
 }
@@ -115,7 +140,7 @@ fn grid_atom(alloc: Global, atom: ReadAtom, bs: Frac) -> Result<Gridded<GridAtom
 }
 
 /// The amounts of a list.
-fn grid_amounts(alloc: Global, list: &ReadList, bs: Frac) -> Result<Gridded<Many<u32>>, AllocError>
+fn grid_amounts(alloc: Global, list: &ReadList, bs: Frac) -> Result<Gridded<Items<u32>>, AllocError>
     requires bucket { IsBucket bs }
     requires read { IsListRead list.now }
     ensures { IfOk result (IsGridded (λ test. list_fails test bs list.now)
@@ -130,7 +155,7 @@ fn grid_amounts(alloc: Global, list: &ReadList, bs: Frac) -> Result<Gridded<Many
         flaws = flaws.or(amount.flaws);
     }
     Ok(Gridded {
-        part: Many::from_vec(made),
+        part: Items::from_vec(made),
         flaws,
     })
 }
@@ -269,7 +294,7 @@ fn grid_layers(
     alloc: Global,
     layers: &[ReadCeded],
     bs: Frac,
-) -> Result<Gridded<Many<GridCeded>>, AllocError>
+) -> Result<Gridded<Items<GridCeded>>, AllocError>
     requires bucket { IsBucket bs }
     requires read { All IsCededRead layers.now }
     ensures { IfOk result (IsGridded (λ test. first_in (λ c. layer_fails test bs c.layer)
@@ -287,7 +312,7 @@ fn grid_layers(
         flaws = flaws.or(one.flaws);
     }
     Ok(Gridded {
-        part: Many::from_vec(made),
+        part: Items::from_vec(made),
         flaws,
     })
 }

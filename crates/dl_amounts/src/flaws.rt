@@ -1,6 +1,6 @@
 //! Amounts that are no whole number of buckets, or too many.
 
-ghost use Rattle.std.specs.Prelude.{◌≡◌, None};
+ghost use Rattle.std.specs.Prelude.{◌≡◌, None, IfOk};
 ghost use Rattle.dl_amounts.specs.Flaws.{flaws_else, TellsFlaws};
 
 use crate::fault::GridFault;
@@ -36,19 +36,6 @@ impl Flaws {
             too_far: self.too_far.or(later.too_far),
         }
     }
-
-    /// The fault that they are: that an amount is no whole number comes first.
-    pub(crate) fn told(self) -> Result<(), GridFault>
-        ensures { TellsFlaws self result }
-    {
-        if let Some(place) = self.off_grid {
-            return Err(GridFault::OffGrid(place));
-        }
-        match self.too_far {
-            Some(place) => Err(GridFault::TooFar(place)),
-            None => Ok(()),
-        }
-    }
 }
 
 /// A part of a unit in buckets, which is right where it has no flaws.
@@ -58,4 +45,21 @@ pub(crate) struct Gridded<T> {
     pub(crate) part: T,
     /// Its flaws.
     pub(crate) flaws: Flaws,
+}
+
+impl<T: Drop> Gridded<T> {
+    /// The part, where it has no flaws; else the fault that they are: that an amount is no whole
+    /// number comes first.
+    pub(crate) fn told(self) -> Result<T, GridFault>
+        ensures flaws { TellsFlaws self.flaws result }
+        ensures part { IfOk result (λ part. part ≡ self.part) }
+    {
+        if let Some(place) = self.flaws.off_grid {
+            return Err(GridFault::OffGrid(place));
+        }
+        match self.flaws.too_far {
+            Some(place) => Err(GridFault::TooFar(place)),
+            None => Ok(self.part),
+        }
+    }
 }

@@ -2,14 +2,14 @@
 
 use dl_frac::Frac;
 use dl_lexer::Span;
-use dl_plan::Many;
+use dl_plan::Items;
 use dl_read::{ReadCount, ReadList};
 
 /// A discrete severity.
 #[derive(Drop)]
 pub struct GridAtom {
     /// The amounts in buckets, 1 to 1,024 of them, each at most 2^20.
-    pub amounts: Many<u32>,
+    pub amounts: Items<u32>,
     /// The probability of each; where there is none they are equally likely.
     pub probs: Option<ReadList>,
 }
@@ -18,7 +18,7 @@ pub struct GridAtom {
 #[derive(Drop)]
 pub struct GridSev {
     /// The atoms, 1 to 64 of them.
-    pub atoms: Many<GridAtom>,
+    pub atoms: Items<GridAtom>,
     /// The weight of each atom.
     pub weights: Option<ReadList>,
     /// Whether a final `!` keeps the severity from being conditioned on exceeding the attachment.
@@ -64,9 +64,18 @@ pub struct GridClause {
     /// Whether the unit keeps what is not ceded; else it keeps what is ceded.
     pub net: bool,
     /// The ceded layers, 1 to 16 of them.
-    pub layers: Many<GridCeded>,
+    pub layers: Items<GridCeded>,
     /// The place of the clause.
     pub span: Span,
+}
+
+/// The clauses of a unit.
+#[derive(Drop)]
+pub(crate) struct GridClauses {
+    /// The reinsurance of each claim.
+    pub(crate) occ: Option<GridClause>,
+    /// The reinsurance of the unit's sum.
+    pub(crate) agr: Option<GridClause>,
 }
 
 /// One unit.

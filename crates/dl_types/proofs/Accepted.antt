@@ -1,35 +1,19 @@
 -- A program that breaks no rule has a plan.
-use Rattle.std.proofs.Common.{ℕ, zero, suc, ◌≡◌, ◌∙◌, ◌<◌, ◌≤◌, List, [], ◌∷◌, ◌++◌, length, take, get_or, None, refl, sym, ap, subst, arith, add-one}
-use Rattle.std.specs.Prelude.{Ok}
-use Rattle.std.specs.List.{All}
-use Rattle.std.proofs.lemmas.List.Elements.{All-nil}
-use Rattle.dl_limits.specs.Limits.{most_units}
+use Rattle.dl_types.proofs.Common.{ℕ, zero, suc, ◌≡◌, ◌∙◌, ◌<◌, ◌≤◌, List, [], ◌∷◌, ◌++◌, length, take, get_or, None, refl, sym, ap, subst, arith, Ok, All, All-nil, most_units, Plan, Settings, IsValidUnit, UnitAst, Program, IsWellFormed, in_turn, expected_claims, cells_asked, fault_of_lists, fault_on_grid, first_fault_of, first_fault, AnswersUnit, AnswersUnits, aggregate_clause, GridUnit, IsGridUnit, too_many_units, IsSet, else_first, else_second, agr_layered}
+use Rattle.std.proofs.Common.{add-one}
 use Rattle.dl_plan.specs.declared.plan.Unit.{Unit as UnitOfPlan}
-use Rattle.dl_plan.specs.declared.plan.Plan.{Plan}
-use Rattle.dl_plan.specs.declared.settings.Settings.{Settings}
-use Rattle.dl_plan.specs.Valid.{IsValidUnit, IsValid}
-use Rattle.dl_ast.specs.declared.ast.UnitAst.{UnitAst}
-use Rattle.dl_ast.specs.declared.ast.Program.{Program}
-use Rattle.dl_ast.specs.WellFormed.{IsFormedUnit, IsWellFormed}
+use Rattle.dl_plan.specs.Valid.{IsValid}
+use Rattle.dl_ast.specs.WellFormed.{IsFormedUnit}
 use Rattle.dl_types.specs.declared.rule.Rule.TheVariants as rules
-use Rattle.dl_read.specs.First.{in_turn}
-use Rattle.dl_types.specs.Exposures.{expected_claims}
-use Rattle.dl_types.specs.Faults.{cells_asked, fault_of_reading, fault_of_lists, fault_of_money, fault_on_grid, first_fault_of, first_fault}
-use Rattle.dl_types.specs.Answer.{AnswersUnit, AnswersUnits}
-use Rattle.dl_types.specs.Plans.{IsPlanOf, aggregate_clause}
-use Rattle.dl_amounts.specs.declared.grid.GridUnit.{GridUnit}
+use Rattle.dl_types.specs.Faults.{fault_of_reading, fault_of_money}
+use Rattle.dl_types.specs.Plans.{IsPlanOf}
 use Rattle.dl_amounts.specs.Grid.{grid_of}
-use Rattle.dl_amounts.specs.GridKept.{IsGridUnit}
 use Rattle.dl_amounts.specs.Rules.{lengths_differ, not_one}
-use Rattle.dl_types.specs.Rules.{too_many_units}
-use Rattle.dl_types.specs.Kept.{IsSet}
 use Rattle.dl_read.specs.declared.tree.ReadUnit.{ReadUnit}
 use Rattle.dl_read.specs.Read.{read_of, IsReadable}
 use Rattle.dl_read.proofs.ReadUnits.{read_is}
-use Rattle.dl_read.proofs.Nothing.{else_first, else_second}
 use Rattle.dl_amounts.proofs.Turns.{turn_start}
 use Rattle.dl_amounts.proofs.ClauseLaws.{turn_none}
-use Rattle.dl_amounts.proofs.ClauseGrids.{agr_layered}
 use Rattle.dl_amounts.proofs.GridUnits.{grid_is}
 use Rattle.dl_amounts.proofs.SevThere.{final_there}
 use Rattle.dl_types.proofs.Aggregates.{clause_there}

@@ -1,27 +1,9 @@
 -- An aggregate clause that breaks no rule is one of a valid plan.
-use Rattle.std.proofs.Common.{◌≡◌, ℕ, ◌≤◌, true, Option, Some, None, refl, sym, subst}
-use Rattle.std.specs.List.{All}
-use Rattle.std.specs.Option.{IfSome}
-use Rattle.std.proofs.lemmas.Bool.{ltb-false}
-use Rattle.std.proofs.lemmas.List.Elements.{All-map}
-use Rattle.dl_limits.specs.Limits.{most_cells}
-use Rattle.dl_plan.specs.declared.severity.Sev.{Sev}
-use Rattle.dl_plan.specs.Severity.{Means}
-use Rattle.dl_plan.specs.Clause.{Clause, IsClause}
-use Rattle.dl_plan.specs.Horizon.{horizon}
-use Rattle.dl_plan.proofs.Horizons.{horizon_is}
+use Rattle.dl_types.proofs.Common.{◌≡◌, ℕ, ◌≤◌, true, Option, Some, None, refl, sym, subst, All, IfSome, ltb-false, All-map, most_cells, Sev, Means, Clause, IsClause, horizon, horizon_is, not_at, GridClause, GridUnit, clause_of, has_shares, off_grid_cession, final_severity, aggregate_clause, IsCedeOf, horizon_too_large}
 use Rattle.dl_plan.specs.Valid.{IsWithinMostAmount, IsAggregate}
-use Rattle.dl_read.proofs.Nothing.{not_at}
-use Rattle.dl_amounts.specs.declared.grid.GridClause.{GridClause}
-use Rattle.dl_amounts.specs.declared.grid.GridUnit.{GridUnit}
-use Rattle.dl_amounts.specs.Clauses.{ceded_layer, clause_of}
+use Rattle.dl_amounts.specs.Clauses.{ceded_layer}
 use Rattle.dl_amounts.specs.ClausesKept.{IsClauseLayered}
-use Rattle.dl_amounts.specs.FineParts.{has_shares}
-use Rattle.dl_amounts.specs.Rules.{off_grid_cession}
-use Rattle.dl_amounts.specs.Severity.{final_severity}
 use Rattle.dl_amounts.proofs.ClauseLaws.{made_cession}
-use Rattle.dl_types.specs.Plans.{aggregate_clause, IsCedeOf}
-use Rattle.dl_types.specs.Rules.{horizon_too_large}
 use Rattle.dl_types.proofs.ClauseFacts.{sums_whole}
 
 -- ---- the horizon

@@ -1,32 +1,16 @@
 -- What an aggregate clause of a valid plan keeps: its multiples are whole numbers, and its horizon is small. The
 -- greatest common divisor of a severity's amounts is that of the amounts of positive probability of what it means.
-use Prim.Native.Nat.{◌∣◌}
-use Rattle.std.proofs.Common.{ℕ, ◌≡◌, ◌∙◌, ◌+◌, ◌*◌, ◌==◌, ◌⊎◌, fold, get_or, true, cond, List, [], ◌∷◌, Some, None, refl, sym, ap, subst, arith, inl, inr}
-use Rattle.std.specs.List.{All}
-use Rattle.std.proofs.lemmas.Bool.Decides.{eqb_tells}
+use Rattle.dl_types.proofs.Common.{◌∣◌, ℕ, ◌≡◌, ◌∙◌, ◌+◌, ◌*◌, ◌==◌, get_or, true, cond, List, [], ◌∷◌, Some, None, refl, sym, ap, subst, arith, inl, inr, All, eqb_tells, All-nil, All-cons, All-head, All-tail, sum_by-cons, whole, ◌over◌, ◌<ℚ◌, gcd, gcd_is, IsClause, Item, Sev, Pairs, Means, GridClause, GridUnit, clause_of, support, final_severity, has_shares, off_grid_cession, else_second, items_in}
+use Rattle.std.proofs.Common.{◌⊎◌, fold}
 use Rattle.std.proofs.lemmas.Nat.Gcd.{dvd_refl, dvd_trans, dvd-zero, dvd_antisymm}
-use Rattle.std.proofs.lemmas.List.Elements.{All-nil, All-cons, All-head, All-tail}
-use Rattle.std.proofs.lemmas.List.Sums.{sum_by-cons}
-use Rattle.dl_exact.specs.Fraction.{whole, ◌over◌, ◌<ℚ◌}
-use Rattle.dl_exact.specs.Gcd.{gcd}
-use Rattle.dl_exact.proofs.GcdLaws.{gcd_is}
 use Rattle.dl_exact.proofs.Laws.{lt_not_le, le_refl}
 use Rattle.dl_plan.specs.Fine.{IsWhole}
-use Rattle.dl_plan.specs.Clause.{kept, IsClause}
-use Rattle.dl_plan.specs.declared.item.Item.{Item}
-use Rattle.dl_plan.specs.declared.severity.Sev.{Sev}
+use Rattle.dl_plan.specs.Clause.{kept}
 use Rattle.dl_plan.specs.Weighted.{weight_at, common_amount}
-use Rattle.dl_plan.specs.Severity.{Pairs, Means}
 use Rattle.dl_exact.proofs.Denominators.{over_zero as zero_over}
 use Rattle.dl_plan.proofs.Means.{severity_total as total_pos}
-use Rattle.dl_amounts.specs.declared.grid.GridClause.{GridClause}
-use Rattle.dl_amounts.specs.declared.grid.GridUnit.{GridUnit}
-use Rattle.dl_amounts.specs.Clauses.{clause_of}
-use Rattle.dl_amounts.specs.Severity.{support, final_severity}
-use Rattle.dl_amounts.specs.FineParts.{has_shares}
-use Rattle.dl_amounts.specs.Rules.{common_amount_of, off_grid_occurrence, off_grid_aggregate, off_grid_cession}
-use Rattle.dl_read.proofs.Nothing.{else_second}
-use Rattle.dl_amounts.proofs.Items.{items_in, support_positive}
+use Rattle.dl_amounts.specs.Rules.{common_amount_of, off_grid_occurrence, off_grid_aggregate}
+use Rattle.dl_amounts.proofs.Items.{support_positive}
 use Rattle.dl_amounts.proofs.OffGrid.{none_off_multiples}
 use Rattle.dl_amounts.proofs.PastEdges.{fits_tried}
 

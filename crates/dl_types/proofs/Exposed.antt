@@ -1,12 +1,8 @@
 -- The mean of a severity, and a quotient by it.
-use Rattle.std.proofs.Common.{◌≡◌, ◌∙◌, ℕ, ◌<◌, Bool, true, false, nat_lt, ◌||◌, cond, [], ◌∷◌, refl, sym, ap₂, subst, arith}
-use Rattle.std.specs.List.{list_any}
-use Rattle.dl_exact.specs.Fraction.{Fraction, whole, ◌+ℚ◌, ◌*ℚ◌, ◌/ℚ◌, ◌<ℚ◌, ◌≤ℚ◌}
+use Rattle.dl_types.proofs.Common.{◌≡◌, ◌∙◌, ℕ, ◌<◌, Bool, true, false, nat_lt, ◌||◌, cond, [], ◌∷◌, refl, sym, ap₂, subst, arith, list_any, Fraction, whole, ◌*ℚ◌, ◌/ℚ◌, ◌<ℚ◌, ◌≤ℚ◌, div_times, pos_num, Pairs, mean_amount, support}
+use Rattle.dl_exact.specs.Fraction.{◌+ℚ◌}
 use Rattle.dl_exact.specs.Sum.{sum_over}
-use Rattle.dl_exact.proofs.Laws.{ring, div_times, times_cancel, times_pos, le_plus, plus_comm, lt_of_lt_of_le, whole_pos}
-use Rattle.dl_exact.proofs.Parts.{pos_num}
-use Rattle.dl_plan.specs.Severity.{Pairs, mean_amount}
-use Rattle.dl_amounts.specs.Severity.{support}
+use Rattle.dl_exact.proofs.Laws.{ring, times_cancel, times_pos, le_plus, plus_comm, lt_of_lt_of_le, whole_pos}
 use Rattle.dl_amounts.proofs.Positive.{is_positive, support_step}
 
 -- ---- the mean

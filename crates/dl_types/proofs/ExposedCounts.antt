@@ -1,18 +1,12 @@
 -- Whole numbers, quotients and shapes.
-use Rattle.std.proofs.Common.{ℕ, ◌≡◌, ◌∙◌, ◌*◌, ◌/◌, ◌%◌, ◌<◌, ◌≤◌, ◌==◌, nat_eq, nat_lt, Bool, true, false, not, inl, inr, refl, sym, ap, ap₂, subst, arith, mul-pos}
+use Rattle.dl_types.proofs.Common.{ℕ, ◌≡◌, ◌∙◌, ◌*◌, ◌<◌, ◌≤◌, ◌==◌, nat_lt, Bool, true, false, not, inl, inr, refl, sym, ap, ap₂, subst, arith, mul-pos, ◌∣◌, ltb-false, eqb_tells, gcd, Fraction, whole, ◌over◌, ◌*ℚ◌, ◌/ℚ◌, ◌<ℚ◌, lowest_swap, lowest_times, lowest_product, lowest_num, lowest_den, product_is, quotient_is, whole_num, whole_den, is_whole, shape_of, passes}
+use Rattle.std.proofs.Common.{◌/◌, ◌%◌, nat_eq}
 use Rattle.std.specs.Prelude.{◌||◌, ◌⊎◌}
 use Rattle.std.proofs.Math.Nat.{eq-one_of_dvd-one, eq-zero-or-pos, dvd-mul_right}
-use Prim.Native.Nat.{◌∣◌}
-use Rattle.std.proofs.lemmas.Bool.{eqb-true, eq-eqb, ltb-false}
-use Rattle.std.proofs.lemmas.Bool.Decides.{nat_tests, eqb_tells}
-use Rattle.dl_exact.specs.Gcd.{gcd}
-use Rattle.dl_exact.specs.Fraction.{Fraction, whole, ◌over◌, ◌*ℚ◌, ◌/ℚ◌, ◌<ℚ◌}
+use Rattle.std.proofs.lemmas.Bool.{eqb-true, eq-eqb}
+use Rattle.std.proofs.lemmas.Bool.Decides.{nat_tests}
 use Rattle.dl_exact.proofs.Over.{same}
-use Rattle.dl_exact.proofs.Multiples.{lowest_swap, lowest_times, lowest_product}
-use Rattle.dl_exact.proofs.Parts.{lowest_num, lowest_den, product_is, quotient_is, whole_num, whole_den}
-use Rattle.dl_read.specs.Lists.{is_whole, is_zero}
-use Rattle.dl_types.specs.Exposures.{shape_of}
-use Rattle.dl_types.specs.Rules.{passes}
+use Rattle.dl_read.specs.Lists.{is_zero}
 use Rattle.dl_sev.proofs.Whole.{divides_whole, whole_divides, quotient_whole}
 use Rattle.dl_types.proofs.ListedCounts.{passes_is}
 

@@ -1,19 +1,10 @@
 -- What the rule on fractions says of the parts of a unit.
-use Rattle.std.proofs.Common.{◌≡◌, ◌∙◌, ◌||◌, ◌&&◌, Bool, true, false, not, Option, Some, None, refl, sym, ap, ap₂}
-use Rattle.std.specs.List.{list_any}
+use Rattle.dl_types.proofs.Common.{◌≡◌, ◌∙◌, ◌||◌, ◌&&◌, Bool, true, false, not, Option, Some, None, refl, sym, ap, ap₂, list_any, Fraction, ReadList, at_if, probs_in_count, not_at, not_then, GridUnit, own_lists, final_severity, has_severity, has_shares, fractions_too_fine, claims_above_zero, too_fine, exposed_too_fine}
 use Rattle.std.proofs.lemmas.List.Folds.{list_any-append}
-use Rattle.dl_exact.specs.Fraction.{Fraction}
-use Rattle.dl_read.specs.declared.tree.ReadList.{ReadList}
-use Rattle.dl_read.specs.First.{at_if}
-use Rattle.dl_read.specs.Lists.{probs_in_count, is_fine}
-use Rattle.dl_read.proofs.Nothing.{not_at, not_then}
-use Rattle.dl_amounts.specs.declared.grid.GridUnit.{GridUnit}
-use Rattle.dl_amounts.specs.Severity.{own_lists, prob_lists, mixture_shares, final_severity}
-use Rattle.dl_amounts.specs.FineParts.{has_severity, has_shares, fractions_too_fine}
+use Rattle.dl_read.specs.Lists.{is_fine}
+use Rattle.dl_amounts.specs.Severity.{prob_lists, mixture_shares}
 use Rattle.dl_amounts.proofs.FineLists.{coarse}
 use Rattle.dl_amounts.proofs.Weighable.{all_not}
-use Rattle.dl_types.specs.Exposures.{claims_above_zero}
-use Rattle.dl_types.specs.Rules.{too_fine, exposed_too_fine}
 
 module _ (u : GridUnit) where
   abbrev others : Bool

@@ -1,28 +1,14 @@
 -- What the rules on a count leave of it.
-use Rattle.std.proofs.Common.{◌≡◌, ◌||◌, ◌&&◌, Bool, true, false, not, if◌then◌else◌, [], Option, Some, None, refl}
-use Rattle.std.specs.List.{All}
-use Rattle.std.specs.Option.{IfSome}
-use Rattle.std.specs.Prelude.{is_some}
-use Rattle.std.proofs.lemmas.List.Elements.{All-head}
-use Rattle.dl_exact.specs.Fraction.{Fraction}
-use Rattle.dl_exact.proofs.Parts.{pos_num}
-use Rattle.dl_plan.specs.Fine.{IsAdmitted}
-use Rattle.dl_read.specs.declared.tree.ReadList.{ReadList}
+use Rattle.dl_types.proofs.Common.{◌≡◌, ◌||◌, ◌&&◌, Bool, true, false, not, if◌then◌else◌, [], Option, Some, None, refl, All, IfSome, is_some, All-head, Fraction, pos_num, HasPartsOf48Bits, ReadList, ReadFreq, Fixed, Poisson, Bernoulli, Binomial, Gamma, ReadCount, Exposed, Listed, probs_of, probs_in_count, not_at, not_then, AreProbabilities, IsWholeFreq, IsWholeCount, IsCountKept, exposed_too_fine, has_too_many_claims}
 use Rattle.dl_read.specs.declared.tree.ReadExposure.{ReadExposure}
-use Rattle.dl_read.specs.declared.tree.ReadFreq.{ReadFreq}
-use Rattle.dl_read.specs.declared.tree.ReadFreq.TheVariants.{Fixed, Poisson, Bernoulli, Binomial, Gamma}
-use Rattle.dl_read.specs.declared.tree.ReadCount.{ReadCount}
-use Rattle.dl_read.specs.declared.tree.ReadCount.TheVariants.{Exposed, Listed}
 use Rattle.dl_read.specs.First.{each_of}
 use Rattle.dl_read.specs.Kept.{IsListRead, IsCountRead}
-use Rattle.dl_read.specs.Lists.{itself, probs_of, probs_in_count}
-use Rattle.dl_read.proofs.Nothing.{not_at, not_then}
-use Rattle.dl_amounts.specs.Parts.{AreProbabilities}
+use Rattle.dl_read.specs.Lists.{itself}
 use Rattle.dl_amounts.specs.Rules.{count_lengths}
 use Rattle.dl_amounts.proofs.Shared.{equal_probabilities}
 use Rattle.dl_types.specs.Exposures.{is_unbounded}
-use Rattle.dl_types.specs.Kept.{IsWholeFreq, IsSmallFreq, IsWholeCount, IsCountKept}
-use Rattle.dl_types.specs.Rules.{exposure_span, count_not_whole, count_above_one, trials_not_whole, shape_not_whole, exposed_too_fine, has_too_many_claims}
+use Rattle.dl_types.specs.Kept.{IsSmallFreq}
+use Rattle.dl_types.specs.Rules.{exposure_span, count_not_whole, count_above_one, trials_not_whole, shape_not_whole}
 use Rattle.dl_types.proofs.ExposedCounts.{zero_above}
 
 -- ---- tests
@@ -89,7 +75,7 @@ pub record AreKept (k : ReadCount) (n above : Option Fraction) : Type 0 where
   pub read : IsCountRead k
   pub paired : count_lengths k ≡ None
   pub shared : All (λ (l : ReadList). AreProbabilities l.values) (probs_in_count k)
-  pub admitted : IfSome n IsAdmitted
+  pub admitted : IfSome n HasPartsOf48Bits
 
 small_freq : (e : ReadExposure) (f : ReadFreq) (n : Fraction) (above : Option Fraction)
     → has_too_many_claims (Exposed e f) (Some n) above ≡ false → IsSmallFreq f n

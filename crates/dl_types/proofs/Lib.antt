@@ -1,3 +1,4 @@
+mod Common
 mod Naming
 pub mod ClauseFacts
 pub mod ListedCounts

@@ -1,29 +1,13 @@
 -- Listed counts: what the rules leave of them, and what their table is.
-use Rattle.std.proofs.Common.{◌≡◌, ◌∙◌, ℕ, ◌*◌, ◌≤◌, ◌==◌, true, false, not, nat_lt, List, [], ◌∷◌, zip, map, length, get_or, Option, Some, None, sym, ap, ap₂, arith}
-use Rattle.std.specs.List.{All}
+use Rattle.dl_types.proofs.Common.{◌≡◌, ◌∙◌, ℕ, ◌*◌, ◌≤◌, ◌==◌, true, false, not, nat_lt, List, [], ◌∷◌, zip, map, length, get_or, Option, Some, None, sym, ap, ap₂, arith, All, All-nil, All-cons, All-head, All-tail, All-map, length-map, sum_by-cons, most_count, Fraction, whole, ◌over◌, Item, Sev, HasPartsOf48Bits, Means, whole_num, whole_den, ReadList, probs_of, is_whole, not_at, not_then, pairs_of_counts, passes, never, items_in}
 use Rattle.std.proofs.Math.Nat.{mul-le-mul_right}
-use Rattle.std.proofs.lemmas.List.Elements.{All-nil, All-cons, All-head, All-tail, All-map}
-use Rattle.std.proofs.lemmas.List.{length-map}
-use Rattle.std.proofs.lemmas.List.Sums.{sum_by-cons}
-use Rattle.dl_limits.specs.Limits.{most_count}
-use Rattle.dl_exact.specs.Fraction.{Fraction, whole, ◌over◌}
-use Rattle.dl_plan.specs.declared.item.Item.{Item}
-use Rattle.dl_plan.specs.declared.severity.Sev.{Sev}
-use Rattle.dl_plan.specs.Fine.{IsAdmitted}
 use Rattle.dl_plan.specs.Weighted.{weight_sum, weighted_sum}
-use Rattle.dl_plan.specs.Severity.{Means}
-use Rattle.dl_exact.proofs.Parts.{whole_num, whole_den, over_num_le as num_of_over-le, over_den_le as den_of_over-le}
+use Rattle.dl_exact.proofs.Parts.{over_num_le as num_of_over-le, over_den_le as den_of_over-le}
 use Rattle.dl_plan.proofs.Means.{severity_total as total_pos}
-use Rattle.dl_read.specs.declared.tree.ReadList.{ReadList}
 use Rattle.dl_read.specs.First.{within}
-use Rattle.dl_read.specs.Lists.{probs_of, is_whole}
-use Rattle.dl_read.proofs.Nothing.{not_at, not_then}
 use Rattle.dl_amounts.specs.Rules.{other_length}
-use Rattle.dl_types.specs.Plans.{count_pairs}
-use Rattle.dl_types.specs.Rules.{passes}
 use Rattle.dl_types.specs.Listed.{AreCounts}
-use Rattle.dl_amounts.proofs.Values.{never}
-use Rattle.dl_amounts.proofs.Items.{items_in, support_all}
+use Rattle.dl_amounts.proofs.Items.{support_all}
 
 -- ---- limits
 
@@ -65,12 +49,12 @@ all_zip Q (x ∷ xs) (p ∷ ps) h = All-cons (λ pair. Q pair.0) (x, p) (zip xs 
     (all_zip Q xs ps (All-tail Q x xs h))
 
 pub small_table : (counts : ReadList) (probs : Option ReadList) → AreCounts counts probs → (sev : Sev)
-    → Means sev (count_pairs counts probs)
+    → Means sev (pairs_of_counts counts probs)
     → All (λ (i : Item). i.amount ≤ most_count) sev.items
 small_table counts probs are sev means =
     let numbers : List ℕ = map (λ (x : Fraction). x.num) counts.values in
-    items_in sev (count_pairs counts probs) means (λ n. n ≤ most_count)
-    (support_all (λ n. n ≤ most_count) (count_pairs counts probs)
+    items_in sev (pairs_of_counts counts probs) means (λ n. n ≤ most_count)
+    (support_all (λ n. n ≤ most_count) (pairs_of_counts counts probs)
     (all_zip (λ n. n ≤ most_count) numbers (probs_of counts probs)
     (All-map (λ n. n ≤ most_count) (λ (x : Fraction). x.num) counts.values (small_values counts probs are))))
 
@@ -91,7 +75,7 @@ weighted_within (i ∷ items) h =
     )
 
 pub table_admitted : (sev : Sev) → All (λ (i : Item). i.amount ≤ most_count) sev.items
-    → IsAdmitted (weighted_sum sev.items over sev.total)
+    → HasPartsOf48Bits (weighted_sum sev.items over sev.total)
 table_admitted sev few =
     let t = sev.total in
     let s = weighted_sum sev.items in

@@ -1,12 +1,8 @@
 -- A name among those of earlier units.
-use Rattle.std.proofs.Common.{◌≡◌, ℕ, ◌+◌, List, [], ◌∷◌, ◌++◌, length, if◌then◌else◌, map, Bool, true, false, not, None, Some, Bor, refl, sym, ap, ◌∙◌, arith}
-use Rattle.dl_lexer.specs.declared.token.Span.{Span}
-use Rattle.dl_read.specs.First.{at_if}
+use Rattle.dl_types.proofs.Common.{◌≡◌, ℕ, ◌+◌, List, [], ◌∷◌, ◌++◌, length, if◌then◌else◌, map, Bool, true, false, not, None, Some, refl, sym, ap, ◌∙◌, arith, Span, at_if, list_any, UnitAst, names_of}
+use Rattle.std.proofs.Common.{Bor}
 use Rattle.std.proofs.lemmas.List.{length-append}
-use Rattle.std.specs.List.{list_any}
 use Rattle.std.specs.Prelude.{◌||◌}
-use Rattle.dl_ast.specs.declared.ast.UnitAst.{UnitAst}
-use Rattle.dl_types.specs.UnitNames.{names_of}
 
 -- a test of some parts is one of what is made of them
 any_of : {A B : Type 0} (p : B → Bool) (f : A → B) (xs : List A) → list_any p (map f xs) ≡ list_any (λ x. p (f x)) xs

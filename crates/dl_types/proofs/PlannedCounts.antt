@@ -1,47 +1,33 @@
 -- The claim count of a plan that is made of a count that breaks no rule.
-use Rattle.std.proofs.Common.{ℕ, ◌≡◌, ◌∙◌, ◌<◌, ◌&&◌, ◌||◌, nat_lt, Bool, true, false, if◌then◌else◌, List, map, Option, Some, None, refl, sym, ap, ap₂, subst, arith}
-use Rattle.std.specs.Prelude.{is_some}
-use Rattle.std.specs.Option.{IfSome}
-use Rattle.std.proofs.lemmas.List.{length-map}
-use Rattle.dl_limits.specs.Limits.{admitted_bound, most_claims, most_expected, most_shape}
-use Rattle.dl_exact.specs.Fraction.{Fraction, whole, ◌-ℚ◌, ◌*ℚ◌, ◌/ℚ◌, ◌≤ℚ◌}
-use Rattle.dl_exact.proofs.Laws.{div_times}
-use Rattle.dl_plan.specs.declared.severity.Sev.{Sev}
+use Rattle.dl_types.proofs.Common.{ℕ, ◌≡◌, ◌∙◌, ◌<◌, ◌&&◌, ◌||◌, nat_lt, Bool, true, false, if◌then◌else◌, List, map, Option, Some, None, refl, sym, ap, ap₂, subst, arith, is_some, IfSome, length-map, admitted_bound, most_claims, most_shape, Fraction, whole, ◌*ℚ◌, ◌/ℚ◌, ◌≤ℚ◌, div_times, Sev, HasPartsOf48Bits, Pairs, Means, ReadFreq, Fixed, Poisson, Bernoulli, Binomial, Gamma, ReadCount, Exposed, Listed, probs_of, is_admitted, not_then, GridUnit, claims_of, claims_above_zero, shape_of, IsFreqKept, IsCountKept, IsCountMade, freq_with, pairs_of_counts, has_too_many_claims, passes}
+use Rattle.dl_limits.specs.Limits.{most_expected}
+use Rattle.dl_exact.specs.Fraction.{◌-ℚ◌}
 use Rattle.dl_plan.specs.declared.plan.Freq.{Freq}
 use Rattle.dl_plan.specs.declared.plan.Freq.TheVariants as of_plan
-use Rattle.dl_plan.specs.Fine.{IsFine, IsAdmitted}
-use Rattle.dl_plan.specs.Severity.{Pairs, Means, probability_of}
+use Rattle.dl_plan.specs.Fine.{IsFineTo30Bits}
+use Rattle.dl_plan.specs.Severity.{probability_of}
 use Rattle.dl_plan.specs.Count.{IsClaimCount, IsUnbounded, expected_count as expected_of_plan}
 use Rattle.dl_sev.specs.Weighing.{sum_of}
-use Rattle.dl_read.specs.declared.tree.ReadFreq.{ReadFreq}
-use Rattle.dl_read.specs.declared.tree.ReadFreq.TheVariants.{Fixed, Poisson, Bernoulli, Binomial, Gamma}
-use Rattle.dl_read.specs.declared.tree.ReadCount.{ReadCount}
-use Rattle.dl_read.specs.declared.tree.ReadCount.TheVariants.{Exposed, Listed}
 use Rattle.dl_read.specs.Kept.{IsSmall}
-use Rattle.dl_read.specs.Lists.{probs_of, is_admitted}
 use Rattle.dl_read.proofs.ItemRanges.{not_above}
-use Rattle.dl_read.proofs.Nothing.{not_then}
-use Rattle.dl_amounts.specs.declared.grid.GridUnit.{GridUnit}
 use Rattle.dl_amounts.proofs.Mixing.{seconds-zip}
 use Rattle.dl_amounts.proofs.SevSteps.{sev_of}
-use Rattle.dl_types.specs.Exposures.{expected_count, has_count, claims_of, claims_above_zero, is_there_and, thinned, shape_of}
-use Rattle.dl_types.specs.Kept.{IsFreqKept, IsCountKept}
-use Rattle.dl_types.specs.Plans.{IsCountWith, IsCountOf, IsCountMade, freq_with, count_pairs}
-use Rattle.dl_types.specs.Rules.{has_too_many_claims, passes}
+use Rattle.dl_types.specs.Exposures.{expected_count, has_count, is_there_and, thinned}
+use Rattle.dl_types.specs.Plans.{IsCountWith, IsCountOf}
 use Rattle.dl_types.proofs.ListedCounts.{same_length, small_table, table_admitted}
 use Rattle.dl_types.proofs.ExposedCounts.{whole_is, few_is, shape_some}
 use Rattle.dl_types.proofs.KeptCounts.{given, AreKept, number_there}
 
 -- ---- admitted numbers
 
-pub admitted_is : (x : Fraction) → is_admitted x ≡ true → IsAdmitted x
+pub admitted_is : (x : Fraction) → is_admitted x ≡ true → HasPartsOf48Bits x
 admitted_is x h = let parts = go x.num x.den h in record { num = parts.0; den = parts.1 }
   where
     go : (n d : ℕ) → (nat_lt n admitted_bound && nat_lt d admitted_bound) ≡ true
         → (n < admitted_bound) × (d < admitted_bound)
     go n d h = grind arith
 
-small_admitted : (x : Fraction) → IsSmall x → IsAdmitted x
+small_admitted : (x : Fraction) → IsSmall x → HasPartsOf48Bits x
 small_admitted x small = record { num = omega (arith, small.num); den = omega (arith, small.den) }
 
 both : (a b : Bool) → (a && b) ≡ true → b ≡ true
@@ -74,23 +60,23 @@ freq_valid (Gamma c span) n kept =
       few_is most_shape (shape_of c).num (shape_of c) same kept.few,
     )
 
-freq_expected : (f : ReadFreq) (n : Fraction) → IsFreqKept f n → IsAdmitted (expected_of_plan (freq_with f n))
-freq_expected (Fixed span) n kept = subst IsAdmitted (sym (whole_is n kept.whole)) kept.admitted
+freq_expected : (f : ReadFreq) (n : Fraction) → IsFreqKept f n → HasPartsOf48Bits (expected_of_plan (freq_with f n))
+freq_expected (Fixed span) n kept = subst HasPartsOf48Bits (sym (whole_is n kept.whole)) kept.admitted
 freq_expected (Poisson span) n kept = kept.admitted
 freq_expected (Bernoulli span) n kept = kept.admitted
 freq_expected (Binomial p span) n kept =
-    subst IsAdmitted
+    subst HasPartsOf48Bits
     (sym (ap (λ t. t *ℚ p) (whole_is (n /ℚ p) kept.whole.whole) ∙ div_times n p kept.whole.above)) kept.admitted
 freq_expected (Gamma c span) n kept = kept.admitted
 
 -- ---- of a count
 
 pub made_valid : (k : ReadCount) (n : Option Fraction) (freq : Freq) → IsCountKept k n → IsCountMade k n freq
-    → IsClaimCount freq × IsAdmitted (expected_of_plan freq)
+    → IsClaimCount freq × HasPartsOf48Bits (expected_of_plan freq)
 made_valid (Exposed e f) None freq kept made = absurd kept
 made_valid (Exposed e f) (Some n) freq kept made = (
   subst IsClaimCount (sym made) (freq_valid f n kept),
-  subst (λ (q : Freq). IsAdmitted (expected_of_plan q)) (sym made) (freq_expected f n kept),
+  subst (λ (q : Freq). HasPartsOf48Bits (expected_of_plan q)) (sym made) (freq_expected f n kept),
 )
 made_valid (Listed counts probs) n freq kept made = (made.valid, made.expected)
 
@@ -104,11 +90,11 @@ made_is bs u (Listed counts probs) n freq same kept made = made.table
 
 -- an expected count that is there is admitted
 pub claims_admitted : (bs : Fraction) (u : GridUnit) (k : ReadCount) (n : Option Fraction) → n ≡ claims_of bs u k
-    → IfSome n IsAdmitted
+    → IfSome n HasPartsOf48Bits
 claims_admitted bs u k None same = tt
 claims_admitted bs u (Exposed e f) (Some n) same =
     let told = given (has_count u e && is_admitted (expected_count bs u e)) (expected_count bs u e) n (sym same) in
-    subst IsAdmitted (sym told.0) (admitted_is (expected_count bs u e) (both _ _ told.1))
+    subst HasPartsOf48Bits (sym told.0) (admitted_is (expected_count bs u e) (both _ _ told.1))
 claims_admitted bs u (Listed counts probs) (Some n) same = absurd (cc)
 
 -- there is such a count
@@ -119,7 +105,7 @@ count_there (Listed counts probs) n are =
     let numbers : List ℕ = map (λ (x : Fraction). x.num) counts.values in
     let same = seconds-zip numbers (probs_of counts probs)
     (length-map counts.values (λ (x : Fraction). x.num) ∙ sym (same_length counts probs are.lengths)) in
-    let sev = sev_of (count_pairs counts probs) (subst IsFine same are.shares.fine)
+    let sev = sev_of (pairs_of_counts counts probs) (subst IsFineTo30Bits same are.shares.fine)
     (subst (λ xs. sum_of xs ≡ whole 1) same are.shares.one) in
     let few = small_table counts probs are sev.0 sev.1 in (
       of_plan.Table sev.0.items sev.0.total,
@@ -137,7 +123,7 @@ module _ (pairs : Pairs) (sev : Sev) (means : Means sev pairs) (n : Fraction) (x
   z = thinned pairs n
 
   abbrev IsThinned : Fraction → Type 0
-  IsThinned y = IsAdmitted y × (y ≤ℚ whole most_expected)
+  IsThinned y = HasPartsOf48Bits y × (y ≤ℚ whole most_expected)
 
   small_above : (b : Bool) → is_admitted z ≡ b → is_some (if b then Some z else None) ≡ true
       → is_there_and (λ y. passes y most_expected) (if b then Some z else None) ≡ false
@@ -155,7 +141,7 @@ module _ (pairs : Pairs) (sev : Sev) (means : Means sev pairs) where
   -- the claims above 0 of a count without a greatest number are few
   pub made_thinned : (k : ReadCount) (n : Option Fraction) (freq : Freq) → AreKept k n (claims_above_zero pairs n)
       → IsCountMade k n freq → IsUnbounded freq
-      → IsAdmitted (expected_of_plan freq *ℚ (whole 1 -ℚ probability_of sev 0))
+      → HasPartsOf48Bits (expected_of_plan freq *ℚ (whole 1 -ℚ probability_of sev 0))
       × (expected_of_plan freq *ℚ (whole 1 -ℚ probability_of sev 0) ≤ℚ whole most_expected)
   unfolding has_too_many_claims
   made_thinned (Exposed e f) None freq are made unbounded =

@@ -1,36 +1,19 @@
 -- The units of a plan, one after another.
-use Rattle.std.proofs.Common.{◌≡◌, ◌≢◌, ◌∙◌, ℕ, zero, suc, ◌+◌, ◌<◌, ◌≤◌, List, [], ◌∷◌, ◌++◌, take, length, get_or, Bool, true, false, Option, Some, None, refl, sym, ap, subst, arith}
-use Rattle.std.specs.Str.{bytes_eq}
-use Rattle.std.specs.List.{AllZip, All, AllPairs}
+use Rattle.dl_types.proofs.Common.{◌≡◌, ◌∙◌, ℕ, zero, suc, ◌+◌, ◌<◌, ◌≤◌, List, [], ◌∷◌, ◌++◌, take, length, get_or, Bool, true, false, Option, Some, None, refl, sym, ap, subst, arith, bytes_eq, All, Ok, Err, CheckFault, Typing, OutOfMemory, AnswersUnit, AnswersUnits, All-nil, All-cons, All-head, All-tail, most_units, Fraction, whole, ◌<ℚ◌, Settings, IsValidUnit, UnitAst, ◌else◌, in_turn, Span, names_of, cells_asked, fault_of_lists, first_fault_of, first_fault, breaks, duplicate_name, too_many_units, IsSet, Program, IsWellFormed, Plan, else_first, not_at, never}
+use Rattle.std.proofs.Common.{◌≢◌}
+use Rattle.std.specs.List.{AllZip, AllPairs}
 use Rattle.std.proofs.lemmas.List.{map-append, take_more, take_all}
 use Rattle.std.proofs.lemmas.List.Quantifiers.{all_pairs_push}
 use Rattle.std.proofs.lemmas.Slice.Zip.{all_zipped_more}
 use Rattle.std.proofs.lemmas.Slice.Eq.{bytes_eq-Decides}
-use Rattle.std.specs.Prelude.{Ok, Err, slice_get}
-use Rattle.dl_types.specs.declared.fault.CheckFault.{CheckFault}
-use Rattle.dl_types.specs.declared.fault.CheckFault.TheVariants.{Typing, OutOfMemory}
-use Rattle.dl_types.specs.Answer.{AnswersUnit, AnswersUnits, IsCheckOf}
+use Rattle.std.specs.Prelude.{slice_get}
+use Rattle.dl_types.specs.Answer.{IsCheckOf}
 use Rattle.dl_amounts.proofs.Turns.{turn_found, NoneTurned, turn_passed, turn_ended}
-use Rattle.std.proofs.lemmas.List.Elements.{All-nil, All-cons, All-head, All-tail, All-append}
-use Rattle.dl_limits.specs.Limits.{most_units}
-use Rattle.dl_exact.specs.Fraction.{Fraction, whole, ◌<ℚ◌}
+use Rattle.std.proofs.lemmas.List.Elements.{All-append}
 use Rattle.dl_plan.specs.declared.plan.Unit.{Unit as UnitOfPlan}
-use Rattle.dl_plan.specs.declared.settings.Settings.{Settings}
-use Rattle.dl_plan.specs.Valid.{IsValidUnit}
-use Rattle.dl_ast.specs.declared.ast.UnitAst.{UnitAst}
-use Rattle.dl_read.specs.First.{◌else◌, in_turn}
-use Rattle.dl_lexer.specs.declared.token.Span.{Span}
 use Rattle.dl_types.specs.declared.rule.Rule.TheVariants as rules
-use Rattle.dl_types.specs.UnitNames.{names_of}
-use Rattle.dl_types.specs.Faults.{cells_asked, fault_of_lists, first_fault_of, first_fault, breaks}
 use Rattle.dl_types.specs.Plans.{IsUnitOf}
-use Rattle.dl_types.specs.Rules.{duplicate_name, seventeenth, too_many_units}
-use Rattle.dl_types.specs.Kept.{IsSet}
-use Rattle.dl_ast.specs.declared.ast.Program.{Program}
-use Rattle.dl_ast.specs.WellFormed.{IsWellFormed}
-use Rattle.dl_plan.specs.declared.plan.Plan.{Plan}
-use Rattle.dl_read.proofs.Nothing.{else_first, not_at}
-use Rattle.dl_amounts.proofs.Values.{never}
+use Rattle.dl_types.specs.Rules.{seventeenth}
 
 -- the first i units break no rule, and have these units in the plan
 pub record Planned (settings : Settings) (units : List UnitAst) (i : ℕ) (made : List UnitOfPlan) : Type 0 where
@@ -155,7 +138,8 @@ module _ (program : Program) (settings : Settings) where
   plan_of_units plan bs cells set formed few none told =
       let as_many : length plan.units ≡ length program.units =
       pair_length (IsUnitOf settings.bs) program.units plan.units told.1 in (
-        ap (λ p. breaks most_units rules.TooManyUnits p else in_turn (first_fault_of settings) [] program.units) none ∙ told.0,
+        ap (λ p. breaks most_units rules.TooManyUnits p else in_turn (first_fault_of settings) [] program.units) none ∙
+            told.0,
         record { bucket = bs; cells = cells; units = told.1 },
         record {
           bucket = subst (λ x. whole 0 <ℚ x) (sym bs) set.bucket.above;

@@ -1,18 +1,11 @@
 -- Quotients and products of fractions, cut across.
-use Rattle.std.proofs.Common.{◌≡◌, ◌∙◌, ℕ, ◌*◌, ◌<◌, ◌≤◌, nat_lt, ◌&&◌, if◌then◌else◌, true, false, Some, None, refl, sym, ap, ap₂, subst, arith, inl, inr, mul-pos, mul_comm}
+use Rattle.dl_types.proofs.Common.{◌≡◌, ◌∙◌, ℕ, ◌*◌, ◌<◌, ◌≤◌, nat_lt, ◌&&◌, if◌then◌else◌, true, false, Some, None, refl, sym, ap, ap₂, subst, arith, inl, inr, mul-pos, ◌∣◌, gcd, Fraction, whole, ◌over◌, ◌*ℚ◌, ◌/ℚ◌, gcd_is, IsTooFine, lowest_swap, lowest_times, lowest_product, lowest_num, lowest_den, product_is, quotient_is, whole_num, whole_den, admitted_bound, is_admitted, admitted}
+use Rattle.std.proofs.Common.{mul_comm}
 use Rattle.std.proofs.Math.Nat.{mul-le-mul, pos_of_dvd_of_pos}
-use Prim.Native.Nat.{◌∣◌}
-use Rattle.dl_exact.specs.Gcd.{gcd}
-use Rattle.dl_exact.specs.Fraction.{Fraction, whole, ◌over◌, ◌*ℚ◌, ◌/ℚ◌}
-use Rattle.dl_exact.proofs.GcdLaws.{gcd_is}
 use Rattle.dl_exact.proofs.Over.{over_self, over_mul, over_same, over_num as num_of_over, over_den as den_of_over}
 use Rattle.dl_exact.proofs.Laws.{zero_times, times_comm}
-use Rattle.dl_frac.specs.Exact.{IsTooFine}
-use Rattle.dl_exact.proofs.Multiples.{lowest_parts, lowest_swap, lowest_times, lowest_product, part_divides}
-use Rattle.dl_exact.proofs.Parts.{lowest_num, lowest_den, product_is, quotient_is, whole_num, whole_den}
-use Rattle.dl_limits.specs.Limits.{admitted_bound, frac_bound}
-use Rattle.dl_read.specs.Lists.{is_admitted}
-use Rattle.dl_types.specs.Exposures.{admitted}
+use Rattle.dl_exact.proofs.Multiples.{lowest_parts, part_divides}
+use Rattle.dl_limits.specs.Limits.{frac_bound}
 
 num_divides : (n d : ℕ) → 0 < d → (n over d).num ∣ n
 num_divides n d h = subst (λ k. k ∣ n) (sym (num_of_over n d h)) (part_divides n (gcd n d) (gcd_is n d).0)
@@ -87,8 +80,8 @@ at_least k m n h le =
     let more : m * 1 ≤ m * n = mul-le-mul {n₁ = m} {m₁ = 1} {n₂ = m} {m₂ = n} (omega arith) h in
     omega (arith, le, more)
 
-pos_num : (n d : ℕ) → 0 < d → 0 < n → 0 < (n over d).num
-pos_num n d hd hn = pos_of_dvd_of_pos (num_divides n d hd) hn
+num_above_zero : (n d : ℕ) → 0 < d → 0 < n → 0 < (n over d).num
+num_above_zero n d hd hn = pos_of_dvd_of_pos (num_divides n d hd) hn
 
 module _ (x y : Fraction) where
   abbrev first : Fraction
@@ -119,7 +112,7 @@ module _ (x y : Fraction) where
   first_too_fine h (inl far) =
       too_fine_refused (x *ℚ y)
       (inl (subst (λ k. frac_bound ≤ k) (sym parts_num)
-      (at_least _ first.num second.num (pos_num y.num x.den x.positive h) far)))
+      (at_least _ first.num second.num (num_above_zero y.num x.den x.positive h) far)))
   first_too_fine h (inr far) =
       too_fine_refused (x *ℚ y)
       (inr (subst (λ k. frac_bound ≤ k) (sym parts_den) (at_least _ first.den second.den second.positive far)))

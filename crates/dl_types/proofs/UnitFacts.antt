@@ -1,37 +1,18 @@
 -- What a unit in whole buckets keeps where the rules on it are not broken, and its unit of the plan.
-use Rattle.std.proofs.Common.{ℕ, ◌≡◌, ◌∙◌, Bool, true, false, List, Option, Some, None, refl, sym, ap, ap₂, subst}
-use Rattle.std.specs.Prelude.{Result, Ok, Err}
+use Rattle.dl_types.proofs.Common.{ℕ, ◌≡◌, ◌∙◌, Bool, true, false, List, Option, Some, None, refl, sym, ap, ap₂, subst, Ok, Err, Fraction, Settings, IsValidUnit, Span, ReadList, ◌else◌, at_if, probs_in_count, else_first, else_second, not_at, GridUnit, has_shares, fractions_too_fine, IsGridUnit, AreProbabilities, off_grid_cession, own_lists, final_severity, CheckFault, Typing, OutOfMemory, expected_claims, claims_of, claims_above_zero, breaks, cells_asked, fault_of_clauses, fault_of_count, fault_on_grid, IsWholeCount, IsCountKept, IsCountMade, IsCedeOf, too_fine, exposed_too_fine, too_many_claims, has_too_many_claims, horizon_too_large}
+use Rattle.std.specs.Prelude.{Result}
 use Rattle.std.specs.Result.{IsErr, IsErrAnd}
-use Rattle.dl_exact.specs.Fraction.{Fraction}
 use Rattle.dl_plan.specs.declared.plan.Unit.{Unit as UnitOfPlan}
-use Rattle.dl_plan.specs.declared.settings.Settings.{Settings}
-use Rattle.dl_plan.specs.Valid.{IsValidUnit}
-use Rattle.dl_lexer.specs.declared.token.Span.{Span}
-use Rattle.dl_read.specs.declared.tree.ReadList.{ReadList}
-use Rattle.dl_read.specs.First.{◌else◌, at_if}
-use Rattle.dl_read.specs.Lists.{probs_in_count}
-use Rattle.dl_read.proofs.Nothing.{else_first, else_second, not_at}
-use Rattle.dl_amounts.specs.declared.grid.GridUnit.{GridUnit}
-use Rattle.dl_amounts.specs.FineParts.{has_shares, fractions_too_fine}
-use Rattle.dl_amounts.specs.GridKept.{IsGridUnit}
 use Rattle.dl_amounts.specs.Kept.{IsLayered, IsFineSev}
-use Rattle.dl_amounts.specs.Parts.{AreProbabilities}
-use Rattle.dl_amounts.specs.Rules.{off_grid_cession}
-use Rattle.dl_amounts.specs.Severity.{own_lists, final_severity}
 use Rattle.dl_amounts.proofs.Shared.{all_left, all_shared}
 use Rattle.dl_types.specs.declared.rule.Rule.{Rule}
 use Rattle.dl_types.specs.declared.rule.Rule.TheVariants as rules
 use Rattle.dl_types.specs.declared.claims.Claims.{Claims}
-use Rattle.dl_types.specs.declared.fault.CheckFault.{CheckFault}
-use Rattle.dl_types.specs.declared.fault.CheckFault.TheVariants.{Typing, OutOfMemory}
 use Rattle.dl_types.specs.declared.fault.TypeFault.{TypeFault}
 use Rattle.dl_types.specs.Answer.{StopsAt, TellsFault, AnswersGrid}
 use Rattle.dl_types.specs.Claimed.{IsFinal, AreClaims}
-use Rattle.dl_types.specs.Exposures.{expected_claims, claims_of, claims_above_zero}
-use Rattle.dl_types.specs.Faults.{breaks, cells_asked, fault_of_clauses, fault_of_number, fault_of_count, fault_on_grid}
-use Rattle.dl_types.specs.Kept.{IsWholeCount, IsCountKept}
-use Rattle.dl_types.specs.Plans.{IsCountMade, IsCedeOf, IsUnitOn}
-use Rattle.dl_types.specs.Rules.{too_fine, exposed_too_fine, too_many_claims, has_too_many_claims, horizon_too_large}
+use Rattle.dl_types.specs.Faults.{fault_of_number}
+use Rattle.dl_types.specs.Plans.{IsUnitOn}
 use Rattle.dl_types.proofs.Aggregates.{aggregate_valid}
 use Rattle.dl_types.proofs.FineClaims.{fine_left, fine_lists, occ_shares, agr_shares}
 use Rattle.dl_types.proofs.KeptCounts.{AreWhole, AreKept, whole_count, count_kept}

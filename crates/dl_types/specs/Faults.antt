@@ -37,14 +37,19 @@ fault_of_reading unit u =
     else breaks unit rules.BadRange (bad_range u)
     else breaks unit rules.ListTooLong (list_too_long u)
 
+-- the rules on lists that belong together
+abbrev pub fault_of_pairs : ℕ → ReadUnit → Option TypeFault
+fault_of_pairs unit u =
+    breaks unit rules.LengthsDiffer (lengths_differ u)
+    else breaks unit rules.NotOne (not_one u)
+
 -- the rules on its name, its numerals and its lists
 unfoldable pub fault_of_lists : List UnitAst → UnitAst → Option TypeFault
 fault_of_lists before u =
     let unit : ℕ = length before in
     breaks unit rules.DuplicateName (duplicate_name before u)
     else fault_of_reading unit u
-    else breaks unit rules.LengthsDiffer (lengths_differ (read_of u))
-    else breaks unit rules.NotOne (not_one (read_of u))
+    else fault_of_pairs unit (read_of u)
 
 -- the rules on its amounts of money
 unfoldable pub fault_of_money : Fraction → ℕ → ReadUnit → Option TypeFault
@@ -52,14 +57,19 @@ fault_of_money bs unit u =
     breaks unit rules.OffGrid (off_grid bs u)
     else breaks unit rules.TooFar (too_far bs u)
 
+-- the rules on its clauses
+abbrev pub fault_of_layers : ℕ → GridUnit → Option TypeFault
+fault_of_layers unit u =
+    breaks unit rules.Overlap (overlap u)
+    else breaks unit rules.ShareAboveOne (share_above_one u)
+    else breaks unit rules.OffGridCession (off_grid_cession u)
+
 -- the rules on its severity, its layer and its clauses
 unfoldable pub fault_of_clauses : ℕ → GridUnit → Option TypeFault
 fault_of_clauses unit u =
     breaks unit rules.WeightsDiffer (weights_differ u)
     else breaks unit rules.NoneAbove (none_above u)
-    else breaks unit rules.Overlap (overlap u)
-    else breaks unit rules.ShareAboveOne (share_above_one u)
-    else breaks unit rules.OffGridCession (off_grid_cession u)
+    else fault_of_layers unit u
 
 -- the rules on its count with n claims expected, and on the sizes of what it means
 unfoldable pub fault_of_number : ℕ → GridUnit → Option Fraction → Option TypeFault

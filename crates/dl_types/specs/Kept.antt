@@ -3,7 +3,7 @@ use Rattle.std.specs.Prelude.{◌≡◌, ◌≤◌, ⊤, Option, true, false, Is
 use Rattle.dl_limits.specs.Limits.{most_claims, most_log2, most_shape}
 use Rattle.dl_exact.specs.Fraction.{Fraction, whole, ◌/ℚ◌, ◌<ℚ◌}
 use Rattle.dl_plan.specs.declared.settings.Settings.{Settings}
-use Rattle.dl_plan.specs.Fine.{IsAdmitted}
+use Rattle.dl_plan.specs.Fine.{HasPartsOf48Bits}
 use Rattle.dl_plan.specs.Ranges.{IsBucket}
 use Rattle.dl_read.specs.declared.tree.ReadFreq.{ReadFreq}
 use Rattle.dl_read.specs.declared.tree.ReadFreq.TheVariants.{Fixed, Poisson, Bernoulli, Binomial, Gamma}
@@ -53,7 +53,7 @@ pub record IsFreqKept (freq : ReadFreq) (n : Fraction) : Type 0 where
   pub read : IsFreqRead freq
   pub whole : IsWholeFreq freq n
   pub few : IsSmallFreq freq n
-  pub admitted : IsAdmitted n
+  pub admitted : HasPartsOf48Bits n
 
 -- a count whose number is there, and of which as much is whole as has to be
 abbrev pub IsWholeCount : ReadCount → Option Fraction → Type 0

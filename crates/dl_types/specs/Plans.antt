@@ -11,7 +11,7 @@ use Rattle.dl_plan.specs.Weighted.{weight_at}
 use Rattle.dl_plan.specs.Severity.{Pairs, probability, Means}
 use Rattle.dl_plan.specs.Clause.{Clause, IsClause}
 use Rattle.dl_plan.specs.Count.{IsClaimCount, expected_count as expected_of_plan}
-use Rattle.dl_plan.specs.Fine.{IsAdmitted}
+use Rattle.dl_plan.specs.Fine.{HasPartsOf48Bits}
 use Rattle.dl_plan.specs.Valid.{IsWithinMostAmount}
 use Rattle.dl_read.specs.declared.tree.ReadFreq.{ReadFreq}
 use Rattle.dl_read.specs.declared.tree.ReadFreq.TheVariants.{Fixed, Poisson, Bernoulli, Binomial, Gamma}
@@ -32,14 +32,14 @@ use Rattle.dl_types.specs.Exposures.{expected_count, shape_of}
 use Rattle.dl_types.specs.Faults.{cells_asked}
 
 -- each listed number of claims with its probability
-abbrev pub count_pairs : ReadList → Option ReadList → Pairs
-count_pairs counts probs = zip (map (λ x. x.num) counts.values) (probs_of counts probs)
+abbrev pub pairs_of_counts : ReadList → Option ReadList → Pairs
+pairs_of_counts counts probs = zip (map (λ x. x.num) counts.values) (probs_of counts probs)
 
 -- a table of these numbers of claims, equal ones added up
 abbrev pub IsTableOf : ReadList → Option ReadList → Freq → Type 0
 IsTableOf counts probs freq =
     (table : List Item) × (total : ℕ) × (freq ≡ of_plan.Table table total)
-    × ((n : ℕ) → weight_at table n over total ≡ probability (count_pairs counts probs) n)
+    × ((n : ℕ) → weight_at table n over total ≡ probability (pairs_of_counts counts probs) n)
 
 -- with n claims expected, the claim count of the plan is that of the text; a binomial count has as
 -- many trials as n over the probability of one
@@ -67,7 +67,7 @@ freq_with (Gamma c _) n = of_plan.Gamma (shape_of c).num n
 pub record IsTabled (counts : ReadList) (probs : Option ReadList) (freq : Freq) : Type 0 where
   pub table : IsTableOf counts probs freq
   pub valid : IsClaimCount freq
-  pub expected : IsAdmitted (expected_of_plan freq)
+  pub expected : HasPartsOf48Bits (expected_of_plan freq)
 
 -- the claim count that is made of the text
 abbrev pub IsCountMade : ReadCount → Option Fraction → Freq → Type 0
@@ -86,11 +86,12 @@ pub record IsCedeOf (cession : Option GridClause) (made : Option Clause) : Type 
 
 -- the unit of the plan has the name, the final severity, the claim count and the aggregate clause
 -- of a unit in whole buckets
-pub record IsUnitOn (bs : Fraction) (text : List ℕ) (u : GridUnit) (made : UnitOfPlan) : Type 0 where
-  pub name : made.name ≡ text
-  pub severity : Means made.sev (final_severity u)
-  pub count : IsCountOf bs u u.count made.freq
-  pub clause : made.cede ≡ aggregate_clause u.agr
+pub record IsUnitOn (bs : Fraction) (text : List ℕ) (u : GridUnit) (made : UnitOfPlan) : Type 0
+  where
+    pub name : made.name ≡ text
+    pub severity : Means made.sev (final_severity u)
+    pub count : IsCountOf bs u u.count made.freq
+    pub clause : made.cede ≡ aggregate_clause u.agr
 
 -- and those of the text
 abbrev pub IsUnitOf : Fraction → UnitAst → UnitOfPlan → Type 0

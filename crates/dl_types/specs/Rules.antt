@@ -96,7 +96,8 @@ shape_not_whole (Exposed exposure (Gamma c span)) =
     at_if (is_zero c || not (is_whole (shape_of c))) span
 shape_not_whole (Listed counts probs) = None
 
--- 19 TooFine: a list of probabilities, the shares of a clause, or the mixture is not fine; or, where
+-- 19 TooFine: a list of probabilities, the shares of a clause, or the mixture is not fine; or,
+-- where
 -- they are, the expected loss, the expected count, or for Poisson and gamma the expected number of
 -- claims above 0, is not admitted
 abbrev pub loss_too_fine : Option Fraction → Bool

@@ -22,7 +22,8 @@ pub(crate) struct Claims {
 
 /// Of so many claims the expected number above 0, where both are there and admitted.
 fn above_zero(severity: &Sev, number: &Option<Frac>) -> Option<Frac>
-    ensures { (pairs : Pairs) → Means severity.now pairs → result ≡ claims_above_zero pairs number.now }
+    ensures { (pairs : Pairs) → Means severity.now pairs
+        → result ≡ claims_above_zero pairs number.now }
 {
     match number {
         Some(number) => match number.mul(severity.share_above_zero()) {

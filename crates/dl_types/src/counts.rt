@@ -1,15 +1,15 @@
 //! The listed claim counts of a unit.
 
 ghost use Rattle.std.specs.Prelude.{◌≡◌, ◌≤◌, not, map, All, IfOk};
+ghost use Rattle.dl_types.specs.Rules.{has_too_many_claims, passes};
 ghost use Rattle.std.specs.List.{list_any};
+ghost use Rattle.dl_types.specs.Plans.{pairs_of_counts, IsTabled};
 ghost use Rattle.dl_limits.specs.Limits.{most_count};
+ghost use Rattle.dl_types.specs.Listed.{AreCounts};
 ghost use Rattle.dl_plan.specs.Severity.{Means};
+ghost use Rattle.dl_types.specs.Kept.{IsWholeCount};
 ghost use Rattle.dl_read.specs.First.{at_if};
 ghost use Rattle.dl_read.specs.Lists.{is_whole};
-ghost use Rattle.dl_types.specs.Kept.{IsWholeCount};
-ghost use Rattle.dl_types.specs.Listed.{AreCounts};
-ghost use Rattle.dl_types.specs.Plans.{count_pairs, IsTabled};
-ghost use Rattle.dl_types.specs.Rules.{has_too_many_claims, passes};
 
 use crate::claims::Claims;
 use crate::frequencies::exposed_too_many;
@@ -88,7 +88,7 @@ fn weighed_counts(
     probs: &Option<ReadList>,
 ) -> Result<Sev, AllocError>
     requires { AreCounts counts.now probs.now }
-    ensures means { IfOk result (λ made. Means made (count_pairs counts.now probs.now)) }
+    ensures means { IfOk result (λ made. Means made (pairs_of_counts counts.now probs.now)) }
     ensures few { IfOk result (λ made. All (λ item. item.amount ≤ most_count) made.items) }
 {
     let numbers = numbers_of(alloc, counts.values.as_slice())?;

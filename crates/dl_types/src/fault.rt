@@ -27,24 +27,24 @@ pub enum CheckFault {
     OutOfMemory,
 }
 
-impl From<AllocError> for CheckFault {
-    ghost use Rattle.dl_types.specs.declared.fault.CheckFault.TheVariants.{OutOfMemory};
-    ghost use Rattle.std.specs.Prelude.{◌≡◌};
-
-    ghost from_gives = { λ _ fault. fault ≡ OutOfMemory };
-
-    fn from(_error: AllocError) -> CheckFault {
-        CheckFault::OutOfMemory
-    }
-}
-
 impl<T: Drop> From<AllocFailed<T>> for CheckFault {
-    ghost use Rattle.dl_types.specs.declared.fault.CheckFault.TheVariants.{OutOfMemory};
     ghost use Rattle.std.specs.Prelude.{◌≡◌};
+    ghost use Rattle.dl_types.specs.declared.fault.CheckFault.TheVariants.{OutOfMemory};
 
     ghost from_gives = { λ _ fault. fault ≡ OutOfMemory };
 
     fn from(_failed: AllocFailed<T>) -> CheckFault {
+        CheckFault::OutOfMemory
+    }
+}
+
+impl From<AllocError> for CheckFault {
+    ghost use Rattle.std.specs.Prelude.{◌≡◌};
+    ghost use Rattle.dl_types.specs.declared.fault.CheckFault.TheVariants.{OutOfMemory};
+
+    ghost from_gives = { λ _ fault. fault ≡ OutOfMemory };
+
+    fn from(_error: AllocError) -> CheckFault {
         CheckFault::OutOfMemory
     }
 }

@@ -1,15 +1,15 @@
 //! Whether all the fractions of a unit are fine.
 
 ghost use Rattle.std.specs.Prelude.{◌≡◌, ◌||◌, None, not, IfOk, IfSome};
+ghost use Rattle.dl_types.specs.Rules.{loss_too_fine, exposed_too_fine};
 ghost use Rattle.std.specs.List.{list_any};
-ghost use Rattle.dl_read.specs.Lists.{probs_in_count, is_fine};
+ghost use Rattle.dl_types.specs.Exposures.{expected_loss, is_unbounded};
 ghost use Rattle.dl_amounts.specs.ClausesKept.{IsClauseLayered};
 ghost use Rattle.dl_amounts.specs.FineParts.{has_shares, IsWeighed};
 ghost use Rattle.dl_amounts.specs.Kept.{IsLayered};
+ghost use Rattle.dl_read.specs.Lists.{probs_in_count, is_fine};
 ghost use Rattle.dl_amounts.specs.Rules.{off_grid_cession};
-ghost use Rattle.dl_types.specs.Exposures.{expected_loss, is_unbounded};
 ghost use Rattle.dl_types.specs.Claimed.{IsFineSeverity};
-ghost use Rattle.dl_types.specs.Rules.{loss_too_fine, exposed_too_fine};
 
 use crate::claims::{Claims, is_admitted};
 use dl_amounts::{GridClause, GridUnit, clause, final_severity, second_too_fine};

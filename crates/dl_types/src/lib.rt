@@ -12,8 +12,6 @@ mod names;
 mod program;
 mod ratio;
 mod rule;
-#[cfg(test)]
-mod tests;
 mod unit;
 
 pub use fault::{CheckFault, TypeFault};

@@ -21,7 +21,6 @@ pub(crate) fn duplicate_name<'a>(
     ensures kept { IfOk result (λ place. place ≡ None
         → map (λ name. name.now) names.new.keys ≡ names_of before.now ++ unit.now.name.text ∷ []) }
 {
-    let _before = before;
     let (_number, is_new) = names.insert_full(unit.name.text.as_slice())?;
     if is_new {
         Ok(None)

@@ -13,7 +13,7 @@ use crate::unit::{cells, check_unit};
 use dl_ast::{Program, UnitAst};
 use dl_lexer::Span;
 use dl_limits::MOST_UNITS;
-use dl_plan::{Many, Plan, Settings, Unit};
+use dl_plan::{Items, Plan, Settings, Unit};
 use indexmap::IndexSet;
 use std::alloc::Global;
 
@@ -61,7 +61,7 @@ fn check_units(
     alloc: Global,
     units: &[UnitAst],
     settings: &Settings,
-) -> Result<Many<Unit>, CheckFault>
+) -> Result<Items<Unit>, CheckFault>
     requires set { IsSet settings.now }
     requires few { length units.now ≤ most_units }
     requires formed { All IsFormedUnit units.now }
@@ -75,5 +75,5 @@ fn check_units(
             Err(fault) => return Err(fault),
         }
     }
-    Ok(Many::from_vec(made))
+    Ok(Items::from_vec(made))
 }

@@ -10,12 +10,12 @@ use dl_frac::Frac;
 use std::marker::Model;
 
 /// A fraction of at least 0 in lowest terms. Contracts see the `Fraction`.
-#[derive(Clone, Copy, Debug)]
+#[derive(Clone, Copy)]
 pub(crate) struct Ratio {
     num: u128,
     den: u128,
-    ghost positive: { 0 < den },
     ghost lowest: { gcd num den ≡ 1 },
+    ghost positive: { 0 < den },
 }
 
 impl Model for Ratio {
@@ -23,9 +23,11 @@ impl Model for Ratio {
 
     ghost Value = { Fraction };
 
-    ghost view = { λ f. record { num = f.num; den = f.den; positive = f.positive; lowest = f.lowest } };
+    ghost view = { λ f.
+        record { num = f.num; den = f.den; positive = f.positive; lowest = f.lowest } };
 
-    ghost inverse = { λ x. record { num = x.num; den = x.den; positive = x.positive; lowest = x.lowest } };
+    ghost inverse = { λ x.
+        record { num = x.num; den = x.den; positive = x.positive; lowest = x.lowest } };
 }
 
 impl Ratio {

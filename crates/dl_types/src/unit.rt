@@ -1,31 +1,36 @@
 //! The rules of one unit, in their order.
 
-ghost use Rattle.std.specs.Prelude.{◌≡◌, ◌<◌, ◌∷◌, ◌++◌, [], nat_lt, true, None, Some, IfOk, IfSome, OnOk, length, map};
+ghost use Rattle.std.specs.Prelude.{◌≡◌, ◌<◌, ◌∷◌, ◌++◌, [], nat_lt, true, None, Some, IfOk, IfSome, OnOk, Err, length, map};
+ghost use Rattle.dl_types.specs.Faults.{breaks, cells_asked, fault_of_reading, fault_of_pairs, fault_of_lists, fault_of_money, fault_of_clauses, fault_of_layers, fault_of_number, fault_of_count};
+ghost use Rattle.dl_exact.specs.Fraction.{Fraction};
+ghost use Rattle.dl_types.specs.Answer.{StopsAt, TellsFault, AnswersGrid, AnswersUnit};
+ghost use Rattle.dl_ast.specs.declared.ast.UnitAst.{UnitAst};
+ghost use Rattle.dl_types.specs.declared.rule.Rule.TheVariants.{DuplicateName, OffGridCession, TooFine, HorizonTooLarge};
 ghost use Rattle.dl_ast.specs.WellFormed.{IsFormedUnit};
-ghost use Rattle.dl_limits.specs.Limits.{most_cells, most_units};
+ghost use Rattle.dl_amounts.specs.Rules.{lengths_differ, none_above, not_one, off_grid_cession};
+ghost use Rattle.dl_read.specs.declared.tree.ReadUnit.{ReadUnit as UnitRead};
+ghost use Rattle.dl_types.specs.Rules.{duplicate_name, too_fine, horizon_too_large};
 ghost use Rattle.dl_plan.specs.Clause.{IsClause};
+ghost use Rattle.dl_amounts.specs.Severity.{mixed_pairs, severity_in_layer, support};
 ghost use Rattle.dl_plan.specs.Horizon.{horizon};
-ghost use Rattle.dl_plan.specs.Ranges.{IsBucket};
-ghost use Rattle.dl_read.specs.First.{at_if};
-ghost use Rattle.dl_read.specs.Read.{read_of};
-ghost use Rattle.dl_read.specs.Kept.{IsRead};
-ghost use Rattle.dl_amounts.specs.Clauses.{clause_of};
-ghost use Rattle.dl_amounts.specs.ClausesKept.{IsClauseLayered};
 ghost use Rattle.dl_amounts.specs.FineParts.{has_shares, fractions_too_fine, IsWeighed};
-ghost use Rattle.dl_amounts.specs.Grid.{grid_of};
-ghost use Rattle.dl_amounts.specs.GridKept.{IsGridUnit};
-ghost use Rattle.dl_amounts.specs.Kept.{IsLayered};
-ghost use Rattle.dl_amounts.specs.Rules.{lengths_differ, not_one, off_grid_cession};
-ghost use Rattle.dl_amounts.specs.Severity.{severity_in_layer, support};
-ghost use Rattle.dl_types.specs.declared.rule.Rule.TheVariants.{TooFine, HorizonTooLarge};
-ghost use Rattle.dl_types.specs.Answer.{TellsFault, AnswersGrid, AnswersUnit};
-ghost use Rattle.dl_types.specs.Claimed.{AreClaims};
-ghost use Rattle.dl_types.specs.Exposures.{expected_claims};
-ghost use Rattle.dl_types.specs.Faults.{breaks, cells_asked, fault_of_reading, fault_of_lists, fault_of_money, fault_of_clauses, fault_of_number, fault_of_count};
-ghost use Rattle.dl_types.specs.Kept.{IsSet, IsCountKept};
+ghost use Rattle.dl_plan.specs.Ranges.{IsBucket};
 ghost use Rattle.dl_types.specs.Plans.{IsCountMade, IsCedeOf};
-ghost use Rattle.dl_types.specs.Rules.{too_fine, horizon_too_large};
+ghost use Rattle.dl_read.specs.Kept.{IsRead};
+ghost use Rattle.dl_types.specs.Kept.{IsSet, IsCountKept};
+ghost use Rattle.dl_amounts.specs.Clauses.{clause_of};
+ghost use Rattle.dl_amounts.specs.Kept.{IsWeighted, IsLayered};
+ghost use Rattle.dl_amounts.specs.ClausesKept.{IsClauseLayered};
+ghost use Rattle.dl_read.specs.Read.{read_of, ReadsUnit};
+ghost use Rattle.dl_amounts.specs.Grid.{grid_of};
+ghost use Rattle.dl_read.specs.First.{◌else◌, at_if};
+ghost use Rattle.dl_amounts.specs.GridKept.{IsGridUnit};
+ghost use Rattle.dl_limits.specs.Limits.{most_cells, most_units};
+ghost use Rattle.dl_amounts.specs.OnGrid.{GridsUnit};
 ghost use Rattle.dl_types.specs.UnitNames.{names_of};
+ghost use Rattle.dl_types.specs.declared.fault.CheckFault.TheVariants.{Typing};
+ghost use Rattle.dl_types.specs.Exposures.{expected_claims};
+ghost use Rattle.dl_types.specs.Claimed.{AreClaims};
 
 use crate::claims::{Claims, claims_with};
 use crate::counts::{count_table, too_many_claims};
@@ -51,13 +56,47 @@ use dl_read::{ReadCount, ReadFault, ReadUnit, place_if, read_unit};
 use indexmap::IndexSet;
 use std::alloc::{AllocError, Global};
 
+/// A broken rule of a unit.
+fn typing(unit: u32, rule: Rule, span: Span) -> CheckFault
+    ensures { result ≡ Typing (record { unit = unit; rule = rule; span = span }) }
+{
+    CheckFault::Typing(TypeFault { unit, rule, span })
+}
+
 /// A unit breaks a rule where there is a place.
 fn broken(unit: u32, rule: Rule, place: Option<Span>) -> Result<(), CheckFault>
     ensures { TellsFault (breaks unit rule place) result }
 {
     match place {
-        Some(span) => Err(CheckFault::Typing(TypeFault { unit, rule, span })),
+        Some(span) => Err(typing(unit, rule, span)),
         None => Ok(()),
+    }
+}
+
+/// The fault of a unit that is not read.
+#[tactic(auto, unfolding(crate::specs::Faults::fault_of_reading))]
+fn fault_of_reading(number: u32, fault: ReadFault) -> CheckFault
+    ensures { (unit : UnitAst) → ReadsUnit unit (Err fault)
+        → StopsAt (fault_of_reading number unit) result }
+{
+    match fault {
+        ReadFault::BadNumeral(span) => typing(number, Rule::BadNumeral, span),
+        ReadFault::BadRange(span) => typing(number, Rule::BadRange, span),
+        ReadFault::ListTooLong(span) => typing(number, Rule::ListTooLong, span),
+        ReadFault::OutOfMemory => CheckFault::OutOfMemory,
+    }
+}
+
+/// The fault of a unit that is not put on the grid.
+#[tactic(auto, unfolding(crate::specs::Faults::fault_of_money))]
+fn fault_of_money(number: u32, fault: GridFault) -> CheckFault
+    ensures { (bs : Fraction) (unit : UnitRead) → GridsUnit bs unit (Err fault)
+        → StopsAt (fault_of_money bs number unit) result }
+{
+    match fault {
+        GridFault::OffGrid(span) => typing(number, Rule::OffGrid, span),
+        GridFault::TooFar(span) => typing(number, Rule::TooFar, span),
+        GridFault::OutOfMemory => CheckFault::OutOfMemory,
     }
 }
 
@@ -69,18 +108,55 @@ fn check_reading(alloc: Global, number: u32, unit: &UnitAst) -> Result<ReadUnit,
     ensures same { IfOk result (λ read. read ≡ read_of unit.now) }
     ensures read { IfOk result IsRead }
 {
-    let (rule, span) = match read_unit(alloc, unit) {
-        Ok(read) => return Ok(read),
-        Err(ReadFault::BadNumeral(span)) => (Rule::BadNumeral, span),
-        Err(ReadFault::BadRange(span)) => (Rule::BadRange, span),
-        Err(ReadFault::ListTooLong(span)) => (Rule::ListTooLong, span),
-        Err(ReadFault::OutOfMemory) => return Err(CheckFault::OutOfMemory),
-    };
-    Err(CheckFault::Typing(TypeFault {
-        unit: number,
-        rule,
-        span,
-    }))
+    match read_unit(alloc, unit) {
+        Ok(read) => Ok(read),
+        Err(fault) => Err(fault_of_reading(number, fault)),
+    }
+}
+
+/// The rule on its name.
+fn check_name<'a>(
+    number: u32,
+    names: &mut IndexSet<&'a [u8]>,
+    before: &'a [UnitAst],
+    unit: &'a UnitAst,
+) -> Result<(), CheckFault>
+    requires { map (λ name. name.now) names.old.keys ≡ names_of before.now }
+    ensures told { TellsFault (breaks number DuplicateName
+        (duplicate_name before.now unit.now)) result }
+    ensures names { OnOk result (map (λ name. name.now) names.new.keys
+        ≡ names_of before.now ++ unit.now.name.text ∷ []) }
+{
+    broken(
+        number,
+        Rule::DuplicateName,
+        duplicate_name(names, before, unit)?,
+    )
+}
+
+/// The rules on lists that belong together.
+fn check_pairs(alloc: Global, number: u32, unit: &ReadUnit) -> Result<(), CheckFault>
+    ensures told { TellsFault (fault_of_pairs number unit.now) result }
+    ensures lengths { OnOk result (lengths_differ unit.now ≡ None) }
+    ensures one { OnOk result (not_one unit.now ≡ None) }
+{
+    broken(number, Rule::LengthsDiffer, lengths_differ(unit))?;
+    broken(number, Rule::NotOne, not_one(alloc, unit)?)
+}
+
+/// What a unit writes, where it breaks none of the rules on numerals and lists.
+fn check_read(alloc: Global, number: u32, unit: &UnitAst) -> Result<ReadUnit, CheckFault>
+    requires formed { IsFormedUnit unit.now }
+    ensures told { TellsFault (fault_of_reading number unit.now
+        else fault_of_pairs number (read_of unit.now)) result }
+    ensures same { IfOk result (λ read. read ≡ read_of unit.now) }
+    ensures read { IfOk result IsRead }
+    ensures lengths { IfOk result (λ read. lengths_differ read ≡ None) }
+    ensures one { IfOk result (λ read. not_one read ≡ None) }
+{
+    let read = check_reading(alloc, number, unit)?;
+    check_pairs(alloc, number, &read)?;
+    Ok(read)
 }
 
 /// The rules on its name, its numerals and its lists; what it writes.
@@ -103,15 +179,8 @@ fn check_lists<'a>(
         ≡ names_of before.now ++ unit.now.name.text ∷ []) }
 {
     let number = before.len() as u32;
-    broken(
-        number,
-        Rule::DuplicateName,
-        duplicate_name(names, before, unit)?,
-    )?;
-    let read = check_reading(alloc, number, unit)?;
-    broken(number, Rule::LengthsDiffer, lengths_differ(&read))?;
-    broken(number, Rule::NotOne, not_one(alloc, &read)?)?;
-    Ok(read)
+    check_name(number, names, before, unit)?;
+    check_read(alloc, number, unit)
 }
 
 /// The unit in whole buckets, where it breaks none of the rules on its amounts of money.
@@ -125,17 +194,10 @@ fn check_money(alloc: Global, number: u32, unit: ReadUnit, bs: Frac) -> Result<G
     ensures same { IfOk result (λ made. made ≡ grid_of bs unit) }
     ensures grid { IfOk result IsGridUnit }
 {
-    let (rule, span) = match grid_unit(alloc, unit, bs) {
-        Ok(made) => return Ok(made),
-        Err(GridFault::OffGrid(span)) => (Rule::OffGrid, span),
-        Err(GridFault::TooFar(span)) => (Rule::TooFar, span),
-        Err(GridFault::OutOfMemory) => return Err(CheckFault::OutOfMemory),
-    };
-    Err(CheckFault::Typing(TypeFault {
-        unit: number,
-        rule,
-        span,
-    }))
+    match grid_unit(alloc, unit, bs) {
+        Ok(made) => Ok(made),
+        Err(fault) => Err(fault_of_money(number, fault)),
+    }
 }
 
 /// The rules on its severity, its layer and its clauses. The amounts of positive probability of the
@@ -152,9 +214,45 @@ fn check_clauses(alloc: Global, number: u32, unit: &GridUnit) -> Result<Vec<u32>
     broken(number, Rule::WeightsDiffer, weights_differ(unit))?;
     let mixed = positive_amounts(alloc, unit)?;
     broken(number, Rule::NoneAbove, none_above(unit, &mixed))?;
+    check_layers(alloc, number, unit, mixed)
+}
+
+/// The rules on its clauses, for a severity of these amounts of positive probability. Those of the
+/// severity in the layer.
+fn check_layers(
+    alloc: Global,
+    number: u32,
+    unit: &GridUnit,
+    mixed: Vec<u32>,
+) -> Result<Vec<u32>, CheckFault>
+    requires weighted { IsWeighted unit.now }
+    requires reached { none_above unit.now ≡ None }
+    requires mixed { mixed.items ≡ support (mixed_pairs unit.now.sev) }
+    ensures told { TellsFault (fault_of_layers number unit.now) result }
+    ensures layered { OnOk result (IsLayered unit.now) }
+    ensures ceded { OnOk result (off_grid_cession unit.now ≡ None) }
+    ensures amounts { IfOk result (λ amounts. amounts.items
+        ≡ support (severity_in_layer unit.now)) }
+{
     broken(number, Rule::Overlap, overlap(unit))?;
     broken(number, Rule::ShareAboveOne, share_above_one(unit))?;
     let amounts = support_in_layer(alloc, unit, mixed)?;
+    check_cessions(alloc, number, unit, amounts)
+}
+
+/// The rule on what its clauses make of these amounts, which are given back.
+fn check_cessions(
+    alloc: Global,
+    number: u32,
+    unit: &GridUnit,
+    amounts: Vec<u32>,
+) -> Result<Vec<u32>, CheckFault>
+    requires layered { IsLayered unit.now }
+    requires amounts { amounts.items ≡ support (severity_in_layer unit.now) }
+    ensures told { TellsFault (breaks number OffGridCession
+        (off_grid_cession unit.now)) result }
+    ensures same { IfOk result (λ made. made ≡ amounts) }
+{
     broken(
         number,
         Rule::OffGridCession,

@@ -1,6 +1,5 @@
 -- A share of 1 in few parts is not refused.
-use Rattle.std.proofs.Common.{arith}
-use Rattle.dl_plan.proofs.Fits.{given_ok, over_fits}
+use Rattle.dl_amounts.proofs.Common.{arith, given_ok, over_fits}
 use Rattle.dl_amounts.proofs.atoms.equal_shares.Goals as goal
 
 pub unwrap-share-requires : goal.unwrap-share-requires

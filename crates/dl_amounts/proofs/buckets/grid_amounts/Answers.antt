@@ -1,5 +1,5 @@
 -- One value more.
-use Rattle.std.proofs.Common.{◌∙◌, length, sym, ap}
+use Rattle.dl_amounts.proofs.Common.{◌∙◌, length, sym, ap}
 use Rattle.dl_amounts.proofs.Gridding.{value_fails, value_number, none_gridded, next_amount, all_amounts}
 use Rattle.dl_amounts.proofs.buckets.grid_amounts.Goals as goal
 

@@ -1,7 +1,5 @@
 -- The amounts of the values that were read.
-use Rattle.std.proofs.Common.{map, take, zip}
-use Rattle.dl_read.specs.First.{first_in}
-use Rattle.dl_amounts.specs.Flaws.{IsGridded}
+use Rattle.dl_amounts.proofs.Common.{map, take, zip, first_in, IsGridded}
 use Rattle.dl_amounts.proofs.Gridding.{value_fails, value_number}
 use Rattle.dl_amounts.proofs.buckets.grid_amounts.Given as goal
 

@@ -1,12 +1,8 @@
 -- One atom more.
-use Rattle.std.proofs.Common.{rules, ◌∙◌, length, refl, sym, map-id}
+use Rattle.dl_amounts.proofs.Common.{◌∙◌, sym, ReadAtom, grid_atom, list_fails}
+use Rattle.std.proofs.Common.{rules, map-id}
 use Rattle.std.proofs.lemmas.Iterator.Adapters.{YieldsList-from_vec}
-use Rattle.std.proofs.lemmas.Iterator.Consumers.{YieldsList-turn, YieldsList-end}
-use Rattle.dl_read.specs.declared.tree.ReadAtom.{ReadAtom}
-use Rattle.dl_read.specs.Kept.{IsAtomRead}
-use Rattle.dl_read.proofs.Firsts.{at_item}
-use Rattle.dl_amounts.specs.Grid.{grid_atom}
-use Rattle.dl_amounts.specs.Rules.{list_fails}
+use Rattle.std.proofs.lemmas.Iterator.Consumers.{YieldsList-end}
 use Rattle.dl_amounts.proofs.Gridding.{none_gridded, more_gridded, all_gridded}
 use Rattle.dl_amounts.proofs.buckets.grid_atoms.Goals as goal
 
@@ -15,15 +11,6 @@ atoms-init c =
     none_gridded (λ test (a : ReadAtom). list_fails test c.args.bs a.values) (grid_atom c.args.bs)
     c.new-made.result.items c.none-flaws.result c.new-made.ensures.items c.none-flaws.ensures.off_grid
     c.none-flaws.ensures.too_far
-
-pub grid_atom-requires-clause-read : goal.grid_atom-requires-clause-read
-grid_atom-requires-clause-read c =
-    let turn = YieldsList-turn (YieldsList-from_vec {s = c.into_iter-atom-iterator.result} c.args.atoms.items
-    (search rules) (search rules)) c.atoms.yielded c.atoms.atom-iterator c.atoms.yielded_by c.next.result
-    c.next.new.self
-    c.in-Some.atom c.in-Some.is c.next.ensures.steps in
-    at_item IsAtomRead c.args.atoms.items c.args.atoms.items (length c.atoms.yielded) c.in-Some.atom refl
-    c.requires.read turn.0 turn.1
 
 pub atoms-preserved : goal.atoms-preserved
 atoms-preserved c =

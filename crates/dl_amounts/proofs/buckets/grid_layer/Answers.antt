@@ -1,10 +1,7 @@
 -- The limit and the attachment have the place of the layer.
-use Rattle.std.proofs.Common.{ℕ, Option}
+use Rattle.dl_amounts.proofs.Common.{ℕ, Option, at_if, within, number_of, layer_fails}
 use Rattle.dl_sev.specs.Buckets.{buckets}
-use Rattle.dl_read.specs.First.{at_if, within}
 use Rattle.dl_read.specs.Numbers.{if_there}
-use Rattle.dl_amounts.specs.Grid.{number_of}
-use Rattle.dl_amounts.specs.Rules.{layer_fails}
 use Rattle.dl_amounts.proofs.Gridding.{both_gridded, layer_places}
 use Rattle.dl_amounts.proofs.buckets.grid_layer.Goals as goal
 

@@ -1,8 +1,5 @@
 -- One layer more.
-use Rattle.std.proofs.lemmas.List.{take_all}
-use Rattle.dl_read.specs.declared.tree.ReadCeded.{ReadCeded}
-use Rattle.dl_amounts.specs.Grid.{grid_ceded}
-use Rattle.dl_amounts.specs.Rules.{layer_fails}
+use Rattle.dl_amounts.proofs.Common.{take_all, ReadCeded, grid_ceded, layer_fails}
 use Rattle.dl_amounts.proofs.Gridding.{none_gridded, next_gridded, all_gridded, ceded_gridded}
 use Rattle.dl_amounts.proofs.buckets.grid_layers.Goals as goal
 

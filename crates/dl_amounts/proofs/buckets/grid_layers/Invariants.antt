@@ -1,10 +1,5 @@
 -- The layers that were read.
-use Rattle.std.proofs.Common.{map, take}
-use Rattle.dl_read.specs.First.{first_in}
-use Rattle.dl_read.specs.declared.tree.ReadCeded.{ReadCeded}
-use Rattle.dl_amounts.specs.Flaws.{IsGridded}
-use Rattle.dl_amounts.specs.Grid.{grid_ceded}
-use Rattle.dl_amounts.specs.Rules.{layer_fails}
+use Rattle.dl_amounts.proofs.Common.{map, take, first_in, ReadCeded, IsGridded, grid_ceded, layer_fails}
 use Rattle.dl_amounts.proofs.buckets.grid_layers.Given as goal
 
 abbrev pub invariant-layers : goal.invariant-layers

@@ -1,6 +1,5 @@
 -- The divisor is that of the amounts read so far.
-use Rattle.std.proofs.Common.{◌≡◌, take}
-use Rattle.dl_amounts.specs.Rules.{common_amount_of}
+use Rattle.dl_amounts.proofs.Common.{◌≡◌, take, common_amount_of}
 use Rattle.dl_amounts.proofs.cessions.common_amount.Given as goal
 
 abbrev pub invariant-amounts : goal.invariant-amounts

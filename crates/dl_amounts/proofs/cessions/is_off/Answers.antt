@@ -1,5 +1,5 @@
 -- There is no whole number exactly where the denominator is not 1.
-use Rattle.dl_plan.specs.Clause.{kept}
+use Rattle.dl_amounts.proofs.Common.{kept}
 use Rattle.dl_amounts.proofs.PastEdges.{off_told}
 use Rattle.dl_amounts.proofs.cessions.is_off.Goals as goal
 

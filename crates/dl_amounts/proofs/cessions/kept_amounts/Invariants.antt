@@ -1,6 +1,5 @@
 -- The amounts read so far are mapped, and the others as they were.
-use Rattle.std.proofs.Common.{◌≡◌, ◌++◌, take, drop, map}
-use Rattle.dl_plan.specs.Clause.{kept}
+use Rattle.dl_amounts.proofs.Common.{◌≡◌, ◌++◌, take, drop, map, kept}
 use Rattle.dl_amounts.proofs.cessions.kept_amounts.Given as goal
 
 abbrev pub invariant-amounts : goal.invariant-amounts

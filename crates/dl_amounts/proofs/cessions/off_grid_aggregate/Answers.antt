@@ -1,7 +1,5 @@
 -- The multiples that are tried tell of all sums.
-use Rattle.std.proofs.Common.{subst}
-use Rattle.std.specs.Option.{IfSome}
-use Rattle.dl_amounts.specs.ClausesKept.{IsClauseLayered}
+use Rattle.dl_amounts.proofs.Common.{subst, IfSome, IsClauseLayered}
 use Rattle.dl_amounts.proofs.ClauseGrids.{agr_layered}
 use Rattle.dl_amounts.proofs.OffGrid.{aggregate_fits, aggregate_off}
 use Rattle.dl_amounts.proofs.cessions.off_grid_aggregate.Goals as goal

@@ -1,9 +1,5 @@
 -- The occurrence clause, and then the aggregate clause on what it keeps.
-use Rattle.std.proofs.Common.{◌∙◌, refl, sym, subst}
-use Rattle.std.specs.Option.{IfSome}
-use Rattle.dl_read.proofs.Firsts.{same_place}
-use Rattle.dl_amounts.specs.ClausesKept.{IsClauseLayered}
-use Rattle.dl_amounts.specs.Rules.{off_grid_aggregate, off_grid_cession}
+use Rattle.dl_amounts.proofs.Common.{◌∙◌, refl, sym, subst, IfSome, same_place, IsClauseLayered, off_grid_aggregate, off_grid_cession}
 use Rattle.dl_amounts.proofs.ClauseGrids.{occ_layered}
 use Rattle.dl_amounts.proofs.OffGrid.{no_occurrence, no_shares, occurrence_off, occurrence_fits, final_amounts}
 use Rattle.dl_amounts.proofs.cessions.off_grid_cession.Goals as goal

@@ -1,10 +1,5 @@
 -- Fine shares make a clause.
-use Rattle.std.proofs.Common.{◌≡◌, ◌∙◌, List, map, true, false, sym, ap, subst}
-use Rattle.std.specs.Option.{MatchOption}
-use Rattle.dl_plan.specs.declared.cede.CedeLayer.{CedeLayer}
-use Rattle.dl_plan.specs.Clause.{IsClause}
-use Rattle.dl_read.specs.Lists.{is_fine}
-use Rattle.dl_amounts.specs.Clauses.{ceded_layer, clause_of, shares_of}
+use Rattle.dl_amounts.proofs.Common.{◌≡◌, ◌∙◌, List, map, true, false, sym, ap, subst, MatchOption, CedeLayer, IsClause, is_fine, ceded_layer, clause_of, shares_of}
 use Rattle.dl_amounts.proofs.ClauseLaws.{no_cession}
 use Rattle.dl_amounts.proofs.clauses.clause.Goals as goal
 

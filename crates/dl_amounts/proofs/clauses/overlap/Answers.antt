@@ -1,7 +1,5 @@
 -- The clauses in turn.
-use Rattle.dl_read.specs.First.{within}
-use Rattle.dl_amounts.specs.Rules.{overlap_in, overlap}
-use Rattle.dl_read.proofs.Firsts.{else_or}
+use Rattle.dl_amounts.proofs.Common.{within, overlap_in, overlap, else_or}
 use Rattle.dl_amounts.proofs.clauses.overlap.Goals as goal
 
 pub returns : goal.returns

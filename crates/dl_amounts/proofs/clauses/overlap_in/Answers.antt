@@ -1,7 +1,5 @@
 -- The first layer that overlaps one before it.
-use Rattle.std.proofs.Common.{Some, None, ◌∙◌, sym, ap}
-use Rattle.dl_read.specs.First.{at_if}
-use Rattle.dl_amounts.specs.Rules.{overlap_in}
+use Rattle.dl_amounts.proofs.Common.{Some, None, ◌∙◌, sym, ap, at_if, overlap_in}
 use Rattle.dl_amounts.proofs.Turns.{overlap_at, turn_found, turn_passed, turn_ended, turn_in}
 use Rattle.dl_amounts.proofs.clauses.overlap_in.Goals as goal
 

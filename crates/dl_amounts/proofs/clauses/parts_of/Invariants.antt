@@ -1,8 +1,6 @@
 -- The layers read so far have their shares.
-use Rattle.std.proofs.Common.{◌≡◌, map, take}
-use Rattle.std.specs.List.{All}
+use Rattle.dl_amounts.proofs.Common.{◌≡◌, map, take, All, ceded_layer}
 use Rattle.dl_plan.specs.Valid.{IsWithinMostAmount}
-use Rattle.dl_amounts.specs.Clauses.{ceded_layer}
 use Rattle.dl_amounts.proofs.clauses.parts_of.Given as goal
 
 abbrev pub invariant-layers : goal.invariant-layers

@@ -1,7 +1,5 @@
 -- The clauses in turn.
-use Rattle.dl_read.specs.First.{within}
-use Rattle.dl_amounts.specs.Rules.{share_above_one_in, share_above_one}
-use Rattle.dl_read.proofs.Firsts.{else_or}
+use Rattle.dl_amounts.proofs.Common.{within, share_above_one_in, share_above_one, else_or}
 use Rattle.dl_amounts.proofs.clauses.share_above_one.Goals as goal
 
 pub returns : goal.returns

@@ -1,6 +1,5 @@
 -- A share of 1.
-use Rattle.std.proofs.Common.{arith}
-use Rattle.dl_plan.proofs.Fits.{given_ok, over_fits}
+use Rattle.dl_amounts.proofs.Common.{arith, given_ok, over_fits}
 use Rattle.dl_amounts.proofs.clauses.share_exceeds.Goals as goal
 
 pub unwrap-requires : goal.unwrap-requires

@@ -1,6 +1,5 @@
 -- The limit is above 0, and at least the part.
-use Rattle.std.proofs.Common.{◌≡◌, ◌<◌, ◌^◌, false, ap, sym, subst}
-use Rattle.dl_exact.specs.Fraction.{Fraction}
+use Rattle.dl_amounts.proofs.Common.{◌≡◌, ◌<◌, ◌^◌, false, ap, sym, subst, Fraction}
 use Rattle.dl_exact.proofs.Parts.{pos_num}
 use Rattle.dl_amounts.specs.Clauses.{part_of}
 use Rattle.dl_amounts.specs.Rules.{part_exceeds}

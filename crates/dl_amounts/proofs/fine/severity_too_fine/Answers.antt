@@ -1,9 +1,5 @@
 -- The atoms, or else the weights.
-use Rattle.std.proofs.Common.{◌∙◌, ◌||◌, List, sym, ap}
-use Rattle.std.specs.List.{list_any}
-use Rattle.dl_read.specs.First.{each_of}
-use Rattle.dl_read.specs.Lists.{itself}
-use Rattle.dl_amounts.specs.declared.grid.GridAtom.{GridAtom}
+use Rattle.dl_amounts.proofs.Common.{◌∙◌, ◌||◌, List, sym, ap, list_any, each_of, itself, GridAtom}
 use Rattle.dl_amounts.proofs.FineLists.{coarse, coarse_atom, severity_coarse}
 use Rattle.dl_amounts.proofs.fine.severity_too_fine.Goals as goal
 

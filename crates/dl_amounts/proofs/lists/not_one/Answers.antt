@@ -1,14 +1,7 @@
 -- The probabilities of the count stand before those of the severity.
-use Rattle.std.proofs.Common.{◌≡◌, List, Option, Some, None, ◌++◌, ◌∙◌, flat_map, append_assoc, refl, sym, ap}
-use Rattle.std.specs.Option.{option_or}
-use Rattle.dl_lexer.specs.declared.token.Span.{Span}
-use Rattle.dl_read.specs.declared.tree.ReadAtom.{ReadAtom}
-use Rattle.dl_read.specs.declared.tree.ReadList.{ReadList}
+use Rattle.dl_amounts.proofs.Common.{◌≡◌, List, Option, Some, None, ◌++◌, ◌∙◌, flat_map, append_assoc, refl, sym, ap, Span, ReadAtom, ReadList, first_in, each_of, itself, probs_in_count, prob_lists_of, list_not_one, not_one, both_in, same_place}
 use Rattle.dl_read.specs.declared.tree.ReadUnit.{ReadUnit}
-use Rattle.dl_read.specs.First.{first_in, each_of}
-use Rattle.dl_read.specs.Lists.{itself, probs_in_count, prob_lists_of}
-use Rattle.dl_amounts.specs.Rules.{list_not_one, not_one}
-use Rattle.dl_read.proofs.Firsts.{both_in, same_place}
+use Rattle.std.specs.Option.{option_or}
 use Rattle.dl_amounts.proofs.lists.not_one.Goals as goal
 
 module _ (u : ReadUnit) where

@@ -1,9 +1,6 @@
 -- A list that may be missing.
-use Rattle.std.proofs.Common.{refl}
-use Rattle.dl_read.specs.Lists.{itself}
-use Rattle.dl_read.specs.First.{first_in, each_of}
-use Rattle.dl_amounts.specs.Rules.{list_not_one}
-use Rattle.dl_read.proofs.Firsts.{one_in, held_in, missing_in, same_place}
+use Rattle.dl_amounts.proofs.Common.{refl, itself, first_in, each_of, list_not_one, one_in, same_place}
+use Rattle.dl_read.proofs.Firsts.{held_in, missing_in}
 use Rattle.dl_amounts.proofs.lists.not_one_in_second.Goals as goal
 
 pub returns-in-Some : goal.returns-in-Some

@@ -1,10 +1,6 @@
 -- The first atom whose probabilities do not sum to 1 has the first of all.
-use Rattle.std.proofs.Common.{Some, None, refl, sym, ◌∙◌, ◌++◌, flat_map}
-use Rattle.dl_read.specs.declared.tree.ReadAtom.{ReadAtom}
-use Rattle.dl_read.specs.First.{first_in, each_of}
-use Rattle.dl_read.specs.Lists.{itself}
-use Rattle.dl_amounts.specs.Rules.{list_not_one}
-use Rattle.dl_read.proofs.Firsts.{found, passed, ended, in_items, both_in, same_place}
+use Rattle.dl_amounts.proofs.Common.{Some, None, refl, sym, ◌∙◌, ◌++◌, flat_map, ReadAtom, first_in, each_of, itself, list_not_one, both_in, same_place}
+use Rattle.dl_read.proofs.Firsts.{found, passed, ended, in_items}
 use Rattle.dl_amounts.proofs.lists.not_one_in_severity.Goals as goal
 
 pub returns-in-Some : goal.returns-in-Some

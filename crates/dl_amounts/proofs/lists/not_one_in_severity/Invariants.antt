@@ -1,8 +1,5 @@
 -- No atom before has probabilities that do not sum to 1.
-use Rattle.dl_read.specs.declared.tree.ReadAtom.{ReadAtom}
-use Rattle.dl_read.specs.First.{first_in, each_of}
-use Rattle.dl_read.specs.Lists.{itself}
-use Rattle.dl_amounts.specs.Rules.{list_not_one}
+use Rattle.dl_amounts.proofs.Common.{ReadAtom, first_in, each_of, itself, list_not_one}
 use Rattle.dl_read.proofs.Firsts.{NoneBefore}
 use Rattle.dl_amounts.proofs.lists.not_one_in_severity.Given as goal
 

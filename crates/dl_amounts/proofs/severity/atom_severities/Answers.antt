@@ -1,7 +1,5 @@
 -- One atom more.
-use Rattle.std.proofs.Common.{◌∙◌, ◌<◌, List, length, get_or, ap, subst}
-use Rattle.dl_amounts.specs.declared.grid.GridAtom.{GridAtom}
-use Rattle.dl_amounts.specs.Severity.{atom_pairs}
+use Rattle.dl_amounts.proofs.Common.{◌∙◌, ◌<◌, List, length, get_or, ap, subst, GridAtom, atom_pairs}
 use Rattle.dl_amounts.proofs.Mixing.{pair-more}
 use Rattle.dl_amounts.proofs.severity.atom_severities.Goals as goal
 

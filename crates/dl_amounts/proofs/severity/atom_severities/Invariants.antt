@@ -1,8 +1,5 @@
 -- The severities of the atoms that were read.
-use Rattle.std.proofs.Common.{map, take}
-use Rattle.dl_plan.specs.Severity.{Means}
-use Rattle.std.specs.List.{AllZip}
-use Rattle.dl_amounts.specs.Severity.{atom_pairs}
+use Rattle.dl_amounts.proofs.Common.{map, take, Means, AllZip, atom_pairs}
 use Rattle.dl_amounts.proofs.severity.atom_severities.Given as goal
 
 abbrev pub invariant-atoms : goal.invariant-atoms

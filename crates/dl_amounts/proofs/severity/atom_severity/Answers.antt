@@ -1,18 +1,8 @@
 -- The whole weights are those of the probabilities.
-use Rattle.std.proofs.Common.{◌∙◌, length, zip, ap, ap₂, sym}
-use Rattle.dl_plan.specs.Severity.{probability, Means}
-use Rattle.dl_sev.specs.Steps.{weighed}
-use Rattle.dl_sev.proofs.Mapped.{if_ok}
+use Rattle.dl_amounts.proofs.Common.{◌∙◌, length, zip, ap, ap₂, sym, probability, Means, weighed, if_ok}
 use Rattle.dl_amounts.proofs.Parts.{probs_length}
-use Rattle.dl_amounts.proofs.Mixing.{weights_length, weighed_are}
+use Rattle.dl_amounts.proofs.Mixing.{weighed_are}
 use Rattle.dl_amounts.proofs.severity.atom_severity.Goals as goal
-
-pub merge-requires-clause-lengths : goal.merge-requires-clause-lengths
-merge-requires-clause-lengths c =
-    let probs = c.deref.ensures.value ∙ c.in_ok-probs.ensures in
-    ap length c.as_slice.ensures
-    ∙ sym (weights_length c.deref.result.now c.in_ok-weights.weights c.in_ok-weights.ensures ∙ ap length probs
-    ∙ probs_length c.args.atom.now c.requires.grid)
 
 pub returns : goal.returns
 returns c =

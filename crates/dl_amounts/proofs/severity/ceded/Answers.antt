@@ -1,16 +1,7 @@
 -- The clause made is that of the text.
-use Rattle.std.proofs.Common.{◌∙◌, ◌^◌, ap, subst}
-use Rattle.dl_plan.specs.Severity.{probability, pairs_of}
-use Rattle.dl_plan.specs.Clause.{IsClause}
-use Rattle.dl_sev.specs.Steps.{ceded_each}
-use Rattle.dl_amounts.specs.Clauses.{clause_of}
+use Rattle.dl_amounts.proofs.Common.{◌∙◌, ◌^◌, ap, subst, probability, pairs_of, IsClause, ceded_each, clause_of}
 use Rattle.dl_amounts.proofs.Near.{ceded_items_near, ceded_items_few}
 use Rattle.dl_amounts.proofs.severity.ceded.Goals as goal
-
-pub returns-in-Ok-clause-means : goal.returns-in-Ok-clause-means
-returns-in-Ok-clause-means c =
-    let told = rw c.in-Some.is at c.in_ok-cede.ensures.value in
-    λ x. c.in-Ok.ensures.step x ∙ ap (λ clause. probability (ceded_each clause (pairs_of c.args.sev.now)) x) told
 
 pub returns-in-Ok-clause-near : goal.returns-in-Ok-clause-near
 returns-in-Ok-clause-near c =

@@ -1,26 +1,14 @@
 -- The rules give what each step asks.
-use Rattle.std.proofs.Common.{◌≤◌, length, subst, arith}
-use Rattle.std.specs.Option.{IfSome}
-use Rattle.dl_plan.specs.Severity.{Means, pairs_of}
-use Rattle.dl_plan.specs.Fine.{IsWhole}
-use Rattle.dl_plan.specs.Clause.{kept}
-use Rattle.dl_sev.specs.Steps.{ceded_each}
-use Rattle.dl_sev.proofs.Mapped.{if_ok}
-use Rattle.dl_amounts.specs.Clauses.{clause_of}
-use Rattle.dl_amounts.specs.Severity.{severity_in_layer}
-use Rattle.dl_amounts.specs.ClausesKept.{IsClauseLayered}
+use Rattle.dl_amounts.proofs.Common.{◌≤◌, length, subst, arith, IfSome, Means, pairs_of, IsWhole, kept, ceded_each, if_ok, clause_of, severity_in_layer, IsClauseLayered}
 use Rattle.dl_amounts.proofs.ClauseGrids.{occ_layered}
 use Rattle.dl_amounts.proofs.Near.{in_layer_near, in_layer_few}
 use Rattle.dl_amounts.proofs.Items.{items_in}
-use Rattle.dl_amounts.proofs.FineUnits.{shares_fine, support_whole, ceded_means}
+use Rattle.dl_amounts.proofs.FineUnits.{support_whole, ceded_means}
 use Rattle.dl_amounts.proofs.severity.final_severity.Goals as goal
 
 pub ceded-requires-clause-layered : goal.ceded-requires-clause-layered
 ceded-requires-clause-layered c = subst (λ o. IfSome o IsClauseLayered) c.in-Some.is
     (occ_layered c.args.unit.now c.requires.fine.layered)
-
-pub ceded-requires-clause-fine : goal.ceded-requires-clause-fine
-ceded-requires-clause-fine c = shares_fine c.args.unit.now c.requires.fine c.in-Some.cession c.in-Some.is
 
 pub ceded-requires-clause-whole : goal.ceded-requires-clause-whole
 ceded-requires-clause-whole c =

@@ -1,9 +1,5 @@
 -- The mixture of the atoms is that of the text, and refused exactly where that is not fine.
-use Rattle.std.proofs.Common.{◌∙◌, length, map, ap, sym, subst}
-use Rattle.std.proofs.lemmas.List.{length-map}
-use Rattle.dl_plan.specs.Severity.{Means}
-use Rattle.std.specs.List.{AllZip}
-use Rattle.dl_amounts.specs.Severity.{atom_pairs, weights_of}
+use Rattle.dl_amounts.proofs.Common.{◌∙◌, length, map, ap, sym, subst, length-map, Means, AllZip, atom_pairs, weights_of}
 use Rattle.dl_amounts.proofs.Mixing.{weights_length, pair_length, mixture_means}
 use Rattle.dl_amounts.proofs.Weighable.{mixed_fine, mixed_coarse}
 use Rattle.dl_amounts.proofs.severity.mixture.Goals as goal

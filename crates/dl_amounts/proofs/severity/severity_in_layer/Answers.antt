@@ -1,10 +1,5 @@
 -- The steps of the layer, where it is conditioned and where it is not.
-use Rattle.std.proofs.Common.{◌∙◌, sym, subst}
-use Rattle.dl_plan.specs.Severity.{conditioned, pairs_of, Means}
-use Rattle.dl_plan.specs.Clause.{layer}
-use Rattle.dl_sev.specs.Steps.{layered}
-use Rattle.dl_sev.proofs.Mapped.{if_ok}
-use Rattle.dl_amounts.specs.Severity.{mixed_pairs}
+use Rattle.dl_amounts.proofs.Common.{◌∙◌, sym, subst, conditioned, pairs_of, Means, layer, layered, if_ok, mixed_pairs}
 use Rattle.dl_amounts.proofs.Meaning.{conditioned_means, mapped_means}
 use Rattle.dl_amounts.proofs.Positive.{in_layer_is, reached}
 use Rattle.dl_amounts.proofs.Items.{support_within}

@@ -1,8 +1,8 @@
 -- The lists of the severity, its mixture, and then its layer.
-use Rattle.std.proofs.Common.{◌∙◌, sym}
+use Rattle.dl_amounts.proofs.Common.{◌∙◌, sym}
 use Rattle.dl_amounts.proofs.Parts.{sev_weighted}
 use Rattle.dl_amounts.proofs.Shared.{fine_shared}
-use Rattle.dl_amounts.proofs.Weighable.{unweighed_lists, unweighed_mixture, weighed}
+use Rattle.dl_amounts.proofs.Weighable.{unweighed_lists, weighed}
 use Rattle.dl_amounts.proofs.severity.weighed_severity.Goals as goal
 
 pub mixture-requires-clause-weighted : goal.mixture-requires-clause-weighted
@@ -12,20 +12,9 @@ pub mixture-requires-clause-shared : goal.mixture-requires-clause-shared
 mixture-requires-clause-shared c =
     fine_shared c.args.unit.now c.requires.weighted.grid (sym c.severity_too_fine-coarse.ensures ∙ c.if-coarse.false)
 
-pub severity_in_layer-requires-clause-mixed : goal.severity_in_layer-requires-clause-mixed
-severity_in_layer-requires-clause-mixed c =
-    let told = rw c.in-Some.is at c.in_ok-mixed.ensures in
-    told.1
-
 pub returns-then-coarse : goal.returns-then-coarse
 returns-then-coarse c = unweighed_lists c.args.unit.now c.severity_too_fine-coarse.result
     c.severity_too_fine-coarse.ensures c.if-coarse.true
-
-pub returns-in_default : goal.returns-in_default
-returns-in_default c =
-    let told = rw c.in_default.is at c.in_ok-mixed.ensures in
-    unweighed_mixture c.args.unit.now c.severity_too_fine-coarse.result c.severity_too_fine-coarse.ensures
-    c.if-coarse.false told
 
 pub returns : goal.returns
 returns c =

@@ -1,6 +1,5 @@
 -- What the layer takes of the amounts that were read.
-use Rattle.std.proofs.Common.{◌≡◌, cond, filter, map, nat_lt, take}
-use Rattle.dl_plan.specs.Clause.{layer}
+use Rattle.dl_amounts.proofs.Common.{◌≡◌, cond, filter, map, nat_lt, take, layer}
 use Rattle.dl_amounts.proofs.support.in_layer.Given as goal
 
 abbrev pub invariant-amounts : goal.invariant-amounts

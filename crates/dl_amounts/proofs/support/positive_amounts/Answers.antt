@@ -1,7 +1,5 @@
 -- One atom more.
-use Rattle.std.proofs.Common.{◌≤◌, map, arith, ◌∙◌, ◌<◌, List, length, get_or, ap, subst}
-use Rattle.dl_amounts.specs.declared.grid.GridAtom.{GridAtom}
-use Rattle.dl_amounts.specs.Severity.{atom_pairs, mixed, support}
+use Rattle.dl_amounts.proofs.Common.{◌≤◌, map, arith, ◌∙◌, ◌<◌, List, length, get_or, ap, subst, GridAtom, atom_pairs, mixed, support}
 use Rattle.dl_amounts.proofs.Parts.{sev_weighted}
 use Rattle.dl_amounts.proofs.Positive.{atom-more, atom-none, all-atoms}
 use Rattle.dl_amounts.proofs.support.positive_amounts.Goals.{then-num-gt0+in_ok-push_support, else-num-gt0}

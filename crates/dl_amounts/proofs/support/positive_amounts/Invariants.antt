@@ -1,6 +1,5 @@
 -- The amounts of positive probability of the atoms that were read.
-use Rattle.std.proofs.Common.{◌≡◌}
-use Rattle.dl_amounts.specs.Severity.{atom_pairs, support}
+use Rattle.dl_amounts.proofs.Common.{◌≡◌, atom_pairs, support}
 use Rattle.dl_amounts.proofs.Positive.{mixed_to}
 use Rattle.dl_amounts.proofs.support.positive_amounts.Given as goal
 

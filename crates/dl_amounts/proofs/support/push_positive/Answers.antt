@@ -1,5 +1,5 @@
 -- One amount more.
-use Rattle.std.proofs.Common.{◌∙◌, ap}
+use Rattle.dl_amounts.proofs.Common.{◌∙◌, ap}
 use Rattle.dl_amounts.proofs.Positive.{positive-more, zero-more}
 use Rattle.dl_amounts.proofs.support.push_positive.Goals.{then-num-gt0+in_ok-push, else-num-gt0}
 use Rattle.dl_amounts.proofs.support.push_positive.Goals as goal

@@ -1,5 +1,5 @@
 -- The amounts of positive probability that were read stand behind the others.
-use Rattle.std.proofs.Common.{◌≡◌, ◌++◌}
+use Rattle.dl_amounts.proofs.Common.{◌≡◌, ◌++◌}
 use Rattle.dl_amounts.proofs.Positive.{support_to}
 use Rattle.dl_amounts.proofs.support.push_positive.Given as goal
 

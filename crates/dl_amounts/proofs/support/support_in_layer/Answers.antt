@@ -1,7 +1,5 @@
 -- The layer takes its part of each amount of the mixture.
-use Rattle.std.proofs.Common.{◌≡◌, ◌∙◌, cond, map, filter, nat_lt}
-use Rattle.dl_plan.specs.Clause.{layer}
-use Rattle.dl_sev.proofs.Mapped.{if_ok}
+use Rattle.dl_amounts.proofs.Common.{◌≡◌, ◌∙◌, cond, map, filter, nat_lt, layer, if_ok}
 use Rattle.dl_amounts.proofs.Positive.{taken_support}
 use Rattle.dl_amounts.proofs.support.support_in_layer.Goals as goal
 

@@ -1,5 +1,5 @@
 -- At most 256 claims, with weights that sum to at most 2^30.
-use Rattle.std.proofs.Common.{refl}
+use Rattle.dl_types.proofs.Common.{refl}
 use Rattle.dl_types.proofs.ListedCounts.{table_admitted}
 use Rattle.dl_types.proofs.counts.count_table.Goals as goal
 

@@ -1,6 +1,5 @@
 -- The numbers so far.
-use Rattle.std.proofs.Common.{◌≡◌, map, take}
-use Rattle.dl_exact.specs.Fraction.{Fraction}
+use Rattle.dl_types.proofs.Common.{◌≡◌, map, take, Fraction}
 use Rattle.dl_types.proofs.counts.numbers_of.Given as goal
 
 abbrev pub invariant-values : goal.invariant-values

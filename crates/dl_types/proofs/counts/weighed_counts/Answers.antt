@@ -1,13 +1,8 @@
 -- The whole weights are those of the probabilities, and the numbers are those of the counts.
-use Rattle.std.proofs.Common.{◌∙◌, ◌≤◌, length, map, zip, ap, ap₂, sym, subst, List}
-use Rattle.std.specs.List.{All}
-use Rattle.std.proofs.lemmas.List.{length-map}
+use Rattle.dl_types.proofs.Common.{◌∙◌, ◌≤◌, length, map, zip, ap, ap₂, sym, subst, List, All, length-map, most_count, Fraction, Means, pairs_of_counts}
 use Rattle.std.proofs.lemmas.Result.{IfOk-weaker}
-use Rattle.dl_limits.specs.Limits.{most_count}
-use Rattle.dl_exact.specs.Fraction.{Fraction}
-use Rattle.dl_plan.specs.Severity.{probability, Means}
+use Rattle.dl_plan.specs.Severity.{probability}
 use Rattle.dl_sev.specs.Steps.{weighed}
-use Rattle.dl_types.specs.Plans.{count_pairs}
 use Rattle.dl_amounts.proofs.Mixing.{weights_length, weighed_are}
 use Rattle.dl_types.proofs.ListedCounts.{same_length, small_values, small_table}
 use Rattle.dl_types.proofs.counts.weighed_counts.Goals as goal
@@ -41,8 +36,5 @@ returns-clause-means c =
 
 pub returns-clause-few : goal.returns-clause-few
 returns-clause-few c =
-    IfOk-weaker c.merge.result (λ sev. Means sev (count_pairs c.args.counts.now c.args.probs.now)) _
+    IfOk-weaker c.merge.result (λ sev. Means sev (pairs_of_counts c.args.counts.now c.args.probs.now)) _
     (λ sev means. small_table c.args.counts.now c.args.probs.now c.requires sev means) (returns-clause-means c)
-
-pub list_probs-requires : goal.list_probs-requires
-list_probs-requires c = c.requires.read

@@ -1,7 +1,5 @@
 -- The count of the unit is the one that is looked at.
-use Rattle.std.proofs.Common.{◌≡◌, ◌∙◌, None, ap, sym, subst}
-use Rattle.dl_amounts.specs.Severity.{severity_in_layer, support}
-use Rattle.dl_types.specs.Exposures.{claims_of, expected_claims}
+use Rattle.dl_types.proofs.Common.{◌≡◌, ◌∙◌, None, ap, sym, subst, severity_in_layer, support, claims_of, expected_claims}
 use Rattle.dl_types.specs.Rules.{zero_mean}
 use Rattle.dl_types.proofs.exposures.expected_claims.Goals as goal
 

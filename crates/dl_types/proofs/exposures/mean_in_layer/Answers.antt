@@ -1,9 +1,6 @@
 -- The mean of what the severity means, which is above 0.
-use Rattle.std.proofs.Common.{◌≡◌, ◌∙◌, sym, subst}
-use Rattle.dl_exact.specs.Fraction.{whole, ◌<ℚ◌}
-use Rattle.dl_plan.specs.Severity.{mean_amount, pairs_of}
-use Rattle.dl_amounts.specs.Severity.{severity_in_layer}
-use Rattle.dl_read.proofs.Nothing.{not_then}
+use Rattle.dl_types.proofs.Common.{◌≡◌, ◌∙◌, sym, subst, whole, ◌<ℚ◌, mean_amount, severity_in_layer, not_then}
+use Rattle.dl_plan.specs.Severity.{pairs_of}
 use Rattle.dl_amounts.proofs.Near.{in_layer_near}
 use Rattle.dl_amounts.proofs.Meaning.{scored_alike, alike_own}
 use Rattle.dl_types.proofs.Exposed.{mean_above}

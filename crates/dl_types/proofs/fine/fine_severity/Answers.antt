@@ -1,6 +1,6 @@
 -- The severity is there, and the other fractions are fine.
-use Rattle.std.proofs.Common.{◌∙◌, sym}
-use Rattle.dl_types.proofs.FineClaims.{coarse_severity, coarse_parts, fine_parts}
+use Rattle.dl_types.proofs.Common.{◌∙◌, sym}
+use Rattle.dl_types.proofs.FineClaims.{coarse_severity, fine_parts}
 use Rattle.dl_types.proofs.fine.fine_severity.Goals as goal
 
 pub final_severity-requires-clause-fine : goal.final_severity-requires-clause-fine
@@ -12,18 +12,10 @@ final_severity-requires-clause-fine c =
       fine = fine_parts c.args.unit.now told.0 (sym c.in_ok-coarse.ensures ∙ c.if-coarse.false);
     }
 
-pub final_severity-requires-clause-layered : goal.final_severity-requires-clause-layered
-final_severity-requires-clause-layered c =
-    let told = rw c.in-Some.is at c.requires.layered in
-    told.1
-
 pub returns-in_default : goal.returns-in_default
 returns-in_default c =
     let told = rw c.in_default.is at c.requires.layered in
     coarse_severity c.args.unit.now told
-
-pub returns-then-coarse : goal.returns-then-coarse
-returns-then-coarse c = coarse_parts c.args.unit.now (sym c.in_ok-coarse.ensures ∙ c.if-coarse.true)
 
 pub returns : goal.returns
 returns c =

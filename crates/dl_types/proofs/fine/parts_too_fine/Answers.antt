@@ -1,5 +1,6 @@
 -- The clauses have small layers.
-use Rattle.dl_amounts.proofs.ClauseGrids.{occ_layered, agr_layered}
+use Rattle.dl_types.proofs.Common.{agr_layered}
+use Rattle.dl_amounts.proofs.ClauseGrids.{occ_layered}
 use Rattle.dl_types.proofs.fine.parts_too_fine.Goals as goal
 
 pub has_shares-requires : goal.has_shares-requires

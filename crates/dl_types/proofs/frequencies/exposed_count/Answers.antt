@@ -1,12 +1,6 @@
 -- No rule is broken, so the numbers are whole and small.
-use Rattle.std.proofs.Common.{◌∙◌, ◌≤◌, sym, ap, subst, arith}
-use Rattle.dl_limits.specs.Limits.{most_claims, most_shape}
-use Rattle.dl_exact.specs.Fraction.{Fraction, ◌/ℚ◌}
-use Rattle.dl_exact.proofs.Parts.{whole_num}
+use Rattle.dl_types.proofs.Common.{◌∙◌, ◌≤◌, sym, ap, subst, arith, most_claims, most_shape, Fraction, ◌/ℚ◌, whole_num, shape_of, IsFreqKept, freq_with}
 use Rattle.dl_plan.specs.declared.plan.Freq.TheVariants as of_plan
-use Rattle.dl_types.specs.Exposures.{shape_of}
-use Rattle.dl_types.specs.Kept.{IsFreqKept}
-use Rattle.dl_types.specs.Plans.{freq_with}
 use Rattle.dl_types.proofs.ExposedCounts.{whole_is, few_is}
 use Rattle.dl_types.proofs.frequencies.exposed_count.Goals as goal
 
@@ -16,9 +10,6 @@ overflow_cast-result c =
     let kept = subst (λ f. IsFreqKept f n) c.in-Fixed.is c.requires in
     let few : n.num ≤ most_claims = few_is most_claims n.num n (whole_is n kept.whole) kept.few in
     omega (arith, few, c.num.ensures.part)
-
-pub trials-requires : goal.trials-requires
-trials-requires c = (subst (λ f. IsFreqKept f c.args.number) c.in-Binomial.is c.requires).whole
 
 pub overflow_cast-result-in-Binomial : goal.overflow_cast-result-in-Binomial
 overflow_cast-result-in-Binomial c =
@@ -32,9 +23,6 @@ returns-in-Binomial c =
     ap (λ k. of_plan.Binomial k c.in-Binomial.chance)
     (sym (whole_num c.trials.result) ∙ ap (λ (x : Fraction). x.num) c.trials.ensures)
     ∙ ap (λ f. freq_with f c.args.number) (sym c.in-Binomial.is)
-
-pub shape-requires : goal.shape-requires
-shape-requires c = (subst (λ f. IsFreqKept f c.args.number) c.in-Gamma.is c.requires).whole
 
 pub overflow_cast-result-in-Gamma : goal.overflow_cast-result-in-Gamma
 overflow_cast-result-in-Gamma c =

@@ -1,19 +1,7 @@
 -- The trials and the shape are those of the text.
-use Rattle.std.proofs.Common.{◌∙◌, ◌||◌, Some, sym, ap, subst}
-use Rattle.dl_limits.specs.Limits.{most_claims, most_shape}
-use Rattle.dl_exact.specs.Fraction.{◌/ℚ◌}
-use Rattle.dl_read.specs.declared.tree.ReadCount.TheVariants.{Exposed}
-use Rattle.dl_types.specs.Exposures.{shape_of}
-use Rattle.dl_types.specs.Kept.{IsWholeFreq}
-use Rattle.dl_types.specs.Rules.{has_too_many_claims, passes}
+use Rattle.dl_types.proofs.Common.{◌∙◌, ◌||◌, Some, sym, ap, most_claims, most_shape, ◌/ℚ◌, Exposed, shape_of, has_too_many_claims, passes}
 use Rattle.dl_types.proofs.ExposedCounts.{passes_whole}
 use Rattle.dl_types.proofs.frequencies.exposed_too_many.Goals as goal
-
-pub trials-requires : goal.trials-requires
-trials-requires c = subst (λ f. IsWholeFreq f c.args.number) c.in-Binomial.is c.requires
-
-pub shape-requires : goal.shape-requires
-shape-requires c = subst (λ f. IsWholeFreq f c.args.number) c.in-Gamma.is c.requires
 
 pub returns-in-Binomial : goal.returns-in-Binomial
 unfolding has_too_many_claims

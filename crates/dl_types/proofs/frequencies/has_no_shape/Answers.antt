@@ -1,5 +1,5 @@
 -- 1 over a square is whole where the first part is 1.
-use Rattle.std.proofs.Common.{◌∙◌, ◌==◌, not, ap}
+use Rattle.dl_types.proofs.Common.{◌∙◌, ◌==◌, not, ap}
 use Rattle.dl_types.proofs.ExposedCounts.{no_shape}
 use Rattle.dl_types.proofs.frequencies.has_no_shape.Goals as goal
 

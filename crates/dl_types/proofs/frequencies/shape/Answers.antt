@@ -1,6 +1,5 @@
 -- The square of the second part.
-use Rattle.std.proofs.Common.{◌∙◌, ◌*◌, refl, ap, ap₂}
-use Rattle.dl_exact.specs.Fraction.{whole}
+use Rattle.dl_types.proofs.Common.{◌∙◌, ◌*◌, refl, ap, ap₂, whole}
 use Rattle.dl_types.proofs.ExposedCounts.{shape_whole}
 use Rattle.dl_types.proofs.frequencies.shape.Goals as goal
 

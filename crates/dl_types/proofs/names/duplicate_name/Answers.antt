@@ -1,6 +1,5 @@
 -- The name is new exactly where no earlier unit has it.
-use Rattle.std.specs.Str.{bytes_eq}
-use Rattle.dl_types.specs.Rules.{duplicate_name}
+use Rattle.dl_types.proofs.Common.{bytes_eq, duplicate_name}
 use Rattle.dl_types.proofs.Naming.{any_named, old_name, new_name, taken_up}
 use Rattle.dl_types.proofs.names.duplicate_name.Goals as goal
 

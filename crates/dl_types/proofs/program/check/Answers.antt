@@ -1,9 +1,6 @@
 -- The seventeenth unit first; then the units in turn.
-use Rattle.std.proofs.Common.{◌∙◌, ◌≤◌, List, length, Err, Ok, ap, refl, sym, subst}
-use Rattle.dl_limits.specs.Limits.{most_units}
-use Rattle.dl_ast.specs.declared.ast.UnitAst.{UnitAst}
-use Rattle.dl_types.specs.Answer.{AnswersUnits}
-use Rattle.dl_types.specs.Rules.{too_many_units}
+use Rattle.dl_types.proofs.Common.{◌∙◌, ◌≤◌, List, length, ap, refl, sym, subst, most_units, UnitAst, AnswersUnits, too_many_units}
+use Rattle.std.proofs.Common.{Err, Ok}
 use Rattle.dl_types.proofs.ProgramUnits.{fault_of_units, fault_of_many, plan_of_units, few_units}
 use Rattle.dl_types.proofs.program.check.Goals as goal
 

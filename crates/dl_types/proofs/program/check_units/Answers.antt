@@ -1,7 +1,7 @@
 -- Each unit adds its own part to the plan.
-use Rattle.std.proofs.Common.{◌∙◌, ◌+◌, sym, subst, List, Ok}
+use Rattle.dl_types.proofs.Common.{◌∙◌, ◌+◌, sym, subst, List, AnswersUnits}
+use Rattle.std.proofs.Common.{Ok}
 use Rattle.dl_plan.specs.declared.plan.Unit.{Unit as UnitOfPlan}
-use Rattle.dl_types.specs.Answer.{AnswersUnits}
 use Rattle.dl_types.proofs.ProgramUnits.{Planned, planned_more, planned_fault, planned_all, names_more}
 use Rattle.dl_types.proofs.program.check_units.Goals as goal
 

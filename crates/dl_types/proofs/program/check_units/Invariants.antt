@@ -1,6 +1,5 @@
 -- The units so far, and their names.
-use Rattle.std.proofs.Common.{◌≡◌, map, take}
-use Rattle.dl_types.specs.UnitNames.{names_of}
+use Rattle.dl_types.proofs.Common.{◌≡◌, map, take, names_of}
 use Rattle.dl_types.proofs.ProgramUnits.{Planned}
 use Rattle.dl_types.proofs.program.check_units.Given as goal
 

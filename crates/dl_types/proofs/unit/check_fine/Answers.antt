@@ -1,9 +1,5 @@
 -- The fractions are fine, and the exposure decides; or the name is the place.
-use Rattle.std.proofs.Common.{◌≡◌, ◌∙◌, sym, ap, ap₂}
-use Rattle.dl_amounts.specs.Severity.{final_severity}
-use Rattle.dl_types.specs.declared.rule.Rule.TheVariants.{TooFine}
-use Rattle.dl_types.specs.Faults.{breaks}
-use Rattle.dl_types.specs.Rules.{too_fine, exposed_too_fine}
+use Rattle.dl_types.proofs.Common.{◌≡◌, ◌∙◌, sym, ap, ap₂, final_severity, TooFine, breaks, too_fine, exposed_too_fine}
 use Rattle.dl_types.proofs.FineClaims.{coarse_place, fine_place}
 use Rattle.dl_types.proofs.UnitFacts.{told_as}
 use Rattle.dl_types.proofs.unit.check_fine.Goals as goal

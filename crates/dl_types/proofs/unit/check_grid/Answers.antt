@@ -1,11 +1,5 @@
 -- Where no rule is broken, the parts of the plan are valid.
-use Rattle.std.proofs.Common.{ℕ, ◌∙◌, sym, ap, subst}
-use Rattle.dl_amounts.proofs.ClauseGrids.{agr_layered}
-use Rattle.dl_types.specs.declared.rule.Rule.TheVariants.{HorizonTooLarge}
-use Rattle.dl_types.specs.Faults.{breaks, fault_of_clauses, fault_of_count}
-use Rattle.dl_types.specs.Kept.{IsCountKept}
-use Rattle.dl_types.specs.Plans.{IsCountMade}
-use Rattle.dl_types.specs.Rules.{horizon_too_large}
+use Rattle.dl_types.proofs.Common.{ℕ, ◌∙◌, sym, ap, subst, agr_layered, HorizonTooLarge, breaks, fault_of_clauses, fault_of_count, IsCountKept, IsCountMade, horizon_too_large}
 use Rattle.dl_types.proofs.UnitFacts.{fine_agr, kept_is, first_told, second_told, third_told, grid_told, grid_answer}
 use Rattle.dl_types.proofs.unit.check_grid.Goals as goal
 

@@ -1,8 +1,5 @@
 -- The clause, where there is one, decides.
-use Rattle.std.proofs.Common.{◌≡◌, ◌∙◌, sym, ap}
-use Rattle.dl_types.specs.declared.rule.Rule.TheVariants.{HorizonTooLarge}
-use Rattle.dl_types.specs.Faults.{breaks}
-use Rattle.dl_types.specs.Rules.{horizon_too_large}
+use Rattle.dl_types.proofs.Common.{◌≡◌, ◌∙◌, sym, ap, HorizonTooLarge, breaks, horizon_too_large}
 use Rattle.dl_types.proofs.UnitFacts.{told_as}
 use Rattle.dl_types.proofs.unit.check_horizon.Goals as goal
 

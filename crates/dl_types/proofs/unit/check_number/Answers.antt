@@ -1,9 +1,6 @@
 -- The rules before the last are not broken.
-use Rattle.std.proofs.Common.{◌≡◌, ◌∙◌, sym, ap, subst}
-use Rattle.dl_types.specs.declared.rule.Rule.TheVariants.{TooFine, TooManyClaims}
-use Rattle.dl_types.specs.Faults.{breaks}
-use Rattle.dl_types.specs.Kept.{IsWholeCount}
-use Rattle.dl_types.specs.Rules.{too_many_claims}
+use Rattle.dl_types.proofs.Common.{◌≡◌, ◌∙◌, sym, ap, subst, TooFine, breaks, IsWholeCount, too_many_claims}
+use Rattle.dl_types.specs.declared.rule.Rule.TheVariants.{TooManyClaims}
 use Rattle.dl_types.proofs.KeptCounts.{AreWhole}
 use Rattle.dl_types.proofs.UnitFacts.{only, told_as, number_last, whole_here, many_place}
 use Rattle.dl_types.proofs.unit.check_number.Goals as goal

@@ -1,11 +1,7 @@
 -- The horizon that is looked at is the clause's.
-use Rattle.std.proofs.Common.{◌≡◌, ◌∙◌, ap}
+use Rattle.dl_types.proofs.Common.{◌≡◌, ◌∙◌, ap, most_cells, Clause, horizon, horizon_is, at_if}
 use Rattle.std.specs.Prelude.{nat_lt, Some}
-use Rattle.dl_limits.specs.Limits.{most_cells}
-use Rattle.dl_plan.specs.Clause.{Clause}
-use Rattle.dl_plan.specs.Horizon.{horizon}
-use Rattle.dl_plan.proofs.Horizons.{same_horizon, horizon_is}
-use Rattle.dl_read.specs.First.{at_if}
+use Rattle.dl_plan.proofs.Horizons.{same_horizon}
 use Rattle.dl_types.proofs.unit.horizon_passes.Goals as goal
 
 pub returns : goal.returns

@@ -1,6 +1,5 @@
 -- The parts cut across are in lowest terms.
-use Rattle.std.proofs.Common.{◌∙◌, ap₂, mul-pos}
-use Rattle.dl_exact.specs.Fraction.{◌over◌}
+use Rattle.dl_types.proofs.Common.{◌∙◌, ap₂, mul-pos, ◌over◌}
 use Rattle.dl_exact.proofs.Parts.{lowest_self, num_pos}
 use Rattle.dl_plan.proofs.Fits.{over_fits, given_ok, given_value}
 use Rattle.dl_types.proofs.Ratios.{quotient_lowest, quotient_value}
@@ -24,13 +23,10 @@ invariant_of-result c =
     let bottoms = given_value _ (c.den.result over c.den-2.result) c.unwrap-down.result c.make-2.ensures
     c.unwrap-down.ensures
     ∙ ap₂ (λ n d. n over d) c.den.ensures.part c.den-2.ensures.part in (
-      mul-pos c.den-3.ensures.positive c.den-4.ensures.positive,
-      (
-        quotient_lowest c.args.x c.args.y c.unwrap-up.result c.unwrap-down.result _ _ _ _
-            (num_pos c.args.y c.requires) tops bottoms
-            c.num-3.ensures.part c.num-4.ensures.part c.den-3.ensures.part c.den-4.ensures.part,
-        tt,
-      ),
+      quotient_lowest c.args.x c.args.y c.unwrap-up.result c.unwrap-down.result _ _ _ _
+          (num_pos c.args.y c.requires) tops bottoms
+          c.num-3.ensures.part c.num-4.ensures.part c.den-3.ensures.part c.den-4.ensures.part,
+      (mul-pos c.den-3.ensures.positive c.den-4.ensures.positive, tt),
     )
 
 pub returns : goal.returns

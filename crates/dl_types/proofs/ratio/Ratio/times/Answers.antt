@@ -1,8 +1,5 @@
 -- Where a part is too fine, the product is not admitted.
-use Rattle.std.proofs.Common.{◌≡◌, ◌∙◌, Some, true, ap, ap₂, sym, subst}
-use Rattle.dl_exact.specs.Fraction.{Fraction, ◌over◌, ◌*ℚ◌, whole}
-use Rattle.dl_frac.specs.Exact.{IsTooFine}
-use Rattle.dl_types.specs.Exposures.{admitted}
+use Rattle.dl_types.proofs.Common.{◌≡◌, ◌∙◌, Some, true, ap, ap₂, sym, subst, Fraction, ◌over◌, ◌*ℚ◌, whole, IsTooFine, admitted}
 use Rattle.dl_types.proofs.Ratios.{first_too_fine, second_too_fine, product_value, too_fine_refused, nothing_left, nothing_right, zero_admitted, above_zero}
 use Rattle.dl_types.proofs.ratio.Ratio.times.Goals as goal
 use Rattle.dl_types.proofs.ratio.Ratio.times.Goals.{then-self-eq0-via-then-self-eq0, then-self-eq0-via-else-self-eq0+then-o-eq0}
