@@ -285,8 +285,10 @@ module _ (a b : ℕ) (amounts : List Item) (bp : 0 < b) (there : 0 < weight_sum 
   pub poisson_first : (n x : ℕ) → n ≡ 0 → (a ^ n * ways (weight_at amounts) n x) over 1 ≡ cell (poisson (a over b))
       (probability_at amounts) x n
   poisson_first n x e =
-      cell_none (poisson (a over b)) (probability_at amounts) x (λ n. a ^ n * ways (weight_at amounts) n x) poisson_below
-      (λ n. b * n * T) poisson_below_pos (λ n h. mul-pos (mul-pos bp h) there) poisson_below_next (λ n. one_number n x) n
+      cell_none (poisson (a over b)) (probability_at amounts) x (λ n. a ^ n * ways (weight_at amounts) n x)
+      poisson_below
+      (λ n. b * n * T) poisson_below_pos (λ n h. mul-pos (mul-pos bp h) there) poisson_below_next (λ n. one_number n x)
+      n
       1 e (poisson_below_none n e)
 
   pub poisson_more : (n x fewer d : ℕ) → 0 < n → d ≡ poisson_below (n - 1)
@@ -294,8 +296,10 @@ module _ (a b : ℕ) (amounts : List Item) (bp : 0 < b) (there : 0 < weight_sum 
       → (fewer * (b * n * T) + a ^ n * ways (weight_at amounts) n x) over (d * (b * n * T)) ≡ cell (poisson (a over b))
       (probability_at amounts) x n
   poisson_more n x =
-      cell_next (poisson (a over b)) (probability_at amounts) x (λ n. a ^ n * ways (weight_at amounts) n x) poisson_below
-      (λ n. b * n * T) poisson_below_pos (λ n h. mul-pos (mul-pos bp h) there) poisson_below_next (λ n. one_number n x) n
+      cell_next (poisson (a over b)) (probability_at amounts) x (λ n. a ^ n * ways (weight_at amounts) n x)
+      poisson_below
+      (λ n. b * n * T) poisson_below_pos (λ n h. mul-pos (mul-pos bp h) there) poisson_below_next (λ n. one_number n x)
+      n
 
 -- ---- gamma sums: r is the shape, a / b the mean, T the weight of the amounts
 

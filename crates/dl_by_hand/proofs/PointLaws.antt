@@ -157,7 +157,8 @@ module _ (counts amounts : List Item) (p : 0 < weight_sum counts) (q : 0 < weigh
   pub point_none : (x n : ℕ) → n ≡ 0 → (weight_at counts n * ways
       (weight_at amounts) n x) over weight_sum counts ≡ cell (probability_at counts) (probability_at amounts) x n
   point_none x n e =
-      cell_none (probability_at counts) (probability_at amounts) x (λ n. weight_at counts n * ways (weight_at amounts) n x)
+      cell_none (probability_at counts) (probability_at amounts) x
+      (λ n. weight_at counts n * ways (weight_at amounts) n x)
       (λ n. weight_sum counts * weight_sum amounts ^ n) (λ n. weight_sum amounts) denominator_pos (λ n h. q)
       denominator_next (one_count x) n (weight_sum counts) e (denominator_none n e)
 
@@ -166,7 +167,8 @@ module _ (counts amounts : List Item) (p : 0 < weight_sum counts) (q : 0 < weigh
       → (a * weight_sum amounts + weight_at counts n * ways (weight_at amounts) n x) over
       (d * weight_sum amounts) ≡ cell (probability_at counts) (probability_at amounts) x n
   point_next x =
-      cell_next (probability_at counts) (probability_at amounts) x (λ n. weight_at counts n * ways (weight_at amounts) n x)
+      cell_next (probability_at counts) (probability_at amounts) x
+      (λ n. weight_at counts n * ways (weight_at amounts) n x)
       (λ n. weight_sum counts * weight_sum amounts ^ n) (λ n. weight_sum amounts) denominator_pos (λ n h. q)
       denominator_next (one_count x)
 

@@ -5,6 +5,4 @@
 #![tactic(auto)]
 
 pub mod listed;
-#[cfg(test)]
-mod tests;
 pub mod unbounded;

@@ -1,19 +1,5 @@
 -- Counts added up: exact counts and trials.
-use Rattle.std.proofs.Common.{◌≡◌, inl, inr, ℕ, suc, zero, ◌+◌, ◌-◌, ◌*◌, ◌^◌, ◌<◌, ◌≤◌, arith, refl, sym, ap, ap₂, ◌∙◌, ne_eqb, eq-eqb, mul-pos, pow-suc}
-use mathlib.Core.Path.{fun_ext}
-use Rattle.std.proofs.Math.Nat.{one-le-pow, pow-zero}
-use Rattle.std.proofs.lemmas.Bool.{cases_lt, cases_eq}
-use Rattle.dl_exact.specs.Fraction.{Fraction, ◌over◌, ◌+ℚ◌, ◌*ℚ◌, whole}
-use Rattle.dl_exact.specs.Power.{choose}
-use Rattle.dl_exact.specs.Sum.{sum_to, sum_pairs}
-use Rattle.dl_exact.proofs.Over.{over_same, over_mul}
-use Rattle.dl_exact.proofs.Laws.{one_pos, zero_times, zero_plus, plus_zero, one_times}
-use Rattle.dl_exact.proofs.Sums.{sum_pairs_same, sum_pairs_none}
-use Rattle.dl_model.specs.Compound.{convolve, at_zero, power}
-use Rattle.dl_model.specs.Program.{where_true}
-use Rattle.dl_model.specs.Counts.{fixed, binomial}
-use Rattle.dl_model.specs.Severity.{IsSeverity}
-use Rattle.dl_exact.proofs.Denominators.{over_plus}
+use Rattle.dl_model.proofs.Common.{◌≡◌, inl, inr, ℕ, suc, zero, ◌+◌, ◌-◌, ◌*◌, ◌^◌, ◌<◌, ◌≤◌, arith, refl, sym, ap, ap₂, ◌∙◌, ne_eqb, eq-eqb, mul-pos, pow-suc, fun_ext, one-le-pow, pow-zero, cases_lt, cases_eq, Fraction, ◌over◌, ◌+ℚ◌, ◌*ℚ◌, whole, choose, sum_to, sum_pairs, over_same, over_mul, one_pos, zero_times, zero_plus, plus_zero, one_times, sum_pairs_same, sum_pairs_none, convolve, at_zero, power, where_true, fixed, binomial, IsSeverity, over_plus}
 
 -- at most one claim
 module _ (h : ℕ → Fraction) (few : (i : ℕ) → h (suc (suc i)) ≡ whole 0) (g : ℕ → Fraction) where

@@ -1,12 +1,7 @@
 -- Series with the same bounds.
-use Rattle.std.proofs.Common.{inl, inr, ℕ, ◌+◌, max, refl, sym, ap, ap₂, subst, subst₂, ◌∙◌}
-use Rattle.std.proofs.Math.Nat.{le-max_left, le-max_right}
-use Rattle.dl_exact.specs.Fraction.{Fraction, ◌over◌, ◌+ℚ◌, ◌*ℚ◌, ◌/ℚ◌, ◌≤ℚ◌, ◌<ℚ◌, whole}
-use Rattle.dl_exact.specs.Sum.{sum_to}
-use Rattle.dl_model.specs.Series.{Series, IsBound, AtMost, AtLeast, Below, Rises, plus, times, SameBounds, SameValue}
-use Rattle.dl_model.specs.Compound.{convolve}
-use Rattle.dl_model.specs.Family.{Family, SameCells, Encloses}
-use Rattle.dl_exact.proofs.Laws.{lt_not_le, ring, times_comm, le_refl, le_trans, lt_or_le, zero_le, plus_le_both, plus_times, times_left_comm, times_plus, one_times, lt_gap, times_le_cancel, le_div, div_times, times_pos, lt_of_le_of_lt, div_pos, times_le_both}
+use Rattle.dl_model.proofs.Common.{inl, inr, ℕ, ◌+◌, max, refl, sym, ap, ap₂, subst, subst₂, ◌∙◌, le-max_left, le-max_right, Fraction, ◌over◌, ◌+ℚ◌, ◌*ℚ◌, ◌/ℚ◌, ◌≤ℚ◌, ◌<ℚ◌, whole, sum_to, Series, IsBound, AtMost, AtLeast, Below, Rises, plus, times, SameValue, convolve, Family, SameCells, Encloses, lt_not_le, ring, times_comm, le_refl, le_trans, lt_or_le, zero_le, plus_le_both, plus_times, times_left_comm, times_plus, one_times, lt_gap, times_le_cancel, le_div, div_times, times_pos, div_pos, times_le_both}
+use Rattle.dl_model.specs.Series.{SameBounds}
+use Rattle.dl_exact.proofs.Laws.{lt_of_le_of_lt}
 use Rattle.dl_model.proofs.Declared.{rises_to, at_most_times, at_least_times}
 use Rattle.dl_model.proofs.Complements.{no_descent}
 use Rattle.dl_model.proofs.Cauchy.{cauchy_low, cauchy_high}

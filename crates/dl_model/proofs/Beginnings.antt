@@ -1,17 +1,5 @@
 -- The grids that powers begin from, and counts of no loss.
-use Rattle.std.proofs.Common.{◌≡◌, ℕ, suc, zero, ◌+◌, ◌-◌, ◌<◌, ◌≤◌, arith, sym, ap, ap₂, subst, subst₂, ◌∙◌, mul-le-mul_right}
-use Rattle.std.proofs.Math.Nat.{zero-lt-suc}
-use mathlib.Core.Path.{fun_ext}
-use Rattle.dl_exact.specs.Fraction.{Fraction, ◌over◌, ◌+ℚ◌, ◌*ℚ◌, ◌/ℚ◌, ◌<ℚ◌, whole}
-use Rattle.dl_exact.specs.Power.{◌^ℚ◌, choose}
-use Rattle.dl_exact.specs.Sum.{sum_to}
-use Rattle.dl_exact.proofs.Over.{over_le}
-use Rattle.dl_exact.proofs.Laws.{zero_times, times_zero, whole_pos, times_cancel, div_times, lt_of_lt_of_le, le_plus}
-use Rattle.dl_model.specs.Series.{SameValue}
-use Rattle.dl_model.specs.Compound.{at_zero, power, cell}
-use Rattle.dl_model.specs.Severity.{IsPositivePart}
-use Rattle.dl_model.specs.Counts.{fixed, binomial, poisson, gamma, gamma_of}
-use Rattle.dl_model.specs.Family.{Family, compound, nothing, times_itself, SameCells, Encloses}
+use Rattle.dl_model.proofs.Common.{◌≡◌, ℕ, suc, zero, ◌+◌, ◌-◌, ◌<◌, ◌≤◌, arith, sym, ap, ap₂, subst, subst₂, ◌∙◌, mul-le-mul_right, zero-lt-suc, fun_ext, Fraction, ◌over◌, ◌+ℚ◌, ◌*ℚ◌, ◌/ℚ◌, ◌<ℚ◌, whole, ◌^ℚ◌, choose, sum_to, over_le, zero_times, times_zero, whole_pos, times_cancel, div_times, lt_of_lt_of_le, le_plus, SameValue, at_zero, power, cell, IsPositivePart, fixed, binomial, poisson, gamma, gamma_of, Family, compound, nothing, times_itself, SameCells, Encloses}
 use Rattle.dl_model.proofs.Declared.{at_least_wider, at_most_wider}
 use Rattle.dl_model.proofs.Alike.{value_sym}
 use Rattle.dl_model.proofs.CompoundLaws.{sum_at_zero}

@@ -1,21 +1,11 @@
 -- Every quantity of declared units is bounded, their whole weight is somewhere above 0, and their probabilities add up
 -- to 1.
-use Rattle.std.proofs.Common.{◌≡◌, inl, inr, ℕ, zero, ◌+◌, ◌-◌, ◌*◌, ◌≤◌, max, Bool, true, false, nat_eq, nat_lt, nat_le, arith, sym, ap, subst, ◌∙◌, List, [], ◌∷◌}
-use Rattle.std.specs.Prelude.{sum, get_or}
-use Rattle.std.proofs.Math.Nat.{le-max_left, le-max_right, le_refl as le_refl_n}
-use Rattle.std.proofs.lemmas.Bool.{cases_eq, le-ltb}
-use Rattle.dl_exact.specs.Fraction.{Fraction, ◌+ℚ◌, ◌-ℚ◌, ◌*ℚ◌, ◌/ℚ◌, ◌≤ℚ◌, ◌<ℚ◌, whole}
-use Rattle.dl_exact.specs.Sum.{sum_to}
-use Rattle.dl_exact.proofs.Laws.{ring, plus_comm, zero_plus, times_zero, times_one, one_times, whole_pos, one_pos, le_refl, le_trans, le_of_eq, zero_le, le_plus, plus_le_both, times_pos, lt_of_lt_of_le, times_le_both}
-use Rattle.dl_exact.proofs.RoundingLaws.{whole_le}
-use Rattle.dl_exact.proofs.Sums.{sum_to_same, sum_to_times, sum_to_swap, sum_to_le, sum_to_zero}
+use Rattle.dl_model.proofs.Common.{◌≡◌, inl, inr, ℕ, zero, ◌+◌, ◌-◌, ◌*◌, ◌≤◌, max, Bool, true, false, nat_eq, nat_lt, nat_le, arith, sym, ap, subst, ◌∙◌, List, [], ◌∷◌, sum, get_or, le-max_left, le-max_right, cases_eq, le-ltb, Fraction, ◌+ℚ◌, ◌-ℚ◌, ◌*ℚ◌, ◌/ℚ◌, ◌≤ℚ◌, ◌<ℚ◌, whole, sum_to, ring, plus_comm, zero_plus, times_zero, times_one, one_times, whole_pos, one_pos, le_refl, le_trans, le_of_eq, zero_le, le_plus, plus_le_both, times_pos, lt_of_lt_of_le, times_le_both, whole_le, sum_to_same, sum_to_times, sum_to_swap, sum_to_le, sum_to_zero, IsBound, AtLeast, Settles, times, cell, layer, Aggregate, IsDeclarable, AreDeclarable, One, Point, Cdf, Mean, Layer, Tail, Joint, where_true, outcome, score, sum_over_outcomes, partial_sums, survival, AreDeclared}
+use Rattle.std.proofs.Math.Nat.{le_refl as le_refl_n}
 use Rattle.dl_exact.proofs.Lists.{item_le_total}
-use Rattle.dl_model.specs.Series.{IsBound, AtLeast, Settles, times}
-use Rattle.dl_model.specs.Compound.{cell}
-use Rattle.dl_plan.specs.Clause.{layer}
 use Rattle.dl_plan.proofs.Clauses.{layer_le}
-use Rattle.dl_model.specs.Program.{Aggregate, IsDeclarable, AreDeclarable, Quantity, One, Point, Cdf, Mean, Layer, Tail, Joint, where_true, outcome, score, sum_over_outcomes, partial_sums}
-use Rattle.dl_model.specs.Measures.{survival, AreDeclared, IsAsked}
+use Rattle.dl_model.specs.Program.{Quantity}
+use Rattle.dl_model.specs.Measures.{IsAsked}
 use Rattle.dl_model.proofs.Declared.{rises_to}
 use Rattle.dl_model.proofs.FamilyLaws.{sum_rises_to}
 use Rattle.dl_model.proofs.UnitLaws.{on, off, passed}

@@ -1,14 +1,8 @@
 -- A bracket holds each quantile, and there is at most one.
-use Rattle.std.proofs.Common.{◌≡◌, inl, inr, ℕ, ◌-◌, ◌≤◌, arith, sym, subst₂, List}
-use Rattle.std.specs.Prelude.{Option, Some, None}
-use Rattle.std.proofs.lemmas.Bool.{cases_lt}
+use Rattle.dl_model.proofs.Common.{◌≡◌, inl, inr, ℕ, ◌-◌, ◌≤◌, arith, sym, subst₂, List, Some, None, cases_lt, Fraction, whole, ◌≤ℚ◌, ◌<ℚ◌, le_trans, sum_to_grows, IsBound, AtLeast, Below, Aggregate, AreDeclarable, One, Cdf, score, partial_sums, IsQuantile}
+use Rattle.std.specs.Prelude.{Option}
 use Rattle.std.proofs.lemmas.Option.{none-some}
-use Rattle.dl_exact.specs.Fraction.{Fraction, whole, ◌≤ℚ◌, ◌<ℚ◌}
-use Rattle.dl_exact.proofs.Laws.{le_trans}
-use Rattle.dl_exact.proofs.Sums.{sum_to_grows}
-use Rattle.dl_model.specs.Series.{IsBound, AtLeast, Below}
-use Rattle.dl_model.specs.Program.{Aggregate, AreDeclarable, One, Cdf, score, partial_sums}
-use Rattle.dl_model.specs.Measures.{IsQuantile, IsBracketed}
+use Rattle.dl_model.specs.Measures.{IsBracketed}
 use Rattle.dl_model.proofs.Alike.{not_both}
 use Rattle.dl_model.proofs.Outcomes.{outcomes_rise}
 use Rattle.dl_model.proofs.Scores.{cdf_points}

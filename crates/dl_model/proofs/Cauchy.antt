@@ -1,10 +1,5 @@
 -- Sums over all i + j up to n, against the product of two sums up to n.
-use Rattle.std.proofs.Common.{◌≡◌, ℕ, suc, zero, ◌+◌, ◌≤◌, arith, sym, ap, subst, subst₂, ◌∙◌, suc-add, zero-add}
-use Rattle.dl_exact.specs.Fraction.{Fraction, ◌+ℚ◌, ◌*ℚ◌, ◌≤ℚ◌}
-use Rattle.dl_exact.specs.Sum.{sum_to, sum_pairs}
-use Rattle.dl_model.specs.Compound.{convolve}
-use Rattle.dl_exact.proofs.Laws.{ring, plus_assoc, le_refl, plus_le_both, le_plus}
-use Rattle.dl_exact.proofs.Sums.{sum_to_le, sum_to_grows, sum_to_first, sum_to_product}
+use Rattle.dl_model.proofs.Common.{◌≡◌, ℕ, suc, zero, ◌+◌, ◌≤◌, arith, sym, ap, subst, subst₂, ◌∙◌, suc-add, zero-add, Fraction, ◌+ℚ◌, ◌*ℚ◌, ◌≤ℚ◌, sum_to, sum_pairs, convolve, ring, plus_assoc, le_refl, plus_le_both, le_plus, sum_to_le, sum_to_grows, sum_to_first, sum_to_product}
 
 -- the row i = 0 apart
 pub triangle_first : (n : ℕ) (h : ℕ → ℕ → Fraction)

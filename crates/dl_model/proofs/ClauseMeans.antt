@@ -1,31 +1,12 @@
 -- The mean of a unit after its aggregate clause, from the layers of the sum of its claims.
-use Rattle.std.proofs.Common.{◌≡◌, inl, inr, ℕ, ◌*◌, ◌/◌, List, [], ◌∷◌, ◌++◌, Bool, true, false, Option, Some, None, arith, refl, sym, ap, ap₂, subst, subst₂, ◌∙◌}
-use Rattle.std.specs.Prelude.{sum, if◌then◌else◌, IfSome, All}
-use mathlib.Core.Path.{fun_ext}
-use Prim.Native.Nat.{◌∣◌}
-use Rattle.std.proofs.Math.Decide.{dec_dvd}
-use Rattle.std.proofs.Math.Nat.{div-one, dvd-mul_left}
-use Rattle.std.proofs.lemmas.List.Elements.{All-head, All-tail}
-use Rattle.dl_exact.specs.Fraction.{Fraction, whole, ◌over◌, ◌+ℚ◌, ◌-ℚ◌, ◌*ℚ◌, ◌≤ℚ◌}
-use Rattle.dl_exact.specs.Sum.{sum_to, sum_over}
-use Rattle.dl_exact.proofs.Over.{over_self}
-use Rattle.dl_exact.proofs.Laws.{plus_assoc, plus_comm, plus_zero, zero_plus, times_comm, times_zero, zero_times, le_refl, le_trans, le_of_lt, lt_or_le, le_plus, zero_le, sub_plus, sub_nothing}
-use Rattle.dl_exact.proofs.Sums.{sum_to_same}
+use Rattle.dl_model.proofs.Common.{◌≡◌, inl, inr, ℕ, ◌*◌, ◌/◌, List, [], ◌∷◌, ◌++◌, Bool, true, false, Option, arith, refl, sym, ap, ap₂, subst, subst₂, ◌∙◌, sum, if◌then◌else◌, IfSome, All, fun_ext, ◌∣◌, dec_dvd, div-one, dvd-mul_left, All-head, All-tail, Fraction, whole, ◌over◌, ◌+ℚ◌, ◌-ℚ◌, ◌*ℚ◌, ◌≤ℚ◌, sum_to, sum_over, over_self, plus_assoc, plus_comm, plus_zero, zero_plus, times_comm, times_zero, zero_times, le_refl, le_trans, le_of_lt, lt_or_le, le_plus, zero_le, sub_plus, sum_to_same, Sev, common_amount, greatest, probability_of, pairs_of, mean_amount, Clause, layer, kept, expected_count, IsAggregate, IsValidUnit, AtMost, AtLeast, Holds, plus, cell, Aggregate, IsDeclarable, AreDeclarable, One, Mean, Layer, score, sum_over_outcomes, partial_sums, total, Encloses, IsDeclared, count_weights, outcome_after, aggregate_of, compound_of}
+use Rattle.std.proofs.Common.{Some, None}
+use Rattle.dl_exact.proofs.Laws.{sub_nothing}
 use Rattle.dl_plan.specs.declared.cede.CedeLayer.{CedeLayer}
-use Rattle.dl_plan.specs.declared.severity.Sev.{Sev}
 use Rattle.dl_plan.specs.declared.plan.Unit.{Unit as UnitOfPlan}
 use Rattle.dl_plan.specs.Fine.{IsWhole}
-use Rattle.dl_plan.specs.Weighted.{common_amount, greatest}
-use Rattle.dl_plan.specs.Severity.{probability_of, pairs_of, mean_amount}
-use Rattle.dl_plan.specs.Clause.{Clause, layer, ceded, kept}
-use Rattle.dl_plan.specs.Count.{expected_count}
-use Rattle.dl_plan.specs.Valid.{IsAggregate, IsValidUnit}
-use Rattle.dl_model.specs.Series.{AtMost, AtLeast, Holds, plus}
-use Rattle.dl_model.specs.Compound.{cell}
-use Rattle.dl_model.specs.Program.{Aggregate, IsDeclarable, AreDeclarable, One, Mean, Layer, score, sum_over_outcomes, partial_sums}
-use Rattle.dl_model.specs.Family.{total, Encloses}
-use Rattle.dl_model.specs.Measures.{IsDeclared}
-use Rattle.dl_model.specs.Plans.{count_weights, outcome_after, aggregate_of, claims_of, compound_of, mean_ceded}
+use Rattle.dl_plan.specs.Clause.{ceded}
+use Rattle.dl_model.specs.Plans.{claims_of, mean_ceded}
 use Rattle.dl_model.proofs.Declared.{at_most_plus, at_least_plus, at_most_wider, scaled}
 use Rattle.dl_model.proofs.Minus.{at_least_minus, at_most_minus}
 use Rattle.dl_model.proofs.UnitLaws.{unit_plain}

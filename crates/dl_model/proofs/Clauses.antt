@@ -1,19 +1,7 @@
 -- A unit after its aggregate clause, from a grid of the sums before it.
-use Rattle.std.proofs.Common.{◌≡◌, inl, inr, ℕ, suc, ◌+◌, ◌-◌, ◌*◌, ◌<◌, ◌≤◌, min, Bool, true, false, nat_eq, arith, refl, sym, ap, ap₂, subst, subst₂, ◌∙◌, ne_eqb, eq-eqb}
-use Rattle.std.specs.Prelude.{if◌then◌else◌}
-use mathlib.Core.Path.{fun_ext}
-use Rattle.std.proofs.Math.Nat.{min-eq_left, min-eq_right}
-use Rattle.std.proofs.lemmas.Bool.{cases_lt}
-use Rattle.dl_exact.specs.Fraction.{Fraction, whole, ◌over◌, ◌+ℚ◌, ◌*ℚ◌, ◌≤ℚ◌}
-use Rattle.dl_exact.specs.Sum.{sum_to}
-use Rattle.dl_exact.proofs.Over.{over_same}
-use Rattle.dl_exact.proofs.Laws.{one_pos, plus_zero, zero_plus, plus_comm, zero_times, one_times, le_refl, le_trans, le_plus, zero_le}
-use Rattle.dl_exact.proofs.Sums.{sum_to_same, sum_to_plus, sum_to_longer, sum_to_either}
-use Rattle.dl_model.specs.Series.{Series, IsBound, Rises, AtMost, AtLeast, Holds}
-use Rattle.dl_model.specs.Compound.{cell}
+use Rattle.dl_model.proofs.Common.{◌≡◌, inl, inr, ℕ, suc, ◌+◌, ◌-◌, ◌*◌, ◌<◌, ◌≤◌, min, Bool, true, false, nat_eq, arith, refl, sym, ap, ap₂, subst, subst₂, ◌∙◌, ne_eqb, eq-eqb, if◌then◌else◌, fun_ext, min-eq_right, cases_lt, Fraction, whole, ◌over◌, ◌+ℚ◌, ◌*ℚ◌, ◌≤ℚ◌, sum_to, over_same, one_pos, plus_zero, zero_plus, plus_comm, zero_times, one_times, le_refl, le_trans, le_plus, zero_le, sum_to_same, sum_to_plus, sum_to_longer, sum_to_either, Series, IsBound, Rises, AtMost, AtLeast, Holds, cell, Aggregate, IsDeclarable, where_true, outcome, compound, mapped, Encloses}
+use Rattle.std.proofs.Math.Nat.{min-eq_left}
 use Rattle.dl_exact.specs.Count.{count_below}
-use Rattle.dl_model.specs.Program.{Aggregate, IsDeclarable, where_true, outcome}
-use Rattle.dl_model.specs.Family.{compound, mapped, Encloses}
 use Rattle.dl_model.proofs.Complements.{at_least_rest, at_most_rest}
 use Rattle.dl_model.proofs.CompoundLaws.{cell_past, cells_all}
 use Rattle.dl_model.proofs.FamilyLaws.{sum_rises_to, cell_at_most_one}

@@ -1,8 +1,6 @@
 -- Complements: where Q and Q' add up to R, the declared values add up to 1.
-use Rattle.std.proofs.Common.{◌≡◌, inl, inr, ℕ, suc, zero, sym, ap, subst, subst₂, ◌∙◌}
-use Rattle.dl_exact.specs.Fraction.{Fraction, ◌+ℚ◌, ◌-ℚ◌, ◌*ℚ◌, ◌≤ℚ◌, ◌<ℚ◌, whole}
-use Rattle.dl_model.specs.Series.{Series, IsBound, AtMost, AtLeast, Rises, plus}
-use Rattle.dl_exact.proofs.Laws.{ring, plus_comm, times_comm, zero_plus, zero_times, le_refl, le_trans, le_of_eq, lt_or_le, lt_not_le, zero_le, plus_le_plus, plus_le_both, le_plus, times_le_times, plus_times, plus_assoc, one_times, whole_suc, archimedes, lt_gap, plus_le_cancel, times_le_cancel, zero_or_pos, le_sub, sub_plus, times_le_both}
+use Rattle.dl_model.proofs.Common.{◌≡◌, inl, inr, ℕ, suc, zero, sym, ap, subst, subst₂, ◌∙◌, Fraction, ◌+ℚ◌, ◌-ℚ◌, ◌*ℚ◌, ◌≤ℚ◌, ◌<ℚ◌, whole, Series, IsBound, AtMost, AtLeast, Rises, plus, ring, plus_comm, times_comm, zero_plus, zero_times, le_refl, le_trans, le_of_eq, lt_or_le, lt_not_le, zero_le, plus_le_both, le_plus, times_le_times, plus_times, plus_assoc, one_times, whole_suc, archimedes, lt_gap, plus_le_cancel, times_le_cancel, zero_or_pos, le_sub, sub_plus, times_le_both}
+use Rattle.dl_exact.proofs.Laws.{plus_le_plus}
 use Rattle.dl_model.proofs.Declared.{at_least_shifted, crossed_plus}
 
 -- what can be lowered by d again and again is not there

@@ -1,14 +1,6 @@
 -- Sums of a number of claims: what they can come to, and that their probabilities add up to 1.
-use Rattle.std.proofs.Common.{ℕ, ◌≡◌, ◌+◌, ◌*◌, ◌<◌, ◌≤◌, zero, suc, arith, refl, ap, ap₂, subst, subst₂, ◌∙◌, inl, inr}
+use Rattle.dl_model.proofs.Common.{ℕ, ◌≡◌, ◌+◌, ◌*◌, ◌<◌, ◌≤◌, zero, suc, arith, refl, ap, ap₂, subst, subst₂, ◌∙◌, inl, inr, le_ind, cases_lt, Fraction, whole, ◌+ℚ◌, ◌*ℚ◌, ◌≤ℚ◌, sum_to, sum_pairs, plus_zero, zero_times, times_zero, times_one, le_trans, le_of_eq, le_antisymm, times_le_both, sum_to_same, sum_to_times, sum_to_swap, sum_to_grows, sum_pairs_same, sum_to_zero, sum_to_longer, sum_pairs_none, at_zero, power, cell, IsWithinOne, IsSeverity}
 use Rattle.std.proofs.Math.Nat.{mul-le-mul_right}
-use native.Mathlib.Decide.{le_ind}
-use Rattle.std.proofs.lemmas.Bool.{cases_lt}
-use Rattle.dl_exact.specs.Fraction.{Fraction, whole, ◌+ℚ◌, ◌*ℚ◌, ◌≤ℚ◌}
-use Rattle.dl_exact.specs.Sum.{sum_to, sum_pairs}
-use Rattle.dl_exact.proofs.Laws.{plus_zero, zero_times, times_zero, times_one, le_trans, le_of_eq, le_antisymm, times_le_both}
-use Rattle.dl_exact.proofs.Sums.{sum_to_same, sum_to_times, sum_to_swap, sum_to_grows, sum_pairs_same, sum_to_zero, sum_to_longer, sum_pairs_none}
-use Rattle.dl_model.specs.Compound.{at_zero, power, cell}
-use Rattle.dl_model.specs.Severity.{IsWithinOne, IsSeverity}
 use Rattle.dl_model.proofs.Cauchy.{cauchy_low, cauchy_high}
 
 pub sum_at_zero : (y : ℕ) → sum_to y at_zero ≡ whole 1

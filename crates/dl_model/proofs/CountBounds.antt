@@ -1,18 +1,5 @@
 -- The counts that can be declared: finite counts, trials, Poisson and gamma counts.
-use Rattle.std.proofs.Math.Nat.{zero-lt-suc}
-use Rattle.std.proofs.Common.{◌≡◌, ℕ, List, suc, zero, ◌+◌, ◌*◌, ◌<◌, ◌≤◌, arith, sym, ap, ap₂, subst, ◌∙◌}
-use Rattle.dl_exact.specs.Fraction.{Fraction, ◌+ℚ◌, ◌*ℚ◌, ◌/ℚ◌, ◌≤ℚ◌, ◌<ℚ◌, whole}
-use Rattle.dl_exact.specs.Power.{◌^ℚ◌}
-use Rattle.dl_exact.specs.Sum.{sum_to}
-use Rattle.dl_exact.proofs.Laws.{plus_comm, div_pos, one_pos, ring, times_assoc, zero_times, zero_plus, times_one, whole_pos, le_refl, zero_le, le_plus, div_times, times_zero, times_le_both}
-use Rattle.dl_exact.proofs.Sums.{sum_to_same, sum_to_first, sum_to_times}
-use Rattle.dl_model.specs.Series.{IsBound}
-use Rattle.dl_model.specs.Compound.{power}
-use Rattle.dl_model.specs.Severity.{IsSeverity}
-use Rattle.dl_plan.specs.declared.item.Item.{Item}
-use Rattle.dl_plan.specs.Weighted.{weight_sum, greatest}
-use Rattle.dl_model.specs.Listed.{probability_at}
-use Rattle.dl_model.specs.Counts.{fixed, binomial, poisson, gamma, gamma_of, AreCountWeights}
+use Rattle.dl_model.proofs.Common.{zero-lt-suc, ◌≡◌, ℕ, List, suc, zero, ◌+◌, ◌*◌, ◌<◌, ◌≤◌, arith, sym, ap, ap₂, subst, ◌∙◌, Fraction, ◌+ℚ◌, ◌*ℚ◌, ◌/ℚ◌, ◌≤ℚ◌, ◌<ℚ◌, whole, ◌^ℚ◌, sum_to, plus_comm, div_pos, one_pos, ring, times_assoc, zero_times, zero_plus, times_one, whole_pos, le_refl, zero_le, le_plus, div_times, times_zero, times_le_both, sum_to_same, sum_to_first, sum_to_times, IsBound, power, IsSeverity, Item, weight_sum, greatest, probability_at, fixed, binomial, poisson, gamma, gamma_of, AreCountWeights}
 use Rattle.dl_model.proofs.FiniteCounts.{bounded_by_all, fixed_sum}
 use Rattle.dl_model.proofs.CompoundLaws.{power_severity}
 use Rattle.dl_model.proofs.ListedLaws.{listed_severity}

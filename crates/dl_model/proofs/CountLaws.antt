@@ -1,14 +1,6 @@
 -- The weighted ways of a number of claims.
-use Rattle.std.proofs.Common.{◌≡◌, ℕ, suc, zero, ◌*◌, ◌^◌, ◌<◌, ◌≤◌, arith, ap, subst, ◌∙◌, mul-pos, pow-suc}
-use Rattle.std.proofs.Math.Nat.{one-le-pow, zero-lt-suc, pow-zero}
-use Rattle.dl_exact.specs.Fraction.{◌over◌, ◌*ℚ◌, ◌≤ℚ◌, whole}
-use Rattle.dl_exact.proofs.Over.{over_same, over_mul, le_over}
-use Rattle.dl_exact.proofs.Laws.{one_pos, le_trans}
-use Rattle.dl_exact.proofs.Sums.{sum_pairs_same, item_le_sum}
+use Rattle.dl_model.proofs.Common.{◌≡◌, ℕ, suc, zero, ◌*◌, ◌^◌, ◌<◌, ◌≤◌, arith, ap, subst, ◌∙◌, mul-pos, pow-suc, one-le-pow, zero-lt-suc, pow-zero, ◌over◌, ◌*ℚ◌, ◌≤ℚ◌, whole, over_same, over_mul, le_over, one_pos, le_trans, sum_pairs_same, item_le_sum, at_zero, power, IsWithinOne, count_pairs}
 use Rattle.dl_exact.proofs.SumsOver.{sum_pairs_over}
-use Rattle.dl_model.specs.Compound.{at_zero, power}
-use Rattle.dl_model.specs.Severity.{IsWithinOne}
-use Rattle.dl_exact.specs.Count.{count_pairs}
 use Rattle.dl_model.specs.Ways.{ways}
 use Rattle.dl_model.proofs.CompoundLaws.{power_within_one}
 

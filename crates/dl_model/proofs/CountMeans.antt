@@ -1,15 +1,6 @@
 -- The expected numbers of claims.
-use Rattle.std.proofs.Common.{◌≡◌, inl, inr, ℕ, suc, zero, ◌*◌, ◌<◌, ◌≤◌, max, nat_eq, Bool, true, false, refl, sym, ap, ap₂, subst, subst₂, ◌∙◌}
-use Rattle.std.proofs.Math.Nat.{zero-lt-suc, le-max_left, le-max_right, le_refl as le_refl_n}
-use Rattle.dl_exact.specs.Fraction.{Fraction, ◌over◌, ◌+ℚ◌, ◌-ℚ◌, ◌*ℚ◌, ◌/ℚ◌, ◌≤ℚ◌, ◌<ℚ◌, whole}
-use Rattle.dl_exact.specs.Sum.{sum_to}
-use Rattle.dl_exact.proofs.Laws.{ring, plus_comm, times_comm, times_assoc, zero_times, times_zero, zero_plus, times_one, one_times, plus_times, times_plus, le_refl, le_trans, le_of_eq, zero_le, le_plus, lt_or_le, lt_gap, plus_le_both, plus_le_cancel, zero_or_pos, times_le_cancel, div_times, div_pos, times_pos, sub_plus, le_sub, whole_plus, whole_pos, times_cancel, lt_of_lt_of_le, times_le_both}
-use Rattle.dl_exact.proofs.Sums.{sum_to_same, sum_to_first, sum_to_times, sum_to_plus}
-use Rattle.dl_model.specs.Series.{Series, IsBound, Holds, Rises}
-use Rattle.dl_model.specs.Severity.{IsSeverity}
-use Rattle.dl_model.specs.Compound.{power}
-use Rattle.dl_model.specs.Program.{where_true}
-use Rattle.dl_model.specs.Counts.{fixed, binomial, poisson, gamma_of}
+use Rattle.dl_model.proofs.Common.{◌≡◌, inl, inr, ℕ, suc, zero, ◌*◌, ◌<◌, ◌≤◌, max, nat_eq, Bool, true, false, refl, sym, ap, ap₂, subst, subst₂, ◌∙◌, zero-lt-suc, le-max_left, le-max_right, Fraction, ◌over◌, ◌+ℚ◌, ◌-ℚ◌, ◌*ℚ◌, ◌/ℚ◌, ◌≤ℚ◌, ◌<ℚ◌, whole, sum_to, ring, plus_comm, times_comm, times_assoc, zero_times, times_zero, zero_plus, times_one, one_times, plus_times, times_plus, le_refl, le_trans, le_of_eq, zero_le, le_plus, lt_or_le, lt_gap, plus_le_both, plus_le_cancel, zero_or_pos, times_le_cancel, div_times, div_pos, times_pos, sub_plus, le_sub, whole_plus, whole_pos, times_cancel, lt_of_lt_of_le, times_le_both, sum_to_same, sum_to_first, sum_to_times, sum_to_plus, Series, IsBound, Holds, Rises, IsSeverity, power, where_true, fixed, binomial, poisson, gamma_of}
+use Rattle.std.proofs.Math.Nat.{le_refl as le_refl_n}
 use Rattle.dl_model.proofs.Picks.{pick}
 use Rattle.dl_model.proofs.CompoundLaws.{power_severity}
 use Rattle.dl_model.proofs.AddedCounts.{fixed_past, binomial_power, trial, one_trial_one}

@@ -1,10 +1,6 @@
 -- The laws of declared values.
-use Rattle.std.proofs.Common.{◌≡◌, inl, inr, ℕ, zero, ◌≤◌, max, sym, ap, subst, subst₂, ◌∙◌}
-use Rattle.std.proofs.Math.Nat.{le-max_left, le-max_right}
-use native.Mathlib.Decide.{le_ind}
-use Rattle.dl_exact.specs.Fraction.{Fraction, ◌+ℚ◌, ◌-ℚ◌, ◌*ℚ◌, ◌/ℚ◌, ◌≤ℚ◌, ◌<ℚ◌, whole}
-use Rattle.dl_model.specs.Series.{Series, IsBound, AtMost, AtLeast, Holds, Rises, plus, times}
-use Rattle.dl_exact.proofs.Laws.{ring, plus_comm, times_comm, times_assoc, times_zero, zero_times, le_refl, le_trans, zero_le, plus_le_both, le_plus, times_le_times, plus_times, div_times, zero_or_pos, le_div, le_sub, plus_le_from_sub, one_times, times_cancel, times_le_cancel, times_le_both}
+use Rattle.dl_model.proofs.Common.{◌≡◌, inl, inr, ℕ, zero, ◌≤◌, max, sym, ap, subst, subst₂, ◌∙◌, le-max_left, le-max_right, le_ind, Fraction, ◌+ℚ◌, ◌-ℚ◌, ◌*ℚ◌, ◌/ℚ◌, ◌≤ℚ◌, ◌<ℚ◌, whole, Series, IsBound, AtMost, AtLeast, Holds, Rises, plus, times, ring, plus_comm, times_comm, times_assoc, times_zero, zero_times, le_refl, le_trans, zero_le, plus_le_both, le_plus, times_le_times, plus_times, div_times, zero_or_pos, le_div, le_sub, one_times, times_cancel, times_le_cancel, times_le_both}
+use Rattle.dl_exact.proofs.Laws.{plus_le_from_sub}
 
 -- ---- a rising series
 

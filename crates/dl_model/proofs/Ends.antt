@@ -1,13 +1,5 @@
 -- Sums of values over one series, the distribution and what is above it, and the layer without a limit.
-use Rattle.std.proofs.Common.{◌≡◌, ℕ, suc, zero, ◌<◌, ◌≤◌, arith, sym, subst, ◌∙◌, List}
-use Rattle.std.specs.Prelude.{Some, None}
-use mathlib.Core.Path.{fun_ext}
-use Rattle.dl_exact.specs.Fraction.{Fraction, whole, ◌+ℚ◌, ◌≤ℚ◌}
-use Rattle.dl_exact.specs.Sum.{sum_to, sum_below}
-use Rattle.dl_exact.proofs.Laws.{le_refl, le_trans, zero_le, zero_times, one_times, plus_comm, plus_le_both, le_plus}
-use Rattle.dl_model.specs.Series.{Series, IsBound, Rises, AtMost, AtLeast, Holds, plus}
-use Rattle.dl_model.specs.Program.{Aggregate, AreDeclarable, One, Cdf, Layer, Mean, score, partial_sums}
-use Rattle.dl_model.specs.Measures.{above, survival}
+use Rattle.dl_model.proofs.Common.{◌≡◌, ℕ, suc, zero, ◌<◌, ◌≤◌, arith, sym, subst, ◌∙◌, List, Some, None, fun_ext, Fraction, whole, ◌+ℚ◌, ◌≤ℚ◌, sum_to, sum_below, le_refl, le_trans, zero_le, zero_times, one_times, plus_comm, plus_le_both, le_plus, Series, IsBound, Rises, AtMost, AtLeast, Holds, plus, Aggregate, AreDeclarable, One, Cdf, Layer, Mean, score, partial_sums, above, survival}
 use Rattle.dl_model.proofs.Declared.{at_most_plus, at_least_plus, at_most_wider, at_least_wider}
 use Rattle.dl_model.proofs.Complements.{at_least_rest, at_most_rest}
 use Rattle.dl_model.proofs.Minus.{at_least_minus, at_most_minus}

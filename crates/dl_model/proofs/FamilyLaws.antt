@@ -1,30 +1,15 @@
 -- A convolution with outward rounding encloses the product of families, and powers of families.
-use Rattle.std.proofs.Common.{◌≡◌, ◌⊎◌, ℕ, suc, zero, ◌+◌, ◌*◌, ◌/◌, ◌^◌, ◌<◌, ◌≤◌, List, length, min, arith, refl, sym, ap, subst, subst₂, ◌∙◌, mul-pos, inl, inr, div-mul-le_self, mul-le-mul_right}
-use mathlib.Core.Path.{fun_ext}
-use Rattle.std.proofs.Math.Nat.{min-eq_right}
-use Rattle.std.proofs.lemmas.Bool.{cases_lt}
-use Rattle.std.proofs.lemmas.Nat.{pow_pos}
+use Rattle.dl_model.proofs.Common.{◌≡◌, ℕ, suc, zero, ◌+◌, ◌*◌, ◌/◌, ◌^◌, ◌<◌, ◌≤◌, List, length, min, arith, refl, sym, ap, subst, subst₂, ◌∙◌, mul-pos, inl, inr, mul-le-mul_right, fun_ext, min-eq_right, cases_lt, pow_pos, Fraction, whole, ◌over◌, ◌*ℚ◌, ◌≤ℚ◌, ◌^ℚ◌, sum_to, sum_pairs, over_le, one_pos, le_refl, le_trans, le_of_eq, plus_le_both, le_plus, one_times, times_one, times_le_both, sum_to_same, sum_to_le, sum_to_times, sum_to_swap, item_le_sum, Series, Rises, AtMost, AtLeast, Holds, times, at_zero, power, IsWithinOne, count_pairs, Family, compound, product, nothing, times_itself, IsProper, Encloses, pairs_in_units, pow_plus}
+use Rattle.std.proofs.Common.{◌⊎◌, div-mul-le_self}
 use Rattle.std.proofs.lemmas.Grind.{div_ceil_times}
 use Rattle.std.specs.Int.{div_ceil}
-use Rattle.dl_exact.specs.Fraction.{Fraction, whole, ◌over◌, ◌*ℚ◌, ◌≤ℚ◌}
-use Rattle.dl_exact.specs.Power.{◌^ℚ◌}
-use Rattle.dl_exact.specs.Sum.{sum_to, sum_pairs}
-use Rattle.dl_exact.proofs.Over.{over_le}
-use Rattle.dl_exact.proofs.Laws.{one_pos, le_refl, le_trans, le_of_eq, plus_le_both, le_plus, one_times, times_one, times_le_both}
-use Rattle.dl_exact.proofs.Sums.{sum_to_same, sum_to_le, sum_to_times, sum_to_swap, item_le_sum}
 use Rattle.dl_iv.specs.declared.interval.Iv.{Iv}
 use Rattle.dl_grid.specs.Cells.{low_at, high_at}
 use Rattle.dl_grid.specs.Convolution.{IsConvolution}
-use Rattle.dl_model.specs.Series.{Series, Rises, AtMost, AtLeast, Holds, times}
-use Rattle.dl_model.specs.Compound.{at_zero, power}
-use Rattle.dl_model.specs.Severity.{IsWithinOne}
-use Rattle.dl_exact.specs.Count.{count_pairs}
-use Rattle.dl_model.specs.Family.{Family, compound, product, nothing, times_itself, IsProper, Encloses, GridEncloses}
+use Rattle.dl_model.specs.Family.{GridEncloses}
 use Rattle.dl_model.proofs.Declared.{at_most_plus, at_least_plus, at_most_times, at_least_times, at_most_wider, at_least_wider}
 use Rattle.dl_model.proofs.Cauchy.{cauchy_low}
 use Rattle.dl_model.proofs.CompoundLaws.{sum_at_zero, power_within_one}
-use Rattle.dl_exact.proofs.SumsOver.{pairs_in_units}
-use Rattle.dl_exact.proofs.Powers.{pow_plus}
 use Rattle.dl_model.proofs.Powers.{power_plus, at_zero_convolve, convolve_comm}
 
 -- a sum of rising series over one R

@@ -1,17 +1,10 @@
 -- Counts of finitely many claims: their compound sums stand at one level.
-use Rattle.std.proofs.Common.{◌≡◌, inl, inr, ℕ, suc, zero, ◌<◌, ◌≤◌, nat_eq, arith, refl, ap, subst, subst₂, ◌∙◌}
-use Rattle.std.specs.Prelude.{Bool, true, false}
-use Rattle.std.proofs.lemmas.Bool.{cases_lt}
-use Rattle.dl_exact.specs.Fraction.{Fraction, ◌over◌, ◌*ℚ◌, ◌≤ℚ◌, whole}
-use Rattle.dl_exact.specs.Sum.{sum_to}
-use Rattle.dl_exact.proofs.Over.{over_le}
-use Rattle.dl_exact.proofs.Laws.{one_pos, le_refl, le_trans, le_of_eq, zero_le, times_one, one_times, zero_times, times_le_both}
-use Rattle.dl_exact.proofs.Sums.{sum_to_same, sum_to_grows, sum_to_longer}
-use Rattle.dl_model.specs.Series.{Series, IsBound, Holds}
-use Rattle.dl_model.specs.Compound.{at_zero, power, cell}
-use Rattle.dl_model.specs.Program.{where_true}
-use Rattle.dl_model.specs.Counts.{fixed}
-use Rattle.dl_model.specs.Family.{compound, nothing, Encloses}
+use Rattle.dl_model.proofs.Common.{◌≡◌, inl, inr, ℕ, suc, zero, ◌<◌, ◌≤◌, nat_eq, arith, refl, ap, subst, subst₂, ◌∙◌, cases_lt, Fraction, ◌over◌, ◌*ℚ◌, ◌≤ℚ◌, whole, sum_to, over_le, one_pos, le_refl, le_trans, le_of_eq, zero_le, times_one, one_times, zero_times, times_le_both, sum_to_same, sum_to_grows, sum_to_longer, Series, IsBound, Holds, at_zero, power, cell, where_true, fixed, compound, nothing, Encloses}
+use Rattle.std.specs.Prelude.{Bool, true, false, List, length, ◌^◌}
+use Rattle.std.proofs.lemmas.Nat.{pow_pos}
+use Rattle.dl_iv.specs.declared.interval.Iv.{Iv}
+use Rattle.dl_grid.specs.Cells.{low_at, high_at, all_at_zero}
+use Rattle.dl_model.specs.Family.{GridEncloses}
 use Rattle.dl_model.proofs.Picks.{pick, pick_none}
 use Rattle.dl_model.proofs.Powers.{convolve_comm, at_zero_convolve}
 
@@ -58,6 +51,19 @@ nothing_encloses S K lo hi pos low high none zero b =
 nothing_encloses S K lo hi pos low high none (suc y) b =
     holds_reached (λ N. whole 0) (λ N. whole 1) (whole 0) _ _ 0 refl (λ N. le_refl _) refl (λ N. le_refl _)
     (over_le _ _ 0 1 pos one_pos (omega (arith, none (suc y) (omega arith)))) (zero_le _)
+
+-- a grid with the whole weight at 0
+pub all_at_zero_encloses : {B : ℕ} (g : List (Iv B)) → ((x : ℕ) → low_at g x ≡ all_at_zero (2 ^ B) x)
+    → ((x : ℕ) → high_at g x ≡ all_at_zero (2 ^ B) x) → GridEncloses g nothing
+unfolding all_at_zero
+all_at_zero_encloses {B} g low high =
+    nothing_encloses (2 ^ B) (length g) (low_at g) (high_at g) (pow_pos B) (omega (arith, low 0))
+    (omega (arith, high 0))
+    above
+  where
+    above : (y : ℕ) → 0 < y → low_at g y ≡ 0
+    above zero h = absurd (omega arith)
+    above (suc y) h = low (suc y)
 
 -- ---- exactly m claims
 

@@ -1,15 +1,7 @@
 -- Gamma counts: their weights, sums and powers.
-use Rattle.std.proofs.Common.{◌≡◌, ℕ, suc, zero, ◌+◌, ◌-◌, ◌*◌, arith, refl, sym, ap, ap₂, subst, subst₂, ◌∙◌}
-use Rattle.std.proofs.Math.Nat.{zero-lt-suc, eq_of_mul-eq-mul_left}
-use mathlib.Core.Path.{fun_ext}
-use Rattle.dl_exact.specs.Fraction.{Fraction, ◌+ℚ◌, ◌*ℚ◌, ◌≤ℚ◌, ◌<ℚ◌, whole}
-use Rattle.dl_exact.specs.Sum.{sum_to, sum_pairs}
-use Rattle.dl_model.specs.Series.{times, IsLeastBound}
-use Rattle.dl_model.specs.Compound.{convolve, at_zero, power}
-use Rattle.dl_model.specs.Counts.{gamma}
-use Rattle.dl_exact.specs.Power.{choose, ◌^ℚ◌}
-use Rattle.dl_exact.proofs.Laws.{ring, plus_comm, times_comm, times_assoc, times_left_comm, plus_times, one_times, times_one, whole_plus, whole_times, whole_pos, times_cancel, le_refl, le_plus, plus_le_both, times_le_cancel, times_le_times, times_le_both}
-use Rattle.dl_exact.proofs.Sums.{sum_to_same, sum_to_first, sum_to_times, sum_pairs_same, sum_pairs_times, sum_pairs_plus, sum_pairs_weighed}
+use Rattle.dl_model.proofs.Common.{◌≡◌, ℕ, suc, zero, ◌+◌, ◌-◌, ◌*◌, arith, refl, sym, ap, ap₂, subst, subst₂, ◌∙◌, zero-lt-suc, fun_ext, Fraction, ◌+ℚ◌, ◌*ℚ◌, ◌≤ℚ◌, ◌<ℚ◌, whole, sum_to, sum_pairs, times, IsLeastBound, convolve, at_zero, power, gamma, choose, ◌^ℚ◌, ring, plus_comm, times_comm, times_assoc, times_left_comm, plus_times, one_times, times_one, whole_plus, whole_pos, times_cancel, le_refl, le_plus, plus_le_both, times_le_cancel, times_le_times, times_le_both, sum_to_same, sum_to_first, sum_to_times, sum_pairs_same, sum_pairs_times, sum_pairs_plus, sum_pairs_weighed}
+use Rattle.std.proofs.Math.Nat.{eq_of_mul-eq-mul_left}
+use Rattle.dl_exact.proofs.Laws.{whole_times}
 use Rattle.dl_model.proofs.Powers.{at_zero_convolve, convolve_comm}
 use Rattle.dl_model.proofs.FamilyLaws.{sum_rises_to}
 use Rattle.dl_model.proofs.Complements.{at_most_rest}

@@ -1,19 +1,6 @@
 -- Claims of amount 0 left out of a gamma count.
-use Rattle.std.proofs.Common.{◌≡◌, inl, inr, ℕ, suc, zero, ◌+◌, ◌<◌, arith, sym, ap, ap₂, subst, ◌∙◌}
-use Rattle.std.proofs.Math.Nat.{zero-lt-suc}
-use Rattle.std.proofs.lemmas.Bool.{cases_lt}
-use mathlib.Core.Path.{fun_ext}
-use Rattle.dl_exact.specs.Fraction.{Fraction, ◌+ℚ◌, ◌*ℚ◌, ◌/ℚ◌, ◌≤ℚ◌, ◌<ℚ◌, whole}
-use Rattle.dl_exact.specs.Sum.{sum_to, sum_pairs}
-use Rattle.dl_model.specs.Series.{Series, IsLeastBound, SameValue}
-use Rattle.dl_model.specs.Compound.{power, cell}
-use Rattle.dl_model.specs.Counts.{gamma, gamma_of}
-use Rattle.dl_exact.specs.Power.{choose, ◌^ℚ◌}
-use Rattle.dl_model.specs.Severity.{IsPositivePart}
-use Rattle.dl_model.specs.Family.{compound, times_itself}
-use Rattle.dl_exact.proofs.Laws.{ring, plus_comm, times_comm, times_assoc, times_left_comm, plus_zero, times_zero, plus_times, times_plus, one_times, times_one, whole_pos, times_cancel, le_trans, le_of_eq, le_plus, times_pos, lt_of_lt_of_le, plus_cancel, div_times, div_pos}
-use Rattle.dl_exact.proofs.Sums.{sum_to_same, sum_to_times, sum_to_times_right, sum_to_grows, sum_pairs_turn}
-use Rattle.dl_exact.proofs.Powers.{pow_plus, pow_times, pow_pos}
+use Rattle.dl_model.proofs.Common.{◌≡◌, inl, inr, ℕ, suc, zero, ◌+◌, ◌<◌, arith, sym, ap, ap₂, subst, ◌∙◌, zero-lt-suc, cases_lt, fun_ext, Fraction, ◌+ℚ◌, ◌*ℚ◌, ◌/ℚ◌, ◌≤ℚ◌, ◌<ℚ◌, whole, sum_to, sum_pairs, Series, IsLeastBound, SameValue, power, cell, gamma, gamma_of, choose, ◌^ℚ◌, IsPositivePart, compound, times_itself, ring, plus_comm, times_comm, times_assoc, times_left_comm, plus_zero, times_zero, plus_times, times_plus, one_times, times_one, whole_pos, times_cancel, le_trans, le_of_eq, le_plus, times_pos, lt_of_lt_of_le, plus_cancel, div_times, div_pos, sum_to_same, sum_to_times, sum_to_times_right, sum_to_grows, sum_pairs_turn, pow_plus}
+use Rattle.dl_exact.proofs.Powers.{pow_times, pow_pos}
 use Rattle.dl_model.proofs.FamilyLaws.{sum_rises_to}
 use Rattle.dl_model.proofs.Cauchy.{triangle_le_square, square_le_triangle}
 use Rattle.dl_model.proofs.CompoundLaws.{no_power}

@@ -1,16 +1,8 @@
 -- Horner's rule: a compound sum by one convolution for each count, the greatest first.
-use Rattle.std.proofs.Common.{◌≡◌, ℕ, suc, zero, ◌+◌, ◌*◌, ◌<◌, ◌≤◌, arith, refl, sym, ap, ap₂, subst, ◌∙◌, mul-pos, mul-le-mul_right, ne_eqb}
-use Rattle.std.specs.Prelude.{if◌then◌else◌, ◌==◌}
+use Rattle.dl_model.proofs.Common.{◌≡◌, ℕ, suc, zero, ◌+◌, ◌*◌, ◌<◌, ◌≤◌, arith, refl, sym, ap, ap₂, subst, ◌∙◌, mul-pos, mul-le-mul_right, ne_eqb, if◌then◌else◌, ◌==◌, Fraction, ◌over◌, ◌+ℚ◌, ◌*ℚ◌, ◌≤ℚ◌, whole, sum_to, sum_pairs, over_le, one_pos, times_left_comm, times_one, times_zero, le_trans, le_of_eq, zero_le, plus_le_both, times_le_both, sum_to_same, sum_to_first, sum_to_times, sum_pairs_same, sum_pairs_times, sum_pairs_sum_to, count_pairs, over_plus, pairs_in_units, convolve, at_zero, power, cell}
 use Rattle.std.proofs.Math.Nat.{add-zero, zero-add}
-use Rattle.dl_exact.specs.Fraction.{Fraction, ◌over◌, ◌+ℚ◌, ◌*ℚ◌, ◌≤ℚ◌, whole}
-use Rattle.dl_exact.specs.Sum.{sum_to, sum_pairs}
-use Rattle.dl_exact.proofs.Over.{over_le}
-use Rattle.dl_exact.proofs.Laws.{one_pos, times_left_comm, times_one, times_zero, le_trans, le_of_eq, zero_le, plus_le_both, times_le_both}
-use Rattle.dl_exact.proofs.Sums.{sum_to_same, sum_to_first, sum_to_times, sum_pairs_same, sum_pairs_times, sum_pairs_sum_to, sum_pairs_le}
-use Rattle.dl_exact.specs.Count.{count_pairs}
-use Rattle.dl_exact.proofs.Denominators.{over_plus}
-use Rattle.dl_exact.proofs.SumsOver.{pairs_in_units}
-use Rattle.dl_model.specs.Compound.{convolve, at_zero, power, cell, cell_from}
+use Rattle.dl_exact.proofs.Sums.{sum_pairs_le}
+use Rattle.dl_model.specs.Compound.{cell_from}
 
 module _ (w f : ℕ → Fraction) where
   -- the greatest count

@@ -1,23 +1,10 @@
 -- The probabilities of a plan's items, and their mean.
-use Rattle.std.proofs.Common.{ℕ, ◌≡◌, ◌*◌, ◌<◌, ◌≤◌, List, [], ◌∷◌, nat_eq, arith, refl, sym, ap, ap₂, subst, inl, inr, ◌∙◌}
-use mathlib.Core.Path.{fun_ext}
-use Rattle.std.proofs.lemmas.Bool.{cases_eq, eq-eqb, ne_eqb}
+use Rattle.dl_model.proofs.Common.{ℕ, ◌≡◌, ◌*◌, ◌<◌, ◌≤◌, List, [], ◌∷◌, nat_eq, arith, refl, sym, ap, ap₂, subst, inl, inr, ◌∙◌, fun_ext, cases_eq, sum_by-cons, whole, ◌over◌, ◌+ℚ◌, ◌*ℚ◌, sum_to, times_zero, times_plus, sum_to_same, sum_to_plus, sum_to_zero, Item, Sev, weight_at, weight_sum, greatest, probability_of, pairs_of, mean_amount, over_zero, over_plus, total_pos, IsSeverity, probability_at, where_true}
+use Rattle.std.proofs.lemmas.Bool.{eq-eqb, ne_eqb}
 use Rattle.std.proofs.Math.Nat.{le_refl as le_refl_n}
-use Rattle.std.proofs.lemmas.List.Sums.{sum_by-cons}
-use Rattle.dl_exact.specs.Fraction.{whole, ◌over◌, ◌+ℚ◌, ◌*ℚ◌}
-use Rattle.dl_exact.specs.Sum.{sum_to}
-use Rattle.dl_exact.proofs.Laws.{times_zero, times_plus}
-use Rattle.dl_exact.proofs.Sums.{sum_to_same, sum_to_plus, sum_to_zero}
-use Rattle.dl_plan.specs.declared.item.Item.{Item}
-use Rattle.dl_plan.specs.declared.severity.Sev.{Sev}
-use Rattle.dl_plan.specs.Weighted.{weight_at, weight_sum, weighted_sum, IsWeighted, greatest}
-use Rattle.dl_plan.specs.Severity.{probability_of, pairs_of, mean_amount}
-use Rattle.dl_exact.proofs.Denominators.{over_zero, over_plus, over_times}
+use Rattle.dl_plan.specs.Weighted.{weighted_sum, IsWeighted}
+use Rattle.dl_exact.proofs.Denominators.{over_times}
 use Rattle.dl_plan.proofs.Shares.{mean-shares}
-use Rattle.dl_plan.proofs.Means.{total_pos}
-use Rattle.dl_model.specs.Severity.{IsSeverity}
-use Rattle.dl_model.specs.Listed.{probability_at}
-use Rattle.dl_model.specs.Program.{where_true}
 use Rattle.dl_model.proofs.UnitLaws.{on, off, passed}
 use Rattle.dl_model.proofs.WeightLaws.{part_of}
 use Rattle.dl_model.proofs.ListedLaws.{listed_severity}

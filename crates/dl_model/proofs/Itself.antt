@@ -1,13 +1,5 @@
 -- A compound sum taken n times is the compound sum of the n-th power of its count weights.
-use Rattle.std.proofs.Common.{◌≡◌, ℕ, suc, zero, ◌+◌, arith, sym, ap, ap₂, subst₂, ◌∙◌}
-use Rattle.dl_exact.specs.Fraction.{Fraction, ◌+ℚ◌, ◌*ℚ◌, ◌≤ℚ◌, whole}
-use Rattle.dl_exact.specs.Power.{◌^ℚ◌}
-use Rattle.dl_exact.specs.Sum.{sum_to, sum_pairs}
-use Rattle.dl_model.specs.Series.{Series, Rises, times, SameValue}
-use Rattle.dl_model.specs.Compound.{convolve, at_zero, power, cell}
-use Rattle.dl_model.specs.Family.{compound, product, times_itself}
-use Rattle.dl_exact.proofs.Laws.{ring, le_refl, le_of_eq, plus_zero, zero_times, one_times, times_one}
-use Rattle.dl_exact.proofs.Sums.{sum_to_same, sum_pairs_same, sum_to_product, sum_pairs_sum_to, sum_pairs_times, sum_pairs_times_right}
+use Rattle.dl_model.proofs.Common.{◌≡◌, ℕ, suc, zero, ◌+◌, arith, sym, ap, ap₂, subst₂, ◌∙◌, Fraction, ◌+ℚ◌, ◌*ℚ◌, ◌≤ℚ◌, whole, ◌^ℚ◌, sum_to, sum_pairs, Series, Rises, times, SameValue, convolve, at_zero, power, cell, compound, product, times_itself, ring, le_refl, le_of_eq, plus_zero, zero_times, one_times, times_one, sum_to_same, sum_pairs_same, sum_to_product, sum_pairs_sum_to, sum_pairs_times, sum_pairs_times_right}
 use Rattle.dl_model.proofs.Cauchy.{triangle_le_square, square_le_triangle, cauchy_low, cauchy_high}
 use Rattle.dl_model.proofs.Powers.{power_plus}
 use Rattle.dl_model.proofs.Alike.{IsUnder, under_self, under_trans, under_plus, under_times, same_value}

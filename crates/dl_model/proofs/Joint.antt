@@ -1,12 +1,5 @@
 -- The joint mean by the outcomes of one unit and of the others.
-use Rattle.std.proofs.Common.{◌≡◌, ℕ, suc, zero, ◌<◌, Bool, true, false, nat_eq, arith, sym, ap, ◌∙◌, List, [], ◌∷◌, length}
-use Rattle.std.specs.Prelude.{sum, get_or}
-use Rattle.dl_exact.specs.Fraction.{Fraction, ◌*ℚ◌, whole}
-use Rattle.dl_exact.specs.Sum.{sum_pairs}
-use Rattle.dl_exact.proofs.Laws.{ring, times_zero, times_one, times_left_comm}
-use Rattle.dl_exact.proofs.Sums.{sum_pairs_same, sum_pairs_times, sum_pairs_assoc, sum_pairs_turn}
-use Rattle.dl_model.specs.Program.{Aggregate, AreDeclarable, Point, Joint, where_true, outcome, score, sum_over_outcomes, partial_sums}
-use Rattle.dl_model.specs.Measures.{unit_of, without}
+use Rattle.dl_model.proofs.Common.{◌≡◌, ℕ, suc, zero, ◌<◌, Bool, true, false, nat_eq, arith, sym, ap, ◌∙◌, List, [], ◌∷◌, length, sum, get_or, Fraction, ◌*ℚ◌, whole, sum_pairs, ring, times_zero, times_one, times_left_comm, sum_pairs_same, sum_pairs_times, sum_pairs_assoc, sum_pairs_turn, Aggregate, AreDeclarable, Point, Joint, where_true, outcome, score, sum_over_outcomes, partial_sums, unit_of, without}
 use Rattle.dl_model.proofs.Outcomes.{outcomes_same, outcomes_times, first_unit, total_more}
 
 out : (b : Bool) (k : Fraction) → where_true b k ≡ k *ℚ where_true b (whole 1)

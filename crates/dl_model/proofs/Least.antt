@@ -1,10 +1,6 @@
 -- Series whose least upper bound is a fraction.
-use Rattle.std.proofs.Common.{◌≡◌, ◌↔◌, ℕ, suc, zero, sym, subst, subst₂}
-use mathlib.Core.Path.{fun_ext}
-use Rattle.dl_exact.specs.Fraction.{Fraction, ◌+ℚ◌, ◌*ℚ◌, ◌≤ℚ◌, ◌<ℚ◌, whole}
-use Rattle.dl_exact.specs.Sum.{sum_to}
-use Rattle.dl_model.specs.Series.{Series, AtMost, AtLeast, Holds, Rises, plus, times, SameValue, IsLeastBound}
-use Rattle.dl_exact.proofs.Laws.{ring, times_comm, le_refl, le_trans, plus_le_both, times_le_times, times_one, times_le_cancel, times_le_both}
+use Rattle.dl_model.proofs.Common.{◌≡◌, ℕ, suc, zero, sym, subst, subst₂, fun_ext, Fraction, ◌+ℚ◌, ◌*ℚ◌, ◌≤ℚ◌, ◌<ℚ◌, whole, sum_to, Series, AtMost, AtLeast, Holds, Rises, plus, times, SameValue, IsLeastBound, ring, times_comm, le_refl, le_trans, plus_le_both, times_le_times, times_one, times_le_cancel, times_le_both}
+use Rattle.std.proofs.Common.{◌↔◌}
 use Rattle.dl_model.proofs.Declared.{at_most_times, at_least_times, at_most_plus, at_least_plus}
 use Rattle.dl_model.proofs.Alike.{IsUnder, bound_from}
 

@@ -1,3 +1,4 @@
+mod Common
 pub mod Declared
 pub mod Complements
 pub mod Minus

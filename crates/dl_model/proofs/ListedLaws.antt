@@ -1,19 +1,8 @@
 -- One unit without an aggregate clause, and what encloses its probability where its counts and amounts are listed.
-use Rattle.std.proofs.Common.{ℕ, ◌≡◌, ◌+◌, ◌*◌, ◌<◌, nat_eq, List, sym, ap, ap₂, ◌∙◌, [], ◌∷◌, inl, inr}
+use Rattle.dl_model.proofs.Common.{ℕ, ◌≡◌, ◌+◌, ◌*◌, ◌<◌, nat_eq, List, sym, ap, ap₂, ◌∙◌, [], ◌∷◌, inl, inr, cases_lt, Fraction, whole, ◌+ℚ◌, ◌*ℚ◌, ◌≤ℚ◌, sum_to, le_trans, le_of_eq, times_one, times_zero, one_times, zero_times, zero_plus, sum_to_same, Holds, power, cell, IsSeverity, Item, weight_sum, greatest, probability_at, equally_likely, One, Point, where_true, outcome, sum_over_outcomes, partial_sums}
 use Rattle.std.specs.Prelude.{Bool, true, false}
 use Rattle.std.proofs.Math.Nat.{zero-add, le_refl as le_refl_n}
-use Rattle.std.proofs.lemmas.Bool.{cases_lt}
-use Rattle.dl_exact.specs.Fraction.{Fraction, whole, ◌+ℚ◌, ◌*ℚ◌, ◌≤ℚ◌}
-use Rattle.dl_exact.specs.Sum.{sum_to}
-use Rattle.dl_exact.proofs.Laws.{le_trans, le_of_eq, times_one, times_zero, one_times, zero_times, zero_plus}
-use Rattle.dl_exact.proofs.Sums.{sum_to_same}
-use Rattle.dl_model.specs.Series.{Holds}
-use Rattle.dl_model.specs.Compound.{power, cell}
-use Rattle.dl_model.specs.Severity.{IsSeverity}
-use Rattle.dl_plan.specs.declared.item.Item.{Item}
-use Rattle.dl_plan.specs.Weighted.{weight_sum, greatest}
-use Rattle.dl_model.specs.Listed.{probability_at, equally_likely}
-use Rattle.dl_model.specs.Program.{One, Point, where_true, outcome, sum_over_outcomes, partial_sums, plain, listed_aggregate}
+use Rattle.dl_model.specs.Program.{plain, listed_aggregate}
 use Rattle.dl_model.proofs.Picks.{pick, pick_none}
 use Rattle.dl_model.proofs.CompoundLaws.{cell_past, cells_all}
 use Rattle.dl_model.proofs.FiniteCounts.{holds_reached, bounded_by_all, power_one}

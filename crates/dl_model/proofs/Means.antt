@@ -1,15 +1,6 @@
 -- Means: of a compound sum, of a total, and of the counts.
-use Rattle.std.proofs.Common.{◌≡◌, ℕ, suc, zero, ◌+◌, ◌*◌, ◌<◌, ◌≤◌, arith, sym, ap, ap₂, subst, subst₂, ◌∙◌, mul-le-mul_right, List, [], ◌∷◌}
+use Rattle.dl_model.proofs.Common.{◌≡◌, ℕ, suc, zero, ◌+◌, ◌*◌, ◌<◌, ◌≤◌, arith, sym, ap, ap₂, subst, subst₂, ◌∙◌, mul-le-mul_right, List, [], ◌∷◌, fun_ext, Fraction, ◌+ℚ◌, ◌*ℚ◌, ◌≤ℚ◌, whole, sum_to, ring, times_left_comm, times_zero, zero_times, times_one, one_times, plus_zero, le_trans, le_antisymm, sum_to_same, sum_to_times, sum_to_swap, sum_to_grows, sum_to_product, sum_to_longer, sum_to_zero, Series, Rises, Holds, plus, times, convolve, at_zero, power, cell, IsSeverity, Aggregate, IsDeclarable, AreDeclarable, One, Mean, score, outcome, sum_over_outcomes, partial_sums}
 use Rattle.std.proofs.Math.Nat.{le_refl as le_refl_n}
-use mathlib.Core.Path.{fun_ext}
-use Rattle.dl_exact.specs.Fraction.{Fraction, ◌+ℚ◌, ◌*ℚ◌, ◌≤ℚ◌, whole}
-use Rattle.dl_exact.specs.Sum.{sum_to}
-use Rattle.dl_exact.proofs.Laws.{ring, times_left_comm, times_zero, zero_times, times_one, one_times, plus_zero, le_trans, le_antisymm}
-use Rattle.dl_exact.proofs.Sums.{sum_to_same, sum_to_times, sum_to_swap, sum_to_grows, sum_to_product, sum_to_longer, sum_to_zero}
-use Rattle.dl_model.specs.Series.{Series, Rises, Holds, plus, times}
-use Rattle.dl_model.specs.Compound.{convolve, at_zero, power, cell}
-use Rattle.dl_model.specs.Severity.{IsSeverity}
-use Rattle.dl_model.specs.Program.{Aggregate, IsDeclarable, AreDeclarable, One, Mean, score, outcome, sum_over_outcomes, partial_sums}
 use Rattle.dl_model.proofs.Declared.{self_holds, at_least_plus, at_most_plus, at_least_times, at_most_times, scaled}
 use Rattle.dl_model.proofs.Cauchy.{cauchy_low, square_le_triangle}
 use Rattle.dl_model.proofs.Powers.{power_tilt}

@@ -1,9 +1,5 @@
 -- The declared value of one of two parts, from those of the whole and of the other part.
-use Rattle.std.proofs.Common.{◌≡◌, inl, inr, ℕ, zero, max, sym, ap, subst, subst₂, ◌∙◌}
-use Rattle.std.proofs.Math.Nat.{le-max_left, le-max_right}
-use Rattle.dl_exact.specs.Fraction.{Fraction, ◌+ℚ◌, ◌-ℚ◌, ◌*ℚ◌, ◌/ℚ◌, ◌≤ℚ◌, ◌<ℚ◌, whole}
-use Rattle.dl_model.specs.Series.{Series, IsBound, AtMost, AtLeast, Rises, plus}
-use Rattle.dl_exact.proofs.Laws.{ring, plus_comm, times_comm, plus_zero, zero_times, le_refl, le_trans, le_of_eq, lt_or_le, lt_not_le, plus_le_both, le_plus, plus_times, lt_gap, plus_le_cancel, times_le_cancel, zero_or_pos, le_sub, sub_plus, div_times, div_pos, times_le_both}
+use Rattle.dl_model.proofs.Common.{◌≡◌, inl, inr, ℕ, zero, max, sym, ap, subst, subst₂, ◌∙◌, le-max_left, le-max_right, Fraction, ◌+ℚ◌, ◌-ℚ◌, ◌*ℚ◌, ◌/ℚ◌, ◌≤ℚ◌, ◌<ℚ◌, whole, Series, IsBound, AtMost, AtLeast, Rises, plus, ring, plus_comm, times_comm, plus_zero, zero_times, le_refl, le_trans, le_of_eq, lt_or_le, lt_not_le, plus_le_both, le_plus, plus_times, lt_gap, plus_le_cancel, times_le_cancel, zero_or_pos, le_sub, sub_plus, div_times, div_pos, times_le_both}
 use Rattle.dl_model.proofs.Declared.{at_least_shifted, crossed_plus, rises_to}
 use Rattle.dl_model.proofs.Complements.{no_descent}
 

@@ -1,26 +1,12 @@
 -- Sums of claims stand at multiples of the common divisor of the amounts, and what a clause makes of them.
-use Rattle.std.proofs.Common.{ℕ, zero, suc, ◌≡◌, ◌≢◌, ◌+◌, ◌*◌, ◌/◌, List, [], ◌∷◌, fold, Some, arith, refl, ap, ap₂, subst, ◌∙◌}
-use Rattle.std.proofs.Math.Decide.{dec_dvd}
-use Rattle.std.proofs.Math.Nat.{div-one, div-add-mod, dvd-mul_left}
+use Rattle.dl_model.proofs.Common.{ℕ, zero, suc, ◌≡◌, ◌≢◌, ◌+◌, ◌*◌, ◌/◌, List, [], ◌∷◌, arith, refl, ap, ap₂, subst, ◌∙◌, dec_dvd, div-one, dvd-mul_left, sum_by-cons, ◌∣◌, Fraction, whole, ◌over◌, ◌*ℚ◌, times_zero, zero_times, sum_pairs_same, sum_to_zero, sum_pairs_none, Item, Sev, weight_at, common_amount, probability_of, Clause, kept, over_zero, total_pos, at_zero, power, cell, outcome_after}
+use Rattle.std.proofs.Common.{fold, Some}
+use Rattle.std.proofs.Math.Nat.{div-add-mod}
 use Rattle.std.proofs.lemmas.Bool.{ne_eqb}
-use Rattle.std.proofs.lemmas.List.Sums.{sum_by-cons}
 use Rattle.std.proofs.lemmas.Nat.Gcd.{dvd_refl, dvd_trans, dvd-zero, mod-eq-zero_of_dvd}
-use Prim.Native.Nat.{◌∣◌}
 use Rattle.dl_exact.specs.Gcd.{gcd}
-use Rattle.dl_exact.specs.Fraction.{Fraction, whole, ◌over◌, ◌*ℚ◌}
 use Rattle.dl_exact.proofs.GcdLaws.{gcd_is}
-use Rattle.dl_exact.proofs.Laws.{times_zero, zero_times}
-use Rattle.dl_exact.proofs.Sums.{sum_pairs_same, sum_to_zero, sum_pairs_none}
-use Rattle.dl_plan.specs.declared.item.Item.{Item}
-use Rattle.dl_plan.specs.declared.severity.Sev.{Sev}
-use Rattle.dl_plan.specs.Weighted.{weight_at, common_amount}
-use Rattle.dl_plan.specs.Severity.{probability_of}
-use Rattle.dl_plan.specs.Clause.{Clause, kept}
-use Rattle.dl_exact.proofs.Denominators.{over_zero}
 use Rattle.dl_exact.proofs.Parts.{whole_num, whole_den}
-use Rattle.dl_plan.proofs.Means.{total_pos}
-use Rattle.dl_model.specs.Compound.{at_zero, power, cell}
-use Rattle.dl_model.specs.Plans.{outcome_after}
 use Rattle.dl_model.proofs.WeightLaws.{part_of}
 
 -- the common divisor of d and the amounts

@@ -1,18 +1,7 @@
 -- Sums over the outcomes of all units: linear in the score, and the totals of units as products of families.
-use Rattle.std.proofs.Common.{◌≡◌, inl, inr, ℕ, suc, zero, ◌+◌, ◌-◌, ◌*◌, ◌<◌, ◌≤◌, nat_eq, arith, refl, sym, ap, ap₂, subst₂, ◌∙◌, List, [], ◌∷◌, ◌++◌, ne_eqb, eq-eqb}
-use Rattle.std.specs.Prelude.{sum}
-use mathlib.Core.Path.{fun_ext}
-use Rattle.std.proofs.lemmas.Bool.{cases_eq}
-use Rattle.std.proofs.lemmas.List.Sums.{sum_by-cons}
-use Rattle.dl_exact.specs.Fraction.{Fraction, ◌+ℚ◌, ◌*ℚ◌, ◌≤ℚ◌, whole}
-use Rattle.dl_exact.specs.Sum.{sum_to, sum_pairs, sum_below}
-use Rattle.dl_exact.proofs.Laws.{ring, whole_plus, times_plus, times_left_comm, times_assoc, times_one, one_times, times_zero, zero_times, le_refl, le_trans, times_le_both}
-use Rattle.dl_exact.proofs.Sums.{sum_to_same, sum_to_plus, sum_to_times, sum_to_times_right, sum_to_le, sum_to_grows, sum_to_none, sum_to_either, sum_to_pairs}
-use Rattle.dl_model.specs.Series.{Rises}
-use Rattle.dl_model.specs.Compound.{at_zero, convolve}
+use Rattle.dl_model.proofs.Common.{◌≡◌, inl, inr, ℕ, suc, zero, ◌+◌, ◌-◌, ◌*◌, ◌<◌, ◌≤◌, nat_eq, arith, refl, sym, ap, ap₂, subst₂, ◌∙◌, List, [], ◌∷◌, ◌++◌, ne_eqb, eq-eqb, sum, fun_ext, cases_eq, sum_by-cons, Fraction, ◌+ℚ◌, ◌*ℚ◌, ◌≤ℚ◌, whole, sum_to, sum_pairs, sum_below, ring, whole_plus, times_plus, times_left_comm, times_assoc, times_one, one_times, times_zero, zero_times, le_refl, le_trans, times_le_both, sum_to_same, sum_to_plus, sum_to_times, sum_to_times_right, sum_to_le, sum_to_grows, sum_to_none, sum_to_either, Rises, at_zero, convolve, Aggregate, One, Point, Mean, AreDeclarable, IsDeclarable, where_true, outcome, score, sum_over_outcomes, partial_sums, Family, mapped, total, product, nothing, IsProper}
+use Rattle.dl_exact.proofs.Sums.{sum_to_pairs}
 use Rattle.dl_model.proofs.Powers.{at_zero_convolve, convolve_assoc, convolve_comm}
-use Rattle.dl_model.specs.Program.{Aggregate, One, Point, Mean, AreDeclarable, IsDeclarable, where_true, outcome, score, sum_over_outcomes, partial_sums}
-use Rattle.dl_model.specs.Family.{Family, mapped, total, product, nothing, IsProper}
 use Rattle.dl_model.proofs.FamilyLaws.{proper_product, nothing_proper}
 use Rattle.dl_model.proofs.UnitLaws.{unit_within, unit_whole, unit_proper}
 

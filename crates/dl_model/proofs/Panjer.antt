@@ -1,13 +1,9 @@
 -- Panjer's recursion for every count of the (a, b, 0) class.
-use Rattle.std.proofs.Common.{◌≡◌, ℕ, suc, zero, ◌+◌, ◌≤◌, arith, sym, ap, ap₂, ◌∙◌}
-use Rattle.std.proofs.Math.Nat.{zero-lt-suc}
-use Rattle.dl_exact.specs.Fraction.{Fraction, ◌over◌, ◌+ℚ◌, ◌*ℚ◌, whole}
-use Rattle.dl_exact.specs.Sum.{sum_to, sum_pairs}
-use Rattle.dl_model.specs.Compound.{at_zero, power, cell}
-use Rattle.dl_model.specs.Counts.{poisson, gamma, IsPanjer}
+use Rattle.dl_model.proofs.Common.{◌≡◌, ℕ, suc, zero, ◌+◌, ◌≤◌, arith, sym, ap, ap₂, ◌∙◌, zero-lt-suc, Fraction, ◌over◌, ◌+ℚ◌, ◌*ℚ◌, whole, sum_to, sum_pairs, at_zero, power, cell, poisson, gamma, ring, times_comm, zero_plus, plus_zero, times_zero, zero_times, times_one, whole_pos, whole_plus, times_cancel, sum_to_same, sum_to_first, sum_to_times, sum_to_times_right, sum_pairs_same, sum_pairs_plus, sum_pairs_times, sum_pairs_times_right, sum_pairs_sum_to}
+use Rattle.dl_model.specs.Counts.{IsPanjer}
 use Rattle.dl_model.specs.Recursion.{Recursion, from_before}
-use Rattle.dl_exact.proofs.Laws.{ring, times_comm, zero_plus, plus_zero, times_zero, zero_times, times_one, whole_pos, whole_plus, times_cancel, over_times_whole}
-use Rattle.dl_exact.proofs.Sums.{sum_to_same, sum_to_first, sum_to_times, sum_to_times_right, sum_pairs_same, sum_pairs_plus, sum_pairs_times, sum_pairs_times_right, sum_pairs_sum_to, sum_pairs_first}
+use Rattle.dl_exact.proofs.Laws.{over_times_whole}
+use Rattle.dl_exact.proofs.Sums.{sum_pairs_first}
 use Rattle.dl_model.proofs.Powers.{power_tilt}
 use Rattle.dl_model.proofs.CompoundLaws.{no_power, cell_stays}
 use Rattle.dl_model.proofs.PoissonWeights.{poisson_zero, poisson_next}

@@ -1,11 +1,5 @@
 -- Sums that pick one place.
-use Rattle.std.proofs.Common.{◌≡◌, inl, inr, ℕ, suc, zero, ◌<◌, ◌≤◌, nat_eq, arith, ap, ap₂, ◌∙◌, ne_eqb, eq-eqb}
-use Rattle.std.proofs.lemmas.Bool.{cases_lt}
-use Rattle.dl_exact.specs.Fraction.{Fraction, ◌+ℚ◌, whole}
-use Rattle.dl_exact.specs.Sum.{sum_to}
-use Rattle.dl_model.specs.Program.{where_true}
-use Rattle.dl_exact.proofs.Laws.{plus_zero, zero_plus}
-use Rattle.dl_exact.proofs.Sums.{sum_to_zero}
+use Rattle.dl_model.proofs.Common.{◌≡◌, inl, inr, ℕ, suc, zero, ◌<◌, ◌≤◌, nat_eq, arith, ap, ap₂, ◌∙◌, ne_eqb, eq-eqb, cases_lt, Fraction, ◌+ℚ◌, whole, sum_to, where_true, plus_zero, zero_plus, sum_to_zero}
 
 pub pick_none : (n x : ℕ) (f : ℕ → Fraction) → n < x → sum_to n (λ s. where_true (nat_eq s x) (f s)) ≡ whole 0
 pick_none n x f h = sum_to_zero n _ (λ s b. ap (λ t. where_true t (f s)) (ne_eqb s x (omega arith)))

@@ -1,24 +1,9 @@
 -- The expected counts of a plan's units, and their means.
-use Rattle.std.proofs.Common.{ℕ, zero, suc, ◌≡◌, List, [], ◌∷◌, map, None, arith, refl, sym, ap, subst, subst₂, ◌∙◌}
-use Rattle.std.specs.Prelude.{All}
+use Rattle.dl_model.proofs.Common.{ℕ, zero, suc, ◌≡◌, List, [], ◌∷◌, map, arith, refl, sym, ap, subst, subst₂, ◌∙◌, All, All-head, All-tail, Fraction, whole, ◌*ℚ◌, ◌≤ℚ◌, sum_to, sum_over, over_self, times_comm, one_times, zero_times, zero_le, le_refl, Freq, Fixed, Table, Bernoulli, Binomial, Poisson, Gamma, pairs_of, mean_amount, greatest, expected_count, IsValidUnit, num_le_den, total_pos, Series, Holds, One, Mean, sum_over_outcomes, partial_sums, count_weights, outcome_after, aggregate_of}
+use Rattle.std.proofs.Common.{None}
 use Rattle.std.proofs.Math.Nat.{le_refl as le_refl_n}
-use Rattle.std.proofs.lemmas.List.Elements.{All-head, All-tail}
-use Rattle.dl_exact.specs.Fraction.{Fraction, whole, ◌*ℚ◌, ◌≤ℚ◌}
-use Rattle.dl_exact.specs.Sum.{sum_to, sum_over}
-use Rattle.dl_exact.proofs.Over.{over_self}
-use Rattle.dl_exact.proofs.Laws.{times_comm, one_times, zero_times, zero_le, le_refl}
-use Rattle.dl_plan.specs.declared.plan.Freq.{Freq}
-use Rattle.dl_plan.specs.declared.plan.Freq.TheVariants.{Fixed, Table, Bernoulli, Binomial, Poisson, Gamma}
 use Rattle.dl_plan.specs.declared.plan.Unit.{Unit as UnitOfPlan}
-use Rattle.dl_plan.specs.Severity.{pairs_of, mean_amount}
-use Rattle.dl_plan.specs.Weighted.{greatest}
-use Rattle.dl_plan.specs.Count.{expected_count, IsClaimCount as IsCountOfPlan}
-use Rattle.dl_plan.specs.Valid.{IsValidUnit}
-use Rattle.dl_plan.proofs.Clauses.{num_le_den}
-use Rattle.dl_plan.proofs.Means.{total_pos}
-use Rattle.dl_model.specs.Series.{Series, Holds}
-use Rattle.dl_model.specs.Program.{One, Mean, sum_over_outcomes, partial_sums}
-use Rattle.dl_model.specs.Plans.{count_weights, outcome_after, aggregate_of}
+use Rattle.dl_plan.specs.Count.{IsClaimCount as IsCountOfPlan}
 use Rattle.dl_model.proofs.CountMeans.{finite_mean, fixed_mean, binomial_mean, poisson_mean, gamma_mean}
 use Rattle.dl_model.proofs.Means.{mean_of_unit, mean_of_total}
 use Rattle.dl_model.proofs.Bounded.{are_units}

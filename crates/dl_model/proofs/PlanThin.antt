@@ -1,32 +1,15 @@
 -- Thinning and division of the units of a plan.
-use Rattle.std.proofs.Common.{ℕ, zero, suc, ◌≡◌, ◌+◌, ◌*◌, ◌^◌, ◌<◌, ◌≤◌, List, [], ◌∷◌, length, map, nat_lt, arith, refl, sym, ap, subst, inl, inr, ◌∙◌}
-use mathlib.Core.Path.{fun_ext}
-use Rattle.std.specs.Prelude.{All}
+use Rattle.dl_model.proofs.Common.{ℕ, zero, suc, ◌≡◌, ◌+◌, ◌*◌, ◌^◌, ◌<◌, ◌≤◌, List, [], ◌∷◌, length, map, nat_lt, arith, refl, sym, ap, subst, inl, inr, ◌∙◌, fun_ext, All, cases_lt, lt-ltb, le-ltb, All-head, All-tail, sum_by-cons, pow_pos, Fraction, whole, ◌over◌, ◌+ℚ◌, ◌-ℚ◌, ◌*ℚ◌, ◌/ℚ◌, ◌≤ℚ◌, sum_over, over_same, over_mul, over_le, plus_comm, times_comm, times_zero, sub_plus, div_times, whole_pos, Item, Sev, Freq, Fixed, Table, Bernoulli, Binomial, Poisson, Gamma, weight_at, weight_sum, probability_of, pairs_of, expected_count, over_zero, total_pos, IsPositivePart, nothing, times_itself, SameCells, compound_of}
 use Rattle.std.proofs.Math.Nat.{eq-zero-or-pos, mul-pos}
-use Rattle.std.proofs.lemmas.Bool.{cases_lt, lt-ltb, le-ltb, ne_eqb, eq-eqb}
-use Rattle.std.proofs.lemmas.List.Elements.{All-head, All-tail, All-filter}
-use Rattle.std.proofs.lemmas.List.Sums.{sum_by-cons}
-use Rattle.std.proofs.lemmas.Nat.{pow_pos}
-use Rattle.dl_exact.specs.Fraction.{Fraction, whole, ◌over◌, ◌+ℚ◌, ◌-ℚ◌, ◌*ℚ◌, ◌/ℚ◌, ◌≤ℚ◌}
-use Rattle.dl_exact.specs.Sum.{sum_over}
-use Rattle.dl_exact.proofs.Over.{over_same, over_mul, over_le}
-use Rattle.dl_exact.proofs.Laws.{plus_comm, times_comm, times_zero, sub_plus, div_times, whole_pos}
-use Rattle.dl_plan.specs.declared.item.Item.{Item}
-use Rattle.dl_plan.specs.declared.severity.Sev.{Sev}
-use Rattle.dl_plan.specs.declared.plan.Freq.{Freq}
-use Rattle.dl_plan.specs.declared.plan.Freq.TheVariants.{Fixed, Table, Bernoulli, Binomial, Poisson, Gamma}
+use Rattle.std.proofs.lemmas.Bool.{ne_eqb, eq-eqb}
+use Rattle.std.proofs.lemmas.List.Elements.{All-filter}
 use Rattle.dl_plan.specs.declared.plan.Unit.{Unit as UnitOfPlan}
-use Rattle.dl_plan.specs.Weighted.{weight_at, weight_sum}
-use Rattle.dl_plan.specs.Severity.{Pairs, probability, probability_of, pairs_of, conditioned, mass, shares, Means}
-use Rattle.dl_plan.specs.Count.{expected_count, IsUnbounded, IsClaimCount as IsCountOfPlan}
+use Rattle.dl_plan.specs.Severity.{Pairs, probability, conditioned, mass, shares, Means}
+use Rattle.dl_plan.specs.Count.{IsUnbounded, IsClaimCount as IsCountOfPlan}
 use Rattle.dl_plan.specs.Valid.{thinned_mean}
-use Rattle.dl_exact.proofs.Denominators.{over_zero}
 use Rattle.dl_plan.proofs.Weights.{weight_sum_pos}
 use Rattle.dl_plan.proofs.Shares.{items_over, filter-shares, probability-conditioned}
-use Rattle.dl_plan.proofs.Means.{total_pos, positive_share, weight_at-le}
-use Rattle.dl_model.specs.Severity.{IsPositivePart}
-use Rattle.dl_model.specs.Family.{nothing, times_itself, SameCells}
-use Rattle.dl_model.specs.Plans.{compound_of}
+use Rattle.dl_plan.proofs.Means.{positive_share, weight_at-le}
 use Rattle.dl_model.proofs.PoissonTimes.{poisson_shares}
 use Rattle.dl_model.proofs.GammaThin.{gamma_shares}
 use Rattle.dl_model.proofs.Beginnings.{poisson_no_loss, gamma_no_loss}

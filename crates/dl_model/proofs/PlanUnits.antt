@@ -1,26 +1,16 @@
 -- The units of a valid plan can be declared.
-use Rattle.std.proofs.Common.{ℕ, zero, suc, ◌*◌, ◌/◌, ◌≤◌, List, [], ◌∷◌, map, Option, Some, None, arith, sym, subst}
-use Rattle.std.specs.Prelude.{IfSome, All}
+use Rattle.dl_model.proofs.Common.{ℕ, zero, suc, ◌*◌, ◌/◌, ◌≤◌, List, [], ◌∷◌, map, Option, arith, sym, subst, IfSome, All, All-head, All-tail, Fraction, whole, ◌≤ℚ◌, over_self, over_le, le_over, Sev, Freq, Fixed, Table, Bernoulli, Binomial, Poisson, Gamma, Clause, kept, greatest, IsAggregate, IsValidUnit, num_le_den, AreCountWeights, AreDeclarable, IsDeclared, AreDeclared, count_weights, outcome_after, aggregate_of}
+use Rattle.std.proofs.Common.{Some, None}
 use Rattle.std.proofs.Math.Nat.{div-le_of_le-mul, le_refl as le_refl_n}
-use Rattle.std.proofs.lemmas.List.Elements.{All-head, All-tail}
-use Rattle.dl_exact.specs.Fraction.{Fraction, whole, ◌≤ℚ◌}
-use Rattle.dl_exact.proofs.Over.{over_self, over_le, le_over}
-use Rattle.dl_plan.specs.declared.severity.Sev.{Sev}
-use Rattle.dl_plan.specs.declared.plan.Freq.{Freq}
-use Rattle.dl_plan.specs.declared.plan.Freq.TheVariants.{Fixed, Table, Bernoulli, Binomial, Poisson, Gamma}
 use Rattle.dl_plan.specs.declared.plan.Unit.{Unit as UnitOfPlan}
 use Rattle.dl_plan.specs.declared.plan.Plan.{Plan}
-use Rattle.dl_plan.specs.Clause.{Clause, kept, IsClause}
+use Rattle.dl_plan.specs.Clause.{IsClause}
 use Rattle.dl_plan.specs.Parts.{kept_parts, parts_in_bucket}
-use Rattle.dl_plan.specs.Weighted.{greatest}
 use Rattle.dl_plan.specs.Count.{IsClaimCount as IsCountOfPlan}
-use Rattle.dl_plan.specs.Valid.{IsAggregate, IsValidUnit, IsValid}
-use Rattle.dl_plan.proofs.Clauses.{kept_is, bucket_pos, num_le_den}
+use Rattle.dl_plan.specs.Valid.{IsValid}
+use Rattle.dl_plan.proofs.Clauses.{kept_is, bucket_pos}
 use Rattle.dl_plan.proofs.Apart.{kept_le}
-use Rattle.dl_model.specs.Counts.{AreCountWeights}
-use Rattle.dl_model.specs.Program.{AreDeclarable}
-use Rattle.dl_model.specs.Measures.{IsDeclared, AreDeclared}
-use Rattle.dl_model.specs.Plans.{count_weights, outcome_after, aggregate_of, aggregates_of}
+use Rattle.dl_model.specs.Plans.{aggregates_of}
 use Rattle.dl_model.proofs.CountBounds.{finite_count, fixed_count, binomial_count, poisson_count, gamma_of_count}
 use Rattle.dl_model.proofs.Bounded.{are_units}
 use Rattle.dl_model.proofs.ItemWeights.{shares_severity}

@@ -1,14 +1,5 @@
 -- Thinning: claims of amount 0 can be left out of a Poisson count.
-use Rattle.std.proofs.Common.{◌≡◌, ℕ, zero, ◌+◌, sym, ap, ap₂, subst, ◌∙◌}
-use Rattle.std.proofs.Math.Nat.{zero-lt-suc}
-use Rattle.dl_exact.specs.Fraction.{Fraction, ◌*ℚ◌, ◌≤ℚ◌, ◌<ℚ◌, whole}
-use Rattle.dl_exact.specs.Sum.{sum_to}
-use Rattle.dl_model.specs.Series.{Series, times, SameValue}
-use Rattle.dl_model.specs.Compound.{convolve, power, cell}
-use Rattle.dl_model.specs.Counts.{poisson}
-use Rattle.dl_model.specs.Severity.{IsPositivePart}
-use Rattle.dl_exact.proofs.Laws.{ring, times_assoc, times_left_comm, times_plus, times_one, whole_pos}
-use Rattle.dl_exact.proofs.Sums.{sum_to_same, sum_pairs_same}
+use Rattle.dl_model.proofs.Common.{◌≡◌, ℕ, zero, ◌+◌, sym, ap, ap₂, subst, ◌∙◌, zero-lt-suc, Fraction, ◌*ℚ◌, ◌≤ℚ◌, ◌<ℚ◌, whole, sum_to, Series, times, SameValue, convolve, power, cell, poisson, IsPositivePart, ring, times_assoc, times_left_comm, times_plus, times_one, whole_pos, sum_to_same, sum_pairs_same}
 use Rattle.dl_model.proofs.Cauchy.{cauchy_low, cauchy_high}
 use Rattle.dl_model.proofs.PoissonWeights.{next_of, poisson_zero, poisson_plus, poisson_bound}
 use Rattle.dl_model.proofs.Thin.{split}

@@ -1,15 +1,5 @@
 -- A Poisson count from equal shares of its mean, with claims of amount 0 left out.
-use Rattle.std.proofs.Common.{◌≡◌, ℕ, suc, zero, sym, ap, subst, ◌∙◌}
-use Rattle.std.proofs.Math.Nat.{zero-lt-suc}
-use mathlib.Core.Path.{fun_ext}
-use Rattle.dl_exact.specs.Fraction.{Fraction, ◌+ℚ◌, ◌*ℚ◌, whole}
-use Rattle.dl_exact.specs.Sum.{sum_to}
-use Rattle.dl_model.specs.Series.{SameValue}
-use Rattle.dl_model.specs.Compound.{convolve, at_zero, power, cell}
-use Rattle.dl_model.specs.Counts.{poisson}
-use Rattle.dl_model.specs.Severity.{IsPositivePart}
-use Rattle.dl_model.specs.Family.{compound, times_itself}
-use Rattle.dl_exact.proofs.Laws.{zero_times, plus_comm, plus_times, one_times, whole_suc, whole_pos, times_cancel}
+use Rattle.dl_model.proofs.Common.{◌≡◌, ℕ, suc, zero, sym, ap, subst, ◌∙◌, zero-lt-suc, fun_ext, Fraction, ◌+ℚ◌, ◌*ℚ◌, whole, sum_to, SameValue, convolve, at_zero, power, cell, poisson, IsPositivePart, compound, times_itself, zero_times, plus_comm, plus_times, one_times, whole_suc, whole_pos, times_cancel}
 use Rattle.dl_model.proofs.PoissonWeights.{poisson_zero, poisson_next, poisson_plus}
 use Rattle.dl_model.proofs.PoissonThin.{thin_poisson}
 use Rattle.dl_model.proofs.Itself.{itself_value}

@@ -1,17 +1,8 @@
 -- Poisson counts: their weights, sums and bounds.
-use Rattle.std.proofs.Common.{◌≡◌, ℕ, suc, zero, ◌+◌, ◌*◌, ◌^◌, ◌<◌, ◌≤◌, arith, sym, ap, ap₂, subst₂, ◌∙◌, mul-pos, mul-le-mul, le-mul_of_pos_right, pow-suc}
-use Rattle.std.proofs.Math.Nat.{one-le-pow, zero-lt-suc, pow-zero}
-use Rattle.dl_exact.specs.Fraction.{Fraction, ◌+ℚ◌, ◌*ℚ◌, ◌≤ℚ◌, whole}
+use Rattle.dl_model.proofs.Common.{◌≡◌, ℕ, suc, zero, ◌+◌, ◌*◌, ◌^◌, ◌<◌, ◌≤◌, arith, sym, ap, ap₂, subst₂, ◌∙◌, mul-pos, pow-suc, one-le-pow, zero-lt-suc, pow-zero, Fraction, ◌+ℚ◌, ◌*ℚ◌, ◌≤ℚ◌, whole, sum_to, sum_pairs, over_same, over_mul, over_self, over_le, one_pos, times_comm, times_assoc, times_left_comm, times_one, times_cancel, le_trans, times_le_times, times_le_cancel, plus_times, whole_pos, whole_le, halving_bound, sum_pairs_same, sum_pairs_times, sum_pairs_weighed, IsBound, convolve, poisson}
+use Rattle.std.proofs.Common.{mul-le-mul, le-mul_of_pos_right}
 use Rattle.dl_exact.specs.Power.{factorial}
-use Rattle.dl_exact.specs.Sum.{sum_to, sum_pairs}
-use Rattle.dl_exact.proofs.Over.{over_same, over_mul, over_self, over_le}
-use Rattle.dl_exact.proofs.Laws.{one_pos, times_comm, times_assoc, times_left_comm, times_one, times_cancel, le_trans, times_le_times, times_le_cancel, plus_times, whole_pos}
-use Rattle.dl_exact.proofs.RoundingLaws.{whole_le}
-use Rattle.dl_exact.proofs.Sums.{halving_bound, sum_pairs_same, sum_pairs_times, sum_pairs_weighed}
 use Rattle.dl_exact.proofs.Powers.{factorial_pos}
-use Rattle.dl_model.specs.Series.{IsBound}
-use Rattle.dl_model.specs.Compound.{convolve}
-use Rattle.dl_model.specs.Counts.{poisson}
 
 poisson_den : (v : Fraction) (n : ℕ) → 0 < v.den ^ n * factorial n
 poisson_den v n = mul-pos (one-le-pow n v.den v.positive) (factorial_pos n)

@@ -1,11 +1,5 @@
 -- The laws of convolution and of powers.
-use Rattle.std.proofs.Common.{◌≡◌, ℕ, suc, zero, ◌+◌, refl, sym, ap, ap₂, ◌∙◌, suc-add, zero-add}
-use mathlib.Core.Path.{fun_ext}
-use Rattle.dl_exact.specs.Fraction.{Fraction, ◌+ℚ◌, ◌*ℚ◌, whole}
-use Rattle.dl_exact.specs.Sum.{sum_pairs}
-use Rattle.dl_model.specs.Compound.{convolve, at_zero, power}
-use Rattle.dl_exact.proofs.Laws.{ring, plus_comm, times_comm, times_assoc, times_left_comm, plus_zero, times_zero, zero_times, plus_times, one_times, whole_suc, whole_plus}
-use Rattle.dl_exact.proofs.Sums.{sum_pairs_same, sum_pairs_plus, sum_pairs_times, sum_pairs_times_right, sum_pairs_turn, sum_pairs_assoc, sum_pairs_none}
+use Rattle.dl_model.proofs.Common.{◌≡◌, ℕ, suc, zero, ◌+◌, refl, sym, ap, ap₂, ◌∙◌, suc-add, zero-add, fun_ext, Fraction, ◌+ℚ◌, ◌*ℚ◌, whole, sum_pairs, convolve, at_zero, power, ring, plus_comm, times_comm, times_assoc, times_left_comm, plus_zero, times_zero, zero_times, plus_times, one_times, whole_suc, whole_plus, sum_pairs_same, sum_pairs_plus, sum_pairs_times, sum_pairs_times_right, sum_pairs_turn, sum_pairs_assoc, sum_pairs_none}
 
 pub convolve_comm : (f g : ℕ → Fraction) → convolve f g ≡ convolve g f
 convolve_comm f g =

@@ -1,8 +1,5 @@
 -- 1 over a bounded series, between the reciprocals of its bound and of a term.
-use Rattle.std.proofs.Common.{ℕ, zero, sym, subst}
-use Rattle.dl_exact.specs.Fraction.{Fraction, ◌*ℚ◌, ◌/ℚ◌, ◌≤ℚ◌, ◌<ℚ◌, whole}
-use Rattle.dl_model.specs.Series.{Series, IsBound, Holds}
-use Rattle.dl_exact.proofs.Laws.{le_refl, le_trans, div_times, lt_of_lt_of_le, times_le_both}
+use Rattle.dl_model.proofs.Common.{ℕ, zero, sym, subst, Fraction, ◌*ℚ◌, ◌/ℚ◌, ◌≤ℚ◌, ◌<ℚ◌, whole, Series, IsBound, Holds, le_refl, le_trans, div_times, lt_of_lt_of_le, times_le_both}
 
 -- where K's term is positive and B bounds R, 1 over R has its declared value from 1 / B to 1 / R K
 pub inverse_holds : (R : Series) (K : ℕ) (B : Fraction) → whole 0 <ℚ R K → IsBound R B

@@ -1,12 +1,6 @@
 -- The quantities of the total as sums of points and of survivals.
-use Rattle.std.proofs.Common.{◌≡◌, inl, inr, ℕ, suc, zero, ◌+◌, ◌-◌, min, Bool, nat_eq, nat_le, nat_lt, arith, sym, ap, ap₂, ◌∙◌, List, ne_eqb, eq-eqb}
-use Rattle.std.specs.Prelude.{sum, Some, None}
-use Rattle.std.proofs.lemmas.Bool.{cases_lt, lt-leb, le-leb, lt-ltb, le-ltb}
-use Rattle.dl_exact.specs.Fraction.{Fraction, ◌+ℚ◌, whole}
-use Rattle.dl_exact.specs.Sum.{sum_to, sum_below}
-use Rattle.dl_exact.proofs.Laws.{zero_plus, plus_zero, whole_plus}
-use Rattle.dl_model.specs.Program.{Aggregate, One, Point, Cdf, Layer, Mean, where_true, score, partial_sums}
-use Rattle.dl_model.specs.Measures.{above, survival}
+use Rattle.dl_model.proofs.Common.{◌≡◌, inl, inr, ℕ, suc, zero, ◌+◌, ◌-◌, min, Bool, nat_eq, nat_le, nat_lt, arith, sym, ap, ap₂, ◌∙◌, List, ne_eqb, eq-eqb, sum, Some, None, cases_lt, lt-ltb, le-ltb, Fraction, ◌+ℚ◌, whole, sum_to, sum_below, zero_plus, plus_zero, whole_plus, Aggregate, One, Point, Cdf, Layer, Mean, where_true, score, partial_sums, above, survival}
+use Rattle.std.proofs.lemmas.Bool.{lt-leb, le-leb}
 use Rattle.dl_model.proofs.Outcomes.{outcomes_same, outcomes_plus, outcomes_sum, outcomes_below}
 
 abbrev chosen : Bool → Fraction

@@ -1,13 +1,6 @@
 -- The declared probabilities add up to 1.
-use Rattle.std.proofs.Common.{◌≡◌, ℕ, suc, zero, ◌+◌, ◌≤◌, arith, refl, sym, ap, subst, subst₂, ◌∙◌, add-zero}
-use Rattle.std.proofs.Math.Nat.{zero-lt-suc}
-use Rattle.dl_exact.specs.Fraction.{Fraction, ◌+ℚ◌, ◌*ℚ◌, ◌≤ℚ◌, ◌<ℚ◌, whole}
-use Rattle.dl_exact.specs.Sum.{sum_to}
-use Rattle.dl_model.specs.Series.{IsBound, Settles}
-use Rattle.dl_model.specs.Counts.{poisson}
-use Rattle.dl_exact.proofs.Laws.{plus_comm, times_comm, plus_times, times_plus, one_times, whole_suc, whole_pos, le_refl, le_trans, le_of_eq, le_of_lt, le_plus, plus_le_both, times_le_cancel, times_le_times, archimedes, times_le_both}
-use Rattle.dl_exact.proofs.Sums.{sum_to_grows}
-use Rattle.dl_exact.proofs.Sums.{halving_bound}
+use Rattle.dl_model.proofs.Common.{◌≡◌, ℕ, suc, zero, ◌+◌, ◌≤◌, arith, refl, sym, ap, subst, subst₂, ◌∙◌, zero-lt-suc, Fraction, ◌+ℚ◌, ◌*ℚ◌, ◌≤ℚ◌, ◌<ℚ◌, whole, sum_to, IsBound, Settles, poisson, plus_comm, times_comm, plus_times, times_plus, one_times, whole_suc, whole_pos, le_refl, le_trans, le_of_eq, le_of_lt, le_plus, plus_le_both, times_le_cancel, times_le_times, archimedes, times_le_both, sum_to_grows, halving_bound}
+use Rattle.std.proofs.Common.{add-zero}
 use Rattle.dl_model.proofs.PoissonWeights.{poisson_halves, poisson_zero}
 
 -- weights that halve from K on come below every fraction

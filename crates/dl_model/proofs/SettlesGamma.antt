@@ -1,14 +1,6 @@
 -- Sums of gamma weights settle.
-use Rattle.std.proofs.Common.{◌≡◌, ℕ, suc, zero, ◌+◌, max, arith, refl, sym, ap, ap₂, subst, subst₂, ◌∙◌}
-use Rattle.std.proofs.Math.Nat.{zero-lt-suc, le-max_left, le-max_right}
-use Rattle.dl_exact.specs.Fraction.{Fraction, ◌+ℚ◌, ◌*ℚ◌, ◌/ℚ◌, ◌≤ℚ◌, ◌<ℚ◌, whole}
-use Rattle.dl_exact.specs.Sum.{sum_to}
-use Rattle.dl_model.specs.Series.{Series, Rises, times, Settles}
-use Rattle.dl_model.specs.Compound.{convolve}
-use Rattle.dl_model.specs.Counts.{gamma}
-use Rattle.dl_exact.proofs.Laws.{ring, plus_comm, times_comm, plus_times, plus_assoc, times_plus, one_times, times_one, whole_suc, whole_plus, whole_pos, le_refl, le_trans, le_of_eq, le_of_lt, le_plus, plus_le_both, plus_le_cancel, times_le_cancel, times_le_times, times_pos, archimedes, div_times, div_pos, times_le_both}
+use Rattle.dl_model.proofs.Common.{◌≡◌, ℕ, suc, zero, ◌+◌, max, arith, refl, sym, ap, ap₂, subst, subst₂, ◌∙◌, zero-lt-suc, le-max_left, le-max_right, Fraction, ◌+ℚ◌, ◌*ℚ◌, ◌/ℚ◌, ◌≤ℚ◌, ◌<ℚ◌, whole, sum_to, Series, Rises, times, Settles, convolve, gamma, ring, plus_comm, times_comm, plus_times, plus_assoc, times_plus, one_times, times_one, whole_suc, whole_plus, whole_pos, le_refl, le_trans, le_of_eq, le_of_lt, le_plus, plus_le_both, plus_le_cancel, times_le_cancel, times_le_times, times_pos, archimedes, div_times, div_pos, times_le_both, sum_to_same}
 use Rattle.dl_model.proofs.Declared.{rises_to}
-use Rattle.dl_exact.proofs.Sums.{sum_to_same}
 use Rattle.dl_model.proofs.FamilyLaws.{sum_rises_to}
 use Rattle.dl_model.proofs.Cauchy.{cauchy_low, cauchy_high}
 use Rattle.dl_model.proofs.Alike.{IsUnder}

@@ -1,14 +1,6 @@
 -- The tail mean from the excess at the low end of the bracket.
-use Rattle.std.proofs.Common.{◌≡◌, inl, inr, ℕ, ◌+◌, ◌-◌, ◌<◌, ◌≤◌, min, arith, sym, ap, subst, subst₂, ◌∙◌, List}
-use Rattle.std.specs.Prelude.{sum, Some, None}
-use mathlib.Core.Path.{fun_ext}
-use Rattle.dl_exact.specs.Fraction.{Fraction, whole, ◌+ℚ◌, ◌-ℚ◌, ◌*ℚ◌, ◌/ℚ◌, ◌≤ℚ◌, ◌<ℚ◌}
-use Rattle.dl_exact.proofs.Laws.{ring, times_one, one_times, plus_comm, plus_assoc, zero_plus, whole_plus, le_refl, le_trans, le_of_lt, lt_or_le, lt_not_le, plus_le_cancel, plus_le_both, le_plus, sub_plus, plus_cancel, div_times, times_plus, times_le_both}
-use Rattle.dl_exact.proofs.RoundingLaws.{whole_le}
-use Rattle.dl_model.specs.Series.{Series, IsBound, Rises, AtMost, AtLeast, Holds, plus}
-use Rattle.dl_model.specs.Program.{Aggregate, AreDeclarable, One, Cdf, Layer, Tail, score, partial_sums}
+use Rattle.dl_model.proofs.Common.{◌≡◌, inl, inr, ℕ, ◌+◌, ◌-◌, ◌<◌, ◌≤◌, min, arith, sym, ap, subst, subst₂, ◌∙◌, List, sum, Some, None, fun_ext, Fraction, whole, ◌+ℚ◌, ◌-ℚ◌, ◌*ℚ◌, ◌/ℚ◌, ◌≤ℚ◌, ◌<ℚ◌, ring, times_one, one_times, plus_comm, plus_assoc, zero_plus, whole_plus, le_refl, le_trans, le_of_lt, lt_or_le, lt_not_le, plus_le_cancel, plus_le_both, le_plus, sub_plus, plus_cancel, div_times, times_plus, times_le_both, whole_le, Series, IsBound, Rises, AtMost, AtLeast, Holds, plus, Aggregate, AreDeclarable, One, Cdf, Layer, Tail, score, partial_sums, above, survival, IsQuantile}
 use Rattle.dl_exact.proofs.Sums.{sum_below_constant}
-use Rattle.dl_model.specs.Measures.{above, survival, IsQuantile}
 use Rattle.dl_model.proofs.Declared.{self_holds, at_most_plus, at_least_plus, at_most_wider, at_least_wider, scaled}
 use Rattle.dl_model.proofs.Complements.{at_least_rest, at_most_rest}
 use Rattle.dl_model.proofs.Minus.{at_least_minus, at_most_minus}

@@ -1,9 +1,5 @@
 -- The tail score by the excess.
-use Rattle.std.proofs.Common.{◌≡◌, ℕ, ◌-◌, sym, ap, subst, ◌∙◌, List}
-use Rattle.std.specs.Prelude.{sum, None}
-use Rattle.dl_exact.specs.Fraction.{Fraction, ◌+ℚ◌, ◌-ℚ◌, ◌*ℚ◌, ◌/ℚ◌, ◌<ℚ◌, whole}
-use Rattle.dl_exact.proofs.Laws.{times_one, one_times, times_cancel, div_times, sub_plus, plus_cancel, plus_comm, lt_gap, le_of_lt, ring}
-use Rattle.dl_model.specs.Program.{Aggregate, One, Layer, Tail, score, sum_over_outcomes, partial_sums}
+use Rattle.dl_model.proofs.Common.{◌≡◌, ℕ, ◌-◌, sym, ap, subst, ◌∙◌, List, sum, None, Fraction, ◌+ℚ◌, ◌-ℚ◌, ◌*ℚ◌, ◌/ℚ◌, ◌<ℚ◌, whole, times_one, one_times, times_cancel, div_times, sub_plus, plus_cancel, plus_comm, lt_gap, le_of_lt, ring, Aggregate, One, Layer, Tail, score, sum_over_outcomes, partial_sums}
 use Rattle.dl_model.proofs.Outcomes.{outcomes_same, outcomes_plus, outcomes_times}
 
 pub rest_pos : (p q : Fraction) → p <ℚ q → whole 0 <ℚ q -ℚ p

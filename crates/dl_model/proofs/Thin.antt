@@ -1,13 +1,6 @@
 -- Claims of amount 0 taken out of a count.
-use Rattle.std.proofs.Common.{◌≡◌, ℕ, suc, zero, ◌+◌, sym, ap, ap₂, ◌∙◌}
-use Rattle.std.proofs.Math.Nat.{zero-lt-suc}
-use mathlib.Core.Path.{fun_ext}
-use Rattle.dl_exact.specs.Fraction.{Fraction, ◌+ℚ◌, ◌*ℚ◌, whole}
-use Rattle.dl_exact.specs.Sum.{sum_pairs}
-use Rattle.dl_model.specs.Compound.{convolve, at_zero, power}
-use Rattle.dl_model.specs.Severity.{IsPositivePart}
-use Rattle.dl_exact.proofs.Laws.{ring, times_comm, times_assoc, zero_plus, plus_zero, times_zero, times_plus, times_one, whole_pos, times_cancel}
-use Rattle.dl_exact.proofs.Sums.{sum_pairs_same, sum_pairs_plus, sum_pairs_times, sum_pairs_swap, sum_pairs_weighed}
+use Rattle.dl_model.proofs.Common.{◌≡◌, ℕ, suc, zero, ◌+◌, sym, ap, ap₂, ◌∙◌, zero-lt-suc, fun_ext, Fraction, ◌+ℚ◌, ◌*ℚ◌, whole, sum_pairs, convolve, at_zero, power, IsPositivePart, ring, times_comm, times_assoc, zero_plus, plus_zero, times_zero, times_plus, times_one, whole_pos, times_cancel, sum_pairs_same, sum_pairs_plus, sum_pairs_times, sum_pairs_weighed}
+use Rattle.dl_exact.proofs.Sums.{sum_pairs_swap}
 use Rattle.dl_model.proofs.Powers.{at_zero_convolve, convolve_times}
 
 -- f is its weight at 0 and p times g

@@ -1,14 +1,6 @@
 -- A declared unit: where its outcomes stand, that they make up its whole weight, and that they are a proper family.
-use Rattle.std.proofs.Common.{◌≡◌, ◌≢◌, inl, inr, ℕ, suc, zero, ◌*◌, ◌<◌, ◌≤◌, nat_eq, arith, sym, ap, ap₂, subst, subst₂, ◌∙◌, ne_eqb, eq-eqb}
+use Rattle.dl_model.proofs.Common.{◌≡◌, ◌≢◌, inl, inr, ℕ, suc, zero, ◌*◌, ◌<◌, ◌≤◌, nat_eq, arith, sym, ap, ap₂, subst, subst₂, ◌∙◌, ne_eqb, eq-eqb, cases_lt, cases_eq, Fraction, whole, ◌+ℚ◌, ◌≤ℚ◌, sum_to, plus_zero, zero_plus, le_trans, le_of_eq, zero_le, sum_to_same, sum_to_swap, sum_to_le, sum_to_grows, sum_to_none, sum_to_zero, cell, compound, mapped, IsProper, Aggregate, IsDeclarable, outcome, where_true}
 use Rattle.std.proofs.Math.Nat.{le_refl as le_refl_n}
-use Rattle.std.proofs.lemmas.Bool.{cases_lt, cases_eq}
-use Rattle.dl_exact.specs.Fraction.{Fraction, whole, ◌+ℚ◌, ◌≤ℚ◌}
-use Rattle.dl_exact.specs.Sum.{sum_to}
-use Rattle.dl_exact.proofs.Laws.{plus_zero, zero_plus, le_trans, le_of_eq, zero_le}
-use Rattle.dl_exact.proofs.Sums.{sum_to_same, sum_to_swap, sum_to_le, sum_to_grows, sum_to_none, sum_to_zero}
-use Rattle.dl_model.specs.Compound.{cell}
-use Rattle.dl_model.specs.Family.{compound, mapped, IsProper}
-use Rattle.dl_model.specs.Program.{Aggregate, IsDeclarable, outcome, where_true}
 use Rattle.dl_model.proofs.Picks.{pick, pick_none}
 use Rattle.dl_model.proofs.CompoundLaws.{severity_within_one, cell_past, cells_all}
 use Rattle.dl_model.proofs.FamilyLaws.{compound_proper}

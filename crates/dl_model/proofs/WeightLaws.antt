@@ -1,17 +1,9 @@
 -- Probabilities from whole weights: none past the greatest number, and 1 in all.
-use Rattle.std.proofs.Common.{ℕ, ◌≡◌, ◌+◌, ◌<◌, ◌≤◌, zero, suc, arith, refl, sym, ap, ◌∙◌, List, [], ◌∷◌, length, inl, inr}
-use Rattle.std.specs.Prelude.{if◌then◌else◌, ◌==◌, count_by}
+use Rattle.dl_model.proofs.Common.{ℕ, ◌≡◌, ◌+◌, ◌<◌, ◌≤◌, zero, suc, arith, refl, sym, ap, ◌∙◌, List, [], ◌∷◌, length, inl, inr, if◌then◌else◌, ◌==◌, cases_lt, sum_by-cons, ◌≤ℚ◌, whole, sum_to, over_same, over_le, one_pos, le_trans, le_of_eq, Item, weight_at, weight_sum, greatest, probability_at, equally_likely}
+use Rattle.std.specs.Prelude.{count_by}
 use Rattle.std.specs.Int.{sum_through}
-use Rattle.std.proofs.lemmas.Bool.{eq-eqb, ne_eqb, cases_lt}
+use Rattle.std.proofs.lemmas.Bool.{eq-eqb, ne_eqb}
 use Rattle.std.proofs.lemmas.Bool.Decides.{eqb_tells}
-use Rattle.std.proofs.lemmas.List.Sums.{sum_by-cons}
-use Rattle.dl_exact.specs.Fraction.{◌≤ℚ◌, whole}
-use Rattle.dl_exact.specs.Sum.{sum_to}
-use Rattle.dl_exact.proofs.Over.{over_same, over_le}
-use Rattle.dl_exact.proofs.Laws.{one_pos, le_trans, le_of_eq}
-use Rattle.dl_plan.specs.declared.item.Item.{Item}
-use Rattle.dl_plan.specs.Weighted.{weight_at, weight_sum, greatest}
-use Rattle.dl_model.specs.Listed.{probability_at, equally_likely}
 use Rattle.dl_exact.proofs.SumsOver.{sum_to_over}
 
 -- the weight that an item gives to x

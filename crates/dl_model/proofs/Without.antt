@@ -1,8 +1,6 @@
 -- The units without one of them.
-use Rattle.std.proofs.Common.{◌≡◌, ℕ, suc, zero, ◌+◌, ◌<◌, arith, refl, sym, ap, ◌∙◌, List, [], ◌∷◌, ◌++◌, length, take, drop, get_or, add-one}
-use Rattle.dl_model.specs.Program.{Aggregate, AreDeclarable}
-use Rattle.dl_model.specs.Family.{mapped}
-use Rattle.dl_model.specs.Measures.{unit_of, without}
+use Rattle.dl_model.proofs.Common.{◌≡◌, ℕ, suc, zero, ◌+◌, ◌<◌, arith, refl, sym, ap, ◌∙◌, List, [], ◌∷◌, ◌++◌, length, Aggregate, AreDeclarable, mapped, unit_of, without}
+use Rattle.std.proofs.Common.{take, drop, get_or, add-one}
 
 pub without_suc : (us : List Aggregate) (i : ℕ) → without us i ≡ take i us ++ drop (suc i) us
 without_suc [] zero = refl

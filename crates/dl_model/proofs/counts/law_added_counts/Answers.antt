@@ -1,4 +1,4 @@
-use Rattle.std.proofs.Common.{ap}
+use Rattle.dl_model.proofs.Common.{ap}
 use Rattle.dl_model.proofs.AddedCounts.{fixed_power, binomial_power}
 use Rattle.dl_model.proofs.PoissonTimes.{poisson_power}
 use Rattle.dl_model.proofs.Gamma.{gamma_power}

@@ -1,4 +1,4 @@
-use Rattle.std.proofs.Common.{ap}
+use Rattle.dl_model.proofs.Common.{ap}
 use Rattle.dl_model.proofs.Powers.{power_plus}
 use Rattle.dl_model.proofs.families.law_power_sum.Goals as goal
 

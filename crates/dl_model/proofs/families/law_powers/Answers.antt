@@ -1,7 +1,4 @@
-use Rattle.std.proofs.Common.{sym, refl}
-use Rattle.dl_exact.proofs.Laws.{times_one}
-use Rattle.dl_exact.specs.Power.{◌^ℚ◌}
-use Rattle.dl_model.specs.Family.{nothing, times_itself}
+use Rattle.dl_model.proofs.Common.{sym, refl, times_one, ◌^ℚ◌, nothing, times_itself}
 use Rattle.dl_model.proofs.FamilyLaws.{encloses_same, encloses_power, itself_none, itself_one}
 use Rattle.dl_model.proofs.families.law_powers.Goals as goal
 

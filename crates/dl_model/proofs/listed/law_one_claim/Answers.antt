@@ -1,4 +1,4 @@
-use Rattle.dl_model.specs.Listed.{probability_at}
+use Rattle.dl_model.proofs.Common.{probability_at}
 use Rattle.dl_model.proofs.ListedLaws.{one_claim}
 use Rattle.dl_model.proofs.listed.law_one_claim.Goals as goal
 

@@ -1,4 +1,4 @@
-use Rattle.dl_model.specs.Program.{One}
+use Rattle.dl_model.proofs.Common.{One}
 use Rattle.dl_model.proofs.Bracket.{quantile_inside, quantile_one}
 use Rattle.dl_model.proofs.Bounded.{quantity_bounded, whole_positive}
 use Rattle.dl_model.proofs.PlanUnits.{plan_declared, plan_units}

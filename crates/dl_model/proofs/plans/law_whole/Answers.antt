@@ -1,5 +1,4 @@
-use Rattle.dl_exact.specs.Fraction.{whole}
-use Rattle.dl_exact.proofs.Laws.{lt_gap}
+use Rattle.dl_model.proofs.Common.{whole, lt_gap}
 use Rattle.dl_model.proofs.Bounded.{adds_up}
 use Rattle.dl_model.proofs.PlanUnits.{plan_declared}
 use Rattle.dl_model.proofs.plans.law_whole.Goals as goal

@@ -1,5 +1,4 @@
-use Rattle.std.proofs.Common.{sym, refl}
-use Rattle.dl_model.specs.Family.{compound, mapped}
+use Rattle.dl_model.proofs.Common.{sym, refl, compound, mapped}
 use Rattle.dl_model.proofs.FamilyLaws.{encloses_same}
 use Rattle.dl_model.proofs.UnitLaws.{unit_plain}
 use Rattle.dl_model.proofs.totals.law_no_clause.Goals as goal

@@ -1,6 +1,4 @@
-use Rattle.std.proofs.Common.{◌++◌, [], ◌∷◌, sym, refl}
-use Rattle.dl_model.specs.Program.{sum_over_outcomes}
-use Rattle.dl_model.specs.Family.{mapped, total, product, nothing}
+use Rattle.dl_model.proofs.Common.{◌++◌, [], ◌∷◌, sym, refl, sum_over_outcomes, mapped, total, product, nothing}
 use Rattle.dl_model.proofs.FamilyLaws.{encloses_same}
 use Rattle.dl_model.proofs.Outcomes.{no_units, total_alone, total_alone_all, total_append, total_append_all, total_proper}
 use Rattle.dl_model.proofs.totals.law_total.Goals as goal
