@@ -1,16 +1,8 @@
 -- What a kind of count begins with: the spreads of the bases, which have room to grow.
-use Rattle.std.proofs.Common.{ℕ, zero, suc, ◌≡◌, ◌+◌, ◌*◌, ◌^◌, ◌<◌, ◌≤◌, List, [], ◌∷◌, length, get_or, take, arith, refl, sym, ap, ap₂, subst, ◌∙◌, add-one}
-use Rattle.std.specs.Prelude.{max}
-use Rattle.std.specs.Int.{div_ceil}
-use Rattle.std.proofs.Math.Nat.{mul-le-mul, mul-le-mul_left, mul-pos, le_of_mul-le-mul_right, pow-le-pow_right}
+use Rattle.dl_budget.proofs.Common.{ℕ, ◌≡◌, ◌+◌, ◌*◌, ◌^◌, ◌<◌, ◌≤◌, arith, sym, ap, ap₂, subst, ◌∙◌, div_ceil, mul-le-mul, mul-le-mul_left, mul-pos, le_of_mul-le-mul_right, pow-le-pow_right, most_operands, Fraction, whole, ◌over◌, ◌/ℚ◌, ◌≤ℚ◌, over_self, over_div, le_over, one_pos, up, rounded_spread, up_quotient}
 use Rattle.std.proofs.lemmas.Grind.{div_ceil_times}
-use Rattle.dl_budget.specs.Sizes.{most_operands}
-use Rattle.dl_exact.specs.Fraction.{Fraction, whole, ◌over◌, ◌+ℚ◌, ◌*ℚ◌, ◌/ℚ◌, ◌≤ℚ◌}
-use Rattle.dl_exact.proofs.Over.{over_self, over_add, over_mul, over_div, le_over}
-use Rattle.dl_exact.proofs.Laws.{one_pos}
-use Rattle.dl_grid.specs.Width.{up, rounded_spread}
-use Rattle.dl_grid.proofs.WidthLaws.{up_quotient}
-use Rattle.dl_plan.specs.declared.item.Item.{Item}
+use Rattle.dl_exact.specs.Fraction.{◌+ℚ◌, ◌*ℚ◌}
+use Rattle.dl_exact.proofs.Over.{over_add, over_mul}
 
 -- ---- Poisson counts
 

@@ -1,18 +1,12 @@
 -- What validity says of a unit by the kind of its count, and its budget.
-use Rattle.std.proofs.Common.{ℕ, ◌≡◌, ◌+◌, ◌*◌, ◌^◌, ◌<◌, ◌≤◌, List, length, arith, inl, inr, refl, sym, ap, ap₂, subst, ◌∙◌}
+use Rattle.dl_budget.proofs.Common.{ℕ, ◌≡◌, ◌+◌, ◌*◌, ◌<◌, ◌≤◌, List, length, arith, inl, inr, refl, sym, ap, ap₂, subst, ◌∙◌, mul-le-mul, most_operands, Fraction, rounded_spread, Item, IsValidUnit, count_budget, poisson_budget, gamma_budget, claims_budget}
 use Rattle.std.specs.Prelude.{◌==◌, if◌then◌else◌}
-use Rattle.std.proofs.Math.Nat.{mul-le-mul}
 use Rattle.std.proofs.lemmas.Bool.Decides.{eqb_tells}
-use Rattle.dl_budget.specs.Sizes.{most_operands}
-use Rattle.dl_exact.specs.Fraction.{Fraction}
-use Rattle.dl_grid.specs.Width.{rounded_spread}
-use Rattle.dl_plan.specs.declared.item.Item.{Item}
 use Rattle.dl_plan.specs.declared.plan.Freq.{Freq}
 use Rattle.dl_plan.specs.declared.plan.Freq.TheVariants.{Poisson, Gamma}
 use Rattle.dl_plan.specs.declared.plan.Unit.{Unit as UnitOfPlan}
 use Rattle.dl_plan.specs.Count.{IsUnbounded, IsClaimCount}
-use Rattle.dl_plan.specs.Valid.{IsValidUnit, thinned_mean}
-use Rattle.dl_budget.specs.Claims.{count_budget, poisson_budget, gamma_budget, claims_budget}
+use Rattle.dl_plan.specs.Valid.{thinned_mean}
 
 -- the budget by the count and the items that were read
 pub claims_of : (S K : ℕ) (u : UnitOfPlan) (freq : Freq) (items : List Item) → u.freq ≡ freq → items ≡ u.sev.items

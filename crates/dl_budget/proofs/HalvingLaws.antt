@@ -1,12 +1,9 @@
 -- The least number of halvings, by whole numbers.
-use Rattle.std.proofs.Common.{ℕ, zero, suc, ◌≡◌, ◌+◌, ◌*◌, ◌%◌, ◌^◌, ◌<◌, ◌≤◌, arith, inl, inr, sym, ap, subst, ◌∙◌}
-use Rattle.std.proofs.Math.Nat.{mul-le-mul, mul-pos, pow-suc, mod-le}
-use Rattle.std.proofs.lemmas.Bool.Decides.{leb_tells}
+use Rattle.dl_budget.proofs.Common.{ℕ, zero, suc, ◌≡◌, ◌+◌, ◌*◌, ◌^◌, ◌<◌, ◌≤◌, arith, inl, inr, sym, ap, subst, ◌∙◌, mul-le-mul, mul-pos, leb_tells, pow_pos, Fraction, whole, ◌over◌, ◌/ℚ◌, ◌≤ℚ◌, over_self, le_over, over_div, one_pos}
+use Rattle.std.proofs.Common.{◌%◌}
+use Rattle.std.proofs.Math.Nat.{pow-suc, mod-le}
 use Rattle.std.proofs.lemmas.Bool.{cases_lt}
-use Rattle.std.proofs.lemmas.Nat.{pow_pos}
-use Rattle.dl_exact.specs.Fraction.{Fraction, whole, ◌over◌, ◌/ℚ◌, ◌≤ℚ◌}
-use Rattle.dl_exact.proofs.Over.{over_self, over_le, le_over, over_div}
-use Rattle.dl_exact.proofs.Laws.{one_pos}
+use Rattle.dl_exact.proofs.Over.{over_le}
 use Rattle.dl_budget.specs.Halvings.{IsHalvings, halvings_from, halvings}
 
 -- m is at most 1/2 after h halvings

@@ -1,15 +1,13 @@
 -- The horizons of the units of a valid plan.
-use Rattle.std.proofs.Common.{ℕ, ◌≡◌, ◌^◌, ◌<◌, ◌≤◌, arith, refl, ap, ◌∙◌}
-use Rattle.std.specs.Prelude.{Option, Some, None, All, IfSome, IsSome, MatchOption}
-use Rattle.std.proofs.Math.Nat.{pow-le-pow_right}
+use Rattle.dl_budget.proofs.Common.{ℕ, ◌≡◌, ◌^◌, ◌≤◌, arith, refl, ap, ◌∙◌, pow-le-pow_right, horizon, IsValidUnit, claims_budget}
+use Rattle.std.specs.Prelude.{Option, Some, None, IfSome, IsSome, MatchOption}
 use Rattle.dl_plan.specs.declared.severity.Sev.{Sev}
 use Rattle.dl_plan.specs.declared.plan.Unit.{Unit as UnitOfPlan}
 use Rattle.dl_plan.specs.declared.plan.Plan.{Plan}
 use Rattle.dl_plan.specs.Clause.{Clause}
-use Rattle.dl_plan.specs.Horizon.{IsHorizonOf, HorizonPasses, horizon}
-use Rattle.dl_plan.specs.Valid.{IsAggregate, IsValidUnit, IsValid}
+use Rattle.dl_plan.specs.Horizon.{IsHorizonOf, HorizonPasses}
+use Rattle.dl_plan.specs.Valid.{IsAggregate, IsValid}
 use Rattle.dl_plan.proofs.Horizons.{same_horizon, horizon_is}
-use Rattle.dl_budget.specs.Claims.{claims_budget}
 
 clause_horizon : (cells : ℕ) (sev : Sev) (cede : Option Clause) → cells ≤ 16384 → IfSome cede (IsAggregate cells sev)
     → (k : ℕ) × IsHorizonOf cede cells k × (k ≤ 16384)

@@ -1,3 +1,4 @@
+mod Common
 pub mod SizeLaws
 pub mod Repeats
 pub mod HalvingLaws
@@ -7,4 +8,3 @@ pub mod Horizons
 pub mod Sums
 pub mod Means
 pub mod Tails
-mod TestLaws

@@ -1,10 +1,7 @@
 -- The budget of a mean, as a loop over the units makes it.
-use Rattle.std.proofs.Common.{ℕ, ◌≡◌, ◌+◌, ◌<◌, ◌≤◌, List, length, get_or, take, arith, sym, ap, ap₂, ◌∙◌}
-use Rattle.std.specs.List.{sum_by}
-use Rattle.std.proofs.lemmas.List.{take_all}
+use Rattle.dl_budget.proofs.Common.{ℕ, ◌≡◌, ◌+◌, ◌<◌, ◌≤◌, List, length, get_or, take, sym, ap, ap₂, ◌∙◌, sum_by, take_all, unit_mean_budget}
 use Rattle.std.proofs.lemmas.List.Sums.{sum_by_more}
 use Rattle.dl_plan.specs.declared.plan.Unit.{Unit as UnitOfPlan}
-use Rattle.dl_budget.specs.Units.{unit_mean_budget}
 
 -- one more unit
 pub mean_next : (S cells : ℕ) (us : List UnitOfPlan) (i sum b : ℕ) (u : UnitOfPlan) → i < length us → u ≡ get_or us i u

@@ -1,10 +1,6 @@
 -- A step that is taken so many times: its value and its size after one time more.
-use Rattle.std.proofs.Common.{ℕ, zero, suc, ◌≡◌, ◌+◌, ◌*◌, ◌^◌, ◌≤◌, arith, refl, sym, ap, subst, ◌∙◌, add-one}
-use Rattle.std.proofs.Math.Nat.{mul-le-mul_right, pow-le-pow_right}
-use Rattle.std.proofs.lemmas.Nat.{pow_pos}
+use Rattle.dl_budget.proofs.Common.{ℕ, ◌≡◌, ◌+◌, ◌*◌, ◌^◌, ◌≤◌, arith, sym, ap, subst, ◌∙◌, mul-le-mul_right, pow-le-pow_right, pow_pos, most_operands, cv, pw, mixed_spread, rounded_spread, IsSizeWithin}
 use Rattle.std.proofs.lemmas.Grind.{pow_more}
-use Rattle.dl_budget.specs.Sizes.{most_operands}
-use Rattle.dl_grid.specs.Width.{cv, pw, mixed_spread, rounded_spread, IsSizeWithin}
 use Rattle.dl_grid.proofs.WidthLaws.{mixed_next, pw_doubled}
 use Rattle.dl_budget.proofs.SizeLaws.{size_step_of, size_least, far_below, square_size, room_below}
 

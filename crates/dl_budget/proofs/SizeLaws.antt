@@ -1,12 +1,6 @@
 -- How large spreads grow, over plain numbers. S is the scale, and a size is a spread with what one more convolution
 -- rounds.
-use Rattle.std.proofs.Common.{ℕ, ◌≡◌, ◌+◌, ◌-◌, ◌*◌, ◌^◌, ◌<◌, ◌≤◌, arith, refl, sym, ap, subst, ◌∙◌}
-use Rattle.std.proofs.Math.Nat.{mul-le-mul, mul-le-mul_left, mul-le-mul_right, le_of_mul-le-mul_right}
-use Rattle.std.proofs.lemmas.Nat.{pow_pos}
-use Rattle.std.specs.Int.{div_ceil}
-use Rattle.dl_budget.specs.Sizes.{most_operands}
-use Rattle.dl_exact.proofs.RoundingLaws.{div_ceil_least}
-use Rattle.dl_grid.specs.Width.{cv, pw, rounded_spread, IsSizeWithin}
+use Rattle.dl_budget.proofs.Common.{ℕ, ◌≡◌, ◌+◌, ◌-◌, ◌*◌, ◌^◌, ◌<◌, ◌≤◌, arith, refl, sym, ap, subst, ◌∙◌, mul-le-mul, mul-le-mul_left, mul-le-mul_right, le_of_mul-le-mul_right, pow_pos, div_ceil, most_operands, div_ceil_least, cv, pw, rounded_spread, IsSizeWithin}
 use Rattle.dl_grid.proofs.WidthLaws.{size_step, size_joined, pw_even, pw_odd}
 
 -- a size is within itself, and within what is greater

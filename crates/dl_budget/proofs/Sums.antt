@@ -1,16 +1,12 @@
 -- Budgets of sums of units, as a loop over the units makes them.
-use Rattle.std.proofs.Common.{ℕ, zero, suc, ◌≡◌, ◌+◌, ◌-◌, ◌*◌, ◌^◌, ◌<◌, ◌≤◌, List, [], ◌∷◌, ◌++◌, length, get_or, take, drop, arith, refl, sym, ap, ap₂, subst, ◌∙◌, add-one}
-use Rattle.std.specs.List.{fold, remove}
-use Rattle.std.proofs.Math.Nat.{mul-le-mul}
-use Rattle.std.proofs.lemmas.Nat.{pow_pos}
-use Rattle.std.proofs.lemmas.List.{length-map, length-take, length-drop, take_all}
+use Rattle.dl_budget.proofs.Common.{ℕ, zero, suc, ◌≡◌, ◌+◌, ◌-◌, ◌*◌, ◌^◌, ◌<◌, ◌≤◌, List, [], ◌∷◌, length, get_or, take, drop, arith, refl, sym, ap, ap₂, subst, ◌∙◌, fold, remove, mul-le-mul, pow_pos, take_all, cv, rounded_spread, IsSizeWithin, sum_spread, IsOfUnits, unit_budgets, from_there}
+use Rattle.std.proofs.Common.{◌++◌}
+use Rattle.std.proofs.lemmas.List.{length-map, length-take, length-drop}
 use Rattle.std.proofs.lemmas.List.Sums.{fold_more, fold-append}
-use Rattle.dl_grid.specs.Width.{cv, rounded_spread, IsSizeWithin, sum_spread}
+use Rattle.dl_limits.specs.Limits.{most_unit_budget}
 use Rattle.dl_plan.specs.declared.plan.Unit.{Unit as UnitOfPlan}
-use Rattle.dl_budget.specs.Sizes.{most_unit_budget, IsOfUnits}
-use Rattle.dl_budget.specs.Units.{unit_budget, unit_budgets}
+use Rattle.dl_budget.specs.Units.{unit_budget}
 use Rattle.dl_budget.proofs.SizeLaws.{size_least, size_step_of, spread_near, far_below}
-use Rattle.dl_exact.proofs.Lists.{from_there}
 
 -- the budget of the unit at a place
 budget_at : (S cells : ℕ) (us : List UnitOfPlan) (i : ℕ) (u : UnitOfPlan) → i < length us

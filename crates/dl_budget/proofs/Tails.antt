@@ -1,13 +1,7 @@
 -- The budget of a tail mean by whole numbers.
-use Rattle.std.proofs.Common.{ℕ, ◌≡◌, ◌+◌, ◌-◌, ◌*◌, ◌^◌, ◌<◌, ◌≤◌, arith, ap, ap₂, sym, subst, ◌∙◌}
-use Rattle.std.specs.Int.{div_ceil}
-use Rattle.std.proofs.Math.Nat.{mul-le-mul, mul-le-mul_left}
-use Rattle.dl_exact.specs.Fraction.{Fraction, whole, ◌over◌, ◌<ℚ◌}
-use Rattle.dl_exact.proofs.Over.{over_self, lt_over}
-use Rattle.dl_exact.proofs.Laws.{one_pos}
-use Rattle.dl_exact.proofs.RoundingLaws.{div_ceil_least}
-use Rattle.dl_grid.specs.Width.{up}
-use Rattle.dl_grid.proofs.WidthLaws.{up_quotient}
+use Rattle.dl_budget.proofs.Common.{ℕ, ◌≡◌, ◌+◌, ◌-◌, ◌*◌, ◌^◌, ◌<◌, ◌≤◌, arith, ap, ap₂, sym, subst, ◌∙◌, div_ceil, mul-le-mul, mul-le-mul_left, Fraction, whole, ◌over◌, over_self, one_pos, div_ceil_least, up, up_quotient}
+use Rattle.dl_exact.specs.Fraction.{◌<ℚ◌}
+use Rattle.dl_exact.proofs.Over.{lt_over}
 
 -- a fraction below 1
 pub level_below : (p : Fraction) → p <ℚ whole 1 → p.num < p.den

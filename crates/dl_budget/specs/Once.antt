@@ -1,9 +1,8 @@
 -- The budgets of a plan that most asks need.
 use Rattle.std.specs.Prelude.{ℕ, ◌≡◌, ◌<◌, ◌≤◌}
-use Rattle.dl_limits.specs.Limits.{budget_bound}
+use Rattle.dl_limits.specs.Limits.{budget_bound, most_mean_budget}
 use Rattle.dl_plan.specs.declared.plan.Plan.{Plan}
 use Rattle.dl_budget.specs.declared.once.Budgets.{Budgets}
-use Rattle.dl_budget.specs.Sizes.{most_mean_budget}
 use Rattle.dl_budget.specs.Units.{total_budget, mean_budget}
 
 -- the budgets of the plan's total and of its mean, neither too large to count with

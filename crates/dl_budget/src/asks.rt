@@ -1,12 +1,11 @@
 //! The budget of an ask, what it needs, and whether it passes.
 
 ghost use Rattle.std.specs.Prelude.{ℕ, ◌≡◌, ◌+◌, ◌*◌, ◌^◌, ◌<◌, ◌≤◌, ◌↔◌, List, All, IsTrue, length};
-ghost use Rattle.dl_limits.specs.Limits.{most_digits, most_units};
+ghost use Rattle.dl_limits.specs.Limits.{most_digits, most_units, most_ask_budget};
 ghost use Rattle.dl_plan.specs.declared.settings.Ask.TheVariants.{LayerMean};
 ghost use Rattle.dl_plan.specs.Ranges.{IsLevel};
 ghost use Rattle.dl_plan.specs.Valid.{IsValid};
 ghost use Rattle.dl_budget.specs.Asks.{IsInside, IsAskOf, place_of, ask_budget, layer_mean_budget, tail_budget, joint_budget, kappa_budget, in_digits, needed, Passes};
-ghost use Rattle.dl_budget.specs.Sizes.{most_ask_budget};
 ghost use Rattle.dl_budget.specs.Once.{AreBudgetsOf};
 
 use crate::once::{Budgets, budgets_of};

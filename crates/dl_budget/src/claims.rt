@@ -3,7 +3,7 @@
 ghost use Rattle.std.specs.Prelude.{ℕ, ◌≡◌, ◌+◌, ◌*◌, ◌^◌, ◌≤◌, ◌<◌, All};
 ghost use Rattle.dl_limits.specs.Limits.{most_cells, most_claims_budget, most_expected, most_shape};
 ghost use Rattle.dl_exact.specs.Fraction.{whole, ◌<ℚ◌, ◌≤ℚ◌};
-ghost use Rattle.dl_plan.specs.Fine.{IsAdmitted};
+ghost use Rattle.dl_plan.specs.Fine.{HasPartsOf48Bits};
 ghost use Rattle.dl_plan.specs.Valid.{IsValidUnit};
 ghost use Rattle.dl_budget.specs.Claims.{poisson_budget, gamma_budget, claims_budget};
 
@@ -49,7 +49,7 @@ fn poisson_budget<const B: u32>(mean: Frac, cells: u32) -> u128
 fn gamma_budget<const B: u32>(mean: Frac, shape: u32, cells: u32) -> u128
     requires scale { B ≡ 56 }
     requires within { mean ≤ℚ whole most_expected }
-    requires admitted { IsAdmitted mean }
+    requires admitted { HasPartsOf48Bits mean }
     requires some { 1 ≤ shape }
     requires most { shape ≤ most_shape }
     requires few { cells ≤ most_cells }

@@ -8,13 +8,11 @@ mod claims;
 mod laws;
 mod once;
 mod steps;
-#[cfg(test)]
-mod tests;
 mod units;
 
 pub use asks::{ask_budget, needed, needed_with, passes, place};
 pub use claims::claims_budget;
 pub use laws::{law_halvings, law_horizons};
 pub use once::{Budgets, budgets_of};
-pub use steps::halvings;
+pub use steps::{doubled, halvings, joined, listed, power};
 pub use units::{others_budget, total_budget, unit_budget};

@@ -1,11 +1,11 @@
 //! The budgets of units, of their sums and of their means.
 
 ghost use Rattle.std.specs.Prelude.{ℕ, ◌≡◌, ◌+◌, ◌*◌, ◌^◌, ◌<◌, ◌≤◌, List, All, length, sum_by, fold};
-ghost use Rattle.dl_limits.specs.Limits.{budget_bound, most_cells, most_claims_budget, most_layers, most_plan_cells, most_units};
+ghost use Rattle.dl_limits.specs.Limits.{budget_bound, most_cells, most_claims_budget, most_layers, most_plan_cells, most_units, most_unit_budget, most_mean_budget};
 ghost use Rattle.dl_grid.specs.Width.{cv, sum_spread};
 ghost use Rattle.dl_plan.specs.Horizon.{IsHorizonOf};
 ghost use Rattle.dl_plan.specs.Valid.{IsWithinMostAmount, IsValidUnit, IsValid};
-ghost use Rattle.dl_budget.specs.Sizes.{most_unit_budget, most_mean_budget, IsOfUnits};
+ghost use Rattle.dl_budget.specs.Sizes.{IsOfUnits};
 ghost use Rattle.dl_plan.specs.MeanWidth.{part_width};
 ghost use Rattle.dl_budget.specs.Units.{unit_budget, unit_budgets, unit_mean_budget, total_budget, others_budget, mean_budget};
 

@@ -1,16 +1,11 @@
 -- The probability of cell 0 of a geometric count and of a Poisson count of a small mean, from whole numbers.
-use Rattle.std.proofs.Common.{◌≡◌, ℕ, suc, zero, ◌+◌, ◌*◌, ◌<◌, ◌≤◌, arith, sym, ap, subst, subst₂, ◌∙◌, mul-pos, mul-le-mul_right}
-use Rattle.std.proofs.Math.Nat.{zero-lt-suc}
-use Rattle.dl_exact.specs.Fraction.{Fraction, ◌over◌, ◌+ℚ◌, ◌*ℚ◌, ◌≤ℚ◌, ◌<ℚ◌, whole}
-use Rattle.dl_exact.specs.Sum.{sum_to}
-use Rattle.dl_model.specs.Series.{IsBound, Holds}
-use Rattle.dl_model.specs.Counts.{poisson, gamma}
-use Rattle.dl_exact.proofs.Over.{over_le, over_add, over_mul, over_same, over_lt}
-use Rattle.dl_exact.proofs.Laws.{ring, one_pos, one_times, times_comm, le_refl, le_trans, times_le_times, times_le_cancel, plus_le_both, plus_times, times_plus, whole_pos, whole_plus, whole_times, over_times_whole, times_le_both}
+use Rattle.dl_direct.proofs.Common.{◌≡◌, ℕ, suc, zero, ◌+◌, ◌*◌, ◌<◌, ◌≤◌, arith, sym, ap, subst, subst₂, ◌∙◌, mul-pos, mul-le-mul_right, zero-lt-suc, Fraction, ◌over◌, ◌+ℚ◌, ◌*ℚ◌, ◌≤ℚ◌, ◌<ℚ◌, whole, sum_to, poisson, gamma, over_le, over_add, over_mul, over_same, ring, one_pos, one_times, times_comm, le_refl, le_trans, times_le_times, times_le_cancel, whole_pos, whole_plus, whole_times, over_times_whole, times_le_both, whole_le}
+use Rattle.dl_model.specs.Series.{Holds, IsBound}
+use Rattle.dl_exact.proofs.Over.{over_lt}
+use Rattle.dl_exact.proofs.Laws.{plus_le_both, plus_times, times_plus}
 use Rattle.dl_exact.proofs.Sums.{halving_bound}
 use Rattle.dl_model.proofs.PoissonWeights.{poisson_next}
 use Rattle.dl_model.proofs.Gamma.{geometric_low, geometric_least}
-use Rattle.dl_exact.proofs.RoundingLaws.{whole_le}
 
 -- ---- geometric
 

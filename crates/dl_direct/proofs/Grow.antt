@@ -1,19 +1,27 @@
 -- One more cell.
-use Rattle.std.proofs.Common.{◌≡◌, inl, inr, ℕ, suc, zero, ◌+◌, ◌-◌, ◌*◌, ◌/◌, ◌^◌, ◌<◌, ◌≤◌, List, [], ◌∷◌, ◌++◌, length, get_or, arith, sym, ap, subst, subst₂, ◌∙◌, mul-pos, div-mul-le_self}
-use Rattle.std.specs.List.{sum_by, All}
-use Rattle.std.proofs.Math.Nat.{zero-lt-suc}
+use Rattle.dl_direct.proofs.Common.{◌≡◌, inl, inr, ℕ, suc, zero, ◌+◌, ◌-◌, ◌*◌, ◌/◌, ◌^◌, ◌<◌, ◌≤◌, List, [], ◌∷◌, ◌++◌, length, get_or, arith, sym, ap, subst, subst₂, ◌∙◌, mul-pos, div-mul-le_self, sum_by, All, zero-lt-suc, cases_lt, length-append, Fraction, ◌*ℚ◌, ◌≤ℚ◌, whole, count_pairs, times_one, le_of_eq, Part, part_at, contribution, FollowsInWhole, IsRound, AreSlideCells}
 use Rattle.std.proofs.Math.ListN.{get_or-append}
-use Rattle.std.proofs.Math.Seq.{get_or-append_seam}
-use Rattle.std.proofs.lemmas.Bool.{cases_lt}
-use Rattle.dl_exact.specs.Fraction.{Fraction, ◌*ℚ◌, ◌≤ℚ◌, whole}
-use Rattle.dl_exact.specs.Count.{count_pairs}
-use Rattle.dl_exact.proofs.Laws.{times_one, le_of_eq}
-use Rattle.dl_direct.specs.declared.parts.Part.{Part}
-use Rattle.dl_direct.specs.Runs.{part_at}
-use Rattle.dl_direct.specs.Slide.{contribution, FollowsInWhole, IsRound}
+use Rattle.std.proofs.lemmas.List.{get_or_push}
 use Rattle.dl_direct.proofs.Rounding.{ceil_reaches}
 use Rattle.dl_direct.proofs.Pairs.{contribution_pairs}
 use Rattle.dl_direct.proofs.Steps.{low_step, high_step}
+
+-- what holds at each place and of one more number holds at each place with it at the end
+pushed_at : (P : ℕ → ℕ → Type 0) (xs : List ℕ) (x n : ℕ) → length xs ≡ n → ((k : ℕ) → k < n → P k (get_or xs k 0))
+    → P n x → (k : ℕ) → k < suc n → P k (get_or (xs ++ x ∷ []) k 0)
+pushed_at P xs x n e h last k b = elim (cases_lt k n) [
+  | inl l ↦ subst (P k) (sym (get_or-append xs (x ∷ []) 0 k (omega (arith, e, l)))) (h k l)
+  | inr l ↦
+      let k_is : n ≡ k = omega (arith, b, l) in
+      subst (λ i. P i (get_or (xs ++ x ∷ []) i 0)) k_is (subst (P n) (sym (get_or_push xs x 0 n e)) last)
+]
+
+small_pushed : (xs : List ℕ) (x B : ℕ) → ((k : ℕ) → get_or xs k 0 ≤ B) → x ≤ B → (k : ℕ)
+    → get_or (xs ++ x ∷ []) k 0 ≤ B
+small_pushed [] x B h b zero = b
+small_pushed [] x B h b (suc k) = omega arith
+small_pushed (y ∷ ys) x B h b zero = h zero
+small_pushed (y ∷ ys) x B h b (suc k) = small_pushed ys x B (λ k. h (suc k)) b k
 
 -- a cell at the end
 pub pushed : (r : ℕ → Fraction) (e n : ℕ) (low high : List ℕ) (x y : ℕ) → length low ≡ n → length high ≡ n
@@ -21,26 +29,19 @@ pub pushed : (r : ℕ → Fraction) (e n : ℕ) (low high : List ℕ) (x y : ℕ
     → whole (x * 2 ^ e) ≤ℚ whole (2 ^ 61) *ℚ r n → whole (2 ^ 61) *ℚ r n ≤ℚ whole (y * 2 ^ e)
     → IsRound r e (suc n) (low ++ x ∷ []) (high ++ y ∷ [])
 pushed r e n low high x y p q h f g = record {
-  low_end = λ k b. elim (cases_lt k n) [
-    | inl l ↦ subst (λ t. whole (t * 2 ^ e) ≤ℚ whole (2 ^ 61) *ℚ r k)
-        (sym (get_or-append low (x ∷ []) 0 k (omega (arith, p, l)))) (h.low_end k l)
-    | inr l ↦
-        let k_is : n ≡ k = omega (arith, b, l) in
-        let at : get_or (low ++ x ∷ []) n 0 ≡ x = ap (λ i. get_or (low ++ x ∷ []) i 0) (sym p)
-        ∙ get_or-append_seam low x [] 0 in
-        subst (λ i. whole (get_or (low ++ x ∷ []) i 0 * 2 ^ e) ≤ℚ whole (2 ^ 61) *ℚ r i) k_is
-        (subst (λ t. whole (t * 2 ^ e) ≤ℚ whole (2 ^ 61) *ℚ r n) (sym at) f)
-  ];
-  high_end = λ k b. elim (cases_lt k n) [
-    | inl l ↦ subst (λ t. whole (2 ^ 61) *ℚ r k ≤ℚ whole (t * 2 ^ e))
-        (sym (get_or-append high (y ∷ []) 0 k (omega (arith, q, l)))) (h.high_end k l)
-    | inr l ↦
-        let k_is : n ≡ k = omega (arith, b, l) in
-        let at : get_or (high ++ y ∷ []) n 0 ≡ y = ap (λ i. get_or (high ++ y ∷ []) i 0) (sym q)
-        ∙ get_or-append_seam high y [] 0 in
-        subst (λ i. whole (2 ^ 61) *ℚ r i ≤ℚ whole (get_or (high ++ y ∷ []) i 0 * 2 ^ e)) k_is
-        (subst (λ t. whole (2 ^ 61) *ℚ r n ≤ℚ whole (t * 2 ^ e)) (sym at) g)
-  ];
+  low_end = pushed_at (λ k t. whole (t * 2 ^ e) ≤ℚ whole (2 ^ 61) *ℚ r k) low x n p h.low_end f;
+  high_end = pushed_at (λ k t. whole (2 ^ 61) *ℚ r k ≤ℚ whole (t * 2 ^ e)) high y n q h.high_end g;
+}
+
+pub cells_pushed : (low high : List ℕ) (first x y : ℕ) → AreSlideCells low high first → first ≤ length low → x ≤ 2 ^ 62
+    → y ≤ 2 ^ 62 → AreSlideCells (low ++ x ∷ []) (high ++ y ∷ []) first
+cells_pushed low high first x y h within p q = record {
+  alike = simp length-append (omega (arith, h.alike));
+  low_small = small_pushed low x (2 ^ 62) h.low_small p;
+  high_small = small_pushed high y (2 ^ 62) h.high_small q;
+  low_settled = λ k l. get_or-append low (x ∷ []) 0 k (omega (arith, l, within)) ∙ h.low_settled k l;
+  high_settled = λ k l. subst (λ t. t ≤ 1) (sym (get_or-append high (y ∷ []) 0 k (omega (arith, l, within, h.alike))))
+      (h.high_settled k l);
 }
 
 module _ (parts : List Part) (a b q : ℕ) (r : ℕ → Fraction) (amounts : All (λ p. 0 < p.amount) parts) (q_pos : 0 < q)

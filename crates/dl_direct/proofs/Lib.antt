@@ -1,3 +1,4 @@
+mod Common
 pub mod Starts
 pub mod Beginnings
 pub mod Rounding

@@ -1,15 +1,8 @@
 -- The sum over the parts is the sum over amounts and cells that the recursion has.
-use Rattle.std.proofs.Common.{◌≡◌, ◌≢◌, inl, inr, ℕ, suc, zero, ◌+◌, ◌-◌, ◌*◌, ◌<◌, List, [], ◌∷◌, cond, get_or, arith, refl, sym, ap, ap₂, ◌∙◌, zero-mul}
-use Rattle.std.proofs.Math.Nat.{zero-lt-suc}
-use Rattle.std.specs.List.{sum_by, All}
-use Rattle.std.specs.Prelude.{nat_eq}
-use Rattle.std.proofs.lemmas.List.Sums.{sum_by-cons}
+use Rattle.dl_direct.proofs.Common.{◌≡◌, inl, inr, ℕ, suc, zero, ◌+◌, ◌-◌, ◌*◌, ◌<◌, List, [], ◌∷◌, cond, get_or, arith, refl, sym, ap, ap₂, ◌∙◌, zero-lt-suc, sum_by, All, sum_by-cons, cases_lt, count_pairs, Part, part_at, contribution}
+use Rattle.std.proofs.Common.{◌≢◌, zero-mul}
 use Rattle.std.proofs.lemmas.Bool.Decides.{eqb_tells}
-use Rattle.std.proofs.lemmas.Bool.{cases_lt}
-use Rattle.dl_exact.specs.Count.{count_pairs}
-use Rattle.dl_direct.specs.declared.parts.Part.{Part}
-use Rattle.dl_direct.specs.Runs.{part_at}
-use Rattle.dl_direct.specs.Slide.{contribution}
+use Rattle.std.specs.Prelude.{nat_eq}
 use Rattle.dl_direct.proofs.Reach.{contribution_yes, contribution_no}
 use Rattle.dl_exact.proofs.Counts.{pairs_same, pairs_plus, pairs_none, pairs_only, pairs_past}
 

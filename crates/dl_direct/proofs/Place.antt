@@ -1,14 +1,9 @@
 -- Placed cells, one by one.
-use Rattle.std.proofs.Common.{◌≡◌, ◌⊎◌, inl, inr, ℕ, ◌+◌, ◌-◌, ◌*◌, ◌/◌, ◌^◌, ◌<◌, ◌≤◌, List, [], ◌∷◌, ◌++◌, length, length-append, get_or, arith, sym, ap, subst, subst₂, ◌∙◌, pow-add, mul-le-mul_left, mul-le-mul_right}
-use Rattle.std.proofs.Math.Nat.{lt-div-mul-add}
-use Rattle.std.proofs.lemmas.Bool.{cases_lt}
+use Rattle.dl_direct.proofs.Common.{◌≡◌, ◌⊎◌, inl, inr, ℕ, ◌+◌, ◌-◌, ◌*◌, ◌/◌, ◌^◌, ◌<◌, ◌≤◌, List, [], ◌∷◌, ◌++◌, length, length-append, get_or, arith, sym, ap, subst, subst₂, ◌∙◌, pow-add, mul-le-mul_left, mul-le-mul_right, lt-div-mul-add, cases_lt, sum, sum_by_push, IsPlaced}
 use Rattle.std.proofs.Math.ListN.{get_or-append}
 use Rattle.std.proofs.Math.Seq.{get_or-append_seam}
-use Rattle.std.specs.List.{sum}
-use Rattle.std.proofs.lemmas.List.Sums.{sum_by_push}
-use Rattle.std.proofs.lemmas.List.{get_or_past}
 use Rattle.dl_direct.specs.declared.start.Scaled.{Scaled}
-use Rattle.dl_direct.specs.Placed.{IsPlaced}
+use Rattle.std.proofs.lemmas.List.{get_or_past}
 use Rattle.dl_direct.proofs.Starts.{two_pos, two_le}
 
 pub up_reaches : (p d e : ℕ) → 0 < p → d ≤ e → p ≤ ((p - 1) / 2 ^ d + 1) * 2 ^ e

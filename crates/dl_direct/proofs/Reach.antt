@@ -1,11 +1,6 @@
 -- The sums over the parts: one more part, and bounds.
-use Rattle.std.proofs.Common.{◌≡◌, inl, inr, ℕ, ◌+◌, ◌-◌, ◌*◌, ◌^◌, ◌<◌, ◌≤◌, List, cond, length, take, get_or, arith, sym, ap, ap₂, ◌∙◌, mul-le-mul, mul-le-mul_left, mul-le-mul_right}
-use Rattle.std.specs.List.{sum_by}
-use Rattle.std.proofs.lemmas.List.Sums.{sum_by_more, sum_by_more_le}
+use Rattle.dl_direct.proofs.Common.{◌≡◌, inl, inr, ℕ, ◌+◌, ◌-◌, ◌*◌, ◌^◌, ◌<◌, ◌≤◌, List, cond, length, take, get_or, arith, sym, ap, ap₂, ◌∙◌, mul-le-mul, mul-le-mul_left, mul-le-mul_right, sum_by, sum_by_more, sum_by_more_le, Part, part_sum, contribution}
 use Rattle.std.proofs.lemmas.Bool.Decides.{leb_tells}
-use Rattle.dl_direct.specs.declared.parts.Part.{Part}
-use Rattle.dl_direct.specs.Runs.{part_sum}
-use Rattle.dl_direct.specs.Slide.{contribution}
 
 module _ (a b : ℕ) (cells : List ℕ) (s : ℕ) where
   pub contribution_yes : (p : Part) → p.amount ≤ s

@@ -1,16 +1,7 @@
 -- Runs: their amounts one by one, and what they give to the next cell by the sums of the cells.
-use Rattle.std.proofs.Common.{◌≡◌, inl, inr, ℕ, suc, zero, ◌+◌, ◌-◌, ◌*◌, ◌^◌, ◌<◌, ◌≤◌, List, [], ◌∷◌, ◌++◌, length, take, get_or, arith, refl, sym, ap, ap₂, subst, subst₂, ◌∙◌, mul-le-mul, mul-le-mul_left, mul-le-mul_right}
-use Rattle.std.proofs.Math.Nat.{zero-lt-suc}
-use Rattle.std.specs.List.{sum_by, All, flat_map}
-use Rattle.std.proofs.lemmas.List.Sums.{sum_by-cons, sum_by-append, sum_by_push, sum_by_more, sum_by_more_le}
-use Rattle.std.proofs.lemmas.List.Elements.{All-append}
-use Rattle.std.proofs.lemmas.Bool.{cases_lt}
-use Rattle.dl_exact.specs.Count.{count_below}
-use Rattle.dl_direct.specs.declared.parts.Part.{Part}
-use Rattle.dl_direct.specs.declared.parts.Run.{Run}
+use Rattle.dl_direct.proofs.Common.{◌≡◌, inl, inr, ℕ, suc, zero, ◌+◌, ◌-◌, ◌*◌, ◌^◌, ◌<◌, ◌≤◌, List, [], ◌∷◌, ◌++◌, length, take, get_or, arith, refl, sym, ap, ap₂, subst, subst₂, ◌∙◌, mul-le-mul, mul-le-mul_left, mul-le-mul_right, zero-lt-suc, sum_by, All, flat_map, sum_by-cons, sum_by-append, sum_by_push, sum_by_more, sum_by_more_le, cases_lt, count_below, Part, Run, in_a_row, run_parts, all_parts, part_sum, ArePositiveAmounts, contribution, sum_to_cell, sums_before}
 use Rattle.dl_direct.specs.declared.parts.Amounts.{Amounts}
-use Rattle.dl_direct.specs.Runs.{in_a_row, run_parts, all_parts, part_sum, ArePositiveAmounts}
-use Rattle.dl_direct.specs.Slide.{contribution, sum_to_cell, sums_before}
+use Rattle.std.proofs.lemmas.List.Elements.{All-append}
 use Rattle.dl_direct.proofs.Reach.{contribution_yes, contribution_no}
 
 -- ---- the amounts of a run

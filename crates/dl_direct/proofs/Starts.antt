@@ -1,12 +1,9 @@
 -- The probability of cell 0: products, and powers of weights.
-use Rattle.std.proofs.Common.{◌≡◌, ℕ, suc, zero, ◌+◌, ◌*◌, ◌/◌, ◌^◌, ◌<◌, ◌≤◌, arith, sym, ap, subst, ◌∙◌, mul-pos, mul-le-mul_right, pow-suc, le_of_mul-le-mul_right, div-mul-le_self, pow-add}
-use Rattle.std.proofs.Math.Nat.{zero-lt-suc, one-le-pow, pow-le-pow_right, lt-div-mul-add}
-use Rattle.dl_exact.specs.Fraction.{Fraction, ◌over◌, ◌*ℚ◌, ◌≤ℚ◌, whole}
-use Rattle.dl_exact.specs.Sum.{sum_to}
-use Rattle.dl_model.specs.Series.{Series, AtMost, AtLeast, Holds, times}
+use Rattle.dl_direct.proofs.Common.{◌≡◌, ℕ, suc, zero, ◌+◌, ◌*◌, ◌/◌, ◌^◌, ◌<◌, ◌≤◌, arith, sym, ap, subst, ◌∙◌, mul-pos, mul-le-mul_right, pow-suc, div-mul-le_self, pow-add, zero-lt-suc, lt-div-mul-add, Fraction, ◌over◌, ◌*ℚ◌, ◌≤ℚ◌, whole, sum_to, over_le, over_mul, one_times, le_refl, le_of_eq}
+use Rattle.std.proofs.Common.{le_of_mul-le-mul_right}
+use Rattle.std.proofs.Math.Nat.{one-le-pow, pow-le-pow_right}
+use Rattle.dl_model.specs.Series.{AtMost, AtLeast, Holds, Series, times}
 use Rattle.dl_model.specs.Compound.{convolve}
-use Rattle.dl_exact.proofs.Over.{over_le, over_mul}
-use Rattle.dl_exact.proofs.Laws.{one_times, le_refl, le_of_eq}
 use Rattle.dl_model.proofs.Declared.{at_most_wider, at_least_wider, at_most_times, at_least_times}
 use Rattle.dl_model.proofs.FamilyLaws.{sum_rises_to}
 use Rattle.dl_model.proofs.Alike.{most_from, least_from}

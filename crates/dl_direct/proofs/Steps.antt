@@ -1,13 +1,8 @@
 -- One step of the recursion and one shift, over whole numbers that stand round 2 ^ 61 * r.
-use Rattle.std.proofs.Common.{◌≡◌, ℕ, suc, zero, ◌+◌, ◌-◌, ◌*◌, ◌/◌, ◌^◌, ◌<◌, ◌≤◌, List, get_or, arith, refl, sym, ap, subst, subst₂, ◌∙◌, mul-le-mul_right, div-mul-le_self, pow-add}
-use Rattle.std.proofs.Math.Nat.{zero-lt-suc}
-use Rattle.dl_exact.specs.Fraction.{Fraction, ◌+ℚ◌, ◌*ℚ◌, ◌≤ℚ◌, whole}
-use Rattle.dl_exact.specs.Sum.{sum_pairs}
-use Rattle.dl_exact.specs.Count.{count_pairs}
-use Rattle.dl_exact.proofs.Laws.{ring, times_comm, times_assoc, times_left_comm, whole_plus, whole_times, whole_pos, le_refl, le_trans, times_le_cancel, times_le_both}
+use Rattle.dl_direct.proofs.Common.{◌≡◌, ℕ, suc, zero, ◌+◌, ◌-◌, ◌*◌, ◌/◌, ◌^◌, ◌<◌, ◌≤◌, List, get_or, arith, refl, sym, ap, subst, subst₂, ◌∙◌, mul-le-mul_right, div-mul-le_self, pow-add, zero-lt-suc, Fraction, ◌+ℚ◌, ◌*ℚ◌, ◌≤ℚ◌, whole, count_pairs, ring, times_comm, whole_plus, whole_times, whole_pos, le_refl, le_trans, times_le_cancel, times_le_both, whole_le, IsRound}
+use Rattle.dl_exact.proofs.Laws.{times_assoc, times_left_comm}
 use Rattle.dl_exact.proofs.Sums.{sum_pairs_same, sum_pairs_times, sum_pairs_times_right, sum_pairs_le}
-use Rattle.dl_exact.proofs.RoundingLaws.{whole_le}
-use Rattle.dl_direct.specs.Slide.{IsRound}
+use Rattle.dl_exact.specs.Sum.{sum_pairs}
 use Rattle.dl_direct.proofs.Rounding.{ceil_reaches, ceil_least}
 
 -- a sum of whole numbers as a sum of fractions

@@ -1,32 +1,21 @@
 -- The placed cells enclose the compound sum.
-use Rattle.std.proofs.Common.{◌≡◌, inl, inr, ℕ, suc, zero, ◌+◌, ◌*◌, ◌^◌, ◌<◌, ◌≤◌, max, List, get_or, arith, sym, ap, ap₂, subst, subst₂, ◌∙◌, pow-add}
-use Rattle.std.proofs.Math.Nat.{le-max_left, le-max_right}
-use Rattle.dl_exact.specs.Fraction.{Fraction, ◌over◌, ◌+ℚ◌, ◌*ℚ◌, ◌≤ℚ◌, ◌<ℚ◌, whole}
-use Rattle.dl_exact.specs.Sum.{sum_to}
+use Rattle.dl_direct.proofs.Common.{◌≡◌, inl, inr, ℕ, suc, zero, ◌+◌, ◌*◌, ◌^◌, ◌<◌, ◌≤◌, List, get_or, arith, sym, ap, ap₂, subst, subst₂, ◌∙◌, pow-add, Fraction, ◌over◌, ◌+ℚ◌, ◌*ℚ◌, ◌≤ℚ◌, ◌<ℚ◌, whole, sum_to, cell, over_same, ring, one_pos, times_one, one_times, le_refl, le_trans, times_le_times, times_le_cancel, whole_pos, whole_times, whole_plus, over_times_whole, times_le_both, Part, IsPanjer, HoldsNoClaim, part_at, FollowsInWhole, IsRound, IsPlaced, IsScaled, whole_le}
+use Rattle.std.proofs.Common.{max}
 use Rattle.dl_model.specs.Series.{AtMost, AtLeast}
-use Rattle.dl_model.specs.Compound.{cell}
+use Rattle.dl_model.specs.Family.{compound, Encloses}
+use Rattle.dl_exact.proofs.Laws.{times_pos}
+use Rattle.dl_exact.proofs.Sums.{sum_pairs_same, sum_pairs_times}
+use Rattle.dl_grid.specs.Cells.{low_at, high_at}
+use Rattle.dl_direct.specs.declared.start.Scaled.{Scaled}
+use Rattle.std.proofs.Math.Nat.{le-max_left, le-max_right}
 use Rattle.dl_model.specs.Recursion.{Recursion}
 use Rattle.dl_model.specs.Severity.{IsWithinOne}
-use Rattle.dl_model.specs.Family.{compound, Encloses}
-use Rattle.dl_exact.proofs.Over.{over_same}
-use Rattle.dl_exact.proofs.Laws.{ring, one_pos, times_one, one_times, le_refl, le_trans, times_le_times, times_le_cancel, times_pos, whole_pos, whole_times, whole_plus, over_times_whole, times_le_both}
 use Rattle.dl_model.proofs.Declared.{rises_to}
-use Rattle.dl_exact.proofs.Sums.{sum_pairs_same, sum_pairs_times}
-use Rattle.dl_model.proofs.FamilyLaws.{cell_at_most_one}
-use Rattle.dl_model.proofs.FamilyLaws.{compound_proper}
+use Rattle.dl_model.proofs.FamilyLaws.{cell_at_most_one, compound_proper}
 use Rattle.dl_model.proofs.CompoundLaws.{cell_stays}
 use Rattle.dl_iv.specs.declared.interval.Iv.{Iv}
-use Rattle.dl_grid.specs.Cells.{low_at, high_at}
-use Rattle.dl_direct.specs.declared.parts.Part.{Part}
-use Rattle.dl_direct.specs.declared.start.Scaled.{Scaled}
-use Rattle.dl_model.specs.Counts.{IsPanjer}
-use Rattle.dl_direct.specs.Start.{HoldsNoClaim}
-use Rattle.dl_direct.specs.Runs.{part_at}
-use Rattle.dl_direct.specs.Slide.{FollowsInWhole, IsRound}
-use Rattle.dl_direct.specs.Placed.{IsPlaced, IsScaled}
 use Rattle.dl_model.proofs.Panjer.{recursion_there, recursion_next}
 use Rattle.dl_direct.proofs.Starts.{two_pos}
-use Rattle.dl_exact.proofs.RoundingLaws.{whole_le}
 
 -- ---- the numbers of one cell
 

@@ -1,15 +1,13 @@
 -- The sums of the cells: bounds, one more, and which of them stay when cells change.
-use Rattle.std.proofs.Common.{◌≡◌, inl, inr, ℕ, suc, ◌+◌, ◌*◌, ◌/◌, ◌^◌, ◌<◌, ◌≤◌, List, [], ◌∷◌, ◌++◌, length, length-append, take, get_or, arith, sym, ap, ap₂, subst, ◌∙◌, mul-le-mul, mul-le-mul_right}
+use Rattle.dl_direct.proofs.Common.{◌≡◌, inl, inr, ℕ, suc, ◌+◌, ◌*◌, ◌/◌, ◌^◌, ◌<◌, ◌≤◌, List, [], ◌∷◌, ◌++◌, length, length-append, take, get_or, arith, sym, ap, ap₂, subst, ◌∙◌, mul-le-mul, mul-le-mul_right, cases_lt, count_below, sum_to_cell, sums_before, IsSum, AreSums}
 use Rattle.std.proofs.Math.ListN.{get_or-append}
 use Rattle.std.proofs.Math.Seq.{get_or-append_seam}
-use Rattle.std.proofs.lemmas.List.{get_or-take, length-take}
-use Rattle.std.proofs.lemmas.Bool.{cases_lt}
 use Rattle.dl_limits.specs.Limits.{most_cells}
-use Rattle.dl_exact.specs.Count.{count_below}
-use Rattle.dl_exact.proofs.Counts.{below_bound, below_same}
 use Rattle.dl_direct.specs.declared.cells.Total.{Total}
 use Rattle.dl_direct.specs.declared.cells.Sums.{Sums}
-use Rattle.dl_direct.specs.Slide.{sum_to_cell, sums_before, IsTotal, IsSum, AreSums}
+use Rattle.dl_direct.specs.Slide.{IsTotal}
+use Rattle.std.proofs.lemmas.List.{get_or-take, length-take}
+use Rattle.dl_exact.proofs.Counts.{below_bound, below_same}
 
 -- ---- bounds
 

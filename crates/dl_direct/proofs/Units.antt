@@ -1,21 +1,15 @@
 -- Equal shares of a count, the steps of its weights, and items with their weights times a factor.
-use Rattle.std.proofs.Common.{◌≡◌, inl, inr, ℕ, suc, zero, ◌+◌, ◌-◌, ◌*◌, ◌<◌, ◌≤◌, List, [], ◌∷◌, length, take, get_or, arith, sym, ap, ap₂, subst₂, ◌∙◌, mul-pos, lt_of_mul-lt-mul_right, add-one}
+use Rattle.dl_direct.proofs.Common.{◌≡◌, inl, inr, ℕ, suc, zero, ◌+◌, ◌-◌, ◌*◌, ◌<◌, ◌≤◌, List, [], ◌∷◌, length, take, get_or, arith, sym, ap, ap₂, subst₂, ◌∙◌, mul-pos, add-one, sum_by, sum_by-cons, sum_by_more, Fraction, ◌over◌, ◌+ℚ◌, ◌*ℚ◌, ◌/ℚ◌, whole, over_add, over_mul, over_same, one_pos, one_times, power, poisson, gamma, IsPanjer, Part, in_a_row}
+use Rattle.std.proofs.Common.{lt_of_mul-lt-mul_right}
 use Rattle.std.specs.Prelude.{◌==◌, if◌then◌else◌}
-use Rattle.std.specs.List.{sum_by}
-use Rattle.std.proofs.lemmas.List.Sums.{sum_by-cons, sum_by_more}
 use Rattle.std.proofs.lemmas.Bool.Decides.{eqb_tells}
-use Rattle.dl_exact.specs.Fraction.{Fraction, ◌over◌, ◌+ℚ◌, ◌*ℚ◌, ◌/ℚ◌, whole}
-use Rattle.dl_exact.proofs.Over.{over_add, over_div, over_mul, over_same}
-use Rattle.dl_exact.proofs.Laws.{one_pos, zero_times, one_times}
-use Rattle.dl_model.specs.Compound.{power}
-use Rattle.dl_model.specs.Counts.{poisson, gamma, IsPanjer}
+use Rattle.dl_exact.proofs.Over.{over_div}
+use Rattle.dl_exact.proofs.Laws.{zero_times}
+use Rattle.dl_plan.specs.declared.item.Item.{Item}
+use Rattle.dl_plan.specs.Weighted.{weight_sum, weight_at}
 use Rattle.dl_model.proofs.Panjer.{poisson_class, gamma_class}
 use Rattle.dl_model.proofs.PoissonTimes.{poisson_power}
 use Rattle.dl_model.proofs.Gamma.{gamma_power}
-use Rattle.dl_plan.specs.declared.item.Item.{Item}
-use Rattle.dl_plan.specs.Weighted.{weight_sum, weight_at}
-use Rattle.dl_direct.specs.declared.parts.Part.{Part}
-use Rattle.dl_direct.specs.Runs.{in_a_row}
 use Rattle.dl_direct.proofs.Runs.{row_none, row_more}
 
 pub few_shares : (s num den : ℕ) → s * den < num + num → num ≤ 4096 * den → s < 8192

@@ -1,4 +1,3 @@
-pub mod Sizes
 pub mod Runs
 pub mod Slide
 pub mod Start

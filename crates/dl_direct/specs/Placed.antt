@@ -1,7 +1,7 @@
 -- The cells of the recursion times the probability of no claim, as a grid.
 use Rattle.std.specs.Prelude.{ℕ, ◌≡◌, ◌+◌, ◌*◌, ◌^◌, ◌<◌, ◌≤◌, ◌⊎◌, List, slice_index}
+use Rattle.dl_limits.specs.Limits.{start_bits}
 use Rattle.dl_exact.specs.Fraction.{Fraction, whole, ◌*ℚ◌}
-use Rattle.dl_direct.specs.Sizes.{start_bits}
 use Rattle.dl_direct.specs.declared.parts.Part.{Part}
 use Rattle.dl_direct.specs.declared.start.Scaled.{Scaled}
 use Rattle.dl_direct.specs.Runs.{part_at}

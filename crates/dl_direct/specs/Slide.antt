@@ -1,13 +1,15 @@
 -- Panjer's recursion in whole numbers (Loss Models, "The recursive method"), and cells that share
 -- an exponent.
-use Rattle.std.specs.Prelude.{ℕ, zero, suc, ◌≡◌, ◌+◌, ◌-◌, ◌*◌, ◌^◌, ◌<◌, ◌≤◌, if◌then◌else◌, nat_le, List, get_or, slice_index, length}
+use Rattle.std.specs.Prelude.{ℕ, zero, suc, ◌≡◌, ◌+◌, ◌-◌, ◌*◌, ◌^◌, ◌<◌, ◌≤◌, if◌then◌else◌, nat_le, List, [], ◌∷◌, get_or, slice_index, length, sum_by}
+use Rattle.dl_limits.specs.Limits.{start_bits, most_end, most_given}
 use Rattle.dl_exact.specs.Fraction.{Fraction, whole, ◌*ℚ◌, ◌≤ℚ◌}
 use Rattle.dl_exact.specs.Sum.{sum_pairs}
 use Rattle.dl_exact.specs.Count.{count_below}
-use Rattle.dl_direct.specs.Sizes.{start_bits, most_end}
 use Rattle.dl_direct.specs.declared.parts.Part.{Part}
 use Rattle.dl_direct.specs.declared.cells.Total.{Total}
 use Rattle.dl_direct.specs.declared.cells.Sums.{Sums}
+use Rattle.dl_direct.specs.declared.cells.Ends.{Ends}
+use Rattle.dl_direct.specs.declared.cells.Slid.{Slid}
 use Rattle.dl_direct.specs.Runs.{part_at}
 
 -- what one part gives to cell s: (a * s + b * amount) * weight times the cell that lies its amount
@@ -60,3 +62,47 @@ pub record IsSum (low high : List ℕ) (k : ℕ) (sums : Sums) : Type 0 where
 -- the sums up to each of the first cells
 abbrev pub AreSums : List Sums → List ℕ → List ℕ → Type 0
 AreSums sums low high = (k : ℕ) (d : Sums) → k < length sums → IsSum low high k (get_or sums k d)
+
+-- cells with the sums that are made of them
+pub record IsSlid (x : Slid) : Type 0 where
+  pub sound : AreSlideCells x.low.items x.high.items x.first
+  pub within : x.first ≤ length x.low.items
+  pub sums : AreSums x.sums.items x.low.items x.high.items
+  pub sums_within : length x.sums.items ≤ length x.low.items
+
+-- what the parts give to the cell after those of x; y is x with all sums made that it takes
+pub record IsReached (parts : List Part) (a b : ℕ) (x y : Slid) (ends : Ends) : Type 0 where
+  pub low : ends.low ≡ sum_by (contribution a b x.low.items (length x.low.items)) parts
+  pub high : ends.high ≡ sum_by (contribution a b x.high.items (length x.low.items)) parts
+  pub high_room : ends.high ≤ most_given
+  pub sums : AreSums y.sums.items y.low.items y.high.items
+  pub within : length y.sums.items ≤ length y.low.items
+  pub same_low : y.low ≡ x.low
+  pub same_high : y.high ≡ x.high
+  pub same_first : y.first ≡ x.first
+  pub same_shift : y.shift ≡ x.shift
+
+-- y has one cell more than x, the next one of the recursion
+pub record IsGrown (parts : List Part) (a b q : ℕ) (x y : Slid) : Type 0 where
+  pub slid : IsSlid y
+  pub cells : length y.low.items ≡ length x.low.items + 1
+  pub shift : y.shift ≤ x.shift + 64
+  pub round : (r : ℕ → Fraction) → FollowsInWhole parts a b q r
+      → IsRound r x.shift (length x.low.items) x.low.items x.high.items
+      → IsRound r y.shift (length y.low.items) y.low.items y.high.items
+
+-- cell 0 alone
+pub record IsBegun (x : Slid) : Type 0 where
+  pub low : x.low.items ≡ 2 ^ start_bits ∷ []
+  pub high : x.high.items ≡ 2 ^ start_bits ∷ []
+  pub first : x.first ≡ 0
+  pub shift : x.shift ≡ 0
+  pub sums : x.sums.items ≡ []
+
+-- the first n cells of the recursion
+pub record AreFirst (parts : List Part) (a b q n : ℕ) (x : Slid) : Type 0 where
+  pub cells : length x.low.items ≡ n
+  pub shift : x.shift ≤ 64 * n
+  pub sound : AreSlideCells x.low.items x.high.items x.first
+  pub round : (r : ℕ → Fraction) → FollowsInWhole parts a b q r
+      → IsRound r x.shift n x.low.items x.high.items

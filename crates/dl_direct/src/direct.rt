@@ -1,13 +1,12 @@
 //! The grids of units whose counts are of the (a, b, 0) class, by one recursion.
 
 ghost use Rattle.std.specs.Prelude.{◌≡◌, ℕ, ◌+◌, ◌-◌, ◌*◌, ◌^◌, ◌<◌, ◌≤◌, length, IfOk, IfSome, IsTrue};
-ghost use Rattle.dl_limits.specs.Limits.{most_cells, most_expected, most_shape, most_parts, admitted_bound, frac_bound};
+ghost use Rattle.dl_limits.specs.Limits.{most_cells, most_expected, most_shape, most_parts, admitted_bound, frac_bound, most_start};
 ghost use Rattle.dl_exact.specs.Fraction.{Fraction, whole, ◌over◌, ◌*ℚ◌, ◌≤ℚ◌};
 ghost use Rattle.dl_grid.specs.Cells.{IsGrid};
 ghost use Rattle.dl_model.specs.Counts.{poisson, gamma_of, IsPanjer};
 ghost use Rattle.dl_model.specs.Family.{compound, GridEncloses};
 ghost use Rattle.dl_plan.specs.Severity.{probability_of};
-ghost use Rattle.dl_direct.specs.Sizes.{most_start};
 ghost use Rattle.dl_direct.specs.Start.{HoldsNoClaim};
 
 use crate::cells::START_BITS;

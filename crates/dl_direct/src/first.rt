@@ -1,13 +1,15 @@
 //! The probability of no claim of Poisson and of gamma counts.
 
 ghost use Rattle.std.specs.Prelude.{◌≡◌, ◌+◌, ◌*◌, ◌^◌, ◌<◌, ◌≤◌};
-ghost use Rattle.dl_limits.specs.Limits.{most_expected, most_shape, admitted_bound};
+ghost use Rattle.dl_limits.specs.Limits.{most_expected, most_shape, admitted_bound, most_start};
 ghost use Rattle.dl_exact.specs.Fraction.{◌over◌};
 ghost use Rattle.dl_model.specs.Counts.{poisson, gamma};
-ghost use Rattle.dl_direct.specs.Sizes.{most_start};
 ghost use Rattle.dl_direct.specs.Start.{HoldsNoClaim};
 
-use crate::start::{Scaled, TOP, power_of};
+use crate::start::{Scaled, power_of};
+
+/// What 1 is, in units of 1 / 2^63.
+const ONE: u128 = 1 << 63;
 
 /// Of the geometric count with the ratio `num / (num + rest)`: the rest of 1, `rest / (num +
 /// rest)`.
@@ -20,7 +22,7 @@ fn geometric_start(num: u64, rest: u64) -> Scaled
     ensures holds { HoldsNoClaim (gamma 1 (num over (num + rest))) result }
 {
     let all = u128::from(num + rest);
-    let part = u128::from(rest) * TOP;
+    let part = u128::from(rest) * ONE;
     Scaled {
         low: (part / all) as u64,
         high: ((part + (all - 1)) / all) as u64,
@@ -42,10 +44,10 @@ fn exponential_start(num: u64, den: u64) -> Scaled
     ensures order { result.low ≤ result.high }
     ensures holds { HoldsNoClaim (poisson (num over den)) result }
 {
-    let mut low_term = TOP;
-    let mut high_term = TOP;
-    let mut low = TOP;
-    let mut high = TOP;
+    let mut low_term = ONE;
+    let mut high_term = ONE;
+    let mut low = ONE;
+    let mut high = ONE;
     for n in 0..TERMS {
         let d = u128::from(den) * u128::from(n + 1);
         low_term = low_term * u128::from(num) / d;
@@ -55,8 +57,8 @@ fn exponential_start(num: u64, den: u64) -> Scaled
     }
     high = high + high_term;
     Scaled {
-        low: (TOP * TOP / high) as u64,
-        high: ((TOP * TOP + (low - 1)) / low) as u64,
+        low: (ONE * ONE / high) as u64,
+        high: ((ONE * ONE + (low - 1)) / low) as u64,
         exponent: 63,
     }
 }

@@ -1,9 +1,8 @@
 //! From the cells of the recursion to a grid.
 
 ghost use Rattle.std.specs.Prelude.{◌≡◌, ◌+◌, ◌*◌, ◌^◌, ◌<◌, ◌≤◌, ◌⊎◌, length, IfOk};
-ghost use Rattle.dl_limits.specs.Limits.{most_cells};
+ghost use Rattle.dl_limits.specs.Limits.{most_cells, start_bits, most_end, most_start};
 ghost use Rattle.dl_grid.specs.Cells.{low_at, high_at};
-ghost use Rattle.dl_direct.specs.Sizes.{start_bits, most_end, most_start};
 ghost use Rattle.dl_direct.specs.Slide.{AreSlideCells};
 ghost use Rattle.dl_direct.specs.Placed.{IsPlaced};
 

@@ -1,23 +1,20 @@
 //! The recursion: cells that share one exponent and slide down together.
 
-ghost use Rattle.std.specs.Prelude.{◌≡◌, ℕ, ◌+◌, ◌-◌, ◌*◌, ◌/◌, ◌^◌, ◌<◌, ◌≤◌, suc, length, slice_index, IfOk};
-ghost use Rattle.dl_limits.specs.Limits.{most_cells};
+ghost use Rattle.std.specs.Prelude.{◌≡◌, ℕ, ◌+◌, ◌-◌, ◌*◌, ◌/◌, ◌^◌, ◌<◌, ◌≤◌, suc, [], ◌∷◌, length, slice_index, IfOk};
+ghost use Rattle.dl_limits.specs.Limits.{most_cells, most_end, most_given, start_bits};
 ghost use Rattle.dl_exact.specs.Fraction.{Fraction, whole, ◌*ℚ◌, ◌≤ℚ◌};
-ghost use Rattle.dl_direct.specs.Sizes.{most_end, most_given};
 ghost use Rattle.dl_direct.specs.Runs.{all_parts, part_sum, ArePositiveAmounts};
-ghost use Rattle.dl_direct.specs.Slide.{FollowsInWhole, AreSums, IsRound, AreSlideCells};
+ghost use Rattle.dl_direct.specs.Slide.{AreSums, IsRound, AreSlideCells, IsSlid, IsBegun, IsGrown, AreFirst};
 
 use crate::cells::{Ends, Slid};
 use crate::parts::Amounts;
 use crate::quotient::{Inverse, inverse_of, quotient};
 use crate::sums::reach;
+use dl_limits::MOST_END;
 use std::alloc::{AllocError, Global};
 
 /// 2^61: cell 0, before any shift.
 const START: u64 = 1 << 61;
-
-/// 2^62: the greatest end of a cell.
-const LIMIT: u128 = 1 << 62;
 
 /// Each number over 256, rounded down. Those before `first` are 0.
 fn lower(cells: &mut [u64], first: usize)
@@ -122,7 +119,7 @@ fn fit(x: &mut Slid, next: Ends) -> Ends
         → AreSums x.new.sums.items x.new.low.items x.new.high.items }
     ensures sums_within { length x.new.sums.items ≤ length x.old.sums.items }
 {
-    if next.high <= LIMIT {
+    if next.high <= MOST_END {
         return Ends {
             low: next.low.min(next.high),
             high: next.high,
@@ -131,7 +128,7 @@ fn fit(x: &mut Slid, next: Ends) -> Ends
     let mut low = next.low;
     let mut high = next.high;
     for k in 0..8u32 {
-        if high > LIMIT {
+        if high > MOST_END {
             low = low / 256;
             high = (high + 255) / 256;
             shrink(x);
@@ -167,10 +164,7 @@ fn grow(
     b: u64,
     q: u64,
 ) -> Result<(), AllocError>
-    requires sound { AreSlideCells x.old.low.items x.old.high.items x.old.first }
-    requires within { x.old.first ≤ length x.old.low.items }
-    requires sums { AreSums x.old.sums.items x.old.low.items x.old.high.items }
-    requires sums_within { length x.old.sums.items ≤ length x.old.low.items }
+    requires slid { IsSlid x.old }
     requires some { 0 < length x.old.low.items }
     requires few { length x.old.low.items ≤ most_cells }
     requires room { x.old.shift + 64 < 2 ^ 64 }
@@ -180,16 +174,7 @@ fn grow(
         (all_parts amounts.now) < 2 ^ 64 }
     requires divisor { 0 < q }
     requires divisors { q * length x.old.low.items < 2 ^ 64 }
-    ensures sound { IfOk result (λ u. AreSlideCells x.new.low.items x.new.high.items x.new.first) }
-    ensures within { IfOk result (λ u. x.new.first ≤ length x.new.low.items) }
-    ensures sums { IfOk result (λ u. AreSums x.new.sums.items x.new.low.items x.new.high.items) }
-    ensures sums_within { IfOk result (λ u. length x.new.sums.items ≤ length x.new.low.items) }
-    ensures cells { IfOk result (λ u. length x.new.low.items ≡ length x.old.low.items + 1) }
-    ensures shift { IfOk result (λ u. x.new.shift ≤ x.old.shift + 64) }
-    ensures round { IfOk result (λ u. (r : ℕ → Fraction)
-        → FollowsInWhole (all_parts amounts.now) a b q r
-        → IsRound r x.old.shift (length x.old.low.items) x.old.low.items x.old.high.items
-        → IsRound r x.new.shift (length x.new.low.items) x.new.low.items x.new.high.items) }
+    ensures { IfOk result (λ u. IsGrown (all_parts amounts.now) a b q x.old x.new) }
 {
     let n = x.low.len();
     let d = q * (n as u64);
@@ -201,8 +186,34 @@ fn grow(
     Ok(())
 }
 
-/// The first `cells` cells of the recursion. It takes memory once for each end, for exactly these
-/// cells; and for sums up to them where the amounts have runs.
+/// Cell 0 in a list with room for so many cells.
+fn first_end(alloc: Global, cells: usize) -> Result<Vec<u64>, AllocError>
+    ensures { IfOk result (λ list. list.items ≡ 2 ^ start_bits ∷ []) }
+{
+    let mut list = Vec::with_capacity(alloc, cells)?;
+    list.push(START)?;
+    Ok(list)
+}
+
+/// Cell 0. It takes memory once for each end, for exactly so many cells; and for sums up to them
+/// where the amounts have runs.
+fn begin(alloc: Global, amounts: &Amounts, cells: usize) -> Result<Slid, AllocError>
+    ensures { IfOk result IsBegun }
+{
+    let low = first_end(alloc, cells)?;
+    let high = first_end(alloc, cells)?;
+    let summed = if amounts.runs.is_empty() { 0 } else { cells };
+    let sums = Vec::with_capacity(alloc, summed)?;
+    Ok(Slid {
+        low,
+        high,
+        first: 0,
+        shift: 0,
+        sums,
+    })
+}
+
+/// The first `cells` cells of the recursion.
 pub(crate) fn recur(
     alloc: Global,
     amounts: &Amounts,
@@ -218,26 +229,9 @@ pub(crate) fn recur(
     requires weights { (a + b) * cells * part_sum (all_parts amounts.now) < 2 ^ 64 }
     requires divisor { 0 < q }
     requires divisors { q * cells < 2 ^ 64 }
-    ensures cells { IfOk result (λ g. length g.low.items ≡ cells) }
-    ensures shift { IfOk result (λ g. g.shift ≤ 64 * cells) }
-    ensures sound { IfOk result (λ g. AreSlideCells g.low.items g.high.items g.first) }
-    ensures round { IfOk result (λ g. (r : ℕ → Fraction)
-        → FollowsInWhole (all_parts amounts.now) a b q r
-        → IsRound r g.shift cells g.low.items g.high.items) }
+    ensures { IfOk result (AreFirst (all_parts amounts.now) a b q cells) }
 {
-    let mut low = Vec::with_capacity(alloc, cells)?;
-    let mut high = Vec::with_capacity(alloc, cells)?;
-    low.push(START)?;
-    high.push(START)?;
-    let summed = if amounts.runs.is_empty() { 0 } else { cells };
-    let sums = Vec::with_capacity(alloc, summed)?;
-    let mut x = Slid {
-        low,
-        high,
-        first: 0,
-        shift: 0,
-        sums,
-    };
+    let mut x = begin(alloc, amounts, cells)?;
     let mut inverse = Inverse { about: 0, up: 0 };
     'cells: for n in 1..cells {
         grow(&mut x, &mut inverse, amounts, a, b, q)?;

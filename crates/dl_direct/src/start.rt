@@ -1,10 +1,12 @@
 //! The probability of no claim as two numbers with one exponent, and its powers.
 
 ghost use Rattle.std.specs.Prelude.{◌≡◌, ℕ, ◌+◌, ◌*◌, ◌^◌, ◌<◌, ◌≤◌};
+ghost use Rattle.dl_limits.specs.Limits.{most_start};
 ghost use Rattle.dl_exact.specs.Fraction.{Fraction};
 ghost use Rattle.dl_model.specs.Compound.{convolve, power};
-ghost use Rattle.dl_direct.specs.Sizes.{most_start};
 ghost use Rattle.dl_direct.specs.Start.{HoldsNoClaim};
+
+use dl_limits::MOST_START;
 
 /// The numbers from `low / 2^exponent` to `high / 2^exponent`, both ends among them.
 #[derive(Clone, Copy)]
@@ -16,9 +18,6 @@ pub struct Scaled {
     /// How often the unit halves 1.
     pub exponent: u32,
 }
-
-/// 2^63: the greatest high end.
-pub(crate) const TOP: u128 = 1 << 63;
 
 /// The product, rounded outward: the probability of no claim in two counts together. At least 62
 /// bits of a high end are kept.
@@ -41,7 +40,7 @@ pub(crate) fn times(a: Scaled, b: Scaled) -> Scaled
     let mut high = u128::from(a.high) * u128::from(b.high);
     let mut exponent = a.exponent + b.exponent;
     for k in 0..63u32 {
-        if high > TOP {
+        if high > MOST_START {
             low = low / 2;
             high = (high + 1) / 2;
             exponent -= 1;

@@ -3,10 +3,9 @@
 //! past its last would: each of the two comes from the sums of the cells.
 
 ghost use Rattle.std.specs.Prelude.{◌≡◌, ℕ, ◌+◌, ◌-◌, ◌*◌, ◌/◌, ◌^◌, ◌<◌, ◌≤◌, suc, length, slice_index, sum_by, flat_map, All, IfOk};
-ghost use Rattle.dl_limits.specs.Limits.{most_cells};
-ghost use Rattle.dl_direct.specs.Sizes.{most_end, most_given};
+ghost use Rattle.dl_limits.specs.Limits.{most_cells, most_end};
 ghost use Rattle.dl_direct.specs.Runs.{in_a_row, run_parts, all_parts, part_sum, ArePositiveAmounts};
-ghost use Rattle.dl_direct.specs.Slide.{contribution, IsSum, AreSums, AreSlideCells};
+ghost use Rattle.dl_direct.specs.Slide.{contribution, IsSum, AreSums, AreSlideCells, IsSlid, IsReached};
 
 use crate::cells::{Ends, Slid, Sums, Total};
 use crate::parts::{Amounts, Part, Run};
@@ -219,25 +218,11 @@ fn reach_runs(x: &Slid, runs: &[Run], a: u64, b: u64) -> Ends
 /// What all amounts give to the next cell.
 pub(crate) fn reach(x: &mut Slid, amounts: &Amounts, a: u64, b: u64) -> Result<Ends, AllocError>
     requires few { length x.old.low.items ≤ most_cells }
-    requires settled { AreSlideCells x.old.low.items x.old.high.items x.old.first }
-    requires sums { AreSums x.old.sums.items x.old.low.items x.old.high.items }
-    requires within { length x.old.sums.items ≤ length x.old.low.items }
+    requires slid { IsSlid x.old }
     requires steps { (a + b) * length x.old.low.items < 2 ^ 32 }
     requires room { (a + b) * length x.old.low.items * part_sum (all_parts amounts.now) < 2 ^ 64 }
     requires amounts { ArePositiveAmounts amounts.now }
-    ensures low { IfOk result (λ ends. ends.low
-        ≡ sum_by (contribution a b x.old.low.items (length x.old.low.items))
-        (all_parts amounts.now)) }
-    ensures high { IfOk result (λ ends. ends.high
-        ≡ sum_by (contribution a b x.old.high.items (length x.old.low.items))
-        (all_parts amounts.now)) }
-    ensures high_room { IfOk result (λ ends. ends.high ≤ most_given) }
-    ensures sums { IfOk result (λ ends. AreSums x.new.sums.items x.new.low.items x.new.high.items) }
-    ensures within { IfOk result (λ ends. length x.new.sums.items ≤ length x.new.low.items) }
-    ensures same_low { IfOk result (λ ends. x.new.low ≡ x.old.low) }
-    ensures same_high { IfOk result (λ ends. x.new.high ≡ x.old.high) }
-    ensures same_first { IfOk result (λ ends. x.new.first ≡ x.old.first) }
-    ensures same_shift { IfOk result (λ ends. x.new.shift ≡ x.old.shift) }
+    ensures { IfOk result (IsReached (all_parts amounts.now) a b x.old x.new) }
 {
     let alone = reach_parts(&amounts.parts, a, b, x.low.as_slice(), x.high.as_slice());
     if amounts.runs.is_empty() {

@@ -1,20 +1,14 @@
 -- A grid that follows Panjer's recursion from its own cells, rounded outward, encloses the compound sum.
-use Rattle.std.proofs.Common.{◌≡◌, inl, inr, ℕ, suc, zero, ◌<◌, ◌≤◌, arith, sym, ap, subst, subst₂, ◌∙◌, mul-pos}
-use Rattle.dl_exact.specs.Fraction.{Fraction, ◌over◌, ◌*ℚ◌, ◌≤ℚ◌, whole}
-use Rattle.dl_exact.specs.Sum.{sum_to}
-use Rattle.dl_exact.proofs.Over.{over_same, over_mul, over_le}
-use Rattle.dl_exact.proofs.Laws.{one_pos, ring, times_left_comm, times_zero, one_times, times_one, le_refl, le_trans, le_of_eq, zero_le, times_le_times, times_le_both}
-use Rattle.dl_exact.proofs.Sums.{sum_pairs_same, sum_pairs_times, sum_pairs_le}
-use Rattle.dl_model.specs.Series.{AtMost, AtLeast}
-use Rattle.dl_model.specs.Compound.{at_zero, power, cell}
-use Rattle.dl_model.specs.Counts.{IsPanjer}
-use Rattle.dl_model.specs.Severity.{IsWithinOne}
-use Rattle.dl_model.specs.Family.{compound, Encloses}
-use Rattle.dl_model.specs.Recursion.{Recursion, from_before}
+use Rattle.dl_panjer.proofs.Common.{◌≡◌, inl, inr, ℕ, suc, zero, ◌<◌, ◌≤◌, arith, sym, ap, subst, subst₂, ◌∙◌, mul-pos, Fraction, ◌over◌, ◌*ℚ◌, ◌≤ℚ◌, whole, sum_to, over_same, over_mul, over_le, one_pos, ring, one_times, le_refl, le_trans, le_of_eq, times_le_times, times_le_both, sum_pairs_same, sum_pairs_times, AtLeast, cell, IsPanjer, IsWithinOne, compound, from_before, compound_proper, recursion_there, FollowsOutward}
+use Rattle.dl_exact.proofs.Laws.{times_left_comm, times_zero, times_one, zero_le}
+use Rattle.dl_exact.proofs.Sums.{sum_pairs_le}
+use Rattle.dl_model.specs.Series.{AtMost}
+use Rattle.dl_model.specs.Compound.{at_zero, power}
+use Rattle.dl_model.specs.Family.{Encloses}
+use Rattle.dl_model.specs.Recursion.{Recursion}
 use Rattle.dl_model.proofs.Declared.{at_most_wider}
-use Rattle.dl_model.proofs.FamilyLaws.{compound_proper, cell_at_most_one}
-use Rattle.dl_model.proofs.Panjer.{cell_from_before, cell_zero, recursion_there}
-use Rattle.dl_panjer.specs.Outward.{FollowsOutward}
+use Rattle.dl_model.proofs.FamilyLaws.{cell_at_most_one}
+use Rattle.dl_model.proofs.Panjer.{cell_from_before, cell_zero}
 
 pub in_units : (S n : ℕ) → 0 < S → n over S ≡ whole n *ℚ 1 over S
 in_units S n h = sym (over_mul n 1 1 S one_pos h ∙ over_same _ _ _ _ (mul-pos one_pos h) h (omega arith))

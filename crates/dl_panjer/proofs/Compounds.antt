@@ -1,21 +1,9 @@
 -- The grids of a Poisson and of a geometric count enclose their compound sums.
-use Rattle.std.proofs.Common.{◌≡◌, ℕ, zero, suc, ◌<◌, ◌^◌, true, false, List, length, sym, ap, ap₂, subst, ◌∙◌}
-use Rattle.dl_exact.specs.Fraction.{Fraction, ◌over◌, ◌+ℚ◌, ◌*ℚ◌, ◌/ℚ◌, ◌≤ℚ◌, ◌<ℚ◌, whole}
-use Rattle.dl_exact.specs.Sum.{sum_to}
-use Rattle.dl_exact.proofs.Denominators.{over_zero}
-use Rattle.std.proofs.lemmas.Nat.{pow_pos}
-use Rattle.dl_exact.proofs.Laws.{one_pos, plus_comm, times_comm, zero_times, one_times, plus_times, times_cancel, div_times, div_pos, le_trans, lt_of_lt_of_le, le_plus, whole_pos, times_le_both}
-use Rattle.dl_model.specs.Series.{Series, Holds, IsLeastBound}
-use Rattle.dl_model.specs.Severity.{IsWithinOne}
-use Rattle.dl_model.specs.Counts.{poisson, gamma_of, IsPanjer}
-use Rattle.dl_model.specs.Family.{compound, GridEncloses}
-use Rattle.dl_iv.specs.declared.interval.Iv.{Iv}
-use Rattle.dl_grid.specs.Cells.{low_at, high_at}
-use Rattle.dl_plan.specs.declared.item.Item.{Item}
-use Rattle.dl_plan.specs.Weighted.{weight_at}
-use Rattle.dl_panjer.specs.Bases.{FollowsRounded}
+use Rattle.dl_panjer.proofs.Common.{◌≡◌, ℕ, zero, suc, ◌<◌, ◌^◌, true, false, List, length, sym, ap, ap₂, subst, ◌∙◌, Fraction, ◌over◌, ◌+ℚ◌, ◌*ℚ◌, ◌/ℚ◌, ◌≤ℚ◌, ◌<ℚ◌, whole, sum_to, over_zero, pow_pos, one_pos, times_comm, zero_times, one_times, times_cancel, div_times, le_trans, whole_pos, times_le_both, Holds, IsWithinOne, poisson, gamma_of, IsPanjer, compound, GridEncloses, Iv, low_at, high_at, Item, weight_at, FollowsRounded, poisson_class}
+use Rattle.dl_exact.proofs.Laws.{plus_comm, plus_times, div_pos, lt_of_lt_of_le, le_plus}
+use Rattle.dl_model.specs.Series.{Series, IsLeastBound}
 use Rattle.dl_model.proofs.Gamma.{geometric_least}
-use Rattle.dl_model.proofs.Panjer.{poisson_class, gamma_class}
+use Rattle.dl_model.proofs.Panjer.{gamma_class}
 use Rattle.dl_panjer.proofs.Base.{base_encloses}
 use Rattle.dl_panjer.proofs.Outward.{poisson_outward, geometric_outward}
 

@@ -1,16 +1,27 @@
--- A grid from two lists that hold the ends of cells is these cells.
-use Rattle.std.proofs.Common.{ℕ, ◌≡◌, List, ap, ◌∙◌}
+-- A grid from two lists that hold the ends of all cells is these cells.
+use Rattle.dl_panjer.proofs.Common.{ℕ, ◌≡◌, ◌+◌, ◌<◌, ◌≤◌, ◌∙◌, List, length, take, get_or, sym, ap, ap₂}
+use Rattle.std.proofs.Common.{[], ◌∷◌, ◌++◌}
+use Rattle.std.specs.Prelude.{map}
+use Rattle.std.proofs.lemmas.List.{map_more, take_all}
 use Rattle.dl_iv.specs.declared.interval.Iv.{Iv}
 use Rattle.dl_grid.specs.Cells.{low_ends, high_ends, IsGrid, AreEnds}
-use Rattle.dl_grid.proofs.EndLists.{same_cells, ends_of_grid}
+use Rattle.dl_grid.proofs.EndLists.{ends_of_grid, same_cells}
 
-pub made_ends : {B : ℕ} (cells seen : List (Iv B)) (lows highs : List ℕ) → seen ≡ cells → lows ≡ low_ends seen
-    → highs ≡ high_ends seen → IsGrid cells
-    → AreEnds B lows highs
-made_ends cells seen lows highs e p q grid = rw (p, q, e) (ends_of_grid cells grid)
+-- one more end
+pub end_pushed : {B : ℕ} (f : Iv B → ℕ) (cells : List (Iv B)) (i : ℕ) (cell : Iv B) (ends more : List ℕ)
+    → i < length cells → more ≡ ends ++ f cell ∷ [] → ends ≡ map f (take i cells) → cell ≡ get_or cells i cell
+    → more ≡ map f (take (i + 1) cells)
+end_pushed f cells i cell ends more inside made so is =
+    made ∙ ap₂ (λ l x. l ++ f x ∷ []) so is ∙ sym (map_more f cells i cell inside)
 
-pub made_grid : {B : ℕ} (cells made seen : List (Iv B)) (lows highs : List ℕ) → seen ≡ cells → lows ≡ low_ends seen
-    → highs ≡ high_ends seen
-    → low_ends made ≡ lows → high_ends made ≡ highs → made ≡ cells
-made_grid cells made seen lows highs e p q low high =
-    same_cells made cells (low ∙ p ∙ ap (λ t. low_ends t) e) (high ∙ q ∙ ap (λ t. high_ends t) e)
+pub both_lists : {B : ℕ} (cells : List (Iv B)) (n : ℕ) (lows highs : List ℕ) → IsGrid cells → length cells ≤ n
+    → lows ≡ map (λ t. t.lo) (take n cells) → highs ≡ map (λ t. t.hi) (take n cells) → AreEnds B lows highs
+both_lists cells n lows highs grid all low high =
+    rw (low, high, take_all n cells all) (ends_of_grid cells grid)
+
+pub cells_made : {B : ℕ} (cells g : List (Iv B)) (n : ℕ) (lows highs : List ℕ) → length cells ≤ n
+    → lows ≡ map (λ t. t.lo) (take n cells) → highs ≡ map (λ t. t.hi) (take n cells) → low_ends g ≡ lows
+    → high_ends g ≡ highs → g ≡ cells
+cells_made cells g n lows highs all low high e h =
+    same_cells g cells (e ∙ low ∙ ap (map (λ t. t.lo)) (take_all n cells all))
+    (h ∙ high ∙ ap (map (λ t. t.hi)) (take_all n cells all))

@@ -1,40 +1,17 @@
 -- The list of cells that the recursion makes is a grid, follows the declared recursion, and encloses the compound sum.
-use Rattle.std.proofs.Common.{ℕ, suc, ◌≡◌, ◌+◌, ◌-◌, ◌*◌, ◌^◌, ◌<◌, ◌≤◌, Bool, true, false, List, length, arith, sym, ap, subst, subst₂, ◌∙◌}
-use Rattle.std.specs.Prelude.{All}
-use Rattle.std.proofs.lemmas.Nat.{pow_pos}
-use Rattle.dl_exact.specs.Fraction.{Fraction, ◌over◌, ◌+ℚ◌, ◌*ℚ◌, ◌/ℚ◌, ◌≤ℚ◌, whole}
-use Rattle.dl_exact.specs.Sum.{sum_to}
-use Rattle.dl_exact.proofs.Denominators.{over_zero}
-use Rattle.dl_exact.proofs.Over.{over_same, over_mul, over_le, over_add, over_cross}
-use Rattle.dl_exact.proofs.Laws.{one_pos, le_trans}
-use Rattle.dl_exact.proofs.RoundingLaws.{le_whole}
-use Rattle.dl_iv.specs.declared.interval.Iv.{Iv}
-use Rattle.dl_grid.specs.Cells.{low_at, high_at, spread, IsGrid}
-use Rattle.dl_grid.specs.Width.{up}
-use Rattle.dl_exact.specs.Count.{count_below}
+use Rattle.dl_panjer.proofs.Common.{ℕ, suc, ◌≡◌, ◌+◌, ◌-◌, ◌*◌, ◌^◌, ◌<◌, ◌≤◌, Bool, true, false, List, length, arith, sym, ap, subst, subst₂, ◌∙◌, All, pow_pos, Fraction, ◌over◌, ◌+ℚ◌, ◌*ℚ◌, ◌/ℚ◌, ◌≤ℚ◌, whole, sum_to, over_zero, over_same, over_mul, over_le, over_add, one_pos, le_trans, le_whole, Iv, low_at, high_at, spread, IsGrid, up, count_below, AtLeast, Holds, poisson, gamma_of, IsPanjer, compound, GridEncloses, IsWithinOne, poisson_class, within_one, Item, Sev, probability_of, weight_at, weight_sum, Follows, FollowsOutward, FollowsRounded, severity_total, zero_weight}
+use Rattle.dl_exact.proofs.Over.{over_cross}
 use Rattle.dl_exact.proofs.Counts.{below_first}
 use Rattle.dl_grid.proofs.PlaceSums.{width_at, high_is, whole_mass, whole_spread}
 use Rattle.dl_grid.proofs.WidthLaws.{up_ceiling}
-use Rattle.dl_model.specs.Series.{AtLeast, Holds}
-use Rattle.dl_model.specs.Counts.{poisson, gamma_of, IsPanjer}
-use Rattle.dl_model.specs.Family.{compound, GridEncloses}
-use Rattle.dl_model.specs.Severity.{IsWithinOne}
-use Rattle.dl_model.proofs.Panjer.{poisson_class}
-use Rattle.dl_model.proofs.WithinOne.{within_one}
-use Rattle.dl_plan.specs.declared.item.Item.{Item}
-use Rattle.dl_plan.specs.declared.severity.Sev.{Sev}
-use Rattle.dl_plan.specs.Severity.{probability_of}
-use Rattle.dl_plan.specs.Weighted.{weight_at, weight_sum, IsWeighted}
-use Rattle.dl_panjer.specs.Cells.{Follows}
-use Rattle.dl_panjer.specs.Outward.{FollowsOutward}
-use Rattle.dl_panjer.specs.Bases.{FollowsRounded, IsPoissonBase, IsGeometricBase}
+use Rattle.dl_plan.specs.Weighted.{IsWeighted}
+use Rattle.dl_panjer.specs.Bases.{IsPoissonBase, IsGeometricBase}
 use Rattle.dl_panjer.proofs.Recursions.{poisson_follows, geometric_follows}
 use Rattle.dl_panjer.proofs.Outward.{poisson_outward, geometric_outward}
 use Rattle.dl_panjer.proofs.Compounds.{poisson_base, geometric_base, geometric_start, geometric_class}
 use Rattle.dl_panjer.proofs.Mass.{low_mass}
 use Rattle.dl_panjer.proofs.Spreads.{all_widths, half_spread, geometric_spread}
-use Rattle.dl_plan.proofs.Means.{severity_total}
-use Rattle.dl_plan.proofs.Positive.{zero_weight, amounts_positive}
+use Rattle.dl_plan.proofs.Positive.{amounts_positive}
 
 -- the list follows the recursion of items, total and rate
 pub record IsMade {B : ℕ} (by_amount : Bool) (items : List Item) (total : ℕ) (rate : Fraction) (cells : List (Iv B))

@@ -1,15 +1,12 @@
 -- Sums over the items of a severity, turned into sums over the pairs of places that add up to a cell's number.
-use Rattle.std.proofs.Common.{ℕ, zero, suc, ◌≡◌, ◌≢◌, ◌+◌, ◌-◌, ◌*◌, ◌<◌, ◌≤◌, Bool, true, false, List, [], ◌∷◌, get_or, take, drop, arith, refl, sym, ap, ap₂, ◌∙◌, inl, inr}
-use Rattle.std.specs.Prelude.{All, sum_by, if◌then◌else◌, ◌==◌}
-use Rattle.std.proofs.Math.Nat.{zero-add, mul-le-mul, mul-le-mul_left, mul-le-mul_right}
-use Rattle.std.proofs.lemmas.Bool.{eq-eqb, ne_eqb, cases_lt}
+use Rattle.dl_panjer.proofs.Common.{ℕ, zero, suc, ◌≡◌, ◌+◌, ◌-◌, ◌*◌, ◌<◌, ◌≤◌, Bool, true, false, List, [], ◌∷◌, get_or, take, drop, arith, refl, sym, ap, ap₂, ◌∙◌, inl, inr, All, sum_by, mul-le-mul_right, cases_lt, count_below, below_le, below_plus, below_times, below_pairs, Item, weight_at, weight_sum, counted, coefficient, next_sum}
+use Rattle.std.proofs.Common.{◌≢◌}
+use Rattle.std.specs.Prelude.{if◌then◌else◌, ◌==◌}
+use Rattle.std.proofs.Math.Nat.{zero-add, mul-le-mul, mul-le-mul_left}
+use Rattle.std.proofs.lemmas.Bool.{eq-eqb, ne_eqb}
 use Rattle.std.proofs.lemmas.List.Elements.{All-tail}
 use Rattle.std.proofs.lemmas.List.Sums.{sum_by-cons, sum_by-take-drop}
-use Rattle.dl_exact.specs.Count.{count_below}
-use Rattle.dl_exact.proofs.Counts.{below_same, below_le, below_plus, below_times, below_pairs, pairs_le, below_none}
-use Rattle.dl_plan.specs.declared.item.Item.{Item}
-use Rattle.dl_plan.specs.Weighted.{weight_at, weight_sum}
-use Rattle.dl_panjer.specs.Cells.{counted, coefficient, next_sum}
+use Rattle.dl_exact.proofs.Counts.{below_same, pairs_le, below_none}
 
 -- ---- one place of a sum
 

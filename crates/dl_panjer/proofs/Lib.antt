@@ -1,3 +1,4 @@
+mod Common
 pub mod ItemSums
 pub mod Reading
 pub mod Steps
@@ -9,5 +10,4 @@ pub mod Mass
 pub mod Spreads
 pub mod Starts
 pub mod Grids
-pub mod TestLaws
 pub mod EndsOf

@@ -1,19 +1,8 @@
 -- The low ends of a grid that follows the recursion add up to at most 1.
-use Rattle.std.proofs.Common.{ℕ, zero, suc, ◌≡◌, ◌<◌, ◌≤◌, arith, ap, subst₂, ◌∙◌}
-use Rattle.dl_exact.specs.Fraction.{Fraction, ◌over◌, ◌+ℚ◌, ◌*ℚ◌, ◌≤ℚ◌, whole}
-use Rattle.dl_exact.specs.Sum.{sum_to}
-use Rattle.dl_exact.proofs.Laws.{ring, one_times, le_refl, le_trans, le_of_eq, times_le_times, whole_plus, over_times_whole, times_le_both}
-use Rattle.dl_exact.proofs.RoundingLaws.{le_whole}
+use Rattle.dl_panjer.proofs.Common.{ℕ, zero, suc, ◌≡◌, ◌<◌, ◌≤◌, arith, ap, subst₂, ◌∙◌, Fraction, ◌over◌, ◌+ℚ◌, ◌*ℚ◌, ◌≤ℚ◌, whole, sum_to, ring, one_times, le_refl, le_trans, le_of_eq, times_le_times, over_times_whole, times_le_both, le_whole, count_below, AtLeast, cell, IsPanjer, IsWithinOne, FollowsOutward, compound_proper, recursion_there}
+use Rattle.dl_exact.proofs.Laws.{whole_plus}
 use Rattle.dl_exact.proofs.Sums.{sum_to_le, sum_to_times}
-use Rattle.dl_exact.specs.Count.{count_below}
-use Rattle.dl_model.specs.Series.{AtLeast}
-use Rattle.dl_model.specs.Compound.{cell}
-use Rattle.dl_model.specs.Counts.{IsPanjer}
-use Rattle.dl_model.specs.Severity.{IsWithinOne}
-use Rattle.dl_panjer.specs.Outward.{FollowsOutward}
 use Rattle.dl_model.proofs.Declared.{rises_to}
-use Rattle.dl_model.proofs.FamilyLaws.{compound_proper}
-use Rattle.dl_model.proofs.Panjer.{recursion_there}
 use Rattle.dl_panjer.proofs.Base.{low_below}
 
 whole_sum : (n : ℕ) (f : ℕ → ℕ) → whole (count_below (suc n) f) ≡ sum_to n (λ s. whole (f s))

@@ -1,23 +1,9 @@
 -- The two roundings of a Poisson and of a geometric grid are outward.
-use Rattle.std.proofs.Common.{◌≡◌, ◌⊎◌, inl, inr, ℕ, suc, ◌*◌, ◌/◌, ◌^◌, ◌<◌, ◌≤◌, Bool, true, false, List, length, arith, refl, sym, ap, subst, ◌∙◌, mul-pos}
-use Rattle.std.proofs.Math.Nat.{zero-lt-suc, min-eq_right}
-use Rattle.std.proofs.lemmas.Bool.{cases_lt}
-use Rattle.std.specs.Int.{div_ceil}
-use Rattle.dl_exact.specs.Fraction.{Fraction, ◌over◌, ◌+ℚ◌, ◌*ℚ◌, ◌/ℚ◌, ◌≤ℚ◌, ◌<ℚ◌, whole}
-use Rattle.dl_exact.specs.Rounding.{IsFloor}
-use Rattle.dl_exact.proofs.Over.{over_same, over_mul}
-use Rattle.dl_exact.proofs.Laws.{one_pos, ring, times_assoc, zero_times, zero_plus, plus_zero, le_refl, le_trans, whole_pos, times_cancel, div_times, over_times_whole, times_le_both}
-use Rattle.dl_exact.proofs.RoundingLaws.{floor_div, ceiling_div}
-use Rattle.dl_exact.proofs.Sums.{sum_pairs_same, sum_pairs_times}
+use Rattle.dl_panjer.proofs.Common.{◌≡◌, ◌⊎◌, inl, inr, ℕ, suc, ◌*◌, ◌/◌, ◌^◌, ◌<◌, ◌≤◌, Bool, true, false, List, length, arith, refl, sym, ap, subst, ◌∙◌, mul-pos, zero-lt-suc, cases_lt, div_ceil, Fraction, ◌over◌, ◌+ℚ◌, ◌*ℚ◌, ◌/ℚ◌, ◌≤ℚ◌, ◌<ℚ◌, whole, IsFloor, over_same, over_mul, one_pos, ring, zero_times, le_refl, le_trans, whole_pos, times_cancel, div_times, over_times_whole, times_le_both, floor_div, ceiling_div, sum_pairs_same, sum_pairs_times, from_before, Iv, low_at, high_at, Item, weight_at, coefficient, next_sum, FollowsOutward, FollowsRounded}
+use Rattle.std.proofs.Math.Nat.{min-eq_right}
+use Rattle.dl_exact.proofs.Laws.{times_assoc, zero_plus, plus_zero}
 use Rattle.dl_exact.specs.Count.{count_pairs}
-use Rattle.dl_model.specs.Recursion.{from_before}
-use Rattle.dl_iv.specs.declared.interval.Iv.{Iv}
-use Rattle.dl_grid.specs.Cells.{low_at, high_at}
-use Rattle.dl_plan.specs.declared.item.Item.{Item}
-use Rattle.dl_plan.specs.Weighted.{weight_at}
-use Rattle.dl_panjer.specs.Cells.{coefficient, next_sum}
-use Rattle.dl_panjer.specs.Outward.{FollowsOutward, IsCeilingWithin}
-use Rattle.dl_panjer.specs.Bases.{FollowsRounded}
+use Rattle.dl_panjer.specs.Outward.{IsCeilingWithin}
 use Rattle.dl_exact.proofs.SumsOver.{sum_pairs_over}
 
 -- a factor of a quotient that was rounded first

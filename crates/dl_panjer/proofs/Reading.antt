@@ -1,20 +1,14 @@
 -- What the items of a slice and the cells that they leave are.
-use Rattle.std.proofs.Common.{ℕ, ◌≡◌, ◌+◌, ◌-◌, ◌*◌, ◌^◌, ◌<◌, ◌≤◌, Bool, List, length, get_or, take, drop, arith, sym, ap₂, subst, ◌∙◌}
-use Rattle.std.specs.Prelude.{All, sum_by}
+use Rattle.dl_panjer.proofs.Common.{ℕ, ◌≡◌, ◌+◌, ◌-◌, ◌*◌, ◌^◌, ◌<◌, ◌≤◌, Bool, List, length, get_or, take, drop, arith, sym, ap₂, subst, ◌∙◌, All, sum_by, sum_by-take-le, most_cells, Iv, low_at, high_at, one_fits, low_at_read, high_at_read, Item, weight_sum, counted, given, low_le_high}
 use Rattle.std.specs.List.Sorted.{IsStrictlyIncreasing, IsNonDecreasingBy}
 use Rattle.std.proofs.lemmas.List.{get_or-map, get_or-take, get_or-drop, length-map, length-take-le, length-drop}
 use Rattle.std.proofs.lemmas.List.Sorted.{IsNonDecreasingBy-from_all_adjacent}
-use Rattle.std.proofs.lemmas.List.Sums.{sum_by_more, sum_by-take-le}
+use Rattle.std.proofs.lemmas.List.Sums.{sum_by_more}
 use Rattle.std.proofs.Math.Nat.{mul-le-mul}
-use Rattle.dl_limits.specs.Limits.{most_cells, most_parts}
-use Rattle.dl_iv.specs.declared.interval.Iv.{Iv}
-use Rattle.dl_grid.specs.Cells.{low_at, high_at}
-use Rattle.dl_grid.proofs.CellLaws.{one_fits, low_at_read, high_at_read, high_le}
-use Rattle.dl_plan.specs.declared.item.Item.{Item}
-use Rattle.dl_plan.specs.Weighted.{amounts_of, weight_sum}
-use Rattle.dl_panjer.specs.Cells.{counted, given}
+use Rattle.dl_limits.specs.Limits.{most_parts}
+use Rattle.dl_grid.proofs.CellLaws.{high_le}
+use Rattle.dl_plan.specs.Weighted.{amounts_of}
 use Rattle.dl_panjer.proofs.ItemSums.{items_fit}
-use Rattle.dl_grid.proofs.EndLists.{low_le_high}
 
 -- the amounts of items that rise never fall
 pub amounts_rise : (items : List Item) → IsStrictlyIncreasing (amounts_of items)

@@ -1,18 +1,8 @@
 -- Steps in whole numbers are the floors and ceilings of the recursions of Poisson and geometric counts.
-use Rattle.std.proofs.Common.{ℕ, suc, ◌≡◌, ◌+◌, ◌*◌, ◌/◌, ◌<◌, ◌^◌, true, false, length, mul_comm, arith, sym, ap, subst, ◌∙◌, mul-pos, List}
-use Rattle.std.specs.Int.{div_ceil}
-use Rattle.std.proofs.Math.Nat.{zero-lt-suc}
-use Rattle.dl_exact.specs.Fraction.{Fraction, ◌over◌, ◌+ℚ◌, ◌*ℚ◌, ◌/ℚ◌, whole}
-use Rattle.dl_exact.specs.Rounding.{IsFloor, IsCeiling}
-use Rattle.dl_exact.proofs.Over.{over_self, over_same, over_add, over_mul, over_div}
-use Rattle.dl_exact.proofs.Laws.{one_pos, times_comm}
-use Rattle.dl_exact.proofs.RoundingLaws.{floor_div, ceiling_div}
+use Rattle.dl_panjer.proofs.Common.{ℕ, suc, ◌≡◌, ◌+◌, ◌*◌, ◌/◌, ◌<◌, ◌^◌, true, false, length, arith, sym, ap, subst, ◌∙◌, mul-pos, List, div_ceil, zero-lt-suc, Fraction, ◌over◌, ◌+ℚ◌, ◌*ℚ◌, ◌/ℚ◌, whole, IsFloor, IsCeiling, over_same, over_add, over_mul, over_div, one_pos, times_comm, floor_div, ceiling_div, Item, Iv, low_at, high_at, coefficient, next_sum, Follows, FollowsRounded}
+use Rattle.std.proofs.Common.{mul_comm}
+use Rattle.dl_exact.proofs.Over.{over_self}
 use Rattle.dl_exact.proofs.Denominators.{units_of}
-use Rattle.dl_plan.specs.declared.item.Item.{Item}
-use Rattle.dl_iv.specs.declared.interval.Iv.{Iv}
-use Rattle.dl_grid.specs.Cells.{low_at, high_at}
-use Rattle.dl_panjer.specs.Cells.{coefficient, next_sum, Follows}
-use Rattle.dl_panjer.specs.Bases.{FollowsRounded}
 
 -- mean / k by the parts of the mean
 pub divided : (mean : Fraction) (k : ℕ) → 0 < k → mean.num over (mean.den * k) ≡ mean /ℚ whole k

@@ -1,14 +1,8 @@
 -- How far apart the ends of a grid that follows the recursion lie.
-use Rattle.std.proofs.Common.{ℕ, suc, ◌≡◌, ◌+◌, ◌-◌, ◌*◌, ◌/◌, ◌<◌, ◌≤◌, Bool, true, false, List, arith, sym, ap, subst, ◌∙◌, mul-le-mul, mul-le-mul_left, mul-le-mul_right, le_of_mul-le-mul_right}
-use Rattle.std.specs.Int.{div_ceil}
-use Rattle.std.proofs.Math.Nat.{zero-lt-suc, lt-div-mul-add}
+use Rattle.dl_panjer.proofs.Common.{ℕ, suc, ◌≡◌, ◌+◌, ◌-◌, ◌*◌, ◌/◌, ◌<◌, ◌≤◌, Bool, true, false, List, arith, sym, ap, subst, ◌∙◌, mul-le-mul, div_ceil, zero-lt-suc, lt-div-mul-add, Fraction, count_below, below_le, below_plus, below_times, below_pairs, Item, weight_at, weight_sum, counted, coefficient, next_sum, Follows}
+use Rattle.std.proofs.Common.{mul-le-mul_left, mul-le-mul_right, le_of_mul-le-mul_right}
 use Rattle.std.proofs.lemmas.Grind.{div_ceil_times}
-use Rattle.dl_exact.specs.Fraction.{Fraction}
-use Rattle.dl_exact.specs.Count.{count_below}
-use Rattle.dl_exact.proofs.Counts.{below_le, below_plus, below_times, below_constant, below_pairs, pairs_plus, pairs_same, pairs_within, below_grows}
-use Rattle.dl_plan.specs.declared.item.Item.{Item}
-use Rattle.dl_plan.specs.Weighted.{weight_at, weight_sum}
-use Rattle.dl_panjer.specs.Cells.{counted, coefficient, next_sum, Follows}
+use Rattle.dl_exact.proofs.Counts.{below_constant, pairs_plus, pairs_same, pairs_within, below_grows}
 use Rattle.dl_panjer.proofs.ItemSums.{weights_within}
 use Rattle.dl_panjer.proofs.Steps.{counted_pos}
 

@@ -1,18 +1,8 @@
 -- Cell 0 of a Poisson grid and of a geometric grid.
-use Rattle.std.proofs.Common.{ℕ, zero, suc, ◌≡◌, ◌+◌, ◌*◌, ◌/◌, ◌^◌, ◌<◌, ◌≤◌, arith, sym, ap, subst, subst₂, ◌∙◌, mul-pos}
-use Rattle.std.specs.Int.{div_ceil}
-use Rattle.std.proofs.Math.Nat.{zero-lt-suc, lt-div-mul-add}
-use Rattle.dl_exact.specs.Fraction.{Fraction, ◌over◌, ◌+ℚ◌, ◌*ℚ◌, ◌/ℚ◌, ◌≤ℚ◌, whole}
-use Rattle.dl_exact.specs.Sum.{sum_to}
-use Rattle.dl_exact.proofs.Over.{over_same, over_add, over_div}
-use Rattle.dl_exact.proofs.Laws.{one_pos, times_cancel, le_refl, le_trans, whole_pos}
-use Rattle.dl_exact.proofs.RoundingLaws.{div_ceil_least}
+use Rattle.dl_panjer.proofs.Common.{ℕ, zero, suc, ◌≡◌, ◌+◌, ◌*◌, ◌/◌, ◌^◌, ◌<◌, ◌≤◌, arith, sym, ap, subst, subst₂, ◌∙◌, mul-pos, div_ceil, zero-lt-suc, lt-div-mul-add, Fraction, ◌over◌, ◌+ℚ◌, ◌*ℚ◌, ◌/ℚ◌, ◌≤ℚ◌, whole, sum_to, over_same, over_add, over_div, one_pos, times_cancel, le_refl, le_trans, whole_pos, div_ceil_least, Iv, Holds, poisson, EnclosesExp}
 use Rattle.dl_exact.proofs.Sums.{sum_to_same}
-use Rattle.dl_iv.specs.declared.interval.Iv.{Iv}
-use Rattle.dl_model.specs.Series.{Holds}
-use Rattle.dl_model.specs.Counts.{poisson}
 use Rattle.dl_model.proofs.PoissonWeights.{poisson_zero, poisson_next}
-use Rattle.dl_exp.specs.Exponential.{exponential_term, exponential_sum, EnclosesExp}
+use Rattle.dl_exp.specs.Exponential.{exponential_term, exponential_sum}
 use Rattle.dl_exp.proofs.Terms.{term_zero, term_next}
 
 -- the weights of the Poisson count are the terms of the exponential's series

@@ -1,20 +1,9 @@
 -- The bounds of one step of a grid's recursion, and what it reads.
-use Rattle.std.proofs.Common.{ℕ, suc, ◌≡◌, ◌+◌, ◌-◌, ◌*◌, ◌/◌, ◌^◌, ◌<◌, ◌≤◌, Bool, true, false, List, [], ◌∷◌, ◌++◌, length, arith, sym, ap, ap₂, ◌∙◌, mul-pos, ◌⊎◌, inl, inr}
-use Rattle.std.proofs.lemmas.Bool.{cases_lt}
+use Rattle.dl_panjer.proofs.Common.{ℕ, suc, ◌≡◌, ◌+◌, ◌-◌, ◌*◌, ◌/◌, ◌^◌, ◌<◌, ◌≤◌, Bool, true, false, List, [], ◌∷◌, length, arith, sym, ap, ap₂, ◌∙◌, mul-pos, ◌⊎◌, inl, inr, cases_lt, div_ceil, zero-lt-suc, mul-le-mul_right, Fraction, ◌≤ℚ◌, whole, div_ceil_least, Iv, low_at, high_at, count_below, low_at_front, high_at_front, low_at_pushed, high_at_pushed, Item, weight_sum, num_le_den, counted, coefficient, next_sum, low_next, high_next, Follows}
+use Rattle.std.proofs.Common.{◌++◌}
 use Rattle.std.specs.Prelude.{min}
-use Rattle.std.specs.Int.{div_ceil}
-use Rattle.std.proofs.Math.Nat.{zero-lt-suc, mul-le-mul, mul-le-mul_right, div-le_of_le-mul}
-use Rattle.dl_exact.specs.Fraction.{Fraction, ◌≤ℚ◌, whole}
-use Rattle.dl_exact.proofs.RoundingLaws.{div_ceil_least}
-use Rattle.dl_iv.specs.declared.interval.Iv.{Iv}
+use Rattle.std.proofs.Math.Nat.{mul-le-mul, div-le_of_le-mul}
 use Rattle.dl_iv.proofs.Rounding.{floor_le_ceiling}
-use Rattle.dl_grid.specs.Cells.{low_at, high_at}
-use Rattle.dl_exact.specs.Count.{count_below}
-use Rattle.dl_grid.proofs.PlaceSums.{low_at_front, high_at_front, low_at_pushed, high_at_pushed}
-use Rattle.dl_plan.specs.declared.item.Item.{Item}
-use Rattle.dl_plan.specs.Weighted.{weight_sum}
-use Rattle.dl_plan.proofs.Clauses.{num_le_den}
-use Rattle.dl_panjer.specs.Cells.{counted, coefficient, next_sum, low_next, high_next, Follows}
 use Rattle.dl_panjer.proofs.ItemSums.{coefficients_within, next_sum_le, next_sum_rises, next_sum_same}
 
 pub counted_pos : (b : Bool) (j n : ℕ) → 0 < j → 0 < n → 0 < counted b j n

@@ -3,7 +3,7 @@
 ghost use Rattle.std.specs.Prelude.{◌≡◌, ℕ, suc, ◌+◌, ◌-◌, ◌*◌, ◌^◌, ◌<◌, ◌≤◌, length, All, IfOk};
 ghost use Rattle.dl_limits.specs.Limits.{most_cells, admitted_bound};
 ghost use Rattle.dl_exact.specs.Fraction.{whole, ◌≤ℚ◌};
-ghost use Rattle.dl_grid.specs.Cells.{low_at, high_at, low_ends, high_ends};
+ghost use Rattle.dl_grid.specs.Cells.{low_at, high_at};
 ghost use Rattle.dl_plan.specs.Weighted.{weight_sum, IsWeighted};
 ghost use Rattle.dl_panjer.specs.Cells.{counted, coefficient, low_next, high_next, Follows};
 
@@ -88,21 +88,4 @@ pub(crate) fn follow<const B: u32, const BY_AMOUNT: bool>(
         list.push(cell)?;
     }
     Ok(list)
-}
-
-/// The low ends and the high ends of cells, each in a list of its own.
-pub(crate) fn ends_of<const B: u32>(
-    alloc: Global,
-    cells: &[Iv<B>],
-) -> Result<(Vec<u128>, Vec<u128>), AllocError>
-    ensures low { IfOk result (λ ends. ends.0.items ≡ low_ends cells.now) }
-    ensures high { IfOk result (λ ends. ends.1.items ≡ high_ends cells.now) }
-{
-    let mut lows = Vec::with_capacity(alloc, cells.len())?;
-    let mut highs = Vec::with_capacity(alloc, cells.len())?;
-    for cell in cells {
-        lows.push(cell.lo)?;
-        highs.push(cell.hi)?;
-    }
-    Ok((lows, highs))
 }

@@ -11,7 +11,8 @@ ghost use Rattle.dl_model.specs.Family.{compound, GridEncloses};
 ghost use Rattle.dl_plan.specs.Severity.{probability_of};
 ghost use Rattle.dl_panjer.specs.Bases.{IsGeometricBase};
 
-use crate::follow::{ends_of, follow};
+use crate::follow::follow;
+use crate::made::grid_of;
 use crate::rates::{fraction, shared};
 use dl_frac::Frac;
 use dl_grid::Grid;
@@ -28,15 +29,15 @@ pub fn geometric_base<const B: u32>(
     shape: u32,
     cells: u32,
 ) -> Result<Grid<B>, AllocError>
-    requires scale_above { 1 ≤ B }
-    requires scale_below { B ≤ 56 }
-    requires no_zero { probability_of sev.now 0 ≡ whole 0 }
+    requires some { 1 ≤ cells }
+    requires few { cells ≤ most_cells }
     requires shape_above { 1 ≤ shape }
     requires shape_below { shape ≤ most_shape }
     requires num { mean.num < admitted_bound }
     requires den { mean.den < admitted_bound }
-    requires some { 1 ≤ cells }
-    requires few { cells ≤ most_cells }
+    requires no_zero { probability_of sev.now 0 ≡ whole 0 }
+    requires scale_above { 1 ≤ B }
+    requires scale_below { B ≤ 56 }
     ensures cells { IfOk result (λ g. length g ≡ cells) }
     ensures start_low { IfOk result (λ g. IsFloor
         (whole (2 ^ B) /ℚ (whole 1 +ℚ mean /ℚ whole shape)) (low_at g 0)) }
@@ -52,6 +53,5 @@ pub fn geometric_base<const B: u32>(
     let rate = fraction(num, num + den);
     let start = Iv::enclose(u128::from(den), u128::from(num + den));
     let list = follow::<B, false>(alloc, sev.items.as_slice(), sev.total, rate, start, cells)?;
-    let (lows, highs) = ends_of(alloc, &list)?;
-    Ok(Grid::from_ends(lows, highs))
+    grid_of(alloc, &list)
 }

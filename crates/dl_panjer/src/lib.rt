@@ -6,12 +6,12 @@
 mod follow;
 mod geometric;
 mod laws;
+mod made;
 mod poisson;
 mod rates;
 mod sums;
-#[cfg(test)]
-mod tests;
 
 pub use geometric::geometric_base;
 pub use laws::{law_exponential, law_stands};
+pub use made::grid_of;
 pub use poisson::poisson_base;

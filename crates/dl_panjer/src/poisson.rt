@@ -9,7 +9,8 @@ ghost use Rattle.dl_model.specs.Family.{compound, GridEncloses};
 ghost use Rattle.dl_plan.specs.Severity.{probability_of};
 ghost use Rattle.dl_panjer.specs.Bases.{IsPoissonBase, StartsAtExp};
 
-use crate::follow::{ends_of, follow};
+use crate::follow::follow;
+use crate::made::grid_of;
 use crate::rates::fraction;
 use dl_exp::exp_neg;
 use dl_frac::Frac;
@@ -27,15 +28,15 @@ pub fn poisson_base<const B: u32>(
     halvings: u32,
     cells: u32,
 ) -> Result<Grid<B>, AllocError>
-    requires scale_above { 1 ≤ B }
-    requires scale_below { B ≤ 56 }
-    requires no_zero { probability_of sev.now 0 ≡ whole 0 }
-    requires halvings { halvings ≤ 13 }
-    requires half { mean /ℚ whole (2 ^ halvings) ≤ℚ 1 over 2 }
-    requires num { mean.num < admitted_bound }
-    requires den { mean.den < admitted_bound }
     requires some { 1 ≤ cells }
     requires few { cells ≤ most_cells }
+    requires num { mean.num < admitted_bound }
+    requires den { mean.den < admitted_bound }
+    requires halvings { halvings ≤ 13 }
+    requires half { mean /ℚ whole (2 ^ halvings) ≤ℚ 1 over 2 }
+    requires no_zero { probability_of sev.now 0 ≡ whole 0 }
+    requires scale_above { 1 ≤ B }
+    requires scale_below { B ≤ 56 }
     ensures cells { IfOk result (λ g. length g ≡ cells) }
     ensures start { IfOk result (λ g. StartsAtExp (mean /ℚ whole (2 ^ halvings)) g) }
     ensures follows { IfOk result (λ g. IsPoissonBase sev.now (mean /ℚ whole (2 ^ halvings)) g) }
@@ -46,6 +47,5 @@ pub fn poisson_base<const B: u32>(
     let rate = fraction(mean.num(), mean.den() * (1u64 << halvings));
     let start = exp_neg(rate);
     let list = follow::<B, true>(alloc, sev.items.as_slice(), sev.total, rate, start, cells)?;
-    let (lows, highs) = ends_of(alloc, &list)?;
-    Ok(Grid::from_ends(lows, highs))
+    grid_of(alloc, &list)
 }

@@ -1,21 +1,8 @@
 -- The rounded ends of a product, of a sum and of a mixture of grids, between which what they hold lies.
-use Rattle.std.proofs.Common.{ℕ, zero, suc, ◌≡◌, ◌+◌, ◌*◌, ◌/◌, ◌<◌, ◌≤◌, arith, sym, ap, ap₂, subst, inl, inr, ◌∙◌, mul-pos, mul-le-mul_right}
-use Rattle.std.specs.Prelude.{min}
-use Rattle.std.specs.Int.{div_ceil}
-use Rattle.std.proofs.Math.Nat.{div-mul-le_self}
-use Rattle.std.proofs.lemmas.Bool.{cases_lt}
-use Rattle.std.proofs.lemmas.Grind.{div_ceil_times}
-use Rattle.dl_exact.specs.Fraction.{Fraction, whole, ◌over◌, ◌+ℚ◌, ◌*ℚ◌, ◌≤ℚ◌}
-use Rattle.dl_exact.specs.Sum.{sum_to}
-use Rattle.dl_exact.proofs.Over.{over_le, le_over, over_mul}
-use Rattle.dl_exact.proofs.Laws.{one_pos, le_refl, le_trans, le_of_eq, plus_le_both, times_le_both}
-use Rattle.dl_exact.proofs.Sums.{sum_to_le}
-use Rattle.dl_exact.specs.Count.{count_pairs, count_below}
-use Rattle.dl_model.specs.Compound.{convolve, power, cell_from}
-use Rattle.dl_model.specs.Severity.{IsWithinOne}
-use Rattle.dl_model.proofs.FamilyLaws.{compound_proper}
+use Rattle.dl_power.proofs.Common.{ℕ, zero, suc, ◌≡◌, ◌+◌, ◌*◌, ◌/◌, ◌<◌, ◌≤◌, arith, sym, ap, ap₂, subst, inl, inr, ◌∙◌, mul-pos, min, div_ceil, div-mul-le_self, cases_lt, div_ceil_times, Fraction, whole, ◌over◌, ◌+ℚ◌, ◌*ℚ◌, ◌≤ℚ◌, sum_to, over_le, over_mul, one_pos, le_refl, le_trans, le_of_eq, plus_le_both, times_le_both, sum_to_le, count_pairs, count_below, convolve, power, cell_from, IsWithinOne, compound_proper, LieBetween}
+use Rattle.std.proofs.Common.{mul-le-mul_right}
+use Rattle.dl_exact.proofs.Over.{le_over}
 use Rattle.dl_exact.proofs.Denominators.{over_plus}
-use Rattle.dl_power.specs.Powers.{LieBetween}
 use Rattle.dl_power.proofs.HornerSteps.{shifted, pairs_low, pairs_high, sum_over}
 
 -- what counts from k on come to adds up to at most 1

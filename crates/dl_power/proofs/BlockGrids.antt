@@ -1,23 +1,7 @@
 -- Grids of blocks: their two lists are ends of a grid, between which what the counts come to lies.
-use Rattle.std.proofs.Common.{ℕ, suc, ◌≡◌, ◌+◌, ◌-◌, ◌*◌, ◌/◌, ◌^◌, ◌<◌, ◌≤◌, List, [], length, get_or, arith, refl, sym, ap, subst, ◌∙◌}
-use Rattle.std.specs.Prelude.{min}
-use Rattle.std.specs.Int.{div_ceil}
-use Rattle.std.proofs.Math.Nat.{div-mul-le_self, le_of_mul-le-mul_right, mul-le-mul_left}
-use Rattle.std.proofs.lemmas.Nat.{pow_pos}
-use Rattle.std.proofs.lemmas.Grind.{div_ceil_times}
-use Rattle.dl_exact.specs.Fraction.{Fraction, ◌over◌, ◌≤ℚ◌}
-use Rattle.dl_iv.specs.declared.interval.Iv.{Iv}
-use Rattle.dl_grid.specs.Cells.{low_at, high_at, low_ends, high_ends, AreEnds}
-use Rattle.dl_grid.proofs.EndLists.{low_at_ends, high_at_ends, low_le_high}
-use Rattle.dl_exact.specs.Count.{count_below}
-use Rattle.dl_exact.proofs.Counts.{below_le}
-use Rattle.dl_model.specs.Compound.{cell_from}
-use Rattle.dl_model.specs.Severity.{IsWithinOne}
-use Rattle.dl_model.specs.Listed.{probability_at}
-use Rattle.dl_model.proofs.ItemWeights.{probability_is}
-use Rattle.dl_plan.specs.declared.item.Item.{Item}
-use Rattle.dl_plan.specs.Weighted.{weight_at, weight_sum}
-use Rattle.dl_power.specs.Powers.{LieBetween, Between, ArePowers, mixture_end}
+use Rattle.dl_power.proofs.Common.{ℕ, suc, ◌≡◌, ◌+◌, ◌-◌, ◌*◌, ◌/◌, ◌^◌, ◌<◌, ◌≤◌, List, [], length, get_or, arith, refl, sym, ap, subst, ◌∙◌, min, div_ceil, div-mul-le_self, le_of_mul-le-mul_right, mul-le-mul_left, pow_pos, div_ceil_times, Fraction, ◌over◌, ◌≤ℚ◌, Iv, low_at, high_at, AreEnds, low_le_high, count_below, below_le, cell_from, IsWithinOne, probability_at, probability_is, Item, weight_at, weight_sum, LieBetween, Between, ArePowers, mixture_end}
+use Rattle.dl_grid.specs.Cells.{low_ends, high_ends}
+use Rattle.dl_grid.proofs.EndLists.{low_at_ends, high_at_ends}
 use Rattle.dl_power.proofs.WeightLists.{probabilities_within}
 use Rattle.dl_power.proofs.HornerSteps.{from_within_one}
 use Rattle.dl_power.proofs.EndLists.{mixture_end_is, made_ends}

@@ -1,14 +1,7 @@
 -- The powers that all blocks share, and which counts each block has.
-use Rattle.std.proofs.Common.{ℕ, suc, ◌≡◌, ◌+◌, ◌-◌, ◌*◌, ◌/◌, ◌^◌, ◌<◌, ◌≤◌, List, length, get_or, take, arith, sym, ap, ap₂, subst, ◌∙◌}
-use Rattle.std.specs.Prelude.{All}
-use Rattle.std.proofs.Math.Nat.{div-add-mod, mod-lt, div-mul-le_self, mul-le-mul_right, sub-zero, zero-mul}
-use Rattle.std.proofs.lemmas.List.{length-take-le}
+use Rattle.dl_power.proofs.Common.{ℕ, suc, ◌≡◌, ◌+◌, ◌-◌, ◌*◌, ◌/◌, ◌^◌, ◌<◌, ◌≤◌, List, length, get_or, take, arith, sym, ap, ap₂, subst, ◌∙◌, All, div-mul-le_self, mul-le-mul_right, sub-zero, length-take-le, Fraction, Iv, power, IsWithinOne, Between, ArePowers}
+use Rattle.std.proofs.Math.Nat.{div-add-mod, mod-lt, zero-mul}
 use Rattle.std.proofs.lemmas.List.Elements.{All-take}
-use Rattle.dl_exact.specs.Fraction.{Fraction}
-use Rattle.dl_iv.specs.declared.interval.Iv.{Iv}
-use Rattle.dl_model.specs.Compound.{power}
-use Rattle.dl_model.specs.Severity.{IsWithinOne}
-use Rattle.dl_power.specs.Powers.{Between, ArePowers}
 use Rattle.dl_power.proofs.PowerGrids.{first_powers, power_at}
 
 module _ {B : ℕ} (base : List (Iv B)) (all items : List (List (Iv B))) (n K : ℕ) (value : all ≡ items)

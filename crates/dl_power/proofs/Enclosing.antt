@@ -1,44 +1,21 @@
 -- What encloses the powers of a family, and one claim.
-use Rattle.std.proofs.Common.{ℕ, zero, suc, ◌≡◌, ◌+◌, ◌*◌, ◌/◌, ◌^◌, ◌<◌, ◌≤◌, List, length, take, arith, refl, sym, ap, subst, subst₂, ◌∙◌}
-use Rattle.std.specs.Int.{div_ceil}
-use Rattle.std.proofs.lemmas.Bool.{ne_eqb}
-use Rattle.std.proofs.lemmas.Nat.{pow_pos}
-use Rattle.std.proofs.Math.Nat.{div-mul-le_self}
-use Rattle.std.proofs.lemmas.Grind.{div_ceil_times}
-use Rattle.dl_exact.specs.Fraction.{Fraction, ◌over◌, ◌≤ℚ◌, whole}
+use Rattle.dl_power.proofs.Common.{ℕ, ◌≡◌, ◌+◌, ◌*◌, ◌/◌, ◌^◌, ◌<◌, ◌≤◌, List, length, take, arith, refl, sym, ap, subst, subst₂, ◌∙◌, div_ceil, ne_eqb, pow_pos, div-mul-le_self, div_ceil_times, Fraction, ◌over◌, ◌≤ℚ◌, whole, over_le, times_one, Iv, low_at, high_at, all_at_zero, IsConvolution, probability_at, fixed, Family, compound, times_itself, IsProper, GridEncloses, finite_encloses, power_one, Item, weight_at, weight_sum, low_take, high_take, probability_is}
 use Rattle.dl_exact.specs.Power.{◌^ℚ◌}
-use Rattle.dl_exact.proofs.Over.{over_le}
-use Rattle.dl_exact.proofs.Laws.{times_one}
-use Rattle.dl_iv.specs.declared.interval.Iv.{Iv}
-use Rattle.dl_grid.specs.Cells.{low_at, high_at, all_at_zero}
-use Rattle.dl_grid.specs.Convolution.{IsConvolution}
 use Rattle.dl_model.specs.Series.{Holds}
 use Rattle.dl_model.specs.Program.{where_true}
-use Rattle.dl_model.specs.Listed.{probability_at}
-use Rattle.dl_model.specs.Counts.{fixed}
-use Rattle.dl_model.specs.Family.{Family, compound, product, nothing, times_itself, IsProper, Encloses, GridEncloses}
+use Rattle.dl_model.specs.Family.{product, nothing, Encloses}
 use Rattle.dl_model.proofs.FamilyLaws.{convolution_encloses, encloses_same, encloses_power, itself_none, itself_one, itself_proper}
-use Rattle.dl_model.proofs.FiniteCounts.{nothing_encloses, finite_encloses, fixed_sum, fixed_cell, power_one}
-use Rattle.dl_plan.specs.declared.item.Item.{Item}
-use Rattle.dl_plan.specs.Weighted.{weight_at, weight_sum}
-use Rattle.dl_grid.proofs.CellSets.{low_take, high_take}
-use Rattle.dl_model.proofs.ItemWeights.{probability_is}
+use Rattle.dl_model.proofs.FiniteCounts.{all_at_zero_encloses, fixed_sum, fixed_cell}
 
 -- ---- powers of a family
 
 pub no_copy : {B : ℕ} (g : List (Iv B)) (F : Family) → ((x : ℕ) → low_at g x ≡ all_at_zero (2 ^ B) x)
     → ((x : ℕ) → high_at g x ≡ all_at_zero (2 ^ B) x)
     → GridEncloses g (times_itself F 0)
-unfolding ◌^ℚ◌ all_at_zero
+unfolding ◌^ℚ◌
 no_copy {B} g F low high =
     encloses_same (2 ^ B) (length g) (low_at g) (high_at g) nothing (times_itself F 0)
-    (λ y N. sym (itself_none F y N)) (λ N. refl)
-    (nothing_encloses (2 ^ B) (length g) (low_at g) (high_at g) (pow_pos B) (omega (arith, low 0))
-    (omega (arith, high 0)) (none low))
-  where
-    none : ((x : ℕ) → low_at g x ≡ all_at_zero (2 ^ B) x) → (y : ℕ) → 0 < y → low_at g y ≡ 0
-    none e zero h = absurd (omega arith)
-    none e (suc y) h = e (suc y)
+    (λ y N. sym (itself_none F y N)) (λ N. refl) (all_at_zero_encloses g low high)
 
 one_copy : {B : ℕ} (g : List (Iv B)) (F : Family) → GridEncloses g F → GridEncloses g (times_itself F 1)
 unfolding ◌^ℚ◌

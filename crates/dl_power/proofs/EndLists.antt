@@ -1,19 +1,12 @@
 -- Lists of numbers as loops make them, and the ends of a grid made from two of them.
-use Rattle.std.proofs.Common.{ℕ, ◌≡◌, ◌+◌, ◌*◌, ◌^◌, ◌<◌, ◌≤◌, List, [], ◌∷◌, ◌++◌, length, get_or, arith, refl, sym, ap, ap₂, inl, inr, ◌∙◌}
-use Rattle.std.specs.Prelude.{All, sum, zip}
-use Rattle.std.proofs.Math.Seq.{get_or-append_seam}
+use Rattle.dl_power.proofs.Common.{ℕ, ◌≡◌, ◌+◌, ◌*◌, ◌^◌, ◌<◌, ◌≤◌, List, [], ◌∷◌, ◌++◌, length, get_or, arith, refl, sym, ap, ap₂, inl, inr, ◌∙◌, All, get_or-append_seam, get_or_append_left, get_or_default, cases_lt, Iv, AreEnds, count_below, below_more, below_same, mixture_end}
+use Rattle.std.specs.Prelude.{sum, zip}
 use Rattle.std.proofs.Math.ListN.{get_or-eq_default}
 use Rattle.std.proofs.Math.Nat.{le_trans, mul-le-mul, pow-le-pow_right}
-use Rattle.std.proofs.lemmas.List.{get_or_append_left, get_or_default}
 use Rattle.std.proofs.lemmas.List.Sums.{sum_by-cons}
-use Rattle.std.proofs.lemmas.Bool.{cases_lt}
 use Rattle.std.proofs.lemmas.List.Elements.{All-weaker}
 use Rattle.std.proofs.lemmas.Grind.{get_or_default_zero}
-use Rattle.dl_iv.specs.declared.interval.Iv.{Iv}
-use Rattle.dl_grid.specs.Cells.{AreEnds}
-use Rattle.dl_exact.specs.Count.{count_below}
-use Rattle.dl_exact.proofs.Counts.{below_first, below_more, below_same}
-use Rattle.dl_power.specs.Powers.{mixture_end}
+use Rattle.dl_exact.proofs.Counts.{below_first}
 use Rattle.dl_conv.proofs.Ends.{sum_total}
 
 -- the items so far, and the next

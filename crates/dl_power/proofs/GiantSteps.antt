@@ -1,11 +1,7 @@
 -- A block of counts, and the counts after it: Horner's rule in steps of several claims.
-use Rattle.std.proofs.Common.{ℕ, zero, suc, ◌≡◌, ◌+◌, arith, refl, sym, ap, ap₂, ◌∙◌}
-use Rattle.dl_exact.specs.Fraction.{Fraction, ◌+ℚ◌, ◌*ℚ◌}
-use Rattle.dl_exact.specs.Sum.{sum_to, sum_pairs}
+use Rattle.dl_power.proofs.Common.{ℕ, zero, suc, ◌≡◌, ◌+◌, arith, refl, sym, ap, ap₂, ◌∙◌, Fraction, ◌+ℚ◌, ◌*ℚ◌, sum_to, sum_pairs, sum_pairs_same, convolve, power, cell_from, power_plus}
 use Rattle.dl_exact.proofs.Laws.{plus_assoc, times_left_comm}
-use Rattle.dl_exact.proofs.Sums.{sum_to_same, sum_to_times, sum_pairs_same, sum_pairs_times, sum_pairs_sum_to}
-use Rattle.dl_model.specs.Compound.{convolve, power, cell_from}
-use Rattle.dl_model.proofs.Powers.{power_plus}
+use Rattle.dl_exact.proofs.Sums.{sum_to_same, sum_to_times, sum_pairs_times, sum_pairs_sum_to}
 
 -- the first m + 1 items and n + 1 more
 split : (m n : ℕ) (f : ℕ → Fraction) → sum_to (suc m + n) f ≡ sum_to m f +ℚ sum_to n (λ i. f (suc m + i))

@@ -1,25 +1,11 @@
 -- Horner's rule on grids of listed counts: the greatest count, each count before it, and the whole.
-use Rattle.std.proofs.Common.{ℕ, suc, ◌≡◌, ◌+◌, ◌*◌, ◌/◌, ◌^◌, ◌<◌, ◌≤◌, List, length, arith, sym, ap, subst, ◌∙◌}
-use Rattle.std.specs.Prelude.{min}
-use Rattle.std.specs.Int.{div_ceil}
-use Rattle.dl_exact.specs.Fraction.{Fraction, ◌over◌, ◌≤ℚ◌}
-use Rattle.dl_iv.specs.declared.interval.Iv.{Iv}
-use Rattle.dl_grid.specs.Cells.{low_at, high_at, all_at_zero}
-use Rattle.dl_exact.specs.Count.{count_pairs}
-use Rattle.dl_model.specs.Compound.{cell, cell_from}
-use Rattle.dl_model.specs.Severity.{IsWithinOne}
-use Rattle.dl_model.specs.Listed.{probability_at}
-use Rattle.dl_model.specs.Counts.{fixed}
-use Rattle.dl_model.specs.Family.{compound, GridEncloses}
-use Rattle.dl_model.proofs.FiniteCounts.{finite_encloses, severity_between}
+use Rattle.dl_power.proofs.Common.{ℕ, suc, ◌≡◌, ◌+◌, ◌*◌, ◌/◌, ◌^◌, ◌<◌, ◌≤◌, List, length, arith, sym, ap, subst, ◌∙◌, min, div_ceil, Fraction, ◌over◌, ◌≤ℚ◌, Iv, low_at, high_at, all_at_zero, count_pairs, cell_from, IsWithinOne, probability_at, fixed, compound, GridEncloses, finite_encloses, Item, weight_at, weight_sum, greatest, probability_is, LieBetween}
+use Rattle.dl_model.specs.Compound.{cell}
+use Rattle.dl_model.proofs.FiniteCounts.{severity_between}
 use Rattle.dl_model.proofs.Horner.{horner_end}
 use Rattle.dl_model.proofs.WeightLaws.{probabilities_all, probability-past}
-use Rattle.dl_plan.specs.declared.item.Item.{Item}
-use Rattle.dl_plan.specs.Weighted.{weight_at, weight_sum, greatest}
-use Rattle.dl_model.proofs.ItemWeights.{probability_is}
 use Rattle.dl_power.proofs.WeightLists.{probabilities_within}
 use Rattle.dl_power.proofs.Enclosing.{share_low, share_high}
-use Rattle.dl_power.specs.Powers.{LieBetween}
 use Rattle.dl_power.proofs.HornerSteps.{starts, goes_on}
 
 -- a share, rounded outward, holds its probability

@@ -1,29 +1,13 @@
 -- One step of Horner's rule on rounded ends: one claim more, and the weight of the next lower count.
-use Rattle.std.proofs.Common.{ℕ, zero, suc, ◌≡◌, ◌+◌, ◌*◌, ◌/◌, ◌^◌, ◌<◌, ◌≤◌, List, length, arith, sym, ap, subst, inl, inr, ◌∙◌, mul-pos}
-use Rattle.std.specs.Prelude.{min}
-use Rattle.std.specs.Int.{div_ceil}
-use Rattle.std.proofs.Math.Nat.{add-zero, div-mul-le_self, mul-le-mul_right}
-use Rattle.std.proofs.lemmas.Bool.{cases_lt}
-use Rattle.std.proofs.lemmas.Nat.{pow_pos}
-use Rattle.std.proofs.lemmas.Grind.{div_ceil_times}
-use Rattle.dl_exact.specs.Fraction.{Fraction, whole, ◌over◌, ◌+ℚ◌, ◌*ℚ◌, ◌≤ℚ◌}
-use Rattle.dl_exact.specs.Sum.{sum_to, sum_pairs}
-use Rattle.dl_exact.proofs.Over.{over_le, over_same, over_add, over_mul}
-use Rattle.dl_exact.proofs.Laws.{one_pos, le_refl, le_trans, le_of_eq, zero_le, plus_le_both, times_one, times_zero, times_le_both}
-use Rattle.dl_exact.proofs.Sums.{sum_to_le, sum_pairs_same, item_le_sum, sum_pairs_le}
-use Rattle.dl_iv.specs.declared.interval.Iv.{Iv}
-use Rattle.dl_grid.specs.Cells.{low_at, mass_low, all_at_zero}
-use Rattle.dl_exact.specs.Count.{count_pairs}
-use Rattle.dl_exact.proofs.Counts.{below_same}
-use Rattle.dl_grid.proofs.PlaceSums.{whole_mass, low_within}
-use Rattle.dl_model.specs.Compound.{convolve, at_zero, power, cell_from}
-use Rattle.dl_power.specs.Powers.{LieBetween}
-use Rattle.dl_model.specs.Severity.{IsWithinOne}
-use Rattle.dl_model.proofs.CompoundLaws.{power_within_one}
+use Rattle.dl_power.proofs.Common.{ℕ, zero, suc, ◌≡◌, ◌+◌, ◌*◌, ◌/◌, ◌^◌, ◌<◌, ◌≤◌, List, length, arith, sym, ap, subst, inl, inr, ◌∙◌, mul-pos, min, div_ceil, div-mul-le_self, mul-le-mul_right, cases_lt, pow_pos, div_ceil_times, Fraction, whole, ◌over◌, ◌+ℚ◌, ◌*ℚ◌, ◌≤ℚ◌, sum_to, sum_pairs, over_le, over_same, over_mul, one_pos, le_refl, le_trans, le_of_eq, plus_le_both, times_one, times_le_both, sum_to_le, sum_pairs_same, item_le_sum, Iv, low_at, mass_low, all_at_zero, count_pairs, below_same, low_within, convolve, at_zero, power, cell_from, LieBetween, IsWithinOne, power_within_one, IsConvolution}
+use Rattle.std.proofs.Math.Nat.{add-zero}
+use Rattle.dl_exact.proofs.Over.{over_add}
+use Rattle.dl_exact.proofs.Laws.{zero_le, times_zero}
+use Rattle.dl_exact.proofs.Sums.{sum_pairs_le}
+use Rattle.dl_grid.proofs.PlaceSums.{whole_mass}
 use Rattle.dl_exact.proofs.SumsOver.{sum_pairs_over}
 use Rattle.dl_model.proofs.Horner.{horner_start, horner_next}
 use Rattle.dl_grid.proofs.Products.{floors_within}
-use Rattle.dl_grid.specs.Convolution.{IsConvolution}
 
 -- ---- the mass
 

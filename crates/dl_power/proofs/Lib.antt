@@ -1,3 +1,4 @@
+mod Common
 pub mod WeightLists
 pub mod Enclosing
 pub mod GiantSteps

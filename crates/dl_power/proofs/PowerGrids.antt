@@ -1,29 +1,7 @@
 -- Grids of the powers of a severity: the first two, the next one, and those of what a grid's own low ends are.
-use Rattle.std.proofs.Common.{ℕ, zero, suc, ◌≡◌, ◌+◌, ◌*◌, ◌/◌, ◌^◌, ◌<◌, ◌≤◌, List, [], ◌∷◌, ◌++◌, length, get_or, take, arith, sym, ap, ap₂, subst, subst₂, inl, inr, ◌∙◌}
-use Rattle.std.specs.Prelude.{min, All}
-use Rattle.std.specs.Int.{div_ceil}
-use Rattle.std.proofs.Math.Seq.{get_or-append_seam}
-use Rattle.std.proofs.Math.Nat.{mul-le-mul_right}
-use Rattle.std.proofs.lemmas.Bool.{cases_lt}
-use Rattle.std.proofs.lemmas.List.{get_or_append_left, get_or_default, get_or-take, length-take, length-append}
+use Rattle.dl_power.proofs.Common.{ℕ, zero, suc, ◌≡◌, ◌+◌, ◌*◌, ◌/◌, ◌^◌, ◌<◌, ◌≤◌, List, [], ◌∷◌, ◌++◌, length, get_or, take, arith, sym, ap, ap₂, subst, subst₂, inl, inr, ◌∙◌, min, All, div_ceil, get_or-append_seam, mul-le-mul_right, cases_lt, get_or_append_left, get_or_default, pow_pos, Fraction, whole, ◌over◌, ◌≤ℚ◌, over_le, over_same, one_pos, le_refl, le_trans, le_of_eq, Iv, low_at, high_at, mass_low, all_at_zero, count_pairs, low_take, high_take, low_le_high, low_within, convolve, at_zero, power, IsWithinOne, power_within_one, power_one, power_plus, item_le_sum, Between, ArePowers}
+use Rattle.std.proofs.lemmas.List.{get_or-take, length-take, length-append}
 use Rattle.std.proofs.lemmas.List.Elements.{All-push}
-use Rattle.std.proofs.lemmas.Nat.{pow_pos}
-use Rattle.dl_exact.specs.Fraction.{Fraction, whole, ◌over◌, ◌≤ℚ◌}
-use Rattle.dl_exact.proofs.Over.{over_le, over_same}
-use Rattle.dl_exact.proofs.Laws.{one_pos, le_refl, le_trans, le_of_eq}
-use Rattle.dl_iv.specs.declared.interval.Iv.{Iv}
-use Rattle.dl_grid.specs.Cells.{low_at, high_at, mass_low, all_at_zero}
-use Rattle.dl_exact.specs.Count.{count_pairs}
-use Rattle.dl_grid.proofs.CellSets.{low_take, high_take}
-use Rattle.dl_grid.proofs.EndLists.{low_le_high}
-use Rattle.dl_grid.proofs.PlaceSums.{low_within}
-use Rattle.dl_model.specs.Compound.{convolve, at_zero, power}
-use Rattle.dl_model.specs.Severity.{IsWithinOne}
-use Rattle.dl_model.proofs.CompoundLaws.{power_within_one}
-use Rattle.dl_model.proofs.FiniteCounts.{power_one}
-use Rattle.dl_model.proofs.Powers.{power_plus}
-use Rattle.dl_exact.proofs.Sums.{item_le_sum}
-use Rattle.dl_power.specs.Powers.{Between, ArePowers}
 use Rattle.dl_power.proofs.BlockEnds.{low_sums, product_between}
 
 -- a grid's own low ends are probabilities that it holds

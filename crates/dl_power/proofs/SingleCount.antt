@@ -1,22 +1,10 @@
 -- A list of one number of claims.
-use Rattle.std.proofs.Common.{ℕ, ◌≡◌, ◌^◌, ◌<◌, List, [], ◌∷◌, length, get_or, arith, sym, subst, inl, inr, nat_eq, ne_eqb}
+use Rattle.dl_power.proofs.Common.{ℕ, ◌≡◌, ◌^◌, ◌<◌, List, [], ◌∷◌, length, get_or, arith, sym, subst, inl, inr, eqb_tells, Fraction, over_same, one_pos, Iv, low_at, high_at, probability_at, fixed, IsWithinOne, Family, IsProper, compound, times_itself, GridEncloses, compound_proper, Item, weight_sum}
+use Rattle.std.proofs.Common.{nat_eq, ne_eqb}
 use mathlib.Core.Path.{fun_ext}
 use Rattle.std.specs.Prelude.{true, false}
-use Rattle.std.proofs.lemmas.Bool.Decides.{eqb_tells}
-use Rattle.dl_exact.specs.Fraction.{Fraction}
-use Rattle.dl_exact.proofs.Over.{over_same}
-use Rattle.dl_exact.proofs.Laws.{one_pos}
-use Rattle.dl_iv.specs.declared.interval.Iv.{Iv}
-use Rattle.dl_grid.specs.Cells.{low_at, high_at}
-use Rattle.dl_model.specs.Listed.{probability_at}
-use Rattle.dl_model.specs.Counts.{fixed}
-use Rattle.dl_model.specs.Severity.{IsWithinOne}
-use Rattle.dl_model.specs.Family.{Family, IsProper, compound, times_itself, GridEncloses}
 use Rattle.dl_model.proofs.Beginnings.{fixed_claims}
-use Rattle.dl_model.proofs.FamilyLaws.{compound_proper}
 use Rattle.dl_model.proofs.Alike.{same_cells_enclosed}
-use Rattle.dl_plan.specs.declared.item.Item.{Item}
-use Rattle.dl_plan.specs.Weighted.{weight_sum}
 
 -- surely that number
 alike : (a n : ℕ) → a ≡ n → nat_eq n a ≡ true

@@ -1,6 +1,6 @@
 -- How the width rule bounds the spread of each step.
-use Rattle.std.proofs.Common.{ℕ, suc, ◌≡◌, ◌+◌, ◌*◌, ◌<◌, ◌≤◌, arith, ap}
-use Rattle.dl_grid.specs.Width.{cv, pw, mixed_spread}
+use Rattle.dl_power.proofs.Common.{ℕ, suc, ◌≡◌, ◌+◌, ◌*◌, ◌<◌, ◌≤◌, arith, ap, mixed_spread}
+use Rattle.dl_grid.specs.Width.{cv, pw}
 use Rattle.dl_grid.proofs.WidthLaws.{cv_rises, pw_even, pw_odd}
 
 -- a square, and a square with one more

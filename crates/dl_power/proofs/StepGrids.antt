@@ -1,16 +1,7 @@
 -- One step of Horner's rule in blocks, on grids.
-use Rattle.std.proofs.Common.{ℕ, suc, ◌≡◌, ◌+◌, ◌*◌, ◌/◌, ◌^◌, ◌<◌, ◌≤◌, List, length, get_or, arith, refl, sym, subst₂, ◌∙◌}
-use Rattle.std.specs.Prelude.{min}
-use Rattle.std.specs.Int.{div_ceil}
-use Rattle.std.proofs.lemmas.Nat.{pow_pos}
-use Rattle.dl_exact.specs.Fraction.{Fraction, whole, ◌+ℚ◌, ◌≤ℚ◌}
-use Rattle.dl_exact.proofs.Laws.{le_trans, le_of_eq, le_plus, plus_comm}
-use Rattle.dl_iv.specs.declared.interval.Iv.{Iv}
-use Rattle.dl_grid.specs.Cells.{low_at, high_at, AreEnds}
-use Rattle.dl_exact.specs.Count.{count_pairs}
-use Rattle.dl_grid.proofs.EndLists.{low_le_high}
-use Rattle.dl_model.specs.Compound.{convolve, power, cell_from}
-use Rattle.dl_power.specs.Powers.{LieBetween, Between, IsStep}
+use Rattle.dl_power.proofs.Common.{ℕ, suc, ◌≡◌, ◌+◌, ◌*◌, ◌/◌, ◌^◌, ◌<◌, ◌≤◌, List, length, get_or, arith, refl, sym, subst₂, ◌∙◌, min, div_ceil, pow_pos, Fraction, whole, ◌+ℚ◌, ◌≤ℚ◌, le_trans, le_of_eq, Iv, low_at, high_at, AreEnds, count_pairs, low_le_high, convolve, power, cell_from, LieBetween, Between}
+use Rattle.dl_exact.proofs.Laws.{le_plus, plus_comm}
+use Rattle.dl_power.specs.Powers.{IsStep}
 use Rattle.dl_power.proofs.EndLists.{made_ends}
 use Rattle.dl_power.proofs.GiantSteps.{block_next}
 use Rattle.dl_power.proofs.HornerSteps.{from_within_one}

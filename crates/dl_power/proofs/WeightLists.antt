@@ -1,20 +1,13 @@
 -- The weights of a list, as a loop adds them up.
-use Rattle.std.proofs.Common.{ℕ, zero, suc, ◌≡◌, ◌≢◌, ◌+◌, ◌*◌, ◌/◌, ◌<◌, ◌≤◌, List, [], ◌∷◌, length, get_or, take, arith, refl, sym, ap, inl, inr, ◌∙◌, add-one}
+use Rattle.dl_power.proofs.Common.{ℕ, zero, suc, ◌≡◌, ◌+◌, ◌*◌, ◌/◌, ◌<◌, ◌≤◌, List, [], ◌∷◌, length, get_or, take, arith, refl, sym, ap, inl, inr, ◌∙◌, add-one, div-mul-le_self, mul-le-mul_left, mul-le-mul_right, le_of_mul-le-mul_right, ne_eqb, eqb_tells, sum_by_more, count_below, below_nothing, below_more, below_le, probability_at, IsWithinOne, part_of, Item, weight_at, weight_sum, greatest}
+use Rattle.std.proofs.Common.{◌≢◌}
 use Rattle.std.specs.Prelude.{◌==◌, if◌then◌else◌, max}
 use Rattle.std.specs.List.Sorted.{IsStrictlyIncreasing}
 use Rattle.std.specs.Int.{sum_through}
-use Rattle.std.proofs.Math.Nat.{div-mul-le_self, mul-le-mul_left, mul-le-mul_right, le_of_mul-le-mul_right}
-use Rattle.std.proofs.lemmas.Bool.{ne_eqb}
-use Rattle.std.proofs.lemmas.Bool.Decides.{eqb_tells}
 use Rattle.std.proofs.lemmas.List.Kept.{AllPairs-from_increasing}
-use Rattle.std.proofs.lemmas.List.Sums.{sum_by_more}
-use Rattle.dl_exact.specs.Count.{count_below}
-use Rattle.dl_exact.proofs.Counts.{below_nothing, below_more, below_le, below_times}
-use Rattle.dl_model.specs.Listed.{probability_at}
-use Rattle.dl_model.specs.Severity.{IsWithinOne}
-use Rattle.dl_model.proofs.WeightLaws.{part_of, weights_le, probabilities_le}
-use Rattle.dl_plan.specs.declared.item.Item.{Item}
-use Rattle.dl_plan.specs.Weighted.{amounts_of, weight_at, weight_sum, greatest}
+use Rattle.dl_exact.proofs.Counts.{below_times}
+use Rattle.dl_model.proofs.WeightLaws.{weights_le, probabilities_le}
+use Rattle.dl_plan.specs.Weighted.{amounts_of}
 
 pub part_le : (x : ℕ) (item : Item) → part_of x item ≤ item.weight
 part_le x item = elim (eqb_tells item.amount x) [

@@ -1,11 +1,8 @@
 -- The budget of a unit by the kind of its count.
-use Rattle.std.proofs.Common.{ℕ, ◌≡◌, ◌<◌, arith, refl, sym, subst}
-use Rattle.dl_exact.specs.Fraction.{Fraction}
-use Rattle.dl_plan.specs.declared.plan.Freq.TheVariants.{Poisson, Gamma}
+use Rattle.dl_unit.proofs.Common.{ℕ, ◌≡◌, ◌<◌, arith, refl, sym, subst, Fraction, Poisson, Gamma, thinned_mean, poisson_budget, gamma_budget}
 use Rattle.dl_plan.specs.declared.plan.Unit.{Unit as UnitOfPlan}
 use Rattle.dl_plan.specs.Count.{IsUnbounded}
-use Rattle.dl_plan.specs.Valid.{thinned_mean}
-use Rattle.dl_budget.specs.Claims.{poisson_budget, gamma_budget, claims_budget}
+use Rattle.dl_budget.specs.Claims.{claims_budget}
 use Rattle.dl_budget.proofs.Counts.{poisson_value, gamma_value}
 
 pub poisson_unbounded : (u : UnitOfPlan) (mean : Fraction) → u.freq ≡ Poisson mean → IsUnbounded u.freq

@@ -1,3 +1,4 @@
+mod Common
 pub mod Severities
 pub mod Families
 pub mod Widths
@@ -7,5 +8,4 @@ pub mod Trials
 pub mod TrialGrids
 pub mod CountKinds
 pub mod Thinned
-pub mod TestLaws
 mod Pushed

@@ -1,12 +1,8 @@
 -- At how many places listed amounts lie.
-use Rattle.std.proofs.Common.{ℕ, zero, suc, ◌≡◌, ◌≢◌, ◌+◌, ◌≤◌, List, [], ◌∷◌, length, arith, inl, inr, ap}
-use Rattle.std.specs.Prelude.{◌==◌, if◌then◌else◌, min}
-use Rattle.std.proofs.lemmas.Bool.{cases_lt, ne_eqb}
+use Rattle.dl_unit.proofs.Common.{ℕ, zero, suc, ◌≡◌, ◌+◌, ◌≤◌, List, [], ◌∷◌, length, arith, inl, inr, ap, min, cases_lt, ne_eqb, count_below, below_same, below_le, below_plus, below_constant, Item, weight_at}
+use Rattle.std.proofs.Common.{◌≢◌}
+use Rattle.std.specs.Prelude.{◌==◌, if◌then◌else◌}
 use Rattle.std.proofs.lemmas.List.Sums.{sum_by-cons}
-use Rattle.dl_exact.specs.Count.{count_below}
-use Rattle.dl_exact.proofs.Counts.{below_same, below_le, below_plus, below_constant}
-use Rattle.dl_plan.specs.declared.item.Item.{Item}
-use Rattle.dl_plan.specs.Weighted.{weight_at}
 
 -- the weight w at the place a alone
 abbrev pub at_place : (a w : ℕ) → ℕ → ℕ

@@ -1,15 +1,13 @@
 -- Claims above 0.
-use Rattle.std.proofs.Common.{zero, suc, ◌≡◌, [], ◌∷◌, nat_lt, arith, refl, sym, ap, ◌∙◌}
+use Rattle.dl_unit.proofs.Common.{zero, suc, ◌≡◌, [], ◌∷◌, arith, refl, sym, ap, ◌∙◌, ne_eqb, Fraction, ◌over◌, whole, ◌+ℚ◌, ◌/ℚ◌, over_zero, Sev, conditioned, probability_of, pairs_of, Means}
+use Rattle.std.proofs.Common.{nat_lt}
 use Rattle.std.specs.Prelude.{filter, map}
 use Rattle.std.proofs.Math.Nat.{zero-lt-suc}
-use Rattle.std.proofs.lemmas.Bool.{lt-ltb, ne_eqb}
-use Rattle.dl_exact.specs.Fraction.{Fraction, ◌over◌, whole, ◌+ℚ◌, ◌/ℚ◌}
+use Rattle.std.proofs.lemmas.Bool.{lt-ltb}
 use Rattle.dl_exact.specs.Sum.{sum_over}
 use Rattle.dl_exact.proofs.Laws.{zero_plus}
 use Rattle.dl_exact.proofs.Over.{over_self}
-use Rattle.dl_exact.proofs.Denominators.{over_zero}
-use Rattle.dl_plan.specs.declared.severity.Sev.{Sev}
-use Rattle.dl_plan.specs.Severity.{Pairs, probability, conditioned, probability_of, pairs_of, Means}
+use Rattle.dl_plan.specs.Severity.{Pairs, probability}
 
 pub no_parts : (x : Fraction) → x.num ≡ 0 → x ≡ whole 0
 no_parts x e = sym (over_self x) ∙ ap (λ n. n over x.den) e ∙ over_zero x.den x.positive

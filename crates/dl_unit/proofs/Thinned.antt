@@ -1,21 +1,11 @@
 -- A unit's sum of claims is that of its claims above 0, whose number is thinned.
-use Rattle.std.proofs.Common.{ℕ, suc, zero, ◌≡◌, ◌≤◌, arith, sym, subst}
-use mathlib.Core.Path.{fun_ext}
-use Rattle.dl_exact.specs.Fraction.{Fraction, ◌*ℚ◌}
-use Rattle.dl_model.specs.Counts.{poisson, gamma_of}
-use Rattle.dl_model.specs.Severity.{IsPositivePart}
-use Rattle.dl_model.specs.Family.{compound, SameCells}
-use Rattle.dl_model.specs.Plans.{compound_of}
+use Rattle.dl_unit.proofs.Common.{ℕ, suc, zero, ◌≡◌, ◌≤◌, arith, sym, subst, Fraction, ◌*ℚ◌, poisson, gamma_of, compound, SameCells, compound_of, Poisson, Gamma, Sev, pairs_of, conditioned, probability_of, Means, thinned_mean}
 use Rattle.dl_model.proofs.Alike.{value_sym}
 use Rattle.dl_model.proofs.PoissonThin.{thin_poisson}
 use Rattle.dl_model.proofs.GammaThin.{thin_gamma}
-use Rattle.dl_model.proofs.PlanThin.{positive, given_part, part_of_means}
-use Rattle.dl_plan.specs.declared.plan.Freq.TheVariants.{Poisson, Gamma}
+use Rattle.dl_model.proofs.PlanThin.{positive, part_of_means}
 use Rattle.dl_plan.specs.declared.plan.Unit.{Unit as UnitOfPlan}
-use Rattle.dl_plan.specs.declared.severity.Sev.{Sev}
 use Rattle.dl_plan.specs.Count.{expected_count}
-use Rattle.dl_plan.specs.Severity.{pairs_of, conditioned, probability_of, Means}
-use Rattle.dl_plan.specs.Valid.{thinned_mean}
 
 pub poisson_whole : (u : UnitOfPlan) (s : Sev) (mean : Fraction) → u.freq ≡ Poisson mean
     → Means s (conditioned 0 (pairs_of u.sev))

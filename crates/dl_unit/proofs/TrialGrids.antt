@@ -1,27 +1,13 @@
 -- The grid of one trial: cell 0 is written last, and what comes of it is a grid of small spread.
-use Rattle.std.proofs.Common.{ℕ, ◌≡◌, ◌+◌, ◌-◌, ◌*◌, ◌/◌, ◌^◌, ◌<◌, ◌≤◌, List, length, set, get_or, arith, inl, inr, sym, ap, subst₂, ◌∙◌}
-use Rattle.std.specs.Prelude.{min}
-use Rattle.std.specs.Int.{div_ceil}
-use Rattle.std.proofs.lemmas.Bool.{cases_lt}
-use Rattle.std.proofs.lemmas.Nat.{pow_pos}
-use Rattle.dl_exact.specs.Fraction.{Fraction, ◌over◌}
+use Rattle.dl_unit.proofs.Common.{ℕ, ◌≡◌, ◌+◌, ◌-◌, ◌*◌, ◌/◌, ◌^◌, ◌<◌, ◌≤◌, List, length, arith, inl, inr, sym, ap, ◌∙◌, min, div_ceil, cases_lt, pow_pos, Fraction, ◌over◌, div_ceil_least, part_within, Iv, low_at, high_at, spread, all_at_zero, IsGrid, below_nothing, below_same, below_le, below_plus, cell, IsWithinOne, fixed, binomial, compound, GridEncloses, Item, weight_at, low_trial, high_trial}
+use Rattle.std.proofs.Common.{set, get_or, subst₂}
 use Rattle.dl_exact.specs.Sum.{sum_to}
-use Rattle.dl_exact.proofs.RoundingLaws.{div_ceil_least, part_within}
-use Rattle.dl_iv.specs.declared.interval.Iv.{Iv}
-use Rattle.dl_grid.specs.Cells.{low_at, high_at, spread, all_at_zero, IsGrid}
 use Rattle.dl_grid.proofs.CellLaws.{high_at_get, low_at_read, high_at_read}
-use Rattle.dl_exact.proofs.Counts.{below_nothing, below_more, below_same, below_le, below_plus}
+use Rattle.dl_exact.proofs.Counts.{below_more}
 use Rattle.dl_grid.proofs.PlaceSums.{width_at, low_within, width_within, whole_mass, whole_spread}
 use Rattle.dl_grid.proofs.EndLists.{low_le_high}
 use Rattle.dl_model.specs.Series.{Holds}
-use Rattle.dl_model.specs.Compound.{cell}
-use Rattle.dl_model.specs.Severity.{IsWithinOne}
-use Rattle.dl_model.specs.Counts.{fixed, binomial}
-use Rattle.dl_model.specs.Family.{compound, GridEncloses}
-use Rattle.dl_plan.specs.declared.item.Item.{Item}
-use Rattle.dl_plan.specs.Weighted.{weight_at}
 use Rattle.dl_grid.proofs.CellSets.{low_added, high_added, high_kept, high_joined}
-use Rattle.dl_unit.specs.Trials.{low_trial, high_trial}
 use Rattle.dl_unit.proofs.Places.{places}
 use Rattle.dl_unit.proofs.Trials.{trial_mass, trial_width, zero_below, trial_encloses}
 

@@ -1,27 +1,17 @@
 -- What one trial is worth, from the grid of one claim: its mass, its spread, and what it encloses.
-use Rattle.std.proofs.Common.{ℕ, zero, suc, ◌≡◌, ◌+◌, ◌-◌, ◌*◌, ◌/◌, ◌<◌, ◌≤◌, arith, inl, inr, sym, ap, subst, ◌∙◌, mul-le-mul_left, mul-le-mul_right}
-use Rattle.std.specs.Prelude.{min}
-use Rattle.std.specs.Int.{div_ceil}
+use Rattle.dl_unit.proofs.Common.{ℕ, zero, suc, ◌≡◌, ◌+◌, ◌-◌, ◌*◌, ◌/◌, ◌<◌, ◌≤◌, arith, inl, inr, sym, ap, subst, ◌∙◌, min, div_ceil, cases_lt, Fraction, ◌over◌, ◌+ℚ◌, ◌*ℚ◌, div_ceil_least, over_zero, all_at_zero, count_below, below_nothing, below_le, below_plus, below_constant, cell, fixed, binomial, IsWithinOne, IsSeverity, compound, trial, compound_proper, low_trial, high_trial}
+use Rattle.std.proofs.Common.{mul-le-mul_left, mul-le-mul_right}
 use Rattle.std.proofs.Math.Nat.{div-mul-le_self, le_of_mul-le-mul_right}
-use Rattle.std.proofs.lemmas.Bool.{cases_lt}
-use Rattle.dl_exact.specs.Fraction.{Fraction, ◌over◌, ◌+ℚ◌, ◌*ℚ◌, ◌≤ℚ◌}
+use Rattle.dl_exact.specs.Fraction.{◌≤ℚ◌}
 use Rattle.dl_exact.proofs.Laws.{le_trans, le_of_eq, zero_le, times_one, times_zero, plus_comm, times_comm}
-use Rattle.dl_exact.proofs.RoundingLaws.{div_ceil_least}
-use Rattle.dl_exact.proofs.Denominators.{over_zero, over_one}
+use Rattle.dl_exact.proofs.Denominators.{over_one}
 use Rattle.dl_iv.proofs.Operations.{add_low, add_high, scale_low, scale_high, enclose_low, enclose_high}
-use Rattle.dl_grid.specs.Cells.{all_at_zero}
-use Rattle.dl_exact.specs.Count.{count_below}
-use Rattle.dl_exact.proofs.Counts.{below_nothing, below_le, below_plus, below_times, below_constant, below_first}
-use Rattle.dl_model.specs.Compound.{at_zero, cell}
-use Rattle.dl_model.specs.Counts.{fixed, binomial}
-use Rattle.dl_model.specs.Severity.{IsWithinOne, IsSeverity}
-use Rattle.dl_model.specs.Family.{compound, Encloses}
-use Rattle.dl_model.proofs.AddedCounts.{trial}
+use Rattle.dl_exact.proofs.Counts.{below_times, below_first}
+use Rattle.dl_model.specs.Compound.{at_zero}
+use Rattle.dl_model.specs.Family.{Encloses}
 use Rattle.dl_model.proofs.Beginnings.{one_trial_cell}
-use Rattle.dl_model.proofs.FamilyLaws.{compound_proper}
 use Rattle.dl_model.proofs.FiniteCounts.{finite_encloses, severity_between}
 use Rattle.dl_exact.proofs.Sums.{item_le_sum}
-use Rattle.dl_unit.specs.Trials.{low_trial, high_trial}
 
 -- ---- mass
 

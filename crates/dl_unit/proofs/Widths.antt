@@ -1,11 +1,6 @@
 -- The spreads of counts are within the budget of a unit.
-use Rattle.std.proofs.Common.{ℕ, zero, suc, ◌≡◌, ◌+◌, ◌*◌, ◌^◌, ◌<◌, ◌≤◌, List, [], ◌∷◌, arith, refl, ap, subst, ◌∙◌, add-one}
-use Rattle.std.proofs.lemmas.Nat.{pow_pos}
-use Rattle.dl_exact.specs.Fraction.{Fraction, whole, ◌+ℚ◌, ◌*ℚ◌, ◌/ℚ◌}
-use Rattle.dl_grid.specs.Width.{up, cv, pw, mixed_spread}
-use Rattle.dl_grid.proofs.WidthLaws.{cv_rises, pw_one, pw_even, pw_rises}
-use Rattle.dl_budget.specs.Claims.{poisson_budget, gamma_budget}
-use Rattle.dl_budget.specs.Halvings.{halvings}
+use Rattle.dl_unit.proofs.Common.{ℕ, ◌≡◌, ◌+◌, ◌*◌, ◌^◌, ◌<◌, ◌≤◌, arith, ap, ◌∙◌, Fraction, whole, ◌+ℚ◌, ◌*ℚ◌, ◌/ℚ◌, pw_rises, poisson_budget, gamma_budget, halvings}
+use Rattle.dl_grid.specs.Width.{up, pw}
 
 pub poisson_within : (S K b x n h : ℕ) (m : Fraction) → 0 < S → n ≡ 2 ^ h → h ≡ halvings m → b ≤ 8 * K + 128
     → x ≤ pw S K b n → x ≤ poisson_budget S K m

@@ -7,13 +7,10 @@ mod claim;
 mod direct;
 mod finite;
 mod law;
-#[cfg(test)]
-mod power_tests;
-#[cfg(test)]
-mod tests;
 mod trial;
 mod unbounded;
 mod unit;
 
 pub use law::law_trials;
+pub use unbounded::{gamma_claims, poisson_claims};
 pub use unit::{unit_grid, unit_grid_with};

@@ -14,6 +14,7 @@ use crate::claim::one_claim;
 use dl_frac::Frac;
 use dl_grid::{Grid, units_of_one};
 use dl_iv::Iv;
+use dl_panjer::grid_of;
 use dl_plan::Sev;
 use std::alloc::{AllocError, Global};
 
@@ -32,20 +33,6 @@ fn scaled<const B: u32>(alloc: Global, claim: &Grid<B>, q: Frac) -> Result<Vec<I
         list.push(claim.at(x).scale(q.num(), q.den()))?;
     }
     Ok(list)
-}
-
-/// The grid of these cells.
-fn grid_of<const B: u32>(alloc: Global, cells: &[Iv<B>]) -> Result<Grid<B>, AllocError>
-    requires { IsGrid cells.now }
-    ensures { IfOk result (λ g. g ≡ cells.now) }
-{
-    let mut lows = Vec::with_capacity(alloc, cells.len())?;
-    let mut highs = Vec::with_capacity(alloc, cells.len())?;
-    for cell in cells {
-        lows.push(cell.lo)?;
-        highs.push(cell.hi)?;
-    }
-    Ok(Grid::from_ends(lows, highs))
 }
 
 /// What the claims of amount 0 give to cell 0, and the trials without a claim besides; at most 1.

@@ -9,7 +9,7 @@ ghost use Rattle.dl_model.specs.Counts.{poisson, gamma_of};
 ghost use Rattle.dl_model.specs.Family.{compound, times_itself, GridEncloses};
 ghost use Rattle.dl_plan.specs.declared.severity.Sev.{Sev};
 ghost use Rattle.dl_plan.specs.Count.{IsUnbounded};
-ghost use Rattle.dl_plan.specs.Fine.{IsAdmitted};
+ghost use Rattle.dl_plan.specs.Fine.{HasPartsOf48Bits};
 ghost use Rattle.dl_plan.specs.Severity.{probability_of, pairs_of, conditioned, Means};
 ghost use Rattle.dl_plan.specs.Valid.{thinned_mean, IsValidUnit};
 ghost use Rattle.dl_budget.specs.Claims.{poisson_budget, gamma_budget};
@@ -42,7 +42,7 @@ pub(crate) fn positive_claims(alloc: Global, unit: &Unit) -> Result<Option<Sev>,
 
 /// A Poisson number of claims above 0. The mean is halved until it is at most 1/2, and the sum of
 /// such a share of it is doubled as often.
-pub(crate) fn poisson_claims<const B: u32>(
+pub fn poisson_claims<const B: u32>(
     alloc: Global,
     work: &mut Workspace,
     sev: &Sev,
@@ -52,7 +52,7 @@ pub(crate) fn poisson_claims<const B: u32>(
     requires scale_above { 1 ≤ B }
     requires scale_below { B ≤ 56 }
     requires no_zero { probability_of sev.now 0 ≡ whole 0 }
-    requires admitted { IsAdmitted mean }
+    requires admitted { HasPartsOf48Bits mean }
     requires within { mean ≤ℚ whole most_expected }
     requires some { 1 ≤ cells }
     requires few { cells ≤ most_cells }
@@ -69,7 +69,7 @@ pub(crate) fn poisson_claims<const B: u32>(
 
 /// A gamma number of claims above 0: as many sums as its shape says, each of a geometric number of
 /// claims.
-pub(crate) fn gamma_claims<const B: u32>(
+pub fn gamma_claims<const B: u32>(
     alloc: Global,
     work: &mut Workspace,
     sev: &Sev,
@@ -80,7 +80,7 @@ pub(crate) fn gamma_claims<const B: u32>(
     requires scale_above { 1 ≤ B }
     requires scale_below { B ≤ 56 }
     requires no_zero { probability_of sev.now 0 ≡ whole 0 }
-    requires admitted { IsAdmitted mean }
+    requires admitted { HasPartsOf48Bits mean }
     requires shape_above { 1 ≤ shape }
     requires shape_below { shape ≤ most_shape }
     requires some { 1 ≤ cells }

@@ -4,11 +4,11 @@ ghost use Rattle.std.specs.Prelude.{◌≡◌, ℕ, ◌^◌, ◌≤◌, length, 
 ghost use Rattle.dl_limits.specs.Limits.{most_cells};
 ghost use Rattle.dl_exact.specs.Fraction.{Fraction};
 ghost use Rattle.dl_grid.specs.Cells.{spread};
+ghost use Rattle.dl_budget.specs.Claims.{claims_budget};
 ghost use Rattle.dl_model.specs.Family.{GridEncloses};
 ghost use Rattle.dl_model.specs.Plans.{compound_of};
-ghost use Rattle.dl_plan.specs.declared.plan.Freq.TheVariants.{Poisson, Gamma};
 ghost use Rattle.dl_plan.specs.Valid.{IsValidUnit};
-ghost use Rattle.dl_budget.specs.Claims.{claims_budget};
+ghost use Rattle.dl_plan.specs.declared.plan.Freq.TheVariants.{Poisson, Gamma};
 
 use crate::direct::{gamma_grid, poisson_grid};
 use crate::finite::{binomial_claims, fixed_claims, listed_claims};

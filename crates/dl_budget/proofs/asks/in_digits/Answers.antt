@@ -1,7 +1,4 @@
-use Rattle.std.proofs.Common.{◌+◌, ◌*◌, ◌^◌, ap, ap₂, sym, ◌∙◌}
-use Rattle.std.specs.Int.{div_ceil}
-use Rattle.std.proofs.lemmas.Nat.{pow_pos}
-use Rattle.dl_grid.proofs.WidthLaws.{up_quotient}
+use Rattle.dl_budget.proofs.Common.{◌+◌, ◌*◌, ◌^◌, ap, ap₂, sym, ◌∙◌, div_ceil, pow_pos, up_quotient}
 use Rattle.dl_budget.specs.Asks.{in_digits}
 use Rattle.dl_budget.proofs.asks.in_digits.Goals as goal
 

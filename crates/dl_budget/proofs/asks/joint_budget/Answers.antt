@@ -1,7 +1,4 @@
-use Rattle.std.proofs.Common.{◌*◌, ◌^◌, arith, ap, ap₂, sym, subst, ◌∙◌}
-use Rattle.std.proofs.Math.Nat.{mul-le-mul}
-use Rattle.dl_grid.specs.Width.{cv}
-use Rattle.dl_plan.specs.Valid.{IsValidUnit}
+use Rattle.dl_budget.proofs.Common.{◌*◌, ◌^◌, arith, ap, ap₂, sym, subst, ◌∙◌, mul-le-mul, cv, IsValidUnit}
 use Rattle.dl_budget.proofs.Horizons.{unit_horizon, few_cells}
 use Rattle.dl_budget.proofs.Sums.{budget_here, read_unit}
 use Rattle.dl_budget.proofs.asks.joint_budget.Goals as goal

@@ -1,6 +1,6 @@
-use Rattle.std.proofs.Common.{ℕ, suc, ◌≡◌, ◌≤◌, Some, None, length, arith, inl, inr, refl, ap, ◌∙◌, rules, tests, bytes_eq}
+use Rattle.dl_budget.proofs.Common.{ℕ, suc, ◌≡◌, ◌≤◌, length, arith, inl, inr, refl, ap, ◌∙◌, leb_tells}
+use Rattle.std.proofs.Common.{Some, None, rules, tests, bytes_eq}
 use Rattle.std.specs.Prelude.{cond, ltb, unwrap_or}
-use Rattle.std.proofs.lemmas.Bool.Decides.{leb_tells}
 use Rattle.std.proofs.lemmas.Iterator.{YieldsList-from_slice}
 use Rattle.std.proofs.lemmas.Iterator.Search.{position_from_yields_List}
 use Rattle.std.proofs.lemmas.List.Sums.{prefix_len-le-length}

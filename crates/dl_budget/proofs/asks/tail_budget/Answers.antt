@@ -1,7 +1,23 @@
-use Rattle.std.proofs.Common.{◌+◌, ◌-◌, ◌*◌, ◌^◌, ◌≤◌, arith, ap, ◌∙◌}
+use Rattle.dl_budget.proofs.Common.{◌+◌, ◌-◌, ◌*◌, ◌^◌, ◌≤◌, arith, ap, ◌∙◌}
+use Rattle.std.proofs.Math.Nat.{mul-le-mul}
 use Rattle.dl_budget.proofs.Horizons.{few_cells}
 use Rattle.dl_budget.proofs.Tails.{level_below, tail_small, tail_sums, tail_value}
 use Rattle.dl_budget.proofs.asks.tail_budget.Goals as goal
+
+pub overflow_mul-sums-2 : goal.overflow_mul-sums-2
+overflow_mul-sums-2 g c =
+    let small : c.args.budgets.total ≤ 2 ^ 40 = omega (arith, c.requires.budgets.total_small) in
+    omega (arith, mul-le-mul (few_cells c.args.plan.now c.requires.valid).1 small)
+
+pub overflow_mul-both-2 : goal.overflow_mul-both-2
+overflow_mul-both-2 g c =
+    let den : c.den-2.result ≤ 10 ^ 9 = omega (arith, c.den-2.ensures.part, c.requires.level.den) in
+    omega (
+      arith,
+      mul-le-mul (tail_sums c.args.budgets.mean c.args.plan.now.cells c.args.budgets.total
+          c.requires.budgets.mean_small (few_cells c.args.plan.now c.requires.valid).1 c.requires.budgets.total_small)
+          den,
+    )
 
 pub overflow_sub-rest : goal.overflow_sub-rest
 overflow_sub-rest g c = omega (

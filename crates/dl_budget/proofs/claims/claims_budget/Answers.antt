@@ -1,7 +1,5 @@
-use Rattle.std.proofs.Common.{◌+◌, ◌^◌, length, arith, ap, ◌∙◌}
+use Rattle.dl_budget.proofs.Common.{◌^◌, length, arith, ap, ◌∙◌, mixed_spread, count_budget}
 use Rattle.dl_plan.specs.declared.plan.Freq.TheVariants.{Fixed, Table, Bernoulli, Binomial}
-use Rattle.dl_grid.specs.Width.{cv, mixed_spread}
-use Rattle.dl_budget.specs.Claims.{count_budget}
 use Rattle.dl_plan.specs.Weighted.{greatest}
 use Rattle.dl_plan.proofs.Weights.{greatest_within}
 use Rattle.dl_budget.proofs.Counts.{claims_of, count_of, few_items, power_room, listed_begins, poisson_value, gamma_value}

@@ -1,7 +1,4 @@
-use Rattle.std.proofs.Common.{◌*◌, ◌+◌, ◌^◌, ◌≤◌, ap, sym, subst, ◌∙◌}
-use Rattle.dl_budget.specs.Sizes.{most_operands}
-use Rattle.dl_grid.specs.Width.{pw, rounded_spread}
-use Rattle.dl_budget.specs.Claims.{gamma_budget}
+use Rattle.dl_budget.proofs.Common.{◌*◌, ◌+◌, ◌^◌, ◌≤◌, ap, sym, subst, ◌∙◌, most_operands, pw, rounded_spread, gamma_budget}
 use Rattle.dl_budget.proofs.Bases.{gamma_base, gamma_room, gamma_read}
 use Rattle.dl_budget.proofs.claims.gamma_budget.Goals as goal
 

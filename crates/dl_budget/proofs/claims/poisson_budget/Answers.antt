@@ -1,6 +1,4 @@
-use Rattle.std.proofs.Common.{◌*◌, ◌+◌, ◌^◌, ap, ◌∙◌}
-use Rattle.dl_grid.specs.Width.{cv, pw}
-use Rattle.dl_budget.specs.Claims.{poisson_budget}
+use Rattle.dl_budget.proofs.Common.{◌*◌, ◌+◌, ◌^◌, ap, ◌∙◌, pw, poisson_budget}
 use Rattle.dl_budget.proofs.Bases.{poisson_room}
 use Rattle.dl_budget.proofs.claims.poisson_budget.Goals as goal
 

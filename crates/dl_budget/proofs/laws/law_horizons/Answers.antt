@@ -1,4 +1,4 @@
-use Rattle.std.proofs.Common.{arith}
+use Rattle.dl_budget.proofs.Common.{arith}
 use Rattle.dl_budget.proofs.Horizons.{unit_told, few_horizon, one_horizon, few_cells}
 use Rattle.dl_budget.proofs.laws.law_horizons.Goals as goal
 

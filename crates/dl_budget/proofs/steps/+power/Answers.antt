@@ -1,5 +1,6 @@
-use Rattle.std.proofs.Common.{◌+◌, ◌^◌, ◌/◌, arith, refl, sym}
-use Rattle.dl_grid.proofs.WidthLaws.{pw_none, pw_one}
+use Rattle.dl_budget.proofs.Common.{◌+◌, ◌^◌, arith, refl, sym, pw_one}
+use Rattle.std.proofs.Common.{◌/◌}
+use Rattle.dl_grid.proofs.WidthLaws.{pw_none}
 use Rattle.dl_budget.proofs.SizeLaws.{unit_small, square_size, square_value, next_value, odd_size, base_small}
 use Rattle.dl_budget.proofs.steps.+power.Goals as goal
 

@@ -1,7 +1,6 @@
-use Rattle.std.proofs.Common.{◌+◌, ◌^◌, arith, sym}
+use Rattle.dl_budget.proofs.Common.{◌+◌, ◌^◌, arith, sym, pw_one}
 use Rattle.dl_budget.proofs.SizeLaws.{unit_small, size_least}
 use Rattle.dl_budget.proofs.Repeats.{doubled_value, doubled_size, doubled_room}
-use Rattle.dl_grid.proofs.WidthLaws.{pw_one}
 use Rattle.dl_budget.proofs.steps.doubled.Goals as goal
 
 pub joined-spread-requires-clause-left : goal.joined-spread-requires-clause-left

@@ -1,5 +1,4 @@
-use Rattle.std.proofs.Common.{◌≡◌, ◌*◌, ◌^◌, ◌≤◌}
-use Rattle.dl_grid.specs.Width.{pw, rounded_spread, IsSizeWithin}
+use Rattle.dl_budget.proofs.Common.{◌≡◌, ◌*◌, ◌^◌, ◌≤◌, pw, rounded_spread, IsSizeWithin}
 use Rattle.dl_budget.proofs.steps.doubled.Given as goal
 
 abbrev pub invariant-loop-step : goal.invariant-loop-step

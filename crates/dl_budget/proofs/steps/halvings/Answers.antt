@@ -1,4 +1,4 @@
-use Rattle.std.proofs.Common.{◌*◌, arith, ap}
+use Rattle.dl_budget.proofs.Common.{◌*◌, arith, ap}
 use Rattle.dl_budget.proofs.HalvingLaws.{first_halvings, halvings_value, half_after_13, half_by_shift}
 use Rattle.dl_budget.proofs.steps.halvings.Goals as goal
 

@@ -1,4 +1,4 @@
-use Rattle.std.proofs.Common.{ℕ, ◌*◌, ◌^◌, ◌<◌, ◌≤◌}
+use Rattle.dl_budget.proofs.Common.{ℕ, ◌*◌, ◌^◌, ◌<◌, ◌≤◌}
 use Rattle.dl_budget.proofs.steps.halvings.Given as goal
 
 abbrev pub invariant-loop-times : goal.invariant-loop-times

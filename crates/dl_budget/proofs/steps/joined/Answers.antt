@@ -1,6 +1,4 @@
-use Rattle.std.proofs.Common.{◌≡◌, ◌*◌, ◌^◌, arith, ap, ◌∙◌}
-use Rattle.std.specs.Int.{div_ceil}
-use Rattle.std.proofs.lemmas.Nat.{pow_pos}
+use Rattle.dl_budget.proofs.Common.{◌≡◌, ◌*◌, ◌^◌, arith, ap, ◌∙◌, div_ceil, pow_pos}
 use Rattle.dl_grid.proofs.WidthLaws.{cv_is}
 use Rattle.dl_budget.proofs.SizeLaws.{joined_small}
 use Rattle.dl_budget.proofs.steps.joined.Goals as goal

@@ -1,6 +1,4 @@
-use Rattle.std.proofs.Common.{◌≡◌, ◌*◌, ◌^◌, ◌≤◌, take}
-use Rattle.std.specs.List.{sum_by}
-use Rattle.dl_plan.specs.MeanWidth.{part_width}
+use Rattle.dl_budget.proofs.Common.{◌≡◌, ◌*◌, ◌^◌, ◌≤◌, take, sum_by, part_width}
 use Rattle.dl_budget.proofs.units.layers_budget.Given as goal
 
 abbrev pub invariant-loop-layer : goal.invariant-loop-layer

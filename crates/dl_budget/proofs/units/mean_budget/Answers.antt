@@ -1,6 +1,4 @@
-use Rattle.std.proofs.Common.{◌^◌, arith, ap, ◌∙◌}
-use Rattle.std.specs.List.{sum_by}
-use Rattle.dl_budget.specs.Units.{unit_mean_budget}
+use Rattle.dl_budget.proofs.Common.{◌^◌, arith, ap, ◌∙◌, sum_by, unit_mean_budget}
 use Rattle.dl_budget.proofs.Horizons.{few_cells}
 use Rattle.dl_budget.proofs.Means.{mean_next, mean_all}
 use Rattle.dl_budget.proofs.units.mean_budget.Goals as goal

@@ -1,6 +1,4 @@
-use Rattle.std.proofs.Common.{◌≡◌, ◌*◌, ◌^◌, ◌≤◌, take}
-use Rattle.std.specs.List.{sum_by}
-use Rattle.dl_budget.specs.Units.{unit_mean_budget}
+use Rattle.dl_budget.proofs.Common.{◌≡◌, ◌*◌, ◌^◌, ◌≤◌, take, sum_by, unit_mean_budget}
 use Rattle.dl_budget.proofs.units.mean_budget.Given as goal
 
 abbrev pub invariant-loop-unit : goal.invariant-loop-unit

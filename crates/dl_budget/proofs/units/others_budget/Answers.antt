@@ -1,11 +1,6 @@
-use Rattle.std.proofs.Common.{◌≡◌, ◌^◌, ◌≤◌, length, take, arith, refl, ap, ◌∙◌}
-use Rattle.std.proofs.lemmas.Grind.{common_steps}
-use Rattle.std.specs.List.{remove}
-use Rattle.dl_grid.specs.Width.{sum_spread}
-use Rattle.dl_budget.specs.Units.{unit_budgets}
+use Rattle.dl_budget.proofs.Common.{◌≡◌, ◌^◌, ◌≤◌, length, take, arith, refl, ap, ◌∙◌, common_steps, remove, sum_spread, unit_budgets, from_there}
 use Rattle.dl_budget.proofs.Horizons.{few_cells}
 use Rattle.dl_budget.proofs.Sums.{sum_of_others, sum_of_later, sum_small, parts_length}
-use Rattle.dl_exact.proofs.Lists.{from_there}
 use Rattle.dl_budget.proofs.units.others_budget.Goals as goal
 
 pub sum_of-requires-clause-few : goal.sum_of-requires-clause-few

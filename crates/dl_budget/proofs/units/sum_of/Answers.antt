@@ -1,10 +1,7 @@
-use Rattle.std.proofs.Common.{◌+◌, ◌-◌, ◌^◌, ◌≤◌, length, take, drop, arith, sym, subst}
-use Rattle.std.proofs.lemmas.Grind.{common_steps}
+use Rattle.dl_budget.proofs.Common.{◌+◌, ◌-◌, ◌^◌, ◌≤◌, length, take, drop, arith, sym, subst, common_steps, IsValidUnit, from_there}
 use Rattle.std.proofs.lemmas.List.Elements.{All-take, All-drop}
-use Rattle.dl_plan.specs.Valid.{IsValidUnit}
 use Rattle.dl_budget.proofs.Horizons.{unit_horizon}
 use Rattle.dl_budget.proofs.Sums.{later_length, unit_size, size_at, sum_small, sum_from_first}
-use Rattle.dl_exact.proofs.Lists.{from_there}
 use Rattle.dl_budget.proofs.units.sum_of.Goals as goal
 
 pub unit_budget-first-requires-clause-horizon : goal.unit_budget-first-requires-clause-horizon

@@ -1,6 +1,4 @@
-use Rattle.std.proofs.Common.{◌≡◌, ◌*◌, ◌^◌, ap, sym, ◌∙◌}
-use Rattle.dl_plan.specs.Horizon.{horizon}
-use Rattle.dl_budget.specs.Claims.{claims_budget}
+use Rattle.dl_budget.proofs.Common.{◌*◌, ◌^◌, ap, sym, ◌∙◌, horizon, claims_budget}
 use Rattle.dl_budget.specs.Units.{after_clause}
 use Rattle.dl_budget.proofs.Horizons.{on_horizon}
 use Rattle.dl_budget.proofs.units.unit_budget.Goals as goal

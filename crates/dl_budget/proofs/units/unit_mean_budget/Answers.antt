@@ -1,8 +1,5 @@
-use Rattle.std.proofs.Common.{◌≡◌, ◌+◌, ◌^◌, ap, ap₂, sym, ◌∙◌}
-use Rattle.std.specs.List.{sum_by}
-use Rattle.dl_plan.specs.Horizon.{horizon}
-use Rattle.dl_plan.specs.MeanWidth.{part_width, mean_width}
-use Rattle.dl_budget.specs.Claims.{claims_budget}
+use Rattle.dl_budget.proofs.Common.{◌+◌, ◌^◌, ap, ap₂, sym, ◌∙◌, sum_by, horizon, part_width, claims_budget}
+use Rattle.dl_plan.specs.MeanWidth.{mean_width}
 use Rattle.dl_budget.proofs.Horizons.{on_horizon}
 use Rattle.dl_budget.proofs.units.unit_mean_budget.Goals as goal
 

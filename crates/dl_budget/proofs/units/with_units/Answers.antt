@@ -1,5 +1,4 @@
-use Rattle.std.proofs.Common.{◌+◌, ◌^◌, length, arith, sym, subst}
-use Rattle.dl_plan.specs.Valid.{IsValidUnit}
+use Rattle.dl_budget.proofs.Common.{◌+◌, ◌^◌, length, arith, sym, subst, IsValidUnit}
 use Rattle.dl_budget.proofs.Horizons.{unit_horizon}
 use Rattle.dl_budget.proofs.Sums.{budget_next, budget_all, sum_size_next, sum_small, size_at}
 use Rattle.dl_budget.proofs.units.with_units.Goals as goal

@@ -1,8 +1,4 @@
-use Rattle.std.proofs.Common.{ℕ, ◌≡◌, ◌+◌, ◌^◌, ◌≤◌, length, take}
-use Rattle.std.specs.List.{fold}
-use Rattle.dl_grid.specs.Width.{cv}
-use Rattle.dl_budget.specs.Sizes.{IsOfUnits}
-use Rattle.dl_budget.specs.Units.{unit_budgets}
+use Rattle.dl_budget.proofs.Common.{ℕ, ◌≡◌, ◌+◌, ◌^◌, ◌≤◌, length, take, fold, cv, IsOfUnits, unit_budgets}
 use Rattle.dl_budget.proofs.units.with_units.Given as goal
 
 abbrev pub invariant-loop-unit : goal.invariant-loop-unit

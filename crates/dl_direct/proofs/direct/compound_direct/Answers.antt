@@ -1,13 +1,9 @@
-use Rattle.std.proofs.Common.{◌≡◌, ℕ, zero, suc, ◌+◌, ◌*◌, ◌^◌, ◌<◌, length, All, arith, refl, sym, ap, subst, ◌∙◌, mul-pos}
-use Rattle.dl_exact.specs.Fraction.{Fraction, whole, ◌over◌, ◌*ℚ◌}
+use Rattle.dl_direct.proofs.Common.{◌≡◌, ℕ, zero, suc, ◌+◌, ◌*◌, ◌^◌, ◌<◌, length, arith, refl, sym, ap, subst, ◌∙◌, mul-pos, Fraction, whole, ◌over◌, ◌*ℚ◌, cell, all_parts, part_at, IsRound, IsPlaced, IsScaled}
+use Rattle.std.proofs.Common.{All}
 use Rattle.dl_grid.specs.Cells.{low_at, high_at}
-use Rattle.dl_model.specs.Compound.{cell}
 use Rattle.dl_model.specs.Family.{compound, Encloses}
-use Rattle.dl_plan.specs.Severity.{probability_of}
 use Rattle.dl_plan.specs.Weighted.{weight_sum, weight_at}
-use Rattle.dl_direct.specs.Runs.{all_parts, part_at}
-use Rattle.dl_direct.specs.Slide.{IsRound}
-use Rattle.dl_direct.specs.Placed.{IsPlaced, IsScaled}
+use Rattle.dl_plan.specs.Severity.{probability_of}
 use Rattle.dl_plan.proofs.Positive.{amounts_positive}
 use Rattle.dl_model.proofs.WithinOne.{within_one}
 use Rattle.dl_direct.proofs.Units.{chance_scaled}

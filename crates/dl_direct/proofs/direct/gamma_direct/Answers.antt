@@ -1,10 +1,6 @@
-use Rattle.std.proofs.Common.{◌≡◌, ◌+◌, ◌*◌, sym, ap, ap₂, subst, ◌∙◌}
+use Rattle.dl_direct.proofs.Common.{◌≡◌, ◌+◌, ◌*◌, sym, ap, ap₂, subst, ◌∙◌, whole, ◌over◌, ◌+ℚ◌, ◌*ℚ◌, ◌/ℚ◌, over_self, gamma, IsPanjer, HoldsNoClaim}
 use Rattle.std.proofs.lemmas.Result.{IfOk-weaker}
 use Rattle.std.proofs.lemmas.Option.{IfSome_then}
-use Rattle.dl_exact.specs.Fraction.{whole, ◌over◌, ◌+ℚ◌, ◌*ℚ◌, ◌/ℚ◌}
-use Rattle.dl_exact.proofs.Over.{over_self}
-use Rattle.dl_model.specs.Counts.{gamma, IsPanjer}
-use Rattle.dl_direct.specs.Start.{HoldsNoClaim}
 use Rattle.dl_direct.proofs.Units.{gamma_steps, contribution_is}
 use Rattle.dl_direct.proofs.direct.gamma_direct.Goals as goal
 

@@ -1,11 +1,7 @@
-use Rattle.std.proofs.Common.{◌≡◌, ◌*◌, ◌≤◌, arith, sym, subst, ap₂, ◌∙◌}
+use Rattle.dl_direct.proofs.Common.{◌≡◌, ◌*◌, ◌≤◌, arith, sym, subst, ap₂, ◌∙◌, whole, ◌over◌, ◌*ℚ◌, ◌≤ℚ◌, one_pos, over_self, poisson, IsPanjer, HoldsNoClaim}
 use Rattle.std.proofs.lemmas.Result.{IfOk-weaker}
 use Rattle.std.proofs.lemmas.Option.{IfSome_then}
-use Rattle.dl_exact.specs.Fraction.{whole, ◌over◌, ◌*ℚ◌, ◌≤ℚ◌}
-use Rattle.dl_exact.proofs.Laws.{one_pos}
-use Rattle.dl_exact.proofs.Over.{over_self, le_over}
-use Rattle.dl_model.specs.Counts.{poisson, IsPanjer}
-use Rattle.dl_direct.specs.Start.{HoldsNoClaim}
+use Rattle.dl_exact.proofs.Over.{le_over}
 use Rattle.dl_direct.proofs.Units.{poisson_steps}
 use Rattle.dl_direct.proofs.direct.poisson_direct.Goals as goal
 

@@ -1,9 +1,4 @@
-use Rattle.std.proofs.Common.{◌≡◌, ℕ, suc, ◌+◌, ◌-◌, ◌*◌, ◌/◌, ◌^◌, ◌<◌, ◌≤◌, arith, sym, subst, subst₂, ap, ap₂, ◌∙◌, mul-pos, mul-le-mul_left, mul-le-mul_right, div-mul-le_self, add-one}
-use Rattle.std.proofs.Math.Nat.{zero-lt-suc}
-use Rattle.dl_exact.specs.Fraction.{whole, ◌over◌, ◌*ℚ◌, ◌≤ℚ◌}
-use Rattle.dl_exact.specs.Sum.{sum_to}
-use Rattle.dl_model.specs.Counts.{poisson}
-use Rattle.dl_exact.proofs.Laws.{le_of_eq, times_one}
+use Rattle.dl_direct.proofs.Common.{◌≡◌, ℕ, suc, ◌+◌, ◌-◌, ◌*◌, ◌/◌, ◌^◌, ◌<◌, ◌≤◌, arith, sym, subst, subst₂, ap, ap₂, ◌∙◌, mul-pos, mul-le-mul_left, mul-le-mul_right, div-mul-le_self, add-one, zero-lt-suc, whole, ◌over◌, ◌*ℚ◌, ◌≤ℚ◌, sum_to, poisson, le_of_eq, times_one}
 use Rattle.dl_model.proofs.PoissonWeights.{poisson_zero}
 use Rattle.dl_direct.proofs.Starts.{two_pos}
 use Rattle.dl_direct.proofs.Rounding.{ceil_reaches, floor_ceil, term_small}

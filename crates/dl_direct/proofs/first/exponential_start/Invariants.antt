@@ -1,7 +1,4 @@
-use Rattle.std.proofs.Common.{◌+◌, ◌*◌, ◌^◌, ◌≤◌}
-use Rattle.dl_exact.specs.Fraction.{whole, ◌over◌, ◌*ℚ◌, ◌≤ℚ◌}
-use Rattle.dl_exact.specs.Sum.{sum_to}
-use Rattle.dl_model.specs.Counts.{poisson}
+use Rattle.dl_direct.proofs.Common.{◌+◌, ◌*◌, ◌^◌, ◌≤◌, whole, ◌over◌, ◌*ℚ◌, ◌≤ℚ◌, sum_to, poisson}
 use Rattle.dl_direct.proofs.first.exponential_start.Given as goal
 
 abbrev pub invariant-loop-n : goal.invariant-loop-n

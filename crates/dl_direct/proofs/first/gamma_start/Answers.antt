@@ -1,7 +1,4 @@
-use Rattle.std.proofs.Common.{◌+◌, ◌*◌, subst}
-use Rattle.dl_exact.specs.Fraction.{◌over◌}
-use Rattle.dl_model.specs.Counts.{gamma}
-use Rattle.dl_direct.specs.Start.{HoldsNoClaim}
+use Rattle.dl_direct.proofs.Common.{◌+◌, ◌*◌, subst, ◌over◌, gamma, HoldsNoClaim}
 use Rattle.dl_direct.proofs.Units.{shapes}
 use Rattle.dl_direct.proofs.first.gamma_start.Goals as goal
 

@@ -1,5 +1,4 @@
-use Rattle.std.proofs.Common.{◌≡◌, ◌+◌, ◌-◌, ◌*◌, ◌/◌, ◌^◌, ◌<◌, ◌≤◌, arith, subst, div-mul-le_self}
-use Rattle.std.proofs.Math.Nat.{lt-div-mul-add}
+use Rattle.dl_direct.proofs.Common.{◌≡◌, ◌+◌, ◌-◌, ◌*◌, ◌/◌, ◌^◌, ◌<◌, ◌≤◌, arith, subst, div-mul-le_self, lt-div-mul-add}
 use Rattle.dl_direct.proofs.Starts.{two_pos}
 use Rattle.dl_direct.proofs.Beginnings.{geometric_holds}
 use Rattle.dl_direct.proofs.first.geometric_start.Goals as goal

@@ -1,7 +1,4 @@
-use Rattle.std.proofs.Common.{◌≡◌, ◌+◌, ◌*◌, ◌<◌, arith, ap, subst}
-use Rattle.dl_exact.specs.Fraction.{◌over◌}
-use Rattle.dl_model.specs.Counts.{poisson}
-use Rattle.dl_direct.specs.Start.{HoldsNoClaim}
+use Rattle.dl_direct.proofs.Common.{◌≡◌, ◌+◌, ◌*◌, ◌<◌, arith, ap, subst, ◌over◌, poisson, HoldsNoClaim}
 use Rattle.dl_direct.proofs.Units.{few_shares, shares}
 use Rattle.dl_direct.proofs.first.poisson_start.Goals as goal
 

@@ -1,4 +1,4 @@
-use Rattle.std.proofs.Common.{◌-◌, ◌≤◌, ◌<◌}
+use Rattle.dl_direct.proofs.Common.{◌-◌, ◌≤◌, ◌<◌}
 use Rattle.dl_direct.proofs.first.poisson_start.Given as goal
 
 abbrev pub invariant-loop-shares : goal.invariant-loop-shares

@@ -1,8 +1,5 @@
-use Rattle.std.proofs.Common.{◌≡◌, ◌+◌, ◌<◌, ◌∷◌, [], ◌++◌, arith, sym, ap, subst, ◌∙◌, add-one}
-use Rattle.std.specs.List.{All, sum_by, flat_map}
+use Rattle.dl_direct.proofs.Common.{◌≡◌, ◌+◌, ◌<◌, ◌∷◌, [], ◌++◌, arith, sym, ap, subst, ◌∙◌, add-one, All, sum_by, flat_map, Part, in_a_row, run_parts}
 use Rattle.std.proofs.lemmas.List.Elements.{All-push}
-use Rattle.dl_direct.specs.declared.parts.Part.{Part}
-use Rattle.dl_direct.specs.Runs.{in_a_row, run_parts}
 use Rattle.dl_direct.proofs.Runs.{row_none, row_more, part_pushed}
 use Rattle.dl_direct.proofs.parts.add.Goals as goal
 

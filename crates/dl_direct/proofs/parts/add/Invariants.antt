@@ -1,7 +1,4 @@
-use Rattle.std.proofs.Common.{◌≡◌, ℕ, ◌+◌}
-use Rattle.std.specs.List.{sum_by}
-use Rattle.dl_direct.specs.declared.parts.Part.{Part}
-use Rattle.dl_direct.specs.Runs.{in_a_row, all_parts, ArePositiveAmounts}
+use Rattle.dl_direct.proofs.Common.{◌≡◌, ℕ, ◌+◌, sum_by, Part, in_a_row, all_parts, ArePositiveAmounts}
 use Rattle.dl_direct.proofs.parts.add.Given as goal
 
 abbrev pub invariant-each : goal.invariant-each

@@ -1,11 +1,7 @@
-use Rattle.std.proofs.Common.{◌≡◌, ℕ, ◌+◌, ◌*◌, ◌<◌, ◌≤◌, ◌^◌, [], ◌++◌, length, take, get_or, arith, refl, sym, ap, ap₂, subst, ◌∙◌}
+use Rattle.dl_direct.proofs.Common.{◌≡◌, ℕ, ◌+◌, ◌*◌, ◌<◌, ◌≤◌, ◌^◌, [], ◌++◌, length, take, get_or, arith, refl, sym, ap, ap₂, subst, ◌∙◌, All, sum_by, flat_map, Part, Run, in_a_row, run_parts, all_parts}
 use Rattle.std.specs.Prelude.{◌==◌, if◌then◌else◌}
-use Rattle.std.proofs.Math.Seq.{take-length}
-use Rattle.std.specs.List.{All, sum_by, flat_map}
 use Rattle.dl_plan.specs.declared.item.Item.{Item}
-use Rattle.dl_direct.specs.declared.parts.Part.{Part}
-use Rattle.dl_direct.specs.declared.parts.Run.{Run}
-use Rattle.dl_direct.specs.Runs.{in_a_row, run_parts, all_parts}
+use Rattle.std.proofs.Math.Seq.{take-length}
 use Rattle.dl_direct.proofs.Runs.{row_none}
 use Rattle.dl_direct.proofs.Units.{times_item, times_sum, times_each, item_joined, item_begun}
 use Rattle.dl_direct.proofs.parts.amounts_of.Goals as goal

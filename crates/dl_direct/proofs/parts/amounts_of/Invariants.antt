@@ -1,7 +1,4 @@
-use Rattle.std.proofs.Common.{◌≡◌, ℕ, ◌+◌, ◌^◌, ◌<◌, ◌≤◌, take}
-use Rattle.std.specs.List.{sum_by}
-use Rattle.dl_direct.specs.declared.parts.Part.{Part}
-use Rattle.dl_direct.specs.Runs.{run_parts, all_parts, ArePositiveAmounts}
+use Rattle.dl_direct.proofs.Common.{◌≡◌, ℕ, ◌+◌, ◌^◌, ◌<◌, ◌≤◌, take, sum_by, Part, run_parts, all_parts, ArePositiveAmounts}
 use Rattle.dl_direct.proofs.Units.{times_item}
 use Rattle.dl_direct.proofs.parts.amounts_of.Given as goal
 

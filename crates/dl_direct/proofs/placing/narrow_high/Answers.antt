@@ -1,4 +1,4 @@
-use Rattle.std.proofs.Common.{◌≡◌, inl, ℕ, ◌+◌, ◌-◌, ◌*◌, ◌/◌, ◌^◌, ◌<◌, ◌≤◌, arith, ap₂, subst}
+use Rattle.dl_direct.proofs.Common.{◌≡◌, inl, ℕ, ◌+◌, ◌-◌, ◌*◌, ◌/◌, ◌^◌, ◌<◌, ◌≤◌, arith, ap₂, subst}
 use Rattle.dl_direct.proofs.Place.{up_reaches}
 use Rattle.dl_direct.proofs.placing.narrow_high.Goals as goal
 

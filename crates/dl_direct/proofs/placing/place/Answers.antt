@@ -1,9 +1,8 @@
-use Rattle.std.proofs.Common.{◌≡◌, ℕ, ◌⊎◌, ◌+◌, ◌*◌, ◌^◌, ◌<◌, ◌≤◌, length, get_or, ◌∷◌, [], ◌++◌, arith, sym, ap, subst, subst₂, ◌∙◌, mul-le-mul_right}
-use Rattle.std.proofs.lemmas.Grind.{get_or_default_zero}
+use Rattle.dl_direct.proofs.Common.{◌≡◌, ℕ, ◌⊎◌, ◌+◌, ◌*◌, ◌^◌, ◌<◌, ◌≤◌, length, get_or, ◌∷◌, [], ◌++◌, arith, sym, ap, subst, subst₂, ◌∙◌, mul-le-mul_right, IsPlaced}
 use Rattle.std.proofs.lemmas.List.Elements.{All-push}
 use Rattle.dl_grid.specs.Cells.{low_at, high_at}
+use Rattle.std.proofs.lemmas.Grind.{get_or_default_zero}
 use Rattle.dl_grid.proofs.EndLists.{low_at_ends, high_at_ends}
-use Rattle.dl_direct.specs.Placed.{IsPlaced}
 use Rattle.dl_direct.proofs.Place.{one_longer, ordered_more, mass_more, placed_same, placed_more}
 use Rattle.dl_direct.proofs.placing.place.Goals as goal
 

@@ -1,6 +1,4 @@
-use Rattle.std.proofs.Common.{◌≡◌, ℕ, ◌+◌, ◌^◌, ◌≤◌, length, get_or}
-use Rattle.std.specs.List.{All, sum}
-use Rattle.dl_direct.specs.Placed.{IsPlaced}
+use Rattle.dl_direct.proofs.Common.{◌≡◌, ℕ, ◌+◌, ◌^◌, ◌≤◌, length, get_or, All, sum, IsPlaced}
 use Rattle.dl_direct.proofs.placing.place.Given as goal
 
 abbrev pub invariant-cells : goal.invariant-cells

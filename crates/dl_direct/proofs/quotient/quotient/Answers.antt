@@ -1,4 +1,4 @@
-use Rattle.std.proofs.Common.{◌≡◌, ℕ, ◌+◌, ◌-◌, ◌*◌, ◌/◌, ◌<◌, ◌≤◌, arith, sym, ap, ◌∙◌}
+use Rattle.dl_direct.proofs.Common.{◌≡◌, ℕ, ◌+◌, ◌-◌, ◌*◌, ◌/◌, ◌<◌, ◌≤◌, arith, sym, ap, ◌∙◌}
 use Rattle.std.proofs.lemmas.Nat.{div-mul-add}
 use Rattle.dl_direct.proofs.quotient.quotient.Goals as goal
 

@@ -1,12 +1,8 @@
-use Rattle.std.proofs.Common.{◌≡◌, ℕ, ◌+◌, ◌-◌, ◌*◌, ◌/◌, ◌^◌, ◌<◌, ◌≤◌, arith, sym, subst, ◌∙◌, mul-le-mul_right}
-use Rattle.dl_exact.specs.Fraction.{whole, ◌≤ℚ◌}
-use Rattle.dl_exact.proofs.Laws.{le_trans}
-use Rattle.dl_direct.specs.Slide.{IsRound}
+use Rattle.dl_direct.proofs.Common.{◌≡◌, ℕ, ◌+◌, ◌-◌, ◌*◌, ◌/◌, ◌^◌, ◌<◌, ◌≤◌, arith, sym, subst, ◌∙◌, mul-le-mul_right, whole, ◌≤ℚ◌, le_trans, IsRound, whole_le}
 use Rattle.dl_direct.proofs.Starts.{two_le}
-use Rattle.dl_exact.proofs.RoundingLaws.{whole_le}
 use Rattle.dl_direct.proofs.Steps.{shifted, shift_low, shift_high, fit_top}
 use Rattle.dl_direct.proofs.slide.fit.Goals as goal
-use Rattle.dl_direct.proofs.slide.fit.Goals.{then-high-gt-LIMIT, else-high-gt-LIMIT}
+use Rattle.dl_direct.proofs.slide.fit.Goals.{then-high-gt-MOST_END, else-high-gt-MOST_END}
 
 pub overflow_add-high : goal.overflow_add-high
 overflow_add-high c =
@@ -18,8 +14,8 @@ loop-k-preserved c =
     let i = c.loop-k.invariant in
     let k = c.loop-k.k in
     let x = c.loop-k.x in
-    elim c.if-high-gt-LIMIT.branch [
-      | then-high-gt-LIMIT w ↦
+    elim c.if-high-gt-MOST_END.branch [
+      | then-high-gt-MOST_END w ↦
           let e = w.shrink.ensures in
           let s : w.shrink.new.x.shift ≡ x.shift + 8 = e.shift in
           rw (w.low-is, w.high-is, w.x-is) (record {
@@ -41,7 +37,7 @@ loop-k-preserved c =
                 (subst (λ t. whole (c.loop-k.high * 2 ^ x.shift) ≤ℚ whole ((c.loop-k.high + 255) / 256 * 2 ^ t)) (sym s)
                 (whole_le _ _ (shift_high c.loop-k.high x.shift)));
           })
-      | else-high-gt-LIMIT w ↦
+      | else-high-gt-MOST_END w ↦
           let m : 2 ^ 62 ≤ 2 ^ (126 - 8 * (k + 1)) =
           two_le 62 (126 - 8 * (k + 1)) (omega (arith, c.loop-k-test.true)) in
           rw (w.low-is, w.high-is, w.x-is)
@@ -69,8 +65,8 @@ returns-then-low-high-clause-low c y h =
     less : {a b : ℕ} → b < a → b ≤ a
     less {a} {b} h = omega (arith, h)
 
-pub returns-then-next-le-LIMIT-clause-low : goal.returns-then-next-le-LIMIT-clause-low
-returns-then-next-le-LIMIT-clause-low c y h =
+pub returns-then-next-le-MOST_END-clause-low : goal.returns-then-next-le-MOST_END-clause-low
+returns-then-next-le-MOST_END-clause-low c y h =
     let m = c.min.ensures in
     let l : c.min.result ≤ c.args.next.low = omega arith in
     le_trans _ _ _ (whole_le _ _ (mul-le-mul_right (2 ^ c.args.x.now.shift) l)) h

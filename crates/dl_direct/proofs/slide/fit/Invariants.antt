@@ -1,6 +1,4 @@
-use Rattle.std.proofs.Common.{◌≡◌, ℕ, ◌+◌, ◌*◌, ◌-◌, ◌^◌, ◌≤◌, length}
-use Rattle.dl_exact.specs.Fraction.{Fraction, whole, ◌≤ℚ◌}
-use Rattle.dl_direct.specs.Slide.{AreSums, AreSlideCells, IsRound}
+use Rattle.dl_direct.proofs.Common.{◌≡◌, ℕ, ◌+◌, ◌*◌, ◌-◌, ◌^◌, ◌≤◌, length, Fraction, whole, ◌≤ℚ◌, AreSums, AreSlideCells, IsRound}
 use Rattle.dl_direct.proofs.slide.fit.Given as goal
 
 abbrev pub invariant-loop-k : goal.invariant-loop-k

@@ -1,4 +1,4 @@
-use Rattle.std.proofs.Common.{◌≡◌, ℕ, ◌/◌, ◌<◌, ◌≤◌, get_or}
+use Rattle.dl_direct.proofs.Common.{◌≡◌, ℕ, ◌/◌, ◌<◌, ◌≤◌, get_or}
 use Rattle.dl_direct.proofs.slide.lower.Given as goal
 
 abbrev pub invariant-loop-i : goal.invariant-loop-i

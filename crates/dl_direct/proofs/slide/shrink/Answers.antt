@@ -1,5 +1,4 @@
-use Rattle.std.proofs.Common.{◌≡◌, take, sym, ap, subst, ◌∙◌}
-use Rattle.dl_direct.specs.Slide.{AreSums}
+use Rattle.dl_direct.proofs.Common.{◌≡◌, take, sym, ap, subst, ◌∙◌, AreSums}
 use Rattle.dl_direct.proofs.Totals.{sums_kept, settled_low, settled_high}
 use Rattle.dl_direct.proofs.slide.shrink.Goals as goal
 

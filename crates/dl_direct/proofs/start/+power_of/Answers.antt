@@ -1,7 +1,5 @@
-use Rattle.std.proofs.Common.{◌≡◌, suc, ◌+◌, ◌/◌, arith, sym, ap, subst, ◌∙◌, mul-le-mul_right, div-mul-le_self}
-use Rattle.dl_model.specs.Compound.{power}
+use Rattle.dl_direct.proofs.Common.{◌≡◌, suc, ◌+◌, ◌/◌, arith, sym, ap, subst, ◌∙◌, mul-le-mul_right, div-mul-le_self, power, HoldsNoClaim}
 use Rattle.dl_model.proofs.Powers.{power_plus}
-use Rattle.dl_direct.specs.Start.{HoldsNoClaim}
 use Rattle.dl_direct.proofs.start.+power_of.Goals as goal
 use Rattle.dl_model.proofs.FiniteCounts.{power_one}
 

@@ -1,7 +1,7 @@
-use Rattle.std.proofs.Common.{◌≡◌, ◌+◌, ◌*◌, ◌^◌, ◌≤◌, suc, ◌-◌, ◌/◌, arith, ap, subst, ◌∙◌, pow-suc}
+use Rattle.dl_direct.proofs.Common.{◌≡◌, ◌+◌, ◌*◌, ◌^◌, ◌≤◌, suc, ◌-◌, ◌/◌, arith, ap, subst, ◌∙◌, pow-suc}
 use Rattle.dl_direct.proofs.Starts.{two_le, half_low, half_high, half_top, start_times}
 use Rattle.dl_direct.proofs.start.times.Goals as goal
-use Rattle.dl_direct.proofs.start.times.Goals.{then-high-gt-TOP, else-high-gt-TOP}
+use Rattle.dl_direct.proofs.start.times.Goals.{then-high-gt-MOST_START, else-high-gt-MOST_START}
 
 pub overflow_add-high : goal.overflow_add-high
 overflow_add-high c =
@@ -16,8 +16,8 @@ loop-k-preserved c =
     let d = c.loop-k.exponent - 1 in
     let e : c.loop-k.exponent ≡ suc d = omega (arith, i.least, c.loop-k-test.true) in
     let s : 2 ^ c.loop-k.exponent ≡ 2 ^ d * 2 = ap (λ t. 2 ^ t) e ∙ pow-suc 2 d in
-    elim c.if-high-gt-TOP.branch [
-      | then-high-gt-TOP w ↦
+    elim c.if-high-gt-MOST_START.branch [
+      | then-high-gt-MOST_START w ↦
           let lo : c.loop-k.low / 2 * T ≤ c.args.a.low * c.args.b.low * 2 ^ d =
           half_low c.loop-k.low T (c.args.a.low * c.args.b.low) (2 ^ d)
           (subst (λ t. c.loop-k.low * T ≤ c.args.a.low * c.args.b.low * t) s i.low) in
@@ -36,7 +36,7 @@ loop-k-preserved c =
             room =
                 omega (arith, i.room);
           })
-      | else-high-gt-TOP w ↦
+      | else-high-gt-MOST_START w ↦
           let m : 2 ^ 63 ≤ 2 ^ (126 - (k + 1)) = two_le 63 (126 - (k + 1)) (omega arith) in
           rw (w.low-is, w.high-is, w.exponent-is)
           (record {

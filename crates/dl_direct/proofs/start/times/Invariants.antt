@@ -1,4 +1,4 @@
-use Rattle.std.proofs.Common.{◌+◌, ◌*◌, ◌^◌, ◌≤◌, ◌-◌}
+use Rattle.dl_direct.proofs.Common.{◌+◌, ◌*◌, ◌^◌, ◌≤◌, ◌-◌}
 use Rattle.dl_direct.proofs.start.times.Given as goal
 
 abbrev pub invariant-loop-k : goal.invariant-loop-k

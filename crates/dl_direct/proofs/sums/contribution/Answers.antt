@@ -1,4 +1,4 @@
-use Rattle.std.proofs.Common.{◌-◌, ◌*◌, ◌^◌, ◌≤◌, length, arith, sym, ap₂, ◌∙◌}
+use Rattle.dl_direct.proofs.Common.{◌-◌, ◌*◌, ◌^◌, ◌≤◌, length, arith, sym, ap₂, ◌∙◌}
 use Rattle.dl_direct.proofs.Reach.{contribution_yes, contribution_no, factor_le, product_fits}
 use Rattle.dl_direct.proofs.sums.contribution.Goals as goal
 
@@ -14,7 +14,8 @@ overflow_mul-factor-3 c =
 pub overflow_mul-result : goal.overflow_mul-result
 overflow_mul-result c =
     let s = length c.args.low.now in
-    let end : c.from-2.result ≤ 2 ^ 62 = omega (arith, c.from-2.ensures, c.requires.low_small (s - c.args.part.amount)) in
+    let end : c.from-2.result ≤ 2 ^ 62 = omega (arith, c.from-2.ensures, c.requires.low_small (s - c.args.part.amount))
+    in
     omega (
       arith,
       product_fits c.args.a c.args.b s c.from.result c.from-2.result c.args.part c.if-part-s.false c.requires.room
@@ -24,7 +25,8 @@ overflow_mul-result c =
 pub overflow_mul-result-2 : goal.overflow_mul-result-2
 overflow_mul-result-2 c =
     let s = length c.args.low.now in
-    let end : c.from-4.result ≤ 2 ^ 62 = omega (arith, c.from-4.ensures, c.requires.high_small (s - c.args.part.amount)) in
+    let end : c.from-4.result ≤ 2 ^ 62 = omega (arith, c.from-4.ensures, c.requires.high_small (s - c.args.part.amount))
+    in
     omega (
       arith,
       product_fits c.args.a c.args.b s c.from-3.result c.from-4.result c.args.part c.if-part-s.false c.requires.room

@@ -1,7 +1,6 @@
-use Rattle.std.proofs.Common.{◌≡◌, ℕ, suc, ◌+◌, ◌-◌, ◌<◌, List, length, get_or, arith, sym, ap, subst, ◌∙◌}
+use Rattle.dl_direct.proofs.Common.{◌≡◌, ℕ, suc, ◌+◌, ◌-◌, ◌<◌, List, length, get_or, arith, sym, ap, subst, ◌∙◌, IsSum, AreSums}
 use Rattle.dl_direct.specs.declared.cells.Total.{Total}
 use Rattle.dl_direct.specs.declared.cells.Sums.{Sums}
-use Rattle.dl_direct.specs.Slide.{IsSum, AreSums}
 use Rattle.dl_direct.proofs.Totals.{total_small, first_total, next_total}
 use Rattle.dl_direct.proofs.sums.next_sums.Goals as goal
 

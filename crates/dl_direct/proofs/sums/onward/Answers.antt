@@ -1,9 +1,6 @@
-use Rattle.std.proofs.Common.{◌≡◌, ℕ, ◌+◌, ◌-◌, ◌*◌, ◌^◌, ◌<◌, ◌≤◌, List, suc, length, get_or, arith, refl, sym, ap, subst, ◌∙◌}
-use Rattle.std.specs.List.{sum_by}
+use Rattle.dl_direct.proofs.Common.{◌≡◌, ℕ, ◌+◌, ◌-◌, ◌*◌, ◌^◌, ◌<◌, ◌≤◌, List, suc, length, get_or, arith, refl, sym, ap, subst, ◌∙◌, sum_by, in_a_row, contribution, IsSum, AreSums}
 use Rattle.dl_limits.specs.Limits.{most_cells}
 use Rattle.dl_direct.specs.declared.cells.Sums.{Sums}
-use Rattle.dl_direct.specs.Runs.{in_a_row}
-use Rattle.dl_direct.specs.Slide.{contribution, IsSum, AreSums}
 use Rattle.dl_direct.proofs.Runs.{row_none, onward_at, factor_small, step_small}
 use Rattle.dl_direct.proofs.Totals.{total_small}
 use Rattle.dl_direct.proofs.sums.onward.Goals as goal

@@ -1,7 +1,4 @@
-use Rattle.std.proofs.Common.{◌+◌, ◌*◌, ◌^◌, ◌<◌, length, arith}
-use Rattle.dl_direct.specs.declared.parts.Part.{Part}
-use Rattle.dl_direct.specs.Runs.{part_sum}
-use Rattle.dl_direct.specs.Slide.{contribution}
+use Rattle.dl_direct.proofs.Common.{◌+◌, ◌*◌, ◌^◌, ◌<◌, length, arith, Part, part_sum, contribution}
 use Rattle.dl_direct.proofs.Reach.{weight_fits, one_more_part, part_within}
 use Rattle.dl_direct.proofs.Runs.{contributions_top}
 use Rattle.dl_direct.proofs.sums.reach_parts.Goals as goal

@@ -1,6 +1,4 @@
-use Rattle.std.proofs.Common.{◌≡◌, length, take}
-use Rattle.std.specs.List.{sum_by}
-use Rattle.dl_direct.specs.Slide.{contribution}
+use Rattle.dl_direct.proofs.Common.{◌≡◌, length, take, sum_by, contribution}
 use Rattle.dl_direct.proofs.sums.reach_parts.Given as goal
 
 abbrev pub invariant-loop-part : goal.invariant-loop-part

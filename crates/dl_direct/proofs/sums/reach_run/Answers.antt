@@ -1,8 +1,4 @@
-use Rattle.std.proofs.Common.{◌≡◌, ℕ, suc, ◌+◌, ◌-◌, ◌*◌, ◌^◌, ◌<◌, ◌≤◌, List, length, get_or, arith, sym, ap, subst₂, ◌∙◌}
-use Rattle.std.specs.List.{sum_by}
-use Rattle.dl_direct.specs.declared.parts.Run.{Run}
-use Rattle.dl_direct.specs.Runs.{in_a_row, run_parts, part_sum}
-use Rattle.dl_direct.specs.Slide.{contribution}
+use Rattle.dl_direct.proofs.Common.{◌≡◌, ℕ, suc, ◌+◌, ◌-◌, ◌*◌, ◌^◌, ◌<◌, ◌≤◌, List, length, get_or, arith, sym, ap, subst₂, ◌∙◌, sum_by, Run, in_a_row, run_parts, part_sum, contribution}
 use Rattle.dl_direct.proofs.Runs.{past_le, run_less, contributions_top}
 use Rattle.dl_direct.proofs.sums.reach_run.Goals as goal
 

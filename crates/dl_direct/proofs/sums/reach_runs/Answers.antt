@@ -1,6 +1,4 @@
-use Rattle.std.proofs.Common.{◌+◌, length, arith, sym, ap₂, ◌∙◌}
-use Rattle.dl_direct.specs.declared.parts.Run.{Run}
-use Rattle.dl_direct.specs.Slide.{contribution}
+use Rattle.dl_direct.proofs.Common.{◌+◌, length, arith, sym, ap₂, ◌∙◌, Run, contribution}
 use Rattle.dl_direct.proofs.Runs.{run_fits, run_room, runs_more}
 use Rattle.dl_direct.proofs.sums.reach_runs.Goals as goal
 

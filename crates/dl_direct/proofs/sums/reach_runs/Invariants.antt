@@ -1,7 +1,4 @@
-use Rattle.std.proofs.Common.{◌≡◌, length, take}
-use Rattle.std.specs.List.{sum_by, flat_map}
-use Rattle.dl_direct.specs.Runs.{run_parts}
-use Rattle.dl_direct.specs.Slide.{contribution}
+use Rattle.dl_direct.proofs.Common.{◌≡◌, length, take, sum_by, flat_map, run_parts, contribution}
 use Rattle.dl_direct.proofs.sums.reach_runs.Given as goal
 
 abbrev pub invariant-loop-run : goal.invariant-loop-run

@@ -1,5 +1,4 @@
-use Rattle.std.proofs.Common.{◌≡◌, ◌∷◌, [], ◌++◌, length, length-append, arith, sym, ap, subst, ◌∙◌}
-use Rattle.dl_direct.specs.Slide.{IsSum, AreSums}
+use Rattle.dl_direct.proofs.Common.{◌≡◌, ◌∷◌, [], ◌++◌, length, length-append, arith, sym, ap, subst, ◌∙◌, IsSum, AreSums}
 use Rattle.dl_direct.proofs.Totals.{sums_pushed}
 use Rattle.dl_direct.proofs.sums.sum_up.Goals as goal
 

@@ -1,5 +1,4 @@
-use Rattle.std.proofs.Common.{◌≡◌, length}
-use Rattle.dl_direct.specs.Slide.{AreSums}
+use Rattle.dl_direct.proofs.Common.{◌≡◌, length, AreSums}
 use Rattle.dl_direct.proofs.sums.sum_up.Given as goal
 
 abbrev pub invariant-cells : goal.invariant-cells

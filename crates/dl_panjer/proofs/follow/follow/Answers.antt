@@ -1,10 +1,5 @@
-use Rattle.std.proofs.Common.{◌≡◌, ◌-◌, ◌≤◌, ◌^◌, eqb, List, [], ◌∷◌, length, arith, refl, subst, ◌∙◌}
-use Rattle.std.specs.Prelude.{not}
+use Rattle.dl_panjer.proofs.Common.{◌≡◌, ◌-◌, ◌≤◌, ◌^◌, eqb, List, [], ◌∷◌, length, arith, refl, subst, ◌∙◌, not, Iv, low_at, high_at, low_at_front, high_at_front, low_at_pushed, high_at_pushed, low_next, high_next}
 use Rattle.std.proofs.lemmas.List.Elements.{All-nil, All-push}
-use Rattle.dl_iv.specs.declared.interval.Iv.{Iv}
-use Rattle.dl_grid.specs.Cells.{low_at, high_at}
-use Rattle.dl_grid.proofs.PlaceSums.{low_at_front, high_at_front, low_at_pushed, high_at_pushed}
-use Rattle.dl_panjer.specs.Cells.{low_next, high_next}
 use Rattle.dl_panjer.proofs.Steps.{follows_pushed}
 use Rattle.dl_panjer.proofs.follow.follow.Goals as goal
 

@@ -1,7 +1,4 @@
-use Rattle.std.proofs.Common.{◌≡◌, ◌^◌, ◌≤◌, eqb, length}
-use Rattle.std.specs.Prelude.{not, All}
-use Rattle.dl_grid.specs.Cells.{low_at, high_at}
-use Rattle.dl_panjer.specs.Cells.{Follows}
+use Rattle.dl_panjer.proofs.Common.{◌≡◌, ◌^◌, ◌≤◌, eqb, length, not, All, low_at, high_at, Follows}
 use Rattle.dl_panjer.proofs.follow.follow.Given as goal
 
 abbrev pub invariant-loop-s : goal.invariant-loop-s

@@ -1,13 +1,7 @@
-use Rattle.std.proofs.Common.{ℕ, suc, ◌≡◌, ◌-◌, ◌/◌, ◌≤◌, ◌^◌, eqb, length, arith, ap, ◌∙◌}
-use Rattle.std.specs.Prelude.{not}
-use Rattle.dl_grid.specs.Cells.{low_at, high_at}
-use Rattle.dl_grid.proofs.CellLaws.{one_fits}
-use Rattle.dl_panjer.specs.Cells.{counted}
+use Rattle.dl_panjer.proofs.Common.{ℕ, suc, ◌≡◌, ◌-◌, ◌/◌, ◌≤◌, ◌^◌, eqb, length, arith, ap, ◌∙◌, not, low_at, high_at, one_fits, counted, total_pos, low_le_high}
 use Rattle.dl_panjer.proofs.Reading.{low_at_most, high_at_most}
 use Rattle.dl_panjer.proofs.Steps.{low_counted, high_counted, next_order, step_fits, cell_low, cell_high}
-use Rattle.dl_plan.proofs.Means.{total_pos}
 use Rattle.dl_panjer.proofs.follow.next_cell.Goals as goal
-use Rattle.dl_grid.proofs.EndLists.{low_le_high}
 
 pub nonzero_div-result : goal.nonzero_div-result
 nonzero_div-result g c =

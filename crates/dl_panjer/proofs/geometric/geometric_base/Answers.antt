@@ -1,26 +1,12 @@
-use Rattle.std.proofs.Common.{ℕ, ◌≡◌, ◌+◌, ◌*◌, ◌/◌, ◌^◌, ◌<◌, ◌≤◌, List, length, false, arith, sym, ap, ap₂, subst, subst₂, ◌∙◌}
-use Rattle.std.specs.Prelude.{All}
-use Rattle.std.specs.Int.{div_ceil}
-use Rattle.dl_limits.specs.Limits.{most_cells}
-use Rattle.dl_exact.specs.Fraction.{Fraction, ◌over◌, ◌+ℚ◌, ◌*ℚ◌, ◌/ℚ◌, ◌≤ℚ◌, whole}
-use Rattle.dl_exact.specs.Rounding.{IsFloor, IsCeiling}
-use Rattle.dl_exact.proofs.RoundingLaws.{floor_div, ceiling_div}
-use Rattle.dl_exact.proofs.Over.{over_le}
-use Rattle.dl_exact.proofs.Laws.{one_pos}
-use Rattle.dl_iv.specs.declared.interval.Iv.{Iv}
+use Rattle.dl_panjer.proofs.Common.{ℕ, ◌≡◌, ◌+◌, ◌*◌, ◌/◌, ◌^◌, ◌<◌, ◌≤◌, List, length, false, arith, sym, ap, ap₂, subst, subst₂, ◌∙◌, All, div_ceil, most_cells, Fraction, ◌over◌, ◌+ℚ◌, ◌*ℚ◌, ◌/ℚ◌, ◌≤ℚ◌, whole, IsFloor, IsCeiling, floor_div, ceiling_div, over_le, one_pos, Iv, low_at, high_at, spread, up, one_fits, Item, Sev, probability_of, num_le_den, Follows}
 use Rattle.dl_iv.specs.Enclosure.{LiesIn}
-use Rattle.dl_grid.specs.Cells.{low_at, high_at, spread}
-use Rattle.dl_grid.specs.Width.{up}
-use Rattle.dl_grid.proofs.CellLaws.{one_fits}
-use Rattle.dl_plan.specs.declared.item.Item.{Item}
-use Rattle.dl_plan.specs.declared.severity.Sev.{Sev}
-use Rattle.dl_plan.specs.Severity.{probability_of}
-use Rattle.dl_plan.proofs.Clauses.{num_le_den}
-use Rattle.dl_panjer.specs.Cells.{Follows}
-use Rattle.dl_panjer.proofs.EndsOf.{made_ends, made_grid}
 use Rattle.dl_panjer.proofs.Recursions.{rate_of}
 use Rattle.dl_panjer.proofs.Starts.{reciprocal, ceiling_near, start_small, units_of_reciprocal}
 use Rattle.dl_panjer.proofs.Grids.{IsMade, made_of, geometric_is_base, geometric_grid, geometric_encloses, geometric_widths, items_positive, items_weighted}
+use Rattle.std.proofs.lemmas.Result.{IfOk-weaker}
+use Rattle.dl_model.specs.Counts.{gamma_of}
+use Rattle.dl_model.specs.Family.{compound, GridEncloses}
+use Rattle.dl_panjer.specs.Bases.{IsGeometricBase}
 use Rattle.dl_panjer.proofs.geometric.geometric_base.Goals as goal
 
 at_most_one : (p d : ℕ) → 0 < d → p over (p + d) ≤ℚ whole 1
@@ -105,110 +91,60 @@ follow-requires g c =
       ),
     )
 
-pub from_ends-requires : goal.from_ends-requires
-from_ends-requires g c =
+pub grid_of-requires : goal.grid_of-requires
+grid_of-requires g c =
     let v = c.args.mean /ℚ whole c.args.shape in
-    let t = based c.args.sev.now c.as_slice.result.now c.shared-num.result.0 c.shared-num.result.1 v
-    c.in_ok-list.list.items
-    c.args.cells c.fraction-rate.result c.enclose-start.result c.from.result c.from-2.result
-    c.shared-num.ensures.positive
+    let list = c.in_ok-list.list.items in
+    let t = based c.args.sev.now c.as_slice.result.now c.shared-num.result.0 c.shared-num.result.1 v list c.args.cells
+    c.fraction-rate.result c.enclose-start.result c.from.result c.from-2.result c.shared-num.ensures.positive
     c.shared-num.ensures.value c.as_slice.ensures c.fraction-rate.ensures.value c.from.ensures c.from-2.ensures
     c.enclose-start.ensures.holds c.in_ok-list.ensures.start_low c.in_ok-list.ensures.start_high c.requires.some
     c.requires.few c.in_ok-list.ensures.cells c.in_ok-list.ensures.small c.in_ok-list.ensures.follows
     c.requires.no_zero in (
       omega arith,
-      made_ends c.in_ok-list.list.items _ _ _ c.deref.ensures.value c.in_ok-lows.ensures.low c.in_ok-lows.ensures.high
-          (geometric_grid c.args.sev.now.items c.args.sev.now.total v c.in_ok-list.list.items c.args.cells t.made t.low
-          t.high),
+      (
+        omega arith,
+        rw c.deref.ensures.value
+            (geometric_grid c.args.sev.now.items c.args.sev.now.total v list c.args.cells t.made t.low t.high),
+      ),
     )
 
-pub returns-clause-follows : goal.returns-clause-follows
-returns-clause-follows g c =
+pub returns : goal.returns
+returns g c =
+    let B = g.row.B in
     let v = c.args.mean /ℚ whole c.args.shape in
-    let t = based c.args.sev.now c.as_slice.result.now c.shared-num.result.0 c.shared-num.result.1 v
-    c.in_ok-list.list.items
-    c.args.cells c.fraction-rate.result c.enclose-start.result c.from.result c.from-2.result
-    c.shared-num.ensures.positive
-    c.shared-num.ensures.value c.as_slice.ensures c.fraction-rate.ensures.value c.from.ensures c.from-2.ensures
-    c.enclose-start.ensures.holds c.in_ok-list.ensures.start_low c.in_ok-list.ensures.start_high c.requires.some
-    c.requires.few c.in_ok-list.ensures.cells c.in_ok-list.ensures.small c.in_ok-list.ensures.follows
-    c.requires.no_zero in
-    let is : c.from_ends.result ≡ c.in_ok-list.list.items =
-    made_grid c.in_ok-list.list.items c.from_ends.result _ _ _ c.deref.ensures.value c.in_ok-lows.ensures.low
-    c.in_ok-lows.ensures.high c.from_ends.ensures.low c.from_ends.ensures.high in
-    rw is (geometric_is_base c.args.sev.now v c.in_ok-list.list.items c.args.cells t.made)
-
-pub returns-clause-encloses : goal.returns-clause-encloses
-returns-clause-encloses g c =
-    let v = c.args.mean /ℚ whole c.args.shape in
-    let t = based c.args.sev.now c.as_slice.result.now c.shared-num.result.0 c.shared-num.result.1 v
-    c.in_ok-list.list.items
-    c.args.cells c.fraction-rate.result c.enclose-start.result c.from.result c.from-2.result
-    c.shared-num.ensures.positive
-    c.shared-num.ensures.value c.as_slice.ensures c.fraction-rate.ensures.value c.from.ensures c.from-2.ensures
-    c.enclose-start.ensures.holds c.in_ok-list.ensures.start_low c.in_ok-list.ensures.start_high c.requires.some
-    c.requires.few c.in_ok-list.ensures.cells c.in_ok-list.ensures.small c.in_ok-list.ensures.follows
-    c.requires.no_zero in
-    let is : c.from_ends.result ≡ c.in_ok-list.list.items =
-    made_grid c.in_ok-list.list.items c.from_ends.result _ _ _ c.deref.ensures.value c.in_ok-lows.ensures.low
-    c.in_ok-lows.ensures.high c.from_ends.ensures.low c.from_ends.ensures.high in
-    rw is (geometric_encloses c.args.sev.now.items c.args.sev.now.total v c.in_ok-list.list.items c.args.cells t.made
-    t.low t.high)
-
-pub returns-clause-spread : goal.returns-clause-spread
-returns-clause-spread g c =
-    let v = c.args.mean /ℚ whole c.args.shape in
-    let t = based c.args.sev.now c.as_slice.result.now c.shared-num.result.0 c.shared-num.result.1 v
-    c.in_ok-list.list.items
-    c.args.cells c.fraction-rate.result c.enclose-start.result c.from.result c.from-2.result
-    c.shared-num.ensures.positive
-    c.shared-num.ensures.value c.as_slice.ensures c.fraction-rate.ensures.value c.from.ensures c.from-2.ensures
-    c.enclose-start.ensures.holds c.in_ok-list.ensures.start_low c.in_ok-list.ensures.start_high c.requires.some
-    c.requires.few c.in_ok-list.ensures.cells c.in_ok-list.ensures.small c.in_ok-list.ensures.follows
-    c.requires.no_zero in
-    let is : c.from_ends.result ≡ c.in_ok-list.list.items =
-    made_grid c.in_ok-list.list.items c.from_ends.result _ _ _ c.deref.ensures.value c.in_ok-lows.ensures.low
-    c.in_ok-lows.ensures.high c.from_ends.ensures.low c.from_ends.ensures.high in
     let list = c.in_ok-list.list.items in
     let p = c.shared-num.result.0 in
     let d = c.shared-num.result.1 in
-    let near : high_at list 0 ≤ low_at list 0 + 1 =
-    rw (
-      c.in_ok-list.ensures.start_low,
-      c.in_ok-list.ensures.start_high,
-      c.enclose-start.ensures.low,
-      c.enclose-start.ensures.high,
-    ) (ceiling_near _ c.from-2.result (omega (arith, c.from-2.ensures, c.shared-num.ensures.positive))) in
-    rw is (subst (λ x. spread list ≤ up (whole (4 * c.args.cells + 1) *ℚ (whole 1 +ℚ x))) c.shared-num.ensures.value
-    (geometric_widths c.args.sev.now.items c.args.sev.now.total p d list c.args.cells c.shared-num.ensures.positive
-    t.made_over (num_le_den (p over (p + d)) (at_most_one p d c.shared-num.ensures.positive)) near))
-
-pub returns-clause-start_low : goal.returns-clause-start_low
-returns-clause-start_low g c =
-    let is : c.from_ends.result ≡ c.in_ok-list.list.items =
-    made_grid c.in_ok-list.list.items c.from_ends.result _ _ _ c.deref.ensures.value c.in_ok-lows.ensures.low
-    c.in_ok-lows.ensures.high c.from_ends.ensures.low c.from_ends.ensures.high in
-    let p = c.shared-num.result.0 in
-    let d = c.shared-num.result.1 in
-    let end : low_at c.in_ok-list.list.items 0 ≡ 2 ^ g.row.B * d / (p + d) =
+    let some = c.shared-num.ensures.positive in
+    let t = based c.args.sev.now c.as_slice.result.now p d v list c.args.cells c.fraction-rate.result
+    c.enclose-start.result c.from.result c.from-2.result some
+    c.shared-num.ensures.value c.as_slice.ensures c.fraction-rate.ensures.value c.from.ensures c.from-2.ensures
+    c.enclose-start.ensures.holds c.in_ok-list.ensures.start_low c.in_ok-list.ensures.start_high c.requires.some
+    c.requires.few c.in_ok-list.ensures.cells c.in_ok-list.ensures.small c.in_ok-list.ensures.follows
+    c.requires.no_zero in
+    let units = units_of_reciprocal (2 ^ g.row.B) p d v some c.shared-num.ensures.value in
+    let low : low_at list 0 ≡ 2 ^ g.row.B * d / (p + d) =
     c.in_ok-list.ensures.start_low ∙ c.enclose-start.ensures.low
     ∙ ap₂ (λ a b. 2 ^ g.row.B * a / b) c.from.ensures c.from-2.ensures in
-    rw is (subst₂ (λ x n. IsFloor x n)
-    (units_of_reciprocal (2 ^ g.row.B) p d (c.args.mean /ℚ whole c.args.shape) c.shared-num.ensures.positive
-    c.shared-num.ensures.value) (sym end)
-    (floor_div (2 ^ g.row.B * d) (p + d) (omega (arith, c.shared-num.ensures.positive))))
-
-pub returns-clause-start_high : goal.returns-clause-start_high
-returns-clause-start_high g c =
-    let is : c.from_ends.result ≡ c.in_ok-list.list.items =
-    made_grid c.in_ok-list.list.items c.from_ends.result _ _ _ c.deref.ensures.value c.in_ok-lows.ensures.low
-    c.in_ok-lows.ensures.high c.from_ends.ensures.low c.from_ends.ensures.high in
-    let p = c.shared-num.result.0 in
-    let d = c.shared-num.result.1 in
-    let end : high_at c.in_ok-list.list.items 0 ≡ div_ceil (2 ^ g.row.B * d) (p + d) =
+    let high : high_at list 0 ≡ div_ceil (2 ^ g.row.B * d) (p + d) =
     c.in_ok-list.ensures.start_high ∙ c.enclose-start.ensures.high
     ∙ ap₂ (λ a b. div_ceil (2 ^ g.row.B * a) b) c.from.ensures c.from-2.ensures in
-    rw is (subst₂ (λ x n. IsCeiling x n)
-    (units_of_reciprocal (2 ^ g.row.B) p d (c.args.mean /ℚ whole c.args.shape) c.shared-num.ensures.positive
-    c.shared-num.ensures.value) (sym end)
-    (ceiling_div (2 ^ g.row.B * d) (p + d) (omega (arith, c.shared-num.ensures.positive))))
+    let both : 0 < p + d = omega (arith, some) in
+    let near : high_at list 0 ≤ low_at list 0 + 1 = rw (low, high) (ceiling_near _ (p + d) both) in
+    let told = λ (P : List (Iv g.row.B) → Type 0) (p : P list).
+    IfOk-weaker c.grid_of.result _ P (λ made is. subst P (sym (is ∙ c.deref.ensures.value)) p) c.grid_of.ensures in
+    record {
+      cells = told (λ g. length g ≡ c.args.cells) c.in_ok-list.ensures.cells;
+      start_low = told (λ g. IsFloor (whole (2 ^ B) /ℚ (whole 1 +ℚ v)) (low_at g 0))
+          (subst₂ (λ x n. IsFloor x n) units (sym low) (floor_div (2 ^ B * d) (p + d) both));
+      start_high = told (λ g. IsCeiling (whole (2 ^ B) /ℚ (whole 1 +ℚ v)) (high_at g 0))
+          (subst₂ (λ x n. IsCeiling x n) units (sym high) (ceiling_div (2 ^ B * d) (p + d) both));
+      follows = told (IsGeometricBase c.args.sev.now v) (geometric_is_base c.args.sev.now v list c.args.cells t.made);
+      encloses = told (λ g. GridEncloses g (compound (gamma_of 1 v) (probability_of c.args.sev.now)))
+          (geometric_encloses c.args.sev.now.items c.args.sev.now.total v list c.args.cells t.made t.low t.high);
+      spread = told (λ g. spread g ≤ up (whole (4 * c.args.cells + 1) *ℚ (whole 1 +ℚ v)))
+          (subst (λ x. spread list ≤ up (whole (4 * c.args.cells + 1) *ℚ (whole 1 +ℚ x))) c.shared-num.ensures.value
+          (geometric_widths c.args.sev.now.items c.args.sev.now.total p d list c.args.cells some
+          t.made_over (num_le_den (p over (p + d)) (at_most_one p d some)) near));
+    }

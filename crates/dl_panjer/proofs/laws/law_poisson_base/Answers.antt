@@ -1,7 +1,5 @@
+use Rattle.dl_panjer.proofs.Common.{severity_total, zero_weight, within_one}
 use Rattle.dl_panjer.proofs.Compounds.{poisson_base}
-use Rattle.dl_plan.proofs.Means.{severity_total}
-use Rattle.dl_plan.proofs.Positive.{zero_weight}
-use Rattle.dl_model.proofs.WithinOne.{within_one}
 use Rattle.dl_panjer.proofs.laws.law_poisson_base.Goals as goal
 
 pub returns : goal.returns

@@ -1,13 +1,7 @@
-use Rattle.std.proofs.Common.{ℕ, ◌^◌, List, length}
-use Rattle.dl_exact.specs.Fraction.{Fraction, ◌over◌}
-use Rattle.dl_iv.specs.declared.interval.Iv.{Iv}
-use Rattle.dl_grid.specs.Cells.{low_at, high_at}
-use Rattle.dl_plan.specs.Weighted.{weight_at}
-use Rattle.dl_panjer.specs.Outward.{FollowsOutward}
+use Rattle.dl_panjer.proofs.Common.{ℕ, ◌^◌, List, length, Fraction, ◌over◌, Iv, low_at, high_at, weight_at, FollowsOutward, total_pos}
 use Rattle.dl_panjer.specs.Bases.{StandsByRecursion}
 use Rattle.dl_panjer.proofs.Base.{low_below, high_above}
 use Rattle.dl_panjer.proofs.Outward.{poisson_outward, geometric_outward}
-use Rattle.dl_plan.proofs.Means.{total_pos}
 use Rattle.dl_panjer.proofs.laws.law_stands.Goals as goal
 
 stands : {B : ℕ} (a b : Fraction) (f : ℕ → Fraction) (grid : List (Iv B))

@@ -1,5 +1,5 @@
+use Rattle.dl_panjer.proofs.Common.{total_pos}
 use Rattle.dl_panjer.proofs.Outward.{poisson_outward, geometric_outward}
-use Rattle.dl_plan.proofs.Means.{total_pos}
 use Rattle.dl_panjer.proofs.laws.law_two_roundings.Goals as goal
 
 pub returns-clause-poisson : goal.returns-clause-poisson

@@ -1,16 +1,17 @@
-use Rattle.dl_panjer.proofs.EndsOf.{made_ends, made_grid}
-use Rattle.std.proofs.Common.{ℕ, ◌≡◌, ◌*◌, ◌%◌, ◌^◌, ◌<◌, ◌≤◌, true, arith, sym, ap, ap₂, subst, ◌∙◌, mul-le-mul}
-use Rattle.std.proofs.Math.Nat.{pow-le-pow_right, mod-eq_of_lt, zero-lt-suc}
-use Rattle.std.proofs.lemmas.Nat.{pow_pos}
-use Rattle.dl_exact.specs.Fraction.{Fraction, ◌over◌, ◌/ℚ◌, ◌≤ℚ◌, whole}
-use Rattle.dl_exact.proofs.Over.{over_le}
-use Rattle.dl_exact.proofs.Laws.{one_pos, le_trans}
-use Rattle.dl_grid.specs.Cells.{low_at, high_at}
-use Rattle.dl_exp.specs.Exponential.{EnclosesExp}
+use Rattle.dl_panjer.proofs.Common.{ℕ, List, length, ◌+◌, ◌≡◌, ◌*◌, ◌^◌, ◌<◌, ◌≤◌, true, arith, sym, ap, ap₂, subst, ◌∙◌, mul-le-mul, zero-lt-suc, pow_pos, Fraction, ◌over◌, ◌/ℚ◌, ◌≤ℚ◌, whole, over_le, one_pos, le_trans, low_at, high_at, EnclosesExp}
+use Rattle.std.proofs.Common.{◌%◌}
+use Rattle.std.proofs.Math.Nat.{pow-le-pow_right, mod-eq_of_lt}
 use Rattle.dl_exp.proofs.Terms.{half_parts}
 use Rattle.dl_panjer.proofs.Recursions.{divided}
 use Rattle.dl_panjer.proofs.Starts.{poisson_start}
 use Rattle.dl_panjer.proofs.Grids.{made_of, poisson_is_base, poisson_grid, poisson_encloses, poisson_widths, items_positive, items_weighted}
+use Rattle.std.proofs.lemmas.Result.{IfOk-weaker}
+use Rattle.dl_grid.specs.Cells.{spread}
+use Rattle.dl_iv.specs.declared.interval.Iv.{Iv}
+use Rattle.dl_model.specs.Counts.{poisson}
+use Rattle.dl_model.specs.Family.{compound, GridEncloses}
+use Rattle.dl_plan.specs.Severity.{probability_of}
+use Rattle.dl_panjer.specs.Bases.{IsPoissonBase, StartsAtExp}
 use Rattle.dl_panjer.proofs.poisson.poisson_base.Goals as goal
 
 few_halvings : (h : ℕ) → h ≤ 13 → 2 ^ h ≤ 2 ^ 13
@@ -74,78 +75,57 @@ follow-requires g c =
       ),
     )
 
-pub from_ends-requires : goal.from_ends-requires
-from_ends-requires g c =
+pub grid_of-requires : goal.grid_of-requires
+grid_of-requires g c =
     let e = rate_is c.fraction-rate.result c.args.mean c.num.result c.den.result c.args.halvings c.requires.halvings
     c.num.ensures.part c.den.ensures.part c.fraction-rate.ensures.value in
     let v = c.args.mean /ℚ whole (2 ^ c.args.halvings) in
+    let list = c.in_ok-list.list.items in
     let made =
-    made_of true c.args.sev.now c.as_slice.result.now v c.fraction-rate.result c.in_ok-list.list.items c.args.cells
+    made_of true c.args.sev.now c.as_slice.result.now v c.fraction-rate.result list c.args.cells
     c.as_slice.ensures e c.requires.some c.requires.few
     c.in_ok-list.ensures.cells c.in_ok-list.ensures.small c.in_ok-list.ensures.follows c.requires.no_zero in (
       omega arith,
-      made_ends c.in_ok-list.list.items _ _ _ c.deref.ensures.value c.in_ok-lows.ensures.low c.in_ok-lows.ensures.high
-          (poisson_grid c.args.sev.now.items c.args.sev.now.total v c.in_ok-list.list.items c.args.cells made
-          (poisson_start v c.exp_neg-start.result (low_at c.in_ok-list.list.items 0)
-          (high_at c.in_ok-list.list.items 0) (subst
-          (λ t. EnclosesExp t c.exp_neg-start.result) e c.exp_neg-start.ensures.encloses)
-          c.in_ok-list.ensures.start_low c.in_ok-list.ensures.start_high)),
+      (
+        omega arith,
+        rw c.deref.ensures.value (poisson_grid c.args.sev.now.items c.args.sev.now.total v list c.args.cells made
+            (poisson_start v c.exp_neg-start.result (low_at list 0) (high_at list 0)
+            (subst (λ t. EnclosesExp t c.exp_neg-start.result) e c.exp_neg-start.ensures.encloses)
+            c.in_ok-list.ensures.start_low c.in_ok-list.ensures.start_high)),
+      ),
     )
 
-pub returns-clause-follows : goal.returns-clause-follows
-returns-clause-follows g c =
+pub returns : goal.returns
+returns g c =
     let e = rate_is c.fraction-rate.result c.args.mean c.num.result c.den.result c.args.halvings c.requires.halvings
     c.num.ensures.part c.den.ensures.part c.fraction-rate.ensures.value in
     let v = c.args.mean /ℚ whole (2 ^ c.args.halvings) in
-    rw (made_grid c.in_ok-list.list.items c.from_ends.result _ _ _ c.deref.ensures.value c.in_ok-lows.ensures.low
-    c.in_ok-lows.ensures.high c.from_ends.ensures.low c.from_ends.ensures.high)
-    (poisson_is_base c.args.sev.now v c.in_ok-list.list.items c.args.cells
-    (made_of true c.args.sev.now c.as_slice.result.now v c.fraction-rate.result c.in_ok-list.list.items c.args.cells
-    c.as_slice.ensures e c.requires.some c.requires.few
-    c.in_ok-list.ensures.cells c.in_ok-list.ensures.small c.in_ok-list.ensures.follows c.requires.no_zero))
-
-pub returns-clause-encloses : goal.returns-clause-encloses
-returns-clause-encloses g c =
-    let e = rate_is c.fraction-rate.result c.args.mean c.num.result c.den.result c.args.halvings c.requires.halvings
-    c.num.ensures.part c.den.ensures.part c.fraction-rate.ensures.value in
-    let v = c.args.mean /ℚ whole (2 ^ c.args.halvings) in
+    let list = c.in_ok-list.list.items in
     let made =
-    made_of true c.args.sev.now c.as_slice.result.now v c.fraction-rate.result c.in_ok-list.list.items c.args.cells
+    made_of true c.args.sev.now c.as_slice.result.now v c.fraction-rate.result list c.args.cells
     c.as_slice.ensures e c.requires.some c.requires.few
     c.in_ok-list.ensures.cells c.in_ok-list.ensures.small c.in_ok-list.ensures.follows c.requires.no_zero in
-    rw (made_grid c.in_ok-list.list.items c.from_ends.result _ _ _ c.deref.ensures.value c.in_ok-lows.ensures.low
-    c.in_ok-lows.ensures.high c.from_ends.ensures.low c.from_ends.ensures.high)
-    (poisson_encloses c.args.sev.now.items c.args.sev.now.total v c.in_ok-list.list.items c.args.cells made
-    (poisson_start v c.exp_neg-start.result (low_at c.in_ok-list.list.items 0) (high_at c.in_ok-list.list.items 0)
-    (subst (λ t. EnclosesExp t c.exp_neg-start.result) e c.exp_neg-start.ensures.encloses)
-    c.in_ok-list.ensures.start_low c.in_ok-list.ensures.start_high))
-
-pub returns-clause-spread : goal.returns-clause-spread
-returns-clause-spread g c =
-    let e = rate_is c.fraction-rate.result c.args.mean c.num.result c.den.result c.args.halvings c.requires.halvings
-    c.num.ensures.part c.den.ensures.part c.fraction-rate.ensures.value in
-    let v = c.args.mean /ℚ whole (2 ^ c.args.halvings) in
-    let made =
-    made_of true c.args.sev.now c.as_slice.result.now v c.fraction-rate.result c.in_ok-list.list.items c.args.cells
-    c.as_slice.ensures e c.requires.some c.requires.few
-    c.in_ok-list.ensures.cells c.in_ok-list.ensures.small c.in_ok-list.ensures.follows c.requires.no_zero in
-    rw (made_grid c.in_ok-list.list.items c.from_ends.result _ _ _ c.deref.ensures.value c.in_ok-lows.ensures.low
-    c.in_ok-lows.ensures.high c.from_ends.ensures.low c.from_ends.ensures.high)
-    (poisson_widths c.args.sev.now.items c.args.sev.now.total v c.in_ok-list.list.items c.args.cells made
-    (half_parts v c.requires.half)
-    (rw (c.in_ok-list.ensures.start_low, c.in_ok-list.ensures.start_high)
-    (omega (arith, c.exp_neg-start.ensures.narrow))))
-
-pub returns-clause-start : goal.returns-clause-start
-returns-clause-start g c =
-    let e = rate_is c.fraction-rate.result c.args.mean c.num.result c.den.result c.args.halvings c.requires.halvings
-    c.num.ensures.part c.den.ensures.part c.fraction-rate.ensures.value in
-    rw (made_grid c.in_ok-list.list.items c.from_ends.result _ _ _ c.deref.ensures.value c.in_ok-lows.ensures.low
-    c.in_ok-lows.ensures.high c.from_ends.ensures.low c.from_ends.ensures.high) (record {
-      first = c.exp_neg-start.result;
-      low = c.in_ok-list.ensures.start_low;
-      high = c.in_ok-list.ensures.start_high;
-      encloses = subst (λ t. EnclosesExp t c.exp_neg-start.result) e c.exp_neg-start.ensures.encloses;
-      narrow = c.exp_neg-start.ensures.narrow;
-      small = c.exp_neg-start.ensures.small;
-    })
+    let holds = subst (λ t. EnclosesExp t c.exp_neg-start.result) e c.exp_neg-start.ensures.encloses in
+    let told = λ (P : List (Iv g.row.B) → Type 0) (p : P list).
+    IfOk-weaker c.grid_of.result _ P (λ made is. subst P (sym (is ∙ c.deref.ensures.value)) p) c.grid_of.ensures in
+    record {
+      cells = told (λ g. length g ≡ c.args.cells) c.in_ok-list.ensures.cells;
+      start = told (StartsAtExp v) (record {
+        first = c.exp_neg-start.result;
+        low = c.in_ok-list.ensures.start_low;
+        high = c.in_ok-list.ensures.start_high;
+        encloses = holds;
+        narrow = c.exp_neg-start.ensures.narrow;
+        small = c.exp_neg-start.ensures.small;
+      });
+      follows = told (IsPoissonBase c.args.sev.now v) (poisson_is_base c.args.sev.now v list c.args.cells made);
+      encloses = told (λ g. GridEncloses g (compound (poisson v) (probability_of c.args.sev.now)))
+          (poisson_encloses c.args.sev.now.items c.args.sev.now.total v list c.args.cells made
+          (poisson_start v c.exp_neg-start.result (low_at list 0) (high_at list 0) holds
+          c.in_ok-list.ensures.start_low c.in_ok-list.ensures.start_high));
+      spread = told (λ g. spread g ≤ 8 * c.args.cells + 128)
+          (poisson_widths c.args.sev.now.items c.args.sev.now.total v list c.args.cells made
+          (half_parts v c.requires.half)
+          (rw (c.in_ok-list.ensures.start_low, c.in_ok-list.ensures.start_high)
+          (omega (arith, c.exp_neg-start.ensures.narrow))));
+    }

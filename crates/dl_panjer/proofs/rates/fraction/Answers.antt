@@ -1,5 +1,4 @@
-use Rattle.std.proofs.Common.{◌≡◌, ◌≤◌, sym, subst}
-use Rattle.dl_exact.specs.Fraction.{◌over◌}
+use Rattle.dl_panjer.proofs.Common.{◌≡◌, ◌≤◌, sym, subst, ◌over◌}
 use Rattle.dl_frac.specs.Exact.{Gives, FitsFrac}
 use Rattle.dl_exact.proofs.Parts.{over_num_le}
 use Rattle.dl_plan.proofs.Fits.{over_fits, given_ok}

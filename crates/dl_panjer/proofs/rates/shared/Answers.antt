@@ -1,6 +1,5 @@
-use Rattle.std.proofs.Common.{ℕ, ◌*◌, ◌<◌, ◌≤◌, arith, ap₂, ◌∙◌, mul-le-mul, mul-pos}
+use Rattle.dl_panjer.proofs.Common.{ℕ, ◌*◌, ◌<◌, ◌≤◌, arith, ap₂, ◌∙◌, mul-le-mul, mul-pos, ◌over◌}
 use Rattle.dl_limits.specs.Limits.{most_shape, admitted_bound}
-use Rattle.dl_exact.specs.Fraction.{◌over◌}
 use Rattle.dl_panjer.proofs.Recursions.{divided}
 use Rattle.dl_panjer.proofs.rates.shared.Goals as goal
 

@@ -1,4 +1,5 @@
-use Rattle.std.proofs.Common.{leb, leb-true, arith, rules}
+use Rattle.dl_panjer.proofs.Common.{arith}
+use Rattle.std.proofs.Common.{leb, leb-true, rules}
 use Rattle.std.proofs.lemmas.Bool.{leb-false}
 use Rattle.std.proofs.lemmas.List.Sorted.{IsPartitionPoint-from_clause, IsPartitionedBy-leb}
 use Rattle.dl_panjer.proofs.Reading.{amounts_rise}

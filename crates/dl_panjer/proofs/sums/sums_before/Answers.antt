@@ -1,10 +1,5 @@
-use Rattle.std.proofs.Common.{ℕ, suc, ◌≡◌, ◌-◌, ◌<◌, ◌≤◌, ◌∙◌, Bool, eqb, List, length, take, drop, get_or, arith, ap, subst}
-use Rattle.std.specs.Prelude.{All, sum_by, not}
+use Rattle.dl_panjer.proofs.Common.{ℕ, suc, ◌≡◌, ◌-◌, ◌<◌, ◌≤◌, ◌∙◌, Bool, eqb, List, length, take, drop, get_or, arith, ap, subst, All, sum_by, not, sum_by-take-le, low_at, high_at, Item, coefficient, given, next_sum}
 use Rattle.std.proofs.lemmas.List.Elements.{All-take}
-use Rattle.std.proofs.lemmas.List.Sums.{sum_by-take-le}
-use Rattle.dl_grid.specs.Cells.{low_at, high_at}
-use Rattle.dl_plan.specs.declared.item.Item.{Item}
-use Rattle.dl_panjer.specs.Cells.{coefficient, given, next_sum}
 use Rattle.dl_panjer.proofs.ItemSums.{items_next_sum}
 use Rattle.dl_panjer.proofs.Reading.{front, back}
 use Rattle.dl_panjer.proofs.sums.sums_before.Goals as goal

@@ -1,9 +1,5 @@
-use Rattle.std.proofs.Common.{◌∙◌, eqb, ap, arith, length}
-use Rattle.std.specs.Prelude.{sum_by, not}
+use Rattle.dl_panjer.proofs.Common.{◌∙◌, eqb, ap, arith, length, sum_by, not, low_at, high_at, one_fits, low_at_read, high_at_read, given}
 use Rattle.std.proofs.lemmas.List.{take_all}
-use Rattle.dl_grid.specs.Cells.{low_at, high_at}
-use Rattle.dl_grid.proofs.CellLaws.{one_fits, low_at_read, high_at_read}
-use Rattle.dl_panjer.specs.Cells.{given}
 use Rattle.dl_panjer.proofs.Reading.{low_at_most, high_at_most, leaves, low_small, high_small, more, fits}
 use Rattle.dl_panjer.proofs.sums.sums_over.Goals as goal
 

@@ -1,7 +1,4 @@
-use Rattle.std.proofs.Common.{◌≡◌, take, eqb, length}
-use Rattle.std.specs.Prelude.{sum_by, not}
-use Rattle.dl_grid.specs.Cells.{low_at, high_at}
-use Rattle.dl_panjer.specs.Cells.{given}
+use Rattle.dl_panjer.proofs.Common.{◌≡◌, take, eqb, length, sum_by, not, low_at, high_at, given}
 use Rattle.dl_panjer.proofs.sums.sums_over.Given as goal
 
 abbrev pub invariant-items : goal.invariant-items

@@ -1,5 +1,4 @@
-use Rattle.std.proofs.Common.{ℕ, ◌≡◌, ◌+◌, ◌<◌, length, get_or}
-use Rattle.std.specs.Prelude.{min}
+use Rattle.dl_power.proofs.Common.{ℕ, ◌≡◌, ◌+◌, ◌<◌, length, get_or, min}
 use Rattle.dl_power.proofs.blocks.added.Given as goal
 
 abbrev pub invariant-loop-x : goal.invariant-loop-x

@@ -1,7 +1,4 @@
-use Rattle.std.proofs.Common.{ℕ, ◌≡◌, ◌+◌, ◌-◌, ◌*◌, ◌/◌, suc, arith, ap}
-use Rattle.dl_exact.specs.Fraction.{Fraction}
-use Rattle.dl_grid.proofs.CellLaws.{scale_of}
-use Rattle.dl_model.specs.Listed.{probability_at}
+use Rattle.dl_power.proofs.Common.{ℕ, ◌≡◌, ◌+◌, ◌-◌, ◌*◌, ◌/◌, suc, arith, ap, Fraction, scale_of, probability_at}
 use Rattle.dl_power.proofs.WeightLists.{probabilities_within}
 use Rattle.dl_power.proofs.PowerGrids.{own, own_within, own_between}
 use Rattle.dl_power.proofs.StepGrids.{from_same}

@@ -1,9 +1,4 @@
-use Rattle.std.proofs.Common.{ℕ, ◌≡◌, ◌+◌, ◌-◌, ◌*◌, length}
-use Rattle.dl_exact.specs.Fraction.{Fraction}
-use Rattle.dl_model.specs.Compound.{cell_from}
-use Rattle.dl_model.specs.Listed.{probability_at}
-use Rattle.dl_model.specs.Severity.{IsWithinOne}
-use Rattle.dl_power.specs.Powers.{Between}
+use Rattle.dl_power.proofs.Common.{ℕ, ◌≡◌, ◌+◌, ◌-◌, ◌*◌, length, Fraction, cell_from, probability_at, IsWithinOne, Between}
 use Rattle.dl_power.proofs.blocks.by_blocks.Given as goal
 
 abbrev pub invariant-loop-done : goal.invariant-loop-done

@@ -1,5 +1,4 @@
-use Rattle.std.proofs.Common.{ℕ, ◌+◌, ◌/◌, length, arith}
-use Rattle.std.proofs.lemmas.Result.{IfOk-weaker}
+use Rattle.dl_power.proofs.Common.{ℕ, ◌+◌, ◌/◌, length, arith, IfOk-weaker}
 use Rattle.dl_power.proofs.PowerGrids.{power_at, joined_powers}
 use Rattle.dl_power.proofs.blocks.next_power.Goals as goal
 

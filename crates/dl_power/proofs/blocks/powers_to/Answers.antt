@@ -1,6 +1,4 @@
-use Rattle.std.proofs.Common.{length, arith, ap, ◌∙◌}
-use Rattle.std.proofs.lemmas.List.{length-take-le}
-use Rattle.dl_grid.proofs.CellLaws.{scale_of}
+use Rattle.dl_power.proofs.Common.{length, arith, ap, ◌∙◌, length-take-le, scale_of}
 use Rattle.dl_power.proofs.PowerGrids.{no_powers, no_grids, all_more, more_powers, no_claim, one_claim, next_at}
 use Rattle.dl_power.proofs.blocks.powers_to.Goals as goal
 

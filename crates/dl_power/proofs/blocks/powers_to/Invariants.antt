@@ -1,8 +1,4 @@
-use Rattle.std.proofs.Common.{ℕ, ◌≡◌, ◌+◌, length}
-use Rattle.std.specs.Prelude.{All}
-use Rattle.dl_exact.specs.Fraction.{Fraction}
-use Rattle.dl_model.specs.Severity.{IsWithinOne}
-use Rattle.dl_power.specs.Powers.{Between, ArePowers}
+use Rattle.dl_power.proofs.Common.{ℕ, ◌≡◌, ◌+◌, length, All, Fraction, IsWithinOne, Between, ArePowers}
 use Rattle.dl_power.proofs.blocks.powers_to.Given as goal
 
 abbrev pub invariant-loop-claims : goal.invariant-loop-claims

@@ -1,6 +1,4 @@
-use Rattle.std.proofs.Common.{ℕ, ◌≡◌, ◌+◌, ◌^◌, ◌<◌, get_or, arith, ap₂, ◌∙◌}
-use Rattle.std.specs.Prelude.{min}
-use Rattle.dl_grid.specs.Cells.{low_at, high_at}
+use Rattle.dl_power.proofs.Common.{ℕ, ◌≡◌, ◌+◌, ◌^◌, ◌<◌, get_or, arith, ap₂, ◌∙◌, min, low_at, high_at}
 use Rattle.dl_power.proofs.EndLists.{ends_small}
 use Rattle.dl_power.proofs.BlockGrids.{as_made}
 use Rattle.dl_power.proofs.StepGrids.{step_between, step_ends}

@@ -1,10 +1,6 @@
-use Rattle.std.proofs.Common.{ℕ, ◌≡◌, ◌+◌, ◌*◌, ◌/◌, ◌^◌, ◌≤◌, List, take, arith, ap, ◌∙◌, get_or}
-use Rattle.std.specs.Int.{div_ceil}
+use Rattle.dl_power.proofs.Common.{ℕ, ◌≡◌, ◌+◌, ◌*◌, ◌/◌, ◌^◌, ◌≤◌, List, take, arith, ap, ◌∙◌, get_or, div_ceil, sum_by_more, mass_low, Item, weight_at, weight_sum}
 use Rattle.std.proofs.lemmas.List.{take_all}
-use Rattle.std.proofs.lemmas.List.Sums.{sum_by_more, sum_by_more_le}
-use Rattle.dl_grid.specs.Cells.{mass_low}
-use Rattle.dl_plan.specs.declared.item.Item.{Item}
-use Rattle.dl_plan.specs.Weighted.{weight_at, weight_sum}
+use Rattle.std.proofs.lemmas.List.Sums.{sum_by_more_le}
 use Rattle.dl_power.proofs.WeightLists.{next_cell, mass_next, mass_room}
 use Rattle.dl_power.proofs.Enclosing.{listed_claim}
 use Rattle.dl_power.proofs.claims.claim_grid.Goals as goal

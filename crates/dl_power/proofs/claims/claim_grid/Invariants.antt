@@ -1,7 +1,4 @@
-use Rattle.std.proofs.Common.{ℕ, ◌≡◌, ◌*◌, ◌/◌, ◌^◌, ◌<◌, ◌≤◌, length, take}
-use Rattle.std.specs.Int.{div_ceil}
-use Rattle.dl_grid.specs.Cells.{low_at, high_at, mass_low, spread}
-use Rattle.dl_plan.specs.Weighted.{weight_at, weight_sum}
+use Rattle.dl_power.proofs.Common.{ℕ, ◌≡◌, ◌*◌, ◌/◌, ◌^◌, ◌<◌, ◌≤◌, length, take, div_ceil, low_at, high_at, mass_low, spread, weight_at, weight_sum}
 use Rattle.dl_power.proofs.claims.claim_grid.Given as goal
 
 abbrev pub invariant-loop-item : goal.invariant-loop-item

@@ -1,7 +1,5 @@
-use Rattle.std.proofs.Common.{◌+◌, ◌^◌, arith}
-use Rattle.std.specs.Prelude.{min}
-use Rattle.dl_grid.specs.Cells.{high_at}
-use Rattle.dl_grid.proofs.CellSets.{low_added, high_added, high_kept, low_in_mass, mass_set, spread_set}
+use Rattle.dl_power.proofs.Common.{◌+◌, ◌^◌, arith, min, high_at, mass_set, spread_set}
+use Rattle.dl_grid.proofs.CellSets.{low_added, high_added, high_kept, low_in_mass}
 use Rattle.dl_power.proofs.counts.add_at_zero.Goals as goal
 
 pub returns-clause-low : goal.returns-clause-low

@@ -1,4 +1,4 @@
-use Rattle.std.proofs.lemmas.Result.{IfOk-weaker}
+use Rattle.dl_power.proofs.Common.{IfOk-weaker}
 use Rattle.dl_power.proofs.SingleCount.{single_count}
 use Rattle.dl_power.proofs.counts.by_fewer.Goals as goal
 

@@ -1,15 +1,8 @@
-use Rattle.std.proofs.Common.{ℕ, ◌≡◌, ◌+◌, ◌-◌, ◌*◌, ◌/◌, ◌^◌, ◌≤◌, arith, refl, ap, ◌∙◌, add-one}
-use Rattle.std.specs.Int.{div_ceil}
-use Rattle.std.proofs.Math.Nat.{sub-zero}
-use Rattle.std.proofs.lemmas.Nat.{pow_pos}
-use Rattle.dl_grid.specs.Cells.{low_at, high_at, mass_low, spread}
-use Rattle.dl_grid.proofs.CellLaws.{scale_of}
-use Rattle.dl_plan.specs.Weighted.{weight_at}
-use Rattle.dl_grid.proofs.CellSets.{high_joined, at_zero_small}
+use Rattle.dl_power.proofs.Common.{ℕ, ◌≡◌, ◌+◌, ◌-◌, ◌*◌, ◌/◌, ◌^◌, ◌≤◌, arith, refl, ap, ◌∙◌, add-one, div_ceil, sub-zero, pow_pos, low_at, high_at, mass_low, spread, scale_of, weight_at, high_joined, mixed_none}
+use Rattle.dl_grid.proofs.CellSets.{at_zero_small}
 use Rattle.dl_model.proofs.WeightLaws.{weight_within}
 use Rattle.dl_power.proofs.WeightLists.{shares_below, shares_next, shares_fit}
 use Rattle.dl_power.proofs.HornerGrids.{starts_at, goes_on_at, one_between, ends}
-use Rattle.dl_grid.proofs.WidthLaws.{mixed_none}
 use Rattle.dl_power.proofs.Spreads.{mixed_more}
 use Rattle.dl_power.proofs.counts.by_horner.Goals as goal
 

@@ -1,12 +1,5 @@
-use Rattle.std.proofs.Common.{ℕ, ◌≡◌, ◌+◌, ◌-◌, ◌^◌, ◌≤◌, length}
-use Rattle.dl_exact.specs.Fraction.{Fraction}
-use Rattle.dl_grid.specs.Cells.{low_at, high_at, mass_low, spread}
-use Rattle.dl_model.specs.Compound.{cell_from}
-use Rattle.dl_model.specs.Severity.{IsWithinOne}
-use Rattle.dl_model.specs.Listed.{probability_at}
-use Rattle.dl_grid.specs.Width.{mixed_spread}
+use Rattle.dl_power.proofs.Common.{ℕ, ◌≡◌, ◌+◌, ◌-◌, ◌^◌, ◌≤◌, length, Fraction, low_at, high_at, mass_low, spread, cell_from, IsWithinOne, probability_at, mixed_spread, LieBetween}
 use Rattle.dl_power.proofs.WeightLists.{shares_below}
-use Rattle.dl_power.specs.Powers.{LieBetween}
 use Rattle.dl_power.proofs.counts.by_horner.Given as goal
 
 abbrev pub invariant-loop-step : goal.invariant-loop-step

@@ -1,7 +1,4 @@
-use Rattle.std.proofs.Common.{◌+◌, ◌^◌, ◌≤◌, arith, ap, ◌∙◌}
-use Rattle.std.specs.Prelude.{min}
-use Rattle.dl_grid.specs.Cells.{high_at, mass_low, all_at_zero}
-use Rattle.dl_grid.proofs.CellSets.{high_joined}
+use Rattle.dl_power.proofs.Common.{◌+◌, ◌^◌, ◌≤◌, arith, ap, ◌∙◌, min, high_at, mass_low, all_at_zero, high_joined}
 use Rattle.dl_power.proofs.HornerSteps.{convolved_mass}
 use Rattle.dl_power.proofs.counts.one_claim_more.Goals as goal
 

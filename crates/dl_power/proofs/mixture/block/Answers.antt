@@ -1,8 +1,4 @@
-use Rattle.std.proofs.Common.{ℕ, ◌≡◌, ◌/◌, ◌^◌, arith, ap, ap₂, ◌∙◌}
-use Rattle.std.specs.Prelude.{min}
-use Rattle.std.specs.Int.{div_ceil}
-use Rattle.dl_grid.specs.Cells.{low_at, high_at}
-use Rattle.dl_power.specs.Powers.{mixture_end}
+use Rattle.dl_power.proofs.Common.{ℕ, ◌≡◌, ◌/◌, ◌^◌, arith, ap, ap₂, ◌∙◌, min, div_ceil, low_at, high_at, mixture_end}
 use Rattle.dl_power.proofs.EndLists.{one_more_item}
 use Rattle.dl_power.proofs.BlockGrids.{as_made, mixture_between, mixture_ends}
 use Rattle.dl_power.proofs.mixture.block.Goals as goal

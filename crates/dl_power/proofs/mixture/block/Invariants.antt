@@ -1,8 +1,4 @@
-use Rattle.std.proofs.Common.{ℕ, ◌≡◌, ◌/◌, ◌^◌, ◌<◌, length, get_or}
-use Rattle.std.specs.Prelude.{min}
-use Rattle.std.specs.Int.{div_ceil}
-use Rattle.dl_grid.specs.Cells.{low_at, high_at}
-use Rattle.dl_power.specs.Powers.{mixture_end}
+use Rattle.dl_power.proofs.Common.{ℕ, ◌≡◌, ◌/◌, ◌^◌, ◌<◌, length, get_or, min, div_ceil, low_at, high_at, mixture_end}
 use Rattle.dl_power.proofs.mixture.block.Given as goal
 
 abbrev pub invariant-loop-x : goal.invariant-loop-x

@@ -1,7 +1,4 @@
-use Rattle.std.proofs.Common.{◌<◌, ◌≡◌, ◌*◌, ◌^◌, ◌≤◌, [], length, get_or, arith, sym, ap, ◌∙◌}
-use Rattle.dl_grid.specs.Cells.{low_at, high_at}
-use Rattle.dl_exact.specs.Count.{count_below}
-use Rattle.dl_exact.proofs.Counts.{below_nothing}
+use Rattle.dl_power.proofs.Common.{◌<◌, ◌≡◌, ◌*◌, ◌^◌, ◌≤◌, [], length, get_or, arith, sym, ap, ◌∙◌, low_at, high_at, count_below, below_nothing}
 use Rattle.dl_power.proofs.EndLists.{mixture_end_is, mixture_end_more, product_small}
 use Rattle.dl_power.proofs.mixture.sums_at.Goals as goal
 

@@ -1,6 +1,4 @@
-use Rattle.std.proofs.Common.{◌≡◌, ◌*◌, ◌^◌, ◌≤◌, [], get_or}
-use Rattle.dl_grid.specs.Cells.{low_at, high_at}
-use Rattle.dl_exact.specs.Count.{count_below}
+use Rattle.dl_power.proofs.Common.{◌≡◌, ◌*◌, ◌^◌, ◌≤◌, [], get_or, low_at, high_at, count_below}
 use Rattle.dl_power.proofs.mixture.sums_at.Given as goal
 
 abbrev pub invariant-loop-i : goal.invariant-loop-i

@@ -1,5 +1,4 @@
-use Rattle.std.proofs.Common.{ℕ, ◌≡◌, ◌+◌, ◌<◌, length, get_or}
-use Rattle.dl_plan.specs.Weighted.{weight_at}
+use Rattle.dl_power.proofs.Common.{ℕ, ◌≡◌, ◌+◌, ◌<◌, length, get_or, weight_at}
 use Rattle.dl_power.proofs.mixture.weights_from.Given as goal
 
 abbrev pub invariant-loop-i : goal.invariant-loop-i

@@ -1,14 +1,6 @@
-use Rattle.std.proofs.Common.{◌+◌, ◌-◌, ◌/◌, ◌^◌, arith, sym, ap, subst, ◌∙◌}
-use Rattle.std.proofs.lemmas.List.{length-take-le}
+use Rattle.dl_power.proofs.Common.{◌+◌, ◌-◌, ◌/◌, ◌^◌, arith, sym, ap, subst, ◌∙◌, length-take-le, pow_pos, IfOk-weaker, Iv, spread, GridEncloses, times_itself, scale_of, spread_none}
 use Rattle.std.proofs.lemmas.List.Sums.{sum_by-take-le}
-use Rattle.std.proofs.lemmas.Nat.{pow_pos}
-use Rattle.std.proofs.lemmas.Result.{IfOk-weaker}
-use Rattle.dl_iv.specs.declared.interval.Iv.{Iv}
-use Rattle.dl_grid.specs.Cells.{spread}
-use Rattle.dl_model.specs.Family.{GridEncloses, times_itself}
-use Rattle.dl_grid.proofs.CellLaws.{scale_of}
 use Rattle.dl_grid.proofs.WidthLaws.{pw_one}
-use Rattle.dl_grid.proofs.CellSets.{spread_none}
 use Rattle.dl_power.proofs.Enclosing.{no_copy, first_cells, squared, one_more}
 use Rattle.dl_power.proofs.Spreads.{squared_width, one_more_width}
 use Rattle.dl_exact.proofs.Results.{if_ok_two, if_ok_three}

@@ -1,4 +1,4 @@
-use Rattle.std.proofs.Common.{arith}
+use Rattle.dl_power.proofs.Common.{arith}
 use Rattle.dl_power.proofs.WeightLists.{greatest_more}
 use Rattle.dl_power.proofs.shares.greatest_of.Goals as goal
 

@@ -1,5 +1,5 @@
-use Rattle.std.proofs.Common.{arith}
-use Rattle.dl_grid.proofs.CellSets.{low_set, high_set, mass_set, spread_set}
+use Rattle.dl_power.proofs.Common.{arith, mass_set, spread_set}
+use Rattle.dl_grid.proofs.CellSets.{low_set, high_set}
 use Rattle.dl_power.proofs.shares.put.Goals as goal
 
 pub returns-then-x-cells-clause-low : goal.returns-then-x-cells-clause-low

@@ -1,7 +1,5 @@
-use Rattle.std.proofs.Common.{arith}
+use Rattle.dl_power.proofs.Common.{arith, Item, part_of}
 use Rattle.std.proofs.lemmas.List.Sums.{sum_by_more_le_part}
-use Rattle.dl_plan.specs.declared.item.Item.{Item}
-use Rattle.dl_model.proofs.WeightLaws.{part_of}
 use Rattle.dl_power.proofs.WeightLists.{part_le}
 use Rattle.dl_power.proofs.shares.weight_of.Goals as goal
 

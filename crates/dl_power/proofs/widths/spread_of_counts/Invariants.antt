@@ -1,5 +1,4 @@
-use Rattle.std.proofs.Common.{◌≡◌, ◌^◌}
-use Rattle.dl_grid.specs.Width.{mixed_spread}
+use Rattle.dl_power.proofs.Common.{◌≡◌, ◌^◌, mixed_spread}
 use Rattle.dl_power.proofs.widths.spread_of_counts.Given as goal
 
 abbrev pub invariant-loop : goal.invariant-loop

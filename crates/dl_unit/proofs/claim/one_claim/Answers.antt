@@ -1,10 +1,6 @@
-use Rattle.std.proofs.Common.{arith, subst}
-use Rattle.std.proofs.lemmas.Result.{IfOk-weaker}
-use Rattle.dl_model.specs.Counts.{fixed}
-use Rattle.dl_model.specs.Family.{compound, GridEncloses}
+use Rattle.dl_unit.proofs.Common.{arith, subst, IfOk-weaker, fixed, compound, GridEncloses, severity_total}
 use Rattle.dl_unit.proofs.Severities.{probability_same}
 use Rattle.dl_unit.proofs.claim.one_claim.Goals as goal
-use Rattle.dl_plan.proofs.Means.{severity_total}
 
 pub claim_grid-requires : goal.claim_grid-requires
 claim_grid-requires g c = rw c.as_slice.ensures (

@@ -1,12 +1,5 @@
-use Rattle.std.proofs.Common.{◌^◌, arith, ap, subst}
-use Rattle.std.specs.Prelude.{IfSome}
-use Rattle.std.proofs.lemmas.Result.{IfOk-weaker}
-use Rattle.dl_model.specs.Counts.{gamma_of}
-use Rattle.dl_model.specs.Family.{compound, GridEncloses}
+use Rattle.dl_unit.proofs.Common.{◌^◌, arith, ap, subst, IfSome, IfOk-weaker, gamma_of, compound, GridEncloses, Gamma, probability_of, gamma_budget}
 use Rattle.dl_model.proofs.PlanThin.{gamma_thinned}
-use Rattle.dl_plan.specs.declared.plan.Freq.TheVariants.{Gamma}
-use Rattle.dl_plan.specs.Severity.{probability_of}
-use Rattle.dl_budget.specs.Claims.{gamma_budget}
 use Rattle.dl_budget.proofs.Counts.{count_of}
 use Rattle.dl_unit.proofs.Families.{grid_same}
 use Rattle.dl_unit.proofs.CountKinds.{gamma_unbounded, gamma_some}

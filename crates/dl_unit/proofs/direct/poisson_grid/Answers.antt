@@ -1,13 +1,5 @@
-use Rattle.std.proofs.Common.{◌^◌, arith, ap, subst}
-use Rattle.std.specs.Prelude.{IfSome}
-use Rattle.std.proofs.lemmas.Result.{IfOk-weaker}
-use Rattle.dl_model.specs.Counts.{poisson}
-use Rattle.dl_model.specs.Family.{compound, GridEncloses}
+use Rattle.dl_unit.proofs.Common.{◌^◌, arith, ap, subst, IfSome, IfOk-weaker, poisson, compound, GridEncloses, probability_of, thinned_mean, poisson_budget, halvings}
 use Rattle.dl_model.proofs.PlanThin.{poisson_thinned}
-use Rattle.dl_plan.specs.Severity.{probability_of}
-use Rattle.dl_plan.specs.Valid.{thinned_mean}
-use Rattle.dl_budget.specs.Claims.{poisson_budget}
-use Rattle.dl_budget.specs.Halvings.{halvings}
 use Rattle.dl_unit.proofs.Families.{grid_same}
 use Rattle.dl_unit.proofs.CountKinds.{poisson_unbounded, poisson_some}
 use Rattle.dl_unit.proofs.Positive.{no_zero}

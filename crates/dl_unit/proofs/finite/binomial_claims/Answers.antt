@@ -1,14 +1,7 @@
-use Rattle.std.proofs.Common.{◌^◌, arith}
-use Rattle.std.proofs.lemmas.Nat.{pow_pos}
-use Rattle.std.proofs.lemmas.Result.{IfOk-weaker}
-use Rattle.dl_grid.proofs.WidthLaws.{pw_rises}
-use Rattle.dl_model.specs.Counts.{binomial}
+use Rattle.dl_unit.proofs.Common.{◌^◌, arith, pow_pos, IfOk-weaker, pw_rises, binomial, compound_proper, probability_of, within_one}
 use Rattle.dl_model.proofs.Beginnings.{trials}
-use Rattle.dl_model.proofs.FamilyLaws.{compound_proper}
-use Rattle.dl_plan.specs.Severity.{probability_of}
 use Rattle.dl_unit.proofs.Families.{grid_same}
 use Rattle.dl_unit.proofs.finite.binomial_claims.Goals as goal
-use Rattle.dl_model.proofs.WithinOne.{within_one}
 
 pub returns-clause-encloses : goal.returns-clause-encloses
 returns-clause-encloses g c =

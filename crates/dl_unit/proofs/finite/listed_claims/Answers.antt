@@ -1,16 +1,7 @@
-use Rattle.std.proofs.Common.{◌^◌, arith, subst}
-use Rattle.std.proofs.lemmas.Nat.{pow_pos}
-use Rattle.std.proofs.lemmas.Result.{IfOk-weaker}
-use mathlib.Core.Path.{fun_ext}
-use Rattle.dl_grid.specs.Cells.{spread}
-use Rattle.dl_model.specs.Family.{compound, GridEncloses}
-use Rattle.dl_plan.specs.Severity.{probability_of}
-use Rattle.dl_model.proofs.ItemWeights.{probability_is}
+use Rattle.dl_unit.proofs.Common.{◌^◌, arith, subst, pow_pos, IfOk-weaker, fun_ext, compound, GridEncloses, probability_of, probability_is, total_pos, within_one}
 use Rattle.dl_plan.specs.Weighted.{greatest}
 use Rattle.dl_grid.proofs.WidthLaws.{mixed_rises}
-use Rattle.dl_plan.proofs.Means.{total_pos}
 use Rattle.dl_unit.proofs.finite.listed_claims.Goals as goal
-use Rattle.dl_model.proofs.WithinOne.{within_one}
 
 pub mix_counts_with-requires : goal.mix_counts_with-requires
 mix_counts_with-requires g c = (

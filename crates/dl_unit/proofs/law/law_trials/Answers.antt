@@ -1,9 +1,6 @@
 -- The number of trials is a sum of single trials.
-use Rattle.std.proofs.Common.{◌≡◌, ℕ, ◌*◌, ◌<◌, ◌≤◌, subst, arith}
-use Rattle.dl_model.specs.Compound.{power}
-use Rattle.dl_model.specs.Counts.{binomial}
-use Rattle.dl_model.specs.Severity.{IsSeverity}
-use Rattle.dl_model.proofs.AddedCounts.{binomial_power, trial}
+use Rattle.dl_unit.proofs.Common.{◌≡◌, ℕ, ◌*◌, ◌<◌, ◌≤◌, subst, arith, binomial, IsSeverity, trial}
+use Rattle.dl_model.proofs.AddedCounts.{binomial_power}
 use Rattle.dl_model.proofs.CompoundLaws.{power_severity}
 use Rattle.dl_unit.proofs.law.law_trials.Goals as goal
 

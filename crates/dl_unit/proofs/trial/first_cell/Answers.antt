@@ -1,9 +1,6 @@
-use Rattle.std.proofs.Common.{◌≡◌, ◌-◌, ◌*◌, ◌/◌, ◌^◌, ◌<◌, ◌≤◌, arith, ap₂, ◌∙◌}
-use Rattle.std.specs.Int.{div_ceil}
+use Rattle.dl_unit.proofs.Common.{◌≡◌, ◌-◌, ◌*◌, ◌/◌, ◌^◌, ◌<◌, ◌≤◌, arith, ap₂, ◌∙◌, div_ceil, num_le_den, part_within}
 use Rattle.dl_grid.proofs.CellLaws.{one_fits}
-use Rattle.dl_plan.proofs.Clauses.{num_le_den}
 use Rattle.dl_unit.proofs.trial.first_cell.Goals as goal
-use Rattle.dl_exact.proofs.RoundingLaws.{part_within}
 
 pub overflow_sub-den : goal.overflow_sub-den
 overflow_sub-den g c = omega (

@@ -1,11 +1,6 @@
-use Rattle.std.proofs.Common.{arith}
-use Rattle.dl_plan.specs.Severity.{probability_of}
-use Rattle.dl_plan.proofs.Clauses.{num_le_den}
-use Rattle.dl_exact.proofs.Results.{if_ok_three}
+use Rattle.dl_unit.proofs.Common.{arith, probability_of, num_le_den, if_ok_three, severity_total, within_one}
 use Rattle.dl_unit.proofs.TrialGrids.{grid_encloses, trial_spread}
 use Rattle.dl_unit.proofs.trial.one_trial.Goals as goal
-use Rattle.dl_plan.proofs.Means.{severity_total}
-use Rattle.dl_model.proofs.WithinOne.{within_one}
 
 pub returns-clause-encloses : goal.returns-clause-encloses
 returns-clause-encloses g c =

@@ -1,12 +1,9 @@
-use Rattle.std.proofs.Common.{◌*◌, ◌/◌, ◌^◌, ◌≤◌, arith, ap₂, ◌∙◌, mul-le-mul}
-use Rattle.std.specs.Int.{div_ceil}
-use Rattle.std.proofs.Math.Nat.{le_trans, pow-le-pow_right}
-use Rattle.dl_grid.specs.Cells.{low_at, high_at}
+use Rattle.dl_unit.proofs.Common.{◌*◌, ◌/◌, ◌^◌, ◌≤◌, arith, ap₂, ◌∙◌, div_ceil, pow-le-pow_right, low_at, high_at, num_le_den, part_within}
+use Rattle.std.proofs.Common.{mul-le-mul}
+use Rattle.std.proofs.Math.Nat.{le_trans}
 use Rattle.dl_grid.proofs.CellLaws.{scale_of}
 use Rattle.dl_unit.proofs.Pushed.{low_pushed, high_pushed}
-use Rattle.dl_plan.proofs.Clauses.{num_le_den}
 use Rattle.dl_unit.proofs.trial.scaled.Goals as goal
-use Rattle.dl_exact.proofs.RoundingLaws.{part_within}
 
 pub scale-requires : goal.scale-requires
 scale-requires g c =

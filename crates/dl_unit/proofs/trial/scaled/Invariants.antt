@@ -1,6 +1,4 @@
-use Rattle.std.proofs.Common.{ℕ, ◌≡◌, ◌*◌, ◌/◌, ◌<◌, length}
-use Rattle.std.specs.Int.{div_ceil}
-use Rattle.dl_grid.specs.Cells.{low_at, high_at}
+use Rattle.dl_unit.proofs.Common.{ℕ, ◌≡◌, ◌*◌, ◌/◌, ◌<◌, length, div_ceil, low_at, high_at}
 use Rattle.dl_unit.proofs.trial.scaled.Given as goal
 
 abbrev pub invariant-loop-x : goal.invariant-loop-x

@@ -1,10 +1,5 @@
-use Rattle.std.proofs.Common.{ℕ, ◌≡◌, ◌^◌, ◌<◌, List, length, arith, sym, subst, ◌∙◌}
-use Rattle.dl_iv.specs.declared.interval.Iv.{Iv}
-use Rattle.dl_grid.specs.Cells.{low_at, high_at}
-use Rattle.dl_unit.specs.Trials.{low_trial, high_trial}
+use Rattle.dl_unit.proofs.Common.{ℕ, ◌≡◌, ◌^◌, ◌<◌, List, length, arith, sym, subst, ◌∙◌, Iv, low_at, high_at, low_trial, high_trial, IfOk-weaker, num_le_den}
 use Rattle.std.proofs.lemmas.List.{length-set}
-use Rattle.std.proofs.lemmas.Result.{IfOk-weaker}
-use Rattle.dl_plan.proofs.Clauses.{num_le_den}
 use Rattle.dl_unit.proofs.TrialGrids.{first_small, trial_low, trial_high, trial_grid}
 use Rattle.dl_unit.proofs.trial.trial_of.Goals as goal
 

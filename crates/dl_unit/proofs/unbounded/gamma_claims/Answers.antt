@@ -1,13 +1,6 @@
-use Rattle.std.proofs.Common.{◌^◌}
-use Rattle.std.proofs.lemmas.Nat.{pow_pos}
-use Rattle.std.proofs.lemmas.Result.{IfOk-weaker}
-use Rattle.dl_exact.specs.Fraction.{whole, ◌/ℚ◌}
-use Rattle.dl_model.specs.Counts.{gamma_of}
-use Rattle.dl_model.proofs.FamilyLaws.{compound_proper}
-use Rattle.dl_plan.specs.Severity.{probability_of}
+use Rattle.dl_unit.proofs.Common.{◌^◌, pow_pos, IfOk-weaker, whole, ◌/ℚ◌, gamma_of, compound_proper, probability_of, within_one}
 use Rattle.dl_unit.proofs.Widths.{gamma_within}
 use Rattle.dl_unit.proofs.unbounded.gamma_claims.Goals as goal
-use Rattle.dl_model.proofs.WithinOne.{within_one}
 
 pub returns-clause-encloses : goal.returns-clause-encloses
 returns-clause-encloses g c =

@@ -1,16 +1,9 @@
-use Rattle.std.proofs.Common.{ℕ, ◌≡◌, ◌*◌, ◌%◌, ◌^◌, ◌≤◌, arith, ap, subst, ◌∙◌}
-use Rattle.std.proofs.Math.Nat.{pow-le-pow_right, mod-eq_of_lt}
-use Rattle.std.proofs.lemmas.Nat.{pow_pos}
-use Rattle.std.proofs.lemmas.Result.{IfOk-weaker}
-use Rattle.dl_exact.specs.Fraction.{whole, ◌/ℚ◌}
-use Rattle.dl_grid.specs.Cells.{spread}
-use Rattle.dl_model.specs.Counts.{poisson}
-use Rattle.dl_model.specs.Family.{compound, times_itself, GridEncloses}
-use Rattle.dl_model.proofs.FamilyLaws.{compound_proper}
-use Rattle.dl_plan.specs.Severity.{probability_of}
+use Rattle.dl_unit.proofs.Common.{ℕ, ◌≡◌, ◌*◌, ◌^◌, ◌≤◌, arith, ap, subst, ◌∙◌, pow-le-pow_right, pow_pos, IfOk-weaker, whole, ◌/ℚ◌, spread, poisson, compound, GridEncloses, compound_proper, probability_of, within_one}
+use Rattle.std.proofs.Common.{◌%◌}
+use Rattle.std.proofs.Math.Nat.{mod-eq_of_lt}
+use Rattle.dl_model.specs.Family.{times_itself}
 use Rattle.dl_unit.proofs.Widths.{poisson_within}
 use Rattle.dl_unit.proofs.unbounded.poisson_claims.Goals as goal
-use Rattle.dl_model.proofs.WithinOne.{within_one}
 
 shifted : (h : ℕ) → h ≤ 13 → 1 * 2 ^ h % 2 ^ 32 ≡ 2 ^ h
 shifted h few =

@@ -1,8 +1,6 @@
-use Rattle.std.proofs.Common.{◌≤◌, subst, sym, ◌∙◌}
+use Rattle.dl_unit.proofs.Common.{◌≤◌, subst, sym, ◌∙◌, IfOk-weaker, pairs_of, conditioned, Means}
 use Rattle.std.specs.Prelude.{MatchOption, All}
-use Rattle.std.proofs.lemmas.Result.{IfOk-weaker}
 use Rattle.dl_model.proofs.PlanThin.{no_amount_thinned}
-use Rattle.dl_plan.specs.Severity.{pairs_of, conditioned, Means}
 use Rattle.dl_unit.proofs.Positive.{no_parts}
 use Rattle.dl_unit.proofs.unbounded.positive_claims.Goals as goal
 

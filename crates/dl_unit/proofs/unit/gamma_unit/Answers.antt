@@ -1,10 +1,6 @@
-use Rattle.std.proofs.Common.{arith, sym, ◌∙◌}
-use Rattle.dl_model.specs.Family.{nothing}
-use Rattle.dl_model.specs.Plans.{compound_of}
-use Rattle.dl_model.proofs.PlanThin.{none_thinned}
-use Rattle.dl_grid.proofs.CellSets.{spread_none}
-use Rattle.dl_exact.proofs.Results.{if_ok_three}
-use Rattle.dl_unit.proofs.Families.{grid_same, no_loss}
+use Rattle.dl_unit.proofs.Common.{arith, sym, ◌∙◌, nothing, compound_of, none_thinned, spread_none, if_ok_three}
+use Rattle.dl_model.proofs.FiniteCounts.{all_at_zero_encloses}
+use Rattle.dl_unit.proofs.Families.{grid_same}
 use Rattle.dl_unit.proofs.CountKinds.{gamma_unbounded}
 use Rattle.dl_unit.proofs.unit.gamma_unit.Goals as goal
 
@@ -15,7 +11,7 @@ returns-in-None-clause-encloses g c =
     if_ok_three c.zero.result _ _ _ _ (λ grid cells low high.
     grid_same grid nothing (compound_of u.freq u.sev)
     (none_thinned u.freq u.sev c.requires.valid.1.count
-    (gamma_unbounded u c.args.shape c.requires.count.0 c.requires.count.1) none) (no_loss grid low high))
+    (gamma_unbounded u c.args.shape c.requires.count.0 c.requires.count.1) none) (all_at_zero_encloses grid low high))
     c.zero.ensures.cells c.zero.ensures.low c.zero.ensures.high
 
 pub returns-in-None-clause-spread : goal.returns-in-None-clause-spread

@@ -1,5 +1,6 @@
-use Rattle.std.proofs.Common.{◌≡◌, map, take}
-use Rattle.dl_unit.proofs.trial.grid_of.Given as goal
+use Rattle.dl_panjer.proofs.Common.{◌≡◌, take}
+use Rattle.std.specs.Prelude.{map}
+use Rattle.dl_panjer.proofs.made.grid_of.Given as goal
 
 abbrev pub invariant-loop-cell : goal.invariant-loop-cell
 invariant-loop-cell g l = record {
