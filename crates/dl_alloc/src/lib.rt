@@ -9,8 +9,6 @@
 mod conditional;
 mod joint;
 pub mod laws;
-#[cfg(test)]
-mod tests;
 
 pub use conditional::conditional_mean;
 pub use joint::joint_mean;

@@ -1,27 +1,12 @@
 -- The cells of what a unit's clause keeps, from those of its sum of claims.
-use Rattle.std.proofs.Common.{ℕ, zero, suc, ◌≡◌, ◌≢◌, inl, inr, ◌-◌, ◌^◌, ◌<◌, ◌≤◌, ◌⊎◌, min, Some, List, length, arith, sym, ap, ap₂, subst, subst₂, ◌∙◌}
-use Rattle.std.specs.Prelude.{IfSome}
-use Rattle.std.proofs.lemmas.Nat.{pow_pos}
-use Rattle.std.proofs.lemmas.Bool.Decides.{eqb_tells}
-use Rattle.dl_exact.specs.Fraction.{Fraction, whole, ◌over◌}
-use Rattle.dl_exact.specs.Sum.{sum_to}
-use Rattle.dl_exact.proofs.Over.{over_self}
-use Rattle.dl_iv.specs.declared.interval.Iv.{Iv}
-use Rattle.dl_grid.specs.Cells.{low_at, high_at}
+use Rattle.dl_cede.proofs.Common.{ℕ, zero, suc, ◌≡◌, ◌≢◌, inl, inr, ◌-◌, ◌^◌, ◌<◌, ◌≤◌, ◌⊎◌, min, Some, List, length, arith, sym, ap, ap₂, subst, subst₂, ◌∙◌, IfSome, pow_pos, eqb_tells, Fraction, whole, ◌over◌, sum_to, over_self, Iv, low_at, high_at, probability_of, Clause, kept, IsHorizonOf, IsAggregate, IsValidUnit, whole_den, Holds, Aggregate, IsDeclarable, outcome, Encloses, GridEncloses, outcome_after, aggregate_of, compound_of, sum_kept, sum_elsewhere, IsTakenIn, IsLeft}
 use Rattle.dl_plan.specs.declared.plan.Unit.{Unit as UnitOfPlan}
-use Rattle.dl_plan.specs.Severity.{probability_of}
-use Rattle.dl_plan.specs.Clause.{Clause, kept}
-use Rattle.dl_plan.specs.Horizon.{IsHorizonOf}
-use Rattle.dl_plan.specs.Valid.{IsAggregate, IsValidUnit}
-use Rattle.dl_exact.proofs.Parts.{whole_num, whole_den}
+use Rattle.dl_exact.proofs.Parts.{whole_num}
 use Rattle.dl_plan.proofs.Horizons.{horizon_one, horizon_settled}
-use Rattle.dl_model.specs.Series.{Holds}
-use Rattle.dl_model.specs.Program.{Aggregate, IsDeclarable, outcome}
 use Rattle.dl_plan.specs.Weighted.{greatest}
-use Rattle.dl_model.specs.Family.{mapped, Encloses, GridEncloses}
-use Rattle.dl_model.specs.Plans.{count_weights, outcome_after, aggregate_of, compound_of}
+use Rattle.dl_model.specs.Family.{mapped}
+use Rattle.dl_model.specs.Plans.{count_weights}
 use Rattle.dl_model.proofs.PlanUnits.{unit_declared}
-use Rattle.dl_cede.specs.Kept.{sum_kept, sum_elsewhere, IsTakenIn, IsLeft}
 use Rattle.dl_cede.proofs.Mapped.{unit_of, kept_few, kept_rest}
 
 pub same_whole : (x y : ℕ) → whole x ≡ whole y → x ≡ y

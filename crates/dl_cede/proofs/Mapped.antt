@@ -1,35 +1,24 @@
 -- What a clause keeps of a unit's sum, from the cells of a grid that ends at its horizon.
-use Rattle.std.proofs.Common.{ℕ, zero, suc, ◌≡◌, ◌≢◌, inl, inr, ◌+◌, ◌-◌, ◌*◌, ◌/◌, ◌<◌, ◌≤◌, ◌⊎◌, min, Bool, true, false, nat_eq, arith, refl, sym, ap, ap₂, subst, subst₂, ◌∙◌, eq-eqb}
-use Rattle.std.specs.Prelude.{Some, nat_lt, if◌then◌else◌}
+use Rattle.dl_cede.proofs.Common.{ℕ, zero, suc, ◌≡◌, ◌≢◌, inl, inr, ◌+◌, ◌-◌, ◌*◌, ◌/◌, ◌<◌, ◌≤◌, ◌⊎◌, min, Bool, true, false, nat_eq, arith, refl, sym, ap, ap₂, subst, subst₂, ◌∙◌, eq-eqb, if◌then◌else◌, mul-le-mul_left, eqb_tells, Fraction, whole, ◌over◌, ◌*ℚ◌, ◌≤ℚ◌, sum_to, over_self, over_le, le_over, one_pos, zero_le, Sev, IsWhole, probability_of, Clause, kept, IsAggregate, Holds, count_below, Aggregate, IsDeclarable, outcome, Encloses, outcome_after, clause_whole, where_whole, sum_kept, sum_elsewhere}
+use Rattle.std.specs.Prelude.{Some, nat_lt}
 use mathlib.Core.Path.{fun_ext}
-use Rattle.std.proofs.Math.Nat.{eq-zero-or-pos, mul-le-mul_left, div-one, le-div_iff_mul-le, le_refl as le_refl_n}
+use Rattle.std.proofs.Math.Nat.{eq-zero-or-pos, div-one, le-div_iff_mul-le, le_refl as le_refl_n}
 use Rattle.std.proofs.lemmas.Bool.{cases_lt, lt-ltb, le-ltb}
-use Rattle.std.proofs.lemmas.Bool.Decides.{eqb_tells}
-use Rattle.dl_exact.specs.Fraction.{Fraction, whole, ◌over◌, ◌*ℚ◌, ◌≤ℚ◌}
-use Rattle.dl_exact.specs.Sum.{sum_to}
-use Rattle.dl_exact.proofs.Over.{over_self, over_same, over_le, le_over}
-use Rattle.dl_exact.proofs.Laws.{one_pos, zero_times, zero_le}
+use Rattle.dl_exact.proofs.Over.{over_same}
+use Rattle.dl_exact.proofs.Laws.{zero_times}
 use Rattle.dl_exact.proofs.Counts.{below_same}
 use Rattle.dl_exact.proofs.Sums.{sum_to_same}
-use Rattle.dl_plan.specs.declared.severity.Sev.{Sev}
-use Rattle.dl_plan.specs.Fine.{IsWhole}
 use Rattle.dl_plan.specs.Weighted.{common_amount}
-use Rattle.dl_plan.specs.Severity.{probability_of}
-use Rattle.dl_plan.specs.Clause.{Clause, kept}
 use Rattle.dl_plan.specs.Horizon.{IsSettled}
 use Rattle.dl_plan.specs.Parts.{kept_parts, parts_in_bucket}
-use Rattle.dl_plan.specs.Valid.{IsAggregate}
 use Rattle.dl_plan.proofs.Clauses.{kept_is, bucket_pos}
 use Rattle.dl_plan.proofs.Apart.{kept_rises}
-use Rattle.dl_model.specs.Series.{Series, IsBound, Holds}
+use Rattle.dl_model.specs.Series.{Series, IsBound}
 use Rattle.dl_model.specs.Compound.{cell}
-use Rattle.dl_exact.specs.Count.{count_below}
-use Rattle.dl_model.specs.Program.{Aggregate, IsDeclarable, where_true, outcome}
-use Rattle.dl_model.specs.Family.{compound, Encloses}
-use Rattle.dl_model.specs.Plans.{outcome_after}
+use Rattle.dl_model.specs.Program.{where_true}
+use Rattle.dl_model.specs.Family.{compound}
 use Rattle.dl_model.proofs.Clauses.{clause_few, clause_rest, where_none}
-use Rattle.dl_model.proofs.Multiples.{clause_whole, no_cell_between}
-use Rattle.dl_cede.specs.Kept.{where_whole, sum_kept, sum_elsewhere}
+use Rattle.dl_model.proofs.Multiples.{no_cell_between}
 
 -- ---- whole numbers
 

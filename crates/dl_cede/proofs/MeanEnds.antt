@@ -1,35 +1,22 @@
 -- The mean of a unit after its clause, from the ends of its parts.
-use Rattle.std.proofs.Common.{ℕ, ◌≡◌, ◌+◌, ◌-◌, ◌*◌, ◌/◌, ◌^◌, ◌<◌, ◌≤◌, List, [], ◌∷◌, ◌++◌, length, get_or, take, Option, Some, None, true, false, add-one, sym, ap, ap₂, subst, subst₂, ◌∙◌}
-use Rattle.std.specs.Prelude.{IfSome, All}
-use Rattle.std.specs.Int.{div_ceil}
+use Rattle.dl_cede.proofs.Common.{ℕ, ◌≡◌, ◌+◌, ◌-◌, ◌*◌, ◌/◌, ◌^◌, ◌<◌, ◌≤◌, List, [], ◌∷◌, length, get_or, take, Option, Some, None, true, false, sym, ap, ap₂, subst, subst₂, ◌∙◌, IfSome, All, div_ceil, take_all, pow_pos, Fraction, whole, ◌over◌, ◌*ℚ◌, over_self, times_comm, Iv, low_at, high_at, CedeLayer, Clause, edge, IsHorizonOf, IsAggregate, IsValidUnit, declared_mean, Holds, Aggregate, GridEncloses, aggregate_of, compound_of, HoldsClaims, HoldsCeded}
+use Rattle.std.proofs.Common.{◌++◌, add-one}
 use Rattle.std.proofs.Math.Nat.{le_refl as le_refl_n}
 use Rattle.std.proofs.Math.Seq.{take-suc}
-use Rattle.std.proofs.lemmas.List.{take_all}
-use Rattle.std.proofs.lemmas.Nat.{pow_pos}
-use Rattle.dl_exact.specs.Fraction.{Fraction, whole, ◌over◌, ◌*ℚ◌}
 use Rattle.dl_exact.specs.Rounding.{IsFloor, IsCeiling}
-use Rattle.dl_exact.proofs.Over.{over_self}
-use Rattle.dl_exact.proofs.Laws.{times_comm}
 use Rattle.dl_exact.proofs.RoundingLaws.{floor_div, ceiling_div}
-use Rattle.dl_iv.specs.declared.interval.Iv.{Iv}
 use Rattle.dl_iv.specs.Enclosure.{LiesIn}
 use Rattle.dl_exact.proofs.Denominators.{over_split as over_plus, over_minus, over_times, over_zero}
 use Rattle.dl_iv.proofs.Enclosures.{lies_between}
-use Rattle.dl_grid.specs.Cells.{low_at, high_at}
-use Rattle.dl_plan.specs.declared.cede.CedeLayer.{CedeLayer}
 use Rattle.dl_plan.specs.declared.plan.Unit.{Unit as UnitOfPlan}
-use Rattle.dl_plan.specs.Clause.{Clause}
-use Rattle.dl_plan.specs.Horizon.{edge, IsHorizonOf}
-use Rattle.dl_plan.specs.Valid.{IsAggregate, IsValidUnit, declared_mean}
 use Rattle.dl_plan.proofs.Horizons.{horizon_edges}
-use Rattle.dl_model.specs.Series.{Holds}
-use Rattle.dl_model.specs.Program.{Aggregate, One, Mean, Layer, partial_sums}
-use Rattle.dl_model.specs.Family.{total, GridEncloses}
+use Rattle.dl_model.specs.Program.{One, Mean, Layer, partial_sums}
+use Rattle.dl_model.specs.Family.{total}
 use Rattle.dl_model.specs.Measures.{AreDeclared}
-use Rattle.dl_model.specs.Plans.{aggregate_of, compound_of, claims_of, mean_ceded}
+use Rattle.dl_model.specs.Plans.{claims_of, mean_ceded}
 use Rattle.dl_model.proofs.Declared.{at_least_wider, at_most_wider}
 use Rattle.dl_model.proofs.ClauseMeans.{claims_declared, claims_enclosed, claims_mean, none_ceded, alone_ceded, both_ceded, no_clause, ceded_mean, net_mean}
-use Rattle.dl_cede.specs.Means.{AreNearestEnds, HoldsClaims, HoldsCeded, HoldsMean}
+use Rattle.dl_cede.specs.Means.{AreNearestEnds, HoldsMean}
 
 -- ---- the sum of the claims
 

@@ -1,39 +1,32 @@
 -- How large the mean of a unit's claims is, and what layers take of it.
-use Rattle.std.proofs.Common.{ℕ, suc, ◌≡◌, ◌+◌, ◌-◌, ◌*◌, ◌/◌, ◌%◌, ◌^◌, ◌<◌, ◌≤◌, List, [], ◌∷◌, length, get_or, take, cond, ◌==◌, Option, Some, None, arith, inl, inr, refl, sym, ap, subst, subst₂, ◌∙◌}
-use Rattle.std.specs.Prelude.{All, AllPairs, IfSome}
-use Rattle.std.specs.Int.{div_ceil}
-use Rattle.std.specs.List.{sum_by}
-use Rattle.std.proofs.Math.Nat.{mul-le-mul, mul-le-mul_left, mul-le-mul_right, div-add-mod, mod-lt}
-use Rattle.std.proofs.lemmas.Bool.Decides.{eqb_tells}
+use Rattle.dl_cede.proofs.Common.{ℕ, suc, ◌≡◌, ◌+◌, ◌-◌, ◌*◌, ◌/◌, ◌^◌, ◌<◌, ◌≤◌, List, [], ◌∷◌, length, get_or, take, Option, Some, None, arith, inl, inr, refl, sym, ap, subst, subst₂, ◌∙◌, All, IfSome, div_ceil, sum_by, mul-le-mul_left, eqb_tells, Fraction, whole, ◌over◌, ◌*ℚ◌, ◌≤ℚ◌, over_le, le_over, one_pos, times_comm, zero_le, one_fits, CedeLayer, Sev, probability_of, Clause, IsWithinMostAmount, IsValidUnit, declared_mean, part_width}
+use Rattle.std.proofs.Common.{◌%◌, cond, ◌==◌}
+use Rattle.std.specs.Prelude.{AllPairs}
+use Rattle.std.proofs.Math.Nat.{mul-le-mul, mul-le-mul_right, div-add-mod, mod-lt}
 use Rattle.std.proofs.lemmas.List.Elements.{All-head, All-tail}
 use Rattle.std.proofs.lemmas.List.Sums.{sum_by-cons, sum_by_more, sum_by-take-le}
 use Rattle.std.proofs.lemmas.List.{length-map, get_or-map}
 use Rattle.std.proofs.lemmas.Nat.Gcd.{le_of_dvd}
 use Prim.Native.Nat.{◌∣◌}
-use Rattle.dl_exact.specs.Fraction.{Fraction, whole, ◌over◌, ◌-ℚ◌, ◌*ℚ◌, ◌≤ℚ◌}
-use Rattle.dl_exact.proofs.Over.{over_le, le_over, over_mul}
-use Rattle.dl_exact.proofs.Laws.{one_pos, le_refl, le_trans, plus_zero, times_comm, times_assoc, one_times, times_le_times, zero_le, sub_plus, whole_times, sub_le_both}
+use Rattle.dl_exact.specs.Fraction.{◌-ℚ◌}
+use Rattle.dl_exact.proofs.Over.{over_mul}
+use Rattle.dl_exact.proofs.Laws.{le_refl, le_trans, plus_zero, times_assoc, one_times, times_le_times, sub_plus, whole_times, sub_le_both}
 use Rattle.dl_exact.proofs.RoundingLaws.{div_ceil_least, whole_le}
-use Rattle.dl_grid.proofs.CellLaws.{one_fits}
-use Rattle.dl_plan.specs.declared.cede.CedeLayer.{CedeLayer}
 use Rattle.dl_plan.specs.declared.item.Item.{Item}
-use Rattle.dl_plan.specs.declared.severity.Sev.{Sev}
 use Rattle.dl_plan.specs.declared.plan.Freq.{Freq}
 use Rattle.dl_plan.specs.declared.plan.Freq.TheVariants.{Fixed, Table, Bernoulli, Binomial, Poisson, Gamma}
 use Rattle.dl_plan.specs.declared.plan.Unit.{Unit as UnitOfPlan}
 use Rattle.dl_plan.specs.Weighted.{weight_sum, weight_at, weighted_sum, IsWeighted}
-use Rattle.dl_plan.specs.Severity.{probability_of, pairs_of, mean_amount}
-use Rattle.dl_plan.specs.Fine.{common_denominator, IsFine}
-use Rattle.dl_plan.specs.Clause.{Clause, IsBelowTop, Overlap, layer_shares, IsClause}
+use Rattle.dl_plan.specs.Severity.{pairs_of, mean_amount}
+use Rattle.dl_plan.specs.Fine.{common_denominator, IsFineTo30Bits}
+use Rattle.dl_plan.specs.Clause.{IsBelowTop, Overlap, layer_shares, IsClause}
 use Rattle.dl_plan.specs.Count.{expected_count, IsUnbounded, IsClaimCount}
-use Rattle.dl_plan.specs.Valid.{IsWithinMostAmount, IsValidUnit, declared_mean}
-use Rattle.dl_plan.proofs.Common.{den_divides, common_pos}
+use Rattle.dl_plan.proofs.CommonDenominators.{den_divides, common_pos}
 use Rattle.dl_plan.proofs.Means.{total_pos, positive_share}
 use Rattle.dl_plan.proofs.Shares.{mean-shares}
 use Rattle.dl_plan.proofs.Apart.{first_apart, rest_apart}
 use Rattle.dl_grid.specs.Width.{layer_width}
 use Rattle.dl_measures.specs.Layers.{layer_most}
-use Rattle.dl_plan.specs.MeanWidth.{part_width}
 
 -- ---- how large it is
 
@@ -286,7 +279,8 @@ module _ (clause : Clause) (seen : List CedeLayer) (same : seen ≡ clause.1) wh
         mosts_small one mean scale clause.1 cession.apart near,
       )
 
-pub fine_shares : (layers : List CedeLayer) → IsFine (layer_shares layers) → All (λ l. l.share.den ≤ 2 ^ 30) layers
+pub fine_shares : (layers : List CedeLayer) → IsFineTo30Bits (layer_shares layers) → All (λ l. l.share.den ≤ 2 ^ 30)
+    layers
 fine_shares layers fine = λ i d inside.
     let few : i < length (layer_shares layers) = omega
     (arith, inside, length-map layers (λ (l : CedeLayer). l.share)) in

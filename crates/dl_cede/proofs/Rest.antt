@@ -1,13 +1,6 @@
 -- The cell that takes in all large sums: what the cells of the other sums leave of 1.
-use Rattle.std.proofs.Common.{ℕ, ◌≡◌, ◌≢◌, ◌+◌, ◌-◌, ◌*◌, ◌^◌, ◌<◌, ◌≤◌, List, length, set, arith, refl, ap, subst, eq-eqb, ne_eqb, ◌∙◌}
-use Rattle.std.specs.Prelude.{if◌then◌else◌}
-use Rattle.dl_iv.specs.declared.interval.Iv.{Iv}
-use Rattle.dl_grid.specs.Cells.{low_at, high_at, mass_low, spread}
+use Rattle.dl_cede.proofs.Common.{ℕ, ◌≡◌, ◌≢◌, ◌+◌, ◌-◌, ◌*◌, ◌^◌, ◌<◌, ◌≤◌, List, length, set, arith, refl, ap, subst, eq-eqb, ne_eqb, ◌∙◌, if◌then◌else◌, Iv, low_at, high_at, mass_low, spread, Clause, count_below, low_set, high_set, spread_set, width_at, where_whole, sum_elsewhere, IsTakenIn, IsLeft}
 use Rattle.dl_grid.proofs.PlaceSums.{high_is, width_within}
-use Rattle.dl_plan.specs.Clause.{Clause}
-use Rattle.dl_exact.specs.Count.{count_below}
-use Rattle.dl_grid.proofs.CellSets.{low_set, high_set, spread_set}
-use Rattle.dl_cede.specs.Kept.{width_at, where_whole, sum_elsewhere, IsTakenIn, IsLeft}
 use Rattle.dl_cede.proofs.Walk.{whole_le, kept_or_elsewhere, elsewhere_wide}
 
 -- the sums that are taken in are no wider than all

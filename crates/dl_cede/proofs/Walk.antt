@@ -1,21 +1,10 @@
 -- The sums of the ends that a clause takes to one cell, as a walk over the grid makes them.
-use Rattle.std.proofs.Common.{ℕ, zero, suc, ◌≡◌, ◌≢◌, inl, inr, ◌+◌, ◌-◌, ◌^◌, ◌<◌, ◌≤◌, min, Bool, true, false, nat_eq, List, length, set, arith, refl, ap, ◌∙◌, ne_eqb, eq-eqb}
-use Rattle.std.specs.Prelude.{Some, ◌==◌, if◌then◌else◌}
-use Rattle.std.proofs.lemmas.Bool.Decides.{eqb_tells}
-use Rattle.dl_exact.specs.Fraction.{Fraction, whole}
-use Rattle.dl_iv.specs.declared.interval.Iv.{Iv}
-use Rattle.dl_grid.specs.Cells.{low_at, high_at, IsGrid}
-use Rattle.dl_plan.specs.Fine.{IsWhole}
-use Rattle.dl_plan.specs.Clause.{Clause, kept}
-use Rattle.dl_exact.proofs.Parts.{whole_den}
-use Rattle.dl_exact.specs.Count.{count_below}
-use Rattle.dl_model.specs.Plans.{outcome_after}
+use Rattle.dl_cede.proofs.Common.{ℕ, zero, suc, ◌≡◌, ◌≢◌, inl, inr, ◌+◌, ◌-◌, ◌^◌, ◌<◌, ◌≤◌, min, Bool, true, false, nat_eq, List, length, set, arith, refl, ap, ◌∙◌, ne_eqb, eq-eqb, if◌then◌else◌, eqb_tells, Fraction, whole, Iv, low_at, high_at, IsWhole, Clause, kept, whole_den, count_below, outcome_after, clause_whole, low_set, high_set, one_fits, high_end, where_whole, sum_kept, sum_elsewhere}
+use Rattle.std.specs.Prelude.{Some, ◌==◌}
+use Rattle.dl_grid.specs.Cells.{IsGrid}
 use Rattle.dl_exact.proofs.Counts.{below_more as count_below_more, below_nothing as count_below_none}
-use Rattle.dl_model.proofs.Multiples.{clause_whole}
-use Rattle.dl_grid.proofs.CellSets.{low_set, high_set}
-use Rattle.dl_grid.proofs.CellLaws.{scale_of, one_fits}
-use Rattle.dl_measures.proofs.Sums.{high_end, high_most, low_most}
-use Rattle.dl_cede.specs.Kept.{where_whole, sum_kept, sum_elsewhere}
+use Rattle.dl_grid.proofs.CellLaws.{scale_of}
+use Rattle.dl_measures.proofs.Sums.{high_most, low_most}
 
 pub where_here : (clause : Clause) (f : ℕ → ℕ) (s y : ℕ) → kept clause s ≡ whole y → where_whole clause f s ≡ f s
 unfolding where_whole

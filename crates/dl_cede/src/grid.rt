@@ -1,16 +1,16 @@
 //! The grid of what a clause keeps.
 
 ghost use Rattle.std.specs.Prelude.{◌≡◌, ◌≢◌, ℕ, ◌+◌, ◌-◌, ◌*◌, ◌^◌, ◌<◌, ◌≤◌, ◌==◌, if◌then◌else◌, min, length, IfOk, IsSome, MatchOption};
-ghost use Rattle.dl_limits.specs.Limits.{most_cells};
-ghost use Rattle.dl_exact.specs.Fraction.{whole};
-ghost use Rattle.dl_grid.specs.Cells.{low_at, high_at, mass_low, spread};
-ghost use Rattle.dl_exact.specs.Count.{count_below};
-ghost use Rattle.dl_model.specs.Family.{mapped, GridEncloses};
-ghost use Rattle.dl_model.specs.Plans.{aggregate_of, compound_of};
-ghost use Rattle.dl_plan.specs.Clause.{kept, IsClause};
-ghost use Rattle.dl_plan.specs.Horizon.{IsHorizonOf};
-ghost use Rattle.dl_plan.specs.Valid.{IsValidUnit};
 ghost use Rattle.dl_cede.specs.Kept.{width_at, where_whole, sum_elsewhere, IsTakenIn, IsLeft};
+ghost use Rattle.dl_limits.specs.Limits.{most_cells};
+ghost use Rattle.dl_grid.specs.Cells.{low_at, high_at, mass_low, spread};
+ghost use Rattle.dl_exact.specs.Fraction.{whole};
+ghost use Rattle.dl_model.specs.Plans.{aggregate_of, compound_of};
+ghost use Rattle.dl_plan.specs.Horizon.{IsHorizonOf};
+ghost use Rattle.dl_model.specs.Family.{mapped, GridEncloses};
+ghost use Rattle.dl_plan.specs.Clause.{kept, IsClause};
+ghost use Rattle.dl_exact.specs.Count.{count_below};
+ghost use Rattle.dl_plan.specs.Valid.{IsValidUnit};
 
 use dl_grid::{Grid, units_of_one};
 use dl_iv::Iv;
@@ -103,7 +103,7 @@ fn kept_past(cede: &Cede, sums: u32, cells: u32) -> Option<u32>
 /// The first `cells` cells of what the clause keeps of a sum. Each takes in the cells of all sums
 /// that the clause maps to it; where the first sum past the grid is one of them, it is what the
 /// cells of all other sums leave of 1.
-pub(crate) fn kept_cells<const B: u32>(
+pub fn kept_cells<const B: u32>(
     alloc: Global,
     cede: &Cede,
     sums: &Grid<B>,
@@ -142,12 +142,12 @@ pub fn cede_grid<const B: u32>(
     grid: &Grid<B>,
     cells: u32,
 ) -> Result<Grid<B>, AllocError>
+    requires valid { (all : ℕ) × IsValidUnit all unit.now }
+    requires clause { IsSome unit.now.cede }
     requires scale_above { 1 ≤ B }
     requires scale_below { B ≤ 56 }
     requires some { 1 ≤ cells }
     requires few { cells ≤ most_cells }
-    requires valid { (all : ℕ) × IsValidUnit all unit.now }
-    requires clause { IsSome unit.now.cede }
     requires horizon { IsHorizonOf unit.now.cede cells (length grid.now) }
     requires encloses { GridEncloses grid.now (compound_of unit.now.freq unit.now.sev) }
     ensures cells { IfOk result (λ g. length g ≡ cells) }

@@ -2,19 +2,14 @@
 //! mean.
 //!
 //! A clause maps each sum to a number of buckets and never falls, so that a few cells of the sum
-//! tell each cell of what is kept. The cell that takes in all large sums is told by what the others
-//! leave of
-//! 1. The mean is told by the means of the clause's layers, and by the mean of the sum, which needs
-//! no grid: so no part of it is cut off where the grid ends. The clauses speak of a unit of a valid
-//!    plan, whatever its count.
+//! tell each cell of what is kept. The cell that takes in all large sums is what the others leave
+//! of the whole. The mean is told by the means of the clause's layers, and by the mean of the sum,
+//! which needs no grid: so no part of it is cut off where the grid ends. The clauses speak of a
+//! unit of a valid plan, whatever its count.
 #![tactic(auto)]
 
 mod grid;
 mod mean;
-#[cfg(test)]
-mod mean_tests;
-#[cfg(test)]
-mod tests;
 
-pub use grid::cede_grid;
-pub use mean::{cede_mean, claims_mean};
+pub use grid::{cede_grid, kept_cells};
+pub use mean::{cede_mean, claims_mean, kept_mean};

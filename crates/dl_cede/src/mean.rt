@@ -79,7 +79,7 @@ fn ceded_mean<const B: u32>(cede: &Cede, grid: &Grid<B>, claims: Iv<B>) -> Iv<B>
 
 /// The mean of what a clause keeps of the sum of a unit's claims, in buckets: on the ceded side
 /// what its layers take, and on the net side what this leaves of `claims`, the mean of the sum.
-pub(crate) fn kept_mean<const B: u32>(cede: &Cede, grid: &Grid<B>, claims: Iv<B>) -> Iv<B>
+pub fn kept_mean<const B: u32>(cede: &Cede, grid: &Grid<B>, claims: Iv<B>) -> Iv<B>
     requires clause { IsClause cede.now }
     requires near { All IsWithinMostAmount cede.now.1 }
     requires inside { All (λ l. edge l ≤ length grid.now) cede.now.1 }

@@ -1,23 +1,14 @@
 -- The ends of a distribution and of a layer, from those of the cells of an enclosing grid.
-use Rattle.std.proofs.Common.{◌≡◌, inl, inr, ℕ, suc, ◌+◌, ◌-◌, ◌<◌, ◌≤◌, min, arith, sym, ap, subst, subst₂, ◌∙◌, List}
-use Rattle.std.specs.Prelude.{Some}
+use Rattle.dl_measures.proofs.Common.{◌≡◌, inl, inr, ℕ, suc, ◌+◌, ◌-◌, ◌<◌, ◌≤◌, min, arith, sym, ap, subst, subst₂, ◌∙◌, List, Some, fun_ext, cases_lt, Fraction, ◌over◌, count_below, below_grows, IsBound, AtMost, Holds, Aggregate, AreDeclarable, One, Cdf, Layer, score, partial_sums, total, Encloses, outcomes_rise, cdf_most_one, low_cdf, high_cdf}
 use Rattle.std.proofs.Math.Nat.{min-eq_left, min-eq_right}
-use mathlib.Core.Path.{fun_ext}
-use Rattle.std.proofs.lemmas.Bool.{cases_lt}
-use Rattle.dl_exact.specs.Fraction.{Fraction, ◌over◌}
 use Rattle.dl_exact.specs.Sum.{sum_to, sum_below}
-use Rattle.dl_exact.specs.Count.{count_below}
-use Rattle.dl_exact.proofs.Counts.{below_grows}
 use Rattle.dl_exact.proofs.Denominators.{over_one, over_rest}
 use Rattle.dl_exact.proofs.SumsOver.{to_over, below_over}
-use Rattle.dl_model.specs.Series.{IsBound, AtMost, Holds}
-use Rattle.dl_model.specs.Program.{Aggregate, AreDeclarable, One, Point, Cdf, Layer, score, partial_sums}
-use Rattle.dl_model.specs.Family.{total, Encloses}
+use Rattle.dl_model.specs.Program.{Point}
 use Rattle.dl_model.specs.Measures.{above, survival}
-use Rattle.dl_model.proofs.Outcomes.{outcomes_rise}
 use Rattle.dl_model.proofs.Scores.{cdf_points, layer_survivals}
-use Rattle.dl_model.proofs.Ends.{to_holds, below_holds, cdf_most_one, above_ends}
-use Rattle.dl_measures.specs.Ends.{low_cdf, high_cdf, low_layer, high_layer}
+use Rattle.dl_model.proofs.Ends.{to_holds, below_holds, above_ends}
+use Rattle.dl_measures.specs.Ends.{low_layer, high_layer}
 
 pub cdf_ends : (us : List Aggregate) (S K : ℕ) (lo hi : ℕ → ℕ) → AreDeclarable us → 0 < S
     → Encloses S K lo hi (total us)

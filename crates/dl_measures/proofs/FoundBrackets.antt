@@ -1,19 +1,10 @@
 -- The bracket of a quantile from the ends of a grid's distribution, and how tight it is.
-use Rattle.std.proofs.Common.{◌≡◌, inl, inr, ℕ, suc, ◌+◌, ◌<◌, ◌≤◌, min, arith, sym, subst, ◌∙◌, List, mul-pos, mul-le-mul_right}
-use Rattle.std.specs.Prelude.{Option, Some}
-use Rattle.dl_exact.specs.Fraction.{Fraction, whole, ◌over◌, ◌+ℚ◌, ◌-ℚ◌, ◌≤ℚ◌, ◌<ℚ◌}
-use Rattle.dl_exact.proofs.Over.{over_same, over_le, over_sub, lt_over}
-use Rattle.dl_exact.proofs.Laws.{by_two, plus_le_plus, one_pos, le_trans, lt_or_le, le_of_lt, zero_le, sub_plus, plus_le_cancel}
-use Rattle.dl_model.specs.Series.{AtMost, AtLeast}
-use Rattle.dl_exact.specs.Count.{count_below}
-use Rattle.dl_model.specs.Program.{Aggregate, AreDeclarable, One, Cdf, partial_sums}
-use Rattle.dl_model.specs.Family.{total, Encloses}
-use Rattle.dl_model.specs.Measures.{IsBracketed}
-use Rattle.dl_measures.specs.Ends.{low_cdf, high_cdf, IsTight}
-use Rattle.dl_model.proofs.Declared.{at_most_wider, at_least_wider}
-use Rattle.dl_exact.proofs.Counts.{below_grows}
+use Rattle.dl_measures.proofs.Common.{◌≡◌, inl, inr, ℕ, suc, ◌+◌, ◌<◌, ◌≤◌, min, arith, sym, subst, ◌∙◌, List, Option, Some, Fraction, whole, ◌over◌, ◌+ℚ◌, ◌-ℚ◌, ◌≤ℚ◌, ◌<ℚ◌, over_same, over_le, lt_over, one_pos, le_trans, zero_le, AtMost, AtLeast, count_below, Aggregate, AreDeclarable, One, Cdf, partial_sums, total, Encloses, IsBracketed, low_cdf, high_cdf, IsTight, at_most_wider, below_grows, over_plus}
+use Rattle.std.proofs.Common.{mul-pos, mul-le-mul_right}
+use Rattle.dl_exact.proofs.Over.{over_sub}
+use Rattle.dl_exact.proofs.Laws.{by_two, plus_le_plus, lt_or_le, le_of_lt, sub_plus, plus_le_cancel}
+use Rattle.dl_model.proofs.Declared.{at_least_wider}
 use Rattle.dl_measures.proofs.CellEnds.{cdf_ends}
-use Rattle.dl_exact.proofs.Denominators.{over_plus}
 
 pub bracket : (us : List Aggregate) (S K : ℕ) (lo hi : ℕ → ℕ) (p : Fraction) (a : ℕ) (b : Option ℕ) → AreDeclarable us
     → 0 < S → Encloses S K lo hi (total us)

@@ -1,30 +1,12 @@
 -- The means of layers, from the ends that a grid gives.
-use Rattle.std.proofs.Common.{ℕ, suc, ◌≡◌, inl, inr, ◌+◌, ◌-◌, ◌*◌, ◌^◌, ◌<◌, ◌≤◌, min, List, length, arith, sym, ap, subst, subst₂, ◌∙◌}
-use Rattle.std.specs.Prelude.{Option, Some, None}
-use Rattle.std.proofs.Math.Nat.{mul-le-mul, mul-le-mul_right}
-use mathlib.Core.Path.{fun_ext}
-use Rattle.std.proofs.lemmas.Nat.{pow_pos}
-use Rattle.std.proofs.lemmas.Bool.{cases_lt}
-use Rattle.dl_exact.specs.Fraction.{whole, ◌over◌, ◌+ℚ◌, ◌*ℚ◌, ◌≤ℚ◌}
-use Rattle.dl_exact.proofs.Over.{over_le, over_same}
-use Rattle.dl_exact.proofs.Laws.{one_pos, zero_le, zero_times}
-use Rattle.dl_iv.specs.declared.interval.Iv.{Iv}
-use Rattle.dl_grid.specs.Cells.{low_at, high_at, spread, IsGrid}
-use Rattle.dl_grid.proofs.CellLaws.{scale_of, one_fits}
-use Rattle.dl_model.specs.Series.{AtLeast, AtMost, Holds, plus}
-use Rattle.dl_exact.specs.Count.{count_below}
-use Rattle.dl_model.specs.Program.{Aggregate, One, Mean, Layer, score, partial_sums}
-use Rattle.dl_model.specs.Family.{total, GridEncloses}
-use Rattle.dl_model.specs.Measures.{AreDeclared}
-use Rattle.dl_model.proofs.Declared.{at_most_wider}
+use Rattle.dl_measures.proofs.Common.{ℕ, suc, ◌≡◌, inl, inr, ◌+◌, ◌-◌, ◌*◌, ◌^◌, ◌<◌, ◌≤◌, min, List, length, arith, sym, ap, subst, subst₂, ◌∙◌, Option, Some, None, mul-le-mul, mul-le-mul_right, fun_ext, pow_pos, cases_lt, whole, ◌over◌, ◌+ℚ◌, ◌*ℚ◌, ◌≤ℚ◌, over_le, over_same, one_pos, zero_le, Iv, low_at, high_at, spread, IsGrid, scale_of, one_fits, AtLeast, AtMost, Holds, count_below, Aggregate, One, Layer, score, partial_sums, total, GridEncloses, AreDeclared, at_most_wider, outcomes_rise, over_plus, below_more, below_bound, are_units, quantity_bounded}
+use Rattle.dl_exact.proofs.Laws.{zero_times}
+use Rattle.dl_model.specs.Series.{plus}
+use Rattle.dl_model.specs.Program.{Mean}
 use Rattle.dl_model.proofs.Minus.{at_most_minus}
-use Rattle.dl_model.proofs.Outcomes.{outcomes_rise}
 use Rattle.dl_model.proofs.Scores.{mean_split}
 use Rattle.dl_model.proofs.Ends.{excess_ends}
 use Rattle.dl_measures.proofs.CellEnds.{layer_ends}
-use Rattle.dl_exact.proofs.Denominators.{over_plus}
-use Rattle.dl_exact.proofs.Counts.{below_more, below_bound}
-use Rattle.dl_model.proofs.Bounded.{are_units, quantity_bounded}
 use Rattle.dl_measures.proofs.Widths.{layer_width as layer_apart}
 use Rattle.dl_grid.specs.Width.{layer_width}
 use Rattle.dl_plan.specs.Horizon.{edge_of}

@@ -1,26 +1,10 @@
 -- From the sums of a walk over the grid to the bracket of a quantile.
-use Rattle.std.proofs.Common.{ℕ, suc, ◌≡◌, inl, inr, ◌+◌, ◌*◌, ◌^◌, ◌<◌, ◌≤◌, min, List, length, arith, refl, sym, ap, subst, ◌∙◌, add-one}
-use Rattle.std.specs.Prelude.{Option, Some, None}
-use Rattle.std.proofs.Math.Nat.{mul-le-mul, mul-le-mul_right}
-use Rattle.std.proofs.lemmas.Nat.{pow_pos}
-use Rattle.std.proofs.lemmas.Bool.{cases_lt}
+use Rattle.dl_measures.proofs.Common.{ℕ, suc, ◌≡◌, inl, inr, ◌+◌, ◌*◌, ◌^◌, ◌<◌, ◌≤◌, min, List, length, arith, refl, sym, ap, subst, ◌∙◌, Option, Some, None, mul-le-mul, mul-le-mul_right, pow_pos, cases_lt, Fraction, whole, ◌over◌, ◌≤ℚ◌, ◌<ℚ◌, over_self, over_le, over_lt, lt_over, le_trans, Iv, low_at, high_at, spread, IsGrid, scale_of, one_fits, count_below, Aggregate, AreDeclarable, One, total, Encloses, GridEncloses, IsQuantile, IsBracketed, AreDeclared, low_cdf, high_cdf, IsTight, below_nothing, below_grows, are_units, quantity_bounded, IsFirstAtLeast, IsFirstFound}
+use Rattle.std.proofs.Common.{add-one}
 use Rattle.std.proofs.lemmas.Option.{none-some}
-use Rattle.dl_exact.specs.Fraction.{Fraction, whole, ◌over◌, ◌≤ℚ◌, ◌<ℚ◌}
-use Rattle.dl_exact.proofs.Over.{over_self, over_le, over_lt, lt_over}
-use Rattle.dl_exact.proofs.Laws.{le_trans}
-use Rattle.dl_iv.specs.declared.interval.Iv.{Iv}
-use Rattle.dl_grid.specs.Cells.{low_at, high_at, spread, IsGrid}
-use Rattle.dl_grid.proofs.CellLaws.{scale_of, one_fits}
-use Rattle.dl_exact.specs.Count.{count_below}
-use Rattle.dl_model.specs.Program.{Aggregate, AreDeclarable, One}
-use Rattle.dl_model.specs.Family.{total, Encloses, GridEncloses}
-use Rattle.dl_model.specs.Measures.{IsQuantile, IsBracketed, AreDeclared}
-use Rattle.dl_measures.specs.Ends.{low_cdf, high_cdf, IsTight}
-use Rattle.dl_exact.proofs.Counts.{below_nothing, below_grows}
 use Rattle.dl_model.proofs.Bracket.{quantile_inside}
 use Rattle.dl_measures.proofs.FoundBrackets.{bracket, tight, high_rises}
-use Rattle.dl_model.proofs.Bounded.{are_units, quantity_bounded, whole_positive}
-use Rattle.dl_measures.specs.Brackets.{IsFirstAtLeast, IsFirstFound}
+use Rattle.dl_model.proofs.Bounded.{whole_positive}
 use Rattle.dl_measures.proofs.Sums.{apart, low_high, low_most, high_most}
 
 -- ---- a sum of units against the probability

@@ -1,12 +1,9 @@
 -- The sums of the ends of a grid's first cells, as a loop makes them.
-use Rattle.std.proofs.Common.{ℕ, zero, suc, ◌≡◌, ◌+◌, ◌-◌, ◌*◌, ◌^◌, ◌<◌, ◌≤◌, List, [], ◌∷◌, length, get_or, take, arith, refl}
+use Rattle.dl_measures.proofs.Common.{ℕ, zero, suc, ◌≡◌, ◌+◌, ◌-◌, ◌*◌, ◌^◌, ◌<◌, ◌≤◌, List, length, arith, refl, mul-le-mul, Iv, low_at, high_at, spread, IsGrid, scale_of, one_fits, count_below, below_bound}
+use Rattle.std.proofs.Common.{[], ◌∷◌, get_or, take}
 use Rattle.std.proofs.lemmas.List.Sums.{sum_by-cons}
-use Rattle.std.proofs.Math.Nat.{mul-le-mul}
-use Rattle.dl_iv.specs.declared.interval.Iv.{Iv}
-use Rattle.dl_grid.specs.Cells.{low_at, high_at, mass_high, spread, IsGrid}
-use Rattle.dl_grid.proofs.CellLaws.{scale_of, one_fits}
-use Rattle.dl_exact.specs.Count.{count_below}
-use Rattle.dl_exact.proofs.Counts.{below_first, below_bound}
+use Rattle.dl_grid.specs.Cells.{mass_high}
+use Rattle.dl_exact.proofs.Counts.{below_first}
 use Rattle.dl_grid.proofs.PlaceSums.{low_within, width_within, high_is}
 
 -- where there are no cells, the high ends are 0

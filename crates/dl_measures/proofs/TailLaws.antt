@@ -1,30 +1,18 @@
 -- From the excess over the low end of a bracket to the tail mean.
-use Rattle.std.proofs.Common.{ℕ, suc, ◌≡◌, inl, inr, ◌+◌, ◌-◌, ◌*◌, ◌/◌, ◌^◌, ◌<◌, ◌≤◌, min, List, length, arith, sym, ap, ap₂, subst, subst₂, ◌∙◌, div-add-mod'}
-use Rattle.std.specs.Prelude.{Some, None}
-use Rattle.std.specs.Int.{div_ceil}
-use Rattle.std.proofs.Math.Nat.{mul-le-mul, mul-le-mul_right, mul-le-mul_left, mul-pos, div-mul-le_self, div-le_self, mod-lt}
-use Rattle.std.proofs.lemmas.Nat.{pow_pos}
+use Rattle.dl_measures.proofs.Common.{ℕ, suc, ◌≡◌, inl, inr, ◌+◌, ◌-◌, ◌*◌, ◌/◌, ◌^◌, ◌<◌, ◌≤◌, min, List, length, arith, sym, ap, ap₂, subst, subst₂, ◌∙◌, Some, None, div_ceil, mul-le-mul, mul-le-mul_right, pow_pos, cases_lt, Fraction, whole, ◌over◌, ◌+ℚ◌, ◌-ℚ◌, ◌*ℚ◌, ◌≤ℚ◌, ◌<ℚ◌, over_self, over_same, over_le, over_lt, lt_over, one_pos, le_trans, lt_not_le, Iv, low_at, high_at, spread, IsGrid, scale_of, one_fits, IsBound, AtMost, AtLeast, Holds, count_below, Aggregate, One, Cdf, Layer, partial_sums, IsQuantile, AreDeclared, low_cdf, high_cdf, IsTight, at_most_wider, are_units, quantity_bounded, IsFirstAtLeast, IsFirstFound}
+use Rattle.std.proofs.Common.{div-add-mod'}
+use Rattle.std.proofs.Math.Nat.{mul-le-mul_left, mul-pos, div-mul-le_self, div-le_self, mod-lt}
 use Rattle.std.proofs.lemmas.List.{take_all}
-use Rattle.std.proofs.lemmas.Bool.{cases_lt}
-use Rattle.dl_exact.specs.Fraction.{Fraction, whole, ◌over◌, ◌+ℚ◌, ◌-ℚ◌, ◌*ℚ◌, ◌/ℚ◌, ◌≤ℚ◌, ◌<ℚ◌}
-use Rattle.dl_exact.proofs.Over.{over_self, over_same, over_le, over_lt, lt_over, over_add, over_mul, over_div}
-use Rattle.dl_exact.proofs.Laws.{one_pos, le_refl, le_trans, le_plus, lt_not_le, lt_of_le_of_lt, times_le_both}
+use Rattle.dl_exact.specs.Fraction.{◌/ℚ◌}
+use Rattle.dl_exact.proofs.Over.{over_add, over_mul, over_div}
+use Rattle.dl_exact.proofs.Laws.{le_refl, le_plus, lt_of_le_of_lt, times_le_both}
 use Rattle.dl_exact.proofs.RoundingLaws.{div_ceil_least, whole_le}
-use Rattle.dl_iv.specs.declared.interval.Iv.{Iv}
 use Rattle.dl_iv.proofs.Rounding.{ceiling_reaches}
-use Rattle.dl_grid.specs.Cells.{low_at, high_at, spread, IsGrid}
 use Rattle.dl_grid.proofs.WidthLaws.{up_quotient}
-use Rattle.dl_grid.proofs.CellLaws.{scale_of, one_fits, sum_fits, width_within}
-use Rattle.dl_model.specs.Series.{IsBound, AtMost, AtLeast, Holds}
-use Rattle.dl_exact.specs.Count.{count_below}
-use Rattle.dl_model.specs.Program.{Aggregate, One, Cdf, Layer, Tail, partial_sums}
-use Rattle.dl_model.specs.Measures.{IsQuantile, AreDeclared}
-use Rattle.dl_measures.specs.Ends.{low_cdf, high_cdf, IsTight}
-use Rattle.dl_model.proofs.Declared.{at_most_wider}
+use Rattle.dl_grid.proofs.CellLaws.{sum_fits, width_within}
+use Rattle.dl_model.specs.Program.{Tail}
 use Rattle.dl_model.proofs.TailScores.{tail_excess}
 use Rattle.dl_model.proofs.TailEnds.{tail_least, tail_most}
-use Rattle.dl_model.proofs.Bounded.{are_units, quantity_bounded}
-use Rattle.dl_measures.specs.Brackets.{IsFirstAtLeast, IsFirstFound}
 use Rattle.dl_grid.specs.Width.{tail_width}
 use Rattle.dl_measures.proofs.Sums.{low_high, low_most}
 

@@ -1,17 +1,6 @@
 -- What an enclosing grid weighs, and how wide its ends are.
-use Rattle.std.proofs.Common.{◌≡◌, inl, inr, ℕ, suc, zero, ◌+◌, ◌-◌, ◌*◌, ◌<◌, ◌≤◌, min, arith, List}
-use Rattle.std.proofs.lemmas.Bool.{cases_lt}
-use Rattle.dl_exact.specs.Fraction.{Fraction, whole, ◌<ℚ◌}
-use Rattle.dl_exact.proofs.Over.{over_lt}
-use Rattle.dl_exact.proofs.Laws.{one_pos}
-use Rattle.dl_model.specs.Series.{IsBound}
-use Rattle.dl_exact.specs.Count.{count_below}
-use Rattle.dl_model.specs.Program.{Aggregate, AreDeclarable, One, Cdf, score, partial_sums}
-use Rattle.dl_model.specs.Family.{total, Encloses}
-use Rattle.dl_measures.specs.Ends.{low_cdf}
+use Rattle.dl_measures.proofs.Common.{◌≡◌, inl, inr, ℕ, suc, zero, ◌+◌, ◌-◌, ◌*◌, ◌<◌, ◌≤◌, min, arith, List, cases_lt, Fraction, whole, ◌<ℚ◌, over_lt, one_pos, IsBound, count_below, Aggregate, AreDeclarable, One, Cdf, score, partial_sums, total, Encloses, low_cdf, outcomes_rise, cdf_most_one}
 use Rattle.dl_model.proofs.Alike.{not_both}
-use Rattle.dl_model.proofs.Outcomes.{outcomes_rise}
-use Rattle.dl_model.proofs.Ends.{cdf_most_one}
 use Rattle.dl_measures.proofs.CellEnds.{cdf_ends}
 
 -- the low ends of an enclosing grid add up to at most S

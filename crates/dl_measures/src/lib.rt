@@ -12,8 +12,6 @@ pub mod laws;
 mod layers;
 mod quantiles;
 mod tails;
-#[cfg(test)]
-mod tests;
 
 pub use layers::layer_mean;
 pub use quantiles::{Bracket, quantile};

@@ -1,28 +1,21 @@
 -- What encloses a sum of units after one more is taken in, and how wide it is.
-use Rattle.std.proofs.Common.{ℕ, zero, suc, ◌≡◌, ◌+◌, ◌-◌, ◌*◌, ◌/◌, ◌^◌, ◌<◌, ◌≤◌, List, [], ◌∷◌, ◌++◌, length, get_or, take, drop, map, arith, refl, sym, ap, ap₂, subst, subst₂, ◌∙◌, append_assoc, zero-add, add-one}
+use Rattle.dl_port.proofs.Common.{ℕ, zero, suc, ◌≡◌, ◌+◌, ◌-◌, ◌^◌, ◌<◌, ◌≤◌, List, [], ◌∷◌, ◌++◌, length, get_or, take, drop, map, arith, refl, sym, ap, ap₂, subst, subst₂, ◌∙◌, fold, remove, pow_pos, fold_more, sum_by-take-le, get_or-map, get_or_default, length-map, length-take, take_all, drop_all, Iv, IsConvolution, spread, cv, sum_spread, cv_rises, Aggregate, IsDeclarable, AreDeclarable, mapped, total, GridEncloses, unit_of, without_suc, EncloseEach}
+use Rattle.std.proofs.Common.{append_assoc, zero-add}
 use Rattle.std.specs.Prelude.{All}
-use Rattle.std.specs.List.{fold, remove}
-use Rattle.std.proofs.lemmas.Nat.{pow_pos}
 use Rattle.std.proofs.lemmas.List.Elements.{All-take, All-drop}
 use Rattle.std.proofs.Math.Nat.{suc-add}
-use Rattle.std.proofs.lemmas.List.Sums.{fold_more, fold-append, sum_by-cons, sum_by-take-le}
-use Rattle.std.proofs.lemmas.List.{get_or-map, get_or_default, get_or-take, get_or-drop, length-map, length-take, length-drop, take_all, drop_all, map-append}
+use Rattle.std.proofs.lemmas.List.Sums.{fold-append}
+use Rattle.std.proofs.lemmas.List.{get_or-take, get_or-drop, length-drop, map-append}
 use Rattle.dl_exact.specs.Fraction.{◌over◌}
-use Rattle.dl_iv.specs.declared.interval.Iv.{Iv}
-use Rattle.dl_grid.specs.Convolution.{IsConvolution}
-use Rattle.dl_grid.specs.Cells.{low_at, high_at, spread, all_at_zero}
-use Rattle.dl_grid.specs.Width.{cv, sum_spread}
-use Rattle.dl_grid.proofs.WidthLaws.{cv_rises}
+use Rattle.dl_grid.specs.Cells.{low_at, high_at, all_at_zero}
 use Rattle.dl_grid.proofs.CellSets.{low_take, high_take}
 use Rattle.dl_model.specs.Series.{Holds}
-use Rattle.dl_model.specs.Program.{Aggregate, IsDeclarable, AreDeclarable, sum_over_outcomes}
-use Rattle.dl_model.specs.Family.{Family, mapped, total, product, nothing, IsProper, GridEncloses}
-use Rattle.dl_model.specs.Measures.{unit_of, without}
+use Rattle.dl_model.specs.Program.{sum_over_outcomes}
+use Rattle.dl_model.specs.Family.{Family, product, nothing}
+use Rattle.dl_model.specs.Measures.{without}
 use Rattle.dl_model.proofs.FamilyLaws.{convolution_encloses, encloses_same}
-use Rattle.dl_model.proofs.FiniteCounts.{nothing_encloses}
-use Rattle.dl_model.proofs.Without.{without_suc}
+use Rattle.dl_model.proofs.FiniteCounts.{all_at_zero_encloses}
 use Rattle.dl_model.proofs.Outcomes.{no_units as nowhere, total_alone, total_alone_all, total_append, total_append_all, total_proper}
-use Rattle.dl_port.specs.Sums.{EncloseEach}
 
 -- ---- lists of units
 
@@ -205,15 +198,10 @@ further_spread S k x y (z ∷ zs) more pos some h g =
 
 pub no_units : {B : ℕ} (g : List (Iv B)) → ((x : ℕ) → low_at g x ≡ all_at_zero (2 ^ B) x)
     → ((x : ℕ) → high_at g x ≡ all_at_zero (2 ^ B) x) → GridEncloses g (total [])
-unfolding sum_over_outcomes all_at_zero
+unfolding sum_over_outcomes
 no_units {B} g low high =
     encloses_same (2 ^ B) (length g) (low_at g) (high_at g) nothing (total []) (λ x N. sym (nowhere x N)) (λ N. refl)
-    (nothing_encloses (2 ^ B) (length g) (low_at g) (high_at g) (pow_pos B) (omega (arith, low 0))
-    (omega (arith, high 0)) (none low))
-  where
-    none : ((x : ℕ) → low_at g x ≡ all_at_zero (2 ^ B) x) → (y : ℕ) → 0 < y → low_at g y ≡ 0
-    none e zero h = absurd (omega arith)
-    none e (suc y) h = e (suc y)
+    (all_at_zero_encloses g low high)
 
 -- ---- the sum of all units but one
 

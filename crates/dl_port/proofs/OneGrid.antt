@@ -1,14 +1,8 @@
 -- What encloses the sum of units that have one grid.
-use Rattle.std.proofs.Common.{ℕ, zero, suc, ◌≡◌, ◌+◌, ◌-◌, ◌*◌, ◌/◌, ◌^◌, ◌<◌, ◌≤◌, List, [], ◌∷◌, ◌++◌, length, get_or, take, drop, replicate, arith, refl, sym, ap, ap₂, subst, ◌∙◌, rules}
-use Rattle.std.specs.Prelude.{Bool, false, IsTrue, ◌↔◌, Option, None, IsSome, IfSome}
-use Rattle.std.proofs.lemmas.List.{get_or_default, take_all, take-replicate, drop-replicate, take-append-drop}
-use Rattle.dl_iv.specs.declared.interval.Iv.{Iv}
-use Rattle.dl_grid.specs.Convolution.{IsConvolution}
-use Rattle.dl_grid.specs.Cells.{low_at, high_at}
-use Rattle.dl_model.specs.Program.{Aggregate, AreDeclarable}
-use Rattle.dl_model.specs.Family.{total, GridEncloses}
-use Rattle.dl_port.specs.Sums.{EncloseEach}
-use Rattle.dl_port.specs.Shared.{IsTotal, IsSumWithout, AreSumsWithout}
+use Rattle.dl_port.proofs.Common.{ℕ, zero, suc, ◌≡◌, ◌+◌, ◌-◌, ◌<◌, ◌≤◌, List, [], ◌∷◌, ◌++◌, length, get_or, take, drop, arith, refl, sym, ap, ap₂, subst, ◌∙◌, false, IsTrue, ◌↔◌, Option, None, IsSome, IfSome, get_or_default, Iv, IsConvolution, Aggregate, AreDeclarable, total, GridEncloses, EncloseEach, IsTotal, IsSumWithout}
+use Rattle.std.proofs.Common.{replicate, rules}
+use Rattle.std.proofs.lemmas.List.{take-replicate, drop-replicate, take-append-drop}
+use Rattle.dl_port.specs.Shared.{AreSumsWithout}
 use Rattle.dl_port.proofs.Added.{units_first, units_after, each_first, each_after, alone, first_cells, two_sums}
 
 -- some of these units, and the others

@@ -1,24 +1,11 @@
 -- Sums of the first units and of the last, and what they add up to.
-use Rattle.std.proofs.Common.{ℕ, zero, suc, ◌≡◌, ◌+◌, ◌-◌, ◌*◌, ◌/◌, ◌^◌, ◌<◌, ◌≤◌, List, [], ◌∷◌, ◌++◌, length, get_or, take, drop, map, inl, inr, arith, refl, sym, ap, ap₂, subst, subst₂, ◌∙◌, add-one}
-use Rattle.std.specs.Prelude.{Bool, true, false, IsTrue, Any, Option, Some, None, IfSome, MatchOption}
-use Rattle.std.specs.Option.{option_to_list}
-use Rattle.std.specs.List.{fold, remove, slice_get}
-use Rattle.std.proofs.lemmas.List.Sums.{fold_more, sum_by-take-le}
-use Rattle.std.proofs.lemmas.Nat.{pow_pos}
-use Rattle.std.proofs.lemmas.List.{get_or-map, get_or_append_left, get_or_default, length-map, length-append, length-take, take_all, drop_all}
+use Rattle.dl_port.proofs.Common.{ℕ, zero, suc, ◌≡◌, ◌+◌, ◌-◌, ◌^◌, ◌<◌, ◌≤◌, List, [], ◌∷◌, ◌++◌, length, get_or, take, drop, map, arith, refl, sym, ap, ap₂, subst, subst₂, ◌∙◌, add-one, false, IsTrue, Option, Some, None, IfSome, option_to_list, fold, remove, slice_get, fold_more, sum_by-take-le, pow_pos, get_or-map, get_or_default, length-map, length-append, length-take, take_all, drop_all, Iv, Aggregate, IsDeclarable, AreDeclarable, mapped, total, GridEncloses, unit_of, IsConvolution, spread, cv, sum_spread, cv_rises, without_suc, EnclosesSum, IsSumOfPart, IsTotal, IsSumWithout, AreSumsOfEnds}
+use Rattle.std.proofs.Common.{inl, inr}
+use Rattle.std.specs.Prelude.{Bool, true, Any, MatchOption}
+use Rattle.std.proofs.lemmas.List.{get_or_append_left}
 use Rattle.std.proofs.lemmas.Option.{slice_get-get_or}
 use Rattle.std.proofs.lemmas.Bool.{cases_lt}
 use Rattle.std.proofs.Math.Seq.{get_or-append_seam}
-use Rattle.dl_iv.specs.declared.interval.Iv.{Iv}
-use Rattle.dl_model.specs.Program.{Aggregate, IsDeclarable, AreDeclarable}
-use Rattle.dl_model.specs.Family.{mapped, total, GridEncloses}
-use Rattle.dl_model.specs.Measures.{unit_of}
-use Rattle.dl_grid.specs.Convolution.{IsConvolution}
-use Rattle.dl_grid.specs.Cells.{low_at, high_at, spread}
-use Rattle.dl_grid.specs.Width.{cv, sum_spread}
-use Rattle.dl_grid.proofs.WidthLaws.{cv_rises}
-use Rattle.dl_model.proofs.Without.{without_suc}
-use Rattle.dl_port.specs.Shared.{EnclosesSum, IsSumOfPart, IsTotal, IsSumWithout, AreSumsOfEnds}
 use Rattle.dl_port.proofs.Added.{first_cells, units_first, units_after, unit_at, alone, joins, encloses_at}
 
 append_none : {A : Type 0} (xs : List A) → xs ++ [] ≡ xs

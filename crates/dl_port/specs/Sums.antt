@@ -1,8 +1,6 @@
 -- Sums of units: which units a list of grids encloses, and how wide the grid of their sum may be.
-use Rattle.std.specs.Prelude.{ℕ, ◌≡◌, ◌<◌, List, [], ◌∷◌, length, get_or}
-use Rattle.std.specs.List.{fold}
+use Rattle.std.specs.Prelude.{ℕ, ◌≡◌, ◌<◌, List, [], length, get_or}
 use Rattle.dl_iv.specs.declared.interval.Iv.{Iv}
-use Rattle.dl_grid.specs.Width.{cv}
 use Rattle.dl_model.specs.Program.{Aggregate}
 use Rattle.dl_model.specs.Family.{GridEncloses}
 use Rattle.dl_model.specs.Measures.{unit_of}

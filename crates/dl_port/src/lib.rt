@@ -9,18 +9,16 @@
 
 mod runs;
 mod shared;
-#[cfg(test)]
-mod tests;
 mod widths;
 
 ghost use Rattle.std.specs.Prelude.{◌≡◌, ℕ, ◌^◌, ◌<◌, ◌≤◌, List, [], ◌++◌, length, map, All, IfOk};
-ghost use Rattle.std.specs.List.{fold, remove};
+ghost use Rattle.dl_port.specs.Sums.{EncloseEach};
 ghost use Rattle.dl_grid.specs.Cells.{spread};
+ghost use Rattle.std.specs.List.{fold, remove};
+ghost use Rattle.dl_model.specs.Measures.{without};
 ghost use Rattle.dl_grid.specs.Width.{cv, sum_spread};
 ghost use Rattle.dl_model.specs.Program.{Aggregate, AreDeclarable};
 ghost use Rattle.dl_model.specs.Family.{total, GridEncloses};
-ghost use Rattle.dl_model.specs.Measures.{without};
-ghost use Rattle.dl_port.specs.Sums.{EncloseEach};
 
 use dl_grid::Grid;
 use dl_product::{Workspace, product};

@@ -2,12 +2,12 @@
 //! units but one is one product: of the sum of the units before it, and of the sum of those after
 //! it.
 
-ghost use Rattle.std.specs.Prelude.{◌≡◌, ℕ, ◌^◌, ◌<◌, ◌≤◌, ◌↔◌, suc, List, [], ◌∷◌, length, ◌++◌, take, drop, get_or, false, IsTrue, IsSome, Any, All, IfOk, IfSome};
+ghost use Rattle.std.specs.Prelude.{◌≡◌, ℕ, ◌+◌, ◌^◌, ◌<◌, ◌≤◌, ◌↔◌, suc, List, [], ◌∷◌, length, ◌++◌, take, drop, get_or, false, IsTrue, IsSome, Any, All, IfOk, OnOk, IfSome};
 ghost use Rattle.std.specs.Option.{option_copied};
 ghost use Rattle.dl_limits.specs.Limits.{most_units};
 ghost use Rattle.dl_model.specs.Program.{Aggregate, AreDeclarable};
 ghost use Rattle.dl_model.specs.Family.{total, GridEncloses};
-ghost use Rattle.dl_port.specs.Shared.{EnclosesSum, IsSumOfPart, AreSuffixSums, IsTotal, IsSumWithout, AreSumsWithout};
+ghost use Rattle.dl_port.specs.Shared.{EnclosesSum, IsSumOfPart, AreSuffixSums, IsTotal, IsSumWithout, AreSumsWithout, AreFirstWithout};
 
 use crate::widths::spread_without;
 use crate::{no_units, others_with, total_with};
@@ -130,6 +130,36 @@ fn others_where_asked<const B: u32>(
     Ok(Some(sum))
 }
 
+/// The sum of all units but unit `i`, where it is asked for, joins those without each unit before
+/// it, and the sum of the units after it leaves `ends`.
+fn push_without<const B: u32>(
+    alloc: Global,
+    work: &mut Workspace,
+    units: &[Grid<B>],
+    asked: &[bool],
+    i: u32,
+    before: Option<&Grid<B>>,
+    ends: &mut Vec<Grid<B>>,
+    others: &mut Vec<Option<Grid<B>>>,
+    cells: u32,
+) -> Result<(), AllocError>
+    requires unit { i < length units.now }
+    requires many { length others.old.items ≡ i }
+    requires asked { length asked.now ≡ length units.now }
+    requires some { 1 ≤ cells }
+    requires in_each { All (λ g. cells ≤ length g) units.now }
+    requires before { IsSumOfPart cells units.now (take i) (option_copied before) }
+    requires parts { AreFirstWithout cells units.now asked.now others.old.items ends.old.items }
+    ensures many { OnOk result (length others.new.items ≡ i + 1) }
+    ensures parts { OnOk result (AreFirstWithout cells units.now asked.now
+        others.new.items ends.new.items) }
+{
+    let after = ends.pop();
+    let sum = others_where_asked(alloc, work, units, asked, i, before, after.as_ref(), cells)?;
+    others.push(sum)?;
+    Ok(())
+}
+
 /// The first `cells` cells of the sum of all units, and for each unit that is asked for, of the sum
 /// of all other units. These are as wide as those of `total` and `others` may be, and come from
 /// sums that they share: where none comes out wider, at most three products for each unit, however
@@ -152,23 +182,31 @@ pub fn total_and_others<const B: u32>(
 {
     let mut ends = ends_where_asked(alloc, work, units, asked, cells)?;
     let mut others = Vec::new(alloc);
-    let after = ends.pop();
-    let first = others_where_asked(alloc, work, units, asked, 0, None, after.as_ref(), cells)?;
-    others.push(first)?;
+    push_without(
+        alloc,
+        work,
+        units,
+        asked,
+        0,
+        None,
+        &mut ends,
+        &mut others,
+        cells,
+    )?;
     let mut total = Grid::truncate(alloc, &units[0], cells)?;
     for i in 1..units.len() {
-        let after = ends.pop();
-        let sum = others_where_asked(
+        let before = Some(&total);
+        push_without(
             alloc,
             work,
             units,
             asked,
             i as u32,
-            Some(&total),
-            after.as_ref(),
+            before,
+            &mut ends,
+            &mut others,
             cells,
         )?;
-        others.push(sum)?;
         total = product(alloc, work, &total, &units[i], cells)?;
     }
     Ok(Sums { total, others })

@@ -1,6 +1,4 @@
-use Rattle.std.proofs.Common.{◌≤◌, length, arith}
-use Rattle.std.specs.Prelude.{All}
-use Rattle.std.proofs.lemmas.Result.{IfOk-weaker}
+use Rattle.dl_port.proofs.Common.{arith, IfOk-weaker}
 use Rattle.dl_port.proofs.Added.{to_the_end, all_within}
 use Rattle.dl_port.proofs.OneGrid.{first_run, with_rest}
 use Rattle.dl_port.proofs.first_together.Goals as goal

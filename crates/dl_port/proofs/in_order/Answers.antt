@@ -1,7 +1,5 @@
-use Rattle.std.proofs.Common.{◌≤◌, length, arith, ap, ◌∙◌}
+use Rattle.dl_port.proofs.Common.{length, arith, ap, ◌∙◌, IfOk-weaker, spread}
 use Rattle.std.proofs.lemmas.List.{length-take-le}
-use Rattle.std.proofs.lemmas.Result.{IfOk-weaker}
-use Rattle.dl_grid.specs.Cells.{spread}
 use Rattle.dl_port.proofs.Added.{all_units, all_spread, to_the_end, long_enough, all_within}
 use Rattle.dl_port.proofs.in_order.Goals as goal
 

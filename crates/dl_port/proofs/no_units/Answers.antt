@@ -1,7 +1,5 @@
-use Rattle.std.proofs.Common.{arith, sym, ◌∙◌}
-use Rattle.dl_grid.proofs.CellLaws.{scale_of}
+use Rattle.dl_port.proofs.Common.{arith, sym, ◌∙◌, scale_of, if_ok_two}
 use Rattle.dl_grid.proofs.CellSets.{spread_none}
-use Rattle.dl_exact.proofs.Results.{if_ok_two}
 use Rattle.dl_port.proofs.Added.{no_units}
 use Rattle.dl_port.proofs.no_units.Goals as goal
 

@@ -1,6 +1,4 @@
-use Rattle.std.proofs.Common.{◌≡◌, ◌≤◌, arith, refl, take, length}
-use Rattle.std.proofs.lemmas.Grind.{common_steps}
-use Rattle.std.proofs.lemmas.Result.{IfOk-weaker}
+use Rattle.dl_port.proofs.Common.{◌≡◌, ◌≤◌, arith, refl, take, length, common_steps, IfOk-weaker}
 use Rattle.dl_exact.proofs.Lists.{from_there}
 use Rattle.dl_port.proofs.Added.{both_sides, both_spreads, after_alone, alone_left}
 use Rattle.dl_port.proofs.others_with.Goals as goal

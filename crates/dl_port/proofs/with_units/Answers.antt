@@ -1,6 +1,5 @@
-use Rattle.std.proofs.Common.{◌≤◌, ◌++◌, take, arith, sym, ap, subst, add-one}
+use Rattle.dl_port.proofs.Common.{◌≤◌, ◌++◌, take, arith, sym, ap, subst, add-one, total, GridEncloses}
 use Rattle.std.specs.Prelude.{length}
-use Rattle.dl_model.specs.Family.{total, GridEncloses}
 use Rattle.dl_port.proofs.Added.{joins, widens, encloses_at, all_taken}
 use Rattle.dl_port.proofs.with_units.Goals as goal
 

@@ -1,10 +1,4 @@
-use Rattle.std.proofs.Common.{◌≡◌, ◌^◌, ◌≤◌, List, ◌++◌, length, map, take}
-use Rattle.std.specs.List.{fold}
-use Rattle.dl_grid.specs.Cells.{spread}
-use Rattle.dl_grid.specs.Width.{cv}
-use Rattle.dl_model.specs.Program.{Aggregate, AreDeclarable}
-use Rattle.dl_model.specs.Family.{total, GridEncloses}
-use Rattle.dl_port.specs.Sums.{EncloseEach}
+use Rattle.dl_port.proofs.Common.{◌≡◌, ◌^◌, ◌≤◌, List, ◌++◌, length, map, take, fold, spread, cv, Aggregate, AreDeclarable, total, GridEncloses, EncloseEach}
 use Rattle.dl_port.proofs.with_units.Given as goal
 
 abbrev pub invariant-loop-unit : goal.invariant-loop-unit

@@ -1,7 +1,5 @@
-use Rattle.std.proofs.Common.{◌^◌, arith}
-use Rattle.dl_grid.specs.Cells.{low_at, high_at}
-use Rattle.dl_grid.proofs.CellSets.{low_in_mass, mass_set, spread_set}
-use Rattle.dl_measures.proofs.Sums.{high_end}
+use Rattle.dl_cede.proofs.Common.{◌^◌, arith, low_at, high_at, spread_set, high_end}
+use Rattle.dl_grid.proofs.CellSets.{low_in_mass, mass_set}
 use Rattle.dl_cede.proofs.Walk.{low_more, high_more, not_here}
 use Rattle.dl_cede.proofs.grid.add_at.Goals as goal
 

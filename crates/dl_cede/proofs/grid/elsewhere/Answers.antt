@@ -1,10 +1,5 @@
-use Rattle.std.proofs.Common.{◌≡◌, ◌≢◌, ◌<◌, length, arith, sym, ap, subst, ◌∙◌}
-use Rattle.dl_exact.specs.Fraction.{whole}
-use Rattle.dl_plan.specs.Clause.{kept}
-use Rattle.dl_plan.specs.Fine.{IsWhole}
-use Rattle.dl_grid.specs.Cells.{low_at, high_at}
+use Rattle.dl_cede.proofs.Common.{◌≡◌, ◌≢◌, ◌<◌, length, arith, sym, ap, subst, ◌∙◌, whole, kept, IsWhole, low_at, high_at, sum_elsewhere}
 use Rattle.dl_exact.proofs.Counts.{below_nothing as count_below_none}
-use Rattle.dl_cede.specs.Kept.{sum_elsewhere}
 use Rattle.dl_cede.proofs.Walk.{elsewhere_other, elsewhere_same, elsewhere_not, elsewhere_fits, elsewhere_mass}
 use Rattle.dl_cede.proofs.grid.elsewhere.Goals as goal
 use Rattle.dl_cede.proofs.grid.elsewhere.Goals.{in-Some+then-x-from, in-Some+else-x-from, in_default}

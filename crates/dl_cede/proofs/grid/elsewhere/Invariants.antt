@@ -1,6 +1,4 @@
-use Rattle.std.proofs.Common.{◌≡◌}
-use Rattle.dl_grid.specs.Cells.{low_at, high_at}
-use Rattle.dl_cede.specs.Kept.{sum_elsewhere}
+use Rattle.dl_cede.proofs.Common.{◌≡◌, low_at, high_at, sum_elsewhere}
 use Rattle.dl_cede.proofs.grid.elsewhere.Given as goal
 
 abbrev pub invariant-loop-s : goal.invariant-loop-s

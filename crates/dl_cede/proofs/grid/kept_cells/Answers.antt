@@ -1,6 +1,4 @@
-use Rattle.std.proofs.Common.{◌≡◌, ◌<◌, length, arith, sym, ap, ◌∙◌}
-use Rattle.dl_exact.specs.Fraction.{whole}
-use Rattle.dl_plan.specs.Clause.{kept}
+use Rattle.dl_cede.proofs.Common.{◌≡◌, ◌<◌, length, arith, sym, ap, ◌∙◌, whole, kept}
 use Rattle.dl_cede.proofs.Ceded.{same_whole}
 use Rattle.dl_cede.proofs.Rest.{all_spread, rest_mass, rest_spread, rest_left, others_taken}
 use Rattle.dl_cede.proofs.grid.kept_cells.Goals as goal

@@ -1,7 +1,4 @@
-use Rattle.std.proofs.Common.{◌≡◌, arith, sym, ap, ◌∙◌}
-use Rattle.dl_exact.specs.Fraction.{Fraction}
-use Rattle.dl_plan.specs.Clause.{kept}
-use Rattle.dl_exact.proofs.Parts.{whole_den}
+use Rattle.dl_cede.proofs.Common.{◌≡◌, arith, sym, ap, ◌∙◌, Fraction, kept, whole_den}
 use Rattle.dl_cede.proofs.Ceded.{same_whole}
 use Rattle.dl_cede.proofs.grid.kept_past.Goals as goal
 

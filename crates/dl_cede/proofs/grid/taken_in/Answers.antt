@@ -1,12 +1,6 @@
-use Rattle.std.proofs.Common.{◌≡◌, ◌<◌, ◌^◌, length, min, arith, sym, ap, subst, ◌∙◌}
-use Rattle.dl_exact.specs.Fraction.{whole}
-use Rattle.dl_plan.specs.Clause.{kept}
-use Rattle.dl_plan.specs.Fine.{IsWhole}
-use Rattle.dl_grid.specs.Cells.{low_at, high_at}
+use Rattle.dl_cede.proofs.Common.{◌≡◌, ◌<◌, ◌^◌, length, min, arith, sym, ap, subst, ◌∙◌, whole, kept, IsWhole, low_at, high_at, width_at, sum_kept, high_end}
 use Rattle.dl_exact.proofs.Counts.{below_nothing as count_below_none}
-use Rattle.dl_cede.specs.Kept.{width_at, sum_kept}
 use Rattle.dl_cede.proofs.Walk.{kept_fits, kept_more, kept_more_clamped, from_none, whole_here, kept_not, whole_not}
-use Rattle.dl_measures.proofs.Sums.{high_end}
 use Rattle.dl_cede.proofs.grid.taken_in.Goals as goal
 use Rattle.dl_cede.proofs.grid.taken_in.Goals.{in-Some, in_default}
 
@@ -68,10 +62,10 @@ loop-s-preserved g c =
             );
             spread = omega (
               arith,
-              w.add_at.ensures.spread,
-              c.loop-s.invariant.spread,
               low,
               high,
+              w.add_at.ensures.spread,
+              c.loop-s.invariant.spread,
               whole_here c.args.cede.now
                   (width_at c.args.sums.now) c.loop-s.s w.in-Some.y here,
             );

@@ -1,7 +1,4 @@
-use Rattle.std.proofs.Common.{ℕ, ◌≡◌, ◌^◌, ◌<◌, ◌≤◌, min, length}
-use Rattle.dl_grid.specs.Cells.{low_at, high_at, mass_low, spread}
-use Rattle.dl_exact.specs.Count.{count_below}
-use Rattle.dl_cede.specs.Kept.{width_at, where_whole, sum_kept}
+use Rattle.dl_cede.proofs.Common.{ℕ, ◌≡◌, ◌^◌, ◌<◌, ◌≤◌, min, length, low_at, high_at, mass_low, spread, count_below, width_at, where_whole, sum_kept}
 use Rattle.dl_cede.proofs.grid.taken_in.Given as goal
 
 abbrev pub invariant-loop-s : goal.invariant-loop-s

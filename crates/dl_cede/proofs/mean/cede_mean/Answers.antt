@@ -1,5 +1,4 @@
-use Rattle.std.proofs.Common.{arith, length, ap}
-use Rattle.dl_grid.specs.Cells.{spread}
+use Rattle.dl_cede.proofs.Common.{arith, length, ap, spread}
 use Rattle.dl_plan.specs.MeanWidth.{mean_width}
 use Rattle.dl_cede.proofs.MeanEnds.{aggregate, edges_inside, plain_holds}
 use Rattle.dl_cede.proofs.mean.cede_mean.Goals as goal

@@ -1,13 +1,4 @@
-use Rattle.std.proofs.Common.{arith, ◌+◌, ◌≤◌, ◌^◌, length, ap, ◌∙◌}
-use Rattle.std.specs.List.{sum_by}
-use Rattle.std.proofs.lemmas.List.{take_all}
-use Rattle.dl_exact.specs.Fraction.{whole, ◌≤ℚ◌}
-use Rattle.dl_grid.specs.Cells.{spread}
-use Rattle.dl_grid.proofs.CellLaws.{one_fits}
-use Rattle.dl_plan.specs.declared.cede.CedeLayer.{CedeLayer}
-use Rattle.dl_plan.specs.Horizon.{edge}
-use Rattle.dl_plan.specs.Valid.{IsWithinMostAmount}
-use Rattle.dl_plan.specs.MeanWidth.{part_width}
+use Rattle.dl_cede.proofs.Common.{arith, ◌+◌, ◌≤◌, ◌^◌, length, ap, ◌∙◌, sum_by, take_all, whole, ◌≤ℚ◌, spread, one_fits, CedeLayer, edge, IsWithinMostAmount, part_width}
 use Rattle.dl_cede.proofs.MeanSizes.{each_at, more_most, more_width, most_fits, fine_shares}
 use Rattle.dl_cede.proofs.MeanEnds.{ceded_start, ceded_next, all_taken}
 use Rattle.dl_cede.proofs.mean.ceded_mean.Goals as goal

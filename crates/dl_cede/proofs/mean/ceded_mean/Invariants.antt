@@ -1,11 +1,6 @@
-use Rattle.std.proofs.Common.{ℕ, ◌-◌, ◌≤◌, ◌^◌, take, sum_by}
-use Rattle.dl_grid.specs.Cells.{spread}
+use Rattle.dl_cede.proofs.Common.{ℕ, ◌-◌, ◌≤◌, ◌^◌, take, spread, IsValidUnit, GridEncloses, compound_of, part_width, HoldsClaims, HoldsCeded}
+use Rattle.std.proofs.Common.{sum_by}
 use Rattle.dl_plan.specs.declared.plan.Unit.{Unit as UnitOfPlan}
-use Rattle.dl_plan.specs.Valid.{IsValidUnit}
-use Rattle.dl_model.specs.Family.{GridEncloses}
-use Rattle.dl_model.specs.Plans.{compound_of}
-use Rattle.dl_plan.specs.MeanWidth.{part_width}
-use Rattle.dl_cede.specs.Means.{HoldsClaims, HoldsCeded}
 use Rattle.dl_cede.proofs.MeanSizes.{mosts}
 use Rattle.dl_cede.proofs.mean.ceded_mean.Given as goal
 

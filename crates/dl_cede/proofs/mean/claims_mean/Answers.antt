@@ -1,4 +1,4 @@
-use Rattle.std.proofs.Common.{arith}
+use Rattle.dl_cede.proofs.Common.{arith}
 use Rattle.dl_cede.proofs.MeanSizes.{unit_small}
 use Rattle.dl_cede.proofs.MeanEnds.{claims_hold, nearest_ends}
 use Rattle.dl_cede.proofs.mean.claims_mean.Goals as goal

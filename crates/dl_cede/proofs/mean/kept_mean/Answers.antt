@@ -1,4 +1,4 @@
-use Rattle.std.proofs.Common.{sym, ◌∙◌}
+use Rattle.dl_cede.proofs.Common.{sym, ◌∙◌}
 use Rattle.dl_cede.proofs.MeanEnds.{ceded_holds, net_holds}
 use Rattle.dl_cede.proofs.mean.kept_mean.Goals as goal
 

@@ -1,6 +1,5 @@
-use Rattle.std.proofs.Common.{◌-◌, ◌≤◌, arith}
+use Rattle.dl_cede.proofs.Common.{◌-◌, ◌≤◌, arith, one_fits}
 use Rattle.dl_plan.proofs.Clauses.{num_le_den}
-use Rattle.dl_grid.proofs.CellLaws.{one_fits}
 use Rattle.dl_cede.proofs.MeanSizes.{most_small, share_fits, share_within, share_width, part_narrow}
 use Rattle.dl_cede.proofs.MeanEnds.{part_holds}
 use Rattle.dl_cede.proofs.mean.part_of.Goals as goal

@@ -1,8 +1,5 @@
-use Rattle.std.proofs.Common.{◌+◌, arith, sym, ap, ◌∙◌}
+use Rattle.dl_measures.proofs.Common.{◌+◌, arith, sym, ap, ◌∙◌, low_at, high_at, count_below, below_nothing}
 use Rattle.std.proofs.Math.Nat.{add-zero}
-use Rattle.dl_grid.specs.Cells.{low_at, high_at}
-use Rattle.dl_exact.specs.Count.{count_below}
-use Rattle.dl_exact.proofs.Counts.{below_nothing}
 use Rattle.dl_measures.proofs.Reached.{high_fits}
 use Rattle.dl_measures.proofs.LayerEnds.{low_more, high_more, one_cell_more, mean_fits}
 use Rattle.dl_measures.proofs.layers.finite_layer.Goals as goal

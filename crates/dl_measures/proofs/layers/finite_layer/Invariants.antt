@@ -1,6 +1,4 @@
-use Rattle.std.proofs.Common.{◌≡◌, ◌+◌}
-use Rattle.dl_grid.specs.Cells.{low_at, high_at}
-use Rattle.dl_exact.specs.Count.{count_below}
+use Rattle.dl_measures.proofs.Common.{◌≡◌, ◌+◌, low_at, high_at, count_below}
 use Rattle.dl_measures.proofs.LayerEnds.{low_units, high_units}
 use Rattle.dl_measures.proofs.layers.finite_layer.Given as goal
 

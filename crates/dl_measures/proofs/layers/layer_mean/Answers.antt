@@ -1,4 +1,4 @@
-use Rattle.std.proofs.Common.{◌-◌, refl}
+use Rattle.dl_measures.proofs.Common.{◌-◌, refl}
 use Rattle.dl_measures.proofs.LayerEnds.{some_holds, some_width, some_most, none_holds, none_width}
 use Rattle.dl_measures.proofs.layers.layer_mean.Goals as goal
 

@@ -1,7 +1,4 @@
-use Rattle.std.proofs.Common.{arith, sym, ◌∙◌}
-use Rattle.dl_grid.specs.Cells.{low_at, high_at}
-use Rattle.dl_grid.proofs.CellLaws.{scale_of}
-use Rattle.dl_exact.proofs.Counts.{below_nothing, below_more}
+use Rattle.dl_measures.proofs.Common.{arith, sym, ◌∙◌, low_at, high_at, scale_of, below_nothing, below_more}
 use Rattle.dl_measures.proofs.Reached.{high_fits}
 use Rattle.dl_measures.proofs.layers.sum_below.Goals as goal
 

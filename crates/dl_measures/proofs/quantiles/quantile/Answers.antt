@@ -1,7 +1,4 @@
-use Rattle.std.proofs.Common.{◌≡◌, ◌+◌, ◌*◌, ◌^◌, ◌<◌, arith, length, ◌∙◌}
-use Rattle.std.specs.Prelude.{Some, None}
-use Rattle.dl_grid.specs.Cells.{low_at, high_at}
-use Rattle.dl_grid.proofs.CellLaws.{scale_of}
+use Rattle.dl_measures.proofs.Common.{◌≡◌, ◌+◌, ◌*◌, ◌^◌, ◌<◌, arith, length, ◌∙◌, Some, None, low_at, high_at, scale_of}
 use Rattle.dl_measures.proofs.Reached.{start, passed, stayed, found_low, found_high, ended_low, ended_high, is_bracket, is_tight, is_around, product_fits, low_fits, high_fits, goal_fits}
 use Rattle.dl_measures.proofs.quantiles.quantile.Goals as goal
 use Rattle.dl_measures.proofs.quantiles.quantile.Goals.{then-high-den, else-high-den}

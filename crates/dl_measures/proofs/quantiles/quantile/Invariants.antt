@@ -1,4 +1,4 @@
-use Rattle.dl_grid.specs.Cells.{low_at, high_at}
+use Rattle.dl_measures.proofs.Common.{low_at, high_at}
 use Rattle.dl_measures.proofs.Reached.{Walked}
 use Rattle.dl_measures.proofs.quantiles.quantile.Given as goal
 

@@ -1,4 +1,4 @@
-use Rattle.std.proofs.Common.{◌-◌, ◌<◌, ◌≤◌, arith}
+use Rattle.dl_measures.proofs.Common.{◌-◌, ◌<◌, ◌≤◌, arith}
 use Rattle.dl_measures.proofs.TailLaws.{num_below, rest_above, product_most, quotient_fits}
 use Rattle.dl_measures.proofs.tails.over_the_rest.Goals as goal
 

@@ -1,12 +1,4 @@
-use Rattle.std.proofs.Common.{◌≡◌, ◌+◌, ◌-◌, ◌*◌, ◌/◌, ◌^◌, ◌≤◌, length, arith, ap, ap₂, subst, ◌∙◌}
-use Rattle.std.specs.Int.{div_ceil}
-use Rattle.std.proofs.lemmas.Nat.{pow_pos}
-use Rattle.dl_exact.specs.Fraction.{◌over◌}
-use Rattle.dl_exact.proofs.Laws.{lt_not_le}
-use Rattle.dl_grid.specs.Cells.{low_at, spread}
-use Rattle.dl_measures.specs.Ends.{low_cdf, IsTight}
-use Rattle.dl_model.proofs.Bounded.{are_units}
-use Rattle.dl_measures.specs.Brackets.{IsFirstFound}
+use Rattle.dl_measures.proofs.Common.{◌≡◌, ◌+◌, ◌-◌, ◌*◌, ◌/◌, ◌^◌, ◌≤◌, length, arith, ap, ap₂, subst, ◌∙◌, div_ceil, pow_pos, ◌over◌, lt_not_le, low_at, spread, low_cdf, IsTight, are_units, IsFirstFound}
 use Rattle.dl_measures.proofs.TailLaws.{in_order, near_level, tail_holds, tail_narrow, tail_most_units, buckets_fit, slack_fits, quotient_fits, rest_above}
 use Rattle.dl_measures.proofs.tails.tail_mean.Goals as goal
 

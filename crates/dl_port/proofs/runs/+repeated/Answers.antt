@@ -1,7 +1,6 @@
-use Rattle.std.proofs.Common.{◌+◌, ◌/◌, arith}
-use Rattle.std.proofs.lemmas.Result.{IfOk-weaker}
+use Rattle.dl_port.proofs.Common.{◌+◌, arith, IfOk-weaker, if_ok_two}
+use Rattle.std.proofs.Common.{◌/◌}
 use Rattle.dl_port.proofs.OneGrid.{single, single_first, both_parts}
-use Rattle.dl_exact.proofs.Results.{if_ok_two}
 use Rattle.dl_port.proofs.runs.+repeated.Goals as goal
 
 pub returns-then-many-eq1-clause-encloses : goal.returns-then-many-eq1-clause-encloses

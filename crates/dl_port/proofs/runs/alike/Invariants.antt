@@ -1,4 +1,4 @@
-use Rattle.std.proofs.Common.{ℕ, ◌≡◌, ◌<◌, ◌≤◌, [], get_or, length}
+use Rattle.dl_port.proofs.Common.{ℕ, ◌≡◌, ◌<◌, ◌≤◌, [], get_or, length}
 use Rattle.dl_port.proofs.runs.alike.Given as goal
 
 abbrev pub invariant-loop-i : goal.invariant-loop-i

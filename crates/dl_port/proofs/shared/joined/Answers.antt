@@ -1,10 +1,5 @@
-use Rattle.std.proofs.Common.{◌≤◌, length, ap, subst}
-use Rattle.std.specs.Prelude.{IfSome}
-use Rattle.std.specs.Option.{option_copied}
-use Rattle.std.proofs.lemmas.Result.{IfOk-weaker}
-use Rattle.dl_port.specs.Shared.{EnclosesSum}
+use Rattle.dl_port.proofs.Common.{◌≤◌, length, ap, subst, IfSome, option_copied, IfOk-weaker, EnclosesSum, if_ok_two}
 use Rattle.dl_port.proofs.Added.{two_sums}
-use Rattle.dl_exact.proofs.Results.{if_ok_two}
 use Rattle.dl_port.proofs.PartSums.{alone_before, alone_after, none_at_all}
 use Rattle.dl_port.proofs.shared.joined.Goals as goal
 

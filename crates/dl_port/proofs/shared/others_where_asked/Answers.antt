@@ -1,7 +1,4 @@
-use Rattle.std.proofs.Common.{arith, get_or}
-use Rattle.std.specs.Prelude.{IsTrue, false}
-use Rattle.std.specs.Option.{option_copied}
-use Rattle.std.proofs.lemmas.Grind.{common_steps}
+use Rattle.dl_port.proofs.Common.{arith, get_or, IsTrue, false, option_copied, common_steps}
 use Rattle.dl_port.proofs.PartSums.{both_parts}
 use Rattle.dl_port.proofs.shared.others_where_asked.Goals as goal
 

@@ -1,10 +1,4 @@
-use Rattle.std.proofs.Common.{◌≡◌, ◌+◌, ◌-◌, suc, List, [], ◌∷◌, length, drop, arith, sym, ap, subst, ◌∙◌}
-use Rattle.std.specs.Prelude.{Option}
-use Rattle.std.specs.Option.{option_copied}
-use Rattle.std.specs.List.{slice_get}
-use Rattle.std.proofs.lemmas.List.{length-append}
-use Rattle.dl_iv.specs.declared.interval.Iv.{Iv}
-use Rattle.dl_port.specs.Shared.{IsSumOfPart, AreSumsOfEnds}
+use Rattle.dl_port.proofs.Common.{◌≡◌, ◌+◌, ◌-◌, suc, List, [], ◌∷◌, length, drop, arith, sym, ap, subst, ◌∙◌, Option, option_copied, slice_get, length-append, Iv, IsSumOfPart, AreSumsOfEnds}
 use Rattle.dl_port.proofs.PartSums.{from_unit, last_end, one_more_end}
 use Rattle.dl_port.proofs.shared.sums_of_ends.Goals as goal
 

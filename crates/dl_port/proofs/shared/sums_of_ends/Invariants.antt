@@ -1,5 +1,4 @@
-use Rattle.std.proofs.Common.{◌≡◌, ◌+◌, ◌≤◌, length}
-use Rattle.dl_port.specs.Shared.{AreSumsOfEnds}
+use Rattle.dl_port.proofs.Common.{◌≡◌, ◌+◌, ◌≤◌, length, AreSumsOfEnds}
 use Rattle.dl_port.proofs.shared.sums_of_ends.Given as goal
 
 abbrev pub invariant-loop-i : goal.invariant-loop-i

@@ -1,6 +1,5 @@
-use Rattle.std.proofs.Common.{List, [], ◌∷◌, ◌++◌, None, ap, ◌∙◌}
-use Rattle.std.specs.Prelude.{Option}
-use Rattle.dl_iv.specs.declared.interval.Iv.{Iv}
+use Rattle.dl_port.proofs.Common.{List, [], ◌∷◌, ◌++◌, ap, ◌∙◌, Option, Iv}
+use Rattle.std.proofs.Common.{None}
 use Rattle.dl_port.proofs.OneGrid.{only_total, none_without}
 use Rattle.dl_port.proofs.shared.sums_of_one.Goals as goal
 

@@ -1,6 +1,4 @@
-use Rattle.std.proofs.Common.{◌^◌, arith, ap, ◌∙◌}
-use Rattle.dl_grid.specs.Width.{cv}
-use Rattle.dl_grid.proofs.CellLaws.{scale_of}
+use Rattle.dl_port.proofs.Common.{◌^◌, arith, ap, ◌∙◌, cv, scale_of}
 use Rattle.dl_port.proofs.PartSums.{one_wider}
 use Rattle.dl_port.proofs.widths.spread_with.Goals as goal
 
