@@ -1,27 +1,15 @@
 -- Units that are alike have the same grids and means.
-use Rattle.std.proofs.Common.{ℕ, ◌≡◌, ◌*◌, ◌^◌, ◌≤◌, List, [], ◌∷◌, length, take, arith, refl, sym, ap, ap₂, subst, subst₂, ◌∙◌}
-use Rattle.std.specs.Prelude.{Option}
+use Rattle.dl_eval.proofs.Common.{ℕ, ◌≡◌, ◌*◌, List, [], ◌∷◌, length, take, arith, sym, ap, ap₂, subst, subst₂, ◌∙◌, Option, whole, ◌over◌, Iv, spread, Holds, mapped, GridEncloses, Aggregate, One, Mean, partial_sums, outcome_after, aggregate_of, Clause, horizon, claims_budget, after_clause, unit_budget, unit_mean_budget, mean_width, S, IsUnitGrid, IsUnitMean}
 use Rattle.std.proofs.lemmas.List.{take_all}
-use Rattle.dl_exact.specs.Fraction.{Fraction, whole, ◌over◌, ◌*ℚ◌, ◌-ℚ◌}
-use Rattle.dl_iv.specs.declared.interval.Iv.{Iv}
-use Rattle.dl_grid.specs.Cells.{spread}
-use Rattle.dl_model.specs.Series.{Holds}
-use Rattle.dl_model.specs.Family.{mapped, GridEncloses}
-use Rattle.dl_model.specs.Program.{Aggregate, One, Mean, partial_sums}
-use Rattle.dl_model.specs.Plans.{count_weights, outcome_after, aggregate_of}
+use Rattle.dl_exact.specs.Fraction.{◌*ℚ◌, ◌-ℚ◌}
+use Rattle.dl_model.specs.Plans.{count_weights}
 use Rattle.dl_plan.specs.declared.item.Item.{Item}
 use Rattle.dl_plan.specs.declared.plan.Freq.{Freq}
 use Rattle.dl_plan.specs.declared.plan.Unit.{Unit as UnitOfPlan}
-use Rattle.dl_plan.specs.Clause.{Clause}
 use Rattle.dl_plan.specs.Count.{expected_count}
-use Rattle.dl_plan.specs.Horizon.{horizon}
 use Rattle.dl_plan.specs.Weighted.{weight_at, greatest}
-use Rattle.dl_budget.specs.Claims.{claims_budget, count_budget}
-use Rattle.dl_budget.specs.Units.{after_clause, unit_budget, unit_mean_budget}
-use Rattle.dl_plan.specs.MeanWidth.{mean_width}
-use Rattle.dl_eval.specs.Rows.{S}
+use Rattle.dl_budget.specs.Claims.{count_budget}
 use Rattle.dl_eval.specs.Same.{AreAlike}
-use Rattle.dl_eval.specs.Totals.{IsUnitGrid, IsUnitMean}
 
 -- a unit's aggregate loss, and its budget before its clause, from what alike units share
 abbrev loss : Freq → Option Clause → List Item → ℕ → Aggregate

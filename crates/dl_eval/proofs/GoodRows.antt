@@ -1,39 +1,23 @@
 -- The answer to each kind of ask, from the grid and the mean of the total.
-use Rattle.std.proofs.Common.{ℕ, suc, ◌≡◌, ◌+◌, ◌-◌, ◌^◌, ◌<◌, ◌≤◌, List, length, take, add-one, arith, inl, inr, sym, ap, subst, ◌∙◌}
-use Rattle.std.specs.Prelude.{Option, None, Some, min, MatchOption}
-use Rattle.std.proofs.Math.Nat.{mul-le-mul_left}
-use Rattle.std.proofs.lemmas.Nat.{pow_pos}
-use Rattle.std.proofs.lemmas.Bool.{cases_lt}
-use Rattle.dl_exact.specs.Fraction.{Fraction, ◌over◌, ◌+ℚ◌, ◌≤ℚ◌, ◌<ℚ◌}
-use Rattle.dl_exact.proofs.Laws.{le_refl, le_trans, plus_le_both, plus_le_cancel, lt_or_le, lt_not_le, sub_le_both}
-use Rattle.dl_iv.specs.declared.interval.Iv.{Iv}
-use Rattle.dl_exact.proofs.Denominators.{over_le_over, over_split as over_plus}
-use Rattle.dl_grid.specs.Cells.{low_at, high_at, mass_low, mass_high, spread, IsGrid}
+use Rattle.dl_eval.proofs.Common.{ℕ, suc, ◌≡◌, ◌+◌, ◌-◌, ◌^◌, ◌<◌, ◌≤◌, List, length, take, arith, inl, inr, sym, ap, subst, ◌∙◌, Option, None, Some, mul-le-mul_left, pow_pos, cases_lt, Fraction, ◌over◌, ◌+ℚ◌, ◌≤ℚ◌, ◌<ℚ◌, le_trans, lt_or_le, lt_not_le, Iv, over_le_over, low_at, high_at, spread, count_below, Holds, Aggregate, AreDeclarable, One, Point, Mean, partial_sums, total, GridEncloses, AreDeclared, low_cdf, aggregates_of, at_least_wider, at_most_wider, cdf_ends, plan_declared, plan_units, IsFirstAtLeast, Plan, IsValid, Row, total_budget, mean_budget, ask_budget, few_cells, S, Declares, IsBelow, at_the_end, IsAnswerTo, total_error, IsTotalOf, IsMeanOf, Prints}
+use Rattle.std.proofs.Common.{add-one}
+use Rattle.std.specs.Prelude.{min, MatchOption}
+use Rattle.dl_exact.proofs.Laws.{le_refl, plus_le_both, plus_le_cancel, sub_le_both}
+use Rattle.dl_exact.proofs.Denominators.{over_split as over_plus}
+use Rattle.dl_grid.specs.Cells.{mass_low, mass_high, IsGrid}
 use Rattle.dl_exact.proofs.Counts.{below_more}
 use Rattle.dl_grid.proofs.PlaceSums.{low_sum, width_at, high_is, width_within}
-use Rattle.dl_exact.specs.Count.{count_below}
-use Rattle.dl_model.specs.Series.{Holds, Below}
-use Rattle.dl_model.specs.Program.{Aggregate, AreDeclarable, One, Point, Cdf, Mean, Layer, partial_sums}
-use Rattle.dl_model.specs.Family.{total, GridEncloses}
-use Rattle.dl_model.specs.Measures.{IsBracketed, AreDeclared}
-use Rattle.dl_measures.specs.Ends.{low_cdf, high_cdf, IsTight}
-use Rattle.dl_model.specs.Plans.{aggregates_of}
-use Rattle.dl_model.proofs.Declared.{at_least_wider, at_most_wider}
-use Rattle.dl_measures.proofs.CellEnds.{cdf_ends}
-use Rattle.dl_model.proofs.PlanUnits.{plan_declared, plan_units}
-use Rattle.dl_measures.specs.Brackets.{IsFirstAtLeast, IsFirstFound}
+use Rattle.dl_model.specs.Series.{Below}
+use Rattle.dl_model.specs.Program.{Cdf, Layer}
+use Rattle.dl_model.specs.Measures.{IsBracketed}
+use Rattle.dl_measures.specs.Ends.{high_cdf, IsTight}
+use Rattle.dl_measures.specs.Brackets.{IsFirstFound}
 use Rattle.dl_grid.specs.Width.{layer_width}
 use Rattle.dl_measures.proofs.Sums.{high_mass, low_most, low_high, apart}
-use Rattle.dl_plan.specs.declared.plan.Plan.{Plan}
 use Rattle.dl_plan.specs.declared.settings.Ask.TheVariants as asks
-use Rattle.dl_plan.specs.Valid.{IsValid}
 use Rattle.dl_report.specs.declared.report.End.TheVariants.{Whole}
-use Rattle.dl_report.specs.declared.report.Row.{Row}
-use Rattle.dl_budget.specs.Units.{total_budget, mean_budget}
-use Rattle.dl_budget.specs.Asks.{ask_budget, layer_mean_budget}
-use Rattle.dl_budget.proofs.Horizons.{few_cells}
-use Rattle.dl_eval.specs.Rows.{S, Declares, IsBelow, at_the_end, IsBracket, IsAnswerTo, bracket_end, total_error}
-use Rattle.dl_eval.specs.Totals.{IsTotalOf, IsMeanOf, Prints}
+use Rattle.dl_budget.specs.Asks.{layer_mean_budget}
+use Rattle.dl_eval.specs.Rows.{IsBracket, bracket_end}
 use Rattle.dl_eval.proofs.Printed.{declared_ends}
 
 -- ---- probabilities

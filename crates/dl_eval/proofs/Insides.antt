@@ -1,11 +1,7 @@
 -- What asks have, and layers inside the grid.
-use Rattle.std.proofs.Common.{ℕ, ◌≡◌, ◌<◌, ◌≤◌, List, length, get_or, arith, sym, ap, subst, ◌∙◌}
-use Rattle.std.specs.Prelude.{Option, None, Some, All}
-use Rattle.dl_iv.specs.declared.interval.Iv.{Iv}
-use Rattle.dl_plan.specs.declared.settings.Asked.{Asked}
+use Rattle.dl_eval.proofs.Common.{ℕ, ◌≡◌, ◌<◌, ◌≤◌, List, length, get_or, arith, sym, ap, subst, ◌∙◌, Option, None, Some, All, Iv, Asked, IsInside}
 use Rattle.dl_plan.specs.declared.settings.Ask.TheVariants.{LayerMean}
 use Rattle.dl_plan.specs.Horizon.{edge_of}
-use Rattle.dl_budget.specs.Asks.{IsInside}
 
 -- an ask that was read there has what all have
 pub ask_has : (P : Asked → Type 0) (all asks : List Asked) (i : ℕ) (a : Asked) → all ≡ asks → a ≡ get_or all i a

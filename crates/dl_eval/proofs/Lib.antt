@@ -1,3 +1,4 @@
+mod Common
 pub mod Lists
 pub mod Places
 pub mod Insides
@@ -10,4 +11,3 @@ pub mod Means
 pub mod GoodRows
 pub mod Tails
 pub mod ShareLaws
-mod TestLaws

@@ -1,39 +1,20 @@
 -- The mean of a total, from those of its units.
-use Rattle.std.proofs.Common.{ℕ, suc, ◌≡◌, ◌+◌, ◌-◌, ◌*◌, ◌^◌, ◌≤◌, List, [], ◌∷◌, length, map, arith, refl, sym, ap, subst, subst₂, ◌∙◌}
-use Rattle.std.specs.Prelude.{Option, None, Some, All}
-use Rattle.std.specs.List.{sum_by, zip}
-use Rattle.std.proofs.Math.Nat.{mul-le-mul_left}
-use Rattle.std.proofs.lemmas.Nat.{pow_pos}
+use Rattle.dl_eval.proofs.Common.{ℕ, suc, ◌≡◌, ◌+◌, ◌-◌, ◌*◌, ◌^◌, ◌≤◌, List, [], ◌∷◌, length, map, arith, refl, sym, ap, subst, subst₂, ◌∙◌, Option, None, Some, All, mul-le-mul_left, pow_pos, Fraction, whole, ◌over◌, ◌+ℚ◌, Iv, spread, Holds, One, Mean, partial_sums, aggregate_of, unit_declared, CedeLayer, Plan, Clause, IsHorizonOf, horizon, IsValidUnit, IsValid, claims_budget, mean_width, unit_mean_budget, one_horizon, S, IsUnitMean, AreUnitMeans, IsMeanOf}
+use Rattle.std.specs.List.{sum_by}
 use Rattle.std.proofs.lemmas.List.Elements.{All-head, All-tail}
 use Rattle.std.proofs.lemmas.List.Sums.{sum_by-cons}
-use Rattle.dl_exact.specs.Fraction.{Fraction, whole, ◌over◌, ◌+ℚ◌}
 use Rattle.dl_exact.specs.Sum.{sum_over}
 use Rattle.dl_exact.proofs.Over.{over_same}
 use Rattle.dl_exact.proofs.Laws.{one_pos}
-use Rattle.dl_iv.specs.declared.interval.Iv.{Iv}
 use Rattle.dl_exact.proofs.Denominators.{over_split as over_plus}
-use Rattle.dl_grid.specs.Cells.{spread}
-use Rattle.dl_model.specs.Series.{Holds}
-use Rattle.dl_model.specs.Program.{One, Mean, partial_sums}
-use Rattle.dl_model.specs.Plans.{aggregate_of}
 use Rattle.dl_model.proofs.Bounded.{are_units}
 use Rattle.dl_model.proofs.ClauseMeans.{no_clause}
 use Rattle.dl_model.proofs.Means.{mean_of_total}
-use Rattle.dl_model.proofs.PlanUnits.{unit_declared, units_declared}
+use Rattle.dl_model.proofs.PlanUnits.{units_declared}
 use Rattle.dl_model.proofs.PlanMeans.{MeanHolds, units_mean}
-use Rattle.dl_plan.specs.declared.cede.CedeLayer.{CedeLayer}
 use Rattle.dl_plan.specs.declared.plan.Unit.{Unit as UnitOfPlan}
-use Rattle.dl_plan.specs.declared.plan.Plan.{Plan}
-use Rattle.dl_plan.specs.Clause.{Clause}
-use Rattle.dl_plan.specs.Horizon.{IsHorizonOf, horizon}
-use Rattle.dl_plan.specs.Valid.{IsValidUnit, IsValid}
-use Rattle.dl_budget.specs.Claims.{claims_budget}
-use Rattle.dl_plan.specs.MeanWidth.{part_width as layer_budget, mean_width as clause_mean, part_width, mean_width}
-use Rattle.dl_budget.specs.Units.{unit_mean_budget}
-use Rattle.dl_budget.proofs.Horizons.{one_horizon}
+use Rattle.dl_plan.specs.MeanWidth.{part_width as layer_budget, mean_width as clause_mean, part_width}
 use Rattle.dl_cede.specs.Means.{HoldsClaims}
-use Rattle.dl_eval.specs.Rows.{S}
-use Rattle.dl_eval.specs.Totals.{IsUnitMean, AreUnitMeans, IsMeanOf}
 
 -- ---- of a unit without a clause
 

@@ -1,16 +1,6 @@
 -- What was read in a list that is another.
-use Rattle.std.proofs.Common.{ℕ, ◌≡◌, ◌^◌, ◌<◌, ◌≤◌, List, [], length, get_or, arith, sym, ap, subst, ◌∙◌}
-use Rattle.std.specs.Prelude.{Option, None, Some, IfSome}
-use Rattle.std.proofs.lemmas.List.{get_or_default}
-use Rattle.dl_iv.specs.declared.interval.Iv.{Iv}
-use Rattle.dl_grid.specs.Cells.{spread}
+use Rattle.dl_eval.proofs.Common.{ℕ, ◌≡◌, ◌^◌, ◌<◌, ◌≤◌, List, [], length, get_or, arith, sym, ap, subst, ◌∙◌, Option, None, Some, IfSome, get_or_default, Iv, spread, Plan, IsHorizonOf, IsValidUnit, IsValid, unit_budget, few_cells, unit_horizon, AreUnitGrids, AreOthersOf, AreOthers}
 use Rattle.dl_plan.specs.declared.plan.Unit.{Unit as UnitOfPlan}
-use Rattle.dl_plan.specs.declared.plan.Plan.{Plan}
-use Rattle.dl_plan.specs.Horizon.{IsHorizonOf}
-use Rattle.dl_plan.specs.Valid.{IsValidUnit, IsValid}
-use Rattle.dl_budget.specs.Units.{unit_budget}
-use Rattle.dl_budget.proofs.Horizons.{few_cells, unit_horizon}
-use Rattle.dl_eval.specs.Totals.{AreUnitGrids, AreOthersOf, AreOthers}
 
 pub read_as : {A : Type 0} (slice xs : List A) (i : ℕ) (x d : A) → slice ≡ xs → x ≡ get_or slice i x → i < length xs
     → x ≡ get_or xs i d

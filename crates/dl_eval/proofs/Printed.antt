@@ -1,20 +1,10 @@
 -- Numbers that are printed from an interval.
-use Rattle.std.proofs.Common.{ℕ, ◌≡◌, ◌+◌, ◌*◌, ◌/◌, ◌^◌, ◌<◌, ◌≤◌, arith}
-use Rattle.std.specs.Int.{div_ceil}
-use Rattle.std.proofs.Math.Nat.{mul-le-mul_right, le_of_mul-le-mul_right, one-le-pow}
-use Rattle.std.proofs.lemmas.Nat.{pow_pos}
-use Rattle.std.proofs.lemmas.Grind.{div_ceil_times}
-use Rattle.dl_exact.specs.Fraction.{Fraction, ◌over◌, ◌≤ℚ◌}
+use Rattle.dl_eval.proofs.Common.{ℕ, ◌+◌, ◌*◌, ◌^◌, ◌<◌, ◌≤◌, arith, div_ceil, mul-le-mul_right, pow_pos, div_ceil_times, Fraction, ◌over◌, ◌≤ℚ◌, div_ceil_least, up_quotient, One, Tail, at_least_wider, at_most_wider, Plan, Row, in_digits, Declares, DeclaresGiven, DeclaresTail, Prints}
+use Rattle.std.proofs.Common.{◌/◌}
+use Rattle.std.proofs.Math.Nat.{le_of_mul-le-mul_right, one-le-pow}
 use Rattle.dl_exact.proofs.Over.{over_le}
-use Rattle.dl_exact.proofs.RoundingLaws.{div_ceil_least}
-use Rattle.dl_grid.proofs.WidthLaws.{up_quotient}
-use Rattle.dl_model.specs.Program.{Quantity, One, Tail}
-use Rattle.dl_model.proofs.Declared.{at_least_wider, at_most_wider}
-use Rattle.dl_plan.specs.declared.plan.Plan.{Plan}
-use Rattle.dl_report.specs.declared.report.Row.{Row}
-use Rattle.dl_budget.specs.Asks.{in_digits}
-use Rattle.dl_eval.specs.Rows.{S as one, Declares, DeclaresGiven, DeclaresTail, AreRowEnds}
-use Rattle.dl_eval.specs.Totals.{Prints}
+use Rattle.dl_model.specs.Program.{Quantity}
+use Rattle.dl_eval.specs.Rows.{S as one, AreRowEnds}
 
 floor_least : (l S : ℕ) → 0 < S → l < (l / S + 1) * S
 floor_least l S pos = grind arith

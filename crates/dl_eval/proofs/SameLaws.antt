@@ -1,5 +1,5 @@
 -- When two fractions, and two lists, are the same.
-use Rattle.std.proofs.Common.{ℕ, zero, suc, ◌≡◌, ◌<◌, List, [], ◌∷◌, length, get_or, arith, refl, ap₂}
+use Rattle.dl_eval.proofs.Common.{ℕ, suc, ◌≡◌, ◌<◌, List, [], ◌∷◌, length, get_or, arith, refl, ap₂}
 
 pub same_list : {A : Type 0} (xs ys : List A) → length xs ≡ length ys
     → ((k : ℕ) (d : A) → k < length xs → get_or xs k d ≡ get_or ys k d) → xs ≡ ys

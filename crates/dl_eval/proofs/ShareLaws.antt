@@ -1,30 +1,17 @@
 -- The share of a unit in a total, from the grids of the unit, of all others and of the total.
-use Rattle.std.proofs.Common.{ℕ, ◌≡◌, ◌+◌, ◌-◌, ◌*◌, ◌^◌, ◌<◌, ◌≤◌, ◌⊎◌, List, [], length, get_or, arith, sym, subst}
-use Rattle.std.proofs.Math.Nat.{mul-le-mul, mul-le-mul_left}
-use Rattle.std.proofs.lemmas.Nat.{pow_pos}
-use Rattle.std.proofs.lemmas.List.{length-map}
-use Rattle.dl_exact.specs.Fraction.{Fraction, ◌over◌, ◌+ℚ◌, ◌≤ℚ◌, ◌<ℚ◌}
+use Rattle.dl_eval.proofs.Common.{ℕ, ◌≡◌, ◌+◌, ◌-◌, ◌*◌, ◌^◌, ◌<◌, ◌≤◌, List, [], length, get_or, arith, sym, subst, mul-le-mul_left, pow_pos, length-map, Fraction, ◌over◌, ◌+ℚ◌, ◌≤ℚ◌, ◌<ℚ◌, Iv, over_le_over, low_at, high_at, spread, cv, cv_rises, Holds, Aggregate, AreDeclarable, One, Point, partial_sums, total, GridEncloses, unit_of, AreDeclared, aggregate_of, aggregates_of, at_most_wider, plan_declared, plan_units, Plan, IsValid, Row, unit_budgets, total_budget, place_of, tail_budget, ask_budget, in_digits, S, DeclaresGiven, IsBelow, IsTailMean, IsAnswerTo, total_error, AreUnitGrids, IsTotalOf, AreOthersOf, Prints}
+use Rattle.std.proofs.Common.{◌⊎◌}
+use Rattle.std.proofs.Math.Nat.{mul-le-mul}
 use Rattle.dl_exact.proofs.Over.{over_lt}
-use Rattle.dl_iv.specs.declared.interval.Iv.{Iv}
-use Rattle.dl_exact.proofs.Denominators.{over_le_over, over_split as over_plus}
-use Rattle.dl_grid.specs.Cells.{low_at, high_at, spread}
-use Rattle.dl_grid.specs.Width.{cv}
-use Rattle.dl_grid.proofs.WidthLaws.{cv_rises}
-use Rattle.dl_model.specs.Series.{Series, AtLeast, AtMost, Holds}
-use Rattle.dl_model.specs.Program.{Aggregate, AreDeclarable, One, Point, Joint, partial_sums}
-use Rattle.dl_model.specs.Family.{total, GridEncloses}
-use Rattle.dl_model.specs.Measures.{unit_of, without, AreDeclared}
-use Rattle.dl_model.specs.Plans.{aggregate_of, aggregates_of}
-use Rattle.dl_model.proofs.Declared.{at_most_wider}
-use Rattle.dl_model.proofs.PlanUnits.{plan_declared, plan_units}
-use Rattle.dl_plan.specs.declared.plan.Plan.{Plan}
+use Rattle.dl_exact.proofs.Denominators.{over_split as over_plus}
+use Rattle.dl_model.specs.Series.{Series, AtLeast, AtMost}
+use Rattle.dl_model.specs.Program.{Joint}
+use Rattle.dl_model.specs.Measures.{without}
 use Rattle.dl_plan.specs.declared.settings.Ask.TheVariants as asks
-use Rattle.dl_plan.specs.Valid.{IsValid}
-use Rattle.dl_report.specs.declared.report.Row.{Row}
-use Rattle.dl_budget.specs.Units.{unit_budgets, total_budget, others_budget}
-use Rattle.dl_budget.specs.Asks.{place_of, joint_budget, kappa_budget, tail_budget, ask_budget, in_digits}
-use Rattle.dl_eval.specs.Rows.{S, DeclaresGiven, least_likely, IsBelow, IsTailMean, IsBeyond, IsShareOfUnit, IsTooRare, IsAnswerTo, total_error}
-use Rattle.dl_eval.specs.Totals.{AreUnitGrids, IsTotalOf, AreOthersOf, IsJointOf, Prints}
+use Rattle.dl_budget.specs.Units.{others_budget}
+use Rattle.dl_budget.specs.Asks.{joint_budget, kappa_budget}
+use Rattle.dl_eval.specs.Rows.{least_likely, IsBeyond, IsShareOfUnit, IsTooRare}
+use Rattle.dl_eval.specs.Totals.{IsJointOf}
 use Rattle.dl_eval.proofs.Printed.{are_ends, declared_ends, given_widens}
 use Rattle.dl_eval.proofs.Totals.{each_encloses, each_cells, unit_narrow}
 use Rattle.dl_eval.proofs.GoodRows.{cell_apart, plus_lt}

@@ -1,39 +1,11 @@
 -- The answer to an ask for a tail mean.
-use Rattle.std.proofs.Common.{ℕ, suc, ◌≡◌, ◌+◌, ◌-◌, ◌*◌, ◌^◌, ◌<◌, ◌≤◌, List, length, arith, inl, inr, sym, subst}
-use Rattle.std.specs.Int.{div_ceil}
-use Rattle.std.proofs.Math.Nat.{mul-le-mul_left, mul-le-mul_right}
-use Rattle.std.proofs.lemmas.Nat.{pow_pos}
-use Rattle.std.proofs.lemmas.Grind.{div_ceil_times}
-use Rattle.dl_exact.specs.Fraction.{Fraction, ◌over◌, ◌≤ℚ◌, ◌<ℚ◌}
-use Rattle.dl_exact.proofs.Laws.{le_trans, lt_or_le, lt_not_le}
-use Rattle.dl_exact.proofs.RoundingLaws.{div_ceil_least}
-use Rattle.dl_iv.specs.declared.interval.Iv.{Iv}
-use Rattle.dl_exact.proofs.Denominators.{over_le_over}
-use Rattle.dl_grid.specs.Cells.{low_at, high_at, spread}
+use Rattle.dl_eval.proofs.Common.{ℕ, suc, ◌≡◌, ◌+◌, ◌-◌, ◌*◌, ◌^◌, ◌<◌, ◌≤◌, List, length, arith, inl, inr, sym, subst, div_ceil, mul-le-mul_left, mul-le-mul_right, pow_pos, div_ceil_times, Fraction, ◌over◌, ◌≤ℚ◌, ◌<ℚ◌, le_trans, lt_or_le, lt_not_le, div_ceil_least, Iv, over_le_over, low_at, high_at, spread, up_quotient, count_below, Holds, Aggregate, One, Mean, Tail, partial_sums, total, GridEncloses, AreDeclared, low_cdf, aggregates_of, at_least_wider, cdf_ends, plan_declared, plan_units, IsFirstAtLeast, Plan, IsValid, Row, total_budget, mean_budget, tail_budget, in_digits, few_cells, S, at_the_end, IsTailMean, DeclaresTail, IsTotalOf, IsMeanOf, Prints}
 use Rattle.dl_grid.specs.Width.{up, tail_width}
-use Rattle.dl_grid.proofs.WidthLaws.{up_quotient}
-use Rattle.dl_exact.specs.Count.{count_below}
-use Rattle.dl_model.specs.Series.{Holds}
-use Rattle.dl_model.specs.Program.{Aggregate, One, Mean, Tail, partial_sums}
-use Rattle.dl_model.specs.Family.{total, GridEncloses}
-use Rattle.dl_model.specs.Measures.{IsQuantile, AreDeclared}
-use Rattle.dl_measures.specs.Ends.{low_cdf}
-use Rattle.dl_model.specs.Plans.{aggregates_of}
-use Rattle.dl_model.proofs.Declared.{at_least_wider}
+use Rattle.dl_model.specs.Measures.{IsQuantile}
 use Rattle.dl_exact.proofs.Counts.{below_grows as count_below_grows}
-use Rattle.dl_measures.proofs.CellEnds.{cdf_ends}
-use Rattle.dl_model.proofs.PlanUnits.{plan_declared, plan_units}
-use Rattle.dl_measures.specs.Brackets.{IsFirstAtLeast}
-use Rattle.dl_plan.specs.declared.plan.Plan.{Plan}
 use Rattle.dl_plan.specs.Ranges.{IsLevel}
-use Rattle.dl_plan.specs.Valid.{IsValid}
-use Rattle.dl_report.specs.declared.report.Row.{Row}
-use Rattle.dl_budget.specs.Units.{total_budget, mean_budget}
-use Rattle.dl_budget.specs.Asks.{tail_budget, in_digits}
-use Rattle.dl_budget.proofs.Horizons.{few_cells}
 use Rattle.dl_budget.proofs.Tails.{level_below}
-use Rattle.dl_eval.specs.Rows.{S, IsAtLeast, at_the_end, IsTailMean, DeclaresTail}
-use Rattle.dl_eval.specs.Totals.{IsTotalOf, IsMeanOf, Prints}
+use Rattle.dl_eval.specs.Rows.{IsAtLeast}
 use Rattle.dl_eval.proofs.Printed.{are_ends, tail_widens}
 
 -- ---- how wide it is

@@ -1,33 +1,21 @@
 -- The grid of a total, from those of its units.
-use Rattle.std.proofs.Common.{ℕ, zero, suc, ◌≡◌, ◌^◌, ◌<◌, ◌≤◌, List, [], ◌∷◌, ◌++◌, length, get_or, map, arith, refl, sym, ap, subst, subst₂, ◌∙◌}
-use Rattle.std.specs.Prelude.{Bool, false, IsTrue, Option, None, Some, IfSome, option_map, All}
+use Rattle.dl_eval.proofs.Common.{ℕ, zero, suc, ◌≡◌, ◌^◌, ◌<◌, ◌≤◌, List, [], ◌∷◌, ◌++◌, length, get_or, map, arith, refl, sym, ap, subst, subst₂, ◌∙◌, Option, None, Some, IfSome, All, pow_pos, length-append, length-map, get_or_default, Iv, spread, low_at, high_at, cv, cv_rises, mapped, GridEncloses, unit_of, outcome_after, aggregate_of, aggregates_of, compound_of, unit_declared, plan_units, Plan, Asked, IsValidUnit, IsValid, unit_budget, unit_budgets, place_of, NamesUnit, IsTotal, AreSumsWithout, AreUnitGrids, AreShared, IsTotalOf, AreOthersOf, AreOthers, HasOthers, shared_unit}
+use Rattle.std.specs.Prelude.{Bool, false, IsTrue, option_map}
 use Rattle.std.specs.List.{fold, remove}
-use Rattle.std.proofs.lemmas.Nat.{pow_pos}
-use Rattle.std.proofs.lemmas.List.{length-append, length-map, get_or-map, get_or_default}
-use Rattle.dl_iv.specs.declared.interval.Iv.{Iv}
-use Rattle.dl_grid.specs.Cells.{spread, low_at, high_at}
-use Rattle.dl_grid.specs.Width.{cv, sum_spread as sum_budget, sum_spread}
-use Rattle.dl_grid.proofs.WidthLaws.{cv_rises}
-use Rattle.dl_model.specs.Family.{mapped, GridEncloses}
-use Rattle.dl_model.specs.Measures.{unit_of}
-use Rattle.dl_model.specs.Plans.{outcome_after, aggregate_of, aggregates_of, compound_of}
+use Rattle.std.proofs.lemmas.List.{get_or-map}
+use Rattle.dl_grid.specs.Width.{sum_spread as sum_budget, sum_spread}
 use Rattle.dl_model.proofs.FamilyLaws.{encloses_same}
 use Rattle.dl_model.proofs.UnitLaws.{unit_plain}
-use Rattle.dl_model.proofs.PlanUnits.{unit_declared, plan_units}
 use Rattle.dl_plan.specs.declared.plan.Unit.{Unit as UnitOfPlan}
-use Rattle.dl_plan.specs.declared.plan.Plan.{Plan}
 use Rattle.dl_plan.specs.declared.settings.Ask.{Ask}
-use Rattle.dl_plan.specs.declared.settings.Asked.{Asked}
 use Rattle.dl_plan.specs.Facts.{facts_of}
-use Rattle.dl_plan.specs.Valid.{IsValidUnit, IsValid}
-use Rattle.dl_budget.specs.Units.{unit_budget, unit_budgets}
-use Rattle.dl_budget.specs.Asks.{place_of, IsNamed, NamesUnit}
+use Rattle.dl_budget.specs.Asks.{IsNamed}
 use Rattle.dl_budget.proofs.Sums.{budgets_length, budget_here}
 use Rattle.dl_port.specs.Sums.{EncloseEach}
 use Rattle.dl_eval.proofs.Lists.{any_here}
-use Rattle.dl_port.specs.Shared.{IsTotal, IsSumWithout, AreSumsWithout}
+use Rattle.dl_port.specs.Shared.{IsSumWithout}
 use Rattle.dl_eval.specs.declared.grids.Grids.{Grids}
-use Rattle.dl_eval.specs.Totals.{AreUnitGrids, AreShared, IsTotalOf, AreOthersOf, AreOthers, AreGridsOf, HasOthers, shared_unit}
+use Rattle.dl_eval.specs.Totals.{AreGridsOf}
 
 -- ---- what the grids enclose
 

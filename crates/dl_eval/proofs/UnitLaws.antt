@@ -1,19 +1,7 @@
 -- What is made of one unit.
-use Rattle.std.proofs.Common.{ℕ, ◌≡◌, ◌*◌, ◌^◌, ◌≤◌, List, length, arith, ap, subst}
-use Rattle.std.specs.Prelude.{Option, None, Some}
-use Rattle.dl_iv.specs.declared.interval.Iv.{Iv}
-use Rattle.dl_grid.specs.Cells.{spread}
-use Rattle.dl_model.specs.Family.{mapped, GridEncloses}
-use Rattle.dl_model.specs.Plans.{aggregate_of, compound_of}
+use Rattle.dl_eval.proofs.Common.{ℕ, ◌≡◌, ◌*◌, ◌^◌, ◌≤◌, List, length, arith, ap, subst, Option, None, Some, Iv, spread, mapped, GridEncloses, aggregate_of, compound_of, Clause, IsHorizonOf, horizon, IsValidUnit, claims_budget, after_clause, one_horizon, IsUnitGrid}
 use Rattle.dl_plan.specs.declared.plan.Unit.{Unit as UnitOfPlan}
-use Rattle.dl_plan.specs.Clause.{Clause}
-use Rattle.dl_plan.specs.Horizon.{IsHorizonOf, horizon}
-use Rattle.dl_plan.specs.Valid.{IsValidUnit}
 use Rattle.dl_plan.proofs.Horizons.{horizon_one}
-use Rattle.dl_budget.specs.Claims.{claims_budget}
-use Rattle.dl_budget.specs.Units.{after_clause}
-use Rattle.dl_budget.proofs.Horizons.{one_horizon}
-use Rattle.dl_eval.specs.Totals.{IsUnitGrid}
 use Rattle.dl_eval.proofs.Totals.{plain_encloses}
 
 pub horizon_some : (cede : Option Clause) (h k : ℕ) → 1 ≤ h → IsHorizonOf cede h k → 1 ≤ k

@@ -15,7 +15,7 @@ use crate::mean::total_mean;
 use crate::rows::row;
 use crate::units::{unit_means, unit_outcomes};
 use dl_iv::Iv;
-use dl_plan::{Ask, Asked, Many, Plan, Settings};
+use dl_plan::{Ask, Asked, Items, Plan, Settings};
 use dl_product::Workspace;
 use dl_report::Report;
 use std::alloc::{AllocError, Global};
@@ -88,11 +88,11 @@ fn report(
     settings: &Settings,
     parts: &Parts,
 ) -> Result<Report, AllocError>
+    requires grids { IfSome parts.now.grids (λ made. AreGridsOf plan.now made) }
     requires valid { IsValid plan.now }
     requires ranges { AreInRange settings.now }
     requires inside { AreInside plan.now settings.now }
     requires named { NameUnits plan.now settings.now }
-    requires grids { IfSome parts.now.grids (λ made. AreGridsOf plan.now made) }
     requires there { IfSome parts.now.grids (λ made.
         All (λ asked. HasOthers plan.now.units made asked.ask) settings.now.asks) }
     requires none { parts.now.grids ≡ None
@@ -116,7 +116,7 @@ fn report(
     }
     Ok(Report {
         digits: settings.digits,
-        rows: Many::from_vec(rows),
+        rows: Items::from_vec(rows),
     })
 }
 

@@ -10,8 +10,6 @@ mod mean;
 mod rows;
 mod same;
 mod shares;
-#[cfg(test)]
-mod tests;
 mod units;
 
 pub use evaluation::evaluate;

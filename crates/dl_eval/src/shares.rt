@@ -14,6 +14,7 @@ use crate::rows::{ends_row, row_with};
 use dl_alloc::{conditional_mean, joint_mean};
 use dl_budget::{others_budget, unit_budget};
 use dl_iv::Iv;
+use dl_limits::BUDGET_BOUND;
 use dl_plan::{Asked, Plan};
 use dl_report::{End, Row};
 use std::alloc::{AllocError, Global};
@@ -30,8 +31,8 @@ pub(crate) fn joint_of(plan: &Plan, grids: &Grids, i: u32, at: u32) -> Iv<56>
     ensures small { result.hi ≤ 2 ^ 70 }
 {
     // no grid is so wide that its ends are a whole apart
-    prove!(unit_budget::<56>(&plan.units.as_slice()[i as usize], plan.cells) < 1 << 40);
-    prove!(others_budget::<56>(plan, i) < 1 << 40);
+    prove!(unit_budget::<56>(&plan.units.as_slice()[i as usize], plan.cells) < BUDGET_BOUND);
+    prove!(others_budget::<56>(plan, i) < BUDGET_BOUND);
     match &grids.sums.others.as_slice()[i as usize] {
         Some(others) => joint_mean(&grids.units.as_slice()[i as usize], others, at),
         None => unreachable!(),

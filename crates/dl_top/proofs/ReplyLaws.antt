@@ -1,5 +1,5 @@
 -- What follows of a reply, and why an accepted text is not refused.
-use Rattle.std.proofs.Common.{ℕ, ◌≡◌, map, String, string_bytes, Global, ◌≤◌, List, [], ◌∷◌, length, get_or, All, Option, None, Some, Result, Ok, Err, IfSome, IsUtf8, arith, refl, sym, ap, subst, ◌∙◌}
+use Rattle.std.proofs.Common.{ℕ, ◌≡◌, map, String, string_bytes, Global, ◌≤◌, List, [], ◌∷◌, length, get_or, All, Option, None, Some, Ok, Err, IfSome, IsUtf8, arith, refl, sym, ap, subst, ◌∙◌}
 use Rattle.dl_outside.specs.Bytes.{Takes}
 use Rattle.dl_lexer.specs.declared.token.Token.{Token}
 use Rattle.dl_lexer.proofs.CoverLaws.{cover_one, covered_not_bad}
@@ -33,7 +33,7 @@ use Rattle.dl_top.specs.declared.reply.Reply.{Reply}
 use Rattle.dl_top.specs.declared.reply.Reply.TheVariants.{Answer, Refusal, OutOfMemory}
 use Rattle.dl_top.specs.Faults.{fault_line}
 use Rattle.dl_top.specs.Made.{made_of}
-use Rattle.dl_top.specs.Inputs.{Say, MakeText, input_of}
+use Rattle.dl_top.specs.Inputs.{Say, input_of}
 use Rattle.dl_plan.specs.declared.settings.Form.TheVariants.{Run, Fmt}
 use Rattle.dl_types.specs.Plans.{IsPlanOf}
 use Rattle.dl_parser.specs.Viable.{Stops}

@@ -22,9 +22,8 @@ use Rattle.dl_report.specs.Plain.{IsPlain, IsInRange}
 use Rattle.dl_report.proofs.RowLaws.{lines_told, records_told}
 use Rattle.dl_report.proofs.ObjectLaws.{reports_told}
 use Rattle.dl_eval.specs.Rows.{IsGood}
-use Rattle.dl_top.specs.Answers.{Asks, MeansPlan}
 use Rattle.dl_top.specs.Reports.{written}
-use Rattle.dl_top.specs.Told.{MayWrite, HoldsItsEnds}
+use Rattle.dl_top.specs.Told.{MayWrite}
 
 abbrev IsPlainAsk : Asked → Type 0
 IsPlainAsk asked = All IsPlainByte asked.text

@@ -1,5 +1,5 @@
 -- What a call leaves behind once the text of a fault was written, whole or in part.
-use Rattle.std.proofs.Common.{ℕ, ◌≡◌, List, [], Option, None, Some, arith, refl, sym}
+use Rattle.std.proofs.Common.{ℕ, ◌≡◌, List, [], Option, arith, refl}
 use Rattle.std.specs.Io.KnownBytes.{Appends}
 use Rattle.dl_outside.specs.Bytes.{AppendsPartOf}
 use Rattle.dl_outside.proofs.Appended.{appends_nothing}

@@ -8,13 +8,9 @@
 
 mod fault;
 mod generator;
-#[cfg(test)]
-mod hostile;
 mod law;
 mod reply;
 mod status;
-#[cfg(test)]
-mod tests;
 
 ghost use Rattle.std.specs.Prelude.{◌≡◌, ◌≢◌, ◌+◌, ◌⊎◌, ℕ, List, [], Err, IfSome, map};
 ghost use Rattle.std.specs.Io.KnownBytes.{Appends};

@@ -1,23 +1,24 @@
 //! What is answered, before any of it is written.
 
 ghost use Rattle.std.specs.Prelude.{◌≡◌, ℕ, ◌+◌, ◌≤◌, List, [], None, All, Err, IsUtf8, IfSome, IfOk, map, length};
+ghost use Rattle.dl_top.specs.Replies.{IsReply, Tells, IsUsage, IsReadFault, IsOfText};
+ghost use Rattle.dl_top.specs.Faults.{HasPlace};
 ghost use Rattle.std.specs.String.{string_bytes};
+ghost use Rattle.dl_words.specs.declared.fault.UsageFault.{UsageFault};
+ghost use Rattle.dl_top.specs.Answers.{Asks, Formats, HasTokens, SpellsProgram, MeansPlan};
 ghost use Rattle.dl_limits.specs.Limits.{most_digits, most_text};
+ghost use Rattle.dl_top.specs.Inputs.{Say, HasFault, MakeText, ReadText, input_of};
 ghost use Rattle.dl_outside.specs.Faults.{Rose};
+ghost use Rattle.dl_top.specs.Reports.{written};
+ghost use Rattle.dl_top.specs.Made.{made_of};
+ghost use Rattle.dl_words.specs.Words.{words_of};
 ghost use Rattle.dl_outside.specs.Bytes.{TakesAtMost};
-ghost use Rattle.dl_ast.specs.WellFormed.{IsWellFormed};
 ghost use Rattle.dl_plan.specs.Ranges.{AreInRange};
+ghost use Rattle.dl_ast.specs.WellFormed.{IsWellFormed};
 ghost use Rattle.dl_plan.specs.Valid.{IsValid};
 ghost use Rattle.dl_parser.specs.Placed.{AllInside};
-ghost use Rattle.dl_words.specs.declared.fault.UsageFault.{UsageFault};
-ghost use Rattle.dl_words.specs.Words.{words_of};
 ghost use Rattle.dl_report.specs.Objects.{AsksAreText};
-ghost use Rattle.dl_top.specs.Faults.{HasPlace};
-ghost use Rattle.dl_top.specs.Made.{made_of};
-ghost use Rattle.dl_top.specs.Inputs.{Say, HasFault, MakeText, ReadText, input_of};
-ghost use Rattle.dl_top.specs.Reports.{written};
-ghost use Rattle.dl_top.specs.Answers.{Asks, Formats, HasTokens, SpellsProgram, MeansPlan};
-ghost use Rattle.dl_top.specs.Replies.{IsReply, Tells, IsUsage, IsReadFault, IsOfText};
+ghost use Rattle.dl_eval.specs.Answers.{IsAnswered};
 
 use crate::fault::{Fault, fault_text};
 use crate::generator::made;
@@ -76,6 +77,21 @@ fn in_form(
     }
 }
 
+/// The answer that is a report, in the form that the settings name.
+fn reported(alloc: Global, report: &Report, plan: &Plan, settings: &Settings) -> Reply
+    requires ranges { AreInRange settings.now }
+    requires texts { All (λ asked. IsUtf8 asked.text) settings.now.asks }
+    requires answered { IsAnswered plan.now settings.now report.now }
+    ensures reply { (words : List (List ℕ)) (input : List ℕ) → Asks words settings.now
+        → MeansPlan input settings.now plan.now → IsReply words input result }
+    ensures of_text { IsOfText result }
+{
+    match in_form(alloc, report, plan, settings) {
+        Ok(text) => Reply::Answer(text),
+        Err(_) => Reply::OutOfMemory,
+    }
+}
+
 /// The answer to the asks about a plan.
 fn reply_to_plan(alloc: Global, settings: &Settings, plan: &Plan) -> Reply
     requires ranges { AreInRange settings.now }
@@ -86,10 +102,7 @@ fn reply_to_plan(alloc: Global, settings: &Settings, plan: &Plan) -> Reply
     ensures of_text { IsOfText result }
 {
     match evaluate(alloc, plan, settings) {
-        Ok(report) => match in_form(alloc, &report, plan, settings) {
-            Ok(text) => Reply::Answer(text),
-            Err(_) => Reply::OutOfMemory,
-        },
+        Ok(report) => reported(alloc, &report, plan, settings),
         Err(EvalFault::AskBeyond(ask)) => refusal(alloc, Fault::AskBeyond(ask), &[], &[]),
         Err(EvalFault::UnknownUnit(ask)) => refusal(alloc, Fault::UnknownUnit(ask), &[], &[]),
         Err(EvalFault::TooWide(ask, width)) => {

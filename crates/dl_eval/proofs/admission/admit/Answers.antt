@@ -1,6 +1,4 @@
-use Rattle.std.proofs.Common.{subst, subst₂}
-use Rattle.std.specs.Prelude.{All}
-use Rattle.dl_budget.specs.Asks.{IsInside, NamesUnit}
+use Rattle.dl_eval.proofs.Common.{subst, subst₂, All, IsInside, NamesUnit}
 use Rattle.dl_eval.proofs.admission.admit.Goals as goal
 
 pub returns-in-Some-first_wide : goal.returns-in-Some-first_wide

@@ -1,6 +1,4 @@
-use Rattle.std.proofs.Common.{ℕ, ◌<◌, get_or}
-use Rattle.dl_plan.specs.declared.settings.Asked.{Asked}
-use Rattle.dl_budget.specs.Asks.{IsInside}
+use Rattle.dl_eval.proofs.Common.{ℕ, ◌<◌, get_or, Asked, IsInside}
 use Rattle.dl_eval.proofs.admission.first_beyond.Given as goal
 
 abbrev pub invariant-loop-i : goal.invariant-loop-i

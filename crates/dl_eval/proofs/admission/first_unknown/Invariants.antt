@@ -1,6 +1,4 @@
-use Rattle.std.proofs.Common.{ℕ, ◌<◌, get_or}
-use Rattle.dl_plan.specs.declared.settings.Asked.{Asked}
-use Rattle.dl_budget.specs.Asks.{NamesUnit}
+use Rattle.dl_eval.proofs.Common.{ℕ, ◌<◌, get_or, Asked, NamesUnit}
 use Rattle.dl_eval.proofs.admission.first_unknown.Given as goal
 
 abbrev pub invariant-loop-i : goal.invariant-loop-i

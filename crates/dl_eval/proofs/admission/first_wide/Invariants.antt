@@ -1,7 +1,5 @@
-use Rattle.std.proofs.Common.{ℕ, ◌<◌, List, get_or}
-use Rattle.dl_plan.specs.declared.settings.Asked.{Asked}
+use Rattle.dl_eval.proofs.Common.{ℕ, ◌<◌, get_or, Asked, S}
 use Rattle.dl_budget.specs.Asks.{Passes}
-use Rattle.dl_eval.specs.Rows.{S}
 use Rattle.dl_eval.proofs.admission.first_wide.Given as goal
 
 abbrev pub invariant-loop-i : goal.invariant-loop-i

@@ -1,5 +1,4 @@
-use Rattle.std.proofs.Common.{sym, subst}
-use Rattle.dl_eval.specs.Totals.{AreUnitMeans}
+use Rattle.dl_eval.proofs.Common.{sym, subst, AreUnitMeans}
 use Rattle.dl_eval.proofs.evaluation.parts_for.Goals as goal
 
 pub returns-then-are_means-clause-mean : goal.returns-then-are_means-clause-mean

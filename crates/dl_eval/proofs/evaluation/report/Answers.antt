@@ -1,12 +1,7 @@
-use Rattle.std.proofs.Common.{◌≡◌, arith, refl, sym, ap, subst₂, length}
-use Rattle.std.specs.Prelude.{All, zip}
-use Rattle.dl_plan.specs.declared.settings.Asked.{Asked}
+use Rattle.dl_eval.proofs.Common.{◌≡◌, arith, refl, sym, ap, subst₂, length, All, zip, Asked, IsInside, NamesUnit, HasOthers, IsGood}
 use Rattle.dl_plan.specs.declared.settings.Ask.TheVariants.{Mean}
-use Rattle.dl_budget.specs.Asks.{IsInside, NamesUnit}
-use Rattle.dl_eval.specs.Totals.{HasOthers}
 use Rattle.dl_eval.proofs.Insides.{ask_has}
 use Rattle.dl_eval.proofs.Totals.{some_weaker}
-use Rattle.dl_eval.specs.Rows.{IsGood}
 use Rattle.dl_eval.proofs.Lists.{each_next, pushed_length, all_pairs}
 use Rattle.dl_eval.proofs.evaluation.report.Goals as goal
 

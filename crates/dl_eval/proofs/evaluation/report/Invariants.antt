@@ -1,7 +1,4 @@
-use Rattle.std.proofs.Common.{ℕ, ◌≡◌, ◌<◌, List, length, get_or}
-use Rattle.dl_plan.specs.declared.settings.Asked.{Asked}
-use Rattle.dl_report.specs.declared.report.Row.{Row}
-use Rattle.dl_eval.specs.Rows.{IsGood}
+use Rattle.dl_eval.proofs.Common.{ℕ, ◌≡◌, ◌<◌, length, get_or, Asked, Row, IsGood}
 use Rattle.dl_eval.proofs.evaluation.report.Given as goal
 
 abbrev pub invariant-loop-asked : goal.invariant-loop-asked

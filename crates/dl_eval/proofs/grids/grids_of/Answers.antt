@@ -1,7 +1,5 @@
-use Rattle.std.proofs.Common.{◌≡◌, List, [], ◌∷◌, ◌++◌, arith, ap, ◌∙◌}
-use Rattle.std.specs.Prelude.{Option}
+use Rattle.dl_eval.proofs.Common.{◌≡◌, List, [], ◌∷◌, ◌++◌, arith, ap, ◌∙◌, Option, Iv}
 use Rattle.std.specs.Option.{option_to_list}
-use Rattle.dl_iv.specs.declared.interval.Iv.{Iv}
 use Rattle.dl_eval.proofs.Totals.{only_one, grids_of_one}
 use Rattle.dl_eval.proofs.grids.grids_of.Goals as goal
 

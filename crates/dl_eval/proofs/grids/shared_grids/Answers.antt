@@ -1,9 +1,4 @@
-use Rattle.std.proofs.Common.{◌≤◌, ◌≡◌, List, length, arith, sym, ap, subst, subst₂, ◌∙◌}
-use Rattle.std.specs.Prelude.{All}
-use Rattle.dl_iv.specs.declared.interval.Iv.{Iv}
-use Rattle.dl_budget.proofs.Horizons.{few_cells}
-use Rattle.dl_eval.specs.Totals.{AreShared}
-use Rattle.dl_port.specs.Shared.{IsTotal, AreSumsWithout}
+use Rattle.dl_eval.proofs.Common.{◌≤◌, ◌≡◌, List, length, arith, sym, ap, subst, subst₂, ◌∙◌, All, Iv, few_cells, AreShared, IsTotal, AreSumsWithout}
 use Rattle.dl_eval.proofs.Totals.{is_total, are_others, has_others, long_enough}
 use Rattle.dl_eval.proofs.grids.shared_grids.Goals as goal
 

@@ -1,6 +1,5 @@
-use Rattle.std.proofs.Common.{ℕ, ◌≡◌, ◌↔◌, Bool, false, IsTrue, Some, arith}
-use Rattle.std.specs.Prelude.{Any}
-use Rattle.dl_eval.specs.Totals.{shared_unit}
+use Rattle.dl_eval.proofs.Common.{ℕ, ◌≡◌, ◌↔◌, false, IsTrue, arith, Any, shared_unit}
+use Rattle.std.proofs.Common.{Bool, Some}
 use Rattle.dl_eval.proofs.Lists.{pushed_length, each_pushed}
 use Rattle.dl_eval.proofs.grids.shared_units.Goals as goal
 

@@ -1,6 +1,5 @@
-use Rattle.std.proofs.Common.{ℕ, ◌≡◌, ◌<◌, ◌↔◌, false, IsTrue, Some, length, get_or}
-use Rattle.std.specs.Prelude.{Any}
-use Rattle.dl_eval.specs.Totals.{shared_unit}
+use Rattle.dl_eval.proofs.Common.{ℕ, ◌≡◌, ◌<◌, ◌↔◌, false, IsTrue, length, get_or, Any, shared_unit}
+use Rattle.std.proofs.Common.{Some}
 use Rattle.dl_eval.proofs.grids.shared_units.Given as goal
 
 abbrev pub invariant-loop-i : goal.invariant-loop-i

@@ -1,4 +1,4 @@
-use Rattle.std.proofs.Common.{arith}
+use Rattle.dl_eval.proofs.Common.{arith}
 use Rattle.dl_eval.proofs.Means.{means_small, is_mean}
 use Rattle.dl_eval.proofs.mean.total_mean.Goals as goal
 

@@ -1,6 +1,4 @@
-use Rattle.std.proofs.Common.{arith, ap₂, ◌∙◌}
-use Rattle.std.proofs.lemmas.Result.{IfOk-weaker}
-use Rattle.dl_budget.specs.Asks.{place_of}
+use Rattle.dl_eval.proofs.Common.{arith, ap₂, ◌∙◌, IfOk-weaker, place_of}
 use Rattle.dl_eval.proofs.Insides.{layer_inside}
 use Rattle.dl_eval.proofs.GoodRows.{point_answer, cdf_answer, mean_answer, layer_answer}
 use Rattle.dl_eval.proofs.ShareLaws.{joint_asked, share_asked, tail_asked}

@@ -1,5 +1,4 @@
-use Rattle.std.proofs.Common.{◌∙◌}
-use Rattle.dl_exact.proofs.Results.{if_ok_two}
+use Rattle.dl_eval.proofs.Common.{◌∙◌, if_ok_two}
 use Rattle.dl_eval.proofs.GoodRows.{is_bracket}
 use Rattle.dl_eval.proofs.rows.quantile_row.Goals as goal
 

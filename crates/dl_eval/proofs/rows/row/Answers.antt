@@ -1,4 +1,4 @@
-use Rattle.dl_exact.proofs.Results.{if_ok_two}
+use Rattle.dl_eval.proofs.Common.{if_ok_two}
 use Rattle.dl_eval.proofs.GoodRows.{mean_answer}
 use Rattle.dl_eval.proofs.rows.row.Goals as goal
 

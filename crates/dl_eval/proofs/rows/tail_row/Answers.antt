@@ -1,6 +1,4 @@
-use Rattle.std.proofs.Common.{inl, inr, refl}
-use Rattle.std.proofs.lemmas.Result.{IfOk-weaker}
-use Rattle.dl_exact.proofs.Results.{if_ok_two}
+use Rattle.dl_eval.proofs.Common.{inl, inr, refl, IfOk-weaker, if_ok_two}
 use Rattle.dl_eval.proofs.GoodRows.{ends_below}
 use Rattle.dl_eval.proofs.Tails.{tail_answer}
 use Rattle.dl_eval.proofs.rows.tail_row.Goals as goal

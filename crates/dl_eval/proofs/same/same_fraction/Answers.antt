@@ -1,6 +1,4 @@
-use Rattle.std.proofs.Common.{ap, sym, ◌∙◌}
-use Rattle.std.proofs.lemmas.Bool.Decides.{Decides-eqb}
-use Rattle.dl_exact.specs.Fraction.{Fraction}
+use Rattle.dl_eval.proofs.Common.{ap, sym, ◌∙◌, Decides-eqb, Fraction}
 use Rattle.dl_exact.proofs.Over.{same}
 use Rattle.dl_eval.proofs.same.same_fraction.Goals as goal
 

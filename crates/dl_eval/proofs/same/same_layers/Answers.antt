@@ -1,4 +1,4 @@
-use Rattle.std.proofs.Common.{◌≡◌, length, arith, refl}
+use Rattle.dl_eval.proofs.Common.{◌≡◌, length, arith, refl}
 use Rattle.dl_eval.proofs.SameLaws.{same_list}
 use Rattle.dl_eval.proofs.same.same_layers.Goals as goal
 

@@ -1,5 +1,4 @@
-use Rattle.std.proofs.Common.{ℕ, ◌≡◌, ◌<◌, get_or}
-use Rattle.dl_plan.specs.declared.cede.CedeLayer.{CedeLayer}
+use Rattle.dl_eval.proofs.Common.{ℕ, ◌≡◌, ◌<◌, get_or, CedeLayer}
 use Rattle.dl_eval.proofs.same.same_layers.Given as goal
 
 abbrev pub invariant-loop-i : goal.invariant-loop-i

@@ -1,5 +1,4 @@
-use Rattle.std.proofs.Common.{length, arith, ap}
-use Rattle.dl_budget.proofs.Horizons.{few_cells}
+use Rattle.dl_eval.proofs.Common.{length, arith, ap, few_cells}
 use Rattle.dl_eval.proofs.Places.{read_as, horizon_there, spread_within, others_there}
 use Rattle.dl_eval.proofs.ShareLaws.{is_joint, is_below}
 use Rattle.dl_eval.proofs.Totals.{each_cells}

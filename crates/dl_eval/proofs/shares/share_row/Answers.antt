@@ -1,6 +1,4 @@
-use Rattle.std.proofs.Common.{arith, inl, inr, refl}
-use Rattle.std.proofs.lemmas.Result.{IfOk-weaker}
-use Rattle.dl_exact.proofs.Results.{if_ok_two}
+use Rattle.dl_eval.proofs.Common.{arith, inl, inr, refl, IfOk-weaker, if_ok_two}
 use Rattle.dl_eval.proofs.ShareLaws.{share_answer, rare_answer}
 use Rattle.dl_eval.proofs.shares.share_row.Goals as goal
 

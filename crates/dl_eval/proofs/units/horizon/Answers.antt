@@ -1,6 +1,5 @@
-use Rattle.std.proofs.Common.{◌≤◌, arith}
-use Rattle.dl_plan.specs.Horizon.{IsHorizonOf}
-use Rattle.dl_budget.proofs.Horizons.{horizon_there, unit_horizon}
+use Rattle.dl_eval.proofs.Common.{◌≤◌, arith, IsHorizonOf, unit_horizon}
+use Rattle.dl_budget.proofs.Horizons.{horizon_there}
 use Rattle.dl_eval.proofs.UnitLaws.{horizon_some}
 use Rattle.dl_eval.proofs.units.horizon.Goals as goal
 

@@ -1,5 +1,4 @@
-use Rattle.std.proofs.Common.{take, get_or, arith, sym, ap, subst, ◌∙◌}
-use Rattle.dl_eval.specs.Totals.{IsUnitMean}
+use Rattle.dl_eval.proofs.Common.{take, get_or, arith, sym, ap, subst, ◌∙◌, IsUnitMean}
 use Rattle.dl_eval.proofs.AlikeLaws.{alike_grid, alike_mean}
 use Rattle.dl_eval.proofs.units.outcomes_after.Goals as goal
 

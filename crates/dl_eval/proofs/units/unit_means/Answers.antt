@@ -1,7 +1,4 @@
-use Rattle.std.proofs.Common.{◌≤◌, ◌^◌, arith, subst}
-use Rattle.dl_budget.proofs.Horizons.{few_cells}
-use Rattle.dl_iv.specs.declared.interval.Iv.{Iv}
-use Rattle.dl_eval.specs.Totals.{IsUnitMean, AreUnitMeans}
+use Rattle.dl_eval.proofs.Common.{◌≤◌, ◌^◌, arith, subst, few_cells, Iv, IsUnitMean, AreUnitMeans}
 use Rattle.dl_eval.proofs.Lists.{each_next, pushed_length, all_pushed}
 use Rattle.dl_eval.proofs.units.unit_means.Goals as goal
 

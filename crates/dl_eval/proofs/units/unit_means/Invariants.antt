@@ -1,8 +1,5 @@
-use Rattle.std.proofs.Common.{ℕ, ◌≡◌, ◌^◌, ◌<◌, ◌≤◌, length, get_or}
-use Rattle.std.specs.Prelude.{All}
-use Rattle.dl_iv.specs.declared.interval.Iv.{Iv}
+use Rattle.dl_eval.proofs.Common.{ℕ, ◌≡◌, ◌^◌, ◌<◌, ◌≤◌, length, get_or, All, Iv, IsUnitMean}
 use Rattle.dl_plan.specs.declared.plan.Unit.{Unit as UnitOfPlan}
-use Rattle.dl_eval.specs.Totals.{IsUnitMean}
 use Rattle.dl_eval.proofs.units.unit_means.Given as goal
 
 abbrev pub invariant-loop-unit : goal.invariant-loop-unit

@@ -1,7 +1,4 @@
-use Rattle.std.proofs.Common.{◌≤◌, ◌^◌, List, [], length, get_or, arith, sym, ap, subst}
-use Rattle.dl_budget.proofs.Horizons.{few_cells}
-use Rattle.dl_iv.specs.declared.interval.Iv.{Iv}
-use Rattle.dl_eval.specs.Totals.{IsUnitGrid, IsUnitMean, AreUnitGrids, AreUnitMeans}
+use Rattle.dl_eval.proofs.Common.{◌≤◌, ◌^◌, List, [], length, get_or, arith, sym, ap, subst, few_cells, Iv, IsUnitGrid, IsUnitMean, AreUnitGrids, AreUnitMeans}
 use Rattle.dl_eval.proofs.Lists.{each_next, pushed_length, all_pushed}
 use Rattle.dl_eval.proofs.units.unit_outcomes.Goals as goal
 
