@@ -6,6 +6,7 @@ ghost use Rattle.dl_limits.specs.Limits.{most_text};
 ghost use Rattle.dl_parser.specs.Placed.{AllInside};
 ghost use Rattle.dl_top.specs.Faults.{status_of, fault_line, place_text, token_start, token_text, ask_text, usage_text, typing_text, reason, HasPlace};
 
+use crate::number::push_number;
 use crate::status::Status;
 use dl_lexer::{Token, line_col};
 use dl_types::TypeFault;
@@ -72,9 +73,9 @@ fn push_place(alloc: Global, text: &mut Vec<u8>, source: &[u8], at: u32) -> Resu
     ensures { OnOk result (text.new.items ≡ text.old.items ++ place_text source.now at) }
 {
     let (line, column) = line_col(source, at);
-    text.extend_from_slice(line.to_string(alloc)?.as_bytes())?;
+    push_number(alloc, text, line as u128)?;
     text.extend_from_slice(b":")?;
-    text.extend_from_slice(column.to_string(alloc)?.as_bytes())?;
+    push_number(alloc, text, column as u128)?;
     text.extend_from_slice(b": ")
 }
 
@@ -97,7 +98,7 @@ fn push_ask(alloc: Global, text: &mut Vec<u8>, ask: u32) -> Result<(), AllocErro
     ensures { OnOk result (text.new.items ≡ text.old.items ++ ask_text ask) }
 {
     text.extend_from_slice(b"ask ")?;
-    text.extend_from_slice(ask.to_string(alloc)?.as_bytes())?;
+    push_number(alloc, text, ask as u128)?;
     text.extend_from_slice(b": ")
 }
 
@@ -132,9 +133,9 @@ fn push_typing(
         typing.span.start.min(source.len() as u32),
     )?;
     text.extend_from_slice(b"unit ")?;
-    text.extend_from_slice(typing.unit.to_string(alloc)?.as_bytes())?;
+    push_number(alloc, text, typing.unit as u128)?;
     text.extend_from_slice(b": rule ")?;
-    text.extend_from_slice(typing.rule.number().to_string(alloc)?.as_bytes())?;
+    push_number(alloc, text, typing.rule.number() as u128)?;
     text.extend_from_slice(b" ")?;
     text.extend_from_slice(typing.rule.name().as_bytes())
 }
@@ -146,7 +147,7 @@ fn push_width(alloc: Global, text: &mut Vec<u8>, ask: u32, width: u128) -> Resul
 {
     push_ask(alloc, text, ask)?;
     text.extend_from_slice(b"needs width ")?;
-    text.extend_from_slice(width.to_string(alloc)?.as_bytes())
+    push_number(alloc, text, width)
 }
 
 /// Appends what is wrong.

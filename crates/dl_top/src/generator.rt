@@ -3,6 +3,7 @@
 ghost use Rattle.std.specs.Prelude.{◌≡◌, ◌<◌, ◌++◌, IfOk, OnOk};
 ghost use Rattle.dl_top.specs.Made.{next_value, drawn_below, frequency, claims_text, unit_text, made_of};
 
+use crate::number::push_number;
 use std::alloc::{AllocError, Global};
 
 /// A linear congruential generator of 32 bits.
@@ -42,9 +43,9 @@ fn push_claims(alloc: Global, text: &mut Vec<u8>, unit: u32, claims: u32) -> Res
     ensures { OnOk result (text.new.items ≡ text.old.items ++ claims_text unit claims) }
 {
     text.extend_from_slice(b"agg U")?;
-    text.extend_from_slice(unit.to_string(alloc)?.as_bytes())?;
+    push_number(alloc, text, unit as u128)?;
     text.extend_from_slice(b" ")?;
-    text.extend_from_slice(claims.to_string(alloc)?.as_bytes())?;
+    push_number(alloc, text, claims as u128)?;
     text.extend_from_slice(b" claims ")
 }
 
@@ -60,7 +61,7 @@ fn push_unit(
 {
     push_claims(alloc, text, unit, claims)?;
     text.extend_from_slice(b"dsev [1:")?;
-    text.extend_from_slice(greatest.to_string(alloc)?.as_bytes())?;
+    push_number(alloc, text, greatest as u128)?;
     text.extend_from_slice(b"] ")?;
     text.extend_from_slice(frequency(unit))?;
     text.extend_from_slice(b"\n")

@@ -9,6 +9,7 @@
 mod fault;
 mod generator;
 mod law;
+mod number;
 mod reply;
 mod status;
 
