@@ -193,6 +193,14 @@ impl MemSink {
     {
         self.bytes.as_slice()
     }
+
+    /// How many bytes of a piece one write takes: none only of an empty one, or where it is full.
+    fn taken_of(&self, piece: &[u8]) -> usize
+        ensures { result ≡ min (min self.now.piece (length piece.now)) self.now.room }
+    {
+        let room = self.room - self.bytes.len();
+        self.piece.min(piece.len()).min(room)
+    }
 }
 
 impl Sink for MemSink {
@@ -224,13 +232,12 @@ impl Sink for MemSink {
         ensures room { length self.new.held + self.new.room ≡ length self.old.held + self.old.room }
         ensures piece { self.new.piece ≡ self.old.piece }
     {
-        let room = self.room - self.bytes.len();
-        if self.schedule.fails_next() || (room == 0 && !piece.is_empty()) {
+        let count = self.taken_of(piece);
+        if self.schedule.fails_next() || (count == 0 && !piece.is_empty()) {
             self.schedule.fail();
             return Err(WriteFailed);
         }
         self.schedule.succeed();
-        let count = self.piece.min(piece.len()).min(room);
         self.bytes.extend_from_slice(&piece[..count]).unwrap();
         Ok(count)
     }

@@ -25,6 +25,13 @@ impl<R: Read> StdSource<R> {
     {
         StdSource { inner, faults: 0 }
     }
+
+    /// How many reads have failed.
+    pub fn faults(&self) -> u64
+        ensures { result ≡ source_faults self.now }
+    {
+        self.faults
+    }
 }
 
 impl<R: Read> Source for StdSource<R> {
@@ -78,6 +85,20 @@ impl<W: Write> StdSink<W> {
     {
         StdSink { inner, faults: 0 }
     }
+
+    /// How many writes have failed.
+    pub fn faults(&self) -> u64
+        ensures { result ≡ sink_faults self.now }
+    {
+        self.faults
+    }
+
+    /// The writer.
+    pub fn into_inner(self) -> W
+        ensures { result ≡ sink_writer self }
+    {
+        self.inner
+    }
 }
 
 impl<W: Write> Sink for StdSink<W> {
@@ -111,65 +132,5 @@ impl<W: Write> Sink for StdSink<W> {
                 Err(WriteFailed)
             }
         }
-    }
-}
-
-#[cfg(test)]
-mod tests {
-    use super::*;
-    use crate::{ReadEnd, read_all, write_all};
-    use std::io;
-    use std::test::Fail;
-
-    /// A reader that fails and a writer that is full.
-    #[derive(Drop)]
-    struct Broken;
-
-    impl Read for Broken {
-        fn read(&mut self, _buf: &mut [u8]) -> io::Result<usize> {
-            Err(io::Error::from(io::ErrorKind::BrokenPipe))
-        }
-    }
-
-    impl Write for Broken {
-        fn write(&mut self, _buf: &[u8]) -> io::Result<usize> {
-            Ok(0)
-        }
-
-        fn flush(&mut self) -> io::Result<()> {
-            Ok(())
-        }
-    }
-
-    #[test]
-    fn sources_stand_over_std(rt: HostRuntime) -> Result<(), Fail> {
-        let mut source = StdSource::new(b"abc".as_slice());
-        let bytes = read_all(rt.alloc(), &mut source, 3)?;
-        assert_eq!(rt; bytes.as_slice(), b"abc".as_slice());
-        assert_eq!(rt; source.faults, 0);
-
-        let mut broken = StdSource::new(Broken);
-        let read = read_all(rt.alloc(), &mut broken, 3);
-        assert!(rt; read.err() == Some(ReadEnd::Fault));
-        assert_eq!(rt; broken.faults, 1);
-        Ok(())
-    }
-
-    #[test]
-    fn sinks_stand_over_std(rt: HostRuntime) -> Result<(), Fail> {
-        let mut sink = StdSink::new(Vec::new(rt.alloc()));
-        write_all(&mut sink, b"abc")?;
-        write_all(&mut sink, b"de")?;
-        assert_eq!(rt; sink.inner.as_slice(), b"abcde".as_slice());
-        assert_eq!(rt; sink.faults, 0);
-        Ok(())
-    }
-
-    #[test]
-    fn full_sinks_fail(rt: HostRuntime) {
-        let mut full = StdSink::new(Broken);
-        assert!(rt; full.write(b"") == Ok(0));
-        assert!(rt; write_all(&mut full, b"a").is_err());
-        assert_eq!(rt; full.faults, 1);
     }
 }

@@ -1,123 +1,68 @@
 //! Texts worked by hand from the table of tokens.
 
-use dl_lexer::{Keyword, Kind, LexFault, Sign, Text, Token, lex, line_col};
-use std::alloc::Global;
+use dl_lexer::{Keyword, LexFault, Text, Token, lex, line_col};
+use std::alloc::{AllocError, Global};
 
 /// A text, and its tokens by kind, start and end.
-type Cut = (&'static [u8], &'static [(Kind, u32, u32)]);
-
-const CUT: [Cut; 40] = [
-    (b"", &[]),
-    (b" \t\r\n", &[]),
-    (b"agg", &[(Kind::Word(Keyword::Agg), 0, 3)]),
-    (b"Agg", &[(Kind::Name, 0, 3)]),
-    (b"AGG", &[(Kind::Name, 0, 3)]),
+const CUT: [(&[u8], &str); 40] = [
+    (b"", ""),
+    (b" \t\r\n", ""),
+    (b"agg", "<Word(Agg) 0 3>"),
+    (b"Agg", "<Name 0 3>"),
+    (b"AGG", "<Name 0 3>"),
     (
         b"agg D dfreq [1] dsev [1:6]",
-        &[
-            (Kind::Word(Keyword::Agg), 0, 3),
-            (Kind::Name, 4, 5),
-            (Kind::Word(Keyword::Dfreq), 6, 11),
-            (Kind::Sign(Sign::Open), 12, 13),
-            (Kind::Numeral, 13, 14),
-            (Kind::Sign(Sign::Close), 14, 15),
-            (Kind::Word(Keyword::Dsev), 16, 20),
-            (Kind::Sign(Sign::Open), 21, 22),
-            (Kind::Numeral, 22, 23),
-            (Kind::Sign(Sign::Colon), 23, 24),
-            (Kind::Numeral, 24, 25),
-            (Kind::Sign(Sign::Close), 25, 26),
-        ],
+        "<Word(Agg) 0 3><Name 4 5><Word(Dfreq) 6 11><Sign(Open) 12 13><Numeral 13 14>\
+        <Sign(Close) 14 15><Word(Dsev) 16 20><Sign(Open) 21 22><Numeral 22 23>\
+        <Sign(Colon) 23 24><Numeral 24 25><Sign(Close) 25 26>",
     ),
-    (b"a-b", &[(Kind::Name, 0, 3)]),
-    (b"a_1- z", &[(Kind::Name, 0, 4), (Kind::Name, 5, 6)]),
-    (
-        b"claim claims",
-        &[
-            (Kind::Word(Keyword::Claim), 0, 5),
-            (Kind::Word(Keyword::Claims), 6, 12),
-        ],
-    ),
-    (b"claimsx", &[(Kind::Name, 0, 7)]),
-    (b"agg-", &[(Kind::Name, 0, 4)]),
-    (b"12", &[(Kind::Numeral, 0, 2)]),
-    (b"5.", &[(Kind::Numeral, 0, 2)]),
-    (b".5", &[(Kind::Numeral, 0, 2)]),
-    (b"1/2", &[(Kind::Numeral, 0, 3)]),
-    (b"12%", &[(Kind::Numeral, 0, 3)]),
-    (b"5.%", &[(Kind::Numeral, 0, 3)]),
-    (b".5%", &[(Kind::Numeral, 0, 3)]),
-    (b"1.2.3", &[(Kind::Numeral, 0, 3), (Kind::Numeral, 3, 5)]),
-    (b"1..2", &[(Kind::Numeral, 0, 2), (Kind::Numeral, 2, 4)]),
-    (b"12abc", &[(Kind::Numeral, 0, 2), (Kind::Name, 2, 5)]),
-    (b"# comment", &[]),
-    (b"#\nagg", &[(Kind::Word(Keyword::Agg), 2, 5)]),
-    (b"a#b\nc", &[(Kind::Name, 0, 1), (Kind::Name, 4, 5)]),
-    (b"# {\xff} note{\nx", &[(Kind::Name, 12, 13)]),
-    (b"## a\n# b\n1", &[(Kind::Numeral, 9, 10)]),
-    (b"note{}", &[(Kind::Note, 0, 6)]),
-    (b"note{a \xe9#\n[b]}", &[(Kind::Note, 0, 14)]),
-    (b"note", &[(Kind::Word(Keyword::Note), 0, 4)]),
-    (
-        b"note{x}note{y}",
-        &[(Kind::Note, 0, 7), (Kind::Note, 7, 14)],
-    ),
+    (b"a-b", "<Name 0 3>"),
+    (b"a_1- z", "<Name 0 4><Name 5 6>"),
+    (b"claim claims", "<Word(Claim) 0 5><Word(Claims) 6 12>"),
+    (b"claimsx", "<Name 0 7>"),
+    (b"agg-", "<Name 0 4>"),
+    (b"12", "<Numeral 0 2>"),
+    (b"5.", "<Numeral 0 2>"),
+    (b".5", "<Numeral 0 2>"),
+    (b"1/2", "<Numeral 0 3>"),
+    (b"12%", "<Numeral 0 3>"),
+    (b"5.%", "<Numeral 0 3>"),
+    (b".5%", "<Numeral 0 3>"),
+    (b"1.2.3", "<Numeral 0 3><Numeral 3 5>"),
+    (b"1..2", "<Numeral 0 2><Numeral 2 4>"),
+    (b"12abc", "<Numeral 0 2><Name 2 5>"),
+    (b"# comment", ""),
+    (b"#\nagg", "<Word(Agg) 2 5>"),
+    (b"a#b\nc", "<Name 0 1><Name 4 5>"),
+    (b"# {\xff} note{\nx", "<Name 12 13>"),
+    (b"## a\n# b\n1", "<Numeral 9 10>"),
+    (b"note{}", "<Note 0 6>"),
+    (b"note{a \xe9#\n[b]}", "<Note 0 14>"),
+    (b"note", "<Word(Note) 0 4>"),
+    (b"note{x}note{y}", "<Note 0 7><Note 7 14>"),
     (
         b"[]:,!",
-        &[
-            (Kind::Sign(Sign::Open), 0, 1),
-            (Kind::Sign(Sign::Close), 1, 2),
-            (Kind::Sign(Sign::Colon), 2, 3),
-            (Kind::Sign(Sign::Comma), 3, 4),
-            (Kind::Sign(Sign::Bang), 4, 5),
-        ],
+        "<Sign(Open) 0 1><Sign(Close) 1 2><Sign(Colon) 2 3><Sign(Comma) 3 4><Sign(Bang) 4 5>",
     ),
-    (
-        b"xs:3",
-        &[
-            (Kind::Word(Keyword::Xs), 0, 2),
-            (Kind::Sign(Sign::Colon), 2, 3),
-            (Kind::Numeral, 3, 4),
-        ],
-    ),
-    (
-        b"\r\nport\r\nT",
-        &[(Kind::Word(Keyword::Port), 2, 6), (Kind::Name, 8, 9)],
-    ),
-    (b"1e6", &[(Kind::Numeral, 0, 1), (Kind::Name, 1, 3)]),
+    (b"xs:3", "<Word(Xs) 0 2><Sign(Colon) 2 3><Numeral 3 4>"),
+    (b"\r\nport\r\nT", "<Word(Port) 2 6><Name 8 9>"),
+    (b"1e6", "<Numeral 0 1><Name 1 3>"),
     (
         b"gamma geometric zt zm common",
-        &[
-            (Kind::Word(Keyword::Gamma), 0, 5),
-            (Kind::Word(Keyword::Geometric), 6, 15),
-            (Kind::Word(Keyword::Zt), 16, 18),
-            (Kind::Word(Keyword::Zm), 19, 21),
-            (Kind::Word(Keyword::Common), 22, 28),
-        ],
+        "<Word(Gamma) 0 5><Word(Geometric) 6 15><Word(Zt) 16 18><Word(Zm) 19 21>\
+        <Word(Common) 22 28>",
     ),
     (
         b"lognorm beta chistogram",
-        &[
-            (Kind::Word(Keyword::Lognorm), 0, 7),
-            (Kind::Word(Keyword::Beta), 8, 12),
-            (Kind::Word(Keyword::Chistogram), 13, 23),
-        ],
+        "<Word(Lognorm) 0 7><Word(Beta) 8 12><Word(Chistogram) 13 23>",
     ),
-    (
-        b"inf Inf",
-        &[(Kind::Word(Keyword::Inf), 0, 3), (Kind::Name, 4, 7)],
-    ),
+    (b"inf Inf", "<Word(Inf) 0 3><Name 4 7>"),
     (
         b"0.5so 4xs",
-        &[
-            (Kind::Numeral, 0, 3),
-            (Kind::Word(Keyword::So), 3, 5),
-            (Kind::Numeral, 6, 7),
-            (Kind::Word(Keyword::Xs), 7, 9),
-        ],
+        "<Numeral 0 3><Word(So) 3 5><Numeral 6 7><Word(Xs) 7 9>",
     ),
-    (b"3%4", &[(Kind::Numeral, 0, 2), (Kind::Numeral, 2, 3)]),
-    (b"1/2.5", &[(Kind::Numeral, 0, 3), (Kind::Numeral, 3, 5)]),
+    (b"3%4", "<Numeral 0 2><Numeral 2 3>"),
+    (b"1/2.5", "<Numeral 0 3><Numeral 3 5>"),
 ];
 
 /// A text, and the first place where neither a blank nor a token begins.
@@ -161,29 +106,36 @@ const PLACES: [(&[u8], u32, u32, u32); 9] = [
     (b"a\r\nb", 3, 2, 1),
 ];
 
-/// Whether a token is of this kind and stands there.
-fn is_token(token: &Token, want: &(Kind, u32, u32)) -> bool {
-    let &(kind, start, end) = want;
-    token.kind == kind && token.span.start == start && token.span.end == end
+/// A token by its kind, its start and its end.
+fn told(alloc: Global, token: &Token) -> Result<String, AllocError> {
+    let Token { kind, span } = token;
+    format!(in alloc; "<{kind:?} {} {}>", span.start, span.end)
+}
+
+/// All of the tokens, in this order.
+fn all_told(alloc: Global, tokens: &[Token]) -> Result<String, AllocError> {
+    let mut all = String::new(alloc);
+    for token in tokens {
+        all.push_str(told(alloc, token)?.as_str())?;
+    }
+    Ok(all)
 }
 
 /// Whether these are the tokens, in this order.
-fn are_tokens(tokens: &[Token], want: &[(Kind, u32, u32)]) -> bool {
-    for (token, want) in tokens.iter().zip(want) {
-        if !is_token(token, want) {
-            return false;
-        }
+fn are_tokens(alloc: Global, tokens: &[Token], want: &str) -> bool {
+    match all_told(alloc, tokens) {
+        Ok(all) => all.as_str() == want,
+        Err(_) => false,
     }
-    tokens.len() == want.len()
 }
 
 /// Whether a text is cut into these tokens.
-fn is_cut(alloc: Global, text: &[u8], want: &[(Kind, u32, u32)]) -> bool {
+fn is_cut(alloc: Global, text: &[u8], want: &str) -> bool {
     if text.len() >= 100 {
         return false;
     }
     match lex(alloc, text) {
-        Ok(tokens) => are_tokens(&tokens, want),
+        Ok(tokens) => are_tokens(alloc, &tokens, want),
         Err(_) => false,
     }
 }

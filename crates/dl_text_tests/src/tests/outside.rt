@@ -1,31 +1,28 @@
-//! Whole reads and whole writes over memory, worked by hand.
+//! Whole reads and whole writes over memory and over std's readers and writers, worked by hand.
 
-use dl_outside::{DropSink, MemSink, MemSource, ReadEnd, SteadySource, read_all, write_all};
+use dl_outside::{
+    DropSink, MemSink, MemSource, ReadEnd, Sink, StdSink, StdSource, SteadySource, read_all,
+    write_all,
+};
 use std::alloc::Global;
+use std::io::{self, Read, Write};
 use std::test::Fail;
 
-/// A whole read: the bytes, the piece, the call that fails, the limit, the answer, and what is left
-/// then.
-type ReadCase = (
-    &'static [u8],
-    usize,
-    u64,
-    u16,
-    Result<&'static [u8], ReadEnd>,
-    &'static [u8],
-);
+/// A whole read: the bytes, the piece, the call that fails, the limit, the answer as `told` has it,
+/// and what is left then.
+type ReadCase = (&'static [u8], usize, u64, u16, &'static [u8], &'static [u8]);
 
 const READS: [ReadCase; 10] = [
-    (b"", 1, 9, 4, Ok(b""), b""),
-    (b"abcd", 1, 9, 4, Ok(b"abcd"), b""),
-    (b"abcd", 9, 9, 4, Ok(b"abcd"), b""),
-    (b"abcde", 2, 5, 9, Ok(b"abcde"), b""),
-    (b"abcde", 1, 9, 4, Err(ReadEnd::TooLong), b""),
-    (b"abcdefg", 3, 9, 4, Err(ReadEnd::TooLong), b"fg"),
-    (b"a", 3, 9, 0, Err(ReadEnd::TooLong), b""),
-    (b"abcde", 2, 0, 9, Err(ReadEnd::Fault), b"abcde"),
-    (b"abcde", 2, 1, 9, Err(ReadEnd::Fault), b"cde"),
-    (b"abcde", 2, 3, 9, Err(ReadEnd::Fault), b""),
+    (b"", 1, 9, 4, b"", b""),
+    (b"abcd", 1, 9, 4, b"abcd", b""),
+    (b"abcd", 9, 9, 4, b"abcd", b""),
+    (b"abcde", 2, 5, 9, b"abcde", b""),
+    (b"abcde", 1, 9, 4, b"too long", b""),
+    (b"abcdefg", 3, 9, 4, b"too long", b"fg"),
+    (b"a", 3, 9, 0, b"too long", b""),
+    (b"abcde", 2, 0, 9, b"fault", b"abcde"),
+    (b"abcde", 2, 1, 9, b"fault", b"cde"),
+    (b"abcde", 2, 3, 9, b"fault", b""),
 ];
 
 /// A whole write: the room, the piece, the call that fails, the bytes, whether all are written, and
@@ -44,12 +41,13 @@ const WRITES: [WriteCase; 9] = [
     (0, 4, 9, b"a", false, b""),
 ];
 
-/// Whether a read gave this answer.
-fn is_answer(read: Result<Vec<u8>, ReadEnd>, wanted: Result<&[u8], ReadEnd>) -> bool {
-    match (read, wanted) {
-        (Ok(read), Ok(wanted)) => read.as_slice() == wanted,
-        (Err(end), Err(wanted)) => end == wanted,
-        _ => false,
+/// The bytes that a read gave, or in words why there are none.
+fn told(read: &Result<Vec<u8>, ReadEnd>) -> &[u8] {
+    match read {
+        Ok(bytes) => bytes.as_slice(),
+        Err(ReadEnd::Fault) => b"fault",
+        Err(ReadEnd::TooLong) => b"too long",
+        Err(ReadEnd::OutOfMemory) => b"out of memory",
     }
 }
 
@@ -62,8 +60,8 @@ fn source_of(alloc: Global, case: &ReadCase) -> Result<MemSource, Fail> {
 /// Whether the read of a case gives its answer, and leaves what it should.
 fn is_read(alloc: Global, mut source: MemSource, case: &ReadCase) -> bool {
     let &(_, _, _, limit, wanted, left) = case;
-    let first = is_answer(read_all(alloc, &mut source, limit as usize), wanted);
-    first && is_answer(read_all(alloc, &mut source, 9), Ok(left))
+    let first = read_all(alloc, &mut source, limit as usize);
+    told(&first) == wanted && told(&read_all(alloc, &mut source, 9)) == left
 }
 
 /// The sink of a case.
@@ -90,7 +88,7 @@ fn reads_whole_inputs(rt: HostRuntime) -> Result<(), Fail> {
 #[test]
 fn reads_a_steady_input(rt: HostRuntime) -> Result<(), Fail> {
     let mut steady = SteadySource::new(b"abcde".to_vec(rt.alloc())?, 2);
-    assert!(rt; is_answer(read_all(rt.alloc(), &mut steady, 5), Ok(b"abcde")));
+    assert!(rt; told(&read_all(rt.alloc(), &mut steady, 5)) == b"abcde".as_slice());
     Ok(())
 }
 
@@ -106,4 +104,55 @@ fn writes_whole_texts(rt: HostRuntime) -> Result<(), Fail> {
 #[test]
 fn writes_to_no_one(rt: HostRuntime) {
     assert!(rt; write_all(&mut DropSink::new(), b"abc").is_ok());
+}
+
+/// A reader that fails and a writer that is full.
+#[derive(Drop)]
+struct Broken;
+
+impl Read for Broken {
+    fn read(&mut self, _buf: &mut [u8]) -> io::Result<usize> {
+        Err(io::Error::from(io::ErrorKind::BrokenPipe))
+    }
+}
+
+impl Write for Broken {
+    fn write(&mut self, _buf: &[u8]) -> io::Result<usize> {
+        Ok(0)
+    }
+
+    fn flush(&mut self) -> io::Result<()> {
+        Ok(())
+    }
+}
+
+#[test]
+fn sources_stand_over_std(rt: HostRuntime) {
+    let mut source = StdSource::new(b"abc".as_slice());
+    assert!(rt; told(&read_all(rt.alloc(), &mut source, 3)) == b"abc".as_slice());
+    assert_eq!(rt; source.faults(), 0);
+}
+
+#[test]
+fn broken_sources_fail(rt: HostRuntime) {
+    let mut broken = StdSource::new(Broken);
+    assert!(rt; told(&read_all(rt.alloc(), &mut broken, 3)) == b"fault".as_slice());
+    assert_eq!(rt; broken.faults(), 1);
+}
+
+#[test]
+fn sinks_stand_over_std(rt: HostRuntime) {
+    let mut sink = StdSink::new(Vec::new(rt.alloc()));
+    assert!(rt; write_all(&mut sink, b"abc").is_ok());
+    assert!(rt; write_all(&mut sink, b"de").is_ok());
+    assert_eq!(rt; sink.faults(), 0);
+    assert_eq!(rt; sink.into_inner().as_slice(), b"abcde".as_slice());
+}
+
+#[test]
+fn full_sinks_fail(rt: HostRuntime) {
+    let mut full = StdSink::new(Broken);
+    assert!(rt; full.write(b"") == Ok(0));
+    assert!(rt; write_all(&mut full, b"a").is_err());
+    assert_eq!(rt; full.faults(), 1);
 }

@@ -289,11 +289,9 @@ fn no_asks(rt: HostRuntime) -> Result<(), Fail> {
 
 /// What the words say that ask so often for the mean.
 fn means(alloc: Global, count: usize) -> Result<Settings, WordsFault> {
-    let mut line = words(alloc, "run")?;
-    for _ in 0..count {
-        line.push(String::from_str(alloc, "mean")?)?;
-    }
-    read_words(alloc, line.as_slice())
+    let asks = " mean".repeat(alloc, count)?;
+    let line = format!(in alloc; "run{asks}")?;
+    read(alloc, line.as_str())
 }
 
 /// Whether so many asks for the mean are read.
