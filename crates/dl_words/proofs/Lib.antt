@@ -1,5 +1,6 @@
 mod Common
 pub mod Numerals
+pub mod Kept
 pub mod Cuts
 pub mod AskLists
 pub mod Shapes

@@ -2,7 +2,7 @@
 
 ghost use Rattle.std.specs.Prelude.{◌≡◌, IfOk};
 ghost use Rattle.clap.specs.Words.{App, app_of};
-ghost use Rattle.dl_words.specs.Command.{command, places, with_option};
+ghost use Rattle.dl_words.specs.Command.{bare_command, command, places, with_option};
 
 use clap::{Arg, ArgAction, Command};
 use std::alloc::{AllocError, Global};
@@ -25,10 +25,15 @@ pub(crate) fn simple_command<'a>(alloc: Global) -> Result<Command<'a>, AllocErro
 fn with_places<'a>(alloc: Global) -> Result<Command<'a>, AllocError>
     ensures { IfOk result (λ c. app_of c ≡ places) }
 {
-    let command = Command::new(alloc, "decl")
-        .no_binary_name(true)
-        .arg(Arg::new(alloc, "form").required(true))?;
+    let command = bare_command(alloc).arg(Arg::new(alloc, "form").required(true))?;
     command.arg(Arg::new(alloc, "asks").action(ArgAction::Append))
+}
+
+/// The command before it takes a word.
+fn bare_command<'a>(alloc: Global) -> Command<'a>
+    ensures { app_of result ≡ bare_command }
+{
+    Command::new(alloc, "decl").no_binary_name(true)
 }
 
 /// The command with one more option, where there was room for the command.

@@ -74,20 +74,22 @@ fn fraction(text: &str, digits: u32) -> Option<Frac>
 pub(crate) fn bucket(text: &str) -> Option<Frac>
     ensures { result ≡ (if is_bucket text.now then Some (numeral_value text.now) else None) }
 {
-    match fraction(text, 11) {
-        Some(value) if 0 < value.num() => Some(value),
-        _ => None,
+    let value = fraction(text, 11)?;
+    if 0 < value.num() {
+        return Some(value);
     }
+    None
 }
 
 /// The value of a numeral below 1 that is not bad with 9 digits.
 pub(crate) fn probability(text: &str) -> Option<Frac>
     ensures { result ≡ probability_written text.now }
 {
-    match fraction(text, 9) {
-        Some(value) if value.num() < value.den() => Some(value),
-        _ => None,
+    let value = fraction(text, 9)?;
+    if value.num() < value.den() {
+        return Some(value);
     }
+    None
 }
 
 /// Whether the bytes are spelled as a word of a program.
