@@ -9,10 +9,10 @@ use Rattle.dl_read.specs.Kept.{IsClauseRead, IsRead}
 use Rattle.dl_amounts.specs.declared.flaws.Flaws.{Flaws}
 use Rattle.dl_amounts.specs.declared.flaws.Gridded.{Gridded}
 use Rattle.dl_amounts.specs.Flaws.{TellsFlaws}
-use Rattle.dl_amounts.specs.Grid.{grid_clauses, grid_of}
+use Rattle.dl_amounts.specs.Grid.{grid_losses, grid_of}
 use Rattle.dl_amounts.specs.Rules.{count_lengths, lengths_differ, amount_fails, off_grid, too_far}
 use Rattle.std.specs.Prelude.{IfOk}
-use Rattle.dl_amounts.specs.declared.grid.GridClauses.{GridClauses}
+use Rattle.dl_amounts.specs.declared.grid.GridLosses.{GridLosses}
 use Rattle.dl_amounts.specs.declared.fault.GridFault.{GridFault}
 use Rattle.dl_amounts.specs.declared.fault.GridFault.TheVariants.{OffGrid, TooFar, OutOfMemory}
 use Rattle.dl_amounts.specs.OnGrid.{GridsUnit}
@@ -51,44 +51,37 @@ each_one u e k d h = not_at _ _ (none_each list_not_one (prob_lists_of u) e k d 
 -- ---- the unit
 
 module _ (bs : Fraction) (u : ReadUnit) where
-  pub unit_gridded : (layer : Gridded (Option GridLayer)) (sev : Gridded GridSev) (clauses : Gridded GridClauses)
-      (rest all : Flaws)
+  pub unit_gridded : (layer : Gridded (Option GridLayer)) (losses : Gridded GridLosses) (all : Flaws)
       → IsGridded (λ test. within (layer_fails test bs) u.layer) (if_there (grid_layer bs) u.layer) layer
-      → IsGridded (λ test. first_in (λ (a : ReadAtom). list_fails test bs a.values) u.sev.atoms)
-      (grid_severity bs u.sev) sev
-      → IsGridded (λ test. within (clause_fails test bs) u.occ else within (clause_fails test bs) u.agr)
-      (grid_clauses bs u) clauses
-      → rest ≡ flaws_else sev.flaws clauses.flaws → all ≡ flaws_else layer.flaws rest
+      → IsGridded (λ test. first_in (λ (a : ReadAtom). list_fails test bs a.values) u.sev.atoms
+      else (within (clause_fails test bs) u.occ else within (clause_fails test bs) u.agr))
+      (grid_losses bs u.sev u.occ u.agr) losses
+      → all ≡ flaws_else layer.flaws losses.flaws
       → IsGridded (λ test. amount_fails test bs u) (grid_of bs u) (record {
         part = record {
           name = u.name;
           count = u.count;
           layer = layer.part;
-          sev = sev.part;
-          occ = clauses.part.occ;
-          agr = clauses.part.agr;
+          sev = losses.part.sev;
+          occ = losses.part.clauses.occ;
+          agr = losses.part.clauses.agr;
         };
         flaws = all;
       })
   unfolding amount_fails grid_of
-  unit_gridded layer sev clauses rest all own_layer own_sev own_clauses first second =
-      let in_atoms = λ (test : Fraction → Bool). first_in (λ (a : ReadAtom). list_fails test bs a.values) u.sev.atoms in
-      let in_clauses = λ (test : Fraction → Bool).
-      (within (clause_fails test bs) u.occ else within (clause_fails test bs) u.agr) in
-      both_gridded (λ (l : Option GridLayer) (p : GridSev × GridClauses). record {
+  unit_gridded layer losses all own_layer own_losses joined =
+      both_gridded (λ (l : Option GridLayer) (k : GridLosses). record {
         name = u.name;
         count = u.count;
         layer = l;
-        sev = p.0;
-        occ = p.1.occ;
-        agr = p.1.agr;
+        sev = k.sev;
+        occ = k.clauses.occ;
+        agr = k.clauses.agr;
       })
-      (λ test. within (layer_fails test bs) u.layer) (λ test. in_atoms test else in_clauses test)
-      (λ test. amount_fails test bs u) (if_there (grid_layer bs) u.layer) (grid_severity bs u.sev, grid_clauses bs u)
-      layer (record { part = (sev.part, clauses.part); flaws = rest }) all own_layer
-      (both_gridded (λ (s : GridSev) (k : GridClauses). (s, k)) in_atoms in_clauses
-      (λ test. in_atoms test else in_clauses test) (grid_severity bs u.sev) (grid_clauses bs u) sev clauses rest own_sev
-      own_clauses (λ test. refl) first) (λ test. refl) second
+      (λ test. within (layer_fails test bs) u.layer) (λ test. first_in (λ (a : ReadAtom). list_fails test bs a.values)
+      u.sev.atoms else (within (clause_fails test bs) u.occ else within (clause_fails test bs) u.agr))
+      (λ test. amount_fails test bs u) (if_there (grid_layer bs) u.layer) (grid_losses bs u.sev u.occ u.agr)
+      layer losses all own_layer own_losses (λ test. refl) joined
 
   -- what the flaws tell is what the rules tell
   pub answered : (made : Gridded GridUnit) → IsGridded (λ test. amount_fails test bs u) (grid_of bs u) made

@@ -19,6 +19,7 @@ use Rattle.dl_amounts.specs.declared.grid.GridShare.TheVariants.{Whole, So, Po}
 use Rattle.dl_amounts.specs.declared.grid.GridCeded.{GridCeded}
 use Rattle.dl_amounts.specs.declared.grid.GridClause.{GridClause}
 use Rattle.dl_amounts.specs.declared.grid.GridClauses.{GridClauses}
+use Rattle.dl_amounts.specs.declared.grid.GridLosses.{GridLosses}
 use Rattle.dl_amounts.specs.declared.grid.GridUnit.{GridUnit}
 
 -- an amount of money as a number of buckets, where it is a whole one
@@ -62,10 +63,16 @@ grid_clause bs c = record {
   span = c.span;
 }
 
-abbrev pub grid_clauses : Fraction → ReadUnit → GridClauses
-grid_clauses bs u = record {
-  occ = if_there (grid_clause bs) u.occ;
-  agr = if_there (grid_clause bs) u.agr;
+abbrev pub grid_clauses : Fraction → Option ReadClause → Option ReadClause → GridClauses
+grid_clauses bs occ agr = record {
+  occ = if_there (grid_clause bs) occ;
+  agr = if_there (grid_clause bs) agr;
+}
+
+abbrev pub grid_losses : Fraction → ReadSev → Option ReadClause → Option ReadClause → GridLosses
+grid_losses bs sev occ agr = record {
+  sev = grid_severity bs sev;
+  clauses = grid_clauses bs occ agr;
 }
 
 unfoldable pub grid_of : Fraction → ReadUnit → GridUnit

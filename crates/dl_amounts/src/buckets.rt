@@ -7,7 +7,7 @@ ghost use Rattle.dl_read.specs.First.{◌else◌, at_if, first_in, within};
 ghost use Rattle.dl_read.specs.Numbers.{if_there};
 ghost use Rattle.dl_read.specs.Kept.{IsSmall, IsListRead, IsAtomRead, IsSevRead, IsLayerRead, IsCededRead, IsClauseRead, IsRead};
 ghost use Rattle.dl_amounts.specs.Flaws.{IsGridded};
-ghost use Rattle.dl_amounts.specs.Grid.{number_of, grid_atom, grid_severity, grid_layer, grid_share, grid_ceded, grid_clause, grid_clauses, grid_of};
+ghost use Rattle.dl_amounts.specs.Grid.{number_of, grid_atom, grid_severity, grid_layer, grid_share, grid_ceded, grid_clause, grid_clauses, grid_losses, grid_of};
 ghost use Rattle.dl_amounts.specs.GridKept.{IsGridUnit};
 ghost use Rattle.dl_amounts.specs.OnGrid.{GridsUnit};
 ghost use Rattle.dl_amounts.specs.Rules.{lengths_differ, not_one, list_fails, layer_fails, clause_fails, amount_fails};
@@ -15,7 +15,8 @@ ghost use Rattle.dl_amounts.specs.Rules.{lengths_differ, not_one, list_fails, la
 use crate::fault::GridFault;
 use crate::flaws::{Flaws, Gridded};
 use crate::grid::{
-    GridAtom, GridCeded, GridClause, GridClauses, GridLayer, GridSev, GridShare, GridUnit,
+    GridAtom, GridCeded, GridClause, GridClauses, GridLayer, GridLosses, GridSev, GridShare,
+    GridUnit,
 };
 use dl_frac::Frac;
 use dl_lexer::Span;
@@ -45,31 +46,64 @@ fn grid_parts(alloc: Global, unit: ReadUnit, bs: Frac) -> Result<Gridded<GridUni
     requires read { IsRead unit }
     ensures { IfOk result (IsGridded (λ test. amount_fails test bs unit) (grid_of bs unit)) }
 {
-    let clauses = own_clauses(alloc, &unit, bs)?;
+    let losses = grid_losses(alloc, unit.sev, unit.occ, unit.agr, bs)?;
     let layer = own_layer(unit.layer, bs);
-    let sev = grid_severity(alloc, unit.sev, bs)?;
     Ok(Gridded {
         part: GridUnit {
             name: unit.name,
             count: unit.count,
             layer: layer.part,
-            sev: sev.part,
-            occ: clauses.part.occ,
-            agr: clauses.part.agr,
+            sev: losses.part.sev,
+            occ: losses.part.clauses.occ,
+            agr: losses.part.clauses.agr,
         },
-        flaws: layer.flaws.or(sev.flaws.or(clauses.flaws)),
+        flaws: layer.flaws.or(losses.flaws),
+    })
+}
+
+/// The severity and the clauses of a unit.
+fn grid_losses(
+    alloc: Global,
+    sev: ReadSev,
+    occ: Option<ReadClause>,
+    agr: Option<ReadClause>,
+    bs: Frac,
+) -> Result<Gridded<GridLosses>, AllocError>
+    requires bucket { IsBucket bs }
+    requires sev { IsSevRead sev }
+    requires occ { IfSome occ IsClauseRead }
+    requires agr { IfSome agr IsClauseRead }
+    ensures { IfOk result (IsGridded
+        (λ test. first_in (λ a. list_fails test bs a.values) sev.atoms
+        else within (clause_fails test bs) occ else within (clause_fails test bs) agr)
+        (grid_losses bs sev occ agr)) }
+{
+    let clauses = own_clauses(alloc, occ, agr, bs)?;
+    let sev = grid_severity(alloc, sev, bs)?;
+    Ok(Gridded {
+        part: GridLosses {
+            sev: sev.part,
+            clauses: clauses.part,
+        },
+        flaws: sev.flaws.or(clauses.flaws),
     })
 }
 
 /// The clauses of a unit.
-fn own_clauses(alloc: Global, unit: &ReadUnit, bs: Frac) -> Result<Gridded<GridClauses>, AllocError>
+fn own_clauses(
+    alloc: Global,
+    occ: Option<ReadClause>,
+    agr: Option<ReadClause>,
+    bs: Frac,
+) -> Result<Gridded<GridClauses>, AllocError>
     requires bucket { IsBucket bs }
-    requires read { IsRead unit.now }
-    ensures { IfOk result (IsGridded (λ test. within (clause_fails test bs) unit.now.occ
-        else within (clause_fails test bs) unit.now.agr) (grid_clauses bs unit.now)) }
+    requires occ { IfSome occ IsClauseRead }
+    requires agr { IfSome agr IsClauseRead }
+    ensures { IfOk result (IsGridded (λ test. within (clause_fails test bs) occ
+        else within (clause_fails test bs) agr) (grid_clauses bs occ agr)) }
 {
-    let occ = own_clause(alloc, &unit.occ, bs)?;
-    let agr = own_clause(alloc, &unit.agr, bs)?;
+    let occ = own_clause(alloc, occ, bs)?;
+    let agr = own_clause(alloc, agr, bs)?;
     Ok(Gridded {
         part: GridClauses {
             occ: occ.part,
@@ -244,13 +278,13 @@ fn grid_amount(amount: Frac, bs: Frac, place: Span) -> Gridded<u32>
 /// A clause of a unit, where there is one.
 fn own_clause(
     alloc: Global,
-    clause: &Option<ReadClause>,
+    clause: Option<ReadClause>,
     bs: Frac,
 ) -> Result<Gridded<Option<GridClause>>, AllocError>
     requires bucket { IsBucket bs }
-    requires read { IfSome clause.now IsClauseRead }
-    ensures { IfOk result (IsGridded (λ test. within (clause_fails test bs) clause.now)
-        (if_there (grid_clause bs) clause.now)) }
+    requires read { IfSome clause IsClauseRead }
+    ensures { IfOk result (IsGridded (λ test. within (clause_fails test bs) clause)
+        (if_there (grid_clause bs) clause)) }
 {
     match clause {
         Some(clause) => {
@@ -270,13 +304,13 @@ fn own_clause(
 /// A clause.
 fn grid_clause(
     alloc: Global,
-    clause: &ReadClause,
+    clause: ReadClause,
     bs: Frac,
 ) -> Result<Gridded<GridClause>, AllocError>
     requires bucket { IsBucket bs }
-    requires read { IsClauseRead clause.now }
-    ensures { IfOk result (IsGridded (λ test. clause_fails test bs clause.now)
-        (grid_clause bs clause.now)) }
+    requires read { IsClauseRead clause }
+    ensures { IfOk result (IsGridded (λ test. clause_fails test bs clause)
+        (grid_clause bs clause)) }
 {
     let layers = grid_layers(alloc, clause.layers.as_slice(), bs)?;
     Ok(Gridded {

@@ -78,6 +78,15 @@ pub(crate) struct GridClauses {
     pub(crate) agr: Option<GridClause>,
 }
 
+/// The severity and the clauses of a unit.
+#[derive(Drop)]
+pub(crate) struct GridLosses {
+    /// The severity of one claim.
+    pub(crate) sev: GridSev,
+    /// The clauses.
+    pub(crate) clauses: GridClauses,
+}
+
 /// One unit.
 #[derive(Drop)]
 pub struct GridUnit {
