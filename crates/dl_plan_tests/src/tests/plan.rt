@@ -1,6 +1,8 @@
 //! Plans: clauses, horizons, severities and means, in exact fractions.
 
-use crate::tests::helpers::{Layer, clause, shows};
+ghost use Rattle.std.specs.Prelude.{◌<◌, ◌^◌, IfSome};
+
+use crate::tests::helpers::{Layer, clause, fraction, shows};
 use dl_frac::Frac;
 use dl_lexer::Text;
 use dl_plan::{Cede, Freq, Item, Sev, Unit, greatest_amount, in_layer};
@@ -42,19 +44,21 @@ fn horizon_of(unit: &Unit, cells: u32) -> Option<u32> {
     unit.horizon(cells)
 }
 
+/// An amount, a limit, an attachment, and what is in the layer.
+const IN_LAYER: [(u64, Option<u32>, u32, u64); 7] = [
+    // below it, at its start, inside, at its top, above it; no limit
+    (3, Some(3), 4, 0),
+    (4, Some(3), 4, 0),
+    (5, Some(3), 4, 1),
+    (7, Some(3), 4, 3),
+    (8, Some(3), 4, 3),
+    (10, None, 4, 6),
+    (1 << 40, None, u32::MAX, 1_095_216_660_481),
+];
+
 #[test]
 fn one_layer(rt: HostRuntime) {
-    // below it, at its start, inside, at its top, above it; no limit
-    let table = [
-        (3, Some(3), 4, 0),
-        (4, Some(3), 4, 0),
-        (5, Some(3), 4, 1),
-        (7, Some(3), 4, 3),
-        (8, Some(3), 4, 3),
-        (10, None, 4, 6),
-        (1 << 40, None, u32::MAX, 1_095_216_660_481),
-    ];
-    for (x, limit, attach, wanted) in table {
+    for &(x, limit, attach, wanted) in &IN_LAYER {
         assert_eq!(rt; in_layer(x, limit, attach), wanted);
     }
 }
@@ -177,11 +181,16 @@ fn horizons(rt: HostRuntime) -> Result<(), AllocError> {
     Ok(())
 }
 
+/// The horizon of a unit without a clause.
+fn plain_horizon(alloc: Global, cells: u32) -> Result<Option<u32>, AllocError> {
+    let unit = unit_under(alloc, None)?;
+    Ok(horizon_of(&unit, cells))
+}
+
 #[test]
 fn horizon_of_no_clause(rt: HostRuntime) -> Result<(), AllocError> {
-    let plain = unit_under(rt.alloc(), None)?;
-    assert_eq!(rt; horizon_of(&plain, 16_384), Some(16_384));
-    assert_eq!(rt; horizon_of(&plain, 16_385), None);
+    assert_eq!(rt; plain_horizon(rt.alloc(), 16_384)?, Some(16_384));
+    assert_eq!(rt; plain_horizon(rt.alloc(), 16_385)?, None);
     Ok(())
 }
 
@@ -204,60 +213,94 @@ fn some_claims(alloc: Global) -> Result<Sev, AllocError> {
     Ok(Sev::from_rising(Vec::from_array(alloc, items)?))
 }
 
+/// One claim of 0, for sure.
+fn no_loss(alloc: Global) -> Result<Sev, AllocError> {
+    let items = [Item {
+        amount: 0,
+        weight: 5,
+    }];
+    Ok(Sev::from_rising(Vec::from_array(alloc, items)?))
+}
+
 #[test]
-fn above_zero(rt: HostRuntime) -> Result<(), AllocError> {
-    let alloc = rt.alloc();
-    let claims = some_claims(alloc)?;
+fn lowest_weights(rt: HostRuntime) -> Result<(), AllocError> {
+    let claims = some_claims(rt.alloc())?;
     assert!(rt; shows(&claims, &[(0, 1), (1, 1), (4, 2)], 4));
-    let positive = claims.positive(alloc)?;
-    assert!(rt; positive.is_some_and(|sev| shows(&sev, &[(1, 1), (4, 2)], 3)));
-    let none = Sev::from_rising(Vec::from_array(
-        alloc,
-        [Item {
-            amount: 0,
-            weight: 5,
-        }],
-    )?);
-    assert!(rt; none.positive(alloc)?.is_none());
     Ok(())
 }
 
-/// The thinned mean and the mean of claims of a Poisson count of small mean, each as two numbers.
-fn means_of(alloc: Global, sev: Sev, num: u32, den: u32) -> Option<((u64, u64), (u128, u128))> {
-    if den == 0
-        || !sev
-            .items
-            .as_slice()
-            .iter()
-            .all(|item| item.amount <= 1 << 20)
-    {
-        return None;
+/// Whether the claims above 0 are these items, which come to this total; there are none where there
+/// are no items.
+fn shows_above_zero(
+    alloc: Global,
+    claims: &Sev,
+    items: &[(u32, u32)],
+    total: u32,
+) -> Result<bool, AllocError> {
+    match claims.positive(alloc)? {
+        Some(positive) => Ok(shows(&positive, items, total)),
+        None => Ok(items.is_empty()),
     }
-    let mean = Frac::make(num as u128, den as u128).ok()?;
-    if mean.num() >= 1 << 17 || mean.den() >= 1 << 17 {
-        return None;
+}
+
+#[test]
+fn above_zero(rt: HostRuntime) -> Result<(), AllocError> {
+    let claims = some_claims(rt.alloc())?;
+    assert!(rt; shows_above_zero(rt.alloc(), &claims, &[(1, 1), (4, 2)], 3)?);
+    Ok(())
+}
+
+#[test]
+fn none_above_zero(rt: HostRuntime) -> Result<(), AllocError> {
+    let claims = no_loss(rt.alloc())?;
+    assert!(rt; shows_above_zero(rt.alloc(), &claims, &[], 0)?);
+    Ok(())
+}
+
+/// A fraction whose parts are below 2^17.
+fn small(num: u32, den: u32) -> Option<Frac>
+    ensures num { IfSome result (λ mean. mean.num < 2 ^ 17) }
+    ensures den { IfSome result (λ mean. mean.den < 2 ^ 17) }
+{
+    let mean = fraction((num as u64, den as u64))?;
+    if mean.num() < 1 << 17 && mean.den() < 1 << 17 {
+        Some(mean)
+    } else {
+        None
     }
+}
+
+/// The thinned mean and the mean of the claims of a unit, each as two numbers.
+type Means = ((u64, u64), (u128, u128));
+
+/// Those of the claims above with a Poisson count of this small mean.
+fn means_of(alloc: Global, num: u32, den: u32) -> Result<Option<Means>, AllocError> {
+    let Some(mean) = small(num, den) else {
+        return Ok(None);
+    };
     let unit = Unit {
         name: Text::from_vec(Vec::new(alloc)),
-        sev,
+        sev: some_claims(alloc)?,
         freq: Freq::Poisson(mean),
         cede: None,
     };
+    if !unit
+        .sev
+        .items
+        .as_slice()
+        .iter()
+        .all(|item| item.amount <= 1 << 20)
+    {
+        return Ok(None);
+    }
     let thinned = unit.thinned();
-    Some(((thinned.num(), thinned.den()), unit.mean_parts()))
+    Ok(Some(((thinned.num(), thinned.den()), unit.mean_parts())))
 }
 
 #[test]
 fn means(rt: HostRuntime) -> Result<(), AllocError> {
-    let alloc = rt.alloc();
     // 4/3 claims: 1 of them above 0; the mean is 4/3 of 9/4
-    assert_eq!(rt;
-        means_of(alloc, some_claims(alloc)?, 4, 3),
-        Some(((1, 1), (36, 12)))
-    );
-    assert_eq!(rt;
-        means_of(alloc, some_claims(alloc)?, 0, 1),
-        Some(((0, 1), (0, 4)))
-    );
+    assert_eq!(rt; means_of(rt.alloc(), 4, 3)?, Some(((1, 1), (36, 12))));
+    assert_eq!(rt; means_of(rt.alloc(), 0, 1)?, Some(((0, 1), (0, 4))));
     Ok(())
 }

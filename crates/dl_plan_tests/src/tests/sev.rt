@@ -1,16 +1,16 @@
 //! Steps of severities, worked by hand.
 
-ghost use Rattle.std.specs.Prelude.{◌≡◌, ◌≤◌, ◌^◌, ◌↔◌, sum, IfOk, IsTrue};
-ghost use Rattle.dl_exact.specs.Fraction.{◌≤ℚ◌};
+ghost use Rattle.std.specs.Prelude.{◌≡◌, ◌≤◌, ◌^◌, ◌↔◌, sum, IfOk, IfSome, IsTrue};
+ghost use Rattle.dl_exact.specs.Fraction.{whole, ◌≤ℚ◌, ◌<ℚ◌};
 ghost use Rattle.dl_sev.specs.Buckets.{HasPartsOf18Digits};
 ghost use Rattle.dl_sev.specs.Ranges.{IsRange};
 
-use crate::tests::helpers::{self, Layer, fraction, shows};
+use crate::tests::helpers::{Layer, clause, fraction, shows};
 use dl_frac::Frac;
 use dl_plan::{Cede, Sev, common_denominator_of};
 use dl_sev::{
-    AmountFault, ExpandFault, MixFault, Range, WeighFault, Weights, above, amounts, cede_each, cut,
-    expand, fits, mean, merge, mix, weigh,
+    AboveFault, AmountFault, ExpandFault, MixFault, Range, WeighFault, Weights, above, amounts,
+    cede_each, cut, expand, fits, mean, merge, mix, weigh,
 };
 use std::alloc::{AllocError, Global};
 use std::cmp::Ordering;
@@ -47,41 +47,57 @@ fn severity(alloc: Global, amounts: &[u32], parts: &[(u64, u64)]) -> Option<Sev>
     }
 }
 
+/// Probabilities, their weights, and what these come to; the last have a common denominator of 2^30.
+const WEIGHTS: [([(u64, u64); 3], [u32; 3], u32); 4] = [
+    ([(1, 2), (1, 3), (1, 6)], [3, 2, 1], 6),
+    ([(1, 2), (1, 2), (0, 1)], [1, 1, 0], 2),
+    ([(1, 3), (1, 3), (1, 3)], [1, 1, 1], 3),
+    (
+        [(1, 1 << 30), ((1 << 30) - 1, 1 << 30), (0, 1)],
+        [1, 1_073_741_823, 0],
+        1 << 30,
+    ),
+];
+
+/// Whether probabilities have these weights.
+fn is_weighed(alloc: Global, parts: &[(u64, u64)], weights: &[u32], total: u32) -> bool {
+    match weighed(alloc, parts) {
+        Ok(made) => made.total == total && made.weights.as_slice() == weights,
+        Err(_) => false,
+    }
+}
+
 #[test]
 fn weighing(rt: HostRuntime) {
-    let alloc = rt.alloc();
-    // the last has a common denominator of 2^30
-    let most = 1 << 30;
-    let table = [
-        ([(1, 2), (1, 3), (1, 6)], [3, 2, 1], 6),
-        ([(1, 2), (1, 2), (0, 1)], [1, 1, 0], 2),
-        ([(1, 3), (1, 3), (1, 3)], [1, 1, 1], 3),
-        (
-            [(1, most), (most - 1, most), (0, 1)],
-            [1, 1_073_741_823, 0],
-            1 << 30,
-        ),
-    ];
-    for (parts, weights, total) in table {
-        let made = weighed(alloc, &parts).ok();
-        assert!(rt; made.is_some());
-        if let Some(made) = made {
-            assert_eq!(rt; made.total, total);
-            assert!(rt; made.weights.as_slice() == weights.as_slice());
-        }
+    for (parts, weights, total) in &WEIGHTS {
+        assert!(rt; is_weighed(rt.alloc(), parts, weights, *total));
     }
-    // the last two have one above 2^30, also where the sum is not 1
-    let refused = [
-        ([(1, 3), (1, 3), (0, 1)], WeighFault::NotOne),
-        ([(1, 2), (1, 2), (1, 9)], WeighFault::NotOne),
-        (
-            [(1, most + 1), (most, most + 1), (0, 1)],
-            WeighFault::TooFine,
-        ),
-        ([(1, most + 1), (1, 3), (0, 1)], WeighFault::TooFine),
-    ];
-    for (parts, wanted) in refused {
-        assert_eq!(rt; weighed(alloc, &parts).err(), Some(wanted));
+}
+
+/// Probabilities without weights. The last two have a common denominator above 2^30, also where
+/// their sum is not 1.
+const NO_WEIGHTS: [([(u64, u64); 3], WeighFault); 4] = [
+    ([(1, 3), (1, 3), (0, 1)], WeighFault::NotOne),
+    ([(1, 2), (1, 2), (1, 9)], WeighFault::NotOne),
+    (
+        [(1, (1 << 30) + 1), (1 << 30, (1 << 30) + 1), (0, 1)],
+        WeighFault::TooFine,
+    ),
+    ([(1, (1 << 30) + 1), (1, 3), (0, 1)], WeighFault::TooFine),
+];
+
+#[test]
+fn no_weights(rt: HostRuntime) {
+    for (parts, wanted) in &NO_WEIGHTS {
+        assert_eq!(rt; weighed(rt.alloc(), parts).err(), Some(*wanted));
+    }
+}
+
+/// Whether there is a severity and it has these items, which come to this total.
+fn is_shown(made: Option<Sev>, items: &[(u32, u32)], total: u32) -> bool {
+    match made {
+        Some(sev) => shows(&sev, items, total),
+        None => false,
     }
 }
 
@@ -93,7 +109,7 @@ fn merges(
     items: &[(u32, u32)],
     total: u32,
 ) -> bool {
-    severity(alloc, &amounts, parts).is_some_and(|sev| shows(&sev, items, total))
+    is_shown(severity(alloc, &amounts, parts), items, total)
 }
 
 #[test]
@@ -131,103 +147,145 @@ fn merging(rt: HostRuntime) {
     );
 }
 
-/// The atoms that there are.
-fn atoms_of(
-    alloc: Global,
-    first: Option<Sev>,
-    second: Option<Sev>,
-) -> Result<Vec<Sev>, AllocError> {
-    let mut atoms = Vec::new(alloc);
-    if let Some(atom) = first {
+/// Amounts and their probabilities.
+type Listed<'a> = (&'a [u32], &'a [(u64, u64)]);
+
+/// Adds the severity of amounts, where it is one.
+fn push_atom(alloc: Global, atoms: &mut Vec<Sev>, listed: Listed<'_>) -> Result<(), AllocError> {
+    if let Some(atom) = severity(alloc, listed.0, listed.1) {
         atoms.push(atom)?;
     }
-    if let Some(atom) = second {
-        atoms.push(atom)?;
-    }
-    Ok(atoms)
+    Ok(())
 }
 
 /// The mixture of two atoms.
 fn mixed(
     alloc: Global,
-    first: Option<Sev>,
-    second: Option<Sev>,
+    first: Listed<'_>,
+    second: Listed<'_>,
     parts: &[(u64, u64)],
 ) -> Result<Sev, MixFault> {
-    let atoms = atoms_of(alloc, first, second)?;
+    let mut atoms = Vec::new(alloc);
+    push_atom(alloc, &mut atoms, first)?;
+    push_atom(alloc, &mut atoms, second)?;
+    mixture(alloc, &atoms, parts)
+}
+
+/// The mixture of atoms.
+fn mixture(alloc: Global, atoms: &[Sev], parts: &[(u64, u64)]) -> Result<Sev, MixFault> {
     match weighed(alloc, parts) {
         Ok(weights) if weights.weights.as_slice().len() == atoms.len() => mix(
-            alloc, &atoms, &weights,
+            alloc, atoms, &weights,
         ),
         _ => Err(MixFault::OutOfMemory),
     }
+}
+
+/// Two and three equally likely amounts.
+const HALVES: [(u64, u64); 2] = [(1, 2), (1, 2)];
+
+const THIRDS: [(u64, u64); 3] = [(1, 3), (1, 3), (1, 3)];
+
+/// An amount of probability 1 / 2^29, and one of all that is left.
+const FINE: [(u64, u64); 2] = [(1, 1 << 29), ((1 << 29) - 1, 1 << 29)];
+
+/// Whether the mixture of two atoms has these items.
+fn mixes(
+    alloc: Global,
+    first: Listed<'_>,
+    second: Listed<'_>,
+    parts: &[(u64, u64)],
+    items: &[(u32, u32)],
+    total: u32,
+) -> bool {
+    is_shown(mixed(alloc, first, second, parts).ok(), items, total)
 }
 
 #[test]
 fn mixing(rt: HostRuntime) {
     let alloc = rt.alloc();
     // 1 and 2, or 2, 3 and 4, each with 1/2: 2 has 1/4 + 1/6
-    let halves = [(1, 2), (1, 2)];
-    let thirds = [(1, 3), (1, 3), (1, 3)];
-    let made = mixed(
-        alloc,
-        severity(alloc, &[1, 2], &halves),
-        severity(alloc, &[2, 3, 4], &thirds),
-        &halves,
-    );
-    assert!(rt; made.is_ok_and(|sev| shows(&sev, &[(1, 3), (2, 5), (3, 2), (4, 2)], 12)));
-    // an atom of weight 0 is none
-    let made = mixed(
-        alloc,
-        severity(alloc, &[1], &[(1, 1)]),
-        severity(alloc, &[2, 3, 4], &thirds),
-        &[(1, 1), (0, 1)],
-    );
-    assert!(rt; made.is_ok_and(|sev| shows(&sev, &[(1, 1)], 1)));
-    // a common denominator of 2^30, and of 2^31
-    let fine = [(1, 1 << 29), ((1 << 29) - 1, 1 << 29)];
-    let made = mixed(
-        alloc,
-        severity(alloc, &[1, 2], &fine),
-        severity(alloc, &[1], &[(1, 1)]),
-        &halves,
-    );
     assert!(rt;
-        made.is_ok_and(|sev| shows(&sev, &[(1, (1 << 29) + 1), (2, (1 << 29) - 1)], 1 << 30))
+        mixes(
+            alloc,
+            (&[1, 2], &HALVES),
+            (&[2, 3, 4], &THIRDS),
+            &HALVES,
+            &[(1, 3), (2, 5), (3, 2), (4, 2)],
+            12
+        )
     );
+    // an atom of weight 0 is none
+    assert!(rt;
+        mixes(
+            alloc,
+            (&[1], &[(1, 1)]),
+            (&[2, 3, 4], &THIRDS),
+            &[(1, 1), (0, 1)],
+            &[(1, 1)],
+            1
+        )
+    );
+    // a common denominator of 2^30
+    assert!(rt;
+        mixes(
+            alloc,
+            (&[1, 2], &FINE),
+            (&[1], &[(1, 1)]),
+            &HALVES,
+            &[(1, (1 << 29) + 1), (2, (1 << 29) - 1)],
+            1 << 30
+        )
+    );
+}
+
+#[test]
+fn mixture_too_fine(rt: HostRuntime) {
+    // a common denominator of 2^31
     let made = mixed(
-        alloc,
-        severity(alloc, &[1, 2], &fine),
-        severity(alloc, &[1], &[(1, 1)]),
+        rt.alloc(),
+        (&[1, 2], &FINE),
+        (&[1], &[(1, 1)]),
         &[(1, 4), (3, 4)],
     );
     assert_eq!(rt; made.err(), Some(MixFault::TooFine));
 }
 
-#[test]
-fn conditioning_and_layers(rt: HostRuntime) {
-    let alloc = rt.alloc();
-    // amounts 1 and 5 with probabilities 1/4 and 3/4
-    let made = severity(alloc, &[1, 5], &[(1, 4), (3, 4)]);
-    assert!(rt; made.is_some());
-    if let Some(sev) = made {
-        assert!(rt; above(alloc, &sev, 0).is_ok_and(|made| shows(&made, &[(1, 1), (5, 3)], 4)));
-        assert!(rt; above(alloc, &sev, 1).is_ok_and(|made| shows(&made, &[(5, 1)], 1)));
-        assert!(rt; above(alloc, &sev, 4).is_ok_and(|made| shows(&made, &[(5, 1)], 1)));
-        assert!(rt; above(alloc, &sev, 5).is_err());
-        assert!(rt;
-            cut(alloc, &sev, Some(2), 2).is_ok_and(|made| shows(&made, &[(0, 1), (2, 3)], 4))
-        );
-        assert!(rt; cut(alloc, &sev, None, 2).is_ok_and(|made| shows(&made, &[(0, 1), (3, 3)], 4)));
-        assert!(rt; cut(alloc, &sev, Some(1), 0).is_ok_and(|made| shows(&made, &[(1, 1)], 1)));
-        assert!(rt; cut(alloc, &sev, Some(0), 0).is_ok_and(|made| shows(&made, &[(0, 1)], 1)));
+/// Amounts 1 and 5 with probabilities 1/4 and 3/4.
+fn one_and_five(alloc: Global) -> Option<Sev> {
+    severity(alloc, &[1, 5], &[(1, 4), (3, 4)])
+}
+
+/// Those above an attachment.
+fn five_above(alloc: Global, attach: u32) -> Result<Sev, AboveFault> {
+    match one_and_five(alloc) {
+        Some(sev) => above(alloc, &sev, attach),
+        None => Err(AboveFault::OutOfMemory),
     }
 }
 
-/// The clause of one layer, where it is one.
-fn clause(alloc: Global, net: bool, layer: Layer) -> Result<Option<Cede>, AllocError> {
-    let cede = helpers::clause(alloc, net, layer, None)?;
-    Ok(if cede.is_clause() { Some(cede) } else { None })
+#[test]
+fn conditioning(rt: HostRuntime) {
+    let alloc = rt.alloc();
+    assert!(rt; is_shown(five_above(alloc, 0).ok(), &[(1, 1), (5, 3)], 4));
+    assert!(rt; is_shown(five_above(alloc, 1).ok(), &[(5, 1)], 1));
+    assert!(rt; is_shown(five_above(alloc, 4).ok(), &[(5, 1)], 1));
+    assert_eq!(rt; five_above(alloc, 5).err(), Some(AboveFault::NoneAbove));
+}
+
+/// Those in a layer.
+fn five_in(alloc: Global, limit: Option<u32>, attach: u32) -> Option<Sev> {
+    let sev = one_and_five(alloc)?;
+    cut(alloc, &sev, limit, attach).ok()
+}
+
+#[test]
+fn layers(rt: HostRuntime) {
+    let alloc = rt.alloc();
+    assert!(rt; is_shown(five_in(alloc, Some(2), 2), &[(0, 1), (2, 3)], 4));
+    assert!(rt; is_shown(five_in(alloc, None, 2), &[(0, 1), (3, 3)], 4));
+    assert!(rt; is_shown(five_in(alloc, Some(1), 0), &[(1, 1)], 1));
+    assert!(rt; is_shown(five_in(alloc, Some(0), 0), &[(0, 1)], 1));
 }
 
 /// The amounts in which a clause leaves three equally likely ones, none where it is off the grid.
@@ -239,42 +297,35 @@ const CEDED: [(bool, [u32; 3], Option<[(u32, u32); 3]>); 4] = [
     (true, [2, 4, 5], None),
 ];
 
+/// What the clause keeps of each of three equally likely amounts.
+fn ceded(alloc: Global, cede: &Cede, amounts: &[u32]) -> Option<Sev> {
+    if !cede.is_clause() {
+        return None;
+    }
+    let sev = severity(alloc, amounts, &THIRDS)?;
+    cede_each(alloc, &sev, cede).ok()
+}
+
 /// What a half of 4 above 2 leaves of three equally likely amounts.
 fn ceded_half(alloc: Global, net: bool, amounts: &[u32]) -> Result<Option<Sev>, AllocError> {
-    let Some(cede) = clause(alloc, net, Layer(1, 2, Some(4), 2))? else {
-        return Ok(None);
-    };
-    match severity(alloc, amounts, &[(1, 3), (1, 3), (1, 3)]) {
-        Some(sev) => Ok(ceded(alloc, &sev, &cede)),
-        None => Ok(None),
-    }
+    let cede = clause(alloc, net, Layer(1, 2, Some(4), 2), None)?;
+    Ok(ceded(alloc, &cede, amounts))
 }
 
 /// Whether a severity has these amounts, or is none where there are none.
-fn is_wanted(made: &Option<Sev>, wanted: &Option<[(u32, u32); 3]>) -> bool {
-    match (made, wanted) {
-        (Some(sev), Some(items)) => shows(sev, items, 3),
-        (None, None) => true,
-        _ => false,
+fn is_wanted(made: Option<Sev>, wanted: &Option<[(u32, u32); 3]>) -> bool {
+    match wanted {
+        Some(items) => is_shown(made, items, 3),
+        None => made.is_none(),
     }
 }
 
 #[test]
 fn occurrence_clauses(rt: HostRuntime) -> Result<(), AllocError> {
     for (net, amounts, wanted) in &CEDED {
-        let made = ceded_half(rt.alloc(), *net, amounts)?;
-        assert!(rt; is_wanted(&made, wanted));
+        assert!(rt; is_wanted(ceded_half(rt.alloc(), *net, amounts)?, wanted));
     }
     Ok(())
-}
-
-/// What the clause keeps of each amount.
-fn ceded(alloc: Global, sev: &Sev, cede: &Cede) -> Option<Sev> {
-    if cede.is_clause() {
-        cede_each(alloc, sev, cede).ok()
-    } else {
-        None
-    }
 }
 
 /// Whether the clause fits the step; none where it is no clause.
@@ -314,10 +365,8 @@ const LATTICES: [(Layer, u32, bool); 16] = [
 
 /// Whether the clause of a layer fits the step.
 fn fits_layer(alloc: Global, layer: Layer, step: u32) -> Result<Option<bool>, AllocError> {
-    match clause(alloc, false, layer)? {
-        Some(cede) => Ok(fits_step(&cede, step)),
-        None => Ok(None),
-    }
+    let cede = clause(alloc, false, layer, None)?;
+    Ok(fits_step(&cede, step))
 }
 
 #[test]
@@ -343,38 +392,41 @@ fn mean_of(sev: &Sev) -> Option<(u64, u64)> {
     }
 }
 
+/// Two amounts, their probabilities and their mean; the last are 2^20 and 1, over a common
+/// denominator of 2^30.
+const MEANS: [([u32; 2], [(u64, u64); 2], (u64, u64)); 4] = [
+    ([1, 5], [(1, 4), (3, 4)], (4, 1)),
+    ([0, 1], [(2, 3), (1, 3)], (1, 3)),
+    ([0, 0], [(1, 2), (1, 2)], (0, 1)),
+    (
+        [1 << 20, 1],
+        [((1 << 30) - 1, 1 << 30), (1, 1 << 30)],
+        (1_125_899_905_794_049, 1 << 30),
+    ),
+];
+
+/// The mean of amounts with these probabilities.
+fn mean_among(alloc: Global, amounts: &[u32], parts: &[(u64, u64)]) -> Option<(u64, u64)> {
+    let sev = severity(alloc, amounts, parts)?;
+    mean_of(&sev)
+}
+
 #[test]
 fn means(rt: HostRuntime) {
-    let alloc = rt.alloc();
-    let most = 1 << 30;
-    let table = [
-        ([1, 5], [(1, 4), (3, 4)], (4, 1)),
-        ([0, 1], [(2, 3), (1, 3)], (1, 3)),
-        ([0, 0], [(1, 2), (1, 2)], (0, 1)),
-        // 2^20 and 1, over a common denominator of 2^30
-        (
-            [1 << 20, 1],
-            [(most - 1, most), (1, most)],
-            (1_125_899_905_794_049, 1 << 30),
-        ),
-    ];
-    for (amounts, parts, wanted) in table {
-        let made = severity(alloc, &amounts, &parts);
-        assert_eq!(rt; made.as_ref().and_then(mean_of), Some(wanted));
+    for (amounts, parts, wanted) in &MEANS {
+        assert_eq!(rt; mean_among(rt.alloc(), amounts, parts), Some(*wanted));
     }
 }
 
+/// The first value, the last and the step of a range, each by its parts.
+type Parts = ((u64, u64), (u64, u64), (u64, u64));
+
 /// The values of one range, where it is a good one.
-fn values_of(
-    alloc: Global,
-    from: (u64, u64),
-    to: (u64, u64),
-    step: (u64, u64),
-) -> Option<Result<Vec<Frac>, ExpandFault>> {
+fn values_of(alloc: Global, parts: Parts) -> Option<Result<Vec<Frac>, ExpandFault>> {
     let range = Range {
-        from: fraction(from)?,
-        to: fraction(to)?,
-        step: fraction(step)?,
+        from: fraction(parts.0)?,
+        to: fraction(parts.1)?,
+        step: fraction(parts.2)?,
     };
     if !is_range(range) {
         return None;
@@ -405,57 +457,70 @@ fn is_rising(from: Frac, to: Frac) -> bool
     }
 }
 
-#[test]
-fn ranges(rt: HostRuntime) {
-    let alloc = rt.alloc();
-    // how many values, and the last
-    let table = [
-        ((1, 1), (6, 1), (1, 1), 6, (6, 1)),
-        ((1, 1), (6, 1), (2, 1), 3, (5, 1)),
-        ((0, 1), (1, 1), (1, 4), 5, (1, 1)),
-        ((1, 3), (1, 1), (1, 2), 2, (5, 6)),
-        ((7, 2), (7, 2), (1, 1), 1, (7, 2)),
-        ((1, 1), (1_024, 1), (1, 1), 1_024, (1_024, 1)),
-    ];
-    for (from, to, step, count, last) in table {
-        let made = match values_of(alloc, from, to, step) {
-            Some(Ok(values)) => ends_of(&values),
-            _ => None,
-        };
-        assert_eq!(rt; made, Some((count, last)));
-    }
-    let long = match values_of(alloc, (1, 1), (1_025, 1), (1, 1)) {
-        Some(Err(fault)) => Some(fault),
+/// Ranges, how many values they have, and the last.
+const RANGES: [(Parts, usize, (u64, u64)); 6] = [
+    (((1, 1), (6, 1), (1, 1)), 6, (6, 1)),
+    (((1, 1), (6, 1), (2, 1)), 3, (5, 1)),
+    (((0, 1), (1, 1), (1, 4)), 5, (1, 1)),
+    (((1, 3), (1, 1), (1, 2)), 2, (5, 6)),
+    (((7, 2), (7, 2), (1, 1)), 1, (7, 2)),
+    (((1, 1), (1_024, 1), (1, 1)), 1_024, (1_024, 1)),
+];
+
+/// How many values a range has, and the last.
+fn ends_of(alloc: Global, parts: Parts) -> Option<(usize, (u64, u64))> {
+    match values_of(alloc, parts) {
+        Some(Ok(values)) => ends_among(&values),
         _ => None,
-    };
-    assert_eq!(rt; long, Some(ExpandFault::TooLong));
+    }
 }
 
 /// How many values there are, and the last.
-fn ends_of(values: &[Frac]) -> Option<(usize, (u64, u64))> {
+fn ends_among(values: &[Frac]) -> Option<(usize, (u64, u64))> {
     let last = values.last()?;
     Some((values.len(), (last.num(), last.den())))
 }
 
-/// The values as buckets of a size; none where the parts are not good ones.
+#[test]
+fn ranges(rt: HostRuntime) {
+    for (parts, count, last) in &RANGES {
+        assert_eq!(rt; ends_of(rt.alloc(), *parts), Some((*count, *last)));
+    }
+}
+
+#[test]
+fn range_too_long(rt: HostRuntime) {
+    let made = values_of(rt.alloc(), ((1, 1), (1_025, 1), (1, 1)));
+    assert_eq!(rt; made.and_then(Result::err), Some(ExpandFault::TooLong));
+}
+
+/// The size of a bucket, where it is a good one.
+fn bucket_of(parts: (u64, u64)) -> Option<Frac>
+    ensures above { IfSome result (λ size. whole 0 <ℚ size) }
+    ensures modest { IfSome result HasPartsOf18Digits }
+{
+    let size = fraction(parts)?;
+    if size.num() > 0 && is_modest(size) {
+        Some(size)
+    } else {
+        None
+    }
+}
+
+/// The values as buckets of a size, where the parts are good ones.
 fn amounts_of(
     alloc: Global,
     parts: &[(u64, u64)],
     bs: (u64, u64),
-) -> Option<Result<Vec<u32>, AmountFault>> {
-    let values = fractions(alloc, parts).ok()?;
-    if bs.0 == 0
-        || bs.1 == 0
-        || values.len() > 1_024
-        || !values.iter().all(|value| is_modest(*value))
-    {
-        return None;
+) -> Result<Vec<u32>, AmountFault> {
+    let Some(size) = bucket_of(bs) else {
+        return Err(AmountFault::OutOfMemory);
+    };
+    let values = fractions(alloc, parts)?;
+    if values.len() > 1_024 || !values.iter().all(|value| is_modest(*value)) {
+        return Err(AmountFault::OutOfMemory);
     }
-    let size = Frac::make(bs.0 as u128, bs.1 as u128).ok()?;
-    if size.num() == 0 || !is_modest(size) {
-        return None;
-    }
-    Some(amounts(alloc, &values, size))
+    amounts(alloc, &values, size)
 }
 
 /// Whether both parts are below 10^18.
@@ -465,39 +530,42 @@ fn is_modest(x: Frac) -> bool
     x.num() < 1_000_000_000_000_000_000 && x.den() < 1_000_000_000_000_000_000
 }
 
+/// Amounts of money, the size of a bucket, and the amounts in buckets.
+const BUCKETS: [([(u64, u64); 3], (u64, u64), [u32; 3]); 3] = [
+    ([(1, 2), (1, 1), (3, 2)], (1, 2), [1, 2, 3]),
+    ([(0, 1), (5, 1), (10, 1)], (5, 1), [0, 1, 2]),
+    ([(1_048_576, 1), (1, 1), (2, 1)], (1, 1), [1_048_576, 1, 2]),
+];
+
+/// Whether the values are these amounts in buckets of a size.
+fn are_amounts(alloc: Global, parts: &[(u64, u64)], bs: (u64, u64), wanted: &[u32]) -> bool {
+    match amounts_of(alloc, parts, bs) {
+        Ok(made) => made.as_slice() == wanted,
+        Err(_) => false,
+    }
+}
+
 #[test]
 fn buckets(rt: HostRuntime) {
-    let alloc = rt.alloc();
-    let table = [
-        ([(1, 2), (1, 1), (3, 2)], (1, 2), Ok([1, 2, 3])),
-        ([(0, 1), (5, 1), (10, 1)], (5, 1), Ok([0, 1, 2])),
-        (
-            [(1, 1), (3, 2), (1, 3)],
-            (1, 1),
-            Err(AmountFault::OffGrid(1)),
-        ),
-        // off the grid goes before too far, also where it stands later
-        (
-            [(1_048_577, 1), (1, 1), (1, 2)],
-            (1, 1),
-            Err(AmountFault::OffGrid(2)),
-        ),
-        (
-            [(1_048_576, 1), (1, 1), (2, 1)],
-            (1, 1),
-            Ok([1_048_576, 1, 2]),
-        ),
-        (
-            [(1, 1), (1_048_577, 1), (1_048_578, 1)],
-            (1, 1),
-            Err(AmountFault::TooFar(1)),
-        ),
-    ];
-    for (parts, bs, wanted) in table {
-        match (amounts_of(alloc, &parts, bs), wanted) {
-            (Some(Ok(made)), Ok(expected)) => assert!(rt; made.as_slice() == expected.as_slice()),
-            (Some(Err(fault)), Err(expected)) => assert_eq!(rt; fault, expected),
-            _ => assert!(rt; false),
-        }
+    for (parts, bs, wanted) in &BUCKETS {
+        assert!(rt; are_amounts(rt.alloc(), parts, *bs, wanted));
+    }
+}
+
+/// Amounts of money of which one is no amount in buckets of size 1. That one is off the grid goes
+/// before that one is too far, also where it stands later.
+const NO_BUCKETS: [([(u64, u64); 3], AmountFault); 3] = [
+    ([(1, 1), (3, 2), (1, 3)], AmountFault::OffGrid(1)),
+    ([(1_048_577, 1), (1, 1), (1, 2)], AmountFault::OffGrid(2)),
+    (
+        [(1, 1), (1_048_577, 1), (1_048_578, 1)],
+        AmountFault::TooFar(1),
+    ),
+];
+
+#[test]
+fn no_buckets(rt: HostRuntime) {
+    for (parts, wanted) in &NO_BUCKETS {
+        assert_eq!(rt; amounts_of(rt.alloc(), parts, (1, 1)).err(), Some(*wanted));
     }
 }

@@ -178,41 +178,49 @@ fn program_of(alloc: Global, text: &[u8]) -> Option<Program>
     parse(alloc, text, &tokens).ok()
 }
 
-/// What a text is refused for, if it is; nothing where it is no program.
-fn first_fault(alloc: Global, text: &[u8]) -> Option<Option<(u32, Rule, u32)>> {
+/// Why the program of a text is refused, if it is; nothing where it is no program.
+fn first_fault(alloc: Global, text: &[u8]) -> Option<Option<CheckFault>> {
     let program = program_of(alloc, text)?;
-    fault_in(alloc, &program)
+    Some(fault_in(alloc, &program))
 }
 
-/// What a program is refused for, if it is.
-fn fault_in(alloc: Global, program: &Program) -> Option<Option<(u32, Rule, u32)>>
+/// Why a program is refused, if it is.
+fn fault_in(alloc: Global, program: &Program) -> Option<CheckFault>
     requires { IsWellFormed program.now }
 {
-    match check(alloc, program, &settings(alloc)) {
-        Ok(_) => Some(None),
-        Err(CheckFault::Typing(fault)) => Some(Some((fault.unit, fault.rule, fault.span.start))),
-        Err(CheckFault::OutOfMemory) => None,
+    let settings = settings(alloc);
+    check(alloc, program, &settings).err()
+}
+
+/// The unit, the rule and the first byte of the place of a refusal, if it is one; nothing where it
+/// is for want of memory.
+fn told(fault: Option<CheckFault>) -> Option<Option<(u32, Rule, u32)>> {
+    match fault {
+        Some(CheckFault::Typing(fault)) => Some(Some((fault.unit, fault.rule, fault.span.start))),
+        Some(CheckFault::OutOfMemory) => None,
+        None => Some(None),
     }
 }
 
 #[test]
 fn rules(rt: HostRuntime) {
     for (text, want) in &CASES {
-        let got = first_fault(rt.alloc(), text);
+        let got = first_fault(rt.alloc(), text).and_then(told);
         assert_eq!(rt; got, Some(*want));
     }
 }
 
-#[test]
-fn numbers(rt: HostRuntime) {
-    assert_eq!(rt; Rule::DuplicateName.number(), 1);
-    assert_eq!(rt; Rule::NotOne.number(), 6);
-    assert_eq!(rt; Rule::TooManyUnits.number(), 22);
-}
+/// Rules, their numbers and their names.
+const RULES: [(Rule, u32, &str); 3] = [
+    (Rule::DuplicateName, 1, "DuplicateName"),
+    (Rule::NotOne, 6, "NotOne"),
+    (Rule::TooManyUnits, 22, "TooManyUnits"),
+];
 
 #[test]
-fn names(rt: HostRuntime) {
-    assert_eq!(rt; Rule::DuplicateName.name(), "DuplicateName");
-    assert_eq!(rt; Rule::NotOne.name(), "NotOne");
-    assert_eq!(rt; Rule::TooManyUnits.name(), "TooManyUnits");
+fn numbers_and_names(rt: HostRuntime) {
+    for (rule, number, name) in &RULES {
+        assert_eq!(rt; rule.number(), *number);
+        assert_eq!(rt; rule.name(), *name);
+    }
 }

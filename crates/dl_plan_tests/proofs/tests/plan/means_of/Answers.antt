@@ -32,5 +32,4 @@ thinned_small x sev p q =
 
 pub thinned-thinned-requires-clause-admitted : goal.thinned-thinned-requires-clause-admitted
 thinned-thinned-requires-clause-admitted c =
-    thinned_small c.in_ok-mean.mean c.args.sev (omega (arith, c.num.ensures.part, c.if-num.false))
-    (omega (arith, c.den.ensures.part, c.if-den.false))
+    thinned_small c.in-Some.mean c.in_ok-some_claims.field-0 c.in-Some.ensures.num c.in-Some.ensures.den
