@@ -16,7 +16,6 @@ use dl_report::{End, Report};
 use dl_types::check;
 use dl_words::{WordsFault, read_words};
 use std::alloc::Global;
-use std::test::Fail;
 
 /// The program.
 const TWO_CLAIMS: &[u8] = b"agg A 2 claims dsev [1] fixed";
@@ -102,48 +101,77 @@ fn ends(alloc: Global, width: u64, ask: &str) -> Result<Option<(End, End)>, Eval
     }
 }
 
+/// Asks, and both ends of their answers.
+const ANSWERS: [(&str, End); 8] = [
+    ("pmf:2", End::Number(1_000_000)),
+    ("cdf:1", End::Number(0)),
+    ("mean", End::Number(2_000_000)),
+    ("layer:1xs1", End::Number(1_000_000)),
+    ("tail:0.5", End::Number(2_000_000)),
+    ("joint:A:2", End::Number(2_000_000)),
+    ("kappa:A:2", End::Number(2_000_000)),
+    ("kappa:A:3", End::Absent),
+];
+
 #[test]
 fn answers(rt: HostRuntime) {
-    let rows = [
-        ("pmf:2", End::Number(1_000_000)),
-        ("cdf:1", End::Number(0)),
-        ("mean", End::Number(2_000_000)),
-        ("layer:1xs1", End::Number(1_000_000)),
-        ("tail:0.5", End::Number(2_000_000)),
-        ("joint:A:2", End::Number(2_000_000)),
-        ("kappa:A:2", End::Number(2_000_000)),
-        ("kappa:A:3", End::Absent),
-    ];
-    for (ask, want) in rows {
+    for &(ask, want) in &ANSWERS {
         assert_eq!(rt; ends(rt.alloc(), 2, ask), Ok(Some((want, want))), "{ask}");
     }
 }
 
+/// Widths, asks, and why they are refused.
+const REFUSALS: [(u64, &str, EvalFault); 3] = [
+    (2, "joint:B:2", EvalFault::UnknownUnit(0)),
+    (2, "pmf:16", EvalFault::AskBeyond(0)),
+    (1, "pmf:2", EvalFault::TooWide(0, 2)),
+];
+
 #[test]
 fn refusals(rt: HostRuntime) {
-    let rows = [
-        (2, "joint:B:2", EvalFault::UnknownUnit(0)),
-        (2, "pmf:16", EvalFault::AskBeyond(0)),
-        (1, "pmf:2", EvalFault::TooWide(0, 2)),
-    ];
-    for (width, ask, want) in rows {
+    for &(width, ask, want) in &REFUSALS {
         assert_eq!(rt; ends(rt.alloc(), width, ask), Err(want), "{ask}");
     }
 }
 
-#[test]
-fn budgets(rt: HostRuntime) -> Result<(), Fail> {
-    let settings = asking(rt.alloc(), 2, "mean").ok().ok_or("no settings")?;
-    let plan = two_claims(rt.alloc(), &settings).ok_or("no plan")?;
-    assert_eq!(rt; plan.cells, 16);
-    assert_eq!(rt; total_budget::<56>(&plan), 35);
-    assert_eq!(rt; others_budget::<56>(&plan, 0), 0);
-    assert_eq!(rt; ask_budget::<56>(&plan, &Ask::Mean), 1);
+/// The budgets of a plan on 16 cells: of the sum of its units, of all but the first, of the mean and
+/// of a layer; and the width that a probability needs in 6 digits.
+fn budgets_of(plan: &Plan) -> Option<[u128; 5]>
+    requires { IsValid plan.now }
+{
+    if plan.cells != 16 {
+        return None;
+    }
     let layer = Ask::LayerMean {
         limit: Some(12),
         attach: 4,
     };
-    assert_eq!(rt; ask_budget::<56>(&plan, &layer), 420);
-    assert_eq!(rt; needed::<56>(&plan, &Ask::Cdf(2), 6), 2);
-    Ok(())
+    Some([
+        total_budget::<56>(plan),
+        others_budget::<56>(plan, 0),
+        ask_budget::<56>(plan, &Ask::Mean),
+        ask_budget::<56>(plan, &layer),
+        needed::<56>(plan, &Ask::Cdf(2), 6),
+    ])
+}
+
+/// Those of the two claims.
+fn budgets_with(alloc: Global, settings: &Settings) -> Option<[u128; 5]>
+    requires { AreInRange settings.now }
+{
+    let plan = two_claims(alloc, settings)?;
+    budgets_of(&plan)
+}
+
+/// The same, with settings of this ask.
+fn budgets_asked(alloc: Global, ask: &str) -> Option<[u128; 5]> {
+    match asking(alloc, 2, ask) {
+        Ok(settings) => budgets_with(alloc, &settings),
+        Err(_) => None,
+    }
+}
+
+#[test]
+fn budgets(rt: HostRuntime) {
+    assert_eq!(rt; budgets_asked(rt.alloc(), "mean"), Some([35, 0, 1, 420, 2]));
 }

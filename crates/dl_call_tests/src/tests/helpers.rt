@@ -64,20 +64,50 @@ pub fn words_of(alloc: Global, line: &str) -> Result<Vec<String>, AllocError> {
     Ok(words)
 }
 
-/// A call over these objects.
-pub fn call(alloc: Global, words: &str, input: &[u8], with: Objects) -> Result<Ended, AllocError> {
-    let owned = words_of(alloc, words)?;
-    let given = with.given.max(1);
-    let taken = with.taken.max(1);
-    let mut src = MemSource::new(input.to_vec(alloc)?, given, [with.read].to_vec(alloc)?);
-    let mut out = MemSink::new(alloc, with.room, taken, [with.write].to_vec(alloc)?)?;
-    let mut err = MemSink::new(alloc, with.room, taken, [with.tell].to_vec(alloc)?)?;
-    let status = run(alloc, owned.as_slice(), &mut src, &mut out, &mut err);
-    let report = out.held().to_vec(alloc)?;
-    let message = err.held().to_vec(alloc)?;
+/// The source of a call, which gives this input.
+fn source(alloc: Global, input: &[u8], with: Objects) -> Result<MemSource, AllocError> {
+    let fails = [with.read].to_vec(alloc)?;
+    Ok(MemSource::new(input.to_vec(alloc)?, with.given.max(1), fails))
+}
+
+/// A sink of a call, which fails at this call of it.
+fn sink(alloc: Global, with: Objects, call: u64) -> Result<MemSink, AllocError> {
+    let fails = [call].to_vec(alloc)?;
+    MemSink::new(alloc, with.room, with.taken.max(1), fails)
+}
+
+/// How a call ended whose sinks hold this.
+fn ended_with(
+    alloc: Global,
+    status: Status,
+    report: &[u8],
+    message: &[u8],
+) -> Result<Ended, AllocError> {
+    let report = report.to_vec(alloc)?;
+    let message = message.to_vec(alloc)?;
     Ok(Ended {
         status,
         report,
         message,
     })
+}
+
+/// A call over a source.
+fn call_on(
+    alloc: Global,
+    words: &[String],
+    src: &mut MemSource,
+    with: Objects,
+) -> Result<Ended, AllocError> {
+    let mut out = sink(alloc, with, with.write)?;
+    let mut err = sink(alloc, with, with.tell)?;
+    let status = run(alloc, words, src, &mut out, &mut err);
+    ended_with(alloc, status, out.held(), err.held())
+}
+
+/// A call over these objects.
+pub fn call(alloc: Global, words: &str, input: &[u8], with: Objects) -> Result<Ended, AllocError> {
+    let owned = words_of(alloc, words)?;
+    let mut src = source(alloc, input, with)?;
+    call_on(alloc, owned.as_slice(), &mut src, with)
 }

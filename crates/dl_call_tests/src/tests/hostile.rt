@@ -1,6 +1,9 @@
 //! Whole calls whose objects fail at each call in turn, and texts that end anywhere. The values
 //! were worked apart from the program.
 
+ghost use Rattle.std.specs.Prelude.{◌≤◌, length};
+ghost use Rattle.dl_limits.specs.Limits.{most_text};
+
 use crate::tests::helpers::{DIE, Objects, STEADY, call};
 use dl_lexer::line_col;
 use dl_top::Status;
@@ -148,20 +151,34 @@ fn place_of(message: &[u8]) -> Option<(u32, u32)> {
     Some((line, column))
 }
 
+/// Whether a message names a place that is not past the end of a text.
+fn is_within(text: &[u8], message: &[u8]) -> bool
+    requires { length text.now ≤ most_text }
+{
+    let (last, width) = line_col(text, text.len() as u32);
+    match place_of(message) {
+        Some((line, column)) => line < last || line == last && column <= width,
+        None => false,
+    }
+}
+
+/// Whether a call over a text is done without a message, or is refused without a report, at a place
+/// in the text.
+fn is_answered(alloc: Global, text: &[u8]) -> Result<bool, AllocError>
+    requires { length text.now ≤ most_text }
+{
+    let ended = call(alloc, "run --log2 4 pmf:0", text, STEADY)?;
+    Ok(match ended.status {
+        Status::Done => ended.message.is_empty(),
+        Status::Refused => ended.report.is_empty() && is_within(text, ended.message.as_slice()),
+        _ => false,
+    })
+}
+
 #[test]
 fn answers_each_prefix(rt: HostRuntime) -> Result<(), Fail> {
     for end in 0..=BOOK.len() {
-        let text = &BOOK[..end];
-        let ended = call(rt.alloc(), "run --log2 4 pmf:0", text, STEADY)?;
-        if ended.status == Status::Done {
-            assert!(rt; ended.message.is_empty(), "{end}");
-            continue;
-        }
-        assert_eq!(rt; ended.status, Status::Refused, "{end}");
-        assert!(rt; ended.report.is_empty(), "{end}");
-        let (last, width) = line_col(text, end as u32);
-        let (line, column) = place_of(ended.message.as_slice()).ok_or("no place")?;
-        assert!(rt; line < last || line == last && column <= width, "{end}");
+        assert!(rt; is_answered(rt.alloc(), &BOOK[..end])?, "{end}");
     }
     Ok(())
 }
