@@ -35,6 +35,8 @@ use Rattle.dl_read.specs.declared.numbers.PairNumbers.{PairNumbers}
 use Rattle.dl_read.specs.declared.numbers.SevNumbers.{SevNumbers}
 use Rattle.dl_read.specs.declared.numbers.CountNumbers.{CountNumbers}
 use Rattle.dl_read.specs.declared.numbers.CountNumbers.TheVariants as numbers
+use Rattle.dl_read.specs.declared.numbers.TermNumbers.{TermNumbers}
+use Rattle.dl_read.specs.declared.numbers.LossNumbers.{LossNumbers}
 use Rattle.dl_read.specs.declared.numbers.UnitNumbers.{UnitNumbers}
 use Rattle.dl_read.specs.BadNumerals.{value}
 
@@ -120,6 +122,17 @@ count_numbers (counts.Listed values probs _) = numbers.Listed (pair_numbers valu
 abbrev pub distribution_number : CountAst → ReadFreq
 distribution_number (counts.Exposed exposure freq) = freq_number freq
 distribution_number (counts.Listed values probs span) = Fixed span
+
+-- what stands behind the severity
+abbrev pub term_numbers : UnitAst → TermNumbers
+term_numbers u = record {
+  occ = if_there clause_numbers u.occ;
+  freq = distribution_number u.count;
+  agr = if_there clause_numbers u.agr;
+}
+
+abbrev pub loss_numbers : UnitAst → LossNumbers
+loss_numbers u = record { sev = severity_numbers u.sev; terms = term_numbers u }
 
 unfoldable pub numbers_of : UnitAst → UnitNumbers
 numbers_of u = record {

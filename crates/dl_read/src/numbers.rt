@@ -56,6 +56,26 @@ pub(crate) enum CountNumbers {
     Listed(PairNumbers),
 }
 
+/// What stands behind the severity of a unit.
+#[derive(Drop)]
+pub(crate) struct TermNumbers {
+    /// The reinsurance of each claim.
+    pub(crate) occ: Option<ReadClause>,
+    /// The distribution of an exposed count.
+    pub(crate) freq: ReadFreq,
+    /// The reinsurance of the unit's sum.
+    pub(crate) agr: Option<ReadClause>,
+}
+
+/// The severity of a unit, and what stands behind it.
+#[derive(Drop)]
+pub(crate) struct LossNumbers {
+    /// The severity of one claim.
+    pub(crate) sev: SevNumbers,
+    /// The rest.
+    pub(crate) terms: TermNumbers,
+}
+
 /// One unit.
 #[derive(Drop)]
 pub(crate) struct UnitNumbers {

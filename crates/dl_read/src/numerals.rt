@@ -5,14 +5,15 @@ ghost use Rattle.std.specs.Prelude.{◌≡◌, None, All, IfSome, map};
 ghost use Rattle.dl_exact.specs.Fraction.{whole};
 ghost use Rattle.dl_lexer.specs.Numerals.{IsNumeralToken};
 ghost use Rattle.dl_ast.specs.WellFormed.{IsFormedItem, IsFormedList, IsFormedAtom, IsFormedSeverity, IsFormedLimit, IsFormedLayer, IsFormedShare, IsFormedCeded, IsFormedCession, IsFormedExposure, IsFormedFrequency, IsFormedCount, IsFormedUnit};
-ghost use Rattle.dl_read.specs.First.{within, first_in};
+ghost use Rattle.dl_read.specs.First.{◌else◌, within, first_in};
 ghost use Rattle.dl_read.specs.BadNumerals.{value, bad_place, bad_in_item, bad_in_list, bad_in_pair, bad_in_severity, bad_in_limit, bad_in_layer, bad_in_share, bad_in_ceded, bad_in_clause, bad_in_exposure, bad_in_count, bad_in_freq, bad_in_distribution};
-ghost use Rattle.dl_read.specs.Numbers.{if_there, value_or, item_numbers, list_numbers, pair_numbers, severity_numbers, limit_number, layer_numbers, share_number, ceded_numbers, clause_numbers, exposure_numbers, freq_number, count_numbers, distribution_number, numbers_of};
+ghost use Rattle.dl_read.specs.Numbers.{if_there, value_or, item_numbers, list_numbers, pair_numbers, severity_numbers, limit_number, layer_numbers, share_number, ceded_numbers, clause_numbers, exposure_numbers, freq_number, count_numbers, distribution_number, term_numbers, loss_numbers, numbers_of};
 ghost use Rattle.dl_read.specs.Rules.{bad_numeral};
 ghost use Rattle.dl_read.specs.Read.{Reads};
 
 use crate::numbers::{
-    CountNumbers, ItemNumbers, ListNumbers, PairNumbers, SevNumbers, UnitNumbers,
+    CountNumbers, ItemNumbers, ListNumbers, LossNumbers, PairNumbers, SevNumbers, TermNumbers,
+    UnitNumbers,
 };
 use crate::stop::{Stop, push_part};
 use crate::tree::{ReadCeded, ReadClause, ReadExposure, ReadFreq, ReadLayer, ReadShare};
@@ -33,19 +34,41 @@ pub(crate) fn unit_numbers(alloc: Global, unit: &UnitAst) -> Result<UnitNumbers,
 {
     let count = count_numbers(alloc, &unit.count)?;
     let layer = own_layer_numbers(&unit.layer)?;
-    let sev = severity_numbers(alloc, &unit.sev)?;
-    let occ = own_clause_numbers(alloc, &unit.occ)?;
-    let freq = distribution_number(&unit.count)?;
-    let agr = own_clause_numbers(alloc, &unit.agr)?;
+    let losses = loss_numbers(alloc, unit)?;
+    let terms = losses.terms;
     Ok(UnitNumbers {
         name: unit.name.span,
         count,
-        freq,
+        freq: terms.freq,
         layer,
-        sev,
-        occ,
-        agr,
+        sev: losses.sev,
+        occ: terms.occ,
+        agr: terms.agr,
     })
+}
+
+/// The numbers of a severity and of what stands behind it.
+fn loss_numbers(alloc: Global, unit: &UnitAst) -> Result<LossNumbers, Stop>
+    requires { IsFormedUnit unit.now }
+    ensures { Reads (loss_numbers unit.now) (bad_in_severity unit.now.sev
+        else within bad_in_clause unit.now.occ else bad_in_distribution unit.now.count
+        else within bad_in_clause unit.now.agr) result }
+{
+    let sev = severity_numbers(alloc, &unit.sev)?;
+    let terms = term_numbers(alloc, unit)?;
+    Ok(LossNumbers { sev, terms })
+}
+
+/// The numbers of what stands behind a severity.
+fn term_numbers(alloc: Global, unit: &UnitAst) -> Result<TermNumbers, Stop>
+    requires { IsFormedUnit unit.now }
+    ensures { Reads (term_numbers unit.now) (within bad_in_clause unit.now.occ
+        else bad_in_distribution unit.now.count else within bad_in_clause unit.now.agr) result }
+{
+    let occ = own_clause_numbers(alloc, &unit.occ)?;
+    let freq = distribution_number(&unit.count)?;
+    let agr = own_clause_numbers(alloc, &unit.agr)?;
+    Ok(TermNumbers { occ, freq, agr })
 }
 
 /// The numbers of a claim count that stand before the severity.

@@ -58,14 +58,23 @@ fn read_numbers(alloc: Global, unit: UnitNumbers) -> Result<ReadUnit, Stop>
     ensures { Reads (read_numbers unit) (long_numbers unit) result }
 {
     let lists = read_lists(alloc, &unit)?;
-    Ok(ReadUnit {
+    Ok(with_lists(unit, lists))
+}
+
+/// A unit by its numbers and its lists.
+#[tactic(auto, unfolding(crate::specs::Read::read_numbers))]
+fn with_lists(unit: UnitNumbers, lists: ReadLists) -> ReadUnit
+    requires { lists ≡ read_lists unit }
+    ensures { result ≡ read_numbers unit }
+{
+    ReadUnit {
         name: unit.name,
         count: lists.count,
         layer: unit.layer,
         sev: lists.sev,
         occ: unit.occ,
         agr: unit.agr,
-    })
+    }
 }
 
 /// The lists of a unit whose clauses are short.
