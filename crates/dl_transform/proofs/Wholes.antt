@@ -1,6 +1,7 @@
 -- The product of two lists from its remainders.
+use Rattle.std.proofs.lemmas.List.{length-take-le}
 use Rattle.dl_transform.proofs.Common.{ℕ, zero, suc, ◌≡◌, ◌+◌, ◌-◌, ◌*◌, ◌/◌, ◌%◌, ◌^◌, ◌<◌, ◌≤◌, List, length, get_or, sum_by, mul-le-mul_left, mul-le-mul_right, arith, sym, ap, ap₂, ◌∙◌, inl, inr, div_below, cases_lt, get_or_past, Same, count_pairs, pairs_none, eval}
-use Rattle.std.proofs.Common.{[], ◌∷◌, All}
+use Rattle.std.proofs.Common.{[], ◌∷◌, take, All}
 use Rattle.std.proofs.Math.Nat.{div-add-mod, pow-le-pow_right, mul-le-mul}
 use Rattle.std.proofs.lemmas.Nat.{mod_below}
 use Rattle.std.proofs.lemmas.List.Elements.{All-get_or}
@@ -132,3 +133,7 @@ words_fit b all most words least small =
     let first : most ≤ 2 ^ 64 - 1 = least (2 ^ 64 - 1) (λ k. omega (arith, word_at b words k)) in
     let second : all ≤ 2 ^ 64 - 1 = omega (arith, small) in
     omega (arith, mul-le-mul first second)
+
+-- the first items of a list, as many as so many levels have cells
+pub cut_to : (size l : ℕ) (xs : List ℕ) → size ≡ 2 ^ l → size ≤ length xs → length (take size xs) ≡ 2 ^ l
+cut_to size l xs e h = length-take-le size xs h ∙ e

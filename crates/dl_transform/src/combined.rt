@@ -132,6 +132,14 @@ pub fn levels_for(cells: usize, most: u32) -> u32
     most
 }
 
+/// How many cells so many levels have.
+fn cells_of(levels: u32) -> usize
+    requires { levels < 40 }
+    ensures { result ≡ 2 ^ levels }
+{
+    1usize << levels
+}
+
 /// The first items of the product of two lists, as many as `out` has room for: for each `s` the sum
 /// of `a[i] * b[j]` over all `i + j = s`.
 fn product(
@@ -154,7 +162,7 @@ fn product(
         ≡ count_pairs s (λ i j. slice_index a.now i * slice_index b.now j)) }
 {
     let levels = levels_for(a.len() + b.len(), setup.levels);
-    let size = 1usize << levels;
+    let size = cells_of(levels);
     buffers.make_room(alloc, size)?;
     let first = &mut buffers.first.as_mut_slice()[..size];
     let second = &mut buffers.second.as_mut_slice()[..size];
@@ -184,7 +192,7 @@ fn square(
         ≡ count_pairs s (λ i j. slice_index a.now i * slice_index a.now j)) }
 {
     let levels = levels_for(a.len() + a.len(), setup.levels);
-    let size = 1usize << levels;
+    let size = cells_of(levels);
     buffers.make_room(alloc, size)?;
     let first = &mut buffers.first.as_mut_slice()[..size];
     let second = &mut buffers.second.as_mut_slice()[..size];
