@@ -1,10 +1,25 @@
 use Rattle.dl_direct.proofs.Common.{◌≡◌, ℕ, ◌⊎◌, ◌+◌, ◌*◌, ◌^◌, ◌<◌, ◌≤◌, length, get_or, ◌∷◌, [], ◌++◌, arith, sym, ap, subst, subst₂, ◌∙◌, mul-le-mul_right, IsPlaced}
+use Rattle.dl_limits.specs.Limits.{most_end}
 use Rattle.std.proofs.lemmas.List.Elements.{All-push}
 use Rattle.dl_grid.specs.Cells.{low_at, high_at}
 use Rattle.std.proofs.lemmas.Grind.{get_or_default_zero}
 use Rattle.dl_grid.proofs.EndLists.{low_at_ends, high_at_ends}
 use Rattle.dl_direct.proofs.Place.{one_longer, ordered_more, mass_more, placed_same, placed_more}
 use Rattle.dl_direct.proofs.placing.place.Goals as goal
+
+pub index-requires : goal.index-requires
+index-requires g c = omega (arith, c.cells-test.true, c.cells.auto.i-end, c.len-i-end.ensures, c.args.x.now.low.ok.0, c.requires.settled.alike)
+
+pub narrow_high-high-requires : goal.narrow_high-high-requires
+narrow_high-high-requires g c =
+    let ys = c.args.x.now.high.items in
+    let within : c.cells.i < length ys = omega (arith, c.cells-test.true) in
+    record {
+      a_small = subst (λ t. t ≤ most_end)
+          (sym (c.index.ensures ∙ get_or_default_zero ys c.cells.i c.index.result.now within))
+          (c.requires.settled.high_small c.cells.i);
+      b_small = c.requires.high_small;
+    }
 
 pub cells-preserved : goal.cells-preserved
 cells-preserved g c =

@@ -1,4 +1,4 @@
-use Rattle.dl_direct.proofs.Common.{◌≡◌, length, arith, refl, subst, IsRound}
+use Rattle.dl_direct.proofs.Common.{◌≡◌, ◌+◌, ◌≤◌, length, arith, refl, subst, mul-le-mul_left, mul-le-mul_right, all_parts, part_sum, IsRound}
 use Rattle.dl_direct.proofs.Grow.{begun, begun_small}
 use Rattle.dl_direct.proofs.Totals.{sums_none}
 use Rattle.dl_direct.proofs.slide.recur.Goals as goal
@@ -22,6 +22,24 @@ cells-init c =
       count = rw b.low refl;
       shift = omega (arith, b.shift);
       round = λ r F. rw (b.low, b.high, b.shift) (begun r F.start);
+    }
+
+pub grow-requires : goal.grow-requires
+grow-requires c =
+    let i = c.cells.invariant in
+    let few : length c.cells.x.low.items ≤ c.args.cells = omega (arith, i.count, c.cells-test.true) in
+    let steps = mul-le-mul_left (c.args.a + c.args.b) few in
+    record {
+      slid = i.slid;
+      some = omega (arith, i.count);
+      few = omega (arith, few, c.requires.few);
+      room = omega (arith, i.shift, i.count, few, c.requires.few);
+      amounts = c.requires.amounts;
+      steps = omega (arith, steps, c.requires.steps);
+      weights =
+          omega (arith, mul-le-mul_right (part_sum (all_parts c.args.amounts.now)) steps, c.requires.weights);
+      divisor = c.requires.divisor;
+      divisors = omega (arith, mul-le-mul_left c.args.q few, c.requires.divisors);
     }
 
 pub cells-preserved : goal.cells-preserved
