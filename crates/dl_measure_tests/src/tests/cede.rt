@@ -1,10 +1,13 @@
 //! Two dice after a clause, worked out by exact fractions.
 
 ghost use Rattle.std.specs.Prelude.{◌≤◌};
+ghost use Rattle.dl_limits.specs.Limits.{most_cells};
+ghost use Rattle.dl_plan.specs.Clause.{IsClause};
 
 use crate::tests::helpers::{DICE, are_near, grid};
 use dl_cede::kept_cells;
 use dl_frac::Frac;
+use dl_grid::Grid;
 use dl_plan::{Cede, CedeLayer};
 use std::alloc::{AllocError, Global};
 
@@ -65,6 +68,44 @@ const CASES: [Case; 4] = [
 ];
 
 /// The grid of what is kept, from the sums below the horizon of the clause.
+fn kept_of<const B: u32>(
+    alloc: Global,
+    cede: &Cede,
+    buckets: u32,
+    horizon: u32,
+    cells: u32,
+) -> Result<Grid<B>, AllocError>
+    requires scale_above { 1 ≤ B }
+    requires scale_below { B ≤ 56 }
+    requires clause { IsClause cede.now }
+    requires sums { 1 ≤ horizon }
+    requires few_sums { horizon ≤ most_cells }
+    requires some { 1 ≤ cells }
+    requires few { cells ≤ most_cells }
+{
+    let sums = grid::<B>(alloc, &DICE, 36, buckets, horizon)?;
+    kept_cells(alloc, cede, &sums, cells)
+}
+
+/// Whether the clause keeps what it should.
+fn keeps<const B: u32>(alloc: Global, cede: &Cede, case: &Case) -> Result<bool, AllocError>
+    requires scale_above { 1 ≤ B }
+    requires scale_below { B ≤ 56 }
+    requires clause { IsClause cede.now }
+{
+    if case.cells == 0 || case.cells > 8 {
+        return Ok(false);
+    }
+    let horizon = cede.horizon(case.cells);
+    if horizon == 0 || horizon > 16_384 {
+        return Ok(false);
+    }
+    let kept = kept_of::<B>(alloc, cede, case.buckets, horizon as u32, case.cells)?;
+    let want = &case.want[..case.cells as usize];
+    Ok(kept.cells() == case.cells && are_near(&kept, want, 36, 20))
+}
+
+/// Whether the clause of a case is one, and keeps what it should.
 fn answer<const B: u32>(alloc: Global, case: &Case) -> Result<bool, AllocError>
     requires scale_above { 1 ≤ B }
     requires scale_below { B ≤ 56 }
@@ -78,17 +119,11 @@ fn answer<const B: u32>(alloc: Global, case: &Case) -> Result<bool, AllocError>
         attach: case.attach,
     };
     let cede = Cede::from_slice(alloc, case.net, &[layer])?;
-    if !cede.is_clause() || case.cells == 0 || case.cells > 8 {
-        return Ok(false);
+    if cede.is_clause() {
+        keeps::<B>(alloc, &cede, case)
+    } else {
+        Ok(false)
     }
-    let horizon = cede.horizon(case.cells);
-    if horizon == 0 || horizon > 16_384 {
-        return Ok(false);
-    }
-    let sums = grid::<B>(alloc, &DICE, 36, case.buckets, horizon as u32)?;
-    let kept = kept_cells(alloc, &cede, &sums, case.cells)?;
-    let want = &case.want[..case.cells as usize];
-    Ok(kept.cells() == case.cells && are_near(&kept, want, 36, 20))
 }
 
 #[test]

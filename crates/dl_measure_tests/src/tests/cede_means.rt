@@ -84,17 +84,14 @@ fn is_held<const B: u32>(alloc: Global, case: &Case) -> Result<bool, AllocError>
         limit: case.limit,
         attach: case.attach,
     };
-    let cede = Cede::from_slice(alloc, case.net, &[layer])?;
     if case.cells == 0 || case.cells > 13 || layer.edge() > u64::from(case.cells) {
-        return Ok(false);
-    }
-    if !cede.is_clause() {
         return Ok(false);
     }
     let one = units_of_one(B);
     let sums = grid::<B>(alloc, &DICE, 36, 1, case.cells)?;
-    let mean = kept_mean(&cede, &sums, Iv::point(7 * one));
-    Ok(is_near(mean, (case.want, 72), 200))
+    let cede = Cede::from_slice(alloc, case.net, &[layer])?;
+    let all = Iv::point(7 * one);
+    Ok(cede.is_clause() && is_near(kept_mean(&cede, &sums, all), (case.want, 72), 200))
 }
 
 #[test]

@@ -5,6 +5,7 @@ ghost use Rattle.dl_exact.specs.Fraction.{whole, ◌<ℚ◌};
 
 use crate::tests::helpers::{DICE, grid, is_near};
 use dl_frac::Frac;
+use dl_grid::Grid;
 use dl_iv::Iv;
 use dl_measures::{layer_mean, quantile, tail_mean};
 use std::alloc::{AllocError, Global};
@@ -12,13 +13,17 @@ use std::alloc::{AllocError, Global};
 /// How many parts of 216 each total from 0 to 6 has. The mean is 19/6.
 const PARTS: [u8; 7] = [6, 24, 42, 54, 48, 30, 12];
 
-/// The bracket at a probability on so many cells, at the scales 1, 48 and 56: worked out from the
-/// parts by exact fractions.
+/// Stands for an end past the grid.
+const PAST: u32 = u32::MAX;
+
+/// The bracket at a probability on so many cells, at the scale 1, and at 48 and 56 alike: worked
+/// out from the parts by exact fractions.
 #[derive(Clone, Copy)]
 struct Reached {
     cells: u32,
     p: (u32, u32),
-    want: [(u32, Option<u32>); 3],
+    coarse: (u32, u32),
+    fine: (u32, u32),
 }
 
 /// A layer, and its mean by exact fractions.
@@ -43,52 +48,62 @@ const BRACKETS: [Reached; 10] = [
     Reached {
         cells: 7,
         p: (0, 1),
-        want: [(0, Some(0)), (0, Some(0)), (0, Some(0))],
+        coarse: (0, 0),
+        fine: (0, 0),
     },
     Reached {
         cells: 7,
         p: (1, 36),
-        want: [(0, None), (0, Some(1)), (0, Some(1))],
+        coarse: (0, PAST),
+        fine: (0, 1),
     },
     Reached {
         cells: 7,
         p: (5, 12),
-        want: [(0, None), (3, Some(3)), (3, Some(3))],
+        coarse: (0, PAST),
+        fine: (3, 3),
     },
     Reached {
         cells: 7,
         p: (9, 10),
-        want: [(1, None), (5, Some(5)), (5, Some(5))],
+        coarse: (1, PAST),
+        fine: (5, 5),
     },
     Reached {
         cells: 7,
         p: (17, 18),
-        want: [(1, None), (5, Some(6)), (5, Some(6))],
+        coarse: (1, PAST),
+        fine: (5, 6),
     },
     Reached {
         cells: 7,
         p: (999999999, 1000000000),
-        want: [(1, None), (6, Some(6)), (6, Some(6))],
+        coarse: (1, PAST),
+        fine: (6, 6),
     },
     Reached {
         cells: 4,
         p: (7, 12),
-        want: [(1, None), (3, None), (3, None)],
+        coarse: (1, PAST),
+        fine: (3, PAST),
     },
     Reached {
         cells: 4,
         p: (9, 10),
-        want: [(1, None), (4, None), (4, None)],
+        coarse: (1, PAST),
+        fine: (4, PAST),
     },
     Reached {
         cells: 1,
         p: (1, 100),
-        want: [(0, None), (0, Some(0)), (0, Some(0))],
+        coarse: (0, PAST),
+        fine: (0, 0),
     },
     Reached {
         cells: 1,
         p: (1, 2),
-        want: [(0, None), (1, None), (1, None)],
+        coarse: (0, PAST),
+        fine: (1, PAST),
     },
 ];
 
@@ -197,17 +212,17 @@ fn level(p: (u32, u32)) -> Option<Frac>
 fn is_reached<const B: u32>(
     alloc: Global,
     case: &Reached,
-    want: (u32, Option<u32>),
+    want: (u32, u32),
 ) -> Result<bool, AllocError>
     requires scale_above { 1 ≤ B }
     requires scale_below { B ≤ 56 }
 {
-    let g = grid::<B>(alloc, &PARTS, 216, 1, case.cells.clamp(1, 7))?;
     let Some(p) = level(case.p) else {
         return Ok(false);
     };
+    let g = grid::<B>(alloc, &PARTS, 216, 1, case.cells.clamp(1, 7))?;
     let bracket = quantile(&g, p);
-    Ok(bracket.lo == want.0 && bracket.hi == want.1)
+    Ok(bracket.lo == want.0 && bracket.hi.unwrap_or(PAST) == want.1)
 }
 
 /// Whether the mean of the layer holds its value, and is narrow.
@@ -215,14 +230,26 @@ fn holds<const B: u32>(alloc: Global, case: &Covered) -> Result<bool, AllocError
     requires scale_above { 1 ≤ B }
     requires scale_below { B ≤ 56 }
 {
-    let g = grid::<B>(alloc, &PARTS, 216, 1, 7)?;
     let limit = case.limit.map(|limit| limit.min(7));
     let attach = case.attach.min(7);
-    if attach + limit.unwrap_or(0) > g.cells() {
+    if attach + limit.unwrap_or(0) > 7 {
         return Ok(false);
     }
+    let g = grid::<B>(alloc, &PARTS, 216, 1, 7)?;
     let mean = layer_mean(&g, limit, attach, Iv::enclose(19, 6));
     Ok(is_near(mean, case.want, 64))
+}
+
+/// The sum of two dice on 16 cells, or the total on so many.
+fn total_of<const B: u32>(alloc: Global, dice: bool, cells: u32) -> Result<Grid<B>, AllocError>
+    requires scale_above { 1 ≤ B }
+    requires scale_below { B ≤ 56 }
+{
+    if dice {
+        grid::<B>(alloc, &DICE, 36, 1, 16)
+    } else {
+        grid::<B>(alloc, &PARTS, 216, 1, cells.clamp(1, 7))
+    }
 }
 
 /// Whether the tail mean holds its value, and is narrow, or there is none, as is wanted.
@@ -230,11 +257,6 @@ fn holds_tail<const B: u32>(alloc: Global, case: &Beyond) -> Result<bool, AllocE
     requires scale_above { 1 ≤ B }
     requires scale_below { B ≤ 56 }
 {
-    let g = if case.dice {
-        grid::<B>(alloc, &DICE, 36, 1, 16)?
-    } else {
-        grid::<B>(alloc, &PARTS, 216, 1, case.cells.clamp(1, 7))?
-    };
     let mean = if case.dice {
         Iv::enclose(7, 1)
     } else {
@@ -246,6 +268,7 @@ fn holds_tail<const B: u32>(alloc: Global, case: &Beyond) -> Result<bool, AllocE
     if mean.hi > 1 << 97 {
         return Ok(false);
     }
+    let g = total_of::<B>(alloc, case.dice, case.cells)?;
     Ok(match (tail_mean(&g, p, mean), case.want) {
         (Some(mean), Some(want)) => is_near(mean, want, 2048),
         (None, None) => true,
@@ -257,9 +280,9 @@ fn holds_tail<const B: u32>(alloc: Global, case: &Beyond) -> Result<bool, AllocE
 fn brackets(rt: HostRuntime) -> Result<(), AllocError> {
     for (i, case) in BRACKETS.iter().enumerate() {
         let alloc = rt.alloc();
-        assert!(rt; is_reached::<1>(alloc, case, case.want[0])?, "{i}");
-        assert!(rt; is_reached::<48>(alloc, case, case.want[1])?, "{i}");
-        assert!(rt; is_reached::<56>(alloc, case, case.want[2])?, "{i}");
+        assert!(rt; is_reached::<1>(alloc, case, case.coarse)?, "{i}");
+        assert!(rt; is_reached::<48>(alloc, case, case.fine)?, "{i}");
+        assert!(rt; is_reached::<56>(alloc, case, case.fine)?, "{i}");
     }
     Ok(())
 }

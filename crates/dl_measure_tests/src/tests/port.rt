@@ -4,7 +4,7 @@ ghost use Rattle.std.specs.Prelude.{◌≡◌, ◌≤◌, length, All, IfOk};
 
 use crate::tests::helpers::{are_near, grid};
 use dl_grid::Grid;
-use dl_port::{others, sums_of_one, total, total_and_others};
+use dl_port::{Sums, others, sums_of_one, total, total_and_others};
 use dl_product::Workspace;
 use std::alloc::{AllocError, Global};
 
@@ -92,6 +92,36 @@ fn holds<const B: u32>(g: &Grid<B>, want: &[u8; 7]) -> bool
     g.cells() == CELLS && are_near(g, want, 216, 60)
 }
 
+/// The sum of all units, and all others, or none.
+fn shared_sums<const B: u32>(
+    alloc: Global,
+    units: &[Grid<B>],
+    all: bool,
+) -> Result<Sums<B>, AllocError>
+    requires scale_below { B ≤ 56 }
+    requires some { 1 ≤ length units.now }
+    requires few { length units.now ≤ 3 }
+    requires in_each { All (λ g. 7 ≤ length g) units.now }
+{
+    let asked = [all; 3];
+    let work = &mut Workspace::new(alloc);
+    total_and_others(alloc, work, units, &asked[..units.len()], CELLS)
+}
+
+/// Whether the sum that a case wants is there, and no other where none is asked for.
+fn are_held<const B: u32>(sums: &Sums<B>, case: &Case) -> bool
+    requires scale_below { B ≤ 56 }
+{
+    let others = sums.others.as_slice();
+    let Some(i) = case.without else {
+        return holds(&sums.total, &case.want) && others.iter().all(|sum| sum.is_none());
+    };
+    match others.get(i as usize) {
+        Some(Some(sum)) => holds(sum, &case.want),
+        _ => false,
+    }
+}
+
 /// Whether the same sum holds where it comes with all others, or none.
 fn holds_shared<const B: u32>(
     alloc: Global,
@@ -103,22 +133,8 @@ fn holds_shared<const B: u32>(
     requires few { length units.now ≤ 3 }
     requires in_each { All (λ g. 7 ≤ length g) units.now }
 {
-    let asked = [case.without.is_some(); 3];
-    let sums = total_and_others(
-        alloc,
-        &mut Workspace::new(alloc),
-        units,
-        &asked[..units.len()],
-        CELLS,
-    )?;
-    let others = sums.others.as_slice();
-    let Some(i) = case.without else {
-        return Ok(holds(&sums.total, &case.want) && others.iter().all(|sum| sum.is_none()));
-    };
-    Ok(match others.get(i as usize) {
-        Some(Some(sum)) => holds(sum, &case.want),
-        _ => false,
-    })
+    let sums = shared_sums(alloc, units, case.without.is_some())?;
+    Ok(are_held(&sums, case))
 }
 
 /// Whether the sum of the first unit alone is that unit's grid, and no other is there.
@@ -131,6 +147,40 @@ fn holds_alone<const B: u32>(alloc: Global) -> Result<bool, AllocError>
     Ok(holds(&sums.total, &[72, 144, 0, 0, 0, 0, 0]) && none && sums.others.len() == 1)
 }
 
+/// The sum of the units that are taken, or of all of them but one.
+fn sum_of<const B: u32>(
+    alloc: Global,
+    taken: &[Grid<B>],
+    case: &Case,
+) -> Result<Grid<B>, AllocError>
+    requires scale_below { B ≤ 56 }
+    requires some { 1 ≤ length taken.now }
+    requires few { length taken.now ≤ 3 }
+    requires in_each { All (λ g. 7 ≤ length g) taken.now }
+{
+    match case.without {
+        Some(i) if (i as usize) < taken.len() => others(alloc, taken, i, CELLS),
+        _ => total(alloc, taken, CELLS),
+    }
+}
+
+/// Whether the sum holds, alone and with all others.
+fn both_hold<const B: u32>(
+    alloc: Global,
+    taken: &[Grid<B>],
+    case: &Case,
+) -> Result<bool, AllocError>
+    requires scale_below { B ≤ 56 }
+    requires some { 1 ≤ length taken.now }
+    requires few { length taken.now ≤ 3 }
+    requires in_each { All (λ g. 7 ≤ length g) taken.now }
+{
+    let shared = holds_shared(alloc, taken, case)?;
+    let sum = sum_of(alloc, taken, case)?;
+    Ok(holds(&sum, &case.want) && shared)
+}
+
+/// Whether the sums of the units of a case are as they should be.
 fn answer<const B: u32>(alloc: Global, case: &Case) -> Result<bool, AllocError>
     requires scale_above { 1 ≤ B }
     requires scale_below { B ≤ 56 }
@@ -141,11 +191,7 @@ fn answer<const B: u32>(alloc: Global, case: &Case) -> Result<bool, AllocError>
         unit::<B>(alloc, if case.alike { &UNITS[0] } else { &UNITS[2] })?,
     ];
     let taken = &units[..case.taken.clamp(1, 3)];
-    let sum = match case.without {
-        Some(i) if (i as usize) < taken.len() => others(alloc, taken, i, CELLS)?,
-        _ => total(alloc, taken, CELLS)?,
-    };
-    Ok(holds(&sum, &case.want) && holds_shared(alloc, taken, case)?)
+    both_hold(alloc, taken, case)
 }
 
 #[test]

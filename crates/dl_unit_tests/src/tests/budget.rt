@@ -4,40 +4,31 @@
 use dl_budget::{doubled, halvings, joined, listed, power};
 use dl_plan::CedeLayer;
 
-/// What so many steps make of a spread.
-#[derive(Clone, Copy, Debug)]
-struct Case {
-    cells: u32,
-    base: u32,
-    steps: u32,
-    want: u128,
-}
-
 /// The spread of a power; 0 past the limits.
 #[tactic(auto, using(dl_budget::proofs::Counts::power_room))]
-fn power_of(case: Case) -> u128 {
-    if case.cells > 16_384 || case.base > 196_611 || case.steps > 65_536 {
+fn power_of(cells: u32, base: u32, steps: u32) -> u128 {
+    if cells > 16_384 || base > 196_611 || steps > 65_536 {
         return 0;
     }
-    power::<56>(case.cells, case.base as u128, case.steps)
+    power::<56>(cells, base as u128, steps)
 }
 
 /// The spread of a listed count; 0 past the limits.
 #[tactic(auto, using(dl_budget::proofs::Counts::listed_begins))]
-fn listed_of(case: Case) -> u128 {
-    if case.cells > 16_384 || case.base > 65_536 || case.steps > 256 {
+fn listed_of(cells: u32, base: u32, greatest: u32) -> u128 {
+    if cells > 16_384 || base > 65_536 || greatest > 256 {
         return 0;
     }
-    listed::<56>(case.cells, case.base as u128, case.steps)
+    listed::<56>(cells, base as u128, greatest)
 }
 
 /// The spread of a Poisson count with so many halvings; 0 past the limits.
 #[tactic(auto, using(dl_budget::proofs::Bases::poisson_room))]
-fn poisson_of(case: Case) -> u128 {
-    if case.cells > 16_384 || case.steps > 13 {
+fn poisson_of(cells: u32, halvings: u32) -> u128 {
+    if cells > 16_384 || halvings > 13 {
         return 0;
     }
-    doubled::<56>(case.cells, 8 * case.cells as u128 + 128, case.steps)
+    doubled::<56>(cells, 8 * cells as u128 + 128, halvings)
 }
 
 /// How often a mean of 1 is halved.
@@ -58,45 +49,51 @@ fn equal_units(unit: u128, many: u32) -> u128 {
     sum
 }
 
-fn steps(cells: u32, base: u32, steps: u32, want: u128) -> Case {
-    Case {
-        cells,
-        base,
-        steps,
-        want,
+/// Cells, the spread of what is added up, how many of it, and the spread of the sum.
+const POWERS: [(u32, u32, u32, u128); 5] = [
+    (16, 6, 0, 0),
+    (16, 6, 1, 6),
+    (16, 6, 2, 45),
+    (16, 6, 5, 162),
+    (16_384, 196_611, 65_536, 15_032_616_427),
+];
+
+/// Cells, the spread of one claim, the greatest number of claims, and the spread of the sum.
+const LISTS: [(u32, u32, u32, u128); 4] = [
+    (16, 6, 0, 1),
+    (16, 6, 1, 42),
+    (16, 6, 3, 124),
+    (16_384, 65_536, 256, 25_166_593),
+];
+
+/// Cells, halvings, and the spread of the sum.
+const HALVED: [(u32, u32, u128); 3] = [(16, 0, 256), (16, 3, 2279), (16_384, 13, 1_343_201_287)];
+
+#[test]
+fn powers(rt: HostRuntime) {
+    for (cells, base, steps, want) in POWERS {
+        assert_eq!(rt; power_of(cells, base, steps), want);
     }
 }
 
 #[test]
-fn spreads_after_steps(rt: HostRuntime) {
-    let powers = [
-        steps(16, 6, 0, 0),
-        steps(16, 6, 1, 6),
-        steps(16, 6, 2, 45),
-        steps(16, 6, 5, 162),
-        steps(16_384, 196_611, 65_536, 15_032_616_427),
-    ];
-    for case in &powers {
-        assert_eq!(rt; power_of(*case), case.want, "power {case:?}");
+fn lists(rt: HostRuntime) {
+    for (cells, base, greatest, want) in LISTS {
+        assert_eq!(rt; listed_of(cells, base, greatest), want);
     }
-    let lists = [
-        steps(16, 6, 0, 1),
-        steps(16, 6, 1, 42),
-        steps(16, 6, 3, 124),
-        steps(16_384, 65_536, 256, 25_166_593),
-    ];
-    for case in &lists {
-        assert_eq!(rt; listed_of(*case), case.want, "listed {case:?}");
+}
+
+#[test]
+fn halved_counts(rt: HostRuntime) {
+    for (cells, halvings, want) in HALVED {
+        assert_eq!(rt; poisson_of(cells, halvings), want);
     }
-    let halved = [
-        steps(16, 0, 0, 256),
-        steps(16, 0, 3, 2279),
-        steps(16_384, 0, 13, 1_343_201_287),
-    ];
-    for case in &halved {
-        assert_eq!(rt; poisson_of(*case), case.want, "halved {case:?}");
-    }
+}
+
+#[test]
+fn single_numbers(rt: HostRuntime) {
     assert_eq!(rt; halvings_of_one(), 1);
-    assert_eq!(rt; equal_units(30_065_232_854, 16), 481_045_353_881);
-    assert_eq!(rt; equal_units(30_065_232_854, 15), 450_979_924_668);
+    for (many, want) in [(16, 481_045_353_881), (15, 450_979_924_668)] {
+        assert_eq!(rt; equal_units(30_065_232_854, many), want);
+    }
 }

@@ -50,27 +50,29 @@ fn millionths(part: (u128, u128), whole: (u128, u128)) -> Option<u128> {
     part.0.checked_mul(1_000_000)?.checked_div(whole.0)
 }
 
+/// Two dice: a sum of 2, and of 7.
 #[test]
-fn listed(rt: HostRuntime) {
-    // two dice: a sum of 2, and of 7
+fn two_dice(rt: HostRuntime) {
     let two = [Item {
         amount: 2,
         weight: 1,
     }];
-    let dice = [
-        listed_point(&two, &DIE, 2, 2),
-        listed_point(&two, &DIE, 7, 2),
-    ];
-    assert_eq!(rt; dice, [(1, 36), (6, 36)]);
+    for (x, parts) in [(2, 1), (7, 6)] {
+        assert_eq!(rt; listed_point(&two, &DIE, x, 2), (parts, 36));
+    }
+}
 
-    // no claim at all
-    let none = [
-        listed_point(&NOTHING, &DIE, 0, 0),
-        listed_point(&NOTHING, &DIE, 1, 0),
-    ];
-    assert_eq!(rt; none, [(1, 1), (0, 1)]);
+/// No claim at all.
+#[test]
+fn no_claim(rt: HostRuntime) {
+    for (x, parts) in [(0, 1), (1, 0)] {
+        assert_eq!(rt; listed_point(&NOTHING, &DIE, x, 0), (parts, 1));
+    }
+}
 
-    // no claim, a quarter; one claim of 1, and of 4; 1 and 4 in either order; past the greatest sum
+/// No claim, a quarter; one claim of 1, and of 4; 1 and 4 in either order; past the greatest sum.
+#[test]
+fn listed(rt: HostRuntime) {
     let mixed = [
         Item {
             amount: 0,
@@ -85,14 +87,9 @@ fn listed(rt: HostRuntime) {
             weight: 2,
         },
     ];
-    let sums = [
-        listed_point(&mixed, &UNEQUAL, 0, 2),
-        listed_point(&mixed, &UNEQUAL, 1, 2),
-        listed_point(&mixed, &UNEQUAL, 4, 2),
-        listed_point(&mixed, &UNEQUAL, 5, 2),
-        listed_point(&mixed, &UNEQUAL, 9, 2),
-    ];
-    assert_eq!(rt; sums, [(16, 64), (12, 64), (4, 64), (12, 64), (0, 64)]);
+    for (x, parts) in [(0, 16), (1, 12), (4, 4), (5, 12), (9, 0)] {
+        assert_eq!(rt; listed_point(&mixed, &UNEQUAL, x, 2), (parts, 64));
+    }
 }
 
 /// Of at most 3 claims, 1 and 4 make 5; of none there is 0 alone.
@@ -156,43 +153,38 @@ fn gamma(rt: HostRuntime) {
 /// is above 2 + 1, and 10 / 2 + 4 / 2 = 7 is no bound: with at most 12 claims the sum is 7.389...
 #[test]
 fn sums(rt: HostRuntime) {
-    let three = [
-        poisson_point((2, 1), &ONE, 0, 3),
-        poisson_point((2, 1), &ONE, 1, 3),
-        poisson_point((2, 1), &ONE, 2, 3),
-        poisson_point((2, 1), &ONE, 3, 3),
-        poisson_point((2, 1), &NOTHING, 0, 3),
-    ];
-    assert_eq!(rt; three, [(6, 6), (12, 6), (12, 6), (8, 6), (38, 6)]);
+    for (x, parts) in [(0, 6), (1, 12), (2, 12), (3, 8)] {
+        assert_eq!(rt; poisson_point((2, 1), &ONE, x, 3), (parts, 6));
+    }
     let others = [
+        poisson_point((2, 1), &NOTHING, 0, 3),
         poisson_point((2, 1), &ONE, 2, 2),
         poisson_point((2, 1), &NOTHING, 0, 2),
         poisson_point((2, 1), &NOTHING, 0, 12),
     ];
-    assert_eq!(rt; others, [(4, 2), (10, 2), (3_539_368_960, 479_001_600)]);
+    assert_eq!(rt;
+        others,
+        [(38, 6), (4, 2), (10, 2), (3_539_368_960, 479_001_600)]
+    );
 }
 
 /// Two Poisson counts of mean 1, with 6, 6, 3, 1 sixths, make one of mean 2: three claims have (6 *
 /// 1 + 6 * 3 + 3 * 6 + 1 * 6) / 36 = 8 / 6, and one count alone has 1 / 6. The square of its sum up
-/// to 3 claims, (16 / 6)^2, is not the sum 38 / 6 of both: only the least upper bounds agree. Two
-/// geometric counts of mean 1, with 8, 4, 2, 1 eighths, make the gamma count of shape 2 and mean 2:
-/// three claims have 4 * 8 / 64.
+/// to 3 claims, (16 / 6)^2, is not the sum 38 / 6 of both: only the least upper bounds agree.
 #[test]
 fn added(rt: HostRuntime) {
-    let poisson = [
-        poisson_point((1, 1), &ONE, 0, 3),
-        poisson_point((1, 1), &ONE, 1, 3),
-        poisson_point((1, 1), &ONE, 2, 3),
-        poisson_point((1, 1), &ONE, 3, 3),
-        poisson_point((1, 1), &NOTHING, 0, 3),
-    ];
-    assert_eq!(rt; poisson, [(6, 6), (6, 6), (3, 6), (1, 6), (16, 6)]);
-    let gamma = [
-        gamma_point(1, (1, 1), &ONE, 0, 3),
-        gamma_point(1, (1, 1), &ONE, 1, 3),
-        gamma_point(1, (1, 1), &ONE, 2, 3),
-        gamma_point(1, (1, 1), &ONE, 3, 3),
-        gamma_point(2, (2, 1), &ONE, 3, 3),
-    ];
-    assert_eq!(rt; gamma, [(8, 8), (4, 8), (2, 8), (1, 8), (32, 64)]);
+    for (x, parts) in [(0, 6), (1, 6), (2, 3), (3, 1)] {
+        assert_eq!(rt; poisson_point((1, 1), &ONE, x, 3), (parts, 6));
+    }
+    assert_eq!(rt; poisson_point((1, 1), &NOTHING, 0, 3), (16, 6));
+}
+
+/// Two geometric counts of mean 1, with 8, 4, 2, 1 eighths, make the gamma count of shape 2 and
+/// mean 2: three claims have 4 * 8 / 64.
+#[test]
+fn geometric_added(rt: HostRuntime) {
+    for (x, parts) in [(0, 8), (1, 4), (2, 2), (3, 1)] {
+        assert_eq!(rt; gamma_point(1, (1, 1), &ONE, x, 3), (parts, 8));
+    }
+    assert_eq!(rt; gamma_point(2, (2, 1), &ONE, 3, 3), (32, 64));
 }

@@ -26,13 +26,32 @@ fn two_thirds<const B: u32>(alloc: Global) -> Result<Grid<B>, AllocError>
     geometric_base(alloc, &sev, fraction(1, 1), 2, 5)
 }
 
+/// Whether the cells of the Poisson count have these digits.
+fn poisson_agrees<const B: u32>(alloc: Global, digits: &[u32]) -> Result<bool, AllocError>
+    requires above { 1 ≤ B }
+    requires below { B ≤ 56 }
+{
+    let grid = half_a_claim::<B>(alloc)?;
+    Ok(agrees(&grid, digits))
+}
+
+/// Whether the cells of the geometric count have these digits.
+fn geometric_agrees<const B: u32>(alloc: Global, digits: &[u32]) -> Result<bool, AllocError>
+    requires above { 1 ≤ B }
+    requires below { B ≤ 56 }
+{
+    let grid = two_thirds::<B>(alloc)?;
+    Ok(agrees(&grid, digits))
+}
+
 #[test]
-fn nine_digits(rt: HostRuntime) {
+fn nine_digits(rt: HostRuntime) -> Result<(), AllocError> {
     let poisson = [606530659, 303265329, 75816332, 12636055];
     let geometric = [666666666, 222222222, 74074074, 24691358, 8230452];
     let alloc = rt.alloc();
-    assert!(rt; half_a_claim::<48>(alloc).is_ok_and(|grid| agrees(&grid, &poisson)));
-    assert!(rt; half_a_claim::<56>(alloc).is_ok_and(|grid| agrees(&grid, &poisson)));
-    assert!(rt; two_thirds::<48>(alloc).is_ok_and(|grid| agrees(&grid, &geometric)));
-    assert!(rt; two_thirds::<56>(alloc).is_ok_and(|grid| agrees(&grid, &geometric)));
+    assert!(rt; poisson_agrees::<48>(alloc, &poisson)?);
+    assert!(rt; poisson_agrees::<56>(alloc, &poisson)?);
+    assert!(rt; geometric_agrees::<48>(alloc, &geometric)?);
+    assert!(rt; geometric_agrees::<56>(alloc, &geometric)?);
+    Ok(())
 }

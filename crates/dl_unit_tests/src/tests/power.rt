@@ -9,14 +9,15 @@ use dl_power::{claim_grid, mix_counts, power};
 use std::alloc::{AllocError, Global};
 
 /// The ends of the cells from 0 to 12, and the spread of the whole grid.
-#[derive(Clone, Copy, Debug)]
+#[derive(Clone, Copy)]
 struct Ends {
-    cells: [(u128, u128); 13],
+    lows: [u128; 13],
+    highs: [u128; 13],
     spread: u128,
 }
 
 /// Two dice, three dice, and none, one or two dice, each number as likely as the others.
-#[derive(Clone, Copy, Debug)]
+#[derive(Clone, Copy)]
 struct Sums {
     two: Ends,
     three: Ends,
@@ -26,56 +27,101 @@ struct Sums {
 // Worked out by whole numbers of any size, from 1/6 and 1/3 rounded down and up at each scale.
 const AT_48: Sums = Sums {
     two: Ends {
-        cells: [
-            (0, 0),
-            (0, 0),
-            (7818749353073, 7818749353074),
-            (15637498706147, 15637498706148),
-            (23456248059220, 23456248059222),
-            (31274997412294, 31274997412296),
-            (39093746765367, 39093746765370),
-            (46912496118441, 46912496118444),
-            (39093746765367, 39093746765370),
-            (31274997412294, 31274997412296),
-            (23456248059220, 23456248059222),
-            (15637498706147, 15637498706148),
-            (7818749353073, 7818749353074),
+        lows: [
+            0,
+            0,
+            7818749353073,
+            15637498706147,
+            23456248059220,
+            31274997412294,
+            39093746765367,
+            46912496118441,
+            39093746765367,
+            31274997412294,
+            23456248059220,
+            15637498706147,
+            7818749353073,
+        ],
+        highs: [
+            0,
+            0,
+            7818749353074,
+            15637498706148,
+            23456248059222,
+            31274997412296,
+            39093746765370,
+            46912496118444,
+            39093746765370,
+            31274997412296,
+            23456248059222,
+            15637498706148,
+            7818749353074,
         ],
         spread: 21,
     },
     three: Ends {
-        cells: [
-            (0, 0),
-            (0, 0),
-            (0, 0),
-            (1303124892178, 1303124892180),
-            (3909374676536, 3909374676538),
-            (7818749353073, 7818749353075),
-            (13031248921788, 13031248921791),
-            (19546873382683, 19546873382686),
-            (27365622735756, 27365622735760),
-            (32578122304472, 32578122304476),
-            (35184372088830, 35184372088834),
-            (35184372088830, 35184372088834),
-            (32578122304472, 32578122304476),
+        lows: [
+            0,
+            0,
+            0,
+            1303124892178,
+            3909374676536,
+            7818749353073,
+            13031248921788,
+            19546873382683,
+            27365622735756,
+            32578122304472,
+            35184372088830,
+            35184372088830,
+            32578122304472,
+        ],
+        highs: [
+            0,
+            0,
+            0,
+            1303124892180,
+            3909374676538,
+            7818749353075,
+            13031248921791,
+            19546873382686,
+            27365622735760,
+            32578122304476,
+            35184372088834,
+            35184372088834,
+            32578122304476,
         ],
         spread: 32,
     },
     mixed: Ends {
-        cells: [
-            (93824992236885, 93824992236886),
-            (15637498706147, 15637498706148),
-            (18243748490505, 18243748490506),
-            (20849998274862, 20849998274864),
-            (23456248059220, 23456248059222),
-            (26062497843578, 26062497843580),
-            (28668747627936, 28668747627938),
-            (15637498706146, 15637498706149),
-            (13031248921788, 13031248921791),
-            (10424999137431, 10424999137433),
-            (7818749353073, 7818749353075),
-            (5212499568715, 5212499568717),
-            (2606249784357, 2606249784359),
+        lows: [
+            93824992236885,
+            15637498706147,
+            18243748490505,
+            20849998274862,
+            23456248059220,
+            26062497843578,
+            28668747627936,
+            15637498706146,
+            13031248921788,
+            10424999137431,
+            7818749353073,
+            5212499568715,
+            2606249784357,
+        ],
+        highs: [
+            93824992236886,
+            15637498706148,
+            18243748490506,
+            20849998274864,
+            23456248059222,
+            26062497843580,
+            28668747627938,
+            15637498706149,
+            13031248921791,
+            10424999137433,
+            7818749353075,
+            5212499568717,
+            2606249784359,
         ],
         spread: 25,
     },
@@ -83,56 +129,101 @@ const AT_48: Sums = Sums {
 
 const AT_56: Sums = Sums {
     two: Ends {
-        cells: [
-            (0, 0),
-            (0, 0),
-            (2001599834386886, 2001599834386888),
-            (4003199668773773, 4003199668773775),
-            (6004799503160660, 6004799503160662),
-            (8006399337547547, 8006399337547549),
-            (10007999171934434, 10007999171934437),
-            (12009599006321321, 12009599006321324),
-            (10007999171934434, 10007999171934437),
-            (8006399337547547, 8006399337547549),
-            (6004799503160660, 6004799503160662),
-            (4003199668773773, 4003199668773775),
-            (2001599834386886, 2001599834386888),
+        lows: [
+            0,
+            0,
+            2001599834386886,
+            4003199668773773,
+            6004799503160660,
+            8006399337547547,
+            10007999171934434,
+            12009599006321321,
+            10007999171934434,
+            8006399337547547,
+            6004799503160660,
+            4003199668773773,
+            2001599834386886,
+        ],
+        highs: [
+            0,
+            0,
+            2001599834386888,
+            4003199668773775,
+            6004799503160662,
+            8006399337547549,
+            10007999171934437,
+            12009599006321324,
+            10007999171934437,
+            8006399337547549,
+            6004799503160662,
+            4003199668773775,
+            2001599834386888,
         ],
         spread: 25,
     },
     three: Ends {
-        cells: [
-            (0, 0),
-            (0, 0),
-            (0, 0),
-            (333599972397814, 333599972397815),
-            (1000799917193443, 1000799917193444),
-            (2001599834386886, 2001599834386888),
-            (3335999723978144, 3335999723978146),
-            (5003999585967216, 5003999585967219),
-            (7005599420354103, 7005599420354107),
-            (8339999309945361, 8339999309945365),
-            (9007199254740990, 9007199254740994),
-            (9007199254740990, 9007199254740994),
-            (8339999309945361, 8339999309945365),
+        lows: [
+            0,
+            0,
+            0,
+            333599972397814,
+            1000799917193443,
+            2001599834386886,
+            3335999723978144,
+            5003999585967216,
+            7005599420354103,
+            8339999309945361,
+            9007199254740990,
+            9007199254740990,
+            8339999309945361,
+        ],
+        highs: [
+            0,
+            0,
+            0,
+            333599972397815,
+            1000799917193444,
+            2001599834386888,
+            3335999723978146,
+            5003999585967219,
+            7005599420354107,
+            8339999309945365,
+            9007199254740994,
+            9007199254740994,
+            8339999309945365,
         ],
         spread: 29,
     },
     mixed: Ends {
-        cells: [
-            (24019198012642645, 24019198012642646),
-            (4003199668773773, 4003199668773775),
-            (4670399613569402, 4670399613569404),
-            (5337599558365031, 5337599558365033),
-            (6004799503160660, 6004799503160663),
-            (6671999447956289, 6671999447956292),
-            (7339199392751917, 7339199392751921),
-            (4003199668773772, 4003199668773776),
-            (3335999723978143, 3335999723978146),
-            (2668799779182515, 2668799779182517),
-            (2001599834386886, 2001599834386888),
-            (1334399889591257, 1334399889591259),
-            (667199944795628, 667199944795630),
+        lows: [
+            24019198012642645,
+            4003199668773773,
+            4670399613569402,
+            5337599558365031,
+            6004799503160660,
+            6671999447956289,
+            7339199392751917,
+            4003199668773772,
+            3335999723978143,
+            2668799779182515,
+            2001599834386886,
+            1334399889591257,
+            667199944795628,
+        ],
+        highs: [
+            24019198012642646,
+            4003199668773775,
+            4670399613569404,
+            5337599558365033,
+            6004799503160663,
+            6671999447956292,
+            7339199392751921,
+            4003199668773776,
+            3335999723978146,
+            2668799779182517,
+            2001599834386888,
+            1334399889591259,
+            667199944795630,
         ],
         spread: 32,
     },
@@ -140,12 +231,9 @@ const AT_56: Sums = Sums {
 
 /// Whether a grid has the ends that were worked out.
 fn has<const B: u32>(grid: &Grid<B>, want: &Ends) -> bool {
-    let mut same = grid.cells() == 13 && grid.spread() == want.spread;
-    for x in 0..13 {
-        let (low, high) = want.cells[x];
-        same = same && grid.lows().get(x) == Some(&low) && grid.highs().get(x) == Some(&high);
-    }
-    same
+    grid.lows() == want.lows.as_slice()
+        && grid.highs() == want.highs.as_slice()
+        && grid.spread() == want.spread
 }
 
 /// The first `cells` cells of a die.
@@ -159,37 +247,58 @@ fn die<const B: u32>(alloc: Global, cells: u32) -> Result<Grid<B>, AllocError>
     claim_grid::<B>(alloc, &DIE, 6, cells)
 }
 
+/// An amount of a list.
+fn item(amount: u32, weight: u32) -> Item
+    ensures amount { result.amount ≡ amount }
+    ensures weight { result.weight ≡ weight }
+{
+    Item { amount, weight }
+}
+
+/// The sum of so many dice.
+fn sum_of<const B: u32>(alloc: Global, dice: u32) -> Result<Grid<B>, AllocError>
+    requires scale_above { 1 ≤ B }
+    requires scale_below { B ≤ 56 }
+{
+    let die = die::<B>(alloc, 13)?;
+    power(alloc, &die, dice, 13)
+}
+
+/// Whether the sum of so many dice has the ends that were worked out.
+fn is_sum<const B: u32>(alloc: Global, dice: u32, want: &Ends) -> Result<bool, AllocError>
+    requires scale_above { 1 ≤ B }
+    requires scale_below { B ≤ 56 }
+{
+    let sum = sum_of::<B>(alloc, dice)?;
+    Ok(has(&sum, want))
+}
+
+/// The sum of none, one or two dice, each number as likely as the others.
+fn mixed_sum<const B: u32>(alloc: Global) -> Result<Grid<B>, AllocError>
+    requires scale_above { 1 ≤ B }
+    requires scale_below { B ≤ 56 }
+{
+    let die = die::<B>(alloc, 13)?;
+    mix_counts(alloc, &die, &[item(0, 1), item(1, 1), item(2, 1)], 3, 13)
+}
+
 /// Whether the sums of dice are those that were worked out, at one scale.
 fn agrees<const B: u32>(alloc: Global, want: &Sums) -> Result<bool, AllocError>
     requires scale_above { 1 ≤ B }
     requires scale_below { B ≤ 56 }
 {
-    let counts = [
-        Item {
-            amount: 0,
-            weight: 1,
-        },
-        Item {
-            amount: 1,
-            weight: 1,
-        },
-        Item {
-            amount: 2,
-            weight: 1,
-        },
-    ];
-    let die = die::<B>(alloc, 13)?;
-    let two = power(alloc, &die, 2, 13)?;
-    let three = power(alloc, &die, 3, 13)?;
-    let mixed = mix_counts(alloc, &die, &counts, 3, 13)?;
-    Ok(has(&two, &want.two) && has(&three, &want.three) && has(&mixed, &want.mixed))
+    let two = is_sum::<B>(alloc, 2, &want.two)?;
+    let three = is_sum::<B>(alloc, 3, &want.three)?;
+    let mixed = mixed_sum::<B>(alloc)?;
+    Ok(two & three & has(&mixed, &want.mixed))
 }
 
 #[test]
-fn dice(rt: HostRuntime) {
+fn dice(rt: HostRuntime) -> Result<(), AllocError> {
     let alloc = rt.alloc();
-    assert_eq!(rt; agrees::<48>(alloc, &AT_48), Ok(true));
-    assert_eq!(rt; agrees::<56>(alloc, &AT_56), Ok(true));
+    assert!(rt; agrees::<48>(alloc, &AT_48)?);
+    assert!(rt; agrees::<56>(alloc, &AT_56)?);
+    Ok(())
 }
 
 /// Cells of none, three, four, five or eight dice, with the weights 1, 2, 1, 3 and 1, each with its
@@ -204,19 +313,16 @@ const COUNTED: [(usize, u128, u128); 7] = [
     (48, 5362653877, 5362653878),
 ];
 
-/// An amount of a list.
-fn item(amount: u32, weight: u32) -> Item
-    ensures amount { result.amount ≡ amount }
-    ensures weight { result.weight ≡ weight }
-{
-    Item { amount, weight }
+/// The sum of counts that take three blocks.
+fn in_blocks(alloc: Global) -> Result<Grid<56>, AllocError> {
+    let counts = [item(0, 1), item(3, 2), item(4, 1), item(5, 3), item(8, 1)];
+    let die = die::<56>(alloc, 49)?;
+    mix_counts(alloc, &die, &counts, 8, 49)
 }
 
 /// Whether the cells of counts that take three blocks hold what was worked out.
 fn are_held(alloc: Global) -> Result<bool, AllocError> {
-    let counts = [item(0, 1), item(3, 2), item(4, 1), item(5, 3), item(8, 1)];
-    let die = die::<56>(alloc, 49)?;
-    let sum = mix_counts(alloc, &die, &counts, 8, 49)?;
+    let sum = in_blocks(alloc)?;
     let mut held = sum.spread() <= 857;
     for (x, floor, ceiling) in COUNTED {
         held = held && sum.lows().get(x).is_some_and(|low| *low <= floor);
@@ -226,6 +332,7 @@ fn are_held(alloc: Global) -> Result<bool, AllocError> {
 }
 
 #[test]
-fn counts_in_blocks(rt: HostRuntime) {
-    assert_eq!(rt; are_held(rt.alloc()), Ok(true));
+fn counts_in_blocks(rt: HostRuntime) -> Result<(), AllocError> {
+    assert!(rt; are_held(rt.alloc())?);
+    Ok(())
 }

@@ -1,7 +1,7 @@
 //! Small units: each cell holds its exact probability, worked by fractions outside the program.
 
 ghost use Rattle.std.specs.Prelude.{◌≡◌, ℕ, ◌^◌, ◌<◌, ◌≤◌, length, All, IfOk};
-ghost use Rattle.dl_exact.specs.Fraction.{whole};
+ghost use Rattle.dl_exact.specs.Fraction.{whole, ◌≤ℚ◌};
 ghost use Rattle.dl_plan.specs.Fine.{HasPartsOf48Bits};
 ghost use Rattle.dl_plan.specs.Count.{expected_count, IsUnbounded, IsClaimCount};
 ghost use Rattle.dl_plan.specs.Severity.{probability_of};
@@ -10,6 +10,7 @@ ghost use Rattle.dl_plan.specs.Weighted.{IsWeighted};
 
 use crate::tests::helpers::{agrees, fraction, one_bucket};
 use dl_direct::{gamma_direct, poisson_direct};
+use dl_frac::Frac;
 use dl_grid::{Grid, units_of_one};
 use dl_lexer::Text;
 use dl_plan::{Freq, Item, Items, Sev, Unit};
@@ -69,9 +70,10 @@ fn grid_of<const B: u32>(alloc: Global, freq: Freq) -> Result<Grid<B>, AllocErro
     requires expected { HasPartsOf48Bits (expected_count freq) }
     requires bounded { ¬ IsUnbounded freq }
 {
+    let sev = claims(alloc)?;
     let unit = Unit {
         name: Text::from_vec(Vec::new(alloc)),
-        sev: claims(alloc)?,
+        sev,
         freq,
         cede: None,
     };
@@ -95,22 +97,29 @@ fn holds<const B: u32>(grid: &Grid<B>, parts: &[u32], total: u32) -> bool {
     held
 }
 
-/// Four cells of the Poisson count of mean 3/2, and of the gamma count of shape 2 and mean 1.
-fn counts_of<const B: u32>(alloc: Global) -> Result<(Grid<B>, Grid<B>), AllocError>
+/// Four cells of the Poisson count of mean 3/2.
+fn poisson_count<const B: u32>(alloc: Global) -> Result<Grid<B>, AllocError>
     requires above { 1 ≤ B }
     requires below { B ≤ 56 }
 {
     let claim = one_bucket(alloc)?;
-    let poisson = poisson_claims(alloc, &mut Workspace::new(alloc), &claim, fraction(3, 2), 4)?;
-    let gamma = gamma_claims(
+    poisson_claims(alloc, &mut Workspace::new(alloc), &claim, fraction(3, 2), 4)
+}
+
+/// Four cells of the gamma count of shape 2 and mean 1.
+fn gamma_count<const B: u32>(alloc: Global) -> Result<Grid<B>, AllocError>
+    requires above { 1 ≤ B }
+    requires below { B ≤ 56 }
+{
+    let claim = one_bucket(alloc)?;
+    gamma_claims(
         alloc,
         &mut Workspace::new(alloc),
         &claim,
         fraction(1, 1),
         2,
         4,
-    )?;
-    Ok((poisson, gamma))
+    )
 }
 
 /// A claim comes to 1 bucket as often as to 4.
@@ -152,8 +161,71 @@ struct CountOf {
     shape: u32,
 }
 
-/// Sixteen cells of both counts: whether the recursion at the full mean meets the other way, for
-/// each.
+/// Sixteen cells of a Poisson count by halvings.
+fn halved<const B: u32>(alloc: Global, sev: &Sev, mean: Frac) -> Result<Grid<B>, AllocError>
+    requires above { 1 ≤ B }
+    requires below { B ≤ 56 }
+    requires no_zero { probability_of sev.now 0 ≡ whole 0 }
+    requires num { mean.num ≤ 4096 }
+    requires den { mean.den ≤ 4096 }
+    requires within { mean ≤ℚ whole 4096 }
+{
+    poisson_claims(alloc, &mut Workspace::new(alloc), sev, mean, 16)
+}
+
+/// Sixteen cells of a gamma count by shares.
+fn shared<const B: u32>(
+    alloc: Global,
+    sev: &Sev,
+    mean: Frac,
+    shape: u32,
+) -> Result<Grid<B>, AllocError>
+    requires above { 1 ≤ B }
+    requires below { B ≤ 56 }
+    requires no_zero { probability_of sev.now 0 ≡ whole 0 }
+    requires num { mean.num ≤ 4096 }
+    requires den { mean.den ≤ 4096 }
+    requires shape_above { 1 ≤ shape }
+    requires shape_below { shape ≤ 10000 }
+{
+    gamma_claims(alloc, &mut Workspace::new(alloc), sev, mean, shape, 16)
+}
+
+/// Whether a Poisson count by the recursion at the full mean meets the one by halvings.
+fn poisson_meets<const B: u32>(alloc: Global, sev: &Sev, mean: Frac) -> Result<bool, AllocError>
+    requires above { 1 ≤ B }
+    requires below { B ≤ 56 }
+    requires no_zero { probability_of sev.now 0 ≡ whole 0 }
+    requires num { mean.num ≤ 4096 }
+    requires den { mean.den ≤ 4096 }
+    requires within { mean ≤ℚ whole 4096 }
+{
+    let halved = halved(alloc, sev, mean)?;
+    let direct = poisson_direct::<B>(alloc, sev, mean, 16)?;
+    Ok(direct.is_some_and(|grid| meet(&grid, &halved)))
+}
+
+/// Whether a gamma count by the recursion at the full mean meets the one by shares.
+fn gamma_meets<const B: u32>(
+    alloc: Global,
+    sev: &Sev,
+    mean: Frac,
+    shape: u32,
+) -> Result<bool, AllocError>
+    requires above { 1 ≤ B }
+    requires below { B ≤ 56 }
+    requires no_zero { probability_of sev.now 0 ≡ whole 0 }
+    requires num { mean.num ≤ 4096 }
+    requires den { mean.den ≤ 4096 }
+    requires shape_above { 1 ≤ shape }
+    requires shape_below { shape ≤ 10000 }
+{
+    let shared = shared(alloc, sev, mean, shape)?;
+    let direct = gamma_direct::<B>(alloc, sev, shape, mean, 16)?;
+    Ok(direct.is_some_and(|grid| meet(&grid, &shared)))
+}
+
+/// Whether both counts meet.
 fn both_meet<const B: u32>(alloc: Global, sev: &Sev, of: CountOf) -> Result<bool, AllocError>
     requires above { 1 ≤ B }
     requires below { B ≤ 56 }
@@ -163,20 +235,16 @@ fn both_meet<const B: u32>(alloc: Global, sev: &Sev, of: CountOf) -> Result<bool
         return Ok(false);
     }
     let mean = fraction(of.num, of.den);
-    let halved = poisson_claims(alloc, &mut Workspace::new(alloc), sev, mean, 16)?;
-    let shared = gamma_claims(alloc, &mut Workspace::new(alloc), sev, mean, of.shape, 16)?;
-    let poisson = poisson_direct::<B>(alloc, sev, mean, 16)?;
-    let gamma = gamma_direct::<B>(alloc, sev, of.shape, mean, 16)?;
-    Ok(
-        poisson.is_some_and(|grid| meet(&grid, &halved))
-            && gamma.is_some_and(|grid| meet(&grid, &shared)),
-    )
+    let poisson = poisson_meets::<B>(alloc, sev, mean)?;
+    let gamma = gamma_meets::<B>(alloc, sev, mean, of.shape)?;
+    Ok(poisson && gamma)
 }
 
-/// Ten pairs of units, one after another.
-fn all_meet<const B: u32>(alloc: Global) -> Result<bool, AllocError>
+/// Five pairs of units, one after another.
+fn all_meet<const B: u32>(alloc: Global, sev: &Sev) -> Result<bool, AllocError>
     requires above { 1 ≤ B }
     requires below { B ≤ 56 }
+    requires no_zero { probability_of sev.now 0 ≡ whole 0 }
 {
     let table = [
         (1, 3, 1),
@@ -185,15 +253,47 @@ fn all_meet<const B: u32>(alloc: Global) -> Result<bool, AllocError>
         (100, 7, 16),
         (1000, 1, 100),
     ];
-    let one = one_bucket(alloc)?;
-    let more = one_or_four(alloc)?;
     for (num, den, shape) in table {
-        let of = CountOf { num, den, shape };
-        if !both_meet::<B>(alloc, &one, of)? || !both_meet::<B>(alloc, &more, of)? {
+        if !both_meet::<B>(alloc, sev, CountOf { num, den, shape })? {
             return Ok(false);
         }
     }
     Ok(true)
+}
+
+/// The pairs of units whose claims come to 1 bucket.
+fn all_of_one_meet<const B: u32>(alloc: Global) -> Result<bool, AllocError>
+    requires above { 1 ≤ B }
+    requires below { B ≤ 56 }
+{
+    let sev = one_bucket(alloc)?;
+    all_meet::<B>(alloc, &sev)
+}
+
+/// The pairs of units whose claims come to 1 bucket or to 4.
+fn all_of_more_meet<const B: u32>(alloc: Global) -> Result<bool, AllocError>
+    requires above { 1 ≤ B }
+    requires below { B ≤ 56 }
+{
+    let sev = one_or_four(alloc)?;
+    all_meet::<B>(alloc, &sev)
+}
+
+/// Whether the cells of the unit with this count hold their parts of `total`.
+fn is_held<const B: u32>(
+    alloc: Global,
+    freq: Freq,
+    parts: &[u32],
+    total: u32,
+) -> Result<bool, AllocError>
+    requires above { 1 ≤ B }
+    requires below { B ≤ 56 }
+    requires count { IsClaimCount freq }
+    requires expected { HasPartsOf48Bits (expected_count freq) }
+    requires bounded { ¬ IsUnbounded freq }
+{
+    let grid = grid_of::<B>(alloc, freq)?;
+    Ok(holds(&grid, parts, total))
 }
 
 /// The units of each finite count.
@@ -201,48 +301,59 @@ fn finite<const B: u32>(alloc: Global) -> Result<bool, AllocError>
     requires above { 1 ≤ B }
     requires below { B ≤ 56 }
 {
-    let third = fraction(1, 3);
-    let fixed = grid_of::<B>(alloc, Freq::Fixed(3))?;
-    let listed = grid_of::<B>(alloc, none_or_two(alloc)?)?;
-    let one = grid_of::<B>(alloc, Freq::Bernoulli(third))?;
-    let two = grid_of::<B>(
-        alloc,
-        Freq::Binomial {
-            trials: 2,
-            q: third,
-        },
-    )?;
-    Ok(
-        holds(&fixed, &[1, 6, 12, 11, 12, 12], 64)
-            && holds(&listed, &[19, 12, 12, 6, 12, 0], 64)
-            && holds(&one, &[9, 2, 0, 1, 0, 0], 12)
-            && holds(&two, &[81, 36, 4, 18, 4, 0], 144),
-    )
+    let q = fraction(1, 3);
+    let fixed = is_held::<B>(alloc, Freq::Fixed(3), &[1, 6, 12, 11, 12, 12], 64)?;
+    let listed = is_held::<B>(alloc, none_or_two(alloc)?, &[19, 12, 12, 6, 12, 0], 64)?;
+    let one = is_held::<B>(alloc, Freq::Bernoulli(q), &[9, 2, 0, 1, 0, 0], 12)?;
+    let twice = Freq::Binomial { trials: 2, q };
+    let two = is_held::<B>(alloc, twice, &[81, 36, 4, 18, 4, 0], 144)?;
+    Ok(fixed & listed & one & two)
 }
 
 #[test]
-fn finite_counts(rt: HostRuntime) {
-    assert_eq!(rt; finite::<48>(rt.alloc()), Ok(true));
-    assert_eq!(rt; finite::<56>(rt.alloc()), Ok(true));
+fn finite_counts(rt: HostRuntime) -> Result<(), AllocError> {
+    let alloc = rt.alloc();
+    assert!(rt; finite::<48>(alloc)?);
+    assert!(rt; finite::<56>(alloc)?);
+    Ok(())
+}
+
+/// Whether the cells of the Poisson count have these digits.
+fn poisson_agrees<const B: u32>(alloc: Global, digits: &[u32]) -> Result<bool, AllocError>
+    requires above { 1 ≤ B }
+    requires below { B ≤ 56 }
+{
+    let grid = poisson_count::<B>(alloc)?;
+    Ok(agrees(&grid, digits))
+}
+
+/// Whether the cells of the gamma count have these digits.
+fn gamma_agrees<const B: u32>(alloc: Global, digits: &[u32]) -> Result<bool, AllocError>
+    requires above { 1 ≤ B }
+    requires below { B ≤ 56 }
+{
+    let grid = gamma_count::<B>(alloc)?;
+    Ok(agrees(&grid, digits))
 }
 
 #[test]
-fn nine_digits(rt: HostRuntime) {
+fn nine_digits(rt: HostRuntime) -> Result<(), AllocError> {
     let poisson = [223130160, 334695240, 251021430, 125510715];
     let gamma = [444444444, 296296296, 148148148, 65843621];
     let alloc = rt.alloc();
-    assert!(rt;
-        counts_of::<48>(alloc).is_ok_and(|grids| agrees(&grids.0, &poisson)
-            && agrees(&grids.1, &gamma))
-    );
-    assert!(rt;
-        counts_of::<56>(alloc).is_ok_and(|grids| agrees(&grids.0, &poisson)
-            && agrees(&grids.1, &gamma))
-    );
+    assert!(rt; poisson_agrees::<48>(alloc, &poisson)?);
+    assert!(rt; poisson_agrees::<56>(alloc, &poisson)?);
+    assert!(rt; gamma_agrees::<48>(alloc, &gamma)?);
+    assert!(rt; gamma_agrees::<56>(alloc, &gamma)?);
+    Ok(())
 }
 
 #[test]
-fn both_ways_meet(rt: HostRuntime) {
-    assert_eq!(rt; all_meet::<48>(rt.alloc()), Ok(true));
-    assert_eq!(rt; all_meet::<56>(rt.alloc()), Ok(true));
+fn both_ways_meet(rt: HostRuntime) -> Result<(), AllocError> {
+    let alloc = rt.alloc();
+    assert!(rt; all_of_one_meet::<48>(alloc)?);
+    assert!(rt; all_of_one_meet::<56>(alloc)?);
+    assert!(rt; all_of_more_meet::<48>(alloc)?);
+    assert!(rt; all_of_more_meet::<56>(alloc)?);
+    Ok(())
 }

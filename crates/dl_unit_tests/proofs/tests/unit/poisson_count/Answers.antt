@@ -1,6 +1,6 @@
 use Rattle.std.proofs.Common.{arith}
 use Rattle.dl_unit_tests.proofs.TestLaws.{few_claims, small_parts}
-use Rattle.dl_unit_tests.proofs.tests.unit.counts_of.Goals as goal
+use Rattle.dl_unit_tests.proofs.tests.unit.poisson_count.Goals as goal
 
 pub poisson_claims-requires : goal.poisson_claims-requires
 poisson_claims-requires g c =
