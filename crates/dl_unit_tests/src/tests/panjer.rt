@@ -26,32 +26,25 @@ fn two_thirds<const B: u32>(alloc: Global) -> Result<Grid<B>, AllocError>
     geometric_base(alloc, &sev, fraction(1, 1), 2, 5)
 }
 
-/// Whether the cells of the Poisson count have these digits.
-fn poisson_agrees<const B: u32>(alloc: Global, digits: &[u32]) -> Result<bool, AllocError>
+/// Whether the cells of both counts have their first nine digits.
+fn digits_agree<const B: u32>(alloc: Global) -> Result<bool, AllocError>
     requires above { 1 ≤ B }
     requires below { B ≤ 56 }
 {
-    let grid = half_a_claim::<B>(alloc)?;
-    Ok(agrees(&grid, digits))
-}
-
-/// Whether the cells of the geometric count have these digits.
-fn geometric_agrees<const B: u32>(alloc: Global, digits: &[u32]) -> Result<bool, AllocError>
-    requires above { 1 ≤ B }
-    requires below { B ≤ 56 }
-{
-    let grid = two_thirds::<B>(alloc)?;
-    Ok(agrees(&grid, digits))
+    let poisson = half_a_claim::<B>(alloc)?;
+    let geometric = two_thirds::<B>(alloc)?;
+    let of_poisson = agrees(&poisson, &[606530659, 303265329, 75816332, 12636055]);
+    let of_geometric = agrees(
+        &geometric,
+        &[666666666, 222222222, 74074074, 24691358, 8230452],
+    );
+    Ok(of_poisson & of_geometric)
 }
 
 #[test]
 fn nine_digits(rt: HostRuntime) -> Result<(), AllocError> {
-    let poisson = [606530659, 303265329, 75816332, 12636055];
-    let geometric = [666666666, 222222222, 74074074, 24691358, 8230452];
     let alloc = rt.alloc();
-    assert!(rt; poisson_agrees::<48>(alloc, &poisson)?);
-    assert!(rt; poisson_agrees::<56>(alloc, &poisson)?);
-    assert!(rt; geometric_agrees::<48>(alloc, &geometric)?);
-    assert!(rt; geometric_agrees::<56>(alloc, &geometric)?);
+    assert!(rt; digits_agree::<48>(alloc)?);
+    assert!(rt; digits_agree::<56>(alloc)?);
     Ok(())
 }

@@ -303,7 +303,7 @@ fn dice(rt: HostRuntime) -> Result<(), AllocError> {
 
 /// Cells of none, three, four, five or eight dice, with the weights 1, 2, 1, 3 and 1, each with its
 /// probability in units of `1 / 2^56`, rounded down and up: worked out in fractions.
-const COUNTED: [(usize, u128, u128); 7] = [
+const COUNTED: [(u32, u128, u128); 7] = [
     (0, 9007199254740992, 9007199254740992),
     (3, 83399993099453, 83399993099454),
     (9, 2717492676388215, 2717492676388216),
@@ -323,10 +323,12 @@ fn in_blocks(alloc: Global) -> Result<Grid<56>, AllocError> {
 /// Whether the cells of counts that take three blocks hold what was worked out.
 fn are_held(alloc: Global) -> Result<bool, AllocError> {
     let sum = in_blocks(alloc)?;
-    let mut held = sum.spread() <= 857;
+    let mut held = sum.cells() == 49 && sum.spread() <= 857;
     for (x, floor, ceiling) in COUNTED {
-        held = held && sum.lows().get(x).is_some_and(|low| *low <= floor);
-        held = held && sum.highs().get(x).is_some_and(|high| *high >= ceiling);
+        if x < sum.cells() {
+            let cell = sum.at(x);
+            held = held && cell.lo <= floor && ceiling <= cell.hi;
+        }
     }
     Ok(held)
 }

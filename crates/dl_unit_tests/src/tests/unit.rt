@@ -153,6 +153,14 @@ fn meet<const B: u32>(one: &Grid<B>, other: &Grid<B>) -> bool {
     met
 }
 
+/// The same of a grid that may not be there, where it is.
+fn is_met<const B: u32>(one: &Option<Grid<B>>, other: &Grid<B>) -> bool {
+    match one {
+        Some(one) => meet(one, other),
+        None => false,
+    }
+}
+
 /// A mean, as a fraction of whole numbers, and a shape.
 #[derive(Clone, Copy)]
 struct CountOf {
@@ -202,7 +210,7 @@ fn poisson_meets<const B: u32>(alloc: Global, sev: &Sev, mean: Frac) -> Result<b
 {
     let halved = halved(alloc, sev, mean)?;
     let direct = poisson_direct::<B>(alloc, sev, mean, 16)?;
-    Ok(direct.is_some_and(|grid| meet(&grid, &halved)))
+    Ok(is_met(&direct, &halved))
 }
 
 /// Whether a gamma count by the recursion at the full mean meets the one by shares.
@@ -222,7 +230,7 @@ fn gamma_meets<const B: u32>(
 {
     let shared = shared(alloc, sev, mean, shape)?;
     let direct = gamma_direct::<B>(alloc, sev, shape, mean, 16)?;
-    Ok(direct.is_some_and(|grid| meet(&grid, &shared)))
+    Ok(is_met(&direct, &shared))
 }
 
 /// Whether both counts meet.
@@ -318,33 +326,23 @@ fn finite_counts(rt: HostRuntime) -> Result<(), AllocError> {
     Ok(())
 }
 
-/// Whether the cells of the Poisson count have these digits.
-fn poisson_agrees<const B: u32>(alloc: Global, digits: &[u32]) -> Result<bool, AllocError>
+/// Whether the cells of both counts have their first nine digits.
+fn digits_agree<const B: u32>(alloc: Global) -> Result<bool, AllocError>
     requires above { 1 ≤ B }
     requires below { B ≤ 56 }
 {
-    let grid = poisson_count::<B>(alloc)?;
-    Ok(agrees(&grid, digits))
-}
-
-/// Whether the cells of the gamma count have these digits.
-fn gamma_agrees<const B: u32>(alloc: Global, digits: &[u32]) -> Result<bool, AllocError>
-    requires above { 1 ≤ B }
-    requires below { B ≤ 56 }
-{
-    let grid = gamma_count::<B>(alloc)?;
-    Ok(agrees(&grid, digits))
+    let poisson = poisson_count::<B>(alloc)?;
+    let gamma = gamma_count::<B>(alloc)?;
+    let of_poisson = agrees(&poisson, &[223130160, 334695240, 251021430, 125510715]);
+    let of_gamma = agrees(&gamma, &[444444444, 296296296, 148148148, 65843621]);
+    Ok(of_poisson & of_gamma)
 }
 
 #[test]
 fn nine_digits(rt: HostRuntime) -> Result<(), AllocError> {
-    let poisson = [223130160, 334695240, 251021430, 125510715];
-    let gamma = [444444444, 296296296, 148148148, 65843621];
     let alloc = rt.alloc();
-    assert!(rt; poisson_agrees::<48>(alloc, &poisson)?);
-    assert!(rt; poisson_agrees::<56>(alloc, &poisson)?);
-    assert!(rt; gamma_agrees::<48>(alloc, &gamma)?);
-    assert!(rt; gamma_agrees::<56>(alloc, &gamma)?);
+    assert!(rt; digits_agree::<48>(alloc)?);
+    assert!(rt; digits_agree::<56>(alloc)?);
     Ok(())
 }
 
