@@ -29,7 +29,13 @@ use Rattle.dl_ast.specs.Lexemes.{Lexeme}
 use Rattle.dl_ast.specs.Rules.{Rule, one, ◌▸◌, ◌or◌, maybe, many, made, node, Spells}
 use Rattle.dl_ast.specs.Grammar.{◌≫◌, ◌≪◌, ◌means◌, some_of, spanned, numeral, name, note, layer, whole, so, po, side, freq, claims, premium, listed_unit, head}
 
--- NUMERAL (':' NUMERAL (':' NUMERAL)?)?
+-- item := NUMERAL (':' NUMERAL (':' NUMERAL)?)?
+abbrev pub step : Rule (Option Numeral)
+step = maybe (Sign signs.Colon ≫ numeral)
+
+abbrev pub bounds : Rule (Option (Numeral × Option Numeral))
+bounds = maybe (Sign signs.Colon ≫ numeral ▸ step)
+
 abbrev pub item_of : Numeral × Option (Numeral × Option Numeral) → Span → ListItem
 item_of p span = elim p.1 [
   | None ↦ record { from = p.0; to = None; step = None; span = span }
@@ -37,8 +43,7 @@ item_of p span = elim p.1 [
 ]
 
 unfoldable pub item : Rule ListItem
-item = node item_of (numeral ▸ maybe
-    (Sign signs.Colon ≫ numeral ▸ maybe (Sign signs.Colon ≫ numeral)))
+item = node item_of (numeral ▸ bounds)
 
 -- list := '[' item (','? item)* ']'
 unfoldable pub next_item : Rule ListItem

@@ -1,12 +1,11 @@
 -- What the parser's methods say.
 use Rattle.std.specs.Prelude.{◌≡◌, List, ◌++◌, Result, Ok, Err}
-use Rattle.dl_lexer.specs.declared.token.Kind.{Kind}
 use Rattle.dl_lexer.specs.declared.token.Token.{Token}
 use Rattle.dl_parser.specs.declared.cursor.Parser.{Parser}
 use Rattle.dl_parser.specs.declared.stop.Stop.{Stop}
 use Rattle.dl_parser.specs.declared.stop.Stop.TheVariants.{Wanted, OutOfMemory}
-use Rattle.dl_ast.specs.Lexemes.{lexeme, lexemes}
-use Rattle.dl_ast.specs.Rules.{Rule, one}
+use Rattle.dl_ast.specs.Lexemes.{Lexeme, lexeme, lexemes}
+use Rattle.dl_ast.specs.Rules.{Rule}
 use Rattle.dl_parser.specs.Reading.{Place, got, stuck, read}
 
 -- where a parser stands
@@ -21,11 +20,10 @@ ReadsBy r old new (Err (Wanted kind)) = read r (place old) ≡ stuck kind (place
 ReadsBy r old new (Err OutOfMemory) = Unit {0}
 
 -- the same of a token
-abbrev pub TakesToken : Kind → Parser → Parser → Result Token Stop → Type 0
-TakesToken kind old new (Ok t) = read (one kind) (place old)
-    ≡ got (lexeme old.source.now t) (place new)
-TakesToken kind old new (Err (Wanted k)) = read (one kind) (place old) ≡ stuck k (place new)
-TakesToken kind old new (Err OutOfMemory) = ⊥
+abbrev pub TakesBy : Rule Lexeme → Parser → Parser → Result Token Stop → Type 0
+TakesBy r old new (Ok t) = read r (place old) ≡ got (lexeme old.source.now t) (place new)
+TakesBy r old new (Err (Wanted k)) = read r (place old) ≡ stuck k (place new)
+TakesBy r old new (Err OutOfMemory) = ⊥
 
 -- the same where what is read comes behind what is there
 abbrev pub Adds : {A : Type 0} → Rule (List A) → Parser → Parser → List A → List A

@@ -8,7 +8,7 @@ ghost use Rattle.dl_parser.specs.Parsing.{ReadsBy};
 
 use crate::cursor::Parser;
 use crate::parts::Part;
-use crate::stop::Stop;
+use crate::stop::{Stop, both};
 use dl_ast::{CededLayer, Cession, Items, Layer, LimitAst, Numeral, Share};
 use dl_lexer::{Keyword, Kind};
 
@@ -28,6 +28,21 @@ impl<'a> Parser<'a> {
             span,
         }
     }
+
+    /// A share of a layer, from `start` to the last token taken.
+    fn share(&self, share: Share, layer: Layer, start: u32) -> CededLayer
+        ensures { result ≡ record {
+          share = share;
+          layer = layer;
+          span = record { start = start; end = self.now.end };
+        } }
+    {
+        CededLayer {
+            share,
+            layer,
+            span: self.since(start),
+        }
+    }
 }
 
 impl Part for CededLayer {
@@ -44,29 +59,23 @@ impl Part for CededLayer {
         let start = parser.start();
         if parser.is_next(Kind::Word(Keyword::Inf)) {
             parser.take(Kind::Word(Keyword::Inf))?;
-            parser.take(Kind::Word(Keyword::Xs))?;
-            let attach = parser.numeral()?;
+            let attach = parser.numeral_behind(Kind::Word(Keyword::Xs))?;
             return Ok(parser.whole(LimitAst::Infinite, attach, start));
         }
         let number = parser.numeral()?;
         if parser.is_next(Kind::Word(Keyword::Xs)) {
-            parser.take(Kind::Word(Keyword::Xs))?;
-            let attach = parser.numeral()?;
+            let attach = parser.numeral_behind(Kind::Word(Keyword::Xs));
+            let (number, attach) = both(number, attach)?;
             return Ok(parser.whole(LimitAst::Finite(number), attach, start));
         }
-        let share = if parser.is_next(Kind::Word(Keyword::So)) {
-            parser.take(Kind::Word(Keyword::So))?;
-            Share::So(number)
-        } else {
-            parser.take(Kind::Word(Keyword::Po))?;
-            Share::Po(number)
-        };
-        let layer = parser.layer()?;
-        Ok(CededLayer {
-            share,
-            layer,
-            span: parser.since(start),
-        })
+        if parser.is_next(Kind::Word(Keyword::So)) {
+            let layer = parser.layer_behind(Kind::Word(Keyword::So));
+            let (number, layer) = both(number, layer)?;
+            return Ok(parser.share(Share::So(number), layer, start));
+        }
+        let layer = parser.layer_behind(Kind::Word(Keyword::Po));
+        let (number, layer) = both(number, layer)?;
+        Ok(parser.share(Share::Po(number), layer, start))
     }
 
     /// `'and' cession`
@@ -92,13 +101,9 @@ impl<'a> Parser<'a> {
         ensures reads { ReadsBy side self.old self.new result }
     {
         if self.is_next(Kind::Word(Keyword::Net)) {
-            self.take(Kind::Word(Keyword::Net))?;
-            self.take(Kind::Word(Keyword::Of))?;
-            return Ok(true);
+            return self.take_both(Kind::Word(Keyword::Net), Kind::Word(Keyword::Of), true);
         }
-        self.take(Kind::Word(Keyword::Ceded))?;
-        self.take(Kind::Word(Keyword::To))?;
-        Ok(false)
+        self.take_both(Kind::Word(Keyword::Ceded), Kind::Word(Keyword::To), false)
     }
 
     /// `cession ('and' cession)*`

@@ -2,12 +2,12 @@
 
 ghost use Rattle.std.specs.Prelude.{◌≡◌};
 ghost use Rattle.dl_ast.specs.Rules.{maybe};
-ghost use Rattle.dl_ast.specs.Grammar.{limit, layer};
+ghost use Rattle.dl_ast.specs.Grammar.{◌≫◌, limit, layer};
 ghost use Rattle.dl_parser.specs.Reading.{begins, first};
 ghost use Rattle.dl_parser.specs.Parsing.{place, ReadsBy};
 
 use crate::cursor::Parser;
-use crate::stop::Stop;
+use crate::stop::{Stop, both};
 use dl_ast::{Layer, LimitAst};
 use dl_lexer::{Keyword, Kind};
 
@@ -32,14 +32,23 @@ impl<'a> Parser<'a> {
         ensures reads { ReadsBy layer self.old self.new result }
     {
         let start = self.start();
-        let limit = self.limit()?;
-        self.take(Kind::Word(Keyword::Xs))?;
-        let attach = self.numeral()?;
+        let (limit, _) = both(self.limit()?, self.take(Kind::Word(Keyword::Xs)))?;
+        let (limit, attach) = both(limit, self.numeral())?;
         Ok(Layer {
             limit,
             attach,
             span: self.since(start),
         })
+    }
+
+    /// A token of this kind, then `layer`
+    #[tactic(auto, unfolding(dl_ast::specs::Grammar::layer))]
+    pub(crate) fn layer_behind(&mut self, kind: Kind) -> Result<Layer, Stop>
+        ensures source { self.new.source ≡ self.old.source }
+        ensures reads { ReadsBy (kind ≫ layer) self.old self.new result }
+    {
+        self.take(kind)?;
+        self.layer()
     }
 
     /// Whether a layer follows.

@@ -1,15 +1,58 @@
 //! Lists of numbers.
 
 ghost use Rattle.std.specs.Prelude.{◌≡◌};
-ghost use Rattle.dl_ast.specs.Rules.{maybe};
-ghost use Rattle.dl_parser.specs.Factored.{list};
+ghost use Rattle.dl_ast.specs.Rules.{◌▸◌, maybe};
+ghost use Rattle.dl_parser.specs.Factored.{bounds, item_of, list, step};
 ghost use Rattle.dl_parser.specs.Parsing.{ReadsBy};
 
 use crate::cursor::Parser;
 use crate::parts::Part;
-use crate::stop::Stop;
-use dl_ast::{ListAst, ListItem};
-use dl_lexer::{Kind, Sign};
+use crate::stop::{Stop, both};
+use dl_ast::{ListAst, ListItem, Numeral};
+use dl_lexer::{Kind, Sign, Span};
+
+/// The item of a number and of what stands behind it: where it goes to, and by which step.
+fn item_of(from: Numeral, bounds: Option<(Numeral, Option<Numeral>)>, span: Span) -> ListItem
+    ensures { result ≡ item_of (from, bounds) span }
+{
+    let (to, step) = match bounds {
+        Some((to, step)) => (Some(to), step),
+        None => (None, None),
+    };
+    ListItem {
+        from,
+        to,
+        step,
+        span,
+    }
+}
+
+impl<'a> Parser<'a> {
+    /// `(':' NUMERAL)?`
+    #[tactic(auto, unfolding(dl_ast::specs::Grammar::numeral))]
+    fn step(&mut self) -> Result<Option<Numeral>, Stop>
+        ensures source { self.new.source ≡ self.old.source }
+        ensures reads { ReadsBy step self.old self.new result }
+    {
+        if !self.is_next(Kind::Sign(Sign::Colon)) {
+            return Ok(None);
+        }
+        Ok(Some(self.numeral_behind(Kind::Sign(Sign::Colon))?))
+    }
+
+    /// `(':' NUMERAL (':' NUMERAL)?)?`
+    #[tactic(auto, unfolding(dl_ast::specs::Grammar::numeral))]
+    fn bounds(&mut self) -> Result<Option<(Numeral, Option<Numeral>)>, Stop>
+        ensures source { self.new.source ≡ self.old.source }
+        ensures reads { ReadsBy bounds self.old self.new result }
+    {
+        if !self.is_next(Kind::Sign(Sign::Colon)) {
+            return Ok(None);
+        }
+        self.take(Kind::Sign(Sign::Colon))?;
+        Ok(Some(both(self.numeral()?, self.step())?))
+    }
+}
 
 impl Part for ListItem {
     ghost use Rattle.dl_parser.specs.Plain as grammar;
@@ -23,23 +66,8 @@ impl Part for ListItem {
     #[tactic(auto, unfolding(crate::specs::Factored::item))]
     fn first(parser: &mut Parser<'_>) -> Result<ListItem, Stop> {
         let start = parser.start();
-        let from = parser.numeral()?;
-        let mut to = None;
-        let mut step = None;
-        if parser.is_next(Kind::Sign(Sign::Colon)) {
-            parser.take(Kind::Sign(Sign::Colon))?;
-            to = Some(parser.numeral()?);
-            if parser.is_next(Kind::Sign(Sign::Colon)) {
-                parser.take(Kind::Sign(Sign::Colon))?;
-                step = Some(parser.numeral()?);
-            }
-        }
-        Ok(ListItem {
-            from,
-            to,
-            step,
-            span: parser.since(start),
-        })
+        let (from, bounds) = both(parser.numeral()?, parser.bounds())?;
+        Ok(item_of(from, bounds, parser.since(start)))
     }
 
     /// `','? item`
@@ -68,17 +96,24 @@ impl<'a> Parser<'a> {
     {
         let start = self.start();
         self.take(Kind::Sign(Sign::Open))?;
-        let items = self.parts()?;
-        self.take(Kind::Sign(Sign::Close))?;
+        let (items, _) = both(self.parts()?, self.take(Kind::Sign(Sign::Close)))?;
         Ok(ListAst {
             items,
             span: self.since(start),
         })
     }
 
+    /// `list list?`
+    pub(crate) fn lists(&mut self) -> Result<(ListAst, Option<ListAst>), Stop>
+        ensures source { self.new.source ≡ self.old.source }
+        ensures reads { ReadsBy (list ▸ maybe list) self.old self.new result }
+    {
+        both(self.list()?, self.list_option())
+    }
+
     /// `list?`
     #[tactic(auto, unfolding(crate::specs::Factored::list))]
-    pub(crate) fn list_option(&mut self) -> Result<Option<ListAst>, Stop>
+    fn list_option(&mut self) -> Result<Option<ListAst>, Stop>
         ensures source { self.new.source ≡ self.old.source }
         ensures reads { ReadsBy (maybe list) self.old self.new result }
     {

@@ -6,7 +6,7 @@ ghost use Rattle.dl_parser.specs.Reading.{begins, first};
 ghost use Rattle.dl_parser.specs.Parsing.{place, ReadsBy};
 
 use crate::cursor::Parser;
-use crate::stop::Stop;
+use crate::stop::{Stop, only};
 use dl_ast::Items;
 
 /// What stands any number of times: the first one, and the others, which may be led by a word or a
@@ -45,8 +45,7 @@ impl<'a> Parser<'a> {
         ensures source { self.new.source ≡ self.old.source }
         ensures reads { ReadsBy (some_of T.first_rule T.next_rule) self.old self.new result }
     {
-        let mut parts = Vec::new(self.alloc);
-        parts.push(T::first(self)?)?;
+        let mut parts = only(self.alloc, T::first(self)?)?;
         'parts: while T::is_next(self) {
             parts.push(T::next(self)?)?;
         }

@@ -2,12 +2,12 @@
 
 ghost use Rattle.std.specs.Prelude.{◌≡◌};
 ghost use Rattle.dl_ast.specs.Rules.{many};
-ghost use Rattle.dl_parser.specs.Factored.{atom, weighted, sev};
+ghost use Rattle.dl_parser.specs.Factored.{atom, weighted, mixture, sev};
 ghost use Rattle.dl_parser.specs.Reading.{begins, first};
 ghost use Rattle.dl_parser.specs.Parsing.{place, ReadsBy, Adds, AddsAnd};
 
 use crate::cursor::Parser;
-use crate::stop::Stop;
+use crate::stop::{Stop, both, only};
 use dl_ast::{Atom, Items, ListAst, SevAst};
 use dl_lexer::{Keyword, Kind, Sign};
 
@@ -25,8 +25,7 @@ impl<'a> Parser<'a> {
             self.take(Kind::Word(Keyword::Dhistogram))?;
             self.take(Kind::Word(Keyword::Xps))?;
         }
-        let values = self.list()?;
-        let probs = self.list_option()?;
+        let (values, probs) = self.lists()?;
         Ok(Atom { values, probs })
     }
 
@@ -70,29 +69,50 @@ impl<'a> Parser<'a> {
         self.list()
     }
 
-    /// `(atom | atom atom* 'wts' list) '!'?`
-    #[tactic(auto, unfolding(crate::specs::Factored::sev, crate::specs::Factored::mixture))]
+    /// `atom | atom atom* 'wts' list`
+    #[tactic(auto, unfolding(crate::specs::Factored::mixture))]
+    fn mixture(&mut self) -> Result<(Items<Atom>, Option<ListAst>), Stop>
+        ensures source { self.new.source ≡ self.old.source }
+        ensures reads { ReadsBy mixture self.old self.new result }
+    {
+        let mut atoms = only(self.alloc, self.atom()?)?;
+        if !self.is_weighted_next() {
+            return Ok((Items::from_vec(atoms), None));
+        }
+        let weights = self.weighted(&mut atoms)?;
+        Ok((Items::from_vec(atoms), Some(weights)))
+    }
+
+    /// A severity from `start` to the last token taken.
+    fn mixed(&self, mixture: (Items<Atom>, Option<ListAst>), bang: bool, start: u32) -> SevAst
+        ensures { result ≡ record {
+          atoms = mixture.0;
+          weights = mixture.1;
+          bang = bang;
+          span = record { start = start; end = self.now.end };
+        } }
+    {
+        let (atoms, weights) = mixture;
+        SevAst {
+            atoms,
+            weights,
+            bang,
+            span: self.since(start),
+        }
+    }
+
+    /// `mixture '!'?`
+    #[tactic(auto, unfolding(crate::specs::Factored::sev))]
     pub(crate) fn sev(&mut self) -> Result<SevAst, Stop>
         ensures source { self.new.source ≡ self.old.source }
         ensures reads { ReadsBy sev self.old self.new result }
     {
         let start = self.start();
-        let mut atoms = Vec::new(self.alloc);
-        atoms.push(self.atom()?)?;
-        let weights = if self.is_weighted_next() {
-            Some(self.weighted(&mut atoms)?)
-        } else {
-            None
-        };
-        let bang = self.is_next(Kind::Sign(Sign::Bang));
-        if bang {
-            self.take(Kind::Sign(Sign::Bang))?;
+        let mixture = self.mixture()?;
+        if !self.is_next(Kind::Sign(Sign::Bang)) {
+            return Ok(self.mixed(mixture, false, start));
         }
-        Ok(SevAst {
-            atoms: Items::from_vec(atoms),
-            weights,
-            bang,
-            span: self.since(start),
-        })
+        let (mixture, _) = both(mixture, self.take(Kind::Sign(Sign::Bang)))?;
+        Ok(self.mixed(mixture, true, start))
     }
 }

@@ -1,11 +1,11 @@
 //! One token at a time.
 
 ghost use Rattle.std.specs.Prelude.{◌≡◌, ◌-◌, [], ◌∷◌, IfOk, IfErr, take, drop};
-ghost use Rattle.dl_ast.specs.Rules.{maybe};
-ghost use Rattle.dl_ast.specs.Grammar.{numeral, name, note};
+ghost use Rattle.dl_ast.specs.Rules.{one, ◌or◌, maybe};
+ghost use Rattle.dl_ast.specs.Grammar.{◌≫◌, ◌means◌, numeral, name, note};
 ghost use Rattle.dl_parser.specs.Reading.{among, begins, start_of};
 ghost use Rattle.dl_parser.specs.Placed.{Inside};
-ghost use Rattle.dl_parser.specs.Parsing.{place, ReadsBy, TakesToken};
+ghost use Rattle.dl_parser.specs.Parsing.{place, ReadsBy, TakesBy};
 
 use crate::cursor::Parser;
 use crate::stop::Stop;
@@ -63,7 +63,7 @@ impl<'a> Parser<'a> {
     /// Takes a token of this kind.
     pub(crate) fn take(&mut self, kind: Kind) -> Result<Token, Stop>
         ensures source { self.new.source ≡ self.old.source }
-        ensures reads { TakesToken kind self.old self.new result }
+        ensures reads { TakesBy (one kind) self.old self.new result }
         ensures inside { IfOk result (λ t. Inside self.old.source.now t.span) }
     {
         match self.rest.split_first() {
@@ -74,6 +74,32 @@ impl<'a> Parser<'a> {
             }
             _ => Err(Stop::Wanted(kind)),
         }
+    }
+
+    /// Takes a token of one of these two kinds.
+    pub(crate) fn take_either(&mut self, kind: Kind, other: Kind) -> Result<Token, Stop>
+        ensures source { self.new.source ≡ self.old.source }
+        ensures reads { TakesBy (one kind or one other) self.old self.new result }
+    {
+        if self.is_next(kind) {
+            return self.take(kind);
+        }
+        self.take(other)
+    }
+
+    /// Takes a token of one kind and one of another behind it, which stand for this together.
+    pub(crate) fn take_both<T: Copy>(
+        &mut self,
+        kind: Kind,
+        behind: Kind,
+        told: T,
+    ) -> Result<T, Stop>
+        ensures source { self.new.source ≡ self.old.source }
+        ensures reads { ReadsBy (kind ≫ behind means told) self.old self.new result }
+    {
+        self.take(kind)?;
+        self.take(behind)?;
+        Ok(told)
     }
 
     /// The text of a token.
@@ -98,6 +124,16 @@ impl<'a> Parser<'a> {
             text: self.text(token.span)?,
             span: token.span,
         })
+    }
+
+    /// A token of this kind, then `NUMERAL`
+    #[tactic(auto, unfolding(dl_ast::specs::Grammar::numeral))]
+    pub(crate) fn numeral_behind(&mut self, kind: Kind) -> Result<Numeral, Stop>
+        ensures source { self.new.source ≡ self.old.source }
+        ensures reads { ReadsBy (kind ≫ numeral) self.old self.new result }
+    {
+        self.take(kind)?;
+        self.numeral()
     }
 
     /// `NAME`

@@ -1,13 +1,14 @@
 //! Units, and the program that is made of them.
 
 ghost use Rattle.std.specs.Prelude.{◌≡◌};
-ghost use Rattle.dl_ast.specs.Grammar.{freq, head};
-ghost use Rattle.dl_parser.specs.Factored.{ratio, exposure, loss, ending, closing, exposed, listed, counted, body, named, program};
-ghost use Rattle.dl_parser.specs.Parsing.{ReadsBy};
+ghost use Rattle.dl_ast.specs.Grammar.{claims, freq, head};
+ghost use Rattle.dl_parser.specs.Factored.{ratio, exposure, loss, ending, closing, exposed, listed, counted, body, named, units, program};
+ghost use Rattle.dl_parser.specs.Reading.{begins, first};
+ghost use Rattle.dl_parser.specs.Parsing.{place, ReadsBy};
 
 use crate::cursor::Parser;
 use crate::parts::Part;
-use crate::stop::Stop;
+use crate::stop::{Stop, both, only};
 use dl_ast::{
     Cession, CountAst, Exposure, FreqAst, Items, Layer, NameAst, Numeral, PortHead, Program,
     SevAst, UnitAst,
@@ -69,13 +70,11 @@ impl<'a> Parser<'a> {
             return Ok(FreqAst::Bernoulli(self.since(start)));
         }
         if self.is_next(Kind::Word(Keyword::Binomial)) {
-            self.take(Kind::Word(Keyword::Binomial))?;
-            let number = self.numeral()?;
+            let number = self.numeral_behind(Kind::Word(Keyword::Binomial))?;
             return Ok(FreqAst::Binomial(number, self.since(start)));
         }
         self.take(Kind::Word(Keyword::Mixed))?;
-        self.take(Kind::Word(Keyword::Gamma))?;
-        let number = self.numeral()?;
+        let number = self.numeral_behind(Kind::Word(Keyword::Gamma))?;
         Ok(FreqAst::Gamma(number, self.since(start)))
     }
 
@@ -85,15 +84,18 @@ impl<'a> Parser<'a> {
         ensures source { self.new.source ≡ self.old.source }
         ensures reads { ReadsBy ratio self.old self.new result }
     {
-        if self.is_next(Kind::Word(Keyword::Prem)) {
-            self.take(Kind::Word(Keyword::Prem))?;
-        } else {
-            self.take(Kind::Word(Keyword::Premium))?;
-        }
+        self.take_either(Kind::Word(Keyword::Prem), Kind::Word(Keyword::Premium))?;
         self.take(Kind::Word(Keyword::At))?;
-        let ratio = self.numeral()?;
-        self.take(Kind::Word(Keyword::Lr))?;
+        let (ratio, _) = both(self.numeral()?, self.take(Kind::Word(Keyword::Lr)))?;
         Ok(ratio)
+    }
+
+    /// Whether `'claims'` follows, or `'claim'`.
+    #[tactic(auto, unfolding(dl_ast::specs::Grammar::claims))]
+    fn is_claims_next(&self) -> bool
+        ensures { result ≡ begins (first claims) (place self.now).rest }
+    {
+        self.is_next(Kind::Word(Keyword::Claim)) || self.is_next(Kind::Word(Keyword::Claims))
     }
 
     /// `NUMERAL 'claims' | NUMERAL 'loss' | NUMERAL 'premium' 'at' NUMERAL 'lr'`
@@ -104,21 +106,18 @@ impl<'a> Parser<'a> {
     {
         let start = self.start();
         let number = self.numeral()?;
-        if self.is_next(Kind::Word(Keyword::Claim)) {
-            self.take(Kind::Word(Keyword::Claim))?;
-            return Ok(Exposure::Claims(number, self.since(start)));
-        }
-        if self.is_next(Kind::Word(Keyword::Claims)) {
-            self.take(Kind::Word(Keyword::Claims))?;
+        if self.is_claims_next() {
+            let claims = self.take_either(Kind::Word(Keyword::Claim), Kind::Word(Keyword::Claims));
+            let (number, _) = both(number, claims)?;
             return Ok(Exposure::Claims(number, self.since(start)));
         }
         if self.is_next(Kind::Word(Keyword::Loss)) {
-            self.take(Kind::Word(Keyword::Loss))?;
+            let (number, _) = both(number, self.take(Kind::Word(Keyword::Loss)))?;
             return Ok(Exposure::Loss(number, self.since(start)));
         }
-        let ratio = self.ratio()?;
+        let (amount, ratio) = both(number, self.ratio())?;
         Ok(Exposure::Premium {
-            amount: number,
+            amount,
             ratio,
             span: self.since(start),
         })
@@ -132,8 +131,7 @@ impl<'a> Parser<'a> {
     {
         let start = self.start();
         self.take(Kind::Word(Keyword::Dfreq))?;
-        let counts = self.list()?;
-        let probs = self.list_option()?;
+        let (counts, probs) = self.lists()?;
         Ok(CountAst::Listed {
             counts,
             probs,
@@ -147,9 +145,9 @@ impl<'a> Parser<'a> {
         ensures source { self.new.source ≡ self.old.source }
         ensures reads { ReadsBy loss self.old self.new result }
     {
-        let layer = self.layer_option()?;
-        let sev = self.sev()?;
-        let occ = self.clause_option(Kind::Word(Keyword::Occurrence))?;
+        let layered = both(self.layer_option()?, self.sev())?;
+        let occ = self.clause_option(Kind::Word(Keyword::Occurrence));
+        let ((layer, sev), occ) = both(layered, occ)?;
         Ok(Loss { layer, sev, occ })
     }
 
@@ -160,8 +158,7 @@ impl<'a> Parser<'a> {
         ensures reads { ReadsBy ending self.old self.new result }
     {
         let agr = self.clause_option(Kind::Word(Keyword::Aggregate))?;
-        let note = self.note_option()?;
-        Ok((agr, note))
+        both(agr, self.note_option())
     }
 
     /// `freq agr? NOTE?`
@@ -170,9 +167,7 @@ impl<'a> Parser<'a> {
         ensures source { self.new.source ≡ self.old.source }
         ensures reads { ReadsBy closing self.old self.new result }
     {
-        let freq = self.freq()?;
-        let ending = self.ending()?;
-        Ok((freq, ending))
+        both(self.freq()?, self.ending())
     }
 
     /// `exposure layer? sev occ? freq agr? NOTE?`
@@ -181,9 +176,8 @@ impl<'a> Parser<'a> {
         ensures source { self.new.source ≡ self.old.source }
         ensures reads { ReadsBy exposed self.old self.new result }
     {
-        let exposure = self.exposure()?;
-        let loss = self.loss()?;
-        let (freq, (agr, note)) = self.closing()?;
+        let exposed = both(self.exposure()?, self.loss())?;
+        let ((exposure, loss), (freq, (agr, note))) = both(exposed, self.closing())?;
         Ok(Body {
             count: CountAst::Exposed { exposure, freq },
             loss,
@@ -198,9 +192,8 @@ impl<'a> Parser<'a> {
         ensures source { self.new.source ≡ self.old.source }
         ensures reads { ReadsBy counted self.old self.new result }
     {
-        let count = self.listed()?;
-        let loss = self.loss()?;
-        let (agr, note) = self.ending()?;
+        let counted = both(self.listed()?, self.loss())?;
+        let ((count, loss), (agr, note)) = both(counted, self.ending())?;
         Ok(Body {
             count,
             loss,
@@ -234,8 +227,7 @@ impl Part for UnitAst {
     #[tactic(auto, unfolding(crate::specs::Factored::unit))]
     fn first(parser: &mut Parser<'_>) -> Result<UnitAst, Stop> {
         parser.take(Kind::Word(Keyword::Agg))?;
-        let name = parser.name()?;
-        let body = parser.body()?;
+        let (name, body) = both(parser.name()?, parser.body())?;
         Ok(body.named(name))
     }
 
@@ -259,28 +251,33 @@ impl<'a> Parser<'a> {
         ensures reads { ReadsBy head self.old self.new result }
     {
         self.take(Kind::Word(Keyword::Port))?;
-        let name = self.name()?;
-        let note = self.note_option()?;
+        let (name, note) = both(self.name()?, self.note_option())?;
         Ok(PortHead { name, note })
     }
 
+    /// `unit unit*`
+    #[tactic(auto, unfolding(crate::specs::Factored::units))]
+    fn units(&mut self) -> Result<Items<UnitAst>, Stop>
+        ensures source { self.new.source ≡ self.old.source }
+        ensures reads { ReadsBy units self.old self.new result }
+    {
+        self.parts()
+    }
+
     /// `unit | 'port' NAME NOTE? unit unit*`
-    #[tactic(auto, unfolding(crate::specs::Factored::program, crate::specs::Factored::units))]
+    #[tactic(auto, unfolding(crate::specs::Factored::program))]
     pub(crate) fn program(&mut self) -> Result<Program, Stop>
         ensures source { self.new.source ≡ self.old.source }
         ensures reads { ReadsBy program self.old self.new result }
     {
         if UnitAst::is_next(self) {
-            let unit = UnitAst::first(self)?;
-            let mut units = Vec::new(self.alloc);
-            units.push(unit)?;
+            let units = only(self.alloc, UnitAst::first(self)?)?;
             return Ok(Program {
                 port: None,
                 units: Items::from_vec(units),
             });
         }
-        let head = self.head()?;
-        let units = self.parts()?;
+        let (head, units) = both(self.head()?, self.units())?;
         Ok(Program {
             port: Some(head),
             units,
