@@ -134,8 +134,8 @@ fn refusals(rt: HostRuntime) {
     }
 }
 
-/// The budgets of a plan on 16 cells: of the sum of its units, of all but the first, of the mean and
-/// of a layer; and the width that a probability needs in 6 digits.
+/// The budgets of a plan on 16 cells: of the sum of its units, of all but the first, of the mean
+/// and of a layer; and the width that a probability needs in 6 digits.
 fn budgets_of(plan: &Plan) -> Option<[u128; 5]>
     requires { IsValid plan.now }
 {

@@ -16,8 +16,8 @@ const OTHER: [u8; 7] = [0, 3, 1, 2, 0, 0, 0];
 /// Stands for the ends of a share that is not told.
 const NONE: u128 = u128::MAX;
 
-/// A total, its probability in parts of 18, and the ends of the joint mean and of the share by exact
-/// fractions, at the scales 4, 48 and 56.
+/// A total, its probability in parts of 18, and the ends of the joint mean and of the share by
+/// exact fractions, at the scales 4, 48 and 56.
 #[derive(Clone, Copy)]
 struct Case {
     x: u32,

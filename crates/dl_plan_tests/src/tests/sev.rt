@@ -47,7 +47,7 @@ fn severity(alloc: Global, amounts: &[u32], parts: &[(u64, u64)]) -> Option<Sev>
     }
 }
 
-/// Probabilities, their weights, and what these come to; the last have a common denominator of 2^30.
+/// Probabilities, their weights, and what these come to; the last have the common denominator 2^30.
 const WEIGHTS: [([(u64, u64); 3], [u32; 3], u32); 4] = [
     ([(1, 2), (1, 3), (1, 6)], [3, 2, 1], 6),
     ([(1, 2), (1, 2), (0, 1)], [1, 1, 0], 2),

@@ -73,20 +73,24 @@ halved_sums-requires-2-clause-few g c = omega (
 
 pub grid_of_sums-requires : goal.grid_of_sums-requires
 grid_of_sums-requires g c =
-    let down = written c.in_ok-lows.lows.items c.halved_sums.new.out c.in_ok-lows.lows.len (omega arith) (omega arith) in
-    let up = written c.in_ok-lows.highs.items c.halved_sums-2.new.out c.in_ok-lows.highs.len (omega arith) (omega arith) in
+    let down = written c.in_ok-lows.lows.items c.halved_sums.new.out c.in_ok-lows.lows.len
+    (omega arith) (omega arith) in
+    let up = written c.in_ok-lows.highs.items c.halved_sums-2.new.out c.in_ok-lows.highs.len
+    (omega arith) (omega arith) in
     rw (down, up) (search rules)
 
 pub returns-clause-spread : goal.returns-clause-spread
 returns-clause-spread g c =
-    let down = written c.in_ok-lows.lows.items c.halved_sums.new.out c.in_ok-lows.lows.len (omega arith) (omega arith) in
+    let down = written c.in_ok-lows.lows.items c.halved_sums.new.out c.in_ok-lows.lows.len
+    (omega arith) (omega arith) in
     let many : length c.halved_sums.new.out ≡ c.args.cells = omega (arith, c.in_ok-lows.ensures.low_cells) in
     subst (λ n. spread c.grid_of_sums.result ≤ cv (2 ^ g.row.B) n (spread c.args.a.now) (spread c.args.b.now))
     (ap length down ∙ many) c.grid_of_sums.ensures.spread
 
 pub returns-clause-convolution : goal.returns-clause-convolution
 returns-clause-convolution g c =
-    let down = written c.in_ok-lows.lows.items c.halved_sums.new.out c.in_ok-lows.lows.len (omega arith) (omega arith) in
+    let down = written c.in_ok-lows.lows.items c.halved_sums.new.out c.in_ok-lows.lows.len
+    (omega arith) (omega arith) in
     let many : length c.halved_sums.new.out ≡ c.args.cells = omega (arith, c.in_ok-lows.ensures.low_cells) in
     subst (λ n. IsConvolution n c.args.a.now c.args.b.now c.grid_of_sums.result) (ap length down ∙ many)
     c.grid_of_sums.ensures.convolution

@@ -38,7 +38,8 @@ plain_sums-requires-2-clause-few g c = omega (
 pub grid_of_sums-requires : goal.grid_of_sums-requires
 grid_of_sums-requires g c =
     let down = written c.in_ok-lows.lows.items c.plain_sums.new.out c.in_ok-lows.lows.len (omega arith) (omega arith) in
-    let up = written c.in_ok-lows.highs.items c.plain_sums-2.new.out c.in_ok-lows.highs.len (omega arith) (omega arith) in
+    let up = written c.in_ok-lows.highs.items c.plain_sums-2.new.out c.in_ok-lows.highs.len
+    (omega arith) (omega arith) in
     rw (down, up) (search rules)
 
 pub returns-clause-spread : goal.returns-clause-spread

@@ -8,7 +8,14 @@ use Rattle.dl_direct.proofs.Place.{one_longer, ordered_more, mass_more, placed_s
 use Rattle.dl_direct.proofs.placing.place.Goals as goal
 
 pub index-requires : goal.index-requires
-index-requires g c = omega (arith, c.cells-test.true, c.cells.auto.i-end, c.len-i-end.ensures, c.args.x.now.low.ok.0, c.requires.settled.alike)
+index-requires g c = omega (
+  arith,
+  c.cells-test.true,
+  c.cells.auto.i-end,
+  c.len-i-end.ensures,
+  c.args.x.now.low.ok.0,
+  c.requires.settled.alike,
+)
 
 pub narrow_high-high-requires : goal.narrow_high-high-requires
 narrow_high-high-requires g c =

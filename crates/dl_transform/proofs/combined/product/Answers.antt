@@ -19,7 +19,8 @@ pub product_modulo-requires-clause-alike : goal.product_modulo-requires-clause-a
 product_modulo-requires-clause-alike c =
     cut_to c.cells_of-size.result c.levels_for-levels.result c.as_mut_slice-3.result.now c.cells_of-size.ensures
     (omega (arith, c.in_ok-make_room.ensures.spare, c.as_mut_slice-3.ensures.len))
-    ∙ sym (cut_to c.cells_of-size.result c.levels_for-levels.result c.as_mut_slice.result.now c.cells_of-size.ensures (omega (arith, c.in_ok-make_room.ensures.first, c.as_mut_slice.ensures.len)))
+    ∙ sym (cut_to c.cells_of-size.result c.levels_for-levels.result c.as_mut_slice.result.now c.cells_of-size.ensures
+    (omega (arith, c.in_ok-make_room.ensures.first, c.as_mut_slice.ensures.len)))
 
 pub product_modulo-requires-clause-within : goal.product_modulo-requires-clause-within
 product_modulo-requires-clause-within c =

@@ -10,7 +10,8 @@ returns-then-num-gt0 c =
     let value : Fraction = c.in_ok-value.value in
     let some : 0 < value.num = omega (arith, c.num.ensures.part) in
     let passes : nat_lt 0 value.num ≡ true = grind (arith, nat_tests) in
-    kept (is_numeral text) (not (is_bad 11 text)) (λ x. nat_lt 0 x.num) (numeral_value text) value c.in_ok-value.ensures passes
+    kept (is_numeral text) (not (is_bad 11 text)) (λ x. nat_lt 0 x.num)
+    (numeral_value text) value c.in_ok-value.ensures passes
 
 pub returns : goal.returns
 returns c =
@@ -18,4 +19,5 @@ returns c =
     let value : Fraction = c.in_ok-value.value in
     let none : value.num ≤ 0 = omega (arith, c.num.ensures.part) in
     let fails : nat_lt 0 value.num ≡ false = grind (arith, nat_tests) in
-    dropped (is_numeral text) (not (is_bad 11 text)) (λ x. nat_lt 0 x.num) (numeral_value text) value c.in_ok-value.ensures fails
+    dropped (is_numeral text) (not (is_bad 11 text)) (λ x. nat_lt 0 x.num)
+    (numeral_value text) value c.in_ok-value.ensures fails

@@ -10,7 +10,8 @@ returns-then-num-den c =
     let value : Fraction = c.in_ok-value.value in
     let below : value.num < value.den = omega (arith, c.num.ensures.part, c.den.ensures.part) in
     let passes : nat_lt value.num value.den ≡ true = grind (arith, nat_tests) in
-    kept (is_numeral text) (not (is_bad 9 text)) (λ x. nat_lt x.num x.den) (numeral_value text) value c.in_ok-value.ensures passes
+    kept (is_numeral text) (not (is_bad 9 text)) (λ x. nat_lt x.num x.den)
+    (numeral_value text) value c.in_ok-value.ensures passes
 
 pub returns : goal.returns
 returns c =
@@ -18,4 +19,5 @@ returns c =
     let value : Fraction = c.in_ok-value.value in
     let above : value.den ≤ value.num = omega (arith, c.num.ensures.part, c.den.ensures.part) in
     let fails : nat_lt value.num value.den ≡ false = grind (arith, nat_tests) in
-    dropped (is_numeral text) (not (is_bad 9 text)) (λ x. nat_lt x.num x.den) (numeral_value text) value c.in_ok-value.ensures fails
+    dropped (is_numeral text) (not (is_bad 9 text)) (λ x. nat_lt x.num x.den)
+    (numeral_value text) value c.in_ok-value.ensures fails
