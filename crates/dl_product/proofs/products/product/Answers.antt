@@ -26,25 +26,13 @@ sums-requires-clause-few g c = omega (
   c.lows.ensures.grid.few,
 )
 
-pub sums-requires-2-clause-first : goal.sums-requires-2-clause-first
-sums-requires-2-clause-first g c = c.highs.ensures.fits
-
-pub sums-requires-2-clause-second : goal.sums-requires-2-clause-second
-sums-requires-2-clause-second g c = c.highs-2.ensures.fits
-
-pub sums-requires-2-clause-first_few : goal.sums-requires-2-clause-first_few
-sums-requires-2-clause-first_few g c = omega (arith, c.highs.ensures.cells, c.highs.ensures.grid.few)
-
-pub sums-requires-2-clause-second_few : goal.sums-requires-2-clause-second_few
-sums-requires-2-clause-second_few g c = omega (arith, c.highs-2.ensures.cells, c.highs-2.ensures.grid.few)
-
 pub sums-requires-2-clause-few : goal.sums-requires-2-clause-few
 sums-requires-2-clause-few g c = omega (
   arith,
   c.as_mut_slice-2.ensures.len,
   c.in_ok-lows.ensures.high_cells,
   c.requires.in_first,
-  c.highs.ensures.grid.few,
+  c.lows.ensures.grid.few,
 )
 
 pub grid_of_sums-requires : goal.grid_of_sums-requires
