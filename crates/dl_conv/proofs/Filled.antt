@@ -1,6 +1,8 @@
 -- Lists of numbers that a loop fills place by place.
-use Rattle.dl_conv.proofs.Common.{ℕ, ◌≡◌, ◌<◌, ◌≤◌, List, ◌++◌, length, get_or, take, drop, arith, ap, ◌∙◌, take_all}
-use Rattle.std.proofs.lemmas.List.{drop_all, append-nil}
+use Rattle.dl_conv.proofs.Common.{ℕ, ◌≡◌, ◌+◌, ◌<◌, ◌≤◌, List, ◌++◌, length, get_or, take, drop, arith, ap, inl, inr, ◌∙◌, take_all, get_or-set_other}
+use Rattle.std.proofs.Common.{set}
+use Rattle.std.proofs.lemmas.Bool.Decides.{eqb_tells}
+use Rattle.std.proofs.lemmas.List.{drop_all, append-nil, get_or-set_same}
 
 -- the first n items of ys are those of f
 pub record IsFilled (f : ℕ → ℕ) (ys : List ℕ) (n : ℕ) : Type 0 where
@@ -10,6 +12,22 @@ pub record IsFilled (f : ℕ → ℕ) (ys : List ℕ) (n : ℕ) : Type 0 where
 pub record IsMapped (f : ℕ → ℕ) (xs ys : List ℕ) (n : ℕ) : Type 0 where
   pub filled : IsFilled (λ k. f (get_or xs k 0)) ys n
   pub rest : (k : ℕ) → n ≤ k → get_or ys k 0 ≡ get_or xs k 0
+
+pub filled_more : (f : ℕ → ℕ) (ys : List ℕ) (n y : ℕ) → n < length ys → y ≡ f n → IsFilled f ys n
+    → IsFilled f (set ys n y) (n + 1)
+filled_more f ys n y inside here before = record {
+  done = λ k h. elim (eqb_tells k n) [
+    | inl e ↦ rw (e.1, get_or-set_same ys n y 0 inside) here
+    | inr e ↦ get_or-set_other ys n k y 0 e.1 ∙ before.done k (omega (arith, h, e.1))
+  ];
+}
+
+pub mapped_more : (f : ℕ → ℕ) (xs ys : List ℕ) (n y : ℕ) → n < length ys → y ≡ f (get_or xs n 0) → IsMapped f xs ys n
+    → IsMapped f xs (set ys n y) (n + 1)
+mapped_more f xs ys n y inside here before = record {
+  filled = filled_more _ ys n y inside here before.filled;
+  rest = λ k h. get_or-set_other ys n k y 0 (omega (arith, h)) ∙ before.rest k (omega (arith, h));
+}
 
 -- a list with all its items written anew
 pub written : (xs new : List ℕ) (n : ℕ) → length new ≡ length xs → n ≡ length xs

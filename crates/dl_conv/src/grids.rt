@@ -4,6 +4,8 @@ ghost use Rattle.dl_grid.specs.Cells.{low_at, high_at, spread};
 ghost use Rattle.dl_exact.specs.Count.{count_pairs};
 ghost use Rattle.dl_grid.specs.Convolution.{IsConvolution};
 ghost use Rattle.dl_grid.specs.Width.{cv};
+ghost use Rattle.dl_limits.specs.Limits.{most_cells};
+ghost use Rattle.dl_conv.specs.Sums.{pair_sum, halved_from};
 
 use crate::plain::plain_sums;
 use crate::short::{halved_sums, work_for};
@@ -73,6 +75,36 @@ pub fn room_for_sums(alloc: Global, cells: u32) -> Result<(Vec<u128>, Vec<u128>)
     Ok((lows, highs))
 }
 
+/// `sums` with the sums of the products of items whose places add up to each of its places, one
+/// product after another.
+fn with_plain_sums(a: &[u128], b: &[u128], mut sums: Vec<u128>) -> Vec<u128>
+    requires first { All (λ x. x ≤ 2 ^ 56) a.now }
+    requires second { All (λ y. y ≤ 2 ^ 56) b.now }
+    requires few { length sums.items ≤ most_cells }
+    ensures cells { length result.items ≡ length sums.items }
+    ensures each { (s : ℕ) → s < length sums.items
+        → get_or result.items s 0 ≡ pair_sum a.now b.now s }
+{
+    plain_sums(a, b, sums.as_mut_slice());
+    sums
+}
+
+/// What `with_plain_sums` gives, by halves where there are many sums.
+fn with_halved_sums(a: &[u128], b: &[u128], mut sums: Vec<u128>, work: &mut [u128]) -> Vec<u128>
+    requires first { All (λ x. x ≤ 2 ^ 56) a.now }
+    requires second { All (λ y. y ≤ 2 ^ 56) b.now }
+    requires in_first { length sums.items ≤ length a.now }
+    requires in_second { length sums.items ≤ length b.now }
+    requires few { length sums.items ≤ most_cells }
+    requires work { halved_from ≤ length sums.items → 6 * length sums.items ≤ length work.old }
+    ensures cells { length result.items ≡ length sums.items }
+    ensures each { (s : ℕ) → s < length sums.items
+        → get_or result.items s 0 ≡ pair_sum a.now b.now s }
+{
+    halved_sums(a, b, sums.as_mut_slice(), work);
+    sums
+}
+
 /// What `convolve` gives, with each product of two ends made for itself. It takes memory for
 /// exactly these cells.
 pub fn convolve_plain<const B: u32>(
@@ -88,9 +120,9 @@ pub fn convolve_plain<const B: u32>(
     ensures convolution { IfOk result (λ g. IsConvolution cells a.now b.now g) }
     ensures spread { IfOk result (λ g. spread g ≤ cv (2 ^ B) cells (spread a.now) (spread b.now)) }
 {
-    let (mut lows, mut highs) = room_for_sums(alloc, cells)?;
-    plain_sums(a.lows(), b.lows(), lows.as_mut_slice());
-    plain_sums(a.highs(), b.highs(), highs.as_mut_slice());
+    let (lows, highs) = room_for_sums(alloc, cells)?;
+    let lows = with_plain_sums(a.lows(), b.lows(), lows);
+    let highs = with_plain_sums(a.highs(), b.highs(), highs);
     Ok(grid_of_sums(a, b, lows, highs))
 }
 
@@ -111,13 +143,8 @@ pub fn convolve<const B: u32>(
     ensures spread { IfOk result (λ g. spread g ≤ cv (2 ^ B) cells (spread a.now) (spread b.now)) }
 {
     let mut work = Vec::from_elem(alloc, 0, work_for(cells))?;
-    let (mut lows, mut highs) = room_for_sums(alloc, cells)?;
-    halved_sums(a.lows(), b.lows(), lows.as_mut_slice(), work.as_mut_slice());
-    halved_sums(
-        a.highs(),
-        b.highs(),
-        highs.as_mut_slice(),
-        work.as_mut_slice(),
-    );
+    let (lows, highs) = room_for_sums(alloc, cells)?;
+    let lows = with_halved_sums(a.lows(), b.lows(), lows, work.as_mut_slice());
+    let highs = with_halved_sums(a.highs(), b.highs(), highs, work.as_mut_slice());
     Ok(grid_of_sums(a, b, lows, highs))
 }

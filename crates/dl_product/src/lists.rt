@@ -86,7 +86,7 @@ fn multiply(
 }
 
 /// The first items of the product of two lists, in the place of as many zeros.
-pub(crate) fn sums(
+fn put_sums(
     alloc: Global,
     work: &mut Workspace,
     a: &[u128],
@@ -115,6 +115,28 @@ pub(crate) fn sums(
     )
 }
 
+/// The first `cells` items of the product of two lists.
+pub(crate) fn sums(
+    alloc: Global,
+    work: &mut Workspace,
+    a: &[u128],
+    b: &[u128],
+    cells: u32,
+) -> Result<Vec<u128>, AllocError>
+    requires first { All (λ x. x ≤ 2 ^ 56) a.now }
+    requires second { All (λ y. y ≤ 2 ^ 56) b.now }
+    requires first_few { length a.now ≤ most_cells }
+    requires second_few { length b.now ≤ most_cells }
+    requires few { cells ≤ most_cells }
+    ensures cells { IfOk result (λ v. length v.items ≡ cells) }
+    ensures each { IfOk result (λ v. (s : ℕ) → s < cells
+        → get_or v.items s 0 ≡ pair_sum a.now b.now s) }
+{
+    let mut sums = Vec::from_elem(alloc, 0, cells as usize)?;
+    put_sums(alloc, work, a, b, sums.as_mut_slice())?;
+    Ok(sums)
+}
+
 /// The first items of the product of a list with itself, as many as `out` has room for, the shorter
 /// way.
 fn multiply_by_itself(
@@ -139,7 +161,7 @@ fn multiply_by_itself(
 }
 
 /// The first items of the product of a list with itself, in the place of as many zeros.
-pub(crate) fn square_sums(
+fn put_square_sums(
     alloc: Global,
     work: &mut Workspace,
     a: &[u128],
@@ -156,4 +178,23 @@ pub(crate) fn square_sums(
     let place = out.len().min(p + p);
     let count = (out.len() - place).min(e - p + (e - p));
     multiply_by_itself(alloc, work, &a[p..e], &mut out[place..place + count])
+}
+
+/// The first `cells` items of the product of a list with itself.
+pub(crate) fn square_sums(
+    alloc: Global,
+    work: &mut Workspace,
+    a: &[u128],
+    cells: u32,
+) -> Result<Vec<u128>, AllocError>
+    requires items { All (λ x. x ≤ 2 ^ 56) a.now }
+    requires items_few { length a.now ≤ most_cells }
+    requires few { cells ≤ most_cells }
+    ensures cells { IfOk result (λ v. length v.items ≡ cells) }
+    ensures each { IfOk result (λ v. (s : ℕ) → s < cells
+        → get_or v.items s 0 ≡ pair_sum a.now a.now s) }
+{
+    let mut sums = Vec::from_elem(alloc, 0, cells as usize)?;
+    put_square_sums(alloc, work, a, sums.as_mut_slice())?;
+    Ok(sums)
 }

@@ -5,7 +5,7 @@ ghost use Rattle.dl_grid.specs.Width.{cv};
 
 use crate::lists::{square_sums, sums};
 use crate::room::Workspace;
-use dl_conv::{grid_of_sums, room_for_sums};
+use dl_conv::grid_of_sums;
 use dl_grid::Grid;
 use std::alloc::{AllocError, Global};
 
@@ -26,9 +26,8 @@ pub fn product<const B: u32>(
     ensures convolution { IfOk result (λ g. IsConvolution cells a.now b.now g) }
     ensures cells { IfOk result (λ g. length g ≡ cells) }
 {
-    let (mut lows, mut highs) = room_for_sums(alloc, cells)?;
-    sums(alloc, work, a.lows(), b.lows(), lows.as_mut_slice())?;
-    sums(alloc, work, a.highs(), b.highs(), highs.as_mut_slice())?;
+    let lows = sums(alloc, work, a.lows(), b.lows(), cells)?;
+    let highs = sums(alloc, work, a.highs(), b.highs(), cells)?;
     Ok(grid_of_sums(a, b, lows, highs))
 }
 
@@ -45,8 +44,7 @@ pub fn square<const B: u32>(
     ensures convolution { IfOk result (λ g. IsConvolution cells a.now a.now g) }
     ensures spread { IfOk result (λ g. spread g ≤ cv (2 ^ B) cells (spread a.now) (spread a.now)) }
 {
-    let (mut lows, mut highs) = room_for_sums(alloc, cells)?;
-    square_sums(alloc, work, a.lows(), lows.as_mut_slice())?;
-    square_sums(alloc, work, a.highs(), highs.as_mut_slice())?;
+    let lows = square_sums(alloc, work, a.lows(), cells)?;
+    let highs = square_sums(alloc, work, a.highs(), cells)?;
     Ok(grid_of_sums(a, a, lows, highs))
 }

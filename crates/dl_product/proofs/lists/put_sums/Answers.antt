@@ -1,6 +1,6 @@
 use Rattle.dl_product.proofs.Common.{arith, if_ok_two}
 use Rattle.dl_product.proofs.Placed.{product_placed}
-use Rattle.dl_product.proofs.lists.sums.Goals as goal
+use Rattle.dl_product.proofs.lists.put_sums.Goals as goal
 
 pub returns : goal.returns
 returns c =
