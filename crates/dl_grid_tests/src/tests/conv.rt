@@ -12,62 +12,42 @@ use std::alloc::{AllocError, Global};
 /// How many of the 36 throws of two dice come to each sum from 0 to 12.
 const WAYS: [usize; 13] = [0, 0, 1, 2, 3, 4, 5, 6, 5, 4, 3, 2, 1];
 
-/// The low ends and the high ends of a cell by the number of its throws, at one scale, and the
-/// spread of the whole grid.
+/// The low end and the high end of a cell by the number of its throws, from none to 6, at one
+/// scale, and the spread of the whole grid.
 #[derive(Clone, Copy, Debug)]
 struct Sums {
-    lows: [u128; 7],
-    highs: [u128; 7],
+    ends: [[u128; 2]; 7],
     spread: u128,
 }
 
 /// Worked out by whole numbers of any size, from 1/6 rounded down and up at each scale.
 const AT_1: Sums = Sums {
-    lows: [0, 0, 0, 0, 0, 0, 0],
-    highs: [0, 1, 1, 2, 2, 2, 2],
+    ends: [[0, 0], [0, 1], [0, 1], [0, 2], [0, 2], [0, 2], [0, 2]],
     spread: 18,
 };
 
 const AT_48: Sums = Sums {
-    lows: [
-        0,
-        7818749353073,
-        15637498706147,
-        23456248059220,
-        31274997412294,
-        39093746765367,
-        46912496118441,
-    ],
-    highs: [
-        0,
-        7818749353074,
-        15637498706148,
-        23456248059222,
-        31274997412296,
-        39093746765370,
-        46912496118444,
+    ends: [
+        [0, 0],
+        [7818749353073, 7818749353074],
+        [15637498706147, 15637498706148],
+        [23456248059220, 23456248059222],
+        [31274997412294, 31274997412296],
+        [39093746765367, 39093746765370],
+        [46912496118441, 46912496118444],
     ],
     spread: 21,
 };
 
 const AT_56: Sums = Sums {
-    lows: [
-        0,
-        2001599834386886,
-        4003199668773773,
-        6004799503160660,
-        8006399337547547,
-        10007999171934434,
-        12009599006321321,
-    ],
-    highs: [
-        0,
-        2001599834386888,
-        4003199668773775,
-        6004799503160662,
-        8006399337547549,
-        10007999171934437,
-        12009599006321324,
+    ends: [
+        [0, 0],
+        [2001599834386886, 2001599834386888],
+        [4003199668773773, 4003199668773775],
+        [6004799503160660, 6004799503160662],
+        [8006399337547547, 8006399337547549],
+        [10007999171934434, 10007999171934437],
+        [12009599006321321, 12009599006321324],
     ],
     spread: 25,
 };
@@ -91,7 +71,7 @@ fn die<const B: u32>(alloc: Global) -> Result<Option<Grid<B>>, AllocError>
 fn are_told<const B: u32>(both: &Grid<B>, want: &Sums) -> bool {
     let mut same = true;
     for ((low, high), ways) in both.lows().iter().zip(both.highs()).zip(&WAYS) {
-        same = same && want.lows.get(*ways) == Some(low) && want.highs.get(*ways) == Some(high);
+        same = same && want.ends.get(*ways) == Some(&[*low, *high]);
     }
     same
 }
