@@ -141,8 +141,8 @@ fn at_places(alloc: Global, p: u64, steps: &[Factor], count: usize) -> Result<Ve
 }
 
 /// What undoes `2^64` and so many levels, for each number of levels: the first is `lift`, and each
-/// is half of the one before.
-fn scales(alloc: Global, p: u64, lift: u64, levels: u32) -> Result<Vec<u64>, AllocError>
+/// is half of the one before; and their quotients.
+fn scales(alloc: Global, p: u64, lift: u64, levels: u32) -> Result<(Vec<u64>, Vec<u64>), AllocError>
     requires modulus { IsModulus p }
 {
     let mut scale = lift;
@@ -152,7 +152,25 @@ fn scales(alloc: Global, p: u64, lift: u64, levels: u32) -> Result<Vec<u64>, All
         scale = multiplied(scale, p / 2 + 1, p);
     }
     all.push(scale)?;
-    Ok(all)
+    let quotients = quotients(alloc, p, all.as_slice())?;
+    Ok((all, quotients))
+}
+
+/// The numbers at `count` places, where the steps are a number and its repeated squares, and the
+/// quotients of these numbers.
+fn nodes(
+    alloc: Global,
+    p: u64,
+    first: u64,
+    levels: u32,
+    count: usize,
+) -> Result<(Vec<u64>, Vec<u64>), AllocError>
+    requires modulus { IsModulus p }
+{
+    let steps = squares(alloc, p, first, levels)?;
+    let numbers = at_places(alloc, p, steps.as_slice(), count)?;
+    let quotients = quotients(alloc, p, numbers.as_slice())?;
+    Ok((numbers, quotients))
 }
 
 /// The constants for up to so many levels. What they are worth `is_setup` finds out.
@@ -161,25 +179,23 @@ fn table(alloc: Global, p: u64, levels: u32) -> Result<Table, AllocError>
     requires few { levels < 40 }
 {
     let part = (p - 1) >> (levels + 1);
-    let steps = squares(alloc, p, power(NO_SQUARE, part, p), levels)?;
-    let back = power(NO_SQUARE, (p - 1).saturating_sub(part), p);
-    let inverse_steps = squares(alloc, p, back, levels)?;
     let most = 1usize << levels;
     let count = most - most / 2;
-    let roots = at_places(alloc, p, steps.as_slice(), count)?;
-    let inverses = at_places(alloc, p, inverse_steps.as_slice(), count)?;
+    let (roots, quotients) = nodes(alloc, p, power(NO_SQUARE, part, p), levels, count)?;
+    let back = power(NO_SQUARE, (p - 1).saturating_sub(part), p);
+    let (inverses, inverse_quotients) = nodes(alloc, p, back, levels, count)?;
     let lift = multiplied(4294967296, 4294967296, p);
-    let scales = scales(alloc, p, lift, levels)?;
+    let (scales, scale_quotients) = scales(alloc, p, lift, levels)?;
     Ok(Table {
         p,
-        quotients: quotients(alloc, p, roots.as_slice())?,
         roots,
-        inverse_quotients: quotients(alloc, p, inverses.as_slice())?,
+        quotients,
         inverses,
+        inverse_quotients,
         minus_inverse: 0u64.wrapping_sub(inverse_by_words(p)),
         unit: power(lift, p.saturating_sub(2), p),
-        scale_quotients: quotients(alloc, p, scales.as_slice())?,
         scales,
+        scale_quotients,
     })
 }
 

@@ -1,5 +1,7 @@
 use Rattle.dl_transform.proofs.Common.{◌^◌, get_or, arith}
 use Rattle.dl_transform.proofs.Wholes.{word_at, sums_small, too_large, words_fit}
+use Rattle.std.proofs.lemmas.Nat.{one_shl}
+use Rattle.dl_transform.proofs.combined.checked_square.Goals.{then-a-room-via-then-a-room, then-a-room-via-else-a-room+then-out-a}
 use Rattle.dl_transform.proofs.combined.checked_square.Goals as goal
 
 pub square-requires-clause-sums : goal.square-requires-clause-sums
@@ -25,3 +27,11 @@ overflow_mul-most c =
 
 pub square-requires-clause-items : goal.square-requires-clause-items
 square-requires-clause-items c = word_at c.args.a.now c.requires.items
+
+pub returns-then-a-room-clause-told : goal.returns-then-a-room-clause-told
+returns-then-a-room-clause-told c room within _ _ _ _ =
+    let all = one_shl c.args.setup.now.levels 64 (omega (arith, c.requires.setup.few)) in
+    absurd (elim c.then-a-room.branch [
+      | then-a-room-via-then-a-room w ↦ omega (arith, room, all, w.if-a-room.true)
+      | then-a-room-via-else-a-room+then-out-a w ↦ omega (arith, within, w.if-out-a.true)
+    ])
