@@ -15,7 +15,16 @@ halved-requires g t c κs within =
     length-take-le (n / 2) c.args.b.now (omega (arith, even, c.requires.paired)) in
     let low = c.split_at_mut-low.ensures.front_len in (
       omega (arith, front, less, c.decreases),
-      (within.0, (within.1, (subst IsHalvable (sym front) half, omega (arith, front, beside, even, low, c.requires.work)))),
+      (
+        within.0,
+        (
+          within.1,
+          (
+            subst IsHalvable (sym front) half,
+            omega (arith, front, beside, even, low, c.requires.work),
+          ),
+        ),
+      ),
     )
 
 pub halved-requires-2 : goal.halved-requires-2
@@ -103,6 +112,8 @@ returns-clause-value g t c s inside =
     let left = c.split_at_mut-left.ensures.front_len in
     let right = c.split_at_mut-right.ensures.front_len in
     let middle = c.split_at_mut-middle.ensures.front_len in
+    let whole = c.halved-3.auto.out ∙ middle in
+    let rest = c.take_off.auto.middle ∙ whole in
     small_remainder _ _ (values_small g.R.Ring.value c.add_middle.new.out s g.met.R.Ring.small)
     (halved_value g.R.Ring.value (n / 2) c.args.a.now c.args.b.now c.halved.new.out c.halved-2.new.out
     c.add_halves.new.out c.add_halves-2.new.out c.halved-3.new.out
@@ -114,10 +125,9 @@ returns-clause-value g t c s inside =
     (λ i h. c.add_halves.ensures.value i (omega (arith, h, left)))
     (λ i h. c.add_halves-2.ensures.value i (omega (arith, h, right)))
     (λ s h. c.halved-3.ensures.value s (omega (arith, h, middle, even)))
-    (λ t h. c.take_off.ensures.value t (omega (arith, h, middle, even, c.halved-3.auto.out)))
-    refl (λ t h. c.add_middle.ensures.value t (omega (arith, h, middle, even, c.halved-3.auto.out, c.take_off.auto.middle)))
-    (λ s h. c.add_middle.ensures.first s h) (λ s h. c.add_middle.ensures.last s
-    (omega (arith, h, middle, even, c.halved-3.auto.out, c.take_off.auto.middle)))
+    (λ t h. c.take_off.ensures.value t (omega (arith, h, whole, even)))
+    refl (λ t h. c.add_middle.ensures.value t (omega (arith, h, rest, even)))
+    (λ s h. c.add_middle.ensures.first s h) (λ s h. c.add_middle.ensures.last s (omega (arith, h, rest, even)))
     s (omega (arith, inside, even, c.requires.room)))
 
 pub add_halves-requires : goal.add_halves-requires
