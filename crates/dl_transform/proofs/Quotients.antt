@@ -1,8 +1,10 @@
 -- What one product modulo p needs.
-use Rattle.dl_transform.proofs.Common.{ℕ, ◌≡◌, ◌+◌, ◌-◌, ◌*◌, ◌/◌, ◌%◌, ◌^◌, ◌<◌, ◌≤◌, arith, ap, ◌∙◌, mul-le-mul_left, mul-le-mul_right, Same}
+use Rattle.dl_transform.proofs.Common.{ℕ, ◌≡◌, ◌+◌, ◌-◌, ◌*◌, ◌/◌, ◌%◌, ◌^◌, ◌<◌, ◌≤◌, List, length, get_or, arith, ap, subst, sym, ◌∙◌, mul-le-mul_left, mul-le-mul_right, Same}
 use Rattle.std.proofs.Common.{div-mul-le_self}
 use Rattle.std.proofs.lemmas.Nat.{div-add-mod'}
 use Rattle.std.proofs.Math.Nat.{lt-div-mul-add, le_of_mul-le-mul_right, lt_of_mul-lt-mul_right}
+use Rattle.std.proofs.lemmas.List.{get_or_default}
+use Rattle.dl_transform.specs.Residue.{IsFactor}
 use Rattle.dl_transform.proofs.Residues.{same_by, same_trans, same_mod, same_times, same_refl, same_plus, same_sym, same_cancel}
 
 -- the quotient times p is at most the product
@@ -67,3 +69,10 @@ pub joined : (p u v w b n : ℕ) → n + v ≡ u + 2 * p → Same p b (n * w) �
 joined p u v w b n e h =
     same_trans (same_plus h (same_refl p (w * v)))
     (same_by p (n * w + w * v) (w * u) 0 (2 * w) (omega (arith, ap (λ t. t * w) e)))
+
+-- a factor and its quotient, as they are read from two lists
+pub factor_read : (p : ℕ) (ws qs : List ℕ) (k w q : ℕ) → k < length ws → k < length qs → w ≡ get_or ws k w
+    → q ≡ get_or qs k q → IsFactor p (get_or ws k 0) (get_or qs k 0) → IsFactor p w q
+factor_read p ws qs k w q inside within e f h =
+    subst (λ w. IsFactor p w q) (sym (e ∙ get_or_default ws k w 0 inside))
+    (subst (λ q. IsFactor p (get_or ws k 0) q) (sym (f ∙ get_or_default qs k q 0 within)) h)

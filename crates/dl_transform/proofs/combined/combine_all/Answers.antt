@@ -24,3 +24,19 @@ loop-s-preserved c =
     let here : Q s c.combined.result =
     λ n b h k. c.combined.ensures n (omega (arith, b, room)) (same_trans first h) (same_trans second k) in
     set_done Q c.loop-s.out s c.combined.result (omega arith) c.loop-s.invariant here
+
+pub scaled-r1-requires : goal.scaled-r1-requires
+scaled-r1-requires c = record { modulus = c.requires.setup.first.modulus; factor = c.scale-w1.ensures.factor }
+
+pub scaled-r2-requires : goal.scaled-r2-requires
+scaled-r2-requires c = record { modulus = c.requires.setup.second.modulus; factor = c.scale-w2.ensures.factor }
+
+pub combined-requires : goal.combined-requires
+combined-requires c = let setup = c.requires.setup in record {
+  modulus = setup.second.modulus;
+  factor = setup.factor;
+  inverse = setup.inverse;
+  order = setup.order;
+  first_small = c.scaled-r1.ensures.small;
+  second_small = c.scaled-r2.ensures.small;
+}
