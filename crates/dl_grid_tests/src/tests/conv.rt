@@ -14,7 +14,6 @@ const WAYS: [usize; 13] = [0, 0, 1, 2, 3, 4, 5, 6, 5, 4, 3, 2, 1];
 
 /// The low end and the high end of a cell by the number of its throws, from none to 6, at one
 /// scale, and the spread of the whole grid.
-#[derive(Clone, Copy, Debug)]
 struct Sums {
     ends: [[u128; 2]; 7],
     spread: u128,
@@ -67,11 +66,22 @@ fn die<const B: u32>(alloc: Global) -> Result<Option<Grid<B>>, AllocError>
     Ok(if good { Some(g) } else { None })
 }
 
+/// Whether a cell of a grid has the ends that were worked out.
+fn is_told<const B: u32>(both: &Grid<B>, cell: usize, want: &Sums) -> bool {
+    let Some(ways) = WAYS.get(cell) else {
+        return false;
+    };
+    let Some(ends) = want.ends.get(*ways) else {
+        return false;
+    };
+    both.lows().get(cell) == Some(&ends[0]) && both.highs().get(cell) == Some(&ends[1])
+}
+
 /// Whether the cells of a grid, as many as it has, have the ends that were worked out.
 fn are_told<const B: u32>(both: &Grid<B>, want: &Sums) -> bool {
     let mut same = true;
-    for ((low, high), ways) in both.lows().iter().zip(both.highs()).zip(&WAYS) {
-        same = same && want.ends.get(*ways) == Some(&[*low, *high]);
+    for cell in 0..both.lows().len() {
+        same = same && is_told(both, cell, want);
     }
     same
 }

@@ -189,25 +189,33 @@ fn made(rt: HostRuntime) {
     }
 }
 
+/// A fraction, its floor and its ceiling in units of `1 / 2^56`.
+type Scaled = (Parts, u128, u128);
+
+const SCALED: [Scaled; 5] = [
+    ((1, 3), 24019198012642645, 24019198012642646),
+    ((1, 2), 36028797018963968, 36028797018963968),
+    ((1, TOP), 0, 1),
+    (
+        (TOP, 1),
+        332306998946228968153894171032158208,
+        332306998946228968153894171032158208,
+    ),
+    ((TOP, TOP - 1), 72057594037927936, 72057594037927937),
+];
+
+/// Whether the fraction of a row has the floor and the ceiling that it tells.
+fn is_scaled(row: &Scaled) -> bool {
+    match of(row.0) {
+        Some(x) => x.floor_scaled::<56>() == row.1 && x.ceil_scaled::<56>() == row.2,
+        None => false,
+    }
+}
+
 #[test]
 fn scaled(rt: HostRuntime) {
-    // a fraction, its floor and its ceiling in units of 1 / 2^56
-    let table = [
-        ((1, 3), 24019198012642645, 24019198012642646),
-        ((1, 2), 36028797018963968, 36028797018963968),
-        ((1, TOP), 0, 1),
-        (
-            (TOP, 1),
-            332306998946228968153894171032158208,
-            332306998946228968153894171032158208,
-        ),
-        ((TOP, TOP - 1), 72057594037927936, 72057594037927937),
-    ];
-    for (parts, floor, ceiling) in table {
-        if let Some(x) = of(parts) {
-            assert_eq!(rt; x.floor_scaled::<56>(), floor);
-            assert_eq!(rt; x.ceil_scaled::<56>(), ceiling);
-        }
+    for row in &SCALED {
+        assert!(rt; is_scaled(row));
     }
 }
 
@@ -241,7 +249,9 @@ fn multiples(rt: HostRuntime) {
 }
 
 /// A numeral, the limit of its digits, and its value where it is not bad.
-const NUMERALS: [(&'static str, u32, Option<Parts>); 18] = [
+type Numeral = (&'static str, u32, Option<Parts>);
+
+const NUMERALS: [Numeral; 18] = [
     ("0", 11, Some((0, 1))),
     ("007", 3, Some((7, 1))),
     ("007", 2, None),
@@ -262,10 +272,15 @@ const NUMERALS: [(&'static str, u32, Option<Parts>); 18] = [
     ("06/4", 1, None),
 ];
 
+/// Whether the text of a row is read as it tells.
+fn is_read(row: &Numeral) -> bool {
+    read(row.0.as_bytes(), row.1) == Some(row.2)
+}
+
 #[test]
 fn numerals(rt: HostRuntime) {
-    for (text, limit, value) in NUMERALS {
-        assert!(rt; read(text.as_bytes(), limit) == Some(value), "{text}");
+    for row in &NUMERALS {
+        assert!(rt; is_read(row), "{}", row.0);
     }
 }
 

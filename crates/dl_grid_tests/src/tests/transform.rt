@@ -9,7 +9,6 @@ use std::alloc::{AllocError, Global};
 
 /// Two lists, at how many levels they are multiplied, and the first items of their product, by long
 /// multiplication.
-#[derive(Clone, Copy, Debug)]
 struct Case {
     first: &'static [u64],
     second: &'static [u64],
@@ -172,7 +171,11 @@ fn products_are_exact(rt: HostRuntime) {
     let alloc = rt.alloc();
     let mut buffers = Buffers::new(alloc);
     for case in &CASES {
-        assert!(rt; is_so(agrees(alloc, &mut buffers, case)), "{case:?}");
+        assert!(rt;
+            is_so(agrees(alloc, &mut buffers, case)),
+            "{} levels",
+            case.levels
+        );
     }
 }
 
