@@ -8,7 +8,7 @@ use std::cmp::Ordering;
 
 /// A fraction, and how many whole units are in the exponential of minus it, at the scales 1, 48 and
 /// 56.
-#[derive(Clone, Copy, Debug)]
+#[derive(Clone, Copy)]
 struct Case {
     num: u64,
     den: u64,

@@ -8,7 +8,7 @@ use dl_iv::Iv;
 use std::alloc::{AllocError, Global};
 
 /// One write to a cell. The ends are in halves of 1.
-#[derive(Clone, Copy, Debug)]
+#[derive(Clone, Copy)]
 struct Write {
     x: u32,
     low: u8,
@@ -17,7 +17,7 @@ struct Write {
 
 /// What a grid tells of itself: its cells, and in halves of 1 the ends of its first and of its last
 /// cell, those of the probability of all cells, its mass and its spread.
-#[derive(Clone, Copy, Debug, PartialEq, Eq)]
+#[derive(Clone, Copy, PartialEq, Eq)]
 struct Told {
     cells: u32,
     first: (u128, u128),
@@ -28,7 +28,7 @@ struct Told {
 }
 
 /// A grid that begins as zero on `cells` cells, is written to twice, and is cut to `kept` cells.
-#[derive(Clone, Copy, Debug)]
+#[derive(Clone, Copy)]
 struct Case {
     cells: u32,
     writes: [Write; 2],
@@ -218,6 +218,6 @@ const CASES: [Case; 4] = [
 #[test]
 fn grids_tell(rt: HostRuntime) {
     for case in &CASES {
-        assert!(rt; is_so(is_told(rt.alloc(), case)), "{case:?}");
+        assert!(rt; is_so(is_told(rt.alloc(), case)), "{} cells", case.cells);
     }
 }

@@ -10,7 +10,7 @@ use dl_product::{Workspace, product, square};
 use std::alloc::{AllocError, Global};
 
 /// The ends of a cell, as parts of 1.
-#[derive(Clone, Copy, Debug, PartialEq, Eq)]
+#[derive(Clone, Copy, PartialEq, Eq)]
 enum Ends {
     /// Both 0.
     Zero,
@@ -23,7 +23,7 @@ enum Ends {
 }
 
 /// A grid with the same ends at some cells, and 0 elsewhere.
-#[derive(Clone, Copy, Debug, PartialEq, Eq)]
+#[derive(Clone, Copy, PartialEq, Eq)]
 struct Shape {
     ends: Ends,
     start: u32,
@@ -31,7 +31,7 @@ struct Shape {
 }
 
 /// Two grids on so many cells.
-#[derive(Clone, Copy, Debug)]
+#[derive(Clone, Copy)]
 struct Case {
     cells: u32,
     first: Shape,
@@ -200,8 +200,16 @@ fn all_ways_give_the_same_cells(rt: HostRuntime) {
     let alloc = rt.alloc();
     let mut work = Workspace::new(alloc);
     for case in &cases {
-        assert!(rt; is_so(agrees::<56>(alloc, &mut work, case)), "{case:?}");
-        assert!(rt; is_so(agrees::<1>(alloc, &mut work, case)), "{case:?}");
+        assert!(rt;
+            is_so(agrees::<56>(alloc, &mut work, case)),
+            "{} cells",
+            case.cells
+        );
+        assert!(rt;
+            is_so(agrees::<1>(alloc, &mut work, case)),
+            "{} cells",
+            case.cells
+        );
     }
 }
 
