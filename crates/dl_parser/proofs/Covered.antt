@@ -1,6 +1,6 @@
 -- The tokens that cover a text lie in it, are no more than its bytes, and are real.
 use Rattle.dl_parser.proofs.Common.{◌≡◌, ℕ, suc, ◌+◌, ◌-◌, ◌≤◌, Bool, true, false, List, [], ◌∷◌, length, take, drop, sym, subst, arith, length-append, All, ◌==◌, All-nil, lexeme, IsReal}
-use Rattle.std.proofs.Common.{length-drop, if◌then◌else◌, Fits, w32}
+use Rattle.std.proofs.Common.{length-drop, if◌then◌else◌}
 use Rattle.std.specs.List.{prefix_len}
 use Rattle.std.proofs.lemmas.List.{map-append}
 use Rattle.std.proofs.lemmas.List.Sums.{prefix_len-le-length}
@@ -63,7 +63,7 @@ covered_real bytes at tokens (token from n kind before c spelled longest) =
     (All-push IsReal (lexemes bytes before) (lexeme bytes (token_of kind from n)) (covered_real bytes from before c)
     (subst (λ m. IsSpelled kind (take m (drop from bytes))) (sym (back from n)) spelled))
 
--- so their numbers are small
-pub covered_few : (bytes : List ℕ) (tokens : List Token) (m : ℕ) → Covers bytes (length bytes) tokens
-    → length bytes ≤ most_text → Fits w32 (length tokens - m)
-covered_few bytes tokens m c short = omega (arith, covered_count bytes (length bytes) tokens c)
+-- so they are few
+pub covered_few : (bytes : List ℕ) (tokens : List Token) → Covers bytes (length bytes) tokens
+    → length bytes ≤ most_text → length tokens ≤ most_text
+covered_few bytes tokens c short = omega (arith, covered_count bytes (length bytes) tokens c)

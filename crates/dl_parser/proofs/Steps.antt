@@ -1,6 +1,10 @@
--- A parser takes tokens, and its loops.
-use Rattle.dl_parser.proofs.Common.{◌≡◌, ◌<◌, true, false, cond, length, map, length-map, Rule, many, got, is_empty, is_plain, read, lexeme, place, and_parts}
+-- A parser takes tokens, its choices, and its loops.
+use Rattle.dl_parser.proofs.Common.{◌≡◌, ◌<◌, true, false, cond, length, map, length-map, Rule, many, ◌or◌, got, begins, first, is_empty, is_plain, read, lexeme, place, and_parts}
+use Rattle.std.specs.Prelude.{Result, Ok, Err}
+use Rattle.dl_parser.specs.Parsing.{ReadsBy}
 use Rattle.dl_parser.specs.declared.cursor.Parser.{Parser}
+use Rattle.dl_parser.specs.declared.stop.Stop.{Stop}
+use Rattle.dl_parser.specs.declared.stop.Stop.TheVariants.{Wanted, OutOfMemory}
 use Rattle.dl_parser.proofs.ReadsBack.{is_no}
 use Rattle.dl_parser.proofs.Stopped.{less}
 
@@ -12,3 +16,17 @@ fewer_tokens a ok p q x e =
     let lt : length (map (lexeme q.source.now) q.rest.now) < length (map (lexeme p.source.now) p.rest.now) =
     less a i.0 (is_no _ j.0) (place p) (place q) x e in
     simp length-map at lt
+
+-- the next token tells which of two rules is read
+
+pub or_first : {A : Type 0} (a b : Rule A) (p q : Parser) (r : Result A Stop) → begins (first a) (place p).rest ≡ true
+    → ReadsBy a p q r → ReadsBy (a or b) p q r
+or_first a b p q (Ok x) t h = rw t h
+or_first a b p q (Err (Wanted k)) t h = rw t h
+or_first a b p q (Err OutOfMemory) t h = h
+
+pub or_later : {A : Type 0} (a b : Rule A) (p q : Parser) (r : Result A Stop)
+    → begins (first a) (place p).rest ≡ false → ReadsBy b p q r → ReadsBy (a or b) p q r
+or_later a b p q (Ok x) t h = rw t h
+or_later a b p q (Err (Wanted k)) t h = rw t h
+or_later a b p q (Err OutOfMemory) t h = h

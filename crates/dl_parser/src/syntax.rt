@@ -1,6 +1,6 @@
 //! The program that the tokens of a text spell, or the place where they stop.
 
-ghost use Rattle.std.specs.Prelude.{◌≡◌, ◌≤◌, length, IfOk, IfErr, if◌then◌else◌, ◌&&◌};
+ghost use Rattle.std.specs.Prelude.{◌≡◌, ◌≤◌, ◌-◌, ◌==◌, length, IfOk, IfErr, if◌then◌else◌, ◌&&◌};
 ghost use Rattle.dl_limits.specs.Limits.{most_text};
 ghost use Rattle.dl_lexer.specs.Cutting.{Covers};
 ghost use Rattle.dl_ast.specs.Lexemes.{lexemes};
@@ -51,6 +51,22 @@ impl<'a> Parser<'a> {
         ])
     }
 
+    /// Whether all tokens are taken.
+    fn is_at_end(&self) -> bool
+        ensures { result ≡ (length self.now.rest.now == 0) }
+    {
+        self.rest.is_empty()
+    }
+
+    /// How many of these tokens are taken, where those that are left are the last of them.
+    fn taken(&self, tokens: &[Token]) -> u32
+        requires left { length self.now.rest.now ≤ length tokens.now }
+        requires few { length tokens.now ≤ most_text }
+        ensures { result ≡ length tokens.now - length self.now.rest.now }
+    {
+        (tokens.len() - self.rest.len()) as u32
+    }
+
     /// Why the parser stops at token `at`, where a token of this kind is wanted.
     fn fault(&self, kind: Kind, at: u32) -> ParseFault
         ensures { result ≡ if same_kind kind (Kind.Word Keyword.Dhistogram)
@@ -82,15 +98,12 @@ pub fn parse(alloc: Global, source: &[u8], tokens: &[Token]) -> Result<Program, 
     };
     match parser.program() {
         Ok(program) => {
-            if parser.rest.is_empty() {
+            if parser.is_at_end() {
                 return Ok(program);
             }
-            Err(ParseFault::Syntax((tokens.len() - parser.rest.len()) as u32))
+            Err(ParseFault::Syntax(parser.taken(tokens)))
         }
-        Err(Stop::Wanted(kind)) => {
-            let at = (tokens.len() - parser.rest.len()) as u32;
-            Err(parser.fault(kind, at))
-        }
+        Err(Stop::Wanted(kind)) => Err(parser.fault(kind, parser.taken(tokens))),
         Err(Stop::OutOfMemory) => Err(ParseFault::OutOfMemory),
     }
 }
