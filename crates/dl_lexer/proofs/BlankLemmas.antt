@@ -1,5 +1,6 @@
--- Where a blank stands no token begins.
-use Rattle.dl_lexer.proofs.Common.{ℕ, zero, suc, ◌≡◌, ◌≢◌, ◌∙◌, ◌+◌, ◌<◌, ◌≤◌, List, [], ◌∷◌, length, take, Bool, true, false, ◌||◌, ◌==◌, cond, refl, ap, arith, Some, slice_get, prefix_len, nat_tests, Sign, Open, Close, Colon, Comma, Bang, is_letter, is_digit, IsNumeralToken, sign_byte, NoToken, blank_length}
+-- Where a blank stands no token begins, and how long a comment is.
+use Rattle.dl_lexer.proofs.Common.{ℕ, zero, suc, ◌≡◌, ◌≢◌, ◌∙◌, ◌+◌, ◌<◌, ◌≤◌, List, [], ◌∷◌, length, take, drop, ◌-◌, sym, subst, Bool, true, false, ◌||◌, ◌==◌, cond, refl, ap, arith, Some, slice_get, prefix_len, nat_tests, Sign, Open, Close, Colon, Comma, Bang, is_letter, is_digit, IsNumeralToken, sign_byte, NoToken, blank_length}
+use Rattle.std.proofs.lemmas.List.{take_all}
 use Rattle.dl_lexer.specs.Bytes.{is_white, is_comment_byte}
 use Rattle.dl_lexer.proofs.Longest.{longest_none}
 use Rattle.dl_lexer.proofs.TokenKinds.{begins_numeral, numeral_begins, longest_nothing}
@@ -44,3 +45,11 @@ blank_no_token (b ∷ bytes) some =
     sign first s e =
         let same : b ≡ sign_byte s = cc in
         let other : (is_white b || b == 35) ≡ false = ap (λ n. is_white n || n == 35) same ∙ no_sign s in cc
+
+pub comment_length : (bytes : List ℕ) (n : ℕ) → slice_get bytes 0 ≡ Some 35
+    → n ≡ prefix_len is_comment_byte (take (length bytes - 1) (drop 1 bytes)) → 1 + n ≡ blank_length bytes
+comment_length [] n h e = absurd cc
+comment_length (b ∷ bytes) n h e =
+    let mark : b ≡ 35 = cc in
+    subst (λ k. 1 + n ≡ blank_length (k ∷ bytes)) (sym mark)
+    (ap (λ k. 1 + k) (e ∙ ap (prefix_len is_comment_byte) (take_all (length (b ∷ bytes) - 1) bytes (omega arith))))

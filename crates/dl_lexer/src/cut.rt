@@ -1,10 +1,10 @@
 //! A text is cut into tokens.
 
-ghost use Rattle.std.specs.Prelude.{◌≡◌, ◌≢◌, ◌≤◌, ℕ, length, take, slice_get, IsTrue, IfSome};
+ghost use Rattle.std.specs.Prelude.{◌≡◌, ◌≢◌, ◌≤◌, ◌+◌, ℕ, length, take, slice_get, IsTrue, IfSome};
 ghost use Rattle.std.specs.Prelude.{IfNone, IfOk, Some, Err};
 ghost use Rattle.dl_limits.specs.Limits.{most_text};
 ghost use Rattle.dl_lexer.specs.declared.cut.LexFault.TheVariants.{OutOfMemory, BadByte};
-ghost use Rattle.dl_lexer.specs.Cutting.{IsLongest, NoToken, Covers, IsBad};
+ghost use Rattle.dl_lexer.specs.Cutting.{IsLongest, NoToken, Covers, IsBad, token_of};
 ghost use Rattle.dl_lexer.specs.Tokens.{begins_with_letter, IsSpelled, IsToken, sign_byte};
 
 use crate::front::{begins_with_letter, blank_length, note_length, numeral_length, word_length};
@@ -83,6 +83,26 @@ fn token_at(bytes: &[u8]) -> Option<(Kind, usize)>
     }
 }
 
+/// The token of this kind that stands on so many bytes from a place on.
+fn token_of(kind: Kind, at: usize, length: usize) -> Token
+    requires { at + length ≤ most_text }
+    ensures { result ≡ token_of kind at length }
+{
+    let span = Span {
+        start: at as u32,
+        end: (at + length) as u32,
+    };
+    Token { kind, span }
+}
+
+/// That no token begins at this place.
+fn bad_byte(at: usize) -> LexFault
+    requires { at ≤ most_text }
+    ensures { result ≡ BadByte at }
+{
+    LexFault::BadByte(at as u32)
+}
+
 /// The tokens of a text, in order, or the first place where neither a blank nor a token begins.
 /// A text has at most 1,048,576 bytes.
 pub fn lex(alloc: Global, source: &[u8]) -> Result<Vec<Token>, LexFault>
@@ -99,13 +119,9 @@ pub fn lex(alloc: Global, source: &[u8]) -> Result<Vec<Token>, LexFault>
             at += blank;
         } else {
             let Some((kind, length)) = token_at(rest) else {
-                return Err(LexFault::BadByte(at as u32));
+                return Err(bad_byte(at));
             };
-            let span = Span {
-                start: at as u32,
-                end: (at + length) as u32,
-            };
-            tokens.push(Token { kind, span })?;
+            tokens.push(token_of(kind, at, length))?;
             at += length;
         }
     }

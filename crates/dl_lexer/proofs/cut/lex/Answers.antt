@@ -1,5 +1,5 @@
 -- Each step of the cutting goes on with the cover, and takes at least one byte.
-use Rattle.dl_lexer.proofs.Common.{sym, subst, arith, Covers, nothing}
+use Rattle.dl_lexer.proofs.Common.{[], ◌∷◌, ◌++◌, ◌∙◌, ap, sym, subst, arith, Covers, nothing}
 use Rattle.dl_lexer.proofs.CoverLaws.{token_takes}
 use Rattle.dl_lexer.proofs.CutSteps.{blank_step, token_step}
 use Rattle.dl_lexer.proofs.cut.lex.Goals as goal
@@ -27,5 +27,6 @@ cutting-preserved c = record {
   within = omega (arith, c.in-Some.ensures.longest.within);
   covers =
       token_step c.args.source.now c.cutting.at c.in-Some.length c.in-Some.kind c.cutting.tokens.items _
-      c.cutting.invariant.covers c.in-Some.ensures.spelled c.in-Some.ensures.longest c.in_ok-push.ensures.items;
+      c.cutting.invariant.covers c.in-Some.ensures.spelled c.in-Some.ensures.longest
+      (c.in_ok-push.ensures.items ∙ ap (λ t. c.cutting.tokens.items ++ t ∷ []) c.token_of.ensures);
 }
