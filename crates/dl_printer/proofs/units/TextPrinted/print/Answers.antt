@@ -1,0 +1,6 @@
+-- A note is one token.
+use Rattle.std.proofs.Common.{rules}
+use Rattle.dl_printer.proofs.units.TextPrinted.print.Goals as goal
+
+pub returns : goal.returns
+returns c = search rules
