@@ -1,21 +1,21 @@
 //! The severity of a unit.
 
+ghost use Rattle.std.specs.Prelude.{◌≡◌, ◌≤◌, ◌^◌, None, true, false, map, All, length, IfOk, IfSome, MatchOption};
+ghost use Rattle.std.specs.List.{AllZip};
+ghost use Rattle.dl_limits.specs.Limits.{most_amount, most_items};
+ghost use Rattle.dl_read.specs.Lists.{is_fine};
 ghost use Rattle.dl_plan.specs.Fine.{IsWhole};
+ghost use Rattle.dl_plan.specs.Clause.{kept};
+ghost use Rattle.dl_plan.specs.Severity.{pairs_of, conditioned, Means};
 ghost use Rattle.dl_sev.specs.Weighed.{IsWeighing};
+ghost use Rattle.dl_sev.specs.Steps.{ceded_each};
+ghost use Rattle.dl_amounts.specs.Severity.{atom_probs, atom_pairs, weights_of, mixed_pairs, severity_in_layer, final_severity, mixture_shares};
+ghost use Rattle.dl_amounts.specs.Parts.{IsSevWeighted, AreProbabilities, IsSevShared};
+ghost use Rattle.dl_amounts.specs.Kept.{IsWeighted, IsFineSev};
+ghost use Rattle.dl_amounts.specs.Clauses.{clause_of, shares_of};
 ghost use Rattle.dl_amounts.specs.ClausesKept.{IsClauseLayered};
 ghost use Rattle.dl_amounts.specs.GridKept.{IsGridAtom};
-ghost use Rattle.dl_plan.specs.Severity.{pairs_of, conditioned, Means};
-ghost use Rattle.dl_amounts.specs.Parts.{IsSevWeighted, AreProbabilities, IsSevShared};
-ghost use Rattle.dl_amounts.specs.Severity.{atom_probs, atom_pairs, weights_of, mixed_pairs, severity_in_layer, final_severity, mixture_shares};
-ghost use Rattle.dl_amounts.specs.Kept.{IsWeighted, IsFineSev};
-ghost use Rattle.std.specs.List.{AllZip};
-ghost use Rattle.dl_plan.specs.Clause.{kept};
 ghost use Rattle.dl_amounts.specs.FineParts.{IsWeighed};
-ghost use Rattle.dl_limits.specs.Limits.{most_amount, most_items};
-ghost use Rattle.dl_amounts.specs.Clauses.{clause_of, shares_of};
-ghost use Rattle.dl_sev.specs.Steps.{ceded_each};
-ghost use Rattle.std.specs.Prelude.{◌≡◌, ◌≤◌, ◌^◌, None, true, false, map, All, length, IfOk, IfSome, MatchOption};
-ghost use Rattle.dl_read.specs.Lists.{is_fine};
 ghost use Rattle.dl_amounts.specs.Rules.{none_above};
 
 use crate::atoms::{atom_probs, atom_weights};

@@ -1,17 +1,18 @@
 -- What a unit in whole buckets keeps where the rules on it are not broken, and its unit of the plan.
-use Rattle.dl_types.proofs.Common.{ℕ, ◌≡◌, ◌∙◌, Bool, true, false, List, Option, Some, None, refl, sym, ap, ap₂, subst, Ok, Err, Fraction, Settings, IsValidUnit, Span, ReadList, ◌else◌, at_if, probs_in_count, else_first, else_second, not_at, GridUnit, has_shares, fractions_too_fine, IsGridUnit, AreProbabilities, off_grid_cession, own_lists, final_severity, CheckFault, Typing, OutOfMemory, expected_claims, claims_of, claims_above_zero, breaks, cells_asked, fault_of_clauses, fault_of_count, fault_on_grid, IsWholeCount, IsCountKept, IsCountMade, IsCedeOf, too_fine, exposed_too_fine, too_many_claims, has_too_many_claims, horizon_too_large}
-use Rattle.std.specs.Prelude.{Result}
+use Rattle.dl_types.proofs.Common.{ℕ, ◌≡◌, ◌∙◌, Bool, true, false, List, Option, Some, None, Sev, Clause, refl, sym, ap, ap₂, subst, Ok, Err, Fraction, Settings, IsValidUnit, Span, ReadList, ◌else◌, at_if, probs_in_count, else_first, else_second, not_at, GridUnit, has_shares, fractions_too_fine, IsGridUnit, AreProbabilities, off_grid_cession, own_lists, final_severity, CheckFault, Typing, OutOfMemory, expected_claims, claims_of, claims_above_zero, breaks, cells_asked, fault_of_clauses, fault_of_count, fault_on_grid, IsWholeCount, IsCountKept, IsCountMade, IsCedeOf, too_fine, exposed_too_fine, too_many_claims, has_too_many_claims, horizon_too_large}
+use Rattle.std.specs.Prelude.{Result, OnOk, IfOk, IfErr}
 use Rattle.std.specs.Result.{IsErr, IsErrAnd}
 use Rattle.dl_plan.specs.declared.plan.Unit.{Unit as UnitOfPlan}
 use Rattle.dl_amounts.specs.Kept.{IsLayered, IsFineSev}
 use Rattle.dl_amounts.proofs.Shared.{all_left, all_shared}
+use Rattle.dl_amounts.specs.Rules.{overlap, share_above_one}
 use Rattle.dl_types.specs.declared.rule.Rule.{Rule}
 use Rattle.dl_types.specs.declared.rule.Rule.TheVariants as rules
 use Rattle.dl_types.specs.declared.claims.Claims.{Claims}
 use Rattle.dl_types.specs.declared.fault.TypeFault.{TypeFault}
 use Rattle.dl_types.specs.Answer.{StopsAt, TellsFault, AnswersGrid}
 use Rattle.dl_types.specs.Claimed.{IsFinal, AreClaims}
-use Rattle.dl_types.specs.Faults.{fault_of_number}
+use Rattle.dl_types.specs.Faults.{fault_of_layers, fault_of_number}
 use Rattle.dl_types.specs.Plans.{IsUnitOn}
 use Rattle.dl_types.proofs.Aggregates.{aggregate_valid}
 use Rattle.dl_types.proofs.FineClaims.{fine_left, fine_lists, occ_shares, agr_shares}
@@ -43,6 +44,12 @@ module _ (p q : Option TypeFault) (same : (t : TypeFault) → p ≡ Some t → q
   told_as (Ok x) f h told = absurd (cc (h.0))
   told_as (Err g) f h told = subst (StopsAt q) (sym h.1) (stop_as f told)
 
+-- a value that is given back where rules on it are kept
+pub kept_as : {A : Type 0} (P : A → Type 0) (x : A) (rules : Result Unit CheckFault) (r : Result A CheckFault)
+    → IfOk r (λ made. made ≡ x) → OnOk r (rules ≡ Ok tt) → OnOk rules (P x) → IfOk r P
+kept_as P x rules (Ok made) same ok h = subst P (sym same) (subst (λ told. OnOk told (P x)) ok h)
+kept_as P x rules (Err stop) same ok h = tt
+
 -- ---- the severity, the layer and the clauses
 
 pub layered_is : (unit : ℕ) (u : GridUnit) → IsGridUnit u → fault_of_clauses unit u ≡ None
@@ -56,6 +63,13 @@ layered_is unit u grid none =
       record { weighted = record { grid = grid; weights = a.0 }; reached = b.0; apart = c.0; within = d.0 },
       only unit rules.OffGridCession _ d.1,
     )
+
+-- layers that overlap come first
+pub first_layers : (unit : ℕ) (u : GridUnit) (place : Option Span) → place ≡ overlap u → (t : TypeFault)
+    → breaks unit rules.Overlap place ≡ Some t → fault_of_layers unit u ≡ Some t
+first_layers unit u place is t e =
+    ap (λ o. o else breaks unit rules.ShareAboveOne (share_above_one u)
+    else breaks unit rules.OffGridCession (off_grid_cession u)) (sym (ap (breaks unit rules.Overlap) is) ∙ e)
 
 -- ---- the count
 
@@ -221,14 +235,24 @@ grid_parts settings unit u none =
     )
 
 module _ (settings : Settings) (unit : ℕ) (u : GridUnit) (grid : IsGridUnit u)
-    (none : fault_on_grid settings unit u ≡ None) (text : List ℕ) (made : UnitOfPlan) (name : made.name ≡ text)
-    (sev : IsFinal u made.sev) (freq : IsCountMade u.count (expected_claims settings.bs u) made.freq)
-    (cede : IsCedeOf u.agr made.cede) where
-  pub grid_answer : AnswersGrid settings unit text u (Ok made)
-  grid_answer =
+    (none : fault_on_grid settings unit u ≡ None) (text : List ℕ) where
+  pub grid_answer : (made : UnitOfPlan) → made.name ≡ text → IsFinal u made.sev
+      → IsCountMade u.count (expected_claims settings.bs u) made.freq → IsCedeOf u.agr made.cede
+      → AnswersGrid settings unit text u (Ok made)
+  grid_answer made name sev freq cede =
       let parts = grid_parts settings unit u none in
       let ceded = (layered_is unit u grid parts.0).1 in (
         none,
         unit_is settings.bs unit u grid parts.1 (cells_asked settings) ceded parts.2 text made name sev freq cede,
         unit_valid settings.bs unit u grid parts.1 (cells_asked settings) ceded parts.2 text made name sev freq cede,
       )
+
+  -- the unit is made of these parts, or there is no room for it
+  pub made_answer : (sev : Sev) (clause : Option Clause) → IsFinal u sev → IsCedeOf u.agr clause
+      → (r : Result UnitOfPlan CheckFault) → IfOk r (λ made. made.name ≡ text) → IfOk r (λ made. made.sev ≡ sev)
+      → IfOk r (λ made. IsCountMade u.count (expected_claims settings.bs u) made.freq)
+      → IfOk r (λ made. made.cede ≡ clause) → IfErr r (λ stop. stop ≡ OutOfMemory) → AnswersGrid settings unit text u r
+  made_answer sev clause final cede (Ok made) name same freq kept room =
+      grid_answer made name (subst (IsFinal u) (sym same) final) freq (subst (IsCedeOf u.agr) (sym kept) cede)
+  made_answer sev clause final cede (Err stop) name same freq kept room =
+      subst (StopsAt (fault_on_grid settings unit u)) (sym room) tt

@@ -1,15 +1,15 @@
 //! The rules of one unit, in their order.
 
-ghost use Rattle.std.specs.Prelude.{◌≡◌, ◌<◌, ◌∷◌, ◌++◌, [], nat_lt, true, None, Some, IfOk, IfSome, OnOk, Err, length, map};
+ghost use Rattle.std.specs.Prelude.{◌≡◌, ◌<◌, ◌∷◌, ◌++◌, [], nat_lt, true, Option, None, Some, IfOk, IfErr, IfSome, OnOk, Ok, Err, length, map};
 ghost use Rattle.dl_types.specs.Faults.{breaks, cells_asked, fault_of_reading, fault_of_pairs, fault_of_lists, fault_of_money, fault_of_clauses, fault_of_layers, fault_of_number, fault_of_count};
 ghost use Rattle.dl_exact.specs.Fraction.{Fraction};
 ghost use Rattle.dl_types.specs.Answer.{StopsAt, TellsFault, AnswersGrid, AnswersUnit};
 ghost use Rattle.dl_ast.specs.declared.ast.UnitAst.{UnitAst};
-ghost use Rattle.dl_types.specs.declared.rule.Rule.TheVariants.{DuplicateName, OffGridCession, TooFine, HorizonTooLarge};
+ghost use Rattle.dl_types.specs.declared.rule.Rule.TheVariants.{DuplicateName, OffGridCession, CountNotWhole, CountAboveOne, TrialsNotWhole, ShapeNotWhole, TooFine, HorizonTooLarge};
 ghost use Rattle.dl_ast.specs.WellFormed.{IsFormedUnit};
 ghost use Rattle.dl_amounts.specs.Rules.{lengths_differ, none_above, not_one, off_grid_cession};
 ghost use Rattle.dl_read.specs.declared.tree.ReadUnit.{ReadUnit as UnitRead};
-ghost use Rattle.dl_types.specs.Rules.{duplicate_name, too_fine, horizon_too_large};
+ghost use Rattle.dl_types.specs.Rules.{duplicate_name, count_not_whole, count_above_one, trials_not_whole, shape_not_whole, too_fine, horizon_too_large};
 ghost use Rattle.dl_plan.specs.Clause.{IsClause};
 ghost use Rattle.dl_amounts.specs.Severity.{mixed_pairs, severity_in_layer, support};
 ghost use Rattle.dl_plan.specs.Horizon.{horizon};
@@ -28,7 +28,8 @@ ghost use Rattle.dl_amounts.specs.GridKept.{IsGridUnit};
 ghost use Rattle.dl_limits.specs.Limits.{most_cells, most_units};
 ghost use Rattle.dl_amounts.specs.OnGrid.{GridsUnit};
 ghost use Rattle.dl_types.specs.UnitNames.{names_of};
-ghost use Rattle.dl_types.specs.declared.fault.CheckFault.TheVariants.{Typing};
+ghost use Rattle.dl_types.specs.declared.fault.TypeFault.{TypeFault as FaultOfTypes};
+ghost use Rattle.dl_types.specs.declared.fault.CheckFault.TheVariants.{Typing, OutOfMemory};
 ghost use Rattle.dl_types.specs.Exposures.{expected_claims};
 ghost use Rattle.dl_types.specs.Claimed.{AreClaims};
 
@@ -71,6 +72,17 @@ fn broken(unit: u32, rule: Rule, place: Option<Span>) -> Result<(), CheckFault>
         Some(span) => Err(typing(unit, rule, span)),
         None => Ok(()),
     }
+}
+
+/// The value where the rules on it are kept. Where one is broken the value is dropped here, so that
+/// a check owns nothing on its ways out.
+fn kept<T: Drop>(value: T, rules: Result<(), CheckFault>) -> Result<T, CheckFault>
+    ensures told { (fault : Option FaultOfTypes) → TellsFault fault rules → TellsFault fault result }
+    ensures same { IfOk result (λ made. made ≡ value) }
+    ensures kept { OnOk result (rules ≡ Ok tt) }
+{
+    rules?;
+    Ok(value)
 }
 
 /// The fault of a unit that is not read.
@@ -155,8 +167,8 @@ fn check_read(alloc: Global, number: u32, unit: &UnitAst) -> Result<ReadUnit, Ch
     ensures one { IfOk result (λ read. not_one read ≡ None) }
 {
     let read = check_reading(alloc, number, unit)?;
-    check_pairs(alloc, number, &read)?;
-    Ok(read)
+    let told = check_pairs(alloc, number, &read);
+    kept(read, told)
 }
 
 /// The rules on its name, its numerals and its lists; what it writes.
@@ -234,7 +246,8 @@ fn check_layers(
     ensures amounts { IfOk result (λ amounts. amounts.items
         ≡ support (severity_in_layer unit.now)) }
 {
-    broken(number, Rule::Overlap, overlap(unit))?;
+    let place = overlap(unit);
+    broken(number, Rule::Overlap, place)?;
     broken(number, Rule::ShareAboveOne, share_above_one(unit))?;
     let amounts = support_in_layer(alloc, unit, mixed)?;
     check_cessions(alloc, number, unit, amounts)
@@ -253,12 +266,8 @@ fn check_cessions(
         (off_grid_cession unit.now)) result }
     ensures same { IfOk result (λ made. made ≡ amounts) }
 {
-    broken(
-        number,
-        Rule::OffGridCession,
-        off_grid_cession(alloc, unit, &amounts)?,
-    )?;
-    Ok(amounts)
+    let place = off_grid_cession(alloc, unit, &amounts)?;
+    kept(amounts, broken(number, Rule::OffGridCession, place))
 }
 
 /// The rules on its count, and on the sizes of what it means. What its claims come to.
@@ -284,6 +293,37 @@ fn check_count(
     check_number(alloc, number, unit, layered, count)
 }
 
+/// The rules on whole numbers, with so many claims expected. Where one is broken it comes before all
+/// that follow it.
+fn check_whole(number: u32, count: &ReadCount, expected: &Option<Frac>) -> Result<(), CheckFault>
+    ensures told { IfErr result (λ stop. (rest : Option FaultOfTypes)
+        → StopsAt (breaks number CountNotWhole (count_not_whole count.now expected.now)
+        else breaks number CountAboveOne (count_above_one count.now expected.now)
+        else breaks number TrialsNotWhole (trials_not_whole count.now expected.now)
+        else breaks number ShapeNotWhole (shape_not_whole count.now) else rest) stop) }
+    ensures whole { OnOk result (count_not_whole count.now expected.now ≡ None) }
+    ensures within { OnOk result (count_above_one count.now expected.now ≡ None) }
+    ensures trials { OnOk result (trials_not_whole count.now expected.now ≡ None) }
+    ensures shape { OnOk result (shape_not_whole count.now ≡ None) }
+{
+    broken(
+        number,
+        Rule::CountNotWhole,
+        count_not_whole(count, expected),
+    )?;
+    broken(
+        number,
+        Rule::CountAboveOne,
+        count_above_one(count, expected),
+    )?;
+    broken(
+        number,
+        Rule::TrialsNotWhole,
+        trials_not_whole(count, expected),
+    )?;
+    broken(number, Rule::ShapeNotWhole, shape_not_whole(count))
+}
+
 /// The rules on its count with so many claims expected, and on the sizes of what it means. What its
 /// claims come to.
 #[tactic(auto, unfolding(crate::specs::Faults::fault_of_number))]
@@ -301,26 +341,11 @@ fn check_number(
     ensures claims { IfOk result (AreClaims unit.now) }
     ensures count { IfOk result (λ claims. claims.count ≡ count) }
 {
-    broken(
-        number,
-        Rule::CountNotWhole,
-        count_not_whole(&unit.count, &count),
-    )?;
-    broken(
-        number,
-        Rule::CountAboveOne,
-        count_above_one(&unit.count, &count),
-    )?;
-    broken(
-        number,
-        Rule::TrialsNotWhole,
-        trials_not_whole(&unit.count, &count),
-    )?;
-    broken(number, Rule::ShapeNotWhole, shape_not_whole(&unit.count))?;
+    check_whole(number, &unit.count, &count)?;
     let claims = check_fine(alloc, number, unit, layered, count)?;
     let many = too_many_claims(&unit.count, &claims);
-    broken(number, Rule::TooManyClaims, place_if(many, unit.name))?;
-    Ok(claims)
+    let told = broken(number, Rule::TooManyClaims, place_if(many, unit.name));
+    kept(claims, told)
 }
 
 /// The rule on fractions, and what the claims of a unit come to whose fractions are fine.
@@ -347,8 +372,8 @@ fn check_fine(
     };
     let claims = claims_with(severity, count);
     let coarse = exposed_too_fine(&unit.count, &claims);
-    broken(number, Rule::TooFine, place_if(coarse, unit.name))?;
-    Ok(claims)
+    let told = broken(number, Rule::TooFine, place_if(coarse, unit.name));
+    kept(claims, told)
 }
 
 /// The rule on the horizon of an aggregate clause, and that clause, where there is one.
@@ -370,12 +395,8 @@ fn check_horizon(
     let Some(made) = clause(alloc, cession)? else {
         unreachable!()
     };
-    broken(
-        number,
-        Rule::HorizonTooLarge,
-        horizon_passes(cession, &made, cells),
-    )?;
-    Ok(Some(made))
+    let place = horizon_passes(cession, &made, cells);
+    kept(Some(made), broken(number, Rule::HorizonTooLarge, place))
 }
 
 /// The place of a clause, made so, whose horizon on a grid of so many cells passes 16,384.
@@ -410,6 +431,31 @@ pub(crate) fn cells(settings: &Settings) -> u32
     1 << settings.log2
 }
 
+/// The unit of the plan with this name, of what its claims come to and its aggregate clause.
+fn planned(
+    alloc: Global,
+    name: &[u8],
+    count: &ReadCount,
+    claims: Claims,
+    cede: Option<Cede>,
+) -> Result<Unit, CheckFault>
+    requires { IsCountKept count.now claims.count }
+    ensures name { IfOk result (λ made. made.name ≡ name.now) }
+    ensures severity { IfOk result (λ made. made.sev ≡ claims.severity) }
+    ensures count { IfOk result (λ made. IsCountMade count.now claims.count made.freq) }
+    ensures clause { IfOk result (λ made. made.cede ≡ cede) }
+    ensures room { IfErr result (λ stop. stop ≡ OutOfMemory) }
+{
+    let freq = unit_count(alloc, count, &claims.count)?;
+    let name = Text::copy(alloc, name)?;
+    Ok(Unit {
+        name,
+        sev: claims.severity,
+        freq,
+        cede,
+    })
+}
+
 /// The unit of the plan of a unit in whole buckets, or the first rule on it that it breaks.
 fn check_grid(
     alloc: Global,
@@ -425,14 +471,7 @@ fn check_grid(
     let amounts = check_clauses(alloc, number, grid)?;
     let claims = check_count(alloc, number, grid, settings.bs, &amounts)?;
     let cede = check_horizon(alloc, number, &grid.agr, cells(settings))?;
-    let freq = unit_count(alloc, &grid.count, &claims.count)?;
-    let name = Text::copy(alloc, unit.name.text.as_slice())?;
-    Ok(Unit {
-        name,
-        sev: claims.severity,
-        freq,
-        cede,
-    })
+    planned(alloc, unit.name.text.as_slice(), &grid.count, claims, cede)
 }
 
 /// The unit of the plan, or the first rule that the unit breaks.

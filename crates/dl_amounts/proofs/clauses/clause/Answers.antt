@@ -14,3 +14,8 @@ returns-clause-value c =
     ∙ ap (λ (ls : List CedeLayer). (a.net, ls)) (c.deref.ensures.value ∙ made) in
     let is : c.is_clause.result ≡ true = c.is_clause.ensures.1 (subst IsClause (sym same) cession) in
     absurd (cc (is, c.if-is_clause.false)))
+
+pub returns-then-is_clause-clause-value : goal.returns-then-is_clause-clause-value
+returns-then-is_clause-clause-value c =
+    let made = rw c.in-Some.is at c.in_ok-layers.ensures.value in
+    c.in_ok-clause.ensures ∙ ap (λ (ls : List CedeLayer). (c.args.cession.now.net, ls)) (c.deref.ensures.value ∙ made)

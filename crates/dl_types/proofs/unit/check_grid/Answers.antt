@@ -1,6 +1,7 @@
 -- Where no rule is broken, the parts of the plan are valid.
-use Rattle.dl_types.proofs.Common.{ℕ, ◌∙◌, sym, ap, subst, agr_layered, HorizonTooLarge, breaks, fault_of_clauses, fault_of_count, IsCountKept, IsCountMade, horizon_too_large}
-use Rattle.dl_types.proofs.UnitFacts.{fine_agr, kept_is, first_told, second_told, third_told, grid_told, grid_answer}
+use Rattle.dl_types.proofs.Common.{ℕ, ◌≡◌, ◌∙◌, sym, ap, subst, agr_layered, HorizonTooLarge, breaks, fault_of_clauses, fault_of_count, IsCountKept, IsCountMade, horizon_too_large}
+use Rattle.std.specs.Prelude.{IfOk}
+use Rattle.dl_types.proofs.UnitFacts.{fine_agr, kept_is, first_told, second_told, third_told, grid_told, made_answer}
 use Rattle.dl_types.proofs.unit.check_grid.Goals as goal
 
 pub returns-in_err-amounts : goal.returns-in_err-amounts
@@ -36,8 +37,8 @@ returns-in_err-cede c =
     (λ t e. third_told settings c.args.number u c.in_ok-amounts.ensures.told c.in_ok-claims.ensures.told _
     (sym (ap at c.cells.ensures) ∙ e))
 
-pub unit_count-requires : goal.unit_count-requires
-unit_count-requires c =
+pub planned-requires : goal.planned-requires
+planned-requires c =
     subst (IsCountKept c.args.grid.now.count) (sym c.in_ok-claims.ensures.count)
     (kept_is c.args.settings.now.bs c.args.number c.args.grid.now c.requires.grid c.in_ok-claims.ensures.told)
 
@@ -45,15 +46,12 @@ pub returns : goal.returns
 returns c =
     let u = c.args.grid.now in
     let settings = c.args.settings.now in
+    let made = c.planned.ensures in
     let at = λ (k : ℕ). breaks c.args.number HorizonTooLarge (horizon_too_large k u.agr) in
     let none = third_told settings c.args.number u c.in_ok-amounts.ensures.told c.in_ok-claims.ensures.told _
     (sym (ap at c.cells.ensures) ∙ c.in_ok-cede.ensures.told) in
-    grid_answer settings c.args.number u c.requires.grid none c.args.unit.now.name.text
-    (record {
-      name = c.in_ok-name.name;
-      sev = c.in_ok-claims.claims.severity;
-      freq = c.in_ok-freq.freq;
-      cede = c.in_ok-cede.cede;
-    }) (c.in_ok-name.ensures ∙ c.as_slice.ensures) c.in_ok-claims.ensures.claims.severity
-    (subst (λ n. IsCountMade u.count n c.in_ok-freq.freq) c.in_ok-claims.ensures.count c.in_ok-freq.ensures)
-    c.in_ok-cede.ensures.made
+    made_answer settings c.args.number u c.requires.grid none c.args.unit.now.name.text c.in_ok-claims.claims.severity
+    c.in_ok-cede.cede c.in_ok-claims.ensures.claims.severity c.in_ok-cede.ensures.made c.planned.result
+    (subst (λ text. IfOk c.planned.result (λ made. made.name ≡ text)) c.as_slice.ensures made.name) made.severity
+    (subst (λ n. IfOk c.planned.result (λ made. IsCountMade u.count n made.freq)) c.in_ok-claims.ensures.count made.count)
+    made.clause made.room
