@@ -77,7 +77,8 @@ fn broken(unit: u32, rule: Rule, place: Option<Span>) -> Result<(), CheckFault>
 /// The value where the rules on it are kept. Where one is broken the value is dropped here, so that
 /// a check owns nothing on its ways out.
 fn kept<T: Drop>(value: T, rules: Result<(), CheckFault>) -> Result<T, CheckFault>
-    ensures told { (fault : Option FaultOfTypes) → TellsFault fault rules → TellsFault fault result }
+    ensures told { (fault : Option FaultOfTypes) → TellsFault fault rules
+        → TellsFault fault result }
     ensures same { IfOk result (λ made. made ≡ value) }
     ensures kept { OnOk result (rules ≡ Ok tt) }
 {
@@ -293,8 +294,8 @@ fn check_count(
     check_number(alloc, number, unit, layered, count)
 }
 
-/// The rules on whole numbers, with so many claims expected. Where one is broken it comes before all
-/// that follow it.
+/// The rules on whole numbers, with so many claims expected. Where one is broken it comes before
+/// all that follow it.
 fn check_whole(number: u32, count: &ReadCount, expected: &Option<Frac>) -> Result<(), CheckFault>
     ensures told { IfErr result (λ stop. (rest : Option FaultOfTypes)
         → StopsAt (breaks number CountNotWhole (count_not_whole count.now expected.now)

@@ -53,5 +53,6 @@ returns c =
     made_answer settings c.args.number u c.requires.grid none c.args.unit.now.name.text c.in_ok-claims.claims.severity
     c.in_ok-cede.cede c.in_ok-claims.ensures.claims.severity c.in_ok-cede.ensures.made c.planned.result
     (subst (λ text. IfOk c.planned.result (λ made. made.name ≡ text)) c.as_slice.ensures made.name) made.severity
-    (subst (λ n. IfOk c.planned.result (λ made. IsCountMade u.count n made.freq)) c.in_ok-claims.ensures.count made.count)
+    (subst (λ n. IfOk c.planned.result (λ made. IsCountMade u.count n made.freq)) c.in_ok-claims.ensures.count
+    made.count)
     made.clause made.room
