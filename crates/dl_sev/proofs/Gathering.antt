@@ -1,5 +1,5 @@
 -- Items put one after another: rising amounts, weights above 0, and the weights of all.
-use Rattle.dl_sev.proofs.Common.{ℕ, ◌≡◌, ◌∙◌, ◌+◌, ◌<◌, ◌≤◌, List, [], ◌∷◌, ◌++◌, length, get_or, take, true, false, cond, ◌==◌, refl, sym, ap, subst, arith, inl, inr, All, sum_by, cases_lt, map-append, get_or_default, All-push, All-nil, All-cons, All-tail, All-head, sum_by_more, Item, amounts_of, weight_sum, weight_at}
+use Rattle.dl_sev.proofs.Common.{ℕ, ◌≡◌, ◌∙◌, ◌+◌, ◌<◌, ◌≤◌, List, [], ◌∷◌, ◌++◌, length, get_or, take, true, false, cond, ◌==◌, refl, sym, ap, subst, arith, inl, inr, All, sum_by, cases_lt, map-append, get_or_default, take_all, All-push, All-nil, All-cons, All-tail, All-head, sum_by_more, Item, amounts_of, weight_sum, weight_at}
 use Rattle.std.proofs.Common.{◌≢◌, Bool, lt_trans}
 use Rattle.std.specs.List.{AllPairs}
 use Rattle.std.specs.List.Sorted.{IsStrictlyIncreasing, IsNonDecreasingBy}
@@ -122,3 +122,12 @@ module _ (items : List Item) (i : ℕ) (made : List Item) (last : Item) (d : Ite
           (λ (j : Item). cond (j.amount == x) j.weight 0) items i d h,
     );
   }
+
+-- after all items
+module _ (items : List Item) (i : ℕ) (made : List Item) (last : Item) (h : length items ≤ i)
+    (so_far : IsGathered items i made last) where
+  pub sum-all : weight_sum (with_weighed made last) ≡ weight_sum items
+  sum-all = weight_sum-with made last ∙ so_far.sum ∙ ap weight_sum (take_all i items h)
+
+  pub weights-all : (x : ℕ) → weight_at (with_weighed made last) x ≡ weight_at items x
+  weights-all x = weight_at-with made last x ∙ so_far.weights x ∙ ap (λ xs. weight_at xs x) (take_all i items h)

@@ -1,4 +1,4 @@
--- One value.
+-- One value, where there is room for it.
 use Rattle.dl_sev.proofs.Common.{◌∙◌, ◌++◌, ap, sym}
 use Rattle.dl_sev.proofs.Ranged.{one_value}
 use Rattle.dl_sev.proofs.expand_list.push_one.Goals as goal
