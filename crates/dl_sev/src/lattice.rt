@@ -15,18 +15,17 @@ pub fn fits(cede: &Cede, step: u32) -> bool
     requires { IsClause cede.now }
     ensures { IsTrue result ↔ FitsStep cede.now step }
 {
-    step == 0 || is_whole_at(cede, step as u64) && fits_layers(cede, step)
+    step == 0 || is_whole_at(cede, step as u64) && fits_layers(cede, step, cede.layers())
 }
 
-/// Whether the multiples of `step` just past both ends of each layer are mapped to whole numbers.
-fn fits_layers(cede: &Cede, step: u32) -> bool
+/// Whether the multiples of `step` just past both ends of each of these layers are mapped to whole
+/// numbers.
+fn fits_layers(cede: &Cede, step: u32, layers: &[CedeLayer]) -> bool
     requires step { 0 < step }
     requires clause { IsClause cede.now }
-    ensures { IsTrue result ↔ All (FitsLayer cede.now step) cede.now.1 }
+    ensures { IsTrue result ↔ All (FitsLayer cede.now step) layers.now }
 {
-    cede.layers()
-        .iter()
-        .all(|layer| fits_layer(cede, step, layer))
+    layers.iter().all(|layer| fits_layer(cede, step, layer))
 }
 
 /// Whether those just past both ends of one layer are.

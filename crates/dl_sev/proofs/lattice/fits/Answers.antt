@@ -1,5 +1,6 @@
 -- The multiples past the ends decide.
-use Rattle.dl_sev.proofs.Common.{arith, refl}
+use Rattle.dl_sev.proofs.Common.{All, arith, refl, subst}
+use Rattle.dl_sev.specs.Fits.{FitsLayer}
 use Rattle.dl_sev.proofs.Lattices.{fits_all, fits_none, fits_one, fits_ends}
 use Rattle.dl_sev.proofs.lattice.fits.Goals as goal
 
@@ -12,8 +13,9 @@ returns-then-step-eq0 c = (
 pub returns-then-is_whole_at : goal.returns-then-is_whole_at
 returns-then-is_whole_at c = (
   λ given. fits_all c.args.cede.now c.args.step c.requires (omega (arith, c.if-step-eq0.false))
-      (c.is_whole_at.ensures.0 c.if-is_whole_at.true) (c.fits_layers.ensures.0 given),
-  λ fits. c.fits_layers.ensures.1 (fits_ends c.args.cede.now c.args.step fits c.args.cede.now.1),
+      (c.is_whole_at.ensures.0 c.if-is_whole_at.true)
+      (subst (All (FitsLayer c.args.cede.now c.args.step)) c.layers.ensures (c.fits_layers.ensures.0 given)),
+  λ fits. c.fits_layers.ensures.1 (fits_ends c.args.cede.now c.args.step fits c.layers.result.now),
 )
 
 pub returns-else-is_whole_at : goal.returns-else-is_whole_at
