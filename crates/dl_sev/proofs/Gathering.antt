@@ -6,7 +6,7 @@ use Rattle.std.specs.List.Sorted.{IsStrictlyIncreasing, IsNonDecreasingBy}
 use Rattle.std.proofs.lemmas.Bool.{lt-ltb, le-ltb}
 use Rattle.std.proofs.lemmas.List.Kept.{AllPairs-from_increasing}
 use Rattle.std.proofs.lemmas.List.Quantifiers.{all_pairs_push}
-use Rattle.std.proofs.lemmas.List.Sums.{sum_by_push}
+use Rattle.std.proofs.lemmas.List.Sums.{sum_by_push, sum_by-take-le}
 use Rattle.dl_sev.specs.Steps.{with_weighed}
 
 below_amounts : (xs : List Item) (b : ℕ) → All (λ (i : Item). i.amount < b) xs → All (λ n. n < b) (amounts_of xs)
@@ -85,6 +85,15 @@ part_plus false v w = refl
 
 module _ (items : List Item) (i : ℕ) (made : List Item) (last : Item) (d : Item) (h : i < length items)
     (so_far : IsGathered items i made last) where
+  -- the last item with the next one weighs no more than all
+  pub last-within : last.weight + (get_or items i d).weight ≤ weight_sum items
+  last-within = omega (
+    arith,
+    so_far.sum,
+    sum_by_more (λ (j : Item). j.weight) items i d h,
+    sum_by-take-le (λ (j : Item). j.weight) items (i + 1),
+  )
+
   pub gathered-same : (get_or items i d).amount ≡ last.amount
       → IsGathered items (i + 1) made (record {
         amount = last.amount;

@@ -1,7 +1,16 @@
 -- One item more is added to the last one, or comes after it.
-use Rattle.dl_sev.proofs.Gathering.{gathered-same, gathered-next, rising-with, positive-with, sum-all, weights-all}
+use Rattle.dl_sev.proofs.Common.{arith}
+use Rattle.dl_sev.proofs.Gathering.{last-within, gathered-same, gathered-next, rising-with, positive-with, sum-all, weights-all}
 use Rattle.dl_sev.proofs.gather.added_up.Goals as goal
 use Rattle.dl_sev.proofs.gather.added_up.Goals.{then-item-last, else-item-last+in_ok-push_weighed}
+
+pub overflow_add-last : goal.overflow_add-last
+overflow_add-last c = omega (
+  arith,
+  last-within c.args.items.now c.items.item-index c.items.made.items c.items.last (record { amount = 0; weight = 0 })
+      c.items-test.true c.items.invariant,
+  c.requires.within,
+)
 
 pub items-preserved : goal.items-preserved
 items-preserved c = elim c.if-item-last.branch [
