@@ -1,6 +1,6 @@
 -- What follows of a reply, and why an accepted text is not refused.
 use Rattle.std.proofs.Common.{ℕ, ◌≡◌, map, String, string_bytes, Global, ◌≤◌, List, [], ◌∷◌, length, get_or, All, Option, None, Some, Ok, Err, IfSome, IsUtf8, arith, refl, sym, ap, subst, ◌∙◌}
-use Rattle.dl_outside.specs.Bytes.{Takes}
+use Rattle.dl_outside.specs.Bytes.{Takes, TakesAtMost}
 use Rattle.dl_lexer.specs.declared.token.Token.{Token}
 use Rattle.dl_lexer.proofs.CoverLaws.{cover_one, covered_not_bad}
 use Rattle.dl_ast.specs.declared.ast.Program.{Program}
@@ -34,6 +34,7 @@ use Rattle.dl_top.specs.declared.reply.Reply.TheVariants.{Answer, Refusal, OutOf
 use Rattle.dl_top.specs.Faults.{fault_line}
 use Rattle.dl_top.specs.Made.{made_of}
 use Rattle.dl_top.specs.Inputs.{Say, input_of}
+use Rattle.dl_top.specs.Replies.{IsReadFault, IsOfText}
 use Rattle.dl_plan.specs.declared.settings.Form.TheVariants.{Run, Fmt}
 use Rattle.dl_types.specs.Plans.{IsPlanOf}
 use Rattle.dl_parser.specs.Viable.{Stops}
@@ -58,6 +59,17 @@ told (Some x) h f = f x h
 pub always : (left : Option (List ℕ)) {Q : List ℕ → Type 0} → ((x : List ℕ) → Q x) → IfSome left Q
 always None f = tt
 always (Some x) f = f x
+
+-- nothing was taken
+pub none_taken : (left : Option (List ℕ)) (most : ℕ) → TakesAtMost left left most
+none_taken None most = (0, omega arith, tt)
+none_taken (Some left) most = (0, omega arith, (omega arith, refl))
+
+-- a refusal of the text tells of no failed read
+pub text_was_read : (r : Reply) → IsOfText r → ¬ IsReadFault r
+text_was_read (Answer text) of_text = λ read. read
+text_was_read (Refusal fault text) of_text = of_text.1
+text_was_read OutOfMemory of_text = λ read. read
 
 -- as many bytes as were taken were left
 pub taken : (before after : Option (List ℕ)) (n : ℕ) → Takes before after n → IfSome before (λ left. n ≤ length left)

@@ -4,7 +4,7 @@ use Rattle.dl_words.proofs.RangeLaws.{words_in_range, words_are_text}
 use Rattle.dl_top.specs.Inputs.{Say}
 use Rattle.dl_top.specs.Answers.{usage}
 use Rattle.dl_top.specs.Replies.{IsReply}
-use Rattle.dl_top.proofs.ReplyLaws.{refused, always, told, words_text, made_input, read_input}
+use Rattle.dl_top.proofs.ReplyLaws.{refused, always, none_taken, text_was_read, told, words_text, made_input, read_input}
 use Rattle.dl_top.proofs.reply.reply_to.Goals as goal
 
 pub reply_to_made-requires-clause-ranges : goal.reply_to_made-requires-clause-ranges
@@ -37,3 +37,9 @@ returns-in-Ok-clause-reply g c =
     (told _ {P = λ input. (words : List (List ℕ)) → Say words c.in-Ok.settings
     → IsReply words input c.reply_to_source.result}
     c.reply_to_source.ensures.reply (λ input reply. reply _ c.in-Ok.ensures.settings))
+
+pub returns-in-Some-clause-made : goal.returns-in-Some-clause-made
+returns-in-Some-clause-made g c making = (refl, text_was_read _ c.reply_to_made.ensures.of_text)
+
+pub returns-in-Some-clause-taken : goal.returns-in-Some-clause-taken
+returns-in-Some-clause-taken g c = none_taken _ _
