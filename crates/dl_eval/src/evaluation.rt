@@ -120,6 +120,20 @@ fn report(
     })
 }
 
+/// The report of a plan whose asks are admitted.
+fn admitted_report(alloc: Global, plan: &Plan, settings: &Settings) -> Result<Report, AllocError>
+    requires valid { IsValid plan.now }
+    requires ranges { AreInRange settings.now }
+    requires inside { AreInside plan.now settings.now }
+    requires named { NameUnits plan.now settings.now }
+    ensures { IfOk result (λ report. IsGoodReport plan.now settings.now report) }
+{
+    let mut work = Workspace::new(alloc);
+    let parts = parts_for(alloc, &mut work, plan, settings.asks.as_slice())?;
+    drop(work);
+    report(alloc, plan, settings, &parts)
+}
+
 /// A row for each ask, in order; or the first ask that lies past the grid, else the first that
 /// names no unit, else the first that needs more width than the settings give, with the width it
 /// needs.
@@ -130,8 +144,5 @@ pub fn evaluate(alloc: Global, plan: &Plan, settings: &Settings) -> Result<Repor
         (RefusesAsk plan.now settings.now) }
 {
     admit(plan, settings)?;
-    let mut work = Workspace::new(alloc);
-    let parts = parts_for(alloc, &mut work, plan, settings.asks.as_slice())?;
-    let report = report(alloc, plan, settings, &parts)?;
-    Ok(report)
+    Ok(admitted_report(alloc, plan, settings)?)
 }
