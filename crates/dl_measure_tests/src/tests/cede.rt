@@ -1,8 +1,8 @@
 //! Two dice after a clause, worked out by exact fractions.
 
-ghost use Rattle.std.specs.Prelude.{◌≤◌};
 ghost use Rattle.dl_limits.specs.Limits.{most_cells};
 ghost use Rattle.dl_plan.specs.Clause.{IsClause};
+ghost use Rattle.std.specs.Prelude.{◌≤◌};
 
 use crate::tests::helpers::{DICE, are_near, grid};
 use dl_cede::kept_cells;
@@ -75,13 +75,13 @@ fn kept_of<const B: u32>(
     horizon: u32,
     cells: u32,
 ) -> Result<Grid<B>, AllocError>
-    requires scale_above { 1 ≤ B }
-    requires scale_below { B ≤ 56 }
-    requires clause { IsClause cede.now }
     requires sums { 1 ≤ horizon }
     requires few_sums { horizon ≤ most_cells }
     requires some { 1 ≤ cells }
     requires few { cells ≤ most_cells }
+    requires clause { IsClause cede.now }
+    requires scale_above { 1 ≤ B }
+    requires scale_below { B ≤ 56 }
 {
     let sums = grid::<B>(alloc, &DICE, 36, buckets, horizon)?;
     kept_cells(alloc, cede, &sums, cells)

@@ -206,8 +206,7 @@ fn sums_of_units(rt: HostRuntime) -> Result<(), AllocError> {
 
 #[test]
 fn one_unit_alone(rt: HostRuntime) -> Result<(), AllocError> {
-    let alloc = rt.alloc();
-    assert!(rt; holds_alone::<48>(alloc)?);
-    assert!(rt; holds_alone::<56>(alloc)?);
+    assert!(rt; holds_alone::<48>(rt.alloc())?);
+    assert!(rt; holds_alone::<56>(rt.alloc())?);
     Ok(())
 }

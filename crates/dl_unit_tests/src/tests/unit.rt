@@ -171,9 +171,9 @@ struct CountOf {
 
 /// Sixteen cells of a Poisson count by halvings.
 fn halved<const B: u32>(alloc: Global, sev: &Sev, mean: Frac) -> Result<Grid<B>, AllocError>
+    requires no_zero { probability_of sev.now 0 ≡ whole 0 }
     requires above { 1 ≤ B }
     requires below { B ≤ 56 }
-    requires no_zero { probability_of sev.now 0 ≡ whole 0 }
     requires num { mean.num ≤ 4096 }
     requires den { mean.den ≤ 4096 }
     requires within { mean ≤ℚ whole 4096 }
@@ -188,9 +188,9 @@ fn shared<const B: u32>(
     mean: Frac,
     shape: u32,
 ) -> Result<Grid<B>, AllocError>
+    requires no_zero { probability_of sev.now 0 ≡ whole 0 }
     requires above { 1 ≤ B }
     requires below { B ≤ 56 }
-    requires no_zero { probability_of sev.now 0 ≡ whole 0 }
     requires num { mean.num ≤ 4096 }
     requires den { mean.den ≤ 4096 }
     requires shape_above { 1 ≤ shape }
@@ -201,9 +201,9 @@ fn shared<const B: u32>(
 
 /// Whether a Poisson count by the recursion at the full mean meets the one by halvings.
 fn poisson_meets<const B: u32>(alloc: Global, sev: &Sev, mean: Frac) -> Result<bool, AllocError>
+    requires no_zero { probability_of sev.now 0 ≡ whole 0 }
     requires above { 1 ≤ B }
     requires below { B ≤ 56 }
-    requires no_zero { probability_of sev.now 0 ≡ whole 0 }
     requires num { mean.num ≤ 4096 }
     requires den { mean.den ≤ 4096 }
     requires within { mean ≤ℚ whole 4096 }
@@ -220,9 +220,9 @@ fn gamma_meets<const B: u32>(
     mean: Frac,
     shape: u32,
 ) -> Result<bool, AllocError>
+    requires no_zero { probability_of sev.now 0 ≡ whole 0 }
     requires above { 1 ≤ B }
     requires below { B ≤ 56 }
-    requires no_zero { probability_of sev.now 0 ≡ whole 0 }
     requires num { mean.num ≤ 4096 }
     requires den { mean.den ≤ 4096 }
     requires shape_above { 1 ≤ shape }
@@ -235,9 +235,9 @@ fn gamma_meets<const B: u32>(
 
 /// Whether both counts meet.
 fn both_meet<const B: u32>(alloc: Global, sev: &Sev, of: CountOf) -> Result<bool, AllocError>
+    requires no_zero { probability_of sev.now 0 ≡ whole 0 }
     requires above { 1 ≤ B }
     requires below { B ≤ 56 }
-    requires no_zero { probability_of sev.now 0 ≡ whole 0 }
 {
     if of.num > 4096 || of.den == 0 || of.den > 4096 || of.shape == 0 || of.shape > 10000 {
         return Ok(false);
@@ -250,9 +250,9 @@ fn both_meet<const B: u32>(alloc: Global, sev: &Sev, of: CountOf) -> Result<bool
 
 /// Five pairs of units, one after another.
 fn all_meet<const B: u32>(alloc: Global, sev: &Sev) -> Result<bool, AllocError>
+    requires no_zero { probability_of sev.now 0 ≡ whole 0 }
     requires above { 1 ≤ B }
     requires below { B ≤ 56 }
-    requires no_zero { probability_of sev.now 0 ≡ whole 0 }
 {
     let table = [
         (1, 3, 1),
@@ -285,6 +285,16 @@ fn all_of_more_meet<const B: u32>(alloc: Global) -> Result<bool, AllocError>
 {
     let sev = one_or_four(alloc)?;
     all_meet::<B>(alloc, &sev)
+}
+
+#[test]
+fn both_ways_meet(rt: HostRuntime) -> Result<(), AllocError> {
+    let alloc = rt.alloc();
+    assert!(rt; all_of_one_meet::<48>(alloc)?);
+    assert!(rt; all_of_one_meet::<56>(alloc)?);
+    assert!(rt; all_of_more_meet::<48>(alloc)?);
+    assert!(rt; all_of_more_meet::<56>(alloc)?);
+    Ok(())
 }
 
 /// Whether the cells of the unit with this count hold their parts of `total`.
@@ -343,15 +353,5 @@ fn nine_digits(rt: HostRuntime) -> Result<(), AllocError> {
     let alloc = rt.alloc();
     assert!(rt; digits_agree::<48>(alloc)?);
     assert!(rt; digits_agree::<56>(alloc)?);
-    Ok(())
-}
-
-#[test]
-fn both_ways_meet(rt: HostRuntime) -> Result<(), AllocError> {
-    let alloc = rt.alloc();
-    assert!(rt; all_of_one_meet::<48>(alloc)?);
-    assert!(rt; all_of_one_meet::<56>(alloc)?);
-    assert!(rt; all_of_more_meet::<48>(alloc)?);
-    assert!(rt; all_of_more_meet::<56>(alloc)?);
     Ok(())
 }
