@@ -1,5 +1,6 @@
 -- Placed cells, one by one.
-use Rattle.dl_direct.proofs.Common.{◌≡◌, ◌⊎◌, inl, inr, ℕ, ◌+◌, ◌-◌, ◌*◌, ◌/◌, ◌^◌, ◌<◌, ◌≤◌, List, [], ◌∷◌, ◌++◌, length, length-append, get_or, arith, sym, ap, subst, subst₂, ◌∙◌, pow-add, mul-le-mul_left, mul-le-mul_right, lt-div-mul-add, cases_lt, sum, sum_by_push, IsPlaced}
+use Rattle.dl_direct.proofs.Common.{◌≡◌, ◌⊎◌, inl, inr, ℕ, ◌+◌, ◌-◌, ◌*◌, ◌/◌, ◌^◌, ◌<◌, ◌≤◌, List, [], ◌∷◌, ◌++◌, length, length-append, get_or, arith, sym, ap, subst, subst₂, ◌∙◌, pow-add, mul-le-mul_left, mul-le-mul_right, div-mul-le_self, lt-div-mul-add, cases_lt, sum, sum_by_push, IsPlaced}
+use Rattle.std.specs.Prelude.{min}
 use Rattle.std.proofs.Math.ListN.{get_or-append}
 use Rattle.std.proofs.Math.Seq.{get_or-append_seam}
 use Rattle.dl_direct.specs.declared.start.Scaled.{Scaled}
@@ -10,6 +11,20 @@ pub up_reaches : (p d e : ℕ) → 0 < p → d ≤ e → p ≤ ((p - 1) / 2 ^ d 
 up_reaches p d e h l =
     let a : p - 1 < (p - 1) / 2 ^ d * 2 ^ d + 2 ^ d = lt-div-mul-add {a = p - 1} {b = 2 ^ d} (two_pos d) in
     omega (arith, a, h, mul-le-mul_left ((p - 1) / 2 ^ d + 1) (two_le d e l))
+
+-- down by as many bits as the product can have, where more are asked for
+pub down_reaches : (p e x : ℕ) → p ≤ 2 ^ 62 * 2 ^ 63 → x ≤ p / 2 ^ min e 126 → x * 2 ^ e ≤ p
+down_reaches p e x top h = elim (cases_lt e 126) [
+  | inl l ↦
+      let all : min e 126 ≡ e = omega (arith, l) in
+      let few : x ≤ p / 2 ^ e = subst (λ d. x ≤ p / 2 ^ d) all h in
+      omega (arith, mul-le-mul_right (2 ^ e) few, div-mul-le_self p (2 ^ e))
+  | inr l ↦
+      let all : min e 126 ≡ 126 = omega (arith, l) in
+      let few : x ≤ p / 2 ^ 126 = subst (λ d. x ≤ p / 2 ^ d) all h in
+      let none : x ≤ 0 = omega (arith, few, top, div-mul-le_self p (2 ^ 126)) in
+      omega (arith, mul-le-mul_right (2 ^ e) none)
+]
 
 -- ---- one more cell
 

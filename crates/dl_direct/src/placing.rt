@@ -23,7 +23,7 @@ fn narrow_low(a: u64, b: u64, down: u64, one: u128) -> u128
 {
     let d = down.min(PRODUCT_BITS);
     let x = (u128::from(a) * u128::from(b)) >> d;
-    if x > one { one } else { x }
+    x.min(one)
 }
 
 /// The product by `down` bits down, rounded up, or `one` where it is more.

@@ -28,6 +28,24 @@ narrow_high-high-requires g c =
       b_small = c.requires.high_small;
     }
 
+pub index-requires-in-cells : goal.index-requires-in-cells
+index-requires-in-cells g c =
+    omega (arith, c.cells-test.true, c.cells.auto.i-end, c.len-i-end.ensures, c.args.x.now.low.ok.0)
+
+pub narrow_low-requires : goal.narrow_low-requires
+narrow_low-requires g c =
+    let xs = c.args.x.now.low.items in
+    let within : c.cells.i < length xs = omega (arith, c.cells-test.true) in
+    record {
+      a_small = subst (λ t. t ≤ most_end)
+          (sym (c.index-in-cells.ensures ∙ get_or_default_zero xs c.cells.i c.index-in-cells.result.now within))
+          (c.requires.settled.low_small c.cells.i);
+      b_small = c.requires.low_small;
+    }
+
+pub overflow_sub-room : goal.overflow_sub-room
+overflow_sub-room g c = omega (arith, c.min-low.ensures, c.min-most.ensures)
+
 pub cells-preserved : goal.cells-preserved
 cells-preserved g c =
     let i = c.cells.invariant in
