@@ -1,7 +1,8 @@
 //! A mixture of grids: the ends of each cell, each times its grid's weight, over the total of the
 //! weights.
 
-ghost use Rattle.std.specs.Prelude.{◌≡◌, ℕ, ◌+◌, ◌-◌, ◌*◌, ◌^◌, ◌<◌, ◌≤◌, length, get_or, All, IfOk};
+ghost use Rattle.std.specs.Prelude.{◌≡◌, ℕ, ◌+◌, ◌-◌, ◌*◌, ◌/◌, ◌^◌, ◌<◌, ◌≤◌, length, get_or, All, IfOk};
+ghost use Rattle.std.specs.Int.{div_ceil};
 ghost use Rattle.dl_limits.specs.Limits.{most_cells};
 ghost use Rattle.dl_exact.specs.Fraction.{Fraction};
 ghost use Rattle.dl_grid.specs.Cells.{low_at, high_at};
@@ -58,6 +59,23 @@ fn sums_at<const B: u32>(weights: &[u32], grids: &[Grid<B>], x: usize) -> (u128,
     (low, high)
 }
 
+/// The ends of the mixture at the cells `x`: the sums of the weighted ends over the total, the low
+/// one rounded down and the high one up.
+fn ends_at<const B: u32>(weights: &[u32], grids: &[Grid<B>], x: usize, total: u32) -> (u128, u128)
+    requires scale { B ≤ 56 }
+    requires as_many { length weights.now ≡ length grids.now }
+    requires few { length grids.now < 2 ^ 32 }
+    requires inside { All (λ g. x < length g) grids.now }
+    requires positive { 0 < total }
+    ensures low { result.0 ≡ mixture_end weights.now grids.now (λ g. low_at g x) / total }
+    ensures high { result.1
+        ≡ div_ceil (mixture_end weights.now grids.now (λ g. high_at g x)) total }
+{
+    let (low, high) = sums_at(weights, grids, x);
+    let total = u128::from(total);
+    (low / total, high.div_ceil(total))
+}
+
 /// The counts from `first` on, as many as there are powers: of each its power, times its weight
 /// over the total. The cells are rounded once.
 pub(crate) fn block<const B: u32>(
@@ -86,14 +104,13 @@ pub(crate) fn block<const B: u32>(
         (length powers.now - 1))) }
 {
     let weights = weights_from(alloc, table, first, powers.len())?;
-    let total = u128::from(total);
     let one = units_of_one(B);
     let mut lows = Vec::with_capacity(alloc, cells as usize)?;
     let mut highs = Vec::with_capacity(alloc, cells as usize)?;
     for x in 0..cells as usize {
-        let (low, high) = sums_at(weights.as_slice(), powers, x);
-        lows.push(one.min(low / total))?;
-        highs.push(one.min(high.div_ceil(total)))?;
+        let (low, high) = ends_at(weights.as_slice(), powers, x, total);
+        lows.push(one.min(low))?;
+        highs.push(one.min(high))?;
     }
     Ok(Grid::from_ends(lows, highs))
 }

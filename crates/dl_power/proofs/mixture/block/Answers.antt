@@ -8,21 +8,20 @@ loop-x-preserved g c =
     let x : ℕ = c.loop-x.x in
     let weights = c.in_ok-weights.weights.items in
     let one = c.units_of_one-one.ensures in
-    let total = c.from-total.ensures in
-    let given = ap (λ ws. mixture_end ws c.args.powers.now (λ t. low_at t x)) c.as_slice.ensures.value in
-    let given' = ap (λ ws. mixture_end ws c.args.powers.now (λ t. high_at t x)) c.as_slice.ensures.value in
+    let given = ap (λ ws. mixture_end ws c.args.powers.now (λ t. low_at t x) / c.args.total) c.as_slice.ensures.value in
+    let given' = ap (λ ws. div_ceil (mixture_end ws c.args.powers.now (λ t. high_at t x)) c.args.total)
+    c.as_slice.ensures.value in
     record {
       lows = omega (arith, c.in_ok-push.ensures.len, c.loop-x.invariant.lows);
       highs = omega (arith, c.in_ok-push-2.ensures.len, c.loop-x.invariant.highs);
       low = one_more_item c.loop-x.lows.items c.push.new.self.items c.min.result x
           (λ k. min (2 ^ g.row.B) (mixture_end weights c.args.powers.now (λ t. low_at t k) / c.args.total))
           c.in_ok-push.ensures.items c.loop-x.invariant.lows c.loop-x.invariant.low
-          (c.min.ensures ∙ ap₂ (λ s t. min s t) one (ap₂ (λ s t. s / t) (c.sums_at-low.ensures.low ∙ given) total));
+          (c.min.ensures ∙ ap₂ (λ s t. min s t) one (c.ends_at-low.ensures.low ∙ given));
       high = one_more_item c.loop-x.highs.items c.push-in-loop-x.new.self.items c.min-in-loop-x.result x
           (λ k. min (2 ^ g.row.B) (div_ceil (mixture_end weights c.args.powers.now (λ t. high_at t k)) c.args.total))
           c.in_ok-push-2.ensures.items c.loop-x.invariant.highs c.loop-x.invariant.high
-          (c.min-in-loop-x.ensures ∙ ap₂ (λ s t. min s t) one
-          (c.div_ceil.ensures ∙ ap₂ (λ s t. div_ceil s t) (c.sums_at-low.ensures.high ∙ given') total));
+          (c.min-in-loop-x.ensures ∙ ap₂ (λ s t. min s t) one (c.ends_at-low.ensures.high ∙ given'));
     }
 
 pub from_ends-requires : goal.from_ends-requires
