@@ -188,11 +188,11 @@ pub fn others_with<const B: u32>(
 {
     let before = &units[..i as usize];
     let after = &units[i as usize + 1..];
-    if !before.is_empty() {
+    if i > 0 {
         let sum = in_order(alloc, work, before, cells)?;
         return with_units(alloc, work, sum, after, cells);
     }
-    if !after.is_empty() {
+    if units.len() > 1 {
         return in_order(alloc, work, after, cells);
     }
     no_units(alloc, &units[i as usize], cells)

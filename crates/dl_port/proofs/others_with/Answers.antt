@@ -1,34 +1,34 @@
-use Rattle.dl_port.proofs.Common.{◌≡◌, ◌≤◌, arith, refl, take, length, common_steps, IfOk-weaker}
+use Rattle.dl_port.proofs.Common.{◌≡◌, ◌≤◌, arith, refl, take, length, length-take, IfOk-weaker}
 use Rattle.dl_exact.proofs.Lists.{from_there}
 use Rattle.dl_port.proofs.Added.{both_sides, both_spreads, after_alone, alone_left}
 use Rattle.dl_port.proofs.others_with.Goals as goal
 
-pub returns-then-not-is_empty-clause-encloses : goal.returns-then-not-is_empty-clause-encloses
-returns-then-not-is_empty-clause-encloses g c =
+pub returns-then-i-gt0-clause-encloses : goal.returns-then-i-gt0-clause-encloses
+returns-then-i-gt0-clause-encloses g c =
     IfOk-weaker c.with_units.result _ _ (λ sum further us w each.
     both_sides c.args.units.now _ _ c.in_ok-sum.sum sum c.args.i us refl
     (from_there c.args.i c.args.units.now) c.in_ok-sum.ensures.encloses further w each)
     c.with_units.ensures.encloses
 
-pub returns-then-not-is_empty-clause-spread : goal.returns-then-not-is_empty-clause-spread
-returns-then-not-is_empty-clause-spread g c =
-    let some : 1 ≤ length (take c.args.i c.args.units.now) = grind (arith, common_steps) in
+pub returns-then-i-gt0-clause-spread : goal.returns-then-i-gt0-clause-spread
+returns-then-i-gt0-clause-spread g c =
+    let some : 1 ≤ length (take c.args.i c.args.units.now) = omega (arith, length-take c.args.i c.args.units.now) in
     IfOk-weaker c.with_units.result _ _ (λ sum narrow.
     both_spreads c.args.units.now _ _ c.args.cells c.args.i _ _ refl
     (from_there c.args.i c.args.units.now) some c.in_ok-sum.ensures.spread narrow)
     c.with_units.ensures.spread
 
-pub returns-then-not-is_empty-2-clause-encloses : goal.returns-then-not-is_empty-2-clause-encloses
-returns-then-not-is_empty-2-clause-encloses g c =
-    let first : c.args.i ≡ 0 = grind (arith, common_steps) in
-    IfOk-weaker c.in_order-then-not-is_empty-2.result _ _ (λ sum all us w each.
+pub returns-then-units-gt1-clause-encloses : goal.returns-then-units-gt1-clause-encloses
+returns-then-units-gt1-clause-encloses g c =
+    let first : c.args.i ≡ 0 = omega arith in
+    IfOk-weaker c.in_order-then-units-gt1.result _ _ (λ sum all us w each.
     after_alone c.args.units.now _ sum c.args.i us first (from_there c.args.i c.args.units.now) all w each)
-    c.in_order-then-not-is_empty-2.ensures.encloses
+    c.in_order-then-units-gt1.ensures.encloses
 
 pub returns-clause-encloses : goal.returns-clause-encloses
 returns-clause-encloses g c =
-    let first : c.args.i ≡ 0 = grind (arith, common_steps) in
-    let alone : length c.args.units.now ≤ 1 = grind (arith, common_steps) in
+    let first : c.args.i ≡ 0 = omega arith in
+    let alone : length c.args.units.now ≤ 1 = omega arith in
     IfOk-weaker c.no_units.result _ _ (λ sum of_sum us w each.
     alone_left c.args.units.now sum c.args.i us first alone of_sum each)
     c.no_units.ensures.encloses
