@@ -86,6 +86,24 @@ cells-preserved g c =
       left = mass_more lows lo c.cells.room (2 ^ g.row.B) within i.left;
     })
 
+pub from_ends-requires : goal.from_ends-requires
+from_ends-requires g c =
+    let i = c.cells.invariant in
+    let n : c.cells.i ≡ length c.args.x.now.low.items =
+    omega (arith, c.cells-test.false, c.cells.auto.i-end, c.len-i-end.ensures, c.args.x.now.low.ok.0) in (
+      omega arith,
+      record {
+        scale_above = c.requires.scale_above;
+        scale_below = c.requires.scale_below;
+        some = omega (arith, i.count, n, c.requires.some);
+        few = omega (arith, i.count, n, c.requires.few);
+        paired = omega (arith, i.paired, i.count);
+        ordered = i.ordered;
+        small = i.small;
+        mass = omega (arith, i.left);
+      },
+    )
+
 pub returns-clause-placed : goal.returns-clause-placed
 returns-clause-placed g c =
     let h = c.from_ends.ensures in

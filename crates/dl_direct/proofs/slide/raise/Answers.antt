@@ -7,7 +7,7 @@ loop-i-preserved c =
     let i = c.loop-i.i in
     let inv = c.loop-i.invariant in
     record {
-      done = each_done (λ t. (t + 255) / 256) c.loop-i.cells _ i _ (omega arith) (ap (λ t. (t + 255) / 256) (inv.left i (omega arith)))
-          inv.done;
+      done = each_done (λ t. (t + 255) / 256) c.loop-i.cells _ i _ (omega arith)
+          (ap (λ t. (t + 255) / 256) (inv.left i (omega arith))) inv.done;
       left = each_left c.loop-i.cells _ i _ inv.left;
     }
