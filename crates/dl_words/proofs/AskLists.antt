@@ -1,5 +1,5 @@
 -- The asks of two lists of texts, one behind the other.
-use Rattle.dl_words.proofs.Common.{◌≡◌, ◌∙◌, ℕ, suc, ◌+◌, ◌<◌, List, [], ◌∷◌, ◌++◌, length, map, take, drop, append_assoc, Option, Some, None, Result, Ok, Err, arith, refl, sym, ap, Bor, Ask, Asked, ask_of, asks_of, with_ask, Text}
+use Rattle.dl_words.proofs.Common.{◌≡◌, ◌∙◌, ℕ, suc, ◌+◌, ◌<◌, List, [], ◌∷◌, ◌++◌, length, map, take, drop, append_assoc, Option, Some, None, Result, Ok, Err, arith, refl, sym, ap, ap₂, option_map, Bor, Ask, Asked, ask_of, asks_of, with_ask, Text}
 use Rattle.std.proofs.Common.{get_or}
 use Rattle.std.specs.Prelude.{min}
 use Rattle.std.proofs.lemmas.List.{length-map, length-take, map-append, take-append-drop, take_more}
@@ -29,18 +29,32 @@ asks-append (text ∷ texts) more =
     ap (with_ask text (ask_of text)) (asks-append texts more)
     ∙ one_first text (ask_of text) (asks_of texts) (length texts) (asks_of more)
 
--- one text that is an ask, and one that is none, in front of others
-pub asks-more : (texts : List Text) (asks : List Asked) (text : Text) (ask : Ask) → asks_of texts ≡ Ok asks
-    → ask_of text ≡ Some ask
-    → asks_of (texts ++ text ∷ []) ≡ Ok (asks ++ record { text = text; ask = ask } ∷ [])
-unfolding asks_of
-asks-more texts asks text ask e f = asks-append texts (text ∷ []) ∙ (rw (e, f) refl)
+-- a text with what it asks, where it is an ask
+abbrev pub asked_of : Text → Option Ask → Option Asked
+asked_of text ask = option_map (λ a. record { text = text; ask = a }) ask
 
-pub asks-misfit : (texts : List Text) (asks : List Asked) (text : Text) (rest : List Text) → asks_of texts ≡ Ok asks
-    → ask_of text ≡ None
-    → asks_of (texts ++ text ∷ rest) ≡ Err (length texts)
+ask_told : (text : Text) (ask : Option Ask) (asked : Asked) → asked_of text ask ≡ Some asked
+    → with_ask text ask (Ok []) ≡ Ok (asked ∷ [])
+ask_told text None asked e = absurd (cc)
+ask_told text (Some ask) asked e =
+    let same : record { text = text; ask = ask } ≡ asked = cc in ap (λ one. Ok (one ∷ [])) same
+
+none_told : (text : Text) (ask : Option Ask) → asked_of text ask ≡ None → ask ≡ None
+none_told text None e = refl
+none_told text (Some ask) e = absurd (cc)
+
+-- one text that is an ask, and one that is none, in front of others
+asks-more : (texts : List Text) (asks : List Asked) (text : Text) (asked : Asked) → asks_of texts ≡ Ok asks
+    → asked_of text (ask_of text) ≡ Some asked → asks_of (texts ++ text ∷ []) ≡ Ok (asks ++ asked ∷ [])
 unfolding asks_of
-asks-misfit texts asks text rest e f = asks-append texts (text ∷ rest) ∙ (rw (e, f) (ap Err (omega arith)))
+asks-more texts asks text asked e f = asks-append texts (text ∷ [])
+    ∙ ap₂ (λ first one. followed first (length texts) one) e (ask_told text (ask_of text) asked f)
+
+asks-misfit : (texts : List Text) (asks : List Asked) (text : Text) (rest : List Text) → asks_of texts ≡ Ok asks
+    → asked_of text (ask_of text) ≡ None → asks_of (texts ++ text ∷ rest) ≡ Err (length texts)
+unfolding asks_of
+asks-misfit texts asks text rest e f = asks-append texts (text ∷ rest)
+    ∙ (rw (e, none_told text (ask_of text) f) (ap Err (omega arith)))
 
 -- ---- texts that are lent
 
@@ -57,10 +71,10 @@ module _ (texts : List (Bor Text)) (i : ℕ) (d : Bor Text) (h : i < length text
       (drop (i + 1) texts)
       ∙ ap (λ front. front ++ lent (drop (i + 1) texts)) lent_more ∙ append_assoc (lent (take i texts)) _ _
 
-  pub lent_ask : (asks : List Asked) (ask : Ask) → asks_of (lent (take i texts)) ≡ Ok asks
-      → ask_of (get_or texts i d).now ≡ Some ask
-      → asks_of (lent (take (i + 1) texts)) ≡ Ok (asks ++ record { text = (get_or texts i d).now; ask = ask } ∷ [])
-  lent_ask asks ask e f = ap asks_of lent_more ∙ asks-more (lent (take i texts)) asks (get_or texts i d).now ask e f
+  pub lent_ask : (asks : List Asked) (asked : Asked) → asks_of (lent (take i texts)) ≡ Ok asks
+      → asked_of (get_or texts i d).now (ask_of (get_or texts i d).now) ≡ Some asked
+      → asks_of (lent (take (i + 1) texts)) ≡ Ok (asks ++ asked ∷ [])
+  lent_ask asks asked e f = ap asks_of lent_more ∙ asks-more (lent (take i texts)) asks (get_or texts i d).now asked e f
 
   so_many : length (lent (take i texts)) ≡ i
   so_many =
@@ -68,7 +82,8 @@ module _ (texts : List (Bor Text)) (i : ℕ) (d : Bor Text) (h : i < length text
       let count : length (take i texts) ≡ min i (length texts) = length-take i texts in
       omega (arith, h, same, count)
 
-  pub lent_misfit : (asks : List Asked) → asks_of (lent (take i texts)) ≡ Ok asks → ask_of (get_or texts i d).now ≡ None
+  pub lent_misfit : (asks : List Asked) → asks_of (lent (take i texts)) ≡ Ok asks
+      → asked_of (get_or texts i d).now (ask_of (get_or texts i d).now) ≡ None
       → asks_of (lent texts) ≡ Err i
   lent_misfit asks e f =
       ap asks_of lent_at ∙ asks-misfit (lent (take i texts)) asks (get_or texts i d).now (lent (drop (i + 1) texts)) e f

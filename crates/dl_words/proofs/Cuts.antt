@@ -1,7 +1,7 @@
 -- What `split_once` and `strip_prefix` say, in the words of the definitions.
-use Rattle.dl_words.proofs.Common.{◌≡◌, ℕ, ◌+◌, ◌<◌, Bool, true, false, [], ◌∷◌, length, Option, Some, None, arith, refl, ap, inl, inr, ◌==◌, option_map, Bor, list_any, nat_tests, cases, behind_s, cut_at, Text}
+use Rattle.dl_words.proofs.Common.{◌≡◌, ℕ, ◌+◌, ◌<◌, Bool, true, false, [], ◌∷◌, length, Option, Some, None, arith, refl, ap, inl, inr, ◌==◌, option_map, Bor, list_any, nat_tests, cases, behind_s, begins_plainly, cut_at, slice_get, Text}
 use Rattle.std.proofs.Common.{◌≢◌}
-use Rattle.std.specs.Prelude.{MatchOption}
+use Rattle.std.specs.Prelude.{MatchOption, not}
 use Rattle.std.specs.List.{position_or_len}
 use Rattle.std.proofs.lemmas.Str.Pattern.{IsSplitOnceResult, split_once_first}
 
@@ -25,6 +25,10 @@ module _ (p : ℕ → Bool) where
     | inl hit ↦ absurd (omega (arith, h, near_place x xs hit))
     | inr miss ↦ rw miss (none_any xs (omega (arith, h, next_place x xs miss)))
   ]
+
+pub first_tells : (text : Text) (b : ℕ) → Some b ≡ slice_get text 0 → not (b == 45) ≡ begins_plainly text
+first_tells [] b e = absurd (cc)
+first_tells (c ∷ cs) b e = let same : b ≡ c = cc in rw same refl
 
 abbrev both_now : Bor Text × Bor Text → Text × Text
 both_now cut = (cut.0.now, cut.1.now)

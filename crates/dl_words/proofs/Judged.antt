@@ -1,8 +1,9 @@
 -- The answer to what `clap` found is the answer to the words.
 use Rattle.dl_words.proofs.Common.{◌≡◌, ◌∙◌, ℕ, Bool, true, false, refl, sym, ap, ap₂, subst, List, [], ◌∷◌, ◌++◌, Option, Some, None, Result, Ok, Err, codes, true≢false, length, drop, arith, ◌≤◌, if◌then◌else◌, is_some, slice_get, nat_le, ◌&&◌, ◌||◌, option_and_then, option_map, unwrap_or, ⊤, Bor, is_ascii_digit, list_all, list_any, bytes_eq, append-nil, bytes_eq-Decides, nat_tests, all_of, rows_of, matches_of, IsDecimal, pointed, IsNumeral, decimal, percent, fraction, Asked, Form, Run, Fmt, Settings, UsageFault, Line, WordsFault, asks_of, command, Explains, ExplainsAsks, answer_in, asks_in, values_in, Values, are_taken, form_named, is_taken, Part, Mode, is_name, kind_of, parts_from, command_parts, positionals_of, option_values, option, positional, between, value, ended, Text, begins_plainly, is_bucket, is_number_within, admits, answer, to_parts, to_positionals, with_asks, words_of}
 use mathlib.Core.Path.{fun_ext}
-use Rattle.std.specs.Prelude.{take, find}
+use Rattle.std.specs.Prelude.{take, find, ◌==◌}
 use Rattle.std.specs.Str.Parse.{IsNumeral as IsNumber}
+use Rattle.std.proofs.lemmas.List.{length-map}
 use Rattle.std.proofs.lemmas.List.Folds.{list_all-map}
 use Rattle.clap.specs.Matches.{first_value}
 use Rattle.clap.specs.declared.parser.matches.Found.{Found}
@@ -110,6 +111,14 @@ here a b h = rw h refl
 pub later : (a b : Bool) → b ≡ false → (a && b) ≡ false
 later true b h = h
 later false b h = refl
+
+-- a form that takes no asks refuses those that stand
+pub asks_refused : (form : Form) (values : Values) (texts : List (Bor Text)) (b : Bool) → form ≡ Fmt
+    → b ≡ (length texts == 0) → b ≡ false → b ≡ admits form values (lent texts)
+asks_refused form values texts b is e some =
+    let same : length (lent texts) ≡ length texts = length-map _ _ in
+    let none : (length (lent texts) == 0) ≡ false = ap (λ n. n == 0) same ∙ sym e ∙ some in
+    rw (is, none) some
 
 -- each option of a table takes such values alone
 abbrev pub ArePlain : List Row → Type 0

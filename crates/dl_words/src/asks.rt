@@ -1,9 +1,11 @@
 //! What asks are, by their spelling.
 
-ghost use Rattle.std.specs.Prelude.{◌≡◌, ◌<◌, ◌≤◌, IfErr, IfOk, Ok, length, map, option_map};
+ghost use Rattle.std.specs.Prelude.{◌≡◌, ◌<◌, ◌≤◌, ◌^◌, IfErr, IfOk, Ok, length, map, option_map};
 ghost use Rattle.dl_limits.specs.Limits.{most_asks};
 ghost use Rattle.dl_words.specs.Asks.{ask_between, ask_of, asks_of, cut_at, behind_s, layer_between, layer_of, limit_written, unit_parts};
 ghost use Rattle.dl_words.specs.Faults.{ExplainsAsks};
+ghost use Rattle.dl_words.specs.declared.fault.UsageFault.TheVariants as faults;
+ghost use Rattle.dl_words.specs.declared.fault.WordsFault.TheVariants.{Usage};
 
 use crate::fault::{UsageFault, WordsFault};
 use crate::spelling::{amount, is_word, probability};
@@ -20,13 +22,32 @@ pub(crate) fn read_asks(alloc: Global, texts: &[&str]) -> Result<Vec<Asked>, Wor
 {
     let mut asks = Vec::new(alloc);
     for (index, text) in texts.iter().enumerate() {
-        let Some(ask) = read_ask(alloc, text)? else {
-            return Err(WordsFault::Usage(UsageFault::Ask(index as u32)));
-        };
-        let text = Text::copy(alloc, text.as_bytes())?;
-        asks.push(Asked { text, ask })?;
+        match read_asked(alloc, text)? {
+            Some(asked) => asks.push(asked)?,
+            None => return Err(misfit(index)),
+        }
     }
     Ok(asks)
+}
+
+/// The fault that the ask with this index is not spelled as one.
+fn misfit(index: usize) -> WordsFault
+    requires { index < 2 ^ 32 }
+    ensures { result ≡ Usage (faults.Ask index) }
+{
+    WordsFault::Usage(UsageFault::Ask(index as u32))
+}
+
+/// What the text asks, with a copy of the text, where it is spelled as an ask.
+fn read_asked(alloc: Global, text: &str) -> Result<Option<Asked>, AllocError>
+    ensures { IfOk result (λ asked. asked ≡ option_map
+        (λ ask. record { text = text.now; ask = ask }) (ask_of text.now)) }
+{
+    let Some(ask) = read_ask(alloc, text)? else {
+        return Ok(None);
+    };
+    let text = Text::copy(alloc, text.as_bytes())?;
+    Ok(Some(Asked { text, ask }))
 }
 
 /// What the text asks, where it is spelled as an ask.

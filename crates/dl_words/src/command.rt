@@ -1,7 +1,7 @@
 //! The command that `clap` reads the words by.
 
-ghost use Rattle.std.specs.Prelude.{◌≡◌, IfOk};
-ghost use Rattle.clap.specs.Words.{App, app_of};
+ghost use Rattle.std.specs.Prelude.{◌≡◌, IfOk, codes, false};
+ghost use Rattle.clap.specs.Words.{App, app_of, rule_of, with_rule};
 ghost use Rattle.dl_words.specs.Command.{bare_command, command, places, with_option};
 
 use clap::{Arg, ArgAction, Command};
@@ -11,22 +11,36 @@ use std::alloc::{AllocError, Global};
 pub(crate) fn simple_command<'a>(alloc: Global) -> Result<Command<'a>, AllocError>
     ensures { IfOk result (λ c. app_of c ≡ command) }
 {
-    let command = with_places(alloc);
-    let command = with_option(alloc, command, "make");
-    let command = with_option(alloc, command, "bs");
-    let command = with_option(alloc, command, "log2");
+    let command = with_first_options(alloc, with_places(alloc));
     let command = with_option(alloc, command, "digits");
     let command = with_option(alloc, command, "width");
     let command = with_option(alloc, command, "mwidth");
     with_option(alloc, command, "format")
 }
 
+/// The command with the options that say what is computed.
+fn with_first_options<'a>(
+    alloc: Global,
+    command: Result<Command<'a>, AllocError>,
+) -> Result<Command<'a>, AllocError>
+    ensures { (app : App) → IfOk command.entry (λ c. app_of c ≡ app)
+        → IfOk result (λ c. app_of c ≡ with_option (with_option (with_option app (codes "make"))
+        (codes "bs")) (codes "log2")) }
+{
+    let command = with_option(alloc, command, "make");
+    let command = with_option(alloc, command, "bs");
+    with_option(alloc, command, "log2")
+}
+
 /// The command with its positionals.
 fn with_places<'a>(alloc: Global) -> Result<Command<'a>, AllocError>
     ensures { IfOk result (λ c. app_of c ≡ places) }
 {
-    let command = bare_command(alloc).arg(Arg::new(alloc, "form").required(true))?;
-    command.arg(Arg::new(alloc, "asks").action(ArgAction::Append))
+    let command = with_arg(
+        Ok(bare_command(alloc)),
+        Arg::new(alloc, "form").required(true),
+    );
+    with_arg(command, Arg::new(alloc, "asks").action(ArgAction::Append))
 }
 
 /// The command before it takes a word.
@@ -45,5 +59,17 @@ fn with_option<'a>(
     ensures { (app : App) → IfOk command.entry (λ c. app_of c ≡ app)
         → IfOk result (λ c. app_of c ≡ with_option app name.entry.now) }
 {
-    command?.arg(Arg::new(alloc, name).long(name))
+    with_arg(command, Arg::new(alloc, name).long(name))
+}
+
+/// The command with one more argument of its own, where there was room for the command.
+fn with_arg<'a>(
+    command: Result<Command<'a>, AllocError>,
+    arg: Arg<'a>,
+) -> Result<Command<'a>, AllocError>
+    requires { arg.global ≡ false }
+    ensures { (app : App) → IfOk command.entry (λ c. app_of c ≡ app)
+        → IfOk result (λ c. app_of c ≡ with_rule app (rule_of arg.entry)) }
+{
+    command?.arg(arg)
 }

@@ -75,10 +75,7 @@ pub(crate) fn bucket(text: &str) -> Option<Frac>
     ensures { result ≡ (if is_bucket text.now then Some (numeral_value text.now) else None) }
 {
     let value = fraction(text, 11)?;
-    if 0 < value.num() {
-        return Some(value);
-    }
-    None
+    (0 < value.num()).then_some(value)
 }
 
 /// The value of a numeral below 1 that is not bad with 9 digits.
@@ -86,10 +83,7 @@ pub(crate) fn probability(text: &str) -> Option<Frac>
     ensures { result ≡ probability_written text.now }
 {
     let value = fraction(text, 9)?;
-    if value.num() < value.den() {
-        return Some(value);
-    }
-    None
+    (value.num() < value.den()).then_some(value)
 }
 
 /// Whether the bytes are spelled as a word of a program.
