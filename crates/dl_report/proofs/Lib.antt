@@ -2,6 +2,7 @@ mod Common
 pub mod Ascii
 pub mod CsvRecords
 pub mod Digits
+pub mod Joined
 pub mod JsonObjects
 pub mod Fractions
 pub mod Parting

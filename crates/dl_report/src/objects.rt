@@ -1,7 +1,8 @@
 //! A report as JSON.
 
-ghost use Rattle.std.specs.Prelude.{◌≡◌, ◌≤◌, ◌++◌, IfOk, OnOk};
+ghost use Rattle.std.specs.Prelude.{◌≡◌, ◌≤◌, ◌++◌, IfOk, OnOk, codes};
 ghost use Rattle.std.specs.Str.{IsAscii, IsUtf8};
+ghost use Rattle.serde_json.specs.Data.{member, no_members, object, string};
 ghost use Rattle.serde_json.specs.View.{items_view, view};
 ghost use Rattle.dl_limits.specs.Limits.{most_digits};
 ghost use Rattle.dl_report.specs.Objects.{AsksAreText, fraction_text, json_of};
@@ -42,8 +43,21 @@ fn row_value(alloc: Global, digits: u32, row: &Row) -> Result<Value, AllocError>
 {
     let low = end_bytes(alloc, digits, row.low)?;
     let high = end_bytes(alloc, digits, row.high)?;
-    let ask = as_text(row.ask.as_slice());
-    serde_json::json!(in alloc; {"ask": ask, "high": as_text(&high), "low": as_text(&low)})
+    row_of(
+        alloc,
+        as_text(row.ask.as_slice()),
+        as_text(&low),
+        as_text(&high),
+    )
+}
+
+/// A row of these texts as a JSON object.
+fn row_of(alloc: Global, ask: &str, low: &str, high: &str) -> Result<Value, AllocError>
+    ensures { IfOk result (λ value. view value ≡ object (member (codes "ask") (string ask.now)
+        (member (codes "high") (string high.now)
+        (member (codes "low") (string low.now) no_members)))) }
+{
+    serde_json::json!(in alloc; {"ask": ask, "high": high, "low": low})
 }
 
 /// A report of these rows as a JSON object.

@@ -1,7 +1,7 @@
-use Rattle.dl_report.proofs.Common.{◌≡◌, ◌∙◌, ◌++◌, ◌<◌, List, ℕ, rules, ap, subst, sym, map, take, get_or, length, codes, IsUtf8, items_of, view, compact_text, has_float, fraction_text, report_data, row_data, Row}
-use Rattle.std.proofs.lemmas.List.{take_all}
+use Rattle.dl_report.proofs.Common.{◌≡◌, ◌∙◌, ◌++◌, ◌<◌, List, ℕ, ap, subst, sym, map, take, get_or, length, codes, IsUtf8, items_of, view, compact_text, has_float, fraction_text, report_data, row_data, Row}
 use Rattle.std.proofs.lemmas.List.Elements.{All-get_or}
 use Rattle.serde_json.specs.View.{items_view}
+use Rattle.dl_report.proofs.Joined.{all_rows}
 use Rattle.dl_report.proofs.JsonObjects.{no_float, report_text}
 use Rattle.dl_report.proofs.objects.json.Goals as goal
 
@@ -21,7 +21,8 @@ pub returns : goal.returns
 returns c =
     let rows : List Row = c.args.report.now.rows in
     let digits = c.args.report.now.digits in
-    let all : take c.loop-row.row-index rows ≡ rows = take_all _ _ (search rules) in
+    let all : take c.loop-row.row-index rows ≡ rows = all_rows rows _ c.as_slice-row-items.ensures
+    c.loop-row.row-index c.loop-row-test.false in
     let list : items_view c.loop-row.rows.items ≡ items_of (map (row_data digits) rows) = ap items_of
     (c.loop-row.invariant ∙ ap (map (row_data digits)) all) in
     let object : view c.in_ok-whole.whole ≡ report_data (fraction_text c.args.bs) c.args.cells
