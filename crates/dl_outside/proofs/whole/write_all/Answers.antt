@@ -50,3 +50,13 @@ writing-preserved g c =
       unused = λ none. absurd (omega arith);
       steady = omega (arith, c.in-Ok.ensures.steady);
     }
+
+pub returns-in-Err-clause-failed : goal.returns-in-Err-clause-failed
+returns-in-Err-clause-failed g c = record {
+  before = c.writing.sink;
+  done = c.writing.done;
+  failure = _;
+  writes = c.writing.invariant.offered;
+  some_left = c.writing-test.true;
+  last = rw (rest_of c.args.bytes.now c.writing.done) at c.in-Err.ensures.step;
+}
