@@ -1,6 +1,7 @@
 -- What a clause cedes, over the common denominator of its shares.
 use Rattle.dl_plan.proofs.Common.{ℕ, ◌≡◌, ◌∙◌, ◌-◌, ◌*◌, ◌/◌, ◌<◌, ◌≤◌, true, false, List, [], ◌∷◌, Option, Some, None, sym, ap, ap₂, subst, arith, mul-pos, mul-le-mul_right, All, sum_by, All-nil, All-cons, All-tail, sum_by-cons, div-mul_cancel, ◌∣◌, gcd, Fraction, whole, ◌over◌, ◌-ℚ◌, ◌*ℚ◌, ◌≤ℚ◌, gcd_is, over_self, over_same, over_mul, over_sub, le_over, CedeLayer, Clause, layer, layer_shares, layer_parts, kept_parts, parts_in_bucket}
-use Rattle.std.proofs.Common.{◌%◌}
+use Rattle.std.proofs.Common.{◌%◌, ◌+◌, ◌++◌, get_or, length, take}
+use Rattle.std.proofs.lemmas.List.{map-append, take_more}
 use Rattle.std.proofs.Math.Nat.{div-mul-le_self, div-add-mod}
 use Rattle.std.proofs.lemmas.Nat.Gcd.{mod-eq-zero_of_dvd}
 use Rattle.dl_exact.specs.Fraction.{◌+ℚ◌}
@@ -13,6 +14,13 @@ use Rattle.dl_plan.proofs.CommonDenominators.{den_divides, common_from_pos}
 use Rattle.dl_exact.proofs.Denominators.{over_zero, over_plus}
 
 -- ---- one layer
+
+pub shares_more : (layers : List CedeLayer) (i : ℕ) (l : CedeLayer) → i < length layers → l ≡ get_or layers i l
+    → layer_shares (take i layers) ++ l.share ∷ [] ≡ layer_shares (take (i + 1) layers)
+shares_more layers i l h is =
+    let more : take (i + 1) layers ≡ take i layers ++ l ∷ [] = take_more layers i l h
+    ∙ ap (λ (k : CedeLayer). take i layers ++ k ∷ []) (sym is) in
+    sym (ap layer_shares more ∙ map-append (λ (k : CedeLayer). k.share) (take i layers) (l ∷ []))
 
 pub layer_le : (limit : Option ℕ) (a x : ℕ) → layer limit a x ≤ x
 layer_le None a x = omega arith

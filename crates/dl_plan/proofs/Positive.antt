@@ -1,5 +1,5 @@
 -- A severity without amount 0.
-use Rattle.dl_plan.proofs.Common.{ℕ, ◌≡◌, ◌<◌, ◌≤◌, get_or, arith, ap, inl, inr, cases_lt, whole, le_over, Item, Sev, weight_at}
+use Rattle.dl_plan.proofs.Common.{◌≡◌, ◌<◌, ◌≤◌, get_or, arith, ap, inl, inr, cases_lt, whole, le_over, Item, Sev, weight_at}
 use Rattle.std.specs.Prelude.{All, if◌then◌else◌, ◌==◌}
 use Rattle.std.proofs.lemmas.Bool.{eq-eqb}
 use Rattle.std.proofs.lemmas.List.Sums.{get_or-le-sum_by}
