@@ -11,8 +11,6 @@ use Rattle.dl_lexer.specs.declared.token.Span.{Span}
 use Rattle.dl_lexer.specs.Tokens.{IsSpelled}
 use Rattle.dl_ast.specs.declared.ast.ListAst.{ListAst}
 use Rattle.dl_ast.specs.declared.ast.Atom.{Atom}
-use Rattle.dl_ast.specs.declared.ast.Exposure.{Exposure}
-use Rattle.dl_ast.specs.declared.ast.FreqAst.{FreqAst}
 use Rattle.dl_ast.specs.declared.ast.UnitAst.{UnitAst}
 use Rattle.dl_ast.specs.declared.ast.Program.{Program}
 use Rattle.dl_ast.specs.Lexemes.{Lexeme, IsReal}
@@ -226,9 +224,6 @@ clause_given kind = gives_node
           (back_real ts us vs e h) t;
     })) (λ p span h. record { some = h.0; layers = h.1 })
 
-abbrev FreqFormed : (Span → FreqAst) → Type 0
-FreqFormed make = (span : Span) → IsFormedFrequency (make span)
-
 freq_given : Gives freq IsFormedFrequency
 unfolding freq
 freq_given = gives_spanned (gives_or (gives_means (Word words.Fixed) (λ span. tt))
@@ -236,9 +231,6 @@ freq_given = gives_spanned (gives_or (gives_means (Word words.Fixed) (λ span. t
     (gives_or (gives_means (Word words.Bernoulli) (λ span. tt))
     (gives_or (gives_made (gives_behind (Word words.Binomial) numeral_given) (λ n h span. h))
     (gives_made (gives_behind (Word words.Mixed) (gives_behind (Word words.Gamma) numeral_given)) (λ n h span. h))))))
-
-abbrev ExposureFormed : (Span → Exposure) → Type 0
-ExposureFormed make = (span : Span) → IsFormedExposure (make span)
 
 exposure_given : Gives exposure IsFormedExposure
 unfolding exposure

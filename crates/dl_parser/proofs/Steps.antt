@@ -24,9 +24,3 @@ pub or_first : {A : Type 0} (a b : Rule A) (p q : Parser) (r : Result A Stop) �
 or_first a b p q (Ok x) t h = rw t h
 or_first a b p q (Err (Wanted k)) t h = rw t h
 or_first a b p q (Err OutOfMemory) t h = h
-
-pub or_later : {A : Type 0} (a b : Rule A) (p q : Parser) (r : Result A Stop)
-    → begins (first a) (place p).rest ≡ false → ReadsBy b p q r → ReadsBy (a or b) p q r
-or_later a b p q (Ok x) t h = rw t h
-or_later a b p q (Err (Wanted k)) t h = rw t h
-or_later a b p q (Err OutOfMemory) t h = h

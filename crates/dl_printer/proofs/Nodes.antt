@@ -75,10 +75,6 @@ behind_colon_shown : (n : Numeral) → IsFormedNumeral n
     → Shows (Sign signs.Colon ≫ numeral) bare_numeral (bare_numeral n) (behind_colon n)
 behind_colon_shown n h = shows_behind (Sign signs.Colon) (sign_byte signs.Colon ∷ []) refl (numeral_shown n h)
 
--- an item as it is made with any span
-abbrev ItemMade : (Span → ListItem) → Span → ListItem
-ItemMade make span = bare_item (make span)
-
 item_of : (from : Numeral) (to step : Option Numeral) (span : Span)
     → IsFormedItem (record { from = from; to = to; step = step; span = span })
     → Shows item bare_item (bare_item (record { from = from; to = to; step = step; span = span }))
@@ -195,9 +191,6 @@ sev_shown s h = shows_node (shows_seq (mixture_shown s.atoms s.weights h.some h.
 
 -- cessions
 
-abbrev CededMade : (Span → CededLayer) → Span → CededLayer
-CededMade make span = bare_ceded (make span)
-
 part_shown : (k : Keyword) (n : Numeral) (l : Layer) → IsFormedNumeral n → IsFormedLayer l
     → Shows {X = Numeral × Layer} {S = Numeral × Layer} (numeral ▸ Word k ≫ layer)
     (λ p. (bare_numeral p.0, bare_layer p.1))
@@ -254,9 +247,6 @@ clause_option_shown k o h = shows_maybe (clause_shown k) o h
 
 -- claim counts
 
-abbrev FreqMade : (Span → FreqAst) → Span → FreqAst
-FreqMade make span = bare_freq (make span)
-
 freq_shown : (f : FreqAst) → IsFormedFrequency f → Shows freq bare_freq (bare_freq f) (freq_pieces f)
 unfolding freq freq_pieces
 freq_shown (freqs.Fixed span) h = shows_spanned (shows_left (word_means words.Fixed))
@@ -268,9 +258,6 @@ freq_shown (freqs.Binomial n span) h = shows_spanned (shows_right (shows_right (
 freq_shown (freqs.Gamma n span) h = shows_spanned (shows_right (shows_right (shows_right (shows_right (shows_made
     (shows_as (behind_word words.Mixed (behind_word words.Gamma (numeral_shown n h))) (simp append_assoc))
     (λ m e. ap (λ q _. freqs.Gamma q nowhere) e))))))
-
-abbrev ExposureMade : (Span → Exposure) → Span → Exposure
-ExposureMade make span = bare_exposure (make span)
 
 claims_shown : Shows claims piece_of (record { kind = Word words.Claims; text = spelling words.Claims })
     (word_piece words.Claims)

@@ -20,4 +20,5 @@ returns c =
     ) (six front row.ask (codes " ") (end_text c.args.digits row.low) (codes " ") (end_text c.args.digits row.high)
     (codes "\n")) in
     on_ok_weaker c.extend_from_slice-4.result (λ e. (◌∙◌) {A = List ℕ} e before)
-    (appended c.extend_from_slice-4.result _ c.push_end-2.new.text.items (codes "\n") c.extend_from_slice-4.ensures.items)
+    (appended c.extend_from_slice-4.result _ c.push_end-2.new.text.items (codes "\n")
+    c.extend_from_slice-4.ensures.items)

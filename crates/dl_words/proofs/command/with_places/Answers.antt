@@ -11,7 +11,8 @@ returns c =
     ap rule_of c.required.ensures ∙ ap (λ (r : Rule). record r { required = true }) c.new.ensures.rule in
     let second : rule_of c.action.result ≡ asks =
     ap rule_of c.action.ensures ∙ ap (λ (r : Rule). record r { action = Some Append }) c.new-2.ensures.rule in
-    subst (λ (r : Rule). IfOk c.with_arg.result (λ done. app_of done ≡ with_rule (with_rule bare_command form) r)) second
+    subst (λ (r : Rule). IfOk c.with_arg.result (λ done. app_of done ≡ with_rule (with_rule bare_command form) r))
+    second
     (c.with_arg.ensures _
     (subst (λ (r : Rule). IfOk c.with_arg-command.result (λ done. app_of done ≡ with_rule bare_command r)) first
     (c.with_arg-command.ensures bare_command c.bare_command.ensures)))
