@@ -1,8 +1,5 @@
 -- One step of the recursion and one shift, over whole numbers that stand round 2 ^ 61 * r.
-use Rattle.dl_direct.proofs.Common.{◌≡◌, ℕ, suc, zero, ◌+◌, ◌-◌, ◌*◌, ◌/◌, ◌^◌, ◌<◌, ◌≤◌, inl, inr, List, length, get_or, arith, refl, sym, ap, subst, subst₂, ◌∙◌, mul-le-mul_right, div-mul-le_self, pow-add, zero-lt-suc, Fraction, ◌+ℚ◌, ◌*ℚ◌, ◌≤ℚ◌, whole, count_pairs, ring, times_comm, whole_plus, whole_times, whole_pos, le_refl, le_trans, times_le_cancel, times_le_both, whole_le, IsRound}
-use Rattle.std.proofs.Math.ListN.{set}
-use Rattle.std.proofs.lemmas.List.{get_or-set_same, get_or-set_other}
-use Rattle.std.proofs.lemmas.Bool.{cases_eq}
+use Rattle.dl_direct.proofs.Common.{◌≡◌, ℕ, suc, zero, ◌+◌, ◌-◌, ◌*◌, ◌/◌, ◌^◌, ◌<◌, ◌≤◌, List, get_or, arith, refl, sym, ap, subst, subst₂, ◌∙◌, mul-le-mul_right, div-mul-le_self, pow-add, zero-lt-suc, Fraction, ◌+ℚ◌, ◌*ℚ◌, ◌≤ℚ◌, whole, count_pairs, ring, times_comm, whole_plus, whole_times, whole_pos, le_refl, le_trans, times_le_cancel, times_le_both, whole_le, IsRound}
 use Rattle.dl_exact.proofs.Laws.{times_assoc, times_left_comm}
 use Rattle.dl_exact.proofs.Sums.{sum_pairs_same, sum_pairs_times, sum_pairs_times_right, sum_pairs_le}
 use Rattle.dl_exact.specs.Sum.{sum_pairs}
@@ -86,16 +83,3 @@ fit_top h k l p =
     let e : 126 - 8 * k ≡ 126 - 8 * (k + 1) + 8 = omega (arith, l) in
     let s : 2 ^ (126 - 8 * k) ≡ 2 ^ (126 - 8 * (k + 1)) * 256 = ap (λ t. 2 ^ t) e ∙ pow-add 2 (126 - 8 * (k + 1)) 8 in
     ceil_least h 256 (2 ^ (126 - 8 * (k + 1))) (zero-lt-suc 255) (omega (arith, p, s))
-
--- one number more is written, where the others wait as they were
-pub each_done : (f : ℕ → ℕ) (xs ys : List ℕ) (i v : ℕ) → i < length xs → v ≡ f (get_or ys i 0)
-    → ((k : ℕ) → k < i → get_or xs k 0 ≡ f (get_or ys k 0))
-    → (k : ℕ) → k < i + 1 → get_or (set xs i v) k 0 ≡ f (get_or ys k 0)
-each_done f xs ys i v b h done k below = elim (cases_eq k i) [
-  | inl e ↦ subst (λ j. get_or (set xs i v) j 0 ≡ f (get_or ys j 0)) (sym e) (get_or-set_same xs i v 0 b ∙ h)
-  | inr e ↦ get_or-set_other xs i k v 0 e ∙ done k (omega (arith, e))
-]
-
-pub each_left : (xs ys : List ℕ) (i v : ℕ) → ((k : ℕ) → i ≤ k → get_or xs k 0 ≡ get_or ys k 0) → (k : ℕ) → i + 1 ≤ k
-    → get_or (set xs i v) k 0 ≡ get_or ys k 0
-each_left xs ys i v h k above = get_or-set_other xs i k v 0 (λ e. absurd (omega arith)) ∙ h k (omega arith)

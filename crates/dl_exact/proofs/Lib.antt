@@ -12,4 +12,5 @@ pub mod Sums
 pub mod SumsOver
 pub mod Counts
 pub mod Lists
+pub mod Writing
 pub mod Results

@@ -10,9 +10,6 @@ nil_of : {A : Type 0} (xs : List A) → (length xs == 0) ≡ true → xs ≡ []
 nil_of [] h = refl
 nil_of (x ∷ xs) h = absurd (grind (arith, nat_tests))
 
-some_of : (n : ℕ) → (n == 0) ≡ false → 0 < n
-some_of n h = grind (arith, nat_tests)
-
 left : (n m a b : ℕ) → n ≡ a → m ≡ b → b ≤ a → (n - m) + b ≡ a
 left n m a b h g le = omega arith
 
@@ -49,7 +46,7 @@ returns-then-is_at_end-clause-formed c =
 pub returns-else-is_at_end-clause-refused : goal.returns-else-is_at_end-clause-refused
 returns-else-is_at_end-clause-refused c = rw c.taken.ensures
     (read_further _ c.in-Ok.program (place c.program.new.self) _ c.in-Ok.ensures.reads
-    (simp length-map (some_of _ (sym c.is_at_end.ensures ∙ c.if-is_at_end.false)))
+    (simp length-map (grind (arith, nat_tests, c.is_at_end.ensures, c.if-is_at_end.false)))
     (simp length-map (left _ _ _ _ refl refl
     (simp length-map at (left_got _ c.in-Ok.program (place c.program.new.self) c.in-Ok.ensures.reads)))))
 

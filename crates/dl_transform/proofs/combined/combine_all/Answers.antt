@@ -1,6 +1,6 @@
 use Rattle.dl_transform.proofs.Common.{ℕ, ◌≡◌, ◌*◌, ◌^◌, ◌<◌, ◌≤◌, get_or, arith, subst, Same}
 use Rattle.dl_transform.proofs.Residues.{same_trans}
-use Rattle.dl_transform.proofs.Steps.{set_done}
+use Rattle.dl_exact.proofs.Writing.{set_done}
 use Rattle.dl_transform.proofs.Wholes.{two_room}
 use Rattle.dl_transform.proofs.combined.combine_all.Goals as goal
 

@@ -1,7 +1,7 @@
 use Rattle.dl_transform.proofs.Common.{◌≡◌, ◌≤◌, arith, refl}
 use Rattle.std.proofs.Common.{◌∙◌}
 use Rattle.std.proofs.lemmas.List.{get_or-set_other}
-use Rattle.dl_transform.proofs.Steps.{set_done}
+use Rattle.dl_exact.proofs.Writing.{set_done}
 use Rattle.dl_transform.proofs.passes.clear.Goals as goal
 
 pub loop-i-preserved : goal.loop-i-preserved

@@ -1,7 +1,7 @@
 use Rattle.dl_transform.proofs.Common.{◌*◌, ◌<◌, ◌+◌, get_or, arith, ap₂, length, Same}
 use Rattle.std.proofs.Common.{subst₂}
 use Rattle.dl_transform.proofs.Residues.{same_trans, same_of}
-use Rattle.dl_transform.proofs.Steps.{set_each, set_done, set_rest}
+use Rattle.dl_exact.proofs.Writing.{set_each, set_done, set_rest}
 use Rattle.dl_transform.proofs.passes.join_all.Goals as goal
 
 pub loop-i-preserved : goal.loop-i-preserved

@@ -1,6 +1,6 @@
 use Rattle.dl_transform.proofs.Common.{◌*◌, ◌<◌, ◌^◌, get_or, arith, refl, length, Same}
 use Rattle.dl_transform.proofs.Residues.{same_trans, same_of, same_times}
-use Rattle.dl_transform.proofs.Steps.{set_done, set_rest}
+use Rattle.dl_exact.proofs.Writing.{set_done, set_rest}
 use Rattle.dl_transform.proofs.passes.multiply_all.Goals as goal
 
 pub loop-i-preserved : goal.loop-i-preserved

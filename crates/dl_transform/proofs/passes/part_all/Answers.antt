@@ -1,6 +1,6 @@
 use Rattle.dl_transform.proofs.Common.{◌*◌, ◌<◌, ◌+◌, ◌-◌, get_or, arith, ap₂, length, Same}
 use Rattle.dl_transform.proofs.Residues.{same_trans, same_of}
-use Rattle.dl_transform.proofs.Steps.{set_each, set_done, set_rest}
+use Rattle.dl_exact.proofs.Writing.{set_each, set_done, set_rest}
 use Rattle.dl_transform.proofs.passes.part_all.Goals as goal
 
 pub loop-i-preserved : goal.loop-i-preserved
