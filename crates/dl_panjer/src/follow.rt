@@ -1,6 +1,7 @@
 //! The recursion, from cell 0 on.
 
-ghost use Rattle.std.specs.Prelude.{◌≡◌, ℕ, suc, ◌+◌, ◌-◌, ◌*◌, ◌^◌, ◌<◌, ◌≤◌, length, All, IfOk};
+ghost use Rattle.std.specs.Prelude.{◌≡◌, ℕ, suc, ◌+◌, ◌-◌, ◌*◌, ◌/◌, ◌^◌, ◌<◌, ◌≤◌, length, min, All, IfOk};
+ghost use Rattle.std.specs.Int.{div_ceil};
 ghost use Rattle.dl_limits.specs.Limits.{most_cells, admitted_bound};
 ghost use Rattle.dl_exact.specs.Fraction.{whole, ◌≤ℚ◌};
 ghost use Rattle.dl_grid.specs.Cells.{low_at, high_at};
@@ -41,9 +42,30 @@ fn next_cell<const B: u32, const BY_AMOUNT: bool>(
     let num = u128::from(rate.num());
     let den = divisor::<BY_AMOUNT>(rate.den(), cells.len());
     Iv {
-        lo: low / total * num / den,
-        hi: units_of_one(B).min((high.div_ceil(total) * num).div_ceil(den)),
+        lo: low_end(low, total, num, den),
+        hi: high_end::<B>(high, total, num, den),
     }
+}
+
+/// The low end that a sum gives: over the total weight and times the rate, by two floors.
+fn low_end(sum: u128, total: u128, num: u128, den: u128) -> u128
+    requires total { 0 < total }
+    requires den { 0 < den }
+    requires fits { div_ceil sum total * num < 2 ^ 128 }
+    ensures { result ≡ sum / total * num / den }
+{
+    sum / total * num / den
+}
+
+/// The high end that a sum gives: by two ceilings, and at most 1.
+fn high_end<const B: u32>(sum: u128, total: u128, num: u128, den: u128) -> u128
+    requires scale { B ≤ 56 }
+    requires total { 0 < total }
+    requires den { 0 < den }
+    requires fits { div_ceil sum total * num < 2 ^ 128 }
+    ensures { result ≡ min (2 ^ B) (div_ceil (div_ceil sum total * num) den) }
+{
+    units_of_one(B).min((sum.div_ceil(total) * num).div_ceil(den))
 }
 
 /// By what the rate's first part is divided at cell `number`.

@@ -1,48 +1,41 @@
-use Rattle.dl_panjer.proofs.Common.{ℕ, suc, ◌≡◌, ◌-◌, ◌/◌, ◌≤◌, ◌^◌, eqb, length, arith, ap, ◌∙◌, not, low_at, high_at, one_fits, counted, total_pos, low_le_high}
+use Rattle.dl_panjer.proofs.Common.{ℕ, suc, ◌≡◌, ◌-◌, ◌≤◌, ◌^◌, eqb, length, arith, ap, sym, subst₂, ◌∙◌, not, div_ceil, low_at, high_at, one_fits, counted, total_pos, low_le_high}
 use Rattle.dl_panjer.proofs.Reading.{low_at_most, high_at_most}
-use Rattle.dl_panjer.proofs.Steps.{low_counted, high_counted, next_order, step_fits, cell_low, cell_high}
+use Rattle.dl_panjer.proofs.Steps.{high_counted, next_order, step_fits, cell_low, cell_high}
 use Rattle.dl_panjer.proofs.follow.next_cell.Goals as goal
 
-pub nonzero_div-result : goal.nonzero_div-result
-nonzero_div-result g c =
-    omega (arith, c.from-total.ensures, total_pos c.args.items.now c.args.total c.requires.weighted)
+pub low_end-requires-clause-total : goal.low_end-requires-clause-total
+low_end-requires-clause-total g c = omega (arith, c.from-total.ensures, total_pos c.args.items.now c.args.total c.requires.weighted)
 
-pub div_ceil-requires : goal.div_ceil-requires
-div_ceil-requires g c = omega (arith, c.from-total.ensures, total_pos c.args.items.now c.args.total c.requires.weighted)
-
-pub overflow_mul-result : goal.overflow_mul-result
-overflow_mul-result g c =
+pub low_end-requires-clause-fits : goal.low_end-requires-clause-fits
+low_end-requires-clause-fits g c =
     let b = not (eqb g.row.BY_AMOUNT 0) in
     let cells = c.args.cells.now in
     let s : ℕ = length cells - 1 in
     let w = c.requires.weighted in
-    let x : c.sums_before-low.result.0 / c.from-total.result ≤ counted b (suc s) (2 ^ g.row.B) =
+    let x : div_ceil c.sums_before-low.result.0 c.from-total.result ≤ counted b (suc s) (2 ^ g.row.B) =
     rw (c.sums_before-low.ensures.low, c.from-total.ensures)
-    (low_counted b c.args.items.now c.args.total (2 ^ g.row.B) s (total_pos c.args.items.now c.args.total w) w.sum
+    (high_counted b c.args.items.now c.args.total (2 ^ g.row.B) s (total_pos c.args.items.now c.args.total w) w.sum
     (low_at cells) (low_at_most cells c.requires.small)) in
-    omega (
-      arith,
-      step_fits b (suc s) (2 ^ g.row.B) _ c.from-num.result
-          (omega (arith, c.requires.some, c.requires.few)) (one_fits g.row.B c.requires.scale_below) x
-          (omega (arith, c.from-num.ensures, c.num.ensures.part, c.requires.rate_num)),
-    )
+    step_fits b (suc s) (2 ^ g.row.B) _ c.from-num.result
+    (omega (arith, c.requires.some, c.requires.few)) (one_fits g.row.B c.requires.scale_below) x
+    (omega (arith, c.from-num.ensures, c.num.ensures.part, c.requires.rate_num))
 
-pub overflow_mul-div_ceil : goal.overflow_mul-div_ceil
-overflow_mul-div_ceil g c =
+pub high_end-requires-clause-total : goal.high_end-requires-clause-total
+high_end-requires-clause-total g c = omega (arith, c.from-total.ensures, total_pos c.args.items.now c.args.total c.requires.weighted)
+
+pub high_end-requires-clause-fits : goal.high_end-requires-clause-fits
+high_end-requires-clause-fits g c =
     let b = not (eqb g.row.BY_AMOUNT 0) in
     let cells = c.args.cells.now in
     let s : ℕ = length cells - 1 in
     let w = c.requires.weighted in
-    let x : c.div_ceil.result ≤ counted b (suc s) (2 ^ g.row.B) =
-    rw (c.div_ceil.ensures, c.sums_before-low.ensures.high, c.from-total.ensures)
+    let x : div_ceil c.sums_before-low.result.1 c.from-total.result ≤ counted b (suc s) (2 ^ g.row.B) =
+    rw (c.sums_before-low.ensures.high, c.from-total.ensures)
     (high_counted b c.args.items.now c.args.total (2 ^ g.row.B) s (total_pos c.args.items.now c.args.total w) w.sum
     (high_at cells) (high_at_most cells c.requires.small)) in
-    omega (
-      arith,
-      step_fits b (suc s) (2 ^ g.row.B) _ c.from-num.result
-          (omega (arith, c.requires.some, c.requires.few)) (one_fits g.row.B c.requires.scale_below) x
-          (omega (arith, c.from-num.ensures, c.num.ensures.part, c.requires.rate_num)),
-    )
+    step_fits b (suc s) (2 ^ g.row.B) _ c.from-num.result
+    (omega (arith, c.requires.some, c.requires.few)) (one_fits g.row.B c.requires.scale_below) x
+    (omega (arith, c.from-num.ensures, c.num.ensures.part, c.requires.rate_num))
 
 pub invariant_of-result-clause-ordered : goal.invariant_of-result-clause-ordered
 invariant_of-result-clause-ordered g c =
@@ -51,26 +44,25 @@ invariant_of-result-clause-ordered g c =
     let w = c.requires.weighted in
     let divisor : c.divisor-den.result ≡ counted b (length cells) c.args.rate.den = c.divisor-den.ensures
     ∙ ap (counted b (length cells)) c.den.ensures.part in
-    let low = cell_low b c.args.items.now c.args.total c.args.rate (low_at cells)
-    (length cells) _ _ _ _ c.requires.some c.sums_before-low.ensures.low c.from-total.ensures
-    (c.from-num.ensures ∙ c.num.ensures.part) divisor in
-    let high = cell_high (2 ^ g.row.B) b c.args.items.now c.args.total c.args.rate (high_at cells)
-    (length cells) _ _ _ _ c.requires.some c.sums_before-low.ensures.high c.from-total.ensures
-    (c.from-num.ensures ∙ c.num.ensures.part) divisor in
-    rw (c.min.ensures, c.units_of_one.ensures, c.div_ceil-2.ensures, c.div_ceil.ensures, low, high)
+    let num = c.from-num.ensures ∙ c.num.ensures.part in
+    let low = c.low_end.ensures ∙ cell_low b c.args.items.now c.args.total c.args.rate (low_at cells)
+    (length cells) _ _ _ _ c.requires.some c.sums_before-low.ensures.low c.from-total.ensures num divisor in
+    let high = c.high_end.ensures ∙ cell_high (2 ^ g.row.B) b c.args.items.now c.args.total c.args.rate (high_at cells)
+    (length cells) _ _ _ _ c.requires.some c.sums_before-low.ensures.high c.from-total.ensures num divisor in
+    subst₂ (λ x y. x ≤ y) (sym low) (sym high)
     (next_order b c.args.items.now c.args.total (2 ^ g.row.B) (length cells - 1)
     (total_pos c.args.items.now c.args.total w) w.sum c.args.rate c.requires.rate
     (low_at cells) (high_at cells) (low_le_high cells) (low_at_most cells c.requires.small))
 
 pub invariant_of-result-clause-in_range : goal.invariant_of-result-clause-in_range
 invariant_of-result-clause-in_range g c =
-    omega (arith, c.min.ensures, c.units_of_one.ensures, one_fits g.row.B c.requires.scale_below)
+    omega (arith, c.high_end.ensures, one_fits g.row.B c.requires.scale_below)
 
 pub returns-clause-low : goal.returns-clause-low
 returns-clause-low g c =
     let b = not (eqb g.row.BY_AMOUNT 0) in
     let cells = c.args.cells.now in
-    cell_low b c.args.items.now c.args.total c.args.rate (low_at cells)
+    c.low_end.ensures ∙ cell_low b c.args.items.now c.args.total c.args.rate (low_at cells)
     (length cells) _ _ _ _ c.requires.some c.sums_before-low.ensures.low c.from-total.ensures
     (c.from-num.ensures ∙ c.num.ensures.part)
     (c.divisor-den.ensures ∙ ap (counted b (length cells)) c.den.ensures.part)
@@ -79,8 +71,7 @@ pub returns-clause-high : goal.returns-clause-high
 returns-clause-high g c =
     let b = not (eqb g.row.BY_AMOUNT 0) in
     let cells = c.args.cells.now in
-    rw (c.min.ensures, c.units_of_one.ensures, c.div_ceil-2.ensures, c.div_ceil.ensures)
-    (cell_high (2 ^ g.row.B) b c.args.items.now c.args.total c.args.rate (high_at cells)
+    c.high_end.ensures ∙ cell_high (2 ^ g.row.B) b c.args.items.now c.args.total c.args.rate (high_at cells)
     (length cells) _ _ _ _ c.requires.some c.sums_before-low.ensures.high c.from-total.ensures
     (c.from-num.ensures ∙ c.num.ensures.part)
-    (c.divisor-den.ensures ∙ ap (counted b (length cells)) c.den.ensures.part))
+    (c.divisor-den.ensures ∙ ap (counted b (length cells)) c.den.ensures.part)
