@@ -1,4 +1,5 @@
-use Rattle.dl_unit.proofs.Common.{◌^◌, arith, ap, subst, IfSome, IfOk-weaker, gamma_of, compound, GridEncloses, Gamma, probability_of, gamma_budget}
+use Rattle.dl_unit.proofs.Common.{◌^◌, arith, ap, sym, subst, IfSome, IfOk-weaker, gamma_of, compound, GridEncloses, Gamma, probability_of, gamma_budget}
+use Rattle.dl_plan.specs.Fine.{HasPartsOf48Bits}
 use Rattle.dl_model.proofs.PlanThin.{gamma_thinned}
 use Rattle.dl_budget.proofs.Counts.{count_of}
 use Rattle.dl_unit.proofs.Families.{grid_same}
@@ -10,10 +11,10 @@ use Rattle.dl_unit.proofs.direct.gamma_grid.Goals as goal
 pub gamma_direct-requires : goal.gamma_direct-requires
 gamma_direct-requires g c =
     let u = c.args.unit.now in
-    let small = c.requires.valid.1.thinned (gamma_unbounded u c.args.shape c.requires.count.0 c.requires.count.1) in
+    let small = subst HasPartsOf48Bits (sym c.thinned-mean.ensures)
+    (c.requires.valid.1.thinned (gamma_unbounded u c.args.shape c.requires.count.0 c.requires.count.1)).0 in
     let shape = count_of c.requires.valid.0 u (Gamma c.args.shape c.requires.count.0) c.requires.valid.1
-    c.requires.count.1 in
-    rw c.thinned-mean.ensures (
+    c.requires.count.1 in (
       omega arith,
       (
         c.requires.scale_above,
@@ -21,7 +22,7 @@ gamma_direct-requires g c =
           c.requires.scale_below,
           (
             no_zero u.sev c.args.positive.now c.requires.means,
-            (shape.0, (shape.1, (small.0.num, (small.0.den, (c.requires.some, c.requires.few))))),
+            (shape.0, (shape.1, (small.num, (small.den, (c.requires.some, c.requires.few))))),
           ),
         ),
       ),
@@ -45,10 +46,10 @@ returns-then-is_narrow-clause-encloses g c =
 pub gamma_claims-requires : goal.gamma_claims-requires
 gamma_claims-requires g c =
     let u = c.args.unit.now in
-    let small = c.requires.valid.1.thinned (gamma_unbounded u c.args.shape c.requires.count.0 c.requires.count.1) in
+    let small = subst HasPartsOf48Bits (sym c.thinned-mean.ensures)
+    (c.requires.valid.1.thinned (gamma_unbounded u c.args.shape c.requires.count.0 c.requires.count.1)).0 in
     let shape = count_of c.requires.valid.0 u (Gamma c.args.shape c.requires.count.0) c.requires.valid.1
-    c.requires.count.1 in
-    rw c.thinned-mean.ensures (
+    c.requires.count.1 in (
       omega arith,
       (
         c.requires.scale_above,
@@ -56,7 +57,7 @@ gamma_claims-requires g c =
           c.requires.scale_below,
           (
             no_zero u.sev c.args.positive.now c.requires.means,
-            (small.0, (shape.0, (shape.1, (c.requires.some, c.requires.few)))),
+            (small, (shape.0, (shape.1, (c.requires.some, c.requires.few)))),
           ),
         ),
       ),

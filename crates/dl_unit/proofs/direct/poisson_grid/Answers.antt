@@ -1,4 +1,8 @@
-use Rattle.dl_unit.proofs.Common.{◌^◌, arith, ap, subst, IfSome, IfOk-weaker, poisson, compound, GridEncloses, probability_of, thinned_mean, poisson_budget, halvings}
+use Rattle.dl_unit.proofs.Common.{◌^◌, arith, ap, sym, subst, IfSome, IfOk-weaker, poisson, compound, GridEncloses, probability_of, thinned_mean, poisson_budget, halvings}
+use Rattle.dl_limits.specs.Limits.{most_expected}
+use Rattle.dl_exact.specs.Fraction.{whole, ◌≤ℚ◌, ◌/ℚ◌}
+use Rattle.dl_model.specs.Family.{times_itself}
+use Rattle.dl_plan.specs.Fine.{HasPartsOf48Bits}
 use Rattle.dl_model.proofs.PlanThin.{poisson_thinned}
 use Rattle.dl_unit.proofs.Families.{grid_same}
 use Rattle.dl_unit.proofs.CountKinds.{poisson_unbounded, poisson_some}
@@ -9,8 +13,8 @@ use Rattle.dl_unit.proofs.direct.poisson_grid.Goals as goal
 pub poisson_direct-requires : goal.poisson_direct-requires
 poisson_direct-requires g c =
     let u = c.args.unit.now in
-    let small = c.requires.valid.1.thinned (poisson_unbounded u c.requires.count.0 c.requires.count.1) in
-    rw c.thinned-mean.ensures (
+    let small = subst (λ m. HasPartsOf48Bits m × (m ≤ℚ whole most_expected)) (sym c.thinned-mean.ensures)
+    (c.requires.valid.1.thinned (poisson_unbounded u c.requires.count.0 c.requires.count.1)) in (
       omega arith,
       (
         c.requires.scale_above,
@@ -37,8 +41,8 @@ returns-then-is_narrow-clause-encloses g c =
 pub poisson_claims-requires : goal.poisson_claims-requires
 poisson_claims-requires g c =
     let u = c.args.unit.now in
-    let small = c.requires.valid.1.thinned (poisson_unbounded u c.requires.count.0 c.requires.count.1) in
-    rw c.thinned-mean.ensures (
+    let small = subst (λ m. HasPartsOf48Bits m × (m ≤ℚ whole most_expected)) (sym c.thinned-mean.ensures)
+    (c.requires.valid.1.thinned (poisson_unbounded u c.requires.count.0 c.requires.count.1)) in (
       omega arith,
       (
         c.requires.scale_above,
@@ -54,7 +58,9 @@ returns-clause-encloses g c =
     let u = c.args.unit.now in
     IfOk-weaker c.poisson_claims.result _ _ (λ grid copies.
     grid_same grid _ _ (poisson_thinned u c.args.positive.now c.requires.count.0
-    (halvings (thinned_mean u)) c.requires.count.1 c.requires.means) (rw c.thinned-mean.ensures at copies))
+    (halvings (thinned_mean u)) c.requires.count.1 c.requires.means)
+    (subst (λ m. GridEncloses grid (times_itself (compound (poisson (m /ℚ whole (2 ^ halvings m)))
+    (probability_of c.args.positive.now)) (2 ^ halvings m))) c.thinned-mean.ensures copies))
     c.poisson_claims.ensures.encloses
 
 pub returns-clause-spread : goal.returns-clause-spread
