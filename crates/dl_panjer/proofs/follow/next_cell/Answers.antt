@@ -4,7 +4,8 @@ use Rattle.dl_panjer.proofs.Steps.{high_counted, next_order, step_fits, cell_low
 use Rattle.dl_panjer.proofs.follow.next_cell.Goals as goal
 
 pub low_end-requires-clause-total : goal.low_end-requires-clause-total
-low_end-requires-clause-total g c = omega (arith, c.from-total.ensures, total_pos c.args.items.now c.args.total c.requires.weighted)
+low_end-requires-clause-total g c =
+    omega (arith, c.from-total.ensures, total_pos c.args.items.now c.args.total c.requires.weighted)
 
 pub low_end-requires-clause-fits : goal.low_end-requires-clause-fits
 low_end-requires-clause-fits g c =
@@ -21,7 +22,8 @@ low_end-requires-clause-fits g c =
     (omega (arith, c.from-num.ensures, c.num.ensures.part, c.requires.rate_num))
 
 pub high_end-requires-clause-total : goal.high_end-requires-clause-total
-high_end-requires-clause-total g c = omega (arith, c.from-total.ensures, total_pos c.args.items.now c.args.total c.requires.weighted)
+high_end-requires-clause-total g c =
+    omega (arith, c.from-total.ensures, total_pos c.args.items.now c.args.total c.requires.weighted)
 
 pub high_end-requires-clause-fits : goal.high_end-requires-clause-fits
 high_end-requires-clause-fits g c =
