@@ -23,3 +23,9 @@ scale-requires g c =
         ),
       ),
     )
+
+pub returns-clause-low : goal.returns-clause-low
+returns-clause-low g c = cc
+
+pub returns-clause-high : goal.returns-clause-high
+returns-clause-high g c = cc
