@@ -1,4 +1,4 @@
-use Rattle.std.proofs.Common.{ℕ, ◌≡◌, ◌*◌, ◌^◌, ◌<◌, ◌≤◌, arith, ap}
+use Rattle.std.proofs.Common.{ℕ, ◌≡◌, ◌*◌, ◌^◌, ◌<◌, ◌≤◌, arith, ap, refl}
 use Rattle.std.specs.Int.{div_ceil}
 use Rattle.std.proofs.Math.Nat.{mul-le-mul_right}
 use Rattle.std.proofs.lemmas.Nat.{pow_pos}
@@ -10,6 +10,18 @@ use Rattle.dl_alloc.proofs.conditional.conditional_mean.Goals as goal
 enough : (S one least a parts : ℕ) → 0 < parts → one ≡ S → least ≡ div_ceil one parts → least ≤ a → S ≤ a * parts
 enough S one least a parts pos same e h =
     omega (arith, ceiling_reaches one parts pos, same, ap (λ t. t * parts) e, mul-le-mul_right parts h)
+
+pub returns-then-at-least-clause-none : goal.returns-then-at-least-clause-none
+returns-then-at-least-clause-none g c = (
+  λ _. omega (arith, c.units_of_one.ensures, c.div_ceil-least.ensures, c.if-at-least.true),
+  λ _. refl,
+)
+
+pub returns-clause-none : goal.returns-clause-none
+returns-clause-none g c = (
+  λ e. absurd (cc),
+  λ few. absurd (omega (arith, few, c.units_of_one.ensures, c.div_ceil-least.ensures, c.if-at-least.false)),
+)
 
 pub returns-clause-holds : goal.returns-clause-holds
 returns-clause-holds g c =
