@@ -15,7 +15,7 @@ use crate::numbers::{
     CountNumbers, ItemNumbers, ListNumbers, LossNumbers, PairNumbers, SevNumbers, TermNumbers,
     UnitNumbers,
 };
-use crate::stop::{Stop, push_part};
+use crate::stop::{Stop, both, push_part};
 use crate::tree::{ReadCeded, ReadClause, ReadExposure, ReadFreq, ReadLayer, ReadShare};
 use dl_ast::{
     Atom, CededLayer, Cession, CountAst, Exposure, FreqAst, Layer, LimitAst, ListAst, ListItem,
@@ -33,8 +33,8 @@ pub(crate) fn unit_numbers(alloc: Global, unit: &UnitAst) -> Result<UnitNumbers,
     ensures { Reads (numbers_of unit.now) (bad_numeral unit.now) result }
 {
     let count = count_numbers(alloc, &unit.count)?;
-    let layer = own_layer_numbers(&unit.layer)?;
-    let losses = loss_numbers(alloc, unit)?;
+    let (count, layer) = both(count, own_layer_numbers(&unit.layer))?;
+    let (count, losses) = both(count, loss_numbers(alloc, unit))?;
     let terms = losses.terms;
     Ok(UnitNumbers {
         name: unit.name.span,
@@ -55,7 +55,7 @@ fn loss_numbers(alloc: Global, unit: &UnitAst) -> Result<LossNumbers, Stop>
         else within bad_in_clause unit.now.agr) result }
 {
     let sev = severity_numbers(alloc, &unit.sev)?;
-    let terms = term_numbers(alloc, unit)?;
+    let (sev, terms) = both(sev, term_numbers(alloc, unit))?;
     Ok(LossNumbers { sev, terms })
 }
 
@@ -66,8 +66,8 @@ fn term_numbers(alloc: Global, unit: &UnitAst) -> Result<TermNumbers, Stop>
         else bad_in_distribution unit.now.count else within bad_in_clause unit.now.agr) result }
 {
     let occ = own_clause_numbers(alloc, &unit.occ)?;
-    let freq = distribution_number(&unit.count)?;
-    let agr = own_clause_numbers(alloc, &unit.agr)?;
+    let (occ, freq) = both(occ, distribution_number(&unit.count))?;
+    let (occ, agr) = both(occ, own_clause_numbers(alloc, &unit.agr))?;
     Ok(TermNumbers { occ, freq, agr })
 }
 
@@ -103,7 +103,7 @@ fn severity_numbers(alloc: Global, sev: &SevAst) -> Result<SevNumbers, Stop>
     ensures { Reads (severity_numbers sev.now) (bad_in_severity sev.now) result }
 {
     let atoms = atom_numbers(alloc, sev.atoms.as_slice())?;
-    let weights = second_numbers(alloc, &sev.weights)?;
+    let (atoms, weights) = both(atoms, second_numbers(alloc, &sev.weights))?;
     Ok(SevNumbers {
         atoms,
         weights,
@@ -139,7 +139,7 @@ fn pair_numbers(
     ensures { Reads (pair_numbers values.now probs.now) (bad_in_pair values.now probs.now) result }
 {
     let values = list_numbers(alloc, values)?;
-    let probs = second_numbers(alloc, probs)?;
+    let (values, probs) = both(values, second_numbers(alloc, probs))?;
     Ok(PairNumbers { values, probs })
 }
 

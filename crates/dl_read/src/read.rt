@@ -17,7 +17,7 @@ use crate::numbers::{
 };
 use crate::numerals::unit_numbers;
 use crate::ranges::bad_range;
-use crate::stop::{Stop, push_part};
+use crate::stop::{Stop, both, push_part};
 use crate::tree::{
     ReadAtom, ReadClause, ReadCount, ReadFreq, ReadList, ReadLists, ReadSev, ReadUnit,
 };
@@ -57,7 +57,8 @@ fn read_numbers(alloc: Global, unit: UnitNumbers) -> Result<ReadUnit, Stop>
     requires { IsRanged unit }
     ensures { Reads (read_numbers unit) (long_numbers unit) result }
 {
-    let lists = read_lists(alloc, &unit)?;
+    let lists = read_lists(alloc, &unit);
+    let (unit, lists) = both(unit, lists)?;
     Ok(with_lists(unit, lists))
 }
 
@@ -83,10 +84,19 @@ fn read_lists(alloc: Global, unit: &UnitNumbers) -> Result<ReadLists, Stop>
     ensures { Reads (read_lists unit.now) (long_numbers unit.now) result }
 {
     let count = read_count(alloc, &unit.count, unit.freq)?;
-    let sev = read_severity(alloc, &unit.sev)?;
+    let (count, sev) = both(count, read_severity(alloc, &unit.sev))?;
+    let (lists, ()) = both(ReadLists { count, sev }, short_clauses(unit))?;
+    Ok(lists)
+}
+
+/// Stops at the place of the first clause that has more than 16 layers.
+fn short_clauses(unit: &UnitNumbers) -> Result<(), Stop>
+    ensures { Reads tt (within long_clause unit.now.occ
+        else within long_clause unit.now.agr) result }
+{
     match long_clause(&unit.occ).or(long_clause(&unit.agr)) {
         Some(place) => Err(Stop::At(place)),
-        None => Ok(ReadLists { count, sev }),
+        None => Ok(()),
     }
 }
 
@@ -130,7 +140,7 @@ fn read_severity(alloc: Global, sev: &SevNumbers) -> Result<ReadSev, Stop>
         return Err(Stop::At(sev.span));
     }
     let atoms = read_atoms(alloc, sev.atoms.as_slice())?;
-    let weights = read_second(alloc, &sev.weights)?;
+    let (atoms, weights) = both(atoms, read_second(alloc, &sev.weights))?;
     Ok(ReadSev {
         atoms,
         weights,
@@ -159,7 +169,7 @@ fn read_pair(alloc: Global, pair: &PairNumbers) -> Result<ReadAtom, Stop>
     ensures { Reads (read_pair pair.now) (long_pair pair.now) result }
 {
     let values = read_list(alloc, &pair.values)?;
-    let probs = read_second(alloc, &pair.probs)?;
+    let (values, probs) = both(values, read_second(alloc, &pair.probs))?;
     Ok(ReadAtom { values, probs })
 }
 
