@@ -3,7 +3,6 @@ use Rattle.dl_read.proofs.Common.{◌≡◌, ◌∙◌, ℕ, ◌+◌, ◌<◌, �
 use Rattle.std.specs.Prelude.{Bool}
 use Rattle.std.proofs.lemmas.List.{take_more, take_all, map-append}
 use Rattle.std.proofs.lemmas.List.Folds.{length-flat_map-take}
-use Rattle.dl_sev.specs.declared.fault.ExpandFault.TheVariants as expands
 use Rattle.dl_read.specs.declared.stop.Stop.{Stop}
 use Rattle.dl_read.specs.declared.stop.Stop.TheVariants.{At, OutOfMemory}
 use Rattle.dl_read.specs.Read.{Stops}
