@@ -1,4 +1,4 @@
-use Rattle.dl_iv.proofs.Common.{arith, mul-le-mul_right, pow_pos}
+use Rattle.dl_iv.proofs.Common.{arith, refl, mul-le-mul_right, pow_pos}
 use Rattle.dl_iv.proofs.Rounding.{floor_le_ceiling}
 use Rattle.dl_iv.proofs.Operations.{div_low, div_high, above_zero}
 use Rattle.dl_iv.proofs.interval.Iv.div.Goals as goal
@@ -10,6 +10,12 @@ invariant_of-result-clause-ordered g c =
 
 pub invariant_of-result-clause-in_range : goal.invariant_of-result-clause-in_range
 invariant_of-result-clause-in_range g c = rw (c.div_ceil-hi.ensures, c.units_of_one-one.ensures) c.requires.fits
+
+pub returns-clause-low : goal.returns-clause-low
+returns-clause-low g c = rw c.units_of_one-one.ensures refl
+
+pub returns-clause-high : goal.returns-clause-high
+returns-clause-high g c = rw (c.div_ceil-hi.ensures, c.units_of_one-one.ensures) refl
 
 pub returns-clause-holds : goal.returns-clause-holds
 returns-clause-holds g c x y p q =

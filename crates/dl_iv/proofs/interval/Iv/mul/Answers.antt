@@ -1,4 +1,4 @@
-use Rattle.dl_iv.proofs.Common.{◌*◌, ◌^◌, ◌≤◌, arith, pow_pos, div_ceil_least}
+use Rattle.dl_iv.proofs.Common.{◌*◌, ◌^◌, ◌≤◌, arith, refl, pow_pos, div_ceil_least}
 use Rattle.std.proofs.Math.Nat.{mul-le-mul, mul-le-mul_left, le_refl}
 use Rattle.dl_iv.proofs.Rounding.{floor_le_ceiling, two_le}
 use Rattle.dl_iv.proofs.Operations.{mul_low, mul_high}
@@ -15,6 +15,12 @@ invariant_of-result-clause-in_range g c =
     let two : 2 ≤ c.units_of_one-one.result = two_le g.row.B _ c.args.self.scale_above c.units_of_one-one.ensures in
     let reach : 2 ^ 127 * 2 ≤ 2 ^ 127 * c.units_of_one-one.result = mul-le-mul_left (2 ^ 127) two in
     rw c.div_ceil-hi.ensures (div_ceil_least _ _ (2 ^ 127) (omega arith) (omega arith))
+
+pub returns-clause-low : goal.returns-clause-low
+returns-clause-low g c = rw c.units_of_one-one.ensures refl
+
+pub returns-clause-high : goal.returns-clause-high
+returns-clause-high g c = rw (c.div_ceil-hi.ensures, c.units_of_one-one.ensures) refl
 
 pub returns-clause-holds : goal.returns-clause-holds
 returns-clause-holds g c x y p q = record {
