@@ -33,3 +33,9 @@ returns g c =
     rw (c.in_ok-lows.ensures.items, c.in_ok-highs.ensures.items, c.as_slice.ensures.value, c.as_slice-2.ensures.value)
     (view_taken c.args.cells (ends_taken c.args.cells _ _ c.requires.some
     (omega (arith, ends_long _ v, c.requires.within)) c.g.invariant) v)
+
+pub invariant_of-result : goal.invariant_of-result
+invariant_of-result g c =
+    rw (c.in_ok-lows.ensures.items, c.in_ok-highs.ensures.items, c.as_slice.ensures.value, c.as_slice-2.ensures.value)
+    (ends_taken c.args.cells _ _ c.requires.some
+    (omega (arith, ends_long _ (viewed c.args.g.now c.g.invariant c.g.view_is), c.requires.within)) c.g.invariant)
