@@ -103,3 +103,29 @@ returns-clause-above c N =
     (subst₂ (λ s t. s ≤ℚ t) (sym (times_plus (whole (2 ^ 63)) (exponential_sum x n) (exponential_term x n)))
     (sym (whole_plus c.loop-n.high c.loop-n.high_term))
     (plus_le_both _ _ _ _ i.high i.high_term))
+
+-- the numbers that the code makes are within the bound
+product_fits : (t n : ℕ) → t ≤ 2 ^ 63 → n < 2 ^ 62 → t * n < 2 ^ 128
+product_fits t n small few = omega (arith, mul-le-mul_right n small, few)
+
+divisor_fits : (d n : ℕ) → d < 2 ^ 62 → n < 18 → d * (n + 1) < 2 ^ 128
+divisor_fits d n few early =
+    let below : d ≤ 2 ^ 62 = omega (arith, few) in
+    omega (arith, mul-le-mul_right (n + 1) below, early)
+
+pub overflow_mul-divisor : goal.overflow_mul-divisor
+overflow_mul-divisor c = omega (arith, divisor_fits _ _ c.den-den.ensures.fits c.loop-n-test.true)
+
+pub overflow_mul-low_term : goal.overflow_mul-low_term
+overflow_mul-low_term c =
+    let small : c.loop-n.low_term ≤ 2 ^ 63 = omega (arith, c.loop-n.invariant.terms, c.loop-n.invariant.small) in
+    omega (arith, product_fits _ _ small c.num-num.ensures.fits)
+
+pub overflow_mul-high_term : goal.overflow_mul-high_term
+overflow_mul-high_term c = omega (arith, product_fits _ _ c.loop-n.invariant.small c.num-num.ensures.fits)
+
+pub returns-clause-one : goal.returns-clause-one
+returns-clause-one c = c.loop-n.invariant.one
+
+pub returns-clause-order : goal.returns-clause-order
+returns-clause-order c = omega (arith, c.loop-n.invariant.order)
