@@ -84,7 +84,7 @@ loop-n-preserved c =
 pub returns-clause-near : goal.returns-clause-near
 returns-clause-near c =
     let i = c.loop-n.invariant in
-    let e : c.loop-n.n ≡ 18 = omega arith in
+    let e : c.loop-n.n ≡ 18 = omega (arith, c.loop-n.far-n, c.loop-n-test.false) in
     let last : c.loop-n.high_term ≤ 3 =
     fallen (2 ^ 63) c.loop-n.high_term fall_far
     (subst (λ k. c.loop-n.high_term * fall k ≤ 2 ^ 63 + 2 * fall k) e i.falls) (omega (arith, fall_far)) in
@@ -114,7 +114,9 @@ divisor_fits d n few early =
     omega (arith, mul-le-mul_right (n + 1) below, early)
 
 pub overflow_mul-divisor : goal.overflow_mul-divisor
-overflow_mul-divisor c = omega (arith, divisor_fits _ _ c.den-den.ensures.fits c.loop-n-test.true)
+overflow_mul-divisor c =
+    let early : c.loop-n.n < 18 = omega (arith, c.loop-n-test.true) in
+    omega (arith, divisor_fits _ _ c.den-den.ensures.fits early)
 
 pub overflow_mul-low_term : goal.overflow_mul-low_term
 overflow_mul-low_term c =
@@ -129,3 +131,6 @@ returns-clause-one c = c.loop-n.invariant.one
 
 pub returns-clause-order : goal.returns-clause-order
 returns-clause-order c = omega (arith, c.loop-n.invariant.order)
+
+pub nonzero_div-low_term : goal.nonzero_div-low_term
+nonzero_div-low_term c = omega (arith, mul-pos c.den-den.ensures.positive (zero-lt-suc c.loop-n.n))
