@@ -141,7 +141,7 @@ const CONTINUOUS: [(&[u8], u32); 9] = [
 
 /// Whether a text is a program of so many units.
 fn has_units(alloc: Global, source: &[u8], count: usize) -> bool {
-    match program_of(alloc, source) {
+    match &program_of(alloc, source) {
         Some(Ok(program)) => program.units.as_slice().len() == count,
         _ => false,
     }
@@ -149,8 +149,8 @@ fn has_units(alloc: Global, source: &[u8], count: usize) -> bool {
 
 /// Whether a text is refused so.
 fn is_refused(alloc: Global, source: &[u8], want: ParseFault) -> bool {
-    match program_of(alloc, source) {
-        Some(Err(fault)) => fault == want,
+    match &program_of(alloc, source) {
+        Some(Err(fault)) => *fault == want,
         _ => false,
     }
 }

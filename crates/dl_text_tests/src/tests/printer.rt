@@ -2,7 +2,7 @@
 
 use crate::tests::helpers::program_of;
 use dl_printer::print;
-use std::alloc::Global;
+use std::alloc::{AllocError, Global};
 
 /// A text, and the canonical text of its program.
 const CASES: [(&[u8], &[u8]); 9] = [
@@ -44,14 +44,19 @@ const CASES: [(&[u8], &[u8]); 9] = [
     ),
 ];
 
-/// Whether a text is a program whose canonical text is this one.
-fn is_printed(alloc: Global, source: &[u8], wanted: &[u8]) -> bool {
-    let Some(Ok(program)) = program_of(alloc, source) else {
-        return false;
-    };
-    match print(alloc, &program) {
+/// Whether a text was printed and is this one.
+fn is(printed: Result<Vec<u8>, AllocError>, wanted: &[u8]) -> bool {
+    match printed {
         Ok(text) => text.as_slice() == wanted,
         Err(_) => false,
+    }
+}
+
+/// Whether a text is a program whose canonical text is this one.
+fn is_printed(alloc: Global, source: &[u8], wanted: &[u8]) -> bool {
+    match &program_of(alloc, source) {
+        Some(Ok(program)) => is(print(alloc, program), wanted),
+        _ => false,
     }
 }
 

@@ -3,7 +3,6 @@
 use dl_plan::{Ask, Form, Format, Settings};
 use dl_words::{UsageFault, WordsFault, read_words};
 use std::alloc::{AllocError, Global};
-use std::test::Fail;
 
 /// Words that do not fit the command.
 const MISFITS: [&str; 63] = [
@@ -254,49 +253,55 @@ fn misfits(rt: HostRuntime) {
     assert!(rt; is_line_fault(&read_words(rt.alloc(), &[])));
 }
 
+/// What the words say that are a text between two others.
+fn read_between(
+    alloc: Global,
+    before: &str,
+    text: &str,
+    behind: &str,
+) -> Result<Settings, WordsFault> {
+    let line = format!(in alloc; "{before}{text}{behind}")?;
+    read(alloc, line.as_str())
+}
+
 /// Whether the text is read as this ask.
-fn is_asked(alloc: Global, case: &(&str, u32, u64, u64)) -> Result<bool, Fail> {
+fn is_asked(alloc: Global, case: &(&str, u32, u64, u64)) -> bool {
     let &(text, kind, first, second) = case;
-    let line = format!(in alloc; "run {text}")?;
-    match read(alloc, line.as_str()) {
-        Ok(settings) => Ok(is_first(&settings, text, (kind, first, second))),
-        Err(_) => Ok(false),
+    match &read_between(alloc, "run ", text, "") {
+        Ok(settings) => is_first(settings, text, (kind, first, second)),
+        Err(_) => false,
     }
 }
 
 /// Whether the text is refused as an ask.
-fn is_no_ask(alloc: Global, text: &str) -> Result<bool, Fail> {
-    let line = format!(in alloc; "run mean {text} pmf")?;
-    let read = read(alloc, line.as_str());
-    Ok(matches!(read, Err(WordsFault::Usage(UsageFault::Ask(1)))))
+fn is_no_ask(alloc: Global, text: &str) -> bool {
+    let read = read_between(alloc, "run mean ", text, " pmf");
+    matches!(&read, Err(WordsFault::Usage(UsageFault::Ask(1))))
 }
 
 #[test]
-fn asks(rt: HostRuntime) -> Result<(), Fail> {
+fn asks(rt: HostRuntime) {
     for case in &ASKS {
-        assert!(rt; is_asked(rt.alloc(), case)?, "{}", case.0);
+        assert!(rt; is_asked(rt.alloc(), case), "{}", case.0);
     }
-    Ok(())
 }
 
 #[test]
-fn no_asks(rt: HostRuntime) -> Result<(), Fail> {
+fn no_asks(rt: HostRuntime) {
     for text in &NO_ASKS {
-        assert!(rt; is_no_ask(rt.alloc(), text)?, "{text}");
+        assert!(rt; is_no_ask(rt.alloc(), text), "{text}");
     }
-    Ok(())
 }
 
 /// What the words say that ask so often for the mean.
 fn means(alloc: Global, count: usize) -> Result<Settings, WordsFault> {
     let asks = " mean".repeat(alloc, count)?;
-    let line = format!(in alloc; "run{asks}")?;
-    read(alloc, line.as_str())
+    read_between(alloc, "run", asks.as_str(), "")
 }
 
 /// Whether so many asks for the mean are read.
 fn are_read(alloc: Global, count: usize) -> bool {
-    match means(alloc, count) {
+    match &means(alloc, count) {
         Ok(settings) => settings.asks.as_slice().len() == count,
         Err(_) => false,
     }
