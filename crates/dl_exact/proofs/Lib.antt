@@ -5,6 +5,8 @@ pub mod Over
 pub mod Laws
 pub mod RoundingLaws
 pub mod Parts
+pub mod Orders
+pub mod BelowOne
 pub mod Denominators
 pub mod Lesser
 pub mod Powers

@@ -3,9 +3,10 @@ use Rattle.dl_exp.proofs.Common.{◌≡◌, ℕ, suc, zero, ◌+◌, ◌*◌, �
 use Rattle.dl_exact.specs.Fraction.{◌+ℚ◌, ◌/ℚ◌}
 use Rattle.dl_exact.specs.Power.{◌^ℚ◌, factorial}
 use Rattle.dl_exact.proofs.Over.{over_self, le_over}
-use Rattle.dl_exact.proofs.Laws.{one_pos, plus_times, times_comm, times_le_times, times_cancel, div_times}
+use Rattle.dl_exact.proofs.Laws.{one_pos, plus_times, times_assoc, times_comm, times_le_times, times_cancel, div_times}
 use Rattle.dl_exact.proofs.Sums.{halving_bound}
 use Rattle.dl_exact.proofs.Powers.{factorial_pos}
+use Rattle.dl_exact.proofs.Orders.{times_inward, times_outward}
 
 pub term_zero : (x : Fraction) → exponential_term x zero ≡ whole 1
 unfolding exponential_term factorial ◌^ℚ◌
@@ -18,14 +19,11 @@ term_next x n =
     let F = whole (factorial n) in
     let positive : whole 0 <ℚ F = whole_pos (factorial n) (factorial_pos n) in
     times_cancel _ _ F positive
-    (turn (x ^ℚ suc n /ℚ whole (factorial (suc n))) (whole (suc n)) F
+    (times_assoc (x ^ℚ suc n /ℚ whole (factorial (suc n))) (whole (suc n)) F
     ∙ ap (λ t. x ^ℚ suc n /ℚ whole (factorial (suc n)) *ℚ t) (sym (whole_times (suc n) (factorial n)))
     ∙ div_times (x ^ℚ suc n) (whole (factorial (suc n))) (whole_pos (factorial (suc n)) (factorial_pos (suc n)))
     ∙ ap (λ t. x *ℚ t) (sym (div_times (x ^ℚ n) F positive))
-    ∙ sym (turn x (x ^ℚ n /ℚ F) F))
-  where
-    turn : (a b c : Fraction) → a *ℚ b *ℚ c ≡ a *ℚ (b *ℚ c)
-    turn a b c = simp ring
+    ∙ sym (times_assoc x (x ^ℚ n /ℚ F) F))
 
 -- ---- what follows a term
 
@@ -66,16 +64,10 @@ module _ (x : Fraction) where
       let p = exponential_term x n in
       let q = exponential_term x (suc n) in
       ap (λ t. C *ℚ q *ℚ t) (whole_times x.den (suc n))
-      ∙ turn C q (whole x.den) (whole (suc n))
+      ∙ times_inward C q (whole x.den) (whole (suc n))
       ∙ ap (λ t. C *ℚ t *ℚ whole x.den) (term_next x n)
-      ∙ back C x p (whole x.den)
+      ∙ times_outward C x p (whole x.den)
       ∙ ap (λ t. C *ℚ p *ℚ t) times_den
-    where
-      turn : (C p d s : Fraction) → C *ℚ p *ℚ (d *ℚ s) ≡ C *ℚ (p *ℚ s) *ℚ d
-      turn C p d s = simp ring
-
-      back : (C v p d : Fraction) → C *ℚ (v *ℚ p) *ℚ d ≡ C *ℚ p *ℚ (v *ℚ d)
-      back C v p d = simp ring
 
   step_pos : (n : ℕ) → whole 0 <ℚ whole (x.den * suc n)
   step_pos n = whole_pos (x.den * suc n) (mul-pos x.positive (zero-lt-suc n))

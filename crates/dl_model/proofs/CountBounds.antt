@@ -1,5 +1,5 @@
 -- The counts that can be declared: finite counts, trials, Poisson and gamma counts.
-use Rattle.dl_model.proofs.Common.{zero-lt-suc, ◌≡◌, ℕ, List, suc, zero, ◌+◌, ◌*◌, ◌<◌, ◌≤◌, arith, sym, ap, ap₂, subst, ◌∙◌, Fraction, ◌+ℚ◌, ◌*ℚ◌, ◌/ℚ◌, ◌≤ℚ◌, ◌<ℚ◌, whole, ◌^ℚ◌, sum_to, plus_comm, div_pos, one_pos, ring, times_assoc, zero_times, zero_plus, times_one, whole_pos, le_refl, zero_le, le_plus, div_times, times_zero, times_le_both, sum_to_same, sum_to_first, sum_to_times, IsBound, power, IsSeverity, Item, weight_sum, greatest, probability_at, fixed, binomial, poisson, gamma, gamma_of, AreCountWeights}
+use Rattle.dl_model.proofs.Common.{zero-lt-suc, ◌≡◌, ℕ, List, suc, zero, ◌+◌, ◌*◌, ◌<◌, ◌≤◌, arith, sym, ap, ap₂, subst, ◌∙◌, Fraction, ◌+ℚ◌, ◌*ℚ◌, ◌/ℚ◌, ◌≤ℚ◌, ◌<ℚ◌, whole, ◌^ℚ◌, sum_to, plus_comm, div_pos, one_pos, times_assoc, times_left_comm, zero_times, zero_plus, times_one, whole_pos, le_refl, zero_le, le_plus, div_times, times_zero, times_le_both, sum_to_same, sum_to_first, sum_to_times, IsBound, power, IsSeverity, Item, weight_sum, greatest, probability_at, fixed, binomial, poisson, gamma, gamma_of, AreCountWeights}
 use Rattle.dl_model.proofs.FiniteCounts.{bounded_by_all, fixed_sum}
 use Rattle.dl_model.proofs.CompoundLaws.{power_severity}
 use Rattle.dl_model.proofs.ListedLaws.{listed_severity}
@@ -80,16 +80,13 @@ module _ (x d : Fraction) (one : x +ℚ d ≡ whole 1) (pos : whole 0 <ℚ d) wh
     bounded = gamma_bound s;
     mean_bound = _;
     mean_bounded = mean_next (gamma (suc s) x) (gamma (suc (suc s)) x) (x *ℚ whole (suc s))
-        (λ n. gamma_next s x n ∙ turn (whole (suc s + n)) x (gamma (suc s) x n)
+        (λ n. gamma_next s x n ∙ times_left_comm (whole (suc s + n)) x (gamma (suc s) x n)
         ∙ ap (λ t. x *ℚ t) (sym (gamma_shift s x n)) ∙ sym (times_assoc _ _ _))
         _ (gamma_bound (suc s));
     level = zero;
     positive = subst (λ t. whole 0 <ℚ t) (sym (gamma_zero s x)) (whole_pos 1 one_pos);
     settles = gamma_settles x d one pos s;
   }
-    where
-      turn : (a b c : Fraction) → a *ℚ (b *ℚ c) ≡ b *ℚ (a *ℚ c)
-      turn a b c = simp ring
 
 pub gamma_of_count : (q : ℕ) (v : Fraction) → AreCountWeights (gamma_of (suc q) v)
 gamma_of_count q v =

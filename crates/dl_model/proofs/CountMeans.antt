@@ -12,6 +12,7 @@ use Rattle.dl_model.proofs.FiniteCounts.{holds_reached, bounded_by_all, fixed_su
 use Rattle.dl_model.proofs.PoissonWeights.{next_of}
 use Rattle.dl_model.proofs.GammaThin.{div_plus}
 use Rattle.dl_model.proofs.Gamma.{gamma_next}
+use Rattle.dl_exact.proofs.Orders.{plus_swap, times_right_comm, times_second}
 
 -- each number times its weight, summed
 abbrev counted : (ℕ → Fraction) → Series
@@ -82,22 +83,17 @@ module _ (M R : Series) (x d v : Fraction) (one : x +ℚ d ≡ whole 1) (dp : wh
   lower : (N : ℕ) (u g : Fraction) → whole 0 <ℚ x → u +ℚ g ≡ v *ℚ R N → (w : Fraction) → IsBound M w → w ≤ℚ u → (m : ℕ)
       → M m +ℚ d *ℚ g /ℚ x ≤ℚ w
   lower N u g xp e w b wu m =
-      let parts : v *ℚ d *ℚ R N ≡ d *ℚ u +ℚ d *ℚ g = turn v d (R N) ∙ ap (λ t. d *ℚ t) (sym e) ∙ times_plus d u g in
+      let parts : v *ℚ d *ℚ R N ≡ d *ℚ u +ℚ d *ℚ g = times_second v d (R N) ∙ ap (λ t. d *ℚ t) (sym e)
+      ∙ times_plus d u g in
       let a : x *ℚ M m +ℚ (d *ℚ w +ℚ d *ℚ g) ≤ℚ w =
       le_trans _ _ _ (plus_le_both _ _ _ _ (le_refl (x *ℚ M m))
       (plus_le_both _ _ _ _ (times_le_both d d _ _ (le_refl d) wu) (le_refl (d *ℚ g))))
       (subst (λ t. x *ℚ M m +ℚ t ≤ℚ w) parts (room N w b m)) in
       let c : x *ℚ M m +ℚ d *ℚ g ≤ℚ x *ℚ w = plus_le_cancel _ _ (d *ℚ w)
-      (subst₂ (λ s t. s ≤ℚ t) (regroup (x *ℚ M m) (d *ℚ w) (d *ℚ g)) (sym (all w)) a) in
+      (subst₂ (λ s t. s ≤ℚ t) (plus_swap (x *ℚ M m) (d *ℚ w) (d *ℚ g)) (sym (all w)) a) in
       times_le_cancel _ _ x xp
       (subst₂ (λ s t. s ≤ℚ t) (sym (plus_times (M m) (d *ℚ g /ℚ x) x
       ∙ ap₂ (λ s t. s +ℚ t) (times_comm (M m) x) (div_times (d *ℚ g) x xp))) (times_comm x w) c)
-    where
-      turn : (a b c : Fraction) → a *ℚ b *ℚ c ≡ b *ℚ (a *ℚ c)
-      turn a b c = simp ring
-
-      regroup : (a b c : Fraction) → a +ℚ (b +ℚ c) ≡ a +ℚ c +ℚ b
-      regroup a b c = simp ring
 
   descend : (N : ℕ) (u g : Fraction) → whole 0 <ℚ x → whole 0 <ℚ g → u +ℚ g ≡ v *ℚ R N → IsBound M u → ⊥
   descend N u g xp gp e bound =
@@ -146,7 +142,7 @@ gamma_mean q v =
     let d = r /ℚ W in
     let one : x +ℚ d ≡ whole 1 = div_plus v r W Wp (plus_comm v r) in
     let swap : x *ℚ r ≡ v *ℚ d = times_cancel _ _ W Wp
-    (turn x r W ∙ ap (λ t. t *ℚ r) (div_times v W Wp)
+    (times_right_comm x r W ∙ ap (λ t. t *ℚ r) (div_times v W Wp)
     ∙ sym (times_assoc v d W ∙ ap (λ t. v *ℚ t) (div_times r W Wp))) in
     let each : (n : ℕ) → whole (suc n) *ℚ w (suc n) ≡ x *ℚ (whole n *ℚ w n) +ℚ v *ℚ d *ℚ w n =
     λ n. gamma_next q x n ∙ ap (λ t. t *ℚ (x *ℚ w n)) (whole_plus (suc q) n) ∙ split r (whole n) x (w n)
@@ -158,9 +154,6 @@ gamma_mean q v =
     stepped_value (counted w) (λ N. sum_to N w) x d v one (div_pos r W (whole_pos (suc q) (zero-lt-suc q)) Wp)
     (sum_rises_to (λ n. whole n *ℚ w n)) (sum_rises_to w) (counted_none w) next
   where
-    turn : (a b c : Fraction) → a *ℚ b *ℚ c ≡ a *ℚ c *ℚ b
-    turn a b c = simp ring
-
     split : (r n x w : Fraction) → (r +ℚ n) *ℚ (x *ℚ w) ≡ x *ℚ (n *ℚ w) +ℚ x *ℚ r *ℚ w
     split r n x w = simp ring
 

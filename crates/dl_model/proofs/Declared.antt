@@ -1,6 +1,7 @@
 -- The laws of declared values.
 use Rattle.dl_model.proofs.Common.{◌≡◌, inl, inr, ℕ, zero, ◌≤◌, max, sym, ap, subst, subst₂, ◌∙◌, le-max_left, le-max_right, le_ind, Fraction, ◌+ℚ◌, ◌-ℚ◌, ◌*ℚ◌, ◌/ℚ◌, ◌≤ℚ◌, ◌<ℚ◌, whole, Series, IsBound, AtMost, AtLeast, Holds, Rises, plus, times, ring, plus_comm, times_comm, times_assoc, times_zero, zero_times, le_refl, le_trans, zero_le, plus_le_both, le_plus, times_le_times, plus_times, div_times, zero_or_pos, le_div, le_sub, one_times, times_cancel, times_le_cancel, times_le_both}
 use Rattle.dl_exact.proofs.Laws.{plus_le_from_sub}
+use Rattle.dl_exact.proofs.Orders.{times_right_comm}
 
 -- ---- a rising series
 
@@ -114,9 +115,6 @@ pub quotient : (Q R O : Series) (l h l' h' : Fraction) → whole 0 <ℚ l' → w
     → Holds R O l' h' → Holds Q R (l /ℚ h') (h /ℚ l')
 quotient Q R O l h l' h' lp hp a b = (low, high)
   where
-    turn : (a b c : Fraction) → a *ℚ b *ℚ c ≡ a *ℚ c *ℚ b
-    turn a b c = simp ring
-
     move : (a b c : Fraction) → a *ℚ (b *ℚ c) ≡ c *ℚ a *ℚ b
     move a b c = simp ring
 
@@ -127,7 +125,7 @@ quotient Q R O l h l' h' lp hp a b = (low, high)
         (subst (λ t. t ≤ℚ u) (times_comm l' (O m)) (b.0 m u bound)) in
         subst (λ t. Q n ≤ℚ t) (times_cancel _ _ l' lp
         (times_assoc _ _ _ ∙ ap (λ t. h *ℚ t) (div_times u l' lp)
-        ∙ sym (turn (h /ℚ l') u l' ∙ ap (λ t. t *ℚ u) (div_times h l' lp)))) (a.1 n (u /ℚ l') o)
+        ∙ sym (times_right_comm (h /ℚ l') u l' ∙ ap (λ t. t *ℚ u) (div_times h l' lp)))) (a.1 n (u /ℚ l') o)
 
     low : AtLeast Q R (l /ℚ h')
     low n u bound =
@@ -140,4 +138,4 @@ quotient Q R O l h l' h' lp hp a b = (low, high)
               (times_le_both l l _ _ (le_refl l) (b.1 n (u /ℚ l) o))
         ] in
         times_le_cancel _ _ h' hp (subst (λ t. t ≤ℚ u *ℚ h')
-        (sym (turn (l /ℚ h') (R n) h' ∙ ap (λ t. t *ℚ R n) (div_times l h' hp))) goal)
+        (sym (times_right_comm (l /ℚ h') (R n) h' ∙ ap (λ t. t *ℚ R n) (div_times l h' hp))) goal)

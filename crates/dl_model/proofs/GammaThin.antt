@@ -1,6 +1,7 @@
 -- Claims of amount 0 left out of a gamma count.
 use Rattle.dl_model.proofs.Common.{◌≡◌, inl, inr, ℕ, suc, zero, ◌+◌, ◌<◌, arith, sym, ap, ap₂, subst, ◌∙◌, zero-lt-suc, cases_lt, fun_ext, Fraction, ◌+ℚ◌, ◌*ℚ◌, ◌/ℚ◌, ◌≤ℚ◌, ◌<ℚ◌, whole, sum_to, sum_pairs, Series, IsLeastBound, SameValue, power, cell, gamma, gamma_of, choose, ◌^ℚ◌, IsPositivePart, compound, times_itself, ring, plus_comm, times_comm, times_assoc, times_left_comm, plus_zero, times_zero, plus_times, times_plus, one_times, times_one, whole_pos, times_cancel, le_trans, le_of_eq, le_plus, times_pos, lt_of_lt_of_le, plus_cancel, div_times, div_pos, sum_to_same, sum_to_times, sum_to_times_right, sum_to_grows, sum_pairs_turn, pow_plus}
 use Rattle.dl_exact.proofs.Powers.{pow_times, pow_pos}
+use Rattle.dl_exact.proofs.Orders.{times_right_comm, times_second}
 use Rattle.dl_model.proofs.FamilyLaws.{sum_rises_to}
 use Rattle.dl_model.proofs.Cauchy.{triangle_le_square, square_le_triangle}
 use Rattle.dl_model.proofs.CompoundLaws.{no_power}
@@ -54,13 +55,10 @@ module _ (f : ℕ → Fraction) (p : Fraction) (g : ℕ → Fraction) (h : IsPos
       let k : suc q + j ≡ suc (q + j) = omega arith in
       sym (times_assoc _ _ _)
       ∙ ap₂ (λ a m. a *ℚ gamma (suc m) z i) (gamma_next q (x *ℚ p) j ∙ ap (λ m. whole m *ℚ (x *ℚ p *ℚ A j)) k) d
-      ∙ gather (whole (suc (q + j))) (x *ℚ p *ℚ A j) (gamma (suc (suc (q + j))) z i)
+      ∙ times_second (whole (suc (q + j))) (x *ℚ p *ℚ A j) (gamma (suc (suc (q + j))) z i)
       ∙ ap (λ s. x *ℚ p *ℚ A j *ℚ s) (gamma_shift (q + j) z i ∙ ap (λ m. whole m *ℚ gamma (suc (q + j)) z i) e)
       ∙ move x p (A j) (whole (suc q + (i + j))) (gamma (suc (q + j)) z i)
     where
-      gather : (a b c : Fraction) → a *ℚ b *ℚ c ≡ b *ℚ (a *ℚ c)
-      gather a b c = simp ring
-
       move : (a b c d e : Fraction) → a *ℚ b *ℚ c *ℚ (d *ℚ e) ≡ d *ℚ a *ℚ (b *ℚ (c *ℚ e))
       move a b c d e = simp ring
 
@@ -106,12 +104,9 @@ module _ (f : ℕ → Fraction) (p : Fraction) (g : ℕ → Fraction) (h : IsPos
         let G = gamma (suc (q + j)) (x *ℚ f zero) in
         subst (λ Q. IsLeastBound Q (term y j *ℚ L ^ℚ suc (q + j)))
         (fun_ext (λ N. sym (sum_to_times N (term y j) G)
-        ∙ sum_to_same N _ _ (λ i b. turn (gamma (suc q) (x *ℚ p) j) (power g j y) (G i))))
+        ∙ sum_to_same N _ _ (λ i b. times_right_comm (gamma (suc q) (x *ℚ p) j) (power g j y) (G i))))
         (least_scaled (term y j) (λ N. sum_to N G) (L ^ℚ suc (q + j)) (sum_rises_to G)
         (gamma_least (x *ℚ f zero) c rest L cp inverse (q + j)))
-      where
-        turn : (a b c : Fraction) → a *ℚ b *ℚ c ≡ a *ℚ c *ℚ b
-        turn a b c = simp ring
 
     to_part : x *ℚ p *ℚ L ≡ x'
     to_part =

@@ -1,5 +1,5 @@
 -- Means: of a compound sum, of a total, and of the counts.
-use Rattle.dl_model.proofs.Common.{◌≡◌, ℕ, suc, zero, ◌+◌, ◌*◌, ◌<◌, ◌≤◌, arith, sym, ap, ap₂, subst, subst₂, ◌∙◌, mul-le-mul_right, List, [], ◌∷◌, fun_ext, Fraction, ◌+ℚ◌, ◌*ℚ◌, ◌≤ℚ◌, whole, sum_to, ring, times_left_comm, times_zero, zero_times, times_one, one_times, plus_zero, le_trans, le_antisymm, sum_to_same, sum_to_times, sum_to_swap, sum_to_grows, sum_to_product, sum_to_longer, sum_to_zero, Series, Rises, Holds, plus, times, convolve, at_zero, power, cell, IsSeverity, Aggregate, IsDeclarable, AreDeclarable, One, Mean, score, outcome, sum_over_outcomes, partial_sums}
+use Rattle.dl_model.proofs.Common.{◌≡◌, ℕ, suc, zero, ◌+◌, ◌*◌, ◌<◌, ◌≤◌, arith, sym, ap, ap₂, subst, subst₂, ◌∙◌, mul-le-mul_right, List, [], ◌∷◌, fun_ext, Fraction, ◌+ℚ◌, ◌*ℚ◌, ◌≤ℚ◌, whole, sum_to, times_left_comm, times_zero, zero_times, times_one, one_times, plus_zero, le_trans, le_antisymm, sum_to_same, sum_to_times, sum_to_swap, sum_to_grows, sum_to_product, sum_to_longer, sum_to_zero, Series, Rises, Holds, plus, times, convolve, at_zero, power, cell, IsSeverity, Aggregate, IsDeclarable, AreDeclarable, One, Mean, score, outcome, sum_over_outcomes, partial_sums}
 use Rattle.std.proofs.Math.Nat.{le_refl as le_refl_n}
 use Rattle.dl_model.proofs.Declared.{self_holds, at_least_plus, at_most_plus, at_least_times, at_most_times, scaled}
 use Rattle.dl_model.proofs.Cauchy.{cauchy_low, square_le_triangle}
@@ -8,6 +8,7 @@ use Rattle.dl_model.proofs.CompoundLaws.{power_severity}
 use Rattle.dl_model.proofs.FamilyLaws.{sum_rises_to, rises_times}
 use Rattle.dl_model.proofs.UnitLaws.{unit_plain}
 use Rattle.dl_model.proofs.Outcomes.{outcomes_rise, total_more_all, mean_more}
+use Rattle.dl_exact.proofs.Orders.{times_reverse}
 
 -- a sum over all i + j up to a level that both stay below
 pub sum_convolve : (f g : ℕ → Fraction) (m n k : ℕ) → ((i : ℕ) → m < i → f i ≡ whole 0)
@@ -50,11 +51,8 @@ module _ (f : ℕ → Fraction) (m : ℕ) (h : IsSeverity f m) where
       ∙ sum_to_same N _ _ (λ n e.
       let few : n * m ≤ N * m = mul-le-mul_right m e in
       sum_to_times k (w n) (λ s. whole s *ℚ power f n s) ∙ ap (λ t. w n *ℚ t) (power_mean n k (omega arith))
-      ∙ turn (w n) (whole n) severity_mean)
+      ∙ times_reverse (w n) (whole n) severity_mean)
       ∙ sum_to_times N severity_mean (λ n. whole n *ℚ w n)
-    where
-      turn : (a b c : Fraction) → a *ℚ (b *ℚ c) ≡ c *ℚ (b *ℚ a)
-      turn a b c = simp ring
 
 -- ---- of units
 

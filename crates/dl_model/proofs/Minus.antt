@@ -2,6 +2,7 @@
 use Rattle.dl_model.proofs.Common.{◌≡◌, inl, inr, ℕ, zero, max, sym, ap, subst, subst₂, ◌∙◌, le-max_left, le-max_right, Fraction, ◌+ℚ◌, ◌-ℚ◌, ◌*ℚ◌, ◌/ℚ◌, ◌≤ℚ◌, ◌<ℚ◌, whole, Series, IsBound, AtMost, AtLeast, Rises, plus, ring, plus_comm, times_comm, plus_zero, zero_times, le_refl, le_trans, le_of_eq, lt_or_le, lt_not_le, plus_le_both, le_plus, plus_times, lt_gap, plus_le_cancel, times_le_cancel, zero_or_pos, le_sub, sub_plus, div_times, div_pos, times_le_both}
 use Rattle.dl_model.proofs.Declared.{at_least_shifted, crossed_plus, rises_to}
 use Rattle.dl_model.proofs.Complements.{no_descent}
+use Rattle.dl_exact.proofs.Orders.{plus_swap}
 
 divided : (x v g k : Fraction) → whole 0 <ℚ k → k *ℚ x +ℚ g ≤ℚ k *ℚ v → x +ℚ g /ℚ k ≤ℚ v
 divided x v g k kp h = times_le_cancel _ _ k kp (subst₂ (λ s t. s ≤ℚ t)
@@ -55,11 +56,8 @@ most_step x h l u v g q vu e a =
     let b : l *ℚ x +ℚ q ≤ℚ h *ℚ u +ℚ l *ℚ v =
     le_trans _ _ _ (subst (λ t. l *ℚ x +ℚ q ≤ℚ t) (plus_times h l v) a)
     (plus_le_both _ _ _ _ (times_le_both h h _ _ (le_refl h) vu) (le_refl _)) in
-    plus_le_cancel _ _ (h *ℚ u) (subst₂ (λ s t. s ≤ℚ t) (ap (λ t. l *ℚ x +ℚ t) (sym e) ∙ turn (l *ℚ x) (h *ℚ u) g)
+    plus_le_cancel _ _ (h *ℚ u) (subst₂ (λ s t. s ≤ℚ t) (ap (λ t. l *ℚ x +ℚ t) (sym e) ∙ plus_swap (l *ℚ x) (h *ℚ u) g)
     (plus_comm _ _) b)
-  where
-    turn : (a b c : Fraction) → a +ℚ (b +ℚ c) ≡ a +ℚ c +ℚ b
-    turn a b c = simp ring
 
 pub at_most_minus : (Q Q' R : Series) (h l : Fraction) → Rises Q → Rises Q' → AtMost (plus Q Q') R (h +ℚ l)
     → AtLeast Q' R l → AtMost Q R h

@@ -5,6 +5,7 @@ use Rattle.dl_model.proofs.FamilyLaws.{sum_rises_to}
 use Rattle.dl_model.proofs.Cauchy.{cauchy_low, cauchy_high}
 use Rattle.dl_model.proofs.Alike.{IsUnder}
 use Rattle.dl_model.proofs.Gamma.{gamma_zero, geometric_next, geometric_low, gamma_one_more}
+use Rattle.dl_exact.proofs.Orders.{times_reverse, times_swap}
 
 -- half of a fraction
 half_of : (q : Fraction) → q /ℚ whole 2 +ℚ q /ℚ whole 2 ≡ q
@@ -94,7 +95,7 @@ module _ (x d : Fraction) (one : x +ℚ d ≡ whole 1) (dp : whole 0 <ℚ d) whe
       let k = whole (suc K) in
       let small : gamma 1 x K ≤ℚ q =
       times_le_cancel _ _ (k *ℚ d) (times_pos k d (whole_pos (suc K) (zero-lt-suc K)) dp)
-      (le_trans _ _ _ (subst₂ (λ s t. s ≤ℚ t) (turn d k (gamma 1 x K)) refl
+      (le_trans _ _ _ (subst₂ (λ s t. s ≤ℚ t) (times_reverse d k (gamma 1 x K)) refl
       (times_le_both d d _ _ (le_refl d) (many K)))
       (le_trans _ _ _ (geometric_low x d one K) (le_trans _ _ _ (le_of_lt _ _ a.1)
       (subst₂ (λ s t. s ≤ℚ t) refl (turn' k d q)
@@ -105,18 +106,12 @@ module _ (x d : Fraction) (one : x +ℚ d ≡ whole 1) (dp : whole 0 <ℚ d) whe
       (subst (λ t. t ≤ℚ d *ℚ S K +ℚ q) (identity K ∙ sym e) (plus_le_both _ _ _ _ (le_refl (d *ℚ S K)) next)) in (
         K,
         λ n. times_le_cancel _ _ d dp
-            (subst₂ (λ s t. s ≤ℚ t) (back p d (S n)) (times_one _ ∙ times_comm d (S K))
+            (subst₂ (λ s t. s ≤ℚ t) (times_swap p d (S n)) (times_one _ ∙ times_comm d (S K))
             (times_le_both _ _ _ _ p_le (geometric_low x d one n))),
       )
     where
-      turn : (a b c : Fraction) → a *ℚ (b *ℚ c) ≡ c *ℚ (b *ℚ a)
-      turn a b c = simp ring
-
       turn' : (a b c : Fraction) → a *ℚ (b *ℚ c) ≡ c *ℚ (a *ℚ b)
       turn' a b c = simp ring
-
-      back : (a b c : Fraction) → a *ℚ (b *ℚ c) ≡ a *ℚ c *ℚ b
-      back a b c = simp ring
 
   pub gamma_settles : (s : ℕ) → Settles (λ N. sum_to N (gamma (suc s) x))
   unfolding S

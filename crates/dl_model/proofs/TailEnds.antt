@@ -1,6 +1,7 @@
 -- The tail mean from the excess at the low end of the bracket.
 use Rattle.dl_model.proofs.Common.{◌≡◌, inl, inr, ℕ, ◌+◌, ◌-◌, ◌<◌, ◌≤◌, min, arith, sym, ap, subst, subst₂, ◌∙◌, List, sum, Some, None, fun_ext, Fraction, whole, ◌+ℚ◌, ◌-ℚ◌, ◌*ℚ◌, ◌/ℚ◌, ◌≤ℚ◌, ◌<ℚ◌, ring, times_one, one_times, plus_comm, plus_assoc, zero_plus, whole_plus, le_refl, le_trans, le_of_lt, lt_or_le, lt_not_le, plus_le_cancel, plus_le_both, le_plus, sub_plus, plus_cancel, div_times, times_plus, times_le_both, whole_le, Series, IsBound, Rises, AtMost, AtLeast, Holds, plus, Aggregate, AreDeclarable, One, Cdf, Layer, Tail, score, partial_sums, above, survival, IsQuantile}
 use Rattle.dl_exact.proofs.Sums.{sum_below_constant}
+use Rattle.dl_exact.proofs.Orders.{plus_swap, times_swap}
 use Rattle.dl_model.proofs.Declared.{self_holds, at_most_plus, at_least_plus, at_most_wider, at_least_wider, scaled}
 use Rattle.dl_model.proofs.Complements.{at_least_rest, at_most_rest}
 use Rattle.dl_model.proofs.Minus.{at_least_minus, at_most_minus}
@@ -29,15 +30,12 @@ above_most : (us : List Aggregate) (x : ℕ) (p r s : Fraction) → AreDeclarabl
 above_most us x p r s w e a = elim (lt_or_le p s) [
   | inr l ↦ at_most_rest (partial_sums us (Cdf x)) (survival us x) (partial_sums us One) (p -ℚ s) (r +ℚ s)
       (outcomes_rise us w (score (Cdf x))) (outcomes_rise us w (above x)) (λ n. plus_comm _ _ ∙ survival_rest us x n)
-      (turn (p -ℚ s) r s ∙ ap (λ t. t +ℚ r) (sub_plus p s l) ∙ e) a
+      (plus_swap (p -ℚ s) r s ∙ ap (λ t. t +ℚ r) (sub_plus p s l) ∙ e) a
   | inl l ↦ at_most_wider (survival us x) (partial_sums us One) (whole 1) (r +ℚ s)
       (λ n u b. subst (λ t. survival us x n ≤ℚ t) (sym (one_times u))
       (le_trans _ _ _ (subst (λ t. survival us x n ≤ℚ t) (survival_rest us x n) (le_plus _ _)) (b n)))
       (subst₂ (λ x y. x ≤ℚ y) e (plus_comm s r) (plus_le_both _ _ _ _ (le_of_lt p s l) (le_refl r)))
 ]
-  where
-    turn : (a b c : Fraction) → a +ℚ (b +ℚ c) ≡ a +ℚ c +ℚ b
-    turn a b c = simp ring
 
 layer_least : (us : List Aggregate) (k a : ℕ) (r : Fraction) → AreDeclarable us
     → ((x : ℕ) → a ≤ x → x < a + k → AtLeast (survival us x) (partial_sums us One) r)
@@ -124,10 +122,7 @@ module _ (us : List Aggregate) (p r s v : Fraction) (a b q : ℕ) (proper : AreD
 
   -- (q - a) times r, over r
   whole_part : whole 1 /ℚ r *ℚ (whole (q - a) *ℚ r) ≡ whole (q - a)
-  whole_part = turn (whole 1 /ℚ r) (whole (q - a)) r ∙ ap (λ t. t *ℚ whole (q - a)) cr ∙ one_times _
-    where
-      turn : (x y z : Fraction) → x *ℚ (y *ℚ z) ≡ x *ℚ z *ℚ y
-      turn x y z = simp ring
+  whole_part = times_swap (whole 1 /ℚ r) (whole (q - a)) r ∙ ap (λ t. t *ℚ whole (q - a)) cr ∙ one_times _
 
   lay : Holds (partial_sums us (Layer (Some (q - a)) a)) (partial_sums us One) (whole (q - a) *ℚ r)
       (whole (q - a) *ℚ (r +ℚ s))

@@ -1,6 +1,7 @@
 -- The tail score by the excess.
-use Rattle.dl_model.proofs.Common.{◌≡◌, ℕ, ◌-◌, sym, ap, subst, ◌∙◌, List, sum, None, Fraction, ◌+ℚ◌, ◌-ℚ◌, ◌*ℚ◌, ◌/ℚ◌, ◌<ℚ◌, whole, times_one, one_times, times_cancel, div_times, sub_plus, plus_cancel, plus_comm, lt_gap, le_of_lt, ring, Aggregate, One, Layer, Tail, score, sum_over_outcomes, partial_sums}
+use Rattle.dl_model.proofs.Common.{◌≡◌, ℕ, ◌-◌, sym, ap, subst, ◌∙◌, List, sum, None, Fraction, ◌+ℚ◌, ◌-ℚ◌, ◌*ℚ◌, ◌/ℚ◌, ◌<ℚ◌, whole, times_one, one_times, times_cancel, div_times, sub_plus, plus_cancel, plus_comm, lt_gap, le_of_lt, Aggregate, One, Layer, Tail, score, sum_over_outcomes, partial_sums}
 use Rattle.dl_model.proofs.Outcomes.{outcomes_same, outcomes_plus, outcomes_times}
+use Rattle.dl_exact.proofs.Orders.{times_right_comm}
 
 pub rest_pos : (p q : Fraction) → p <ℚ q → whole 0 <ℚ q -ℚ p
 rest_pos p q h =
@@ -10,10 +11,8 @@ rest_pos p q h =
 
 pub div_is_times : (x y : Fraction) → whole 0 <ℚ y → x /ℚ y ≡ whole 1 /ℚ y *ℚ x
 div_is_times x y h = times_cancel _ _ y h
-    (div_times x y h ∙ sym (turn (whole 1 /ℚ y) x y ∙ ap (λ t. t *ℚ x) (div_times (whole 1) y h) ∙ one_times x))
-  where
-    turn : (a b c : Fraction) → a *ℚ b *ℚ c ≡ a *ℚ c *ℚ b
-    turn a b c = simp ring
+    (div_times x y h ∙ sym (times_right_comm (whole 1 /ℚ y) x y ∙ ap (λ t. t *ℚ x) (div_times (whole 1) y h)
+    ∙ one_times x))
 
 pub tail_excess : (us : List Aggregate) (p : Fraction) (q N : ℕ) → p <ℚ whole 1
     → partial_sums us (Tail p q) N ≡ whole q *ℚ partial_sums us One N +ℚ whole 1 /ℚ (whole 1 -ℚ p) *ℚ partial_sums us

@@ -1,8 +1,8 @@
 -- Quantiles and their brackets, what is above a sum, one unit beside the others, and what can be
 -- declared and asked.
-use Rattle.std.specs.Prelude.{ℕ, zero, suc, ◌≡◌, ◌<◌, ◌≤◌, nat_lt, Option, Some, List, [], ◌∷◌, sum}
-use Rattle.dl_exact.specs.Fraction.{Fraction, whole, ◌+ℚ◌, ◌-ℚ◌, ◌<ℚ◌}
-use Rattle.dl_model.specs.Series.{Series, AtMost, AtLeast, Below}
+use Rattle.std.specs.Prelude.{ℕ, zero, suc, ◌≡◌, nat_lt, Option, Some, List, [], ◌∷◌, sum}
+use Rattle.dl_exact.specs.Fraction.{Fraction, whole, ◌<ℚ◌}
+use Rattle.dl_model.specs.Series.{Series, AtLeast, Below}
 use Rattle.dl_model.specs.Counts.{AreCountWeights}
 use Rattle.dl_model.specs.Program.{Aggregate, IsDeclarable, Quantity, One, Point, Cdf, Mean, Layer, Tail, Joint, where_true, sum_over_outcomes, partial_sums}
 use Rattle.dl_model.specs.Family.{Family, mapped, nothing}
