@@ -1,8 +1,8 @@
 -- Lists of numbers that a loop fills place by place.
-use Rattle.dl_conv.proofs.Common.{ℕ, ◌≡◌, ◌+◌, ◌<◌, ◌≤◌, List, ◌++◌, length, get_or, take, drop, arith, ap, inl, inr, ◌∙◌, take_all, get_or-set_other}
+use Rattle.dl_conv.proofs.Common.{ℕ, ◌≡◌, ◌+◌, ◌<◌, ◌≤◌, List, ◌++◌, length, get_or, take, drop, arith, ◌∙◌, take_all, get_or-set_other}
 use Rattle.std.proofs.Common.{set}
-use Rattle.std.proofs.lemmas.Bool.Decides.{eqb_tells}
-use Rattle.std.proofs.lemmas.List.{drop_all, append-nil, get_or-set_same}
+use Rattle.std.proofs.lemmas.List.{drop_all, append-nil}
+use Rattle.dl_conv.proofs.Written.{fills_more}
 
 -- the first n items of ys are those of f
 pub record IsFilled (f : ℕ → ℕ) (ys : List ℕ) (n : ℕ) : Type 0 where
@@ -15,12 +15,8 @@ pub record IsMapped (f : ℕ → ℕ) (xs ys : List ℕ) (n : ℕ) : Type 0 wher
 
 pub filled_more : (f : ℕ → ℕ) (ys : List ℕ) (n y : ℕ) → n < length ys → y ≡ f n → IsFilled f ys n
     → IsFilled f (set ys n y) (n + 1)
-filled_more f ys n y inside here before = record {
-  done = λ k h. elim (eqb_tells k n) [
-    | inl e ↦ rw (e.1, get_or-set_same ys n y 0 inside) here
-    | inr e ↦ get_or-set_other ys n k y 0 e.1 ∙ before.done k (omega (arith, h, e.1))
-  ];
-}
+filled_more f ys n y inside here before =
+    record { done = (fills_more (λ k item. item ≡ f k) ys n y inside here (record { done = before.done })).done }
 
 pub mapped_more : (f : ℕ → ℕ) (xs ys : List ℕ) (n y : ℕ) → n < length ys → y ≡ f (get_or xs n 0) → IsMapped f xs ys n
     → IsMapped f xs (set ys n y) (n + 1)
@@ -34,10 +30,3 @@ pub written : (xs new : List ℕ) (n : ℕ) → length new ≡ length xs → n �
     → take n (new ++ drop (length new) xs) ≡ new
 written xs new n same long =
     rw (drop_all (length new) xs (omega (arith, same)), append-nil) (take_all n new (omega (arith, same, long)))
-
--- each item by f, of a list that holds what g tells
-pub made_by : (f g : ℕ → ℕ) (xs given new : List ℕ) (n : ℕ) → given ≡ xs → length xs ≡ n
-    → ((s : ℕ) → s < n → get_or xs s 0 ≡ g s)
-    → ((s : ℕ) → s < length given → get_or new s 0 ≡ f (get_or given s 0)) → (s : ℕ) → s < n → get_or new s 0 ≡ f (g s)
-made_by f g xs given new n e long holds made s inside =
-    made s (rw e (omega (arith, long))) ∙ ap f (ap (λ l. get_or l s 0) e ∙ holds s inside)

@@ -1,5 +1,5 @@
 -- What the three products of halves make, as the code has them: lists of elements that stand for numbers.
-use Rattle.dl_conv.proofs.Common.{ℕ, zero, suc, ◌≡◌, ◌+◌, ◌-◌, ◌*◌, ◌/◌, ◌%◌, ◌^◌, ◌<◌, ◌≤◌, List, [], ◌∷◌, ◌++◌, length, take, drop, map, arith, refl, sym, ap, ap₂, inl, inr, ◌∙◌, get_or-eq_default, mod-eq_of_lt, pow_pos, cases_lt, length-map, length-take, length-drop, take_all, get_or-take, IsSame, pair_sum, IsHalvable}
+use Rattle.dl_conv.proofs.Common.{ℕ, zero, suc, ◌≡◌, ◌+◌, ◌-◌, ◌*◌, ◌/◌, ◌%◌, ◌^◌, ◌<◌, ◌≤◌, List, [], ◌∷◌, ◌++◌, length, take, drop, map, arith, refl, sym, ap, ap₂, inl, inr, ◌∙◌, get_or-eq_default, mod-eq_of_lt, pow_pos, cases_lt, length-map, length-take, length-take-le, length-drop, take_all, get_or-take, IsSame, pair_sum, IsHalvable}
 use Rattle.std.proofs.Common.{◌≢◌}
 use Rattle.std.proofs.Math.Nat.{mod-mod}
 use Rattle.std.proofs.lemmas.List.{take-map, drop-map, map-append, get_or-drop, get_or_append_left, get_or-append-add}
@@ -20,16 +20,29 @@ once n (suc k) e other =
     let twice : n ≡ 2 * (32 * 2 ^ k) = omega (arith, e) in
     record { less = k; one_less = refl; half = omega (arith, twice); even = omega (arith, twice) }
 
-pub half_halvable : (n : ℕ) → IsHalvable n → n ≢ 32 → IsHalvable (n / 2)
-half_halvable n p other =
+-- a length that is halved
+pub record IsTwice (n : ℕ) : Type 0 where
+  pub half : IsHalvable (n / 2)
+  pub even : n ≡ 2 * (n / 2)
+  pub less : n / 2 < n
+
+pub twice : (n : ℕ) → IsHalvable n → n ≢ 32 → IsTwice n
+twice n p other =
     let o = once n p.halvings p.length_is other in
-    record { halvings = o.less; few = omega (arith, p.few, o.one_less); length_is = o.half }
+    record {
+      half = record { halvings = o.less; few = omega (arith, p.few, o.one_less); length_is = o.half };
+      even = o.even;
+      less = omega (arith, p.length_is, pow_pos p.halvings);
+    }
 
-pub half_even : (n : ℕ) → IsHalvable n → n ≢ 32 → n ≡ 2 * (n / 2)
-half_even n p other = (once n p.halvings p.length_is other).even
+-- the two halves of a list
+pub front_half : {X : Type 0} (h : ℕ) (xs : List X) → length xs ≡ 2 * h → length (take h xs) ≡ h
+front_half h xs long = length-take-le h xs (omega arith)
 
-pub half_less : (n : ℕ) → IsHalvable n → n / 2 < n
-half_less n p = let pos = pow_pos p.halvings in omega (arith, p.length_is, pos)
+pub back_half : {X : Type 0} (h : ℕ) (xs : List X) → length xs ≡ 2 * h → length (take (length xs - h) (drop h xs)) ≡ h
+back_half h xs long =
+    let rest = length-drop h xs in
+    omega (arith, length-take-le (length xs - h) (drop h xs) (omega arith))
 
 -- ---- products counted
 

@@ -42,6 +42,16 @@ shift_past zero f k i e = ap f (omega arith)
 shift_past (suc h) f k zero e = absurd (omega arith)
 shift_past (suc h) f k (suc i) e = shift_past h f k i (omega arith)
 
+shift_twice_below : (h : ℕ) (f : ℕ → ℕ) (i : ℕ) → i < 2 * h → shift h (shift h f) i ≡ 0
+shift_twice_below h f i inside = elim (cases_lt i h) [
+  | inl near ↦ shift_below h (shift h f) i near
+  | inr far ↦ shift_past h (shift h f) (i - h) i (omega (arith, far))
+      ∙ shift_below h f (i - h) (omega (arith, inside, far))
+]
+
+shift_twice_past : (h : ℕ) (f : ℕ → ℕ) (k i : ℕ) → i ≡ 2 * h + k → shift h (shift h f) i ≡ f k
+shift_twice_past h f k i e = shift_past h (shift h f) (h + k) i (omega arith) ∙ shift_past h f k (h + k) refl
+
 first_later : (s : ℕ) (f g : ℕ → ℕ) → prod (later f) g s ≡ later (prod f g) s
 unfolding later count_pairs
 first_later zero f g = omega arith
@@ -166,19 +176,14 @@ short_first h s a b inside =
       shift_below h (shift h (pair_sum (drop h a) (drop h b))) s inside,
     )
 
-front_alone : (h t : ℕ) (f : ℕ → ℕ) (xs : List ℕ) → t < h → prod (item (take h xs)) f t ≡ prod (item xs) f t
-front_alone h t f xs inside =
-    sym (below_pairs t (λ i j. item (take h xs) i * f j))
-    ∙ below_same (suc t) (λ i. item (take h xs) i * f (t - i)) (λ i. item xs i * f (t - i))
-    (λ i b. ap (λ u. u * f (t - i)) (get_or-take h xs i 0 (omega arith)))
-    ∙ below_pairs t (λ i j. item xs i * f j)
-
-back_alone : (h t : ℕ) (f : ℕ → ℕ) (xs : List ℕ) → t < h → prod f (item (take h xs)) t ≡ prod f (item xs) t
-back_alone h t f xs inside =
-    sym (below_pairs t (λ i j. f i * item (take h xs) j))
-    ∙ below_same (suc t) (λ i. f i * item (take h xs) (t - i)) (λ i. f i * item xs (t - i))
-    (λ i b. ap (λ u. f i * u) (get_or-take h xs (t - i) 0 (omega arith)))
-    ∙ below_pairs t (λ i j. f i * item xs j)
+-- a sum of products at places that add up to t asks for the places up to t alone
+prod_same : (t : ℕ) (f g u v : ℕ → ℕ) → ((i : ℕ) → i ≤ t → f i ≡ u i) → ((j : ℕ) → j ≤ t → g j ≡ v j)
+    → prod f g t ≡ prod u v t
+prod_same t f g u v e h =
+    sym (below_pairs t (λ i j. f i * g j))
+    ∙ below_same (suc t) (λ i. f i * g (t - i)) (λ i. u i * v (t - i))
+    (λ i b. ap₂ (λ x y. x * y) (e i (omega arith)) (h (t - i) (omega arith)))
+    ∙ below_pairs t (λ i j. u i * v j)
 
 pub short_later : (h t : ℕ) (a b : List ℕ) → t < h
     → pair_sum a b (h + t) ≡ pair_sum (take h a) (take h b) (h + t) +
@@ -190,8 +195,10 @@ short_later h t a b inside =
       shift_past h (cross (item (take h a)) (item (drop h a)) (item (take h b)) (item (drop h b))) t (h + t) refl,
       shift_past h (shift h (pair_sum (drop h a) (drop h b))) t (h + t) refl,
       shift_below h (pair_sum (drop h a) (drop h b)) t inside,
-      front_alone h t (item (drop h b)) a inside,
-      back_alone h t (item (drop h a)) b inside,
+      prod_same t (item (take h a)) (item (drop h b)) (item a) (item (drop h b))
+          (λ i b. get_or-take h a i 0 (omega arith)) (λ j b. refl),
+      prod_same t (item (drop h a)) (item (take h b)) (item (drop h a)) (item b) (λ i b. refl)
+          (λ j c. get_or-take h b j 0 (omega arith)),
     )
 
 -- what the halves' products, and that of the sums without them, are
@@ -238,84 +245,44 @@ module _ (h : ℕ) (a b low high middle : List ℕ) (long_a : length a ≤ 2 * h
       (added : (t : ℕ) → t < 2 * h → IsSame (item after (h + t)) (item before (h + t) + item middle t))
       (first : (s : ℕ) → s < h → item after s ≡ item before s)
       (last : (s : ℕ) → h + 2 * h ≤ s → item after s ≡ item before s) where
-    first_quarter : (s : ℕ) → s < h → IsSame (item after s) (pair_sum a b s)
-    first_quarter s inside =
-        let sum : pair_sum a b s ≡ pair_sum (take h a) (take h b) s =
-        omega (
-          arith,
-          whole s,
-          shift_below h crossed s inside,
-          shift_below h (shift h (pair_sum (drop h a) (drop h b))) s inside,
-        ) in
-        same_then (same _ _ (first s inside ∙ left s (omega arith)))
-        (same_then (three.first s (omega arith)) (same_sym (same _ _ sum)))
+    -- the halves' products side by side
+    sides : (s : ℕ) → s < 4 * h → IsSame (item before s)
+        (pair_sum (take h a) (take h b) s + shift h (shift h (pair_sum (drop h a) (drop h b))) s)
+    sides s inside = elim (cases_lt s (2 * h)) [
+      | inl p ↦
+          let none = shift_twice_below h (pair_sum (drop h a) (drop h b)) s p in
+          same_then (same _ _ (left s p)) (same_then (three.first s p) (same _ _ (omega (arith, none))))
+      | inr p ↦
+          let t = s - 2 * h in
+          let place : 2 * h + t ≡ s = omega (arith, p) in
+          let none = prod_past h s (item (take h a)) (item (take h b)) p (front_past h a) (front_past h b) in
+          let over = shift_twice_past h (pair_sum (drop h a) (drop h b)) t s (sym place) in
+          same_then (same _ _ (ap (item before) (sym place) ∙ right t (omega (arith, p, inside))))
+          (same_then (three.second t (omega (arith, p, inside))) (same _ _ (omega (arith, none, over))))
+    ]
 
-    second_quarter : (t : ℕ) → t < h → IsSame (item after (h + t)) (pair_sum a b (h + t))
-    second_quarter t inside =
-        let sum : pair_sum a b (h + t) ≡ pair_sum (take h a) (take h b) (h + t) + crossed t =
-        omega (
-          arith,
-          whole (h + t),
-          shift_past h crossed t (h + t) refl,
-          shift_past h (shift h (pair_sum (drop h a) (drop h b))) t (h + t) refl,
-          shift_below h (pair_sum (drop h a) (drop h b)) t inside,
-        ) in
-        same_then (added t (omega arith))
-        (same_then (same_plus (same_then (same _ _ (left (h + t) (omega arith))) (three.first (h + t) (omega arith)))
-        (middle_is t (omega arith)))
-        (same_sym (same _ _ sum)))
-
-    third_quarter : (t : ℕ) → t < h → IsSame (item after (h + (h + t))) (pair_sum a b (h + (h + t)))
-    third_quarter t inside =
-        let none : pair_sum (take h a) (take h b) (h + (h + t)) ≡ 0 =
-        prod_past h (h + (h + t)) (item (take h a)) (item (take h b)) (omega arith) (front_past h a) (front_past h b) in
-        let sum : pair_sum a b (h + (h + t)) ≡ pair_sum (drop h a) (drop h b) t + crossed (h + t) =
-        omega (
-          arith,
-          whole (h + (h + t)),
-          none,
-          shift_past h crossed (h + t) (h + (h + t)) refl,
-          shift_past h (shift h (pair_sum (drop h a) (drop h b))) (h + t) (h + (h + t)) refl,
-          shift_past h (pair_sum (drop h a) (drop h b)) t (h + t) refl,
-        ) in
-        let place : item before (h + (h + t)) ≡ item high t = ap (item before) (twice h t) ∙ right t (omega arith) in
-        same_then (added (h + t) (omega arith))
-        (same_then (same_plus (same_then (same _ _ place) (three.second t (omega arith)))
-        (middle_is (h + t) (omega arith)))
-        (same_sym (same _ _ sum)))
-      where
-        twice : (h t : ℕ) → h + (h + t) ≡ 2 * h + t
-        twice h t = omega arith
-
-    last_quarter : (t : ℕ) → h ≤ t → t < 2 * h → IsSame (item after (2 * h + t)) (pair_sum a b (2 * h + t))
-    last_quarter t past inside =
-        let none : pair_sum (take h a) (take h b) (2 * h + t) ≡ 0 =
-        prod_past h (2 * h + t) (item (take h a)) (item (take h b)) (omega arith) (front_past h a) (front_past h b) in
-        let sum : pair_sum a b (2 * h + t) ≡ pair_sum (drop h a) (drop h b) t =
-        omega (
-          arith,
-          whole (2 * h + t),
-          none,
-          shift_past h crossed (h + t) (2 * h + t) (omega arith),
-          crossed_past (h + t) (omega arith),
-          shift_past h (shift h (pair_sum (drop h a) (drop h b))) (h + t) (2 * h + t) (omega arith),
-          shift_past h (pair_sum (drop h a) (drop h b)) t (h + t) refl,
-        ) in
-        same_then (same _ _ (last (2 * h + t) (omega arith) ∙ right t inside))
-        (same_then (three.second t inside) (same_sym (same _ _ sum)))
+    -- and the middle on them
+    with_middle : (s : ℕ) → s < 4 * h → IsSame (item after s) (item before s + shift h crossed s)
+    with_middle s inside = elim (cases_lt s h) [
+      | inl p ↦ same _ _ (omega (arith, first s p, shift_below h crossed s p))
+      | inr p ↦
+          let t = s - h in
+          let place : h + t ≡ s = omega (arith, p) in
+          elim (cases_lt t (2 * h)) [
+            | inl q ↦ subst (λ k. IsSame (item after k) (item before k + shift h crossed k)) place
+                (same_then (added t q) (same_plus (same (item before (h + t)) (item before (h + t)) refl)
+                (same_then (middle_is t q) (same _ _ (sym (shift_past h crossed t (h + t) refl))))))
+            | inr q ↦ same _ _ (omega (
+              arith,
+              last s (omega (arith, p, q)),
+              shift_past h crossed t s (sym place),
+              crossed_past t q,
+            ))
+          ]
+    ]
 
     pub joined : (s : ℕ) → s < 4 * h → IsSame (item after s) (pair_sum a b s)
-    joined s inside = elim (cases_lt s h) [
-      | inl p ↦ first_quarter s p
-      | inr p ↦ elim (cases_lt s (2 * h)) [
-        | inl q ↦ let e : h + (s - h) ≡ s = omega (arith, p) in
-            subst (λ t. IsSame (item after t) (pair_sum a b t)) e (second_quarter (s - h) (omega (arith, p, q)))
-        | inr q ↦ elim (cases_lt s (3 * h)) [
-          | inl r ↦ let e : h + (h + (s - 2 * h)) ≡ s = omega (arith, q) in
-              subst (λ t. IsSame (item after t) (pair_sum a b t)) e (third_quarter (s - 2 * h) (omega (arith, q, r)))
-          | inr r ↦ let e : 2 * h + (s - 2 * h) ≡ s = omega (arith, q) in
-              subst (λ t. IsSame (item after t) (pair_sum a b t)) e
-              (last_quarter (s - 2 * h) (omega (arith, r)) (omega (arith, q, inside)))
-        ]
-      ]
-    ]
+    joined s inside =
+        same_then (with_middle s inside)
+        (same_then (same_plus (sides s inside) (same (shift h crossed s) (shift h crossed s) refl))
+        (same _ _ (omega (arith, whole s))))

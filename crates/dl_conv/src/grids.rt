@@ -13,27 +13,34 @@ use dl_grid::{Grid, units_of_one};
 use std::alloc::{AllocError, Global};
 
 /// Each item in units of `2^bits`, rounded down.
-fn round_down(sums: &mut [u128], bits: u32)
+fn round_down(mut sums: Vec<u128>, bits: u32) -> Vec<u128>
     requires { bits ≤ 56 }
-    ensures { (s : ℕ) → s < length sums.old → get_or sums.new s 0 ≡ get_or sums.old s 0 / 2 ^ bits }
+    ensures cells { length result.items ≡ length sums.items }
+    ensures each { (s : ℕ) → s < length sums.items
+        → get_or result.items s 0 ≡ get_or sums.items s 0 / 2 ^ bits }
 {
-    for s in 0..sums.len() {
-        sums[s] >>= bits;
+    let items = sums.as_mut_slice();
+    for s in 0..items.len() {
+        items[s] >>= bits;
     }
+    sums
 }
 
 /// Each item in units of `2^bits`, rounded up, and at most 1 by `one`, which is how many units make
 /// 1.
-fn round_up(sums: &mut [u128], bits: u32)
+fn round_up(mut sums: Vec<u128>, bits: u32) -> Vec<u128>
     requires scale { bits ≤ 56 }
-    requires small { All (λ sum. sum ≤ 2 ^ 127) sums.old }
-    ensures { (s : ℕ) → s < length sums.old
-        → get_or sums.new s 0 ≡ min (2 ^ bits) (div_ceil (get_or sums.old s 0) (2 ^ bits)) }
+    requires small { All (λ sum. sum ≤ 2 ^ 127) sums.items }
+    ensures cells { length result.items ≡ length sums.items }
+    ensures each { (s : ℕ) → s < length sums.items
+        → get_or result.items s 0 ≡ min (2 ^ bits) (div_ceil (get_or sums.items s 0) (2 ^ bits)) }
 {
     let one = units_of_one(bits);
-    for s in 0..sums.len() {
-        sums[s] = one.min(sums[s].div_ceil(one));
+    let items = sums.as_mut_slice();
+    for s in 0..items.len() {
+        items[s] = one.min(items[s].div_ceil(one));
     }
+    sums
 }
 
 /// The grid of the convolution of `a` and `b`, from the sums of the products of their low ends and
@@ -41,8 +48,8 @@ fn round_up(sums: &mut [u128], bits: u32)
 pub fn grid_of_sums<const B: u32>(
     a: &Grid<B>,
     b: &Grid<B>,
-    mut lows: Vec<u128>,
-    mut highs: Vec<u128>,
+    lows: Vec<u128>,
+    highs: Vec<u128>,
 ) -> Grid<B>
     requires some { 1 ≤ length lows.items }
     requires paired { length highs.items ≡ length lows.items }
@@ -58,8 +65,8 @@ pub fn grid_of_sums<const B: u32>(
 {
     prove!(lows.len() <= a.cells() as usize);
     prove!(lows.len() <= b.cells() as usize);
-    round_down(lows.as_mut_slice(), B);
-    round_up(highs.as_mut_slice(), B);
+    let lows = round_down(lows, B);
+    let highs = round_up(highs, B);
     Grid::from_ends(lows, highs)
 }
 

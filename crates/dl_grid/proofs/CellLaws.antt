@@ -33,6 +33,9 @@ scale_of (c ∷ cs) h = (c.scale_above, c.scale_below)
 pub one_fits : (B : ℕ) → B ≤ 56 → 2 ^ B ≤ 2 ^ 56
 one_fits B h = pow-le-pow_right {n = 2} (omega arith) {i = B} {j = 56} h
 
+pub one_in_range : (B : ℕ) → B ≤ 56 → 2 ^ B ≤ 2 ^ 127
+one_in_range B h = omega (arith, one_fits B h)
+
 -- no end is above 2^56
 pub high_le : {B : ℕ} (cells : List (Iv B)) (x m : ℕ) → All (λ cell. cell.hi ≤ m) cells → high_at cells x ≤ m
 unfolding high_at

@@ -1,66 +1,53 @@
 -- The ends, the mass and the spread of a grid after one cell was written, and of its first cells.
-use Rattle.dl_grid.proofs.Common.{ℕ, zero, suc, ◌≡◌, ◌+◌, ◌-◌, ◌<◌, ◌≤◌, List, [], ◌∷◌, length, set, take, arith, refl, ap, inl, inr, ◌∙◌, min, eqb_tells, sum_by-cons, sum_by-set, Iv, low_at, high_at, mass_low, spread, all_at_zero}
-use Rattle.std.proofs.Common.{◌≢◌}
-use Rattle.std.specs.Prelude.{◌==◌, if◌then◌else◌}
+use Rattle.dl_grid.proofs.Common.{ℕ, zero, suc, ◌≡◌, ◌+◌, ◌-◌, ◌<◌, ◌≤◌, List, [], ◌∷◌, length, get_or, set, take, arith, refl, sym, inl, inr, ◌∙◌, min, eqb_tells, sum_by-cons, sum_by-set, Iv, low_at, high_at, mass_low, spread, all_at_zero}
+use Rattle.std.specs.Prelude.{◌==◌, if◌then◌else◌, map}
+use Rattle.std.proofs.lemmas.List.{length-map, map-set, take-map, get_or-take, get_or-set_same, get_or-set_other}
 use Rattle.std.proofs.lemmas.List.Sums.{get_or-le-sum_by}
 use Rattle.dl_grid.proofs.CellLaws.{low_at_get, high_at_get}
+use Rattle.dl_grid.proofs.EndLists.{low_at_ends, high_at_ends}
+use Rattle.dl_grid.specs.Cells.{low_ends, high_ends}
 
-low_here : {B : ℕ} (cells : List (Iv B)) (i : ℕ) (v : Iv B) → i < length cells → low_at (set cells i v) i ≡ v.lo
-unfolding low_at
-low_here [] i v inside = absurd (omega arith)
-low_here (c ∷ cs) zero v inside = refl
-low_here (c ∷ cs) (suc i) v inside = low_here cs i v (omega arith)
-
-high_here : {B : ℕ} (cells : List (Iv B)) (i : ℕ) (v : Iv B) → i < length cells → high_at (set cells i v) i ≡ v.hi
-unfolding high_at
-high_here [] i v inside = absurd (omega arith)
-high_here (c ∷ cs) zero v inside = refl
-high_here (c ∷ cs) (suc i) v inside = high_here cs i v (omega arith)
-
-low_other : {B : ℕ} (cells : List (Iv B)) (i x : ℕ) (v : Iv B) → i ≢ x → low_at (set cells i v) x ≡ low_at cells x
-unfolding low_at
-low_other [] i x v other = refl
-low_other (c ∷ cs) zero zero v other = absurd (other refl)
-low_other (c ∷ cs) zero (suc x) v other = refl
-low_other (c ∷ cs) (suc i) zero v other = refl
-low_other (c ∷ cs) (suc i) (suc x) v other = low_other cs i x v (λ e. other (ap suc e))
-
-high_other : {B : ℕ} (cells : List (Iv B)) (i x : ℕ) (v : Iv B) → i ≢ x → high_at (set cells i v) x ≡ high_at cells x
-unfolding high_at
-high_other [] i x v other = refl
-high_other (c ∷ cs) zero zero v other = absurd (other refl)
-high_other (c ∷ cs) zero (suc x) v other = refl
-high_other (c ∷ cs) (suc i) zero v other = refl
-high_other (c ∷ cs) (suc i) (suc x) v other = high_other cs i x v (λ e. other (ap suc e))
+-- an end of cells of which one was written
+end_set : {B : ℕ} (end : Iv B → ℕ) (cells : List (Iv B)) (i x : ℕ) (v : Iv B) → i < length cells
+    → get_or (map end (set cells i v)) x 0 ≡ (if i == x then end v else get_or (map end cells) x 0)
+end_set end cells i x v inside = rw (map-set end cells i v) (elim (eqb_tells i x) [
+  | inl p ↦ rw (p.0, ← p.1) (get_or-set_same (map end cells) i (end v) 0 (omega (arith, length-map cells end)))
+  | inr p ↦ rw p.0 (get_or-set_other (map end cells) i x (end v) 0 (λ e. p.1 (sym e)))
+])
 
 pub low_set : {B : ℕ} (cells : List (Iv B)) (i x : ℕ) (v : Iv B) → i < length cells
     → low_at (set cells i v) x ≡ (if i == x then v.lo else low_at cells x)
-low_set cells i x v inside = elim (eqb_tells i x) [
-  | inl p ↦ rw (p.0, ← p.1) (low_here cells i v inside)
-  | inr p ↦ rw p.0 (low_other cells i x v p.1)
-]
+low_set cells i x v inside = rw (← low_at_ends (set cells i v) x, ← low_at_ends cells x)
+    (end_set (λ c. c.lo) cells i x v inside)
 
 pub high_set : {B : ℕ} (cells : List (Iv B)) (i x : ℕ) (v : Iv B) → i < length cells
     → high_at (set cells i v) x ≡ (if i == x then v.hi else high_at cells x)
-high_set cells i x v inside = elim (eqb_tells i x) [
-  | inl p ↦ rw (p.0, ← p.1) (high_here cells i v inside)
-  | inr p ↦ rw p.0 (high_other cells i x v p.1)
-]
+high_set cells i x v inside = rw (← high_at_ends (set cells i v) x, ← high_at_ends cells x)
+    (end_set (λ c. c.hi) cells i x v inside)
+
+-- where cell 0 was written, the others are as they were
+low_kept : {B : ℕ} (cells : List (Iv B)) (v : Iv B) (x : ℕ)
+    → low_at (set cells 0 v) (suc x) ≡ low_at cells (suc x)
+unfolding low_at
+low_kept [] v x = refl
+low_kept (c ∷ cs) v x = refl
+
+pub high_kept : {B : ℕ} (cells : List (Iv B)) (v : Iv B) (x : ℕ)
+    → high_at (set cells 0 v) (suc x) ≡ high_at cells (suc x)
+unfolding high_at
+high_kept [] v x = refl
+high_kept (c ∷ cs) v x = refl
 
 -- cell 0 alone grows
 pub low_added : {B : ℕ} (cells : List (Iv B)) (v : Iv B) (more : ℕ) → 1 ≤ length cells → v.lo ≡ low_at cells 0 + more
     → (x : ℕ) → low_at (set cells 0 v) x ≡ low_at cells x + all_at_zero more x
 unfolding all_at_zero
-low_added cells v more some e zero = low_here cells 0 v (omega arith) ∙ e
-low_added cells v more some e (suc x) = omega (arith, low_other cells 0 (suc x) v (omega arith))
+low_added cells v more some e zero = low_set cells 0 0 v some ∙ e
+low_added cells v more some e (suc x) = omega (arith, low_kept cells v x)
 
 pub high_added : {B : ℕ} (cells : List (Iv B)) (v : Iv B) (top : ℕ) → 1 ≤ length cells → v.hi ≡ top
     → high_at (set cells 0 v) 0 ≡ top
-high_added cells v top some e = high_here cells 0 v (omega arith) ∙ e
-
-pub high_kept : {B : ℕ} (cells : List (Iv B)) (v : Iv B) (x : ℕ)
-    → high_at (set cells 0 v) (suc x) ≡ high_at cells (suc x)
-high_kept cells v x = high_other cells 0 (suc x) v (omega arith)
+high_added cells v top some e = high_set cells 0 0 v some ∙ e
 
 -- cell 0 with more, lowered to 1, and the others as they are
 pub high_joined : (before after : ℕ → ℕ) (more top : ℕ) → after 0 ≡ min (before 0 + more) top
@@ -97,35 +84,27 @@ spread_set {B} cells x v inside =
 
 -- the first cells
 pub low_take : {B : ℕ} (cells : List (Iv B)) (n x : ℕ) → x < n → low_at (take n cells) x ≡ low_at cells x
-unfolding low_at
-low_take [] zero x inside = absurd (omega arith)
-low_take [] (suc n) x inside = refl
-low_take (c ∷ cs) zero x inside = absurd (omega arith)
-low_take (c ∷ cs) (suc n) zero inside = refl
-low_take (c ∷ cs) (suc n) (suc x) inside = low_take cs n x (omega arith)
+low_take cells n x inside = rw (← low_at_ends (take n cells) x, ← low_at_ends cells x, ← take-map)
+    (get_or-take n (low_ends cells) x 0 inside)
 
 pub high_take : {B : ℕ} (cells : List (Iv B)) (n x : ℕ) → x < n → high_at (take n cells) x ≡ high_at cells x
-unfolding high_at
-high_take [] zero x inside = absurd (omega arith)
-high_take [] (suc n) x inside = refl
-high_take (c ∷ cs) zero x inside = absurd (omega arith)
-high_take (c ∷ cs) (suc n) zero inside = refl
-high_take (c ∷ cs) (suc n) (suc x) inside = high_take cs n x (omega arith)
+high_take cells n x inside = rw (← high_at_ends (take n cells) x, ← high_at_ends cells x, ← take-map)
+    (get_or-take n (high_ends cells) x 0 inside)
 
 -- cells that are all 0
 pub low_emptied : {B : ℕ} (cells : List (Iv B)) (v : Iv B) (mass : ℕ) → 1 ≤ length cells
     → ((x : ℕ) → low_at cells x ≡ all_at_zero mass x) → v.lo ≡ 0
     → (x : ℕ) → low_at (set cells 0 v) x ≡ 0
 unfolding all_at_zero
-low_emptied cells v mass some e none zero = low_here cells 0 v (omega arith) ∙ none
-low_emptied cells v mass some e none (suc x) = low_other cells 0 (suc x) v (omega arith) ∙ e (suc x)
+low_emptied cells v mass some e none zero = low_set cells 0 0 v some ∙ none
+low_emptied cells v mass some e none (suc x) = low_kept cells v x ∙ e (suc x)
 
 pub high_emptied : {B : ℕ} (cells : List (Iv B)) (v : Iv B) (mass : ℕ) → 1 ≤ length cells
     → ((x : ℕ) → high_at cells x ≡ all_at_zero mass x) → v.hi ≡ 0
     → (x : ℕ) → high_at (set cells 0 v) x ≡ 0
 unfolding all_at_zero
-high_emptied cells v mass some e none zero = high_here cells 0 v (omega arith) ∙ none
-high_emptied cells v mass some e none (suc x) = high_other cells 0 (suc x) v (omega arith) ∙ e (suc x)
+high_emptied cells v mass some e none zero = high_set cells 0 0 v some ∙ none
+high_emptied cells v mass some e none (suc x) = high_kept cells v x ∙ e (suc x)
 
 pub mass_none : {B : ℕ} (cells : List (Iv B)) → ((x : ℕ) → low_at cells x ≡ 0) → mass_low cells ≡ 0
 unfolding low_at

@@ -1,5 +1,5 @@
 -- Cells as two lists of ends: one determines the other, and both change alike.
-use Rattle.dl_grid.proofs.Common.{ℕ, zero, suc, ◌≡◌, ◌+◌, ◌-◌, ◌*◌, ◌^◌, ◌<◌, ◌≤◌, List, [], ◌∷◌, ◌++◌, length, get_or, set, take, arith, refl, sym, subst, ap, ap₂, inl, inr, ◌∙◌, All, mul-le-mul, pow-le-pow_right, length-take-le, take_all, eqb_tells, sum_by-cons, sum_by-take-le, sum_by-set, sum_by-le, Iv, low_at, high_at, mass_low, spread, all_at_zero, IsGrid}
+use Rattle.dl_grid.proofs.Common.{ℕ, zero, suc, ◌≡◌, ◌+◌, ◌-◌, ◌*◌, ◌^◌, ◌<◌, ◌≤◌, List, [], ◌∷◌, ◌++◌, length, get_or, set, take, arith, refl, sym, subst, ap, ap₂, inl, inr, ◌∙◌, All, mul-le-mul, length-take-le, take_all, eqb_tells, sum_by-cons, sum_by-take-le, sum_by-set, sum_by-le, Iv, low_at, high_at, mass_low, spread, all_at_zero, IsGrid}
 use Rattle.std.proofs.Common.{replicate}
 use Rattle.std.specs.Prelude.{◌⊎◌, sum}
 use Rattle.std.proofs.lemmas.Grind.{get_or_default_zero}
@@ -10,7 +10,7 @@ use Rattle.std.proofs.Math.ListN.{get_or-eq_default}
 use Rattle.std.proofs.lemmas.List.Elements.{All-replicate, All-take, All-set, All-weaker, All-map, All-tail, All-head}
 use Rattle.std.proofs.lemmas.List.Folds.{sum_by-replicate}
 use Rattle.std.proofs.lemmas.List.Sums.{sum-map}
-use Rattle.dl_grid.proofs.CellLaws.{scale_of, one_fits}
+use Rattle.dl_grid.proofs.CellLaws.{scale_of, one_fits, one_in_range}
 use Rattle.dl_grid.specs.Cells.{low_ends, high_ends, cell_by, cells_of, mass_high, AreEnds}
 
 -- an end by its place
@@ -120,12 +120,7 @@ ends_back {B} (l ∷ ls) (h ∷ hs) above below p =
 pub in_range : (B : ℕ) (highs : List ℕ) → B ≤ 56 → All (λ high. high ≤ 2 ^ B) highs → All (λ high. high ≤ 2 ^ 127) highs
 in_range B highs below small =
     All-weaker (λ high. high ≤ 2 ^ B) (λ high. high ≤ 2 ^ 127)
-    (λ high (h : high ≤ 2 ^ B). omega (
-      arith,
-      h,
-      pow-le-pow_right {n = 2} (omega arith) {i = B} {j = 127}
-          (omega arith),
-    )) highs small
+    (λ high (h : high ≤ 2 ^ B). omega (arith, h, one_in_range B below)) highs small
 
 ordered_of : {B : ℕ} {lows highs : List ℕ} → AreEnds B lows highs → AreOrdered B lows highs
 ordered_of {B} {lows} {highs} p = record {
@@ -188,11 +183,29 @@ pub ends_long : {B : ℕ} {lows highs : List ℕ} (cells : List (Iv B)) → IsVi
     → length lows ≡ length cells
 ends_long cells v = rw (← v.low) (low_ends_long cells)
 
+pub low_total : {B : ℕ} {cells : List (Iv B)} {lows highs : List ℕ} → IsViewed cells lows highs
+    → sum lows ≡ mass_low cells
+low_total {B} {cells} v = rw (← v.low) (sum-map (λ (c : Iv B). c.lo) cells)
+
+pub high_total : {B : ℕ} {cells : List (Iv B)} {lows highs : List ℕ} → IsViewed cells lows highs
+    → sum highs ≡ mass_high cells
+high_total {B} {cells} v = rw (← v.high) (sum-map (λ (c : Iv B). c.hi) cells)
+
+-- an end now, by its place
+pub low_at_now : {B : ℕ} {cells : List (Iv B)} {lows highs : List ℕ} (x : ℕ) → IsViewed cells lows highs
+    → get_or lows x 0 ≡ low_at cells x
+low_at_now {cells = cells} x v = rw (← v.low) (low_at_ends cells x)
+
+pub high_at_now : {B : ℕ} {cells : List (Iv B)} {lows highs : List ℕ} (x : ℕ) → IsViewed cells lows highs
+    → get_or highs x 0 ≡ high_at cells x
+high_at_now {cells = cells} x v = rw (← v.high) (high_at_ends cells x)
+
 -- the first cells, and one cell written
-pub ends_taken : {B : ℕ} (n : ℕ) (lows highs : List ℕ) → 1 ≤ n → n ≤ length lows → AreEnds B lows highs
-    → AreEnds B (take n lows) (take n highs)
-ends_taken {B} n lows highs some within p =
-    let short = length-take-le n lows within in
+pub ends_taken : {B : ℕ} {cells : List (Iv B)} {lows highs : List ℕ} (n : ℕ) → IsViewed cells lows highs → 1 ≤ n
+    → n ≤ length cells → AreEnds B lows highs → AreEnds B (take n lows) (take n highs)
+ends_taken {B} {cells} {lows} {highs} n v some within p =
+    let long = ends_long cells v in
+    let short = length-take-le n lows (omega arith) in
     let paired : length (take n highs) ≡ length (take n lows) =
     omega (arith, short, length-take-le n highs (omega (arith, p.paired)), p.paired) in
     record {
@@ -209,10 +222,11 @@ ends_taken {B} n lows highs some within p =
       mass = omega (arith, p.mass, sum_by-take-le (λ (e : ℕ). e) lows n);
     }
 
-pub ends_set : {B : ℕ} (x lo hi : ℕ) (lows highs : List ℕ) → x < length lows → lo ≤ hi → hi ≤ 2 ^ B
-    → sum lows - get_or lows x 0 + lo ≤ 2 ^ B
-    → AreEnds B lows highs → AreEnds B (set lows x lo) (set highs x hi)
-ends_set {B} x lo hi lows highs within order top mass p =
+pub ends_set : {B : ℕ} {cells : List (Iv B)} {lows highs : List ℕ} (x : ℕ) (v : Iv B) → IsViewed cells lows highs
+    → x < length cells → v.hi ≤ 2 ^ B → mass_low cells - low_at cells x + v.lo ≤ 2 ^ B
+    → AreEnds B lows highs → AreEnds B (set lows x v.lo) (set highs x v.hi)
+ends_set {B} {cells} {lows} {highs} x v w inside top mass p =
+    let within : x < length lows = omega (arith, ends_long cells w) in
     record {
       scale_above = p.scale_above;
       scale_below = p.scale_below;
@@ -222,26 +236,25 @@ ends_set {B} x lo hi lows highs within order top mass p =
       ordered = λ y. elim (eqb_tells y x) [
         | inl e ↦ rw (
           e.1,
-          get_or-set_same lows x lo 0 within,
-          get_or-set_same highs x hi 0 (omega (arith, p.paired)),
-        ) order
-        | inr e ↦ rw (get_or-set_other lows x y lo 0 e.1, get_or-set_other highs x y hi 0 e.1) (p.ordered y)
+          get_or-set_same lows x v.lo 0 within,
+          get_or-set_same highs x v.hi 0 (omega (arith, p.paired)),
+        ) v.ordered
+        | inr e ↦ rw (get_or-set_other lows x y v.lo 0 e.1, get_or-set_other highs x y v.hi 0 e.1) (p.ordered y)
       ];
-      small = All-set (λ high. high ≤ 2 ^ B) highs x hi top p.small;
-      mass = omega (arith, mass, sum_by-set (λ (e : ℕ). e) lows x lo 0 within);
+      small = All-set (λ high. high ≤ 2 ^ B) highs x v.hi top p.small;
+      mass = omega (arith, mass, low_total w, low_at_now x w, sum_by-set (λ (e : ℕ). e) lows x v.lo 0 within);
     }
 
--- what the first n ends add up to fits: each is at most 1
 -- no end is above 2^56
 pub ends_below : {B : ℕ} (ends : List ℕ) → B ≤ 56 → All (λ e. e ≤ 2 ^ B) ends → All (λ e. e ≤ 2 ^ 56) ends
 ends_below {B} ends below small k d inside = omega (arith, small k d inside, one_fits B below)
 
+-- what the first n ends add up to fits: each is at most 1
 pub ends_fit : {B : ℕ} (ends : List ℕ) (n : ℕ) → B ≤ 56 → length ends ≤ 16384 → All (λ e. e ≤ 2 ^ B) ends
     → sum (take n ends) ≤ 2 ^ 70
 ends_fit {B} ends n below few small =
     let whole : sum ends ≤ length ends * 2 ^ B = sum_by-le (λ (e : ℕ). e) (2 ^ B) ends small in
-    let most : length ends * 2 ^ B ≤ 16384 * 2 ^ 56 =
-    mul-le-mul few (pow-le-pow_right {n = 2} (omega arith) {i = B} {j = 56} below) in
+    let most : length ends * 2 ^ B ≤ 16384 * 2 ^ 56 = mul-le-mul few (one_fits B below) in
     omega (arith, sum_by-take-le (λ (e : ℕ). e) ends n, whole, most)
 
 pub ends_fit_all : {B : ℕ} (ends : List ℕ) → B ≤ 56 → length ends ≤ 16384 → All (λ e. e ≤ 2 ^ B) ends
@@ -253,21 +266,13 @@ pub high_few : {B : ℕ} {lows highs : List ℕ} → AreEnds B lows highs → le
 high_few p = omega (arith, p.paired, p.few)
 
 -- the sums of the first ends, by the cells
-pub low_sum : {B : ℕ} {cells : List (Iv B)} {lows highs : List ℕ} (n : ℕ) → IsViewed cells lows highs
-    → sum (take n lows) ≡ mass_low (take n cells)
-low_sum {B} {cells} n v = rw (← v.low, take-map) (sum-map (λ (c : Iv B). c.lo) (take n cells))
+pub low_sum : {B : ℕ} {cells : List (Iv B)} {lows highs ends : List ℕ} {total : ℕ} (n : ℕ)
+    → IsViewed cells lows highs → total ≡ sum (take n ends) → ends ≡ lows → total ≡ mass_low (take n cells)
+low_sum {B} {cells} n v e same = e ∙ rw (same, ← v.low, take-map) (sum-map (λ (c : Iv B). c.lo) (take n cells))
 
-pub high_sum : {B : ℕ} {cells : List (Iv B)} {lows highs : List ℕ} (n : ℕ) → IsViewed cells lows highs
-    → sum (take n highs) ≡ mass_high (take n cells)
-high_sum {B} {cells} n v = rw (← v.high, take-map) (sum-map (λ (c : Iv B). c.hi) (take n cells))
-
-pub low_total : {B : ℕ} {cells : List (Iv B)} {lows highs : List ℕ} → IsViewed cells lows highs
-    → sum lows ≡ mass_low cells
-low_total {B} {cells} v = rw (← v.low) (sum-map (λ (c : Iv B). c.lo) cells)
-
-pub high_total : {B : ℕ} {cells : List (Iv B)} {lows highs : List ℕ} → IsViewed cells lows highs
-    → sum highs ≡ mass_high cells
-high_total {B} {cells} v = rw (← v.high) (sum-map (λ (c : Iv B). c.hi) cells)
+pub high_sum : {B : ℕ} {cells : List (Iv B)} {lows highs ends : List ℕ} {total : ℕ} (n : ℕ)
+    → IsViewed cells lows highs → total ≡ sum (take n ends) → ends ≡ highs → total ≡ mass_high (take n cells)
+high_sum {B} {cells} n v e same = e ∙ rw (same, ← v.high, take-map) (sum-map (λ (c : Iv B). c.hi) (take n cells))
 
 -- the widths are what the high ends have more than the low ends
 pub spread_is : {B : ℕ} (cells : List (Iv B)) → mass_low cells + spread cells ≡ mass_high cells
@@ -313,10 +318,13 @@ zero_at n mass zero some = get_or-set_same (replicate {A = ℕ} n 0) 0 mass 0
 zero_at n mass (suc x) some = get_or-set_other (replicate {A = ℕ} n 0) 0 (suc x) mass 0 (omega arith)
     ∙ nothing_at n (suc x)
 
+pub zero_length : (n mass : ℕ) → length (set (replicate {A = ℕ} n 0) 0 mass) ≡ n
+zero_length n mass = rw length-set (length-replicate {A = ℕ} n 0)
+
 pub zero_ends : (B n : ℕ) → 1 ≤ B → B ≤ 56 → 1 ≤ n → n ≤ 16384
     → AreEnds B (set (replicate {A = ℕ} n 0) 0 (2 ^ B)) (set (replicate {A = ℕ} n 0) 0 (2 ^ B))
 zero_ends B n above below some few =
-    let long : length (set (replicate {A = ℕ} n 0) 0 (2 ^ B)) ≡ n = rw length-set (length-replicate {A = ℕ} n 0) in
+    let long = zero_length n (2 ^ B) in
     record {
       scale_above = above;
       scale_below = below;
@@ -340,9 +348,8 @@ pub read_at : {B : ℕ} {cells : List (Iv B)} {lows highs : List ℕ} {low high 
 read_at {B} {cells} {lows} {highs} {low} {high} x v inside e h =
     let lower : x < length lows = omega (arith, ends_long cells v) in
     let upper : x < length highs = omega (arith, high_ends_long cells, ap length v.high) in (
-      e ∙ get_or_default_zero lows x low lower ∙ rw (← v.low) (low_at_ends cells x),
-      h
-          ∙ get_or_default_zero highs x high upper ∙ rw (← v.high) (high_at_ends cells x),
+      e ∙ get_or_default_zero lows x low lower ∙ low_at_now x v,
+      h ∙ get_or_default_zero highs x high upper ∙ high_at_now x v,
     )
 
 pub read_small : {B : ℕ} {cells : List (Iv B)} {lows highs : List ℕ} {high : ℕ} (x : ℕ) → IsViewed cells lows highs
@@ -351,28 +358,3 @@ pub read_small : {B : ℕ} {cells : List (Iv B)} {lows highs : List ℕ} {high :
 read_small {B} {cells} {lows} {highs} {high} x v inside p h =
     let upper : x < length highs = omega (arith, high_ends_long cells, ap length v.high) in
     omega (arith, h, p.small x high upper)
-
-pub low_at_now : {B : ℕ} {cells : List (Iv B)} {lows highs : List ℕ} (x : ℕ) → IsViewed cells lows highs
-    → get_or lows x 0 ≡ low_at cells x
-low_at_now {cells = cells} x v = rw (← v.low) (low_at_ends cells x)
-
--- zero's cells
-pub zero_low : (B n x : ℕ) → 1 ≤ B → B ≤ 56 → 1 ≤ n → n ≤ 16384
-    → low_at (cells_of B (set (replicate {A = ℕ} n 0) 0 (2 ^ B)) (set (replicate {A = ℕ} n 0) 0 (2 ^ B))) x
-    ≡ all_at_zero (2 ^ B) x
-zero_low B n x above below some few =
-    sym (low_at_ends _ x) ∙ ap (λ ends. get_or ends x 0) (low_list (zero_ends B n above below some few))
-    ∙ zero_at n (2 ^ B) x some
-
-pub zero_high : (B n x : ℕ) → 1 ≤ B → B ≤ 56 → 1 ≤ n → n ≤ 16384
-    → high_at (cells_of B (set (replicate {A = ℕ} n 0) 0 (2 ^ B)) (set (replicate {A = ℕ} n 0) 0 (2 ^ B))) x
-    ≡ all_at_zero (2 ^ B) x
-zero_high B n x above below some few =
-    sym (high_at_ends _ x) ∙ ap (λ ends. get_or ends x 0) (high_list (zero_ends B n above below some few))
-    ∙ zero_at n (2 ^ B) x some
-
-pub zero_long : (B n : ℕ) → 1 ≤ B → B ≤ 56 → 1 ≤ n → n ≤ 16384
-    → length (cells_of B (set (replicate {A = ℕ} n 0) 0 (2 ^ B)) (set (replicate {A = ℕ} n 0) 0 (2 ^ B))) ≡ n
-zero_long B n above below some few =
-    sym (low_ends_long _) ∙ ap length (low_list (zero_ends B n above below some few))
-    ∙ length-set (replicate {A = ℕ} n 0) 0 (2 ^ B) ∙ length-replicate {A = ℕ} n 0

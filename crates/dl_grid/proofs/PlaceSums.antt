@@ -1,34 +1,22 @@
 -- The mass and the spread of a list of cells as sums over its places.
 use Rattle.dl_grid.proofs.Common.{ℕ, zero, suc, ◌≡◌, ◌+◌, ◌-◌, ◌<◌, ◌≤◌, List, [], ◌∷◌, ◌++◌, length, take, arith, refl, ap, take_all, sum_by-cons, sum_by-take-le, Iv, low_at, high_at, mass_low, spread, count_below}
-use Rattle.dl_exact.proofs.Counts.{below_first, below_nothing}
+use Rattle.dl_exact.proofs.Counts.{below_first, below_none, below_nothing}
+use Rattle.std.proofs.lemmas.List.{map-append, get_or_append_left}
+use Rattle.std.proofs.Math.Seq.{get_or-append_seam}
+use Rattle.dl_grid.proofs.EndLists.{low_at_ends, high_at_ends, low_ends_long, high_ends_long, low_le_high}
+use Rattle.dl_grid.specs.Cells.{low_ends, high_ends}
 
 -- the width of cell x, 0 past the end
 abbrev pub width_at : {B : ℕ} → List (Iv B) → ℕ → ℕ
 width_at cells x = high_at cells x - low_at cells x
 
 pub high_is : {B : ℕ} (cells : List (Iv B)) (x : ℕ) → high_at cells x ≡ low_at cells x + width_at cells x
-unfolding low_at high_at
-high_is [] x = refl
-high_is (c ∷ cs) zero = omega (arith, c.ordered)
-high_is (c ∷ cs) (suc x) = high_is cs x
-
--- where there are no cells, all ends are 0
-low_nothing : {B : ℕ} (n : ℕ) (cells : List (Iv B)) → cells ≡ [] → count_below n (low_at cells) ≡ 0
-unfolding count_below low_at
-low_nothing zero cells e = refl
-low_nothing (suc n) [] e = omega (arith, low_nothing n [] e)
-low_nothing (suc n) (c ∷ cs) e = absurd (cc)
-
-width_nothing : {B : ℕ} (n : ℕ) (cells : List (Iv B)) → cells ≡ [] → count_below n (width_at cells) ≡ 0
-unfolding count_below low_at high_at
-width_nothing zero cells e = refl
-width_nothing (suc n) [] e = omega (arith, width_nothing n [] e)
-width_nothing (suc n) (c ∷ cs) e = absurd (cc)
+high_is cells x = omega (arith, low_le_high cells x)
 
 pub low_sum : {B : ℕ} (n : ℕ) (cells : List (Iv B)) → count_below n (low_at cells) ≡ mass_low (take n cells)
 unfolding low_at
 low_sum zero cells = below_nothing (low_at cells)
-low_sum {B} (suc n) [] = low_nothing {B = B} (suc n) [] refl
+low_sum {B} (suc n) [] = below_none (suc n) (low_at {B = B} []) (λ x inside. refl)
 low_sum {B} (suc n) (c ∷ cs) = omega (
   arith,
   below_first n (low_at (c ∷ cs)),
@@ -39,7 +27,7 @@ low_sum {B} (suc n) (c ∷ cs) = omega (
 pub width_sum : {B : ℕ} (n : ℕ) (cells : List (Iv B)) → count_below n (width_at cells) ≡ spread (take n cells)
 unfolding low_at high_at
 width_sum zero cells = below_nothing (width_at cells)
-width_sum {B} (suc n) [] = width_nothing {B = B} (suc n) [] refl
+width_sum {B} (suc n) [] = below_none (suc n) (width_at {B = B} []) (λ x inside. refl)
 width_sum {B} (suc n) (c ∷ cs) = omega (
   arith,
   below_first n (width_at (c ∷ cs)),
@@ -66,30 +54,20 @@ whole_spread {B} n cells e = omega (arith, width_sum n cells, ap (λ t. spread t
 -- the ends after a push
 pub low_at_front : {B : ℕ} (cells more : List (Iv B)) (x : ℕ) → x < length cells
     → low_at (cells ++ more) x ≡ low_at cells x
-unfolding low_at
-low_at_front [] more x h = absurd (omega arith)
-low_at_front (c ∷ cs) more zero h = refl
-low_at_front (c ∷ cs) more (suc x) h = low_at_front cs more x (omega arith)
+low_at_front cells more x h = rw (← low_at_ends (cells ++ more) x, ← low_at_ends cells x, map-append)
+    (get_or_append_left (low_ends cells) (low_ends more) 0 x (omega (arith, low_ends_long cells)))
 
 pub high_at_front : {B : ℕ} (cells more : List (Iv B)) (x : ℕ) → x < length cells
     → high_at (cells ++ more) x ≡ high_at cells x
-unfolding high_at
-high_at_front [] more x h = absurd (omega arith)
-high_at_front (c ∷ cs) more zero h = refl
-high_at_front (c ∷ cs) more (suc x) h = high_at_front cs more x (omega arith)
+high_at_front cells more x h = rw (← high_at_ends (cells ++ more) x, ← high_at_ends cells x, map-append)
+    (get_or_append_left (high_ends cells) (high_ends more) 0 x (omega (arith, high_ends_long cells)))
 
 pub low_at_pushed : {B : ℕ} (cells : List (Iv B)) (cell : Iv B) (x : ℕ) → x ≡ length cells
     → low_at (cells ++ cell ∷ []) x ≡ cell.lo
-unfolding low_at
-low_at_pushed [] cell zero e = refl
-low_at_pushed [] cell (suc x) e = absurd (omega arith)
-low_at_pushed (c ∷ cs) cell zero e = absurd (omega arith)
-low_at_pushed (c ∷ cs) cell (suc x) e = low_at_pushed cs cell x (omega arith)
+low_at_pushed cells cell x e = rw (e, ← low_at_ends, map-append, ← low_ends_long cells)
+    (get_or-append_seam (low_ends cells) cell.lo [] 0)
 
 pub high_at_pushed : {B : ℕ} (cells : List (Iv B)) (cell : Iv B) (x : ℕ) → x ≡ length cells
     → high_at (cells ++ cell ∷ []) x ≡ cell.hi
-unfolding high_at
-high_at_pushed [] cell zero e = refl
-high_at_pushed [] cell (suc x) e = absurd (omega arith)
-high_at_pushed (c ∷ cs) cell zero e = absurd (omega arith)
-high_at_pushed (c ∷ cs) cell (suc x) e = high_at_pushed cs cell x (omega arith)
+high_at_pushed cells cell x e = rw (e, ← high_at_ends, map-append, ← high_ends_long cells)
+    (get_or-append_seam (high_ends cells) cell.hi [] 0)

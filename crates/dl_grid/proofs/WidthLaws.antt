@@ -57,20 +57,16 @@ pub pw_even : (S k b m : ℕ) → 1 ≤ m → pw S k b (2 * m) ≡ cv S k (pw S 
 unfolding pw power_spread
 pw_even S k b zero some = absurd (omega arith)
 pw_even S k b (suc m) some =
-    ap (pw S k b) (twice_suc m) ∙ ap (power_spread S k b) (digits m).0
-  where
-    twice_suc : (n : ℕ) → 2 * suc n ≡ suc (2 * n + 1)
-    twice_suc n = omega arith
+    let twice_suc : 2 * suc m ≡ suc (2 * m + 1) = omega arith in
+    ap (pw S k b) twice_suc ∙ ap (power_spread S k b) (digits m).0
 
 pub pw_odd : (S k b m : ℕ) → 1 ≤ m → pw S k b (2 * m + 1) ≡ cv S k (pw S k b (2 * m)) b
 unfolding pw power_spread
 pw_odd S k b zero some = absurd (omega arith)
 pw_odd S k b (suc m) some =
-    ap (pw S k b) (odd_suc m) ∙ ap (power_spread S k b) (digits m).1
+    let odd_suc : 2 * suc m + 1 ≡ suc (2 * m + 2) = omega arith in
+    ap (pw S k b) odd_suc ∙ ap (power_spread S k b) (digits m).1
     ∙ ap (λ even. cv S k even b) (sym (pw_even S k b (suc m) some))
-  where
-    odd_suc : (n : ℕ) → 2 * suc n + 1 ≡ suc (2 * n + 2)
-    odd_suc n = omega arith
 
 -- a power of 2^h factors, by one squaring more
 pub pw_doubled : (S k b h : ℕ) → pw S k b (2 ^ (h + 1)) ≡ cv S k (pw S k b (2 ^ h)) (pw S k b (2 ^ h))

@@ -35,10 +35,11 @@ units_joined (u ∷ us) vs w z = (w.0, units_joined us vs w.1 z)
 
 -- the unit at a place
 pub unit_at : (us : List Aggregate) (i : ℕ) → i < length us → AreDeclarable us
-    → (u : Aggregate) × (take (suc i) us ≡ take i us ++ u ∷ []) × (unit_of us i ≡ mapped u) × IsDeclarable u
+    → (u : Aggregate) × (take (suc i) us ≡ take i us ++ u ∷ []) × (drop i us ≡ u ∷ drop (suc i) us)
+    × (unit_of us i ≡ mapped u) × IsDeclarable u
 unit_at [] i h w = absurd (omega arith)
-unit_at (u ∷ us) zero h w = (u, refl, refl, w.0)
-unit_at (u ∷ us) (suc i) h w = let r = unit_at us i (omega arith) w.1 in (r.0, ap (λ t. u ∷ t) r.1, r.2, r.3)
+unit_at (u ∷ us) zero h w = (u, refl, refl, refl, w.0)
+unit_at (u ∷ us) (suc i) h w = let r = unit_at us i (omega arith) w.1 in (r.0, ap (λ t. u ∷ t) r.1, r.2, r.3, r.4)
 
 -- ---- one more unit
 
@@ -74,9 +75,9 @@ pub joins : {B : ℕ} (a b g : List (Iv B)) (n i : ℕ) (us vs : List Aggregate)
 joins {B} a b g n i us vs w z inside in_a in_b e conv of_a of_b =
     let r = unit_at vs i inside z in
     subst (λ t. GridEncloses g (total t)) (sym (ap (λ t. us ++ t) r.1 ∙ sym (append_assoc us (take i vs) (r.0 ∷ []))))
-    (one_more a b g n (us ++ take i vs) r.0 (units_joined us (take i vs) w (units_first i vs z)) r.3 in_a in_b e
+    (one_more a b g n (us ++ take i vs) r.0 (units_joined us (take i vs) w (units_first i vs z)) r.4 in_a in_b e
     conv of_a
-    (subst (λ F. GridEncloses b F) r.2 of_b))
+    (subst (λ F. GridEncloses b F) r.3 of_b))
 
 pub widens : {B : ℕ} (grids : List (List (Iv B))) (k i x y z : ℕ) (b : List (Iv B)) → i < length grids
     → b ≡ get_or grids i b

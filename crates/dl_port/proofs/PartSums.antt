@@ -1,16 +1,12 @@
 -- Sums of the first units and of the last, and what they add up to.
-use Rattle.dl_port.proofs.Common.{ℕ, zero, suc, ◌≡◌, ◌+◌, ◌-◌, ◌^◌, ◌<◌, ◌≤◌, List, [], ◌∷◌, ◌++◌, length, get_or, take, drop, map, arith, refl, sym, ap, ap₂, subst, subst₂, ◌∙◌, add-one, false, IsTrue, Option, Some, None, IfSome, option_to_list, fold, remove, slice_get, fold_more, sum_by-take-le, pow_pos, get_or-map, get_or_default, length-map, length-append, length-take, take_all, drop_all, Iv, Aggregate, IsDeclarable, AreDeclarable, mapped, total, GridEncloses, unit_of, IsConvolution, spread, cv, sum_spread, cv_rises, without_suc, EnclosesSum, IsSumOfPart, IsTotal, IsSumWithout, AreSumsOfEnds}
+use Rattle.dl_port.proofs.Common.{ℕ, zero, suc, ◌≡◌, ◌+◌, ◌-◌, ◌^◌, ◌<◌, ◌≤◌, List, [], ◌∷◌, ◌++◌, length, get_or, take, drop, map, arith, refl, sym, ap, ap₂, subst, subst₂, ◌∙◌, add-one, false, IsTrue, Option, Some, None, IfSome, option_to_list, fold, remove, slice_get, fold_more, sum_by-take-le, pow_pos, get_or-map, get_or_default, length-map, length-append, length-take, take_all, drop_all, Iv, Aggregate, AreDeclarable, mapped, total, GridEncloses, IsConvolution, spread, cv, sum_spread, cv_rises, without_suc, EnclosesSum, IsSumOfPart, IsTotal, IsSumWithout, AreSumsOfEnds}
 use Rattle.std.proofs.Common.{inl, inr}
 use Rattle.std.specs.Prelude.{Bool, true, Any, MatchOption}
-use Rattle.std.proofs.lemmas.List.{get_or_append_left}
+use Rattle.std.proofs.lemmas.List.{append-nil, get_or_append_left}
 use Rattle.std.proofs.lemmas.Option.{slice_get-get_or}
 use Rattle.std.proofs.lemmas.Bool.{cases_lt}
 use Rattle.std.proofs.Math.Seq.{get_or-append_seam}
 use Rattle.dl_port.proofs.Added.{first_cells, units_first, units_after, unit_at, alone, joins, encloses_at}
-
-append_none : {A : Type 0} (xs : List A) → xs ++ [] ≡ xs
-append_none [] = refl
-append_none {A} (x ∷ xs) = ap (λ (t : List A). x ∷ t) (append_none xs)
 
 -- ---- one of the two sums has no units
 
@@ -20,7 +16,7 @@ pub alone_before : {B : ℕ} (a g : List (Iv B)) (n : ℕ) (before after : Optio
     → GridEncloses g (total (us ++ vs))
 alone_before a g n before after us vs e h within is of_us of_vs =
     subst₂ (λ s t. GridEncloses s (total t)) (sym is)
-    (sym (ap (λ t. us ++ t) (subst (λ t. EnclosesSum t vs) h of_vs) ∙ append_none us))
+    (sym (ap (λ t. us ++ t) (subst (λ t. EnclosesSum t vs) h of_vs) ∙ append-nil us))
     (first_cells a n (total us) (subst (λ t. IfSome t (λ t. n ≤ length t)) e within)
     (subst (λ t. EnclosesSum t us) e of_us))
 
@@ -55,12 +51,6 @@ one_wider {B} grids k i x y z b inside is h before =
 
 -- ---- the sums of the last units
 
-unit_from : (us : List Aggregate) (i : ℕ) → i < length us → AreDeclarable us
-    → (u : Aggregate) × (drop i us ≡ u ∷ drop (suc i) us) × (unit_of us i ≡ mapped u) × IsDeclarable u
-unit_from [] i h w = absurd (omega arith)
-unit_from (u ∷ us) zero h w = (u, refl, refl, w.0)
-unit_from (u ∷ us) (suc i) h w = let r = unit_from us i (omega arith) w.1 in (r.0, r.1, r.2, r.3)
-
 -- the unit at place i joins those after it
 pub from_unit : {B : ℕ} (k : ℕ) (grids : List (List (Iv B))) (i : ℕ) (b sum : List (Iv B))
     (after : Option (List (Iv B))) → i < length grids → b ≡ get_or grids i b
@@ -70,10 +60,10 @@ pub from_unit : {B : ℕ} (k : ℕ) (grids : List (List (Iv B))) (i : ℕ) (b su
     → IsSumOfPart k grids (drop i) (Some sum)
 from_unit k grids i b sum after inside is rest cells both = record {
   cells = cells;
-  encloses = λ us w e. let r = unit_from us i (omega (arith, e.as_many)) w in
-      subst (λ t. GridEncloses sum (total t)) (sym r.1)
-      (both (r.0 ∷ []) (drop (suc i) us) (r.3, tt) (units_after (suc i) us w)
-      (alone b r.0 r.3 (subst (λ F. GridEncloses b F) r.2 (encloses_at grids us i b e inside is)))
+  encloses = λ us w e. let r = unit_at us i (omega (arith, e.as_many)) w in
+      subst (λ t. GridEncloses sum (total t)) (sym r.2)
+      (both (r.0 ∷ []) (drop (suc i) us) (r.4, tt) (units_after (suc i) us w)
+      (alone b r.0 r.4 (subst (λ F. GridEncloses b F) r.3 (encloses_at grids us i b e inside is)))
       (rest.encloses us w e));
 }
 
@@ -156,8 +146,8 @@ first_taken {B} k grids first sum some is long e = record {
   cells = omega (arith, ap length e, length-take k first);
   encloses = λ us w each. let r = unit_at us 0 (omega (arith, each.as_many)) w in
       subst₂ (λ (s : List (Iv B)) t. GridEncloses s (total t)) (sym e) (sym r.1)
-      (alone (take k first) r.0 r.3 (first_cells first k (mapped r.0) long
-      (subst (λ F. GridEncloses first F) r.2 (encloses_at grids us 0 first each some is))));
+      (alone (take k first) r.0 r.4 (first_cells first k (mapped r.0) long
+      (subst (λ F. GridEncloses first F) r.3 (encloses_at grids us 0 first each some is))));
 }
 
 pub next_taken : {B : ℕ} (k i : ℕ) (grids : List (List (Iv B))) (a b g : List (Iv B))

@@ -1,5 +1,6 @@
 -- A sum whose terms are alike from both ends is twice its first half.
 use Rattle.dl_product.proofs.Common.{ℕ, zero, suc, ◌≡◌, ◌+◌, ◌-◌, ◌*◌, arith, sym, ap, ◌∙◌, count_below, count_pairs}
+use Rattle.std.proofs.Math.Nat.{mul_comm}
 use Rattle.dl_exact.proofs.Counts.{below_first, below_pairs}
 
 -- an even number of terms
@@ -34,10 +35,7 @@ alike : (f : ℕ → ℕ) (s i j : ℕ) → i + j ≡ s → f i * f (s - i) ≡ 
 alike f s i j e =
     let first : s - i ≡ j = omega (arith, e) in
     let second : s - j ≡ i = omega (arith, e) in
-    ap (λ t. f i * f t) first ∙ swapped (f i) (f j) ∙ ap (λ t. f j * f t) (sym second)
-  where
-    swapped : (x y : ℕ) → x * y ≡ y * x
-    swapped x y = omega arith
+    ap (λ t. f i * f t) first ∙ mul_comm (f i) (f j) ∙ ap (λ t. f j * f t) (sym second)
 
 -- the products of a list with itself at an odd and at an even place
 pub square_odd : (f : ℕ → ℕ) (s half : ℕ) → half + half ≡ s + 1

@@ -1,28 +1,20 @@
 -- Products of lists that begin and end with zeros.
 use Rattle.dl_product.proofs.Common.{ℕ, zero, suc, ◌≡◌, ◌+◌, ◌-◌, ◌*◌, ◌<◌, ◌≤◌, inl, inr, List, take, drop, length, get_or, arith, refl, sym, ap, ap₂, ◌∙◌, cases_lt, get_or-take, get_or-drop, get_or_past, length-take, count_pairs, pairs_same, times_nothing}
-use Rattle.std.proofs.Math.Nat.{suc-add}
-use Rattle.dl_exact.proofs.Counts.{pairs_none, nothing_times}
+use Rattle.std.proofs.Math.Nat.{add_assoc, add-suc, add-zero, suc-add}
+use Rattle.std.proofs.Common.{zero-add}
+use Rattle.dl_exact.proofs.Counts.{below_none, below_pairs, nothing_times}
+
+-- no sum of products that are each 0
+no_products : (n : ℕ) (f g : ℕ → ℕ) → ((i : ℕ) → i ≤ n → f i * g (n - i) ≡ 0) → count_pairs n (λ i j. f i * g j) ≡ 0
+no_products n f g none =
+    sym (below_pairs n (λ i j. f i * g j)) ∙ below_none (suc n) (λ i. f i * g (n - i)) (λ i b. none i (omega arith))
 
 -- no product where all first items up to there are 0
 pub low_first : (n : ℕ) (f g : ℕ → ℕ) → ((i : ℕ) → i ≤ n → f i ≡ 0) → count_pairs n (λ i j. f i * g j) ≡ 0
-unfolding count_pairs
-low_first zero f g h = nothing_times (f zero) (g zero) (h zero (omega arith))
-low_first (suc n) f g h =
-    omega (
-      arith,
-      nothing_times (f zero) (g (suc n)) (h zero (omega arith)),
-      low_first n (λ i. f (suc i)) g (λ i b. h (suc i) (omega arith)),
-    )
+low_first n f g h = no_products n f g (λ i b. nothing_times (f i) (g (n - i)) (h i b))
 
 pub low_second : (n : ℕ) (f g : ℕ → ℕ) → ((j : ℕ) → j ≤ n → g j ≡ 0) → count_pairs n (λ i j. f i * g j) ≡ 0
-unfolding count_pairs
-low_second zero f g h = times_nothing (f zero) (g zero) (h zero (omega arith))
-low_second (suc n) f g h =
-    omega (
-      arith,
-      times_nothing (f zero) (g (suc n)) (h (suc n) (omega arith)),
-      low_second n (λ i. f (suc i)) g (λ j b. h j (omega arith)),
-    )
+low_second n f g h = no_products n f g (λ i b. times_nothing (f i) (g (n - i)) (h (n - i) (omega arith)))
 
 nothing_more : (x y : ℕ) → x ≡ 0 → x + y ≡ y
 nothing_more x y e = omega (arith, e)
@@ -32,11 +24,8 @@ pub shift_first : (p s : ℕ) (f g : ℕ → ℕ) → ((i : ℕ) → i < p → f
     → count_pairs (p + s) (λ i j. f i * g j) ≡ count_pairs s (λ i j. f (p + i) * g j)
 unfolding count_pairs
 shift_first zero s f g h =
-    ap (λ n. count_pairs n (λ i j. f i * g j)) (from_none s)
-    ∙ pairs_same s _ _ (λ i j. ap (λ n. f n * g j) (sym (from_none i)))
-  where
-    from_none : (s : ℕ) → zero + s ≡ s
-    from_none s = omega arith
+    ap (λ n. count_pairs n (λ i j. f i * g j)) (zero-add s)
+    ∙ pairs_same s _ _ (λ i j. ap (λ n. f n * g j) (sym (zero-add i)))
 shift_first (suc p) s f g h =
     ap (λ n. count_pairs n (λ i j. f i * g j)) (suc-add p s)
     ∙ nothing_more (f zero * g (suc (p + s))) (count_pairs (p + s) (λ i j. f (suc i) * g j))
@@ -55,17 +44,11 @@ pub shift_second : (q s : ℕ) (f g : ℕ → ℕ) → ((j : ℕ) → j < q → 
     → count_pairs (q + s) (λ i j. f i * g j) ≡ count_pairs s (λ i j. f i * g (q + j))
 unfolding count_pairs
 shift_second q zero f g h =
-    ap (λ n. count_pairs n (λ i j. f i * g j)) (and_none q) ∙ only_last q f g h ∙ ap (λ n. f zero * g n)
-    (sym (and_none q))
-  where
-    and_none : (q : ℕ) → q + zero ≡ q
-    and_none q = omega arith
+    ap (λ n. count_pairs n (λ i j. f i * g j)) (add-zero q) ∙ only_last q f g h ∙ ap (λ n. f zero * g n)
+    (sym (add-zero q))
 shift_second q (suc s) f g h =
-    ap (λ n. count_pairs n (λ i j. f i * g j)) (one_more q s)
-    ∙ ap₂ (λ x y. x + y) (ap (λ n. f zero * g n) (sym (one_more q s))) (shift_second q s (λ i. f (suc i)) g h)
-  where
-    one_more : (q s : ℕ) → q + suc s ≡ suc (q + s)
-    one_more q s = omega arith
+    ap (λ n. count_pairs n (λ i j. f i * g j)) (add-suc q s)
+    ∙ ap₂ (λ x y. x + y) (ap (λ n. f zero * g n) (sym (add-suc q s))) (shift_second q s (λ i. f (suc i)) g h)
 
 -- no product before the sum of the first places
 pub before_both : (p q s : ℕ) (f g : ℕ → ℕ) → ((i : ℕ) → i < p → f i ≡ 0) → ((j : ℕ) → j < q → g j ≡ 0) → s < p + q
@@ -83,25 +66,16 @@ before_both p q s f g h k b = elim (cases_lt s p) [
 pub shift_both : (p q s : ℕ) (f g : ℕ → ℕ) → ((i : ℕ) → i < p → f i ≡ 0) → ((j : ℕ) → j < q → g j ≡ 0)
     → count_pairs (p + q + s) (λ i j. f i * g j) ≡ count_pairs s (λ i j. f (p + i) * g (q + j))
 shift_both p q s f g h k =
-    ap (λ n. count_pairs n (λ i j. f i * g j)) (in_turn p q s)
+    ap (λ n. count_pairs n (λ i j. f i * g j)) (add_assoc p q s)
     ∙ shift_first p (q + s) f g h ∙ shift_second q s (λ i. f (p + i)) g k
-  where
-    in_turn : (p q s : ℕ) → p + q + s ≡ p + (q + s)
-    in_turn p q s = omega arith
 
 -- no product past the sum of the lengths
 pub past_both : (m n s : ℕ) (f g : ℕ → ℕ) → ((i : ℕ) → m ≤ i → f i ≡ 0) → ((j : ℕ) → n ≤ j → g j ≡ 0) → m + n ≤ s
     → count_pairs s (λ i j. f i * g j) ≡ 0
-unfolding count_pairs
-past_both zero n s f g h k b = pairs_none s (λ i j. f i * g j)
-    (λ i j. nothing_times (f i) (g j) (h i (omega arith)))
-past_both (suc m) n zero f g h k b = absurd (omega arith)
-past_both (suc m) n (suc s) f g h k b =
-    omega (
-      arith,
-      times_nothing (f zero) (g (suc s)) (k (suc s) (omega arith)),
-      past_both m n s (λ i. f (suc i)) g (λ i d. h (suc i) (omega arith)) k (omega arith),
-    )
+past_both m n s f g h k b = no_products s f g (λ i d. elim (cases_lt i m) [
+  | inl before ↦ times_nothing (f i) (g (s - i)) (k (s - i) (omega (arith, before)))
+  | inr past ↦ nothing_times (f i) (g (s - i)) (h i past)
+])
 
 -- the items of a list from p to e, where those past e are 0
 pub window_at : (xs : List ℕ) (p e i : ℕ) → p ≤ e → e ≤ length xs → ((i : ℕ) → e ≤ i → get_or xs i 0 ≡ 0)

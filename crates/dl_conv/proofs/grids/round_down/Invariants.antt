@@ -3,4 +3,4 @@ use Rattle.dl_conv.proofs.Filled.{IsMapped}
 use Rattle.dl_conv.proofs.grids.round_down.Given as goal
 
 abbrev pub invariant-loop-s : goal.invariant-loop-s
-invariant-loop-s l = IsMapped (λ sum. sum / 2 ^ l.bits) l.initial.sums l.sums l.s
+invariant-loop-s l = IsMapped (λ sum. sum / 2 ^ l.bits) l.initial.items l.items l.s

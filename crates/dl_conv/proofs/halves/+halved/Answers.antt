@@ -1,27 +1,21 @@
-use Rattle.dl_conv.proofs.Common.{◌*◌, ◌-◌, ◌/◌, ◌≡◌, ◌≤◌, arith, length, take, drop, subst, sym, refl, ◌∙◌, length-take-le, length-drop, IsHalvable}
+use Rattle.dl_conv.proofs.Common.{ℕ, ◌*◌, ◌/◌, ◌≡◌, ◌≤◌, arith, length, subst, sym, refl, ◌∙◌, IsHalvable}
 use Rattle.std.proofs.Math.Nat.{one-le-pow}
-use Rattle.dl_conv.proofs.Halving.{half_halvable, half_even, half_less, three_of, small_remainder, values_small, halved_value}
+use Rattle.dl_conv.proofs.Halving.{twice, front_half, back_half, three_of, small_remainder, values_small, halved_value}
 use Rattle.dl_conv.proofs.halves.+halved.Goals as goal
 
 pub halved-requires : goal.halved-requires
 halved-requires g t c κs within =
-    let n = length c.args.a.now in
-    let half = half_halvable n c.requires.halvable c.if-a-eq-BLOCK.false in
-    let less = half_less n c.requires.halvable in
-    let even = half_even n c.requires.halvable c.if-a-eq-BLOCK.false in
-    let front : length (take (n / 2) c.args.a.now) ≡ n / 2 =
-    length-take-le (n / 2) c.args.a.now (omega (arith, even)) in
-    let beside : length (take (n / 2) c.args.b.now) ≡ n / 2 =
-    length-take-le (n / 2) c.args.b.now (omega (arith, even, c.requires.paired)) in
-    let low = c.split_at_mut-low.ensures.front_len in (
-      omega (arith, front, less, c.decreases),
+    let n = twice (length c.args.a.now) c.requires.halvable c.if-a-eq-BLOCK.false in
+    let front = front_half (length c.args.a.now / 2) c.args.a.now n.even in
+    let beside = front_half (length c.args.a.now / 2) c.args.b.now (c.requires.paired ∙ n.even) in (
+      omega (arith, front, n.less, c.decreases),
       (
         within.0,
         (
           within.1,
           (
-            subst IsHalvable (sym front) half,
-            omega (arith, front, beside, even, low, c.requires.work),
+            subst IsHalvable (sym front) n.half,
+            omega (arith, front, beside, n.even, c.split_at_mut-low.ensures.front_len, c.requires.work),
           ),
         ),
       ),
@@ -29,38 +23,29 @@ halved-requires g t c κs within =
 
 pub halved-requires-2 : goal.halved-requires-2
 halved-requires-2 g t c κs within =
-    let n = length c.args.a.now in
-    let half = half_halvable n c.requires.halvable c.if-a-eq-BLOCK.false in
-    let less = half_less n c.requires.halvable in
-    let even = half_even n c.requires.halvable c.if-a-eq-BLOCK.false in
-    let long = length-drop (n / 2) c.args.a.now in
-    let beside = length-drop (n / 2) c.args.b.now in
-    let back : length (take (n - n / 2) (drop (n / 2) c.args.a.now)) ≡ n / 2 =
-    omega (arith, even, length-take-le (n - n / 2) (drop (n / 2) c.args.a.now) (omega (arith, long))) in
-    let m = length c.args.b.now - n / 2 in
-    let other : length (take m (drop (n / 2) c.args.b.now)) ≡ n / 2 =
-    omega (arith, even, c.requires.paired, length-take-le m (drop (n / 2) c.args.b.now) (omega (arith, beside))) in
-    let high : length c.split_at_mut-low.result.1.now ≡ 2 * (n / 2) =
-    omega (arith, even, c.split_at_mut-low.ensures.back_len, c.requires.room) in
-    let work : 4 * (n / 2) ≤ length c.halved.new.work = omega (arith, even, c.requires.work, c.halved.auto.work) in (
-      omega (arith, back, less, c.decreases),
-      (within.0, (within.1, (subst IsHalvable (sym back) half, omega (arith, back, other, high, work)))),
+    let n = twice (length c.args.a.now) c.requires.halvable c.if-a-eq-BLOCK.false in
+    let half : ℕ = length c.args.a.now / 2 in
+    let back = back_half half c.args.a.now n.even in
+    let other = back_half half c.args.b.now (c.requires.paired ∙ n.even) in
+    let high : length c.split_at_mut-low.result.1.now ≡ 2 * half =
+    omega (arith, n.even, c.split_at_mut-low.ensures.back_len, c.requires.room) in
+    let work : 4 * half ≤ length c.halved.new.work = omega (arith, n.even, c.requires.work, c.halved.auto.work) in (
+      omega (arith, back, n.less, c.decreases),
+      (within.0, (within.1, (subst IsHalvable (sym back) n.half, omega (arith, back, other, high, work)))),
     )
 
 pub halved-requires-3 : goal.halved-requires-3
 halved-requires-3 g t c κs within =
-    let n = length c.args.a.now in
-    let half = half_halvable n c.requires.halvable c.if-a-eq-BLOCK.false in
-    let less = half_less n c.requires.halvable in
-    let even = half_even n c.requires.halvable c.if-a-eq-BLOCK.false in
-    let front : length c.add_halves.new.out ≡ n / 2 = c.add_halves.auto.out ∙ c.split_at_mut-left.ensures.front_len in
-    let beside : length c.add_halves-2.new.out ≡ n / 2 =
+    let n = twice (length c.args.a.now) c.requires.halvable c.if-a-eq-BLOCK.false in
+    let half : ℕ = length c.args.a.now / 2 in
+    let front : length c.add_halves.new.out ≡ half = c.add_halves.auto.out ∙ c.split_at_mut-left.ensures.front_len in
+    let beside : length c.add_halves-2.new.out ≡ half =
     c.add_halves-2.auto.out ∙ c.split_at_mut-right.ensures.front_len in
     let middle = c.split_at_mut-middle.ensures.front_len in
-    let spare : 4 * (n / 2) ≤ length c.split_at_mut-middle.result.1.now =
+    let spare : 4 * half ≤ length c.split_at_mut-middle.result.1.now =
     omega (
       arith,
-      even,
+      n.even,
       c.split_at_mut-middle.ensures.back_len,
       c.split_at_mut-right.ensures.back_len,
       c.split_at_mut-left.ensures.back_len,
@@ -68,8 +53,8 @@ halved-requires-3 g t c κs within =
       c.halved.auto.work,
       c.requires.work,
     ) in (
-      omega (arith, front, less, c.decreases),
-      (within.0, (within.1, (subst IsHalvable (sym front) half, omega (arith, front, beside, even, middle, spare)))),
+      omega (arith, front, n.less, c.decreases),
+      (within.0, (within.1, (subst IsHalvable (sym front) n.half, omega (arith, front, beside, middle, spare)))),
     )
 
 pub returns-then-a-eq-BLOCK-clause-products : goal.returns-then-a-eq-BLOCK-clause-products
@@ -84,11 +69,9 @@ returns-then-a-eq-BLOCK-clause-value g t c s inside =
 pub returns-clause-products : goal.returns-clause-products
 returns-clause-products g t c k e =
     let n = length c.args.a.now in
-    let even = half_even n c.requires.halvable c.if-a-eq-BLOCK.false in
-    let long = length-drop (n / 2) c.args.a.now in
-    let front : length (take (n / 2) c.args.a.now) ≡ n / 2 = length-take-le (n / 2) c.args.a.now (omega arith) in
-    let back : length (take (n - n / 2) (drop (n / 2) c.args.a.now)) ≡ n / 2 =
-    omega (arith, length-take-le (n - n / 2) (drop (n / 2) c.args.a.now) (omega arith)) in
+    let even = (twice (length c.args.a.now) c.requires.halvable c.if-a-eq-BLOCK.false).even in
+    let front = front_half (n / 2) c.args.a.now even in
+    let back = back_half (n / 2) c.args.a.now even in
     let left : length c.add_halves.new.out ≡ n / 2 = c.add_halves.auto.out ∙ c.split_at_mut-left.ensures.front_len in
     let all = three_of n k (g.R.Ring.products c.args.ring.now) (g.R.Ring.products c.halved.new.ring)
     (g.R.Ring.products c.halved-2.new.ring)
@@ -105,7 +88,7 @@ returns-clause-products g t c k e =
 pub returns-clause-value : goal.returns-clause-value
 returns-clause-value g t c s inside =
     let n = length c.args.a.now in
-    let even = half_even n c.requires.halvable c.if-a-eq-BLOCK.false in
+    let even = (twice (length c.args.a.now) c.requires.halvable c.if-a-eq-BLOCK.false).even in
     let low = c.split_at_mut-low.ensures.front_len in
     let high : length c.split_at_mut-low.result.1.now ≡ 2 * (n / 2) =
     omega (arith, even, c.split_at_mut-low.ensures.back_len, c.requires.room) in
@@ -132,41 +115,17 @@ returns-clause-value g t c s inside =
 
 pub add_halves-requires : goal.add_halves-requires
 add_halves-requires g t c =
-    omega (
-      arith,
-      half_even (length c.args.a.now) c.requires.halvable c.if-a-eq-BLOCK.false,
-      c.split_at_mut-left.ensures.front_len,
-    )
+    let n = twice (length c.args.a.now) c.requires.halvable c.if-a-eq-BLOCK.false in omega arith
 
 pub add_halves-requires-2 : goal.add_halves-requires-2
 add_halves-requires-2 g t c =
-    omega (
-      arith,
-      half_even (length c.args.a.now) c.requires.halvable c.if-a-eq-BLOCK.false,
-      c.requires.paired,
-      c.split_at_mut-right.ensures.front_len,
-    )
+    let n = twice (length c.args.a.now) c.requires.halvable c.if-a-eq-BLOCK.false in omega arith
 
 pub take_off-requires-clause-low : goal.take_off-requires-clause-low
-take_off-requires-clause-low g t c =
-    omega (
-      arith,
-      c.halved.auto.out,
-      c.split_at_mut-low.ensures.front_len,
-      c.halved-3.auto.out,
-      c.split_at_mut-middle.ensures.front_len,
-    )
+take_off-requires-clause-low g t c = omega arith
 
 pub take_off-requires-clause-high : goal.take_off-requires-clause-high
-take_off-requires-clause-high g t c =
-    omega (
-      arith,
-      c.halved-2.auto.out,
-      c.split_at_mut-low.ensures.back_len,
-      c.requires.room,
-      c.halved-3.auto.out,
-      c.split_at_mut-middle.ensures.front_len,
-    )
+take_off-requires-clause-high g t c = omega arith
 
 pub add_middle-requires : goal.add_middle-requires
 add_middle-requires g t c = omega arith

@@ -8,30 +8,20 @@ returns-clause-value g c =
     some_is c.checked_add-3.result _ _ _ c.checked_add-3.ensures (omega (
       arith,
       cv_is (2 ^ g.row.B) c.args.cells c.args.x c.args.y (pow_pos g.row.B),
-      c.in_ok-both.ensures.1,
-      c.in_ok-checked_add.ensures.1,
-      c.from-rounded.ensures,
-      c.div_ceil-crossed.ensures,
       ap₂ (λ s t. div_ceil s t) c.in_ok-checked_mul.ensures.1 c.units_of_one.ensures,
     ))
 
 pub returns-in_err-both-clause-told : goal.returns-in_err-both-clause-told
 returns-in_err-both-clause-told g c small fits =
-    absurd (c.in_err-both.ensures (omega (
-      arith,
-      cv_is (2 ^ g.row.B) c.args.cells c.args.x c.args.y (pow_pos g.row.B),
-      fits,
-    )))
+    let spread = cv_is (2 ^ g.row.B) c.args.cells c.args.x c.args.y (pow_pos g.row.B) in
+    absurd (c.in_err-both.ensures (omega arith))
 
 pub returns-in_err-checked_add-clause-told : goal.returns-in_err-checked_add-clause-told
 returns-in_err-checked_add-clause-told g c small fits =
     absurd (c.in_err-checked_add.ensures (omega (
       arith,
       cv_is (2 ^ g.row.B) c.args.cells c.args.x c.args.y (pow_pos g.row.B),
-      c.in_ok-both.ensures.1,
-      c.div_ceil-crossed.ensures,
       ap₂ (λ s t. div_ceil s t) c.in_ok-checked_mul.ensures.1 c.units_of_one.ensures,
-      fits,
     )))
 
 pub returns-clause-told : goal.returns-clause-told
@@ -39,10 +29,5 @@ returns-clause-told g c small fits =
     is_told c.checked_add-3.result _ _ c.checked_add-3.ensures (omega (
       arith,
       cv_is (2 ^ g.row.B) c.args.cells c.args.x c.args.y (pow_pos g.row.B),
-      c.in_ok-both.ensures.1,
-      c.in_ok-checked_add.ensures.1,
-      c.from-rounded.ensures,
-      c.div_ceil-crossed.ensures,
       ap₂ (λ s t. div_ceil s t) c.in_ok-checked_mul.ensures.1 c.units_of_one.ensures,
-      fits,
     ))

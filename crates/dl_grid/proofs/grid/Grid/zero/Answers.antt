@@ -1,35 +1,22 @@
-use Rattle.dl_grid.proofs.EndLists.{zero_ends, zero_low, zero_high, zero_long}
+use Rattle.dl_grid.proofs.Common.{◌^◌, ◌∙◌, refl, sym}
+use Rattle.dl_grid.proofs.EndLists.{viewed, ends_long, low_at_now, high_at_now, zero_at, zero_ends, zero_length}
 use Rattle.dl_grid.proofs.grid.Grid.zero.Goals as goal
 
-pub returns-clause-cells : goal.returns-clause-cells
-returns-clause-cells g c =
+pub returns : goal.returns
+returns g c =
+    let r = c.requires in
+    let v = viewed _ (zero_ends g.row.B c.args.cells r.scale_above r.scale_below r.some r.few) refl in
     rw (
       c.in_ok-lows.ensures.items_if_clones_equal (λ y same. same),
       c.in_ok-highs.ensures.items_if_clones_equal (λ y same. same),
       c.units_of_one.ensures,
       c.units_of_one-2.ensures,
     )
-    (zero_long g.row.B c.args.cells c.requires.scale_above c.requires.scale_below c.requires.some c.requires.few)
-
-pub returns-clause-low : goal.returns-clause-low
-returns-clause-low g c x =
-    rw (
-      c.in_ok-lows.ensures.items_if_clones_equal (λ y same. same),
-      c.in_ok-highs.ensures.items_if_clones_equal (λ y same. same),
-      c.units_of_one.ensures,
-      c.units_of_one-2.ensures,
-    )
-    (zero_low g.row.B c.args.cells x c.requires.scale_above c.requires.scale_below c.requires.some c.requires.few)
-
-pub returns-clause-high : goal.returns-clause-high
-returns-clause-high g c x =
-    rw (
-      c.in_ok-lows.ensures.items_if_clones_equal (λ y same. same),
-      c.in_ok-highs.ensures.items_if_clones_equal (λ y same. same),
-      c.units_of_one.ensures,
-      c.units_of_one-2.ensures,
-    )
-    (zero_high g.row.B c.args.cells x c.requires.scale_above c.requires.scale_below c.requires.some c.requires.few)
+    (record {
+      cells = sym (ends_long _ v) ∙ zero_length c.args.cells (2 ^ g.row.B);
+      low = λ x. sym (low_at_now x v) ∙ zero_at c.args.cells (2 ^ g.row.B) x r.some;
+      high = λ x. sym (high_at_now x v) ∙ zero_at c.args.cells (2 ^ g.row.B) x r.some;
+    })
 
 pub invariant_of-result : goal.invariant_of-result
 invariant_of-result g c =

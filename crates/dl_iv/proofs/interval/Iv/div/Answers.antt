@@ -11,18 +11,16 @@ invariant_of-result-clause-ordered g c =
 pub invariant_of-result-clause-in_range : goal.invariant_of-result-clause-in_range
 invariant_of-result-clause-in_range g c = rw (c.div_ceil-hi.ensures, c.units_of_one-one.ensures) c.requires.fits
 
-pub returns-clause-low : goal.returns-clause-low
-returns-clause-low g c = rw c.units_of_one-one.ensures refl
-
-pub returns-clause-high : goal.returns-clause-high
-returns-clause-high g c = rw (c.div_ceil-hi.ensures, c.units_of_one-one.ensures) refl
-
-pub returns-clause-holds : goal.returns-clause-holds
-returns-clause-holds g c x y p q =
+pub returns : goal.returns
+returns g c =
     let pos = pow_pos g.row.B in
     record {
-      low = rw c.units_of_one-one.ensures (div_low _ pos _ _ x y (omega arith)
-          (above_zero _ pos _ y c.requires.positive q.low) p.low q.high);
-      high = rw (c.div_ceil-hi.ensures, c.units_of_one-one.ensures)
-          (div_high _ pos _ _ x y c.requires.positive p.high q.low);
+      low = rw c.units_of_one-one.ensures refl;
+      high = rw (c.div_ceil-hi.ensures, c.units_of_one-one.ensures) refl;
+      holds = λ x y p q. record {
+        low = rw c.units_of_one-one.ensures (div_low _ pos _ _ x y (omega arith)
+            (above_zero _ pos _ y c.requires.positive q.low) p.low q.high);
+        high = rw (c.div_ceil-hi.ensures, c.units_of_one-one.ensures)
+            (div_high _ pos _ _ x y c.requires.positive p.high q.low);
+      };
     }

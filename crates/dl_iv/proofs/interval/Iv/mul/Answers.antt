@@ -16,14 +16,13 @@ invariant_of-result-clause-in_range g c =
     let reach : 2 ^ 127 * 2 ≤ 2 ^ 127 * c.units_of_one-one.result = mul-le-mul_left (2 ^ 127) two in
     rw c.div_ceil-hi.ensures (div_ceil_least _ _ (2 ^ 127) (omega arith) (omega arith))
 
-pub returns-clause-low : goal.returns-clause-low
-returns-clause-low g c = rw c.units_of_one-one.ensures refl
-
-pub returns-clause-high : goal.returns-clause-high
-returns-clause-high g c = rw (c.div_ceil-hi.ensures, c.units_of_one-one.ensures) refl
-
-pub returns-clause-holds : goal.returns-clause-holds
-returns-clause-holds g c x y p q = record {
-  low = rw c.units_of_one-one.ensures (mul_low _ (pow_pos g.row.B) _ _ x y p.low q.low);
-  high = rw (c.div_ceil-hi.ensures, c.units_of_one-one.ensures) (mul_high _ (pow_pos g.row.B) _ _ x y p.high q.high);
+pub returns : goal.returns
+returns g c = record {
+  low = rw c.units_of_one-one.ensures refl;
+  high = rw (c.div_ceil-hi.ensures, c.units_of_one-one.ensures) refl;
+  holds = λ x y p q. record {
+    low = rw c.units_of_one-one.ensures (mul_low _ (pow_pos g.row.B) _ _ x y p.low q.low);
+    high = rw (c.div_ceil-hi.ensures, c.units_of_one-one.ensures)
+        (mul_high _ (pow_pos g.row.B) _ _ x y p.high q.high);
+  };
 }
