@@ -23,16 +23,18 @@ join_small B xs ys h k i = elim (cases_lt i (length xs)) [
   | inr b ↦ subst (λ t. t < B) (sym (get_or-append_right xs ys (length xs) i 0 refl b)) (k (i - length xs))
 ]
 
--- the nodes below a node, where levels are left
-pub record IsBelow (levels node R : ℕ) : Type 0 where
+-- the two halves of a list of n items, and the nodes for them below a node, where levels are left
+pub record IsBelow (levels node R n : ℕ) : Type 0 where
   pub inside : node < R
   pub first : (2 * node + 1) * 2 ^ (levels - 1) ≤ 2 * R
   pub second : (2 * node + 1 + 1) * 2 ^ (levels - 1) ≤ 2 * R
-  pub half : 2 ^ levels / 2 ≡ 2 ^ (levels - 1)
+  pub half : n / 2 ≡ 2 ^ (levels - 1)
+  pub rest : n - n / 2 ≡ 2 ^ (levels - 1)
   pub twice : 2 ^ levels ≡ 2 ^ (levels - 1) * 2
 
-pub below : (levels node R : ℕ) → (levels ≡ 0 → ⊥) → (node + 1) * 2 ^ levels ≤ 2 * R → IsBelow levels node R
-below levels node R some h =
+pub below : (levels node R n : ℕ) → (levels ≡ 0 → ⊥) → (node + 1) * 2 ^ levels ≤ 2 * R → n ≡ 2 ^ levels
+    → IsBelow levels node R n
+below levels node R n some h size =
     let l = levels - 1 in
     let m = 2 ^ l in
     let e : levels ≡ suc l = omega (arith, some) in
@@ -42,7 +44,8 @@ below levels node R some h =
       inside = inside_roots node m R (pow_pos l) k;
       first = omega (arith, k);
       second = omega (arith, k);
-      half = omega (arith, twice);
+      half = omega (arith, size, twice);
+      rest = omega (arith, size, twice);
       twice = twice;
     }
 
@@ -202,7 +205,3 @@ roots_small p roots h k = elim (cases_lt k (length roots)) [
   | inl b ↦ omega (arith, h k b)
   | inr b ↦ omega (arith, get_or_past roots k 0 b)
 ]
-
--- the length of a half
-pub half_of : (levels R node n : ℕ) → (h : IsBelow levels node R) → n ≡ 2 ^ levels → n / 2 ≡ 2 ^ (levels - 1)
-half_of levels R node n h e = ap (λ t. t / 2) e ∙ h.half

@@ -5,7 +5,7 @@ ghost use Rattle.dl_exact.specs.Count.{count_pairs};
 ghost use Rattle.dl_transform.specs.Setup.{IsSetup};
 
 use crate::factors::{lowered, times};
-use crate::modular::{product_modulo, square_modulo};
+use crate::modular::product_modulo;
 use crate::tables::Table;
 use std::alloc::{AllocError, Global};
 
@@ -141,11 +141,12 @@ fn cells_of(levels: u32) -> usize
 }
 
 /// The first items of the product of two lists, as many as `out` has room for: for each `s` the sum
-/// of `a[i] * b[j]` over all `i + j = s`.
+/// of `a[i] * b[j]` over all `i + j = s`. That of a list with itself takes fewer transforms.
 fn product(
     alloc: Global,
     a: &[u128],
     b: &[u128],
+    is_square: bool,
     setup: &Setup,
     buffers: &mut Buffers,
     out: &mut [u128],
@@ -153,9 +154,10 @@ fn product(
     requires setup { IsSetup setup.now }
     requires first { (i : ℕ) → slice_index a.now i < 2 ^ 64 }
     requires second { (i : ℕ) → slice_index b.now i < 2 ^ 64 }
+    requires square { is_square ≡ true → b.now ≡ a.now }
     requires room { length a.now + length b.now ≤ 2 ^ setup.now.levels }
     requires within { length out.old ≤ length a.now + length b.now }
-    requires sums { (s : ℕ) → s < length out.old
+    requires sums { (s : ℕ)
         → count_pairs s (λ i j. slice_index a.now i * slice_index b.now j) < 2 ^ 123 }
     ensures { IfOk result (λ _. (s : ℕ) → s < length out.old
         → slice_index out.new s
@@ -167,37 +169,8 @@ fn product(
     let first = &mut buffers.first.as_mut_slice()[..size];
     let second = &mut buffers.second.as_mut_slice()[..size];
     let spare = &mut buffers.spare.as_mut_slice()[..size];
-    product_modulo(first, spare, a, b, &setup.first, levels);
-    product_modulo(second, spare, a, b, &setup.second, levels);
-    combine_all(first, second, setup, levels, out);
-    Ok(())
-}
-
-/// The same for the product of a list with itself.
-fn square(
-    alloc: Global,
-    a: &[u128],
-    setup: &Setup,
-    buffers: &mut Buffers,
-    out: &mut [u128],
-) -> Result<(), AllocError>
-    requires setup { IsSetup setup.now }
-    requires items { (i : ℕ) → slice_index a.now i < 2 ^ 64 }
-    requires room { length a.now + length a.now ≤ 2 ^ setup.now.levels }
-    requires within { length out.old ≤ length a.now + length a.now }
-    requires sums { (s : ℕ) → s < length out.old
-        → count_pairs s (λ i j. slice_index a.now i * slice_index a.now j) < 2 ^ 123 }
-    ensures { IfOk result (λ _. (s : ℕ) → s < length out.old
-        → slice_index out.new s
-        ≡ count_pairs s (λ i j. slice_index a.now i * slice_index a.now j)) }
-{
-    let levels = levels_for(a.len() + a.len(), setup.levels);
-    let size = cells_of(levels);
-    buffers.make_room(alloc, size)?;
-    let first = &mut buffers.first.as_mut_slice()[..size];
-    let second = &mut buffers.second.as_mut_slice()[..size];
-    square_modulo(first, a, &setup.first, levels);
-    square_modulo(second, a, &setup.second, levels);
+    product_modulo(first, spare, a, b, is_square, &setup.first, levels);
+    product_modulo(second, spare, a, b, is_square, &setup.second, levels);
     combine_all(first, second, setup, levels, out);
     Ok(())
 }
@@ -228,6 +201,35 @@ fn most(xs: &[u128]) -> u128
     most
 }
 
+/// Whether a setup of so many levels serves the first `cells` items of the product of two lists: it
+/// has room for both, and the sum of `a` times the greatest item of `b` is below `2^123`.
+fn fits(a: &[u128], b: &[u128], cells: usize, levels: u32) -> bool
+    requires few { levels < 40 }
+    requires first { All (λ x. x < 2 ^ 64) a.now }
+    requires second { All (λ x. x < 2 ^ 64) b.now }
+    ensures room { result ≡ true → length a.now + length b.now ≤ 2 ^ levels }
+    ensures within { result ≡ true → cells ≤ length a.now + length b.now }
+    ensures sums { result ≡ true → (s : ℕ)
+        → count_pairs s (λ i j. slice_index a.now i * slice_index b.now j) < 2 ^ 123 }
+    ensures told { length a.now + length b.now ≤ 2 ^ levels
+        → cells ≤ length a.now + length b.now → sum_by (λ x. x) a.now < 2 ^ 64
+        → (m : ℕ) → ((k : ℕ) → slice_index b.now k ≤ m)
+        → m * sum_by (λ x. x) a.now < 2 ^ 123 → result ≡ true }
+{
+    let all = total(a);
+    let both = a.len() + b.len();
+    if cells > both || both > cells_of(levels) {
+        return false;
+    }
+    if all >= 18446744073709551616 {
+        return false;
+    }
+    if most(b) * all >= 10633823966279326983230456482242756608 {
+        return false;
+    }
+    true
+}
+
 /// Whether the first items of the product of two lists, for each `s` the sum of `a[i] * b[j]` over
 /// all `i + j = s`, could be told, as many as `out` has room for; then `out` has them. They can
 /// where the setup has room for both lists, and the sum of `a` times the greatest item of `b` is
@@ -251,18 +253,10 @@ pub fn checked_product(
         → (m : ℕ) → ((k : ℕ) → slice_index b.now k ≤ m)
         → m * sum_by (λ x. x) a.now < 2 ^ 123 → told ≡ true) }
 {
-    let all = total(a);
-    let room = 1usize << setup.levels;
-    if a.len() > room || b.len() > room - a.len() || out.len() > a.len() + b.len() {
+    if !fits(a, b, out.len(), setup.levels) {
         return Ok(false);
     }
-    if all >= 18446744073709551616 {
-        return Ok(false);
-    }
-    if most(b) * all >= 10633823966279326983230456482242756608 {
-        return Ok(false);
-    }
-    product(alloc, a, b, setup, buffers, out)?;
+    product(alloc, a, b, false, setup, buffers, out)?;
     Ok(true)
 }
 
@@ -284,17 +278,9 @@ pub fn checked_square(
         → (m : ℕ) → ((k : ℕ) → slice_index a.now k ≤ m)
         → m * sum_by (λ x. x) a.now < 2 ^ 123 → told ≡ true) }
 {
-    let all = total(a);
-    let room = 1usize << setup.levels;
-    if a.len() > room / 2 || out.len() > a.len() + a.len() {
+    if !fits(a, a, out.len(), setup.levels) {
         return Ok(false);
     }
-    if all >= 18446744073709551616 {
-        return Ok(false);
-    }
-    if most(a) * all >= 10633823966279326983230456482242756608 {
-        return Ok(false);
-    }
-    square(alloc, a, setup, buffers, out)?;
+    product(alloc, a, a, true, setup, buffers, out)?;
     Ok(true)
 }

@@ -1,4 +1,5 @@
-ghost use Rattle.std.specs.Prelude.{◌≡◌, ℕ, ◌+◌, ◌*◌, ◌/◌, ◌^◌, ◌<◌, ◌≤◌, length, slice_index};
+ghost use Rattle.std.specs.Prelude.{◌≡◌, ℕ, ◌+◌, ◌*◌, ◌/◌, ◌^◌, ◌<◌, ◌≤◌};
+ghost use Rattle.std.specs.Prelude.{true, length, slice_index};
 ghost use Rattle.dl_transform.specs.Residue.{Same};
 ghost use Rattle.dl_exact.specs.Count.{count_pairs};
 ghost use Rattle.dl_transform.specs.Table.{value_at, IsTable};
@@ -67,33 +68,6 @@ fn product_of(x: &mut [u64], y: &[u64], table: &Table, levels: u32)
     to_items(x, 0, table, levels);
 }
 
-/// The product of two lists modulo `p` before its scale, with `y` for what is needed on the way.
-pub(crate) fn product_modulo(
-    x: &mut [u64],
-    y: &mut [u64],
-    a: &[u128],
-    b: &[u128],
-    table: &Table,
-    levels: u32,
-)
-    requires table { IsTable table.now }
-    requires inside { levels < length table.now.scales.items }
-    requires size { length x.old ≡ 2 ^ levels }
-    requires alike { length y.old ≡ length x.old }
-    requires within { 2 ^ levels ≤ 2 * length table.now.roots.items }
-    requires room { length a.now + length b.now ≤ 2 ^ levels }
-    requires first { (i : ℕ) → slice_index a.now i < 2 ^ 64 }
-    requires second { (i : ℕ) → slice_index b.now i < 2 ^ 64 }
-    ensures small { (s : ℕ) → slice_index x.new s < 2 * table.now.p }
-    ensures same { (s : ℕ) → s < 2 ^ levels
-        → Same table.now.p (slice_index x.new s * slice_index table.now.scales.items levels)
-        (count_pairs s (λ i j. slice_index a.now i * slice_index b.now j)) }
-{
-    values_of(x, a, table, levels);
-    values_of(y, b, table, levels);
-    product_of(x, y, table, levels);
-}
-
 /// The polynomial whose values at the lowest nodes are the squares of those in `x`, where its scale
 /// is still to come.
 fn square_of(x: &mut [u64], table: &Table, levels: u32)
@@ -113,19 +87,36 @@ fn square_of(x: &mut [u64], table: &Table, levels: u32)
     to_items(x, 0, table, levels);
 }
 
-/// The product of a list with itself modulo `p` before its scale.
-pub(crate) fn square_modulo(x: &mut [u64], a: &[u128], table: &Table, levels: u32)
+/// The product of two lists modulo `p` before its scale, with `y` for what is needed on the way.
+/// That of a list with itself needs its values once.
+pub(crate) fn product_modulo(
+    x: &mut [u64],
+    y: &mut [u64],
+    a: &[u128],
+    b: &[u128],
+    is_square: bool,
+    table: &Table,
+    levels: u32,
+)
     requires table { IsTable table.now }
     requires inside { levels < length table.now.scales.items }
     requires size { length x.old ≡ 2 ^ levels }
+    requires alike { length y.old ≡ length x.old }
     requires within { 2 ^ levels ≤ 2 * length table.now.roots.items }
-    requires room { length a.now + length a.now ≤ 2 ^ levels }
-    requires items { (i : ℕ) → slice_index a.now i < 2 ^ 64 }
+    requires square { is_square ≡ true → b.now ≡ a.now }
+    requires room { length a.now + length b.now ≤ 2 ^ levels }
+    requires first { (i : ℕ) → slice_index a.now i < 2 ^ 64 }
+    requires second { (i : ℕ) → slice_index b.now i < 2 ^ 64 }
     ensures small { (s : ℕ) → slice_index x.new s < 2 * table.now.p }
     ensures same { (s : ℕ) → s < 2 ^ levels
         → Same table.now.p (slice_index x.new s * slice_index table.now.scales.items levels)
-        (count_pairs s (λ i j. slice_index a.now i * slice_index a.now j)) }
+        (count_pairs s (λ i j. slice_index a.now i * slice_index b.now j)) }
 {
     values_of(x, a, table, levels);
-    square_of(x, table, levels);
+    if is_square {
+        square_of(x, table, levels);
+        return;
+    }
+    values_of(y, b, table, levels);
+    product_of(x, y, table, levels);
 }

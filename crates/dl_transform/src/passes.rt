@@ -79,8 +79,9 @@ fn to_values_4(x: &mut [u64], node: usize, table: &Table)
     let (w, q) = table.root(node);
     let (low, high) = x.split_at_mut(2);
     part_all(low, high, w, q, table.p);
-    to_values_2(low, 2 * node, table);
-    to_values_2(high, 2 * node + 1, table);
+    let child = 2 * node;
+    to_values_2(low, child, table);
+    to_values_2(high, child + 1, table);
 }
 
 /// The values of the polynomial `x` at the lowest nodes below a node, so many levels down.
@@ -104,8 +105,9 @@ pub(crate) fn to_values(x: &mut [u64], node: usize, table: &Table, levels: u32)
     let half = x.len() / 2;
     let (low, high) = x.split_at_mut(half);
     part_all(low, high, w, q, table.p);
-    to_values(low, 2 * node, table, levels - 1);
-    to_values(high, 2 * node + 1, table, levels - 1);
+    let child = 2 * node;
+    to_values(low, child, table, levels - 1);
+    to_values(high, child + 1, table, levels - 1);
 }
 
 /// The 2 items with these values at the lowest nodes below a node, times 2.
@@ -141,8 +143,9 @@ fn to_items_4(x: &mut [u64], node: usize, table: &Table)
 {
     let (w, q) = table.inverse(node);
     let (low, high) = x.split_at_mut(2);
-    to_items_2(low, 2 * node, table);
-    to_items_2(high, 2 * node + 1, table);
+    let child = 2 * node;
+    to_items_2(low, child, table);
+    to_items_2(high, child + 1, table);
     join_all(low, high, w, q, table.p);
 }
 
@@ -168,8 +171,9 @@ pub(crate) fn to_items(x: &mut [u64], node: usize, table: &Table, levels: u32)
     let (w, q) = table.inverse(node);
     let half = x.len() / 2;
     let (low, high) = x.split_at_mut(half);
-    to_items(low, 2 * node, table, levels - 1);
-    to_items(high, 2 * node + 1, table, levels - 1);
+    let child = 2 * node;
+    to_items(low, child, table, levels - 1);
+    to_items(high, child + 1, table, levels - 1);
     join_all(low, high, w, q, table.p);
 }
 

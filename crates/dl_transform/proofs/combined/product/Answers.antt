@@ -112,4 +112,4 @@ returns c s b =
     let inside : s < 2 ^ c.levels_for-levels.result =
     omega (arith, b, c.requires.within, c.levels_for-levels.ensures.room) in
     c.combine_all.ensures s b (count_pairs s (λ i j. get_or c.args.a.now i 0 * get_or c.args.b.now j 0))
-    (c.requires.sums s b) (c.product_modulo.ensures.same s inside) (c.product_modulo-2.ensures.same s inside)
+    (c.requires.sums s) (c.product_modulo.ensures.same s inside) (c.product_modulo-2.ensures.same s inside)

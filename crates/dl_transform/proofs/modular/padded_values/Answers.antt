@@ -1,6 +1,6 @@
 use Rattle.dl_transform.proofs.Common.{ℕ, ◌≡◌, ◌+◌, ◌-◌, ◌*◌, ◌^◌, ◌<◌, ◌≤◌, take, drop, length, slice_index, get_or, arith, refl, ap, subst, ◌∙◌, get_or-take, get_or-drop, get_or_past, eval, point}
 use Rattle.dl_transform.proofs.Residues.{same_trans, same_of}
-use Rattle.dl_transform.proofs.Parts.{IsBelow, below, half_of, roots_small, join_small, values_step}
+use Rattle.dl_transform.proofs.Parts.{IsBelow, below, roots_small, join_small, values_step}
 use Rattle.dl_transform.proofs.modular.padded_values.Goals as goal
 
 pub returns-clause-small : goal.returns-clause-small
@@ -15,14 +15,14 @@ returns-clause-values c k inside =
     let m = 2 ^ (c.args.levels - 1) in
     let n = 2 ^ c.args.levels in
     let whole : (0 + 1) * n ≤ 2 * length roots = omega (arith, c.requires.within) in
-    let b : IsBelow c.args.levels 0 (length roots) =
-    below c.args.levels 0 (length roots) (λ e. absurd (omega (arith, e, c.requires.some))) whole in
-    let half = half_of c.args.levels (length roots) 0 (length c.args.x.now) b c.requires.size in
-    let room : length a ≤ m = omega (arith, half, c.requires.room) in
+    let b : IsBelow c.args.levels 0 (length roots) (length c.args.x.now) =
+    below c.args.levels 0 (length roots) (length c.args.x.now) (λ e. absurd (omega (arith, e, c.requires.some))) whole
+    c.requires.size in
+    let room : length a ≤ m = omega (arith, b.half, c.requires.room) in
     let start : (w i : ℕ) → i < m → get_or a i 0 ≡ get_or (take m a) i 0 + w * get_or (drop m a) i 0 =
     λ w i h. plus_nothing (get_or a i 0) w (get_or (take m a) i 0) (get_or (drop m a) i 0) (get_or-take m a i 0 h)
     (get_or-drop m a i 0 ∙ get_or_past a (m + i) 0 (omega (arith, room))) in
-    let len : length c.to_values.new.x ≡ m = omega (arith, half, c.requires.size, b.twice) in
+    let len : length c.to_values.new.x ≡ m = omega (arith, b.half, b.rest) in
     let e : 0 * n + k ≡ k = omega arith in
     same_trans (values_step p 0 m n roots a (take m a) (drop m a) c.load.new.x c.load-2.new.x c.to_values.new.x
     c.to_values-2.new.x (c.args.levels - 1) refl b.twice

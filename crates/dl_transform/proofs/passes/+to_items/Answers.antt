@@ -1,5 +1,5 @@
 use Rattle.dl_transform.proofs.Common.{◌+◌, ◌-◌, ◌*◌, ◌/◌, ◌^◌, take, drop, length, get_or, arith, refl, ap, ◌∙◌, pow_pos, point}
-use Rattle.dl_transform.proofs.Parts.{below, half_of, join_small, items_leaf}
+use Rattle.dl_transform.proofs.Parts.{below, join_small, items_leaf}
 use Rattle.dl_transform.proofs.AfterSteps.{front_small, back_small, items_after}
 use Rattle.dl_transform.proofs.passes.+to_items.Goals as goal
 
@@ -11,20 +11,18 @@ returns-then-levels-eq0-clause-items t c =
 
 pub inverse-w-requires-clause-inside : goal.inverse-w-requires-clause-inside
 inverse-w-requires-clause-inside t c =
-    (below c.args.levels c.args.node (length c.args.table.now.roots.items) c.if-levels-eq0.false
-    c.requires.within).inside
+    (below c.args.levels c.args.node (length c.args.table.now.roots.items) (length c.args.x.now)
+    c.if-levels-eq0.false c.requires.within c.requires.size).inside
 
 pub to_items-requires : goal.to_items-requires
 to_items-requires t c =
-    let b = (below c.args.levels c.args.node (length c.args.table.now.roots.items) c.if-levels-eq0.false
-    c.requires.within) in
-    let half = (half_of c.args.levels (length c.args.table.now.roots.items) c.args.node (length c.args.x.now) b
-    c.requires.size) in (
+    let b = below c.args.levels c.args.node (length c.args.table.now.roots.items) (length c.args.x.now)
+    c.if-levels-eq0.false c.requires.within c.requires.size in (
       omega (arith, c.if-levels-eq0.false, c.decreases),
       (
         c.requires.table,
         (
-          omega (arith, half, c.requires.size, b.twice),
+          omega (arith, b.half, b.rest),
           (
             b.first,
             front_small (length c.args.x.now / 2) (2 * c.args.table.now.p) c.args.x.now _
@@ -36,15 +34,13 @@ to_items-requires t c =
 
 pub to_items-requires-2 : goal.to_items-requires-2
 to_items-requires-2 t c =
-    let b = (below c.args.levels c.args.node (length c.args.table.now.roots.items) c.if-levels-eq0.false
-    c.requires.within) in
-    let half = (half_of c.args.levels (length c.args.table.now.roots.items) c.args.node (length c.args.x.now) b
-    c.requires.size) in (
+    let b = below c.args.levels c.args.node (length c.args.table.now.roots.items) (length c.args.x.now)
+    c.if-levels-eq0.false c.requires.within c.requires.size in (
       omega (arith, c.if-levels-eq0.false, c.decreases),
       (
         c.requires.table,
         (
-          omega (arith, half, c.requires.size, b.twice),
+          omega (arith, b.half, b.rest),
           (
             b.second,
             back_small (length c.args.x.now / 2) (2 * c.args.table.now.p) c.args.x.now _
@@ -56,11 +52,9 @@ to_items-requires-2 t c =
 
 pub join_all-requires-clause-alike : goal.join_all-requires-clause-alike
 join_all-requires-clause-alike t c =
-    let b = (below c.args.levels c.args.node (length c.args.table.now.roots.items) c.if-levels-eq0.false
-    c.requires.within) in
-    let half = (half_of c.args.levels (length c.args.table.now.roots.items) c.args.node (length c.args.x.now) b
-    c.requires.size) in
-    omega (arith, half, c.requires.size, b.twice)
+    let b = below c.args.levels c.args.node (length c.args.table.now.roots.items) (length c.args.x.now)
+    c.if-levels-eq0.false c.requires.within c.requires.size in
+    omega (arith, b.half, b.rest)
 
 pub returns-clause-small : goal.returns-clause-small
 returns-clause-small t c =
@@ -69,32 +63,24 @@ returns-clause-small t c =
 
 pub returns-clause-items : goal.returns-clause-items
 returns-clause-items t c =
-    let b = (below c.args.levels c.args.node (length c.args.table.now.roots.items) c.if-levels-eq0.false
-    c.requires.within) in
-    let half = (half_of c.args.levels (length c.args.table.now.roots.items) c.args.node (length c.args.x.now) b
-    c.requires.size) in
+    let b = below c.args.levels c.args.node (length c.args.table.now.roots.items) (length c.args.x.now)
+    c.if-levels-eq0.false c.requires.within c.requires.size in
     items_after c.args.table.now c.requires.table c.args.node (2 ^ (c.args.levels - 1)) (2 ^ c.args.levels)
     (c.args.levels - 1) refl b.twice c.requires.within c.args.x.now c.split_at_mut-low.result.0.now
-    c.split_at_mut-low.result.1.now (c.split_at_mut-low.ensures.front ∙ ap (λ t. take t c.args.x.now) half)
-    (c.split_at_mut-low.ensures.back ∙ ap (λ t. drop t c.args.x.now) half) c.inverse-w.result.0 c.to_items.new.x
+    c.split_at_mut-low.result.1.now (c.split_at_mut-low.ensures.front ∙ ap (λ t. take t c.args.x.now) b.half)
+    (c.split_at_mut-low.ensures.back ∙ ap (λ t. drop t c.args.x.now) b.half) c.inverse-w.result.0 c.to_items.new.x
     c.to_items-2.new.x c.join_all.new.low c.join_all.new.high c.inverse-w.ensures.value (pow_pos (c.args.levels - 1))
-    c.to_items.ensures.items c.to_items-2.ensures.items (omega (arith, half, c.requires.size, b.twice))
-    (omega (arith, half, c.requires.size, b.twice)) c.join_all.ensures.low c.join_all.ensures.high
+    c.to_items.ensures.items c.to_items-2.ensures.items (omega (arith, b.half, b.rest))
+    (omega (arith, b.half, b.rest)) c.join_all.ensures.low c.join_all.ensures.high
 
-pub overflow_mul-node : goal.overflow_mul-node
-overflow_mul-node t c =
-    let b = (below c.args.levels c.args.node (length c.args.table.now.roots.items) c.if-levels-eq0.false
-    c.requires.within) in
+pub overflow_mul-child : goal.overflow_mul-child
+overflow_mul-child t c =
+    let b = below c.args.levels c.args.node (length c.args.table.now.roots.items) (length c.args.x.now)
+    c.if-levels-eq0.false c.requires.within c.requires.size in
     omega (arith, b.inside, c.requires.table.few)
 
-pub overflow_mul-node-2 : goal.overflow_mul-node-2
-overflow_mul-node-2 t c =
-    let b = (below c.args.levels c.args.node (length c.args.table.now.roots.items) c.if-levels-eq0.false
-    c.requires.within) in
-    omega (arith, b.inside, c.requires.table.few)
-
-pub overflow_add-node : goal.overflow_add-node
-overflow_add-node t c =
-    let b = (below c.args.levels c.args.node (length c.args.table.now.roots.items) c.if-levels-eq0.false
-    c.requires.within) in
+pub overflow_add-child : goal.overflow_add-child
+overflow_add-child t c =
+    let b = below c.args.levels c.args.node (length c.args.table.now.roots.items) (length c.args.x.now)
+    c.if-levels-eq0.false c.requires.within c.requires.size in
     omega (arith, b.inside, c.requires.table.few)

@@ -16,14 +16,11 @@ returns-clause-values c =
 pub root-w-requires-clause-inside : goal.root-w-requires-clause-inside
 root-w-requires-clause-inside c = omega (arith, c.requires.within)
 
-pub overflow_mul-node : goal.overflow_mul-node
-overflow_mul-node c = omega (arith, c.requires.within, c.requires.table.few)
+pub overflow_mul-child : goal.overflow_mul-child
+overflow_mul-child c = omega (arith, c.requires.within, c.requires.table.few)
 
-pub overflow_mul-node-2 : goal.overflow_mul-node-2
-overflow_mul-node-2 c = omega (arith, c.requires.within, c.requires.table.few)
-
-pub overflow_add-node : goal.overflow_add-node
-overflow_add-node c = omega (arith, c.requires.within, c.requires.table.few)
+pub overflow_add-child : goal.overflow_add-child
+overflow_add-child c = omega (arith, c.requires.within, c.requires.table.few)
 
 pub to_values_2-requires-clause-within : goal.to_values_2-requires-clause-within
 to_values_2-requires-clause-within c = omega (arith, c.requires.within)
