@@ -1,9 +1,10 @@
 -- The longest decimal, percent and fraction at the front of some bytes.
-use Rattle.dl_lexer.proofs.Common.{ℕ, zero, suc, ◌≡◌, ◌≢◌, ◌∙◌, ◌+◌, ◌<◌, ◌≤◌, ◌⊎◌, List, [], ◌∷◌, ◌++◌, length, get_or, take, drop, Bool, ◌||◌, ◌==◌, false, true, max, inl, inr, refl, sym, ap, arith, append_assoc, length-append, length-drop, Some, slice_get, subst, list_all, prefix_len, take-append-drop, length-take-le, cases_lt, and_parts, prefix_len-le-length, slice_get_within, get_or_from_slice_get, is_digit, IsDecimalToken, digits, digits_point, point_digits, percent, fraction, IsNumeralToken, a_decimal, a_percent, a_fraction, IsLongest}
+use Rattle.dl_lexer.proofs.Common.{ℕ, zero, suc, ◌≡◌, ◌≢◌, ◌∙◌, ◌+◌, ◌<◌, ◌≤◌, ◌⊎◌, List, [], ◌∷◌, ◌++◌, length, get_or, take, drop, Bool, ◌||◌, ◌==◌, false, true, max, inl, inr, refl, sym, ap, arith, append_assoc, length-append, length-drop, Some, slice_get, subst, list_all, prefix_len, take-append-drop, length-take-le, cases_lt, prefix_len-le-length, slice_get_within, get_or_from_slice_get, is_digit, IsDecimalToken, digits, digits_point, point_digits, percent, fraction, IsNumeralToken, a_decimal, a_percent, a_fraction, IsLongest}
 use Rattle.std.proofs.Math.Seq.{take-append_seam}
 use Rattle.std.proofs.lemmas.List.{get_or-take}
 use Rattle.std.proofs.lemmas.List.Folds.{length-prefix_len, list_all-append, list_all_at}
-use Rattle.dl_lexer.specs.Numerals.{AreDigits, IsPercent, IsFraction}
+use Rattle.std.proofs.lemmas.List.Sums.{AllPass-from_list_all, list_all-from_AllPass}
+use Rattle.dl_lexer.specs.Numerals.{AreDigits, IsDigits, IsPercent, IsFraction}
 use Rattle.dl_lexer.proofs.Prefix.{prefix_passes, prefix_most, prefix_ends, passes_prefix, take_around, get_behind, drop_behind}
 use Rattle.dl_lexer.proofs.Longest.{either, longest_either, longest_none}
 
@@ -12,21 +13,21 @@ abbrev pub run : List ℕ → ℕ
 run bytes = prefix_len is_digit bytes
 
 -- digits, a mark and digits stand at the front: then they lie within the two runs of digits there
-record IsMarked (c : ℕ) (bytes : List ℕ) (m : ℕ) (a b : List ℕ) : Type 0 where
-  pub mark : slice_get bytes (run bytes) ≡ Some c
-  pub first : length a ≡ run bytes
-  pub second : length b ≤ run (drop (run bytes + 1) bytes)
+record IsMarked (c : ℕ) (bytes : List ℕ) (w m : ℕ) (a b : List ℕ) : Type 0 where
+  pub mark : slice_get bytes w ≡ Some c
+  pub first : length a ≡ w
+  pub second : length b ≤ run (drop (w + 1) bytes)
   pub whole : m ≡ length a + 1 + length b
 
-marked : (c : ℕ) (bytes : List ℕ) (m : ℕ) (a b : List ℕ) → is_digit c ≡ false → m ≤ length bytes
-    → take m bytes ≡ a ++ c ∷ b → AreDigits a → AreDigits b → IsMarked c bytes m a b
-marked c bytes m a b mark h e all_a all_b =
+marked : (c : ℕ) (bytes : List ℕ) (w m : ℕ) (a b : List ℕ) → is_digit c ≡ false → w ≡ run bytes → m ≤ length bytes
+    → take m bytes ≡ a ++ c ∷ b → AreDigits a → AreDigits b → IsMarked c bytes w m a b
+marked c bytes w m a b mark before h e all_a all_b =
     let after : List ℕ = drop m bytes in
     let split : bytes ≡ a ++ c ∷ (b ++ after) = sym (take-append-drop m bytes) ∙ ap (λ ys. ys ++ after) e
     ∙ append_assoc a (c ∷ b) after in
     let ends : prefix_len is_digit (a ++ c ∷ (b ++ after)) ≡ length a =
     prefix_ends is_digit c a (b ++ after) mark all_a in
-    let size : length a ≡ run bytes = rw split (sym ends) in
+    let size : length a ≡ w = sym (before ∙ ap run split ∙ ends) in
     let at : slice_get bytes (length a) ≡ Some c = rw split (get_behind a (b ++ after) c) in
     let rest : drop (length a + 1) bytes ≡ b ++ after = ap (λ ys. drop (length a + 1) ys) split
     ∙ drop_behind a (b ++ after) c in
@@ -39,149 +40,102 @@ marked c bytes m a b mark h e all_a all_b =
       whole = omega (arith, count, length-take-le m bytes h, length-append a (c ∷ b));
     }
 
-run_within : (bytes : List ℕ) → run bytes ≤ length bytes
-run_within bytes = prefix_len-le-length is_digit bytes
-
 -- the digits that begin some bytes
-pub run_digits : (bytes : List ℕ) → AreDigits (take (run bytes) bytes)
-run_digits bytes = prefix_passes is_digit bytes
+are_digits : (bytes : List ℕ) (n : ℕ) → n ≡ run bytes → AreDigits (take n bytes)
+are_digits bytes n e = rw e (prefix_passes is_digit bytes)
 
-length_run : (bytes : List ℕ) → length (take (run bytes) bytes) ≡ run bytes
-length_run bytes = length-prefix_len is_digit bytes
+some_digits : (bytes : List ℕ) (n : ℕ) → n ≡ run bytes → 0 < n → IsDigits (take n bytes)
+some_digits bytes n e some =
+    let size : length (take n bytes) ≡ n = rw e (length-prefix_len is_digit bytes) in
+    (omega arith, are_digits bytes n e)
+
+-- digits, a mark and digits lie within the bytes
+round_within : (c : ℕ) (bytes : List ℕ) (w p : ℕ) → slice_get bytes w ≡ Some c → p ≡ run (drop (w + 1) bytes)
+    → w + 1 + p ≤ length bytes
+round_within c bytes w p mark second = omega (
+  arith,
+  slice_get_within bytes w c mark,
+  length-drop (w + 1) bytes,
+  prefix_len-le-length is_digit (drop (w + 1) bytes),
+)
 
 -- a decimal at the front, with no point behind the first digits
 pub decimal_no_point : (bytes : List ℕ) → slice_get bytes (run bytes) ≢ Some 46
     → IsLongest IsDecimalToken bytes (run bytes)
 decimal_no_point bytes other = record {
-  within = run_within bytes;
-  spelled = λ some. digits (omega (arith, length_run bytes), run_digits bytes);
+  within = prefix_len-le-length is_digit bytes;
+  spelled = λ some. digits (some_digits bytes (run bytes) refl some);
   longest = most;
 }
   where
     most : (m : ℕ) → m ≤ length bytes → IsDecimalToken (take m bytes) → m ≤ run bytes
     most m h (digits d) = prefix_most is_digit bytes m h d.1
-    most m h (digits_point a b e all_a all_b) = absurd (other (marked 46 bytes m a b refl h e all_a.1 all_b).mark)
-    most m h (point_digits b e all_b) = absurd (other (marked 46 bytes m [] b refl h e refl all_b.1).mark)
+    most m h (digits_point a b e all_a all_b) =
+        absurd (other (marked 46 bytes (run bytes) m a b refl refl h e all_a.1 all_b).mark)
+    most m h (point_digits b e all_b) =
+        absurd (other (marked 46 bytes (run bytes) m [] b refl refl h e refl all_b.1).mark)
 
 -- a decimal at the front, with a point
-pub decimal_point : (bytes : List ℕ) → slice_get bytes (run bytes) ≡ Some 46
-    → 0 < run bytes + run (drop (run bytes + 1) bytes)
-    → IsLongest IsDecimalToken bytes (run bytes + 1 + run (drop (run bytes + 1) bytes))
-decimal_point bytes point some = record {
-  within = omega (
-    arith,
-    slice_get_within bytes (run bytes) 46 point,
-    length-drop (run bytes + 1) bytes,
-    run_within
-        (drop (run bytes + 1) bytes),
-  );
-  spelled = λ _. rw (take_around bytes (run bytes) 46 part point) (spelled (run bytes) refl);
+pub decimal_with_point : (bytes : List ℕ) (w p : ℕ) → w ≡ run bytes → slice_get bytes w ≡ Some 46
+    → p ≡ run (drop (w + 1) bytes) → 0 < w + p → IsLongest IsDecimalToken bytes (w + 1 + p)
+decimal_with_point bytes w p first mark second some = record {
+  within = round_within 46 bytes w p mark second;
+  spelled = λ _. rw (take_around bytes w 46 p mark) (spelled w refl);
   longest = most;
 }
   where
-    part : ℕ
-    part = run (drop (run bytes + 1) bytes)
-
     behind : List ℕ
-    behind = take part (drop (run bytes + 1) bytes)
+    behind = drop (w + 1) bytes
 
-    spelled : (n : ℕ) → n ≡ run bytes → IsDecimalToken (take n bytes ++ 46 ∷ behind)
-    spelled zero e = point_digits behind refl
-        (omega (arith, length_run (drop (run bytes + 1) bytes)), run_digits (drop (run bytes + 1) bytes))
-    spelled (suc n) e = rw e (digits_point (take (run bytes) bytes) behind refl
-        (omega (arith, length_run bytes), run_digits bytes) (run_digits (drop (run bytes + 1) bytes)))
+    spelled : (n : ℕ) → n ≡ w → IsDecimalToken (take n bytes ++ 46 ∷ take p behind)
+    spelled zero e = point_digits (take p behind) refl (some_digits behind p second (omega arith))
+    spelled (suc n) e = digits_point (take (suc n) bytes) (take p behind) refl
+        (some_digits bytes (suc n) (e ∙ first) (omega arith)) (are_digits behind p second)
 
-    most : (m : ℕ) → m ≤ length bytes → IsDecimalToken (take m bytes) → m ≤ run bytes + 1 + part
+    most : (m : ℕ) → m ≤ length bytes → IsDecimalToken (take m bytes) → m ≤ w + 1 + p
     most m h (digits d) = let short : m ≤ run bytes = prefix_most is_digit bytes m h d.1 in omega arith
-    most m h (digits_point a b e all_a all_b) = let at = marked 46 bytes m a b refl h e all_a.1 all_b in omega arith
-    most m h (point_digits b e all_b) = let at = marked 46 bytes m [] b refl h e refl all_b.1 in omega arith
+    most m h (digits_point a b e all_a all_b) =
+        let at = marked 46 bytes w m a b refl first h e all_a.1 all_b in omega arith
+    most m h (point_digits b e all_b) =
+        let at = marked 46 bytes w m [] b refl first h e refl all_b.1 in omega arith
 
 -- a lone point begins no decimal
-pub decimal_bare_point : (bytes : List ℕ) → run bytes ≡ 0 → run (drop (run bytes + 1) bytes) ≡ 0
-    → slice_get bytes (run bytes) ≡ Some 46 → IsLongest IsDecimalToken bytes 0
-decimal_bare_point bytes first second point = longest_none IsDecimalToken bytes no_decimal
+pub decimal_with_bare_point : (bytes : List ℕ) (w p : ℕ) → w ≡ run bytes → p ≡ run (drop (w + 1) bytes) → w + p ≡ 0
+    → IsLongest IsDecimalToken bytes 0
+decimal_with_bare_point bytes w p first second none = longest_none IsDecimalToken bytes no_decimal
   where
     no_decimal : (m : ℕ) → m ≤ length bytes → IsDecimalToken (take m bytes) → ⊥
     no_decimal m h (digits d) =
         let short : m ≤ run bytes = prefix_most is_digit bytes m h d.1 in omega (arith, length-take-le m bytes h, d.0)
     no_decimal m h (digits_point a b e all_a all_b) =
-        let at = marked 46 bytes m a b refl h e all_a.1 all_b in omega (arith, all_a.0)
+        let at = marked 46 bytes w m a b refl first h e all_a.1 all_b in omega (arith, all_a.0)
     no_decimal m h (point_digits b e all_b) =
-        let at = marked 46 bytes m [] b refl h e refl all_b.1 in omega (arith, all_b.0)
+        let at = marked 46 bytes w m [] b refl first h e refl all_b.1 in omega (arith, all_b.0)
 
 -- a fraction at the front
-pub fraction_slash : (bytes : List ℕ) → slice_get bytes (run bytes) ≡ Some 47 → 0 < run bytes
-    → 0 < run (drop (run bytes + 1) bytes)
-    → IsLongest IsFraction bytes (run bytes + 1 + run (drop (run bytes + 1) bytes))
-fraction_slash bytes slash above below = record {
-  within = omega (
-    arith,
-    slice_get_within bytes (run bytes) 47 slash,
-    length-drop (run bytes + 1) bytes,
-    run_within
-        (drop (run bytes + 1) bytes),
-  );
-  spelled = λ _. rw (take_around bytes (run bytes) 47 (run (drop (run bytes + 1) bytes)) slash)
-      (fraction (take (run bytes) bytes) (take (run (drop (run bytes + 1) bytes)) (drop (run bytes + 1) bytes)) refl
-      (omega (arith, length_run bytes), run_digits bytes)
-      (omega (arith, length_run (drop (run bytes + 1) bytes)), run_digits (drop (run bytes + 1) bytes)));
+pub fraction_with_slash : (bytes : List ℕ) (w p : ℕ) → w ≡ run bytes → slice_get bytes w ≡ Some 47
+    → p ≡ run (drop (w + 1) bytes) → 0 < w → 0 < p → IsLongest IsFraction bytes (w + 1 + p)
+fraction_with_slash bytes w p first mark second above below = record {
+  within = round_within 47 bytes w p mark second;
+  spelled = λ _. rw (take_around bytes w 47 p mark)
+      (fraction (take w bytes) (take p (drop (w + 1) bytes)) refl (some_digits bytes w first above)
+      (some_digits (drop (w + 1) bytes) p second below));
   longest = most;
 }
   where
-    most : (m : ℕ) → m ≤ length bytes → IsFraction (take m bytes) → m ≤ run bytes + 1 + run (drop (run bytes + 1) bytes)
-    most m h (fraction a b e all_a all_b) = let at = marked 47 bytes m a b refl h e all_a.1 all_b.1 in omega arith
+    most : (m : ℕ) → m ≤ length bytes → IsFraction (take m bytes) → m ≤ w + 1 + p
+    most m h (fraction a b e all_a all_b) =
+        let at = marked 47 bytes w m a b refl first h e all_a.1 all_b.1 in omega arith
 
 -- no fraction begins without a slash, or without digits round it
-pub fraction_none : (bytes : List ℕ) → (slice_get bytes (run bytes) ≡ Some 47 → 0 < run bytes
-    → 0 < run (drop (run bytes + 1) bytes) → ⊥) → IsLongest IsFraction bytes 0
-fraction_none bytes never = longest_none IsFraction bytes no_fraction
+pub fraction_none : (bytes : List ℕ) (w p : ℕ) → w ≡ run bytes → p ≡ run (drop (w + 1) bytes)
+    → (slice_get bytes w ≡ Some 47 → 0 < w → 0 < p → ⊥) → IsLongest IsFraction bytes 0
+fraction_none bytes w p first second never = longest_none IsFraction bytes no_fraction
   where
     no_fraction : (m : ℕ) → m ≤ length bytes → IsFraction (take m bytes) → ⊥
-    no_fraction m h (fraction a b e all_a all_b) = let at = marked 47 bytes m a b refl h e all_a.1 all_b.1 in
+    no_fraction m h (fraction a b e all_a all_b) =
+        let at = marked 47 bytes w m a b refl first h e all_a.1 all_b.1 in
         never at.mark (omega (arith, all_a.0)) (omega (arith, all_b.0))
-
--- what is known of digits, a mark and digits at the front, by their numbers
-record IsRound (c : ℕ) (bytes : List ℕ) (w p : ℕ) : Type 0 where
-  pub before : w ≡ run bytes
-  pub mark : slice_get bytes (run bytes) ≡ Some c
-  pub behind : p ≡ run (drop (run bytes + 1) bytes)
-
-round_of : (c : ℕ) (bytes : List ℕ) (w p : ℕ) → w ≡ run bytes → slice_get bytes w ≡ Some c
-    → p ≡ run (drop (w + 1) bytes) → IsRound c bytes w p
-round_of c bytes w p first mark second = record {
-  before = first;
-  mark = subst (λ n. slice_get bytes n ≡ Some c) first mark;
-  behind = second ∙ ap (λ n. run (drop (n + 1) bytes)) first;
-}
-
-pub decimal_with_point : (bytes : List ℕ) (w p : ℕ) → w ≡ run bytes → slice_get bytes w ≡ Some 46
-    → p ≡ run (drop (w + 1) bytes) → 0 < w + p → IsLongest IsDecimalToken bytes (w + 1 + p)
-decimal_with_point bytes w p first mark second some =
-    let at = round_of 46 bytes w p first mark second in
-    let count : run bytes + 1 + run (drop (run bytes + 1) bytes) ≡ w + 1 + p = omega arith in
-    subst (λ n. IsLongest IsDecimalToken bytes n) count (decimal_point bytes at.mark (omega arith))
-
-pub decimal_with_bare_point : (bytes : List ℕ) (w p : ℕ) → w ≡ run bytes → slice_get bytes w ≡ Some 46
-    → p ≡ run (drop (w + 1) bytes) → w + p ≡ 0 → IsLongest IsDecimalToken bytes 0
-decimal_with_bare_point bytes w p first mark second none =
-    let at = round_of 46 bytes w p first mark second in
-    decimal_bare_point bytes (omega arith) (omega arith) at.mark
-
-pub fraction_with_slash : (bytes : List ℕ) (w p : ℕ) → w ≡ run bytes → slice_get bytes w ≡ Some 47
-    → p ≡ run (drop (w + 1) bytes) → 0 < w → 0 < p → IsLongest IsFraction bytes (w + 1 + p)
-fraction_with_slash bytes w p first mark second above below =
-    let at = round_of 47 bytes w p first mark second in
-    let count : run bytes + 1 + run (drop (run bytes + 1) bytes) ≡ w + 1 + p = omega arith in
-    subst (λ n. IsLongest IsFraction bytes n) count (fraction_slash bytes at.mark (omega arith) (omega arith))
-
-pub fraction_with_bare_slash : (bytes : List ℕ) (w p : ℕ) → w ≡ run bytes → slice_get bytes w ≡ Some 47
-    → p ≡ run (drop (w + 1) bytes) → (0 < w → 0 < p → ⊥) → IsLongest IsFraction bytes 0
-fraction_with_bare_slash bytes w p first mark second never =
-    let at = round_of 47 bytes w p first mark second in
-    fraction_none bytes (λ _ above below. never (omega arith) (omega arith))
-
-pub fraction_no_slash : (bytes : List ℕ) → slice_get bytes (run bytes) ≢ Some 47 → IsLongest IsFraction bytes 0
-fraction_no_slash bytes other = fraction_none bytes (λ mark _ _. other mark)
 
 -- what a decimal is made of
 is_decimal_byte : ℕ → Bool
@@ -189,10 +143,8 @@ is_decimal_byte b = is_digit b || b == 46
 
 all_weaken : (p q : ℕ → Bool) → ((b : ℕ) → p b ≡ true → q b ≡ true) → (bs : List ℕ) → list_all p bs ≡ true
     → list_all q bs ≡ true
-all_weaken p q weaker [] h = refl
-all_weaken p q weaker (b ∷ bs) h =
-    let parts : (p b ≡ true) × (list_all p bs ≡ true) = and_parts (p b) (list_all p bs) h in
-    rw (weaker b parts.0) (all_weaken p q weaker bs parts.1)
+all_weaken p q weaker bs h =
+    list_all-from_AllPass q bs (λ k d lt. weaker (get_or bs k d) (AllPass-from_list_all p bs h k d lt))
 
 digit_in_decimal : (b : ℕ) → is_digit b ≡ true → is_decimal_byte b ≡ true
 unfolding is_decimal_byte

@@ -29,12 +29,12 @@ numeral_begins bs (a_decimal t) = subst (λ ys. begins_numeral ys ≡ true) (app
 numeral_begins bs (a_percent (percent d e t)) = ap begins_numeral e ∙ decimal_begins d (37 ∷ []) t
 numeral_begins bs (a_fraction (fraction a b e all_a all_b)) = ap begins_numeral e ∙ digits_begin a (47 ∷ b) all_a
 
+pub no_letter_byte : (b : ℕ) → (is_digit b || b == 46) ≡ true → is_letter b ≡ false
+no_letter_byte b h = grind (arith, nat_tests)
+
 no_letter : (bs : List ℕ) → begins_numeral bs ≡ true → begins_with_letter bs ≡ false
 no_letter [] h = refl
-no_letter (b ∷ bs) h = here b h
-  where
-    here : (b : ℕ) → (is_digit b || b == 46) ≡ true → is_letter b ≡ false
-    here b h = grind (arith, nat_tests)
+no_letter (b ∷ bs) h = no_letter_byte b h
 
 note_begins_letter : (bs : List ℕ) → IsNote bs → begins_with_letter bs ≡ true
 note_begins_letter bs (note text e all) = ap begins_with_letter e
@@ -57,78 +57,59 @@ sign_no_numeral Colon bs e = ap begins_numeral e
 sign_no_numeral Comma bs e = ap begins_numeral e
 sign_no_numeral Bang bs e = ap begins_numeral e
 
-sign_one : (s t : Sign) → sign_byte s ≡ sign_byte t → s ≡ t
-sign_one s t e = subst (λ x. x ≡ t) (back s) (subst (λ n. of n ≡ t) (sym e) (back t))
-  where
-    of : ℕ → Sign
-    of n = if n == 91 then Open else if n == 93 then Close else if n == 58 then Colon
-        else if n == 44 then Comma else Bang
-
-    back : (s : Sign) → of (sign_byte s) ≡ s
-    back Open = refl
-    back Close = refl
-    back Colon = refl
-    back Comma = refl
-    back Bang = refl
-
 word_spelled : (k : Keyword) (bs : List ℕ) → bs ≡ spelling k → IsWord bs
 word_spelled k bs e = subst IsWord (sym e) (keyword_is_word k)
 
--- a number for each kind, words and names alike, and the one that the bytes show
-shape : Kind → ℕ
-shape (kind.Word k) = 0
-shape kind.Name = 0
-shape kind.Note = 1
-shape kind.Numeral = 2
-shape (kind.Sign s) = 3
+-- the kind of bytes that spell no keyword, by how they begin
+sign_of : List ℕ → Sign
+sign_of [] = Bang
+sign_of (n ∷ bs) = if n == 91 then Open else if n == 93 then Close else if n == 58 then Colon
+    else if n == 44 then Comma else Bang
 
-shape_of : List ℕ → ℕ
-shape_of bs =
-    if begins_with_letter bs then (if list_all is_word_byte bs then 0 else 1) else (if begins_numeral bs then 2 else 3)
+kind_of : List ℕ → Kind
+kind_of bs =
+    if begins_with_letter bs then (if list_all is_word_byte bs then kind.Name else kind.Note)
+    else (if begins_numeral bs then kind.Numeral else kind.Sign (sign_of bs))
 
-shape_spelled : (k : Kind) (bs : List ℕ) → IsSpelled k bs → shape_of bs ≡ shape k
-unfolding shape shape_of
-shape_spelled (kind.Word k) bs t = let w = word_parts bs (word_spelled k bs t) in rw (w.0, w.1) refl
-shape_spelled kind.Name bs t = let w = word_parts bs t.word in rw (w.0, w.1) refl
-shape_spelled kind.Note bs t = rw (note_begins_letter bs t, note_no_word bs t) refl
-shape_spelled kind.Numeral bs t = rw (no_letter bs (numeral_begins bs t), numeral_begins bs t) refl
-shape_spelled (kind.Sign s) bs t = rw (sign_no_letter s bs t, sign_no_numeral s bs t) refl
+sign_told : (s : Sign) → sign_of (sign_byte s ∷ []) ≡ s
+unfolding sign_of
+sign_told Open = refl
+sign_told Close = refl
+sign_told Colon = refl
+sign_told Comma = refl
+sign_told Bang = refl
 
-same_shape : (a b : Kind) (bs : List ℕ) → IsSpelled a bs → IsSpelled b bs → shape a ≡ shape b
-same_shape a b bs s t = sym (shape_spelled a bs s) ∙ shape_spelled b bs t
+-- bytes spell a keyword, or they have the kind that they show
+kind_told : (k : Kind) (bs : List ℕ) → IsSpelled k bs
+    → ((j : Keyword) × (k ≡ kind.Word j) × (bs ≡ spelling j)) ⊎ ((k ≡ kind_of bs) × ((j : Keyword) → spelling j ≢ bs))
+unfolding kind_of
+kind_told (kind.Word j) bs t = inl (j, refl, t)
+kind_told kind.Name bs t = let w = word_parts bs t.word in inr (rw (w.0, w.1) refl, t.no_keyword)
+kind_told kind.Note bs t =
+    let other = note_no_word bs t in
+    inr (rw (note_begins_letter bs t, other) refl, λ j e. let w = word_parts bs (word_spelled j bs (sym e)) in cc)
+kind_told kind.Numeral bs t =
+    let other = no_letter bs (numeral_begins bs t) in
+    inr (rw (other, numeral_begins bs t) refl, λ j e. let w = word_parts bs (word_spelled j bs (sym e)) in cc)
+kind_told (kind.Sign s) bs t =
+    let other = sign_no_letter s bs t in
+    inr (
+      rw (other, sign_no_numeral s bs t) (ap kind.Sign (sym (ap sign_of t ∙ sign_told s))),
+      λ j e. let w = word_parts bs (word_spelled j bs (sym e)) in cc,
+    )
 
 -- bytes spell a token of at most one kind
 pub kind_one : (a b : Kind) (bs : List ℕ) → IsSpelled a bs → IsSpelled b bs → a ≡ b
-unfolding shape
-kind_one a b bs s t = by_shape a b (same_shape a b bs s t) s t
-  where
-    by_shape : (a b : Kind) → shape a ≡ shape b → IsSpelled a bs → IsSpelled b bs → a ≡ b
-    by_shape (kind.Word j) (kind.Word k) h s t = ap kind.Word (spelling_one j k (sym s ∙ t))
-    by_shape (kind.Word j) kind.Name h s t = absurd (t.no_keyword j (sym s))
-    by_shape (kind.Word j) kind.Note h s t = absurd (omega (arith, h))
-    by_shape (kind.Word j) kind.Numeral h s t = absurd (omega (arith, h))
-    by_shape (kind.Word j) (kind.Sign y) h s t = absurd (omega (arith, h))
-    by_shape kind.Name (kind.Word k) h s t = absurd (s.no_keyword k (sym t))
-    by_shape kind.Name kind.Name h s t = refl
-    by_shape kind.Name kind.Note h s t = absurd (omega (arith, h))
-    by_shape kind.Name kind.Numeral h s t = absurd (omega (arith, h))
-    by_shape kind.Name (kind.Sign y) h s t = absurd (omega (arith, h))
-    by_shape kind.Note (kind.Word k) h s t = absurd (omega (arith, h))
-    by_shape kind.Note kind.Name h s t = absurd (omega (arith, h))
-    by_shape kind.Note kind.Note h s t = refl
-    by_shape kind.Note kind.Numeral h s t = absurd (omega (arith, h))
-    by_shape kind.Note (kind.Sign y) h s t = absurd (omega (arith, h))
-    by_shape kind.Numeral (kind.Word k) h s t = absurd (omega (arith, h))
-    by_shape kind.Numeral kind.Name h s t = absurd (omega (arith, h))
-    by_shape kind.Numeral kind.Note h s t = absurd (omega (arith, h))
-    by_shape kind.Numeral kind.Numeral h s t = refl
-    by_shape kind.Numeral (kind.Sign y) h s t = absurd (omega (arith, h))
-    by_shape (kind.Sign x) (kind.Word k) h s t = absurd (omega (arith, h))
-    by_shape (kind.Sign x) kind.Name h s t = absurd (omega (arith, h))
-    by_shape (kind.Sign x) kind.Note h s t = absurd (omega (arith, h))
-    by_shape (kind.Sign x) kind.Numeral h s t = absurd (omega (arith, h))
-    by_shape (kind.Sign x) (kind.Sign y) h s t =
-        let same : sign_byte x ≡ sign_byte y = cc in ap kind.Sign (sign_one x y same)
+kind_one a b bs s t = elim (kind_told a bs s) [
+  | inl x ↦ elim (kind_told b bs t) [
+    | inl y ↦ x.1 ∙ ap kind.Word (spelling_one x.0 y.0 (sym x.2 ∙ y.2)) ∙ sym y.1
+    | inr y ↦ absurd (y.1 x.0 (sym x.2))
+  ]
+  | inr x ↦ elim (kind_told b bs t) [
+    | inl y ↦ absurd (x.1 y.0 (sym y.2))
+    | inr y ↦ x.0 ∙ sym y.0
+  ]
+]
 
 -- no bytes spell no token
 pub token_some : (k : Kind) → IsSpelled k [] → ⊥

@@ -6,12 +6,14 @@ pub mod cut;
 mod front;
 pub mod items;
 pub mod law;
+pub mod pair;
 pub mod place;
 pub mod text;
 pub mod token;
 
 pub use cut::{LexFault, lex};
 pub use items::Items;
+pub use pair::both;
 pub use place::line_col;
 pub use text::Text;
 pub use token::{Keyword, Kind, Sign, Span, Token};

@@ -1,9 +1,9 @@
 -- Where reading stops, the tokens so far go on with a token of the wanted kind and with no other.
-use Rattle.dl_parser.proofs.Common.{◌≡◌, ℕ, zero, suc, ◌≤◌, ◌<◌, true, false, ◌&&◌, List, [], ◌∷◌, ◌++◌, length, Some, None, refl, sym, ap, ◌∙◌, subst, inl, inr, arith, append_assoc, length-append, append-nil, Kind, All, All-nil, All-cons, Lexeme, IsReal, token_of, token_kind, token_real, Rule, one, ◌▸◌, ◌or◌, maybe, many, made, node, Each, Spells, span_of, Place, Outcome, got, stuck, ◌>>=◌, same_kind, begins, start_of, is_empty, first, watched, goes_on, one_at, repeat, read, is_plain, and_parts, or_parts}
+use Rattle.dl_parser.proofs.Common.{◌≡◌, ℕ, zero, suc, ◌≤◌, ◌<◌, true, false, ◌&&◌, List, [], ◌∷◌, ◌++◌, length, Some, None, refl, sym, ap, ◌∙◌, subst, inl, inr, arith, append_assoc, append-nil, Kind, All, All-nil, All-cons, Lexeme, IsReal, token_of, token_kind, token_real, Rule, one, ◌▸◌, ◌or◌, maybe, many, made, node, Each, Spells, span_of, Place, Outcome, got, stuck, ◌>>=◌, same_kind, begins, start_of, is_empty, first, watched, goes_on, one_at, repeat, read, is_plain, and_parts, or_parts}
 use Rattle.std.proofs.lemmas.List.Elements.{All-append}
-use Rattle.dl_parser.proofs.Starts.{bind_stuck, chosen, spelled_empty}
-use Rattle.dl_parser.proofs.ReadsBack.{bind_of, is_no, not_both}
-use Rattle.dl_parser.proofs.Took.{Alike, Took, alike_behind, alike_left, alike_right, fewer, shorter, test_same, took}
+use Rattle.dl_parser.proofs.Starts.{bind_stuck, chosen}
+use Rattle.dl_parser.proofs.ReadsBack.{bind_of, is_no}
+use Rattle.dl_parser.proofs.Took.{Alike, Took, alike_left, alike_right, alike_with, fewer, in_parts, one_more, shorter, test_same, took}
 
 -- where reading stops, the tokens before go on with a token of the wanted kind, and with none that the tests take for
 -- another
@@ -85,49 +85,48 @@ stopped_behind : {A B : Type 0} (a : Rule A) (b : Rule B) (p s q : Place) (x : A
     → Stopped b s k q → Stopped (a ▸ b) p k q
 stopped_behind a b p s q x k ta sb = (
   ta.0 ++ sb.0,
-  ta.1 ∙ ap (λ zs. ta.0 ++ zs) sb.1 ∙ sym (append_assoc ta.0 sb.0 q.rest),
+  in_parts ta.0 sb.0 s.rest p.rest q.rest ta.1 sb.1,
   sb.2,
   λ t e. let m = sb.3 t e in (m.0, (x, m.1), (ta.0, sb.0 ++ t ∷ m.0, append_assoc ta.0 sb.0 (t ∷ m.0), ta.3, m.2), m.3),
   λ z h i. ap (λ zs. read (a ▸ b) (record { end = p.end; rest = zs })) (append_assoc ta.0 sb.0 z)
-      ∙ bind_of _ _ x _ _ (ta.4 (sb.0 ++ z) (subst (λ zs. Alike (watched a) zs (sb.0 ++ z)) (sym sb.1)
-      (alike_behind (watched a) sb.0 q.rest z (alike_left (watched a) (watched b) q.rest z h))))
+      ∙ bind_of _ _ x _ _ (ta.4 (sb.0 ++ z) (alike_with (watched a) sb.0 q.rest z s.rest sb.1
+      (alike_left (watched a) (watched b) q.rest z h)))
       (ap (λ (o : Outcome _). o >>= λ y s. got (x, y) s) (sb.4 z (alike_right (watched a) (watched b) q.rest z h) i)),
+)
+
+-- another rule that the same tokens begin
+stopped_by : {A B : Type 0} (a : Rule A) (b : Rule B) (p q : Place) (k : Kind) (s : Stopped a p k q)
+    → ((x : A) (ts : List Lexeme) → Spells a x ts → (y : B) × Spells b y ts)
+    → ((z : List Lexeme) → Alike (watched b) q.rest z → begins (k ∷ []) z ≡ false
+    → read b (record { end = p.end; rest = s.0 ++ z }) ≡ stuck k (record { end = q.end; rest = z }))
+    → Stopped b p k q
+stopped_by a b p q k s on same = (
+  s.0,
+  s.1,
+  s.2,
+  λ t e. let m = s.3 t e in let n = on m.1 (s.0 ++ t ∷ m.0) m.2 in (m.0, n.0, n.1, m.3),
+  same,
 )
 
 stopped_left : {A : Type 0} (a b : Rule A) (p q : Place) (k : Kind) → begins (first a) p.rest ≡ true → Stopped a p k q
     → Stopped (a or b) p k q
-stopped_left a b p q k c s = (
-  s.0,
-  s.1,
-  s.2,
-  λ t e. let m = s.3 t e in (m.0, m.1, inl m.2, m.3),
-  λ z h i. rw (test_same (first a) p q s.0 z true s.1 (alike_left (first a) (watched a ++ watched b) q.rest z h) c)
-      (s.4 z (alike_left (watched a) (watched b) q.rest z
-      (alike_right (first a) (watched a ++ watched b) q.rest z h)) i),
-)
+stopped_left a b p q k c s = stopped_by a (a or b) p q k s (λ x ts m. (x, inl m))
+    (λ z h i. rw (test_same (first a) p q s.0 z true s.1 (alike_left (first a) (watched a ++ watched b) q.rest z h) c)
+    (s.4 z (alike_left (watched a) (watched b) q.rest z
+    (alike_right (first a) (watched a ++ watched b) q.rest z h)) i))
 
 stopped_right : {A : Type 0} (a b : Rule A) (p q : Place) (k : Kind) → begins (first a) p.rest ≡ false
     → Stopped b p k q → Stopped (a or b) p k q
-stopped_right a b p q k c s = (
-  s.0,
-  s.1,
-  s.2,
-  λ t e. let m = s.3 t e in (m.0, m.1, inr m.2, m.3),
-  λ z h i. rw (test_same (first a) p q s.0 z false s.1 (alike_left (first a) (watched a ++ watched b) q.rest z h) c)
-      (s.4 z (alike_right (watched a) (watched b) q.rest z
-      (alike_right (first a) (watched a ++ watched b) q.rest z h)) i),
-)
+stopped_right a b p q k c s = stopped_by b (a or b) p q k s (λ x ts m. (x, inr m))
+    (λ z h i. rw (test_same (first a) p q s.0 z false s.1 (alike_left (first a) (watched a ++ watched b) q.rest z h) c)
+    (s.4 z (alike_right (watched a) (watched b) q.rest z
+    (alike_right (first a) (watched a ++ watched b) q.rest z h)) i))
 
 stopped_maybe : {A : Type 0} (a : Rule A) (p q : Place) (k : Kind) → begins (first a) p.rest ≡ true → Stopped a p k q
     → Stopped (maybe a) p k q
-stopped_maybe a p q k c s = (
-  s.0,
-  s.1,
-  s.2,
-  λ t e. let m = s.3 t e in (m.0, Some m.1, m.2, m.3),
-  λ z h i. rw (test_same (first a) p q s.0 z true s.1 (alike_left (first a) (watched a) q.rest z h) c)
-      (ap (λ (o : Outcome _). o >>= λ x q. got (Some x) q) (s.4 z (alike_right (first a) (watched a) q.rest z h) i)),
-)
+stopped_maybe a p q k c s = stopped_by a (maybe a) p q k s (λ x ts m. (Some x, m))
+    (λ z h i. rw (test_same (first a) p q s.0 z true s.1 (alike_left (first a) (watched a) q.rest z h) c)
+    (ap (λ (o : Outcome _). o >>= λ x q. got (Some x) q) (s.4 z (alike_right (first a) (watched a) q.rest z h) i)))
 
 abbrev StoppedEach : {A : Type 0} → Rule A → ℕ → Place → Kind → Place → Type 0
 StoppedEach {A} a n p k q = (ts : List Lexeme) × (p.rest ≡ ts ++ q.rest) × (begins (k ∷ []) q.rest ≡ false)
@@ -158,41 +157,16 @@ stopped_first a n p q k c s = (
       (x ∷ xs) s) (s.4 z (alike_right (first a) (watched a) q.rest z h) i))),
 )
 
-stops_some : {A : Type 0} (a : Rule A) → is_empty a ≡ false
-    → (p s q : Place) (x : A) (k : Kind) (us vs z : List Lexeme) (m : ℕ) → Spells a x us
-    → begins (first a) (us ++ (vs ++ z)) ≡ true
-    → read a (record { end = p.end; rest = us ++ (vs ++ z) }) ≡ got x (record { end = s.end; rest = vs ++ z })
-    → ((m : ℕ) → length (vs ++ z) ≤ m → repeat (first a) (read a) m (record { end = s.end; rest = vs ++ z }) ≡ stuck k
-    (record { end = q.end; rest = z }))
-    → length (us ++ (vs ++ z)) ≤ m → repeat (first a) (read a) m
-    (record { end = p.end; rest = us ++ (vs ++ z) }) ≡ stuck k (record { end = q.end; rest = z })
-stops_some a full p s q x k [] vs z m sp t ra rest le = absurd (not_both _ (spelled_empty a x [] refl sp) full)
-stops_some a full p s q x k (u ∷ us) vs z zero sp t ra rest le = absurd (omega arith)
-stops_some a full p s q x k (u ∷ us) vs z (suc m) sp t ra rest le =
-    rw t (bind_of _ _ x _ _ ra (ap (λ (o : Outcome _). o >>= λ xs s. got (x ∷ xs) s)
-    (rest m (omega (arith, length-append us (vs ++ z))))))
-
 stopped_later : {A : Type 0} (a : Rule A) → is_empty a ≡ false → (n : ℕ) (p s q : Place) (x : A) (k : Kind)
     → begins (first a) p.rest ≡ true → Took a p x s → StoppedEach a n s k q → StoppedEach a (suc n) p k q
-stopped_later a full n p s q x k t ta sb =
-    let all : p.rest ≡ (ta.0 ++ sb.0) ++ q.rest = ta.1 ∙ ap (λ zs. ta.0 ++ zs) sb.1
-    ∙ sym (append_assoc ta.0 sb.0 q.rest) in (
-      ta.0 ++ sb.0,
-      all,
-      sb.2,
-      λ t e. let m =
-          sb.3 t e in (m.0, x ∷ m.1, (ta.0, sb.0 ++ t ∷ m.0, append_assoc ta.0 sb.0 (t ∷ m.0), ta.3, m.2), m.3),
-      λ z m le h i.
-          let same : (ta.0 ++ sb.0) ++ z ≡ ta.0 ++ (sb.0 ++ z) = append_assoc ta.0 sb.0 z in
-          ap (λ zs. repeat (first a) (read a) m (record { end = p.end; rest = zs })) same
-          ∙ stops_some a full p s q x k ta.0 sb.0 z m ta.3
-          (ap (begins (first a)) (sym same) ∙ test_same (first a) p q (ta.0 ++ sb.0) z true all
-          (alike_left (first a) (watched a) q.rest z h) t)
-          (ta.4 (sb.0 ++ z) (subst (λ zs. Alike (watched a) zs (sb.0 ++ z)) (sym sb.1)
-          (alike_behind (watched a) sb.0 q.rest z (alike_right (first a) (watched a) q.rest z h))))
-          (λ j lj. sb.4 z j lj h i)
-          (subst (λ zs. length zs ≤ m) same le),
-    )
+stopped_later a full n p s q x k c ta sb = (
+  ta.0 ++ sb.0,
+  in_parts ta.0 sb.0 s.rest p.rest q.rest ta.1 sb.1,
+  sb.2,
+  λ t e. let m = sb.3 t e in (m.0, x ∷ m.1, (ta.0, sb.0 ++ t ∷ m.0, append_assoc ta.0 sb.0 (t ∷ m.0), ta.3, m.2), m.3),
+  λ z m le h i. one_more a full p s q x (stuck k (record { end = q.end; rest = z })) ta sb.0 z m c sb.1 le h
+      (λ j lj. sb.4 z j lj h i),
+)
 
 stopped_each : {A : Type 0} (a : Rule A) → is_plain a ≡ true → is_empty a ≡ false
     → ((p q : Place) (x : A) → read a p ≡ got x q → Took a p x q)
@@ -247,25 +221,16 @@ stopped (many a) ok p q k e =
     stopped_each a i.0 (is_no _ j.0) (took a i.0) (stopped a i.0) (length p.rest) p q k (omega arith) e in
     (s.0, s.1, s.2, s.3, λ z h g. s.4 z (length (s.0 ++ z)) (omega arith) h g)
 stopped (made f a) ok p q k e = elim (bind_stuck (read a p) _ k q e) [
-  | inl h ↦ let s : Stopped a p k q = stopped a ok p q k h in (
-    s.0,
-    s.1,
-    s.2,
-    λ t g. let m = s.3 t g in (m.0, f m.1, (m.1, refl, m.2), m.3),
-    λ z g i. ap
-        (λ (o : Outcome _). o >>= λ x q. got (f x) q) (s.4 z g i),
-  )
+  | inl h ↦ let s : Stopped a p k q = stopped a ok p q k h in
+      stopped_by a (made f a) p q k s (λ x ts m. (f x, (x, refl, m)))
+      (λ z g i. ap (λ (o : Outcome _). o >>= λ x q. got (f x) q) (s.4 z g i))
   | inr o ↦ absurd (cc (o.3))
 ]
 stopped (node f a) ok p q k e = let i = and_parts _ _ ok in elim (bind_stuck (read a p) _ k q e) [
-  | inl h ↦ let s : Stopped a p k q = stopped a i.0 p q k h in (
-    s.0,
-    s.1,
-    s.2,
-    λ t g. let m = s.3 t g in (m.0, f m.1 (span_of (s.0 ++ t ∷ m.0)), (m.1, refl, m.2), m.3),
-    λ z g j. ap (λ (o : Outcome _). o >>= λ x q. got
-        (f x (record { start = start_of p.end (s.0 ++ z); end = q.end })) q) (s.4 z g j),
-  )
+  | inl h ↦ let s : Stopped a p k q = stopped a i.0 p q k h in
+      stopped_by a (node f a) p q k s (λ x ts m. (f x (span_of ts), (x, refl, m)))
+      (λ z g j. ap (λ (o : Outcome _). o >>= λ x q. got
+      (f x (record { start = start_of p.end (s.0 ++ z); end = q.end })) q) (s.4 z g j))
   | inr o ↦ absurd (cc (o.3))
 ]
 

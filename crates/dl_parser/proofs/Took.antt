@@ -1,5 +1,5 @@
 -- What was read is spelled, and is read in the same way where what is left begins alike.
-use Rattle.dl_parser.proofs.Common.{◌≡◌, ℕ, zero, suc, ◌≤◌, ◌<◌, Bool, true, false, ◌||◌, List, [], ◌∷◌, ◌++◌, length, Some, None, refl, sym, ap, ◌∙◌, subst, inl, inr, arith, append_assoc, length-append, Kind, Lexeme, Rule, one, ◌▸◌, ◌or◌, maybe, many, made, node, Each, Spells, end_of, span_of, Place, Outcome, got, stuck, same_kind, among, begins, start_of, is_empty, first, watched, one_at, repeat, read, is_plain, and_parts}
+use Rattle.dl_parser.proofs.Common.{◌≡◌, ℕ, zero, suc, ◌≤◌, ◌<◌, Bool, true, false, ◌||◌, List, [], ◌∷◌, ◌++◌, length, Some, None, refl, sym, ap, ◌∙◌, subst, inl, inr, arith, append_assoc, length-append, Kind, Lexeme, Rule, one, ◌▸◌, ◌or◌, maybe, many, made, node, Each, Spells, end_of, span_of, Place, Outcome, got, stuck, ◌>>=◌, same_kind, among, begins, start_of, is_empty, first, watched, one_at, repeat, read, is_plain, and_parts}
 use Rattle.dl_parser.proofs.Sets.{same_is, same_self}
 use Rattle.dl_parser.proofs.Starts.{among_left, among_right, bind_got, chosen, end_append, spelled_empty}
 use Rattle.dl_parser.proofs.ReadsBack.{bind_of, is_no, not_both, span_same, whole_none}
@@ -32,9 +32,16 @@ alike_begins (k ∷ ks) us vs h =
     ∙ sym (begins_cons k ks vs)
 
 -- behind some tokens
-pub alike_behind : (ks : List Kind) (ts us vs : List Lexeme) → Alike ks us vs → Alike ks (ts ++ us) (ts ++ vs)
+alike_behind : (ks : List Kind) (ts us vs : List Lexeme) → Alike ks us vs → Alike ks (ts ++ us) (ts ++ vs)
 alike_behind ks [] us vs h k m = h k m
 alike_behind ks (t ∷ ts) us vs h k m = refl
+
+pub alike_with : (ks : List Kind) (ts us vs ws : List Lexeme) → ws ≡ ts ++ us → Alike ks us vs → Alike ks ws (ts ++ vs)
+alike_with ks ts us vs ws e h = subst (λ zs. Alike ks zs (ts ++ vs)) (sym e) (alike_behind ks ts us vs h)
+
+-- tokens in two parts
+pub in_parts : (ts us vs ws zs : List Lexeme) → ws ≡ ts ++ vs → vs ≡ us ++ zs → ws ≡ (ts ++ us) ++ zs
+in_parts ts us vs ws zs e f = e ∙ ap (λ ys. ts ++ ys) f ∙ sym (append_assoc ts us zs)
 
 abbrev pub Took : {X : Type 0} → Rule X → Place → X → Place → Type 0
 Took r p x q = (ts : List Lexeme) × (p.rest ≡ ts ++ q.rest) × (q.end ≡ end_of p.end ts) × Spells r x ts
@@ -62,12 +69,12 @@ took_seq : {A B : Type 0} (a : Rule A) (b : Rule B) (p s q : Place) (x : A) (y :
     → Took (a ▸ b) p (x, y) q
 took_seq a b p s q x y ta tb = (
   ta.0 ++ tb.0,
-  ta.1 ∙ ap (λ zs. ta.0 ++ zs) tb.1 ∙ sym (append_assoc ta.0 tb.0 q.rest),
+  in_parts ta.0 tb.0 s.rest p.rest q.rest ta.1 tb.1,
   tb.2 ∙ ap (λ n. end_of n tb.0) ta.2 ∙ sym (end_append p.end ta.0 tb.0),
   (ta.0, tb.0, refl, ta.3, tb.3),
   λ z h. ap (λ zs. read (a ▸ b) (record { end = p.end; rest = zs })) (append_assoc ta.0 tb.0 z)
-      ∙ bind_of _ _ x _ _ (ta.4 (tb.0 ++ z) (subst (λ zs. Alike (watched a) zs (tb.0 ++ z)) (sym tb.1)
-      (alike_behind (watched a) tb.0 q.rest z (alike_left (watched a) (watched b) q.rest z h))))
+      ∙ bind_of _ _ x _ _ (ta.4 (tb.0 ++ z) (alike_with (watched a) tb.0 q.rest z s.rest tb.1
+      (alike_left (watched a) (watched b) q.rest z h)))
       (bind_of _ _ y _ _ (tb.4 z (alike_right (watched a) (watched b) q.rest z h)) refl),
 )
 
@@ -99,40 +106,46 @@ took_none a n p h = (
   h,
 )
 
-stays_some : {A : Type 0} (a : Rule A) → is_empty a ≡ false
-    → (p s q : Place) (x : A) (xs : List A) (us vs z : List Lexeme) (m : ℕ) → Spells a x us
-    → begins (first a) (us ++ (vs ++ z)) ≡ true
-    → read a (record { end = p.end; rest = us ++ (vs ++ z) }) ≡ got x (record { end = s.end; rest = vs ++ z })
-    → ((m : ℕ) → length (vs ++ z) ≤ m → repeat (first a) (read a) m (record { end = s.end; rest = vs ++ z }) ≡ got xs
-    (record { end = q.end; rest = z }))
-    → length (us ++ (vs ++ z)) ≤ m → repeat (first a) (read a) m (record { end = p.end; rest = us ++ (vs ++ z) }) ≡ got
-    (x ∷ xs) (record { end = q.end; rest = z })
-stays_some a full p s q x xs [] vs z m sp t ra rest le = absurd (not_both _ (spelled_empty a x [] refl sp) full)
-stays_some a full p s q x xs (u ∷ us) vs z zero sp t ra rest le = absurd (omega arith)
-stays_some a full p s q x xs (u ∷ us) vs z (suc m) sp t ra rest le =
-    rw t (bind_of _ _ x _ _ ra (bind_of _ _ xs _ _ (rest m (omega (arith, length-append us (vs ++ z)))) refl))
+-- one of them, and the others behind it: what is made of them is what the others give, with the one in front
+goes_through : {A : Type 0} (a : Rule A) → is_empty a ≡ false
+    → (p s : Place) (x : A) (o : Outcome (List A)) (us vs : List Lexeme) (m : ℕ) → Spells a x us
+    → begins (first a) (us ++ vs) ≡ true
+    → read a (record { end = p.end; rest = us ++ vs }) ≡ got x (record { end = s.end; rest = vs })
+    → ((j : ℕ) → length vs ≤ j → repeat (first a) (read a) j (record { end = s.end; rest = vs }) ≡ o)
+    → length (us ++ vs) ≤ m → repeat (first a) (read a) m (record { end = p.end; rest = us ++ vs })
+    ≡ (o >>= λ xs r. got (x ∷ xs) r)
+goes_through a full p s x o [] vs m sp t ra rest le = absurd (not_both _ (spelled_empty a x [] refl sp) full)
+goes_through a full p s x o (u ∷ us) vs zero sp t ra rest le = absurd (omega arith)
+goes_through a full p s x o (u ∷ us) vs (suc m) sp t ra rest le =
+    rw t (bind_of _ _ x _ _ ra (ap (λ (r : Outcome _). r >>= λ xs q. got (x ∷ xs) q)
+    (rest m (omega (arith, length-append us vs)))))
+
+pub one_more : {A : Type 0} (a : Rule A) → is_empty a ≡ false
+    → (p s q : Place) (x : A) (o : Outcome (List A)) (t : Took a p x s) (ts z : List Lexeme) (m : ℕ)
+    → begins (first a) p.rest ≡ true → s.rest ≡ ts ++ q.rest → length ((t.0 ++ ts) ++ z) ≤ m
+    → Alike (first a ++ watched a) q.rest z
+    → ((j : ℕ) → length (ts ++ z) ≤ j → repeat (first a) (read a) j (record { end = s.end; rest = ts ++ z }) ≡ o)
+    → repeat (first a) (read a) m (record { end = p.end; rest = (t.0 ++ ts) ++ z }) ≡ (o >>= λ xs r. got (x ∷ xs) r)
+one_more a full p s q x o t ts z m c e le h rest =
+    let same : (t.0 ++ ts) ++ z ≡ t.0 ++ (ts ++ z) = append_assoc t.0 ts z in
+    ap (λ zs. repeat (first a) (read a) m (record { end = p.end; rest = zs })) same
+    ∙ goes_through a full p s x o t.0 (ts ++ z) m t.3
+    (ap (begins (first a)) (sym same) ∙ test_same (first a) p q (t.0 ++ ts) z true
+    (in_parts t.0 ts s.rest p.rest q.rest t.1 e) (alike_left (first a) (watched a) q.rest z h) c)
+    (t.4 (ts ++ z) (alike_with (watched a) ts q.rest z s.rest e (alike_right (first a) (watched a) q.rest z h)))
+    rest (subst (λ zs. length zs ≤ m) same le)
 
 took_some : {A : Type 0} (a : Rule A) → is_empty a ≡ false → (n : ℕ) (p s q : Place) (x : A) (xs : List A)
     → begins (first a) p.rest ≡ true → Took a p x s → TookEach a n s xs q → TookEach a (suc n) p (x ∷ xs) q
-took_some a full n p s q x xs t ta tb =
-    let all : p.rest ≡ (ta.0 ++ tb.0) ++ q.rest = ta.1 ∙ ap (λ zs. ta.0 ++ zs) tb.1
-    ∙ sym (append_assoc ta.0 tb.0 q.rest) in (
-      ta.0 ++ tb.0,
-      all,
-      tb.2 ∙ ap (λ e. end_of e tb.0) ta.2 ∙ sym (end_append p.end ta.0 tb.0),
-      (ta.0, tb.0, refl, ta.3, tb.3),
-      λ z m le h.
-          let same : (ta.0 ++ tb.0) ++ z ≡ ta.0 ++ (tb.0 ++ z) = append_assoc ta.0 tb.0 z in
-          ap (λ zs. repeat (first a) (read a) m (record { end = p.end; rest = zs })) same
-          ∙ stays_some a full p s q x xs ta.0 tb.0 z m ta.3
-          (ap (begins (first a)) (sym same) ∙ test_same (first a) p q (ta.0 ++ tb.0) z true all
-          (alike_left (first a) (watched a) q.rest z h) t)
-          (ta.4 (tb.0 ++ z) (subst (λ zs. Alike (watched a) zs (tb.0 ++ z)) (sym tb.1)
-          (alike_behind (watched a) tb.0 q.rest z (alike_right (first a) (watched a) q.rest z h))))
-          (λ i li. tb.4 z i li h)
-          (subst (λ zs. length zs ≤ m) same le),
-      tb.5,
-    )
+took_some a full n p s q x xs c ta tb = (
+  ta.0 ++ tb.0,
+  in_parts ta.0 tb.0 s.rest p.rest q.rest ta.1 tb.1,
+  tb.2 ∙ ap (λ e. end_of e tb.0) ta.2 ∙ sym (end_append p.end ta.0 tb.0),
+  (ta.0, tb.0, refl, ta.3, tb.3),
+  λ z m le h. one_more a full p s q x (got xs (record { end = q.end; rest = z })) ta tb.0 z m c tb.1 le h
+      (λ j lj. tb.4 z j lj h),
+  tb.5,
+)
 
 pub none_left : (ks : List Kind) (ts : List Lexeme) → length ts ≤ 0 → begins ks ts ≡ false
 none_left ks [] h = refl
@@ -166,39 +179,30 @@ took_each a full ta (suc n) p q xs le e = elim (chosen (begins (first a) p.rest)
   | inr c ↦ subst (TookEachBy a (suc n) p) c.1 (took_none a (suc n) p c.0)
 ]
 
+-- another rule that the same tokens spell
+took_by : {A B : Type 0} (a : Rule A) (b : Rule B) (p q : Place) (x : A) (y : B) (t : Took a p x q) → Spells b y t.0
+    → ((z : List Lexeme) → Alike (watched b) q.rest z
+    → read b (record { end = p.end; rest = t.0 ++ z }) ≡ got y (record { end = q.end; rest = z }))
+    → Took b p y q
+took_by a b p q x y t spelled same = (t.0, t.1, t.2, spelled, same)
+
 took_left : {A : Type 0} (a b : Rule A) (p q : Place) (x : A) → begins (first a) p.rest ≡ true → Took a p x q
     → Took (a or b) p x q
-took_left a b p q x c t = (
-  t.0,
-  t.1,
-  t.2,
-  inl t.3,
-  λ z h. rw (test_same (first a) p q t.0 z true t.1 (alike_left (first a) (watched a ++ watched b) q.rest z h) c)
-      (t.4 z (alike_left (watched a) (watched b) q.rest z (alike_right (first a) (watched a ++ watched b) q.rest z h))),
-)
+took_left a b p q x c t = took_by a (a or b) p q x x t (inl t.3)
+    (λ z h. rw (test_same (first a) p q t.0 z true t.1 (alike_left (first a) (watched a ++ watched b) q.rest z h) c)
+    (t.4 z (alike_left (watched a) (watched b) q.rest z (alike_right (first a) (watched a ++ watched b) q.rest z h))))
 
 took_right : {A : Type 0} (a b : Rule A) (p q : Place) (x : A) → begins (first a) p.rest ≡ false → Took b p x q
     → Took (a or b) p x q
-took_right a b p q x c t = (
-  t.0,
-  t.1,
-  t.2,
-  inr t.3,
-  λ z h. rw (test_same (first a) p q t.0 z false t.1 (alike_left (first a) (watched a ++ watched b) q.rest z h) c)
-      (t.4 z (alike_right (watched a) (watched b) q.rest z
-      (alike_right (first a) (watched a ++ watched b) q.rest z h))),
-)
+took_right a b p q x c t = took_by b (a or b) p q x x t (inr t.3)
+    (λ z h. rw (test_same (first a) p q t.0 z false t.1 (alike_left (first a) (watched a ++ watched b) q.rest z h) c)
+    (t.4 z (alike_right (watched a) (watched b) q.rest z (alike_right (first a) (watched a ++ watched b) q.rest z h))))
 
 took_some_of : {A : Type 0} (a : Rule A) (p q : Place) (x : A) → begins (first a) p.rest ≡ true → Took a p x q
     → Took (maybe a) p (Some x) q
-took_some_of a p q x c t = (
-  t.0,
-  t.1,
-  t.2,
-  t.3,
-  λ z h. rw (test_same (first a) p q t.0 z true t.1 (alike_left (first a) (watched a) q.rest z h) c)
-      (bind_of _ _ x _ _ (t.4 z (alike_right (first a) (watched a) q.rest z h)) refl),
-)
+took_some_of a p q x c t = took_by a (maybe a) p q x (Some x) t t.3
+    (λ z h. rw (test_same (first a) p q t.0 z true t.1 (alike_left (first a) (watched a) q.rest z h) c)
+    (bind_of _ _ x _ _ (t.4 z (alike_right (first a) (watched a) q.rest z h)) refl))
 
 took_none_of : {A : Type 0} (a : Rule A) (p : Place) → begins (first a) p.rest ≡ false → Took (maybe a) p None p
 took_none_of a p c = (
@@ -252,11 +256,8 @@ took (node f a) ok p q v e =
     λ z. ap (λ n. record { start = start_of p.end (t.0 ++ z); end = n }) t.2 ∙ span_same p.end t.0 z some in
     let here : record { start = start_of p.end p.rest; end = one.1.end } ≡ span_of t.0 =
     ap (λ zs. record { start = start_of p.end zs; end = one.1.end }) t.1 ∙ span one.1.rest in
-    took_as (node f a) p (f one.0 (record { start = start_of p.end p.rest; end = one.1.end })) v one.1 q one.3 (
-      t.0,
-      t.1,
-      t.2,
-      (one.0, ap (f one.0) here, t.3),
-      λ z h. bind_of _ _ one.0 _ _ (t.4 z h)
-          (ap (λ w. got (f one.0 w) (record { end = one.1.end; rest = z })) (span z ∙ sym here)),
-    )
+    let made_of = f one.0 (record { start = start_of p.end p.rest; end = one.1.end }) in
+    took_as (node f a) p made_of v one.1 q one.3
+    (took_by a (node f a) p one.1 one.0 made_of t (one.0, ap (f one.0) here, t.3)
+    (λ z h. bind_of _ _ one.0 _ _ (t.4 z h)
+    (ap (λ w. got (f one.0 w) (record { end = one.1.end; rest = z })) (span z ∙ sym here))))

@@ -8,9 +8,9 @@ ghost use Rattle.dl_parser.specs.Parsing.{ReadsBy};
 
 use crate::cursor::Parser;
 use crate::parts::Part;
-use crate::stop::{Stop, both};
+use crate::stop::Stop;
 use dl_ast::{CededLayer, Cession, Items, Layer, LimitAst, Numeral, Share};
-use dl_lexer::{Keyword, Kind};
+use dl_lexer::{Keyword, Kind, both};
 
 impl<'a> Parser<'a> {
     /// A layer that is ceded whole, from `start` to the last token taken.

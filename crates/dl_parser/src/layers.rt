@@ -7,9 +7,9 @@ ghost use Rattle.dl_parser.specs.Reading.{begins, first};
 ghost use Rattle.dl_parser.specs.Parsing.{place, ReadsBy};
 
 use crate::cursor::Parser;
-use crate::stop::{Stop, both};
+use crate::stop::Stop;
 use dl_ast::{Layer, LimitAst};
-use dl_lexer::{Keyword, Kind};
+use dl_lexer::{Keyword, Kind, both};
 
 impl<'a> Parser<'a> {
     /// `NUMERAL | 'inf'`

@@ -7,9 +7,9 @@ ghost use Rattle.dl_parser.specs.Parsing.{ReadsBy};
 
 use crate::cursor::Parser;
 use crate::parts::Part;
-use crate::stop::{Stop, both};
+use crate::stop::Stop;
 use dl_ast::{ListAst, ListItem, Numeral};
-use dl_lexer::{Kind, Sign, Span};
+use dl_lexer::{Kind, Sign, Span, both};
 
 /// The item of a number and of what stands behind it: where it goes to, and by which step.
 fn item_of(from: Numeral, bounds: Option<(Numeral, Option<Numeral>)>, span: Span) -> ListItem

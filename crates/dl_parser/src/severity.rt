@@ -7,9 +7,9 @@ ghost use Rattle.dl_parser.specs.Reading.{begins, first};
 ghost use Rattle.dl_parser.specs.Parsing.{place, ReadsBy, Adds, AddsAnd};
 
 use crate::cursor::Parser;
-use crate::stop::{Stop, both, only};
+use crate::stop::{Stop, only};
 use dl_ast::{Atom, Items, ListAst, SevAst};
-use dl_lexer::{Keyword, Kind, Sign};
+use dl_lexer::{Keyword, Kind, Sign, both};
 
 impl<'a> Parser<'a> {
     /// `'dsev' list list? | 'sev' 'dhistogram' 'xps' list list?`

@@ -1,6 +1,6 @@
 //! Why a parser stops.
 
-ghost use Rattle.std.specs.Prelude.{◌≡◌, [], ◌∷◌, Ok, Err, IfOk, IfErr};
+ghost use Rattle.std.specs.Prelude.{◌≡◌, [], ◌∷◌, IfOk, IfErr};
 
 use dl_lexer::Kind;
 use std::alloc::{AllocError, AllocFailed, Global};
@@ -12,16 +12,6 @@ pub(crate) enum Stop {
     Wanted(Kind),
     /// Memory ran out.
     OutOfMemory,
-}
-
-/// Two parts that were read one behind the other. Where the second one stopped, the first is
-/// dropped here, so that a reader owns nothing on its ways out.
-pub(crate) fn both<A: Drop, B: Drop>(first: A, second: Result<B, Stop>) -> Result<(A, B), Stop>
-    ensures first { IfOk result (λ both. both.0 ≡ first) }
-    ensures second { IfOk result (λ both. second ≡ Ok both.1) }
-    ensures stop { IfErr result (λ stop. second ≡ Err stop) }
-{
-    Ok((first, second?))
 }
 
 /// A list of this one alone.

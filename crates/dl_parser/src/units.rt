@@ -8,12 +8,12 @@ ghost use Rattle.dl_parser.specs.Parsing.{place, ReadsBy};
 
 use crate::cursor::Parser;
 use crate::parts::Part;
-use crate::stop::{Stop, both, only};
+use crate::stop::{Stop, only};
 use dl_ast::{
     Cession, CountAst, Exposure, FreqAst, Items, Layer, NameAst, Numeral, PortHead, Program,
     SevAst, UnitAst,
 };
-use dl_lexer::{Keyword, Kind, Text};
+use dl_lexer::{Keyword, Kind, Text, both};
 
 /// The sizes of a unit's claims: `layer? sev occ?`.
 #[derive(Drop)]

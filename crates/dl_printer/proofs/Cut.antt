@@ -17,7 +17,7 @@ use Rattle.dl_lexer.specs.declared.token.Kind.TheVariants as kinds
 use Rattle.dl_lexer.proofs.BlankLemmas.{blank_no_token}
 use Rattle.dl_printer.specs.ReadingBack.{ReadsBack}
 use Rattle.dl_printer.proofs.Shown.{piece_of, pieces_of, IsPiece}
-use Rattle.dl_printer.proofs.Ends.{Stops, token_ends}
+use Rattle.dl_printer.proofs.Ends.{Stops, is_stop, token_ends}
 use Rattle.dl_printer.proofs.Nodes.{program_shown}
 
 -- up to this place the text is cut into tokens that are these pieces
@@ -105,21 +105,12 @@ gap_cut bytes front space after ps (one_byte b white one) e c =
 
 -- behind a token that is not tight a stop follows
 
+sign_stops : (b : ℕ) (text rest : List ℕ) → text ≡ b ∷ [] → is_stop b ≡ true → Stops (text ++ rest)
+sign_stops b text rest e stop = record { byte = b; more = rest; whole = ap (λ ys. ys ++ rest) e; stop = stop }
+
 tight_stops : (k : Kind) (text rest : List ℕ) → IsSpelled k text → is_tight_before k ≡ true → Stops (text ++ rest)
-tight_stops (kinds.Sign Close) text rest spelled tight = record {
-  byte = 93;
-  more = rest;
-  whole = ap
-      (λ ys. ys ++ rest) spelled;
-  stop = refl;
-}
-tight_stops (kinds.Sign Colon) text rest spelled tight = record {
-  byte = 58;
-  more = rest;
-  whole = ap
-      (λ ys. ys ++ rest) spelled;
-  stop = refl;
-}
+tight_stops (kinds.Sign Close) text rest spelled tight = sign_stops 93 text rest spelled refl
+tight_stops (kinds.Sign Colon) text rest spelled tight = sign_stops 58 text rest spelled refl
 tight_stops (kinds.Sign Open) text rest spelled tight = absurd cc
 tight_stops (kinds.Sign Comma) text rest spelled tight = absurd cc
 tight_stops (kinds.Sign Bang) text rest spelled tight = absurd cc

@@ -1,15 +1,16 @@
 -- A token is the longest that begins where it stands, whatever follows a sign, and where a blank, `:` or `]` follows
 -- any other token.
 use Rattle.dl_printer.proofs.Common.{ℕ, suc, ◌≡◌, ◌∙◌, ◌+◌, ◌<◌, List, [], ◌∷◌, ◌++◌, length, take, Bool, true, false, ◌||◌, refl, sym, ap, arith, subst, append_assoc, length-append, Some, codes, sign_byte, IsSpelled, IsToken, is_tight_behind}
-use Rattle.std.proofs.Common.{zero, ◌≢◌, ◌≤◌, ◌==◌, slice_get}
+use Rattle.std.proofs.Common.{get_or, zero, ◌≢◌, ◌≤◌, ◌==◌, slice_get}
 use Rattle.std.proofs.Math.Seq.{take-append_seam}
 use Rattle.dl_lexer.specs.declared.token.Kind.{Kind}
-use Rattle.dl_lexer.specs.Bytes.{is_white, is_letter, is_digit, is_word_byte, is_note_byte}
+use Rattle.dl_lexer.specs.Bytes.{is_white, is_digit, is_word_byte, is_note_byte}
 use Rattle.dl_lexer.specs.Tokens.{begins_with_letter, IsWord, IsNote, note}
 use Rattle.dl_lexer.specs.Cutting.{IsLongest}
 use Rattle.std.specs.List.{list_all, prefix_len}
 use Rattle.std.proofs.lemmas.Bool.Decides.{nat_tests}
 use Rattle.std.proofs.lemmas.List.Folds.{list_all-append}
+use Rattle.std.proofs.lemmas.List.Sums.{AllPass-from_list_all, list_all-from_AllPass}
 use Rattle.dl_lexer.specs.declared.token.Sign.{Sign}
 use Rattle.dl_lexer.specs.declared.token.Kind.TheVariants as kinds
 use Rattle.dl_lexer.specs.Numerals.{IsDecimalToken, digits, digits_point, point_digits, percent, fraction, IsNumeralToken, a_decimal, a_percent, a_fraction}
@@ -17,8 +18,8 @@ use Rattle.dl_lexer.proofs.Prefix.{prefix_most, prefix_ends, get_behind}
 use Rattle.dl_lexer.proofs.Longest.{longest_none}
 use Rattle.dl_lexer.proofs.Spellings.{keyword_is_word}
 use Rattle.dl_lexer.proofs.WordLengths.{word_parts, word_longest, note_none, note_closed}
-use Rattle.dl_lexer.proofs.TokenKinds.{begins_numeral, numeral_begins, longest_note, longest_word, longest_numeral, longest_sign, sign_no_letter, sign_no_numeral}
-use Rattle.std.proofs.lemmas.Bool.{and_from, and_parts}
+use Rattle.dl_lexer.proofs.TokenKinds.{begins_numeral, numeral_begins, longest_note, longest_word, longest_numeral, longest_sign, sign_no_letter, sign_no_numeral, no_letter_byte}
+use Rattle.std.proofs.lemmas.Bool.{and_from}
 
 -- a blank, `:` or `]`
 abbrev pub is_stop : ℕ → Bool
@@ -41,18 +42,13 @@ no_word_byte b h = grind (arith, nat_tests)
 no_numeral_byte : (b : ℕ) → is_stop b ≡ true → is_numeral_byte b ≡ false
 no_numeral_byte b h = grind (arith, nat_tests)
 
-no_letter : (b : ℕ) → (is_digit b || b == 46) ≡ true → is_letter b ≡ false
-no_letter b h = grind (arith, nat_tests)
-
 digit_passes : (b : ℕ) → is_digit b ≡ true → is_numeral_byte b ≡ true
 digit_passes b h = rw h refl
 
 -- digits, and parts that pass
 digits_pass : (bs : List ℕ) → list_all is_digit bs ≡ true → list_all is_numeral_byte bs ≡ true
-digits_pass [] h = refl
-digits_pass (b ∷ bs) h = and_from (is_numeral_byte b) (list_all is_numeral_byte bs)
-    (digit_passes b (and_parts (is_digit b) (list_all is_digit bs) h).0)
-    (digits_pass bs (and_parts (is_digit b) (list_all is_digit bs) h).1)
+digits_pass bs h = list_all-from_AllPass is_numeral_byte bs
+    (λ k d lt. digit_passes (get_or bs k d) (AllPass-from_list_all is_digit bs h k d lt))
 
 parts_pass : (a b : List ℕ) → list_all is_numeral_byte a ≡ true → list_all is_numeral_byte b ≡ true
     → list_all is_numeral_byte (a ++ b) ≡ true
@@ -110,7 +106,7 @@ word_ends k text more byte word spelled stop =
 
 numeral_no_letter : (text rest : List ℕ) → begins_numeral text ≡ true → begins_with_letter (text ++ rest) ≡ false
 numeral_no_letter [] rest h = absurd cc
-numeral_no_letter (b ∷ text) rest h = no_letter b h
+numeral_no_letter (b ∷ text) rest h = no_letter_byte b h
 
 numeral_some : (text : List ℕ) → begins_numeral text ≡ true → 0 < length text
 numeral_some [] h = absurd cc

@@ -73,6 +73,12 @@ shows_one k text h = record {
 
 -- the ways to make a rule
 
+-- where tokens that spell by the one rule spell by the other
+shows_by : {A B S T : Type 0} {a : Rule A} {b : Rule B} {f : A → S} {g : B → T} {s : S} {t : T} {us : List Piece}
+    → Shows a f s us
+    → ((ts : List Lexeme) → SpellsAs a f s ts → SpellsAs b g t ts) → Shows b g t us
+shows_by x on = record { real = x.real; shows = λ ts e. on ts (x.shows ts e) }
+
 pub shows_seq : {A B S T : Type 0} {a : Rule A} {b : Rule B} {f : A → S} {g : B → T} {s : S} {t : T}
     {us vs : List Piece} → Shows a f s us
     → Shows b g t vs
@@ -92,41 +98,34 @@ shows_seq {A} {B} {S} {T} {a} {b} {f} {g} {s} {t} {us} {vs} x y = record {
 
 pub shows_left : {A S : Type 0} {a b : Rule A} {f : A → S} {s : S} {us : List Piece} → Shows a f s us
     → Shows (a or b) f s us
-shows_left {A} {S} {a} {b} {f} {s} {us} x = record {
-  real = x.real;
-  shows = λ ts e. let left = x.shows ts e in
-      record { value = left.value; same = left.same; spelled = inl left.spelled };
-}
+shows_left x = shows_by x (λ ts left. record { value = left.value; same = left.same; spelled = inl left.spelled })
 
 pub shows_right : {A S : Type 0} {a b : Rule A} {f : A → S} {s : S} {us : List Piece} → Shows b f s us
     → Shows (a or b) f s us
-shows_right {A} {S} {a} {b} {f} {s} {us} x = record {
-  real = x.real;
-  shows = λ ts e. let right = x.shows ts e in
-      record { value = right.value; same = right.same; spelled = inr right.spelled };
-}
+shows_right x = shows_by x (λ ts right. record { value = right.value; same = right.same; spelled = inr right.spelled })
 
-no_tokens : (ts : List Lexeme) → pieces_of ts ≡ [] → ts ≡ []
-no_tokens [] e = refl
-no_tokens (t ∷ ts) e = absurd cc
+-- what no tokens spell
+shows_nothing : {A S : Type 0} {a : Rule A} {f : A → S} (x : A) → ((ts : List Lexeme) → ts ≡ [] → Spells a x ts)
+    → Shows a f (f x) []
+shows_nothing x spelled = record {
+  real = All-nil IsPiece;
+  shows = λ ts e. record { value = x; same = refl; spelled = spelled ts (no_tokens ts e) };
+}
+  where
+    no_tokens : (ts : List Lexeme) → pieces_of ts ≡ [] → ts ≡ []
+    no_tokens [] e = refl
+    no_tokens (t ∷ ts) e = absurd cc
 
 pub shows_none : {A S : Type 0} {a : Rule A} {f : A → S} → Shows (maybe a) (option_map f) None []
-shows_none {A} {S} {a} {f} = record {
-  real = All-nil IsPiece;
-  shows = λ ts e. record {
-    value = None;
-    same = refl;
-    spelled = no_tokens ts e;
-  };
-}
+shows_none = shows_nothing None (λ ts e. e)
 
 pub shows_some : {A S : Type 0} {a : Rule A} {f : A → S} {s : S} {us : List Piece} → Shows a f s us
     → Shows (maybe a) (option_map f) (Some s) us
-shows_some {A} {S} {a} {f} {s} {us} x = record {
-  real = x.real;
-  shows = λ ts e. let some = x.shows ts e in
-      record { value = Some some.value; same = ap Some some.same; spelled = some.spelled };
-}
+shows_some x = shows_by x (λ ts some. record {
+  value = Some some.value;
+  same = ap Some some.same;
+  spelled = some.spelled;
+})
 
 pub shows_maybe : {A S : Type 0} {a : Rule A} {f : A → S} {pieces : A → List Piece} {P : A → Type 0}
     → ((x : A) → P x → Shows a f (f x) (pieces x))
@@ -137,31 +136,16 @@ shows_maybe {A} {S} {a} {f} {pieces} {P} each (Some x) h = shows_some (each x h)
 
 many_shown : {A S : Type 0} (a : Rule A) (f : A → S) (s : S) (ss : List S) (us vs : List Piece) → Shows a f s us
     → Shows (many a) (map f) ss vs → Shows (many a) (map f) (s ∷ ss) (us ++ vs)
-many_shown a f s ss us vs x y = record {
-  real = All-append IsPiece us vs x.real y.real;
-  shows = λ ts e. let parts = split us vs ts e in
-      let left = x.shows parts.front parts.first in
-      let right = y.shows parts.back parts.second in
-      record {
-        value = left.value ∷ right.value;
-        same = ap (λ v. v ∷ map f right.value) left.same
-            ∙ ap (λ ws. s ∷ ws) right.same;
-        spelled = (parts.front, parts.back, parts.whole, left.spelled, right.spelled);
-      };
-}
+many_shown a f s ss us vs x y = shows_by (shows_seq x y) (λ ts all. record {
+  value = all.value.0 ∷ all.value.1;
+  same = ap (λ p. p.0 ∷ p.1) all.same;
+  spelled = all.spelled;
+})
 
 pub shows_many : {A S : Type 0} {a : Rule A} {f : A → S} {pieces : A → List Piece} {P : A → Type 0}
     → ((x : A) → P x → Shows a f (f x) (pieces x))
     → (xs : List A) → All P xs → Shows (many a) (map f) (map f xs) (flat_map pieces xs)
-shows_many {A} {S} {a} {f} {pieces} {P} each [] h = record {
-  real = All-nil IsPiece;
-  shows = λ ts e. record {
-    value =
-        [];
-    same = refl;
-    spelled = no_tokens ts e;
-  };
-}
+shows_many {A} {S} {a} {f} {pieces} {P} each [] h = shows_nothing [] (λ ts e. e)
 shows_many {A} {S} {a} {f} {pieces} {P} each (x ∷ xs) h = many_shown a f (f x) (map f xs) (pieces x)
     (flat_map pieces xs) (each x (All-head P x xs h)) (shows_many each xs (All-tail P x xs h))
 
@@ -169,30 +153,21 @@ pub shows_made : {A B S T : Type 0} {h : A → B} {a : Rule A} {f : A → S} {g 
     → Shows a f s us
     → ((y : A) → f y ≡ s → g (h y) ≡ t)
     → Shows (made h a) g t us
-shows_made {A} {B} {S} {T} {h} {a} {f} {g} {s} {t} {us} x same = record {
-  real = x.real;
-  shows = λ ts e. let inner = x.shows ts e in record {
-    value = h inner.value;
-    same = same inner.value inner.same;
-    spelled =
-        (inner.value, refl, inner.spelled);
-  };
-}
+shows_made {A} {B} {S} {T} {h} x same = shows_by x (λ ts inner. record {
+  value = h inner.value;
+  same = same inner.value inner.same;
+  spelled = (inner.value, refl, inner.spelled);
+})
 
 pub shows_node : {A B S T : Type 0} {h : A → Span → B} {a : Rule A} {f : A → S} {g : B → T} {s : S} {t : T}
     {us : List Piece}
     → Shows a f s us
     → ((y : A) (span : Span) → f y ≡ s → g (h y span) ≡ t) → Shows (node h a) g t us
-shows_node {A} {B} {S} {T} {h} {a} {f} {g} {s} {t} {us} x same = record {
-  real = x.real;
-  shows = λ ts e. let inner = x.shows ts e in
-      record {
-        value = h inner.value (span_of ts);
-        same = same inner.value (span_of ts) inner.same;
-        spelled =
-            (inner.value, refl, inner.spelled);
-      };
-}
+shows_node {A} {B} {S} {T} {h} x same = shows_by x (λ ts inner. record {
+  value = h inner.value (span_of ts);
+  same = same inner.value (span_of ts) inner.same;
+  spelled = (inner.value, refl, inner.spelled);
+})
 
 -- an alternative that needs the span of the whole
 pub shows_spanned : {A S : Type 0} {r : Rule (Span → A)} {g : A → S} {t : S} {us : List Piece}
@@ -204,11 +179,8 @@ shows_spanned {A} {S} {r} {g} {t} {us} x = shows_node {f = λ make at. g (make a
 pub shows_seen : {A S T : Type 0} {a : Rule A} {f : A → S} {g : A → T} {s : S} {t : T} {us : List Piece}
     → Shows a f s us
     → ((y : A) → f y ≡ s → g y ≡ t) → Shows a g t us
-shows_seen {A} {S} {T} {a} {f} {g} {s} {t} {us} x same = record {
-  real = x.real;
-  shows = λ ts e. let inner = x.shows ts e in
-      record { value = inner.value; same = same inner.value inner.same; spelled = inner.spelled };
-}
+shows_seen x same =
+    shows_by x (λ ts inner. record { value = inner.value; same = same inner.value inner.same; spelled = inner.spelled })
 
 -- a token before or behind
 

@@ -20,11 +20,11 @@ pub not_above : (x y : Fraction) → is_above x y ≡ false → x ≤ℚ y
 unfolding ◌≤ℚ◌
 not_above x y h = ltb-false (y.num * x.den) (x.num * y.den) h
 
+pub zero_above : (n : ℕ) → (n == 0) ≡ false → 0 < n
+zero_above n h = grind (arith, nat_tests, h)
+
 not_zero : (x : Fraction) → is_zero x ≡ false → whole 0 <ℚ x
-not_zero x h = pos_num x (some x.num h)
-  where
-    some : (n : ℕ) → (n == 0) ≡ false → 0 < n
-    some n h = grind (arith, nat_tests, h)
+not_zero x h = pos_num x (zero_above x.num h)
 
 three_tests : (a b : Bool) (n : ℕ) → (a || b || nat_lt most_range_parts n) ≡ false
     → (a ≡ false) × (b ≡ false) × (n ≤ most_range_parts)

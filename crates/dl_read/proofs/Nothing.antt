@@ -1,5 +1,5 @@
 -- Where no part has an answer.
-use Rattle.dl_read.proofs.Common.{◌≡◌, ◌∙◌, List, [], ◌∷◌, ◌++◌, Option, Some, None, Bool, true, false, not, refl, sym, All, IfSome, All-nil, All-cons, Span, ◌else◌, at_if, within, first_in}
+use Rattle.dl_read.proofs.Common.{◌≡◌, ◌∙◌, List, [], ◌∷◌, ◌++◌, Option, Some, None, Bool, true, false, refl, sym, All, IfSome, All-nil, All-cons, Span, ◌else◌, at_if, within, first_in}
 use Rattle.dl_read.proofs.Firsts.{first-append}
 
 pub else_first : {A : Type 0} (x y : Option A) → (x else y) ≡ None → x ≡ None
@@ -27,7 +27,3 @@ none_within f (Some x) e = e
 pub not_at : (b : Bool) (place : Span) → at_if b place ≡ None → b ≡ false
 not_at true place e = absurd (cc)
 not_at false place e = refl
-
-pub not_then : (b : Bool) → not b ≡ false → b ≡ true
-not_then true e = refl
-not_then false e = absurd (cc)

@@ -6,7 +6,7 @@ use Rattle.std.proofs.lemmas.List.Folds.{length-flat_map-take}
 use Rattle.dl_read.specs.declared.stop.Stop.{Stop}
 use Rattle.dl_read.specs.declared.stop.Stop.TheVariants.{At, OutOfMemory}
 use Rattle.dl_read.specs.Read.{Stops}
-use Rattle.dl_read.proofs.Firsts.{NoneBefore, found, ended, else_found, else_next, passes_limit, keeps_limit}
+use Rattle.dl_read.proofs.Firsts.{NoneBefore, found, passed, ended, else_found, else_next, passes_limit, keeps_limit}
 
 -- ---- in turn
 
@@ -26,20 +26,26 @@ module _ {A : Type 0} (f : A → Option Span) (xs zs : List A) (same : zs ≡ xs
   part_stopped i x (At place) before lt is h = found f zs i x place before lt is h ∙ ap (first_in f) same
   part_stopped i x OutOfMemory before lt is h = tt
 
-  pub none_stopped : (i : ℕ) → NoneBefore f zs i → length zs ≤ i → None ≡ first_in f xs
-  none_stopped i before le = ended f zs i before le ∙ ap (first_in f) same
+-- what a loop over parts has made of those before i, none of which stops it
+pub record Made {A B : Type 0} (f : A → Option Span) (g : A → B) (xs : List A) (i : ℕ) (list : List B) : Type 0 where
+  pub made : list ≡ map g (take i xs)
+  pub good : NoneBefore f xs i
 
-module _ {A B : Type 0} (g : A → B) where
-  pub made_more : (xs : List A) (i : ℕ) (x : A) (made more : List B) (y : B) → made ≡ map g (take i xs) → i < length xs
-      → x ≡ get_or xs i x
-      → more ≡ made ++ y ∷ [] → y ≡ g x → more ≡ map g (take (i + 1) xs)
-  made_more xs i x made more y so_far lt is e same =
-      e ∙ ap₂ (λ ys z. ys ++ z ∷ []) so_far same ∙ sym (map-append g (take i xs) (x ∷ []))
-      ∙ ap (map g) (sym (take_more xs i x lt ∙ ap (λ z. take i xs ++ z ∷ []) (sym is)))
+module _ {A B : Type 0} (f : A → Option Span) (g : A → B) where
+  pub made_more : (xs : List A) (i : ℕ) (x : A) (list more : List B) (y : B) → Made f g xs i list → i < length xs
+      → x ≡ get_or xs i x → more ≡ list ++ y ∷ [] → (y ≡ g x) × (None ≡ f x) → Made f g xs (i + 1) more
+  made_more xs i x list more y before lt is e same = record {
+    made = e ∙ ap₂ (λ ys z. ys ++ z ∷ []) before.made same.0 ∙ sym (map-append g (take i xs) (x ∷ []))
+        ∙ ap (map g) (sym (take_more xs i x lt ∙ ap (λ z. take i xs ++ z ∷ []) (sym is)));
+    good = passed f xs i x before.good lt is same.1;
+  }
 
-  pub made_all : (xs zs : List A) (i : ℕ) (made : List B) → zs ≡ xs → length zs ≤ i → made ≡ map g (take i zs)
-      → made ≡ map g xs
-  made_all xs zs i made same le e = e ∙ ap (map g) (take_all i zs le ∙ same)
+  pub made_all : (xs zs : List A) (i : ℕ) (list : List B) → zs ≡ xs → length zs ≤ i → Made f g zs i list
+      → (list ≡ map g xs) × (None ≡ first_in f xs)
+  made_all xs zs i list same le all = (
+    all.made ∙ ap (map g) (take_all i zs le ∙ same),
+    ended f zs i all.good le ∙ ap (first_in f) same,
+  )
 
 -- ---- an item
 

@@ -15,13 +15,14 @@ use crate::numbers::{
     CountNumbers, ItemNumbers, ListNumbers, LossNumbers, PairNumbers, SevNumbers, TermNumbers,
     UnitNumbers,
 };
-use crate::stop::{Stop, both, push_part};
+use crate::stop::{Stop, push_part};
 use crate::tree::{ReadCeded, ReadClause, ReadExposure, ReadFreq, ReadLayer, ReadShare};
 use dl_ast::{
     Atom, CededLayer, Cession, CountAst, Exposure, FreqAst, Layer, LimitAst, ListAst, ListItem,
     Numeral, SevAst, Share, UnitAst,
 };
 use dl_frac::{Frac, numeral};
+use dl_lexer::both;
 use dl_plan::Items;
 use dl_sev::Range;
 use std::alloc::Global;

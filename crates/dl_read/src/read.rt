@@ -17,13 +17,13 @@ use crate::numbers::{
 };
 use crate::numerals::unit_numbers;
 use crate::ranges::bad_range;
-use crate::stop::{Stop, both, push_part};
+use crate::stop::{Stop, push_part};
 use crate::tree::{
     ReadAtom, ReadClause, ReadCount, ReadFreq, ReadList, ReadLists, ReadSev, ReadUnit,
 };
 use dl_ast::UnitAst;
 use dl_frac::Frac;
-use dl_lexer::Span;
+use dl_lexer::{Span, both};
 use dl_limits::{MOST_ATOMS, MOST_LAYERS, MOST_VALUES};
 use dl_plan::Items;
 use dl_sev::{ExpandFault, expand};

@@ -1,6 +1,6 @@
 //! Where reading stops.
 
-ghost use Rattle.std.specs.Prelude.{◌≡◌, ◌∷◌, ◌++◌, [], Ok, Err, IfOk, IfErr};
+ghost use Rattle.std.specs.Prelude.{◌≡◌, ◌∷◌, ◌++◌, [], IfOk};
 
 use dl_lexer::Span;
 use std::alloc::AllocError;
@@ -23,16 +23,6 @@ impl From<AllocError> for Stop {
     fn from(_error: AllocError) -> Stop {
         Stop::OutOfMemory
     }
-}
-
-/// Two parts that were read one behind the other. Where the second one stopped, the first is
-/// dropped here, so that a reader owns nothing on its ways out.
-pub(crate) fn both<A: Drop, B: Drop>(first: A, second: Result<B, Stop>) -> Result<(A, B), Stop>
-    ensures first { IfOk result (λ both. both.0 ≡ first) }
-    ensures second { IfOk result (λ both. second ≡ Ok both.1) }
-    ensures stop { IfErr result (λ stop. second ≡ Err stop) }
-{
-    Ok((first, second?))
 }
 
 /// A part put behind others.

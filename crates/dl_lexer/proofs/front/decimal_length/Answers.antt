@@ -6,7 +6,7 @@ use Rattle.dl_lexer.proofs.front.decimal_length.Goals as goal
 pub returns-then-whole-part-eq0 : goal.returns-then-whole-part-eq0
 returns-then-whole-part-eq0 c =
     decimal_with_bare_point c.args.bytes.now c.in-Some.whole c.in-Some.part c.in-Some.ensures.before
-    c.in-Some.ensures.mark c.in-Some.ensures.behind (omega arith)
+    c.in-Some.ensures.behind (omega arith)
 
 pub returns-else-whole-part-eq0 : goal.returns-else-whole-part-eq0
 returns-else-whole-part-eq0 c =

@@ -1,5 +1,5 @@
 -- The three ends of a parse, and that what is left is no longer than all.
-use Rattle.dl_parser.proofs.Common.{◌≡◌, ℕ, ◌+◌, ◌-◌, ◌<◌, ◌≤◌, List, [], ◌∷◌, length, map, arith, refl, ap, sym, ◌∙◌, true, false, ◌==◌, length-map, place}
+use Rattle.dl_parser.proofs.Common.{◌≡◌, ℕ, ◌+◌, ◌-◌, ◌≤◌, List, [], ◌∷◌, length, map, arith, refl, ap, sym, ◌∙◌, true, ◌==◌, length-map, place}
 use Rattle.std.proofs.lemmas.Bool.Decides.{nat_tests}
 use Rattle.dl_ast.proofs.Formed.{program_formed}
 use Rattle.dl_parser.proofs.Covered.{covered_inside, covered_real, covered_few}

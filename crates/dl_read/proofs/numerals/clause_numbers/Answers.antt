@@ -1,8 +1,8 @@
 -- One layer more, as long as none has a bad numeral.
 use Rattle.dl_read.proofs.Common.{◌∙◌, ap, ap₂, None, bad_in_share, bad_in_layer, bad_in_ceded, ceded_numbers}
 use Rattle.dl_ast.specs.WellFormed.{IsFormedCeded}
-use Rattle.dl_read.proofs.Firsts.{passed, at_item, else_next}
-use Rattle.dl_read.proofs.Reading.{stopped, stopped_next, part_stopped, none_stopped, made_more, made_all}
+use Rattle.dl_read.proofs.Firsts.{at_item, else_next}
+use Rattle.dl_read.proofs.Reading.{stopped, stopped_next, part_stopped, made_more, made_all}
 use Rattle.dl_read.proofs.numerals.clause_numbers.Goals as goal
 
 pub share_number-requires : goal.share_number-requires
@@ -36,28 +36,20 @@ returns-in-Err-layer_numbers c =
 
 pub layers-preserved : goal.layers-preserved
 layers-preserved c =
-    let zs = c.as_slice-ceded-items.result.now in
     let ceded = c.ceded-item.result in
-    record {
-      made = made_more ceded_numbers zs c.layers.ceded-index ceded c.layers.made.items c.push_part.new.parts.items
-          (record { share = c.in-Ok.share; layer = c.in-Ok-layer_numbers.layer; span = ceded.span })
-          c.layers.invariant.made c.layers-test.true c.ceded-item.is c.in_ok-push_part.ensures
-          (ap₂ (λ s l. record { share = s; layer = l; span = ceded.span }) c.in-Ok.ensures.0
-          c.in-Ok-layer_numbers.ensures.0);
-      good = passed bad_in_ceded zs c.layers.ceded-index ceded c.layers.invariant.good c.layers-test.true
-          c.ceded-item.is
-          (else_next (bad_in_share ceded.share) (bad_in_layer ceded.layer) None c.in-Ok.ensures.1
-          c.in-Ok-layer_numbers.ensures.1);
-    }
+    made_more bad_in_ceded ceded_numbers c.as_slice-ceded-items.result.now c.layers.ceded-index ceded
+    c.layers.made.items c.push_part.new.parts.items
+    (record { share = c.in-Ok.share; layer = c.in-Ok-layer_numbers.layer; span = ceded.span })
+    c.layers.invariant c.layers-test.true c.ceded-item.is c.in_ok-push_part.ensures (
+      ap₂ (λ s l. record { share = s; layer = l; span = ceded.span }) c.in-Ok.ensures.0
+          c.in-Ok-layer_numbers.ensures.0,
+      else_next (bad_in_share ceded.share) (bad_in_layer ceded.layer) None c.in-Ok.ensures.1
+          c.in-Ok-layer_numbers.ensures.1,
+    )
 
 pub returns : goal.returns
 returns c =
     let k = c.args.clause.now in
-    let zs = c.as_slice-ceded-items.result.now in (
-      ap (λ ls. record { net = k.net; layers = ls; span = k.span })
-          (c.from_vec.ensures
-          ∙ made_all ceded_numbers k.layers zs c.layers.ceded-index c.layers.made.items c.as_slice-ceded-items.ensures
-          c.layers-test.false c.layers.invariant.made),
-      none_stopped bad_in_ceded k.layers zs c.as_slice-ceded-items.ensures c.layers.ceded-index c.layers.invariant.good
-          c.layers-test.false,
-    )
+    let all = made_all bad_in_ceded ceded_numbers k.layers c.as_slice-ceded-items.result.now c.layers.ceded-index
+    c.layers.made.items c.as_slice-ceded-items.ensures c.layers-test.false c.layers.invariant in
+    (ap (λ ls. record { net = k.net; layers = ls; span = k.span }) (c.from_vec.ensures ∙ all.0), all.1)

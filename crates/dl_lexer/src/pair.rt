@@ -1,0 +1,20 @@
+//! Two parts that are read one behind the other.
+
+ghost use Rattle.std.specs.Prelude.{◌≡◌, Ok, Err, IfOk, IfErr};
+
+/// Two parts that were read one behind the other. Where the second one was not, the first is
+/// dropped here, so that a reader owns nothing on its ways out.
+///
+/// # Errors
+///
+/// Those of the second part.
+pub fn both<A: Drop, B, E>(first: A, second: Result<B, E>) -> Result<(A, B), E>
+    ensures first { IfOk result (λ both. both.0 ≡ first) }
+    ensures second { IfOk result (λ both. second ≡ Ok both.1) }
+    ensures fault { IfErr result (λ fault. second ≡ Err fault) }
+{
+    match second {
+        Ok(second) => Ok((first, second)),
+        Err(fault) => Err(fault),
+    }
+}
