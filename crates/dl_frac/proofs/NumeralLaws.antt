@@ -9,11 +9,8 @@ use Rattle.std.proofs.lemmas.Int.Digits.{digits_value_push}
 use Rattle.dl_exact.proofs.Over.{over_div}
 use Rattle.dl_exact.proofs.Laws.{one_pos}
 use Rattle.dl_frac.specs.Numerals.{decimal_value}
-use Rattle.std.proofs.lemmas.Bool.{or_parts, lt-ltb, ltb-true}
-
-pub cases : (b : Bool) → (b ≡ true) ⊎ (b ≡ false)
-cases true = inl refl
-cases false = inr refl
+use Rattle.std.proofs.Math.Bool.{or-false, or-true}
+use Rattle.std.proofs.lemmas.Bool.{cases_Bool, or_parts, lt-ltb, ltb-true}
 
 -- ---- the parts round the first byte that passes
 
@@ -54,7 +51,7 @@ before_none p (x ∷ xs) back h =
 pub after_push_yes : (p : ℕ → Bool) (text : List ℕ) (b : ℕ) → list_any p text ≡ true
     → after_first p (text ++ b ∷ []) ≡ after_first p text ++ b ∷ []
 after_push_yes p [] b h = absurd (cc)
-after_push_yes p (x ∷ xs) b h = elim (cases (p x)) [
+after_push_yes p (x ∷ xs) b h = elim (cases_Bool (p x)) [
   | inl hit ↦ after_yes p x (xs ++ b ∷ []) hit ∙ ap (λ t. t ++ b ∷ []) (sym (after_yes p x xs hit))
   | inr miss ↦
       let rest : list_any p xs ≡ true = sym (ap (λ t. t || list_any p xs) miss) ∙ h in
@@ -64,17 +61,13 @@ after_push_yes p (x ∷ xs) b h = elim (cases (p x)) [
 pub after_push_no : (p : ℕ → Bool) (text : List ℕ) (b : ℕ) → list_any p text ≡ false
     → after_first p (text ++ b ∷ []) ≡ []
 after_push_no p text b h = after_none p text (b ∷ []) h
-    ∙ elim (cases (p b)) [ inl hit ↦ after_yes p b [] hit | inr miss ↦ after_no p b [] miss ]
+    ∙ elim (cases_Bool (p b)) [ inl hit ↦ after_yes p b [] hit | inr miss ↦ after_no p b [] miss ]
 
 pub after_nothing : (p : ℕ → Bool) (text : List ℕ) → list_any p text ≡ false → after_first p text ≡ []
 after_nothing p text h = sym (ap (λ t. after_first p t) (append-nil text)) ∙ after_none p text [] h
 
 pub any_push : (p : ℕ → Bool) (text : List ℕ) (b : ℕ) → list_any p (text ++ b ∷ []) ≡ (list_any p text || p b)
-any_push p text b = list_any-append p text (b ∷ []) ∙ ap (λ t. list_any p text || t) (or_false (p b))
-  where
-    or_false : (t : Bool) → (t || false) ≡ t
-    or_false true = refl
-    or_false false = refl
+any_push p text b = list_any-append p text (b ∷ []) ∙ ap (λ t. list_any p text || t) (or-false (p b))
 
 -- ---- one more byte that is a digit, and one that is not
 
@@ -111,7 +104,7 @@ places_push_no text b miss =
     ap digit_count (after_push_no is_point text b miss) ∙ sym (ap digit_count (after_nothing is_point text miss))
 
 pub places_push_other : (text : List ℕ) (b : ℕ) → is_ascii_digit b ≡ false → places_in (text ++ b ∷ []) ≡ places_in text
-places_push_other text b h = elim (cases (list_any is_point text)) [
+places_push_other text b h = elim (cases_Bool (list_any is_point text)) [
   | inl hit ↦ ap digit_count (after_push_yes is_point text b hit)
       ∙ ap length (digits_push_no (after_first is_point text) b h)
   | inr miss ↦ places_push_no text b miss
@@ -122,11 +115,7 @@ pub no_mark : (d : ℕ) → d < 10 → (is_point (48 + d) ≡ false) × (is_perc
 no_mark d h = (grind (arith, nat_tests), grind (arith, nat_tests), grind (arith, nat_tests))
 
 pub any_push_no : (p : ℕ → Bool) (text : List ℕ) (b : ℕ) → p b ≡ false → list_any p (text ++ b ∷ []) ≡ list_any p text
-any_push_no p text b h = any_push p text b ∙ ap (λ t. list_any p text || t) h ∙ or_right (list_any p text)
-  where
-    or_right : (t : Bool) → (t || false) ≡ t
-    or_right true = refl
-    or_right false = refl
+any_push_no p text b h = any_push p text b ∙ ap (λ t. list_any p text || t) h ∙ or-false (list_any p text)
 
 -- the scale is 10 for each place
 pub scale_push : (text : List ℕ) (d s t : ℕ) → d < 10 → s ≡ 10 ^ places_in text
@@ -181,9 +170,9 @@ module _ (front back : List ℕ) (h : list_any is_slash front ≡ false) where
 pub early_bad : (d : ℕ) (front back : List ℕ) → list_any is_slash front ≡ false → d < digit_count front
     → is_bad d (front ++ back) ≡ true
 unfolding is_bad
-early_bad d front back h far = elim (cases (list_any is_slash (front ++ back))) [
+early_bad d front back h far = elim (cases_Bool (list_any is_slash (front ++ back))) [
   | inl hit ↦ rw (hit, before_none is_slash front back h, too_many d front (before_first is_slash back) far)
-  | inr miss ↦ elim (cases (list_any is_percent (front ++ back))) [
+  | inr miss ↦ elim (cases_Bool (list_any is_percent (front ++ back))) [
     | inl percent ↦ rw (miss, percent) (too_many (d - 2) front back (omega arith))
     | inr decimal ↦ rw (miss, decimal) (too_many d front back far)
   ]
@@ -283,11 +272,7 @@ percent_slash : (front : List ℕ) → IsDecimal front → list_any is_slash (fr
 percent_slash front h = any_push_no is_slash front 37 refl ∙ (decimal_marks front h).0
 
 percent_there : (front : List ℕ) → list_any is_percent (front ++ 37 ∷ []) ≡ true
-percent_there front = any_push is_percent front 37 ∙ or_true (list_any is_percent front)
-  where
-    or_true : (b : Bool) → (b || true) ≡ true
-    or_true true = refl
-    or_true false = refl
+percent_there front = any_push is_percent front 37 ∙ or-true (list_any is_percent front)
 
 percent_decimal : (front : List ℕ) → decimal_value (front ++ 37 ∷ []) ≡ decimal_value front
 percent_decimal front =

@@ -3,7 +3,8 @@ use Rattle.dl_frac.proofs.Common.{◌≡◌, inl, inr, ℕ, suc, ◌-◌, ◌*�
 use Rattle.std.specs.Prelude.{◌||◌}
 use Rattle.std.proofs.Math.Nat.{one-le-pow}
 use Rattle.std.proofs.lemmas.Int.Digits.{digits_value-lt}
-use Rattle.dl_frac.proofs.NumeralLaws.{cases, after_yes, after_none, count-append, plain_value, plain_bad, hundredth}
+use Rattle.std.proofs.lemmas.Bool.{cases_Bool, ltb-false}
+use Rattle.dl_frac.proofs.NumeralLaws.{after_yes, after_none, count-append, plain_value, plain_bad, hundredth}
 use Rattle.dl_frac.proofs.SpellingLaws.{digits_pass}
 use Rattle.dl_exact.proofs.Parts.{over_num_le as num_of_over-le, over_den_le as den_of_over-le}
 
@@ -24,7 +25,7 @@ tens k d h = pow-le-pow_right (omega arith) h
 
 digits_all : (text : List ℕ) → IsTrue (list_all is_ascii_digit (digits_in text))
 digits_all [] = refl
-digits_all (x ∷ xs) = elim (cases (is_ascii_digit x)) [
+digits_all (x ∷ xs) = elim (cases_Bool (is_ascii_digit x)) [
   | inl digit ↦ rw (digit, digit) (digits_all xs)
   | inr other ↦ rw other (digits_all xs)
 ]
@@ -40,7 +41,7 @@ number_small text d few =
 -- no more digits stand behind the point than in all
 places_le : (text : List ℕ) → places_in text ≤ digit_count text
 places_le [] = omega arith
-places_le (x ∷ xs) = elim (cases (is_point x)) [
+places_le (x ∷ xs) = elim (cases_Bool (is_point x)) [
   | inl point ↦
       let rest : places_in (x ∷ xs) ≡ digit_count xs = ap digit_count (after_yes is_point x xs point) in
       omega (arith, rest, count-append (x ∷ []) xs)
@@ -48,9 +49,6 @@ places_le (x ∷ xs) = elim (cases (is_point x)) [
       let rest : places_in (x ∷ xs) ≡ places_in xs = ap digit_count (after_none is_point (x ∷ []) xs (rw other)) in
       omega (arith, rest, count-append (x ∷ []) xs, places_le xs)
 ]
-
-within : (d n : ℕ) → nat_lt d n ≡ false → n ≤ d
-within d n h = grind (arith, nat_tests, h)
 
 fraction_within : (d m n k : ℕ) → (nat_lt d m || nat_lt d n || k == 0) ≡ false → (m ≤ d) × (n ≤ d) × (0 < k)
 fraction_within d m n k h = grind (arith, nat_tests, h)
@@ -69,7 +67,7 @@ percent_small : (e : ℕ) (text : List ℕ) → list_any is_slash text ≡ false
     → is_bad (suc (suc e)) text ≡ false
     → IsSmall (suc (suc e)) (numeral_value text)
 percent_small e text slash percent good =
-    let few : digit_count text ≤ suc (suc e) - 2 = within (suc (suc e) - 2) (digit_count text)
+    let few : digit_count text ≤ suc (suc e) - 2 = ltb-false (suc (suc e) - 2) (digit_count text)
     (rw percent at (sym (plain_bad (suc (suc e)) text slash) ∙ good)) in
     let more : 10 ^ suc (suc e) ≡ 100 * 10 ^ e = omega arith in
     let places : 10 ^ places_in text ≤ 10 ^ e = tens (places_in text) e (omega (arith, few, places_le text)) in
@@ -83,7 +81,7 @@ decimal_small : (d : ℕ) (text : List ℕ) → list_any is_slash text ≡ false
     → is_bad d text ≡ false
     → IsSmall d (numeral_value text)
 decimal_small d text slash percent good =
-    let few : digit_count text ≤ d = within d (digit_count text)
+    let few : digit_count text ≤ d = ltb-false d (digit_count text)
     (rw percent at (sym (plain_bad d text slash) ∙ good)) in
     let places : 10 ^ places_in text ≤ 10 ^ d = tens (places_in text) d (omega (arith, few, places_le text)) in
     let pos : 0 < 10 ^ places_in text = one-le-pow (places_in text) 10 (omega arith) in
@@ -92,9 +90,9 @@ decimal_small d text slash percent good =
 
 pub numeral_small : (e : ℕ) (text : List ℕ) → is_bad (suc (suc e)) text ≡ false
     → IsSmall (suc (suc e)) (numeral_value text)
-numeral_small e text good = elim (cases (list_any is_slash text)) [
+numeral_small e text good = elim (cases_Bool (list_any is_slash text)) [
   | inl slash ↦ fraction_small (suc (suc e)) text slash good
-  | inr none ↦ elim (cases (list_any is_percent text)) [
+  | inr none ↦ elim (cases_Bool (list_any is_percent text)) [
     | inl percent ↦ percent_small e text none percent good
     | inr plain ↦ decimal_small (suc (suc e)) text none plain good
   ]

@@ -8,7 +8,8 @@ use Rattle.std.proofs.lemmas.List.{append_cancel_right}
 use Rattle.std.proofs.lemmas.List.Folds.{list_any_at}
 use Rattle.std.proofs.lemmas.List.Quantifiers.{position-Some}
 use Rattle.dl_frac.specs.Numerals.{IsNumeral, fraction}
-use Rattle.dl_frac.proofs.NumeralLaws.{cases, cut_at, before_none, after_none, before_yes, after_yes, digit_or_not, no_sign, point_no_digit, slash_no_digit, decimal_marks, any_push_no}
+use Rattle.std.proofs.lemmas.Bool.{cases_Bool, eqb-true, ltb-false}
+use Rattle.dl_frac.proofs.NumeralLaws.{cut_at, before_none, after_none, before_yes, after_yes, digit_or_not, no_sign, point_no_digit, slash_no_digit, decimal_marks, any_push_no}
 
 -- ---- digits
 
@@ -31,7 +32,7 @@ number_pass text b e = (λ h. (digits_pass text).0 (sym e ∙ h), λ h. e ∙ (d
 
 far_place : (p : ℕ → Bool) (text : List ℕ) → length text ≤ position_or_len p text → list_any p text ≡ false
 far_place p [] h = refl
-far_place p (x ∷ xs) h = elim (cases (p x)) [
+far_place p (x ∷ xs) h = elim (cases_Bool (p x)) [
   | inl hit ↦
       let near : position_or_len p (x ∷ xs) ≡ 0 = rw hit in
       absurd (omega (arith, near, h))
@@ -41,15 +42,12 @@ far_place p (x ∷ xs) h = elim (cases (p x)) [
 ]
 
 pub no_place : (p : ℕ → Bool) (text : List ℕ) → None ≡ position p text → list_any p text ≡ false
-no_place p text e = elim (cases (nat_lt (position_or_len p text) (length text))) [
+no_place p text e = elim (cases_Bool (nat_lt (position_or_len p text) (length text))) [
   | inl hit ↦
       let f : None ≡ Some (position_or_len p text) = e ∙ ap (λ b. cond b (Some (position_or_len p text)) None) hit in
       absurd (cc)
-  | inr miss ↦ far_place p text (far _ _ miss)
+  | inr miss ↦ far_place p text (ltb-false _ _ miss)
 ]
-  where
-    far : (m n : ℕ) → nat_lt m n ≡ false → n ≤ m
-    far m n h = grind (arith, nat_tests, h)
 
 none_before : (p : ℕ → Bool) (text : List ℕ) (i : ℕ) → i ≤ length text
     → ((k : ℕ) → k < i → p (get_or text k 0) ≡ false) → list_any p (take i text) ≡ false
@@ -91,12 +89,9 @@ back_is p text i f front back b h e cut =
     sym (after_at p (take i text) (drop (i + 1) text) (get_or text i 0) f.none f.there)
     ∙ ap (after_first p) (sym (cut_at text i f.inside) ∙ cut) ∙ after_at p front back b h e
 
-sign_is : (b s : ℕ) → (b == s) ≡ true → b ≡ s
-sign_is b s h = grind (arith, nat_tests, h)
-
 cut_sign : (s : ℕ) (text : List ℕ) (i : ℕ) → FirstPlace (λ b. b == s) text i
     → text ≡ take i text ++ s ∷ drop (i + 1) text
-cut_sign s text i f = cut_at text i f.inside ∙ ap (λ b. take i text ++ b ∷ drop (i + 1) text) (sign_is _ s f.there)
+cut_sign s text i f = cut_at text i f.inside ∙ ap (λ b. take i text ++ b ∷ drop (i + 1) text) (eqb-true _ s f.there)
 
 there_any : (p : ℕ → Bool) (text : List ℕ) (i : ℕ) → FirstPlace p text i → list_any p text ≡ true
 there_any p text i f = list_any_at p text i 0 f.inside f.there
@@ -108,7 +103,7 @@ clash b p q = absurd (let e : true ≡ false = sym p ∙ q in cc)
 
 any_at : (p : ℕ → Bool) (b : ℕ) → p b ≡ true → (front back : List ℕ) → list_any p (front ++ b ∷ back) ≡ true
 any_at p b h [] back = rw h
-any_at p b h (x ∷ xs) back = elim (cases (p x)) [ inl hit ↦ rw hit | inr miss ↦ rw miss (any_at p b h xs back) ]
+any_at p b h (x ∷ xs) back = elim (cases_Bool (p x)) [ inl hit ↦ rw hit | inr miss ↦ rw miss (any_at p b h xs back) ]
 
 module _ (text : List ℕ) (i : ℕ) (f : FirstPlace is_point text i) where
   pub pointed_there : 1 < length text → AllDigits 10 (take i text)

@@ -1,7 +1,7 @@
 -- What whole weights mean, and the conditioning on large amounts.
-use Rattle.dl_plan.proofs.Common.{ℕ, suc, true, false, ◌≡◌, ◌∙◌, ◌+◌, ◌*◌, ◌<◌, ◌≤◌, ◌++◌, List, [], ◌∷◌, get_or, length, map, sym, take, cond, nat_lt, ◌==◌, refl, ap, arith, mul-pos, inl, inr, cases_lt, All, All-cons, All-nil, Fraction, whole, ◌over◌, ◌*ℚ◌, over_same, Item, amounts_of, weight_sum, weight_at, weighted_sum, probability, mean_amount, conditioned, shares}
+use Rattle.dl_plan.proofs.Common.{ℕ, suc, true, false, ◌≡◌, ◌∙◌, ◌+◌, ◌*◌, ◌<◌, ◌≤◌, ◌++◌, List, [], ◌∷◌, get_or, length, map, sym, take, cond, nat_lt, ◌==◌, refl, ap, arith, mul-pos, inl, inr, cases_lt, All, All-cons, All-nil, Fraction, whole, ◌over◌, ◌*ℚ◌, over_same, Item, weight_sum, weight_at, weighted_sum, probability, mean_amount, conditioned, shares}
 use Rattle.std.proofs.Common.{Bool, not, filter}
-use Rattle.std.proofs.lemmas.Bool.{lt-ltb, le-ltb}
+use Rattle.std.proofs.lemmas.Bool.{cases_Bool, lt-ltb, le-ltb}
 use Rattle.std.proofs.lemmas.List.{append-nil}
 use Rattle.std.proofs.lemmas.List.Elements.{filter_more}
 use Rattle.std.proofs.lemmas.List.Filters.{sum_by-filter_both}
@@ -30,20 +30,18 @@ mass-shares xs t h =
 abbrev pub items_over : ℕ → List Item → List Item
 items_over a xs = filter (λ (i : Item). nat_lt a i.amount) xs
 
-pub filter-shares : (a : ℕ) (xs : List Item) (t : ℕ) → filter (λ pair. nat_lt a pair.0) (shares xs t)
-    ≡ shares (items_over a xs) t
-filter-shares a [] t = refl
-filter-shares a (x ∷ xs) t = elim (cases_lt a x.amount) [
-  | inl h ↦ rw (lt-ltb a x.amount h) (ap (λ ps. (x.amount, x.weight over t) ∷ ps) (filter-shares a xs t))
-  | inr h ↦ rw (le-ltb a x.amount h) (filter-shares a xs t)
+-- what of a list of such items is above a is what the items above a are
+pub filter-map : {B : Type 0} (p : B → Bool) (f : Item → B) (xs : List Item)
+    → filter p (map f xs) ≡ map f (filter (λ x. p (f x)) xs)
+filter-map p f [] = refl
+filter-map p f (x ∷ xs) = elim (cases_Bool (p (f x))) [
+  | inl e ↦ rw e (ap (λ ys. f x ∷ ys) (filter-map p f xs))
+  | inr e ↦ rw e (filter-map p f xs)
 ]
 
-pub filter-amounts : (a : ℕ) (xs : List Item) → amounts_of (items_over a xs) ≡ filter (λ n. nat_lt a n) (amounts_of xs)
-filter-amounts a [] = refl
-filter-amounts a (x ∷ xs) = elim (cases_lt a x.amount) [
-  | inl h ↦ rw (lt-ltb a x.amount h) (ap (λ ns. x.amount ∷ ns) (filter-amounts a xs))
-  | inr h ↦ rw (le-ltb a x.amount h) (filter-amounts a xs)
-]
+pub filter-shares : (a : ℕ) (xs : List Item) (t : ℕ) → filter (λ pair. nat_lt a pair.0) (shares xs t)
+    ≡ shares (items_over a xs) t
+filter-shares a xs t = filter-map (λ pair. nat_lt a pair.0) (λ (i : Item). (i.amount, i.weight over t)) xs
 
 some_over : {n : ℕ} → suc n ≡ 0 → ⊥
 some_over e = omega (arith, e)

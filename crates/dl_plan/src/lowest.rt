@@ -17,6 +17,7 @@ use std::alloc::{AllocError, Global};
 impl Sev {
     /// The severity of rising amounts with weights above 0: their greatest common divisor is taken
     /// out. Takes no memory.
+    #[tactic(auto, using(crate::proofs::Weights::common_pos))]
     pub fn from_rising(items: Vec<Item>) -> Sev
         requires some { 0 < length items.items }
         requires rising { IsStrictlyIncreasing (amounts_of items.items) }

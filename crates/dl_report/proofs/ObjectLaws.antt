@@ -1,6 +1,7 @@
 -- Rows are told by their JSON objects.
-use Rattle.dl_report.proofs.Common.{ℕ, ◌≡◌, ◌≢◌, ◌∙◌, ◌<◌, ◌^◌, Bool, true, false, List, [], ◌∷◌, ◌++◌, refl, sym, ap, ap₂, get_or, map, All, arith, codes, append_assoc, ne_eqb, leb-true, append_cancel_left, All-head, All-tail, All-weaker, All-append, All-push, decimal, flat_map, ◌==◌, if◌then◌else◌, quoted, Fraction, end_text, fraction_text, json_of, row_object, with_commas, IsPlainByte, low_plain, IsPlain, Report, Row}
-use Rattle.std.proofs.Common.{nat_lt}
+use Rattle.dl_report.proofs.Common.{ℕ, ◌≡◌, ◌≢◌, ◌∙◌, ◌<◌, ◌^◌, false, List, [], ◌∷◌, ◌++◌, refl, sym, ap, ap₂, get_or, map, All, arith, codes, append_assoc, ne_eqb, append_cancel_left, All-head, All-tail, All-weaker, All-append, All-push, decimal, flat_map, ◌==◌, quoted, Fraction, end_text, fraction_text, json_of, row_object, with_commas, IsPlainByte, low_plain, IsPlain, Report, Row}
+use Rattle.std.proofs.Common.{inl, inr}
+use Rattle.std.proofs.lemmas.Bool.{cases_Bool, le-ltb}
 use Rattle.json.specs.Print.{escape, escape_byte}
 use Rattle.dl_frac.specs.Exact.{FitsFrac}
 use Rattle.dl_report.proofs.EndLaws.{decimal_plain, end_told, end_plain}
@@ -9,13 +10,6 @@ use Rattle.dl_report.proofs.RowLaws.{no_comma, same_row}
 
 no_quote_mark : (text : List ℕ) → All IsPlainByte text → All (λ byte. byte ≢ 34) text
 no_quote_mark text all = All-weaker IsPlainByte (λ byte. byte ≢ 34) (λ byte h. h.quote_mark) text all
-
-not_control : (byte : ℕ) → 32 < byte → nat_lt byte 32 ≡ false
-not_control byte h = go (nat_lt byte 32) refl
-  where
-    go : (x : Bool) → nat_lt byte 32 ≡ x → nat_lt byte 32 ≡ false
-    go false e = e
-    go true e = let low = leb-true _ _ e in absurd (omega (arith, low))
 
 -- a plain byte stands for itself
 plain_escape : (byte : ℕ) → IsPlainByte byte → escape_byte byte ≡ byte ∷ []
@@ -29,7 +23,7 @@ plain_escape byte h =
       other 10 (omega arith),
       other 13 (omega arith),
       other 9 (omega arith),
-      not_control byte h.above,
+      le-ltb byte 32 (omega (arith, h.above)),
     ) refl
   where
     other : (k : ℕ) → k < 32 → (byte == k) ≡ false
@@ -103,26 +97,18 @@ objects_told : (d f : ℕ) (a b : List Row) → All IsPlain a → All IsPlain b
 objects_told d f [] [] p q e = refl
 objects_told d f [] (s ∷ b) p q e = absurd (first_differs _ _ (λ h. omega (arith, h)) e)
 objects_told d f (r ∷ a) [] p q e = absurd (first_differs _ _ (λ h. omega (arith, h)) e)
-objects_told d f (r ∷ a) (s ∷ b) p q e =
-    let first = object_told d f r s (more d a) (more f b) (All-head IsPlain r a p) (All-head IsPlain s b q)
-    (sym (append_assoc (row_object d r) _ (codes "]}\n")) ∙ e ∙ append_assoc (row_object f s) _ (codes "]}\n")) in
-    ap₂ (λ x xs. x ∷ xs) first.0 (more_told d f a b (All-tail IsPlain r a p) (All-tail IsPlain s b q) first.1)
+objects_told d f (r ∷ a) (s ∷ b) p q e = more_told d f (r ∷ a) (s ∷ b) p q (ap (λ t. codes "," ++ t) e)
 
 fraction_plain : (x : Fraction) → FitsFrac x → All IsPlainByte (fraction_text x)
 unfolding fraction_text
-fraction_plain x h = go (x.den == 1)
-  where
-    num : All IsPlainByte (decimal x.num)
-    num = decimal_plain x.num (omega (arith, h.num))
-
-    den : All IsPlainByte (decimal x.den)
-    den = decimal_plain x.den (omega (arith, h.den))
-
-    go : (whole : Bool) → All IsPlainByte (if whole then decimal x.num else decimal x.num ++ codes "/" ++ decimal x.den)
-    go true = num
-    go false =
-        All-append IsPlainByte (decimal x.num ++ codes "/") (decimal x.den)
-        (All-push IsPlainByte (decimal x.num) 47 num (low_plain 47 (omega arith) (omega arith))) den
+fraction_plain x h =
+    let num = decimal_plain x.num (omega (arith, h.num)) in
+    let den = decimal_plain x.den (omega (arith, h.den)) in
+    elim (cases_Bool (x.den == 1)) [
+      | inl one ↦ rw one num
+      | inr more ↦ rw more (All-append IsPlainByte (decimal x.num ++ codes "/") (decimal x.den)
+          (All-push IsPlainByte (decimal x.num) 47 num (low_plain 47 (omega arith) (omega arith))) den)
+    ]
 
 report_layout : (bs cells rows : List ℕ)
     → codes "{\"bs\":" ++ (34 ∷ (bs ++ 34 ∷ [])) ++ codes ",\"cells\":" ++ cells ++ codes ",\"rows\":[" ++ rows

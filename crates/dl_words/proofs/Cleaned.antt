@@ -1,5 +1,5 @@
 -- Parts with no hyphen at the start of a value or a positional are read alike.
-use Rattle.dl_words.proofs.Common.{◌≡◌, ◌∙◌, ℕ, Bool, true, false, refl, sym, ap, List, [], ◌∷◌, Option, Some, None, true≢false, if◌then◌else◌, is_some, slice_get, ◌&&◌, chars, Part, Mode, Kind, kind_of, parts_from, read_kind, with_part, option, positional, between, value, ended, ends, whole, begins, plain, misfit, Text, begins_plainly}
+use Rattle.dl_words.proofs.Common.{◌≡◌, ◌∙◌, inl, inr, cases_Bool, ℕ, Bool, true, false, refl, sym, ap, List, [], ◌∷◌, Option, Some, None, true≢false, if◌then◌else◌, is_some, slice_get, ◌&&◌, chars, Part, Mode, Kind, kind_of, parts_from, read_kind, with_part, option, positional, between, value, ended, ends, whole, begins, plain, misfit, Text, begins_plainly}
 use Rattle.std.proofs.Common.{◌==◌}
 use Rattle.dl_words.proofs.Reading.{clap_from, clap_kind, value_kind}
 
@@ -18,11 +18,10 @@ cleaned (Some ps) = if is_clean ps then Some ps else None
 
 cleaned_part : (p : Part) (o : Option (List Part)) → cleaned (with_part p o)
     ≡ (if is_clean_part p then with_part p (cleaned o) else None)
-cleaned_part p None = go (is_clean_part p)
-  where
-    go : (b : Bool) → ◌≡◌ {A = Option (List Part)} None (if b then None else None)
-    go true = refl
-    go false = refl
+cleaned_part p None = elim (cases_Bool (is_clean_part p)) [
+  | inl e ↦ rw e refl
+  | inr e ↦ rw e refl
+]
 cleaned_part p (Some ps) = go (is_clean_part p) refl (is_clean ps) refl
   where
     go : (a : Bool) → is_clean_part p ≡ a → (b : Bool) → is_clean ps ≡ b
@@ -79,17 +78,25 @@ between_same word f g (alike e) h = rw e (same_kind word (kind_of word) f g h)
 between_same word f g (hyphen e k n) h = rw (e, k) (not_clean (positional word) (f between) n)
 
 -- a word that begins with no hyphen is plain
-plain_kind : (w : Text) → begins_plainly w ≡ true → clap_kind w ≡ plain
+pub plain_kind : (w : Text) → begins_plainly w ≡ true → kind_of w ≡ plain
 plain_kind [] h = refl
-plain_kind (c ∷ cs) h = go (c == 45) refl
-  where
-    go : (b : Bool) → c == 45 ≡ b → clap_kind (c ∷ cs) ≡ plain
-    go true e = absurd (true≢false (sym (rw e at h)))
-    go false e = rw e refl
+plain_kind (c ∷ cs) h = elim (cases_Bool (c == 45)) [
+  | inl e ↦ absurd (true≢false (sym (rw e at h)))
+  | inr e ↦ rw e refl
+]
+
+clap_plain : (w : Text) → begins_plainly w ≡ true → clap_kind w ≡ plain
+clap_plain w h = elim (kinds w) [
+  | alike e ↦ e ∙ plain_kind w h
+  | hyphen e k n ↦ e
+]
 
 value_same : (name word : Text) (o q : Option (List Part)) → cleaned o ≡ cleaned q
     → cleaned (value_kind name word (clap_kind word) o) ≡ cleaned (with_part (option name word) q)
-value_same name word o q h = go (begins_plainly word) refl
+value_same name word o q h = elim (cases_Bool (begins_plainly word)) [
+  | inl e ↦ rw (clap_plain word e) (same_part (option name word) o q h)
+  | inr e ↦ or_none (clap_kind word) e ∙ sym (not_clean (option name word) q e)
+]
   where
     or_none : (k : Kind) → begins_plainly word ≡ false → cleaned (value_kind name word k o) ≡ None
     or_none ends n = refl
@@ -97,11 +104,6 @@ value_same name word o q h = go (begins_plainly word) refl
     or_none (begins m) n = refl
     or_none plain n = not_clean (option name word) o n
     or_none misfit n = refl
-
-    go : (b : Bool) → begins_plainly word ≡ b → cleaned (value_kind name word (clap_kind word) o)
-        ≡ cleaned (with_part (option name word) q)
-    go true e = rw (plain_kind word e) (same_part (option name word) o q h)
-    go false e = or_none (clap_kind word) e ∙ sym (not_clean (option name word) q e)
 
 pub same_cleaned : (words : List Text) (mode : Mode) → cleaned (clap_from mode words) ≡ cleaned (parts_from mode words)
 unfolding parts_from

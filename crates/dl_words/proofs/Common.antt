@@ -20,7 +20,8 @@ pub use Rattle.std.specs.Str.{bytes_eq, chars}
 pub use Rattle.dl_exact.specs.Fraction.{Fraction}
 pub use Rattle.dl_lexer.specs.Bytes.{is_word_byte}
 pub use Rattle.dl_lexer.specs.Tokens.{begins_with_letter}
-pub use Rattle.dl_frac.proofs.NumeralLaws.{before_none, cases}
+pub use Rattle.std.proofs.lemmas.Bool.{cases_Bool}
+pub use Rattle.dl_frac.proofs.NumeralLaws.{before_none}
 pub use Rattle.dl_frac.proofs.SpellingLaws.{digits_pass}
 pub use Rattle.dl_frac.specs.Numerals.{IsDecimal, IsNumeral, decimal, fraction, percent, pointed}
 unfoldable pub use Rattle.dl_frac.specs.Numerals.{is_bad, numeral_value}

@@ -1,5 +1,5 @@
 -- What `split_once` and `strip_prefix` say, in the words of the definitions.
-use Rattle.dl_words.proofs.Common.{◌≡◌, ℕ, ◌+◌, ◌<◌, Bool, true, false, [], ◌∷◌, length, Option, Some, None, arith, refl, ap, inl, inr, ◌==◌, option_map, Bor, list_any, nat_tests, cases, behind_s, begins_plainly, cut_at, slice_get, Text}
+use Rattle.dl_words.proofs.Common.{◌≡◌, ℕ, ◌+◌, ◌<◌, Bool, true, false, [], ◌∷◌, length, Option, Some, None, arith, refl, ap, inl, inr, ◌==◌, option_map, Bor, list_any, nat_tests, cases_Bool, behind_s, begins_plainly, cut_at, slice_get, Text}
 use Rattle.std.proofs.Common.{◌≢◌}
 use Rattle.std.specs.Prelude.{MatchOption, not}
 use Rattle.std.specs.List.{position_or_len}
@@ -14,14 +14,14 @@ module _ (p : ℕ → Bool) where
 
   found_any : (text : Text) → position_or_len p text < length text → list_any p text ≡ true
   found_any [] h = absurd (omega (arith, h))
-  found_any (x ∷ xs) h = elim (cases (p x)) [
+  found_any (x ∷ xs) h = elim (cases_Bool (p x)) [
     | inl hit ↦ rw hit refl
     | inr miss ↦ rw miss (found_any xs (omega (arith, h, next_place x xs miss)))
   ]
 
   none_any : (text : Text) → position_or_len p text ≡ length text → list_any p text ≡ false
   none_any [] h = refl
-  none_any (x ∷ xs) h = elim (cases (p x)) [
+  none_any (x ∷ xs) h = elim (cases_Bool (p x)) [
     | inl hit ↦ absurd (omega (arith, h, near_place x xs hit))
     | inr miss ↦ rw miss (none_any xs (omega (arith, h, next_place x xs miss)))
   ]
@@ -48,7 +48,7 @@ pub behind_is : (text : Text) (r : Option (Bor Text))
     → option_map (λ s. s.now) r ≡ behind_s text
 behind_is text (Some x) h = rw h refl
 behind_is [] None h = refl
-behind_is (c ∷ cs) None h = elim (cases (c == 115)) [
+behind_is (c ∷ cs) None h = elim (cases_Bool (c == 115)) [
   | inl hit ↦ let e : c ≡ 115 = grind (arith, nat_tests, hit) in absurd (h cs (ap (λ b. b ∷ cs) e))
   | inr miss ↦ rw miss refl
 ]

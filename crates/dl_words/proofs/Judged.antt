@@ -1,5 +1,6 @@
 -- The answer to what `clap` found is the answer to the words.
-use Rattle.dl_words.proofs.Common.{◌≡◌, ◌∙◌, ℕ, Bool, true, false, refl, sym, ap, ap₂, subst, List, [], ◌∷◌, ◌++◌, Option, Some, None, Result, Ok, Err, codes, true≢false, length, drop, arith, ◌≤◌, if◌then◌else◌, is_some, slice_get, nat_le, ◌&&◌, ◌||◌, option_and_then, option_map, unwrap_or, ⊤, Bor, is_ascii_digit, list_all, list_any, bytes_eq, append-nil, bytes_eq-Decides, nat_tests, all_of, rows_of, matches_of, IsDecimal, pointed, IsNumeral, decimal, percent, fraction, Asked, Form, Run, Fmt, Settings, UsageFault, Line, WordsFault, asks_of, command, Explains, ExplainsAsks, answer_in, asks_in, values_in, Values, are_taken, form_named, is_taken, Part, Mode, is_name, kind_of, parts_from, command_parts, positionals_of, option_values, option, positional, between, value, ended, Text, begins_plainly, is_bucket, is_number_within, admits, answer, to_parts, to_positionals, with_asks, words_of}
+use Rattle.dl_words.proofs.Common.{◌≡◌, ◌∙◌, inl, inr, cases_Bool, ℕ, Bool, true, false, refl, sym, ap, ap₂, subst, List, [], ◌∷◌, ◌++◌, Option, Some, None, Result, Ok, Err, codes, true≢false, length, drop, arith, ◌≤◌, if◌then◌else◌, is_some, slice_get, nat_le, ◌&&◌, ◌||◌, option_and_then, option_map, unwrap_or, ⊤, Bor, is_ascii_digit, IsTrue, list_all, list_any, bytes_eq, append-nil, bytes_eq-Decides, nat_tests, all_of, rows_of, matches_of, IsDecimal, pointed, IsNumeral, decimal, percent, fraction, Asked, Form, Run, Fmt, Settings, UsageFault, Line, WordsFault, asks_of, command, Explains, ExplainsAsks, answer_in, asks_in, values_in, Values, are_taken, form_named, is_taken, Part, Mode, is_name, kind_of, parts_from, command_parts, positionals_of, option_values, option, positional, between, value, ended, Text, begins_plainly, is_bucket, is_number_within, admits, answer, to_parts, to_positionals, with_asks, words_of}
+use Rattle.std.proofs.lemmas.Bool.{and_left, and_right}
 use mathlib.Core.Path.{fun_ext}
 use Rattle.std.specs.Prelude.{take, find, ◌==◌}
 use Rattle.std.specs.Str.Parse.{IsNumeral as IsNumber}
@@ -71,24 +72,23 @@ bucket_plain : (text : Text) → is_bucket text ≡ true → begins_plainly text
 bucket_plain text h = numeral_plain text ((numeral_test text).0 (both _ _ (both _ _ h).0).0)
 
 -- a text that is one of some names
-named_plain : (text name : Text) (P : Type 0) → begins_plainly name ≡ true
+named_plain : (text name : Text) → begins_plainly name ≡ true
     → (bytes_eq text name ≡ false → begins_plainly text ≡ true) → begins_plainly text ≡ true
-named_plain text name P p other = go (bytes_eq text name) refl
-  where
-    go : (b : Bool) → bytes_eq text name ≡ b → begins_plainly text ≡ true
-    go true e = rw ((bytes_eq-Decides text name).0 e) p
-    go false e = other e
+named_plain text name p other = elim (cases_Bool (bytes_eq text name)) [
+  | inl e ↦ rw ((bytes_eq-Decides text name).0 e) p
+  | inr e ↦ other e
+]
 
 format_plain : (text : Text) → is_some (format_named text) ≡ true → begins_plainly text ≡ true
 format_plain text h =
-    named_plain text (codes "text") ⊤ refl (λ a. named_plain text (codes "csv") ⊤ refl
-    (λ b. named_plain text (codes "json") ⊤ refl (λ c.
+    named_plain text (codes "text") refl (λ a. named_plain text (codes "csv") refl
+    (λ b. named_plain text (codes "json") refl (λ c.
     let none : is_some (format_named text) ≡ false = rw (a, b, c) refl in
     absurd (true≢false (sym h ∙ none)))))
 
 form_plain : (text : Text) → is_some (form_named text) ≡ true → begins_plainly text ≡ true
 form_plain text h =
-    named_plain text (codes "run") ⊤ refl (λ a. named_plain text (codes "fmt") ⊤ refl (λ b.
+    named_plain text (codes "run") refl (λ a. named_plain text (codes "fmt") refl (λ b.
     let none : is_some (form_named text) ≡ false = rw (a, b) refl in
     absurd (true≢false (sym h ∙ none))))
 
@@ -103,14 +103,6 @@ taken_plain takes f (text ∷ texts) h =
 
 too_many : (n : ℕ) → 2 ≤ n → nat_le n 1 ≡ false
 too_many n h = grind (arith, nat_tests, h)
-
--- a part of a conjunction fails
-pub here : (a b : Bool) → a ≡ false → (a && b) ≡ false
-here a b h = rw h refl
-
-pub later : (a b : Bool) → b ≡ false → (a && b) ≡ false
-later true b h = h
-later false b h = refl
 
 -- a form that takes no asks refuses those that stand
 pub asks_refused : (form : Form) (values : Values) (texts : List (Bor Text)) (b : Bool) → form ≡ Fmt
@@ -151,32 +143,25 @@ module _ (values : Values) where
   pub values_plain : (rows : List Row) → ArePlain rows → all_taken rows ≡ true → (name : Text)
       → has_name rows name ≡ true → list_all begins_plainly (values name) ≡ true
   values_plain [] p t name is = absurd (true≢false (sym is))
-  values_plain (row ∷ rows) p t name is = go (bytes_eq row.0 name) refl (values_plain rows p.1 (both _ _ t).1 name)
-    where
-      own : list_all begins_plainly (values row.0) ≡ true
-      own = taken_plain row.1 p.0 (values row.0)
-          (both (nat_le (length (values row.0)) 1) (list_all row.1 (values row.0))
-          (both (is_taken row.1 (values row.0)) (all_taken rows) t).0).1
-
-      go : (b : Bool) → bytes_eq row.0 name ≡ b
-          → (has_name rows name ≡ true → list_all begins_plainly (values name) ≡ true)
-          → list_all begins_plainly (values name) ≡ true
-      go true e rest = subst (λ n. list_all begins_plainly (values n) ≡ true) ((bytes_eq-Decides row.0 name).0 e) own
-      go false e rest = rest (sym (ap (λ b. b || has_name rows name) e) ∙ is)
+  values_plain (row ∷ rows) p t name is = elim (cases_Bool (bytes_eq row.0 name)) [
+    | inl e ↦
+        let own = taken_plain row.1 p.0 (values row.0)
+        (both (nat_le (length (values row.0)) 1) (list_all row.1 (values row.0))
+        (both (is_taken row.1 (values row.0)) (all_taken rows) t).0).1 in
+        subst (λ n. list_all begins_plainly (values n) ≡ true) ((bytes_eq-Decides row.0 name).0 e) own
+    | inr e ↦ values_plain rows p.1 (both _ _ t).1 name (sym (ap (λ b. b || has_name rows name) e) ∙ is)
+  ]
 
   -- an option that stands twice is not taken
   pub twice_untaken : (rows : List Row) (name : Text) → has_name rows name ≡ true → 2 ≤ length (values name)
       → all_taken rows ≡ false
   twice_untaken [] name is two = absurd (true≢false (sym is))
-  twice_untaken (row ∷ rows) name is two = go (bytes_eq row.0 name) refl (λ is. twice_untaken rows name is two)
-    where
-      go : (b : Bool) → bytes_eq row.0 name ≡ b → (has_name rows name ≡ true → all_taken rows ≡ false)
-          → all_taken (row ∷ rows) ≡ false
-      go true e rest =
-          let own : 2 ≤ length (values row.0) = subst (λ n. 2 ≤ length (values n))
-          (sym ((bytes_eq-Decides row.0 name).0 e)) two in
-          here _ _ (here _ _ (too_many (length (values row.0)) own))
-      go false e rest = later _ _ (rest (sym (ap (λ b. b || has_name rows name) e) ∙ is))
+  twice_untaken (row ∷ rows) name is two = elim (cases_Bool (bytes_eq row.0 name)) [
+    | inl e ↦
+        let own = subst (λ n. 2 ≤ length (values n)) (sym ((bytes_eq-Decides row.0 name).0 e)) two in
+        and_left _ _ (and_left _ _ (too_many (length (values row.0)) own))
+    | inr e ↦ and_right _ _ (twice_untaken rows name (sym (ap (λ b. b || has_name rows name) e) ∙ is) two)
+  ]
 
 -- ---- parts that are not clean are refused
 
@@ -264,7 +249,7 @@ untaken_misfit values (form ∷ asks) h = go (form_named form)
   where
     go : (o : Option Form) → fits o values asks ≡ false
     go None = refl
-    go (Some f) = here _ _ (here _ _ h)
+    go (Some f) = and_left _ _ (and_left _ _ h)
 
 pub refused : (words : List Text) → Unfit words → words_of words ≡ Err Line
 refused words (no_parts e) = answer_is words ∙ ap to_parts e
@@ -379,8 +364,20 @@ pub plain_found : (r : Bool) (texts : List (Bor Text)) (asks : List Text)
 plain_found r texts asks h e = h ∙ sym (list_all-map begins_plainly (λ text. text.now) texts)
     ∙ ap (list_all begins_plainly) e
 
-pub all_three : (a b c : Bool) → a ≡ true → b ≡ true → c ≡ true → (a && b && c) ≡ true
-all_three a b c h k l = rw (h, k, l) refl
+-- where the values are taken, and the tests of the texts of the asks pass, what was found fits the form
+pub fitting_tests : (found : Found) (form : Form) (texts : List (Bor Text)) (begin admitted : Bool)
+    → Some form ≡ form_in found → lent texts ≡ asks_in found → IsTrue (are_taken (values_in found))
+    → begin ≡ list_all (λ text. begins_plainly text.now) texts → IsTrue begin
+    → admitted ≡ admits form (values_in found) (lent texts) → IsTrue admitted
+    → answer_in found ≡ with_asks form (values_in found) (asks_of (lent texts))
+fitting_tests found form texts begin admitted is same taken tested b asked a =
+    let fitting : fits (Some form) (values_in found) (asks_in found) ≡ true =
+    rw (
+      taken,
+      sym (plain_found begin texts (asks_in found) tested same) ∙ b,
+      ap (admits form (values_in found)) (sym same) ∙ sym asked ∙ a,
+    ) refl in
+    fitting_found found form is fitting ∙ ap (λ asks. with_asks form (values_in found) (asks_of asks)) (sym same)
 
 -- the first misfit of the asks is the answer's fault
 pub explained : (form : Form) (values : Values) (asks : Result (List Asked) ℕ) (a : Result Settings UsageFault)

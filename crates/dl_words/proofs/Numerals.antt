@@ -1,5 +1,5 @@
 -- The test of a numeral passes exactly what is spelled as one.
-use Rattle.dl_words.proofs.Common.{◌≡◌, ◌∙◌, inl, inr, ℕ, ◌+◌, ◌<◌, Bool, true, false, [], ◌∷◌, ◌++◌, length, take, drop, Option, Some, None, arith, refl, sym, ap, ap₂, ◌==◌, ◌&&◌, nat_lt, IsTrue, list_any, list_all, before_first, after_first, is_ascii_digit, append-nil, nat_tests, IsDecimal, pointed, IsNumeral, decimal, percent, fraction, cases, before_none, digits_pass, Text, is_number, is_numeral}
+use Rattle.dl_words.proofs.Common.{◌≡◌, ◌∙◌, inl, inr, ℕ, ◌+◌, ◌<◌, Bool, true, false, [], ◌∷◌, ◌++◌, length, take, drop, Option, Some, None, arith, refl, sym, ap, ap₂, ◌==◌, ◌&&◌, nat_lt, IsTrue, list_any, list_all, before_first, after_first, is_ascii_digit, append-nil, nat_tests, IsDecimal, pointed, IsNumeral, decimal, percent, fraction, cases_Bool, before_none, digits_pass, Text, is_number, is_numeral}
 use Rattle.std.specs.Prelude.{◌↔◌}
 use Rattle.std.specs.List.{position}
 use Rattle.std.specs.Str.Parse.{IsNumeral as IsNumber}
@@ -9,7 +9,7 @@ use Rattle.dl_frac.specs.Numerals.{is_point, is_percent, is_slash, plain}
 use Rattle.dl_frac.proofs.NumeralLaws.{cut_at, after_none, before_yes, after_yes, no_sign, point_no_digit, slash_no_digit, decimal_marks, any_push_no}
 use Rattle.dl_frac.proofs.SpellingLaws.{FirstPlace, clash, first_place, no_place, unpointed}
 use Rattle.dl_words.specs.Spelling.{is_decimal}
-use Rattle.std.proofs.lemmas.Bool.{or_right}
+use Rattle.std.proofs.lemmas.Bool.{lt-ltb, or_right}
 
 -- ---- tests
 
@@ -19,6 +19,9 @@ both false b h = absurd (cc)
 
 pub joined : (a b : Bool) → IsTrue a → IsTrue b → IsTrue (a && b)
 joined a b h k = rw (h, k) refl
+
+pub less : (m n : ℕ) → IsTrue (nat_lt m n) → m < n
+less m n h = grind (arith, nat_tests, h)
 
 pub not_passed : (b : Bool) → (IsTrue b → ⊥) → b ≡ false
 not_passed true h = absurd (h refl)
@@ -75,25 +78,13 @@ module _ (s : ℕ) where
 
 -- ---- numbers
 
-some_length : (n : ℕ) → IsTrue (nat_lt 0 n) → 0 < n
-some_length n h = grind (arith, nat_tests, h)
-
-some_test : (n : ℕ) → 0 < n → IsTrue (nat_lt 0 n)
-some_test n h = grind (arith, nat_tests, h)
-
 pub number_test : (text : Text) → IsTrue (is_number text) ↔ IsNumber 10 text
 number_test text = (
-  λ h. let t = both _ _ h in (some_length _ t.0, (digits_pass text).0 t.1),
-  λ h. joined _ _ (some_test _ h.0) ((digits_pass text).1 h.1),
+  λ h. let t = both _ _ h in (less _ _ t.0, (digits_pass text).0 t.1),
+  λ h. joined _ _ (lt-ltb _ _ h.0) ((digits_pass text).1 h.1),
 )
 
 -- ---- decimals
-
-two_length : (n : ℕ) → IsTrue (nat_lt 1 n) → 1 < n
-two_length n h = grind (arith, nat_tests, h)
-
-two_test : (n : ℕ) → 1 < n → IsTrue (nat_lt 1 n)
-two_test n h = grind (arith, nat_tests, h)
 
 module _ (text : Text) (point : list_any is_point text ≡ true) where
   abbrev pointed_test : Bool
@@ -108,7 +99,7 @@ module _ (text : Text) (point : list_any is_point text ≡ true) where
       let back = after_first is_point text in
       let cut = cut_first 46 text point in
       let size : length text ≡ length front + length (46 ∷ back) = ap length cut ∙ length-append front (46 ∷ back) in
-      let long : 1 < length text = two_length (length text) u.0 in
+      let long : 1 < length text = less 1 (length text) u.0 in
       let some : 0 < length front + length back = omega (arith, size, long) in
       pointed front back ((digits_pass front).0 u.1) ((digits_pass back).0 t.1) some cut
 
@@ -119,12 +110,12 @@ module _ (text : Text) (point : list_any is_point text ≡ true) where
       let first : before_first is_point text ≡ front = ap (before_first is_point) cut ∙ before_at 46 front back none in
       let rest : after_first is_point text ≡ back = ap (after_first is_point) cut ∙ after_at 46 front back none in
       let size : length text ≡ length front + length (46 ∷ back) = ap length cut ∙ length-append front (46 ∷ back) in
-      joined _ _ (joined _ _ (two_test (length text) (omega (arith, size, some)))
+      joined _ _ (joined _ _ (lt-ltb 1 (length text) (omega (arith, size, some)))
       (ap (list_all is_ascii_digit) first ∙ (digits_pass front).1 a))
       (ap (list_all is_ascii_digit) rest ∙ (digits_pass back).1 b)
 
 pub decimal_test : (text : Text) → IsTrue (is_decimal text) ↔ IsDecimal text
-decimal_test text = elim (cases (list_any is_point text)) [
+decimal_test text = elim (cases_Bool (list_any is_point text)) [
   | inl point ↦ rw point (pointed_to text point, pointed_back text point)
   | inr none ↦ rw none (λ h. plain ((number_test text).0 h), λ h. (number_test text).1 (unpointed text none h))
 ]
@@ -185,9 +176,9 @@ module _ (text : Text) (slash : list_any is_slash text ≡ false) where
   decimal_back none (fraction first second a b cut) = no_fraction first second cut
 
 pub numeral_test : (text : Text) → IsTrue (is_numeral text) ↔ IsNumeral text
-numeral_test text = elim (cases (list_any is_slash text)) [
+numeral_test text = elim (cases_Bool (list_any is_slash text)) [
   | inl slash ↦ rw slash (slash_to text slash, slash_back text slash)
-  | inr none ↦ elim (cases (list_any is_percent text)) [
+  | inr none ↦ elim (cases_Bool (list_any is_percent text)) [
     | inl sign ↦ rw (none, sign) (percent_to text none sign, percent_back text none sign)
     | inr plain_one ↦ rw (none, plain_one) (
       λ h. decimal ((decimal_test text).0 h),

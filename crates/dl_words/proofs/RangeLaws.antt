@@ -1,14 +1,16 @@
 -- What good words say lies in its ranges, and the asks are words.
-use Rattle.dl_words.proofs.Common.{◌≡◌, ℕ, suc, ◌<◌, ◌≤◌, Bool, true, false, refl, ap, subst, List, [], ◌∷◌, length, All, Option, Some, None, Result, Ok, Err, IfOk, arith, codes, nat_le, nat_lt, ◌&&◌, ◌==◌, IsTrue, ⊤, list_all, All-nil, All-cons, nat_tests, Fraction, is_bad, numeral_value, Ask, Asked, Form, Run, Fmt, Settings, UsageFault, ask_of, asks_of, with_ask, Values, are_taken, form_named, is_taken, Part, Mode, Kind, kind_of, parts_from, command_parts, positionals_of, read_kind, option_values, with_part, option, positional, between, value, ended, ends, begins, plain, misfit, Text, begins_plainly, is_bucket, is_numeral, is_probability, is_number_within, number, SpellsAsk, pmf, cdf, mean, q, tail, layer, no_limit, joint, kappa, admits, answer, to_parts, to_positionals, with_asks, words_of}
+use Rattle.dl_words.proofs.Common.{◌≡◌, inl, inr, cases_Bool, ℕ, suc, ◌≤◌, Bool, true, false, refl, ap, subst, List, [], ◌∷◌, length, All, Option, Some, None, Result, Ok, Err, IfOk, arith, codes, nat_le, nat_lt, ◌&&◌, ◌==◌, IsTrue, ⊤, list_all, All-nil, All-cons, nat_tests, is_bad, numeral_value, Ask, Asked, Form, Run, Fmt, Settings, UsageFault, ask_of, asks_of, with_ask, Values, are_taken, form_named, is_taken, Part, Mode, Kind, kind_of, parts_from, command_parts, positionals_of, read_kind, option_values, with_part, option, positional, between, value, ended, ends, begins, plain, misfit, Text, begins_plainly, is_bucket, is_numeral, is_probability, is_number_within, number, SpellsAsk, pmf, cdf, mean, q, tail, layer, no_limit, joint, kappa, admits, answer, to_parts, to_positionals, with_asks, words_of}
+use Rattle.dl_exact.proofs.BelowOne.{below_one}
+use Rattle.std.proofs.lemmas.Bool.{leb-true}
 use Rattle.std.proofs.Common.{not, IfSome, IsUtf8}
 use Rattle.std.proofs.lemmas.List.Elements.{All-head, All-tail}
-use Rattle.dl_exact.specs.Fraction.{whole, ◌<ℚ◌}
-use Rattle.dl_exact.proofs.Laws.{whole_pos, one_pos}
-use Rattle.dl_exact.proofs.Parts.{over_num_le as num_of_over-le, over_den_le as den_of_over-le, whole_num, whole_den, pos_num}
+use Rattle.dl_exact.specs.Fraction.{whole}
+use Rattle.dl_exact.proofs.Parts.{pos_num}
+use Rattle.dl_plan.proofs.Buckets.{one_bucket}
 use Rattle.dl_plan.specs.Ranges.{IsBucket, IsLevel, HasLevel, AreInRange}
 use Rattle.dl_words.specs.Options.{is_make_alone, or_default, settings_of}
 use Rattle.dl_words.specs.Parts.Kind.{whole as joined_kind}
-use Rattle.dl_words.proofs.Numerals.{both}
+use Rattle.dl_words.proofs.Numerals.{both, less}
 use Rattle.dl_frac.proofs.SmallNumerals.{IsSmall, numeral_small}
 use Rattle.dl_words.proofs.TableLaws.{table_back}
 
@@ -17,16 +19,6 @@ use Rattle.dl_words.proofs.TableLaws.{table_back}
 not_bad : (b : Bool) → IsTrue (not b) → b ≡ false
 not_bad true h = absurd (cc)
 not_bad false h = refl
-
-less : (m n : ℕ) → IsTrue (nat_lt m n) → m < n
-less m n h = grind (arith, nat_tests, h)
-
-most : (m n : ℕ) → IsTrue (nat_le m n) → m ≤ n
-most m n h = grind (arith, nat_tests, h)
-
-below_one : (x : Fraction) → x.num < x.den → x <ℚ whole 1
-unfolding ◌<ℚ◌
-below_one x h = rw (whole_num 1, whole_den 1) (omega (arith, h))
 
 bucket : (text : Text) → IsTrue (is_bucket text) → IsBucket (numeral_value text)
 bucket text h =
@@ -50,13 +42,6 @@ level text h =
       den = small.den;
     }
 
-one_bucket : IsBucket (whole 1)
-one_bucket = record {
-  above = whole_pos 1 one_pos;
-  num = omega (arith, num_of_over-le 1 1 one_pos);
-  den = omega (arith, den_of_over-le 1 1 one_pos);
-}
-
 -- what holds of the default and of each value that is taken holds of what stands
 taken : {A : Type 0} (P : A → Type 0) (takes : Text → Bool) (default : A) (read : Text → A) (texts : List Text)
     → P default
@@ -73,7 +58,7 @@ Between low high n = (low ≤ n) × (n ≤ high)
 number_between : (low high : ℕ) (text : Text) → IsTrue (is_number_within low high text) → Between low high (number text)
 number_between low high text h =
     let t = both _ (nat_le (number text) high) h in
-    (most low (number text) (both _ (nat_le low (number text)) t.0).1, most (number text) high t.1)
+    (leb-true low (number text) (both _ (nat_le low (number text)) t.0).1, leb-true (number text) high t.1)
 
 module _ (low high default : ℕ) (texts : List Text) where
   pub between_of : Between low high default → IsTrue (is_taken (is_number_within low high) texts)
@@ -130,7 +115,7 @@ none : (n : ℕ) → IsTrue (n == 0) → n ≤ 256
 none n h = grind (arith, nat_tests, h)
 
 few : (form : Form) (values : Values) (asks : List Text) → IsTrue (admits form values asks) → length asks ≤ 256
-few Run values asks h = most (length asks) 256 (both (nat_lt 0 (length asks)) _ h).1
+few Run values asks h = leb-true (length asks) 256 (both (nat_lt 0 (length asks)) _ h).1
 few Fmt values asks h = none (length asks) (both (length asks == 0) (is_make_alone values) h).0
 
 -- ---- the settings of a form, of the values of the options and of asks
@@ -216,15 +201,13 @@ module _ (settings : Settings) where
   answered : (word : Text) (form : Option Form) (values : Values) (texts : List Text)
       → answer form values texts ≡ Ok settings → AreFrom (word ∷ texts) settings
   answered word None values texts e = absurd (err_not_ok _ settings e)
-  answered word (Some form) values texts e = go (are_taken values && list_all begins_plainly texts
-      && admits form values texts) refl
-    where
-      go : (b : Bool) → (are_taken values && list_all begins_plainly texts && admits form values texts) ≡ b
-          → AreFrom (word ∷ texts) settings
-      go false h = absurd (err_not_ok _ settings (rw h at e))
-      go true h =
-          let t = both _ (admits form values texts) h in
-          asked word form values texts (asks_of texts) refl (both (are_taken values) _ t.0).0 t.1 (rw h at e)
+  answered word (Some form) values texts e = elim (cases_Bool (are_taken values && list_all begins_plainly texts
+      && admits form values texts)) [
+        | inl h ↦
+            let t = both _ (admits form values texts) h in
+            asked word form values texts (asks_of texts) refl (both (are_taken values) _ t.0).0 t.1 (rw h at e)
+        | inr h ↦ absurd (err_not_ok _ settings (rw h at e))
+      ]
 
   from_positionals : (values : Values) (words : List Text) → to_positionals values words ≡ Ok settings
       → AreFrom words settings

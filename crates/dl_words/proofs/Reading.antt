@@ -46,14 +46,12 @@ pub data Seen : Text → Type 0 where
   seen_plain : (w : Text) → bytes_eq w hyphens ≡ false → long_of w ≡ None → short_of w ≡ None
       → clap_kind w ≡ plain → Seen w
 
-named_kind : (text : Text) (b n : Bool) → list_any is_equals text ≡ b → is_name (before_first is_equals text) ≡ n
-    → (if n then (if b then whole (before_first is_equals text) (after_first is_equals text)
+named_kind : (text : Text) (b : Bool) → (if is_name (before_first is_equals text)
+    then (if b then whole (before_first is_equals text) (after_first is_equals text)
     else begins (before_first is_equals text)) else misfit)
     ≡ long_kind (before_first is_equals text) (if b then Some (after_first is_equals text) else None)
-named_kind text true true e f = rw f refl
-named_kind text true false e f = rw f refl
-named_kind text false true e f = rw f refl
-named_kind text false false e f = rw f refl
+named_kind text true = refl
+named_kind text false = refl
 
 pub seen : (w : Text) → Seen w
 seen [] = seen_plain [] refl refl refl refl
@@ -65,7 +63,7 @@ seen (c ∷ cs) = go (c == 45) refl cs
         let text : Text = x ∷ xs in
         seen_long _ (before_first is_equals text) (if list_any is_equals text
         then Some (after_first is_equals text) else None)
-        (rw (e, f) refl) (rw (e, f) refl) (rw (e, f) (named_kind text _ _ refl refl))
+        (rw (e, f) refl) (rw (e, f) refl) (rw (e, f) (named_kind text _))
     third d e ds false f = seen_short _ d ds (rw (e, f) refl) (rw (e, f) refl) (rw (e, f) refl) (rw (e, f) refl)
 
     go : (b : Bool) → c == 45 ≡ b → (ds : Text) → Seen (c ∷ ds)

@@ -1,5 +1,5 @@
 -- What the uses of options and positionals leave in the rows.
-use Rattle.dl_words.proofs.Common.{◌≡◌, ◌∙◌, ℕ, Bool, true, false, refl, sym, ap, subst, List, [], ◌∷◌, ◌++◌, Option, Some, None, true≢false, length, append_assoc, arith, ◌+◌, ◌≤◌, if◌then◌else◌, is_some, unwrap_or, ⊤, fold, bytes_eq, bytes_eq-Decides, list_all, explicit_source, is_given, Kinds, or_else, Row, Rule, action_of, all_of, arg_by_id, has_row, Shape, repeat_fault, use_fault, Text}
+use Rattle.dl_words.proofs.Common.{◌≡◌, ◌∙◌, inl, inr, ℕ, Bool, true, false, refl, sym, ap, subst, List, [], ◌∷◌, ◌++◌, Option, Some, None, true≢false, length, append_assoc, arith, ◌+◌, ◌≤◌, if◌then◌else◌, is_some, unwrap_or, ⊤, fold, bytes_eq, bytes_eq-Decides, cases_Bool, list_all, explicit_source, is_given, Kinds, or_else, Row, Rule, action_of, all_of, arg_by_id, has_row, Shape, repeat_fault, use_fault, Text}
 use Rattle.clap.specs.declared.parser.matches.ValueSource.TheVariants.{DefaultValue, CommandLine}
 use Rattle.clap.specs.Walk.{is_append, stronger, with_values, without}
 use Rattle.clap.specs.declared.builder.action.ArgAction.{ArgAction}
@@ -12,48 +12,38 @@ use Rattle.std.proofs.lemmas.Bool.{and_parts}
 all_of-same : (id : Text) (how : Reading) (s : ValueSource) (vs : List Text) (rows : List Row)
     → all_of id (with_values id how s vs rows) ≡ Some (unwrap_or (all_of id rows) [] ++ vs)
 all_of-same id how s vs [] = rw (bytes_same id) refl
-all_of-same id how s vs (r ∷ rs) = go (all_of-same id how s vs rs) (bytes_eq r.id id) refl
-  where
-    go : all_of id (with_values id how s vs rs) ≡ Some (unwrap_or (all_of id rs) [] ++ vs)
-        → (b : Bool) → bytes_eq r.id id ≡ b → all_of id (with_values id how s vs (r ∷ rs))
-        ≡ Some (unwrap_or (all_of id (r ∷ rs)) [] ++ vs)
-    go rest true e = rw (e, e) refl
-    go rest false e = rw (e, e) rest
+all_of-same id how s vs (r ∷ rs) = elim (cases_Bool (bytes_eq r.id id)) [
+  | inl e ↦ rw (e, e) refl
+  | inr e ↦ rw (e, e) (all_of-same id how s vs rs)
+]
 
 all_of-other : (id other : Text) (how : Reading) (s : ValueSource) (vs : List Text) (rows : List Row)
     → bytes_eq id other ≡ false → all_of other (with_values id how s vs rows) ≡ all_of other rows
 all_of-other id other how s vs [] d = rw d refl
-all_of-other id other how s vs (r ∷ rs) d = go (bytes_eq r.id id) refl (all_of-other id other how s vs rs d)
-  where
-    skip : (c : Bool) → bytes_eq r.id other ≡ c → all_of other (with_values id how s vs rs) ≡ all_of other rs
-        → all_of other (r ∷ with_values id how s vs rs) ≡ all_of other (r ∷ rs)
-    skip true f h = rw f refl
-    skip false f h = rw f h
-
-    go : (b : Bool) → bytes_eq r.id id ≡ b → all_of other (with_values id how s vs rs) ≡ all_of other rs
-        → all_of other (with_values id how s vs (r ∷ rs)) ≡ all_of other (r ∷ rs)
-    go true e h =
-        let same : r.id ≡ id = (bytes_eq-Decides r.id id).0 e in
-        let miss : bytes_eq r.id other ≡ false = subst (λ t. bytes_eq t other ≡ false) (sym same) d in
-        rw (e, miss) refl
-    go false e h = rw e (skip (bytes_eq r.id other) refl h)
+all_of-other id other how s vs (r ∷ rs) d = elim (cases_Bool (bytes_eq r.id id)) [
+  | inl e ↦
+      let same : r.id ≡ id = (bytes_eq-Decides r.id id).0 e in
+      let miss : bytes_eq r.id other ≡ false = subst (λ t. bytes_eq t other ≡ false) (sym same) d in
+      rw (e, miss) refl
+  | inr e ↦ elim (cases_Bool (bytes_eq r.id other)) [
+    | inl f ↦ rw (e, f) refl
+    | inr f ↦ rw (e, f) (all_of-other id other how s vs rs d)
+  ]
+]
 
 without-none : (id : Text) (rows : List Row) → has_row id rows ≡ false → without id rows ≡ rows
 without-none id [] h = refl
-without-none id (r ∷ rs) h = go (λ k. without-none id rs k) (bytes_eq r.id id) refl
-  where
-    go : (has_row id rs ≡ false → without id rs ≡ rs) → (b : Bool) → bytes_eq r.id id ≡ b → without id (r ∷ rs) ≡ r ∷ rs
-    go rest true e = absurd (true≢false (rw e at h))
-    go rest false e = rw e (ap (λ l. r ∷ l) (rest (rw e at h)))
+without-none id (r ∷ rs) h = elim (cases_Bool (bytes_eq r.id id)) [
+  | inl e ↦ absurd (true≢false (rw e at h))
+  | inr e ↦ rw e (ap (λ l. r ∷ l) (without-none id rs (rw e at h)))
+]
 
 has_row-all_of : (id : Text) (rows : List Row) → has_row id rows ≡ is_some (all_of id rows)
 has_row-all_of id [] = refl
-has_row-all_of id (r ∷ rs) = go (has_row-all_of id rs) (bytes_eq r.id id) refl
-  where
-    go : has_row id rs ≡ is_some (all_of id rs) → (b : Bool) → bytes_eq r.id id ≡ b
-        → has_row id (r ∷ rs) ≡ is_some (all_of id (r ∷ rs))
-    go h true e = rw e refl
-    go h false e = rw e h
+has_row-all_of id (r ∷ rs) = elim (cases_Bool (bytes_eq r.id id)) [
+  | inl e ↦ rw e refl
+  | inr e ↦ rw e (has_row-all_of id rs)
+]
 
 -- ---- uses of arguments that keep their values: one that may stand once, or one that gathers them
 
@@ -88,11 +78,10 @@ more-more o v [] = refl
 more-more o v (w ∷ vs) = ap Some (append_assoc (unwrap_or o []) (v ∷ []) (w ∷ vs))
 
 no_repeat : (id : Text) (r : List Row) → repeat_fault false id r ≡ [] → has_row id r ≡ false
-no_repeat id r h = go (has_row id r) refl
-  where
-    go : (b : Bool) → has_row id r ≡ b → has_row id r ≡ false
-    go false e = e
-    go true e = absurd (subst Fails (rw e at h) tt)
+no_repeat id r h = elim (cases_Bool (has_row id r)) [
+  | inl e ↦ absurd (subst Fails (rw e at h) tt)
+  | inr e ↦ e
+]
 
 pub both_empty : (a b : Kinds) → or_else a b ≡ [] → (a ≡ []) × (b ≡ [])
 both_empty [] b h = (refl, h)
@@ -109,8 +98,7 @@ module _ (s : Shape) where
   step_same : (r : List Row) (u : Use) → Kept s u.0 → fault s r u ≡ []
       → all_of u.0 (step s r u) ≡ Some (unwrap_or (all_of u.0 r) [] ++ u.1 ∷ [])
   step_same r u (kept_once a found same action uf) h =
-      let fresh : has_row u.0 r ≡ false = use_once r u a found same action uf h in
-      let gone : without u.0 r ≡ r = without-none u.0 r fresh in
+      let gone : without u.0 r ≡ r = without-none u.0 r (use_once r u a found same action uf h) in
       rw (found, action, same, gone) (all_of-same u.0 _ _ (u.1 ∷ []) r)
   step_same r u (kept_all a found same action uf) h = rw (found, action, same) (all_of-same u.0 _ _ (u.1 ∷ []) r)
 
@@ -128,18 +116,15 @@ module _ (s : Shape) where
   gathered [] r id kept h = refl
   gathered (u ∷ us) r id kept h =
       let parts = both_empty (fault s r u) _ h in
-      go (gathered us (step s r u) id kept.1 parts.1) parts.0 (bytes_eq u.0 id) refl
-    where
-      go : all_of id (fold (step s) (step s r u) us) ≡ more (all_of id (step s r u)) (values_in id us)
-          → fault s r u ≡ [] → (b : Bool) → bytes_eq u.0 id ≡ b
-          → all_of id (fold (step s) (step s r u) us) ≡ more (all_of id r) (values_in id (u ∷ us))
-      go rest none true e =
-          let is : u.0 ≡ id = (bytes_eq-Decides u.0 id).0 e in
-          let same : all_of id (step s r u) ≡ Some (unwrap_or (all_of id r) [] ++ u.1 ∷ []) =
-          subst (λ t. all_of t (step s r u) ≡ Some (unwrap_or (all_of t r) [] ++ u.1 ∷ [])) is
-          (step_same r u kept.0 none) in
-          rest ∙ ap (λ o. more o (values_in id us)) same ∙ more-more (all_of id r) u.1 (values_in id us) ∙ (rw e refl)
-      go rest none false e = rest ∙ ap (λ o. more o (values_in id us)) (step_other r u id e kept.0 none) ∙ (rw e refl)
+      let rest = gathered us (step s r u) id kept.1 parts.1 in
+      elim (cases_Bool (bytes_eq u.0 id)) [
+        | inl e ↦
+            let same : all_of id (step s r u) ≡ Some (unwrap_or (all_of id r) [] ++ u.1 ∷ []) =
+            subst (λ t. all_of t (step s r u) ≡ Some (unwrap_or (all_of t r) [] ++ u.1 ∷ []))
+            ((bytes_eq-Decides u.0 id).0 e) (step_same r u kept.0 parts.0) in
+            rest ∙ ap (λ o. more o (values_in id us)) same ∙ more-more (all_of id r) u.1 (values_in id us) ∙ (rw e refl)
+        | inr e ↦ rest ∙ ap (λ o. more o (values_in id us)) (step_other r u id e kept.0 parts.0) ∙ (rw e refl)
+      ]
 
   -- how often an id stands, in the rows and in the uses that follow
   abbrev pub count : Text → List Row → List Use → ℕ
@@ -147,22 +132,23 @@ module _ (s : Shape) where
 
   counted : (us : List Use) (r : List Row) (u : Use) (id : Text) → Kept s u.0 → fault s r u ≡ [] → IsSingle s id
       → count id (step s r u) us ≡ count id r (u ∷ us)
-  counted us r u id k h single = go (bytes_eq u.0 id) refl k
-    where
-      go : (b : Bool) → bytes_eq u.0 id ≡ b → Kept s u.0 → count id (step s r u) us ≡ count id r (u ∷ us)
-      go true e (kept_once a found same action uf) =
-          let is : u.0 ≡ id = (bytes_eq-Decides u.0 id).0 e in
-          let before : is_some (all_of u.0 r) ≡ false = sym (has_row-all_of u.0 r)
-          ∙ use_once r u a found same action uf h in
-          let none : is_some (all_of id r) ≡ false = subst (λ t. is_some (all_of t r) ≡ false) is before in
-          let after : is_some (all_of id (step s r u)) ≡ true =
-          subst (λ t. is_some (all_of t (step s r u)) ≡ true) is
-          (ap is_some (step_same r u (kept_once a found same action uf) h)) in
-          rw (e, none, after) (omega arith)
-      go true e (kept_all a found same action uf) =
-          let is : u.0 ≡ id = (bytes_eq-Decides u.0 id).0 e in
-          absurd (set_not_append (action_of a) (single a (subst (λ t. arg_by_id s.rules t ≡ Some a) is found)) action)
-      go false e k = rw (e, step_other r u id e k h) refl
+  counted us r u id k h single = elim (cases_Bool (bytes_eq u.0 id)) [
+    | inl e ↦
+        let is : u.0 ≡ id = (bytes_eq-Decides u.0 id).0 e in
+        elim k [
+          | kept_once a found same action uf ↦
+              let none : is_some (all_of id r) ≡ false = subst (λ t. is_some (all_of t r) ≡ false) is
+              (sym (has_row-all_of u.0 r) ∙ use_once r u a found same action uf h) in
+              let after : is_some (all_of id (step s r u)) ≡ true =
+              subst (λ t. is_some (all_of t (step s r u)) ≡ true) is
+              (ap is_some (step_same r u (kept_once a found same action uf) h)) in
+              rw (e, none, after) (omega arith)
+          | kept_all a found same action uf ↦
+              absurd (set_not_append (action_of a)
+              (single a (subst (λ t. arg_by_id s.rules t ≡ Some a) is found)) action)
+        ]
+    | inr e ↦ rw (e, step_other r u id e k h) refl
+  ]
 
   -- with no fault an id that may stand once does so
   pub at_most_once : (us : List Use) (r : List Row) (id : Text) → AllKept s us → IsSingle s id → faults s r us ≡ []
@@ -186,16 +172,14 @@ module _ (s : Shape) where
       single_of : (a : Rule) (id : Text) → arg_by_id s.rules id ≡ Some a → action_of a ≡ Set → IsSingle s id
       single_of a id found action = λ b is. ap (λ o. action_of (unwrap_or o a)) (sym is ∙ found) ∙ action
 
-      there : (a : Rule) → a.id ≡ u.0 → (b : Bool) → has_row a.id r ≡ b → Fails (repeat_fault false a.id r)
-          → 2 ≤ count u.0 r (u ∷ us)
-      there a same false e f =
-          let none : repeat_fault false a.id r ≡ [] = rw e refl in
-          absurd (subst Fails none f)
-      there a same true e f =
-          let some : is_some (all_of u.0 r) ≡ true = sym (has_row-all_of u.0 r)
-          ∙ subst (λ t. has_row t r ≡ true) same e in
-          let here : bytes_eq u.0 u.0 ≡ true = bytes_same u.0 in
-          rw (some, here) (omega arith)
+      there : (a : Rule) → a.id ≡ u.0 → Fails (repeat_fault false a.id r) → 2 ≤ count u.0 r (u ∷ us)
+      there a same f = elim (cases_Bool (has_row a.id r)) [
+        | inl e ↦
+            let some : is_some (all_of u.0 r) ≡ true = sym (has_row-all_of u.0 r)
+            ∙ subst (λ t. has_row t r ≡ true) same e in
+            rw (some, bytes_same u.0) (omega arith)
+        | inr e ↦ absurd (rw e at f)
+      ]
 
       go : (Fails (faults s (step s r u) us) → (id : Text) × IsSingle s id × (2 ≤ count id (step s r u) us))
           → (f : Kinds) → fault s r u ≡ f → Kept s u.0 → Fails (or_else f (faults s (step s r u) us))
@@ -205,7 +189,7 @@ module _ (s : Shape) where
           (got.0, got.1, subst (λ n. 2 ≤ n) (counted us r u got.0 k e got.1) got.2)
       go rest (x ∷ xs) e (kept_once a found same action uf) h =
           let bad : Fails (repeat_fault false a.id r) = subst Fails (sym e ∙ (rw found (uf u.1 r))) tt in
-          (u.0, single_of a u.0 found action, there a same (has_row a.id r) refl bad)
+          (u.0, single_of a u.0 found action, there a same bad)
       go rest (x ∷ xs) e (kept_all a found same action uf) h =
           let none : x ∷ xs ≡ [] = sym e ∙ (rw found (uf u.1 r)) in
           absurd (subst Fails none tt)
@@ -225,23 +209,19 @@ with_explicit : (id : Text) (how : Reading) (vs : List Text) (rows : List Row) �
 with_explicit id how vs [] h = refl
 with_explicit id how vs (r ∷ rs) h =
     let parts = and_parts (explicit_source r.source) _ h in
-    go (with_explicit id how vs rs parts.1) parts.0 parts.1 (bytes_eq r.id id) refl
-  where
-    go : explicit (with_values id how CommandLine vs rs) ≡ true → explicit_source r.source ≡ true → explicit rs ≡ true
-        → (b : Bool) → bytes_eq r.id id ≡ b → explicit (with_values id how CommandLine vs (r ∷ rs)) ≡ true
-    go rest here tail true e = rw (e, strong r.source) tail
-    go rest here tail false e = rw (e, here) rest
+    elim (cases_Bool (bytes_eq r.id id)) [
+      | inl e ↦ rw (e, strong r.source) parts.1
+      | inr e ↦ rw (e, parts.0) (with_explicit id how vs rs parts.1)
+    ]
 
 without_explicit : (id : Text) (rows : List Row) → explicit rows ≡ true → explicit (without id rows) ≡ true
 without_explicit id [] h = refl
 without_explicit id (r ∷ rs) h =
     let parts = and_parts (explicit_source r.source) _ h in
-    go (without_explicit id rs parts.1) parts.0 parts.1 (bytes_eq r.id id) refl
-  where
-    go : explicit (without id rs) ≡ true → explicit_source r.source ≡ true → explicit rs ≡ true → (b : Bool)
-        → bytes_eq r.id id ≡ b → explicit (without id (r ∷ rs)) ≡ true
-    go rest here tail true e = rw e tail
-    go rest here tail false e = rw (e, here) rest
+    elim (cases_Bool (bytes_eq r.id id)) [
+      | inl e ↦ rw e parts.1
+      | inr e ↦ rw (e, parts.0) (without_explicit id rs parts.1)
+    ]
 
 step_explicit : (s : Shape) (r : List Row) (u : Use) → Kept s u.0 → explicit r ≡ true → explicit (step s r u) ≡ true
 step_explicit s r u (kept_once a found same action uf) h =
@@ -257,9 +237,7 @@ pub given_explicit : (id : Text) (rows : List Row) → explicit rows ≡ true �
 given_explicit id [] h = refl
 given_explicit id (r ∷ rs) h =
     let parts = and_parts (explicit_source r.source) _ h in
-    go (given_explicit id rs parts.1) parts.0 (bytes_eq r.id id) refl
-  where
-    go : is_given id rs ≡ is_some (all_of id rs) → explicit_source r.source ≡ true → (b : Bool) → bytes_eq r.id id ≡ b
-        → is_given id (r ∷ rs) ≡ is_some (all_of id (r ∷ rs))
-    go rest here true e = rw (e, here) refl
-    go rest here false e = rw e rest
+    elim (cases_Bool (bytes_eq r.id id)) [
+      | inl e ↦ rw (e, parts.0) refl
+      | inr e ↦ rw e (given_explicit id rs parts.1)
+    ]

@@ -1,5 +1,6 @@
 -- The walk of `clap` over the words uses their parts in turn.
-use Rattle.dl_words.proofs.Common.{◌≡◌, ◌∙◌, ℕ, Bool, true, false, refl, sym, ap, ap₂, subst, List, [], ◌∷◌, Option, Some, None, true≢false, if◌then◌else◌, slice_get, ◌&&◌, ⊤, fold, bytes_eq, chars, bytes_eq-Decides, long_of, short_of, Kinds, or_else, Row, Rule, Walk, arg_by_id, arg_by_index, arg_by_long, arg_by_short, settled, Shape, settle_fault, use_fault, Text, Part, Mode, is_name, read_kind, with_part, option, positional, between, value, ended}
+use Rattle.dl_words.proofs.Common.{◌≡◌, ◌∙◌, ℕ, Bool, true, false, refl, sym, ap, ap₂, subst, List, [], ◌∷◌, Option, Some, None, true≢false, if◌then◌else◌, slice_get, ⊤, fold, bytes_eq, chars, bytes_eq-Decides, long_of, short_of, Kinds, or_else, Row, Rule, Walk, arg_by_id, arg_by_index, arg_by_long, arg_by_short, settled, Shape, settle_fault, use_fault, Text, Part, Mode, is_name, read_kind, with_part, option, positional, between, value, ended}
+use Rattle.std.proofs.Math.Bool.{and-false}
 use Rattle.std.specs.Option.{option_map_or}
 use Rattle.clap.specs.Facts.{unwrap_or_range}
 use Rattle.clap.specs.Walk.{Held, Names, Step, Waiting, bundle_met, idle, is_multiple, most_values, option as wants, positional as several, plain as bundle_plain, reacted, settled_rows, subcommand_met, takes_several, takes_values, plain_word, word_met, value as value_step, used, used_by_id, walked, is_pending}
@@ -56,15 +57,18 @@ abbrev pub position_of : Bool → ℕ
 position_of true = 1
 position_of false = 2
 
+pub record IsPlace (s : Shape) (id : Text) (position : ℕ) : Type 0 where
+  pub rule : Rule
+  pub at : arg_by_index s.rules position ≡ Some rule
+  pub takes : TakesOne s id rule
+  pub next : Rattle.clap.specs.Walk.next_position rule position ≡ 2
+  pub goes_on : rule.trailing_var_arg ≡ false
+
 pub record IsReady (s : Shape) (place : Bool → Text) : Type 0 where
   pub once : s.args_override_self ≡ false
   pub long : (name : Text) → LongMet s name (arg_by_long s.rules name) (is_name name)
   pub short : (c : ℕ) → ShortMet (arg_by_short s.rules c)
-  pub positional : Bool → Rule
-  pub at : (first : Bool) → arg_by_index s.rules (position_of first) ≡ Some (positional first)
-  pub takes : (first : Bool) → TakesOne s (place first) (positional first)
-  pub next : (first : Bool) → Rattle.clap.specs.Walk.next_position (positional first) (position_of first) ≡ 2
-  pub goes_on : (first : Bool) → (positional first).trailing_var_arg ≡ false
+  pub places : (first : Bool) → IsPlace s (place first) (position_of first)
 
 -- ---- uses
 
@@ -239,39 +243,35 @@ calm_plain : (c : List Rule) (b : Bool) (word : Text) (h : Held) → plain_word 
 calm_plain c true word h = refl
 calm_plain c false word h = refl
 
-and_false : (b : Bool) → (b && false) ≡ false
-and_false true = refl
-and_false false = refl
-
 -- a positional
 turns_positional : (s : Shape) (place : Bool → Text) (ready : IsReady s place) (r : List Row)
     (p : Option (Text × List Text)) (first b : Bool) (word : Text) → IsNoFlag s word
     → Turns s (stand r p (calm b) (position_of first) false) word
     (settle_fault s.rules s.args_override_self (stand r p idle 0 false).held)
     (stand (settled_rows s.rules p r) (Some (place first, word ∷ []))
-    (calm (is_multiple (ready.positional first))) 2 false)
+    (calm (is_multiple (ready.places first).rule)) 2 false)
 unfolding walked
 turns_positional s place ready r p first b word no_flag =
-    let several_is = (ready.takes first).single in
-    let alone = and_false (is_pending (ready.positional first) p) in
-    let same = (ready.takes first).same in
+    let several_is = (ready.places first).takes.single in
+    let alone = and-false (is_pending (ready.places first).rule p) in
+    let same = (ready.places first).takes.same in
     record {
       fault = rw (
         no_flag.fault r p (calm b) (position_of first),
         no_flag.met r p (calm b) (position_of first),
         calm_plain s.rules b word (stand r p idle 0 false).held,
-        ready.at first,
+        (ready.places first).at,
         several_is,
         alone,
       ) refl;
       walk = rw (
         no_flag.met r p (calm b) (position_of first),
         calm_plain s.rules b word (stand r p idle 0 false).held,
-        ready.at first,
-        ready.next first,
+        (ready.places first).at,
+        (ready.places first).next,
         several_is,
         alone,
-        ready.goes_on first,
+        (ready.places first).goes_on,
         ← same,
       ) refl;
     }
@@ -282,15 +282,15 @@ turns_trailing : (s : Shape) (place : Bool → Text) (ready : IsReady s place) (
     → Turns s (stand r p waiting (position_of first) true) word
     (settle_fault s.rules s.args_override_self (stand r p idle 0 false).held)
     (stand (settled_rows s.rules p r) (Some (place first, word ∷ []))
-    (calm (is_multiple (ready.positional first))) 2 true)
+    (calm (is_multiple (ready.places first).rule)) 2 true)
 unfolding walked
 turns_trailing s place ready r p waiting first word =
-    let several_is = (ready.takes first).single in
-    let alone = and_false (is_pending (ready.positional first) p) in
-    let same = (ready.takes first).same in
+    let several_is = (ready.places first).takes.single in
+    let alone = and-false (is_pending (ready.places first).rule p) in
+    let same = (ready.places first).takes.same in
     record {
-      fault = rw (ready.at first, several_is, alone) refl;
-      walk = rw (ready.at first, ready.next first, several_is, alone, ← same) refl;
+      fault = rw ((ready.places first).at, several_is, alone) refl;
+      walk = rw ((ready.places first).at, (ready.places first).next, several_is, alone, ← same) refl;
     }
 
 pub bytes_same : (t : Text) → bytes_eq t t ≡ true
@@ -330,11 +330,6 @@ Agrees t f F G (Some ps) = (t ≡ F ps) × (f ≡ G ps)
 same_fails : (a b : Kinds) → a ≡ b → Fails b → Fails a
 same_fails a b e h = subst Fails (sym e) h
 
-moved : (o : Option (List Part)) (t u : Kinds) (f g : List Row) (F : List Part → Kinds) (G : List Part → List Row)
-    → Agrees u g F G o → t ≡ u → f ≡ g → Agrees t f F G o
-moved None t u f g F G h e k = same_fails t u e h
-moved (Some ps) t u f g F G h e k = (e ∙ h.0, k ∙ h.1)
-
 later : (o : Option (List Part)) (t u more : Kinds) (f g : List Row) (F H : List Part → Kinds)
     (G K : List Part → List Row) → Agrees u g H K o
     → t ≡ or_else more u → f ≡ g → ((ps : List Part) → F ps ≡ or_else more (H ps)) → ((ps : List Part) → G ps ≡ K ps)
@@ -352,22 +347,20 @@ extend (Some ps) part t u more f g F H G K h e k first second =
     (e ∙ ap (or_else more) h.0 ∙ sym (first ps), k ∙ h.1 ∙ sym (second ps))
 
 module _ (s : Shape) (place : Bool → Text) where
+  -- from where the walk stands, the words do what their parts say, after the use that is pending
+  abbrev pub Walks : Bool → Option Use → List Row → Walk → List Text → Option (List Part) → Type 0
+  Walks first p r w words o = Agrees (total s w words) (final s w words)
+      (λ ps. faults s r (joined p (uses_of place first ps)))
+      (λ ps. fold (step s) r (joined p (uses_of place first ps))) o
+
   abbrev pub Sim : Mode → List Text → Type 0
   Sim between words = (first b : Bool) (p : Option Use) (r : List Row)
-      → Agrees (total s (stand r (pend p) (calm b) (position_of first) false) words)
-      (final s (stand r (pend p) (calm b) (position_of first) false) words)
-      (λ ps. faults s r (joined p (uses_of place first ps)))
-      (λ ps. fold (step s) r (joined p (uses_of place first ps))) (clap_from between words)
+      → Walks first p r (stand r (pend p) (calm b) (position_of first) false) words (clap_from between words)
   Sim (value name) words = (a : Rule) → TakesOne s name a → (first : Bool) (r : List Row)
-      → Agrees (total s (stand r (Some (name, [])) (wants name) (position_of first) false) words)
-      (final s (stand r (Some (name, [])) (wants name) (position_of first) false) words)
-      (λ ps. faults s r (uses_of place first ps))
-      (λ ps. fold (step s) r (uses_of place first ps)) (clap_from (value name) words)
+      → Walks first None r (stand r (Some (name, [])) (wants name) (position_of first) false) words
+      (clap_from (value name) words)
   Sim ended words = (first : Bool) (waiting : Waiting) (p : Option Use) (r : List Row)
-      → Agrees (total s (stand r (pend p) waiting (position_of first) true) words)
-      (final s (stand r (pend p) waiting (position_of first) true) words)
-      (λ ps. faults s r (joined p (uses_of place first ps)))
-      (λ ps. fold (step s) r (joined p (uses_of place first ps))) (clap_from ended words)
+      → Walks first p r (stand r (pend p) waiting (position_of first) true) words (clap_from ended words)
 
   module _ (ready : IsReady s place) where
     pending_fault : Option Use → List Row → Kinds
@@ -425,26 +418,21 @@ module _ (s : Shape) (place : Bool → Text) where
 
     -- where the walk ends
     at_end : (first : Bool) (waiting : Waiting) (is_trailing : Bool) (p : Option Use) (r : List Row)
-        → Agrees (total s (stand r (pend p) waiting (position_of first) is_trailing) [])
-        (final s (stand r (pend p) waiting (position_of first) is_trailing) [])
-        (λ ps. faults s r (joined p (uses_of place first ps)))
-        (λ ps. fold (step s) r (joined p (uses_of place first ps))) (Some [])
+        → Walks first p r (stand r (pend p) waiting (position_of first) is_trailing) [] (Some [])
     unfolding walk_fault pending_fault
     at_end first waiting is_trailing p r = (sym (joined_faults p r [] ∙ or_else-nil _), sym (joined_rows p r []))
 
     -- a positional
     plain_word_sim : (word : Text) (rest : List Text) → IsNoFlag s word → Sim between rest
         → (first b : Bool) (p : Option Use) (r : List Row)
-        → Agrees (total s (stand r (pend p) (calm b) (position_of first) false) (word ∷ rest))
-        (final s (stand r (pend p) (calm b) (position_of first) false) (word ∷ rest))
-        (λ ps. faults s r (joined p (uses_of place first ps)))
-        (λ ps. fold (step s) r (joined p (uses_of place first ps)))
+        → Walks first p r (stand r (pend p) (calm b) (position_of first) false) (word ∷ rest)
         (with_part (positional word) (clap_from between rest))
     unfolding pending_fault
     plain_word_sim word rest no_flag next first b p r =
         let turn = turns_positional s place ready r (pend p) first b word no_flag in
         extend (clap_from between rest) (positional word) _ _ _ _ _ _ _ _ _
-        (next false (is_multiple (ready.positional first)) (Some (place first, word)) (settled_rows s.rules (pend p) r))
+        (next false (is_multiple (ready.places first).rule) (Some (place first, word))
+        (settled_rows s.rules (pend p) r))
         (total_turn s _ _ word rest _ turn) (final_turn s _ _ word rest _ turn)
         (λ ps. joined_faults p r ((place first, word) ∷ uses_of place false ps))
         (λ ps. joined_rows p r ((place first, word) ∷ uses_of place false ps))
@@ -453,19 +441,13 @@ module _ (s : Shape) (place : Bool → Text) where
     long_word_sim : (word name : Text) (v : Option Text) (rest : List Text) → bytes_eq word hyphens ≡ false
         → long_of word ≡ Some (name, v) → ((mode : Mode) → Sim mode rest)
         → (first b : Bool) (p : Option Use) (r : List Row)
-        → Agrees (total s (stand r (pend p) (calm b) (position_of first) false) (word ∷ rest))
-        (final s (stand r (pend p) (calm b) (position_of first) false) (word ∷ rest))
-        (λ ps. faults s r (joined p (uses_of place first ps)))
-        (λ ps. fold (step s) r (joined p (uses_of place first ps)))
+        → Walks first p r (stand r (pend p) (calm b) (position_of first) false) (word ∷ rest)
         (read_kind word (long_kind name v) (λ mode. clap_from mode rest))
     unfolding pending_fault
     long_word_sim word name v rest e l next first b p r = go (is_name name) refl v l
       where
         go : (n : Bool) → is_name name ≡ n → (u : Option Text) → long_of word ≡ Some (name, u)
-            → Agrees (total s (stand r (pend p) (calm b) (position_of first) false) (word ∷ rest))
-            (final s (stand r (pend p) (calm b) (position_of first) false) (word ∷ rest))
-            (λ ps. faults s r (joined p (uses_of place first ps)))
-            (λ ps. fold (step s) r (joined p (uses_of place first ps)))
+            → Walks first p r (stand r (pend p) (calm b) (position_of first) false) (word ∷ rest)
             (read_kind word (long_kind name u) (λ mode. clap_from mode rest))
         go false n None k = rw n (fails_turn s _ word rest
             (long_turn s r (pend p) (calm b) (position_of first) word name None e k
@@ -494,18 +476,12 @@ module _ (s : Shape) (place : Bool → Text) where
     char_kind : (word : Text) (x : ℕ) (xs : Text) (rest : List Text) → bytes_eq word hyphens ≡ false
         → long_of word ≡ None → short_of word ≡ Some (x ∷ xs) → Sim between rest
         → (first b : Bool) (p : Option Use) (r : List Row)
-        → Agrees (total s (stand r (pend p) (calm b) (position_of first) false) (word ∷ rest))
-        (final s (stand r (pend p) (calm b) (position_of first) false) (word ∷ rest))
-        (λ ps. faults s r (joined p (uses_of place first ps)))
-        (λ ps. fold (step s) r (joined p (uses_of place first ps)))
+        → Walks first p r (stand r (pend p) (calm b) (position_of first) false) (word ∷ rest)
         (read_kind word (flag_kind (x ∷ xs)) (λ mode. clap_from mode rest))
     char_kind word x xs rest e l f next first b p r = go (slice_get (chars (x ∷ xs)) 0) refl
       where
         go : (o : Option ℕ) → slice_get (chars (x ∷ xs)) 0 ≡ o
-            → Agrees (total s (stand r (pend p) (calm b) (position_of first) false) (word ∷ rest))
-            (final s (stand r (pend p) (calm b) (position_of first) false) (word ∷ rest))
-            (λ ps. faults s r (joined p (uses_of place first ps)))
-            (λ ps. fold (step s) r (joined p (uses_of place first ps)))
+            → Walks first p r (stand r (pend p) (calm b) (position_of first) false) (word ∷ rest)
             (read_kind word (flag_kind (x ∷ xs)) (λ mode. clap_from mode rest))
         go None k = rw k (plain_word_sim word rest (short_no_flag s word x xs e l f k) next first b p r)
         go (Some c) k = rw k (fails_turn s (stand r (pend p) (calm b) (position_of first) false) word rest
@@ -515,8 +491,8 @@ module _ (s : Shape) (place : Bool → Text) where
         → Sim between (word ∷ rest)
     between_sim _ rest (seen_ends word e k) next = λ first b p r.
         let turn = turns_ends s r (pend p) (calm b) (position_of first) word e in
-        rw k (moved (clap_from ended rest) _ _ _ _ _ _ (next ended first (calm b) p r)
-        (total_turn s _ _ word rest _ turn) (final_turn s _ _ word rest _ turn))
+        rw k (later (clap_from ended rest) _ _ [] _ _ _ _ _ _ (next ended first (calm b) p r)
+        (total_turn s _ _ word rest _ turn) (final_turn s _ _ word rest _ turn) (λ ps. refl) (λ ps. refl))
     between_sim _ rest (seen_long word name v e l k) next = λ first b p r.
         rw k (long_word_sim word name v rest e l next first b p r)
     between_sim _ rest (seen_short word x xs e l f k) next = λ first b p r.
@@ -527,9 +503,7 @@ module _ (s : Shape) (place : Bool → Text) where
     -- the word after the name of an option
     value_word_sim : (name word : Text) (rest : List Text) → IsNoFlag s word → Sim between rest → (a : Rule)
         → TakesOne s name a → (first : Bool) (r : List Row)
-        → Agrees (total s (stand r (Some (name, [])) (wants name) (position_of first) false) (word ∷ rest))
-        (final s (stand r (Some (name, [])) (wants name) (position_of first) false) (word ∷ rest))
-        (λ ps. faults s r (uses_of place first ps)) (λ ps. fold (step s) r (uses_of place first ps))
+        → Walks first None r (stand r (Some (name, [])) (wants name) (position_of first) false) (word ∷ rest)
         (with_part (option name word) (clap_from between rest))
     value_word_sim name word rest no_flag next a t first r =
         let turn = turns_value s r name word a (position_of first) t no_flag in
@@ -563,16 +537,12 @@ module _ (s : Shape) (place : Bool → Text) where
     value_char : (name word : Text) (x : ℕ) (xs : Text) (rest : List Text) → bytes_eq word hyphens ≡ false
         → long_of word ≡ None → short_of word ≡ Some (x ∷ xs) → Sim between rest
         → (a : Rule) → TakesOne s name a → (first : Bool) (r : List Row)
-        → Agrees (total s (stand r (Some (name, [])) (wants name) (position_of first) false) (word ∷ rest))
-        (final s (stand r (Some (name, [])) (wants name) (position_of first) false) (word ∷ rest))
-        (λ ps. faults s r (uses_of place first ps)) (λ ps. fold (step s) r (uses_of place first ps))
+        → Walks first None r (stand r (Some (name, [])) (wants name) (position_of first) false) (word ∷ rest)
         (value_kind name word (flag_kind (x ∷ xs)) (clap_from between rest))
     value_char name word x xs rest e l f next a t first r = go (slice_get (chars (x ∷ xs)) 0) refl
       where
         go : (o : Option ℕ) → slice_get (chars (x ∷ xs)) 0 ≡ o
-            → Agrees (total s (stand r (Some (name, [])) (wants name) (position_of first) false) (word ∷ rest))
-            (final s (stand r (Some (name, [])) (wants name) (position_of first) false) (word ∷ rest))
-            (λ ps. faults s r (uses_of place first ps)) (λ ps. fold (step s) r (uses_of place first ps))
+            → Walks first None r (stand r (Some (name, [])) (wants name) (position_of first) false) (word ∷ rest)
             (value_kind name word (flag_kind (x ∷ xs)) (clap_from between rest))
         go None k = rw k (value_word_sim name word rest (short_no_flag s word x xs e l f k) next a t first r)
         go (Some c) k = rw k (fails_turn s (stand r (Some (name, [])) (wants name) (position_of first) false) word rest
@@ -598,7 +568,7 @@ module _ (s : Shape) (place : Bool → Text) where
     ended_sim word rest next = λ first waiting p r.
         let turn = turns_trailing s place ready r (pend p) waiting first word in
         extend (clap_from ended rest) (positional word) _ _ _ _ _ _ _ _ _
-        (next false (calm (is_multiple (ready.positional first))) (Some (place first, word))
+        (next false (calm (is_multiple (ready.places first).rule)) (Some (place first, word))
         (settled_rows s.rules (pend p) r))
         (total_turn s _ _ word rest _ turn) (final_turn s _ _ word rest _ turn)
         (λ ps. joined_faults p r ((place first, word) ∷ uses_of place false ps))

@@ -1,5 +1,5 @@
 -- What is read as an ask is what the table of the asks has.
-use Rattle.dl_words.proofs.Common.{◌≡◌, ◌∙◌, ℕ, Bool, true, false, refl, sym, ap, subst, [], ◌∷◌, ◌++◌, Option, Some, None, codes, true≢false, arith, ◌==◌, IsTrue, if◌then◌else◌, option_map, option_and_then, is_ascii_digit, list_all, list_any, before_first, after_first, bytes_eq, nat_tests, bytes_eq-Decides, Fraction, numeral_value, is_word_byte, begins_with_letter, Ask, ask_of, behind_s, cut_at, Text, is_amount, is_probability, is_word, number, SpellsAsk, pmf, cdf, mean, q, tail, layer, no_limit, joint, kappa}
+use Rattle.dl_words.proofs.Common.{◌≡◌, ◌∙◌, inl, inr, cases_Bool, ℕ, Bool, true, false, refl, sym, ap, subst, [], ◌∷◌, ◌++◌, Option, Some, None, codes, true≢false, arith, ◌==◌, IsTrue, if◌then◌else◌, option_map, option_and_then, is_ascii_digit, list_all, list_any, before_first, after_first, bytes_eq, nat_tests, bytes_eq-Decides, Fraction, numeral_value, is_word_byte, begins_with_letter, Ask, ask_of, behind_s, cut_at, Text, is_amount, is_probability, is_word, number, SpellsAsk, pmf, cdf, mean, q, tail, layer, no_limit, joint, kappa}
 use Rattle.dl_plan.specs.declared.settings.Ask.TheVariants.{Pmf, Cdf, Mean, Quantile, LayerMean, Tail, Joint, Kappa}
 use Rattle.dl_words.specs.Asks.{amount_written, ask_between, layer_between, layer_of, limit_written, probability_written, unit_parts}
 use Rattle.dl_words.proofs.Numerals.{after_at, any_at, before_at, both, cut_first}
@@ -32,13 +32,10 @@ cut_there : (s : ℕ) (front back : Text) → list_any (λ b. b == s) front ≡ 
 cut_there s front back h = rw (any_at s front back, before_at s front back h, after_at s front back h) refl
 
 not_inf : (text : Text) → IsTrue (is_amount text) → bytes_eq text (codes "inf") ≡ false
-not_inf text h = go (bytes_eq text (codes "inf")) refl
-  where
-    go : (b : Bool) → bytes_eq text (codes "inf") ≡ b → bytes_eq text (codes "inf") ≡ false
-    go false e = e
-    go true e =
-        let same : text ≡ codes "inf" = (bytes_eq-Decides text (codes "inf")).0 e in
-        absurd (true≢false (sym (ap is_amount (sym same) ∙ h)))
+not_inf text h = elim (cases_Bool (bytes_eq text (codes "inf"))) [
+  | inl e ↦ absurd (true≢false (sym h ∙ ap is_amount ((bytes_eq-Decides text (codes "inf")).0 e)))
+  | inr e ↦ e
+]
 
 layer_read : (limit attach : Text) → IsTrue (is_amount limit) → IsTrue (is_amount attach)
     → layer_of (limit ++ 120 ∷ 115 ∷ attach) ≡ Some (LayerMean (Some (number limit)) (number attach))
@@ -73,9 +70,9 @@ not_some : {A P : Type 0} (x : A) → None ≡ Some x → P
 not_some x e = absurd (cc)
 
 -- a part that is read only where a test passes
-tested : {A : Type 0} (b : Bool) (x y : A) → (if b then Some x else None) ≡ Some y → (b ≡ true) × (x ≡ y)
-tested true x y e = (refl, some_is x y e)
-tested false x y e = not_some y e
+tested : {A : Type 0} (b : Bool) (o : Option A) (y : A) → (if b then o else None) ≡ Some y → (b ≡ true) × (o ≡ Some y)
+tested true o y e = (refl, e)
+tested false o y e = not_some y e
 
 -- a part that is read, and an ask of it
 mapped : {A B : Type 0} (f : A → B) (o : Option A) (y : B) → option_map f o ≡ Some y
@@ -88,28 +85,27 @@ chained : {A B : Type 0} (f : A → Option B) (o : Option A) (y : B) → option_
 chained f None y e = not_some y e
 chained f (Some x) y e = (x, refl, e)
 
--- the part is the amount that the text writes
-amount_back : (mk : ℕ → Ask) (text : Text) (ask : Ask) → option_map mk (amount_written text) ≡ Some ask
-    → IsTrue (is_amount text) × (mk (number text) ≡ ask)
-amount_back mk text ask e =
-    let m = mapped mk (amount_written text) ask e in
-    let t = tested (is_amount text) (number text) m.0 m.1 in
-    (t.0, ap mk t.1 ∙ m.2)
+-- what is made of a value that a text writes
+written_back : {A B : Type 0} (mk : A → B) (b : Bool) (x : A) (y : B)
+    → option_map mk (if b then Some x else None) ≡ Some y → (b ≡ true) × (mk x ≡ y)
+written_back mk true x y e = (refl, some_is (mk x) y e)
+written_back mk false x y e = not_some y e
+
+amount_back : {B : Type 0} (mk : ℕ → B) (text : Text) (y : B) → option_map mk (amount_written text) ≡ Some y
+    → IsTrue (is_amount text) × (mk (number text) ≡ y)
+amount_back mk text y e = written_back mk (is_amount text) (number text) y e
 
 probability_back : (mk : Fraction → Ask) (text : Text) (ask : Ask) → option_map mk (probability_written text) ≡ Some ask
     → IsTrue (is_probability text) × (mk (numeral_value text) ≡ ask)
-probability_back mk text ask e =
-    let m = mapped mk (probability_written text) ask e in
-    let t = tested (is_probability text) (numeral_value text) m.0 m.1 in
-    (t.0, ap mk t.1 ∙ m.2)
+probability_back mk text ask e = written_back mk (is_probability text) (numeral_value text) ask e
 
 cut_back : (s : ℕ) (text : Text) (cut : Text × Text) → cut_at s text ≡ Some cut → text ≡ cut.0 ++ s ∷ cut.1
 cut_back s text cut e =
-    let t = tested (list_any (λ b. b == s) text) (
+    let t = tested (list_any (λ b. b == s) text) (Some (
       before_first (λ b. b == s) text,
       after_first (λ b. b == s) text,
-    ) cut e in
-    cut_first s text t.0 ∙ ap (λ c. c.0 ++ s ∷ c.1) t.1
+    )) cut e in
+    cut_first s text t.0 ∙ ap (λ c. c.0 ++ s ∷ c.1) (some_is _ cut t.1)
 
 -- the unit's name and the amount
 record UnitParts (text : Text) (parts : Text × ℕ) : Type 0 where
@@ -123,41 +119,25 @@ unit_back : (text : Text) (parts : Text × ℕ) → unit_parts text ≡ Some par
 unit_back text parts e =
     let c = chained (λ cut. if is_word cut.0 then option_map (λ x. (cut.0, x)) (amount_written cut.1) else None)
     (cut_at 58 text) parts e in
-    go c.0 (cut_back 58 text c.0 c.1) c.2
-  where
-    amount_in : (cut : Text × Text) → text ≡ cut.0 ++ 58 ∷ cut.1 → is_word cut.0 ≡ true
-        → option_map (λ x. (cut.0, x)) (amount_written cut.1) ≡ Some parts → UnitParts text parts
-    amount_in cut spelled named e =
-        let m = mapped (λ x. (cut.0, x)) (amount_written cut.1) parts e in
-        let t = tested (is_amount cut.1) (number cut.1) m.0 m.1 in
-        let name : cut.0 ≡ parts.0 = ap (λ p. p.0) m.2 in
-        record {
-          x = cut.1;
-          named = subst (λ n. IsTrue (is_word n)) name named;
-          amount = t.0;
-          value = t.1 ∙ ap (λ p. p.1) m.2;
-          spelled = spelled ∙ ap (λ n. n ++ 58 ∷ cut.1) name;
-        }
-
-    go : (cut : Text × Text) → text ≡ cut.0 ++ 58 ∷ cut.1
-        → (if is_word cut.0 then option_map (λ x. (cut.0, x)) (amount_written cut.1) else None) ≡ Some parts
-        → UnitParts text parts
-    go cut spelled e = by (is_word cut.0) refl
-      where
-        by : (b : Bool) → is_word cut.0 ≡ b → UnitParts text parts
-        by true h = amount_in cut spelled h ((rw h refl) ∙ e)
-        by false h =
-            let none : (if is_word cut.0 then option_map (λ x. (cut.0, x)) (amount_written cut.1) else None)
-            ≡ None = rw h refl in
-            not_some parts (sym none ∙ e)
+    let cut = c.0 in
+    let named = tested (is_word cut.0) (option_map (λ x. (cut.0, x)) (amount_written cut.1)) parts c.2 in
+    let amount = amount_back (λ x. (cut.0, x)) cut.1 parts named.1 in
+    let name : cut.0 ≡ parts.0 = ap (λ p. p.0) amount.1 in
+    record {
+      x = cut.1;
+      named = subst (λ n. IsTrue (is_word n)) name named.0;
+      amount = amount.0;
+      value = ap (λ p. p.1) amount.1;
+      spelled = cut_back 58 text cut c.1 ∙ ap (λ n. n ++ 58 ∷ cut.1) name;
+    }
 
 -- `s` and an attachment behind a limit
 behind_back : (text rest : Text) → behind_s text ≡ Some rest → text ≡ 115 ∷ rest
 behind_back [] rest e = not_some rest e
 behind_back (c ∷ cs) rest e =
-    let t = tested (c == 115) cs rest e in
+    let t = tested (c == 115) (Some cs) rest e in
     let same : c ≡ 115 = grind (arith, nat_tests, t.0) in
-    rw (same, t.1) refl
+    rw (same, some_is cs rest t.1) refl
 
 -- the two kinds of limit
 data Limit (text : Text) : Option ℕ → Type 0 where
@@ -165,17 +145,10 @@ data Limit (text : Text) : Option ℕ → Type 0 where
   infinite : text ≡ codes "inf" → Limit text None
 
 limit_back : (text : Text) (l : Option ℕ) → limit_written text ≡ Some l → Limit text l
-limit_back text l e = go (bytes_eq text (codes "inf")) refl
-  where
-    go : (b : Bool) → bytes_eq text (codes "inf") ≡ b → Limit text l
-    go true h =
-        let none : limit_written text ≡ Some None = rw h refl in
-        subst (Limit text) (some_is None l (sym none ∙ e)) (infinite ((bytes_eq-Decides text (codes "inf")).0 h))
-    go false h =
-        let some : limit_written text ≡ option_map Some (amount_written text) = rw h refl in
-        let m = mapped Some (amount_written text) l (sym some ∙ e) in
-        let t = tested (is_amount text) (number text) m.0 m.1 in
-        subst (Limit text) (ap Some t.1 ∙ m.2) (finite t.0)
+limit_back text l e = elim (cases_Bool (bytes_eq text (codes "inf"))) [
+  | inl h ↦ subst (Limit text) (some_is None l (rw h at e)) (infinite ((bytes_eq-Decides text (codes "inf")).0 h))
+  | inr h ↦ let amount = amount_back Some text l (rw h at e) in subst (Limit text) amount.1 (finite amount.0)
+]
 
 layer_spelled : (text limit attach : Text) (l : Option ℕ) → Limit limit l → IsTrue (is_amount attach)
     → text ≡ codes "layer:" ++ (limit ++ 120 ∷ 115 ∷ attach) → SpellsAsk text (LayerMean l (number attach))
@@ -201,11 +174,10 @@ module _ (text head rest : Text) (ask : Ask) (spelled : text ≡ head ++ 58 ∷ 
   choice : (name : Text) (there other : Option Ask) → (if bytes_eq head name then there else other) ≡ Some ask
       → (text ≡ name ++ 58 ∷ rest → there ≡ Some ask → SpellsAsk text ask) → (other ≡ Some ask → SpellsAsk text ask)
       → SpellsAsk text ask
-  choice name there other e f g = go (bytes_eq head name) refl
-    where
-      go : (b : Bool) → bytes_eq head name ≡ b → SpellsAsk text ask
-      go true h = f (spelled ∙ ap (λ n. n ++ 58 ∷ rest) ((bytes_eq-Decides head name).0 h)) ((rw h refl) ∙ e)
-      go false h = g ((rw h refl) ∙ e)
+  choice name there other e f g = elim (cases_Bool (bytes_eq head name)) [
+    | inl h ↦ f (spelled ∙ ap (λ n. n ++ 58 ∷ rest) ((bytes_eq-Decides head name).0 h)) (rw h at e)
+    | inr h ↦ g (rw h at e)
+  ]
 
   between_back : ask_between head rest ≡ Some ask → SpellsAsk text ask
   between_back e =
@@ -236,13 +208,9 @@ module _ (text head rest : Text) (ask : Ask) (spelled : text ≡ head ++ 58 ∷ 
 
 pub table_back : (text : Text) (ask : Ask) → ask_of text ≡ Some ask → SpellsAsk text ask
 unfolding ask_of
-table_back text ask e = go (bytes_eq text (codes "mean")) refl
-  where
-    go : (b : Bool) → bytes_eq text (codes "mean") ≡ b → SpellsAsk text ask
-    go true h =
-        let is : ask_of text ≡ Some Mean = rw h refl in
-        subst (SpellsAsk text) (some_is Mean ask (sym is ∙ e)) (mean ((bytes_eq-Decides text (codes "mean")).0 h))
-    go false h =
-        let is : ask_of text ≡ option_and_then (λ cut. ask_between cut.0 cut.1) (cut_at 58 text) = rw h refl in
-        let c = chained (λ cut. ask_between cut.0 cut.1) (cut_at 58 text) ask (sym is ∙ e) in
-        between_back text c.0.0 c.0.1 ask (cut_back 58 text c.0 c.1) c.2
+table_back text ask e = elim (cases_Bool (bytes_eq text (codes "mean"))) [
+  | inl h ↦ subst (SpellsAsk text) (some_is Mean ask (rw h at e)) (mean ((bytes_eq-Decides text (codes "mean")).0 h))
+  | inr h ↦
+      let c = chained (λ cut. ask_between cut.0 cut.1) (cut_at 58 text) ask (rw h at e) in
+      between_back text c.0.0 c.0.1 ask (cut_back 58 text c.0 c.1) c.2
+]

@@ -1,14 +1,16 @@
 -- What `clap` makes of any words, by their parts.
-use Rattle.dl_words.proofs.Common.{◌≡◌, ◌∙◌, ℕ, Bool, true, false, refl, sym, ap, ap₂, subst, List, [], ◌∷◌, Option, Some, None, codes, true≢false, length, arith, ◌+◌, ◌≤◌, if◌then◌else◌, is_some, unwrap_or, slice_get, ⊤, ◌||◌, fold, bytes_eq, chars, bytes_eq-Decides, Kinds, or_else, Row, Rule, Walk, action_of, all_of, arg_by_id, arg_by_index, arg_by_long, arg_by_short, has_row, settled, walk, walk_from, is_given, built, matches_of, repeat_fault, fault_of, settle_fault, command, Text, Part, Mode, Kind, is_name, positionals_of, option_values, with_part, read_kind, option, positional, between, value, ended, ends, whole, begins, plain, misfit}
+use Rattle.dl_words.proofs.Common.{◌≡◌, ◌∙◌, inl, inr, ℕ, Bool, true, false, refl, sym, ap, ap₂, subst, List, [], ◌∷◌, Option, Some, None, codes, true≢false, length, arith, ◌+◌, ◌≤◌, if◌then◌else◌, is_some, unwrap_or, slice_get, ⊤, fold, bytes_eq, chars, bytes_eq-Decides, cases_Bool, Kinds, or_else, Row, Rule, Walk, action_of, all_of, arg_by_id, arg_by_long, arg_by_short, has_row, settled, walk, walk_from, is_given, built, matches_of, repeat_fault, fault_of, settle_fault, command, Text, Part, Mode, Kind, is_name, positionals_of, option_values, with_part, read_kind, option, positional, between, value, ended, ends, whole, begins, plain, misfit}
 use Rattle.std.proofs.Common.{◌==◌}
 use Rattle.std.specs.Prelude.{take, drop}
 use Rattle.clap.specs.Walk.{default_rows, finished, is_empty, nothing_held, reading_by, with_default}
+use Rattle.clap.specs.declared.builder.action.ArgAction.{ArgAction}
+use Rattle.clap.specs.declared.builder.action.ArgAction.TheVariants.{Set}
 use Rattle.clap.specs.declared.error.kind.ErrorKind.TheVariants as kind
 use Rattle.clap.specs.Simple.{entered}
 use Rattle.clap.specs.Faults.{check_fault, default_fault, defaults_fault, entered_fault, level_fault, walk_fault}
 use Rattle.dl_words.proofs.Reading.{Seen, clap_from, flag_kind, long_kind, seen, seen_ends, seen_long, seen_plain, seen_short, clap_kind, value_kind}
 use Rattle.dl_words.proofs.Shapes.{shape}
-use Rattle.dl_words.proofs.Simulation.{Agrees, Fails, IsReady, LongMet, ShortMet, TakesOne, faults, final, help_long, help_short, no_long, no_short, or_else-assoc, or_else-nil, position_of, sim, step, takes_long, total, uses_of}
+use Rattle.dl_words.proofs.Simulation.{Fails, IsPlace, IsReady, LongMet, ShortMet, TakesOne, Walks, faults, final, help_long, help_short, no_long, no_short, or_else-assoc, or_else-nil, position_of, sim, step, takes_long, total, uses_of}
 use Rattle.dl_words.proofs.RowLemmas.{AllKept, IsSingle, Kept, all_explicit, at_most_once, both_empty, gathered, given_explicit, kept_all, kept_once, more, twice, values_in}
 
 abbrev pub place : Bool → Text
@@ -30,11 +32,10 @@ takes_literal name a found same takes single most least =
 
 -- a name is this one, or another
 split : (P : Text → Type 0) (name k : Text) → P k → (bytes_eq k name ≡ false → P name) → P name
-split P name k here other = go (bytes_eq k name) refl
-  where
-    go : (b : Bool) → bytes_eq k name ≡ b → P name
-    go true e = subst P ((bytes_eq-Decides k name).0 e) here
-    go false e = other e
+split P name k here other = elim (cases_Bool (bytes_eq k name)) [
+  | inl e ↦ subst P ((bytes_eq-Decides k name).0 e) here
+  | inr e ↦ other e
+]
 
 long_met : (name : Text) → LongMet shape name (arg_by_long shape.rules name) (is_name name)
 long_met name =
@@ -57,43 +58,34 @@ long_met name =
     rw (e0, e1, e2, e3, e4, e5, e6, e7) no_long))))))))
 
 short_met : (c : ℕ) → ShortMet (arg_by_short shape.rules c)
-short_met c = go (104 == c) refl
-  where
-    go : (b : Bool) → (104 == c) ≡ b → ShortMet (arg_by_short shape.rules c)
-    go true e = rw e (help_short (rule_at 9) refl (λ r. tt))
-    go false e = rw e no_short
+short_met c = elim (cases_Bool (104 == c)) [
+  | inl e ↦ rw e (help_short (rule_at 9) refl (λ r. tt))
+  | inr e ↦ rw e no_short
+]
 
 pub ready : IsReady shape place
 ready = record {
   once = refl;
   long = long_met;
   short = short_met;
-  positional = positional_rule;
-  at = λ first. at_place first;
-  takes = λ first. takes_place first;
-  next = λ first. next_place first;
-  goes_on = λ first. goes_on_place first;
+  places = place_met;
 }
   where
-    positional_rule : Bool → Rule
-    positional_rule true = rule_at 0
-    positional_rule false = rule_at 1
-
-    at_place : (first : Bool) → arg_by_index shape.rules (position_of first) ≡ Some (positional_rule first)
-    at_place true = refl
-    at_place false = refl
-
-    takes_place : (first : Bool) → TakesOne shape (place first) (positional_rule first)
-    takes_place true = takes_literal (codes "form") (rule_at 0) refl refl refl refl refl refl
-    takes_place false = takes_literal (codes "asks") (rule_at 1) refl refl refl refl refl refl
-
-    next_place : (first : Bool) → Rattle.clap.specs.Walk.next_position (positional_rule first) (position_of first) ≡ 2
-    next_place true = refl
-    next_place false = refl
-
-    goes_on_place : (first : Bool) → (positional_rule first).trailing_var_arg ≡ false
-    goes_on_place true = refl
-    goes_on_place false = refl
+    place_met : (first : Bool) → IsPlace shape (place first) (position_of first)
+    place_met true = record {
+      rule = rule_at 0;
+      at = refl;
+      takes = takes_literal (codes "form") (rule_at 0) refl refl refl refl refl refl;
+      next = refl;
+      goes_on = refl;
+    }
+    place_met false = record {
+      rule = rule_at 1;
+      at = refl;
+      takes = takes_literal (codes "asks") (rule_at 1) refl refl refl refl refl refl;
+      next = refl;
+      goes_on = refl;
+    }
 
 -- ---- the fault and the matches are the walk's
 
@@ -107,19 +99,16 @@ NoDefaults [] = ⊤
 NoDefaults (a ∷ rest) = (a.defaults ≡ []) × NoDefaults rest
 
 same_rows : (a : Rule) (rows : List Row) → a.defaults ≡ [] → with_default rows a ≡ rows
-same_rows a rows e = go (has_row a.id rows)
-  where
-    go : (b : Bool) → (if b then rows else default_rows a.id (reading_by a) a.defaults rows) ≡ rows
-    go true = refl
-    go false = rw e refl
+same_rows a rows e = elim (cases_Bool (has_row a.id rows)) [
+  | inl there ↦ rw there refl
+  | inr none ↦ rw (none, e) refl
+]
 
 no_default_fault : (a : Rule) (rows : List Row) → a.defaults ≡ [] → default_fault rows a ≡ []
-no_default_fault a rows e = go (has_row a.id rows)
-  where
-    go : (b : Bool) → (if b || is_empty a.defaults then []
-        else Rattle.clap.specs.Faults.given_default_fault a a.defaults) ≡ []
-    go true = refl
-    go false = rw e refl
+no_default_fault a rows e = elim (cases_Bool (has_row a.id rows)) [
+  | inl there ↦ rw there refl
+  | inr none ↦ rw (none, e) refl
+]
 
 all_same_rows : (rules : List Rule) (rows : List Row) → NoDefaults rules → fold with_default rows rules ≡ rows
 all_same_rows [] rows h = refl
@@ -145,11 +134,10 @@ abbrev pub missing : List Row → Kinds
 missing rows = if is_given (codes "form") rows then [] else kind.MissingRequiredArgument ∷ []
 
 check_is : (rows : List Row) → check_fault shape rows false ≡ missing rows
-check_is rows = go (is_given (codes "form") rows) refl
-  where
-    go : (b : Bool) → is_given (codes "form") rows ≡ b → check_fault shape rows false ≡ missing rows
-    go true e = rw e refl
-    go false e = rw e refl
+check_is rows = elim (cases_Bool (is_given (codes "form") rows)) [
+  | inl e ↦ rw e refl
+  | inr e ↦ rw e refl
+]
 
 level_is : (words : List Text) → level_fault shape [] nothing_held words false []
     ≡ or_else (total shape start words) (missing (final shape start words))
@@ -204,11 +192,10 @@ named_long name v = go (is_name name) refl v
     go false e (Some u) = rw e tt
 
 named_flag : (flags : Text) → NamedKind (flag_kind flags)
-named_flag flags = go (is_some (slice_get (chars flags) 0)) refl
-  where
-    go : (b : Bool) → is_some (slice_get (chars flags) 0) ≡ b → NamedKind (flag_kind flags)
-    go true e = rw e tt
-    go false e = rw e tt
+named_flag flags = elim (cases_Bool (is_some (slice_get (chars flags) 0))) [
+  | inl e ↦ rw e tt
+  | inr e ↦ rw e tt
+]
 
 pub named_kind : (w : Text) → Seen w → NamedKind (clap_kind w)
 named_kind _ (seen_ends w e k) = rw k tt
@@ -272,15 +259,13 @@ all_kept [] first h = tt
 all_kept (option n v ∷ ps) first h = (kept_name n h.0, all_kept ps first h.1)
 all_kept (positional w ∷ ps) first h = (kept_place first, all_kept ps false h)
 
+-- what a name's argument does, whatever argument is taken where there is none
+abbrev named_action : Rule → Text → ArgAction
+named_action none name = action_of (unwrap_or (arg_by_id shape.rules name) none)
+
 single_name : (name : Text) → is_name name ≡ true → IsSingle shape name
-single_name = by_name (IsSingle shape)
-    (λ a found. ap (λ o. action_of (unwrap_or o a)) (sym found))
-    (λ a found. ap (λ o. action_of (unwrap_or o a)) (sym found))
-    (λ a found. ap (λ o. action_of (unwrap_or o a)) (sym found))
-    (λ a found. ap (λ o. action_of (unwrap_or o a)) (sym found))
-    (λ a found. ap (λ o. action_of (unwrap_or o a)) (sym found))
-    (λ a found. ap (λ o. action_of (unwrap_or o a)) (sym found))
-    (λ a found. ap (λ o. action_of (unwrap_or o a)) (sym found))
+single_name name h = λ a found. ap (λ o. action_of (unwrap_or o a)) (sym found)
+    ∙ by_name (λ n. named_action a n ≡ Set) refl refl refl refl refl refl refl name h
 
 asks_not_single : IsSingle shape (codes "asks") → ⊥
 asks_not_single h = true≢false (ap Rattle.clap.specs.Walk.is_append (h (rule_at 1) refl))
@@ -322,11 +307,10 @@ all_asks (option n v ∷ ps) h = rw (no_name false n h.0) (all_asks ps h.1)
 all_asks (positional w ∷ ps) h = more_asks ps h
 
 other_name : (m id : Text) → is_name m ≡ true → is_name id ≡ false → bytes_eq m id ≡ false
-other_name m id h n = go (bytes_eq m id) refl
-  where
-    go : (b : Bool) → bytes_eq m id ≡ b → bytes_eq m id ≡ false
-    go false e = e
-    go true e = absurd (true≢false (sym (subst (λ t. is_name t ≡ true) ((bytes_eq-Decides m id).0 e) h) ∙ n))
+other_name m id h n = elim (cases_Bool (bytes_eq m id)) [
+  | inl e ↦ absurd (true≢false (sym (subst (λ t. is_name t ≡ true) ((bytes_eq-Decides m id).0 e) h) ∙ n))
+  | inr e ↦ e
+]
 
 -- an id that is no name and not of the asks stands once at most
 no_others : (ps : List Part) (id : Text) → AllNamed ps → is_name id ≡ false → bytes_eq (codes "asks") id ≡ false
@@ -340,12 +324,10 @@ one_other : (ps : List Part) (id : Text) → AllNamed ps → is_name id ≡ fals
     → length (values_in id (uses_of place true ps)) ≤ 1
 one_other [] id h n a = omega arith
 one_other (option m v ∷ ps) id h n a = rw (other_name m id h.0 n) (one_other ps id h.1 n a)
-one_other (positional w ∷ ps) id h n a = go (bytes_eq (codes "form") id) refl
-  where
-    go : (b : Bool) → bytes_eq (codes "form") id ≡ b
-        → length (values_in id (uses_of place true (positional w ∷ ps))) ≤ 1
-    go true e = rw (e, no_others ps id h n a) (omega arith)
-    go false e = rw (e, no_others ps id h n a) (omega arith)
+one_other (positional w ∷ ps) id h n a = elim (cases_Bool (bytes_eq (codes "form") id)) [
+  | inl e ↦ rw (e, no_others ps id h n a) (omega arith)
+  | inr e ↦ rw (e, no_others ps id h n a) (omega arith)
+]
 
 -- ---- the whole
 
@@ -371,35 +353,31 @@ from_zero n h = omega arith
 two_from_zero : (n : ℕ) → 2 ≤ 0 + n → 2 ≤ n
 two_from_zero n h = omega arith
 
-start_sim : (words : List Text) → Agrees (total shape start words) (final shape start words)
-    (λ ps. faults shape [] (uses_of place true ps)) (λ ps. fold (step shape) [] (uses_of place true ps))
-    (clap_from between words)
+start_sim : (words : List Text) → Walks shape place true None [] start words (clap_from between words)
 start_sim words = sim shape place ready words between true false None []
 
 pub matched : (words : List Text) → fault_of command words ≡ [] → (ps : List Part) × Matched words ps
 matched words none = go (clap_from between words) refl (start_sim words) (all_named words between tt)
   where
-    go : (o : Option (List Part)) → clap_from between words ≡ o
-        → Agrees (total shape start words) (final shape start words) (λ ps. faults shape [] (uses_of place true ps))
-        (λ ps. fold (step shape) [] (uses_of place true ps)) o
+    go : (o : Option (List Part)) → clap_from between words ≡ o → Walks shape place true None [] start words o
         → IfParts o AllNamed → (ps : List Part) × Matched words ps
     go None e h n = absurd (subst Fails (both_empty (total shape start words) _ (sym (fault_is words) ∙ none)).0 h)
     go (Some ps) e h n =
         let quiet : faults shape [] (uses_of place true ps) ≡ [] = sym h.0
         ∙ (both_empty (total shape start words) _ (sym (fault_is words) ∙ none)).0 in
         let rows : matches_of command words ≡ fold (step shape) [] (uses_of place true ps) = matches_are words ∙ h.1 in
-        let kept : AllKept shape (uses_of place true ps) = all_kept ps true n in (
+        let kept : AllKept shape (uses_of place true ps) = all_kept ps true n in
+        let values : (id : Text) → all_of id (matches_of command words)
+        ≡ more None (values_in id (uses_of place true ps)) =
+        λ id. ap (all_of id) rows ∙ gathered shape (uses_of place true ps) [] id kept quiet in (
           ps,
           record {
             parts = e;
             once = λ name is. subst (λ l. length l ≤ 1) (named_values ps true name is)
                 (from_zero _ (at_most_once shape (uses_of place true ps) [] name kept (single_name name is) quiet));
-            options = λ name is. ap (all_of name) rows ∙ gathered shape (uses_of place true ps) [] name kept quiet
-                ∙ ap (more None) (named_values ps true name is);
-            form = ap (all_of (codes "form")) rows ∙ gathered shape (uses_of place true ps) [] (codes "form") kept quiet
-                ∙ ap (more None) (forms ps n);
-            asks = ap (all_of (codes "asks")) rows ∙ gathered shape (uses_of place true ps) [] (codes "asks") kept quiet
-                ∙ ap (more None) (all_asks ps n);
+            options = λ name is. values name ∙ ap (more None) (named_values ps true name is);
+            form = values (codes "form") ∙ ap (more None) (forms ps n);
+            asks = values (codes "asks") ∙ ap (more None) (all_asks ps n);
           },
         )
 
@@ -436,9 +414,7 @@ unfit words some = go (clap_from between words) refl (start_sim words) (all_name
         let one = one_other ps id named n e in
         absurd (omega (arith, one, two))
 
-    go : (o : Option (List Part)) → clap_from between words ≡ o
-        → Agrees (total shape start words) (final shape start words) (λ ps. faults shape [] (uses_of place true ps))
-        (λ ps. fold (step shape) [] (uses_of place true ps)) o
+    go : (o : Option (List Part)) → clap_from between words ≡ o → Walks shape place true None [] start words o
         → IfParts o AllNamed → Unfit words
     go None e h n = no_parts e
     go (Some ps) e h n =

@@ -1,8 +1,9 @@
 -- The parts of the words are those that they are written as.
-use Rattle.dl_words.proofs.Common.{◌≡◌, ◌∙◌, ℕ, Bool, true, false, refl, sym, ap, subst, List, [], ◌∷◌, ◌++◌, Option, Some, None, codes, map, true≢false, arith, ◌==◌, list_any, before_first, after_first, nat_tests, append-nil, before_none, Part, Mode, Kind, is_equals, is_name, kind_of, parts_from, read_kind, with_part, option, positional, between, value, ended, ends, whole, begins, plain, misfit, Text, begins_plainly}
+use Rattle.dl_words.proofs.Common.{◌≡◌, ◌∙◌, inl, inr, cases_Bool, ℕ, Bool, true, false, refl, sym, ap, subst, List, [], ◌∷◌, ◌++◌, Option, Some, None, codes, map, true≢false, arith, ◌==◌, list_any, before_first, after_first, nat_tests, append-nil, before_none, Part, Mode, Kind, is_equals, is_name, kind_of, parts_from, read_kind, with_part, option, positional, between, value, ended, ends, whole, begins, plain, misfit, Text, begins_plainly}
 use Rattle.dl_words.specs.AsWritten.{AreParts, nothing, joined, apart, plain as word_plain, ended as all_plain}
 use Rattle.dl_words.specs.Parts.{named}
 use Rattle.dl_words.proofs.Numerals.{after_at, any_at, before_at, cut_first}
+use Rattle.dl_words.proofs.Cleaned.{plain_kind}
 use Rattle.dl_words.proofs.Whole.{by_name}
 
 -- ---- what is written is read
@@ -35,14 +36,6 @@ begins_kind (c ∷ cs) h =
     let is : named name ≡ begins name = rw (front, h, none) refl in
     is
 
-plain_kind : (word : Text) → begins_plainly word ≡ true → kind_of word ≡ plain
-plain_kind [] h = refl
-plain_kind (c ∷ cs) h = go (c == 45) refl
-  where
-    go : (b : Bool) → c == 45 ≡ b → kind_of (c ∷ cs) ≡ plain
-    go true e = absurd (true≢false (sym (rw e at h)))
-    go false e = rw e refl
-
 all_positional : (rest : List Text) → parts_from ended rest ≡ Some (map positional rest)
 unfolding parts_from
 all_positional [] = refl
@@ -71,15 +64,15 @@ pub data Written (word : Text) : Kind → Type 0 where
   is_misfit : Written word misfit
 
 named_written : (word text : Text) → word ≡ codes "--" ++ text → Written word (named text)
-named_written word text e = go (is_name (before_first is_equals text)) refl (list_any is_equals text) refl
-  where
-    go : (a : Bool) → is_name (before_first is_equals text) ≡ a → (b : Bool) → list_any is_equals text ≡ b
-        → Written word (named text)
-    go false h b k = rw h is_misfit
-    go true h true k = rw (h, k) (is_number_within (before_first is_equals text) (after_first is_equals text) h
+named_written word text e = elim (cases_Bool (is_name (before_first is_equals text))) [
+  | inl h ↦ elim (cases_Bool (list_any is_equals text)) [
+    | inl k ↦ rw (h, k) (is_number_within (before_first is_equals text) (after_first is_equals text) h
         (e ∙ ap (λ t. codes "--" ++ t) (cut_first 61 text k)))
-    go true h false k = rw (h, k) (is_begins (before_first is_equals text) h
+    | inr k ↦ rw (h, k) (is_begins (before_first is_equals text) h
         (e ∙ ap (λ t. codes "--" ++ t) (sym (all_before text k))))
+  ]
+  | inr h ↦ rw h is_misfit
+]
 
 hyphen_is : (c : ℕ) → (c == 45) ≡ true → c ≡ 45
 hyphen_is c h = grind (arith, nat_tests, h)

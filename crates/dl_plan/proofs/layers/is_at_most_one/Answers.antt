@@ -1,11 +1,9 @@
 -- At most 1 where the numerator is at most the denominator.
 use Rattle.dl_plan.proofs.Common.{ℕ, ◌≤◌, IsTrue, subst, arith, Fraction, whole, ◌≤ℚ◌, over_self, over_le}
+use Rattle.std.proofs.lemmas.Bool.{leb-true}
 use Rattle.std.proofs.Common.{nat_le}
 use Rattle.dl_plan.proofs.Clauses.{num_le_den}
 use Rattle.dl_plan.proofs.layers.is_at_most_one.Goals as goal
-
-test_is : (a b : ℕ) → IsTrue (nat_le a b) → a ≤ b
-test_is a b e = grind arith
 
 is_test : (a b : ℕ) → a ≤ b → IsTrue (nat_le a b)
 is_test a b e = grind arith
@@ -16,6 +14,6 @@ within x h = subst (λ y. y ≤ℚ whole 1) (over_self x)
 
 pub returns : goal.returns
 returns c = (
-  λ given. within c.args.x (omega (arith, test_is _ _ given, c.num.ensures.part, c.den.ensures.part)),
+  λ given. within c.args.x (omega (arith, leb-true _ _ given, c.num.ensures.part, c.den.ensures.part)),
   λ is. is_test _ _ (omega (arith, num_le_den c.args.x is, c.num.ensures.part, c.den.ensures.part)),
 )

@@ -1,13 +1,15 @@
 -- The tests of the answer, in the order of the code.
-use Rattle.dl_words.proofs.Common.{◌∙◌, refl, sym, ap, subst, Ok, ◌&&◌, list_all, found_of, Settings, asks_of, ExplainsAsks, answer_in, asks_in, values_in, are_taken, begins_plainly, admits, with_asks}
-use Rattle.dl_words.proofs.Judged.{all_three, asks_no_line, explained, fitting_found, here, later, misfit_found, plain_found, texts_found}
+use Rattle.dl_words.proofs.Common.{◌∙◌, refl, sym, ap, Ok, ◌&&◌, list_all, found_of, Settings, asks_of, asks_in, values_in, are_taken, begins_plainly, admits, with_asks}
+use Rattle.std.proofs.lemmas.Bool.{and_left, and_right}
+use Rattle.dl_words.proofs.AskLists.{lent}
+use Rattle.dl_words.proofs.Judged.{asks_no_line, explained, fitting_tests, misfit_found, plain_found, texts_found}
 use Rattle.dl_words.proofs.judge.judge.Goals as goal
 use Rattle.dl_words.proofs.judge.judge.Goals.{then-not-begin_plainly-via-then-not-begin_plainly, then-not-begin_plainly-via-else-not-begin_plainly+then-not-admits}
 
 pub returns-in_default-settings_of-clause-fault : goal.returns-in_default-settings_of-clause-fault
 returns-in_default-settings_of-clause-fault c =
     misfit_found (found_of c.args.matches.now) c.in-Some.form c.in-Some.ensures
-    (here _ _ (here _ _ c.in_default-settings_of.ensures.none))
+    (and_left _ _ (and_left _ _ c.in_default-settings_of.ensures.none))
 
 pub returns-then-not-begin_plainly-clause-fault : goal.returns-then-not-begin_plainly-clause-fault
 returns-then-not-begin_plainly-clause-fault c =
@@ -18,10 +20,10 @@ returns-then-not-begin_plainly-clause-fault c =
     (asks_in found) c.begin_plainly.ensures texts in
     misfit_found found c.in-Some.form c.in-Some.ensures (elim c.then-not-begin_plainly.branch [
       | then-not-begin_plainly-via-then-not-begin_plainly w ↦
-          here (are_taken (values_in found) && list_all begins_plainly (asks_in found)) _
-          (later (are_taken (values_in found)) _ (sym plain ∙ w.if-not-begin_plainly.true))
+          and_left (are_taken (values_in found) && list_all begins_plainly (asks_in found)) _
+          (and_right (are_taken (values_in found)) _ (sym plain ∙ w.if-not-begin_plainly.true))
       | then-not-begin_plainly-via-else-not-begin_plainly+then-not-admits w ↦
-          later (are_taken (values_in found) && list_all begins_plainly (asks_in found)) _
+          and_right (are_taken (values_in found) && list_all begins_plainly (asks_in found)) _
           (ap (admits c.in-Some.form (values_in found)) (sym texts) ∙ sym w.admits.ensures ∙ w.if-not-admits.true)
     ])
 
@@ -30,14 +32,10 @@ returns-in-Ok-clause-settings c =
     let found = found_of c.args.matches.now in
     let texts = texts_found c.get_strs.result c.unwrap_or-texts.result _ _ c.unwrap_or-texts.ensures refl
     c.get_strs.ensures in
-    let plain = plain_found c.begin_plainly.result c.unwrap_or-texts.result.now
-    (asks_in found) c.begin_plainly.ensures texts in
-    let fits = all_three (are_taken (values_in found)) (list_all begins_plainly (asks_in found))
-    (admits c.in-Some.form (values_in found) (asks_in found))
-    c.in-Some-settings_of.ensures.some.0 (sym plain ∙ c.if-not-begin_plainly.false)
-    (ap (admits c.in-Some.form (values_in found)) (sym texts) ∙ sym c.admits.ensures ∙ c.if-not-admits.false) in
-    fitting_found found c.in-Some.form c.in-Some.ensures fits
-    ∙ ap (with_asks c.in-Some.form (values_in found)) (ap asks_of (sym texts) ∙ c.in-Ok.ensures.asks)
+    fitting_tests found c.in-Some.form _ _ _ c.in-Some.ensures texts
+    c.in-Some-settings_of.ensures.some.0 c.begin_plainly.ensures c.if-not-begin_plainly.false c.admits.ensures
+    c.if-not-admits.false
+    ∙ ap (with_asks c.in-Some.form (values_in found)) c.in-Ok.ensures.asks
     ∙ ap {A = Settings} (λ settings. Ok (record settings { asks = c.in-Ok.asks.items }))
     (sym c.in-Some-settings_of.ensures.some.1)
     ∙ ap (λ asks. Ok (record c.in-Some-settings_of.settings { asks = asks })) (sym c.from_vec.ensures)
@@ -47,15 +45,11 @@ returns-clause-fault c =
     let found = found_of c.args.matches.now in
     let texts = texts_found c.get_strs.result c.unwrap_or-texts.result _ _ c.unwrap_or-texts.ensures refl
     c.get_strs.ensures in
-    let plain = plain_found c.begin_plainly.result c.unwrap_or-texts.result.now
-    (asks_in found) c.begin_plainly.ensures texts in
-    let fits = all_three (are_taken (values_in found)) (list_all begins_plainly (asks_in found))
-    (admits c.in-Some.form (values_in found) (asks_in found))
-    c.in-Some-settings_of.ensures.some.0 (sym plain ∙ c.if-not-begin_plainly.false)
-    (ap (admits c.in-Some.form (values_in found)) (sym texts) ∙ sym c.admits.ensures ∙ c.if-not-admits.false) in
-    explained c.in-Some.form (values_in found) (asks_of (asks_in found)) (answer_in found) c.in-Err.fault
-    (fitting_found found c.in-Some.form c.in-Some.ensures fits)
-    (subst (λ asks. ExplainsAsks (asks_of asks) c.in-Err.fault) texts c.in-Err.ensures.fault)
+    explained c.in-Some.form (values_in found) (asks_of (lent c.unwrap_or-texts.result.now)) _ c.in-Err.fault
+    (fitting_tests found c.in-Some.form _ _ _ c.in-Some.ensures texts
+    c.in-Some-settings_of.ensures.some.0 c.begin_plainly.ensures c.if-not-begin_plainly.false c.admits.ensures
+    c.if-not-admits.false)
+    c.in-Err.ensures.fault
 
 -- where what was found fits the command, it is no misfit of it
 pub returns-in-Ok-clause-line : goal.returns-in-Ok-clause-line
@@ -66,11 +60,7 @@ returns-clause-line c =
     let found = found_of c.args.matches.now in
     let texts = texts_found c.get_strs.result c.unwrap_or-texts.result _ _ c.unwrap_or-texts.ensures refl
     c.get_strs.ensures in
-    let plain = plain_found c.begin_plainly.result c.unwrap_or-texts.result.now
-    (asks_in found) c.begin_plainly.ensures texts in
-    let fits = all_three (are_taken (values_in found)) (list_all begins_plainly (asks_in found))
-    (admits c.in-Some.form (values_in found) (asks_in found))
-    c.in-Some-settings_of.ensures.some.0 (sym plain ∙ c.if-not-begin_plainly.false)
-    (ap (admits c.in-Some.form (values_in found)) (sym texts) ∙ sym c.admits.ensures ∙ c.if-not-admits.false) in
-    λ line. absurd (asks_no_line c.in-Some.form (values_in found) (asks_of (asks_in found))
-    (sym (fitting_found found c.in-Some.form c.in-Some.ensures fits) ∙ line))
+    λ line. absurd (asks_no_line c.in-Some.form (values_in found) (asks_of (lent c.unwrap_or-texts.result.now))
+    (sym (fitting_tests found c.in-Some.form _ _ _ c.in-Some.ensures texts
+    c.in-Some-settings_of.ensures.some.0 c.begin_plainly.ensures c.if-not-begin_plainly.false c.admits.ensures
+    c.if-not-admits.false) ∙ line))

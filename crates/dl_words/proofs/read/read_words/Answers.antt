@@ -1,5 +1,5 @@
 -- What `clap` refuses is a misfit of the command, and what it finds is what the parts say.
-use Rattle.dl_words.proofs.Common.{◌≡◌, ◌∙◌, Err, Result, inl, inr, sym, ap, subst, map, List, [], ◌∷◌, fault_of, is_simple_and_free, Kinds, found_of, App, is_simple, matches_of, rows_of, command, Settings, UsageFault, Line, WordsFault, Explains, answer_in, Text, words_of}
+use Rattle.dl_words.proofs.Common.{◌≡◌, ◌∙◌, IsTrue, Err, Result, inl, inr, sym, ap, subst, map, List, [], ◌∷◌, fault_of, is_simple_and_free, Kinds, found_of, App, is_simple, matches_of, rows_of, command, Settings, UsageFault, Line, WordsFault, Explains, answer_in, Text, words_of}
 use Rattle.std.proofs.Common.{◌⊎◌}
 use Rattle.std.specs.String.{string_bytes}
 use Rattle.std.proofs.lemmas.Result.{IfErr-weaker, IfOk-weaker}
@@ -43,26 +43,24 @@ returns-in-Err-try_get_matches_from c =
     }
 
 -- the answer to what was found is the answer to the words
-found_answer : (words : List Text) (app : App) (found : _) → app ≡ command → fault_of app words ≡ []
-    → rows_of found ≡ matches_of app words → words_of words ≡ answer_in found
+found_answer : {P : Type 0} (words : List Text) (app : App) (found : _) → app ≡ command
+    → (IsTrue (is_simple_and_free app) → fault_of app words ≡ [])
+    → (IsTrue (is_simple app) → (rows_of found ≡ matches_of app words) × P) → words_of words ≡ answer_in found
 found_answer words app found e none rows =
-    let got = matched words (subst (λ (a : App). fault_of a words ≡ []) e none) in
-    given words got.0 got.1 found (rows ∙ ap (λ (a : App). matches_of a words) e)
+    let got = matched words (subst (λ (a : App). fault_of a words ≡ []) e
+    (none (ap is_simple_and_free e ∙ simple_command_is))) in
+    given words got.0 got.1 found ((rows (ap is_simple e ∙ simple_is)).0 ∙ ap (λ (a : App). matches_of a words) e)
 
 pub returns-in-Ok-try_get_matches_from-clause-settings : goal.returns-in-Ok-try_get_matches_from-clause-settings
 returns-in-Ok-try_get_matches_from-clause-settings c =
-    let app = c.in-Ok.ensures in
-    let same = found_answer (map string_bytes c.args.words.now) (app_of c.in-Ok.command)
-    (found_of c.in-Ok-try_get_matches_from.matches) app
-    (c.in-Ok-try_get_matches_from.ensures.kinds (ap is_simple_and_free app ∙ simple_command_is))
-    (c.in-Ok-try_get_matches_from.ensures.matches (ap is_simple app ∙ simple_is)).0 in
+    let found = c.in-Ok-try_get_matches_from in
+    let same = found_answer (map string_bytes c.args.words.now) (app_of c.in-Ok.command) (found_of found.matches)
+    c.in-Ok.ensures found.ensures.kinds found.ensures.matches in
     IfOk-weaker c.judge.result _ _ (λ s h. same ∙ h) c.judge.ensures.settings
 
 pub returns-in-Ok-try_get_matches_from-clause-fault : goal.returns-in-Ok-try_get_matches_from-clause-fault
 returns-in-Ok-try_get_matches_from-clause-fault c =
-    let app = c.in-Ok.ensures in
-    let same = found_answer (map string_bytes c.args.words.now) (app_of c.in-Ok.command)
-    (found_of c.in-Ok-try_get_matches_from.matches) app
-    (c.in-Ok-try_get_matches_from.ensures.kinds (ap is_simple_and_free app ∙ simple_command_is))
-    (c.in-Ok-try_get_matches_from.ensures.matches (ap is_simple app ∙ simple_is)).0 in
+    let found = c.in-Ok-try_get_matches_from in
+    let same = found_answer (map string_bytes c.args.words.now) (app_of c.in-Ok.command) (found_of found.matches)
+    c.in-Ok.ensures found.ensures.kinds found.ensures.matches in
     IfErr-weaker c.judge.result _ _ (λ e h. subst (λ a. Explains a e) (sym same) h) c.judge.ensures.fault

@@ -1,10 +1,10 @@
 -- The items above an amount are rising, of positive weights, and weigh no more.
 use Rattle.dl_plan.proofs.Common.{ℕ, ◌≡◌, ◌∙◌, ◌<◌, List, nat_lt, length, true, false, ◌==◌, sym, ap, subst, arith, IsStrictlyIncreasing, ◌over◌, Item, Sev, amounts_of, weight_sum, weight_at, probability, conditioned, shares}
-use Rattle.std.proofs.Common.{All}
+use Rattle.std.proofs.Common.{All, Bool}
 use Rattle.std.proofs.lemmas.List.Kept.{IsStrictlyIncreasing-filter}
 use Rattle.std.proofs.lemmas.List.Elements.{All-filter}
 use Rattle.dl_plan.proofs.Weights.{weight_sum_pos}
-use Rattle.dl_plan.proofs.Shares.{items_over, none_over, filter-amounts, probability-conditioned, weight_over-le}
+use Rattle.dl_plan.proofs.Shares.{items_over, none_over, filter-map, probability-conditioned, weight_over-le}
 use Rattle.dl_plan.proofs.Means.{severity_total}
 use Rattle.dl_plan.proofs.severity.Sev.exceeding.Goals as goal
 
@@ -31,31 +31,24 @@ returns-then-is_empty c =
     none_over c.args.attach c.args.self.now.items (ap (λ (xs : List Item). length xs) (sym same)
     ∙ sym c.in_ok-kept.kept.ok.0 ∙ is_zero c.in_ok-kept.kept.len c.if-is_empty.ensures)
 
-pub from_rising-requires-clause-rising : goal.from_rising-requires-clause-rising
-from_rising-requires-clause-rising c =
+pub from_rising-requires : goal.from_rising-requires
+from_rising-requires c =
     let same : c.in_ok-kept.kept.items ≡ items_over c.args.attach c.args.self.now.items = c.in_ok-kept.ensures
     ∙ ap (items_over c.args.attach) c.as_slice.ensures in
-    subst IsStrictlyIncreasing (sym (ap amounts_of same ∙ filter-amounts c.args.attach c.args.self.now.items))
-    (IsStrictlyIncreasing-filter (λ n. nat_lt c.args.attach n)
-    (amounts_of c.args.self.now.items) c.args.self.now.weighted.rising)
-
-pub from_rising-requires-clause-positive : goal.from_rising-requires-clause-positive
-from_rising-requires-clause-positive c =
-    let same : c.in_ok-kept.kept.items ≡ items_over c.args.attach c.args.self.now.items = c.in_ok-kept.ensures
-    ∙ ap (items_over c.args.attach) c.as_slice.ensures in
-    subst (λ xs. All (λ (i : Item). 0 < i.weight) xs) (sym same) (kept_positive c.args.self.now c.args.attach)
-
-pub from_rising-requires-clause-within : goal.from_rising-requires-clause-within
-from_rising-requires-clause-within c =
-    let same : c.in_ok-kept.kept.items ≡ items_over c.args.attach c.args.self.now.items = c.in_ok-kept.ensures
-    ∙ ap (items_over c.args.attach) c.as_slice.ensures in
-    omega (
-      arith,
-      ap weight_sum same,
-      weight_over-le c.args.attach c.args.self.now.items,
-      c.args.self.now.weighted.sum,
-      c.args.self.now.weighted.within,
-    )
+    let above : ℕ → Bool = λ n. nat_lt c.args.attach n in record {
+      some = omega (arith, c.in_ok-kept.kept.ok, not_zero c.in_ok-kept.kept.len c.if-is_empty.ensures);
+      rising = subst IsStrictlyIncreasing (filter-map above (λ (i : Item). i.amount) _ ∙ sym (ap amounts_of same))
+          (IsStrictlyIncreasing-filter above _ c.args.self.now.weighted.rising);
+      positive = subst (λ xs. All (λ (i : Item). 0 < i.weight) xs) (sym same)
+          (kept_positive c.args.self.now c.args.attach);
+      within = omega (
+        arith,
+        ap weight_sum same,
+        weight_over-le c.args.attach c.args.self.now.items,
+        c.args.self.now.weighted.sum,
+        c.args.self.now.weighted.within,
+      );
+    }
 
 pub returns : goal.returns
 returns c = λ y.

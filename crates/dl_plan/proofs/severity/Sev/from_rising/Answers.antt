@@ -1,14 +1,6 @@
 -- The greatest common divisor of the weights taken out.
-use Rattle.dl_plan.proofs.Weights.{common_pos, divided_is, divided_means}
+use Rattle.dl_plan.proofs.Weights.{divided_is, divided_means}
 use Rattle.dl_plan.proofs.severity.Sev.from_rising.Goals as goal
-
-pub nonzero_div-total : goal.nonzero_div-total
-nonzero_div-total c = rw (c.divisor_of_weights-common.ensures, c.deref.ensures.value)
-    (common_pos c.args.items.items c.requires.some c.requires.positive)
-
-pub divided-requires : goal.divided-requires
-divided-requires c = rw (c.divisor_of_weights-common.ensures, c.deref.ensures.value)
-    (common_pos c.args.items.items c.requires.some c.requires.positive)
 
 pub invariant_of-result : goal.invariant_of-result
 invariant_of-result c =
