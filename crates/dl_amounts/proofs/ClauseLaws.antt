@@ -1,12 +1,12 @@
 -- Layers that keep the rules make a clause where their shares are fine.
-use Rattle.dl_amounts.proofs.Common.{or_parts, false_from_ne_true, leb-true, ◌≡◌, ◌∙◌, ℕ, zero, suc, ◌*◌, ◌^◌, ◌<◌, ◌≤◌, ◌==◌, List, [], ◌∷◌, ◌++◌, length, map, take, get_or, Option, None, true, false, sym, ap, ap₂, subst, arith, append_assoc, mul-pos, inl, inr, Some, All, list_any, nat_tests, append-nil, get_or-map, length-map, length-take, All-map, list_any_at, Fraction, whole, ◌/ℚ◌, ◌≤ℚ◌, quotient_is, CedeLayer, IsFineTo30Bits, common_denominator, Overlap, IsClause, common_pos, den_divides, GridCeded, GridClause, in_turn, is_fine, is_above, share_of, shares_of, ceded_layer, clause_of, overlaps, share_exceeds, share_above_one_in, overlap_in, IsClauseLayered, else_first, else_second, none_each, not_at}
+use Rattle.dl_amounts.proofs.Common.{or_parts, false_from_ne_true, leb-true, ◌≡◌, ◌∙◌, ℕ, zero, suc, ◌*◌, ◌^◌, ◌<◌, ◌≤◌, List, [], ◌∷◌, ◌++◌, length, map, take, get_or, Option, None, true, false, sym, ap, ap₂, subst, arith, append_assoc, mul-pos, inl, inr, Some, All, list_any, append-nil, get_or-map, length-map, length-take, All-map, list_any_at, Fraction, whole, ◌/ℚ◌, ◌≤ℚ◌, quotient_is, CedeLayer, IsFineTo30Bits, common_denominator, Overlap, IsClause, common_pos, den_divides, GridCeded, GridClause, in_turn, is_fine, is_above, share_of, shares_of, ceded_layer, clause_of, overlaps, share_exceeds, share_above_one_in, overlap_in, IsClauseLayered, else_first, else_second, none_each, not_at}
 use Rattle.std.proofs.lemmas.Bool.{ltb-false}
 use Rattle.std.specs.List.{AllPairs}
 use Rattle.std.proofs.lemmas.List.{get_or-take}
 use Rattle.std.proofs.lemmas.Nat.Gcd.{le_of_dvd}
 use Rattle.dl_amounts.specs.declared.grid.GridShare.{GridShare}
 use Rattle.dl_read.specs.Lists.{is_zero}
-use Rattle.dl_read.proofs.ItemRanges.{not_above}
+use Rattle.dl_read.proofs.ItemRanges.{not_above, zero_above}
 use Rattle.std.specs.Prelude.{◌||◌}
 use Rattle.std.proofs.lemmas.Simd.{map-map}
 use Rattle.dl_exact.proofs.Over.{over_le}
@@ -32,10 +32,7 @@ one_too_fine xs i d h far = false_from_ne_true (is_fine xs)
 pub part_tests : (x y : Fraction) → (is_above x y || is_zero y) ≡ false → (x.num * y.den ≤ y.num * x.den) × (0 < y.num)
 part_tests x y h =
     let tests = or_parts (is_above x y) (is_zero y) h in
-    (ltb-false (y.num * x.den) (x.num * y.den) tests.0, some y.num tests.1)
-  where
-    some : (n : ℕ) → (n == 0) ≡ false → 0 < n
-    some n h = grind (arith, nat_tests, h)
+    (ltb-false (y.num * x.den) (x.num * y.den) tests.0, zero_above y.num tests.1)
 
 part_le : (x y : Fraction) → (is_above x y || is_zero y) ≡ false → x /ℚ y ≤ℚ whole 1
 part_le x y h =

@@ -30,7 +30,7 @@ pub use Rattle.dl_sev.specs.Weighed.{IsWeighing}
 pub use Rattle.dl_sev.specs.Weighing.{sum_of}
 pub use Rattle.dl_sev.specs.declared.weights.Weights.{Weights}
 pub use Rattle.dl_read.proofs.Firsts.{at_item, both_in, else_or, one_in, same_place}
-pub use Rattle.dl_read.proofs.Nothing.{else_first, else_second, none_each, not_at, not_then}
+pub use Rattle.dl_read.proofs.Nothing.{else_first, else_second, none_each, not_at}
 pub use Rattle.dl_read.specs.First.{at_if, each_of, within, ◌else◌}
 unfoldable pub use Rattle.dl_read.specs.First.{first_in, in_turn}
 pub use Rattle.dl_read.specs.Lists.{is_above, is_fine, is_not_one, is_one, is_whole, itself, prob_lists_of, probs_in_count}

@@ -1,5 +1,5 @@
 -- What a unit that keeps all rules on its severity gives.
-use Rattle.dl_amounts.proofs.Common.{leb-true, get_or, ◌≡◌, ◌^◌, ◌||◌, ◌&&◌, not, Bool, true, false, Option, Some, None, refl, sym, subst, All, list_any, IfSome, ReadList, GridClause, GridUnit, IsFineTo30Bits, IsWhole, common_denominator, Pairs, Means, pairs_of, kept, Sev, ceded_each, at_if, is_fine, clause_of, shares_of, is_off, prob_lists, severity_in_layer, ceded_pairs, mixture_shares, support, off_grid_cession, IsSevShared, else_first, not_at, not_then}
+use Rattle.dl_amounts.proofs.Common.{leb-true, get_or, ◌≡◌, ◌^◌, ◌||◌, ◌&&◌, not, Bool, true, false, Option, Some, None, refl, sym, subst, All, list_any, IfSome, ReadList, GridClause, GridUnit, IsFineTo30Bits, IsWhole, common_denominator, Pairs, Means, pairs_of, kept, Sev, ceded_each, at_if, is_fine, clause_of, shares_of, is_off, prob_lists, severity_in_layer, ceded_pairs, mixture_shares, support, off_grid_cession, IsSevShared, else_first, not_at, not-false}
 use Rattle.dl_amounts.specs.FineParts.{has_shares}
 use Rattle.dl_amounts.specs.Kept.{IsFineSev}
 use Rattle.dl_read.proofs.Nothing.{none_within}
@@ -27,11 +27,11 @@ module _ (u : GridUnit) (fine : IsFineSev u) where
   unit_shared = sev_shared u fine.layered.weighted.grid facts.0
 
   pub mixture_fine : IsFineTo30Bits (mixture_shares u.sev)
-  mixture_fine = leb-true (common_denominator (mixture_shares u.sev)) (2 ^ 30) (not_then _ facts.2)
+  mixture_fine = leb-true (common_denominator (mixture_shares u.sev)) (2 ^ 30) (not-false _ facts.2)
 
   module _ (c : GridClause) (is : u.occ ≡ Some c) where
     pub shares_fine : is_fine (shares_of c) ≡ true
-    shares_fine = subst (λ o. has_shares o ≡ true) is (not_then _ facts.1)
+    shares_fine = subst (λ o. has_shares o ≡ true) is (not-false _ facts.1)
 
     clause_fits : at_if (is_fine (shares_of c) && list_any (is_off (clause_of c)) (support (severity_in_layer u)))
         c.span ≡ None

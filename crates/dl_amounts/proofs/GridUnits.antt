@@ -1,5 +1,5 @@
 -- A unit in whole buckets, by its parts.
-use Rattle.dl_amounts.proofs.Common.{◌≡◌, ◌∙◌, List, [], ◌∷◌, ◌++◌, map, flat_map, false, Bool, Option, Some, None, refl, sym, ap, subst, append_assoc, arith, All, length-map, All-map, IfSome, Fraction, ReadList, ReadAtom, ◌else◌, first_in, within, each_of, itself, probs_in_count, prob_lists_of, is_not_one, else_first, else_second, none_each, not_at, GridAtom, GridSev, GridLayer, GridUnit, flaws_else, IsGridded, grid_atom, grid_severity, grid_layer, grid_clause, IsGridAtom, IsGridLayer, IsGridClause, IsGridUnit, own_lists, other_length, list_not_one, not_one, list_fails, layer_fails, clause_fails}
+use Rattle.dl_amounts.proofs.Common.{◌≡◌, ◌∙◌, List, [], ◌∷◌, ◌++◌, map, flat_map, false, Bool, Option, Some, None, refl, sym, ap, subst, append_assoc, arith, All, length-map, All-map, IfSome, Fraction, ReadList, ReadAtom, ◌else◌, first_in, within, each_of, itself, probs_in_count, prob_lists_of, is_not_one, else_first, else_second, none_each, not_at, GridAtom, GridLayer, GridUnit, flaws_else, IsGridded, grid_atom, grid_severity, grid_layer, grid_clause, IsGridAtom, IsGridLayer, IsGridClause, IsGridUnit, own_lists, other_length, list_not_one, not_one, list_fails, layer_fails, clause_fails}
 use Rattle.std.proofs.Common.{Result, Ok, Err}
 use Rattle.dl_read.specs.declared.tree.ReadLayer.{ReadLayer}
 use Rattle.dl_read.specs.declared.tree.ReadClause.{ReadClause}

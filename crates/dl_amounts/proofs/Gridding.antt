@@ -1,12 +1,11 @@
 -- The parts of a unit in whole buckets, and their flaws.
-use Rattle.dl_amounts.proofs.Common.{ℕ, ◌≡◌, ◌∙◌, ◌+◌, ◌*◌, ◌/◌, ◌%◌, ◌<◌, ◌≤◌, ◌||◌, List, [], ◌∷◌, ◌++◌, map, zip, take, length, get_or, nat_lt, not, Bool, true, false, Option, Some, None, refl, sym, ap, ap₂, subst, arith, inl, inr, cases_lt, lt-ltb, eq-eqb, eqb-true, map-append, take_more, take_all, Fraction, whole, ◌over◌, ◌<ℚ◌, over_lt, whole_num, Span, ReadList, ReadAtom, ReadCeded, ◌else◌, at_if, within, first_in, is_whole, is_above, one_in, else_first, else_second, not_at, not_then, GridAtom, GridCeded, GridLayer, flaws_else, IsClean, IsGridded, number_of, grid_atom, grid_severity, grid_layer, grid_ceded, grid_clause, list_fails, limit_fails, layer_fails, clause_fails}
+use Rattle.dl_amounts.proofs.Common.{ℕ, ◌≡◌, ◌∙◌, ◌+◌, ◌*◌, ◌/◌, ◌%◌, ◌<◌, ◌≤◌, ◌||◌, List, [], ◌∷◌, ◌++◌, map, zip, take, length, get_or, nat_lt, not, Bool, true, false, Option, Some, None, refl, sym, ap, ap₂, subst, arith, inl, inr, cases_lt, lt-ltb, eq-eqb, eqb-true, map-append, take_all, Fraction, whole, ◌<ℚ◌, over_lt, whole_num, Span, ReadList, ReadCeded, ◌else◌, at_if, within, first_in, is_whole, is_above, one_in, else_first, else_second, not_at, not-false, GridLayer, flaws_else, IsClean, IsGridded, number_of, grid_layer, grid_ceded, list_fails, limit_fails, layer_fails}
 use Rattle.std.proofs.Common.{min, nat_eq}
 use Rattle.std.proofs.lemmas.Bool.{ltb-true}
 use Rattle.dl_limits.specs.Limits.{most_amount}
 use Rattle.dl_exact.proofs.Over.{lt_over}
 use Rattle.dl_sev.specs.Buckets.{buckets}
 use Rattle.dl_read.specs.declared.tree.ReadLayer.{ReadLayer}
-use Rattle.dl_read.specs.declared.tree.ReadClause.{ReadClause}
 use Rattle.dl_read.proofs.Firsts.{first-append}
 use Rattle.dl_amounts.specs.declared.grid.GridShare.{GridShare}
 use Rattle.dl_amounts.specs.declared.flaws.Flaws.{Flaws}
@@ -14,9 +13,8 @@ use Rattle.dl_amounts.specs.declared.flaws.Gridded.{Gridded}
 use Rattle.dl_amounts.specs.Flaws.{flaws_of}
 use Rattle.dl_amounts.specs.Grid.{grid_share}
 use Rattle.dl_sev.proofs.Whole.{same, pos, divides_whole, whole_divides, quotient_whole, whole_lt}
-use Rattle.dl_read.specs.declared.tree.ReadSev.{ReadSev}
 use Rattle.dl_amounts.proofs.Positive.{zip-more}
-use Rattle.dl_amounts.proofs.Values.{agree}
+use Rattle.std.specs.Cmp.{both_ways}
 
 -- ---- an amount
 
@@ -43,7 +41,7 @@ not_far q x e near = elim (cases_lt most_amount q) [
 module _ (x bs : Fraction) (n d e m : ℕ) (h : whole 0 <ℚ bs) (pn : n ≡ x.num) (pd : d ≡ bs.den) (pe : e ≡ x.den)
     (pm : m ≡ bs.num) where
   off_grid_is : not (nat_eq (n * d % (e * m)) 0) ≡ not (is_whole (buckets bs x))
-  off_grid_is = ap not (agree _ _ (λ t. eq-eqb (buckets bs x).den 1 (divides_whole x bs n d e m h pn pd pe pm t))
+  off_grid_is = ap not (both_ways _ _ (λ t. eq-eqb (buckets bs x).den 1 (divides_whole x bs n d e m h pn pd pe pm t))
       (λ t. whole_divides x bs n d e m h pn pd pe pm (eqb-true (buckets bs x).den 1 t)))
 
   far : whole most_amount <ℚ buckets bs x → e * m * 1048576 < n * d
@@ -58,7 +56,7 @@ module _ (x bs : Fraction) (n d e m : ℕ) (h : whole 0 <ℚ bs) (pn : n ≡ x.n
       (over_lt most_amount 1 (n * d) (e * m) (omega arith) (pos x bs n d e m h pn pd pe pm) (omega (arith, more)))
 
   too_far_is : nat_lt (e * m * 1048576) (n * d) ≡ is_above (buckets bs x) (whole most_amount)
-  too_far_is = agree _ _ (λ t. yes_above (buckets bs x) (whole most_amount) (is_far (ltb-true _ _ t)))
+  too_far_is = both_ways _ _ (λ t. yes_above (buckets bs x) (whole most_amount) (is_far (ltb-true _ _ t)))
       (λ t. lt-ltb _ _ (far (above_yes (buckets bs x) (whole most_amount) t)))
 
   number_is : (q : ℕ) → q ≡ min (n * d / (e * m)) 1048576 → not (is_whole (buckets bs x)) ≡ false
@@ -66,7 +64,7 @@ module _ (x bs : Fraction) (n d e m : ℕ) (h : whole 0 <ℚ bs) (pn : n ≡ x.n
   number_is q is on_grid near =
       let k : ℕ = n * d / (e * m) in
       let value : buckets bs x ≡ whole k =
-      quotient_whole x bs n d e m h pn pd pe pm (eqb-true (buckets bs x).den 1 (not_then _ on_grid)) in
+      quotient_whole x bs n d e m h pn pd pe pm (eqb-true (buckets bs x).den 1 (not-false _ on_grid)) in
       is ∙ within_most k (not_far k (buckets bs x) value near)
       ∙ sym (ap (λ (y : Fraction). y.num) value ∙ whole_num k)
     where
@@ -148,44 +146,35 @@ module _ {X A : Type 0} (fails : (Fraction → Bool) → X → Option Span) (g :
     part = λ clean. none;
   }
 
-  pub more_gridded : (xs : List X) (x : X) (made new : List A) (one : Gridded A) (flaws all : Flaws)
+  pub more_gridded : (xs ys : List X) (x : X) (made new : List A) (one : Gridded A) (flaws all : Flaws)
+      → ys ≡ xs ++ x ∷ []
       → IsGridded (λ test. first_in (fails test) xs) (map g xs) (record { part = made; flaws = flaws })
       → IsGridded (λ test. fails test x) (g x) one → new ≡ made ++ one.part ∷ [] → all ≡ flaws_else flaws one.flaws
-      → IsGridded (λ test. first_in (fails test) (xs ++ x ∷ [])) (map g (xs ++ x ∷ []))
-      (record { part = new; flaws = all })
-  more_gridded xs x made new one flaws all before here pushed is =
+      → IsGridded (λ test. first_in (fails test) ys) (map g ys) (record { part = new; flaws = all })
+  more_gridded xs ys x made new one flaws all more before here pushed is =
       let ones : IsGridded (λ test. first_in (fails test) (x ∷ [])) (g x) one = record {
         flaws = here.flaws ∙ flaws_same (λ test. fails test x) (λ test. first_in (fails test) (x ∷ []))
             (λ test. one_in (fails test) x (fails test x) refl);
         part = here.part;
       } in
-      let both = both_gridded (λ ys y. ys ++ y ∷ []) (λ test. first_in (fails test) xs)
-      (λ test. first_in (fails test) (x ∷ [])) (λ test. first_in (fails test) (xs ++ x ∷ [])) (map g xs) (g x)
+      let both = both_gridded (λ zs y. zs ++ y ∷ []) (λ test. first_in (fails test) xs)
+      (λ test. first_in (fails test) (x ∷ [])) (λ test. first_in (fails test) ys) (map g xs) (g x)
       (record { part = made; flaws = flaws }) one all before ones (λ test. sym (first-append (fails test) xs
-      (x ∷ []))) is in
-      record { flaws = both.flaws; part = λ clean. pushed ∙ both.part clean ∙ sym (map-append g xs (x ∷ [])) }
+      (x ∷ [])) ∙ ap (first_in (fails test)) (sym more)) is in
+      record {
+        flaws = both.flaws;
+        part = λ clean. pushed ∙ both.part clean ∙ sym (map-append g xs (x ∷ [])) ∙ ap (map g) (sym more);
+      }
 
-  -- a loop over places in a list
-  pub next_gridded : (xs : List X) (i : ℕ) (x : X) (made new : List A) (one : Gridded A) (flaws all : Flaws)
-      → i < length xs → x ≡ get_or xs i x
-      → IsGridded (λ test. first_in (fails test) (take i xs)) (map g (take i xs))
-      (record { part = made; flaws = flaws })
-      → IsGridded (λ test. fails test x) (g x) one → new ≡ made ++ one.part ∷ [] → all ≡ flaws_else flaws one.flaws
-      → IsGridded (λ test. first_in (fails test) (take (i + 1) xs)) (map g (take (i + 1) xs))
-      (record { part = new; flaws = all })
-  next_gridded xs i x made new one flaws all lt at before here pushed is =
-      subst (λ ys. IsGridded (λ test. first_in (fails test) ys) (map g ys) (record { part = new; flaws = all }))
-      (sym (take_more xs i x lt ∙ ap (λ y. take i xs ++ y ∷ []) (sym at)))
-      (more_gridded (take i xs) x made new one flaws all before here pushed is)
-
-  pub all_gridded : (xs zs : List X) (made list : List A) (flaws : Flaws) → zs ≡ xs → list ≡ made
+  -- what is made of the parts of a list
+  pub all_gridded : {B : Type 0} (make : List A → B) (xs zs : List X) (made : List A) (list : B) (flaws : Flaws)
+      → zs ≡ xs → list ≡ make made
       → IsGridded (λ test. first_in (fails test) zs) (map g zs) (record { part = made; flaws = flaws })
-      → IsGridded (λ test. first_in (fails test) xs) (map g xs) (record { part = list; flaws = flaws })
-  all_gridded xs zs made list flaws same is h =
-      subst (λ ys. IsGridded (λ test. first_in (fails test) xs) (map g xs) (record { part = ys; flaws = flaws }))
-      (sym is)
-      (subst (λ ys. IsGridded (λ test. first_in (fails test) ys) (map g ys)
-      (record { part = made; flaws = flaws })) same h)
+      → IsGridded (λ test. first_in (fails test) xs) (make (map g xs)) (record { part = list; flaws = flaws })
+  all_gridded make xs zs made list flaws same is h = record {
+    flaws = h.flaws ∙ ap (λ ys. flaws_of (λ test. first_in (fails test) ys)) same;
+    part = λ clean. is ∙ ap make (h.part clean ∙ ap (map g) same);
+  }
 
 -- ---- the values of a list, each with its place
 
@@ -205,11 +194,10 @@ pub next_amount : (bs : Fraction) (vs : List Fraction) (ps : List Span) (i : ℕ
     → IsGridded (λ test. first_in (value_fails bs test) (zip (take (i + 1) vs) (take (i + 1) ps)))
     (map (value_number bs) (zip (take (i + 1) vs) (take (i + 1) ps))) (record { part = new; flaws = all })
 next_amount bs vs ps i x d made new one flaws all lt same at before here pushed is =
-    subst (λ ys. IsGridded (λ test. first_in (value_fails bs test) ys) (map (value_number bs) ys)
-    (record { part = new; flaws = all }))
-    (sym (zip-more vs ps i x d lt same ∙ ap (λ y. zip (take i vs) (take i ps) ++ (y, get_or ps i d) ∷ []) (sym at)))
-    (more_gridded (value_fails bs) (value_number bs) (zip (take i vs) (take i ps)) (x, get_or ps i d) made new one flaws
-    all before here pushed is)
+    more_gridded (value_fails bs) (value_number bs) (zip (take i vs) (take i ps))
+    (zip (take (i + 1) vs) (take (i + 1) ps)) (x, get_or ps i d) made new one flaws all
+    (zip-more vs ps i x d lt same ∙ ap (λ y. zip (take i vs) (take i ps) ++ (y, get_or ps i d) ∷ []) (sym at))
+    before here pushed is
 
 pub all_amounts : (bs : Fraction) (l : ReadList) (vs : List Fraction) (ps : List Span) (i : ℕ) (made list : List ℕ)
     (flaws : Flaws) → vs ≡ l.values → ps ≡ l.places → length l.places ≡ length l.values → length vs ≤ i → list ≡ made
@@ -221,8 +209,8 @@ all_amounts bs l vs ps i made list flaws values places same le is h =
     let whole_list : zip (take i vs) (take i ps) ≡ zip l.values l.places =
     ap₂ zip (take_all i vs le ∙ values)
     (take_all i ps (omega (arith, le, same, ap length values, ap length places)) ∙ places) in
-    let told = all_gridded (value_fails bs) (value_number bs) (zip l.values l.places) (zip (take i vs) (take i ps)) made
-    list flaws whole_list is h in
+    let told = all_gridded (value_fails bs) (value_number bs) (λ ns. ns) (zip l.values l.places)
+    (zip (take i vs) (take i ps)) made list flaws whole_list is h in
     record { flaws = told.flaws; part = λ clean. told.part clean ∙ numbers l.values l.places (sym same) }
   where
     numbers : (xs : List Fraction) (qs : List Span) → length xs ≡ length qs
@@ -243,33 +231,3 @@ ceded_gridded bs c share layer is told = record {
   part = λ clean. ap₂ (λ (s : GridShare) (l : GridLayer). record { share = s; layer = l; span = c.span }) is
       (told.part clean);
 }
-
--- ---- a clause, and a severity
-
-pub clause_gridded : (bs : Fraction) (c : ReadClause) (zs : List ReadCeded) (layers : Gridded (List GridCeded))
-    → zs ≡ c.layers
-    → IsGridded (λ test. first_in (λ (x : ReadCeded). layer_fails test bs x.layer) zs) (map (grid_ceded bs) zs) layers
-    → IsGridded (λ test. clause_fails test bs c) (grid_clause bs c)
-    (record { part = record { net = c.net; layers = layers.part; span = c.span }; flaws = layers.flaws })
-unfolding clause_fails
-clause_gridded bs c zs layers same told =
-    let all = all_gridded (λ test (x : ReadCeded). layer_fails test bs x.layer) (grid_ceded bs) c.layers zs layers.part
-    layers.part layers.flaws same refl told in
-    record {
-      flaws = all.flaws;
-      part = λ clean. ap (λ (ls : List GridCeded). record { net = c.net; layers = ls; span = c.span }) (all.part clean);
-    }
-
-pub severity_gridded : (bs : Fraction) (s : ReadSev) (zs : List ReadAtom) (atoms : Gridded (List GridAtom))
-    → zs ≡ s.atoms
-    → IsGridded (λ test. first_in (λ (a : ReadAtom). list_fails test bs a.values) zs) (map (grid_atom bs) zs) atoms
-    → IsGridded (λ test. first_in (λ (a : ReadAtom). list_fails test bs a.values) s.atoms) (grid_severity bs s)
-    (record { part = record { atoms = atoms.part; weights = s.weights; bang = s.bang }; flaws = atoms.flaws })
-severity_gridded bs s zs atoms same told =
-    let all = all_gridded (λ test (a : ReadAtom). list_fails test bs a.values) (grid_atom bs) s.atoms zs atoms.part
-    atoms.part atoms.flaws same refl told in
-    record {
-      flaws = all.flaws;
-      part = λ clean. ap (λ (xs : List GridAtom). record { atoms = xs; weights = s.weights; bang = s.bang })
-          (all.part clean);
-    }

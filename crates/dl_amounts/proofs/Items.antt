@@ -37,17 +37,20 @@ found (p ∷ ps) x Q all h = elim (zero_or_pos p.1) [
       ]
 ]
 
--- ---- the weight of an item is that of its amount
+-- a weight stands at no other amount
+pub none_earlier : (a x w : ℕ) → x < a → cond (a == x) w 0 ≡ 0
+none_earlier a x w h = grind arith
 
+pub none_behind : (a x w : ℕ) → a < x → cond (a == x) w 0 ≡ 0
+none_behind a x w h = grind arith
+
+-- ---- the weight of an item is that of its amount
 pub none_later : (xs : List Item) (x : ℕ) → All (λ (i : Item). x < i.amount) xs → weight_at xs x ≡ 0
 none_later [] x h = refl
 none_later (i ∷ xs) x h =
     sum_by-cons (λ (j : Item). cond (j.amount == x) j.weight 0) i xs
-    ∙ ap₂ (λ a b. a + b) (not_at_all i.amount x i.weight (All-head (λ (j : Item). x < j.amount) i xs h))
+    ∙ ap₂ (λ a b. a + b) (none_earlier i.amount x i.weight (All-head (λ (j : Item). x < j.amount) i xs h))
     (none_later xs x (All-tail (λ (j : Item). x < j.amount) i xs h))
-  where
-    not_at_all : (a x w : ℕ) → x < a → cond (a == x) w 0 ≡ 0
-    not_at_all a x w p = grind arith
 
 -- rising amounts, by recursion
 abbrev pub Rising : List Item → Type 0
@@ -84,7 +87,7 @@ own_weights (x ∷ xs) h =
     (sum_by-cons (λ (j : Item). cond (j.amount == x.amount) j.weight 0) x xs
     ∙ ap₂ (λ a b. a + b) (itself x.amount x.weight) (none_later xs x.amount h.0) ∙ plus_none x.weight)
     (λ k d b. sum_by-cons (λ (j : Item). cond (j.amount == (get_or xs k d).amount) j.weight 0) x xs
-    ∙ ap₂ (λ a c. a + c) (not_itself x.amount (get_or xs k d).amount x.weight (h.0 k d b)) (own_weights xs h.1 k d b)
+    ∙ ap₂ (λ a c. a + c) (none_behind x.amount (get_or xs k d).amount x.weight (h.0 k d b)) (own_weights xs h.1 k d b)
     ∙ none_plus (get_or xs k d).weight)
   where
     none_plus : (w : ℕ) → 0 + w ≡ w
@@ -92,9 +95,6 @@ own_weights (x ∷ xs) h =
 
     itself : (a w : ℕ) → cond (a == a) w 0 ≡ w
     itself a w = grind arith
-
-    not_itself : (a b w : ℕ) → a < b → cond (a == b) w 0 ≡ 0
-    not_itself a b w p = grind arith
 
     plus_none : (w : ℕ) → w + 0 ≡ w
     plus_none w = omega arith

@@ -2,6 +2,9 @@
 use Rattle.dl_amounts.proofs.Common.{ℕ, suc, ◌≡◌, ◌∙◌, ◌*◌, ◌/◌, ◌<◌, ◌≤◌, ◌^◌, ◌⊎◌, List, [], ◌∷◌, map, filter, zip, length, get_or, nat_lt, Option, Some, None, Bool, true, false, cond, refl, sym, ap, subst, arith, inl, inr, All, lt-ltb, le-ltb, length-map, All-nil, All-cons, All-head, All-tail, All-weaker, All-append, All-map, Fraction, ◌*ℚ◌, IsWhole, Item, Sev, Pairs, conditioned, pairs_of, shares, Means, Clause, layer, kept, IsClause, whole_num, scaled, with_amounts, layered, ceded_each, GridAtom, GridSev, GridLayer, atom_probs, atom_pairs, mixed, mixed_pairs, weights_of, is_conditioned, layer_pairs, support, IsGridAtom, IsGridSev}
 use Rattle.std.proofs.Common.{length-append}
 use Rattle.std.proofs.Math.Nat.{div-le_of_le-mul}
+use Rattle.std.proofs.lemmas.List.Elements.{All-filter}
+use Rattle.std.proofs.lemmas.List.Sums.{count_by-le-length, length-filter}
+use Rattle.std.proofs.lemmas.Slice.Zip.{length-zip}
 use Rattle.dl_plan.specs.Parts.{kept_parts, parts_in_bucket}
 use Rattle.dl_plan.proofs.Clauses.{layer_le, bucket_pos, kept_whole, kept_only}
 use Rattle.dl_plan.proofs.Apart.{kept_le}
@@ -24,13 +27,8 @@ zip_near b (x ∷ xs) (y ∷ ys) h =
 atom_near : (a : GridAtom) → IsGridAtom a → Near (2 ^ 20) (atom_pairs a)
 atom_near a grid = zip_near (2 ^ 20) a.amounts (atom_probs a) grid.near
 
-zip_length : (xs : List ℕ) (ys : List Fraction) → length (zip xs ys) ≤ length xs
-zip_length [] ys = omega arith
-zip_length (x ∷ xs) [] = omega arith
-zip_length (x ∷ xs) (y ∷ ys) = omega (arith, zip_length xs ys)
-
 atom_few : (a : GridAtom) → IsGridAtom a → length (atom_pairs a) ≤ 1024
-atom_few a grid = omega (arith, zip_length a.amounts (atom_probs a), grid.few)
+atom_few a grid = omega (arith, length-zip a.amounts (atom_probs a), grid.few)
 
 -- ---- the mixture
 
@@ -78,26 +76,12 @@ module _ (s : GridSev) (grid : IsGridSev s) where
 
 -- ---- the layer
 
-filter_near : (b : ℕ) (p : ℕ × Fraction → Bool) (ps : Pairs) → Near b ps → Near b (filter p ps)
-filter_near b p [] h = All-nil (λ pair. pair.0 ≤ b)
-filter_near b p (x ∷ ps) h = split (p x) (filter p ps) (All-head (λ pair. pair.0 ≤ b) x ps h)
-    (filter_near b p ps (All-tail (λ pair. pair.0 ≤ b) x ps h))
-  where
-    split : (t : Bool) (qs : Pairs) → x.0 ≤ b → Near b qs → Near b (cond t (x ∷ qs) qs)
-    split true qs one all = All-cons (λ pair. pair.0 ≤ b) x qs one all
-    split false qs one all = all
-
 filter_few : {X : Type 0} (p : X → Bool) (xs : List X) → length (filter p xs) ≤ length xs
-filter_few p [] = omega arith
-filter_few p (x ∷ xs) = split (p x) (filter p xs) (filter_few p xs)
-  where
-    split : (t : Bool) (ys : List _) → length ys ≤ length xs → length (cond t (x ∷ ys) ys) ≤ suc (length xs)
-    split true ys h = omega (arith, h)
-    split false ys h = omega (arith, h)
+filter_few p xs = omega (arith, length-filter p xs, count_by-le-length p xs)
 
 conditioned_near : (b a : ℕ) (ps : Pairs) → Near b ps → Near b (conditioned a ps)
 conditioned_near b a ps h = All-map (λ pair. pair.0 ≤ b) _ (filter (λ pair. nat_lt a pair.0) ps)
-    (filter_near b (λ pair. nat_lt a pair.0) ps h)
+    (All-filter (λ pair. nat_lt a pair.0) (λ pair. pair.0 ≤ b) ps h)
 
 conditioned_few : (a : ℕ) (ps : Pairs) → length (conditioned a ps) ≤ length ps
 conditioned_few a ps = subst (λ n. n ≤ length ps) (sym (length-map (filter (λ pair. nat_lt a pair.0) ps) _))

@@ -1,5 +1,6 @@
 -- Whether the clauses of a unit map whole amounts to whole amounts.
 use Rattle.dl_amounts.proofs.Common.{le-leb, ℕ, ◌+◌, ◌≡◌, ◌∙◌, ◌<◌, ◌^◌, ◌&&◌, ◌↔◌, ◌++◌, map, take, drop, length, get_or, Bool, true, false, List, [], ◌∷◌, Option, Some, None, refl, sym, ap, ap₂, subst, arith, list_any, MatchOption, length-map, length-take, Fraction, whole, GridCeded, GridClause, GridUnit, IsFineTo30Bits, IsWhole, common_denominator, Clause, kept, IsClause, whole_num, at_if, within, is_fine, ceded_layer, clause_of, shares_of, share_of, is_off, is_off_multiples, severity_in_layer, final_severity, ceded_pairs, support, common_amount_of, off_grid_aggregate, off_grid_cession, Span, not_at}
+use Rattle.std.proofs.lemmas.Bool.{true_from_ne_false}
 use Rattle.std.proofs.Common.{IsTrue}
 use Rattle.std.proofs.lemmas.List.{drop_more, get_or_at, get_or_default}
 use Rattle.dl_plan.specs.Clause.{layer_shares}
@@ -140,8 +141,4 @@ module _ (u : GridUnit) (c : GridClause) (is : u.agr ≡ Some c) (clause : Claus
   pub aggregate_off : (fits : Bool) → (IsTrue fits ↔ FitsStep clause step) → fits ≡ false
       → Some c.span ≡ off_grid_aggregate u
   aggregate_off fits means h = sym (aggregate_is ∙ ap (λ b. at_if b c.span)
-      (must (is_off_multiples clause step) (λ none. cc (means.1 (fits_tried clause step told.1 none)))))
-    where
-      must : (b : Bool) → (b ≡ false → ⊥) → b ≡ true
-      must true h = refl
-      must false h = absurd (h refl)
+      (true_from_ne_false (is_off_multiples clause step) (λ none. cc (means.1 (fits_tried clause step told.1 none)))))

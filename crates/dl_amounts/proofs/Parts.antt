@@ -1,5 +1,5 @@
 -- What a unit in whole buckets keeps of its lists.
-use Rattle.dl_amounts.proofs.Common.{◌≡◌, ℕ, ◌<◌, ◌==◌, length, not, Option, Some, None, arith, inl, inr, IfSome, cases_lt, eqb-true, ◌over◌, ReadList, at_if, within, not_at, not_then, GridAtom, GridUnit, probs_among, atom_probs, weights_in, IsGridAtom, IsSevWeighted}
+use Rattle.dl_amounts.proofs.Common.{◌≡◌, ℕ, ◌<◌, ◌==◌, length, not, Option, Some, None, arith, inl, inr, IfSome, cases_lt, eqb-true, ◌over◌, ReadList, at_if, within, not_at, not-false, GridAtom, GridUnit, probs_among, atom_probs, weights_in, IsGridAtom, IsSevWeighted}
 use Rattle.std.specs.Option.{IsSome}
 use Rattle.std.proofs.lemmas.List.{length-replicate}
 use Rattle.dl_amounts.specs.Rules.{weights_differ}
@@ -12,7 +12,7 @@ one_each None n some several e = elim (cases_lt 1 n) [
   | inl h ↦ absurd (cc (several h))
   | inr h ↦ omega (arith, some, h)
 ]
-one_each (Some l) n some several e = eqb-true (length l.values) n (not_then _ (not_at _ l.span e))
+one_each (Some l) n some several e = eqb-true (length l.values) n (not-false _ (not_at _ l.span e))
 
 pub sev_weighted : (u : GridUnit) → IsWeighted u → IsSevWeighted u.sev
 unfolding weights_differ

@@ -1,6 +1,6 @@
 -- Past its greatest edge a clause's map is a straight line: what that makes of the multiples of a step.
 use Rattle.dl_amounts.proofs.Common.{◌↔◌, length, get_or, ℕ, zero, suc, ◌≡◌, ◌∙◌, ◌+◌, ◌*◌, ◌/◌, ◌<◌, ◌≤◌, ◌==◌, ◌⊎◌, not, max, Bool, true, false, List, [], ◌∷◌, Option, Some, None, sym, ap, subst, arith, inl, inr, All, MatchOption, cases_lt, eqb-true, ne_eqb, not-false, list_any_none, All-nil, All-cons, Fraction, whole, CedeLayer, IsWhole, Clause, kept, IsClause, whole_den, is_whole, is_off, is_off_multiples}
-use Rattle.std.proofs.Common.{is_some, mul-le-mul_right, ◌-◌, fold}
+use Rattle.std.proofs.Common.{is_some, mul-le-mul_right, fold}
 use Rattle.std.specs.List.{range_with_len}
 use Rattle.std.proofs.lemmas.Bool.{not_from_false}
 use Rattle.std.proofs.Math.Nat.{eq-zero-or-pos, le-max_left, le-max_right}

@@ -1,7 +1,8 @@
 -- The amounts of positive probability, step by step.
-use Rattle.dl_amounts.proofs.Common.{◌≡◌, ◌∙◌, ℕ, ◌+◌, ◌<◌, ◌≤◌, ◌&&◌, List, [], ◌∷◌, ◌++◌, map, filter, zip, length, take, get_or, nat_lt, not, Bool, true, false, Option, Some, None, cond, refl, sym, ap, ap₂, subst, arith, inl, inr, append_assoc, All, list_any, cases_lt, lt-ltb, le-ltb, map-append, map_more, take_more, take_all, length-map, append-nil, list_any_none, All-nil, All-cons, All-head, All-tail, All-weaker, Fraction, whole, ◌*ℚ◌, ◌/ℚ◌, ◌≤ℚ◌, ◌<ℚ◌, zero_or_pos, times_zero, zero_times, lt_of_lt_of_le, le_plus, plus_comm, num_pos, whole_num, Pairs, mass, conditioned, layer, scaled, with_amounts, layered, GridSev, GridLayer, GridUnit, at_if, within, not_at, mixed, mixed_pairs, is_conditioned, layer_pairs, support}
+use Rattle.dl_amounts.proofs.Common.{◌≡◌, ◌∙◌, ℕ, ◌+◌, ◌<◌, ◌≤◌, ◌&&◌, List, [], ◌∷◌, ◌++◌, map, filter, zip, length, take, get_or, nat_lt, not, Bool, true, false, Option, Some, None, cond, refl, sym, ap, ap₂, subst, arith, inl, inr, append_assoc, All, list_any, lt-ltb, le-ltb, map-append, map_more, take_more, take_all, length-map, append-nil, list_any_none, All-nil, All-cons, All-head, All-tail, All-weaker, Fraction, whole, ◌*ℚ◌, ◌/ℚ◌, ◌≤ℚ◌, ◌<ℚ◌, zero_or_pos, times_zero, zero_times, lt_of_lt_of_le, le_plus, plus_comm, num_pos, whole_num, Pairs, mass, conditioned, layer, scaled, with_amounts, layered, GridSev, GridLayer, GridUnit, at_if, within, not_at, mixed, mixed_pairs, is_conditioned, layer_pairs, support}
 use Rattle.std.proofs.lemmas.List.{length-take-le}
 use Rattle.std.proofs.lemmas.List.Elements.{filter-append}
+use Rattle.std.proofs.lemmas.Simd.{map-map}
 use Rattle.dl_exact.specs.Sum.{sum_over}
 use Rattle.dl_exact.proofs.Laws.{times_pos, div_pos, le_trans}
 use Rattle.dl_amounts.specs.Rules.{none_above}
@@ -71,41 +72,40 @@ support-scaled w (p ∷ ps) =
     ∙ kept_if (is_positive w) (is_positive p.1) p.0 (support ps) (support (scaled w ps)) (support-scaled w ps)
     ∙ ap (λ xs. cond (is_positive w) xs []) (sym (support_step p ps))
 
-mapped_if : (f : ℕ → ℕ) (b : Bool) (x : ℕ) (xs ys : List ℕ) → ys ≡ map f xs
-    → cond b (f x ∷ ys) ys ≡ map f (cond b (x ∷ xs) xs)
-mapped_if f true x xs ys e = ap (λ zs. f x ∷ zs) e
-mapped_if f false x xs ys e = e
+-- a test of what is mapped is one of what it is mapped to
+filter-mapped : {X Y : Type 0} (p : Y → Bool) (f : X → Y) (xs : List X)
+    → filter p (map f xs) ≡ map f (filter (λ x. p (f x)) xs)
+filter-mapped p f [] = refl
+filter-mapped p f (x ∷ xs) =
+    ap (λ ys. cond (p (f x)) (f x ∷ ys) ys) (filter-mapped p f xs) ∙ split (p (f x)) (filter (λ y. p (f y)) xs)
+  where
+    split : (b : Bool) (ys : List _) → cond b (f x ∷ map f ys) (map f ys) ≡ map f (cond b (x ∷ ys) ys)
+    split true ys = refl
+    split false ys = refl
+
+filter-turned : {X : Type 0} (p q : X → Bool) (xs : List X) → filter p (filter q xs) ≡ filter q (filter p xs)
+filter-turned p q [] = refl
+filter-turned p q (x ∷ xs) = split (p x) (q x) refl refl (filter-turned p q xs)
+  where
+    split : (a b : Bool) → p x ≡ a → q x ≡ b → filter p (filter q xs) ≡ filter q (filter p xs)
+        → filter p (cond (q x) (x ∷ filter q xs) (filter q xs)) ≡ filter q (cond (p x) (x ∷ filter p xs) (filter p xs))
+    split true true e f same = rw (e, f, e) (ap (λ ys. x ∷ ys) same)
+    split true false e f same = rw (e, f) same
+    split false true e f same = rw (e, f, e) same
+    split false false e f same = rw (e, f) same
 
 pub support-mapped : (f : ℕ → ℕ) (ps : Pairs) → support (with_amounts f ps) ≡ map f (support ps)
-support-mapped f [] = refl
-support-mapped f (p ∷ ps) =
-    support_step (f p.0, p.1) (with_amounts f ps) ∙ mapped_if f (is_positive p.1) p.0 (support ps)
-    (support (with_amounts f ps)) (support-mapped f ps) ∙ ap (map f) (sym (support_step p ps))
-
-filtered : (b : Bool) (test : ℕ → Bool) (x : ℕ) (xs ys : List ℕ) → ys ≡ filter test xs → test x ≡ true
-    → cond b (x ∷ ys) ys ≡ filter test (cond b (x ∷ xs) xs)
-filtered true test x xs ys e passes = rw passes (ap (λ zs. x ∷ zs) e)
-filtered false test x xs ys e passes = e
-
-left_out : (b : Bool) (test : ℕ → Bool) (x : ℕ) (xs ys : List ℕ) → ys ≡ filter test xs → test x ≡ false
-    → ys ≡ filter test (cond b (x ∷ xs) xs)
-left_out true test x xs ys e fails = rw fails e
-left_out false test x xs ys e fails = e
+support-mapped f ps =
+    let kept : Pairs = filter (λ pair. is_positive pair.1) ps in
+    ap (map (λ pair. pair.0))
+    (filter-mapped (λ pair. is_positive pair.1) (λ (pair : ℕ × Fraction). (f pair.0, pair.1)) ps)
+    ∙ map-map (λ pair. pair.0) (λ (pair : ℕ × Fraction). (f pair.0, pair.1)) kept
+    ∙ sym (map-map f (λ pair. pair.0) kept)
 
 support-above : (a : ℕ) (ps : Pairs) → support (above a ps) ≡ filter (nat_lt a) (support ps)
-support-above a [] = refl
-support-above a (p ∷ ps) = elim (cases_lt a p.0) [
-  | inl h ↦
-      rw (lt-ltb a p.0 h)
-      (support_step p (above a ps) ∙ filtered (is_positive p.1) (nat_lt a) p.0 (support ps) (support (above a ps))
-      (support-above a ps) (lt-ltb a p.0 h)
-      ∙ ap (filter (nat_lt a)) (sym (support_step p ps)))
-  | inr h ↦
-      rw (le-ltb a p.0 h)
-      (left_out (is_positive p.1) (nat_lt a) p.0 (support ps) (support (above a ps)) (support-above a ps)
-      (le-ltb a p.0 h)
-      ∙ ap (filter (nat_lt a)) (sym (support_step p ps)))
-]
+support-above a ps =
+    ap (map (λ pair. pair.0)) (filter-turned (λ pair. is_positive pair.1) (λ pair. nat_lt a pair.0) ps)
+    ∙ sym (filter-mapped (nat_lt a) (λ pair. pair.0) (filter (λ pair. is_positive pair.1) ps))
 
 -- each probability is at most that of all
 mass_bounds : (qs : Pairs) → All (λ q. q.1 ≤ℚ mass qs) qs

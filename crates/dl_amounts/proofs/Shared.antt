@@ -1,5 +1,5 @@
 -- Fine probabilities that sum to 1.
-use Rattle.dl_amounts.proofs.Common.{not-false, leb-true, eqb-true, ◌≡◌, ◌∙◌, ℕ, suc, ◌+◌, ◌<◌, ◌≤◌, ◌^◌, List, [], ◌∷◌, ◌++◌, map, flat_map, length, get_or, not, ◌&&◌, Bool, true, false, Option, Some, None, refl, sym, ap, subst, arith, All, list_any, sum_by, ◌∣◌, All-nil, All-cons, All-head, All-tail, sum_by-cons, Fraction, whole, ◌over◌, over_self, over_same, IsFineTo30Bits, common_denominator, common_pos, sum_of, ReadList, GridAtom, GridSev, GridUnit, each_of, itself, probs_in_count, is_fine, is_one, is_not_one, probs_among, weights_in, own_lists, prob_lists, AreProbabilities, IsSevShared, IsGridSev, IsGridUnit}
+use Rattle.dl_amounts.proofs.Common.{not-false, leb-true, eqb-true, ◌≡◌, ◌∙◌, ℕ, ◌<◌, ◌≤◌, ◌^◌, List, [], ◌∷◌, ◌++◌, map, flat_map, length, get_or, not, ◌&&◌, Bool, true, false, Option, Some, None, refl, sym, ap, subst, arith, All, list_any, sum_by, ◌∣◌, All-nil, All-cons, All-head, All-map, All-tail, sum_by-cons, Fraction, whole, ◌over◌, over_self, over_same, IsFineTo30Bits, common_denominator, common_pos, sum_of, ReadList, GridAtom, GridSev, GridUnit, each_of, itself, probs_in_count, is_fine, is_one, is_not_one, probs_among, weights_in, own_lists, prob_lists, AreProbabilities, IsSevShared, IsGridSev, IsGridUnit}
 use Rattle.std.proofs.lemmas.Nat.Gcd.{dvd_of_mod-eq-zero, le_of_dvd}
 use Rattle.std.proofs.lemmas.Simd.{splat_is_map}
 use Rattle.dl_exact.specs.Gcd.{gcd}
@@ -42,16 +42,9 @@ fine_with xs ys all fine = omega (
 share_divides : (n : ℕ) → 0 < n → (1 over n).den ∣ n
 share_divides n h = subst (λ d. d ∣ n) (sym (den_of_over 1 n h)) (part_divides n (gcd 1 n) (gcd_is 1 n).1)
 
-all_equal : {A : Type 0} (x : Fraction) (c : ℕ) (xs : List A) → x.den ∣ c → All (λ y. y.den ∣ c) (map (λ _. x) xs)
-all_equal x c [] h = All-nil (λ y. y.den ∣ c)
-all_equal x c (z ∷ xs) h = All-cons (λ y. y.den ∣ c) x (map (λ _. x) xs) h (all_equal x c xs h)
-
-next : (n : ℕ) → 1 + n ≡ suc n
-next n = omega arith
-
 ones : {A : Type 0} (xs : List A) → sum_by (λ _. 1) xs ≡ length xs
 ones [] = refl
-ones (x ∷ xs) = sum_by-cons (λ _. 1) x xs ∙ ap (λ n. 1 + n) (ones xs) ∙ next (length xs)
+ones (x ∷ xs) = omega (arith, sum_by-cons (λ _. 1) x xs, ones xs)
 
 -- equal shares of 1, one for each item
 pub equal_probabilities : {A : Type 0} (xs : List A) → 0 < length xs → length xs ≤ 1024
@@ -63,7 +56,7 @@ equal_probabilities xs some few =
         arith,
         few,
         le_of_dvd some (common_divides (map (λ _. 1 over n) xs) n
-            (all_equal (1 over n) n xs (share_divides n some))),
+            (All-map (λ y. y.den ∣ n) (λ _. 1 over n) xs (λ k d h. share_divides n some))),
       );
       one = sum_over_map (λ _. 1 over n) (λ x. x) xs ∙ sum_over_common (λ _. 1) n xs some ∙ ap (λ m. m over n) (ones xs)
           ∙ over_same n n 1 1 some (omega arith) (omega arith);

@@ -1,5 +1,5 @@
 -- What the rules on amounts leave: small numbers of buckets.
-use Rattle.dl_amounts.proofs.Common.{or_parts, eqb-true, ℕ, ◌≡◌, ◌∙◌, ◌*◌, ◌≤◌, ◌==◌, List, [], ◌∷◌, map, zip, length, nat_lt, not, Bool, false, Option, Some, None, sym, arith, All, IfSome, length-map, All-nil, All-cons, All-map, Fraction, whole, whole_num, whole_den, Span, ReadList, ReadAtom, ReadCeded, at_if, first_in, within, is_whole, is_above, else_first, else_second, none_each, not_at, not_then, number_of, grid_atom, grid_layer, grid_ceded, grid_clause, IsGridAtom, IsGridLayer, IsGridClause, other_length, list_fails, limit_fails, layer_fails, clause_fails}
+use Rattle.dl_amounts.proofs.Common.{or_parts, eqb-true, ℕ, ◌≡◌, ◌∙◌, ◌*◌, ◌≤◌, ◌==◌, List, [], ◌∷◌, map, zip, length, nat_lt, not, Bool, false, Option, Some, None, sym, arith, All, IfSome, length-map, All-nil, All-cons, All-map, Fraction, whole, whole_num, whole_den, Span, ReadList, ReadAtom, ReadCeded, at_if, first_in, within, is_whole, is_above, else_first, else_second, none_each, not_at, not-false, number_of, grid_atom, grid_layer, grid_ceded, grid_clause, IsGridAtom, IsGridLayer, IsGridClause, other_length, list_fails, limit_fails, layer_fails, clause_fails}
 use Rattle.dl_limits.specs.Limits.{most_amount}
 use Rattle.dl_sev.specs.Buckets.{buckets}
 use Rattle.dl_read.specs.declared.tree.ReadLayer.{ReadLayer}
@@ -63,7 +63,7 @@ atom_small bs a read lengths on_grid near = record {
         → IfSome o (λ probs. length probs.values ≡ length (map (number_of bs) a.values.values))
     as_many None e = tt
     as_many (Some l) e =
-        sym (each ∙ eqb-true (length a.values.values) (length l.values) (not_then _ (not_at _ l.span e)))
+        sym (each ∙ eqb-true (length a.values.values) (length l.values) (not-false _ (not_at _ l.span e)))
 
 -- ---- a layer
 

@@ -1,17 +1,12 @@
 -- Items in any order give a severity: equal amounts are added up, rising.
 use Rattle.dl_amounts.proofs.Common.{ℕ, zero, suc, ◌≡◌, ◌∙◌, ◌+◌, ◌/◌, ◌<◌, ◌≤◌, ◌^◌, ◌==◌, List, [], ◌∷◌, map, length, cond, refl, sym, ap, ap₂, subst, arith, inl, inr, All, cases_lt, All-nil, sum_by-cons, ◌over◌, Item, Sev, amounts_of, weight_sum, weight_at}
+use Rattle.dl_amounts.proofs.Items.{none_earlier, none_behind}
 use Rattle.std.specs.List.Sorted.{IsStrictlyIncreasing}
 use Rattle.dl_plan.specs.Weighted.{common_weight, divided_by}
 use Rattle.dl_plan.specs.Severity.{probability_of}
 use Rattle.dl_plan.proofs.Weights.{divided_is, divided_means}
 use Rattle.dl_sev.specs.Steps.{with_weighed}
-use Rattle.dl_sev.proofs.Gathering.{rising-with, positive-with, below-with, weight_sum-with, weight_at-with}
-
-earlier : (a x w : ℕ) → x < a → cond (a == x) w 0 ≡ 0
-earlier a x w h = grind arith
-
-later : (a x w : ℕ) → a < x → cond (a == x) w 0 ≡ 0
-later a x w h = grind arith
+use Rattle.dl_sev.proofs.Gathering.{rising-with, positive-with, below-with, weight_sum-with, weight_at-with, some_items}
 
 here : (a x w : ℕ) → a ≡ x → cond (a == x) w 0 ≡ w
 here a x w h = grind arith
@@ -61,13 +56,13 @@ summed_before i items (suc n) h =
       arith,
       summed_before i items n (omega (arith, h)),
       weight_at-cons i items n,
-      earlier i.amount n i.weight (omega (arith, h)),
+      none_earlier i.amount n i.weight (omega (arith, h)),
     )
 
 summed_cons : (i : Item) (items : List Item) (n : ℕ) → i.amount < n → summed (i ∷ items) n ≡ i.weight + summed items n
 summed_cons i items zero h = absurd (omega (arith, h))
 summed_cons i items (suc n) h = elim (cases_lt i.amount n) [
-  | inl lt ↦ omega (arith, summed_cons i items n lt, weight_at-cons i items n, later i.amount n i.weight lt)
+  | inl lt ↦ omega (arith, summed_cons i items n lt, weight_at-cons i items n, none_behind i.amount n i.weight lt)
   | inr le ↦ omega (
     arith,
     summed_before i items n le,
@@ -97,7 +92,7 @@ none_beyond (i ∷ items) x h =
     omega (
       arith,
       weight_at-cons i items x,
-      later i.amount x i.weight (omega (arith, h)),
+      none_behind i.amount x i.weight (omega (arith, h)),
       none_beyond items x (omega (arith, h)),
     )
 
@@ -108,7 +103,7 @@ table_past items (suc n) x h =
       arith,
       weight_at-with (table items n) (at_amount items n) x,
       table_past items n x (omega (arith, h)),
-      later n x (weight_at items n) (omega (arith, h)),
+      none_behind n x (weight_at items n) (omega (arith, h)),
     )
 
 table_at : (items : List Item) (n x : ℕ) → x < n → weight_at (table items n) x ≡ weight_at items x
@@ -118,7 +113,7 @@ table_at items (suc n) x h = elim (cases_lt x n) [
     arith,
     weight_at-with (table items n) (at_amount items n) x,
     table_at items n x lt,
-    earlier n x (weight_at items n) lt,
+    none_earlier n x (weight_at items n) lt,
   )
   | inr le ↦
       let same : n ≡ x = omega (arith, le, h) in
@@ -145,11 +140,7 @@ module _ (items : List Item) (some : 0 < weight_sum items) (within : weight_sum 
   ]
 
   made_some : 0 < length made
-  made_some = not_empty made (subst (λ n. 0 < n) (sym made_sum) some)
-    where
-      not_empty : (xs : List Item) → 0 < weight_sum xs → 0 < length xs
-      not_empty [] h = absurd (omega (arith, h))
-      not_empty (x ∷ xs) h = omega arith
+  made_some = some_items made (subst (λ n. 0 < n) (sym made_sum) some)
 
   -- a severity of these weights
   pub gathered : (sev : Sev) × ((x : ℕ) → probability_of sev x ≡ weight_at items x over weight_sum items)

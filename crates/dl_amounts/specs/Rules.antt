@@ -2,7 +2,7 @@
 -- first place where each is broken, if any. A unit is asked a rule only where it keeps the rules
 -- before it, so that each value that a rule needs is there. The rules up to 8 are asked of what was
 -- read, those from 9 of the unit in whole buckets.
-use Rattle.std.specs.Prelude.{ℕ, ◌^◌, Bool, true, false, not, ◌&&◌, ◌||◌, ◌==◌, nat_lt, List, [], length, fold, zip, Option, Some, None}
+use Rattle.std.specs.Prelude.{ℕ, Bool, true, false, not, ◌&&◌, ◌||◌, ◌==◌, nat_lt, List, [], length, fold, zip, Option, Some, None}
 use Rattle.std.specs.List.{list_any}
 use Rattle.dl_limits.specs.Limits.{most_amount}
 use Rattle.dl_exact.specs.Gcd.{gcd}

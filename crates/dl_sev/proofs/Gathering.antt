@@ -140,3 +140,8 @@ module _ (items : List Item) (i : ℕ) (made : List Item) (last : Item) (h : len
 
   pub weights-all : (x : ℕ) → weight_at (with_weighed made last) x ≡ weight_at items x
   weights-all x = weight_at-with made last x ∙ so_far.weights x ∙ ap (λ xs. weight_at xs x) (take_all i items h)
+
+-- what weighs something has an item
+pub some_items : (xs : List Item) → 0 < weight_sum xs → 0 < length xs
+some_items [] h = absurd (omega (arith, h))
+some_items (x ∷ xs) h = omega arith

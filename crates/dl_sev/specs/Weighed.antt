@@ -1,5 +1,5 @@
 -- What the whole weights of a list of probabilities are.
-use Rattle.std.specs.Prelude.{◌≡◌, ◌≤◌, ◌^◌, List, map, sum}
+use Rattle.std.specs.Prelude.{◌≡◌, ◌≤◌, List, map, sum}
 use Rattle.dl_limits.specs.Limits.{most_parts}
 use Rattle.dl_exact.specs.Fraction.{Fraction, ◌over◌}
 use Rattle.dl_plan.specs.Fine.{common_denominator}

@@ -1,6 +1,6 @@
 -- The names that the proofs of this crate cite most, passed on from one place. Declares nothing.
 pub use Rattle.std.proofs.Common.{Bool, List, None, Option, Some, [], ap, ap₂, arith, cond, false, get_or, if◌then◌else◌, inl, inr, length, map, mul-pos, nat_lt, not, refl, subst, suc, sym, take, true, zero, zip, ℕ, ◌&&◌, ◌*◌, ◌++◌, ◌+◌, ◌<◌, ◌==◌, ◌||◌, ◌∙◌, ◌∷◌, ◌≡◌, ◌≤◌}
-pub use Rattle.std.proofs.lemmas.Bool.{ltb-false}
+pub use Rattle.std.proofs.lemmas.Bool.{ltb-false, not-false}
 pub use Rattle.std.proofs.lemmas.Bool.Decides.{eqb_tells}
 pub use Rattle.std.proofs.lemmas.List.{length-map}
 pub use Rattle.std.proofs.lemmas.List.Elements.{All-cons, All-head, All-map, All-nil, All-tail}
@@ -33,7 +33,7 @@ pub use Rattle.dl_plan.specs.declared.item.Item.{Item}
 pub use Rattle.dl_plan.specs.declared.plan.Plan.{Plan}
 pub use Rattle.dl_plan.specs.declared.settings.Settings.{Settings}
 pub use Rattle.dl_plan.specs.declared.severity.Sev.{Sev}
-pub use Rattle.dl_read.proofs.Nothing.{else_first, else_second, not_at, not_then}
+pub use Rattle.dl_read.proofs.Nothing.{else_first, else_second, not_at}
 pub use Rattle.dl_read.specs.First.{at_if, ◌else◌}
 unfoldable pub use Rattle.dl_read.specs.First.{in_turn}
 pub use Rattle.dl_read.specs.Lists.{is_admitted, is_whole, probs_in_count, probs_of}

@@ -1,5 +1,7 @@
 -- Whole numbers, quotients and shapes.
 use Rattle.dl_types.proofs.Common.{ℕ, ◌≡◌, ◌∙◌, ◌*◌, ◌<◌, ◌≤◌, ◌==◌, nat_lt, Bool, true, false, not, inl, inr, refl, sym, ap, ap₂, subst, arith, mul-pos, ◌∣◌, ltb-false, eqb_tells, gcd, Fraction, whole, ◌over◌, ◌*ℚ◌, ◌/ℚ◌, ◌<ℚ◌, lowest_swap, lowest_times, lowest_product, lowest_num, lowest_den, product_is, quotient_is, whole_num, whole_den, is_whole, shape_of, passes}
+use Rattle.std.specs.Cmp.{both_ways}
+use Rattle.dl_read.proofs.ItemRanges.{zero_above}
 use Rattle.std.proofs.Common.{◌/◌, ◌%◌, nat_eq}
 use Rattle.std.specs.Prelude.{◌||◌, ◌⊎◌}
 use Rattle.std.proofs.Math.Nat.{eq-one_of_dvd-one, eq-zero-or-pos, dvd-mul_right}
@@ -32,13 +34,8 @@ few_is most t x is h = ltb-false most t (passes_whole most t x is ∙ h)
 module _ (x y : Fraction) (n d e m : ℕ) (above : whole 0 <ℚ y) (pn : n ≡ x.num) (pd : d ≡ y.den) (pe : e ≡ x.den)
     (pm : m ≡ y.num) where
   pub no_multiple : not (nat_eq (n * d % (e * m)) 0) ≡ not (is_whole (x /ℚ y))
-  no_multiple = ap not (agree _ _ (λ t. eq-eqb (x /ℚ y).den 1 (divides_whole x y n d e m above pn pd pe pm t))
+  no_multiple = ap not (both_ways _ _ (λ t. eq-eqb (x /ℚ y).den 1 (divides_whole x y n d e m above pn pd pe pm t))
       (λ t. whole_divides x y n d e m above pn pd pe pm (eqb-true (x /ℚ y).den 1 t)))
-    where
-      agree : (p q : Bool) → (p ≡ true → q ≡ true) → (q ≡ true → p ≡ true) → p ≡ q
-      agree true q f g = sym (f refl)
-      agree false true f g = g refl
-      agree false false f g = refl
 
   pub times_whole : is_whole (x /ℚ y) ≡ true → whole (n * d / (e * m)) ≡ x /ℚ y
   times_whole h = sym (quotient_whole x y n d e m above pn pd pe pm (eqb-true (x /ℚ y).den 1 h))
@@ -113,9 +110,6 @@ no_shape c = elim (eq-zero-or-pos c.num) [
 
     above_test : (n : ℕ) → 0 < n → (n == 0) ≡ false
     above_test n h = grind (arith, nat_tests, h)
-
-pub zero_above : (n : ℕ) → (n == 0) ≡ false → 0 < n
-zero_above n h = grind (arith, nat_tests, h)
 
 -- the square of d is the shape, where it is whole
 pub shape_whole : (c : Fraction) (d : ℕ) → is_zero c ≡ false → is_whole (shape_of c) ≡ true → d ≡ c.den

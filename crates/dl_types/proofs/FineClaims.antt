@@ -1,5 +1,7 @@
 -- What the rule on fractions says of the parts of a unit.
-use Rattle.dl_types.proofs.Common.{◌≡◌, ◌∙◌, ◌||◌, ◌&&◌, Bool, true, false, not, Option, Some, None, refl, sym, ap, ap₂, list_any, Fraction, ReadList, at_if, probs_in_count, not_at, not_then, GridUnit, own_lists, final_severity, has_severity, has_shares, fractions_too_fine, claims_above_zero, too_fine, exposed_too_fine}
+use Rattle.dl_types.proofs.Common.{◌≡◌, ◌∙◌, ◌||◌, ◌&&◌, Bool, true, false, not, Option, Some, None, refl, sym, ap, ap₂, list_any, Fraction, ReadList, at_if, probs_in_count, not_at, not-false, GridUnit, own_lists, final_severity, has_severity, has_shares, fractions_too_fine, claims_above_zero, too_fine, exposed_too_fine}
+use Rattle.std.proofs.lemmas.Bool.{or_parts}
+use Rattle.std.proofs.Math.Bool.{or-true}
 use Rattle.std.proofs.lemmas.List.Folds.{list_any-append}
 use Rattle.dl_read.specs.Lists.{is_fine}
 use Rattle.dl_amounts.specs.Severity.{prob_lists, mixture_shares}
@@ -32,11 +34,7 @@ module _ (u : GridUnit) where
       regroup false false false false m = refl
 
   pub coarse_severity : has_severity u.sev ≡ false → fractions_too_fine u ≡ true
-  coarse_severity h = fractions_are ∙ ap (λ b. others || not b) h ∙ last others
-    where
-      last : (b : Bool) → (b || true) ≡ true
-      last true = refl
-      last false = refl
+  coarse_severity h = fractions_are ∙ ap (λ b. others || not b) h ∙ or-true others
 
   pub coarse_parts : others ≡ true → fractions_too_fine u ≡ true
   coarse_parts h = fractions_are ∙ ap (λ b. b || not (has_severity u.sev)) h
@@ -60,10 +58,10 @@ module _ (u : GridUnit) where
     fine_lists = parts.0
 
     pub occ_shares : has_shares u.occ ≡ true
-    occ_shares = not_then _ parts.1
+    occ_shares = not-false _ parts.1
 
     pub agr_shares : has_shares u.agr ≡ true
-    agr_shares = not_then _ parts.2
+    agr_shares = not-false _ parts.2
 
   -- the place of the rule
   module _ (n : Option Fraction) where
@@ -76,11 +74,7 @@ module _ (u : GridUnit) where
 
     pub fine_left : too_fine u n ≡ None → (fractions_too_fine u ≡ false) × (exposed ≡ false)
     unfolding too_fine
-    fine_left e = neither _ _ (not_at _ u.name e)
-      where
-        neither : (a b : Bool) → (a || b) ≡ false → (a ≡ false) × (b ≡ false)
-        neither true b h = absurd (cc)
-        neither false b h = (refl, h)
+    fine_left e = or_parts _ _ (not_at _ u.name e)
 
     pub fine_place : (r : Bool) → fractions_too_fine u ≡ false → r ≡ exposed → at_if r u.name ≡ too_fine u n
     unfolding too_fine

@@ -1,5 +1,6 @@
 -- What the rules on a count leave of it.
-use Rattle.dl_types.proofs.Common.{◌≡◌, ◌||◌, ◌&&◌, Bool, true, false, not, if◌then◌else◌, [], Option, Some, None, refl, All, IfSome, is_some, All-head, Fraction, pos_num, HasPartsOf48Bits, ReadList, ReadFreq, Fixed, Poisson, Bernoulli, Binomial, Gamma, ReadCount, Exposed, Listed, probs_of, probs_in_count, not_at, not_then, AreProbabilities, IsWholeFreq, IsWholeCount, IsCountKept, exposed_too_fine, has_too_many_claims}
+use Rattle.dl_types.proofs.Common.{◌≡◌, ◌||◌, ◌&&◌, Bool, true, false, not, if◌then◌else◌, [], Option, Some, None, refl, All, IfSome, is_some, All-head, Fraction, pos_num, HasPartsOf48Bits, ReadList, ReadFreq, Fixed, Poisson, Bernoulli, Binomial, Gamma, ReadCount, Exposed, Listed, probs_of, probs_in_count, not_at, not-false, AreProbabilities, IsWholeFreq, IsWholeCount, IsCountKept, exposed_too_fine, has_too_many_claims}
+use Rattle.std.proofs.lemmas.Bool.{or_parts}
 use Rattle.dl_read.specs.declared.tree.ReadExposure.{ReadExposure}
 use Rattle.dl_read.specs.First.{each_of}
 use Rattle.dl_read.specs.Kept.{IsListRead, IsCountRead}
@@ -9,7 +10,7 @@ use Rattle.dl_amounts.proofs.Shared.{equal_probabilities}
 use Rattle.dl_types.specs.Exposures.{is_unbounded}
 use Rattle.dl_types.specs.Kept.{IsSmallFreq}
 use Rattle.dl_types.specs.Rules.{exposure_span, count_not_whole, count_above_one, trials_not_whole, shape_not_whole}
-use Rattle.dl_types.proofs.ExposedCounts.{zero_above}
+use Rattle.dl_read.proofs.ItemRanges.{zero_above}
 
 -- ---- tests
 
@@ -17,10 +18,6 @@ none_of_three : (a b d : Bool) → (a || b || d) ≡ false → (a ≡ false) × 
 none_of_three true b d h = absurd (cc)
 none_of_three false true d h = absurd (cc)
 none_of_three false false d h = (refl, refl, h)
-
-neither : (a b : Bool) → (a || b) ≡ false → (a ≡ false) × (b ≡ false)
-neither true b h = absurd (cc)
-neither false b h = (refl, h)
 
 -- a number that is there is the one that it may be, which passes the test
 pub given : (b : Bool) (x n : Fraction) → (if b then Some x else None) ≡ Some n → (n ≡ x) × (b ≡ true)
@@ -38,15 +35,15 @@ pub record AreWhole (k : ReadCount) (n : Option Fraction) : Type 0 where
 
 whole_freq : (e : ReadExposure) (f : ReadFreq) (n : Fraction) → AreWhole (Exposed e f) (Some n) → IsWholeFreq f n
 unfolding count_not_whole count_above_one trials_not_whole shape_not_whole
-whole_freq e (Fixed span) n are = not_then _ (not_at _ (exposure_span e) are.whole)
+whole_freq e (Fixed span) n are = not-false _ (not_at _ (exposure_span e) are.whole)
 whole_freq e (Poisson span) n are = tt
 whole_freq e (Bernoulli span) n are = not_at _ (exposure_span e) are.within
 whole_freq e (Binomial p span) n are =
     let parts = none_of_three _ _ _ (not_at _ span are.trials) in
-    record { above = pos_num p (zero_above p.num parts.0); within = parts.1; whole = not_then _ parts.2 }
+    record { above = pos_num p (zero_above p.num parts.0); within = parts.1; whole = not-false _ parts.2 }
 whole_freq e (Gamma c span) n are =
-    let parts = neither _ _ (not_at _ span are.shape) in
-    record { above = parts.0; whole = not_then _ parts.1 }
+    let parts = or_parts _ _ (not_at _ span are.shape) in
+    record { above = parts.0; whole = not-false _ parts.1 }
 
 -- ---- what has to be there
 
@@ -57,7 +54,7 @@ pub number_there : (e : ReadExposure) (f : ReadFreq) (n above : Option Fraction)
 unfolding exposed_too_fine
 number_there e f n above fine =
     let parts = none_of_three _ _ _ fine in
-    (not_then _ parts.1, parts.2)
+    (not-false _ parts.1, parts.2)
 
 pub whole_count : (k : ReadCount) (n above : Option Fraction) → AreWhole k n → exposed_too_fine k n above ≡ false
     → IsWholeCount k n
@@ -84,7 +81,7 @@ small_freq e (Fixed span) n above h = h
 small_freq e (Poisson span) n above h = tt
 small_freq e (Bernoulli span) n above h = tt
 small_freq e (Binomial p span) n above h = h
-small_freq e (Gamma c span) n above h = (neither _ _ h).1
+small_freq e (Gamma c span) n above h = (or_parts _ _ h).1
 
 count_shares : (counts : ReadList) → IsListRead counts → (o : Option ReadList)
     → All (λ (l : ReadList). AreProbabilities l.values) (each_of itself o) → AreProbabilities (probs_of counts o)

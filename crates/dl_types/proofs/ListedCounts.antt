@@ -1,5 +1,6 @@
 -- Listed counts: what the rules leave of them, and what their table is.
-use Rattle.dl_types.proofs.Common.{◌≡◌, ◌∙◌, ℕ, ◌*◌, ◌≤◌, ◌==◌, true, false, not, nat_lt, List, [], ◌∷◌, zip, map, length, get_or, Option, Some, None, sym, ap, ap₂, arith, All, All-nil, All-cons, All-head, All-tail, All-map, length-map, sum_by-cons, most_count, Fraction, whole, ◌over◌, Item, Sev, HasPartsOf48Bits, Means, whole_num, whole_den, ReadList, probs_of, is_whole, not_at, not_then, pairs_of_counts, passes, never, items_in}
+use Rattle.dl_types.proofs.Common.{◌≡◌, ◌∙◌, ℕ, ◌*◌, ◌≤◌, ◌==◌, false, not, nat_lt, List, [], ◌∷◌, zip, map, length, get_or, Option, Some, None, sym, ap, ap₂, arith, All, All-nil, All-cons, All-head, All-tail, All-map, length-map, sum_by-cons, most_count, Fraction, whole, ◌over◌, Item, Sev, HasPartsOf48Bits, Means, whole_num, whole_den, ReadList, probs_of, is_whole, not_at, not-false, pairs_of_counts, passes, never, items_in}
+use Rattle.std.proofs.lemmas.Bool.{eqb-true}
 use Rattle.std.proofs.Math.Nat.{mul-le-mul_right}
 use Rattle.dl_plan.specs.Weighted.{weight_sum, weighted_sum}
 use Rattle.dl_exact.proofs.Parts.{over_num_le as num_of_over-le, over_den_le as den_of_over-le}
@@ -37,10 +38,8 @@ pub same_length : (values : ReadList) (probs : Option ReadList) → within (othe
     → length (probs_of values probs) ≡ length values.values
 unfolding other_length
 same_length values None e = length-map values.values (λ _. 1 over length values.values)
-same_length values (Some l) e = sym (equal (length values.values) (length l.values) (not_then _ (not_at _ l.span e)))
-  where
-    equal : (m n : ℕ) → (m == n) ≡ true → m ≡ n
-    equal m n h = grind arith
+same_length values (Some l) e = sym (eqb-true (length values.values) (length l.values)
+    (not-false _ (not_at _ l.span e)))
 
 all_zip : (Q : ℕ → Type 0) (xs : List ℕ) (ps : List Fraction) → All Q xs → All (λ pair. Q pair.0) (zip xs ps)
 all_zip Q [] ps h = All-nil (λ pair. Q pair.0)

@@ -1,5 +1,5 @@
 -- The claim count of a plan that is made of a count that breaks no rule.
-use Rattle.dl_types.proofs.Common.{ℕ, ◌≡◌, ◌∙◌, ◌<◌, ◌&&◌, ◌||◌, nat_lt, Bool, true, false, if◌then◌else◌, List, map, Option, Some, None, refl, sym, ap, ap₂, subst, arith, is_some, IfSome, length-map, admitted_bound, most_claims, most_shape, Fraction, whole, ◌*ℚ◌, ◌/ℚ◌, ◌≤ℚ◌, div_times, Sev, HasPartsOf48Bits, Pairs, Means, ReadFreq, Fixed, Poisson, Bernoulli, Binomial, Gamma, ReadCount, Exposed, Listed, probs_of, is_admitted, not_then, GridUnit, claims_of, claims_above_zero, shape_of, IsFreqKept, IsCountKept, IsCountMade, freq_with, pairs_of_counts, has_too_many_claims, passes}
+use Rattle.dl_types.proofs.Common.{ℕ, ◌≡◌, ◌∙◌, ◌<◌, ◌&&◌, ◌||◌, nat_lt, Bool, true, false, if◌then◌else◌, List, map, Option, Some, None, refl, sym, ap, ap₂, subst, arith, is_some, IfSome, length-map, admitted_bound, most_claims, most_shape, Fraction, whole, ◌*ℚ◌, ◌/ℚ◌, ◌≤ℚ◌, div_times, Sev, HasPartsOf48Bits, Pairs, Means, ReadFreq, Fixed, Poisson, Bernoulli, Binomial, Gamma, ReadCount, Exposed, Listed, probs_of, is_admitted, not-false, GridUnit, claims_of, claims_above_zero, shape_of, IsFreqKept, IsCountKept, IsCountMade, freq_with, pairs_of_counts, has_too_many_claims, passes}
 use Rattle.dl_limits.specs.Limits.{most_expected}
 use Rattle.dl_exact.specs.Fraction.{◌-ℚ◌}
 use Rattle.dl_plan.specs.declared.plan.Freq.{Freq}
@@ -149,14 +149,14 @@ module _ (pairs : Pairs) (sev : Sev) (means : Means sev pairs) where
   made_thinned (Exposed e (Fixed span)) (Some n) freq are made unbounded = absurd (subst IsUnbounded made unbounded)
   made_thinned (Exposed e (Poisson span)) (Some n) freq are made unbounded =
       small_above pairs sev means n (expected_of_plan freq) (ap expected_of_plan made) (is_admitted (thinned pairs n))
-      refl (not_then _ (number_there e (Poisson span) (Some n) (claims_above_zero pairs (Some n)) are.fine).1) are.few
+      refl (not-false _ (number_there e (Poisson span) (Some n) (claims_above_zero pairs (Some n)) are.fine).1) are.few
   made_thinned (Exposed e (Bernoulli span)) (Some n) freq are made unbounded =
       absurd (subst IsUnbounded made unbounded)
   made_thinned (Exposed e (Binomial p span)) (Some n) freq are made unbounded =
       absurd (subst IsUnbounded made unbounded)
   made_thinned (Exposed e (Gamma c span)) (Some n) freq are made unbounded =
       small_above pairs sev means n (expected_of_plan freq) (ap expected_of_plan made) (is_admitted (thinned pairs n))
-      refl (not_then _ (number_there e (Gamma c span) (Some n) (claims_above_zero pairs (Some n)) are.fine).1)
+      refl (not-false _ (number_there e (Gamma c span) (Some n) (claims_above_zero pairs (Some n)) are.fine).1)
       (first _ _ are.few)
   made_thinned (Listed counts probs) n freq are made unbounded =
       absurd (subst IsUnbounded made.table.2 unbounded)

@@ -1,10 +1,11 @@
 -- The units of a plan, one after another.
-use Rattle.dl_types.proofs.Common.{◌≡◌, ◌∙◌, ℕ, zero, suc, ◌+◌, ◌<◌, ◌≤◌, List, [], ◌∷◌, ◌++◌, take, length, get_or, Bool, true, false, Option, Some, None, refl, sym, ap, subst, arith, bytes_eq, All, Ok, Err, CheckFault, Typing, OutOfMemory, AnswersUnit, AnswersUnits, All-nil, All-cons, All-head, All-tail, most_units, Fraction, whole, ◌<ℚ◌, Settings, IsValidUnit, UnitAst, ◌else◌, in_turn, Span, names_of, cells_asked, fault_of_lists, first_fault_of, first_fault, breaks, duplicate_name, too_many_units, IsSet, Program, IsWellFormed, Plan, else_first, not_at, never}
+use Rattle.dl_types.proofs.Common.{◌≡◌, ◌∙◌, ℕ, zero, suc, ◌+◌, ◌<◌, ◌≤◌, List, [], ◌∷◌, ◌++◌, take, length, get_or, Option, Some, None, refl, sym, ap, subst, arith, bytes_eq, All, Ok, Err, CheckFault, Typing, OutOfMemory, AnswersUnit, AnswersUnits, All-nil, All-cons, All-head, All-tail, most_units, Fraction, whole, ◌<ℚ◌, Settings, IsValidUnit, UnitAst, ◌else◌, in_turn, Span, names_of, cells_asked, fault_of_lists, first_fault_of, first_fault, breaks, duplicate_name, too_many_units, IsSet, Program, IsWellFormed, Plan, else_first, not_at, never}
+use Rattle.std.proofs.lemmas.Bool.{both_ways}
 use Rattle.std.proofs.Common.{◌≢◌}
 use Rattle.std.specs.List.{AllZip, AllPairs}
 use Rattle.std.proofs.lemmas.List.{map-append, take_more, take_all}
 use Rattle.std.proofs.lemmas.List.Quantifiers.{all_pairs_push}
-use Rattle.std.proofs.lemmas.Slice.Zip.{all_zipped_more}
+use Rattle.std.proofs.lemmas.Slice.Zip.{all_zipped_more, AllZip-long}
 use Rattle.std.proofs.lemmas.Slice.Eq.{bytes_eq-Decides}
 use Rattle.std.specs.Prelude.{slice_get}
 use Rattle.dl_types.specs.Answer.{IsCheckOf}
@@ -46,11 +47,7 @@ unfolding duplicate_name
 other_names before u e k d h same =
     let found = (bytes_eq-Decides u.name.text (get_or before k d).name.text).1 (sym same) in
     let never_found = never (λ (v : UnitAst). bytes_eq u.name.text v.name.text) before (not_at _ u.name.span e) k d h in
-    true_not_false _ found never_found
-  where
-    true_not_false : (b : Bool) → b ≡ true → b ≡ false → ⊥
-    true_not_false true e f = absurd (cc)
-    true_not_false false e f = absurd (cc)
+    both_ways _ never_found found
 
 no_duplicate : (settings : Settings) (before : List UnitAst) (u : UnitAst) → first_fault_of settings before u ≡ None
     → duplicate_name before u ≡ None
@@ -137,7 +134,7 @@ module _ (program : Program) (settings : Settings) where
   unfolding first_fault
   plan_of_units plan bs cells set formed few none told =
       let as_many : length plan.units ≡ length program.units =
-      pair_length (IsUnitOf settings.bs) program.units plan.units told.1 in (
+      AllZip-long (IsUnitOf settings.bs) program.units plan.units told.1 in (
         ap (λ p. breaks most_units rules.TooManyUnits p else in_turn (first_fault_of settings) [] program.units) none ∙
             told.0,
         record { bucket = bs; cells = cells; units = told.1 },
@@ -150,10 +147,3 @@ module _ (program : Program) (settings : Settings) where
           units = subst (λ n. All (IsValidUnit n) plan.units) (sym cells) told.2;
         },
       )
-    where
-      pair_length : {A B : Type 0} (P : A → B → Type 0) (xs : List A) (ys : List B) → AllZip P xs ys
-          → length ys ≡ length xs
-      pair_length P [] [] h = refl
-      pair_length P [] (y ∷ ys) h = absurd h
-      pair_length P (x ∷ xs) [] h = absurd h
-      pair_length P (x ∷ xs) (y ∷ ys) h = ap suc (pair_length P xs ys h.1)

@@ -1,5 +1,5 @@
 -- One atom more.
-use Rattle.dl_amounts.proofs.Common.{◌∙◌, sym, ReadAtom, grid_atom, list_fails}
+use Rattle.dl_amounts.proofs.Common.{◌∙◌, refl, sym, ReadAtom, grid_atom, list_fails}
 use Rattle.std.proofs.Common.{rules, map-id}
 use Rattle.std.proofs.lemmas.Iterator.Adapters.{YieldsList-from_vec}
 use Rattle.std.proofs.lemmas.Iterator.Consumers.{YieldsList-end}
@@ -14,8 +14,8 @@ atoms-init c =
 
 pub atoms-preserved : goal.atoms-preserved
 atoms-preserved c =
-    more_gridded (λ test (a : ReadAtom). list_fails test c.args.bs a.values) (grid_atom c.args.bs) c.atoms.yielded
-    c.in-Some.atom c.atoms.made.items c.push.new.self.items c.in_ok-one.one c.atoms.flaws c.or-flaws.result
+    more_gridded (λ test (a : ReadAtom). list_fails test c.args.bs a.values) (grid_atom c.args.bs) c.atoms.yielded _
+    c.in-Some.atom c.atoms.made.items c.push.new.self.items c.in_ok-one.one c.atoms.flaws c.or-flaws.result refl
     c.atoms.invariant c.in_ok-one.ensures c.in_ok-push.ensures.items c.or-flaws.ensures
 
 pub returns : goal.returns
@@ -24,6 +24,6 @@ returns c =
     (search rules) (search rules)) c.atoms.yielded c.atoms.atom-iterator c.atoms.yielded_by c.next.result
     c.next.new.self
     c.in-None.is c.next.ensures.steps in
-    all_gridded (λ test (a : ReadAtom). list_fails test c.args.bs a.values) (grid_atom c.args.bs) c.args.atoms.items
-    c.atoms.yielded c.atoms.made.items c.from_vec.result c.atoms.flaws (sym (map-id c.atoms.yielded) ∙ end.0)
-    c.from_vec.ensures c.atoms.invariant
+    all_gridded (λ test (a : ReadAtom). list_fails test c.args.bs a.values) (grid_atom c.args.bs) (λ made. made)
+    c.args.atoms.items c.atoms.yielded c.atoms.made.items c.from_vec.result c.atoms.flaws
+    (sym (map-id c.atoms.yielded) ∙ end.0) c.from_vec.ensures c.atoms.invariant

@@ -1,12 +1,9 @@
 -- A sort changes no sum.
-use Rattle.dl_sev.proofs.Common.{ℕ, ◌≡◌, ◌∙◌, ◌==◌, ◌<◌, ◌≤◌, List, [], ◌∷◌, length, cond, ap, ap₂, sym, subst, arith, ◌^◌, ◌over◌, Item, weight_sum, weight_at}
-use Rattle.std.proofs.Common.{zero-lt-suc, IsPermutation}
+use Rattle.dl_sev.proofs.Common.{ℕ, ◌≡◌, ◌∙◌, ◌==◌, ◌<◌, ◌≤◌, List, cond, ap, ap₂, sym, subst, arith, ◌^◌, ◌over◌, Item, weight_sum, weight_at}
+use Rattle.dl_sev.proofs.Gathering.{some_items}
+use Rattle.std.proofs.Common.{IsPermutation}
 use Rattle.std.proofs.lemmas.List.Sorted.{sum_by-IsPermutation}
 use Rattle.dl_sev.proofs.gather.gathered.Goals as goal
-
-some_items : (xs : List Item) → 0 < weight_sum xs → 0 < length xs
-some_items [] h = h
-some_items (x ∷ xs) h = zero-lt-suc (length xs)
 
 pub added_up-requires-clause-within : goal.added_up-requires-clause-within
 added_up-requires-clause-within c =

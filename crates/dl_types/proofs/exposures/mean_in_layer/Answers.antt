@@ -1,5 +1,5 @@
 -- The mean of what the severity means, which is above 0.
-use Rattle.dl_types.proofs.Common.{◌≡◌, ◌∙◌, sym, subst, whole, ◌<ℚ◌, mean_amount, severity_in_layer, not_then}
+use Rattle.dl_types.proofs.Common.{◌≡◌, ◌∙◌, sym, subst, whole, ◌<ℚ◌, mean_amount, severity_in_layer, not-false}
 use Rattle.dl_plan.specs.Severity.{pairs_of}
 use Rattle.dl_amounts.proofs.Near.{in_layer_near}
 use Rattle.dl_amounts.proofs.Meaning.{scored_alike, alike_own}
@@ -22,4 +22,4 @@ returns-clause-above c =
     let same : c.mean.result ≡ mean_amount ps =
     c.mean.ensures ∙ scored_alike whole (pairs_of c.args.layered.now) ps
     (alike_own c.args.layered.now ps c.requires.layered) in
-    subst (λ t. whole 0 <ℚ t) (sym same) (mean_above ps (not_then _ c.requires.loss))
+    subst (λ t. whole 0 <ℚ t) (sym same) (mean_above ps (not-false _ c.requires.loss))
