@@ -1,7 +1,7 @@
 //! Listed counts and amounts: the part of a sum that comes from at most so many claims, by the sums
 //! that define it.
 
-ghost use Rattle.std.specs.Prelude.{ℕ, ◌≡◌, ◌*◌, ◌^◌, ◌<◌, ◌≤◌};
+ghost use Rattle.std.specs.Prelude.{ℕ, ◌≡◌, ◌+◌, ◌*◌, ◌^◌, ◌<◌, ◌≤◌};
 ghost use Rattle.dl_exact.specs.Fraction.{◌over◌};
 ghost use Rattle.dl_model.specs.Compound.{cell};
 ghost use Rattle.dl_model.specs.Ways.{ways};
@@ -52,6 +52,17 @@ pub(crate) fn ways_of(amounts: &[Item], claims: u32, sum: u32) -> u128
     found
 }
 
+/// A numerator and a denominator with the part of one number of claims more, whose denominator is
+/// `step` times that one.
+pub(crate) fn one_more(fewer: (u128, u128), step: u128, here: u128) -> (u128, u128)
+    requires above { fewer.0 * step + here < 2 ^ 128 }
+    requires below { fewer.1 * step < 2 ^ 128 }
+    ensures above { result.0 ≡ fewer.0 * step + here }
+    ensures below { result.1 ≡ fewer.1 * step }
+{
+    (fewer.0 * step + here, fewer.1 * step)
+}
+
 /// The part of the sum `x` that comes from at most `claims` claims, as a numerator and a
 /// denominator: for each number of claims the share of its weight in `counts`, times the share of
 /// the ways in which so many of `amounts` add up to `x`.
@@ -69,5 +80,5 @@ pub fn listed_point(counts: &[Item], amounts: &[Item], x: u32, claims: u32) -> (
     }
     let fewer = listed_point(counts, amounts, x, claims - 1);
     let each = total(amounts);
-    (fewer.0 * each + here, fewer.1 * each)
+    one_more(fewer, each, here)
 }

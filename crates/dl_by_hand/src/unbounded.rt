@@ -11,7 +11,7 @@ ghost use Rattle.dl_model.specs.Listed.{probability_at};
 ghost use Rattle.dl_plan.specs.Weighted.{weight_at, weight_sum};
 ghost use Rattle.dl_model.specs.Ways.{ways};
 
-use crate::listed::{total, ways_of};
+use crate::listed::{one_more, total, ways_of};
 use dl_plan::Item;
 
 /// Where each claim is 0, the part of the sum 0 is the sum of the weights of the counts.
@@ -87,7 +87,7 @@ pub fn poisson_point(mean: (u32, u32), amounts: &[Item], x: u32, claims: u32) ->
     }
     let fewer = poisson_point(mean, amounts, x, claims - 1);
     let step = poisson_step(mean, amounts, claims);
-    (fewer.0 * step + here, fewer.1 * step)
+    one_more(fewer, step, here)
 }
 
 /// The part of the sum `x` that comes from exactly `claims` claims of a gamma count, over the
@@ -145,5 +145,5 @@ pub fn gamma_point(
     }
     let fewer = gamma_point(shape, mean, amounts, x, claims - 1);
     let step = gamma_step(shape, mean, amounts, claims);
-    (fewer.0 * step + here, fewer.1 * step)
+    one_more(fewer, step, here)
 }

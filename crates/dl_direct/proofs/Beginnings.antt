@@ -1,9 +1,10 @@
 -- The probability of cell 0 of a geometric count and of a Poisson count of a small mean, from whole numbers.
-use Rattle.dl_direct.proofs.Common.{◌≡◌, ℕ, suc, zero, ◌+◌, ◌*◌, ◌<◌, ◌≤◌, arith, sym, ap, subst, subst₂, ◌∙◌, mul-pos, mul-le-mul_right, zero-lt-suc, Fraction, ◌over◌, ◌+ℚ◌, ◌*ℚ◌, ◌≤ℚ◌, ◌<ℚ◌, whole, sum_to, poisson, gamma, over_le, over_add, over_mul, over_same, ring, one_pos, one_times, times_comm, le_refl, le_trans, times_le_times, times_le_cancel, whole_pos, whole_plus, whole_times, over_times_whole, times_le_both, whole_le}
+use Rattle.dl_direct.proofs.Common.{◌≡◌, ℕ, suc, zero, ◌+◌, ◌*◌, ◌<◌, ◌≤◌, arith, sym, ap, subst, subst₂, ◌∙◌, mul-pos, mul-le-mul_right, zero-lt-suc, Fraction, ◌over◌, ◌+ℚ◌, ◌*ℚ◌, ◌≤ℚ◌, ◌<ℚ◌, whole, sum_to, poisson, gamma, over_le, over_add, over_mul, over_same, one_pos, one_times, times_comm, le_refl, le_trans, times_le_times, times_le_cancel, whole_pos, whole_plus, whole_times, over_times_whole, times_le_both, whole_le}
 use Rattle.dl_model.specs.Series.{Holds, IsBound}
 use Rattle.dl_exact.proofs.Over.{over_lt}
 use Rattle.dl_exact.proofs.Laws.{plus_le_both, plus_times, times_plus}
 use Rattle.dl_exact.proofs.Sums.{halving_bound}
+use Rattle.dl_exact.proofs.Orders.{times_inward, times_outward, times_right_comm, times_swap}
 use Rattle.dl_model.proofs.PoissonWeights.{poisson_next}
 use Rattle.dl_model.proofs.Gamma.{geometric_low, geometric_least}
 
@@ -55,16 +56,10 @@ module _ (num den : ℕ) (den_pos : 0 < den) where
   next_term C n =
       let p : Fraction = poisson (num over den) n in
       ap (λ t. C *ℚ poisson (num over den) (suc n) *ℚ t) (whole_times den (suc n))
-      ∙ turn C (poisson (num over den) (suc n)) (whole den) (whole (suc n))
+      ∙ times_inward C (poisson (num over den) (suc n)) (whole den) (whole (suc n))
       ∙ ap (λ t. C *ℚ t *ℚ whole den) (poisson_next (num over den) n)
-      ∙ back C (num over den) p (whole den)
+      ∙ times_outward C (num over den) p (whole den)
       ∙ ap (λ t. C *ℚ p *ℚ t) (over_times_whole num den den_pos)
-    where
-      turn : (C p d s : Fraction) → C *ℚ p *ℚ (d *ℚ s) ≡ C *ℚ (p *ℚ s) *ℚ d
-      turn C p d s = simp ring
-
-      back : (C v p d : Fraction) → C *ℚ (v *ℚ p) *ℚ d ≡ C *ℚ p *ℚ (v *ℚ d)
-      back C v p d = simp ring
 
   step_pos : (n : ℕ) → whole 0 <ℚ whole (den * suc n)
   step_pos n = whole_pos (den * suc n) (mul-pos den_pos (zero-lt-suc n))
@@ -104,26 +99,21 @@ poisson_holds v K T a b t x y half Tp low high last p q =
       (λ N u one_le. le_trans _ _ _
           (times_le_cancel (x over T *ℚ sum_to N W) (whole 1) (whole T) Tp'
           (subst₂ (λ s t. s ≤ℚ t)
-          (ap (λ t. t *ℚ sum_to N W) (sym (over_times_whole x T Tp)) ∙ turn (x over T) (whole T) (sum_to N W))
+          (ap (λ t. t *ℚ sum_to N W) (sym (over_times_whole x T Tp))
+          ∙ times_right_comm (x over T) (whole T) (sum_to N W))
           (sym (one_times (whole T)))
           (times_le_cancel (whole x *ℚ sum_to N W) (whole T) (whole T) Tp'
-          (le_trans _ _ _ (subst (λ t. t ≤ℚ whole x *ℚ H) (swap (whole x) (whole T) (sum_to N W))
+          (le_trans _ _ _ (subst (λ t. t ≤ℚ whole x *ℚ H) (times_swap (whole x) (whole T) (sum_to N W))
           (times_le_both (whole x) (whole x) _ _ (le_refl _)
           (le_trans _ _ _ (times_le_both (whole T) (whole T) _ _ (le_refl _) (bound N)) top)))
           (subst₂ (λ s t. s ≤ℚ t) (whole_times x (b + t)) (whole_times T T) (whole_le _ _ p))))))
           (one_le zero)),
       (λ N u b'. times_le_cancel (whole 1) (y over T *ℚ u) (whole T) Tp'
           (subst₂ (λ s t. s ≤ℚ t) (sym (one_times (whole T)))
-          (ap (λ t. t *ℚ u) (sym (over_times_whole y T Tp)) ∙ turn (y over T) (whole T) u)
+          (ap (λ t. t *ℚ u) (sym (over_times_whole y T Tp)) ∙ times_right_comm (y over T) (whole T) u)
           (times_le_cancel (whole T) (whole y *ℚ u) (whole T) Tp'
           (le_trans _ _ _ (subst₂ (λ s t. s ≤ℚ t) (whole_times T T) (whole_times y a) (whole_le _ _ q))
-          (subst (λ t. whole y *ℚ whole a ≤ℚ t) (swap (whole y) (whole T) u)
+          (subst (λ t. whole y *ℚ whole a ≤ℚ t) (times_swap (whole y) (whole T) u)
           (times_le_both (whole y) (whole y) _ _ (le_refl _)
           (le_trans _ _ _ low (times_le_both (whole T) (whole T) _ _ (le_refl _) (b' K))))))))),
     )
-  where
-    turn : (a b c : Fraction) → a *ℚ b *ℚ c ≡ a *ℚ c *ℚ b
-    turn a b c = simp ring
-
-    swap : (a b c : Fraction) → a *ℚ (b *ℚ c) ≡ a *ℚ c *ℚ b
-    swap a b c = simp ring

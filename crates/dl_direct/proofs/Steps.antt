@@ -1,7 +1,8 @@
 -- One step of the recursion and one shift, over whole numbers that stand round 2 ^ 61 * r.
-use Rattle.dl_direct.proofs.Common.{◌≡◌, ℕ, suc, zero, ◌+◌, ◌-◌, ◌*◌, ◌/◌, ◌^◌, ◌<◌, ◌≤◌, List, get_or, arith, refl, sym, ap, subst, subst₂, ◌∙◌, mul-le-mul_right, div-mul-le_self, pow-add, zero-lt-suc, Fraction, ◌+ℚ◌, ◌*ℚ◌, ◌≤ℚ◌, whole, count_pairs, ring, times_comm, whole_plus, whole_times, whole_pos, le_refl, le_trans, times_le_cancel, times_le_both, whole_le, IsRound}
+use Rattle.dl_direct.proofs.Common.{◌≡◌, ℕ, suc, zero, ◌+◌, ◌-◌, ◌*◌, ◌/◌, ◌^◌, ◌<◌, ◌≤◌, List, get_or, arith, refl, sym, ap, subst, subst₂, ◌∙◌, mul-le-mul_right, div-mul-le_self, pow-add, zero-lt-suc, Fraction, ◌+ℚ◌, ◌*ℚ◌, ◌≤ℚ◌, whole, count_pairs, times_comm, whole_plus, whole_times, whole_pos, le_refl, le_trans, times_le_cancel, times_le_both, whole_le, IsRound}
 use Rattle.dl_exact.proofs.Laws.{times_assoc, times_left_comm}
 use Rattle.dl_exact.proofs.Sums.{sum_pairs_same, sum_pairs_times, sum_pairs_times_right, sum_pairs_le}
+use Rattle.dl_exact.proofs.Orders.{times_right_comm}
 use Rattle.dl_exact.specs.Sum.{sum_pairs}
 use Rattle.dl_direct.proofs.Rounding.{ceil_reaches, ceil_least}
 
@@ -28,11 +29,8 @@ module _ (n D P : ℕ) (C : Fraction) (f : ℕ → ℕ → ℕ) (r : ℕ → Fra
       ∙ ap (λ t. C *ℚ t) (sym next ∙ times_comm _ _) ∙ sym (times_assoc _ _ _)
 
   swap : (x : ℕ) → whole (x * D) *ℚ whole P ≡ whole (x * P) *ℚ whole D
-  swap x = ap (λ t. t *ℚ whole P) (whole_times x D) ∙ turn (whole x) (whole D) (whole P)
+  swap x = ap (λ t. t *ℚ whole P) (whole_times x D) ∙ times_right_comm (whole x) (whole D) (whole P)
       ∙ ap (λ t. t *ℚ whole D) (sym (whole_times x P))
-    where
-      turn : (a b c : Fraction) → a *ℚ b *ℚ c ≡ a *ℚ c *ℚ b
-      turn a b c = simp ring
 
   pub low_step : (g : ℕ → ℕ) (x : ℕ) → x * D ≤ count_pairs n (λ i k. f i k * g k)
       → ((k : ℕ) → k ≤ n → whole (g k * P) ≤ℚ C *ℚ r k) → whole (x * P) ≤ℚ C *ℚ r (suc n)

@@ -5,6 +5,7 @@ use Rattle.dl_model.specs.Series.{AtMost, AtLeast}
 use Rattle.dl_model.specs.Family.{compound, Encloses}
 use Rattle.dl_exact.proofs.Laws.{times_pos}
 use Rattle.dl_exact.proofs.Sums.{sum_pairs_same, sum_pairs_times}
+use Rattle.dl_exact.proofs.Orders.{times_right_comm, times_second}
 use Rattle.dl_grid.specs.Cells.{low_at, high_at}
 use Rattle.dl_direct.specs.declared.start.Scaled.{Scaled}
 use Rattle.std.proofs.Math.Nat.{le-max_left, le-max_right}
@@ -83,10 +84,8 @@ module _ (f w : ℕ → Fraction) (z : f zero ≡ whole 0) (severity : IsWithinO
       let p = start.low over 2 ^ start.exponent in
       let c : p *ℚ sum_to N w ≤ℚ whole 1 = H.0 N (whole 1) (λ m. le_refl _) in
       le_trans _ _ _ (times_le_times _ _ (sum_to N w) h)
-      (subst₂ (λ s t. s ≤ℚ t) (turn p (sum_to N w) (cell w f y y)) (one_times u) (times_le_both _ _ _ _ c (b y)))
-    where
-      turn : (a b c : Fraction) → a *ℚ b *ℚ c ≡ a *ℚ c *ℚ b
-      turn a b c = simp ring
+      (subst₂ (λ s t. s ≤ℚ t) (times_right_comm p (sum_to N w) (cell w f y y)) (one_times u)
+      (times_le_both _ _ _ _ c (b y)))
 
   high_holds : (B o y : ℕ) → start.high over 2 ^ start.exponent *ℚ cell w f y y ≤ℚ o over (2 ^ B)
       → AtMost (cell w f y) (λ N. sum_to N w) (o over (2 ^ B))
@@ -100,10 +99,7 @@ module _ (f w : ℕ → Fraction) (z : f zero ≡ whole 0) (severity : IsWithinO
       let c : whole 1 ≤ℚ p *ℚ u = H.1 zero u b in
       le_trans _ _ _ up
       (le_trans _ _ _ (subst (λ t. t ≤ℚ r *ℚ (p *ℚ u)) (times_one r) (times_le_both r r _ _ (le_refl r) c))
-      (subst (λ t. t ≤ℚ o over (2 ^ B) *ℚ u) (turn p r u) (times_le_times _ _ u h)))
-    where
-      turn : (a b c : Fraction) → a *ℚ b *ℚ c ≡ b *ℚ (a *ℚ c)
-      turn a b c = simp ring
+      (subst (λ t. t ≤ℚ o over (2 ^ B) *ℚ u) (times_second p r u) (times_le_times _ _ u h)))
 
   pub placed_encloses : {B : ℕ} (e n : ℕ) (low high : List ℕ) (cells : List (Iv B))
       → IsRound (λ s. cell w f s s) e n low high → IsPlaced B start e n low high (low_at cells) (high_at cells)

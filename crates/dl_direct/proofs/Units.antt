@@ -1,5 +1,6 @@
 -- Equal shares of a count, the steps of its weights, and items with their weights times a factor.
 use Rattle.dl_direct.proofs.Common.{◌≡◌, inl, inr, ℕ, suc, zero, ◌+◌, ◌-◌, ◌*◌, ◌<◌, ◌≤◌, List, [], ◌∷◌, length, take, get_or, arith, sym, ap, ap₂, subst₂, ◌∙◌, mul-pos, add-one, sum_by, sum_by-cons, sum_by_more, Fraction, ◌over◌, ◌+ℚ◌, ◌*ℚ◌, ◌/ℚ◌, whole, over_add, over_mul, over_same, one_pos, one_times, power, poisson, gamma, IsPanjer, Part, in_a_row}
+use Rattle.std.proofs.Math.Nat.{mul-add}
 use Rattle.std.proofs.Common.{lt_of_mul-lt-mul_right}
 use Rattle.std.specs.Prelude.{◌==◌, if◌then◌else◌}
 use Rattle.std.proofs.lemmas.Bool.Decides.{eqb_tells}
@@ -45,15 +46,12 @@ times_at k j item = elim (eqb_tells item.amount j) [
     none : (k : ℕ) → 0 ≡ k * 0
     none k = omega arith
 
-split : (k a b : ℕ) → k * a + k * b ≡ k * (a + b)
-split k a b = omega arith
-
 -- sums over items with their weights times k
 pub times_sum : (k : ℕ) (items : List Item) → sum_by (λ (item : Item). k * item.weight) items ≡ k * weight_sum items
 times_sum k [] = omega arith
 times_sum k (x ∷ xs) =
-    sum_by-cons (λ (item : Item). k * item.weight) x xs ∙ ap (λ t. k * x.weight + t) (times_sum k xs) ∙ split k _ _
-    ∙ ap (λ t. k * t) (sym (sum_by-cons (λ (item : Item). item.weight) x xs))
+    sum_by-cons (λ (item : Item). k * item.weight) x xs ∙ ap (λ t. k * x.weight + t) (times_sum k xs)
+    ∙ sym (mul-add k _ _) ∙ ap (λ t. k * t) (sym (sum_by-cons (λ (item : Item). item.weight) x xs))
 
 pub times_each : (k j : ℕ) (items : List Item)
     → sum_by (λ (item : Item). if (times_item k item).amount == j then
@@ -61,7 +59,7 @@ pub times_each : (k j : ℕ) (items : List Item)
 times_each k j [] = omega arith
 times_each k j (x ∷ xs) =
     sum_by-cons (λ (item : Item). if (times_item k item).amount == j then (times_item k item).weight else 0) x xs
-    ∙ ap₂ (λ s t. s + t) (times_at k j x) (times_each k j xs) ∙ split k _ _
+    ∙ ap₂ (λ s t. s + t) (times_at k j x) (times_each k j xs) ∙ sym (mul-add k _ _)
     ∙ ap (λ t. k * t) (sym (sum_by-cons (λ (item : Item). if item.amount == j then item.weight else 0) x xs))
 
 module _ (f : Part → ℕ) (k : ℕ) (items : List Item) (i : ℕ) (d : Item) (h : i < length items) where

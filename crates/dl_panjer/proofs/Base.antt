@@ -2,6 +2,7 @@
 use Rattle.dl_panjer.proofs.Common.{◌≡◌, inl, inr, ℕ, suc, zero, ◌<◌, ◌≤◌, arith, sym, ap, subst, subst₂, ◌∙◌, mul-pos, Fraction, ◌over◌, ◌*ℚ◌, ◌≤ℚ◌, whole, sum_to, over_same, over_mul, over_le, one_pos, ring, one_times, le_refl, le_trans, le_of_eq, times_le_times, times_le_both, sum_pairs_same, sum_pairs_times, AtLeast, cell, IsPanjer, IsWithinOne, compound, from_before, compound_proper, recursion_there, FollowsOutward}
 use Rattle.dl_exact.proofs.Laws.{times_left_comm, times_zero, times_one, zero_le}
 use Rattle.dl_exact.proofs.Sums.{sum_pairs_le}
+use Rattle.dl_exact.proofs.Orders.{times_right_comm}
 use Rattle.dl_model.specs.Series.{AtMost}
 use Rattle.dl_model.specs.Compound.{at_zero, power}
 use Rattle.dl_model.specs.Family.{Encloses}
@@ -95,18 +96,15 @@ module _ (S K : ℕ) (a b : Fraction) (f : ℕ → Fraction) (lo hi : ℕ → �
     pub base_encloses : AtLeast (λ N. whole 1) (λ N. sum_to N w) (lo zero over S) → Encloses S K lo hi (compound w f)
     base_encloses low y h = (low_end, high_up_to y y (omega arith) h)
       where
-        turn : (a b c : Fraction) → a *ℚ b *ℚ c ≡ a *ℚ c *ℚ b
-        turn a b c = simp ring
-
         low_end : AtLeast (cell w f y) (λ N. sum_to N w) (lo y over S)
         low_end n u bound =
             let unit = 1 over S in
             let r : ℕ → Fraction = λ s. cell w f s s in
             let below : lo y over S ≤ℚ lo zero over S *ℚ r y =
             subst₂ (λ s t. s ≤ℚ t) (sym (in_units S (lo y) pos))
-            (turn (whole (lo zero)) (r y) unit ∙ ap (λ t. t *ℚ r y) (sym (in_units S (lo zero) pos)))
+            (times_right_comm (whole (lo zero)) (r y) unit ∙ ap (λ t. t *ℚ r y) (sym (in_units S (lo zero) pos)))
             (times_le_times _ _ unit (low_below r (recursion_there f w a b z P) y h)) in
             let whole_weight : lo zero over S *ℚ sum_to n w ≤ℚ whole 1 = low n (whole 1) (λ m. le_refl _) in
             le_trans _ _ _ (times_le_times _ _ (sum_to n w) below)
-            (subst₂ (λ s t. s ≤ℚ t) (turn (lo zero over S) (sum_to n w) (r y)) (one_times u)
+            (subst₂ (λ s t. s ≤ℚ t) (times_right_comm (lo zero over S) (sum_to n w) (r y)) (one_times u)
             (times_le_both _ _ _ _ whole_weight (bound y)))

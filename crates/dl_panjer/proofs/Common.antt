@@ -1,5 +1,5 @@
 -- The names that the proofs of this crate cite most, passed on from one place. Declares nothing.
-pub use Rattle.std.proofs.Common.{Bool, List, [], ap, ap₂, arith, drop, eqb, false, get_or, inl, inr, length, mul-le-mul, mul-pos, refl, subst, subst₂, suc, sym, take, true, zero, ℕ, ◌*◌, ◌+◌, ◌-◌, ◌/◌, ◌<◌, ◌^◌, ◌∙◌, ◌∷◌, ◌≡◌, ◌≤◌, ◌⊎◌}
+pub use Rattle.std.proofs.Common.{Bool, List, [], ap, ap₂, arith, drop, eqb, false, get_or, inl, inr, length, mul-le-mul, mul-pos, refl, rules, subst, subst₂, suc, sym, take, true, zero, ℕ, ◌*◌, ◌+◌, ◌-◌, ◌/◌, ◌<◌, ◌^◌, ◌∙◌, ◌∷◌, ◌≡◌, ◌≤◌, ◌⊎◌}
 pub use Rattle.std.proofs.Math.Nat.{lt-div-mul-add, mul-le-mul_right, zero-lt-suc}
 pub use Rattle.std.proofs.lemmas.Bool.{cases_lt}
 pub use Rattle.std.proofs.lemmas.List.Sums.{sum_by-take-le}

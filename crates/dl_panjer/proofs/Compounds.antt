@@ -7,20 +7,6 @@ use Rattle.dl_model.proofs.Panjer.{gamma_class}
 use Rattle.dl_panjer.proofs.Base.{base_encloses}
 use Rattle.dl_panjer.proofs.Outward.{poisson_outward, geometric_outward}
 
-module _ {B : ℕ} (items : List Item) (T : ℕ) (v : Fraction) (grid : List (Iv B)) (T_pos : 0 < T)
-    (severity : IsWithinOne (λ j. weight_at items j over T)) (no_zero : weight_at items 0 ≡ 0) where
-  none : weight_at items 0 over T ≡ whole 0
-  none = ap (λ n. n over T) no_zero ∙ over_zero T T_pos
-
-  pub poisson_base : FollowsRounded true (λ s. v /ℚ whole (suc s)) items T grid
-      → Holds (λ N. whole 1) (λ N. sum_to N (poisson v)) (low_at grid 0 over 2 ^ B) (high_at grid 0 over 2 ^ B)
-      → GridEncloses grid (compound (poisson v) (λ j. weight_at items j over T))
-  poisson_base F start =
-      base_encloses (2 ^ B) (length grid) (whole 0) v (λ j. weight_at items j over T) (low_at grid) (high_at grid)
-      (poisson_outward items T v T_pos grid F) (poisson v) none (poisson_class v) (pow_pos B) severity start.1 start.0
-
--- ---- the geometric count
-
 -- 1 over a series lies between fractions round the reciprocal of its least bound
 reciprocal_of_least : (R : Series) (L d l h : Fraction) → IsLeastBound R L → L *ℚ d ≡ whole 1 → l ≤ℚ d → d ≤ℚ h
     → Holds (λ N. whole 1) R l h
@@ -59,14 +45,26 @@ module _ (beta : Fraction) where
   geometric_class = subst (λ b. IsPanjer (beta /ℚ (whole 1 +ℚ beta)) b (gamma_of 1 beta)) (zero_times _)
       (gamma_class zero (beta /ℚ (whole 1 +ℚ beta)))
 
-module _ {B : ℕ} (items : List Item) (T : ℕ) (beta : Fraction) (grid : List (Iv B)) (T_pos : 0 < T)
+-- ---- the two grids
+
+module _ {B : ℕ} (items : List Item) (T : ℕ) (v : Fraction) (grid : List (Iv B)) (T_pos : 0 < T)
     (severity : IsWithinOne (λ j. weight_at items j over T)) (no_zero : weight_at items 0 ≡ 0) where
-  pub geometric_base : FollowsRounded false (λ s. beta /ℚ (whole 1 +ℚ beta)) items T grid
-      → low_at grid 0 over 2 ^ B ≤ℚ whole 1 /ℚ (whole 1 +ℚ beta)
-      → whole 1 /ℚ (whole 1 +ℚ beta) ≤ℚ high_at grid 0 over 2 ^ B
-      → GridEncloses grid (compound (gamma_of 1 beta) (λ j. weight_at items j over T))
+  none : weight_at items 0 over T ≡ whole 0
+  none = ap (λ n. n over T) no_zero ∙ over_zero T T_pos
+
+  pub poisson_base : FollowsRounded true (λ s. v /ℚ whole (suc s)) items T grid
+      → Holds (λ N. whole 1) (λ N. sum_to N (poisson v)) (low_at grid 0 over 2 ^ B) (high_at grid 0 over 2 ^ B)
+      → GridEncloses grid (compound (poisson v) (λ j. weight_at items j over T))
+  poisson_base F start =
+      base_encloses (2 ^ B) (length grid) (whole 0) v (λ j. weight_at items j over T) (low_at grid) (high_at grid)
+      (poisson_outward items T v T_pos grid F) (poisson v) none (poisson_class v) (pow_pos B) severity start.1 start.0
+
+  pub geometric_base : FollowsRounded false (λ s. v /ℚ (whole 1 +ℚ v)) items T grid
+      → low_at grid 0 over 2 ^ B ≤ℚ whole 1 /ℚ (whole 1 +ℚ v)
+      → whole 1 /ℚ (whole 1 +ℚ v) ≤ℚ high_at grid 0 over 2 ^ B
+      → GridEncloses grid (compound (gamma_of 1 v) (λ j. weight_at items j over T))
   geometric_base F low high =
-      let start = geometric_start beta (low_at grid 0 over 2 ^ B) (high_at grid 0 over 2 ^ B) low high in
-      base_encloses (2 ^ B) (length grid) (beta /ℚ (whole 1 +ℚ beta)) (whole 0) (λ j. weight_at items j over T)
-      (low_at grid) (high_at grid) (geometric_outward items T beta T_pos grid F) (gamma_of 1 beta)
-      (ap (λ n. n over T) no_zero ∙ over_zero T T_pos) (geometric_class beta) (pow_pos B) severity start.1 start.0
+      let start = geometric_start v (low_at grid 0 over 2 ^ B) (high_at grid 0 over 2 ^ B) low high in
+      base_encloses (2 ^ B) (length grid) (v /ℚ (whole 1 +ℚ v)) (whole 0) (λ j. weight_at items j over T)
+      (low_at grid) (high_at grid) (geometric_outward items T v T_pos grid F) (gamma_of 1 v)
+      none (geometric_class v) (pow_pos B) severity start.1 start.0

@@ -1,12 +1,12 @@
 -- The list of cells that the recursion makes is a grid, follows the declared recursion, and encloses the compound sum.
-use Rattle.dl_panjer.proofs.Common.{ℕ, suc, ◌≡◌, ◌+◌, ◌-◌, ◌*◌, ◌^◌, ◌<◌, ◌≤◌, Bool, true, false, List, length, arith, sym, ap, subst, subst₂, ◌∙◌, All, pow_pos, Fraction, ◌over◌, ◌+ℚ◌, ◌*ℚ◌, ◌/ℚ◌, ◌≤ℚ◌, whole, sum_to, over_zero, over_same, over_mul, over_le, over_add, one_pos, le_trans, le_whole, Iv, low_at, high_at, spread, IsGrid, up, count_below, AtLeast, Holds, poisson, gamma_of, IsPanjer, compound, GridEncloses, IsWithinOne, poisson_class, within_one, Item, Sev, probability_of, weight_at, weight_sum, Follows, FollowsOutward, FollowsRounded, severity_total, zero_weight}
+use Rattle.dl_panjer.proofs.Common.{ℕ, suc, ◌≡◌, ◌+◌, ◌-◌, ◌*◌, ◌^◌, ◌<◌, ◌≤◌, Bool, true, false, List, length, arith, sym, ap, subst, subst₂, ◌∙◌, All, pow_pos, Fraction, ◌over◌, ◌+ℚ◌, ◌*ℚ◌, ◌/ℚ◌, ◌≤ℚ◌, whole, sum_to, over_zero, over_mul, over_le, one_pos, le_trans, le_whole, Iv, low_at, high_at, spread, IsGrid, up, count_below, AtLeast, Holds, poisson, gamma_of, IsPanjer, compound, GridEncloses, IsWithinOne, poisson_class, within_one, Item, Sev, probability_of, weight_at, weight_sum, Follows, FollowsOutward, FollowsRounded, severity_total, zero_weight}
 use Rattle.dl_exact.proofs.Over.{over_cross}
 use Rattle.dl_exact.proofs.Counts.{below_first}
 use Rattle.dl_grid.proofs.PlaceSums.{width_at, high_is, whole_mass, whole_spread}
 use Rattle.dl_grid.proofs.WidthLaws.{up_ceiling}
 use Rattle.dl_plan.specs.Weighted.{IsWeighted}
 use Rattle.dl_panjer.specs.Bases.{IsPoissonBase, IsGeometricBase}
-use Rattle.dl_panjer.proofs.Recursions.{poisson_follows, geometric_follows}
+use Rattle.dl_panjer.proofs.Recursions.{poisson_follows, geometric_follows, one_and}
 use Rattle.dl_panjer.proofs.Outward.{poisson_outward, geometric_outward}
 use Rattle.dl_panjer.proofs.Compounds.{poisson_base, geometric_base, geometric_start, geometric_class}
 use Rattle.dl_panjer.proofs.Mass.{low_mass}
@@ -26,7 +26,7 @@ pub record IsMade {B : ℕ} (by_amount : Bool) (items : List Item) (total : ℕ)
   pub no_zero : weight_at items 0 ≡ 0
   pub within : IsWithinOne (λ j. weight_at items j over total)
 
-module _ {B : ℕ} (b : Bool) (items : List Item) (T : ℕ) (rate : Fraction) (cells : List (Iv B)) (K : ℕ)
+module _ {B : ℕ} {b : Bool} {items : List Item} {T : ℕ} {rate : Fraction} {cells : List (Iv B)} {K : ℕ}
     (made : IsMade b items T rate cells K) where
   -- the same, said of the list's own length
   own : Follows (2 ^ B) b items T rate (low_at cells) (high_at cells) (length cells)
@@ -64,47 +64,45 @@ module _ {B : ℕ} (b : Bool) (items : List Item) (T : ℕ) (rate : Fraction) (c
 
 -- ---- Poisson
 
-module _ {B : ℕ} (items : List Item) (T : ℕ) (v : Fraction) (cells : List (Iv B)) (K : ℕ)
+module _ {B : ℕ} {items : List Item} {T : ℕ} {v : Fraction} {cells : List (Iv B)} {K : ℕ}
     (made : IsMade true items T v cells K)
     (start : Holds (λ N. whole 1) (λ N. sum_to N (poisson v)) (low_at cells 0 over 2 ^ B)
     (high_at cells 0 over 2 ^ B)) where
   follows_p : FollowsRounded true (λ s. v /ℚ whole (suc s)) items T cells
-  follows_p = poisson_follows items T v cells (own true items T v cells K made)
+  follows_p = poisson_follows items T v cells (own made)
 
   pub poisson_grid : IsGrid cells
   poisson_grid =
-      grid true items T v cells K made (whole 0) v (poisson v)
-      (poisson_outward items T v made.total_above cells follows_p)
+      grid made (whole 0) v (poisson v) (poisson_outward items T v made.total_above cells follows_p)
       (poisson_class v) start.0
 
   pub poisson_encloses : GridEncloses cells (compound (poisson v) (λ j. weight_at items j over T))
   poisson_encloses =
       poisson_base items T v cells made.total_above made.within made.no_zero follows_p start
 
-pub poisson_widths : {B : ℕ} (items : List Item) (T : ℕ) (v : Fraction) (cells : List (Iv B)) (K : ℕ)
+pub poisson_widths : {B : ℕ} {items : List Item} {T : ℕ} {v : Fraction} {cells : List (Iv B)} {K : ℕ}
     → IsMade true items T v cells K → v.num + v.num ≤ v.den → high_at cells 0 ≤ low_at cells 0 + 64
     → spread cells ≤ 8 * K + 128
-poisson_widths items T v cells K made half near =
+poisson_widths {v = v} {cells = cells} {K = K} made half near =
     let n : ℕ = K - 1 in
     let e : suc n ≡ K = omega (arith, made.some) in
-    let w = widths_of true items T v cells K made (omega (arith, half)) n e in
+    let w = widths_of made (omega (arith, half)) n e in
     let all = half_spread n v.num v.den (width_at cells 0) (count_below n (λ s. width_at cells (suc s)))
     (spread cells) v.positive half w.1 w.0 (omega (arith, near)) in
     omega (arith, all, e)
 
 -- ---- geometric
 
-module _ {B : ℕ} (items : List Item) (T : ℕ) (v : Fraction) (cells : List (Iv B)) (K : ℕ)
+module _ {B : ℕ} {items : List Item} {T : ℕ} (v : Fraction) {cells : List (Iv B)} {K : ℕ}
     (made : IsMade false items T (v /ℚ (whole 1 +ℚ v)) cells K)
     (low : low_at cells 0 over 2 ^ B ≤ℚ whole 1 /ℚ (whole 1 +ℚ v))
     (high : whole 1 /ℚ (whole 1 +ℚ v) ≤ℚ high_at cells 0 over 2 ^ B) where
   follows_g : FollowsRounded false (λ s. v /ℚ (whole 1 +ℚ v)) items T cells
-  follows_g =
-      geometric_follows items T (v /ℚ (whole 1 +ℚ v)) cells (own false items T (v /ℚ (whole 1 +ℚ v)) cells K made)
+  follows_g = geometric_follows items T (v /ℚ (whole 1 +ℚ v)) cells (own made)
 
   pub geometric_grid : IsGrid cells
   geometric_grid =
-      grid false items T (v /ℚ (whole 1 +ℚ v)) cells K made (v /ℚ (whole 1 +ℚ v)) (whole 0) (gamma_of 1 v)
+      grid made (v /ℚ (whole 1 +ℚ v)) (whole 0) (gamma_of 1 v)
       (geometric_outward items T v made.total_above cells follows_g) (geometric_class v)
       (geometric_start v (low_at cells 0 over 2 ^ B) (high_at cells 0 over 2 ^ B) low high).0
 
@@ -113,22 +111,20 @@ module _ {B : ℕ} (items : List Item) (T : ℕ) (v : Fraction) (cells : List (I
       geometric_base items T v cells made.total_above made.within
       made.no_zero follows_g low high
 
-pub geometric_widths : {B : ℕ} (items : List Item) (T p d : ℕ) (cells : List (Iv B)) (K : ℕ) → 0 < d
+pub geometric_widths : {B : ℕ} {items : List Item} {T : ℕ} (p d : ℕ) {cells : List (Iv B)} {K : ℕ} → 0 < d
     → IsMade false items T (p over (p + d)) cells K
     → (p over (p + d)).num ≤ (p over (p + d)).den → high_at cells 0 ≤ low_at cells 0 + 1
     → spread cells ≤ up (whole (4 * K + 1) *ℚ (whole 1 +ℚ p over d))
-geometric_widths items T p d cells K pos made at_most_one near =
+geometric_widths p d {cells} {K} pos made at_most_one near =
     let n : ℕ = K - 1 in
     let e : suc n ≡ K = omega (arith, made.some) in
     let r : Fraction = p over (p + d) in
-    let w = widths_of false items T r cells K made at_most_one n e in
+    let w = widths_of made at_most_one n e in
     let all = geometric_spread n r.num r.den p d (width_at cells 0) (count_below n (λ s. width_at cells (suc s)))
     (spread cells) r.positive (over_cross p (p + d) (omega (arith, pos))) w.1 w.0 (omega (arith, near)) in
     let last : n + 1 ≡ K = omega (arith, e) in
-    let more : whole 1 +ℚ p over d ≡ (p + d) over d = over_add 1 1 p d one_pos pos
-    ∙ over_same _ _ _ _ (omega (arith, pos)) pos (omega arith) in
     let product : whole (4 * K + 1) *ℚ (whole 1 +ℚ p over d) ≡ ((4 * K + 1) * (p + d)) over (1 * d) =
-    ap (λ t. whole (4 * K + 1) *ℚ t) more ∙ over_mul (4 * K + 1) 1 (p + d) d one_pos pos in
+    ap (λ t. whole (4 * K + 1) *ℚ t) (one_and p d pos) ∙ over_mul (4 * K + 1) 1 (p + d) d one_pos pos in
     let below : whole (spread cells) ≤ℚ whole (4 * K + 1) *ℚ (whole 1 +ℚ p over d) =
     subst (λ t. whole (spread cells) ≤ℚ t) (sym product)
     (over_le (spread cells) 1 ((4 * K + 1) * (p + d)) (1 * d) one_pos (omega (arith, pos))
@@ -137,11 +133,11 @@ geometric_widths items T p d cells K pos made at_most_one near =
 
 -- ---- from what the recursion's loop gives
 
-pub made_of : {B : ℕ} (b : Bool) (sev : Sev) (items : List Item) (v r : Fraction) (cells : List (Iv B)) (K : ℕ)
+pub made_of : {B : ℕ} (b : Bool) (sev : Sev) {items : List Item} {v r : Fraction} (cells : List (Iv B)) {K : ℕ}
     → items ≡ sev.items → r ≡ v → 1 ≤ K → K ≤ 16384 → length cells ≡ K
     → All (λ cell. cell.hi ≤ 2 ^ B) cells → Follows (2 ^ B) b items sev.total r (low_at cells) (high_at cells) K
     → probability_of sev 0 ≡ whole 0 → IsMade b sev.items sev.total v cells K
-made_of {B} b sev items v r cells K same rate_is some few length_is small follows none =
+made_of {B} b sev cells {K} same rate_is some few length_is small follows none =
     record {
       length_is = length_is;
       some = some;
@@ -154,16 +150,13 @@ made_of {B} b sev items v r cells K same rate_is some few length_is small follow
       within = within_one sev;
     }
 
-pub poisson_is_base : {B : ℕ} (sev : Sev) (v : Fraction) (cells : List (Iv B)) (K : ℕ)
+pub poisson_is_base : {B : ℕ} (sev : Sev) (v : Fraction) (cells : List (Iv B)) {K : ℕ}
     → IsMade true sev.items sev.total v cells K → IsPoissonBase sev v cells
-poisson_is_base sev v cells K made =
-    poisson_follows sev.items sev.total v cells (own true sev.items sev.total v cells K made)
+poisson_is_base sev v cells made = poisson_follows sev.items sev.total v cells (own made)
 
-pub geometric_is_base : {B : ℕ} (sev : Sev) (v : Fraction) (cells : List (Iv B)) (K : ℕ)
+pub geometric_is_base : {B : ℕ} (sev : Sev) (v : Fraction) (cells : List (Iv B)) {K : ℕ}
     → IsMade false sev.items sev.total (v /ℚ (whole 1 +ℚ v)) cells K → IsGeometricBase sev v cells
-geometric_is_base sev v cells K made =
-    geometric_follows sev.items sev.total (v /ℚ (whole 1 +ℚ v)) cells
-    (own false sev.items sev.total (v /ℚ (whole 1 +ℚ v)) cells K made)
+geometric_is_base sev v cells made = geometric_follows sev.items sev.total (v /ℚ (whole 1 +ℚ v)) cells (own made)
 
 -- the items of a severity without amount 0, as the loop asks for them
 pub items_positive : (sev : Sev) (items : List Item) → items ≡ sev.items → probability_of sev 0 ≡ whole 0

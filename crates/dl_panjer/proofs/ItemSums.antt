@@ -2,7 +2,7 @@
 use Rattle.dl_panjer.proofs.Common.{ℕ, zero, suc, ◌≡◌, ◌+◌, ◌-◌, ◌*◌, ◌<◌, ◌≤◌, Bool, true, false, List, [], ◌∷◌, get_or, take, drop, arith, refl, sym, ap, ap₂, ◌∙◌, inl, inr, All, sum_by, mul-le-mul_right, cases_lt, count_below, below_le, below_plus, below_times, below_pairs, Item, weight_at, weight_sum, counted, coefficient, next_sum}
 use Rattle.std.proofs.Common.{◌≢◌}
 use Rattle.std.specs.Prelude.{if◌then◌else◌, ◌==◌}
-use Rattle.std.proofs.Math.Nat.{zero-add, mul-le-mul, mul-le-mul_left}
+use Rattle.std.proofs.Math.Nat.{zero-add, mul-le-mul, mul-le-mul_left, add-mul, mul-add}
 use Rattle.std.proofs.lemmas.Bool.{eq-eqb, ne_eqb}
 use Rattle.std.proofs.lemmas.List.Elements.{All-tail}
 use Rattle.std.proofs.lemmas.List.Sums.{sum_by-cons, sum_by-take-drop}
@@ -73,16 +73,13 @@ near_items b s g (item ∷ items) some near =
     ap (λ t. counted b (suc i) t * g (s - i)) (weight_at-cons item items (suc i))
     ∙ ap (λ t. t * g (s - i)) (counted_plus b (suc i) (if item.amount == suc i then item.weight else 0)
     (weight_at items (suc i)))
-    ∙ split (counted b (suc i) (if item.amount == suc i then item.weight else 0)) (coefficient b items i) (g (s - i)))
+    ∙ add-mul (counted b (suc i) (if item.amount == suc i then item.weight else 0)) (coefficient b items i) (g (s - i)))
     ∙ below_plus (suc s) (λ i. counted b (suc i) (if item.amount == suc i then item.weight else 0) * g (s - i))
     (λ i. coefficient b items i * g (s - i))
     ∙ ap₂ (λ t u. t + u) (one_item b s g item (some 0 item (omega arith)) (near 0 item (omega arith)))
     (near_items b s g items (All-tail (λ i. 0 < i.amount) item items some)
     (All-tail (λ i. i.amount ≤ suc s) item items near))
     ∙ sym (sum_by-cons (λ (i : Item). counted b i.amount i.weight * g (suc s - i.amount)) item items)
-  where
-    split : (m n k : ℕ) → (m + n) * k ≡ m * k + n * k
-    split m n k = omega arith
 
 -- the first r items reach up to s + 1, and no later one does
 pub items_next_sum : (b : Bool) (s r : ℕ) (g : ℕ → ℕ) (items : List Item) → All (λ item. 0 < item.amount) (take r items)
@@ -120,10 +117,7 @@ pub sum_times : (k : ℕ) (f : Item → ℕ) (items : List Item) → sum_by (λ 
 sum_times k f [] = omega arith
 sum_times k f (item ∷ items) =
     sum_by-cons (λ i. k * f i) item items ∙ ap (λ t. k * f item + t) (sum_times k f items)
-    ∙ joined k (f item) (sum_by f items) ∙ ap (λ t. k * t) (sym (sum_by-cons f item items))
-  where
-    joined : (k m n : ℕ) → k * m + k * n ≡ k * (m + n)
-    joined k m n = omega arith
+    ∙ sym (mul-add k (f item) (sum_by f items)) ∙ ap (λ t. k * t) (sym (sum_by-cons f item items))
 
 -- what is added up over items up to m, of ends of at most e
 pub items_fit : (b : Bool) (m e : ℕ) (g : ℕ → ℕ) (items : List Item) → 1 ≤ m → ((k : ℕ) → g k ≤ e)

@@ -5,6 +5,7 @@ use Rattle.dl_exact.proofs.Laws.{times_assoc, zero_plus, plus_zero}
 use Rattle.dl_exact.specs.Count.{count_pairs}
 use Rattle.dl_panjer.specs.Outward.{IsCeilingWithin}
 use Rattle.dl_exact.proofs.SumsOver.{sum_pairs_over}
+use Rattle.dl_exact.proofs.Orders.{times_right_comm}
 
 -- a factor of a quotient that was rounded first
 module _ (T C : ℕ) (c : Fraction) (pos : 0 < T) where
@@ -56,13 +57,10 @@ module _ (items : List Item) (T : ℕ) (v : Fraction) (T_pos : 0 < T) where
       turn : (a b c d : Fraction) → a *ℚ b *ℚ c *ℚ d ≡ a *ℚ (b *ℚ c *ℚ d)
       turn a b c d = simp ring
 
-      move : (a b c : Fraction) → a *ℚ b *ℚ c ≡ a *ℚ c *ℚ b
-      move a b c = simp ring
-
       by_suc : (i : ℕ) → v *ℚ suc i over suc s ≡ v /ℚ whole (suc s) *ℚ whole (suc i)
       by_suc i = times_cancel _ _ (whole (suc s)) S'
           (times_assoc _ _ _ ∙ ap (λ t. v *ℚ t) (over_times_whole (suc i) (suc s) (zero-lt-suc s))
-          ∙ sym (move _ _ _ ∙ ap (λ t. t *ℚ whole (suc i)) (div_times v (whole (suc s)) S')))
+          ∙ sym (times_right_comm _ _ _ ∙ ap (λ t. t *ℚ whole (suc i)) (div_times v (whole (suc s)) S')))
 
       item : (i k : ℕ) → whole (suc i) *ℚ chance (suc i) *ℚ whole (g k) ≡ (suc i * weight_at items (suc i) * g k) over T
       item i k =

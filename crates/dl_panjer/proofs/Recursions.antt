@@ -1,8 +1,9 @@
 -- Steps in whole numbers are the floors and ceilings of the recursions of Poisson and geometric counts.
-use Rattle.dl_panjer.proofs.Common.{ℕ, suc, ◌≡◌, ◌+◌, ◌*◌, ◌/◌, ◌<◌, ◌^◌, true, false, length, arith, sym, ap, subst, ◌∙◌, mul-pos, List, div_ceil, zero-lt-suc, Fraction, ◌over◌, ◌+ℚ◌, ◌*ℚ◌, ◌/ℚ◌, whole, IsFloor, IsCeiling, over_same, over_add, over_mul, over_div, one_pos, times_comm, floor_div, ceiling_div, Item, Iv, low_at, high_at, coefficient, next_sum, Follows, FollowsRounded}
+use Rattle.dl_panjer.proofs.Common.{ℕ, suc, ◌≡◌, ◌+◌, ◌*◌, ◌/◌, ◌<◌, ◌^◌, Bool, true, false, length, arith, sym, ap, subst, subst₂, ◌∙◌, mul-pos, List, div_ceil, zero-lt-suc, Fraction, ◌over◌, ◌+ℚ◌, ◌*ℚ◌, ◌/ℚ◌, whole, IsFloor, IsCeiling, over_same, over_add, over_mul, over_div, one_pos, times_comm, floor_div, ceiling_div, Item, Iv, low_at, high_at, counted, coefficient, next_sum, Follows, FollowsRounded}
 use Rattle.std.proofs.Common.{mul_comm}
 use Rattle.dl_exact.proofs.Over.{over_self}
 use Rattle.dl_exact.proofs.Denominators.{units_of}
+use Rattle.dl_panjer.proofs.Steps.{counted_pos}
 
 -- mean / k by the parts of the mean
 pub divided : (mean : Fraction) (k : ℕ) → 0 < k → mean.num over (mean.den * k) ≡ mean /ℚ whole k
@@ -18,24 +19,32 @@ by_number x s v =
     ∙ sym (over_mul v.num (v.den * suc s) x 1 (mul-pos v.positive (zero-lt-suc s)) one_pos)
     ∙ ap (λ t. t *ℚ whole x) (divided v (suc s) (zero-lt-suc s))
 
--- the step of the loop is the rounded step
-pub poisson_follows : {B : ℕ} (items : List Item) (T : ℕ) (v : Fraction) (cells : List (Iv B))
-    → Follows (2 ^ B) true items T v (low_at cells) (high_at cells) (length cells)
-    → FollowsRounded true (λ s. v /ℚ whole (suc s)) items T cells
-poisson_follows {B} items T v cells F = record {
+-- the step of the loop is the rounded step, where the rate over what counts divides it is the factor
+follows_rounded : {B : ℕ} (b : Bool) (factor : ℕ → Fraction) (items : List Item) (T : ℕ) (v : Fraction)
+    (cells : List (Iv B))
+    → ((x s : ℕ) → (x * v.num) over counted b (suc s) v.den ≡ factor s *ℚ whole x)
+    → Follows (2 ^ B) b items T v (low_at cells) (high_at cells) (length cells) → FollowsRounded b factor items T cells
+follows_rounded b factor items T v cells is F = record {
   low = λ s inside.
-      let x : ℕ = next_sum (coefficient true items) (low_at cells) s / T in
-      subst (λ n. IsFloor (v /ℚ whole (suc s) *ℚ whole x) n) (sym (F.low s inside))
-      (subst (λ t. IsFloor t (x * v.num / (suc s * v.den))) (by_number x s v)
-      (floor_div (x * v.num) (suc s * v.den) (mul-pos (zero-lt-suc s) v.positive)));
+      let x : ℕ = next_sum (coefficient b items) (low_at cells) s / T in
+      subst₂ (λ t n. IsFloor t n) (is x s) (sym (F.low s inside)) (floor_div (x * v.num) _ (there s));
   high = λ s inside.
-      let y : ℕ = div_ceil (next_sum (coefficient true items) (high_at cells) s) T in (
-        div_ceil (y * v.num) (suc s * v.den),
-        subst (λ t. IsCeiling t (div_ceil (y * v.num) (suc s * v.den))) (by_number y s v)
-            (ceiling_div (y * v.num) (suc s * v.den) (mul-pos (zero-lt-suc s) v.positive)),
+      let y : ℕ = div_ceil (next_sum (coefficient b items) (high_at cells) s) T in (
+        div_ceil (y * v.num) (counted b (suc s) v.den),
+        subst (λ t. IsCeiling t (div_ceil (y * v.num) (counted b (suc s) v.den))) (is y s)
+            (ceiling_div (y * v.num) _ (there s)),
         F.high s inside,
       );
 }
+  where
+    there : (s : ℕ) → 0 < counted b (suc s) v.den
+    there s = counted_pos b (suc s) v.den (zero-lt-suc s) v.positive
+
+pub poisson_follows : {B : ℕ} (items : List Item) (T : ℕ) (v : Fraction) (cells : List (Iv B))
+    → Follows (2 ^ B) true items T v (low_at cells) (high_at cells) (length cells)
+    → FollowsRounded true (λ s. v /ℚ whole (suc s)) items T cells
+poisson_follows items T v cells =
+    follows_rounded true (λ s. v /ℚ whole (suc s)) items T v cells (λ x s. by_number x s v)
 
 -- ---- the geometric count
 
@@ -45,23 +54,13 @@ by_rate x r = ap (λ n. n over r.den) (mul_comm x r.num) ∙ units_of x r ∙ ti
 pub geometric_follows : {B : ℕ} (items : List Item) (T : ℕ) (r : Fraction) (cells : List (Iv B))
     → Follows (2 ^ B) false items T r (low_at cells) (high_at cells) (length cells)
     → FollowsRounded false (λ s. r) items T cells
-geometric_follows {B} items T r cells F = record {
-  low = λ s inside.
-      let x : ℕ = next_sum (coefficient false items) (low_at cells) s / T in
-      subst (λ n. IsFloor (r *ℚ whole x) n) (sym (F.low s inside))
-      (subst (λ t. IsFloor t (x * r.num / r.den)) (by_rate x r) (floor_div (x * r.num) r.den r.positive));
-  high = λ s inside.
-      let y : ℕ = div_ceil (next_sum (coefficient false items) (high_at cells) s) T in (
-        div_ceil (y * r.num) r.den,
-        subst (λ t. IsCeiling t (div_ceil (y * r.num) r.den)) (by_rate y r) (ceiling_div (y * r.num) r.den r.positive),
-        F.high s inside,
-      );
-}
+geometric_follows items T r cells = follows_rounded false (λ s. r) items T r cells (λ x s. by_rate x r)
+
+pub one_and : (p d : ℕ) → 0 < d → whole 1 +ℚ p over d ≡ (p + d) over d
+one_and p d pos = over_add 1 1 p d one_pos pos ∙ over_same _ _ _ _ (mul-pos one_pos pos) pos (omega arith)
 
 -- n over n + d is beta / (1 + beta), where beta is n over d
 pub rate_of : (n d : ℕ) → 0 < d → n over (n + d) ≡ n over d /ℚ (whole 1 +ℚ n over d)
 rate_of n d pos =
-    let all : whole 1 +ℚ n over d ≡ (n + d) over d = over_add 1 1 n d one_pos pos
-    ∙ over_same _ _ _ _ (mul-pos one_pos pos) pos (omega arith) in
     over_same n (n + d) (n * d) (d * (n + d)) (omega (arith, pos)) (mul-pos pos (omega (arith, pos))) (omega arith)
-    ∙ sym (over_div n d (n + d) d pos pos (omega (arith, pos))) ∙ ap (λ t. n over d /ℚ t) (sym all)
+    ∙ sym (over_div n d (n + d) d pos pos (omega (arith, pos))) ∙ ap (λ t. n over d /ℚ t) (sym (one_and n d pos))

@@ -1,9 +1,10 @@
 -- Cell 0 of a Poisson grid and of a geometric grid.
-use Rattle.dl_panjer.proofs.Common.{ℕ, zero, suc, ◌≡◌, ◌+◌, ◌*◌, ◌/◌, ◌^◌, ◌<◌, ◌≤◌, arith, sym, ap, subst, subst₂, ◌∙◌, mul-pos, div_ceil, zero-lt-suc, lt-div-mul-add, Fraction, ◌over◌, ◌+ℚ◌, ◌*ℚ◌, ◌/ℚ◌, ◌≤ℚ◌, whole, sum_to, over_same, over_add, over_div, one_pos, times_cancel, le_refl, le_trans, whole_pos, div_ceil_least, Iv, Holds, poisson, EnclosesExp}
+use Rattle.dl_panjer.proofs.Common.{ℕ, zero, suc, ◌≡◌, ◌+◌, ◌*◌, ◌/◌, ◌^◌, ◌<◌, ◌≤◌, arith, sym, ap, subst, subst₂, ◌∙◌, mul-pos, div_ceil, zero-lt-suc, lt-div-mul-add, Fraction, ◌over◌, ◌+ℚ◌, ◌*ℚ◌, ◌/ℚ◌, ◌≤ℚ◌, whole, sum_to, over_same, over_div, one_pos, times_cancel, le_refl, le_trans, whole_pos, div_ceil_least, Iv, Holds, poisson, EnclosesExp}
 use Rattle.dl_exact.proofs.Sums.{sum_to_same}
 use Rattle.dl_model.proofs.PoissonWeights.{poisson_zero, poisson_next}
 use Rattle.dl_exp.specs.Exponential.{exponential_term, exponential_sum}
 use Rattle.dl_exp.proofs.Terms.{term_zero, term_next}
+use Rattle.dl_panjer.proofs.Recursions.{one_and}
 
 -- the weights of the Poisson count are the terms of the exponential's series
 weight_is_term : (v : Fraction) (n : ℕ) → poisson v n ≡ exponential_term v n
@@ -42,13 +43,6 @@ poisson_start {B} v interval lo hi encloses low high = (
 
 -- ---- the geometric count: d over p + d, where beta is p over d
 
-pub reciprocal : (p d : ℕ) → 0 < d → d over (p + d) ≡ whole 1 /ℚ (whole 1 +ℚ p over d)
-reciprocal p d pos =
-    let all : whole 1 +ℚ p over d ≡ (p + d) over d = over_add 1 1 p d one_pos pos
-    ∙ over_same _ _ _ _ (mul-pos one_pos pos) pos (omega arith) in
-    over_same d (p + d) (1 * d) (1 * (p + d)) (omega (arith, pos)) (mul-pos one_pos (omega (arith, pos))) (omega arith)
-    ∙ sym (over_div 1 1 (p + d) d one_pos pos (omega (arith, pos))) ∙ ap (λ t. whole 1 /ℚ t) (sym all)
-
 pub ceiling_near : (n d : ℕ) → 0 < d → div_ceil n d ≤ n / d + 1
 ceiling_near n d pos = div_ceil_least n d (n / d + 1) pos (omega (arith, lt-div-mul-add {a = n} {b = d} pos))
 
@@ -58,9 +52,12 @@ start_small S p d pos = div_ceil_least (S * d) (p + d) S (omega (arith, pos)) (o
 pub units_of_reciprocal : (S p d : ℕ) (v : Fraction) → 0 < d → p over d ≡ v
     → (S * d) over (p + d) ≡ whole S /ℚ (whole 1 +ℚ v)
 units_of_reciprocal S p d v pos e =
-    let all : whole 1 +ℚ p over d ≡ (p + d) over d = over_add 1 1 p d one_pos pos
-    ∙ over_same _ _ _ _ (mul-pos one_pos pos) pos (omega arith) in
     over_same (S * d) (p + d) (S * d) (1 * (p + d)) (omega (arith, pos)) (mul-pos one_pos (omega (arith, pos)))
     (omega arith)
-    ∙ sym (over_div S 1 (p + d) d one_pos pos (omega (arith, pos))) ∙ ap (λ t. whole S /ℚ t) (sym all)
+    ∙ sym (over_div S 1 (p + d) d one_pos pos (omega (arith, pos))) ∙ ap (λ t. whole S /ℚ t) (sym (one_and p d pos))
     ∙ ap (λ t. whole S /ℚ (whole 1 +ℚ t)) e
+
+pub reciprocal : (p d : ℕ) (v : Fraction) → 0 < d → p over d ≡ v → d over (p + d) ≡ whole 1 /ℚ (whole 1 +ℚ v)
+reciprocal p d v pos e =
+    let one : d ≡ 1 * d = omega arith in
+    ap (λ n. n over (p + d)) one ∙ units_of_reciprocal 1 p d v pos e

@@ -1,9 +1,9 @@
 -- The rounded ends of a product, of a sum and of a mixture of grids, between which what they hold lies.
-use Rattle.dl_power.proofs.Common.{ℕ, zero, suc, ◌≡◌, ◌+◌, ◌*◌, ◌/◌, ◌<◌, ◌≤◌, arith, sym, ap, ap₂, subst, inl, inr, ◌∙◌, mul-pos, min, div_ceil, div-mul-le_self, cases_lt, div_ceil_times, Fraction, whole, ◌over◌, ◌+ℚ◌, ◌*ℚ◌, ◌≤ℚ◌, sum_to, over_le, over_mul, one_pos, le_refl, le_trans, le_of_eq, plus_le_both, times_le_both, sum_to_le, count_pairs, count_below, convolve, power, cell_from, IsWithinOne, compound_proper, LieBetween}
+use Rattle.dl_power.proofs.Common.{ℕ, zero, suc, ◌≡◌, ◌+◌, ◌*◌, ◌/◌, ◌<◌, ◌≤◌, arith, sym, ap, ap₂, subst, ◌∙◌, mul-pos, min, div_ceil, div-mul-le_self, div_ceil_times, Fraction, whole, ◌over◌, ◌+ℚ◌, ◌*ℚ◌, ◌≤ℚ◌, sum_to, over_le, over_mul, one_pos, le_refl, le_trans, le_of_eq, plus_le_both, times_le_both, sum_to_le, count_pairs, count_below, convolve, power, cell_from, IsWithinOne, compound_proper, LieBetween}
 use Rattle.std.proofs.Common.{mul-le-mul_right}
 use Rattle.dl_exact.proofs.Over.{le_over}
 use Rattle.dl_exact.proofs.Denominators.{over_plus}
-use Rattle.dl_power.proofs.HornerSteps.{shifted, pairs_low, pairs_high, sum_over}
+use Rattle.dl_power.proofs.HornerSteps.{shifted, pairs_low, pairs_high, sum_over, clamped}
 
 -- what counts from k on come to adds up to at most 1
 pub cells_within_one : (w f : ℕ → Fraction) → IsWithinOne w → IsWithinOne f → (k N : ℕ)
@@ -30,17 +30,6 @@ module _ (S : ℕ) (pos : 0 < S) where
             (le_trans _ _ _ (sum_to_le n _ c (λ s b. low s (omega arith))) (p n))),
       )
 
-  -- lowered to 1 where it is above
-  clamped : (h : ℕ) (x : Fraction) → x ≤ℚ whole 1 → x ≤ℚ h over S → x ≤ℚ min S h over S
-  clamped h x one above = elim (cases_lt S h) [
-    | inl far ↦
-        let e : S ≡ min S h = omega arith in
-        subst (λ t. x ≤ℚ t over S) e (le_trans _ _ _ one (over_le _ _ _ _ one_pos pos (omega arith)))
-    | inr near ↦
-        let e : h ≡ min S h = omega arith in
-        subst (λ t. x ≤ℚ t over S) e above
-  ]
-
   below_min : (h : ℕ) (x : Fraction) → h over S ≤ℚ x → min S h over S ≤ℚ x
   below_min h x low = le_trans _ _ _ (over_le _ _ _ _ pos pos (mul-le-mul_right S (omega arith))) low
 
@@ -54,7 +43,7 @@ module _ (S : ℕ) (pos : 0 < S) where
     low = λ s inside. subst (λ t. t over S ≤ℚ convolve f c s) (sym (e s inside))
         (pairs_low S pos K lo hi lo' hi' f c of_f of_c s inside);
     high = λ s inside. subst (λ t. convolve f c s ≤ℚ t over S) (sym (e' s inside))
-        (clamped _ _ (one s) (pairs_high S pos K lo hi lo' hi' f c of_f of_c s inside));
+        (clamped S pos _ _ (one s) (pairs_high S pos K lo hi lo' hi' f c of_f of_c s inside));
   }
 
   pub sum_between : (K : ℕ) (lo hi lo' hi' g g' : ℕ → ℕ) (b c both : ℕ → Fraction) → LieBetween S K lo hi b
@@ -68,7 +57,7 @@ module _ (S : ℕ) (pos : 0 < S) where
         (le_trans _ _ _ (le_of_eq _ _ (sum_over S pos (lo s) (lo' s)))
         (plus_le_both _ _ _ _ (of_b.low s inside) (of_c.low s inside)))));
     high = λ s inside. subst (λ t. both s ≤ℚ t over S) (sym (e' s inside))
-        (clamped _ _ (one s) (subst (λ t. t ≤ℚ (hi s + hi' s) over S) (sym (sum s))
+        (clamped S pos _ _ (one s) (subst (λ t. t ≤ℚ (hi s + hi' s) over S) (sym (sum s))
         (le_trans _ _ _ (plus_le_both _ _ _ _ (of_b.high s inside) (of_c.high s inside))
         (le_of_eq _ _ (sym (sum_over S pos (hi s) (hi' s)))))));
   }
@@ -100,7 +89,7 @@ module _ (S : ℕ) (pos : 0 < S) where
       high = λ s inside.
           let n = count_below (suc m) (λ i. a i * hi i s) in
           subst (λ t. cell_from w f k s m ≤ℚ t over S) (sym (e' s inside))
-          (clamped _ _ (one s)
+          (clamped S pos _ _ (one s)
           (le_trans _ _ _ (sum_to_le m _ _ (λ i b. subst
           (λ t. t *ℚ power f i s ≤ℚ a i over total *ℚ hi i s over S) (chance i b)
           (times_le_both _ _ _ _ (le_refl _) ((of_f i b).high s inside))))

@@ -1,10 +1,9 @@
 -- Lists of numbers as loops make them, and the ends of a grid made from two of them.
-use Rattle.dl_power.proofs.Common.{ℕ, ◌≡◌, ◌+◌, ◌*◌, ◌^◌, ◌<◌, ◌≤◌, List, [], ◌∷◌, ◌++◌, length, get_or, arith, refl, sym, ap, ap₂, inl, inr, ◌∙◌, All, get_or-append_seam, get_or_append_left, get_or_default, cases_lt, Iv, AreEnds, count_below, below_more, below_same, mixture_end}
+use Rattle.dl_power.proofs.Common.{ℕ, ◌≡◌, ◌+◌, ◌*◌, ◌^◌, ◌<◌, ◌≤◌, List, [], ◌∷◌, ◌++◌, length, get_or, arith, refl, sym, ap, ap₂, inl, inr, ◌∙◌, get_or-append_seam, get_or_append_left, get_or_default, cases_lt, Iv, AreEnds, count_below, below_more, below_same, mixture_end}
 use Rattle.std.specs.Prelude.{sum, zip}
 use Rattle.std.proofs.Math.ListN.{get_or-eq_default}
-use Rattle.std.proofs.Math.Nat.{le_trans, mul-le-mul, pow-le-pow_right}
+use Rattle.std.proofs.Math.Nat.{mul-le-mul}
 use Rattle.std.proofs.lemmas.List.Sums.{sum_by-cons}
-use Rattle.std.proofs.lemmas.List.Elements.{All-weaker}
 use Rattle.std.proofs.lemmas.Grind.{get_or_default_zero}
 use Rattle.dl_exact.proofs.Counts.{below_first}
 use Rattle.dl_conv.proofs.Ends.{sum_total}
@@ -79,12 +78,6 @@ mixture_end_more weights grids g i sum w v end inside is e h before =
     let product : w * v ≡ get_or weights i 0 * end (get_or grids i []) = ap₂ (λ s t. s * t) e (h ∙ ap end (sym same)) in
     omega (arith, product, before, below_more i (λ k. get_or weights k 0 * end (get_or grids k [])))
 
-pub product_small : (w v B : ℕ) → w < 2 ^ 32 → v ≤ 2 ^ B → B ≤ 56 → w * v ≤ 2 ^ 88
-product_small w v B few small below =
-    let most : v ≤ 2 ^ 56 = le_trans small (pow-le-pow_right {n = 2} (omega arith) {i = B} {j = 56} below) in
-    omega (arith, mul-le-mul {n₁ = w} {m₁ = v} {n₂ = 2 ^ 32} {m₂ = 2 ^ 56} (omega arith) most)
-
--- ends at any scale
-pub ends_small : (B : ℕ) (ends : List ℕ) → B ≤ 56 → All (λ e. e ≤ 2 ^ B) ends → All (λ e. e ≤ 2 ^ 56) ends
-ends_small B ends below small = All-weaker (λ e. e ≤ 2 ^ B) (λ e. e ≤ 2 ^ 56)
-    (λ e h. le_trans h (pow-le-pow_right {n = 2} (omega arith) {i = B} {j = 56} below)) ends small
+pub product_small : (w v : ℕ) → w < 2 ^ 32 → v ≤ 2 ^ 56 → w * v ≤ 2 ^ 88
+product_small w v few small =
+    omega (arith, mul-le-mul {n₁ = w} {m₁ = v} {n₂ = 2 ^ 32} {m₂ = 2 ^ 56} (omega arith) small)

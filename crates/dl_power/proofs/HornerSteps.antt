@@ -85,16 +85,21 @@ module _ (S : ℕ) (pos : 0 < S) where
         (over_le _ _ _ _ (mul-pos pos pos) pos
         (omega (arith, mul-le-mul_right S (div_ceil_times (count_pairs s (λ i j. hi i * hi' j)) S pos).0))))
 
-  -- lowered to 1 where that is less
-  lowered : (h b s : ℕ) (x : Fraction) → x ≤ℚ whole 1 → x ≤ℚ (h + b) over S → x ≤ℚ min (min S h + b) S over S
-  lowered h b s x one above = elim (cases_lt S (h + b)) [
+  -- lowered to 1 where it is above
+  pub clamped : (h : ℕ) (x : Fraction) → x ≤ℚ whole 1 → x ≤ℚ h over S → x ≤ℚ min S h over S
+  clamped h x one above = elim (cases_lt S h) [
     | inl far ↦
-        let e : S ≡ min (min S h + b) S = omega arith in
+        let e : S ≡ min S h = omega arith in
         subst (λ t. x ≤ℚ t over S) e (le_trans _ _ _ one (over_le _ _ _ _ one_pos pos (omega arith)))
     | inr near ↦
-        let e : h + b ≡ min (min S h + b) S = omega arith in
+        let e : h ≡ min S h = omega arith in
         subst (λ t. x ≤ℚ t over S) e above
   ]
+
+  lowered : (h b : ℕ) (x : Fraction) → x ≤ℚ whole 1 → x ≤ℚ (h + b) over S → x ≤ℚ min (min S h + b) S over S
+  lowered h b x one above =
+      let e : min S (h + b) ≡ min (min S h + b) S = omega arith in
+      subst (λ t. x ≤ℚ t over S) e (clamped (h + b) x one above)
 
   -- the greatest count
   pub starts : (K : ℕ) (w f : ℕ → Fraction) (g g' : ℕ → ℕ) (a b k : ℕ) → a over S ≤ℚ w k → w k ≤ℚ b over S
@@ -127,7 +132,7 @@ module _ (S : ℕ) (pos : 0 < S) where
               (le_of_eq _ _ (sym (step s)))));
           high = λ s inside.
               subst (λ t. cell_from w f k s (suc N) ≤ℚ t over S) (sym (e' s inside))
-              (lowered (div_ceil (count_pairs s (λ i j. hi i * hi' j)) S) (all_at_zero b s) s
+              (lowered (div_ceil (count_pairs s (λ i j. hi i * hi' j)) S) (all_at_zero b s)
               (cell_from w f k s (suc N)) (from_within_one w f p q k s (suc N))
               (le_trans _ _ _ (le_of_eq _ _ (step s))
               (le_trans _ _ _ (plus_le_both _ _ _ _ (zero_high b s (w k) high)

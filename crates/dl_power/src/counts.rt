@@ -5,7 +5,7 @@ ghost use Rattle.std.specs.Int.{div_ceil};
 ghost use Rattle.dl_grid.specs.Cells.{low_at, high_at, mass_low, spread, all_at_zero};
 ghost use Rattle.dl_exact.specs.Count.{count_pairs};
 ghost use Rattle.dl_grid.specs.Width.{cv, mixed_spread};
-ghost use Rattle.dl_plan.specs.Weighted.{weight_sum, greatest};
+ghost use Rattle.dl_plan.specs.Weighted.{weight_at, weight_sum, greatest};
 ghost use Rattle.dl_power.specs.Powers.{EnclosesListed};
 
 use crate::blocks::by_blocks;
@@ -67,6 +67,19 @@ fn one_claim_more<const B: u32>(
     Ok(grid)
 }
 
+/// The share of the total that the weight of the number `count` has, rounded outward.
+fn share_of<const B: u32>(table: &[Item], count: u32, total: u32) -> Iv<B>
+    requires scale_above { 1 ≤ B }
+    requires scale_below { B ≤ 56 }
+    requires sum { weight_sum table.now ≡ total }
+    requires positive { 0 < total }
+    ensures low { result.lo ≡ 2 ^ B * weight_at table.now count / total }
+    ensures high { result.hi ≡ div_ceil (2 ^ B * weight_at table.now count) total }
+    ensures small { result.hi ≤ 2 ^ B }
+{
+    share(weight_of(table, u64::from(count)), total)
+}
+
 /// The sum of a listed number of claims by Horner's rule: it goes from the greatest number down,
 /// with one product for each number below it. Besides the base two grids are held at a time.
 fn by_horner<const B: u32>(
@@ -89,13 +102,10 @@ fn by_horner<const B: u32>(
     base.cells();
     let greatest = greatest_of(table);
     let mut grid = nowhere(alloc, cells)?;
-    add_at_zero(
-        &mut grid,
-        share(weight_of(table, u64::from(greatest)), total),
-    );
+    add_at_zero(&mut grid, share_of(table, greatest, total));
     for step in 0..greatest {
         let count = greatest - step - 1;
-        let share = share(weight_of(table, u64::from(count)), total);
+        let share = share_of(table, count, total);
         grid = one_claim_more(alloc, work, base, &grid, share, cells)?;
     }
     Ok(grid)

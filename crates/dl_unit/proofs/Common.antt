@@ -1,5 +1,5 @@
 -- The names that the proofs of this crate cite most, passed on from one place. Declares nothing.
-pub use Rattle.std.proofs.Common.{List, [], ap, ap₂, arith, inl, inr, length, map, refl, subst, suc, sym, take, zero, ℕ, ◌*◌, ◌+◌, ◌-◌, ◌/◌, ◌<◌, ◌^◌, ◌∙◌, ◌∷◌, ◌≡◌, ◌≤◌}
+pub use Rattle.std.proofs.Common.{List, [], ap, ap₂, arith, inl, inr, length, map, refl, rules, subst, suc, sym, take, zero, ℕ, ◌*◌, ◌+◌, ◌-◌, ◌/◌, ◌<◌, ◌^◌, ◌∙◌, ◌∷◌, ◌≡◌, ◌≤◌}
 pub use Rattle.std.proofs.Math.Nat.{pow-le-pow_right}
 pub use Rattle.std.proofs.lemmas.Bool.{cases_lt, ne_eqb}
 pub use Rattle.std.proofs.lemmas.Nat.{pow_pos}

@@ -1,7 +1,7 @@
 -- What one trial is worth, from the grid of one claim: its mass, its spread, and what it encloses.
 use Rattle.dl_unit.proofs.Common.{ℕ, zero, suc, ◌≡◌, ◌+◌, ◌-◌, ◌*◌, ◌/◌, ◌<◌, ◌≤◌, arith, inl, inr, sym, ap, subst, ◌∙◌, min, div_ceil, cases_lt, Fraction, ◌over◌, ◌+ℚ◌, ◌*ℚ◌, div_ceil_least, over_zero, all_at_zero, count_below, below_nothing, below_le, below_plus, below_constant, cell, fixed, binomial, IsWithinOne, IsSeverity, compound, trial, compound_proper, low_trial, high_trial}
 use Rattle.std.proofs.Common.{mul-le-mul_left, mul-le-mul_right}
-use Rattle.std.proofs.Math.Nat.{div-mul-le_self, le_of_mul-le-mul_right}
+use Rattle.std.proofs.Math.Nat.{div-mul-le_self, le_of_mul-le-mul_right, add-sub_of_le}
 use Rattle.dl_exact.specs.Fraction.{◌≤ℚ◌}
 use Rattle.dl_exact.proofs.Laws.{le_trans, le_of_eq, zero_le, times_one, times_zero, plus_comm, times_comm}
 use Rattle.dl_exact.proofs.Denominators.{over_one}
@@ -32,13 +32,10 @@ trial_mass S n q lo within mass =
     let times = below_times n a lo in
     let most : count_below n lo * a ≤ S * a = mul-le-mul_right a mass in
     let rest : r * b ≤ S * (b - a) = div-mul-le_self (S * (b - a)) b in
-    let whole_units : S * a + S * (b - a) ≡ S * b = omega (arith, ap (λ t. S * t) (parts a b within)) in
+    let whole_units : S * a + S * (b - a) ≡ S * b = omega (arith, ap (λ t. S * t) (add-sub_of_le within)) in
     let room : count_below n (λ y. lo y * a / b) + r ≤ S =
     le_of_mul-le-mul_right {k = b} (omega (arith, back, each, times, most, rest, whole_units)) q.positive in
     omega (arith, split, room, zero_below n r)
-  where
-    parts : (a b : ℕ) → a ≤ b → a + (b - a) ≡ b
-    parts a b h = omega arith
 
 -- ---- spread
 

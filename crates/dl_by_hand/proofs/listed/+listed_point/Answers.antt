@@ -1,4 +1,4 @@
-use Rattle.std.proofs.Common.{◌≡◌, ◌+◌, ◌*◌, ◌^◌, arith, ap, ap₂, ◌∙◌}
+use Rattle.std.proofs.Common.{◌≡◌, ◌+◌, ◌*◌, ◌^◌, arith, rules, ap, ap₂, ◌∙◌}
 use Rattle.dl_exact.specs.Fraction.{◌over◌}
 use Rattle.dl_by_hand.proofs.PointLaws.{here_le, denominator_next, point_none, point_next, numerator_fits, counts_fit, amounts_fit, denominator_fits}
 use Rattle.dl_by_hand.proofs.listed.+listed_point.Goals as goal
@@ -28,17 +28,12 @@ returns-then-claims-eq0-clause-cell t c =
     c.args.claims c.if-claims-eq0.true
 
 pub listed_point-fewer-requires : goal.listed_point-fewer-requires
-listed_point-fewer-requires t c = (
-  omega arith,
-  (
-    c.requires.counts_there,
-    (
-      c.requires.amounts_there,
-      denominator_fits c.args.counts.now c.args.amounts.now c.requires.counts_there c.requires.amounts_there
-          c.args.claims (2 ^ 128) c.requires.fits,
-    ),
-  ),
-)
+listed_point-fewer-requires t c =
+    search (
+      rules,
+      denominator_fits c.args.counts.now c.args.amounts.now c.requires.counts_there
+          c.requires.amounts_there c.args.claims (2 ^ 128) c.requires.fits,
+    )
 
 pub total-each-requires : goal.total-each-requires
 total-each-requires t c = record {
@@ -49,9 +44,9 @@ total-each-requires t c = record {
 pub returns-clause-cell : goal.returns-clause-cell
 returns-clause-cell t c =
     ap₂ (λ s t. s over t)
-    (ap₂ (λ x y. x + y) (ap (λ T. c.listed_point-fewer.result.0 * T) c.total-each.ensures)
+    (c.one_more.ensures.above ∙ ap₂ (λ x y. x + y) (ap (λ T. c.listed_point-fewer.result.0 * T) c.total-each.ensures)
     (ap₂ (λ x y. x * y) c.weight.ensures c.ways_of.ensures))
-    (ap (λ T. c.listed_point-fewer.result.1 * T) c.total-each.ensures)
+    (c.one_more.ensures.below ∙ ap (λ T. c.listed_point-fewer.result.1 * T) c.total-each.ensures)
     ∙ point_next c.args.counts.now c.args.amounts.now c.requires.counts_there c.requires.amounts_there c.args.x
     c.args.claims
     c.listed_point-fewer.result.0 c.listed_point-fewer.result.1
@@ -59,48 +54,30 @@ returns-clause-cell t c =
 
 pub returns-clause-denominator : goal.returns-clause-denominator
 returns-clause-denominator t c =
-    ap (λ T. c.listed_point-fewer.result.1 * T) c.total-each.ensures
+    c.one_more.ensures.below ∙ ap (λ T. c.listed_point-fewer.result.1 * T) c.total-each.ensures
     ∙ denominator_next c.args.counts.now c.args.amounts.now c.requires.counts_there c.requires.amounts_there
     c.args.claims
     c.listed_point-fewer.result.1 (omega arith) c.listed_point-fewer.ensures.denominator
 
-pub overflow_mul-result-2 : goal.overflow_mul-result-2
-overflow_mul-result-2 t c =
-    let new : c.listed_point-fewer.result.1 * c.total-each.result ≡ _ =
-    ap (λ T. c.listed_point-fewer.result.1 * T) c.total-each.ensures in
-    omega (
-      arith,
-      new,
-      c.requires.fits,
-      denominator_next c.args.counts.now c.args.amounts.now c.requires.counts_there c.requires.amounts_there
-          c.args.claims
-          c.listed_point-fewer.result.1 (omega arith) c.listed_point-fewer.ensures.denominator,
-    )
-
-pub overflow_add-result : goal.overflow_add-result
-overflow_add-result t c =
-    let first : c.listed_point-fewer.result.0 * c.total-each.result ≡ _ =
-    ap (λ T. c.listed_point-fewer.result.0 * T) c.total-each.ensures in
+pub one_more-requires : goal.one_more-requires
+one_more-requires t c =
+    let counts = c.args.counts.now in
+    let amounts = c.args.amounts.now in
+    let before = c.listed_point-fewer.ensures in
     let here : c.weight.result * c.ways_of.result ≡ _ = ap₂ (λ x y. x * y) c.weight.ensures c.ways_of.ensures in
-    omega (
-      arith,
-      first,
-      here,
-      numerator_fits c.args.counts.now c.args.amounts.now c.requires.counts_there c.requires.amounts_there c.args.x
-          c.args.claims
-          c.listed_point-fewer.result.0 c.listed_point-fewer.result.1 (2 ^ 128)
-          (omega arith) c.listed_point-fewer.ensures.denominator c.listed_point-fewer.ensures.cell c.requires.fits,
-    )
-
-pub overflow_mul-result : goal.overflow_mul-result
-overflow_mul-result t c =
-    let first : c.listed_point-fewer.result.0 * c.total-each.result ≡ _ =
-    ap (λ T. c.listed_point-fewer.result.0 * T) c.total-each.ensures in
-    omega (
-      arith,
-      first,
-      numerator_fits c.args.counts.now c.args.amounts.now c.requires.counts_there c.requires.amounts_there c.args.x
-          c.args.claims
-          c.listed_point-fewer.result.0 c.listed_point-fewer.result.1 (2 ^ 128)
-          (omega arith) c.listed_point-fewer.ensures.denominator c.listed_point-fewer.ensures.cell c.requires.fits,
-    )
+    record {
+      above = omega (
+        arith,
+        ap (λ T. c.listed_point-fewer.result.0 * T) c.total-each.ensures,
+        here,
+        numerator_fits counts amounts c.requires.counts_there c.requires.amounts_there c.args.x c.args.claims _ _
+            (2 ^ 128) (omega arith) before.denominator before.cell c.requires.fits,
+      );
+      below = omega (
+        arith,
+        ap (λ T. c.listed_point-fewer.result.1 * T) c.total-each.ensures,
+        denominator_next counts amounts c.requires.counts_there c.requires.amounts_there c.args.claims _
+            (omega arith) before.denominator,
+        c.requires.fits,
+      );
+    }

@@ -1,4 +1,4 @@
-use Rattle.std.proofs.Common.{◌+◌, ◌*◌, ◌^◌, arith, ap, ap₂, ◌∙◌}
+use Rattle.std.proofs.Common.{◌+◌, ◌*◌, ◌^◌, arith, rules, ap, ap₂, ◌∙◌}
 use Rattle.dl_exact.specs.Fraction.{◌over◌}
 use Rattle.dl_by_hand.proofs.CountLaws.{gamma_here_within, gamma_before_fits, gamma_within, gamma_below_none, gamma_below_next, gamma_below_within, gamma_first, gamma_more}
 use Rattle.dl_by_hand.proofs.unbounded.+gamma_point.Goals as goal
@@ -23,49 +23,41 @@ returns-then-claims-eq0-clause-within t c = omega (
 )
 
 pub gamma_point-fewer-requires : goal.gamma_point-fewer-requires
-gamma_point-fewer-requires t c = (
-  omega arith,
-  (
-    c.requires.shape_there,
-    (
-      c.requires.mean_there,
-      (
-        c.requires.amounts_there,
-        gamma_before_fits c.args.shape c.args.mean.0 c.args.mean.1 c.args.amounts.now
-            c.requires.shape_there c.requires.mean_there c.requires.amounts_there c.args.claims (2 ^ 128)
-            (omega arith) c.requires.fits,
-      ),
-    ),
-  ),
-)
-
-pub overflow_mul-result : goal.overflow_mul-result
-overflow_mul-result t c =
-    omega (
-      arith,
-      ap (λ s. c.gamma_point-fewer.result.0 * s) c.gamma_step-step.ensures,
-      gamma_within c.args.shape c.args.mean.0 c.args.mean.1 c.args.amounts.now c.requires.shape_there
-          c.requires.mean_there c.requires.amounts_there c.args.claims c.args.x c.gamma_point-fewer.result.0
-          (omega arith) c.gamma_point-fewer.ensures.within,
-      c.requires.fits,
+gamma_point-fewer-requires t c =
+    search (
+      rules,
+      gamma_before_fits c.args.shape c.args.mean.0 c.args.mean.1 c.args.amounts.now c.requires.shape_there
+          c.requires.mean_there c.requires.amounts_there c.args.claims (2 ^ 128) (omega arith) c.requires.fits,
     )
 
-pub overflow_add-result : goal.overflow_add-result
-overflow_add-result t c =
-    omega (
-      arith,
-      c.gamma_part-here.ensures,
-      ap (λ s. c.gamma_point-fewer.result.0 * s) c.gamma_step-step.ensures,
-      gamma_within c.args.shape c.args.mean.0 c.args.mean.1 c.args.amounts.now c.requires.shape_there
-          c.requires.mean_there c.requires.amounts_there c.args.claims c.args.x c.gamma_point-fewer.result.0
-          (omega arith) c.gamma_point-fewer.ensures.within,
-      c.requires.fits,
-    )
+pub one_more-requires : goal.one_more-requires
+one_more-requires t c = record {
+  above = omega (
+    arith,
+    c.gamma_part-here.ensures,
+    ap (λ s. c.gamma_point-fewer.result.0 * s) c.gamma_step-step.ensures,
+    gamma_within c.args.shape c.args.mean.0 c.args.mean.1 c.args.amounts.now c.requires.shape_there
+        c.requires.mean_there c.requires.amounts_there c.args.claims c.args.x c.gamma_point-fewer.result.0
+        (omega arith) c.gamma_point-fewer.ensures.within,
+    c.requires.fits,
+  );
+  below = omega (
+    arith,
+    ap (λ s. c.gamma_point-fewer.result.1 * s) c.gamma_step-step.ensures,
+    gamma_below_next c.args.shape c.args.mean.0 c.args.mean.1 c.args.amounts.now c.requires.shape_there
+        c.requires.mean_there c.requires.amounts_there c.args.claims c.gamma_point-fewer.result.1
+        (omega arith) c.gamma_point-fewer.ensures.denominator,
+    gamma_below_within c.args.shape c.args.mean.0 c.args.mean.1 c.args.amounts.now c.requires.shape_there
+        c.requires.mean_there c.requires.amounts_there c.args.claims,
+    c.requires.fits,
+  );
+}
 
 pub returns-clause-within : goal.returns-clause-within
 returns-clause-within t c =
     omega (
       arith,
+      c.one_more.ensures.above,
       c.gamma_part-here.ensures,
       ap (λ s. c.gamma_point-fewer.result.0 * s) c.gamma_step-step.ensures,
       gamma_within c.args.shape c.args.mean.0 c.args.mean.1 c.args.amounts.now c.requires.shape_there
@@ -73,29 +65,18 @@ returns-clause-within t c =
           (omega arith) c.gamma_point-fewer.ensures.within,
     )
 
-pub overflow_mul-result-2 : goal.overflow_mul-result-2
-overflow_mul-result-2 t c =
-    omega (
-      arith,
-      ap (λ s. c.gamma_point-fewer.result.1 * s) c.gamma_step-step.ensures,
-      gamma_below_next c.args.shape c.args.mean.0 c.args.mean.1 c.args.amounts.now c.requires.shape_there
-          c.requires.mean_there c.requires.amounts_there c.args.claims c.gamma_point-fewer.result.1
-          (omega arith) c.gamma_point-fewer.ensures.denominator,
-      gamma_below_within c.args.shape c.args.mean.0 c.args.mean.1 c.args.amounts.now c.requires.shape_there
-          c.requires.mean_there c.requires.amounts_there c.args.claims,
-      c.requires.fits,
-    )
-
 pub returns-clause-denominator : goal.returns-clause-denominator
 returns-clause-denominator t c =
-    ap (λ s. c.gamma_point-fewer.result.1 * s) c.gamma_step-step.ensures
+    c.one_more.ensures.below
+    ∙ ap (λ s. c.gamma_point-fewer.result.1 * s) c.gamma_step-step.ensures
     ∙ gamma_below_next c.args.shape c.args.mean.0 c.args.mean.1 c.args.amounts.now c.requires.shape_there
     c.requires.mean_there c.requires.amounts_there c.args.claims c.gamma_point-fewer.result.1
     (omega arith) c.gamma_point-fewer.ensures.denominator
 
 pub returns-clause-cell : goal.returns-clause-cell
 returns-clause-cell t c =
-    ap₂ (λ s h. (c.gamma_point-fewer.result.0 * s + h) over (c.gamma_point-fewer.result.1 * s))
+    ap₂ (λ a d. a over d) c.one_more.ensures.above c.one_more.ensures.below
+    ∙ ap₂ (λ s h. (c.gamma_point-fewer.result.0 * s + h) over (c.gamma_point-fewer.result.1 * s))
     c.gamma_step-step.ensures c.gamma_part-here.ensures
     ∙ gamma_more c.args.shape c.args.mean.0 c.args.mean.1 c.args.amounts.now c.requires.shape_there
     c.requires.mean_there c.requires.amounts_there c.args.claims c.args.x c.gamma_point-fewer.result.0

@@ -1,7 +1,7 @@
-use Rattle.dl_direct.proofs.Common.{◌≡◌, ℕ, ◌+◌, ◌*◌, ◌<◌, ◌≤◌, ◌^◌, [], ◌++◌, length, take, get_or, arith, refl, sym, ap, ap₂, subst, ◌∙◌, All, sum_by, flat_map, Part, Run, in_a_row, run_parts, all_parts}
+use Rattle.dl_direct.proofs.Common.{◌≡◌, ℕ, ◌+◌, ◌*◌, ◌<◌, ◌≤◌, ◌^◌, [], ◌++◌, get_or, arith, refl, sym, ap, ap₂, subst, ◌∙◌, All, sum_by, flat_map, Part, Run, in_a_row, run_parts, all_parts}
 use Rattle.std.specs.Prelude.{◌==◌, if◌then◌else◌}
 use Rattle.dl_plan.specs.declared.item.Item.{Item}
-use Rattle.std.proofs.Math.Seq.{take-length}
+use Rattle.std.proofs.lemmas.List.{take_all}
 use Rattle.dl_direct.proofs.Runs.{row_none}
 use Rattle.dl_direct.proofs.Units.{times_item, times_sum, times_each, item_joined, item_begun}
 use Rattle.dl_direct.proofs.parts.amounts_of.Goals as goal
@@ -65,20 +65,14 @@ items-preserved c =
 -- the loop came to the end of the items
 pub returns-clause-sum : goal.returns-clause-sum
 returns-clause-sum c =
-    let n : c.items.item-index ≡ length c.args.items.now =
-    omega (arith, c.items-test.false, c.items.auto.item-index-end) in
-    let all : take c.items.item-index c.args.items.now ≡ c.args.items.now = ap (λ t. take t c.args.items.now) n
-    ∙ take-length c.args.items.now in
+    let all = take_all c.items.item-index c.args.items.now c.items-test.false in
     c.in_ok-add-2.ensures.parts (λ p. p.weight) ∙ c.items.invariant.parts (λ p. p.weight)
     ∙ ap (λ l. sum_by (λ (item : Item). c.args.factor * item.weight) l) all ∙ times_sum c.args.factor c.args.items.now
 
 pub returns-clause-each : goal.returns-clause-each
 returns-clause-each c j =
     let f : Part → ℕ = λ p. if p.amount == j then p.weight else 0 in
-    let n : c.items.item-index ≡ length c.args.items.now =
-    omega (arith, c.items-test.false, c.items.auto.item-index-end) in
-    let all : take c.items.item-index c.args.items.now ≡ c.args.items.now = ap (λ t. take t c.args.items.now) n
-    ∙ take-length c.args.items.now in
+    let all = take_all c.items.item-index c.args.items.now c.items-test.false in
     c.in_ok-add-2.ensures.parts f ∙ c.items.invariant.parts f
     ∙ ap (λ l. sum_by (λ (item : Item). f (times_item c.args.factor item)) l) all
     ∙ times_each c.args.factor j c.args.items.now

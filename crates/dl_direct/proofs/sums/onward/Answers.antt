@@ -10,15 +10,11 @@ past_none a b s m cells l =
     let e : suc s - m ≡ 0 = omega (arith, l) in
     sym (ap (λ t. sum_by (contribution a b cells s) (in_a_row m t 1)) e ∙ row_none (contribution a b cells s) m 1)
 
-pub returns-then-amount-s-clause-low : goal.returns-then-amount-s-clause-low
-returns-then-amount-s-clause-low c =
+pub returns-then-amount-s : goal.returns-then-amount-s
+returns-then-amount-s c =
     let s : c.len-s.result ≡ length c.args.x.now.low.items = c.len-s.ensures ∙ c.args.x.now.low.ok.0 in
-    past_none _ _ _ _ _ (subst (λ t. t < c.args.amount) s c.if-amount-s.true)
-
-pub returns-then-amount-s-clause-high : goal.returns-then-amount-s-clause-high
-returns-then-amount-s-clause-high c =
-    let s : c.len-s.result ≡ length c.args.x.now.low.items = c.len-s.ensures ∙ c.args.x.now.low.ok.0 in
-    past_none _ _ _ _ _ (subst (λ t. t < c.args.amount) s c.if-amount-s.true)
+    let past = subst (λ t. t < c.args.amount) s c.if-amount-s.true in
+    record { low = past_none _ _ _ _ _ past; high = past_none _ _ _ _ _ past }
 
 -- what is known where the sums of a cell are found: m cells before the next of s
 record Found (low high : List ℕ) (a b s m : ℕ) (sums : Sums) : Type 0 where
@@ -57,28 +53,21 @@ by_sums-requires-2 c =
     let small = total_small x.high.items _ _ c.requires.settled.high_small f.place f.is.high_total in
     record { factor_small = f.factor; step_small = f.step; cells_small = small.0; before_small = small.1 }
 
-pub returns-clause-low : goal.returns-clause-low
-returns-clause-low c =
+pub returns : goal.returns
+returns c =
     let x = c.args.x.now in
+    let a = c.args.a in
+    let b = c.args.b in
+    let m = c.args.amount in
     let n : c.len-s.result ≡ length x.low.items = c.len-s.ensures ∙ x.low.ok.0 in
-    let f = found x.low.items x.high.items x.sums.items c.args.a c.args.b c.len-s.result c.args.amount
-    c.index-sums.result.now n c.if-amount-s.false c.requires.amount c.requires.few
-    c.requires.steps c.requires.cells c.index-sums.ensures c.requires.sums in
-    subst (λ s. c.by_sums.result ≡ sum_by (contribution c.args.a c.args.b x.low.items s)
-    (in_a_row c.args.amount (suc s - c.args.amount) 1)) n
-    (c.by_sums.ensures
-    ∙ onward_at c.args.a c.args.b c.len-s.result c.args.amount x.low.items _ _ _ _ c.if-amount-s.false refl refl
-    f.is.low_total.cells f.is.low_total.before)
-
-pub returns-clause-high : goal.returns-clause-high
-returns-clause-high c =
-    let x = c.args.x.now in
-    let n : c.len-s.result ≡ length x.low.items = c.len-s.ensures ∙ x.low.ok.0 in
-    let f = found x.low.items x.high.items x.sums.items c.args.a c.args.b c.len-s.result c.args.amount
-    c.index-sums.result.now n c.if-amount-s.false c.requires.amount c.requires.few
-    c.requires.steps c.requires.cells c.index-sums.ensures c.requires.sums in
-    subst (λ s. c.by_sums-2.result ≡ sum_by (contribution c.args.a c.args.b x.high.items s)
-    (in_a_row c.args.amount (suc s - c.args.amount) 1)) n
-    (c.by_sums-2.ensures
-    ∙ onward_at c.args.a c.args.b c.len-s.result c.args.amount x.high.items _ _ _ _ c.if-amount-s.false refl refl
-    f.is.high_total.cells f.is.high_total.before)
+    let f = found x.low.items x.high.items x.sums.items a b c.len-s.result m c.index-sums.result.now n
+    c.if-amount-s.false c.requires.amount c.requires.few c.requires.steps c.requires.cells c.index-sums.ensures
+    c.requires.sums in
+    record {
+      low = subst (λ s. c.by_sums.result ≡ sum_by (contribution a b x.low.items s) (in_a_row m (suc s - m) 1)) n
+          (c.by_sums.ensures ∙ onward_at a b c.len-s.result m x.low.items _ _ _ _ c.if-amount-s.false refl refl
+          f.is.low_total.cells f.is.low_total.before);
+      high = subst (λ s. c.by_sums-2.result ≡ sum_by (contribution a b x.high.items s) (in_a_row m (suc s - m) 1)) n
+          (c.by_sums-2.ensures ∙ onward_at a b c.len-s.result m x.high.items _ _ _ _ c.if-amount-s.false refl refl
+          f.is.high_total.cells f.is.high_total.before);
+    }

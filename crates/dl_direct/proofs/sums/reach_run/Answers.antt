@@ -34,11 +34,6 @@ overflow_mul-result c =
           c.from-weight.ensures,
     )
 
-pub returns-clause-low : goal.returns-clause-low
-returns-clause-low c =
-    given c.args.a c.args.b (length c.args.x.now.low.items) c.args.x.now.low.items c.args.run _ _ _
-    c.onward-all.ensures.low c.onward-past.ensures.low c.from-weight.ensures
-
 pub overflow_sub-result-2 : goal.overflow_sub-result-2
 overflow_sub-result-2 c =
     subst₂ (λ x y. x ≤ y) (sym c.onward-past.ensures.high) (sym c.onward-all.ensures.high)
@@ -53,7 +48,12 @@ overflow_mul-result-2 c =
           c.from-weight.ensures,
     )
 
-pub returns-clause-high : goal.returns-clause-high
-returns-clause-high c =
-    given c.args.a c.args.b (length c.args.x.now.low.items) c.args.x.now.high.items c.args.run _ _ _
-    c.onward-all.ensures.high c.onward-past.ensures.high c.from-weight.ensures
+pub returns : goal.returns
+returns c =
+    let x = c.args.x.now in
+    record {
+      low = given c.args.a c.args.b (length x.low.items) x.low.items c.args.run _ _ _ c.onward-all.ensures.low
+          c.onward-past.ensures.low c.from-weight.ensures;
+      high = given c.args.a c.args.b (length x.low.items) x.high.items c.args.run _ _ _ c.onward-all.ensures.high
+          c.onward-past.ensures.high c.from-weight.ensures;
+    }

@@ -60,20 +60,15 @@ pub invariant_of-result-clause-in_range : goal.invariant_of-result-clause-in_ran
 invariant_of-result-clause-in_range g c =
     omega (arith, c.high_end.ensures, one_fits g.row.B c.requires.scale_below)
 
-pub returns-clause-low : goal.returns-clause-low
-returns-clause-low g c =
+pub returns : goal.returns
+returns g c =
     let b = not (eqb g.row.BY_AMOUNT 0) in
     let cells = c.args.cells.now in
-    c.low_end.ensures ∙ cell_low b c.args.items.now c.args.total c.args.rate (low_at cells)
-    (length cells) _ _ _ _ c.requires.some c.sums_before-low.ensures.low c.from-total.ensures
-    (c.from-num.ensures ∙ c.num.ensures.part)
-    (c.divisor-den.ensures ∙ ap (counted b (length cells)) c.den.ensures.part)
-
-pub returns-clause-high : goal.returns-clause-high
-returns-clause-high g c =
-    let b = not (eqb g.row.BY_AMOUNT 0) in
-    let cells = c.args.cells.now in
-    c.high_end.ensures ∙ cell_high (2 ^ g.row.B) b c.args.items.now c.args.total c.args.rate (high_at cells)
-    (length cells) _ _ _ _ c.requires.some c.sums_before-low.ensures.high c.from-total.ensures
-    (c.from-num.ensures ∙ c.num.ensures.part)
-    (c.divisor-den.ensures ∙ ap (counted b (length cells)) c.den.ensures.part)
+    let num = c.from-num.ensures ∙ c.num.ensures.part in
+    let divisor = c.divisor-den.ensures ∙ ap (counted b (length cells)) c.den.ensures.part in
+    record {
+      low = c.low_end.ensures ∙ cell_low b c.args.items.now c.args.total c.args.rate (low_at cells) (length cells)
+          _ _ _ _ c.requires.some c.sums_before-low.ensures.low c.from-total.ensures num divisor;
+      high = c.high_end.ensures ∙ cell_high (2 ^ g.row.B) b c.args.items.now c.args.total c.args.rate (high_at cells)
+          (length cells) _ _ _ _ c.requires.some c.sums_before-low.ensures.high c.from-total.ensures num divisor;
+    }

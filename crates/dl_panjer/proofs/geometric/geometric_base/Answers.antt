@@ -1,4 +1,4 @@
-use Rattle.dl_panjer.proofs.Common.{ℕ, ◌≡◌, ◌+◌, ◌*◌, ◌/◌, ◌^◌, ◌<◌, ◌≤◌, List, length, false, arith, sym, ap, ap₂, subst, subst₂, ◌∙◌, All, div_ceil, most_cells, Fraction, ◌over◌, ◌+ℚ◌, ◌*ℚ◌, ◌/ℚ◌, ◌≤ℚ◌, whole, IsFloor, IsCeiling, floor_div, ceiling_div, over_le, one_pos, Iv, low_at, high_at, spread, up, one_fits, Item, Sev, probability_of, num_le_den, Follows}
+use Rattle.dl_panjer.proofs.Common.{ℕ, ◌≡◌, ◌+◌, ◌*◌, ◌/◌, ◌^◌, ◌<◌, ◌≤◌, List, length, false, arith, rules, sym, ap, ap₂, subst, subst₂, ◌∙◌, All, div_ceil, most_cells, Fraction, ◌over◌, ◌+ℚ◌, ◌*ℚ◌, ◌/ℚ◌, ◌≤ℚ◌, whole, IsFloor, IsCeiling, floor_div, ceiling_div, over_le, one_pos, Iv, low_at, high_at, spread, up, one_fits, Item, Sev, probability_of, num_le_den, Follows}
 use Rattle.dl_iv.specs.Enclosure.{LiesIn}
 use Rattle.dl_panjer.proofs.Recursions.{rate_of}
 use Rattle.dl_panjer.proofs.Starts.{reciprocal, ceiling_near, start_small, units_of_reciprocal}
@@ -19,21 +19,20 @@ record Based {B : ℕ} (sev : Sev) (p d : ℕ) (v : Fraction) (list : List (Iv B
   low : low_at list 0 over 2 ^ B ≤ℚ whole 1 /ℚ (whole 1 +ℚ v)
   high : whole 1 /ℚ (whole 1 +ℚ v) ≤ℚ high_at list 0 over 2 ^ B
 
-based : {B : ℕ} (sev : Sev) (items : List Item) (p d : ℕ) (v : Fraction) (list : List (Iv B)) (cells : ℕ)
-    (rate : Fraction) (start : Iv B) (num den : ℕ) → 0 < d → p over d ≡ v → items ≡ sev.items → rate ≡ p over (p + d)
+based : {B : ℕ} (sev : Sev) {items : List Item} (p d : ℕ) {v : Fraction} (list : List (Iv B)) {cells : ℕ}
+    {rate : Fraction} {start : Iv B} {num den : ℕ} → 0 < d → p over d ≡ v → items ≡ sev.items → rate ≡ p over (p + d)
     → num ≡ d → den ≡ p + d → LiesIn (num over den) start
     → low_at list 0 ≡ start.lo → high_at list 0 ≡ start.hi → 1 ≤ cells → cells ≤ most_cells → length list ≡ cells
     → All (λ cell. cell.hi ≤ 2 ^ B) list → Follows (2 ^ B) false items sev.total rate (low_at list) (high_at list) cells
     → probability_of sev 0 ≡ whole 0 → Based sev p d v list cells
-based {B} sev items p d v list cells rate start num den pos mean same is num_is den_is holds at_low at_high
-    some few many
+based {B} sev p d {v} list {num = num} {den = den} pos mean same is num_is den_is holds at_low at_high some few many
     small follows none =
     let one : num over den ≡ whole 1 /ℚ (whole 1 +ℚ v) =
-    ap₂ (λ a b. a over b) num_is den_is ∙ reciprocal p d pos ∙ ap (λ t. whole 1 /ℚ (whole 1 +ℚ t)) mean in
+    ap₂ (λ a b. a over b) num_is den_is ∙ reciprocal p d v pos mean in
     record {
-      made = made_of false sev items (v /ℚ (whole 1 +ℚ v)) rate list cells same
-          (is ∙ rate_of p d pos ∙ ap (λ t. t /ℚ (whole 1 +ℚ t)) mean) some few many small follows none;
-      made_over = made_of false sev items (p over (p + d)) rate list cells same is some few many small follows none;
+      made = made_of false sev list same (is ∙ rate_of p d pos ∙ ap (λ t. t /ℚ (whole 1 +ℚ t)) mean) some few many
+          small follows none;
+      made_over = made_of false sev list same is some few many small follows none;
       low = subst₂ (λ a x. a over 2 ^ B ≤ℚ x) (sym at_low) one holds.low;
       high = subst₂ (λ a x. x ≤ℚ a over 2 ^ B) (sym at_high) one holds.high;
     }
@@ -44,25 +43,8 @@ small_start B n d num den pos scale p q = rw (p, q) (start_small (2 ^ B) n d pos
 pub enclose-start-requires : goal.enclose-start-requires
 enclose-start-requires g c =
     let hi = small_start g.row.B c.shared-num.result.0 c.shared-num.result.1 c.from.result c.from-2.result
-    c.shared-num.ensures.positive c.requires.scale_below c.from.ensures c.from-2.ensures in (
-      omega arith,
-      (
-        c.requires.scale_above,
-        (
-          c.requires.scale_below,
-          (
-            omega (arith, c.from-2.ensures, c.shared-num.ensures.positive),
-            (
-              omega (arith, c.from-2.ensures, c.shared-num.ensures.together),
-              (
-                omega (arith, c.from.ensures, c.shared-num.ensures.together),
-                omega (arith, hi, one_fits g.row.B c.requires.scale_below),
-              ),
-            ),
-          ),
-        ),
-      ),
-    )
+    c.shared-num.ensures.positive c.requires.scale_below c.from.ensures c.from-2.ensures in
+    search (rules, hi, one_fits g.row.B c.requires.scale_below)
 
 pub follow-requires : goal.follow-requires
 follow-requires g c =
@@ -70,33 +52,19 @@ follow-requires g c =
     let d = c.shared-num.result.1 in
     let hi = small_start g.row.B p d c.from.result c.from-2.result c.shared-num.ensures.positive c.requires.scale_below
     c.from.ensures c.from-2.ensures in
-    let rate : c.fraction-rate.result ≤ℚ whole 1 =
-    subst (λ r. r ≤ℚ whole 1) (sym c.fraction-rate.ensures.value) (at_most_one p d c.shared-num.ensures.positive) in (
-      omega arith,
-      (
-        c.requires.some,
-        (
-          c.requires.few,
-          (
-            omega (arith, c.enclose-start.ensures.high, hi),
-            (
-              items_weighted c.args.sev.now c.as_slice.result.now c.as_slice.ensures,
-              (
-                items_positive c.args.sev.now c.as_slice.result.now c.as_slice.ensures c.requires.no_zero,
-                (rate, omega (arith, c.fraction-rate.ensures.num, c.shared-num.ensures.small)),
-              ),
-            ),
-          ),
-        ),
-      ),
+    search (
+      rules,
+      hi,
+      items_weighted c.args.sev.now c.as_slice.result.now c.as_slice.ensures,
+      items_positive c.args.sev.now c.as_slice.result.now c.as_slice.ensures c.requires.no_zero,
+      subst (λ r. r ≤ℚ whole 1) (sym c.fraction-rate.ensures.value) (at_most_one p d c.shared-num.ensures.positive),
     )
 
 pub grid_of-requires : goal.grid_of-requires
 grid_of-requires g c =
     let v = c.args.mean /ℚ whole c.args.shape in
     let list = c.in_ok-list.list.items in
-    let t = based c.args.sev.now c.as_slice.result.now c.shared-num.result.0 c.shared-num.result.1 v list c.args.cells
-    c.fraction-rate.result c.enclose-start.result c.from.result c.from-2.result c.shared-num.ensures.positive
+    let t = based c.args.sev.now c.shared-num.result.0 c.shared-num.result.1 list c.shared-num.ensures.positive
     c.shared-num.ensures.value c.as_slice.ensures c.fraction-rate.ensures.value c.from.ensures c.from-2.ensures
     c.enclose-start.ensures.holds c.in_ok-list.ensures.start_low c.in_ok-list.ensures.start_high c.requires.some
     c.requires.few c.in_ok-list.ensures.cells c.in_ok-list.ensures.small c.in_ok-list.ensures.follows
@@ -104,8 +72,7 @@ grid_of-requires g c =
       omega arith,
       (
         omega arith,
-        rw c.deref.ensures.value
-            (geometric_grid c.args.sev.now.items c.args.sev.now.total v list c.args.cells t.made t.low t.high),
+        rw c.deref.ensures.value (geometric_grid v t.made t.low t.high),
       ),
     )
 
@@ -117,12 +84,10 @@ returns g c =
     let p = c.shared-num.result.0 in
     let d = c.shared-num.result.1 in
     let some = c.shared-num.ensures.positive in
-    let t = based c.args.sev.now c.as_slice.result.now p d v list c.args.cells c.fraction-rate.result
-    c.enclose-start.result c.from.result c.from-2.result some
-    c.shared-num.ensures.value c.as_slice.ensures c.fraction-rate.ensures.value c.from.ensures c.from-2.ensures
-    c.enclose-start.ensures.holds c.in_ok-list.ensures.start_low c.in_ok-list.ensures.start_high c.requires.some
-    c.requires.few c.in_ok-list.ensures.cells c.in_ok-list.ensures.small c.in_ok-list.ensures.follows
-    c.requires.no_zero in
+    let t = based c.args.sev.now p d list some c.shared-num.ensures.value c.as_slice.ensures
+    c.fraction-rate.ensures.value c.from.ensures c.from-2.ensures c.enclose-start.ensures.holds
+    c.in_ok-list.ensures.start_low c.in_ok-list.ensures.start_high c.requires.some c.requires.few
+    c.in_ok-list.ensures.cells c.in_ok-list.ensures.small c.in_ok-list.ensures.follows c.requires.no_zero in
     let units = units_of_reciprocal (2 ^ g.row.B) p d v some c.shared-num.ensures.value in
     let low : low_at list 0 ≡ 2 ^ g.row.B * d / (p + d) =
     c.in_ok-list.ensures.start_low ∙ c.enclose-start.ensures.low
@@ -140,11 +105,10 @@ returns g c =
           (subst₂ (λ x n. IsFloor x n) units (sym low) (floor_div (2 ^ B * d) (p + d) both));
       start_high = told (λ g. IsCeiling (whole (2 ^ B) /ℚ (whole 1 +ℚ v)) (high_at g 0))
           (subst₂ (λ x n. IsCeiling x n) units (sym high) (ceiling_div (2 ^ B * d) (p + d) both));
-      follows = told (IsGeometricBase c.args.sev.now v) (geometric_is_base c.args.sev.now v list c.args.cells t.made);
+      follows = told (IsGeometricBase c.args.sev.now v) (geometric_is_base c.args.sev.now v list t.made);
       encloses = told (λ g. GridEncloses g (compound (gamma_of 1 v) (probability_of c.args.sev.now)))
-          (geometric_encloses c.args.sev.now.items c.args.sev.now.total v list c.args.cells t.made t.low t.high);
+          (geometric_encloses v t.made t.low t.high);
       spread = told (λ g. spread g ≤ up (whole (4 * c.args.cells + 1) *ℚ (whole 1 +ℚ v)))
           (subst (λ x. spread list ≤ up (whole (4 * c.args.cells + 1) *ℚ (whole 1 +ℚ x))) c.shared-num.ensures.value
-          (geometric_widths c.args.sev.now.items c.args.sev.now.total p d list c.args.cells some
-          t.made_over (num_le_den (p over (p + d)) (at_most_one p d some)) near));
+          (geometric_widths p d some t.made_over (num_le_den (p over (p + d)) (at_most_one p d some)) near));
     }

@@ -1,4 +1,4 @@
-use Rattle.dl_panjer.proofs.Common.{ℕ, List, length, ◌+◌, ◌≡◌, ◌*◌, ◌^◌, ◌<◌, ◌≤◌, true, arith, sym, ap, ap₂, subst, ◌∙◌, mul-le-mul, zero-lt-suc, pow_pos, Fraction, ◌over◌, ◌/ℚ◌, ◌≤ℚ◌, whole, over_le, one_pos, le_trans, low_at, high_at, EnclosesExp}
+use Rattle.dl_panjer.proofs.Common.{ℕ, List, length, ◌+◌, ◌≡◌, ◌*◌, ◌^◌, ◌<◌, ◌≤◌, true, arith, rules, sym, ap, ap₂, subst, ◌∙◌, mul-le-mul, zero-lt-suc, pow_pos, Fraction, ◌over◌, ◌/ℚ◌, ◌≤ℚ◌, whole, over_le, one_pos, le_trans, low_at, high_at, EnclosesExp}
 use Rattle.std.proofs.Common.{◌%◌}
 use Rattle.std.proofs.Math.Nat.{pow-le-pow_right, mod-eq_of_lt}
 use Rattle.dl_exp.proofs.Terms.{half_parts}
@@ -22,9 +22,9 @@ shifted h few =
     let e : 1 * 2 ^ h ≡ 2 ^ h = omega arith in
     ap (λ n. n % 2 ^ 64) e ∙ mod-eq_of_lt (omega (arith, few_halvings h few))
 
-rate_is : (r mean : Fraction) (num den h : ℕ) → h ≤ 13 → num ≡ mean.num → den ≡ mean.den
+rate_is : (h : ℕ) (mean : Fraction) {r : Fraction} {num den : ℕ} → h ≤ 13 → num ≡ mean.num → den ≡ mean.den
     → r ≡ num over (den * (1 * 2 ^ h % 2 ^ 64)) → r ≡ mean /ℚ whole (2 ^ h)
-rate_is r mean num den h few p q e =
+rate_is h mean few p q e =
     e ∙ ap₂ (λ s t. s over t) p (ap₂ (λ s t. s * t) q (shifted h few)) ∙ divided mean (2 ^ h) (pow_pos h)
 
 small_den : (den h : ℕ) → h ≤ 13 → den < 2 ^ 48 → den * (1 * 2 ^ h % 2 ^ 64) < 2 ^ 62
@@ -42,53 +42,33 @@ fraction-rate-requires-clause-small_den g c =
 
 pub exp_neg-start-requires : goal.exp_neg-start-requires
 exp_neg-start-requires g c =
-    let half : c.fraction-rate.result ≤ℚ 1 over 2 =
-    subst (λ t. t ≤ℚ 1 over 2)
-    (sym (rate_is c.fraction-rate.result c.args.mean c.num.result c.den.result c.args.halvings c.requires.halvings
+    let half = subst (λ t. t ≤ℚ 1 over 2) (sym (rate_is c.args.halvings c.args.mean c.requires.halvings
     c.num.ensures.part c.den.ensures.part c.fraction-rate.ensures.value)) c.requires.half in
     (omega arith, (c.requires.scale_above, (c.requires.scale_below, half)))
 
 pub follow-requires : goal.follow-requires
 follow-requires g c =
-    let half : c.fraction-rate.result ≤ℚ 1 over 2 =
-    subst (λ t. t ≤ℚ 1 over 2)
-    (sym (rate_is c.fraction-rate.result c.args.mean c.num.result c.den.result c.args.halvings c.requires.halvings
+    let half = subst (λ t. t ≤ℚ 1 over 2) (sym (rate_is c.args.halvings c.args.mean c.requires.halvings
     c.num.ensures.part c.den.ensures.part c.fraction-rate.ensures.value)) c.requires.half in
-    let small : c.fraction-rate.result.num < 2 ^ 48 =
-    omega (arith, c.fraction-rate.ensures.num, c.num.ensures.part, c.requires.num) in (
-      omega arith,
-      (
-        c.requires.some,
-        (
-          c.requires.few,
-          (
-            c.exp_neg-start.ensures.small,
-            (
-              items_weighted c.args.sev.now c.as_slice.result.now c.as_slice.ensures,
-              (
-                items_positive c.args.sev.now c.as_slice.result.now c.as_slice.ensures c.requires.no_zero,
-                (half_le_one c.fraction-rate.result half, small),
-              ),
-            ),
-          ),
-        ),
-      ),
+    search (
+      rules,
+      items_weighted c.args.sev.now c.as_slice.result.now c.as_slice.ensures,
+      items_positive c.args.sev.now c.as_slice.result.now c.as_slice.ensures c.requires.no_zero,
+      half_le_one c.fraction-rate.result half,
     )
 
 pub grid_of-requires : goal.grid_of-requires
 grid_of-requires g c =
-    let e = rate_is c.fraction-rate.result c.args.mean c.num.result c.den.result c.args.halvings c.requires.halvings
-    c.num.ensures.part c.den.ensures.part c.fraction-rate.ensures.value in
+    let e = rate_is c.args.halvings c.args.mean c.requires.halvings c.num.ensures.part c.den.ensures.part
+    c.fraction-rate.ensures.value in
     let v = c.args.mean /ℚ whole (2 ^ c.args.halvings) in
     let list = c.in_ok-list.list.items in
-    let made =
-    made_of true c.args.sev.now c.as_slice.result.now v c.fraction-rate.result list c.args.cells
-    c.as_slice.ensures e c.requires.some c.requires.few
+    let made = made_of true c.args.sev.now list c.as_slice.ensures e c.requires.some c.requires.few
     c.in_ok-list.ensures.cells c.in_ok-list.ensures.small c.in_ok-list.ensures.follows c.requires.no_zero in (
       omega arith,
       (
         omega arith,
-        rw c.deref.ensures.value (poisson_grid c.args.sev.now.items c.args.sev.now.total v list c.args.cells made
+        rw c.deref.ensures.value (poisson_grid made
             (poisson_start v c.exp_neg-start.result (low_at list 0) (high_at list 0)
             (subst (λ t. EnclosesExp t c.exp_neg-start.result) e c.exp_neg-start.ensures.encloses)
             c.in_ok-list.ensures.start_low c.in_ok-list.ensures.start_high)),
@@ -97,13 +77,11 @@ grid_of-requires g c =
 
 pub returns : goal.returns
 returns g c =
-    let e = rate_is c.fraction-rate.result c.args.mean c.num.result c.den.result c.args.halvings c.requires.halvings
-    c.num.ensures.part c.den.ensures.part c.fraction-rate.ensures.value in
+    let e = rate_is c.args.halvings c.args.mean c.requires.halvings c.num.ensures.part c.den.ensures.part
+    c.fraction-rate.ensures.value in
     let v = c.args.mean /ℚ whole (2 ^ c.args.halvings) in
     let list = c.in_ok-list.list.items in
-    let made =
-    made_of true c.args.sev.now c.as_slice.result.now v c.fraction-rate.result list c.args.cells
-    c.as_slice.ensures e c.requires.some c.requires.few
+    let made = made_of true c.args.sev.now list c.as_slice.ensures e c.requires.some c.requires.few
     c.in_ok-list.ensures.cells c.in_ok-list.ensures.small c.in_ok-list.ensures.follows c.requires.no_zero in
     let holds = subst (λ t. EnclosesExp t c.exp_neg-start.result) e c.exp_neg-start.ensures.encloses in
     let told = λ (P : List (Iv g.row.B) → Type 0) (p : P list).
@@ -118,14 +96,12 @@ returns g c =
         narrow = c.exp_neg-start.ensures.narrow;
         small = c.exp_neg-start.ensures.small;
       });
-      follows = told (IsPoissonBase c.args.sev.now v) (poisson_is_base c.args.sev.now v list c.args.cells made);
+      follows = told (IsPoissonBase c.args.sev.now v) (poisson_is_base c.args.sev.now v list made);
       encloses = told (λ g. GridEncloses g (compound (poisson v) (probability_of c.args.sev.now)))
-          (poisson_encloses c.args.sev.now.items c.args.sev.now.total v list c.args.cells made
-          (poisson_start v c.exp_neg-start.result (low_at list 0) (high_at list 0) holds
+          (poisson_encloses made (poisson_start v c.exp_neg-start.result (low_at list 0) (high_at list 0) holds
           c.in_ok-list.ensures.start_low c.in_ok-list.ensures.start_high));
       spread = told (λ g. spread g ≤ 8 * c.args.cells + 128)
-          (poisson_widths c.args.sev.now.items c.args.sev.now.total v list c.args.cells made
-          (half_parts v c.requires.half)
+          (poisson_widths made (half_parts v c.requires.half)
           (rw (c.in_ok-list.ensures.start_low, c.in_ok-list.ensures.start_high)
           (omega (arith, c.exp_neg-start.ensures.narrow))));
     }

@@ -1,4 +1,4 @@
-use Rattle.dl_panjer.proofs.Common.{ℕ, suc, ◌≡◌, ◌-◌, ◌<◌, ◌≤◌, ◌∙◌, Bool, eqb, List, length, take, drop, get_or, arith, ap, subst, All, sum_by, not, sum_by-take-le, low_at, high_at, Item, coefficient, given, next_sum}
+use Rattle.dl_panjer.proofs.Common.{ℕ, suc, ◌≡◌, ◌-◌, ◌<◌, ◌≤◌, ◌∙◌, Bool, eqb, List, length, take, drop, get_or, arith, rules, ap, subst, All, sum_by, not, sum_by-take-le, low_at, high_at, Item, coefficient, given, next_sum}
 use Rattle.std.proofs.lemmas.List.Elements.{All-take}
 use Rattle.dl_panjer.proofs.ItemSums.{items_next_sum}
 use Rattle.dl_panjer.proofs.Reading.{front, back}
@@ -21,28 +21,12 @@ all_next_sum b items r m ends some bound positive before after =
 pub sums_over-requires : goal.sums_over-requires
 sums_over-requires g c =
     let items = c.args.items.now in
-    let r = c.reached.result in (
-      omega arith,
-      (
-        c.requires.scale,
-        (
-          c.requires.some,
-          (
-            c.requires.few,
-            (
-              c.requires.small,
-              (
-                All-take (λ item. 0 < item.amount) r items c.requires.no_zero,
-                (
-                  front (λ item. item.amount ≤ length c.args.cells.now) items r c.reached.ensures.bound
-                      c.reached.ensures.before,
-                  omega (arith, sum_by-take-le (λ (item : Item). item.weight) items r, c.requires.within),
-                ),
-              ),
-            ),
-          ),
-        ),
-      ),
+    let r = c.reached.result in
+    search (
+      rules,
+      All-take (λ item. 0 < item.amount) r items c.requires.no_zero,
+      front (λ item. item.amount ≤ length c.args.cells.now) items r c.reached.ensures.bound c.reached.ensures.before,
+      sum_by-take-le (λ (item : Item). item.weight) items r,
     )
 
 pub returns-clause-low : goal.returns-clause-low

@@ -55,14 +55,12 @@ items-preserved g c =
           c.product-high.ensures c.items.invariant.high;
     }
 
-pub returns-clause-low : goal.returns-clause-low
-returns-clause-low g c =
-    c.items.invariant.low
-    ∙ ap (sum_by (given (not (eqb g.row.BY_AMOUNT 0)) (low_at c.args.cells.now) (length c.args.cells.now)))
-    (take_all c.items.item-index c.args.items.now c.items-test.false)
-
-pub returns-clause-high : goal.returns-clause-high
-returns-clause-high g c =
-    c.items.invariant.high
-    ∙ ap (sum_by (given (not (eqb g.row.BY_AMOUNT 0)) (high_at c.args.cells.now) (length c.args.cells.now)))
-    (take_all c.items.item-index c.args.items.now c.items-test.false)
+pub returns : goal.returns
+returns g c =
+    let all = take_all c.items.item-index c.args.items.now c.items-test.false in
+    let b = not (eqb g.row.BY_AMOUNT 0) in
+    let cells = c.args.cells.now in
+    record {
+      low = c.items.invariant.low ∙ ap (sum_by (given b (low_at cells) (length cells))) all;
+      high = c.items.invariant.high ∙ ap (sum_by (given b (high_at cells) (length cells))) all;
+    }

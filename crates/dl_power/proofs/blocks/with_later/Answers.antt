@@ -1,24 +1,7 @@
 use Rattle.dl_power.proofs.Common.{ℕ, ◌≡◌, ◌+◌, ◌^◌, ◌<◌, get_or, arith, ap₂, ◌∙◌, min, low_at, high_at}
-use Rattle.dl_power.proofs.EndLists.{ends_small}
 use Rattle.dl_power.proofs.BlockGrids.{as_made}
 use Rattle.dl_power.proofs.StepGrids.{step_between, step_ends}
 use Rattle.dl_power.proofs.blocks.with_later.Goals as goal
-
-pub added-requires-clause-in_first : goal.added-requires-clause-in_first
-added-requires-clause-in_first g c = ends_small g.row.B c.lows.result.now c.moved.invariant.scale_below
-    c.lows.ensures.small
-
-pub added-requires-clause-in_second : goal.added-requires-clause-in_second
-added-requires-clause-in_second g c = ends_small g.row.B c.lows-2.result.now c.moved.invariant.scale_below
-    c.lows-2.ensures.small
-
-pub added-requires-2-clause-in_first : goal.added-requires-2-clause-in_first
-added-requires-2-clause-in_first g c = ends_small g.row.B c.highs.result.now c.moved.invariant.scale_below
-    c.highs.ensures.small
-
-pub added-requires-2-clause-in_second : goal.added-requires-2-clause-in_second
-added-requires-2-clause-in_second g c = ends_small g.row.B c.highs-2.result.now c.moved.invariant.scale_below
-    c.highs-2.ensures.small
 
 pub from_ends-requires : goal.from_ends-requires
 from_ends-requires g c =

@@ -1,4 +1,4 @@
-use Rattle.dl_power.proofs.Common.{ℕ, ◌≡◌, ◌+◌, ◌*◌, ◌/◌, ◌^◌, ◌≤◌, List, take, arith, ap, ◌∙◌, get_or, div_ceil, sum_by_more, mass_low, Item, weight_at, weight_sum}
+use Rattle.dl_power.proofs.Common.{ℕ, ◌≡◌, ◌+◌, ◌*◌, ◌/◌, ◌^◌, ◌≤◌, List, take, arith, rules, ap, ◌∙◌, get_or, div_ceil, sum_by_more, mass_low, Item, weight_at, weight_sum}
 use Rattle.std.proofs.lemmas.List.{take_all}
 use Rattle.std.proofs.lemmas.List.Sums.{sum_by_more_le}
 use Rattle.dl_power.proofs.WeightLists.{next_cell, mass_next, mass_room}
@@ -17,16 +17,11 @@ put-requires g c =
         weight = 0;
       } c.loop-item-test.true,
       c.requires.sum,
-    ) in (
-      omega arith,
-      (
-        omega arith,
-        (
-          c.share.ensures.small,
-          mass_room (2 ^ g.row.B) c.args.total (mass_low c.loop-item.grid) c.share.result.lo before item.weight
-              c.requires.positive c.loop-item.invariant.mass c.share.ensures.low within,
-        ),
-      ),
+    ) in
+    search (
+      rules,
+      mass_room (2 ^ g.row.B) c.args.total (mass_low c.loop-item.grid) c.share.result.lo before item.weight
+          c.requires.positive c.loop-item.invariant.mass c.share.ensures.low within,
     )
 
 pub loop-item-preserved : goal.loop-item-preserved

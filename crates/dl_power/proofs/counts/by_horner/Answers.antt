@@ -1,6 +1,5 @@
-use Rattle.dl_power.proofs.Common.{ℕ, ◌≡◌, ◌+◌, ◌-◌, ◌*◌, ◌/◌, ◌^◌, ◌≤◌, arith, refl, ap, ◌∙◌, add-one, div_ceil, sub-zero, pow_pos, low_at, high_at, mass_low, spread, scale_of, weight_at, high_joined, mixed_none}
+use Rattle.dl_power.proofs.Common.{ℕ, ◌≡◌, ◌+◌, ◌-◌, ◌^◌, arith, refl, rules, ap, ◌∙◌, add-one, sub-zero, pow_pos, low_at, high_at, spread, scale_of, high_joined, mixed_none}
 use Rattle.dl_grid.proofs.CellSets.{at_zero_small}
-use Rattle.dl_model.proofs.WeightLaws.{weight_within}
 use Rattle.dl_power.proofs.WeightLists.{shares_below, shares_next, shares_fit}
 use Rattle.dl_power.proofs.HornerGrids.{starts_at, goes_on_at, one_between, ends}
 use Rattle.dl_power.proofs.Spreads.{mixed_more}
@@ -11,57 +10,21 @@ nowhere-requires g c =
     let scale = scale_of c.args.base.now c.cells.ensures.grid.some in
     (omega arith, (scale.0, (scale.1, (c.requires.some, omega (arith, c.cells.ensures.grid.few, c.requires.within)))))
 
-pub share-requires : goal.share-requires
-share-requires g c =
-    let scale = scale_of c.args.base.now c.cells.ensures.grid.some in (
-      omega arith,
-      (
-        scale.0,
-        (
-          scale.1,
-          (
-            c.requires.positive,
-            omega (
-              arith,
-              (c.weight_of.ensures ∙ ap (weight_at c.args.table.now) c.from.ensures),
-              weight_within c.args.table.now c.greatest_of-greatest.result,
-              c.requires.sum,
-            ),
-          ),
-        ),
-      ),
-    )
+pub share_of-requires : goal.share_of-requires
+share_of-requires g c =
+    let scale = scale_of c.args.base.now c.cells.ensures.grid.some in
+    (omega arith, (scale.0, (scale.1, (c.requires.sum, c.requires.positive))))
 
-pub share-share-requires : goal.share-share-requires
-share-share-requires g c =
-    let scale = scale_of c.args.base.now c.cells.ensures.grid.some in (
-      omega arith,
-      (
-        scale.0,
-        (
-          scale.1,
-          (
-            c.requires.positive,
-            omega (
-              arith,
-              (c.weight_of-in-loop-step.ensures ∙ ap (weight_at c.args.table.now) c.from-in-loop-step.ensures),
-              weight_within c.args.table.now (c.greatest_of-greatest.result - c.loop-step.step - 1),
-              c.requires.sum,
-            ),
-          ),
-        ),
-      ),
-    )
+pub share_of-share-requires : goal.share_of-share-requires
+share_of-share-requires g c =
+    let scale = scale_of c.args.base.now c.cells.ensures.grid.some in
+    (omega arith, (scale.0, (scale.1, (c.requires.sum, c.requires.positive))))
 
 pub loop-step-init : goal.loop-step-init
 loop-step-init g c =
     let S : ℕ = 2 ^ g.row.B in
     let k : ℕ = c.greatest_of-greatest.result in
-    let low : c.share.result.lo ≡ S * weight_at c.args.table.now k / c.args.total = c.share.ensures.low
-    ∙ ap (λ w. S * w / c.args.total) (c.weight_of.ensures ∙ ap (weight_at c.args.table.now) c.from.ensures) in
-    let high : c.share.result.hi ≡ div_ceil (S * weight_at c.args.table.now k) c.args.total = c.share.ensures.high
-    ∙ ap (λ w. div_ceil (S * w) c.args.total) (c.weight_of.ensures
-    ∙ ap (weight_at c.args.table.now) c.from.ensures) in
+    let share = c.share_of.ensures in
     record {
       inside = omega arith;
       cells = c.add_at_zero.ensures.cells ∙ c.in_ok-grid.ensures.cells;
@@ -69,7 +32,7 @@ loop-step-init g c =
         arith,
         c.add_at_zero.ensures.mass,
         c.in_ok-grid.ensures.mass,
-        low,
+        share.low,
         shares_next S c.args.total c.args.table.now k (k + 1) refl,
         shares_fit S c.args.total c.args.table.now (k + 1) c.requires.positive c.requires.sum,
         ap (shares_below S c.args.total c.args.table.now) (sub-zero k),
@@ -78,61 +41,37 @@ loop-step-init g c =
         arith,
         c.add_at_zero.ensures.spread,
         c.in_ok-grid.ensures.spread,
-        low,
-        high,
+        share.low,
+        share.high,
         mixed_none S c.args.cells (spread c.args.base.now),
       );
       between = λ f q of_f. starts_at S c.args.cells c.args.total c.args.table.now
           (pow_pos g.row.B) c.requires.positive c.requires.sum
-          f (low_at c.add_at_zero.new.grid) (high_at c.add_at_zero.new.grid) c.share.result.lo c.share.result.hi k
-          (k - 0) (sub-zero k) low high
+          f (low_at c.add_at_zero.new.grid) (high_at c.add_at_zero.new.grid) c.share_of.result.lo c.share_of.result.hi k
+          (k - 0) (sub-zero k) share.low share.high
           (λ s. omega (arith, c.add_at_zero.ensures.low s, c.in_ok-grid.ensures.low s))
           (λ s. omega (
             arith,
-            high_joined (high_at c.in_ok-grid.grid) (high_at c.add_at_zero.new.grid) c.share.result.hi S
+            high_joined (high_at c.in_ok-grid.grid) (high_at c.add_at_zero.new.grid) c.share_of.result.hi S
                 c.add_at_zero.ensures.high c.add_at_zero.ensures.others s (omega (arith, c.in_ok-grid.ensures.high s)),
             c.in_ok-grid.ensures.high s,
-            at_zero_small c.share.result.hi s,
-            c.share.ensures.small,
+            at_zero_small c.share_of.result.hi s,
+            share.small,
           ));
     }
 
 pub one_claim_more-requires : goal.one_claim_more-requires
 one_claim_more-requires g c =
-    let S : ℕ = 2 ^ g.row.B in
-    let k : ℕ = c.greatest_of-greatest.result - c.loop-step.step - 1 in
-    let low : c.share-share.result.lo ≡ S * weight_at c.args.table.now k / c.args.total =
-    c.share-share.ensures.low ∙ ap (λ w. S * w / c.args.total)
-    (c.weight_of-in-loop-step.ensures ∙ ap (weight_at c.args.table.now) c.from-in-loop-step.ensures) in
-    let room : mass_low c.loop-step.grid + c.share-share.result.lo ≤ S =
-    omega (
-      arith,
-      c.loop-step.invariant.mass,
-      low,
-      shares_next S c.args.total c.args.table.now k
-          (c.greatest_of-greatest.result - c.loop-step.step) (omega arith),
-    ) in (
-      omega arith,
-      (
-        omega arith,
-        (
-          c.requires.some,
-          (c.requires.within, (omega (arith, c.loop-step.invariant.cells), (c.share-share.ensures.small, room))),
-        ),
-      ),
-    )
+    let left : ℕ = c.greatest_of-greatest.result - c.loop-step.step in
+    let next = shares_next (2 ^ g.row.B) c.args.total c.args.table.now (left - 1) left (omega arith) in
+    search (rules, next, c.share_of-share.ensures, c.loop-step.invariant)
 
 pub loop-step-preserved : goal.loop-step-preserved
 loop-step-preserved g c =
     let S : ℕ = 2 ^ g.row.B in
     let k : ℕ = c.greatest_of-greatest.result - c.loop-step.step - 1 in
     let next : c.greatest_of-greatest.result - (c.loop-step.step + 1) ≡ k = omega arith in
-    let low : c.share-share.result.lo ≡ S * weight_at c.args.table.now k / c.args.total =
-    c.share-share.ensures.low ∙ ap (λ w. S * w / c.args.total)
-    (c.weight_of-in-loop-step.ensures ∙ ap (weight_at c.args.table.now) c.from-in-loop-step.ensures) in
-    let high : c.share-share.result.hi ≡ div_ceil (S * weight_at c.args.table.now k) c.args.total =
-    c.share-share.ensures.high ∙ ap (λ w. div_ceil (S * w) c.args.total)
-    (c.weight_of-in-loop-step.ensures ∙ ap (weight_at c.args.table.now) c.from-in-loop-step.ensures) in
+    let share = c.share_of-share.ensures in
     let more = shares_next S c.args.total c.args.table.now k (c.greatest_of-greatest.result - c.loop-step.step)
     (omega arith) in
     record {
@@ -142,19 +81,20 @@ loop-step-preserved g c =
         arith,
         c.loop-step.invariant.mass,
         c.in_ok-grid-2.ensures.mass,
-        low,
+        share.low,
         more,
         ap (shares_below S c.args.total c.args.table.now) next,
       );
       spread = rw add-one (mixed_more S c.args.cells (spread c.args.base.now) c.loop-step.step _ _ _
-          (pow_pos g.row.B) c.in_ok-grid-2.ensures.spread (omega (arith, low, high)) c.loop-step.invariant.spread);
+          (pow_pos g.row.B) c.in_ok-grid-2.ensures.spread (omega (arith, share.low, share.high))
+          c.loop-step.invariant.spread);
       between = λ f q of_f. goes_on_at S c.args.cells c.args.total c.args.table.now
           (pow_pos g.row.B) c.requires.positive c.requires.sum
           f (low_at c.args.base.now) (high_at c.args.base.now) (low_at c.loop-step.grid) (high_at c.loop-step.grid)
           (low_at c.in_ok-grid-2.grid) (high_at c.in_ok-grid-2.grid)
-          c.share-share.result.lo c.share-share.result.hi k
+          c.share_of-share.result.lo c.share_of-share.result.hi k
           (c.greatest_of-greatest.result - c.loop-step.step) c.loop-step.step _ _ q of_f
-          (omega arith) next (add-one c.loop-step.step) low high
+          (omega arith) next (add-one c.loop-step.step) share.low share.high
           (c.loop-step.invariant.between f q of_f) c.in_ok-grid-2.ensures.low c.in_ok-grid-2.ensures.high;
     }
 

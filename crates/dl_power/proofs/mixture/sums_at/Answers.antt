@@ -1,4 +1,4 @@
-use Rattle.dl_power.proofs.Common.{◌<◌, ◌≡◌, ◌*◌, ◌^◌, ◌≤◌, [], length, get_or, arith, sym, ap, ◌∙◌, low_at, high_at, count_below, below_nothing}
+use Rattle.dl_power.proofs.Common.{ℕ, ◌<◌, ◌≡◌, ◌*◌, ◌^◌, List, [], length, get_or, arith, sym, ap, ◌∙◌, Iv, low_at, high_at, count_below, below_nothing}
 use Rattle.dl_power.proofs.EndLists.{mixture_end_is, mixture_end_more, product_small}
 use Rattle.dl_power.proofs.mixture.sums_at.Goals as goal
 
@@ -22,14 +22,11 @@ loop-i-preserved g c =
       c.requires.inside c.loop-i.i c.index-grids-i.result inside,
       ap length c.index-grids-i.is,
     ) in
-    let small : c.from-weight.result * get_or c.highs.result.now x 0 ≤ 2 ^ 88 =
-    product_small c.from-weight.result (get_or c.highs.result.now x 0) g.row.B
-    (omega (arith, weight, c.type_inv.weights c.loop-i.i))
-    (c.highs.ensures.small x 0 (omega (arith, c.highs.ensures.cells, long))) c.requires.scale in
-    let small_low : c.from-weight.result * get_or c.lows.result.now x 0 ≤ 2 ^ 88 =
-    product_small c.from-weight.result (get_or c.lows.result.now x 0) g.row.B
-    (omega (arith, weight, c.type_inv.weights c.loop-i.i))
-    (c.lows.ensures.small x 0 (omega (arith, c.lows.ensures.cells, long))) c.requires.scale in
+    let few : c.from-weight.result < 2 ^ 32 = omega (arith, weight, c.type_inv.weights c.loop-i.i) in
+    let small_low = product_small c.from-weight.result (get_or c.lows.result.now x 0) few
+    (c.lows.ensures.fits x 0 (omega (arith, c.lows.ensures.cells, long))) in
+    let small = product_small c.from-weight.result (get_or c.highs.result.now x 0) few
+    (c.highs.ensures.fits x 0 (omega (arith, c.highs.ensures.cells, long))) in
     record {
       low = mixture_end_more c.args.weights.now c.args.grids.now grid c.loop-i.i c.loop-i.low c.from-weight.result
           (get_or c.lows.result.now x 0) (λ g. low_at g x) inside c.index-grids-i.is weight
@@ -41,16 +38,15 @@ loop-i-preserved g c =
       small = omega (arith, c.loop-i.invariant.small, small);
     }
 
-pub returns-clause-low : goal.returns-clause-low
-returns-clause-low g c =
+pub returns : goal.returns
+returns g c =
+    let x = c.args.x in
     let all : c.loop-i.i ≡ length c.args.grids.now = omega arith in
-    c.loop-i.invariant.low ∙ ap (λ n. count_below n
-    (λ i. get_or c.args.weights.now i 0 * low_at (get_or c.args.grids.now i []) c.args.x)) all
-    ∙ sym (mixture_end_is c.args.weights.now c.args.grids.now (λ g. low_at g c.args.x) c.requires.as_many)
-
-pub returns-clause-high : goal.returns-clause-high
-returns-clause-high g c =
-    let all : c.loop-i.i ≡ length c.args.grids.now = omega arith in
-    c.loop-i.invariant.high ∙ ap (λ n. count_below n
-    (λ i. get_or c.args.weights.now i 0 * high_at (get_or c.args.grids.now i []) c.args.x)) all
-    ∙ sym (mixture_end_is c.args.weights.now c.args.grids.now (λ g. high_at g c.args.x) c.requires.as_many)
+    let ends = λ (end : List (Iv g.row.B) → ℕ).
+    ap (λ n. count_below n (λ i. get_or c.args.weights.now i 0 * end (get_or c.args.grids.now i []))) all
+    ∙ sym (mixture_end_is c.args.weights.now c.args.grids.now end c.requires.as_many) in
+    record {
+      low = c.loop-i.invariant.low ∙ ends (λ g. low_at g x);
+      high = c.loop-i.invariant.high ∙ ends (λ g. high_at g x);
+      small = omega (arith, c.loop-i.invariant.small, all, c.requires.few);
+    }

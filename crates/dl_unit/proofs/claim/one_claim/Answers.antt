@@ -1,24 +1,10 @@
-use Rattle.dl_unit.proofs.Common.{arith, subst, IfOk-weaker, fixed, compound, GridEncloses, severity_total}
+use Rattle.dl_unit.proofs.Common.{rules, subst, IfOk-weaker, fixed, compound, GridEncloses, severity_total}
 use Rattle.dl_unit.proofs.Severities.{probability_same}
 use Rattle.dl_unit.proofs.claim.one_claim.Goals as goal
 
 pub claim_grid-requires : goal.claim_grid-requires
-claim_grid-requires g c = rw c.as_slice.ensures (
-  omega arith,
-  (
-    c.requires.scale_above,
-    (
-      c.requires.scale_below,
-      (
-        c.args.sev.now.weighted.rising,
-        (
-          c.args.sev.now.weighted.sum,
-          (severity_total c.args.sev.now, (c.requires.some, c.requires.few)),
-        ),
-      ),
-    ),
-  ),
-)
+claim_grid-requires g c =
+    rw c.as_slice.ensures (search (rules, c.args.sev.now.weighted, severity_total c.args.sev.now))
 
 pub returns-clause-encloses : goal.returns-clause-encloses
 returns-clause-encloses g c =

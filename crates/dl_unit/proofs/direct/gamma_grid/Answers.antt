@@ -1,4 +1,4 @@
-use Rattle.dl_unit.proofs.Common.{◌^◌, arith, ap, sym, subst, IfSome, IfOk-weaker, gamma_of, compound, GridEncloses, Gamma, probability_of, gamma_budget}
+use Rattle.dl_unit.proofs.Common.{◌^◌, arith, rules, ap, sym, subst, IfSome, IfOk-weaker, gamma_of, compound, GridEncloses, Gamma, probability_of, gamma_budget}
 use Rattle.dl_plan.specs.Fine.{HasPartsOf48Bits}
 use Rattle.dl_model.proofs.PlanThin.{gamma_thinned}
 use Rattle.dl_budget.proofs.Counts.{count_of}
@@ -14,19 +14,8 @@ gamma_direct-requires g c =
     let small = subst HasPartsOf48Bits (sym c.thinned-mean.ensures)
     (c.requires.valid.1.thinned (gamma_unbounded u c.args.shape c.requires.count.0 c.requires.count.1)).0 in
     let shape = count_of c.requires.valid.0 u (Gamma c.args.shape c.requires.count.0) c.requires.valid.1
-    c.requires.count.1 in (
-      omega arith,
-      (
-        c.requires.scale_above,
-        (
-          c.requires.scale_below,
-          (
-            no_zero u.sev c.args.positive.now c.requires.means,
-            (shape.0, (shape.1, (small.num, (small.den, (c.requires.some, c.requires.few))))),
-          ),
-        ),
-      ),
-    )
+    c.requires.count.1 in
+    search (rules, shape, small, no_zero u.sev c.args.positive.now c.requires.means)
 
 pub returns-then-is_narrow-clause-encloses : goal.returns-then-is_narrow-clause-encloses
 returns-then-is_narrow-clause-encloses g c =
@@ -49,19 +38,8 @@ gamma_claims-requires g c =
     let small = subst HasPartsOf48Bits (sym c.thinned-mean.ensures)
     (c.requires.valid.1.thinned (gamma_unbounded u c.args.shape c.requires.count.0 c.requires.count.1)).0 in
     let shape = count_of c.requires.valid.0 u (Gamma c.args.shape c.requires.count.0) c.requires.valid.1
-    c.requires.count.1 in (
-      omega arith,
-      (
-        c.requires.scale_above,
-        (
-          c.requires.scale_below,
-          (
-            no_zero u.sev c.args.positive.now c.requires.means,
-            (small, (shape.0, (shape.1, (c.requires.some, c.requires.few)))),
-          ),
-        ),
-      ),
-    )
+    c.requires.count.1 in
+    search (rules, shape, small, no_zero u.sev c.args.positive.now c.requires.means)
 
 pub returns-clause-encloses : goal.returns-clause-encloses
 returns-clause-encloses g c =

@@ -1,19 +1,11 @@
-use Rattle.dl_unit.proofs.Common.{◌^◌, arith, subst, pow_pos, IfOk-weaker, fun_ext, compound, GridEncloses, probability_of, probability_is, total_pos, within_one}
+use Rattle.dl_unit.proofs.Common.{◌^◌, arith, rules, subst, pow_pos, IfOk-weaker, fun_ext, compound, GridEncloses, probability_of, probability_is, total_pos, within_one}
 use Rattle.dl_plan.specs.Weighted.{greatest}
 use Rattle.dl_grid.proofs.WidthLaws.{mixed_rises}
 use Rattle.dl_unit.proofs.finite.listed_claims.Goals as goal
 
 pub mix_counts_with-requires : goal.mix_counts_with-requires
-mix_counts_with-requires g c = (
-  omega arith,
-  (
-    c.requires.weighted.sum,
-    (
-      total_pos c.args.counts.now c.args.total c.requires.weighted,
-      (c.requires.some, omega (arith, c.in_ok-claim.ensures.cells)),
-    ),
-  ),
-)
+mix_counts_with-requires g c =
+    search (rules, c.requires.weighted, total_pos c.args.counts.now c.args.total c.requires.weighted)
 
 pub returns-clause-encloses : goal.returns-clause-encloses
 returns-clause-encloses g c =

@@ -1,4 +1,4 @@
-use Rattle.dl_unit.proofs.Common.{◌≡◌, ◌-◌, ◌*◌, ◌/◌, ◌^◌, ◌<◌, ◌≤◌, arith, ap₂, ◌∙◌, div_ceil, num_le_den, part_within}
+use Rattle.dl_unit.proofs.Common.{◌≡◌, ◌-◌, ◌*◌, ◌/◌, ◌^◌, ◌<◌, ◌≤◌, arith, rules, ap₂, ◌∙◌, div_ceil, num_le_den, part_within}
 use Rattle.dl_grid.proofs.CellLaws.{one_fits}
 use Rattle.dl_unit.proofs.trial.first_cell.Goals as goal
 
@@ -21,32 +21,16 @@ enclose-none-requires g c =
       c.requires.probability.admitted.den,
     ) in
     let positive : 0 < c.from-2.result = omega (arith, c.from-2.ensures, c.den-2.ensures.positive) in
-    let part = part_within (2 ^ g.row.B) c.from.result c.from-2.result positive within in (
-      omega arith,
-      (
-        c.args.part.scale_above,
-        (
-          c.args.part.scale_below,
-          (positive, (omega arith, (omega arith, omega (arith, part, one_fits g.row.B c.args.part.scale_below)))),
-        ),
-      ),
-    )
+    let part = part_within (2 ^ g.row.B) c.from.result c.from-2.result positive within in
+    search (rules, part, one_fits g.row.B c.args.part.scale_below)
 
 pub add-requires : goal.add-requires
 add-requires g c =
     let within : c.from.result ≤ c.from-2.result = omega
     (arith, c.from.ensures, c.from-2.ensures, c.den.ensures.part, c.den-2.ensures.part) in
     let positive : 0 < c.from-2.result = omega (arith, c.from-2.ensures, c.den-2.ensures.positive) in
-    let part = part_within (2 ^ g.row.B) c.from.result c.from-2.result positive within in (
-      omega arith,
-      omega (
-        arith,
-        c.enclose-none.ensures.high,
-        part,
-        c.requires.small,
-        one_fits g.row.B c.args.part.scale_below,
-      ),
-    )
+    let part = part_within (2 ^ g.row.B) c.from.result c.from-2.result positive within in
+    search (rules, part, one_fits g.row.B c.args.part.scale_below)
 
 pub returns : goal.returns
 returns g c =

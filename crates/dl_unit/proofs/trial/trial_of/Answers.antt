@@ -1,4 +1,4 @@
-use Rattle.dl_unit.proofs.Common.{ℕ, ◌≡◌, ◌^◌, ◌<◌, List, length, arith, sym, subst, ◌∙◌, Iv, low_at, high_at, low_trial, high_trial, IfOk-weaker, num_le_den}
+use Rattle.dl_unit.proofs.Common.{ℕ, ◌≡◌, ◌^◌, ◌<◌, List, length, arith, rules, sym, subst, ◌∙◌, Iv, low_at, high_at, low_trial, high_trial, IfOk-weaker, num_le_den}
 use Rattle.std.proofs.lemmas.List.{length-set}
 use Rattle.dl_unit.proofs.TrialGrids.{first_small, trial_low, trial_high, trial_grid}
 use Rattle.dl_unit.proofs.trial.trial_of.Goals as goal
@@ -6,14 +6,10 @@ use Rattle.dl_unit.proofs.trial.trial_of.Goals as goal
 pub first_cell-requires : goal.first_cell-requires
 first_cell-requires g c =
     let within = num_le_den c.args.q c.requires.within in
-    let many = c.in_ok-list.ensures.cells in
-    let high = c.in_ok-list.ensures.high in (
-      omega arith,
-      (
-        c.requires,
-        first_small c.args.claim.now c.in_ok-list.list.items c.args.q c.index.result.now
-            c.index.result.now c.cells.ensures.grid within many c.index.ensures high,
-      ),
+    search (
+      rules,
+      first_small c.args.claim.now c.in_ok-list.list.items c.args.q c.index.result.now c.index.result.now
+          c.cells.ensures.grid within c.in_ok-list.ensures.cells c.index.ensures c.in_ok-list.ensures.high,
     )
 
 pub grid_of-requires : goal.grid_of-requires
