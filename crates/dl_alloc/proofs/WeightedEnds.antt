@@ -91,35 +91,34 @@ fits S x sum small few h =
     let most : 4 * x * S * S ≤ 4 * 16383 * 2 ^ 56 * 2 ^ 56 = mul-le-mul (mul-le-mul four small) small in
     omega (arith, top S x, most)
 
-module _ {B : ℕ} (unit others : List (Iv B)) (x y sum : ℕ) (own other : Iv B) (p : IsGrid unit) (q : IsGrid others)
-    (inside : x < length unit) (beside : x < length others)
-    (here : y ≤ x) (own_low : own.lo ≡ low_at unit y) (own_high : own.hi ≡ high_at unit y)
-    (other_low : other.lo ≡ low_at others (x - y)) (other_high : other.hi ≡ high_at others (x - y)) where
+-- the sum with one outcome more
+step : (S x y sum u v : ℕ) (f g : ℕ → ℕ) → S ≤ 2 ^ 56 → x < 16384 → count_below (x + 1) f ≤ 2 * S
+    → count_below (x + 1) g ≤ 2 * S → y ≤ x → u ≡ f y → v ≡ g (x - y)
+    → sum ≡ count_below y (λ y. y * f y * g (x - y))
+    → (sum + y * u * v ≡ count_below (y + 1) (λ y. y * f y * g (x - y))) × (sum + y * u * v < 2 ^ 128)
+step S x y sum u v f g small few p q here own other e = (
+  one_more y x sum u v f g e own other,
+  fits S x _ small few (one_more_fits y x (2 * S) (2 * S) sum u v f g here e own other p q),
+)
+
+module _ {B : ℕ} (unit others : List (Iv B)) (x y sum u v : ℕ) (p : IsGrid unit) (q : IsGrid others)
+    (inside : x < length unit) (here : y ≤ x) where
   scale : 2 ^ B ≤ 2 ^ 56
   scale = one_fits B (scale_of unit p.some).1
 
-  pub low_step : sum ≡ count_below y (λ y. y * low_at unit y * low_at others (x - y))
-      → (sum + y * own.lo * other.lo ≡ count_below (y + 1) (λ y. y * low_at unit y * low_at others (x - y)))
-      × (sum + y * own.lo * other.lo < 2 ^ 128)
-  low_step e = (
-    one_more y x sum own.lo other.lo (low_at unit) (low_at others) e own_low other_low,
-    fits (2 ^ B) x _ scale (omega (arith, p.few))
-        (one_more_fits y x (2 * 2 ^ B) (2 * 2 ^ B) sum own.lo other.lo (low_at unit)
-        (low_at others) here e own_low other_low
-        (omega (arith, low_within (x + 1) unit, p.mass)) (omega (arith, low_within (x + 1) others, q.mass))),
-  )
+  pub low_step : u ≡ low_at unit y → v ≡ low_at others (x - y)
+      → sum ≡ count_below y (λ y. y * low_at unit y * low_at others (x - y))
+      → (sum + y * u * v ≡ count_below (y + 1) (λ y. y * low_at unit y * low_at others (x - y)))
+      × (sum + y * u * v < 2 ^ 128)
+  low_step = step (2 ^ B) x y sum u v (low_at unit) (low_at others) scale (omega (arith, p.few))
+      (omega (arith, low_within (x + 1) unit, p.mass)) (omega (arith, low_within (x + 1) others, q.mass)) here
 
-  pub high_step : spread unit < 2 ^ B → spread others < 2 ^ B
+  pub high_step : spread unit < 2 ^ B → spread others < 2 ^ B → u ≡ high_at unit y → v ≡ high_at others (x - y)
       → sum ≡ count_below y (λ y. y * high_at unit y * high_at others (x - y))
-      → (sum + y * own.hi * other.hi ≡ count_below (y + 1) (λ y. y * high_at unit y * high_at others (x - y)))
-      × (sum + y * own.hi * other.hi < 2 ^ 128)
-  high_step narrow thin e = (
-    one_more y x sum own.hi other.hi (high_at unit) (high_at others) e own_high other_high,
-    fits (2 ^ B) x _ scale (omega (arith, p.few))
-        (one_more_fits y x (2 * 2 ^ B) (2 * 2 ^ B) sum own.hi other.hi (high_at unit)
-        (high_at others) here e own_high other_high
-        (high_mass unit (x + 1) p narrow) (high_mass others (x + 1) q thin)),
-  )
+      → (sum + y * u * v ≡ count_below (y + 1) (λ y. y * high_at unit y * high_at others (x - y)))
+      × (sum + y * u * v < 2 ^ 128)
+  high_step narrow thin = step (2 ^ B) x y sum u v (high_at unit) (high_at others) scale (omega (arith, p.few))
+      (high_mass unit (x + 1) p narrow) (high_mass others (x + 1) q thin) here
 
 -- ---- what they hold
 

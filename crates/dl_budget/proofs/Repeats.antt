@@ -1,8 +1,8 @@
 -- A step that is taken so many times: its value and its size after one time more.
-use Rattle.dl_budget.proofs.Common.{ℕ, ◌≡◌, ◌+◌, ◌*◌, ◌^◌, ◌≤◌, arith, sym, ap, subst, ◌∙◌, mul-le-mul_right, pow-le-pow_right, pow_pos, most_operands, cv, pw, mixed_spread, rounded_spread, IsSizeWithin}
+use Rattle.dl_budget.proofs.Common.{ℕ, ◌≡◌, ◌+◌, ◌*◌, ◌^◌, ◌≤◌, arith, sym, ap, ◌∙◌, mul-le-mul_right, pow-le-pow_right, most_operands, cv, pw, mixed_spread, rounded_spread, IsSizeWithin}
 use Rattle.std.proofs.lemmas.Grind.{pow_more}
 use Rattle.dl_grid.proofs.WidthLaws.{mixed_next, pw_doubled}
-use Rattle.dl_budget.proofs.SizeLaws.{size_step_of, size_least, far_below, square_size, room_below}
+use Rattle.dl_budget.proofs.SizeLaws.{within_step, size_least, square_size, room_below}
 
 pub listed_value : (S k b n x z : ℕ) → x ≡ mixed_spread S k b n → z ≡ cv S k b x + 2 → z ≡ mixed_spread S k b (n + 1)
 listed_value S k b n x z before step = step ∙ ap (λ t. cv S k b t + 2) before ∙ sym (mixed_next S k b n)
@@ -16,12 +16,8 @@ pub listed_size : (B k b n x z : ℕ) → B ≡ 56 → rounded_spread k 2 1 + (n
     → z ≡ cv (2 ^ B) k b x + 2 → IsSizeWithin (2 ^ B) (rounded_spread k 2 1 + (n + 1) * rounded_spread k 2 b)
     (rounded_spread k 2 z)
 listed_size B k b n x z e room size step =
-    let parts : rounded_spread k 2 b + (rounded_spread k 2 1 + n * rounded_spread k 2 b)
-    ≡ rounded_spread k 2 1 + (n + 1) * rounded_spread k 2 b = omega arith in
-    subst (λ c. IsSizeWithin (2 ^ B) c (rounded_spread k 2 z)) parts
-    (size_step_of (2 ^ B) k 2 _ _ b x z (pow_pos B)
-    (omega (arith, parts, room, far_below B (rounded_spread k 2 1 + (n + 1) * rounded_spread k 2 b) e (omega arith)))
-    (size_least (2 ^ B) _ _ (omega arith)) size step)
+    within_step B k 2 (rounded_spread k 2 b) _ _ b x z e (omega arith) (omega (arith, room))
+    (size_least (2 ^ B) _ _ (omega arith)) size step
 
 -- one doubling more
 pub doubled_size : (B k b n x z : ℕ) → B ≡ 56 → 2 ^ (n + 1) * rounded_spread k 0 b ≤ most_operands

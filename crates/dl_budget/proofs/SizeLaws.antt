@@ -33,6 +33,14 @@ size_step_of S k more c d x y z pos room hx hy e =
 pub far_below : (B c : ℕ) → B ≡ 56 → c ≤ 2 ^ 40 → 65536 * c ≤ 2 ^ B
 far_below B c e h = subst (λ b. 65536 * c ≤ 2 ^ b) (sym e) (omega arith)
 
+-- one step that stays far below
+pub within_step : (B k more c d n x y z : ℕ) → B ≡ 56 → c + d ≡ n → n ≤ 2 ^ 40
+    → IsSizeWithin (2 ^ B) c (rounded_spread k more x) → IsSizeWithin (2 ^ B) d (rounded_spread k more y)
+    → z ≡ cv (2 ^ B) k x y + more → IsSizeWithin (2 ^ B) n (rounded_spread k more z)
+within_step B k more c d n x y z e sum room hx hy step =
+    subst (λ t. IsSizeWithin (2 ^ B) t (rounded_spread k more z)) sum
+    (size_step_of (2 ^ B) k more c d x y z (pow_pos B) (omega (arith, sum, far_below B n e room)) hx hy step)
+
 -- the spread of a unit
 pub unit_small : (B k more c x : ℕ) → B ≡ 56 → c ≤ most_operands
     → IsSizeWithin (2 ^ B) c (rounded_spread k more x) → x ≤ 2 ^ 34
@@ -49,23 +57,15 @@ pub square_size : (B k b m n x y : ℕ) → B ≡ 56 → m + m ≡ n → n * rou
     → IsSizeWithin (2 ^ B) (m * rounded_spread k 0 b) (rounded_spread k 0 x)
     → y ≡ cv (2 ^ B) k x x → IsSizeWithin (2 ^ B) (n * rounded_spread k 0 b) (rounded_spread k 0 y)
 square_size B k b m n x y e sum room size step =
-    let parts : m * rounded_spread k 0 b + m * rounded_spread k 0 b ≡ n * rounded_spread k 0 b =
-    omega (arith, ap (λ t. t * rounded_spread k 0 b) sum) in
-    subst (λ c. IsSizeWithin (2 ^ B) c (rounded_spread k 0 y)) parts
-    (size_step_of (2 ^ B) k 0 _ _ x x y (pow_pos B)
-    (omega (arith, parts, room, far_below B (n * rounded_spread k 0 b) e (omega arith))) size size
-    (step ∙ omega arith))
+    within_step B k 0 _ _ _ x x y e (omega (arith, ap (λ t. t * rounded_spread k 0 b) sum)) (omega (arith, room))
+    size size (step ∙ omega arith)
 
 pub next_size : (B k b m n x y : ℕ) → B ≡ 56 → m + 1 ≡ n → n * rounded_spread k 0 b ≤ most_operands
     → IsSizeWithin (2 ^ B) (m * rounded_spread k 0 b) (rounded_spread k 0 x)
     → y ≡ cv (2 ^ B) k x b → IsSizeWithin (2 ^ B) (n * rounded_spread k 0 b) (rounded_spread k 0 y)
 next_size B k b m n x y e sum room size step =
-    let parts : m * rounded_spread k 0 b + rounded_spread k 0 b ≡ n * rounded_spread k 0 b =
-    omega (arith, ap (λ t. t * rounded_spread k 0 b) sum) in
-    subst (λ c. IsSizeWithin (2 ^ B) c (rounded_spread k 0 y)) parts
-    (size_step_of (2 ^ B) k 0 _ _ x b y (pow_pos B)
-    (omega (arith, parts, room, far_below B (n * rounded_spread k 0 b) e (omega arith))) size
-    (size_least (2 ^ B) _ _ (omega arith)) (step ∙ omega arith))
+    within_step B k 0 _ (rounded_spread k 0 b) _ x b y e (omega (arith, ap (λ t. t * rounded_spread k 0 b) sum))
+    (omega (arith, room)) size (size_least (2 ^ B) _ _ (omega arith)) (step ∙ omega arith)
 
 -- a smaller power has room too
 pub room_below : (c m n : ℕ) → m ≤ n → n * c ≤ most_operands → m * c ≤ most_operands

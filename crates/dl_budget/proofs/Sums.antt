@@ -1,19 +1,12 @@
 -- Budgets of sums of units, as a loop over the units makes them.
-use Rattle.dl_budget.proofs.Common.{ℕ, zero, suc, ◌≡◌, ◌+◌, ◌-◌, ◌*◌, ◌^◌, ◌<◌, ◌≤◌, List, [], ◌∷◌, length, get_or, take, drop, arith, refl, sym, ap, ap₂, subst, ◌∙◌, fold, remove, mul-le-mul, pow_pos, take_all, cv, rounded_spread, IsSizeWithin, sum_spread, IsOfUnits, unit_budgets, from_there}
+use Rattle.dl_budget.proofs.Common.{ℕ, suc, ◌≡◌, ◌+◌, ◌-◌, ◌*◌, ◌^◌, ◌<◌, ◌≤◌, List, [], ◌∷◌, length, get_or, take, drop, arith, sym, ap, ap₂, subst, ◌∙◌, fold, remove, mul-le-mul, pow_pos, take_all, cv, rounded_spread, IsSizeWithin, sum_spread, IsOfUnits, unit_budgets, from_there}
 use Rattle.std.proofs.Common.{◌++◌}
-use Rattle.std.proofs.lemmas.List.{length-map, length-take, length-drop}
+use Rattle.std.proofs.lemmas.List.{length-map, length-take, length-drop, get_or-map, take-map, drop-map}
 use Rattle.std.proofs.lemmas.List.Sums.{fold_more, fold-append}
 use Rattle.dl_limits.specs.Limits.{most_unit_budget}
 use Rattle.dl_plan.specs.declared.plan.Unit.{Unit as UnitOfPlan}
 use Rattle.dl_budget.specs.Units.{unit_budget}
-use Rattle.dl_budget.proofs.SizeLaws.{size_least, size_step_of, spread_near, far_below}
-
--- the budget of the unit at a place
-budget_at : (S cells : ℕ) (us : List UnitOfPlan) (i : ℕ) (u : UnitOfPlan) → i < length us
-    → get_or (unit_budgets S cells us) i 0 ≡ unit_budget S cells (get_or us i u)
-budget_at S cells [] i u inside = absurd (omega (arith, inside))
-budget_at S cells (v ∷ us) zero u inside = refl
-budget_at S cells (v ∷ us) (suc i) u inside = budget_at S cells us i u (omega (arith, inside))
+use Rattle.dl_budget.proofs.SizeLaws.{size_least, within_step, spread_near, far_below}
 
 pub budgets_length : (S cells : ℕ) (us : List UnitOfPlan) → length (unit_budgets S cells us) ≡ length us
 budgets_length S cells us = length-map us (unit_budget S cells)
@@ -22,7 +15,8 @@ budgets_length S cells us = length-map us (unit_budget S cells)
 pub budget_here : (S cells : ℕ) (us : List UnitOfPlan) (i b : ℕ) (u : UnitOfPlan) → i < length us → u ≡ get_or us i u
     → b ≡ unit_budget S cells u
     → b ≡ get_or (unit_budgets S cells us) i 0
-budget_here S cells us i b u inside is here = here ∙ ap (unit_budget S cells) is ∙ sym (budget_at S cells us i u inside)
+budget_here S cells us i b u inside is here =
+    here ∙ ap (unit_budget S cells) is ∙ sym (get_or-map (unit_budget S cells) us i u 0 inside)
 
 -- one more unit
 pub budget_next : (S cells : ℕ) (us : List UnitOfPlan) (i sum t x b : ℕ) (u : UnitOfPlan) → i < length us
@@ -63,12 +57,8 @@ pub sum_size_next : (B cells n sum b x : ℕ) → B ≡ 56 → cells ≤ 4096 �
     → b ≤ most_unit_budget → x ≡ cv (2 ^ B) cells sum b
     → IsOfUnits (2 ^ B) cells (n + 1) x
 sum_size_next B cells n sum b x e few most before small step =
-    let r : ℕ = rounded_spread cells 0 most_unit_budget in
-    let parts : n * r + r ≡ (n + 1) * r = omega arith in
-    let far = far_below B ((n + 1) * r) e (omega (arith, units_small cells (n + 1) few most)) in
-    subst (λ c. IsSizeWithin (2 ^ B) c (rounded_spread cells 0 x)) parts
-    (size_step_of (2 ^ B) cells 0 (n * r) r sum b x (pow_pos B) (omega (arith, parts, far)) before
-    (one_unit B cells b small) (step ∙ omega arith))
+    within_step B cells 0 _ _ _ sum b x e (omega arith) (omega (arith, units_small cells (n + 1) few most)) before
+    (one_unit B cells b small) (step ∙ omega arith)
 
 pub sum_small : (B cells n x : ℕ) → B ≡ 56 → cells ≤ 4096 → n ≤ 16 → IsOfUnits (2 ^ B) cells n x → x < 2 ^ 40
 sum_small B cells n x e few most size =
@@ -95,19 +85,6 @@ sum_from_first S cells (v ∷ us) rest u b x some split is here later =
 
 -- ---- all units but one
 
--- the budgets of the first units, and of those after them
-budgets_first : (S cells n : ℕ) (us : List UnitOfPlan)
-    → unit_budgets S cells (take n us) ≡ take n (unit_budgets S cells us)
-budgets_first S cells zero us = refl
-budgets_first S cells (suc n) [] = refl
-budgets_first S cells (suc n) (u ∷ us) = ap (λ t. unit_budget S cells u ∷ t) (budgets_first S cells n us)
-
-budgets_after : (S cells n : ℕ) (us : List UnitOfPlan)
-    → unit_budgets S cells (drop n us) ≡ drop n (unit_budgets S cells us)
-budgets_after S cells zero us = refl
-budgets_after S cells (suc n) [] = refl
-budgets_after S cells (suc n) (u ∷ us) = budgets_after S cells n us
-
 sum_joined : (S cells : ℕ) (ds more : List ℕ) → 1 ≤ length ds
     → sum_spread S cells (ds ++ more) ≡ fold (cv S cells) (sum_spread S cells ds) more
 sum_joined S cells [] more some = absurd (omega (arith, some))
@@ -120,9 +97,9 @@ pub sum_of_others : (S cells : ℕ) (us before after : List UnitOfPlan) (i x y :
     → y ≡ sum_spread S cells (remove (unit_budgets S cells us) i)
 sum_of_others S cells us before after i x y cut rest some first further =
     let front : unit_budgets S cells before ≡ take i (unit_budgets S cells us) = ap (unit_budgets S cells) cut
-    ∙ budgets_first S cells i us in
+    ∙ sym (take-map (unit_budget S cells) i us) in
     let back : unit_budgets S cells after ≡ drop (suc i) (unit_budgets S cells us) = ap (unit_budgets S cells) rest
-    ∙ budgets_after S cells (suc i) us in
+    ∙ sym (drop-map (unit_budget S cells) (suc i) us) in
     let long : 1 ≤ length (take i (unit_budgets S cells us)) =
     omega (arith, some, ap length front, budgets_length S cells before) in
     further ∙ ap₂ (fold (cv S cells)) (first ∙ ap (sum_spread S cells) front) back
@@ -132,7 +109,7 @@ sum_of_others S cells us before after i x y cut rest some first further =
 pub sum_of_later : (S cells : ℕ) (us after : List UnitOfPlan) (i y : ℕ) → i ≡ 0 → after ≡ drop (suc i) us
     → y ≡ sum_spread S cells (unit_budgets S cells after) → y ≡ sum_spread S cells (remove (unit_budgets S cells us) i)
 sum_of_later S cells us after i y none rest later =
-    later ∙ ap (sum_spread S cells) (ap (unit_budgets S cells) rest ∙ budgets_after S cells (suc i) us)
+    later ∙ ap (sum_spread S cells) (ap (unit_budgets S cells) rest ∙ sym (drop-map (unit_budget S cells) (suc i) us))
     ∙ ap (λ n. sum_spread S cells (take n (unit_budgets S cells us) ++ drop (suc i) (unit_budgets S cells us)))
     (sym none)
 

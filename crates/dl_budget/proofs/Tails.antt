@@ -1,14 +1,7 @@
 -- The budget of a tail mean by whole numbers.
-use Rattle.dl_budget.proofs.Common.{ℕ, ◌≡◌, ◌+◌, ◌-◌, ◌*◌, ◌^◌, ◌<◌, ◌≤◌, arith, ap, ap₂, sym, subst, ◌∙◌, div_ceil, mul-le-mul, mul-le-mul_left, Fraction, whole, ◌over◌, over_self, one_pos, div_ceil_least, up, up_quotient}
+use Rattle.dl_budget.proofs.Common.{ℕ, ◌≡◌, ◌+◌, ◌-◌, ◌*◌, ◌^◌, ◌<◌, ◌≤◌, arith, ap, ap₂, sym, ◌∙◌, div_ceil, mul-le-mul, mul-le-mul_left, Fraction, whole, ◌over◌, div_ceil_least, up, up_quotient}
+use Rattle.dl_exact.proofs.BelowOne.{num_below}
 use Rattle.dl_exact.specs.Fraction.{◌<ℚ◌}
-use Rattle.dl_exact.proofs.Over.{lt_over}
-
--- a fraction below 1
-pub level_below : (p : Fraction) → p <ℚ whole 1 → p.num < p.den
-level_below p below =
-    let cross : p.num * 1 < 1 * p.den = lt_over p.num p.den 1 1 p.positive one_pos
-    (subst (λ x. x <ℚ whole 1) (sym (over_self p)) below) in
-    omega (arith, cross)
 
 pub tail_small : (both b rest : ℕ) → 0 < rest → b ≤ 10 ^ 9 → both ≤ 2 ^ 65 + 2 ^ 54
     → div_ceil (both * b) rest + 4 ≤ 2 ^ 96
@@ -30,6 +23,6 @@ pub tail_value : (M T cells x y b d n : ℕ) (p : Fraction) → x ≡ M → y �
 tail_value M T cells x y b d n p of_mean of_total of_b of_d of_n below =
     let sums : 2 * x + 3 * cells * y ≡ 2 * M + 3 * cells * T = ap₂ (λ s t. 2 * s + 3 * cells * t) of_mean of_total in
     let top : (2 * x + 3 * cells * y) * b ≡ (2 * M + 3 * cells * T) * p.den = ap₂ (λ s t. s * t) sums of_b in
-    let rest : 0 < p.den - p.num = omega (arith, level_below p below) in
+    let rest : 0 < p.den - p.num = omega (arith, num_below p below) in
     ap (λ t. t + 4) (ap₂ div_ceil top (ap₂ (λ s t. s - t) of_d of_n)
     ∙ sym (up_quotient ((2 * M + 3 * cells * T) * p.den) (p.den - p.num) rest))

@@ -1,6 +1,6 @@
 //! The budgets of units, of their sums and of their means.
 
-ghost use Rattle.std.specs.Prelude.{ℕ, ◌≡◌, ◌+◌, ◌*◌, ◌^◌, ◌<◌, ◌≤◌, List, All, length, sum_by, fold};
+ghost use Rattle.std.specs.Prelude.{ℕ, ◌≡◌, ◌+◌, ◌*◌, ◌^◌, ◌<◌, ◌≤◌, List, All, length, sum_by, fold, remove};
 ghost use Rattle.dl_limits.specs.Limits.{budget_bound, most_cells, most_claims_budget, most_layers, most_plan_cells, most_units, most_unit_budget, most_mean_budget};
 ghost use Rattle.dl_grid.specs.Width.{cv, sum_spread};
 ghost use Rattle.dl_plan.specs.Horizon.{IsHorizonOf};
@@ -78,6 +78,27 @@ fn sum_of<const B: u32>(units: &[Unit], cells: u32) -> u128
     with_units::<B>(first, &units[1..], cells)
 }
 
+/// The budget of the sum of these units but unit `i`, counted from 0; it is 0 where there is no
+/// other.
+fn sum_without<const B: u32>(units: &[Unit], i: u32, cells: u32) -> u128
+    requires scale { B ≡ 56 }
+    requires valid { All (IsValidUnit cells) units.now }
+    requires some { 1 ≤ cells }
+    requires few { cells ≤ most_plan_cells }
+    requires units { length units.now ≤ most_units }
+    requires unit { i < length units.now }
+    ensures value { result
+        ≡ sum_spread (2 ^ B) cells (remove (unit_budgets (2 ^ B) cells units.now) i) }
+    ensures small { result < budget_bound }
+{
+    let before = &units[..i as usize];
+    let after = &units[i as usize + 1..];
+    if before.is_empty() {
+        return sum_of::<B>(after, cells);
+    }
+    with_units::<B>(sum_of::<B>(before, cells), after, cells)
+}
+
 /// The budget of the total of a valid plan: how far apart the ends of its grid's cells may lie in
 /// all. It starts with that of the first unit and takes in each further one as a convolution
 /// does.
@@ -99,13 +120,7 @@ pub fn others_budget<const B: u32>(plan: &Plan, i: u32) -> u128
     ensures value { result ≡ others_budget (2 ^ B) plan.now i }
     ensures small { result < budget_bound }
 {
-    let units = plan.units.as_slice();
-    let before = &units[..i as usize];
-    let after = &units[i as usize + 1..];
-    if before.is_empty() {
-        return sum_of::<B>(after, plan.cells);
-    }
-    with_units::<B>(sum_of::<B>(before, plan.cells), after, plan.cells)
+    sum_without::<B>(plan.units.as_slice(), i, plan.cells)
 }
 
 /// What a layer of an aggregate clause adds to the budget of a mean, for a budget before the

@@ -25,6 +25,7 @@ use Rattle.dl_plan.proofs.CommonDenominators.{den_divides, common_pos}
 use Rattle.dl_plan.proofs.Means.{total_pos, positive_share}
 use Rattle.dl_plan.proofs.Shares.{mean-shares}
 use Rattle.dl_plan.proofs.Apart.{first_apart, rest_apart}
+use Rattle.dl_plan.proofs.Clauses.{num_le_den}
 use Rattle.dl_grid.specs.Width.{layer_width}
 use Rattle.dl_measures.specs.Layers.{layer_most}
 
@@ -159,6 +160,9 @@ most_small None one mean hi near scale small h = omega (arith, small, h)
 most_small (Some k) one mean hi near scale small h =
     let most : k * one ≤ 2 ^ 20 * 2 ^ 56 = mul-le-mul near scale in
     omega (arith, most, h)
+
+pub part_le : {num den : ℕ} (share : Fraction) → num ≡ share.num → den ≡ share.den → share ≤ℚ whole 1 → num ≤ den
+part_le share e h within = omega (arith, e, h, num_le_den share within)
 
 pub share_fits : (hi num den : ℕ) → hi ≤ 2 ^ 92 → num ≤ den → den ≤ 2 ^ 30 → hi * num < 2 ^ 128
 share_fits hi num den small within fine =

@@ -1,5 +1,5 @@
 -- Units that are alike have the same grids and means.
-use Rattle.dl_eval.proofs.Common.{ℕ, ◌≡◌, ◌*◌, List, [], ◌∷◌, length, take, arith, sym, ap, ap₂, subst, subst₂, ◌∙◌, Option, whole, ◌over◌, Iv, spread, Holds, mapped, GridEncloses, Aggregate, One, Mean, partial_sums, outcome_after, aggregate_of, Clause, horizon, claims_budget, after_clause, unit_budget, unit_mean_budget, mean_width, S, IsUnitGrid, IsUnitMean}
+use Rattle.dl_eval.proofs.Common.{ℕ, ◌≡◌, List, [], ◌∷◌, length, take, arith, sym, ap, ap₂, subst, subst₂, ◌∙◌, Option, whole, ◌over◌, Iv, spread, Holds, mapped, GridEncloses, Aggregate, One, Mean, partial_sums, outcome_after, aggregate_of, Clause, horizon, claims_budget, after_clause, unit_budget, unit_mean_budget, mean_width, S, IsUnitGrid, IsUnitMean}
 use Rattle.std.proofs.lemmas.List.{take_all}
 use Rattle.dl_exact.specs.Fraction.{◌*ℚ◌, ◌-ℚ◌}
 use Rattle.dl_model.specs.Plans.{count_weights}

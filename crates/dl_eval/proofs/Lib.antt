@@ -5,7 +5,6 @@ pub mod Insides
 pub mod Printed
 pub mod Totals
 pub mod UnitLaws
-pub mod SameLaws
 pub mod AlikeLaws
 pub mod Means
 pub mod GoodRows

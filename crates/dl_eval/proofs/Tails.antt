@@ -1,10 +1,10 @@
 -- The answer to an ask for a tail mean.
 use Rattle.dl_eval.proofs.Common.{ℕ, suc, ◌≡◌, ◌+◌, ◌-◌, ◌*◌, ◌^◌, ◌<◌, ◌≤◌, List, length, arith, inl, inr, sym, subst, div_ceil, mul-le-mul_left, mul-le-mul_right, pow_pos, div_ceil_times, Fraction, ◌over◌, ◌≤ℚ◌, ◌<ℚ◌, le_trans, lt_or_le, lt_not_le, div_ceil_least, Iv, over_le_over, low_at, high_at, spread, up_quotient, count_below, Holds, Aggregate, One, Mean, Tail, partial_sums, total, GridEncloses, AreDeclared, low_cdf, aggregates_of, at_least_wider, cdf_ends, plan_declared, plan_units, IsFirstAtLeast, Plan, IsValid, Row, total_budget, mean_budget, tail_budget, in_digits, few_cells, S, at_the_end, IsTailMean, DeclaresTail, IsTotalOf, IsMeanOf, Prints}
+use Rattle.dl_exact.proofs.BelowOne.{num_below}
 use Rattle.dl_grid.specs.Width.{up, tail_width}
 use Rattle.dl_model.specs.Measures.{IsQuantile}
 use Rattle.dl_exact.proofs.Counts.{below_grows as count_below_grows}
 use Rattle.dl_plan.specs.Ranges.{IsLevel}
-use Rattle.dl_budget.proofs.Tails.{level_below}
 use Rattle.dl_eval.specs.Rows.{IsAtLeast}
 use Rattle.dl_eval.proofs.Printed.{are_ends, tail_widens}
 
@@ -83,4 +83,4 @@ tail_answer plan g mean p d lo hi row found holds width level valid t m printed 
     wide : tail_width p (mean.hi - mean.lo) (length g) (spread g) ≤ tail_budget S plan p
     wide = subst (λ n. tail_width p (mean.hi - mean.lo) n (spread g) ≤ tail_budget S plan p) (sym t.cells)
         (tail_narrow p (mean.hi - mean.lo) (mean_budget S plan) plan.cells (spread g) (total_budget S plan)
-        (level_below p level.below) (omega (arith, m.narrow)) t.narrow)
+        (num_below p level.below) (omega (arith, m.narrow)) t.narrow)

@@ -1,5 +1,6 @@
 -- The grid of a total, from those of its units.
 use Rattle.dl_eval.proofs.Common.{ℕ, zero, suc, ◌≡◌, ◌^◌, ◌<◌, ◌≤◌, List, [], ◌∷◌, ◌++◌, length, get_or, map, arith, refl, sym, ap, subst, subst₂, ◌∙◌, Option, None, Some, IfSome, All, pow_pos, length-append, length-map, get_or_default, Iv, spread, low_at, high_at, cv, cv_rises, mapped, GridEncloses, unit_of, outcome_after, aggregate_of, aggregates_of, compound_of, unit_declared, plan_units, Plan, Asked, IsValidUnit, IsValid, unit_budget, unit_budgets, place_of, NamesUnit, IsTotal, AreSumsWithout, AreUnitGrids, AreShared, IsTotalOf, AreOthersOf, AreOthers, HasOthers, shared_unit}
+use Rattle.std.proofs.lemmas.Option.{IfSome_then}
 use Rattle.std.specs.Prelude.{Bool, false, IsTrue, option_map}
 use Rattle.std.specs.List.{fold, remove}
 use Rattle.std.proofs.lemmas.List.{get_or-map}
@@ -159,18 +160,13 @@ others_of plan grids i g valid each sum = record {
   );
 }
 
-pub some_weaker : {A : Type 0} (made : Option A) (P Q : A → Type 0) → IfSome made P → ((x : A) → P x → Q x)
-    → IfSome made Q
-some_weaker None P Q is weaker = tt
-some_weaker (Some x) P Q is weaker = weaker x is
-
 pub are_others : (plan : Plan) (grids : List (List (Iv 56))) (asked : List Bool) (sums : List (Option (List (Iv 56))))
     → IsValid plan → AreUnitGrids plan.cells plan.units grids
     → AreSumsWithout plan.cells grids asked sums → AreOthers plan sums
 are_others plan grids asked sums valid each rest = record {
   as_many = rest.as_many ∙ each.as_many;
   each = λ i inside.
-      some_weaker (get_or sums i None) (IsSumWithout plan.cells grids i) (AreOthersOf plan i)
+      IfSome_then (get_or sums i None)
       (rest.each i (omega (arith, inside, each.as_many)))
       (λ g sum. others_of plan grids i g valid each sum);
 }

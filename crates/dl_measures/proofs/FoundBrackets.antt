@@ -41,13 +41,10 @@ near us S K lo hi p x w i s e xk high low k =
     let c = cdf_ends us S K lo hi i s e x xk in
     let g : high_cdf S hi x ≤ℚ low_cdf S lo x +ℚ w over S = spread_le S _ _ w s k in (
       at_most_wider (partial_sums us (Cdf x)) (partial_sums us One) (high_cdf S hi x) (p +ℚ w over S) c.1
-          (le_trans _ _ _ g (plus_le_left _ _ _ (le_of_lt _ _ low))),
+          (le_trans _ _ _ g (plus_le_plus _ _ _ (le_of_lt _ _ low))),
       at_least_wider (partial_sums us (Cdf x)) (partial_sums us One) (low_cdf S lo x) (p -ℚ w over S) c.0
           (sub_le _ _ _ (le_trans _ _ _ high g)),
     )
-  where
-    plus_le_left : (x y z : Fraction) → x ≤ℚ y → x +ℚ z ≤ℚ y +ℚ z
-    plus_le_left x y z h = plus_le_plus x y z h
 
 -- Where the high ends from lo on reach p, and the low ends before hi do not, each spread below w leaves the bracket
 -- tight within w.

@@ -1,5 +1,5 @@
 -- The means of layers, from the ends that a grid gives.
-use Rattle.dl_measures.proofs.Common.{ℕ, suc, ◌≡◌, inl, inr, ◌+◌, ◌-◌, ◌*◌, ◌^◌, ◌<◌, ◌≤◌, min, List, length, arith, sym, ap, subst, subst₂, ◌∙◌, Option, Some, None, mul-le-mul, mul-le-mul_right, fun_ext, pow_pos, cases_lt, whole, ◌over◌, ◌+ℚ◌, ◌*ℚ◌, ◌≤ℚ◌, over_le, over_same, one_pos, zero_le, Iv, low_at, high_at, spread, IsGrid, scale_of, one_fits, AtLeast, AtMost, Holds, count_below, Aggregate, One, Layer, score, partial_sums, total, GridEncloses, AreDeclared, at_most_wider, outcomes_rise, over_plus, below_more, below_bound, are_units, quantity_bounded}
+use Rattle.dl_measures.proofs.Common.{ℕ, suc, ◌≡◌, inl, inr, ◌+◌, ◌-◌, ◌*◌, ◌^◌, ◌<◌, ◌≤◌, min, List, length, arith, sym, ap, subst, ◌∙◌, Option, Some, None, mul-le-mul, mul-le-mul_right, fun_ext, pow_pos, cases_lt, whole, ◌over◌, ◌+ℚ◌, ◌*ℚ◌, ◌≤ℚ◌, over_le, over_same, one_pos, zero_le, Iv, low_at, high_at, spread, IsGrid, scale_of, one_fits, AtLeast, AtMost, Holds, count_below, Aggregate, One, Layer, score, partial_sums, total, GridEncloses, AreDeclared, at_most_wider, outcomes_rise, over_plus, below_more, below_bound, are_units, quantity_bounded}
 use Rattle.dl_exact.proofs.Laws.{zero_times}
 use Rattle.dl_model.specs.Series.{plus}
 use Rattle.dl_model.specs.Program.{Mean}
@@ -146,55 +146,29 @@ mean_fits {B} cells attachment i s t d grid inside e h =
 
 -- ---- what a call answers, from the cells that it has seen
 
-module _ {B : ℕ} (cells seen : List (Iv B)) (limit : Option ℕ) (attachment k lo hi : ℕ) (same : seen ≡ cells)
-    (low : lo ≡ low_units seen k attachment) (high : hi ≡ high_units seen k attachment) where
-  at_low : lo ≡ low_units cells k attachment
-  at_low = low ∙ ap (λ t. low_units t k attachment) same
-
-  at_high : hi ≡ high_units cells k attachment
-  at_high = high ∙ ap (λ t. high_units t k attachment) same
-
-  pub some_holds : (us : List Aggregate) → limit ≡ Some k → IsGrid cells → AreDeclared us
-      → GridEncloses cells (total us) → edge_of limit attachment ≤ length cells
+module _ {B : ℕ} (cells : List (Iv B)) (limit : Option ℕ) (attachment k lo hi : ℕ)
+    (low : lo ≡ low_units cells k attachment) (high : hi ≡ high_units cells k attachment) (is : limit ≡ Some k) where
+  pub some_holds : (us : List Aggregate) → IsGrid cells → AreDeclared us → GridEncloses cells (total us)
+      → edge_of limit attachment ≤ length cells
       → Holds (partial_sums us (Layer limit attachment)) (partial_sums us One) (lo over 2 ^ B) (hi over 2 ^ B)
-  some_holds us is grid d e inside =
-      subst (λ t. Holds (partial_sums us (Layer t attachment)) (partial_sums us One) (lo over 2 ^ B) (hi over 2 ^ B))
-      (sym is)
-      (subst₂ (λ l h. Holds (partial_sums us (Layer (Some k) attachment)) (partial_sums us One) (l over 2 ^ B)
-      (h over 2 ^ B)) (sym at_low) (sym at_high)
-      (with_limit cells us k attachment grid d e (subst (λ t. edge_of t attachment ≤ length cells) is inside)))
+  some_holds us grid d e inside = rw (is, low, high) (with_limit cells us k attachment grid d e (rw is at inside))
 
-  pub some_width : (mean : ℕ) → limit ≡ Some k → hi - lo ≤ layer_width limit attachment mean (spread cells)
-  some_width mean is = subst (λ t. hi - lo ≤ layer_width t attachment mean (spread cells)) (sym is)
-      (omega (arith, at_low, at_high, limit_width cells k attachment))
+  pub some_width : (mean : ℕ) → hi - lo ≤ layer_width limit attachment mean (spread cells)
+  some_width mean = rw is (omega (arith, low, high, limit_width cells k attachment))
 
-  pub some_most : (mean : ℕ) → limit ≡ Some k → hi ≤ layer_most limit (2 ^ B) mean
-  some_most mean is = subst (λ t. hi ≤ layer_most t (2 ^ B) mean) (sym is)
-      (omega (arith, at_high, high_units_most cells k attachment))
+  pub some_most : (mean : ℕ) → hi ≤ layer_most limit (2 ^ B) mean
+  some_most mean = rw is (omega (arith, high, high_units_most cells k attachment))
 
-module _ {B : ℕ} (cells seen : List (Iv B)) (limit : Option ℕ) (attachment lo hi l h m n : ℕ) (same : seen ≡ cells)
-    (low : l ≡ low_units seen attachment 0) (high : h ≡ high_units seen attachment 0) (left_low : lo ≡ m - h)
-    (left_high : hi ≡ n - l) where
-  below_low : l ≡ low_units cells attachment 0
-  below_low = low ∙ ap (λ t. low_units t attachment 0) same
-
-  below_high : h ≡ high_units cells attachment 0
-  below_high = high ∙ ap (λ t. high_units t attachment 0) same
-
-  pub none_holds : (us : List Aggregate) → limit ≡ None → IsGrid cells → AreDeclared us → GridEncloses cells (total us)
+module _ {B : ℕ} (cells : List (Iv B)) (limit : Option ℕ) (attachment lo hi l h m n : ℕ)
+    (low : l ≡ low_units cells attachment 0) (high : h ≡ high_units cells attachment 0) (left_low : lo ≡ m - h)
+    (left_high : hi ≡ n - l) (is : limit ≡ None) where
+  pub none_holds : (us : List Aggregate) → IsGrid cells → AreDeclared us → GridEncloses cells (total us)
       → edge_of limit attachment ≤ length cells
       → (limit ≡ None → Holds (partial_sums us Mean) (partial_sums us One) (m over 2 ^ B) (n over 2 ^ B))
       → Holds (partial_sums us (Layer limit attachment)) (partial_sums us One) (lo over 2 ^ B) (hi over 2 ^ B)
-  none_holds us is grid d e inside mean =
-      subst (λ t. Holds (partial_sums us (Layer t attachment)) (partial_sums us One) (lo over 2 ^ B) (hi over 2 ^ B))
-      (sym is)
-      (subst₂ (λ s t. Holds (partial_sums us (Layer None attachment)) (partial_sums us One) (s over 2 ^ B)
-      (t over 2 ^ B))
-      (sym (left_low ∙ ap (λ t. m - t) below_high)) (sym (left_high ∙ ap (λ t. n - t) below_low))
-      (no_limit cells us attachment m n grid d e (subst (λ t. edge_of t attachment ≤ length cells) is inside)
-      (mean is)))
+  none_holds us grid d e inside mean =
+      rw (is, left_low, left_high, low, high) (no_limit cells us attachment m n grid d e (rw is at inside) (mean is))
 
-  pub none_width : limit ≡ None → m ≤ n → hi - lo ≤ layer_width limit attachment (n - m) (spread cells)
-  none_width is ordered =
-      subst (λ t. hi - lo ≤ layer_width t attachment (n - m) (spread cells)) (sym is)
-      (omega (arith, left_low, left_high, below_low, below_high, no_limit_width cells attachment m n ordered))
+  pub none_width : m ≤ n → hi - lo ≤ layer_width limit attachment (n - m) (spread cells)
+  none_width ordered =
+      rw is (omega (arith, left_low, left_high, low, high, no_limit_width cells attachment m n ordered))

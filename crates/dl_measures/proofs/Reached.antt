@@ -1,6 +1,8 @@
 -- From the sums of a walk over the grid to the bracket of a quantile.
-use Rattle.dl_measures.proofs.Common.{ℕ, suc, ◌≡◌, inl, inr, ◌+◌, ◌*◌, ◌^◌, ◌<◌, ◌≤◌, min, List, length, arith, refl, sym, ap, subst, ◌∙◌, Option, Some, None, mul-le-mul, mul-le-mul_right, pow_pos, cases_lt, Fraction, whole, ◌over◌, ◌≤ℚ◌, ◌<ℚ◌, over_self, over_le, over_lt, lt_over, le_trans, Iv, low_at, high_at, spread, IsGrid, scale_of, one_fits, count_below, Aggregate, AreDeclarable, One, total, Encloses, GridEncloses, IsQuantile, IsBracketed, AreDeclared, low_cdf, high_cdf, IsTight, below_nothing, below_grows, are_units, quantity_bounded, IsFirstAtLeast, IsFirstFound}
+use Rattle.dl_measures.proofs.Common.{ℕ, suc, ◌≡◌, inl, inr, ◌+◌, ◌*◌, ◌^◌, ◌<◌, ◌≤◌, min, List, length, arith, refl, sym, ap, subst, ◌∙◌, Option, Some, None, mul-le-mul, mul-le-mul_right, pow_pos, cases_lt, Fraction, whole, ◌over◌, ◌≤ℚ◌, ◌<ℚ◌, over_self, over_le, over_lt, le_trans, Iv, low_at, high_at, spread, IsGrid, scale_of, one_fits, count_below, Aggregate, AreDeclarable, One, total, Encloses, GridEncloses, IsQuantile, IsBracketed, AreDeclared, low_cdf, high_cdf, IsTight, below_nothing, below_grows, are_units, quantity_bounded, IsFirstAtLeast, IsFirstFound}
+use Rattle.dl_exact.proofs.BelowOne.{num_below}
 use Rattle.std.proofs.Common.{add-one}
+use Rattle.std.proofs.Math.Nat.{min-eq_left, min-eq_right, min-le_right}
 use Rattle.std.proofs.lemmas.Option.{none-some}
 use Rattle.dl_model.proofs.Bracket.{quantile_inside}
 use Rattle.dl_measures.proofs.FoundBrackets.{bracket, tight, high_rises}
@@ -18,31 +20,15 @@ module _ (S c : ℕ) (p : Fraction) (s : 0 < S) where
 
   pub high_short : c * p.den < p.num * S → min S c over S <ℚ p
   high_short h = subst (λ t. min S c over S <ℚ t) (over_self p)
-      (over_lt (min S c) S p.num p.den s p.positive (omega (arith, h, mul-le-mul_right p.den (smaller S c))))
-    where
-      smaller : (a b : ℕ) → min a b ≤ b
-      smaller a b = omega arith
+      (over_lt (min S c) S p.num p.den s p.positive (omega (arith, h, mul-le-mul_right p.den (min-le_right S c))))
 
   pub high_reaches : p <ℚ whole 1 → p.num * S ≤ c * p.den → p ≤ℚ min S c over S
   high_reaches below h = subst (λ t. t ≤ℚ min S c over S) (over_self p)
       (over_le p.num p.den (min S c) S p.positive s (elim (cases_lt S c) [
-        | inl l ↦ subst (λ t. p.num * S ≤ t * p.den) (sym (left S c l))
-            (omega (arith, mul-le-mul_right S (at_most p below)))
-        | inr l ↦ subst (λ t. p.num * S ≤ t * p.den) (sym (right S c l)) h
+        | inl l ↦ subst (λ t. p.num * S ≤ t * p.den) (sym (min-eq_left (omega (arith, l))))
+            (omega (arith, mul-le-mul_right S (num_below p below)))
+        | inr l ↦ subst (λ t. p.num * S ≤ t * p.den) (sym (min-eq_right l)) h
       ]))
-    where
-      left : (a b : ℕ) → a < b → min a b ≡ a
-      left a b l = omega arith
-
-      right : (a b : ℕ) → b ≤ a → min a b ≡ b
-      right a b l = omega arith
-
-      at_most : (p : Fraction) → p <ℚ whole 1 → p.num ≤ p.den
-      at_most p h = omega (
-        arith,
-        lt_over p.num p.den 1 1 p.positive (omega arith)
-            (subst (λ t. t <ℚ whole 1) (sym (over_self p)) h),
-      )
 
 -- ---- what the two first cells say
 
@@ -107,6 +93,9 @@ pub more : (f : ℕ → ℕ) (x s t : ℕ) → s ≡ count_below x f → t ≡ f
 unfolding count_below
 more f x s t e h = omega (arith, e, h)
 
+pub next_sum : (f : ℕ → ℕ) (x s t : ℕ) → s ≡ count_below x f → t ≡ f x → s + t ≡ count_below (x + 1) f
+next_sum f x s t e h = more f x s t e h ∙ ap (λ k. count_below k f) (sym (add-one x))
+
 -- up to the next cell the low ends have not reached the goal
 still_short : (f : ℕ → ℕ) (den goal x s y : ℕ) → s ≡ count_below (suc x) f → s * den < goal → y < x + 1
     → count_below (suc y) f * den < goal
@@ -117,8 +106,8 @@ module _ (lo hi : ℕ → ℕ) (den goal x a low high l h : ℕ) (w : Walked lo 
     (is_high : h ≡ hi x) (short : (low + l) * den < goal) where
   pub passed : (high + h) * den < goal → Walked lo hi den goal (x + 1) (x + 1) (low + l) (high + h)
   passed high_too = record {
-    low_sum = more lo x low l w.low_sum is_low ∙ ap (λ k. count_below k lo) (sym (add-one x));
-    high_sum = more hi x high h w.high_sum is_high ∙ ap (λ k. count_below k hi) (sym (add-one x));
+    low_sum = next_sum lo x low l w.low_sum is_low;
+    high_sum = next_sum hi x high h w.high_sum is_high;
     within = omega arith;
     before = λ y i. still_short hi den goal x (high + h) y (more hi x high h w.high_sum is_high) high_too i;
     reached = λ i. absurd (omega arith);
@@ -127,8 +116,8 @@ module _ (lo hi : ℕ → ℕ) (den goal x a low high l h : ℕ) (w : Walked lo 
 
   pub stayed : goal ≤ (high + h) * den → Walked lo hi den goal (x + 1) a (low + l) (high + h)
   stayed enough = record {
-    low_sum = more lo x low l w.low_sum is_low ∙ ap (λ k. count_below k lo) (sym (add-one x));
-    high_sum = more hi x high h w.high_sum is_high ∙ ap (λ k. count_below k hi) (sym (add-one x));
+    low_sum = next_sum lo x low l w.low_sum is_low;
+    high_sum = next_sum hi x high h w.high_sum is_high;
     within = omega (arith, w.within);
     before = w.before;
     reached = λ i. elim (cases_lt a x) [
@@ -160,57 +149,47 @@ module _ {B : ℕ} (cells : List (Iv B)) (p : Fraction) (den goal x a low high :
       (omega (arith, i, g, ap (λ t. count_below (suc y) (high_at cells) * t) e))
 
   -- the low ends reach the goal at x
-  pub found_low : (l : ℕ) → x < length cells → l ≡ low_at cells x → goal ≤ (low + l) * den
-      → IsFirstAtLeast (low_cdf (2 ^ B) (low_at cells)) p (length cells) x
-  found_low l inside is enough = record {
-    within = omega arith;
-    before = before_low;
-    reached = λ i. low_reaches (2 ^ B) (count_below (suc x) (low_at cells)) p (pow_pos B)
-        (omega (
-          arith,
-          enough,
-          g,
-          ap (λ t. t * den) (more (low_at cells) x low l w.low_sum is),
-          ap (λ t. count_below (suc x) (low_at cells) * t) e,
-        ));
-  }
-
-  pub found_high : (l : ℕ) → x < length cells → l ≡ low_at cells x → goal ≤ (low + l) * den
+  pub found : (l : ℕ) → x < length cells → l ≡ low_at cells x → goal ≤ (low + l) * den
       → IsFirstAtLeast (high_cdf (2 ^ B) (high_at cells)) p (length cells) a
-  found_high l inside is enough = record {
-    within = omega (arith, w.within);
-    before = before_high;
-    reached = λ i. at_high a (elim (cases_lt a x) [
-      | inl less ↦ w.reached less
-      | inr last ↦ subst (λ k. goal ≤ count_below (suc k) (high_at cells) * den) (same last)
-          (omega (
-            arith,
-            enough,
-            ap (λ t. t * den) (more (low_at cells) x low l w.low_sum is),
-            mul-le-mul_right den (low_high cells (suc x)),
-          ))
-    ]);
-  }
+      × IsFirstAtLeast (low_cdf (2 ^ B) (low_at cells)) p (length cells) x
+  found l inside is enough =
+      let sum : (low + l) * den ≡ count_below (suc x) (low_at cells) * den =
+      ap (λ t. t * den) (more (low_at cells) x low l w.low_sum is) in (
+        record {
+          within = omega (arith, w.within);
+          before = before_high;
+          reached = λ i. at_high a (elim (cases_lt a x) [
+            | inl less ↦ w.reached less
+            | inr last ↦ subst (λ k. goal ≤ count_below (suc k) (high_at cells) * den) (same last)
+                (omega (arith, enough, sum, mul-le-mul_right den (low_high cells (suc x))))
+          ]);
+        },
+        record {
+          within = omega arith;
+          before = before_low;
+          reached = λ i. low_reaches (2 ^ B) (count_below (suc x) (low_at cells)) p (pow_pos B)
+              (omega (arith, enough, g, sum, ap (λ t. count_below (suc x) (low_at cells) * t) e));
+        },
+      )
     where
       same : x ≤ a → x ≡ a
       same last = omega (arith, w.within)
 
   -- the low ends have nowhere reached it
-  pub ended_low : x ≡ length cells → IsFirstAtLeast (low_cdf (2 ^ B) (low_at cells)) p (length cells) (length cells)
-  ended_low all = record {
-    within = omega arith;
-    before = λ y i. before_low y (omega arith);
-    reached = λ i.
-        absurd (omega arith);
-  }
-
-  pub ended_high : x ≡ length cells → IsFirstAtLeast (high_cdf (2 ^ B) (high_at cells)) p (length cells) a
-  ended_high all = record {
-    within = omega (arith, w.within);
-    before = before_high;
-    reached = λ i.
-        at_high a (w.reached (omega arith));
-  }
+  pub ended : x ≡ length cells → IsFirstAtLeast (high_cdf (2 ^ B) (high_at cells)) p (length cells) a
+      × IsFirstAtLeast (low_cdf (2 ^ B) (low_at cells)) p (length cells) (length cells)
+  ended all = (
+    record {
+      within = omega (arith, w.within);
+      before = before_high;
+      reached = λ i. at_high a (w.reached (omega arith));
+    },
+    record {
+      within = omega arith;
+      before = λ y i. before_low y (omega arith);
+      reached = λ i. absurd (omega arith);
+    },
+  )
 
 -- ---- what the bracket holds
 
@@ -256,14 +235,7 @@ high_fits cells x high h grid inside e is = omega (
 pub goal_fits : (p : Fraction) (B num one : ℕ) → B ≤ 56 → p <ℚ whole 1 → p.den ≤ 1000000000 → num ≡ p.num → one ≡ 2 ^ B
     → num * one < 2 ^ 128
 goal_fits p B num one scale below small e h =
-    let first : num ≤ 1000000000 = omega (arith, num_small p below, e) in
+    let first : num ≤ 1000000000 = omega (arith, num_below p below, e) in
     let second : one ≤ 2 ^ 56 = omega (arith, h, one_fits B scale) in
     let most : num * one ≤ 1000000000 * 2 ^ 56 = mul-le-mul first second in
     omega (arith, most)
-  where
-    num_small : (p : Fraction) → p <ℚ whole 1 → p.num ≤ p.den
-    num_small p h = omega (
-      arith,
-      lt_over p.num p.den 1 1 p.positive (omega arith)
-          (subst (λ t. t <ℚ whole 1) (sym (over_self p)) h),
-    )

@@ -1,7 +1,8 @@
 -- From the excess over the low end of a bracket to the tail mean.
-use Rattle.dl_measures.proofs.Common.{ℕ, suc, ◌≡◌, inl, inr, ◌+◌, ◌-◌, ◌*◌, ◌/◌, ◌^◌, ◌<◌, ◌≤◌, min, List, length, arith, sym, ap, ap₂, subst, subst₂, ◌∙◌, Some, None, div_ceil, mul-le-mul, mul-le-mul_right, pow_pos, cases_lt, Fraction, whole, ◌over◌, ◌+ℚ◌, ◌-ℚ◌, ◌*ℚ◌, ◌≤ℚ◌, ◌<ℚ◌, over_self, over_same, over_le, over_lt, lt_over, one_pos, le_trans, lt_not_le, Iv, low_at, high_at, spread, IsGrid, scale_of, one_fits, IsBound, AtMost, AtLeast, Holds, count_below, Aggregate, One, Cdf, Layer, partial_sums, IsQuantile, AreDeclared, low_cdf, high_cdf, IsTight, at_most_wider, are_units, quantity_bounded, IsFirstAtLeast, IsFirstFound}
+use Rattle.dl_measures.proofs.Common.{ℕ, suc, ◌≡◌, inl, inr, ◌+◌, ◌-◌, ◌*◌, ◌/◌, ◌^◌, ◌<◌, ◌≤◌, min, List, length, arith, sym, ap, ap₂, subst, subst₂, ◌∙◌, Some, None, div_ceil, mul-le-mul, mul-le-mul_right, pow_pos, cases_lt, Fraction, whole, ◌over◌, ◌+ℚ◌, ◌-ℚ◌, ◌*ℚ◌, ◌≤ℚ◌, ◌<ℚ◌, over_self, over_same, over_le, over_lt, one_pos, le_trans, lt_not_le, Iv, low_at, high_at, spread, IsGrid, scale_of, one_fits, IsBound, AtMost, AtLeast, Holds, count_below, Aggregate, One, Cdf, Layer, partial_sums, IsQuantile, AreDeclared, low_cdf, high_cdf, IsTight, at_most_wider, are_units, quantity_bounded, IsFirstAtLeast, IsFirstFound}
+use Rattle.dl_exact.proofs.BelowOne.{num_below}
 use Rattle.std.proofs.Common.{div-add-mod'}
-use Rattle.std.proofs.Math.Nat.{mul-le-mul_left, mul-pos, div-mul-le_self, div-le_self, mod-lt}
+use Rattle.std.proofs.Math.Nat.{mul-le-mul_left, mul-pos, div-mul-le_self, div-le_self, mod-lt, add-sub_of_le}
 use Rattle.std.proofs.lemmas.List.{take_all}
 use Rattle.dl_exact.specs.Fraction.{◌/ℚ◌}
 use Rattle.dl_exact.proofs.Over.{over_add, over_mul, over_div}
@@ -19,15 +20,8 @@ use Rattle.dl_measures.proofs.Sums.{low_high, low_most}
 -- ---- what p leaves of 1
 
 module _ (p : Fraction) (below : p <ℚ whole 1) where
-  pub num_below : p.num < p.den
-  num_below = omega (
-    arith,
-    lt_over p.num p.den 1 1 p.positive one_pos
-        (subst (λ t. t <ℚ whole 1) (sym (over_self p)) below),
-  )
-
   pub rest_above : 0 < p.den - p.num
-  rest_above = omega (arith, num_below)
+  rest_above = omega (arith, num_below p below)
 
   pub rest : Fraction
   rest = (p.den - p.num) over p.den
@@ -37,13 +31,11 @@ module _ (p : Fraction) (below : p <ℚ whole 1) where
   parts =
       ap (λ t. t +ℚ (p.den - p.num) over p.den) (sym (over_self p))
       ∙ over_add p.num p.den (p.den - p.num) p.den p.positive p.positive
-      ∙ over_same _ _ 1 1 (mul-pos p.positive p.positive) one_pos (whole_again p.num p.den (omega (arith, num_below)))
+      ∙ over_same _ _ 1 1 (mul-pos p.positive p.positive) one_pos
+      (whole_again p.num p.den (omega (arith, num_below p below)))
     where
       whole_again : (n d : ℕ) → n ≤ d → (n * d + (d - n) * d) * 1 ≡ 1 * (d * d)
-      whole_again n d h = omega (arith, ap (λ t. t * d) (joined n d h))
-        where
-          joined : (n d : ℕ) → n ≤ d → n + (d - n) ≡ d
-          joined n d h = omega arith
+      whole_again n d h = omega (arith, ap (λ t. t * d) (add-sub_of_le h))
 
   pub rest_pos : whole 0 <ℚ rest
   unfolding rest

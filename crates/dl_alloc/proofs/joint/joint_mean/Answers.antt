@@ -36,53 +36,26 @@ invariant_of-result-clause-scale_above g c = (scale_of c.args.unit.now c.cells.e
 pub invariant_of-result-clause-scale_below : goal.invariant_of-result-clause-scale_below
 invariant_of-result-clause-scale_below g c = (scale_of c.args.unit.now c.cells.ensures.grid.some).1
 
-pub returns-clause-holds : goal.returns-clause-holds
-returns-clause-holds g c us i units here e f =
+pub returns : goal.returns
+returns g c =
+    let top = end_top c.args.unit.now c.args.others.now c.args.x c.cells.ensures.grid c.cells-2.ensures.grid
+    c.requires.unit_narrow c.requires.others_narrow in
     rw (
       c.div_ceil.ensures,
       c.weighted_sums-low.ensures.low,
       c.weighted_sums-low.ensures.high,
       c.units_of_one-one.ensures,
     )
-    (joint_holds c.args.unit.now c.args.others.now us i c.args.x c.requires.in_unit c.requires.in_others units here e f)
-
-pub returns-clause-width : goal.returns-clause-width
-returns-clause-width g c =
-    rw (
-      c.div_ceil.ensures,
-      c.weighted_sums-low.ensures.low,
-      c.weighted_sums-low.ensures.high,
-      c.units_of_one-one.ensures,
-    )
-    (joint_width c.args.unit.now c.args.others.now c.args.x c.cells.ensures.grid c.cells-2.ensures.grid
-    c.requires.in_unit)
-
-pub returns-clause-below : goal.returns-clause-below
-returns-clause-below g c us i h declared here e f at =
-    rw (c.weighted_sums-low.ensures.low, c.units_of_one-one.ensures)
-    (low_share us i c.args.x (low_weighted c.args.unit.now c.args.others.now c.args.x / 2 ^ g.row.B) h (2 ^ g.row.B)
-    declared (pow_pos g.row.B)
-    (joint_holds c.args.unit.now c.args.others.now us i c.args.x c.requires.in_unit c.requires.in_others
-    (are_units us declared) here e f).0 at)
-
-pub returns-clause-small : goal.returns-clause-small
-returns-clause-small g c =
-    rw (
-      c.div_ceil.ensures,
-      c.weighted_sums-low.ensures.high,
-      c.units_of_one-one.ensures,
-    )
-    (end_top c.args.unit.now c.args.others.now c.args.x c.cells.ensures.grid c.cells-2.ensures.grid
-    c.requires.unit_narrow c.requires.others_narrow)
-
-pub returns-clause-divisible : goal.returns-clause-divisible
-returns-clause-divisible g c few =
-    end_divisible c.args.unit.now c.args.x _ c.cells.ensures.grid
-    (rw (
-      c.div_ceil.ensures,
-      c.weighted_sums-low.ensures.high,
-      c.units_of_one-one.ensures,
-    )
-    (end_top c.args.unit.now c.args.others.now c.args.x c.cells.ensures.grid c.cells-2.ensures.grid
-    c.requires.unit_narrow c.requires.others_narrow))
-    few
+    (record {
+      holds = λ us i units here e f. joint_holds c.args.unit.now c.args.others.now us i c.args.x c.requires.in_unit
+          c.requires.in_others units here e f;
+      width = joint_width c.args.unit.now c.args.others.now c.args.x c.cells.ensures.grid c.cells-2.ensures.grid
+          c.requires.in_unit;
+      below = λ us i h declared here e f at.
+          low_share us i c.args.x (low_weighted c.args.unit.now c.args.others.now c.args.x / 2 ^ g.row.B) h
+          (2 ^ g.row.B) declared (pow_pos g.row.B)
+          (joint_holds c.args.unit.now c.args.others.now us i c.args.x c.requires.in_unit c.requires.in_others
+          (are_units us declared) here e f).0 at;
+      small = top;
+      divisible = λ few. end_divisible c.args.unit.now c.args.x _ c.cells.ensures.grid top few;
+    })

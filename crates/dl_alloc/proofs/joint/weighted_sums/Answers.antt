@@ -10,56 +10,41 @@ loop-y-init g c = record { low = sym (below_nothing _); high = sym (below_nothin
 
 pub overflow_mul-low-in-loop-y : goal.overflow_mul-low-in-loop-y
 overflow_mul-low-in-loop-y g c =
-    omega (
-      arith,
-      (low_step c.args.unit.now c.args.others.now c.args.x c.loop-y.y c.loop-y.low c.at-own.result c.at-other.result
-          c.requires.unit c.requires.others c.requires.in_unit c.requires.in_others
-          (omega arith) c.at-own.ensures.low c.at-own.ensures.high c.at-other.ensures.low c.at-other.ensures.high
-          c.loop-y.invariant.low).1,
-    )
+    let step = low_step c.args.unit.now c.args.others.now c.args.x c.loop-y.y c.loop-y.low _ _ c.requires.unit
+    c.requires.others c.requires.in_unit (omega arith) c.at-own.ensures.low c.at-other.ensures.low
+    c.loop-y.invariant.low in
+    omega (arith, step.1)
 
 pub overflow_add-low : goal.overflow_add-low
 overflow_add-low g c =
-    omega (
-      arith,
-      (low_step c.args.unit.now c.args.others.now c.args.x c.loop-y.y c.loop-y.low c.at-own.result c.at-other.result
-          c.requires.unit c.requires.others c.requires.in_unit c.requires.in_others
-          (omega arith) c.at-own.ensures.low c.at-own.ensures.high c.at-other.ensures.low c.at-other.ensures.high
-          c.loop-y.invariant.low).1,
-    )
+    let step = low_step c.args.unit.now c.args.others.now c.args.x c.loop-y.y c.loop-y.low _ _ c.requires.unit
+    c.requires.others c.requires.in_unit (omega arith) c.at-own.ensures.low c.at-other.ensures.low
+    c.loop-y.invariant.low in
+    omega (arith, step.1)
 
 pub overflow_mul-high-in-loop-y : goal.overflow_mul-high-in-loop-y
 overflow_mul-high-in-loop-y g c =
-    omega (
-      arith,
-      (high_step c.args.unit.now c.args.others.now c.args.x c.loop-y.y c.loop-y.high c.at-own.result c.at-other.result
-          c.requires.unit c.requires.others c.requires.in_unit c.requires.in_others
-          (omega arith) c.at-own.ensures.low c.at-own.ensures.high c.at-other.ensures.low c.at-other.ensures.high
-          c.requires.unit_narrow c.requires.others_narrow c.loop-y.invariant.high).1,
-    )
+    let step = high_step c.args.unit.now c.args.others.now c.args.x c.loop-y.y c.loop-y.high _ _ c.requires.unit
+    c.requires.others c.requires.in_unit (omega arith) c.requires.unit_narrow c.requires.others_narrow
+    c.at-own.ensures.high c.at-other.ensures.high c.loop-y.invariant.high in
+    omega (arith, step.1)
 
 pub overflow_add-high : goal.overflow_add-high
 overflow_add-high g c =
-    omega (
-      arith,
-      (high_step c.args.unit.now c.args.others.now c.args.x c.loop-y.y c.loop-y.high c.at-own.result c.at-other.result
-          c.requires.unit c.requires.others c.requires.in_unit c.requires.in_others
-          (omega arith) c.at-own.ensures.low c.at-own.ensures.high c.at-other.ensures.low c.at-other.ensures.high
-          c.requires.unit_narrow c.requires.others_narrow c.loop-y.invariant.high).1,
-    )
+    let step = high_step c.args.unit.now c.args.others.now c.args.x c.loop-y.y c.loop-y.high _ _ c.requires.unit
+    c.requires.others c.requires.in_unit (omega arith) c.requires.unit_narrow c.requires.others_narrow
+    c.at-own.ensures.high c.at-other.ensures.high c.loop-y.invariant.high in
+    omega (arith, step.1)
 
 pub loop-y-preserved : goal.loop-y-preserved
-loop-y-preserved g c = record {
-  low = (low_step c.args.unit.now c.args.others.now c.args.x c.loop-y.y c.loop-y.low c.at-own.result c.at-other.result
-      c.requires.unit c.requires.others c.requires.in_unit c.requires.in_others
-      (omega arith) c.at-own.ensures.low c.at-own.ensures.high c.at-other.ensures.low c.at-other.ensures.high
-      c.loop-y.invariant.low).0;
-  high = (high_step c.args.unit.now c.args.others.now c.args.x c.loop-y.y c.loop-y.high c.at-own.result
-      c.at-other.result
-      c.requires.unit c.requires.others c.requires.in_unit c.requires.in_others
-      (omega arith) c.at-own.ensures.low c.at-own.ensures.high c.at-other.ensures.low c.at-other.ensures.high
-      c.requires.unit_narrow c.requires.others_narrow c.loop-y.invariant.high).0;
-}
+loop-y-preserved g c =
+    let low = low_step c.args.unit.now c.args.others.now c.args.x c.loop-y.y c.loop-y.low _ _ c.requires.unit
+    c.requires.others c.requires.in_unit (omega arith) c.at-own.ensures.low c.at-other.ensures.low
+    c.loop-y.invariant.low in
+    let high = high_step c.args.unit.now c.args.others.now c.args.x c.loop-y.y c.loop-y.high _ _ c.requires.unit
+    c.requires.others c.requires.in_unit (omega arith) c.requires.unit_narrow c.requires.others_narrow
+    c.at-own.ensures.high c.at-other.ensures.high c.loop-y.invariant.high in
+    record { low = low.0; high = high.0 }
 
 pub returns-clause-low : goal.returns-clause-low
 returns-clause-low g c =

@@ -1,7 +1,8 @@
-use Rattle.dl_budget.proofs.Common.{◌+◌, ◌-◌, ◌*◌, ◌^◌, ◌≤◌, arith, ap, ◌∙◌}
+use Rattle.dl_budget.proofs.Common.{◌+◌, ◌-◌, ◌^◌, ◌≤◌, arith, ap, ◌∙◌}
+use Rattle.dl_exact.proofs.BelowOne.{num_below}
 use Rattle.std.proofs.Math.Nat.{mul-le-mul}
 use Rattle.dl_budget.proofs.Horizons.{few_cells}
-use Rattle.dl_budget.proofs.Tails.{level_below, tail_small, tail_sums, tail_value}
+use Rattle.dl_budget.proofs.Tails.{tail_small, tail_sums, tail_value}
 use Rattle.dl_budget.proofs.asks.tail_budget.Goals as goal
 
 pub overflow_mul-sums-2 : goal.overflow_mul-sums-2
@@ -20,20 +21,10 @@ overflow_mul-both-2 g c =
     )
 
 pub overflow_sub-rest : goal.overflow_sub-rest
-overflow_sub-rest g c = omega (
-  arith,
-  level_below c.args.p c.requires.level.below,
-  c.num.ensures.part,
-  c.den.ensures.part,
-)
+overflow_sub-rest g c = let below = num_below c.args.p c.requires.level.below in omega arith
 
 pub div_ceil-requires : goal.div_ceil-requires
-div_ceil-requires g c = omega (
-  arith,
-  level_below c.args.p c.requires.level.below,
-  c.num.ensures.part,
-  c.den.ensures.part,
-)
+div_ceil-requires g c = let below = num_below c.args.p c.requires.level.below in omega arith
 
 pub returns-clause-value : goal.returns-clause-value
 returns-clause-value g c =
@@ -44,15 +35,11 @@ returns-clause-value g c =
 
 pub returns-clause-small : goal.returns-clause-small
 returns-clause-small g c =
-    let below = level_below c.args.p c.requires.level.below in
-    let sums : 2 * c.args.budgets.mean + 3 * c.args.plan.now.cells * c.args.budgets.total ≤ 2 ^ 65 + 2 ^ 54 =
-    tail_sums _ c.args.plan.now.cells _ c.requires.budgets.mean_small
+    let below = num_below c.args.p c.requires.level.below in
+    let sums = tail_sums c.args.budgets.mean c.args.plan.now.cells c.args.budgets.total c.requires.budgets.mean_small
     (few_cells c.args.plan.now c.requires.valid).1 c.requires.budgets.total_small in
     omega (
       arith,
       c.div_ceil.ensures,
-      tail_small (2 * c.args.budgets.mean + 3 * c.args.plan.now.cells * c.args.budgets.total) c.den-2.result
-          (c.den.result - c.num.result)
-          (omega (arith, below, c.num.ensures.part, c.den.ensures.part))
-          (omega (arith, c.den-2.ensures.part, c.requires.level.den)) sums,
+      tail_small _ c.den-2.result (c.den.result - c.num.result) (omega arith) (omega arith) sums,
     )

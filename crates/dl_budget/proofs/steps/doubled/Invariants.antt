@@ -1,3 +1,4 @@
+use Rattle.dl_limits.specs.Limits.{most_claims_budget}
 use Rattle.dl_budget.proofs.Common.{◌≡◌, ◌*◌, ◌^◌, ◌≤◌, pw, rounded_spread, IsSizeWithin}
 use Rattle.dl_budget.proofs.steps.doubled.Given as goal
 
@@ -6,4 +7,5 @@ invariant-loop-step g l = record {
   inside : l._step ≤ l.times;
   value : l.spread ≡ pw (2 ^ g.row.B) l.cells l.base (2 ^ l._step);
   size : IsSizeWithin (2 ^ g.row.B) (2 ^ l._step * rounded_spread l.cells 0 l.base) (rounded_spread l.cells 0 l.spread);
+  small : l.spread ≤ most_claims_budget;
 }

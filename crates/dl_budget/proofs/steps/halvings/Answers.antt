@@ -10,15 +10,11 @@ returns-then-double-den-clause-least c =
 
 pub returns-then-double-den-clause-value : goal.returns-then-double-den-clause-value
 returns-then-double-den-clause-value c =
-    halvings_value c.args.mean c.loop-times.times (first_halvings c.args.mean c.loop-times.times
-    (half_by_shift c.args.mean c.loop-times.times _ c.den.result _
-    (ap (λ t. 2 * t) c.num.ensures.part) c.den.ensures.part c.if-double-den.true) c.loop-times.invariant.more)
+    halvings_value c.args.mean c.loop-times.times (returns-then-double-den-clause-least c)
 
 pub returns-clause-least : goal.returns-clause-least
 returns-clause-least c = first_halvings c.args.mean 13 (half_after_13 c.args.mean c.requires)
     (λ i before. c.loop-times.invariant.more i (omega arith))
 
 pub returns-clause-value : goal.returns-clause-value
-returns-clause-value c =
-    halvings_value c.args.mean 13 (first_halvings c.args.mean 13 (half_after_13 c.args.mean c.requires)
-    (λ i before. c.loop-times.invariant.more i (omega arith)))
+returns-clause-value c = halvings_value c.args.mean 13 (returns-clause-least c)

@@ -8,45 +8,25 @@ pub joined-spread-requires-clause-left : goal.joined-spread-requires-clause-left
 joined-spread-requires-clause-left g c = omega
     (arith, base_small c.args.cells 2 c.args.base c.args.greatest (omega arith) (omega (arith, c.requires.room)))
 
-pub joined-spread-requires-clause-right : goal.joined-spread-requires-clause-right
-joined-spread-requires-clause-right g c =
-    omega (
-      arith,
-      unit_small g.row.B c.args.cells 2 _ _ c.requires.scale
-          (listed_room c.args.cells c.args.base c.loop-step._step c.args.greatest (omega arith) c.requires.room)
-          c.loop-step.invariant.size,
-    )
-
-pub overflow_add-spread : goal.overflow_add-spread
-overflow_add-spread g c =
-    let room = listed_room c.args.cells c.args.base (c.loop-step._step + 1) c.args.greatest
-    (omega arith) c.requires.room in
-    omega (
-      arith,
-      unit_small g.row.B c.args.cells 2 _ (c.joined-spread.result + 2) c.requires.scale room
-          (listed_size g.row.B c.args.cells c.args.base c.loop-step._step _ _ c.requires.scale room
-          c.loop-step.invariant.size (ap (λ t. t + 2) c.joined-spread.ensures.value)),
-    )
-
 pub loop-step-init : goal.loop-step-init
 loop-step-init g c = record {
   inside = omega arith;
   value = sym (mixed_none (2 ^ g.row.B) c.args.cells c.args.base);
   size = size_least (2 ^ g.row.B) _ _ (omega arith);
+  small = omega arith;
 }
 
 pub loop-step-preserved : goal.loop-step-preserved
-loop-step-preserved g c = record {
-  inside = omega arith;
-  value = listed_value (2 ^ g.row.B) c.args.cells c.args.base c.loop-step._step _ _ c.loop-step.invariant.value
-      (ap (λ t. t + 2) c.joined-spread.ensures.value);
-  size = listed_size g.row.B c.args.cells c.args.base c.loop-step._step _ _ c.requires.scale
-      (listed_room c.args.cells c.args.base (c.loop-step._step + 1) c.args.greatest (omega arith) c.requires.room)
-      c.loop-step.invariant.size (ap (λ t. t + 2) c.joined-spread.ensures.value);
-}
-
-pub returns-clause-small : goal.returns-clause-small
-returns-clause-small g c =
-    unit_small g.row.B c.args.cells 2 _ _ c.requires.scale
-    (listed_room c.args.cells c.args.base c.loop-step._step c.args.greatest (omega arith) c.requires.room)
-    c.loop-step.invariant.size
+loop-step-preserved g c =
+    let room = listed_room c.args.cells c.args.base (c.loop-step._step + 1) c.args.greatest (omega arith)
+    c.requires.room in
+    let spread = ap (λ t. t + 2) c.joined-spread.ensures.value in
+    let size = listed_size g.row.B c.args.cells c.args.base c.loop-step._step _ _ c.requires.scale room
+    c.loop-step.invariant.size spread in
+    record {
+      inside = omega arith;
+      value = listed_value (2 ^ g.row.B) c.args.cells c.args.base c.loop-step._step _ _ c.loop-step.invariant.value
+          spread;
+      size = size;
+      small = unit_small g.row.B c.args.cells 2 _ _ c.requires.scale room size;
+    }

@@ -1,3 +1,4 @@
+use Rattle.dl_limits.specs.Limits.{most_claims_budget}
 use Rattle.dl_budget.proofs.Common.{◌≡◌, ◌+◌, ◌*◌, ◌^◌, ◌≤◌, mixed_spread, rounded_spread, IsSizeWithin}
 use Rattle.dl_budget.proofs.steps.listed.Given as goal
 
@@ -7,4 +8,5 @@ invariant-loop-step g l = record {
   value : l.spread ≡ mixed_spread (2 ^ g.row.B) l.cells l.base l._step;
   size : IsSizeWithin (2 ^ g.row.B) (rounded_spread l.cells 2 1 + l._step * rounded_spread l.cells 2 l.base)
       (rounded_spread l.cells 2 l.spread);
+  small : l.spread ≤ most_claims_budget;
 }

@@ -38,8 +38,5 @@ returns-clause-size g c some =
 
 pub returns-clause-small : goal.returns-clause-small
 returns-clause-small g c =
-    sum_small g.row.B c.args.cells (1 + length (take (length c.args.units.now - 1) (drop 1 c.args.units.now))) _
-    c.requires.scale c.requires.few
-    (omega (arith, later_length c.args.units.now, c.requires.units))
-    (c.with_units.ensures.size 1 (omega (arith, later_length c.args.units.now, c.requires.units))
-    (unit_size g.row.B c.args.cells c.unit_budget-first.result c.unit_budget-first.ensures.small))
+    sum_small g.row.B c.args.cells (length c.args.units.now) _ c.requires.scale c.requires.few c.requires.units
+    (returns-clause-size g c (grind (arith, common_steps)))

@@ -1,6 +1,5 @@
-use Rattle.dl_cede.proofs.Common.{◌-◌, ◌≤◌, arith, one_fits}
-use Rattle.dl_plan.proofs.Clauses.{num_le_den}
-use Rattle.dl_cede.proofs.MeanSizes.{most_small, share_fits, share_within, share_width, part_narrow}
+use Rattle.dl_cede.proofs.Common.{◌-◌, arith, one_fits}
+use Rattle.dl_cede.proofs.MeanSizes.{most_small, part_le, share_fits, share_within, share_width, part_narrow}
 use Rattle.dl_cede.proofs.MeanEnds.{part_holds}
 use Rattle.dl_cede.proofs.mean.part_of.Goals as goal
 
@@ -8,13 +7,7 @@ pub scale-requires : goal.scale-requires
 scale-requires g c =
     let small = most_small c.args.layer.now.limit _ c.args.claims.hi c.layer_mean-mean.result.hi c.requires.near.limit
     (one_fits _ c.args.claims.scale_below) c.requires.small c.layer_mean-mean.ensures.most in
-    let within : c.num.result ≤ c.den.result = omega (
-      arith,
-      c.num.ensures.part,
-      c.den.ensures.part,
-      num_le_den c.args.layer.now.share
-          c.requires.share,
-    ) in
+    let within = part_le c.args.layer.now.share c.num.ensures.part c.den.ensures.part c.requires.share in
     let fits = share_fits c.layer_mean-mean.result.hi c.num.result c.den.result small within
     (omega (arith, c.den.ensures.part, c.requires.fine)) in
     let less = share_within c.layer_mean-mean.result.hi c.num.result c.den.result within c.den.ensures.positive in
@@ -29,13 +22,7 @@ returns-clause-holds g c =
 
 pub returns-clause-width : goal.returns-clause-width
 returns-clause-width g c =
-    let within : c.num.result ≤ c.den.result = omega (
-      arith,
-      c.num.ensures.part,
-      c.den.ensures.part,
-      num_le_den c.args.layer.now.share
-          c.requires.share,
-    ) in
+    let within = part_le c.args.layer.now.share c.num.ensures.part c.den.ensures.part c.requires.share in
     let wide = share_width c.layer_mean-mean.result.lo c.layer_mean-mean.result.hi c.num.result c.den.result
     c.layer_mean-mean.result.ordered within c.den.ensures.positive in
     part_narrow c.args.layer.now.limit c.args.layer.now.attach (c.args.claims.hi - c.args.claims.lo) _ _
@@ -44,12 +31,6 @@ returns-clause-width g c =
 
 pub returns-clause-small : goal.returns-clause-small
 returns-clause-small g c =
-    let within : c.num.result ≤ c.den.result = omega (
-      arith,
-      c.num.ensures.part,
-      c.den.ensures.part,
-      num_le_den c.args.layer.now.share
-          c.requires.share,
-    ) in
+    let within = part_le c.args.layer.now.share c.num.ensures.part c.den.ensures.part c.requires.share in
     let less = share_within c.layer_mean-mean.result.hi c.num.result c.den.result within c.den.ensures.positive in
     omega (arith, less, c.scale.ensures.high, c.layer_mean-mean.ensures.most)

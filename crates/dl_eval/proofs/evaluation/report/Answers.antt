@@ -1,7 +1,7 @@
 use Rattle.dl_eval.proofs.Common.{◌≡◌, arith, refl, sym, ap, subst₂, length, All, zip, Asked, IsInside, NamesUnit, HasOthers, IsGood}
 use Rattle.dl_plan.specs.declared.settings.Ask.TheVariants.{Mean}
 use Rattle.dl_eval.proofs.Insides.{ask_has}
-use Rattle.dl_eval.proofs.Totals.{some_weaker}
+use Rattle.std.proofs.lemmas.Option.{IfSome_then}
 use Rattle.dl_eval.proofs.Lists.{each_next, pushed_length, all_pairs}
 use Rattle.dl_eval.proofs.evaluation.report.Goals as goal
 
@@ -19,7 +19,7 @@ row-requires-clause-named c =
 
 pub row-requires-clause-there : goal.row-requires-clause-there
 row-requires-clause-there c =
-    some_weaker c.args.parts.now.grids _ _ c.requires.there
+    IfSome_then c.args.parts.now.grids c.requires.there
     (λ made each.
     ask_has (λ (a : Asked). HasOthers c.args.plan.now.units made a.ask) c.as_slice-asks.result.now
     c.args.settings.now.asks c.loop-asked.asked-index c.asked-item.result

@@ -1,5 +1,5 @@
-use Rattle.dl_measures.proofs.Common.{arith, sym, ◌∙◌, low_at, high_at, scale_of, below_nothing, below_more}
-use Rattle.dl_measures.proofs.Reached.{high_fits}
+use Rattle.dl_measures.proofs.Common.{arith, sym, ◌∙◌, low_at, high_at, scale_of, below_nothing}
+use Rattle.dl_measures.proofs.Reached.{high_fits, next_sum}
 use Rattle.dl_measures.proofs.layers.sum_below.Goals as goal
 
 pub point-sum-requires : goal.point-sum-requires
@@ -25,18 +25,6 @@ add-sum-requires g c = (
 
 pub loop-x-preserved : goal.loop-x-preserved
 loop-x-preserved g c = record {
-  low = omega (
-    arith,
-    c.add-sum.ensures.low,
-    below_more c.loop-x.x (low_at c.args.g.now),
-    c.loop-x.invariant.low,
-    c.at.ensures.low,
-  );
-  high = omega (
-    arith,
-    c.add-sum.ensures.high,
-    below_more c.loop-x.x (high_at c.args.g.now),
-    c.loop-x.invariant.high,
-    c.at.ensures.high,
-  );
+  low = c.add-sum.ensures.low ∙ next_sum _ c.loop-x.x _ _ c.loop-x.invariant.low c.at.ensures.low;
+  high = c.add-sum.ensures.high ∙ next_sum _ c.loop-x.x _ _ c.loop-x.invariant.high c.at.ensures.high;
 }

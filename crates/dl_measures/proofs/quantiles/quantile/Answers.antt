@@ -1,5 +1,5 @@
 use Rattle.dl_measures.proofs.Common.{◌≡◌, ◌+◌, ◌*◌, ◌^◌, ◌<◌, arith, length, ◌∙◌, Some, None, low_at, high_at, scale_of}
-use Rattle.dl_measures.proofs.Reached.{start, passed, stayed, found_low, found_high, ended_low, ended_high, is_bracket, is_tight, is_around, product_fits, low_fits, high_fits, goal_fits}
+use Rattle.dl_measures.proofs.Reached.{start, passed, stayed, found, ended, is_bracket, is_tight, is_around, product_fits, low_fits, high_fits, goal_fits}
 use Rattle.dl_measures.proofs.quantiles.quantile.Goals as goal
 use Rattle.dl_measures.proofs.quantiles.quantile.Goals.{then-high-den, else-high-den}
 
@@ -71,23 +71,18 @@ loop-x-preserved g c =
 pub returns-then-low-den : goal.returns-then-low-den
 returns-then-low-den g c =
     let inside : c.loop-x.x < length c.args.g.now = omega arith in
-    let low = c.at-cell.ensures.low in
     let den : c.from-den.result ≡ c.args.p.den = c.from-den.ensures ∙ c.den.ensures.part in
     let parts : c.from.result * c.units_of_one.result ≡ c.args.p.num * 2 ^ g.row.B = cc in
-    let lo = found_high c.args.g.now c.args.p c.from-den.result
+    let ends = found c.args.g.now c.args.p c.from-den.result
     (c.from.result * c.units_of_one.result) c.loop-x.x c.loop-x.lo c.loop-x.low c.loop-x.high c.loop-x.invariant den
     parts c.requires.below_one
-    c.at-cell.result.lo inside low c.if-low-den.true in
-    let hi = found_low c.args.g.now c.args.p c.from-den.result
-    (c.from.result * c.units_of_one.result) c.loop-x.x c.loop-x.lo c.loop-x.low c.loop-x.high c.loop-x.invariant den
-    parts c.requires.below_one
-    c.at-cell.result.lo inside low c.if-low-den.true in
+    c.at-cell.result.lo inside c.at-cell.ensures.low c.if-low-den.true in
     record {
-      lo = lo;
-      hi = (inside, hi);
-      holds = is_bracket c.args.g.now c.args.p c.loop-x.lo (Some c.loop-x.x) lo (inside, hi);
-      tight = is_tight c.args.g.now c.args.p c.loop-x.lo (Some c.loop-x.x) lo (inside, hi);
-      quantile = is_around c.args.g.now c.args.p c.loop-x.lo (Some c.loop-x.x) lo (inside, hi);
+      lo = ends.0;
+      hi = (inside, ends.1);
+      holds = is_bracket c.args.g.now c.args.p c.loop-x.lo (Some c.loop-x.x) ends.0 (inside, ends.1);
+      tight = is_tight c.args.g.now c.args.p c.loop-x.lo (Some c.loop-x.x) ends.0 (inside, ends.1);
+      quantile = is_around c.args.g.now c.args.p c.loop-x.lo (Some c.loop-x.x) ends.0 (inside, ends.1);
     }
 
 pub returns : goal.returns
@@ -95,16 +90,13 @@ returns g c =
     let all : c.loop-x.x ≡ length c.args.g.now = omega arith in
     let den : c.from-den.result ≡ c.args.p.den = c.from-den.ensures ∙ c.den.ensures.part in
     let parts : c.from.result * c.units_of_one.result ≡ c.args.p.num * 2 ^ g.row.B = cc in
-    let lo = ended_high c.args.g.now c.args.p c.from-den.result
-    (c.from.result * c.units_of_one.result) c.loop-x.x c.loop-x.lo c.loop-x.low c.loop-x.high c.loop-x.invariant den
-    parts c.requires.below_one all in
-    let hi = ended_low c.args.g.now c.args.p c.from-den.result
+    let ends = ended c.args.g.now c.args.p c.from-den.result
     (c.from.result * c.units_of_one.result) c.loop-x.x c.loop-x.lo c.loop-x.low c.loop-x.high c.loop-x.invariant den
     parts c.requires.below_one all in
     record {
-      lo = lo;
-      hi = hi;
-      holds = is_bracket c.args.g.now c.args.p c.loop-x.lo None lo hi;
-      tight = is_tight c.args.g.now c.args.p c.loop-x.lo None lo hi;
-      quantile = is_around c.args.g.now c.args.p c.loop-x.lo None lo hi;
+      lo = ends.0;
+      hi = ends.1;
+      holds = is_bracket c.args.g.now c.args.p c.loop-x.lo None ends.0 ends.1;
+      tight = is_tight c.args.g.now c.args.p c.loop-x.lo None ends.0 ends.1;
+      quantile = is_around c.args.g.now c.args.p c.loop-x.lo None ends.0 ends.1;
     }

@@ -1,5 +1,6 @@
 use Rattle.dl_measures.proofs.Common.{◌-◌, ◌<◌, ◌≤◌, arith}
-use Rattle.dl_measures.proofs.TailLaws.{num_below, rest_above, product_most, quotient_fits}
+use Rattle.dl_exact.proofs.BelowOne.{num_below}
+use Rattle.dl_measures.proofs.TailLaws.{rest_above, product_most, quotient_fits}
 use Rattle.dl_measures.proofs.tails.over_the_rest.Goals as goal
 
 pub overflow_sub-den : goal.overflow_sub-den
