@@ -10,9 +10,8 @@ use Rattle.std.proofs.Math.ListN.{set}
 use Rattle.std.proofs.lemmas.List.Edits.{map_over_more}
 use Rattle.dl_sev.specs.Fits.{FitsStep}
 use Rattle.dl_read.proofs.Firsts.{else_found, else_next}
-use Rattle.dl_amounts.proofs.Values.{never}
 use Rattle.dl_amounts.proofs.Positive.{support-mapped}
-use Rattle.dl_amounts.proofs.PastEdges.{whole_unless, fits_tried, tried_fits}
+use Rattle.dl_amounts.proofs.PastEdges.{fits_tried, tried_fits}
 
 -- ---- a clause with fine shares
 
@@ -46,10 +45,6 @@ module _ (clause : Clause) (xs ys : List ℕ) (i : ℕ) (lt : i < length xs)
       ∙ omega (arith, lt, length-take i xs) in
       let parts : ys ≡ front ++ get_or xs i d ∷ drop (i + 1) xs = so_far ∙ ap (λ l. front ++ l) (drop_more xs i d lt) in
       ap (λ l. get_or l i d) parts ∙ get_or_at front _ _ d i long
-
-  pub next_whole : (d : ℕ) → list_any (is_off clause) xs ≡ false → IsWhole (kept clause (get_or ys i d))
-  next_whole d none = subst (λ n. IsWhole (kept clause n)) (sym (next_is d))
-      (whole_unless (kept clause (get_or xs i d)) (never (is_off clause) xs none i d lt))
 
   pub kept_more : (d y : ℕ) → i < length ys → (kept clause (get_or ys i d)).num ≡ y
       → set ys i y ≡ map (λ x. (kept clause x).num) (take (i + 1) xs) ++ drop (i + 1) xs

@@ -45,9 +45,6 @@ module _ (u : GridUnit) (b : Bool) (told : b ≡ list_any coarse (own_lists u.se
   pub unweighed_lists : b ≡ true → IsWeighed u None
   unweighed_lists is = sym (coarse_lists u.sev b told is)
 
-  pub unweighed_mixture : b ≡ false → is_fine (mixture_shares u.sev) ≡ false → IsWeighed u None
-  unweighed_mixture is h = sym (fine_lists u.sev b told is) ∙ h
-
   pub weighed : (sev : Sev) → b ≡ false → is_fine (mixture_shares u.sev) ≡ true → Means sev (severity_in_layer u)
       → IsWeighed u (Some sev)
   weighed sev is h means = (sym (fine_lists u.sev b told is) ∙ h, means)

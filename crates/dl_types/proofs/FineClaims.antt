@@ -36,9 +36,6 @@ module _ (u : GridUnit) where
   pub coarse_severity : has_severity u.sev ≡ false → fractions_too_fine u ≡ true
   coarse_severity h = fractions_are ∙ ap (λ b. others || not b) h ∙ or-true others
 
-  pub coarse_parts : others ≡ true → fractions_too_fine u ≡ true
-  coarse_parts h = fractions_are ∙ ap (λ b. b || not (has_severity u.sev)) h
-
   pub fine_parts : has_severity u.sev ≡ true → others ≡ false → fractions_too_fine u ≡ false
   fine_parts h g = fractions_are ∙ ap₂ (λ b d. b || not d) g h
 
