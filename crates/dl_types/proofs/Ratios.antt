@@ -2,7 +2,8 @@
 use Rattle.dl_types.proofs.Common.{◌≡◌, ◌∙◌, ℕ, ◌*◌, ◌<◌, ◌≤◌, nat_lt, ◌&&◌, if◌then◌else◌, true, false, Some, None, refl, sym, ap, ap₂, subst, arith, inl, inr, mul-pos, ◌∣◌, gcd, Fraction, whole, ◌over◌, ◌*ℚ◌, ◌/ℚ◌, gcd_is, IsTooFine, lowest_swap, lowest_times, lowest_product, lowest_num, lowest_den, product_is, quotient_is, whole_num, whole_den, admitted_bound, is_admitted, admitted}
 use Rattle.std.proofs.Common.{mul_comm}
 use Rattle.std.proofs.Math.Nat.{mul-le-mul, pos_of_dvd_of_pos}
-use Rattle.dl_exact.proofs.Over.{over_self, over_mul, over_same, over_num as num_of_over, over_den as den_of_over}
+use Rattle.dl_exact.proofs.Denominators.{over_zero}
+use Rattle.dl_exact.proofs.Over.{over_self, over_mul, over_num as num_of_over, over_den as den_of_over}
 use Rattle.dl_exact.proofs.Laws.{zero_times, times_comm}
 use Rattle.dl_exact.proofs.Multiples.{lowest_parts, part_divides}
 use Rattle.dl_limits.specs.Limits.{frac_bound}
@@ -121,10 +122,8 @@ pub second_too_fine : (x y : Fraction) → 0 < x.num → IsTooFine (y.num over x
 second_too_fine x y h far = first_too_fine y x h far ∙ ap (admitted true) (times_comm y x)
 
 pub nothing_left : (x y : Fraction) → x.num ≡ 0 → x *ℚ y ≡ whole 0
-nothing_left x y e = ap (λ z. z *ℚ y) (zero_of x e) ∙ zero_times y
-  where
-    zero_of : (z : Fraction) → z.num ≡ 0 → z ≡ whole 0
-    zero_of z e = sym (over_self z) ∙ over_same z.num z.den 0 1 z.positive (omega arith) (omega (arith, e))
+nothing_left x y e = ap (λ z. z *ℚ y) (sym (over_self x) ∙ ap (λ n. n over x.den) e ∙ over_zero x.den x.positive)
+    ∙ zero_times y
 
 pub nothing_right : (x y : Fraction) → y.num ≡ 0 → x *ℚ y ≡ whole 0
 nothing_right x y e = times_comm x y ∙ nothing_left y x e
