@@ -1,5 +1,5 @@
 -- The bounds of a plan, of its settings and of the numbers that are made from them, each once.
-use Rattle.std.specs.Prelude.{ℕ, ◌*◌, ◌^◌}
+use Rattle.std.specs.Prelude.{ℕ, ◌*◌, ◌^◌, nat_le, if◌then◌else◌}
 
 -- ---- a plan
 
@@ -10,6 +10,22 @@ most_log2 = 12
 -- so many at most
 abbrev pub most_plan_cells : ℕ
 most_plan_cells = 4096
+
+-- a plan's grid of at most so many cells has the finer of the two scales
+abbrev pub most_short_cells : ℕ
+most_short_cells = 4096
+
+-- its ends are in units of 1 / 2^56
+abbrev pub short_bits : ℕ
+short_bits = 56
+
+-- those of a longer one are in units of 1 / 2^48
+abbrev pub long_bits : ℕ
+long_bits = 48
+
+-- the ends of a plan's grid of so many cells are in units of 1 over 2 to this power
+unfoldable pub bits_of : ℕ → ℕ
+bits_of cells = if nat_le cells most_short_cells then short_bits else long_bits
 
 -- the cells of any grid: the horizon of a clause may lie past the plan's grid
 abbrev pub most_cells : ℕ

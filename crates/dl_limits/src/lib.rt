@@ -5,6 +5,12 @@
 /// A plan's grid has 2 to the power of at most this many cells.
 pub const MOST_LOG2: u32 = 12;
 
+/// The ends of a plan's grid of at most 4,096 cells are in units of 1 over 2 to this power.
+pub const SHORT_BITS: u32 = 56;
+
+/// Those of a longer one are in units of 1 over 2 to this power.
+pub const LONG_BITS: u32 = 48;
+
 /// The most cells of any grid.
 pub const MOST_CELLS: u32 = 16_384;
 
