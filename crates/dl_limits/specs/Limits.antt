@@ -1,5 +1,5 @@
 -- The bounds of a plan, of its settings and of the numbers that are made from them, each once.
-use Rattle.std.specs.Prelude.{ℕ, ◌*◌, ◌^◌, nat_le, if◌then◌else◌}
+use Rattle.std.specs.Prelude.{ℕ, ◌*◌, ◌^◌, ◌≤◌, nat_le, if◌then◌else◌}
 
 -- ---- a plan
 
@@ -26,6 +26,11 @@ long_bits = 48
 -- the ends of a plan's grid of so many cells are in units of 1 over 2 to this power
 unfoldable pub bits_of : ℕ → ℕ
 bits_of cells = if nat_le cells most_short_cells then short_bits else long_bits
+
+-- a scale of 2 to this power lies between those two, both taken in
+pub record IsPlanScale (bits : ℕ) : Type 0 where
+  pub least : long_bits ≤ bits
+  pub most : bits ≤ short_bits
 
 -- the cells of any grid: the horizon of a clause may lie past the plan's grid
 abbrev pub most_cells : ℕ
