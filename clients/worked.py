@@ -6,6 +6,7 @@ and convolutions, in whole numbers of which 2^400 make 1. Each step is rounded d
 last line is 'N passed, M failed'.
 """
 
+import math
 import sys
 from decimal import Decimal, getcontext
 from fractions import Fraction
@@ -52,8 +53,8 @@ def claim(weights, cells, share=Fraction(1)):
 
 
 def recursion(first, a, b, weights, cells):
-    """Panjer's recursion from its first cell, for amounts above 0; a and b have one denominator."""
-    over = Fraction(a).denominator
+    """Panjer's recursion from its first cell, for amounts above 0."""
+    over = math.lcm(Fraction(a).denominator, Fraction(b).denominator)
     a, b, total = int(a * over), int(b * over), sum(weights.values()) * over
     found = [int(first * (1 << DEEP))]
     for s in range(1, cells):
@@ -65,7 +66,9 @@ def recursion(first, a, b, weights, cells):
 def poisson(mean, weights, cells):
     """A Poisson number of claims."""
     getcontext().prec = 900
-    return recursion(Fraction((-Decimal(mean)).exp()), 0, mean, weights, cells)
+    mean = Fraction(mean)
+    first = (-Decimal(mean.numerator) / mean.denominator).exp()
+    return recursion(Fraction(first), 0, mean, weights, cells)
 
 
 def gamma(mean, shape, weights, cells):

@@ -1,0 +1,385 @@
+#!/usr/bin/env python3
+"""Works the recipes apart from the program, and looks whether each value lies within the two ends that the page shows.
+
+A recipe is worked from its treaty: what is paid of a claim or of a year is a function of an amount of money, and not read from
+the DecL text. The pages are docs/RECIPES.md, where each command that is answered must have its recipe here, and
+docs/FROM-AGGREGATE.md for its towers. The figures in the sentences of docs/RECIPES.md are worked too. Probabilities are whole
+numbers of which 2^400 make 1. That the pages show what the program writes is checked by examples/check.py. The last line is
+'N passed, M failed'.
+"""
+
+import math
+import pathlib
+import re
+import sys
+from fractions import Fraction
+
+from worked import ONE, convolution, poisson
+
+ROOT = pathlib.Path(__file__).resolve().parent.parent
+sys.path.insert(0, str(ROOT / "examples"))
+from check import commands  # noqa: E402
+
+MOST = 10_000  # amounts of a year are worked up to here; a year above it has a probability below 2^-240
+SLACK = Fraction(1, 1 << 200)
+INF = 1 << 60
+
+FIRE = {10: 50, 20: 25, 50: 15, 100: 8, 300: 2}
+MOTOR = {10: 60, 20: 30, 40: 10}
+EVEN = {5: 1, 15: 1, 30: 1}
+TEXTS = {
+    "FIRE": "dsev [10 20 50 100 300] [0.5 0.25 0.15 0.08 0.02]",
+    "MOTOR": "dsev [10 20 40] [0.6 0.3 0.1]",
+    "EVEN": "dsev [5 15 30]",
+}
+
+
+def layer(limit, attachment):
+    """What of an amount lies above the attachment, and within the limit."""
+    return lambda amount: min(max(amount - attachment, 0), limit)
+
+
+def share(part, treaty):
+    """This part of what a treaty pays."""
+    return lambda amount: Fraction(part) * treaty(amount)
+
+
+def plus(*treaties):
+    """What several treaties pay together."""
+    return lambda amount: sum(treaty(amount) for treaty in treaties)
+
+
+def net(treaty):
+    """What is left of an amount."""
+    return lambda amount: amount - treaty(amount)
+
+
+def whole(amount):
+    """All of an amount."""
+    return amount
+
+
+class Year:
+    """What a year costs: the probability of each amount of money."""
+
+    def __init__(self, parts):
+        self.parts = {amount: part for amount, part in parts.items() if part}
+
+    @classmethod
+    def of_claims(cls, mean, severity, treaty=whole):
+        """A Poisson number of claims, each after the treaty."""
+        paid, total = {}, sum(severity.values())
+        for amount, weight in severity.items():
+            paid[treaty(amount)] = paid.get(treaty(amount), 0) + weight
+        above = total - paid.pop(0, 0)
+        step = math.gcd(*map(int, paid))
+        assert all(amount == int(amount) for amount in paid)
+        weights = {int(amount) // step: weight for amount, weight in paid.items()}
+        cells = poisson(Fraction(mean) * above / total, weights, MOST // step)
+        return cls({step * place: cell for place, cell in enumerate(cells)})
+
+    @classmethod
+    def of_two(cls, severity, treaty=whole):
+        """Two claims, each after the treaty."""
+        claim = cls({})
+        for amount, weight in severity.items():
+            claim.parts[treaty(amount)] = claim.parts.get(treaty(amount), 0) + weight * ONE // sum(severity.values())
+        return claim + claim
+
+    def __add__(self, other):
+        """The sum of two independent years."""
+        step = math.gcd(*map(int, self.parts), *map(int, other.parts))
+        sides = [[0] * (MOST // step) for _ in range(2)]
+        for side, year in zip(sides, (self, other), strict=True):
+            for amount, part in year.parts.items():
+                side[int(amount) // step] = part
+        return Year({step * place: cell for place, cell in enumerate(convolution(*sides, MOST // step))})
+
+    def after(self, treaty):
+        """The year after a treaty on its sum."""
+        parts = {}
+        for amount, part in self.parts.items():
+            parts[treaty(amount)] = parts.get(treaty(amount), 0) + part
+        return Year(parts)
+
+    def expected(self, treaty):
+        """The mean of what the treaty pays of the year."""
+        return sum(Fraction(treaty(amount)) * part for amount, part in self.parts.items()) / ONE
+
+    def within(self, most):
+        """The probability of at most so much."""
+        return Fraction(sum(part for amount, part in self.parts.items() if amount <= most), ONE)
+
+    def quantile(self, p):
+        """The least amount that is not exceeded with probability p or more."""
+        return next(amount for amount in sorted(self.parts) if self.within(amount) >= p)
+
+    def tail(self, p):
+        """The mean of the worst 1 - p."""
+        at = self.quantile(p)
+        return at + self.expected(layer(INF, at)) / (1 - p)
+
+    def value(self, ask):
+        """What an ask declares."""
+        kind, _, rest = ask.partition(":")
+        if kind == "mean":
+            return self.expected(whole)
+        if kind == "pmf":
+            return Fraction(self.parts.get(int(rest), 0), ONE)
+        if kind == "cdf":
+            return self.within(int(rest))
+        if kind == "layer":
+            limit, attachment = rest.split("xs")
+            return self.expected(layer(INF if limit == "inf" else int(limit), int(attachment)))
+        p = Fraction(rest[:-1]) / 100 if rest.endswith("%") else Fraction(rest)
+        return self.quantile(p) if kind == "q" else self.tail(p)
+
+
+class Port(Year):
+    """The sum of two named years, which also knows their shares."""
+
+    def __init__(self, **units):
+        one, other = units.values()
+        super().__init__((one + other).parts)
+        self.units = units
+
+    def value(self, ask):
+        """What an ask declares."""
+        if not ask.startswith("kappa:"):
+            return super().value(ask)
+        _, name, total = ask.split(":")
+        own = self.units[name].parts
+        rest = next(year for other, year in self.units.items() if other != name).parts
+        joint = sum(amount * part * rest.get(int(total) - amount, 0) for amount, part in own.items())
+        return Fraction(joint, ONE * self.parts[int(total)])
+
+
+XL = layer(80, 20)
+CAT = layer(100, 100)
+QUOTA = share("0.4", whole)
+BANDS = (("3/2", 50), ("1", 100), ("1/2", 300))
+
+
+def fire(treaty=whole):
+    """A year of the fire book, each claim after the treaty."""
+    return Year.of_claims(3, FIRE, treaty)
+
+
+def profile(treaty=whole):
+    """Policies of three limits, each claim after its limit and then after the treaty."""
+    small, middle, large = (
+        Year.of_claims(mean, FIRE, lambda amount, limit=limit: treaty(min(amount, limit))) for mean, limit in BANDS
+    )
+    return small + middle + large
+
+
+GROSS = fire()
+CEDED = fire(XL)
+NET = fire(net(XL))
+QUOTED = fire(QUOTA)
+PROFILED = profile(XL)
+BOOK = Port(Fire=GROSS, Motor=Year.of_claims(2, MOTOR))
+CORRIDOR = plus(layer(60, 0), share("0.5", layer(40, 60)), layer(INF, 100))
+
+
+def corridor_net(gross):
+    """What of a gross year is left after the quota share with its corridor."""
+    return gross - CORRIDOR(Fraction("0.4") * gross)
+
+
+BOTH = net(plus(QUOTA, lambda amount: layer(60, 60)(Fraction("0.6") * amount)))
+QUOTA_AFTER_CAT = share("0.4", net(CAT))
+
+# Each program of the pages, with the year that it is about; where a program is run several times, with those in order.
+RECIPES = {
+    "agg Fire 3 claims FIRE poisson": GROSS,
+    "agg Fire 150 premium at 63% lr FIRE poisson": GROSS,
+    "agg Fire 3 claims FIRE occurrence ceded to inf xs $x poisson": [fire(layer(INF, x)) for x in (20, 50, 100)],
+    "agg Fire 3 claims FIRE occurrence ceded to 80 xs 20 poisson": CEDED,
+    "agg Fire 3 claims 80 xs 20 FIRE ! poisson": CEDED,
+    "agg Fire 3 claims 80 xs 20 FIRE poisson": Year.of_claims(3, {30: 15, 80: 10}),
+    "agg Fire 3 claims FIRE occurrence net of 80 xs 20 poisson": NET,
+    "agg Fire 3 claims FIRE occurrence net of 80 xs 20 and 150 xs 100 poisson": fire(net(plus(XL, layer(150, 100)))),
+    "agg Fire 3 claims FIRE occurrence ceded to 80 xs 20 poisson aggregate ceded to inf xs 80": CEDED.after(layer(INF, 80)),
+    "agg Fire 3 claims FIRE occurrence ceded to 80 xs 20 poisson aggregate ceded to 160 xs 0": CEDED.after(layer(160, 0)),
+    "agg Fire 3 claims FIRE poisson aggregate ceded to 150 xs 150": GROSS.after(layer(150, 150)),
+    "agg Fire 3 claims FIRE poisson aggregate net of 150 xs 150": GROSS.after(net(layer(150, 150))),
+    "agg Fire 3 claims FIRE occurrence net of 80 xs 20 poisson aggregate ceded to 100 xs 100": NET.after(layer(100, 100)),
+    "agg Fire 3 claims FIRE occurrence net of 0.4 so inf xs 0 poisson": fire(net(QUOTA)),
+    "agg Fire 3 claims FIRE occurrence ceded to 0.4 so inf xs 0 poisson": QUOTED,
+    "agg Fire 3 claims FIRE occurrence net of 0.4 so 100 xs 0 and 1 so 100 xs 100 and 0.4 so inf xs 200 poisson": fire(BOTH),
+    "agg Fire 3 claims FIRE occurrence ceded to 0.6 so 100 xs 100 poisson": fire(lambda x: layer(60, 60)(x - QUOTA(x))),
+    "agg Fire 3 claims FIRE occurrence ceded to 0.4 so 100 xs 0 and 0.4 so inf xs 200 poisson": fire(QUOTA_AFTER_CAT),
+    "agg Fire 3 claims FIRE occurrence ceded to 100 xs 100 poisson": fire(CAT),
+    "agg Fire 3 claims FIRE occurrence ceded to 0.4 so inf xs 0 poisson "
+    "aggregate ceded to 60 xs 0 and 0.5 so 40 xs 60 and inf xs 100": QUOTED.after(CORRIDOR),
+    "agg Fire 3 claims FIRE poisson "
+    "aggregate net of 0.4 so 150 xs 0 and 0.2 so 100 xs 150 and 0.4 so inf xs 250": GROSS.after(corridor_net),
+    "port Profile agg To50 1.5 claims 50 xs 0 FIRE poisson agg To100 1 claims 100 xs 0 FIRE poisson "
+    "agg To300 0.5 claims 300 xs 0 FIRE poisson": profile(),
+    "port Ceded agg To50 1.5 claims 50 xs 0 FIRE occurrence ceded to 80 xs 20 poisson "
+    "agg To100 1 claims 100 xs 0 FIRE occurrence ceded to 80 xs 20 poisson "
+    "agg To300 0.5 claims 300 xs 0 FIRE occurrence ceded to 80 xs 20 poisson": PROFILED,
+    "port Book agg Fire 3 claims FIRE poisson agg Motor 2 claims MOTOR poisson": BOOK,
+    "agg Book 5 claims FIRE MOTOR wts [3/5 2/5] poisson aggregate ceded to 150 xs 150": BOOK.after(layer(150, 150)),
+}
+TOWER = [layer(10, 0), layer(10, 10), layer(20, 20)]
+FIRST, SECOND, THIRD = (Year.of_two(EVEN, part) for part in TOWER)
+TOWERS = {
+    "agg T dfreq [2] EVEN occurrence ceded to 10 xs 0 and 10 xs 10 and 20 xs 20": Year.of_two(EVEN, plus(*TOWER)),
+    "port Wrong agg T1 dfreq [2] 10 xs 0 EVEN ! agg T2 dfreq [2] 10 xs 10 EVEN ! "
+    "agg T3 dfreq [2] 20 xs 20 EVEN !": FIRST + SECOND + THIRD,
+    "agg P 2 claims EVEN poisson": Year.of_claims(2, EVEN),
+    "port P agg Small 4/3 claims dsev [5 15] poisson agg Large 2/3 claims dsev [30] poisson": Year.of_claims(2, EVEN),
+}
+
+
+def reinstated(limits, paid):
+    """The pure premium of 80 xs 20 with so many limits a year; up to so much of the year is reinstated at 100 percent."""
+    return CEDED.expected(layer(80 * limits, 0)) / (1 + CEDED.expected(layer(paid, 0)) / 80)
+
+
+def limited_net(p, yearly):
+    """The quantile of the net of 80 xs 20 with a limit of the year's cessions, in floating point: the counts of the amounts are
+    independent, since the number of claims is Poisson."""
+    small = Year.of_claims(Fraction(9, 4), {10: 50, 20: 25}).parts
+    chances = {}
+    for fifty in range(14):
+        for hundred in range(12):
+            for three in range(9):
+                counts = {50: fifty, 100: hundred, 300: three}
+                chance = math.prod(
+                    math.exp(-3 * FIRE[x] / 100) * (3 * FIRE[x] / 100) ** n / math.factorial(n) for x, n in counts.items()
+                )
+                ceded = sum(XL(x) * n for x, n in counts.items())
+                kept = sum(x * n for x, n in counts.items()) - min(ceded, yearly)
+                chances[kept] = chances.get(kept, 0) + chance
+    totals = {}
+    for kept, chance in chances.items():
+        for amount, part in small.items():
+            if amount <= 600:
+                totals[kept + amount] = totals.get(kept + amount, 0) + chance * (part / ONE)
+    reached = 0
+    for amount in sorted(totals):
+        reached += totals[amount]
+        if reached >= p:
+            return amount
+
+
+def money(value):
+    """An amount of thousands, in full."""
+    return f"{round(value * 1000):,}"
+
+
+def percent(value):
+    """A probability in percent, with one digit."""
+    return f"{float(100 * value):.1f}"
+
+
+def sentences():
+    """The figures in the sentences of the page, worked out: each has to stand there."""
+    p99, p90 = Fraction(99, 100), Fraction(9, 10)
+    q99 = GROSS.quantile(p99)
+    tail = GROSS.expected(layer(INF, q99)) / (1 - GROSS.within(q99))
+    total = BOOK.quantile(p90)
+    left = BOOK.tail(p90) - BOOK.after(layer(150, 150)).tail(p90)
+    yield f"The year costs {money(GROSS.value('mean'))} in the mean. The VaR at 99 percent is {money(q99)}"
+    yield f"The TVaR is {money(GROSS.tail(p99))}"
+    yield f"is {round(q99 + tail):,},000 to three digits, where the TVaR is {money(GROSS.tail(p99))}"
+    yield "The loss of 10 years is {}, of 100 years {}, of 200 years {}".format(
+        *(money(GROSS.quantile(1 - Fraction(1, years))) for years in (10, 100, 200))
+    )
+    yield f"so {float(100 - 100 * GROSS.within(400)):.2f} percent: once in {round(1 / (1 - GROSS.within(400)))} years"
+    above = [1 - fire(layer(INF, x)).within(0) for x in (20, 50, 100)]
+    yield (
+        f"above 20,000 with {percent(above[0])} percent, above 50,000 with {percent(above[1])} percent, and above 100,000 with "
+        f"{percent(above[2])} percent, which is once in {round(1 / above[2])} years"
+    )
+    once = Fraction(199, 200)
+    largest = min(x for x in FIRE if x == max(FIRE) or fire(layer(INF, x)).within(0) >= once)
+    yield f"so the occurrence loss of 200 years is {money(largest)}"
+    yield f"would be {q99 - CEDED.quantile(p99)}. Nothing is ceded in {percent(CEDED.within(0))} percent of the years"
+    deducted = CEDED.after(layer(INF, 80))
+    yield f"from {money(CEDED.value('mean'))} to {money(deducted.value('mean'))}, and {percent(deducted.within(0))} percent of"
+    limited = CEDED.expected(layer(160, 0))
+    yield f"The layer pays {money(limited)} in the mean, and all of both limits in {percent(1 - CEDED.within(159))} percent"
+    yield f"the pure premium P is {money(reinstated(2, 80))}; with a free reinstatement it is {money(limited)}"
+    yield f"so {money(GROSS.value('mean') - CEDED.expected(layer(240, 0)))}."
+    assert 1 - CEDED.within(240) < Fraction(19, 10000) and 290 <= limited_net(0.99, 240) <= 300
+    stop = [money(GROSS.expected(layer(limit, 150))) for limit in (150, INF)]
+    yield "The stop loss premium is {} with the limit, and {} without".format(*stop)
+    yield f"in {percent(1 - GROSS.within(150))} percent of the years (1 - 0.831569)"
+    yield f"and in full in {percent(1 - GROSS.within(299))} percent (1 - 0.936203"
+    nets = [fire(treaty).value("mean") for treaty in (BOTH, QUOTA, lambda x: layer(60, 60)(x - QUOTA(x)))]
+    yield "{}, {} and {} are the gross {}".format(*map(money, [*nets, sum(nets)]))
+    others = [fire(treaty).value("mean") for treaty in (QUOTA_AFTER_CAT, CAT)]
+    yield "{} and {}, and again {} net".format(*map(money, [*others, GROSS.value("mean") - sum(others)]))
+    yield f"from {money(QUOTED.value('mean'))} to {money(QUOTED.after(CORRIDOR).value('mean'))}"
+    ratio = GROSS.expected(layer(75, 150))
+    yield f"The loss ratio is above 100 percent in {percent(1 - GROSS.within(150))} percent of the years."
+    yield f"a pure premium of {money(ratio)}, which is {percent(ratio / 150)} percent of the premium"
+    yield f"at most {GROSS.quantile(p90)} / 150, which is {round(100 * Fraction(GROSS.quantile(p90), 150))} percent"
+    treaty = PROFILED.expected(layer(160, 0))
+    yield f"costs {money(PROFILED.value('mean'))} without that limit and {money(treaty)} with it"
+    yield f"and reaches it in {percent(1 - PROFILED.within(159))} percent of the years"
+    shares = [money(BOOK.value(f"kappa:{name}:480")) for name in BOOK.units]
+    yield f"The VaR at 99 percent is {money(BOOK.quantile(p99))}. Of a year of exactly that size, "
+    yield "{} come from fire in the mean and {} from motor".format(*shares)
+    yield f"The pure premium is {money(BOOK.expected(layer(150, 150)))}."
+    yield f"The cover pays in {percent(1 - BOOK.within(150))} percent of the years"
+    yield f"and in full in {percent(1 - BOOK.within(299))} percent. -"
+    yield f"{total} - 150, so {layer(150, 150)(total)}, which is within the limit."
+    yield f"The VaR of what it leaves is the rest of it, {net(layer(150, 150))(total)}."
+    yield f"so {money(BOOK.after(layer(150, 150)).tail(p90))}. Where"
+    assert left == BOOK.after(net(layer(150, 150))).tail(p90)
+    yield f"{money(BOOK.tail(p90))} - {money(BOOK.after(layer(150, 150)).tail(p90))}"
+
+
+def text_of(command):
+    """The program of a command, with its severities by name; none where the command names a file."""
+    found = re.search(r"echo (['\"])(.*?)\1", command)
+    text = " ".join(found[2].split()) if found else ""
+    for name, severity in TEXTS.items():
+        text = text.replace(severity, name)
+    return text
+
+
+def holds(row, year):
+    """Whether the two ends of the row hold the value."""
+    ask, low, high = row.split(" ")
+    value = year.value(ask)
+    return Fraction(low) - SLACK <= value <= Fraction(high) + SLACK
+
+
+def looked_at(page, recipes, all_of_it):
+    """For each row of the page, whether it holds its value, and what is wrong."""
+    left = set(recipes)
+    for command, stored in commands(ROOT / page):
+        text = text_of(command)
+        if text in recipes and not stored[0].startswith("decl:"):
+            left.discard(text)
+            years = recipes[text]
+            for row, year in zip(stored, years if isinstance(years, list) else [years] * len(stored), strict=True):
+                value = float(year.value(row.split(" ")[0]))
+                yield holds(row, year), f"{page}: {text}: {row}: the value is {value}"
+        elif all_of_it and not (text in recipes and stored[0].startswith("decl:")):
+            yield False, f"{page} has a command with no recipe: {text or command}"
+    for text in left:
+        yield False, f"{page} has no command with {text}"
+
+
+def main():
+    """Looks at each row and each figure."""
+    found = [*looked_at("docs/RECIPES.md", RECIPES, True), *looked_at("docs/FROM-AGGREGATE.md", TOWERS, False)]
+    page = " ".join((ROOT / "docs/RECIPES.md").read_text(encoding="utf-8").split())
+    found += [(sentence in page, f"docs/RECIPES.md does not say: {sentence}") for sentence in sentences()]
+    for passes, wrong in found:
+        if not passes:
+            print("FAILED:", wrong)
+    failed = sum(not passes for passes, _ in found)
+    print(f"{len(found) - failed} passed, {failed} failed")
+    return 1 if failed else 0
+
+
+if __name__ == "__main__":
+    sys.exit(main())
