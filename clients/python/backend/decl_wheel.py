@@ -1,27 +1,51 @@
 """Builds the wheel of the client with Python's own library, so that an install fetches nothing.
 
 This is what PEP 517 asks of a build backend, and PEP 660 of an editable install. A wheel is a zip file of
-the modules, with a folder of facts beside them (PEP 427).
+the modules, with a folder of facts beside them (PEP 427). The facts are those of pyproject.toml.
 """
 
+import ast
 import base64
 import hashlib
+import io
 import pathlib
+import re
 import tarfile
 import zipfile
 
 HERE = pathlib.Path(__file__).resolve().parent.parent
-NAME = "decl_client"
-VERSION = "0.1.0"
-FACTS = f"{NAME}-{VERSION}.dist-info"
-METADATA = f"""Metadata-Version: 2.1
-Name: decl-client
-Version: {VERSION}
-Summary: Asks decl about compound losses, with exact ends
-Requires-Python: >=3.9
-"""
 WHEEL = "Wheel-Version: 1.0\nGenerator: decl_wheel\nRoot-Is-Purelib: true\nTag: py3-none-any\n"
 DATE = (2026, 1, 1, 0, 0, 0)
+
+
+def project():
+    """The entries of [project] in pyproject.toml, which are texts and lists of texts."""
+    lines = (HERE / "pyproject.toml").read_text(encoding="utf-8").partition("[project]\n")[2]
+    return {name: ast.literal_eval(value) for name, value in re.findall(r'(?m)^([\w-]+) = (".*"|\[[^]]*\])$', lines)}
+
+
+PROJECT = project()
+NAME = PROJECT["name"].replace("-", "_")
+VERSION = PROJECT["version"]
+FACTS = f"{NAME}-{VERSION}.dist-info"
+
+
+def metadata():
+    """The facts of the package as a wheel tells them (PEP 566), with the page as its description."""
+    lines = [
+        "Metadata-Version: 2.1",
+        f"Name: {PROJECT['name']}",
+        f"Version: {VERSION}",
+        f"Summary: {PROJECT['description']}",
+        f"Keywords: {','.join(PROJECT['keywords'])}",
+        *(f"Classifier: {each}" for each in PROJECT["classifiers"]),
+        f"Requires-Python: {PROJECT['requires-python']}",
+        *(f"Requires-Dist: {each}" for each in PROJECT["dependencies"]),
+        "Description-Content-Type: text/markdown",
+        "",
+        (HERE / PROJECT["readme"]).read_text(encoding="utf-8"),
+    ]
+    return "\n".join(lines).encode()
 
 
 def get_requires_for_build_wheel(config_settings=None):
@@ -34,9 +58,10 @@ get_requires_for_build_sdist = get_requires_for_build_wheel
 
 
 def modules():
-    """The files of the package, each with its name in the wheel."""
+    """The files of the package, each with its name in the wheel; `py.typed` says that its hints are to be used."""
     source = HERE / "src"
-    return [(path.relative_to(source).as_posix(), path.read_bytes()) for path in sorted(source.rglob("*.py"))]
+    paths = sorted([*source.rglob("*.py"), *source.rglob("py.typed")])
+    return [(path.relative_to(source).as_posix(), path.read_bytes()) for path in paths]
 
 
 def record_line(name, data):
@@ -46,8 +71,8 @@ def record_line(name, data):
 
 
 def write_wheel(folder, files):
-    """Writes a wheel of these files to the folder, and tells its name."""
-    files = files + [(f"{FACTS}/METADATA", METADATA.encode()), (f"{FACTS}/WHEEL", WHEEL.encode())]
+    """Writes a wheel of these files to the folder; its name."""
+    files = files + [(f"{FACTS}/METADATA", metadata()), (f"{FACTS}/WHEEL", WHEEL.encode())]
     record = "".join(record_line(name, data) for name, data in files) + f"{FACTS}/RECORD,,\n"
     files = files + [(f"{FACTS}/RECORD", record.encode())]
     wheel = f"{NAME}-{VERSION}-py3-none-any.whl"
@@ -68,9 +93,12 @@ def build_editable(wheel_directory, config_settings=None, metadata_directory=Non
 
 
 def build_sdist(sdist_directory, config_settings=None):
-    """The sources as a tar file."""
+    """The sources as a tar file, with their facts in PKG-INFO."""
     top = f"{NAME}-{VERSION}"
     with tarfile.open(pathlib.Path(sdist_directory) / f"{top}.tar.gz", "w:gz") as archive:
         for part in ("pyproject.toml", "README.md", "backend/decl_wheel.py", "src"):
-            archive.add(HERE / part, f"{top}/{part}")
+            archive.add(HERE / part, f"{top}/{part}", filter=lambda each: None if "__pycache__" in each.name else each)
+        facts = tarfile.TarInfo(f"{top}/PKG-INFO")
+        facts.size = len(metadata())
+        archive.addfile(facts, io.BytesIO(metadata()))
     return f"{top}.tar.gz"

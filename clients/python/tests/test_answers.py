@@ -59,7 +59,48 @@ class Forms(Case):
         self.assertEqual((report.bs, report.cells), (Fraction(1, 2), 16))
         money = report.in_money()
         self.assertTrue(money["mean"].holds(1))
-        self.assertEqual(money["pmf:3"], report["pmf:3"])
+        self.assertEqual((money["pmf:1.5"].low, money["pmf:1.5"].high), (report["pmf:3"].low, report["pmf:3"].high))
+
+    def test_a_row_in_money_prints_money(self):
+        """Two dice in thousands: the mean is 7,000, and of the layer 5,000 xs 5,000 it is 13/6 thousand."""
+        text = "agg Dice dfreq [2] dsev [1000:6000:1000]"
+        money = decl.run(text, ["mean", "layer:5xs5", "layer:infxs10", "q:0.9"], bs=1000, log2=4).in_money()
+        self.assertEqual([row.unit for row in money], ["money"] * 4)
+        self.assertEqual([row.ask for row in money], ["mean", "layer:5000xs5000", "layer:infxs10000", "q:0.9"])
+        self.assertEqual(str(money).splitlines()[0], "mean 7000 7000")
+        self.assertEqual(money["layer:5000xs5000"].written, ("2166.666", "2166.667"))
+        self.assertTrue(money["layer:infxs10000"].holds(Fraction(1000, 9)))
+        self.assertEqual((money["q:0.9"].low, money["q:0.9"].high), (10000, 10000))
+        self.assertEqual(money["q:0.9"].written, ("10000", "10000"))
+        self.assertIn("<td>layer:5000xs5000</td><td>2166.666</td><td>2166.667</td>", money._repr_html_())
+        self.assertIn("in money", repr(money))
+
+    def test_money_stays_money(self):
+        report = decl.run("agg Dice dfreq [2] dsev [1000:6000:1000]", ["mean", "cdf:9", "q:0.9"], bs=1000, log2=4)
+        money = report.in_money()
+        again = money.in_money()
+        self.assertEqual(list(again), list(money))
+        self.assertEqual(str(again), str(money))
+        self.assertEqual(money[0].in_money(1000), money[0])
+        self.assertEqual([row.unit for row in report], ["buckets", "probability", "buckets"])
+
+    def test_asks_in_money(self):
+        """A probability stays as it is, and the amount that it is asked at is in money."""
+        text = "port T agg A dfreq [1] dsev [1/3:1:1/3] agg B dfreq [1] dsev [1/3 2/3 1] [1/2 1/6 1/3]"
+        asks = ["cdf:4", "pmf:4", "tail:0.5", "joint:A:4", "kappa:A:4", "kappa:A:1"]
+        money = decl.run(text, asks, bs=Fraction(1, 3), log2=4).in_money()
+        wanted = ["cdf:4/3", "pmf:4/3", "tail:0.5", "joint:A:4/3", "kappa:A:4/3", "kappa:A:1/3"]
+        self.assertEqual([row.ask for row in money], wanted)
+        self.assertEqual(money["pmf:4/3"].unit, "probability")
+        self.assertTrue(money["pmf:4/3"].holds(Fraction(1, 3)))
+        self.assertTrue(money["kappa:A:4/3"].holds(Fraction(13, 18)))
+        self.assertEqual((money["kappa:A:1/3"].state, money["kappa:A:1/3"].written), ("absent", ("-", "-")))
+        self.assertEqual(money["kappa:A:4/3"].written, ("0.722222", "2166667/3000000"))
+
+    def test_beyond_the_grid_in_money(self):
+        money = decl.run("agg P 10 claims dsev [250] poisson", ["q:0.5"], bs=250, log2=2).in_money()
+        self.assertEqual((money[0].written, money[0].low, money[0].high), (("1000", "beyond"), 1000, None))
+        self.assertEqual(money[0].state, "beyond")
 
     def test_a_table_in_a_notebook(self):
         shown = decl.run(DICE, ["pmf:2"])._repr_html_()
@@ -96,6 +137,14 @@ class Frames(Case):
         for row, low, high in zip(report, frame["low"], frame["high"]):
             self.assertLessEqual(Fraction(low), row.low)
             self.assertGreaterEqual(Fraction(high), row.high)
+
+    def test_a_frame_in_money(self):
+        """One claim of 250, 500 or 750: the mean is 500, and of the layer 250 xs 250 it is 250 * 2/3."""
+        report = decl.run("agg D dfreq [1] dsev [250 500 750]", ["mean", "layer:1xs1"], bs=250, log2=4, digits=2)
+        frame = report.in_money().to_frame()
+        self.assertEqual(list(frame["ask"]), ["mean", "layer:250xs250"])
+        self.assertEqual(list(frame["low"]), [500, 165])
+        self.assertEqual(list(frame["high"]), [500, Fraction(335, 2)])
 
     def test_what_is_not_there(self):
         frame = decl.run(PAIR, ["kappa:A:1"], log2=4).to_frame(floats=True)

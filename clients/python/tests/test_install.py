@@ -1,4 +1,4 @@
-"""`pip install` of the folder, with no network, into a folder of its own."""
+"""`pip install` of the folder, with no network, into a folder and into a fresh environment; what is then there."""
 
 import os
 import subprocess
@@ -10,8 +10,31 @@ from support import ROOT, BUILT, Case, main
 
 TRY = "import decl; print(decl.__file__); print(decl.run('agg D dfreq [2] dsev [1:6]', ['pmf:2']), end='')"
 
+FACTS = """
+import importlib.metadata, pathlib, decl
+facts = importlib.metadata.metadata("decl-client")
+print(facts["Version"] == decl.__version__)
+print((pathlib.Path(decl.__file__).parent / "py.typed").exists())
+print(facts["Description-Content-Type"])
+"""
+
 
 class Install(Case):
+    def test_an_environment_of_its_own(self):
+        """The three lines of the page: an environment, its pip, and the client with its facts."""
+        with tempfile.TemporaryDirectory() as folder:
+            made = subprocess.run([sys.executable, "-m", "venv", folder], capture_output=True)
+            if made.returncode:
+                raise unittest.SkipTest("python3 -m venv does not run here")
+            python = os.path.join(folder, "bin", "python")
+            words = [python, "-m", "pip", "install", "--quiet", "--no-index", str(ROOT / "clients" / "python")]
+            done = subprocess.run(words, capture_output=True, text=True)
+            self.assertEqual(done.returncode, 0, done.stderr)
+            world = {name: value for name, value in os.environ.items() if name != "PYTHONPATH"}
+            tried = subprocess.run([python, "-c", FACTS], capture_output=True, text=True, env=world, cwd=folder)
+            self.assertEqual(tried.returncode, 0, tried.stderr)
+            self.assertEqual(tried.stdout.split("\n")[:3], ["True", "True", "text/markdown"])
+
     def test_pip_installs_the_folder(self):
         pip = [sys.executable, "-m", "pip"]
         if subprocess.run([*pip, "--version"], capture_output=True).returncode:

@@ -35,6 +35,8 @@ from .faults import (
 from .magic import load_ipython_extension
 from .reports import Report, Row
 
+__version__ = "0.1.0"
+
 __all__ = [
     "AskFault",
     "BadAnswer",
@@ -58,6 +60,7 @@ __all__ = [
     "TookTooLong",
     "UsageFault",
     "WriteFault",
+    "__version__",
     "bucket",
     "check",
     "fmt",

@@ -2,17 +2,21 @@
 
 from decimal import Decimal
 from fractions import Fraction
+from typing import Iterable, List, Optional, Type, Union
 
 from . import program
 from .faults import AskFault, BadAnswer
-from .reports import read_report
+from .reports import Report, read_report
 
 #: Larger than any grid, so the program decides on the text and computes nothing.
 PAST_EVERY_GRID = "pmf:999999999"
-NAMES = ("bs", "log2", "digits", "width", "mwidth", "make")
+
+Text = Union[str, bytes]
+Asks = Union[str, Iterable[str]]
+Number = Union[int, Fraction, Decimal, float, str]
 
 
-def spelled(value):
+def spelled(value: Number) -> str:
     """A number as a word of the command line. A float is taken as the decimal that Python prints for it."""
     if isinstance(value, float):
         value = Fraction(repr(value))
@@ -21,54 +25,83 @@ def spelled(value):
     return str(value)
 
 
-def options(settings):
-    """The settings as words; those that are None are left out."""
-    unknown = set(settings) - set(NAMES)
-    if unknown:
-        raise TypeError(f"no such option: {', '.join(sorted(unknown))}; there are {', '.join(NAMES)}")
+def options(**values: Optional[Number]) -> List[str]:
+    """The options as words of the command line; those that are None are left out."""
     words = []
-    for name, value in settings.items():
+    for name, value in values.items():
         if value is not None:
             words += [f"--{name}", spelled(value)]
     return words
 
 
-def run(text, asks, *, ends=Fraction, timeout=None, **settings):
-    """Answers the asks about the text, with exact ends.
+def listed(asks: Asks) -> List[str]:
+    """The asks as a list; one alone may be a string."""
+    return [asks] if isinstance(asks, str) else [str(ask) for ask in asks]
 
-    `asks` are words such as "mean", "q:0.995" or "layer:10xs5". `settings` are bs (the size of a bucket, in money),
-    log2, digits, width, mwidth and make, as docs/USAGE.md tells them. `ends` is `Fraction` or `Decimal`. `timeout` is in
-    seconds. Raises a `DeclError` where there is no whole report.
+
+def run(
+    text: Text,
+    asks: Asks,
+    *,
+    bs: Optional[Number] = None,
+    log2: Optional[int] = None,
+    digits: Optional[int] = None,
+    width: Optional[int] = None,
+    mwidth: Optional[int] = None,
+    make: Optional[int] = None,
+    ends: Union[Type[Fraction], Type[Decimal]] = Fraction,
+    timeout: Optional[float] = None,
+) -> Report:
+    """The report on the asks about the text, with exact ends.
+
+    `asks` are words such as "mean", "q:0.995" or "layer:10xs5", with amounts in buckets. `bs` is the size of a bucket
+    in money; `log2`, `digits`, `width`, `mwidth` and `make` are the options of the program of these names (the table of
+    options in docs/USAGE.md), and None leaves one out. `ends` is the type of the ends, `Fraction` or `Decimal`.
+    `timeout` is in seconds. Raises a `DeclError` where there is no whole report.
     """
-    asks = [asks] if isinstance(asks, str) else [str(ask) for ask in asks]
-    words = ["run", "--format", "json", *options(settings), *asks]
-    return read_report(program.call(words, text, asks, timeout), asks, ends)
+    asks = listed(asks)
+    given = options(bs=bs, log2=log2, digits=digits, width=width, mwidth=mwidth, make=make)
+    return read_report(program.call(["run", "--format", "json", *given, *asks], text, asks, timeout), asks, ends)
 
 
-def report(text, asks, form="text", *, timeout=None, **settings):
-    """The report as the program writes it, as `text`, `csv` or `json`."""
-    asks = [asks] if isinstance(asks, str) else [str(ask) for ask in asks]
-    words = ["run", "--format", form, *options(settings), *asks]
-    return program.call(words, text, asks, timeout)
+def report(
+    text: Text,
+    asks: Asks,
+    form: str = "text",
+    *,
+    bs: Optional[Number] = None,
+    log2: Optional[int] = None,
+    digits: Optional[int] = None,
+    width: Optional[int] = None,
+    mwidth: Optional[int] = None,
+    make: Optional[int] = None,
+    timeout: Optional[float] = None,
+) -> str:
+    """The report as the program writes it, as `text`, `csv` or `json`; the options are those of `run`."""
+    asks = listed(asks)
+    given = options(bs=bs, log2=log2, digits=digits, width=width, mwidth=mwidth, make=make)
+    return program.call(["run", "--format", form, *given, *asks], text, asks, timeout)
 
 
-def check(text, *, timeout=None, **settings):
+def check(
+    text: Text, *, bs: Optional[Number] = None, log2: Optional[int] = None, timeout: Optional[float] = None
+) -> None:
     """Raises the fault of the text, if it has one. Nothing is evaluated.
 
     The rules on whole buckets are asked at `bs`, and the one on the sum before an aggregate clause at `log2`.
     """
     try:
-        program.call(["run", *options(settings), PAST_EVERY_GRID], text, [PAST_EVERY_GRID], timeout)
+        program.call(["run", *options(bs=bs, log2=log2), PAST_EVERY_GRID], text, [PAST_EVERY_GRID], timeout)
     except AskFault:
         return
     raise BadAnswer("decl answered an ask past every grid")
 
 
-def fmt(text, *, timeout=None):
+def fmt(text: Text, *, timeout: Optional[float] = None) -> str:
     """The program in its one canonical spelling."""
     return program.call(["fmt"], text, (), timeout)
 
 
-def made(number, *, timeout=None):
+def made(number: int, *, timeout: Optional[float] = None) -> str:
     """The made program of this number, 0 to 4,294,967,295: a portfolio to measure and to compare with."""
     return program.call(["fmt", "--make", spelled(number)], "", (), timeout)

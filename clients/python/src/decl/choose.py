@@ -4,8 +4,9 @@ import re
 from fractions import Fraction
 from functools import reduce
 from math import gcd
+from typing import List, Optional
 
-from .calls import check, fmt, run, spelled
+from .calls import Number, Text, check, fmt, run, spelled
 from .faults import GridTooSmall, RuleFault
 
 TOKEN = re.compile(r"note\{[^{}]*\}|\d+/\d+|(?:\d+\.?\d*|\.\d+)%?|[A-Za-z][A-Za-z0-9_-]*|[\[\]:,!]")
@@ -13,19 +14,19 @@ OFF_GRID_CESSION = 13
 LARGEST = 12
 
 
-def value_of(numeral):
+def value_of(numeral: str) -> Fraction:
     """The number that a numeral spells: a decimal, a percent or a fraction."""
     if numeral.endswith("%"):
         return Fraction(numeral[:-1].rstrip(".")) / 100
     return Fraction(numeral.rstrip("."))
 
 
-def tokens_of(text):
+def tokens_of(text: str) -> List[str]:
     """The tokens of a canonical text, without its notes."""
     return [token for token in TOKEN.findall(text) if not token.startswith("note{")]
 
 
-def list_behind(tokens, at):
+def list_behind(tokens: List[str], at: int) -> List[List[Fraction]]:
     """The items of the list whose `[` stands at this place: each 1 to 3 numerals."""
     items = []
     at += 1
@@ -39,15 +40,15 @@ def list_behind(tokens, at):
     return items
 
 
-def of_item(item):
+def of_item(item: List[Fraction]) -> List[Fraction]:
     """Amounts that divide alike with those of the item: its first one, and its step where it has a second one."""
     first, last, step = item if len(item) == 3 else (item[0], item[-1], Fraction(1))
     return [first] if first + step > last else [first, step]
 
 
-def amounts_of(tokens):
+def amounts_of(tokens: List[str]) -> List[Fraction]:
     """The amounts, limits and attachments of a canonical text, ranges by their first amount and step."""
-    found = []
+    found: List[Fraction] = []
     for at, token in enumerate(tokens):
         if token == "dsev":
             found += [amount for item in list_behind(tokens, at + 1) for amount in of_item(item)]
@@ -56,7 +57,7 @@ def amounts_of(tokens):
     return found
 
 
-def shares_of(tokens):
+def shares_of(tokens: List[str]) -> List[Fraction]:
     """The shares of the clauses of a canonical text."""
     found = []
     for at, token in enumerate(tokens):
@@ -67,13 +68,13 @@ def shares_of(tokens):
     return found
 
 
-def common(first, second):
+def common(first: Fraction, second: Fraction) -> Fraction:
     """The greatest fraction that divides both."""
     over = first.denominator * second.denominator // gcd(first.denominator, second.denominator)
     return Fraction(gcd(int(first * over), int(second * over)), over)
 
 
-def divisors(number):
+def divisors(number: int) -> List[int]:
     """The whole numbers that divide a number, rising."""
     found = [1]
     prime = 2
@@ -89,17 +90,17 @@ def divisors(number):
     return sorted(found)
 
 
-def bucket(text, *, shares=True, timeout=None):
+def bucket(text: Text, *, shares: bool = True, timeout: Optional[float] = None) -> Fraction:
     """The greatest size of a bucket that divides every amount, limit and attachment of the text, as a fraction.
 
-    Where a clause takes a share, its outcomes have to be whole numbers of buckets too. Then the size is the greatest that
-    divides these as well, found by asking the program; with `shares=False` the written amounts alone count.
+    Where a clause takes a share, its outcomes have to be whole numbers of buckets too. Then the size is the greatest
+    that divides these as well, found by asking the program; with `shares=False` the written amounts alone count.
     """
     tokens = tokens_of(fmt(text, timeout=timeout))
     size = reduce(common, amounts_of(tokens), Fraction(0)) or Fraction(1)
     if not shares:
         return size
-    fault = None
+    fault: Optional[RuleFault] = None
     parts = {1}
     for share in shares_of(tokens):
         parts = {old * new for old in parts for new in divisors(share.denominator)}
@@ -112,21 +113,32 @@ def bucket(text, *, shares=True, timeout=None):
             fault = found
         else:
             return size / part
+    assert fault is not None
     raise fault
 
 
-def grid(text, inside="0.999999", *, timeout=None, **settings):
+def grid(
+    text: Text,
+    inside: Number = "0.999999",
+    *,
+    bs: Optional[Number] = None,
+    digits: int = 9,
+    width: int = 10**9,
+    make: Optional[int] = None,
+    timeout: Optional[float] = None,
+) -> int:
     """The least `log2` with which at least so much probability is sure to lie inside the grid.
 
-    `inside` is a decimal, a fraction or a percent; a float is taken as the decimal that Python prints for it. `settings`
-    are those of `run` but log2. Raises `GridTooSmall` where the largest grid is not sure to hold so much.
+    `inside` is a decimal, a fraction or a percent; a float is taken as the decimal that Python prints for it. `bs` is
+    the size of a bucket in money, `digits` and `width` are those of the probability that is asked of each grid, and
+    `make` takes a made program in place of the text. Raises `GridTooSmall` where the largest grid is not sure to hold
+    so much.
     """
     wanted = value_of(inside) if isinstance(inside, str) else Fraction(spelled(inside))
-    settings = {"digits": 9, "width": 10**9, **settings}
     for log2 in range(1, LARGEST + 1):
         ask = f"cdf:{2**log2 - 1}"
-        row = run(text, [ask], log2=log2, timeout=timeout, **settings)[0]
-        if row.low >= wanted:
+        row = run(text, [ask], bs=bs, log2=log2, digits=digits, width=width, make=make, timeout=timeout)[0]
+        if Fraction(row.low or 0) >= wanted:
             return log2
     raise GridTooSmall(
         f"the largest grid, of {2**LARGEST} buckets, holds a probability from {row.written[0]} to {row.written[1]};"

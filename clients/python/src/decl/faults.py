@@ -4,14 +4,18 @@ An exception keeps its facts as attributes, and can be pickled, so that it can c
 """
 
 import signal
+from typing import TYPE_CHECKING, Any, Dict, List, Optional, Tuple, Type
 
 from .rules import SENTENCES
+
+if TYPE_CHECKING:
+    from .reports import Row
 
 #: So many characters of a long line are shown on each side of a place.
 AROUND = 60
 
 
-def restore(kind, told, facts):
+def restore(kind: Type["DeclError"], told: str, facts: Dict[str, Any]) -> "DeclError":
     """Makes an exception again from its pickled parts."""
     return kind(told, **facts)
 
@@ -19,19 +23,19 @@ def restore(kind, told, facts):
 class DeclError(Exception):
     """There is no report. `status` is the program's status, or None where it did not end by itself."""
 
-    status = None
+    status: Optional[int] = None
 
-    def __init__(self, told, **facts):
+    def __init__(self, told: str, **facts: Any) -> None:
         super().__init__(told)
         self.told = told
         self.facts = facts
         for name, value in facts.items():
             setattr(self, name, value)
 
-    def __reduce__(self):
+    def __reduce__(self) -> Tuple[Any, ...]:
         return restore, (type(self), self.told, self.facts)
 
-    def _render_traceback_(self):
+    def _render_traceback_(self) -> List[str]:
         """In a notebook the message stands alone, with no traceback."""
         return [f"{type(self).__name__}: {self.told}"]
 
@@ -39,13 +43,19 @@ class DeclError(Exception):
 class ProgramNotFound(DeclError):
     """No program to run; `program` is the name that was looked for."""
 
+    program: str
+
 
 class Killed(DeclError):
     """The program was ended by a signal; `signal` is its number."""
 
+    signal: int
+
 
 class TookTooLong(DeclError):
     """The program did not end within `seconds`, and was ended."""
+
+    seconds: float
 
 
 class BadAnswer(DeclError):
@@ -53,11 +63,16 @@ class BadAnswer(DeclError):
 
 
 class NotText(DeclError):
-    """The text has a NUL byte or is no UTF-8; `line` and `column` tell where, counted from 1."""
+    """The text has a NUL byte or is no UTF-8; `line` and `column` tell where, counted from 1; None for a word."""
+
+    line: Optional[int]
+    column: Optional[int]
 
 
 class GridTooSmall(DeclError):
     """No grid is sure to hold so much probability; `row` is the answer for the largest."""
+
+    row: "Row"
 
 
 class NoWords(DeclError):
@@ -70,14 +85,15 @@ class UsageFault(DeclError):
     """The words are not understood; `ask` counts from 0, and is None where an option is at fault."""
 
     status = 2
+    ask: Optional[int]
 
 
 class TextFault(DeclError):
     """The text is refused. `line` and `column` (in bytes) count from 1; they are None where the text is too long."""
 
     status = 3
-    line = None
-    column = None
+    line: Optional[int] = None
+    column: Optional[int] = None
 
 
 class TooLong(TextFault):
@@ -95,15 +111,24 @@ class SyntaxFault(TextFault):
 class ContinuousSeverity(TextFault):
     """`word` names a continuous severity, and those are not taken."""
 
+    word: str
+
 
 class RuleFault(TextFault):
     """A typing rule is broken: `unit` counts from 0, `rule` is its number and `name` its name."""
+
+    unit: int
+    rule: int
+    name: str
 
 
 class NeedsWidth(DeclError):
     """An ask needs more width: ask `ask` (from 0) needs `needed` units of the last digit as `option`."""
 
     status = 4
+    ask: int
+    needed: int
+    option: str
 
 
 class ReadFault(DeclError):
@@ -128,9 +153,11 @@ class AskFault(DeclError):
     """Ask `ask` (from 0) lies beyond the grid, or names no unit; `reason` says which."""
 
     status = 8
+    ask: int
+    reason: str
 
 
-def pointed(text, line, column):
+def pointed(text: str, line: int, column: int) -> str:
     """The line of the text, cut round the column (in bytes, from 1), with a caret under the place."""
     lines = text.encode().split(b"\n")
     whole = lines[line - 1] if line <= len(lines) else b""
@@ -142,7 +169,7 @@ def pointed(text, line, column):
     return f"  {cut}{before}{behind[:AROUND]}{'..' if len(behind) > AROUND else ''}\n  {blanks}^"
 
 
-def pointed_word(words, index):
+def pointed_word(words: List[str], index: int) -> str:
     """The words in one line, with carets under one of them."""
     before = " ".join(words[:index] + [""]) if index else ""
     cut = "" if len(before) <= AROUND else ".."
@@ -151,7 +178,7 @@ def pointed_word(words, index):
     return f"  {cut}{before}{word}\n  {' ' * len(cut + before)}{'^' * max(1, len(word))}"
 
 
-def killed(number):
+def killed(number: int) -> Killed:
     """The exception of a program that was ended by this signal."""
     try:
         name = signal.Signals(number).name
@@ -160,6 +187,6 @@ def killed(number):
     return Killed(f"decl was ended by {name} before its report was whole; nothing of it is used", signal=number)
 
 
-def rule_sentence(number):
+def rule_sentence(number: int) -> str:
     """What the rule asks, in a sentence."""
     return SENTENCES.get(number, "This version of the client does not know the rule; see docs/LANGUAGE.md.")

@@ -9,16 +9,17 @@
 import shlex
 from decimal import Decimal
 from fractions import Fraction
+from typing import Any, List, Optional, Set, Tuple, Type, Union
 
 from . import program
-from .reports import read_report
+from .reports import Report, read_report
 
 
-def parted(line):
+def parted(line: str) -> Tuple[List[str], Optional[str], Set[str]]:
     """The words of the line, with the name behind `--into`, and those of `--fractions` and `--floats` that stood there."""
     words = shlex.split(line)
     kept = []
-    into = None
+    into: Optional[str] = None
     flags = set()
     while words:
         word = words.pop(0)
@@ -31,7 +32,7 @@ def parted(line):
     return kept, into, flags
 
 
-def asks_of(words):
+def asks_of(words: List[str]) -> List[str]:
     """The words that are no options and no values of options."""
     found = []
     value = False
@@ -45,19 +46,19 @@ def asks_of(words):
     return found
 
 
-def answer(line, text):
+def answer(line: str, text: str) -> Tuple[Report, Optional[str], Set[str]]:
     """The report of a cell, with the name it goes to and the flags of its line."""
     words, into, flags = parted(line)
     asks = asks_of(words)
-    ends = Fraction if "--fractions" in flags else Decimal
+    ends: Union[Type[Fraction], Type[Decimal]] = Fraction if "--fractions" in flags else Decimal
     written = program.call(["run", "--format", "json", *words], text, asks)
     return read_report(written, asks, ends), into, flags
 
 
-def load_ipython_extension(shell):
+def load_ipython_extension(shell: Any) -> None:
     """Gives a shell of IPython the magic."""
 
-    def decl(line, cell):
+    def decl(line: str, cell: str) -> Any:
         """Answers the asks of the line about the text of the cell, as a frame where pandas is installed.
 
         Ends are exact decimals. `--into NAME` keeps the report under a name; `--fractions` gives fractions, and `--floats`

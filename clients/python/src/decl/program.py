@@ -3,12 +3,13 @@
 import os
 import shutil
 import subprocess
+from typing import Iterable, Optional, Sequence, Tuple, Union
 
 from . import faults
 from .told import fault_of
 
 
-def find():
+def find() -> str:
     """The program that DECL names, else `decl` on the path."""
     named = os.environ.get("DECL") or "decl"
     found = shutil.which(named)
@@ -20,13 +21,14 @@ def find():
     return found
 
 
-def as_text(text):
+def as_text(text: Union[str, bytes]) -> str:
     """The text as a `str` with no NUL; bytes have to be UTF-8."""
     if isinstance(text, bytes):
+        given = text
         try:
-            text = text.decode("utf-8")
+            text = given.decode("utf-8")
         except UnicodeDecodeError as cause:
-            line, column = place_in(text, cause.start)
+            line, column = place_in(given, cause.start)
             raise faults.NotText(f"{line}:{column}: the text is no UTF-8", line=line, column=column) from None
     if not isinstance(text, str):
         raise TypeError(f"a text is a str or bytes, not {type(text).__name__}")
@@ -42,13 +44,13 @@ def as_text(text):
     return text
 
 
-def place_in(data, offset):
+def place_in(data: bytes, offset: Optional[int]) -> Tuple[int, int]:
     """Line and column of an offset in bytes, from 1; of the end, where the offset is None."""
     before = data if offset is None else data[:offset]
     return before.count(b"\n") + 1, len(before) - (before.rfind(b"\n") + 1) + 1
 
 
-def as_word(word):
+def as_word(word: object) -> str:
     """A word of the command line as a `str` that the system can pass on."""
     word = str(word)
     if "\0" in word:
@@ -60,7 +62,9 @@ def as_word(word):
     return word
 
 
-def call(words, text, asks=(), timeout=None):
+def call(
+    words: Iterable[str], text: Union[str, bytes], asks: Sequence[str] = (), timeout: Optional[float] = None
+) -> str:
     """What the program writes for these words and this text; `asks` are those of the words, for messages."""
     text = as_text(text)
     words = [as_word(word) for word in words]

@@ -1,4 +1,4 @@
-"""A report: one row for each ask, with exact ends."""
+"""A report: one row for each ask, with exact ends, in buckets or in money."""
 
 import html
 import json
@@ -7,38 +7,70 @@ from collections.abc import Sequence
 from dataclasses import dataclass
 from decimal import Decimal
 from fractions import Fraction
-from typing import Optional, Tuple, Union
+from typing import TYPE_CHECKING, Iterable, Iterator, List, Optional, Tuple, Type, Union, overload
 
 from .faults import BadAnswer
 
+if TYPE_CHECKING:
+    import pandas
+
 End = Union[Fraction, Decimal, int, None]
 PROBABILITIES = ("pmf", "cdf")
+NOT_THERE = ("beyond", "-")
 
 
-def float_below(end):
+def float_below(end: Union[Fraction, Decimal, int]) -> float:
     """The greatest float that is not above the end."""
     near = float(end)
     return near if Fraction(near) <= Fraction(end) else math.nextafter(near, -math.inf)
 
 
-def float_above(end):
+def float_above(end: Union[Fraction, Decimal, int]) -> float:
     """The least float that is not below the end."""
     near = float(end)
     return near if Fraction(near) >= Fraction(end) else math.nextafter(near, math.inf)
+
+
+def plain(value: Fraction) -> str:
+    """The number as its shortest decimal, or as a fraction such as `7/3` where no decimal is equal to it."""
+    rest, places = value.denominator, 0
+    for prime in (2, 5):
+        power = 0
+        while rest % prime == 0:
+            rest //= prime
+            power += 1
+        places = max(places, power)
+    if rest > 1:
+        return str(value)
+    digits = str(abs(value.numerator) * 10**places // value.denominator).rjust(places + 1, "0")
+    sign = "-" if value < 0 else ""
+    return sign + (f"{digits[:-places]}.{digits[-places:]}" if places else digits)
+
+
+def ask_in_money(ask: str, bs: Fraction) -> str:
+    """The ask with its amounts times the size of a bucket: `layer:10xs5` is `layer:10000xs5000` where that is 1000."""
+    kind, *parts = ask.split(":")
+    if kind in ("q", "tail") or not parts:
+        return ask
+    amounts = [part if part == "inf" else plain(Fraction(part) * bs) for part in parts[-1].split("xs")]
+    return ":".join([kind, *parts[:-1], "xs".join(amounts)])
 
 
 @dataclass(frozen=True)
 class Row:
     """The answer to one ask: the declared value lies from `low` to `high`, both included.
 
-    The ends of a bracket (`q`) are `int`. `high` is None where it is beyond the grid; both ends are None for a tail
-    mean beyond the grid, and for a share in a total that is too rare. `written` has the ends as the program wrote them.
+    The ends of a bracket (`q`) in buckets are `int`. `high` is None where it is beyond the grid; both ends are None for
+    a tail mean beyond the grid, and for a share in a total that is too rare. `written` has the ends as they are printed:
+    in buckets as the program wrote them, in money as the decimals (or fractions) that are equal to them. Where `money`
+    is true, the amounts of the ask and the ends are in money, else in buckets.
     """
 
     ask: str
     low: End
     high: End
     written: Tuple[str, str]
+    money: bool = False
 
     @property
     def kind(self) -> str:
@@ -52,11 +84,13 @@ class Row:
 
     @property
     def unit(self) -> str:
-        """What the ends count: `probability` or `buckets`."""
-        return "probability" if self.kind in PROBABILITIES else "buckets"
+        """What the ends count: `probability`, `buckets` or `money`."""
+        if self.kind in PROBABILITIES:
+            return "probability"
+        return "money" if self.money else "buckets"
 
-    def holds(self, value) -> Optional[bool]:
-        """Whether the value lies from `low` to `high`; None where that is open."""
+    def holds(self, value: Union[Fraction, Decimal, float, int, str]) -> Optional[bool]:
+        """Whether the value, in the unit of the row, lies from `low` to `high`; None where that is open."""
         value = Fraction(value)
         if self.low is not None and value < Fraction(self.low):
             return False
@@ -64,26 +98,39 @@ class Row:
             return None
         return value <= Fraction(self.high)
 
-    def in_money(self, bs: Fraction) -> "Row":
-        """The row with amounts times the size of a bucket, as fractions; a probability as it is."""
-        if self.unit == "probability":
+    def in_money(self, bs: Union[Fraction, int]) -> "Row":
+        """The row with the amounts of its ask and its ends in money, for buckets of the size `bs`.
+
+        Ends are fractions, and a probability stays as it is. A row in money is returned unchanged.
+        """
+        if self.money:
             return self
+        ask = ask_in_money(self.ask, Fraction(bs))
+        if self.unit == "probability":
+            return Row(ask, self.low, self.high, self.written, True)
         low, high = (end if end is None else Fraction(end) * bs for end in (self.low, self.high))
-        return Row(self.ask, low, high, self.written)
+        first, last = (word if end is None else plain(end) for end, word in zip((low, high), self.written))
+        return Row(ask, low, high, (first, last), True)
 
 
-class Report(Sequence):
+class Report(Sequence[Row]):
     """The rows of one run, in the order of the asks; also found by their ask: `report["mean"]`.
 
     `bs` is the size of a bucket in money, `cells` the number of buckets of the grid.
     """
 
-    def __init__(self, rows, bs, cells):
+    def __init__(self, rows: Iterable[Row], bs: Fraction, cells: int) -> None:
         self.rows = tuple(rows)
         self.bs = bs
         self.cells = cells
 
-    def __getitem__(self, which):
+    @overload
+    def __getitem__(self, which: Union[int, str]) -> Row: ...
+
+    @overload
+    def __getitem__(self, which: slice) -> Tuple[Row, ...]: ...
+
+    def __getitem__(self, which: Union[int, str, slice]) -> Union[Row, Tuple[Row, ...]]:
         if isinstance(which, str):
             for row in self.rows:
                 if row.ask == which:
@@ -91,26 +138,33 @@ class Report(Sequence):
             raise KeyError(which)
         return self.rows[which]
 
-    def __len__(self):
+    def __iter__(self) -> Iterator[Row]:
+        return iter(self.rows)
+
+    def __len__(self) -> int:
         return len(self.rows)
 
-    def __repr__(self):
-        return f"<decl report of {len(self)} rows, {self.cells} buckets of {self.bs}>"
+    def __repr__(self) -> str:
+        unit = " in money" if any(row.money for row in self.rows) else ""
+        return f"<decl report of {len(self)} rows{unit}, {self.cells} buckets of {self.bs}>"
 
-    def __str__(self):
+    def __str__(self) -> str:
         return "".join(f"{row.ask} {row.written[0]} {row.written[1]}\n" for row in self.rows)
 
-    def _repr_html_(self):
+    def _repr_html_(self) -> str:
         cells = [[row.ask, *row.written] for row in self.rows]
         lines = ["".join(f"<td>{html.escape(cell)}</td>" for cell in line) for line in cells]
         body = "".join(f"<tr>{line}</tr>" for line in lines)
         return f"<table><tr><th>ask</th><th>low</th><th>high</th></tr>{body}</table>"
 
-    def in_money(self):
-        """The report with amounts in money, as fractions."""
+    def in_money(self) -> "Report":
+        """The report in money: the amounts of the asks and the ends times the size of a bucket, as fractions.
+
+        A report in money stays as it is.
+        """
         return Report([row.in_money(self.bs) for row in self.rows], self.bs, self.cells)
 
-    def to_frame(self, floats=False):
+    def to_frame(self, floats: bool = False) -> "pandas.DataFrame":
         """A pandas DataFrame with the columns ask, low and high.
 
         The ends stay exact. With `floats` each low end is rounded down and each high end up to a float, so that they
@@ -118,9 +172,7 @@ class Report(Sequence):
         """
         import pandas
 
-        ends = [(row.low, row.high) for row in self.rows]
-        if floats:
-            ends = [rounded(row) for row in self.rows]
+        ends = [rounded(row) if floats else (row.low, row.high) for row in self.rows]
         frame = pandas.DataFrame({"ask": [row.ask for row in self.rows]})
         kind = float if floats else object
         frame["low"] = pandas.Series([low for low, _ in ends], dtype=kind)
@@ -128,7 +180,7 @@ class Report(Sequence):
         return frame
 
 
-def rounded(row):
+def rounded(row: Row) -> Tuple[float, float]:
     """The two ends of a row as floats, rounded outward."""
     if row.state == "absent":
         return math.nan, math.nan
@@ -137,14 +189,14 @@ def rounded(row):
     return low, high
 
 
-def read_end(ask, written, ends):
+def read_end(ask: str, written: str, ends: Union[Type[Fraction], Type[Decimal]]) -> End:
     """An end as the program wrote it."""
-    if written in ("beyond", "-"):
+    if written in NOT_THERE:
         return None
     return int(written) if ask.startswith("q:") else ends(written)
 
 
-def read_report(written, asks, ends):
+def read_report(written: str, asks: List[str], ends: Union[Type[Fraction], Type[Decimal]]) -> Report:
     """The report that these bytes of JSON spell; it has to be whole."""
     try:
         found = json.loads(written)

@@ -1,6 +1,8 @@
 """Each typing rule in a sentence, by its number. docs/LANGUAGE.md has them as a table, with examples."""
 
-SENTENCES = {
+from typing import Dict
+
+SENTENCES: Dict[int, str] = {
     1: "Two units have the same name; each unit of a portfolio needs its own.",
     2: "A numeral has at most 11 digits (9 before a percent sign, 11 in each part of a fraction) and no fraction is over 0.",
     3: "A range runs upward, by a step above 0, with a common denominator of at most 1,000,000.",

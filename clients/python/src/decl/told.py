@@ -1,8 +1,11 @@
 """Turns a status and the line that the program wrote about it into an exception."""
 
 import re
+from typing import Any, Dict, List, Sequence, Tuple, Type
 
 from . import faults
+
+Reason = Tuple[Type[faults.DeclError], Dict[str, Any], str]
 
 #: An ask of these kinds is held to `width`, any other to `mwidth`.
 PROBABILITIES = ("pmf:", "cdf:", "q:")
@@ -11,14 +14,14 @@ ASK = re.compile(r"decl: ask (\d+): (.*)", re.DOTALL)
 RULE = re.compile(r"unit (\d+): rule (\d+) (\w+)")
 
 
-def fault_of(status, told, text, words, asks):
+def fault_of(status: int, told: str, text: str, words: Sequence[str], asks: List[str]) -> faults.DeclError:
     """The exception for a status other than 0; `told` is what stood on standard error."""
     told = told.rstrip("\n")
     if status == 3:
         return text_fault(told, text)
     if status in (2, 4, 8):
         return ask_fault(status, told, words, asks)
-    plain = {
+    plain: Dict[int, Tuple[Type[faults.DeclError], str]] = {
         1: (faults.NoWords, "decl: the system did not give the words"),
         5: (faults.ReadFault, told or "decl: the input could not be read"),
         6: (faults.WriteFault, "decl: the report could not be written whole; what came through is dropped"),
@@ -30,7 +33,7 @@ def fault_of(status, told, text, words, asks):
     return faults.BadAnswer(f"decl ended with the unknown status {status}: {told}")
 
 
-def text_fault(told, text):
+def text_fault(told: str, text: str) -> faults.DeclError:
     """The exception for a text that is refused."""
     place = PLACE.fullmatch(told)
     if place is None:
@@ -43,11 +46,11 @@ def text_fault(told, text):
     return kind(f"{told}\n{shown}\n{sentence}", line=line, column=column, **facts)
 
 
-def text_reason(reason):
+def text_reason(reason: str) -> Reason:
     """The kind of a fault of a text, its facts, and a sentence on it."""
     rule = RULE.fullmatch(reason)
     if rule:
-        facts = {"unit": int(rule[1]), "rule": int(rule[2]), "name": rule[3]}
+        facts: Dict[str, Any] = {"unit": int(rule[1]), "rule": int(rule[2]), "name": rule[3]}
         return faults.RuleFault, facts, faults.rule_sentence(facts["rule"])
     if reason == "syntax":
         return faults.SyntaxFault, {}, "No program goes on here as the text does; docs/LANGUAGE.md has the grammar."
@@ -60,7 +63,7 @@ def text_reason(reason):
     return faults.TextFault, {}, "docs/USAGE.md tells the faults of a text."
 
 
-def ask_fault(status, told, words, asks):
+def ask_fault(status: int, told: str, words: Sequence[str], asks: List[str]) -> faults.DeclError:
     """The exception for words that are not understood, or for an ask that cannot be answered."""
     found = ASK.fullmatch(told)
     if found is None:
@@ -76,7 +79,7 @@ def ask_fault(status, told, words, asks):
     return kind(f"{told}\n{shown}\n{sentence}", ask=ask, **facts)
 
 
-def ask_reason(status, reason, ask):
+def ask_reason(status: int, reason: str, ask: str) -> Reason:
     """The kind of a fault of an ask, its facts, and a sentence on it."""
     if status == 4:
         needed = int(reason.split(" ")[-1])
