@@ -6,30 +6,46 @@
 #   2    mean 7.000000 7.000000
 #   3   q:0.9       10       10
 #
+# decl_run    the report on asks about a text
+# decl_check  the fault of a text, if it has one
+# decl_fmt    a text in its one canonical spelling
+# decl_made   a made program
+# decl_bucket the greatest size of a bucket that divides every amount of a text
+# decl_grid   the least log2 with which so much probability is sure to lie inside the grid
+#
 # The program is the one that the variable DECL names, else decl on the path. Where there is no report, an error of
 # class decl_fault is raised. It has the fields status, told (what the program said), line, column, unit, rule, name,
-# word, ask and needed; those that a fault has not are NULL.
+# sentence (what the rule asks), word, ask and needed; those that a fault has not are NULL.
+#
+# The options are those of the program (docs/USAGE.md); NULL leaves one out. A number is given in one of three ways:
+#
+#   bs = 250, bs = 0.25   a whole number of at most 15 digits, or a decimal of at most 11: passed on as it is
+#   bs = 1/3              a double that is none of these: passed on as the fraction that R holds as this double, whose
+#                         denominator is at most 1,000,000; an error where there is none, as for pi
+#   bs = "1/3"            a text: passed on as it is
 
-# Answers the asks about the text: a data.frame with the columns ask, low and high, one row for each ask, and the
-# attributes bs and cells.
+# The report on the asks about the text: a data.frame with the columns ask, low and high, one row for each ask, and the
+# attributes bs (the size of a bucket in money, as text in lowest terms) and cells (the number of buckets of the grid).
 #
 # text     one string, several lines, or raw bytes
-# asks     words such as "mean", "q:0.995", "layer:10xs5"
-# ...      bs, log2, digits, width, mwidth, make, as docs/USAGE.md tells them
+# asks     words such as "mean", "q:0.995", "layer:10xs5", with amounts in buckets
 # numeric  FALSE gives the ends as the program wrote them, exact decimals as text; TRUE gives doubles, low ends
 #          rounded down and high ends up: an end beyond the grid is then infinite, and one that is not there is NA
 # timeout  seconds after which the program is ended; 0 for none
-decl_run <- function(text, asks, ..., numeric = FALSE, timeout = 0) {
-    words <- c("run", "--format", "csv", decl_options(list(...)), as.character(asks))
+decl_run <- function(text, asks, bs = NULL, log2 = NULL, digits = NULL, width = NULL, mwidth = NULL, make = NULL,
+                     numeric = FALSE, timeout = 0) {
+    given <- decl_options(bs = bs, log2 = log2, digits = digits, width = width, mwidth = mwidth, make = make)
+    words <- c("run", "--format", "json", given, as.character(asks))
     rows <- decl_rows(decl_call(words, text, asks, timeout), asks)
     if (numeric) decl_numeric(rows) else rows
 }
 
-# Raises the fault of the text, if it has one; evaluates nothing.
-decl_check <- function(text, ..., timeout = 0) {
+# Raises the fault of the text, if it has one; evaluates nothing. The rules on whole buckets are asked at bs, and the
+# one on the sum before an aggregate clause at log2.
+decl_check <- function(text, bs = NULL, log2 = NULL, timeout = 0) {
     past <- "pmf:999999999"
     found <- tryCatch(
-        decl_call(c("run", decl_options(list(...)), past), text, past, timeout),
+        decl_call(c("run", decl_options(bs = bs, log2 = log2), past), text, past, timeout),
         decl_fault = function(fault) if (identical(fault$status, 8L)) NULL else stop(fault)
     )
     if (!is.null(found)) stop(decl_fault("decl answered an ask past every grid"))
@@ -41,19 +57,226 @@ decl_fmt <- function(text, timeout = 0) {
     paste0(decl_call("fmt", text, character(), timeout), "\n", collapse = "")
 }
 
-# Settings as words of the command line.
-decl_options <- function(settings) {
-    known <- c("bs", "log2", "digits", "width", "mwidth", "make")
-    unknown <- setdiff(names(settings), known)
-    if (length(unknown) || (length(settings) && is.null(names(settings)))) {
-        stop("options are named, and are: ", paste(known, collapse = ", "))
+# The made program of this number, 0 to 4294967295: a portfolio to measure and to compare with.
+decl_made <- function(number, timeout = 0) {
+    paste0(decl_call(c("fmt", decl_options(make = number)), "", character(), timeout), "\n", collapse = "")
+}
+
+# The greatest size of a bucket that divides every amount, limit and attachment of the text, as text: "250", "1/2".
+#
+# Where a clause takes a share, its outcomes have to be whole numbers of buckets too. Then the size is the greatest that
+# divides these as well, found by asking the program; with shares = FALSE the written amounts alone count.
+decl_bucket <- function(text, shares = TRUE, timeout = 0) {
+    tokens <- decl_tokens(decl_fmt(text, timeout))
+    size <- Reduce(decl_common, decl_amounts(tokens), c(0, 1))
+    if (size[1] == 0) size <- c(1, 1)
+    parts <- 1
+    for (share in if (shares) decl_shares(tokens)) parts <- unique(c(outer(parts, decl_divisors(share[2]))))
+    off_grid <- 13L
+    for (part in sort(parts)) {
+        found <- decl_written(decl_reduced(size[1], size[2] * part))
+        if (!shares) return(found)
+        fault <- tryCatch({
+            decl_check(text, bs = found, log2 = 1, timeout = timeout)
+            return(found)
+        }, decl_fault = function(fault) if (identical(fault$rule, off_grid)) fault else stop(fault))
     }
-    as.character(unlist(lapply(names(settings), function(name) {
-        value <- settings[[name]]
-        if (is.null(value)) return(character())
-        spelled <- if (is.character(value)) value else format(value, scientific = FALSE, digits = 15, trim = TRUE)
-        c(paste0("--", name), spelled)
+    stop(fault)
+}
+
+# The least log2 with which at least so much probability is sure to lie inside the grid. inside is a number or a text:
+# a decimal, a fraction or a percent. digits and width are those of the probability that is asked of each grid. An error
+# of class decl_fault, with the fields low and high of the largest grid, where that is not sure to hold so much.
+decl_grid <- function(text, inside = "0.999999", bs = NULL, digits = 9, width = 1e9, make = NULL, timeout = 0) {
+    wanted <- decl_digits(decl_value(decl_spelled(inside, "inside")), digits)
+    largest <- 12
+    for (log2 in seq_len(largest)) {
+        row <- decl_run(text, sprintf("cdf:%d", 2^log2 - 1), bs = bs, log2 = log2, digits = digits, width = width,
+                        make = make, timeout = timeout)
+        if (as.numeric(sub(".", "", row$low, fixed = TRUE)) >= wanted) return(log2)
+    }
+    stop(decl_fault(
+        sprintf("the largest grid, of %d buckets, holds a probability from %s to %s; take larger buckets",
+                2^largest, row$low, row$high),
+        low = row$low, high = row$high
+    ))
+}
+
+# What each typing rule asks, by its number; docs/LANGUAGE.md has them as a table, with examples.
+decl_sentences <- c(
+    "Two units have the same name; each unit of a portfolio needs its own.",
+    "A numeral has at most 11 digits (9 before a percent sign, 11 in each part of a fraction) and no fraction is over 0.",
+    "A range runs upward, by a step above 0, with a common denominator of at most 1,000,000.",
+    "A list has at most 1,024 values, a severity at most 64 atoms, a clause at most 16 layers.",
+    "A list of probabilities needs as many values as the list before it.",
+    "Probabilities and weights have to add up to 1; nothing is rescaled.",
+    "Each amount, limit and attachment has to be a whole number of buckets; decl_bucket(text) tells the greatest bucket.",
+    "No amount, limit or attachment, nor the end of a layer, may pass 1,048,576 buckets; take larger buckets.",
+    "wts needs one weight for each severity of the mixture.",
+    "No claim can exceed the attachment of the layer; put a ! behind the severity to keep the claims that do not.",
+    "Two layers of one clause overlap; layers may touch.",
+    "A share is at most 1, and a part (po) at most its limit, which is neither 0 nor inf.",
+    "What the clause makes of an amount is no whole number of buckets; decl_bucket(text) tells a bucket that is fine enough.",
+    "A loss or a premium cannot tell how many claims there are, since no claim is above 0 in the layer.",
+    "A fixed or a listed number of claims has to be whole.",
+    "A bernoulli count has one claim at most, so its expected number is at most 1.",
+    "The probability of binomial lies above 0 and at most at 1, and the expected number of claims over it is a whole number of trials.",
+    "mixed gamma c needs a c above 0 with 1 / c^2 whole, such as 1, 1/2, 0.25 or 0.2.",
+    "Probabilities, shares or weights have too fine a common denominator (above 2^30), or the expected count or loss is too fine a fraction.",
+    "Too many claims: at most 256 of listed counts, 65,536 of fixed counts and trials, 4,096 expected ones above 0 of poisson and mixed gamma, and a shape of at most 10,000.",
+    "The aggregate clause needs more than 16,384 buckets of the sum before it; take larger buckets or a smaller grid.",
+    "A portfolio has at most 16 units."
+)
+
+# The options as words of the command line; those that are NULL are left out.
+decl_options <- function(...) {
+    given <- list(...)
+    as.character(unlist(lapply(names(given), function(name) {
+        if (!is.null(given[[name]])) c(paste0("--", name), decl_spelled(given[[name]], name))
     })))
+}
+
+# A number as a word of the command line, exactly; name is for messages.
+decl_spelled <- function(value, name) {
+    if (is.character(value) && length(value) == 1L) return(value)
+    if (!is.numeric(value) || length(value) != 1L || !is.finite(value)) {
+        stop(name, " is one number, or a text such as \"1/3\"")
+    }
+    decimal <- decl_plain(value)
+    if (nchar(decimal) > 12L) decimal <- sub("^0[.]", ".", decimal)
+    most <- if (value == round(value)) 15L else 11L
+    if (as.numeric(decimal) == value && nchar(gsub("[^0-9]", "", decimal)) <= most) return(decimal)
+    fraction <- decl_fraction(value)
+    if (is.null(fraction)) stop(name, " = ", decimal, " is no decimal or fraction that decl takes; give it as text")
+    fraction
+}
+
+# A number in digits, with no exponent.
+decl_plain <- function(value) {
+    format(as.numeric(value), scientific = FALSE, digits = 15, trim = TRUE, decimal.mark = ".")
+}
+
+# The fraction with a denominator of at most 1,000,000 that is this double: a convergent of its continued fraction; NULL
+# where there is none.
+decl_fraction <- function(value) {
+    above <- c(0, 1)
+    below <- c(1, 0)
+    rest <- value
+    for (step in 1:40) {
+        whole <- floor(rest)
+        above <- c(above[2], whole * above[2] + above[1])
+        below <- c(below[2], whole * below[2] + below[1])
+        if (below[2] > 1e6) return(NULL)
+        if (above[2] / below[2] == value) return(decl_written(c(above[2], below[2])))
+        rest <- 1 / (rest - whole)
+    }
+    NULL
+}
+
+# A fraction here is two whole numbers, which doubles hold exactly up to 2^53; this stops where they do not.
+decl_exact <- function(number) {
+    if (any(abs(number) > 2^53)) stop(decl_fault("the amounts have too fine a common denominator for R's numbers"))
+    number
+}
+
+# The greatest whole number that divides both.
+decl_gcd <- function(first, second) {
+    while (second != 0) {
+        rest <- first %% second
+        first <- second
+        second <- rest
+    }
+    first
+}
+
+# A fraction in lowest terms.
+decl_reduced <- function(above, below) {
+    decl_exact(c(above, below)) / decl_gcd(above, below)
+}
+
+# A fraction as text.
+decl_written <- function(fraction) {
+    paste(c(decl_plain(fraction[1]), if (fraction[2] != 1) decl_plain(fraction[2])), collapse = "/")
+}
+
+# The fraction that a numeral spells: a decimal, a percent or a fraction.
+decl_value <- function(numeral) {
+    over <- if (endsWith(numeral, "%")) 100 else 1
+    parts <- strsplit(sub("%", "", numeral, fixed = TRUE), "/", fixed = TRUE)[[1]]
+    if (length(parts) == 2L) return(decl_reduced(as.numeric(parts[1]), as.numeric(parts[2]) * over))
+    places <- if (grepl(".", parts, fixed = TRUE)) nchar(sub("^[^.]*[.]", "", parts)) else 0
+    decl_reduced(as.numeric(sub(".", "", parts, fixed = TRUE)), 10^places * over)
+}
+
+# The least whole number of units of the last of so many digits that is at least the fraction, by long division.
+decl_digits <- function(fraction, digits) {
+    found <- fraction[1] %/% fraction[2]
+    rest <- fraction[1] %% fraction[2]
+    for (digit in seq_len(digits)) {
+        found <- 10 * found + (10 * rest) %/% fraction[2]
+        rest <- (10 * rest) %% fraction[2]
+    }
+    found + (rest > 0)
+}
+
+# The greatest fraction that divides both: over fractions in lowest terms, the greatest common divisor of what is above
+# over the least common multiple of what is below.
+decl_common <- function(first, second) {
+    below <- decl_exact(first[2] / decl_gcd(first[2], second[2]) * second[2])
+    decl_reduced(decl_gcd(first[1], second[1]), below)
+}
+
+# The whole numbers that divide a number.
+decl_divisors <- function(number) {
+    small <- seq_len(floor(sqrt(number)))
+    small <- small[number %% small == 0]
+    unique(c(small, number / small))
+}
+
+# The tokens of a canonical text, without its notes.
+decl_tokens <- function(text) {
+    token <- "note\\{[^{}]*\\}|[0-9]+/[0-9]+|([0-9]+[.]?[0-9]*|[.][0-9]+)%?|[A-Za-z][A-Za-z0-9_-]*|[][:,!]"
+    found <- regmatches(text, gregexpr(token, text, perl = TRUE))[[1]]
+    found[!startsWith(found, "note{")]
+}
+
+# The amounts, limits and attachments of a canonical text: of a range its first amount, and its step where it has a
+# second amount.
+decl_amounts <- function(tokens) {
+    found <- list()
+    for (at in which(tokens == "dsev")) {
+        last <- at + which(tokens[-seq_len(at)] == "]")[1]
+        for (item in strsplit(gsub(" ?: ?", ":", paste(tokens[(at + 2):(last - 1)], collapse = " ")), " ")[[1]]) {
+            numbers <- lapply(strsplit(item, ":", fixed = TRUE)[[1]], decl_value)
+            step <- if (length(numbers) == 3L) numbers[[3]] else c(1, 1)
+            span <- if (length(numbers) > 1L) decl_less(numbers[[2]], numbers[[1]]) else c(0, 1)
+            found <- c(found, numbers[1], if (decl_less(span, step)[1] >= 0) list(step))
+        }
+    }
+    for (at in which(tokens == "xs")) {
+        ends <- tokens[c(at - 1, at + 1)]
+        found <- c(found, lapply(ends[ends != "inf"], decl_value))
+    }
+    found
+}
+
+# A fraction less another.
+decl_less <- function(first, second) {
+    over <- decl_gcd(first[2], second[2])
+    above <- decl_exact(first[1] * (second[2] / over)) - decl_exact(second[1] * (first[2] / over))
+    decl_reduced(above, decl_exact(first[2] / over * second[2]))
+}
+
+# The shares of the clauses of a canonical text.
+decl_shares <- function(tokens) {
+    found <- lapply(tokens[which(tokens == "so") - 1], decl_value)
+    for (at in which(tokens == "po")) {
+        part <- decl_value(tokens[at - 1])
+        limit <- if (tokens[at + 1] == "inf") c(0, 1) else decl_value(tokens[at + 1])
+        if (limit[1] == 0) next
+        found <- c(found, list(decl_reduced(decl_exact(part[1] * limit[2]), decl_exact(part[2] * limit[1]))))
+    }
+    found
 }
 
 # Runs the program once, and gives the lines that it wrote.
@@ -83,17 +306,20 @@ decl_bytes <- function(text) {
     bytes
 }
 
-# The rows of a report in CSV; it has to be whole.
+# The rows of a report in JSON, which is one line; it has to be whole.
 decl_rows <- function(lines, asks) {
     bad <- decl_fault("what decl wrote is no whole report; nothing of it is used")
-    if (length(lines) != length(asks) + 1L || lines[1] != "ask,low,high") stop(bad)
-    parts <- strsplit(lines[-1], ",", fixed = TRUE)
-    if (!all(lengths(parts) == 3L)) stop(bad)
-    rows <- data.frame(
-        ask = vapply(parts, `[`, "", 1L), low = vapply(parts, `[`, "", 2L), high = vapply(parts, `[`, "", 3L),
-        stringsAsFactors = FALSE
-    )
+    parts <- function(pattern, text) regmatches(text, regexec(pattern, text))
+    if (length(lines) != 1L) stop(bad)
+    whole <- parts('^\\{"bs":"([0-9/]+)","cells":([0-9]+),"rows":\\[\\{(.*)\\}\\]\\}$', lines)[[1]]
+    if (length(whole) != 4L) stop(bad)
+    found <- parts('^"ask":"([^"]*)","high":"([^"]*)","low":"([^"]*)"$', strsplit(whole[4], "},{", fixed = TRUE)[[1]])
+    if (!all(lengths(found) == 4L)) stop(bad)
+    part <- function(at) vapply(found, `[`, "", at)
+    rows <- data.frame(ask = part(2L), low = part(4L), high = part(3L), stringsAsFactors = FALSE)
     if (!identical(rows$ask, as.character(asks))) stop(bad)
+    attr(rows, "bs") <- whole[2]
+    attr(rows, "cells") <- as.integer(whole[3])
     rows
 }
 
@@ -135,11 +361,12 @@ decl_fault_of <- function(status, said, bytes, asks, timeout) {
     whole <- function(text) if (is.null(text)) NULL else as.integer(text)
     place <- whole(part("^decl: ([0-9]+):([0-9]+): "))
     rule <- part("unit ([0-9]+): rule ([0-9]+) ([A-Za-z]+)")
+    sentence <- if (!is.null(rule)) decl_sentences[as.integer(rule[2])]
     decl_fault(
-        paste0(said, decl_pointed(bytes, place)),
+        paste(c(paste0(said, decl_pointed(bytes, place)), sentence), collapse = "\n"),
         status = status, told = said, line = place[1], column = place[2], unit = whole(rule[1]), rule = whole(rule[2]),
-        name = rule[3], word = part("continuous severity ([a-z]+)"), ask = whole(part("ask ([0-9]+): ")),
-        needed = part("needs width ([0-9]+)")
+        name = rule[3], sentence = sentence, word = part("continuous severity ([a-z]+)"),
+        ask = whole(part("ask ([0-9]+): ")), needed = part("needs width ([0-9]+)")
     )
 }
 

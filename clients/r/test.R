@@ -46,6 +46,65 @@ test("options", {
     stopifnot(identical(rows$low, "0.3333"))
     stopifnot(inherits(try(decl_run(die, "mean", grid = 3), silent = TRUE), "try-error"))
 })
+test("the size of a bucket and the number of buckets are attributes", {
+    rows <- decl_run("agg H dfreq [1] dsev [0.5 1 1.5]", "mean", bs = "0.5", log2 = 4)
+    stopifnot(identical(attr(rows, "bs"), "1/2"), identical(attr(rows, "cells"), 16L))
+    rows <- decl_run("agg H dfreq [1] dsev [500 1000]", c("mean", "q:0.9"), bs = 250, numeric = TRUE)
+    stopifnot(identical(attr(rows, "bs"), "250"), identical(attr(rows, "cells"), 1024L), rows$low[2] == 4)
+})
+test("a fraction is passed on exactly", {
+    text <- "agg T dfreq [1] dsev [1/3 2/3 1]"
+    for (third in list(1/3, "1/3")) {
+        rows <- decl_run(text, "mean", bs = third, log2 = 4)
+        stopifnot(identical(attr(rows, "bs"), "1/3"), identical(rows$low, "2.000000"))
+    }
+    spelled <- vapply(list(250, 250L, 0.25, 1/3, 2/7, 355/113, 1e-5, 1e12, 1e5, 0.12345678901), decl_spelled, "", "bs")
+    wanted <- c("250", "250", "0.25", "1/3", "2/7", "355/113", "0.00001", "1000000000000", "100000", ".12345678901")
+    stopifnot(identical(spelled, wanted))
+    for (bad in list(pi, NA, c(1, 2), TRUE, Inf)) {
+        stopifnot(inherits(try(decl_run(text, "mean", bs = bad), silent = TRUE), "try-error"))
+    }
+})
+test("the size of a bucket that divides all amounts", {
+    stopifnot(decl_bucket("agg A 2 claims 20000 xs 1500 dsev [500 1750 4000] poisson") == "250")
+    stopifnot(decl_bucket("agg A dfreq [1] dsev [0.5 1 1.5]") == "1/2")
+    stopifnot(decl_bucket("agg A dfreq [1] dsev [1/3 1/2]") == "1/6")
+    stopifnot(decl_bucket("agg A dfreq [1] dsev [12.5% 50%]") == "1/8", decl_bucket("agg A dfreq [1] dsev [0]") == "1")
+    stopifnot(decl_bucket("agg A dfreq [1] dsev [100:600:50]") == "50", decl_bucket("agg A dfreq [1] dsev [2:6]") == "1")
+    stopifnot(decl_bucket("agg A dfreq [1] dsev [100:149:50]") == "100")
+    text <- "agg A dfreq [1 3] [0.25 0.75] sev dhistogram xps [4, 8] [1/2 1/2] note{7 xs 3} # 5 xs 1"
+    stopifnot(decl_bucket(text) == "4")
+    text <- "agg A dfreq [1] dsev [40 80] occurrence net of 30 xs 20 aggregate ceded to inf xs 25"
+    stopifnot(decl_bucket(text) == "5")
+    stopifnot(fault(decl_bucket("agg D dfreq [1] dsev [1 2] [1/3 1/3]"))$rule == 6)
+})
+test("shares ask for finer buckets", {
+    text <- "agg N dfreq [1] dsev [1 3] occurrence net of 0.5 so 4 xs 0"
+    stopifnot(decl_bucket(text) == "1/2", decl_bucket(text, shares = FALSE) == "1")
+    stopifnot(decl_check(text, bs = decl_bucket(text)))
+    stopifnot(decl_bucket("agg N dfreq [1] dsev [2 4 6] occurrence net of 0.5 so 4 xs 2") == "1")
+    stopifnot(decl_bucket("agg N dfreq [1] dsev [6] occurrence net of 1 po 4 xs 2") == "1")
+    stopifnot(decl_bucket("agg N dfreq [1] dsev [7] occurrence net of 1 po 3 xs 2 and 1/5 so 1 xs 5") == "1/5")
+})
+test("the least grid that holds so much", {
+    stopifnot(decl_grid(dice) == 4, decl_grid(dice, "50%") == 3, decl_grid(dice, 1/6) == 3)
+    stopifnot(decl_grid(dice, "0.583333333") == 3, decl_grid(dice, "7/12") == 4) # at most 7 has the probability 7/12
+    poisson <- "agg P 10 claims dsev [1] poisson"
+    stopifnot(decl_grid(poisson, 0.97) == 5, decl_grid(poisson, 0.95) == 4)
+    found <- fault(decl_grid("agg A dfreq [1] dsev [0 5000]", 0.9))
+    stopifnot(grepl("take larger buckets", conditionMessage(found)), found$low == "0.500000000")
+})
+test("made programs", {
+    stopifnot(startsWith(decl_made(0), "port Made\nagg U1 34 claims dsev [1:9] poisson\nagg U2 31 claims"))
+    stopifnot(identical(decl_run(decl_made(7), "mean")$low, decl_run("", "mean", make = 7)$low))
+})
+test("the sentences of the rules are those of the Python client", {
+    lines <- readLines(file.path(here, "..", "python", "src", "decl", "rules.py"))
+    told <- regmatches(lines, regexec('^ +([0-9]+): "(.*)",$', lines))
+    told <- told[lengths(told) == 3L]
+    stopifnot(identical(as.integer(vapply(told, `[`, "", 2L)), seq_along(decl_sentences)))
+    stopifnot(identical(gsub("decl.bucket", "decl_bucket", vapply(told, `[`, "", 3L), fixed = TRUE), decl_sentences))
+})
 test("several lines, and raw bytes", {
     stopifnot(identical(decl_run(c("agg D dfreq [1]", "dsev [1:6]"), "mean")$low, "3.500000"))
     stopifnot(identical(decl_run(charToRaw(die), "mean")$low, "3.500000"))
@@ -57,7 +116,8 @@ test("fmt and check", {
 test("faults of a text, with their place", {
     found <- fault(decl_check("agg D dfreq [1] dsev [1 2] [1/3 1/3]"))
     stopifnot(found$status == 3, found$line == 1, found$column == 28, found$unit == 0, found$rule == 6)
-    stopifnot(found$name == "NotOne", grepl("\n {29}\\^$", conditionMessage(found)))
+    stopifnot(found$name == "NotOne", grepl("\n {29}\\^\n", conditionMessage(found)))
+    stopifnot(grepl("add up to 1; nothing is rescaled.$", conditionMessage(found)), found$sentence == decl_sentences[6])
     found <- fault(decl_run("agg C 10 claims sev lognorm 50 cv 1.75 poisson", "mean"))
     stopifnot(found$word == "lognorm", found$column == 21)
     stopifnot(fault(decl_run("", "mean"))$told == "decl: 1:1: syntax")
@@ -74,8 +134,12 @@ test("no program, a killed one, half a report", {
     stopifnot(grepl("no program", conditionMessage(fault(decl_run(die, "mean")))))
     instead("kill -KILL $$")
     stopifnot(grepl("signal 9", conditionMessage(fault(decl_run(die, "mean")))))
-    instead("cat > /dev/null; printf 'ask,low,high\\nmean,3.5'")
-    stopifnot(grepl("no whole report", conditionMessage(fault(decl_run(die, "mean")))))
+    for (half in c('{"bs":"1","cells":16,"rows":[{"ask":"mean","high":"3.5', "", "ask,low,high")) {
+        instead(sprintf("cat > /dev/null; printf '%s'", half))
+        stopifnot(grepl("no whole report", conditionMessage(fault(decl_run(die, "mean")))))
+    }
+    instead('exec "$BUILT" run --format json mean')
+    stopifnot(grepl("no whole report", conditionMessage(fault(decl_run(die, c("mean", "pmf:1"))))))
 })
 test("a NUL byte, and no UTF-8", {
     stopifnot(grepl("NUL", conditionMessage(fault(decl_run(as.raw(c(97, 0, 98)), "mean")))))
