@@ -1,56 +1,55 @@
 #!/usr/bin/env python3
 """Evaluates each program of a folder on a Dask cluster, through the Python client.
 
-    with_dask.py FOLDER OUT [--scheduler ADDRESS] [--workers N] [--log2 N] [--digits N] ASK..
+    with_dask.py FOLDER OUT [--scheduler ADDRESS] [--workers N] WORD..
 
-With no address a cluster is started on this machine. The rows of each program go to OUT/NAME.csv, whole or not at all; what
-a failed run said goes to OUT/NAME.failed. A program that has rows is not evaluated again. OUT/all.csv has all rows. A task
-whose worker is lost is run again by another worker.
+The words are options and asks of `decl run`, as on its command line. With no address a cluster is started on this
+machine. The rows of each program go to OUT/rows/NAME.csv, whole or not at all, as `decl` writes them; what a failed run
+said goes to OUT/rows/NAME.failed. A program that has rows is not evaluated again. OUT/all.csv has all rows. A task whose
+worker is lost is run again by another worker.
 """
 
 import argparse
-import csv
 import os
 import pathlib
+import subprocess
 import sys
 
 from distributed import Client, LocalCluster, as_completed
 
 import decl
 
+HERE = pathlib.Path(__file__).resolve().parent
+OPTIONS = ("bs", "log2", "digits", "width", "mwidth", "make")
+
 #: What another try can mend, and how many tries there are.
 OF_THE_MACHINE = (decl.Killed, decl.OutOfMemory, decl.ReadFault, decl.WriteFault)
 TRIES = 3
 
 
-def evaluate(name, text, asks, settings):
-    """The rows of one program, on a worker; a fault of the program is an answer too, and what was killed is run again."""
-    told = None
+def evaluate(name, text, asks, options):
+    """The CSV report on one program, or what the fault said, on a worker; what was killed is run again."""
+    said = None
     for _ in range(TRIES):
         try:
-            return name, [(row.ask, *row.written) for row in decl.run(text, asks, **settings)], None
+            return name, decl.report(text, asks, "csv", **options), None
         except decl.DeclError as fault:
-            told = str(fault)
+            said = f"{fault}\n" if fault.status is None else f"{fault}\nstatus {fault.status}\n"
             if not isinstance(fault, OF_THE_MACHINE):
                 break
-    return name, None, told
+    return name, None, said
 
 
-def write(path, lines):
-    """Writes a file whole or not at all."""
-    part = path.with_suffix(path.suffix + ".part")
-    with part.open("w", newline="") as file:
-        csv.writer(file, lineterminator="\n").writerows(lines)
-    os.replace(part, path)
-
-
-def keep(out, name, rows, fault):
-    """Keeps what came of one program."""
-    failed = out / f"{name}.failed"
-    if rows is None:
-        failed.write_text(fault + "\n")
+def keep(rows, name, report, said):
+    """Keeps what came of one program in the folder of rows: a whole report, or what the fault said."""
+    kept, failed = rows / f"{name}.csv", rows / f"{name}.failed"
+    kept.parent.mkdir(parents=True, exist_ok=True)
+    if report is None:
+        failed.write_text(said, encoding="utf-8")
         return
-    write(out / f"{name}.csv", [("ask", "low", "high"), *rows])
+    part = rows / f"{name}.part.{os.getpid()}"
+    part.write_text(report, encoding="utf-8")
+    os.replace(part, kept)
     failed.unlink(missing_ok=True)
 
 
@@ -59,56 +58,73 @@ def bar(done, count):
     print(f"\r[{'#' * (40 * done // count):40}] {done} of {count}", end="", file=sys.stderr, flush=True)
 
 
-def collect(programs, out):
-    """Puts all rows into one file, and tells how many programs have none."""
-    lines, none = [("program", "ask", "low", "high")], 0
-    for program in programs:
-        rows = out / f"{program.stem}.csv"
-        if not rows.exists():
-            none += 1
-            continue
-        with rows.open(newline="") as file:
-            lines += [(program.stem, *row) for row in list(csv.reader(file))[1:]]
-    write(out / "all.csv", lines)
-    return none
+def parted(words):
+    """The asks of the words, and their options by name, as the client takes them."""
+    asks, options, left = [], {}, list(words)
+    while left:
+        word = left.pop(0)
+        name, equal, value = word.partition("=")
+        if not word.startswith("--"):
+            asks.append(word)
+        elif name[2:] not in OPTIONS or name[2:] in options or not (equal or left):
+            sys.exit(f"with_dask.py: {word} is no option of decl, has no value or stands twice")
+        else:
+            options[name[2:]] = value if equal else left.pop(0)
+    return asks, options
 
 
 def read_words():
-    """The words of the command line."""
-    reader = argparse.ArgumentParser(description=__doc__.splitlines()[0])
-    reader.add_argument("folder", type=pathlib.Path)
-    reader.add_argument("out", type=pathlib.Path)
-    reader.add_argument("asks", nargs="+")
+    """The words for the cluster, and those behind them as they are: the folder, OUT, and the words of decl."""
+    reader = argparse.ArgumentParser(
+        usage="with_dask.py FOLDER OUT [--scheduler ADDRESS] [--workers N] WORD..",
+        description=__doc__.splitlines()[0],
+        allow_abbrev=False,
+    )
     reader.add_argument("--scheduler")
     reader.add_argument("--workers", type=int, default=os.cpu_count())
-    for option in ("--log2", "--digits", "--width", "--mwidth"):
-        reader.add_argument(option, type=int)
-    return reader.parse_args()
+    cluster, words = reader.parse_known_args()
+    if len(words) < 3:
+        reader.error("a folder, OUT and words are needed")
+    return cluster, pathlib.Path(words[0]), pathlib.Path(words[1]), words[2:]
 
 
-def main():
-    """Hands out what has no rows yet, and keeps each answer as it comes."""
-    words = read_words()
-    words.out.mkdir(parents=True, exist_ok=True)
-    settings = {name: getattr(words, name) for name in ("log2", "digits", "width", "mwidth")}
-    programs = sorted(words.folder.glob("*.decl"))
-    wanted = [program for program in programs if not (words.out / f"{program.stem}.csv").exists()]
-    cluster = None if words.scheduler else LocalCluster(
-        n_workers=words.workers, threads_per_worker=1, processes=True, dashboard_address=None
-    )
-    with Client(words.scheduler or cluster) as client:
-        tasks = [
-            client.submit(evaluate, program.stem, program.read_text(), words.asks, settings, pure=False, retries=TRIES)
-            for program in wanted
-        ]
+def helper(name, *words, **how):
+    """Runs one of the scripts beside this one, which the other ways go by too. Where its words are refused, so are these."""
+    done = subprocess.run([HERE / name, *words], env={**os.environ, "DECL_MANY": str(HERE)}, **how)
+    if done.returncode == 2:
+        sys.exit(2)
+    return done
+
+
+def evaluate_all(names, folder, rows, asks, options, of_cluster):
+    """Hands out the programs of these names, and keeps each report as it comes."""
+    cluster = None
+    if of_cluster.scheduler is None:
+        workers = of_cluster.workers
+        cluster = LocalCluster(n_workers=workers, threads_per_worker=1, processes=True, dashboard_address=None)
+    with Client(of_cluster.scheduler or cluster) as client:
+        tasks = []
+        for name in names:
+            text = (folder / f"{name}.decl").read_bytes()
+            tasks.append(client.submit(evaluate, name, text, asks, options, pure=False, retries=TRIES))
         for done, task in enumerate(as_completed(tasks), 1):
-            keep(words.out, *task.result())
+            keep(rows, *task.result())
             bar(done, len(tasks))
     if cluster is not None:
         cluster.close()
-    none = collect(programs, words.out)
-    print(f"\n{len(programs) - none} programs with rows, {none} without: {words.out / 'all.csv'}")
-    return 1 if none else 0
+    print(file=sys.stderr)
+
+
+def main():
+    """Evaluates what has no rows yet, and collects all rows."""
+    of_cluster, folder, out, words = read_words()
+    asks, options = parted(words)
+    helper("keep_words", out, *words)
+    found = helper("programs", folder, out, stdout=subprocess.PIPE).stdout
+    names = [os.fsdecode(name) for name in found.split(b"\0")[:-1]]
+    if names:
+        evaluate_all(names, folder, out / "rows", asks, options, of_cluster)
+    return helper("collect", folder, out).returncode
 
 
 if __name__ == "__main__":
