@@ -1,0 +1,105 @@
+#!/usr/bin/env python3
+"""Checks docs/decl.1 against the other pages, and runs its examples.
+
+It renders without a warning (where groff is installed); its version is that of CHANGELOG.md and of the Python client; each option, ask
+and message of docs/USAGE.md and each rule of docs/LANGUAGE.md is in it; and each example writes what stands below it, where `$ cat FILE`
+makes the file. The program is DECL, else crates/decl/out/decl. The last line is 'N passed, M failed'.
+"""
+
+import os
+import pathlib
+import re
+import shutil
+import subprocess
+import sys
+import tempfile
+
+ROOT = pathlib.Path(__file__).resolve().parent.parent
+PAGE = ROOT / "docs" / "decl.1"
+
+
+def read(name):
+    """The text of a file of the repository."""
+    return (ROOT / name).read_text(encoding="utf-8")
+
+
+def plain(text):
+    """A page as it is read: without requests, fonts and escapes, with one blank between two words."""
+    words = []
+    for line in text.splitlines():
+        alternates = re.match(r"\.(BI|IB|RI|IR|BR|RB) (.*)", line)
+        if alternates:
+            parts = re.findall(r'"([^"]*)"|(\S+)', alternates[2])
+            words.append("".join(quoted or bare for quoted, bare in parts))
+        else:
+            words.append(re.sub(r"^\.(B|I|SH|TP|PP|nf|fi|br|RS|RE)\b ?", "", line))
+    return " ".join(re.sub(r"\\f.|\\&", "", " ".join(words)).replace("\\-", "-").replace('"', "").split())
+
+
+def named():
+    """What the man page has to say, each with the page that says it too."""
+    usage = read("docs/USAGE.md")
+    for option in re.findall(r"^\| `(--[a-z0-9]+) ", usage, re.M):
+        yield "docs/USAGE.md", option
+    for ask in re.findall(r"^\| `((?:pmf|cdf|q|layer|tail|joint|kappa):[^`]*|mean)` \|", usage, re.M):
+        yield "docs/USAGE.md", ask
+    for message in re.findall(r"`(decl: [^`]*)`", usage[usage.index("## How it ends") :]):
+        yield "docs/USAGE.md", message
+    for number, name in re.findall(r"^\| (\d+) ([A-Z][A-Za-z]+) \|", read("docs/LANGUAGE.md"), re.M):
+        yield "docs/LANGUAGE.md", f"{number} {name}"
+
+
+def versions():
+    """Each place of the version, with the version."""
+    yield "docs/decl.1", re.search(r'^\.TH DECL 1 "[0-9-]+" "decl ([0-9.]+)"', PAGE.read_text(), re.M)[1]
+    yield "CHANGELOG.md", re.search(r"[0-9]+\.[0-9]+\.[0-9]+", read("CHANGELOG.md"))[0]
+    yield "clients/python/pyproject.toml", re.search(r'^version = "([0-9.]+)"', read("clients/python/pyproject.toml"), re.M)[1]
+
+
+def examples():
+    """The commands of the page, each with the lines below it."""
+    found = []
+    for block in re.findall(r"^\.nf\n(.*?)^\.fi", PAGE.read_text(), re.M | re.S):
+        for line in block.replace("\\-", "-").splitlines():
+            if line.startswith("    $ "):
+                found.append((line[6:], []))
+            elif found and line.startswith("    "):
+                found[-1][1].append(line[4:])
+    return found
+
+
+def wrong():
+    """For each thing that is checked, what is wrong with it, or nothing."""
+    if shutil.which("groff"):
+        done = subprocess.run(["groff", "-ww", "-man", "-Tutf8", PAGE], capture_output=True, text=True)
+        yield done.stderr and f"groff warns: {done.stderr}"
+    found = dict(versions())
+    for place, version in found.items():
+        yield version != found["docs/decl.1"] and f"the man page has version {found['docs/decl.1']}, and {place} has {version}"
+    text = plain(PAGE.read_text())
+    for place, words in named():
+        yield words not in text and f"{place} says {words}, and the man page does not"
+    built = os.path.abspath(os.environ.get("DECL") or ROOT / "crates" / "decl" / "out" / "decl")
+    with tempfile.TemporaryDirectory() as folder:
+        os.symlink(built, pathlib.Path(folder) / "decl")
+        world = {**os.environ, "PATH": folder + os.pathsep + os.environ["PATH"]}
+        for command, stored in examples():
+            if command.startswith("cat "):
+                pathlib.Path(folder, command[4:]).write_text("\n".join(stored) + "\n")
+                continue
+            done = subprocess.run(["bash", "-c", command], cwd=folder, env=world, capture_output=True, text=True)
+            yield (done.stdout + done.stderr).splitlines() != stored and f"$ {command}\nwrites\n{done.stdout}{done.stderr}"
+
+
+def main():
+    """Checks the page."""
+    found = [*wrong()]
+    for what in filter(None, found):
+        print("FAILED:", what)
+    failed = sum(map(bool, found))
+    print(f"{len(found) - failed} passed, {failed} failed")
+    return 1 if failed else 0
+
+
+if __name__ == "__main__":
+    sys.exit(main())
