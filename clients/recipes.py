@@ -2,8 +2,8 @@
 """Works the recipes apart from the program, and looks whether each value lies within the two ends that the page shows.
 
 A recipe is worked from its treaty: what is paid of a claim or of a year is a function of an amount of money, and not read from
-the DecL text. The pages are docs/RECIPES.md, where each command that is answered must have its recipe here, and
-docs/FROM-AGGREGATE.md for its towers. The figures in the sentences of docs/RECIPES.md are worked too. Probabilities are whole
+the DecL text. The pages are docs/RECIPES.md, where each command that is answered must have its recipe here, and for some of
+their commands docs/FROM-AGGREGATE.md (towers) and docs/USAGE.md (amounts moved to a coarser bucket). The figures in the sentences of docs/RECIPES.md are worked too. Probabilities are whole
 numbers of which 2^400 make 1. That the pages show what the program writes is checked by examples/check.py. The last line is
 'N passed, M failed'.
 """
@@ -232,6 +232,20 @@ TOWERS = {
     "agg P 2 claims EVEN poisson": Year.of_claims(2, EVEN),
     "port P agg Small 4/3 claims dsev [5 15] poisson agg Large 2/3 claims dsev [30] poisson": Year.of_claims(2, EVEN),
 }
+# Four claims on a coarser bucket, counted in buckets of 50: each amount moved down, and up.
+LOW, HIGH = (Year.of_claims(4, dict(zip(amounts, (50, 30, 15, 5), strict=True))) for amounts in ((0, 4, 23, 96), (1, 5, 23, 96)))
+COARSE = {
+    "agg Low 4 claims dsev [0 200 1150 4800] [0.5 0.3 0.15 0.05] poisson": LOW,
+    "agg High 4 claims dsev [50 250 1150 4800] [0.5 0.3 0.15 0.05] poisson": HIGH,
+}
+
+
+def coarse():
+    """Whether the quantile of the amounts as they are lies between the two, in money, and so does their mean."""
+    cells = poisson(4, {17: 50, 230: 30, 1150: 15, 4800: 5}, 10_500)
+    reached = [sum(cells[:most]) >= ONE * Fraction(99, 100) for most in (10_000, 10_251)]
+    yield reached == [False, True], "the quantile lies outside those of the two programs of docs/USAGE.md"
+    yield LOW.value("mean") * 50 <= 1960 <= HIGH.value("mean") * 50, "the mean lies outside those of docs/USAGE.md"
 
 
 def reinstated(limits, paid):
@@ -371,6 +385,7 @@ def looked_at(page, recipes, all_of_it):
 def main():
     """Looks at each row and each figure."""
     found = [*looked_at("docs/RECIPES.md", RECIPES, True), *looked_at("docs/FROM-AGGREGATE.md", TOWERS, False)]
+    found += [*looked_at("docs/USAGE.md", COARSE, False), *coarse()]
     page = " ".join((ROOT / "docs/RECIPES.md").read_text(encoding="utf-8").split())
     found += [(sentence in page, f"docs/RECIPES.md does not say: {sentence}") for sentence in sentences()]
     for passes, wrong in found:
