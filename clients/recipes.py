@@ -2,10 +2,10 @@
 """Works the recipes apart from the program, and looks whether each value lies within the two ends that the page shows.
 
 A recipe is worked from its treaty: what is paid of a claim or of a year is a function of an amount of money, and not read from
-the DecL text. The pages are docs/RECIPES.md, where each command that is answered must have its recipe here, and for some of
-their commands docs/FROM-AGGREGATE.md (towers) and docs/USAGE.md (amounts moved to a coarser bucket). The figures in the sentences of docs/RECIPES.md are worked too. Probabilities are whole
-numbers of which 2^400 make 1. That the pages show what the program writes is checked by examples/check.py. The last line is
-'N passed, M failed'.
+the DecL text. Each command of docs/RECIPES.md that writes rows must have its recipe here; so have the towers of
+docs/FROM-AGGREGATE.md, and the coarser buckets of docs/USAGE.md. The figures in the sentences of docs/RECIPES.md are worked.
+Probabilities are whole numbers of which 2^400 make 1. That the pages show what the program writes is checked by
+examples/check.py. The last line is 'N passed, M failed'.
 """
 
 import math
@@ -233,7 +233,8 @@ TOWERS = {
     "port P agg Small 4/3 claims dsev [5 15] poisson agg Large 2/3 claims dsev [30] poisson": Year.of_claims(2, EVEN),
 }
 # Four claims on a coarser bucket, counted in buckets of 50: each amount moved down, and up.
-LOW, HIGH = (Year.of_claims(4, dict(zip(amounts, (50, 30, 15, 5), strict=True))) for amounts in ((0, 4, 23, 96), (1, 5, 23, 96)))
+LOW = Year.of_claims(4, {0: 50, 4: 30, 23: 15, 96: 5})
+HIGH = Year.of_claims(4, {1: 50, 5: 30, 23: 15, 96: 5})
 COARSE = {
     "agg Low 4 claims dsev [0 200 1150 4800] [0.5 0.3 0.15 0.05] poisson": LOW,
     "agg High 4 claims dsev [50 250 1150 4800] [0.5 0.3 0.15 0.05] poisson": HIGH,
@@ -253,9 +254,9 @@ def reinstated(limits, paid):
     return CEDED.expected(layer(80 * limits, 0)) / (1 + CEDED.expected(layer(paid, 0)) / 80)
 
 
-def limited_net(p, yearly):
-    """The quantile of the net of 80 xs 20 with a limit of the year's cessions, in floating point: the counts of the amounts are
-    independent, since the number of claims is Poisson."""
+def net_quantile(p, paid):
+    """The quantile of the net of 80 xs 20 where so much is paid of the year's cessions, in floating point: the counts of the amounts
+    are independent, since the number of claims is Poisson."""
     small = Year.of_claims(Fraction(9, 4), {10: 50, 20: 25}).parts
     chances = {}
     for fifty in range(14):
@@ -266,7 +267,7 @@ def limited_net(p, yearly):
                     math.exp(-3 * FIRE[x] / 100) * (3 * FIRE[x] / 100) ** n / math.factorial(n) for x, n in counts.items()
                 )
                 ceded = sum(XL(x) * n for x, n in counts.items())
-                kept = sum(x * n for x, n in counts.items()) - min(ceded, yearly)
+                kept = sum(x * n for x, n in counts.items()) - paid(ceded)
                 chances[kept] = chances.get(kept, 0) + chance
     totals = {}
     for kept, chance in chances.items():
@@ -313,17 +314,23 @@ def sentences():
     largest = min(x for x in FIRE if x == max(FIRE) or fire(layer(INF, x)).within(0) >= once)
     yield f"so the occurrence loss of 200 years is {money(largest)}"
     yield f"would be {q99 - CEDED.quantile(p99)}. Nothing is ceded in {percent(CEDED.within(0))} percent of the years"
+    yield f"{CEDED.quantile(p99)} and {NET.quantile(p99)} are more than {GROSS.quantile(p99)}"
     deducted = CEDED.after(layer(INF, 80))
     yield f"from {money(CEDED.value('mean'))} to {money(deducted.value('mean'))}, and {percent(deducted.within(0))} percent of"
     limited = CEDED.expected(layer(160, 0))
     yield f"The layer pays {money(limited)} in the mean, and all of both limits in {percent(1 - CEDED.within(159))} percent"
     yield f"the pure premium P is {money(reinstated(2, 80))}; with a free reinstatement it is {money(limited)}"
     yield f"so {money(GROSS.value('mean') - CEDED.expected(layer(240, 0)))}."
-    assert 1 - CEDED.within(240) < Fraction(19, 10000) and 290 <= limited_net(0.99, 240) <= 300
+    assert 1 - CEDED.within(240) < Fraction(19, 10000) and 290 <= net_quantile(0.99, layer(240, 0)) <= 300
+    yield f"lies from {NET.quantile(p99)} to {NET.quantile(p99) + 80}."
+    assert NET.quantile(p99) <= net_quantile(0.99, layer(INF, 80)) <= NET.quantile(p99) + 80
     stop = [money(GROSS.expected(layer(limit, 150))) for limit in (150, INF)]
     yield "The stop loss premium is {} with the limit, and {} without".format(*stop)
     yield f"in {percent(1 - GROSS.within(150))} percent of the years (1 - 0.831569)"
     yield f"and in full in {percent(1 - GROSS.within(299))} percent (1 - 0.936203"
+    yield "{} and {} are the gross VaR of {}".format(
+        *(GROSS.after(treaty).quantile(p90) for treaty in (layer(150, 150), net(layer(150, 150)), whole))
+    )
     nets = [fire(treaty).value("mean") for treaty in (BOTH, QUOTA, lambda x: layer(60, 60)(x - QUOTA(x)))]
     yield "{}, {} and {} are the gross {}".format(*map(money, [*nets, sum(nets)]))
     others = [fire(treaty).value("mean") for treaty in (QUOTA_AFTER_CAT, CAT)]
@@ -344,7 +351,7 @@ def sentences():
     yield f"and in full in {percent(1 - BOOK.within(299))} percent. -"
     yield f"{total} - 150, so {layer(150, 150)(total)}, which is within the limit."
     yield f"The VaR of what it leaves is the rest of it, {net(layer(150, 150))(total)}."
-    yield f"so {money(BOOK.after(layer(150, 150)).tail(p90))}. Where"
+    yield f"90 + {float(BOOK.expected(layer(60, 240))):.4f} / 0.1, so {money(BOOK.after(layer(150, 150)).tail(p90))}. Where"
     assert left == BOOK.after(net(layer(150, 150))).tail(p90)
     yield f"{money(BOOK.tail(p90))} - {money(BOOK.after(layer(150, 150)).tail(p90))}"
 
