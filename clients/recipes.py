@@ -255,8 +255,8 @@ def reinstated(limits, paid):
 
 
 def net_quantile(p, paid):
-    """The quantile of the net of 80 xs 20 where so much is paid of the year's cessions, in floating point: the counts of the amounts
-    are independent, since the number of claims is Poisson."""
+    """The quantile of the net of 80 xs 20 where so much is paid of the year's cessions, in floating point: the counts of the
+    amounts are independent, since the number of claims is Poisson."""
     small = Year.of_claims(Fraction(9, 4), {10: 50, 20: 25}).parts
     chances = {}
     for fifty in range(14):
@@ -300,7 +300,7 @@ def sentences():
     left = BOOK.tail(p90) - BOOK.after(layer(150, 150)).tail(p90)
     yield f"The year costs {money(GROSS.value('mean'))} in the mean. The VaR at 99 percent is {money(q99)}"
     yield f"The TVaR is {money(GROSS.tail(p99))}"
-    yield f"is {round(q99 + tail):,},000 to three digits, where the TVaR is {money(GROSS.tail(p99))}"
+    yield f"is {round(q99 + tail)}, so {round(q99 + tail)},000 to three digits, where the TVaR is {money(GROSS.tail(p99))}"
     yield "The loss of 10 years is {}, of 100 years {}, of 200 years {}".format(
         *(money(GROSS.quantile(1 - Fraction(1, years))) for years in (10, 100, 200))
     )
