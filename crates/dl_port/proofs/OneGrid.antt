@@ -1,8 +1,7 @@
 -- What encloses the sum of units that have one grid.
-use Rattle.dl_port.proofs.Common.{ℕ, zero, suc, ◌≡◌, ◌+◌, ◌-◌, ◌<◌, ◌≤◌, List, [], ◌∷◌, ◌++◌, length, get_or, take, drop, arith, refl, sym, ap, ap₂, subst, ◌∙◌, false, IsTrue, ◌↔◌, Option, None, IsSome, IfSome, get_or_default, Iv, IsConvolution, Aggregate, AreDeclarable, total, GridEncloses, EncloseEach, IsTotal, IsSumWithout}
-use Rattle.std.proofs.Common.{replicate, rules}
+use Rattle.dl_port.proofs.Common.{ℕ, zero, suc, ◌≡◌, ◌+◌, ◌-◌, ◌<◌, ◌≤◌, List, [], ◌∷◌, ◌++◌, length, get_or, take, drop, arith, refl, sym, ap, ap₂, subst, ◌∙◌, get_or_default, Iv, IsConvolution, Aggregate, AreDeclarable, total, GridEncloses, EncloseEach, IsTotal}
+use Rattle.std.proofs.Common.{replicate}
 use Rattle.std.proofs.lemmas.List.{take-replicate, drop-replicate, take-append-drop}
-use Rattle.dl_port.specs.Shared.{AreSumsWithout}
 use Rattle.dl_port.proofs.Added.{units_first, units_after, each_first, each_after, alone, first_cells, two_sums}
 
 -- some of these units, and the others
@@ -81,19 +80,3 @@ with_rest grids later first sum m us rest further of_first w e =
 
 pub only_total : {B : ℕ} (g : List (Iv B)) → IsTotal (length g) (g ∷ []) g
 only_total g = record { cells = refl; encloses = λ us w e. single g us w e; narrow = omega arith }
-
-pub none_without : {B : ℕ} (g : List (Iv B)) (sums : List (Option (List (Iv B)))) → sums ≡ None ∷ []
-    → AreSumsWithout (length g) (g ∷ []) (false ∷ []) sums
-none_without {B} g sums is =
-    subst (AreSumsWithout (length g) (g ∷ []) (false ∷ [])) (sym {A = List (Option (List (Iv B)))} is)
-    (record { as_many = refl; there = there; each = each })
-  where
-    there : (i : ℕ) → i < 1 → IsSome (get_or {A = Option (List (Iv B))} (None ∷ []) i None)
-        ↔ IsTrue (get_or (false ∷ []) i false)
-    there zero inside = search rules
-    there (suc i) inside = absurd (omega (arith, inside))
-
-    each : (i : ℕ) → i < 1 → IfSome (get_or {A = Option (List (Iv B))} (None ∷ []) i None)
-        (IsSumWithout (length g) (g ∷ []) i)
-    each zero inside = tt
-    each (suc i) inside = absurd (omega (arith, inside))

@@ -1,5 +1,5 @@
 -- The sum of all units, and those of all units but one.
-use Rattle.std.specs.Prelude.{ℕ, suc, ◌≡◌, ◌+◌, ◌-◌, ◌^◌, ◌<◌, ◌≤◌, ◌↔◌, Bool, false, IsTrue, Any, Option, Some, None, IsSome, IfSome, List, [], length, map, drop, get_or}
+use Rattle.std.specs.Prelude.{ℕ, suc, ◌≡◌, ◌+◌, ◌-◌, ◌^◌, ◌<◌, ◌≤◌, ◌↔◌, Bool, false, IsTrue, Option, Some, None, IsSome, IfSome, List, [], length, map, drop, get_or}
 use Rattle.std.specs.List.{remove}
 use Rattle.dl_iv.specs.declared.interval.Iv.{Iv}
 use Rattle.dl_grid.specs.Cells.{spread}
@@ -56,12 +56,12 @@ pub record AreSuffixSums {B : ℕ} (k : ℕ) (grids ends : List (List (Iv B))) :
   pub as_many : length ends + 1 ≡ length grids
   pub each : AreSumsOfEnds k grids ends
 
--- the sums without each of the first units, where they are asked for; and where any is, the sums of
--- the units after them are left
+-- the sums without each of the first units, where they are asked for, and the sums of the units
+-- after them that are left
 pub record AreFirstWithout {B : ℕ} (k : ℕ) (grids : List (List (Iv B))) (asked : List Bool)
     (sums : List (Option (List (Iv B)))) (rests : List (List (Iv B))) : Type 0 where
   pub there : (i : ℕ) → i < length sums → IsSome (get_or sums i None)
       ↔ IsTrue (get_or asked i false)
   pub each : (i : ℕ) → i < length sums → IfSome (get_or sums i None) (IsSumWithout k grids i)
-  pub left : Any (λ a. IsTrue a) asked → length rests ≡ length grids - suc (length sums)
-  pub ends : Any (λ a. IsTrue a) asked → AreSumsOfEnds k grids rests
+  pub left : length rests ≡ length grids - suc (length sums)
+  pub ends : AreSumsOfEnds k grids rests

@@ -2,7 +2,7 @@
 //! units but one is one product: of the sum of the units before it, and of the sum of those after
 //! it.
 
-ghost use Rattle.std.specs.Prelude.{◌≡◌, ℕ, ◌+◌, ◌^◌, ◌<◌, ◌≤◌, ◌↔◌, suc, List, [], ◌∷◌, length, ◌++◌, take, drop, get_or, false, IsTrue, IsSome, Any, All, IfOk, OnOk, IfSome};
+ghost use Rattle.std.specs.Prelude.{◌≡◌, ℕ, ◌+◌, ◌^◌, ◌<◌, ◌≤◌, ◌↔◌, suc, List, [], ◌∷◌, length, ◌++◌, take, drop, get_or, replicate, None, false, IsTrue, IsSome, Any, All, IfOk, OnOk, IfSome};
 ghost use Rattle.std.specs.Option.{option_copied};
 ghost use Rattle.dl_limits.specs.Limits.{most_units};
 ghost use Rattle.dl_model.specs.Program.{Aggregate, AreDeclarable};
@@ -74,26 +74,6 @@ fn sums_of_ends<const B: u32>(
     Ok(ends)
 }
 
-/// The sums of the last units where some unit is asked for.
-fn ends_where_asked<const B: u32>(
-    alloc: Global,
-    work: &mut Workspace,
-    units: &[Grid<B>],
-    asked: &[bool],
-    cells: u32,
-) -> Result<Vec<Grid<B>>, AllocError>
-    requires units { 1 ≤ length units.now }
-    requires some { 1 ≤ cells }
-    requires in_each { All (λ g. cells ≤ length g) units.now }
-    ensures { IfOk result (λ ends. Any (λ a. IsTrue a) asked.now
-        → AreSuffixSums cells units.now ends.items) }
-{
-    if asked.iter().any(|asked| *asked) {
-        return sums_of_ends(alloc, work, units, cells);
-    }
-    Ok(Vec::new(alloc))
-}
-
 /// The sum of all units but unit `i`, where it is asked for, from the sum of the units before it
 /// and that of the units after it. Where it comes out wider than it may be when the others are
 /// taken in one by one, they are taken in one by one.
@@ -112,8 +92,7 @@ fn others_where_asked<const B: u32>(
     requires some { 1 ≤ cells }
     requires in_each { All (λ g. cells ≤ length g) units.now }
     requires before { IsSumOfPart cells units.now (take i) (option_copied before) }
-    requires after { IsTrue (get_or asked.now i false)
-        → IsSumOfPart cells units.now (drop (suc i)) (option_copied after) }
+    requires after { IsSumOfPart cells units.now (drop (suc i)) (option_copied after) }
     ensures there { IfOk result (λ sum. IsSome sum ↔ IsTrue (get_or asked.now i false)) }
     ensures sum { IfOk result (λ sum. IfSome sum (IsSumWithout cells units.now i)) }
 {
@@ -161,10 +140,8 @@ fn push_without<const B: u32>(
 }
 
 /// The first `cells` cells of the sum of all units, and for each unit that is asked for, of the sum
-/// of all other units. These are as wide as those of `total` and `others` may be, and come from
-/// sums that they share: where none comes out wider, at most three products for each unit, however
-/// many are asked for. There is at least one unit, and each grid has at least these cells.
-pub fn total_and_others<const B: u32>(
+/// of all other units, where some unit is asked for.
+fn asked_sums<const B: u32>(
     alloc: Global,
     work: &mut Workspace,
     units: &[Grid<B>],
@@ -180,7 +157,7 @@ pub fn total_and_others<const B: u32>(
     ensures others { IfOk result (λ sums.
         AreSumsWithout cells units.now asked.now sums.others.items) }
 {
-    let mut ends = ends_where_asked(alloc, work, units, asked, cells)?;
+    let mut ends = sums_of_ends(alloc, work, units, cells)?;
     let mut others = Vec::new(alloc);
     push_without(
         alloc,
@@ -212,6 +189,53 @@ pub fn total_and_others<const B: u32>(
     Ok(Sums { total, others })
 }
 
+/// Whether some unit is asked for.
+fn some_asked(asked: &[bool]) -> bool
+    ensures { IsTrue result ↔ Any (λ a. IsTrue a) asked.now }
+{
+    asked.iter().any(|asked| *asked)
+}
+
+/// For each of `many` units, no sum of the other units.
+fn no_others<const B: u32>(alloc: Global, many: usize) -> Result<Vec<Option<Grid<B>>>, AllocError>
+    ensures { IfOk result (λ others. others.items ≡ replicate many None) }
+{
+    let mut others = Vec::new(alloc);
+    for _ in 0..many {
+        others.push(None)?;
+    }
+    Ok(others)
+}
+
+/// The first `cells` cells of the sum of all units, and for each unit that is asked for, of the sum
+/// of all other units. These are as wide as those of `total` and `others` may be, and come from
+/// sums that they share: where none comes out wider, at most three products for each unit, however
+/// many are asked for. Where none is asked for, the total is that of `total_with`. There is at
+/// least one unit, and each grid has at least these cells.
+pub fn total_and_others<const B: u32>(
+    alloc: Global,
+    work: &mut Workspace,
+    units: &[Grid<B>],
+    asked: &[bool],
+    cells: u32,
+) -> Result<Sums<B>, AllocError>
+    requires units { 1 ≤ length units.now }
+    requires few { length units.now ≤ most_units }
+    requires asked { length asked.now ≡ length units.now }
+    requires some { 1 ≤ cells }
+    requires in_each { All (λ g. cells ≤ length g) units.now }
+    ensures total { IfOk result (λ sums. IsTotal cells units.now sums.total) }
+    ensures others { IfOk result (λ sums.
+        AreSumsWithout cells units.now asked.now sums.others.items) }
+{
+    if some_asked(asked) {
+        return asked_sums(alloc, work, units, asked, cells);
+    }
+    let others = no_others(alloc, units.len())?;
+    let total = total_with(alloc, work, units, cells)?;
+    Ok(Sums { total, others })
+}
+
 /// The same sums of one unit alone, where no other sum is asked for. The total is the unit's grid,
 /// which is moved and not copied.
 pub fn sums_of_one<const B: u32>(alloc: Global, unit: Grid<B>) -> Result<Sums<B>, AllocError>
@@ -219,8 +243,7 @@ pub fn sums_of_one<const B: u32>(alloc: Global, unit: Grid<B>) -> Result<Sums<B>
     ensures others { IfOk result (λ sums. AreSumsWithout (length unit.entry) (unit.entry ∷ [])
         (false ∷ []) sums.others.items) }
 {
-    let mut others = Vec::new(alloc);
-    others.push(None)?;
+    let others = no_others(alloc, 1)?;
     Ok(Sums {
         total: unit,
         others,

@@ -1,6 +1,6 @@
 -- The sum of the units after it is popped for its own, and the others stay.
 use Rattle.dl_port.proofs.Common.{suc, List, drop, get_or, arith, sym, subst, Option, IsSome, IsTrue, IfSome, ◌↔◌, false, option_to_list, Iv, IsSumOfPart, IsSumWithout}
-use Rattle.dl_port.proofs.PartSums.{popped, popped_length, popped_rest, some_asked, one_more_holds}
+use Rattle.dl_port.proofs.PartSums.{popped, popped_length, popped_rest, one_more_holds}
 use Rattle.dl_port.proofs.shared.push_without.Goals as goal
 
 pub others_where_asked-requires : goal.others_where_asked-requires
@@ -16,17 +16,14 @@ others_where_asked-requires g c = (
           c.requires.in_each,
           (
             c.requires.before,
-            λ asked.
-                let any = some_asked c.args.asked.now c.args.i (omega (arith, c.requires.asked, c.requires.unit)) asked
-                in
-                subst (λ (t : Option (List (Iv g.row.B))). IsSumOfPart c.args.cells c.args.units.now
+            subst (λ (t : Option (List (Iv g.row.B))). IsSumOfPart c.args.cells c.args.units.now
                 (drop (suc c.args.i)) t)
                 (sym c.as_ref.ensures.value)
                 (popped c.args.cells c.args.i c.args.units.now c.args.ends.now.items c.pop-after.new.self.items _ _
                 c.pop-after.result (omega (arith, c.args.ends.now.ok)) c.pop-after.ensures.cases
                 c.pop-after.ensures.items
-                (omega (arith, c.requires.many, c.requires.parts.left any)) c.requires.unit
-                (c.requires.parts.ends any)),
+                (omega (arith, c.requires.many, c.requires.parts.left)) c.requires.unit
+                c.requires.parts.ends),
           ),
         ),
       ),
@@ -46,14 +43,14 @@ returns-clause-parts g c =
           c.push.new.self.items c.in_ok-sum.sum c.args.i c.in_ok-push.ensures.items c.requires.many
           (λ j h. c.requires.parts.each j (omega (arith, h, c.requires.many))) c.in_ok-sum.ensures.sum j
           (omega (arith, h, c.in_ok-push.ensures.len, c.requires.many));
-      left = λ any. omega (
+      left = omega (
         arith,
         c.in_ok-push.ensures.len,
         c.requires.many,
         popped_length c.args.cells c.args.i c.args.units.now c.args.ends.now.items c.pop-after.new.self.items _ _
             c.pop-after.result (omega (arith, c.args.ends.now.ok)) c.pop-after.ensures.cases c.pop-after.ensures.items
-            (omega (arith, c.requires.many, c.requires.parts.left any)),
+            (omega (arith, c.requires.many, c.requires.parts.left)),
       );
-      ends = λ any. popped_rest c.args.cells c.args.i c.args.units.now c.args.ends.now.items c.pop-after.new.self.items
-          (option_to_list c.pop-after.result) c.pop-after.ensures.items (c.requires.parts.ends any);
+      ends = popped_rest c.args.cells c.args.i c.args.units.now c.args.ends.now.items c.pop-after.new.self.items
+          (option_to_list c.pop-after.result) c.pop-after.ensures.items c.requires.parts.ends;
     }

@@ -1,6 +1,6 @@
 use Rattle.dl_port.proofs.Common.{◌≡◌, ◌^◌, ◌≤◌, length, take, map, Some, spread, sum_spread, IsSumOfPart}
 use Rattle.dl_port.specs.Shared.{AreFirstWithout}
-use Rattle.dl_port.proofs.shared.total_and_others.Given as goal
+use Rattle.dl_port.proofs.shared.asked_sums.Given as goal
 
 abbrev pub invariant-loop-i : goal.invariant-loop-i
 invariant-loop-i g l = record {
