@@ -25,6 +25,14 @@ pub record LastRead {S E : Type 0} (step : Step S E) (start : S) (most : ℕ) (b
   pub within : length bytes + length buf ≤ most
   pub last : step before answer buf finish
 
+-- one reading: reads of which each but the last gave some bytes, so that none follows one that
+-- failed, or that had room and gave nothing; and none had room for more than was left of so many
+pub data Reading {S E : Type 0} (step : Step S E) (start : S) (most : ℕ) : S → Type 0 where
+  all_gave : (bytes : List ℕ) (finish : S) → Reads step start most bytes finish
+      → Reading step start most finish
+  ended_by : (bytes : List ℕ) (answer : Result ℕ E) (finish : S)
+      → LastRead step start most bytes answer finish → Reading step start most finish
+
 -- the writes so far took this many of the bytes, and each was offered all that were left, which
 -- were some
 pub data Writes {S E : Type 0} (step : Step S E) (start : S) (bytes : List ℕ) : ℕ → S → Type 0 where

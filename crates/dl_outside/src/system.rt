@@ -9,6 +9,10 @@ use crate::{ReadFailed, Sink, Source, WriteFailed};
 use std::io::{Read, Write};
 
 /// Any reader of std: one `read` a call, and a fault for each error. It tells no bytes.
+///
+/// All that std's `Read` says of a call is which bytes it took, where they are known, and that one
+/// that failed took none. So no clause tells one read from two of which the first failed, or gave
+/// less: tests count them.
 #[derive(Drop)]
 pub struct StdSource<R> {
     inner: R,
@@ -50,7 +54,7 @@ impl<R: Read> Source for StdSource<R> {
         ensures later { source_faults self.old ≤ source_faults self.new }
         ensures cause { OnErr result (Rose (source_faults self.old) (source_faults self.new)) }
 
-        // The reader gave these bytes, and each of its errors is counted.
+        // The reader gave these bytes, and a read that fails is one fault more.
         ensures reader { ReadConsumes (R.remaining (source_reader self.old))
             (R.remaining (source_reader self.new)) result buf.new }
         ensures faults { MatchResult result
@@ -69,6 +73,10 @@ impl<R: Read> Source for StdSource<R> {
 
 /// Any writer of std: one `write` a call, and a fault for each error and for each piece of which
 /// nothing is taken. It tells no bytes.
+///
+/// All that std's `Write` says of a call is which bytes it appended, where they are known, and that
+/// one that failed appended none. So no clause tells one write from two of which the first failed,
+/// or took less: tests count them.
 #[derive(Drop)]
 pub struct StdSink<W> {
     inner: W,
@@ -118,7 +126,7 @@ impl<W: Write> Sink for StdSink<W> {
         ensures later { sink_faults self.old ≤ sink_faults self.new }
         ensures cause { OnErr result (Rose (sink_faults self.old) (sink_faults self.new)) }
 
-        // The writer took these bytes, and each of its errors is counted.
+        // The writer took these bytes, and a write that fails is one fault more.
         ensures writer { WriteAppends (W.contents (sink_writer self.old))
             (W.contents (sink_writer self.new)) result piece.now }
         ensures faults { MatchResult result

@@ -1,12 +1,13 @@
 //! A whole input read, and a whole text written.
 
 ghost use Rattle.std.specs.Prelude.{◌≡◌, ◌≢◌, ℕ, ◌+◌, ◌^◌, ◌≤◌, ◌<◌, List, [], ◌++◌, take, Option};
-ghost use Rattle.std.specs.Prelude.{Some, length, vec_len, Ok, Err, OnErr, OnOk, IfOk, IfSome};
-ghost use Rattle.std.specs.Prelude.{IsErrOf};
+ghost use Rattle.std.specs.Prelude.{Some, Result, length, vec_len, Ok, Err, OnErr, OnOk, IfOk};
+ghost use Rattle.std.specs.Prelude.{IfSome, IsErrOf};
 ghost use Rattle.std.specs.Io.KnownBytes.{Consumes, IsAtEnd, Appends, Keeps};
 ghost use Rattle.dl_outside.specs.Faults.{Rose};
 ghost use Rattle.dl_outside.specs.Bytes.{Takes, TakesAtMost, AppendsPartOf};
-ghost use Rattle.dl_outside.specs.Steps.{FailedWrite, LastRead, Reads, Writes};
+ghost use Rattle.dl_outside.specs.Steps.{FailedWrite, LastRead, Reading, Reads, Writes};
+ghost use Rattle.dl_outside.specs.declared.ReadFailed.{ReadFailed};
 
 use crate::{Sink, Source};
 use std::alloc::Global;
@@ -52,6 +53,8 @@ fn read_more<R: Source>(
     ensures fault { IsErrOf result ReadEnd.Fault → Rose (R.faults src.old) (R.faults src.new) }
     ensures steady { result ≢ Err ReadEnd.Fault → R.faults src.new ≡ R.faults src.old }
     ensures room { length chunk.new ≡ length chunk.old }
+    ensures called { (answer : Result ℕ ReadFailed)
+        × R.read_step src.old answer chunk.new src.new }
     ensures step { IfOk result (λ n. R.read_step src.old (Ok n) chunk.new src.new) }
     ensures given { IfOk result (λ n. bytes.new.items ≡ bytes.old.items ++ take n chunk.new) }
     ensures failed { IsErrOf result ReadEnd.Fault
@@ -86,8 +89,9 @@ pub fn read_all<R: Source>(alloc: Global, src: &mut R, limit: usize) -> Result<V
         → TakesAtMost (R.left src.old) (R.left src.new) limit }
     ensures taken { TakesAtMost (R.left src.old) (R.left src.new) (limit + 1) }
 
-    // No read follows one that gave nothing or failed, and none has room for more than is wanted.
-    // `record {}` is the one error that a read has.
+    // No read follows one that gave nothing or failed, and none has room for more than is wanted,
+    // whatever the answer is. `record {}` is the one error that a read has.
+    ensures reading { Reading R.read_step src.old (limit + 1) src.new }
     ensures ended { IfOk result (λ bytes.
         LastRead R.read_step src.old (limit + 1) bytes.items (Ok 0) src.new) }
     ensures full { IsErrOf result ReadEnd.TooLong → ((bytes : List ℕ)

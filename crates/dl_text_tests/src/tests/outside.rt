@@ -1,8 +1,8 @@
 //! Whole reads and whole writes over memory and over std's readers and writers, worked by hand.
 
 use dl_outside::{
-    DropSink, MemSink, MemSource, ReadEnd, Sink, StdSink, StdSource, SteadySource, read_all,
-    write_all,
+    DropSink, MemSink, MemSource, ReadEnd, Sink, Source, StdSink, StdSource, SteadySource,
+    read_all, write_all,
 };
 use std::alloc::Global;
 use std::io::{self, Read, Write};
@@ -155,4 +155,68 @@ fn full_sinks_fail(rt: HostRuntime) {
     assert!(rt; full.write(b"") == Ok(0));
     assert!(rt; write_all(&mut full, b"a").is_err());
     assert!(rt; full.faults() == 1);
+}
+
+/// A reader and a writer whose first call fails, whose second moves nothing, and which work from
+/// the third on: a read gives the number of its call, and a write takes all.
+#[derive(Drop)]
+struct Faltering {
+    calls: u8,
+}
+
+impl Faltering {
+    /// The number of the call that begins, counted from 1, or the error of the first.
+    fn call(&mut self) -> io::Result<u8> {
+        self.calls = self.calls.saturating_add(1);
+        if self.calls == 1 {
+            return Err(io::Error::from(io::ErrorKind::Interrupted));
+        }
+        Ok(self.calls)
+    }
+}
+
+impl Read for Faltering {
+    fn read(&mut self, buf: &mut [u8]) -> io::Result<usize> {
+        let number = self.call()?;
+        if number == 2 || buf.is_empty() {
+            return Ok(0);
+        }
+        buf[0] = number;
+        Ok(1)
+    }
+}
+
+impl Write for Faltering {
+    fn write(&mut self, buf: &[u8]) -> io::Result<usize> {
+        let number = self.call()?;
+        Ok(if number == 2 { 0 } else { buf.len() })
+    }
+
+    fn flush(&mut self) -> io::Result<()> {
+        Ok(())
+    }
+}
+
+#[test]
+fn a_source_reads_once_a_call(rt: HostRuntime) {
+    let mut source = StdSource::new(Faltering { calls: 0 });
+    let mut buf = [0u8; 4];
+    assert!(rt; source.read(&mut buf).is_err());
+    assert!(rt; source.faults() == 1);
+    assert!(rt; source.read(&mut buf) == Ok(0));
+    assert!(rt; source.read(&mut buf) == Ok(1));
+    assert!(rt; buf == [3, 0, 0, 0]);
+    assert!(rt; source.faults() == 1);
+}
+
+#[test]
+fn a_sink_writes_once_a_call(rt: HostRuntime) {
+    let mut sink = StdSink::new(Faltering { calls: 0 });
+    assert!(rt; sink.write(b"ab").is_err());
+    assert!(rt; sink.faults() == 1);
+    assert!(rt; sink.write(b"ab").is_err());
+    assert!(rt; sink.faults() == 2);
+    assert!(rt; sink.write(b"ab") == Ok(2));
+    assert!(rt; sink.faults() == 2);
+    assert!(rt; sink.into_inner().calls == 3);
 }

@@ -3,7 +3,7 @@ use Rattle.std.proofs.Common.{◌≡◌, ◌∙◌, ℕ, ◌≤◌, ◌<◌, ◌
 use Rattle.std.specs.Io.KnownBytes.{Consumes}
 use Rattle.std.proofs.lemmas.List.{append-nil, length-take}
 use Rattle.dl_outside.specs.declared.whole.ReadEnd.TheVariants.{Fault}
-use Rattle.dl_outside.specs.Steps.{Reads, unread, read_on}
+use Rattle.dl_outside.specs.Steps.{Reads, all_gave, ended_by, unread, read_on}
 use Rattle.dl_outside.proofs.Taken.{Consumes-Takes, Keeps-TakesAtMost, TakesAtMost-more}
 use Rattle.dl_outside.proofs.whole.read_all.Goals as goal
 
@@ -105,3 +105,24 @@ reading-preserved g c =
           c.reading.invariant.reads c.in_ok-read_more.ensures.step some fits);
       steady = c.in_ok-read_more.ensures.steady (λ e. absurd (cc)) ∙ c.reading.invariant.steady;
     }
+
+-- one more read, whatever it answered, was the last
+pub returns-in_err-read_more-clause-reading : goal.returns-in_err-read_more-clause-reading
+returns-in_err-read_more-clause-reading g c =
+    let room = length-take c.min-room.result c.reading.chunk in
+    let same_room = c.read_more.ensures.room in
+    let (answer, step) = c.read_more.ensures.called in
+    ended_by c.reading.bytes.items answer _ record {
+      before = c.reading.src;
+      buf = c.read_more.new.chunk;
+      reads = c.reading.invariant.reads;
+      room = omega (arith, room, same_room);
+      within = omega (arith, room, same_room);
+      last = step;
+    }
+
+pub returns-then-branch-eq0-clause-reading : goal.returns-then-branch-eq0-clause-reading
+returns-then-branch-eq0-clause-reading g c = ended_by _ _ _ (returns-then-branch-eq0-clause-ended g c)
+
+pub returns-clause-reading : goal.returns-clause-reading
+returns-clause-reading g c = all_gave _ _ c.reading.invariant.reads
