@@ -50,7 +50,7 @@ fn fits(steps: Steps, total: u32, cells: u32) -> bool
 }
 
 /// The grid of the compound sum of a count whose weights step so, and whose probability of no claim
-/// is `start`; none where the numbers are too long.
+/// is `start`; None where a number of the recursion does not fit its word, which no clause excludes.
 fn compound_direct<const B: u32>(
     alloc: Global,
     sev: &Sev,
@@ -93,9 +93,8 @@ fn compound_direct<const B: u32>(
 }
 
 /// The first `cells` cells of a Poisson number of claims of this mean, by one recursion, without a
-/// bound on their spread. None where the numbers of the recursion are too long: where `cells` times
-/// the total of the weights times a part of the mean reaches 2^64, or the cells grow too large
-/// beside cell 0.
+/// bound on their spread. Or None: no clause says when a number of the recursion does not fit its
+/// word, so a caller has to have another way, and None costs it time alone.
 pub fn poisson_direct<const B: u32>(
     alloc: Global,
     sev: &Sev,
@@ -125,8 +124,7 @@ pub fn poisson_direct<const B: u32>(
 }
 
 /// The first `cells` cells of a gamma number of claims of this shape and mean, by one recursion,
-/// without a bound on their spread. None as for a Poisson number: the shape times the cells, and
-/// the second part of the mean times the shape, count there too.
+/// without a bound on their spread. Or None, as for a Poisson number.
 pub fn gamma_direct<const B: u32>(
     alloc: Global,
     sev: &Sev,

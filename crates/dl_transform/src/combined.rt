@@ -232,8 +232,8 @@ fn fits(a: &[u128], b: &[u128], cells: usize, levels: u32) -> bool
 
 /// Whether the first items of the product of two lists, for each `s` the sum of `a[i] * b[j]` over
 /// all `i + j = s`, could be told, as many as `out` has room for; then `out` has them. They can
-/// where the setup has room for both lists, and the sum of `a` times the greatest item of `b` is
-/// below `2^123`.
+/// where the setup has room for both lists, `out` is no longer than both together, the sum of `a`
+/// is below `2^64`, and that sum times the greatest item of `b` is below `2^123`.
 pub fn checked_product(
     alloc: Global,
     a: &[u128],

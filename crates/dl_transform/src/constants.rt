@@ -199,8 +199,9 @@ fn table(alloc: Global, p: u64, levels: u32) -> Result<Table, AllocError>
     })
 }
 
-/// The setup for products of up to `2^levels` cells. Each constant has been checked: there is none
-/// where one of them turned out wrong.
+/// The setup for products of up to `2^levels` cells, each of whose constants has been checked. Or
+/// None, where one of them turned out wrong: no clause excludes it, so a caller has to have another
+/// way to multiply, and None costs it time alone.
 pub fn set_up(alloc: Global, levels: u32) -> Result<Option<Setup>, AllocError>
     requires few { levels < 40 }
     ensures right { IfOk result (λ o. IfSome o (λ s. IsSetup s)) }
