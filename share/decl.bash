@@ -31,8 +31,22 @@ _decl_offers() {
 }
 
 _decl() {
-    local begun=${COMP_WORDS[COMP_CWORD]}
-    mapfile -t COMPREPLY < <(compgen -W "$(_decl_offers "${COMP_WORDS[@]:0:COMP_CWORD+1}")" -- "$begun")
+    local begun=${COMP_WORDS[COMP_CWORD]} before=${COMP_WORDS[COMP_CWORD-1]}
+    local words=("${COMP_WORDS[@]:0:COMP_CWORD+1}")
+    COMPREPLY=()
+    # Behind `<` and `>` stands a file, which bash itself completes.
+    if [[ $before =~ ^[0-9]*[\<\>] || $begun =~ ^[0-9]*[\<\>] ]]; then
+        compopt -o bashdefault -o default 2> /dev/null
+        return
+    fi
+    # Bash cuts `--format=csv` into three words; the value is completed as behind a blank.
+    if [[ $begun == = ]]; then
+        begun=''
+        words[COMP_CWORD]=''
+    elif [[ $before == = && $COMP_CWORD -gt 1 ]]; then
+        words=("${COMP_WORDS[@]:0:COMP_CWORD-1}" "$begun")
+    fi
+    mapfile -t COMPREPLY < <(compgen -W "$(_decl_offers "${words[@]}")" -- "$begun")
     if [[ ${#COMPREPLY[@]} -eq 1 && ${COMPREPLY[0]} == *: ]]; then
         compopt -o nospace 2> /dev/null
     fi

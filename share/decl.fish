@@ -9,7 +9,7 @@ function __decl_wants --description 'Whether the option can still be given after
     if test "$given[-1]" = "--$argv[1]"
         return 0
     end
-    not contains -- --$argv[1] $given
+    not contains -- --$argv[1] $given; and not string match -q -- "--$argv[1]=*" $given
 end
 
 complete -c decl -f

@@ -4,7 +4,12 @@
 _decl() {
     local command= word option
     local -a offers
-    case ${words[CURRENT-1]} in
+    local before=${words[CURRENT-1]}
+    # A value can stand behind `=` in the word of its option.
+    if compset -P '--*='; then
+        before=${IPREFIX%=}
+    fi
+    case $before in
         --format) compadd -- text csv json; return ;;
         --log2) compadd -- {1..12}; return ;;
         --digits) compadd -- {1..9}; return ;;
@@ -17,7 +22,7 @@ _decl() {
     done
     if [[ ${words[CURRENT]} == -* ]]; then
         for option in --bs --log2 --digits --width --mwidth --format --make; do
-            if [[ $command == fmt && $option != --make ]] || (( ${words[(Ie)$option]} )); then
+            if [[ $command == fmt && $option != --make || -n ${(M)words[1,CURRENT-1]:#$option(|=*)} ]]; then
                 continue
             fi
             offers+=($option)
