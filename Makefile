@@ -1,42 +1,61 @@
-# Builds decl with the Rattle kit alone (`rt` on the path). Nothing is downloaded.
+# Builds decl with the Rattle kit alone (`rt` on the path), and installs what was built. Nothing is downloaded.
 PREFIX ?= /usr/local
 PROGRAM := crates/decl/out/decl
 SOURCES := crates.txt $(shell find crates -name out -prune -o -type f -print)
+BIN := $(DESTDIR)$(PREFIX)/bin
 SHARE := $(DESTDIR)$(PREFIX)/share
+DOC := $(SHARE)/doc/decl
+INSTALLED := $(BIN)/decl $(SHARE)/man/man1/decl.1 $(SHARE)/bash-completion/completions/decl \
+	$(SHARE)/zsh/site-functions/_decl $(SHARE)/fish/vendor_completions.d/decl.fish
+PAGES := README.md CHANGELOG.md CONTRIBUTING.md $(wildcard docs/*.md docs/*.svg docs/*.png)
+EXAMPLES := $(wildcard examples/*.* examples/gallery/* examples/many/*)
+CLIENTS := clients/r/decl.R clients/python/README.md clients/python/pyproject.toml $(wildcard clients/python/backend/*.py) \
+	$(wildcard clients/python/src/decl/*.*)
 
-.PHONY: all demo test hostile bench install clean
+.PHONY: all demo test hostile bench help install uninstall clean
 
-all: $(PROGRAM)
+all: $(PROGRAM) ## proves and builds the program (the first time takes many minutes); it needs rt
 
 $(PROGRAM): $(SOURCES)
 	@.ci/build
 	@touch $@
 
-demo: $(PROGRAM)
+demo: $(PROGRAM) ## the same, and runs it on two examples
 	@echo "decl: two dice, from examples/dice.decl"
 	$(PROGRAM) run pmf:2 cdf:9 mean q:0.9 layer:5xs5 < examples/dice.decl
 	@echo "decl: a portfolio of three units, from examples/portfolio.decl"
 	$(PROGRAM) run --digits 4 mean q:0.99 tail:0.99 layer:100xs400 kappa:Motor:425 < examples/portfolio.decl
 
-# Every proof, must-fail edit, test and program, and then the clients: the last line is 'N passed, M failed'.
-test:
+test: ## every proof, must-fail edit, test and program, and the clients: it ends with 'N passed, M failed'
 	@.ci/test
 
-hostile: $(PROGRAM)
+hostile: $(PROGRAM) ## failing outputs, broken texts and little memory, on the built program
 	python3 scripts/hostile.py $(PROGRAM)
 
-# Times and memory beside C, numpy and R, as a table; PAGE=docs/SPEED.md puts it there, BUILDS="before=PROGRAM" measures others too.
-bench: $(PROGRAM)
+# PAGE=docs/SPEED.md puts the table there, BUILDS="before=PROGRAM" measures others too.
+bench: $(PROGRAM) ## times and memory beside C, numpy and R, as a table
 	python3 bench/bench.py $(if $(PAGE),--page $(PAGE)) $(BUILDS)
 
-install: $(PROGRAM)
-	install -d "$(DESTDIR)$(PREFIX)/bin" "$(SHARE)/man/man1"
-	install -m 755 $(PROGRAM) "$(DESTDIR)$(PREFIX)/bin/decl"
-	install -m 644 docs/decl.1 "$(SHARE)/man/man1/decl.1"
-	install -d "$(SHARE)/bash-completion/completions" "$(SHARE)/zsh/site-functions" "$(SHARE)/fish/vendor_completions.d"
-	install -m 644 share/decl.bash "$(SHARE)/bash-completion/completions/decl"
-	install -m 644 share/decl.zsh "$(SHARE)/zsh/site-functions/_decl"
-	install -m 644 share/decl.fish "$(SHARE)/fish/vendor_completions.d/decl.fish"
+help: ## this list
+	@sed -n 's/^\([a-z]*\):.* ## /make \1\t/p' Makefile | expand -t 18
 
-clean:
+# A program that is older than the sources is installed as it is.
+install: ## installs what was built under PREFIX (/usr/local), with pages and completions; it builds nothing
+	@test -x $(PROGRAM) || { echo "decl: there is no $(PROGRAM) to install: 'make' builds it" >&2; exit 1; }
+	install -D -m 755 $(PROGRAM) "$(BIN)/decl"
+	install -D -m 644 docs/decl.1 "$(SHARE)/man/man1/decl.1"
+	install -D -m 644 share/decl.bash "$(SHARE)/bash-completion/completions/decl"
+	install -D -m 644 share/decl.zsh "$(SHARE)/zsh/site-functions/_decl"
+	install -D -m 644 share/decl.fish "$(SHARE)/fish/vendor_completions.d/decl.fish"
+	@echo "pages, examples and clients to $(DOC)"
+	@for file in $(PAGES) $(EXAMPLES) $(CLIENTS); do \
+		mode=644; test ! -x "$$file" || mode=755; \
+		install -D -m $$mode "$$file" "$(DOC)/$$file" || exit 1; \
+	done
+
+uninstall: ## removes what install has put under PREFIX
+	rm -f $(foreach file,$(INSTALLED),"$(file)")
+	rm -rf "$(DOC)"
+
+clean: ## removes what the kit has made, the kept proofs too
 	rm -rf crates/*/out
