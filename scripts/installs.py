@@ -1,6 +1,6 @@
 #!/usr/bin/env python3
 """Tests `make install`, `make uninstall` and `make help`: each into a folder of its own, where the examples of the installed README are
-run by the installed program.
+run by the installed program. And that each place of the version has the number of the file VERSION.
 
 The program is DECL, else crates/decl/out/decl. The last line is 'N passed, M failed'.
 """
@@ -106,6 +106,24 @@ class Installs(Case):
         listed = re.findall(r"^make (\w+)", self.made("help").stdout, re.M)
         targets = re.search(r"^\.PHONY: (.*)$", (ROOT / "Makefile").read_text(encoding="utf-8"), re.M)[1].split()
         self.assertEqual(sorted(listed), sorted(targets))
+
+
+class Version(unittest.TestCase):
+    """One number, in VERSION, and one date, in CHANGELOG.md."""
+
+    def found(self, name, pattern):
+        """The groups of the first place in a file of the repository where the pattern fits."""
+        found = re.search(pattern, (ROOT / name).read_text(encoding="utf-8"), re.M)
+        self.assertIsNotNone(found, name)
+        return found.groups()
+
+    def test_each_place_has_the_number(self):
+        (version,) = self.found("VERSION", r"\A(\d+\.\d+(?:\.\d+)?)\n\Z")
+        released, date = self.found("CHANGELOG.md", r"^## ([0-9.]+) \((\d{4}-\d\d-\d\d)\)$")
+        self.assertEqual(self.found("docs/decl.1", r'^\.TH DECL 1 "([0-9-]+)" "decl ([0-9.]+)"'), (date, version))
+        self.assertEqual(released, version)
+        self.assertEqual(self.found("clients/python/pyproject.toml", r'^version = "(.*)"$'), (version,))
+        self.assertEqual(self.found("clients/python/src/decl/__init__.py", r'^__version__ = "(.*)"$'), (version,))
 
 
 def main():

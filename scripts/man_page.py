@@ -1,9 +1,8 @@
 #!/usr/bin/env python3
 """Checks docs/decl.1 against the other pages, and runs its examples.
 
-It renders without a warning (where groff is installed); its version is that of CHANGELOG.md and of the Python client; each option, ask
-and message of docs/USAGE.md and each rule of docs/LANGUAGE.md is in it; and each example writes what stands below it, where `$ cat FILE`
-makes the file. The program is DECL, else crates/decl/out/decl. The last line is 'N passed, M failed'.
+It renders without a warning (where groff is installed); each option, ask and message of docs/USAGE.md and each rule of docs/LANGUAGE.md
+is in it; and each example writes what stands below it, where `$ cat FILE` makes the file. The program is DECL, else crates/decl/out/decl. The last line is 'N passed, M failed'.
 """
 
 import os
@@ -49,13 +48,6 @@ def named():
         yield "docs/LANGUAGE.md", f"{number} {name}"
 
 
-def versions():
-    """Each place of the version, with the version."""
-    yield "docs/decl.1", re.search(r'^\.TH DECL 1 "[0-9-]+" "decl ([0-9.]+)"', PAGE.read_text(), re.M)[1]
-    yield "CHANGELOG.md", re.search(r"[0-9]+\.[0-9]+\.[0-9]+", read("CHANGELOG.md"))[0]
-    yield "clients/python/pyproject.toml", re.search(r'^version = "([0-9.]+)"', read("clients/python/pyproject.toml"), re.M)[1]
-
-
 def examples():
     """The commands of the page, each with the lines below it."""
     found = []
@@ -73,9 +65,6 @@ def wrong():
     if shutil.which("groff"):
         done = subprocess.run(["groff", "-ww", "-man", "-Tutf8", PAGE], capture_output=True, text=True)
         yield done.stderr and f"groff warns: {done.stderr}"
-    found = dict(versions())
-    for place, version in found.items():
-        yield version != found["docs/decl.1"] and f"the man page has version {found['docs/decl.1']}, and {place} has {version}"
     text = plain(PAGE.read_text())
     for place, words in named():
         yield words not in text and f"{place} says {words}, and the man page does not"

@@ -35,7 +35,7 @@ from .faults import (
 from .magic import load_ipython_extension
 from .reports import Report, Row
 
-__version__ = "0.1.0"
+__version__ = "0.2"
 
 __all__ = [
     "AskFault",
