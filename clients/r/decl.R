@@ -147,7 +147,9 @@ decl_spelled <- function(value, name) {
     most <- if (value == round(value)) 15L else 11L
     if (as.numeric(decimal) == value && nchar(gsub("[^0-9]", "", decimal)) <= most) return(decimal)
     fraction <- decl_fraction(value)
-    if (is.null(fraction)) stop(name, " = ", decimal, " is no decimal or fraction that decl takes; give it as text")
+    if (is.null(fraction)) {
+        stop(name, " = ", format(value, digits = 17), " is no decimal or fraction that decl takes; give it as text")
+    }
     fraction
 }
 

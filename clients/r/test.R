@@ -61,7 +61,7 @@ test("a fraction is passed on exactly", {
     spelled <- vapply(list(250, 250L, 0.25, 1/3, 2/7, 355/113, 1e-5, 1e12, 1e5, 0.12345678901), decl_spelled, "", "bs")
     wanted <- c("250", "250", "0.25", "1/3", "2/7", "355/113", "0.00001", "1000000000000", "100000", ".12345678901")
     stopifnot(identical(spelled, wanted))
-    for (bad in list(pi, NA, c(1, 2), TRUE, Inf)) {
+    for (bad in list(pi, 0.1 + 0.2, NA, c(1, 2), TRUE, Inf)) {
         stopifnot(inherits(try(decl_run(text, "mean", bs = bad), silent = TRUE), "try-error"))
     }
 })
