@@ -5,6 +5,7 @@ SOURCES := crates.txt $(shell find crates -name out -prune -o -type f -print)
 BIN := $(DESTDIR)$(PREFIX)/bin
 SHARE := $(DESTDIR)$(PREFIX)/share
 DOC := $(SHARE)/doc/decl
+PACKAGES := build
 INSTALLED := $(BIN)/decl $(SHARE)/man/man1/decl.1 $(SHARE)/bash-completion/completions/decl \
 	$(SHARE)/zsh/site-functions/_decl $(SHARE)/fish/vendor_completions.d/decl.fish
 PAGES := README.md CHANGELOG.md CONTRIBUTING.md $(wildcard docs/*.md docs/*.svg docs/*.png)
@@ -12,7 +13,7 @@ EXAMPLES := $(wildcard examples/*.* examples/gallery/* examples/many/*)
 CLIENTS := clients/r/decl.R clients/python/README.md clients/python/pyproject.toml $(wildcard clients/python/backend/*.py) \
 	$(wildcard clients/python/src/decl/*.*)
 
-.PHONY: all demo test hostile bench help install uninstall clean
+.PHONY: all demo test hostile bench help install dist deb wheel uninstall clean
 
 all: $(PROGRAM) ## proves and builds the program (the first time takes many minutes); it needs rt
 
@@ -53,9 +54,18 @@ install: ## installs what was built under PREFIX (/usr/local), with pages and co
 		install -D -m $$mode "$$file" "$(DOC)/$$file" || exit 1; \
 	done
 
+dist: ## a tarball of what install puts under a prefix, and its SHA256, in build
+	@scripts/package $@ $(PROGRAM) $(PACKAGES)
+
+deb: ## a package for Debian and Ubuntu, in build
+	@scripts/package $@ $(PROGRAM) $(PACKAGES)
+
+wheel: ## the Python client with the program inside, in build
+	@scripts/package $@ $(PROGRAM) $(PACKAGES)
+
 uninstall: ## removes what install has put under PREFIX
 	rm -f $(foreach file,$(INSTALLED),"$(file)")
 	rm -rf "$(DOC)"
 
-clean: ## removes what the kit has made, the kept proofs too
-	rm -rf crates/*/out
+clean: ## removes what was built and packed, the kept proofs too
+	rm -rf crates/*/out build

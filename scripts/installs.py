@@ -1,8 +1,10 @@
 #!/usr/bin/env python3
-"""Tests `make install`, `make uninstall` and `make help`: each into a folder of its own, where the examples of the installed README are
-run by the installed program. And that each place of the version has the number of the file VERSION.
+"""Tests `make install` and the packages: each is installed into a folder, a root or an environment of its own, which has nothing else but
+the C library, and the examples of its README are run there, by its program. And that each place of the version has the number of the
+file VERSION.
 
-The program is DECL, else crates/decl/out/decl. The last line is 'N passed, M failed'.
+A root is entered by chroot, as root, or in a namespace of the user's. The program is DECL, else crates/decl/out/decl. The last line is
+'N passed, M failed', and ', K skipped' where a tool is not there.
 """
 
 import io
@@ -108,6 +110,126 @@ class Installs(Case):
         self.assertEqual(sorted(listed), sorted(targets))
 
 
+class Packages(Case):
+    """What `make dist`, `make deb` and `make wheel` make."""
+
+    @classmethod
+    def setUpClass(cls):
+        room = tempfile.TemporaryDirectory()
+        cls.addClassCleanup(room.cleanup)
+        cls.folder, cls.once = pathlib.Path(room.name), {}
+
+    def packed(self, kind, *tools):
+        """The package, made once for all tests, where these tools and those that it is made with are installed."""
+        for tool in ("strip", *{"deb": ["dpkg-deb"]}.get(kind, []), *tools):
+            if not shutil.which(tool):
+                raise unittest.SkipTest(f"{tool} is not installed")
+        if kind not in self.once:
+            self.once[kind] = pathlib.Path(self.made(kind, f"PACKAGES={self.folder}").stdout.splitlines()[-1])
+        return self.once[kind]
+
+    def empty_root(self):
+        """A root with what the program needs of this system, the C library and its loader, and how to enter it."""
+        root = self.room / "root"
+        needed = subprocess.run(["ldd", str(BUILT)], capture_output=True, text=True).stdout
+        for file in re.findall(r"(/\S+) \(0x", needed):
+            (root / file[1:]).parent.mkdir(parents=True, exist_ok=True)
+            shutil.copy(file, root / file[1:])
+            loader = file
+        for enter in (["chroot", str(root)], ["unshare", "--map-root-user", f"--root={root}"]):
+            try:
+                if not subprocess.run([*enter, loader, "--version"], capture_output=True).returncode:
+                    return root, enter
+            except OSError:
+                pass
+        raise unittest.SkipTest("no root can be entered: neither chroot nor unshare runs here")
+
+    def runs_in(self, root, enter, prefix):
+        """Runs the examples of the README below the prefix by the program there, inside the root."""
+        inside = self.room / "inside"
+        inside.write_text(f"#!/bin/sh\nexec {' '.join(enter)} {prefix}/bin/decl \"$@\"\n")
+        inside.chmod(0o755)
+        self.runs_examples(root / prefix[1:] / "share" / "doc" / "decl", inside)
+
+    def test_the_tarball(self):
+        packed = self.packed("dist")
+        root, enter = self.empty_root()
+        (root / "opt").mkdir()
+        for words in (["sha256sum", "-c", f"{packed.name}.sha256"], ["tar", "-xzf", packed.name, "--strip-components=1", "-C", root / "opt"]):
+            done = subprocess.run(words, cwd=packed.parent, capture_output=True, text=True)
+            self.assertEqual(done.returncode, 0, done.stderr)
+        sums = subprocess.run(["sha256sum", "-c", "share/doc/decl/SHA256SUMS"], cwd=root / "opt", capture_output=True, text=True)
+        self.assertEqual(sums.returncode, 0, sums.stderr)
+        self.runs_in(root, enter, "/opt")
+
+    def test_the_debian_package(self):
+        packed = self.packed("deb", "dpkg")
+        as_root = [] if os.geteuid() == 0 else ["fakeroot"]
+        if as_root and not shutil.which("fakeroot"):
+            raise unittest.SkipTest("fakeroot is not installed")
+        root, enter = self.empty_root()
+        before = {each for each in root.rglob("*") if each.is_file()}
+        (root / "var/lib/dpkg/info").mkdir(parents=True)
+        (root / "var/lib/dpkg/updates").mkdir()
+        libc = subprocess.run(["ldd", "--version"], capture_output=True, text=True).stdout.split("\n")[0].split()[-1]
+        facts = ["Package: libc6", "Status: install ok installed", "Maintainer: none", "Architecture: amd64", f"Version: {libc}"]
+        (root / "var/lib/dpkg/status").write_text("\n".join([*facts, "Description: the C library", ""]))
+        dpkg = [*as_root, "dpkg", f"--root={root}", "--force-bad-path"]
+        done = subprocess.run([*dpkg, "--install", packed], capture_output=True, text=True)
+        self.assertEqual(done.returncode, 0, done.stderr)
+        self.runs_in(root, enter, "/usr")
+        done = subprocess.run([*dpkg, "--purge", "decl"], capture_output=True, text=True)
+        self.assertEqual(done.returncode, 0, done.stderr)
+        left = {each for each in root.rglob("*") if each.is_file()} - before
+        self.assertFalse({each for each in left if not each.is_relative_to(root / "var")})
+
+    def test_the_debian_package_has_no_errors(self):
+        packed = self.packed("deb", "lintian")
+        done = subprocess.run(["lintian", "--allow-root", "--fail-on", "error", packed], capture_output=True, text=True)
+        self.assertEqual(done.returncode, 0, done.stdout + done.stderr)
+
+    def test_the_wheel(self):
+        packed = self.packed("wheel")
+        fresh = self.room / "venv"
+        if subprocess.run([sys.executable, "-m", "venv", fresh], capture_output=True).returncode:
+            raise unittest.SkipTest("python3 -m venv does not run here")
+        done = subprocess.run([fresh / "bin" / "pip", "install", "--no-index", packed], capture_output=True, text=True)
+        self.assertEqual(done.returncode, 0, done.stderr)
+        command = self.room / "command"
+        command.write_text(f"#!/bin/sh\nunset PYTHONPATH\nexec {fresh}/bin/decl \"$@\"\n")
+        command.chmod(0o755)
+        self.runs_examples(ROOT, command)
+        ask = "import decl; print(decl.program.find()); print(decl.run('agg D dfreq [2] dsev [1:6]', ['pmf:2']), end='')"
+        done = subprocess.run([fresh / "bin" / "python", "-c", ask], env={}, cwd=self.room, capture_output=True, text=True)
+        self.assertRegex(done.stdout, rf"\A{self.room}/venv/lib/\S*/decl/bin/decl\npmf:2 0.027777 0.027778\n\Z", done.stderr)
+
+    def test_the_same_bytes_again(self):
+        for kind in ("dist", "wheel", "deb"):
+            first = self.packed(kind)
+            self.made(kind, f"PACKAGES={self.room}")
+            self.assertEqual((self.room / first.name).read_bytes(), first.read_bytes(), kind)
+
+    def test_names_have_the_version(self):
+        version = (ROOT / "VERSION").read_text(encoding="utf-8").strip()
+        self.assertEqual(self.packed("dist").name, f"decl-{version}-x86_64-linux.tar.gz")
+        self.assertEqual(self.packed("wheel").name, f"decl_client-{version}-py3-none-manylinux_2_34_x86_64.whl")
+        self.assertEqual(self.packed("deb").name, f"decl_{version}_amd64.deb")
+
+    def test_no_program_no_package(self):
+        for kind in ("dist", "deb", "wheel"):
+            done = self.make(kind, f"PACKAGES={self.room}/packages", program=self.room / "none")
+            self.assertNotEqual(done.returncode, 0)
+            self.assertIn(f"there is no {self.room}/none, which 'make' builds", done.stderr)
+
+    def test_a_later_libc_is_refused(self):
+        later = self.room / "later"
+        later.write_bytes(BUILT.read_bytes() + b"\0GLIBC_2.99\0")
+        later.chmod(0o755)
+        done = self.make("dist", f"PACKAGES={self.room}/packages", program=later)
+        self.assertNotEqual(done.returncode, 0)
+        self.assertIn("needs glibc 2.99", done.stderr)
+
+
 class Version(unittest.TestCase):
     """One number, in VERSION, and one date, in CHANGELOG.md."""
 
@@ -134,7 +256,10 @@ def main():
     failed = len(result.failures) + len(result.errors)
     if failed:
         print(written.getvalue())
-    print(f"{result.testsRun - failed} passed, {failed} failed")
+    for test, why in result.skipped:
+        print(f"skipped: {test.id().partition('.')[2]}: {why}")
+    skipped = len(result.skipped)
+    print(f"{result.testsRun - failed - skipped} passed, {failed} failed" + (f", {skipped} skipped" if skipped else ""))
     return 1 if failed else 0
 
 

@@ -2,6 +2,8 @@
 
 This is what PEP 517 asks of a build backend, and PEP 660 of an editable install. A wheel is a zip file of
 the modules, with a folder of facts beside them (PEP 427). The facts are those of pyproject.toml.
+
+    decl_wheel.py PROGRAM FOLDER    a wheel for one platform, with the program inside and a command `decl` that is it
 """
 
 import ast
@@ -10,11 +12,18 @@ import hashlib
 import io
 import pathlib
 import re
+import sys
 import tarfile
 import zipfile
 
 HERE = pathlib.Path(__file__).resolve().parent.parent
-WHEEL = "Wheel-Version: 1.0\nGenerator: decl_wheel\nRoot-Is-Purelib: true\nTag: py3-none-any\n"
+WHEEL = "Wheel-Version: 1.0\nGenerator: decl_wheel\nRoot-Is-Purelib: {}\nTag: {}\n"
+ANY = "py3-none-any"
+#: x86-64 Linux with glibc 2.34 or later (PEP 600), as the program needs
+PLATFORM = "py3-none-manylinux_2_34_x86_64"
+#: where the program stands in a wheel that has it; `decl.program` looks there
+PROGRAM = "decl/bin/decl"
+COMMAND = "[console_scripts]\ndecl = decl.program:main\n"
 DATE = (2026, 1, 1, 0, 0, 0)
 
 
@@ -70,21 +79,31 @@ def record_line(name, data):
     return f"{name},sha256={digest},{len(data)}\n"
 
 
-def write_wheel(folder, files):
-    """Writes a wheel of these files to the folder; its name."""
-    files = files + [(f"{FACTS}/METADATA", metadata()), (f"{FACTS}/WHEEL", WHEEL.encode())]
+def write_wheel(folder, files, tag=ANY):
+    """Writes a wheel of these files with this tag to the folder; its name."""
+    facts = WHEEL.format("true" if tag == ANY else "false", tag)
+    files = files + [(f"{FACTS}/METADATA", metadata()), (f"{FACTS}/WHEEL", facts.encode())]
     record = "".join(record_line(name, data) for name, data in files) + f"{FACTS}/RECORD,,\n"
     files = files + [(f"{FACTS}/RECORD", record.encode())]
-    wheel = f"{NAME}-{VERSION}-py3-none-any.whl"
+    wheel = f"{NAME}-{VERSION}-{tag}.whl"
     with zipfile.ZipFile(pathlib.Path(folder) / wheel, "w", zipfile.ZIP_DEFLATED) as archive:
         for name, data in files:
-            archive.writestr(zipfile.ZipInfo(name, DATE), data)
+            entry = zipfile.ZipInfo(name, DATE)
+            entry.external_attr = (0o100755 if name == PROGRAM else 0o100644) << 16
+            entry.compress_type = zipfile.ZIP_DEFLATED
+            archive.writestr(entry, data)
     return wheel
 
 
 def build_wheel(wheel_directory, config_settings=None, metadata_directory=None):
     """The wheel with the modules."""
     return write_wheel(wheel_directory, modules())
+
+
+def build_wheel_with(program, folder):
+    """The wheel with the modules, the program and a command that is it."""
+    inside = [(PROGRAM, pathlib.Path(program).read_bytes()), (f"{FACTS}/entry_points.txt", COMMAND.encode())]
+    return write_wheel(folder, modules() + inside, PLATFORM)
 
 
 def build_editable(wheel_directory, config_settings=None, metadata_directory=None):
@@ -102,3 +121,7 @@ def build_sdist(sdist_directory, config_settings=None):
         facts.size = len(metadata())
         archive.addfile(facts, io.BytesIO(metadata()))
     return f"{top}.tar.gz"
+
+
+if __name__ == "__main__":
+    print(f"{sys.argv[2]}/{build_wheel_with(*sys.argv[1:])}")

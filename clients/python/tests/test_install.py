@@ -1,12 +1,14 @@
-"""`pip install` of the folder, with no network, into a folder and into a fresh environment; what is then there."""
+"""`pip install` of the folder, with no network, into a folder and into a fresh environment; what is then there. Which program is found."""
 
 import os
+import pathlib
 import subprocess
 import sys
 import tempfile
 import unittest
+import unittest.mock
 
-from support import ROOT, BUILT, Case, main
+from support import ROOT, BUILT, Case, decl, main
 
 TRY = "import decl; print(decl.__file__); print(decl.run('agg D dfreq [2] dsev [1:6]', ['pmf:2']), end='')"
 
@@ -17,6 +19,21 @@ print(facts["Version"] == decl.__version__)
 print((pathlib.Path(decl.__file__).parent / "py.typed").exists())
 print(facts["Description-Content-Type"])
 """
+
+
+class Found(Case):
+    def test_the_program_of_the_package(self):
+        """DECL comes first, then the program that a wheel brought along, then the path."""
+        with tempfile.TemporaryDirectory() as folder:
+            for name in ("inside", "decl"):
+                path = pathlib.Path(folder) / name
+                path.touch(mode=0o755)
+            with unittest.mock.patch.object(decl.program, "INSIDE", pathlib.Path(folder) / "inside"):
+                self.assertEqual(decl.program.find(), BUILT)
+                with unittest.mock.patch.dict(os.environ, {"DECL": "", "PATH": folder}):
+                    self.assertEqual(decl.program.find(), os.path.join(folder, "inside"))
+            with unittest.mock.patch.dict(os.environ, {"DECL": "", "PATH": folder}):
+                self.assertEqual(decl.program.find(), os.path.join(folder, "decl"))
 
 
 class Install(Case):

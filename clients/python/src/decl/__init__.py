@@ -5,7 +5,7 @@
     >>> report["pmf:2"].low, report["pmf:2"].high
     (Fraction(27777, 1000000), Fraction(13889, 500000))
 
-The program is the one that the variable DECL names, else `decl` on the path.
+The program is the one that the variable DECL names, else the one of the package, where it has one, else `decl` on the path.
 """
 
 from .calls import check, fmt, made, report, run

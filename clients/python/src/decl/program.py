@@ -1,17 +1,24 @@
 """Finds the program, and runs it once."""
 
 import os
+import pathlib
 import shutil
+import signal
 import subprocess
+import sys
 from typing import Iterable, Optional, Sequence, Tuple, Union
 
 from . import faults
 from .told import fault_of
 
 
+#: Where a wheel that has the program puts it, beside these modules.
+INSIDE = pathlib.Path(__file__).parent / "bin" / "decl"
+
+
 def find() -> str:
-    """The program that DECL names, else `decl` on the path."""
-    named = os.environ.get("DECL") or "decl"
+    """The program that DECL names, else the one of the package, where it has one, else `decl` on the path."""
+    named = os.environ.get("DECL") or (str(INSIDE) if INSIDE.exists() else "decl")
     found = shutil.which(named)
     if found is None:
         raise faults.ProgramNotFound(
@@ -19,6 +26,13 @@ def find() -> str:
             program=named,
         )
     return found
+
+
+def main() -> None:
+    """Becomes the program of the package: the command `decl` of a wheel that has it."""
+    for number in (signal.SIGPIPE, signal.SIGXFSZ):  # which Python ignores, and a program that it becomes would too
+        signal.signal(number, signal.SIG_DFL)
+    os.execv(INSIDE, ["decl", *sys.argv[1:]])
 
 
 def as_text(text: Union[str, bytes]) -> str:
