@@ -27,7 +27,7 @@ demo: $(PROGRAM) ## the same, and runs it on two examples
 	@echo "decl: a portfolio of three units, from examples/portfolio.decl"
 	$(PROGRAM) run --digits 4 mean q:0.99 tail:0.99 layer:100xs400 kappa:Motor:425 < examples/portfolio.decl
 
-test: ## every proof, must-fail edit, test and program, and the clients: it ends with 'N passed, M failed'
+test: ## every proof, must-fail edit, test and program, and the clients: it ends with 'N passed, M failed, K skipped'
 	@.ci/test
 
 hostile: $(PROGRAM) ## failing outputs, broken texts and little memory, on the built program

@@ -4,7 +4,8 @@
 A command stands behind `$ ` in an indented block of a page, or in the comment on top of an example, and what it writes
 stands below it, up to a blank line or the next command. A line `..` stands for any lines. Where a command ends with
 `> FILE`, what it writes is compared with that file, and the file is left alone. The program is DECL, else
-crates/decl/out/decl; `decl` on the path of a command is that one. The last line is 'N passed, M failed'.
+crates/decl/out/decl; `decl` on the path of a command is that one. It fails where a kind of page, a file that is named or the
+table of rules has nothing to compare. The last line is 'N passed, M failed'.
 
     examples/check.py                   all
     examples/check.py FILE..            these
@@ -19,7 +20,7 @@ import sys
 import tempfile
 
 ROOT = pathlib.Path(__file__).resolve().parent.parent
-PAGES = ["README.md", "docs/*.md", "examples/*.decl", "examples/*/*.decl", "examples/*/*.md"]
+PAGES = ["README.md", "docs/*.md", "examples/*.decl", "examples/*/*.decl"]
 RULE = re.compile(r"\| \d+ [A-Za-z]+ \|.*\| `([^`]*)` \| `(decl: 1:\d+: [^`]*)` \|")
 
 
@@ -115,6 +116,21 @@ def check_rules(world):
         else:
             failed += 1
             print(f"FAILED: docs/LANGUAGE.md: {text}\nstored:\n{message}\nwritten:\n{done.stderr.decode()}")
+    return some("the rules of docs/LANGUAGE.md", passed, failed)
+
+
+def check_all(what, paths, world):
+    """How many commands of these files passed, and how many failed; one more where they have none."""
+    counts = [check(path, world) for path in paths]
+    passed, failed = (sum(count[side] for count in counts) for side in (0, 1))
+    return some(what, passed, failed)
+
+
+def some(what, passed, failed):
+    """The two numbers, and a failure where both are 0."""
+    if passed + failed == 0:
+        print(f"FAILED: {what}: nothing to compare")
+        return 0, 1
     return passed, failed
 
 
@@ -123,14 +139,14 @@ def main():
     built = os.path.abspath(os.environ.get("DECL") or ROOT / "crates" / "decl" / "out" / "decl")
     stores = "--store" in sys.argv
     named = [pathlib.Path(name).resolve() for name in sys.argv[1:] if name != "--store"]
-    paths = named or [path for page in PAGES for path in sorted(ROOT.glob(page))]
+    groups = {str(path): [path] for path in named} or {page: sorted(ROOT.glob(page)) for page in PAGES}
     with tempfile.TemporaryDirectory() as folder:
         os.symlink(built, os.path.join(folder, "decl"))
         world = {**os.environ, "PATH": folder + os.pathsep + os.environ["PATH"], "DECL": built}
         world["PYTHONPATH"] = str(ROOT / "clients" / "python" / "src")
-        for path in paths if stores and named else []:
+        for path in named if stores else []:
             store(path, world)
-        counts = [check(path, world) for path in paths]
+        counts = [check_all(what, paths, world) for what, paths in groups.items()]
         if not named:
             counts.append(check_rules(world))
     passed, failed = (sum(count[side] for count in counts) for side in (0, 1))

@@ -4,8 +4,10 @@
 usage: scripts/hostile.py [-v] PROGRAM
 
 Each case says what is due: the status, the bytes on standard output and the bytes on standard
-error. It holds where all three are as due, within one second of processor time and 300 MB. The last
-line says how many held. The expected bytes were worked by hand, never taken from the program.
+error. It holds where all three are as due, within one second of processor time and 300 MB. Where an
+allocation could not be refused, for want of a C compiler or because the allocator that refuses it is
+not in effect, that is a case that does not hold. The last line says how many held. The expected bytes
+were worked by hand, never taken from the program.
 """
 
 import contextlib
@@ -188,6 +190,13 @@ class Cases:
             print(f"  out {short(end.out)}\n  err {short(end.err)}")
             for status, out, err in dues:
                 print(f"  due: status {status}\n  out {short(out)}\n  err {short(err)}")
+
+    def fact(self, name, holds):
+        """A case of its own, that is no run."""
+        self.all += 1
+        self.held += holds
+        if self.verbose or not holds:
+            print(f"{'held' if holds else 'FAILED'}: {name}")
 
     def case(self, name, words, source, status, out=b"", err=b"", **how):
         self.judge(name, self.start(words, source, **how).end(), (status, out, err))
@@ -468,11 +477,11 @@ def little_memory(cases):
 
 
 def refused_memory(cases):
-    """Each allocation of two runs is refused in turn, where there is a C compiler to build what
-    refuses it: the run ends for want of memory and writes nothing, or gives its own answer."""
+    """Each allocation of two runs is refused in turn: the run ends for want of memory and writes
+    nothing, or gives its own answer. A C compiler builds what refuses it."""
     compiler = shutil.which("cc")
+    cases.fact("a C compiler, to refuse allocations", compiler is not None)
     if compiler is None:
-        print("hostile: no C compiler, so no allocation was refused")
         return
     with tempfile.TemporaryDirectory() as folder:
         library = os.path.join(folder, "refuser.so")
@@ -486,7 +495,8 @@ def refused_memory(cases):
 
 
 def refuse_in_turn(cases, library, name, words, source, own):
-    """Goes on until 20 runs in a row gave their own answer: they have no such allocation."""
+    """Goes on until 20 runs in a row gave their own answer: they have no such allocation. Some run
+    has to end for want of memory, else none was refused."""
     number, in_a_row, refused = 0, 0, 0
     while in_a_row < 20 and number < 20_000:
         number += 1
@@ -495,6 +505,7 @@ def refuse_in_turn(cases, library, name, words, source, own):
         cases.judge(f"{name}, allocation {number} refused", end, own, (MEMORY, b"", b""))
         in_a_row = in_a_row + 1 if end.told() == own else 0
         refused += end.told() != own
+    cases.fact(f"{name}: some allocation was refused", refused > 0)
     print(f"hostile: {name}: {refused} of its allocations were refused in turn")
 
 

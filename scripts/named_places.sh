@@ -1,7 +1,8 @@
 #!/usr/bin/env sh
 # Checks that what the pages name is there: files of a crate ('dl_x/src/y.rt' stands for crates/dl_x/src/y.rt), other files of the
 # repository, laws ('law_x' is a function), definitions ('IsX' stands in the specs/ of a crate), and that each crate has its line in
-# docs/ARCHITECTURE.md and docs/PROOFS.md. The last line is 'N passed, M failed'.
+# docs/ARCHITECTURE.md and docs/PROOFS.md, and in the drawing a line above those of the crates that it stands on. A kind of name of
+# which none is found fails too. The last line is 'N passed, M failed'.
 set -u
 cd "$(dirname "$0")/.." || exit 1
 passed=0
@@ -25,21 +26,53 @@ named() {
     sed 's/[^ ]*\*[^ ]*//g' $pages | grep -oE "(^|[^/[:alnum:]_.-])$1" | sed 's/^[^[:alnum:]]//' | sort -u
 }
 
-for place in $(named 'dl_[a-z]+/(src|specs|proofs|must-fail)/[A-Za-z0-9_/]+\.(rt|antt|edit)'); do
+# some KIND NAMES: the names, and a failure where there are none
+some() {
+    if [ -z "$2" ]; then
+        failed=$((failed + 1))
+        echo "FAILED: the pages name no $1"
+    fi
+    names=$2
+}
+
+some "file of a crate" "$(named 'dl_[a-z]+/(src|specs|proofs|must-fail)/[A-Za-z0-9_/]+\.(rt|antt|edit)')"
+for place in $names; do
     is_there "$place" test -f "crates/$place"
 done
-for place in $(named '(docs|bench|scripts|clients|examples|share)/[A-Za-z0-9_./-]*[A-Za-z0-9]'); do
+some "file of the repository" "$(named '(docs|bench|scripts|clients|examples|share)/[A-Za-z0-9_./-]*[A-Za-z0-9]')"
+for place in $names; do
     is_there "$place" test -e "$place"
 done
-for law in $(grep -ohE '\blaw_[a-z_]+' $pages | sort -u); do
+some law "$(grep -ohE '\blaw_[a-z_]+' $pages | sort -u)"
+for law in $names; do
     is_there "$law" grep -rqE "fn $law\(" crates --include=*.rt
 done
-for word in $(grep -ohE '`(Is|Are|Has|Holds|Declares)[A-Za-z]*' docs/DEFINITIONS.md docs/PROOFS.md | tr -d '`' | sort -u); do
+some definition "$(grep -ohE '`(Is|Are|Has|Holds|Declares)[A-Za-z]*' docs/DEFINITIONS.md docs/PROOFS.md | tr -d '`' | sort -u)"
+for word in $names; do
     is_there "$word" grep -rqE "\b$word\b" crates --include=*.antt --exclude-dir=out --exclude-dir=proofs
 done
-for crate in $(sed -n 's/^\([a-z_]*\)[^:#]*:.*/\1/p' crates.txt); do
+some crate "$(sed -n 's/^\([a-z_]*\)[^:#]*:.*/\1/p' crates.txt)"
+for crate in $names; do
     is_there "the map's row of $crate" grep -q "^| \`$crate\` |" docs/ARCHITECTURE.md
     is_there "what is proved of $crate" grep -qE "^- \`$crate\`|\`$crate\`: " docs/PROOFS.md
+done
+# layer CRATE: the line of the crate in the drawing of the layers
+layer() {
+    sed -nE "s/^ +([0-9]+)  (.*[^a-z_])?$1([^a-z_].*)?\$/\1/p" docs/ARCHITECTURE.md
+}
+
+# above CRATE OTHER: whether the crate has one line, above that of the other
+above() {
+    [ "$(layer "$1")" -gt "$(layer "$2")" ]
+}
+
+some "crate on another" "$(sed -n 's/^\([a-z_]*\):/\1/p' crates.txt | grep -v '^[a-z_]*_tests ' | tr ' ' '~')"
+for line in $names; do
+    crate=${line%%~*}
+    [ "$crate" = "$line" ] && continue
+    for other in $(echo "${line#*~}" | tr '~' '\n' | grep '^dl_'); do
+        is_there "$crate above $other in the drawing" above "$crate" "$other"
+    done
 done
 echo "$passed passed, $failed failed"
 [ "$failed" -eq 0 ]

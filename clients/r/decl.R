@@ -111,7 +111,7 @@ decl_sentences <- c(
     "A list of probabilities needs as many values as the list before it.",
     "Probabilities and weights have to add up to 1; nothing is rescaled.",
     "Each amount, limit and attachment has to be a whole number of buckets; decl_bucket(text) tells the greatest bucket.",
-    "No amount, limit or attachment, nor the end of a layer, may pass 1,048,576 buckets; take larger buckets.",
+    "No amount, limit or attachment may pass 1,048,576 buckets; take larger buckets.",
     "wts needs one weight for each severity of the mixture.",
     "No claim can exceed the attachment of the layer; put a ! behind the severity to keep the claims that do not.",
     "Two layers of one clause overlap; layers may touch.",

@@ -1,4 +1,5 @@
 mod eval;
 mod helpers;
 mod hostile;
+mod limits;
 mod top;

@@ -10,7 +10,7 @@ SENTENCES: Dict[int, str] = {
     5: "A list of probabilities needs as many values as the list before it.",
     6: "Probabilities and weights have to add up to 1; nothing is rescaled.",
     7: "Each amount, limit and attachment has to be a whole number of buckets; decl.bucket(text) tells the greatest bucket.",
-    8: "No amount, limit or attachment, nor the end of a layer, may pass 1,048,576 buckets; take larger buckets.",
+    8: "No amount, limit or attachment may pass 1,048,576 buckets; take larger buckets.",
     9: "wts needs one weight for each severity of the mixture.",
     10: "No claim can exceed the attachment of the layer; put a ! behind the severity to keep the claims that do not.",
     11: "Two layers of one clause overlap; layers may touch.",
