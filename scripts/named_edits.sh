@@ -5,7 +5,7 @@ set -u
 cd "$(dirname "$0")/.." || exit 1
 missing=0
 named=0
-for edit in $(sed -n '/^## Which wrong program/,$p' docs/PROOFS.md | grep -oE '`[a-z_]+/[a-z0-9_]+`' | tr -d '`'); do
+for edit in $(sed -n '/^## Which wrong program/,$p' docs/PROOFS.md | grep -oE '`dl_[a-z_]+/[a-z0-9_]+`' | tr -d '`'); do
     named=$((named + 1))
     file="crates/${edit%%/*}/must-fail/${edit##*/}.edit"
     if [ ! -f "$file" ]; then

@@ -1,0 +1,8 @@
+-- A fixed count that is there decides.
+use Rattle.std.proofs.Common.{rules}
+use Rattle.dl_types.specs.Rules.{count_not_whole}
+use Rattle.dl_types.proofs.exposures.fixed_not_whole.Goals as goal
+
+pub returns-in-Some : goal.returns-in-Some
+unfolding count_not_whole
+returns-in-Some c = search rules
