@@ -165,6 +165,8 @@ def cases(decl):
     many = [Unit("K", "1000 claims dsev [1:5] poisson", "poisson 1000", even(1, 5))]
     trials = "15 claims dsev [1:10] binomial 0.5"
     binomial = [Unit(f"B{number}", trials, "binomial 30 0.5", even(1, 10)) for number in range(16)]
+    often = "745 claims dsev [1:10] binomial 0.5"
+    equal = [Unit(f"E{number}", often, "binomial 1490 0.5", even(1, 10)) for number in range(16)]
     power = [Unit("D", "dfreq [256] dsev [1:1024]", listed([256]), even(1, 1024))]
     table = [Unit("T", "dfreq [0:256] dsev [1:15]", listed(range(257)), even(1, 15))]
     rare = "32768 claims dsev [0 1] [15/16 1/16] binomial 0.5"
@@ -175,6 +177,7 @@ def cases(decl):
     yield Case("a book of three units, 1,024 cells", book(), ["--digits", "4", *asks], log2=10)
     yield Case("a Poisson mean of 1,000, 4,096 cells", many, ["q:0.99", "cdf:3000"])
     yield Case("16 binomial units, 4,096 cells", binomial, ["mean", "cdf:1320", "q:0.99"])
+    yield Case("16 equal units of 745 claims, 4,096 cells", equal, ["cdf:4000", "q:0.99", "tail:0.99"])
     yield Case("16 made units, 4,096 cells", made(decl), ["--digits", "4", "mean", "cdf:2390", "q:0.99"])
     yield Case("256 claims of 1,024 amounts, 4,096 cells", power, ["mean", "cdf:4095"])
     yield Case("a table of 257 counts, 4,096 cells", table, ["mean", "cdf:1024", "q:0.99"])
