@@ -1,6 +1,7 @@
 //! Totals of a program's units: from one grid for each unit, the grid of the sum of all units, and
 //! of the sum of all units but one. The units are independent, so that each unit is taken in by one
-//! product. Where several of these sums are wanted, they share their parts.
+//! product, and the first units that have one grid by squaring. Where several of these sums are
+//! wanted, they share their parts.
 //!
 //! The clauses speak of every list of units whose probabilities add up to 1 and whose aggregate
 //! clauses raise no sum (`AreDeclarable`). Of a valid plan these are its units, `aggregates_of
