@@ -1,6 +1,7 @@
 -- What follows of a reply, and why an accepted text is not refused.
 use Rattle.std.proofs.Common.{ℕ, ◌≡◌, map, String, string_bytes, Global, ◌≤◌, List, [], ◌∷◌, length, get_or, All, Option, None, Some, Ok, Err, IfSome, IsUtf8, arith, refl, sym, ap, subst, ◌∙◌}
 use Rattle.dl_outside.specs.Bytes.{Takes, TakesAtMost}
+use Rattle.dl_outside.specs.Steps.{Step, Reading, all_gave, unread}
 use Rattle.dl_lexer.specs.declared.token.Token.{Token}
 use Rattle.dl_lexer.proofs.CoverLaws.{cover_one, covered_not_bad}
 use Rattle.dl_ast.specs.declared.ast.Program.{Program}
@@ -64,6 +65,10 @@ always (Some x) f = f x
 pub none_taken : (left : Option (List ℕ)) (most : ℕ) → TakesAtMost left left most
 none_taken None most = (0, omega arith, tt)
 none_taken (Some left) most = (0, omega arith, (omega arith, refl))
+
+-- and nothing was read
+pub none_read : {S E : Type 0} {step : Step S E} (source : S) (most : ℕ) → Reading step source most source
+none_read source most = all_gave [] source unread
 
 -- a refusal of the text tells of no failed read
 pub text_was_read : (r : Reply) → IsOfText r → ¬ IsReadFault r

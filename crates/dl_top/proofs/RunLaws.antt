@@ -2,6 +2,8 @@
 use Rattle.std.proofs.Common.{ℕ, ◌≡◌, List, [], Option, arith, refl}
 use Rattle.std.specs.Io.KnownBytes.{Appends}
 use Rattle.dl_outside.specs.Bytes.{AppendsPartOf}
+use Rattle.dl_outside.specs.Steps.{Step}
+use Rattle.dl_outside.specs.declared.ReadFailed.{ReadFailed}
 use Rattle.dl_outside.proofs.Appended.{appends_nothing}
 use Rattle.dl_lexer.specs.declared.token.Token.{Token}
 use Rattle.dl_words.specs.declared.fault.UsageFault.{UsageFault}
@@ -10,10 +12,10 @@ use Rattle.dl_top.specs.declared.status.Status.TheVariants as statuses
 use Rattle.dl_top.specs.declared.fault.Fault.{Fault}
 use Rattle.dl_top.specs.declared.fault.Fault.TheVariants.{Usage, Read, TooLong, BadByte, Syntax, Continuous, Typing, AskBeyond, UnknownUnit, TooWide}
 use Rattle.dl_top.specs.Faults.{status_of, fault_line}
-use Rattle.dl_top.specs.Statuses.{IsAnswerEnd}
+use Rattle.dl_top.specs.Statuses.{IsWritten, IsAnswerEnd}
 use Rattle.dl_top.specs.Answers.{Answers, Refuses, IsAccepted, HasForm, refused}
-use Rattle.dl_top.specs.Runs.{Answered, PartOfMessage}
-use Rattle.dl_top.proofs.ReplyLaws.{accepted, has_form}
+use Rattle.dl_top.specs.Runs.{Answered, PartOfMessage, Ran}
+use Rattle.dl_top.proofs.ReplyLaws.{accepted, has_form, always, none_taken, none_read}
 
 -- the fault that a text was made of
 abbrev pub IsTold : List (List ℕ) → List ℕ → Fault → List ℕ → Type 0
@@ -87,3 +89,31 @@ pub ends_formatted : (words : List (List ℕ)) (input : List ℕ) (fault : Fault
 ends_formatted words input fault text status (tokens, refuses, is) e a =
     let read : fault ≡ Read = has_form words input fault tokens a refuses in
     rw (e, read) tt
+
+-- a call that found no memory and moved nothing keeps all that `run` promises
+pub moved_nothing : {R O E : Type 0} (left : R → Option (List ℕ)) (failed_reads : R → ℕ) (read_step : Step R ReadFailed)
+    (report : O → Option (List ℕ)) (failed_reports : O → ℕ) (message : E → Option (List ℕ)) (failed_messages : E → ℕ)
+    (words : List (List ℕ)) (src : R) (out : O) (err : E)
+    → Ran left failed_reads read_step report failed_reports message failed_messages words src src out out err err
+    statuses.OutOfMemory
+moved_nothing left failed_reads read_step report failed_reports message failed_messages words src out err = record {
+  answer = always _ {Q = λ input. IsWritten statuses.OutOfMemory
+      → Answered words input statuses.OutOfMemory (report out) (report out) (message err) (message err)}
+      (λ input written. absurd written);
+  complete = always _ {Q = λ input. IsAccepted words input → IsAnswerEnd statuses.OutOfMemory} (λ input accepted. tt);
+  formatted = always _ {Q = λ input. HasForm words input → IsAnswerEnd statuses.OutOfMemory} (λ input form. tt);
+  done = λ e. refl;
+  refused = λ refusal. refl;
+  memory = λ e. (refl, refl);
+  usage = λ e. absurd (grind (arith, e));
+  unread = λ fault. (tt, refl);
+  usage_text = λ fault of e. absurd (grind (arith, e));
+  usage_part = λ fault of e. absurd (grind (arith, e));
+  made = λ making. (refl, λ e. grind (arith, e));
+  taken = none_taken _ _;
+  reading = none_read _ _;
+  read_cause = λ e. absurd (grind (arith, e));
+  read_words = λ e. absurd (grind (arith, e));
+  read_text = λ e. absurd (grind (arith, e));
+  write_cause = λ e. absurd (grind (arith, e));
+}

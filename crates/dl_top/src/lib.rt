@@ -3,9 +3,11 @@
 //! [`run`] answers the asks of its words about one program, or writes that program in its canonical
 //! form. The program is what the source has left, or one that is [`made`]. Everything that is
 //! written is made in memory first, and goes to one of two sinks: what was asked for to the one,
-//! the text of a fault to the other.
+//! the text of a fault to the other. [`run_with_arguments`] calls it with the words among the
+//! program's arguments, and gives the number of its status.
 #![tactic(auto)]
 
+mod arguments;
 mod fault;
 mod generator;
 mod law;
@@ -19,6 +21,7 @@ ghost use Rattle.std.specs.String.{string_bytes};
 ghost use Rattle.dl_limits.specs.Limits.{most_text};
 ghost use Rattle.dl_outside.specs.Faults.{Rose};
 ghost use Rattle.dl_outside.specs.Bytes.{TakesAtMost, AppendsPartOf};
+ghost use Rattle.dl_outside.specs.Steps.{Reading};
 ghost use Rattle.dl_words.specs.declared.fault.UsageFault.{UsageFault};
 ghost use Rattle.dl_words.specs.Words.{words_of};
 ghost use Rattle.dl_top.specs.Faults.{fault_line};
@@ -28,6 +31,7 @@ ghost use Rattle.dl_top.specs.Answers.{IsAccepted, HasForm};
 ghost use Rattle.dl_top.specs.Runs.{Answered, PartOfReport, PartOfMessage};
 
 use crate::reply::{Reply, reply_to};
+pub use arguments::run_with_arguments;
 use dl_outside::{Sink, Source, write_all};
 pub use fault::{Fault, fault_text};
 pub use generator::made;
@@ -75,14 +79,16 @@ pub fn run<R: Source, O: Sink, E: Sink>(
         → result ≡ Status.Usage
         → Appends (E.held err.old) (E.held err.new) (fault_line (Fault.Usage fault) [] []) }
     ensures usage_part { (fault : UsageFault) → words_of (map string_bytes words.now) ≡ Err fault
-        → result ≡ Status.WriteFault
-        → AppendsPartOf (E.held err.old) (E.held err.new) (fault_line (Fault.Usage fault) [] []) }
+        → result ≡ Status.WriteFault → (out.new ≡ out.old)
+        × AppendsPartOf (E.held err.old) (E.held err.new) (fault_line (Fault.Usage fault) [] []) }
 
     // Where a program is made the source is not read. Of a longer input than an input may be, one
-    // byte more is taken.
+    // byte more is taken. Each read but the last gave some bytes: none follows the end of the input
+    // or a read that failed.
     ensures made { MakeText (map string_bytes words.now)
         → (src.new ≡ src.old) × (result ≢ Status.ReadFault) }
     ensures taken { TakesAtMost (R.left src.old) (R.left src.new) (most_text + 1) }
+    ensures reading { Reading R.read_step src.old (most_text + 1) src.new }
 
     // A failed read has its cause, and is told.
     ensures read_cause { result ≡ Status.ReadFault → Rose (R.faults src.old) (R.faults src.new) }

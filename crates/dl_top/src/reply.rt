@@ -13,6 +13,7 @@ ghost use Rattle.dl_top.specs.Reports.{written};
 ghost use Rattle.dl_top.specs.Made.{made_of};
 ghost use Rattle.dl_words.specs.Words.{words_of};
 ghost use Rattle.dl_outside.specs.Bytes.{TakesAtMost};
+ghost use Rattle.dl_outside.specs.Steps.{Reading};
 ghost use Rattle.dl_plan.specs.Ranges.{AreInRange};
 ghost use Rattle.dl_ast.specs.WellFormed.{IsWellFormed};
 ghost use Rattle.dl_plan.specs.Valid.{IsValid};
@@ -218,6 +219,7 @@ fn reply_to_source<R: Source>(alloc: Global, settings: &Settings, src: &mut R) -
     ensures read_text { IsReadFault result → Tells result Fault.Read [] [] }
     ensures not_usage { ¬ IsUsage result }
     ensures taken { TakesAtMost (R.left src.old) (R.left src.new) (most_text + 1) }
+    ensures reading { Reading R.read_step src.old (most_text + 1) src.new }
 {
     match read_all(alloc, src, MOST_TEXT) {
         Ok(input) => reply_to_text(alloc, settings, input.as_slice()),
@@ -228,6 +230,7 @@ fn reply_to_source<R: Source>(alloc: Global, settings: &Settings, src: &mut R) -
 }
 
 /// The answer to the words, over the program that they make or what is left of the input.
+#[tactic(auto, using(crate::proofs::ReplyLaws::none_read))]
 pub fn reply_to<R: Source>(alloc: Global, words: &[String], src: &mut R) -> Reply
     ensures reply { IfSome (input_of (map string_bytes words.now) (R.left src.old))
         (λ input. IsReply (map string_bytes words.now) input result) }
@@ -241,6 +244,7 @@ pub fn reply_to<R: Source>(alloc: Global, words: &[String], src: &mut R) -> Repl
     ensures made { MakeText (map string_bytes words.now)
         → (src.new ≡ src.old) × ¬ IsReadFault result }
     ensures taken { TakesAtMost (R.left src.old) (R.left src.new) (most_text + 1) }
+    ensures reading { Reading R.read_step src.old (most_text + 1) src.new }
 
     // A failed read has its cause.
     ensures read_cause { IsReadFault result → Rose (R.faults src.old) (R.faults src.new) }
