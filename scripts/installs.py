@@ -248,10 +248,10 @@ class Version(unittest.TestCase):
         self.assertEqual(self.found("clients/python/src/decl/__init__.py", r'^__version__ = "(.*)"$'), (version,))
 
 
-def main():
-    """Runs the tests, and tells how many passed."""
+def told(module):
+    """Runs the tests of a module, and tells how many passed; the status to end with."""
     written = io.StringIO()
-    found = unittest.defaultTestLoader.loadTestsFromModule(sys.modules[__name__])
+    found = unittest.defaultTestLoader.loadTestsFromModule(module)
     result = unittest.TextTestRunner(stream=written).run(found)
     failed = len(result.failures) + len(result.errors)
     if failed:
@@ -264,4 +264,4 @@ def main():
 
 
 if __name__ == "__main__":
-    sys.exit(main())
+    sys.exit(told(sys.modules[__name__]))

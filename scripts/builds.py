@@ -1,0 +1,165 @@
+#!/usr/bin/env python3
+"""Tests `.ci/build` on a small repository and a program in place of `rt`, which writes what rt writes: what is proved, what is told, and
+what is left where it fails or is stopped.
+
+The last line is 'N passed, M failed'.
+"""
+
+import json
+import os
+import pathlib
+import re
+import shutil
+import signal
+import subprocess
+import sys
+import tempfile
+import time
+import unittest
+
+import installs
+
+ROOT = pathlib.Path(__file__).resolve().parent.parent
+CRATES = """# lowest first
+low:
+mid: low thiserror
+side: low   # beside mid
+decl: mid side
+low_tests: low
+apart:
+"""
+FILES = ["low/must-fail/wrong.edit", "low/specs/Low.antt", "low/proofs/Lib.antt", "low/out/kept", "decl/stdin"]
+ANY = """#!/usr/bin/env python3
+import json, os, pathlib, sys, time
+files = sorted(str(it) for it in pathlib.Path(".").rglob("*") if it.is_file())
+rows = open("crates.txt").read().splitlines() if sys.argv[1] == "ci" else []
+said = {"words": sys.argv[1:], "place": os.path.basename(os.getcwd()), "files": files, "rows": rows, "given": sys.stdin.read()}
+pathlib.Path(os.environ["SAID"]).write_text(json.dumps(said))
+way = os.environ["WAY"]
+if way == "waits":
+    time.sleep(60)
+for name in ("low", "side", "mid", "decl"):
+    if sys.argv[1] == "run":
+        print(f"crate {name}: modules loaded=1 checked=2")
+    elif way == "fails" and name == "side":
+        print("== side", "fn side::well: proved", "error: side::wrong is not proved", "rt: side NOT PROVED", sep="\\n")
+        sys.exit(1)
+    else:
+        print(f"== {name}", f"fn {name}::well: proved", f"rt: {name} {'is kept: by an earlier run' if name == 'low' else 'proved'}", sep="\\n")
+program = pathlib.Path("out/decl" if sys.argv[1] == "run" else "crates/decl/out/decl")
+program.parent.mkdir(exist_ok=True)
+program.write_text("#!/bin/sh\\n")
+program.chmod(0o755)
+"""
+
+
+class Builds(unittest.TestCase):
+    """A build of the small repository."""
+
+    def setUp(self):
+        room = tempfile.TemporaryDirectory()
+        self.addCleanup(room.cleanup)
+        self.room = pathlib.Path(room.name)
+        self.top = self.room / "top"
+        for name in ("low", "mid", "side", "decl", "low_tests", "apart"):
+            self.put(f"crates/{name}/src/{'main' if name == 'decl' else 'lib'}.rt", "//\n")
+        for name in FILES:
+            self.put(f"crates/{name}", "")
+        self.put("crates.txt", CRATES)
+        self.put("HANDLES", "Handles allowed: none.\n")
+        self.put("examples/die.decl", "agg Die dfreq [1] dsev [1:6]\n")
+        self.put(".ci/build", (ROOT / ".ci" / "build").read_text(encoding="utf-8")).chmod(0o755)
+        self.tools, self.copies = self.room / "tools", self.room / "copies"
+        self.copies.mkdir()
+        self.program = self.top / "crates" / "decl" / "out" / "decl"
+
+    def put(self, name, text):
+        """Writes a file of the small repository; its path."""
+        path = self.top / name
+        path.parent.mkdir(parents=True, exist_ok=True)
+        path.write_text(text, encoding="utf-8")
+        return path
+
+    def begin(self, way):
+        """A build with the program in place of `rt`; it fails or waits where `way` says so."""
+        self.tools.mkdir()
+        (self.tools / "rt").write_text(ANY, encoding="utf-8")
+        (self.tools / "rt").chmod(0o755)
+        world = {**os.environ, "PATH": f"{self.tools}:{os.environ['PATH']}", "TMPDIR": str(self.copies), "WAY": way, "SAID": f"{self.room}/said"}
+        words = [sys.executable, "-B", str(self.top / ".ci" / "build")]
+        return subprocess.Popen(words, env=world, stdout=subprocess.PIPE, stderr=subprocess.STDOUT, text=True)
+
+    def build(self, way="well"):
+        """Its status and its lines, once it has ended; no copy is left."""
+        with self.begin(way) as ran:
+            lines = ran.stdout.read().splitlines()
+        self.assertEqual([*self.copies.iterdir()], [])
+        return ran.returncode, lines
+
+    def said(self):
+        """How `rt` was called, and on what files."""
+        return json.loads((self.room / "said").read_text(encoding="utf-8"))
+
+    def test_what_the_program_stands_on_is_proved(self):
+        status, _ = self.build()
+        self.assertEqual((status, os.access(self.program, os.X_OK)), (0, True))
+        said = self.said()
+        self.assertEqual(said["words"], ["ci"])
+        self.assertEqual(said["rows"], CRATES.splitlines()[1:5])
+        wanted = ["HANDLES", "crates.txt", "crates/decl/src/main.rt", "crates/decl/stdin", "crates/low/proofs/Lib.antt"]
+        wanted += ["crates/low/specs/Low.antt", "crates/low/src/lib.rt", "crates/mid/src/lib.rt", "crates/side/src/lib.rt"]
+        self.assertEqual(said["files"], wanted)
+
+    def test_each_crate_is_told_in_a_line(self):
+        _, lines = self.build()
+        self.assertEqual(lines[0], "decl: proves and builds 4 crates, side by side; the first time this takes many minutes")
+        told = [re.sub(r", about \d+ min \d+ s left$", ", TIME", line) for line in lines[1:5]]
+        self.assertEqual(told[0], "decl:  1 of 4, low was proved before")
+        self.assertIn(told[1], ("decl:  2 of 4, side proved", "decl:  2 of 4, side proved, TIME"))
+        self.assertEqual(told[2:], ["decl:  3 of 4, mid proved, TIME", "decl:  4 of 4, decl proved"])
+        self.assertRegex(lines[5], r"\Adecl: done in \d+ min \d+ s: crates/decl/out/decl\Z")
+        self.assertEqual(len(lines), 6)
+
+    def test_what_fails_is_told_and_nothing_replaced(self):
+        self.put("crates/decl/out/decl", "an older program")
+        status, lines = self.build("fails")
+        self.assertEqual(status, 1)
+        self.assertEqual(lines[2:5], ["== side", "error: side::wrong is not proved", "rt: side NOT PROVED"])
+        self.assertRegex(lines[5], r"\Adecl: FAILED after \d+ min \d+ s\Z")
+        self.assertEqual(self.program.read_text(), "an older program")
+
+    def test_kept_work_is_gone_on_from(self):
+        for name in ("low", "mid", "side"):
+            (self.top / "crates" / name / "out" / "incremental").mkdir(parents=True)
+        status, lines = self.build()
+        said = self.said()
+        self.assertEqual((status, said["words"], said["place"]), (0, ["run", "--", "run", "pmf:3"], "decl"))
+        self.assertEqual(said["given"], "agg Die dfreq [1] dsev [1:6]\n")
+        self.assertEqual(lines[0], "decl: proves and builds 4 crates over what rt check has kept")
+        self.assertEqual(lines[4], "decl:  4 of 4, decl proved")
+
+    def test_kept_work_of_some_crates_is_not_enough(self):
+        (self.top / "crates" / "low" / "out" / "incremental").mkdir()
+        self.build()
+        self.assertEqual(self.said()["words"], ["ci"])
+
+    def test_a_build_that_is_stopped_leaves_nothing(self):
+        with self.begin("waits") as ran:
+            while not (self.room / "said").exists():
+                time.sleep(0.05)
+            ran.send_signal(signal.SIGTERM)
+            ran.stdout.read()
+        self.assertEqual(ran.returncode, 143)
+        self.assertEqual([*self.copies.iterdir()], [])
+
+    def test_no_kit(self):
+        self.tools.mkdir()
+        os.symlink(shutil.which("env"), self.tools / "env")
+        words = [sys.executable, "-B", str(self.top / ".ci" / "build")]
+        done = subprocess.run(words, env={"PATH": str(self.tools)}, capture_output=True, text=True)
+        self.assertEqual((done.returncode, done.stdout, done.stderr.count("\n")), (1, "", 1))
+        self.assertIn("a build needs the Rattle kit, and there is no `rt` on the path", done.stderr)
+
+
+if __name__ == "__main__":
+    sys.exit(installs.told(sys.modules[__name__]))
