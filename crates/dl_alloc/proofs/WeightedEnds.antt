@@ -1,7 +1,7 @@
 -- The joint mean from the grids of a unit and of the others: what its ends hold, and how far apart they lie.
 use Rattle.std.proofs.Common.{ℕ, ◌≡◌, ◌+◌, ◌-◌, ◌*◌, ◌/◌, ◌^◌, ◌<◌, ◌≤◌, List, length, arith, ap₂}
 use Rattle.std.specs.Int.{div_ceil}
-use Rattle.std.proofs.Math.Nat.{mul-le-mul, mul-le-mul_left, mul-le-mul_right}
+use Rattle.std.proofs.Math.Nat.{mul-le-mul, mul-le-mul_left, mul-le-mul_right, mul-pos}
 use Rattle.std.proofs.lemmas.Nat.{pow_pos}
 use Rattle.dl_exact.specs.Fraction.{◌over◌}
 use Rattle.dl_exact.proofs.Laws.{le_refl}
@@ -11,7 +11,9 @@ use Rattle.dl_iv.proofs.Rounding.{round_down, round_up, floor_le_ceiling}
 use Rattle.dl_grid.specs.Cells.{low_at, high_at, spread, IsGrid}
 use Rattle.dl_exact.specs.Count.{count_pairs, count_below}
 use Rattle.dl_grid.specs.Width.{cv}
-use Rattle.dl_grid.proofs.CellLaws.{scale_of, one_fits}
+use Rattle.dl_grid.specs.Room.{HasRoom}
+use Rattle.dl_grid.proofs.CellLaws.{scale_of, size_of, one_fits, cells_fit}
+use Rattle.dl_grid.proofs.Room.{grid_room, size_within}
 use Rattle.dl_exact.proofs.Counts.{below_same, below_plus, pairs_le, pairs_same}
 use Rattle.dl_grid.proofs.PlaceSums.{width_at, high_is, low_within, width_within}
 use Rattle.dl_grid.proofs.WidthLaws.{cv_is}
@@ -61,9 +63,7 @@ pub end_fits : {B : ℕ} (unit others : List (Iv B)) (x : ℕ) → IsGrid unit �
     → spread others < 2 ^ B
     → div_ceil (high_weighted unit others x) (2 ^ B) ≤ 2 ^ 127
 end_fits {B} unit others x p q inside v w =
-    let four : 4 * x ≤ 2 ^ 16 = omega (arith, p.few) in
-    let most : 4 * x * 2 ^ B ≤ 2 ^ 16 * 2 ^ 56 = mul-le-mul four (one_fits B (scale_of unit p.some).1) in
-    omega (arith, end_top unit others x p q v w, most)
+    omega (arith, end_top unit others x p q v w, cells_fit unit x p (omega arith))
 
 -- and up to 8192 it can be divided by a probability
 pub end_divisible : {B : ℕ} (cells : List (Iv B)) (x hi : ℕ) → IsGrid cells → hi ≤ 4 * x * 2 ^ B → x ≤ 8192
@@ -85,39 +85,36 @@ ends_order {B} unit others x =
 -- ---- a walk over the outcomes of the unit
 
 -- where the sums of the weights are at most 2, all sums fit
-fits : (S x sum : ℕ) → S ≤ 2 ^ 56 → x < 16384 → sum ≤ x * (2 * S) * (2 * S) → sum < 2 ^ 128
-fits S x sum small few h =
-    let four : 4 * x ≤ 4 * 16383 = omega arith in
-    let most : 4 * x * S * S ≤ 4 * 16383 * 2 ^ 56 * 2 ^ 56 = mul-le-mul (mul-le-mul four small) small in
-    omega (arith, top S x, most)
+fits : (S x sum : ℕ) → 0 < S → HasRoom (x + 1) S → sum ≤ x * (2 * S) * (2 * S) → sum < 2 ^ 128
+fits S x sum some room h = omega (arith, top S x, room.sums, mul-pos some some)
 
 -- the sum with one outcome more
-step : (S x y sum u v : ℕ) (f g : ℕ → ℕ) → S ≤ 2 ^ 56 → x < 16384 → count_below (x + 1) f ≤ 2 * S
+step : (S x y sum u v : ℕ) (f g : ℕ → ℕ) → 0 < S → HasRoom (x + 1) S → count_below (x + 1) f ≤ 2 * S
     → count_below (x + 1) g ≤ 2 * S → y ≤ x → u ≡ f y → v ≡ g (x - y)
     → sum ≡ count_below y (λ y. y * f y * g (x - y))
     → (sum + y * u * v ≡ count_below (y + 1) (λ y. y * f y * g (x - y))) × (sum + y * u * v < 2 ^ 128)
-step S x y sum u v f g small few p q here own other e = (
+step S x y sum u v f g some room p q here own other e = (
   one_more y x sum u v f g e own other,
-  fits S x _ small few (one_more_fits y x (2 * S) (2 * S) sum u v f g here e own other p q),
+  fits S x _ some room (one_more_fits y x (2 * S) (2 * S) sum u v f g here e own other p q),
 )
 
 module _ {B : ℕ} (unit others : List (Iv B)) (x y sum u v : ℕ) (p : IsGrid unit) (q : IsGrid others)
     (inside : x < length unit) (here : y ≤ x) where
-  scale : 2 ^ B ≤ 2 ^ 56
-  scale = one_fits B (scale_of unit p.some).1
+  room : HasRoom (x + 1) (2 ^ B)
+  room = grid_room (size_within (size_of unit p) (omega arith) (omega arith))
 
   pub low_step : u ≡ low_at unit y → v ≡ low_at others (x - y)
       → sum ≡ count_below y (λ y. y * low_at unit y * low_at others (x - y))
       → (sum + y * u * v ≡ count_below (y + 1) (λ y. y * low_at unit y * low_at others (x - y)))
       × (sum + y * u * v < 2 ^ 128)
-  low_step = step (2 ^ B) x y sum u v (low_at unit) (low_at others) scale (omega (arith, p.few))
+  low_step = step (2 ^ B) x y sum u v (low_at unit) (low_at others) (pow_pos B) room
       (omega (arith, low_within (x + 1) unit, p.mass)) (omega (arith, low_within (x + 1) others, q.mass)) here
 
   pub high_step : spread unit < 2 ^ B → spread others < 2 ^ B → u ≡ high_at unit y → v ≡ high_at others (x - y)
       → sum ≡ count_below y (λ y. y * high_at unit y * high_at others (x - y))
       → (sum + y * u * v ≡ count_below (y + 1) (λ y. y * high_at unit y * high_at others (x - y)))
       × (sum + y * u * v < 2 ^ 128)
-  high_step narrow thin = step (2 ^ B) x y sum u v (high_at unit) (high_at others) scale (omega (arith, p.few))
+  high_step narrow thin = step (2 ^ B) x y sum u v (high_at unit) (high_at others) (pow_pos B) room
       (high_mass unit (x + 1) p narrow) (high_mass others (x + 1) q thin) here
 
 -- ---- what they hold

@@ -2,8 +2,8 @@
 
 ghost use Rattle.std.specs.Prelude.{◌≡◌, ◌≢◌, ℕ, ◌+◌, ◌-◌, ◌*◌, ◌^◌, ◌<◌, ◌≤◌, ◌==◌, if◌then◌else◌, min, length, IfOk, IsSome, MatchOption};
 ghost use Rattle.dl_cede.specs.Kept.{width_at, where_whole, sum_elsewhere, IsTakenIn, IsLeft};
-ghost use Rattle.dl_limits.specs.Limits.{most_cells};
 ghost use Rattle.dl_grid.specs.Cells.{low_at, high_at, mass_low, spread};
+ghost use Rattle.dl_grid.specs.Room.{IsGridSize};
 ghost use Rattle.dl_exact.specs.Fraction.{whole};
 ghost use Rattle.dl_model.specs.Plans.{aggregate_of, compound_of};
 ghost use Rattle.dl_plan.specs.Horizon.{IsHorizonOf};
@@ -47,11 +47,8 @@ fn taken_in<const B: u32>(
     sums: &Grid<B>,
     cells: u32,
 ) -> Result<Grid<B>, AllocError>
-    requires scale_above { 1 ≤ B }
-    requires scale_below { B ≤ 56 }
+    requires size { IsGridSize B cells }
     requires clause { IsClause cede.now }
-    requires some { 1 ≤ cells }
-    requires few { cells ≤ most_cells }
     ensures cells { IfOk result (λ g. length g ≡ cells) }
     ensures ends { IfOk result (λ g. (y : ℕ) → y < cells → IsTakenIn cede.now sums.now g y) }
     ensures mass { IfOk result (λ g. mass_low g
@@ -109,11 +106,8 @@ pub fn kept_cells<const B: u32>(
     sums: &Grid<B>,
     cells: u32,
 ) -> Result<Grid<B>, AllocError>
-    requires scale_above { 1 ≤ B }
-    requires scale_below { B ≤ 56 }
+    requires size { IsGridSize B cells }
     requires clause { IsClause cede.now }
-    requires some { 1 ≤ cells }
-    requires few { cells ≤ most_cells }
     ensures cells { IfOk result (λ g. length g ≡ cells) }
     ensures inside { IfOk result (λ g. (y : ℕ) → y < cells
         → kept cede.now (length sums.now) ≢ whole y
@@ -144,10 +138,7 @@ pub fn cede_grid<const B: u32>(
 ) -> Result<Grid<B>, AllocError>
     requires valid { (all : ℕ) × IsValidUnit all unit.now }
     requires clause { IsSome unit.now.cede }
-    requires scale_above { 1 ≤ B }
-    requires scale_below { B ≤ 56 }
-    requires some { 1 ≤ cells }
-    requires few { cells ≤ most_cells }
+    requires size { IsGridSize B cells }
     requires horizon { IsHorizonOf unit.now.cede cells (length grid.now) }
     requires encloses { GridEncloses grid.now (compound_of unit.now.freq unit.now.sev) }
     ensures cells { IfOk result (λ g. length g ≡ cells) }

@@ -1,15 +1,10 @@
 -- One sum of a product of two lists: the products of the items whose places add up to s, place by place of the first.
 use Rattle.std.specs.Prelude.{max}
-use Rattle.dl_conv.proofs.Common.{ℕ, suc, ◌≡◌, ◌+◌, ◌-◌, ◌*◌, ◌^◌, ◌<◌, ◌≤◌, List, length, get_or, arith, sym, ap₂, inl, inr, ◌∙◌, min, All, mul-le-mul, cases_lt, most_cells, count_below, below_none, below_more, below_bound, below_pairs, IsSame, pair_sum}
+use Rattle.dl_conv.proofs.Common.{ℕ, suc, ◌≡◌, ◌+◌, ◌-◌, ◌*◌, ◌^◌, ◌<◌, ◌≤◌, List, length, get_or, arith, sym, ap₂, ◌∙◌, min, mul-le-mul, count_below, below_none, below_more, below_bound, below_pairs, IsSame, ItemsFit, pair_sum}
 use Rattle.std.proofs.lemmas.List.{get_or_past}
 use Rattle.dl_exact.proofs.Counts.{below_rest, nothing_times, times_nothing}
+use Rattle.dl_conv.proofs.Fits.{end_fits, products_fit}
 use Rattle.dl_conv.proofs.Same.{same, same_sym, same_then, same_plus}
-
-pub end_fits : (xs : List ℕ) → All (λ x. x ≤ 2 ^ 56) xs → (k : ℕ) → get_or xs k 0 ≤ 2 ^ 56
-end_fits xs small k = elim (cases_lt k (length xs)) [
-  | inl inside ↦ small k 0 inside
-  | inr past ↦ omega (arith, get_or_past xs k 0 past)
-]
 
 -- the sum over the first n places
 abbrev pub column : List ℕ → List ℕ → (s n : ℕ) → ℕ
@@ -43,15 +38,15 @@ pub column_next : (xs ys : List ℕ) (s i total part : ℕ) → total ≡ column
 column_next xs ys s i total part e h = omega (arith, below_more i (λ k. get_or xs k 0 * get_or ys (s - k) 0), e, h)
 
 -- which passes no 128 bits
-pub column_fits : (xs ys : List ℕ) (s i total part : ℕ) → All (λ x. x ≤ 2 ^ 56) xs → All (λ y. y ≤ 2 ^ 56) ys
-    → i < most_cells → total ≡ column xs ys s i → part ≡ get_or xs i 0 * get_or ys (s - i) 0 → total + part < 2 ^ 128
-column_fits xs ys s i total part p q few e h =
-    let before : column xs ys s i ≤ i * (2 ^ 56 * 2 ^ 56) =
-    below_bound i (2 ^ 56 * 2 ^ 56) (λ k. get_or xs k 0 * get_or ys (s - k) 0)
-    (λ k inside. mul-le-mul (end_fits xs p k) (end_fits ys q (s - k))) in
-    let here : get_or xs i 0 * get_or ys (s - i) 0 ≤ 2 ^ 56 * 2 ^ 56 =
-    mul-le-mul (end_fits xs p i) (end_fits ys q (s - i)) in
-    omega (arith, before, here, e, h)
+pub column_fits : (xs ys : List ℕ) (s i n total part : ℕ) → ItemsFit xs ys n → i < n → total ≡ column xs ys s i
+    → part ≡ get_or xs i 0 * get_or ys (s - i) 0 → total + part < 2 ^ 128
+column_fits xs ys s i n total part f few e h =
+    let before : column xs ys s i ≤ i * (f.top * f.top) =
+    below_bound i (f.top * f.top) (λ k. get_or xs k 0 * get_or ys (s - k) 0)
+    (λ k inside. mul-le-mul (end_fits xs f.top f.first k) (end_fits ys f.top f.second (s - k))) in
+    let here : get_or xs i 0 * get_or ys (s - i) 0 ≤ f.top * f.top =
+    mul-le-mul (end_fits xs f.top f.first i) (end_fits ys f.top f.second (s - i)) in
+    omega (arith, before, here, products_fit f (suc i) few, e, h)
 
 -- and modulo 2^128
 pub column_more : (xs ys : List ℕ) (s i sum product total a b : ℕ)

@@ -1,12 +1,13 @@
 -- The ends of the cells of a grid, and the convolution's rounding read as the grid's own facts.
-use Rattle.dl_conv.proofs.Common.{ℕ, suc, ◌≡◌, ◌+◌, ◌-◌, ◌*◌, ◌/◌, ◌^◌, ◌<◌, ◌≤◌, List, [], ◌∷◌, length, arith, refl, ap, ap₂, inl, inr, ◌∙◌, get_or, All, min, div_ceil, mul-le-mul, get_or-eq_default, pow_pos, cases_lt, get_or_default_zero, most_cells, count_pairs, count_below, scale_of, below_bound, below_same, below_pairs, pairs_same}
+use Rattle.dl_conv.proofs.Common.{ℕ, suc, ◌≡◌, ◌+◌, ◌-◌, ◌*◌, ◌/◌, ◌^◌, ◌<◌, ◌≤◌, List, [], ◌∷◌, length, arith, refl, ap, ap₂, inl, inr, ◌∙◌, get_or, All, min, div_ceil, mul-le-mul, mul-le-mul_right, get_or-eq_default, pow_pos, cases_lt, get_or_default_zero, count_pairs, count_below, size_of, below_bound, below_same, below_pairs, pairs_same}
 use Rattle.std.specs.Prelude.{sum}
 use Rattle.std.proofs.lemmas.List.Sums.{sum_by-cons}
 use Rattle.dl_iv.specs.declared.interval.Iv.{Iv}
 use Rattle.dl_grid.specs.Cells.{low_at, high_at, spread, IsGrid, AreEnds}
 use Rattle.dl_grid.specs.Convolution.{IsConvolution}
 use Rattle.dl_grid.specs.Width.{cv}
-use Rattle.dl_grid.proofs.CellLaws.{high_fits}
+use Rattle.dl_grid.proofs.CellLaws.{high_le}
+use Rattle.dl_grid.proofs.Room.{grid_room, size_within}
 use Rattle.dl_grid.proofs.EndLists.{low_le_high}
 use Rattle.dl_exact.proofs.Counts.{below_first, pairs_le}
 use Rattle.dl_grid.proofs.PlaceSums.{width_at, high_is, low_within, width_within, whole_spread}
@@ -70,14 +71,10 @@ pub convolved_ends : {B : ℕ} (a b : List (Iv B)) (downs ups : List ℕ) (n : �
     → length ups ≡ n → ((s : ℕ) → s < n → get_or downs s 0 ≡ lows a b s / 2 ^ B)
     → ((s : ℕ) → s < n → get_or ups s 0 ≡ min (2 ^ B) (div_ceil (highs a b s) (2 ^ B))) → AreEnds B downs ups
 convolved_ends {B} a b downs ups n p q some within e h low high =
-    let scale = scale_of a p.some in
     let top = floors_within n (2 ^ B) (2 ^ B) (low_at a) (low_at b) (pow_pos B) (omega (arith, low_within n a, p.mass))
     (omega (arith, low_within n b, q.mass)) in
     record {
-      scale_above = scale.0;
-      scale_below = scale.1;
-      some = omega (arith, e);
-      few = omega (arith, e, p.few);
+      size = rw e (size_within (size_of a p) some within);
       paired = omega (arith, e, h);
       ordered = λ s. elim (cases_lt s n) [
         | inl inside ↦ rw (low s inside, high s inside) (ends_order a b s p q)
@@ -93,12 +90,13 @@ convolved_ends {B} a b downs ups n p q some within e h low high =
       );
     }
 
-pub highs_fit : {B : ℕ} (a b : List (Iv B)) (s : ℕ) → IsGrid a → IsGrid b → s < most_cells → highs a b s ≤ 2 ^ 127
-highs_fit a b s p q few =
-    let bound : count_below (suc s) (λ i. high_at a i * high_at b (s - i)) ≤ suc s * (2 ^ 56 * 2 ^ 56) =
-    below_bound (suc s) (2 ^ 56 * 2 ^ 56) (λ i. high_at a i * high_at b (s - i))
-    (λ i inside. mul-le-mul (high_fits a i p) (high_fits b (s - i) q)) in
-    omega (arith, below_pairs s (λ i j. high_at a i * high_at b j), bound)
+pub highs_fit : {B : ℕ} (a b : List (Iv B)) (s : ℕ) → IsGrid a → IsGrid b → s < length a → highs a b s ≤ 2 ^ 127
+highs_fit {B} a b s p q inside =
+    let bound : count_below (suc s) (λ i. high_at a i * high_at b (s - i)) ≤ suc s * (2 ^ B * 2 ^ B) =
+    below_bound (suc s) (2 ^ B * 2 ^ B) (λ i. high_at a i * high_at b (s - i))
+    (λ i _. mul-le-mul (high_le a i (2 ^ B) p.small) (high_le b (s - i) (2 ^ B) q.small)) in
+    let room : suc s * (2 ^ B * 2 ^ B) ≤ length a * (2 ^ B * 2 ^ B) = mul-le-mul_right (2 ^ B * 2 ^ B) inside in
+    omega (arith, below_pairs s (λ i j. high_at a i * high_at b j), bound, room, (grid_room (size_of a p)).sums)
 
 pub all_fit : {B : ℕ} (a b : List (Iv B)) (sums : List ℕ) (n : ℕ) → IsGrid a → IsGrid b → n ≤ length a → length sums ≡ n
     → ((s : ℕ) → s < n → get_or sums s 0 ≡ highs a b s) → All (λ sum. sum ≤ 2 ^ 127) sums
@@ -107,5 +105,5 @@ all_fit a b sums n p q within long holds k d inside =
       arith,
       get_or_default_zero sums k d inside,
       holds k (omega (arith, long)),
-      highs_fit a b k p q (omega (arith, long, p.few)),
+      highs_fit a b k p q (omega (arith, long, within)),
     )

@@ -1,36 +1,24 @@
 -- The first places of a product from the product of the first halves and two shorter ones.
-use Rattle.dl_conv.proofs.Common.{ℕ, suc, ◌≡◌, ◌+◌, ◌-◌, ◌*◌, ◌%◌, ◌^◌, ◌<◌, ◌≤◌, List, length, take, drop, map, arith, sym, subst, ap, ap₂, inl, inr, ◌∙◌, All, mod-eq_of_lt, mul-le-mul, cases_lt, length-drop, take_all, count_below, below_bound, below_pairs, pair_sum}
+use Rattle.dl_conv.proofs.Common.{ℕ, ◌≡◌, ◌+◌, ◌-◌, ◌*◌, ◌%◌, ◌^◌, ◌<◌, ◌≤◌, List, length, take, drop, map, arith, sym, subst, ap, ap₂, inl, inr, ◌∙◌, All, mod-eq_of_lt, cases_lt, length-drop, take_all, ItemsFit, pair_sum}
 use Rattle.std.proofs.lemmas.List.Folds.{map_fixed}
-use Rattle.dl_conv.proofs.Columns.{end_fits}
+use Rattle.dl_conv.proofs.Fits.{first_word, second_word, sum_fits, twice_fits}
 use Rattle.dl_conv.proofs.Karatsuba.{item, short_first, short_later}
-
--- no sum passes 127 bits
-pub sum_bound : (a b : List ℕ) (s : ℕ) → All (λ x. x ≤ 2 ^ 56) a → All (λ y. y ≤ 2 ^ 56) b → s < 32768
-    → pair_sum a b s ≤ 2 ^ 127
-sum_bound a b s p q few =
-    let bound : count_below (suc s) (λ i. item a i * item b (s - i)) ≤ suc s * (2 ^ 56 * 2 ^ 56) =
-    below_bound (suc s) (2 ^ 56 * 2 ^ 56) (λ i. item a i * item b (s - i))
-    (λ i inside. mul-le-mul (end_fits a p i) (end_fits b q (s - i))) in
-    omega (arith, below_pairs s (λ i j. item a i * item b j), bound)
 
 -- small numbers are their own remainders
 words_fixed : (xs : List ℕ) → All (λ x. x < 2 ^ 128) xs → map (λ x. x % 2 ^ 128) xs ≡ xs
 words_fixed xs small = map_fixed (λ x. x % 2 ^ 128) xs (λ k d inside. mod-eq_of_lt (small k d inside))
 
-pub exact_sum : (a b new : List ℕ) (s : ℕ) → All (λ x. x ≤ 2 ^ 56) a → All (λ y. y ≤ 2 ^ 56) b
-    → All (λ x. x < 2 ^ 128) new → s < 32768
+pub exact_sum : (a b new : List ℕ) (s n : ℕ) → ItemsFit a b n → All (λ x. x < 2 ^ 128) new → s < 2 * n
     → item (map (λ x. x % 2 ^ 128) new) s ≡ pair_sum (map (λ x. x % 2 ^ 128) a) (map (λ x. x % 2 ^ 128) b) s % 2 ^ 128
     → item new s ≡ pair_sum a b s
-exact_sum a b new s p q fits few e =
-    let wide_a : All (λ x. x < 2 ^ 128) a = λ k d inside. omega (arith, p k d inside) in
-    let wide_b : All (λ x. x < 2 ^ 128) b = λ k d inside. omega (arith, q k d inside) in
-    let sum = sum_bound a b s p q few in
+exact_sum a b new s n f fits few e =
+    let wide_a : All (λ x. x < 2 ^ 128) a = λ k d inside. omega (arith, first_word f k d inside) in
+    let wide_b : All (λ x. x < 2 ^ 128) b = λ k d inside. omega (arith, second_word f k d inside) in
     sym (ap (λ xs. item xs s) (words_fixed new fits)) ∙ e
     ∙ ap₂ (λ xs ys. pair_sum xs ys s % 2 ^ 128) (words_fixed a wide_a) (words_fixed b wide_b)
-    ∙ mod-eq_of_lt (omega (arith, sum))
+    ∙ mod-eq_of_lt (omega (arith, twice_fits s f few))
 
-module _ (a b : List ℕ) (h n : ℕ) (small_a : All (λ x. x ≤ 2 ^ 56) a) (small_b : All (λ y. y ≤ 2 ^ 56) b)
-    (few : n ≤ 16384) (half : n ≤ 2 * h) (less : h < n)
+module _ (a b : List ℕ) (h n : ℕ) (fit : ItemsFit a b n) (half : n ≤ 2 * h) (less : h < n)
     (in_a : n ≤ length a) (in_b : n ≤ length b) (start one : List ℕ)
     (start_is : (s : ℕ) → s < n → item start s ≡ pair_sum (take h a) (take h b) s)
     (one_is : (t : ℕ) → t < n - h → item one t ≡ pair_sum (take (length a - h) (drop h a)) b t) where
@@ -42,7 +30,7 @@ module _ (a b : List ℕ) (h n : ℕ) (small_a : All (λ x. x ≤ 2 ^ 56) a) (sm
   sum_is t inside = omega (arith, short_later h t a b (omega arith), start_is (h + t) (omega arith), one_whole t inside)
 
   fits : (t : ℕ) → t < n - h → item start (h + t) + (item one t + pair_sum a (drop h b) t) < 2 ^ 128
-  fits t inside = omega (arith, sum_is t inside, sum_bound a b (h + t) small_a small_b (omega arith))
+  fits t inside = omega (arith, sum_is t inside, sum_fits (h + t) fit (omega arith))
 
   pub one_fits : (t : ℕ) → t < n - h → item start (h + t) + item one t < 2 ^ 128
   one_fits t inside = omega (arith, fits t inside)

@@ -1,4 +1,5 @@
 mod Common
+pub mod Fits
 pub mod Columns
 pub mod Ends
 pub mod Filled

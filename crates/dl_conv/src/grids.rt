@@ -1,9 +1,8 @@
 ghost use Rattle.std.specs.Prelude.{◌≡◌, ℕ, ◌*◌, ◌/◌, ◌^◌, ◌<◌, ◌≤◌, min, length, replicate, get_or, All, IfOk};
-ghost use Rattle.dl_limits.specs.Limits.{most_cells};
 ghost use Rattle.std.specs.Int.{div_ceil};
 ghost use Rattle.dl_grid.specs.Cells.{low_at, high_at, spread};
 ghost use Rattle.dl_exact.specs.Count.{count_pairs};
-ghost use Rattle.dl_conv.specs.Sums.{pair_sum, halved_from};
+ghost use Rattle.dl_conv.specs.Sums.{pair_sum, halved_from, ItemsFit};
 ghost use Rattle.dl_grid.specs.Convolution.{IsConvolution};
 ghost use Rattle.dl_grid.specs.Width.{cv};
 
@@ -85,9 +84,7 @@ pub fn room_for_sums(alloc: Global, cells: u32) -> Result<(Vec<u128>, Vec<u128>)
 /// `sums` with the sums of the products of items whose places add up to each of its places, one
 /// product after another.
 fn with_plain_sums(a: &[u128], b: &[u128], mut sums: Vec<u128>) -> Vec<u128>
-    requires first { All (λ x. x ≤ 2 ^ 56) a.now }
-    requires second { All (λ y. y ≤ 2 ^ 56) b.now }
-    requires few { length sums.items ≤ most_cells }
+    requires { ItemsFit a.now b.now (length sums.items) }
     ensures cells { length result.items ≡ length sums.items }
     ensures each { (s : ℕ) → s < length sums.items
         → get_or result.items s 0 ≡ pair_sum a.now b.now s }
@@ -98,11 +95,9 @@ fn with_plain_sums(a: &[u128], b: &[u128], mut sums: Vec<u128>) -> Vec<u128>
 
 /// What `with_plain_sums` gives, by halves where there are many sums.
 fn with_halved_sums(a: &[u128], b: &[u128], mut sums: Vec<u128>, work: &mut [u128]) -> Vec<u128>
-    requires first { All (λ x. x ≤ 2 ^ 56) a.now }
-    requires second { All (λ y. y ≤ 2 ^ 56) b.now }
+    requires fits { ItemsFit a.now b.now (length sums.items) }
     requires in_first { length sums.items ≤ length a.now }
     requires in_second { length sums.items ≤ length b.now }
-    requires few { length sums.items ≤ most_cells }
     requires work { halved_from ≤ length sums.items → 6 * length sums.items ≤ length work.old }
     ensures cells { length result.items ≡ length sums.items }
     ensures each { (s : ℕ) → s < length sums.items

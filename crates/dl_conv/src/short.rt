@@ -1,6 +1,6 @@
-ghost use Rattle.std.specs.Prelude.{◌≡◌, ℕ, ◌+◌, ◌*◌, ◌^◌, ◌<◌, ◌≤◌, length, get_or, take, All};
+ghost use Rattle.std.specs.Prelude.{◌≡◌, ℕ, ◌+◌, ◌*◌, ◌^◌, ◌<◌, ◌≤◌, length, get_or, take};
 ghost use Rattle.dl_limits.specs.Limits.{most_cells};
-ghost use Rattle.dl_conv.specs.Sums.{pair_sum, halved_from, IsHalvable};
+ghost use Rattle.dl_conv.specs.Sums.{pair_sum, halved_from, IsHalvable, ItemsFit};
 
 use crate::halves::halved;
 use crate::plain::plain_sums;
@@ -38,15 +38,13 @@ fn half_length(cells: usize) -> usize
     half
 }
 
-/// The product of two lists of `32 * 2^k` items, exactly: no item is above `2^56`.
+/// The product of two lists of `32 * 2^k` items, exactly.
 fn exact_product(a: &[u128], b: &[u128], out: &mut [u128], work: &mut [u128])
     requires halvable { IsHalvable (length a.now) }
-    requires few { length a.now ≤ most_cells }
     requires paired { length b.now ≡ length a.now }
     requires room { length out.old ≡ 2 * length a.now }
     requires work { 4 * length a.now ≤ length work.old }
-    requires first { All (λ x. x ≤ 2 ^ 56) a.now }
-    requires second { All (λ y. y ≤ 2 ^ 56) b.now }
+    requires fits { ItemsFit a.now b.now (length a.now) }
     ensures each { (s : ℕ) → s < length out.old → get_or out.new s 0 ≡ pair_sum a.now b.now s }
 {
     halved(&mut Words, a, b, out, work);
@@ -55,13 +53,11 @@ fn exact_product(a: &[u128], b: &[u128], out: &mut [u128], work: &mut [u128])
 /// The first items of the product of the first `half` items of two lists, as many as `out` has.
 fn first_sums(a: &[u128], b: &[u128], half: usize, out: &mut [u128], work: &mut [u128])
     requires halvable { IsHalvable half }
-    requires few { half ≤ most_cells }
     requires in_first { half ≤ length a.now }
     requires in_second { half ≤ length b.now }
     requires enough { length out.old ≤ 2 * half }
     requires work { 6 * half ≤ length work.old }
-    requires first { All (λ x. x ≤ 2 ^ 56) a.now }
-    requires second { All (λ y. y ≤ 2 ^ 56) b.now }
+    requires fits { ItemsFit a.now b.now half }
     ensures each { (s : ℕ) → s < length out.old
         → get_or out.new s 0 ≡ pair_sum (take half a.now) (take half b.now) s }
 {
@@ -85,14 +81,12 @@ fn add_from(out: &mut [u128], start: usize, more: &[u128])
 }
 
 /// The first items of the product of two lists, as many as `out` has, each as the sum of all its
-/// products; by halves where there are many. No item of the lists is above `2^56`. It takes no
-/// memory: `work` then has as many items as `work_for` says.
+/// products; by halves where there are many. It takes no memory: `work` then has as many items as
+/// `work_for` says.
 pub fn halved_sums(a: &[u128], b: &[u128], out: &mut [u128], work: &mut [u128])
-    requires first { All (λ x. x ≤ 2 ^ 56) a.now }
-    requires second { All (λ y. y ≤ 2 ^ 56) b.now }
+    requires fits { ItemsFit a.now b.now (length out.old) }
     requires in_first { length out.old ≤ length a.now }
     requires in_second { length out.old ≤ length b.now }
-    requires few { length out.old ≤ most_cells }
     requires work { halved_from ≤ length out.old → 6 * length out.old ≤ length work.old }
     ensures each { (s : ℕ) → s < length out.old → get_or out.new s 0 ≡ pair_sum a.now b.now s }
 {

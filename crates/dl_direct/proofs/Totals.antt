@@ -25,7 +25,7 @@ before_sums_le ends k M h =
         more i l = omega (arith, l)
 
 pub total_small : (ends : List ℕ) (k : ℕ) (total : Total) → ((i : ℕ) → get_or ends i 0 ≤ 2 ^ 62) → k < most_cells
-    → IsTotal ends k total → (total.cells ≤ 2 ^ 76) × (total.before ≤ 2 ^ 90)
+    → IsTotal ends k total → (total.cells ≤ 2 ^ 78) × (total.before ≤ 2 ^ 94)
 total_small ends k total h l is = (
   omega (arith, to_cell_le ends k (2 ^ 62) h, is.cells, l),
   omega (

@@ -4,6 +4,7 @@ ghost use Rattle.std.specs.Prelude.{◌≡◌, ℕ, ◌+◌, ◌-◌, ◌*◌, �
 ghost use Rattle.dl_limits.specs.Limits.{most_cells, most_expected, most_shape, most_parts, admitted_bound, frac_bound, most_start};
 ghost use Rattle.dl_exact.specs.Fraction.{Fraction, whole, ◌over◌, ◌*ℚ◌, ◌≤ℚ◌};
 ghost use Rattle.dl_grid.specs.Cells.{IsGrid};
+ghost use Rattle.dl_grid.specs.Room.{IsGridSize};
 ghost use Rattle.dl_model.specs.Counts.{poisson, gamma_of, IsPanjer};
 ghost use Rattle.dl_model.specs.Family.{compound, GridEncloses};
 ghost use Rattle.dl_plan.specs.Severity.{probability_of};
@@ -58,8 +59,7 @@ fn compound_direct<const B: u32>(
     start: Scaled,
     cells: u32,
 ) -> Result<Option<Grid<B>>, AllocError>
-    requires scale_above { 1 ≤ B }
-    requires scale_below { B ≤ 56 }
+    requires size { IsGridSize B cells }
     requires no_zero { probability_of sev.now 0 ≡ whole 0 }
     requires base_positive { 0 < steps.base }
     requires some_step { 0 < steps.a + steps.b }
@@ -69,8 +69,6 @@ fn compound_direct<const B: u32>(
     requires base_small { steps.base < frac_bound }
     requires low_small { start.low ≤ most_start }
     requires high_small { start.high ≤ most_start }
-    requires some { 1 ≤ cells }
-    requires few { cells ≤ most_cells }
     ensures cells { IfOk result (λ made. IfSome made (λ g. length g ≡ cells)) }
     ensures encloses { IfOk result (λ made. IfSome made (λ g. (w : ℕ → Fraction)
         → IsPanjer (whole steps.a *ℚ steps.num over steps.base)
@@ -101,14 +99,11 @@ pub fn poisson_direct<const B: u32>(
     mean: Frac,
     cells: u32,
 ) -> Result<Option<Grid<B>>, AllocError>
-    requires scale_above { 1 ≤ B }
-    requires scale_below { B ≤ 56 }
+    requires size { IsGridSize B cells }
     requires no_zero { probability_of sev.now 0 ≡ whole 0 }
     requires num { mean.num < admitted_bound }
     requires den { mean.den < admitted_bound }
     requires within { mean ≤ℚ whole most_expected }
-    requires some { 1 ≤ cells }
-    requires few { cells ≤ most_cells }
     ensures cells { IfOk result (λ made. IfSome made (λ g. length g ≡ cells)) }
     ensures encloses { IfOk result (λ made. IfSome made (λ g.
         GridEncloses g (compound (poisson mean) (probability_of sev.now)))) }
@@ -132,15 +127,12 @@ pub fn gamma_direct<const B: u32>(
     mean: Frac,
     cells: u32,
 ) -> Result<Option<Grid<B>>, AllocError>
-    requires scale_above { 1 ≤ B }
-    requires scale_below { B ≤ 56 }
+    requires size { IsGridSize B cells }
     requires no_zero { probability_of sev.now 0 ≡ whole 0 }
     requires shape_above { 1 ≤ shape }
     requires shape_below { shape ≤ most_shape }
     requires num { mean.num < admitted_bound }
     requires den { mean.den < admitted_bound }
-    requires some { 1 ≤ cells }
-    requires few { cells ≤ most_cells }
     ensures cells { IfOk result (λ made. IfSome made (λ g. length g ≡ cells)) }
     ensures encloses { IfOk result (λ made. IfSome made (λ g.
         GridEncloses g (compound (gamma_of shape mean) (probability_of sev.now)))) }

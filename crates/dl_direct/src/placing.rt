@@ -1,8 +1,9 @@
 //! From the cells of the recursion to a grid.
 
 ghost use Rattle.std.specs.Prelude.{◌≡◌, ◌+◌, ◌*◌, ◌^◌, ◌<◌, ◌≤◌, ◌⊎◌, length, IfOk};
-ghost use Rattle.dl_limits.specs.Limits.{most_cells, start_bits, most_end, most_start};
+ghost use Rattle.dl_limits.specs.Limits.{start_bits, most_end, most_start};
 ghost use Rattle.dl_grid.specs.Cells.{low_at, high_at};
+ghost use Rattle.dl_grid.specs.Room.{IsGridSize};
 ghost use Rattle.dl_direct.specs.Slide.{AreSlideCells};
 ghost use Rattle.dl_direct.specs.Placed.{IsPlaced};
 
@@ -50,11 +51,8 @@ pub(crate) fn place<const B: u32>(
     start: Scaled,
     down: u64,
 ) -> Result<Grid<B>, AllocError>
-    requires scale_above { 1 ≤ B }
-    requires scale_below { B ≤ 56 }
+    requires size { IsGridSize B (length x.now.low.items) }
     requires settled { AreSlideCells x.now.low.items x.now.high.items x.now.first }
-    requires some { 1 ≤ length x.now.low.items }
-    requires few { length x.now.low.items ≤ most_cells }
     requires low_small { start.low ≤ most_start }
     requires high_small { start.high ≤ most_start }
     requires scale { start_bits + start.exponent ≡ down + (x.now.shift + B) }

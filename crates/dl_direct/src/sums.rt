@@ -72,8 +72,8 @@ fn first_total(end: u64) -> Total
 
 /// The sums up to the next cell, whose end this is.
 fn next_total(last: Total, end: u64) -> Total
-    requires cells_small { last.cells ≤ 2 ^ 76 }
-    requires before_small { last.before ≤ 2 ^ 90 }
+    requires cells_small { last.cells ≤ 2 ^ 78 }
+    requires before_small { last.before ≤ 2 ^ 94 }
     ensures cells { result.cells ≡ last.cells + end }
     ensures before { result.before ≡ last.before + last.cells }
 {
@@ -130,8 +130,8 @@ fn sum_up(sums: &mut Vec<Sums>, low: &[u64], high: &[u64]) -> Result<(), AllocEr
 fn by_sums(total: Total, factor: u64, step: u64) -> u128
     requires factor_small { factor ≤ 2 ^ 32 }
     requires step_small { step ≤ 2 ^ 32 }
-    requires cells_small { total.cells ≤ 2 ^ 76 }
-    requires before_small { total.before ≤ 2 ^ 90 }
+    requires cells_small { total.cells ≤ 2 ^ 78 }
+    requires before_small { total.before ≤ 2 ^ 94 }
     ensures { result ≡ factor * total.cells + step * total.before }
 {
     u128::from(factor) * total.cells + u128::from(step) * total.before

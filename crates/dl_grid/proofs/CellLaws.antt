@@ -1,6 +1,7 @@
 -- What the ends of a list of cells are at one place, and how large they can be.
-use Rattle.dl_grid.proofs.Common.{ℕ, zero, suc, ◌≡◌, ◌-◌, ◌*◌, ◌^◌, ◌<◌, ◌≤◌, List, [], ◌∷◌, length, get_or, take, arith, refl, ap, ◌∙◌, All, mul-le-mul, pow-le-pow_right, sum_by-le, sum_by-take-le, Iv, low_at, high_at, IsGrid}
+use Rattle.dl_grid.proofs.Common.{ℕ, zero, suc, ◌≡◌, ◌-◌, ◌*◌, ◌^◌, ◌<◌, ◌≤◌, List, [], ◌∷◌, length, get_or, take, arith, refl, ap, ◌∙◌, All, le_trans, mul-le-mul_right, pow-le-pow_right, sum_by-le, sum_by-take-le, Iv, low_at, high_at, IsGrid, IsGridSize}
 use Rattle.std.specs.Prelude.{sum_by}
+use Rattle.dl_grid.proofs.Room.{mass_fits}
 
 -- the ends of a cell by its place, and of one that was read
 pub low_at_get : {B : ℕ} (cells : List (Iv B)) (x : ℕ) (d : Iv B) → x < length cells
@@ -30,6 +31,12 @@ pub scale_of : {B : ℕ} (cells : List (Iv B)) → 1 ≤ length cells → (1 ≤
 scale_of [] h = absurd (omega arith)
 scale_of (c ∷ cs) h = (c.scale_above, c.scale_below)
 
+-- a grid's size is one
+pub size_of : {B : ℕ} (cells : List (Iv B)) → IsGrid cells → IsGridSize B (length cells)
+size_of cells grid =
+    let scale = scale_of cells grid.some in
+    record { scale_above = scale.0; scale_below = scale.1; some = grid.some; few = grid.few }
+
 pub one_fits : (B : ℕ) → B ≤ 56 → 2 ^ B ≤ 2 ^ 56
 one_fits B h = pow-le-pow_right {n = 2} (omega arith) {i = B} {j = 56} h
 
@@ -46,6 +53,10 @@ high_le (c ∷ cs) (suc x) m small = high_le cs x m (λ k d h. small (suc k) d (
 pub high_fits : {B : ℕ} (cells : List (Iv B)) (x : ℕ) → IsGrid cells → high_at cells x ≤ 2 ^ 56
 high_fits {B} cells x grid = omega (arith, high_le cells x (2 ^ B) grid.small, one_fits B (scale_of cells grid.some).1)
 
+-- the sum of a number of at most 1 for some of the cells
+pub cells_fit : {B : ℕ} (cells : List (Iv B)) (n : ℕ) → IsGrid cells → n ≤ length cells → n * 2 ^ B ≤ 2 ^ 70
+cells_fit {B} cells n grid inside = le_trans (mul-le-mul_right (2 ^ B) inside) (mass_fits (size_of cells grid))
+
 -- a sum of parts that are each at most 1
 pub sum_fits : {B : ℕ} (cells : List (Iv B)) (f : Iv B → ℕ) (n : ℕ) → IsGrid cells → ((cell : Iv B) → f cell ≤ cell.hi)
     → sum_by f (take n cells) ≤ 2 ^ 70
@@ -53,8 +64,7 @@ sum_fits {B} cells f n grid within =
     let each : All (λ cell. f cell ≤ 2 ^ B) cells = λ k d h.
     omega (arith, within (get_or cells k d), grid.small k d h) in
     let whole : sum_by f cells ≤ length cells * 2 ^ B = sum_by-le f (2 ^ B) cells each in
-    let most : length cells * 2 ^ B ≤ 16384 * 2 ^ 56 = mul-le-mul grid.few (one_fits B (scale_of cells grid.some).1) in
-    omega (arith, sum_by-take-le f cells n, whole, most)
+    omega (arith, sum_by-take-le f cells n, whole, mass_fits (size_of cells grid))
 
 pub width_within : {B : ℕ} (cell : Iv B) → cell.hi - cell.lo ≤ cell.hi
 width_within cell = omega arith

@@ -1,5 +1,5 @@
 -- Cells as two lists of ends: one determines the other, and both change alike.
-use Rattle.dl_grid.proofs.Common.{ℕ, zero, suc, ◌≡◌, ◌+◌, ◌-◌, ◌*◌, ◌^◌, ◌<◌, ◌≤◌, List, [], ◌∷◌, ◌++◌, length, get_or, set, take, arith, refl, sym, subst, ap, ap₂, inl, inr, ◌∙◌, All, mul-le-mul, length-take-le, take_all, eqb_tells, sum_by-cons, sum_by-take-le, sum_by-set, sum_by-le, Iv, low_at, high_at, mass_low, spread, all_at_zero, IsGrid}
+use Rattle.dl_grid.proofs.Common.{ℕ, zero, suc, ◌≡◌, ◌+◌, ◌-◌, ◌*◌, ◌^◌, ◌<◌, ◌≤◌, List, [], ◌∷◌, ◌++◌, length, get_or, set, take, arith, refl, sym, subst, ap, ap₂, inl, inr, ◌∙◌, All, length-take-le, take_all, eqb_tells, sum_by-cons, sum_by-take-le, sum_by-set, sum_by-le, Iv, low_at, high_at, mass_low, spread, all_at_zero, IsGrid, IsGridSize}
 use Rattle.std.proofs.Common.{replicate}
 use Rattle.std.specs.Prelude.{◌⊎◌, sum}
 use Rattle.std.proofs.lemmas.Grind.{get_or_default_zero}
@@ -10,7 +10,8 @@ use Rattle.std.proofs.Math.ListN.{get_or-eq_default}
 use Rattle.std.proofs.lemmas.List.Elements.{All-replicate, All-take, All-set, All-weaker, All-map, All-tail, All-head}
 use Rattle.std.proofs.lemmas.List.Folds.{sum_by-replicate}
 use Rattle.std.proofs.lemmas.List.Sums.{sum-map}
-use Rattle.dl_grid.proofs.CellLaws.{scale_of, one_fits, one_in_range}
+use Rattle.dl_grid.proofs.Room.{size_within, mass_fits}
+use Rattle.dl_grid.proofs.CellLaws.{size_of, one_fits, one_in_range}
 use Rattle.dl_grid.specs.Cells.{low_ends, high_ends, cell_by, cells_of, mass_high, AreEnds}
 
 -- an end by its place
@@ -127,14 +128,14 @@ ordered_of {B} {lows} {highs} p = record {
   paired = p.paired;
   ordered = p.ordered;
   small =
-      in_range B highs p.scale_below p.small;
+      in_range B highs p.size.scale_below p.small;
 }
 
 pub low_list : {B : ℕ} {lows highs : List ℕ} → AreEnds B lows highs → low_ends (cells_of B lows highs) ≡ lows
-low_list {B} {lows} {highs} p = (ends_back lows highs p.scale_above p.scale_below (ordered_of p)).0
+low_list {B} {lows} {highs} p = (ends_back lows highs p.size.scale_above p.size.scale_below (ordered_of p)).0
 
 pub high_list : {B : ℕ} {lows highs : List ℕ} → AreEnds B lows highs → high_ends (cells_of B lows highs) ≡ highs
-high_list {B} {lows} {highs} p = (ends_back lows highs p.scale_above p.scale_below (ordered_of p)).1
+high_list {B} {lows} {highs} p = (ends_back lows highs p.size.scale_above p.size.scale_below (ordered_of p)).1
 
 -- cells whose ends are those of a grid are one
 small_cells : {B : ℕ} (cells : List (Iv B)) (m : ℕ) → All (λ high. high ≤ m) (high_ends cells)
@@ -144,26 +145,21 @@ small_cells cells m small k d inside = rw (← get_or-map (λ cell. cell.hi) cel
 
 pub grid_of_ends : {B : ℕ} (cells : List (Iv B)) → AreEnds B (low_ends cells) (high_ends cells) → IsGrid cells
 grid_of_ends {B} cells p = record {
-  some = omega (arith, p.some, length-map cells (λ (c : Iv B). c.lo));
-  few = omega (arith, p.few, length-map cells (λ (c : Iv B). c.lo));
+  some = rw (← low_ends_long cells) p.size.some;
+  few = rw (← low_ends_long cells) p.size.few;
   small = small_cells cells (2 ^ B) p.small;
   mass = omega (arith, p.mass, sum-map (λ (c : Iv B). c.lo) cells);
 }
 
 -- and the ends of a grid's cells are those of a grid
 pub ends_of_grid : {B : ℕ} (cells : List (Iv B)) → IsGrid cells → AreEnds B (low_ends cells) (high_ends cells)
-ends_of_grid {B} cells p =
-    let scale = scale_of cells p.some in
-    record {
-      scale_above = scale.0;
-      scale_below = scale.1;
-      some = rw (low_ends_long cells) p.some;
-      few = rw (low_ends_long cells) p.few;
-      paired = omega (arith, low_ends_long cells, high_ends_long cells);
-      ordered = λ x. rw (low_at_ends cells x, high_at_ends cells x) (low_le_high cells x);
-      small = All-map (λ high. high ≤ 2 ^ B) (λ (c : Iv B). c.hi) cells p.small;
-      mass = omega (arith, p.mass, sum-map (λ (c : Iv B). c.lo) cells);
-    }
+ends_of_grid {B} cells p = record {
+  size = rw (low_ends_long cells) (size_of cells p);
+  paired = omega (arith, low_ends_long cells, high_ends_long cells);
+  ordered = λ x. rw (low_at_ends cells x, high_at_ends cells x) (low_le_high cells x);
+  small = All-map (λ high. high ≤ 2 ^ B) (λ (c : Iv B). c.hi) cells p.small;
+  mass = omega (arith, p.mass, sum-map (λ (c : Iv B). c.lo) cells);
+}
 
 -- the cells that a grid's two lists stand for
 pub record IsViewed {B : ℕ} (cells : List (Iv B)) (lows highs : List ℕ) : Type 0 where
@@ -209,10 +205,7 @@ ends_taken {B} {cells} {lows} {highs} n v some within p =
     let paired : length (take n highs) ≡ length (take n lows) =
     omega (arith, short, length-take-le n highs (omega (arith, p.paired)), p.paired) in
     record {
-      scale_above = p.scale_above;
-      scale_below = p.scale_below;
-      some = omega (arith, short);
-      few = omega (arith, short, p.few);
+      size = rw short (size_within p.size some (omega arith));
       paired = paired;
       ordered = λ x. elim (cases_lt x n) [
         | inl inside ↦ rw (get_or-take n lows x 0 inside, get_or-take n highs x 0 inside) (p.ordered x)
@@ -228,10 +221,7 @@ pub ends_set : {B : ℕ} {cells : List (Iv B)} {lows highs : List ℕ} (x : ℕ)
 ends_set {B} {cells} {lows} {highs} x v w inside top mass p =
     let within : x < length lows = omega (arith, ends_long cells w) in
     record {
-      scale_above = p.scale_above;
-      scale_below = p.scale_below;
-      some = rw length-set p.some;
-      few = rw length-set p.few;
+      size = rw length-set p.size;
       paired = rw (length-set, length-set) p.paired;
       ordered = λ y. elim (eqb_tells y x) [
         | inl e ↦ rw (
@@ -250,20 +240,19 @@ pub ends_below : {B : ℕ} (ends : List ℕ) → B ≤ 56 → All (λ e. e ≤ 2
 ends_below {B} ends below small k d inside = omega (arith, small k d inside, one_fits B below)
 
 -- what the first n ends add up to fits: each is at most 1
-pub ends_fit : {B : ℕ} (ends : List ℕ) (n : ℕ) → B ≤ 56 → length ends ≤ 16384 → All (λ e. e ≤ 2 ^ B) ends
+pub ends_fit : {B : ℕ} (ends : List ℕ) (n : ℕ) → IsGridSize B (length ends) → All (λ e. e ≤ 2 ^ B) ends
     → sum (take n ends) ≤ 2 ^ 70
-ends_fit {B} ends n below few small =
+ends_fit {B} ends n size small =
     let whole : sum ends ≤ length ends * 2 ^ B = sum_by-le (λ (e : ℕ). e) (2 ^ B) ends small in
-    let most : length ends * 2 ^ B ≤ 16384 * 2 ^ 56 = mul-le-mul few (one_fits B below) in
-    omega (arith, sum_by-take-le (λ (e : ℕ). e) ends n, whole, most)
+    omega (arith, sum_by-take-le (λ (e : ℕ). e) ends n, whole, mass_fits size)
 
-pub ends_fit_all : {B : ℕ} (ends : List ℕ) → B ≤ 56 → length ends ≤ 16384 → All (λ e. e ≤ 2 ^ B) ends
+pub ends_fit_all : {B : ℕ} (ends : List ℕ) → IsGridSize B (length ends) → All (λ e. e ≤ 2 ^ B) ends
     → sum ends ≤ 2 ^ 70
-ends_fit_all {B} ends below few small = rw (take_all (length ends) ends (omega arith)) at
-    (ends_fit {B = B} ends (length ends) below few small)
+ends_fit_all {B} ends size small = rw (take_all (length ends) ends (omega arith)) at
+    (ends_fit {B = B} ends (length ends) size small)
 
-pub high_few : {B : ℕ} {lows highs : List ℕ} → AreEnds B lows highs → length highs ≤ 16384
-high_few p = omega (arith, p.paired, p.few)
+pub high_size : {B : ℕ} {lows highs : List ℕ} → AreEnds B lows highs → IsGridSize B (length highs)
+high_size p = rw p.paired p.size
 
 -- the sums of the first ends, by the cells
 pub low_sum : {B : ℕ} {cells : List (Iv B)} {lows highs ends : List ℕ} {total : ℕ} (n : ℕ)
@@ -321,15 +310,13 @@ zero_at n mass (suc x) some = get_or-set_other (replicate {A = ℕ} n 0) 0 (suc 
 pub zero_length : (n mass : ℕ) → length (set (replicate {A = ℕ} n 0) 0 mass) ≡ n
 zero_length n mass = rw length-set (length-replicate {A = ℕ} n 0)
 
-pub zero_ends : (B n : ℕ) → 1 ≤ B → B ≤ 56 → 1 ≤ n → n ≤ 16384
+pub zero_ends : (B n : ℕ) → IsGridSize B n
     → AreEnds B (set (replicate {A = ℕ} n 0) 0 (2 ^ B)) (set (replicate {A = ℕ} n 0) 0 (2 ^ B))
-zero_ends B n above below some few =
+zero_ends B n size =
+    let some = size.some in
     let long = zero_length n (2 ^ B) in
     record {
-      scale_above = above;
-      scale_below = below;
-      some = omega (arith, long);
-      few = omega (arith, long);
+      size = rw long size;
       paired = refl;
       ordered = λ x. omega arith;
       small = All-set (λ e. e ≤ 2 ^ B) (replicate n 0) 0 (2 ^ B) (omega arith)

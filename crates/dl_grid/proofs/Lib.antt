@@ -1,4 +1,5 @@
 mod Common
+pub mod Room
 pub mod CellLaws
 pub mod EndLists
 pub mod CellSets

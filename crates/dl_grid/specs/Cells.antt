@@ -3,8 +3,9 @@
 use Rattle.std.specs.Prelude.{ℕ, zero, suc, ◌-◌, ◌^◌, ◌<◌, ◌≤◌, ◌≡◌, ◌⊎◌, List, [], ◌∷◌, ◌++◌, length, get_or, map, All, sum, sum_by}
 use Rattle.std.proofs.Common.{inr}
 use Rattle.std.proofs.lemmas.Bool.{cases_lt}
-use Rattle.dl_limits.specs.Limits.{most_cells}
+use Rattle.dl_limits.specs.Limits.{most_cells_at}
 use Rattle.dl_iv.specs.declared.interval.Iv.{Iv}
+use Rattle.dl_grid.specs.Room.{IsGridSize}
 
 -- the low end of cell x, 0 past the end
 unfoldable pub low_at : {B : ℕ} → List (Iv B) → ℕ → ℕ
@@ -30,10 +31,10 @@ mass_high cells = sum_by (λ cell. cell.hi) cells
 abbrev pub spread : {B : ℕ} → List (Iv B) → ℕ
 spread cells = sum_by (λ cell. cell.hi - cell.lo) cells
 
--- 1 to `most_cells` cells, of which each is at most 1 and the low ends sum to at most 1
+-- 1 to `most_cells_at B` cells, of which each is at most 1 and the low ends sum to at most 1
 pub record IsGrid {B : ℕ} (cells : List (Iv B)) : Type 0 where
   pub some : 1 ≤ length cells
-  pub few : length cells ≤ most_cells
+  pub few : length cells ≤ most_cells_at B
   pub small : All (λ cell. cell.hi ≤ 2 ^ B) cells
   pub mass : mass_low cells ≤ 2 ^ B
 
@@ -51,10 +52,7 @@ high_ends cells = map (λ cell. cell.hi) cells
 
 -- two lists that are the low ends and the high ends of a grid
 pub record AreEnds (B : ℕ) (lows highs : List ℕ) : Type 0 where
-  pub scale_above : 1 ≤ B
-  pub scale_below : B ≤ 56
-  pub some : 1 ≤ length lows
-  pub few : length lows ≤ most_cells
+  pub size : IsGridSize B (length lows)
   pub paired : length highs ≡ length lows
   pub ordered : (x : ℕ) → get_or lows x 0 ≤ get_or highs x 0
   pub small : All (λ high. high ≤ 2 ^ B) highs

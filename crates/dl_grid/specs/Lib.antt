@@ -1,3 +1,4 @@
 pub mod Cells
 pub mod Convolution
+pub mod Room
 pub mod Width

@@ -1,13 +1,13 @@
 ghost use Rattle.std.specs.Prelude.{◌≡◌, ℕ, ◌+◌, ◌-◌, ◌^◌, ◌<◌, ◌≤◌, min, length, take, get_or, slice_set, sum, All, IfOk, true, false};
-ghost use Rattle.dl_limits.specs.Limits.{most_cells};
 ghost use Rattle.dl_grid.specs.Cells.{low_at, high_at, low_ends, high_ends, mass_low, mass_high, spread, all_at_zero};
 ghost use Rattle.dl_grid.specs.Cells.{IsGrid, AreEnds};
+ghost use Rattle.dl_grid.specs.Room.{IsGridSize};
 
 use dl_iv::{Iv, units_of_one};
 use std::alloc::{AllocError, Global};
 use std::marker::Model;
 
-/// A cell for each number of buckets from 0 on, 1 to `most_cells` of them. Each cell is at most 1,
+/// A cell for each number of buckets from 0 on, 1 to `most_cells_at B` of them. Each cell is at most 1,
 /// and the low ends sum to at most 1. A clause sees a grid as the list of its cells; the low ends
 /// and the high ends lie in two lists, so that what reads one kind of end reads no other.
 #[derive(Drop)]
@@ -54,10 +54,7 @@ impl<const B: u32> Grid<B> {
     /// The sum that is surely 0, on `cells` cells: cell 0 is the one number 1, and the others are
     /// 0.
     pub fn zero(alloc: Global, cells: u32) -> Result<Self, AllocError>
-        requires scale_above { 1 ≤ B }
-        requires scale_below { B ≤ 56 }
-        requires some { 1 ≤ cells }
-        requires few { cells ≤ most_cells }
+        requires { IsGridSize B cells }
         ensures cells { IfOk result (λ g. length g ≡ cells) }
         ensures low { IfOk result (λ g. (x : ℕ) → low_at g x ≡ all_at_zero (2 ^ B) x) }
         ensures high { IfOk result (λ g. (x : ℕ) → high_at g x ≡ all_at_zero (2 ^ B) x) }

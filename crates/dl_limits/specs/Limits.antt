@@ -36,6 +36,14 @@ pub record IsPlanScale (bits : ℕ) : Type 0 where
 abbrev pub most_cells : ℕ
 most_cells = 16384
 
+-- the cells of a grid whose ends are in units of 1 over 2 to the power `bits`
+abbrev pub most_cells_at : ℕ → ℕ
+most_cells_at bits = most_cells
+
+-- the horizon of a clause, in a plan with a grid of so many cells
+abbrev pub most_horizon : ℕ → ℕ
+most_horizon cells = most_cells_at (bits_of cells)
+
 -- an amount, a limit or an attachment, in buckets
 abbrev pub most_amount : ℕ
 most_amount = 2 ^ 20

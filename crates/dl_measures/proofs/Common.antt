@@ -14,7 +14,7 @@ unfoldable pub use Rattle.dl_exact.specs.Count.{count_below}
 pub use Rattle.dl_exact.specs.Fraction.{Fraction, whole}
 unfoldable pub use Rattle.dl_exact.specs.Fraction.{◌*ℚ◌, ◌+ℚ◌, ◌-ℚ◌, ◌<ℚ◌, ◌over◌, ◌≤ℚ◌}
 pub use Rattle.dl_iv.specs.declared.interval.Iv.{Iv}
-pub use Rattle.dl_grid.proofs.CellLaws.{one_fits, scale_of}
+pub use Rattle.dl_grid.proofs.CellLaws.{cells_fit, one_fits, scale_of}
 pub use Rattle.dl_grid.specs.Cells.{IsGrid, spread}
 unfoldable pub use Rattle.dl_grid.specs.Cells.{high_at, low_at}
 pub use Rattle.dl_model.proofs.Bounded.{are_units, quantity_bounded}

@@ -1,5 +1,5 @@
 -- The means of layers, from the ends that a grid gives.
-use Rattle.dl_measures.proofs.Common.{ℕ, suc, ◌≡◌, inl, inr, ◌+◌, ◌-◌, ◌*◌, ◌^◌, ◌<◌, ◌≤◌, min, List, length, arith, sym, ap, subst, ◌∙◌, Option, Some, None, mul-le-mul, mul-le-mul_right, fun_ext, pow_pos, cases_lt, whole, ◌over◌, ◌+ℚ◌, ◌*ℚ◌, ◌≤ℚ◌, over_le, over_same, one_pos, zero_le, Iv, low_at, high_at, spread, IsGrid, scale_of, one_fits, AtLeast, AtMost, Holds, count_below, Aggregate, One, Layer, score, partial_sums, total, GridEncloses, AreDeclared, at_most_wider, outcomes_rise, over_plus, below_more, below_bound, are_units, quantity_bounded}
+use Rattle.dl_measures.proofs.Common.{ℕ, suc, ◌≡◌, inl, inr, ◌+◌, ◌-◌, ◌*◌, ◌^◌, ◌<◌, ◌≤◌, min, List, length, arith, sym, ap, subst, ◌∙◌, Option, Some, None, mul-le-mul, mul-le-mul_right, fun_ext, pow_pos, cases_lt, whole, ◌over◌, ◌+ℚ◌, ◌*ℚ◌, ◌≤ℚ◌, over_le, over_same, one_pos, zero_le, Iv, low_at, high_at, spread, IsGrid, cells_fit, scale_of, one_fits, AtLeast, AtMost, Holds, count_below, Aggregate, One, Layer, score, partial_sums, total, GridEncloses, AreDeclared, at_most_wider, outcomes_rise, over_plus, below_more, below_bound, are_units, quantity_bounded}
 use Rattle.dl_exact.proofs.Laws.{zero_times}
 use Rattle.dl_model.specs.Series.{plus}
 use Rattle.dl_model.specs.Program.{Mean}
@@ -140,9 +140,7 @@ pub mean_fits : {B : ℕ} (cells : List (Iv B)) (attachment i s t d : ℕ) → I
     → s ≡ high_units cells i attachment → t ≡ 2 ^ B - d → s + t ≤ 2 ^ 71
 mean_fits {B} cells attachment i s t d grid inside e h =
     let scale : B ≤ 56 = (scale_of cells grid.some).1 in
-    let few : i ≤ 16384 = omega (arith, grid.few) in
-    let most : i * 2 ^ B ≤ 16384 * 2 ^ 56 = mul-le-mul few (one_fits B scale) in
-    omega (arith, e, h, high_units_most cells i attachment, most, one_fits B scale)
+    omega (arith, e, h, high_units_most cells i attachment, cells_fit cells i grid inside, one_fits B scale)
 
 -- ---- what a call answers, from the cells that it has seen
 

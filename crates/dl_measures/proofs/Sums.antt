@@ -1,5 +1,5 @@
 -- The sums of the ends of a grid's first cells, as a loop makes them.
-use Rattle.dl_measures.proofs.Common.{ℕ, zero, suc, ◌≡◌, ◌+◌, ◌-◌, ◌*◌, ◌^◌, ◌<◌, ◌≤◌, List, length, arith, refl, mul-le-mul, Iv, low_at, high_at, spread, IsGrid, scale_of, one_fits, count_below, below_bound}
+use Rattle.dl_measures.proofs.Common.{ℕ, zero, suc, ◌≡◌, ◌+◌, ◌-◌, ◌*◌, ◌^◌, ◌<◌, ◌≤◌, List, length, arith, refl, mul-le-mul, Iv, low_at, high_at, spread, IsGrid, cells_fit, scale_of, one_fits, count_below, below_bound}
 use Rattle.std.proofs.Common.{[], ◌∷◌, get_or, take}
 use Rattle.std.proofs.lemmas.List.Sums.{sum_by-cons}
 use Rattle.dl_grid.specs.Cells.{mass_high}
@@ -45,9 +45,7 @@ pub high_most : {B : ℕ} (cells : List (Iv B)) (n : ℕ) → IsGrid cells → n
 high_most {B} cells n grid inside =
     let sum : count_below n (high_at cells) ≤ n * 2 ^ B =
     below_bound n (2 ^ B) (high_at cells) (λ i h. high_end cells i grid) in
-    let few : n ≤ 16384 = omega (arith, grid.few) in
-    let most : n * 2 ^ B ≤ 16384 * 2 ^ 56 = mul-le-mul few (one_fits B (scale_of cells grid.some).1) in
-    omega (arith, sum, most)
+    omega (arith, sum, cells_fit cells n grid inside)
 
 -- ---- low and high
 

@@ -1,16 +1,17 @@
 -- From the excess over the low end of a bracket to the tail mean.
 use Rattle.dl_measures.proofs.Common.{ℕ, suc, ◌≡◌, inl, inr, ◌+◌, ◌-◌, ◌*◌, ◌/◌, ◌^◌, ◌<◌, ◌≤◌, min, List, length, arith, sym, ap, ap₂, subst, subst₂, ◌∙◌, Some, None, div_ceil, mul-le-mul, mul-le-mul_right, pow_pos, cases_lt, Fraction, whole, ◌over◌, ◌+ℚ◌, ◌-ℚ◌, ◌*ℚ◌, ◌≤ℚ◌, ◌<ℚ◌, over_self, over_same, over_le, over_lt, one_pos, le_trans, lt_not_le, Iv, low_at, high_at, spread, IsGrid, scale_of, one_fits, IsBound, AtMost, AtLeast, Holds, count_below, Aggregate, One, Cdf, Layer, partial_sums, IsQuantile, AreDeclared, low_cdf, high_cdf, IsTight, at_most_wider, are_units, quantity_bounded, IsFirstAtLeast, IsFirstFound}
 use Rattle.dl_exact.proofs.BelowOne.{num_below}
-use Rattle.std.proofs.Common.{div-add-mod'}
+use Rattle.std.proofs.Common.{div-add-mod', get_or}
 use Rattle.std.proofs.Math.Nat.{mul-le-mul_left, mul-pos, div-mul-le_self, div-le_self, mod-lt, add-sub_of_le}
-use Rattle.std.proofs.lemmas.List.{take_all}
+use Rattle.std.proofs.lemmas.List.Sums.{sum_by-le}
 use Rattle.dl_exact.specs.Fraction.{◌/ℚ◌}
 use Rattle.dl_exact.proofs.Over.{over_add, over_mul, over_div}
 use Rattle.dl_exact.proofs.Laws.{le_refl, le_plus, lt_of_le_of_lt, times_le_both}
 use Rattle.dl_exact.proofs.RoundingLaws.{div_ceil_least, whole_le}
 use Rattle.dl_iv.proofs.Rounding.{ceiling_reaches}
 use Rattle.dl_grid.proofs.WidthLaws.{up_quotient}
-use Rattle.dl_grid.proofs.CellLaws.{sum_fits, width_within}
+use Rattle.dl_grid.proofs.CellLaws.{size_of, width_within}
+use Rattle.dl_grid.proofs.Room.{masses_fit}
 use Rattle.dl_model.specs.Program.{Tail}
 use Rattle.dl_model.proofs.TailScores.{tail_excess}
 use Rattle.dl_model.proofs.TailEnds.{tail_least, tail_most}
@@ -188,27 +189,14 @@ product_most h d small few = mul-le-mul small few
 pub quotient_fits : (h d k : ℕ) → 0 < k → h ≤ 2 ^ 97 → d ≤ 1000000000 → div_ceil (h * d) k ≤ 2 ^ 97 * 1000000000
 quotient_fits h d k pos small few = omega (arith, ceiling_within (h * d) k pos, product_most h d small few)
 
-few : (n k : ℕ) → n ≤ k → k ≤ 16384 → n ≤ 16384
-few n k inside all = omega arith
-
--- so many buckets of a grid
-pub buckets_fit : {B : ℕ} (cells : List (Iv B)) (n : ℕ) → IsGrid cells → n ≤ length cells → n * 2 ^ B ≤ 2 ^ 70
-buckets_fit {B} cells n grid inside =
-    let most : n * 2 ^ B ≤ 16384 * 2 ^ 56 = mul-le-mul (few n (length cells) inside grid.few)
-    (one_fits B (scale_of cells grid.some).1) in
-    omega (arith, most)
-
-spread_most : {B : ℕ} (cells : List (Iv B)) → IsGrid cells → spread cells ≤ 2 ^ 70
-spread_most {B} cells grid =
-    subst (λ t. spread t ≤ 2 ^ 70) (take_all (length cells) cells (omega arith))
-    (sum_fits cells (λ (cell : Iv B). cell.hi - cell.lo) (length cells) grid width_within)
+spread_most : {B : ℕ} (cells : List (Iv B)) → IsGrid cells → spread cells ≤ length cells * 2 ^ B
+spread_most {B} cells grid = sum_by-le (λ (cell : Iv B). cell.hi - cell.lo) (2 ^ B) cells
+    (λ k d inside. omega (arith, width_within (get_or cells k d), grid.small k d inside))
 
 -- the spread of a grid, over so many cells
 pub slack_fits : {B : ℕ} (cells : List (Iv B)) (n : ℕ) → IsGrid cells → n ≤ length cells → n * spread cells ≤ 2 ^ 84
 slack_fits cells n grid inside =
-    let most : n * spread cells ≤ 16384 * 2 ^ 70 = mul-le-mul (few n (length cells) inside grid.few)
-    (spread_most cells grid) in
-    omega (arith, most)
+    omega (arith, mul-le-mul inside (spread_most cells grid), masses_fit (size_of cells grid))
 
 -- ---- the bracket of a quantile
 

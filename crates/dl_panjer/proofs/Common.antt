@@ -6,7 +6,6 @@ pub use Rattle.std.proofs.lemmas.List.Sums.{sum_by-take-le}
 pub use Rattle.std.proofs.lemmas.Nat.{pow_pos}
 pub use Rattle.std.specs.Int.{div_ceil}
 pub use Rattle.std.specs.Prelude.{All, not, sum_by}
-pub use Rattle.dl_limits.specs.Limits.{most_cells}
 pub use Rattle.dl_exact.proofs.Counts.{below_le, below_pairs, below_plus, below_times}
 pub use Rattle.dl_exact.proofs.Denominators.{over_zero}
 pub use Rattle.dl_exact.proofs.Laws.{div_times, le_of_eq, le_refl, le_trans, one_pos, one_times, over_times_whole, ring, times_cancel, times_comm, times_le_both, times_le_times, whole_pos, zero_times}
@@ -22,6 +21,8 @@ pub use Rattle.dl_iv.specs.declared.interval.Iv.{Iv}
 pub use Rattle.dl_grid.proofs.CellLaws.{high_at_read, low_at_read, one_fits}
 pub use Rattle.dl_grid.proofs.EndLists.{low_le_high}
 pub use Rattle.dl_grid.proofs.PlaceSums.{high_at_front, high_at_pushed, low_at_front, low_at_pushed}
+pub use Rattle.dl_grid.proofs.Room.{mass_fits, size_within}
+pub use Rattle.dl_grid.specs.Room.{IsGridSize}
 pub use Rattle.dl_grid.specs.Cells.{IsGrid, high_ends, low_ends, spread}
 unfoldable pub use Rattle.dl_grid.specs.Cells.{high_at, low_at}
 unfoldable pub use Rattle.dl_grid.specs.Width.{up}

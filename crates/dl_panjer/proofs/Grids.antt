@@ -1,5 +1,5 @@
 -- The list of cells that the recursion makes is a grid, follows the declared recursion, and encloses the compound sum.
-use Rattle.dl_panjer.proofs.Common.{ℕ, suc, ◌≡◌, ◌+◌, ◌-◌, ◌*◌, ◌^◌, ◌<◌, ◌≤◌, Bool, true, false, List, length, arith, sym, ap, subst, subst₂, ◌∙◌, All, pow_pos, Fraction, ◌over◌, ◌+ℚ◌, ◌*ℚ◌, ◌/ℚ◌, ◌≤ℚ◌, whole, sum_to, over_zero, over_mul, over_le, one_pos, le_trans, le_whole, Iv, low_at, high_at, spread, IsGrid, up, count_below, AtLeast, Holds, poisson, gamma_of, IsPanjer, compound, GridEncloses, IsWithinOne, poisson_class, within_one, Item, Sev, probability_of, weight_at, weight_sum, Follows, FollowsOutward, FollowsRounded, severity_total, zero_weight}
+use Rattle.dl_panjer.proofs.Common.{ℕ, suc, ◌≡◌, ◌+◌, ◌-◌, ◌*◌, ◌^◌, ◌<◌, ◌≤◌, Bool, true, false, List, length, arith, sym, ap, subst, subst₂, ◌∙◌, All, pow_pos, Fraction, ◌over◌, ◌+ℚ◌, ◌*ℚ◌, ◌/ℚ◌, ◌≤ℚ◌, whole, sum_to, over_zero, over_mul, over_le, one_pos, le_trans, le_whole, Iv, low_at, high_at, spread, IsGrid, IsGridSize, up, count_below, AtLeast, Holds, poisson, gamma_of, IsPanjer, compound, GridEncloses, IsWithinOne, poisson_class, within_one, Item, Sev, probability_of, weight_at, weight_sum, Follows, FollowsOutward, FollowsRounded, severity_total, zero_weight}
 use Rattle.dl_exact.proofs.Over.{over_cross}
 use Rattle.dl_exact.proofs.Counts.{below_first}
 use Rattle.dl_grid.proofs.PlaceSums.{width_at, high_is, whole_mass, whole_spread}
@@ -17,8 +17,7 @@ use Rattle.dl_plan.proofs.Positive.{amounts_positive}
 pub record IsMade {B : ℕ} (by_amount : Bool) (items : List Item) (total : ℕ) (rate : Fraction) (cells : List (Iv B))
     (K : ℕ) : Type 0 where
   pub length_is : length cells ≡ K
-  pub some : 1 ≤ K
-  pub few : K ≤ 16384
+  pub size : IsGridSize B K
   pub small : All (λ cell. cell.hi ≤ 2 ^ B) cells
   pub follows : Follows (2 ^ B) by_amount items total rate (low_at cells) (high_at cells) K
   pub total_above : 0 < total
@@ -37,14 +36,14 @@ module _ {B : ℕ} {b : Bool} {items : List Item} {T : ℕ} {rate : Fraction} {c
       → IsPanjer x y w → AtLeast (λ N. whole 1) (λ N. sum_to N w) (low_at cells 0 over 2 ^ B) → IsGrid cells
   grid x y w F P start =
       let n : ℕ = K - 1 in
-      let e : suc n ≡ length cells = omega (arith, made.some, made.length_is) in
+      let e : suc n ≡ length cells = omega (arith, made.size.some, made.length_is) in
       let mass = low_mass (2 ^ B) n x y (λ j. weight_at items j over T) w (low_at cells) (high_at cells)
       (subst (λ k. FollowsOutward (2 ^ B) k x y (λ j. weight_at items j over T) (low_at cells) (high_at cells))
       (sym e) F)
       (ap (λ n. n over T) made.no_zero ∙ over_zero T made.total_above) P (pow_pos B) made.within start in
       record {
-        some = omega (arith, made.length_is, made.some);
-        few = omega (arith, made.length_is, made.few);
+        some = rw made.length_is made.size.some;
+        few = rw made.length_is made.size.few;
         small = made.small;
         mass = omega (arith, mass, whole_mass (suc n) cells (sym e));
       }
@@ -85,7 +84,7 @@ pub poisson_widths : {B : ℕ} {items : List Item} {T : ℕ} {v : Fraction} {cel
     → spread cells ≤ 8 * K + 128
 poisson_widths {v = v} {cells = cells} {K = K} made half near =
     let n : ℕ = K - 1 in
-    let e : suc n ≡ K = omega (arith, made.some) in
+    let e : suc n ≡ K = omega (arith, made.size.some) in
     let w = widths_of made (omega (arith, half)) n e in
     let all = half_spread n v.num v.den (width_at cells 0) (count_below n (λ s. width_at cells (suc s)))
     (spread cells) v.positive half w.1 w.0 (omega (arith, near)) in
@@ -117,7 +116,7 @@ pub geometric_widths : {B : ℕ} {items : List Item} {T : ℕ} (p d : ℕ) {cell
     → spread cells ≤ up (whole (4 * K + 1) *ℚ (whole 1 +ℚ p over d))
 geometric_widths p d {cells} {K} pos made at_most_one near =
     let n : ℕ = K - 1 in
-    let e : suc n ≡ K = omega (arith, made.some) in
+    let e : suc n ≡ K = omega (arith, made.size.some) in
     let r : Fraction = p over (p + d) in
     let w = widths_of made at_most_one n e in
     let all = geometric_spread n r.num r.den p d (width_at cells 0) (count_below n (λ s. width_at cells (suc s)))
@@ -134,14 +133,13 @@ geometric_widths p d {cells} {K} pos made at_most_one near =
 -- ---- from what the recursion's loop gives
 
 pub made_of : {B : ℕ} (b : Bool) (sev : Sev) {items : List Item} {v r : Fraction} (cells : List (Iv B)) {K : ℕ}
-    → items ≡ sev.items → r ≡ v → 1 ≤ K → K ≤ 16384 → length cells ≡ K
+    → items ≡ sev.items → r ≡ v → IsGridSize B K → length cells ≡ K
     → All (λ cell. cell.hi ≤ 2 ^ B) cells → Follows (2 ^ B) b items sev.total r (low_at cells) (high_at cells) K
     → probability_of sev 0 ≡ whole 0 → IsMade b sev.items sev.total v cells K
-made_of {B} b sev cells {K} same rate_is some few length_is small follows none =
+made_of {B} b sev cells {K} same rate_is size length_is small follows none =
     record {
       length_is = length_is;
-      some = some;
-      few = few;
+      size = size;
       small = small;
       follows = subst₂ (λ xs t. Follows (2 ^ B) b xs sev.total t (low_at cells) (high_at cells) K) same rate_is follows;
       total_above = severity_total sev;

@@ -1,5 +1,5 @@
 -- What the items of a slice and the cells that they leave are.
-use Rattle.dl_panjer.proofs.Common.{ℕ, ◌≡◌, ◌+◌, ◌-◌, ◌*◌, ◌^◌, ◌<◌, ◌≤◌, Bool, List, length, get_or, take, drop, arith, sym, ap₂, subst, ◌∙◌, All, sum_by, sum_by-take-le, most_cells, Iv, low_at, high_at, one_fits, low_at_read, high_at_read, Item, weight_sum, counted, given, low_le_high}
+use Rattle.dl_panjer.proofs.Common.{ℕ, ◌≡◌, ◌+◌, ◌-◌, ◌*◌, ◌^◌, ◌<◌, ◌≤◌, Bool, List, length, get_or, take, drop, arith, sym, ap₂, subst, ◌∙◌, All, sum_by, sum_by-take-le, Iv, low_at, high_at, one_fits, low_at_read, high_at_read, Item, weight_sum, counted, given, low_le_high}
 use Rattle.std.specs.List.Sorted.{IsStrictlyIncreasing, IsNonDecreasingBy}
 use Rattle.std.proofs.lemmas.List.{get_or-map, get_or-take, get_or-drop, length-map, length-take-le, length-drop}
 use Rattle.std.proofs.lemmas.List.Sorted.{IsNonDecreasingBy-from_all_adjacent}
@@ -69,10 +69,9 @@ module _ (b : Bool) (ends : ℕ → ℕ) (next : ℕ) (items : List Item) (i : �
     before,
   )
 
-  pub fits : 1 ≤ next → next ≤ most_cells → ((k : ℕ) → ends k ≤ 2 ^ 56) → All (λ item. item.amount ≤ next) items
+  pub fits : (S : ℕ) → 1 ≤ next → next * S ≤ 2 ^ 70 → ((k : ℕ) → ends k ≤ S) → All (λ item. item.amount ≤ next) items
       → weight_sum items ≤ most_parts → total + part < 2 ^ 128
-  fits some few bound near within =
-      let sum = items_fit b next (2 ^ 56) ends items some bound near in
-      let many : next * 2 ^ 56 ≤ 2 ^ 70 = omega (arith, few) in
-      let top : next * 2 ^ 56 * weight_sum items ≤ 2 ^ 70 * 2 ^ 30 = mul-le-mul many within in
+  fits S some many bound near within =
+      let sum = items_fit b next S ends items some bound near in
+      let top : next * S * weight_sum items ≤ 2 ^ 70 * 2 ^ 30 = mul-le-mul many within in
       omega (arith, more, sum_by-take-le (given b ends next) items (i + 1), sum, top)

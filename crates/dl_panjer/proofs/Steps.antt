@@ -14,11 +14,9 @@ counted_turn : (b : Bool) (j m n : ℕ) → counted b j m * n ≡ counted b j n 
 counted_turn true j m n = omega arith
 counted_turn false j m n = omega arith
 
-counted_most : (b : Bool) (j n : ℕ) → j ≤ 16384 → n ≤ 2 ^ 56 → counted b j n ≤ 2 ^ 70
-counted_most true j n p q =
-    let h : j * n ≤ 16384 * 2 ^ 56 = mul-le-mul p q in
-    omega (arith, h)
-counted_most false j n p q = omega (arith, q)
+counted_most : (b : Bool) (j n : ℕ) → 1 ≤ j → j * n ≤ 2 ^ 70 → counted b j n ≤ 2 ^ 70
+counted_most true j n some few = few
+counted_most false j n some few = omega (arith, few, mul-le-mul_right n some)
 
 module _ (b : Bool) (items : List Item) (T S : ℕ) (s : ℕ) (T_pos : 0 < T) (sum : weight_sum items ≡ T) where
   next_sum_within : (ends : ℕ → ℕ) → ((k : ℕ) → ends k ≤ S)
@@ -59,11 +57,11 @@ module _ (b : Bool) (items : List Item) (T S : ℕ) (s : ℕ) (T_pos : 0 < T) (s
         (mul-le-mul_right rate.num inner) in
         omega (arith, low_next_le lo bound, outer)
 
--- a step fits where the ends are at most 2^56 and the rate's first part is below 2^48
-pub step_fits : (b : Bool) (j S x num : ℕ) → j ≤ 16384 → S ≤ 2 ^ 56 → x ≤ counted b j S → num < 2 ^ 48
+-- a step fits where the ends of all cells come to at most 2^70 and the rate's first part is below 2^48
+pub step_fits : (b : Bool) (j S x num : ℕ) → 1 ≤ j → j * S ≤ 2 ^ 70 → x ≤ counted b j S → num < 2 ^ 48
     → x * num < 2 ^ 128
-step_fits b j S x num few one le small =
-    let wide : x ≤ 2 ^ 70 = omega (arith, le, counted_most b j S few one) in
+step_fits b j S x num some few le small =
+    let wide : x ≤ 2 ^ 70 = omega (arith, le, counted_most b j S some few) in
     let least : num ≤ 2 ^ 48 = omega (arith, small) in
     let product : x * num ≤ 2 ^ 70 * 2 ^ 48 = mul-le-mul wide least in
     omega (arith, product)

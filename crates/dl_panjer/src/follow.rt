@@ -5,6 +5,7 @@ ghost use Rattle.std.specs.Int.{div_ceil};
 ghost use Rattle.dl_limits.specs.Limits.{most_cells, admitted_bound};
 ghost use Rattle.dl_exact.specs.Fraction.{whole, ◌≤ℚ◌};
 ghost use Rattle.dl_grid.specs.Cells.{low_at, high_at};
+ghost use Rattle.dl_grid.specs.Room.{IsGridSize};
 ghost use Rattle.dl_plan.specs.Weighted.{weight_sum, IsWeighted};
 ghost use Rattle.dl_panjer.specs.Cells.{counted, coefficient, low_next, high_next, Follows};
 
@@ -23,10 +24,7 @@ fn next_cell<const B: u32, const BY_AMOUNT: bool>(
     rate: Frac,
     cells: &[Iv<B>],
 ) -> Iv<B>
-    requires scale_above { 1 ≤ B }
-    requires scale_below { B ≤ 56 }
-    requires some { 1 ≤ length cells.now }
-    requires few { length cells.now ≤ most_cells }
+    requires size { IsGridSize B (length cells.now) }
     requires small { All (λ cell. cell.hi ≤ 2 ^ B) cells.now }
     requires weighted { IsWeighted items.now total }
     requires no_zero { All (λ item. 0 < item.amount) items.now }
@@ -89,8 +87,7 @@ pub(crate) fn follow<const B: u32, const BY_AMOUNT: bool>(
     start: Iv<B>,
     cells: u32,
 ) -> Result<Vec<Iv<B>>, AllocError>
-    requires some { 1 ≤ cells }
-    requires few { cells ≤ most_cells }
+    requires size { IsGridSize B cells }
     requires small { start.hi ≤ 2 ^ B }
     requires weighted { IsWeighted items.now total }
     requires no_zero { All (λ item. 0 < item.amount) items.now }

@@ -1,10 +1,11 @@
 //! The geometric count.
 
 ghost use Rattle.std.specs.Prelude.{◌≡◌, ℕ, ◌+◌, ◌*◌, ◌^◌, ◌<◌, ◌≤◌, length, IfOk};
-ghost use Rattle.dl_limits.specs.Limits.{most_cells, most_shape, admitted_bound};
+ghost use Rattle.dl_limits.specs.Limits.{most_shape, admitted_bound};
 ghost use Rattle.dl_exact.specs.Fraction.{whole, ◌+ℚ◌, ◌*ℚ◌, ◌/ℚ◌};
 ghost use Rattle.dl_exact.specs.Rounding.{IsFloor, IsCeiling};
 ghost use Rattle.dl_grid.specs.Cells.{low_at, high_at, spread};
+ghost use Rattle.dl_grid.specs.Room.{IsGridSize};
 ghost use Rattle.dl_grid.specs.Width.{up};
 ghost use Rattle.dl_model.specs.Counts.{gamma_of};
 ghost use Rattle.dl_model.specs.Family.{compound, GridEncloses};
@@ -29,15 +30,12 @@ pub fn geometric_base<const B: u32>(
     shape: u32,
     cells: u32,
 ) -> Result<Grid<B>, AllocError>
-    requires some { 1 ≤ cells }
-    requires few { cells ≤ most_cells }
+    requires size { IsGridSize B cells }
     requires shape_above { 1 ≤ shape }
     requires shape_below { shape ≤ most_shape }
     requires num { mean.num < admitted_bound }
     requires den { mean.den < admitted_bound }
     requires no_zero { probability_of sev.now 0 ≡ whole 0 }
-    requires scale_above { 1 ≤ B }
-    requires scale_below { B ≤ 56 }
     ensures cells { IfOk result (λ g. length g ≡ cells) }
     ensures start_low { IfOk result (λ g. IsFloor
         (whole (2 ^ B) /ℚ (whole 1 +ℚ mean /ℚ whole shape)) (low_at g 0)) }

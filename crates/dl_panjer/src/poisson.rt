@@ -1,9 +1,10 @@
 //! The Poisson count.
 
 ghost use Rattle.std.specs.Prelude.{◌≡◌, ℕ, ◌+◌, ◌*◌, ◌^◌, ◌<◌, ◌≤◌, length, IfOk};
-ghost use Rattle.dl_limits.specs.Limits.{most_cells, admitted_bound};
+ghost use Rattle.dl_limits.specs.Limits.{admitted_bound};
 ghost use Rattle.dl_exact.specs.Fraction.{whole, ◌over◌, ◌/ℚ◌, ◌≤ℚ◌};
 ghost use Rattle.dl_grid.specs.Cells.{spread};
+ghost use Rattle.dl_grid.specs.Room.{IsGridSize};
 ghost use Rattle.dl_model.specs.Counts.{poisson};
 ghost use Rattle.dl_model.specs.Family.{compound, GridEncloses};
 ghost use Rattle.dl_plan.specs.Severity.{probability_of};
@@ -28,15 +29,12 @@ pub fn poisson_base<const B: u32>(
     halvings: u32,
     cells: u32,
 ) -> Result<Grid<B>, AllocError>
-    requires some { 1 ≤ cells }
-    requires few { cells ≤ most_cells }
+    requires size { IsGridSize B cells }
     requires num { mean.num < admitted_bound }
     requires den { mean.den < admitted_bound }
     requires halvings { halvings ≤ 13 }
     requires half { mean /ℚ whole (2 ^ halvings) ≤ℚ 1 over 2 }
     requires no_zero { probability_of sev.now 0 ≡ whole 0 }
-    requires scale_above { 1 ≤ B }
-    requires scale_below { B ≤ 56 }
     ensures cells { IfOk result (λ g. length g ≡ cells) }
     ensures start { IfOk result (λ g. StartsAtExp (mean /ℚ whole (2 ^ halvings)) g) }
     ensures follows { IfOk result (λ g. IsPoissonBase sev.now (mean /ℚ whole (2 ^ halvings)) g) }

@@ -2,8 +2,9 @@
 
 ghost use Rattle.std.specs.Prelude.{◌≡◌, ℕ, suc, ◌+◌, ◌-◌, ◌*◌, ◌^◌, ◌<◌, ◌≤◌, length, sum_by, All, slice_index_or};
 ghost use Rattle.std.specs.List.Sorted.{IsStrictlyIncreasing};
-ghost use Rattle.dl_limits.specs.Limits.{most_cells, most_parts};
+ghost use Rattle.dl_limits.specs.Limits.{most_parts};
 ghost use Rattle.dl_grid.specs.Cells.{low_at, high_at};
+ghost use Rattle.dl_grid.specs.Room.{IsGridSize};
 ghost use Rattle.dl_plan.specs.Weighted.{amounts_of, weight_sum, weight_at};
 ghost use Rattle.dl_panjer.specs.Cells.{counted, coefficient, given, next_sum};
 
@@ -44,9 +45,7 @@ fn product(factor: u64, end: u128) -> u128
 /// The sums of the products of each amount's factor and the low end, and the high end, of the cell
 /// that the amount leaves of the next cell's number, which no amount passes.
 fn sums_over<const B: u32, const BY_AMOUNT: bool>(items: &[Item], cells: &[Iv<B>]) -> (u128, u128)
-    requires scale { B ≤ 56 }
-    requires some { 1 ≤ length cells.now }
-    requires few { length cells.now ≤ most_cells }
+    requires size { IsGridSize B (length cells.now) }
     requires small { All (λ cell. cell.hi ≤ 2 ^ B) cells.now }
     requires no_zero { All (λ item. 0 < item.amount) items.now }
     requires near { All (λ item. item.amount ≤ length cells.now) items.now }
@@ -73,9 +72,7 @@ pub(crate) fn sums_before<const B: u32, const BY_AMOUNT: bool>(
     items: &[Item],
     cells: &[Iv<B>],
 ) -> (u128, u128)
-    requires scale { B ≤ 56 }
-    requires some { 1 ≤ length cells.now }
-    requires few { length cells.now ≤ most_cells }
+    requires size { IsGridSize B (length cells.now) }
     requires small { All (λ cell. cell.hi ≤ 2 ^ B) cells.now }
     requires rising { IsStrictlyIncreasing (amounts_of items.now) }
     requires no_zero { All (λ item. 0 < item.amount) items.now }

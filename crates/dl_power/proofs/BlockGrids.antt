@@ -1,5 +1,5 @@
 -- Grids of blocks: their two lists are ends of a grid, between which what the counts come to lies.
-use Rattle.dl_power.proofs.Common.{ℕ, suc, ◌≡◌, ◌+◌, ◌-◌, ◌*◌, ◌/◌, ◌^◌, ◌<◌, ◌≤◌, List, [], length, get_or, arith, refl, sym, ap, subst, ◌∙◌, min, div_ceil, div-mul-le_self, le_of_mul-le-mul_right, mul-le-mul_left, pow_pos, div_ceil_times, Fraction, ◌over◌, ◌≤ℚ◌, Iv, low_at, high_at, AreEnds, low_le_high, count_below, below_le, cell_from, IsWithinOne, probability_at, probability_is, Item, weight_at, weight_sum, LieBetween, Between, ArePowers, mixture_end}
+use Rattle.dl_power.proofs.Common.{ℕ, suc, ◌≡◌, ◌+◌, ◌-◌, ◌*◌, ◌/◌, ◌^◌, ◌<◌, ◌≤◌, List, [], length, get_or, arith, refl, sym, ap, subst, ◌∙◌, min, div_ceil, div-mul-le_self, le_of_mul-le-mul_right, mul-le-mul_left, pow_pos, div_ceil_times, Fraction, ◌over◌, ◌≤ℚ◌, Iv, low_at, high_at, AreEnds, IsGridSize, low_le_high, count_below, below_le, cell_from, IsWithinOne, probability_at, probability_is, Item, weight_at, weight_sum, LieBetween, Between, ArePowers, mixture_end}
 use Rattle.dl_grid.specs.Cells.{low_ends, high_ends}
 use Rattle.dl_grid.proofs.EndLists.{low_at_ends, high_at_ends}
 use Rattle.dl_power.proofs.WeightLists.{probabilities_within}
@@ -63,10 +63,10 @@ module _ {B : ℕ} (powers : List (List (Iv B))) (weights lows highs : List ℕ)
       (λ s b. high s b ∙ ap (λ t. min S (div_ceil t total)) (mixture_end_is weights powers (λ t. high_at t s) many
       ∙ ap (λ n. count_below n (λ i. get_or weights i 0 * high_at (get_or powers i []) s)) all))
 
-  pub mixture_ends : 1 ≤ B → B ≤ 56 → 1 ≤ K → K ≤ 16384 → length lows ≡ K → length highs ≡ K
+  pub mixture_ends : IsGridSize B K → length lows ≡ K → length highs ≡ K
       → (f : ℕ → Fraction) → IsWithinOne f → ArePowers K f powers → AreEnds B lows highs
-  mixture_ends above below one few many_lows many_highs f q of_f =
-      made_ends B K lows highs (λ x. get_or lows x 0) (λ x. get_or highs x 0) above below one few many_lows many_highs
+  mixture_ends size many_lows many_highs f q of_f =
+      made_ends B K lows highs (λ x. get_or lows x 0) (λ x. get_or highs x 0) size many_lows many_highs
       (λ x b. refl) (λ x b. refl)
       (λ x b. omega (
         arith,

@@ -20,13 +20,15 @@ pub use Rattle.dl_exact.specs.Fraction.{Fraction, whole}
 unfoldable pub use Rattle.dl_exact.specs.Fraction.{◌*ℚ◌, ◌+ℚ◌, ◌over◌, ◌≤ℚ◌}
 unfoldable pub use Rattle.dl_exact.specs.Sum.{sum_pairs, sum_to}
 pub use Rattle.dl_iv.specs.declared.interval.Iv.{Iv}
-pub use Rattle.dl_grid.proofs.CellLaws.{scale_of}
+pub use Rattle.dl_grid.proofs.CellLaws.{scale_of, size_of}
 pub use Rattle.dl_grid.proofs.CellSets.{high_joined, high_take, low_take, mass_set, spread_none, spread_set}
 pub use Rattle.dl_grid.proofs.EndLists.{low_le_high}
 pub use Rattle.dl_grid.proofs.PlaceSums.{low_within}
+pub use Rattle.dl_grid.proofs.Room.{size_within}
 pub use Rattle.dl_grid.proofs.WidthLaws.{mixed_none}
 pub use Rattle.dl_grid.specs.Cells.{AreEnds, mass_low, spread}
 unfoldable pub use Rattle.dl_grid.specs.Cells.{all_at_zero, high_at, low_at}
+pub use Rattle.dl_grid.specs.Room.{IsGridSize}
 pub use Rattle.dl_grid.specs.Convolution.{IsConvolution}
 unfoldable pub use Rattle.dl_grid.specs.Width.{mixed_spread}
 pub use Rattle.dl_plan.specs.Weighted.{greatest, weight_at, weight_sum}

@@ -1,5 +1,5 @@
 -- Lists of numbers as loops make them, and the ends of a grid made from two of them.
-use Rattle.dl_power.proofs.Common.{ℕ, ◌≡◌, ◌+◌, ◌*◌, ◌^◌, ◌<◌, ◌≤◌, List, [], ◌∷◌, ◌++◌, length, get_or, arith, refl, sym, ap, ap₂, inl, inr, ◌∙◌, get_or-append_seam, get_or_append_left, get_or_default, cases_lt, Iv, AreEnds, count_below, below_more, below_same, mixture_end}
+use Rattle.dl_power.proofs.Common.{ℕ, ◌≡◌, ◌+◌, ◌*◌, ◌^◌, ◌<◌, ◌≤◌, List, [], ◌∷◌, ◌++◌, length, get_or, arith, refl, sym, ap, ap₂, inl, inr, ◌∙◌, get_or-append_seam, get_or_append_left, get_or_default, cases_lt, Iv, AreEnds, IsGridSize, count_below, below_more, below_same, mixture_end}
 use Rattle.std.specs.Prelude.{sum, zip}
 use Rattle.std.proofs.Math.ListN.{get_or-eq_default}
 use Rattle.std.proofs.Math.Nat.{mul-le-mul}
@@ -37,16 +37,13 @@ mixture_end_is {B} (w ∷ ws) (g ∷ gs) end e =
     )
 
 -- two lists of ends, told place by place
-pub made_ends : (B K : ℕ) (lows highs : List ℕ) (low high : ℕ → ℕ) → 1 ≤ B → B ≤ 56 → 1 ≤ K → K ≤ 16384
+pub made_ends : (B K : ℕ) (lows highs : List ℕ) (low high : ℕ → ℕ) → IsGridSize B K
     → length lows ≡ K → length highs ≡ K
     → ((x : ℕ) → x < K → get_or lows x 0 ≡ low x) → ((x : ℕ) → x < K → get_or highs x 0 ≡ high x)
     → ((x : ℕ) → x < K → low x ≤ high x) → ((x : ℕ) → x < K → high x ≤ 2 ^ B) → count_below K low ≤ 2 ^ B
     → AreEnds B lows highs
-made_ends B K lows highs low high above below some few many many' at at' order small mass = record {
-  scale_above = above;
-  scale_below = below;
-  some = omega (arith, many);
-  few = omega (arith, many);
+made_ends B K lows highs low high size many many' at at' order small mass = record {
+  size = rw many size;
   paired = omega (arith, many, many');
   ordered = λ x. elim (cases_lt x K) [
     | inl inside ↦ omega (arith, at x inside, at' x inside, order x inside)

@@ -1,5 +1,5 @@
 -- One step of Horner's rule in blocks, on grids.
-use Rattle.dl_power.proofs.Common.{ℕ, suc, ◌≡◌, ◌+◌, ◌*◌, ◌/◌, ◌^◌, ◌<◌, ◌≤◌, List, length, get_or, arith, refl, sym, subst₂, ◌∙◌, min, div_ceil, pow_pos, Fraction, whole, ◌+ℚ◌, ◌≤ℚ◌, le_trans, le_of_eq, Iv, low_at, high_at, AreEnds, count_pairs, low_le_high, convolve, power, cell_from, LieBetween, Between}
+use Rattle.dl_power.proofs.Common.{ℕ, suc, ◌≡◌, ◌+◌, ◌*◌, ◌/◌, ◌^◌, ◌<◌, ◌≤◌, List, length, get_or, arith, refl, sym, subst₂, ◌∙◌, min, div_ceil, pow_pos, Fraction, whole, ◌+ℚ◌, ◌≤ℚ◌, le_trans, le_of_eq, Iv, low_at, high_at, AreEnds, IsGridSize, count_pairs, low_le_high, convolve, power, cell_from, LieBetween, Between}
 use Rattle.dl_exact.proofs.Laws.{le_plus, plus_comm}
 use Rattle.dl_power.specs.Powers.{IsStep}
 use Rattle.dl_power.proofs.EndLists.{made_ends}
@@ -36,10 +36,10 @@ module _ {B : ℕ} (block step later moved : List (Iv B)) (lows highs : List ℕ
       p.of_step p.of_later less moved_low moved_high)
       p.of_block all one low high
 
-  pub step_ends : 1 ≤ B → B ≤ 56 → 1 ≤ K → K ≤ 16384 → length lows ≡ K → length highs ≡ K
+  pub step_ends : IsGridSize B K → length lows ≡ K → length highs ≡ K
       → (w f : ℕ → Fraction) (k m n : ℕ) → IsStep K w f k m n block step later → AreEnds B lows highs
-  step_ends above below some few many many' w f k m n p =
-      made_ends B K lows highs (λ x. get_or lows x 0) (λ x. get_or highs x 0) above below some few many many'
+  step_ends size many many' w f k m n p =
+      made_ends B K lows highs (λ x. get_or lows x 0) (λ x. get_or highs x 0) size many many'
       (λ x b. refl) (λ x b. refl)
       (λ x b. omega (arith, low x b, high x b, low_le_high moved x, low_le_high block x))
       (λ x b. omega (arith, high x b))

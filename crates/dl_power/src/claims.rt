@@ -3,8 +3,8 @@
 ghost use Rattle.std.specs.Prelude.{◌≡◌, ℕ, ◌*◌, ◌/◌, ◌^◌, ◌<◌, ◌≤◌, length, IfOk};
 ghost use Rattle.std.specs.Int.{div_ceil};
 ghost use Rattle.std.specs.List.Sorted.{IsStrictlyIncreasing};
-ghost use Rattle.dl_limits.specs.Limits.{most_cells};
 ghost use Rattle.dl_grid.specs.Cells.{low_at, high_at, spread};
+ghost use Rattle.dl_grid.specs.Room.{IsGridSize};
 ghost use Rattle.dl_model.specs.Listed.{probability_at};
 ghost use Rattle.dl_model.specs.Counts.{fixed};
 ghost use Rattle.dl_model.specs.Family.{compound, GridEncloses};
@@ -23,13 +23,10 @@ pub fn claim_grid<const B: u32>(
     total: u32,
     cells: u32,
 ) -> Result<Grid<B>, AllocError>
-    requires scale_above { 1 ≤ B }
-    requires scale_below { B ≤ 56 }
+    requires size { IsGridSize B cells }
     requires rising { IsStrictlyIncreasing (amounts_of amounts.now) }
     requires sum { weight_sum amounts.now ≡ total }
     requires positive { 0 < total }
-    requires some { 1 ≤ cells }
-    requires few { cells ≤ most_cells }
     ensures cells { IfOk result (λ g. length g ≡ cells) }
     ensures low { IfOk result (λ g. (x : ℕ) → x < cells
         → low_at g x ≡ 2 ^ B * weight_at amounts.now x / total) }

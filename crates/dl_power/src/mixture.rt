@@ -3,9 +3,9 @@
 
 ghost use Rattle.std.specs.Prelude.{◌≡◌, ℕ, ◌+◌, ◌-◌, ◌*◌, ◌/◌, ◌^◌, ◌<◌, ◌≤◌, length, get_or, All, IfOk};
 ghost use Rattle.std.specs.Int.{div_ceil};
-ghost use Rattle.dl_limits.specs.Limits.{most_cells};
 ghost use Rattle.dl_exact.specs.Fraction.{Fraction};
 ghost use Rattle.dl_grid.specs.Cells.{low_at, high_at};
+ghost use Rattle.dl_grid.specs.Room.{IsGridSize};
 ghost use Rattle.dl_model.specs.Compound.{cell_from};
 ghost use Rattle.dl_model.specs.Listed.{probability_at};
 ghost use Rattle.dl_model.specs.Severity.{IsWithinOne};
@@ -86,12 +86,9 @@ pub(crate) fn block<const B: u32>(
     total: u32,
     cells: u32,
 ) -> Result<Grid<B>, AllocError>
-    requires scale_above { 1 ≤ B }
-    requires scale_below { B ≤ 56 }
+    requires size { IsGridSize B cells }
     requires sum { weight_sum table.now ≡ total }
     requires positive { 0 < total }
-    requires some { 1 ≤ cells }
-    requires few { cells ≤ most_cells }
     requires one { 1 ≤ length powers.now }
     requires most { length powers.now < 2 ^ 32 }
     requires near { first < 2 ^ 33 }

@@ -2,8 +2,8 @@
 
 ghost use Rattle.std.specs.Prelude.{◌≡◌, ℕ, ◌+◌, ◌-◌, ◌*◌, ◌/◌, ◌^◌, ◌==◌, ◌<◌, ◌≤◌, if◌then◌else◌, length, List, IfOk};
 ghost use Rattle.std.specs.Int.{div_ceil};
-ghost use Rattle.dl_limits.specs.Limits.{most_cells};
 ghost use Rattle.dl_grid.specs.Cells.{low_at, high_at, mass_low, spread};
+ghost use Rattle.dl_grid.specs.Room.{IsGridSize};
 ghost use Rattle.dl_plan.specs.declared.item.Item.{Item};
 ghost use Rattle.dl_plan.specs.Weighted.{weight_at, weight_sum, greatest};
 
@@ -52,10 +52,7 @@ pub(crate) fn share<const B: u32>(weight: u32, total: u32) -> Iv<B>
 
 /// The grid whose cells are all 0: no probability is in it yet. An error is a want of memory.
 pub fn nowhere<const B: u32>(alloc: Global, cells: u32) -> Result<Grid<B>, AllocError>
-    requires scale_above { 1 ≤ B }
-    requires scale_below { B ≤ 56 }
-    requires some { 1 ≤ cells }
-    requires few { cells ≤ most_cells }
+    requires { IsGridSize B cells }
     ensures cells { IfOk result (λ g. length g ≡ cells) }
     ensures low { IfOk result (λ g. (x : ℕ) → low_at g x ≡ 0) }
     ensures high { IfOk result (λ g. (x : ℕ) → high_at g x ≡ 0) }

@@ -1,6 +1,6 @@
-ghost use Rattle.std.specs.Prelude.{◌≡◌, ℕ, ◌*◌, ◌^◌, ◌<◌, ◌≤◌, length, get_or, All, IfOk, IfSome};
+ghost use Rattle.std.specs.Prelude.{◌≡◌, ℕ, ◌<◌, ◌≤◌, length, get_or, IfOk, IfSome};
 ghost use Rattle.dl_limits.specs.Limits.{most_cells};
-ghost use Rattle.dl_conv.specs.Sums.{pair_sum};
+ghost use Rattle.dl_conv.specs.Sums.{pair_sum, ItemsFit};
 
 use crate::room::Workspace;
 use crate::short::short_square;
@@ -45,10 +45,8 @@ fn multiply_plainly(
     b: &[u128],
     out: &mut [u128],
 ) -> Result<(), AllocError>
-    requires first { All (λ x. x ≤ 2 ^ 56) a.now }
-    requires second { All (λ y. y ≤ 2 ^ 56) b.now }
+    requires fits { ItemsFit a.now b.now (length out.old) }
     requires first_few { length a.now ≤ most_cells }
-    requires few { length out.old ≤ most_cells }
     ensures { IfOk result (λ _. (s : ℕ) → s < length out.old
         → get_or out.new s 0 ≡ pair_sum a.now b.now s) }
 {
@@ -69,11 +67,9 @@ fn multiply(
     b: &[u128],
     out: &mut [u128],
 ) -> Result<(), AllocError>
-    requires first { All (λ x. x ≤ 2 ^ 56) a.now }
-    requires second { All (λ y. y ≤ 2 ^ 56) b.now }
+    requires fits { ItemsFit a.now b.now (length out.old) }
     requires first_few { length a.now ≤ most_cells }
     requires second_few { length b.now ≤ most_cells }
-    requires few { length out.old ≤ most_cells }
     ensures { IfOk result (λ _. (s : ℕ) → s < length out.old
         → get_or out.new s 0 ≡ pair_sum a.now b.now s) }
 {
@@ -93,11 +89,9 @@ fn put_sums(
     b: &[u128],
     out: &mut [u128],
 ) -> Result<(), AllocError>
-    requires first { All (λ x. x ≤ 2 ^ 56) a.now }
-    requires second { All (λ y. y ≤ 2 ^ 56) b.now }
+    requires fits { ItemsFit a.now b.now (length out.old) }
     requires first_few { length a.now ≤ most_cells }
     requires second_few { length b.now ≤ most_cells }
-    requires few { length out.old ≤ most_cells }
     requires zeros { (s : ℕ) → get_or out.old s 0 ≡ 0 }
     ensures { IfOk result (λ _. (s : ℕ) → s < length out.old
         → get_or out.new s 0 ≡ pair_sum a.now b.now s) }
@@ -123,11 +117,9 @@ pub(crate) fn sums(
     b: &[u128],
     cells: u32,
 ) -> Result<Vec<u128>, AllocError>
-    requires first { All (λ x. x ≤ 2 ^ 56) a.now }
-    requires second { All (λ y. y ≤ 2 ^ 56) b.now }
+    requires fits { ItemsFit a.now b.now cells }
     requires first_few { length a.now ≤ most_cells }
     requires second_few { length b.now ≤ most_cells }
-    requires few { cells ≤ most_cells }
     ensures cells { IfOk result (λ v. length v.items ≡ cells) }
     ensures each { IfOk result (λ v. (s : ℕ) → s < cells
         → get_or v.items s 0 ≡ pair_sum a.now b.now s) }
@@ -145,9 +137,8 @@ fn multiply_by_itself(
     a: &[u128],
     out: &mut [u128],
 ) -> Result<(), AllocError>
-    requires items { All (λ x. x ≤ 2 ^ 56) a.now }
+    requires fits { ItemsFit a.now a.now (length out.old) }
     requires items_few { length a.now ≤ most_cells }
-    requires few { length out.old ≤ most_cells }
     ensures { IfOk result (λ _. (s : ℕ) → s < length out.old
         → get_or out.new s 0 ≡ pair_sum a.now a.now s) }
 {
@@ -167,9 +158,8 @@ fn put_square_sums(
     a: &[u128],
     out: &mut [u128],
 ) -> Result<(), AllocError>
-    requires items { All (λ x. x ≤ 2 ^ 56) a.now }
+    requires fits { ItemsFit a.now a.now (length out.old) }
     requires items_few { length a.now ≤ most_cells }
-    requires few { length out.old ≤ most_cells }
     requires zeros { (s : ℕ) → get_or out.old s 0 ≡ 0 }
     ensures { IfOk result (λ _. (s : ℕ) → s < length out.old
         → get_or out.new s 0 ≡ pair_sum a.now a.now s) }
@@ -187,9 +177,8 @@ pub(crate) fn square_sums(
     a: &[u128],
     cells: u32,
 ) -> Result<Vec<u128>, AllocError>
-    requires items { All (λ x. x ≤ 2 ^ 56) a.now }
+    requires fits { ItemsFit a.now a.now cells }
     requires items_few { length a.now ≤ most_cells }
-    requires few { cells ≤ most_cells }
     ensures cells { IfOk result (λ v. length v.items ≡ cells) }
     ensures each { IfOk result (λ v. (s : ℕ) → s < cells
         → get_or v.items s 0 ≡ pair_sum a.now a.now s) }

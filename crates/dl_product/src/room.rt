@@ -14,8 +14,8 @@ pub struct Workspace {
 }
 
 impl Workspace {
-    ghost use Rattle.std.specs.Prelude.{◌≡◌, ℕ, ◌^◌, ◌<◌, ◌≤◌, true, length, get_or, All, IfOk};
-    ghost use Rattle.dl_conv.specs.Sums.{pair_sum};
+    ghost use Rattle.std.specs.Prelude.{◌≡◌, ℕ, ◌<◌, true, length, get_or, IfOk};
+    ghost use Rattle.dl_conv.specs.Sums.{pair_sum, ItemsFit};
 
     /// A workspace with no room and no tables yet. It takes no memory.
     pub fn new(alloc: Global) -> Self {
@@ -49,8 +49,7 @@ impl Workspace {
         out: &mut [u128],
     ) -> Result<bool, AllocError>
         requires levels { levels < 40 }
-        requires first { All (λ x. x ≤ 2 ^ 56) a.now }
-        requires second { All (λ y. y ≤ 2 ^ 56) b.now }
+        requires fits { ItemsFit a.now b.now (length out.old) }
         ensures { IfOk result (λ told. told ≡ true → (s : ℕ) → s < length out.old
             → get_or out.new s 0 ≡ pair_sum a.now b.now s) }
     {
@@ -70,7 +69,7 @@ impl Workspace {
         out: &mut [u128],
     ) -> Result<bool, AllocError>
         requires levels { levels < 40 }
-        requires items { All (λ x. x ≤ 2 ^ 56) a.now }
+        requires fits { ItemsFit a.now a.now (length out.old) }
         ensures { IfOk result (λ told. told ≡ true → (s : ℕ) → s < length out.old
             → get_or out.new s 0 ≡ pair_sum a.now a.now s) }
     {

@@ -2,9 +2,9 @@
 
 ghost use Rattle.std.specs.Prelude.{◌≡◌, ℕ, ◌*◌, ◌^◌, ◌<◌, ◌≤◌, length, IfOk};
 ghost use Rattle.std.specs.Int.{div_ceil};
-ghost use Rattle.dl_limits.specs.Limits.{most_cells};
 ghost use Rattle.dl_model.specs.Counts.{fixed};
 ghost use Rattle.dl_grid.specs.Cells.{high_at, spread};
+ghost use Rattle.dl_grid.specs.Room.{IsGridSize};
 ghost use Rattle.dl_model.specs.Family.{compound, GridEncloses};
 ghost use Rattle.dl_plan.specs.Weighted.{weight_at};
 ghost use Rattle.dl_plan.specs.Severity.{probability_of};
@@ -20,10 +20,7 @@ pub(crate) fn one_claim<const B: u32>(
     sev: &Sev,
     cells: u32,
 ) -> Result<Grid<B>, AllocError>
-    requires scale_above { 1 ≤ B }
-    requires scale_below { B ≤ 56 }
-    requires some { 1 ≤ cells }
-    requires few { cells ≤ most_cells }
+    requires size { IsGridSize B cells }
     ensures cells { IfOk result (λ g. length g ≡ cells) }
     ensures high { IfOk result (λ g. (y : ℕ) → y < cells
         → high_at g y ≡ div_ceil (2 ^ B * weight_at sev.now.items y) sev.now.total) }

@@ -5,6 +5,7 @@ ghost use Rattle.std.specs.Prelude.{◌≡◌, ℕ, ◌^◌, ◌<◌, ◌≤◌,
 ghost use Rattle.dl_limits.specs.Limits.{most_cells};
 ghost use Rattle.dl_exact.specs.Fraction.{Fraction};
 ghost use Rattle.dl_grid.specs.Cells.{spread};
+ghost use Rattle.dl_grid.specs.Room.{IsGridSize};
 ghost use Rattle.dl_model.specs.Family.{GridEncloses};
 ghost use Rattle.dl_model.specs.Plans.{compound_of};
 ghost use Rattle.dl_plan.specs.declared.plan.Freq.TheVariants.{Poisson, Gamma};
@@ -41,14 +42,11 @@ pub(crate) fn poisson_grid<const B: u32>(
     positive: &Sev,
     cells: u32,
 ) -> Result<Grid<B>, AllocError>
-    requires scale_above { 1 ≤ B }
-    requires scale_below { B ≤ 56 }
+    requires size { IsGridSize B cells }
     requires valid { (h : ℕ) × IsValidUnit h unit.now }
     requires count { (mean : Fraction) × (unit.now.freq ≡ Poisson mean) }
     requires expected { 0 < (thinned_mean unit.now).num }
     requires means { Means positive.now (conditioned 0 (pairs_of unit.now.sev)) }
-    requires some { 1 ≤ cells }
-    requires few { cells ≤ most_cells }
     ensures cells { IfOk result (λ g. length g ≡ cells) }
     ensures encloses { IfOk result (λ g. GridEncloses g (compound_of unit.now.freq unit.now.sev)) }
     ensures spread { IfOk result (λ g. spread g ≤ claims_budget (2 ^ B) cells unit.now) }
@@ -71,14 +69,11 @@ pub(crate) fn gamma_grid<const B: u32>(
     shape: u32,
     cells: u32,
 ) -> Result<Grid<B>, AllocError>
-    requires scale_above { 1 ≤ B }
-    requires scale_below { B ≤ 56 }
+    requires size { IsGridSize B cells }
     requires valid { (h : ℕ) × IsValidUnit h unit.now }
     requires count { (mean : Fraction) × (unit.now.freq ≡ Gamma shape mean) }
     requires expected { 0 < (thinned_mean unit.now).num }
     requires means { Means positive.now (conditioned 0 (pairs_of unit.now.sev)) }
-    requires some { 1 ≤ cells }
-    requires few { cells ≤ most_cells }
     ensures cells { IfOk result (λ g. length g ≡ cells) }
     ensures encloses { IfOk result (λ g. GridEncloses g (compound_of unit.now.freq unit.now.sev)) }
     ensures spread { IfOk result (λ g. spread g ≤ claims_budget (2 ^ B) cells unit.now) }

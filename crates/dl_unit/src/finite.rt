@@ -1,9 +1,9 @@
 //! The grids of units whose counts have a greatest number of claims.
 
 ghost use Rattle.std.specs.Prelude.{◌≡◌, ℕ, ◌+◌, ◌*◌, ◌^◌, ◌≤◌, length, All, IfOk};
-ghost use Rattle.dl_limits.specs.Limits.{most_cells};
 ghost use Rattle.dl_exact.specs.Fraction.{◌over◌};
 ghost use Rattle.dl_grid.specs.Cells.{spread};
+ghost use Rattle.dl_grid.specs.Room.{IsGridSize};
 ghost use Rattle.dl_grid.specs.Width.{pw, mixed_spread};
 ghost use Rattle.dl_model.specs.Counts.{fixed, binomial};
 ghost use Rattle.dl_model.specs.Family.{compound, GridEncloses};
@@ -29,10 +29,7 @@ pub(crate) fn fixed_claims<const B: u32>(
     claims: u32,
     cells: u32,
 ) -> Result<Grid<B>, AllocError>
-    requires scale_above { 1 ≤ B }
-    requires scale_below { B ≤ 56 }
-    requires some { 1 ≤ cells }
-    requires few { cells ≤ most_cells }
+    requires size { IsGridSize B cells }
     ensures cells { IfOk result (λ g. length g ≡ cells) }
     ensures encloses { IfOk result (λ g.
         GridEncloses g (compound (fixed claims) (probability_of sev.now))) }
@@ -51,11 +48,8 @@ pub(crate) fn listed_claims<const B: u32>(
     total: u32,
     cells: u32,
 ) -> Result<Grid<B>, AllocError>
-    requires scale_above { 1 ≤ B }
-    requires scale_below { B ≤ 56 }
+    requires size { IsGridSize B cells }
     requires weighted { IsWeighted counts.now total }
-    requires some { 1 ≤ cells }
-    requires few { cells ≤ most_cells }
     ensures cells { IfOk result (λ g. length g ≡ cells) }
     ensures encloses { IfOk result (λ g.
         GridEncloses g (compound (λ n. weight_at counts.now n over total)
@@ -76,11 +70,8 @@ pub(crate) fn binomial_claims<const B: u32>(
     q: Frac,
     cells: u32,
 ) -> Result<Grid<B>, AllocError>
-    requires scale_above { 1 ≤ B }
-    requires scale_below { B ≤ 56 }
+    requires size { IsGridSize B cells }
     requires probability { IsProbability q }
-    requires some { 1 ≤ cells }
-    requires few { cells ≤ most_cells }
     ensures cells { IfOk result (λ g. length g ≡ cells) }
     ensures encloses { IfOk result (λ g.
         GridEncloses g (compound (binomial trials q.num q.den) (probability_of sev.now))) }

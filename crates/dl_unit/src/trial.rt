@@ -2,8 +2,8 @@
 
 ghost use Rattle.std.specs.Prelude.{◌≡◌, ℕ, ◌+◌, ◌-◌, ◌*◌, ◌/◌, ◌^◌, ◌<◌, ◌≤◌, min, length, IfOk};
 ghost use Rattle.std.specs.Int.{div_ceil};
-ghost use Rattle.dl_limits.specs.Limits.{most_cells};
 ghost use Rattle.dl_grid.specs.Cells.{low_at, high_at, spread, IsGrid};
+ghost use Rattle.dl_grid.specs.Room.{IsGridSize};
 ghost use Rattle.dl_model.specs.Counts.{binomial};
 ghost use Rattle.dl_model.specs.Family.{compound, GridEncloses};
 ghost use Rattle.dl_plan.specs.Count.{IsProbability};
@@ -69,11 +69,8 @@ pub(crate) fn one_trial<const B: u32>(
     q: Frac,
     cells: u32,
 ) -> Result<Grid<B>, AllocError>
-    requires scale_above { 1 ≤ B }
-    requires scale_below { B ≤ 56 }
+    requires size { IsGridSize B cells }
     requires probability { IsProbability q }
-    requires some { 1 ≤ cells }
-    requires few { cells ≤ most_cells }
     ensures cells { IfOk result (λ g. length g ≡ cells) }
     ensures encloses { IfOk result (λ g.
         GridEncloses g (compound (binomial 1 q.num q.den) (probability_of sev.now))) }

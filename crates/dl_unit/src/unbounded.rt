@@ -2,9 +2,10 @@
 //! left out first: the count is then that of the claims above 0.
 
 ghost use Rattle.std.specs.Prelude.{◌≡◌, ℕ, ◌+◌, ◌*◌, ◌^◌, ◌<◌, ◌≤◌, length, IfOk, Some, None};
-ghost use Rattle.dl_limits.specs.Limits.{most_cells, most_expected, most_shape};
+ghost use Rattle.dl_limits.specs.Limits.{most_expected, most_shape};
 ghost use Rattle.dl_exact.specs.Fraction.{whole, ◌/ℚ◌, ◌≤ℚ◌};
 ghost use Rattle.dl_grid.specs.Cells.{spread};
+ghost use Rattle.dl_grid.specs.Room.{IsGridSize};
 ghost use Rattle.dl_model.specs.Counts.{poisson, gamma_of};
 ghost use Rattle.dl_model.specs.Family.{compound, times_itself, GridEncloses};
 ghost use Rattle.dl_plan.specs.declared.severity.Sev.{Sev};
@@ -49,13 +50,10 @@ pub fn poisson_claims<const B: u32>(
     mean: Frac,
     cells: u32,
 ) -> Result<Grid<B>, AllocError>
-    requires scale_above { 1 ≤ B }
-    requires scale_below { B ≤ 56 }
+    requires size { IsGridSize B cells }
     requires no_zero { probability_of sev.now 0 ≡ whole 0 }
     requires admitted { HasPartsOf48Bits mean }
     requires within { mean ≤ℚ whole most_expected }
-    requires some { 1 ≤ cells }
-    requires few { cells ≤ most_cells }
     ensures cells { IfOk result (λ g. length g ≡ cells) }
     ensures encloses { IfOk result (λ g.
         GridEncloses g (times_itself (compound (poisson (mean /ℚ whole (2 ^ halvings mean)))
@@ -77,14 +75,11 @@ pub fn gamma_claims<const B: u32>(
     shape: u32,
     cells: u32,
 ) -> Result<Grid<B>, AllocError>
-    requires scale_above { 1 ≤ B }
-    requires scale_below { B ≤ 56 }
+    requires size { IsGridSize B cells }
     requires no_zero { probability_of sev.now 0 ≡ whole 0 }
     requires admitted { HasPartsOf48Bits mean }
     requires shape_above { 1 ≤ shape }
     requires shape_below { shape ≤ most_shape }
-    requires some { 1 ≤ cells }
-    requires few { cells ≤ most_cells }
     ensures cells { IfOk result (λ g. length g ≡ cells) }
     ensures encloses { IfOk result (λ g.
         GridEncloses g (times_itself (compound (gamma_of 1 (mean /ℚ whole shape))

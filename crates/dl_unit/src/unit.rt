@@ -1,9 +1,9 @@
 //! The grid of a unit, by the kind of its count.
 
 ghost use Rattle.std.specs.Prelude.{◌≡◌, ℕ, ◌^◌, ◌≤◌, length, IfOk};
-ghost use Rattle.dl_limits.specs.Limits.{most_cells};
 ghost use Rattle.dl_exact.specs.Fraction.{Fraction};
 ghost use Rattle.dl_grid.specs.Cells.{spread};
+ghost use Rattle.dl_grid.specs.Room.{IsGridSize};
 ghost use Rattle.dl_budget.specs.Claims.{claims_budget};
 ghost use Rattle.dl_model.specs.Family.{GridEncloses};
 ghost use Rattle.dl_model.specs.Plans.{compound_of};
@@ -26,11 +26,8 @@ pub fn unit_grid<const B: u32>(
     unit: &Unit,
     cells: u32,
 ) -> Result<Grid<B>, AllocError>
-    requires scale_above { 1 ≤ B }
-    requires scale_below { B ≤ 56 }
+    requires size { IsGridSize B cells }
     requires valid { (h : ℕ) × IsValidUnit h unit.now }
-    requires some { 1 ≤ cells }
-    requires few { cells ≤ most_cells }
     ensures cells { IfOk result (λ g. length g ≡ cells) }
     ensures encloses { IfOk result (λ g. GridEncloses g (compound_of unit.now.freq unit.now.sev)) }
     ensures spread { IfOk result (λ g. spread g ≤ claims_budget (2 ^ B) cells unit.now) }
@@ -45,11 +42,8 @@ pub fn unit_grid_with<const B: u32>(
     unit: &Unit,
     cells: u32,
 ) -> Result<Grid<B>, AllocError>
-    requires scale_above { 1 ≤ B }
-    requires scale_below { B ≤ 56 }
+    requires size { IsGridSize B cells }
     requires valid { (h : ℕ) × IsValidUnit h unit.now }
-    requires some { 1 ≤ cells }
-    requires few { cells ≤ most_cells }
     ensures cells { IfOk result (λ g. length g ≡ cells) }
     ensures encloses { IfOk result (λ g. GridEncloses g (compound_of unit.now.freq unit.now.sev)) }
     ensures spread { IfOk result (λ g. spread g ≤ claims_budget (2 ^ B) cells unit.now) }
@@ -73,12 +67,9 @@ fn poisson_unit<const B: u32>(
     unit: &Unit,
     cells: u32,
 ) -> Result<Grid<B>, AllocError>
-    requires scale_above { 1 ≤ B }
-    requires scale_below { B ≤ 56 }
+    requires size { IsGridSize B cells }
     requires valid { (h : ℕ) × IsValidUnit h unit.now }
     requires count { (mean : Fraction) × (unit.now.freq ≡ Poisson mean) }
-    requires some { 1 ≤ cells }
-    requires few { cells ≤ most_cells }
     ensures cells { IfOk result (λ g. length g ≡ cells) }
     ensures encloses { IfOk result (λ g. GridEncloses g (compound_of unit.now.freq unit.now.sev)) }
     ensures spread { IfOk result (λ g. spread g ≤ claims_budget (2 ^ B) cells unit.now) }
@@ -97,12 +88,9 @@ fn gamma_unit<const B: u32>(
     shape: u32,
     cells: u32,
 ) -> Result<Grid<B>, AllocError>
-    requires scale_above { 1 ≤ B }
-    requires scale_below { B ≤ 56 }
+    requires size { IsGridSize B cells }
     requires valid { (h : ℕ) × IsValidUnit h unit.now }
     requires count { (mean : Fraction) × (unit.now.freq ≡ Gamma shape mean) }
-    requires some { 1 ≤ cells }
-    requires few { cells ≤ most_cells }
     ensures cells { IfOk result (λ g. length g ≡ cells) }
     ensures encloses { IfOk result (λ g. GridEncloses g (compound_of unit.now.freq unit.now.sev)) }
     ensures spread { IfOk result (λ g. spread g ≤ claims_budget (2 ^ B) cells unit.now) }

@@ -1,12 +1,12 @@
-use Rattle.dl_port.proofs.Common.{arith, sym, ◌∙◌, scale_of, if_ok_two}
+use Rattle.dl_port.proofs.Common.{arith, sym, ◌∙◌, size_of, size_within, if_ok_two}
 use Rattle.dl_grid.proofs.CellSets.{spread_none}
 use Rattle.dl_port.proofs.Added.{no_units}
 use Rattle.dl_port.proofs.no_units.Goals as goal
 
 pub zero-requires : goal.zero-requires
 zero-requires g c =
-    let scale = scale_of c.args.like.now c.cells.ensures.grid.some in
-    (omega arith, (scale.0, (scale.1, (c.requires.some, omega (arith, c.cells.ensures.grid.few, c.requires.within)))))
+    let size = size_of c.args.like.now c.cells.ensures.grid in
+    (omega arith, size_within size c.requires.some c.requires.within)
 
 pub returns-clause-encloses : goal.returns-clause-encloses
 returns-clause-encloses g c = if_ok_two c.zero.result _ _ _

@@ -1,4 +1,4 @@
-use Rattle.dl_conv.proofs.Common.{arith, sym, ◌∙◌}
+use Rattle.dl_conv.proofs.Common.{◌+◌, arith, sym, ◌∙◌}
 use Rattle.dl_conv.proofs.Columns.{column_begins, column_cut, column_next, column_fits}
 use Rattle.dl_conv.proofs.plain.sum_up_to.Goals as goal
 
@@ -12,8 +12,8 @@ pub overflow_add-sum : goal.overflow_add-sum
 overflow_add-sum c =
     omega (
       arith,
-      column_fits c.args.a.now c.args.b.now c.args.s c.loop-i.i _ _ c.requires.first c.requires.second
-          (omega (arith, c.requires.few, c.requires.within)) c.loop-i.invariant.sum c.product_of_ends-sum.ensures,
+      column_fits c.args.a.now c.args.b.now c.args.s c.loop-i.i (c.args.s + 1) _ _ c.requires.fits
+          (omega (arith, c.requires.within)) c.loop-i.invariant.sum c.product_of_ends-sum.ensures,
     )
 
 pub loop-i-preserved : goal.loop-i-preserved

@@ -1,7 +1,23 @@
-use Rattle.dl_conv.proofs.Common.{ℕ, ◌-◌, ◌≡◌, ◌≤◌, ◌^◌, arith, length, take, drop, length-take-le, length-drop}
-use Rattle.std.proofs.lemmas.List.Elements.{All-take, All-drop}
+use Rattle.dl_conv.proofs.Common.{ℕ, ◌-◌, ◌≡◌, arith, length, take, drop, length-take-le, length-drop}
+use Rattle.dl_conv.proofs.Fits.{fewer_fit, first_part, second_part}
 use Rattle.dl_conv.proofs.FirstPlaces.{one_fits, two_fits, all_sums}
 use Rattle.dl_conv.proofs.short.+halved_sums.Goals as goal
+
+pub first_sums-requires-clause-fits : goal.first_sums-requires-clause-fits
+first_sums-requires-clause-fits t c = fewer_fit _ (omega arith) c.requires.fits
+
+pub halved_sums-requires : goal.halved_sums-requires
+halved_sums-requires t c =
+    let h : ℕ = c.half_length-half.result in
+    let long = length-drop h c.args.a.now in
+    let back : length (take (length c.args.a.now - h) (drop h c.args.a.now)) ≡ length c.args.a.now - h =
+    length-take-le (length c.args.a.now - h) (drop h c.args.a.now) (omega arith) in (
+      omega (arith, c.decreases),
+      (
+        fewer_fit _ (omega arith) (first_part h (length c.args.a.now - h) c.requires.fits),
+        (omega (arith, back), (omega arith, λ many. omega arith)),
+      ),
+    )
 
 pub halved_sums-requires-2 : goal.halved_sums-requires-2
 halved_sums-requires-2 t c =
@@ -11,18 +27,15 @@ halved_sums-requires-2 t c =
     length-take-le (length c.args.b.now - h) (drop h c.args.b.now) (omega arith) in (
       omega (arith, c.decreases),
       (
-        c.requires.first,
-        (
-          All-take (λ x. x ≤ 2 ^ 56) _ _ (All-drop (λ x. x ≤ 2 ^ 56) h c.args.b.now c.requires.second),
-          (omega arith, (omega (arith, back), (omega arith, λ many. omega arith))),
-        ),
+        fewer_fit _ (omega arith) (second_part h (length c.args.b.now - h) c.requires.fits),
+        (omega arith, (omega (arith, back), λ many. omega arith)),
       ),
     )
 
 pub add_from-requires-clause-fits : goal.add_from-requires-clause-fits
 add_from-requires-clause-fits t c k inside =
     let h : ℕ = c.half_length-half.result in
-    one_fits c.args.a.now c.args.b.now h (length c.args.out.now) c.requires.first c.requires.second c.requires.few
+    one_fits c.args.a.now c.args.b.now h (length c.args.out.now) c.requires.fits
     c.half_length-half.ensures.enough
     c.half_length-half.ensures.less c.requires.in_first c.requires.in_second c.first_sums.new.out
     c.halved_sums.new.out c.first_sums.ensures.each
@@ -31,7 +44,7 @@ add_from-requires-clause-fits t c k inside =
 pub add_from-requires-2-clause-fits : goal.add_from-requires-2-clause-fits
 add_from-requires-2-clause-fits t c k inside =
     let h : ℕ = c.half_length-half.result in
-    two_fits c.args.a.now c.args.b.now h (length c.args.out.now) c.requires.first c.requires.second c.requires.few
+    two_fits c.args.a.now c.args.b.now h (length c.args.out.now) c.requires.fits
     c.half_length-half.ensures.enough
     c.half_length-half.ensures.less c.requires.in_first c.requires.in_second c.first_sums.new.out
     c.halved_sums.new.out c.first_sums.ensures.each
@@ -43,7 +56,7 @@ pub returns : goal.returns
 returns t c = record {
   each = λ k inside.
       let h : ℕ = c.half_length-half.result in
-      all_sums c.args.a.now c.args.b.now h (length c.args.out.now) c.requires.first c.requires.second c.requires.few
+      all_sums c.args.a.now c.args.b.now h (length c.args.out.now) c.requires.fits
       c.half_length-half.ensures.enough
       c.half_length-half.ensures.less c.requires.in_first c.requires.in_second c.first_sums.new.out
       c.halved_sums.new.out c.first_sums.ensures.each

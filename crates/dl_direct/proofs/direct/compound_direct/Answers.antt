@@ -21,7 +21,7 @@ amounts_of-requires-clause-room g c =
     let s = c.args.steps in
     let sum : weight_sum c.as_slice.result.now ≡ sev.total = ap weight_sum c.as_slice.ensures ∙ sev.weighted.sum in
     subst (λ t. s.num * t < 2 ^ 64) (sym sum)
-    (one_factor ((s.a + s.b) * c.args.cells) (s.num * sev.total) (mul-pos c.requires.some_step c.requires.some)
+    (one_factor ((s.a + s.b) * c.args.cells) (s.num * sev.total) (mul-pos c.requires.some_step c.requires.size.some)
     (c.if-not-fits.ensures.factors refl))
 
 pub amounts_of-requires-clause-no_zero : goal.amounts_of-requires-clause-no_zero

@@ -93,10 +93,7 @@ from_ends-requires g c =
     omega (arith, c.cells-test.false, c.cells.auto.i-end, c.len-i-end.ensures, c.args.x.now.low.ok.0) in (
       omega arith,
       record {
-        scale_above = c.requires.scale_above;
-        scale_below = c.requires.scale_below;
-        some = omega (arith, i.count, n, c.requires.some);
-        few = omega (arith, i.count, n, c.requires.few);
+        size = rw (i.count ∙ n) c.requires.size;
         paired = omega (arith, i.paired, i.count);
         ordered = i.ordered;
         small = i.small;

@@ -1,5 +1,5 @@
-use Rattle.dl_measures.proofs.Common.{◌≡◌, ◌+◌, ◌-◌, ◌*◌, ◌/◌, ◌^◌, ◌≤◌, length, arith, ap, ap₂, subst, ◌∙◌, div_ceil, pow_pos, ◌over◌, lt_not_le, low_at, spread, low_cdf, IsTight, are_units, IsFirstFound}
-use Rattle.dl_measures.proofs.TailLaws.{in_order, near_level, tail_holds, tail_narrow, tail_most_units, buckets_fit, slack_fits, quotient_fits, rest_above}
+use Rattle.dl_measures.proofs.Common.{◌≡◌, ◌+◌, ◌-◌, ◌*◌, ◌/◌, ◌^◌, ◌≤◌, length, arith, ap, ap₂, subst, ◌∙◌, div_ceil, pow_pos, ◌over◌, lt_not_le, cells_fit, low_at, spread, low_cdf, IsTight, are_units, IsFirstFound}
+use Rattle.dl_measures.proofs.TailLaws.{in_order, near_level, tail_holds, tail_narrow, tail_most_units, slack_fits, quotient_fits, rest_above}
 use Rattle.dl_measures.proofs.tails.tail_mean.Goals as goal
 
 pub overflow_sub-hi : goal.overflow_sub-hi
@@ -27,7 +27,7 @@ add-requires g c = (
     arith,
     c.point-start.ensures.high,
     ap₂ (λ s t. s * t) c.from-2.ensures c.units_of_one.ensures,
-    buckets_fit c.args.g.now c.quantile-bracket.result.lo c.cells.ensures.grid c.quantile-bracket.ensures.lo.within,
+    cells_fit c.args.g.now c.quantile-bracket.result.lo c.cells.ensures.grid c.quantile-bracket.ensures.lo.within,
     c.over_the_rest.ensures.high,
     quotient_fits c.layer_mean-excess.result.hi c.args.p.den (c.args.p.den - c.args.p.num)
         (rest_above c.args.p c.requires.below_one)

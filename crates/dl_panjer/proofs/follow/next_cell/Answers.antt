@@ -1,7 +1,15 @@
-use Rattle.dl_panjer.proofs.Common.{ℕ, suc, ◌≡◌, ◌-◌, ◌≤◌, ◌^◌, eqb, length, arith, ap, sym, subst₂, ◌∙◌, not, div_ceil, low_at, high_at, one_fits, counted, total_pos, low_le_high}
+use Rattle.dl_panjer.proofs.Common.{ℕ, suc, ◌≡◌, ◌-◌, ◌≤◌, ◌^◌, eqb, length, arith, ap, sym, subst₂, ◌∙◌, not, div_ceil, low_at, high_at, one_fits, counted, total_pos, low_le_high, mul-le-mul_right, mass_fits, IsGridSize}
+use Rattle.std.proofs.Common.{◌*◌}
+use Rattle.std.proofs.Math.Nat.{le_trans}
 use Rattle.dl_panjer.proofs.Reading.{low_at_most, high_at_most}
 use Rattle.dl_panjer.proofs.Steps.{high_counted, next_order, step_fits, cell_low, cell_high}
 use Rattle.dl_panjer.proofs.follow.next_cell.Goals as goal
+
+-- the mass of the cells, counted by the last of them
+all_mass : {B n : ℕ} → IsGridSize B n → suc (n - 1) * 2 ^ B ≤ 2 ^ 70
+all_mass {B} {n} size =
+    let within : suc (n - 1) ≤ n = omega (arith, size.some) in
+    le_trans (mul-le-mul_right (2 ^ B) within) (mass_fits size)
 
 pub low_end-requires-clause-total : goal.low_end-requires-clause-total
 low_end-requires-clause-total g c =
@@ -18,7 +26,7 @@ low_end-requires-clause-fits g c =
     (high_counted b c.args.items.now c.args.total (2 ^ g.row.B) s (total_pos c.args.items.now c.args.total w) w.sum
     (low_at cells) (low_at_most cells c.requires.small)) in
     step_fits b (suc s) (2 ^ g.row.B) _ c.from-num.result
-    (omega (arith, c.requires.some, c.requires.few)) (one_fits g.row.B c.requires.scale_below) x
+    (omega (arith, c.requires.size.some)) (all_mass c.requires.size) x
     (omega (arith, c.from-num.ensures, c.num.ensures.part, c.requires.rate_num))
 
 pub high_end-requires-clause-total : goal.high_end-requires-clause-total
@@ -36,7 +44,7 @@ high_end-requires-clause-fits g c =
     (high_counted b c.args.items.now c.args.total (2 ^ g.row.B) s (total_pos c.args.items.now c.args.total w) w.sum
     (high_at cells) (high_at_most cells c.requires.small)) in
     step_fits b (suc s) (2 ^ g.row.B) _ c.from-num.result
-    (omega (arith, c.requires.some, c.requires.few)) (one_fits g.row.B c.requires.scale_below) x
+    (omega (arith, c.requires.size.some)) (all_mass c.requires.size) x
     (omega (arith, c.from-num.ensures, c.num.ensures.part, c.requires.rate_num))
 
 pub invariant_of-result-clause-ordered : goal.invariant_of-result-clause-ordered
@@ -48,9 +56,9 @@ invariant_of-result-clause-ordered g c =
     ∙ ap (counted b (length cells)) c.den.ensures.part in
     let num = c.from-num.ensures ∙ c.num.ensures.part in
     let low = c.low_end.ensures ∙ cell_low b c.args.items.now c.args.total c.args.rate (low_at cells)
-    (length cells) _ _ _ _ c.requires.some c.sums_before-low.ensures.low c.from-total.ensures num divisor in
+    (length cells) _ _ _ _ c.requires.size.some c.sums_before-low.ensures.low c.from-total.ensures num divisor in
     let high = c.high_end.ensures ∙ cell_high (2 ^ g.row.B) b c.args.items.now c.args.total c.args.rate (high_at cells)
-    (length cells) _ _ _ _ c.requires.some c.sums_before-low.ensures.high c.from-total.ensures num divisor in
+    (length cells) _ _ _ _ c.requires.size.some c.sums_before-low.ensures.high c.from-total.ensures num divisor in
     subst₂ (λ x y. x ≤ y) (sym low) (sym high)
     (next_order b c.args.items.now c.args.total (2 ^ g.row.B) (length cells - 1)
     (total_pos c.args.items.now c.args.total w) w.sum c.args.rate c.requires.rate
@@ -58,7 +66,7 @@ invariant_of-result-clause-ordered g c =
 
 pub invariant_of-result-clause-in_range : goal.invariant_of-result-clause-in_range
 invariant_of-result-clause-in_range g c =
-    omega (arith, c.high_end.ensures, one_fits g.row.B c.requires.scale_below)
+    omega (arith, c.high_end.ensures, one_fits g.row.B c.requires.size.scale_below)
 
 pub returns : goal.returns
 returns g c =
@@ -68,7 +76,7 @@ returns g c =
     let divisor = c.divisor-den.ensures ∙ ap (counted b (length cells)) c.den.ensures.part in
     record {
       low = c.low_end.ensures ∙ cell_low b c.args.items.now c.args.total c.args.rate (low_at cells) (length cells)
-          _ _ _ _ c.requires.some c.sums_before-low.ensures.low c.from-total.ensures num divisor;
+          _ _ _ _ c.requires.size.some c.sums_before-low.ensures.low c.from-total.ensures num divisor;
       high = c.high_end.ensures ∙ cell_high (2 ^ g.row.B) b c.args.items.now c.args.total c.args.rate (high_at cells)
-          (length cells) _ _ _ _ c.requires.some c.sums_before-low.ensures.high c.from-total.ensures num divisor;
+          (length cells) _ _ _ _ c.requires.size.some c.sums_before-low.ensures.high c.from-total.ensures num divisor;
     }

@@ -1,4 +1,4 @@
-use Rattle.dl_panjer.proofs.Common.{ℕ, ◌≡◌, ◌+◌, ◌*◌, ◌/◌, ◌^◌, ◌<◌, ◌≤◌, List, length, false, arith, rules, sym, ap, ap₂, subst, subst₂, ◌∙◌, All, div_ceil, most_cells, Fraction, ◌over◌, ◌+ℚ◌, ◌*ℚ◌, ◌/ℚ◌, ◌≤ℚ◌, whole, IsFloor, IsCeiling, floor_div, ceiling_div, over_le, one_pos, Iv, low_at, high_at, spread, up, one_fits, Item, Sev, probability_of, num_le_den, Follows}
+use Rattle.dl_panjer.proofs.Common.{ℕ, ◌≡◌, ◌+◌, ◌*◌, ◌/◌, ◌^◌, ◌<◌, ◌≤◌, List, length, false, arith, rules, sym, ap, ap₂, subst, subst₂, ◌∙◌, All, div_ceil, Fraction, ◌over◌, ◌+ℚ◌, ◌*ℚ◌, ◌/ℚ◌, ◌≤ℚ◌, whole, IsFloor, IsCeiling, floor_div, ceiling_div, over_le, one_pos, Iv, low_at, high_at, spread, up, one_fits, IsGridSize, Item, Sev, probability_of, num_le_den, Follows}
 use Rattle.dl_iv.specs.Enclosure.{LiesIn}
 use Rattle.dl_panjer.proofs.Recursions.{rate_of}
 use Rattle.dl_panjer.proofs.Starts.{reciprocal, ceiling_near, start_small, units_of_reciprocal}
@@ -22,17 +22,17 @@ record Based {B : ℕ} (sev : Sev) (p d : ℕ) (v : Fraction) (list : List (Iv B
 based : {B : ℕ} (sev : Sev) {items : List Item} (p d : ℕ) {v : Fraction} (list : List (Iv B)) {cells : ℕ}
     {rate : Fraction} {start : Iv B} {num den : ℕ} → 0 < d → p over d ≡ v → items ≡ sev.items → rate ≡ p over (p + d)
     → num ≡ d → den ≡ p + d → LiesIn (num over den) start
-    → low_at list 0 ≡ start.lo → high_at list 0 ≡ start.hi → 1 ≤ cells → cells ≤ most_cells → length list ≡ cells
+    → low_at list 0 ≡ start.lo → high_at list 0 ≡ start.hi → IsGridSize B cells → length list ≡ cells
     → All (λ cell. cell.hi ≤ 2 ^ B) list → Follows (2 ^ B) false items sev.total rate (low_at list) (high_at list) cells
     → probability_of sev 0 ≡ whole 0 → Based sev p d v list cells
-based {B} sev p d {v} list {num = num} {den = den} pos mean same is num_is den_is holds at_low at_high some few many
+based {B} sev p d {v} list {num = num} {den = den} pos mean same is num_is den_is holds at_low at_high size many
     small follows none =
     let one : num over den ≡ whole 1 /ℚ (whole 1 +ℚ v) =
     ap₂ (λ a b. a over b) num_is den_is ∙ reciprocal p d v pos mean in
     record {
-      made = made_of false sev list same (is ∙ rate_of p d pos ∙ ap (λ t. t /ℚ (whole 1 +ℚ t)) mean) some few many
+      made = made_of false sev list same (is ∙ rate_of p d pos ∙ ap (λ t. t /ℚ (whole 1 +ℚ t)) mean) size many
           small follows none;
-      made_over = made_of false sev list same is some few many small follows none;
+      made_over = made_of false sev list same is size many small follows none;
       low = subst₂ (λ a x. a over 2 ^ B ≤ℚ x) (sym at_low) one holds.low;
       high = subst₂ (λ a x. x ≤ℚ a over 2 ^ B) (sym at_high) one holds.high;
     }
@@ -43,14 +43,14 @@ small_start B n d num den pos scale p q = rw (p, q) (start_small (2 ^ B) n d pos
 pub enclose-start-requires : goal.enclose-start-requires
 enclose-start-requires g c =
     let hi = small_start g.row.B c.shared-num.result.0 c.shared-num.result.1 c.from.result c.from-2.result
-    c.shared-num.ensures.positive c.requires.scale_below c.from.ensures c.from-2.ensures in
-    search (rules, hi, one_fits g.row.B c.requires.scale_below)
+    c.shared-num.ensures.positive c.requires.size.scale_below c.from.ensures c.from-2.ensures in
+    search (rules, hi, one_fits g.row.B c.requires.size.scale_below)
 
 pub follow-requires : goal.follow-requires
 follow-requires g c =
     let p = c.shared-num.result.0 in
     let d = c.shared-num.result.1 in
-    let hi = small_start g.row.B p d c.from.result c.from-2.result c.shared-num.ensures.positive c.requires.scale_below
+    let hi = small_start g.row.B p d c.from.result c.from-2.result c.shared-num.ensures.positive c.requires.size.scale_below
     c.from.ensures c.from-2.ensures in
     search (
       rules,
@@ -66,8 +66,8 @@ grid_of-requires g c =
     let list = c.in_ok-list.list.items in
     let t = based c.args.sev.now c.shared-num.result.0 c.shared-num.result.1 list c.shared-num.ensures.positive
     c.shared-num.ensures.value c.as_slice.ensures c.fraction-rate.ensures.value c.from.ensures c.from-2.ensures
-    c.enclose-start.ensures.holds c.in_ok-list.ensures.start_low c.in_ok-list.ensures.start_high c.requires.some
-    c.requires.few c.in_ok-list.ensures.cells c.in_ok-list.ensures.small c.in_ok-list.ensures.follows
+    c.enclose-start.ensures.holds c.in_ok-list.ensures.start_low c.in_ok-list.ensures.start_high c.requires.size
+    c.in_ok-list.ensures.cells c.in_ok-list.ensures.small c.in_ok-list.ensures.follows
     c.requires.no_zero in (
       omega arith,
       (
@@ -86,7 +86,7 @@ returns g c =
     let some = c.shared-num.ensures.positive in
     let t = based c.args.sev.now p d list some c.shared-num.ensures.value c.as_slice.ensures
     c.fraction-rate.ensures.value c.from.ensures c.from-2.ensures c.enclose-start.ensures.holds
-    c.in_ok-list.ensures.start_low c.in_ok-list.ensures.start_high c.requires.some c.requires.few
+    c.in_ok-list.ensures.start_low c.in_ok-list.ensures.start_high c.requires.size
     c.in_ok-list.ensures.cells c.in_ok-list.ensures.small c.in_ok-list.ensures.follows c.requires.no_zero in
     let units = units_of_reciprocal (2 ^ g.row.B) p d v some c.shared-num.ensures.value in
     let low : low_at list 0 ≡ 2 ^ g.row.B * d / (p + d) =

@@ -44,7 +44,7 @@ pub exp_neg-start-requires : goal.exp_neg-start-requires
 exp_neg-start-requires g c =
     let half = subst (λ t. t ≤ℚ 1 over 2) (sym (rate_is c.args.halvings c.args.mean c.requires.halvings
     c.num.ensures.part c.den.ensures.part c.fraction-rate.ensures.value)) c.requires.half in
-    (omega arith, (c.requires.scale_above, (c.requires.scale_below, half)))
+    (omega arith, (c.requires.size.scale_above, (c.requires.size.scale_below, half)))
 
 pub follow-requires : goal.follow-requires
 follow-requires g c =
@@ -63,7 +63,7 @@ grid_of-requires g c =
     c.fraction-rate.ensures.value in
     let v = c.args.mean /ℚ whole (2 ^ c.args.halvings) in
     let list = c.in_ok-list.list.items in
-    let made = made_of true c.args.sev.now list c.as_slice.ensures e c.requires.some c.requires.few
+    let made = made_of true c.args.sev.now list c.as_slice.ensures e c.requires.size
     c.in_ok-list.ensures.cells c.in_ok-list.ensures.small c.in_ok-list.ensures.follows c.requires.no_zero in (
       omega arith,
       (
@@ -81,7 +81,7 @@ returns g c =
     c.fraction-rate.ensures.value in
     let v = c.args.mean /ℚ whole (2 ^ c.args.halvings) in
     let list = c.in_ok-list.list.items in
-    let made = made_of true c.args.sev.now list c.as_slice.ensures e c.requires.some c.requires.few
+    let made = made_of true c.args.sev.now list c.as_slice.ensures e c.requires.size
     c.in_ok-list.ensures.cells c.in_ok-list.ensures.small c.in_ok-list.ensures.follows c.requires.no_zero in
     let holds = subst (λ t. EnclosesExp t c.exp_neg-start.result) e c.exp_neg-start.ensures.encloses in
     let told = λ (P : List (Iv g.row.B) → Type 0) (p : P list).

@@ -33,12 +33,12 @@ pub returns-clause-low : goal.returns-clause-low
 returns-clause-low g c =
     c.sums_over.ensures.low
     ∙ all_next_sum (not (eqb g.row.BY_AMOUNT 0)) c.args.items.now c.reached.result (length c.args.cells.now)
-    (low_at c.args.cells.now) c.requires.some c.reached.ensures.bound c.requires.no_zero c.reached.ensures.before
+    (low_at c.args.cells.now) c.requires.size.some c.reached.ensures.bound c.requires.no_zero c.reached.ensures.before
     c.reached.ensures.after
 
 pub returns-clause-high : goal.returns-clause-high
 returns-clause-high g c =
     c.sums_over.ensures.high
     ∙ all_next_sum (not (eqb g.row.BY_AMOUNT 0)) c.args.items.now c.reached.result (length c.args.cells.now)
-    (high_at c.args.cells.now) c.requires.some c.reached.ensures.bound c.requires.no_zero c.reached.ensures.before
+    (high_at c.args.cells.now) c.requires.size.some c.reached.ensures.bound c.requires.no_zero c.reached.ensures.before
     c.reached.ensures.after

@@ -1,4 +1,4 @@
-use Rattle.dl_power.proofs.Common.{ℕ, ◌≡◌, ◌+◌, ◌-◌, ◌*◌, ◌/◌, ◌≤◌, suc, arith, rules, scale_of, probability_at}
+use Rattle.dl_power.proofs.Common.{ℕ, ◌≡◌, ◌+◌, ◌-◌, ◌*◌, ◌/◌, ◌≤◌, suc, arith, rules, size_of, size_within, probability_at}
 use Rattle.dl_power.proofs.WeightLists.{probabilities_within}
 use Rattle.dl_power.proofs.PowerGrids.{own, own_within, own_between}
 use Rattle.dl_power.proofs.StepGrids.{from_same}
@@ -8,13 +8,12 @@ use Rattle.dl_power.proofs.blocks.by_blocks.Goals as goal
 
 pub block-requires : goal.block-requires
 block-requires g c =
-    let scale = scale_of c.args.base.now c.cells.ensures.grid.some in
+    let size = size_within (size_of c.args.base.now c.cells.ensures.grid) c.requires.some c.requires.within in
     let p = shared c.args.base.now c.args.cells c.as_slice.ensures.value c.in_ok-powers.ensures.many
     c.in_ok-powers.ensures.same c.in_ok-powers.ensures.powers in
     let start = last_near c.greatest_of-greatest.result c.block_length-counts.result c.from.result c.from-2.result
     c.greatest_of-greatest.type_inv c.from.ensures c.from-2.ensures in
-    let few : c.args.cells ≤ 16384 = omega (arith, c.cells.ensures.grid.few, c.requires.within) in
-    search (rules, scale.0, scale.1, few, start, p.long, p.same, own_powers p c.cells.ensures.grid.mass)
+    search (rules, size, start, p.long, p.same, own_powers p c.cells.ensures.grid.mass)
 
 pub loop-done-init : goal.loop-done-init
 loop-done-init g c =
@@ -31,14 +30,13 @@ loop-done-init g c =
 
 pub block-requires-in-loop-done : goal.block-requires-in-loop-done
 block-requires-in-loop-done g c =
-    let scale = scale_of c.args.base.now c.cells.ensures.grid.some in
+    let size = size_within (size_of c.args.base.now c.cells.ensures.grid) c.requires.some c.requires.within in
     let p = shared c.args.base.now c.args.cells c.as_slice.ensures.value c.in_ok-powers.ensures.many
     c.in_ok-powers.ensures.same c.in_ok-powers.ensures.powers in
     let start = near c.greatest_of-greatest.result c.block_length-counts.result c.loop-done.done
     c.from-in-loop-done.result c.from-in-loop-done-2.result c.greatest_of-greatest.type_inv
     c.from-in-loop-done.ensures c.from-in-loop-done-2.ensures in
-    let few : c.args.cells ≤ 16384 = omega (arith, c.cells.ensures.grid.few, c.requires.within) in
-    search (rules, scale.0, scale.1, few, start, p.long, p.same, own_powers p c.cells.ensures.grid.mass)
+    search (rules, size, start, p.long, p.same, own_powers p c.cells.ensures.grid.mass)
 
 pub with_later-requires : goal.with_later-requires
 with_later-requires g c =

@@ -1,11 +1,11 @@
-use Rattle.dl_power.proofs.Common.{length, arith, ap, ◌∙◌, length-take-le, scale_of}
+use Rattle.dl_power.proofs.Common.{length, arith, ap, ◌∙◌, length-take-le, size_of, size_within}
 use Rattle.dl_power.proofs.PowerGrids.{no_powers, no_grids, all_more, more_powers, no_claim, one_claim, next_at}
 use Rattle.dl_power.proofs.blocks.powers_to.Goals as goal
 
 pub zero-requires : goal.zero-requires
 zero-requires g c =
-    let scale = scale_of c.args.base.now c.cells.ensures.grid.some in
-    (omega arith, (scale.0, (scale.1, (c.requires.some, omega (arith, c.cells.ensures.grid.few, c.requires.within)))))
+    let size = size_of c.args.base.now c.cells.ensures.grid in
+    (omega arith, size_within size c.requires.some c.requires.within)
 
 pub loop-claims-init : goal.loop-claims-init
 loop-claims-init g c =

@@ -1,4 +1,4 @@
-use Rattle.dl_power.proofs.Common.{ℕ, ◌≡◌, ◌+◌, ◌^◌, ◌<◌, get_or, arith, ap₂, ◌∙◌, min, low_at, high_at}
+use Rattle.dl_power.proofs.Common.{ℕ, ◌≡◌, ◌+◌, ◌^◌, ◌<◌, get_or, arith, ap₂, ◌∙◌, min, low_at, high_at, size_of}
 use Rattle.dl_power.proofs.BlockGrids.{as_made}
 use Rattle.dl_power.proofs.StepGrids.{step_between, step_ends}
 use Rattle.dl_power.proofs.blocks.with_later.Goals as goal
@@ -19,8 +19,7 @@ from_ends-requires g c =
       step_ends c.args.block.now c.args.step.now c.args.later.now c.in_ok-moved.moved c.in_ok-lows.lows.items
           c.in_ok-highs.highs.items c.args.cells
           c.in_ok-moved.ensures.convolution.low c.in_ok-moved.ensures.convolution.high low high
-          c.moved.invariant.scale_above c.moved.invariant.scale_below c.requires.some
-          (omega (arith, c.moved.invariant.few, c.lows.ensures.grid.few, c.in_ok-moved.ensures.cells))
+          (rw c.in_ok-moved.ensures.cells at (size_of c.in_ok-moved.moved c.lows.ensures.grid))
           (omega (arith, c.in_ok-lows.ensures.many, c.lows.ensures.cells, c.in_ok-moved.ensures.cells))
           (omega (arith, c.in_ok-highs.ensures.many, c.highs.ensures.cells, c.in_ok-moved.ensures.cells))
           s.0 s.1 s.2 s.3 s.4 s.5,

@@ -1,4 +1,4 @@
-use Rattle.dl_power.proofs.Common.{ℕ, ◌≡◌, ◌+◌, ◌-◌, ◌^◌, arith, refl, rules, ap, ◌∙◌, add-one, sub-zero, pow_pos, low_at, high_at, spread, scale_of, high_joined, mixed_none}
+use Rattle.dl_power.proofs.Common.{ℕ, ◌≡◌, ◌+◌, ◌-◌, ◌^◌, arith, refl, rules, ap, ◌∙◌, add-one, sub-zero, pow_pos, low_at, high_at, spread, scale_of, size_of, size_within, high_joined, mixed_none}
 use Rattle.dl_grid.proofs.CellSets.{at_zero_small}
 use Rattle.dl_power.proofs.WeightLists.{shares_below, shares_next, shares_fit}
 use Rattle.dl_power.proofs.HornerGrids.{starts_at, goes_on_at, one_between, ends}
@@ -7,8 +7,8 @@ use Rattle.dl_power.proofs.counts.by_horner.Goals as goal
 
 pub nowhere-requires : goal.nowhere-requires
 nowhere-requires g c =
-    let scale = scale_of c.args.base.now c.cells.ensures.grid.some in
-    (omega arith, (scale.0, (scale.1, (c.requires.some, omega (arith, c.cells.ensures.grid.few, c.requires.within)))))
+    let size = size_of c.args.base.now c.cells.ensures.grid in
+    (omega arith, size_within size c.requires.some c.requires.within)
 
 pub share_of-requires : goal.share_of-requires
 share_of-requires g c =

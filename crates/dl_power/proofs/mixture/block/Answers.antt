@@ -32,7 +32,7 @@ from_ends-requires g c =
           c.args.table.now c.args.total c.args.first c.args.cells
           c.requires.positive c.requires.sum c.requires.one c.in_ok-weights.ensures.many c.in_ok-weights.ensures.each
           (λ x b. c.loop-x.invariant.low x (omega arith)) (λ x b. c.loop-x.invariant.high x (omega arith))
-          c.requires.scale_above c.requires.scale_below c.requires.some c.requires.few
+          c.requires.size
           (omega (arith, c.loop-x.invariant.lows)) (omega (arith, c.loop-x.invariant.highs))
           c.requires.powers.0 c.requires.powers.1 c.requires.powers.2,
     )

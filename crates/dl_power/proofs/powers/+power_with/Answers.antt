@@ -1,4 +1,4 @@
-use Rattle.dl_power.proofs.Common.{◌+◌, ◌-◌, ◌/◌, ◌^◌, arith, sym, ap, subst, ◌∙◌, length-take-le, pow_pos, IfOk-weaker, Iv, spread, GridEncloses, times_itself, scale_of, spread_none}
+use Rattle.dl_power.proofs.Common.{◌+◌, ◌-◌, ◌/◌, ◌^◌, arith, sym, ap, subst, ◌∙◌, length-take-le, pow_pos, IfOk-weaker, Iv, spread, GridEncloses, times_itself, size_of, size_within, spread_none}
 use Rattle.std.proofs.lemmas.List.Sums.{sum_by-take-le}
 use Rattle.dl_grid.proofs.WidthLaws.{pw_one}
 use Rattle.dl_power.proofs.Enclosing.{no_copy, first_cells, squared, one_more}
@@ -8,8 +8,8 @@ use Rattle.dl_power.proofs.powers.+power_with.Goals as goal
 
 pub zero-requires : goal.zero-requires
 zero-requires g t c =
-    let scale = scale_of c.args.base.now c.cells.ensures.grid.some in
-    (omega arith, (scale.0, (scale.1, (c.requires.some, omega (arith, c.cells.ensures.grid.few, c.requires.within)))))
+    let size = size_of c.args.base.now c.cells.ensures.grid in
+    (omega arith, size_within size c.requires.some c.requires.within)
 
 pub returns-then-n-eq0-clause-encloses : goal.returns-then-n-eq0-clause-encloses
 returns-then-n-eq0-clause-encloses g t c =

@@ -1,5 +1,15 @@
-use Rattle.dl_product.proofs.Common.{◌*◌, ◌∙◌, arith, ap₂, rules, pairs_same}
+use Rattle.dl_product.proofs.Common.{◌*◌, ◌∙◌, arith, ap₂, rules, pairs_same, ends_fit}
 use Rattle.dl_product.proofs.products.product.Goals as goal
+
+pub sums-requires-clause-fits : goal.sums-requires-clause-fits
+sums-requires-clause-fits g c =
+    ends_fit c.args.a.now _ _ _ c.lows.ensures.grid c.requires.some c.requires.in_first c.lows.ensures.small
+    c.lows-2.ensures.small
+
+pub sums-requires-2-clause-fits : goal.sums-requires-2-clause-fits
+sums-requires-2-clause-fits g c =
+    ends_fit c.args.a.now _ _ _ c.highs.ensures.grid c.requires.some c.requires.in_first c.highs.ensures.small
+    c.highs-2.ensures.small
 
 pub grid_of_sums-requires : goal.grid_of_sums-requires
 grid_of_sums-requires g c =

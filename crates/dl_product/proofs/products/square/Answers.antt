@@ -1,4 +1,12 @@
+use Rattle.dl_product.proofs.Common.{ends_fit}
 use Rattle.dl_product.proofs.products.square.Goals as goal
 
-pub square_sums-requires-clause-items : goal.square_sums-requires-clause-items
-square_sums-requires-clause-items g c = c.lows.ensures.fits
+pub square_sums-requires-clause-fits : goal.square_sums-requires-clause-fits
+square_sums-requires-clause-fits g c =
+    ends_fit c.args.a.now _ _ _ c.lows.ensures.grid c.requires.some c.requires.in_first c.lows.ensures.small
+    c.lows.ensures.small
+
+pub square_sums-requires-2-clause-fits : goal.square_sums-requires-2-clause-fits
+square_sums-requires-2-clause-fits g c =
+    ends_fit c.args.a.now _ _ _ c.highs.ensures.grid c.requires.some c.requires.in_first c.highs.ensures.small
+    c.highs.ensures.small

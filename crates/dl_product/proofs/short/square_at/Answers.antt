@@ -1,4 +1,4 @@
-use Rattle.dl_product.proofs.Common.{ℕ, ◌≡◌, ◌+◌, ◌-◌, ◌*◌, ◌/◌, ◌≤◌, inl, inr, length, get_or, arith, sym, ap, ◌∙◌, mul-le-mul, cases_lt, get_or_past, end_fits}
+use Rattle.dl_product.proofs.Common.{ℕ, ◌≡◌, ◌+◌, ◌-◌, ◌*◌, ◌/◌, ◌≤◌, inl, inr, length, get_or, arith, sym, ap, ◌∙◌, mul-le-mul, cases_lt, get_or_past, end_fits, products_fit, ItemsFit}
 use Rattle.std.proofs.Common.{◌%◌, ◌^◌}
 use Rattle.dl_exact.proofs.Counts.{below_bound, below_rest, nothing_times}
 use Rattle.std.specs.Prelude.{List, min}
@@ -13,27 +13,28 @@ half_sum xs s half n sum e h =
     h ∙ sym (below_rest n half (λ k. get_or xs k 0 * get_or xs (s - k) 0) (omega (arith, e)) (λ k b c.
     nothing_times (get_or xs k 0) (get_or xs (s - k) 0) (get_or_past xs k 0 (omega (arith, e, b, c)))))
 
-half_small : (xs : List ℕ) (s half sum : ℕ) → half ≤ 8192 → ((k : ℕ) → get_or xs k 0 ≤ 2 ^ 56)
-    → sum ≡ column xs xs s half → sum ≤ 2 ^ 125
-half_small xs s half sum b small h =
+half_small : (xs : List ℕ) (s half sum : ℕ) → ItemsFit xs xs (s + 1) → half + half ≤ s + 1 → sum ≡ column xs xs s half
+    → 2 * sum ≤ 2 ^ 126
+half_small xs s half sum f within h =
     omega (
       arith,
       h,
-      below_bound half (2 ^ 56 * 2 ^ 56) (λ k. get_or xs k 0 * get_or xs (s - k) 0)
-          (λ k c. mul-le-mul (small k) (small (s - k))),
+      below_bound half (f.top * f.top) (λ k. get_or xs k 0 * get_or xs (s - k) 0)
+          (λ k c. mul-le-mul (end_fits xs f.top f.first k) (end_fits xs f.top f.second (s - k))),
+      products_fit f (half + half) within,
     )
 
 pub overflow_mul-result : goal.overflow_mul-result
 overflow_mul-result c =
     let sum = half_sum c.args.a.now c.args.s _ _ _ c.min.ensures c.sum_up_to-sum.ensures in
-    omega (arith, half_small c.args.a.now c.args.s _ _ (omega arith) (end_fits _ c.requires.items) sum)
+    omega (arith, half_small c.args.a.now c.args.s _ _ c.requires (omega arith) sum)
 
 pub overflow_add-result : goal.overflow_add-result
 overflow_add-result c =
     let sum = half_sum c.args.a.now c.args.s _ _ _ c.min.ensures c.sum_up_to-sum.ensures in
     omega (
       arith,
-      half_small c.args.a.now c.args.s _ _ (omega arith) (end_fits _ c.requires.items) sum,
+      half_small c.args.a.now c.args.s _ _ c.requires (omega arith) sum,
       c.middle.ensures.small,
     )
 

@@ -17,14 +17,8 @@ poisson_direct-requires g c =
     (c.requires.valid.1.thinned (poisson_unbounded u c.requires.count.0 c.requires.count.1)) in (
       omega arith,
       (
-        c.requires.scale_above,
-        (
-          c.requires.scale_below,
-          (
-            no_zero u.sev c.args.positive.now c.requires.means,
-            (small.0.num, (small.0.den, (small.1, (c.requires.some, c.requires.few)))),
-          ),
-        ),
+        c.requires.size,
+        (no_zero u.sev c.args.positive.now c.requires.means, (small.0.num, (small.0.den, small.1))),
       ),
     )
 
@@ -45,11 +39,8 @@ poisson_claims-requires g c =
     (c.requires.valid.1.thinned (poisson_unbounded u c.requires.count.0 c.requires.count.1)) in (
       omega arith,
       (
-        c.requires.scale_above,
-        (
-          c.requires.scale_below,
-          (no_zero u.sev c.args.positive.now c.requires.means, (small.0, (small.1, (c.requires.some, c.requires.few)))),
-        ),
+        c.requires.size,
+        (no_zero u.sev c.args.positive.now c.requires.means, (small.0, small.1)),
       ),
     )
 

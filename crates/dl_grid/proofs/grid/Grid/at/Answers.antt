@@ -23,7 +23,7 @@ invariant_of-result g c =
     let small = read_small c.args.x v c.requires c.self.invariant c.index-2.ensures in
     record {
       ordered = omega (arith, read.0, read.1, low_le_high c.args.self.now c.args.x);
-      in_range = omega (arith, small, one_in_range _ c.self.invariant.scale_below);
-      scale_above = c.self.invariant.scale_above;
-      scale_below = c.self.invariant.scale_below;
+      in_range = omega (arith, small, one_in_range _ c.self.invariant.size.scale_below);
+      scale_above = c.self.invariant.size.scale_above;
+      scale_below = c.self.invariant.size.scale_below;
     }

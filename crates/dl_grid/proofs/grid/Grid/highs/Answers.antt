@@ -13,6 +13,6 @@ returns g c =
       each = λ x. ap (λ l. get_or l x 0) ends ∙ high_at_ends c.args.self.now x;
       order = low_le_high c.args.self.now;
       small = small;
-      fits = ends_below _ c.self.invariant.scale_below small;
+      fits = ends_below _ c.self.invariant.size.scale_below small;
       grid = grid_of_ends _ v.ends;
     }

@@ -1,11 +1,10 @@
 use Rattle.dl_grid.proofs.Common.{arith, ap, sum, ◌∙◌}
-use Rattle.dl_grid.proofs.EndLists.{viewed, low_total, high_total, ends_fit_all, high_few, spread_is}
+use Rattle.dl_grid.proofs.EndLists.{viewed, low_total, high_total, ends_fit_all, high_size, spread_is}
 use Rattle.dl_grid.proofs.grid.Grid.spread.Goals as goal
 
 pub sum_of-high-requires : goal.sum_of-high-requires
 sum_of-high-requires g c =
-    rw c.as_slice-2.ensures.value (ends_fit_all _ c.self.invariant.scale_below
-    (high_few c.self.invariant) c.self.invariant.small)
+    rw c.as_slice-2.ensures.value (ends_fit_all _ (high_size c.self.invariant) c.self.invariant.small)
 
 pub overflow_sub-result : goal.overflow_sub-result
 overflow_sub-result g c =

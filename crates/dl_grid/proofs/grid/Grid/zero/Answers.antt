@@ -5,7 +5,7 @@ use Rattle.dl_grid.proofs.grid.Grid.zero.Goals as goal
 pub returns : goal.returns
 returns g c =
     let r = c.requires in
-    let v = viewed _ (zero_ends g.row.B c.args.cells r.scale_above r.scale_below r.some r.few) refl in
+    let v = viewed _ (zero_ends g.row.B c.args.cells r) refl in
     rw (
       c.in_ok-lows.ensures.items_if_clones_equal (λ y same. same),
       c.in_ok-highs.ensures.items_if_clones_equal (λ y same. same),
@@ -26,4 +26,4 @@ invariant_of-result g c =
       c.units_of_one.ensures,
       c.units_of_one-2.ensures,
     )
-    (zero_ends g.row.B c.args.cells c.requires.scale_above c.requires.scale_below c.requires.some c.requires.few)
+    (zero_ends g.row.B c.args.cells c.requires)

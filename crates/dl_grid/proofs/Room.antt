@@ -1,0 +1,43 @@
+-- What a grid of an allowed size has room for: the only proofs that see how many cells are allowed at a scale.
+use Rattle.dl_grid.proofs.Common.{ℕ, ◌*◌, ◌^◌, ◌≤◌, arith, le_trans, mul-le-mul, mul-le-mul_right, pow-le-pow_right, IsGridSize, HasRoom}
+use Rattle.dl_limits.specs.Limits.{most_cells, most_cells_at}
+
+one_below : {B : ℕ} → B ≤ 56 → 2 ^ B ≤ 2 ^ 56
+one_below {B} h = pow-le-pow_right {n = 2} (omega arith) {i = B} {j = 56} h
+
+whole_mass : (B : ℕ) → B ≤ 56 → most_cells_at B * 2 ^ B ≤ 2 ^ 70
+whole_mass B h = omega (arith, one_below h)
+
+whole_sums : (B : ℕ) → B ≤ 56 → most_cells_at B * (2 ^ B * 2 ^ B) ≤ 2 ^ 126
+whole_sums B h = omega (arith, mul-le-mul (one_below h) (one_below h))
+
+whole_squares : (B : ℕ) → B ≤ 56 → most_cells_at B * (most_cells_at B * 2 ^ B) ≤ 2 ^ 84
+whole_squares B h = omega (arith, one_below h)
+
+-- no scale has more cells than any grid may have
+pub size_few : {B n : ℕ} → IsGridSize B n → n ≤ most_cells
+size_few s = s.few
+
+-- one cell or more, of a grid of this size, are the size of a grid
+pub size_within : {B m n : ℕ} → IsGridSize B n → 1 ≤ m → m ≤ n → IsGridSize B m
+size_within s some within = record {
+  scale_above = s.scale_above;
+  scale_below = s.scale_below;
+  some = some;
+  few = le_trans within s.few;
+}
+
+-- the sum of a number of at most 1 for each cell
+pub mass_fits : {B n : ℕ} → IsGridSize B n → n * 2 ^ B ≤ 2 ^ 70
+mass_fits {B} s = le_trans (mul-le-mul_right (2 ^ B) s.few) (whole_mass B s.scale_below)
+
+-- so many times that sum
+pub masses_fit : {B n : ℕ} → IsGridSize B n → n * (n * 2 ^ B) ≤ 2 ^ 84
+masses_fit {B} {n} s = le_trans (mul-le-mul s.few (mul-le-mul_right (2 ^ B) s.few)) (whole_squares B s.scale_below)
+
+-- the sum of a product of two such numbers for each cell
+pub grid_room : {B n : ℕ} → IsGridSize B n → HasRoom n (2 ^ B)
+grid_room {B} s = record {
+  word = one_below s.scale_below;
+  sums = le_trans (mul-le-mul_right (2 ^ B * 2 ^ B) s.few) (whole_sums B s.scale_below);
+}
