@@ -8,8 +8,8 @@ use Rattle.dl_grid.specs.Room.{HasRoom}
 abbrev pub pair_sum : List ℕ → List ℕ → ℕ → ℕ
 pair_sum a b s = count_pairs s (λ i j. get_or a i 0 * get_or b j 0)
 
--- the first n items of the product of a and b have room in words: no item of the two lists is above
--- some number, of which n have room
+-- the first n items of the product of a and b can be summed in words: no item of the two lists is
+-- above `top`, and n products of two numbers of at most `top` have room
 pub record ItemsFit (a b : List ℕ) (n : ℕ) : Type 0 where
   pub top : ℕ
   pub first : All (λ x. x ≤ top) a
