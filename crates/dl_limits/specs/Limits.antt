@@ -36,7 +36,7 @@ pub record IsPlanScale (bits : ℕ) : Type 0 where
 abbrev pub most_cells : ℕ
 most_cells = 16384
 
--- the cells of a grid whose ends are in units of 1 over 2 to the power `bits`: as many at each scale
+-- the cells of a grid with ends in units of 1 over 2 to the power `bits`: as many at each scale
 abbrev pub most_cells_at : ℕ → ℕ
 most_cells_at bits = most_cells
 
