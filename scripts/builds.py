@@ -1,6 +1,6 @@
 #!/usr/bin/env python3
-"""Tests `.ci/build` on a small repository and a program in place of `rt`, which writes what rt writes: what is proved, what is told, and
-what is left where it fails or is stopped.
+"""Tests `.ci/build` and `.ci/test` on a small repository and a program in place of `rt`, which writes what rt writes: what is proved, what
+is told and counted, and what is left where it fails or is stopped.
 
 The last line is 'N passed, M failed'.
 """
@@ -43,9 +43,13 @@ for name in ("low", "side", "mid", "decl"):
         print(f"crate {name}: modules loaded=1 checked=2")
     elif way == "fails" and name == "side":
         print("== side", "fn side::well: proved", "error: side::wrong is not proved", "rt: side NOT PROVED", sep="\\n")
+        print("1 passed, 1 failed")
         sys.exit(1)
     else:
         print(f"== {name}", f"fn {name}::well: proved", f"rt: {name} {'is kept: by an earlier run' if name == 'low' else 'proved'}", sep="\\n")
+if way == "gate":
+    print("rt: low: its tests are proved", "rt: must-fail low/wrong.edit: refused, as it must be", "rt: ok", sep="\\n")
+    print("5 passed, 0 failed")
 program = pathlib.Path("out/decl" if sys.argv[1] == "run" else "crates/decl/out/decl")
 program.parent.mkdir(exist_ok=True)
 program.write_text("#!/bin/sh\\n")
@@ -53,8 +57,8 @@ program.chmod(0o755)
 """
 
 
-class Builds(unittest.TestCase):
-    """A build of the small repository."""
+class Case(unittest.TestCase):
+    """A test with a small repository."""
 
     def setUp(self):
         room = tempfile.TemporaryDirectory()
@@ -68,7 +72,8 @@ class Builds(unittest.TestCase):
         self.put("crates.txt", CRATES)
         self.put("HANDLES", "Handles allowed: none.\n")
         self.put("examples/die.decl", "agg Die dfreq [1] dsev [1:6]\n")
-        self.put(".ci/build", (ROOT / ".ci" / "build").read_text(encoding="utf-8")).chmod(0o755)
+        for name in (".ci/build", ".ci/test"):
+            self.put(name, (ROOT / name).read_text(encoding="utf-8")).chmod(0o755)
         self.tools, self.copies = self.room / "tools", self.room / "copies"
         self.copies.mkdir()
         self.program = self.top / "crates" / "decl" / "out" / "decl"
@@ -80,28 +85,40 @@ class Builds(unittest.TestCase):
         path.write_text(text, encoding="utf-8")
         return path
 
-    def begin(self, way):
-        """A build with the program in place of `rt`; it fails or waits where `way` says so."""
+    def begin(self, way, command=".ci/build"):
+        """The command with the program in place of `rt`; that fails or waits where `way` says so."""
         self.tools.mkdir()
         (self.tools / "rt").write_text(ANY, encoding="utf-8")
         (self.tools / "rt").chmod(0o755)
         world = {**os.environ, "PATH": f"{self.tools}:{os.environ['PATH']}", "TMPDIR": str(self.copies), "WAY": way, "SAID": f"{self.room}/said"}
-        words = [sys.executable, "-B", str(self.top / ".ci" / "build")]
+        words = [sys.executable, "-B", str(self.top / command)]
         return subprocess.Popen(words, env=world, stdout=subprocess.PIPE, stderr=subprocess.STDOUT, text=True)
 
-    def build(self, way="well"):
-        """Its status and its lines, once it has ended; no copy is left."""
-        with self.begin(way) as ran:
+    def ended(self, *words):
+        """The status and the lines of the command, once it has ended; no copy is left."""
+        with self.begin(*words) as ran:
             lines = ran.stdout.read().splitlines()
         self.assertEqual([*self.copies.iterdir()], [])
         return ran.returncode, lines
+
+    def without_kit(self, command):
+        """The same of the command where no `rt` is on the path."""
+        self.tools.mkdir()
+        os.symlink(shutil.which("env"), self.tools / "env")
+        words = [sys.executable, "-B", str(self.top / command)]
+        done = subprocess.run(words, env={"PATH": str(self.tools)}, stdout=subprocess.PIPE, stderr=subprocess.STDOUT, text=True)
+        return done.returncode, done.stdout.splitlines()
 
     def said(self):
         """How `rt` was called, and on what files."""
         return json.loads((self.room / "said").read_text(encoding="utf-8"))
 
+
+class Builds(Case):
+    """A build of the small repository."""
+
     def test_what_the_program_stands_on_is_proved(self):
-        status, _ = self.build()
+        status, _ = self.ended("well")
         self.assertEqual((status, os.access(self.program, os.X_OK)), (0, True))
         said = self.said()
         self.assertEqual(said["words"], ["ci"])
@@ -111,7 +128,7 @@ class Builds(unittest.TestCase):
         self.assertEqual(said["files"], wanted)
 
     def test_each_crate_is_told_in_a_line(self):
-        _, lines = self.build()
+        _, lines = self.ended("well")
         self.assertEqual(lines[0], "decl: proves and builds 4 crates, side by side; the first time this takes many minutes")
         told = [re.sub(r", about \d+ min \d+ s left$", ", TIME", line) for line in lines[1:5]]
         self.assertEqual(told[0], "decl:  1 of 4, low was proved before")
@@ -122,7 +139,7 @@ class Builds(unittest.TestCase):
 
     def test_what_fails_is_told_and_nothing_replaced(self):
         self.put("crates/decl/out/decl", "an older program")
-        status, lines = self.build("fails")
+        status, lines = self.ended("fails")
         self.assertEqual(status, 1)
         self.assertEqual(lines[2:5], ["== side", "error: side::wrong is not proved", "rt: side NOT PROVED"])
         self.assertRegex(lines[5], r"\Adecl: FAILED after \d+ min \d+ s\Z")
@@ -131,7 +148,7 @@ class Builds(unittest.TestCase):
     def test_kept_work_is_gone_on_from(self):
         for name in ("low", "mid", "side"):
             (self.top / "crates" / name / "out" / "incremental").mkdir(parents=True)
-        status, lines = self.build()
+        status, lines = self.ended("well")
         said = self.said()
         self.assertEqual((status, said["words"], said["place"]), (0, ["run", "--", "run", "pmf:3"], "decl"))
         self.assertEqual(said["given"], "agg Die dfreq [1] dsev [1:6]\n")
@@ -140,7 +157,7 @@ class Builds(unittest.TestCase):
 
     def test_kept_work_of_some_crates_is_not_enough(self):
         (self.top / "crates" / "low" / "out" / "incremental").mkdir()
-        self.build()
+        self.ended("well")
         self.assertEqual(self.said()["words"], ["ci"])
 
     def test_a_build_that_is_stopped_leaves_nothing(self):
@@ -153,12 +170,53 @@ class Builds(unittest.TestCase):
         self.assertEqual([*self.copies.iterdir()], [])
 
     def test_no_kit(self):
-        self.tools.mkdir()
-        os.symlink(shutil.which("env"), self.tools / "env")
-        words = [sys.executable, "-B", str(self.top / ".ci" / "build")]
-        done = subprocess.run(words, env={"PATH": str(self.tools)}, capture_output=True, text=True)
-        self.assertEqual((done.returncode, done.stdout, done.stderr.count("\n")), (1, "", 1))
-        self.assertIn("a build needs the Rattle kit, and there is no `rt` on the path", done.stderr)
+        status, lines = self.without_kit(".ci/build")
+        self.assertEqual((status, len(lines)), (1, 1))
+        self.assertIn("a build needs the Rattle kit, and there is no `rt` on the path", lines[0])
+
+
+class Tests(Case):
+    """The one test command."""
+
+    def clients(self, line, status=0):
+        """Puts tests of the clients in place that write this line and end so."""
+        self.put("clients/test", f"#!/bin/sh\necho 'clients: one part'\necho '{line}'\nexit {status}\n").chmod(0o755)
+
+    def test_both_are_counted(self):
+        self.clients("7 passed, 0 failed, 2 skipped")
+        status, lines = self.ended("gate", ".ci/test")
+        self.assertEqual((status, lines[-1]), (0, "12 passed, 0 failed, 2 skipped"))
+        self.assertEqual(lines[-4], "clients: one part")
+        self.assertNotIn("5 passed, 0 failed", lines)
+
+    def test_the_times_of_the_parts(self):
+        self.clients("7 passed, 0 failed, 0 skipped")
+        _, lines = self.ended("gate", ".ci/test")
+        time = r"\d+ min \d+ s"
+        marks = [f"{what} after {time}" for what in ("crates proved", "tests proved", "must-fail edits tried", "all run")]
+        self.assertRegex(lines[-3], rf"\Art ci: {', '.join(marks)}\Z")
+        self.assertRegex(lines[-2], rf"\Aclients: {time}; both: {time}, {time} of processor time, on \d+ processors\Z")
+
+    def test_what_fails_is_counted(self):
+        for line, ends, wanted in (
+            ("7 passed, 1 failed, 0 skipped", 1, "12 passed, 1 failed, 0 skipped"),
+            ("7 passed, 0 failed, 0 skipped", 1, "12 passed, 1 failed, 0 skipped"),
+            ("broken off", 1, "5 passed, 1 failed, 0 skipped"),
+        ):
+            self.clients(line, ends)
+            status, lines = self.ended("gate", ".ci/test")
+            self.assertEqual((status, lines[-1]), (1, wanted))
+            shutil.rmtree(self.tools)
+
+    def test_a_proof_that_fails_is_counted(self):
+        self.clients("7 passed, 0 failed, 0 skipped")
+        status, lines = self.ended("fails", ".ci/test")
+        self.assertEqual((status, lines[-1]), (1, "8 passed, 1 failed, 0 skipped"))
+
+    def test_no_kit(self):
+        status, lines = self.without_kit(".ci/test")
+        self.assertEqual((status, lines[1:]), (1, ["0 passed, 1 failed, 0 skipped"]))
+        self.assertIn("the tests need the Rattle kit, and there is no `rt` on the path", lines[0])
 
 
 if __name__ == "__main__":
