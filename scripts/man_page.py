@@ -1,15 +1,9 @@
 #!/usr/bin/env python3
 """Checks docs/decl.1 against the other pages, and runs its examples.
 
-<<<<<<< HEAD
-It renders without a warning (where groff is installed); each option, ask and message of docs/USAGE.md and each rule of docs/LANGUAGE.md
-is in it; and each example writes what stands below it, where `$ cat FILE` makes the file. The program is DECL, else crates/decl/out/decl. The last line is 'N passed, M failed'.
-=======
-It renders without a warning (which is skipped where groff is not installed); its version is that of CHANGELOG.md and of the Python client; each option, ask
-and message of docs/USAGE.md and each rule of docs/LANGUAGE.md is in it; and each example writes what stands below it, where `$ cat FILE`
-makes the file. The program is DECL, else crates/decl/out/decl. The last line is
-'N passed, M failed, K skipped'.
->>>>>>> a7ff4d7 (Skipped tests are counted and named, what is compared with nothing fails, and limits are met and passed by one in the tests of the gate)
+It renders without a warning (which is skipped where groff is not installed); each option, ask and message of docs/USAGE.md and each
+rule of docs/LANGUAGE.md is in it; and each example writes what stands below it, where `$ cat FILE` makes the file. The program is
+DECL, else crates/decl/out/decl. The last line is 'N passed, M failed, K skipped'.
 """
 
 import os

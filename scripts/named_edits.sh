@@ -1,6 +1,6 @@
 #!/usr/bin/env sh
-# Checks that each edit that docs/PROOFS.md names is there: 'crate/edit' stands for crates/CRATE/must-fail/EDIT.edit. The last line
-# is 'N passed, M failed'.
+# Checks that each edit that docs/PROOFS.md names is there: 'crate/edit' stands for crates/CRATE/must-fail/EDIT.edit. And that each
+# edit has one line '# shows:', which scripts/edits_are_wrong runs. The last line is 'N passed, M failed'.
 set -u
 cd "$(dirname "$0")/.." || exit 1
 missing=0
@@ -18,5 +18,12 @@ if [ "$named" -eq 0 ]; then
     missing=1
     named=1
 fi
+for file in crates/*/must-fail/*.edit; do
+    named=$((named + 1))
+    if [ "$(grep -c '^# shows: ' "$file")" -ne 1 ]; then
+        echo "$file has not one line '# shows:'"
+        missing=$((missing + 1))
+    fi
+done
 echo "$((named - missing)) passed, $missing failed"
 [ "$missing" -eq 0 ]
