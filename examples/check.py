@@ -65,7 +65,6 @@ def is_as_stored(written, stored):
 
 def run(command, world):
     """What the command writes, to both outputs."""
-    command = command.replace("crates/decl/out/decl", "decl")
     done = subprocess.run(["bash", "-c", command], cwd=ROOT, env=world, stdin=subprocess.DEVNULL, capture_output=True)
     return (done.stdout + done.stderr).decode("utf-8", "replace").splitlines()
 

@@ -247,6 +247,13 @@ class Version(unittest.TestCase):
         self.assertEqual(self.found("clients/python/pyproject.toml", r'^version = "(.*)"$'), (version,))
         self.assertEqual(self.found("clients/python/src/decl/__init__.py", r'^__version__ = "(.*)"$'), (version,))
 
+    def test_the_pages_name_packages_of_the_number(self):
+        version = (ROOT / "VERSION").read_text(encoding="utf-8").strip()
+        for page, least in (("README.md", 3), ("clients/python/README.md", 1)):
+            named = re.findall(r"\bdecl(?:_client)?[-_](\d+(?:\.\d+)+)[-_]", (ROOT / page).read_text(encoding="utf-8"))
+            self.assertGreaterEqual(len(named), least, page)
+            self.assertEqual({*named}, {version}, page)
+
 
 def told(module):
     """Runs the tests of a module, and tells how many passed; the status to end with."""
