@@ -20,6 +20,9 @@ import unittest
 ROOT = pathlib.Path(__file__).resolve().parent.parent
 BUILT = pathlib.Path(os.environ.get("DECL") or ROOT / "crates" / "decl" / "out" / "decl").resolve()
 PAST = 86400  # seconds after 1970: older than any source
+INSIDE = ["share/man/man1/decl.1", "share/bash-completion/completions/decl", "share/zsh/site-functions/_decl"]
+INSIDE += ["share/fish/vendor_completions.d/decl.fish", "share/doc/decl/CHANGELOG.md", "share/doc/decl/docs/USAGE.md"]
+INSIDE += ["share/doc/decl/clients/r/decl.R", "share/doc/decl/clients/python/pyproject.toml", "share/doc/decl/examples/many/one"]
 
 
 class Case(unittest.TestCase):
@@ -154,13 +157,16 @@ class Packages(Case):
     def test_the_tarball(self):
         packed = self.packed("dist")
         root, enter = self.empty_root()
-        (root / "opt").mkdir()
-        for words in (["sha256sum", "-c", f"{packed.name}.sha256"], ["tar", "-xzf", packed.name, "--strip-components=1", "-C", root / "opt"]):
+        prefix = root / "usr" / "local"
+        prefix.mkdir(parents=True)
+        for words in (["sha256sum", "-c", f"{packed.name}.sha256"], ["tar", "-xzf", packed.name, "--strip-components=1", "-C", prefix]):
             done = subprocess.run(words, cwd=packed.parent, capture_output=True, text=True)
             self.assertEqual(done.returncode, 0, done.stderr)
-        sums = subprocess.run(["sha256sum", "-c", "share/doc/decl/SHA256SUMS"], cwd=root / "opt", capture_output=True, text=True)
+        sums = subprocess.run(["sha256sum", "-c", "share/doc/decl/SHA256SUMS"], cwd=prefix, capture_output=True, text=True)
         self.assertEqual(sums.returncode, 0, sums.stderr)
-        self.runs_in(root, enter, "/opt")
+        self.assertEqual([each for each in INSIDE if not (prefix / each).is_file()], [])
+        self.assertNotIn(b".symtab", (prefix / "bin" / "decl").read_bytes())
+        self.runs_in(root, enter, "/usr/local")
 
     def test_the_debian_package(self):
         packed = self.packed("deb", "dpkg")
