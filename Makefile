@@ -67,5 +67,5 @@ uninstall: ## removes what install has put under PREFIX
 	rm -f $(foreach file,$(INSTALLED),"$(file)")
 	rm -rf "$(DOC)"
 
-clean: ## removes what was built and packed, the kept proofs too
+clean: ## removes what was built and packed, and what rt check has kept
 	rm -rf crates/*/out build

@@ -38,7 +38,8 @@ class Case(unittest.TestCase):
         (tools / "rt").write_text(f"#!/bin/sh\ntouch '{self.mark}'\nexit 1\n")
         (tools / "rt").chmod(0o755)
         self.world = {**os.environ, "PATH": f"{tools}{os.pathsep}{os.environ['PATH']}"}
-        self.world.pop("MAKEFLAGS", None)
+        for name in ("MAKEFLAGS", "DESTDIR", "PREFIX"):
+            self.world.pop(name, None)
 
     def make(self, *words, program=BUILT):
         """A finished run of make with the program in its place, which has called no `rt`."""
