@@ -7,7 +7,7 @@ pub use Rattle.std.proofs.lemmas.List.{take_all}
 pub use Rattle.std.proofs.lemmas.Nat.{pow_pos}
 pub use Rattle.std.specs.Int.{div_ceil}
 pub use Rattle.std.specs.List.{fold, remove, sum_by}
-pub use Rattle.dl_limits.specs.Limits.{most_operands}
+pub use Rattle.dl_limits.specs.Limits.{IsPlanScale, most_operands}
 pub use Rattle.dl_exact.proofs.Laws.{one_pos}
 pub use Rattle.dl_exact.proofs.Lists.{from_there}
 pub use Rattle.dl_exact.proofs.Over.{le_over, over_div, over_self}

@@ -1,13 +1,14 @@
 -- The horizons of the units of a valid plan.
-use Rattle.dl_budget.proofs.Common.{ℕ, ◌≡◌, ◌^◌, ◌≤◌, arith, refl, ap, ◌∙◌, pow-le-pow_right, horizon, IsValidUnit, claims_budget}
-use Rattle.std.specs.Prelude.{Option, Some, None, IfSome, IsSome, MatchOption}
+use Rattle.dl_budget.proofs.Common.{ℕ, ◌≡◌, ◌^◌, ◌≤◌, arith, refl, ap, sym, subst, ◌∙◌, pow-le-pow_right, horizon, IsValidUnit, claims_budget}
+use Rattle.std.specs.Prelude.{List, All, Option, Some, None, IfSome, IsSome, MatchOption}
 use Rattle.dl_plan.specs.declared.severity.Sev.{Sev}
 use Rattle.dl_plan.specs.declared.plan.Unit.{Unit as UnitOfPlan}
 use Rattle.dl_plan.specs.declared.plan.Plan.{Plan}
 use Rattle.dl_plan.specs.Clause.{Clause}
-use Rattle.dl_plan.specs.Horizon.{IsHorizonOf, HorizonPasses}
+use Rattle.dl_plan.specs.Horizon.{IsHorizon, IsHorizonOf, HorizonPasses, edge}
+use Rattle.dl_plan.specs.declared.cede.CedeLayer.{CedeLayer}
 use Rattle.dl_plan.specs.Valid.{IsAggregate, IsValid}
-use Rattle.dl_plan.proofs.Horizons.{same_horizon, horizon_is}
+use Rattle.dl_plan.proofs.Horizons.{same_horizon, horizon_is, horizon_edges}
 
 clause_horizon : (cells : ℕ) (sev : Sev) (cede : Option Clause) → cells ≤ 16384 → IfSome cede (IsAggregate cells sev)
     → (k : ℕ) × IsHorizonOf cede cells k × (k ≤ 16384)
@@ -44,6 +45,14 @@ few_cells plan valid =
     let least : 2 ^ 1 ≤ 2 ^ valid.cells.0 = pow-le-pow_right {n = 2}
     (omega arith) {i = 1} {j = valid.cells.0} valid.cells.1 in
     (omega (arith, least, valid.cells.3), omega (arith, most, valid.cells.3))
+
+-- each layer ends within a horizon
+pub edges_few : (clause : Clause) (cells k : ℕ) (layers : List CedeLayer) → layers ≡ clause.1 → IsHorizon clause cells k
+    → k ≤ 16384
+    → All (λ l. edge l ≤ 16384) layers
+edges_few clause cells k layers same horizon few i l inside =
+    let within = subst (All (λ l. edge l ≤ k)) (sym same) (horizon_edges clause cells k horizon) i l inside in
+    omega (arith, within, few)
 
 -- where there is a horizon of at most 16,384, it is found
 pub horizon_there : (cede : Option Clause) (cells : ℕ) (found : Option ℕ)

@@ -1,5 +1,5 @@
 -- A step that is taken so many times: its value and its size after one time more.
-use Rattle.dl_budget.proofs.Common.{ℕ, ◌≡◌, ◌+◌, ◌*◌, ◌^◌, ◌≤◌, arith, sym, ap, ◌∙◌, mul-le-mul_right, pow-le-pow_right, most_operands, cv, pw, mixed_spread, rounded_spread, IsSizeWithin}
+use Rattle.dl_budget.proofs.Common.{IsPlanScale, ℕ, ◌≡◌, ◌+◌, ◌*◌, ◌^◌, ◌≤◌, arith, sym, ap, ◌∙◌, mul-le-mul_right, pow-le-pow_right, most_operands, cv, pw, mixed_spread, rounded_spread, IsSizeWithin}
 use Rattle.std.proofs.lemmas.Grind.{pow_more}
 use Rattle.dl_grid.proofs.WidthLaws.{mixed_next, pw_doubled}
 use Rattle.dl_budget.proofs.SizeLaws.{within_step, size_least, square_size, room_below}
@@ -11,7 +11,8 @@ pub doubled_value : (S k b n x z : ℕ) → x ≡ pw S k b (2 ^ n) → z ≡ cv 
 doubled_value S k b n x z before step = step ∙ ap (λ t. cv S k t t) before ∙ sym (pw_doubled S k b n)
 
 -- one number of claims more
-pub listed_size : (B k b n x z : ℕ) → B ≡ 56 → rounded_spread k 2 1 + (n + 1) * rounded_spread k 2 b ≤ most_operands
+pub listed_size : (B k b n x z : ℕ) → IsPlanScale B
+    → rounded_spread k 2 1 + (n + 1) * rounded_spread k 2 b ≤ most_operands
     → IsSizeWithin (2 ^ B) (rounded_spread k 2 1 + n * rounded_spread k 2 b) (rounded_spread k 2 x)
     → z ≡ cv (2 ^ B) k b x + 2 → IsSizeWithin (2 ^ B) (rounded_spread k 2 1 + (n + 1) * rounded_spread k 2 b)
     (rounded_spread k 2 z)
@@ -20,7 +21,7 @@ listed_size B k b n x z e room size step =
     (size_least (2 ^ B) _ _ (omega arith)) size step
 
 -- one doubling more
-pub doubled_size : (B k b n x z : ℕ) → B ≡ 56 → 2 ^ (n + 1) * rounded_spread k 0 b ≤ most_operands
+pub doubled_size : (B k b n x z : ℕ) → IsPlanScale B → 2 ^ (n + 1) * rounded_spread k 0 b ≤ most_operands
     → IsSizeWithin (2 ^ B) (2 ^ n * rounded_spread k 0 b) (rounded_spread k 0 x) → z ≡ cv (2 ^ B) k x x
     → IsSizeWithin (2 ^ B) (2 ^ (n + 1) * rounded_spread k 0 b) (rounded_spread k 0 z)
 doubled_size B k b n x z e room size step =

@@ -1,20 +1,20 @@
 -- How large spreads grow, over plain numbers. S is the scale, and a size is a spread with what one more convolution
 -- rounds.
-use Rattle.dl_budget.proofs.Common.{ℕ, ◌≡◌, ◌+◌, ◌-◌, ◌*◌, ◌^◌, ◌<◌, ◌≤◌, arith, refl, sym, ap, subst, ◌∙◌, mul-le-mul, mul-le-mul_left, mul-le-mul_right, le_of_mul-le-mul_right, pow_pos, div_ceil, most_operands, div_ceil_least, cv, pw, rounded_spread, IsSizeWithin}
+use Rattle.dl_budget.proofs.Common.{IsPlanScale, ℕ, ◌≡◌, ◌+◌, ◌-◌, ◌*◌, ◌^◌, ◌<◌, ◌≤◌, arith, refl, sym, ap, subst, ◌∙◌, mul-le-mul, mul-le-mul_left, mul-le-mul_right, pow-le-pow_right, le_of_mul-le-mul_right, pow_pos, div_ceil, most_operands, div_ceil_least, cv, pw, rounded_spread, IsSizeWithin}
 use Rattle.dl_grid.proofs.WidthLaws.{size_step, size_joined, pw_even, pw_odd}
 
 -- a size is within itself, and within what is greater
 pub size_least : (S c x : ℕ) → x ≤ c → IsSizeWithin S c x
 size_least S c x h = mul-le-mul h (omega arith)
 
--- where c is far below S, what is at most c / (1 - c/S) is hardly above c
-pub size_near : (S c x : ℕ) → 0 < S → 65536 * c ≤ S → IsSizeWithin S c x → 65535 * x ≤ 65536 * c
+-- where c is at most a sixteenth of S, what is at most c / (1 - c/S) is at most 16/15 of c
+pub size_near : (S c x : ℕ) → 0 < S → 16 * c ≤ S → IsSizeWithin S c x → 15 * x ≤ 16 * c
 size_near S c x pos far size =
-    let part : x * (65535 * S) ≤ x * (65536 * (S - c)) = mul-le-mul_left x (omega arith) in
+    let part : x * (15 * S) ≤ x * (16 * (S - c)) = mul-le-mul_left x (omega arith) in
     le_of_mul-le-mul_right {k = S} (omega (arith, part, size)) pos
 
-pub spread_near : (S k more c x : ℕ) → 0 < S → 65536 * c ≤ S → IsSizeWithin S c (rounded_spread k more x)
-    → 65535 * x ≤ 65536 * c
+pub spread_near : (S k more c x : ℕ) → 0 < S → 16 * c ≤ S → IsSizeWithin S c (rounded_spread k more x)
+    → 15 * x ≤ 16 * c
 unfolding rounded_spread
 spread_near S k more c x pos far size = omega (arith, size_near S c (x + 2 * k + 1 + more) pos far size)
 
@@ -27,14 +27,17 @@ size_step_of S k more c d x y z pos room hx hy e =
     (subst (λ t. (S + rounded_spread k more t) * S ≤ (S + rounded_spread k more x) * (S + rounded_spread k more y))
     (sym e) (size_step S k more x y pos))
 
--- ---- at this profile's scale
+-- ---- at the scales of plans
 
--- what stays below 2^40 is far below 2^56
-pub far_below : (B c : ℕ) → B ≡ 56 → c ≤ 2 ^ 40 → 65536 * c ≤ 2 ^ B
-far_below B c e h = subst (λ b. 65536 * c ≤ 2 ^ b) (sym e) (omega arith)
+scale_least : (B : ℕ) → IsPlanScale B → 2 ^ 48 ≤ 2 ^ B
+scale_least B scale = pow-le-pow_right {n = 2} (omega arith) {i = 48} {j = B} scale.least
+
+-- what is at most 2^40 is far below them
+pub far_below : (B c : ℕ) → IsPlanScale B → c ≤ 2 ^ 40 → 16 * c ≤ 2 ^ B
+far_below B c scale h = omega (arith, h, scale_least B scale)
 
 -- one step that stays far below
-pub within_step : (B k more c d n x y z : ℕ) → B ≡ 56 → c + d ≡ n → n ≤ 2 ^ 40
+pub within_step : (B k more c d n x y z : ℕ) → IsPlanScale B → c + d ≡ n → n ≤ 2 ^ 40
     → IsSizeWithin (2 ^ B) c (rounded_spread k more x) → IsSizeWithin (2 ^ B) d (rounded_spread k more y)
     → z ≡ cv (2 ^ B) k x y + more → IsSizeWithin (2 ^ B) n (rounded_spread k more z)
 within_step B k more c d n x y z e sum room hx hy step =
@@ -42,7 +45,7 @@ within_step B k more c d n x y z e sum room hx hy step =
     (size_step_of (2 ^ B) k more c d x y z (pow_pos B) (omega (arith, sum, far_below B n e room)) hx hy step)
 
 -- the spread of a unit
-pub unit_small : (B k more c x : ℕ) → B ≡ 56 → c ≤ most_operands
+pub unit_small : (B k more c x : ℕ) → IsPlanScale B → c ≤ most_operands
     → IsSizeWithin (2 ^ B) c (rounded_spread k more x) → x ≤ 2 ^ 34
 unit_small B k more c x e room size = omega (
   arith,
@@ -53,14 +56,14 @@ unit_small B k more c x e room size = omega (
 -- ---- powers
 
 -- a square, and a square with one more
-pub square_size : (B k b m n x y : ℕ) → B ≡ 56 → m + m ≡ n → n * rounded_spread k 0 b ≤ most_operands
+pub square_size : (B k b m n x y : ℕ) → IsPlanScale B → m + m ≡ n → n * rounded_spread k 0 b ≤ most_operands
     → IsSizeWithin (2 ^ B) (m * rounded_spread k 0 b) (rounded_spread k 0 x)
     → y ≡ cv (2 ^ B) k x x → IsSizeWithin (2 ^ B) (n * rounded_spread k 0 b) (rounded_spread k 0 y)
 square_size B k b m n x y e sum room size step =
     within_step B k 0 _ _ _ x x y e (omega (arith, ap (λ t. t * rounded_spread k 0 b) sum)) (omega (arith, room))
     size size (step ∙ omega arith)
 
-pub next_size : (B k b m n x y : ℕ) → B ≡ 56 → m + 1 ≡ n → n * rounded_spread k 0 b ≤ most_operands
+pub next_size : (B k b m n x y : ℕ) → IsPlanScale B → m + 1 ≡ n → n * rounded_spread k 0 b ≤ most_operands
     → IsSizeWithin (2 ^ B) (m * rounded_spread k 0 b) (rounded_spread k 0 x)
     → y ≡ cv (2 ^ B) k x b → IsSizeWithin (2 ^ B) (n * rounded_spread k 0 b) (rounded_spread k 0 y)
 next_size B k b m n x y e sum room size step =
@@ -87,7 +90,7 @@ next_value S k b m n x y some sum even step =
     step ∙ ap (λ t. cv S k t b) (even ∙ ap (pw S k b) double) ∙ sym (pw_odd S k b m some) ∙ ap (pw S k b) more
 
 -- a square's, and that of one more, from the half
-pub odd_size : (B k b m n x y z : ℕ) → B ≡ 56 → m + m + 1 ≡ n → n * rounded_spread k 0 b ≤ most_operands
+pub odd_size : (B k b m n x y z : ℕ) → IsPlanScale B → m + m + 1 ≡ n → n * rounded_spread k 0 b ≤ most_operands
     → IsSizeWithin (2 ^ B) (m * rounded_spread k 0 b) (rounded_spread k 0 x) → y ≡ cv (2 ^ B) k x x
     → z ≡ cv (2 ^ B) k y b
     → (y ≤ 2 ^ 34) × IsSizeWithin (2 ^ B) (n * rounded_spread k 0 b) (rounded_spread k 0 z)
@@ -97,8 +100,8 @@ odd_size B k b m n x y z e sum room half square step =
     let even = square_size B k b m (m + m) x y e refl less half square in
     (unit_small B k 0 _ y e less even, next_size B k b (m + m) n y z e sum room even step)
 
--- the product of two spreads below 2^40, over the scale
-pub joined_small : (B x y : ℕ) → B ≡ 56 → x ≤ 2 ^ 40 → y ≤ 2 ^ 40 → div_ceil (x * y) (2 ^ B) ≤ 2 ^ 24
-joined_small B x y e left right =
-    subst (λ b. div_ceil (x * y) (2 ^ b) ≤ 2 ^ 24) (sym e)
-    (div_ceil_least (x * y) (2 ^ 56) (2 ^ 24) (pow_pos 56) (omega (arith, mul-le-mul left right)))
+-- the product of two spreads of at most 2^40, over the scale
+pub joined_small : (B x y : ℕ) → IsPlanScale B → x ≤ 2 ^ 40 → y ≤ 2 ^ 40 → div_ceil (x * y) (2 ^ B) ≤ 2 ^ 32
+joined_small B x y scale left right =
+    div_ceil_least (x * y) (2 ^ B) (2 ^ 32) (pow_pos B)
+    (omega (arith, mul-le-mul left right, scale_least B scale))

@@ -1,5 +1,5 @@
 -- Budgets of sums of units, as a loop over the units makes them.
-use Rattle.dl_budget.proofs.Common.{ℕ, suc, ◌≡◌, ◌+◌, ◌-◌, ◌*◌, ◌^◌, ◌<◌, ◌≤◌, List, [], ◌∷◌, length, get_or, take, drop, arith, sym, ap, ap₂, subst, ◌∙◌, fold, remove, mul-le-mul, pow_pos, take_all, cv, rounded_spread, IsSizeWithin, sum_spread, IsOfUnits, unit_budgets, from_there}
+use Rattle.dl_budget.proofs.Common.{IsPlanScale, ℕ, suc, ◌≡◌, ◌+◌, ◌-◌, ◌*◌, ◌^◌, ◌<◌, ◌≤◌, List, [], ◌∷◌, length, get_or, take, drop, arith, sym, ap, ap₂, subst, ◌∙◌, fold, remove, mul-le-mul, pow_pos, take_all, cv, rounded_spread, IsSizeWithin, sum_spread, IsOfUnits, unit_budgets, from_there}
 use Rattle.std.proofs.Common.{◌++◌}
 use Rattle.std.proofs.lemmas.List.{length-map, length-take, length-drop, get_or-map, take-map, drop-map}
 use Rattle.std.proofs.lemmas.List.Sums.{fold_more, fold-append}
@@ -53,14 +53,14 @@ unfolding rounded_spread
 one_unit B cells x small = size_least (2 ^ B) _ _ (omega (arith, small))
 
 -- one unit more
-pub sum_size_next : (B cells n sum b x : ℕ) → B ≡ 56 → cells ≤ 4096 → n + 1 ≤ 16 → IsOfUnits (2 ^ B) cells n sum
+pub sum_size_next : (B cells n sum b x : ℕ) → IsPlanScale B → cells ≤ 4096 → n + 1 ≤ 16 → IsOfUnits (2 ^ B) cells n sum
     → b ≤ most_unit_budget → x ≡ cv (2 ^ B) cells sum b
     → IsOfUnits (2 ^ B) cells (n + 1) x
 sum_size_next B cells n sum b x e few most before small step =
     within_step B cells 0 _ _ _ sum b x e (omega arith) (omega (arith, units_small cells (n + 1) few most)) before
     (one_unit B cells b small) (step ∙ omega arith)
 
-pub sum_small : (B cells n x : ℕ) → B ≡ 56 → cells ≤ 4096 → n ≤ 16 → IsOfUnits (2 ^ B) cells n x → x < 2 ^ 40
+pub sum_small : (B cells n x : ℕ) → IsPlanScale B → cells ≤ 4096 → n ≤ 16 → IsOfUnits (2 ^ B) cells n x → x < 2 ^ 40
 sum_small B cells n x e few most size =
     let units = units_small cells n few most in
     omega (

@@ -1,7 +1,7 @@
 //! The budget of an ask, what it needs, and whether it passes.
 
 ghost use Rattle.std.specs.Prelude.{ℕ, ◌≡◌, ◌+◌, ◌*◌, ◌^◌, ◌<◌, ◌≤◌, ◌↔◌, List, All, IsTrue, length};
-ghost use Rattle.dl_limits.specs.Limits.{most_digits, most_units, most_ask_budget};
+ghost use Rattle.dl_limits.specs.Limits.{IsPlanScale, most_digits, most_units, most_ask_budget};
 ghost use Rattle.dl_plan.specs.declared.settings.Ask.TheVariants.{LayerMean};
 ghost use Rattle.dl_plan.specs.Ranges.{IsLevel};
 ghost use Rattle.dl_plan.specs.Valid.{IsValid};
@@ -20,7 +20,7 @@ use dl_plan::{Ask, Plan, Settings, Unit};
 /// follows from the plan and the ask alone. The ask lies inside the grid, names a unit of the
 /// plan, if it names one, and its probability is below 1 and has parts of at most 10^9.
 pub fn ask_budget<const B: u32>(plan: &Plan, ask: &Ask) -> u128
-    requires scale { B ≡ 56 }
+    requires scale { IsPlanScale B }
     requires valid { IsValid plan.now }
     requires ask { IsAskOf plan.now ask.now }
     ensures value { result ≡ ask_budget (2 ^ B) plan.now ask.now }
@@ -32,7 +32,7 @@ pub fn ask_budget<const B: u32>(plan: &Plan, ask: &Ask) -> u128
 /// The same budget, from those of the total and of its mean, where these are there.
 #[tactic(auto, unfolding(crate::specs::Asks::ask_budget))]
 fn ask_budget_with<const B: u32>(plan: &Plan, budgets: Budgets, ask: &Ask) -> u128
-    requires scale { B ≡ 56 }
+    requires scale { IsPlanScale B }
     requires valid { IsValid plan.now }
     requires budgets { AreBudgetsOf (2 ^ B) plan.now budgets }
     requires ask { IsAskOf plan.now ask.now }
@@ -91,7 +91,7 @@ fn tail_budget<const B: u32>(plan: &Plan, budgets: Budgets, p: Frac) -> u128
 
 /// The budget of the share of unit `i` in a total.
 fn joint_budget<const B: u32>(plan: &Plan, i: u32) -> u128
-    requires scale { B ≡ 56 }
+    requires scale { IsPlanScale B }
     requires valid { IsValid plan.now }
     requires unit { i < length plan.now.units }
     ensures value { result ≡ joint_budget (2 ^ B) plan.now i }
@@ -103,7 +103,7 @@ fn joint_budget<const B: u32>(plan: &Plan, i: u32) -> u128
 
 /// The budget of that share over the probability of the total.
 fn kappa_budget<const B: u32>(plan: &Plan, budgets: Budgets, i: u32) -> u128
-    requires scale { B ≡ 56 }
+    requires scale { IsPlanScale B }
     requires valid { IsValid plan.now }
     requires budgets { AreBudgetsOf (2 ^ B) plan.now budgets }
     requires unit { i < length plan.now.units }
@@ -125,7 +125,7 @@ pub fn place(units: &[Unit], name: &[u8]) -> u32
 
 /// How many units of the last of so many printed digits a budget comes to, and one more.
 fn in_digits<const B: u32>(budget: u128, digits: u32) -> u128
-    requires scale { B ≡ 56 }
+    requires scale { IsPlanScale B }
     requires small { budget ≤ most_ask_budget }
     requires digits { digits ≤ most_digits }
     ensures { result ≡ in_digits (2 ^ B) budget digits }
@@ -136,7 +136,7 @@ fn in_digits<const B: u32>(budget: u128, digits: u32) -> u128
 /// How many units of the last of so many printed digits an ask needs: its printed ends lie no
 /// farther apart. Of the ask as of `ask_budget`; at most 9 digits.
 pub fn needed<const B: u32>(plan: &Plan, ask: &Ask, digits: u32) -> u128
-    requires scale { B ≡ 56 }
+    requires scale { IsPlanScale B }
     requires valid { IsValid plan.now }
     requires ask { IsAskOf plan.now ask.now }
     requires digits { digits ≤ most_digits }
@@ -147,7 +147,7 @@ pub fn needed<const B: u32>(plan: &Plan, ask: &Ask, digits: u32) -> u128
 
 /// The same number, from the budgets of the total and of its mean, where these are there.
 pub fn needed_with<const B: u32>(plan: &Plan, budgets: Budgets, ask: &Ask, digits: u32) -> u128
-    requires scale { B ≡ 56 }
+    requires scale { IsPlanScale B }
     requires valid { IsValid plan.now }
     requires budgets { AreBudgetsOf (2 ^ B) plan.now budgets }
     requires ask { IsAskOf plan.now ask.now }
@@ -160,7 +160,7 @@ pub fn needed_with<const B: u32>(plan: &Plan, budgets: Budgets, ask: &Ask, digit
 /// Whether the settings let the ask pass: it needs at most the width that they name for a
 /// probability or a quantile, or that for a mean.
 pub fn passes<const B: u32>(plan: &Plan, ask: &Ask, settings: &Settings) -> bool
-    requires scale { B ≡ 56 }
+    requires scale { IsPlanScale B }
     requires valid { IsValid plan.now }
     requires ask { IsAskOf plan.now ask.now }
     requires digits { settings.now.digits ≤ most_digits }

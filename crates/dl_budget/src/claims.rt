@@ -1,7 +1,7 @@
 //! The budget of a unit before its aggregate clause, by the kind of its count.
 
 ghost use Rattle.std.specs.Prelude.{ℕ, ◌≡◌, ◌+◌, ◌*◌, ◌^◌, ◌≤◌, ◌<◌, All};
-ghost use Rattle.dl_limits.specs.Limits.{most_cells, most_claims_budget, most_expected, most_shape};
+ghost use Rattle.dl_limits.specs.Limits.{IsPlanScale, most_cells, most_claims_budget, most_expected, most_shape};
 ghost use Rattle.dl_exact.specs.Fraction.{whole, ◌<ℚ◌, ◌≤ℚ◌};
 ghost use Rattle.dl_plan.specs.Fine.{HasPartsOf48Bits};
 ghost use Rattle.dl_plan.specs.Valid.{IsValidUnit};
@@ -13,7 +13,7 @@ use dl_plan::{Freq, Unit, greatest_amount};
 
 /// The budget of a unit of a valid plan before its aggregate clause, on `cells` cells.
 pub fn claims_budget<const B: u32>(unit: &Unit, cells: u32) -> u128
-    requires scale { B ≡ 56 }
+    requires scale { IsPlanScale B }
     requires valid { (h : ℕ) × IsValidUnit h unit.now }
     requires few { cells ≤ most_cells }
     ensures value { result ≡ claims_budget (2 ^ B) cells unit.now }
@@ -32,7 +32,7 @@ pub fn claims_budget<const B: u32>(unit: &Unit, cells: u32) -> u128
 
 /// The budget of a Poisson count of this thinned mean.
 fn poisson_budget<const B: u32>(mean: Frac, cells: u32) -> u128
-    requires scale { B ≡ 56 }
+    requires scale { IsPlanScale B }
     requires within { mean ≤ℚ whole most_expected }
     requires few { cells ≤ most_cells }
     ensures none { mean.num ≡ 0 → result ≡ 0 }
@@ -47,7 +47,7 @@ fn poisson_budget<const B: u32>(mean: Frac, cells: u32) -> u128
 
 /// The budget of a gamma count of this shape and thinned mean.
 fn gamma_budget<const B: u32>(mean: Frac, shape: u32, cells: u32) -> u128
-    requires scale { B ≡ 56 }
+    requires scale { IsPlanScale B }
     requires within { mean ≤ℚ whole most_expected }
     requires admitted { HasPartsOf48Bits mean }
     requires some { 1 ≤ shape }

@@ -1,6 +1,7 @@
 //! The budgets that most asks need: made once of a plan, they serve all of its asks.
 
 ghost use Rattle.std.specs.Prelude.{◌≡◌, ◌^◌};
+ghost use Rattle.dl_limits.specs.Limits.{IsPlanScale};
 ghost use Rattle.dl_plan.specs.Valid.{IsValid};
 ghost use Rattle.dl_budget.specs.Once.{AreBudgetsOf};
 
@@ -18,7 +19,7 @@ pub struct Budgets {
 
 /// These budgets of a valid plan.
 pub fn budgets_of<const B: u32>(plan: &Plan) -> Budgets
-    requires scale { B ≡ 56 }
+    requires scale { IsPlanScale B }
     requires valid { IsValid plan.now }
     ensures { AreBudgetsOf (2 ^ B) plan.now result }
 {

@@ -1,7 +1,7 @@
 //! What convolutions make of a spread: one of them, powers, listed counts and halvings.
 
 ghost use Rattle.std.specs.Prelude.{ℕ, ◌≡◌, ◌+◌, ◌*◌, ◌^◌, ◌≤◌};
-ghost use Rattle.dl_limits.specs.Limits.{budget_bound, most_claims_budget, most_expected, most_operands};
+ghost use Rattle.dl_limits.specs.Limits.{IsPlanScale, budget_bound, most_claims_budget, most_expected, most_operands};
 ghost use Rattle.dl_exact.specs.Fraction.{whole, ◌≤ℚ◌};
 ghost use Rattle.dl_grid.specs.Width.{cv, pw, mixed_spread, rounded_spread, IsSizeWithin};
 ghost use Rattle.dl_budget.specs.Halvings.{IsHalvings, halvings};
@@ -11,7 +11,7 @@ use dl_grid::units_of_one;
 
 /// The spread of a convolution on `cells` cells, of grids with the spreads `x` and `y`.
 pub fn joined<const B: u32>(cells: u32, x: u128, y: u128) -> u128
-    requires scale { B ≡ 56 }
+    requires scale { IsPlanScale B }
     requires left { x ≤ budget_bound }
     requires right { y ≤ budget_bound }
     ensures value { result ≡ cv (2 ^ B) cells x y }
@@ -23,7 +23,7 @@ pub fn joined<const B: u32>(cells: u32, x: u128, y: u128) -> u128
 
 /// The spread of the `n`-th power of a grid with the spread `base`.
 pub fn power<const B: u32>(cells: u32, base: u128, n: u32) -> u128
-    requires scale { B ≡ 56 }
+    requires scale { IsPlanScale B }
     requires room { n * rounded_spread cells 0 base ≤ most_operands }
     ensures value { result ≡ pw (2 ^ B) cells base n }
     ensures size { 1 ≤ n → IsSizeWithin (2 ^ B) (n * rounded_spread cells 0 base)
@@ -47,7 +47,7 @@ pub fn power<const B: u32>(cells: u32, base: u128, n: u32) -> u128
 /// The spread of a listed number of claims of which the greatest is `greatest`, where the grid of
 /// one claim has the spread `base`.
 pub fn listed<const B: u32>(cells: u32, base: u128, greatest: u32) -> u128
-    requires scale { B ≡ 56 }
+    requires scale { IsPlanScale B }
     requires room { rounded_spread cells 2 1 + greatest * rounded_spread cells 2 base
         ≤ most_operands }
     ensures value { result ≡ mixed_spread (2 ^ B) cells base greatest }
@@ -62,7 +62,7 @@ pub fn listed<const B: u32>(cells: u32, base: u128, greatest: u32) -> u128
 
 /// The spread of a grid with the spread `base` that is convolved with itself so many times.
 pub fn doubled<const B: u32>(cells: u32, base: u128, times: u32) -> u128
-    requires scale { B ≡ 56 }
+    requires scale { IsPlanScale B }
     requires room { 2 ^ times * rounded_spread cells 0 base ≤ most_operands }
     ensures value { result ≡ pw (2 ^ B) cells base (2 ^ times) }
     ensures small { result ≤ most_claims_budget }

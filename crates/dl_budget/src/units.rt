@@ -1,10 +1,10 @@
 //! The budgets of units, of their sums and of their means.
 
 ghost use Rattle.std.specs.Prelude.{ℕ, ◌≡◌, ◌+◌, ◌*◌, ◌^◌, ◌<◌, ◌≤◌, List, All, length, sum_by, fold, remove};
-ghost use Rattle.dl_limits.specs.Limits.{budget_bound, most_cells, most_claims_budget, most_layers, most_plan_cells, most_units, most_unit_budget, most_mean_budget};
+ghost use Rattle.dl_limits.specs.Limits.{IsPlanScale, budget_bound, most_cells, most_claims_budget, most_layers, most_plan_cells, most_units, most_unit_budget, most_mean_budget};
 ghost use Rattle.dl_grid.specs.Width.{cv, sum_spread};
-ghost use Rattle.dl_plan.specs.Horizon.{IsHorizonOf};
-ghost use Rattle.dl_plan.specs.Valid.{IsWithinMostAmount, IsValidUnit, IsValid};
+ghost use Rattle.dl_plan.specs.Horizon.{IsHorizonOf, edge};
+ghost use Rattle.dl_plan.specs.Valid.{IsValidUnit, IsValid};
 ghost use Rattle.dl_budget.specs.Sizes.{IsOfUnits};
 ghost use Rattle.dl_plan.specs.MeanWidth.{part_width};
 ghost use Rattle.dl_budget.specs.Units.{unit_budget, unit_budgets, unit_mean_budget, total_budget, others_budget, mean_budget};
@@ -27,7 +27,7 @@ fn horizon(unit: &Unit, cells: u32) -> u32
 /// The budget of a unit of a valid plan, on a grid of `cells` cells: how far apart the ends of its
 /// grid's cells may lie in all.
 pub fn unit_budget<const B: u32>(unit: &Unit, cells: u32) -> u128
-    requires scale { B ≡ 56 }
+    requires scale { IsPlanScale B }
     requires valid { (h : ℕ) × IsValidUnit h unit.now }
     requires some { 1 ≤ cells }
     requires horizon { (k : ℕ) × IsHorizonOf unit.now.cede cells k × (k ≤ most_cells) }
@@ -44,7 +44,7 @@ pub fn unit_budget<const B: u32>(unit: &Unit, cells: u32) -> u128
 /// The budget of a sum of units, from that of some units in `sum`, after further ones are taken
 /// in one by one, in order.
 fn with_units<const B: u32>(sum: u128, units: &[Unit], cells: u32) -> u128
-    requires scale { B ≡ 56 }
+    requires scale { IsPlanScale B }
     requires valid { All (IsValidUnit cells) units.now }
     requires some { 1 ≤ cells }
     requires few { cells ≤ most_plan_cells }
@@ -62,7 +62,7 @@ fn with_units<const B: u32>(sum: u128, units: &[Unit], cells: u32) -> u128
 
 /// The budget of the sum of these units, 0 of none.
 fn sum_of<const B: u32>(units: &[Unit], cells: u32) -> u128
-    requires scale { B ≡ 56 }
+    requires scale { IsPlanScale B }
     requires valid { All (IsValidUnit cells) units.now }
     requires some { 1 ≤ cells }
     requires few { cells ≤ most_plan_cells }
@@ -81,7 +81,7 @@ fn sum_of<const B: u32>(units: &[Unit], cells: u32) -> u128
 /// The budget of the sum of these units but unit `i`, counted from 0; it is 0 where there is no
 /// other.
 fn sum_without<const B: u32>(units: &[Unit], i: u32, cells: u32) -> u128
-    requires scale { B ≡ 56 }
+    requires scale { IsPlanScale B }
     requires valid { All (IsValidUnit cells) units.now }
     requires some { 1 ≤ cells }
     requires few { cells ≤ most_plan_cells }
@@ -103,7 +103,7 @@ fn sum_without<const B: u32>(units: &[Unit], i: u32, cells: u32) -> u128
 /// all. It starts with that of the first unit and takes in each further one as a convolution
 /// does.
 pub fn total_budget<const B: u32>(plan: &Plan) -> u128
-    requires scale { B ≡ 56 }
+    requires scale { IsPlanScale B }
     requires valid { IsValid plan.now }
     ensures value { result ≡ total_budget (2 ^ B) plan.now }
     ensures small { result < budget_bound }
@@ -114,7 +114,7 @@ pub fn total_budget<const B: u32>(plan: &Plan) -> u128
 /// The budget of the sum of all units of a valid plan but unit `i`, counted from 0; it is 0 where
 /// there is no other.
 pub fn others_budget<const B: u32>(plan: &Plan, i: u32) -> u128
-    requires scale { B ≡ 56 }
+    requires scale { IsPlanScale B }
     requires valid { IsValid plan.now }
     requires unit { i < length plan.now.units }
     ensures value { result ≡ others_budget (2 ^ B) plan.now i }
@@ -124,9 +124,9 @@ pub fn others_budget<const B: u32>(plan: &Plan, i: u32) -> u128
 }
 
 /// What a layer of an aggregate clause adds to the budget of a mean, for a budget before the
-/// clause.
+/// clause. The layer ends within a horizon.
 fn part_width(layer: &CedeLayer, before: u128) -> u128
-    requires near { IsWithinMostAmount layer.now }
+    requires inside { edge layer.now ≤ most_cells }
     requires small { before ≤ most_claims_budget }
     ensures value { result ≡ part_width before layer.now.limit layer.now.attach }
     ensures small { result ≤ 2 ^ 55 }
@@ -140,7 +140,7 @@ fn part_width(layer: &CedeLayer, before: u128) -> u128
 /// What the layers of an aggregate clause add together.
 fn layers_budget(layers: &[CedeLayer], before: u128) -> u128
     requires few { length layers.now ≤ most_layers }
-    requires near { All IsWithinMostAmount layers.now }
+    requires inside { All (λ l. edge l ≤ most_cells) layers.now }
     requires small { before ≤ most_claims_budget }
     ensures value { result ≡ sum_by (λ l. part_width before l.limit l.attach) layers.now }
     ensures small { result ≤ 2 ^ 59 }
@@ -154,7 +154,7 @@ fn layers_budget(layers: &[CedeLayer], before: u128) -> u128
 
 /// The budget of the mean of a unit of a valid plan, on a grid of `cells` cells.
 fn unit_mean_budget<const B: u32>(unit: &Unit, cells: u32) -> u128
-    requires scale { B ≡ 56 }
+    requires scale { IsPlanScale B }
     requires valid { IsValidUnit cells unit.now }
     requires few { cells ≤ most_plan_cells }
     ensures value { result ≡ unit_mean_budget (2 ^ B) cells unit.now }
@@ -171,7 +171,7 @@ fn unit_mean_budget<const B: u32>(unit: &Unit, cells: u32) -> u128
 
 /// The budget of the mean of the total of a valid plan.
 pub(crate) fn mean_budget<const B: u32>(plan: &Plan) -> u128
-    requires scale { B ≡ 56 }
+    requires scale { IsPlanScale B }
     requires valid { IsValid plan.now }
     ensures value { result ≡ mean_budget (2 ^ B) plan.now }
     ensures small { result ≤ most_mean_budget }

@@ -17,18 +17,20 @@ use crate::unbounded::{gamma_claims, poisson_claims};
 use dl_budget::claims_budget;
 use dl_direct::{gamma_direct, poisson_direct};
 use dl_grid::Grid;
+use dl_limits::LONG_BITS;
 use dl_plan::{Sev, Unit};
 use dl_product::Workspace;
 use std::alloc::{AllocError, Global};
 
 /// Whether a grid's spread is at most the unit's budget on its cells. Budgets are computed at the
-/// scale of 56 bits alone, so at another none is found narrow.
+/// scales of plans alone, so at a coarser one none is found narrow.
 fn is_narrow<const B: u32>(unit: &Unit, grid: &Grid<B>) -> bool
+    requires scale_below { B ≤ 56 }
     requires valid { (h : ℕ) × IsValidUnit h unit.now }
     requires few { length grid.now ≤ most_cells }
     ensures { IsTrue result → spread grid.now ≤ claims_budget (2 ^ B) (length grid.now) unit.now }
 {
-    if B != 56 {
+    if B < LONG_BITS {
         return false;
     }
     grid.spread() <= claims_budget::<B>(unit, grid.cells())

@@ -1,12 +1,12 @@
 -- What the tests ask of their numbers.
-use Rattle.std.proofs.Common.{ℕ, zero, suc, ◌≡◌, ◌*◌, ◌^◌, ◌<◌, ◌≤◌, [], ◌∷◌, arith, refl, sym, ap, subst, ◌∙◌, mul-le-mul_left, mul-le-mul_right}
+use Rattle.std.proofs.Common.{ℕ, zero, suc, ◌≡◌, ◌*◌, ◌^◌, ◌<◌, ◌≤◌, [], ◌∷◌, arith, refl, sym, ap, ap₂, subst, ◌∙◌, mul-le-mul_left, mul-le-mul_right}
 use Rattle.std.specs.Prelude.{All}
 use Rattle.std.specs.List.Sorted.{IsStrictlyIncreasing}
 use Rattle.std.proofs.Math.Nat.{zero-lt-suc}
 use Rattle.dl_exact.specs.Gcd.{gcd, euclid}
-use Rattle.dl_exact.specs.Fraction.{Fraction, ◌over◌, ◌*ℚ◌, ◌/ℚ◌, ◌≤ℚ◌, whole}
-use Rattle.dl_exact.proofs.Over.{over_div, over_le, over_mul}
-use Rattle.dl_exact.proofs.Laws.{one_pos}
+use Rattle.dl_exact.specs.Fraction.{Fraction, ◌over◌, ◌*ℚ◌, ◌-ℚ◌, ◌/ℚ◌, ◌≤ℚ◌, whole}
+use Rattle.dl_exact.proofs.Over.{over_div, over_le, over_mul, over_sub}
+use Rattle.dl_exact.proofs.Laws.{one_pos, times_one}
 use Rattle.dl_exact.proofs.RoundingLaws.{whole_le}
 use Rattle.dl_plan.specs.declared.item.Item.{Item}
 use Rattle.dl_plan.specs.Count.{IsProbability}
@@ -124,3 +124,14 @@ half_of m e = subst (λ t. t /ℚ whole 1 ≤ℚ 1 over 2) (sym e)
 
 pub one_is_small : (m : Fraction) → m ≡ whole 1 → m ≤ℚ whole 4096
 one_is_small m e = subst (λ t. t ≤ℚ whole 4096) (sym e) (whole_le 1 4096 (omega arith))
+
+-- a mean of 8, of claims that are never 0
+pub eight_thinned : (m p : Fraction) → m ≡ 8 over 1 → p ≡ whole 0
+    → HasPartsOf48Bits (m *ℚ (whole 1 -ℚ p)) × (m *ℚ (whole 1 -ℚ p) ≤ℚ whole 4096)
+eight_thinned m p of_mean none =
+    let rest : whole 1 -ℚ p ≡ whole 1 = ap (λ t. whole 1 -ℚ t) none ∙ over_sub 1 1 0 1 one_pos one_pos in
+    let same : m *ℚ (whole 1 -ℚ p) ≡ 8 over 1 = ap₂ (λ s t. s *ℚ t) of_mean rest ∙ times_one (8 over 1) in
+    subst (λ t. HasPartsOf48Bits t × (t ≤ℚ whole 4096)) (sym same) (
+      small_over 8 1 one_pos (omega arith) (omega arith),
+      over_le 8 1 4096 1 one_pos one_pos (omega arith),
+    )

@@ -1,16 +1,20 @@
 //! Numbers of the width rule, worked out by exact fractions outside the program. What is told of a
 //! plan is tried in `dl_eval`, which has one, and in clients/calls.txt.
 
+ghost use Rattle.dl_limits.specs.Limits.{IsPlanScale};
+
 use dl_budget::{doubled, halvings, joined, listed, power};
 use dl_plan::CedeLayer;
 
 /// The spread of a power; 0 past the limits.
 #[tactic(auto, using(dl_budget::proofs::Counts::power_room))]
-fn power_of(cells: u32, base: u32, steps: u32) -> u128 {
+fn power_of<const B: u32>(cells: u32, base: u32, steps: u32) -> u128
+    requires { IsPlanScale B }
+{
     if cells > 16_384 || base > 196_611 || steps > 65_536 {
         return 0;
     }
-    power::<56>(cells, base as u128, steps)
+    power::<B>(cells, base as u128, steps)
 }
 
 /// The spread of a listed count; 0 past the limits.
@@ -38,13 +42,15 @@ fn halvings_of_one() -> u32 {
 }
 
 /// So many equal units, the greatest that there are; 0 past the limits.
-fn equal_units(unit: u128, many: u32) -> u128 {
+fn equal_units<const B: u32>(unit: u128, many: u32) -> u128
+    requires { IsPlanScale B }
+{
     let mut sum = unit;
     for _more in 1..many {
         if sum > 1 << 40 || unit > 1 << 40 {
             return 0;
         }
-        sum = joined::<56>(4096, sum, unit);
+        sum = joined::<B>(4096, sum, unit);
     }
     sum
 }
@@ -72,7 +78,7 @@ const HALVED: [(u32, u32, u128); 3] = [(16, 0, 256), (16, 3, 2279), (16_384, 13,
 #[test]
 fn powers(rt: HostRuntime) {
     for (cells, base, steps, want) in POWERS {
-        assert_eq!(rt; power_of(cells, base, steps), want);
+        assert_eq!(rt; power_of::<56>(cells, base, steps), want);
     }
 }
 
@@ -93,7 +99,9 @@ fn halved_counts(rt: HostRuntime) {
 #[test]
 fn single_numbers(rt: HostRuntime) {
     assert_eq!(rt; halvings_of_one(), 1);
+    assert_eq!(rt; power_of::<48>(16_384, 196_611, 65_536), 15_033_015_379);
+    assert_eq!(rt; equal_units::<48>(30_065_232_854, 16), 481_429_404_317);
     for (many, want) in [(16, 481_045_353_881), (15, 450_979_924_668)] {
-        assert_eq!(rt; equal_units(30_065_232_854, many), want);
+        assert_eq!(rt; equal_units::<56>(30_065_232_854, many), want);
     }
 }

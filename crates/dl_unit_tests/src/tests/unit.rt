@@ -1,6 +1,7 @@
 //! Small units: each cell holds its exact probability, worked by fractions outside the program.
 
 ghost use Rattle.std.specs.Prelude.{◌≡◌, ℕ, ◌^◌, ◌<◌, ◌≤◌, length, All, IfOk};
+ghost use Rattle.dl_limits.specs.Limits.{IsPlanScale};
 ghost use Rattle.dl_exact.specs.Fraction.{whole, ◌≤ℚ◌};
 ghost use Rattle.dl_plan.specs.Fine.{HasPartsOf48Bits};
 ghost use Rattle.dl_plan.specs.Count.{expected_count, IsUnbounded, IsClaimCount};
@@ -9,6 +10,7 @@ ghost use Rattle.dl_plan.specs.Valid.{IsValidUnit};
 ghost use Rattle.dl_plan.specs.Weighted.{IsWeighted};
 
 use crate::tests::helpers::{agrees, fraction, one_bucket};
+use dl_budget::claims_budget;
 use dl_direct::{gamma_direct, poisson_direct};
 use dl_frac::Frac;
 use dl_grid::{Grid, units_of_one};
@@ -294,6 +296,56 @@ fn both_ways_meet(rt: HostRuntime) -> Result<(), AllocError> {
     assert!(rt; all_of_one_meet::<56>(alloc)?);
     assert!(rt; all_of_more_meet::<48>(alloc)?);
     assert!(rt; all_of_more_meet::<56>(alloc)?);
+    Ok(())
+}
+
+/// A unit with eight expected claims of one bucket each, by a Poisson count.
+#[tactic(auto, using(crate::proofs::TestLaws::eight_thinned))]
+fn eight_expected(alloc: Global) -> Result<Unit, AllocError>
+    ensures { IfOk result (λ unit. IsValidUnit 16 unit) }
+{
+    let sev = one_bucket(alloc)?;
+    Ok(Unit {
+        name: Text::from_vec(Vec::new(alloc)),
+        sev,
+        freq: Freq::Poisson(fraction(8, 1)),
+        cede: None,
+    })
+}
+
+/// Whether the sixteen cells of that unit have their first nine digits, and ends that lie at most
+/// two units apart, as the recursion at the full mean leaves them; halvings leave them farther
+/// apart.
+#[tactic(auto, using(crate::proofs::TestLaws::at_most_4096))]
+fn is_as_narrow<const B: u32>(alloc: Global) -> Result<bool, AllocError>
+    requires above { 1 ≤ B }
+    requires below { B ≤ 56 }
+{
+    let claim = one_bucket(alloc)?;
+    let halved = halved::<B>(alloc, &claim, fraction(8, 1))?;
+    let unit = eight_expected(alloc)?;
+    let grid = unit_grid::<B>(alloc, &unit, 16)?;
+    let lows = [
+        335462, 2683701, 10734804, 28626144, 57252288, 91603661, 122138215, 139586531, 139586531,
+        124076917, 99261533, 72190206, 48126804, 29616494, 16923711, 9025979,
+    ];
+    Ok(agrees(&grid, &lows) && grid.spread() <= 32 && halved.spread() > 32)
+}
+
+/// The budget of that unit on sixteen cells.
+fn budget_of_eight<const B: u32>(alloc: Global) -> Result<u128, AllocError>
+    requires { IsPlanScale B }
+{
+    let unit = eight_expected(alloc)?;
+    Ok(claims_budget::<B>(&unit, 16))
+}
+
+#[test]
+fn recursion_is_kept(rt: HostRuntime) -> Result<(), AllocError> {
+    let alloc = rt.alloc();
+    assert!(rt; is_as_narrow::<48>(alloc)?);
+    assert!(rt; is_as_narrow::<56>(alloc)?);
+    assert_eq!(rt; budget_of_eight::<48>(alloc)?, 4591);
     Ok(())
 }
 

@@ -1,7 +1,14 @@
-use Rattle.dl_budget.proofs.Common.{◌+◌, ◌^◌, ap, ap₂, sym, ◌∙◌, sum_by, horizon, part_width, claims_budget}
+use Rattle.dl_budget.proofs.Common.{◌+◌, ◌^◌, ap, ap₂, arith, sym, subst, ◌∙◌, sum_by, horizon, part_width, claims_budget}
+use Rattle.dl_plan.specs.Horizon.{IsHorizonOf}
 use Rattle.dl_plan.specs.MeanWidth.{mean_width}
-use Rattle.dl_budget.proofs.Horizons.{on_horizon}
+use Rattle.dl_budget.proofs.Horizons.{on_horizon, edges_few}
 use Rattle.dl_budget.proofs.units.unit_mean_budget.Goals as goal
+
+pub layers_budget-requires-clause-inside : goal.layers_budget-requires-clause-inside
+layers_budget-requires-clause-inside g c =
+    edges_few _ c.args.cells c.horizon.result _ c.layers.ensures
+    (subst (λ o. IsHorizonOf o c.args.cells c.horizon.result) c.in-Some.is c.horizon.ensures.horizon)
+    c.horizon.ensures.few
 
 pub returns-in-Some-clause-value : goal.returns-in-Some-clause-value
 returns-in-Some-clause-value g c =
