@@ -1,5 +1,5 @@
 -- Units that are alike have the same grids and means.
-use Rattle.dl_eval.proofs.Common.{ℕ, ◌≡◌, List, [], ◌∷◌, length, take, arith, sym, ap, ap₂, subst, subst₂, ◌∙◌, Option, whole, ◌over◌, Iv, spread, Holds, mapped, GridEncloses, Aggregate, One, Mean, partial_sums, outcome_after, aggregate_of, Clause, horizon, claims_budget, after_clause, unit_budget, unit_mean_budget, mean_width, S, IsUnitGrid, IsUnitMean}
+use Rattle.dl_eval.proofs.Common.{ℕ, ◌≡◌, ◌^◌, List, [], ◌∷◌, length, take, arith, sym, ap, ap₂, subst, subst₂, ◌∙◌, Option, whole, ◌over◌, Iv, spread, Holds, mapped, GridEncloses, Aggregate, One, Mean, partial_sums, outcome_after, aggregate_of, Clause, horizon, claims_budget, after_clause, unit_budget, unit_mean_budget, mean_width, IsUnitGrid, IsUnitMean}
 use Rattle.std.proofs.lemmas.List.{take_all}
 use Rattle.dl_exact.specs.Fraction.{◌*ℚ◌, ◌-ℚ◌}
 use Rattle.dl_model.specs.Plans.{count_weights}
@@ -20,8 +20,8 @@ loss freq cede items total = record {
   clause = outcome_after cede;
 }
 
-abbrev budget : ℕ → Freq → Option Clause → List Item → ℕ → ℕ
-budget H freq cede items total =
+abbrev budget : (S : ℕ) → ℕ → Freq → Option Clause → List Item → ℕ → ℕ
+budget S H freq cede items total =
     count_budget S (horizon cede H) (length items)
     (expected_count freq *ℚ (whole 1 -ℚ weight_at items 0 over total)) freq
 
@@ -30,27 +30,31 @@ same_loss u v e =
     ap₂ (λ freq cede. loss freq cede u.sev.items u.sev.total) e.count e.clause
     ∙ ap₂ (loss v.freq v.cede) e.items e.total
 
-same_budget : (H : ℕ) (u v : UnitOfPlan) → AreAlike u v
+same_budget : (S H : ℕ) (u v : UnitOfPlan) → AreAlike u v
     → claims_budget S (horizon u.cede H) u ≡ claims_budget S (horizon v.cede H) v
-same_budget H u v e =
-    ap₂ (λ freq cede. budget H freq cede u.sev.items u.sev.total) e.count e.clause
-    ∙ ap₂ (budget H v.freq v.cede) e.items e.total
+same_budget S H u v e =
+    ap₂ (λ freq cede. budget S H freq cede u.sev.items u.sev.total) e.count e.clause
+    ∙ ap₂ (budget S H v.freq v.cede) e.items e.total
 
-pub alike_grid : (H : ℕ) (u v : UnitOfPlan) (g t : List (Iv 56)) → AreAlike u v → IsUnitGrid H u g → t ≡ take H g
+pub alike_grid : {B : ℕ} (H : ℕ) (u v : UnitOfPlan) (g t : List (Iv B)) → AreAlike u v → IsUnitGrid H u g → t ≡ take H g
     → IsUnitGrid H v t
-alike_grid H u v g t e of_u is =
+alike_grid {B} H u v g t e of_u is =
     let all : t ≡ g = is ∙ take_all H g (omega (arith, of_u.cells)) in
-    let narrow : unit_budget S H u ≡ unit_budget S H v = ap₂ after_clause e.clause (same_budget H u v e) in record {
+    let narrow : unit_budget (2 ^ B) H u ≡ unit_budget (2 ^ B) H v =
+    ap₂ after_clause e.clause (same_budget (2 ^ B) H u v e) in record {
       cells = ap length all ∙ of_u.cells;
-      encloses = subst₂ (λ (s : List (Iv 56)) a. GridEncloses s (mapped a)) (sym all) (same_loss u v e) of_u.encloses;
+      encloses = subst₂ (λ (s : List (Iv B)) a. GridEncloses s (mapped a)) (sym all) (same_loss u v e) of_u.encloses;
       narrow = omega (arith, of_u.narrow, narrow, ap spread all);
     }
 
-pub alike_mean : (H : ℕ) (u v : UnitOfPlan) (mean : Iv 56) → AreAlike u v → IsUnitMean H u mean → IsUnitMean H v mean
-alike_mean H u v mean e of_u = record {
-  holds = subst (λ a. Holds (partial_sums (a ∷ []) Mean) (partial_sums (a ∷ []) One) (mean.lo over S) (mean.hi over S))
+pub alike_mean : {B : ℕ} (H : ℕ) (u v : UnitOfPlan) (mean : Iv B) → AreAlike u v → IsUnitMean H u mean
+    → IsUnitMean H v mean
+alike_mean {B} H u v mean e of_u = record {
+  holds = subst (λ a. Holds (partial_sums (a ∷ []) Mean) (partial_sums (a ∷ []) One) (mean.lo over 2 ^ B)
+      (mean.hi over 2 ^ B))
       (same_loss u v e) of_u.holds;
   narrow =
-      let same : unit_mean_budget S H u ≡ unit_mean_budget S H v = ap₂ mean_width e.clause (same_budget H u v e) in
+      let same : unit_mean_budget (2 ^ B) H u ≡ unit_mean_budget (2 ^ B) H v =
+      ap₂ mean_width e.clause (same_budget (2 ^ B) H u v e) in
       omega (arith, of_u.narrow, same);
 }

@@ -46,5 +46,5 @@ pub use Rattle.dl_measures.proofs.CellEnds.{cdf_ends}
 pub use Rattle.dl_measures.specs.Brackets.{IsFirstAtLeast}
 pub use Rattle.dl_measures.specs.Ends.{low_cdf}
 pub use Rattle.dl_report.specs.declared.report.Row.{Row}
-pub use Rattle.dl_eval.specs.Rows.{Declares, DeclaresGiven, DeclaresTail, IsAnswerTo, IsBelow, IsGood, IsTailMean, S, at_the_end, total_error}
+pub use Rattle.dl_eval.specs.Rows.{Declares, DeclaresGiven, DeclaresTail, IsAnswerTo, IsBelow, IsGood, IsTailMean, at_the_end, scale, total_error}
 pub use Rattle.dl_eval.specs.Totals.{AreOthers, AreOthersOf, AreShared, AreUnitGrids, AreUnitMeans, HasOthers, IsMeanOf, IsTotalOf, IsUnitGrid, IsUnitMean, Prints, shared_unit}

@@ -1,5 +1,5 @@
 -- The answer to each kind of ask, from the grid and the mean of the total.
-use Rattle.dl_eval.proofs.Common.{ℕ, suc, ◌≡◌, ◌+◌, ◌-◌, ◌^◌, ◌<◌, ◌≤◌, List, length, take, arith, inl, inr, sym, ap, subst, ◌∙◌, Option, None, Some, mul-le-mul_left, pow_pos, cases_lt, Fraction, ◌over◌, ◌+ℚ◌, ◌≤ℚ◌, ◌<ℚ◌, le_trans, lt_or_le, lt_not_le, Iv, over_le_over, low_at, high_at, spread, count_below, Holds, Aggregate, AreDeclarable, One, Point, Mean, partial_sums, total, GridEncloses, AreDeclared, low_cdf, aggregates_of, at_least_wider, at_most_wider, cdf_ends, plan_declared, plan_units, IsFirstAtLeast, Plan, IsValid, Row, total_budget, mean_budget, ask_budget, few_cells, S, Declares, IsBelow, at_the_end, IsAnswerTo, total_error, IsTotalOf, IsMeanOf, Prints}
+use Rattle.dl_eval.proofs.Common.{ℕ, suc, ◌≡◌, ◌+◌, ◌-◌, ◌^◌, ◌<◌, ◌≤◌, List, length, take, arith, inl, inr, sym, ap, subst, ◌∙◌, Option, None, Some, mul-le-mul_left, pow_pos, cases_lt, Fraction, ◌over◌, ◌+ℚ◌, ◌≤ℚ◌, ◌<ℚ◌, le_trans, lt_or_le, lt_not_le, Iv, over_le_over, low_at, high_at, spread, count_below, Holds, Aggregate, AreDeclarable, One, Point, Mean, partial_sums, total, GridEncloses, AreDeclared, low_cdf, aggregates_of, at_least_wider, at_most_wider, cdf_ends, plan_declared, plan_units, IsFirstAtLeast, Plan, IsValid, Row, total_budget, mean_budget, ask_budget, few_cells, Declares, IsBelow, at_the_end, IsAnswerTo, total_error, IsTotalOf, IsMeanOf, Prints}
 use Rattle.std.proofs.Common.{add-one}
 use Rattle.std.specs.Prelude.{min, MatchOption}
 use Rattle.dl_exact.proofs.Laws.{le_refl, plus_le_both, plus_le_cancel, sub_le_both}
@@ -22,75 +22,79 @@ use Rattle.dl_eval.proofs.Printed.{declared_ends}
 
 -- ---- probabilities
 
-pub cell_apart : (g : List (Iv 56)) (x : ℕ) → high_at g x ≤ low_at g x + spread g
+pub cell_apart : {B : ℕ} (g : List (Iv B)) (x : ℕ) → high_at g x ≤ low_at g x + spread g
 cell_apart g x = omega (arith, high_is g x, width_within (x + 1) g, below_more x (width_at g))
 
-pub point_answer : (plan : Plan) (g : List (Iv 56)) (d x lo hi : ℕ) (row : Row) → lo ≡ low_at g x → hi ≡ high_at g x
+pub point_answer : {B : ℕ} (plan : Plan) (g : List (Iv B)) (d x lo hi : ℕ) (row : Row) → lo ≡ low_at g x
+    → hi ≡ high_at g x
     → x < length g
-    → IsTotalOf plan g → Prints lo hi d row → IsAnswerTo plan d (asks.Pmf x) row
+    → IsTotalOf plan g → Prints (2 ^ B) lo hi d row → IsAnswerTo (2 ^ B) plan d (asks.Pmf x) row
 unfolding ask_budget
-point_answer plan g d x lo hi row low high inside t printed =
-    declared_ends plan (Point x) lo hi d (total_budget S plan) row printed
-    (subst (λ l. Declares plan (Point x) (l over S) (hi over S)) (sym low)
-    (subst (λ h. Declares plan (Point x) (low_at g x over S) (h over S)) (sym high) (t.encloses x inside)))
+point_answer {B} plan g d x lo hi row low high inside t printed =
+    declared_ends B plan (Point x) lo hi d (total_budget (2 ^ B) plan) row printed
+    (subst (λ l. Declares plan (Point x) (l over 2 ^ B) (hi over 2 ^ B)) (sym low)
+    (subst (λ h. Declares plan (Point x) (low_at g x over 2 ^ B) (h over 2 ^ B)) (sym high) (t.encloses x inside)))
     (omega (arith, low, high, cell_apart g x, t.narrow))
 
-cdf_low : (g : List (Iv 56)) (x : ℕ) → mass_low (take (x + 1) g) ≡ count_below (suc x) (low_at g)
+cdf_low : {B : ℕ} (g : List (Iv B)) (x : ℕ) → mass_low (take (x + 1) g) ≡ count_below (suc x) (low_at g)
 cdf_low g x = sym (low_sum (x + 1) g) ∙ ap (λ n. count_below n (low_at g)) (add-one x)
 
-cdf_high : (g : List (Iv 56)) (x : ℕ) → mass_high (take (x + 1) g) ≡ count_below (suc x) (high_at g)
+cdf_high : {B : ℕ} (g : List (Iv B)) (x : ℕ) → mass_high (take (x + 1) g) ≡ count_below (suc x) (high_at g)
 cdf_high g x = sym (high_mass (x + 1) g) ∙ ap (λ n. count_below n (high_at g)) (add-one x)
 
 least_apart : (top a b w lo hi : ℕ) → lo ≡ min a top → hi ≡ min b top → b ≤ a + w → hi ≤ lo + w
 least_apart top a b w lo hi low high h = omega (arith, low, high, h)
 
-pub cdf_answer : (plan : Plan) (g : List (Iv 56)) (d x lo hi : ℕ) (row : Row)
-    → lo ≡ min (mass_low (take (x + 1) g)) (2 ^ 56) → hi ≡ min (mass_high (take (x + 1) g)) (2 ^ 56) → x < length g
-    → IsValid plan → IsTotalOf plan g → Prints lo hi d row → IsAnswerTo plan d (asks.Cdf x) row
+pub cdf_answer : {B : ℕ} (plan : Plan) (g : List (Iv B)) (d x lo hi : ℕ) (row : Row)
+    → lo ≡ min (mass_low (take (x + 1) g)) (2 ^ B) → hi ≡ min (mass_high (take (x + 1) g)) (2 ^ B) → x < length g
+    → IsValid plan → IsTotalOf plan g → Prints (2 ^ B) lo hi d row → IsAnswerTo (2 ^ B) plan d (asks.Cdf x) row
 unfolding ask_budget
-cdf_answer plan g d x lo hi row low high inside valid t printed =
-    let ends = cdf_ends (aggregates_of plan) (2 ^ 56) (length g) (low_at g) (high_at g) (plan_units plan valid)
-    (pow_pos 56) t.encloses x inside in
+cdf_answer {B} plan g d x lo hi row low high inside valid t printed =
+    let ends = cdf_ends (aggregates_of plan) (2 ^ B) (length g) (low_at g) (high_at g) (plan_units plan valid)
+    (pow_pos B) t.encloses x inside in
     let low_sum : count_below (suc x) (low_at g) ≡ mass_low (take (x + 1) g) = sym (cdf_low g x) in
     let high_sum : count_below (suc x) (high_at g) ≡ mass_high (take (x + 1) g) = sym (cdf_high g x) in
-    declared_ends plan (Cdf x) lo hi d (total_budget S plan) row printed (
-      at_least_wider _ _ _ _ ends.0 (over_le_over lo (count_below (suc x) (low_at g)) (2 ^ 56) (pow_pos 56)
+    declared_ends B plan (Cdf x) lo hi d (total_budget (2 ^ B) plan) row printed (
+      at_least_wider _ _ _ _ ends.0 (over_le_over lo (count_below (suc x) (low_at g)) (2 ^ B) (pow_pos B)
           (omega (arith, low, low_sum))),
-      at_most_wider _ _ _ _ ends.1 (over_le_over (min (2 ^ 56) (count_below (suc x) (high_at g))) hi (2 ^ 56)
-          (pow_pos 56) (omega (arith, high, high_sum))),
+      at_most_wider _ _ _ _ ends.1 (over_le_over (min (2 ^ B) (count_below (suc x) (high_at g))) hi (2 ^ B)
+          (pow_pos B) (omega (arith, high, high_sum))),
     )
-    (least_apart (2 ^ 56) (mass_low (take (x + 1) g)) (mass_high (take (x + 1) g)) (total_budget S plan) lo hi low high
+    (least_apart (2 ^ B) (mass_low (take (x + 1) g)) (mass_high (take (x + 1) g)) (total_budget (2 ^ B) plan) lo hi
+    low high
     (omega (arith, apart g (suc x), low_sum, high_sum, t.narrow)))
 
 -- ---- means
 
-pub mean_answer : (plan : Plan) (d : ℕ) (mean : Iv 56) (row : Row) → IsMeanOf plan mean → Prints mean.lo mean.hi d row
-    → IsAnswerTo plan d asks.Mean row
+pub mean_answer : {B : ℕ} (plan : Plan) (d : ℕ) (mean : Iv B) (row : Row) → IsMeanOf plan mean
+    → Prints (2 ^ B) mean.lo mean.hi d row
+    → IsAnswerTo (2 ^ B) plan d asks.Mean row
 unfolding ask_budget
-mean_answer plan d mean row m printed = declared_ends plan Mean mean.lo mean.hi d
-    (mean_budget S plan) row printed m.holds m.narrow
+mean_answer {B} plan d mean row m printed = declared_ends B plan Mean mean.lo mean.hi d
+    (mean_budget (2 ^ B) plan) row printed m.holds m.narrow
 
-layer_narrow : (plan : Plan) (limit : Option ℕ) (attach mean spread : ℕ) → mean ≤ mean_budget S plan
+layer_narrow : (S : ℕ) (plan : Plan) (limit : Option ℕ) (attach mean spread : ℕ) → mean ≤ mean_budget S plan
     → spread ≤ total_budget S plan
     → layer_width limit attach mean spread ≤ layer_mean_budget S plan limit attach
-layer_narrow plan None attach mean spread p q = omega (arith, p, mul-le-mul_left attach q)
-layer_narrow plan (Some limit) attach mean spread p q = mul-le-mul_left limit q
+layer_narrow S plan None attach mean spread p q = omega (arith, p, mul-le-mul_left attach q)
+layer_narrow S plan (Some limit) attach mean spread p q = mul-le-mul_left limit q
 
-pub layer_answer : (plan : Plan) (g : List (Iv 56)) (mean : Iv 56) (d attach lo hi : ℕ) (limit : Option ℕ) (row : Row)
+pub layer_answer : {B : ℕ} (plan : Plan) (g : List (Iv B)) (mean : Iv B) (d attach lo hi : ℕ) (limit : Option ℕ)
+    (row : Row)
     → ((us : List Aggregate) → AreDeclared us → GridEncloses g (total us)
-    → (limit ≡ None → Holds (partial_sums us Mean) (partial_sums us One) (mean.lo over 2 ^ 56) (mean.hi over 2 ^ 56))
-    → Holds (partial_sums us (Layer limit attach)) (partial_sums us One) (lo over 2 ^ 56) (hi over 2 ^ 56))
+    → (limit ≡ None → Holds (partial_sums us Mean) (partial_sums us One) (mean.lo over 2 ^ B) (mean.hi over 2 ^ B))
+    → Holds (partial_sums us (Layer limit attach)) (partial_sums us One) (lo over 2 ^ B) (hi over 2 ^ B))
     → hi - lo ≤ layer_width limit attach (mean.hi - mean.lo) (spread g)
-    → IsValid plan → IsTotalOf plan g → IsMeanOf plan mean → Prints lo hi d row
-    → IsAnswerTo plan d (asks.LayerMean limit attach) row
+    → IsValid plan → IsTotalOf plan g → IsMeanOf plan mean → Prints (2 ^ B) lo hi d row
+    → IsAnswerTo (2 ^ B) plan d (asks.LayerMean limit attach) row
 unfolding ask_budget
-layer_answer plan g mean d attach lo hi limit row holds width valid t m printed =
-    declared_ends plan (Layer limit attach) lo hi d (layer_mean_budget S plan limit attach) row printed
+layer_answer {B} plan g mean d attach lo hi limit row holds width valid t m printed =
+    declared_ends B plan (Layer limit attach) lo hi d (layer_mean_budget (2 ^ B) plan limit attach) row printed
     (holds (aggregates_of plan) (plan_declared plan valid) t.encloses (λ none. m.holds))
     (omega (
       arith,
       width,
-      layer_narrow plan limit attach (mean.hi - mean.lo) (spread g)
+      layer_narrow (2 ^ B) plan limit attach (mean.hi - mean.lo) (spread g)
           (omega (arith, m.narrow)) t.narrow,
     ))
 
@@ -108,14 +112,15 @@ wider_tight us K L lo hi p d e same wider tight = λ x from inside before.
       at_least_wider _ _ _ _ both.1 (sub_le_both p p e d (le_refl p) wider),
     )
 
-ends_order : (g : List (Iv 56)) (x : ℕ) → IsGrid g → low_cdf (2 ^ 56) (low_at g) x ≤ℚ high_cdf (2 ^ 56) (high_at g) x
-ends_order g x grid =
-    over_le_over (count_below (suc x) (low_at g)) (min (2 ^ 56) (count_below (suc x) (high_at g))) (2 ^ 56) (pow_pos 56)
+ends_order : {B : ℕ} (g : List (Iv B)) (x : ℕ) → IsGrid g
+    → low_cdf (2 ^ B) (low_at g) x ≤ℚ high_cdf (2 ^ B) (high_at g) x
+ends_order {B} g x grid =
+    over_le_over (count_below (suc x) (low_at g)) (min (2 ^ B) (count_below (suc x) (high_at g))) (2 ^ B) (pow_pos B)
     (omega (arith, low_most g (suc x) grid, low_high g (suc x)))
 
-bracket_inside : (g : List (Iv 56)) (p : Fraction) (cells lo : ℕ) (hi : Option ℕ) → IsGrid g → length g ≡ cells
-    → IsFirstAtLeast (high_cdf (2 ^ 56) (high_at g)) p (length g) lo
-    → IsFirstFound (low_cdf (2 ^ 56) (low_at g)) p (length g) hi
+bracket_inside : {B : ℕ} (g : List (Iv B)) (p : Fraction) (cells lo : ℕ) (hi : Option ℕ) → IsGrid g → length g ≡ cells
+    → IsFirstAtLeast (high_cdf (2 ^ B) (high_at g)) p (length g) lo
+    → IsFirstFound (low_cdf (2 ^ B) (low_at g)) p (length g) hi
     → MatchOption hi (lo ≤ cells) (λ x. (lo ≤ x) × (x < cells))
 bracket_inside g p cells lo None grid same first found = omega (arith, first.within, same)
 bracket_inside g p cells lo (Some x) grid same first found = (not_after, omega (arith, found.0, same))
@@ -127,46 +132,46 @@ bracket_inside g p cells lo (Some x) grid same first found = (not_after, omega (
       | inr after ↦ after
     ]
 
-beyond_below : (us : List Aggregate) (g : List (Iv 56)) (p d : Fraction) (x : ℕ) → AreDeclarable us
+beyond_below : {B : ℕ} (us : List Aggregate) (g : List (Iv B)) (p d : Fraction) (x : ℕ) → AreDeclarable us
     → GridEncloses g (total us) → x < length g
-    → low_cdf (2 ^ 56) (low_at g) x <ℚ p → spread g over 2 ^ 56 ≤ℚ d
+    → low_cdf (2 ^ B) (low_at g) x <ℚ p → spread g over 2 ^ B ≤ℚ d
     → Below (partial_sums us (Cdf x)) (partial_sums us One) (p +ℚ d)
-beyond_below us g p d x units encloses inside below narrow =
-    let ends = cdf_ends us (2 ^ 56) (length g) (low_at g) (high_at g) units (pow_pos 56) encloses x inside in
-    let sum : min (2 ^ 56) (count_below (suc x) (high_at g)) over 2 ^ 56 ≤ℚ
-    (count_below (suc x) (low_at g) + spread g) over 2 ^ 56 =
-    over_le_over _ _ (2 ^ 56) (pow_pos 56) (omega (arith, apart g (suc x))) in
-    let parts : (count_below (suc x) (low_at g) + spread g) over 2 ^ 56
-    ≡ low_cdf (2 ^ 56) (low_at g) x +ℚ spread g over 2 ^ 56 =
-    over_plus (count_below (suc x) (low_at g)) (spread g) (2 ^ 56) (pow_pos 56) in
-    let high : high_cdf (2 ^ 56) (high_at g) x ≤ℚ low_cdf (2 ^ 56) (low_at g) x +ℚ d =
-    le_trans _ _ _ (subst (λ t. high_cdf (2 ^ 56) (high_at g) x ≤ℚ t) parts sum)
-    (plus_le_both _ _ _ _ (le_refl (low_cdf (2 ^ 56) (low_at g) x)) narrow) in
-    (low_cdf (2 ^ 56) (low_at g) x +ℚ d, plus_lt _ p d below, at_most_wider _ _ _ _ ends.1 high)
+beyond_below {B} us g p d x units encloses inside below narrow =
+    let ends = cdf_ends us (2 ^ B) (length g) (low_at g) (high_at g) units (pow_pos B) encloses x inside in
+    let sum : min (2 ^ B) (count_below (suc x) (high_at g)) over 2 ^ B ≤ℚ
+    (count_below (suc x) (low_at g) + spread g) over 2 ^ B =
+    over_le_over _ _ (2 ^ B) (pow_pos B) (omega (arith, apart g (suc x))) in
+    let parts : (count_below (suc x) (low_at g) + spread g) over 2 ^ B
+    ≡ low_cdf (2 ^ B) (low_at g) x +ℚ spread g over 2 ^ B =
+    over_plus (count_below (suc x) (low_at g)) (spread g) (2 ^ B) (pow_pos B) in
+    let high : high_cdf (2 ^ B) (high_at g) x ≤ℚ low_cdf (2 ^ B) (low_at g) x +ℚ d =
+    le_trans _ _ _ (subst (λ t. high_cdf (2 ^ B) (high_at g) x ≤ℚ t) parts sum)
+    (plus_le_both _ _ _ _ (le_refl (low_cdf (2 ^ B) (low_at g) x)) narrow) in
+    (low_cdf (2 ^ B) (low_at g) x +ℚ d, plus_lt _ p d below, at_most_wider _ _ _ _ ends.1 high)
 
 -- where the grid ends before p is reached, the distribution is below p there, or a little above
-pub ends_below : (plan : Plan) (g : List (Iv 56)) (p : Fraction)
-    → IsFirstAtLeast (low_cdf (2 ^ 56) (low_at g)) p (length g) (length g)
-    → IsValid plan → IsTotalOf plan g → IsBelow plan (at_the_end plan) (p +ℚ total_error plan)
-ends_below plan g p last valid t =
+pub ends_below : {B : ℕ} (plan : Plan) (g : List (Iv B)) (p : Fraction)
+    → IsFirstAtLeast (low_cdf (2 ^ B) (low_at g)) p (length g) (length g)
+    → IsValid plan → IsTotalOf plan g → IsBelow plan (at_the_end plan) (p +ℚ total_error (2 ^ B) plan)
+ends_below {B} plan g p last valid t =
     let some = few_cells plan valid in
-    beyond_below (aggregates_of plan) g p (total_error plan) (plan.cells - 1) (plan_units plan valid) t.encloses
+    beyond_below (aggregates_of plan) g p (total_error (2 ^ B) plan) (plan.cells - 1) (plan_units plan valid) t.encloses
     (omega (arith, t.cells, some.0))
     (last.before (plan.cells - 1) (omega (arith, t.cells, some.0)))
-    (over_le_over (spread g) (total_budget S plan) (2 ^ 56) (pow_pos 56) t.narrow)
+    (over_le_over (spread g) (total_budget (2 ^ B) plan) (2 ^ B) (pow_pos B) t.narrow)
 
-pub is_bracket : (plan : Plan) (g : List (Iv 56)) (p : Fraction) (lo : ℕ) (hi : Option ℕ) (row : Row)
+pub is_bracket : {B : ℕ} (plan : Plan) (g : List (Iv B)) (p : Fraction) (lo : ℕ) (hi : Option ℕ) (row : Row)
     → row.low ≡ Whole lo → row.high ≡ bracket_end hi
-    → IsFirstAtLeast (high_cdf (2 ^ 56) (high_at g)) p (length g) lo
-    → IsFirstFound (low_cdf (2 ^ 56) (low_at g)) p (length g) hi
+    → IsFirstAtLeast (high_cdf (2 ^ B) (high_at g)) p (length g) lo
+    → IsFirstFound (low_cdf (2 ^ B) (low_at g)) p (length g) hi
     → ((us : List Aggregate) → AreDeclarable us → GridEncloses g (total us) → IsBracketed us lo hi p)
     → ((us : List Aggregate) → AreDeclarable us → GridEncloses g (total us)
-    → IsTight us (length g) lo hi p (spread g over 2 ^ 56))
-    → IsGrid g → IsValid plan → IsTotalOf plan g → IsBracket plan p (total_error plan) row
-is_bracket plan g p lo hi row is_low is_high first found holds tight grid valid t =
+    → IsTight us (length g) lo hi p (spread g over 2 ^ B))
+    → IsGrid g → IsValid plan → IsTotalOf plan g → IsBracket plan p (total_error (2 ^ B) plan) row
+is_bracket {B} plan g p lo hi row is_low is_high first found holds tight grid valid t =
     let units = plan_units plan valid in
-    let narrow : spread g over 2 ^ 56 ≤ℚ total_budget S plan over 2 ^ 56 =
-    over_le_over (spread g) (total_budget S plan) (2 ^ 56) (pow_pos 56) t.narrow in
+    let narrow : spread g over 2 ^ B ≤ℚ total_budget (2 ^ B) plan over 2 ^ B =
+    over_le_over (spread g) (total_budget (2 ^ B) plan) (2 ^ B) (pow_pos B) t.narrow in
     record {
       lo = lo;
       hi = hi;
@@ -177,5 +182,5 @@ is_bracket plan g p lo hi row is_low is_high first found holds tight grid valid 
       tight = wider_tight (aggregates_of plan) (length g) plan.cells lo hi p _ _ t.cells narrow
           (tight (aggregates_of plan) units t.encloses);
       beyond = λ none. ends_below plan g p
-          (subst (λ (h : Option ℕ). IsFirstFound (low_cdf (2 ^ 56) (low_at g)) p (length g) h) none found) valid t;
+          (subst (λ (h : Option ℕ). IsFirstFound (low_cdf (2 ^ B) (low_at g)) p (length g) h) none found) valid t;
     }

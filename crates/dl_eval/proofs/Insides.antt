@@ -10,7 +10,7 @@ ask_has P all asks i a same is inside each = subst P (sym (is ∙ ap (λ t. get_
     (each i a (omega (arith, inside, ap (λ t. length t) same)))
 
 -- a layer inside the grid is one of the total that was made
-pub layer_inside : (cells : ℕ) (g : List (Iv 56)) (limit : Option ℕ) (attach : ℕ)
+pub layer_inside : {B : ℕ} (cells : ℕ) (g : List (Iv B)) (limit : Option ℕ) (attach : ℕ)
     → IsInside cells (LayerMean limit attach) → length g ≡ cells → edge_of limit attach ≤ length g
 layer_inside cells g None attach inside same = omega (arith, inside, same)
 layer_inside cells g (Some limit) attach inside same = omega (arith, inside, same)

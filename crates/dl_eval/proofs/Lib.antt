@@ -1,4 +1,5 @@
 mod Common
+mod Scales
 pub mod Lists
 pub mod Places
 pub mod Insides

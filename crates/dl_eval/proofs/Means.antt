@@ -1,5 +1,5 @@
 -- The mean of a total, from those of its units.
-use Rattle.dl_eval.proofs.Common.{ℕ, suc, ◌≡◌, ◌+◌, ◌-◌, ◌*◌, ◌^◌, ◌≤◌, List, [], ◌∷◌, length, map, arith, refl, sym, ap, subst, subst₂, ◌∙◌, Option, None, Some, All, mul-le-mul_left, pow_pos, Fraction, whole, ◌over◌, ◌+ℚ◌, Iv, spread, Holds, One, Mean, partial_sums, aggregate_of, unit_declared, CedeLayer, Plan, Clause, IsHorizonOf, horizon, IsValidUnit, IsValid, claims_budget, mean_width, unit_mean_budget, one_horizon, S, IsUnitMean, AreUnitMeans, IsMeanOf}
+use Rattle.dl_eval.proofs.Common.{ℕ, suc, ◌≡◌, ◌+◌, ◌-◌, ◌*◌, ◌^◌, ◌≤◌, List, [], ◌∷◌, length, map, arith, refl, sym, ap, subst, subst₂, ◌∙◌, Option, None, Some, All, mul-le-mul_left, pow_pos, Fraction, whole, ◌over◌, ◌+ℚ◌, Iv, spread, Holds, One, Mean, partial_sums, aggregate_of, unit_declared, CedeLayer, Plan, Clause, IsHorizonOf, horizon, IsValidUnit, IsValid, claims_budget, mean_width, unit_mean_budget, one_horizon, IsUnitMean, AreUnitMeans, IsMeanOf}
 use Rattle.std.specs.List.{sum_by}
 use Rattle.std.proofs.lemmas.List.Elements.{All-head, All-tail}
 use Rattle.std.proofs.lemmas.List.Sums.{sum_by-cons}
@@ -18,12 +18,12 @@ use Rattle.dl_cede.specs.Means.{HoldsClaims}
 
 -- ---- of a unit without a clause
 
-pub plain_mean : (cells : ℕ) (u : UnitOfPlan) (mean : Iv 56) → u.cede ≡ None → HoldsClaims u mean
+pub plain_mean : {B : ℕ} (cells : ℕ) (u : UnitOfPlan) (mean : Iv B) → u.cede ≡ None → HoldsClaims u mean
     → mean.hi ≤ mean.lo + 1 → IsUnitMean cells u mean
-plain_mean cells u mean none holds narrow = record {
-  holds = subst (λ a. Holds (partial_sums (a ∷ []) Mean) (partial_sums (a ∷ []) One) (mean.lo over 2 ^ 56)
-      (mean.hi over 2 ^ 56)) (sym (no_clause u none)) holds;
-  narrow = omega (arith, narrow, ap (λ c. clause_mean c (claims_budget (2 ^ 56) (horizon u.cede cells) u)) none);
+plain_mean {B} cells u mean none holds narrow = record {
+  holds = subst (λ a. Holds (partial_sums (a ∷ []) Mean) (partial_sums (a ∷ []) One) (mean.lo over 2 ^ B)
+      (mean.hi over 2 ^ B)) (sym (no_clause u none)) holds;
+  narrow = omega (arith, narrow, ap (λ c. clause_mean c (claims_budget (2 ^ B) (horizon u.cede cells) u)) none);
 }
 
 -- ---- of a unit with a clause
@@ -49,32 +49,32 @@ clause_rises : (v w : ℕ) (cede : Option Clause) → v ≤ w → mean_width ced
 clause_rises v w None h = omega arith
 clause_rises v w (Some clause) h = omega (arith, layers_rise v w clause.1 h)
 
-pub clause_unit_mean : (cells : ℕ) (u : UnitOfPlan) (g : List (Iv 56)) (mean : Iv 56) → IsValidUnit cells u
-    → Holds (partial_sums (aggregate_of u ∷ []) Mean) (partial_sums (aggregate_of u ∷ []) One) (mean.lo over 2 ^ 56)
-    (mean.hi over 2 ^ 56)
+pub clause_unit_mean : {B : ℕ} (cells : ℕ) (u : UnitOfPlan) (g : List (Iv B)) (mean : Iv B) → IsValidUnit cells u
+    → Holds (partial_sums (aggregate_of u ∷ []) Mean) (partial_sums (aggregate_of u ∷ []) One) (mean.lo over 2 ^ B)
+    (mean.hi over 2 ^ B)
     → mean.hi - mean.lo ≤ mean_width u.cede (spread g) → IsHorizonOf u.cede cells (length g)
-    → spread g ≤ claims_budget S (length g) u → IsUnitMean cells u mean
-clause_unit_mean cells u g mean valid holds width there narrow = record {
+    → spread g ≤ claims_budget (2 ^ B) (length g) u → IsUnitMean cells u mean
+clause_unit_mean {B} cells u g mean valid holds width there narrow = record {
   holds = holds;
   narrow =
       omega (
         arith,
         width,
-        clause_rises (spread g) (claims_budget (2 ^ 56) (horizon u.cede cells) u) u.cede
-            (subst (λ n. spread g ≤ claims_budget (2 ^ 56) n u)
+        clause_rises (spread g) (claims_budget (2 ^ B) (horizon u.cede cells) u) u.cede
+            (subst (λ n. spread g ≤ claims_budget (2 ^ B) n u)
             (one_horizon cells cells (length g) u valid there) narrow),
       );
 }
 
 -- ---- the sum
 
-abbrev lows : List (Iv 56) → ℕ
+abbrev lows : {B : ℕ} → List (Iv B) → ℕ
 lows means = sum_by (λ mean. mean.lo) means
 
-abbrev highs : List (Iv 56) → ℕ
+abbrev highs : {B : ℕ} → List (Iv B) → ℕ
 highs means = sum_by (λ mean. mean.hi) means
 
-later_means : (cells : ℕ) (u : UnitOfPlan) (us : List UnitOfPlan) (m : Iv 56) (means : List (Iv 56))
+later_means : {B : ℕ} (cells : ℕ) (u : UnitOfPlan) (us : List UnitOfPlan) (m : Iv B) (means : List (Iv B))
     → AreUnitMeans cells (u ∷ us) (m ∷ means) → AreUnitMeans cells us means
 later_means cells u us m means each = record {
   as_many = omega (arith, each.as_many);
@@ -84,67 +84,67 @@ later_means cells u us m means each = record {
 nothing : UnitOfPlan → Fraction
 nothing u = whole 0
 
-no_units : MeanHolds [] (0 over 2 ^ 56) (0 over 2 ^ 56)
+no_units : (B : ℕ) → MeanHolds [] (0 over 2 ^ B) (0 over 2 ^ B)
 unfolding sum_over
-no_units =
-    subst (λ v. MeanHolds [] v v) (sym (over_same 0 (2 ^ 56) 0 1 (pow_pos 56) one_pos refl))
+no_units B =
+    subst (λ v. MeanHolds [] v v) (sym (over_same 0 (2 ^ B) 0 1 (pow_pos B) one_pos (omega arith)))
     (units_mean 0 nothing nothing [] (λ i d inside. absurd (omega (arith, inside)))
     (λ i d inside. absurd (omega (arith, inside))))
 
-means_hold : (cells : ℕ) (us : List UnitOfPlan) (means : List (Iv 56)) → All (IsValidUnit cells) us
+means_hold : {B : ℕ} (cells : ℕ) (us : List UnitOfPlan) (means : List (Iv B)) → All (IsValidUnit cells) us
     → AreUnitMeans cells us means
-    → MeanHolds us (lows means over 2 ^ 56) (highs means over 2 ^ 56)
-means_hold cells [] [] valid each = no_units
-means_hold cells [] (m ∷ means) valid each = absurd (omega (arith, each.as_many))
-means_hold cells (u ∷ us) [] valid each = absurd (omega (arith, each.as_many))
-means_hold cells (u ∷ us) (m ∷ means) valid each =
+    → MeanHolds us (lows means over 2 ^ B) (highs means over 2 ^ B)
+means_hold {B} cells [] [] valid each = no_units B
+means_hold {B} cells [] (m ∷ means) valid each = absurd (omega (arith, each.as_many))
+means_hold {B} cells (u ∷ us) [] valid each = absurd (omega (arith, each.as_many))
+means_hold {B} cells (u ∷ us) (m ∷ means) valid each =
     let rest = All-tail (IsValidUnit cells) u us valid in
-    let low : (m.lo + lows means) over 2 ^ 56 ≡ m.lo over 2 ^ 56 +ℚ lows means over 2 ^ 56 =
-    over_plus m.lo (lows means) (2 ^ 56) (pow_pos 56) in
-    let high : (m.hi + highs means) over 2 ^ 56 ≡ m.hi over 2 ^ 56 +ℚ highs means over 2 ^ 56 =
-    over_plus m.hi (highs means) (2 ^ 56) (pow_pos 56) in
-    let sums : MeanHolds (u ∷ us) (m.lo over 2 ^ 56 +ℚ lows means over 2 ^ 56)
-    (m.hi over 2 ^ 56 +ℚ highs means over 2 ^ 56) =
+    let low : (m.lo + lows means) over 2 ^ B ≡ m.lo over 2 ^ B +ℚ lows means over 2 ^ B =
+    over_plus m.lo (lows means) (2 ^ B) (pow_pos B) in
+    let high : (m.hi + highs means) over 2 ^ B ≡ m.hi over 2 ^ B +ℚ highs means over 2 ^ B =
+    over_plus m.hi (highs means) (2 ^ B) (pow_pos B) in
+    let sums : MeanHolds (u ∷ us) (m.lo over 2 ^ B +ℚ lows means over 2 ^ B)
+    (m.hi over 2 ^ B +ℚ highs means over 2 ^ B) =
     mean_of_total (aggregate_of u) (map aggregate_of us)
     (unit_declared cells u (All-head (IsValidUnit cells) u us valid)).unit
-    (are_units (map aggregate_of us) (units_declared cells us rest)) (m.lo over 2 ^ 56) (m.hi over 2 ^ 56)
-    (lows means over 2 ^ 56) (highs means over 2 ^ 56)
+    (are_units (map aggregate_of us) (units_declared cells us rest)) (m.lo over 2 ^ B) (m.hi over 2 ^ B)
+    (lows means over 2 ^ B) (highs means over 2 ^ B)
     (each.each 0 u m (omega arith)).holds (means_hold cells us means rest (later_means cells u us m means each)) in
     subst₂ (MeanHolds (u ∷ us))
-    (sym low ∙ ap (λ t. t over 2 ^ 56) (sym (sum_by-cons (λ (mean : Iv 56). mean.lo) m means)))
-    (sym high ∙ ap (λ t. t over 2 ^ 56) (sym (sum_by-cons (λ (mean : Iv 56). mean.hi) m means))) sums
+    (sym low ∙ ap (λ t. t over 2 ^ B) (sym (sum_by-cons (λ (mean : Iv B). mean.lo) m means)))
+    (sym high ∙ ap (λ t. t over 2 ^ B) (sym (sum_by-cons (λ (mean : Iv B). mean.hi) m means))) sums
 
-means_narrow : (cells : ℕ) (us : List UnitOfPlan) (means : List (Iv 56)) → AreUnitMeans cells us means
-    → highs means ≤ lows means + sum_by (unit_mean_budget (2 ^ 56) cells) us
-means_narrow cells [] [] each = omega arith
-means_narrow cells [] (m ∷ means) each = absurd (omega (arith, each.as_many))
-means_narrow cells (u ∷ us) [] each = absurd (omega (arith, each.as_many))
-means_narrow cells (u ∷ us) (m ∷ means) each =
+means_narrow : {B : ℕ} (cells : ℕ) (us : List UnitOfPlan) (means : List (Iv B)) → AreUnitMeans cells us means
+    → highs means ≤ lows means + sum_by (unit_mean_budget (2 ^ B) cells) us
+means_narrow {B} cells [] [] each = omega arith
+means_narrow {B} cells [] (m ∷ means) each = absurd (omega (arith, each.as_many))
+means_narrow {B} cells (u ∷ us) [] each = absurd (omega (arith, each.as_many))
+means_narrow {B} cells (u ∷ us) (m ∷ means) each =
     omega (
       arith,
       (each.each 0 u m (omega arith)).narrow,
       means_narrow cells us means (later_means cells u us m means each),
-      sum_by-cons (λ (mean : Iv 56). mean.lo) m means,
-      sum_by-cons (λ (mean : Iv 56). mean.hi) m means,
-      sum_by-cons (unit_mean_budget (2 ^ 56) cells) u us,
+      sum_by-cons (λ (mean : Iv B). mean.lo) m means,
+      sum_by-cons (λ (mean : Iv B). mean.hi) m means,
+      sum_by-cons (unit_mean_budget (2 ^ B) cells) u us,
     )
 
-pub means_small : (means : List (Iv 56)) → length means ≤ 16 → All (λ mean. mean.hi ≤ 2 ^ 93) means
+pub means_small : {B : ℕ} (means : List (Iv B)) → length means ≤ 16 → All (λ mean. mean.hi ≤ 2 ^ 93) means
     → sum_by (λ mean. mean.hi) means ≤ 2 ^ 97
-means_small means few small = omega (arith, few, sum_small means small)
+means_small {B} means few small = omega (arith, few, sum_small means small)
   where
-    sum_small : (means : List (Iv 56)) → All (λ mean. mean.hi ≤ 2 ^ 93) means → highs means ≤ length means * 2 ^ 93
+    sum_small : (means : List (Iv B)) → All (λ mean. mean.hi ≤ 2 ^ 93) means → highs means ≤ length means * 2 ^ 93
     sum_small [] small = omega arith
     sum_small (m ∷ means) small =
         omega (
           arith,
           small 0 m (omega arith),
           sum_small means
-              (All-tail (λ (mean : Iv 56). mean.hi ≤ 2 ^ 93) m means small),
-          sum_by-cons (λ (mean : Iv 56). mean.hi) m means,
+              (All-tail (λ (mean : Iv B). mean.hi ≤ 2 ^ 93) m means small),
+          sum_by-cons (λ (mean : Iv B). mean.hi) m means,
         )
 
-pub is_mean : (means : List (Iv 56)) (mean : Iv 56) → mean.lo ≡ sum_by (λ mean. mean.lo) means
+pub is_mean : {B : ℕ} (means : List (Iv B)) (mean : Iv B) → mean.lo ≡ sum_by (λ mean. mean.lo) means
     → mean.hi ≡ sum_by (λ mean. mean.hi) means
     → (plan : Plan) → IsValid plan → AreUnitMeans plan.cells plan.units means → IsMeanOf plan mean
 is_mean means mean low high plan valid each = record {

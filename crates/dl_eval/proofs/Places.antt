@@ -24,28 +24,28 @@ horizon_there plan units i u same is inside valid =
 -- ---- grids
 
 -- the spread of a unit's grid is within its budget
-pub spread_within : (plan : Plan) (units : List UnitOfPlan) (grids slice : List (List (Iv 56))) (u : UnitOfPlan)
-    (g : List (Iv 56)) (i budget : ℕ)
+pub spread_within : {B : ℕ} (plan : Plan) (units : List UnitOfPlan) (grids slice : List (List (Iv B))) (u : UnitOfPlan)
+    (g : List (Iv B)) (i budget : ℕ)
     → units ≡ plan.units → u ≡ get_or units i u → slice ≡ grids → g ≡ get_or slice i g → i < length plan.units
     → AreUnitGrids plan.cells plan.units grids
-    → budget ≡ unit_budget (2 ^ 56) plan.cells u → spread g ≤ budget
-spread_within plan units grids slice u g i budget same is sliced read inside each value =
+    → budget ≡ unit_budget (2 ^ B) plan.cells u → spread g ≤ budget
+spread_within {B} plan units grids slice u g i budget same is sliced read inside each value =
     let v : UnitOfPlan = get_or plan.units i u in
     let e : u ≡ v = is ∙ ap (λ t. get_or t i u) same in
-    let narrow : spread (get_or grids i []) ≤ unit_budget (2 ^ 56) plan.cells v = (each.each i u inside).narrow in
+    let narrow : spread (get_or grids i []) ≤ unit_budget (2 ^ B) plan.cells v = (each.each i u inside).narrow in
     omega (
       arith,
       narrow,
       ap spread (read_as slice grids i g [] sliced read (omega (arith, inside, each.as_many))),
-      ap (unit_budget (2 ^ 56) plan.cells) e,
+      ap (unit_budget (2 ^ B) plan.cells) e,
       value,
     )
 
 -- the grid of all other units that was read there
-pub others_there : (plan : Plan) (slice others : List (Option (List (Iv 56)))) (i : ℕ) (read : Option (List (Iv 56)))
-    (g : List (Iv 56))
+pub others_there : {B : ℕ} (plan : Plan) (slice others : List (Option (List (Iv B)))) (i : ℕ)
+    (read : Option (List (Iv B))) (g : List (Iv B))
     → slice ≡ others → read ≡ get_or slice i read → read ≡ Some g → i < length plan.units → AreOthers plan others
     → AreOthersOf plan i g
-others_there plan slice others i read g same is there inside all =
-    subst (λ (o : Option (List (Iv 56))). IfSome o (AreOthersOf plan i))
+others_there {B} plan slice others i read g same is there inside all =
+    subst (λ (o : Option (List (Iv B))). IfSome o (AreOthersOf plan i))
     (sym (read_as slice others i read None same is (omega (arith, inside, all.as_many))) ∙ there) (all.each i inside)

@@ -4,7 +4,7 @@ use Rattle.std.proofs.Common.{◌/◌}
 use Rattle.std.proofs.Math.Nat.{le_of_mul-le-mul_right, one-le-pow}
 use Rattle.dl_exact.proofs.Over.{over_le}
 use Rattle.dl_model.specs.Program.{Quantity}
-use Rattle.dl_eval.specs.Rows.{S as one, AreRowEnds}
+use Rattle.dl_eval.specs.Rows.{AreRowEnds}
 
 floor_least : (l S : ℕ) → 0 < S → l < (l / S + 1) * S
 floor_least l S pos = grind arith
@@ -53,21 +53,24 @@ pub tail_widens : (plan : Plan) (p : Fraction) → Widens (DeclaresTail plan p)
 tail_widens plan p l m h k low high holds = λ q is. given_widens plan One (Tail p q) l m h k low high (holds q is)
 
 -- what is printed holds what lies between the ends
-pub are_ends : (LiesBetween : Fraction → Fraction → Type 0) (lo hi d budget : ℕ) (row : Row) → Widens LiesBetween
-    → Prints lo hi d row
-    → LiesBetween (lo over one) (hi over one) → hi ≤ lo + budget → AreRowEnds LiesBetween d (in_digits one budget d) row
-are_ends LiesBetween lo hi d budget row widens printed holds apart = record {
-  low = lo * 10 ^ d / one;
-  high = div_ceil (hi * 10 ^ d) one;
+pub are_ends : (B : ℕ) (LiesBetween : Fraction → Fraction → Type 0) (lo hi d budget : ℕ) (row : Row)
+    → Widens LiesBetween
+    → Prints (2 ^ B) lo hi d row
+    → LiesBetween (lo over 2 ^ B) (hi over 2 ^ B) → hi ≤ lo + budget
+    → AreRowEnds LiesBetween d (in_digits (2 ^ B) budget d) row
+are_ends B LiesBetween lo hi d budget row widens printed holds apart = record {
+  low = lo * 10 ^ d / 2 ^ B;
+  high = div_ceil (hi * 10 ^ d) (2 ^ B);
   is_low = printed.is_low;
   is_high = printed.is_high;
-  order = floor_ceiling one (lo * 10 ^ d) (hi * 10 ^ d) (pow_pos 56) (mul-le-mul_right (10 ^ d) printed.ordered);
-  narrow = printed_apart one lo hi budget d (pow_pos 56) apart;
-  holds = widens _ _ _ _ (floor_over one lo d (pow_pos 56)) (ceiling_over one hi d (pow_pos 56)) holds;
+  order = floor_ceiling (2 ^ B) (lo * 10 ^ d) (hi * 10 ^ d) (pow_pos B) (mul-le-mul_right (10 ^ d) printed.ordered);
+  narrow = printed_apart (2 ^ B) lo hi budget d (pow_pos B) apart;
+  holds = widens _ _ _ _ (floor_over (2 ^ B) lo d (pow_pos B)) (ceiling_over (2 ^ B) hi d (pow_pos B)) holds;
 }
 
-pub declared_ends : (plan : Plan) (quantity : Quantity) (lo hi d budget : ℕ) (row : Row) → Prints lo hi d row
-    → Declares plan quantity (lo over one) (hi over one)
-    → hi ≤ lo + budget → AreRowEnds (Declares plan quantity) d (in_digits one budget d) row
-declared_ends plan quantity lo hi d budget row printed holds apart =
-    are_ends (Declares plan quantity) lo hi d budget row (given_widens plan One quantity) printed holds apart
+pub declared_ends : (B : ℕ) (plan : Plan) (quantity : Quantity) (lo hi d budget : ℕ) (row : Row)
+    → Prints (2 ^ B) lo hi d row
+    → Declares plan quantity (lo over 2 ^ B) (hi over 2 ^ B)
+    → hi ≤ lo + budget → AreRowEnds (Declares plan quantity) d (in_digits (2 ^ B) budget d) row
+declared_ends B plan quantity lo hi d budget row printed holds apart =
+    are_ends B (Declares plan quantity) lo hi d budget row (given_widens plan One quantity) printed holds apart

@@ -1,5 +1,5 @@
 -- The share of a unit in a total, from the grids of the unit, of all others and of the total.
-use Rattle.dl_eval.proofs.Common.{ℕ, ◌≡◌, ◌+◌, ◌-◌, ◌*◌, ◌^◌, ◌<◌, ◌≤◌, List, [], length, get_or, arith, sym, subst, mul-le-mul_left, pow_pos, length-map, Fraction, ◌over◌, ◌+ℚ◌, ◌≤ℚ◌, ◌<ℚ◌, Iv, over_le_over, low_at, high_at, spread, cv, cv_rises, Holds, Aggregate, AreDeclarable, One, Point, partial_sums, total, GridEncloses, unit_of, AreDeclared, aggregate_of, aggregates_of, at_most_wider, plan_declared, plan_units, Plan, IsValid, Row, unit_budgets, total_budget, place_of, tail_budget, ask_budget, in_digits, S, DeclaresGiven, IsBelow, IsTailMean, IsAnswerTo, total_error, AreUnitGrids, IsTotalOf, AreOthersOf, Prints}
+use Rattle.dl_eval.proofs.Common.{ℕ, ◌≡◌, ◌+◌, ◌-◌, ◌*◌, ◌^◌, ◌<◌, ◌≤◌, List, [], length, get_or, arith, sym, subst, mul-le-mul_left, pow_pos, length-map, Fraction, ◌over◌, ◌+ℚ◌, ◌≤ℚ◌, ◌<ℚ◌, Iv, over_le_over, low_at, high_at, spread, cv, cv_rises, Holds, Aggregate, AreDeclarable, One, Point, partial_sums, total, GridEncloses, unit_of, AreDeclared, aggregate_of, aggregates_of, at_most_wider, plan_declared, plan_units, Plan, IsValid, Row, unit_budgets, total_budget, place_of, tail_budget, ask_budget, in_digits, DeclaresGiven, IsBelow, IsTailMean, IsAnswerTo, total_error, AreUnitGrids, IsTotalOf, AreOthersOf, Prints}
 use Rattle.std.proofs.Common.{◌⊎◌}
 use Rattle.std.proofs.Math.Nat.{mul-le-mul}
 use Rattle.dl_exact.proofs.Over.{over_lt}
@@ -18,20 +18,20 @@ use Rattle.dl_eval.proofs.GoodRows.{cell_apart, plus_lt}
 
 -- ---- joint means
 
-joint_width : (S K u v x y : ℕ) (g : List (Iv 56)) → 0 < S → length g ≡ K → u ≤ x → v ≤ y
+joint_width : {B : ℕ} (S K u v x y : ℕ) (g : List (Iv B)) → 0 < S → length g ≡ K → u ≤ x → v ≤ y
     → length g * cv S (length g) u v ≤ K * cv S K x y
 joint_width S K u v x y g pos same p q =
     subst (λ n. n * cv S n u v ≤ K * cv S K x y) (sym same)
     (mul-le-mul_left K (cv_rises S K K u x v y pos (omega arith) p q))
 
-pub is_joint : (plan : Plan) (grids : List (List (Iv 56))) (unit others : List (Iv 56)) (i at : ℕ) (mean : Iv 56)
+pub is_joint : {B : ℕ} (plan : Plan) (grids : List (List (Iv B))) (unit others : List (Iv B)) (i at : ℕ) (mean : Iv B)
     → ((us : List Aggregate) (j : ℕ) → AreDeclarable us → j < length us → GridEncloses unit (unit_of us j)
     → GridEncloses others (total (without us j))
-    → Holds (partial_sums us (Joint j at)) (partial_sums us One) (mean.lo over 2 ^ 56) (mean.hi over 2 ^ 56))
-    → mean.hi - mean.lo ≤ length unit * cv (2 ^ 56) (length unit) (spread unit) (spread others)
+    → Holds (partial_sums us (Joint j at)) (partial_sums us One) (mean.lo over 2 ^ B) (mean.hi over 2 ^ B))
+    → mean.hi - mean.lo ≤ length unit * cv (2 ^ B) (length unit) (spread unit) (spread others)
     → unit ≡ get_or grids i [] → i < length plan.units → IsValid plan → AreUnitGrids plan.cells plan.units grids
     → AreOthersOf plan i others → IsJointOf plan i at mean
-is_joint plan grids unit others i at mean holds width is inside valid units rest = record {
+is_joint {B} plan grids unit others i at mean holds width is inside valid units rest = record {
   holds = holds (aggregates_of plan) i (plan_units plan valid)
       (omega (arith, inside, length-map plan.units aggregate_of))
       (subst (λ g. GridEncloses g (unit_of (aggregates_of plan) i)) (sym is)
@@ -42,20 +42,21 @@ is_joint plan grids unit others i at mean holds width is inside valid units rest
     same : length unit ≡ plan.cells
     same = each_cells plan.cells plan.units grids unit i is inside units
 
-    wide : length unit * cv (2 ^ 56) (length unit) (spread unit) (spread others) ≤ joint_budget S plan i
-    wide = joint_width (2 ^ 56) plan.cells (spread unit) (spread others)
-        (get_or (unit_budgets S plan.cells plan.units) i 0) (others_budget S plan i) unit (pow_pos 56) same
-        (subst (λ g. spread g ≤ get_or (unit_budgets S plan.cells plan.units) i 0) (sym is)
+    wide : length unit * cv (2 ^ B) (length unit) (spread unit) (spread others) ≤ joint_budget (2 ^ B) plan i
+    wide = joint_width (2 ^ B) plan.cells (spread unit) (spread others)
+        (get_or (unit_budgets (2 ^ B) plan.cells plan.units) i 0) (others_budget (2 ^ B) plan i) unit (pow_pos B) same
+        (subst (λ g. spread g ≤ get_or (unit_budgets (2 ^ B) plan.cells plan.units) i 0) (sym is)
         (unit_narrow plan.cells plan.units grids i inside units)) rest.narrow
 
 -- a unit has at most the whole of a total
-pub is_below : (plan : Plan) (grids : List (List (Iv 56))) (unit others : List (Iv 56)) (i at low : ℕ)
+pub is_below : {B : ℕ} (plan : Plan) (grids : List (List (Iv B))) (unit others : List (Iv B)) (i at low : ℕ)
     → ((us : List Aggregate) (j h : ℕ) → AreDeclared us → j < length us → GridEncloses unit (unit_of us j)
     → GridEncloses others (total (without us j))
-    → AtMost (partial_sums us (Point at)) (partial_sums us One) (h over 2 ^ 56) → low ≤ at * h)
+    → AtMost (partial_sums us (Point at)) (partial_sums us One) (h over 2 ^ B) → low ≤ at * h)
     → unit ≡ get_or grids i [] → i < length plan.units → IsValid plan → AreUnitGrids plan.cells plan.units grids
     → GridEncloses others (total (without (aggregates_of plan) i))
-    → (h : ℕ) → AtMost (partial_sums (aggregates_of plan) (Point at)) (partial_sums (aggregates_of plan) One) (h over S)
+    → (h : ℕ)
+    → AtMost (partial_sums (aggregates_of plan) (Point at)) (partial_sums (aggregates_of plan) One) (h over 2 ^ B)
     → low ≤ at * h
 is_below plan grids unit others i at low below is inside valid units rest h most =
     below (aggregates_of plan) i h (plan_declared plan valid)
@@ -76,80 +77,82 @@ share_width K D J at low high l h w inside cell joint width =
     narrow_cell : (low high D : ℕ) → high ≤ low + D → high - low ≤ D
     narrow_cell low high D cell = omega (arith, cell)
 
-pub cell_holds : (plan : Plan) (g : List (Iv 56)) (at low high : ℕ) → low ≡ low_at g at → high ≡ high_at g at
+pub cell_holds : {B : ℕ} (plan : Plan) (g : List (Iv B)) (at low high : ℕ) → low ≡ low_at g at → high ≡ high_at g at
     → at < plan.cells → IsTotalOf plan g
-    → Holds (partial_sums (aggregates_of plan) (Point at)) (partial_sums (aggregates_of plan) One) (low over S)
-    (high over S)
+    → Holds (partial_sums (aggregates_of plan) (Point at)) (partial_sums (aggregates_of plan) One) (low over 2 ^ B)
+    (high over 2 ^ B)
 cell_holds plan g at low high of_low of_high inside t =
     rw (of_low, of_high) (t.encloses at (omega (arith, inside, t.cells)))
 
-pub share_answer : (plan : Plan) (g : List (Iv 56)) (joint : Iv 56) (i at low high d lo hi : ℕ) (row : Row)
+pub share_answer : {B : ℕ} (plan : Plan) (g : List (Iv B)) (joint : Iv B) (i at low high d lo hi : ℕ) (row : Row)
     → low ≡ low_at g at → high ≡ high_at g at
-    → ((Q R O : Series) → Holds Q O (joint.lo over 2 ^ 56) (joint.hi over 2 ^ 56)
-    → Holds R O (low over 2 ^ 56) (high over 2 ^ 56)
-    → AtLeast R O (1 over 2 ^ 16) × Holds Q R (lo over 2 ^ 56) (hi over 2 ^ 56))
+    → ((Q R O : Series) → Holds Q O (joint.lo over 2 ^ B) (joint.hi over 2 ^ B)
+    → Holds R O (low over 2 ^ B) (high over 2 ^ B)
+    → AtLeast R O (1 over 2 ^ 16) × Holds Q R (lo over 2 ^ B) (hi over 2 ^ B))
     → ((k : ℕ) → joint.lo ≤ k * high → hi - lo ≤ 2 ^ 16 * (k * (high - low) + (joint.hi - joint.lo)) + 2)
     → ((h : ℕ) → AtMost (partial_sums (aggregates_of plan) (Point at)) (partial_sums (aggregates_of plan) One)
-    (h over S) → joint.lo ≤ at * h)
-    → at < plan.cells → IsTotalOf plan g → IsJointOf plan i at joint → Prints lo hi d row
-    → IsShareOfUnit plan i at d (in_digits S (kappa_budget S plan i) d) row
-share_answer plan g joint i at low high d lo hi row of_low of_high divided width below inside t j printed =
-    let cell : Holds (partial_sums (aggregates_of plan) (Point at)) (partial_sums (aggregates_of plan) One) (low over S)
-    (high over S) =
+    (h over 2 ^ B) → joint.lo ≤ at * h)
+    → at < plan.cells → IsTotalOf plan g → IsJointOf plan i at joint → Prints (2 ^ B) lo hi d row
+    → IsShareOfUnit plan i at d (in_digits (2 ^ B) (kappa_budget (2 ^ B) plan i) d) row
+share_answer {B} plan g joint i at low high d lo hi row of_low of_high divided width below inside t j printed =
+    let cell : Holds (partial_sums (aggregates_of plan) (Point at)) (partial_sums (aggregates_of plan) One)
+    (low over 2 ^ B) (high over 2 ^ B) =
     cell_holds plan g at low high of_low of_high inside t in
     let both = divided (partial_sums (aggregates_of plan) (Joint i at)) (partial_sums (aggregates_of plan) (Point at))
     (partial_sums (aggregates_of plan) One) j.holds cell in
-    let apart : high ≤ low + total_budget S plan = omega (arith, of_low, of_high, cell_apart g at, t.narrow) in
+    let apart : high ≤ low + total_budget (2 ^ B) plan = omega (arith, of_low, of_high, cell_apart g at, t.narrow) in
     record {
       likely = both.0;
-      ends = are_ends (DeclaresGiven plan (Point at) (Joint i at)) lo hi d (kappa_budget S plan i) row
+      ends = are_ends B (DeclaresGiven plan (Point at) (Joint i at)) lo hi d (kappa_budget (2 ^ B) plan i) row
           (given_widens plan (Point at) (Joint i at)) printed both.1
           (omega (
             arith,
-            share_width plan.cells (total_budget S plan)
-                (joint_budget S plan i) at low high joint.lo joint.hi (hi - lo) (omega (arith, inside)) apart j.narrow
+            share_width plan.cells (total_budget (2 ^ B) plan)
+                (joint_budget (2 ^ B) plan i) at low high joint.lo joint.hi (hi - lo) (omega (arith, inside)) apart
+                j.narrow
                 (width at (below high cell.1)),
           ));
     }
 
 -- ---- totals that are too rare
 
-pub rare_answer : (plan : Plan) (g : List (Iv 56)) (at low high : ℕ) → low ≡ low_at g at → high ≡ high_at g at
-    → low * 2 ^ 16 < 2 ^ 56
-    → at < plan.cells → IsTotalOf plan g → IsBelow plan (Point at) (least_likely +ℚ total_error plan)
-rare_answer plan g at low high of_low of_high rare inside t =
-    let D : ℕ = total_budget S plan in
+pub rare_answer : {B : ℕ} (plan : Plan) (g : List (Iv B)) (at low high : ℕ) → low ≡ low_at g at → high ≡ high_at g at
+    → low * 2 ^ 16 < 2 ^ B
+    → at < plan.cells → IsTotalOf plan g → IsBelow plan (Point at) (least_likely +ℚ total_error (2 ^ B) plan)
+rare_answer {B} plan g at low high of_low of_high rare inside t =
+    let D : ℕ = total_budget (2 ^ B) plan in
     let cell = cell_holds plan g at low high of_low of_high inside t in
-    let sum : high over 2 ^ 56 ≤ℚ (low + D) over 2 ^ 56 =
-    over_le_over high (low + D) (2 ^ 56) (pow_pos 56) (omega (arith, of_low, of_high, cell_apart g at, t.narrow)) in
-    let less : low over 2 ^ 56 <ℚ 1 over 2 ^ 16 = over_lt low (2 ^ 56) 1 (2 ^ 16) (pow_pos 56) (omega arith)
+    let sum : high over 2 ^ B ≤ℚ (low + D) over 2 ^ B =
+    over_le_over high (low + D) (2 ^ B) (pow_pos B) (omega (arith, of_low, of_high, cell_apart g at, t.narrow)) in
+    let less : low over 2 ^ B <ℚ 1 over 2 ^ 16 = over_lt low (2 ^ B) 1 (2 ^ 16) (pow_pos B) (omega arith)
     (omega (arith, rare)) in (
-      low over 2 ^ 56 +ℚ D over 2 ^ 56,
-      plus_lt (low over 2 ^ 56) (1 over 2 ^ 16) (D over 2 ^ 56) less,
-      at_most_wider _ _ _ _ cell.1 (subst (λ t. high over 2 ^ 56 ≤ℚ t) (over_plus low D (2 ^ 56) (pow_pos 56)) sum),
+      low over 2 ^ B +ℚ D over 2 ^ B,
+      plus_lt (low over 2 ^ B) (1 over 2 ^ 16) (D over 2 ^ B) less,
+      at_most_wider _ _ _ _ cell.1 (subst (λ t. high over 2 ^ B ≤ℚ t) (over_plus low D (2 ^ B) (pow_pos B)) sum),
     )
 
 -- ---- what is asked
 
-pub joint_asked : (plan : Plan) (unit : List ℕ) (at i d : ℕ) (mean : Iv 56) (row : Row) → i ≡ place_of unit plan.units
+pub joint_asked : {B : ℕ} (plan : Plan) (unit : List ℕ) (at i d : ℕ) (mean : Iv B) (row : Row)
+    → i ≡ place_of unit plan.units
     → IsJointOf plan i at mean
-    → Prints mean.lo mean.hi d row → IsAnswerTo plan d (asks.Joint unit at) row
+    → Prints (2 ^ B) mean.lo mean.hi d row → IsAnswerTo (2 ^ B) plan d (asks.Joint unit at) row
 unfolding ask_budget
-joint_asked plan unit at i d mean row place joint printed =
+joint_asked {B} plan unit at i d mean row place joint printed =
     let there : IsJointOf plan (place_of unit plan.units) at mean = subst (λ n. IsJointOf plan n at mean) place joint in
-    declared_ends plan (Joint (place_of unit plan.units) at) mean.lo mean.hi d
-    (joint_budget S plan (place_of unit plan.units)) row printed there.holds there.narrow
+    declared_ends B plan (Joint (place_of unit plan.units) at) mean.lo mean.hi d
+    (joint_budget (2 ^ B) plan (place_of unit plan.units)) row printed there.holds there.narrow
 
-pub share_asked : (plan : Plan) (unit : List ℕ) (at i d : ℕ) (row : Row) → i ≡ place_of unit plan.units
-    → IsShareOfUnit plan i at d (in_digits S (kappa_budget S plan i) d) row ⊎ IsTooRare plan at (total_error plan) row
-    → IsAnswerTo plan d (asks.Kappa unit at) row
+pub share_asked : (S : ℕ) (plan : Plan) (unit : List ℕ) (at i d : ℕ) (row : Row) → i ≡ place_of unit plan.units
+    → IsShareOfUnit plan i at d (in_digits S (kappa_budget S plan i) d) row ⊎ IsTooRare plan at (total_error S plan) row
+    → IsAnswerTo S plan d (asks.Kappa unit at) row
 unfolding ask_budget
-share_asked plan unit at i d row place told =
+share_asked S plan unit at i d row place told =
     subst (λ n. IsShareOfUnit plan n at d (in_digits S (kappa_budget S plan n) d) row
-    ⊎ IsTooRare plan at (total_error plan) row) place told
+    ⊎ IsTooRare plan at (total_error S plan) row) place told
 
-pub tail_asked : (plan : Plan) (p : Fraction) (d : ℕ) (row : Row)
-    → IsTailMean plan p d (in_digits S (tail_budget S plan p) d) row ⊎ IsBeyond plan p (total_error plan) row
-    → IsAnswerTo plan d (asks.Tail p) row
+pub tail_asked : (S : ℕ) (plan : Plan) (p : Fraction) (d : ℕ) (row : Row)
+    → IsTailMean plan p d (in_digits S (tail_budget S plan p) d) row ⊎ IsBeyond plan p (total_error S plan) row
+    → IsAnswerTo S plan d (asks.Tail p) row
 unfolding ask_budget
-tail_asked plan p d row told = told
+tail_asked S plan p d row told = told

@@ -1,5 +1,5 @@
 -- The answer to an ask for a tail mean.
-use Rattle.dl_eval.proofs.Common.{ℕ, suc, ◌≡◌, ◌+◌, ◌-◌, ◌*◌, ◌^◌, ◌<◌, ◌≤◌, List, length, arith, inl, inr, sym, subst, div_ceil, mul-le-mul_left, mul-le-mul_right, pow_pos, div_ceil_times, Fraction, ◌over◌, ◌≤ℚ◌, ◌<ℚ◌, le_trans, lt_or_le, lt_not_le, div_ceil_least, Iv, over_le_over, low_at, high_at, spread, up_quotient, count_below, Holds, Aggregate, One, Mean, Tail, partial_sums, total, GridEncloses, AreDeclared, low_cdf, aggregates_of, at_least_wider, cdf_ends, plan_declared, plan_units, IsFirstAtLeast, Plan, IsValid, Row, total_budget, mean_budget, tail_budget, in_digits, few_cells, S, at_the_end, IsTailMean, DeclaresTail, IsTotalOf, IsMeanOf, Prints}
+use Rattle.dl_eval.proofs.Common.{ℕ, suc, ◌≡◌, ◌+◌, ◌-◌, ◌*◌, ◌^◌, ◌<◌, ◌≤◌, List, length, arith, inl, inr, sym, subst, div_ceil, mul-le-mul_left, mul-le-mul_right, pow_pos, div_ceil_times, Fraction, ◌over◌, ◌≤ℚ◌, ◌<ℚ◌, le_trans, lt_or_le, lt_not_le, div_ceil_least, Iv, over_le_over, low_at, high_at, spread, up_quotient, count_below, Holds, Aggregate, One, Mean, Tail, partial_sums, total, GridEncloses, AreDeclared, low_cdf, aggregates_of, at_least_wider, cdf_ends, plan_declared, plan_units, IsFirstAtLeast, Plan, IsValid, Row, total_budget, mean_budget, tail_budget, in_digits, few_cells, at_the_end, IsTailMean, DeclaresTail, IsTotalOf, IsMeanOf, Prints}
 use Rattle.dl_exact.proofs.BelowOne.{num_below}
 use Rattle.dl_grid.specs.Width.{up, tail_width}
 use Rattle.dl_model.specs.Measures.{IsQuantile}
@@ -32,21 +32,23 @@ tail_narrow p mean most cells w budget below of_mean of_spread =
 
 -- ---- where it is told
 
-low_rises : (g : List (Iv 56)) (x y : ℕ) → x ≤ y → count_below (suc x) (low_at g) ≤ count_below (suc y) (low_at g)
+low_rises : {B : ℕ} (g : List (Iv B)) (x y : ℕ) → x ≤ y
+    → count_below (suc x) (low_at g) ≤ count_below (suc y) (low_at g)
 low_rises g x y h = count_below_grows (suc x) (suc y) (low_at g) (omega (arith, h))
 
-low_cdf_rises : (g : List (Iv 56)) (x y : ℕ) → x ≤ y → low_cdf (2 ^ 56) (low_at g) x ≤ℚ low_cdf (2 ^ 56) (low_at g) y
-low_cdf_rises g x y h = over_le_over (count_below (suc x) (low_at g)) (count_below (suc y) (low_at g)) (2 ^ 56)
-    (pow_pos 56) (low_rises g x y h)
+low_cdf_rises : {B : ℕ} (g : List (Iv B)) (x y : ℕ) → x ≤ y
+    → low_cdf (2 ^ B) (low_at g) x ≤ℚ low_cdf (2 ^ B) (low_at g) y
+low_cdf_rises {B} g x y h = over_le_over (count_below (suc x) (low_at g)) (count_below (suc y) (low_at g)) (2 ^ B)
+    (pow_pos B) (low_rises g x y h)
 
 below_before : (p x y : Fraction) → x ≤ℚ y → y <ℚ p → x <ℚ p
 below_before p x y order below = elim (lt_or_le x p)
     [ inl less ↦ less | inr not_less ↦ absurd (lt_not_le y p below (le_trans p x y not_less order)) ]
 
 -- where some low end reaches p, the last one does
-last_reaches : (g : List (Iv 56)) (p : Fraction) (n x : ℕ) → x + 1 ≡ n
-    → ¬ IsFirstAtLeast (low_cdf (2 ^ 56) (low_at g)) p n n → p ≤ℚ low_cdf (2 ^ 56) (low_at g) x
-last_reaches g p n x last found = elim (lt_or_le (low_cdf (2 ^ 56) (low_at g) x) p) [
+last_reaches : {B : ℕ} (g : List (Iv B)) (p : Fraction) (n x : ℕ) → x + 1 ≡ n
+    → ¬ IsFirstAtLeast (low_cdf (2 ^ B) (low_at g)) p n n → p ≤ℚ low_cdf (2 ^ B) (low_at g) x
+last_reaches {B} g p n x last found = elim (lt_or_le (low_cdf (2 ^ B) (low_at g) x) p) [
   | inl below ↦
       absurd (found (record {
         within = omega arith;
@@ -56,31 +58,31 @@ last_reaches g p n x last found = elim (lt_or_le (low_cdf (2 ^ 56) (low_at g) x)
   | inr reached ↦ reached
 ]
 
-tail_reached : (plan : Plan) (g : List (Iv 56)) (p : Fraction)
-    → ¬ IsFirstAtLeast (low_cdf (2 ^ 56) (low_at g)) p (length g) (length g)
+tail_reached : {B : ℕ} (plan : Plan) (g : List (Iv B)) (p : Fraction)
+    → ¬ IsFirstAtLeast (low_cdf (2 ^ B) (low_at g)) p (length g) (length g)
     → IsValid plan → IsTotalOf plan g → IsAtLeast plan (at_the_end plan) p
-tail_reached plan g p found valid t =
+tail_reached {B} plan g p found valid t =
     let some = few_cells plan valid in
-    let ends = cdf_ends (aggregates_of plan) (2 ^ 56) (length g) (low_at g) (high_at g) (plan_units plan valid)
-    (pow_pos 56) t.encloses (plan.cells - 1) (omega (arith, t.cells, some.0)) in
+    let ends = cdf_ends (aggregates_of plan) (2 ^ B) (length g) (low_at g) (high_at g) (plan_units plan valid)
+    (pow_pos B) t.encloses (plan.cells - 1) (omega (arith, t.cells, some.0)) in
     at_least_wider _ _ _ _ ends.0 (last_reaches g p (length g) (plan.cells - 1) (omega (arith, t.cells, some.0)) found)
 
-pub tail_answer : (plan : Plan) (g : List (Iv 56)) (mean : Iv 56) (p : Fraction) (d lo hi : ℕ) (row : Row)
-    → ¬ IsFirstAtLeast (low_cdf (2 ^ 56) (low_at g)) p (length g) (length g)
+pub tail_answer : {B : ℕ} (plan : Plan) (g : List (Iv B)) (mean : Iv B) (p : Fraction) (d lo hi : ℕ) (row : Row)
+    → ¬ IsFirstAtLeast (low_cdf (2 ^ B) (low_at g)) p (length g) (length g)
     → ((us : List Aggregate) (q : ℕ) → AreDeclared us → GridEncloses g (total us)
-    → Holds (partial_sums us Mean) (partial_sums us One) (mean.lo over 2 ^ 56) (mean.hi over 2 ^ 56) → IsQuantile us q p
-    → Holds (partial_sums us (Tail p q)) (partial_sums us One) (lo over 2 ^ 56) (hi over 2 ^ 56))
+    → Holds (partial_sums us Mean) (partial_sums us One) (mean.lo over 2 ^ B) (mean.hi over 2 ^ B) → IsQuantile us q p
+    → Holds (partial_sums us (Tail p q)) (partial_sums us One) (lo over 2 ^ B) (hi over 2 ^ B))
     → hi - lo ≤ tail_width p (mean.hi - mean.lo) (length g) (spread g)
-    → IsLevel p → IsValid plan → IsTotalOf plan g → IsMeanOf plan mean → Prints lo hi d row
-    → IsTailMean plan p d (in_digits S (tail_budget S plan p) d) row
-tail_answer plan g mean p d lo hi row found holds width level valid t m printed = record {
+    → IsLevel p → IsValid plan → IsTotalOf plan g → IsMeanOf plan mean → Prints (2 ^ B) lo hi d row
+    → IsTailMean plan p d (in_digits (2 ^ B) (tail_budget (2 ^ B) plan p) d) row
+tail_answer {B} plan g mean p d lo hi row found holds width level valid t m printed = record {
   reached = tail_reached plan g p found valid t;
-  ends = are_ends (DeclaresTail plan p) lo hi d (tail_budget S plan p) row (tail_widens plan p) printed
+  ends = are_ends B (DeclaresTail plan p) lo hi d (tail_budget (2 ^ B) plan p) row (tail_widens plan p) printed
       (λ q is. holds (aggregates_of plan) q (plan_declared plan valid) t.encloses m.holds is)
       (omega (arith, width, wide));
 }
   where
-    wide : tail_width p (mean.hi - mean.lo) (length g) (spread g) ≤ tail_budget S plan p
-    wide = subst (λ n. tail_width p (mean.hi - mean.lo) n (spread g) ≤ tail_budget S plan p) (sym t.cells)
-        (tail_narrow p (mean.hi - mean.lo) (mean_budget S plan) plan.cells (spread g) (total_budget S plan)
+    wide : tail_width p (mean.hi - mean.lo) (length g) (spread g) ≤ tail_budget (2 ^ B) plan p
+    wide = subst (λ n. tail_width p (mean.hi - mean.lo) n (spread g) ≤ tail_budget (2 ^ B) plan p) (sym t.cells)
+        (tail_narrow p (mean.hi - mean.lo) (mean_budget (2 ^ B) plan) plan.cells (spread g) (total_budget (2 ^ B) plan)
         (num_below p level.below) (omega (arith, m.narrow)) t.narrow)

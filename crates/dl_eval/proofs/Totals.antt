@@ -26,14 +26,14 @@ unit_there [] i u inside = absurd (omega (arith, inside))
 unit_there (v ∷ us) zero u inside = refl
 unit_there (v ∷ us) (suc i) u inside = unit_there us i u (omega (arith, inside))
 
-pub plain_encloses : (g : List (Iv 56)) (cells : ℕ) (u : UnitOfPlan) → IsValidUnit cells u → u.cede ≡ None
+pub plain_encloses : {B : ℕ} (g : List (Iv B)) (cells : ℕ) (u : UnitOfPlan) → IsValidUnit cells u → u.cede ≡ None
     → GridEncloses g (compound_of u.freq u.sev) → GridEncloses g (mapped (aggregate_of u))
-plain_encloses g cells u valid none encloses =
-    encloses_same (2 ^ 56) (length g) (low_at g) (high_at g) (compound_of u.freq u.sev) (mapped (aggregate_of u))
+plain_encloses {B} g cells u valid none encloses =
+    encloses_same (2 ^ B) (length g) (low_at g) (high_at g) (compound_of u.freq u.sev) (mapped (aggregate_of u))
     (λ y N. sym (unit_plain (aggregate_of u) (unit_declared cells u valid).unit
     (λ s. ap (λ c. outcome_after c s) none) y N)) (λ N. refl) encloses
 
-pub each_encloses : (cells : ℕ) (us : List UnitOfPlan) (grids : List (List (Iv 56))) (i : ℕ) → i < length us
+pub each_encloses : {B : ℕ} (cells : ℕ) (us : List UnitOfPlan) (grids : List (List (Iv B))) (i : ℕ) → i < length us
     → AreUnitGrids cells us grids
     → GridEncloses (get_or grids i []) (unit_of (map aggregate_of us) i)
 each_encloses cells [] grids i inside each = absurd (omega (arith, inside))
@@ -41,13 +41,13 @@ each_encloses cells (u ∷ us) grids i inside each =
     subst (λ F. GridEncloses (get_or grids i []) F) (sym (unit_there (u ∷ us) i u inside))
     (each.each i u inside).encloses
 
-pub each_cells : (cells : ℕ) (us : List UnitOfPlan) (grids : List (List (Iv 56))) (g : List (Iv 56)) (i : ℕ)
+pub each_cells : {B : ℕ} (cells : ℕ) (us : List UnitOfPlan) (grids : List (List (Iv B))) (g : List (Iv B)) (i : ℕ)
     → g ≡ get_or grids i [] → i < length us → AreUnitGrids cells us grids
     → length g ≡ cells
 each_cells cells [] grids g i is inside each = absurd (omega (arith, inside))
 each_cells cells (u ∷ us) grids g i is inside each = ap (λ t. length t) is ∙ (each.each i u inside).cells
 
-enclose_each : (plan : Plan) (grids : List (List (Iv 56))) → AreUnitGrids plan.cells plan.units grids
+enclose_each : {B : ℕ} (plan : Plan) (grids : List (List (Iv B))) → AreUnitGrids plan.cells plan.units grids
     → EncloseEach grids (aggregates_of plan)
 enclose_each plan grids each = record {
   as_many = each.as_many ∙ sym (length-map plan.units aggregate_of);
@@ -109,21 +109,21 @@ sums_rise S k (a ∷ xs) (b ∷ ys) pos h = folds_rise S k a b xs ys pos (h.each
     (later_no_more a b xs ys h)
 
 -- the grid of a unit stays within its budget
-pub unit_narrow : (cells : ℕ) (us : List UnitOfPlan) (grids : List (List (Iv 56))) (i : ℕ) → i < length us
+pub unit_narrow : {B : ℕ} (cells : ℕ) (us : List UnitOfPlan) (grids : List (List (Iv B))) (i : ℕ) → i < length us
     → AreUnitGrids cells us grids
-    → spread (get_or grids i []) ≤ get_or (unit_budgets (2 ^ 56) cells us) i 0
-unit_narrow cells [] grids i inside each = absurd (omega (arith, inside))
-unit_narrow cells (u ∷ us) grids i inside each =
+    → spread (get_or grids i []) ≤ get_or (unit_budgets (2 ^ B) cells us) i 0
+unit_narrow {B} cells [] grids i inside each = absurd (omega (arith, inside))
+unit_narrow {B} cells (u ∷ us) grids i inside each =
     let v : UnitOfPlan = get_or (u ∷ us) i u in
-    let same : unit_budget (2 ^ 56) cells v ≡ get_or (unit_budgets (2 ^ 56) cells (u ∷ us)) i 0 =
-    budget_here (2 ^ 56) cells (u ∷ us) i (unit_budget (2 ^ 56) cells v) v inside
+    let same : unit_budget (2 ^ B) cells v ≡ get_or (unit_budgets (2 ^ B) cells (u ∷ us)) i 0 =
+    budget_here (2 ^ B) cells (u ∷ us) i (unit_budget (2 ^ B) cells v) v inside
     (get_or_default (u ∷ us) i u v inside) refl in
     omega (arith, (each.each i u inside).narrow, same)
 
-each_narrow : (plan : Plan) (grids : List (List (Iv 56))) → AreUnitGrids plan.cells plan.units grids
-    → AreNoMore (map spread grids) (unit_budgets (2 ^ 56) plan.cells plan.units)
-each_narrow plan grids each = record {
-  as_many = length-map grids spread ∙ each.as_many ∙ sym (budgets_length (2 ^ 56) plan.cells plan.units);
+each_narrow : {B : ℕ} (plan : Plan) (grids : List (List (Iv B))) → AreUnitGrids plan.cells plan.units grids
+    → AreNoMore (map spread grids) (unit_budgets (2 ^ B) plan.cells plan.units)
+each_narrow {B} plan grids each = record {
+  as_many = length-map grids spread ∙ each.as_many ∙ sym (budgets_length (2 ^ B) plan.cells plan.units);
   each = λ i inside.
       let there : i < length grids = omega (arith, inside, length-map grids spread) in
       omega (
@@ -135,32 +135,33 @@ each_narrow plan grids each = record {
 
 -- ---- the total
 
-pub is_total : (plan : Plan) (grids : List (List (Iv 56))) (g : List (Iv 56)) → IsValid plan
+pub is_total : {B : ℕ} (plan : Plan) (grids : List (List (Iv B))) (g : List (Iv B)) → IsValid plan
     → AreUnitGrids plan.cells plan.units grids
     → IsTotal plan.cells grids g → IsTotalOf plan g
-is_total plan grids g valid each sum = record {
+is_total {B} plan grids g valid each sum = record {
   cells = sum.cells;
   encloses = sum.encloses (aggregates_of plan) (plan_units plan valid) (enclose_each plan grids each);
-  narrow = omega (arith, sum.narrow, sums_rise (2 ^ 56) plan.cells _ _ (pow_pos 56) (each_narrow plan grids each));
+  narrow = omega (arith, sum.narrow, sums_rise (2 ^ B) plan.cells _ _ (pow_pos B) (each_narrow plan grids each));
 }
 
 -- ---- all units but one
 
-others_of : (plan : Plan) (grids : List (List (Iv 56))) (i : ℕ) (g : List (Iv 56)) → IsValid plan
+others_of : {B : ℕ} (plan : Plan) (grids : List (List (Iv B))) (i : ℕ) (g : List (Iv B)) → IsValid plan
     → AreUnitGrids plan.cells plan.units grids
     → IsSumWithout plan.cells grids i g → AreOthersOf plan i g
-others_of plan grids i g valid each sum = record {
+others_of {B} plan grids i g valid each sum = record {
   cells = sum.cells;
   encloses = sum.encloses (aggregates_of plan) (plan_units plan valid) (enclose_each plan grids each);
   narrow = omega (
     arith,
     sum.narrow,
-    ap (sum_spread (2 ^ 56) plan.cells) (map_remove spread grids i),
-    sums_rise (2 ^ 56) plan.cells _ _ (pow_pos 56) (removed_no_more i _ _ (each_narrow plan grids each)),
+    ap (sum_spread (2 ^ B) plan.cells) (map_remove spread grids i),
+    sums_rise (2 ^ B) plan.cells _ _ (pow_pos B) (removed_no_more i _ _ (each_narrow plan grids each)),
   );
 }
 
-pub are_others : (plan : Plan) (grids : List (List (Iv 56))) (asked : List Bool) (sums : List (Option (List (Iv 56))))
+pub are_others : {B : ℕ} (plan : Plan) (grids : List (List (Iv B))) (asked : List Bool)
+    (sums : List (Option (List (Iv B))))
     → IsValid plan → AreUnitGrids plan.cells plan.units grids
     → AreSumsWithout plan.cells grids asked sums → AreOthers plan sums
 are_others plan grids asked sums valid each rest = record {
@@ -172,7 +173,8 @@ are_others plan grids asked sums valid each rest = record {
 }
 
 -- where an ask is for a unit's share, the sum of all others is there
-pub has_others : (plan : Plan) (grids : List (List (Iv 56))) (all : List Asked) (asked : List Bool) (made : Grids)
+pub has_others : {B : ℕ} (plan : Plan) (grids : List (List (Iv B))) (all : List Asked) (asked : List Bool)
+    (made : Grids B)
     → AreUnitGrids plan.cells plan.units grids
     → AreShared plan.units all asked → AreSumsWithout plan.cells grids asked made.sums.others.items
     → All (λ a. NamesUnit plan.units a.ask) all → All (λ a. HasOthers plan.units made a.ask) all
@@ -191,7 +193,7 @@ has_others plan grids all asked made each shared rest named = λ k d inside i is
     names_shared units ask i named is = named_place units (facts_of ask).unit i named is
 
 -- each grid has the cells
-pub long_enough : (cells : ℕ) (us : List UnitOfPlan) (grids : List (List (Iv 56))) → AreUnitGrids cells us grids
+pub long_enough : {B : ℕ} (cells : ℕ) (us : List UnitOfPlan) (grids : List (List (Iv B))) → AreUnitGrids cells us grids
     → All (λ g. cells ≤ length g) grids
 long_enough cells [] grids each = λ i d inside. absurd (omega (arith, inside, each.as_many))
 long_enough cells (u ∷ us) grids each = λ i d inside.
@@ -209,7 +211,7 @@ only_one xs [] x is one = is
 only_one xs (y ∷ rest) x is one = absurd (omega (arith, ap (λ t. length t) is, one, length-append rest (x ∷ [])))
 
 -- its grid is that of the total
-module _ (plan : Plan) (grids : List (List (Iv 56))) (g : List (Iv 56)) (made : Grids) where
+module _ {B : ℕ} (plan : Plan) (grids : List (List (Iv B))) (g : List (Iv B)) (made : Grids B) where
   pub grids_of_one : IsValid plan → AreUnitGrids plan.cells plan.units grids → grids ≡ g ∷ []
       → IsTotal (length g) (g ∷ []) made.sums.total
       → AreSumsWithout (length g) (g ∷ []) (false ∷ []) made.sums.others.items → AreGridsOf plan made

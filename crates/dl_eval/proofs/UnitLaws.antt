@@ -8,38 +8,39 @@ pub horizon_some : (cede : Option Clause) (h k : ℕ) → 1 ≤ h → IsHorizonO
 horizon_some None h k some horizon = omega (arith, some, horizon)
 horizon_some (Some clause) h k some horizon = horizon_one clause h k horizon
 
-budget_at : (cells : ℕ) (u : UnitOfPlan) (g : List (Iv 56)) → IsValidUnit cells u → IsHorizonOf u.cede cells (length g)
-    → spread g ≤ claims_budget (2 ^ 56) (length g) u → spread g ≤ claims_budget (2 ^ 56) (horizon u.cede cells) u
-budget_at cells u g valid there narrow = subst (λ n. spread g ≤ claims_budget (2 ^ 56) n u)
+budget_at : {B : ℕ} (cells : ℕ) (u : UnitOfPlan) (g : List (Iv B)) → IsValidUnit cells u
+    → IsHorizonOf u.cede cells (length g)
+    → spread g ≤ claims_budget (2 ^ B) (length g) u → spread g ≤ claims_budget (2 ^ B) (horizon u.cede cells) u
+budget_at {B} cells u g valid there narrow = subst (λ n. spread g ≤ claims_budget (2 ^ B) n u)
     (one_horizon cells cells (length g) u valid there) narrow
 
 -- without a clause the outcomes are the sums of claims
-pub plain_grid : (cells : ℕ) (u : UnitOfPlan) (g : List (Iv 56)) → IsValidUnit cells u → u.cede ≡ None
+pub plain_grid : {B : ℕ} (cells : ℕ) (u : UnitOfPlan) (g : List (Iv B)) → IsValidUnit cells u → u.cede ≡ None
     → IsHorizonOf u.cede cells (length g)
-    → GridEncloses g (compound_of u.freq u.sev) → spread g ≤ claims_budget (2 ^ 56) (length g) u → IsUnitGrid cells u g
-plain_grid cells u g valid none there encloses narrow = record {
+    → GridEncloses g (compound_of u.freq u.sev) → spread g ≤ claims_budget (2 ^ B) (length g) u → IsUnitGrid cells u g
+plain_grid {B} cells u g valid none there encloses narrow = record {
   cells = subst (λ c. IsHorizonOf c cells (length g)) none there;
   encloses = plain_encloses g cells u valid none encloses;
   narrow = omega (
     arith,
     budget_at cells u g valid there narrow,
-    ap (λ c. after_clause c (claims_budget (2 ^ 56) (horizon u.cede cells) u)) none,
+    ap (λ c. after_clause c (claims_budget (2 ^ B) (horizon u.cede cells) u)) none,
   );
 }
 
 -- with a clause the spread is at most doubled
-pub ceded_grid : (cells : ℕ) (u : UnitOfPlan) (clause : Clause) (claims g : List (Iv 56)) → IsValidUnit cells u
+pub ceded_grid : {B : ℕ} (cells : ℕ) (u : UnitOfPlan) (clause : Clause) (claims g : List (Iv B)) → IsValidUnit cells u
     → u.cede ≡ Some clause → IsHorizonOf u.cede cells (length claims)
-    → spread claims ≤ claims_budget (2 ^ 56) (length claims) u → length g ≡ cells
+    → spread claims ≤ claims_budget (2 ^ B) (length claims) u → length g ≡ cells
     → GridEncloses g (mapped (aggregate_of u)) → spread g ≤ 2 * spread claims
     → IsUnitGrid cells u g
-ceded_grid cells u clause claims g valid some there narrow same encloses twice = record {
+ceded_grid {B} cells u clause claims g valid some there narrow same encloses twice = record {
   cells = same;
   encloses = encloses;
   narrow = omega (
     arith,
     twice,
     budget_at cells u claims valid there narrow,
-    ap (λ c. after_clause c (claims_budget (2 ^ 56) (horizon u.cede cells) u)) some,
+    ap (λ c. after_clause c (claims_budget (2 ^ B) (horizon u.cede cells) u)) some,
   );
 }

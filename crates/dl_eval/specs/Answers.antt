@@ -7,7 +7,7 @@ use Rattle.dl_report.specs.declared.report.Report.{Report}
 use Rattle.dl_budget.specs.Asks.{IsInside, NamesUnit, Passes, needed}
 use Rattle.dl_eval.specs.declared.fault.EvalFault.{EvalFault}
 use Rattle.dl_eval.specs.declared.fault.EvalFault.TheVariants.{AskBeyond, UnknownUnit, TooWide, OutOfMemory}
-use Rattle.dl_eval.specs.Rows.{S, IsGood}
+use Rattle.dl_eval.specs.Rows.{scale, IsGood}
 
 -- the number of digits of the settings, and one good row for each ask, in order
 pub record IsGoodReport (plan : Plan) (settings : Settings) (report : Report) : Type 0 where
@@ -24,7 +24,7 @@ abbrev pub NameUnits : Plan → Settings → Type 0
 NameUnits plan settings = All (λ asked. NamesUnit plan.units asked.ask) settings.asks
 
 abbrev pub AllPass : Plan → Settings → Type 0
-AllPass plan settings = All (λ asked. Passes S plan asked.ask settings) settings.asks
+AllPass plan settings = All (λ asked. Passes (scale plan) plan asked.ask settings) settings.asks
 
 -- ask i is the first that P does not hold of
 pub record IsFirstNot (P : Asked → Type 0) (all : List Asked) (i : ℕ) : Type 0 where
@@ -34,8 +34,8 @@ pub record IsFirstNot (P : Asked → Type 0) (all : List Asked) (i : ℕ) : Type
 
 -- ask i is the first that needs more width than the settings give, and it needs this one
 pub record IsFirstWide (plan : Plan) (settings : Settings) (i width : ℕ) : Type 0 where
-  pub first : IsFirstNot (λ asked. Passes S plan asked.ask settings) settings.asks i
-  pub needs : (default : Asked) → width ≡ needed S plan
+  pub first : IsFirstNot (λ asked. Passes (scale plan) plan asked.ask settings) settings.asks i
+  pub needs : (default : Asked) → width ≡ needed (scale plan) plan
       (get_or settings.asks i default).ask settings.digits
 
 -- the first ask that passes the grid; else the first that names no unit; else the first that needs

@@ -1,7 +1,7 @@
 -- When a row of a report is good: its ends hold what the plan declares, and lie no farther apart
 -- than is needed.
 use Rattle.std.specs.Prelude.{ℕ, ◌≡◌, ◌+◌, ◌-◌, ◌^◌, ◌<◌, ◌≤◌, ◌⊎◌, Option, None, Some, MatchOption}
-use Rattle.dl_limits.specs.Limits.{rarest_parts}
+use Rattle.dl_limits.specs.Limits.{rarest_parts, bits_of}
 use Rattle.dl_exact.specs.Fraction.{Fraction, ◌over◌, ◌+ℚ◌}
 use Rattle.dl_model.specs.Series.{Holds, AtLeast, AtMost, Below}
 use Rattle.dl_model.specs.Program.{Quantity, One, Point, Cdf, Mean, Layer, Tail, Joint, partial_sums}
@@ -18,9 +18,9 @@ use Rattle.dl_report.specs.declared.report.Row.{Row}
 use Rattle.dl_budget.specs.Units.{total_budget}
 use Rattle.dl_budget.specs.Asks.{place_of, needed}
 
--- the units of every grid are 1/S
-abbrev pub S : ℕ
-S = 2 ^ 56
+-- the ends of a plan's grids and means are in units of 1 over this
+abbrev pub scale : Plan → ℕ
+scale plan = 2 ^ bits_of plan.cells
 
 -- ---- what the plan declares
 
@@ -115,31 +115,33 @@ pub record IsTooRare (plan : Plan) (x : ℕ) (d : Fraction) (row : Row) : Type 0
   pub is_high : row.high ≡ Absent
   pub rare : IsBelow plan (Point x) (least_likely +ℚ d)
 
--- what the distribution and its points may be away from what is declared
-abbrev pub total_error : Plan → Fraction
-total_error plan = total_budget S plan over S
+-- what the distribution and its points may be away from what is declared, with ends in units of 1/S
+abbrev pub total_error : (S : ℕ) → Plan → Fraction
+total_error S plan = total_budget S plan over S
 
--- a good answer to an ask, with d digits
-abbrev pub IsAnswerTo : Plan → ℕ → Ask → Row → Type 0
-IsAnswerTo plan d (asks.Pmf x) row = AreRowEnds (Declares plan (Point x)) d
+-- a good answer to an ask, with d digits, from ends in units of 1/S
+abbrev pub IsAnswerTo : (S : ℕ) → Plan → ℕ → Ask → Row → Type 0
+IsAnswerTo S plan d (asks.Pmf x) row = AreRowEnds (Declares plan (Point x)) d
     (needed S plan (asks.Pmf x) d) row
-IsAnswerTo plan d (asks.Cdf x) row = AreRowEnds (Declares plan (Cdf x)) d
+IsAnswerTo S plan d (asks.Cdf x) row = AreRowEnds (Declares plan (Cdf x)) d
     (needed S plan (asks.Cdf x) d) row
-IsAnswerTo plan d asks.Mean row = AreRowEnds (Declares plan Mean) d (needed S plan asks.Mean d) row
-IsAnswerTo plan d (asks.Quantile p) row = IsBracket plan p (total_error plan) row
-IsAnswerTo plan d (asks.LayerMean limit attach) row =
+IsAnswerTo S plan d asks.Mean row = AreRowEnds (Declares plan Mean) d
+    (needed S plan asks.Mean d) row
+IsAnswerTo S plan d (asks.Quantile p) row = IsBracket plan p (total_error S plan) row
+IsAnswerTo S plan d (asks.LayerMean limit attach) row =
     AreRowEnds (Declares plan (Layer limit attach)) d
     (needed S plan (asks.LayerMean limit attach) d) row
-IsAnswerTo plan d (asks.Tail p) row =
-    IsTailMean plan p d (needed S plan (asks.Tail p) d) row ⊎ IsBeyond plan p (total_error plan) row
-IsAnswerTo plan d (asks.Joint unit at) row =
+IsAnswerTo S plan d (asks.Tail p) row =
+    IsTailMean plan p d (needed S plan (asks.Tail p) d) row
+    ⊎ IsBeyond plan p (total_error S plan) row
+IsAnswerTo S plan d (asks.Joint unit at) row =
     AreRowEnds (Declares plan (Joint (place_of unit plan.units) at)) d
     (needed S plan (asks.Joint unit at) d) row
-IsAnswerTo plan d (asks.Kappa unit at) row =
+IsAnswerTo S plan d (asks.Kappa unit at) row =
     IsShareOfUnit plan (place_of unit plan.units) at d (needed S plan (asks.Kappa unit at) d) row
-    ⊎ IsTooRare plan at (total_error plan) row
+    ⊎ IsTooRare plan at (total_error S plan) row
 
 -- the ask as it was written, and a good answer
 pub record IsGood (plan : Plan) (d : ℕ) (asked : Asked) (row : Row) : Type 0 where
   pub ask : row.ask ≡ asked.text
-  pub answer : IsAnswerTo plan d asked.ask row
+  pub answer : IsAnswerTo (scale plan) plan d asked.ask row

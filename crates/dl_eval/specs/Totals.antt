@@ -20,11 +20,11 @@ use Rattle.dl_report.specs.declared.report.End.TheVariants.{Number}
 use Rattle.dl_report.specs.declared.report.Row.{Row}
 use Rattle.dl_budget.specs.Asks.{place_of, joint_budget}
 use Rattle.dl_eval.specs.declared.grids.Grids.{Grids}
-use Rattle.dl_eval.specs.Rows.{S, Declares}
+use Rattle.dl_eval.specs.Rows.{Declares}
 
 -- ---- how large means can be
 
--- the high end of the mean of a unit, and of that of the total, in units of 1/S
+-- the high end of the mean of a unit, and of that of the total, in units of 1 / 2^B
 abbrev pub most_unit_mean : ℕ
 most_unit_mean = 2 ^ 93
 
@@ -34,48 +34,49 @@ most_mean = 2 ^ 97
 -- ---- units
 
 -- a grid of H cells of a unit's outcomes, after its aggregate clause, within its budget
-pub record IsUnitGrid (H : ℕ) (u : UnitOfPlan) (g : List (Iv 56)) : Type 0 where
+pub record IsUnitGrid {B : ℕ} (H : ℕ) (u : UnitOfPlan) (g : List (Iv B)) : Type 0 where
   pub cells : length g ≡ H
   pub encloses : GridEncloses g (mapped (aggregate_of u))
-  pub narrow : spread g ≤ unit_budget S H u
+  pub narrow : spread g ≤ unit_budget (2 ^ B) H u
 
 -- the mean of a unit's outcomes, within its budget
-pub record IsUnitMean (H : ℕ) (u : UnitOfPlan) (mean : Iv 56) : Type 0 where
+pub record IsUnitMean {B : ℕ} (H : ℕ) (u : UnitOfPlan) (mean : Iv B) : Type 0 where
   pub holds : Holds (partial_sums (aggregate_of u ∷ []) Mean)
-      (partial_sums (aggregate_of u ∷ []) One) (mean.lo over S) (mean.hi over S)
-  pub narrow : mean.hi ≤ mean.lo + unit_mean_budget S H u
+      (partial_sums (aggregate_of u ∷ []) One) (mean.lo over 2 ^ B) (mean.hi over 2 ^ B)
+  pub narrow : mean.hi ≤ mean.lo + unit_mean_budget (2 ^ B) H u
 
 -- one grid for each unit, in order
-pub record AreUnitGrids (cells : ℕ) (units : List UnitOfPlan)
-    (grids : List (List (Iv 56))) : Type 0 where
+pub record AreUnitGrids {B : ℕ} (cells : ℕ) (units : List UnitOfPlan)
+    (grids : List (List (Iv B))) : Type 0 where
   pub as_many : length grids ≡ length units
   pub each : (i : ℕ) (u : UnitOfPlan) → i < length units
       → IsUnitGrid cells (get_or units i u) (get_or grids i [])
 
 -- one mean for each unit, in order
-pub record AreUnitMeans (cells : ℕ) (units : List UnitOfPlan) (means : List (Iv 56)) : Type 0 where
+pub record AreUnitMeans {B : ℕ} (cells : ℕ) (units : List UnitOfPlan)
+    (means : List (Iv B)) : Type 0 where
   pub as_many : length means ≡ length units
-  pub each : (i : ℕ) (u : UnitOfPlan) (m : Iv 56) → i < length units
+  pub each : (i : ℕ) (u : UnitOfPlan) (m : Iv B) → i < length units
       → IsUnitMean cells (get_or units i u) (get_or means i m)
 
 -- ---- sums of units
 
 -- the grid of the total, within its budget
-pub record IsTotalOf (plan : Plan) (g : List (Iv 56)) : Type 0 where
+pub record IsTotalOf {B : ℕ} (plan : Plan) (g : List (Iv B)) : Type 0 where
   pub cells : length g ≡ plan.cells
   pub encloses : GridEncloses g (total (aggregates_of plan))
-  pub narrow : spread g ≤ total_budget S plan
+  pub narrow : spread g ≤ total_budget (2 ^ B) plan
 
 -- the grid of the sum of all units but unit i, within its budget
-pub record AreOthersOf (plan : Plan) (i : ℕ) (g : List (Iv 56)) : Type 0 where
+pub record AreOthersOf {B : ℕ} (plan : Plan) (i : ℕ) (g : List (Iv B)) : Type 0 where
   pub cells : length g ≡ plan.cells
   pub encloses : GridEncloses g (total (without (aggregates_of plan) i))
-  pub narrow : spread g ≤ others_budget S plan i
+  pub narrow : spread g ≤ others_budget (2 ^ B) plan i
 
 -- the mean of the total, within its budget
-pub record IsMeanOf (plan : Plan) (mean : Iv 56) : Type 0 where
-  pub holds : Declares plan Mean (mean.lo over S) (mean.hi over S)
-  pub narrow : mean.hi ≤ mean.lo + mean_budget S plan
+pub record IsMeanOf {B : ℕ} (plan : Plan) (mean : Iv B) : Type 0 where
+  pub holds : Declares plan Mean (mean.lo over 2 ^ B) (mean.hi over 2 ^ B)
+  pub narrow : mean.hi ≤ mean.lo + mean_budget (2 ^ B) plan
 
 -- ---- shares
 
@@ -90,33 +91,33 @@ pub record AreShared (units : List UnitOfPlan) (all : List Asked) (asked : List 
       ↔ Any (λ a. shared_unit units a.ask ≡ Some i) all
 
 -- the grid of all other units is there for the unit whose share an ask is for
-abbrev pub HasOthers : List UnitOfPlan → Grids → Ask → Type 0
+abbrev pub HasOthers : {B : ℕ} → List UnitOfPlan → Grids B → Ask → Type 0
 HasOthers units grids ask = (i : ℕ) → shared_unit units ask ≡ Some i
     → IsSome (get_or grids.sums.others.items i None)
 
 -- for each unit, where it is there, the grid of the sum of all others
-pub record AreOthers (plan : Plan) (others : List (Option (List (Iv 56)))) : Type 0 where
+pub record AreOthers {B : ℕ} (plan : Plan) (others : List (Option (List (Iv B)))) : Type 0 where
   pub as_many : length others ≡ length plan.units
   pub each : (i : ℕ) → i < length plan.units → IfSome (get_or others i None) (AreOthersOf plan i)
 
 -- the grids of the units, where that of all others is there for one of them; those of all but one,
 -- and that of the total
-pub record AreGridsOf (plan : Plan) (grids : Grids) : Type 0 where
+pub record AreGridsOf {B : ℕ} (plan : Plan) (grids : Grids B) : Type 0 where
   pub units : (i : ℕ) → i < length plan.units → IsSome (get_or grids.sums.others.items i None)
       → AreUnitGrids plan.cells plan.units grids.units.items
   pub others : AreOthers plan grids.sums.others.items
   pub total : IsTotalOf plan grids.sums.total
 
 -- the joint mean of unit i at a total, within its budget
-pub record IsJointOf (plan : Plan) (i at : ℕ) (mean : Iv 56) : Type 0 where
-  pub holds : Declares plan (Joint i at) (mean.lo over S) (mean.hi over S)
-  pub narrow : mean.hi ≤ mean.lo + joint_budget S plan i
+pub record IsJointOf {B : ℕ} (plan : Plan) (i at : ℕ) (mean : Iv B) : Type 0 where
+  pub holds : Declares plan (Joint i at) (mean.lo over 2 ^ B) (mean.hi over 2 ^ B)
+  pub narrow : mean.hi ≤ mean.lo + joint_budget (2 ^ B) plan i
 
 -- ---- what is printed
 
 -- the row holds the ends lo and hi, in units of 1/S: the low end rounded down to d digits, the high
 -- end up
-pub record Prints (lo hi d : ℕ) (row : Row) : Type 0 where
+pub record Prints (S lo hi d : ℕ) (row : Row) : Type 0 where
   pub is_low : row.low ≡ Number (lo * 10 ^ d / S)
   pub is_high : row.high ≡ Number (div_ceil (hi * 10 ^ d) S)
   pub ordered : lo ≤ hi

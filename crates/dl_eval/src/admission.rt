@@ -1,7 +1,7 @@
 //! Which asks are refused.
 
-ghost use Rattle.std.specs.Prelude.{◌<◌, ◌≤◌, ◌↔◌, IsTrue, ℕ, List, None, All, MatchOption, MatchResult, length};
-ghost use Rattle.dl_limits.specs.Limits.{most_asks, most_units};
+ghost use Rattle.std.specs.Prelude.{◌≡◌, ◌<◌, ◌≤◌, ◌↔◌, IsTrue, ℕ, List, None, All, MatchOption, MatchResult, length};
+ghost use Rattle.dl_limits.specs.Limits.{bits_of, most_asks, most_units};
 ghost use Rattle.dl_plan.specs.Ranges.{AreInRange};
 ghost use Rattle.dl_plan.specs.Valid.{IsValid};
 ghost use Rattle.dl_budget.specs.Asks.{IsInside, NamesUnit};
@@ -60,7 +60,9 @@ fn first_unknown(units: &[Unit], asks: &[Asked]) -> Option<u32>
 
 /// The first ask that needs more width than the settings give, and the width it needs. The budgets
 /// of the total and of its mean are made once for all asks.
-fn first_wide(plan: &Plan, settings: &Settings) -> Option<(u32, u128)>
+#[tactic(auto, using(crate::proofs::Scales::plan_scale))]
+fn first_wide<const B: u32>(plan: &Plan, settings: &Settings) -> Option<(u32, u128)>
+    requires scale { B ≡ bits_of plan.now.cells }
     requires valid { IsValid plan.now }
     requires ranges { AreInRange settings.now }
     requires inside { AreInside plan.now settings.now }
@@ -69,10 +71,10 @@ fn first_wide(plan: &Plan, settings: &Settings) -> Option<(u32, u128)>
         (λ wide. IsFirstWide plan.now settings.now wide.0 wide.1) }
 {
     let asks = settings.asks.as_slice();
-    let budgets = budgets_of::<56>(plan);
+    let budgets = budgets_of::<B>(plan);
     for i in 0..asks.len() {
         let ask = &asks[i].ask;
-        let width = needed_with::<56>(plan, budgets, ask, settings.digits);
+        let width = needed_with::<B>(plan, budgets, ask, settings.digits);
         if width > ask.most_width(settings) as u128 {
             return Some((i as u32, width));
         }
@@ -82,7 +84,8 @@ fn first_wide(plan: &Plan, settings: &Settings) -> Option<(u32, u128)>
 
 /// Refuses the first ask past the grid, else the first that names no unit, else the first that
 /// needs more width than the settings give. Takes no memory.
-pub(crate) fn admit(plan: &Plan, settings: &Settings) -> Result<(), EvalFault>
+pub(crate) fn admit<const B: u32>(plan: &Plan, settings: &Settings) -> Result<(), EvalFault>
+    requires scale { B ≡ bits_of plan.now.cells }
     requires valid { IsValid plan.now }
     requires ranges { AreInRange settings.now }
     ensures { MatchResult result (λ _. AreAdmitted plan.now settings.now)
@@ -95,7 +98,7 @@ pub(crate) fn admit(plan: &Plan, settings: &Settings) -> Result<(), EvalFault>
     if let Some(i) = first_unknown(plan.units.as_slice(), asks) {
         return Err(EvalFault::UnknownUnit(i));
     }
-    if let Some((i, width)) = first_wide(plan, settings) {
+    if let Some((i, width)) = first_wide::<B>(plan, settings) {
         return Err(EvalFault::TooWide(i, width));
     }
     Ok(())

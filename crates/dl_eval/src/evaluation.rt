@@ -1,6 +1,7 @@
 //! The report of a plan.
 
 ghost use Rattle.std.specs.Prelude.{◌≡◌, ◌≤◌, ◌^◌, ◌↔◌, IsTrue, None, All, IfOk, MatchResult, IfSome};
+ghost use Rattle.dl_limits.specs.Limits.{IsPlanScale, bits_of};
 ghost use Rattle.dl_plan.specs.declared.settings.Ask.TheVariants as kinds;
 ghost use Rattle.dl_plan.specs.Ranges.{AreInRange};
 ghost use Rattle.dl_plan.specs.Valid.{IsValid};
@@ -39,21 +40,22 @@ fn are_means(asks: &[Asked]) -> bool
 
 /// What the rows of a plan are made from.
 #[derive(Drop)]
-struct Parts {
+struct Parts<const B: u32> {
     /// The grids; none where all asks are for the mean.
-    grids: Option<Grids>,
+    grids: Option<Grids<B>>,
     /// The mean of the total, in buckets.
-    mean: Iv<56>,
+    mean: Iv<B>,
 }
 
 /// What the rows of a valid plan are made from. Where all asks are for the mean, the only grids
 /// made on the way are those of units with an aggregate clause.
-fn parts_for(
+fn parts_for<const B: u32>(
     alloc: Global,
     work: &mut Workspace,
     plan: &Plan,
     asks: &[Asked],
-) -> Result<Parts, AllocError>
+) -> Result<Parts<B>, AllocError>
+    requires scale { IsPlanScale B }
     requires valid { IsValid plan.now }
     requires named { All (λ asked. NamesUnit plan.now.units asked.ask) asks.now }
     ensures grids { IfOk result (λ parts. IfSome parts.grids (λ made.
@@ -82,12 +84,13 @@ fn parts_for(
 }
 
 /// The rows of the asks, in order.
-fn report(
+fn report<const B: u32>(
     alloc: Global,
     plan: &Plan,
     settings: &Settings,
-    parts: &Parts,
+    parts: &Parts<B>,
 ) -> Result<Report, AllocError>
+    requires scale { B ≡ bits_of plan.now.cells }
     requires grids { IfSome parts.now.grids (λ made. AreGridsOf plan.now made) }
     requires valid { IsValid plan.now }
     requires ranges { AreInRange settings.now }
@@ -104,7 +107,7 @@ fn report(
     let asks = settings.asks.as_slice();
     let mut rows = Vec::new(alloc);
     for asked in asks {
-        let row = row(
+        let row = row::<B>(
             alloc,
             asked,
             settings.digits,
@@ -121,7 +124,13 @@ fn report(
 }
 
 /// The report of a plan whose asks are admitted.
-fn admitted_report(alloc: Global, plan: &Plan, settings: &Settings) -> Result<Report, AllocError>
+#[tactic(auto, using(crate::proofs::Scales::plan_scale))]
+fn admitted_report<const B: u32>(
+    alloc: Global,
+    plan: &Plan,
+    settings: &Settings,
+) -> Result<Report, AllocError>
+    requires scale { B ≡ bits_of plan.now.cells }
     requires valid { IsValid plan.now }
     requires ranges { AreInRange settings.now }
     requires inside { AreInside plan.now settings.now }
@@ -129,9 +138,25 @@ fn admitted_report(alloc: Global, plan: &Plan, settings: &Settings) -> Result<Re
     ensures { IfOk result (λ report. IsGoodReport plan.now settings.now report) }
 {
     let mut work = Workspace::new(alloc);
-    let parts = parts_for(alloc, &mut work, plan, settings.asks.as_slice())?;
+    let parts = parts_for::<B>(alloc, &mut work, plan, settings.asks.as_slice())?;
     drop(work);
     report(alloc, plan, settings, &parts)
+}
+
+/// The report of a plan whose grids are in units of `1 / 2^B`, or its first refused ask.
+fn answered<const B: u32>(
+    alloc: Global,
+    plan: &Plan,
+    settings: &Settings,
+) -> Result<Report, EvalFault>
+    requires scale { B ≡ bits_of plan.now.cells }
+    requires valid { IsValid plan.now }
+    requires ranges { AreInRange settings.now }
+    ensures { MatchResult result (IsAnswered plan.now settings.now)
+        (RefusesAsk plan.now settings.now) }
+{
+    admit::<B>(plan, settings)?;
+    Ok(admitted_report::<B>(alloc, plan, settings)?)
 }
 
 /// A row for each ask, in order; or the first ask that lies past the grid, else the first that
@@ -143,6 +168,5 @@ pub fn evaluate(alloc: Global, plan: &Plan, settings: &Settings) -> Result<Repor
     ensures { MatchResult result (IsAnswered plan.now settings.now)
         (RefusesAsk plan.now settings.now) }
 {
-    admit(plan, settings)?;
-    Ok(admitted_report(alloc, plan, settings)?)
+    answered::<56>(alloc, plan, settings)
 }

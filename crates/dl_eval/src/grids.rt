@@ -1,7 +1,7 @@
 //! The grids that rows are made from.
 
 ghost use Rattle.std.specs.Prelude.{◌≡◌, ◌≤◌, ◌↔◌, IsTrue, Some, All, Any, IfOk, length};
-ghost use Rattle.dl_limits.specs.Limits.{most_units};
+ghost use Rattle.dl_limits.specs.Limits.{IsPlanScale, most_units};
 ghost use Rattle.dl_plan.specs.Valid.{IsValid};
 ghost use Rattle.dl_budget.specs.Asks.{NamesUnit};
 ghost use Rattle.dl_eval.specs.Totals.{AreUnitGrids, AreGridsOf, AreShared, HasOthers, shared_unit};
@@ -15,11 +15,11 @@ use std::alloc::{AllocError, Global};
 
 /// The grids that the rows of a plan are made from.
 #[derive(Drop)]
-pub(crate) struct Grids {
+pub(crate) struct Grids<const B: u32> {
     /// For each unit, that of its outcomes; it may be gone where no ask is for a share.
-    pub(crate) units: Vec<Grid<56>>,
+    pub(crate) units: Vec<Grid<B>>,
     /// That of the total; and for each unit whose share an ask is for, that of all other units.
-    pub(crate) sums: Sums<56>,
+    pub(crate) sums: Sums<B>,
 }
 
 /// Whether an ask is for the share of unit `i`, counted from 0.
@@ -56,13 +56,14 @@ fn shared_units(alloc: Global, units: &[Unit], asks: &[Asked]) -> Result<Vec<boo
 /// The grids that the rows of a valid plan are made from, where those of its units' outcomes are
 /// there. The grid of an only unit whose share no ask is for is that of the total: it is moved and
 /// not copied.
-pub(crate) fn grids_of(
+pub(crate) fn grids_of<const B: u32>(
     alloc: Global,
     work: &mut Workspace,
     plan: &Plan,
     asks: &[Asked],
-    units: Vec<Grid<56>>,
-) -> Result<Grids, AllocError>
+    units: Vec<Grid<B>>,
+) -> Result<Grids<B>, AllocError>
+    requires scale { IsPlanScale B }
     requires valid { IsValid plan.now }
     requires named { All (λ asked. NamesUnit plan.now.units asked.ask) asks.now }
     requires units { AreUnitGrids plan.now.cells plan.now.units units.items }
@@ -80,13 +81,14 @@ pub(crate) fn grids_of(
 }
 
 /// The grids that the rows are made from, from sums of units that they share.
-fn shared_grids(
+fn shared_grids<const B: u32>(
     alloc: Global,
     work: &mut Workspace,
     plan: &Plan,
     asks: &[Asked],
-    units: Vec<Grid<56>>,
-) -> Result<Grids, AllocError>
+    units: Vec<Grid<B>>,
+) -> Result<Grids<B>, AllocError>
+    requires scale { IsPlanScale B }
     requires valid { IsValid plan.now }
     requires named { All (λ asked. NamesUnit plan.now.units asked.ask) asks.now }
     requires units { AreUnitGrids plan.now.cells plan.now.units units.items }

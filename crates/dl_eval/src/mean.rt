@@ -1,7 +1,7 @@
 //! The mean of a total.
 
 ghost use Rattle.std.specs.Prelude.{◌≤◌, ◌^◌, ℕ, List, All, length};
-ghost use Rattle.dl_limits.specs.Limits.{most_units};
+ghost use Rattle.dl_limits.specs.Limits.{IsPlanScale, most_units};
 ghost use Rattle.dl_plan.specs.declared.plan.Plan.{Plan};
 ghost use Rattle.dl_plan.specs.Valid.{IsValid};
 ghost use Rattle.dl_eval.specs.Totals.{most_unit_mean, most_mean, AreUnitMeans, IsMeanOf};
@@ -9,7 +9,8 @@ ghost use Rattle.dl_eval.specs.Totals.{most_unit_mean, most_mean, AreUnitMeans, 
 use dl_iv::Iv;
 
 /// The mean of the total of a valid plan, in buckets: the sum of the means of its units.
-pub(crate) fn total_mean(means: &[Iv<56>]) -> Iv<56>
+pub(crate) fn total_mean<const B: u32>(means: &[Iv<B>]) -> Iv<B>
+    requires scale { IsPlanScale B }
     requires few { length means.now ≤ most_units }
     requires small { All (λ mean. mean.hi ≤ most_unit_mean) means.now }
     ensures mean { (plan : Plan) → IsValid plan → AreUnitMeans plan.cells plan.units means.now

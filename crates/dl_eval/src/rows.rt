@@ -1,13 +1,13 @@
 //! The row of an ask.
 
 ghost use Rattle.std.specs.Prelude.{◌≡◌, ◌≤◌, ◌^◌, ◌⊎◌, ℕ, List, None, IfOk, IfSome};
-ghost use Rattle.dl_limits.specs.Limits.{most_digits};
+ghost use Rattle.dl_limits.specs.Limits.{IsPlanScale, bits_of, most_digits};
 ghost use Rattle.dl_plan.specs.declared.plan.Plan.{Plan as PlanValue};
 ghost use Rattle.dl_plan.specs.declared.settings.Ask.TheVariants as asks;
 ghost use Rattle.dl_plan.specs.Ranges.{IsLevel, HasLevel};
 ghost use Rattle.dl_plan.specs.Valid.{IsValid};
 ghost use Rattle.dl_budget.specs.Asks.{IsInside, NamesUnit, tail_budget, in_digits};
-ghost use Rattle.dl_eval.specs.Rows.{S, IsBracket, IsTailMean, IsBeyond, IsAnswerTo, IsGood, bracket_end, total_error};
+ghost use Rattle.dl_eval.specs.Rows.{IsBracket, IsTailMean, IsBeyond, IsAnswerTo, IsGood, bracket_end, total_error};
 ghost use Rattle.dl_eval.specs.Totals.{most_mean, IsTotalOf, IsMeanOf, AreGridsOf, HasOthers, Prints};
 
 use crate::grids::Grids;
@@ -33,15 +33,17 @@ pub(crate) fn row_with(alloc: Global, asked: &Asked, low: End, high: End) -> Res
 }
 
 /// The row of an ask whose answer lies in `value`, with so many digits.
-pub(crate) fn ends_row(
+#[tactic(auto, using(crate::proofs::Scales::digits_fit))]
+pub(crate) fn ends_row<const B: u32>(
     alloc: Global,
     asked: &Asked,
     digits: u32,
-    value: Iv<56>,
+    value: Iv<B>,
 ) -> Result<Row, AllocError>
+    requires scale { IsPlanScale B }
     requires digits { digits ≤ most_digits }
     ensures ask { IfOk result (λ row. row.ask ≡ asked.now.text) }
-    ensures ends { IfOk result (λ row. Prints value.lo value.hi digits row) }
+    ensures ends { IfOk result (λ row. Prints (2 ^ B) value.entry.lo value.entry.hi digits row) }
 {
     let (low, high) = value.print_ends(digits);
     row_with(alloc, asked, End::Number(low), End::Number(high))
@@ -58,12 +60,18 @@ fn bracket_end(hi: Option<u32>) -> End
 }
 
 /// The row of an ask for the quantile at `p`.
-fn quantile_row(alloc: Global, asked: &Asked, total: &Grid<56>, p: Frac) -> Result<Row, AllocError>
+fn quantile_row<const B: u32>(
+    alloc: Global,
+    asked: &Asked,
+    total: &Grid<B>,
+    p: Frac,
+) -> Result<Row, AllocError>
+    requires scale { IsPlanScale B }
     requires level { IsLevel p }
     ensures ask { IfOk result (λ row. row.ask ≡ asked.now.text) }
     ensures bracket { IfOk result (λ row. (plan : PlanValue) → IsValid plan
         → IsTotalOf plan total.now
-        → IsBracket plan p (total_error plan) row) }
+        → IsBracket plan p (total_error (2 ^ B) plan) row) }
 {
     total.cells();
     let bracket = quantile(total, p);
@@ -73,22 +81,23 @@ fn quantile_row(alloc: Global, asked: &Asked, total: &Grid<56>, p: Frac) -> Resu
 
 /// The row of an ask for the tail mean at `p`; without numbers where the grid ends before the
 /// quantile.
-fn tail_row(
+fn tail_row<const B: u32>(
     alloc: Global,
     asked: &Asked,
     digits: u32,
-    total: &Grid<56>,
+    total: &Grid<B>,
     p: Frac,
-    mean: Iv<56>,
+    mean: Iv<B>,
 ) -> Result<Row, AllocError>
+    requires scale { IsPlanScale B }
     requires digits { digits ≤ most_digits }
     requires level { IsLevel p }
     requires small { mean.hi ≤ most_mean }
     ensures ask { IfOk result (λ row. row.ask ≡ asked.now.text) }
     ensures tail { IfOk result (λ row. (plan : PlanValue) → IsValid plan
-        → IsTotalOf plan total.now → IsMeanOf plan mean
-        → IsTailMean plan p digits (in_digits S (tail_budget S plan p) digits) row
-        ⊎ IsBeyond plan p (total_error plan) row) }
+        → IsTotalOf plan total.now → IsMeanOf plan mean.entry
+        → IsTailMean plan p digits (in_digits (2 ^ B) (tail_budget (2 ^ B) plan p) digits) row
+        ⊎ IsBeyond plan p (total_error (2 ^ B) plan) row) }
 {
     match tail_mean(total, p, mean) {
         Some(tail) => ends_row(alloc, asked, digits, tail),
@@ -97,14 +106,15 @@ fn tail_row(
 }
 
 /// The row of an ask about a valid plan, from its grids and the mean of its total.
-fn grid_row(
+fn grid_row<const B: u32>(
     alloc: Global,
     asked: &Asked,
     digits: u32,
     plan: &Plan,
-    grids: &Grids,
-    mean: Iv<56>,
+    grids: &Grids<B>,
+    mean: Iv<B>,
 ) -> Result<Row, AllocError>
+    requires scale { IsPlanScale B }
     requires digits { digits ≤ most_digits }
     requires level { HasLevel asked.now.ask }
     requires valid { IsValid plan.now }
@@ -115,7 +125,7 @@ fn grid_row(
     requires mean { IsMeanOf plan.now mean }
     requires small { mean.hi ≤ most_mean }
     ensures ask { IfOk result (λ row. row.ask ≡ asked.now.text) }
-    ensures answer { IfOk result (λ row. IsAnswerTo plan.now digits asked.now.ask row) }
+    ensures answer { IfOk result (λ row. IsAnswerTo (2 ^ B) plan.now digits asked.now.ask row) }
 {
     let total = &grids.sums.total;
     match &asked.ask {
@@ -141,14 +151,16 @@ fn grid_row(
 
 /// The row of an ask about a valid plan, from the mean of its total, and its grids where they were
 /// made; without them, the ask is for the mean.
-pub(crate) fn row(
+#[tactic(auto, using(crate::proofs::Scales::plan_scale))]
+pub(crate) fn row<const B: u32>(
     alloc: Global,
     asked: &Asked,
     digits: u32,
     plan: &Plan,
-    grids: &Option<Grids>,
-    mean: Iv<56>,
+    grids: &Option<Grids<B>>,
+    mean: Iv<B>,
 ) -> Result<Row, AllocError>
+    requires scale { B ≡ bits_of plan.now.cells }
     requires digits { digits ≤ most_digits }
     requires level { HasLevel asked.now.ask }
     requires valid { IsValid plan.now }

@@ -1,12 +1,12 @@
 //! The share of a unit in a total.
 
 ghost use Rattle.std.specs.Prelude.{◌≡◌, ◌*◌, ◌^◌, ◌<◌, ◌≤◌, ◌⊎◌, IsSome, None, ℕ, IfOk, length, get_or};
-ghost use Rattle.dl_limits.specs.Limits.{most_digits};
+ghost use Rattle.dl_limits.specs.Limits.{IsPlanScale, most_digits};
 ghost use Rattle.dl_exact.specs.Fraction.{◌over◌};
 ghost use Rattle.dl_model.specs.Program.{Point};
 ghost use Rattle.dl_plan.specs.Valid.{IsValid};
 ghost use Rattle.dl_budget.specs.Asks.{kappa_budget, in_digits};
-ghost use Rattle.dl_eval.specs.Rows.{S, IsAtMost, IsShareOfUnit, IsTooRare, total_error};
+ghost use Rattle.dl_eval.specs.Rows.{IsAtMost, IsShareOfUnit, IsTooRare, total_error};
 ghost use Rattle.dl_eval.specs.Totals.{AreGridsOf, IsJointOf};
 
 use crate::grids::Grids;
@@ -20,19 +20,20 @@ use dl_report::{End, Row};
 use std::alloc::{AllocError, Global};
 
 /// The mean outcome of unit `i` where the total is `at`, and 0 elsewhere, in buckets.
-pub(crate) fn joint_of(plan: &Plan, grids: &Grids, i: u32, at: u32) -> Iv<56>
+pub(crate) fn joint_of<const B: u32>(plan: &Plan, grids: &Grids<B>, i: u32, at: u32) -> Iv<B>
+    requires scale { IsPlanScale B }
     requires valid { IsValid plan.now }
     requires grids { AreGridsOf plan.now grids.now }
     requires unit { i < length plan.now.units }
     requires there { IsSome (get_or grids.now.sums.others.items i None) }
     requires inside { at < plan.now.cells }
     ensures joint { IsJointOf plan.now i at result }
-    ensures below { (h : ℕ) → IsAtMost plan.now (Point at) (h over S) → result.lo ≤ at * h }
-    ensures small { result.hi ≤ 2 ^ 70 }
+    ensures below { (h : ℕ) → IsAtMost plan.now (Point at) (h over 2 ^ B) → result.lo ≤ at * h }
+    ensures divisible { result.hi * 2 ^ B ≤ 2 ^ 127 }
 {
     // no grid is so wide that its ends are a whole apart
-    prove!(unit_budget::<56>(&plan.units.as_slice()[i as usize], plan.cells) < BUDGET_BOUND);
-    prove!(others_budget::<56>(plan, i) < BUDGET_BOUND);
+    prove!(unit_budget::<B>(&plan.units.as_slice()[i as usize], plan.cells) < BUDGET_BOUND);
+    prove!(others_budget::<B>(plan, i) < BUDGET_BOUND);
     match &grids.sums.others.as_slice()[i as usize] {
         Some(others) => joint_mean(&grids.units.as_slice()[i as usize], others, at),
         None => unreachable!(),
@@ -41,15 +42,16 @@ pub(crate) fn joint_of(plan: &Plan, grids: &Grids, i: u32, at: u32) -> Iv<56>
 
 /// The row of an ask for the mean outcome of unit `i`, given that the total is `at`; without
 /// numbers where that total may be too rare.
-pub(crate) fn share_row(
+pub(crate) fn share_row<const B: u32>(
     alloc: Global,
     asked: &Asked,
     digits: u32,
     plan: &Plan,
-    grids: &Grids,
+    grids: &Grids<B>,
     i: u32,
     at: u32,
 ) -> Result<Row, AllocError>
+    requires scale { IsPlanScale B }
     requires digits { digits ≤ most_digits }
     requires valid { IsValid plan.now }
     requires grids { AreGridsOf plan.now grids.now }
@@ -58,8 +60,8 @@ pub(crate) fn share_row(
     requires inside { at < plan.now.cells }
     ensures ask { IfOk result (λ row. row.ask ≡ asked.now.text) }
     ensures share { IfOk result (λ row. IsShareOfUnit plan.now i at digits
-        (in_digits S (kappa_budget S plan.now i) digits) row
-        ⊎ IsTooRare plan.now at (total_error plan.now) row) }
+        (in_digits (2 ^ B) (kappa_budget (2 ^ B) plan.now i) digits) row
+        ⊎ IsTooRare plan.now at (total_error (2 ^ B) plan.now) row) }
 {
     let joint = joint_of(plan, grids, i, at);
     match conditional_mean(joint, grids.sums.total.at(at)) {

@@ -1,7 +1,7 @@
 //! What is made of each unit: the grid of its outcomes, and their mean.
 
 ghost use Rattle.std.specs.Prelude.{ℕ, List, ◌≡◌, ◌<◌, ◌≤◌, ◌^◌, All, IfOk, length, get_or};
-ghost use Rattle.dl_limits.specs.Limits.{most_cells, most_plan_cells};
+ghost use Rattle.dl_limits.specs.Limits.{IsPlanScale, most_cells, most_plan_cells};
 ghost use Rattle.dl_iv.specs.declared.interval.Iv.{Iv as IvValue};
 ghost use Rattle.dl_grid.specs.Cells.{spread};
 ghost use Rattle.dl_model.specs.Family.{GridEncloses};
@@ -10,7 +10,6 @@ ghost use Rattle.dl_plan.specs.declared.plan.Unit.{Unit as UnitOfPlan};
 ghost use Rattle.dl_plan.specs.Horizon.{IsHorizonOf};
 ghost use Rattle.dl_plan.specs.Valid.{IsValidUnit, IsValid};
 ghost use Rattle.dl_budget.specs.Claims.{claims_budget};
-ghost use Rattle.dl_eval.specs.Rows.{S};
 ghost use Rattle.dl_eval.specs.Totals.{most_unit_mean, IsUnitGrid, IsUnitMean, AreUnitGrids, AreUnitMeans};
 
 use crate::same::first_alike;
@@ -24,11 +23,11 @@ use std::alloc::{AllocError, Global};
 
 /// What is made of the units of a plan, one for each unit, in order.
 #[derive(Drop)]
-pub(crate) struct Outcomes {
+pub(crate) struct Outcomes<const B: u32> {
     /// The grids of the outcomes.
-    pub(crate) grids: Vec<Grid<56>>,
+    pub(crate) grids: Vec<Grid<B>>,
     /// The means of the outcomes, in buckets.
-    pub(crate) means: Vec<Iv<56>>,
+    pub(crate) means: Vec<Iv<B>>,
 }
 
 /// The number of cells on which a unit's claims are added up, for a grid of `cells` cells.
@@ -45,35 +44,37 @@ fn horizon(unit: &Unit, cells: u32) -> u32
 
 /// The grid of the sum of a unit's claims before its aggregate clause, on its horizon for a grid of
 /// `cells` cells.
-fn claims_grid(
+fn claims_grid<const B: u32>(
     alloc: Global,
     work: &mut Workspace,
     unit: &Unit,
     cells: u32,
-) -> Result<Grid<56>, AllocError>
+) -> Result<Grid<B>, AllocError>
+    requires scale { IsPlanScale B }
     requires valid { IsValidUnit cells unit.now }
     requires some { 1 ≤ cells }
     requires few { cells ≤ most_plan_cells }
     ensures horizon { IfOk result (λ g. IsHorizonOf unit.now.cede cells (length g)) }
     ensures encloses { IfOk result (λ g. GridEncloses g (compound_of unit.now.freq unit.now.sev)) }
-    ensures spread { IfOk result (λ g. spread g ≤ claims_budget S (length g) unit.now) }
+    ensures spread { IfOk result (λ g. spread g ≤ claims_budget (2 ^ B) (length g) unit.now) }
 {
     unit_grid_with(alloc, work, unit, horizon(unit, cells))
 }
 
 /// The grid of a unit's outcomes after its aggregate clause, from that of the sum of its claims.
-fn after_clause(
+fn after_clause<const B: u32>(
     alloc: Global,
     unit: &Unit,
-    claims: Grid<56>,
+    claims: Grid<B>,
     cells: u32,
-) -> Result<Grid<56>, AllocError>
+) -> Result<Grid<B>, AllocError>
+    requires scale { IsPlanScale B }
     requires valid { IsValidUnit cells unit.now }
     requires some { 1 ≤ cells }
     requires few { cells ≤ most_plan_cells }
     requires horizon { IsHorizonOf unit.now.cede cells (length claims) }
     requires encloses { GridEncloses claims (compound_of unit.now.freq unit.now.sev) }
-    requires spread { spread claims ≤ claims_budget S (length claims) unit.now }
+    requires spread { spread claims ≤ claims_budget (2 ^ B) (length claims) unit.now }
     ensures { IfOk result (λ g. IsUnitGrid cells unit.now g) }
 {
     match unit.cede {
@@ -83,12 +84,13 @@ fn after_clause(
 }
 
 /// The grid of a unit's outcomes, and their mean.
-fn outcomes_of(
+fn outcomes_of<const B: u32>(
     alloc: Global,
     work: &mut Workspace,
     unit: &Unit,
     cells: u32,
-) -> Result<(Grid<56>, Iv<56>), AllocError>
+) -> Result<(Grid<B>, Iv<B>), AllocError>
+    requires scale { IsPlanScale B }
     requires valid { IsValidUnit cells unit.now }
     requires some { 1 ≤ cells }
     requires few { cells ≤ most_plan_cells }
@@ -104,23 +106,24 @@ fn outcomes_of(
 
 /// The grid of a unit's outcomes, and their mean, where those of the first units are there: those
 /// of a unit that is like it are copied, and else they are worked out.
-fn outcomes_after(
+fn outcomes_after<const B: u32>(
     alloc: Global,
     work: &mut Workspace,
     unit: &Unit,
     cells: u32,
     units: &[Unit],
-    grids: &[Grid<56>],
-    means: &[Iv<56>],
-) -> Result<(Grid<56>, Iv<56>), AllocError>
+    grids: &[Grid<B>],
+    means: &[Iv<B>],
+) -> Result<(Grid<B>, Iv<B>), AllocError>
+    requires scale { IsPlanScale B }
     requires valid { IsValidUnit cells unit.now }
     requires some { 1 ≤ cells }
     requires few { cells ≤ most_plan_cells }
     requires there { length grids.now ≤ length units.now }
     requires as_many { length means.now ≡ length grids.now }
-    requires grids { (i : ℕ) (u : UnitOfPlan) (g : List (IvValue 56)) → i < length grids.now
+    requires grids { (i : ℕ) (u : UnitOfPlan) (g : List (IvValue B)) → i < length grids.now
         → IsUnitGrid cells (get_or units.now i u) (get_or grids.now i g) }
-    requires means { (i : ℕ) (u : UnitOfPlan) (m : IvValue 56) → i < length grids.now
+    requires means { (i : ℕ) (u : UnitOfPlan) (m : IvValue B) → i < length grids.now
         → IsUnitMean cells (get_or units.now i u) (get_or means.now i m) }
     requires small { All (λ mean. mean.hi ≤ most_unit_mean) means.now }
     ensures grid { IfOk result (λ made. IsUnitGrid cells unit.now made.0) }
@@ -136,11 +139,12 @@ fn outcomes_after(
 
 /// The grids of the outcomes of a valid plan's units, and their means. Units that are alike are
 /// worked out once.
-pub(crate) fn unit_outcomes(
+pub(crate) fn unit_outcomes<const B: u32>(
     alloc: Global,
     work: &mut Workspace,
     plan: &Plan,
-) -> Result<Outcomes, AllocError>
+) -> Result<Outcomes<B>, AllocError>
+    requires scale { IsPlanScale B }
     requires valid { IsValid plan.now }
     ensures grids { IfOk result (λ made. AreUnitGrids plan.now.cells plan.now.units
         made.grids.items) }
@@ -152,7 +156,7 @@ pub(crate) fn unit_outcomes(
     let mut grids = Vec::new(alloc);
     let mut means = Vec::new(alloc);
     for unit in units {
-        let (grid, mean) = outcomes_after(
+        let (grid, mean) = outcomes_after::<B>(
             alloc,
             work,
             unit,
@@ -168,12 +172,13 @@ pub(crate) fn unit_outcomes(
 }
 
 /// The mean of a unit's outcomes. It needs a grid only where there is an aggregate clause.
-fn mean_of(
+fn mean_of<const B: u32>(
     alloc: Global,
     work: &mut Workspace,
     unit: &Unit,
     cells: u32,
-) -> Result<Iv<56>, AllocError>
+) -> Result<Iv<B>, AllocError>
+    requires scale { IsPlanScale B }
     requires valid { IsValidUnit cells unit.now }
     requires some { 1 ≤ cells }
     requires few { cells ≤ most_plan_cells }
@@ -190,11 +195,12 @@ fn mean_of(
 }
 
 /// The means of the outcomes of a valid plan's units, where no more is asked for.
-pub(crate) fn unit_means(
+pub(crate) fn unit_means<const B: u32>(
     alloc: Global,
     work: &mut Workspace,
     plan: &Plan,
-) -> Result<Vec<Iv<56>>, AllocError>
+) -> Result<Vec<Iv<B>>, AllocError>
+    requires scale { IsPlanScale B }
     requires valid { IsValid plan.now }
     ensures means { IfOk result (λ means. AreUnitMeans plan.now.cells plan.now.units means.items) }
     ensures small { IfOk result (λ means. All (λ mean. mean.hi ≤ most_unit_mean) means.items) }
@@ -202,7 +208,7 @@ pub(crate) fn unit_means(
     let units = plan.units.as_slice();
     let mut means = Vec::new(alloc);
     for unit in units {
-        let mean = mean_of(alloc, work, unit, plan.cells)?;
+        let mean = mean_of::<B>(alloc, work, unit, plan.cells)?;
         means.push(mean)?;
     }
     Ok(means)

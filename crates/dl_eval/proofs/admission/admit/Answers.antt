@@ -2,7 +2,7 @@ use Rattle.dl_eval.proofs.Common.{subst, subst₂, All, IsInside, NamesUnit}
 use Rattle.dl_eval.proofs.admission.admit.Goals as goal
 
 pub returns-in-Some-first_wide : goal.returns-in-Some-first_wide
-returns-in-Some-first_wide c =
+returns-in-Some-first_wide g c =
     let plan = c.args.plan.now in (
       subst (λ asks. All (λ a. IsInside plan.cells a.ask) asks) c.as_slice-asks.ensures c.in_default.ensures,
       subst₂ (λ units asks. All (λ a. NamesUnit units a.ask) asks) c.as_slice.ensures c.as_slice-asks.ensures
@@ -11,7 +11,7 @@ returns-in-Some-first_wide c =
     )
 
 pub returns : goal.returns
-returns c =
+returns g c =
     let plan = c.args.plan.now in record {
       inside = subst (λ asks. All (λ a. IsInside plan.cells a.ask) asks) c.as_slice-asks.ensures c.in_default.ensures;
       named = subst₂ (λ units asks. All (λ a. NamesUnit units a.ask) asks) c.as_slice.ensures c.as_slice-asks.ensures

@@ -1,38 +1,63 @@
 use Rattle.dl_eval.proofs.Common.{◌≡◌, arith, refl, sym, ap, subst₂, length, All, zip, Asked, IsInside, NamesUnit, HasOthers, IsGood}
 use Rattle.dl_plan.specs.declared.settings.Ask.TheVariants.{Mean}
+use Rattle.dl_plan.specs.Ranges.{HasLevel}
 use Rattle.dl_eval.proofs.Insides.{ask_has}
 use Rattle.std.proofs.lemmas.Option.{IfSome_then}
 use Rattle.dl_eval.proofs.Lists.{each_next, pushed_length, all_pairs}
 use Rattle.dl_eval.proofs.evaluation.report.Goals as goal
 
-pub row-requires-clause-inside : goal.row-requires-clause-inside
-row-requires-clause-inside c =
-    ask_has (λ (a : Asked). IsInside c.args.plan.now.cells a.ask) c.as_slice-asks.result.now c.args.settings.now.asks
-    c.loop-asked.asked-index c.asked-item.result c.as_slice-asks.ensures c.asked-item.is
-    c.loop-asked-test.true c.requires.inside
-
-pub row-requires-clause-named : goal.row-requires-clause-named
-row-requires-clause-named c =
-    ask_has (λ (a : Asked). NamesUnit c.args.plan.now.units a.ask) c.as_slice-asks.result.now c.args.settings.now.asks
-    c.loop-asked.asked-index c.asked-item.result c.as_slice-asks.ensures c.asked-item.is
-    c.loop-asked-test.true c.requires.named
-
-pub row-requires-clause-there : goal.row-requires-clause-there
-row-requires-clause-there c =
-    IfSome_then c.args.parts.now.grids c.requires.there
-    (λ made each.
-    ask_has (λ (a : Asked). HasOthers c.args.plan.now.units made a.ask) c.as_slice-asks.result.now
-    c.args.settings.now.asks c.loop-asked.asked-index c.asked-item.result
-    c.as_slice-asks.ensures c.asked-item.is c.loop-asked-test.true each)
-
-pub row-requires-clause-none : goal.row-requires-clause-none
-row-requires-clause-none c none =
-    ask_has (λ (a : Asked). a.ask ≡ Mean) c.as_slice-asks.result.now c.args.settings.now.asks c.loop-asked.asked-index
-    c.asked-item.result c.as_slice-asks.ensures c.asked-item.is
-    c.loop-asked-test.true (c.requires.none none)
+pub row-requires : goal.row-requires
+row-requires g c =
+    let asks = c.as_slice-asks.result.now in
+    let all = c.args.settings.now.asks in
+    let i = c.loop-asked.asked-index in
+    let asked = c.asked-item.result in
+    let same = c.as_slice-asks.ensures in
+    let plan = c.args.plan.now in
+    let test = c.loop-asked-test.true in (
+      omega arith,
+      (
+        omega arith,
+        (
+          c.requires.scale,
+          (
+            c.requires.ranges.few_digits,
+            (
+              ask_has (λ (a : Asked). HasLevel a.ask) asks all i asked same c.asked-item.is test
+                  c.requires.ranges.levels,
+              (
+                c.requires.valid,
+                (
+                  ask_has (λ (a : Asked). IsInside plan.cells a.ask) asks all i asked same c.asked-item.is test
+                      c.requires.inside,
+                  (
+                    ask_has (λ (a : Asked). NamesUnit plan.units a.ask) asks all i asked same c.asked-item.is test
+                        c.requires.named,
+                    (
+                      c.requires.grids,
+                      (
+                        IfSome_then c.args.parts.now.grids c.requires.there
+                            (λ made each.
+                            ask_has (λ (a : Asked). HasOthers plan.units made a.ask) asks all i asked same
+                            c.asked-item.is test each),
+                        (
+                          λ none. ask_has (λ (a : Asked). a.ask ≡ Mean) asks all i asked same c.asked-item.is test
+                              (c.requires.none none),
+                          (c.requires.mean, c.requires.small),
+                        ),
+                      ),
+                    ),
+                  ),
+                ),
+              ),
+            ),
+          ),
+        ),
+      ),
+    )
 
 pub loop-asked-preserved : goal.loop-asked-preserved
-loop-asked-preserved c = record {
+loop-asked-preserved g c = record {
   as_many = pushed_length c.loop-asked.rows.items c.push.new.self.items c.loop-asked.asked-index c.in_ok-row.row
       c.loop-asked.invariant.as_many c.in_ok-push.ensures.items;
   each = each_next (IsGood c.args.plan.now c.args.settings.now.digits) c.as_slice-asks.result.now
@@ -43,7 +68,7 @@ loop-asked-preserved c = record {
 }
 
 pub returns : goal.returns
-returns c = record {
+returns g c = record {
   digits = refl;
   as_many = omega (
     arith,

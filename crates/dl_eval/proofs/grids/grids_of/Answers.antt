@@ -4,10 +4,10 @@ use Rattle.dl_eval.proofs.Totals.{only_one, grids_of_one}
 use Rattle.dl_eval.proofs.grids.grids_of.Goals as goal
 
 pub returns-then-not-is_shared-clause-grids : goal.returns-then-not-is_shared-clause-grids
-returns-then-not-is_shared-clause-grids c =
+returns-then-not-is_shared-clause-grids g c =
     let only : c.args.units.items ≡ c.unwrap-unit.result ∷ [] =
     only_one c.args.units.items c.pop.new.self.items c.unwrap-unit.result
-    (c.pop.ensures.items ∙ ap (λ (top : Option (List (Iv 56))). c.pop.new.self.items ++ option_to_list top)
+    (c.pop.ensures.items ∙ ap (λ (top : Option (List (Iv g.row.B))). c.pop.new.self.items ++ option_to_list top)
     c.unwrap-unit.ensures) (omega arith) in
     grids_of_one c.args.plan.now c.args.units.items c.unwrap-unit.result
     (record { units = c.pop.new.self; sums = c.in_ok-sums.sums }) c.requires.valid c.requires.units only

@@ -3,7 +3,7 @@ use Rattle.dl_eval.proofs.Totals.{is_total, are_others, has_others, long_enough}
 use Rattle.dl_eval.proofs.grids.shared_grids.Goals as goal
 
 pub total_and_others-requires : goal.total_and_others-requires
-total_and_others-requires c =
+total_and_others-requires g c =
     let plan = c.args.plan.now in
     let grids = c.as_slice-2 in
     let many : length grids.result.now ≡ length plan.units = ap (λ t. length t) grids.ensures.value
@@ -11,9 +11,9 @@ total_and_others-requires c =
     let asked : length c.as_slice-3.result.now ≡ length plan.units =
     ap (λ t. length t) c.as_slice-3.ensures.value ∙ c.in_ok-asked.ensures.as_many
     ∙ ap (λ t. length t) c.as_slice.ensures in (
-      omega arith,
+      omega (arith, c.requires.scale.least, c.requires.scale.most),
       (
-        omega arith,
+        omega (arith, c.requires.scale.least, c.requires.scale.most),
         (
           omega (arith, many, c.requires.valid.some),
           (
@@ -22,7 +22,7 @@ total_and_others-requires c =
               omega (arith, many, asked),
               (
                 (few_cells plan c.requires.valid).0,
-                subst (All (λ (g : List (Iv 56)). plan.cells ≤ length g)) (sym grids.ensures.value)
+                subst (All (λ (g : List (Iv g.row.B)). plan.cells ≤ length g)) (sym grids.ensures.value)
                     (long_enough plan.cells plan.units c.args.units.items c.requires.units),
               ),
             ),
@@ -32,7 +32,7 @@ total_and_others-requires c =
     )
 
 pub returns-clause-grids : goal.returns-clause-grids
-returns-clause-grids c =
+returns-clause-grids g c =
     let plan = c.args.plan.now in
     let sums = c.in_ok-sums.sums in record {
       units = λ i inside some. c.requires.units;
@@ -45,7 +45,7 @@ returns-clause-grids c =
     }
 
 pub returns-clause-there : goal.returns-clause-there
-returns-clause-there c =
+returns-clause-there g c =
     let plan = c.args.plan.now in
     let sums = c.in_ok-sums.sums in
     let rest = subst₂ (λ grids asked. AreSumsWithout plan.cells grids asked sums.others.items)

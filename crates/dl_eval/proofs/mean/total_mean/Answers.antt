@@ -3,16 +3,20 @@ use Rattle.dl_eval.proofs.Means.{means_small, is_mean}
 use Rattle.dl_eval.proofs.mean.total_mean.Goals as goal
 
 pub sum-requires : goal.sum-requires
-sum-requires c = (
-  omega arith,
+sum-requires g c = (
+  omega (arith, c.requires.scale.least, c.requires.scale.most),
   (
-    omega arith,
-    (omega arith, omega (arith, means_small c.args.means.now c.requires.few c.requires.small)),
+    omega (arith, c.requires.scale.least, c.requires.scale.most),
+    (
+      omega (arith, c.requires.scale.least, c.requires.scale.most),
+      omega (arith, means_small c.args.means.now c.requires.few c.requires.small),
+    ),
   ),
 )
 
 pub returns-clause-mean : goal.returns-clause-mean
-returns-clause-mean c = is_mean c.args.means.now c.sum.result c.sum.ensures.low c.sum.ensures.high
+returns-clause-mean g c = is_mean c.args.means.now c.sum.result c.sum.ensures.low c.sum.ensures.high
 
 pub returns-clause-small : goal.returns-clause-small
-returns-clause-small c = omega (arith, c.sum.ensures.high, means_small c.args.means.now c.requires.few c.requires.small)
+returns-clause-small g c =
+    omega (arith, c.sum.ensures.high, means_small c.args.means.now c.requires.few c.requires.small)

@@ -3,7 +3,7 @@ use Rattle.dl_report.specs.declared.report.End.TheVariants.{Number}
 use Rattle.dl_eval.proofs.rows.ends_row.Goals as goal
 
 pub returns-clause-ends : goal.returns-clause-ends
-returns-clause-ends c =
+returns-clause-ends g c =
     let printed = c.print_ends-low.ensures in
     if_ok_two c.row_with.result _ _ _ (λ row low high. record {
       is_low = low ∙ ap Number printed.low;

@@ -1,25 +1,25 @@
-use Rattle.dl_eval.proofs.Common.{arith, ap₂, ◌∙◌, IfOk-weaker, place_of}
+use Rattle.dl_eval.proofs.Common.{◌^◌, arith, ap₂, ◌∙◌, IfOk-weaker, place_of}
 use Rattle.dl_eval.proofs.Insides.{layer_inside}
 use Rattle.dl_eval.proofs.GoodRows.{point_answer, cdf_answer, mean_answer, layer_answer}
 use Rattle.dl_eval.proofs.ShareLaws.{joint_asked, share_asked, tail_asked}
 use Rattle.dl_eval.proofs.rows.grid_row.Goals as goal
 
 pub at-requires : goal.at-requires
-at-requires c =
+at-requires g c =
     let grids = c.args.grids.now in
     omega (arith, rw c.in-Pmf.is at c.requires.inside, c.requires.grids.total.cells)
 
 pub cdf-requires : goal.cdf-requires
-cdf-requires c =
+cdf-requires g c =
     let grids = c.args.grids.now in
     omega (arith, rw c.in-Cdf.is at c.requires.inside, c.requires.grids.total.cells)
 
 pub layer_mean-layer-requires : goal.layer_mean-layer-requires
-layer_mean-layer-requires c =
+layer_mean-layer-requires g c =
     let grids = c.args.grids.now in (
-      omega arith,
+      omega (arith, c.requires.scale.least, c.requires.scale.most),
       (
-        omega arith,
+        omega (arith, c.requires.scale.least, c.requires.scale.most),
         layer_inside c.args.plan.now.cells grids.sums.total c.in-LayerMean.limit c.in-LayerMean.attach
             (rw c.in-LayerMean.is at c.requires.inside)
             c.requires.grids.total.cells,
@@ -27,7 +27,7 @@ layer_mean-layer-requires c =
     )
 
 pub returns-in-Pmf-clause-answer : goal.returns-in-Pmf-clause-answer
-returns-in-Pmf-clause-answer c =
+returns-in-Pmf-clause-answer g c =
     IfOk-weaker c.ends_row.result _ _ (λ row printed.
     rw c.in-Pmf.is (point_answer c.args.plan.now c.args.grids.now.sums.total c.args.digits c.in-Pmf.x c.at.result.lo
     c.at.result.hi row c.at.ensures.low c.at.ensures.high
@@ -35,7 +35,7 @@ returns-in-Pmf-clause-answer c =
     c.ends_row.ensures.ends
 
 pub returns-in-Cdf-clause-answer : goal.returns-in-Cdf-clause-answer
-returns-in-Cdf-clause-answer c =
+returns-in-Cdf-clause-answer g c =
     IfOk-weaker c.ends_row-in-Cdf.result _ _ (λ row printed.
     rw c.in-Cdf.is (cdf_answer c.args.plan.now c.args.grids.now.sums.total c.args.digits c.in-Cdf.x c.cdf.result.lo
     c.cdf.result.hi row c.cdf.ensures.low c.cdf.ensures.high
@@ -44,7 +44,7 @@ returns-in-Cdf-clause-answer c =
     c.ends_row-in-Cdf.ensures.ends
 
 pub returns-in-LayerMean-clause-answer : goal.returns-in-LayerMean-clause-answer
-returns-in-LayerMean-clause-answer c =
+returns-in-LayerMean-clause-answer g c =
     IfOk-weaker c.ends_row-in-LayerMean.result _ _ (λ row printed.
     rw c.in-LayerMean.is (layer_answer c.args.plan.now c.args.grids.now.sums.total c.args.mean c.args.digits
     c.in-LayerMean.attach c.layer_mean-layer.result.lo c.layer_mean-layer.result.hi
@@ -53,20 +53,20 @@ returns-in-LayerMean-clause-answer c =
     c.ends_row-in-LayerMean.ensures.ends
 
 pub returns-in-Mean-clause-answer : goal.returns-in-Mean-clause-answer
-returns-in-Mean-clause-answer c =
+returns-in-Mean-clause-answer g c =
     IfOk-weaker c.ends_row-in-Mean.result _ _ (λ row printed.
     rw c.in-Mean.is (mean_answer c.args.plan.now c.args.digits c.args.mean row c.requires.mean printed))
     c.ends_row-in-Mean.ensures.ends
 
 pub returns-in-Tail-clause-answer : goal.returns-in-Tail-clause-answer
-returns-in-Tail-clause-answer c =
+returns-in-Tail-clause-answer g c =
     IfOk-weaker c.tail_row.result _ _ (λ row told.
-    rw c.in-Tail.is (tail_asked c.args.plan.now c.in-Tail.p c.args.digits row
+    rw c.in-Tail.is (tail_asked (2 ^ g.row.B) c.args.plan.now c.in-Tail.p c.args.digits row
     (told c.args.plan.now c.requires.valid c.requires.grids.total c.requires.mean)))
     c.tail_row.ensures.tail
 
 pub returns-in-Joint-clause-answer : goal.returns-in-Joint-clause-answer
-returns-in-Joint-clause-answer c =
+returns-in-Joint-clause-answer g c =
     IfOk-weaker c.ends_row-in-Joint.result _ _ (λ row printed.
     rw c.in-Joint.is (joint_asked c.args.plan.now c.in-Joint.unit c.in-Joint.at c.place-i.result c.args.digits
     c.joint_of.result row
@@ -74,9 +74,9 @@ returns-in-Joint-clause-answer c =
     c.ends_row-in-Joint.ensures.ends
 
 pub returns-in-Kappa-clause-answer : goal.returns-in-Kappa-clause-answer
-returns-in-Kappa-clause-answer c =
+returns-in-Kappa-clause-answer g c =
     IfOk-weaker c.share_row.result _ _ (λ row told.
-    rw c.in-Kappa.is (share_asked c.args.plan.now c.in-Kappa.unit c.in-Kappa.at c.place-i-in-Kappa.result
+    rw c.in-Kappa.is (share_asked (2 ^ g.row.B) c.args.plan.now c.in-Kappa.unit c.in-Kappa.at c.place-i-in-Kappa.result
     c.args.digits row
     (c.place-i-in-Kappa.ensures ∙ ap₂ place_of c.as_slice-in-Kappa-2.ensures c.as_slice-in-Kappa.ensures) told))
     c.share_row.ensures.share

@@ -4,7 +4,7 @@ use Rattle.dl_eval.proofs.Tails.{tail_answer}
 use Rattle.dl_eval.proofs.rows.tail_row.Goals as goal
 
 pub returns-in-Some-clause-tail : goal.returns-in-Some-clause-tail
-returns-in-Some-clause-tail c =
+returns-in-Some-clause-tail g c =
     IfOk-weaker c.ends_row.result _ _ (λ row printed plan valid t m. inl (
     tail_answer plan c.args.total.now c.args.mean c.args.p c.args.digits c.in-Some.tail.lo c.in-Some.tail.hi row
     (λ none. let some = c.in-Some.ensures.none.1 none in cc) c.in-Some.ensures.holds c.in-Some.ensures.width
@@ -12,7 +12,7 @@ returns-in-Some-clause-tail c =
     c.ends_row.ensures.ends
 
 pub returns-in-None-clause-tail : goal.returns-in-None-clause-tail
-returns-in-None-clause-tail c =
+returns-in-None-clause-tail g c =
     if_ok_two c.row_with.result _ _ _ (λ row low high plan valid t m. inr (record {
       is_low = low;
       is_high = high;

@@ -1,16 +1,17 @@
 use Rattle.dl_eval.proofs.Common.{length, arith, ap, few_cells}
 use Rattle.dl_eval.proofs.Places.{read_as, horizon_there, spread_within, others_there}
+use Rattle.dl_eval.proofs.Scales.{scale_least}
 use Rattle.dl_eval.proofs.ShareLaws.{is_joint, is_below}
 use Rattle.dl_eval.proofs.Totals.{each_cells}
 use Rattle.dl_eval.proofs.shares.joint_of.Goals as goal
 
 pub unit_budget-requires-clause-horizon : goal.unit_budget-requires-clause-horizon
-unit_budget-requires-clause-horizon c =
+unit_budget-requires-clause-horizon g c =
     horizon_there c.args.plan.now c.as_slice.result.now c.args.i c.index-as_slice-i.result c.as_slice.ensures
     c.index-as_slice-i.is c.requires.unit c.requires.valid
 
 pub bounds-as_slice-i-in-Some : goal.bounds-as_slice-i-in-Some
-bounds-as_slice-i-in-Some c =
+bounds-as_slice-i-in-Some g c =
     omega (
       arith,
       c.requires.unit,
@@ -19,7 +20,8 @@ bounds-as_slice-i-in-Some c =
     )
 
 pub joint_mean-requires : goal.joint_mean-requires
-joint_mean-requires c =
+joint_mean-requires g c =
+    let least = scale_least g.row.B c.requires.scale in
     let plan = c.args.plan.now in
     let made = c.requires.grids in
     let unit = c.index-as_slice-i in
@@ -34,9 +36,9 @@ joint_mean-requires c =
     unit.result own.result c.args.i c.unit_budget.result
     c.as_slice.ensures unit.is c.as_slice-in-Some.ensures.value own.is c.requires.unit
     (made.units c.args.i c.requires.unit c.requires.there) c.unit_budget.ensures.value in (
-      omega arith,
+      omega (arith, c.requires.scale.least, c.requires.scale.most),
       (
-        omega arith,
+        omega (arith, c.requires.scale.least, c.requires.scale.most),
         (
           omega (
             arith,
@@ -47,8 +49,8 @@ joint_mean-requires c =
           (
             omega (arith, c.requires.inside, rest.cells),
             (
-              omega (arith, narrow, c.if-prove.false),
-              omega (arith, rest.narrow, c.others_budget.ensures.value, c.if-prove-2.false),
+              omega (arith, narrow, c.if-prove.false, least),
+              omega (arith, rest.narrow, c.others_budget.ensures.value, c.if-prove-2.false, least),
             ),
           ),
         ),
@@ -56,7 +58,7 @@ joint_mean-requires c =
     )
 
 pub returns-clause-joint : goal.returns-clause-joint
-returns-clause-joint c =
+returns-clause-joint g c =
     let plan = c.args.plan.now in
     let made = c.requires.grids in
     let own = c.index-as_slice-i-in-Some in
@@ -71,7 +73,7 @@ returns-clause-joint c =
     c.requires.unit c.requires.valid (made.units c.args.i c.requires.unit c.requires.there) rest
 
 pub returns-clause-below : goal.returns-clause-below
-returns-clause-below c h most =
+returns-clause-below g c h most =
     let plan = c.args.plan.now in
     let made = c.requires.grids in
     let own = c.index-as_slice-i-in-Some in
@@ -85,10 +87,10 @@ returns-clause-below c h most =
     c.joint_mean.ensures.below read c.requires.unit c.requires.valid
     (made.units c.args.i c.requires.unit c.requires.there) rest.encloses h most
 
-pub returns-clause-small : goal.returns-clause-small
-returns-clause-small c = omega (
-  arith,
-  c.joint_mean.ensures.small,
-  c.requires.inside,
-  (few_cells c.args.plan.now c.requires.valid).1,
-)
+pub returns-clause-divisible : goal.returns-clause-divisible
+returns-clause-divisible g c =
+    c.joint_mean.ensures.divisible (omega (
+      arith,
+      c.requires.inside,
+      (few_cells c.args.plan.now c.requires.valid).1,
+    ))

@@ -3,11 +3,11 @@ use Rattle.dl_eval.proofs.ShareLaws.{share_answer, rare_answer}
 use Rattle.dl_eval.proofs.shares.share_row.Goals as goal
 
 pub at-requires : goal.at-requires
-at-requires c =
+at-requires g c =
     omega (arith, c.requires.inside, c.requires.grids.total.cells)
 
 pub returns-in-Some-clause-share : goal.returns-in-Some-clause-share
-returns-in-Some-clause-share c =
+returns-in-Some-clause-share g c =
     IfOk-weaker c.ends_row.result _ _ (λ row printed. inl (
     share_answer c.args.plan.now c.args.grids.now.sums.total c.joint_of-joint.result c.args.i c.args.at c.at.result.lo
     c.at.result.hi c.args.digits c.in-Some.share.lo c.in-Some.share.hi row
@@ -17,7 +17,7 @@ returns-in-Some-clause-share c =
     c.ends_row.ensures.ends
 
 pub returns-in-None-clause-share : goal.returns-in-None-clause-share
-returns-in-None-clause-share c =
+returns-in-None-clause-share g c =
     if_ok_two c.row_with.result _ _ _ (λ row low high. inr (record {
       is_low = low;
       is_high = high;

@@ -3,7 +3,7 @@ use Rattle.dl_eval.proofs.AlikeLaws.{alike_grid, alike_mean}
 use Rattle.dl_eval.proofs.units.outcomes_after.Goals as goal
 
 pub returns-clause-grid : goal.returns-clause-grid
-returns-clause-grid c =
+returns-clause-grid g c =
     let unit = c.args.unit.now in
     let grid = c.index-grids-j in
     let j = c.in-Some.j in
@@ -13,7 +13,7 @@ returns-clause-grid c =
     (c.in_ok-grid.ensures ∙ ap (take c.args.cells) grid.is)
 
 pub returns-clause-mean : goal.returns-clause-mean
-returns-clause-mean c =
+returns-clause-mean g c =
     let unit = c.args.unit.now in
     let mean = c.index-means-j in
     let j = c.in-Some.j in
