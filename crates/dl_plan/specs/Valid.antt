@@ -1,5 +1,5 @@
 -- What a valid plan is.
-use Rattle.std.specs.Prelude.{ℕ, ◌≡◌, ◌≢◌, ◌*◌, ◌≤◌, ◌^◌, IfSome, length, All, AllPairs}
+use Rattle.std.specs.Prelude.{ℕ, ◌≡◌, ◌≢◌, ◌*◌, ◌≤◌, ◌^◌, None, IfSome, length, All, AllPairs}
 use Rattle.dl_limits.specs.Limits.{most_amount, most_cells, most_expected, most_items, most_log2, most_units}
 use Rattle.dl_exact.specs.Fraction.{Fraction, whole, ◌-ℚ◌, ◌*ℚ◌, ◌≤ℚ◌, ◌<ℚ◌}
 use Rattle.dl_plan.specs.declared.cede.CedeLayer.{CedeLayer}
@@ -35,7 +35,7 @@ pub record IsAggregate (cells : ℕ) (sev : Sev) (clause : Clause) : Type 0 wher
   pub whole : (n : ℕ) → IsWhole (kept clause (n * common_amount sev.items))
   pub horizon : (k : ℕ) × IsHorizon clause cells k × (k ≤ most_cells)
 
--- a unit of a valid plan
+-- a unit of a valid plan; its probability of no claim is not changed
 pub record IsValidUnit (cells : ℕ) (u : UnitOfPlan) : Type 0 where
   pub amounts : All (λ item. item.amount ≤ most_amount) u.sev.items
   pub items : ¬ IsUnbounded u.freq → length u.sev.items ≤ most_items
@@ -44,9 +44,10 @@ pub record IsValidUnit (cells : ℕ) (u : UnitOfPlan) : Type 0 where
   pub thinned : IsUnbounded u.freq → HasPartsOf48Bits (thinned_mean u)
       × (thinned_mean u ≤ℚ whole most_expected)
   pub clause : IfSome u.cede (IsAggregate cells u.sev)
+  pub zero : u.zero ≡ None
 
 -- a bucket size above 0, a power of two from 2 to 4,096 cells, and 1 to 16 valid units with
--- different names
+-- different names, which share no factor
 pub record IsValid (plan : Plan) : Type 0 where
   pub bucket : whole 0 <ℚ plan.bs
   pub cells : (k : ℕ) × (1 ≤ k) × (k ≤ most_log2) × (plan.cells ≡ 2 ^ k)
@@ -54,3 +55,4 @@ pub record IsValid (plan : Plan) : Type 0 where
   pub few : length plan.units ≤ most_units
   pub names : AllPairs (λ u v. u.name ≢ v.name) plan.units
   pub units : All (IsValidUnit plan.cells) plan.units
+  pub common : plan.common ≡ None

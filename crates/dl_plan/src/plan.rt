@@ -49,6 +49,9 @@ pub struct Unit {
     pub freq: Freq,
     /// The aggregate clause, where there is one.
     pub cede: Option<Cede>,
+    /// The probability of no claim after it is changed; `None`: the claim count as it is. No valid
+    /// plan has a change yet.
+    pub zero: Option<Frac>,
 }
 
 /// What a program means.
@@ -60,4 +63,7 @@ pub struct Plan {
     pub cells: u32,
     /// The units in the order of the text.
     pub units: Items<Unit>,
+    /// The shape of the gamma factor of mean 1 that all claim counts share; `None`: the units are
+    /// independent. No valid plan has such a factor yet.
+    pub common: Option<u32>,
 }

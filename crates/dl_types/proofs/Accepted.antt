@@ -77,8 +77,9 @@ module _ (settings : Settings) (before : List UnitAst) (u : UnitAst) (formed : I
         sev = sev.0;
         freq = freq.0;
         cede = aggregate_clause g.agr;
+        zero = None;
       } in
-      let answer = grid_answer settings unit g grid groups.2 u.name.text made refl
+      let answer = grid_answer settings unit g grid groups.2 u.name.text made refl refl
       (record { means = sev.1; near = sev.2; few = sev.3 }) freq.1 clause in
       (made, (none, answer.1, answer.2))
 
@@ -127,7 +128,7 @@ unfolding first_fault
 accepted program settings formed set none =
     let many = both most_units rules.TooManyUnits (too_many_units program.units) _ none in
     let units = units_there settings program.units formed.units many.1 in
-    let plan : Plan = record { bs = settings.bs; cells = cells_asked settings; units = units.0 } in
-    let answer = plan_of_units program settings plan refl refl set formed
+    let plan : Plan = record { bs = settings.bs; cells = cells_asked settings; units = units.0; common = None } in
+    let answer = plan_of_units program settings plan refl refl refl set formed
     (few_units program.units many.0) many.0 units.1 in
     (plan, answer.1, answer.2)

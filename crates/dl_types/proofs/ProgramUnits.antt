@@ -127,17 +127,18 @@ module _ (program : Program) (settings : Settings) where
   fault_of_many place many = ap (λ p. breaks most_units rules.TooManyUnits p
       else in_turn (first_fault_of settings) [] program.units) many
 
-  pub plan_of_units : (plan : Plan) → plan.bs ≡ settings.bs → plan.cells ≡ cells_asked settings → IsSet settings
+  pub plan_of_units : (plan : Plan) → plan.bs ≡ settings.bs → plan.cells ≡ cells_asked settings
+      → plan.common ≡ None → IsSet settings
       → IsWellFormed program → length program.units ≤ most_units
       → too_many_units program.units ≡ None → AnswersUnits settings program.units (Ok plan.units)
       → IsCheckOf program settings (Ok plan)
   unfolding first_fault
-  plan_of_units plan bs cells set formed few none told =
+  plan_of_units plan bs cells common set formed few none told =
       let as_many : length plan.units ≡ length program.units =
       AllZip-long (IsUnitOf settings.bs) program.units plan.units told.1 in (
         ap (λ p. breaks most_units rules.TooManyUnits p else in_turn (first_fault_of settings) [] program.units) none ∙
             told.0,
-        record { bucket = bs; cells = cells; units = told.1 },
+        record { bucket = bs; cells = cells; units = told.1; common = common },
         record {
           bucket = subst (λ x. whole 0 <ℚ x) (sym bs) set.bucket.above;
           cells = (settings.log2, set.some, set.few, cells);
@@ -145,5 +146,6 @@ module _ (program : Program) (settings : Settings) where
           few = omega (arith, as_many, few);
           names = told.3;
           units = subst (λ n. All (IsValidUnit n) plan.units) (sym cells) told.2;
+          common = common;
         },
       )

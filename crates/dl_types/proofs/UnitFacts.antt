@@ -168,7 +168,8 @@ module _ (bs : Fraction) (unit : ℕ) (u : GridUnit) (grid : IsGridUnit u) (none
   -- ---- the unit of the plan
 
   module _ (cells : ℕ) (ceded : off_grid_cession u ≡ None) (near : horizon_too_large cells u.agr ≡ None) (text : List ℕ)
-      (made : UnitOfPlan) (name : made.name ≡ text) (sev : IsFinal u made.sev) (freq : IsCountMade u.count n made.freq)
+      (made : UnitOfPlan) (name : made.name ≡ text) (zero : made.zero ≡ None) (sev : IsFinal u made.sev)
+      (freq : IsCountMade u.count n made.freq)
       (cede : IsCedeOf u.agr made.cede) where
     pub unit_is : IsUnitOn bs text u made
     unit_is = record {
@@ -176,6 +177,7 @@ module _ (bs : Fraction) (unit : ℕ) (u : GridUnit) (grid : IsGridUnit u) (none
       severity = sev.means;
       count = made_is bs u u.count n made.freq claims_is kept_is freq;
       clause = cede.same;
+      zero = zero;
     }
 
     pub unit_valid : IsValidUnit cells made
@@ -188,6 +190,7 @@ module _ (bs : Fraction) (unit : ℕ) (u : GridUnit) (grid : IsGridUnit u) (none
           expected = valid.1;
           thinned = made_thinned (final_severity u) made.sev sev.means u.count n made.freq are_kept freq;
           clause = aggregate_valid cells u ceded fine_occ near made.sev sev.means made.cede cede;
+          zero = zero;
         }
 
 -- ---- all rules on the unit in whole buckets
@@ -236,23 +239,25 @@ grid_parts settings unit u none =
 
 module _ (settings : Settings) (unit : ℕ) (u : GridUnit) (grid : IsGridUnit u)
     (none : fault_on_grid settings unit u ≡ None) (text : List ℕ) where
-  pub grid_answer : (made : UnitOfPlan) → made.name ≡ text → IsFinal u made.sev
+  pub grid_answer : (made : UnitOfPlan) → made.name ≡ text → made.zero ≡ None → IsFinal u made.sev
       → IsCountMade u.count (expected_claims settings.bs u) made.freq → IsCedeOf u.agr made.cede
       → AnswersGrid settings unit text u (Ok made)
-  grid_answer made name sev freq cede =
+  grid_answer made name zero sev freq cede =
       let parts = grid_parts settings unit u none in
       let ceded = (layered_is unit u grid parts.0).1 in (
         none,
-        unit_is settings.bs unit u grid parts.1 (cells_asked settings) ceded parts.2 text made name sev freq cede,
-        unit_valid settings.bs unit u grid parts.1 (cells_asked settings) ceded parts.2 text made name sev freq cede,
+        unit_is settings.bs unit u grid parts.1 (cells_asked settings) ceded parts.2 text made name zero sev freq cede,
+        unit_valid settings.bs unit u grid parts.1 (cells_asked settings) ceded parts.2 text made name zero sev freq
+            cede,
       )
 
   -- the unit is made of these parts, or there is no room for it
   pub made_answer : (sev : Sev) (clause : Option Clause) → IsFinal u sev → IsCedeOf u.agr clause
       → (r : Result UnitOfPlan CheckFault) → IfOk r (λ made. made.name ≡ text) → IfOk r (λ made. made.sev ≡ sev)
       → IfOk r (λ made. IsCountMade u.count (expected_claims settings.bs u) made.freq)
-      → IfOk r (λ made. made.cede ≡ clause) → IfErr r (λ stop. stop ≡ OutOfMemory) → AnswersGrid settings unit text u r
-  made_answer sev clause final cede (Ok made) name same freq kept room =
-      grid_answer made name (subst (IsFinal u) (sym same) final) freq (subst (IsCedeOf u.agr) (sym kept) cede)
-  made_answer sev clause final cede (Err stop) name same freq kept room =
+      → IfOk r (λ made. made.cede ≡ clause) → IfOk r (λ made. made.zero ≡ None) → IfErr r (λ stop. stop ≡ OutOfMemory)
+      → AnswersGrid settings unit text u r
+  made_answer sev clause final cede (Ok made) name same freq kept plain room =
+      grid_answer made name plain (subst (IsFinal u) (sym same) final) freq (subst (IsCedeOf u.agr) (sym kept) cede)
+  made_answer sev clause final cede (Err stop) name same freq kept plain room =
       subst (StopsAt (fault_on_grid settings unit u)) (sym room) tt

@@ -85,21 +85,23 @@ pub record IsCedeOf (cession : Option GridClause) (made : Option Clause) : Type 
   pub near : IfSome made (λ clause. All IsWithinMostAmount clause.1)
 
 -- the unit of the plan has the name, the final severity, the claim count and the aggregate clause
--- of a unit in whole buckets
+-- of a unit in whole buckets, and its probability of no claim is not changed
 pub record IsUnitOn (bs : Fraction) (text : List ℕ) (u : GridUnit) (made : UnitOfPlan) : Type 0
   where
     pub name : made.name ≡ text
     pub severity : Means made.sev (final_severity u)
     pub count : IsCountOf bs u u.count made.freq
     pub clause : made.cede ≡ aggregate_clause u.agr
+    pub zero : made.zero ≡ None
 
 -- and those of the text
 abbrev pub IsUnitOf : Fraction → UnitAst → UnitOfPlan → Type 0
 IsUnitOf bs u made = IsUnitOn bs u.name.text (grid_of bs (read_of u)) made
 
 -- the plan of a program: the bucket size and the cells of the settings, and the units in the order
--- of the text
+-- of the text, which share no factor
 pub record IsPlanOf (program : Program) (settings : Settings) (plan : Plan) : Type 0 where
   pub bucket : plan.bs ≡ settings.bs
   pub cells : plan.cells ≡ cells_asked settings
   pub units : AllZip (IsUnitOf settings.bs) program.units plan.units
+  pub common : plan.common ≡ None

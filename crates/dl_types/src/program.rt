@@ -40,6 +40,7 @@ pub fn check(alloc: Global, program: &Program, settings: &Settings) -> Result<Pl
             bs: settings.bs,
             cells: cells(settings),
             units,
+            common: None,
         }),
         Err(fault) => Err(fault),
     }

@@ -445,6 +445,7 @@ fn planned(
     ensures severity { IfOk result (λ made. made.sev ≡ claims.severity) }
     ensures count { IfOk result (λ made. IsCountMade count.now claims.count made.freq) }
     ensures clause { IfOk result (λ made. made.cede ≡ cede) }
+    ensures zero { IfOk result (λ made. made.zero ≡ None) }
     ensures room { IfErr result (λ stop. stop ≡ OutOfMemory) }
 {
     let freq = unit_count(alloc, count, &claims.count)?;
@@ -454,6 +455,7 @@ fn planned(
         sev: claims.severity,
         freq,
         cede,
+        zero: None,
     })
 }
 

@@ -31,6 +31,7 @@ fn unit_under(alloc: Global, cede: Option<Cede>) -> Result<Unit, AllocError> {
         sev: Sev::from_rising(items),
         freq: Freq::Fixed(1),
         cede,
+        zero: None,
     })
 }
 
@@ -283,6 +284,7 @@ fn means_of(alloc: Global, num: u32, den: u32) -> Result<Option<Means>, AllocErr
         sev: some_claims(alloc)?,
         freq: Freq::Poisson(mean),
         cede: None,
+        zero: None,
     };
     if !unit
         .sev

@@ -78,6 +78,7 @@ fn grid_of<const B: u32>(alloc: Global, freq: Freq) -> Result<Grid<B>, AllocErro
         sev,
         freq,
         cede: None,
+        zero: None,
     };
     unit_grid(alloc, &unit, 6)
 }
@@ -310,6 +311,7 @@ fn eight_expected(alloc: Global) -> Result<Unit, AllocError>
         sev,
         freq: Freq::Poisson(fraction(8, 1)),
         cede: None,
+        zero: None,
     })
 }
 

@@ -55,4 +55,4 @@ returns c =
     (subst (λ text. IfOk c.planned.result (λ made. made.name ≡ text)) c.as_slice.ensures made.name) made.severity
     (subst (λ n. IfOk c.planned.result (λ made. IsCountMade u.count n made.freq)) c.in_ok-claims.ensures.count
     made.count)
-    made.clause made.room
+    made.clause made.zero made.room
