@@ -30,24 +30,24 @@ outcomes_after-requires g c =
                     omega (arith, many, as_many, c.loop-unit.invariant.many_grids, c.loop-unit.invariant.many_means),
                     (
                       λ i u grid inside.
-                      subst (λ (t : List (List (Iv g.row.B))). IsUnitGrid plan.cells (get_or units.result.now i u)
-                      (get_or t i grid)) (sym grids)
-                      (c.loop-unit.invariant.grids i u grid (omega (
-                        arith,
-                        inside,
-                        many,
-                        c.loop-unit.invariant.many_grids,
-                      ))),
+                          subst (λ (t : List (List (Iv g.row.B))). IsUnitGrid plan.cells (get_or units.result.now i u)
+                          (get_or t i grid)) (sym grids)
+                          (c.loop-unit.invariant.grids i u grid (omega (
+                            arith,
+                            inside,
+                            many,
+                            c.loop-unit.invariant.many_grids,
+                          ))),
                       (
                         λ i u m inside.
-                        subst (λ (t : List (Iv g.row.B)). IsUnitMean plan.cells (get_or units.result.now i u)
-                        (get_or t i m)) (sym means)
-                        (c.loop-unit.invariant.means i u m (omega (
-                          arith,
-                          inside,
-                          many,
-                          c.loop-unit.invariant.many_grids,
-                        ))),
+                            subst (λ (t : List (Iv g.row.B)). IsUnitMean plan.cells (get_or units.result.now i u)
+                            (get_or t i m)) (sym means)
+                            (c.loop-unit.invariant.means i u m (omega (
+                              arith,
+                              inside,
+                              many,
+                              c.loop-unit.invariant.many_grids,
+                            ))),
                         subst (All (λ (mean : Iv g.row.B). mean.hi ≤ 2 ^ 93)) (sym means) c.loop-unit.invariant.small,
                       ),
                     ),
