@@ -202,10 +202,7 @@ class Packages(Case):
             raise unittest.SkipTest("python3 -m venv does not run here")
         done = subprocess.run([fresh / "bin" / "pip", "install", "--no-index", packed], capture_output=True, text=True)
         self.assertEqual(done.returncode, 0, done.stderr)
-        command = self.room / "command"
-        command.write_text(f"#!/bin/sh\nunset PYTHONPATH\nexec {fresh}/bin/decl \"$@\"\n")
-        command.chmod(0o755)
-        self.runs_examples(ROOT, command)
+        self.runs_examples(ROOT, fresh / "bin" / "decl")
         ask = "import decl; print(decl.program.find()); print(decl.run('agg D dfreq [2] dsev [1:6]', ['pmf:2']), end='')"
         done = subprocess.run([fresh / "bin" / "python", "-c", ask], env={}, cwd=self.room, capture_output=True, text=True)
         self.assertRegex(done.stdout, rf"\A{self.room}/venv/lib/\S*/decl/bin/decl\npmf:2 0.027777 0.027778\n\Z", done.stderr)

@@ -23,7 +23,6 @@ ANY = "py3-none-any"
 PLATFORM = "py3-none-manylinux_2_34_x86_64"
 #: where the program stands in a wheel that has it; `decl.program` looks there
 PROGRAM = "decl/bin/decl"
-COMMAND = "[console_scripts]\ndecl = decl.program:main\n"
 DATE = (2026, 1, 1, 0, 0, 0)
 
 
@@ -37,6 +36,8 @@ PROJECT = project()
 NAME = PROJECT["name"].replace("-", "_")
 VERSION = PROJECT["version"]
 FACTS = f"{NAME}-{VERSION}.dist-info"
+#: the command of that wheel, which pip puts on the path of the environment
+COMMAND = f"{NAME}-{VERSION}.data/scripts/decl"
 
 
 def metadata():
@@ -89,7 +90,7 @@ def write_wheel(folder, files, tag=ANY):
     with zipfile.ZipFile(pathlib.Path(folder) / wheel, "w", zipfile.ZIP_DEFLATED) as archive:
         for name, data in files:
             entry = zipfile.ZipInfo(name, DATE)
-            entry.external_attr = (0o100755 if name == PROGRAM else 0o100644) << 16
+            entry.external_attr = (0o100755 if name in (PROGRAM, COMMAND) else 0o100644) << 16
             entry.compress_type = zipfile.ZIP_DEFLATED
             archive.writestr(entry, data)
     return wheel
@@ -102,7 +103,8 @@ def build_wheel(wheel_directory, config_settings=None, metadata_directory=None):
 
 def build_wheel_with(program, folder):
     """The wheel with the modules, the program and a command that is it."""
-    inside = [(PROGRAM, pathlib.Path(program).read_bytes()), (f"{FACTS}/entry_points.txt", COMMAND.encode())]
+    command = (HERE / "backend" / "command.py").read_bytes()
+    inside = [(PROGRAM, pathlib.Path(program).read_bytes()), (COMMAND, command)]
     return write_wheel(folder, modules() + inside, PLATFORM)
 
 

@@ -3,9 +3,7 @@
 import os
 import pathlib
 import shutil
-import signal
 import subprocess
-import sys
 from typing import Iterable, Optional, Sequence, Tuple, Union
 
 from . import faults
@@ -26,13 +24,6 @@ def find() -> str:
             program=named,
         )
     return found
-
-
-def main() -> None:
-    """Becomes the program of the package: the command `decl` of a wheel that has it."""
-    for number in (signal.SIGPIPE, signal.SIGXFSZ):  # which Python ignores, and a program that it becomes would too
-        signal.signal(number, signal.SIG_DFL)
-    os.execv(INSIDE, ["decl", *sys.argv[1:]])
 
 
 def as_text(text: Union[str, bytes]) -> str:
