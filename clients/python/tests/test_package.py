@@ -39,7 +39,7 @@ class Package(Case):
 
     def test_hints_name_types(self):
         for name, function in public():
-            if name != "Report.to_frame":  # pandas need not be installed
+            if name not in ("Report.to_frame", "Table.to_frame", "Book.plot"):  # pandas and matplotlib need not be installed
                 typing.get_type_hints(function)
 
     def test_options_are_named(self):
@@ -58,7 +58,15 @@ class Package(Case):
 
     def test_the_page_in_money(self):
         """The block of the page under "In money" prints what stands behind its `#`."""
-        block = (PYTHON / "README.md").read_text(encoding="utf-8").split("## In money\n")[1].split("\n## ")[0]
+        self.prints_what_stands("In money")
+
+    def test_the_page_on_books(self):
+        """So does the block under "Books in money"."""
+        self.prints_what_stands("Books in money")
+
+    def prints_what_stands(self, heading):
+        page = (PYTHON / "README.md").read_text(encoding="utf-8")
+        block = page.split(f"## {heading}\n")[1].split("\n## ")[0]
         lines = [line[4:].partition("# ") for line in block.splitlines() if line.startswith("    ")]
         written = io.StringIO()
         with contextlib.redirect_stdout(written):

@@ -4,10 +4,13 @@
     >>> report = decl.run("agg Dice dfreq [2] dsev [1:6]", ["pmf:2", "q:0.9"])
     >>> report["pmf:2"].low, report["pmf:2"].high
     (Fraction(27777, 1000000), Fraction(13889, 500000))
+    >>> book = decl.Book("agg Fire 3 claims dsev [10000 20000 50000] [0.5 0.3 0.2] poisson")
+    >>> print(book.return_periods([10, 100]))
 
 The program is the one that the variable DECL names, else the one of the package, where it has one, else `decl` on the path.
 """
 
+from .books import Book
 from .calls import check, fmt, made, report, run
 from .choose import bucket, grid
 from .faults import (
@@ -19,6 +22,7 @@ from .faults import (
     GridTooSmall,
     Killed,
     NeedsWidth,
+    NoMoments,
     NotText,
     NoWords,
     OutOfMemory,
@@ -33,7 +37,9 @@ from .faults import (
     WriteFault,
 )
 from .magic import load_ipython_extension
+from .moments import Moments
 from .reports import Report, Row
+from .tables import Table
 
 __version__ = "0.2"
 
@@ -41,11 +47,14 @@ __all__ = [
     "AskFault",
     "BadAnswer",
     "BadByte",
+    "Book",
     "ContinuousSeverity",
     "DeclError",
     "GridTooSmall",
     "Killed",
+    "Moments",
     "NeedsWidth",
+    "NoMoments",
     "NotText",
     "NoWords",
     "OutOfMemory",
@@ -55,6 +64,7 @@ __all__ = [
     "Row",
     "RuleFault",
     "SyntaxFault",
+    "Table",
     "TextFault",
     "TooLong",
     "TookTooLong",

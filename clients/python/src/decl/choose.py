@@ -9,6 +9,7 @@ from typing import List, Optional
 from .calls import Number, Text, check, fmt, run, spelled
 from .faults import GridTooSmall, RuleFault
 
+NOTE = re.compile(r"note\{[^{}]*\}")
 TOKEN = re.compile(r"note\{[^{}]*\}|\d+/\d+|(?:\d+\.?\d*|\.\d+)%?|[A-Za-z][A-Za-z0-9_-]*|[\[\]:,!]")
 OFF_GRID_CESSION = 13
 LARGEST = 12

@@ -75,6 +75,10 @@ class GridTooSmall(DeclError):
     row: "Row"
 
 
+class NoMoments(DeclError):
+    """A moment that does not follow from the text: an aggregate clause is in its way, or it would be divided by 0."""
+
+
 class NoWords(DeclError):
     """The system did not give the program its words."""
 

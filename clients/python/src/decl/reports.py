@@ -15,7 +15,7 @@ if TYPE_CHECKING:
     import pandas
 
 End = Union[Fraction, Decimal, int, None]
-PROBABILITIES = ("pmf", "cdf")
+PROBABILITIES = ("pmf", "cdf", "sf")
 NOT_THERE = ("beyond", "-")
 
 

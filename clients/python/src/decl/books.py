@@ -1,0 +1,272 @@
+"""A book in money: bucket and grid are chosen, amounts are given and answered in money, each answer by two ends."""
+
+import math
+from fractions import Fraction
+from typing import TYPE_CHECKING, Any, Dict, Iterable, List, Optional, Tuple
+
+from . import program
+from .calls import Number, Text, fmt, run, spelled
+from .choose import LARGEST, NOTE, bucket, grid, value_of
+from .faults import GridTooSmall
+from .moments import Moments, of_unit, of_units
+from .plan import Unit, units_of
+from .reports import Report, Row, plain
+from .tables import Cell, Table
+
+if TYPE_CHECKING:
+    import matplotlib.axes
+
+Ends = Tuple[Fraction, Fraction]
+Limit = Optional[Number]
+MOST_ASKS = 256
+#: A call takes its width from the rule, so that an answer is as narrow as the rule has it and no call is refused.
+WIDEST = {"width": 10**9, "mwidth": 10**12}
+RETURN_PERIODS = (10, 50, 100, 200, 250)
+LEVELS = ("0.5", "0.9", "0.95", "0.99", "0.995")
+
+
+def exact(value: Number) -> Fraction:
+    """The number that is given: a text such as `"1/3"` or `"99.5%"`, or a number; a float is the decimal that Python prints."""
+    return value_of(value) if isinstance(value, str) else Fraction(spelled(value))
+
+
+def answered(ask: str, ends: Ends) -> Row:
+    """A row in money with these ends."""
+    return Row(ask, *ends, (plain(ends[0]), plain(ends[1])), True)
+
+
+class Book:
+    """The book that a text declares, in money.
+
+    `bs` is the size of a bucket in money and `log2` the size of the grid, as they were chosen or given; `cells` is the
+    number of buckets and `units` has the names of the units. Amounts are given as numbers, or as texts such as `"1/3"`;
+    each answer is a `Row` whose ends, `low` and `high`, are proved to hold the declared value.
+    """
+
+    def __init__(
+        self,
+        text: Text,
+        *,
+        bs: Optional[Number] = None,
+        log2: Optional[int] = None,
+        digits: int = 6,
+        inside: Number = "0.999999",
+        timeout: Optional[float] = None,
+    ) -> None:
+        """The bucket is the greatest that divides all amounts, the grid the least in which a probability of `inside` is
+        sure to lie, else the largest. `digits` are those of an answer in buckets; `timeout` is in seconds, for one call.
+        """
+        self.text = program.as_text(text)
+        self.digits = digits
+        self.timeout = timeout
+        self.bs = bucket(text, timeout=timeout) if bs is None else exact(bs)
+        self.log2 = self._grid(inside) if log2 is None else log2
+        self.cells = 2**self.log2
+        self.plan: List[Unit] = units_of(text, timeout=timeout)
+        self.units = tuple(unit.name for unit in self.plan)
+        self._known: Dict[str, Row] = {}
+
+    def _grid(self, inside: Number) -> int:
+        try:
+            return grid(self.text, inside, bs=self.bs, timeout=self.timeout)
+        except GridTooSmall:
+            return LARGEST
+
+    def __repr__(self) -> str:
+        return f"<decl book of {', '.join(self.units)}: {self.cells} buckets of {plain(self.bs)}>"
+
+    def _rows(self, asks: Iterable[str]) -> List[Row]:
+        """The rows of the asks, in buckets; each is asked once."""
+        asks = list(asks)
+        wanted = [ask for ask in dict.fromkeys(asks) if ask not in self._known]
+        for first in range(0, len(wanted), MOST_ASKS):
+            part = wanted[first : first + MOST_ASKS]
+            settings: Dict[str, Any] = {"log2": self.log2, "digits": self.digits, "timeout": self.timeout, **WIDEST}
+            self._known.update((row.ask, row) for row in run(self.text, part, bs=self.bs, **settings))
+        return [self._known[ask] for ask in asks]
+
+    def _row(self, ask: str) -> Row:
+        return self._rows([ask])[0]
+
+    def _within(self, bucket: int) -> Ends:
+        """Ends of the probability that the total is at most so many buckets, also past the grid and below 0."""
+        if bucket < 0:
+            return Fraction(0), Fraction(0)
+        row = self._row(f"cdf:{min(bucket, self.cells - 1)}")
+        low, high = row.low or Fraction(0), row.high or Fraction(0)
+        return Fraction(low), Fraction(1) if bucket >= self.cells else Fraction(high)
+
+    def _above(self, bucket: int) -> Ends:
+        low, high = self._within(bucket)
+        return 1 - high, 1 - low
+
+    def mean(self) -> Row:
+        """The mean of the total."""
+        return self._row("mean").in_money(self.bs)
+
+    def q(self, p: Number) -> Row:
+        """The least total that is not exceeded with a probability of `p` or more: the VaR. `high` is None where it may lie
+        past the grid."""
+        return self._row(f"q:{plain(exact(p))}").in_money(self.bs)
+
+    def tail(self, p: Number) -> Row:
+        """The mean of the total in its worst `1 - p`: the TVaR."""
+        return self._row(f"tail:{plain(exact(p))}").in_money(self.bs)
+
+    def cdf(self, x: Number) -> Row:
+        """The probability that the total is at most `x`, which may lie between two buckets or past the grid."""
+        amount = exact(x)
+        return answered(f"cdf:{plain(amount)}", self._within(math.floor(amount / self.bs)))
+
+    def sf(self, x: Number) -> Row:
+        """The probability that the total is above `x`."""
+        amount = exact(x)
+        return answered(f"sf:{plain(amount)}", self._above(math.floor(amount / self.bs)))
+
+    def pmf(self, x: Number) -> Row:
+        """The probability that the total is `x`; 0 where `x` is no whole number of buckets."""
+        amount = exact(x)
+        at = amount / self.bs
+        if at.denominator > 1 or at < 0:
+            return answered(f"pmf:{plain(amount)}", (Fraction(0), Fraction(0)))
+        return self._row(f"pmf:{at}").in_money(self.bs)
+
+    def layer(self, limit: Limit, attachment: Number = 0) -> Row:
+        """The mean of what of the total lies above `attachment`, at most `limit` of it; None or "inf" is no limit.
+
+        Neither has to be a whole number of buckets: between two of them the mean moves in a straight line.
+        """
+        low = exact(attachment)
+        if low < 0:
+            raise ValueError(f"an attachment is at least 0, not {low}")
+        unlimited = limit is None or limit in ("inf", math.inf)
+        top = None if unlimited else low + exact(limit)  # type: ignore[arg-type]
+        if top is not None and top < low:
+            raise ValueError(f"a limit is at least 0, not {limit}")
+        ends = self._between(low / self.bs, None if top is None else top / self.bs)
+        spelling = "inf" if top is None else plain(top - low)
+        return answered(f"layer:{spelling}xs{plain(low)}", (ends[0] * self.bs, ends[1] * self.bs))
+
+    def _between(self, low: Fraction, high: Optional[Fraction]) -> Ends:
+        """Ends of the mean of what of the total lies between two numbers of buckets; None is no end.
+
+        Of what lies past the grid only the whole is known, so a band there lies from 0 to that.
+        """
+        end = Fraction(self.cells)
+        if high is not None and high > end:
+            return self._between(low, end)[0] if low < end else Fraction(0), self._between(min(low, end), None)[1]
+        if low > end:
+            return Fraction(0), self._between(end, None)[1]
+        first = math.ceil(low)
+        last = None if high is None else math.floor(high)
+        if high is not None and last is not None and last < first:
+            return self._scaled(high - low, last)
+        parts = [self._scaled(first - low, first - 1)] if first > low else []
+        if last is None or last > first:
+            row = self._row(f"layer:{'inf' if last is None else last - first}xs{first}")
+            parts.append((Fraction(row.low or 0), Fraction(row.high or 0)))
+        if high is not None and last is not None and high > last:
+            parts.append(self._scaled(high - last, last))
+        return sum((part[0] for part in parts), Fraction(0)), sum((part[1] for part in parts), Fraction(0))
+
+    def _scaled(self, part: Fraction, bucket: int) -> Ends:
+        """The part of a bucket that lies in a band, times the probability of a total above its lower end."""
+        low, high = self._above(bucket)
+        return part * low, part * high
+
+    def kappa(self, unit: str, x: Number) -> Row:
+        """The mean of the outcome of a unit in a total of `x`. Both ends are None where that total is too rare, or is no
+        whole number of buckets."""
+        amount = exact(x)
+        at = amount / self.bs
+        if at.denominator > 1 or at < 0:
+            self._row(f"kappa:{unit}:0")  # which tells a unit that is not there
+            return Row(f"kappa:{unit}:{plain(amount)}", None, None, ("-", "-"), True)
+        return self._row(f"kappa:{unit}:{at}").in_money(self.bs)
+
+    def unit(self, name: str) -> "Book":
+        """The book of one unit alone, with the same bucket; its grid is chosen for it."""
+        spelling = NOTE.sub("", fmt(self.text, timeout=self.timeout))
+        for line in spelling.splitlines():
+            if line.split(" ")[:2] == ["agg", name]:
+                return Book(line, bs=self.bs, digits=self.digits, timeout=self.timeout)
+        raise KeyError(f"the book has no unit {name}; its units are {', '.join(self.units)}")
+
+    def moments(self, unit: Optional[str] = None) -> Moments:
+        """The exact mean, variance and third central moment of the total, or of a unit, in money and without the program.
+
+        They follow from the text where no unit has an aggregate clause, and else `NoMoments` is raised.
+        """
+        if unit is None:
+            return of_units(self.plan)
+        for found in self.plan:
+            if found.name == unit:
+                return of_unit(found)
+        raise KeyError(f"the book has no unit {unit}; its units are {', '.join(self.units)}")
+
+    def inside(self) -> Row:
+        """The probability that the total lies inside the grid."""
+        return self.cdf((self.cells - 1) * self.bs)
+
+    def return_periods(self, years: Iterable[Number] = RETURN_PERIODS) -> Table:
+        """For each return period the total that is passed at most once in so many years (VaR), and the mean of the worst
+        such years (TVaR)."""
+        years = [exact(each) for each in years]
+        for each in years:
+            if each < 1:
+                raise ValueError(f"a return period is at least 1 year, not {each}")
+        levels = [1 - 1 / each for each in years]
+        self._rows(f"{kind}:{plain(p)}" for kind in ("q", "tail") for p in levels)
+        return Table(["years", "VaR", "TVaR"], ([plain(n), self.q(p), self.tail(p)] for n, p in zip(years, levels)))
+
+    def distribution(self, points: int = MOST_ASKS, *, cells: bool = False) -> Report:
+        """The distribution function at up to `points` totals (at most 256), evenly over the grid; with `cells` at all."""
+        if not 1 <= points <= MOST_ASKS:
+            raise ValueError(f"points are 1 to {MOST_ASKS}, not {points}; cells=True gives all")
+        step = 1 if cells else -(-self.cells // points)
+        rows = self._rows(f"cdf:{at}" for at in range(0, self.cells, step))
+        return Report(rows, self.bs, self.cells).in_money()
+
+    def describe(self, levels: Iterable[Number] = LEVELS) -> Table:
+        """What the book is worth: its mean, deviation and skewness, the years without a loss, VaR and TVaR, and the mean of
+        each unit. Deviation and skewness are there where they follow from the text."""
+        lines: List[List[Cell]] = [["mean", self.mean()], *self._spread(), ["no loss", self.cdf(0)]]
+        for p in levels:
+            lines += [[f"VaR {percent(exact(p))}", self.q(p)], [f"TVaR {percent(exact(p))}", self.tail(p)]]
+        lines.append(["inside the grid", self.inside()])
+        if len(self.units) > 1:
+            lines += [[f"mean of {name}", self.unit(name).mean()] for name in self.units]
+        return Table(["total", "from .. to"], lines)
+
+    def _spread(self) -> List[List[Cell]]:
+        if any(unit.aggregate is not None for unit in self.plan):
+            return []
+        moments = self.moments()
+        if not moments.variance:
+            return [["deviation", answered("deviation", moments.deviation)]]
+        return [
+            ["deviation", answered("deviation", moments.deviation)],
+            ["skewness", answered("skewness", moments.skewness)],
+        ]
+
+    def plot(self, axes: "Optional[matplotlib.axes.Axes]" = None) -> "matplotlib.axes.Axes":
+        """The exceedance curve on a log scale, by matplotlib, as a band from its low to its high ends; returns the axes."""
+        if axes is None:
+            from matplotlib import pyplot
+
+            axes = pyplot.subplots()[1]
+        rows = self.distribution()
+        amounts = [float(Fraction(row.ask.split(":")[1])) for row in rows]
+        low = [1 - float(row.high or 0) for row in rows]
+        high = [1 - float(row.low or 0) for row in rows]
+        axes.fill_between(amounts, low, high, step="post", alpha=0.4)
+        axes.step(amounts, high, where="post")
+        axes.set_yscale("log")
+        axes.set_xlabel("total of a year")
+        axes.set_ylabel("probability of more")
+        return axes
+
+
+def percent(p: Fraction) -> str:
+    """A probability in percent."""
+    return f"{plain(100 * p)}%"

@@ -1,0 +1,110 @@
+"""Tables of answers: each cell is a text or a row of a report, which has two ends."""
+
+import html
+import math
+from collections.abc import Sequence
+from fractions import Fraction
+from typing import TYPE_CHECKING, Iterable, Iterator, List, Tuple, Union, overload
+
+from .reports import Row, rounded
+
+if TYPE_CHECKING:
+    import pandas
+
+Cell = Union[str, Row]
+#: A number is shown with so many digits, those before the point counted.
+DIGITS = 7
+
+
+def places_of(value: Fraction) -> int:
+    """How many digits behind the point show a value of this size."""
+    return max(0, min(9, DIGITS - len(str(int(abs(value))))))
+
+
+def short(value: Fraction, places: int, up: bool, marks: bool = False) -> str:
+    """The value as a decimal of so many places, rounded up or down; with `marks`, thousands are parted by commas."""
+    scaled = value * 10**places
+    whole = math.ceil(scaled) if up else math.floor(scaled)
+    before, behind = divmod(abs(whole), 10**places)
+    sign = "-" if whole < 0 else ""
+    return sign + (f"{before:,}" if marks else str(before)) + (f".{behind:0{places}}" if places else "")
+
+
+def shown(row: Row, marks: bool = False) -> Tuple[str, str]:
+    """The two ends of a row, rounded outward to a few digits; the words of the program where an end is not there."""
+    ends = [None if end is None else Fraction(end) for end in (row.low, row.high)]
+    places = places_of(max((abs(end) for end in ends if end is not None), default=Fraction(0)))
+    if ends[0] is not None and ends[0] == ends[1] and ends[0].denominator == 1:
+        places = 0
+    low, high = (
+        word if end is None else short(end, places, up, marks) for end, word, up in zip(ends, row.written, (False, True))
+    )
+    return low, high
+
+
+def joined(cell: Cell, marks: bool = False) -> str:
+    """A cell in one text: its two ends, or one where they are equal."""
+    if isinstance(cell, str):
+        return cell
+    low, high = shown(cell, marks)
+    return low if low == high else f"{low} to {high}"
+
+
+class Table(Sequence[Tuple[Cell, ...]]):
+    """Lines of cells under `columns`. A cell with an answer is a `Row`: its ends stay exact, and are rounded outward where
+    the table is printed."""
+
+    def __init__(self, columns: Iterable[str], lines: Iterable[Iterable[Cell]]) -> None:
+        self.columns = tuple(columns)
+        self.lines = tuple(tuple(line) for line in lines)
+
+    @overload
+    def __getitem__(self, which: int) -> Tuple[Cell, ...]: ...
+
+    @overload
+    def __getitem__(self, which: slice) -> Tuple[Tuple[Cell, ...], ...]: ...
+
+    def __getitem__(
+        self, which: Union[int, slice]
+    ) -> Union[Tuple[Cell, ...], Tuple[Tuple[Cell, ...], ...]]:
+        return self.lines[which]
+
+    def __iter__(self) -> Iterator[Tuple[Cell, ...]]:
+        return iter(self.lines)
+
+    def __len__(self) -> int:
+        return len(self.lines)
+
+    def __str__(self) -> str:
+        lines = [self.columns, *([joined(cell) for cell in line] for line in self.lines)]
+        wide = [max(len(line[at]) for line in lines) for at in range(len(self.columns))]
+        return "".join("  ".join(cell.rjust(size) for cell, size in zip(line, wide)).rstrip() + "\n" for line in lines)
+
+    def _repr_html_(self) -> str:
+        head = "".join(f"<th>{html.escape(name)}</th>" for name in self.columns)
+        body = "".join(
+            "<tr>" + "".join(f"<td>{html.escape(joined(cell, marks=True))}</td>" for cell in line) + "</tr>"
+            for line in self.lines
+        )
+        return f"<table><tr>{head}</tr>{body}</table>"
+
+    def to_frame(self, floats: bool = False) -> "pandas.DataFrame":
+        """A pandas DataFrame; a column of answers becomes two, its low and its high ends.
+
+        The ends stay exact. With `floats` each low end is rounded down and each high end up to a float.
+        """
+        import pandas
+
+        frame = pandas.DataFrame(index=range(len(self)))
+        for at, name in enumerate(self.columns):
+            cells: List[Cell] = [line[at] for line in self.lines]
+            if all(isinstance(cell, str) for cell in cells):
+                frame[name] = cells
+                continue
+            ends = [
+                (cell, cell) if isinstance(cell, str) else rounded(cell) if floats else (cell.low, cell.high)
+                for cell in cells
+            ]
+            for end, side in ((0, "low"), (1, "high")):
+                frame[f"{name} {side}"] = pandas.Series([pair[end] for pair in ends], dtype=object)
+        return frame

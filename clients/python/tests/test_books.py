@@ -1,0 +1,260 @@
+"""Books in money. Values are worked by hand, or by adding up all outcomes in exact fractions, apart from the client's modules."""
+
+import itertools
+import math
+import unittest
+from fractions import Fraction
+
+from support import BOOK, ROOT, Case, decl, main
+
+DICE = "agg Dice dfreq [2] dsev [1000:6000:1000]"
+PAIR = "port T agg A dfreq [1] dsev [100:300:100] agg B dfreq [1] dsev [100 200 300] [1/2 1/6 1/3]"
+FIRE = "agg Fire 3 claims dsev [10000 20000 50000 100000 300000] [0.5 0.25 0.15 0.08 0.02] poisson"
+#: Each total of two dice in thousands, with its probability.
+TWO = {total: Fraction(6 - abs(7 - total), 36) for total in range(2, 13)}
+
+
+def band(limit, attachment):
+    """What of two dice in money lies in a band, in the mean, over all outcomes."""
+    return sum(part * min(max(1000 * total - attachment, 0), limit) for total, part in TWO.items())
+
+
+def spread_of(counts, claim):
+    """Mean, variance and third central moment of a sum of claims, over all outcomes of a number of at most a few claims."""
+    totals = {}
+    for count, chance in counts.items():
+        for claims in itertools.product(claim.items(), repeat=count):
+            part = chance * math.prod((part for _, part in claims), start=Fraction(1))
+            total = sum((amount for amount, _ in claims), Fraction(0))
+            totals[total] = totals.get(total, 0) + part
+    mean = sum(total * part for total, part in totals.items())
+    return (mean, *(sum(part * (total - mean) ** power for total, part in totals.items()) for power in (2, 3)))
+
+
+class Choices(Case):
+    def test_bucket_and_grid_are_chosen(self):
+        book = decl.Book(DICE)
+        self.assertEqual((book.bs, book.log2, book.cells, book.units), (1000, 4, 16, ("Dice",)))
+        self.assertEqual(repr(book), "<decl book of Dice: 16 buckets of 1000>")
+        self.assertEqual(decl.Book(DICE.encode()).bs, 1000)
+        self.assertEqual((decl.Book(DICE, bs="1/2", log2=12).bs, decl.Book(DICE, log2=9).cells), (Fraction(1, 2), 512))
+
+    def test_the_largest_grid_is_too_small(self):
+        """Two claims of 1 or 5,000: what lies past the grid has no end there, and the mean is whole."""
+        book = decl.Book("agg Wide dfreq [2] dsev [1 5000]")
+        self.assertEqual((book.log2, book.q(0.9).state, book.tail(0.9).state), (12, "beyond", "beyond"))
+        self.assertTrue(book.mean().holds(5001))
+        self.assertTrue(book.inside().holds(Fraction(1, 4)))
+        self.assertEqual((book.cdf(4999).low, book.cdf(4999).high), (book.inside().low, 1))
+        self.assertTrue(book.layer(900, 4100).holds(Fraction(3, 4) * 900))
+        self.assertTrue(book.layer("inf", 5000).holds(Fraction(5002, 4)))
+        self.assertTrue(book.layer(10, 9990).holds(Fraction(10, 4)))
+        self.assertTrue(book.layer(6000, 3000).holds(Fraction(1, 2) * 2001 + Fraction(1, 4) * 6000))
+
+    def test_a_text_that_is_refused(self):
+        self.raises(decl.SyntaxFault, decl.Book, "agg")
+        self.raises(decl.RuleFault, decl.Book, "agg D dfreq [1] dsev [1 2] [1/3 1/3]")
+
+
+class Answers(Case):
+    def setUp(self):
+        super().setUp()
+        self.book = decl.Book(DICE)
+
+    def test_mean_and_quantiles(self):
+        book = self.book
+        self.assertTrue(book.mean().holds(7000))
+        for p in (0.9, "0.9", "90%", Fraction(9, 10)):
+            self.assertEqual((book.q(p).low, book.q(p).high, book.q(p).unit), (10000, 10000, "money"))
+            self.assertTrue(book.tail(p).holds(Fraction(100000, 9)))
+        self.assertEqual((book.q(0.9).ask, book.tail("199/200").ask), ("q:0.9", "tail:0.995"))
+
+    def test_probabilities_at_any_amount(self):
+        for total in range(-1, 17):
+            below = sum(part for value, part in TWO.items() if value <= total)
+            for amount in (1000 * total, 1000 * total + Fraction(999, 2)):
+                self.assertTrue(self.book.cdf(amount).holds(below), amount)
+                self.assertTrue(self.book.sf(amount).holds(1 - below), amount)
+            self.assertTrue(self.book.pmf(1000 * total).holds(TWO.get(total, 0)) if 0 <= total < 16 else True)
+            self.assertEqual(self.book.pmf(1000 * total + 1).high, 0)
+        row = self.book.sf("9000")
+        self.assertEqual((row.ask, row.unit, row.kind), ("sf:9000", "probability", "sf"))
+        self.assertLess(row.high - row.low, Fraction(1, 10**5))
+
+    def test_layers_at_any_amounts(self):
+        for limit, attachment in itertools.product((0, 1, 999, 1000, 1500, 4000, 7300, 50000), (0, 500, 1000, 1999, 9250, 13000)):
+            row = self.book.layer(limit, attachment)
+            self.assertTrue(row.holds(band(limit, attachment)), row)
+            self.assertLess(row.high - row.low, Fraction(1, 10) if limit + attachment < 16000 else 1, row)
+            self.assertEqual(row.unit, "money")
+        for unlimited in (None, "inf", math.inf):
+            self.assertTrue(self.book.layer(unlimited, 9500).holds(band(10**9, 9500)))
+        self.assertTrue(self.book.layer(7000).holds(band(7000, 0)))
+        self.raises(ValueError, self.book.layer, 5, -1)
+        self.raises(ValueError, self.book.layer, -5, 1)
+
+    def test_shares_of_a_total(self):
+        book = decl.Book(PAIR)
+        self.assertTrue(book.kappa("A", 400).holds(Fraction(1300, 6)))
+        self.assertTrue(book.kappa("B", 400).holds(400 - Fraction(1300, 6)))
+        for amount in (100, 450, -100):
+            self.assertEqual((book.kappa("A", amount).state, book.kappa("A", amount).low), ("absent", None))
+        for amount in (400, 450):
+            self.assertEqual(self.raises(decl.AskFault, book.kappa, "C", amount).reason, "no such unit")
+
+    def test_each_ask_is_asked_once(self):
+        first = self.book.return_periods([10])
+        self.instead("exit 7")
+        self.assertEqual(str(self.book.return_periods([10])), str(first))
+
+    def test_units_alone(self):
+        book = decl.Book(BOOK.replace("0.02] poisson", "0.02] poisson note{one\nagg Property of two}"))
+        self.assertTrue(book.unit("Property").mean().holds(130))
+        self.assertEqual(book.unit("Motor").units, ("Motor",))
+        self.raises(KeyError, book.unit, "Nowhere")
+
+
+class Tables(Case):
+    def test_return_periods(self):
+        table = decl.Book(DICE).return_periods([10, 100])
+        self.assertEqual(table.columns, ("years", "VaR", "TVaR"))
+        self.assertEqual([line[0] for line in table], ["10", "100"])
+        self.assertEqual((table[0][1].low, table[1][1].high), (10000, 12000))
+        self.assertTrue(table[0][2].holds(Fraction(100000, 9)))
+        self.assertEqual(str(table).split(), "years VaR TVaR 10 10000 11111.11 to 11111.12 100 12000 12000.00 to 12000.01".split())
+        self.assertIn("<td>11,111.11 to 11,111.12</td>", table._repr_html_())
+        self.raises(ValueError, decl.Book(DICE).return_periods, [Fraction(1, 2)])
+        self.assertEqual(len(decl.Book(DICE).return_periods()), 5)
+
+    def test_the_distribution(self):
+        book = decl.Book(BOOK)
+        rows = book.distribution()
+        self.assertEqual((len(rows), rows[1].ask, rows[0].unit), (256, "cdf:4", "probability"))
+        self.assertEqual(len(book.distribution(cells=True)), 1024)
+        self.assertEqual(len(book.distribution(10)), 10)
+        self.raises(ValueError, book.distribution, 257)
+        dice = decl.Book(DICE).distribution()
+        self.assertEqual([row.ask for row in dice], [f"cdf:{1000 * at}" for at in range(16)])
+        self.assertTrue(dice["cdf:4000"].holds(Fraction(1, 6)))
+
+    def test_what_a_book_is_worth(self):
+        lines = dict(decl.Book(PAIR).describe())
+        self.assertTrue(lines["mean"].holds(200 + Fraction(1100, 6)))
+        self.assertTrue(lines["mean of B"].holds(Fraction(1100, 6)))
+        self.assertEqual((lines["no loss"].low, lines["VaR 90%"].high, lines["VaR 99.5%"].high), (0, 600, 600))
+        self.assertGreater(lines["deviation"].low, 0)
+        self.assertNotIn("deviation", dict(decl.Book(BOOK).describe()))
+        self.assertIn("TVaR 99.5%", str(decl.Book(BOOK).describe()))
+
+    def test_a_frame(self):
+        try:
+            import pandas  # noqa: F401
+        except ImportError:
+            raise unittest.SkipTest("pandas is not installed") from None
+        frame = decl.Book(DICE).return_periods([10]).to_frame()
+        self.assertEqual(list(frame.columns), ["years", "VaR low", "VaR high", "TVaR low", "TVaR high"])
+        self.assertEqual((frame["VaR low"][0], frame["years"][0]), (10000, "10"))
+        floats = decl.Book(DICE).return_periods([10]).to_frame(floats=True)
+        self.assertLessEqual(floats["TVaR low"][0], 100000 / 9)
+
+    def test_a_plot(self):
+        try:
+            import matplotlib
+        except ImportError:
+            raise unittest.SkipTest("matplotlib is not installed") from None
+        matplotlib.use("Agg")
+        axes = decl.Book(FIRE).plot()
+        self.assertEqual(axes.get_yscale(), "log")
+        self.assertIs(decl.Book(FIRE).plot(axes), axes)
+
+
+class Moments(Case):
+    def of(self, text, unit=None):
+        """The three moments; the mean that the program proves has to hold the first, and the ends the roots."""
+        book = decl.Book(text)
+        found = book.moments(unit)
+        if unit is None:
+            self.assertTrue(book.mean().holds(found.mean), text)
+        low, high = found.deviation
+        self.assertTrue(low**2 <= found.variance <= high**2 and high - low <= Fraction(2, 10**12), text)
+        return found.mean, found.variance, found.third
+
+    def test_counts(self):
+        """One claim of 1 and of 3: cumulants of the textbooks, and sums over all outcomes."""
+        one, two = {Fraction(1): Fraction(1)}, {Fraction(1): Fraction(1, 2), Fraction(3): Fraction(1, 2)}
+        self.assertEqual(self.of("agg P 2 claims dsev [1 3] poisson"), (4, 10, 28))
+        self.assertEqual(self.of("agg G 2 claims dsev [1] mixed gamma 0.5"), (2, 3, 6))
+        self.assertEqual(self.of("agg F 3 claims dsev [1 3] fixed"), spread_of({3: Fraction(1)}, two))
+        listed = {0: Fraction(1, 2), 1: Fraction(3, 10), 2: Fraction(1, 5)}
+        self.assertEqual(self.of("agg L dfreq [0 1 2] [0.5 0.3 0.2] dsev [1 3]"), spread_of(listed, two))
+        third = {0: Fraction(2, 3), 1: Fraction(1, 3)}
+        self.assertEqual(self.of("agg B 1/3 claims dsev [1 3] bernoulli"), spread_of(third, two))
+        trials = {k: math.comb(3, k) * Fraction(1, 3) ** k * Fraction(2, 3) ** (3 - k) for k in range(4)}
+        self.assertEqual(self.of("agg B 1 claims dsev [1 3] binomial 1/3"), spread_of(trials, two))
+        self.assertEqual(self.of("agg B 1 claims dsev [1] binomial 1/3"), spread_of(trials, one))
+
+    def test_claims(self):
+        """What a layer, a clause and a mixture make of a claim, by hand."""
+        half = Fraction(1, 2)
+        once = {1: Fraction(1)}
+        # above 2 of 1 to 4: 3 and 4, so 1 and 2 in the layer
+        self.assertEqual(self.of("agg L dfreq [1] 5 xs 2 dsev [1:4]"), spread_of(once, {1: half, 2: half}))
+        self.assertEqual(self.of("agg L dfreq [1] 1 xs 2 dsev [1:4] !"), spread_of(once, {0: half, 1: half}))
+        self.assertEqual(self.of("agg L dfreq [1] inf xs 0 dsev [1 3]"), spread_of(once, {1: half, 3: half}))
+        net, ceded = {2: half, 4: half}, {0: half, 2: half}
+        self.assertEqual(self.of("agg N dfreq [1] dsev [2 6] occurrence net of 0.5 so 4 xs 2"), spread_of(once, net))
+        self.assertEqual(self.of("agg N dfreq [1] dsev [2 6] occurrence ceded to 2 po 4 xs 2"), spread_of(once, ceded))
+        both = "agg N dfreq [1] dsev [2 6] occurrence ceded to 1 xs 0 and inf xs 5"
+        self.assertEqual(self.of(both), spread_of(once, {1: half, 2: half}))
+        mixed = {1: Fraction(1, 8), 2: Fraction(1, 8) + Fraction(1, 4), 3: Fraction(1, 4), 4: Fraction(1, 4)}
+        self.assertEqual(self.of("agg M dfreq [1] dsev [1 2] dsev [2 3 4] wts [1/4 3/4]"), spread_of(once, mixed))
+        self.assertEqual(self.of("agg R dfreq [1] dsev [0:10:5, 1] [1/4 1/4 1/4 1/4]"), spread_of(once, dict.fromkeys((0, 5, 10, 1), Fraction(1, 4))))
+
+    def test_exposures(self):
+        """9 of expected loss over a mean claim of 9/4 in 3 xs 2, where 1 and 2 are left out; the same as a premium."""
+        claim = dict.fromkeys((1, 2, 3), Fraction(1, 4))
+        claim[3] = Fraction(1, 2)
+        mean = Fraction(9, 4)
+        powers = [4 * sum(part * amount**power for amount, part in claim.items()) for power in (1, 2, 3)]
+        self.assertEqual(self.of("agg L 9 loss 3 xs 2 dsev [1:6] poisson"), tuple(powers))
+        self.assertEqual(4 * mean, 9)
+        self.assertEqual(self.of("agg L 18 premium at 50% lr 3 xs 2 dsev [1:6] poisson"), tuple(powers))
+        # a loss is gross of the occurrence clause: 3 claims of 2 or 4, of which 2 each stay
+        self.assertEqual(self.of("agg L 9 loss dsev [2 4] occurrence net of 2 xs 2 fixed"), (6, 0, 0))
+
+    def test_sums_of_units(self):
+        pair = self.of(PAIR)
+        parts = [self.of(PAIR, name) for name in "AB"]
+        self.assertEqual(pair, tuple(sum(values) for values in zip(*parts)))
+        self.assertEqual(parts[0], (200, Fraction(20000, 3), 0))
+
+    def test_skewness_and_variation(self):
+        found = decl.Book("agg S dfreq [1] dsev [0 1] [0.1 0.9]").moments()
+        low, high = found.skewness
+        self.assertTrue(low < high < 0 and high**2 <= Fraction(64, 9) <= low**2)
+        self.assertEqual(decl.Book("agg S dfreq [1] dsev [1 3]").moments().variation, (Fraction(1, 2), Fraction(1, 2)))
+        self.raises(decl.NoMoments, getattr, decl.Book("agg S dfreq [1] dsev [1]").moments(), "skewness")
+        self.raises(decl.NoMoments, getattr, decl.Book("agg S dfreq [1] dsev [0]").moments(), "variation")
+
+    def test_an_aggregate_clause(self):
+        book = decl.Book(BOOK)
+        self.assertIn("Liability", str(self.raises(decl.NoMoments, book.moments)))
+        self.assertEqual(book.moments("Property").mean, 130)
+        self.raises(KeyError, book.moments, "Nowhere")
+
+    def test_the_examples(self):
+        """The mean that the program proves holds the exact one, in each example without an aggregate clause."""
+        seen = 0
+        for path in sorted(ROOT.glob("examples/*.decl")) + sorted(ROOT.glob("examples/gallery/*.decl")):
+            text = path.read_text()
+            try:
+                self.of(text)
+            except decl.NoMoments:
+                self.assertIn("aggregate", text)
+            else:
+                seen += 1
+        self.assertGreater(seen, 5)
+
+
+if __name__ == "__main__":
+    main()
