@@ -1,6 +1,6 @@
 #!/usr/bin/env python3
-"""Tests `.ci/build` and `.ci/test` on a small repository and a program in place of `rt`, which writes what rt writes: what is proved, what
-is told and counted, and what is left where it fails or is stopped.
+"""Tests `.ci/build` and `.ci/test` on a small repository and a program in place of `rt`, which writes what rt writes: what is proved,
+what is told and counted, and what is left where it fails or is stopped.
 
 The last line is 'N passed, M failed'.
 """
@@ -46,7 +46,8 @@ for name in ("low", "side", "mid", "decl"):
         print("1 passed, 1 failed")
         sys.exit(1)
     else:
-        print(f"== {name}", f"fn {name}::well: proved", f"rt: {name} {'is kept: by an earlier run' if name == 'low' else 'proved'}", sep="\\n")
+        ends = "is kept: an earlier run proved the same" if name == "low" else "proved"
+        print(f"== {name}", f"fn {name}::well: proved", f"rt: {name} {ends}", sep="\\n")
 if way == "gate":
     print("rt: low: its tests are proved", "rt: must-fail low/wrong.edit: refused, as it must be", "rt: ok", sep="\\n")
     print("5 passed, 0 failed")
@@ -90,7 +91,8 @@ class Case(unittest.TestCase):
         self.tools.mkdir()
         (self.tools / "rt").write_text(ANY, encoding="utf-8")
         (self.tools / "rt").chmod(0o755)
-        world = {**os.environ, "PATH": f"{self.tools}:{os.environ['PATH']}", "TMPDIR": str(self.copies), "WAY": way, "SAID": f"{self.room}/said"}
+        world = {**os.environ, "PATH": f"{self.tools}:{os.environ['PATH']}", "TMPDIR": str(self.copies)}
+        world.update(WAY=way, SAID=f"{self.room}/said")
         words = [sys.executable, "-B", str(self.top / command)]
         return subprocess.Popen(words, env=world, stdout=subprocess.PIPE, stderr=subprocess.STDOUT, text=True)
 

@@ -1,10 +1,9 @@
 #!/usr/bin/env python3
-"""Tests `make install` and the packages: each is installed into a folder, a root or an environment of its own, which has nothing else but
-the C library, and the examples of its README are run there, by its program. And that each place of the version has the number of the
-file VERSION.
+"""Tests `make install` and the packages: each is installed into a folder, an empty root or a fresh environment of its own, and the
+examples of its README are run there, by its program. The root has nothing else but the C library; it is entered by chroot, as root, or
+in a namespace of the user's. And tests that each place of the version has the number of the file VERSION.
 
-A root is entered by chroot, as root, or in a namespace of the user's. The program is DECL, else crates/decl/out/decl. The last line is
-'N passed, M failed', and ', K skipped' where a tool is not there.
+The program is DECL, else crates/decl/out/decl. The last line is 'N passed, M failed', and ', K skipped' where a tool is not there.
 """
 
 import io
@@ -160,7 +159,8 @@ class Packages(Case):
         root, enter = self.empty_root()
         prefix = root / "usr" / "local"
         prefix.mkdir(parents=True)
-        for words in (["sha256sum", "-c", f"{packed.name}.sha256"], ["tar", "-xzf", packed.name, "--strip-components=1", "-C", prefix]):
+        unpack = ["tar", "-xzf", packed.name, "--strip-components=1", "-C", prefix]
+        for words in (["sha256sum", "-c", f"{packed.name}.sha256"], unpack):
             done = subprocess.run(words, cwd=packed.parent, capture_output=True, text=True)
             self.assertEqual(done.returncode, 0, done.stderr)
         sums = subprocess.run(["sha256sum", "-c", "share/doc/decl/SHA256SUMS"], cwd=prefix, capture_output=True, text=True)
