@@ -125,6 +125,105 @@ class Texts(Case):
         self.raises(TypeError, decl.run, DIE, ["mean"], grid=4)
 
 
+class Sentences(Case):
+    """What a fault says was expected, by the grammar of docs/LANGUAGE.md."""
+
+    def goes_on_with(self, text, *names):
+        fault = self.raises(decl.SyntaxFault, decl.fmt, text)
+        self.assertEqual(set(fault.expected), set(names), text)
+        self.assertEqual(len(fault.expected), len(names))
+        return fault
+
+    def test_the_tokens_that_can_stand_there(self):
+        end = "the end of the text"
+        self.goes_on_with("", "agg", "port")
+        fault = self.goes_on_with("port 5", "a name")
+        self.assertTrue(str(fault).endswith("\nA program goes on here with a name."), str(fault))
+        self.goes_on_with("port P", "agg", "a note")
+        self.goes_on_with("agg D 5 dsev [1]", "claims", "loss", "premium")
+        self.goes_on_with("agg D 5 claims 4 dsev", "xs")
+        fault = self.goes_on_with("agg D dfreq [1] dsev [1 2", "a numeral", "]", ":", ",")
+        self.assertIn("with a numeral, `]`, `:` or `,`.", str(fault))
+        self.goes_on_with("agg D dfreq [1] dsev [1] poisson", "[", "!", "dsev", "sev", "wts", "occurrence", "aggregate", "a note", end)
+        self.goes_on_with("agg D 1 claims dsev [1] mixed # gamma\nbeta 2", "gamma")
+        self.goes_on_with("agg D 1 claims dsev [1] ! # the end", "occurrence", "fixed", "poisson", "bernoulli", "binomial", "mixed")
+
+    def test_a_place_behind_letters_of_several_bytes(self):
+        self.goes_on_with("# é\nagg D note{é} dfreq [1]", "a numeral", "dfreq")
+        self.goes_on_with("port P note{é} note{é}", "agg")
+
+    def test_a_place_that_is_far_behind(self):
+        fault = self.raises(decl.SyntaxFault, decl.fmt, "# " + "long " * 20000 + "\nagg agg")
+        self.assertEqual(fault.expected, ())
+        self.assertIn("docs/LANGUAGE.md", str(fault))
+
+    def test_a_program_that_fails_while_tokens_are_tried(self):
+        self.instead('case $1 in fmt) exit 7;; esac; exec "$BUILT" "$@"')
+        self.assertEqual(self.raises(decl.SyntaxFault, decl.check, "agg").expected, ())
+
+    def test_expected_tokens_are_pickled(self):
+        fault = self.raises(decl.SyntaxFault, decl.fmt, "port 5")
+        self.assertEqual(pickle.loads(pickle.dumps(fault)).expected, ("a name",))
+
+    def test_the_name_of_a_file(self):
+        for name in ("dice.decl", "my book.decl", "examples/dice.decl", "../dice", "C:\\books\\dice.txt"):
+            with self.assertRaises(decl.TextFault) as raised:
+                decl.fmt(name)
+            self.assertIn("looks like the name of a file", str(raised.exception), name)
+        for text in ("agg", "1/2", "agg D dfreq [1/2]", "agg D.decl dfreq [1]\n"):
+            with self.assertRaises(decl.TextFault) as raised:
+                decl.fmt(text)
+            self.assertNotIn("name of a file", str(raised.exception), text)
+        self.assertIn("No word names a file", str(self.raises(decl.UsageFault, decl.run, DIE, ["mean", "examples/dice.decl"])))
+
+    def test_byte_order_marks(self):
+        fault = self.raises(decl.BadByte, decl.fmt, "\ufeff" + DIE)
+        self.assertIn('encoding="utf-8-sig"', str(fault))
+        self.raises(decl.BadByte, decl.fmt, ("\ufeff" + DIE).encode())
+        self.assertIn('encoding="utf-16"', str(self.raises(decl.NotText, decl.fmt, DIE.encode("utf-16"))))
+
+    def test_words_out_of_their_range(self):
+        rows = [
+            ({"log2": 13}, "log2 is a whole number from 1 to 12, not 13."),
+            ({"digits": 0}, "digits is a whole number from 1 to 9, not 0."),
+            ({"width": 10**9 + 1}, "width is a whole number from 1 to 1,000,000,000, not 1000000001."),
+            ({"mwidth": 10**12 + 1}, "mwidth is a whole number from 1 to 1,000,000,000,000, not"),
+            ({"make": 2**32}, "make is a whole number from 0 to 4,294,967,295, not"),
+            ({"bs": 0}, "bs is the size of a bucket, a numeral above 0"),
+            ({"bs": "123456789012"}, "bs is the size of a bucket, a numeral above 0"),
+        ]
+        for settings, told in rows:
+            self.assertIn(f"\n{told}", str(self.raises(decl.UsageFault, decl.run, DIE, ["mean"], **settings)))
+        for form, told in (("html", "format is text, csv or json, not html."), ("", "format is text, csv or json, not .")):
+            self.assertIn(told, str(self.raises(decl.UsageFault, decl.report, DIE, ["mean"], form)))
+        for asks, told in (([], "There are 1 to 256 asks, not 0."), (["mean"] * 257, "There are 1 to 256 asks, not 257.")):
+            self.assertIn(told, str(self.raises(decl.UsageFault, decl.run, DIE, asks)))
+        self.assertIn("There is no option size;", str(self.raises(decl.UsageFault, decl.run, DIE, ["mean", "--size", "4"])))
+        self.assertIn("The option log2 stands twice.", str(self.raises(decl.UsageFault, decl.run, DIE, ["--log2=4"], log2=4)))
+        self.assertIn("The option bs has no value.", str(self.raises(decl.UsageFault, decl.run, DIE, ["mean", "--bs"])))
+
+    def test_sizes_that_are_taken_are_not_called_wrong(self):
+        """The program and the sentence have one range of sizes."""
+        for size in ("1", "0.5", ".5", "5.", "1/2", "50%", "12345678901", "0.1234567890", "123456789%", "12345678901/12345678901"):
+            self.assertTrue(decl.words.is_size(size), size)
+            try:
+                decl.check("agg D dfreq [1] dsev [0]", bs=size)
+            except decl.RuleFault:
+                pass
+        for size in ("0", "0.0", "1/0", "0/1", "x", "-1", "123456789012", "0.12345678901", "1234567890%", "1 2", ""):
+            self.assertFalse(decl.words.is_size(size), size)
+            self.raises(decl.UsageFault, decl.check, DIE, bs=size)
+
+    def test_asks_that_are_none(self):
+        rows = [("q:1", "In q:p, p is below 1"), ("pmf:1.5", "In pmf:x, x is a whole number"), ("mean:2", "Nothing stands behind mean.")]
+        rows += [("layer:5", "In layer:LxsA, L and A"), ("kappa:D", "In kappa:NAME:x, NAME"), ("var", "Asks are pmf:x")]
+        for ask, told in rows:
+            self.assertIn(f"\n{told}", str(self.raises(decl.UsageFault, decl.run, DIE, [ask])))
+        for settings, cells in (({}, 1024), ({"log2": 4}, 16)):
+            fault = self.raises(decl.AskFault, decl.run, DIE, ["pmf:5000"], **settings)
+            self.assertIn(f"The grid has {cells} buckets, so an amount is at most {cells - 1},", str(fault))
+
+
 class Programs(Case):
     def test_a_program_that_is_not_found(self):
         os.environ["DECL"] = "/nowhere/decl"

@@ -211,13 +211,13 @@ class Book:
     def return_periods(self, years: Iterable[Number] = RETURN_PERIODS) -> Table:
         """For each return period the total that is passed at most once in so many years (VaR), and the mean of the worst
         such years (TVaR)."""
-        years = [exact(each) for each in years]
-        for each in years:
+        periods = [exact(each) for each in years]
+        for each in periods:
             if each < 1:
                 raise ValueError(f"a return period is at least 1 year, not {each}")
-        levels = [1 - 1 / each for each in years]
+        levels = [1 - 1 / each for each in periods]
         self._rows(f"{kind}:{plain(p)}" for kind in ("q", "tail") for p in levels)
-        return Table(["years", "VaR", "TVaR"], ([plain(n), self.q(p), self.tail(p)] for n, p in zip(years, levels)))
+        return Table(["years", "VaR", "TVaR"], ([plain(n), self.q(p), self.tail(p)] for n, p in zip(periods, levels)))
 
     def distribution(self, points: int = MOST_ASKS, *, cells: bool = False) -> Report:
         """The distribution function at up to `points` totals (at most 256), evenly over the grid; with `cells` at all."""

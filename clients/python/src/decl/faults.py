@@ -109,7 +109,10 @@ class BadByte(TextFault):
 
 
 class SyntaxFault(TextFault):
-    """The tokens up to this place begin a program, and no program goes on with the next one."""
+    """The tokens up to this place begin a program, and no program goes on with the next one. `expected` names the tokens with
+    which one does, and is empty where the text is too long to try them."""
+
+    expected: Tuple[str, ...] = ()
 
 
 class ContinuousSeverity(TextFault):

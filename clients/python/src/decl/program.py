@@ -34,6 +34,9 @@ def as_text(text: Union[str, bytes]) -> str:
             text = given.decode("utf-8")
         except UnicodeDecodeError as cause:
             line, column = place_in(given, cause.start)
+            if given.startswith((b"\xff\xfe", b"\xfe\xff")):
+                told = 'the text is in UTF-16: read the file with encoding="utf-16"'
+                raise faults.NotText(told, line=line, column=column) from None
             raise faults.NotText(f"{line}:{column}: the text is no UTF-8", line=line, column=column) from None
     if not isinstance(text, str):
         raise TypeError(f"a text is a str or bytes, not {type(text).__name__}")
@@ -67,6 +70,15 @@ def as_word(word: object) -> str:
     return word
 
 
+def refusal(program: str, text: str, timeout: Optional[float]) -> Optional[str]:
+    """What `fmt` says against a text: empty where it reads the text, None where it does not end by a fault of the text."""
+    try:
+        done = subprocess.run([program, "fmt"], input=text.encode("utf-8"), capture_output=True, timeout=timeout)
+    except (subprocess.TimeoutExpired, OSError):
+        return None
+    return done.stderr.decode("utf-8", "replace") if done.returncode in (0, 3) else None
+
+
 def call(
     words: Iterable[str], text: Union[str, bytes], asks: Sequence[str] = (), timeout: Optional[float] = None
 ) -> str:
@@ -83,5 +95,6 @@ def call(
     if done.returncode < 0:
         raise faults.killed(-done.returncode)
     if done.returncode:
-        raise fault_of(done.returncode, done.stderr.decode("utf-8", "replace"), text, words, list(asks))
+        told = done.stderr.decode("utf-8", "replace")
+        raise fault_of(done.returncode, told, text, words, list(asks), lambda other: refusal(program, other, timeout))
     return done.stdout.decode("utf-8", "replace")

@@ -3,22 +3,28 @@
 import re
 from typing import Any, Dict, List, Sequence, Tuple, Type
 
-from . import faults
+from . import faults, words as sentences
+from .expected import Refusal, expected, listed
 
 Reason = Tuple[Type[faults.DeclError], Dict[str, Any], str]
 
 #: An ask of these kinds is held to `width`, any other to `mwidth`.
 PROBABILITIES = ("pmf:", "cdf:", "q:")
+#: Of a long line of words so many characters are shown.
+SHOWN = 120
 PLACE = re.compile(r"decl: (\d+):(\d+): (.*)", re.DOTALL)
 ASK = re.compile(r"decl: ask (\d+): (.*)", re.DOTALL)
 RULE = re.compile(r"unit (\d+): rule (\d+) (\w+)")
 
 
-def fault_of(status: int, told: str, text: str, words: Sequence[str], asks: List[str]) -> faults.DeclError:
-    """The exception for a status other than 0; `told` is what stood on standard error."""
+def fault_of(
+    status: int, told: str, text: str, words: Sequence[str], asks: List[str], refusal: Refusal
+) -> faults.DeclError:
+    """The exception for a status other than 0; `told` is what stood on standard error, and `refusal` what `fmt` says against
+    a text."""
     told = told.rstrip("\n")
     if status == 3:
-        return text_fault(told, text)
+        return text_fault(told, text, refusal)
     if status in (2, 4, 8):
         return ask_fault(status, told, words, asks)
     plain: Dict[int, Tuple[Type[faults.DeclError], str]] = {
@@ -33,7 +39,7 @@ def fault_of(status: int, told: str, text: str, words: Sequence[str], asks: List
     return faults.BadAnswer(f"decl ended with the unknown status {status}: {told}")
 
 
-def text_fault(told: str, text: str) -> faults.DeclError:
+def text_fault(told: str, text: str, refusal: Refusal) -> faults.DeclError:
     """The exception for a text that is refused."""
     place = PLACE.fullmatch(told)
     if place is None:
@@ -42,6 +48,14 @@ def text_fault(told: str, text: str) -> faults.DeclError:
         return faults.BadAnswer(f"decl refused the text, but not in a way that is known: {told}")
     line, column, reason = int(place[1]), int(place[2]), place[3]
     kind, facts, sentence = text_reason(reason)
+    if kind is faults.SyntaxFault:
+        facts["expected"] = expected(text, line, column, refusal)
+        if facts["expected"]:
+            sentence = f"A program goes on here with {listed(facts['expected'])}."
+    if text.startswith("\ufeff"):
+        sentence = 'A byte-order mark stands before the text, and is no part of it: read the file with encoding="utf-8-sig".'
+    elif sentences.like_a_file(text):
+        sentence = "The text looks like the name of a file: give what the file holds, as pathlib.Path(name).read_text() does."
     shown = faults.pointed(text, line, column)
     return kind(f"{told}\n{shown}\n{sentence}", line=line, column=column, **facts)
 
@@ -68,18 +82,15 @@ def ask_fault(status: int, told: str, words: Sequence[str], asks: List[str]) -> 
     found = ASK.fullmatch(told)
     if found is None:
         line = " ".join(words)
-        return faults.UsageFault(
-            f"{told}\n  {line}\nAn option is unknown, stands twice or has a value out of its range; or there is no ask,"
-            " or more than 256.",
-            ask=None,
-        )
+        shown = line if len(line) <= SHOWN else f"{line[:SHOWN]}.."
+        return faults.UsageFault(f"{told}\n  {shown}\n{sentences.words_sentence(words)}", ask=None)
     ask, reason = int(found[1]), found[2]
     shown = faults.pointed_word(asks, ask) if ask < len(asks) else ""
-    kind, facts, sentence = ask_reason(status, reason, asks[ask] if ask < len(asks) else "")
+    kind, facts, sentence = ask_reason(status, reason, asks[ask] if ask < len(asks) else "", words)
     return kind(f"{told}\n{shown}\n{sentence}", ask=ask, **facts)
 
 
-def ask_reason(status: int, reason: str, ask: str) -> Reason:
+def ask_reason(status: int, reason: str, ask: str, words: Sequence[str]) -> Reason:
     """The kind of a fault of an ask, its facts, and a sentence on it."""
     if status == 4:
         needed = int(reason.split(" ")[-1])
@@ -89,6 +100,5 @@ def ask_reason(status: int, reason: str, ask: str) -> Reason:
     if status == 8 and reason == "no such unit":
         return faults.AskFault, {"reason": reason}, "joint and kappa name a unit of the text."
     if status == 8:
-        return faults.AskFault, {"reason": reason}, "Take a larger log2, or larger buckets; decl.grid(text) helps."
-    sentence = "Asks are pmf:x, cdf:x, mean, q:p, layer:LxsA, tail:p, joint:NAME:x and kappa:NAME:x."
-    return faults.UsageFault, {}, sentence
+        return faults.AskFault, {"reason": reason}, sentences.grid_sentence(words)
+    return faults.UsageFault, {}, sentences.ask_sentence(ask)
