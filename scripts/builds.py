@@ -155,7 +155,7 @@ class Builds(Case):
         self.assertEqual((status, said["words"], said["place"]), (0, ["run", "--", "run", "pmf:3"], "decl"))
         self.assertEqual(said["given"], "agg Die dfreq [1] dsev [1:6]\n")
         self.assertEqual(lines[0], "decl: proves and builds 4 crates over what rt check has kept")
-        self.assertEqual(lines[4], "decl:  4 of 4, decl proved")
+        self.assertRegex(lines[4], r"\Adecl: decl proved, after \d+ min \d+ s\Z")
 
     def test_kept_work_of_some_crates_is_not_enough(self):
         (self.top / "crates" / "low" / "out" / "incremental").mkdir()
