@@ -2,8 +2,13 @@
 
 import itertools
 import math
+import re
+import sys
+import tempfile
 import unittest
+import unittest.mock
 from fractions import Fraction
+from xml.etree import ElementTree
 
 from support import BOOK, ROOT, Case, decl, main
 
@@ -166,6 +171,14 @@ class Tables(Case):
         axes = decl.Book(FIRE).plot()
         self.assertEqual(axes.get_yscale(), "log")
         self.assertIs(decl.Book(FIRE).plot(axes), axes)
+
+    def test_a_picture_without_matplotlib(self):
+        with unittest.mock.patch.dict(sys.modules, {"matplotlib": None}):
+            picture = decl.Book(FIRE).plot(years=[10, 100])
+        self.assertEqual(len(re.findall('class="mark', picture._repr_svg_())), 4)
+        with tempfile.TemporaryDirectory() as folder:
+            picture.save(f"{folder}/fire.svg")
+            self.assertEqual(ElementTree.parse(f"{folder}/fire.svg").getroot().tag, "{http://www.w3.org/2000/svg}svg")
 
 
 class Moments(Case):

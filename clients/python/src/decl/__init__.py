@@ -38,6 +38,7 @@ from .faults import (
 )
 from .magic import load_ipython_extension
 from .moments import Moments
+from .pictures import Picture
 from .reports import Report, Row
 from .tables import Table
 
@@ -58,6 +59,7 @@ __all__ = [
     "NotText",
     "NoWords",
     "OutOfMemory",
+    "Picture",
     "ProgramNotFound",
     "ReadFault",
     "Report",

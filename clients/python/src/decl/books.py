@@ -2,13 +2,15 @@
 
 import math
 from fractions import Fraction
-from typing import TYPE_CHECKING, Any, Dict, Iterable, List, Optional, Tuple
+from typing import TYPE_CHECKING, Any, Dict, Iterable, List, Optional, Tuple, Union
 
 from . import program
 from .calls import Number, Text, fmt, run, spelled
 from .choose import LARGEST, NOTE, bucket, grid, value_of
 from .faults import GridTooSmall
 from .moments import Moments, of_unit, of_units
+from .pages import page_of
+from .pictures import Picture, alone, exceedance
 from .plan import Unit, units_of
 from .reports import Report, Row, plain
 from .tables import Cell, Table
@@ -39,7 +41,7 @@ class Book:
     """The book that a text declares, in money.
 
     `bs` is the size of a bucket in money and `log2` the size of the grid, as they were chosen or given; `cells` is the
-    number of buckets and `units` has the names of the units. Amounts are given as numbers, or as texts such as `"1/3"`;
+    number of buckets, `name` the name of the book and `units` has those of the units. Amounts are given as numbers, or as texts such as `"1/3"`;
     each answer is a `Row` whose ends, `low` and `high`, are proved to hold the declared value.
     """
 
@@ -64,6 +66,7 @@ class Book:
         self.cells = 2**self.log2
         self.plan: List[Unit] = units_of(text, timeout=timeout)
         self.units = tuple(unit.name for unit in self.plan)
+        self.name = fmt(text, timeout=timeout).split()[1]
         self._known: Dict[str, Row] = {}
 
     def _grid(self, inside: Number) -> int:
@@ -180,9 +183,18 @@ class Book:
         amount = exact(x)
         at = amount / self.bs
         if at.denominator > 1 or at < 0:
-            self._row(f"kappa:{unit}:0")  # which tells a unit that is not there
+            self._row(f"joint:{unit}:0")  # which tells a unit that is not there
             return Row(f"kappa:{unit}:{plain(amount)}", None, None, ("-", "-"), True)
         return self._row(f"kappa:{unit}:{at}").in_money(self.bs)
+
+    def joint(self, unit: str, x: Number) -> Row:
+        """The mean of the outcome of a unit where the total is `x`, and 0 elsewhere."""
+        amount = exact(x)
+        at = amount / self.bs
+        if at.denominator > 1 or at < 0:
+            self._row(f"joint:{unit}:0")
+            return answered(f"joint:{unit}:{plain(amount)}", (Fraction(0), Fraction(0)))
+        return self._row(f"joint:{unit}:{at}").in_money(self.bs)
 
     def unit(self, name: str) -> "Book":
         """The book of one unit alone, with the same bucket; its grid is chosen for it."""
@@ -203,6 +215,29 @@ class Book:
             if found.name == unit:
                 return of_unit(found)
         raise KeyError(f"the book has no unit {unit}; its units are {', '.join(self.units)}")
+
+    def ask(self, word: str) -> Row:
+        """The answer to an ask of the program, or to `sf:x`, whose amounts are in money: `q:0.99`, `layer:80000xs20000`."""
+        kind, *parts = word.split(":")
+        try:
+            if kind in ("joint", "kappa") and len(parts) == 2:
+                return self.kappa(*parts) if kind == "kappa" else self.joint(*parts)
+            if kind == "layer" and len(parts) == 1:
+                limit, attachment = parts[0].split("xs")
+                return self.layer(limit, attachment)
+            if kind in ("q", "tail", "cdf", "sf", "pmf") and len(parts) == 1:
+                found: Row = getattr(self, kind)(parts[0])
+                return found
+        except (ValueError, ZeroDivisionError):
+            pass
+        return self._row(word).in_money(self.bs)
+
+    def each(self, words: Iterable[str]) -> List[Row]:
+        """The answers to several asks in money, by few calls of the program."""
+        words = list(words)
+        inside = [in_buckets(word, self.bs) for word in words]
+        self._rows(ask for ask in inside if ask is not None)
+        return [self.ask(word) for word in words]
 
     def inside(self) -> Row:
         """The probability that the total lies inside the grid."""
@@ -249,14 +284,19 @@ class Book:
             ["skewness", answered("skewness", moments.skewness)],
         ]
 
-    def plot(self, axes: "Optional[matplotlib.axes.Axes]" = None) -> "matplotlib.axes.Axes":
-        """The exceedance curve on a log scale, by matplotlib, as a band from its low to its high ends; returns the axes."""
+    def plot(
+        self, axes: "Optional[matplotlib.axes.Axes]" = None, *, years: Iterable[Number] = RETURN_PERIODS
+    ) -> "Union[matplotlib.axes.Axes, Picture]":
+        """The exceedance curve on a log scale: on axes of matplotlib where that is installed, with the band between its two
+        ends, else as a `Picture` (SVG) in which VaR and TVaR of the return periods are marked."""
         if axes is None:
-            from matplotlib import pyplot
-
+            try:
+                from matplotlib import pyplot
+            except ImportError:
+                return alone(exceedance(self, [exact(each) for each in years]))
             axes = pyplot.subplots()[1]
-        rows = self.distribution()
-        amounts = [float(Fraction(row.ask.split(":")[1])) for row in rows]
+        rows = self.distribution(cells=True)
+        amounts = [float(at * self.bs) for at in range(self.cells)]
         low = [1 - float(row.high or 0) for row in rows]
         high = [1 - float(row.low or 0) for row in rows]
         axes.fill_between(amounts, low, high, step="post", alpha=0.4)
@@ -265,6 +305,23 @@ class Book:
         axes.set_xlabel("total of a year")
         axes.set_ylabel("probability of more")
         return axes
+
+    def page(self, years: Iterable[Number] = RETURN_PERIODS, *, title: Optional[str] = None) -> str:
+        """A page of HTML on the book, which fetches nothing: return periods, the exceedance curve, layers of the year, each
+        unit's share, what the book is worth, and its program."""
+        return page_of(self, [exact(each) for each in years], title or self.name)
+
+
+def in_buckets(word: str, bs: Fraction) -> Optional[str]:
+    """The ask of the program with which an ask in money at one whole number of buckets is answered, else None."""
+    kind, *parts = word.split(":")
+    try:
+        if kind not in ("pmf", "cdf", "joint", "kappa"):
+            return None
+        at = exact(parts[-1]) / bs
+        return ":".join([kind, *parts[:-1], str(at)]) if at.denominator == 1 and at >= 0 else None
+    except (ValueError, ZeroDivisionError, IndexError):
+        return None
 
 
 def percent(p: Fraction) -> str:

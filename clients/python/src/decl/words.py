@@ -27,18 +27,6 @@ FORM: Dict[str, str] = {
     "joint": f"In joint:NAME:x, NAME is a unit and x {AMOUNT}.",
     "kappa": f"In kappa:NAME:x, NAME is a unit and x {AMOUNT}.",
 }
-ASKS = 256
-CELLS = 1024
-BEHIND: Dict[str, str] = {
-    "mean": "has nothing behind it",
-    "pmf": "is pmf:x, where x is a whole number of buckets, of at most 9 digits",
-    "cdf": "is cdf:x, where x is a whole number of buckets, of at most 9 digits",
-    "q": "is q:p, where p is below 1: a decimal or a fraction of at most 9 digits, or a percent of at most 7",
-    "tail": "is tail:p, where p is below 1: a decimal or a fraction of at most 9 digits, or a percent of at most 7",
-    "layer": "is layer:LxsA, where L and A are whole numbers of buckets, of at most 9 digits; L can be inf",
-    "joint": "is joint:NAME:x, where NAME is a unit and x a whole number of buckets, of at most 9 digits",
-    "kappa": "is kappa:NAME:x, where NAME is a unit and x a whole number of buckets, of at most 9 digits",
-}
 ASKS = "Asks are pmf:x, cdf:x, mean, q:p, layer:LxsA, tail:p, joint:NAME:x and kappa:NAME:x."
 
 

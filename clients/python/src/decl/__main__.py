@@ -1,0 +1,99 @@
+"""The client as a command: `python -m decl`."""
+
+import argparse
+import pathlib
+import sys
+from typing import List, Optional
+
+from . import DeclError, __version__
+from .books import RETURN_PERIODS, Book
+from .calls import report
+
+ABOUT = """
+python -m decl FILE ASK..                 the report that `decl run ASK.. < FILE` writes
+python -m decl FILE --money ASK..         the same in money: bucket and grid are chosen, amounts of the asks are in money
+python -m decl FILE --table 10,50,100     VaR and TVaR of these return periods, in money
+python -m decl report FILE -o book.html   a page on the book, in money
+"""
+
+
+def parser() -> argparse.ArgumentParser:
+    """The words of the command."""
+    made = argparse.ArgumentParser(
+        prog="python -m decl",
+        usage=ABOUT.strip(),
+        description="Asks decl about the program in FILE; - is the standard input.",
+        epilog="Asks are mean, pmf:x, cdf:x, q:p, layer:LxsA, tail:p, joint:NAME:x and kappa:NAME:x; with --money sf:x too.",
+    )
+    made.add_argument("--version", action="version", version=f"decl-client {__version__}")
+    made.add_argument("file", metavar="FILE")
+    made.add_argument("asks", metavar="ASK", nargs="*")
+    made.add_argument("--money", action="store_true", help="amounts of the asks and of the answers are in money")
+    made.add_argument("--table", metavar="YEARS", help="return periods, as 10,50,100,250")
+    for name, told in (("bs", "size of a bucket in money"), ("log2", "the grid has 2^N buckets"), ("digits", "digits of the ends")):
+        made.add_argument(f"--{name}", help=told)
+    for name in ("width", "mwidth", "format"):
+        made.add_argument(f"--{name}", help="as in docs/USAGE.md, without --money")
+    made.add_argument("-o", "--output", metavar="PAGE", help="where report puts the page; without it, on the standard output")
+    made.add_argument("--title", help="the title of the page")
+    return made
+
+
+def periods(words: Optional[str]) -> List[str]:
+    """The return periods that stand between commas."""
+    return [str(each) for each in RETURN_PERIODS] if words is None else [word.strip() for word in words.split(",")]
+
+
+def text_of(name: str) -> bytes:
+    """What the file holds."""
+    return sys.stdin.buffer.read() if name == "-" else pathlib.Path(name).read_bytes()
+
+
+def book_of(given: argparse.Namespace) -> Book:
+    """The book of the file, with the bucket, grid and digits that are given."""
+    whole = {name: int(getattr(given, name)) for name in ("log2", "digits") if getattr(given, name) is not None}
+    return Book(text_of(given.file), bs=given.bs, **whole)
+
+
+def answer(given: argparse.Namespace) -> str:
+    """What is written for the words."""
+    options = {name: getattr(given, name) for name in ("bs", "log2", "digits", "width", "mwidth")}
+    if given.table is not None:
+        return str(book_of(given).return_periods(periods(given.table)))
+    if given.money:
+        rows = book_of(given).each(given.asks)
+        return "".join(f"{word} {row.written[0]} {row.written[1]}\n" for word, row in zip(given.asks, rows))
+    return report(text_of(given.file), given.asks, given.format or "text", **options)
+
+
+def main(words: List[str]) -> int:
+    """Runs the command; the status is that of the program where it refuses, 2 for words that are not understood."""
+    made = parser()
+    paged = words[:1] == ["report"]
+    given = made.parse_intermixed_args(words[1:] if paged else words)
+    try:
+        if not paged:
+            written = answer(given)
+        elif given.asks:
+            made.error("a page has no asks")
+        else:
+            written = book_of(given).page(periods(given.table), title=given.title)
+        if paged and given.output:
+            pathlib.Path(given.output).write_text(written, encoding="utf-8")
+        else:
+            sys.stdout.write(written)
+            sys.stdout.flush()
+    except DeclError as fault:
+        print(fault, file=sys.stderr)
+        return fault.status or 1
+    except OSError as fault:
+        print(f"decl: {fault.filename or given.file}: {fault.strerror}", file=sys.stderr)
+        return 1
+    except (ValueError, ZeroDivisionError) as fault:
+        print(f"decl: {fault}", file=sys.stderr)
+        return 2
+    return 0
+
+
+if __name__ == "__main__":
+    sys.exit(main(sys.argv[1:]))

@@ -1,0 +1,230 @@
+"""Pictures of a book as SVG, drawn here with no package. Floats place what is drawn; no figure comes from them."""
+
+import html
+import math
+import os
+from dataclasses import dataclass
+from fractions import Fraction
+from typing import TYPE_CHECKING, Iterable, List, Optional, Tuple, Union
+
+from .reports import Row, plain
+from .tables import joined
+
+if TYPE_CHECKING:
+    from .books import Book
+
+WIDTH, HEIGHT = 960, 420
+LEFT, RIGHT, TOP, BOTTOM = 70, 100, 30, 60
+#: Two labels of one axis stand so far apart at least.
+APART = 18
+SAMPLES = 120
+#: A share is there where the probability of the total is sure to be at least this.
+RAREST = Fraction(1, 65536)
+
+
+#: The look of the parts of a picture.
+LOOK = """
+svg text { font: 13px system-ui, sans-serif; fill: #44515e; } .axis { stroke: #44515e; } .grid { stroke: #e6eaee; }
+.period { stroke: #b9c3cc; stroke-dasharray: 3 4; } .band { fill: #9cc3e6; } .curve { fill: none; stroke: #1f5f99; stroke-width: 2; }
+.VaR { fill: #c8452f; } .TVaR { fill: #e0a12b; } .mark { stroke: #fff; stroke-width: 1; }
+"""
+
+
+@dataclass(frozen=True)
+class Picture:
+    """A picture as SVG, which a notebook shows; `save(path)` writes it to a file."""
+
+    svg: str
+
+    def _repr_svg_(self) -> str:
+        return self.svg
+
+    def save(self, path: Union[str, "os.PathLike[str]"]) -> None:
+        """Writes the picture to a file."""
+        with open(path, "w", encoding="utf-8") as file:
+            file.write(self.svg)
+
+
+@dataclass(frozen=True)
+class Scale:
+    """Places values from `low` to `high` in a straight line from `start` to `end`."""
+
+    low: float
+    high: float
+    start: float
+    end: float
+
+    def at(self, value: float) -> float:
+        """The place of a value; one outside is placed at the nearest end."""
+        part = (value - self.low) / ((self.high - self.low) or 1)
+        return self.start + (self.end - self.start) * min(max(part, 0), 1)
+
+
+def ticks(high: float, most: int = 8) -> List[float]:
+    """Round values from 0 up to `high`, `most` of them or fewer."""
+    size = 10.0 ** math.floor(math.log10(high)) / 10 if high > 0 else 1.0
+    step = next(size * part for part in (1, 2, 5, 10, 20, 50) if high / (size * part) < most)
+    return [step * at for at in range(int(high / step + 1e-9) + 1)]
+
+
+def text(x: float, y: float, told: str, anchor: str = "middle", more: str = "") -> str:
+    """A label."""
+    return f'<text x="{x:.2f}" y="{y:.2f}" text-anchor="{anchor}"{more}>{html.escape(told)}</text>'
+
+
+def line(x1: float, y1: float, x2: float, y2: float, kind: str) -> str:
+    """A straight line, with the class that gives its look."""
+    return f'<line class="{kind}" x1="{x1:.2f}" y1="{y1:.2f}" x2="{x2:.2f}" y2="{y2:.2f}"/>'
+
+
+def area(points: Iterable[Tuple[float, float]], look: str) -> str:
+    """A filled polygon."""
+    return f'<polygon {look} points="{" ".join(f"{x:.2f},{y:.2f}" for x, y in points)}"/>'
+
+
+def money_axis(across: Scale, name: str) -> List[str]:
+    """The axis of totals below the picture: each label has its value and its place."""
+    base = HEIGHT - BOTTOM
+    parts = [line(LEFT, base, WIDTH - RIGHT, base, "axis"), text((LEFT + WIDTH - RIGHT) / 2, HEIGHT - 12, name)]
+    for value in ticks(across.high):
+        x = across.at(value)
+        parts += [
+            line(x, base, x, base + 5, "axis"),
+            text(x, base + 22, f"{value:,.10g}", more=f' class="tick" data-total="{value!r}"'),
+        ]
+    return parts
+
+
+def svg(parts: Iterable[str], title: str) -> str:
+    """The picture of these parts."""
+    body = "\n".join(parts)
+    return (
+        f'<svg xmlns="http://www.w3.org/2000/svg" viewBox="0 0 {WIDTH} {HEIGHT}" role="img"'
+        f' aria-label="{html.escape(title)}">\n{body}\n</svg>'
+    )
+
+
+def middle(row: Row) -> Optional[float]:
+    """The middle of the two ends, or None where one is not there."""
+    return None if row.low is None or row.high is None else float(Fraction(row.low) + Fraction(row.high)) / 2
+
+
+def steps(values: List[Tuple[float, float]], end: float) -> List[Tuple[float, float]]:
+    """The corners of a function that keeps each value from its place up to the next, and the last up to `end`."""
+    corners = []
+    for at, (x, y) in enumerate(values):
+        if at and y == values[at - 1][1]:
+            continue
+        if at:
+            corners.append((x, values[at - 1][1]))
+        corners.append((x, y))
+    return corners + [(end, values[-1][1])]
+
+
+def marks(book: "Book", years: Iterable[Fraction], across: Scale, down: Scale) -> List[str]:
+    """A circle at the VaR and a square at the TVaR of each return period, at the height of its probability."""
+    parts: List[str] = []
+    for each in years:
+        height = down.at(math.log10(1 / each))
+        for kind, row in (("VaR", book.q(1 - 1 / each)), ("TVaR", book.tail(1 - 1 / each))):
+            value = middle(row)
+            if value is None:
+                continue
+            x = across.at(value)
+            facts = f'class="mark {kind}" data-years="{plain(each)}" data-total="{value!r}"'
+            told = f"<title>{kind} of {plain(each)} years: {html.escape(joined(row, marks=True))}</title>"
+            if kind == "VaR":
+                parts.append(f'<circle {facts} cx="{x:.2f}" cy="{height:.2f}" r="5">{told}</circle>')
+            else:
+                parts.append(f'<rect {facts} x="{x - 4.5:.2f}" y="{height - 4.5:.2f}" width="9" height="9">{told}</rect>')
+    return parts
+
+
+def probability_axis(down: Scale, years: Iterable[Fraction]) -> List[str]:
+    """Powers of ten on the left, return periods on the right; of two labels that are near one is left out."""
+    parts = []
+    for power in range(int(down.low), 1):
+        y = down.at(power)
+        parts += [line(LEFT, y, WIDTH - RIGHT, y, "grid"), text(LEFT - 8, y + 4, f"{10.0**power:.10g}", "end")]
+    last = math.inf
+    for each in sorted(years):
+        y = down.at(math.log10(1 / each))
+        parts.append(line(LEFT, y, WIDTH - RIGHT, y, "period"))
+        if abs(y - last) >= APART:
+            parts.append(text(WIDTH - RIGHT + 8, y + 4, f"{plain(each)} years", "start"))
+            last = y
+    return parts
+
+
+def exceedance(book: "Book", years: Iterable[Fraction]) -> str:
+    """The exceedance curve on a log scale, as a band between its ends, with VaR and TVaR of each return period marked."""
+    periods = list(years)
+    power = -min(max(math.ceil(math.log10(10 * max(periods, default=Fraction(10)))), 2), book.digits)
+    rows = book.distribution(cells=True)
+    size = float(book.bs)
+    above = [(1 - float(row.high or 0), 1 - float(row.low or 0)) for row in rows]
+    shown = next((at for at, ends in enumerate(above) if ends[1] < 10.0**power), len(above) - 1) + 1
+    tails = [middle(book.tail(1 - 1 / each)) for each in periods]
+    end = max([shown * size, *(1.02 * value for value in tails if value is not None)])
+    across, down = Scale(0, end, LEFT, WIDTH - RIGHT), Scale(power, 0, HEIGHT - BOTTOM, TOP)
+    low, high = (
+        [(across.at(at * size), down.at(math.log10(ends[side]) if ends[side] > 0 else power)) for at, ends in enumerate(above[:shown])]
+        for side in (0, 1)
+    )
+    last = across.at(shown * size)
+    upper = steps(high, last)
+    parts = [*money_axis(across, "total of a year"), *probability_axis(down, periods)]
+    parts.append(text(LEFT, TOP - 12, "probability of more", "start"))
+    parts.append(area([*upper, *reversed(steps(low, last))], 'class="band"'))
+    parts.append(f'<polyline class="curve" points="{" ".join(f"{x:.2f},{y:.2f}" for x, y in upper)}"/>')
+    parts += marks(book, periods, across, down)
+    key = WIDTH - RIGHT - 190
+    parts += [f'<circle class="VaR" cx="{key}" cy="{TOP - 16}" r="5"/>', text(key + 12, TOP - 12, "VaR", "start")]
+    parts += [f'<rect class="TVaR" x="{key + 70}" y="{TOP - 20.5}" width="9" height="9"/>']
+    parts.append(text(key + 86, TOP - 12, "TVaR", "start"))
+    return svg(parts, "exceedance curve")
+
+
+def alone(drawn: str) -> Picture:
+    """A picture of a page as one of its own, with its look inside."""
+    head, _, body = drawn.partition("\n")
+    return Picture(f"{head}\n<style>{LOOK}</style>\n{body}\n")
+
+
+def colour(at: int, many: int) -> str:
+    """The colour of a unit."""
+    return f"hsl({(210 + 360 * at // many) % 360} 55% {58 if at % 2 else 46}%)"
+
+
+def sampled(book: "Book", level: Fraction) -> List[int]:
+    """Up to SAMPLES totals, in buckets, up to the quantile at the level, at each of which shares are there."""
+    top = book.q(level).low or Fraction(0)
+    cells = range(1, min(int(Fraction(top) / book.bs), book.cells - 1) + 1)
+    rows = book.each(f"pmf:{plain(at * book.bs)}" for at in cells)
+    there = [at for at, row in zip(cells, rows) if Fraction(row.low or 0) >= RAREST]
+    step = -(-len(there) // SAMPLES) or 1
+    return there[::step]
+
+
+def shares(book: "Book", level: Fraction = Fraction(995, 1000)) -> Optional[str]:
+    """Each unit's share of the total, as areas one on the other that fill the total; None where there is one unit."""
+    at = sampled(book, level) if len(book.units) > 1 else []
+    if len(at) < 2:
+        return None
+    totals = [each * book.bs for each in at]
+    across = Scale(0, float(totals[-1]), LEFT, WIDTH - RIGHT)
+    up = Scale(0, 1, HEIGHT - BOTTOM, TOP)
+    book.each(f"kappa:{name}:{plain(x)}" for name in book.units for x in totals)
+    below = [0.0] * len(totals)
+    parts: List[str] = []
+    for number, name in enumerate(book.units):
+        parts_of = [(middle(book.kappa(name, x)) or 0.0) / float(x) for x in totals]
+        above = [first + second for first, second in zip(below, parts_of)]
+        edge = [(across.at(float(x)), up.at(part)) for x, part in zip(totals, above)]
+        base = [(across.at(float(x)), up.at(part)) for x, part in zip(totals, below)]
+        look = f'class="share" data-unit="{html.escape(name)}" fill="{colour(number, len(book.units))}"'
+        parts.append(area([*edge, *reversed(base)], look))
+        below = above
+    parts += [text(LEFT - 8, up.at(part / 4) + 4, f"{25 * part}%", "end") for part in range(5)]
+    parts += money_axis(across, "total of a year")
+    return svg(parts, "each unit's share of the total")
