@@ -64,6 +64,10 @@ class Package(Case):
         """So does the block under "Books in money"."""
         self.prints_what_stands("Books in money")
 
+    def test_the_page_on_translations(self):
+        """So does the block under "Programs of `aggregate`"."""
+        self.prints_what_stands("Programs of `aggregate`")
+
     def prints_what_stands(self, heading):
         page = (PYTHON / "README.md").read_text(encoding="utf-8")
         block = page.split(f"## {heading}\n")[1].split("\n## ")[0]

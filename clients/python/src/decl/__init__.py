@@ -33,6 +33,7 @@ from .faults import (
     TextFault,
     TooLong,
     TookTooLong,
+    Untranslated,
     UsageFault,
     WriteFault,
 )
@@ -41,6 +42,7 @@ from .moments import Moments
 from .pictures import Picture
 from .reports import Report, Row
 from .tables import Table
+from .translate import translate
 
 __version__ = "0.2"
 
@@ -70,6 +72,7 @@ __all__ = [
     "TextFault",
     "TooLong",
     "TookTooLong",
+    "Untranslated",
     "UsageFault",
     "WriteFault",
     "__version__",
@@ -81,4 +84,5 @@ __all__ = [
     "made",
     "report",
     "run",
+    "translate",
 ]

@@ -79,6 +79,15 @@ class NoMoments(DeclError):
     """A moment that does not follow from the text: an aggregate clause is in its way, or it would be divided by 0."""
 
 
+class Untranslated(DeclError):
+    """Something in a text of the package `aggregate` that has no counterpart here, or is no program there either. `line` and
+    `column` (in bytes) count from 1; `reason` is a sentence on it, with what to write instead, where there is something."""
+
+    line: int
+    column: int
+    reason: str
+
+
 class NoWords(DeclError):
     """The system did not give the program its words."""
 

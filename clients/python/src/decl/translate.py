@@ -1,0 +1,419 @@
+"""Writes a program of the package `aggregate` in this language, or tells the place of what has no counterpart."""
+
+import re
+from dataclasses import dataclass
+from fractions import Fraction
+from typing import List, Optional, Set, Tuple, TypeVar
+
+from .calls import Text
+from .numerals import Numbers, Numeral, Token, spelled
+from .program import as_text
+
+Item = Tuple[Numeral, ...]
+Entry = TypeVar("Entry")
+
+KEYWORDS = frozenset(
+    "agg port claim claims loss prem premium at lr dfreq dsev sev dhistogram xps xs inf occurrence aggregate net of ceded to"
+    " and so po fixed poisson bernoulli binomial mixed gamma wts".split()
+)
+#: Words that are no keywords, and no names either.
+NO_NAMES = frozenset("lognorm expon pareto weibull norm uniform beta chistogram note geometric zt zm common".split())
+COUNTS = ("fixed", "poisson", "bernoulli")
+MOST_UNITS = 16
+MOST_VALUES = 1024
+#: What has no counterpart, by its word.
+NONE = {
+    "tweedie": "The claims of a tweedie aggregate are continuous; give amounts with their probabilities, as dsev [..] [..].",
+    "splice": "A splice is of continuous severities; give amounts with their probabilities, as dsev [..] [..].",
+    "picks": "Picks change a continuous severity; give amounts with their probabilities, as dsev [..] [..].",
+    "zt": "A count with its zero taken out has no counterpart; up to 256 claims can be listed, as dfreq [1 2 ..] [..].",
+    "zm": "A count with another zero has no counterpart; up to 256 claims can be listed, as dfreq [0 1 ..] [..].",
+    "distortion": "A distortion has no counterpart: prices are not answered here.",
+    "dist": "A distortion has no counterpart: prices are not answered here.",
+}
+CONTINUOUS = "Two programs with listed amounts hold it between them: docs/FROM-AGGREGATE.md says how to write them."
+STORED = "This names a stored program, and a text stands alone here: write the program out."
+
+
+@dataclass(frozen=True)
+class Profile:
+    """A unit as the package has it. `exposure` and `layer` have the words of each entry of a limit profile, and of one entry
+    for a plain unit; `rest` is what all entries share."""
+
+    name: str
+    exposure: Tuple[str, ...]
+    layer: Tuple[str, ...]
+    rest: str
+
+    def names(self) -> List[str]:
+        """The names of its units here: its own, or one for each entry."""
+        several = len(self.exposure) > 1
+        return [f"{self.name}-{at + 1}" for at in range(len(self.exposure))] if several else [self.name]
+
+    def units(self) -> List[str]:
+        """Its units here, one for each entry."""
+        parts = zip(self.names(), self.exposure, self.layer)
+        return [" ".join(filter(None, ["agg", *part, self.rest])) for part in parts]
+
+
+def spelling(items: List[Item]) -> str:
+    """A list with these items."""
+    return f"[{' '.join(':'.join(number.spelling for number in item) for item in items)}]"
+
+
+def values_of(items: List[Item]) -> Optional[List[Fraction]]:
+    """The values of a list, its ranges run through; None where there are too many, or a range does not run upward."""
+    found: List[Fraction] = []
+    for item in items:
+        first, last = item[0].value, item[min(1, len(item) - 1)].value
+        step = item[2].value if len(item) == 3 else Fraction(1)
+        if first is None or last is None or not step or last < first or (last - first) / step >= MOST_VALUES - len(found):
+            return None
+        found += [first + step * at for at in range(int((last - first) / step) + 1)]
+    return found
+
+
+class Translator(Numbers):
+    """Reads a program of the package from the left, and writes it."""
+
+    def program(self) -> str:
+        """The program."""
+        port = self.passed("port")
+        if not port and self.ahead() != "agg":
+            self.refuse(self.none() or "A program begins with `agg` or `port`; a severity alone is none.")
+        head = ["port", cleaned(self.name()), *self.note()] if port else []
+        names: Set[str] = set()
+        units: List[str] = []
+        while not units or (port and self.ahead() == "agg"):
+            start = self.token()
+            profile = self.unit(names)
+            units += profile.units()
+            if len(units) > MOST_UNITS:
+                self.refuse(f"A portfolio has at most {MOST_UNITS} units; each entry of a limit profile is one.", start)
+            head = head or (["port", profile.name] if len(units) > 1 else [])
+        if self.ahead() in ("agg", "port", "sev", "dist", "distortion"):
+            self.refuse("A text has one program here; give the next one a text of its own, or put both in a port.")
+        if self.ahead():
+            self.refuse(self.unknown())
+        return "\n".join([" ".join(head), *units] if head else units) + "\n"
+
+    def none(self) -> Optional[str]:
+        """Why the next word has no counterpart, where it is known to have none."""
+        if re.match(r"(agg|sev|port|dist)\.", self.ahead()):
+            return STORED
+        return NONE.get(self.ahead())
+
+    def unknown(self) -> str:
+        """What is to say of a token that stands where none like it does."""
+        return self.none() or "The program does not go on like this, here or in the package."
+
+    def name(self) -> Token:
+        """The name that is next."""
+        token = self.token()
+        if not token.is_word() or token.spelling in KEYWORDS or token.spelling.startswith("note{"):
+            self.refuse("A name is expected here.")
+        return self.take()
+
+    def note(self) -> List[str]:
+        """The note that is next, if one is."""
+        return [self.take().spelling] if self.ahead().startswith("note{") else []
+
+    def unit(self, names: Set[str]) -> Profile:
+        """The unit that is next, with a name that is not among these; its names are, then."""
+        if not self.passed("agg"):
+            self.refuse(self.none() or "A unit begins with `agg`.")
+        name = self.name()
+        listed = self.passed("dfreq")
+        exposures = [f"dfreq {self.chances()}"] if listed else self.exposures()
+        where = self.token()
+        layers = self.layers()
+        entries = max(len(exposures), len(layers))
+        self.same_lengths(where, len(exposures), len(layers))
+        rest = self.rest(listed, entries > 1, name)
+        profile = Profile(cleaned(name), widened(exposures, entries), widened(layers, entries), rest)
+        for each in profile.names():
+            if each in names:
+                self.refuse(f"Two units have the name {each} here.", name)
+            names.add(each)
+        return profile
+
+    def same_lengths(self, where: Token, first: int, second: int) -> None:
+        """Refuses two lists of a profile at this token, where neither has one entry and their lengths differ."""
+        if first != second and min(first, second) > 1:
+            self.refuse("The lists of a limit profile have the same number of entries.", where)
+
+    def rest(self, listed: bool, profile: bool, named: Token) -> str:
+        """What stands behind the layer of a unit."""
+        words = [self.severity(), *self.clause("occurrence")]
+        counted = self.token()
+        if not listed:
+            words.append(self.count())
+        if profile and (listed or counted.spelling != "poisson"):
+            reason = "The entries of a limit profile share one count, and only a poisson one parts into independent units."
+            self.refuse(f"{reason} Write an agg for each entry, with a count of its own.", named if listed else counted)
+        of_all = self.token()
+        aggregate = self.clause("aggregate")
+        if profile and aggregate:
+            self.refuse("An aggregate clause is on the sum of a limit profile, and each entry is a unit here.", of_all)
+        return " ".join(words + aggregate + self.note())
+
+    def numbers(self) -> List[Numeral]:
+        """The number that is next, or the numbers of a list, its ranges run through."""
+        token = self.token()
+        if self.ahead() != "[":
+            return [self.numeral()]
+        found: List[Numeral] = []
+        for item in self.items():
+            values = values_of([item])
+            if len(item) > 1 and values is None:
+                self.refuse(f"A range runs upward, to at most {MOST_VALUES} values.", item[0].token)
+            found += [self.spell(value, token) for value in values or []] if len(item) > 1 else [item[0]]
+        return found
+
+    def exposures(self) -> List[str]:
+        """The exposure that is next: its words for each entry."""
+        start = self.token()
+        if not self.begins_number():
+            self.refuse(self.none() or "An exposure is expected here, such as `10 claims`, `1000 loss` or `dfreq [1 2]`.")
+        numbers = self.numbers()
+        if any(number.value is None for number in numbers):
+            self.refuse("An exposure is finite.", start)
+        if self.passed("claims") or self.passed("claim"):
+            return [f"{number.spelling} claims" for number in numbers]
+        if self.passed("loss"):
+            return [f"{number.spelling} loss" for number in numbers]
+        if self.passed("exposure"):
+            pairs = self.pairs(numbers, "rate")
+            losses = [self.spell((first.value or Fraction(0)) * (rate.value or Fraction(0)), start) for first, rate in pairs]
+            return [f"{loss.spelling} loss" for loss in losses]
+        if self.passed("premium") or self.passed("prem"):
+            return [f"{first.spelling} premium at {ratio.spelling} lr" for first, ratio in self.pairs(numbers, "lr")]
+        self.refuse("`claims`, `loss`, `premium at .. lr` or `exposure at .. rate` is expected here.")
+
+    def pairs(self, numbers: List[Numeral], word: str) -> List[Tuple[Numeral, Numeral]]:
+        """Each number with the one that belongs to it, of those behind `at` and before this word."""
+        self.want("at")
+        where = self.token()
+        others = self.numbers()
+        self.want(word)
+        if any(other.value is None for other in others):
+            self.refuse("This number is finite.", where)
+        return self.paired(numbers, others, where)
+
+    def paired(self, first: List[Numeral], second: List[Numeral], where: Token) -> List[Tuple[Numeral, Numeral]]:
+        """The entries of two lists of a profile side by side; one alone goes with each of the other list."""
+        self.same_lengths(where, len(first), len(second))
+        entries = max(len(first), len(second))
+        return [*zip(widened(first, entries), widened(second, entries))]
+
+    def layers(self) -> List[str]:
+        """The layer that is next, for each entry; an empty one where there is none."""
+        if self.ahead() == "tower":
+            self.refuse("A tower is part of a reinsurance clause: write occurrence ceded to tower [..] behind the severity.")
+        if not self.begins_number():
+            return [""]
+        limits = self.numbers()
+        where = self.token()
+        self.want("xs")
+        attachments = self.numbers()
+        if any(attachment.value is None for attachment in attachments):
+            self.refuse("An attachment is finite.", where)
+        return [f"{limit.spelling} xs {low.spelling}" for limit, low in self.paired(limits, attachments, where)]
+
+    def values(self) -> List[Item]:
+        """The items of the list that is next, all of them finite."""
+        if self.ahead() != "[":
+            self.refuse("A list is expected here, such as [1 2 5].")
+        items = self.items()
+        for item in items:
+            for number in item:
+                if number.value is None:
+                    self.refuse("The values of a list are finite.", number.token)
+        return items
+
+    def chances(self) -> str:
+        """A list of values, and the list of their probabilities, if one is there."""
+        return " ".join([spelling(self.values()), *self.parts()])
+
+    def moved(self, item: Item, scale: Fraction, shift: Fraction) -> Item:
+        """The item with its values scaled, and then shifted."""
+        numbers = [number.value or Fraction(0) for number in item]
+        found = [number * scale + shift for number in numbers[:2]]
+        if len(numbers) == 3 or (len(numbers) == 2 and scale != 1):
+            found.append(scale * (numbers[2] if len(numbers) == 3 else 1))
+        return tuple(self.spell(number, item[0].token) for number in found)
+
+    def parts(self) -> List[str]:
+        """The list of probabilities or weights that is next, if one is."""
+        token = self.token()
+        if self.ahead() != "[":
+            return []
+        items = self.values()
+        values = values_of(items)
+        whole = Fraction(1) if values is None else sum(values, Fraction(0))
+        if whole != 1:
+            shown = spelled(whole) or f"about {float(whole):.9f}"
+            self.refuse(f"Probabilities and weights add up to 1 here, and these to {shown}; write thirds as 1/3.", token)
+        return [spelling(items)]
+
+    def severity(self) -> str:
+        """The severity that is next, with its `!`."""
+        words = [self.atom_of_severity()]
+        while self.ahead() in ("dsev", "sev"):
+            words.append(self.atom_of_severity())
+        if self.passed("wts"):
+            self.passed("=")
+            words += ["wts", *(self.parts() or [self.equal_weights(len(words))])]
+        elif len(words) > 1:
+            self.refuse("Several severities have their weights behind them, as wts [1/2 1/2].")
+        if self.ahead() in ("splice", "picks"):
+            self.refuse(self.unknown())
+        return " ".join(words + ["!"] * self.passed("!"))
+
+    def equal_weights(self, atoms: int) -> str:
+        """As many equal weights as there are severities, for the number that is next."""
+        number = self.numeral()
+        if number.value != atoms:
+            self.refuse(f"There are {atoms} severities, and as many weights.", number.token)
+        return f"[{' '.join([f'1/{atoms}'] * atoms)}]" if atoms > 1 else "[1]"
+
+    def atom_of_severity(self) -> str:
+        """The severity that is next, without weights."""
+        if self.passed("dsev"):
+            return f"dsev {self.chances()}"
+        if not self.passed("sev"):
+            self.refuse(self.none() or "A severity is expected here, such as dsev [1 2 5] [0.5 0.3 0.2].")
+        scale = Fraction(1)
+        if self.ahead() != "[" and self.begins_number():
+            scale = self.factor()
+        if self.passed("dhistogram", "xps"):
+            return self.scaled(scale)
+        word = "A list of severities" if self.ahead() == "[" else f"`{self.ahead()}`"
+        if not (self.token().is_word() or self.ahead() == "[") or self.ahead() in KEYWORDS - {"gamma"}:
+            self.refuse("A severity is expected here, such as dhistogram xps [1 2 5] [0.5 0.3 0.2].")
+        self.refuse(self.none() or f"{word} is continuous. {CONTINUOUS}")
+
+    def factor(self) -> Fraction:
+        """The number before the `*` of a severity that is scaled."""
+        token = self.token()
+        value = self.signed()
+        while not self.passed("*"):
+            sign = self.token()
+            if not self.passed("/"):
+                self.refuse("`*` is expected here, behind the factor of a severity.")
+            other = self.signed()
+            if not other:
+                self.refuse("This divides by 0.", sign)
+            value = self.kept(value / other, sign)
+        if value <= 0:
+            self.refuse("The factor of a severity is above 0.", token)
+        return value
+
+    def scaled(self, scale: Fraction) -> str:
+        """The listed severity that is next, scaled, and then shifted by the number behind it."""
+        items = self.values()
+        parts = self.parts()
+        shift = self.sum() if self.ahead() in ("+", "-") else Fraction(0)
+        if scale != 1 or shift:
+            items = [self.moved(item, scale, shift) for item in items]
+        return " ".join(["dsev", spelling(items), *parts])
+
+    def clause(self, word: str) -> List[str]:
+        """The reinsurance clause with this word, if it is next; its towers are their layers."""
+        if not self.passed(word):
+            return []
+        if self.passed("net", "of"):
+            side = "net of"
+        elif self.passed("ceded", "to"):
+            side = "ceded to"
+        else:
+            self.refuse("`net of` or `ceded to` is expected here.")
+        layers = self.cession()
+        while self.passed("and"):
+            layers += self.cession()
+        return [f"{word} {side} {' and '.join(layers)}"]
+
+    def cession(self) -> List[str]:
+        """The layer that is next, with its share; or those of a tower."""
+        if self.passed("tower"):
+            return self.tower()
+        first = self.numeral()
+        share = ""
+        if self.ahead() in ("so", "po"):
+            if first.value is None:
+                self.refuse("A share is finite.", first.token)
+            share = f"{first.spelling} {self.take().spelling} "
+            first = self.numeral()
+        self.want("xs")
+        attachment = self.numeral()
+        if attachment.value is None:
+            self.refuse("An attachment is finite.", attachment.token)
+        return [f"{share}{first.spelling} xs {attachment.spelling}"]
+
+    def tower(self) -> List[str]:
+        """The layers between the numbers of the list that is next."""
+        token = self.token()
+        ends = self.numbers()
+        layers = []
+        for low, high in zip(ends, ends[1:]):
+            if low.value is None or (high.value is not None and high.value <= low.value):
+                self.refuse("The numbers of a tower rise.", high.token)
+            limit = "inf" if high.value is None else self.spell(high.value - low.value, high.token).spelling
+            layers.append(f"{limit} xs {low.spelling}")
+        if not layers:
+            self.refuse("A tower has two numbers or more, such as [0 10 20].", token)
+        return layers
+
+    def count(self) -> str:
+        """The distribution of the number of claims that is next."""
+        token = self.token()
+        if self.passed("geometric"):
+            written = "mixed gamma 1"
+        elif self.passed("binomial"):
+            written = f"binomial {self.finite()}"
+        elif self.passed("mixed", "gamma"):
+            written = f"mixed gamma {self.finite()}"
+        elif token.spelling in COUNTS:
+            written = self.take().spelling
+        elif token.spelling == "mixed":
+            self.refuse("Of mixed counts only `mixed gamma` has a counterpart.", token)
+        elif token.is_word() and token.spelling not in KEYWORDS and not token.spelling.startswith("note{"):
+            listed = "up to 256 claims can be listed, as dfreq [0 1 ..] [..]."
+            self.refuse(self.none() or f"The count {token.spelling} has no counterpart; {listed}")
+        else:
+            self.refuse("The distribution of the number of claims is expected here, such as poisson.", token)
+        if self.ahead() in ("zt", "zm"):
+            self.refuse(NONE[self.ahead()])
+        return written
+
+    def finite(self) -> str:
+        """The number that is next."""
+        number = self.numeral()
+        if number.value is None:
+            self.refuse("This number is finite.", number.token)
+        if self.begins_number():
+            self.refuse("A second number of a count has no counterpart.")
+        return number.spelling
+
+
+def cleaned(name: Token) -> str:
+    """The name as it can be here: with `-` for a point, a colon or a tilde, and `_` behind a word of the language."""
+    found = re.sub(r"[.:~]", "-", name.spelling)
+    return f"{found}_" if found in NO_NAMES else found
+
+
+def widened(each: List[Entry], entries: int) -> Tuple[Entry, ...]:
+    """One for each entry, where one alone is for all."""
+    return tuple(each * (entries // len(each)))
+
+
+def translate(text: Text) -> str:
+    """The program of this text of the package `aggregate`, as a text of this language with the same meaning.
+
+    Towers are written as their layers, a limit profile as a unit for each entry, `geometric` as `mixed gamma 1`, numbers with
+    exponents, signs and arithmetic as one numeral, a listed severity that is scaled or shifted by its amounts, and an exposure
+    at a rate as its expected loss. Comments are dropped. What has no counterpart raises `Untranslated`, with its place and a
+    sentence. The rules are not asked: the text that comes out may still be refused, as for an amount that is no whole number
+    of buckets.
+    """
+    return Translator(as_text(text)).program()
