@@ -69,6 +69,14 @@ class Commands(Case):
         for (ask, low, high), value in zip(rows, values):
             self.assertTrue(Fraction(low) <= value <= Fraction(high), ask)
 
+    def test_a_coarser_bucket(self):
+        """Four claims of 17 or 230 and more: their mean of 1,960 lies between those of the two programs."""
+        text = "agg Exact 4 claims dsev [17 230 1150 4800] [0.5 0.3 0.15 0.05] poisson"
+        status, written, _ = command("-", "--coarser", "50", "mean", "q:0.99", given=text)
+        self.assertEqual((status, written), (0, "mean 1889.99995 2050\nq:0.99 10000 10250\n"))
+        self.assertIn("10 ", command("-", "--coarser", "50", "--table", "10", given=text)[1])
+        self.assertEqual(command("-", "--coarser", "50", "pmf:5", given=text)[0], 1)
+
     def test_a_table(self):
         status, written, _ = command("-", "--table", "10,100", given="agg Dice dfreq [2] dsev [1000:6000:1000]")
         self.assertEqual((status, written.split()[:6]), (0, ["years", "VaR", "TVaR", "10", "10000", "11111.11"]))

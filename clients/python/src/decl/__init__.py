@@ -10,6 +10,7 @@
 The program is the one that the variable DECL names, else the one of the package, where it has one, else `decl` on the path.
 """
 
+from .between import Between, coarser
 from .books import Book
 from .calls import check, fmt, made, report, run
 from .choose import bucket, grid
@@ -23,6 +24,7 @@ from .faults import (
     Killed,
     NeedsWidth,
     NoMoments,
+    NotBetween,
     NotText,
     NoWords,
     OutOfMemory,
@@ -50,6 +52,7 @@ __all__ = [
     "AskFault",
     "BadAnswer",
     "BadByte",
+    "Between",
     "Book",
     "ContinuousSeverity",
     "DeclError",
@@ -58,6 +61,7 @@ __all__ = [
     "Moments",
     "NeedsWidth",
     "NoMoments",
+    "NotBetween",
     "NotText",
     "NoWords",
     "OutOfMemory",
@@ -78,6 +82,7 @@ __all__ = [
     "__version__",
     "bucket",
     "check",
+    "coarser",
     "fmt",
     "grid",
     "load_ipython_extension",

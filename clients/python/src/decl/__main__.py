@@ -3,9 +3,10 @@
 import argparse
 import pathlib
 import sys
-from typing import List, Optional
+from typing import List, Optional, Union
 
 from . import DeclError, __version__
+from .between import Between, coarser
 from .books import RETURN_PERIODS, Book
 from .calls import report
 
@@ -13,6 +14,7 @@ ABOUT = """
 python -m decl FILE ASK..                 the report that `decl run ASK.. < FILE` writes
 python -m decl FILE --money ASK..         the same in money: bucket and grid are chosen, amounts of the asks are in money
 python -m decl FILE --table 10,50,100     VaR and TVaR of these return periods, in money
+python -m decl FILE --coarser BS ASK..    the same by two programs on a coarser bucket, between which the book lies
 python -m decl report FILE -o book.html   a page on the book, in money
 """
 
@@ -30,6 +32,7 @@ def parser() -> argparse.ArgumentParser:
     made.add_argument("asks", metavar="ASK", nargs="*")
     made.add_argument("--money", action="store_true", help="amounts of the asks and of the answers are in money")
     made.add_argument("--table", metavar="YEARS", help="return periods, as 10,50,100,250")
+    made.add_argument("--coarser", metavar="BS", help="the size of a bucket that amounts need not fit")
     for name, told in (("bs", "size of a bucket in money"), ("log2", "the grid has 2^N buckets"), ("digits", "digits of the ends")):
         made.add_argument(f"--{name}", help=told)
     for name in ("width", "mwidth", "format"):
@@ -58,10 +61,11 @@ def book_of(given: argparse.Namespace) -> Book:
 def answer(given: argparse.Namespace) -> str:
     """What is written for the words."""
     options = {name: getattr(given, name) for name in ("bs", "log2", "digits", "width", "mwidth")}
-    if given.table is not None:
-        return str(book_of(given).return_periods(periods(given.table)))
-    if given.money:
-        rows = book_of(given).each(given.asks)
+    if given.table is not None or given.money or given.coarser is not None:
+        book: Union[Between, Book] = book_of(given) if given.coarser is None else coarser(text_of(given.file), given.coarser)
+        if given.table is not None:
+            return str(book.return_periods(periods(given.table)))
+        rows = book.each(given.asks)
         return "".join(f"{word} {row.written[0]} {row.written[1]}\n" for word, row in zip(given.asks, rows))
     return report(text_of(given.file), given.asks, given.format or "text", **options)
 

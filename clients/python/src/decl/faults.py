@@ -75,6 +75,10 @@ class GridTooSmall(DeclError):
     row: "Row"
 
 
+class NotBetween(DeclError):
+    """A book that two programs on the coarser bucket cannot hold between them; the text says why."""
+
+
 class NoMoments(DeclError):
     """A moment that does not follow from the text: an aggregate clause is in its way, or it would be divided by 0."""
 

@@ -1,15 +1,30 @@
 """What a text declares, as exact numbers: counts, amounts, layers and clauses of each unit.
 
-The text is read from its canonical spelling, so its grammar is known to be right, and no rule is asked here.
+The text is read from its canonical spelling, so its grammar is known to be right.
 """
 
 from dataclasses import dataclass
 from fractions import Fraction
+from functools import reduce
+from math import gcd
 from typing import Callable, Dict, List, Optional, Tuple
 
 from .calls import Text, fmt
 from .choose import tokens_of, value_of
+from .faults import RuleFault, rule_sentence
 
+NAMES = {
+    2: "BadNumeral",
+    3: "BadRange",
+    4: "ListTooLong",
+    5: "LengthsDiffer",
+    6: "NotOne",
+    9: "WeightsDiffer",
+    10: "NoneAbove",
+    11: "Overlap",
+    12: "ShareAboveOne",
+    14: "ZeroMean",
+}
 #: Amounts (or counts) with their probabilities.
 Chances = Dict[Fraction, Fraction]
 
@@ -98,20 +113,42 @@ def mean_of(chances: Chances) -> Fraction:
     return sum((amount * part for amount, part in chances.items()), Fraction(0))
 
 
+def is_range(item: List[Fraction]) -> bool:
+    """Whether the item of a list is one number, or a range upward with a common denominator of at most 1,000,000."""
+    over = reduce(lambda one, other: one * other // gcd(one, other), (number.denominator for number in item))
+    upward = len(item) == 1 or (item[0] <= item[1] and (len(item) == 2 or item[2] > 0))
+    return upward and (len(item) == 1 or over <= 10**6)
+
+
+def size(item: List[Fraction]) -> int:
+    """How many numbers a range has."""
+    return int((item[1] - item[0]) / (item[2] if len(item) == 3 else 1)) + 1
+
+
 def spread(item: List[Fraction]) -> List[Fraction]:
     """The numbers of an item of a list: one alone, or those of a range."""
     if len(item) == 1:
         return item
     step = item[2] if len(item) == 3 else Fraction(1)
-    return [item[0] + step * at for at in range(int((item[1] - item[0]) / step) + 1)]
+    return [item[0] + step * at for at in range(size(item))]
+
+
+def apart(layers: Tuple[Layer, ...]) -> bool:
+    """Whether no two of the layers overlap."""
+    ordered = sorted((each for each in layers if each.limit != 0), key=lambda each: each.attachment)
+    return all(
+        one.limit is not None and one.attachment + one.limit <= other.attachment for one, other in zip(ordered, ordered[1:])
+    )
 
 
 class Reader:
-    """Reads the tokens of a canonical text from the left."""
+    """Reads the tokens of a canonical text from the left. The rules without which its numbers mean nothing are asked: the
+    program, which asks all of them, may refuse the text before by one on its buckets."""
 
     def __init__(self, tokens: List[str]) -> None:
         self.tokens = tokens
         self.at = 0
+        self.name, self.number = "", -1
 
     def ahead(self, further: int = 0) -> str:
         """The next token, or one further on; empty behind the last."""
@@ -129,9 +166,18 @@ class Reader:
         self.at += len(words)
         return True
 
+    def holds(self, rule: int, kept: bool) -> None:
+        """Raises the fault of a rule that is not kept; it has no place."""
+        if not kept:
+            told = f"unit {self.name} breaks rule {rule}\n{rule_sentence(rule)}"
+            raise RuleFault(told, unit=self.number, rule=rule, name=NAMES[rule])
+
     def numeral(self) -> Fraction:
         """The next numeral."""
-        return value_of(self.take())
+        word = self.take()
+        parts = word.rstrip("%").replace(".", "").split("/")
+        self.holds(2, max(map(len, parts)) <= (9 if "%" in word else 11) and (len(parts) == 1 or int(parts[1]) > 0))
+        return value_of(word)
 
     def numbers(self) -> List[Fraction]:
         """The numbers of the list that is next."""
@@ -141,13 +187,18 @@ class Reader:
             item = [self.numeral()]
             while self.passed(":"):
                 item.append(self.numeral())
+            self.holds(3, is_range(item))
+            self.holds(4, len(item) == 1 or size(item) <= 1024)
             found += spread(item)
+        self.holds(4, len(found) <= 1024)
         return found
 
     def chances(self) -> Chances:
         """A list of numbers with the list of their probabilities; without one all are equally likely."""
         numbers = self.numbers()
         parts = self.numbers() if self.ahead() == "[" else [Fraction(1, len(numbers))] * len(numbers)
+        self.holds(5, len(parts) == len(numbers))
+        self.holds(6, sum(parts) == 1)
         found: Chances = {}
         for number, part in zip(numbers, parts):
             if part:
@@ -170,6 +221,7 @@ class Reader:
             part = self.numeral()
             self.take()
             whole = self.layer()
+            self.holds(12, bool(whole.limit))
             return Layer(whole.limit, whole.attachment, part / (whole.limit or Fraction(1)))
         return self.layer()
 
@@ -182,6 +234,7 @@ class Reader:
         layers = [self.cession()]
         while self.passed("and"):
             layers.append(self.cession())
+        self.holds(4, len(layers) <= 16)
         return Clause(net, tuple(layers))
 
     def exposure(self) -> Tuple[Optional[Fraction], Optional[Fraction]]:
@@ -202,10 +255,14 @@ class Reader:
         atoms = []
         while self.passed("dsev"):
             atoms.append(self.chances())
+        self.holds(4, len(atoms) <= 64)
         if not self.passed("wts"):
             return atoms[0]
         found: Chances = {}
-        for weight, atom in zip(self.numbers(), atoms):
+        weights = self.numbers()
+        self.holds(9, len(weights) == len(atoms))
+        self.holds(6, sum(weights) == 1)
+        for weight, atom in zip(weights, atoms):
             for amount, part in atom.items():
                 if weight:
                     found[amount] = found.get(amount, Fraction(0)) + weight * part
@@ -221,7 +278,8 @@ class Reader:
     def unit(self) -> Unit:
         """The unit that is next."""
         self.take()
-        name = self.take()
+        name = self.name = self.take()
+        self.number += 1
         counts = self.chances() if self.passed("dfreq") else None
         claims, loss = (None, None) if counts is not None else self.exposure()
         layer = None if self.ahead() == "dsev" else self.layer()
@@ -230,7 +288,13 @@ class Reader:
         occurrence = self.clause("occurrence")
         count, shape = ("listed", Fraction(0)) if counts is not None else self.count()
         aggregate = self.clause("aggregate")
-        return Unit(name, amounts, layer, kept, counts, claims, loss, count, shape, occurrence, aggregate)
+        found = Unit(name, amounts, layer, kept, counts, claims, loss, count, shape, occurrence, aggregate)
+        self.holds(10, layer is None or kept or not layer.attachment or max(amounts) > layer.attachment)
+        for clause in (occurrence, aggregate):
+            self.holds(11, clause is None or apart(clause.layers))
+            self.holds(12, clause is None or all(each.share <= 1 for each in clause.layers))
+        self.holds(14, loss is None or mean_of(found.in_layer()) > 0)
+        return found
 
 
 def units_of(text: Text, *, timeout: Optional[float] = None) -> List[Unit]:

@@ -34,7 +34,7 @@ def shown(row: Row, marks: bool = False) -> Tuple[str, str]:
     """The two ends of a row, rounded outward to a few digits; the words of the program where an end is not there."""
     ends = [None if end is None else Fraction(end) for end in (row.low, row.high)]
     places = places_of(max((abs(end) for end in ends if end is not None), default=Fraction(0)))
-    if ends[0] is not None and ends[0] == ends[1] and ends[0].denominator == 1:
+    if all(end is None or end.denominator == 1 for end in ends) and row.unit != "probability":
         places = 0
     low, high = (
         word if end is None else short(end, places, up, marks) for end, word, up in zip(ends, row.written, (False, True))

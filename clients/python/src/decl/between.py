@@ -1,0 +1,229 @@
+"""A book whose amounts do not fit a bucket, as two programs that hold it between them. docs/BETWEEN.md has the argument."""
+
+import math
+from fractions import Fraction
+from typing import Callable, Dict, Iterable, Iterator, List, Optional, Tuple
+
+from .books import Book, exact
+from .calls import Number, Text, check, fmt
+from .faults import NotBetween, RuleFault
+from .plan import Chances, Clause, Unit, moved, units_of
+from .reports import Row, plain
+from .tables import Table
+
+#: The most digits of a numeral, values of a list and layers of a clause.
+DIGITS, VALUES, LAYERS = 11, 1024, 16
+#: Rules that another spelling of the same unit may keep: numerals, whole buckets, and how fine numbers are.
+SPELLING = (2, 7, 13, 19)
+#: Counts that rise with their expected number of claims.
+RISING = ("poisson", "mixed", "bernoulli")
+MOST_CELLS = 1 << 20
+
+
+def numeral(value: Fraction) -> Optional[str]:
+    """The numeral that spells a value of at least 0, or None where it would have too many digits."""
+    decimal, parts = plain(value), (str(value.numerator), str(value.denominator))
+    if "/" not in decimal and len(decimal.replace(".", "")) <= DIGITS:
+        return decimal
+    return "/".join(parts) if value.denominator > 1 and max(map(len, parts)) <= DIGITS else None
+
+
+def spelled_all(values: Iterable[Fraction], unit: Unit) -> str:
+    """A list of the values."""
+    words = []
+    for value in values:
+        word = numeral(value)
+        if word is None:
+            raise NotBetween(f"unit {unit.name}: {value} has more digits than a numeral may have")
+        words.append(word)
+    return f"[{' '.join(words)}]"
+
+
+def rounded(chances: Chances, bs: Fraction, up: bool) -> Chances:
+    """The chances of the amounts, each rounded down or up to a whole number of buckets."""
+    whole: Callable[[Fraction], int] = math.ceil if up else math.floor
+    return moved(chances, lambda amount: whole(amount / bs) * bs)
+
+
+def severity(chances: Chances, unit: Unit) -> str:
+    """The severity with these chances; one of many values is a mixture of severities."""
+    amounts = sorted(chances)
+    parts = [amounts[first : first + VALUES] for first in range(0, len(amounts), VALUES)]
+    weights = [sum((chances[amount] for amount in part), Fraction(0)) for part in parts]
+    atoms = [
+        f"dsev {spelled_all(part, unit)} {spelled_all((chances[amount] / weight for amount in part), unit)}"
+        for part, weight in zip(parts, weights)
+    ]
+    return " ".join(atoms) + (f" wts {spelled_all(weights, unit)}" if len(atoms) > 1 else "")
+
+
+def counts(unit: Unit, up: bool) -> Iterator[Tuple[str, str]]:
+    """Spellings of the number of claims, in front of the severity and behind it: the exact one, then rounded ones."""
+    if unit.counts is not None:
+        yield f"dfreq {spelled_all(unit.counts, unit)} {spelled_all(unit.counts.values(), unit)}", ""
+        return
+    expected = unit.expected_claims()
+    name = {"mixed": f"mixed gamma {numeral(unit.shape)}", "binomial": f"binomial {numeral(unit.shape)}"}.get(unit.count, unit.count)
+    word = numeral(expected)
+    if word is not None:
+        yield f"{word} claims", name
+    if unit.count not in RISING:
+        told = f"unit {unit.name}: the expected number of claims, {expected}, is too fine for a numeral"
+        raise NotBetween(f"{told}, and a {unit.count} count cannot be rounded: its number of claims or trials has to be whole")
+    whole: Callable[[Fraction], int] = math.ceil if up else math.floor
+    for places in (9, 6, 3):
+        word = numeral(Fraction(whole(expected * 10**places), 10**places))
+        if word is not None:
+            yield f"{word} claims", name
+
+
+def verbatim(clause: Clause, unit: Unit) -> str:
+    """The aggregate clause as it is."""
+    layers = []
+    for layer in clause.layers:
+        ends = "inf" if layer.limit is None else spelled_all([layer.limit], unit)[1:-1]
+        layers.append(f"{spelled_all([layer.share], unit)[1:-1]} so {ends} xs {spelled_all([layer.attachment], unit)[1:-1]}")
+    return f"aggregate {'net of' if clause.net else 'ceded to'} {' and '.join(layers)}"
+
+
+def outward(clause: Clause, bs: Fraction, up: bool, unit: Unit) -> str:
+    """The aggregate clause whose outcome at each whole number of buckets is that of the clause, rounded down or up.
+
+    What is ceded of so many buckets rises by at most a bucket from one to the next, so rounded it rises by a bucket or not at
+    all: the runs where it rises are layers.
+    """
+    whole: Callable[[Fraction], int] = math.ceil if up != clause.net else math.floor
+    tail = sum((layer.share for layer in clause.layers if layer.limit is None), Fraction(0))
+    tops = [layer.attachment + (layer.limit or 0) for layer in clause.layers]
+    last = math.ceil(max(tops) / bs) + 1
+    if 0 < tail < 1 or last > MOST_CELLS:
+        raise NotBetween(f"unit {unit.name}: a share of a layer without a limit is no whole number of buckets of {plain(bs)}")
+    ceded = [whole(sum((layer.of(at * bs) for layer in clause.layers), Fraction(0)) / bs) for at in range(last + 1)]
+    runs: List[List[int]] = []
+    for at in range(last):
+        if ceded[at + 1] > ceded[at]:
+            if runs and runs[-1][1] == at:
+                runs[-1][1] = at + 1
+            else:
+                runs.append([at, at + 1])
+    if len(runs) > LAYERS:
+        raise NotBetween(f"unit {unit.name}: its aggregate clause, rounded to buckets of {plain(bs)}, needs {len(runs)} layers")
+    ends = [None if tail and first_last == runs[-1] else first_last[1] for first_last in runs]
+    layers = [
+        f"{'inf' if end is None else spelled_all([(end - start) * bs], unit)[1:-1]} xs {spelled_all([start * bs], unit)[1:-1]}"
+        for (start, _), end in zip(runs, ends)
+    ]
+    return f"aggregate {'net of' if clause.net else 'ceded to'} {' and '.join(layers) or '0 xs 0'}"
+
+
+def clauses(unit: Unit, bs: Fraction, up: bool) -> Iterator[str]:
+    """Spellings of the aggregate clause: as it is, and rounded outward."""
+    if unit.aggregate is None:
+        yield ""
+        return
+    yield verbatim(unit.aggregate, unit)
+    yield outward(unit.aggregate, bs, up, unit)
+
+
+def side(unit: Unit, bs: Fraction, up: bool, timeout: Optional[float]) -> str:
+    """The unit with its final amounts rounded down or up to whole buckets, in a spelling that the rules take."""
+    amounts = severity(rounded(unit.of_a_claim(), bs, up), unit)
+    fault: Optional[RuleFault] = None
+    for clause in clauses(unit, bs, up):
+        for front, behind in counts(unit, up):
+            text = " ".join(f"agg {unit.name} {front} {amounts} {behind} {clause}".split())
+            try:
+                check(text, bs=bs, log2=1, timeout=timeout)
+                return text
+            except RuleFault as found:
+                if found.rule not in SPELLING:
+                    raise
+                fault = found
+            if fault.rule in (7, 13):
+                break
+    assert fault is not None
+    raise fault
+
+
+class Between:
+    """Two programs that hold a book between them: `low` and `high` are their texts, `bs` is their bucket.
+
+    Each answer is a row in money: its low end is that of one program and its high end that of the other. The ends of each
+    program are proved; that the two hold the book between them rests on the client's own arithmetic.
+    """
+
+    def __init__(self, low: str, high: str, bs: Fraction, timeout: Optional[float] = None) -> None:
+        self.low, self.high, self.bs = low, high, bs
+        self.timeout = timeout
+        self._books: Dict[bool, Book] = {}
+
+    def __repr__(self) -> str:
+        return f"<decl book between two programs on buckets of {plain(self.bs)}>"
+
+    def book(self, up: bool) -> Book:
+        """The book of the high program, or of the low one."""
+        if up not in self._books:
+            self._books[up] = Book(self.high if up else self.low, bs=self.bs, timeout=self.timeout)
+        return self._books[up]
+
+    def ask(self, word: str) -> Row:
+        """The answer to an ask in money: mean, q:p, tail:p, cdf:x, sf:x or layer:LxsA. Other asks do not rise with the total, so
+        that the two programs do not hold them."""
+        if word.split(":")[0] not in ("mean", "q", "tail", "cdf", "sf", "layer"):
+            raise NotBetween(f"two programs do not hold {word} between them: ask mean, q, tail, cdf, sf or layer")
+        low, high = self.book(False).ask(word), self.book(True).ask(word)
+        if low.kind == "cdf":
+            low, high = high, low
+        return Row(low.ask, low.low, high.high, (low.written[0], high.written[1]), True)
+
+    def each(self, words: Iterable[str]) -> List[Row]:
+        """The answers to several asks."""
+        return [self.ask(word) for word in words]
+
+    def mean(self) -> Row:
+        """The mean of the total."""
+        return self.ask("mean")
+
+    def q(self, p: Number) -> Row:
+        """The least total that is not exceeded with a probability of `p` or more."""
+        return self.ask(f"q:{plain(exact(p))}")
+
+    def tail(self, p: Number) -> Row:
+        """The mean of the total in its worst `1 - p`."""
+        return self.ask(f"tail:{plain(exact(p))}")
+
+    def cdf(self, x: Number) -> Row:
+        """The probability that the total is at most `x`."""
+        return self.ask(f"cdf:{plain(exact(x))}")
+
+    def sf(self, x: Number) -> Row:
+        """The probability that the total is above `x`."""
+        return self.ask(f"sf:{plain(exact(x))}")
+
+    def layer(self, limit: Optional[Number], attachment: Number = 0) -> Row:
+        """The mean of what of the total lies above `attachment`, at most `limit` of it; None or "inf" is no limit."""
+        spelling = "inf" if limit is None or limit in ("inf", math.inf) else plain(exact(limit))
+        return self.ask(f"layer:{spelling}xs{plain(exact(attachment))}")
+
+    def return_periods(self, years: Iterable[Number] = (10, 50, 100, 200, 250)) -> Table:
+        """VaR and TVaR of each return period."""
+        periods = [exact(each) for each in years]
+        return Table(["years", "VaR", "TVaR"], ([plain(n), self.q(1 - 1 / n), self.tail(1 - 1 / n)] for n in periods))
+
+
+def coarser(text: Text, bs: Number, *, timeout: Optional[float] = None) -> Between:
+    """Two programs on buckets of the size `bs` that hold the book of the text between them, whatever its amounts are.
+
+    The final amounts of a claim, after the layer and the occurrence clause, are rounded down in one and up in the other, and
+    the number of claims stays as it is. Raises `NotBetween` where that cannot be written as a program.
+    """
+    size = exact(bs)
+    if size <= 0:
+        raise ValueError(f"the size of a bucket is above 0, not {size}")
+    units = units_of(text, timeout=timeout)
+    first, name = fmt(text, timeout=timeout).split()[:2]
+    head = f"port {name}\n" if first == "port" else ""
+    low, high = ("\n".join(side(unit, size, up, timeout) for unit in units) for up in (False, True))
+    for each in (head + low, head + high):
+        check(each, bs=size, log2=1, timeout=timeout)
+    return Between(head + low, head + high, size, timeout)
