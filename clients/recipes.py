@@ -3,7 +3,8 @@
 
 A recipe is worked from its treaty: what is paid of a claim or of a year is a function of an amount of money, and not read from
 the DecL text. Each command of docs/RECIPES.md that writes rows must have its recipe here; so have the towers of
-docs/FROM-AGGREGATE.md, and the coarser buckets of docs/USAGE.md. The figures in the sentences of docs/RECIPES.md are worked.
+docs/FROM-AGGREGATE.md, and the coarser buckets of docs/USAGE.md. The figures in the sentences of docs/RECIPES.md are worked, and
+the rows that its examples in Python print.
 Probabilities are whole numbers of which 2^400 make 1. That the pages show what the program writes is checked by
 examples/check.py. The last line is 'N passed, M failed'.
 """
@@ -126,8 +127,9 @@ class Year:
             return self.expected(whole)
         if kind == "pmf":
             return Fraction(self.parts.get(int(rest), 0), ONE)
-        if kind == "cdf":
-            return self.within(int(rest))
+        if kind in ("cdf", "sf"):
+            within = self.within(int(rest))
+            return within if kind == "cdf" else 1 - within
         if kind == "layer":
             limit, attachment = rest.split("xs")
             return self.expected(layer(INF if limit == "inf" else int(limit), int(attachment)))
@@ -356,6 +358,50 @@ def sentences():
     yield f"{money(BOOK.tail(p90))} - {money(BOOK.after(layer(150, 150)).tail(p90))}"
 
 
+#: The ten books in Python, each by the first words of the line above it, and the year of each row that it prints.
+PYTHON = {
+    "VaR and TVaR": [GROSS] * 3,
+    "Return periods": [GROSS] * 4,
+    "OEP": [fire(layer(INF, x)) for x in (20, 50, 100)],
+    "An excess of loss": [CEDED, CEDED, NET, NET],
+    "An annual aggregate deductible": [CEDED.after(layer(INF, 80))] * 3,
+    "The pure premium": [],
+    "A stop loss": [GROSS] * 4,
+    "A quota share": [fire(net(QUOTA))] * 2,
+    "A loss ratio": [GROSS] * 3,
+    "How a year": [BOOK] * 4,
+}
+#: A row as it is printed, and a line of a table of return periods.
+PRINTED = re.compile(r"(?:\d+ )?((?:mean|pmf|sf|q|tail|layer|kappa)\S*) ([\d.]+) ([\d.]+)")
+PERIOD = re.compile(r" *(\d+) +(\d+) +([\d.]+) to ([\d.]+)")
+
+
+def python_books():
+    """Each row and figure of the ten books in Python, of at most five lines each."""
+    page = (ROOT / "docs/RECIPES.md").read_text(encoding="utf-8").split("## The same books in Python\n")[1]
+    parts = page.split("\n\n")
+    books = {head: body.splitlines() for head, body in zip(parts, parts[1:]) if head.endswith(":") and body.startswith("    >>>")}
+    books = {head: [line[4:] for line in body] for head, body in books.items() if "import decl" not in body[0]}
+    yield len(books) == len(PYTHON) == 10, "docs/RECIPES.md has not ten books in Python"
+    for (head, lines), (name, years) in zip(books.items(), PYTHON.items()):
+        code = [line for line in lines if line.startswith((">>>", "..."))]
+        yield head.startswith(name) and len(code) <= 5, f"the book in Python is not {name}, or has more than five lines"
+        left = list(years)
+        for line in lines[len(code) :]:
+            row, period = PRINTED.fullmatch(line), PERIOD.fullmatch(line)
+            if row:
+                yield holds(" ".join(row.groups()), left.pop(0)), f"the book in Python has another value: {name}: {line}"
+            elif period:
+                year, p = left.pop(0), 1 - Fraction(1, int(period[1]))
+                right = year.quantile(p) == int(period[2]) and Fraction(period[3]) <= year.tail(p) <= Fraction(period[4])
+                yield right, f"the book in Python has another value: {name}: {line}"
+        yield not left, f"the book in Python prints too few rows: {name}"
+    low, high = map(int, books[next(head for head in books if head.startswith("The pure premium"))][-1].split())
+    yield low <= 1000 * reinstated(2, 80) <= high <= low + 2, "the pure premium in Python is another one"
+    ratio = books[next(head for head in books if head.startswith("A loss ratio"))][-1]
+    yield int(ratio) == Fraction(100 * GROSS.quantile(Fraction(9, 10)), 150), "the loss ratio in Python is another one"
+
+
 def text_of(command):
     """The program of a command, with its severities by name; none where the command names a file."""
     found = re.search(r"echo (['\"])(.*?)\1", command)
@@ -392,7 +438,7 @@ def looked_at(page, recipes, all_of_it):
 def main():
     """Looks at each row and each figure."""
     found = [*looked_at("docs/RECIPES.md", RECIPES, True), *looked_at("docs/FROM-AGGREGATE.md", TOWERS, False)]
-    found += [*looked_at("docs/USAGE.md", COARSE, False), *coarse()]
+    found += [*looked_at("docs/USAGE.md", COARSE, False), *coarse(), *python_books()]
     page = " ".join((ROOT / "docs/RECIPES.md").read_text(encoding="utf-8").split())
     found += [(sentence in page, f"docs/RECIPES.md does not say: {sentence}") for sentence in sentences()]
     for passes, wrong in found:

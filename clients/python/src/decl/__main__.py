@@ -64,7 +64,7 @@ def answer(given: argparse.Namespace) -> str:
     if given.table is not None or given.money or given.coarser is not None:
         book: Union[Between, Book] = book_of(given) if given.coarser is None else coarser(text_of(given.file), given.coarser)
         if given.table is not None:
-            return str(book.return_periods(periods(given.table)))
+            return f"{book.return_periods(periods(given.table))}\n"
         rows = book.each(given.asks)
         return "".join(f"{word} {row.written[0]} {row.written[1]}\n" for word, row in zip(given.asks, rows))
     return report(text_of(given.file), given.asks, given.format or "text", **options)

@@ -89,6 +89,9 @@ class Row:
             return "probability"
         return "money" if self.money else "buckets"
 
+    def __str__(self) -> str:
+        return f"{self.ask} {self.written[0]} {self.written[1]}"
+
     def holds(self, value: Union[Fraction, Decimal, float, int, str]) -> Optional[bool]:
         """Whether the value, in the unit of the row, lies from `low` to `high`; None where that is open."""
         value = Fraction(value)
@@ -149,7 +152,7 @@ class Report(Sequence[Row]):
         return f"<decl report of {len(self)} rows{unit}, {self.cells} buckets of {self.bs}>"
 
     def __str__(self) -> str:
-        return "".join(f"{row.ask} {row.written[0]} {row.written[1]}\n" for row in self.rows)
+        return "".join(f"{row}\n" for row in self.rows)
 
     def _repr_html_(self) -> str:
         cells = [[row.ask, *row.written] for row in self.rows]

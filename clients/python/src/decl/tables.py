@@ -78,7 +78,7 @@ class Table(Sequence[Tuple[Cell, ...]]):
     def __str__(self) -> str:
         lines = [self.columns, *([joined(cell) for cell in line] for line in self.lines)]
         wide = [max(len(line[at]) for line in lines) for at in range(len(self.columns))]
-        return "".join("  ".join(cell.rjust(size) for cell, size in zip(line, wide)).rstrip() + "\n" for line in lines)
+        return "\n".join("  ".join(cell.rjust(size) for cell, size in zip(line, wide)).rstrip() for line in lines)
 
     def _repr_html_(self) -> str:
         head = "".join(f"<th>{html.escape(name)}</th>" for name in self.columns)
