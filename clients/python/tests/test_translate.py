@@ -38,6 +38,23 @@ WRITTEN = [
         "agg P [100 200] premium at [65% 0.7] lr dsev [1] poisson",
         "port P\nagg P-1 100 premium at 65% lr dsev [1] poisson\nagg P-2 200 premium at 0.7 lr dsev [1] poisson",
     ),
+    # limit profiles whose entries share a count: one unit, with the amounts of each entry in its layer
+    (
+        "agg P [2 3] claims [10 20] xs 0 dsev [5 15 30] mixed gamma 0.5 note{n}",
+        "agg P 5 claims dsev [5 10] [1/3 2/3] dsev [5 15 20] [1/3 1/3 1/3] wts [0.4 0.6] mixed gamma 0.5 note{n}",
+    ),
+    (
+        "agg P [2 3] claims [10 20] xs [0 10] dsev [5 15 30] occurrence net of 5 xs 0 fixed",
+        "agg P 5 claims dsev [5 10] [1/3 2/3] dsev [5 20] [0.5 0.5] wts [0.4 0.6] occurrence net of 5 xs 0 fixed",
+    ),
+    (
+        "agg P [2 3] claims [10 20] xs [0 10] dsev [5 15 30] ! poisson aggregate net of tower [0 5 10]",
+        "agg P 5 claims dsev [5 10] [1/3 2/3] dsev [0 5 20] [1/3 1/3 1/3] wts [0.4 0.6] poisson aggregate net of 5 xs 0 and 5 xs 5",
+    ),
+    (  # 10 of loss at 25/3 a claim, and 20 at 40/3, are 6/5 and 3/2 claims
+        "port Q agg P [10 20] loss [10 20] xs 0 dsev [5 15 30] geometric",
+        "port Q\nagg P 2.7 claims dsev [5 10] [1/3 2/3] dsev [5 15 20] [1/3 1/3 1/3] wts [4/9 5/9] mixed gamma 1",
+    ),
     ("agg P [2] claims [10] xs [0] dsev [5 15] fixed", "agg P 2 claims 10 xs 0 dsev [5 15] fixed"),
     # exponents, signs and arithmetic
     ("agg E 1e6 loss dsev [1e3 5E+3] poisson", "agg E 1000000 loss dsev [1000 5000] poisson"),
@@ -92,6 +109,13 @@ REFUSED = [
     (f"{CLAIMS} mixed gamma 0.3 0.1", 43, "A second number"),
     (CLAIMS, 26, "The distribution of the number of claims"),
     ("agg D dfreq [1] dsev [1 2 3] [0.333 0.333 0.333]", 30, "these to 0.999"),
+    ("agg D dfreq [1] dsev [1:3] [1/2 1/2]", 28, "This list has 2 values"),
+    ("agg D dfreq [1] dsev [1 2] wts [1/2 1/2]", 32, "This list has 2 values"),
+    ("agg D dfreq [1] dsev [1:1025]", 22, "at most 1024 values"),
+    ("agg D dfreq [1] dsev [1:99999999999]", 22, "at most 1024 values"),
+    ("agg D dfreq [1] dsev [3:1]", 22, "runs upward"),
+    ("agg D dfreq [1] dsev [1:3:0]", 22, "a step above 0"),
+    ("agg P [3:1] claims dsev [1] poisson", 8, "runs upward"),
     ("agg D dfreq [1] dsev [1] dsev [2] wts [1 1]", 39, "these to 2"),
     ("agg D dfreq [1] dsev [1] dsev [2]", 34, "have their weights behind them"),
     ("agg D dfreq [1] dsev [1] dsev [2] wts=3", 39, "There are 2 severities"),
@@ -115,9 +139,12 @@ REFUSED = [
     ("agg D dfreq [1] tower [0 10 20] dsev [1]", 17, "behind the severity"),
     (f"{CLAIMS} occurrence net of tower [0 10 5] poisson", 57, "rise"),
     (f"{CLAIMS} occurrence net of tower [10] poisson", 51, "two numbers or more"),
-    ("agg P [2 3] claims dsev [1] fixed", 29, "only a poisson one parts into independent units"),
-    ("agg P dfreq [1] [1] [10 20] xs 0 dsev [1]", 5, "only a poisson one parts into independent units"),
-    ("agg P [2 3] claims dsev [1] poisson aggregate net of 5 xs 5", 37, "on the sum of a limit profile"),
+    ("agg P dfreq [1] [1] [10 20] xs 0 dsev [1]", 5, "and no listed count"),
+    ("port Q agg P [2 3] claims 20 xs 30 dsev [5 15 30] fixed", 8, "No claim can exceed the attachment"),
+    ("agg P [2 3] loss dsev [0] geometric", 1, "cannot tell how many claims"),
+    ("agg P [0 0] claims dsev [1] geometric", 1, "has no claims"),
+    ("agg P [0.1:6.5:0.1] claims dsev [1] geometric", 1, "at most 64 entries"),
+    ("agg P [1/99999999977 1/99999999947] claims dsev [1] geometric", 1, "a number that is too long"),
     ("agg P [2 3] claims [10 20 30] xs 0 dsev [1] poisson", 20, "the same number of entries"),
     ("agg P [2 3] claims [10 20] xs [0 1 2] dsev [1] poisson", 28, "the same number of entries"),
     ("agg P [1:17] claims dsev [1] poisson", 1, "at most 16 units"),
@@ -196,6 +223,15 @@ class Meanings(Case):
         asks = ["mean", "tail:0.99", *(f"cdf:{x}" for x in range(0, 256, 5))]
         for first, second in zip(decl.run(profile, asks, log2=8), decl.run(one, asks, log2=8)):
             self.assertLessEqual(max(first.low, second.low), min(first.high, second.high), first.ask)
+
+    def test_a_limit_profile_of_one_count(self):
+        """The mean of a profile is that of its entries: 2 claims of 25/3 and 3 of 40/3 in the mean; its variance with a gamma of
+        variation 1/2 is 2 E[X^2 of the first] + 3 E[X^2 of the second] + the square of the mean over 4."""
+        text = decl.translate("agg P [2 3] claims [10 20] xs 0 dsev [5 15 30] mixed gamma 0.5")
+        moments = decl.Book(text).moments()
+        mean = Fraction(2 * 25 + 3 * 40, 3)
+        self.assertEqual(moments.mean, mean)
+        self.assertEqual(moments.variance, Fraction(2 * (25 + 100 + 100) + 3 * (25 + 225 + 400), 3) + mean**2 / 4)
 
     def test_the_profile_of_the_examples(self):
         text = (ROOT / "examples" / "profile.decl").read_text(encoding="utf-8")

@@ -3,10 +3,13 @@
 import re
 from dataclasses import dataclass
 from fractions import Fraction
-from typing import List, Optional, Set, Tuple, TypeVar
+from typing import Iterable, List, Optional, Set, Tuple, TypeVar
 
 from .calls import Text
-from .numerals import Numbers, Numeral, Token, spelled
+from .choose import tokens_of
+from .faults import RuleFault, rule_sentence
+from .numerals import TOO_LONG, Numbers, Numeral, Token, spelled
+from .plan import Chances, Reader
 from .program import as_text
 
 Item = Tuple[Numeral, ...]
@@ -21,6 +24,7 @@ NO_NAMES = frozenset("lognorm expon pareto weibull norm uniform beta chistogram 
 COUNTS = ("fixed", "poisson", "bernoulli")
 MOST_UNITS = 16
 MOST_VALUES = 1024
+MOST_ATOMS = 64
 #: What has no counterpart, by its word.
 NONE = {
     "tweedie": "The claims of a tweedie aggregate are continuous; give amounts with their probabilities, as dsev [..] [..].",
@@ -38,22 +42,60 @@ STORED = "This names a stored program, and a text stands alone here: write the p
 @dataclass(frozen=True)
 class Profile:
     """A unit as the package has it. `exposure` and `layer` have the words of each entry of a limit profile, and of one entry
-    for a plain unit; `rest` is what all entries share."""
+    for a plain unit; the rest is what all entries share, and empty where it is not there."""
 
     name: str
     exposure: Tuple[str, ...]
     layer: Tuple[str, ...]
-    rest: str
+    severity: str
+    occurrence: str
+    count: str
+    aggregate: str
+    note: str
+
+    def is_split(self) -> bool:
+        """Whether its entries are independent units: those of a poisson count are, with no clause on their sum."""
+        return len(self.exposure) > 1 and self.count == "poisson" and not self.aggregate
 
     def names(self) -> List[str]:
         """The names of its units here: its own, or one for each entry."""
-        several = len(self.exposure) > 1
-        return [f"{self.name}-{at + 1}" for at in range(len(self.exposure))] if several else [self.name]
+        return [f"{self.name}-{at + 1}" for at in range(len(self.exposure))] if self.is_split() else [self.name]
 
-    def units(self) -> List[str]:
-        """Its units here, one for each entry."""
-        parts = zip(self.names(), self.exposure, self.layer)
-        return [" ".join(filter(None, ["agg", *part, self.rest])) for part in parts]
+    def entries(self) -> List[str]:
+        """A unit for each entry, numbered where there are several."""
+        several = len(self.exposure) > 1
+        names = [f"{self.name}-{at + 1}" if several else self.name for at in range(len(self.exposure))]
+        shared = [self.severity, self.occurrence, self.count, self.aggregate, self.note]
+        return [" ".join(filter(None, ["agg", *part, *shared])) for part in zip(names, self.exposure, self.layer)]
+
+    def as_one(self) -> Optional[str]:
+        """One unit with the claims of all entries, each with its amounts in its layer, by the expected numbers of claims. None
+        where a number has too many digits; raises `ZeroDivisionError` where there are no claims, and `RuleFault` where an
+        entry by itself has no meaning."""
+        units = [Reader(tokens_of(entry)).unit() for entry in self.entries()]
+        claims = [unit.expected_claims() for unit in units]
+        whole = sum(claims, Fraction(0))
+        atoms = [listed(unit.in_layer()) for unit in units]
+        weights = listed_numbers([each / whole for each in claims])
+        exposure = spelled(whole)
+        if weights is None or exposure is None or None in atoms:
+            return None
+        severity = " ".join([*map(str, atoms), "wts", weights])
+        shared = [severity, self.occurrence, self.count, self.aggregate, self.note]
+        return " ".join(filter(None, ["agg", self.name, exposure, "claims", *shared]))
+
+
+def listed_numbers(numbers: Iterable[Fraction]) -> Optional[str]:
+    """A list of these numbers; None where one has too many digits."""
+    words = [spelled(number) for number in numbers]
+    return None if None in words else f"[{' '.join(map(str, words))}]"
+
+
+def listed(chances: Chances) -> Optional[str]:
+    """A severity with these amounts and probabilities, by rising amounts; None where one has too many digits."""
+    rising = sorted(chances.items())
+    lists = [listed_numbers(amount for amount, _ in rising), listed_numbers(part for _, part in rising)]
+    return None if None in lists else f"dsev {lists[0]} {lists[1]}"
 
 
 def spelling(items: List[Item]) -> str:
@@ -81,15 +123,15 @@ class Translator(Numbers):
         port = self.passed("port")
         if not port and self.ahead() != "agg":
             self.refuse(self.none() or "A program begins with `agg` or `port`; a severity alone is none.")
-        head = ["port", cleaned(self.name()), *self.note()] if port else []
+        head = ["port", *filter(None, [cleaned(self.name()), self.note()])] if port else []
         names: Set[str] = set()
         units: List[str] = []
         while not units or (port and self.ahead() == "agg"):
             start = self.token()
             profile = self.unit(names)
-            units += profile.units()
+            units += self.units(profile, start)
             if len(units) > MOST_UNITS:
-                self.refuse(f"A portfolio has at most {MOST_UNITS} units; each entry of a limit profile is one.", start)
+                self.refuse(f"A portfolio has at most {MOST_UNITS} units; each entry of a poisson limit profile is one.", start)
             head = head or (["port", profile.name] if len(units) > 1 else [])
         if self.ahead() in ("agg", "port", "sev", "dist", "distortion"):
             self.refuse("A text has one program here; give the next one a text of its own, or put both in a port.")
@@ -114,9 +156,9 @@ class Translator(Numbers):
             self.refuse("A name is expected here.")
         return self.take()
 
-    def note(self) -> List[str]:
+    def note(self) -> str:
         """The note that is next, if one is."""
-        return [self.take().spelling] if self.ahead().startswith("note{") else []
+        return self.take().spelling if self.ahead().startswith("note{") else ""
 
     def unit(self, names: Set[str]) -> Profile:
         """The unit that is next, with a name that is not among these; its names are, then."""
@@ -129,8 +171,12 @@ class Translator(Numbers):
         layers = self.layers()
         entries = max(len(exposures), len(layers))
         self.same_lengths(where, len(exposures), len(layers))
-        rest = self.rest(listed, entries > 1, name)
-        profile = Profile(cleaned(name), widened(exposures, entries), widened(layers, entries), rest)
+        if entries > 1 and listed:
+            self.refuse("A limit profile has an exposure, and no listed count.", name)
+        severity, occurrence = self.severity(), self.clause("occurrence")
+        count = "" if listed else self.count()
+        shared = (severity, occurrence, count, self.clause("aggregate"), self.note())
+        profile = Profile(cleaned(name), widened(exposures, entries), widened(layers, entries), *shared)
         for each in profile.names():
             if each in names:
                 self.refuse(f"Two units have the name {each} here.", name)
@@ -142,20 +188,21 @@ class Translator(Numbers):
         if first != second and min(first, second) > 1:
             self.refuse("The lists of a limit profile have the same number of entries.", where)
 
-    def rest(self, listed: bool, profile: bool, named: Token) -> str:
-        """What stands behind the layer of a unit."""
-        words = [self.severity(), *self.clause("occurrence")]
-        counted = self.token()
-        if not listed:
-            words.append(self.count())
-        if profile and (listed or counted.spelling != "poisson"):
-            reason = "The entries of a limit profile share one count, and only a poisson one parts into independent units."
-            self.refuse(f"{reason} Write an agg for each entry, with a count of its own.", named if listed else counted)
-        of_all = self.token()
-        aggregate = self.clause("aggregate")
-        if profile and aggregate:
-            self.refuse("An aggregate clause is on the sum of a limit profile, and each entry is a unit here.", of_all)
-        return " ".join(words + aggregate + self.note())
+    def units(self, profile: Profile, start: Token) -> List[str]:
+        """The units of a profile that begins at this token: one for each entry, or one for all."""
+        if profile.is_split() or len(profile.exposure) == 1:
+            return profile.entries()
+        if len(profile.exposure) > MOST_ATOMS:
+            self.refuse(f"A limit profile has at most {MOST_ATOMS} entries.", start)
+        try:
+            one = profile.as_one()
+        except ZeroDivisionError:
+            self.refuse("This limit profile has no claims.", start)
+        except RuleFault as fault:
+            self.refuse(f"An entry of this limit profile breaks a rule. {rule_sentence(fault.rule)}", start)
+        if one is None:
+            self.refuse(f"As one unit this limit profile has a number that is too long. {TOO_LONG}", start)
+        return [one]
 
     def numbers(self) -> List[Numeral]:
         """The number that is next, or the numbers of a list, its ranges run through."""
@@ -221,19 +268,22 @@ class Translator(Numbers):
         return [f"{limit.spelling} xs {low.spelling}" for limit, low in self.paired(limits, attachments, where)]
 
     def values(self) -> List[Item]:
-        """The items of the list that is next, all of them finite."""
-        if self.ahead() != "[":
+        """The items of the list that is next, all of them finite, with as many values as a list may have."""
+        token = self.token()
+        if token.spelling != "[":
             self.refuse("A list is expected here, such as [1 2 5].")
         items = self.items()
-        for item in items:
-            for number in item:
-                if number.value is None:
-                    self.refuse("The values of a list are finite.", number.token)
+        for number in (number for item in items for number in item):
+            if number.value is None:
+                self.refuse("The values of a list are finite.", number.token)
+        if values_of(items) is None:
+            self.refuse(f"A list has at most {MOST_VALUES} values, and a range runs upward by a step above 0.", token)
         return items
 
     def chances(self) -> str:
         """A list of values, and the list of their probabilities, if one is there."""
-        return " ".join([spelling(self.values()), *self.parts()])
+        items = self.values()
+        return " ".join([spelling(items), *self.parts(len(values_of(items) or []))])
 
     def moved(self, item: Item, scale: Fraction, shift: Fraction) -> Item:
         """The item with its values scaled, and then shifted."""
@@ -243,16 +293,17 @@ class Translator(Numbers):
             found.append(scale * (numbers[2] if len(numbers) == 3 else 1))
         return tuple(self.spell(number, item[0].token) for number in found)
 
-    def parts(self) -> List[str]:
-        """The list of probabilities or weights that is next, if one is."""
+    def parts(self, many: int) -> List[str]:
+        """The list of so many probabilities or weights that is next, if one is."""
         token = self.token()
-        if self.ahead() != "[":
+        if token.spelling != "[":
             return []
         items = self.values()
-        values = values_of(items)
-        whole = Fraction(1) if values is None else sum(values, Fraction(0))
-        if whole != 1:
-            shown = spelled(whole) or f"about {float(whole):.9f}"
+        values = values_of(items) or []
+        if len(values) != many:
+            self.refuse(f"This list has {len(values)} values, and the one or the severities before it {many}.", token)
+        if sum(values) != 1:
+            shown = spelled(sum(values, Fraction(0))) or f"about {float(sum(values)):.9f}"
             self.refuse(f"Probabilities and weights add up to 1 here, and these to {shown}; write thirds as 1/3.", token)
         return [spelling(items)]
 
@@ -263,7 +314,7 @@ class Translator(Numbers):
             words.append(self.atom_of_severity())
         if self.passed("wts"):
             self.passed("=")
-            words += ["wts", *(self.parts() or [self.equal_weights(len(words))])]
+            words += ["wts", *(self.parts(len(words)) or [self.equal_weights(len(words))])]
         elif len(words) > 1:
             self.refuse("Several severities have their weights behind them, as wts [1/2 1/2].")
         if self.ahead() in ("splice", "picks"):
@@ -312,16 +363,16 @@ class Translator(Numbers):
     def scaled(self, scale: Fraction) -> str:
         """The listed severity that is next, scaled, and then shifted by the number behind it."""
         items = self.values()
-        parts = self.parts()
+        parts = self.parts(len(values_of(items) or []))
         shift = self.sum() if self.ahead() in ("+", "-") else Fraction(0)
         if scale != 1 or shift:
             items = [self.moved(item, scale, shift) for item in items]
         return " ".join(["dsev", spelling(items), *parts])
 
-    def clause(self, word: str) -> List[str]:
+    def clause(self, word: str) -> str:
         """The reinsurance clause with this word, if it is next; its towers are their layers."""
         if not self.passed(word):
-            return []
+            return ""
         if self.passed("net", "of"):
             side = "net of"
         elif self.passed("ceded", "to"):
@@ -331,7 +382,7 @@ class Translator(Numbers):
         layers = self.cession()
         while self.passed("and"):
             layers += self.cession()
-        return [f"{word} {side} {' and '.join(layers)}"]
+        return f"{word} {side} {' and '.join(layers)}"
 
     def cession(self) -> List[str]:
         """The layer that is next, with its share; or those of a tower."""
@@ -410,7 +461,8 @@ def widened(each: List[Entry], entries: int) -> Tuple[Entry, ...]:
 def translate(text: Text) -> str:
     """The program of this text of the package `aggregate`, as a text of this language with the same meaning.
 
-    Towers are written as their layers, a limit profile as a unit for each entry, `geometric` as `mixed gamma 1`, numbers with
+    Towers are written as their layers, a limit profile as a unit for each entry (as one unit with the claims of all entries,
+    where the count is not poisson or a clause is on their sum), `geometric` as `mixed gamma 1`, numbers with
     exponents, signs and arithmetic as one numeral, a listed severity that is scaled or shifted by its amounts, and an exposure
     at a rate as its expected loss. Comments are dropped. What has no counterpart raises `Untranslated`, with its place and a
     sentence. The rules are not asked: the text that comes out may still be refused, as for an amount that is no whole number
