@@ -4,8 +4,8 @@
 A command stands behind `$ ` in an indented block of a page, or in the comment on top of an example, and what it writes
 stands below it, up to a blank line or the next command. A line `..` stands for any lines. Where a command ends with
 `> FILE`, what it writes is compared with that file, and the file is left alone. The program is DECL, else
-crates/decl/out/decl; `decl` on the path of a command is that one. It fails where a kind of page, a file that is named or the
-table of rules has nothing to compare. The last line is 'N passed, M failed'.
+crates/decl/out/decl; `decl` on the path of a command is that one. It fails where a kind of page, a file that is named, the
+table of rules or the gallery has nothing to compare. The last line is 'N passed, M failed'.
 
     examples/check.py                   all
     examples/check.py FILE..            these
@@ -21,6 +21,8 @@ import tempfile
 
 ROOT = pathlib.Path(__file__).resolve().parent.parent
 PAGES = ["README.md", "docs/*.md", "examples/*.decl", "examples/*/*.decl"]
+#: The report whose numbers are written into a picture of the gallery, with the column and the size of its buckets there.
+DRAWN = {"exceedance": ("exceedance-years.csv", 1, 0.01), "layers": ("layers.csv", 2, 1)}
 RULE = re.compile(r"\| \d+ [A-Za-z]+ \|.*\| `([^`]*)` \| `(decl: 1:\d+: [^`]*)` \|")
 
 
@@ -118,6 +120,24 @@ def check_rules(world):
     return some("the rules of docs/LANGUAGE.md", passed, failed)
 
 
+def check_pictures():
+    """Each picture of the gallery is there as PNG and as SVG, with the numbers of the stored report that are written into it."""
+    passed = failed = 0
+    folder = ROOT / "examples" / "gallery"
+    for path in sorted(folder.glob("*.decl")):
+        drawing = path.with_suffix(".svg").read_text(encoding="utf-8") if path.with_suffix(".svg").exists() else ""
+        there = set(re.findall(r">\s*([^<>]*?)\s*</", drawing))
+        report, column, size = DRAWN.get(path.stem, (None, 0, 0))
+        rows = (folder / report).read_text(encoding="utf-8").splitlines()[1:] if report else []
+        missing = [row for row in rows if f"{float(row.split(',')[column]) * size:.2f}" not in there]
+        if drawing and path.with_suffix(".png").exists() and not missing:
+            passed += 1
+        else:
+            failed += 1
+            print(f"FAILED: {path.relative_to(ROOT)}: its picture has not:", *missing, sep="\n")
+    return some("the pictures of examples/gallery", passed, failed)
+
+
 def check_all(what, paths, world):
     """How many commands of these files passed, and how many failed; one more where they have none."""
     counts = [check(path, world) for path in paths]
@@ -147,7 +167,7 @@ def main():
             store(path, world)
         counts = [check_all(what, paths, world) for what, paths in groups.items()]
         if not named:
-            counts.append(check_rules(world))
+            counts += [check_rules(world), check_pictures()]
     passed, failed = (sum(count[side] for count in counts) for side in (0, 1))
     print(f"{passed} passed, {failed} failed")
     return 1 if failed else 0
