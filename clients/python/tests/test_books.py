@@ -107,6 +107,20 @@ class Answers(Case):
         for amount in (400, 450):
             self.assertEqual(self.raises(decl.AskFault, book.kappa, "C", amount).reason, "no such unit")
 
+    def test_asks_in_money(self):
+        """Several asks at once, some past the grid, below 0 and between two buckets."""
+        book = decl.Book(PAIR)
+        asks = ["mean", "pmf:400", "pmf:450", "pmf:100000", "cdf:100000", "cdf:-5", "sf:400", "layer:100xs350", "joint:A:400", "kappa:A:400"]
+        rows = book.each(asks)
+        self.assertEqual([row.ask for row in rows], asks)
+        third = Fraction(1, 3)
+        values = [200 + Fraction(1100, 6), third, 0, 0, 1, 0, Fraction(5, 18), Fraction(400, 9), Fraction(1300, 18), Fraction(1300, 6)]
+        for row, value in zip(rows, values):
+            self.assertTrue(row.holds(value), row)
+        self.assertEqual(str(book.ask("q:0.5")), "q:0.5 400 400")
+        for word in ("wat", "q:2", "layer:5", "pmf:x", "kappa:A"):
+            self.raises(decl.UsageFault, book.ask, word)
+
     def test_each_ask_is_asked_once(self):
         first = self.book.return_periods([10])
         self.instead("exit 7")

@@ -105,17 +105,18 @@ class Pages(Case):
 
     BOOKS = ("portfolio", "money", "profile")
 
+    pages = {}
+
     @classmethod
     def setUpClass(cls):
         folder = tempfile.TemporaryDirectory()
         cls.addClassCleanup(folder.cleanup)
         cls.folder = pathlib.Path(folder.name)
-        cls.pages = {}
-        for name in cls.BOOKS:
+        for name in cls.BOOKS if not Pages.pages else ():
             page = cls.folder / f"{name}.html"
             status, _, told = command("report", str(ROOT / "examples" / f"{name}.decl"), "-o", str(page))
             assert status == 0, told
-            cls.pages[name] = page.read_text(encoding="utf-8")
+            Pages.pages[name] = page.read_text(encoding="utf-8")
 
     def pictures(self, name):
         """The pictures of a page, by their names."""
@@ -203,6 +204,15 @@ class Pages(Case):
                 self.assertEqual(upper, lower)
             self.assertGreater(len(edges[0][0]), 10)
 
+    def test_books_at_the_edge(self):
+        """No loss at all, a grid that is too small, and one total: a page is there, and a VaR past the grid has no mark."""
+        for text, marks in (("agg Z dfreq [1] dsev [0]", 4), ("agg Wide dfreq [2] dsev [1 5000]", 0), ("agg One dfreq [1] dsev [7]", 4)):
+            page = decl.Book(text).page([10, 100])
+            self.assertEqual(page.count('class="mark'), marks, text)
+            self.assertIn("beyond" if marks == 0 else "<svg", page)
+        twins = decl.Book("port Twins agg A dfreq [1] dsev [1] agg B dfreq [1] dsev [1]").page()
+        self.assertIn("<title>Twins</title>", twins)
+
     def test_a_title_and_a_page_on_the_output(self):
         status, written, _ = command("report", DICE, "--title", "Dice & more", "--table", "2,4")
         self.assertEqual(status, 0)
@@ -222,9 +232,13 @@ class Browser(Pages):
     @classmethod
     def setUpClass(cls):
         cls.browser = next(filter(None, map(shutil.which, ("chromium", "chromium-browser", "google-chrome"))), None)
-        if cls.browser is None:
+        if cls.browser is not None:
+            super().setUpClass()
+
+    def setUp(self):
+        super().setUp()
+        if self.browser is None:
             raise unittest.SkipTest("Chromium is not installed")
-        super().setUpClass()
 
     def opened(self, page, width):
         """The page as it is drawn at this width, and the messages on the console."""

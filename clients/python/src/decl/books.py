@@ -11,7 +11,7 @@ from .faults import GridTooSmall
 from .moments import Moments, of_unit, of_units
 from .pages import page_of
 from .pictures import Picture, alone, exceedance
-from .plan import Unit, units_of
+from .plan import Unit, units_in
 from .reports import Report, Row, plain
 from .tables import Cell, Table
 
@@ -64,9 +64,10 @@ class Book:
         self.bs = bucket(text, timeout=timeout) if bs is None else exact(bs)
         self.log2 = self._grid(inside) if log2 is None else log2
         self.cells = 2**self.log2
-        self.plan: List[Unit] = units_of(text, timeout=timeout)
+        self.spelling = fmt(text, timeout=timeout)
+        self.plan: List[Unit] = units_in(self.spelling)
         self.units = tuple(unit.name for unit in self.plan)
-        self.name = fmt(text, timeout=timeout).split()[1]
+        self.name = self.spelling.split()[1]
         self._known: Dict[str, Row] = {}
 
     def _grid(self, inside: Number) -> int:
@@ -127,11 +128,13 @@ class Book:
         return answered(f"sf:{plain(amount)}", self._above(math.floor(amount / self.bs)))
 
     def pmf(self, x: Number) -> Row:
-        """The probability that the total is `x`; 0 where `x` is no whole number of buckets."""
+        """The probability that the total is `x`; 0 where `x` is no whole number of buckets, and past the grid from 0 up."""
         amount = exact(x)
         at = amount / self.bs
         if at.denominator > 1 or at < 0:
             return answered(f"pmf:{plain(amount)}", (Fraction(0), Fraction(0)))
+        if at >= self.cells:
+            return answered(f"pmf:{plain(amount)}", (Fraction(0), self._above(self.cells - 1)[1]))
         return self._row(f"pmf:{at}").in_money(self.bs)
 
     def layer(self, limit: Limit, attachment: Number = 0) -> Row:
@@ -196,12 +199,11 @@ class Book:
             return answered(f"joint:{unit}:{plain(amount)}", (Fraction(0), Fraction(0)))
         return self._row(f"joint:{unit}:{at}").in_money(self.bs)
 
-    def unit(self, name: str) -> "Book":
-        """The book of one unit alone, with the same bucket; its grid is chosen for it."""
-        spelling = NOTE.sub("", fmt(self.text, timeout=self.timeout))
-        for line in spelling.splitlines():
+    def unit(self, name: str, *, log2: Optional[int] = None) -> "Book":
+        """The book of one unit alone, with the same bucket; its grid is chosen for it, unless it is given."""
+        for line in NOTE.sub("", self.spelling).splitlines():
             if line.split(" ")[:2] == ["agg", name]:
-                return Book(line, bs=self.bs, digits=self.digits, timeout=self.timeout)
+                return Book(line, bs=self.bs, log2=log2, digits=self.digits, timeout=self.timeout)
         raise KeyError(f"the book has no unit {name}; its units are {', '.join(self.units)}")
 
     def moments(self, unit: Optional[str] = None) -> Moments:
@@ -235,7 +237,7 @@ class Book:
     def each(self, words: Iterable[str]) -> List[Row]:
         """The answers to several asks in money, by few calls of the program."""
         words = list(words)
-        inside = [in_buckets(word, self.bs) for word in words]
+        inside = [in_buckets(word, self.bs, self.cells) for word in words]
         self._rows(ask for ask in inside if ask is not None)
         return [self.ask(word) for word in words]
 
@@ -270,7 +272,7 @@ class Book:
             lines += [[f"VaR {percent(exact(p))}", self.q(p)], [f"TVaR {percent(exact(p))}", self.tail(p)]]
         lines.append(["inside the grid", self.inside()])
         if len(self.units) > 1:
-            lines += [[f"mean of {name}", self.unit(name).mean()] for name in self.units]
+            lines += [[f"mean of {name}", self.unit(name, log2=1).mean()] for name in self.units]
         return Table(["total", "from .. to"], lines)
 
     def _spread(self) -> List[List[Cell]]:
@@ -312,14 +314,14 @@ class Book:
         return page_of(self, [exact(each) for each in years], title or self.name)
 
 
-def in_buckets(word: str, bs: Fraction) -> Optional[str]:
-    """The ask of the program with which an ask in money at one whole number of buckets is answered, else None."""
+def in_buckets(word: str, bs: Fraction, cells: int) -> Optional[str]:
+    """The ask of the program with which an ask in money at a whole number of buckets of the grid is answered, else None."""
     kind, *parts = word.split(":")
     try:
         if kind not in ("pmf", "cdf", "joint", "kappa"):
             return None
         at = exact(parts[-1]) / bs
-        return ":".join([kind, *parts[:-1], str(at)]) if at.denominator == 1 and at >= 0 else None
+        return ":".join([kind, *parts[:-1], str(at)]) if at.denominator == 1 and 0 <= at < cells else None
     except (ValueError, ZeroDivisionError, IndexError):
         return None
 

@@ -4,7 +4,6 @@ import html
 from fractions import Fraction
 from typing import TYPE_CHECKING, Iterable, List
 
-from .calls import fmt
 from .pictures import LOOK as PICTURES, colour, exceedance, shares
 from .reports import Row, plain
 from .tables import Cell, Table, joined
@@ -86,7 +85,7 @@ def page_of(book: "Book", periods: List[Fraction], title: str) -> str:
         told = "<p>The mean of each unit's outcome in a year of the total below, in percent of that total.</p>"
         parts.append(section("Each unit's share", told, "<figure>", drawn, "</figure>", key(book.units)))
     parts += [section("What the book is worth", table(book.describe()))]
-    parts += [section("The program", f"<pre>{html.escape(fmt(book.text, timeout=book.timeout))}</pre>")]
+    parts += [section("The program", f"<pre>{html.escape(book.spelling)}</pre>")]
     return (
         f'<!DOCTYPE html>\n<html lang="en">\n<head>\n<meta charset="utf-8">\n<title>{html.escape(title)}</title>\n'
         '<meta name="viewport" content="width=device-width, initial-scale=1">\n<link rel="icon" href="data:,">\n'

@@ -297,12 +297,17 @@ class Reader:
         return found
 
 
-def units_of(text: Text, *, timeout: Optional[float] = None) -> List[Unit]:
-    """The units of the text, in its order."""
-    reader = Reader(tokens_of(fmt(text, timeout=timeout)))
+def units_in(spelling: str) -> List[Unit]:
+    """The units of a text in its canonical spelling, in its order."""
+    reader = Reader(tokens_of(spelling))
     if reader.passed("port"):
         reader.take()
     found = []
     while reader.ahead():
         found.append(reader.unit())
     return found
+
+
+def units_of(text: Text, *, timeout: Optional[float] = None) -> List[Unit]:
+    """The units of the text, in its order."""
+    return units_in(fmt(text, timeout=timeout))
