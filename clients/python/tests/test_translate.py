@@ -154,7 +154,7 @@ REFUSED = [
     ("port Q agg.A agg.B", 8, "a stored program"),
     ("agg.A", 1, "a stored program"),
     ("sev One dsev [1:6]", 1, "begins with `agg` or `port`"),
-    ("distortion D wang 0.3", 1, "prices are not answered"),
+    ("distortion D wang 0.3", 1, "there are no prices"),
     ("agg A dfreq [1] dsev [1] agg B dfreq [1] dsev [1]", 26, "one program"),
     ("agg A dfreq [1] dsev [1] poisson", 26, "does not go on like this"),
     ("agg A dfreq [1] dsev [1] note{a{b}}", 26, "no braces"),

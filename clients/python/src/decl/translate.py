@@ -1,4 +1,4 @@
-"""Writes a program of the package `aggregate` in this language, or tells the place of what has no counterpart."""
+"""Writes a program of the package `aggregate` in this language, or names the place of what has no counterpart."""
 
 import re
 from dataclasses import dataclass
@@ -32,11 +32,11 @@ NONE = {
     "picks": "Picks change a continuous severity; give amounts with their probabilities, as dsev [..] [..].",
     "zt": "A count with its zero taken out has no counterpart; up to 256 claims can be listed, as dfreq [1 2 ..] [..].",
     "zm": "A count with another zero has no counterpart; up to 256 claims can be listed, as dfreq [0 1 ..] [..].",
-    "distortion": "A distortion has no counterpart: prices are not answered here.",
-    "dist": "A distortion has no counterpart: prices are not answered here.",
+    "distortion": "A distortion has no counterpart: there are no prices here.",
+    "dist": "A distortion has no counterpart: there are no prices here.",
 }
 CONTINUOUS = "Two programs with listed amounts hold it between them: docs/FROM-AGGREGATE.md says how to write them."
-STORED = "This names a stored program, and a text stands alone here: write the program out."
+STORED = "This names a stored program, and no text refers to another one here: write the program out."
 
 
 @dataclass(frozen=True)
@@ -92,7 +92,7 @@ def listed_numbers(numbers: Iterable[Fraction]) -> Optional[str]:
 
 
 def listed(chances: Chances) -> Optional[str]:
-    """A severity with these amounts and probabilities, by rising amounts; None where one has too many digits."""
+    """A severity with these amounts, rising, and their probabilities; None where a number has too many digits."""
     rising = sorted(chances.items())
     lists = [listed_numbers(amount for amount, _ in rising), listed_numbers(part for _, part in rising)]
     return None if None in lists else f"dsev {lists[0]} {lists[1]}"
@@ -146,7 +146,7 @@ class Translator(Numbers):
         return NONE.get(self.ahead())
 
     def unknown(self) -> str:
-        """What is to say of a token that stands where none like it does."""
+        """Why the program cannot go on with the next token."""
         return self.none() or "The program does not go on like this, here or in the package."
 
     def name(self) -> Token:
