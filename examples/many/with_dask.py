@@ -5,19 +5,26 @@
 
 The words are options and asks of `decl run`, as on its command line. With no address a cluster is started on this
 machine. The rows of each program go to OUT/rows/NAME.csv, whole or not at all, as `decl` writes them; what a failed run
-said goes to OUT/rows/NAME.failed. A program that has rows is not evaluated again. OUT/all.csv has all rows. A task whose
-worker is lost is run again by another worker.
+said goes to OUT/rows/NAME.failed. A program whose text, as it is now, has rows is not evaluated again. OUT/all.csv has all
+rows. A task whose worker is lost is run again by another worker.
 """
 
 import argparse
+import hashlib
 import os
 import pathlib
 import subprocess
 import sys
 
-from distributed import Client, LocalCluster, as_completed
+try:
+    from distributed import Client, LocalCluster, as_completed
 
-import decl
+    import decl
+except ModuleNotFoundError as missing:
+    sys.exit(
+        f"with_dask.py: Python has no module {missing.name}: it needs distributed (Debian's python3-distributed, or "
+        "pip install distributed) and the Python client decl (installed, or PYTHONPATH=clients/python/src)"
+    )
 
 HERE = pathlib.Path(__file__).resolve().parent
 OPTIONS = ("bs", "log2", "digits", "width", "mwidth", "make")
@@ -38,19 +45,6 @@ def evaluate(name, text, asks, options):
             if not isinstance(fault, OF_THE_MACHINE):
                 break
     return name, None, said
-
-
-def keep(rows, name, report, said):
-    """Keeps what came of one program in the folder of rows: a whole report, or what the fault said."""
-    kept, failed = rows / f"{name}.csv", rows / f"{name}.failed"
-    kept.parent.mkdir(parents=True, exist_ok=True)
-    if report is None:
-        failed.write_text(said, encoding="utf-8")
-        return
-    part = rows / f"{name}.part.{os.getpid()}"
-    part.write_text(report, encoding="utf-8")
-    os.replace(part, kept)
-    failed.unlink(missing_ok=True)
 
 
 def bar(done, count):
@@ -96,19 +90,28 @@ def helper(name, *words, **how):
     return done
 
 
-def evaluate_all(names, folder, rows, asks, options, of_cluster):
+def keep(out, name, text_sum, report, said):
+    """Keeps what came of one program: a whole report with the SHA-256 of its text, or what the fault said."""
+    words, kept = ([], said) if report is None else ([text_sum], report)
+    if helper("keep", out, name, *words, input=kept.encode()).returncode != 0:
+        sys.exit(1)
+
+
+def evaluate_all(names, folder, out, asks, options, of_cluster):
     """Hands out the programs of these names, and keeps each report as it comes."""
     cluster = None
     if of_cluster.scheduler is None:
         workers = of_cluster.workers
         cluster = LocalCluster(n_workers=workers, threads_per_worker=1, processes=True, dashboard_address=None)
     with Client(of_cluster.scheduler or cluster) as client:
-        tasks = []
+        tasks, sums = [], {}
         for name in names:
             text = (folder / f"{name}.decl").read_bytes()
+            sums[name] = hashlib.sha256(text).hexdigest()
             tasks.append(client.submit(evaluate, name, text, asks, options, pure=False, retries=TRIES))
         for done, task in enumerate(as_completed(tasks), 1):
-            keep(rows, *task.result())
+            name, report, said = task.result()
+            keep(out, name, sums[name], report, said)
             bar(done, len(tasks))
     if cluster is not None:
         cluster.close()
@@ -116,14 +119,14 @@ def evaluate_all(names, folder, rows, asks, options, of_cluster):
 
 
 def main():
-    """Evaluates what has no rows yet, and collects all rows."""
+    """Evaluates each text that has no rows yet, and collects all rows."""
     of_cluster, folder, out, words = read_words()
     asks, options = parted(words)
     helper("keep_words", out, *words)
     found = helper("programs", folder, out, stdout=subprocess.PIPE).stdout
     names = [os.fsdecode(name) for name in found.split(b"\0")[:-1]]
     if names:
-        evaluate_all(names, folder, out / "rows", asks, options, of_cluster)
+        evaluate_all(names, folder, out, asks, options, of_cluster)
     return helper("collect", folder, out).returncode
 
 
