@@ -404,8 +404,8 @@ def python_books():
 
 def text_of(command):
     """The program of a command, with its severities by name; none where the command names a file."""
-    found = re.search(r"echo (['\"])(.*?)\1", command)
-    text = " ".join(found[2].split()) if found else ""
+    found = re.search(r"echo (['\"])(.*?)\1", command, re.DOTALL)
+    text = " ".join(found[2].replace("\\\n", "" if found[1] == '"' else "\\\n").split()) if found else ""
     for name, severity in TEXTS.items():
         text = text.replace(severity, name)
     return text

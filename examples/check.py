@@ -48,7 +48,7 @@ def commands(path):
         if line is not None and line.startswith("$ "):
             command, stored = line[2:], []
         elif command is not None and command.endswith("\\"):
-            command = command[:-1] + line.strip()
+            command += "\n" + line  # as it is pasted: inside single quotes the shell keeps the backslash
         elif command is not None:
             stored.append(line)
     return [(command, stored) for command, stored in found if stored or ">" in command]
@@ -75,7 +75,7 @@ def check(path, world):
     """How many commands of the file wrote what is stored, and how many did not."""
     passed = failed = 0
     for command, stored in commands(path):
-        kept = re.fullmatch(r"(.*[^>0-9])> *(\S+)", command)
+        kept = re.fullmatch(r"(.*[^>0-9])> *(\S+)", command, re.DOTALL)
         if kept:
             command, stored = kept[1], (ROOT / kept[2]).read_text(encoding="utf-8").splitlines()
         written = run(command, world)
@@ -100,7 +100,7 @@ def store(path, world):
         if code is None or (command is None and not code.startswith("$ ")):
             command = None
             continue
-        command = code[2:] if command is None else command[:-1] + code.strip()
+        command = code[2:] if command is None else command + "\n" + code
         if not command.endswith("\\"):
             made += [mark + written for written in run(command, world)]
             command, skips = None, True
