@@ -6,7 +6,15 @@ pub poisson_base-requires : goal.poisson_base-requires
 poisson_base-requires g c =
     let num : c.fraction.result.num < 2 ^ 48 = omega (arith, c.fraction.ensures.num) in
     let den : c.fraction.result.den < 2 ^ 48 = omega (arith, c.fraction.ensures.den) in
-    let half = half_of c.fraction.result c.fraction.ensures.value in
-    let zero = c.in_ok-sev.ensures in
-    let up = c.requires.above in
-    (omega arith, (omega arith, (omega arith, (num, (den, (omega arith, (half, (zero, (up, c.requires.below)))))))))
+    let half = half_of c.fraction.result c.fraction.ensures.value in (
+      omega arith,
+      (
+        record {
+          scale_above = c.requires.above;
+          scale_below = c.requires.below;
+          some = omega arith;
+          few = omega arith;
+        },
+        (num, (den, (omega arith, (half, c.in_ok-sev.ensures.no_zero)))),
+      ),
+    )

@@ -7,19 +7,12 @@ poisson_claims-requires g c =
     let admitted = small_parts c.fraction.result c.fraction.ensures.num (omega (arith, c.fraction.ensures.den)) in (
       omega arith,
       (
-        c.requires.above,
-        (
-          c.requires.below,
-          (
-            c.in_ok-claim.ensures,
-            (
-              admitted,
-              (
-                few_claims c.fraction.result c.fraction.ensures.value,
-                (omega arith, omega arith),
-              ),
-            ),
-          ),
-        ),
+        record {
+          scale_above = c.requires.above;
+          scale_below = c.requires.below;
+          some = omega arith;
+          few = omega arith;
+        },
+        (c.in_ok-claim.ensures.no_zero, (admitted, few_claims c.fraction.result c.fraction.ensures.value)),
       ),
     )
