@@ -3,8 +3,9 @@
 #SBATCH --array=0-19
 #SBATCH --cpus-per-task=1
 #SBATCH --time=01:00:00
-# An array job of 20 tasks: task t evaluates each program whose place in the folder leaves the rest t. A program whose
-# text, as it is now, has rows is left out, so the same job can be handed in again for what is missing: sbatch array_job.sh FOLDER OUT WORD..
+# An array job of 20 tasks: task t evaluates each program whose place in the folder leaves the rest t. A program whose text,
+# as it is now, has rows is left out, so the same job can be handed in again for what is missing:
+#   sbatch array_job.sh FOLDER OUT WORD..
 # Status 1 where a program of the task failed.
 # Other schedulers name the number of the task otherwise, and it can be tried by hand:
 #   SLURM_ARRAY_TASK_ID=0 SLURM_ARRAY_TASK_COUNT=1 examples/many/array_job.sh FOLDER OUT mean

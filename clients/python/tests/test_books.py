@@ -51,6 +51,13 @@ class Choices(Case):
         self.assertTrue(book.mean().holds(5001))
         self.assertTrue(book.inside().holds(Fraction(1, 4)))
         self.assertEqual((book.cdf(4999).low, book.cdf(4999).high), (book.inside().low, 1))
+        for total in (1, 2, 4095, 4096, 5000, 5001, 10002, 10**9):
+            row = book.pmf(total)
+            self.assertTrue(row.holds({2: Fraction(1, 4), 5001: Fraction(1, 2), 10002: Fraction(1, 4)}.get(total, 0)), row)
+            self.assertTrue(total < 4096 or (row.low == 0 and row.holds(Fraction(3, 4))), row)
+        for call in (book.kappa, book.joint):
+            fault = self.raises(decl.AskFault, call, "Wide", 5001)
+            self.assertIn("take a larger log2", str(fault))
         self.assertTrue(book.layer(900, 4100).holds(Fraction(3, 4) * 900))
         self.assertTrue(book.layer("inf", 5000).holds(Fraction(5002, 4)))
         self.assertTrue(book.layer(10, 9990).holds(Fraction(10, 4)))
@@ -59,6 +66,12 @@ class Choices(Case):
     def test_a_text_that_is_refused(self):
         self.raises(decl.SyntaxFault, decl.Book, "agg")
         self.raises(decl.RuleFault, decl.Book, "agg D dfreq [1] dsev [1 2] [1/3 1/3]")
+
+    def test_an_amount_between_two_of_the_buckets_that_were_given(self):
+        """One loss of 1/3 with buckets of 1: no probability is 0 for that, the text is refused."""
+        book = decl.Book("agg D dfreq [1] dsev [1/3]", bs=1, log2=4)
+        for amount in ("1/3", 1, 100):
+            self.raises(decl.RuleFault, book.pmf, amount)
 
 
 class Answers(Case):
@@ -80,7 +93,9 @@ class Answers(Case):
             for amount in (1000 * total, 1000 * total + Fraction(999, 2)):
                 self.assertTrue(self.book.cdf(amount).holds(below), amount)
                 self.assertTrue(self.book.sf(amount).holds(1 - below), amount)
-            self.assertTrue(self.book.pmf(1000 * total).holds(TWO.get(total, 0)), total)
+            row = self.book.pmf(1000 * total)
+            self.assertTrue(row.holds(TWO.get(total, 0)), row)
+            self.assertLess(row.high - row.low, Fraction(1, 10**5))
             self.assertEqual(self.book.pmf(1000 * total + 1).high, 0)
         row = self.book.sf("9000")
         self.assertEqual((row.ask, row.unit, row.kind), ("sf:9000", "probability", "sf"))

@@ -41,8 +41,10 @@ class Book:
     """The book that a text declares, in money.
 
     `bs` is the size of a bucket in money and `log2` the size of the grid, as they were chosen or given; `cells` is the
-    number of buckets, `name` the name of the book and `units` has those of the units. Amounts are given as numbers, or as texts such as `"1/3"`;
-    each answer is a `Row` whose ends, `low` and `high`, are proved to hold the declared value.
+    number of buckets, `name` the name of the book and `units` has those of the units. Amounts are given as numbers, or as texts
+    such as `"1/3"`; each answer is a `Row` with two ends, `low` and `high`, that hold the declared value. The ends that the
+    program gives, in buckets, are proved. At amounts between two buckets or past the grid, and for `sf`, the client works
+    the ends out from those, and all amounts in money, in exact fractions: this step is tested and not proved.
     """
 
     def __init__(
@@ -128,10 +130,12 @@ class Book:
         return answered(f"sf:{plain(amount)}", self._above(math.floor(amount / self.bs)))
 
     def pmf(self, x: Number) -> Row:
-        """The probability that the total is `x`; 0 where `x` is no whole number of buckets, and past the grid from 0 up."""
+        """The probability that the total is `x`. It is 0 where `x` is below 0 or no whole number of buckets. Past the grid `high`
+        is that of all totals there: for a closer one take a larger `log2`."""
         amount = exact(x)
         at = amount / self.bs
         if at.denominator > 1 or at < 0:
+            self._row("pmf:0")  # which refuses a text whose amounts are no whole numbers of buckets
             return answered(f"pmf:{plain(amount)}", (Fraction(0), Fraction(0)))
         if at >= self.cells:
             return answered(f"pmf:{plain(amount)}", (Fraction(0), self._above(self.cells - 1)[1]))
@@ -182,7 +186,7 @@ class Book:
 
     def kappa(self, unit: str, x: Number) -> Row:
         """The mean of the outcome of a unit in a total of `x`. Both ends are None where that total is too rare, or is no
-        whole number of buckets."""
+        whole number of buckets. Past the grid `AskFault` says to take a larger `log2`."""
         amount = exact(x)
         at = amount / self.bs
         if at.denominator > 1 or at < 0:
@@ -191,7 +195,8 @@ class Book:
         return self._row(f"kappa:{unit}:{at}").in_money(self.bs)
 
     def joint(self, unit: str, x: Number) -> Row:
-        """The mean of the outcome of a unit where the total is `x`, and 0 elsewhere."""
+        """The mean of the outcome of a unit where the total is `x`, and 0 elsewhere. Past the grid `AskFault` says to take a
+        larger `log2`."""
         amount = exact(x)
         at = amount / self.bs
         if at.denominator > 1 or at < 0:
