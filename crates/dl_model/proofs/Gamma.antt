@@ -8,7 +8,7 @@ use Rattle.dl_model.proofs.Complements.{at_most_rest}
 use Rattle.dl_model.proofs.Cauchy.{cauchy_low, cauchy_high}
 use Rattle.dl_model.proofs.Least.{least_times, least_from}
 
-choose-absorb : (m k : ℕ) → suc k * choose (suc m) (suc k) ≡ suc m * choose m k
+pub choose-absorb : (m k : ℕ) → suc k * choose (suc m) (suc k) ≡ suc m * choose m k
 unfolding choose
 choose-absorb zero zero = omega arith
 choose-absorb zero (suc k) = omega arith
@@ -31,7 +31,7 @@ choose-zero : (m : ℕ) → choose m zero ≡ 1
 unfolding choose
 choose-zero m = refl
 
-choose-shift : (q i : ℕ) → suc q * choose (suc (q + i)) i ≡ suc (q + i) * choose (q + i) i
+pub choose-shift : (q i : ℕ) → suc q * choose (suc (q + i)) i ≡ suc (q + i) * choose (q + i) i
 choose-shift q zero = omega (
   arith,
   ap (λ t. suc q * t) (choose-zero (suc (q + zero))),

@@ -6,6 +6,7 @@ pub mod Reciprocals
 pub mod Picks
 pub mod Powers
 pub mod Cauchy
+pub mod Divided
 pub mod CompoundLaws
 pub mod WeightLaws
 pub mod CountLaws
@@ -48,3 +49,7 @@ pub mod PlanMeans
 pub mod PlanThin
 pub mod Multiples
 pub mod ClauseMeans
+pub mod SharedClaims
+pub mod Pooled
+pub mod SharedJoint
+pub mod SharedValues

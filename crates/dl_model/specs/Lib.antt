@@ -5,6 +5,8 @@ pub mod Ways
 pub mod Listed
 pub mod Program
 pub mod Counts
+pub mod Divided
+pub mod CommonFactor
 pub mod Recursion
 pub mod Measures
 pub mod Family

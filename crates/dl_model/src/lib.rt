@@ -3,6 +3,7 @@
 #![tactic(auto)]
 
 pub mod clause_means;
+pub mod common_factor;
 pub mod counts;
 pub mod families;
 pub mod listed;

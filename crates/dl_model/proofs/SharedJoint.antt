@@ -1,0 +1,240 @@
+-- One unit beside the total under a common factor: one claim of the unit apart, the others with one more in the shape.
+use Rattle.dl_model.proofs.Common.{◌≡◌, ℕ, suc, zero, ◌+◌, ◌-◌, ◌*◌, ◌<◌, ◌≤◌, arith, refl, sym, ap, ap₂, subst, ◌∙◌, List, [], ◌∷◌, Bool, true, false, nat_eq, fun_ext, get_or, sum, sum_by-cons, inl, inr, cases_lt, Fraction, ◌+ℚ◌, ◌*ℚ◌, ◌<ℚ◌, whole, choose, sum_to, sum_over, sum_pairs, ring, times_comm, times_assoc, times_left_comm, times_zero, zero_times, one_times, zero_plus, plus_zero, sum_to_same, sum_to_first, sum_to_times, sum_pairs_same, sum_pairs_none, sum_pairs_times, sum_pairs_sum_to, at_zero, convolve, power, cell, gamma, Joint, score, where_true}
+use Rattle.std.proofs.Math.Nat.{le_refl as le_refl_n}
+use Rattle.dl_exact.specs.Power.{factorial}
+use Rattle.dl_exact.proofs.Laws.{whole_times}
+use Rattle.dl_exact.proofs.Sums.{sum_pairs_first, sum_pairs_last}
+use Rattle.dl_model.specs.Divided.{divided_power}
+use Rattle.dl_model.specs.CommonFactor.{PoissonUnit, expected_claims, common_sums, pooled_severity, AreSeverities, IsUnit}
+use Rattle.dl_model.proofs.Picks.{pick}
+use Rattle.dl_model.proofs.Powers.{convolve_assoc, convolve_times}
+use Rattle.dl_model.proofs.Gamma.{choose-absorb, choose-shift}
+use Rattle.dl_model.proofs.Divided.{divided_plus, divided_tilt, undivided, convolve_pairs, convolve_first}
+use Rattle.dl_model.proofs.SharedClaims.{mixed, scaled_severity, weighed, weighed_same, weighed_times, weighed_more, weighed_by_total, first_and_others, first_none, others_none, divided_past}
+use Rattle.dl_model.proofs.Pooled.{chance, any_chance, orders, level_sum, mixed_pooled, gamma_divided}
+
+-- ---- one claim apart
+
+-- of n claims one, tilted by t, and the n - 1 others
+claim_apart : (t h : ℕ → Fraction) → ℕ → ℕ → Fraction
+claim_apart t h zero x = whole 0
+claim_apart t h (suc m) x = convolve t (divided_power h m) x
+
+abbrev tilt : (ℕ → Fraction) → ℕ → Fraction
+tilt f a = whole a *ℚ f a
+
+convolve_none : (f g : ℕ → Fraction) (s : ℕ) → ((i : ℕ) → f i ≡ whole 0) → convolve f g s ≡ whole 0
+convolve_none f g s h = sum_pairs_same s _ (λ i j. whole 0) (λ i j e. ap (λ t. t *ℚ g j) (h i) ∙ zero_times _)
+    ∙ sum_pairs_none s
+
+convolve_no_other : (f g : ℕ → Fraction) (s : ℕ) → ((j : ℕ) → g j ≡ whole 0) → convolve f g s ≡ whole 0
+convolve_no_other f g s h = sum_pairs_same s _ (λ i j. whole 0) (λ i j e. ap (λ t. f i *ℚ t) (h j) ∙ times_zero _)
+    ∙ sum_pairs_none s
+
+convolve_past : (f g : ℕ → Fraction) (p q s : ℕ) → ((i : ℕ) → p < i → f i ≡ whole 0)
+    → ((j : ℕ) → q < j → g j ≡ whole 0) → p + q < s → convolve f g s ≡ whole 0
+convolve_past f g p q s pf pg h = sum_pairs_same s _ (λ i j. whole 0) (λ i j e. elim (cases_lt p i) [
+  | inl far ↦ ap (λ t. t *ℚ g j) (pf i far) ∙ zero_times _
+  | inr near ↦ ap (λ t. f i *ℚ t) (pg j (omega arith)) ∙ times_zero _
+]) ∙ sum_pairs_none s
+
+apart_past : (t h : ℕ → Fraction) (M : ℕ) → ((a : ℕ) → M < a → t a ≡ whole 0) → ((a : ℕ) → M < a → h a ≡ whole 0)
+    → (n z : ℕ) → n * M < z → claim_apart t h n z ≡ whole 0
+unfolding claim_apart
+apart_past t h M pt ph zero z b = refl
+apart_past t h M pt ph (suc m) z b =
+    convolve_past t (divided_power h m) M (m * M) z pt (divided_past h M ph m) (omega (arith, b))
+
+module _ (f g : ℕ → Fraction) where
+  abbrev both : ℕ → Fraction
+  both a = f a +ℚ g a
+
+  no_tilt : (s : ℕ) → whole s *ℚ divided_power f zero s ≡ whole 0
+  unfolding at_zero
+  no_tilt zero = zero_times _
+  no_tilt (suc s) = ap (λ t. whole (suc s) *ℚ t) (undivided f (suc s)) ∙ times_zero _
+
+  -- the claim is of the first part
+  first_apart : (n x : ℕ) → sum_pairs n (λ j k. convolve (λ s. whole s *ℚ divided_power f j s) (divided_power g k) x)
+      ≡ claim_apart (tilt f) both n x
+  unfolding sum_pairs claim_apart
+  first_apart zero x = convolve_none (λ s. whole s *ℚ divided_power f zero s) (divided_power g zero) x no_tilt
+  first_apart (suc m) x =
+      sum_pairs_first m (λ j k. convolve (λ s. whole s *ℚ divided_power f j s) (divided_power g k) x)
+      ∙ ap₂ (λ a b. a +ℚ b)
+      (convolve_none (λ s. whole s *ℚ divided_power f zero s) (divided_power g (suc m)) x no_tilt)
+      (sum_pairs_same m _ (λ j k. convolve (tilt f) (convolve (divided_power f j) (divided_power g k)) x) (λ j k e.
+      ap (λ t. convolve t (divided_power g k) x) (fun_ext (divided_tilt f j))
+      ∙ ap (λ t. t x) (convolve_assoc (tilt f) (divided_power f j) (divided_power g k)))
+      ∙ sym (convolve_pairs (tilt f) m x (λ j k. convolve (divided_power f j) (divided_power g k)))
+      ∙ ap (λ t. convolve (tilt f) t x) (sym (fun_ext (divided_plus f g m))))
+      ∙ zero_plus _
+
+  -- the claim is of the other part
+  others_apart : (t : ℕ → Fraction) (n x : ℕ) → sum_pairs n (λ j k. convolve (divided_power f j) (claim_apart t g k) x)
+      ≡ claim_apart t both n x
+  unfolding sum_pairs claim_apart
+  others_apart t zero x = convolve_no_other (divided_power f zero) (claim_apart t g zero) x (λ j. refl)
+  others_apart t (suc m) x =
+      sum_pairs_last m (λ j k. convolve (divided_power f j) (claim_apart t g k) x)
+      ∙ ap₂ (λ a b. a +ℚ b)
+      (sum_pairs_same m _ (λ j k. convolve t (convolve (divided_power f j) (divided_power g k)) x) (λ j k e.
+      convolve_first t (divided_power f j) (divided_power g k) x)
+      ∙ sym (convolve_pairs t m x (λ j k. convolve (divided_power f j) (divided_power g k)))
+      ∙ ap (λ h. convolve t h x) (sym (fun_ext (divided_plus f g m))))
+      (convolve_no_other (divided_power f (suc m)) (claim_apart t g zero) x (λ j. refl))
+      ∙ plus_zero _
+
+module _ (y : PoissonUnit → Fraction) (u : PoissonUnit) where
+  unit_past : (us : List PoissonUnit) (i : ℕ) → IsUnit us i u → (a : ℕ) → mixed y us a ≡ whole 0
+      → scaled_severity y u a ≡ whole 0
+  unit_past [] i e a z = absurd e
+  unit_past (w ∷ us) zero e a z = subst (λ t. scaled_severity y t a ≡ whole 0) e (first_none y w us a z)
+  unit_past (w ∷ us) (suc i) e a z = unit_past us i e a (others_none y w us a z)
+
+  -- the outcome of unit i beside a value of the total
+  weighed_joint : (us : List PoissonUnit) (i : ℕ) → IsUnit us i u → AreSeverities us → (M : ℕ)
+      → ((a : ℕ) → M < a → mixed y us a ≡ whole 0) → (n far : ℕ) → n * M ≤ far → (value : ℕ → Fraction)
+      → weighed y us n (λ ys. value (sum ys) *ℚ whole (get_or ys i 0))
+      ≡ sum_to far (λ x. value x *ℚ claim_apart (tilt (scaled_severity y u)) (mixed y us) n x)
+  unfolding sum_over
+  weighed_joint [] i e h M past n far b value = absurd e
+  weighed_joint (w ∷ us) zero e h M past n far b value =
+      let f = scaled_severity y w in
+      let g = mixed y us in
+      let f_past : (a : ℕ) → M < a → f a ≡ whole 0 = λ a c. first_none y w us a (past a c) in
+      let g_past : (a : ℕ) → M < a → g a ≡ whole 0 = λ a c. others_none y w us a (past a c) in
+      let f_own : (a : ℕ) → w.most < a → f a ≡ whole 0 = λ a c. ap (λ t. y w *ℚ t) (h.0.past a c) ∙ times_zero _ in
+      let T : ℕ → ℕ → Fraction = λ j s. whole s *ℚ divided_power f j s in
+      let none : (s : ℕ) (z : Fraction) → z ≡ whole 0 → whole s *ℚ z ≡ whole 0 =
+      λ s z q. ap (λ t. whole s *ℚ t) q ∙ times_zero _ in
+      weighed_more y w us n (λ ys. value (sum ys) *ℚ whole (get_or ys zero 0))
+      ∙ sum_pairs_same n _ (λ j k. sum_to far (λ x. value x *ℚ convolve (T j) (divided_power g k) x)) (λ j k q.
+      sum_to_same (j * w.most) _ (λ s. T j s *ℚ sum_to (k * M) (λ t. value (s + t) *ℚ divided_power g k t)) (λ s c.
+      ap (λ t. divided_power f j s *ℚ t)
+      (weighed_same y us k _ (λ ys. whole s *ℚ value (s + sum ys)) (λ ys.
+      times_comm _ _ ∙ ap (λ t. whole s *ℚ value t) (sum_by-cons (λ (x : ℕ). x) s ys))
+      ∙ weighed_times y us k (whole s) (λ ys. value (s + sum ys))
+      ∙ ap (λ t. whole s *ℚ t)
+      (weighed_by_total y us h.1 M g_past k (k * M) (le_refl_n (k * M)) (λ t. value (s + t))))
+      ∙ times_left_comm _ _ _ ∙ sym (times_assoc _ _ _))
+      ∙ first_and_others y w M j k far (divided_power g k) value (T j)
+      (λ s c. none s _ (divided_past f w.most f_own j s c)) (λ s c. none s _ (divided_past f M f_past j s c))
+      (divided_past g M g_past k) (subst (λ t. t * M ≤ far) (sym q) b))
+      ∙ sum_pairs_sum_to n far (λ j k x. value x *ℚ convolve (T j) (divided_power g k) x)
+      ∙ sum_to_same far _ _ (λ x c.
+      sum_pairs_times n (value x) (λ j k. convolve (T j) (divided_power g k) x)
+      ∙ ap (λ t. value x *ℚ t) (first_apart f g n x
+      ∙ ap (λ v. claim_apart (tilt (scaled_severity y v)) (mixed y (w ∷ us)) n x) e))
+  weighed_joint (w ∷ us) (suc i) e h M past n far b value =
+      let f = scaled_severity y w in
+      let g = mixed y us in
+      let t = tilt (scaled_severity y u) in
+      let f_past : (a : ℕ) → M < a → f a ≡ whole 0 = λ a c. first_none y w us a (past a c) in
+      let g_past : (a : ℕ) → M < a → g a ≡ whole 0 = λ a c. others_none y w us a (past a c) in
+      let t_past : (a : ℕ) → M < a → t a ≡ whole 0 =
+      λ a c. ap (λ z. whole a *ℚ z) (unit_past us i e a (g_past a c)) ∙ times_zero _ in
+      let f_own : (a : ℕ) → w.most < a → f a ≡ whole 0 = λ a c. ap (λ t. y w *ℚ t) (h.0.past a c) ∙ times_zero _ in
+      weighed_more y w us n (λ ys. value (sum ys) *ℚ whole (get_or ys (suc i) 0))
+      ∙ sum_pairs_same n _ (λ j k. sum_to far (λ x. value x *ℚ convolve (divided_power f j) (claim_apart t g k) x))
+      (λ j k q.
+      sum_to_same (j * w.most) _ _ (λ s c. ap (λ z. divided_power f j s *ℚ z)
+      (weighed_same y us k _ (λ ys. value (s + sum ys) *ℚ whole (get_or ys i 0))
+      (λ ys. ap (λ z. value z *ℚ whole (get_or ys i 0)) (sum_by-cons (λ (x : ℕ). x) s ys))
+      ∙ weighed_joint us i e h.1 M g_past k (k * M) (le_refl_n (k * M)) (λ z. value (s + z))))
+      ∙ first_and_others y w M j k far (claim_apart t g k) value (divided_power f j) (divided_past f w.most f_own j)
+      (divided_past f M f_past j) (apart_past t g M t_past g_past k) (subst (λ z. z * M ≤ far) (sym q) b))
+      ∙ sum_pairs_sum_to n far (λ j k x. value x *ℚ convolve (divided_power f j) (claim_apart t g k) x)
+      ∙ sum_to_same far _ _ (λ x c.
+      sum_pairs_times n (value x) (λ j k. convolve (divided_power f j) (claim_apart t g k) x)
+      ∙ ap (λ z. value x *ℚ z) (others_apart f g t n x))
+
+-- ---- the joint sums
+
+orders_next : (q m : ℕ) → orders (suc q) (suc m) ≡ suc q * orders (suc (suc q)) m
+unfolding factorial
+orders_next q m =
+    let a : suc q + suc m - 1 ≡ suc (q + m) = omega arith in
+    let b : suc (suc q) + m - 1 ≡ suc (q + m) = omega arith in
+    ap (λ t. choose t (suc m) * (suc m * factorial m)) a
+    ∙ omega (arith, ap (λ t. t * factorial m) (choose-absorb (q + m) m), ap (λ t. t * factorial m) (choose-shift q m))
+    ∙ sym (ap (λ t. suc q * (choose t m * factorial m)) b)
+
+where_times : (b : Bool) (k : Fraction) → where_true b k ≡ where_true b (whole 1) *ℚ k
+where_times true k = sym (one_times k)
+where_times false k = sym (zero_times k)
+
+convolve_scaled : (k : Fraction) (f g : ℕ → Fraction) (s : ℕ) → convolve (λ i. k *ℚ f i) g s ≡ k *ℚ convolve f g s
+convolve_scaled k f g s = sum_pairs_same s _ _ (λ i j e. times_assoc k (f i) (g j))
+    ∙ sum_pairs_times s k (λ i j. f i *ℚ g j)
+
+module _ (q : ℕ) (us : List PoissonUnit) (some : whole 0 <ℚ expected_claims us) (h : AreSeverities us) (M : ℕ)
+    (past : (a : ℕ) → M < a → pooled_severity us a ≡ whole 0) (i : ℕ) (u : PoissonUnit) (at : IsUnit us i u) where
+  abbrev y : PoissonUnit → Fraction
+  y = chance (suc q) us
+
+  abbrev c : Fraction
+  c = any_chance (suc q) us
+
+  -- the amounts of one claim of the unit, tilted
+  abbrev t : ℕ → Fraction
+  t = tilt u.severity
+
+  mixed_past : (a : ℕ) → M < a → mixed y us a ≡ whole 0
+  mixed_past a d = mixed_pooled (suc q) us some a ∙ ap (λ z. c *ℚ z) (past a d) ∙ times_zero _
+
+  abbrev apart : ℕ → ℕ → Fraction
+  apart n x = claim_apart (tilt (scaled_severity y u)) (mixed y us) n x
+
+  level_joint : (n x : ℕ) → weighed y us n (score (Joint i x)) ≡ apart n x
+  level_joint n x =
+      weighed_same y us n _ _ (λ ys. where_times (nat_eq (sum ys) x) (whole (get_or ys i 0)))
+      ∙ weighed_joint y u us i at h M mixed_past n (n * M + x) (omega arith) (λ s. where_true (nat_eq s x) (whole 1))
+      ∙ sum_to_same (n * M + x) _ _ (λ s d. sym (where_times (nat_eq s x) (apart n s)))
+      ∙ pick (n * M + x) x (apart n) (omega arith)
+
+  -- n + 1 claims of shape r by n claims of shape r + 1
+  apart_next : (m x : ℕ) → whole (orders (suc q) (suc m)) *ℚ apart (suc m) x
+      ≡ whole (suc q) *ℚ y u *ℚ convolve t (λ k. gamma (suc (suc q)) c m *ℚ power (pooled_severity us) m k) x
+  unfolding claim_apart
+  apart_next m x =
+      let d = divided_power (mixed y us) m in
+      let n = whole (orders (suc (suc q)) m) in
+      ap₂ (λ a b. a *ℚ b) (ap whole (orders_next q m) ∙ whole_times (suc q) (orders (suc (suc q)) m))
+      (ap (λ f. convolve f d x) (fun_ext (λ a. times_left_comm (whole a) (y u) (u.severity a)))
+      ∙ convolve_scaled (y u) t d x)
+      ∙ turn (whole (suc q)) n (y u) (convolve t d x)
+      ∙ ap (λ z. whole (suc q) *ℚ y u *ℚ z) (sym (convolve_times n t d x)
+      ∙ ap (λ f. convolve t f x) (fun_ext (λ k. ap (λ f. n *ℚ divided_power f m k)
+      (fun_ext (mixed_pooled (suc q) us some)) ∙ gamma_divided (suc (suc q)) c (pooled_severity us) m k)))
+    where
+      turn : (a b e z : Fraction) → a *ℚ b *ℚ (e *ℚ z) ≡ a *ℚ e *ℚ (b *ℚ z)
+      turn a b e z = simp ring
+
+  abbrev joint_term : ℕ → ℕ → Fraction
+  joint_term x n = whole (orders (suc q) n) *ℚ apart n x
+
+  joint_sums : (x N : ℕ) → common_sums (suc q) us (Joint i x) N ≡ sum_to N (joint_term x)
+  joint_sums x N = sum_to_same N _ _ (λ n d. level_sum (suc q) us (Joint i x) n
+      ∙ ap (λ z. whole (orders (suc q) n) *ℚ z) (level_joint n x))
+
+  joint_first : (x : ℕ) → joint_term x zero ≡ whole 0
+  unfolding claim_apart
+  joint_first x = times_zero _
+
+  pub joint_none : (x : ℕ) → common_sums (suc q) us (Joint i x) zero ≡ whole 0
+  unfolding sum_to
+  joint_none x = joint_sums x zero ∙ joint_first x
+
+  pub joint_next : (x N : ℕ) → common_sums (suc q) us (Joint i x) (suc N)
+      ≡ whole (suc q) *ℚ y u *ℚ sum_pairs x
+      (λ a k. whole a *ℚ u.severity a *ℚ cell (gamma (suc (suc q)) c) (pooled_severity us) k N)
+  joint_next x N =
+      let g : ℕ → ℕ → Fraction = λ m k. gamma (suc (suc q)) c m *ℚ power (pooled_severity us) m k in
+      joint_sums x (suc N)
+      ∙ sum_to_first N (joint_term x) ∙ ap (λ z. z +ℚ sum_to N (λ m. joint_term x (suc m))) (joint_first x)
+      ∙ zero_plus _
+      ∙ sum_to_same N _ _ (λ m d. apart_next m x)
+      ∙ sum_to_times N (whole (suc q) *ℚ y u) (λ m. convolve t (g m) x)
+      ∙ ap (λ z. whole (suc q) *ℚ y u *ℚ z) (sym (sum_pairs_sum_to x N (λ a k m. t a *ℚ g m k))
+      ∙ sum_pairs_same x _ _ (λ a k e. sum_to_times N (t a) (λ m. g m k)))

@@ -1,0 +1,89 @@
+-- A portfolio under a common factor: given one gamma factor of mean 1 and shape r, which scales the
+-- means of all units, their claim counts are independent Poisson counts (Loss Models, "Mixed
+-- frequency distributions").
+use Rattle.std.specs.Prelude.{ℕ, zero, suc, ◌≡◌, ◌+◌, ◌-◌, ◌*◌, List, [], ◌∷◌, map, sum}
+use Rattle.dl_exact.specs.Fraction.{Fraction, whole, ◌+ℚ◌, ◌*ℚ◌, ◌/ℚ◌}
+use Rattle.dl_exact.specs.Power.{◌^ℚ◌, factorial, choose}
+use Rattle.dl_exact.specs.Sum.{sum_to, sum_pairs, sum_over}
+use Rattle.dl_model.specs.Series.{Series}
+use Rattle.dl_model.specs.Compound.{power}
+use Rattle.dl_model.specs.Severity.{IsSeverity}
+use Rattle.dl_model.specs.Program.{Quantity, score}
+
+-- a unit: the expected number of its claims, the probability of each amount of one claim, and the
+-- greatest amount
+pub record PoissonUnit : Type 0 where
+  pub mean : Fraction
+  pub severity : ℕ → Fraction
+  pub most : ℕ
+
+-- the claims of one unit: how many, and what they add up to
+pub record Claims : Type 0 where
+  pub unit : PoissonUnit
+  pub count : ℕ
+  pub amount : ℕ
+
+-- f x times f y times .. over the items of a list, and 1 for no item
+unfoldable pub product_over : {A : Type 0} → List A → (A → Fraction) → Fraction
+product_over [] f = whole 1
+product_over (x ∷ xs) f = f x *ℚ product_over xs f
+
+-- the sum of the value over all claims lists of n claims in all: each unit has a count and an
+-- amount from 0 to the count times its greatest amount, and the counts add up to n
+unfoldable pub sum_over_claims : List PoissonUnit → ℕ → (List Claims → Fraction) → Fraction
+sum_over_claims [] zero value = value []
+sum_over_claims [] (suc n) value = whole 0
+sum_over_claims (u ∷ us) n value = sum_pairs n (λ j k. sum_to (j * u.most) (λ s. sum_over_claims us
+    k (λ claims. value (record { unit = u; count = j; amount = s } ∷ claims))))
+
+-- the expected number of claims of all units
+abbrev pub expected_claims : List PoissonUnit → Fraction
+expected_claims us = sum_over us (λ u. u.mean)
+
+-- the amounts of a claims list, unit by unit
+abbrev pub amounts : List Claims → List ℕ
+amounts claims = map (λ c. c.amount) claims
+
+-- that the claims of each unit add up to its amount, given their numbers
+abbrev pub amounts_given_counts : List Claims → Fraction
+amounts_given_counts claims = product_over claims (λ c. power c.unit.severity c.count c.amount)
+
+-- C(r + n - 1, n) * n!, divided by the product of the factorials of the counts
+abbrev pub ways_to_share : ℕ → ℕ → List Claims → Fraction
+ways_to_share r n claims = whole (choose (r + n - 1) n * factorial n) /ℚ
+    product_over claims (λ c. whole (factorial c.count))
+
+-- the product of (v_i / (r + v)) ^ n_i, where v is the expected number of claims of all units
+abbrev pub chances : ℕ → Fraction → List Claims → Fraction
+chances r v claims = product_over claims (λ c. (c.unit.mean /ℚ (whole r +ℚ v)) ^ℚ c.count)
+
+-- The quantity over the claims lists of at most N claims in all; without the constant factor
+-- (r / (r + v)) ^ r, which stands in the sums of every quantity.
+abbrev pub common_sums : ℕ → List PoissonUnit → Quantity → Series
+common_sums r us quantity N = sum_to N (λ n. sum_over_claims us n (λ claims.
+    score quantity (amounts claims) *ℚ amounts_given_counts claims *ℚ ways_to_share r n claims *ℚ
+    chances r (expected_claims us) claims))
+
+-- the severity of a claim of whatever unit: the mixture of the severities by v_i / v
+abbrev pub pooled_severity : List PoissonUnit → ℕ → Fraction
+pooled_severity us a = sum_over us (λ u. u.mean /ℚ expected_claims us *ℚ u.severity a)
+
+-- the probabilities of the amounts of each unit add up to 1
+abbrev pub AreSeverities : List PoissonUnit → Type 0
+AreSeverities [] = Unit {0}
+AreSeverities (u ∷ us) = IsSeverity u.severity u.most × AreSeverities us
+
+-- the quantity counts a list of outcomes by its total alone
+abbrev pub CountsTotal : Quantity → Type 0
+CountsTotal quantity = (ys : List ℕ) → score quantity ys ≡ score quantity (sum ys ∷ [])
+
+-- u is unit i of the list
+abbrev pub IsUnit : List PoissonUnit → ℕ → PoissonUnit → Type 0
+IsUnit [] i u = ⊥
+IsUnit (w ∷ us) zero u = w ≡ u
+IsUnit (w ∷ us) (suc i) u = IsUnit us i u
+
+-- the mean of a gamma count of shape r + 1 that has the same part v / (r + v) as the mean v has with
+-- the shape r: v * (r + 1) / r
+abbrev pub raised_mean : ℕ → Fraction → Fraction
+raised_mean r v = v *ℚ whole (suc r) /ℚ whole r
