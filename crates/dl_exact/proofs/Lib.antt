@@ -7,6 +7,7 @@ pub mod RoundingLaws
 pub mod Parts
 pub mod Orders
 pub mod BelowOne
+pub mod Bernoulli
 pub mod Denominators
 pub mod Lesser
 pub mod Powers

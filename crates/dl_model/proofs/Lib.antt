@@ -53,3 +53,5 @@ pub mod SharedClaims
 pub mod Pooled
 pub mod SharedJoint
 pub mod SharedValues
+pub mod ChangedZero
+pub mod SomeClaim

@@ -7,6 +7,7 @@ pub mod Program
 pub mod Counts
 pub mod Divided
 pub mod CommonFactor
+pub mod ChangedZero
 pub mod Recursion
 pub mod Measures
 pub mod Family

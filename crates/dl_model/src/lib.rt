@@ -2,6 +2,7 @@
 //! the contract of a function with an empty body.
 #![tactic(auto)]
 
+pub mod changed_zero;
 pub mod clause_means;
 pub mod common_factor;
 pub mod counts;

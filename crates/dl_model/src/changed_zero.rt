@@ -1,0 +1,85 @@
+//! The laws of a changed probability of no claim (Klugman, Panjer and Willmot, Loss Models,
+//! "Truncation and modification at zero").
+
+ghost use Rattle.std.specs.Prelude.{ℕ, suc, ◌≡◌, ◌*◌, ◌<◌, ◌≤◌, nat_eq};
+ghost use Rattle.dl_exact.specs.Fraction.{Fraction, whole, ◌over◌, ◌-ℚ◌, ◌*ℚ◌, ◌≤ℚ◌, ◌<ℚ◌};
+ghost use Rattle.dl_exact.specs.Sum.{sum_to};
+ghost use Rattle.dl_model.specs.Series.{Series, IsBound, AtMost, AtLeast, Holds, Rises};
+ghost use Rattle.dl_model.specs.Compound.{cell};
+ghost use Rattle.dl_model.specs.Counts.{fixed, binomial, poisson, gamma_of, AreCountWeights};
+ghost use Rattle.dl_model.specs.Program.{where_true};
+ghost use Rattle.dl_model.specs.ChangedZero.{without_none, with_none, changed_end, IsWithNone};
+
+/// No claim comes to 0: so compound sums have the weight of no claim at 0, beside the part from at
+/// least one claim, also after an aggregate clause that maps 0 to 0.
+pub fn law_with_none()
+    ensures compound { (w f : ℕ → Fraction) (y : ℕ)
+        → IsWithNone y (w 0) (cell w f y) (λ N. sum_to N w) (cell (without_none w) f y)
+        (λ N. sum_to N (without_none w)) }
+    ensures clause { (w f : ℕ → Fraction) (clause : ℕ → ℕ) (most y : ℕ) → clause 0 ≡ 0
+        → IsWithNone y (w 0)
+        (λ N. sum_to (N * most) (λ s. where_true (nat_eq (clause s) y) (cell w f s N)))
+        (λ N. sum_to N w)
+        (λ N. sum_to (N * most)
+        (λ s. where_true (nat_eq (clause s) y) (cell (without_none w) f s N)))
+        (λ N. sum_to N (without_none w)) }
+{}
+
+/// The outcomes with the probability `p` of no claim never fall, add up to the whole weight of at
+/// least one claim where its parts do, and have `1 - p` times the mean of these parts.
+pub fn law_changed_outcomes()
+    ensures rises { (p : Fraction) (y : ℕ) (part rest : Series) → Rises part → Rises rest
+        → Rises (with_none p y part rest) }
+    ensures full { (p : Fraction) (k N : ℕ) (part : ℕ → Series) (rest : Series) → p ≤ℚ whole 1
+        → sum_to k (λ y. part y N) ≡ rest N
+        → sum_to k (λ y. with_none p y (part y) rest N) ≡ rest N }
+    ensures mean { (p : Fraction) (k N : ℕ) (part : ℕ → Series) (rest : Series)
+        → sum_to k (λ y. whole y *ℚ with_none p y (part y) rest N)
+        ≡ (whole 1 -ℚ p) *ℚ sum_to k (λ y. whole y *ℚ part y N) }
+{}
+
+/// The outcome `y` with the probability `p` of no claim, from ends of it before the change and ends
+/// of the probability of no claim, whose high end is below 1: the high end of the latter is taken
+/// off the low end at `y = 0`, and its low end off the high end.
+pub fn law_changed_zero()
+    ensures { (p none low high none_low none_high bound : Fraction) (y : ℕ)
+        (cell all part rest : Series) → IsWithNone y none cell all part rest
+        → Rises part → Rises rest → IsBound all bound
+        → Holds cell all low high → Holds (λ N. none) all none_low none_high
+        → none_low ≤ℚ none_high → none_high <ℚ whole 1
+        → Holds (with_none p y part rest) rest (changed_end p y low none_high none_low)
+        (changed_end p y high none_low none_high) }
+{}
+
+/// Low ends that add up to at most 1 do so after the change.
+pub fn law_changed_lows()
+    ensures { (none none_low none_high bound : Fraction) (k level : ℕ) (cells : ℕ → Series)
+        (all : Series) (low : ℕ → Fraction) → ((y : ℕ) → Rises (cells y)) → Rises all
+        → IsBound all bound → whole 0 <ℚ all level
+        → ((y : ℕ) → y ≤ k → AtLeast (cells y) all (low y))
+        → AtLeast (λ N. none) all none_low → none_low ≤ℚ none_high
+        → ((N : ℕ) → none ≤ℚ cells 0 N) → ((N : ℕ) → sum_to k (λ y. cells y N) ≤ℚ all N)
+        → sum_to k low ≤ℚ whole 1 → (p : Fraction) → p ≤ℚ whole 1 → none_low <ℚ whole 1
+        → sum_to k (λ y. changed_end p y (low y) none_high none_low) ≤ℚ whole 1 }
+{}
+
+/// The weights of at least one claim are those of a count that can be declared, where one of their
+/// sums is above 0.
+pub fn law_without_none()
+    ensures { (w : ℕ → Fraction) → AreCountWeights w → (level : ℕ)
+        → whole 0 <ℚ sum_to level (without_none w) → AreCountWeights (without_none w) }
+{}
+
+/// Where at least 1 / 16 of a claim is expected, the probability of no claim is at most 16 / 17:
+/// of exactly `m` claims, of `m` trials with probability `a / b`, Poisson, and gamma of shape `q +
+/// 1` and mean `v`.
+pub fn law_some_claim()
+    ensures fixed { (m : ℕ) → 0 < m
+        → AtMost (λ N. fixed m 0) (λ N. sum_to N (fixed m)) (16 over 17) }
+    ensures binomial { (m a b : ℕ) → 0 < b → a ≤ b → 1 over 16 ≤ℚ whole m *ℚ a over b
+        → AtMost (λ N. binomial m a b 0) (λ N. sum_to N (binomial m a b)) (16 over 17) }
+    ensures poisson { (v : Fraction) → 1 over 16 ≤ℚ v
+        → AtMost (λ N. poisson v 0) (λ N. sum_to N (poisson v)) (16 over 17) }
+    ensures gamma { (q : ℕ) (v : Fraction) → 1 over 16 ≤ℚ v
+        → AtMost (λ N. gamma_of (suc q) v 0) (λ N. sum_to N (gamma_of (suc q) v)) (16 over 17) }
+{}
