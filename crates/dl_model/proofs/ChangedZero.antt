@@ -4,7 +4,7 @@ use Rattle.dl_exact.proofs.Laws.{sub_nothing, sub_le_both}
 unfoldable use Rattle.dl_model.specs.ChangedZero.{without_none}
 use Rattle.dl_model.specs.ChangedZero.{with_none, changed_end, IsWithNone}
 use Rattle.dl_model.proofs.Declared.{at_most_plus, at_least_plus, self_holds, scaled, quotient}
-use Rattle.dl_model.proofs.Complements.{at_least_rest, at_most_rest}
+use Rattle.dl_model.proofs.Complements.{at_least_rest}
 use Rattle.dl_model.proofs.Minus.{at_least_minus, at_most_minus}
 use Rattle.dl_model.proofs.Alike.{not_both}
 use Rattle.dl_model.proofs.Ends.{to_rises}
@@ -75,11 +75,12 @@ module _ (p none l h nl nh v : Fraction) (b : Bool) (Q G R E : Series)
   unfolding nothing
   rest_holds =
       let both : (N : ℕ) → nothing N +ℚ E N ≡ R N = λ N. plus_comm _ _ ∙ sym (all_is N) in
-      let one : (x : Fraction) → x ≤ℚ whole 1 → x +ℚ (whole 1 -ℚ x) ≡ whole 1 =
-      λ x le. plus_comm _ _ ∙ sub_plus (whole 1) x le in (
-        at_least_rest nothing E R nh (whole 1 -ℚ nh) v both bound (one nh (le_of_lt _ _ below)) none_held.1,
-        at_most_rest nothing E R nl (whole 1 -ℚ nl) nothing_rises E_rises both
-            (one nl (le_trans _ _ _ order (le_of_lt _ _ below))) none_held.0,
+      let one : nh +ℚ (whole 1 -ℚ nh) ≡ whole 1 = plus_comm _ _ ∙ sub_plus (whole 1) nh (le_of_lt _ _ below) in (
+        at_least_rest nothing E R nh (whole 1 -ℚ nh) v both bound one none_held.1,
+        at_most_minus E nothing R (whole 1 -ℚ nl) nl E_rises nothing_rises
+            (λ n u c. subst₂ (λ s t. s ≤ℚ t *ℚ u) (all_is n)
+            (sym (sub_plus (whole 1) nl (le_trans _ _ _ order (le_of_lt _ _ below))))
+            (subst (λ t. R n ≤ℚ t) (sym (one_times u)) (c n))) none_held.0,
       )
 
   claims_hold : Holds G E (low b /ℚ (whole 1 -ℚ nl)) (high b /ℚ (whole 1 -ℚ nh))
