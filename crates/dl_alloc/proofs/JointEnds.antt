@@ -8,28 +8,27 @@ use Rattle.dl_exact.proofs.Laws.{one_pos, le_refl, times_left_comm, times_le_bot
 use Rattle.dl_exact.proofs.Sums.{sum_pairs_same}
 use Rattle.dl_model.specs.Series.{Series, Rises, AtMost, AtLeast, Holds, times}
 use Rattle.dl_exact.specs.Count.{count_pairs}
-use Rattle.dl_model.specs.Program.{Aggregate, AreDeclarable, One, Joint, partial_sums}
-use Rattle.dl_model.specs.Family.{total, IsProper, Encloses}
+use Rattle.dl_model.specs.Program.{Loss, AreDeclarable, One, Joint, partial_sums, total}
+use Rattle.dl_model.specs.Family.{IsProper, Encloses}
 use Rattle.dl_model.specs.Measures.{unit_of, without}
 use Rattle.dl_model.proofs.Declared.{scaled, at_most_times, at_least_times}
 use Rattle.dl_model.proofs.FamilyLaws.{sum_at_most, sum_at_least, rises_times, nothing_proper}
 use Rattle.dl_exact.proofs.SumsOver.{sum_pairs_over}
-use Rattle.dl_model.proofs.UnitLaws.{unit_proper}
-use Rattle.dl_model.proofs.Outcomes.{total_proper, total_more_all}
+use Rattle.dl_model.proofs.Outcomes.{loss_proper, total_proper, total_more_all}
 use Rattle.dl_model.proofs.Without.{without_units}
 use Rattle.dl_model.proofs.Joint.{joint_cells}
 
-unit_of_proper : (us : List Aggregate) (i : ℕ) → AreDeclarable us → IsProper (unit_of us i)
+unit_of_proper : (us : List Loss) (i : ℕ) → AreDeclarable us → IsProper (unit_of us i)
 unit_of_proper [] i h = nothing_proper
-unit_of_proper (u ∷ us) zero h = unit_proper u h.0
+unit_of_proper (u ∷ us) zero h = loss_proper u h.0
 unit_of_proper (u ∷ us) (suc i) h = unit_of_proper us i h.1
 
-all_split : (us : List Aggregate) → AreDeclarable us → (i N : ℕ) → i < length us
+all_split : (us : List Loss) → AreDeclarable us → (i N : ℕ) → i < length us
     → partial_sums us One N ≡ (unit_of us i).all N *ℚ partial_sums (without us i) One N
 all_split [] h i N b = absurd (omega arith)
 all_split (u ∷ us) h zero N b = total_more_all u us h.0 N
 all_split (u ∷ us) h (suc i) N b =
-    total_more_all u us h.0 N ∙ ap (λ t. sum_to N u.count *ℚ t) (all_split us h.1 i N (omega arith))
+    total_more_all u us h.0 N ∙ ap (λ t. u.family.all N *ℚ t) (all_split us h.1 i N (omega arith))
     ∙ times_left_comm _ _ _
     ∙ ap (λ t. (unit_of us i).all N *ℚ t) (sym (total_more_all u (without us i) h.0 N))
 
@@ -43,7 +42,7 @@ terms : (x S : ℕ) (f g : ℕ → ℕ) → 0 < S
 terms x S f g s = sum_pairs_same x _ _ (λ y z e. term y (f y) (g z) S s)
     ∙ sum_pairs_over x (S * S) (λ y z. y * f y * g z) (mul-pos s s)
 
-pub joint_ends : (us : List Aggregate) (S K K' : ℕ) (lo hi lo' hi' : ℕ → ℕ) (i x : ℕ) → AreDeclarable us → 0 < S
+pub joint_ends : (us : List Loss) (S K K' : ℕ) (lo hi lo' hi' : ℕ → ℕ) (i x : ℕ) → AreDeclarable us → 0 < S
     → i < length us → x < K → x < K'
     → Encloses S K lo hi (unit_of us i) → Encloses S K' lo' hi' (total (without us i))
     → Holds (partial_sums us (Joint i x)) (partial_sums us One) (count_pairs x (λ y z. y * lo y * lo' z) over (S * S))

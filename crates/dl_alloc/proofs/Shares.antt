@@ -10,7 +10,7 @@ use Rattle.dl_exact.proofs.RoundingLaws.{whole_le}
 use Rattle.dl_exact.proofs.Denominators.{over_times}
 use Rattle.dl_exact.proofs.Lists.{item_le_total}
 use Rattle.dl_model.specs.Series.{AtMost, AtLeast}
-use Rattle.dl_model.specs.Program.{Aggregate, One, Point, Joint, where_true, score, partial_sums}
+use Rattle.dl_model.specs.Program.{Loss, One, Point, Joint, where_true, score, partial_sums}
 use Rattle.dl_model.specs.Measures.{AreDeclared}
 use Rattle.dl_model.proofs.Alike.{not_both}
 use Rattle.dl_model.proofs.Outcomes.{outcomes_le, outcomes_times, outcomes_rise}
@@ -26,13 +26,13 @@ score_le i x ys = elim (cases_eq (sum ys) x) [
       (sym (ne_eqb (sum ys) x n)) (zero_le _)
 ]
 
-joint_le_point : (us : List Aggregate) (i x N : ℕ)
+joint_le_point : (us : List Loss) (i x N : ℕ)
     → partial_sums us (Joint i x) N ≤ℚ whole x *ℚ partial_sums us (Point x) N
 joint_le_point us i x N =
     le_trans _ _ _ (outcomes_le us (score (Joint i x)) (λ ys. whole x *ℚ score (Point x) ys) (score_le i x) N)
     (le_of_eq _ _ (outcomes_times us (whole x) (score (Point x)) N))
 
-joint_most : (us : List Aggregate) (i x h S : ℕ) → 0 < S
+joint_most : (us : List Loss) (i x h S : ℕ) → 0 < S
     → AtMost (partial_sums us (Point x)) (partial_sums us One) (h over S)
     → AtMost (partial_sums us (Joint i x)) (partial_sums us One) ((x * h) over S)
 joint_most us i x h S s at N u bound =
@@ -42,7 +42,7 @@ joint_most us i x h S s at N u bound =
     (times_le_both _ _ _ _ (le_refl (whole x)) (at N u bound)))
 
 -- a low end of the joint mean is at most x times a high end of the probability
-pub low_share : (us : List Aggregate) (i x l h S : ℕ) → AreDeclared us → 0 < S
+pub low_share : (us : List Loss) (i x l h S : ℕ) → AreDeclared us → 0 < S
     → AtLeast (partial_sums us (Joint i x)) (partial_sums us One) (l over S)
     → AtMost (partial_sums us (Point x)) (partial_sums us One) (h over S) → l ≤ x * h
 low_share us i x l h S d s low at = elim (cases_lt (x * h) l) [

@@ -18,8 +18,8 @@ use Rattle.dl_exact.proofs.Counts.{below_same, below_plus, pairs_le, pairs_same}
 use Rattle.dl_grid.proofs.PlaceSums.{width_at, high_is, low_within, width_within}
 use Rattle.dl_grid.proofs.WidthLaws.{cv_is}
 use Rattle.dl_model.specs.Series.{Holds}
-use Rattle.dl_model.specs.Program.{Aggregate, AreDeclarable, One, Joint, partial_sums}
-use Rattle.dl_model.specs.Family.{total, GridEncloses}
+use Rattle.dl_model.specs.Program.{Loss, AreDeclarable, One, Joint, partial_sums, total}
+use Rattle.dl_model.specs.Family.{GridEncloses}
 use Rattle.dl_model.specs.Measures.{unit_of, without}
 use Rattle.dl_model.proofs.Declared.{at_least_wider, at_most_wider}
 use Rattle.dl_alloc.proofs.JointEnds.{joint_ends}
@@ -119,7 +119,7 @@ module _ {B : ℕ} (unit others : List (Iv B)) (x y sum u v : ℕ) (p : IsGrid u
 
 -- ---- what they hold
 
-pub joint_holds : {B : ℕ} (unit others : List (Iv B)) (us : List Aggregate) (i x : ℕ) → x < length unit
+pub joint_holds : {B : ℕ} (unit others : List (Iv B)) (us : List Loss) (i x : ℕ) → x < length unit
     → x < length others → AreDeclarable us
     → i < length us
     → GridEncloses unit (unit_of us i) → GridEncloses others (total (without us i))

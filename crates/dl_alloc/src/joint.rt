@@ -5,8 +5,8 @@ ghost use Rattle.dl_exact.specs.Fraction.{◌over◌};
 ghost use Rattle.dl_grid.specs.Cells.{low_at, high_at, spread, IsGrid};
 ghost use Rattle.dl_grid.specs.Width.{cv};
 ghost use Rattle.dl_model.specs.Series.{AtMost, Holds};
-ghost use Rattle.dl_model.specs.Program.{Aggregate, AreDeclarable, One, Point, Joint, partial_sums};
-ghost use Rattle.dl_model.specs.Family.{total, GridEncloses};
+ghost use Rattle.dl_model.specs.Program.{Loss, AreDeclarable, One, Point, Joint, partial_sums, total};
+ghost use Rattle.dl_model.specs.Family.{GridEncloses};
 ghost use Rattle.dl_model.specs.Measures.{unit_of, without, AreDeclared};
 ghost use Rattle.dl_alloc.specs.Weighted.{low_weighted, high_weighted};
 
@@ -38,14 +38,14 @@ fn weighted_sums<const B: u32>(unit: &Grid<B>, others: &Grid<B>, x: u32) -> (u12
 
 /// The joint mean of one unit at `x`, in buckets: the mean of the unit's outcome where the total is
 /// `x`, and of 0 elsewhere. `unit` is the grid of that unit, and `others` that of all other units
-/// together. It is a convolution (Loss Models, "Aggregate loss models"): where the unit has `y` of
+/// together. It is a convolution (Loss Models, "Loss loss models"): where the unit has `y` of
 /// a total of `x`, the others have `x - y`. The low end is rounded down once, and the high end up.
 pub fn joint_mean<const B: u32>(unit: &Grid<B>, others: &Grid<B>, x: u32) -> Iv<B>
     requires in_unit { x < length unit.now }
     requires in_others { x < length others.now }
     requires unit_narrow { spread unit.now < 2 ^ B }
     requires others_narrow { spread others.now < 2 ^ B }
-    ensures holds { (us : List Aggregate) (i : ℕ) → AreDeclarable us → i < length us
+    ensures holds { (us : List Loss) (i : ℕ) → AreDeclarable us → i < length us
         → GridEncloses unit.now (unit_of us i) → GridEncloses others.now (total (without us i))
         → Holds (partial_sums us (Joint i x)) (partial_sums us One) (result.lo over 2 ^ B)
         (result.hi over 2 ^ B) }
@@ -53,7 +53,7 @@ pub fn joint_mean<const B: u32>(unit: &Grid<B>, others: &Grid<B>, x: u32) -> Iv<
         ≤ length unit.now * cv (2 ^ B) (length unit.now) (spread unit.now) (spread others.now) }
     // the unit has at most x, so the mean is at most x times each high end h of the probability of
     // x
-    ensures below { (us : List Aggregate) (i h : ℕ) → AreDeclared us → i < length us
+    ensures below { (us : List Loss) (i h : ℕ) → AreDeclared us → i < length us
         → GridEncloses unit.now (unit_of us i) → GridEncloses others.now (total (without us i))
         → AtMost (partial_sums us (Point x)) (partial_sums us One) (h over 2 ^ B)
         → result.lo ≤ x * h }

@@ -5,14 +5,14 @@ ghost use Rattle.std.specs.Prelude.{ℕ, ◌*◌, ◌<◌, List, length};
 ghost use Rattle.dl_exact.specs.Fraction.{◌over◌};
 ghost use Rattle.dl_exact.specs.Count.{count_pairs};
 ghost use Rattle.dl_model.specs.Series.{Holds};
-ghost use Rattle.dl_model.specs.Program.{Aggregate, AreDeclarable, One, Joint, partial_sums};
-ghost use Rattle.dl_model.specs.Family.{total, Encloses};
+ghost use Rattle.dl_model.specs.Program.{Loss, AreDeclarable, One, Joint, partial_sums, total};
+ghost use Rattle.dl_model.specs.Family.{Encloses};
 ghost use Rattle.dl_model.specs.Measures.{unit_of, without};
 
 /// The joint mean of a unit at `x` lies between the sums over the grids of the unit and of the
 /// others.
 pub fn law_joint_ends()
-    ensures { (us : List Aggregate) (scale cells cells' : ℕ) (lo hi lo' hi' : ℕ → ℕ) (i x : ℕ)
+    ensures { (us : List Loss) (scale cells cells' : ℕ) (lo hi lo' hi' : ℕ → ℕ) (i x : ℕ)
         → AreDeclarable us
         → 0 < scale → i < length us → x < cells → x < cells'
         → Encloses scale cells lo hi (unit_of us i)

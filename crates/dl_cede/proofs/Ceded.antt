@@ -4,7 +4,7 @@ use Rattle.dl_plan.specs.declared.plan.Unit.{Unit as UnitOfPlan}
 use Rattle.dl_exact.proofs.Parts.{whole_num}
 use Rattle.dl_plan.proofs.Horizons.{horizon_one, horizon_settled}
 use Rattle.dl_plan.specs.Weighted.{greatest}
-use Rattle.dl_model.specs.Family.{mapped}
+use Rattle.dl_model.specs.Units.{mapped}
 use Rattle.dl_model.specs.Plans.{count_weights}
 use Rattle.dl_model.proofs.PlanUnits.{unit_declared}
 use Rattle.dl_cede.proofs.Mapped.{unit_of, kept_few, kept_rest}

@@ -30,7 +30,7 @@ pub use Rattle.dl_plan.specs.declared.severity.Sev.{Sev}
 pub use Rattle.dl_model.proofs.Multiples.{clause_whole}
 pub use Rattle.dl_model.specs.Family.{Encloses, GridEncloses}
 pub use Rattle.dl_model.specs.Plans.{aggregate_of, compound_of, outcome_after}
-pub use Rattle.dl_model.specs.Program.{Aggregate, IsDeclarable, outcome}
+pub use Rattle.dl_model.specs.Units.{Aggregate, IsDeclarable, outcome}
 pub use Rattle.dl_model.specs.Series.{Holds}
 pub use Rattle.dl_measures.proofs.Sums.{high_end}
 pub use Rattle.dl_cede.specs.Kept.{IsLeft, IsTakenIn, sum_elsewhere, sum_kept, width_at}

@@ -1,5 +1,5 @@
 -- The mean of a unit after its clause, from the ends of its parts.
-use Rattle.dl_cede.proofs.Common.{ℕ, ◌≡◌, ◌+◌, ◌-◌, ◌*◌, ◌/◌, ◌^◌, ◌<◌, ◌≤◌, List, [], ◌∷◌, length, get_or, take, Option, Some, None, true, false, sym, ap, ap₂, subst, subst₂, ◌∙◌, IfSome, All, div_ceil, take_all, pow_pos, Fraction, whole, ◌over◌, ◌*ℚ◌, over_self, times_comm, Iv, low_at, high_at, CedeLayer, Clause, edge, IsHorizonOf, IsAggregate, IsValidUnit, declared_mean, Holds, Aggregate, GridEncloses, aggregate_of, compound_of, HoldsClaims, HoldsCeded}
+use Rattle.dl_cede.proofs.Common.{ℕ, ◌≡◌, ◌+◌, ◌-◌, ◌*◌, ◌/◌, ◌^◌, ◌<◌, ◌≤◌, List, [], ◌∷◌, length, get_or, take, Option, Some, None, true, false, sym, ap, ap₂, subst, subst₂, ◌∙◌, IfSome, All, div_ceil, take_all, pow_pos, Fraction, whole, ◌over◌, ◌*ℚ◌, over_self, times_comm, Iv, low_at, high_at, CedeLayer, Clause, edge, IsHorizonOf, IsAggregate, IsValidUnit, declared_mean, Holds, GridEncloses, compound_of, HoldsClaims, HoldsCeded}
 use Rattle.std.proofs.Common.{◌++◌, add-one}
 use Rattle.std.proofs.Math.Nat.{le_refl as le_refl_n}
 use Rattle.std.proofs.Math.Seq.{take-suc}
@@ -10,12 +10,12 @@ use Rattle.dl_exact.proofs.Denominators.{over_split as over_plus, over_minus, ov
 use Rattle.dl_iv.proofs.Enclosures.{lies_between}
 use Rattle.dl_plan.specs.declared.plan.Unit.{Unit as UnitOfPlan}
 use Rattle.dl_plan.proofs.Horizons.{horizon_edges}
-use Rattle.dl_model.specs.Program.{One, Mean, Layer, partial_sums}
-use Rattle.dl_model.specs.Family.{total}
+use Rattle.dl_model.specs.Program.{Loss, One, Mean, Layer, partial_sums, total}
 use Rattle.dl_model.specs.Measures.{AreDeclared}
-use Rattle.dl_model.specs.Plans.{claims_of, mean_ceded}
+use Rattle.dl_model.specs.Units.{loss}
+use Rattle.dl_model.specs.Plans.{claims_of, loss_of, mean_ceded}
 use Rattle.dl_model.proofs.Declared.{at_least_wider, at_most_wider}
-use Rattle.dl_model.proofs.ClauseMeans.{claims_declared, claims_enclosed, claims_mean, none_ceded, alone_ceded, both_ceded, no_clause, ceded_mean, net_mean}
+use Rattle.dl_model.proofs.ClauseMeans.{are_claims, claims_enclosed, claims_mean, none_ceded, alone_ceded, both_ceded, no_clause, ceded_mean, net_mean}
 use Rattle.dl_cede.specs.Means.{AreNearestEnds, HoldsMean}
 
 -- ---- the sum of the claims
@@ -43,7 +43,7 @@ nearest_ends {B} u mean num den pos value low high =
 
 -- what holds of the mean of a layer of every total that the grid encloses
 abbrev LayerHolds : {B : ℕ} → List (Iv B) → CedeLayer → Iv B → Iv B → Type 0
-LayerHolds {B} cells l claims mean = (us : List Aggregate) → AreDeclared us → GridEncloses cells (total us)
+LayerHolds {B} cells l claims mean = (us : List Loss) → AreDeclared us → GridEncloses cells (total us)
     → (l.limit ≡ None → Holds (partial_sums us Mean) (partial_sums us One) (claims.lo over 2 ^ B)
     (claims.hi over 2 ^ B))
     → Holds (partial_sums us (Layer l.limit l.attach)) (partial_sums us One) (mean.lo over 2 ^ B) (mean.hi over 2 ^ B)
@@ -59,7 +59,7 @@ part_holds {B} grid l claims mean part num den n d scales holds cells u valid en
     let share : num over den ≡ l.share = ap₂ (λ a b. a over b) n d ∙ over_self l.share in
     let scaled : (x : Fraction) → LiesIn x mean → LiesIn (l.share *ℚ x) part =
     λ x lies. subst (λ t. LiesIn t part) (ap (λ t. x *ℚ t) share ∙ times_comm x l.share) (scales x lies) in
-    let layer = holds (claims_of u ∷ []) (claims_declared cells u valid, tt)
+    let layer = holds (loss (claims_of u) ∷ []) (are_claims cells u valid)
     (claims_enclosed cells u (2 ^ B) (length grid) (low_at grid) (high_at grid) valid encloses) (λ e. full) in
     let exact = alone_ceded u l (mean.lo over 2 ^ B) (mean.hi over 2 ^ B) layer in (
       at_least_wider _ _ _ _ exact.0 (scaled (mean.lo over 2 ^ B)
@@ -73,7 +73,7 @@ part_holds {B} grid l claims mean part num den n d scales holds cells u valid en
 pub ceded_start : {B : ℕ} (u : UnitOfPlan) (layers : List CedeLayer) (mean : Iv B) → mean.lo ≡ 0 → mean.hi ≡ 0
     → HoldsCeded u (take 0 layers) mean
 ceded_start {B} u layers mean low high =
-    subst₂ (λ l h. Holds (mean_ceded u []) (partial_sums (claims_of u ∷ []) One) l h)
+    subst₂ (λ l h. Holds (mean_ceded u []) (partial_sums (loss (claims_of u) ∷ []) One) l h)
     (sym (ap (λ n. n over 2 ^ B) low ∙ over_zero (2 ^ B) (pow_pos B)))
     (sym (ap (λ n. n over 2 ^ B) high ∙ over_zero (2 ^ B) (pow_pos B)))
     (none_ceded u)
@@ -87,9 +87,9 @@ ceded_next {B} cells u layers i l before part after inside is low high valid hol
     let more : take (i + 1) layers ≡ take i layers ++ (l ∷ []) =
     ap (λ k. take k layers) (add-one i) ∙ take-suc layers i l inside ∙ ap (λ k. take i layers ++ (k ∷ [])) (sym is) in
     let both = both_ceded cells u (take i layers) (l ∷ []) _ _ _ _ valid holds here in
-    subst (λ ls. Holds (mean_ceded u ls) (partial_sums (claims_of u ∷ []) One) (after.lo over 2 ^ B)
+    subst (λ ls. Holds (mean_ceded u ls) (partial_sums (loss (claims_of u) ∷ []) One) (after.lo over 2 ^ B)
     (after.hi over 2 ^ B)) (sym more)
-    (subst₂ (λ a b. Holds (mean_ceded u (take i layers ++ (l ∷ []))) (partial_sums (claims_of u ∷ []) One) a b)
+    (subst₂ (λ a b. Holds (mean_ceded u (take i layers ++ (l ∷ []))) (partial_sums (loss (claims_of u) ∷ []) One) a b)
     (sym (ap (λ n. n over 2 ^ B) low ∙ over_plus before.lo part.lo (2 ^ B) (pow_pos B)))
     (sym (ap (λ n. n over 2 ^ B) high ∙ over_plus before.hi part.hi (2 ^ B) (pow_pos B))) both)
 
@@ -107,7 +107,7 @@ edges_inside cells k cede clause is horizon = horizon_edges clause cells k
 
 pub plain_holds : {B : ℕ} (u : UnitOfPlan) (mean : Iv B) → u.cede ≡ None → HoldsClaims u mean → HoldsMean u mean
 plain_holds {B} u mean none holds =
-    subst (λ a. Holds (partial_sums (a ∷ []) Mean) (partial_sums (a ∷ []) One) (mean.lo over 2 ^ B)
+    subst (λ a. Holds (partial_sums (loss a ∷ []) Mean) (partial_sums (loss a ∷ []) One) (mean.lo over 2 ^ B)
     (mean.hi over 2 ^ B))
     (sym (no_clause u none)) holds
 
@@ -129,7 +129,7 @@ module _ {B : ℕ} (grid : List (Iv B)) (clause : Clause) (claims ceded : Iv B)
   pub net_holds : (mean : Iv B) → clause.0 ≡ true → mean.lo ≡ claims.lo - ceded.hi → mean.hi ≡ claims.hi - ceded.lo
       → OnEachUnit grid clause claims (λ u. HoldsMean u mean)
   net_holds mean side low high cells u valid is encloses full =
-      subst₂ (λ a b. Holds (partial_sums (aggregate_of u ∷ []) Mean) (partial_sums (aggregate_of u ∷ []) One) a b)
+      subst₂ (λ a b. Holds (partial_sums (loss_of u ∷ []) Mean) (partial_sums (loss_of u ∷ []) One) a b)
       (sym (ap (λ n. n over 2 ^ B) low ∙ over_minus claims.lo ceded.hi (2 ^ B) (pow_pos B)))
       (sym (ap (λ n. n over 2 ^ B) high ∙ over_minus claims.hi ceded.lo (2 ^ B) (pow_pos B)))
       (net_mean cells u clause valid is _ _ _ _ side (taken cells u valid encloses full) full)
@@ -138,6 +138,6 @@ pub all_taken : {B : ℕ} (u : UnitOfPlan) (layers seen : List CedeLayer) (n : �
     → length seen ≤ n
     → HoldsCeded u (take n seen) mean → HoldsCeded u layers mean
 all_taken {B} u layers seen n mean same all holds =
-    subst (λ ls. Holds (mean_ceded u ls) (partial_sums (claims_of u ∷ []) One) (mean.lo over 2 ^ B)
+    subst (λ ls. Holds (mean_ceded u ls) (partial_sums (loss (claims_of u) ∷ []) One) (mean.lo over 2 ^ B)
     (mean.hi over 2 ^ B))
     (take_all n seen all ∙ same) holds

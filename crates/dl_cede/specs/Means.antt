@@ -9,12 +9,13 @@ use Rattle.dl_plan.specs.declared.plan.Unit.{Unit as UnitOfPlan}
 use Rattle.dl_plan.specs.Valid.{declared_mean}
 use Rattle.dl_model.specs.Series.{Holds}
 use Rattle.dl_model.specs.Program.{One, Mean, partial_sums}
-use Rattle.dl_model.specs.Plans.{aggregate_of, claims_of, mean_ceded}
+use Rattle.dl_model.specs.Units.{loss}
+use Rattle.dl_model.specs.Plans.{loss_of, claims_of, mean_ceded}
 
 -- the interval holds the mean of the sum of the claims, before the clause
 abbrev pub HoldsClaims : {B : ℕ} → UnitOfPlan → Iv B → Type 0
 HoldsClaims {B} u mean =
-    Holds (partial_sums (claims_of u ∷ []) Mean) (partial_sums (claims_of u ∷ []) One)
+    Holds (partial_sums (loss (claims_of u) ∷ []) Mean) (partial_sums (loss (claims_of u) ∷ []) One)
     (mean.lo over 2 ^ B) (mean.hi over 2 ^ B)
 
 -- the ends are the floor and the ceiling of that mean in the units of the scale: no interval that
@@ -26,11 +27,11 @@ pub record AreNearestEnds {B : ℕ} (u : UnitOfPlan) (mean : Iv B) : Type 0 wher
 -- the interval holds the mean of what layers take of that sum, each by its share
 abbrev pub HoldsCeded : {B : ℕ} → UnitOfPlan → List CedeLayer → Iv B → Type 0
 HoldsCeded {B} u layers mean =
-    Holds (mean_ceded u layers) (partial_sums (claims_of u ∷ []) One) (mean.lo over 2 ^ B)
+    Holds (mean_ceded u layers) (partial_sums (loss (claims_of u) ∷ []) One) (mean.lo over 2 ^ B)
     (mean.hi over 2 ^ B)
 
 -- the interval holds the mean of the unit, after its clause
 abbrev pub HoldsMean : {B : ℕ} → UnitOfPlan → Iv B → Type 0
 HoldsMean {B} u mean =
-    Holds (partial_sums (aggregate_of u ∷ []) Mean) (partial_sums (aggregate_of u ∷ []) One)
+    Holds (partial_sums (loss_of u ∷ []) Mean) (partial_sums (loss_of u ∷ []) One)
     (mean.lo over 2 ^ B) (mean.hi over 2 ^ B)

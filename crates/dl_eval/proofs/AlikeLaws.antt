@@ -1,5 +1,5 @@
 -- Units that are alike have the same grids and means.
-use Rattle.dl_eval.proofs.Common.{ℕ, ◌≡◌, ◌^◌, List, [], ◌∷◌, length, take, arith, sym, ap, ap₂, subst, subst₂, ◌∙◌, Option, whole, ◌over◌, Iv, spread, Holds, mapped, GridEncloses, Aggregate, One, Mean, partial_sums, outcome_after, aggregate_of, Clause, horizon, claims_budget, after_clause, unit_budget, unit_mean_budget, mean_width, IsUnitGrid, IsUnitMean}
+use Rattle.dl_eval.proofs.Common.{ℕ, ◌≡◌, ◌^◌, List, [], ◌∷◌, length, take, arith, sym, ap, ap₂, subst, subst₂, ◌∙◌, Option, whole, ◌over◌, Iv, spread, Holds, mapped, GridEncloses, Aggregate, One, Mean, partial_sums, outcome_after, aggregate_of, Clause, horizon, claims_budget, after_clause, unit_budget, unit_mean_budget, mean_width, IsUnitGrid, IsUnitMean, loss}
 use Rattle.std.proofs.lemmas.List.{take_all}
 use Rattle.dl_exact.specs.Fraction.{◌*ℚ◌, ◌-ℚ◌}
 use Rattle.dl_model.specs.Plans.{count_weights}
@@ -12,8 +12,8 @@ use Rattle.dl_budget.specs.Claims.{count_budget}
 use Rattle.dl_eval.specs.Same.{AreAlike}
 
 -- a unit's aggregate loss, and its budget before its clause, from what alike units share
-abbrev loss : Freq → Option Clause → List Item → ℕ → Aggregate
-loss freq cede items total = record {
+abbrev aggregate : Freq → Option Clause → List Item → ℕ → Aggregate
+aggregate freq cede items total = record {
   count = count_weights freq;
   severity = λ x. weight_at items x over total;
   most = greatest items;
@@ -27,8 +27,8 @@ budget S H freq cede items total =
 
 same_loss : (u v : UnitOfPlan) → AreAlike u v → aggregate_of u ≡ aggregate_of v
 same_loss u v e =
-    ap₂ (λ freq cede. loss freq cede u.sev.items u.sev.total) e.count e.clause
-    ∙ ap₂ (loss v.freq v.cede) e.items e.total
+    ap₂ (λ freq cede. aggregate freq cede u.sev.items u.sev.total) e.count e.clause
+    ∙ ap₂ (aggregate v.freq v.cede) e.items e.total
 
 same_budget : (S H : ℕ) (u v : UnitOfPlan) → AreAlike u v
     → claims_budget S (horizon u.cede H) u ≡ claims_budget S (horizon v.cede H) v
@@ -50,7 +50,7 @@ alike_grid {B} H u v g t e of_u is =
 pub alike_mean : {B : ℕ} (H : ℕ) (u v : UnitOfPlan) (mean : Iv B) → AreAlike u v → IsUnitMean H u mean
     → IsUnitMean H v mean
 alike_mean {B} H u v mean e of_u = record {
-  holds = subst (λ a. Holds (partial_sums (a ∷ []) Mean) (partial_sums (a ∷ []) One) (mean.lo over 2 ^ B)
+  holds = subst (λ a. Holds (partial_sums (loss a ∷ []) Mean) (partial_sums (loss a ∷ []) One) (mean.lo over 2 ^ B)
       (mean.hi over 2 ^ B))
       (same_loss u v e) of_u.holds;
   narrow =

@@ -31,10 +31,11 @@ pub use Rattle.dl_plan.specs.declared.plan.Plan.{Plan}
 pub use Rattle.dl_plan.specs.declared.settings.Asked.{Asked}
 pub use Rattle.dl_model.proofs.Declared.{at_least_wider, at_most_wider}
 pub use Rattle.dl_model.proofs.PlanUnits.{plan_declared, plan_units, unit_declared}
-pub use Rattle.dl_model.specs.Family.{GridEncloses, mapped, total}
+pub use Rattle.dl_model.specs.Family.{GridEncloses}
+pub use Rattle.dl_model.specs.Units.{Aggregate, loss, mapped}
 pub use Rattle.dl_model.specs.Measures.{AreDeclared, unit_of}
-pub use Rattle.dl_model.specs.Plans.{aggregate_of, aggregates_of, compound_of, outcome_after}
-pub use Rattle.dl_model.specs.Program.{Aggregate, AreDeclarable, Mean, One, Point, Tail, partial_sums}
+pub use Rattle.dl_model.specs.Plans.{aggregate_of, aggregates_of, compound_of, loss_of, outcome_after}
+pub use Rattle.dl_model.specs.Program.{AreDeclarable, Loss, Mean, One, Point, Tail, partial_sums, total}
 pub use Rattle.dl_model.specs.Series.{Holds}
 pub use Rattle.dl_budget.proofs.Horizons.{few_cells, one_horizon, unit_horizon}
 pub use Rattle.dl_budget.specs.Asks.{IsInside, NamesUnit, place_of, tail_budget}

@@ -1,5 +1,5 @@
 -- The answer to each kind of ask, from the grid and the mean of the total.
-use Rattle.dl_eval.proofs.Common.{ℕ, suc, ◌≡◌, ◌+◌, ◌-◌, ◌^◌, ◌<◌, ◌≤◌, List, length, take, arith, inl, inr, sym, ap, subst, ◌∙◌, Option, None, Some, mul-le-mul_left, pow_pos, cases_lt, Fraction, ◌over◌, ◌+ℚ◌, ◌≤ℚ◌, ◌<ℚ◌, le_trans, lt_or_le, lt_not_le, Iv, over_le_over, low_at, high_at, spread, count_below, Holds, Aggregate, AreDeclarable, One, Point, Mean, partial_sums, total, GridEncloses, AreDeclared, low_cdf, aggregates_of, at_least_wider, at_most_wider, cdf_ends, plan_declared, plan_units, IsFirstAtLeast, Plan, IsValid, Row, total_budget, mean_budget, ask_budget, few_cells, Declares, IsBelow, at_the_end, IsAnswerTo, total_error, IsTotalOf, IsMeanOf, Prints}
+use Rattle.dl_eval.proofs.Common.{ℕ, suc, ◌≡◌, ◌+◌, ◌-◌, ◌^◌, ◌<◌, ◌≤◌, List, length, take, arith, inl, inr, sym, ap, subst, ◌∙◌, Option, None, Some, mul-le-mul_left, pow_pos, cases_lt, Fraction, ◌over◌, ◌+ℚ◌, ◌≤ℚ◌, ◌<ℚ◌, le_trans, lt_or_le, lt_not_le, Iv, over_le_over, low_at, high_at, spread, count_below, Holds, AreDeclarable, One, Point, Mean, partial_sums, total, GridEncloses, AreDeclared, low_cdf, aggregates_of, at_least_wider, at_most_wider, cdf_ends, plan_declared, plan_units, IsFirstAtLeast, Plan, IsValid, Row, total_budget, mean_budget, ask_budget, few_cells, Declares, IsBelow, at_the_end, IsAnswerTo, total_error, IsTotalOf, IsMeanOf, Prints, Loss}
 use Rattle.std.proofs.Common.{add-one}
 use Rattle.std.specs.Prelude.{min, MatchOption}
 use Rattle.dl_exact.proofs.Laws.{le_refl, plus_le_both, plus_le_cancel, sub_le_both}
@@ -81,7 +81,7 @@ layer_narrow S plan (Some limit) attach mean spread p q = mul-le-mul_left limit 
 
 pub layer_answer : {B : ℕ} (plan : Plan) (g : List (Iv B)) (mean : Iv B) (d attach lo hi : ℕ) (limit : Option ℕ)
     (row : Row)
-    → ((us : List Aggregate) → AreDeclared us → GridEncloses g (total us)
+    → ((us : List Loss) → AreDeclared us → GridEncloses g (total us)
     → (limit ≡ None → Holds (partial_sums us Mean) (partial_sums us One) (mean.lo over 2 ^ B) (mean.hi over 2 ^ B))
     → Holds (partial_sums us (Layer limit attach)) (partial_sums us One) (lo over 2 ^ B) (hi over 2 ^ B))
     → hi - lo ≤ layer_width limit attach (mean.hi - mean.lo) (spread g)
@@ -104,8 +104,8 @@ pub plus_lt : (x y z : Fraction) → x <ℚ y → x +ℚ z <ℚ y +ℚ z
 plus_lt x y z h = elim (lt_or_le (x +ℚ z) (y +ℚ z))
     [ inl less ↦ less | inr not_less ↦ absurd (lt_not_le x y h (plus_le_cancel y x z not_less)) ]
 
-wider_tight : (us : List Aggregate) (K L lo : ℕ) (hi : Option ℕ) (p d e : Fraction) → K ≡ L → d ≤ℚ e
-    → IsTight us K lo hi p d → IsTight us L lo hi p e
+wider_tight : (us : List Loss) (K L lo : ℕ) (hi : Option ℕ) (p d e : Fraction) → K ≡ L → d ≤ℚ e
+    → IsTight (partial_sums us) K lo hi p d → IsTight (partial_sums us) L lo hi p e
 wider_tight us K L lo hi p d e same wider tight = λ x from inside before.
     let both = tight x from (omega (arith, inside, same)) before in (
       at_most_wider _ _ _ _ both.0 (plus_le_both p p d e (le_refl p) wider),
@@ -132,7 +132,7 @@ bracket_inside g p cells lo (Some x) grid same first found = (not_after, omega (
       | inr after ↦ after
     ]
 
-beyond_below : {B : ℕ} (us : List Aggregate) (g : List (Iv B)) (p d : Fraction) (x : ℕ) → AreDeclarable us
+beyond_below : {B : ℕ} (us : List Loss) (g : List (Iv B)) (p d : Fraction) (x : ℕ) → AreDeclarable us
     → GridEncloses g (total us) → x < length g
     → low_cdf (2 ^ B) (low_at g) x <ℚ p → spread g over 2 ^ B ≤ℚ d
     → Below (partial_sums us (Cdf x)) (partial_sums us One) (p +ℚ d)
@@ -164,9 +164,9 @@ pub is_bracket : {B : ℕ} (plan : Plan) (g : List (Iv B)) (p : Fraction) (lo : 
     → row.low ≡ Whole lo → row.high ≡ bracket_end hi
     → IsFirstAtLeast (high_cdf (2 ^ B) (high_at g)) p (length g) lo
     → IsFirstFound (low_cdf (2 ^ B) (low_at g)) p (length g) hi
-    → ((us : List Aggregate) → AreDeclarable us → GridEncloses g (total us) → IsBracketed us lo hi p)
-    → ((us : List Aggregate) → AreDeclarable us → GridEncloses g (total us)
-    → IsTight us (length g) lo hi p (spread g over 2 ^ B))
+    → ((us : List Loss) → AreDeclarable us → GridEncloses g (total us) → IsBracketed (partial_sums us) lo hi p)
+    → ((us : List Loss) → AreDeclarable us → GridEncloses g (total us)
+    → IsTight (partial_sums us) (length g) lo hi p (spread g over 2 ^ B))
     → IsGrid g → IsValid plan → IsTotalOf plan g → IsBracket plan p (total_error (2 ^ B) plan) row
 is_bracket {B} plan g p lo hi row is_low is_high first found holds tight grid valid t =
     let units = plan_units plan valid in

@@ -1,5 +1,5 @@
 -- The mean of a total, from those of its units.
-use Rattle.dl_eval.proofs.Common.{ℕ, suc, ◌≡◌, ◌+◌, ◌-◌, ◌*◌, ◌^◌, ◌≤◌, List, [], ◌∷◌, length, map, arith, refl, sym, ap, subst, subst₂, ◌∙◌, Option, None, Some, All, mul-le-mul_left, pow_pos, Fraction, whole, ◌over◌, ◌+ℚ◌, Iv, spread, Holds, One, Mean, partial_sums, aggregate_of, unit_declared, CedeLayer, Plan, Clause, IsHorizonOf, horizon, IsValidUnit, IsValid, claims_budget, mean_width, unit_mean_budget, one_horizon, IsUnitMean, AreUnitMeans, IsMeanOf}
+use Rattle.dl_eval.proofs.Common.{ℕ, suc, ◌≡◌, ◌+◌, ◌-◌, ◌*◌, ◌^◌, ◌≤◌, List, [], ◌∷◌, length, map, arith, refl, sym, ap, subst, subst₂, ◌∙◌, Option, None, Some, All, mul-le-mul_left, pow_pos, Fraction, whole, ◌over◌, ◌+ℚ◌, Iv, spread, Holds, One, Mean, partial_sums, unit_declared, CedeLayer, Plan, Clause, IsHorizonOf, horizon, IsValidUnit, IsValid, claims_budget, mean_width, unit_mean_budget, one_horizon, IsUnitMean, AreUnitMeans, IsMeanOf, loss, loss_of}
 use Rattle.std.specs.List.{sum_by}
 use Rattle.std.proofs.lemmas.List.Elements.{All-head, All-tail}
 use Rattle.std.proofs.lemmas.List.Sums.{sum_by-cons}
@@ -9,7 +9,7 @@ use Rattle.dl_exact.proofs.Laws.{one_pos}
 use Rattle.dl_exact.proofs.Denominators.{over_split as over_plus}
 use Rattle.dl_model.proofs.Bounded.{are_units}
 use Rattle.dl_model.proofs.ClauseMeans.{no_clause}
-use Rattle.dl_model.proofs.Means.{mean_of_total}
+use Rattle.dl_model.proofs.TotalMeans.{mean_of_total}
 use Rattle.dl_model.proofs.PlanUnits.{units_declared}
 use Rattle.dl_model.proofs.PlanMeans.{MeanHolds, units_mean}
 use Rattle.dl_plan.specs.declared.plan.Unit.{Unit as UnitOfPlan}
@@ -21,7 +21,7 @@ use Rattle.dl_cede.specs.Means.{HoldsClaims}
 pub plain_mean : {B : ℕ} (cells : ℕ) (u : UnitOfPlan) (mean : Iv B) → u.cede ≡ None → HoldsClaims u mean
     → mean.hi ≤ mean.lo + 1 → IsUnitMean cells u mean
 plain_mean {B} cells u mean none holds narrow = record {
-  holds = subst (λ a. Holds (partial_sums (a ∷ []) Mean) (partial_sums (a ∷ []) One) (mean.lo over 2 ^ B)
+  holds = subst (λ a. Holds (partial_sums (loss a ∷ []) Mean) (partial_sums (loss a ∷ []) One) (mean.lo over 2 ^ B)
       (mean.hi over 2 ^ B)) (sym (no_clause u none)) holds;
   narrow = omega (arith, narrow, ap (λ c. clause_mean c (claims_budget (2 ^ B) (horizon u.cede cells) u)) none);
 }
@@ -50,7 +50,7 @@ clause_rises v w None h = omega arith
 clause_rises v w (Some clause) h = omega (arith, layers_rise v w clause.1 h)
 
 pub clause_unit_mean : {B : ℕ} (cells : ℕ) (u : UnitOfPlan) (g : List (Iv B)) (mean : Iv B) → IsValidUnit cells u
-    → Holds (partial_sums (aggregate_of u ∷ []) Mean) (partial_sums (aggregate_of u ∷ []) One) (mean.lo over 2 ^ B)
+    → Holds (partial_sums (loss_of u ∷ []) Mean) (partial_sums (loss_of u ∷ []) One) (mean.lo over 2 ^ B)
     (mean.hi over 2 ^ B)
     → mean.hi - mean.lo ≤ mean_width u.cede (spread g) → IsHorizonOf u.cede cells (length g)
     → spread g ≤ claims_budget (2 ^ B) (length g) u → IsUnitMean cells u mean
@@ -99,15 +99,15 @@ means_hold {B} cells [] (m ∷ means) valid each = absurd (omega (arith, each.as
 means_hold {B} cells (u ∷ us) [] valid each = absurd (omega (arith, each.as_many))
 means_hold {B} cells (u ∷ us) (m ∷ means) valid each =
     let rest = All-tail (IsValidUnit cells) u us valid in
+    let are = units_declared cells (u ∷ us) valid in
     let low : (m.lo + lows means) over 2 ^ B ≡ m.lo over 2 ^ B +ℚ lows means over 2 ^ B =
     over_plus m.lo (lows means) (2 ^ B) (pow_pos B) in
     let high : (m.hi + highs means) over 2 ^ B ≡ m.hi over 2 ^ B +ℚ highs means over 2 ^ B =
     over_plus m.hi (highs means) (2 ^ B) (pow_pos B) in
     let sums : MeanHolds (u ∷ us) (m.lo over 2 ^ B +ℚ lows means over 2 ^ B)
     (m.hi over 2 ^ B +ℚ highs means over 2 ^ B) =
-    mean_of_total (aggregate_of u) (map aggregate_of us)
-    (unit_declared cells u (All-head (IsValidUnit cells) u us valid)).unit
-    (are_units (map aggregate_of us) (units_declared cells us rest)) (m.lo over 2 ^ B) (m.hi over 2 ^ B)
+    mean_of_total (loss_of u) (map loss_of us) are.0.loss (are_units (map loss_of us) are.1) (m.lo over 2 ^ B)
+    (m.hi over 2 ^ B)
     (lows means over 2 ^ B) (highs means over 2 ^ B)
     (each.each 0 u m (omega arith)).holds (means_hold cells us means rest (later_means cells u us m means each)) in
     subst₂ (MeanHolds (u ∷ us))

@@ -1,5 +1,5 @@
 -- The share of a unit in a total, from the grids of the unit, of all others and of the total.
-use Rattle.dl_eval.proofs.Common.{ℕ, ◌≡◌, ◌+◌, ◌-◌, ◌*◌, ◌^◌, ◌<◌, ◌≤◌, List, [], length, get_or, arith, sym, subst, mul-le-mul_left, pow_pos, length-map, Fraction, ◌over◌, ◌+ℚ◌, ◌≤ℚ◌, ◌<ℚ◌, Iv, over_le_over, low_at, high_at, spread, cv, cv_rises, Holds, Aggregate, AreDeclarable, One, Point, partial_sums, total, GridEncloses, unit_of, AreDeclared, aggregate_of, aggregates_of, at_most_wider, plan_declared, plan_units, Plan, IsValid, Row, unit_budgets, total_budget, place_of, tail_budget, ask_budget, in_digits, DeclaresGiven, IsBelow, IsTailMean, IsAnswerTo, total_error, AreUnitGrids, IsTotalOf, AreOthersOf, Prints}
+use Rattle.dl_eval.proofs.Common.{ℕ, ◌≡◌, ◌+◌, ◌-◌, ◌*◌, ◌^◌, ◌<◌, ◌≤◌, List, [], length, get_or, arith, sym, subst, mul-le-mul_left, pow_pos, length-map, Fraction, ◌over◌, ◌+ℚ◌, ◌≤ℚ◌, ◌<ℚ◌, Iv, over_le_over, low_at, high_at, spread, cv, cv_rises, Holds, AreDeclarable, One, Point, partial_sums, total, GridEncloses, unit_of, AreDeclared, aggregates_of, at_most_wider, plan_declared, plan_units, Plan, IsValid, Row, unit_budgets, total_budget, place_of, tail_budget, ask_budget, in_digits, DeclaresGiven, IsBelow, IsTailMean, IsAnswerTo, total_error, AreUnitGrids, IsTotalOf, AreOthersOf, Prints, Loss, loss_of}
 use Rattle.std.proofs.Common.{◌⊎◌}
 use Rattle.std.proofs.Math.Nat.{mul-le-mul}
 use Rattle.dl_exact.proofs.Over.{over_lt}
@@ -25,7 +25,7 @@ joint_width S K u v x y g pos same p q =
     (mul-le-mul_left K (cv_rises S K K u x v y pos (omega arith) p q))
 
 pub is_joint : {B : ℕ} (plan : Plan) (grids : List (List (Iv B))) (unit others : List (Iv B)) (i at : ℕ) (mean : Iv B)
-    → ((us : List Aggregate) (j : ℕ) → AreDeclarable us → j < length us → GridEncloses unit (unit_of us j)
+    → ((us : List Loss) (j : ℕ) → AreDeclarable us → j < length us → GridEncloses unit (unit_of us j)
     → GridEncloses others (total (without us j))
     → Holds (partial_sums us (Joint j at)) (partial_sums us One) (mean.lo over 2 ^ B) (mean.hi over 2 ^ B))
     → mean.hi - mean.lo ≤ length unit * cv (2 ^ B) (length unit) (spread unit) (spread others)
@@ -33,7 +33,7 @@ pub is_joint : {B : ℕ} (plan : Plan) (grids : List (List (Iv B))) (unit others
     → AreOthersOf plan i others → IsJointOf plan i at mean
 is_joint {B} plan grids unit others i at mean holds width is inside valid units rest = record {
   holds = holds (aggregates_of plan) i (plan_units plan valid)
-      (omega (arith, inside, length-map plan.units aggregate_of))
+      (omega (arith, inside, length-map plan.units loss_of))
       (subst (λ g. GridEncloses g (unit_of (aggregates_of plan) i)) (sym is)
       (each_encloses plan.cells plan.units grids i inside units)) rest.encloses;
   narrow = omega (arith, mean.ordered, width, wide);
@@ -50,7 +50,7 @@ is_joint {B} plan grids unit others i at mean holds width is inside valid units 
 
 -- a unit has at most the whole of a total
 pub is_below : {B : ℕ} (plan : Plan) (grids : List (List (Iv B))) (unit others : List (Iv B)) (i at low : ℕ)
-    → ((us : List Aggregate) (j h : ℕ) → AreDeclared us → j < length us → GridEncloses unit (unit_of us j)
+    → ((us : List Loss) (j h : ℕ) → AreDeclared us → j < length us → GridEncloses unit (unit_of us j)
     → GridEncloses others (total (without us j))
     → AtMost (partial_sums us (Point at)) (partial_sums us One) (h over 2 ^ B) → low ≤ at * h)
     → unit ≡ get_or grids i [] → i < length plan.units → IsValid plan → AreUnitGrids plan.cells plan.units grids
@@ -60,7 +60,7 @@ pub is_below : {B : ℕ} (plan : Plan) (grids : List (List (Iv B))) (unit others
     → low ≤ at * h
 is_below plan grids unit others i at low below is inside valid units rest h most =
     below (aggregates_of plan) i h (plan_declared plan valid)
-    (omega (arith, inside, length-map plan.units aggregate_of))
+    (omega (arith, inside, length-map plan.units loss_of))
     (subst (λ g. GridEncloses g (unit_of (aggregates_of plan) i)) (sym is)
     (each_encloses plan.cells plan.units grids i inside units)) rest most
 

@@ -1,5 +1,5 @@
 -- The answer to an ask for a tail mean.
-use Rattle.dl_eval.proofs.Common.{ℕ, suc, ◌≡◌, ◌+◌, ◌-◌, ◌*◌, ◌^◌, ◌<◌, ◌≤◌, List, length, arith, inl, inr, sym, subst, div_ceil, mul-le-mul_left, mul-le-mul_right, pow_pos, div_ceil_times, Fraction, ◌over◌, ◌≤ℚ◌, ◌<ℚ◌, le_trans, lt_or_le, lt_not_le, div_ceil_least, Iv, over_le_over, low_at, high_at, spread, up_quotient, count_below, Holds, Aggregate, One, Mean, Tail, partial_sums, total, GridEncloses, AreDeclared, low_cdf, aggregates_of, at_least_wider, cdf_ends, plan_declared, plan_units, IsFirstAtLeast, Plan, IsValid, Row, total_budget, mean_budget, tail_budget, in_digits, few_cells, at_the_end, IsTailMean, DeclaresTail, IsTotalOf, IsMeanOf, Prints}
+use Rattle.dl_eval.proofs.Common.{ℕ, suc, ◌≡◌, ◌+◌, ◌-◌, ◌*◌, ◌^◌, ◌<◌, ◌≤◌, List, length, arith, inl, inr, sym, subst, div_ceil, mul-le-mul_left, mul-le-mul_right, pow_pos, div_ceil_times, Fraction, ◌over◌, ◌≤ℚ◌, ◌<ℚ◌, le_trans, lt_or_le, lt_not_le, div_ceil_least, Iv, over_le_over, low_at, high_at, spread, up_quotient, count_below, Holds, One, Mean, Tail, partial_sums, total, GridEncloses, AreDeclared, low_cdf, aggregates_of, at_least_wider, cdf_ends, plan_declared, plan_units, IsFirstAtLeast, Plan, IsValid, Row, total_budget, mean_budget, tail_budget, in_digits, few_cells, at_the_end, IsTailMean, DeclaresTail, IsTotalOf, IsMeanOf, Prints, Loss}
 use Rattle.dl_exact.proofs.BelowOne.{num_below}
 use Rattle.dl_grid.specs.Width.{up, tail_width}
 use Rattle.dl_model.specs.Measures.{IsQuantile}
@@ -69,8 +69,9 @@ tail_reached {B} plan g p found valid t =
 
 pub tail_answer : {B : ℕ} (plan : Plan) (g : List (Iv B)) (mean : Iv B) (p : Fraction) (d lo hi : ℕ) (row : Row)
     → ¬ IsFirstAtLeast (low_cdf (2 ^ B) (low_at g)) p (length g) (length g)
-    → ((us : List Aggregate) (q : ℕ) → AreDeclared us → GridEncloses g (total us)
-    → Holds (partial_sums us Mean) (partial_sums us One) (mean.lo over 2 ^ B) (mean.hi over 2 ^ B) → IsQuantile us q p
+    → ((us : List Loss) (q : ℕ) → AreDeclared us → GridEncloses g (total us)
+    → Holds (partial_sums us Mean) (partial_sums us One) (mean.lo over 2 ^ B) (mean.hi over 2 ^ B)
+    → IsQuantile (partial_sums us) q p
     → Holds (partial_sums us (Tail p q)) (partial_sums us One) (lo over 2 ^ B) (hi over 2 ^ B))
     → hi - lo ≤ tail_width p (mean.hi - mean.lo) (length g) (spread g)
     → IsLevel p → IsValid plan → IsTotalOf plan g → IsMeanOf plan mean → Prints (2 ^ B) lo hi d row

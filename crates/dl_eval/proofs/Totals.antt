@@ -1,5 +1,5 @@
 -- The grid of a total, from those of its units.
-use Rattle.dl_eval.proofs.Common.{ℕ, zero, suc, ◌≡◌, ◌^◌, ◌<◌, ◌≤◌, List, [], ◌∷◌, ◌++◌, length, get_or, map, arith, refl, sym, ap, subst, subst₂, ◌∙◌, Option, None, Some, IfSome, All, pow_pos, length-append, length-map, get_or_default, Iv, spread, low_at, high_at, cv, cv_rises, mapped, GridEncloses, unit_of, outcome_after, aggregate_of, aggregates_of, compound_of, unit_declared, plan_units, Plan, Asked, IsValidUnit, IsValid, unit_budget, unit_budgets, place_of, NamesUnit, IsTotal, AreSumsWithout, AreUnitGrids, AreShared, IsTotalOf, AreOthersOf, AreOthers, HasOthers, shared_unit}
+use Rattle.dl_eval.proofs.Common.{ℕ, zero, suc, ◌≡◌, ◌^◌, ◌<◌, ◌≤◌, List, [], ◌∷◌, ◌++◌, length, get_or, map, arith, refl, sym, ap, subst, subst₂, ◌∙◌, Option, None, Some, IfSome, All, pow_pos, length-append, length-map, get_or_default, Iv, spread, low_at, high_at, cv, cv_rises, mapped, GridEncloses, unit_of, outcome_after, aggregate_of, aggregates_of, compound_of, unit_declared, plan_units, Plan, Asked, IsValidUnit, IsValid, unit_budget, unit_budgets, place_of, NamesUnit, IsTotal, AreSumsWithout, AreUnitGrids, AreShared, IsTotalOf, AreOthersOf, AreOthers, HasOthers, shared_unit, loss_of}
 use Rattle.std.proofs.lemmas.Option.{IfSome_then}
 use Rattle.std.specs.Prelude.{Bool, false, IsTrue, option_map}
 use Rattle.std.specs.List.{fold, remove}
@@ -21,7 +21,7 @@ use Rattle.dl_eval.specs.Totals.{AreGridsOf}
 -- ---- what the grids enclose
 
 unit_there : (us : List UnitOfPlan) (i : ℕ) (u : UnitOfPlan) → i < length us
-    → unit_of (map aggregate_of us) i ≡ mapped (aggregate_of (get_or us i u))
+    → unit_of (map loss_of us) i ≡ mapped (aggregate_of (get_or us i u))
 unit_there [] i u inside = absurd (omega (arith, inside))
 unit_there (v ∷ us) zero u inside = refl
 unit_there (v ∷ us) (suc i) u inside = unit_there us i u (omega (arith, inside))
@@ -35,7 +35,7 @@ plain_encloses {B} g cells u valid none encloses =
 
 pub each_encloses : {B : ℕ} (cells : ℕ) (us : List UnitOfPlan) (grids : List (List (Iv B))) (i : ℕ) → i < length us
     → AreUnitGrids cells us grids
-    → GridEncloses (get_or grids i []) (unit_of (map aggregate_of us) i)
+    → GridEncloses (get_or grids i []) (unit_of (map loss_of us) i)
 each_encloses cells [] grids i inside each = absurd (omega (arith, inside))
 each_encloses cells (u ∷ us) grids i inside each =
     subst (λ F. GridEncloses (get_or grids i []) F) (sym (unit_there (u ∷ us) i u inside))
@@ -50,7 +50,7 @@ each_cells cells (u ∷ us) grids g i is inside each = ap (λ t. length t) is �
 enclose_each : {B : ℕ} (plan : Plan) (grids : List (List (Iv B))) → AreUnitGrids plan.cells plan.units grids
     → EncloseEach grids (aggregates_of plan)
 enclose_each plan grids each = record {
-  as_many = each.as_many ∙ sym (length-map plan.units aggregate_of);
+  as_many = each.as_many ∙ sym (length-map plan.units loss_of);
   each = λ i inside. each_encloses plan.cells plan.units grids i (omega (arith, inside, each.as_many)) each;
 }
 

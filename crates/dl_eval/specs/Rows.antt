@@ -4,10 +4,10 @@ use Rattle.std.specs.Prelude.{ℕ, ◌≡◌, ◌+◌, ◌-◌, ◌^◌, ◌<◌
 use Rattle.dl_limits.specs.Limits.{rarest_parts, bits_of}
 use Rattle.dl_exact.specs.Fraction.{Fraction, ◌over◌, ◌+ℚ◌}
 use Rattle.dl_model.specs.Series.{Holds, AtLeast, AtMost, Below}
-use Rattle.dl_model.specs.Program.{Quantity, One, Point, Cdf, Mean, Layer, Tail, Joint, partial_sums}
+use Rattle.dl_model.specs.Program.{Quantity, One, Point, Cdf, Mean, Layer, Tail, Joint}
 use Rattle.dl_model.specs.Measures.{IsQuantile, IsBracketed}
 use Rattle.dl_measures.specs.Ends.{IsTight}
-use Rattle.dl_model.specs.Plans.{aggregates_of}
+use Rattle.dl_model.specs.Plans.{declared}
 use Rattle.dl_plan.specs.declared.plan.Plan.{Plan}
 use Rattle.dl_plan.specs.declared.settings.Ask.{Ask}
 use Rattle.dl_plan.specs.declared.settings.Ask.TheVariants as asks
@@ -26,8 +26,7 @@ scale plan = 2 ^ bits_of plan.cells
 
 -- the quantity, given another one, lies from l to h: its declared value over that of the other
 abbrev pub DeclaresGiven : Plan → (given quantity : Quantity) → Fraction → Fraction → Type 0
-DeclaresGiven plan given quantity l h = Holds (partial_sums (aggregates_of plan) quantity)
-    (partial_sums (aggregates_of plan) given) l h
+DeclaresGiven plan given quantity l h = Holds (declared plan quantity) (declared plan given) l h
 
 -- the quantity lies from l to h
 abbrev pub Declares : Plan → Quantity → Fraction → Fraction → Type 0
@@ -35,21 +34,18 @@ Declares plan quantity l h = DeclaresGiven plan One quantity l h
 
 -- the tail mean at p lies from l to h, at each quantile that p has
 abbrev pub DeclaresTail : Plan → Fraction → Fraction → Fraction → Type 0
-DeclaresTail plan p l h = (q : ℕ) → IsQuantile (aggregates_of plan) q p
+DeclaresTail plan p l h = (q : ℕ) → IsQuantile (declared plan) q p
     → Declares plan (Tail p q) l h
 
 -- the quantity is at least v, at most v, or below v
 abbrev pub IsAtLeast : Plan → Quantity → Fraction → Type 0
-IsAtLeast plan quantity v = AtLeast (partial_sums (aggregates_of plan) quantity)
-    (partial_sums (aggregates_of plan) One) v
+IsAtLeast plan quantity v = AtLeast (declared plan quantity) (declared plan One) v
 
 abbrev pub IsAtMost : Plan → Quantity → Fraction → Type 0
-IsAtMost plan quantity v = AtMost (partial_sums (aggregates_of plan) quantity)
-    (partial_sums (aggregates_of plan) One) v
+IsAtMost plan quantity v = AtMost (declared plan quantity) (declared plan One) v
 
 abbrev pub IsBelow : Plan → Quantity → Fraction → Type 0
-IsBelow plan quantity v = Below (partial_sums (aggregates_of plan) quantity)
-    (partial_sums (aggregates_of plan) One) v
+IsBelow plan quantity v = Below (declared plan quantity) (declared plan One) v
 
 -- the distribution at the last cell of the grid
 abbrev pub at_the_end : Plan → Quantity
@@ -87,8 +83,8 @@ pub record IsBracket (plan : Plan) (p d : Fraction) (row : Row) : Type 0 where
   pub is_low : row.low ≡ Whole lo
   pub is_high : row.high ≡ bracket_end hi
   pub inside : MatchOption hi (lo ≤ plan.cells) (λ x. (lo ≤ x) × (x < plan.cells))
-  pub bracketed : IsBracketed (aggregates_of plan) lo hi p
-  pub tight : IsTight (aggregates_of plan) plan.cells lo hi p d
+  pub bracketed : IsBracketed (declared plan) lo hi p
+  pub tight : IsTight (declared plan) plan.cells lo hi p d
   pub beyond : hi ≡ None → IsBelow plan (at_the_end plan) (p +ℚ d)
 
 -- A tail mean at p in numbers. They come only where the distribution reaches p inside the grid.

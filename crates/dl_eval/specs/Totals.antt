@@ -6,10 +6,11 @@ use Rattle.dl_exact.specs.Fraction.{◌over◌}
 use Rattle.dl_iv.specs.declared.interval.Iv.{Iv}
 use Rattle.dl_grid.specs.Cells.{spread}
 use Rattle.dl_model.specs.Series.{Holds}
-use Rattle.dl_model.specs.Family.{total, GridEncloses, mapped}
-use Rattle.dl_model.specs.Program.{One, Mean, Joint, partial_sums}
+use Rattle.dl_model.specs.Family.{GridEncloses}
+use Rattle.dl_model.specs.Units.{mapped}
+use Rattle.dl_model.specs.Program.{One, Mean, Joint, partial_sums, total}
 use Rattle.dl_model.specs.Measures.{without}
-use Rattle.dl_model.specs.Plans.{aggregate_of, aggregates_of}
+use Rattle.dl_model.specs.Plans.{aggregate_of, loss_of, aggregates_of}
 use Rattle.dl_plan.specs.declared.plan.Unit.{Unit as UnitOfPlan}
 use Rattle.dl_plan.specs.declared.plan.Plan.{Plan}
 use Rattle.dl_plan.specs.declared.settings.Ask.{Ask}
@@ -41,8 +42,8 @@ pub record IsUnitGrid {B : ℕ} (H : ℕ) (u : UnitOfPlan) (g : List (Iv B)) : T
 
 -- the mean of a unit's outcomes, within its budget
 pub record IsUnitMean {B : ℕ} (H : ℕ) (u : UnitOfPlan) (mean : Iv B) : Type 0 where
-  pub holds : Holds (partial_sums (aggregate_of u ∷ []) Mean)
-      (partial_sums (aggregate_of u ∷ []) One) (mean.lo over 2 ^ B) (mean.hi over 2 ^ B)
+  pub holds : Holds (partial_sums (loss_of u ∷ []) Mean)
+      (partial_sums (loss_of u ∷ []) One) (mean.lo over 2 ^ B) (mean.hi over 2 ^ B)
   pub narrow : mean.hi ≤ mean.lo + unit_mean_budget (2 ^ B) H u
 
 -- one grid for each unit, in order

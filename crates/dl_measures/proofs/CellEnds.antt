@@ -1,5 +1,5 @@
 -- The ends of a distribution and of a layer, from those of the cells of an enclosing grid.
-use Rattle.dl_measures.proofs.Common.{◌≡◌, inl, inr, ℕ, suc, ◌+◌, ◌-◌, ◌<◌, ◌≤◌, min, arith, sym, ap, subst, subst₂, ◌∙◌, List, Some, fun_ext, cases_lt, Fraction, ◌over◌, count_below, below_grows, IsBound, AtMost, Holds, Aggregate, AreDeclarable, One, Cdf, Layer, score, partial_sums, total, Encloses, outcomes_rise, cdf_most_one, low_cdf, high_cdf}
+use Rattle.dl_measures.proofs.Common.{◌≡◌, inl, inr, ℕ, suc, ◌+◌, ◌-◌, ◌<◌, ◌≤◌, min, arith, sym, ap, subst, subst₂, ◌∙◌, List, Some, fun_ext, cases_lt, Fraction, ◌over◌, count_below, below_grows, IsBound, AtMost, Holds, Loss, AreDeclarable, One, Cdf, Layer, score, partial_sums, total, Encloses, outcomes_rise, cdf_most_one, low_cdf, high_cdf}
 use Rattle.std.proofs.Math.Nat.{min-eq_left, min-eq_right}
 use Rattle.dl_exact.specs.Sum.{sum_to, sum_below}
 use Rattle.dl_exact.proofs.Denominators.{over_one, over_rest}
@@ -10,7 +10,7 @@ use Rattle.dl_model.proofs.Scores.{cdf_points, layer_survivals}
 use Rattle.dl_model.proofs.Ends.{to_holds, below_holds, above_ends}
 use Rattle.dl_measures.specs.Ends.{low_layer, high_layer}
 
-pub cdf_ends : (us : List Aggregate) (S K : ℕ) (lo hi : ℕ → ℕ) → AreDeclarable us → 0 < S
+pub cdf_ends : (us : List Loss) (S K : ℕ) (lo hi : ℕ → ℕ) → AreDeclarable us → 0 < S
     → Encloses S K lo hi (total us)
     → (x : ℕ) → x < K → Holds (partial_sums us (Cdf x)) (partial_sums us One) (low_cdf S lo x) (high_cdf S hi x)
 cdf_ends us S K lo hi w s e x xk =
@@ -34,7 +34,7 @@ cdf_ends us S K lo hi w s e x xk =
       ],
     )
 
-pub layer_ends : (us : List Aggregate) (S K : ℕ) (lo hi : ℕ → ℕ) (v : Fraction) → AreDeclarable us → 0 < S
+pub layer_ends : (us : List Loss) (S K : ℕ) (lo hi : ℕ → ℕ) (v : Fraction) → AreDeclarable us → 0 < S
     → Encloses S K lo hi (total us)
     → IsBound (partial_sums us One) v → count_below K lo ≤ S → (L A : ℕ) → A + L ≤ K
     → Holds (partial_sums us (Layer (Some L) A)) (partial_sums us One) (low_layer S hi L A) (high_layer S lo L A)

@@ -21,9 +21,9 @@ pub use Rattle.dl_model.proofs.Bounded.{are_units, quantity_bounded}
 pub use Rattle.dl_model.proofs.Declared.{at_most_wider}
 pub use Rattle.dl_model.proofs.Ends.{cdf_most_one}
 pub use Rattle.dl_model.proofs.Outcomes.{outcomes_rise}
-pub use Rattle.dl_model.specs.Family.{Encloses, GridEncloses, total}
+pub use Rattle.dl_model.specs.Family.{Encloses, GridEncloses}
 pub use Rattle.dl_model.specs.Measures.{AreDeclared, IsBracketed, IsQuantile}
-pub use Rattle.dl_model.specs.Program.{Aggregate, AreDeclarable, Cdf, Layer, One, partial_sums, score}
+pub use Rattle.dl_model.specs.Program.{Loss, AreDeclarable, Cdf, Layer, One, partial_sums, score, total}
 pub use Rattle.dl_model.specs.Series.{AtLeast, AtMost, Holds, IsBound}
 pub use Rattle.dl_measures.specs.Brackets.{IsFirstAtLeast, IsFirstFound}
 pub use Rattle.dl_measures.specs.Ends.{IsTight, high_cdf, low_cdf}

@@ -1,15 +1,15 @@
 -- The bracket of a quantile from the ends of a grid's distribution, and how tight it is.
-use Rattle.dl_measures.proofs.Common.{◌≡◌, inl, inr, ℕ, suc, ◌+◌, ◌<◌, ◌≤◌, min, arith, sym, subst, ◌∙◌, List, Option, Some, Fraction, whole, ◌over◌, ◌+ℚ◌, ◌-ℚ◌, ◌≤ℚ◌, ◌<ℚ◌, over_same, over_le, lt_over, one_pos, le_trans, zero_le, AtMost, AtLeast, count_below, Aggregate, AreDeclarable, One, Cdf, partial_sums, total, Encloses, IsBracketed, low_cdf, high_cdf, IsTight, at_most_wider, below_grows, over_plus}
+use Rattle.dl_measures.proofs.Common.{◌≡◌, inl, inr, ℕ, suc, ◌+◌, ◌<◌, ◌≤◌, min, arith, sym, subst, ◌∙◌, List, Option, Some, Fraction, whole, ◌over◌, ◌+ℚ◌, ◌-ℚ◌, ◌≤ℚ◌, ◌<ℚ◌, over_same, over_le, lt_over, one_pos, le_trans, zero_le, AtMost, AtLeast, count_below, Loss, AreDeclarable, One, Cdf, partial_sums, total, Encloses, IsBracketed, low_cdf, high_cdf, IsTight, at_most_wider, below_grows, over_plus}
 use Rattle.std.proofs.Common.{mul-pos, mul-le-mul_right}
 use Rattle.dl_exact.proofs.Over.{over_sub}
 use Rattle.dl_exact.proofs.Laws.{by_two, plus_le_plus, lt_or_le, le_of_lt, sub_plus, plus_le_cancel}
 use Rattle.dl_model.proofs.Declared.{at_least_wider}
 use Rattle.dl_measures.proofs.CellEnds.{cdf_ends}
 
-pub bracket : (us : List Aggregate) (S K : ℕ) (lo hi : ℕ → ℕ) (p : Fraction) (a : ℕ) (b : Option ℕ) → AreDeclarable us
+pub bracket : (us : List Loss) (S K : ℕ) (lo hi : ℕ → ℕ) (p : Fraction) (a : ℕ) (b : Option ℕ) → AreDeclarable us
     → 0 < S → Encloses S K lo hi (total us)
     → a ≤ K → ((x : ℕ) → x < a → high_cdf S hi x <ℚ p) → ((x : ℕ) → b ≡ Some x → (x < K) × (p ≤ℚ low_cdf S lo x))
-    → IsBracketed us a b p
+    → IsBracketed (partial_sums us) a b p
 bracket us S K lo hi p a b w s e ak low high = record {
   before = λ x i. (high_cdf S hi x, low x (omega arith), (cdf_ends us S K lo hi w s e x (omega arith)).1);
   reached = λ x i. at_least_wider (partial_sums us (Cdf x)) (partial_sums us One) (low_cdf S lo x) p
@@ -32,7 +32,7 @@ spread_le S l h w s k =
     subst (λ t. min S h over S ≤ℚ t) (sym (over_plus l w S s)) (over_le _ _ _ _ s s (mul-le-mul_right S (omega arith)))
 
 -- p lies between the ends of the cdf at x, so both are within the spread of p
-near : (us : List Aggregate) (S K : ℕ) (lo hi : ℕ → ℕ) (p : Fraction) (x w : ℕ) → AreDeclarable us → 0 < S
+near : (us : List Loss) (S K : ℕ) (lo hi : ℕ → ℕ) (p : Fraction) (x w : ℕ) → AreDeclarable us → 0 < S
     → Encloses S K lo hi (total us)
     → x < K → p ≤ℚ high_cdf S hi x → low_cdf S lo x <ℚ p → count_below (suc x) hi ≤ count_below (suc x) lo + w
     → AtMost (partial_sums us (Cdf x)) (partial_sums us One) (p +ℚ w over S) × AtLeast (partial_sums us (Cdf x))
@@ -48,12 +48,13 @@ near us S K lo hi p x w i s e xk high low k =
 
 -- Where the high ends from lo on reach p, and the low ends before hi do not, each spread below w leaves the bracket
 -- tight within w.
-pub tight : (us : List Aggregate) (S K : ℕ) (lo hi : ℕ → ℕ) (p : Fraction) (a : ℕ) (b : Option ℕ) (w : ℕ)
+pub tight : (us : List Loss) (S K : ℕ) (lo hi : ℕ → ℕ) (p : Fraction) (a : ℕ) (b : Option ℕ) (w : ℕ)
     → AreDeclarable us
     → 0 < S → Encloses S K lo hi (total us)
     → ((x : ℕ) → a ≤ x → x < K → p ≤ℚ high_cdf S hi x)
     → ((x : ℕ) → x < K → ((y : ℕ) → b ≡ Some y → x < y) → low_cdf S lo x <ℚ p)
-    → ((x : ℕ) → x < K → count_below (suc x) hi ≤ count_below (suc x) lo + w) → IsTight us K a b p (w over S)
+    → ((x : ℕ) → x < K → count_below (suc x) hi ≤ count_below (suc x) lo + w)
+    → IsTight (partial_sums us) K a b p (w over S)
 tight us S K lo hi p a b w i s e high low spread x ax xk before =
     near us S K lo hi p x w i s e xk (high x ax xk) (low x xk before) (spread x xk)
 

@@ -1,5 +1,5 @@
 -- The means of layers, from the ends that a grid gives.
-use Rattle.dl_measures.proofs.Common.{ℕ, suc, ◌≡◌, inl, inr, ◌+◌, ◌-◌, ◌*◌, ◌^◌, ◌<◌, ◌≤◌, min, List, length, arith, sym, ap, subst, ◌∙◌, Option, Some, None, mul-le-mul, mul-le-mul_right, fun_ext, pow_pos, cases_lt, whole, ◌over◌, ◌+ℚ◌, ◌*ℚ◌, ◌≤ℚ◌, over_le, over_same, one_pos, zero_le, Iv, low_at, high_at, spread, IsGrid, cells_fit, scale_of, one_fits, AtLeast, AtMost, Holds, count_below, Aggregate, One, Layer, score, partial_sums, total, GridEncloses, AreDeclared, at_most_wider, outcomes_rise, over_plus, below_more, below_bound, are_units, quantity_bounded}
+use Rattle.dl_measures.proofs.Common.{ℕ, suc, ◌≡◌, inl, inr, ◌+◌, ◌-◌, ◌*◌, ◌^◌, ◌<◌, ◌≤◌, min, List, length, arith, sym, ap, subst, ◌∙◌, Option, Some, None, mul-le-mul, mul-le-mul_right, fun_ext, pow_pos, cases_lt, whole, ◌over◌, ◌+ℚ◌, ◌*ℚ◌, ◌≤ℚ◌, over_le, over_same, one_pos, zero_le, Iv, low_at, high_at, spread, IsGrid, cells_fit, scale_of, one_fits, AtLeast, AtMost, Holds, count_below, Loss, One, Layer, score, partial_sums, total, GridEncloses, AreDeclared, at_most_wider, outcomes_rise, over_plus, below_more, below_bound, are_units, quantity_bounded}
 use Rattle.dl_exact.proofs.Laws.{zero_times}
 use Rattle.dl_model.specs.Series.{plus}
 use Rattle.dl_model.specs.Program.{Mean}
@@ -23,7 +23,7 @@ abbrev pub high_units : {B : ℕ} → List (Iv B) → ℕ → ℕ → ℕ
 high_units {B} cells limit attachment = count_below limit
     (λ i. 2 ^ B - count_below (suc (attachment + i)) (low_at cells))
 
-pub with_limit : {B : ℕ} (cells : List (Iv B)) (us : List Aggregate) (limit attachment : ℕ) → IsGrid cells
+pub with_limit : {B : ℕ} (cells : List (Iv B)) (us : List Loss) (limit attachment : ℕ) → IsGrid cells
     → AreDeclared us → GridEncloses cells (total us)
     → attachment + limit ≤ length cells
     → Holds (partial_sums us (Layer (Some limit) attachment)) (partial_sums us One)
@@ -43,7 +43,7 @@ limit_width {B} cells limit attachment =
     )
 
 -- what a layer below leaves of the mean of the total
-excess_low : (us : List Aggregate) (attachment S l h m n : ℕ) → 0 < S → AreDeclared us
+excess_low : (us : List Loss) (attachment S l h m n : ℕ) → 0 < S → AreDeclared us
     → Holds (partial_sums us Mean) (partial_sums us One) (m over S) (n over S)
     → Holds (partial_sums us (Layer (Some attachment) 0)) (partial_sums us One) (l over S) (h over S)
     → AtLeast (partial_sums us (Layer None attachment)) (partial_sums us One) ((m - h) over S)
@@ -61,7 +61,7 @@ excess_low us attachment S l h m n s d mean layer = elim (cases_lt m h) [
     none : (k : ℕ) → k ≡ 0 → k over S ≡ whole 0
     none k e = over_same k S 0 1 s one_pos (omega (arith, ap (λ t. t * 1) e))
 
-excess_high : (us : List Aggregate) (attachment S l h m n : ℕ) → 0 < S → AreDeclared us
+excess_high : (us : List Loss) (attachment S l h m n : ℕ) → 0 < S → AreDeclared us
     → Holds (partial_sums us Mean) (partial_sums us One) (m over S) (n over S)
     → Holds (partial_sums us (Layer (Some attachment) 0)) (partial_sums us One) (l over S) (h over S)
     → AtMost (partial_sums us (Layer None attachment)) (partial_sums us One) ((n - l) over S)
@@ -79,7 +79,7 @@ excess_high us attachment S l h m n s d mean layer =
     ((n - l) over S +ℚ l over S) mean.1 enough))
     layer.0
 
-pub no_limit : {B : ℕ} (cells : List (Iv B)) (us : List Aggregate) (attachment m n : ℕ) → IsGrid cells → AreDeclared us
+pub no_limit : {B : ℕ} (cells : List (Iv B)) (us : List Loss) (attachment m n : ℕ) → IsGrid cells → AreDeclared us
     → GridEncloses cells (total us)
     → attachment ≤ length cells → Holds (partial_sums us Mean) (partial_sums us One) (m over 2 ^ B) (n over 2 ^ B)
     → Holds (partial_sums us (Layer None attachment)) (partial_sums us One)
@@ -146,7 +146,7 @@ mean_fits {B} cells attachment i s t d grid inside e h =
 
 module _ {B : ℕ} (cells : List (Iv B)) (limit : Option ℕ) (attachment k lo hi : ℕ)
     (low : lo ≡ low_units cells k attachment) (high : hi ≡ high_units cells k attachment) (is : limit ≡ Some k) where
-  pub some_holds : (us : List Aggregate) → IsGrid cells → AreDeclared us → GridEncloses cells (total us)
+  pub some_holds : (us : List Loss) → IsGrid cells → AreDeclared us → GridEncloses cells (total us)
       → edge_of limit attachment ≤ length cells
       → Holds (partial_sums us (Layer limit attachment)) (partial_sums us One) (lo over 2 ^ B) (hi over 2 ^ B)
   some_holds us grid d e inside = rw (is, low, high) (with_limit cells us k attachment grid d e (rw is at inside))
@@ -160,7 +160,7 @@ module _ {B : ℕ} (cells : List (Iv B)) (limit : Option ℕ) (attachment k lo h
 module _ {B : ℕ} (cells : List (Iv B)) (limit : Option ℕ) (attachment lo hi l h m n : ℕ)
     (low : l ≡ low_units cells attachment 0) (high : h ≡ high_units cells attachment 0) (left_low : lo ≡ m - h)
     (left_high : hi ≡ n - l) (is : limit ≡ None) where
-  pub none_holds : (us : List Aggregate) → IsGrid cells → AreDeclared us → GridEncloses cells (total us)
+  pub none_holds : (us : List Loss) → IsGrid cells → AreDeclared us → GridEncloses cells (total us)
       → edge_of limit attachment ≤ length cells
       → (limit ≡ None → Holds (partial_sums us Mean) (partial_sums us One) (m over 2 ^ B) (n over 2 ^ B))
       → Holds (partial_sums us (Layer limit attachment)) (partial_sums us One) (lo over 2 ^ B) (hi over 2 ^ B)

@@ -1,5 +1,5 @@
 -- From the sums of a walk over the grid to the bracket of a quantile.
-use Rattle.dl_measures.proofs.Common.{ℕ, suc, ◌≡◌, inl, inr, ◌+◌, ◌*◌, ◌^◌, ◌<◌, ◌≤◌, min, List, length, arith, refl, sym, ap, subst, ◌∙◌, Option, Some, None, mul-le-mul, mul-le-mul_right, pow_pos, cases_lt, Fraction, whole, ◌over◌, ◌≤ℚ◌, ◌<ℚ◌, over_self, over_le, over_lt, le_trans, Iv, low_at, high_at, spread, IsGrid, scale_of, one_fits, count_below, Aggregate, AreDeclarable, One, total, Encloses, GridEncloses, IsQuantile, IsBracketed, AreDeclared, low_cdf, high_cdf, IsTight, below_nothing, below_grows, are_units, quantity_bounded, IsFirstAtLeast, IsFirstFound}
+use Rattle.dl_measures.proofs.Common.{ℕ, suc, ◌≡◌, inl, inr, ◌+◌, ◌*◌, ◌^◌, ◌<◌, ◌≤◌, min, List, length, arith, refl, sym, ap, subst, ◌∙◌, Option, Some, None, mul-le-mul, mul-le-mul_right, pow_pos, cases_lt, Fraction, whole, ◌over◌, ◌≤ℚ◌, ◌<ℚ◌, over_self, over_le, over_lt, le_trans, Iv, low_at, high_at, spread, IsGrid, scale_of, one_fits, count_below, Loss, AreDeclarable, One, total, Encloses, GridEncloses, IsQuantile, IsBracketed, AreDeclared, low_cdf, high_cdf, IsTight, below_nothing, below_grows, are_units, quantity_bounded, IsFirstAtLeast, IsFirstFound, partial_sums}
 use Rattle.dl_exact.proofs.BelowOne.{num_below}
 use Rattle.std.proofs.Common.{add-one}
 use Rattle.std.proofs.Math.Nat.{min-eq_left, min-eq_right, min-le_right}
@@ -32,10 +32,10 @@ module _ (S c : ℕ) (p : Fraction) (s : 0 < S) where
 
 -- ---- what the two first cells say
 
-module _ (us : List Aggregate) (S K : ℕ) (lo hi : ℕ → ℕ) (p : Fraction) (a : ℕ) (s : 0 < S)
+module _ (us : List Loss) (S K : ℕ) (lo hi : ℕ → ℕ) (p : Fraction) (a : ℕ) (s : 0 < S)
     (e : Encloses S K lo hi (total us)) (w : AreDeclarable us)
     (first : IsFirstAtLeast (high_cdf S hi) p K a) where
-  pub bracketed : (b : Option ℕ) → IsFirstFound (low_cdf S lo) p K b → IsBracketed us a b p
+  pub bracketed : (b : Option ℕ) → IsFirstFound (low_cdf S lo) p K b → IsBracketed (partial_sums us) a b p
   bracketed b found = bracket us S K lo hi p a b w s e first.within first.before (there b found)
     where
       there : (b : Option ℕ) → IsFirstFound (low_cdf S lo) p K b → (x : ℕ) → b ≡ Some x
@@ -48,7 +48,7 @@ module _ (us : List Aggregate) (S K : ℕ) (lo hi : ℕ → ℕ) (p : Fraction) 
 
   pub tightened : (b : Option ℕ) (spread : ℕ) → IsFirstFound (low_cdf S lo) p K b
       → ((x : ℕ) → x < K → count_below (suc x) hi ≤ count_below (suc x) lo + spread)
-      → IsTight us K a b p (spread over S)
+      → IsTight (partial_sums us) K a b p (spread over S)
   tightened b spread found narrow =
       tight us S K lo hi p a b spread w s e (λ x from inside.
       le_trans _ _ _ (first.reached (omega arith)) (high_rises S hi a x s from)) (short b found) narrow
@@ -58,8 +58,8 @@ module _ (us : List Aggregate) (S K : ℕ) (lo hi : ℕ → ℕ) (p : Fraction) 
       short None f x inside before = f.before x inside
       short (Some h) f x inside before = f.1.before x (before h refl)
 
-pub holds_quantile : (us : List Aggregate) (p : Fraction) (a q : ℕ) (b : Option ℕ) → AreDeclared us → IsQuantile us q p
-    → IsBracketed us a b p
+pub holds_quantile : (us : List Loss) (p : Fraction) (a q : ℕ) (b : Option ℕ) → AreDeclared us
+    → IsQuantile (partial_sums us) q p → IsBracketed (partial_sums us) a b p
     → (a ≤ q) × ((x : ℕ) → b ≡ Some x → q ≤ x)
 holds_quantile us p a q b d is held =
     let bound = quantity_bounded us One d tt in
@@ -196,17 +196,18 @@ module _ {B : ℕ} (cells : List (Iv B)) (p : Fraction) (den goal x a low high :
 module _ {B : ℕ} (cells : List (Iv B)) (p : Fraction) (a : ℕ) (b : Option ℕ)
     (first : IsFirstAtLeast (high_cdf (2 ^ B) (high_at cells)) p (length cells) a)
     (found : IsFirstFound (low_cdf (2 ^ B) (low_at cells)) p (length cells) b) where
-  pub is_bracket : (us : List Aggregate) → AreDeclarable us → GridEncloses cells (total us) → IsBracketed us a b p
+  pub is_bracket : (us : List Loss) → AreDeclarable us → GridEncloses cells (total us)
+      → IsBracketed (partial_sums us) a b p
   is_bracket us w e = bracketed us (2 ^ B) (length cells) (low_at cells) (high_at cells) p a
       (pow_pos B) e w first b found
 
-  pub is_tight : (us : List Aggregate) → AreDeclarable us → GridEncloses cells (total us)
-      → IsTight us (length cells) a b p (spread cells over 2 ^ B)
+  pub is_tight : (us : List Loss) → AreDeclarable us → GridEncloses cells (total us)
+      → IsTight (partial_sums us) (length cells) a b p (spread cells over 2 ^ B)
   is_tight us w e = tightened us (2 ^ B) (length cells) (low_at cells) (high_at cells) p a (pow_pos B) e w first b
       (spread cells) found (λ x i. apart cells (suc x))
 
-  pub is_around : (us : List Aggregate) (q : ℕ) → AreDeclared us → GridEncloses cells (total us) → IsQuantile us q p
-      → (a ≤ q) × ((x : ℕ) → b ≡ Some x → q ≤ x)
+  pub is_around : (us : List Loss) (q : ℕ) → AreDeclared us → GridEncloses cells (total us)
+      → IsQuantile (partial_sums us) q p → (a ≤ q) × ((x : ℕ) → b ≡ Some x → q ≤ x)
   is_around us q d e is = holds_quantile us p a q b d is (is_bracket us (are_units us d) e)
 
 -- ---- sizes

@@ -1,5 +1,5 @@
 -- From the excess over the low end of a bracket to the tail mean.
-use Rattle.dl_measures.proofs.Common.{ℕ, suc, ◌≡◌, inl, inr, ◌+◌, ◌-◌, ◌*◌, ◌/◌, ◌^◌, ◌<◌, ◌≤◌, min, List, length, arith, sym, ap, ap₂, subst, subst₂, ◌∙◌, Some, None, div_ceil, mul-le-mul, mul-le-mul_right, pow_pos, cases_lt, Fraction, whole, ◌over◌, ◌+ℚ◌, ◌-ℚ◌, ◌*ℚ◌, ◌≤ℚ◌, ◌<ℚ◌, over_self, over_same, over_le, over_lt, one_pos, le_trans, lt_not_le, Iv, low_at, high_at, spread, IsGrid, scale_of, one_fits, IsBound, AtMost, AtLeast, Holds, count_below, Aggregate, One, Cdf, Layer, partial_sums, IsQuantile, AreDeclared, low_cdf, high_cdf, IsTight, at_most_wider, are_units, quantity_bounded, IsFirstAtLeast, IsFirstFound}
+use Rattle.dl_measures.proofs.Common.{ℕ, suc, ◌≡◌, inl, inr, ◌+◌, ◌-◌, ◌*◌, ◌/◌, ◌^◌, ◌<◌, ◌≤◌, min, List, length, arith, sym, ap, ap₂, subst, subst₂, ◌∙◌, Some, None, div_ceil, mul-le-mul, mul-le-mul_right, pow_pos, cases_lt, Fraction, whole, ◌over◌, ◌+ℚ◌, ◌-ℚ◌, ◌*ℚ◌, ◌≤ℚ◌, ◌<ℚ◌, over_self, over_same, over_le, over_lt, one_pos, le_trans, lt_not_le, Iv, low_at, high_at, spread, IsGrid, scale_of, one_fits, IsBound, AtMost, AtLeast, Holds, count_below, Loss, One, Cdf, Layer, partial_sums, IsQuantile, AreDeclared, low_cdf, high_cdf, IsTight, at_most_wider, are_units, quantity_bounded, IsFirstAtLeast, IsFirstFound}
 use Rattle.dl_exact.proofs.BelowOne.{num_below}
 use Rattle.std.proofs.Common.{div-add-mod', get_or}
 use Rattle.std.proofs.Math.Nat.{mul-le-mul_left, mul-pos, div-mul-le_self, div-le_self, mod-lt, add-sub_of_le}
@@ -92,15 +92,15 @@ module _ (S k d a : ℕ) (s : 0 < S) (pos : 0 < k) where
 -- ---- the ends hold the tail mean
 
 -- no tail mean is below the quantile
-from_the_quantile : (us : List Aggregate) (p : Fraction) (a q : ℕ) → p <ℚ whole 1 → a ≤ q
+from_the_quantile : (us : List Loss) (p : Fraction) (a q : ℕ) → p <ℚ whole 1 → a ≤ q
     → AtLeast (partial_sums us (Tail p q)) (partial_sums us One) (whole a)
 from_the_quantile us p a q below from N u bound =
     le_trans _ _ _ (times_le_both _ _ _ _ (whole_le a q from) (le_refl (partial_sums us One N)))
     (le_trans _ _ _ (subst (λ t. whole q *ℚ partial_sums us One N ≤ℚ t) (sym (tail_excess us p q N below))
     (le_plus _ _)) (bound N))
 
-module _ (us : List Aggregate) (p : Fraction) (S a b q w l h : ℕ) (s : 0 < S) (declared : AreDeclared us)
-    (below : p <ℚ whole 1) (is : IsQuantile us q p) (from : a ≤ q) (to : q ≤ b)
+module _ (us : List Loss) (p : Fraction) (S a b q w l h : ℕ) (s : 0 < S) (declared : AreDeclared us)
+    (below : p <ℚ whole 1) (is : IsQuantile (partial_sums us) q p) (from : a ≤ q) (to : q ≤ b)
     (near : (x : ℕ) → a ≤ x → x < b → AtLeast (partial_sums us (Cdf x)) (partial_sums us One) (p -ℚ w over S))
     (excess : Holds (partial_sums us (Layer None a)) (partial_sums us One) (l over S) (h over S)) where
   weight : (u : Fraction) × IsBound (partial_sums us One) u
@@ -219,7 +219,7 @@ in_order {B} cells p a b grid high low = elim (cases_lt b a) [
         both l s h p q = omega arith
 
 -- inside its bracket the distribution is near p
-pub near_level : (us : List Aggregate) (K a b : ℕ) (p d : Fraction) → b ≤ K → IsTight us K a (Some b) p d
+pub near_level : (us : List Loss) (K a b : ℕ) (p d : Fraction) → b ≤ K → IsTight (partial_sums us) K a (Some b) p d
     → (x : ℕ) → a ≤ x → x < b → AtLeast (partial_sums us (Cdf x)) (partial_sums us One) (p -ℚ d)
 near_level us K a b p d inside tight x from to =
     (tight x from (omega arith) (λ y e. subst (λ t. x < t) (same y e) to)).1

@@ -1,10 +1,10 @@
 -- What an enclosing grid weighs, and how wide its ends are.
-use Rattle.dl_measures.proofs.Common.{◌≡◌, inl, inr, ℕ, suc, zero, ◌+◌, ◌-◌, ◌*◌, ◌<◌, ◌≤◌, min, arith, List, cases_lt, Fraction, whole, ◌<ℚ◌, over_lt, one_pos, IsBound, count_below, Aggregate, AreDeclarable, One, Cdf, score, partial_sums, total, Encloses, low_cdf, outcomes_rise, cdf_most_one}
+use Rattle.dl_measures.proofs.Common.{◌≡◌, inl, inr, ℕ, suc, zero, ◌+◌, ◌-◌, ◌*◌, ◌<◌, ◌≤◌, min, arith, List, cases_lt, Fraction, whole, ◌<ℚ◌, over_lt, one_pos, IsBound, count_below, Loss, AreDeclarable, One, Cdf, score, partial_sums, total, Encloses, low_cdf, outcomes_rise, cdf_most_one}
 use Rattle.dl_model.proofs.Alike.{not_both}
 use Rattle.dl_measures.proofs.CellEnds.{cdf_ends}
 
 -- the low ends of an enclosing grid add up to at most S
-pub mass : (us : List Aggregate) (S K : ℕ) (lo hi : ℕ → ℕ) (e : Fraction) (k : ℕ) → AreDeclarable us → 0 < S
+pub mass : (us : List Loss) (S K : ℕ) (lo hi : ℕ → ℕ) (e : Fraction) (k : ℕ) → AreDeclarable us → 0 < S
     → Encloses S K lo hi (total us)
     → IsBound (partial_sums us One) e → whole 0 <ℚ partial_sums us One k → (n : ℕ) → n ≤ K → count_below n lo ≤ S
 unfolding count_below

@@ -1,10 +1,10 @@
 -- What a grid that encloses a total gives for its distribution, its layers and its brackets: ends
 -- in units of 1 / scale, lo and hi those of the cells.
-use Rattle.std.specs.Prelude.{ℕ, suc, ◌≡◌, ◌<◌, ◌≤◌, ◌+◌, ◌-◌, min, Option, Some, List}
+use Rattle.std.specs.Prelude.{ℕ, suc, ◌≡◌, ◌<◌, ◌≤◌, ◌+◌, ◌-◌, min, Option, Some}
 use Rattle.dl_exact.specs.Fraction.{Fraction, ◌over◌, ◌+ℚ◌, ◌-ℚ◌}
 use Rattle.dl_exact.specs.Count.{count_below}
-use Rattle.dl_model.specs.Series.{AtMost, AtLeast}
-use Rattle.dl_model.specs.Program.{Aggregate, One, Cdf, partial_sums}
+use Rattle.dl_model.specs.Series.{Series, AtMost, AtLeast}
+use Rattle.dl_model.specs.Program.{Quantity, One, Cdf}
 
 -- the low end of the distribution at x: the sum of the low ends up to x
 abbrev pub low_cdf : (scale : ℕ) → (lo : ℕ → ℕ) → ℕ → Fraction
@@ -26,7 +26,8 @@ high_layer scale lo limit attachment =
     count_below limit (λ i. scale - count_below (suc (attachment + i)) lo) over scale
 
 -- inside the bracket and the first cells the distribution is within d of p
-abbrev pub IsTight : List Aggregate → (cells lo : ℕ) → Option ℕ → (p d : Fraction) → Type 0
-IsTight units cells lo hi p d = (x : ℕ) → lo ≤ x → x < cells → ((y : ℕ) → hi ≡ Some y → x < y)
-    → AtMost (partial_sums units (Cdf x)) (partial_sums units One) (p +ℚ d) × AtLeast
-    (partial_sums units (Cdf x)) (partial_sums units One) (p -ℚ d)
+abbrev pub IsTight : (Quantity → Series) → (cells lo : ℕ) → Option ℕ → (p d : Fraction) → Type 0
+IsTight declares cells lo hi p d = (x : ℕ) → lo ≤ x → x < cells
+    → ((y : ℕ) → hi ≡ Some y → x < y)
+    → AtMost (declares (Cdf x)) (declares One) (p +ℚ d) × AtLeast (declares (Cdf x)) (declares One)
+    (p -ℚ d)

@@ -5,8 +5,8 @@ ghost use Rattle.dl_exact.specs.Fraction.{◌over◌};
 ghost use Rattle.dl_grid.specs.Cells.{low_at, high_at, spread};
 ghost use Rattle.dl_model.specs.Series.{Holds};
 ghost use Rattle.dl_exact.specs.Count.{count_below};
-ghost use Rattle.dl_model.specs.Program.{Aggregate, One, Mean, Layer, partial_sums};
-ghost use Rattle.dl_model.specs.Family.{total, GridEncloses};
+ghost use Rattle.dl_model.specs.Program.{Loss, One, Mean, Layer, partial_sums, total};
+ghost use Rattle.dl_model.specs.Family.{GridEncloses};
 ghost use Rattle.dl_model.specs.Measures.{AreDeclared};
 ghost use Rattle.dl_grid.specs.Width.{layer_width};
 ghost use Rattle.dl_plan.specs.Horizon.{edge_of};
@@ -54,7 +54,7 @@ fn finite_layer<const B: u32>(g: &Grid<B>, limit: u32, attach: u32) -> Iv<B>
 /// and one without a limit begins there.
 pub fn layer_mean<const B: u32>(g: &Grid<B>, limit: Option<u32>, attach: u32, mean: Iv<B>) -> Iv<B>
     requires { edge_of limit attach ≤ length g.now }
-    ensures holds { (us : List Aggregate) → AreDeclared us → GridEncloses g.now (total us)
+    ensures holds { (us : List Loss) → AreDeclared us → GridEncloses g.now (total us)
         → (limit ≡ None
         → Holds (partial_sums us Mean) (partial_sums us One) (mean.entry.lo over 2 ^ B)
         (mean.entry.hi over 2 ^ B))

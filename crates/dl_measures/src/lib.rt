@@ -3,9 +3,9 @@
 //! follows from the spread of the grid. Each is one walk over the grid, or two, and takes no
 //! memory.
 //!
-//! The clauses speak of every list of units that can be declared (`AreDeclared`). The units of every
-//! valid plan can, `aggregates_of plan`, whatever their counts and aggregate clauses, by
-//! `dl_model::plans::law_declared`.
+//! The clauses speak of every list of losses that can be declared (`AreDeclared`). Those of the
+//! units of every valid plan can, `aggregates_of plan`, whatever their counts and aggregate
+//! clauses, by `dl_model::plans::law_declared`.
 #![tactic(auto)]
 
 pub mod laws;

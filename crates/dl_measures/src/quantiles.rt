@@ -3,8 +3,8 @@
 ghost use Rattle.std.specs.Prelude.{◌≡◌, ℕ, ◌^◌, ◌<◌, ◌≤◌, List, length, Some};
 ghost use Rattle.dl_exact.specs.Fraction.{whole, ◌over◌, ◌<ℚ◌};
 ghost use Rattle.dl_grid.specs.Cells.{low_at, high_at, spread};
-ghost use Rattle.dl_model.specs.Program.{Aggregate, AreDeclarable};
-ghost use Rattle.dl_model.specs.Family.{total, GridEncloses};
+ghost use Rattle.dl_model.specs.Program.{Loss, AreDeclarable, total, partial_sums};
+ghost use Rattle.dl_model.specs.Family.{GridEncloses};
 ghost use Rattle.dl_model.specs.Measures.{IsQuantile, IsBracketed, AreDeclared};
 ghost use Rattle.dl_measures.specs.Ends.{low_cdf, high_cdf, IsTight};
 ghost use Rattle.dl_measures.specs.Brackets.{IsFirstAtLeast, IsFirstFound};
@@ -30,12 +30,12 @@ pub fn quantile<const B: u32>(g: &Grid<B>, p: Frac) -> Bracket
     requires small { p.den ≤ 1000000000 }
     ensures lo { IsFirstAtLeast (high_cdf (2 ^ B) (high_at g.now)) p (length g.now) result.lo }
     ensures hi { IsFirstFound (low_cdf (2 ^ B) (low_at g.now)) p (length g.now) result.hi }
-    ensures holds { (us : List Aggregate) → AreDeclarable us → GridEncloses g.now (total us)
-        → IsBracketed us result.lo result.hi p }
-    ensures tight { (us : List Aggregate) → AreDeclarable us → GridEncloses g.now (total us)
-        → IsTight us (length g.now) result.lo result.hi p (spread g.now over 2 ^ B) }
-    ensures quantile { (us : List Aggregate) (q : ℕ) → AreDeclared us
-        → GridEncloses g.now (total us) → IsQuantile us q p
+    ensures holds { (us : List Loss) → AreDeclarable us → GridEncloses g.now (total us)
+        → IsBracketed (partial_sums us) result.lo result.hi p }
+    ensures tight { (us : List Loss) → AreDeclarable us → GridEncloses g.now (total us)
+        → IsTight (partial_sums us) (length g.now) result.lo result.hi p (spread g.now over 2 ^ B) }
+    ensures quantile { (us : List Loss) (q : ℕ) → AreDeclared us
+        → GridEncloses g.now (total us) → IsQuantile (partial_sums us) q p
         → (result.lo ≤ q) × ((x : ℕ) → result.hi ≡ Some x → q ≤ x) }
 {
     let cells = g.cells();

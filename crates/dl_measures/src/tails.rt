@@ -5,8 +5,8 @@ ghost use Rattle.std.specs.Int.{div_ceil};
 ghost use Rattle.dl_exact.specs.Fraction.{whole, ◌over◌, ◌<ℚ◌};
 ghost use Rattle.dl_grid.specs.Cells.{low_at, spread};
 ghost use Rattle.dl_model.specs.Series.{Holds};
-ghost use Rattle.dl_model.specs.Program.{Aggregate, One, Mean, Tail, partial_sums};
-ghost use Rattle.dl_model.specs.Family.{total, GridEncloses};
+ghost use Rattle.dl_model.specs.Program.{Loss, One, Mean, Tail, partial_sums, total};
+ghost use Rattle.dl_model.specs.Family.{GridEncloses};
 ghost use Rattle.dl_model.specs.Measures.{IsQuantile, AreDeclared};
 ghost use Rattle.dl_measures.specs.Ends.{low_cdf};
 ghost use Rattle.dl_measures.specs.Brackets.{IsFirstFound};
@@ -44,9 +44,9 @@ pub fn tail_mean<const B: u32>(g: &Grid<B>, p: Frac, mean: Iv<B>) -> Option<Iv<B
     requires mean { mean.hi ≤ 2 ^ 97 }
     ensures none { IsNone result ↔ IsFirstFound (low_cdf (2 ^ B) (low_at g.now)) p
         (length g.now) None }
-    ensures holds { (us : List Aggregate) (q : ℕ) → AreDeclared us → GridEncloses g.now (total us)
+    ensures holds { (us : List Loss) (q : ℕ) → AreDeclared us → GridEncloses g.now (total us)
         → Holds (partial_sums us Mean) (partial_sums us One) (mean.entry.lo over 2 ^ B)
-        (mean.entry.hi over 2 ^ B) → IsQuantile us q p
+        (mean.entry.hi over 2 ^ B) → IsQuantile (partial_sums us) q p
         → IfSome result
         (λ r. Holds (partial_sums us (Tail p q)) (partial_sums us One) (r.lo over 2 ^ B)
         (r.hi over 2 ^ B)) }

@@ -1,8 +1,8 @@
 -- Series with the same bounds.
-use Rattle.dl_model.proofs.Common.{inl, inr, ℕ, ◌+◌, max, refl, sym, ap, ap₂, subst, subst₂, ◌∙◌, le-max_left, le-max_right, Fraction, ◌over◌, ◌+ℚ◌, ◌*ℚ◌, ◌/ℚ◌, ◌≤ℚ◌, ◌<ℚ◌, whole, sum_to, Series, IsBound, AtMost, AtLeast, Below, Rises, plus, times, SameValue, convolve, Family, SameCells, Encloses, lt_not_le, ring, times_comm, le_refl, le_trans, lt_or_le, zero_le, plus_le_both, plus_times, times_left_comm, times_plus, one_times, lt_gap, times_le_cancel, le_div, div_times, times_pos, div_pos, times_le_both}
+use Rattle.dl_model.proofs.Common.{inl, inr, ℕ, ◌+◌, max, refl, sym, ap, ap₂, subst, subst₂, ◌∙◌, le-max_left, le-max_right, Fraction, ◌over◌, ◌+ℚ◌, ◌*ℚ◌, ◌/ℚ◌, ◌≤ℚ◌, ◌<ℚ◌, whole, sum_to, Series, IsBound, AtMost, AtLeast, Below, Rises, times, SameValue, convolve, Family, SameCells, Encloses, lt_not_le, ring, times_comm, le_refl, le_trans, lt_or_le, zero_le, plus_le_both, plus_times, times_left_comm, times_plus, one_times, lt_gap, times_le_cancel, le_div, div_times, times_pos, div_pos, times_le_both, ◌≡◌}
 use Rattle.dl_model.specs.Series.{SameBounds}
-use Rattle.dl_exact.proofs.Laws.{lt_of_le_of_lt}
-use Rattle.dl_model.proofs.Declared.{rises_to, at_most_times, at_least_times}
+use Rattle.dl_exact.proofs.Laws.{lt_of_le_of_lt, le_of_eq}
+use Rattle.dl_model.proofs.Declared.{self_holds, rises_to, at_most_times, at_least_times}
 use Rattle.dl_model.proofs.Complements.{no_descent}
 use Rattle.dl_model.proofs.Cauchy.{cauchy_low, cauchy_high}
 
@@ -13,34 +13,39 @@ IsUnder Q R = (n : ℕ) → (m : ℕ) × (Q n ≤ℚ R m)
 pub bound_from : (Q R : Series) → IsUnder Q R → (u : Fraction) → IsBound R u → IsBound Q u
 bound_from Q R a u b n = le_trans _ _ _ (a n).1 (b (a n).0)
 
-pub same_bounds : (Q R : Series) → IsUnder Q R → IsUnder R Q → SameBounds Q R
-same_bounds Q R a b u = (bound_from R Q b u, bound_from Q R a u)
+-- each term of either is at most some term of the other
+abbrev pub AreLevel : Series → Series → Type 0
+AreLevel Q R = IsUnder Q R × IsUnder R Q
 
-pub under_self : (Q : Series) → IsUnder Q Q
-under_self Q n = (n, le_refl _)
+pub level_same : (Q R : Series) → ((n : ℕ) → Q n ≡ R n) → AreLevel Q R
+level_same Q R e = (λ n. (n, le_of_eq _ _ (e n)), λ n. (n, le_of_eq _ _ (sym (e n))))
 
-pub under_trans : (Q R T : Series) → IsUnder Q R → IsUnder R T → IsUnder Q T
-under_trans Q R T a b n = ((b (a n).0).0, le_trans _ _ _ (a n).1 (b (a n).0).1)
+pub level_trans : (Q R T : Series) → AreLevel Q R → AreLevel R T → AreLevel Q T
+level_trans Q R T a b = (under Q R T a.0 b.0, under T R Q b.1 a.1)
+  where
+    under : (Q R T : Series) → IsUnder Q R → IsUnder R T → IsUnder Q T
+    under Q R T a b n = ((b (a n).0).0, le_trans _ _ _ (a n).1 (b (a n).0).1)
 
-pub under_times : (Q Q' R R' : Series) → Rises Q' → Rises R' → IsUnder Q Q' → IsUnder R R'
-    → IsUnder (times Q R) (times Q' R')
-under_times Q Q' R R' q r a b n =
-    let i = (a n).0 in
-    let j = (b n).0 in (
-      max i j,
-      times_le_both _ _ _ _ (le_trans _ _ _ (a n).1 (rises_to Q' q i (max i j) (le-max_left i j)))
-          (le_trans _ _ _ (b n).1 (rises_to R' r j (max i j) (le-max_right i j))),
-    )
+-- sums and products of rising series, by how each rises
+pub level_both : (op : Fraction → Fraction → Fraction)
+    → ((a b c d : Fraction) → a ≤ℚ b → c ≤ℚ d → op a c ≤ℚ op b d)
+    → (Q Q' R R' : Series) → Rises Q → Rises Q' → Rises R → Rises R' → AreLevel Q Q' → AreLevel R R'
+    → AreLevel (λ N. op (Q N) (R N)) (λ N. op (Q' N) (R' N))
+level_both op grows Q Q' R R' q q' r r' a b = (under Q Q' R R' q' r' a.0 b.0, under Q' Q R' R q r a.1 b.1)
+  where
+    under : (Q Q' R R' : Series) → Rises Q' → Rises R' → IsUnder Q Q' → IsUnder R R'
+        → IsUnder (λ N. op (Q N) (R N)) (λ N. op (Q' N) (R' N))
+    under Q Q' R R' q r a b n =
+        let i = (a n).0 in
+        let j = (b n).0 in (
+          max i j,
+          grows _ _ _ _ (le_trans _ _ _ (a n).1 (rises_to Q' q i (max i j) (le-max_left i j)))
+              (le_trans _ _ _ (b n).1 (rises_to R' r j (max i j) (le-max_right i j))),
+        )
 
-pub under_plus : (Q Q' R R' : Series) → Rises Q' → Rises R' → IsUnder Q Q' → IsUnder R R'
-    → IsUnder (plus Q R) (plus Q' R')
-under_plus Q Q' R R' q r a b n =
-    let i = (a n).0 in
-    let j = (b n).0 in (
-      max i j,
-      plus_le_both _ _ _ _ (le_trans _ _ _ (a n).1 (rises_to Q' q i (max i j) (le-max_left i j)))
-          (le_trans _ _ _ (b n).1 (rises_to R' r j (max i j) (le-max_right i j))),
-    )
+pub cauchy_level : (a b : ℕ → Fraction)
+    → AreLevel (λ N. sum_to N (convolve a b)) (times (λ N. sum_to N a) (λ N. sum_to N b))
+cauchy_level a b = (λ n. (n, cauchy_low n a b), λ n. (n + n, cauchy_high n a b))
 
 -- ---- the same declared value
 
@@ -51,10 +56,10 @@ pub least_from : (Q R Q' R' : Series) (l : Fraction) → IsUnder Q Q' → IsUnde
 least_from Q R Q' R' l q r a n u b =
     le_trans _ _ _ (times_le_both l l _ _ (le_refl l) (r n).1) (a (r n).0 u (bound_from Q Q' q u b))
 
-pub same_value : (Q R Q' R' : Series) → IsUnder Q Q' → IsUnder Q' Q → IsUnder R R' → IsUnder R' R → SameValue Q R Q' R'
-same_value Q R Q' R' q q' r r' = (
-  (λ l. (least_from Q R Q' R' l q r', least_from Q' R' Q R l q' r)),
-  (λ h. (most_from Q R Q' R' h q' r, most_from Q' R' Q R h q r')),
+pub same_value : (Q R Q' R' : Series) → AreLevel Q Q' → AreLevel R R' → SameValue Q R Q' R'
+same_value Q R Q' R' q r = (
+  (λ l. (least_from Q R Q' R' l q.0 r.1, least_from Q' R' Q R l q.1 r.0)),
+  (λ h. (most_from Q R Q' R' h q.1 r.0, most_from Q' R' Q R h q.0 r.1)),
 )
 
 pub value_trans : (A B C D E F : Series) → SameValue A B C D → SameValue C D E F → SameValue A B E F
@@ -66,11 +71,10 @@ value_trans A B C D E F s t = (
 pub value_sym : (A B C D : Series) → SameValue A B C D → SameValue C D A B
 value_sym A B C D s = ((λ l. ((s.0 l).1, (s.0 l).0)), (λ h. ((s.1 h).1, (s.1 h).0)))
 
--- ---- sums over all i + j up to n
-
 pub cauchy_bounds : (a b : ℕ → Fraction)
     → SameBounds (λ N. sum_to N (convolve a b)) (times (λ N. sum_to N a) (λ N. sum_to N b))
-cauchy_bounds a b = same_bounds _ _ (λ n. (n, cauchy_low n a b)) (λ n. (n + n, cauchy_high n a b))
+cauchy_bounds a b u =
+    (bound_from _ _ (cauchy_level a b).1 u, bound_from _ _ (cauchy_level a b).0 u)
 
 -- ---- a common factor
 
@@ -112,24 +116,18 @@ module _ (E : Series) (rise : Rises E) (e k₀ : _) (bounded : IsBound E e) (pos
       subst₂ (λ s t. s ≤ℚ t) (times_left_comm l (E k) (R n)) (times_comm e u)
       (le_trans _ _ _ (times_le_both l l _ _ (le_refl l) c) (a m (e *ℚ u) (λ i. times_le_both _ _ _ _ (be i) (b i)))))
 
-  one_most : AtMost E E (whole 1)
-  one_most n u b = subst (λ t. E n ≤ℚ t) (sym (one_times u)) (b n)
-
-  one_least : AtLeast E E (whole 1)
-  one_least n u b = subst (λ t. t ≤ℚ u) (sym (one_times (E n))) (b n)
-
   -- a common factor that is bounded and positive changes no declared value
   pub cancel_value : (Q R : Series) → Rises Q → Rises R → SameValue (times E Q) (times E R) Q R
   cancel_value Q R q r = (
     (λ l. (
       cancel_least Q R l r,
       λ a. subst (AtLeast (times E Q) (times E R)) (one_times l)
-          (at_least_times E E Q R (whole 1) l rise q one_least a),
+          (at_least_times E E Q R (whole 1) l rise q (self_holds E).0 a),
     )),
     (λ h. (
       cancel_most Q R h q,
       λ a. subst (AtMost (times E Q) (times E R)) (one_times h)
-          (at_most_times E E Q R (whole 1) h rise r one_most a),
+          (at_most_times E E Q R (whole 1) h rise r (self_holds E).1 a),
     )),
   )
 

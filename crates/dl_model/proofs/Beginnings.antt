@@ -1,10 +1,10 @@
 -- The grids that powers begin from, and counts of no loss.
-use Rattle.dl_model.proofs.Common.{◌≡◌, ℕ, suc, zero, ◌+◌, ◌-◌, ◌<◌, ◌≤◌, arith, sym, ap, ap₂, subst, subst₂, ◌∙◌, mul-le-mul_right, zero-lt-suc, fun_ext, Fraction, ◌over◌, ◌+ℚ◌, ◌*ℚ◌, ◌/ℚ◌, ◌<ℚ◌, whole, ◌^ℚ◌, choose, sum_to, over_le, zero_times, times_zero, whole_pos, times_cancel, div_times, lt_of_lt_of_le, le_plus, SameValue, at_zero, power, cell, IsPositivePart, fixed, binomial, poisson, gamma, gamma_of, Family, compound, nothing, times_itself, SameCells, Encloses}
+use Rattle.dl_model.proofs.Common.{◌≡◌, ℕ, suc, zero, ◌+◌, ◌-◌, ◌<◌, ◌≤◌, arith, sym, ap, ap₂, subst₂, ◌∙◌, mul-le-mul_right, zero-lt-suc, fun_ext, Fraction, ◌over◌, ◌+ℚ◌, ◌*ℚ◌, ◌/ℚ◌, ◌<ℚ◌, whole, ◌^ℚ◌, choose, sum_to, over_le, zero_times, times_zero, whole_pos, times_cancel, div_times, lt_of_lt_of_le, le_plus, SameValue, at_zero, power, cell, IsPositivePart, fixed, binomial, poisson, gamma, gamma_of, Family, compound, nothing, times_itself, SameCells, Encloses}
 use Rattle.dl_model.proofs.Declared.{at_least_wider, at_most_wider}
 use Rattle.dl_model.proofs.Alike.{value_sym}
 use Rattle.dl_model.proofs.CompoundLaws.{sum_at_zero}
 use Rattle.dl_model.proofs.FiniteCounts.{fixed_cell, power_one}
-use Rattle.dl_model.proofs.Itself.{itself_value, sum_to_at_zero}
+use Rattle.dl_model.proofs.Itself.{count_power, sum_to_at_zero}
 use Rattle.dl_model.proofs.AddedCounts.{fixed_power, binomial_power, one_trial_none, one_trial_one}
 use Rattle.dl_model.proofs.PoissonThin.{thin_poisson}
 use Rattle.dl_model.proofs.PoissonTimes.{poisson_none}
@@ -26,15 +26,11 @@ encloses_wider S K K' lo hi lo' hi' F pos less low high e y b = (
 -- ---- exact claims and trials
 
 pub fixed_claims : (f : ℕ → Fraction) (m : ℕ) → SameCells (times_itself (compound (fixed 1) f) m) (compound (fixed m) f)
-fixed_claims f m y = subst (λ w. SameValue ((times_itself (compound (fixed 1) f) m).cells y)
-    ((times_itself (compound (fixed 1) f) m).all) (cell w f y) (λ N. sum_to N w)) (fixed_power m)
-    (itself_value (fixed 1) f m y)
+fixed_claims f m = count_power (fixed 1) (fixed m) f m (fixed_power m)
 
 pub trials : (f : ℕ → Fraction) (m a b : ℕ) → 0 < b
     → SameCells (times_itself (compound (binomial 1 a b) f) m) (compound (binomial m a b) f)
-trials f m a b pos y = subst (λ w. SameValue ((times_itself (compound (binomial 1 a b) f) m).cells y)
-    ((times_itself (compound (binomial 1 a b) f) m).all) (cell w f y) (λ N. sum_to N w)) (binomial_power a b pos m)
-    (itself_value (binomial 1 a b) f m y)
+trials f m a b pos = count_power (binomial 1 a b) (binomial m a b) f m (binomial_power a b pos m)
 
 -- the cells of one claim, and of one trial
 pub one_claim_cell : (f : ℕ → Fraction) (y : ℕ) → cell (fixed 1) f y 1 ≡ f y

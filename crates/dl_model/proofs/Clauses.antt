@@ -1,14 +1,15 @@
 -- A unit after its aggregate clause, from a grid of the sums before it.
-use Rattle.dl_model.proofs.Common.{◌≡◌, inl, inr, ℕ, suc, ◌+◌, ◌-◌, ◌*◌, ◌<◌, ◌≤◌, min, Bool, true, false, nat_eq, arith, refl, sym, ap, ap₂, subst, subst₂, ◌∙◌, ne_eqb, eq-eqb, if◌then◌else◌, fun_ext, min-eq_right, cases_lt, Fraction, whole, ◌over◌, ◌+ℚ◌, ◌*ℚ◌, ◌≤ℚ◌, sum_to, over_same, one_pos, plus_zero, zero_plus, plus_comm, zero_times, one_times, le_refl, le_trans, le_plus, zero_le, sum_to_same, sum_to_plus, sum_to_longer, sum_to_either, Series, IsBound, Rises, AtMost, AtLeast, Holds, cell, Aggregate, IsDeclarable, where_true, outcome, compound, mapped, Encloses}
+use Rattle.dl_model.proofs.Common.{◌≡◌, inl, inr, ℕ, suc, ◌+◌, ◌-◌, ◌*◌, ◌<◌, ◌≤◌, min, Bool, true, false, nat_eq, arith, refl, sym, ap, ap₂, subst, subst₂, ◌∙◌, ne_eqb, eq-eqb, if◌then◌else◌, fun_ext, min-eq_right, cases_lt, Fraction, whole, ◌over◌, ◌+ℚ◌, ◌*ℚ◌, ◌≤ℚ◌, sum_to, over_same, one_pos, plus_zero, zero_plus, plus_comm, zero_times, le_refl, zero_le, sum_to_same, sum_to_plus, sum_to_longer, sum_to_either, Series, IsBound, Rises, AtMost, AtLeast, Holds, cell, Aggregate, IsDeclarable, where_true, outcome, compound, mapped, Encloses}
 use Rattle.std.proofs.Math.Nat.{min-eq_left}
 use Rattle.dl_exact.specs.Count.{count_below}
-use Rattle.dl_model.proofs.Complements.{at_least_rest, at_most_rest}
+use Rattle.dl_model.proofs.Complements.{at_least_rest}
+use Rattle.dl_model.proofs.Minus.{at_most_rest}
 use Rattle.dl_model.proofs.CompoundLaws.{cell_past, cells_all}
 use Rattle.dl_model.proofs.FamilyLaws.{sum_rises_to, cell_at_most_one}
 use Rattle.dl_model.proofs.UnitLaws.{unit_proper}
 use Rattle.dl_exact.proofs.SumsOver.{to_over}
 use Rattle.dl_exact.proofs.Denominators.{over_rest, over_one}
-use Rattle.dl_model.proofs.Ends.{to_rises, to_holds}
+use Rattle.dl_model.proofs.Ends.{to_rises, to_holds, part_most_one}
 
 not : Bool → Bool
 not true = false
@@ -22,6 +23,13 @@ where_both : (b : Bool) (x : Fraction) → where_true b x +ℚ where_true (not b
 unfolding not
 where_both true x = plus_zero x
 where_both false x = zero_plus x
+
+-- what is at most 1 is at most the lesser of its high end and 1
+clamped : (Q R : Series) (n S : ℕ) → 0 < S → AtMost Q R (whole 1) → AtMost Q R (n over S) → AtMost Q R (min S n over S)
+clamped Q R n S pos one high = elim (cases_lt S n) [
+  | inl more ↦ subst (AtMost Q R) (sym (ap (λ t. t over S) (min-eq_left (omega arith)) ∙ over_one S pos)) one
+  | inr less ↦ subst (λ t. AtMost Q R (t over S)) (sym (min-eq_right less)) high
+]
 
 module _ (u : Aggregate) (h : IsDeclarable u) (S k : ℕ) (lo hi : ℕ → ℕ) (pos : 0 < S)
     (e : Encloses S (suc k) lo hi (compound u.count u.severity)) where
@@ -83,12 +91,7 @@ module _ (u : Aggregate) (h : IsDeclarable u) (S k : ℕ) (lo hi : ℕ → ℕ) 
         (λ s. if nat_eq (u.clause s) y then lo s else 0) over S) (n over S)) (sym (fun_ext (few within)))
         (part_holds hits) in (
           v.0,
-          elim (cases_lt S n) [
-            | inl more ↦ subst (λ t. AtMost (outcome u y) weights t)
-                (sym (ap (λ t. t over S) (min-eq_left (omega arith)) ∙ over_one S pos))
-                (cell_at_most_one (mapped u) (unit_proper u h) y)
-            | inr less ↦ subst (λ t. AtMost (outcome u y) weights (t over S)) (sym (min-eq_right less)) v.1
-          ],
+          clamped (outcome u y) weights n S pos (cell_at_most_one (mapped u) (unit_proper u h) y) v.1,
         )
 
     -- the clause maps every sum past the grid to y
@@ -126,17 +129,11 @@ module _ (u : Aggregate) (h : IsDeclarable u) (S k : ℕ) (lo hi : ℕ → ℕ) 
         let w = part_holds misses in
         let low : AtLeast (part misses) weights (l over S) =
         subst (λ t. AtLeast (part misses) weights (t over S)) (others lo) w.0 in
-        let high : AtMost (part misses) weights (n over S) =
-        subst (λ t. AtMost (part misses) weights (t over S)) (others hi) w.1 in
-        let clamped : AtMost (part misses) weights (min S n over S) = elim (cases_lt S n) [
-          | inl more ↦ subst (λ t. AtMost (part misses) weights t)
-              (sym (ap (λ t. t over S) (min-eq_left (omega arith)) ∙ over_one S pos))
-              (λ N x b. subst (λ t. part misses N ≤ℚ t) (sym (one_times x))
-              (le_trans _ _ _ (subst (λ t. part misses N ≤ℚ t) (rest past N) (le_plus _ _)) (b N)))
-          | inr less ↦ subst (λ t. AtMost (part misses) weights (t over S)) (sym (min-eq_right less)) high
-        ] in (
+        let high : AtMost (part misses) weights (min S n over S) =
+        clamped (part misses) weights n S pos (part_most_one (part misses) (outcome u y) weights (rest past))
+        (subst (λ t. AtMost (part misses) weights (t over S)) (others hi) w.1) in (
           at_least_rest (part misses) (outcome u y) weights (min S n over S) ((S - min S n) over S) v (rest past) bound
-              (over_rest (min S n) S pos (omega arith)) clamped,
+              (over_rest (min S n) S pos (omega arith)) high,
           at_most_rest (part misses) (outcome u y) weights (l over S) ((S - l) over S)
               (to_rises k (λ s N. where_true (misses s) (sums s N)) (λ s. picked_rises (misses s) s))
               ((unit_proper u h).cells_rise y) (rest past) (over_rest l S pos fits) low,

@@ -37,11 +37,12 @@ pub use Rattle.dl_model.specs.Compound.{cell, convolve}
 unfoldable pub use Rattle.dl_model.specs.Compound.{at_zero, power}
 pub use Rattle.dl_model.specs.Counts.{AreCountWeights, binomial, fixed, gamma_of}
 unfoldable pub use Rattle.dl_model.specs.Counts.{gamma, poisson}
-pub use Rattle.dl_model.specs.Family.{Encloses, Family, IsProper, SameCells, compound, mapped, nothing, product, times_itself, total}
+pub use Rattle.dl_model.specs.Family.{Encloses, Family, IsProper, SameCells, compound, nothing, product, times_itself}
 pub use Rattle.dl_model.specs.Listed.{equally_likely, probability_at}
-pub use Rattle.dl_model.specs.Measures.{AreDeclared, IsDeclared, IsQuantile, above, survival, unit_of, without}
-pub use Rattle.dl_model.specs.Plans.{aggregate_of, compound_of, count_weights, outcome_after}
-pub use Rattle.dl_model.specs.Program.{Aggregate, AreDeclarable, Cdf, IsDeclarable, Joint, Layer, Mean, One, Point, Tail, outcome, partial_sums, score, where_true}
+pub use Rattle.dl_model.specs.Measures.{AreDeclared, IsDeclaredLoss, IsQuantile, above, mean_to_reach, survival, unit_of, without}
+pub use Rattle.dl_model.specs.Plans.{aggregate_of, compound_of, count_weights, loss_of, outcome_after}
+pub use Rattle.dl_model.specs.Program.{AreDeclarable, Cdf, IsLoss, Joint, Layer, Loss, Mean, One, Point, Tail, partial_sums, score, total, where_true}
 unfoldable pub use Rattle.dl_model.specs.Program.{sum_over_outcomes}
 pub use Rattle.dl_model.specs.Series.{AtLeast, AtMost, Below, Holds, IsBound, IsLeastBound, Rises, SameValue, Series, Settles, plus, times}
+pub use Rattle.dl_model.specs.Units.{Aggregate, IsDeclarable, IsDeclared, loss, mapped, outcome}
 pub use Rattle.dl_model.specs.Severity.{IsPositivePart, IsSeverity, IsWithinOne}

@@ -1,18 +1,19 @@
 -- The expected numbers of claims.
-use Rattle.dl_model.proofs.Common.{◌≡◌, inl, inr, ℕ, suc, zero, ◌*◌, ◌<◌, ◌≤◌, max, nat_eq, Bool, true, false, refl, sym, ap, ap₂, subst, subst₂, ◌∙◌, zero-lt-suc, le-max_left, le-max_right, Fraction, ◌over◌, ◌+ℚ◌, ◌-ℚ◌, ◌*ℚ◌, ◌/ℚ◌, ◌≤ℚ◌, ◌<ℚ◌, whole, sum_to, ring, plus_comm, times_comm, times_assoc, zero_times, times_zero, zero_plus, times_one, one_times, plus_times, times_plus, le_refl, le_trans, le_of_eq, zero_le, le_plus, lt_or_le, lt_gap, plus_le_both, plus_le_cancel, zero_or_pos, times_le_cancel, div_times, div_pos, times_pos, sub_plus, le_sub, whole_plus, whole_pos, times_cancel, lt_of_lt_of_le, times_le_both, sum_to_same, sum_to_first, sum_to_times, sum_to_plus, Series, IsBound, Holds, Rises, IsSeverity, power, where_true, fixed, binomial, poisson, gamma_of}
+use Rattle.dl_model.proofs.Common.{◌≡◌, ℕ, suc, zero, ◌*◌, ◌<◌, ◌≤◌, nat_eq, refl, sym, ap, ap₂, subst, ◌∙◌, zero-lt-suc, Fraction, ◌over◌, ◌+ℚ◌, ◌*ℚ◌, ◌/ℚ◌, ◌≤ℚ◌, ◌<ℚ◌, whole, sum_to, ring, plus_comm, times_assoc, zero_times, times_zero, zero_plus, times_one, one_times, le_refl, le_of_eq, zero_le, le_plus, div_times, div_pos, whole_pos, times_cancel, lt_of_lt_of_le, sum_to_same, sum_to_first, sum_to_times, Series, Holds, IsSeverity, power, fixed, binomial, poisson, gamma, gamma_of, Series, IsLeastBound, times_left_comm, ◌+◌, ◌^ℚ◌}
 use Rattle.std.proofs.Math.Nat.{le_refl as le_refl_n}
-use Rattle.dl_model.proofs.Picks.{pick}
+use Rattle.dl_model.proofs.Picks.{pick, times_where}
 use Rattle.dl_model.proofs.CompoundLaws.{power_severity}
 use Rattle.dl_model.proofs.AddedCounts.{fixed_past, binomial_power, trial, one_trial_one}
 use Rattle.dl_model.proofs.Means.{power_mean}
-use Rattle.dl_model.proofs.Declared.{rises_to}
-use Rattle.dl_model.proofs.Complements.{no_descent}
+use Rattle.dl_model.proofs.Declared.{scaled, self_holds}
+use Rattle.dl_model.proofs.Alike.{IsUnder, AreLevel, level_same, same_value}
+use Rattle.dl_model.proofs.Least.{least_from, least_scaled, least_iff, most_iff}
 use Rattle.dl_model.proofs.FamilyLaws.{sum_rises_to}
 use Rattle.dl_model.proofs.FiniteCounts.{holds_reached, bounded_by_all, fixed_sum}
 use Rattle.dl_model.proofs.PoissonWeights.{next_of}
 use Rattle.dl_model.proofs.GammaThin.{div_plus}
-use Rattle.dl_model.proofs.Gamma.{gamma_next}
-use Rattle.dl_exact.proofs.Orders.{plus_swap, times_right_comm, times_second}
+use Rattle.dl_model.proofs.Gamma.{gamma_next, gamma_shift, gamma_least}
+use Rattle.dl_exact.proofs.Orders.{times_right_comm}
 
 -- each number times its weight, summed
 abbrev counted : (ℕ → Fraction) → Series
@@ -37,125 +38,63 @@ counted_next : (w g : ℕ → Fraction) → ((n : ℕ) → whole (suc n) *ℚ w 
 counted_next w g next N = sum_to_first N (λ n. whole n *ℚ w n)
     ∙ ap₂ (λ s t. s +ℚ t) (zero_times (w zero)) (sum_to_same N _ _ (λ n e. next n)) ∙ zero_plus _
 
+-- sums that begin with 0 and go on as Q
+shifted : (M Q : Series) → M zero ≡ whole 0 → ((N : ℕ) → M (suc N) ≡ Q N) → AreLevel M Q
+shifted M Q none next = (under, λ N. (suc N, le_of_eq _ _ (sym (next N))))
+  where
+    under : IsUnder M Q
+    under zero = (zero, subst (λ t. t ≤ℚ Q zero) (sym none) (zero_le _))
+    under (suc N) = (N, le_of_eq _ _ (next N))
+
 -- the Poisson count
 pub poisson_mean : (v : Fraction) → Holds (λ N. sum_to N (λ n. whole n *ℚ poisson v n)) (λ N. sum_to N (poisson v)) v v
-poisson_mean v = (
-  (λ N u b. subst (λ t. t ≤ℚ u) (next N) (b (suc N))),
-  (λ N u b. most N u b),
-)
-  where
-    next : (N : ℕ) → counted (poisson v) (suc N) ≡ v *ℚ sum_to N (poisson v)
-    next N = counted_next (poisson v) (λ n. v *ℚ poisson v n) (next_of v) N ∙ sum_to_times N v (poisson v)
+poisson_mean v =
+    let R : Series = λ N. sum_to N (poisson v) in
+    let same = same_value (counted (poisson v)) R (λ N. v *ℚ R N) R
+    (shifted (counted (poisson v)) (λ N. v *ℚ R N) (counted_none (poisson v)) (λ N.
+    counted_next (poisson v) (λ n. v *ℚ poisson v n) (next_of v) N ∙ sum_to_times N v (poisson v)))
+    (level_same R R (λ N. refl)) in
+    let exact = subst (λ t. Holds (λ N. v *ℚ R N) R t t) (times_one v)
+    (scaled v R R (whole 1) (whole 1) (self_holds R)) in
+    ((same.0 v).1 exact.0, (same.1 v).1 exact.1)
 
-    most : (N : ℕ) (u : Fraction) → IsBound (λ N. sum_to N (poisson v)) u → counted (poisson v) N ≤ℚ v *ℚ u
-    most zero u b = subst (λ t. t ≤ℚ v *ℚ u) (sym (counted_none (poisson v))) (zero_le _)
-    most (suc N) u b = subst (λ t. t ≤ℚ v *ℚ u) (sym (next N)) (times_le_both v v _ _ (le_refl v) (b N))
-
--- ---- the gamma count
-
--- Where each sum is x times the last and v * d times the weights, with x + d = 1, the value is v.
-module _ (M R : Series) (x d v : Fraction) (one : x +ℚ d ≡ whole 1) (dp : whole 0 <ℚ d) (M_rises : Rises M)
-    (R_rises : Rises R)
-    (none : M zero ≡ whole 0) (next : (N : ℕ) → M (suc N) ≡ x *ℚ M N +ℚ v *ℚ d *ℚ R N) where
-  all : (u : Fraction) → x *ℚ u +ℚ d *ℚ u ≡ u
-  all u = sym (plus_times x d u) ∙ ap (λ t. t *ℚ u) one ∙ one_times u
-
-  stepped_most : (N : ℕ) (u : Fraction) → IsBound R u → M N ≤ℚ v *ℚ u
-  stepped_most zero u b = subst (λ t. t ≤ℚ v *ℚ u) (sym none) (zero_le _)
-  stepped_most (suc N) u b =
-      subst₂ (λ s t. s ≤ℚ t) (sym (next N)) (turn v d u x ∙ all (v *ℚ u))
-      (plus_le_both _ _ _ _ (times_le_both x x _ _ (le_refl x) (stepped_most N u b))
-      (times_le_both (v *ℚ d) (v *ℚ d) _ _ (le_refl _) (b N)))
-    where
-      turn : (v d u x : Fraction) → x *ℚ (v *ℚ u) +ℚ v *ℚ d *ℚ u ≡ x *ℚ (v *ℚ u) +ℚ d *ℚ (v *ℚ u)
-      turn v d u x = simp ring
-
-  -- a bound of M leaves room for the weights
-  room : (N : ℕ) (u : Fraction) → IsBound M u → (m : ℕ) → x *ℚ M m +ℚ v *ℚ d *ℚ R N ≤ℚ u
-  room N u b m =
-      let k = max m N in
-      le_trans _ _ _ (plus_le_both _ _ _ _ (times_le_both x x _ _ (le_refl x)
-      (rises_to M M_rises m k (le-max_left m N)))
-      (times_le_both (v *ℚ d) (v *ℚ d) _ _ (le_refl _) (rises_to R R_rises N k (le-max_right m N))))
-      (subst (λ t. t ≤ℚ u) (next k) (b (suc k)))
-
-  -- so where u is below the value by g, each bound up to u can be lowered
-  lower : (N : ℕ) (u g : Fraction) → whole 0 <ℚ x → u +ℚ g ≡ v *ℚ R N → (w : Fraction) → IsBound M w → w ≤ℚ u → (m : ℕ)
-      → M m +ℚ d *ℚ g /ℚ x ≤ℚ w
-  lower N u g xp e w b wu m =
-      let parts : v *ℚ d *ℚ R N ≡ d *ℚ u +ℚ d *ℚ g = times_second v d (R N) ∙ ap (λ t. d *ℚ t) (sym e)
-      ∙ times_plus d u g in
-      let a : x *ℚ M m +ℚ (d *ℚ w +ℚ d *ℚ g) ≤ℚ w =
-      le_trans _ _ _ (plus_le_both _ _ _ _ (le_refl (x *ℚ M m))
-      (plus_le_both _ _ _ _ (times_le_both d d _ _ (le_refl d) wu) (le_refl (d *ℚ g))))
-      (subst (λ t. x *ℚ M m +ℚ t ≤ℚ w) parts (room N w b m)) in
-      let c : x *ℚ M m +ℚ d *ℚ g ≤ℚ x *ℚ w = plus_le_cancel _ _ (d *ℚ w)
-      (subst₂ (λ s t. s ≤ℚ t) (plus_swap (x *ℚ M m) (d *ℚ w) (d *ℚ g)) (sym (all w)) a) in
-      times_le_cancel _ _ x xp
-      (subst₂ (λ s t. s ≤ℚ t) (sym (plus_times (M m) (d *ℚ g /ℚ x) x
-      ∙ ap₂ (λ s t. s +ℚ t) (times_comm (M m) x) (div_times (d *ℚ g) x xp))) (times_comm x w) c)
-
-  descend : (N : ℕ) (u g : Fraction) → whole 0 <ℚ x → whole 0 <ℚ g → u +ℚ g ≡ v *ℚ R N → IsBound M u → ⊥
-  descend N u g xp gp e bound =
-      let step = d *ℚ g /ℚ x in
-      let small : (w : Fraction) → IsBound M w → w ≤ℚ u → step ≤ℚ w =
-      λ w b wu. le_trans _ _ _ (subst (λ t. step ≤ℚ t) (plus_comm step (M zero)) (le_plus step (M zero)))
-      (lower N u g xp e w b wu zero) in
-      no_descent (λ w. IsBound M w × (w ≤ℚ u)) step (div_pos (d *ℚ g) x (times_pos d g dp gp) xp)
-      (λ w b.
-      let back : w -ℚ step +ℚ step ≡ w = sub_plus w step (small w b.0 b.1) in (
-        w -ℚ step,
-        le_of_eq _ _ back,
-        (
-          (λ m. le_sub _ _ _ (lower N u g xp e w b.0 b.1 m)),
-          le_trans _ _ _
-              (subst (λ t. w -ℚ step ≤ℚ t) back (le_plus (w -ℚ step) step)) b.1,
-        ),
-      ))
-      u (bound, le_refl u)
-
-  stepped_least : (N : ℕ) (u : Fraction) → IsBound M u → v *ℚ R N ≤ℚ u
-  stepped_least N u bound = elim (zero_or_pos x) [
-    | inl z ↦
-        let d_one : d ≡ whole 1 = sym (zero_plus d) ∙ ap (λ t. t +ℚ d) (sym z) ∙ one in
-        subst (λ t. t ≤ℚ u) (ap (λ t. v *ℚ t *ℚ R N) d_one ∙ ap (λ t. t *ℚ R N) (times_one v))
-        (le_trans _ _ _ (subst (λ t. v *ℚ d *ℚ R N ≤ℚ t) (plus_comm _ _) (le_plus (v *ℚ d *ℚ R N) (x *ℚ M zero)))
-        (room N u bound zero))
-    | inr xp ↦ elim (lt_or_le u (v *ℚ R N)) [
-      | inr l ↦ l
-      | inl l ↦ absurd (let g = lt_gap u (v *ℚ R N) l in descend N u g.0 xp g.1 g.2 bound)
-    ]
-  ]
-
-  pub stepped_value : Holds M R v v
-  stepped_value = ((λ N u b. stepped_least N u b), (λ N u b. stepped_most N u b))
-
--- the gamma count of shape q + 1 and mean v
+-- the gamma count of shape q + 1 and mean v, by the least bound of the weights of one shape more
 pub gamma_mean : (q : ℕ) (v : Fraction)
     → Holds (λ N. sum_to N (λ n. whole n *ℚ gamma_of (suc q) v n)) (λ N. sum_to N (gamma_of (suc q) v)) v v
+unfolding ◌^ℚ◌
 gamma_mean q v =
     let r = whole (suc q) in
     let w = gamma_of (suc q) v in
     let W = r +ℚ v in
-    let Wp : whole 0 <ℚ W = lt_of_lt_of_le (whole 0) r W (whole_pos (suc q) (zero-lt-suc q)) (le_plus r v) in
+    let rp : whole 0 <ℚ r = whole_pos (suc q) (zero-lt-suc q) in
+    let Wp : whole 0 <ℚ W = lt_of_lt_of_le (whole 0) r W rp (le_plus r v) in
     let x = v /ℚ W in
     let d = r /ℚ W in
+    let dp : whole 0 <ℚ d = div_pos r W rp Wp in
     let one : x +ℚ d ≡ whole 1 = div_plus v r W Wp (plus_comm v r) in
+    let L = whole 1 /ℚ d in
+    let inverse : L *ℚ d ≡ whole 1 = div_times (whole 1) d dp in
+    let G = gamma (suc (suc q)) x in
+    let each : (n : ℕ) → whole (suc n) *ℚ w (suc n) ≡ x *ℚ r *ℚ G n =
+    λ n. gamma_next q x n ∙ times_left_comm (whole (suc q + n)) x (w n) ∙ ap (λ t. x *ℚ t) (sym (gamma_shift q x n))
+    ∙ sym (times_assoc x r (G n)) in
+    let next : (N : ℕ) → counted w (suc N) ≡ x *ℚ r *ℚ sum_to N G =
+    λ N. counted_next w (λ n. x *ℚ r *ℚ G n) each N ∙ sum_to_times N (x *ℚ r) G in
+    let mean : IsLeastBound (counted w) (x *ℚ r *ℚ (L *ℚ L ^ℚ suc q)) =
+    least_from (counted w) (λ N. x *ℚ r *ℚ sum_to N G) _ (shifted _ _ (counted_none w) next)
+    (least_scaled (x *ℚ r) (λ N. sum_to N G) _ (sum_rises_to G) (gamma_least x d one L dp inverse (suc q))) in
+    let all : IsLeastBound (λ N. sum_to N w) (L ^ℚ suc q) = gamma_least x d one L dp inverse q in
     let swap : x *ℚ r ≡ v *ℚ d = times_cancel _ _ W Wp
     (times_right_comm x r W ∙ ap (λ t. t *ℚ r) (div_times v W Wp)
     ∙ sym (times_assoc v d W ∙ ap (λ t. v *ℚ t) (div_times r W Wp))) in
-    let each : (n : ℕ) → whole (suc n) *ℚ w (suc n) ≡ x *ℚ (whole n *ℚ w n) +ℚ v *ℚ d *ℚ w n =
-    λ n. gamma_next q x n ∙ ap (λ t. t *ℚ (x *ℚ w n)) (whole_plus (suc q) n) ∙ split r (whole n) x (w n)
-    ∙ ap (λ t. x *ℚ (whole n *ℚ w n) +ℚ t *ℚ w n) swap in
-    let next : (N : ℕ) → counted w (suc N) ≡ x *ℚ counted w N +ℚ v *ℚ d *ℚ sum_to N w =
-    λ N. counted_next w (λ n. x *ℚ (whole n *ℚ w n) +ℚ v *ℚ d *ℚ w n) each N
-    ∙ sum_to_plus N (λ n. x *ℚ (whole n *ℚ w n)) (λ n. v *ℚ d *ℚ w n)
-    ∙ ap₂ (λ s t. s +ℚ t) (sum_to_times N x (λ n. whole n *ℚ w n)) (sum_to_times N (v *ℚ d) w) in
-    stepped_value (counted w) (λ N. sum_to N w) x d v one (div_pos r W (whole_pos (suc q) (zero-lt-suc q)) Wp)
-    (sum_rises_to (λ n. whole n *ℚ w n)) (sum_rises_to w) (counted_none w) next
+    let value : v *ℚ L ^ℚ suc q ≡ x *ℚ r *ℚ (L *ℚ L ^ℚ suc q) = sym (ap (λ t. t *ℚ (L *ℚ L ^ℚ suc q)) swap
+    ∙ turn v d L (L ^ℚ suc q) ∙ ap (λ t. v *ℚ t *ℚ L ^ℚ suc q) inverse ∙ ap (λ t. t *ℚ L ^ℚ suc q) (times_one v)) in (
+      (least_iff (counted w) (λ N. sum_to N w) _ _ v (sum_rises_to w) mean all).1 (le_of_eq _ _ value),
+      (most_iff (counted w) (λ N. sum_to N w) _ _ v mean all).1 (le_of_eq _ _ (sym value)),
+    )
   where
-    split : (r n x w : Fraction) → (r +ℚ n) *ℚ (x *ℚ w) ≡ x *ℚ (n *ℚ w) +ℚ x *ℚ r *ℚ w
-    split r n x w = simp ring
+    turn : (a b c e : Fraction) → a *ℚ b *ℚ (c *ℚ e) ≡ a *ℚ (c *ℚ b) *ℚ e
+    turn a b c e = simp ring
 
 -- ---- exact counts and trials
 
@@ -164,13 +103,10 @@ pub fixed_mean : (m : ℕ) → Holds (λ N. sum_to N (λ n. whole n *ℚ fixed m
 fixed_mean m =
     let h : IsSeverity (fixed m) m = record { add_up = fixed_sum m m (le_refl_n m); past = λ n b. fixed_past m n b } in
     let value : sum_to m (λ n. whole n *ℚ fixed m n) ≡ whole m =
-    sum_to_same m _ _ (λ n b. times_where (nat_eq n m) (whole n)) ∙ pick m m whole (le_refl_n m) in
+    sum_to_same m _ _ (λ n b. times_where (nat_eq n m) (whole n) (whole 1)) ∙ pick m m (λ n. whole n *ℚ whole 1)
+    (le_refl_n m) ∙ times_one _ in
     subst (λ t. Holds (λ N. sum_to N (λ n. whole n *ℚ fixed m n)) (λ N. sum_to N (fixed m)) t t) value
     (finite_mean (fixed m) m h)
-  where
-    times_where : (b : Bool) (x : Fraction) → x *ℚ where_true b (whole 1) ≡ where_true b x
-    times_where true x = times_one x
-    times_where false x = times_zero x
 
 pub binomial_mean : (m a b : ℕ) → 0 < b → a ≤ b
     → Holds (λ N. sum_to N (λ n. whole n *ℚ binomial m a b n)) (λ N. sum_to N (binomial m a b)) (whole m *ℚ a over b)

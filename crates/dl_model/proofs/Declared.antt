@@ -91,6 +91,21 @@ at_least_plus Q Q' R l l' r r' a a' n u b =
     let two : l' *ℚ R n +ℚ l *ℚ R n ≤ℚ u = at_least_shifted Q' R l' a' (l *ℚ R n) u one n in
     subst (λ t. t ≤ℚ u) (simp ring) two
 
+-- ---- both ends
+
+pub holds_wider : (Q R : Series) (l l' h h' : Fraction) → l' ≤ℚ l → h ≤ℚ h' → Holds Q R l h → Holds Q R l' h'
+holds_wider Q R l l' h h' p q w = (at_least_wider Q R l l' w.0 p, at_most_wider Q R h h' w.1 q)
+
+pub holds_plus : (Q Q' R : Series) (l l' h h' : Fraction) → Rises Q → Rises Q' → Holds Q R l h → Holds Q' R l' h'
+    → Holds (plus Q Q') R (l +ℚ l') (h +ℚ h')
+holds_plus Q Q' R l l' h h' r r' a b = (at_least_plus Q Q' R l l' r r' a.0 b.0, at_most_plus Q Q' R h h' a.1 b.1)
+
+pub holds_times : (Q R Q' R' : Series) (l l' h h' : Fraction) → Rises Q → Rises R → Rises Q' → Rises R' → Holds Q R l h
+    → Holds Q' R' l' h'
+    → Holds (times Q Q') (times R R') (l *ℚ l') (h *ℚ h')
+holds_times Q R Q' R' l l' h h' q r q' r' a b =
+    (at_least_times Q R Q' R' l l' q q' a.0 b.0, at_most_times Q R Q' R' h h' r r' a.1 b.1)
+
 -- ---- a series over itself, a factor, and a quotient over a third series
 
 pub self_holds : (R : Series) → Holds R R (whole 1) (whole 1)

@@ -5,7 +5,8 @@ use Rattle.std.proofs.lemmas.Nat.{pow_pos}
 use Rattle.dl_iv.specs.declared.interval.Iv.{Iv}
 use Rattle.dl_grid.specs.Cells.{low_at, high_at, all_at_zero}
 use Rattle.dl_model.specs.Family.{GridEncloses}
-use Rattle.dl_model.proofs.Picks.{pick, pick_none}
+use Rattle.dl_model.proofs.Picks.{pick}
+use Rattle.dl_model.proofs.AddedCounts.{fixed_past}
 use Rattle.dl_model.proofs.Powers.{convolve_comm, at_zero_convolve}
 
 -- A value that is reached at some level, is passed at none, and lies over a whole weight of 1.
@@ -74,33 +75,25 @@ where_times false x = zero_times x
 pub fixed_cell : (m : ℕ) (f : ℕ → Fraction) (y N : ℕ) → m ≤ N → cell (fixed m) f y N ≡ power f m y
 fixed_cell m f y N h = sum_to_same N _ _ (λ n b. where_times (nat_eq n m) (power f n y)) ∙ pick N m (λ n. power f n y) h
 
-pub fixed_cell_none : (m : ℕ) (f : ℕ → Fraction) (y N : ℕ) → N < m → cell (fixed m) f y N ≡ whole 0
-fixed_cell_none m f y N h =
-    sum_to_same N _ _ (λ n b. where_times (nat_eq n m) (power f n y)) ∙ pick_none N m (λ n. power f n y) h
-
 pub fixed_sum : (m N : ℕ) → m ≤ N → sum_to N (fixed m) ≡ whole 1
 fixed_sum m N h = pick N m (λ n. whole 1) h
-
-fixed_bounded : (m : ℕ) → IsBound (λ N. sum_to N (fixed m)) (whole 1)
-fixed_bounded m N = elim (cases_lt N m) [
-  | inl l ↦ le_trans _ _ _ (le_of_eq _ _ (pick_none N m (λ n. whole 1) l)) (zero_le _)
-  | inr l ↦ le_of_eq _ _ (fixed_sum m N l)
-]
-
-fixed_cell_bounded : (m : ℕ) (f : ℕ → Fraction) (y : ℕ) → IsBound (cell (fixed m) f y) (power f m y)
-fixed_cell_bounded m f y N = elim (cases_lt N m) [
-  | inl l ↦ le_trans _ _ _ (le_of_eq _ _ (fixed_cell_none m f y N l)) (zero_le _)
-  | inr l ↦ le_of_eq _ _ (fixed_cell m f y N l)
-]
 
 -- the value of a cell of exactly m claims
 pub fixed_value : (m : ℕ) (f : ℕ → Fraction) (y : ℕ) (l h : Fraction)
     → Holds (cell (fixed m) f y) (λ N. sum_to N (fixed m)) l h → (l ≤ℚ power f m y) × (power f m y ≤ℚ h)
 fixed_value m f y l h v = (
-  subst (λ t. t ≤ℚ power f m y) (ap (λ t. l *ℚ t) (fixed_sum m m (omega arith)) ∙ times_one l)
-      (v.0 m (power f m y) (fixed_cell_bounded m f y)),
-  subst₂ (λ s t. s ≤ℚ t) (fixed_cell m f y m (omega arith)) (times_one h) (v.1 m (whole 1) (fixed_bounded m)),
+  subst (λ t. t ≤ℚ power f m y) (ap (λ t. l *ℚ t) one ∙ times_one l) (v.0 m (power f m y) (λ N.
+      subst (λ t. cell (fixed m) f y N ≤ℚ t) there (bounded_by_all m (λ n. fixed m n *ℚ power f n y)
+      (λ n b. ap (λ t. t *ℚ power f n y) (fixed_past m n b) ∙ zero_times _) N))),
+  subst₂ (λ s t. s ≤ℚ t) there (times_one h) (v.1 m (whole 1) (λ N.
+      subst (λ t. sum_to N (fixed m) ≤ℚ t) one (bounded_by_all m (fixed m) (fixed_past m) N))),
 )
+  where
+    there : cell (fixed m) f y m ≡ power f m y
+    there = fixed_cell m f y m (omega arith)
+
+    one : sum_to m (fixed m) ≡ whole 1
+    one = fixed_sum m m (omega arith)
 
 -- one claim comes to what its amount is
 pub power_one : (f : ℕ → Fraction) → power f 1 ≡ f

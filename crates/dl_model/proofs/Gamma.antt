@@ -1,11 +1,11 @@
 -- Gamma counts: their weights, sums and powers.
-use Rattle.dl_model.proofs.Common.{◌≡◌, ℕ, suc, zero, ◌+◌, ◌-◌, ◌*◌, arith, refl, sym, ap, ap₂, subst, subst₂, ◌∙◌, zero-lt-suc, fun_ext, Fraction, ◌+ℚ◌, ◌*ℚ◌, ◌≤ℚ◌, ◌<ℚ◌, whole, sum_to, sum_pairs, times, IsLeastBound, convolve, at_zero, power, gamma, choose, ◌^ℚ◌, ring, plus_comm, times_comm, times_assoc, times_left_comm, plus_times, one_times, times_one, whole_plus, whole_pos, times_cancel, le_refl, le_plus, plus_le_both, times_le_cancel, times_le_times, times_le_both, sum_to_same, sum_to_first, sum_to_times, sum_pairs_same, sum_pairs_times, sum_pairs_plus, sum_pairs_weighed}
+use Rattle.dl_model.proofs.Common.{◌≡◌, ℕ, suc, zero, ◌+◌, ◌-◌, ◌*◌, arith, refl, sym, ap, ap₂, subst, subst₂, ◌∙◌, zero-lt-suc, fun_ext, Fraction, ◌+ℚ◌, ◌*ℚ◌, ◌≤ℚ◌, ◌<ℚ◌, whole, sum_to, sum_pairs, IsLeastBound, convolve, at_zero, power, gamma, choose, ◌^ℚ◌, ring, plus_comm, times_comm, times_assoc, times_left_comm, plus_times, one_times, times_one, whole_plus, whole_pos, times_cancel, le_refl, le_plus, times_le_cancel, times_le_both, sum_to_same, sum_to_first, sum_to_times, sum_pairs_same, sum_pairs_times, sum_pairs_plus, sum_pairs_weighed}
 use Rattle.std.proofs.Math.Nat.{eq_of_mul-eq-mul_left}
 use Rattle.dl_exact.proofs.Laws.{whole_times}
 use Rattle.dl_model.proofs.Powers.{at_zero_convolve, convolve_comm}
 use Rattle.dl_model.proofs.FamilyLaws.{sum_rises_to}
-use Rattle.dl_model.proofs.Complements.{at_most_rest}
-use Rattle.dl_model.proofs.Cauchy.{cauchy_low, cauchy_high}
+use Rattle.dl_model.proofs.Minus.{at_most_rest}
+use Rattle.dl_model.proofs.Alike.{cauchy_level}
 use Rattle.dl_model.proofs.Least.{least_times, least_from}
 
 pub choose-absorb : (m k : ℕ) → suc k * choose (suc m) (suc k) ≡ suc m * choose m k
@@ -126,19 +126,22 @@ geometric_sum x N =
     ∙ plus_comm _ _
 
 module _ (x d : Fraction) (one : x +ℚ d ≡ whole 1) where
-  pub geometric_low : (N : ℕ) → d *ℚ sum_to N (gamma 1 x) ≤ℚ whole 1
+  pub geometric_identity : (N : ℕ) → d *ℚ sum_to N (gamma 1 x) +ℚ gamma 1 x (suc N) ≡ whole 1
   unfolding sum_to
-  geometric_low zero =
-      subst₂ (λ s t. s ≤ℚ t) (sym (ap (λ t. d *ℚ t) (gamma_zero zero x) ∙ times_one d)) (plus_comm d x ∙ one)
-      (le_plus d x)
-  geometric_low (suc N) =
-      let S = sum_to N (gamma 1 x) in
-      subst₂ (λ s t. s ≤ℚ t) (sym (ap (λ t. d *ℚ t) (geometric_sum x N) ∙ turn S))
-      (ap (λ t. t +ℚ d) (one_times x) ∙ one)
-      (plus_le_both _ _ _ _ (times_le_times _ _ x (geometric_low N)) (le_refl d))
+  geometric_identity zero = ap₂ (λ s t. d *ℚ s +ℚ t) (gamma_zero zero x)
+      (geometric_next x zero ∙ ap (λ t. x *ℚ t) (gamma_zero zero x)) ∙ ap₂ (λ s t. s +ℚ t) (times_one d) (times_one x)
+      ∙ plus_comm d x ∙ one
+  geometric_identity (suc N) =
+      let g = gamma 1 x (suc N) in
+      ap (λ t. d *ℚ (sum_to N (gamma 1 x) +ℚ g) +ℚ t) (geometric_next x (suc N))
+      ∙ turn (sum_to N (gamma 1 x)) g ∙ ap (λ t. d *ℚ sum_to N (gamma 1 x) +ℚ t *ℚ g) one
+      ∙ ap (λ t. d *ℚ sum_to N (gamma 1 x) +ℚ t) (one_times g) ∙ geometric_identity N
     where
-      turn : (S : Fraction) → d *ℚ (x *ℚ S +ℚ whole 1) ≡ d *ℚ S *ℚ x +ℚ d
-      turn S = simp ring
+      turn : (s g : Fraction) → d *ℚ (s +ℚ g) +ℚ x *ℚ g ≡ d *ℚ s +ℚ (x +ℚ d) *ℚ g
+      turn s g = simp ring
+
+  pub geometric_low : (N : ℕ) → d *ℚ sum_to N (gamma 1 x) ≤ℚ whole 1
+  geometric_low N = subst (λ t. d *ℚ sum_to N (gamma 1 x) ≤ℚ t) (geometric_identity N) (le_plus _ _)
 
   -- the sums of x^n have the least bound 1 / (1 - x)
   pub geometric_least : (L : Fraction) → whole 0 <ℚ d → L *ℚ d ≡ whole 1 → IsLeastBound (λ N. sum_to N (gamma 1 x)) L
@@ -157,18 +160,8 @@ module _ (x d : Fraction) (one : x +ℚ d ≡ whole 1) where
   gamma_least L dp e zero =
       subst (IsLeastBound (λ N. sum_to N (gamma 1 x))) (sym (times_one L)) (geometric_least L dp e)
   gamma_least L dp e (suc s) =
-      let w : (N : ℕ) → sum_to N (convolve (gamma 1 x) (gamma (suc s) x)) ≡ sum_to N (gamma (suc (suc s)) x) =
-      λ N. sum_to_same N _ _ (λ n b. sym (gamma_one_more s x n)) in
-      least_from (times (λ N. sum_to N (gamma 1 x)) (λ N. sum_to N (gamma (suc s) x))) _ (L *ℚ L ^ℚ suc s)
-      (λ N. (
-        N + N,
-        subst (λ t. sum_to N (gamma 1 x) *ℚ sum_to N (gamma (suc s) x) ≤ℚ t) (w (N + N))
-            (cauchy_high N (gamma 1 x) (gamma (suc s) x)),
-      ))
-      (λ N. (
-        N,
-        subst (λ t. t ≤ℚ sum_to N (gamma 1 x) *ℚ sum_to N (gamma (suc s) x)) (w N)
-            (cauchy_low N (gamma 1 x) (gamma (suc s) x)),
-      ))
+      subst (λ Q. IsLeastBound Q (L *ℚ L ^ℚ suc s))
+      (fun_ext (λ N. sum_to_same N _ _ (λ n b. sym (gamma_one_more s x n))))
+      (least_from _ _ (L *ℚ L ^ℚ suc s) (cauchy_level (gamma 1 x) (gamma (suc s) x))
       (least_times _ _ L (L ^ℚ suc s) (sum_rises_to (gamma 1 x)) (sum_rises_to (gamma (suc s) x))
-      (geometric_least L dp e) (gamma_least L dp e s))
+      (geometric_least L dp e) (gamma_least L dp e s)))

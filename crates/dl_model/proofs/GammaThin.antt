@@ -1,26 +1,16 @@
 -- Claims of amount 0 left out of a gamma count.
-use Rattle.dl_model.proofs.Common.{◌≡◌, inl, inr, ℕ, suc, zero, ◌+◌, ◌<◌, arith, sym, ap, ap₂, subst, ◌∙◌, zero-lt-suc, cases_lt, fun_ext, Fraction, ◌+ℚ◌, ◌*ℚ◌, ◌/ℚ◌, ◌≤ℚ◌, ◌<ℚ◌, whole, sum_to, sum_pairs, Series, IsLeastBound, SameValue, power, cell, gamma, gamma_of, choose, ◌^ℚ◌, IsPositivePart, compound, times_itself, ring, plus_comm, times_comm, times_assoc, times_left_comm, plus_zero, times_zero, plus_times, times_plus, one_times, times_one, whole_pos, times_cancel, le_trans, le_of_eq, le_plus, times_pos, lt_of_lt_of_le, plus_cancel, div_times, div_pos, sum_to_same, sum_to_times, sum_to_times_right, sum_to_grows, sum_pairs_turn, pow_plus}
+use Rattle.dl_model.proofs.Common.{◌≡◌, ℕ, suc, zero, ◌+◌, arith, sym, ap, ap₂, subst, ◌∙◌, zero-lt-suc, fun_ext, Fraction, ◌+ℚ◌, ◌*ℚ◌, ◌/ℚ◌, ◌<ℚ◌, whole, sum_to, sum_pairs, Series, IsLeastBound, SameValue, power, cell, gamma, gamma_of, choose, ◌^ℚ◌, IsPositivePart, compound, times_itself, ring, plus_comm, times_comm, times_assoc, times_left_comm, times_zero, plus_times, times_plus, one_times, times_one, whole_pos, times_cancel, le_trans, le_of_eq, le_plus, times_pos, lt_of_lt_of_le, plus_cancel, div_times, div_pos, sum_to_same, sum_to_times, sum_to_times_right, sum_pairs_turn, pow_plus}
 use Rattle.dl_exact.proofs.Powers.{pow_times, pow_pos}
 use Rattle.dl_exact.proofs.Orders.{times_right_comm, times_second}
 use Rattle.dl_model.proofs.FamilyLaws.{sum_rises_to}
 use Rattle.dl_model.proofs.Cauchy.{triangle_le_square, square_le_triangle}
 use Rattle.dl_model.proofs.CompoundLaws.{no_power}
+use Rattle.dl_model.proofs.FiniteCounts.{bounded_by_all}
 use Rattle.dl_model.proofs.Thin.{split}
-use Rattle.dl_model.proofs.Alike.{IsUnder, value_trans, value_sym}
-use Rattle.dl_model.proofs.Itself.{itself_value}
+use Rattle.dl_model.proofs.Alike.{AreLevel, value_trans, value_sym}
+use Rattle.dl_model.proofs.Itself.{count_power}
 use Rattle.dl_model.proofs.Least.{least_from, least_sum, least_scaled, value_of_least}
 use Rattle.dl_model.proofs.Gamma.{gamma_zero, gamma_next, gamma_shift, gamma_is, gamma_power, gamma_least}
-
--- ---- sums whose items vanish from some place on
-
-sum_to_cut : (N y : ℕ) (F : ℕ → Fraction) → ((j : ℕ) → y < j → F j ≡ whole 0) → sum_to N F ≤ℚ sum_to y F
-unfolding sum_to
-sum_to_cut zero y F h = sum_to_grows zero y F (omega arith)
-sum_to_cut (suc N) y F h = elim (cases_lt y (suc N)) [
-  | inl l ↦ subst (λ t. t ≤ℚ sum_to y F) (sym (ap (λ t. sum_to N F +ℚ t) (h (suc N) l) ∙ plus_zero _))
-      (sum_to_cut N y F h)
-  | inr l ↦ sum_to_grows (suc N) y F l
-]
 
 -- x is r's parameter over all amounts, x' that over the amounts above 0
 module _ (f : ℕ → Fraction) (p : Fraction) (g : ℕ → Fraction) (h : IsPositivePart f p g) (q : ℕ)
@@ -75,23 +65,22 @@ module _ (f : ℕ → Fraction) (p : Fraction) (g : ℕ → Fraction) (h : IsPos
   cells : (y N : ℕ) → cell (gamma (suc q) x) f y N ≡ sum_to N (λ n. sum_pairs n (λ j i. t i j *ℚ power g j y))
   cells y N = sum_to_same N _ _ (λ n b. split_gamma n y)
 
-  cell_under : (y : ℕ) → IsUnder (cell (gamma (suc q) x) f y) (wide y)
+  cell_level : (y : ℕ) → AreLevel (cell (gamma (suc q) x) f y) (wide y)
   unfolding wide
-  cell_under y N = (
-    N,
-    le_trans _ _ _ (le_of_eq _ _ (cells y N))
-        (le_trans _ _ _ (triangle_le_square N N (λ j i. t i j *ℚ power g j y) (omega arith))
-        (sum_to_cut N y (λ j. sum_to N (λ i. t i j *ℚ power g j y))
-        (λ j b. sum_to_times_right N (power g j y) (λ i. t i j)
-        ∙ ap (λ s. sum_to N (λ i. t i j) *ℚ s) (no_power g h.no_zero j y b) ∙ times_zero _))),
-  )
-
-  cell_over : (y : ℕ) → IsUnder (wide y) (cell (gamma (suc q) x) f y)
-  unfolding wide
-  cell_over y N = (
-    y + N,
-    le_trans _ _ _ (square_le_triangle y N (λ j i. t i j *ℚ power g j y))
-        (le_of_eq _ _ (sym (cells y (y + N)))),
+  cell_level y = (
+    λ N. (
+      N,
+      le_trans _ _ _ (le_of_eq _ _ (cells y N))
+          (le_trans _ _ _ (triangle_le_square N N (λ j i. t i j *ℚ power g j y) (omega arith))
+          (bounded_by_all y (λ j. sum_to N (λ i. t i j *ℚ power g j y))
+          (λ j b. sum_to_times_right N (power g j y) (λ i. t i j)
+          ∙ ap (λ s. sum_to N (λ i. t i j) *ℚ s) (no_power g h.no_zero j y b) ∙ times_zero _) N)),
+    ),
+    λ N. (
+      y + N,
+      le_trans _ _ _ (square_le_triangle y N (λ j i. t i j *ℚ power g j y))
+          (le_of_eq _ _ (sym (cells y (y + N)))),
+    ),
   )
 
   module _ (L : Fraction) (inverse : L *ℚ c ≡ whole 1) (cp : whole 0 <ℚ c) (Lp : whole 0 <ℚ L) where
@@ -153,11 +142,10 @@ module _ (f : ℕ → Fraction) (p : Fraction) (g : ℕ → Fraction) (h : IsPos
           let F : ℕ → Fraction = λ j. gamma (suc q) x' j *ℚ power g j y in
           value_of_least _ _ (cell (gamma (suc q) x') g y) _ (L ^ℚ suc q) (cell (gamma (suc q) x') g y y) (D ^ℚ suc q)
           (pow_pos L (suc q) Lp) (sum_rises_to (gamma (suc q) x)) (sum_rises_to (gamma (suc q) x'))
-          (least_from (wide y) _ _ (cell_over y) (cell_under y) (wide_least y))
+          (least_from _ (wide y) _ (cell_level y) (wide_least y))
           (subst (IsLeastBound (λ N. sum_to N (gamma (suc q) x))) (pow_times L D (suc q))
           (gamma_least x d one (L *ℚ D) dp (turn L D d ∙ div_times (whole 1) (d *ℚ L) dL) q)) (
-            (λ n. sum_to_cut n y F (λ j b. ap (λ s. gamma (suc q) x' j *ℚ s) (no_power g h.no_zero j y b)
-                ∙ times_zero _)),
+            bounded_by_all y F (λ j b. ap (λ s. gamma (suc q) x' j *ℚ s) (no_power g h.no_zero j y b) ∙ times_zero _),
             (λ u b. b y),
           )
           (gamma_least x' (d *ℚ L) one' D dL (div_times (whole 1) (d *ℚ L) dL) q)
@@ -231,10 +219,7 @@ pub gamma_shares : (q : ℕ) (u v : Fraction) (f : ℕ → Fraction) (p : Fracti
     ((times_itself (compound (gamma_of 1 u) g) (suc q)).all)
     (cell (gamma_of (suc q) v) f y) (λ N. sum_to N (gamma_of (suc q) v))
 gamma_shares q u v f p g h e y =
-    let w : power (gamma_of 1 u) (suc q) ≡ gamma_of (suc q) (v *ℚ p) =
-    gamma_power q _ ∙ ap (gamma (suc q)) (share_of (whole (suc q)) u (v *ℚ p) (whole_pos (suc q) (zero-lt-suc q)) e) in
     value_trans _ _ (cell (gamma_of (suc q) (v *ℚ p)) g y) (λ N. sum_to N (gamma_of (suc q) (v *ℚ p))) _ _
-    (subst (λ k. SameValue ((times_itself (compound (gamma_of 1 u) g) (suc q)).cells y)
-    ((times_itself (compound (gamma_of 1 u) g) (suc q)).all) (cell k g y) (λ N. sum_to N k)) w
-    (itself_value (gamma_of 1 u) g (suc q) y))
+    (count_power (gamma_of 1 u) (gamma_of (suc q) (v *ℚ p)) g (suc q) (gamma_power q _ ∙ ap (gamma (suc q))
+    (share_of (whole (suc q)) u (v *ℚ p) (whole_pos (suc q) (zero-lt-suc q)) e)) y)
     (value_sym _ _ _ _ (thin_gamma q v f p g h y))

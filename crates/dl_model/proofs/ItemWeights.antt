@@ -5,7 +5,7 @@ use Rattle.std.proofs.Math.Nat.{le_refl as le_refl_n}
 use Rattle.dl_plan.specs.Weighted.{weighted_sum, IsWeighted}
 use Rattle.dl_exact.proofs.Denominators.{over_times}
 use Rattle.dl_plan.proofs.Shares.{mean-shares}
-use Rattle.dl_model.proofs.UnitLaws.{on, off, passed}
+use Rattle.dl_model.proofs.Picks.{on, off, passed}
 use Rattle.dl_model.proofs.WeightLaws.{part_of}
 use Rattle.dl_model.proofs.ListedLaws.{listed_severity}
 
@@ -46,7 +46,7 @@ shares_mean (x ∷ xs) t far pos h =
     ∙ ap (λ w. whole n *ℚ w) (sym (over_plus (part_of n x) (weight_at xs n) t pos))
     ∙ times_plus _ _ _ ∙ ap (λ w. w +ℚ whole n *ℚ weight_at xs n over t) (part_mean x t n pos))
     ∙ sum_to_plus far _ _
-    ∙ ap₂ (λ a b. a +ℚ b) (passed far x.amount ((x.amount * x.weight) over t) (omega (arith, h)))
+    ∙ ap₂ (λ a b. a +ℚ b) (passed far x.amount (λ n. (x.amount * x.weight) over t) (omega (arith, h)))
     (shares_mean xs t far pos (omega (arith, h)))
     ∙ over_plus (x.amount * x.weight) (weighted_sum xs) t pos
     ∙ ap (λ w. w over t) (sym (sum_by-cons (λ (i : Item). i.amount * i.weight) x xs))

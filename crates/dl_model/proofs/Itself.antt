@@ -1,19 +1,21 @@
 -- A compound sum taken n times is the compound sum of the n-th power of its count weights.
-use Rattle.dl_model.proofs.Common.{◌≡◌, ℕ, suc, zero, ◌+◌, arith, sym, ap, ap₂, subst₂, ◌∙◌, Fraction, ◌+ℚ◌, ◌*ℚ◌, ◌≤ℚ◌, whole, ◌^ℚ◌, sum_to, sum_pairs, Series, Rises, times, SameValue, convolve, at_zero, power, cell, compound, product, times_itself, ring, le_refl, le_of_eq, plus_zero, zero_times, one_times, times_one, sum_to_same, sum_pairs_same, sum_to_product, sum_pairs_sum_to, sum_pairs_times, sum_pairs_times_right}
-use Rattle.dl_model.proofs.Cauchy.{triangle_le_square, square_le_triangle, cauchy_low, cauchy_high}
+use Rattle.dl_model.proofs.Common.{◌≡◌, ℕ, suc, zero, ◌+◌, arith, sym, ap, ap₂, subst₂, ◌∙◌, Fraction, ◌+ℚ◌, ◌*ℚ◌, ◌≤ℚ◌, whole, ◌^ℚ◌, sum_to, sum_pairs, Series, Rises, times, SameValue, SameCells, subst, convolve, at_zero, power, cell, compound, product, times_itself, ring, refl, plus_le_both, times_le_both, le_refl, plus_zero, zero_times, one_times, times_one, sum_to_same, sum_pairs_same, sum_to_product, sum_pairs_sum_to, sum_pairs_times, sum_pairs_times_right}
+use Rattle.dl_model.proofs.Cauchy.{triangle_le_square, square_le_triangle}
 use Rattle.dl_model.proofs.Powers.{power_plus}
-use Rattle.dl_model.proofs.Alike.{IsUnder, under_self, under_trans, under_plus, under_times, same_value}
+use Rattle.dl_model.proofs.Alike.{AreLevel, level_same, level_trans, level_both, cauchy_level, same_value}
 use Rattle.dl_model.proofs.FamilyLaws.{sum_rises, rises_times, sum_rises_to}
 
-under_sum : (n : ℕ) (P P' : ℕ → ℕ → Series) → ((i j : ℕ) → Rises (P' i j)) → ((i j : ℕ) → IsUnder (P i j) (P' i j))
-    → IsUnder (λ N. sum_pairs n (λ i j. P i j N)) (λ N. sum_pairs n (λ i j. P' i j N))
+level_sum : (n : ℕ) (P P' : ℕ → ℕ → Series) → ((i j : ℕ) → Rises (P i j)) → ((i j : ℕ) → Rises (P' i j))
+    → ((i j : ℕ) → AreLevel (P i j) (P' i j))
+    → AreLevel (λ N. sum_pairs n (λ i j. P i j N)) (λ N. sum_pairs n (λ i j. P' i j N))
 unfolding sum_pairs
-under_sum zero P P' r u = u zero zero
-under_sum (suc n) P P' r u =
-    under_plus (P zero (suc n)) (P' zero (suc n)) (λ N. sum_pairs n (λ i j. P (suc i) j N))
-    (λ N. sum_pairs n (λ i j. P' (suc i) j N))
-    (r zero (suc n)) (sum_rises n (λ i j. P' (suc i) j) (λ i j e. r (suc i) j)) (u zero (suc n))
-    (under_sum n (λ i j. P (suc i) j) (λ i j. P' (suc i) j) (λ i j. r (suc i) j) (λ i j. u (suc i) j))
+level_sum zero P P' r r' u = u zero zero
+level_sum (suc n) P P' r r' u =
+    let later : (ℕ → ℕ → Series) → ℕ → ℕ → Series = λ P i j. P (suc i) j in
+    level_both (λ x y. x +ℚ y) plus_le_both (P zero (suc n)) (P' zero (suc n)) (λ N. sum_pairs n (λ i j. P (suc i) j N))
+    (λ N. sum_pairs n (λ i j. P' (suc i) j N)) (r zero (suc n)) (r' zero (suc n))
+    (sum_rises n (later P) (λ i j e. r (suc i) j)) (sum_rises n (later P') (λ i j e. r' (suc i) j)) (u zero (suc n))
+    (level_sum n (later P) (later P') (λ i j. r (suc i) j) (λ i j. r' (suc i) j) (λ i j. u (suc i) j))
 
 module _ (a b f : ℕ → Fraction) (y : ℕ) where
   both : ℕ → ℕ → Fraction
@@ -34,18 +36,10 @@ module _ (a b f : ℕ → Fraction) (y : ℕ) where
   triangle N = sum_to_same N _ _ (λ s e. sym (sum_pairs_times_right s (power f s y) (λ n m. a n *ℚ b m))
       ∙ sum_pairs_same s _ _ (λ n m e'. ap (λ k. a n *ℚ b m *ℚ power f k y) (sym e')))
 
-  pub product_under : IsUnder ((product (compound a f) (compound b f)).cells y) (cell (convolve a b) f y)
-  product_under N = (
-    N + N,
-    subst₂ (λ s t. s ≤ℚ t) (sym (square N)) (sym (triangle (N + N)))
-        (square_le_triangle N N both),
-  )
-
-  pub product_over : IsUnder (cell (convolve a b) f y) ((product (compound a f) (compound b f)).cells y)
-  product_over N = (
-    N,
-    subst₂ (λ s t. s ≤ℚ t) (sym (triangle N)) (sym (square N))
-        (triangle_le_square N N both (omega arith)),
+  product_level : AreLevel ((product (compound a f) (compound b f)).cells y) (cell (convolve a b) f y)
+  product_level = (
+    λ N. (N + N, subst₂ (λ s t. s ≤ℚ t) (sym (square N)) (sym (triangle (N + N))) (square_le_triangle N N both)),
+    λ N. (N, subst₂ (λ s t. s ≤ℚ t) (sym (triangle N)) (sym (square N)) (triangle_le_square N N both (omega arith))),
   )
 
 pub sum_to_at_zero : (N : ℕ) (X : ℕ → Fraction) → sum_to N (λ n. at_zero n *ℚ X n) ≡ X zero
@@ -63,55 +57,41 @@ module _ (w f : ℕ → Fraction) where
   itself_rises (suc n) y = sum_rises y (λ i j. times (cell w f i) ((times_itself (compound w f) n).cells j))
       (λ i j e. rises_times _ _ (cell_rises w f i) (itself_rises n j))
 
-  pub itself_under : (n y : ℕ) → IsUnder ((times_itself (compound w f) n).cells y) (cell (power w n) f y)
+  itself_level : (n y : ℕ) → AreLevel ((times_itself (compound w f) n).cells y) (cell (power w n) f y)
   unfolding power ◌^ℚ◌
-  itself_under zero y = λ N. (N, le_of_eq _ _ (sym (sum_to_at_zero N (λ n. power f n y))))
-  itself_under (suc n) y =
-      under_trans _ ((product (compound w f) (compound (power w n) f)).cells y) _
-      (under_sum y (λ i j. times (cell w f i) ((times_itself (compound w f) n).cells j))
+  itself_level zero y = level_same _ _ (λ N. sym (sum_to_at_zero N (λ n. power f n y)))
+  itself_level (suc n) y =
+      level_trans _ ((product (compound w f) (compound (power w n) f)).cells y) _
+      (level_sum y (λ i j. times (cell w f i) ((times_itself (compound w f) n).cells j))
       (λ i j. times (cell w f i) (cell (power w n) f j))
-      (λ i j. rises_times _ _ (cell_rises w f i) (cell_rises (power w n) f j))
-      (λ i j. under_times _ _ _ _ (cell_rises w f i) (cell_rises (power w n) f j) (under_self _) (itself_under n j)))
-      (product_under w (power w n) f y)
-
-  pub itself_over : (n y : ℕ) → IsUnder (cell (power w n) f y) ((times_itself (compound w f) n).cells y)
-  unfolding power ◌^ℚ◌
-  itself_over zero y = λ N. (N, le_of_eq _ _ (sum_to_at_zero N (λ n. power f n y)))
-  itself_over (suc n) y =
-      under_trans _ ((product (compound w f) (compound (power w n) f)).cells y) _
-      (product_over w (power w n) f y)
-      (under_sum y (λ i j. times (cell w f i) (cell (power w n) f j))
-      (λ i j. times (cell w f i) ((times_itself (compound w f) n).cells j))
       (λ i j. rises_times _ _ (cell_rises w f i) (itself_rises n j))
-      (λ i j. under_times _ _ _ _ (cell_rises w f i) (itself_rises n j) (under_self _) (itself_over n j)))
+      (λ i j. rises_times _ _ (cell_rises w f i) (cell_rises (power w n) f j))
+      (λ i j. level_both (λ x y. x *ℚ y) times_le_both _ _ _ _ (cell_rises w f i) (cell_rises w f i) (itself_rises n j)
+      (cell_rises (power w n) f j) (level_same _ _ (λ N. refl)) (itself_level n j)))
+      (product_level w (power w n) f y)
 
   all_rises : (n : ℕ) → Rises ((times_itself (compound w f) n).all)
   unfolding power ◌^ℚ◌
   all_rises zero = λ N. le_refl _
   all_rises (suc n) = rises_times _ _ (sum_rises_to w) (all_rises n)
 
-  pub all_under : (n : ℕ) → IsUnder ((times_itself (compound w f) n).all) (λ N. sum_to N (power w n))
+  all_level : (n : ℕ) → AreLevel ((times_itself (compound w f) n).all) (λ N. sum_to N (power w n))
   unfolding power ◌^ℚ◌
-  all_under zero = λ N. (
-    N,
-    le_of_eq _ _ (sym
-        (sum_to_same N _ _ (λ n e. sym (times_one (at_zero n))) ∙ sum_to_at_zero N (λ n. whole 1))),
-  )
-  all_under (suc n) =
-      under_trans _ (times (λ N. sum_to N w) (λ N. sum_to N (power w n))) _
-      (under_times _ _ _ _ (sum_rises_to w) (sum_rises_to (power w n)) (under_self _) (all_under n))
-      (λ N. (N + N, cauchy_high N w (power w n)))
-
-  pub all_over : (n : ℕ) → IsUnder (λ N. sum_to N (power w n)) ((times_itself (compound w f) n).all)
-  unfolding power ◌^ℚ◌
-  all_over zero =
-      λ N. (N, le_of_eq _ _ (sum_to_same N _ _ (λ n e. sym (times_one (at_zero n))) ∙ sum_to_at_zero N (λ n. whole 1)))
-  all_over (suc n) =
-      under_trans _ (times (λ N. sum_to N w) (λ N. sum_to N (power w n))) _
-      (λ N. (N, cauchy_low N w (power w n)))
-      (under_times _ _ _ _ (sum_rises_to w) (all_rises n) (under_self _) (all_over n))
+  all_level zero = level_same _ _
+      (λ N. sym (sum_to_same N _ _ (λ n e. sym (times_one (at_zero n))) ∙ sum_to_at_zero N (λ n. whole 1)))
+  all_level (suc n) =
+      level_trans _ (times (λ N. sum_to N w) (λ N. sum_to N (power w n))) _
+      (level_both (λ x y. x *ℚ y) times_le_both _ _ _ _ (sum_rises_to w) (sum_rises_to w) (all_rises n)
+      (sum_rises_to (power w n)) (level_same _ _ (λ N. refl)) (all_level n))
+      ((cauchy_level w (power w n)).1, (cauchy_level w (power w n)).0)
 
   -- n times a compound sum, in every cell
   pub itself_value : (n y : ℕ) → SameValue ((times_itself (compound w f) n).cells y)
       ((times_itself (compound w f) n).all) (cell (power w n) f y) (λ N. sum_to N (power w n))
-  itself_value n y = same_value _ _ _ _ (itself_under n y) (itself_over n y) (all_under n) (all_over n)
+  itself_value n y = same_value _ _ _ _ (itself_level n y) (all_level n)
+
+-- n counts added up, by what their weights are
+pub count_power : (w v f : ℕ → Fraction) (n : ℕ) → power w n ≡ v
+    → SameCells (times_itself (compound w f) n) (compound v f)
+count_power w v f n e y = subst (λ c. SameValue ((times_itself (compound w f) n).cells y)
+    ((times_itself (compound w f) n).all) (cell c f y) (λ N. sum_to N c)) e (itself_value w f n y)

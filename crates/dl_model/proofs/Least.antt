@@ -1,8 +1,8 @@
 -- Series whose least upper bound is a fraction.
-use Rattle.dl_model.proofs.Common.{◌≡◌, ℕ, suc, zero, sym, subst, subst₂, fun_ext, Fraction, ◌+ℚ◌, ◌*ℚ◌, ◌≤ℚ◌, ◌<ℚ◌, whole, sum_to, Series, AtMost, AtLeast, Holds, Rises, plus, times, SameValue, IsLeastBound, ring, times_comm, le_refl, le_trans, plus_le_both, times_le_times, times_one, times_le_cancel, times_le_both}
+use Rattle.dl_model.proofs.Common.{ℕ, suc, zero, sym, subst, subst₂, fun_ext, Fraction, ◌+ℚ◌, ◌*ℚ◌, ◌≤ℚ◌, ◌<ℚ◌, whole, sum_to, Series, AtMost, AtLeast, Holds, Rises, plus, times, SameValue, IsLeastBound, ring, times_comm, le_refl, le_trans, plus_le_both, times_le_times, times_one, times_le_cancel, times_le_both}
 use Rattle.std.proofs.Common.{◌↔◌}
-use Rattle.dl_model.proofs.Declared.{at_most_times, at_least_times, at_most_plus, at_least_plus}
-use Rattle.dl_model.proofs.Alike.{IsUnder, bound_from}
+use Rattle.dl_model.proofs.Declared.{holds_times, holds_plus}
+use Rattle.dl_model.proofs.Alike.{AreLevel, bound_from}
 
 pub one : Series
 one N = whole 1
@@ -31,20 +31,13 @@ pub least_times : (Q R : Series) (A B : Fraction) → Rises Q → Rises R → Is
     → IsLeastBound (times Q R) (A *ℚ B)
 unfolding one
 least_times Q R A B q r a b =
-    let x = to_holds Q A a in
-    let y = to_holds R B b in
-    let e : times one one ≡ one = fun_ext (λ n. times_one _) in
-    from_holds (times Q R) (A *ℚ B) (
-      (subst (λ o. AtLeast (times Q R) o (A *ℚ B)) e (at_least_times Q one R one A B q r x.0 y.0)),
-      (subst (λ o. AtMost (times Q R) o (A *ℚ B)) e (at_most_times Q one R one A B one_rises one_rises x.1 y.1)),
-    )
+    from_holds (times Q R) (A *ℚ B) (subst (λ o. Holds (times Q R) o (A *ℚ B) (A *ℚ B)) (fun_ext (λ n. times_one _))
+    (holds_times Q one R one A B A B q one_rises r one_rises (to_holds Q A a) (to_holds R B b)))
 
 pub least_plus : (Q R : Series) (A B : Fraction) → Rises Q → Rises R → IsLeastBound Q A → IsLeastBound R B
     → IsLeastBound (plus Q R) (A +ℚ B)
 least_plus Q R A B q r a b =
-    let x = to_holds Q A a in
-    let y = to_holds R B b in
-    from_holds (plus Q R) (A +ℚ B) (at_least_plus Q R one A B q r x.0 y.0, at_most_plus Q R one A B x.1 y.1)
+    from_holds (plus Q R) (A +ℚ B) (holds_plus Q R one A B A B q r (to_holds Q A a) (to_holds R B b))
 
 pub least_const : (k : Fraction) → IsLeastBound (λ N. k) k
 least_const k = ((λ n. le_refl k), (λ u b. b zero))
@@ -53,8 +46,8 @@ pub least_scaled : (k : Fraction) (Q : Series) (A : Fraction) → Rises Q → Is
     → IsLeastBound (λ N. k *ℚ Q N) (k *ℚ A)
 least_scaled k Q A q a = least_times (λ N. k) Q k A (λ n. le_refl k) q (least_const k) a
 
-pub least_from : (Q R : Series) (A : Fraction) → IsUnder Q R → IsUnder R Q → IsLeastBound Q A → IsLeastBound R A
-least_from Q R A q r a = (bound_from R Q r A a.0, λ u b. a.1 u (bound_from Q R q u b))
+pub least_from : (R Q : Series) (A : Fraction) → AreLevel R Q → IsLeastBound Q A → IsLeastBound R A
+least_from R Q A r a = (bound_from R Q r.0 A a.0, λ u b. a.1 u (bound_from Q R r.1 u b))
 
 pub least_sum : (n : ℕ) (P : ℕ → Series) (A : ℕ → Fraction) → ((j : ℕ) → Rises (P j))
     → ((j : ℕ) → IsLeastBound (P j) (A j))

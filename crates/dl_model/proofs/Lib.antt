@@ -27,8 +27,8 @@ pub mod Panjer
 pub mod Settles
 pub mod SettlesGamma
 pub mod AddedCounts
-pub mod UnitLaws
 pub mod Outcomes
+pub mod UnitLaws
 pub mod Scores
 pub mod Ends
 pub mod Bracket
@@ -40,6 +40,8 @@ pub mod CountBounds
 pub mod Bounded
 pub mod Clauses
 pub mod Means
+pub mod TotalMeans
+pub mod UnitLosses
 pub mod CountMeans
 pub mod Beginnings
 pub mod ItemWeights

@@ -1,13 +1,12 @@
--- Means: of a compound sum, of a total, and of the counts.
-use Rattle.dl_model.proofs.Common.{◌≡◌, ℕ, suc, zero, ◌+◌, ◌*◌, ◌<◌, ◌≤◌, arith, sym, ap, ap₂, subst, subst₂, ◌∙◌, mul-le-mul_right, List, [], ◌∷◌, fun_ext, Fraction, ◌+ℚ◌, ◌*ℚ◌, ◌≤ℚ◌, whole, sum_to, times_left_comm, times_zero, zero_times, times_one, one_times, plus_zero, le_trans, le_antisymm, sum_to_same, sum_to_times, sum_to_swap, sum_to_grows, sum_to_product, sum_to_longer, sum_to_zero, Series, Rises, Holds, plus, times, convolve, at_zero, power, cell, IsSeverity, Aggregate, IsDeclarable, AreDeclarable, One, Mean, score, outcome, sum_over_outcomes, partial_sums}
+-- Means: of a compound sum, and of a unit without an aggregate clause.
+use Rattle.dl_model.proofs.Common.{◌≡◌, ℕ, suc, zero, ◌+◌, ◌*◌, ◌<◌, ◌≤◌, arith, sym, ap, ap₂, subst, subst₂, ◌∙◌, mul-le-mul_right, [], ◌∷◌, fun_ext, Fraction, ◌*ℚ◌, ◌≤ℚ◌, whole, sum_to, times_left_comm, times_zero, zero_times, times_one, le_trans, le_antisymm, sum_to_same, sum_to_times, sum_to_swap, sum_to_grows, sum_to_product, sum_to_longer, sum_to_zero, Holds, convolve, at_zero, power, cell, IsSeverity, Aggregate, IsDeclarable, loss, One, Mean, partial_sums}
 use Rattle.std.proofs.Math.Nat.{le_refl as le_refl_n}
-use Rattle.dl_model.proofs.Declared.{self_holds, at_least_plus, at_most_plus, at_least_times, at_most_times, scaled}
+use Rattle.dl_model.proofs.Declared.{scaled}
 use Rattle.dl_model.proofs.Cauchy.{cauchy_low, square_le_triangle}
-use Rattle.dl_model.proofs.Powers.{power_tilt}
+use Rattle.dl_model.proofs.Powers.{power_tilt, tilt_at_zero}
 use Rattle.dl_model.proofs.CompoundLaws.{power_severity}
-use Rattle.dl_model.proofs.FamilyLaws.{sum_rises_to, rises_times}
-use Rattle.dl_model.proofs.UnitLaws.{unit_plain}
-use Rattle.dl_model.proofs.Outcomes.{outcomes_rise, total_more_all, mean_more}
+use Rattle.dl_model.proofs.UnitLaws.{unit_loss, unit_plain}
+use Rattle.dl_model.proofs.Outcomes.{total_alone_all, mean_alone}
 use Rattle.dl_exact.proofs.Orders.{times_reverse}
 
 -- a sum over all i + j up to a level that both stay below
@@ -28,11 +27,7 @@ module _ (f : ℕ → Fraction) (m : ℕ) (h : IsSeverity f m) where
 
   pub power_mean : (n k : ℕ) → n * m ≤ k → sum_to k (λ s. whole s *ℚ power f n s) ≡ whole n *ℚ severity_mean
   unfolding power at_zero
-  power_mean zero k b = sum_to_zero k _ (λ s c. no_claim s) ∙ sym (zero_times _)
-    where
-      no_claim : (s : ℕ) → whole s *ℚ at_zero s ≡ whole 0
-      no_claim zero = zero_times _
-      no_claim (suc s) = times_zero _
+  power_mean zero k b = sum_to_zero k _ (λ s c. tilt_at_zero s) ∙ sym (zero_times _)
   power_mean (suc n) k b =
       sum_to_same k _ _ (λ s c. power_tilt f n s)
       ∙ sum_to_times k (whole (suc n)) (convolve (λ j. whole j *ℚ f j) (power f n))
@@ -56,63 +51,15 @@ module _ (f : ℕ → Fraction) (m : ℕ) (h : IsSeverity f m) where
 
 -- ---- of units
 
-abbrev unit_mean : Aggregate → Series
-unit_mean u N = sum_to (N * u.most) (λ y. whole y *ℚ outcome u y N)
-
-pub mean_alone : (u : Aggregate) → IsDeclarable u → (N : ℕ) → partial_sums (u ∷ []) Mean N ≡ unit_mean u N
-unfolding sum_over_outcomes
-mean_alone u h N = mean_more u [] h N ∙ ap₂ (λ s t. s +ℚ t) (times_one _) (times_zero _) ∙ plus_zero _
-
-pub one_alone : (u : Aggregate) → IsDeclarable u → (N : ℕ) → partial_sums (u ∷ []) One N ≡ sum_to N u.count
-unfolding sum_over_outcomes
-one_alone u h N = total_more_all u [] h N ∙ times_one _
-
 pub mean_of_unit : (u : Aggregate) → IsDeclarable u → ((s : ℕ) → u.clause s ≡ s) → (l h : Fraction)
     → Holds (λ N. sum_to N (λ n. whole n *ℚ u.count n)) (λ N. sum_to N u.count) l h
-    → Holds (partial_sums (u ∷ []) Mean) (partial_sums (u ∷ []) One)
+    → Holds (partial_sums (loss u ∷ []) Mean) (partial_sums (loss u ∷ []) One)
     (sum_to u.most (λ j. whole j *ℚ u.severity j) *ℚ l) (sum_to u.most (λ j. whole j *ℚ u.severity j) *ℚ h)
 mean_of_unit u is same l h v =
     let E = sum_to u.most (λ j. whole j *ℚ u.severity j) in
-    let Q : partial_sums (u ∷ []) Mean ≡ (λ N. E *ℚ sum_to N (λ n. whole n *ℚ u.count n)) =
-    fun_ext (λ N. mean_alone u is N ∙ sum_to_same (N * u.most) _ _
+    let Q : partial_sums (loss u ∷ []) Mean ≡ (λ N. E *ℚ sum_to N (λ n. whole n *ℚ u.count n)) =
+    fun_ext (λ N. mean_alone (loss u) (unit_loss u is) N ∙ sum_to_same (N * u.most) _ _
     (λ y b. ap (λ t. whole y *ℚ t) (unit_plain u is same y N))
     ∙ cells_mean u.severity u.most is.severity u.count N (N * u.most) (le_refl_n _)) in
-    subst₂ (λ Q R. Holds Q R (E *ℚ l) (E *ℚ h)) (sym Q) (sym (fun_ext (one_alone u is)))
+    subst₂ (λ Q R. Holds Q R (E *ℚ l) (E *ℚ h)) (sym Q) (sym (fun_ext (total_alone_all (loss u) (unit_loss u is))))
     (scaled E (λ N. sum_to N (λ n. whole n *ℚ u.count n)) (λ N. sum_to N u.count) l h v)
-
--- the mean of a total is the sum of the means
-pub mean_of_total : (u : Aggregate) (us : List Aggregate) → IsDeclarable u → AreDeclarable us → (l h l' h' : Fraction)
-    → Holds (partial_sums (u ∷ []) Mean) (partial_sums (u ∷ []) One) l h
-    → Holds (partial_sums us Mean) (partial_sums us One) l' h'
-    → Holds (partial_sums (u ∷ us) Mean) (partial_sums (u ∷ us) One) (l +ℚ l') (h +ℚ h')
-mean_of_total u us is are l h l' h' v v' =
-    let W : Series = λ N. sum_to N u.count in
-    let A = unit_mean u in
-    let O = partial_sums us One in
-    let M = partial_sums us Mean in
-    let a : Holds A W l h = subst₂ (λ Q R. Holds Q R l h) (fun_ext (mean_alone u is)) (fun_ext (one_alone u is)) v in
-    let rise : Rises A = subst (λ Q. Rises Q) (fun_ext (mean_alone u is))
-    (outcomes_rise (u ∷ []) (is, tt) (score Mean)) in
-    let w : Rises W = sum_rises_to u.count in
-    let o : Rises O = outcomes_rise us are (score One) in
-    let r : Rises M = outcomes_rise us are (score Mean) in
-    let left : Holds (times A O) (times W O) (l *ℚ whole 1) (h *ℚ whole 1) = (
-      at_least_times A W O O l (whole 1) rise o a.0 (self_holds O).0,
-      at_most_times A W O O h (whole 1) w o a.1
-          (self_holds O).1,
-    ) in
-    let right : Holds (times W M) (times W O) (whole 1 *ℚ l') (whole 1 *ℚ h') = (
-      at_least_times W W M O (whole 1) l' w r (self_holds W).0 v'.0,
-      at_most_times W W M O (whole 1) h' w o
-          (self_holds W).1 v'.1,
-    ) in
-    let both : Holds (plus (times A O) (times W M)) (times W O) (l *ℚ whole 1 +ℚ whole 1 *ℚ l')
-    (h *ℚ whole 1 +ℚ whole 1 *ℚ h') = (
-      at_least_plus (times A O) (times W M) (times W O) _ _ (rises_times A O rise o)
-          (rises_times W M w r) left.0 right.0,
-      at_most_plus (times A O) (times W M) (times W O) _ _ left.1 right.1,
-    ) in
-    subst₂ (λ Q R. Holds Q R (l +ℚ l') (h +ℚ h')) (sym (fun_ext (mean_more u us is)))
-    (sym (fun_ext (total_more_all u us is)))
-    (subst₂ (λ x y. Holds (plus (times A O) (times W M)) (times W O) x y)
-    (ap₂ (λ s t. s +ℚ t) (times_one l) (one_times l')) (ap₂ (λ s t. s +ℚ t) (times_one h) (one_times h')) both)

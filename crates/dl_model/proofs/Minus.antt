@@ -1,7 +1,8 @@
 -- The declared value of one of two parts, from those of the whole and of the other part.
-use Rattle.dl_model.proofs.Common.{◌≡◌, inl, inr, ℕ, zero, max, sym, ap, subst, subst₂, ◌∙◌, le-max_left, le-max_right, Fraction, ◌+ℚ◌, ◌-ℚ◌, ◌*ℚ◌, ◌/ℚ◌, ◌≤ℚ◌, ◌<ℚ◌, whole, Series, IsBound, AtMost, AtLeast, Rises, plus, ring, plus_comm, times_comm, plus_zero, zero_times, le_refl, le_trans, le_of_eq, lt_or_le, lt_not_le, plus_le_both, le_plus, plus_times, lt_gap, plus_le_cancel, times_le_cancel, zero_or_pos, le_sub, sub_plus, div_times, div_pos, times_le_both}
-use Rattle.dl_model.proofs.Declared.{at_least_shifted, crossed_plus, rises_to}
+use Rattle.dl_model.proofs.Common.{◌≡◌, inl, inr, ℕ, zero, max, sym, ap, subst, subst₂, ◌∙◌, le-max_left, le-max_right, fun_ext, Fraction, ◌+ℚ◌, ◌-ℚ◌, ◌*ℚ◌, ◌/ℚ◌, ◌≤ℚ◌, ◌<ℚ◌, whole, Series, IsBound, AtMost, AtLeast, Holds, Rises, plus, le_of_lt, zero_le, ring, plus_comm, times_comm, plus_zero, zero_times, le_refl, le_trans, le_of_eq, lt_or_le, lt_not_le, plus_le_both, le_plus, plus_times, lt_gap, plus_le_cancel, times_le_cancel, zero_or_pos, le_sub, sub_plus, div_times, div_pos, times_le_both}
+use Rattle.dl_model.proofs.Declared.{self_holds, at_least_shifted, at_most_wider, crossed_plus, rises_to}
 use Rattle.dl_model.proofs.Complements.{no_descent}
+use Rattle.dl_exact.proofs.Laws.{sub_nothing}
 use Rattle.dl_exact.proofs.Orders.{plus_swap}
 
 divided : (x v g k : Fraction) → whole 0 <ℚ k → k *ℚ x +ℚ g ≤ℚ k *ℚ v → x +ℚ g /ℚ k ≤ℚ v
@@ -88,3 +89,28 @@ at_most_minus Q Q' R h l r r' a a' n u b = elim (lt_or_le (h *ℚ u) (Q n)) [
             u (b, le_refl u)
       ])
 ]
+
+pub at_most_rest : (Q Q' R : Series) (l k : Fraction) → Rises Q → Rises Q' → ((n : ℕ) → Q n +ℚ Q' n ≡ R n)
+    → l +ℚ k ≡ whole 1 → AtLeast Q R l → AtMost Q' R k
+at_most_rest Q Q' R l k r r' e one a = at_most_minus Q' Q R k l r' r
+    (subst₂ (λ S t. AtMost S R t) (fun_ext (λ n. sym (e n) ∙ plus_comm _ _)) (sym one ∙ plus_comm l k)
+    (self_holds R).1) a
+
+le_sub_plus : (x y : Fraction) → x ≤ℚ x -ℚ y +ℚ y
+le_sub_plus x y = elim (lt_or_le x y) [
+  | inl less ↦ le_trans _ _ _ (le_of_lt x y less) (subst (λ t. y ≤ℚ t) (plus_comm y (x -ℚ y)) (le_plus y (x -ℚ y)))
+  | inr more ↦ subst (λ t. x ≤ℚ t) (sym (sub_plus x y more)) (le_refl x)
+]
+
+-- one of two parts, from the whole and the other part
+pub holds_minus : (Q Q' R : Series) (l h m n v : Fraction) → Rises Q → Rises Q' → Rises R → IsBound R v
+    → Holds (plus Q Q') R m n → Holds Q' R l h → Holds Q R (m -ℚ h) (n -ℚ l)
+holds_minus Q Q' R l h m n v q q' r b whole_part part = (
+  elim (lt_or_le m h) [
+    | inl less ↦ λ N x c. subst (λ t. t ≤ℚ x)
+        (sym (ap (λ t. t *ℚ R N) (sub_nothing m h (le_of_lt m h less)) ∙ zero_times _)) (zero_le x)
+    | inr more ↦ at_least_minus Q Q' R (m -ℚ h) h v r b
+        (subst (AtLeast (plus Q Q') R) (sym (sub_plus m h more)) whole_part.0) part.1
+  ],
+  at_most_minus Q Q' R (n -ℚ l) l q q' (at_most_wider (plus Q Q') R n _ whole_part.1 (le_sub_plus n l)) part.0,
+)

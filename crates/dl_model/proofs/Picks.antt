@@ -1,5 +1,5 @@
 -- Sums that pick one place.
-use Rattle.dl_model.proofs.Common.{◌≡◌, inl, inr, ℕ, suc, zero, ◌<◌, ◌≤◌, nat_eq, arith, ap, ap₂, ◌∙◌, ne_eqb, eq-eqb, cases_lt, Fraction, ◌+ℚ◌, whole, sum_to, where_true, plus_zero, zero_plus, sum_to_zero}
+use Rattle.dl_model.proofs.Common.{◌≢◌, Bool, true, false, refl, sym, cases_eq, ◌*ℚ◌, times_zero, sum_to_same, ◌≡◌, inl, inr, ℕ, suc, zero, ◌<◌, ◌≤◌, nat_eq, arith, ap, ap₂, ◌∙◌, ne_eqb, eq-eqb, cases_lt, Fraction, ◌+ℚ◌, whole, sum_to, where_true, plus_zero, zero_plus, sum_to_zero}
 
 pub pick_none : (n x : ℕ) (f : ℕ → Fraction) → n < x → sum_to n (λ s. where_true (nat_eq s x) (f s)) ≡ whole 0
 pick_none n x f h = sum_to_zero n _ (λ s b. ap (λ t. where_true t (f s)) (ne_eqb s x (omega arith)))
@@ -15,3 +15,20 @@ pick (suc n) x f h = elim (cases_lt n x) [
   | inr near ↦ ap₂ (λ s t. s +ℚ t) (pick n x f near)
       (ap (λ t. where_true t (f (suc n))) (ne_eqb (suc n) x (omega arith))) ∙ plus_zero _
 ]
+
+pub off : (t y : ℕ) (c : Fraction) → t ≢ y → where_true (nat_eq t y) c ≡ whole 0
+off t y c n = ap (λ b. where_true b c) (ne_eqb t y n)
+
+pub on : (t y : ℕ) (c : Fraction) → t ≡ y → where_true (nat_eq t y) c ≡ c
+on t y c e = ap (λ b. where_true b c) (eq-eqb t y e)
+
+-- the same with the place on the left of the test
+pub passed : (n t : ℕ) (f : ℕ → Fraction) → t ≤ n → sum_to n (λ y. where_true (nat_eq t y) (f y)) ≡ f t
+passed n t f h = sum_to_same n _ _ (λ y b. elim (cases_eq t y) [
+  | inl e ↦ on t y (f y) e ∙ sym (on y t (f y) (sym e))
+  | inr e ↦ off t y (f y) e ∙ sym (off y t (f y) (λ i. e (sym i)))
+]) ∙ pick n t f h
+
+pub times_where : (b : Bool) (x y : Fraction) → x *ℚ where_true b y ≡ where_true b (x *ℚ y)
+times_where true x y = refl
+times_where false x y = times_zero x

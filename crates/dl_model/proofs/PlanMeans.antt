@@ -1,11 +1,12 @@
 -- The expected counts of a plan's units, and their means.
-use Rattle.dl_model.proofs.Common.{ℕ, zero, suc, ◌≡◌, List, [], ◌∷◌, map, arith, refl, sym, ap, subst, subst₂, ◌∙◌, All, All-head, All-tail, Fraction, whole, ◌*ℚ◌, ◌≤ℚ◌, sum_to, sum_over, over_self, times_comm, one_times, zero_times, zero_le, le_refl, Freq, Fixed, Table, Bernoulli, Binomial, Poisson, Gamma, pairs_of, mean_amount, greatest, expected_count, IsValidUnit, num_le_den, total_pos, Series, Holds, One, Mean, sum_over_outcomes, partial_sums, count_weights, outcome_after, aggregate_of}
+use Rattle.dl_model.proofs.Common.{ℕ, zero, suc, ◌≡◌, List, [], ◌∷◌, map, arith, refl, sym, ap, subst, subst₂, ◌∙◌, All, All-head, All-tail, Fraction, whole, ◌*ℚ◌, ◌≤ℚ◌, sum_to, sum_over, over_self, times_comm, one_times, zero_times, zero_le, le_refl, Freq, Fixed, Table, Bernoulli, Binomial, Poisson, Gamma, pairs_of, mean_amount, greatest, expected_count, IsValidUnit, num_le_den, total_pos, Series, Holds, One, Mean, sum_over_outcomes, partial_sums, count_weights, outcome_after, loss_of, Sev, probability_of, Aggregate, IsDeclarable, loss}
 use Rattle.std.proofs.Common.{None}
 use Rattle.std.proofs.Math.Nat.{le_refl as le_refl_n}
 use Rattle.dl_plan.specs.declared.plan.Unit.{Unit as UnitOfPlan}
 use Rattle.dl_plan.specs.Count.{IsClaimCount as IsCountOfPlan}
 use Rattle.dl_model.proofs.CountMeans.{finite_mean, fixed_mean, binomial_mean, poisson_mean, gamma_mean}
-use Rattle.dl_model.proofs.Means.{mean_of_unit, mean_of_total}
+use Rattle.dl_model.proofs.Means.{mean_of_unit}
+use Rattle.dl_model.proofs.TotalMeans.{mean_of_total}
 use Rattle.dl_model.proofs.Bounded.{are_units}
 use Rattle.dl_model.proofs.ItemWeights.{shares_severity, shares_mean, severity_mean}
 use Rattle.dl_model.proofs.PlanUnits.{unit_declared, units_declared}
@@ -31,24 +32,39 @@ count_mean (Poisson mean) h = poisson_mean mean
 count_mean (Gamma zero mean) h = absurd (omega (arith, h))
 count_mean (Gamma (suc q) mean) h = gamma_mean q mean
 
+-- a unit of these claims
+abbrev pub with_clause : Freq → Sev → (ℕ → ℕ) → Aggregate
+with_clause freq sev clause = record {
+  count = count_weights freq;
+  severity = probability_of sev;
+  most = greatest sev.items;
+  clause = clause;
+}
+
+-- its mean, where the clause leaves each sum as it is
+pub plain_mean : (freq : Freq) (sev : Sev) (clause : ℕ → ℕ) → IsDeclarable (with_clause freq sev clause)
+    → IsCountOfPlan freq → ((s : ℕ) → clause s ≡ s)
+    → Holds (partial_sums (loss (with_clause freq sev clause) ∷ []) Mean)
+    (partial_sums (loss (with_clause freq sev clause) ∷ []) One) (expected_count freq *ℚ mean_amount (pairs_of sev))
+    (expected_count freq *ℚ mean_amount (pairs_of sev))
+plain_mean freq sev clause is count same =
+    let u = with_clause freq sev clause in
+    let e = expected_count freq in
+    subst (λ v. Holds (partial_sums (loss u ∷ []) Mean) (partial_sums (loss u ∷ []) One) v v)
+    (ap (λ m. m *ℚ e) (severity_mean sev) ∙ times_comm _ e) (mean_of_unit u is same e e (count_mean freq count))
+
 -- the declared mean of units lies from l to h
 abbrev pub MeanHolds : List UnitOfPlan → Fraction → Fraction → Type 0
-MeanHolds units l h = Holds (partial_sums (map aggregate_of units) Mean) (partial_sums (map aggregate_of units) One) l h
+MeanHolds units l h = Holds (partial_sums (map loss_of units) Mean) (partial_sums (map loss_of units) One) l h
 
 pub unit_mean : (cells : ℕ) (u : UnitOfPlan) → IsValidUnit cells u → u.cede ≡ None
     → MeanHolds (u ∷ []) (expected_count u.freq *ℚ mean_amount (pairs_of u.sev))
     (expected_count u.freq *ℚ mean_amount (pairs_of u.sev))
-unit_mean cells u h none =
-    let e = expected_count u.freq in
-    let value : sum_to (greatest u.sev.items)
-    (λ j. whole j *ℚ (aggregate_of u).severity j) *ℚ e ≡ e *ℚ mean_amount (pairs_of u.sev) =
-    ap (λ m. m *ℚ e) (severity_mean u.sev) ∙ times_comm _ e in
-    subst (λ v. MeanHolds (u ∷ []) v v) value
-    (mean_of_unit (aggregate_of u) (unit_declared cells u h).unit (λ s. ap (λ cede. outcome_after cede s) none) e e
-    (count_mean u.freq h.count))
+unit_mean cells u h none = plain_mean u.freq u.sev (outcome_after u.cede) (unit_declared cells u h).unit h.count
+    (λ s. ap (λ cede. outcome_after cede s) none)
 
 -- a total of no units is 0
-no_mean : (Q R : Series) → ((N : ℕ) → Q N ≡ whole 0) → Holds Q R (whole 0) (whole 0)
+pub no_mean : (Q R : Series) → ((N : ℕ) → Q N ≡ whole 0) → Holds Q R (whole 0) (whole 0)
 no_mean Q R none = (
   (λ N u b. subst (λ t. t ≤ℚ u) (sym (zero_times (R N))) (zero_le u)),
   (λ N u b. subst₂ (λ s t. s ≤ℚ t) (sym (none N)) (sym (zero_times u)) (le_refl (whole 0))),
@@ -59,9 +75,8 @@ pub units_mean : (cells : ℕ) (l h : UnitOfPlan → Fraction) (units : List Uni
 unfolding sum_over sum_over_outcomes
 units_mean cells l h [] valid each = no_mean (partial_sums [] Mean) (partial_sums [] One) (λ N. refl)
 units_mean cells l h (u ∷ us) valid each =
-    let rest = All-tail (IsValidUnit cells) u us valid in
-    mean_of_total (aggregate_of u) (map aggregate_of us)
-    (unit_declared cells u (All-head (IsValidUnit cells) u us valid)).unit
-    (are_units (map aggregate_of us) (units_declared cells us rest)) (l u) (h u) (sum_over us l) (sum_over us h)
-    (All-head (λ v. MeanHolds (v ∷ []) (l v) (h v)) u us each)
-    (units_mean cells l h us rest (All-tail (λ v. MeanHolds (v ∷ []) (l v) (h v)) u us each))
+    let are = units_declared cells (u ∷ us) valid in
+    let P : UnitOfPlan → Type 0 = λ v. MeanHolds (v ∷ []) (l v) (h v) in
+    mean_of_total (loss_of u) (map loss_of us) are.0.loss (are_units (map loss_of us) are.1) (l u) (h u) (sum_over us l)
+    (sum_over us h) (All-head P u us each)
+    (units_mean cells l h us (All-tail (IsValidUnit cells) u us valid) (All-tail P u us each))

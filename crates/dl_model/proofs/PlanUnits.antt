@@ -1,5 +1,5 @@
 -- The units of a valid plan can be declared.
-use Rattle.dl_model.proofs.Common.{ℕ, zero, suc, ◌*◌, ◌/◌, ◌≤◌, List, [], ◌∷◌, map, Option, arith, sym, subst, IfSome, All, All-head, All-tail, Fraction, whole, ◌≤ℚ◌, over_self, over_le, le_over, Sev, Freq, Fixed, Table, Bernoulli, Binomial, Poisson, Gamma, Clause, kept, greatest, IsAggregate, IsValidUnit, num_le_den, AreCountWeights, AreDeclarable, IsDeclared, AreDeclared, count_weights, outcome_after, aggregate_of}
+use Rattle.dl_model.proofs.Common.{ℕ, zero, suc, ◌*◌, ◌/◌, ◌≤◌, List, [], ◌∷◌, map, Option, arith, sym, subst, IfSome, All, All-head, All-tail, Fraction, whole, ◌≤ℚ◌, over_self, over_le, le_over, Sev, Freq, Fixed, Table, Bernoulli, Binomial, Poisson, Gamma, Clause, kept, greatest, IsAggregate, IsValidUnit, num_le_den, AreCountWeights, AreDeclarable, IsDeclared, AreDeclared, count_weights, outcome_after, aggregate_of, loss_of}
 use Rattle.std.proofs.Common.{Some, None}
 use Rattle.std.proofs.Math.Nat.{div-le_of_le-mul, le_refl as le_refl_n}
 use Rattle.dl_plan.specs.declared.plan.Unit.{Unit as UnitOfPlan}
@@ -13,6 +13,7 @@ use Rattle.dl_plan.proofs.Apart.{kept_le}
 use Rattle.dl_model.specs.Plans.{aggregates_of}
 use Rattle.dl_model.proofs.CountBounds.{finite_count, fixed_count, binomial_count, poisson_count, gamma_of_count}
 use Rattle.dl_model.proofs.Bounded.{are_units}
+use Rattle.dl_model.proofs.UnitLosses.{unit_declared_loss}
 use Rattle.dl_model.proofs.ItemWeights.{shares_severity}
 
 -- ---- the clause raises no sum
@@ -57,10 +58,10 @@ unit_declared cells u h = record {
 }
 
 pub units_declared : (cells : ℕ) (units : List UnitOfPlan) → All (IsValidUnit cells) units
-    → AreDeclared (map aggregate_of units)
+    → AreDeclared (map loss_of units)
 units_declared cells [] h = tt
 units_declared cells (u ∷ us) h = (
-  unit_declared cells u (All-head (IsValidUnit cells) u us h),
+  unit_declared_loss (aggregate_of u) (unit_declared cells u (All-head (IsValidUnit cells) u us h)),
   units_declared cells us
       (All-tail (IsValidUnit cells) u us h),
 )

@@ -1,9 +1,8 @@
 -- Thinning: claims of amount 0 can be left out of a Poisson count.
-use Rattle.dl_model.proofs.Common.{◌≡◌, ℕ, zero, ◌+◌, sym, ap, ap₂, subst, ◌∙◌, zero-lt-suc, Fraction, ◌*ℚ◌, ◌≤ℚ◌, ◌<ℚ◌, whole, sum_to, Series, times, SameValue, convolve, power, cell, poisson, IsPositivePart, ring, times_assoc, times_left_comm, times_plus, times_one, whole_pos, sum_to_same, sum_pairs_same}
-use Rattle.dl_model.proofs.Cauchy.{cauchy_low, cauchy_high}
+use Rattle.dl_model.proofs.Common.{◌≡◌, ℕ, zero, sym, ap, ap₂, subst, ◌∙◌, zero-lt-suc, fun_ext, Fraction, ◌*ℚ◌, ◌<ℚ◌, whole, sum_to, Series, times, SameValue, convolve, power, cell, poisson, IsPositivePart, ring, times_assoc, times_left_comm, times_plus, times_one, whole_pos, sum_to_same, sum_pairs_same}
 use Rattle.dl_model.proofs.PoissonWeights.{next_of, poisson_zero, poisson_plus, poisson_bound}
 use Rattle.dl_model.proofs.Thin.{split}
-use Rattle.dl_model.proofs.Alike.{same_value, value_trans, cancel_value}
+use Rattle.dl_model.proofs.Alike.{AreLevel, cauchy_level, same_value, value_trans, cancel_value}
 use Rattle.dl_model.proofs.FamilyLaws.{sum_rises_to}
 
 module _ (v : Fraction) (f : ℕ → Fraction) (p : Fraction) (g : ℕ → Fraction) (h : IsPositivePart f p g) where
@@ -39,16 +38,12 @@ module _ (v : Fraction) (f : ℕ → Fraction) (p : Fraction) (g : ℕ → Fract
       let Q : Series = cell (poisson (v *ℚ p)) g y in
       let R : Series = λ N. sum_to N some in
       let q : ℕ → Fraction = λ j. some j *ℚ power g j y in
-      let cells : (N : ℕ) → cell (poisson v) f y N ≡ sum_to N (convolve none q) =
-      λ N. sum_to_same N _ _ (λ n b. split_poisson n y) in
-      let all : (N : ℕ) → sum_to N (poisson v) ≡ sum_to N (convolve none some) =
-      λ N. sum_to_same N _ _ (λ n b. split_all n) in
       value_trans _ _ (times E Q) (times E R) _ _
       (same_value _ _ (times E Q) (times E R)
-      (λ N. (N, subst (λ t. t ≤ℚ E N *ℚ Q N) (sym (cells N)) (cauchy_low N none q)))
-      (λ N. (N + N, subst (λ t. E N *ℚ Q N ≤ℚ t) (sym (cells (N + N))) (cauchy_high N none q)))
-      (λ N. (N, subst (λ t. t ≤ℚ E N *ℚ R N) (sym (all N)) (cauchy_low N none some)))
-      (λ N. (N + N, subst (λ t. E N *ℚ R N ≤ℚ t) (sym (all (N + N))) (cauchy_high N none some))))
+      (subst (λ X. AreLevel X (times E Q)) (fun_ext (λ N. sum_to_same N _ _ (λ n b. sym (split_poisson n y))))
+      (cauchy_level none q))
+      (subst (λ X. AreLevel X (times E R)) (fun_ext (λ N. sum_to_same N _ _ (λ n b. sym (split_all n))))
+      (cauchy_level none some)))
       (cancel_value E (sum_rises_to none) _ zero (poisson_bound (v *ℚ f zero))
       (subst (λ t. whole 0 <ℚ t) (sym (poisson_zero (v *ℚ f zero))) (whole_pos 1 (zero-lt-suc zero))) Q R
       (sum_rises_to q) (sum_rises_to some))

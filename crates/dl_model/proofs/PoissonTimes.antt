@@ -1,8 +1,8 @@
 -- A Poisson count from equal shares of its mean, with claims of amount 0 left out.
-use Rattle.dl_model.proofs.Common.{◌≡◌, ℕ, suc, zero, sym, ap, subst, ◌∙◌, zero-lt-suc, fun_ext, Fraction, ◌+ℚ◌, ◌*ℚ◌, whole, sum_to, SameValue, convolve, at_zero, power, cell, poisson, IsPositivePart, compound, times_itself, zero_times, plus_comm, plus_times, one_times, whole_suc, whole_pos, times_cancel}
+use Rattle.dl_model.proofs.Common.{◌≡◌, ℕ, suc, zero, sym, ap, ◌∙◌, zero-lt-suc, fun_ext, Fraction, ◌+ℚ◌, ◌*ℚ◌, whole, sum_to, SameValue, convolve, at_zero, power, cell, poisson, IsPositivePart, compound, times_itself, zero_times, plus_comm, plus_times, one_times, whole_suc, whole_pos, times_cancel}
 use Rattle.dl_model.proofs.PoissonWeights.{poisson_zero, poisson_next, poisson_plus}
 use Rattle.dl_model.proofs.PoissonThin.{thin_poisson}
-use Rattle.dl_model.proofs.Itself.{itself_value}
+use Rattle.dl_model.proofs.Itself.{count_power}
 use Rattle.dl_model.proofs.Alike.{value_trans, value_sym}
 
 pub poisson_none : (n : ℕ) → at_zero n ≡ poisson (whole 0) n
@@ -26,8 +26,6 @@ pub poisson_shares : (u v : Fraction) (k : ℕ) (f : ℕ → Fraction) (p : Frac
     → SameValue ((times_itself (compound (poisson u) g) k).cells y) ((times_itself (compound (poisson u) g) k).all)
     (cell (poisson v) f y) (λ N. sum_to N (poisson v))
 poisson_shares u v k f p g h e y =
-    let w : power (poisson u) k ≡ poisson (v *ℚ p) = poisson_power u k ∙ ap poisson e in
     value_trans _ _ (cell (poisson (v *ℚ p)) g y) (λ N. sum_to N (poisson (v *ℚ p))) _ _
-    (subst (λ q. SameValue ((times_itself (compound (poisson u) g) k).cells y)
-    ((times_itself (compound (poisson u) g) k).all) (cell q g y) (λ N. sum_to N q)) w (itself_value (poisson u) g k y))
+    (count_power (poisson u) (poisson (v *ℚ p)) g k (poisson_power u k ∙ ap poisson e) y)
     (value_sym _ _ _ _ (thin_poisson v f p g h y))

@@ -44,8 +44,8 @@ pub convolve_times : (k : Fraction) (f g : ℕ → Fraction) (s : ℕ) → convo
 convolve_times k f g s =
     sum_pairs_same s _ _ (λ i j e. times_left_comm (f i) k (g j)) ∙ sum_pairs_times s k (λ i j. f i *ℚ g j)
 
-tilt_at_zero : (s : ℕ) → tilt at_zero s ≡ whole 0
-unfolding tilt at_zero
+pub tilt_at_zero : (s : ℕ) → whole s *ℚ at_zero s ≡ whole 0
+unfolding at_zero
 tilt_at_zero zero = zero_times _
 tilt_at_zero (suc s) = times_zero _
 

@@ -1,10 +1,9 @@
 -- Sums of gamma weights settle.
-use Rattle.dl_model.proofs.Common.{◌≡◌, ℕ, suc, zero, ◌+◌, max, arith, refl, sym, ap, ap₂, subst, subst₂, ◌∙◌, zero-lt-suc, le-max_left, le-max_right, Fraction, ◌+ℚ◌, ◌*ℚ◌, ◌/ℚ◌, ◌≤ℚ◌, ◌<ℚ◌, whole, sum_to, Series, Rises, times, Settles, convolve, gamma, ring, plus_comm, times_comm, plus_times, plus_assoc, times_plus, one_times, times_one, whole_suc, whole_plus, whole_pos, le_refl, le_trans, le_of_eq, le_of_lt, le_plus, plus_le_both, plus_le_cancel, times_le_cancel, times_le_times, times_pos, archimedes, div_times, div_pos, times_le_both, sum_to_same}
+use Rattle.dl_model.proofs.Common.{◌≡◌, ℕ, suc, zero, max, arith, refl, sym, ap, ap₂, subst, subst₂, ◌∙◌, zero-lt-suc, fun_ext, le-max_left, le-max_right, Fraction, ◌+ℚ◌, ◌*ℚ◌, ◌/ℚ◌, ◌≤ℚ◌, ◌<ℚ◌, whole, sum_to, Series, Rises, times, Settles, gamma, ring, times_comm, plus_times, plus_assoc, times_plus, one_times, times_one, whole_suc, whole_plus, whole_pos, le_refl, le_trans, le_of_eq, le_of_lt, le_plus, plus_le_both, plus_le_cancel, times_le_cancel, times_le_times, times_pos, archimedes, div_times, div_pos, times_le_both, sum_to_same}
 use Rattle.dl_model.proofs.Declared.{rises_to}
 use Rattle.dl_model.proofs.FamilyLaws.{sum_rises_to}
-use Rattle.dl_model.proofs.Cauchy.{cauchy_low, cauchy_high}
-use Rattle.dl_model.proofs.Alike.{IsUnder}
-use Rattle.dl_model.proofs.Gamma.{gamma_zero, geometric_next, geometric_low, gamma_one_more}
+use Rattle.dl_model.proofs.Alike.{AreLevel, cauchy_level}
+use Rattle.dl_model.proofs.Gamma.{geometric_next, geometric_identity, geometric_low, gamma_one_more}
 use Rattle.dl_exact.proofs.Orders.{times_reverse, times_swap}
 
 -- half of a fraction
@@ -15,12 +14,12 @@ half_of q =
     ∙ ap (λ t. x *ℚ t) (sym (whole_plus 1 1))
     ∙ div_times q (whole 2) (whole_pos 2 (omega arith))
 
-pub settles_from : (Q R : Series) → IsUnder R Q → IsUnder Q R → Settles Q → Settles R
-settles_from Q R a b s p q one qp =
+settles_from : (Q R : Series) → AreLevel Q R → Settles Q → Settles R
+settles_from Q R a s p q one qp =
     let k = s p q one qp in (
-      (b k.0).0,
-      λ n. le_trans _ _ _ (times_le_both p p _ _ (le_refl p) (a n).1)
-          (le_trans _ _ _ (k.1 (a n).0) (b k.0).1),
+      (a.0 k.0).0,
+      λ n. le_trans _ _ _ (times_le_both p p _ _ (le_refl p) (a.1 n).1)
+          (le_trans _ _ _ (k.1 (a.1 n).0) (a.0 k.0).1),
     )
 
 pub settles_times : (Q R : Series) → Rises Q → Rises R → Settles Q → Settles R → Settles (times Q R)
@@ -59,20 +58,6 @@ module _ (x d : Fraction) (one : x +ℚ d ≡ whole 1) (dp : whole 0 <ℚ d) whe
   x_le : x ≤ℚ whole 1
   x_le = subst (λ t. x ≤ℚ t) one (le_plus x d)
 
-  identity : (N : ℕ) → d *ℚ S N +ℚ gamma 1 x (suc N) ≡ whole 1
-  unfolding S sum_to
-  identity zero = ap₂ (λ s t. d *ℚ s +ℚ t) (gamma_zero zero x)
-      (geometric_next x zero ∙ ap (λ t. x *ℚ t) (gamma_zero zero x)) ∙ ap₂ (λ s t. s +ℚ t) (times_one d) (times_one x)
-      ∙ plus_comm d x ∙ one
-  identity (suc N) =
-      let g = gamma 1 x (suc N) in
-      ap (λ t. d *ℚ (sum_to N (gamma 1 x) +ℚ g) +ℚ t) (geometric_next x (suc N))
-      ∙ turn d (sum_to N (gamma 1 x)) g x ∙ ap (λ t. d *ℚ sum_to N (gamma 1 x) +ℚ t *ℚ g) one
-      ∙ ap (λ t. d *ℚ sum_to N (gamma 1 x) +ℚ t) (one_times g) ∙ identity N
-    where
-      turn : (d s g x : Fraction) → d *ℚ (s +ℚ g) +ℚ x *ℚ g ≡ d *ℚ s +ℚ (x +ℚ d) *ℚ g
-      turn d s g x = simp ring
-
   -- the sum holds n + 1 items that are at least the last
   many : (N : ℕ) → whole (suc N) *ℚ gamma 1 x N ≤ℚ S N
   unfolding S sum_to
@@ -103,7 +88,8 @@ module _ (x d : Fraction) (one : x +ℚ d ≡ whole 1) (dp : whole 0 <ℚ d) whe
       let next : g ≤ℚ q = le_trans _ _ _ (subst₂ (λ s t. s ≤ℚ t) (sym (geometric_next x K)) (one_times _)
       (times_le_times _ _ (gamma 1 x K) x_le)) small in
       let p_le : p ≤ℚ d *ℚ S K = plus_le_cancel _ _ q
-      (subst (λ t. t ≤ℚ d *ℚ S K +ℚ q) (identity K ∙ sym e) (plus_le_both _ _ _ _ (le_refl (d *ℚ S K)) next)) in (
+      (subst (λ t. t ≤ℚ d *ℚ S K +ℚ q) (geometric_identity x d one K ∙ sym e)
+      (plus_le_both _ _ _ _ (le_refl (d *ℚ S K)) next)) in (
         K,
         λ n. times_le_cancel _ _ d dp
             (subst₂ (λ s t. s ≤ℚ t) (times_swap p d (S n)) (times_one _ ∙ times_comm d (S K))
@@ -117,18 +103,7 @@ module _ (x d : Fraction) (one : x +ℚ d ≡ whole 1) (dp : whole 0 <ℚ d) whe
   unfolding S
   gamma_settles zero = geometric_settles
   gamma_settles (suc s) =
-      let w : (N : ℕ) → sum_to N (convolve (gamma 1 x) (gamma (suc s) x)) ≡ sum_to N (gamma (suc (suc s)) x) =
-      λ N. sum_to_same N _ _ (λ n b. sym (gamma_one_more s x n)) in
-      settles_from (times (λ N. sum_to N (gamma 1 x)) (λ N. sum_to N (gamma (suc s) x))) _
-      (λ N. (
-        N,
-        subst (λ t. t ≤ℚ sum_to N (gamma 1 x) *ℚ sum_to N (gamma (suc s) x)) (w N)
-            (cauchy_low N (gamma 1 x) (gamma (suc s) x)),
-      ))
-      (λ N. (
-        N + N,
-        subst (λ t. sum_to N (gamma 1 x) *ℚ sum_to N (gamma (suc s) x) ≤ℚ t) (w (N + N))
-            (cauchy_high N (gamma 1 x) (gamma (suc s) x)),
-      ))
+      subst Settles (fun_ext (λ N. sum_to_same N _ _ (λ n b. sym (gamma_one_more s x n))))
+      (settles_from _ _ ((cauchy_level (gamma 1 x) (gamma (suc s) x)).1, (cauchy_level (gamma 1 x) (gamma (suc s) x)).0)
       (settles_times _ _ (sum_rises_to (gamma 1 x)) (sum_rises_to (gamma (suc s) x)) geometric_settles
-      (gamma_settles s))
+      (gamma_settles s)))

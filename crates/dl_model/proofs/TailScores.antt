@@ -1,5 +1,5 @@
 -- The tail score by the excess.
-use Rattle.dl_model.proofs.Common.{◌≡◌, ℕ, ◌-◌, sym, ap, subst, ◌∙◌, List, sum, None, Fraction, ◌+ℚ◌, ◌-ℚ◌, ◌*ℚ◌, ◌/ℚ◌, ◌<ℚ◌, whole, times_one, one_times, times_cancel, div_times, sub_plus, plus_cancel, plus_comm, lt_gap, le_of_lt, Aggregate, One, Layer, Tail, score, sum_over_outcomes, partial_sums}
+use Rattle.dl_model.proofs.Common.{◌≡◌, ℕ, ◌-◌, sym, ap, subst, ◌∙◌, List, sum, None, Fraction, ◌+ℚ◌, ◌-ℚ◌, ◌*ℚ◌, ◌/ℚ◌, ◌<ℚ◌, whole, times_one, one_times, times_cancel, div_times, sub_plus, plus_cancel, plus_comm, lt_gap, le_of_lt, Loss, One, Layer, Tail, score, sum_over_outcomes, partial_sums}
 use Rattle.dl_model.proofs.Outcomes.{outcomes_same, outcomes_plus, outcomes_times}
 use Rattle.dl_exact.proofs.Orders.{times_right_comm}
 
@@ -14,7 +14,7 @@ div_is_times x y h = times_cancel _ _ y h
     (div_times x y h ∙ sym (times_right_comm (whole 1 /ℚ y) x y ∙ ap (λ t. t *ℚ x) (div_times (whole 1) y h)
     ∙ one_times x))
 
-pub tail_excess : (us : List Aggregate) (p : Fraction) (q N : ℕ) → p <ℚ whole 1
+pub tail_excess : (us : List Loss) (p : Fraction) (q N : ℕ) → p <ℚ whole 1
     → partial_sums us (Tail p q) N ≡ whole q *ℚ partial_sums us One N +ℚ whole 1 /ℚ (whole 1 -ℚ p) *ℚ partial_sums us
     (Layer None q) N
 tail_excess us p q N h =

@@ -7,7 +7,6 @@ use Rattle.dl_iv.specs.declared.interval.Iv.{Iv}
 use Rattle.dl_grid.specs.Cells.{low_at, high_at}
 use Rattle.dl_model.specs.Series.{Series, Rises, Holds, SameValue, times}
 use Rattle.dl_model.specs.Compound.{at_zero, power, cell}
-use Rattle.dl_model.specs.Program.{Aggregate, One, Point, outcome, partial_sums}
 
 -- a cell for each outcome, and the whole weight, at each level
 pub record Family : Type 0 where
@@ -17,14 +16,6 @@ pub record Family : Type 0 where
 -- claims with count weights w, each of amount j with probability f j
 abbrev pub compound : (ℕ → Fraction) → (ℕ → Fraction) → Family
 compound w f = record { cells = cell w f; all = λ N. sum_to N w }
-
--- the outcomes of a unit, after its aggregate clause
-abbrev pub mapped : Aggregate → Family
-mapped u = record { cells = outcome u; all = λ N. sum_to N u.count }
-
--- the totals of independent units
-abbrev pub total : List Aggregate → Family
-total us = record { cells = λ x. partial_sums us (Point x); all = partial_sums us One }
 
 -- independent outcomes of two families added up: their convolution, level by level
 abbrev pub product : Family → Family → Family

@@ -3,6 +3,7 @@ pub mod Compound
 pub mod Severity
 pub mod Ways
 pub mod Listed
+pub mod Family
 pub mod Program
 pub mod Counts
 pub mod Divided
@@ -10,5 +11,5 @@ pub mod CommonFactor
 pub mod ChangedZero
 pub mod Recursion
 pub mod Measures
-pub mod Family
+pub mod Units
 pub mod Plans

@@ -1,54 +1,65 @@
 -- Quantiles and their brackets, what is above a sum, one unit beside the others, and what can be
 -- declared and asked.
 use Rattle.std.specs.Prelude.{ℕ, zero, suc, ◌≡◌, nat_lt, Option, Some, List, [], ◌∷◌, sum}
-use Rattle.dl_exact.specs.Fraction.{Fraction, whole, ◌<ℚ◌}
-use Rattle.dl_model.specs.Series.{Series, AtLeast, Below}
-use Rattle.dl_model.specs.Counts.{AreCountWeights}
-use Rattle.dl_model.specs.Program.{Aggregate, IsDeclarable, Quantity, One, Point, Cdf, Mean, Layer, Tail, Joint, where_true, sum_over_outcomes, partial_sums}
-use Rattle.dl_model.specs.Family.{Family, mapped, nothing}
+use Rattle.dl_exact.specs.Fraction.{Fraction, whole, ◌*ℚ◌, ◌<ℚ◌}
+use Rattle.dl_exact.specs.Sum.{sum_to}
+use Rattle.dl_model.specs.Series.{Series, IsBound, AtLeast, Below, Settles}
+use Rattle.dl_model.specs.Program.{Loss, IsLoss, Quantity, One, Point, Cdf, Mean, Layer, Tail, Joint, where_true, sum_over_outcomes}
+use Rattle.dl_model.specs.Family.{Family, nothing}
 
 -- 1 where the total is above x
 abbrev pub above : ℕ → List ℕ → Fraction
 above x ys = where_true (nat_lt x (sum ys)) (whole 1)
 
 -- what the distribution at x leaves of the whole
-abbrev pub survival : List Aggregate → ℕ → Series
-survival units x = sum_over_outcomes units (above x)
+abbrev pub survival : List Loss → ℕ → Series
+survival us x = sum_over_outcomes us (above x)
 
--- q is the quantile at p: the distribution is at least p at q, and below p before
-pub record IsQuantile (units : List Aggregate) (q : ℕ) (p : Fraction) : Type 0 where
-  pub reached : AtLeast (partial_sums units (Cdf q)) (partial_sums units One) p
-  pub before : (x : ℕ) → q ≡ suc x → Below (partial_sums units (Cdf x)) (partial_sums units One) p
+-- q is the quantile at p of what declares these quantities: its distribution is at least p at q,
+-- and below p before
+pub record IsQuantile (declares : Quantity → Series) (q : ℕ) (p : Fraction) : Type 0 where
+  pub reached : AtLeast (declares (Cdf q)) (declares One) p
+  pub before : (x : ℕ) → q ≡ suc x → Below (declares (Cdf x)) (declares One) p
 
 -- from lo to hi is a bracket at p: the distribution is below p before lo, and at least p at hi
 -- where there is one
-pub record IsBracketed (units : List Aggregate) (lo : ℕ) (hi : Option ℕ)
+pub record IsBracketed (declares : Quantity → Series) (lo : ℕ) (hi : Option ℕ)
     (p : Fraction) : Type 0 where
-  pub before : (x : ℕ) → lo ≡ suc x → Below (partial_sums units (Cdf x)) (partial_sums units One) p
-  pub reached : (x : ℕ) → hi ≡ Some x
-      → AtLeast (partial_sums units (Cdf x)) (partial_sums units One) p
+  pub before : (x : ℕ) → lo ≡ suc x → Below (declares (Cdf x)) (declares One) p
+  pub reached : (x : ℕ) → hi ≡ Some x → AtLeast (declares (Cdf x)) (declares One) p
 
 -- the family of unit i, and the outcome 0 where there is none
-abbrev pub unit_of : List Aggregate → ℕ → Family
+abbrev pub unit_of : List Loss → ℕ → Family
 unit_of [] i = nothing
-unit_of (u ∷ units) zero = mapped u
-unit_of (u ∷ units) (suc i) = unit_of units i
+unit_of (u ∷ us) zero = u.family
+unit_of (u ∷ us) (suc i) = unit_of us i
 
 -- the units without unit i
-abbrev pub without : List Aggregate → ℕ → List Aggregate
+abbrev pub without : List Loss → ℕ → List Loss
 without [] i = []
-without (u ∷ units) zero = units
-without (u ∷ units) (suc i) = u ∷ without units i
+without (u ∷ us) zero = us
+without (u ∷ us) (suc i) = u ∷ without us i
 
--- a unit that can be declared, its count included
-pub record IsDeclared (u : Aggregate) : Type 0 where
-  pub unit : IsDeclarable u
-  pub count : AreCountWeights u.count
+-- The mean of a loss from at most N claims: the sum of each outcome times its cell.
+abbrev pub mean_to_reach : Loss → Series
+mean_to_reach u N = sum_to (u.reach N) (λ y. whole y *ℚ u.family.cells y N)
 
--- each of them is one
-abbrev pub AreDeclared : List Aggregate → Type 0
+-- A loss that can be declared: its whole weight is bounded, above 0 at some level, and comes near
+-- its least upper bound; and its mean is bounded.
+pub record IsDeclaredLoss (u : Loss) : Type 0 where
+  pub loss : IsLoss u
+  pub bound : Fraction
+  pub bounded : IsBound u.family.all bound
+  pub level : ℕ
+  pub positive : whole 0 <ℚ u.family.all level
+  pub settles : Settles u.family.all
+  pub mean_bound : Fraction
+  pub mean_bounded : IsBound (mean_to_reach u) mean_bound
+
+-- each of them can be
+abbrev pub AreDeclared : List Loss → Type 0
 AreDeclared [] = Unit {0}
-AreDeclared (u ∷ units) = IsDeclared u × AreDeclared units
+AreDeclared (u ∷ us) = IsDeclaredLoss u × AreDeclared us
 
 -- a tail mean is asked for at p below 1
 abbrev pub IsAsked : Quantity → Type 0

@@ -12,7 +12,8 @@ use Rattle.dl_plan.specs.Severity.{probability_of}
 use Rattle.dl_plan.specs.Clause.{Clause, ceded, kept}
 use Rattle.dl_model.specs.Counts.{fixed, binomial, poisson, gamma_of}
 use Rattle.dl_model.specs.Series.{Series}
-use Rattle.dl_model.specs.Program.{Aggregate, plain, sum_over_outcomes}
+use Rattle.dl_model.specs.Program.{Loss, Quantity, sum_over_outcomes, partial_sums}
+use Rattle.dl_model.specs.Units.{Aggregate, loss, plain}
 use Rattle.dl_model.specs.Family.{Family, compound}
 
 -- the weight of each number of claims
@@ -40,9 +41,17 @@ aggregate_of u = record {
   clause = outcome_after u.cede;
 }
 
+-- the same as a total knows it
+abbrev pub loss_of : UnitOfPlan → Loss
+loss_of u = loss (aggregate_of u)
+
 -- those of the units of a plan, in its order
-abbrev pub aggregates_of : Plan → List Aggregate
-aggregates_of plan = map aggregate_of plan.units
+abbrev pub aggregates_of : Plan → List Loss
+aggregates_of plan = map loss_of plan.units
+
+-- what a plan declares: each quantity of the total of its units
+abbrev pub declared : Plan → Quantity → Series
+declared plan = partial_sums (aggregates_of plan)
 
 -- the sums of claims, before a clause
 abbrev pub compound_of : Freq → Sev → Family
@@ -54,4 +63,4 @@ claims_of u = plain (count_weights u.freq) (probability_of u.sev) (greatest u.se
 
 -- the mean of what layers take of the sum of the claims, each by its share
 abbrev pub mean_ceded : UnitOfPlan → List CedeLayer → Series
-mean_ceded u layers = sum_over_outcomes (claims_of u ∷ []) (λ ys. ceded layers (sum ys))
+mean_ceded u layers = sum_over_outcomes (loss (claims_of u) ∷ []) (λ ys. ceded layers (sum ys))

@@ -11,10 +11,10 @@ ghost use Rattle.dl_plan.specs.Clause.{Clause};
 ghost use Rattle.dl_plan.specs.Count.{expected_count};
 ghost use Rattle.dl_plan.specs.Valid.{IsValidUnit};
 ghost use Rattle.dl_model.specs.Series.{Holds};
-ghost use Rattle.dl_model.specs.Program.{One, Mean, Layer, partial_sums};
-ghost use Rattle.dl_model.specs.Family.{total, Encloses};
-ghost use Rattle.dl_model.specs.Measures.{IsDeclared};
-ghost use Rattle.dl_model.specs.Plans.{aggregate_of, compound_of, claims_of, mean_ceded};
+ghost use Rattle.dl_model.specs.Program.{One, Mean, Layer, partial_sums, total};
+ghost use Rattle.dl_model.specs.Family.{Encloses};
+ghost use Rattle.dl_model.specs.Units.{loss, IsDeclared};
+ghost use Rattle.dl_model.specs.Plans.{aggregate_of, loss_of, compound_of, claims_of, mean_ceded};
 
 /// The sum of the claims of a valid plan's unit can be declared, whatever the clause. A grid that
 /// encloses the compound sum encloses it, and its mean is the expected count times the mean of one
@@ -25,9 +25,10 @@ pub fn law_claims()
     ensures encloses { (cells : ℕ) (u : UnitOfPlan) (scale size : ℕ) (lo hi : ℕ → ℕ)
         → IsValidUnit cells u
         → Encloses scale size lo hi (compound_of u.freq u.sev)
-        → Encloses scale size lo hi (total (claims_of u ∷ [])) }
+        → Encloses scale size lo hi (total (loss (claims_of u) ∷ [])) }
     ensures mean { (cells : ℕ) (u : UnitOfPlan) → IsValidUnit cells u
-        → Holds (partial_sums (claims_of u ∷ []) Mean) (partial_sums (claims_of u ∷ []) One)
+        → Holds (partial_sums (loss (claims_of u) ∷ []) Mean)
+        (partial_sums (loss (claims_of u) ∷ []) One)
         (expected_count u.freq *ℚ mean_amount (pairs_of u.sev))
         (expected_count u.freq *ℚ mean_amount (pairs_of u.sev)) }
 {}
@@ -37,25 +38,26 @@ pub fn law_claims()
 /// layers the sum.
 pub fn law_mean_ceded()
     ensures none { (u : UnitOfPlan)
-        → Holds (mean_ceded u []) (partial_sums (claims_of u ∷ []) One) (whole 0) (whole 0) }
+        → Holds (mean_ceded u []) (partial_sums (loss (claims_of u) ∷ []) One) (whole 0) (whole 0) }
     ensures alone { (u : UnitOfPlan) (layer : CedeLayer) (l h : Fraction)
-        → Holds (partial_sums (claims_of u ∷ []) (Layer layer.limit layer.attach))
-        (partial_sums (claims_of u ∷ []) One) l h
-        → Holds (mean_ceded u (layer ∷ [])) (partial_sums (claims_of u ∷ []) One)
+        → Holds (partial_sums (loss (claims_of u) ∷ []) (Layer layer.limit layer.attach))
+        (partial_sums (loss (claims_of u) ∷ []) One) l h
+        → Holds (mean_ceded u (layer ∷ [])) (partial_sums (loss (claims_of u) ∷ []) One)
         (layer.share *ℚ l) (layer.share *ℚ h) }
     ensures together { (cells : ℕ) (u : UnitOfPlan) (layers others : List CedeLayer)
         (l h l' h' : Fraction)
         → IsValidUnit cells u
-        → Holds (mean_ceded u layers) (partial_sums (claims_of u ∷ []) One) l h
-        → Holds (mean_ceded u others) (partial_sums (claims_of u ∷ []) One) l' h'
-        → Holds (mean_ceded u (layers ++ others)) (partial_sums (claims_of u ∷ []) One) (l +ℚ l')
-        (h +ℚ h') }
+        → Holds (mean_ceded u layers) (partial_sums (loss (claims_of u) ∷ []) One) l h
+        → Holds (mean_ceded u others) (partial_sums (loss (claims_of u) ∷ []) One) l' h'
+        → Holds (mean_ceded u (layers ++ others)) (partial_sums (loss (claims_of u) ∷ []) One)
+        (l +ℚ l') (h +ℚ h') }
     ensures each { (cells : ℕ) (u : UnitOfPlan) (layers : List CedeLayer)
         (l h : CedeLayer → Fraction)
         → IsValidUnit cells u
-        → All (λ layer. Holds (partial_sums (claims_of u ∷ []) (Layer layer.limit layer.attach))
-        (partial_sums (claims_of u ∷ []) One) (l layer) (h layer)) layers
-        → Holds (mean_ceded u layers) (partial_sums (claims_of u ∷ []) One)
+        → All (λ layer. Holds
+        (partial_sums (loss (claims_of u) ∷ []) (Layer layer.limit layer.attach))
+        (partial_sums (loss (claims_of u) ∷ []) One) (l layer) (h layer)) layers
+        → Holds (mean_ceded u layers) (partial_sums (loss (claims_of u) ∷ []) One)
         (sum_over layers (λ layer. layer.share *ℚ l layer))
         (sum_over layers (λ layer. layer.share *ℚ h layer)) }
 {}
@@ -68,14 +70,15 @@ pub fn law_clause_mean()
     ensures ceded { (cells : ℕ) (u : UnitOfPlan) (clause : Clause) (l h : Fraction)
         → IsValidUnit cells u
         → u.cede ≡ Some clause → clause.0 ≡ false
-        → Holds (mean_ceded u clause.1) (partial_sums (claims_of u ∷ []) One) l h
-        → Holds (partial_sums (aggregate_of u ∷ []) Mean)
-        (partial_sums (aggregate_of u ∷ []) One) l h }
+        → Holds (mean_ceded u clause.1) (partial_sums (loss (claims_of u) ∷ []) One) l h
+        → Holds (partial_sums (loss_of u ∷ []) Mean)
+        (partial_sums (loss_of u ∷ []) One) l h }
     ensures net { (cells : ℕ) (u : UnitOfPlan) (clause : Clause) (l h m n : Fraction)
         → IsValidUnit cells u
         → u.cede ≡ Some clause → clause.0 ≡ true
-        → Holds (mean_ceded u clause.1) (partial_sums (claims_of u ∷ []) One) l h
-        → Holds (partial_sums (claims_of u ∷ []) Mean) (partial_sums (claims_of u ∷ []) One) m n
-        → Holds (partial_sums (aggregate_of u ∷ []) Mean) (partial_sums (aggregate_of u ∷ []) One)
+        → Holds (mean_ceded u clause.1) (partial_sums (loss (claims_of u) ∷ []) One) l h
+        → Holds (partial_sums (loss (claims_of u) ∷ []) Mean)
+        (partial_sums (loss (claims_of u) ∷ []) One) m n
+        → Holds (partial_sums (loss_of u ∷ []) Mean) (partial_sums (loss_of u ∷ []) One)
         (m -ℚ h) (n -ℚ l) }
 {}

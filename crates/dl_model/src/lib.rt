@@ -13,4 +13,5 @@ pub mod plans;
 pub mod programs;
 pub mod recursion;
 pub mod totals;
+pub mod units;
 pub mod values;

@@ -9,7 +9,8 @@ ghost use Rattle.dl_exact.specs.Count.{count_pairs};
 ghost use Rattle.dl_plan.specs.declared.item.Item.{Item};
 ghost use Rattle.dl_plan.specs.Weighted.{weight_at, weight_sum, greatest};
 ghost use Rattle.dl_model.specs.Listed.{probability_at, equally_likely};
-ghost use Rattle.dl_model.specs.Program.{One, Point, partial_sums, listed_aggregate};
+ghost use Rattle.dl_model.specs.Program.{One, Point, partial_sums};
+ghost use Rattle.dl_model.specs.Units.{loss, listed_aggregate};
 
 /// The probabilities of listed numbers add up to 1 from the greatest number on, and to at most 1
 /// before it.
@@ -37,8 +38,8 @@ pub fn law_listed()
         → 0 < weight_sum amounts
         → l ≤ℚ cell (probability_at counts) (probability_at amounts) x (greatest counts)
         → cell (probability_at counts) (probability_at amounts) x (greatest counts) ≤ℚ h
-        → Holds (partial_sums (listed_aggregate counts amounts ∷ []) (Point x))
-        (partial_sums (listed_aggregate counts amounts ∷ []) One) l h }
+        → Holds (partial_sums (loss (listed_aggregate counts amounts) ∷ []) (Point x))
+        (partial_sums (loss (listed_aggregate counts amounts) ∷ []) One) l h }
 {}
 
 /// With exactly one claim the probability of the sum `x` is that of the amount `x`.

@@ -3,12 +3,12 @@
 ghost use Rattle.std.specs.Prelude.{ℕ, ◌≡◌, ◌-◌, ◌<◌, ◌≤◌, Option, List, Some, None};
 ghost use Rattle.dl_exact.specs.Fraction.{Fraction, whole, ◌+ℚ◌, ◌-ℚ◌, ◌*ℚ◌, ◌/ℚ◌, ◌<ℚ◌, ◌≤ℚ◌};
 ghost use Rattle.dl_model.specs.Series.{IsBound, AtLeast, Holds};
-ghost use Rattle.dl_model.specs.Program.{Aggregate, AreDeclarable, One, Cdf, Mean, Layer, Tail, partial_sums};
+ghost use Rattle.dl_model.specs.Program.{Loss, AreDeclarable, One, Cdf, Mean, Layer, Tail, partial_sums};
 ghost use Rattle.dl_model.specs.Measures.{IsQuantile, IsBracketed};
 
 /// The mean of a layer without a limit, from those of the total and of the layer below it.
 pub fn law_excess_ends()
-    ensures { (us : List Aggregate) (attachment : ℕ) (l h m n l' h' bound : Fraction)
+    ensures { (us : List Loss) (attachment : ℕ) (l h m n l' h' bound : Fraction)
         → AreDeclarable us
         → IsBound (partial_sums us One) bound
         → Holds (partial_sums us Mean) (partial_sums us One) m n
@@ -19,22 +19,24 @@ pub fn law_excess_ends()
 
 /// A bracket holds each quantile, and there is at most one.
 pub fn law_units_quantile()
-    ensures inside { (us : List Aggregate) (bound p : Fraction) (level q lo : ℕ) (hi : Option ℕ)
+    ensures inside { (us : List Loss) (bound p : Fraction) (level q lo : ℕ) (hi : Option ℕ)
         → AreDeclarable us → IsBound (partial_sums us One) bound
-        → whole 0 <ℚ partial_sums us One level → IsQuantile us q p → IsBracketed us lo hi p
+        → whole 0 <ℚ partial_sums us One level
+        → IsQuantile (partial_sums us) q p → IsBracketed (partial_sums us) lo hi p
         → (lo ≤ q) × ((x : ℕ) → hi ≡ Some x → q ≤ x) }
-    ensures one { (us : List Aggregate) (bound p : Fraction) (level q q' : ℕ) → AreDeclarable us
+    ensures one { (us : List Loss) (bound p : Fraction) (level q q' : ℕ) → AreDeclarable us
         → IsBound (partial_sums us One) bound
-        → whole 0 <ℚ partial_sums us One level → IsQuantile us q p → IsQuantile us q' p → q ≡ q' }
+        → whole 0 <ℚ partial_sums us One level
+        → IsQuantile (partial_sums us) q p → IsQuantile (partial_sums us) q' p → q ≡ q' }
 {}
 
 /// The tail mean at `p`, with `r` for `1 - p`, for the quantile `q` anywhere in a bracket from `a`
 /// to `b` where the distribution is within `s` of `p`: from the mean of the layer above `a`, the
 /// low end lowered by what the bracket leaves open.
 pub fn law_tail_ends()
-    ensures { (us : List Aggregate) (p r s bound : Fraction) (a b q : ℕ) → AreDeclarable us
+    ensures { (us : List Loss) (p r s bound : Fraction) (a b q : ℕ) → AreDeclarable us
         → IsBound (partial_sums us One) bound → p +ℚ r ≡ whole 1 → whole 0 <ℚ r
-        → IsQuantile us q p → a ≤ q → q ≤ b
+        → IsQuantile (partial_sums us) q p → a ≤ q → q ≤ b
         → ((x : ℕ) → a ≤ x → x < b → AtLeast (partial_sums us (Cdf x)) (partial_sums us One)
         (p -ℚ s))
         → (l h : Fraction) → Holds (partial_sums us (Layer None a)) (partial_sums us One) l h

@@ -19,8 +19,9 @@ ghost use Rattle.dl_model.specs.Series.{IsBound, AtLeast, Holds};
 ghost use Rattle.dl_model.specs.Compound.{cell};
 ghost use Rattle.dl_model.specs.Program.{Quantity, One, Cdf, Mean, AreDeclarable, partial_sums};
 ghost use Rattle.dl_model.specs.Family.{nothing, times_itself, SameCells};
-ghost use Rattle.dl_model.specs.Measures.{IsDeclared, AreDeclared, IsAsked, IsQuantile, IsBracketed};
-ghost use Rattle.dl_model.specs.Plans.{count_weights, outcome_after, aggregate_of, aggregates_of, compound_of};
+ghost use Rattle.dl_model.specs.Measures.{AreDeclared, IsAsked, IsQuantile, IsBracketed};
+ghost use Rattle.dl_model.specs.Units.{IsDeclared};
+ghost use Rattle.dl_model.specs.Plans.{count_weights, outcome_after, aggregate_of, loss_of, aggregates_of, declared, compound_of};
 
 use dl_plan::Plan;
 
@@ -46,13 +47,13 @@ pub fn law_outcome_after()
 pub fn law_bounded(plan: &Plan)
     requires valid { IsValid plan.now }
     ensures { (quantity : Quantity) → IsAsked quantity
-        → (u : Fraction) × IsBound (partial_sums (aggregates_of plan.now) quantity) u }
+        → (u : Fraction) × IsBound (declared plan.now quantity) u }
 {}
 
 /// The whole weight of a valid plan is above 0 at some level.
 pub fn law_positive(plan: &Plan)
     requires valid { IsValid plan.now }
-    ensures { (N : ℕ) × (whole 0 <ℚ partial_sums (aggregates_of plan.now) One N) }
+    ensures { (N : ℕ) × (whole 0 <ℚ declared plan.now One N) }
 {}
 
 /// The declared probabilities of a valid plan add up to 1: for each `p` below 1 the distribution is
@@ -60,18 +61,16 @@ pub fn law_positive(plan: &Plan)
 pub fn law_whole(plan: &Plan)
     requires valid { IsValid plan.now }
     ensures { (p : Fraction) → p <ℚ whole 1
-        → (x : ℕ) × AtLeast (partial_sums (aggregates_of plan.now) (Cdf x))
-        (partial_sums (aggregates_of plan.now) One) p }
+        → (x : ℕ) × AtLeast (declared plan.now (Cdf x)) (declared plan.now One) p }
 {}
 
 /// A valid plan has at most one quantile at each `p`, and a bracket holds it.
 pub fn law_quantile(plan: &Plan)
     requires valid { IsValid plan.now }
-    ensures one { (p : Fraction) (q q' : ℕ) → IsQuantile (aggregates_of plan.now) q p
-        → IsQuantile (aggregates_of plan.now) q' p → q ≡ q' }
+    ensures one { (p : Fraction) (q q' : ℕ) → IsQuantile (declared plan.now) q p
+        → IsQuantile (declared plan.now) q' p → q ≡ q' }
     ensures inside { (p : Fraction) (q lo : ℕ) (hi : Option ℕ)
-        → IsQuantile (aggregates_of plan.now) q p
-        → IsBracketed (aggregates_of plan.now) lo hi p
+        → IsQuantile (declared plan.now) q p → IsBracketed (declared plan.now) lo hi p
         → (lo ≤ q) × ((x : ℕ) → hi ≡ Some x → q ≤ x) }
 {}
 
@@ -86,14 +85,14 @@ pub fn law_expected()
 /// claim, and the mean of a total is the sum of the means of its units.
 pub fn law_plan_mean()
     ensures unit { (cells : ℕ) (u : UnitOfPlan) → IsValidUnit cells u → u.cede ≡ None
-        → Holds (partial_sums (aggregate_of u ∷ []) Mean) (partial_sums (aggregate_of u ∷ []) One)
+        → Holds (partial_sums (loss_of u ∷ []) Mean) (partial_sums (loss_of u ∷ []) One)
         (expected_count u.freq *ℚ mean_amount (pairs_of u.sev))
         (expected_count u.freq *ℚ mean_amount (pairs_of u.sev)) }
     ensures total { (plan : Plan) (l h : UnitOfPlan → Fraction) → IsValid plan
-        → All (λ u. Holds (partial_sums (aggregate_of u ∷ []) Mean)
-        (partial_sums (aggregate_of u ∷ []) One) (l u) (h u)) plan.units
-        → Holds (partial_sums (aggregates_of plan) Mean) (partial_sums (aggregates_of plan) One)
-        (sum_over plan.units l) (sum_over plan.units h) }
+        → All (λ u. Holds (partial_sums (loss_of u ∷ []) Mean) (partial_sums (loss_of u ∷ []) One)
+        (l u) (h u)) plan.units
+        → Holds (declared plan Mean) (declared plan One) (sum_over plan.units l)
+        (sum_over plan.units h) }
 {}
 
 /// Thinning and division: over the positive amounts, with the thinned mean, `2^h` Poisson sums of

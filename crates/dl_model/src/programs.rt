@@ -8,7 +8,7 @@ ghost use Rattle.dl_plan.specs.declared.item.Item.{Item};
 ghost use Rattle.dl_plan.specs.Weighted.{weight_sum};
 ghost use Rattle.dl_model.specs.Listed.{probability_at};
 ghost use Rattle.dl_model.specs.Counts.{fixed, binomial, poisson, gamma_of, AreCountWeights};
-ghost use Rattle.dl_model.specs.Program.{Aggregate, Quantity, One, Cdf, partial_sums};
+ghost use Rattle.dl_model.specs.Program.{Loss, Quantity, One, Cdf, partial_sums};
 ghost use Rattle.dl_model.specs.Measures.{AreDeclared, IsAsked};
 
 /// The counts that can be declared: exact, listed, of trials with probability `a / b`, Poisson, and
@@ -24,20 +24,20 @@ pub fn law_counts()
 
 /// Some fraction is a bound of every quantity that can be asked.
 pub fn law_units_bounded()
-    ensures { (us : List Aggregate) (quantity : Quantity) → AreDeclared us → IsAsked quantity
+    ensures { (us : List Loss) (quantity : Quantity) → AreDeclared us → IsAsked quantity
         → (u : Fraction) × IsBound (partial_sums us quantity) u }
 {}
 
 /// The whole weight is above 0 at some level.
 pub fn law_units_positive()
-    ensures { (us : List Aggregate) → AreDeclared us
+    ensures { (us : List Loss) → AreDeclared us
         → (N : ℕ) × (whole 0 <ℚ partial_sums us One N) }
 {}
 
 /// The declared probabilities add up to 1: for each part `p` of 1, with `q` for the rest, the
 /// distribution is at least `p` somewhere.
 pub fn law_units_whole()
-    ensures { (us : List Aggregate) (p q : Fraction) → AreDeclared us → p +ℚ q ≡ whole 1
+    ensures { (us : List Loss) (p q : Fraction) → AreDeclared us → p +ℚ q ≡ whole 1
         → whole 0 <ℚ q
         → (x : ℕ) × AtLeast (partial_sums us (Cdf x)) (partial_sums us One) p }
 {}

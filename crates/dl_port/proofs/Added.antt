@@ -1,5 +1,5 @@
 -- What encloses a sum of units after one more is taken in, and how wide it is.
-use Rattle.dl_port.proofs.Common.{ℕ, zero, suc, ◌≡◌, ◌+◌, ◌-◌, ◌^◌, ◌<◌, ◌≤◌, List, [], ◌∷◌, ◌++◌, length, get_or, take, drop, map, arith, refl, sym, ap, ap₂, subst, subst₂, ◌∙◌, fold, remove, pow_pos, fold_more, sum_by-take-le, get_or-map, get_or_default, length-map, length-take, take_all, drop_all, Iv, IsConvolution, spread, cv, sum_spread, cv_rises, Aggregate, IsDeclarable, AreDeclarable, mapped, total, GridEncloses, unit_of, without_suc, EncloseEach}
+use Rattle.dl_port.proofs.Common.{ℕ, zero, suc, ◌≡◌, ◌+◌, ◌-◌, ◌^◌, ◌<◌, ◌≤◌, List, [], ◌∷◌, ◌++◌, length, get_or, take, drop, map, arith, refl, sym, ap, ap₂, subst, subst₂, ◌∙◌, fold, remove, pow_pos, fold_more, sum_by-take-le, get_or-map, get_or_default, length-map, length-take, take_all, drop_all, Iv, IsConvolution, spread, cv, sum_spread, cv_rises, Loss, IsLoss, AreDeclarable, total, GridEncloses, unit_of, without_suc, EncloseEach}
 use Rattle.std.proofs.Common.{append_assoc, zero-add}
 use Rattle.std.specs.Prelude.{All}
 use Rattle.std.proofs.lemmas.List.Elements.{All-take, All-drop}
@@ -19,37 +19,37 @@ use Rattle.dl_model.proofs.Outcomes.{no_units as nowhere, total_alone, total_alo
 
 -- ---- lists of units
 
-pub units_first : (n : ℕ) (us : List Aggregate) → AreDeclarable us → AreDeclarable (take n us)
+pub units_first : (n : ℕ) (us : List Loss) → AreDeclarable us → AreDeclarable (take n us)
 units_first zero us w = tt
 units_first (suc n) [] w = tt
 units_first (suc n) (u ∷ us) w = (w.0, units_first n us w.1)
 
-pub units_after : (n : ℕ) (us : List Aggregate) → AreDeclarable us → AreDeclarable (drop n us)
+pub units_after : (n : ℕ) (us : List Loss) → AreDeclarable us → AreDeclarable (drop n us)
 units_after zero us w = w
 units_after (suc n) [] w = tt
 units_after (suc n) (u ∷ us) w = units_after n us w.1
 
-pub units_joined : (us vs : List Aggregate) → AreDeclarable us → AreDeclarable vs → AreDeclarable (us ++ vs)
+pub units_joined : (us vs : List Loss) → AreDeclarable us → AreDeclarable vs → AreDeclarable (us ++ vs)
 units_joined [] vs w z = z
 units_joined (u ∷ us) vs w z = (w.0, units_joined us vs w.1 z)
 
 -- the unit at a place
-pub unit_at : (us : List Aggregate) (i : ℕ) → i < length us → AreDeclarable us
-    → (u : Aggregate) × (take (suc i) us ≡ take i us ++ u ∷ []) × (drop i us ≡ u ∷ drop (suc i) us)
-    × (unit_of us i ≡ mapped u) × IsDeclarable u
+pub unit_at : (us : List Loss) (i : ℕ) → i < length us → AreDeclarable us
+    → (u : Loss) × (take (suc i) us ≡ take i us ++ u ∷ []) × (drop i us ≡ u ∷ drop (suc i) us)
+    × (unit_of us i ≡ u.family) × IsLoss u
 unit_at [] i h w = absurd (omega arith)
 unit_at (u ∷ us) zero h w = (u, refl, refl, refl, w.0)
 unit_at (u ∷ us) (suc i) h w = let r = unit_at us i (omega arith) w.1 in (r.0, ap (λ t. u ∷ t) r.1, r.2, r.3, r.4)
 
 -- ---- one more unit
 
-pub alone : {B : ℕ} (g : List (Iv B)) (u : Aggregate) → IsDeclarable u → GridEncloses g (mapped u)
+pub alone : {B : ℕ} (g : List (Iv B)) (u : Loss) → IsLoss u → GridEncloses g u.family
     → GridEncloses g (total (u ∷ []))
-alone {B} g u h = encloses_same (2 ^ B) (length g) (low_at g) (high_at g) (mapped u) (total (u ∷ []))
+alone {B} g u h = encloses_same (2 ^ B) (length g) (low_at g) (high_at g) u.family (total (u ∷ []))
     (λ x N. sym (total_alone u h x N)) (λ N. sym (total_alone_all u h N))
 
 -- the convolution of two sums
-pub two_sums : {B : ℕ} (a b g : List (Iv B)) (n : ℕ) (us vs : List Aggregate) → AreDeclarable us → AreDeclarable vs
+pub two_sums : {B : ℕ} (a b g : List (Iv B)) (n : ℕ) (us vs : List Loss) → AreDeclarable us → AreDeclarable vs
     → n ≤ length a → n ≤ length b → length g ≡ n
     → IsConvolution n a b g
     → GridEncloses a (total us) → GridEncloses b (total vs) → GridEncloses g (total (us ++ vs))
@@ -59,15 +59,15 @@ two_sums {B} a b g n us vs w z in_a in_b e conv of_a of_b =
     (convolution_encloses a b g n (total us) (total vs) (total_proper us w)
     (total_proper vs z) in_a in_b e conv of_a of_b)
 
-one_more : {B : ℕ} (a b g : List (Iv B)) (n : ℕ) (us : List Aggregate) (u : Aggregate) → AreDeclarable us
-    → IsDeclarable u → n ≤ length a → n ≤ length b → length g ≡ n
+one_more : {B : ℕ} (a b g : List (Iv B)) (n : ℕ) (us : List Loss) (u : Loss) → AreDeclarable us
+    → IsLoss u → n ≤ length a → n ≤ length b → length g ≡ n
     → IsConvolution n a b g
-    → GridEncloses a (total us) → GridEncloses b (mapped u) → GridEncloses g (total (us ++ u ∷ []))
+    → GridEncloses a (total us) → GridEncloses b u.family → GridEncloses g (total (us ++ u ∷ []))
 one_more {B} a b g n us u w h in_a in_b e conv of_a of_b =
     two_sums a b g n us (u ∷ []) w (h, tt) in_a in_b e conv of_a (alone b u h of_b)
 
 -- the unit at place i of a list joins those before it
-pub joins : {B : ℕ} (a b g : List (Iv B)) (n i : ℕ) (us vs : List Aggregate) → AreDeclarable us → AreDeclarable vs
+pub joins : {B : ℕ} (a b g : List (Iv B)) (n i : ℕ) (us vs : List Loss) → AreDeclarable us → AreDeclarable vs
     → i < length vs → n ≤ length a → n ≤ length b → length g ≡ n
     → IsConvolution n a b g
     → GridEncloses a (total (us ++ take i vs)) → GridEncloses b (unit_of vs i)
@@ -94,13 +94,13 @@ widens {B} grids k i x y z b inside is h before =
     ))
 
 -- the grid at a place encloses the unit there
-pub encloses_at : {B : ℕ} (grids : List (List (Iv B))) (us : List Aggregate) (i : ℕ) (g : List (Iv B))
+pub encloses_at : {B : ℕ} (grids : List (List (Iv B))) (us : List Loss) (i : ℕ) (g : List (Iv B))
     → EncloseEach grids us → i < length grids
     → g ≡ get_or grids i g → GridEncloses g (unit_of us i)
 encloses_at grids us i g e inside is = subst (λ t. GridEncloses t (unit_of us i))
     (get_or_default grids i [] g inside ∙ sym is) (e.each i inside)
 
-pub all_taken : {B : ℕ} (g : List (Iv B)) (i n : ℕ) (us vs : List Aggregate) → i ≡ n → n ≡ length vs
+pub all_taken : {B : ℕ} (g : List (Iv B)) (i n : ℕ) (us vs : List Loss) → i ≡ n → n ≡ length vs
     → GridEncloses g (total (us ++ take i vs)) → GridEncloses g (total (us ++ vs))
 all_taken g i n us vs e h of_g = subst (λ t. GridEncloses g (total (us ++ t))) (take_all i vs (omega arith)) of_g
 
@@ -110,7 +110,7 @@ pub long_enough : {B : ℕ} (grids : List (List (Iv B))) (n i : ℕ) (g : List (
     → g ≡ get_or grids i g → All (λ t. n ≤ length t) grids → n ≤ length g
 long_enough grids n i g inside is each = subst (λ t. n ≤ length t) (sym is) (each i g inside)
 
-pub each_first : {B : ℕ} (n : ℕ) (grids : List (List (Iv B))) (us : List Aggregate) → EncloseEach grids us
+pub each_first : {B : ℕ} (n : ℕ) (grids : List (List (Iv B))) (us : List Loss) → EncloseEach grids us
     → EncloseEach (take n grids) (take n us)
 each_first n grids us e = record {
   as_many = omega (arith, e.as_many, length-take n grids, length-take n us);
@@ -119,13 +119,13 @@ each_first n grids us e = record {
       (e.each i k.1);
 }
   where
-    unit_first : (n i : ℕ) (us : List Aggregate) → i < n → unit_of (take n us) i ≡ unit_of us i
+    unit_first : (n i : ℕ) (us : List Loss) → i < n → unit_of (take n us) i ≡ unit_of us i
     unit_first zero i us h = absurd (omega arith)
     unit_first (suc n) i [] h = refl
     unit_first (suc n) zero (u ∷ us) h = refl
     unit_first (suc n) (suc i) (u ∷ us) h = unit_first n i us (omega arith)
 
-pub each_after : {B : ℕ} (n : ℕ) (grids : List (List (Iv B))) (us : List Aggregate) → EncloseEach grids us
+pub each_after : {B : ℕ} (n : ℕ) (grids : List (List (Iv B))) (us : List Loss) → EncloseEach grids us
     → EncloseEach (drop n grids) (drop n us)
 each_after n grids us e = record {
   as_many = omega (arith, e.as_many, length-drop n grids, length-drop n us);
@@ -133,7 +133,7 @@ each_after n grids us e = record {
       subst₂ (λ g F. GridEncloses g F) (sym (get_or-drop n grids i [])) (sym (unit_after n i us)) (e.each (n + i) k);
 }
   where
-    unit_after : (n i : ℕ) (us : List Aggregate) → unit_of (drop n us) i ≡ unit_of us (n + i)
+    unit_after : (n i : ℕ) (us : List Loss) → unit_of (drop n us) i ≡ unit_of us (n + i)
     unit_after zero i us = ap (λ k. unit_of us k) (sym (zero-add i))
     unit_after (suc n) i [] = refl
     unit_after (suc n) i (u ∷ us) = unit_after n i us ∙ ap (λ k. unit_of (u ∷ us) k) (sym (suc-add n i))
@@ -151,10 +151,10 @@ first_cells {B} g n F within of_g y inside =
     subst₂ (λ l h. Holds (F.cells y) F.all (l over 2 ^ B) (h over 2 ^ B)) (sym (low_take g n y e))
     (sym (high_take g n y e)) (of_g y (omega arith))
 
-pub all_units : {B : ℕ} (grids rest : List (List (Iv B))) (first sum g : List (Iv B)) (k : ℕ) (us : List Aggregate)
+pub all_units : {B : ℕ} (grids rest : List (List (Iv B))) (first sum g : List (Iv B)) (k : ℕ) (us : List Loss)
     → 1 ≤ length grids → rest ≡ drop 1 grids
     → first ≡ get_or grids 0 first → k ≤ length first → sum ≡ take k first
-    → ((ws vs : List Aggregate) → AreDeclarable ws → AreDeclarable vs → GridEncloses sum (total ws)
+    → ((ws vs : List Loss) → AreDeclarable ws → AreDeclarable vs → GridEncloses sum (total ws)
     → EncloseEach rest vs → GridEncloses g (total (ws ++ vs)))
     → AreDeclarable us → EncloseEach grids us → GridEncloses g (total us)
 all_units [] rest first sum g k us some split is within of_first further w e = absurd (omega arith)
@@ -162,8 +162,8 @@ all_units (b ∷ bs) rest first sum g k [] some split is within of_first further
 all_units (b ∷ bs) rest first sum g k (u ∷ us) some split is within of_first further w e =
     further (u ∷ []) us (w.0, tt) w.1
     (subst (λ t. GridEncloses t (total (u ∷ []))) (sym of_first)
-    (alone (take k first) u w.0 (first_cells first k (mapped u) within
-    (subst (λ t. GridEncloses t (mapped u)) (sym is) (e.each 0 (omega arith))))))
+    (alone (take k first) u w.0 (first_cells first k u.family within
+    (subst (λ t. GridEncloses t u.family) (sym is) (e.each 0 (omega arith))))))
     (subst (λ t. EncloseEach t us) (sym split) (each_after 1 (b ∷ bs) (u ∷ us) e))
 
 -- ---- spreads
@@ -207,10 +207,10 @@ no_units {B} g low high =
 -- ---- the sum of all units but one
 
 -- the units before i and those after it
-pub both_sides : {B : ℕ} (grids before after : List (List (Iv B))) (sum g : List (Iv B)) (i : ℕ) (us : List Aggregate)
+pub both_sides : {B : ℕ} (grids before after : List (List (Iv B))) (sum g : List (Iv B)) (i : ℕ) (us : List Loss)
     → before ≡ take i grids → after ≡ drop (suc i) grids
-    → ((vs : List Aggregate) → AreDeclarable vs → EncloseEach before vs → GridEncloses sum (total vs))
-    → ((ws vs : List Aggregate) → AreDeclarable ws → AreDeclarable vs → GridEncloses sum (total ws)
+    → ((vs : List Loss) → AreDeclarable vs → EncloseEach before vs → GridEncloses sum (total vs))
+    → ((ws vs : List Loss) → AreDeclarable ws → AreDeclarable vs → GridEncloses sum (total ws)
     → EncloseEach after vs → GridEncloses g (total (ws ++ vs)))
     → AreDeclarable us → EncloseEach grids us → GridEncloses g (total (without us i))
 both_sides grids before after sum g i us cut rest first further w e =
@@ -221,9 +221,9 @@ both_sides grids before after sum g i us cut rest first further w e =
     (subst (λ t. EncloseEach t (drop (suc i) us)) (sym rest) (each_after (suc i) grids us e)))
 
 -- no unit before i
-pub after_alone : {B : ℕ} (grids after : List (List (Iv B))) (g : List (Iv B)) (i : ℕ) (us : List Aggregate) → i ≡ 0
+pub after_alone : {B : ℕ} (grids after : List (List (Iv B))) (g : List (Iv B)) (i : ℕ) (us : List Loss) → i ≡ 0
     → after ≡ drop (suc i) grids
-    → ((vs : List Aggregate) → AreDeclarable vs → EncloseEach after vs → GridEncloses g (total vs)) → AreDeclarable us
+    → ((vs : List Loss) → AreDeclarable vs → EncloseEach after vs → GridEncloses g (total vs)) → AreDeclarable us
     → EncloseEach grids us → GridEncloses g (total (without us i))
 after_alone grids after g i us none rest all w e =
     subst (λ t. GridEncloses g (total t)) (sym (without_suc us i ∙ ap (λ k. take k us ++ drop (suc i) us) none))
@@ -231,7 +231,7 @@ after_alone grids after g i us none rest all w e =
     (subst (λ t. EncloseEach t (drop (suc i) us)) (sym rest) (each_after (suc i) grids us e)))
 
 -- no other unit
-pub alone_left : {B : ℕ} (grids : List (List (Iv B))) (g : List (Iv B)) (i : ℕ) (us : List Aggregate) → i ≡ 0
+pub alone_left : {B : ℕ} (grids : List (List (Iv B))) (g : List (Iv B)) (i : ℕ) (us : List Loss) → i ≡ 0
     → length grids ≤ 1
     → GridEncloses g (total []) → EncloseEach grids us → GridEncloses g (total (without us i))
 alone_left grids g i us none few of_g e =

@@ -2,9 +2,9 @@
 pub use Rattle.dl_port.specs.Shared.{AreSumsOfEnds, EnclosesSum, IsSumOfPart, IsSumWithout, IsTotal}
 pub use Rattle.dl_port.specs.Sums.{EncloseEach}
 pub use Rattle.dl_model.proofs.Without.{without_suc}
-pub use Rattle.dl_model.specs.Family.{GridEncloses, mapped, total}
+pub use Rattle.dl_model.specs.Family.{GridEncloses}
 pub use Rattle.dl_model.specs.Measures.{unit_of}
-pub use Rattle.dl_model.specs.Program.{Aggregate, AreDeclarable, IsDeclarable}
+pub use Rattle.dl_model.specs.Program.{Loss, AreDeclarable, IsLoss, total}
 pub use Rattle.dl_grid.proofs.CellLaws.{scale_of, size_of}
 pub use Rattle.dl_grid.proofs.Room.{size_within}
 pub use Rattle.dl_grid.proofs.WidthLaws.{cv_rises}

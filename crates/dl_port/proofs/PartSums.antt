@@ -1,5 +1,5 @@
 -- Sums of the first units and of the last, and what they add up to.
-use Rattle.dl_port.proofs.Common.{ℕ, zero, suc, ◌≡◌, ◌+◌, ◌-◌, ◌^◌, ◌<◌, ◌≤◌, List, [], ◌∷◌, ◌++◌, length, get_or, take, drop, map, arith, refl, sym, ap, ap₂, subst, subst₂, ◌∙◌, add-one, false, IsTrue, ◌↔◌, Option, Some, None, IsSome, IfSome, option_to_list, fold, remove, slice_get, fold_more, sum_by-take-le, pow_pos, get_or-map, get_or_default, length-map, length-append, length-take, take_all, drop_all, Iv, Aggregate, AreDeclarable, mapped, total, GridEncloses, IsConvolution, spread, cv, sum_spread, cv_rises, without_suc, EnclosesSum, IsSumOfPart, IsTotal, IsSumWithout, AreSumsOfEnds}
+use Rattle.dl_port.proofs.Common.{ℕ, zero, suc, ◌≡◌, ◌+◌, ◌-◌, ◌^◌, ◌<◌, ◌≤◌, List, [], ◌∷◌, ◌++◌, length, get_or, take, drop, map, arith, refl, sym, ap, ap₂, subst, subst₂, ◌∙◌, add-one, false, IsTrue, ◌↔◌, Option, Some, None, IsSome, IfSome, option_to_list, fold, remove, slice_get, fold_more, sum_by-take-le, pow_pos, get_or-map, get_or_default, length-map, length-append, length-take, take_all, drop_all, Iv, Loss, AreDeclarable, total, GridEncloses, IsConvolution, spread, cv, sum_spread, cv_rises, without_suc, EnclosesSum, IsSumOfPart, IsTotal, IsSumWithout, AreSumsOfEnds}
 use Rattle.std.proofs.Common.{inl, inr, replicate}
 use Rattle.dl_port.specs.Shared.{AreSumsWithout}
 use Rattle.std.specs.Prelude.{Bool, true, Any, MatchOption}
@@ -11,7 +11,7 @@ use Rattle.dl_port.proofs.Added.{first_cells, units_first, units_after, unit_at,
 
 -- ---- one of the two sums has no units
 
-pub alone_before : {B : ℕ} (a g : List (Iv B)) (n : ℕ) (before after : Option (List (Iv B))) (us vs : List Aggregate)
+pub alone_before : {B : ℕ} (a g : List (Iv B)) (n : ℕ) (before after : Option (List (Iv B))) (us vs : List Loss)
     → before ≡ Some a → after ≡ None
     → IfSome before (λ t. n ≤ length t) → g ≡ take n a → EnclosesSum before us → EnclosesSum after vs
     → GridEncloses g (total (us ++ vs))
@@ -21,7 +21,7 @@ alone_before a g n before after us vs e h within is of_us of_vs =
     (first_cells a n (total us) (subst (λ t. IfSome t (λ t. n ≤ length t)) e within)
     (subst (λ t. EnclosesSum t us) e of_us))
 
-pub alone_after : {B : ℕ} (b g : List (Iv B)) (n : ℕ) (before after : Option (List (Iv B))) (us vs : List Aggregate)
+pub alone_after : {B : ℕ} (b g : List (Iv B)) (n : ℕ) (before after : Option (List (Iv B))) (us vs : List Loss)
     → before ≡ None → after ≡ Some b
     → IfSome after (λ t. n ≤ length t) → g ≡ take n b → EnclosesSum before us → EnclosesSum after vs
     → GridEncloses g (total (us ++ vs))
@@ -30,7 +30,7 @@ alone_after b g n before after us vs e h within is of_us of_vs =
     (first_cells b n (total vs) (subst (λ t. IfSome t (λ t. n ≤ length t)) h within)
     (subst (λ t. EnclosesSum t vs) h of_vs))
 
-pub none_at_all : {B : ℕ} (g : List (Iv B)) (before after : Option (List (Iv B))) (us vs : List Aggregate)
+pub none_at_all : {B : ℕ} (g : List (Iv B)) (before after : Option (List (Iv B))) (us vs : List Loss)
     → before ≡ None → after ≡ None
     → GridEncloses g (total []) → EnclosesSum before us → EnclosesSum after vs → GridEncloses g (total (us ++ vs))
 none_at_all g before after us vs e h of_none of_us of_vs =
@@ -56,7 +56,7 @@ one_wider {B} grids k i x y z b inside is h before =
 pub from_unit : {B : ℕ} (k : ℕ) (grids : List (List (Iv B))) (i : ℕ) (b sum : List (Iv B))
     (after : Option (List (Iv B))) → i < length grids → b ≡ get_or grids i b
     → IsSumOfPart k grids (drop (suc i)) after → length sum ≡ k
-    → ((us vs : List Aggregate) → AreDeclarable us → AreDeclarable vs → EnclosesSum (Some b) us → EnclosesSum after vs
+    → ((us vs : List Loss) → AreDeclarable us → AreDeclarable vs → EnclosesSum (Some b) us → EnclosesSum after vs
     → GridEncloses sum (total (us ++ vs)))
     → IsSumOfPart k grids (drop i) (Some sum)
 from_unit k grids i b sum after inside is rest cells both = record {
@@ -95,7 +95,7 @@ one_more_end {B} k i grids ends sum e each new j h = elim (cases_lt j (length en
 pub both_parts : {B : ℕ} (k i : ℕ) (grids : List (List (Iv B))) (before after : Option (List (Iv B)))
     (sum : List (Iv B)) → IsSumOfPart k grids (take i) before
     → IsSumOfPart k grids (drop (suc i)) after → length sum ≡ k
-    → ((us vs : List Aggregate) → AreDeclarable us → AreDeclarable vs → EnclosesSum before us → EnclosesSum after vs
+    → ((us vs : List Loss) → AreDeclarable us → AreDeclarable vs → EnclosesSum before us → EnclosesSum after vs
     → GridEncloses sum (total (us ++ vs)))
     → spread sum ≤ sum_spread (2 ^ B) k (map spread (remove grids i)) → IsSumWithout k grids i sum
 both_parts k i grids before after sum first last cells both narrow = record {
@@ -147,7 +147,7 @@ first_taken {B} k grids first sum some is long e = record {
   cells = omega (arith, ap length e, length-take k first);
   encloses = λ us w each. let r = unit_at us 0 (omega (arith, each.as_many)) w in
       subst₂ (λ (s : List (Iv B)) t. GridEncloses s (total t)) (sym e) (sym r.1)
-      (alone (take k first) r.0 r.4 (first_cells first k (mapped r.0) long
+      (alone (take k first) r.0 r.4 (first_cells first k r.0.family long
       (subst (λ F. GridEncloses first F) r.3 (encloses_at grids us 0 first each some is))));
 }
 

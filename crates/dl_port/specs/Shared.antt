@@ -3,8 +3,8 @@ use Rattle.std.specs.Prelude.{ℕ, suc, ◌≡◌, ◌+◌, ◌-◌, ◌^◌, �
 use Rattle.std.specs.List.{remove}
 use Rattle.dl_iv.specs.declared.interval.Iv.{Iv}
 use Rattle.dl_grid.specs.Cells.{spread}
-use Rattle.dl_model.specs.Program.{Aggregate, AreDeclarable}
-use Rattle.dl_model.specs.Family.{total, GridEncloses}
+use Rattle.dl_model.specs.Program.{Loss, AreDeclarable, total}
+use Rattle.dl_model.specs.Family.{GridEncloses}
 use Rattle.dl_model.specs.Measures.{without}
 use Rattle.dl_grid.specs.Width.{sum_spread}
 use Rattle.dl_port.specs.Sums.{EncloseEach}
@@ -13,7 +13,7 @@ use Rattle.dl_port.specs.Sums.{EncloseEach}
 -- in order
 pub record IsTotal {B : ℕ} (k : ℕ) (grids : List (List (Iv B))) (sum : List (Iv B)) : Type 0 where
   pub cells : length sum ≡ k
-  pub encloses : (us : List Aggregate) → AreDeclarable us → EncloseEach grids us
+  pub encloses : (us : List Loss) → AreDeclarable us → EncloseEach grids us
       → GridEncloses sum (total us)
   pub narrow : spread sum ≤ sum_spread (2 ^ B) k (map spread grids)
 
@@ -21,7 +21,7 @@ pub record IsTotal {B : ℕ} (k : ℕ) (grids : List (List (Iv B))) (sum : List 
 pub record IsSumWithout {B : ℕ} (k : ℕ) (grids : List (List (Iv B))) (i : ℕ)
     (sum : List (Iv B)) : Type 0 where
   pub cells : length sum ≡ k
-  pub encloses : (us : List Aggregate) → AreDeclarable us → EncloseEach grids us
+  pub encloses : (us : List Loss) → AreDeclarable us → EncloseEach grids us
       → GridEncloses sum (total (without us i))
   pub narrow : spread sum ≤ sum_spread (2 ^ B) k (map spread (remove grids i))
 
@@ -34,16 +34,16 @@ pub record AreSumsWithout {B : ℕ} (k : ℕ) (grids : List (List (Iv B))) (aske
   pub each : (i : ℕ) → i < length grids → IfSome (get_or sums i None) (IsSumWithout k grids i)
 
 -- a grid that encloses the sum of some units, and none where there are no units
-abbrev pub EnclosesSum : {B : ℕ} → Option (List (Iv B)) → List Aggregate → Type 0
+abbrev pub EnclosesSum : {B : ℕ} → Option (List (Iv B)) → List Loss → Type 0
 EnclosesSum None us = us ≡ []
 EnclosesSum (Some sum) us = GridEncloses sum (total us)
 
 -- k cells that enclose the sum of the units that `part` takes from all, and none where it takes no
 -- units
 pub record IsSumOfPart {B : ℕ} (k : ℕ) (grids : List (List (Iv B)))
-    (part : List Aggregate → List Aggregate) (sum : Option (List (Iv B))) : Type 0 where
+    (part : List Loss → List Loss) (sum : Option (List (Iv B))) : Type 0 where
   pub cells : IfSome sum (λ g. length g ≡ k)
-  pub encloses : (us : List Aggregate) → AreDeclarable us → EncloseEach grids us
+  pub encloses : (us : List Loss) → AreDeclarable us → EncloseEach grids us
       → EnclosesSum sum (part us)
 
 -- at each place j the sum of the last j + 1 units

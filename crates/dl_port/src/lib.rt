@@ -3,9 +3,9 @@
 //! product, and the first units that have one grid by squaring. Where several of these sums are
 //! wanted, they share their parts.
 //!
-//! The clauses speak of every list of units whose probabilities add up to 1 and whose aggregate
-//! clauses raise no sum (`AreDeclarable`). Of a valid plan these are its units, `aggregates_of
-//! plan`, by `dl_model::plans::law_declared`.
+//! The clauses speak of every list of losses (`AreDeclarable`), each with its grid: at each level
+//! the outcomes of a loss make up its whole weight. Of a valid plan these are the losses of its
+//! units, `aggregates_of plan`, by `dl_model::plans::law_declared`.
 #![tactic(auto)]
 
 mod runs;
@@ -18,8 +18,8 @@ ghost use Rattle.dl_grid.specs.Cells.{spread};
 ghost use Rattle.std.specs.List.{fold, remove};
 ghost use Rattle.dl_model.specs.Measures.{without};
 ghost use Rattle.dl_grid.specs.Width.{cv, sum_spread};
-ghost use Rattle.dl_model.specs.Program.{Aggregate, AreDeclarable};
-ghost use Rattle.dl_model.specs.Family.{total, GridEncloses};
+ghost use Rattle.dl_model.specs.Program.{Loss, AreDeclarable, total};
+ghost use Rattle.dl_model.specs.Family.{GridEncloses};
 
 use dl_grid::Grid;
 use dl_product::{Workspace, product};
@@ -40,7 +40,7 @@ fn with_units<const B: u32>(
     requires in_sum { length sum ≡ cells }
     requires in_each { All (λ g. cells ≤ length g) units.now }
     ensures cells { IfOk result (λ g. length g ≡ cells) }
-    ensures encloses { IfOk result (λ g. (us vs : List Aggregate) → AreDeclarable us
+    ensures encloses { IfOk result (λ g. (us vs : List Loss) → AreDeclarable us
         → AreDeclarable vs
         → GridEncloses sum.entry (total us) → EncloseEach units.now vs
         → GridEncloses g (total (us ++ vs))) }
@@ -77,7 +77,7 @@ fn in_order<const B: u32>(
     requires some { 1 ≤ cells }
     requires in_each { All (λ g. cells ≤ length g) units.now }
     ensures cells { IfOk result (λ g. length g ≡ cells) }
-    ensures encloses { IfOk result (λ g. (us : List Aggregate) → AreDeclarable us
+    ensures encloses { IfOk result (λ g. (us : List Loss) → AreDeclarable us
         → EncloseEach units.now us → GridEncloses g (total us)) }
     ensures spread { IfOk result (λ g. spread g ≤ sum_spread (2 ^ B) cells (map spread units.now)) }
 {
@@ -97,7 +97,7 @@ fn first_together<const B: u32>(
     requires some { 1 ≤ cells }
     requires in_each { All (λ g. cells ≤ length g) units.now }
     ensures cells { IfOk result (λ g. length g ≡ cells) }
-    ensures encloses { IfOk result (λ g. (us : List Aggregate) → AreDeclarable us
+    ensures encloses { IfOk result (λ g. (us : List Loss) → AreDeclarable us
         → EncloseEach units.now us → GridEncloses g (total us)) }
 {
     let many = alike(units);
@@ -116,7 +116,7 @@ pub fn total<const B: u32>(
     requires some { 1 ≤ cells }
     requires in_each { All (λ g. cells ≤ length g) units.now }
     ensures cells { IfOk result (λ g. length g ≡ cells) }
-    ensures encloses { IfOk result (λ g. (us : List Aggregate) → AreDeclarable us
+    ensures encloses { IfOk result (λ g. (us : List Loss) → AreDeclarable us
         → EncloseEach units.now us → GridEncloses g (total us)) }
     ensures spread { IfOk result (λ g. spread g ≤ sum_spread (2 ^ B) cells (map spread units.now)) }
 {
@@ -136,7 +136,7 @@ pub fn total_with<const B: u32>(
     requires some { 1 ≤ cells }
     requires in_each { All (λ g. cells ≤ length g) units.now }
     ensures cells { IfOk result (λ g. length g ≡ cells) }
-    ensures encloses { IfOk result (λ g. (us : List Aggregate) → AreDeclarable us
+    ensures encloses { IfOk result (λ g. (us : List Loss) → AreDeclarable us
         → EncloseEach units.now us → GridEncloses g (total us)) }
     ensures spread { IfOk result (λ g. spread g ≤ sum_spread (2 ^ B) cells (map spread units.now)) }
 {
@@ -161,7 +161,7 @@ pub fn others<const B: u32>(
     requires some { 1 ≤ cells }
     requires in_each { All (λ g. cells ≤ length g) units.now }
     ensures cells { IfOk result (λ g. length g ≡ cells) }
-    ensures encloses { IfOk result (λ g. (us : List Aggregate) → AreDeclarable us
+    ensures encloses { IfOk result (λ g. (us : List Loss) → AreDeclarable us
         → EncloseEach units.now us → GridEncloses g (total (without us i))) }
     ensures spread { IfOk result (λ g. spread g ≤ sum_spread (2 ^ B) cells
         (map spread (remove units.now i))) }
@@ -182,7 +182,7 @@ pub fn others_with<const B: u32>(
     requires some { 1 ≤ cells }
     requires in_each { All (λ g. cells ≤ length g) units.now }
     ensures cells { IfOk result (λ g. length g ≡ cells) }
-    ensures encloses { IfOk result (λ g. (us : List Aggregate) → AreDeclarable us
+    ensures encloses { IfOk result (λ g. (us : List Loss) → AreDeclarable us
         → EncloseEach units.now us → GridEncloses g (total (without us i))) }
     ensures spread { IfOk result (λ g. spread g ≤ sum_spread (2 ^ B) cells
         (map spread (remove units.now i))) }

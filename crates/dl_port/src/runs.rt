@@ -1,8 +1,8 @@
 //! Sums of units that have one grid, by squaring.
 
 ghost use Rattle.std.specs.Prelude.{◌≡◌, ℕ, ◌^◌, ◌<◌, ◌≤◌, List, [], length, get_or, replicate, IsTrue, IfOk};
-ghost use Rattle.dl_model.specs.Program.{Aggregate, AreDeclarable};
-ghost use Rattle.dl_model.specs.Family.{total, GridEncloses};
+ghost use Rattle.dl_model.specs.Program.{Loss, AreDeclarable, total};
+ghost use Rattle.dl_model.specs.Family.{GridEncloses};
 ghost use Rattle.dl_port.specs.Sums.{EncloseEach};
 
 use dl_grid::Grid;
@@ -44,7 +44,7 @@ pub(crate) fn repeated<const B: u32>(
     requires some { 1 ≤ cells }
     requires in_unit { cells ≤ length unit.now }
     ensures cells { IfOk result (λ g. length g ≡ cells) }
-    ensures encloses { IfOk result (λ g. (us : List Aggregate) → AreDeclarable us
+    ensures encloses { IfOk result (λ g. (us : List Loss) → AreDeclarable us
         → EncloseEach (replicate many unit.now) us → GridEncloses g (total us)) }
 {
     if many == 1 {

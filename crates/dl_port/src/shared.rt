@@ -5,8 +5,8 @@
 ghost use Rattle.std.specs.Prelude.{◌≡◌, ℕ, ◌+◌, ◌^◌, ◌<◌, ◌≤◌, ◌↔◌, suc, List, [], ◌∷◌, length, ◌++◌, take, drop, get_or, replicate, None, false, IsTrue, IsSome, Any, All, IfOk, OnOk, IfSome};
 ghost use Rattle.std.specs.Option.{option_copied};
 ghost use Rattle.dl_limits.specs.Limits.{most_units};
-ghost use Rattle.dl_model.specs.Program.{Aggregate, AreDeclarable};
-ghost use Rattle.dl_model.specs.Family.{total, GridEncloses};
+ghost use Rattle.dl_model.specs.Program.{Loss, AreDeclarable, total};
+ghost use Rattle.dl_model.specs.Family.{GridEncloses};
 ghost use Rattle.dl_port.specs.Shared.{EnclosesSum, IsSumOfPart, AreSuffixSums, IsTotal, IsSumWithout, AreSumsWithout, AreFirstWithout};
 
 use crate::widths::spread_without;
@@ -39,7 +39,7 @@ fn joined<const B: u32>(
     requires in_before { IfSome (option_copied before) (λ g. cells ≤ length g) }
     requires in_after { IfSome (option_copied after) (λ g. cells ≤ length g) }
     ensures cells { IfOk result (λ g. length g ≡ cells) }
-    ensures encloses { IfOk result (λ g. (us vs : List Aggregate) → AreDeclarable us
+    ensures encloses { IfOk result (λ g. (us vs : List Loss) → AreDeclarable us
         → AreDeclarable vs
         → EnclosesSum (option_copied before.entry) us → EnclosesSum (option_copied after.entry) vs
         → GridEncloses g (total (us ++ vs))) }

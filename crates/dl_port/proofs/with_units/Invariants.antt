@@ -1,10 +1,10 @@
-use Rattle.dl_port.proofs.Common.{◌≡◌, ◌^◌, ◌≤◌, List, ◌++◌, length, map, take, fold, spread, cv, Aggregate, AreDeclarable, total, GridEncloses, EncloseEach}
+use Rattle.dl_port.proofs.Common.{◌≡◌, ◌^◌, ◌≤◌, List, ◌++◌, length, map, take, fold, spread, cv, Loss, AreDeclarable, total, GridEncloses, EncloseEach}
 use Rattle.dl_port.proofs.with_units.Given as goal
 
 abbrev pub invariant-loop-unit : goal.invariant-loop-unit
 invariant-loop-unit g l = record {
   cells : length l.sum ≡ l.cells;
-  encloses : (us vs : List Aggregate) → AreDeclarable us → AreDeclarable vs → GridEncloses l.fn.sum (total us)
+  encloses : (us vs : List Loss) → AreDeclarable us → AreDeclarable vs → GridEncloses l.fn.sum (total us)
       → EncloseEach l.units vs
       → GridEncloses l.sum (total (us ++ take l.unit-index vs));
   spread : spread l.sum ≤ fold (cv (2 ^ g.row.B) l.cells) (spread l.fn.sum) (take l.unit-index (map spread l.units));

@@ -1,4 +1,4 @@
-use Rattle.dl_measures.proofs.Common.{◌≡◌, ◌+◌, ◌-◌, ◌*◌, ◌/◌, ◌^◌, ◌≤◌, length, arith, ap, ap₂, subst, ◌∙◌, div_ceil, pow_pos, ◌over◌, lt_not_le, cells_fit, low_at, spread, low_cdf, IsTight, are_units, IsFirstFound}
+use Rattle.dl_measures.proofs.Common.{◌≡◌, ◌+◌, ◌-◌, ◌*◌, ◌/◌, ◌^◌, ◌≤◌, length, arith, ap, ap₂, subst, ◌∙◌, div_ceil, pow_pos, ◌over◌, lt_not_le, cells_fit, low_at, spread, low_cdf, IsTight, are_units, IsFirstFound, partial_sums}
 use Rattle.dl_measures.proofs.TailLaws.{in_order, near_level, tail_holds, tail_narrow, tail_most_units, slack_fits, quotient_fits, rest_above}
 use Rattle.dl_measures.proofs.tails.tail_mean.Goals as goal
 
@@ -58,8 +58,8 @@ returns g c =
       );
       holds = λ us q d e mean is.
           let around = c.quantile-bracket.ensures.quantile us q d e is in
-          let tight = subst (λ t. IsTight us (length c.args.g.now) c.quantile-bracket.result.lo t c.args.p
-          (spread c.args.g.now over 2 ^ g.row.B)) c.in_ok-hi.was
+          let tight = subst (λ t. IsTight (partial_sums us) (length c.args.g.now) c.quantile-bracket.result.lo t
+          c.args.p (spread c.args.g.now over 2 ^ g.row.B)) c.in_ok-hi.was
           (c.quantile-bracket.ensures.tight us (are_units us d) e) in
           tail_holds us c.args.p (2 ^ g.row.B) c.quantile-bracket.result.lo c.in_ok-hi.hi q
           (spread c.args.g.now) c.layer_mean-excess.result.lo c.layer_mean-excess.result.hi (pow_pos g.row.B)

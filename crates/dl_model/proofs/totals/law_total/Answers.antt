@@ -1,4 +1,4 @@
-use Rattle.dl_model.proofs.Common.{◌++◌, [], ◌∷◌, sym, refl, sum_over_outcomes, mapped, total, product, nothing}
+use Rattle.dl_model.proofs.Common.{◌++◌, [], ◌∷◌, sym, refl, sum_over_outcomes, total, product, nothing}
 use Rattle.dl_model.proofs.FamilyLaws.{encloses_same}
 use Rattle.dl_model.proofs.Outcomes.{no_units, total_alone, total_alone_all, total_append, total_append_all, total_proper}
 use Rattle.dl_model.proofs.totals.law_total.Goals as goal
@@ -8,7 +8,7 @@ unfolding sum_over_outcomes
 returns-clause-none c S K lo hi = encloses_same S K lo hi nothing (total []) (λ x N. sym (no_units x N)) (λ N. refl)
 
 pub returns-clause-alone : goal.returns-clause-alone
-returns-clause-alone c S K lo hi u h = encloses_same S K lo hi (mapped u) (total (u ∷ []))
+returns-clause-alone c S K lo hi u h = encloses_same S K lo hi u.family (total (u ∷ []))
     (λ x N. sym (total_alone u h x N)) (λ N. sym (total_alone_all u h N))
 
 pub returns-clause-both : goal.returns-clause-both

@@ -1,4 +1,5 @@
-use Rattle.dl_model.proofs.Complements.{at_least_rest, at_most_rest}
+use Rattle.dl_model.proofs.Complements.{at_least_rest}
+use Rattle.dl_model.proofs.Minus.{at_most_rest}
 use Rattle.dl_model.proofs.values.law_complement.Goals as goal
 
 pub returns-clause-low : goal.returns-clause-low

@@ -1,5 +1,5 @@
 use Rattle.dl_model.proofs.Clauses.{clause_few, clause_rest}
-use Rattle.dl_model.proofs.totals.law_clause.Goals as goal
+use Rattle.dl_model.proofs.units.law_clause.Goals as goal
 
 pub returns-clause-inside : goal.returns-clause-inside
 returns-clause-inside c u S k lo hi y h pos e within = clause_few u h S k lo hi pos e y within
