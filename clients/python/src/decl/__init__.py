@@ -10,7 +10,8 @@
 The program is the one that the variable DECL names, else the one of the package, where it has one, else `decl` on the path.
 """
 
-from .between import Between, coarser
+from .coarse import Between, coarser
+from .continuous import between
 from .books import Book
 from .calls import check, fmt, made, report, run
 from .choose import bucket, grid
@@ -80,6 +81,7 @@ __all__ = [
     "UsageFault",
     "WriteFault",
     "__version__",
+    "between",
     "bucket",
     "check",
     "coarser",

@@ -6,7 +6,7 @@ import sys
 from typing import List, Optional, Union
 
 from . import DeclError, __version__
-from .between import Between, coarser
+from .coarse import Between, coarser
 from .books import RETURN_PERIODS, Book
 from .calls import report
 

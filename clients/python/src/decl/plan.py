@@ -250,11 +250,15 @@ class Reader:
         self.take()
         return None, value
 
+    def atom(self) -> Chances:
+        """The amounts of one atom, with their probabilities."""
+        return self.chances()
+
     def severity(self) -> Chances:
         """The amounts of one claim: those of one atom, or of a mixture by its weights."""
         atoms = []
         while self.passed("dsev"):
-            atoms.append(self.chances())
+            atoms.append(self.atom())
         self.holds(4, len(atoms) <= 64)
         if not self.passed("wts"):
             return atoms[0]

@@ -18,6 +18,13 @@ SPELLING = (2, 7, 13, 19)
 #: Counts that rise with their expected number of claims.
 RISING = ("poisson", "mixed", "bernoulli")
 MOST_CELLS = 1 << 20
+#: Two ends.
+Ends = Tuple[Fraction, Fraction]
+
+
+def shown(value: Fraction) -> str:
+    """The number in a message: as a fraction, or about as large where that is long."""
+    return str(value) if len(str(value)) < 40 else f"about {float(value):g}"
 
 
 def numeral(value: Fraction) -> Optional[str]:
@@ -57,22 +64,22 @@ def severity(chances: Chances, unit: Unit) -> str:
     return " ".join(atoms) + (f" wts {spelled_all(weights, unit)}" if len(atoms) > 1 else "")
 
 
-def counts(unit: Unit, up: bool) -> Iterator[Tuple[str, str]]:
-    """Spellings of the number of claims, in front of the severity and behind it: the exact one, then rounded ones."""
+def counts(unit: Unit, expected: Ends, up: bool) -> Iterator[Tuple[str, str]]:
+    """Spellings of the number of claims, in front of the severity and behind it: the exact one, then rounded ones. Its expected
+    number lies between two ends, which are equal where it is known."""
     if unit.counts is not None:
         yield f"dfreq {spelled_all(unit.counts, unit)} {spelled_all(unit.counts.values(), unit)}", ""
         return
-    expected = unit.expected_claims()
     name = {"mixed": f"mixed gamma {numeral(unit.shape)}", "binomial": f"binomial {numeral(unit.shape)}"}.get(unit.count, unit.count)
-    word = numeral(expected)
-    if word is not None:
+    word = numeral(expected[0])
+    if word is not None and expected[0] == expected[1]:
         yield f"{word} claims", name
     if unit.count not in RISING:
-        told = f"unit {unit.name}: the expected number of claims, {expected}, is too fine for a numeral"
+        told = f"unit {unit.name}: the expected number of claims, {shown(expected[0])}, is too fine for a numeral"
         raise NotBetween(f"{told}, and a {unit.count} count cannot be rounded: its number of claims or trials has to be whole")
     whole: Callable[[Fraction], int] = math.ceil if up else math.floor
     for places in (9, 6, 3):
-        word = numeral(Fraction(whole(expected * 10**places), 10**places))
+        word = numeral(Fraction(whole(expected[up] * 10**places), 10**places))
         if word is not None:
             yield f"{word} claims", name
 
@@ -127,10 +134,17 @@ def clauses(unit: Unit, bs: Fraction, up: bool) -> Iterator[str]:
 
 def side(unit: Unit, bs: Fraction, up: bool, timeout: Optional[float]) -> str:
     """The unit with its final amounts rounded down or up to whole buckets, in a spelling that the rules take."""
-    amounts = severity(rounded(unit.of_a_claim(), bs, up), unit)
+    expected = unit.expected_claims()
+    return with_amounts(unit, rounded(unit.of_a_claim(), bs, up), (expected, expected), bs, up, timeout)
+
+
+def with_amounts(unit: Unit, chances: Chances, expected: Ends, bs: Fraction, up: bool, timeout: Optional[float]) -> str:
+    """The unit with these final amounts of a claim, and an expected number of claims between two ends, of which it takes the low
+    or the high one; in a spelling that the rules take."""
+    amounts = severity(chances, unit)
     fault: Optional[RuleFault] = None
     for clause in clauses(unit, bs, up):
-        for front, behind in counts(unit, up):
+        for front, behind in counts(unit, expected, up):
             text = " ".join(f"agg {unit.name} {front} {amounts} {behind} {clause}".split())
             try:
                 check(text, bs=bs, log2=1, timeout=timeout)
@@ -149,11 +163,22 @@ class Between:
     """Two programs that hold a book between them: `low` and `high` are their texts, `bs` is their bucket.
 
     Each answer is a row in money: its low end is that of one program and its high end that of the other. The ends of each
-    program are proved; that the two hold the book between them rests on the client's own arithmetic.
+    program are proved; that the two hold the book between them rests on the client's own arithmetic. Where a claim of the book has no
+    greatest amount, the high program holds the total below `reach` alone, in money: answers that depend on what lies at `reach` or
+    past it have no high end.
     """
 
-    def __init__(self, low: str, high: str, bs: Fraction, timeout: Optional[float] = None) -> None:
-        self.low, self.high, self.bs = low, high, bs
+    def __init__(
+        self,
+        low: str,
+        high: str,
+        bs: Fraction,
+        timeout: Optional[float] = None,
+        *,
+        reach: Optional[Fraction] = None,
+        log2: Optional[int] = None,
+    ) -> None:
+        self.low, self.high, self.bs, self.reach, self.log2 = low, high, bs, reach, log2
         self.timeout = timeout
         self._books: Dict[bool, Book] = {}
 
@@ -163,7 +188,8 @@ class Between:
     def book(self, up: bool) -> Book:
         """The book of the high program, or of the low one."""
         if up not in self._books:
-            self._books[up] = Book(self.high if up else self.low, bs=self.bs, timeout=self.timeout)
+            text = self.high if up else self.low
+            self._books[up] = Book(text, bs=self.bs, log2=self.log2, timeout=self.timeout)
         return self._books[up]
 
     def ask(self, word: str) -> Row:
@@ -171,10 +197,24 @@ class Between:
         that the two programs do not hold them."""
         if word.split(":")[0] not in ("mean", "q", "tail", "cdf", "sf", "layer"):
             raise NotBetween(f"two programs do not hold {word} between them: ask mean, q, tail, cdf, sf or layer")
-        low, high = self.book(False).ask(word), self.book(True).ask(word)
-        if low.kind == "cdf":
-            low, high = high, low
-        return Row(low.ask, low.low, high.high, (low.written[0], high.written[1]), True)
+        below, above = self.book(False).ask(word), self._from_above(word)
+        low, high = (above, below) if below.kind == "cdf" else (below, above)
+        return Row(below.ask, low.low, high.high, (low.written[0], high.written[1]), True)
+
+    def _from_above(self, word: str) -> Row:
+        """The answer of the high program, without a high end where the book can be above it."""
+        if self.reach is None:
+            return self.book(True).ask(word)
+        kind, _, behind = word.partition(":")
+        if kind in ("cdf", "sf"):
+            inside = (math.ceil(self.reach / self.bs) - 1) * self.bs
+            return self.book(True).ask(f"{kind}:{plain(min(exact(behind), inside))}")
+        row = self.book(True).ask(word)
+        ends = behind.split("xs")
+        held = kind == "layer" and ends[0] != "inf" and exact(ends[0]) + exact(ends[1]) <= self.reach
+        if held or (kind == "q" and row.high is not None and row.high < self.reach):
+            return row
+        return Row(row.ask, row.low, None, (row.written[0], "beyond"), True)
 
     def each(self, words: Iterable[str]) -> List[Row]:
         """The answers to several asks."""

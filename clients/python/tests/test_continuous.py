@@ -1,0 +1,430 @@
+"""Continuous severities between two programs: random books, each worked apart from the client by numeric integration or by series.
+
+`BOOKS=500` in the environment takes so many random books of each kind in place of a few.
+"""
+
+import bisect
+import math
+import os
+import random
+import unittest
+from fractions import Fraction
+
+from support import Case, decl, main
+
+from decl.severities import CONTINUOUS, severity_of
+
+BOOKS = int(os.environ.get("BOOKS", "12"))
+#: What floats are wrong at most, here.
+FLOATS = 1e-9
+#: Into so many parts an integral is cut.
+CUTS = 300
+
+
+def normal(z):
+    """The normal distribution function."""
+    return 0.5 * math.erfc(-z / math.sqrt(2))
+
+
+def gamma_below(a, x):
+    """The distribution function of a gamma variable of scale 1, by its series, or by the continued fraction where x is large."""
+    if x <= 0:
+        return 0.0
+    front = math.exp(a * math.log(x) - x - math.lgamma(a))
+    if x < a + 5:
+        total = term = 1 / a
+        n = a
+        while term > total * 1e-17:
+            n += 1
+            term *= x / n
+            total += term
+        return front * total
+    value = x + 1 - a + 2 * 200
+    for n in range(200, 0, -1):
+        value = x + 2 * n - 1 - a - n * (n - a) / value
+    return 1 - front / value
+
+
+class Smooth:
+    """A continuous severity by floats: its text, and its distribution function."""
+
+    def __init__(self, rng):
+        mean, cv = rng.choice([4, 7.5, 12]), rng.choice([0.5, 1, 1.75])
+        shape = rng.choice([0.7, 1.5, 3])
+        variance = math.log1p(cv * cv)
+        kinds = {
+            "cv": (f"lognorm {mean} cv {cv}", lambda x: normal((math.log(x / mean) + variance / 2) / math.sqrt(variance))),
+            "lognorm": (f"{mean} * lognorm {shape}", lambda x: normal(math.log(x / mean) / shape)),
+            "gamma": (f"gamma {mean} cv {cv}", lambda x: gamma_below(1 / cv**2, x / mean / cv**2)),
+            "shape": (f"{mean} * gamma {shape} + 1.5", lambda x: gamma_below(shape, (x - 1.5) / mean) if x > 1.5 else 0.0),
+            "expon": (f"{mean} * expon", lambda x: -math.expm1(-x / mean)),
+            "weibull": (f"{mean} * weibull {shape}", lambda x: -math.expm1(-((x / mean) ** shape))),
+            "pareto": (f"{mean} * pareto {shape} - {mean}", lambda x: 1 - (1 + x / mean) ** -shape),
+            "above": (f"{mean} * pareto {shape}", lambda x: 1 - (x / mean) ** -shape if x > mean else 0.0),
+        }
+        self.kind = rng.choice([*kinds])
+        self.text, self.function = kinds[self.kind]
+        self.text = f"sev {self.text}"
+
+    def at_most(self, x):
+        return self.function(x) if x > 0 else 0.0
+
+
+class Listed:
+    """A listed severity."""
+
+    def __init__(self, rng):
+        self.kind = "listed"
+        self.amounts = rng.sample([0, 1.25, 3, 8.6, 20, 33.3], 3)
+        self.text = f"dsev {self.amounts} [1/4 1/4 1/2]"
+
+    def at_most(self, x):
+        return sum(part for amount, part in zip(self.amounts, (0.25, 0.25, 0.5)) if amount <= x)
+
+
+def taken(x, parts, net):
+    """What a clause makes of an amount."""
+    ceded = sum(share * min(max(x - low, 0), limit) for share, limit, low in parts)
+    return x - ceded if net else ceded
+
+
+def clause(rng, word, top):
+    """A random clause: its text, and what it makes of an amount."""
+    net, share, cut = rng.random() < 0.5, rng.choice([1, 0.5, 0.25]), rng.randint(1, top)
+    parts = [(share, rng.choice([2, 5.5, 9]), 0), (1, rng.choice([3, 8, math.inf]), 9 + cut)]
+    told = " and ".join(f"{share} so {limit} xs {low}" for share, limit, low in parts)
+    return f"{word} {'net of' if net else 'ceded to'} {told}", lambda x: taken(x, parts, net)
+
+
+class Amounts:
+    """The final amount of a claim: `at_most` is its distribution function, worked at 4,000 amounts before the layer."""
+
+    def __init__(self, rng):
+        atoms = [Smooth(rng)] if rng.random() < 0.6 else [Smooth(rng), rng.choice([Smooth, Listed])(rng)]
+        weights = [1.0] if len(atoms) == 1 else [0.25, 0.75]
+        self.kinds = [atom.kind for atom in atoms]
+        self.raw = lambda x: sum(weight * atom.at_most(x) for weight, atom in zip(weights, atoms))
+        self.limit, self.low, self.kept = math.inf, 0.0, ""
+        layer = ""
+        if rng.random() < 0.75:
+            self.limit, self.low = rng.choice([20, 31, math.inf]), rng.choice([0, 2, 5.25])
+            self.kept = "!" if rng.random() < 0.4 else ""
+            layer = f"{self.limit} xs {self.low}"
+        self.clause_text, self.clause = clause(rng, "occurrence", 6) if rng.random() < 0.4 else ("", lambda x: x)
+        texts = [atom.text.replace(",", "") for atom in atoms]
+        self.text = " ".join(filter(None, [layer, *texts, "wts [1/4 3/4]" if len(atoms) > 1 else "", self.kept, self.clause_text]))
+        self.conditional = bool(self.low and not self.kept)
+        self.exceeding = 1 - self.raw(self.low) if self.conditional else 1.0
+
+    def outcome(self, x):
+        return self.clause(min(max(x - self.low, 0.0), self.limit))
+
+    def inverse(self, y):
+        """The greatest amount whose outcome is at most y; infinite where all are."""
+        low, high = 0.0, 1e7
+        if self.outcome(high) <= y:
+            return math.inf
+        for _ in range(70):
+            middle = (low + high) / 2
+            low, high = (middle, high) if self.outcome(middle) <= y else (low, middle)
+        return low
+
+    def before(self, x):
+        """The probability of at most x before the layer, where it is conditioned."""
+        if x == math.inf:
+            return 1.0
+        if self.conditional:
+            return max(0.0, self.raw(x) - self.raw(self.low)) / self.exceeding
+        return self.raw(x)
+
+    def at_most(self, y):
+        return self.before(self.inverse(y)) if y >= 0 else 0.0
+
+    def layer_mean(self):
+        """Ends of the mean in the layer before the occurrence clause, which has a limit."""
+        cuts = [self.low + self.limit * n / 4000 for n in range(4001)]
+        over = [1 - self.before(x) for x in cuts]
+        return sum(over[1:]) * self.limit / 4000, sum(over[:-1]) * self.limit / 4000
+
+
+class Two:
+    """The total of at most two claims, behind an aggregate clause: ends of its distribution function by sums over the first claim."""
+
+    def __init__(self, claim, counts, after):
+        self.claim, self.counts, self.after = claim, counts, after
+        top = next(x for x in (2.0**n for n in range(60)) if claim.raw(x) > 1 - 1e-7)
+        cuts = sorted({0.0, claim.low, *(claim.low + top * (n / CUTS) ** 3 for n in range(CUTS + 1))})
+        self.cuts = [(claim.outcome(x), claim.before(x)) for x in cuts]
+        self.known = {}
+
+    def single(self, y):
+        if y not in self.known:
+            self.known[y] = self.claim.at_most(y)
+        return self.known[y]
+
+    def ends(self, y):
+        """Two ends of the probability of a total of at most y."""
+        low, high = 0.0, 1e7
+        if self.after(high) <= y:
+            return 1.0, 1.0
+        for _ in range(60):
+            middle = (low + high) / 2
+            low, high = (middle, high) if self.after(middle) <= y else (low, middle)
+        return self.sum_ends(low + 1e-9 if y else low)
+
+    def sum_ends(self, s):
+        none, one, two = self.counts
+        first, last = [self.single(s - outcome) for outcome, _ in self.cuts], [chance for _, chance in self.cuts]
+        steps = [last[0], *(after - before for before, after in zip(last, last[1:]))]
+        least = sum(step * value for step, value in zip(steps, first))
+        most = steps[0] * first[0] + sum(step * value for step, value in zip(steps[1:], first)) + (1 - last[-1]) * first[-1]
+        once = self.single(s)
+        return none + one * once + two * least - FLOATS, none + one * once + two * most + FLOATS
+
+
+class Erlang:
+    """A compound of gamma severities of a whole shape, some of them 0, with a Poisson or a negative binomial count, in series."""
+
+    def __init__(self, weights, shape, scale, added):
+        self.weights, self.shape, self.scale, self.added = weights, shape, scale, added
+
+    def ends(self, y):
+        found = 0.0
+        for chance, amount in self.added:
+            left = (y - amount) / self.scale
+            if left < 0:
+                continue
+            term, within, needed = math.exp(-left), [], len(self.weights) * self.shape
+            whole = 0.0
+            for k in range(needed):
+                within.append(whole)  # the probability of fewer than k events
+                whole += term
+                term *= left / (k + 1)
+            found += chance * sum(part * (1 - (within[n * self.shape] if n else 0.0)) for n, part in enumerate(self.weights))
+        return found - FLOATS, found + FLOATS
+
+
+def counts_of(mean, gamma):
+    """The probabilities of 0, 1, .. claims of a Poisson count, or of a negative binomial one of shape 4."""
+    found = [math.exp(-mean) if not gamma else (1 + mean / 4) ** -4.0]
+    while len(found) < 10 or found[-1] > 1e-14:
+        n = len(found)
+        found.append(found[-1] * (mean / n if not gamma else (3 + n) / n * mean / (4 + mean)))
+    return found
+
+
+class Random(Case):
+    def holds(self, between, total, told, points):
+        """The two programs hold the total: its distribution function, layers up to a limit, and quantiles."""
+        for y in points:
+            low, high = total.ends(float(y))
+            row, above = between.cdf(y), between.sf(y)
+            self.assertTrue(row.low <= high and low <= row.high, (told, str(row), low, high))
+            self.assertTrue(above.low <= 1 - low and 1 - high <= above.high, (told, str(above), low, high))
+        for p in ("0.6", "0.9"):
+            row = between.q(p)
+            self.assertLessEqual(total.ends(float(row.low) - 1e-6)[0] if row.low else 0, float(p), (told, str(row)))
+            if row.high is not None:
+                self.assertGreaterEqual(total.ends(float(row.high) + 1e-6)[1], float(p), (told, str(row)))
+        for limit, attachment in ((6, 3), (12, 10)):
+            over = [[1 - end for end in total.ends(attachment + limit * n / 12)] for n in range(13)]
+            least = sum(ends[1] for ends in over[1:]) * limit / 12
+            most = sum(ends[0] for ends in over[:-1]) * limit / 12
+            row = between.layer(limit, attachment)
+            self.assertTrue(row.low <= most and (row.high is None or least <= row.high), (told, str(row), least, most))
+
+    def test_two_claims(self):
+        """Books of at most two claims: each severity, mixtures, layers with and without `!`, clauses, losses and premiums."""
+        rng = random.Random(17)
+        seen, written = set(), 0
+        for number in range(BOOKS):
+            claim = Amounts(rng)
+            text, after = clause(rng, "aggregate", 20) if rng.random() < 0.4 else ("", lambda x: x)
+            kind = rng.choice(["listed", "fixed", "binomial", "bernoulli", "loss", "premium"])
+            if kind in ("loss", "premium"):
+                kind = kind if claim.limit < math.inf else "fixed"
+            front, behind, counts = {
+                "listed": ("dfreq [0 1 2] [1/2 1/4 1/4]", "", (0.5, 0.25, 0.25)),
+                "fixed": ("2 claims", "fixed", (0.0, 0.0, 1.0)),
+                "binomial": ("1/2 claims", "binomial 1/4", (9 / 16, 6 / 16, 1 / 16)),
+                "bernoulli": ("2/3 claims", "bernoulli", (1 / 3, 2 / 3, 0.0)),
+            }.get(kind, ("", "bernoulli", None))
+            if counts is None:
+                mean = claim.layer_mean()
+                loss = round(mean[0] / 3, 4)
+                expected = loss / (sum(mean) / 2)
+                front = f"{loss} loss" if kind == "loss" else f"{2 * loss:.4f} premium at 50% lr"
+                counts = (1 - expected, expected, 0.0)
+            program = " ".join(filter(None, ["agg One", front, claim.text, behind, text]))
+            told = f"{number}: {program}"
+            bs = rng.choice(["1", "1/2", "2"])
+            try:
+                between = decl.between(program, bs, log2=8)
+            except decl.NotBetween as fault:
+                self.assertIn("aggregate clause", f"{fault} aggregate clause" if "share of a layer" in str(fault) else str(fault), told)
+                continue
+            written += 1
+            seen |= {*claim.kinds, kind, claim.kept or "xs" * (claim.low > 0), claim.clause_text[:10], text[:9]}
+            slack = 0 if kind in ("loss", "premium") and counts[2] else 0
+            self.holds(between, Two(claim, counts, after), told, (slack, 2, 4.25, 9, 17, 30))
+        self.assertGreater(written, BOOKS * 3 / 4)
+        if BOOKS >= 100:
+            self.assertLessEqual({"cv", "lognorm", "gamma", "shape", "expon", "weibull", "pareto", "above", "listed"}, seen)
+            self.assertLessEqual({"fixed", "binomial", "bernoulli", "loss", "premium", "!", "xs", "occurrence", "aggregate"}, seen)
+
+    def test_many_claims(self):
+        """Poisson and mixed gamma counts of exponential claims above an attachment and of gamma ones, with claims, a loss or a
+        premium, alone and beside a listed unit."""
+        rng = random.Random(23)
+        for number in range(BOOKS):
+            gamma, scale, shape = rng.random() < 0.5, rng.choice([3, 5, 8]), rng.choice([1, 1, 2, 4])
+            low = rng.choice([0, 2, 4.5]) if shape == 1 else 0
+            kept = low and rng.random() < 0.5
+            spelled = {1: [f"{scale} * expon", f"gamma {scale} cv 1", f"{scale} * weibull 1"], 4: [f"gamma {4 * scale} cv 0.5"]}
+            text = rng.choice(spelled.get(shape, [f"{scale} * gamma {shape}"]))
+            passing = math.exp(-low / scale) if kept else 1.0
+            expected = rng.choice([0.5, 1.5, 3])
+            front = f"{expected} claims"
+            if rng.random() < 0.6:
+                loss = rng.choice([4, 7.5, 20])
+                front = rng.choice([f"{loss} loss", f"{4 * loss} premium at 1/4 lr"])
+                expected = loss / (scale * shape * passing)
+            layer = f"inf xs {low}" if low or rng.random() < 0.3 else ""
+            unit = f"{front} {layer} sev {text} {'!' if kept else ''} {'mixed gamma 1/2' if gamma else 'poisson'}"
+            added, head, tail = [(1.0, 0.0)], "", ""
+            if rng.random() < 0.4:
+                added, head, tail = [(0.75, 0.0), (0.25, 7.3)], "port P ", " agg Two dfreq [0 1] [3/4 1/4] dsev [7.3]"
+            program = " ".join(f"{head}agg One {unit}{tail}".split())
+            between = decl.between(program, rng.choice(["1", "1/2"]), log2=8)
+            total = Erlang(counts_of(expected * passing, gamma), shape, scale, added)
+            self.holds(between, total, f"{number}: {program}", (0, 1, 6.5, 15, 40))
+            mean = expected * passing * shape * scale + sum(chance * amount for chance, amount in added)
+            row = between.mean()
+            self.assertTrue(row.low <= mean + 1e-6 and row.high is None, (program, str(row), mean))
+            self.assertGreater(row.low, mean - 2 * expected * passing - 2, program)
+
+
+class Severities(Case):
+    """Distribution functions and limited means of each severity, against floats."""
+
+    def severity(self, text):
+        return severity_of(CONTINUOUS.fullmatch(text))
+
+    def test_distribution_functions(self):
+        rng = random.Random(5)
+        for _ in range(60):
+            smooth = Smooth(rng)
+            severity = self.severity(smooth.text)
+            for x in (Fraction(1, 100), 1, Fraction(5, 3), 8, 21, 400):
+                found = severity.at_most(Fraction(x))
+                self.assertLess(abs(float(found.lower) - smooth.at_most(float(x))), 1e-12, (smooth.text, x))
+                self.assertLess(found.upper - found.lower, Fraction(1, 10**25))
+
+    def test_limited_means(self):
+        """The mean of the lesser one of an amount and x is the integral of the probability above, by sums from above and below."""
+        rng = random.Random(6)
+        for _ in range(40):
+            smooth = Smooth(rng)
+            severity = self.severity(smooth.text)
+            for x in (1, 10, 60):
+                over = [1 - smooth.at_most(x * n / 2000) for n in range(2001)]
+                found = severity.limited(Fraction(x))
+                told = (smooth.text, x, float(found.lower))
+                self.assertTrue(sum(over[1:]) * x / 2000 - 1e-9 <= found.lower, told)
+                self.assertTrue(found.upper <= sum(over[:-1]) * x / 2000 + 1e-9, told)
+                self.assertLess(found.upper - found.lower, Fraction(1, 10**20))
+
+    def test_means(self):
+        worked = [("sev lognorm 50 cv 1.75", 50), ("sev gamma 50 cv 0.3", 50), ("sev 50 * expon", 50), ("sev 3 * gamma 2.5 + 1", 8.5)]
+        worked += [("sev 100 * pareto 3 - 100", 50), ("sev 10 * pareto 3", 15), ("sev 2 * weibull 1/2", 4), ("sev 1e1 * expon", 10)]
+        worked += [("sev 2 * lognorm 1", 2 * math.exp(0.5)), ("sev 2 * weibull 2", math.sqrt(math.pi)), ("sev 50% * expon", 0.5)]
+        for text, mean in worked:
+            found = self.severity(text).mean()
+            self.assertLess(abs(float(found.lower) - mean), 1e-12 * mean, text)
+            self.assertLess(found.upper - found.lower, Fraction(1, 10**20), text)
+        self.assertIsNone(self.severity("sev pareto 1").mean())
+
+
+class Written(Case):
+    """What comes of a text, by hand."""
+
+    def test_exponential_claims(self):
+        """On buckets of 1 an exponential claim of mean 1/log 2, nearly, is below 1 with half the probability."""
+        between = decl.between("agg E dfreq [1] 3 xs 0 sev 1.4426950408 * expon", 1)
+        low = {1: "0.500000000", 2: "0.75", 3: "0.875"}
+        reached = Fraction(0)
+        amounts, chances = (word.split() for word in between.low.split("dsev [")[1].replace("]", "").split(" ["))
+        for amount, chance in zip(amounts, chances):
+            reached += Fraction(chance)
+            if int(amount) < 3:
+                self.assertLess(abs(reached - Fraction(low[int(amount) + 1])), Fraction(2, 10**6))
+        self.assertEqual((amounts, reached), (["0", "1", "2", "3"], 1))
+        self.assertTrue(between.high.startswith("agg E dfreq [1] [1] dsev [1 2 3] [0."))
+        self.assertIsNone(between.reach)
+
+    def test_no_limit(self):
+        """Claims past the grid have a place, and what depends on them has no high end."""
+        between = decl.between("agg E 2 claims sev 10 * expon poisson", 1, log2=6)
+        for row in (between.mean(), between.tail("0.5"), between.layer(None, 5), between.q("0.999999")):
+            self.assertEqual((row.high, row.state), (None, "beyond"))
+        for row in (between.q("0.9"), between.layer(20, 10), between.cdf(50), between.sf(50)):
+            self.assertIsNotNone(row.high, str(row))
+        self.assertEqual(between.cdf(10**9).high, 1)
+        self.assertEqual(between.reach, 2**20)
+
+    def test_a_limit_of_the_sum(self):
+        """An aggregate clause that ends below the grid makes all ends finite."""
+        between = decl.between("agg E 2 claims sev 10 * expon poisson aggregate ceded to 30 xs 10", 1, log2=6)
+        self.assertIsNone(between.reach)
+        mean = sum(
+            (1 - Erlang(counts_of(2, False), 1, 10, [(1.0, 0.0)]).ends(10 + n / 10)[0]) / 10 for n in range(300)
+        )
+        row = between.mean()
+        self.assertTrue(row.low <= mean and mean - 0.1 <= row.high, (str(row), mean))
+
+    def test_a_bucket_is_chosen(self):
+        between = decl.between("agg E 2 claims 30 xs 0 sev 10 * expon poisson")
+        self.assertIn(between.bs, (Fraction(1, 50), Fraction(1, 20)))
+        self.assertTrue(between.mean().holds(20 * (1 - math.exp(-3))))
+
+    def test_places_and_aside(self):
+        """A severity in a note or a comment is none; faults have their places in the text that was given."""
+        text = "agg E 1 claims # sev lognorm 1\n30 xs 0 sev 10 * expon poisson note{sev 5 * expon}"
+        self.assertIn("agg E 1 claims dsev", decl.between(text, 5).low)
+        fault = self.raises(decl.SyntaxFault, decl.between, "agg E 1 claims\nsev lognorm 50 cv 1.75 poison", 1)
+        self.assertEqual((fault.line, fault.column), (2, 24))
+        self.assertIn("sev lognorm 50 cv 1.75 poison\n", str(fault))
+        fault = self.raises(decl.ContinuousSeverity, decl.between, "agg E 1 claims sev norm 50 cv 1 poisson", 1)
+        self.assertEqual((fault.word, fault.column), ("norm", 20))
+        self.assertEqual(self.raises(decl.RuleFault, decl.between, "agg E dfreq [1] 0 xs 5 sev expon aggregate net of 2 so 1 xs 0", 1).rule, 12)
+        self.assertEqual(self.raises(decl.RuleFault, decl.between, "agg E 5 loss 0 xs 5 sev expon poisson", 1).rule, 14)
+
+    def test_refused(self):
+        rows = [
+            ("sev expon 50", "50 * expon"),
+            ("sev lognorm", "has a shape"),
+            ("sev lognorm [10 20] cv 1", "has a shape"),
+            ("sev weibull 50 cv 1", "a mean and a cv"),
+            ("sev pareto 1/0", "over 0"),
+            ("sev 0 * expon", "factor"),
+            ("sev gamma 5 cv 0", "shape of gamma"),
+            ("sev lognorm 5 cv 0", "cv of lognorm"),
+            ("sev lognorm 5 cv 0.5 - 1", "begins at -1"),
+            ("sev 1e999 * expon", "exponent"),
+        ]
+        for severity, told in rows:
+            fault = self.raises(decl.NotBetween, decl.between, f"agg E 1 claims {severity} poisson", 1)
+            self.assertIn(told, str(fault), severity)
+            self.assertIn("1:16", str(fault), severity)
+        rows = [
+            ("5 loss sev pareto 1 poisson", "infinite"),
+            ("5 loss 9 xs 0 sev 10 * expon fixed", "cannot be rounded"),
+            ("1 claims inf xs 5000 sev expon poisson", "hardly any claim"),
+        ]
+        for rest, told in rows:
+            self.assertIn(told, str(self.raises(decl.NotBetween, decl.between, f"agg E {rest}", 1)), rest)
+        self.raises(ValueError, decl.between, "agg E 1 claims sev expon poisson", 0)
+
+
+if __name__ == "__main__":
+    main()
