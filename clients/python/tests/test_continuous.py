@@ -3,11 +3,9 @@
 `BOOKS=500` in the environment takes so many random books of each kind in place of a few.
 """
 
-import bisect
 import math
 import os
 import random
-import unittest
 from fractions import Fraction
 
 from support import Case, decl, main
@@ -17,6 +15,8 @@ from decl.severities import CONTINUOUS, severity_of
 BOOKS = int(os.environ.get("BOOKS", "12"))
 #: What floats are wrong at most, here.
 FLOATS = 1e-9
+#: What the rule of trapezoids is wrong at most in a mean, and so in an expected number of claims.
+NUMERIC = 1e-5
 #: Into so many parts an integral is cut.
 CUTS = 300
 
@@ -69,6 +69,12 @@ class Smooth:
     def at_most(self, x):
         return self.function(x) if x > 0 else 0.0
 
+    def in_layer(self, low, limit):
+        """The mean of what lies in a layer."""
+        step = limit / 4000
+        over = [1 - self.at_most(low + step * n) for n in range(4001)]
+        return step * (sum(over) - (over[0] + over[-1]) / 2)
+
 
 class Listed:
     """A listed severity."""
@@ -80,6 +86,10 @@ class Listed:
 
     def at_most(self, x):
         return sum(part for amount, part in zip(self.amounts, (0.25, 0.25, 0.5)) if amount <= x)
+
+    def in_layer(self, low, limit):
+        """The mean of what lies in a layer."""
+        return sum(part * min(max(amount - low, 0), limit) for amount, part in zip(self.amounts, (0.25, 0.25, 0.5)))
 
 
 def taken(x, parts, net):
@@ -103,7 +113,8 @@ class Amounts:
         atoms = [Smooth(rng)] if rng.random() < 0.6 else [Smooth(rng), rng.choice([Smooth, Listed])(rng)]
         weights = [1.0] if len(atoms) == 1 else [0.25, 0.75]
         self.kinds = [atom.kind for atom in atoms]
-        self.raw = lambda x: sum(weight * atom.at_most(x) for weight, atom in zip(weights, atoms))
+        self.atoms = [*zip(weights, atoms)]
+        self.raw = lambda x: sum(weight * atom.at_most(x) for weight, atom in self.atoms)
         self.limit, self.low, self.kept = math.inf, 0.0, ""
         layer = ""
         if rng.random() < 0.75:
@@ -141,17 +152,15 @@ class Amounts:
         return self.before(self.inverse(y)) if y >= 0 else 0.0
 
     def layer_mean(self):
-        """Ends of the mean in the layer before the occurrence clause, which has a limit."""
-        cuts = [self.low + self.limit * n / 4000 for n in range(4001)]
-        over = [1 - self.before(x) for x in cuts]
-        return sum(over[1:]) * self.limit / 4000, sum(over[:-1]) * self.limit / 4000
+        """The mean in the layer before the occurrence clause, which has a limit: up to NUMERIC, by the rule of trapezoids."""
+        return sum(weight * atom.in_layer(self.low, self.limit) for weight, atom in self.atoms) / self.exceeding
 
 
 class Two:
     """The total of at most two claims, behind an aggregate clause: ends of its distribution function by sums over the first claim."""
 
-    def __init__(self, claim, counts, after):
-        self.claim, self.counts, self.after = claim, counts, after
+    def __init__(self, claim, counts, after, slack):
+        self.claim, self.counts, self.after, self.slack = claim, counts, after, slack
         top = next(x for x in (2.0**n for n in range(60)) if claim.raw(x) > 1 - 1e-7)
         cuts = sorted({0.0, claim.low, *(claim.low + top * (n / CUTS) ** 3 for n in range(CUTS + 1))})
         self.cuts = [(claim.outcome(x), claim.before(x)) for x in cuts]
@@ -170,7 +179,7 @@ class Two:
         for _ in range(60):
             middle = (low + high) / 2
             low, high = (middle, high) if self.after(middle) <= y else (low, middle)
-        return self.sum_ends(low + 1e-9 if y else low)
+        return self.sum_ends(low + 1e-9 if low > 1e-6 else low)  # an atom there is counted
 
     def sum_ends(self, s):
         none, one, two = self.counts
@@ -179,7 +188,7 @@ class Two:
         least = sum(step * value for step, value in zip(steps, first))
         most = steps[0] * first[0] + sum(step * value for step, value in zip(steps[1:], first)) + (1 - last[-1]) * first[-1]
         once = self.single(s)
-        return none + one * once + two * least - FLOATS, none + one * once + two * most + FLOATS
+        return none + one * once + two * least - self.slack, none + one * once + two * most + self.slack
 
 
 class Erlang:
@@ -251,8 +260,8 @@ class Random(Case):
             }.get(kind, ("", "bernoulli", None))
             if counts is None:
                 mean = claim.layer_mean()
-                loss = round(mean[0] / 3, 4)
-                expected = loss / (sum(mean) / 2)
+                loss = round(mean / 3, 4)
+                expected = loss / mean
                 front = f"{loss} loss" if kind == "loss" else f"{2 * loss:.4f} premium at 50% lr"
                 counts = (1 - expected, expected, 0.0)
             program = " ".join(filter(None, ["agg One", front, claim.text, behind, text]))
@@ -261,12 +270,12 @@ class Random(Case):
             try:
                 between = decl.between(program, bs, log2=8)
             except decl.NotBetween as fault:
-                self.assertIn("aggregate clause", f"{fault} aggregate clause" if "share of a layer" in str(fault) else str(fault), told)
+                self.assertRegex(str(fault), "its aggregate clause|a share of a layer", told)
                 continue
             written += 1
             seen |= {*claim.kinds, kind, claim.kept or "xs" * (claim.low > 0), claim.clause_text[:10], text[:9]}
-            slack = 0 if kind in ("loss", "premium") and counts[2] else 0
-            self.holds(between, Two(claim, counts, after), told, (slack, 2, 4.25, 9, 17, 30))
+            slack = NUMERIC if kind in ("loss", "premium") else FLOATS
+            self.holds(between, Two(claim, counts, after, slack), told, (0, 2, 4.25, 9, 17, 30))
         self.assertGreater(written, BOOKS * 3 / 4)
         if BOOKS >= 100:
             self.assertLessEqual({"cv", "lognorm", "gamma", "shape", "expon", "weibull", "pareto", "above", "listed"}, seen)
@@ -361,6 +370,13 @@ class Written(Case):
         self.assertEqual((amounts, reached), (["0", "1", "2", "3"], 1))
         self.assertTrue(between.high.startswith("agg E dfreq [1] [1] dsev [1 2 3] [0."))
         self.assertIsNone(between.reach)
+
+    def test_a_loss_is_rounded_outward(self):
+        """9 over the mean of an exponential variable of mean 7, at most 20, is no numeral."""
+        between = decl.between("agg E 9 loss 20 xs 0 sev 7 * expon poisson", 1)
+        low, high = (Fraction(text.split()[2]) for text in (between.low, between.high))
+        claims = 9 / (7 * (1 - math.exp(-20 / 7)))
+        self.assertTrue(low < claims < high and high - low <= Fraction(1, 10**6), (low, high))
 
     def test_no_limit(self):
         """Claims past the grid have a place, and what depends on them has no high end."""

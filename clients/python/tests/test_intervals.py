@@ -2,7 +2,6 @@
 
 import math
 import random
-import unittest
 from decimal import Decimal, localcontext
 from fractions import Fraction
 from functools import lru_cache

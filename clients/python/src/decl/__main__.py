@@ -7,6 +7,7 @@ from typing import List, Optional, Union
 
 from . import DeclError, __version__
 from .coarse import Between, coarser
+from .continuous import between
 from .books import RETURN_PERIODS, Book
 from .calls import report
 
@@ -15,6 +16,7 @@ python -m decl FILE ASK..                 the report that `decl run ASK.. < FILE
 python -m decl FILE --money ASK..         the same in money: bucket and grid are chosen, amounts of the asks are in money
 python -m decl FILE --table 10,50,100     VaR and TVaR of these return periods, in money
 python -m decl FILE --coarser BS ASK..    the same by two programs on a coarser bucket, between which the book lies
+python -m decl FILE --between ASK..       the same of a text whose severities may be continuous; --bs is the bucket
 python -m decl report FILE -o book.html   a page on the book, in money
 """
 
@@ -33,6 +35,7 @@ def parser() -> argparse.ArgumentParser:
     made.add_argument("--money", action="store_true", help="amounts of the asks and of the answers are in money")
     made.add_argument("--table", metavar="YEARS", help="return periods, as 10,50,100,250")
     made.add_argument("--coarser", metavar="BS", help="the size of a bucket that amounts need not fit")
+    made.add_argument("--between", action="store_true", help="two programs hold a book of continuous severities between them")
     for name, told in (("bs", "size of a bucket in money"), ("log2", "the grid has 2^N buckets"), ("digits", "digits of the ends")):
         made.add_argument(f"--{name}", help=told)
     for name in ("width", "mwidth", "format"):
@@ -58,11 +61,18 @@ def book_of(given: argparse.Namespace) -> Book:
     return Book(text_of(given.file), bs=given.bs, **whole)
 
 
+def two_of(given: argparse.Namespace) -> Optional[Between]:
+    """The two programs that hold the book of the file between them, where that is asked for."""
+    if given.between:
+        return between(text_of(given.file), given.bs, log2=None if given.log2 is None else int(given.log2))
+    return None if given.coarser is None else coarser(text_of(given.file), given.coarser)
+
+
 def answer(given: argparse.Namespace) -> str:
     """What is written for the words."""
     options = {name: getattr(given, name) for name in ("bs", "log2", "digits", "width", "mwidth")}
-    if given.table is not None or given.money or given.coarser is not None:
-        book: Union[Between, Book] = book_of(given) if given.coarser is None else coarser(text_of(given.file), given.coarser)
+    if given.table is not None or given.money or given.between or given.coarser is not None:
+        book: Union[Between, Book] = two_of(given) or book_of(given)
         if given.table is not None:
             return f"{book.return_periods(periods(given.table))}\n"
         rows = book.each(given.asks)

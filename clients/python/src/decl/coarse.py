@@ -18,6 +18,8 @@ SPELLING = (2, 7, 13, 19)
 #: Counts that rise with their expected number of claims.
 RISING = ("poisson", "mixed", "bernoulli")
 MOST_CELLS = 1 << 20
+#: Asks whose answers rise with the total.
+HELD = ("mean", "q", "tail", "cdf", "sf", "layer")
 #: Two ends.
 Ends = Tuple[Fraction, Fraction]
 
@@ -195,7 +197,7 @@ class Between:
     def ask(self, word: str) -> Row:
         """The answer to an ask in money: mean, q:p, tail:p, cdf:x, sf:x or layer:LxsA. Other asks do not rise with the total, so
         that the two programs do not hold them."""
-        if word.split(":")[0] not in ("mean", "q", "tail", "cdf", "sf", "layer"):
+        if word.split(":")[0] not in HELD:
             raise NotBetween(f"two programs do not hold {word} between them: ask mean, q, tail, cdf, sf or layer")
         below, above = self.book(False).ask(word), self._from_above(word)
         low, high = (above, below) if below.kind == "cdf" else (below, above)
@@ -217,7 +219,10 @@ class Between:
         return Row(row.ask, row.low, None, (row.written[0], "beyond"), True)
 
     def each(self, words: Iterable[str]) -> List[Row]:
-        """The answers to several asks."""
+        """The answers to several asks, by few calls of the program."""
+        words = list(words)
+        for up in (False, True):
+            self.book(up).each(word for word in words if word.split(":")[0] in HELD)
         return [self.ask(word) for word in words]
 
     def mean(self) -> Row:
@@ -248,6 +253,7 @@ class Between:
     def return_periods(self, years: Iterable[Number] = (10, 50, 100, 200, 250)) -> Table:
         """VaR and TVaR of each return period."""
         periods = [exact(each) for each in years]
+        self.each(f"{kind}:{plain(1 - 1 / n)}" for kind in ("q", "tail") for n in periods)
         return Table(["years", "VaR", "TVaR"], ([plain(n), self.q(1 - 1 / n), self.tail(1 - 1 / n)] for n in periods))
 
 

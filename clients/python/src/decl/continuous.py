@@ -9,10 +9,10 @@ from itertools import accumulate
 from typing import Dict, List, Optional, Tuple
 
 from .calls import Number, Text, check, fmt, run
-from .choose import LARGEST, tokens_of, value_of
-from .coarse import MOST_CELLS, Between, Ends, numeral, side, with_amounts
+from .choose import LARGEST, tokens_of
 from .books import exact
-from .faults import NotBetween, TextFault, pointed
+from .coarse import MOST_CELLS, Between, Ends, numeral, side, with_amounts
+from .faults import NotBetween, RuleFault, TextFault, pointed
 from .intervals import NOTHING, ONE, UNITY, Interval, interval
 from .plan import Chances, Layer, Reader, Unit
 from .program import as_text, place_in
@@ -24,7 +24,8 @@ LISTED = re.compile(r"(?<![\w-])(?:dsev|sev\s+dhistogram)(?![\w-])")
 #: A continuous severity is read as one amount, above all that a numeral can be; this one and those after it stand in for them.
 STAND_IN = Fraction(10**12)
 PLACE = "dsev [1]"
-#: Probabilities have so many parts; that of no claim amount has fewer, so that the expected number of claims above 0 is fine.
+#: A probability is a whole number of billionths, and that of a claim of 0 of millionths: the expected number of claims above 0 is then
+#: a fraction that the program takes.
 PARTS, PARTS_OF_0 = 10**9, 10**6
 #: Up to the end of the grid amounts are a bucket apart, and behind it a 32nd of themselves.
 FURTHER = 32
@@ -270,10 +271,15 @@ class Source:
         return self.head + "\n".join(each.side(grid, up, self.timeout) for each in self.units)
 
     def is_inside(self, bs: Fraction, inside: Fraction) -> bool:
-        """Whether about so much probability lies in the largest grid with these buckets, by the low program on larger ones."""
+        """Whether about so much probability lies in the largest grid with these buckets, by the low program on larger ones; not,
+        where the buckets are too small for that program."""
         grid = Grid(bs * 2**COARSER, LARGEST - COARSER)
-        settings = {"log2": grid.log2, "digits": 6, "width": 10**9}
-        row = run(self.program(grid, False), f"cdf:{grid.cells - 1}", bs=grid.bs, timeout=self.timeout, **settings)[0]
+        try:
+            text = self.program(grid, False)
+        except (NotBetween, RuleFault):
+            return False
+        last = f"cdf:{grid.cells - 1}"
+        row = run(text, last, bs=grid.bs, log2=grid.log2, digits=6, width=10**9, timeout=self.timeout)[0]
         return Fraction(row.low or 0) >= inside
 
     def bucket(self, inside: Fraction) -> Fraction:

@@ -10,6 +10,8 @@ Reason = Tuple[Type[faults.DeclError], Dict[str, Any], str]
 
 #: An ask of these kinds is held to `width`, any other to `mwidth`.
 PROBABILITIES = ("pmf:", "cdf:", "q:")
+#: Continuous severities that decl.between takes.
+BETWEEN = ("lognorm", "gamma", "expon", "weibull", "pareto")
 #: Of a long line of words so many characters are shown.
 SHOWN = 120
 PLACE = re.compile(r"decl: (\d+):(\d+): (.*)", re.DOTALL)
@@ -73,6 +75,8 @@ def text_reason(reason: str) -> Reason:
     if reason.startswith("continuous severity "):
         word = reason.split(" ")[-1]
         sentence = f"{word} is continuous; give its amounts with their probabilities instead, as dsev [..] [..]."
+        if word in BETWEEN:
+            sentence = f"{word} is continuous; decl.between(text) holds the book between two programs that list its amounts."
         return faults.ContinuousSeverity, {"word": word}, sentence
     return faults.TextFault, {}, "docs/USAGE.md tells the faults of a text."
 

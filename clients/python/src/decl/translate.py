@@ -35,7 +35,7 @@ NONE = {
     "distortion": "A distortion has no counterpart: there are no prices here.",
     "dist": "A distortion has no counterpart: there are no prices here.",
 }
-CONTINUOUS = "Two programs with listed amounts hold it between them: docs/FROM-AGGREGATE.md says how to write them."
+CONTINUOUS = "Two programs that list its amounts hold a book between them: decl.between(text), in docs/BETWEEN.md."
 STORED = "This names a stored program, and no text refers to another one here: write the program out."
 
 
