@@ -12,7 +12,7 @@ from support import Case, decl, main
 
 from decl.severities import CONTINUOUS, severity_of
 
-BOOKS = int(os.environ.get("BOOKS", "12"))
+BOOKS = int(os.environ.get("BOOKS", "20"))
 #: What floats are wrong at most, here.
 FLOATS = 1e-9
 #: What the rule of trapezoids is wrong at most in a mean, and so in an expected number of claims.
