@@ -1,6 +1,8 @@
-use Rattle.dl_direct.proofs.Common.{◌≡◌, ℕ, zero, suc, ◌+◌, ◌*◌, ◌^◌, ◌<◌, length, arith, refl, sym, ap, subst, ◌∙◌, mul-pos, Fraction, whole, ◌over◌, ◌*ℚ◌, cell, all_parts, part_at, IsRound, IsPlaced, IsScaled}
+use Rattle.dl_direct.proofs.Common.{◌≡◌, ℕ, zero, suc, ◌+◌, ◌*◌, ◌^◌, ◌<◌, ◌≤◌, length, arith, refl, sym, ap, subst, ◌∙◌, mul-pos, mul-le-mul, Fraction, whole, ◌over◌, ◌*ℚ◌, cell, all_parts, part_at, IsRound, IsPlaced, IsScaled}
 use Rattle.std.proofs.Common.{All}
+use Rattle.dl_limits.specs.Limits.{most_cells, most_shape}
 use Rattle.dl_grid.specs.Cells.{low_at, high_at}
+use Rattle.dl_grid.proofs.Room.{size_few}
 use Rattle.dl_model.specs.Family.{compound, Encloses}
 use Rattle.dl_plan.specs.Weighted.{weight_sum, weight_at}
 use Rattle.dl_plan.specs.Severity.{probability_of}
@@ -11,9 +13,24 @@ use Rattle.dl_direct.proofs.Top.{follows, placed_encloses}
 use Rattle.dl_direct.proofs.direct.compound_direct.Goals as goal
 use Rattle.dl_plan.proofs.Means.{severity_total}
 
+few_steps : (a b n : ℕ) → a ≤ 1 → b ≤ most_shape → n ≤ most_cells → (a + b) * n < 2 ^ 32
+few_steps a b n p q few =
+    omega (arith, mul-le-mul {n₁ = a + b} {m₁ = n} {n₂ = 10001} {m₂ = 65536} (omega (arith, p, q)) few)
+
 one_factor : (s n : ℕ) → 0 < s → s * n < 2 ^ 64 → n < 2 ^ 64
 one_factor zero n p h = absurd (omega (arith, p))
 one_factor (suc s) n p h = omega (arith, h)
+
+pub fits-requires-clause-cells_small : goal.fits-requires-clause-cells_small
+fits-requires-clause-cells_small g c = size_few c.requires.size
+
+pub recur-requires-clause-few : goal.recur-requires-clause-few
+recur-requires-clause-few g c = omega (arith, size_few c.requires.size)
+
+pub recur-requires-clause-steps : goal.recur-requires-clause-steps
+recur-requires-clause-steps g c =
+    few_steps c.args.steps.a c.args.steps.b c.args.cells c.requires.a_small c.requires.b_small
+    (size_few c.requires.size)
 
 pub amounts_of-requires-clause-room : goal.amounts_of-requires-clause-room
 amounts_of-requires-clause-room g c =
