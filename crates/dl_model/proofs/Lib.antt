@@ -47,4 +47,5 @@ pub mod PlanUnits
 pub mod PlanMeans
 pub mod PlanThin
 pub mod Multiples
+pub mod Stretched
 pub mod ClauseMeans
