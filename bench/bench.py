@@ -179,14 +179,15 @@ def long_cases(equal, power):
     four = [Unit(f"V{n}", "25 claims dsev [400:800:100] poisson", "poisson 25", apart(400, 800, 100)) for n in range(4)]
     half = [Unit("D", "dfreq [128] dsev [1:1024]", listed([128]), even(1, 1024))]
     equal_words = ["--digits", "3", "cdf:65000", "q:0.3", "tail:0.3"]
+    wide = ["--digits", "3", "--mwidth", "1000000000"]
     programs = [
         ("a Poisson mean of 100, amounts 100 apart", coarse, ["mean", "cdf:60000", "q:0.99"]),
         ("a Poisson mean of 4,096", often, ["--digits", "4", "mean", "cdf:22528", "q:0.99"]),
         ("1,024 amounts in a row", row, ["--digits", "4", "mean", "cdf:25625", "q:0.99"]),
         ("1,024 odd amounts", odd, ["--digits", "4", "mean", "cdf:40960", "q:0.99"]),
         ("16 equal units of 745 claims", equal, equal_words),
-        ("16 equal units, `kappa` of each", equal, [*equal_words, *kappas(equal, 65000)]),
-        ("4 units with amounts 100 apart, `kappa` of each", four, ["--digits", "4", "cdf:60000", *kappas(four, 60000)]),
+        ("16 equal units, `kappa` of each", equal, [*wide, *equal_words[2:], *kappas(equal, 65000)]),
+        ("4 units with amounts 100 apart, `kappa` of each", four, [*wide, "cdf:60000", *kappas(four, 60000)]),
         ("128 claims of 1,024 amounts", half, ["--digits", "4", "cdf:65535"]),
         ("256 claims of 1,024 amounts", power, ["--digits", "4", "cdf:65535"]),
     ]
