@@ -81,6 +81,13 @@ class Choices(Case):
                 self.assertTrue(low <= more <= high, total)
         self.assertEqual(len(decl.Book(DICE).curve()), 16)
 
+    def test_fewer_digits_where_the_widest_is_too_narrow(self):
+        """A program that refuses six and five digits, as for a share in many large units on a long grid."""
+        book = decl.Book(DICE)
+        refuses = 'case "$*" in *"digits 6"*|*"digits 5"*) echo "decl: ask 0: needs width 2600000000000" >&2; exit 4;; esac'
+        self.instead(refuses + '\nexec "$BUILT" "$@"')
+        self.assertEqual(book.tail(0.9).written, ("11111.1", "11111.2"))
+
     def test_amounts_that_long_grids_alone_take(self):
         """Nothing or 2,000,000 buckets: a grid of 8,192 or more takes it, and none reaches it."""
         book = decl.Book("port Far agg A dfreq [1] dsev [0 2000001] agg B dfreq [1] dsev [1]")

@@ -7,7 +7,7 @@ from typing import TYPE_CHECKING, Any, Dict, Iterable, List, Optional, Tuple, Un
 from . import program
 from .calls import Number, Text, fmt, run, spelled
 from .choose import NOTE, bucket, grid, least_grid, value_of
-from .faults import GridTooSmall
+from .faults import GridTooSmall, NeedsWidth
 from .moments import Moments, of_unit, of_units
 from .pages import page_of
 from .pictures import Picture, alone, exceedance
@@ -58,7 +58,8 @@ class Book:
         timeout: Optional[float] = None,
     ) -> None:
         """The bucket is the greatest that divides all amounts, the grid the least in which a probability of `inside` is
-        sure to lie, else the largest that takes the text. `digits` are those of an answer in buckets; `timeout` is in seconds, for one call.
+        sure to lie, else the largest that takes the text. `digits` are those of an answer in buckets, of which there are fewer
+        where it needs a larger width than there is; `timeout` is in seconds, for one call.
         """
         self.text = program.as_text(text)
         self.digits = digits
@@ -86,10 +87,18 @@ class Book:
         asks = list(asks)
         wanted = [ask for ask in dict.fromkeys(asks) if ask not in self._known]
         for first in range(0, len(wanted), MOST_ASKS):
-            part = wanted[first : first + MOST_ASKS]
-            settings: Dict[str, Any] = {"log2": self.log2, "digits": self.digits, "timeout": self.timeout, **WIDEST}
-            self._known.update((row.ask, row) for row in run(self.text, part, bs=self.bs, **settings))
+            self._known.update((row.ask, row) for row in self._asked(wanted[first : first + MOST_ASKS]))
         return [self._known[ask] for ask in asks]
+
+    def _asked(self, asks: List[str]) -> Report:
+        """The report on at most 256 asks, with fewer digits where one of them needs more width than the widest."""
+        settings: Dict[str, Any] = {"log2": self.log2, "timeout": self.timeout, **WIDEST}
+        for digits in range(self.digits, 1, -1):
+            try:
+                return run(self.text, asks, bs=self.bs, digits=digits, **settings)
+            except NeedsWidth:
+                pass
+        return run(self.text, asks, bs=self.bs, digits=min(self.digits, 1), **settings)
 
     def _row(self, ask: str) -> Row:
         return self._rows([ask])[0]
