@@ -159,6 +159,42 @@ def asked_of_each_kind():
     }
 
 
+def apart(first, last, step):
+    """Amounts so many buckets apart that are equally likely."""
+    amounts = range(first, last + 1, step)
+    return [(amount, Fraction(1, len(amounts))) for amount in amounts]
+
+
+def kappas(units, total):
+    """The conditional mean of each unit at one total."""
+    return [f"kappa:{unit.name}:{total}" for unit in units]
+
+
+def long_cases(equal, power):
+    """The programs on the longest grid."""
+    coarse = [Unit("V", "100 claims dsev [400:800:100] poisson", "poisson 100", apart(400, 800, 100))]
+    often = [Unit("N", "4096 claims dsev [1:10] poisson", "poisson 4096", even(1, 10))]
+    row = [Unit("W", "50 claims dsev [1:1024] poisson", "poisson 50", even(1, 1024))]
+    odd = [Unit("O", "40 claims dsev [1:2047:2] poisson", "poisson 40", apart(1, 2047, 2))]
+    four = [Unit(f"V{n}", "25 claims dsev [400:800:100] poisson", "poisson 25", apart(400, 800, 100)) for n in range(4)]
+    half = [Unit("D", "dfreq [128] dsev [1:1024]", listed([128]), even(1, 1024))]
+    equal_words = ["--digits", "3", "cdf:65000", "q:0.3", "tail:0.3"]
+    wide = ["--digits", "3", "--mwidth", "1000000000"]
+    programs = [
+        ("a Poisson mean of 100, amounts 100 apart", coarse, ["mean", "cdf:60000", "q:0.99"]),
+        ("a Poisson mean of 4,096", often, ["--digits", "4", "mean", "cdf:22528", "q:0.99"]),
+        ("1,024 amounts in a row", row, ["--digits", "4", "mean", "cdf:25625", "q:0.99"]),
+        ("1,024 odd amounts", odd, ["--digits", "4", "mean", "cdf:40960", "q:0.99"]),
+        ("16 equal units of 745 claims", equal, equal_words),
+        ("16 equal units, `kappa` of each", equal, [*wide, *equal_words[2:], *kappas(equal, 65000)]),
+        ("4 units with amounts 100 apart, `kappa` of each", four, [*wide, "cdf:60000", *kappas(four, 60000)]),
+        ("128 claims of 1,024 amounts", half, ["--digits", "4", "cdf:65535"]),
+        ("256 claims of 1,024 amounts", power, ["--digits", "4", "cdf:65535"]),
+    ]
+    for name, units, words in programs:
+        yield Case(f"{name}, 65,536 cells", units, words, log2=16)
+
+
 def cases(decl):
     """The programs."""
     dice = [Unit("Dice", "dfreq [2] dsev [1:6]", listed([2]), even(1, 6))]
@@ -182,6 +218,7 @@ def cases(decl):
     yield Case("256 claims of 1,024 amounts, 4,096 cells", power, ["mean", "cdf:4095"])
     yield Case("a table of 257 counts, 4,096 cells", table, ["mean", "cdf:1024", "q:0.99"])
     yield Case("65,536 trials, 4,096 cells", deep, ["mean", "cdf:2048", "q:0.99"])
+    yield from long_cases(equal, power)
     for kind, words in asked_of_each_kind().items():
         yield Case(f"256 asks `{kind}`, 1,024 cells", book(), ["--digits", "4", *words], log2=10)
     yield Case("a megabyte of values that is refused", [], ["mean"], text=refused, status=3)

@@ -1,7 +1,8 @@
 #!/usr/bin/env python3
 """Works how much width the asks need for which clients/calls.txt has a refusal, apart from the program.
 
-The rule of widths of docs/DEFINITIONS.md, with budgets in units of 2^-56. The last line is 'N passed, M failed'.
+The rule of widths of docs/DEFINITIONS.md, with budgets in units of 2^-56 up to 4,096 cells and of 2^-48 above. The last line is 'N
+passed, M failed'.
 """
 
 import sys
@@ -10,101 +11,122 @@ from math import ceil
 
 from calls import TOO_WIDE, table
 
-SCALE = 1 << 56
-CELLS, DIGITS = 4096, 9  # of each plan below, and of the words of its call
+DIGITS = 9  # of the words of each call
 
 
-def joined(cells, x, y):
-    """Two independent amounts."""
-    return x + y + ceil(Fraction(x * y, SCALE)) + 2 * cells
+class Widths:
+    """The rule of widths on a plan of so many cells, whose number gives the scale."""
+
+    def __init__(self, cells):
+        self.cells, self.scale = cells, 1 << (56 if cells <= 4096 else 48)
+
+    def before_clause(self, cells):
+        """The same on more cells, at the scale of the plan: for the sum before an aggregate clause."""
+        longer = Widths(self.cells)
+        longer.cells = cells
+        return longer
+
+    def joined(self, x, y):
+        """Two independent amounts."""
+        return x + y + ceil(Fraction(x * y, self.scale)) + 2 * self.cells
+
+    def power(self, base, times):
+        """So many claims of one distribution."""
+        if times < 2:
+            return base * times
+        half = self.power(base, times // 2)
+        even = self.joined(half, half)
+        return self.joined(even, base) if times % 2 else even
+
+    def listed(self, items, greatest):
+        """A listed number of claims."""
+        spread = 1
+        for _ in range(greatest):
+            spread = self.joined(items, spread) + 2
+        return spread
+
+    def poisson(self, mean):
+        """A Poisson number of claims above 0: halved until the mean is at most 1/2, and doubled as often."""
+        halvings = next(h for h in range(14) if Fraction(mean, 1 << h) <= Fraction(1, 2))
+        spread = 8 * self.cells + 128
+        for _ in range(halvings):
+            spread = self.joined(spread, spread)
+        return spread
+
+    def gamma(self, mean, shape):
+        """A gamma number of claims above 0: as many geometric numbers as its shape says."""
+        return self.power(ceil((4 * self.cells + 1) * (1 + Fraction(mean, shape))), shape)
+
+    def binomial(self, items, trials):
+        """A binomial number of claims."""
+        return self.power(3 * (items + 1), trials)
+
+    def needs(self, budget):
+        """The units of the last digit that a budget comes to, and one more."""
+        return 1 + ceil(Fraction(budget * 10**DIGITS, self.scale))
+
+    def joint(self, own, others):
+        """The mean of a unit where the total is given."""
+        return self.cells * self.joined(own, others)
+
+    def share(self, total, own, others):
+        """That mean over the probability of the total, which is at least 2^-16."""
+        return (1 << 16) * (self.cells * total + self.joint(own, others)) + 2
+
+    def tail(self, total, mean, p):
+        """The mean above a quantile."""
+        return ceil((2 * mean + 3 * self.cells * total) / (1 - Fraction(p))) + 4
 
 
-def power(cells, base, times):
-    """So many claims of one distribution."""
-    if times < 2:
-        return base * times
-    half = power(cells, base, times // 2)
-    even = joined(cells, half, half)
-    return joined(cells, even, base) if times % 2 else even
+def short_calls():
+    """Calls on 4,096 cells, each with its budget."""
+    plan = Widths(4096)
+    hedged = plan.before_clause(16000).binomial(2, 65536)  # up to the last attachment of its clause, which lies past the grid
+    hedged_mean = 1 + (8000 * hedged + 3) + (16000 * hedged + 4)
+    listed, trials = plan.listed(6, 256), plan.binomial(2, 65536)
+    gamma, poisson = plan.gamma(20, 4), plan.poisson(20)
+    return plan, {
+        "--width 1 cdf:4000": plan.joined(listed, trials),
+        "--mwidth 1 mean": hedged_mean,
+        "--mwidth 1 layer:4000xs10": 4000 * 2 * hedged,
+        "--mwidth 1 layer:infxs4000": hedged_mean + 4000 * 2 * hedged,
+        "--mwidth 1 tail:.999999999": plan.tail(poisson, 1, ".999999999"),
+        "--mwidth 1 joint:B:4000": plan.joint(trials, listed),
+        "--mwidth 1 kappa:G:0": plan.share(gamma, gamma, 0),
+        "--mwidth 1 kappa:P:0": plan.share(plan.joined(gamma, poisson), poisson, gamma),
+    }
 
 
-def listed(cells, items, greatest):
-    """A listed number of claims."""
-    spread = 1
-    for _ in range(greatest):
-        spread = joined(cells, items, spread) + 2
-    return spread
-
-
-def poisson(cells, mean):
-    """A Poisson number of claims above 0: halved until the mean is at most 1/2, and doubled as often."""
-    halvings = next(h for h in range(14) if Fraction(mean, 1 << h) <= Fraction(1, 2))
-    spread = 8 * cells + 128
-    for _ in range(halvings):
-        spread = joined(cells, spread, spread)
-    return spread
-
-
-def gamma(cells, mean, shape):
-    """A gamma number of claims above 0: as many geometric numbers as its shape says."""
-    return power(cells, ceil((4 * cells + 1) * (1 + Fraction(mean, shape))), shape)
-
-
-def binomial(cells, items, trials):
-    """A binomial number of claims."""
-    return power(cells, 3 * (items + 1), trials)
-
-
-def needs(budget):
-    """The units of the last digit that a budget comes to, and one more."""
-    return 1 + ceil(Fraction(budget * 10**DIGITS, SCALE))
-
-
-def joint(own, others):
-    """The mean of a unit where the total is given."""
-    return CELLS * joined(CELLS, own, others)
-
-
-def share(total, own, others):
-    """That mean over the probability of the total, which is at least 2^-16."""
-    return (1 << 16) * (CELLS * total + joint(own, others)) + 2
-
-
-def tail(total, mean, p):
-    """The mean above a quantile."""
-    return ceil((2 * mean + 3 * CELLS * total) / (1 - Fraction(p))) + 4
-
-
-HEDGED = binomial(16000, 2, 65536)  # up to the last attachment of its clause, which lies past the grid
-HEDGED_MEAN = 1 + (8000 * HEDGED + 3) + (16000 * HEDGED + 4)
-LISTED, TRIALS = listed(CELLS, 6, 256), binomial(CELLS, 2, 65536)
-GAMMA, POISSON = gamma(CELLS, 20, 4), poisson(CELLS, 20)
-
-BUDGETS = {
-    "--width 1 cdf:4000": joined(CELLS, LISTED, TRIALS),
-    "--mwidth 1 mean": HEDGED_MEAN,
-    "--mwidth 1 layer:4000xs10": 4000 * 2 * HEDGED,
-    "--mwidth 1 layer:infxs4000": HEDGED_MEAN + 4000 * 2 * HEDGED,
-    "--mwidth 1 tail:.999999999": tail(POISSON, 1, ".999999999"),
-    "--mwidth 1 joint:B:4000": joint(TRIALS, LISTED),
-    "--mwidth 1 kappa:G:0": share(GAMMA, GAMMA, 0),
-    "--mwidth 1 kappa:P:0": share(joined(CELLS, GAMMA, POISSON), POISSON, GAMMA),
-}
+def long_calls():
+    """Calls on 65,536 cells, each with its budget."""
+    plan = Widths(65536)
+    hedged = plan.before_clause(65000).binomial(2, 65536)
+    poisson = plan.poisson(4096)
+    return plan, {
+        "--width 1 cdf:65535": plan.joined(plan.listed(6, 256), plan.binomial(2, 65536)),
+        "--width 1 q:0.99": poisson,
+        "--mwidth 1 layer:60000xs10": 60000 * poisson,
+        "--mwidth 1 mean": 1 + (8000 * hedged + 3) + (65000 * hedged + 4),
+    }
 
 
 def main():
     """Compares each refusal with the width that its ask needs."""
-    passed, failed, left = 0, 0, {f"run --log2 12 --digits {DIGITS} {words}": budget for words, budget in BUDGETS.items()}
+    left = {}
+    for plan, budgets in (short_calls(), long_calls()):
+        log2 = plan.cells.bit_length() - 1
+        left.update((f"run --log2 {log2} --digits {DIGITS} {words}", plan.needs(budget)) for words, budget in budgets.items())
+    passed = failed = 0
     for call in table():
-        budget = left.pop(" ".join(call.words), None) if call.status == TOO_WIDE else None
-        if budget is not None:
-            due = f"decl: ask 0: needs width {needs(budget)}\n"
+        needed = left.pop(" ".join(call.words), None) if call.status == TOO_WIDE else None
+        if needed is not None:
+            due = f"decl: ask 0: needs width {needed}\n"
             passed, failed = passed + (call.err == due), failed + (call.err != due)
             if call.err != due:
                 print(f"FAILED: {' '.join(call.words)}: {due}", end="")
     failed += len(left)
-    for words, budget in left.items():
-        print(f"FAILED: clients/calls.txt has no call {words}, which needs {needs(budget)}")
+    for words, needed in left.items():
+        print(f"FAILED: clients/calls.txt has no call {words}, which needs {needed}")
     print(f"{passed} passed, {failed} failed")
     return 1 if failed else 0
 

@@ -25,7 +25,7 @@ DIGITS = 10**6
 DOUBT = 1e-4
 
 #: What `decl` takes at most: values in a list, buckets of an amount, digits of a numeral (docs/LANGUAGE.md, "Rules").
-VALUES, BUCKETS, PLACES = 1024, 2**20, 11
+VALUES, BUCKETS, PLACES = 1024, 2**22, 11
 
 
 def distribution(kind, numbers):

@@ -58,7 +58,7 @@ REFUSED = [
     ),
     (
         "expon 5 --bucket 1 --limit 9999999",
-        "the limit has 9,999,999 buckets, and decl takes at most 1,048,576: take larger buckets",
+        "the limit has 9,999,999 buckets, and decl takes at most 4,194,304: take larger buckets",
     ),
     (
         "expon 5 --bucket 1 --limit 100000000000",

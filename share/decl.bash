@@ -5,7 +5,7 @@ _decl_offers() {
     local begun=${*: -1} before=${*: -2:1} word command='' offers='' option
     case $before in
         --format) echo text csv json; return ;;
-        --log2) echo 1 2 3 4 5 6 7 8 9 10 11 12; return ;;
+        --log2) echo 1 2 3 4 5 6 7 8 9 10 11 12 13 14 15 16; return ;;
         --digits) echo 1 2 3 4 5 6 7 8 9; return ;;
         --bs | --width | --mwidth | --make) return ;;
     esac

@@ -24,7 +24,7 @@ complete -c decl -n '__fish_seen_subcommand_from run' -a tail: -d 'tail mean at 
 complete -c decl -n '__fish_seen_subcommand_from run' -a joint: -d 'joint mean of a unit at x'
 complete -c decl -n '__fish_seen_subcommand_from run' -a kappa: -d 'share of a unit in a total of x'
 complete -c decl -n '__decl_wants bs' -l bs -x -d 'size of a bucket, in money'
-complete -c decl -n '__decl_wants log2' -l log2 -x -a '(seq 1 12)' -d 'the grid has 2^N buckets'
+complete -c decl -n '__decl_wants log2' -l log2 -x -a '(seq 1 16)' -d 'the grid has 2^N buckets'
 complete -c decl -n '__decl_wants digits' -l digits -x -a '(seq 1 9)' -d 'digits behind the point'
 complete -c decl -n '__decl_wants width' -l width -x -d 'width of probabilities, in last digits'
 complete -c decl -n '__decl_wants mwidth' -l mwidth -x -d 'width of means, in last digits'

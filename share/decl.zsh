@@ -11,7 +11,7 @@ _decl() {
     fi
     case $before in
         --format) compadd -- text csv json; return ;;
-        --log2) compadd -- {1..12}; return ;;
+        --log2) compadd -- {1..16}; return ;;
         --digits) compadd -- {1..9}; return ;;
         --bs | --width | --mwidth | --make) return ;;
     esac

@@ -77,28 +77,55 @@ decl_bucket <- function(text, shares = TRUE, timeout = 0) {
         found <- decl_written(decl_reduced(size[1], size[2] * part))
         if (!shares) return(found)
         fault <- tryCatch({
-            decl_check(text, bs = found, log2 = 1, timeout = timeout)
+            decl_least_grid(text, bs = found, timeout = timeout)
             return(found)
         }, decl_fault = function(fault) if (identical(fault$rule, off_grid)) fault else stop(fault))
     }
     stop(fault)
 }
 
+# The rules whose limits depend on log2: on far amounts, and on the sum before an aggregate clause.
+decl_sizes <- c(8L, 21L)
+
+# The least log2 with which the text keeps every rule: 1, or 13 where one of its numbers needs the higher limits of a long
+# grid. Raises the fault of a text that no grid takes.
+decl_least_grid <- function(text, bs = NULL, timeout = 0) {
+    tryCatch({
+        decl_check(text, bs = bs, log2 = 1, timeout = timeout)
+        return(1)
+    }, decl_fault = function(fault) if (isTRUE(fault$rule %in% decl_sizes)) fault else stop(fault))
+    decl_check(text, bs = bs, log2 = 13, timeout = timeout)
+    13
+}
+
 # The least log2 with which at least so much probability is sure to lie inside the grid. inside is a number or a text:
-# a decimal, a fraction or a percent. digits and width are those of the probability that is asked of each grid. An error
-# of class decl_fault, with the fields low and high of the largest grid, where that is not sure to hold so much.
+# a decimal, a fraction or a percent. digits and width are those of the probability that is asked of each grid. Grids are
+# tried from the least one up, since a longer one takes more time; one at which the text breaks a rule on sizes is passed
+# over. An error of class decl_fault, with the fields log2, low and high of the largest grid that takes the text, where that
+# is not sure to hold so much; the fault of the text where no grid takes it.
 decl_grid <- function(text, inside = "0.999999", bs = NULL, digits = 9, width = 1e9, make = NULL, timeout = 0) {
     wanted <- decl_digits(decl_value(decl_spelled(inside, "inside")), digits)
-    largest <- 12
+    largest <- 16
+    last <- NULL
     for (log2 in seq_len(largest)) {
-        row <- decl_run(text, sprintf("cdf:%d", 2^log2 - 1), bs = bs, log2 = log2, digits = digits, width = width,
-                        make = make, timeout = timeout)
-        if (as.numeric(sub(".", "", row$low, fixed = TRUE)) >= wanted) return(log2)
+        found <- tryCatch(
+            decl_run(text, sprintf("cdf:%d", 2^log2 - 1), bs = bs, log2 = log2, digits = digits, width = width,
+                     make = make, timeout = timeout),
+            decl_fault = function(fault) if (isTRUE(fault$rule %in% decl_sizes)) fault else stop(fault)
+        )
+        if (inherits(found, "decl_fault")) {
+            refused <- found
+            next
+        }
+        if (as.numeric(sub(".", "", found$low, fixed = TRUE)) >= wanted) return(log2)
+        last <- list(log2 = log2, low = found$low, high = found$high)
     }
+    if (is.null(last)) stop(refused)
     stop(decl_fault(
-        sprintf("the largest grid, of %d buckets, holds a probability from %s to %s; take larger buckets",
-                2^largest, row$low, row$high),
-        low = row$low, high = row$high
+        sprintf("the largest grid%s, of %s buckets, holds a probability from %s to %s; take larger buckets",
+                if (last$log2 == largest) "" else " that takes the text", format(2^last$log2, big.mark = ","),
+                last$low, last$high),
+        log2 = last$log2, low = last$low, high = last$high
     ))
 }
 
@@ -111,7 +138,7 @@ decl_sentences <- c(
     "A list of probabilities needs as many values as the list before it.",
     "Probabilities and weights have to add up to 1; nothing is rescaled.",
     "Each amount, limit and attachment has to be a whole number of buckets; decl_bucket(text) tells the greatest bucket.",
-    "No amount, limit or attachment may pass 1,048,576 buckets; take larger buckets.",
+    "No amount, limit or attachment may pass 1,048,576 buckets with log2 up to 12, or 4,194,304 with 13 or more; take larger buckets.",
     "wts needs one weight for each severity of the mixture.",
     "No claim can exceed the attachment of the layer; put a ! behind the severity to keep the claims that do not.",
     "Two layers of one clause overlap; layers may touch.",
@@ -124,7 +151,7 @@ decl_sentences <- c(
     "mixed gamma c needs a c above 0 with 1 / c^2 whole, such as 1, 1/2, 0.25 or 0.2.",
     "Probabilities, shares or weights have too fine a common denominator (above 2^30), or the expected count or loss is too fine a fraction.",
     "Too many claims: at most 256 of listed counts, 65,536 of fixed counts and trials, 4,096 expected ones above 0 of poisson and mixed gamma, and a shape of at most 10,000.",
-    "The aggregate clause needs more than 16,384 buckets of the sum before it; take larger buckets or a smaller grid.",
+    "The aggregate clause needs more buckets of the sum before it than there are: 16,384 with log2 up to 12, 65,536 with 13 or more; take larger buckets, a smaller grid, or a log2 of 13.",
     "A portfolio has at most 16 units."
 )
 

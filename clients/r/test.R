@@ -91,8 +91,20 @@ test("the least grid that holds so much", {
     stopifnot(decl_grid(dice, "0.583333333") == 3, decl_grid(dice, "7/12") == 4) # at most 7 has the probability 7/12
     poisson <- "agg P 10 claims dsev [1] poisson"
     stopifnot(decl_grid(poisson, 0.97) == 5, decl_grid(poisson, 0.95) == 4)
-    found <- fault(decl_grid("agg A dfreq [1] dsev [0 5000]", 0.9))
-    stopifnot(grepl("take larger buckets", conditionMessage(found)), found$low == "0.500000000")
+    stopifnot(decl_grid("agg A dfreq [1] dsev [0 5000]", 0.9) == 13, decl_grid("agg A dfreq [1] dsev [0 60000]", 0.9) == 16)
+    found <- fault(decl_grid("agg A dfreq [1] dsev [0 100000]", 0.9))
+    stopifnot(grepl("65,536 buckets.*take larger buckets", conditionMessage(found)), found$log2 == 16)
+    stopifnot(as.numeric(found$low) > 0.49, as.numeric(found$low) <= 0.5)
+})
+test("texts that long grids alone take", {
+    far <- "agg A dfreq [1] dsev [0 2000000]"                           # past the 2^20 buckets of short grids
+    late <- "agg A dfreq [1] dsev [0 40000] aggregate net of 20000 xs 0" # 20,000 or nothing is left
+    stopifnot(decl_grid(far, 0.4) == 13, decl_bucket("agg A dfreq [1] dsev [1 2000000]") == "1")
+    stopifnot(decl_grid(late, 0.9) == 15, fault(decl_check(late, log2 = 12))$rule == 21, decl_check(late, log2 = 13))
+    stopifnot(fault(decl_grid("agg A dfreq [1] dsev [0 4194305]", 0.4))$rule == 8)
+    # 50,000 and 8,192 buckets are there, 50,000 and 16,384 are not
+    found <- fault(decl_grid("agg A dfreq [1] dsev [0 90000] aggregate net of 50000 xs 0", 0.9))
+    stopifnot(grepl("that takes the text, of 8,192 buckets", conditionMessage(found)), found$log2 == 13)
 })
 test("made programs", {
     stopifnot(startsWith(decl_made(0), "port Made\nagg U1 34 claims dsev [1:9] poisson\nagg U2 31 claims"))
@@ -123,7 +135,7 @@ test("faults of a text, with their place", {
     stopifnot(fault(decl_run("", "mean"))$told == "decl: 1:1: syntax")
 })
 test("faults of words and asks", {
-    stopifnot(fault(decl_run(die, "mean", log2 = 13))$status == 2)
+    stopifnot(fault(decl_run(die, "mean", log2 = 17))$status == 2)
     stopifnot(fault(decl_run(die, c("pmf:1", "pmf")))$ask == 1)
     found <- fault(decl_run(die, "pmf:3", width = 1, log2 = 4))
     stopifnot(found$status == 4, found$needed == "2")

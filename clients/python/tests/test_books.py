@@ -45,23 +45,56 @@ class Choices(Case):
         self.assertEqual((decl.Book(DICE, bs="1/2", log2=12).bs, decl.Book(DICE, log2=9).cells), (Fraction(1, 2), 512))
 
     def test_the_largest_grid_is_too_small(self):
-        """Two claims of 1 or 5,000: what lies past the grid has no end there, and the mean is whole."""
-        book = decl.Book("agg Wide dfreq [2] dsev [1 5000]")
-        self.assertEqual((book.log2, book.q(0.9).state, book.tail(0.9).state), (12, "beyond", "beyond"))
-        self.assertTrue(book.mean().holds(5001))
+        """Two claims of 1 or 80,000: what lies past the grid has no end there, and the mean is whole."""
+        book = decl.Book("agg Wide dfreq [2] dsev [1 80000]")
+        self.assertEqual((book.log2, book.q(0.9).state, book.tail(0.9).state), (16, "beyond", "beyond"))
+        self.assertTrue(book.mean().holds(80001))
         self.assertTrue(book.inside().holds(Fraction(1, 4)))
-        self.assertEqual((book.cdf(4999).low, book.cdf(4999).high), (book.inside().low, 1))
-        for total in (1, 2, 4095, 4096, 5000, 5001, 10002, 10**9):
+        self.assertEqual((book.cdf(79999).low, book.cdf(79999).high), (book.inside().low, 1))
+        for total in (1, 2, 65535, 65536, 80000, 80001, 160000, 10**9):
             row = book.pmf(total)
-            self.assertTrue(row.holds({2: Fraction(1, 4), 5001: Fraction(1, 2), 10002: Fraction(1, 4)}.get(total, 0)), row)
-            self.assertTrue(total < 4096 or (row.low == 0 and row.holds(Fraction(3, 4))), row)
+            self.assertTrue(row.holds({2: Fraction(1, 4), 80001: Fraction(1, 2), 160000: Fraction(1, 4)}.get(total, 0)), row)
+            self.assertTrue(total < 65536 or (row.low == 0 and row.holds(Fraction(3, 4))), row)
         for call in (book.kappa, book.joint):
-            fault = self.raises(decl.AskFault, call, "Wide", 5001)
+            fault = self.raises(decl.AskFault, call, "Wide", 80001)
             self.assertIn("take a larger log2", str(fault))
-        self.assertTrue(book.layer(900, 4100).holds(Fraction(3, 4) * 900))
-        self.assertTrue(book.layer("inf", 5000).holds(Fraction(5002, 4)))
-        self.assertTrue(book.layer(10, 9990).holds(Fraction(10, 4)))
-        self.assertTrue(book.layer(6000, 3000).holds(Fraction(1, 2) * 2001 + Fraction(1, 4) * 6000))
+        self.assertTrue(book.layer(900, 65600).holds(Fraction(3, 4) * 900))
+        self.assertTrue(book.layer("inf", 80000).holds(Fraction(80002, 4)))
+        self.assertTrue(book.layer(10, 159980).holds(Fraction(10, 4)))
+        self.assertTrue(book.layer(90000, 48000).holds(Fraction(1, 2) * 32001 + Fraction(1, 4) * 90000))
+
+    def test_a_long_grid(self):
+        """Two units, each with no loss, one of 1 or a large one: the largest total of 7,999 asks for 8,192 buckets."""
+        book = decl.Book("port Long agg A dfreq [0 1] dsev [1 2999] agg B dfreq [0 1] dsev [1 5000]")
+        self.assertEqual((book.bs, book.log2, book.cells), (1, 13, 8192))
+        self.assertTrue(book.pmf(7999).holds(Fraction(1, 16)))
+        self.assertTrue(book.cdf(5000).holds(Fraction(3, 4) + Fraction(1, 8)))
+        self.assertTrue(dict(book.describe())["mean of B"].holds(Fraction(5001, 4)))
+
+    def test_a_curve_over_several_buckets(self):
+        """Two dice on 16 buckets, at every fourth total: the ends hold the probability of more up to the next one."""
+        curve = decl.Book(DICE).curve(4)
+        self.assertEqual([amount for amount, _, _ in curve], [0, 4000, 8000, 12000])
+        for amount, low, high in curve:
+            for total in range(int(amount) // 1000, int(amount) // 1000 + 4):
+                more = sum(part for value, part in TWO.items() if value > total)
+                self.assertTrue(low <= more <= high, total)
+        self.assertEqual(len(decl.Book(DICE).curve()), 16)
+
+    def test_fewer_digits_where_the_widest_is_too_narrow(self):
+        """A program that refuses six and five digits, as for a share in many large units on a long grid."""
+        book = decl.Book(DICE)
+        refuses = 'case "$*" in *"digits 6"*|*"digits 5"*) echo "decl: ask 0: needs width 2600000000000" >&2; exit 4;; esac'
+        self.instead(refuses + '\nexec "$BUILT" "$@"')
+        self.assertEqual(book.tail(0.9).written, ("11111.1", "11111.2"))
+
+    def test_amounts_that_long_grids_alone_take(self):
+        """Nothing or 2,000,000 buckets: a grid of 8,192 or more takes it, and none reaches it."""
+        book = decl.Book("port Far agg A dfreq [1] dsev [0 2000001] agg B dfreq [1] dsev [1]")
+        self.assertEqual((book.bs, book.log2), (1, 16))
+        self.assertTrue(book.mean().holds(1 + Fraction(2000001, 2)))
+        self.assertTrue(dict(book.describe())["mean of A"].holds(Fraction(2000001, 2)))
+        self.assertTrue(book.inside().holds(Fraction(1, 2)))
 
     def test_a_text_that_is_refused(self):
         self.raises(decl.SyntaxFault, decl.Book, "agg")

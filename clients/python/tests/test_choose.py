@@ -52,7 +52,35 @@ class Grids(Case):
         self.assertEqual(decl.grid("agg P 10 claims dsev [1] poisson", inside=0.95), 4)
 
     def test_no_grid_is_large_enough(self):
-        fault = self.raises(decl.GridTooSmall, decl.grid, "agg A dfreq [1] dsev [0 5000]", inside=0.9)
+        fault = self.raises(decl.GridTooSmall, decl.grid, "agg A dfreq [1] dsev [0 100000]", inside=0.9)
+        self.assertTrue(fault.row.holds(Fraction(1, 2)))
+        self.assertEqual(fault.log2, 16)
+        self.assertIn("the largest grid, of 65,536 buckets, holds", str(fault))
+
+    def test_long_grids(self):
+        """Nothing or one loss, each with 1/2: the least grid that reaches the loss."""
+        for loss, log2 in ((4095, 12), (4096, 13), (8191, 13), (8192, 14), (16384, 15), (32768, 16), (65535, 16)):
+            self.assertEqual(decl.grid(f"agg A dfreq [1] dsev [0 {loss}]", inside=0.9), log2, loss)
+
+    def test_amounts_that_long_grids_alone_take(self):
+        """Amounts past 2^20 buckets, and past 2^22, which no grid takes."""
+        self.assertEqual(decl.grid("agg A dfreq [1] dsev [0 2000000]", inside=0.4), 13)
+        self.assertEqual(decl.bucket("agg A dfreq [1] dsev [1 2000000]"), 1)
+        for call in (decl.bucket, decl.grid):
+            self.assertEqual(self.raises(decl.RuleFault, call, "agg A dfreq [1] dsev [1 4194305]").rule, 8)
+
+    def test_a_clause_that_long_grids_alone_take(self):
+        """Nothing or 20,000 is left, so 15 is the least grid; 20,000 and more buckets before the clause are there from 13 on."""
+        late = "agg A dfreq [1] dsev [0 40000] aggregate net of 20000 xs 0"
+        self.assertEqual(self.raises(decl.RuleFault, decl.check, late, log2=12).rule, 21)
+        self.assertEqual(decl.grid(late, inside=0.9), 15)
+        self.assertEqual(decl.bucket(late), 20000)
+
+    def test_a_clause_that_the_longest_grids_do_not_take(self):
+        """Nothing or 40,000 is left of 90,000: 50,000 and 8,192 buckets before the clause are there, 50,000 and 16,384 are not."""
+        fault = self.raises(decl.GridTooSmall, decl.grid, "agg A dfreq [1] dsev [0 90000] aggregate net of 50000 xs 0", inside=0.9)
+        self.assertEqual(fault.log2, 13)
+        self.assertIn("the largest grid that takes the text, of 8,192 buckets, holds", str(fault))
         self.assertTrue(fault.row.holds(Fraction(1, 2)))
 
 

@@ -15,7 +15,7 @@ class Statuses(Case):
         self.assertEqual(fault.status, 1)
 
     def test_words_that_are_not_understood(self):
-        fault = self.raises(decl.UsageFault, decl.run, DIE, ["mean"], log2=13)
+        fault = self.raises(decl.UsageFault, decl.run, DIE, ["mean"], log2=17)
         self.assertEqual((fault.status, fault.ask), (2, None))
         fault = self.raises(decl.UsageFault, decl.run, DIE, ["pmf:1", "pmf"])
         self.assertEqual(fault.ask, 1)
@@ -184,7 +184,7 @@ class Sentences(Case):
 
     def test_words_out_of_their_range(self):
         rows = [
-            ({"log2": 13}, "log2 is a whole number from 1 to 12, not 13."),
+            ({"log2": 17}, "log2 is a whole number from 1 to 16, not 17."),
             ({"digits": 0}, "digits is a whole number from 1 to 9, not 0."),
             ({"width": 10**9 + 1}, "width is a whole number from 1 to 1,000,000,000, not 1000000001."),
             ({"mwidth": 10**12 + 1}, "mwidth is a whole number from 1 to 1,000,000,000,000, not"),

@@ -87,7 +87,7 @@ class Commands(Case):
         self.assertIn("\n  agg D dfreq [1] dsev [1 2] [1/3 1/3]\n                             ^\n", told)
         rows = [((DICE, "wat"), 2), ((DICE, "--money", "wat"), 2), ((DICE, "--money", "q:2"), 2), ((DICE, "pmf:5000"), 8)]
         rows += [((DICE, "--table", "x"), 2), ((DICE, "--table", "1/2"), 2), (("/nowhere/x.decl", "mean"), 1), ((DICE,), 2)]
-        rows += [((DICE, "--money", "kappa:Q:1"), 8), (("report", DICE, "mean"), 2), ((DICE, "--log2", "13", "mean"), 2)]
+        rows += [((DICE, "--money", "kappa:Q:1"), 8), (("report", DICE, "mean"), 2), ((DICE, "--log2", "17", "mean"), 2)]
         for words, wanted in rows:
             status, written, told = command(*words)
             self.assertEqual((status, written), (wanted, ""), words)
@@ -206,7 +206,7 @@ class Pages(Case):
 
     def test_books_at_the_edge(self):
         """No loss at all, a grid that is too small, and one total: a page is there, and a VaR past the grid has no mark."""
-        for text, marks in (("agg Z dfreq [1] dsev [0]", 4), ("agg Wide dfreq [2] dsev [1 5000]", 0), ("agg One dfreq [1] dsev [7]", 4)):
+        for text, marks in (("agg Z dfreq [1] dsev [0]", 4), ("agg Wide dfreq [2] dsev [1 80000]", 0), ("agg One dfreq [1] dsev [7]", 4)):
             page = decl.Book(text).page([10, 100])
             self.assertEqual(page.count('class="mark'), marks, text)
             self.assertIn("beyond" if marks == 0 else "<svg", page)

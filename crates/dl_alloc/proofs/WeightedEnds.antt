@@ -1,7 +1,7 @@
 -- The joint mean from the grids of a unit and of the others: what its ends hold, and how far apart they lie.
 use Rattle.std.proofs.Common.{ℕ, ◌≡◌, ◌+◌, ◌-◌, ◌*◌, ◌/◌, ◌^◌, ◌<◌, ◌≤◌, List, length, arith, ap₂}
 use Rattle.std.specs.Int.{div_ceil}
-use Rattle.std.proofs.Math.Nat.{mul-le-mul, mul-le-mul_left, mul-le-mul_right, mul-pos}
+use Rattle.std.proofs.Math.Nat.{mul-le-mul, mul-le-mul_left, mul-le-mul_right, mul-pos, le_trans}
 use Rattle.std.proofs.lemmas.Nat.{pow_pos}
 use Rattle.dl_exact.specs.Fraction.{◌over◌}
 use Rattle.dl_exact.proofs.Laws.{le_refl}
@@ -12,7 +12,7 @@ use Rattle.dl_grid.specs.Cells.{low_at, high_at, spread, IsGrid}
 use Rattle.dl_exact.specs.Count.{count_pairs, count_below}
 use Rattle.dl_grid.specs.Width.{cv}
 use Rattle.dl_grid.specs.Room.{HasRoom}
-use Rattle.dl_grid.proofs.CellLaws.{scale_of, size_of, one_fits, cells_fit}
+use Rattle.dl_grid.proofs.CellLaws.{size_of, cells_fit}
 use Rattle.dl_grid.proofs.Room.{grid_room, size_within}
 use Rattle.dl_exact.proofs.Counts.{below_same, below_plus, pairs_le, pairs_same}
 use Rattle.dl_grid.proofs.PlaceSums.{width_at, high_is, low_within, width_within}
@@ -65,15 +65,9 @@ pub end_fits : {B : ℕ} (unit others : List (Iv B)) (x : ℕ) → IsGrid unit �
 end_fits {B} unit others x p q inside v w =
     omega (arith, end_top unit others x p q v w, cells_fit unit x p (omega arith))
 
--- and up to 8192 it can be divided by a probability
-pub end_divisible : {B : ℕ} (cells : List (Iv B)) (x hi : ℕ) → IsGrid cells → hi ≤ 4 * x * 2 ^ B → x ≤ 8192
-    → hi * 2 ^ B ≤ 2 ^ 127
-end_divisible {B} cells x hi p h few =
-    let one : 2 ^ B ≤ 2 ^ 56 = one_fits B (scale_of cells p.some).1 in
-    let four : 4 * x ≤ 2 ^ 15 = omega arith in
-    let scaled : hi * 2 ^ B ≤ 4 * x * 2 ^ B * 2 ^ B = mul-le-mul_right (2 ^ B) h in
-    let most : 4 * x * 2 ^ B * 2 ^ B ≤ 2 ^ 15 * 2 ^ 56 * 2 ^ 56 = mul-le-mul (mul-le-mul four one) one in
-    omega (arith, scaled, most)
+-- and where that has room in the square of the units, it can be divided by a probability
+pub end_divisible : (one x hi : ℕ) → hi ≤ 4 * x * one → 4 * x * one * one ≤ 2 ^ 127 → hi * one ≤ 2 ^ 127
+end_divisible one x hi h room = le_trans (mul-le-mul_right one h) room
 
 pub ends_order : {B : ℕ} (unit others : List (Iv B)) (x : ℕ)
     → low_weighted unit others x / 2 ^ B ≤ div_ceil (high_weighted unit others x) (2 ^ B)

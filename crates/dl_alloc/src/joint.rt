@@ -59,8 +59,8 @@ pub fn joint_mean<const B: u32>(unit: &Grid<B>, others: &Grid<B>, x: u32) -> Iv<
         → result.lo ≤ x * h }
     // the high ends of so narrow a grid add up to less than 2
     ensures small { result.hi ≤ 4 * x * 2 ^ B }
-    // so it can be divided by a probability
-    ensures divisible { x ≤ 8192 → result.hi * 2 ^ B ≤ 2 ^ 127 }
+    // so it can be divided by a probability, where 4 * x in units of 1 / 2^(2B) fits a word
+    ensures divisible { 4 * x * 2 ^ B * 2 ^ B ≤ 2 ^ 127 → result.hi * 2 ^ B ≤ 2 ^ 127 }
 {
     prove!(x < unit.cells());
     prove!(x < others.cells());

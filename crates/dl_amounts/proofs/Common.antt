@@ -41,7 +41,7 @@ pub use Rattle.dl_amounts.specs.Clauses.{ceded_layer, clause_of, is_off, is_off_
 pub use Rattle.dl_amounts.specs.ClausesKept.{IsClauseLayered}
 pub use Rattle.dl_amounts.specs.Flaws.{IsClean, IsGridded, flaws_else}
 pub use Rattle.dl_amounts.specs.Grid.{grid_atom, grid_ceded, grid_clause, grid_layer, grid_severity, number_of}
-pub use Rattle.dl_amounts.specs.GridKept.{IsGridAtom, IsGridClause, IsGridLayer, IsGridSev, IsGridUnit}
+pub use Rattle.dl_amounts.specs.GridKept.{IsClauseWithin, IsGridAtom, IsGridClause, IsGridSev, IsGridUnit, IsLayerWithin, IsSevWithin, IsWithin}
 pub use Rattle.dl_amounts.specs.Parts.{AreProbabilities, IsSevShared, IsSevWeighted}
 pub use Rattle.dl_amounts.specs.Rules.{common_amount_of, limit_fails, list_not_one, off_grid_aggregate, share_exceeds}
 unfoldable pub use Rattle.dl_amounts.specs.Rules.{clause_fails, layer_fails, list_fails, not_one, off_grid_cession, other_length, overlap, overlap_in, share_above_one, share_above_one_in}

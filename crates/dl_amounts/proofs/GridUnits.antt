@@ -1,5 +1,5 @@
 -- A unit in whole buckets, by its parts.
-use Rattle.dl_amounts.proofs.Common.{◌≡◌, ◌∙◌, List, [], ◌∷◌, ◌++◌, map, flat_map, false, Bool, Option, Some, None, refl, sym, ap, subst, append_assoc, arith, All, length-map, All-map, IfSome, Fraction, ReadList, ReadAtom, ◌else◌, first_in, within, each_of, itself, probs_in_count, prob_lists_of, is_not_one, else_first, else_second, none_each, not_at, GridAtom, GridLayer, GridUnit, flaws_else, IsGridded, grid_atom, grid_severity, grid_layer, grid_clause, IsGridAtom, IsGridLayer, IsGridClause, IsGridUnit, own_lists, other_length, list_not_one, not_one, list_fails, layer_fails, clause_fails}
+use Rattle.dl_amounts.proofs.Common.{ℕ, ◌≡◌, ◌≤◌, ◌∙◌, List, [], ◌∷◌, ◌++◌, map, flat_map, false, Bool, Option, Some, None, refl, sym, ap, subst, append_assoc, arith, All, length-map, All-map, IfSome, Fraction, ReadList, ReadAtom, ◌else◌, first_in, within, each_of, itself, probs_in_count, prob_lists_of, is_not_one, else_first, else_second, none_each, not_at, GridAtom, GridLayer, GridUnit, flaws_else, IsGridded, grid_atom, grid_severity, grid_layer, grid_clause, IsGridAtom, IsLayerWithin, IsClauseWithin, IsSevWithin, IsWithin, IsGridClause, IsGridUnit, own_lists, other_length, list_not_one, not_one, list_fails, layer_fails, clause_fails}
 use Rattle.std.proofs.Common.{Result, Ok, Err}
 use Rattle.dl_read.specs.declared.tree.ReadLayer.{ReadLayer}
 use Rattle.dl_read.specs.declared.tree.ReadClause.{ReadClause}
@@ -17,7 +17,8 @@ use Rattle.dl_amounts.specs.declared.fault.GridFault.{GridFault}
 use Rattle.dl_amounts.specs.declared.fault.GridFault.TheVariants.{OffGrid, TooFar, OutOfMemory}
 use Rattle.dl_amounts.specs.OnGrid.{GridsUnit}
 use Rattle.dl_amounts.proofs.Gridding.{both_gridded}
-use Rattle.dl_amounts.proofs.Small.{off, far, atom_small, layer_small, clause_small}
+use Rattle.dl_limits.specs.Limits.{most_amount}
+use Rattle.dl_amounts.proofs.Small.{off, far, amounts_small, atom_small, layer_small, layer_weaker, layers_small, clause_small}
 
 -- ---- lists
 
@@ -50,14 +51,14 @@ each_one u e k d h = not_at _ _ (none_each list_not_one (prob_lists_of u) e k d 
 
 -- ---- the unit
 
-module _ (bs : Fraction) (u : ReadUnit) where
+module _ (most : ℕ) (bs : Fraction) (u : ReadUnit) where
   pub unit_gridded : (layer : Gridded (Option GridLayer)) (losses : Gridded GridLosses) (all : Flaws)
-      → IsGridded (λ test. within (layer_fails test bs) u.layer) (if_there (grid_layer bs) u.layer) layer
-      → IsGridded (λ test. first_in (λ (a : ReadAtom). list_fails test bs a.values) u.sev.atoms
+      → IsGridded most (λ test. within (layer_fails test bs) u.layer) (if_there (grid_layer bs) u.layer) layer
+      → IsGridded most (λ test. first_in (λ (a : ReadAtom). list_fails test bs a.values) u.sev.atoms
       else (within (clause_fails test bs) u.occ else within (clause_fails test bs) u.agr))
       (grid_losses bs u.sev u.occ u.agr) losses
       → all ≡ flaws_else layer.flaws losses.flaws
-      → IsGridded (λ test. amount_fails test bs u) (grid_of bs u) (record {
+      → IsGridded most (λ test. amount_fails test bs u) (grid_of bs u) (record {
         part = record {
           name = u.name;
           count = u.count;
@@ -70,7 +71,7 @@ module _ (bs : Fraction) (u : ReadUnit) where
       })
   unfolding amount_fails grid_of
   unit_gridded layer losses all own_layer own_losses joined =
-      both_gridded (λ (l : Option GridLayer) (k : GridLosses). record {
+      both_gridded most (λ (l : Option GridLayer) (k : GridLosses). record {
         name = u.name;
         count = u.count;
         layer = l;
@@ -84,8 +85,8 @@ module _ (bs : Fraction) (u : ReadUnit) where
       layer losses all own_layer own_losses (λ test. refl) joined
 
   -- what the flaws tell is what the rules tell
-  pub answered : (made : Gridded GridUnit) → IsGridded (λ test. amount_fails test bs u) (grid_of bs u) made
-      → (r : Result GridUnit GridFault) → TellsFlaws made.flaws r → IfOk r (λ x. x ≡ made.part) → GridsUnit bs u r
+  pub answered : (made : Gridded GridUnit) → IsGridded most (λ test. amount_fails test bs u) (grid_of bs u) made
+      → (r : Result GridUnit GridFault) → TellsFlaws made.flaws r → IfOk r (λ x. x ≡ made.part) → GridsUnit most bs u r
   unfolding off_grid too_far
   answered made h (Ok x) clean is = (
     is ∙ h.part clean,
@@ -101,13 +102,13 @@ module _ (bs : Fraction) (u : ReadUnit) where
 
 -- ---- what the unit keeps
 
-module _ (bs : Fraction) (u : ReadUnit) (read : IsRead u) (lengths : lengths_differ u ≡ None) (one : not_one u ≡ None)
-    (on_grid : off_grid bs u ≡ None) (near : too_far bs u ≡ None) where
+module _ (most : ℕ) (bs : Fraction) (u : ReadUnit) (le : most ≤ most_amount) (read : IsRead u)
+    (on_grid : off_grid bs u ≡ None) (near : too_far most bs u ≡ None) where
   unit_off : amount_fails off bs u ≡ None
   unfolding off_grid
   unit_off = on_grid
 
-  unit_far : amount_fails far bs u ≡ None
+  unit_far : amount_fails (far most) bs u ≡ None
   unfolding too_far
   unit_far = near
 
@@ -133,39 +134,66 @@ module _ (bs : Fraction) (u : ReadUnit) (read : IsRead u) (lengths : lengths_dif
             (clause_fails test bs) u.occ) _ both,
       )
 
-  layer_there : (o : Option ReadLayer) → within (layer_fails off bs) o ≡ None → within (layer_fails far bs) o ≡ None
-      → IfSome (if_there (grid_layer bs) o) IsGridLayer
+  layer_there : (o : Option ReadLayer) → within (layer_fails off bs) o ≡ None → within (layer_fails (far most) bs) o ≡ None
+      → IfSome (if_there (grid_layer bs) o) (IsLayerWithin most)
   layer_there None e f = tt
-  layer_there (Some l) e f = layer_small bs l e f
+  layer_there (Some l) e f = layer_small most bs l e f
 
   clause_there : (o : Option ReadClause) → IfSome o IsClauseRead → within (clause_fails off bs) o ≡ None
-      → within (clause_fails far bs) o ≡ None → IfSome (if_there (grid_clause bs) o) IsGridClause
+      → within (clause_fails (far most) bs) o ≡ None → IfSome (if_there (grid_clause bs) o) IsGridClause
   clause_there None r e f = tt
-  clause_there (Some c) r e f = clause_small bs c r e f
+  clause_there (Some c) r e f = clause_small most bs c le r e f
 
-  pub grid_is : IsGridUnit (grid_of bs u)
+  layers_there : (o : Option ReadClause) → within (clause_fails off bs) o ≡ None
+      → within (clause_fails (far most) bs) o ≡ None → IfSome (if_there (grid_clause bs) o) (IsClauseWithin most)
+  layers_there None e f = tt
+  layers_there (Some c) e f = layers_small most bs c e f
+
+  in_any : (o : Option ReadLayer) → IfSome (if_there (grid_layer bs) o) (IsLayerWithin most)
+      → IfSome (if_there (grid_layer bs) o) (IsLayerWithin most_amount)
+  in_any None h = tt
+  in_any (Some l) h = layer_weaker most most_amount _ le h
+
+  -- no amount passes the most
+  pub within_is : IsWithin most (grid_of bs u)
   unfolding grid_of
-  grid_is = record {
+  within_is = record {
+    layer = layer_there u.layer (layer_passes off unit_off) (layer_passes (far most) unit_far);
+    sev = All-map (λ a. All (λ amount. amount ≤ most) a.amounts) (grid_atom bs) u.sev.atoms
+        (λ k d h. amounts_small most bs _ (read.sev.atoms k d h) (atoms_pass off unit_off k d h)
+        (atoms_pass (far most) unit_far k d h));
+    occ = layers_there u.occ (clauses_pass off unit_off).0 (clauses_pass (far most) unit_far).0;
+    agr = layers_there u.agr (clauses_pass off unit_off).1 (clauses_pass (far most) unit_far).1;
+  }
+
+  pub grid_is : lengths_differ u ≡ None → not_one u ≡ None → IsGridUnit (grid_of bs u)
+  unfolding grid_of
+  grid_is lengths one = record {
     count = read.count;
     paired = count_paired u lengths;
-    layer = layer_there u.layer (layer_passes off unit_off) (layer_passes far unit_far);
+    layer = in_any u.layer (layer_there u.layer (layer_passes off unit_off) (layer_passes (far most) unit_far));
     sev = record {
       some = omega (arith, length-map u.sev.atoms (grid_atom bs), read.sev.some);
       few = omega (arith, length-map u.sev.atoms (grid_atom bs), read.sev.few);
       atoms = All-map IsGridAtom (grid_atom bs) u.sev.atoms
-          (λ k d h. atom_small bs _ (read.sev.atoms k d h) (atoms_paired u lengths k d h)
+          (λ k d h. atom_small most bs _ le (read.sev.atoms k d h) (atoms_paired u lengths k d h)
           (atoms_pass off unit_off k d h)
-          (atoms_pass far unit_far k d h));
+          (atoms_pass (far most) unit_far k d h));
       weights = read.sev.weights;
       several = λ h. read.sev.several (omega (arith, length-map u.sev.atoms (grid_atom bs), h));
     };
-    occ = clause_there u.occ read.occ (clauses_pass off unit_off).0 (clauses_pass far unit_far).0;
-    agr = clause_there u.agr read.agr (clauses_pass off unit_off).1 (clauses_pass far unit_far).1;
+    occ = clause_there u.occ read.occ (clauses_pass off unit_off).0 (clauses_pass (far most) unit_far).0;
+    agr = clause_there u.agr read.agr (clauses_pass off unit_off).1 (clauses_pass (far most) unit_far).1;
     one = subst (All (λ (l : ReadList). is_not_one l.values ≡ false)) (same_lists bs u) (each_one u one);
   }
 
-pub told_kept : (bs : Fraction) (u : ReadUnit) → IsRead u → lengths_differ u ≡ None → not_one u ≡ None
-    → (r : Result GridUnit GridFault) → GridsUnit bs u r → IfOk r IsGridUnit
-told_kept bs u read lengths one (Ok made) told = subst IsGridUnit (sym told.0)
-    (grid_is bs u read lengths one told.1 told.2)
-told_kept bs u read lengths one (Err f) told = tt
+module _ (most : ℕ) (bs : Fraction) (u : ReadUnit) (le : most ≤ most_amount) (read : IsRead u) where
+  pub told_kept : lengths_differ u ≡ None → not_one u ≡ None → (r : Result GridUnit GridFault)
+      → GridsUnit most bs u r → IfOk r IsGridUnit
+  told_kept lengths one (Ok made) told = subst IsGridUnit (sym told.0)
+      (grid_is most bs u le read told.1 told.2 lengths one)
+  told_kept lengths one (Err f) told = tt
+
+  pub told_within : (r : Result GridUnit GridFault) → GridsUnit most bs u r → IfOk r (IsWithin most)
+  told_within (Ok made) told = subst (IsWithin most) (sym told.0) (within_is most bs u le read told.1 told.2)
+  told_within (Err f) told = tt

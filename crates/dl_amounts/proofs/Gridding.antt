@@ -2,7 +2,6 @@
 use Rattle.dl_amounts.proofs.Common.{ℕ, ◌≡◌, ◌∙◌, ◌+◌, ◌*◌, ◌/◌, ◌%◌, ◌<◌, ◌≤◌, ◌||◌, List, [], ◌∷◌, ◌++◌, map, zip, take, length, get_or, nat_lt, not, Bool, true, false, Option, Some, None, refl, sym, ap, ap₂, subst, arith, inl, inr, cases_lt, lt-ltb, eq-eqb, eqb-true, map-append, take_all, Fraction, whole, ◌<ℚ◌, over_lt, whole_num, Span, ReadList, ReadCeded, ◌else◌, at_if, within, first_in, is_whole, is_above, one_in, else_first, else_second, not_at, not-false, GridLayer, flaws_else, IsClean, IsGridded, number_of, grid_layer, grid_ceded, list_fails, limit_fails, layer_fails}
 use Rattle.std.proofs.Common.{min, nat_eq}
 use Rattle.std.proofs.lemmas.Bool.{ltb-true}
-use Rattle.dl_limits.specs.Limits.{most_amount}
 use Rattle.dl_exact.proofs.Over.{lt_over}
 use Rattle.dl_sev.specs.Buckets.{buckets}
 use Rattle.dl_read.specs.declared.tree.ReadLayer.{ReadLayer}
@@ -27,57 +26,57 @@ unfolding ◌<ℚ◌
 above_yes x y h = ltb-true (y.num * x.den) (x.num * y.den) h
 
 -- a whole number that is not above the most
-not_far : (q : ℕ) (x : Fraction) → x ≡ whole q → is_above x (whole most_amount) ≡ false → q ≤ most_amount
-not_far q x e near = elim (cases_lt most_amount q) [
+not_far : (most q : ℕ) (x : Fraction) → x ≡ whole q → is_above x (whole most) ≡ false → q ≤ most
+not_far most q x e near = elim (cases_lt most q) [
   | inl far ↦ absurd (cc (
     near,
-    yes_above x (whole most_amount)
-        (subst (λ y. whole most_amount <ℚ y) (sym e) (whole_lt most_amount q far)),
+    yes_above x (whole most)
+        (subst (λ y. whole most <ℚ y) (sym e) (whole_lt most q far)),
   ))
   | inr few ↦ few
 ]
 
 -- n over e is the numerator and the denominator of an amount, m over d those of the bucket size
-module _ (x bs : Fraction) (n d e m : ℕ) (h : whole 0 <ℚ bs) (pn : n ≡ x.num) (pd : d ≡ bs.den) (pe : e ≡ x.den)
+module _ (most : ℕ) (x bs : Fraction) (n d e m : ℕ) (h : whole 0 <ℚ bs) (pn : n ≡ x.num) (pd : d ≡ bs.den) (pe : e ≡ x.den)
     (pm : m ≡ bs.num) where
   off_grid_is : not (nat_eq (n * d % (e * m)) 0) ≡ not (is_whole (buckets bs x))
   off_grid_is = ap not (both_ways _ _ (λ t. eq-eqb (buckets bs x).den 1 (divides_whole x bs n d e m h pn pd pe pm t))
       (λ t. whole_divides x bs n d e m h pn pd pe pm (eqb-true (buckets bs x).den 1 t)))
 
-  far : whole most_amount <ℚ buckets bs x → e * m * 1048576 < n * d
+  far : whole most <ℚ buckets bs x → e * m * most < n * d
   far above = omega (
     arith,
-    lt_over most_amount 1 (n * d) (e * m) (omega arith) (pos x bs n d e m h pn pd pe pm)
-        (subst (λ y. whole most_amount <ℚ y) (same x bs n d e m h pn pd pe pm) above),
+    lt_over most 1 (n * d) (e * m) (omega arith) (pos x bs n d e m h pn pd pe pm)
+        (subst (λ y. whole most <ℚ y) (same x bs n d e m h pn pd pe pm) above),
   )
 
-  is_far : e * m * 1048576 < n * d → whole most_amount <ℚ buckets bs x
-  is_far more = subst (λ y. whole most_amount <ℚ y) (sym (same x bs n d e m h pn pd pe pm))
-      (over_lt most_amount 1 (n * d) (e * m) (omega arith) (pos x bs n d e m h pn pd pe pm) (omega (arith, more)))
+  is_far : e * m * most < n * d → whole most <ℚ buckets bs x
+  is_far more = subst (λ y. whole most <ℚ y) (sym (same x bs n d e m h pn pd pe pm))
+      (over_lt most 1 (n * d) (e * m) (omega arith) (pos x bs n d e m h pn pd pe pm) (omega (arith, more)))
 
-  too_far_is : nat_lt (e * m * 1048576) (n * d) ≡ is_above (buckets bs x) (whole most_amount)
-  too_far_is = both_ways _ _ (λ t. yes_above (buckets bs x) (whole most_amount) (is_far (ltb-true _ _ t)))
-      (λ t. lt-ltb _ _ (far (above_yes (buckets bs x) (whole most_amount) t)))
+  too_far_is : nat_lt (e * m * most) (n * d) ≡ is_above (buckets bs x) (whole most)
+  too_far_is = both_ways _ _ (λ t. yes_above (buckets bs x) (whole most) (is_far (ltb-true _ _ t)))
+      (λ t. lt-ltb _ _ (far (above_yes (buckets bs x) (whole most) t)))
 
-  number_is : (q : ℕ) → q ≡ min (n * d / (e * m)) 1048576 → not (is_whole (buckets bs x)) ≡ false
-      → is_above (buckets bs x) (whole most_amount) ≡ false → q ≡ number_of bs x
+  number_is : (q : ℕ) → q ≡ min (n * d / (e * m)) most → not (is_whole (buckets bs x)) ≡ false
+      → is_above (buckets bs x) (whole most) ≡ false → q ≡ number_of bs x
   number_is q is on_grid near =
       let k : ℕ = n * d / (e * m) in
       let value : buckets bs x ≡ whole k =
       quotient_whole x bs n d e m h pn pd pe pm (eqb-true (buckets bs x).den 1 (not-false _ on_grid)) in
-      is ∙ within_most k (not_far k (buckets bs x) value near)
+      is ∙ within_most k (not_far most k (buckets bs x) value near)
       ∙ sym (ap (λ (y : Fraction). y.num) value ∙ whole_num k)
     where
-      within_most : (k : ℕ) → k ≤ 1048576 → min k 1048576 ≡ k
+      within_most : (k : ℕ) → k ≤ most → min k most ≡ k
       within_most k h = omega (arith, h)
 
-  pub amount_gridded : (place : Span) (q : ℕ) (off too : Option Span) → q ≡ min (n * d / (e * m)) 1048576
-      → off ≡ at_if (not (nat_eq (n * d % (e * m)) 0)) place → too ≡ at_if (nat_lt (e * m * 1048576) (n * d)) place
-      → IsGridded (λ test. at_if (test (buckets bs x)) place) (number_of bs x)
+  pub amount_gridded : (place : Span) (q : ℕ) (off too : Option Span) → q ≡ min (n * d / (e * m)) most
+      → off ≡ at_if (not (nat_eq (n * d % (e * m)) 0)) place → too ≡ at_if (nat_lt (e * m * most) (n * d)) place
+      → IsGridded most (λ test. at_if (test (buckets bs x)) place) (number_of bs x)
       (record { part = q; flaws = record { off_grid = off; too_far = too } })
   amount_gridded place q off too is off_is too_is =
       let off_told : off ≡ at_if (not (is_whole (buckets bs x))) place = off_is ∙ ap (λ b. at_if b place) off_grid_is in
-      let far_told : too ≡ at_if (is_above (buckets bs x) (whole most_amount)) place =
+      let far_told : too ≡ at_if (is_above (buckets bs x) (whole most)) place =
       too_is ∙ ap (λ b. at_if b place) too_far_is in
       record {
         flaws = ap₂ (λ a b. record { off_grid = a; too_far = b }) off_told far_told;
@@ -100,18 +99,18 @@ second_clean a b clean = record {
 }
 
 -- places that are the same for each test
-pub flaws_same : (f g : (Fraction → Bool) → Option Span) → ((test : Fraction → Bool) → f test ≡ g test)
-    → flaws_of f ≡ flaws_of g
-flaws_same f g e = ap₂ (λ a b. record { off_grid = a; too_far = b }) (e (λ x. not (is_whole x)))
-    (e (λ x. is_above x (whole most_amount)))
+pub flaws_same : (most : ℕ) (f g : (Fraction → Bool) → Option Span) → ((test : Fraction → Bool) → f test ≡ g test)
+    → flaws_of most f ≡ flaws_of most g
+flaws_same most f g e = ap₂ (λ a b. record { off_grid = a; too_far = b }) (e (λ x. not (is_whole x)))
+    (e (λ x. is_above x (whole most)))
 
 -- two parts of one
-pub both_gridded : {A B C : Type 0} (make : A → B → C) (f g h : (Fraction → Bool) → Option Span) (x : A) (y : B)
-    (a : Gridded A) (b : Gridded B) (flaws : Flaws) → IsGridded f x a → IsGridded g y b
+pub both_gridded : {A B C : Type 0} (most : ℕ) (make : A → B → C) (f g h : (Fraction → Bool) → Option Span) (x : A) (y : B)
+    (a : Gridded A) (b : Gridded B) (flaws : Flaws) → IsGridded most f x a → IsGridded most g y b
     → ((test : Fraction → Bool) → (f test else g test) ≡ h test) → flaws ≡ flaws_else a.flaws b.flaws
-    → IsGridded h (make x y) (record { part = make a.part b.part; flaws = flaws })
-both_gridded make f g h x y a b flaws first second places is = record {
-  flaws = is ∙ ap₂ flaws_else first.flaws second.flaws ∙ flaws_same (λ test. f test else g test) h places;
+    → IsGridded most h (make x y) (record { part = make a.part b.part; flaws = flaws })
+both_gridded most make f g h x y a b flaws first second places is = record {
+  flaws = is ∙ ap₂ flaws_else first.flaws second.flaws ∙ flaws_same most (λ test. f test else g test) h places;
   part = λ clean.
       let both : IsClean (flaws_else a.flaws b.flaws) = subst IsClean is clean in
       ap₂ make (first.part (first_clean a.flaws b.flaws both)) (second.part (second_clean a.flaws b.flaws both));
@@ -137,9 +136,9 @@ layer_places bs l test = go l.limit
 
 -- ---- one part after another
 
-module _ {X A : Type 0} (fails : (Fraction → Bool) → X → Option Span) (g : X → A) where
+module _ {X A : Type 0} (most : ℕ) (fails : (Fraction → Bool) → X → Option Span) (g : X → A) where
   pub none_gridded : (made : List A) (flaws : Flaws) → made ≡ [] → flaws.off_grid ≡ None → flaws.too_far ≡ None
-      → IsGridded (λ test. first_in (fails test) []) (map g []) (record { part = made; flaws = flaws })
+      → IsGridded most (λ test. first_in (fails test) []) (map g []) (record { part = made; flaws = flaws })
   unfolding first_in
   none_gridded made flaws none off far = record {
     flaws = ap₂ (λ a b. record { off_grid = a; too_far = b }) off far;
@@ -148,16 +147,16 @@ module _ {X A : Type 0} (fails : (Fraction → Bool) → X → Option Span) (g :
 
   pub more_gridded : (xs ys : List X) (x : X) (made new : List A) (one : Gridded A) (flaws all : Flaws)
       → ys ≡ xs ++ x ∷ []
-      → IsGridded (λ test. first_in (fails test) xs) (map g xs) (record { part = made; flaws = flaws })
-      → IsGridded (λ test. fails test x) (g x) one → new ≡ made ++ one.part ∷ [] → all ≡ flaws_else flaws one.flaws
-      → IsGridded (λ test. first_in (fails test) ys) (map g ys) (record { part = new; flaws = all })
+      → IsGridded most (λ test. first_in (fails test) xs) (map g xs) (record { part = made; flaws = flaws })
+      → IsGridded most (λ test. fails test x) (g x) one → new ≡ made ++ one.part ∷ [] → all ≡ flaws_else flaws one.flaws
+      → IsGridded most (λ test. first_in (fails test) ys) (map g ys) (record { part = new; flaws = all })
   more_gridded xs ys x made new one flaws all more before here pushed is =
-      let ones : IsGridded (λ test. first_in (fails test) (x ∷ [])) (g x) one = record {
-        flaws = here.flaws ∙ flaws_same (λ test. fails test x) (λ test. first_in (fails test) (x ∷ []))
+      let ones : IsGridded most (λ test. first_in (fails test) (x ∷ [])) (g x) one = record {
+        flaws = here.flaws ∙ flaws_same most (λ test. fails test x) (λ test. first_in (fails test) (x ∷ []))
             (λ test. one_in (fails test) x (fails test x) refl);
         part = here.part;
       } in
-      let both = both_gridded (λ zs y. zs ++ y ∷ []) (λ test. first_in (fails test) xs)
+      let both = both_gridded most (λ zs y. zs ++ y ∷ []) (λ test. first_in (fails test) xs)
       (λ test. first_in (fails test) (x ∷ [])) (λ test. first_in (fails test) ys) (map g xs) (g x)
       (record { part = made; flaws = flaws }) one all before ones (λ test. sym (first-append (fails test) xs
       (x ∷ [])) ∙ ap (first_in (fails test)) (sym more)) is in
@@ -169,10 +168,10 @@ module _ {X A : Type 0} (fails : (Fraction → Bool) → X → Option Span) (g :
   -- what is made of the parts of a list
   pub all_gridded : {B : Type 0} (make : List A → B) (xs zs : List X) (made : List A) (list : B) (flaws : Flaws)
       → zs ≡ xs → list ≡ make made
-      → IsGridded (λ test. first_in (fails test) zs) (map g zs) (record { part = made; flaws = flaws })
-      → IsGridded (λ test. first_in (fails test) xs) (make (map g xs)) (record { part = list; flaws = flaws })
+      → IsGridded most (λ test. first_in (fails test) zs) (map g zs) (record { part = made; flaws = flaws })
+      → IsGridded most (λ test. first_in (fails test) xs) (make (map g xs)) (record { part = list; flaws = flaws })
   all_gridded make xs zs made list flaws same is h = record {
-    flaws = h.flaws ∙ ap (λ ys. flaws_of (λ test. first_in (fails test) ys)) same;
+    flaws = h.flaws ∙ ap (λ ys. flaws_of most (λ test. first_in (fails test) ys)) same;
     part = λ clean. is ∙ ap make (h.part clean ∙ ap (map g) same);
   }
 
@@ -184,32 +183,32 @@ value_fails bs test pair = at_if (test (buckets bs pair.0)) pair.1
 abbrev pub value_number : Fraction → Fraction × Span → ℕ
 value_number bs pair = number_of bs pair.0
 
-pub next_amount : (bs : Fraction) (vs : List Fraction) (ps : List Span) (i : ℕ) (x : Fraction) (d : Span)
+pub next_amount : (most : ℕ) (bs : Fraction) (vs : List Fraction) (ps : List Span) (i : ℕ) (x : Fraction) (d : Span)
     (made new : List ℕ) (one : Gridded ℕ) (flaws all : Flaws) → i < length vs → length vs ≡ length ps
     → x ≡ get_or vs i x
-    → IsGridded (λ test. first_in (value_fails bs test) (zip (take i vs) (take i ps)))
+    → IsGridded most (λ test. first_in (value_fails bs test) (zip (take i vs) (take i ps)))
     (map (value_number bs) (zip (take i vs) (take i ps))) (record { part = made; flaws = flaws })
-    → IsGridded (λ test. at_if (test (buckets bs x)) (get_or ps i d)) (number_of bs x) one → new ≡ made ++ one.part ∷ []
+    → IsGridded most (λ test. at_if (test (buckets bs x)) (get_or ps i d)) (number_of bs x) one → new ≡ made ++ one.part ∷ []
     → all ≡ flaws_else flaws one.flaws
-    → IsGridded (λ test. first_in (value_fails bs test) (zip (take (i + 1) vs) (take (i + 1) ps)))
+    → IsGridded most (λ test. first_in (value_fails bs test) (zip (take (i + 1) vs) (take (i + 1) ps)))
     (map (value_number bs) (zip (take (i + 1) vs) (take (i + 1) ps))) (record { part = new; flaws = all })
-next_amount bs vs ps i x d made new one flaws all lt same at before here pushed is =
-    more_gridded (value_fails bs) (value_number bs) (zip (take i vs) (take i ps))
+next_amount most bs vs ps i x d made new one flaws all lt same at before here pushed is =
+    more_gridded most (value_fails bs) (value_number bs) (zip (take i vs) (take i ps))
     (zip (take (i + 1) vs) (take (i + 1) ps)) (x, get_or ps i d) made new one flaws all
     (zip-more vs ps i x d lt same ∙ ap (λ y. zip (take i vs) (take i ps) ++ (y, get_or ps i d) ∷ []) (sym at))
     before here pushed is
 
-pub all_amounts : (bs : Fraction) (l : ReadList) (vs : List Fraction) (ps : List Span) (i : ℕ) (made list : List ℕ)
+pub all_amounts : (most : ℕ) (bs : Fraction) (l : ReadList) (vs : List Fraction) (ps : List Span) (i : ℕ) (made list : List ℕ)
     (flaws : Flaws) → vs ≡ l.values → ps ≡ l.places → length l.places ≡ length l.values → length vs ≤ i → list ≡ made
-    → IsGridded (λ test. first_in (value_fails bs test) (zip (take i vs) (take i ps)))
+    → IsGridded most (λ test. first_in (value_fails bs test) (zip (take i vs) (take i ps)))
     (map (value_number bs) (zip (take i vs) (take i ps))) (record { part = made; flaws = flaws })
-    → IsGridded (λ test. list_fails test bs l) (map (number_of bs) l.values) (record { part = list; flaws = flaws })
+    → IsGridded most (λ test. list_fails test bs l) (map (number_of bs) l.values) (record { part = list; flaws = flaws })
 unfolding list_fails
-all_amounts bs l vs ps i made list flaws values places same le is h =
+all_amounts most bs l vs ps i made list flaws values places same le is h =
     let whole_list : zip (take i vs) (take i ps) ≡ zip l.values l.places =
     ap₂ zip (take_all i vs le ∙ values)
     (take_all i ps (omega (arith, le, same, ap length values, ap length places)) ∙ places) in
-    let told = all_gridded (value_fails bs) (value_number bs) (λ ns. ns) (zip l.values l.places)
+    let told = all_gridded most (value_fails bs) (value_number bs) (λ ns. ns) (zip l.values l.places)
     (zip (take i vs) (take i ps)) made list flaws whole_list is h in
     record { flaws = told.flaws; part = λ clean. told.part clean ∙ numbers l.values l.places (sym same) }
   where
@@ -221,12 +220,12 @@ all_amounts bs l vs ps i made list flaws values places same le is h =
 
 -- ---- the layers of a clause
 
-pub ceded_gridded : (bs : Fraction) (c : ReadCeded) (share : GridShare) (layer : Gridded GridLayer)
+pub ceded_gridded : (most : ℕ) (bs : Fraction) (c : ReadCeded) (share : GridShare) (layer : Gridded GridLayer)
     → share ≡ grid_share c.share c.layer.limit
-    → IsGridded (λ test. layer_fails test bs c.layer) (grid_layer bs c.layer) layer
-    → IsGridded (λ test. layer_fails test bs c.layer) (grid_ceded bs c)
+    → IsGridded most (λ test. layer_fails test bs c.layer) (grid_layer bs c.layer) layer
+    → IsGridded most (λ test. layer_fails test bs c.layer) (grid_ceded bs c)
     (record { part = record { share = share; layer = layer.part; span = c.span }; flaws = layer.flaws })
-ceded_gridded bs c share layer is told = record {
+ceded_gridded most bs c share layer is told = record {
   flaws = told.flaws;
   part = λ clean. ap₂ (λ (s : GridShare) (l : GridLayer). record { share = s; layer = l; span = c.span }) is
       (told.part clean);

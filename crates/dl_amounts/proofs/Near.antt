@@ -1,5 +1,5 @@
 -- How large the amounts of a severity are, and how many there are.
-use Rattle.dl_amounts.proofs.Common.{ℕ, suc, ◌≡◌, ◌∙◌, ◌*◌, ◌/◌, ◌<◌, ◌≤◌, ◌^◌, ◌⊎◌, List, [], ◌∷◌, map, filter, zip, length, get_or, nat_lt, Option, Some, None, Bool, true, false, cond, refl, sym, ap, subst, arith, inl, inr, All, lt-ltb, le-ltb, length-map, All-nil, All-cons, All-head, All-tail, All-weaker, All-append, All-map, Fraction, ◌*ℚ◌, IsWhole, Item, Sev, Pairs, conditioned, pairs_of, shares, Means, Clause, layer, kept, IsClause, whole_num, scaled, with_amounts, layered, ceded_each, GridAtom, GridSev, GridLayer, atom_probs, atom_pairs, mixed, mixed_pairs, weights_of, is_conditioned, layer_pairs, support, IsGridAtom, IsGridSev}
+use Rattle.dl_amounts.proofs.Common.{ℕ, suc, ◌≡◌, ◌∙◌, ◌*◌, ◌/◌, ◌<◌, ◌≤◌, ◌^◌, ◌⊎◌, List, [], ◌∷◌, map, filter, zip, length, get_or, nat_lt, Option, Some, None, Bool, true, false, cond, refl, sym, ap, subst, arith, inl, inr, All, lt-ltb, le-ltb, length-map, All-nil, All-cons, All-head, All-tail, All-weaker, All-append, All-map, Fraction, ◌*ℚ◌, IsWhole, Item, Sev, Pairs, conditioned, pairs_of, shares, Means, Clause, layer, kept, IsClause, whole_num, scaled, with_amounts, layered, ceded_each, GridAtom, GridSev, GridLayer, atom_probs, atom_pairs, mixed, mixed_pairs, weights_of, is_conditioned, layer_pairs, support, IsGridAtom, IsGridSev, IsSevWithin}
 use Rattle.std.proofs.Common.{length-append}
 use Rattle.std.proofs.Math.Nat.{div-le_of_le-mul}
 use Rattle.std.proofs.lemmas.List.Elements.{All-filter}
@@ -24,8 +24,8 @@ zip_near b (x ∷ xs) (y ∷ ys) h =
     All-cons (λ pair. pair.0 ≤ b) (x, y) (zip xs ys) (All-head (λ n. n ≤ b) x xs h)
     (zip_near b xs ys (All-tail (λ n. n ≤ b) x xs h))
 
-atom_near : (a : GridAtom) → IsGridAtom a → Near (2 ^ 20) (atom_pairs a)
-atom_near a grid = zip_near (2 ^ 20) a.amounts (atom_probs a) grid.near
+atom_near : (b : ℕ) (a : GridAtom) → All (λ amount. amount ≤ b) a.amounts → Near b (atom_pairs a)
+atom_near b a near = zip_near b a.amounts (atom_probs a) near
 
 atom_few : (a : GridAtom) → IsGridAtom a → length (atom_pairs a) ≤ 1024
 atom_few a grid = omega (arith, length-zip a.amounts (atom_probs a), grid.few)
@@ -55,13 +55,13 @@ all_mixed_few n (w ∷ ws) (ps ∷ lists) h =
       all_mixed_few n ws lists (All-tail (λ qs. length qs ≤ n) ps lists h),
     )
 
-module _ (s : GridSev) (grid : IsGridSev s) where
-  mixed_near : Near (2 ^ 20) (mixed_pairs s)
-  mixed_near =
-      all_mixed_near (2 ^ 20) (weights_of s) (map atom_pairs s.atoms)
-      (All-map (Near (2 ^ 20)) atom_pairs s.atoms
-      (All-weaker IsGridAtom (λ a. Near (2 ^ 20) (atom_pairs a)) (atom_near) s.atoms grid.atoms))
+mixed_near : (b : ℕ) (s : GridSev) → IsSevWithin b s → Near b (mixed_pairs s)
+mixed_near b s near =
+    all_mixed_near b (weights_of s) (map atom_pairs s.atoms)
+    (All-map (Near b) atom_pairs s.atoms
+    (All-weaker (λ a. All (λ amount. amount ≤ b) a.amounts) (λ a. Near b (atom_pairs a)) (atom_near b) s.atoms near))
 
+module _ (s : GridSev) (grid : IsGridSev s) where
   mixed_few : length (mixed_pairs s) ≤ 65536
   mixed_few =
       omega (
@@ -181,14 +181,12 @@ pub items_near : (b : ℕ) (sev : Sev) (ps : Pairs) → Means sev ps → Near b 
     → All (λ (i : Item). i.amount ≤ b) sev.items
 items_near b sev ps means near = items_in sev ps means (λ x. x ≤ b) (support_all (λ x. x ≤ b) ps near)
 
-module _ (o : Option GridLayer) (s : GridSev) (grid : IsGridSev s) (sev : Sev)
-    (means : Means sev (layer_pairs o s)) where
-  pub in_layer_near : All (λ (i : Item). i.amount ≤ 2 ^ 20) sev.items
-  in_layer_near = items_near (2 ^ 20) sev (layer_pairs o s) means
-      (layer_near (2 ^ 20) o s (mixed_near s grid))
+module _ (o : Option GridLayer) (s : GridSev) (sev : Sev) (means : Means sev (layer_pairs o s)) where
+  pub in_layer_near : (b : ℕ) → IsSevWithin b s → All (λ (i : Item). i.amount ≤ b) sev.items
+  in_layer_near b near = items_near b sev (layer_pairs o s) means (layer_near b o s (mixed_near b s near))
 
-  pub in_layer_few : length sev.items ≤ 65536
-  in_layer_few = omega (arith, items_few sev (layer_pairs o s) means, layer_few o s, mixed_few s grid)
+  pub in_layer_few : IsGridSev s → length sev.items ≤ 65536
+  in_layer_few grid = omega (arith, items_few sev (layer_pairs o s) means, layer_few o s, mixed_few s grid)
 
 -- ---- the occurrence clause
 

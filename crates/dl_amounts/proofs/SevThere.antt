@@ -1,5 +1,5 @@
 -- A unit whose fractions are fine has a final severity.
-use Rattle.dl_amounts.proofs.Common.{ℕ, ◌≡◌, ◌∙◌, ◌≤◌, ◌^◌, List, [], ◌∷◌, map, length, Bool, true, false, cond, Option, Some, None, refl, sym, subst, arith, All, AllZip, IfSome, length-map, All-head, All-tail, whole, Item, Sev, IsFineTo30Bits, IsWhole, Pairs, conditioned, Means, Clause, layer, kept, IsClause, sum_of, mixture, layered, GridAtom, GridLayer, GridClause, GridUnit, clause_of, atom_probs, atom_pairs, weights_of, mixed_pairs, is_conditioned, layer_pairs, severity_in_layer, ceded_pairs, final_severity, IsGridAtom, IsSevWeighted, IsSevShared, AreProbabilities, IsClauseLayered}
+use Rattle.dl_amounts.proofs.Common.{ℕ, ◌≡◌, ◌∙◌, ◌≤◌, ◌^◌, List, [], ◌∷◌, map, length, Bool, true, false, cond, Option, Some, None, refl, sym, subst, arith, All, AllZip, IfSome, length-map, All-head, All-tail, whole, Item, Sev, IsFineTo30Bits, IsWhole, Pairs, conditioned, Means, Clause, layer, kept, IsClause, sum_of, mixture, layered, GridAtom, GridLayer, GridClause, GridUnit, clause_of, atom_probs, atom_pairs, weights_of, mixed_pairs, is_conditioned, layer_pairs, severity_in_layer, ceded_pairs, final_severity, IsGridAtom, IsSevWithin, IsSevWeighted, IsSevShared, AreProbabilities, IsClauseLayered}
 use Rattle.dl_amounts.specs.Kept.{IsFineSev}
 use Rattle.dl_sev.proofs.Mixed.{mixture_one}
 use Rattle.dl_amounts.proofs.Parts.{sev_weighted, probs_length}
@@ -94,15 +94,15 @@ module _ (u : GridUnit) (fine : IsFineSev u) where
   -- with few items, and small amounts
   abbrev Final : Option GridClause → Type 0
   Final o = (sev : Sev) × Means sev (ceded_pairs o (severity_in_layer u))
-      × All (λ (i : Item). i.amount ≤ 2 ^ 20) sev.items × (length sev.items ≤ 65536)
+      × ((b : ℕ) → IsSevWithin b u.sev → All (λ (i : Item). i.amount ≤ b) sev.items) × (length sev.items ≤ 65536)
 
   final_of : (o : Option GridClause) → u.occ ≡ o → Final o
   final_of None is =
       let sev = layer_sev in (
         sev.0,
         sev.1,
-        in_layer_near u.layer u.sev weighted.grid sev.0 sev.1,
-        in_layer_few u.layer u.sev weighted.grid sev.0 sev.1,
+        in_layer_near u.layer u.sev sev.0 sev.1,
+        in_layer_few u.layer u.sev sev.0 sev.1 weighted.grid,
       )
   final_of (Some c) is =
       let ps : Pairs = severity_in_layer u in
@@ -116,15 +116,15 @@ module _ (u : GridUnit) (fine : IsFineSev u) where
       let kept_whole = items_in sev.0 ps sev.1 (λ x. IsWhole (kept clause x)) (support_whole u fine c is) in (
         made.0,
         mapped_means sev.0 made.0 ps f sev.1 made.1,
-        ceded_items_near clause sev.0 made.0 made.1 (2 ^ 20) cession kept_whole
-            (in_layer_near u.layer u.sev weighted.grid sev.0 sev.1),
+        λ b near. ceded_items_near clause sev.0 made.0 made.1 b cession kept_whole
+            (in_layer_near u.layer u.sev sev.0 sev.1 b near),
         few_of (length made.0.items) (length sev.0.items) (ceded_items_few clause sev.0 made.0 made.1)
-            (in_layer_few u.layer u.sev weighted.grid sev.0 sev.1),
+            (in_layer_few u.layer u.sev sev.0 sev.1 weighted.grid),
       )
     where
       few_of : (m n : ℕ) → m ≤ n → n ≤ 65536 → m ≤ 65536
       few_of m n a b = omega (arith, a, b)
 
-  pub final_there : (sev : Sev) × Means sev (final_severity u) × All (λ (i : Item). i.amount ≤ 2 ^ 20) sev.items
+  pub final_there : (sev : Sev) × Means sev (final_severity u) × ((b : ℕ) → IsSevWithin b u.sev → All (λ (i : Item). i.amount ≤ b) sev.items)
       × (length sev.items ≤ 65536)
   final_there = final_of u.occ refl

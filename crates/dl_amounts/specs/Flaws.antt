@@ -1,7 +1,6 @@
 -- The flaws of amounts in buckets: the first place of an amount that is no whole number, and of one
--- that is too large.
-use Rattle.std.specs.Prelude.{◌≡◌, Bool, not, Option, Some, None, Result, Ok, Err}
-use Rattle.dl_limits.specs.Limits.{most_amount}
+-- that passes the most that it may be.
+use Rattle.std.specs.Prelude.{ℕ, ◌≡◌, Bool, not, Option, Some, None, Result, Ok, Err}
 use Rattle.dl_exact.specs.Fraction.{Fraction, whole}
 use Rattle.dl_lexer.specs.declared.token.Span.{Span}
 use Rattle.dl_read.specs.First.{◌else◌}
@@ -12,10 +11,10 @@ use Rattle.dl_amounts.specs.declared.flaws.Flaws.{Flaws}
 use Rattle.dl_amounts.specs.declared.flaws.Gridded.{Gridded}
 
 -- the places of both flaws, by the place where a test fails
-abbrev pub flaws_of : ((Fraction → Bool) → Option Span) → Flaws
-flaws_of fails = record {
+abbrev pub flaws_of : ℕ → ((Fraction → Bool) → Option Span) → Flaws
+flaws_of most fails = record {
   off_grid = fails (λ x. not (is_whole x));
-  too_far = fails (λ x. is_above x (whole most_amount));
+  too_far = fails (λ x. is_above x (whole most));
 }
 
 -- those of a part, and else those of a later one
@@ -30,9 +29,9 @@ pub record IsClean (flaws : Flaws) : Type 0 where
   pub near : flaws.too_far ≡ None
 
 -- the places of the flaws are told; where there are none, the part is the one in whole buckets
-pub record IsGridded {A : Type 0} (fails : (Fraction → Bool) → Option Span) (right : A)
+pub record IsGridded {A : Type 0} (most : ℕ) (fails : (Fraction → Bool) → Option Span) (right : A)
     (made : Gridded A) : Type 0 where
-  pub flaws : made.flaws ≡ flaws_of fails
+  pub flaws : made.flaws ≡ flaws_of most fails
   pub part : IsClean made.flaws → made.part ≡ right
 
 -- there are none; or the fault is the first of them

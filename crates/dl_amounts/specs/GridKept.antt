@@ -1,7 +1,7 @@
 -- What a unit in whole buckets keeps: small amounts, and lists, severities and clauses of some
 -- parts, but not too many. Lists that belong together are equally long, and fine probabilities sum
 -- to 1.
-use Rattle.std.specs.Prelude.{◌≡◌, ◌<◌, ◌≤◌, length, All, IfSome, IsSome, None, false}
+use Rattle.std.specs.Prelude.{ℕ, ◌≡◌, ◌<◌, ◌≤◌, length, All, IfSome, IsSome, None, false}
 use Rattle.dl_limits.specs.Limits.{most_amount, most_atoms, most_layers, most_values}
 use Rattle.dl_read.specs.Lists.{is_not_one}
 use Rattle.dl_read.specs.Kept.{IsListRead, IsCountRead}
@@ -28,20 +28,38 @@ pub record IsGridSev (s : GridSev) : Type 0 where
   pub several : 1 < length s.atoms → IsSome s.weights
   pub weights : IfSome s.weights IsListRead
 
-pub record IsGridLayer (l : GridLayer) : Type 0 where
-  pub limit : IfSome l.limit (λ limit. limit ≤ most_amount)
-  pub attach : l.attach ≤ most_amount
+-- a limit and an attachment of at most so many buckets
+pub record IsLayerWithin (most : ℕ) (l : GridLayer) : Type 0 where
+  pub limit : IfSome l.limit (λ limit. limit ≤ most)
+  pub attach : l.attach ≤ most
 
 pub record IsGridClause (c : GridClause) : Type 0 where
   pub some : 0 < length c.layers
   pub few : length c.layers ≤ most_layers
-  pub layers : All (λ l. IsGridLayer l.layer) c.layers
+  pub layers : All (λ l. IsLayerWithin most_amount l.layer) c.layers
 
 pub record IsGridUnit (u : GridUnit) : Type 0 where
   pub count : IsCountRead u.count
   pub paired : count_lengths u.count ≡ None
-  pub layer : IfSome u.layer IsGridLayer
+  pub layer : IfSome u.layer (IsLayerWithin most_amount)
   pub sev : IsGridSev u.sev
   pub occ : IfSome u.occ IsGridClause
   pub agr : IfSome u.agr IsGridClause
   pub one : All (λ l. is_not_one l.values ≡ false) (prob_lists u)
+
+-- ---- how large its amounts are
+
+-- each amount of the atoms is at most so many buckets
+abbrev pub IsSevWithin : ℕ → GridSev → Type 0
+IsSevWithin most s = All (λ a. All (λ amount. amount ≤ most) a.amounts) s.atoms
+
+-- each limit and each attachment of the layers
+abbrev pub IsClauseWithin : ℕ → GridClause → Type 0
+IsClauseWithin most c = All (λ l. IsLayerWithin most l.layer) c.layers
+
+-- each amount, limit and attachment of the unit
+pub record IsWithin (most : ℕ) (u : GridUnit) : Type 0 where
+  pub layer : IfSome u.layer (IsLayerWithin most)
+  pub sev : IsSevWithin most u.sev
+  pub occ : IfSome u.occ (IsClauseWithin most)
+  pub agr : IfSome u.agr (IsClauseWithin most)

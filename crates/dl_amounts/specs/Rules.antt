@@ -4,7 +4,6 @@
 -- read, those from 9 of the unit in whole buckets.
 use Rattle.std.specs.Prelude.{ℕ, Bool, true, false, not, ◌&&◌, ◌||◌, ◌==◌, nat_lt, List, [], length, fold, zip, Option, Some, None}
 use Rattle.std.specs.List.{list_any}
-use Rattle.dl_limits.specs.Limits.{most_amount}
 use Rattle.dl_exact.specs.Gcd.{gcd}
 use Rattle.dl_exact.specs.Fraction.{Fraction, whole}
 use Rattle.dl_sev.specs.Buckets.{buckets}
@@ -75,9 +74,9 @@ amount_fails test bs u =
 unfoldable pub off_grid : Fraction → ReadUnit → Option Span
 off_grid bs u = amount_fails (λ x. not (is_whole x)) bs u
 
--- 8 TooFar: one of these passes 2^20 buckets
-unfoldable pub too_far : Fraction → ReadUnit → Option Span
-too_far bs u = amount_fails (λ x. is_above x (whole most_amount)) bs u
+-- 8 TooFar: one of these passes so many buckets
+unfoldable pub too_far : ℕ → Fraction → ReadUnit → Option Span
+too_far most bs u = amount_fails (λ x. is_above x (whole most)) bs u
 
 -- 9 WeightsDiffer: `wts` has not one value per atom
 unfoldable pub weights_differ : GridUnit → Option Span

@@ -5,7 +5,6 @@ ghost use Rattle.std.specs.List.{list_any};
 ghost use Rattle.dl_amounts.specs.declared.grid.GridCeded.{GridCeded as CededInGrid};
 ghost use Rattle.dl_limits.specs.Limits.{most_parts};
 ghost use Rattle.dl_plan.specs.Clause.{IsClause};
-ghost use Rattle.dl_plan.specs.Valid.{IsWithinMostAmount};
 ghost use Rattle.dl_read.specs.First.{at_if, within};
 ghost use Rattle.dl_read.specs.Lists.{is_fine};
 ghost use Rattle.dl_amounts.specs.Clauses.{ceded_layer, clause_of, overlaps, part_of, share_of, shares_of};
@@ -127,7 +126,6 @@ pub fn clause(alloc: Global, cession: &GridClause) -> Result<Option<Cede>, Alloc
     ensures value { IfOk result (λ made. MatchOption made (is_fine (shares_of cession.now) ≡ false)
         (λ clause. clause ≡ clause_of cession.now)) }
     ensures cession { IfOk result (λ made. IfSome made IsClause) }
-    ensures near { IfOk result (λ made. IfSome made (λ clause. All IsWithinMostAmount clause.1)) }
 {
     let Some(layers) = parts_of(alloc, cession)? else {
         return Ok(None);
@@ -143,10 +141,8 @@ pub fn clause(alloc: Global, cession: &GridClause) -> Result<Option<Cede>, Alloc
 /// The layers of a clause with their shares; none only where the shares are not fine.
 fn parts_of(alloc: Global, cession: &GridClause) -> Result<Option<Vec<CedeLayer>>, AllocError>
     requires layered { IsClauseLayered cession.now }
-    ensures value { IfOk result (λ made. MatchOption made (is_fine (shares_of cession.now) ≡ false)
+    ensures { IfOk result (λ made. MatchOption made (is_fine (shares_of cession.now) ≡ false)
         (λ layers. layers.items ≡ map ceded_layer cession.now.layers)) }
-    ensures near { IfOk result (λ made. IfSome made
-        (λ layers. All IsWithinMostAmount layers.items)) }
 {
     let mut layers = Vec::new(alloc);
     'layers: for ceded in cession.layers.as_slice() {

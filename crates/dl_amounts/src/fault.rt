@@ -10,8 +10,8 @@ pub enum GridFault {
     /// An amount of money is no whole number of buckets.
     #[error("an amount is no whole number of buckets")]
     OffGrid(Span),
-    /// An amount of money passes 2^20 buckets.
-    #[error("an amount passes 1,048,576 buckets")]
+    /// An amount of money passes 2^20 buckets, or 2^22 where the grid has more than 4,096 cells.
+    #[error("an amount passes the most buckets")]
     TooFar(Span),
     /// Memory ran out.
     #[error("out of memory")]

@@ -11,7 +11,7 @@ use dl_lexer::Span;
 pub(crate) struct Flaws {
     /// Of an amount that is no whole number of buckets.
     pub(crate) off_grid: Option<Span>,
-    /// Of one that passes 2^20 buckets.
+    /// Of one that passes the most buckets that an amount may have.
     pub(crate) too_far: Option<Span>,
 }
 

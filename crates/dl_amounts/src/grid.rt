@@ -8,7 +8,7 @@ use dl_read::{ReadCount, ReadList};
 /// A discrete severity.
 #[derive(Drop)]
 pub struct GridAtom {
-    /// The amounts in buckets, 1 to 1,024 of them, each at most 2^20.
+    /// The amounts in buckets, 1 to 1,024 of them, each at most 2^22.
     pub amounts: Items<u32>,
     /// The probability of each; where there is none they are equally likely.
     pub probs: Option<ReadList>,
@@ -28,9 +28,9 @@ pub struct GridSev {
 /// The part of a loss above the attachment, up to the limit.
 #[derive(Clone, Copy)]
 pub struct GridLayer {
-    /// The most that the layer pays, in buckets, at most 2^20; none where there is no limit.
+    /// The most that the layer pays, in buckets, at most 2^22; none where there is no limit.
     pub limit: Option<u32>,
-    /// Where the layer attaches, in buckets, at most 2^20.
+    /// Where the layer attaches, in buckets, at most 2^22.
     pub attach: u32,
     /// The place of the layer.
     pub span: Span,

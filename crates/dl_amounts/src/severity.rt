@@ -1,8 +1,8 @@
 //! The severity of a unit.
 
-ghost use Rattle.std.specs.Prelude.{◌≡◌, ◌≤◌, ◌^◌, None, true, false, map, All, length, IfOk, IfSome, MatchOption};
+ghost use Rattle.std.specs.Prelude.{ℕ, ◌≡◌, ◌≤◌, ◌^◌, None, true, false, map, All, length, IfOk, IfSome, MatchOption};
 ghost use Rattle.std.specs.List.{AllZip};
-ghost use Rattle.dl_limits.specs.Limits.{most_amount, most_items};
+ghost use Rattle.dl_limits.specs.Limits.{most_items};
 ghost use Rattle.dl_read.specs.Lists.{is_fine};
 ghost use Rattle.dl_plan.specs.Fine.{IsWhole};
 ghost use Rattle.dl_plan.specs.Clause.{kept};
@@ -14,7 +14,7 @@ ghost use Rattle.dl_amounts.specs.Parts.{IsSevWeighted, AreProbabilities, IsSevS
 ghost use Rattle.dl_amounts.specs.Kept.{IsWeighted, IsFineSev};
 ghost use Rattle.dl_amounts.specs.Clauses.{clause_of, shares_of};
 ghost use Rattle.dl_amounts.specs.ClausesKept.{IsClauseLayered};
-ghost use Rattle.dl_amounts.specs.GridKept.{IsGridAtom};
+ghost use Rattle.dl_amounts.specs.GridKept.{IsGridAtom, IsSevWithin};
 ghost use Rattle.dl_amounts.specs.FineParts.{IsWeighed};
 ghost use Rattle.dl_amounts.specs.Rules.{none_above};
 
@@ -150,10 +150,10 @@ fn ceded(alloc: Global, sev: &Sev, cession: &GridClause) -> Result<Sev, AllocErr
     requires fine { is_fine (shares_of cession.now) ≡ true }
     requires whole { All (λ item. IsWhole (kept (clause_of cession.now) item.amount))
         sev.now.items }
-    requires near { All (λ item. item.amount ≤ most_amount) sev.now.items }
     ensures means { IfOk result (λ made. Means made
         (ceded_each (clause_of cession.now) (pairs_of sev.now))) }
-    ensures near { IfOk result (λ made. All (λ item. item.amount ≤ most_amount) made.items) }
+    ensures near { IfOk result (λ made. (most : ℕ) → All (λ item. item.amount ≤ most) sev.now.items
+        → All (λ item. item.amount ≤ most) made.items) }
     ensures few { IfOk result (λ made. length made.items ≤ length sev.now.items) }
 {
     let Some(cede) = clause(alloc, cession)? else {
@@ -166,12 +166,14 @@ fn ceded(alloc: Global, sev: &Sev, cession: &GridClause) -> Result<Sev, AllocErr
     }
 }
 
-/// The final severity of a unit, made of the severity in the layer.
+/// The final severity of a unit, made of the severity in the layer. Its amounts are at most what
+/// bounds those of the atoms.
 pub fn final_severity(alloc: Global, unit: &GridUnit, layered: Sev) -> Result<Sev, AllocError>
     requires fine { IsFineSev unit.now }
     requires layered { Means layered (severity_in_layer unit.now) }
     ensures means { IfOk result (λ sev. Means sev (final_severity unit.now)) }
-    ensures near { IfOk result (λ sev. All (λ item. item.amount ≤ most_amount) sev.items) }
+    ensures near { IfOk result (λ sev. (most : ℕ) → IsSevWithin most unit.now.sev
+        → All (λ item. item.amount ≤ most) sev.items) }
     ensures few { IfOk result (λ sev. length sev.items ≤ most_items) }
 {
     match &unit.occ {

@@ -6,11 +6,11 @@ use Rattle.dl_exact.proofs.Over.{over_add, over_mul}
 
 -- ---- Poisson counts
 
-pub poisson_room : (K h : ℕ) → K ≤ 16384 → h ≤ 13 → 2 ^ h * rounded_spread K 0 (8 * K + 128) ≤ most_operands
+pub poisson_room : (K h : ℕ) → K ≤ 65536 → h ≤ 13 → 2 ^ h * rounded_spread K 0 (8 * K + 128) ≤ most_operands
 unfolding rounded_spread
 poisson_room K h few small =
     let power : 2 ^ h ≤ 2 ^ 13 = pow-le-pow_right {n = 2} (omega arith) {i = h} {j = 13} small in
-    let base : 8 * K + 128 + 2 * K + 1 + 0 ≤ 163969 = omega arith in
+    let base : 8 * K + 128 + 2 * K + 1 + 0 ≤ 655489 = omega arith in
     omega (arith, mul-le-mul power base)
 
 -- ---- gamma counts
@@ -43,7 +43,7 @@ gamma_parts a r d n X pos within h =
     let means : a * n ≤ a * (4096 * d) = mul-le-mul_left a within in
     le_of_mul-le-mul_right {k = d} (omega (arith, h, means)) pos
 
-pub gamma_room : (K r : ℕ) (m : Fraction) → K ≤ 16384 → 1 ≤ r → r ≤ 10000 → m ≤ℚ whole 4096
+pub gamma_room : (K r : ℕ) (m : Fraction) → K ≤ 65536 → 1 ≤ r → r ≤ 10000 → m ≤ℚ whole 4096
     → r * rounded_spread K 0 (div_ceil ((4 * K + 1) * (m.den * r + m.num)) (m.den * r)) ≤ most_operands
 unfolding rounded_spread
 gamma_room K r m few some most within =
@@ -54,9 +54,9 @@ gamma_room K r m few some most within =
     let above : div_ceil P w * w ≤ P + w = omega (arith, (div_ceil_times P w (mul-pos m.positive some)).1) in
     let power : r * div_ceil P w ≤ (4 * K + 1) * (r + 4096) + r =
     gamma_parts (4 * K + 1) r m.den m.num (div_ceil P w) m.positive (omega (arith, cross)) above in
-    let cells : 4 * K + 1 ≤ 65537 = omega arith in
+    let cells : 4 * K + 1 ≤ 262145 = omega arith in
     let shape : r + 4096 ≤ 14096 = omega arith in
-    let rounding : 2 * K + 1 ≤ 32769 = omega arith in
+    let rounding : 2 * K + 1 ≤ 131073 = omega arith in
     omega (arith, power, mul-le-mul cells shape, mul-le-mul most rounding)
 
 -- the base from the parts of the mean that were read

@@ -23,17 +23,17 @@ pub few_items : (h : ℕ) (u : UnitOfPlan) (freq : Freq) (items : List Item) →
 few_items h u freq items valid e bounded same =
     subst (λ xs. length xs ≤ 65536) (sym same) (valid.items (subst (λ f. ¬ IsUnbounded f) (sym e) bounded))
 
-pub power_room : (K J m : ℕ) → K ≤ 16384 → J ≤ 196611 → m ≤ 65536 → m * rounded_spread K 0 J ≤ most_operands
+pub power_room : (K J m : ℕ) → K ≤ 65536 → J ≤ 196611 → m ≤ 65536 → m * rounded_spread K 0 J ≤ most_operands
 unfolding rounded_spread
 power_room K J m few items most =
-    let one : J + 2 * K + 1 + 0 ≤ 229380 = omega arith in
+    let one : J + 2 * K + 1 + 0 ≤ 327684 = omega arith in
     omega (arith, mul-le-mul most one)
 
-pub listed_begins : (K J m : ℕ) → K ≤ 16384 → J ≤ 65536 → m ≤ 256
+pub listed_begins : (K J m : ℕ) → K ≤ 65536 → J ≤ 65536 → m ≤ 256
     → rounded_spread K 2 1 + m * rounded_spread K 2 J ≤ most_operands
 unfolding rounded_spread
 listed_begins K J m few items most =
-    let one : J + 2 * K + 1 + 2 ≤ 98307 = omega arith in
+    let one : J + 2 * K + 1 + 2 ≤ 196611 = omega arith in
     omega (arith, mul-le-mul most one)
 
 -- 0 where n is 0

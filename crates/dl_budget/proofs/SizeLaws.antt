@@ -1,20 +1,21 @@
 -- How large spreads grow, over plain numbers. S is the scale, and a size is a spread with what one more convolution
 -- rounds.
 use Rattle.dl_budget.proofs.Common.{IsPlanScale, ℕ, ◌≡◌, ◌+◌, ◌-◌, ◌*◌, ◌^◌, ◌<◌, ◌≤◌, arith, refl, sym, ap, subst, ◌∙◌, mul-le-mul, mul-le-mul_left, mul-le-mul_right, pow-le-pow_right, le_of_mul-le-mul_right, pow_pos, div_ceil, most_operands, div_ceil_least, cv, pw, rounded_spread, IsSizeWithin}
+use Rattle.dl_limits.specs.Limits.{most_claims_budget}
 use Rattle.dl_grid.proofs.WidthLaws.{size_step, size_joined, pw_even, pw_odd}
 
 -- a size is within itself, and within what is greater
 pub size_least : (S c x : ℕ) → x ≤ c → IsSizeWithin S c x
 size_least S c x h = mul-le-mul h (omega arith)
 
--- where c is at most a sixteenth of S, what is at most c / (1 - c/S) is at most 16/15 of c
-pub size_near : (S c x : ℕ) → 0 < S → 16 * c ≤ S → IsSizeWithin S c x → 15 * x ≤ 16 * c
+-- where c is at most S / 64, what is at most c / (1 - c/S) is at most 64/63 of c
+pub size_near : (S c x : ℕ) → 0 < S → 64 * c ≤ S → IsSizeWithin S c x → 63 * x ≤ 64 * c
 size_near S c x pos far size =
-    let part : x * (15 * S) ≤ x * (16 * (S - c)) = mul-le-mul_left x (omega arith) in
+    let part : x * (63 * S) ≤ x * (64 * (S - c)) = mul-le-mul_left x (omega arith) in
     le_of_mul-le-mul_right {k = S} (omega (arith, part, size)) pos
 
-pub spread_near : (S k more c x : ℕ) → 0 < S → 16 * c ≤ S → IsSizeWithin S c (rounded_spread k more x)
-    → 15 * x ≤ 16 * c
+pub spread_near : (S k more c x : ℕ) → 0 < S → 64 * c ≤ S → IsSizeWithin S c (rounded_spread k more x)
+    → 63 * x ≤ 64 * c
 unfolding rounded_spread
 spread_near S k more c x pos far size = omega (arith, size_near S c (x + 2 * k + 1 + more) pos far size)
 
@@ -33,7 +34,7 @@ scale_least : (B : ℕ) → IsPlanScale B → 2 ^ 48 ≤ 2 ^ B
 scale_least B scale = pow-le-pow_right {n = 2} (omega arith) {i = 48} {j = B} scale.least
 
 -- what is at most 2^40 is far below them
-pub far_below : (B c : ℕ) → IsPlanScale B → c ≤ 2 ^ 40 → 16 * c ≤ 2 ^ B
+pub far_below : (B c : ℕ) → IsPlanScale B → c ≤ 2 ^ 40 → 64 * c ≤ 2 ^ B
 far_below B c scale h = omega (arith, h, scale_least B scale)
 
 -- one step that stays far below
@@ -46,7 +47,7 @@ within_step B k more c d n x y z e sum room hx hy step =
 
 -- the spread of a unit
 pub unit_small : (B k more c x : ℕ) → IsPlanScale B → c ≤ most_operands
-    → IsSizeWithin (2 ^ B) c (rounded_spread k more x) → x ≤ 2 ^ 34
+    → IsSizeWithin (2 ^ B) c (rounded_spread k more x) → x ≤ most_claims_budget
 unit_small B k more c x e room size = omega (
   arith,
   spread_near (2 ^ B) k more c x (pow_pos B)
@@ -74,7 +75,7 @@ next_size B k b m n x y e sum room size step =
 pub room_below : (c m n : ℕ) → m ≤ n → n * c ≤ most_operands → m * c ≤ most_operands
 room_below c m n h room = omega (arith, room, mul-le-mul_right c h)
 
-pub base_small : (k more b n : ℕ) → 1 ≤ n → n * rounded_spread k more b ≤ most_operands → b ≤ 2 ^ 34
+pub base_small : (k more b n : ℕ) → 1 ≤ n → n * rounded_spread k more b ≤ most_operands → b ≤ most_claims_budget
 unfolding rounded_spread
 base_small k more b n some room = omega (arith, room_below (b + 2 * k + 1 + more) 1 n some room)
 
@@ -93,7 +94,7 @@ next_value S k b m n x y some sum even step =
 pub odd_size : (B k b m n x y z : ℕ) → IsPlanScale B → m + m + 1 ≡ n → n * rounded_spread k 0 b ≤ most_operands
     → IsSizeWithin (2 ^ B) (m * rounded_spread k 0 b) (rounded_spread k 0 x) → y ≡ cv (2 ^ B) k x x
     → z ≡ cv (2 ^ B) k y b
-    → (y ≤ 2 ^ 34) × IsSizeWithin (2 ^ B) (n * rounded_spread k 0 b) (rounded_spread k 0 z)
+    → (y ≤ most_claims_budget) × IsSizeWithin (2 ^ B) (n * rounded_spread k 0 b) (rounded_spread k 0 z)
 odd_size B k b m n x y z e sum room half square step =
     let less : (m + m) * rounded_spread k 0 b ≤ most_operands =
     room_below (rounded_spread k 0 b) (m + m) n (omega arith) room in

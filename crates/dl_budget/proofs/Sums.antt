@@ -35,11 +35,11 @@ budget_all S cells us i sum t past e =
 
 -- ---- sizes
 
--- n units come to at most half of 2^40
-units_small : (cells n : ℕ) → cells ≤ 4096 → n ≤ 16 → n * rounded_spread cells 0 most_unit_budget ≤ 549755944976
+-- n units come to less than 3/4 of 2^40
+units_small : (cells n : ℕ) → cells ≤ 65536 → n ≤ 16 → n * rounded_spread cells 0 most_unit_budget ≤ 755916341264
 unfolding rounded_spread
 units_small cells n few most =
-    let one : 2 ^ 35 + 2 * cells + 1 + 0 ≤ 34359746561 = omega arith in
+    let one : most_unit_budget + 2 * cells + 1 + 0 ≤ 47244771329 = omega arith in
     omega (arith, mul-le-mul most one)
 
 pub unit_size : (B cells x : ℕ) → x ≤ most_unit_budget → IsOfUnits (2 ^ B) cells 1 x
@@ -53,14 +53,14 @@ unfolding rounded_spread
 one_unit B cells x small = size_least (2 ^ B) _ _ (omega (arith, small))
 
 -- one unit more
-pub sum_size_next : (B cells n sum b x : ℕ) → IsPlanScale B → cells ≤ 4096 → n + 1 ≤ 16 → IsOfUnits (2 ^ B) cells n sum
+pub sum_size_next : (B cells n sum b x : ℕ) → IsPlanScale B → cells ≤ 65536 → n + 1 ≤ 16 → IsOfUnits (2 ^ B) cells n sum
     → b ≤ most_unit_budget → x ≡ cv (2 ^ B) cells sum b
     → IsOfUnits (2 ^ B) cells (n + 1) x
 sum_size_next B cells n sum b x e few most before small step =
     within_step B cells 0 _ _ _ sum b x e (omega arith) (omega (arith, units_small cells (n + 1) few most)) before
     (one_unit B cells b small) (step ∙ omega arith)
 
-pub sum_small : (B cells n x : ℕ) → IsPlanScale B → cells ≤ 4096 → n ≤ 16 → IsOfUnits (2 ^ B) cells n x → x < 2 ^ 40
+pub sum_small : (B cells n x : ℕ) → IsPlanScale B → cells ≤ 65536 → n ≤ 16 → IsOfUnits (2 ^ B) cells n x → x < 2 ^ 40
 sum_small B cells n x e few most size =
     let units = units_small cells n few most in
     omega (

@@ -1,7 +1,7 @@
 //! The budgets of units, of their sums and of their means.
 
 ghost use Rattle.std.specs.Prelude.{ℕ, ◌≡◌, ◌+◌, ◌*◌, ◌^◌, ◌<◌, ◌≤◌, List, All, length, sum_by, fold, remove};
-ghost use Rattle.dl_limits.specs.Limits.{IsPlanScale, budget_bound, most_cells, most_claims_budget, most_layers, most_plan_cells, most_units, most_unit_budget, most_mean_budget};
+ghost use Rattle.dl_limits.specs.Limits.{IsPlanScale, budget_bound, most_cells, most_claims_budget, most_horizon, most_layers, most_plan_cells, most_units, most_unit_budget, most_mean_budget};
 ghost use Rattle.dl_grid.specs.Width.{cv, sum_spread};
 ghost use Rattle.dl_plan.specs.Horizon.{IsHorizonOf, edge};
 ghost use Rattle.dl_plan.specs.Valid.{IsValidUnit, IsValid};
@@ -17,7 +17,7 @@ use dl_plan::{CedeLayer, Plan, Unit};
 /// `cells` cells.
 fn horizon(unit: &Unit, cells: u32) -> u32
     requires valid { (h : ℕ) × IsValidUnit h unit.now }
-    requires horizon { (k : ℕ) × IsHorizonOf unit.now.cede cells k × (k ≤ most_cells) }
+    requires horizon { (k : ℕ) × IsHorizonOf unit.now.cede cells k × (k ≤ most_horizon cells) }
     ensures horizon { IsHorizonOf unit.now.cede cells result }
     ensures few { result ≤ most_cells }
 {
@@ -30,7 +30,7 @@ pub fn unit_budget<const B: u32>(unit: &Unit, cells: u32) -> u128
     requires scale { IsPlanScale B }
     requires valid { (h : ℕ) × IsValidUnit h unit.now }
     requires some { 1 ≤ cells }
-    requires horizon { (k : ℕ) × IsHorizonOf unit.now.cede cells k × (k ≤ most_cells) }
+    requires horizon { (k : ℕ) × IsHorizonOf unit.now.cede cells k × (k ≤ most_horizon cells) }
     ensures value { result ≡ unit_budget (2 ^ B) cells unit.now }
     ensures small { result ≤ most_unit_budget }
 {

@@ -1,6 +1,7 @@
 -- The mean of what a clause keeps of the sum of a unit's claims: what an interval is to hold, and
 -- how wide it may be.
-use Rattle.std.specs.Prelude.{ℕ, ◌^◌, List, [], ◌∷◌}
+use Rattle.std.specs.Prelude.{ℕ, ◌*◌, ◌^◌, ◌≤◌, IfSome, List, [], ◌∷◌}
+use Rattle.dl_limits.specs.Limits.{most_claims, most_amount, most_amount_at, most_layers}
 use Rattle.dl_exact.specs.Fraction.{whole, ◌over◌, ◌*ℚ◌}
 use Rattle.dl_exact.specs.Rounding.{IsFloor, IsCeiling}
 use Rattle.dl_iv.specs.declared.interval.Iv.{Iv}
@@ -35,3 +36,18 @@ abbrev pub HoldsMean : {B : ℕ} → UnitOfPlan → Iv B → Type 0
 HoldsMean {B} u mean =
     Holds (partial_sums (loss_of u ∷ []) Mean) (partial_sums (loss_of u ∷ []) One)
     (mean.lo over 2 ^ B) (mean.hi over 2 ^ B)
+
+-- ---- how large they can be, where `one` units make a bucket
+
+-- the mean of a unit's claims, in a plan with a grid of so many cells: 65,536 claims of the greatest
+-- amount
+abbrev pub most_claims_mean : (cells one : ℕ) → ℕ
+most_claims_mean cells one = most_claims * most_amount_at cells * one
+
+-- a layer has no limit, or one of at most 2^22 buckets
+abbrev pub IsNear : CedeLayer → Type 0
+IsNear l = IfSome l.limit (λ limit. limit ≤ most_amount)
+
+-- what the layers of a clause that have a limit take together
+abbrev pub most_limited : (one : ℕ) → ℕ
+most_limited one = most_layers * most_amount * one

@@ -7,12 +7,13 @@ ghost use Rattle.dl_grid.specs.Cells.{spread};
 ghost use Rattle.dl_plan.specs.declared.plan.Unit.{Unit as UnitOfPlan};
 ghost use Rattle.dl_plan.specs.Clause.{IsClause};
 ghost use Rattle.dl_plan.specs.Horizon.{edge, IsHorizonOf};
-ghost use Rattle.dl_plan.specs.Valid.{IsWithinMostAmount, IsValidUnit};
+ghost use Rattle.dl_plan.specs.Valid.{IsValidUnit};
 ghost use Rattle.dl_model.specs.Family.{GridEncloses};
 ghost use Rattle.dl_model.specs.Plans.{compound_of};
 ghost use Rattle.dl_measures.specs.Layers.{layer_most};
 ghost use Rattle.dl_plan.specs.MeanWidth.{part_width, mean_width};
 ghost use Rattle.dl_cede.specs.Means.{AreNearestEnds, HoldsClaims, HoldsCeded, HoldsMean};
+ghost use Rattle.dl_cede.specs.Means.{IsNear, most_claims_mean, most_limited};
 
 use dl_grid::Grid;
 use dl_iv::Iv;
@@ -28,7 +29,8 @@ pub fn claims_mean<const B: u32>(unit: &Unit) -> Iv<B>
     ensures holds { HoldsClaims unit.now result }
     ensures ends { AreNearestEnds unit.now result }
     ensures width { result.hi ≤ result.lo + 1 }
-    ensures small { result.hi ≤ 2 ^ 92 }
+    ensures small { (cells : ℕ) → IsValidUnit cells unit.now
+        → result.hi ≤ most_claims_mean cells (2 ^ B) }
 {
     let (num, den) = unit.mean_parts();
     Iv::enclose(num, den)
@@ -37,12 +39,12 @@ pub fn claims_mean<const B: u32>(unit: &Unit) -> Iv<B>
 /// The mean of what a layer takes of the sum of a unit's claims, by its share, in buckets, from the
 /// grid of the sum and from its mean `claims`.
 fn part_of<const B: u32>(layer: &CedeLayer, grid: &Grid<B>, claims: Iv<B>) -> Iv<B>
-    requires near { IsWithinMostAmount layer.now }
+    requires near { IsNear layer.now }
     requires share { layer.now.share ≤ℚ whole 1 }
     requires fine { layer.now.share.den ≤ most_parts }
     requires inside { edge layer.now ≤ length grid.now }
     requires narrow { claims.hi ≤ claims.lo + 1 }
-    requires small { claims.hi ≤ 2 ^ 92 }
+    requires small { claims.hi ≤ 2 ^ 94 }
     ensures holds { (cells : ℕ) (u : UnitOfPlan) → IsValidUnit cells u
         → GridEncloses grid.now (compound_of u.freq u.sev) → HoldsClaims u claims.entry
         → HoldsCeded u (layer.now ∷ []) result }
@@ -58,16 +60,16 @@ fn part_of<const B: u32>(layer: &CedeLayer, grid: &Grid<B>, claims: Iv<B>) -> Iv
 /// in buckets, from the grid of the sum and from its mean `claims`.
 fn ceded_mean<const B: u32>(cede: &Cede, grid: &Grid<B>, claims: Iv<B>) -> Iv<B>
     requires clause { IsClause cede.now }
-    requires near { All IsWithinMostAmount cede.now.1 }
+    requires near { All IsNear cede.now.1 }
     requires inside { All (λ l. edge l ≤ length grid.now) cede.now.1 }
     requires narrow { claims.hi ≤ claims.lo + 1 }
-    requires small { claims.hi ≤ 2 ^ 92 }
+    requires small { claims.hi ≤ 2 ^ 94 }
     ensures holds { (cells : ℕ) (u : UnitOfPlan) → IsValidUnit cells u
         → GridEncloses grid.now (compound_of u.freq u.sev) → HoldsClaims u claims.entry
         → HoldsCeded u cede.now.1 result }
     ensures width { result.hi - result.lo ≤ sum_by
         (λ l. part_width (spread grid.now) l.limit l.attach) cede.now.1 }
-    ensures small { result.hi ≤ 2 ^ 93 }
+    ensures small { result.hi ≤ claims.entry.hi + most_limited (2 ^ B) }
 {
     let mut ceded = Iv::point(0);
     let layers = cede.layers();
@@ -81,15 +83,15 @@ fn ceded_mean<const B: u32>(cede: &Cede, grid: &Grid<B>, claims: Iv<B>) -> Iv<B>
 /// what its layers take, and on the net side what this leaves of `claims`, the mean of the sum.
 pub fn kept_mean<const B: u32>(cede: &Cede, grid: &Grid<B>, claims: Iv<B>) -> Iv<B>
     requires clause { IsClause cede.now }
-    requires near { All IsWithinMostAmount cede.now.1 }
+    requires near { All IsNear cede.now.1 }
     requires inside { All (λ l. edge l ≤ length grid.now) cede.now.1 }
     requires narrow { claims.hi ≤ claims.lo + 1 }
-    requires small { claims.hi ≤ 2 ^ 92 }
+    requires small { claims.hi ≤ 2 ^ 94 }
     ensures holds { (cells : ℕ) (u : UnitOfPlan) → IsValidUnit cells u → u.cede ≡ Some cede.now
         → GridEncloses grid.now (compound_of u.freq u.sev) → HoldsClaims u claims.entry
         → HoldsMean u result }
     ensures width { result.hi - result.lo ≤ mean_width (Some cede.now) (spread grid.now) }
-    ensures small { result.hi ≤ 2 ^ 93 }
+    ensures small { result.hi ≤ claims.entry.hi + most_limited (2 ^ B) }
 {
     let ceded = ceded_mean(cede, grid, claims);
     if cede.net() {
@@ -112,7 +114,8 @@ pub fn cede_mean<const B: u32>(unit: &Unit, grid: &Grid<B>) -> Iv<B>
     ensures holds { HoldsMean unit.now result }
     ensures plain { unit.now.cede ≡ None → AreNearestEnds unit.now result }
     ensures width { result.hi - result.lo ≤ mean_width unit.now.cede (spread grid.now) }
-    ensures small { result.hi ≤ 2 ^ 93 }
+    ensures small { (cells : ℕ) → IsValidUnit cells unit.now
+        → result.hi ≤ most_claims_mean cells (2 ^ B) + most_limited (2 ^ B) }
 {
     let claims = claims_mean(unit);
     match &unit.cede {

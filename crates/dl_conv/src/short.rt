@@ -29,7 +29,7 @@ fn half_length(cells: usize) -> usize
     ensures less { result < cells }
 {
     let mut half = 32;
-    for _doublings in 0..8u32 {
+    for _doublings in 0..10u32 {
         if cells <= 2 * half {
             return half;
         }

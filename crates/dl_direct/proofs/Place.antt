@@ -1,8 +1,13 @@
 -- Placed cells, one by one.
-use Rattle.dl_direct.proofs.Common.{◌≡◌, ◌⊎◌, inl, inr, ℕ, ◌+◌, ◌-◌, ◌*◌, ◌/◌, ◌^◌, ◌<◌, ◌≤◌, List, [], ◌∷◌, ◌++◌, length, length-append, get_or, arith, sym, ap, subst, subst₂, ◌∙◌, pow-add, mul-le-mul_left, mul-le-mul_right, div-mul-le_self, lt-div-mul-add, cases_lt, sum, sum_by_push, IsPlaced}
+use Rattle.dl_direct.proofs.Common.{◌≡◌, ◌⊎◌, inl, inr, ℕ, ◌+◌, ◌-◌, ◌*◌, ◌/◌, ◌^◌, ◌<◌, ◌≤◌, List, length, get_or, arith, sym, ap, subst, subst₂, ◌∙◌, pow-add, mul-le-mul_left, mul-le-mul_right, div-mul-le_self, lt-div-mul-add, cases_lt, sum, IsPlaced}
 use Rattle.std.specs.Prelude.{min}
-use Rattle.std.proofs.Math.ListN.{get_or-append}
-use Rattle.std.proofs.Math.Seq.{get_or-append_seam}
+use Prim.Native.Nat.{◌∣◌}
+use Rattle.std.proofs.Math.ListN.{set, replicate}
+use Rattle.std.proofs.Math.Nat.{dvd-mul_right, eq_of_mul-eq-mul_left}
+use Rattle.std.proofs.lemmas.List.{get_or-set_same, get_or-set_other, get_or-replicate, length-replicate}
+use Rattle.std.proofs.lemmas.List.Sums.{sum_by-set}
+use Rattle.std.proofs.lemmas.List.Folds.{sum_by-replicate}
+use Rattle.std.proofs.lemmas.Bool.{cases_eq}
 use Rattle.dl_direct.specs.declared.start.Scaled.{Scaled}
 use Rattle.std.proofs.lemmas.List.{get_or_past}
 use Rattle.dl_direct.proofs.Starts.{two_pos, two_le}
@@ -26,37 +31,52 @@ down_reaches p e x top h = elim (cases_lt e 126) [
       omega (arith, mul-le-mul_right (2 ^ e) none)
 ]
 
--- ---- one more cell
+-- ---- one cell written
 
-end_before : (ends : List ℕ) (x k n : ℕ) → length ends ≡ n → k < n → get_or (ends ++ x ∷ []) k 0 ≡ get_or ends k 0
-end_before ends x k n count l = get_or-append ends (x ∷ []) 0 k (omega (arith, count, l))
+-- zeros
+pub zeros_at : (n x : ℕ) → get_or (replicate {A = ℕ} n 0) x 0 ≡ 0
+zeros_at n x = elim (cases_lt x n) [
+  | inl within ↦ get_or-replicate {A = ℕ} n x 0 0 within
+  | inr past ↦ get_or_past (replicate {A = ℕ} n 0) x 0
+      (subst (λ m. m ≤ x) (sym (length-replicate {A = ℕ} n 0)) past)
+]
 
-end_last : (ends : List ℕ) (x n : ℕ) → length ends ≡ n → get_or (ends ++ x ∷ []) n 0 ≡ x
-end_last ends x n count = ap (λ i. get_or (ends ++ x ∷ []) i 0) (sym count) ∙ get_or-append_seam ends x [] 0
-
-pub one_longer : (ends : List ℕ) (x : ℕ) → length (ends ++ x ∷ []) ≡ length ends + 1
-one_longer ends x = simp length-append (omega arith)
+pub zeros_sum : (n : ℕ) → sum (replicate {A = ℕ} n 0) ≡ 0
+zeros_sum n = omega (arith, sum_by-replicate (λ (e : ℕ). e) n 0)
 
 -- each low end at most its high end
-pub ordered_more : (lows highs : List ℕ) (lo hi n : ℕ) → length lows ≡ n → length highs ≡ n → lo ≤ hi
-    → ((x : ℕ) → get_or lows x 0 ≤ get_or highs x 0)
-    → (x : ℕ) → get_or (lows ++ lo ∷ []) x 0 ≤ get_or (highs ++ hi ∷ []) x 0
-ordered_more lows highs lo hi n p q l h x = elim (cases_lt x n) [
-  | inl b ↦ subst₂ (λ s t. s ≤ t) (sym (end_before lows lo x n p b)) (sym (end_before highs hi x n q b)) (h x)
-  | inr b ↦ elim (cases_lt n x) [
-    | inl c ↦ subst (λ t. t ≤ get_or (highs ++ hi ∷ []) x 0)
-        (sym (get_or_past (lows ++ lo ∷ []) x 0 (omega (arith, one_longer lows lo, p, c)))) (omega arith)
-    | inr c ↦
-        let e : n ≡ x = omega (arith, b, c) in
-        subst (λ i. get_or (lows ++ lo ∷ []) i 0 ≤ get_or (highs ++ hi ∷ []) i 0) e
-        (subst₂ (λ s t. s ≤ t) (sym (end_last lows lo n p)) (sym (end_last highs hi n q)) l)
-  ]
+pub ordered_set : (lows highs : List ℕ) (x lo hi : ℕ) → x < length lows → x < length highs → lo ≤ hi
+    → ((y : ℕ) → get_or lows y 0 ≤ get_or highs y 0)
+    → (y : ℕ) → get_or (set lows x lo) y 0 ≤ get_or (set highs x hi) y 0
+ordered_set lows highs x lo hi p q l h y = elim (cases_eq y x) [
+  | inl e ↦ subst (λ k. get_or (set lows x lo) k 0 ≤ get_or (set highs x hi) k 0) (sym e)
+      (subst₂ (λ s t. s ≤ t) (sym (get_or-set_same lows x lo 0 p)) (sym (get_or-set_same highs x hi 0 q)) l)
+  | inr e ↦ subst₂ (λ s t. s ≤ t) (sym (get_or-set_other lows x y lo 0 e)) (sym (get_or-set_other highs x y hi 0 e))
+      (h y)
 ]
 
 -- what a low end leaves of 1
-pub mass_more : (lows : List ℕ) (lo room one : ℕ) → lo ≤ room → sum lows + room ≡ one
-    → sum (lows ++ lo ∷ []) + (room - lo) ≡ one
-mass_more lows lo room one within left = omega (arith, sum_by_push (λ (x : ℕ). x) lows lo, within, left)
+pub mass_set : (lows : List ℕ) (x lo room one : ℕ) → x < length lows → get_or lows x 0 ≡ 0 → lo ≤ room
+    → sum lows + room ≡ one → sum (set lows x lo) + (room - lo) ≡ one
+mass_set lows x lo room one inside none within left =
+    omega (arith, sum_by-set (λ (e : ℕ). e) lows x lo 0 inside, none, within, left)
+
+module _ (step : ℕ) (apart : 0 < step) (n : ℕ) (ends : List ℕ) (v : ℕ) where
+  -- the cells past the one that is written
+  pub zeros_left : ((x : ℕ) → step * n ≤ x → get_or ends x 0 ≡ 0)
+      → (x : ℕ) → step * (n + 1) ≤ x → get_or (set ends (step * n) v) x 0 ≡ 0
+  zeros_left h x far = get_or-set_other ends (step * n) x v 0 (λ e. absurd (omega (arith, e, far, apart)))
+      ∙ h x (omega (arith, far))
+
+  before_it : (k : ℕ) → k < n → get_or (set ends (step * n) v) (step * k) 0 ≡ get_or ends (step * k) 0
+  before_it k l = get_or-set_other ends (step * n) (step * k) v 0
+      (λ e. absurd (omega (arith, l, eq_of_mul-eq-mul_left step apart k n e)))
+
+  at_it : step * n < length ends → get_or (set ends (step * n) v) (step * n) 0 ≡ v
+  at_it inside = get_or-set_same ends (step * n) v 0 inside
+
+  beside_it : (x : ℕ) → ¬ (step ∣ x) → get_or (set ends (step * n) v) x 0 ≡ get_or ends x 0
+  beside_it x p = get_or-set_other ends (step * n) x v 0 (λ e. p (subst (λ t. step ∣ t) (sym e) (dvd-mul_right step n)))
 
 -- ---- its ends by the two scales
 
@@ -69,49 +89,61 @@ raised_high o p d m s e h =
     subst (λ t. p * 2 ^ m ≤ o * t) (sym (ap (λ t. 2 ^ t) e ∙ pow-add 2 d m)) (omega (arith, mul-le-mul_right (2 ^ m) h))
 
 -- the same ends
-pub placed_same : (B : ℕ) (start : Scaled) (e n : ℕ) (low high : List ℕ) (lo hi lo' hi' : ℕ → ℕ)
-    → ((k : ℕ) → lo k ≡ lo' k) → ((k : ℕ) → hi k ≡ hi' k)
-    → IsPlaced B start e n low high lo hi → IsPlaced B start e n low high lo' hi'
-placed_same B start e n low high lo hi lo' hi' p q h = record {
+pub placed_same : (B : ℕ) (start : Scaled) (e step n : ℕ) (low high : List ℕ) (lo hi lo' hi' : ℕ → ℕ)
+    → ((x : ℕ) → lo x ≡ lo' x) → ((x : ℕ) → hi x ≡ hi' x)
+    → IsPlaced B start e step n low high lo hi → IsPlaced B start e step n low high lo' hi'
+placed_same B start e step n low high lo hi lo' hi' p q h = record {
   low_end =
-      λ k b. subst (λ t. t * 2 ^ (61 + start.exponent) ≤ get_or low k 0 * start.low * 2 ^ (e + B)) (p k)
+      λ k b. subst (λ t. t * 2 ^ (61 + start.exponent) ≤ get_or low k 0 * start.low * 2 ^ (e + B)) (p (step * k))
       (h.low_end k b);
   high_end =
       λ k b. subst (λ t. (get_or high k 0 * start.high * 2 ^ (e + B) ≤ t * 2 ^ (61 + start.exponent)) ⊎ (t ≡ 2 ^ B))
-      (q k) (h.high_end k b);
+      (q (step * k)) (h.high_end k b);
+  between = λ x b. sym (p x) ∙ h.between x b;
 }
 
-module _ (B : ℕ) (start : Scaled) (e : ℕ) (low high lows highs : List ℕ) (lo hi down : ℕ)
-    (scale : 61 + start.exponent ≡ down + (e + B)) where
-  pub placed_more : (n : ℕ) → length lows ≡ n → length highs ≡ n
-      → IsPlaced B start e n low high (λ k. get_or lows k 0) (λ k. get_or highs k 0)
+-- none is written yet
+pub placed_none : (B : ℕ) (start : Scaled) (e step : ℕ) (low high : List ℕ) (lo hi : ℕ → ℕ) → ((x : ℕ) → lo x ≡ 0)
+    → IsPlaced B start e step 0 low high lo hi
+placed_none B start e step low high lo hi none = record {
+  low_end = λ k b. absurd (omega (arith, b));
+  high_end = λ k b. absurd (omega (arith, b));
+  between = λ x b. none x;
+}
+
+module _ (B : ℕ) (start : Scaled) (e step : ℕ) (low high lows highs : List ℕ) (lo hi down : ℕ)
+    (apart : 0 < step) (scale : 61 + start.exponent ≡ down + (e + B)) where
+  pub placed_more : (n : ℕ) → step * n < length lows → step * n < length highs
+      → IsPlaced B start e step n low high (λ x. get_or lows x 0) (λ x. get_or highs x 0)
       → lo * 2 ^ down ≤ get_or low n 0 * start.low → (get_or high n 0 * start.high ≤ hi * 2 ^ down) ⊎ (hi ≡ 2 ^ B)
-      → IsPlaced B start e (n + 1) low high (λ k. get_or (lows ++ lo ∷ []) k 0) (λ k. get_or (highs ++ hi ∷ []) k 0)
+      → IsPlaced B start e step (n + 1) low high (λ x. get_or (set lows (step * n) lo) x 0)
+      (λ x. get_or (set highs (step * n) hi) x 0)
   placed_more n p q h f g = record {
     low_end = λ k b. elim (cases_lt k n) [
       | inl l ↦ subst (λ t. t * 2 ^ (61 + start.exponent) ≤ get_or low k 0 * start.low * 2 ^ (e + B))
-          (sym (end_before lows lo k n p l)) (h.low_end k l)
+          (sym (before_it step apart n lows lo k l)) (h.low_end k l)
       | inr l ↦
           let k_is : n ≡ k = omega (arith, b, l) in
-          subst (λ i. get_or (lows ++ lo ∷ []) i 0 * 2 ^ (61 + start.exponent) ≤ get_or low i 0 * start.low * 2 ^
-          (e + B)) k_is
+          subst (λ i. get_or (set lows (step * n) lo) (step * i) 0 * 2 ^ (61 + start.exponent) ≤
+          get_or low i 0 * start.low * 2 ^ (e + B)) k_is
           (subst (λ t. t * 2 ^ (61 + start.exponent) ≤ get_or low n 0 * start.low * 2 ^ (e + B))
-          (sym (end_last lows lo n p))
+          (sym (at_it step apart n lows lo p))
           (raised_low lo (get_or low n 0 * start.low) down (e + B) (61 + start.exponent) scale f))
     ];
     high_end = λ k b. elim (cases_lt k n) [
       | inl l ↦ subst (λ t. (get_or high k 0 * start.high * 2 ^ (e + B) ≤ t * 2 ^ (61 + start.exponent)) ⊎ (t ≡ 2 ^ B))
-          (sym (end_before highs hi k n q l)) (h.high_end k l)
+          (sym (before_it step apart n highs hi k l)) (h.high_end k l)
       | inr l ↦
           let k_is : n ≡ k = omega (arith, b, l) in
-          subst (λ i.
-          (get_or high i 0 * start.high * 2 ^ (e + B) ≤ get_or (highs ++ hi ∷ []) i 0 * 2 ^ (61 + start.exponent)) ⊎
-          (get_or (highs ++ hi ∷ []) i 0 ≡ 2 ^ B)) k_is
+          subst (λ i. (get_or high i 0 * start.high * 2 ^ (e + B) ≤
+          get_or (set highs (step * n) hi) (step * i) 0 * 2 ^ (61 + start.exponent)) ⊎
+          (get_or (set highs (step * n) hi) (step * i) 0 ≡ 2 ^ B)) k_is
           (subst (λ t. (get_or high n 0 * start.high * 2 ^ (e + B) ≤ t * 2 ^ (61 + start.exponent)) ⊎ (t ≡ 2 ^ B))
-          (sym (end_last highs hi n q))
+          (sym (at_it step apart n highs hi q))
           (elim g [
             | inl u ↦ inl (raised_high hi (get_or high n 0 * start.high) down (e + B) (61 + start.exponent) scale u)
             | inr u ↦ inr u
           ]))
     ];
+    between = λ x b. beside_it step apart n lows lo x b ∙ h.between x b;
   }

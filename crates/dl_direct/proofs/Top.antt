@@ -6,7 +6,6 @@ use Rattle.dl_model.specs.Family.{compound, Encloses}
 use Rattle.dl_exact.proofs.Laws.{times_pos}
 use Rattle.dl_exact.proofs.Sums.{sum_pairs_same, sum_pairs_times}
 use Rattle.dl_exact.proofs.Orders.{times_right_comm, times_second}
-use Rattle.dl_grid.specs.Cells.{low_at, high_at}
 use Rattle.dl_direct.specs.declared.start.Scaled.{Scaled}
 use Rattle.std.proofs.Math.Nat.{le-max_left, le-max_right}
 use Rattle.dl_model.specs.Recursion.{Recursion}
@@ -14,7 +13,6 @@ use Rattle.dl_model.specs.Severity.{IsWithinOne}
 use Rattle.dl_model.proofs.Declared.{rises_to}
 use Rattle.dl_model.proofs.FamilyLaws.{cell_at_most_one, compound_proper}
 use Rattle.dl_model.proofs.CompoundLaws.{cell_stays}
-use Rattle.dl_iv.specs.declared.interval.Iv.{Iv}
 use Rattle.dl_model.proofs.Panjer.{recursion_there, recursion_next}
 use Rattle.dl_direct.proofs.Starts.{two_pos}
 
@@ -101,25 +99,25 @@ module _ (f w : ℕ → Fraction) (z : f zero ≡ whole 0) (severity : IsWithinO
       (le_trans _ _ _ (subst (λ t. t ≤ℚ r *ℚ (p *ℚ u)) (times_one r) (times_le_both r r _ _ (le_refl r) c))
       (subst (λ t. t ≤ℚ o over (2 ^ B) *ℚ u) (times_second p r u) (times_le_times _ _ u h)))
 
-  pub placed_encloses : {B : ℕ} (e n : ℕ) (low high : List ℕ) (cells : List (Iv B))
-      → IsRound (λ s. cell w f s s) e n low high → IsPlaced B start e n low high (low_at cells) (high_at cells)
-      → Encloses (2 ^ B) n (low_at cells) (high_at cells) (compound w f)
-  placed_encloses {B} e n low high cells R Q y l =
+  pub placed_encloses : (B e step n : ℕ) (low high : List ℕ) (lo hi : ℕ → ℕ)
+      → IsRound (λ s. cell w f s s) e n low high → IsPlaced B start e step n low high lo hi
+      → Encloses (2 ^ B) n (λ k. lo (step * k)) (λ k. hi (step * k)) (compound w f)
+  placed_encloses B e step n low high lo hi R Q y l =
       let E = start.exponent in
       let T_is : 2 ^ (61 + E) ≡ 2 ^ 61 * 2 ^ E = pow-add 2 61 E in
       let X_is : 2 ^ (e + B) ≡ 2 ^ e * 2 ^ B = pow-add 2 e B in
-      let lo : low_at cells y * (2 ^ 61 * 2 ^ E) ≤ get_or low y 0 * start.low * (2 ^ e * 2 ^ B) =
-      subst₂ (λ s t. low_at cells y * s ≤ get_or low y 0 * start.low * t) T_is X_is (Q.low_end y l) in (
-        low_holds B (low_at cells y) y
+      let low_is : lo (step * y) * (2 ^ 61 * 2 ^ E) ≤ get_or low y 0 * start.low * (2 ^ e * 2 ^ B) =
+      subst₂ (λ s t. lo (step * y) * s ≤ get_or low y 0 * start.low * t) T_is X_is (Q.low_end y l) in (
+        low_holds B (lo (step * y)) y
             (low_number (2 ^ 61) (2 ^ E) (2 ^ B) (2 ^ e) (two_pos 61) (two_pos E) (two_pos B)
-            (cell w f y y) _ _ start.low lo (R.low_end y l)),
+            (cell w f y y) _ _ start.low low_is (R.low_end y l)),
         elim (Q.high_end y l) [
           | inl h ↦
-              let hi : get_or high y 0 * start.high * (2 ^ e * 2 ^ B) ≤ high_at cells y * (2 ^ 61 * 2 ^ E) =
-              subst₂ (λ s t. get_or high y 0 * start.high * t ≤ high_at cells y * s) T_is X_is h in
-              high_holds B (high_at cells y) y
+              let high_is : get_or high y 0 * start.high * (2 ^ e * 2 ^ B) ≤ hi (step * y) * (2 ^ 61 * 2 ^ E) =
+              subst₂ (λ s t. get_or high y 0 * start.high * t ≤ hi (step * y) * s) T_is X_is h in
+              high_holds B (hi (step * y)) y
               (high_number (2 ^ 61) (2 ^ E) (2 ^ B) (2 ^ e) (two_pos 61) (two_pos E) (two_pos B)
-              (cell w f y y) _ _ start.high hi (R.high_end y l))
+              (cell w f y y) _ _ start.high high_is (R.high_end y l))
           | inr h ↦ subst (AtMost (cell w f y) (λ N. sum_to N w))
               (sym (ap (λ t. t over (2 ^ B)) h ∙ over_same (2 ^ B) (2 ^ B) 1 1 (two_pos B) one_pos (omega arith)))
               (cell_at_most_one (compound w f) (compound_proper w f severity) y)

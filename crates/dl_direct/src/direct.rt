@@ -12,7 +12,7 @@ ghost use Rattle.dl_direct.specs.Start.{HoldsNoClaim};
 
 use crate::cells::START_BITS;
 use crate::first::{gamma_start, poisson_start};
-use crate::parts::amounts_of;
+use crate::parts::{amounts_of, common_amount};
 use crate::placing::place;
 use crate::slide::recur;
 use crate::start::Scaled;
@@ -32,26 +32,25 @@ struct Steps {
 }
 
 /// Whether the sums of the recursion stay in their words: the factors of a cell in 64 bits, and
-/// what it is divided by in 64 bits.
-fn fits(steps: Steps, total: u32, cells: u32) -> bool
+/// what it is divided by in 64 bits. `ratio` is `num / base` over the total of the weights.
+fn fits(steps: Steps, ratio: Frac, total: u32, cells: u32) -> bool
     requires a_small { steps.a ≤ 1 }
     requires b_small { steps.b ≤ most_shape }
-    requires num_small { steps.num < admitted_bound }
-    requires base_small { steps.base < frac_bound }
     requires total_small { total ≤ most_parts }
     requires cells_small { cells ≤ most_cells }
-    ensures factors { IsTrue result → (steps.a + steps.b) * cells * (steps.num * total) < 2 ^ 64 }
-    ensures divisors { IsTrue result → steps.base * total * cells < 2 ^ 64 }
+    ensures factors { IsTrue result → (steps.a + steps.b) * cells * (ratio.num * total) < 2 ^ 64 }
+    ensures divisors { IsTrue result → ratio.den * cells < 2 ^ 64 }
 {
     let limit: u128 = 1 << 64;
     let factors = u128::from((steps.a + steps.b) * u64::from(cells));
-    let weights = u128::from(steps.num) * u128::from(total);
-    let divisor = u128::from(steps.base) * u128::from(total);
-    factors * weights < limit && divisor * u128::from(cells) < limit
+    let weights = u128::from(ratio.num()) * u128::from(total);
+    factors * weights < limit && u128::from(ratio.den()) * u128::from(cells) < limit
 }
 
 /// The grid of the compound sum of a count whose weights step so, and whose probability of no claim
 /// is `start`; None where a number of the recursion does not fit its word, which no clause excludes.
+/// The recursion goes over the multiples of the common divisor of the amounts alone, since no other
+/// sum has a probability above 0.
 fn compound_direct<const B: u32>(
     alloc: Global,
     sev: &Sev,
@@ -75,18 +74,30 @@ fn compound_direct<const B: u32>(
         (whole steps.b *ℚ steps.num over steps.base) w
         → HoldsNoClaim w start → GridEncloses g (compound w (probability_of sev.now)))) }
 {
-    if !fits(steps, sev.total, cells) {
+    let divisor = u128::from(steps.base) * u128::from(sev.total);
+    let Ok(ratio) = Frac::make(u128::from(steps.num), divisor) else {
+        return Ok(None);
+    };
+    let step = common_amount(sev.items.as_slice());
+    let rows = (cells - 1) / step + 1;
+    if !fits(steps, ratio, sev.total, rows) {
         return Ok(None);
     }
-    let amounts = amounts_of(alloc, sev.items.as_slice(), steps.num)?;
-    let divisor = steps.base * u64::from(sev.total);
-    let x = recur(alloc, &amounts, steps.a, steps.b, divisor, cells as usize)?;
+    let amounts = amounts_of(alloc, sev.items.as_slice(), step, ratio.num())?;
+    let x = recur(
+        alloc,
+        &amounts,
+        steps.a,
+        steps.b,
+        ratio.den(),
+        rows as usize,
+    )?;
     let scale = START_BITS + u64::from(start.exponent);
     let raised = x.shift + u64::from(B);
     if raised > scale {
         return Ok(None);
     }
-    let grid = place(alloc, &x, start, scale - raised)?;
+    let grid = place(alloc, &x, start, scale - raised, step, cells)?;
     Ok(Some(grid))
 }
 

@@ -1,27 +1,30 @@
-//! The amounts of a claim with their weights in whole numbers: those that lie one bucket apart and
-//! have one weight as runs, and the others one by one.
+//! The amounts of a claim with their weights in whole numbers, in steps of the greatest common
+//! divisor of the amounts in buckets: those that lie one step apart and have one weight as runs, and
+//! the others one by one.
 
-ghost use Rattle.std.specs.Prelude.{◌≡◌, ℕ, ◌+◌, ◌*◌, ◌^◌, ◌<◌, ◌≤◌, All, IfOk, sum_by};
-ghost use Rattle.dl_plan.specs.Weighted.{weight_sum, weight_at};
+ghost use Rattle.std.specs.Prelude.{◌≡◌, ℕ, ◌+◌, ◌*◌, ◌/◌, ◌^◌, ◌<◌, ◌≤◌, All, IfOk, sum_by};
+ghost use Prim.Native.Nat.{◌∣◌};
+ghost use Rattle.dl_plan.specs.Weighted.{weight_sum, weight_at, common_amount};
 ghost use Rattle.dl_direct.specs.declared.parts.Part.{Part};
 ghost use Rattle.dl_direct.specs.Runs.{run_parts, all_parts, part_sum, part_at, ArePositiveAmounts};
 
+use dl_frac::small_divisor;
 use dl_plan::Item;
 use std::alloc::{AllocError, Global};
 
 /// An amount that a claim can have, and what its probability comes to in whole numbers.
 #[derive(Clone, Copy)]
 pub struct Part {
-    /// The amount in buckets.
+    /// The amount in steps.
     pub amount: usize,
     /// A factor common to all parts times the probability of the amount.
     pub weight: u64,
 }
 
-/// Amounts that lie one bucket apart, all of one weight.
+/// Amounts that lie one step apart, all of one weight.
 #[derive(Clone, Copy)]
 pub struct Run {
-    /// The least of them, in buckets.
+    /// The least of them, in steps.
     pub amount: usize,
     /// How many they are.
     pub count: usize,
@@ -63,30 +66,50 @@ fn add(amounts: &mut Amounts, run: Run) -> Result<(), AllocError>
     Ok(())
 }
 
-/// The run of one item alone, its weight times the factor.
-fn alone(item: Item, factor: u64) -> Run
+/// The run of one item alone, its amount in steps, its weight times the factor.
+fn alone(item: Item, step: u32, factor: u64) -> Run
+    requires apart { 0 < step }
     requires room { factor * item.weight < 2 ^ 64 }
-    ensures amount { result.amount ≡ item.amount }
+    ensures amount { result.amount ≡ item.amount / step }
     ensures count { result.count ≡ 1 }
     ensures weight { result.weight ≡ factor * item.weight }
     ensures end { result.amount < 2 ^ 32 }
 {
     Run {
-        amount: item.amount as usize,
+        amount: (item.amount / step) as usize,
         count: 1,
         weight: factor * u64::from(item.weight),
     }
 }
 
-/// The amounts of the items, which rise, each with its weight times the factor.
-pub(crate) fn amounts_of(alloc: Global, items: &[Item], factor: u64) -> Result<Amounts, AllocError>
+/// The greatest common divisor of the amounts of the items, in buckets.
+pub(crate) fn common_amount(items: &[Item]) -> u32
+    ensures { result ≡ common_amount items.now }
+{
+    let mut common = 0;
+    'items: for item in items {
+        common = small_divisor(common, item.amount);
+    }
+    common
+}
+
+/// The amounts of the items, which rise, in steps of so many buckets that each is a whole number of
+/// them, each with its weight times the factor.
+pub(crate) fn amounts_of(
+    alloc: Global,
+    items: &[Item],
+    step: u32,
+    factor: u64,
+) -> Result<Amounts, AllocError>
+    requires apart { 0 < step }
+    requires whole { All (λ item. step ∣ item.amount) items.now }
     requires room { factor * weight_sum items.now < 2 ^ 64 }
     requires no_zero { All (λ item. 0 < item.amount) items.now }
     ensures sound { IfOk result (λ amounts. ArePositiveAmounts amounts) }
     ensures sum { IfOk result (λ amounts. part_sum (all_parts amounts)
         ≡ factor * weight_sum items.now) }
     ensures each { IfOk result (λ amounts. (j : ℕ) → part_at (all_parts amounts) j
-        ≡ factor * weight_at items.now j) }
+        ≡ factor * weight_at items.now (step * j)) }
 {
     let mut amounts = Amounts {
         parts: Vec::new(alloc),
@@ -98,7 +121,7 @@ pub(crate) fn amounts_of(alloc: Global, items: &[Item], factor: u64) -> Result<A
         weight: 0,
     };
     'items: for item in items {
-        let next = alone(*item, factor);
+        let next = alone(*item, step, factor);
         if next.amount == run.amount + run.count && next.weight == run.weight {
             run.count += 1;
         } else {

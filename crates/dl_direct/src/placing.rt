@@ -43,34 +43,40 @@ fn narrow_high(a: u64, b: u64, down: u64, one: u128) -> u128
     if x > one { one } else { x }
 }
 
-/// The grid of the cells, each times the probability of no claim, by `down` bits down. A low end is
-/// lowered to its high end, and to what the low ends before it leave of 1.
+/// The grid of `cells` cells that has each cell of the recursion times the probability of no claim,
+/// by `down` bits down, `step` cells apart, and 0 between. A low end is lowered to its high end, and
+/// to what the low ends before it leave of 1.
 pub(crate) fn place<const B: u32>(
     alloc: Global,
     x: &Slid,
     start: Scaled,
     down: u64,
+    step: u32,
+    cells: u32,
 ) -> Result<Grid<B>, AllocError>
-    requires size { IsGridSize B (length x.now.low.items) }
+    requires size { IsGridSize B cells }
+    requires apart { 0 < step }
+    requires within { step * length x.now.low.items < cells + step }
     requires settled { AreSlideCells x.now.low.items x.now.high.items x.now.first }
     requires low_small { start.low ≤ most_start }
     requires high_small { start.high ≤ most_start }
     requires scale { start_bits + start.exponent ≡ down + (x.now.shift + B) }
-    ensures cells { IfOk result (λ g. length g ≡ length x.now.low.items) }
-    ensures placed { IfOk result (λ g. IsPlaced B start x.now.shift (length x.now.low.items)
+    ensures cells { IfOk result (λ g. length g ≡ cells) }
+    ensures placed { IfOk result (λ g. IsPlaced B start x.now.shift step (length x.now.low.items)
         x.now.low.items x.now.high.items (low_at g) (high_at g)) }
 {
-    let mut lows = Vec::with_capacity(alloc, x.low.len())?;
-    let mut highs = Vec::with_capacity(alloc, x.low.len())?;
+    let mut lows = Vec::from_elem(alloc, 0, cells as usize)?;
+    let mut highs = Vec::from_elem(alloc, 0, cells as usize)?;
     let one = units_of_one(B);
     let mut room = one;
-    'cells: for i in 0..x.low.len() {
+    'rows: for i in 0..x.low.len() {
         let high = narrow_high(x.high[i], start.high, down, one);
         let most = high.min(room);
         let low = narrow_low(x.low[i], start.low, down, one).min(most);
         room -= low;
-        lows.push(low)?;
-        highs.push(high)?;
+        let at = step as usize * i;
+        lows[at] = low;
+        highs[at] = high;
     }
     Ok(Grid::from_ends(lows, highs))
 }

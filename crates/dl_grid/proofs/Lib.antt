@@ -1,5 +1,6 @@
 mod Common
 pub mod Room
+pub mod Sizes
 pub mod CellLaws
 pub mod EndLists
 pub mod CellSets

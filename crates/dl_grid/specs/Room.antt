@@ -2,7 +2,7 @@
 use Rattle.std.specs.Prelude.{ℕ, ◌*◌, ◌^◌, ◌≤◌}
 use Rattle.dl_limits.specs.Limits.{most_cells_at}
 
--- a grid whose ends are in units of 1 / 2^B may have so many cells
+-- a grid whose ends are in units of 1 / 2^B may have so many cells: more at a coarser scale
 pub record IsGridSize (B cells : ℕ) : Type 0 where
   pub scale_above : 1 ≤ B
   pub scale_below : B ≤ 56

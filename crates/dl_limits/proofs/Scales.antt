@@ -1,7 +1,8 @@
--- The scale of a plan's grid.
+-- The scale of a plan's grid, and what is allowed at it.
 use Rattle.std.proofs.Common.{ℕ, ◌≡◌, ◌≤◌, arith, inl, inr, refl}
 use Rattle.std.proofs.lemmas.Bool.Decides.{leb_tells}
-use Rattle.dl_limits.specs.Limits.{most_short_cells, short_bits, bits_of, IsPlanScale}
+use Rattle.dl_limits.specs.Limits.{most_short_cells, short_bits, long_bits, bits_of, IsPlanScale}
+use Rattle.dl_limits.specs.Limits.{most_cells, most_fine_cells, most_cells_at, most_amount, most_amount_at, most_horizon}
 
 pub is_plan_scale : (cells : ℕ) → IsPlanScale (bits_of cells)
 unfolding bits_of
@@ -15,4 +16,28 @@ unfolding bits_of
 bits_of_short cells few = elim (leb_tells cells most_short_cells) [
   | inl short ↦ rw short.0 refl
   | inr long ↦ absurd (omega (arith, few, long.1))
+]
+
+-- a grid has room for each cell of its plan
+pub cells_fit : (cells : ℕ) → cells ≤ most_cells → cells ≤ most_horizon cells
+unfolding bits_of most_cells_at
+cells_fit cells few = elim (leb_tells cells most_short_cells) [
+  | inl short ↦ rw short.0 (omega (arith, short.1))
+  | inr long ↦ rw long.0 few
+]
+
+-- the horizon of a clause lies within any grid
+pub horizon_fits : (cells : ℕ) → most_horizon cells ≤ most_cells
+unfolding bits_of most_cells_at
+horizon_fits cells = elim (leb_tells cells most_short_cells) [
+  | inl short ↦ rw short.0 (omega arith)
+  | inr long ↦ rw long.0 (omega arith)
+]
+
+-- no plan has greater amounts
+pub amount_fits : (cells : ℕ) → most_amount_at cells ≤ most_amount
+unfolding most_amount_at
+amount_fits cells = elim (leb_tells cells most_short_cells) [
+  | inl short ↦ rw short.0 (omega arith)
+  | inr long ↦ rw long.0 (omega arith)
 ]

@@ -5,11 +5,11 @@ use Rattle.std.specs.Prelude.{ℕ, ◌*◌, ◌^◌, ◌≤◌, nat_le, if◌the
 
 -- a plan's grid has 2 to the power of at most this many cells
 abbrev pub most_log2 : ℕ
-most_log2 = 12
+most_log2 = 16
 
 -- so many at most
 abbrev pub most_plan_cells : ℕ
-most_plan_cells = 4096
+most_plan_cells = 65536
 
 -- a plan's grid of at most so many cells has the finer of the two scales
 abbrev pub most_short_cells : ℕ
@@ -34,19 +34,31 @@ pub record IsPlanScale (bits : ℕ) : Type 0 where
 
 -- the cells of any grid: the horizon of a clause may lie past the plan's grid
 abbrev pub most_cells : ℕ
-most_cells = 16384
+most_cells = 65536
 
--- the cells of a grid with ends in units of 1 over 2 to the power `bits`: as many at each scale
-abbrev pub most_cells_at : ℕ → ℕ
-most_cells_at bits = most_cells
+-- those of a grid at the finer scale
+abbrev pub most_fine_cells : ℕ
+most_fine_cells = 16384
+
+-- the cells of a grid with ends in units of 1 over 2 to the power `bits`
+unfoldable pub most_cells_at : ℕ → ℕ
+most_cells_at bits = if nat_le bits long_bits then most_cells else most_fine_cells
 
 -- the horizon of a clause, in a plan with a grid of so many cells
 abbrev pub most_horizon : ℕ → ℕ
 most_horizon cells = most_cells_at (bits_of cells)
 
--- an amount, a limit or an attachment, in buckets
+-- an amount, a limit or an attachment, in buckets, in any plan
 abbrev pub most_amount : ℕ
-most_amount = 2 ^ 20
+most_amount = 2 ^ 22
+
+-- the same in a plan with a grid of at most `most_short_cells` cells
+abbrev pub most_short_amount : ℕ
+most_short_amount = 2 ^ 20
+
+-- an amount, a limit or an attachment, in buckets, in a plan with a grid of so many cells
+unfoldable pub most_amount_at : ℕ → ℕ
+most_amount_at cells = if nat_le cells most_short_cells then most_short_amount else most_amount
 
 -- a fixed or listed number of claims, and a number of trials
 abbrev pub most_claims : ℕ
@@ -125,24 +137,24 @@ frac_bound = 2 ^ 62
 abbrev pub sum_bound : ℕ
 sum_bound = 2 ^ 40
 
--- the budget of a unit's claims, in units of 1 / 2^56
+-- the budget of a unit's claims, in units of the scale
 abbrev pub most_claims_budget : ℕ
-most_claims_budget = 2 ^ 34
+most_claims_budget = 22 * 2 ^ 30
 
 -- the budget of a sum of units is below this
 abbrev pub budget_bound : ℕ
 budget_bound = 2 ^ 40
 
--- ---- how wide an answer can be, in units of 1 / 2^56
+-- ---- how wide an answer can be, in units of the scale
 
 -- the operands of a power, of a listed count or of halvings, each with its roundings, all together:
 -- what they come to is then at most the greatest budget of a unit's claims
 abbrev pub most_operands : ℕ
-most_operands = 15 * 2 ^ 30
+most_operands = 21 * 2 ^ 30
 
 -- a unit after its aggregate clause
 abbrev pub most_unit_budget : ℕ
-most_unit_budget = 2 ^ 35
+most_unit_budget = 44 * 2 ^ 30
 
 -- the mean of the total
 abbrev pub most_mean_budget : ℕ

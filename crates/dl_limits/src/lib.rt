@@ -2,8 +2,11 @@
 //! once, in `specs/Limits.antt`, and here those that code compares with.
 #![tactic(auto)]
 
+ghost use Rattle.std.specs.Prelude.{◌≡◌};
+ghost use Rattle.dl_limits.specs.Limits.{bits_of, most_amount_at, most_cells_at, most_horizon};
+
 /// A plan's grid has 2 to the power of at most this many cells.
-pub const MOST_LOG2: u32 = 12;
+pub const MOST_LOG2: u32 = 16;
 
 /// The ends of a plan's grid of at most 4,096 cells are in units of 1 over 2 to this power.
 pub const SHORT_BITS: u32 = 56;
@@ -11,11 +14,20 @@ pub const SHORT_BITS: u32 = 56;
 /// Those of a longer one are in units of 1 over 2 to this power.
 pub const LONG_BITS: u32 = 48;
 
-/// The most cells of any grid.
-pub const MOST_CELLS: u32 = 16_384;
+/// The most cells of a plan's grid whose ends are in units of 1 over 2 to the power `SHORT_BITS`.
+pub const MOST_SHORT_CELLS: u32 = 4_096;
 
-/// The greatest amount, limit or attachment, in buckets.
-pub const MOST_AMOUNT: u32 = 1 << 20;
+/// The most cells of any grid.
+pub const MOST_CELLS: u32 = 65_536;
+
+/// The most cells of a grid at a finer scale than that of long grids.
+pub const MOST_FINE_CELLS: u32 = 16_384;
+
+/// The greatest amount, limit or attachment of any plan, in buckets.
+pub const MOST_AMOUNT: u32 = 1 << 22;
+
+/// The same in a plan whose grid has at most `MOST_SHORT_CELLS` cells.
+pub const MOST_SHORT_AMOUNT: u32 = 1 << 20;
 
 /// The greatest fixed or listed number of claims, and the most trials.
 pub const MOST_CLAIMS: u32 = 65_536;
@@ -65,8 +77,33 @@ pub const FRAC_BOUND: u128 = 1 << 62;
 /// The greatest common denominator of fractions that are used together.
 pub const MOST_PARTS: u64 = 1 << 30;
 
-/// The budget of a sum of units is below this, in units of 1 / 2^56.
+/// The budget of a sum of units is below this, in units of the scale.
 pub const BUDGET_BOUND: u128 = 1 << 40;
+
+/// The greatest amount, limit or attachment, in buckets, in a plan whose grid has `cells` cells.
+#[tactic(auto, unfolding(crate::specs::Limits::most_amount_at))]
+pub fn most_amount(cells: u32) -> u32
+    ensures most { result ≡ most_amount_at cells }
+{
+    if cells <= MOST_SHORT_CELLS {
+        MOST_SHORT_AMOUNT
+    } else {
+        MOST_AMOUNT
+    }
+}
+
+/// The greatest horizon of a clause, in cells, in a plan whose grid has `cells` cells: as many as a
+/// grid at the plan's scale may have.
+#[tactic(auto, unfolding(crate::specs::Limits::bits_of, crate::specs::Limits::most_cells_at))]
+pub fn most_horizon(cells: u32) -> u32
+    ensures most { result ≡ most_horizon cells }
+{
+    if cells <= MOST_SHORT_CELLS {
+        MOST_FINE_CELLS
+    } else {
+        MOST_CELLS
+    }
+}
 
 /// The greatest end of a cell of the one recursion of a unit's mean.
 pub const MOST_END: u128 = 1 << 62;

@@ -50,6 +50,7 @@ pub mod PlanUnits
 pub mod PlanMeans
 pub mod PlanThin
 pub mod Multiples
+pub mod Stretched
 pub mod ClauseMeans
 pub mod SharedClaims
 pub mod Pooled

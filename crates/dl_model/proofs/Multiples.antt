@@ -10,16 +10,16 @@ use Rattle.dl_exact.proofs.Parts.{whole_num, whole_den}
 use Rattle.dl_model.proofs.WeightLaws.{part_of}
 
 -- the common divisor of d and the amounts
-abbrev divisor_from : ℕ → List Item → ℕ
+abbrev pub divisor_from : ℕ → List Item → ℕ
 divisor_from d items = fold (λ d item. gcd d item.amount) d items
 
-divides_start : (d : ℕ) (items : List Item) → divisor_from d items ∣ d
+pub divides_start : (d : ℕ) (items : List Item) → divisor_from d items ∣ d
 divides_start d [] = dvd_refl d
 divides_start d (x ∷ xs) =
     dvd_trans (divisor_from (gcd d x.amount) xs) (divides_start (gcd d x.amount) xs) (gcd_is d x.amount).0
 
 -- an amount that it does not divide is not there
-no_weight_between : (items : List Item) (d j : ℕ) → ¬ (divisor_from d items ∣ j) → weight_at items j ≡ 0
+pub no_weight_between : (items : List Item) (d j : ℕ) → ¬ (divisor_from d items ∣ j) → weight_at items j ≡ 0
 no_weight_between [] d j h = refl
 no_weight_between (x ∷ xs) d j h =
     let e : divisor_from (gcd d x.amount) xs ∣ x.amount =

@@ -1,7 +1,7 @@
 -- How far the map of a reinsurance clause goes before it has reached a grid, or stays as it is.
 use Rattle.std.specs.Prelude.{ℕ, ◌≡◌, ◌+◌, ◌<◌, ◌≤◌, ◌⊎◌, ◌-◌, ◌*◌, ◌==◌, if◌then◌else◌, max, Option, Some, None, List, fold}
 use Rattle.std.specs.Int.{div_ceil}
-use Rattle.dl_limits.specs.Limits.{most_cells}
+use Rattle.dl_limits.specs.Limits.{most_horizon}
 use Rattle.dl_exact.specs.Fraction.{whole, ◌≤ℚ◌}
 use Rattle.dl_plan.specs.declared.cede.CedeLayer.{CedeLayer}
 use Rattle.dl_plan.specs.Clause.{Clause, kept}
@@ -53,6 +53,6 @@ horizon (Some clause) h =
     let there : ℕ = kept_parts clause common last in
     last + buckets_behind (h * common - there) (kept_parts clause common (last + 1) - there)
 
--- the horizon passes 16,384
+-- the horizon of sums on h cells passes 16,384 where h is at most 4,096, or else 65,536
 abbrev pub HorizonPasses : Option Clause → ℕ → Type 0
-HorizonPasses clause h = (k : ℕ) × IsHorizonOf clause h k × (most_cells < k)
+HorizonPasses clause h = (k : ℕ) × IsHorizonOf clause h k × (most_horizon h < k)

@@ -22,7 +22,7 @@ pub record IsLevel (p : Fraction) : Type 0 where
 abbrev pub HasLevel : Ask → Type 0
 HasLevel ask = IfSome (facts_of ask).level IsLevel
 
--- a bucket size; from 2 to 4,096 cells; from 1 to 9 digits; widths of at least 1; and at most 256
+-- a bucket size; from 2 to 65,536 cells; from 1 to 9 digits; widths of at least 1; and at most 256
 -- asks
 pub record AreInRange (settings : Settings) : Type 0 where
   pub bucket : IsBucket settings.bs

@@ -1,6 +1,6 @@
 -- What a valid plan is.
 use Rattle.std.specs.Prelude.{ℕ, ◌≡◌, ◌≢◌, ◌*◌, ◌≤◌, ◌^◌, None, IfSome, length, All, AllPairs}
-use Rattle.dl_limits.specs.Limits.{most_amount, most_cells, most_expected, most_items, most_log2, most_units}
+use Rattle.dl_limits.specs.Limits.{most_amount_at, most_expected, most_horizon, most_items, most_log2, most_units}
 use Rattle.dl_exact.specs.Fraction.{Fraction, whole, ◌-ℚ◌, ◌*ℚ◌, ◌≤ℚ◌, ◌<ℚ◌}
 use Rattle.dl_plan.specs.declared.cede.CedeLayer.{CedeLayer}
 use Rattle.dl_plan.specs.declared.severity.Sev.{Sev}
@@ -22,22 +22,23 @@ declared_mean u = expected_count u.freq *ℚ mean_amount (pairs_of u.sev)
 abbrev pub thinned_mean : UnitOfPlan → Fraction
 thinned_mean u = expected_count u.freq *ℚ (whole 1 -ℚ probability_of u.sev 0)
 
--- limit and attachment are at most 2^20 buckets
-pub record IsWithinMostAmount (l : CedeLayer) : Type 0 where
-  pub limit : IfSome l.limit (λ limit. limit ≤ most_amount)
-  pub attach : l.attach ≤ most_amount
+-- limit and attachment are at most 2^20 buckets where the grid has up to 4,096 cells, else 2^22
+pub record IsWithinMostAmount (cells : ℕ) (l : CedeLayer) : Type 0 where
+  pub limit : IfSome l.limit (λ limit. limit ≤ most_amount_at cells)
+  pub attach : l.attach ≤ most_amount_at cells
 
 -- an aggregate clause over sums of this severity: it maps each multiple of the greatest common
--- divisor of the amounts to a whole number, and its horizon is at most 16,384
+-- divisor of the amounts to a whole number, and its horizon is at most 16,384 where the grid has up
+-- to 4,096 cells, else 65,536
 pub record IsAggregate (cells : ℕ) (sev : Sev) (clause : Clause) : Type 0 where
   pub accepted : IsClause clause
-  pub near : All IsWithinMostAmount clause.1
+  pub near : All (IsWithinMostAmount cells) clause.1
   pub whole : (n : ℕ) → IsWhole (kept clause (n * common_amount sev.items))
-  pub horizon : (k : ℕ) × IsHorizon clause cells k × (k ≤ most_cells)
+  pub horizon : (k : ℕ) × IsHorizon clause cells k × (k ≤ most_horizon cells)
 
--- a unit of a valid plan; its probability of no claim is not changed
+-- a unit of a valid plan with a grid of so many cells; its probability of no claim is not changed
 pub record IsValidUnit (cells : ℕ) (u : UnitOfPlan) : Type 0 where
-  pub amounts : All (λ item. item.amount ≤ most_amount) u.sev.items
+  pub amounts : All (λ item. item.amount ≤ most_amount_at cells) u.sev.items
   pub items : ¬ IsUnbounded u.freq → length u.sev.items ≤ most_items
   pub count : IsClaimCount u.freq
   pub expected : HasPartsOf48Bits (expected_count u.freq)
@@ -46,7 +47,7 @@ pub record IsValidUnit (cells : ℕ) (u : UnitOfPlan) : Type 0 where
   pub clause : IfSome u.cede (IsAggregate cells u.sev)
   pub zero : u.zero ≡ None
 
--- a bucket size above 0, a power of two from 2 to 4,096 cells, and 1 to 16 valid units with
+-- a bucket size above 0, a power of two from 2 to 65,536 cells, and 1 to 16 valid units with
 -- different names, which share no factor
 pub record IsValid (plan : Plan) : Type 0 where
   pub bucket : whole 0 <ℚ plan.bs

@@ -77,7 +77,7 @@ pub struct Settings {
     pub make: Option<u32>,
     /// The bucket size, in money, above 0.
     pub bs: Frac,
-    /// The grid has 2 to this power cells, from 1 to 12.
+    /// The grid has 2 to this power cells, from 1 to 16.
     pub log2: u32,
     /// How many digits stand behind the point, from 1 to 9.
     pub digits: u32,

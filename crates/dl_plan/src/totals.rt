@@ -6,7 +6,7 @@ ghost use Rattle.dl_plan.specs.Weighted.{weight_sum, weighted_sum, greatest};
 
 use crate::item::Item;
 
-/// The sum of amount times weight, for amounts of at most 2^20 and weights that sum to at most
+/// The sum of amount times weight, for amounts of at most 2^22 and weights that sum to at most
 /// 2^30.
 pub fn weighted_sum(items: &[Item]) -> u64
     requires near { All (λ item. item.amount ≤ most_amount) items.now }

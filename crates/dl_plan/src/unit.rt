@@ -2,7 +2,7 @@
 
 ghost use Rattle.std.specs.Prelude.{◌≡◌, ◌<◌, ◌≤◌, ◌^◌, All, length, IfSome, MatchOption};
 ghost use Rattle.std.specs.List.Sorted.{IsStrictlyIncreasing};
-ghost use Rattle.dl_limits.specs.Limits.{most_amount, most_cells};
+ghost use Rattle.dl_limits.specs.Limits.{most_amount, most_horizon};
 ghost use Rattle.dl_exact.specs.Fraction.{whole, ◌over◌, ◌-ℚ◌, ◌*ℚ◌};
 ghost use Rattle.dl_plan.specs.Fine.{HasPartsOf48Bits};
 ghost use Rattle.dl_plan.specs.Weighted.{amounts_of, weight_at};
@@ -17,7 +17,7 @@ use crate::plan::{Freq, Unit};
 use crate::severity::Sev;
 use crate::totals::weighted_sum;
 use dl_frac::Frac;
-use dl_limits::MOST_CELLS;
+use dl_limits::most_horizon;
 
 impl Freq {
     /// The expected number of claims, of a count of a valid plan.
@@ -89,18 +89,18 @@ impl Unit {
 
     /// The horizon of the unit's sums on so many cells: the cells without an aggregate clause; else
     /// the greatest of 1, each edge of the clause, and the least sum at which what it keeps has
-    /// reached the cells, or is constant from there on. `None` exactly where it passes 16,384.
-    /// Takes no memory.
+    /// reached the cells, or is constant from there on. `None` exactly where it passes 16,384, for
+    /// at most 4,096 cells, or 65,536, for more. Takes no memory.
     pub fn horizon(&self, cells: u32) -> Option<u32>
         requires { IfSome self.now.cede IsClause }
         ensures { MatchOption result (HorizonPasses self.now.cede cells)
-            (λ k. IsHorizonOf self.now.cede cells k × (k ≤ most_cells)) }
+            (λ k. IsHorizonOf self.now.cede cells k × (k ≤ most_horizon cells)) }
     {
         let horizon = match &self.cede {
             Some(cede) => cede.horizon(cells),
             None => cells as u128,
         };
-        if horizon <= u128::from(MOST_CELLS) {
+        if horizon <= u128::from(most_horizon(cells)) {
             Some(horizon as u32)
         } else {
             None

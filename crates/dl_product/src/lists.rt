@@ -17,6 +17,9 @@ const PRODUCTS_A_STEP: usize = 8;
 /// item at one level of the transform of a square: measured.
 const SQUARES_A_STEP: usize = 10;
 
+/// Two lists of at most 65,536 items fit a transform of 2 to the power of so many items.
+const MOST_LEVELS: u32 = 17;
+
 /// The levels of the transform that multiplies two lists, where it takes less time than the
 /// products of their items for the first `count` places do, of which `rate` are as long as one step
 /// of it.
@@ -24,11 +27,11 @@ fn levels_if_shorter(first: usize, second: usize, count: usize, rate: usize) -> 
     requires first { first ≤ most_cells }
     requires second { second ≤ most_cells }
     requires rate { rate ≤ 1000 }
-    ensures { IfSome result (λ levels. levels ≤ 15) }
+    ensures { IfSome result (λ levels. levels ≤ 17) }
 {
     let left_out = (first + second).saturating_sub(count);
     let products = (first * second).saturating_sub(left_out * left_out / 2);
-    let levels = levels_for(first + second, 15);
+    let levels = levels_for(first + second, MOST_LEVELS);
     let steps = (levels as usize) << levels;
     if products > rate * steps {
         Some(levels)

@@ -1,6 +1,5 @@
 -- Values in money as whole numbers of buckets.
 use Rattle.std.specs.Prelude.{ℕ, ◌≡◌, ◌<◌, ◌≤◌, ◌^◌, ⊤, List, length, map, All, slice_index_or}
-use Rattle.dl_limits.specs.Limits.{most_amount}
 use Rattle.dl_exact.specs.Fraction.{Fraction, whole, ◌/ℚ◌, ◌<ℚ◌}
 use Rattle.dl_plan.specs.Fine.{IsWhole}
 use Rattle.dl_sev.specs.declared.fault.AmountFault.{AmountFault}
@@ -21,14 +20,14 @@ pub record IsFirstWhere (P : Fraction → Type 0) (xs : List Fraction) (i : ℕ)
   pub here : (d : Fraction) → P (slice_index_or xs i d)
   pub before : (k : ℕ) (d : Fraction) → k < i → ¬ P (slice_index_or xs k d)
 
--- the amounts are the values in buckets, each at most 2^20
-pub record AreInBuckets (values : List Fraction) (bs : Fraction) (made : List ℕ) : Type 0 where
+-- the amounts are the values in buckets, each at most top
+pub record AreInBuckets (values : List Fraction) (bs : Fraction) (top : ℕ) (made : List ℕ) : Type 0 where
   pub same : map whole made ≡ map (buckets bs) values
-  pub near : All (λ amount. amount ≤ most_amount) made
+  pub near : All (λ amount. amount ≤ top) made
 
--- the first value that is no whole number of buckets; else the first above 2^20 of them
-abbrev pub RefusesAmounts : List Fraction → Fraction → AmountFault → Type 0
-RefusesAmounts values bs (OffGrid i) = IsFirstWhere (λ x. ¬ IsWhole (buckets bs x)) values i
-RefusesAmounts values bs (TooFar i) = All (λ x. IsWhole (buckets bs x)) values
-    × IsFirstWhere (λ x. whole most_amount <ℚ buckets bs x) values i
-RefusesAmounts values bs OutOfMemory = ⊤
+-- the first value that is no whole number of buckets; else the first above top of them
+abbrev pub RefusesAmounts : List Fraction → Fraction → ℕ → AmountFault → Type 0
+RefusesAmounts values bs top (OffGrid i) = IsFirstWhere (λ x. ¬ IsWhole (buckets bs x)) values i
+RefusesAmounts values bs top (TooFar i) = All (λ x. IsWhole (buckets bs x)) values
+    × IsFirstWhere (λ x. whole top <ℚ buckets bs x) values i
+RefusesAmounts values bs top OutOfMemory = ⊤

@@ -1,7 +1,7 @@
 //! Values in money as whole numbers of buckets.
 
 ghost use Rattle.std.specs.Prelude.{◌≡◌, ◌≤◌, ◌^◌, ◌<◌, ℕ, map, All, length, slice_index_or, IfOk, IfErr, IfSome, IfNone, IsTrue, ◌↔◌, MatchResult};
-ghost use Rattle.dl_limits.specs.Limits.{most_values};
+ghost use Rattle.dl_limits.specs.Limits.{most_amount, most_values};
 ghost use Rattle.dl_exact.specs.Fraction.{Fraction, whole, ◌<ℚ◌};
 ghost use Rattle.dl_plan.specs.Fine.{IsWhole};
 ghost use Rattle.dl_sev.specs.Buckets.{HasPartsOf18Digits, IsFirstWhere, AreInBuckets, RefusesAmounts, buckets};
@@ -9,19 +9,19 @@ ghost use Rattle.dl_sev.specs.Buckets.{HasPartsOf18Digits, IsFirstWhere, AreInBu
 use crate::fault::AmountFault;
 use crate::list::put;
 use dl_frac::Frac;
-use dl_limits::MOST_AMOUNT;
 use std::alloc::Global;
 
 /// The values over `bs`, which is above 0, as whole numbers of buckets. `OffGrid` with the place of
-/// the first that is not whole; else `TooFar` with that of the first above 2^20. There are at most
-/// 1,024 values, and the parts of each and of `bs` are below 10^18.
-pub fn amounts(alloc: Global, values: &[Frac], bs: Frac) -> Result<Vec<u32>, AmountFault>
+/// the first that is not whole; else `TooFar` with that of the first above `top`, which is at most
+/// 2^22. There are at most 1,024 values, and the parts of each and of `bs` are below 10^18.
+pub fn amounts(alloc: Global, values: &[Frac], bs: Frac, top: u32) -> Result<Vec<u32>, AmountFault>
     requires bucket { whole 0 <ℚ bs }
     requires modest { HasPartsOf18Digits bs }
     requires count { length values.now ≤ most_values }
     requires parts { All HasPartsOf18Digits values.now }
-    ensures { MatchResult result (λ made. AreInBuckets values.now bs made.items)
-        (RefusesAmounts values.now bs) }
+    requires top { top ≤ most_amount }
+    ensures { MatchResult result (λ made. AreInBuckets values.now bs top made.items)
+        (RefusesAmounts values.now bs top) }
 {
     if let Some(at) = first_off_grid(values, bs) {
         return Err(AmountFault::OffGrid(at));
@@ -29,7 +29,7 @@ pub fn amounts(alloc: Global, values: &[Frac], bs: Frac) -> Result<Vec<u32>, Amo
     let mut made = Vec::new(alloc);
     'values: for (at, &value) in values.iter().enumerate() {
         let amount = quotient(value, bs);
-        if amount > MOST_AMOUNT as u128 {
+        if amount > top as u128 {
             return Err(AmountFault::TooFar(at as u32));
         }
         put(&mut made, amount as u32)?;

@@ -100,8 +100,8 @@ pub enum AmountFault {
     /// The value at this place is no whole number of buckets.
     #[error("value {0} is no whole number of buckets")]
     OffGrid(u32),
-    /// The value at this place passes 2^20 buckets.
-    #[error("value {0} passes 2^20 buckets")]
+    /// The value at this place passes the greatest amount.
+    #[error("value {0} passes the greatest amount")]
     TooFar(u32),
     /// The items found no room.
     #[error("out of memory")]

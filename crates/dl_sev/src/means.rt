@@ -7,7 +7,7 @@ ghost use Rattle.dl_plan.specs.Severity.{pairs_of, mean_amount};
 use dl_frac::Frac;
 use dl_plan::{Sev, weighted_sum};
 
-/// The mean of the severity, in buckets; its amounts are at most 2^20.
+/// The mean of the severity, in buckets; its amounts are at most 2^22.
 pub fn mean(sev: &Sev) -> Frac
     requires { All (λ item. item.amount ≤ most_amount) sev.now.items }
     ensures { result ≡ mean_amount (pairs_of sev.now) }

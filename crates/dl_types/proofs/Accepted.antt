@@ -1,5 +1,8 @@
 -- A program that breaks no rule has a plan.
-use Rattle.dl_types.proofs.Common.{ℕ, zero, suc, ◌≡◌, ◌∙◌, ◌<◌, ◌≤◌, List, [], ◌∷◌, ◌++◌, length, take, get_or, None, refl, sym, ap, subst, arith, Ok, All, All-nil, most_units, Plan, Settings, IsValidUnit, UnitAst, Program, IsWellFormed, in_turn, expected_claims, cells_asked, fault_of_lists, fault_on_grid, first_fault_of, first_fault, AnswersUnit, AnswersUnits, aggregate_clause, GridUnit, IsGridUnit, too_many_units, IsSet, else_first, else_second, agr_layered}
+use Rattle.dl_types.proofs.Common.{ℕ, zero, suc, ◌≡◌, ◌∙◌, ◌<◌, ◌≤◌, List, [], ◌∷◌, ◌++◌, length, take, get_or, None, refl, sym, ap, subst, arith, Ok, All, All-nil, most_units, Plan, Settings, IsValidUnit, UnitAst, Program, IsWellFormed, in_turn, expected_claims, cells_asked, fault_of_lists, fault_on_grid, first_fault_of, first_fault, AnswersUnit, AnswersUnits, aggregate_clause, GridUnit, IsGridUnit, too_many_units, IsSet, else_first, else_second, agr_layered, most_amount_at}
+use Rattle.dl_limits.specs.Limits.{most_amount}
+use Rattle.dl_limits.proofs.Scales.{amount_fits}
+use Rattle.dl_amounts.specs.GridKept.{IsWithin}
 use Rattle.std.proofs.Common.{add-one}
 use Rattle.dl_plan.specs.declared.plan.Unit.{Unit as UnitOfPlan}
 use Rattle.dl_plan.specs.Valid.{IsValid}
@@ -14,7 +17,7 @@ use Rattle.dl_read.specs.Read.{read_of, IsReadable}
 use Rattle.dl_read.proofs.ReadUnits.{read_is}
 use Rattle.dl_amounts.proofs.Turns.{turn_start}
 use Rattle.dl_amounts.proofs.ClauseLaws.{turn_none}
-use Rattle.dl_amounts.proofs.GridUnits.{grid_is}
+use Rattle.dl_amounts.proofs.GridUnits.{grid_is, within_is}
 use Rattle.dl_amounts.proofs.SevThere.{final_there}
 use Rattle.dl_types.proofs.Aggregates.{clause_there}
 use Rattle.dl_types.proofs.PlannedCounts.{count_there}
@@ -34,14 +37,14 @@ module _ (settings : Settings) (before : List UnitAst) (u : UnitAst) (formed : I
   abbrev g : GridUnit
   g = grid_of settings.bs r
 
-  groups : (fault_of_lists before u ≡ None) × (fault_of_money settings.bs unit r ≡ None)
+  groups : (fault_of_lists before u ≡ None) × (fault_of_money settings unit r ≡ None)
       × (fault_on_grid settings unit g ≡ None)
   unfolding first_fault_of
   groups =
       let rest = else_second (fault_of_lists before u) _ none in (
         else_first (fault_of_lists before u) _ none,
-        else_first (fault_of_money settings.bs unit r) _ rest,
-        else_second (fault_of_money settings.bs unit r) _ rest,
+        else_first (fault_of_money settings unit r) _ rest,
+        else_second (fault_of_money settings unit r) _ rest,
       )
 
   lists : (fault_of_reading unit u ≡ None) × (lengths_differ r ≡ None) × (not_one r ≡ None)
@@ -59,11 +62,23 @@ module _ (settings : Settings) (before : List UnitAst) (u : UnitAst) (formed : I
       let c = both unit rules.BadRange _ _ b.1 in
       record { numerals = b.0; ranges = c.0; short = only unit rules.ListTooLong _ c.1 }
 
+  abbrev most : ℕ
+  most = most_amount_at (cells_asked settings)
+
+  small : most ≤ most_amount
+  small = amount_fits (cells_asked settings)
+
   grid : IsGridUnit g
   unfolding fault_of_money
   grid =
       let a = both unit rules.OffGrid _ _ groups.1 in
-      grid_is settings.bs r (read_is u formed readable) lists.1 lists.2 a.0 (only unit rules.TooFar _ a.1)
+      grid_is most settings.bs r small (read_is u formed readable) a.0 (only unit rules.TooFar _ a.1) lists.1 lists.2
+
+  within : IsWithin most g
+  unfolding fault_of_money
+  within =
+      let a = both unit rules.OffGrid _ _ groups.1 in
+      within_is most settings.bs r small (read_is u formed readable) a.0 (only unit rules.TooFar _ a.1)
 
   pub unit_there : (made : UnitOfPlan) × AnswersUnit settings before u (Ok made)
   unit_there =
@@ -79,7 +94,7 @@ module _ (settings : Settings) (before : List UnitAst) (u : UnitAst) (formed : I
         cede = aggregate_clause g.agr;
         zero = None;
       } in
-      let answer = grid_answer settings unit g grid groups.2 u.name.text made refl refl
+      let answer = grid_answer settings unit g grid within groups.2 u.name.text made refl refl
       (record { means = sev.1; near = sev.2; few = sev.3 }) freq.1 clause in
       (made, (none, answer.1, answer.2))
 

@@ -1,7 +1,8 @@
 -- An aggregate clause that breaks no rule is one of a valid plan.
-use Rattle.dl_types.proofs.Common.{◌≡◌, ℕ, ◌≤◌, true, Option, Some, None, refl, sym, subst, All, IfSome, ltb-false, All-map, most_cells, Sev, Means, Clause, IsClause, horizon, horizon_is, not_at, GridClause, GridUnit, clause_of, has_shares, off_grid_cession, final_severity, aggregate_clause, IsCedeOf, horizon_too_large}
+use Rattle.dl_types.proofs.Common.{◌≡◌, ℕ, ◌≤◌, true, Option, Some, None, refl, sym, subst, All, IfSome, ltb-false, All-map, most_horizon, most_amount_at, Sev, Means, Clause, IsClause, horizon, horizon_is, not_at, GridClause, GridUnit, clause_of, has_shares, off_grid_cession, final_severity, aggregate_clause, IsCedeOf, horizon_too_large}
 use Rattle.dl_plan.specs.Valid.{IsWithinMostAmount, IsAggregate}
 use Rattle.dl_amounts.specs.Clauses.{ceded_layer}
+use Rattle.dl_amounts.specs.GridKept.{IsClauseWithin, IsWithin}
 use Rattle.dl_amounts.specs.ClausesKept.{IsClauseLayered}
 use Rattle.dl_amounts.proofs.ClauseLaws.{made_cession}
 use Rattle.dl_types.proofs.ClauseFacts.{sums_whole}
@@ -9,12 +10,18 @@ use Rattle.dl_types.proofs.ClauseFacts.{sums_whole}
 -- ---- the horizon
 
 near_most : (cells : ℕ) (c : GridClause) → horizon_too_large cells (Some c) ≡ None
-    → horizon (Some (clause_of c)) cells ≤ most_cells
+    → horizon (Some (clause_of c)) cells ≤ most_horizon cells
 unfolding horizon_too_large
-near_most cells c near = ltb-false most_cells (horizon (Some (clause_of c)) cells) (not_at _ c.span near)
+near_most cells c near = ltb-false (most_horizon cells) (horizon (Some (clause_of c)) cells) (not_at _ c.span near)
 
 module _ (cells : ℕ) (u : GridUnit) (none : off_grid_cession u ≡ None) (shares : has_shares u.occ ≡ true)
-    (near : horizon_too_large cells u.agr ≡ None) (sev : Sev) (means : Means sev (final_severity u)) where
+    (near : horizon_too_large cells u.agr ≡ None) (within : IsWithin (most_amount_at cells) u) (sev : Sev)
+    (means : Means sev (final_severity u)) where
+  layers_near : (c : GridClause) → IsClauseWithin (most_amount_at cells) c
+      → All (IsWithinMostAmount cells) (clause_of c).1
+  layers_near c small = All-map (IsWithinMostAmount cells) ceded_layer c.layers
+      (λ k d h. record { limit = (small k d h).limit; attach = (small k d h).attach })
+
   by_clause : (a : Option GridClause) → u.agr ≡ a → (o : Option Clause) → IsCedeOf a o
       → IfSome o (IsAggregate cells sev)
   by_clause None is None made = tt
@@ -25,7 +32,7 @@ module _ (cells : ℕ) (u : GridUnit) (none : off_grid_cession u ≡ None) (shar
       let accepted : IsClause (clause_of c) = subst IsClause same made.accepted in
       subst (IsAggregate cells sev) (sym same) (record {
         accepted = accepted;
-        near = subst (λ (k : Clause). All IsWithinMostAmount k.1) same made.near;
+        near = layers_near c (subst (λ o. IfSome o (IsClauseWithin (most_amount_at cells))) is within.agr);
         whole = sums_whole u c is accepted none shares sev means;
         horizon = (
           horizon (Some (clause_of c)) cells,
@@ -41,10 +48,8 @@ module _ (cells : ℕ) (u : GridUnit) (none : off_grid_cession u ≡ None) (shar
 
 pub clause_there : (o : Option GridClause) → IfSome o IsClauseLayered → has_shares o ≡ true
     → IsCedeOf o (aggregate_clause o)
-clause_there None layered shares = record { same = refl; accepted = tt; near = tt }
+clause_there None layered shares = record { same = refl; accepted = tt }
 clause_there (Some c) layered shares = record {
   same = refl;
   accepted = made_cession c layered shares;
-  near = All-map IsWithinMostAmount ceded_layer c.layers
-      (λ k d h. record { limit = (layered.grid.layers k d h).limit; attach = (layered.grid.layers k d h).attach });
 }

@@ -10,7 +10,7 @@ pub use Rattle.std.specs.Option.{IfSome}
 pub use Rattle.std.specs.Prelude.{Err, Ok, is_some}
 pub use Rattle.std.specs.Str.{bytes_eq}
 pub use Prim.Native.Nat.{◌∣◌}
-pub use Rattle.dl_limits.specs.Limits.{admitted_bound, most_cells, most_claims, most_count, most_shape, most_units}
+pub use Rattle.dl_limits.specs.Limits.{admitted_bound, most_amount_at, most_claims, most_count, most_horizon, most_shape, most_units}
 pub use Rattle.dl_exact.proofs.GcdLaws.{gcd_is}
 pub use Rattle.dl_exact.proofs.Laws.{div_times}
 pub use Rattle.dl_exact.proofs.Multiples.{lowest_product, lowest_swap, lowest_times}

@@ -1,5 +1,6 @@
 -- What a unit in whole buckets keeps where the rules on it are not broken, and its unit of the plan.
-use Rattle.dl_types.proofs.Common.{ℕ, ◌≡◌, ◌∙◌, Bool, true, false, List, Option, Some, None, Sev, Clause, refl, sym, ap, ap₂, subst, Ok, Err, Fraction, Settings, IsValidUnit, Span, ReadList, ◌else◌, at_if, probs_in_count, else_first, else_second, not_at, GridUnit, has_shares, fractions_too_fine, IsGridUnit, AreProbabilities, off_grid_cession, own_lists, final_severity, CheckFault, Typing, OutOfMemory, expected_claims, claims_of, claims_above_zero, breaks, cells_asked, fault_of_clauses, fault_of_count, fault_on_grid, IsWholeCount, IsCountKept, IsCountMade, IsCedeOf, too_fine, exposed_too_fine, too_many_claims, has_too_many_claims, horizon_too_large}
+use Rattle.dl_types.proofs.Common.{ℕ, ◌≡◌, ◌∙◌, Bool, true, false, List, Option, Some, None, Sev, Clause, refl, sym, ap, ap₂, subst, Ok, Err, Fraction, Settings, IsValidUnit, Span, ReadList, ◌else◌, at_if, probs_in_count, else_first, else_second, not_at, GridUnit, has_shares, fractions_too_fine, IsGridUnit, AreProbabilities, off_grid_cession, own_lists, final_severity, CheckFault, Typing, OutOfMemory, expected_claims, claims_of, claims_above_zero, breaks, cells_asked, fault_of_clauses, fault_of_count, fault_on_grid, IsWholeCount, IsCountKept, IsCountMade, IsCedeOf, too_fine, exposed_too_fine, too_many_claims, has_too_many_claims, horizon_too_large, most_amount_at}
+use Rattle.dl_amounts.specs.GridKept.{IsWithin}
 use Rattle.std.specs.Prelude.{Result, OnOk, IfOk, IfErr}
 use Rattle.std.specs.Result.{IsErr, IsErrAnd}
 use Rattle.dl_plan.specs.declared.plan.Unit.{Unit as UnitOfPlan}
@@ -167,7 +168,8 @@ module _ (bs : Fraction) (unit : ℕ) (u : GridUnit) (grid : IsGridUnit u) (none
 
   -- ---- the unit of the plan
 
-  module _ (cells : ℕ) (ceded : off_grid_cession u ≡ None) (near : horizon_too_large cells u.agr ≡ None) (text : List ℕ)
+  module _ (cells : ℕ) (ceded : off_grid_cession u ≡ None) (near : horizon_too_large cells u.agr ≡ None)
+      (within : IsWithin (most_amount_at cells) u) (text : List ℕ)
       (made : UnitOfPlan) (name : made.name ≡ text) (zero : made.zero ≡ None) (sev : IsFinal u made.sev)
       (freq : IsCountMade u.count n made.freq)
       (cede : IsCedeOf u.agr made.cede) where
@@ -184,12 +186,12 @@ module _ (bs : Fraction) (unit : ℕ) (u : GridUnit) (grid : IsGridUnit u) (none
     unit_valid =
         let valid = made_valid u.count n made.freq kept_is freq in
         record {
-          amounts = sev.near;
+          amounts = sev.near (most_amount_at cells) within.sev;
           items = λ _. sev.few;
           count = valid.0;
           expected = valid.1;
           thinned = made_thinned (final_severity u) made.sev sev.means u.count n made.freq are_kept freq;
-          clause = aggregate_valid cells u ceded fine_occ near made.sev sev.means made.cede cede;
+          clause = aggregate_valid cells u ceded fine_occ near within made.sev sev.means made.cede cede;
           zero = zero;
         }
 
@@ -238,7 +240,7 @@ grid_parts settings unit u none =
     )
 
 module _ (settings : Settings) (unit : ℕ) (u : GridUnit) (grid : IsGridUnit u)
-    (none : fault_on_grid settings unit u ≡ None) (text : List ℕ) where
+    (within : IsWithin (most_amount_at (cells_asked settings)) u) (none : fault_on_grid settings unit u ≡ None) (text : List ℕ) where
   pub grid_answer : (made : UnitOfPlan) → made.name ≡ text → made.zero ≡ None → IsFinal u made.sev
       → IsCountMade u.count (expected_claims settings.bs u) made.freq → IsCedeOf u.agr made.cede
       → AnswersGrid settings unit text u (Ok made)
@@ -246,8 +248,8 @@ module _ (settings : Settings) (unit : ℕ) (u : GridUnit) (grid : IsGridUnit u)
       let parts = grid_parts settings unit u none in
       let ceded = (layered_is unit u grid parts.0).1 in (
         none,
-        unit_is settings.bs unit u grid parts.1 (cells_asked settings) ceded parts.2 text made name zero sev freq cede,
-        unit_valid settings.bs unit u grid parts.1 (cells_asked settings) ceded parts.2 text made name zero sev freq
+        unit_is settings.bs unit u grid parts.1 (cells_asked settings) ceded parts.2 within text made name zero sev freq cede,
+        unit_valid settings.bs unit u grid parts.1 (cells_asked settings) ceded parts.2 within text made name zero sev freq
             cede,
       )
 

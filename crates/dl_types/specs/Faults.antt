@@ -1,7 +1,7 @@
 -- The first fault of a program: the first broken rule in the written order, with its unit and its
 -- place.
 use Rattle.std.specs.Prelude.{ℕ, ◌^◌, List, [], length, Option, Some, None}
-use Rattle.dl_limits.specs.Limits.{most_units}
+use Rattle.dl_limits.specs.Limits.{most_amount_at, most_units}
 use Rattle.dl_exact.specs.Fraction.{Fraction}
 use Rattle.dl_lexer.specs.declared.token.Span.{Span}
 use Rattle.dl_ast.specs.declared.ast.UnitAst.{UnitAst}
@@ -30,6 +30,10 @@ breaks unit rule (Some place) = Some (record { unit = unit; rule = rule; span = 
 abbrev pub cells_asked : Settings → ℕ
 cells_asked settings = 2 ^ settings.log2
 
+-- the greatest amount on that grid, in buckets
+abbrev pub most_asked : Settings → ℕ
+most_asked settings = most_amount_at (cells_asked settings)
+
 -- the rules on its numerals, its ranges and its lengths, where those before them are not broken
 unfoldable pub fault_of_reading : ℕ → UnitAst → Option TypeFault
 fault_of_reading unit u =
@@ -52,10 +56,10 @@ fault_of_lists before u =
     else fault_of_pairs unit (read_of u)
 
 -- the rules on its amounts of money
-unfoldable pub fault_of_money : Fraction → ℕ → ReadUnit → Option TypeFault
-fault_of_money bs unit u =
-    breaks unit rules.OffGrid (off_grid bs u)
-    else breaks unit rules.TooFar (too_far bs u)
+unfoldable pub fault_of_money : Settings → ℕ → ReadUnit → Option TypeFault
+fault_of_money settings unit u =
+    breaks unit rules.OffGrid (off_grid settings.bs u)
+    else breaks unit rules.TooFar (too_far (most_asked settings) settings.bs u)
 
 -- the rules on its clauses
 abbrev pub fault_of_layers : ℕ → GridUnit → Option TypeFault
@@ -97,7 +101,7 @@ fault_on_grid settings unit u =
 unfoldable pub first_fault_of : Settings → List UnitAst → UnitAst → Option TypeFault
 first_fault_of settings before u =
     fault_of_lists before u
-    else fault_of_money settings.bs (length before) (read_of u)
+    else fault_of_money settings (length before) (read_of u)
     else fault_on_grid settings (length before) (grid_of settings.bs (read_of u))
 
 -- more than 16 units first; then the units in the order of the text

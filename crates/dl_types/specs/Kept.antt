@@ -15,7 +15,7 @@ use Rattle.dl_types.specs.Exposures.{shape_of}
 use Rattle.dl_types.specs.Listed.{AreCounts}
 use Rattle.dl_types.specs.Rules.{passes}
 
--- the settings as the command line gives them: a bucket size, and from 2 to 4,096 cells
+-- the settings as the command line gives them: a bucket size, and from 2 to 65,536 cells
 pub record IsSet (settings : Settings) : Type 0 where
   pub bucket : IsBucket settings.bs
   pub some : 1 ≤ settings.log2

@@ -12,7 +12,6 @@ use Rattle.dl_plan.specs.Severity.{Pairs, probability, Means}
 use Rattle.dl_plan.specs.Clause.{Clause, IsClause}
 use Rattle.dl_plan.specs.Count.{IsClaimCount, expected_count as expected_of_plan}
 use Rattle.dl_plan.specs.Fine.{HasPartsOf48Bits}
-use Rattle.dl_plan.specs.Valid.{IsWithinMostAmount}
 use Rattle.dl_read.specs.declared.tree.ReadFreq.{ReadFreq}
 use Rattle.dl_read.specs.declared.tree.ReadFreq.TheVariants.{Fixed, Poisson, Bernoulli, Binomial, Gamma}
 use Rattle.dl_read.specs.declared.tree.ReadCount.{ReadCount}
@@ -78,11 +77,10 @@ abbrev pub aggregate_clause : Option GridClause → Option Clause
 aggregate_clause None = None
 aggregate_clause (Some c) = Some (clause_of c)
 
--- the aggregate clause, where there is one, with small layers
+-- the aggregate clause, where there is one
 pub record IsCedeOf (cession : Option GridClause) (made : Option Clause) : Type 0 where
   pub same : made ≡ aggregate_clause cession
   pub accepted : IfSome made IsClause
-  pub near : IfSome made (λ clause. All IsWithinMostAmount clause.1)
 
 -- the unit of the plan has the name, the final severity, the claim count and the aggregate clause
 -- of a unit in whole buckets, and its probability of no claim is not changed

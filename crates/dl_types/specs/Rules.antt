@@ -5,7 +5,7 @@
 use Rattle.std.specs.Prelude.{ℕ, Bool, false, not, ◌&&◌, ◌||◌, nat_lt, is_some, List, slice_get, Option, Some, None}
 use Rattle.std.specs.List.{list_any}
 use Rattle.std.specs.Str.{bytes_eq}
-use Rattle.dl_limits.specs.Limits.{most_cells, most_claims, most_count, most_expected, most_shape, most_units}
+use Rattle.dl_limits.specs.Limits.{most_claims, most_count, most_expected, most_horizon, most_shape, most_units}
 use Rattle.dl_plan.specs.Horizon.{horizon}
 use Rattle.dl_exact.specs.Fraction.{Fraction, whole, ◌/ℚ◌}
 use Rattle.dl_lexer.specs.declared.token.Span.{Span}
@@ -136,9 +136,10 @@ too_many_claims u n =
     at_if (has_too_many_claims u.count n (claims_above_zero (final_severity u) n)) u.name
 
 -- 21 HorizonTooLarge: the horizon of the aggregate clause on a grid of so many cells passes 16,384
+-- where these are at most 4,096, else 65,536
 unfoldable pub horizon_too_large : ℕ → Option GridClause → Option Span
 horizon_too_large cells = within (λ (c : GridClause).
-    at_if (nat_lt most_cells (horizon (Some (clause_of c)) cells)) c.span)
+    at_if (nat_lt (most_horizon cells) (horizon (Some (clause_of c)) cells)) c.span)
 
 -- 22 TooManyUnits: there are more than 16 units
 abbrev pub seventeenth : Option UnitAst → Option Span

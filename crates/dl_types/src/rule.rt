@@ -21,7 +21,7 @@ pub enum Rule {
     NotOne,
     /// An amount is no whole number of buckets.
     OffGrid,
-    /// An amount passes 2^20 buckets.
+    /// An amount passes 2^20 buckets, or 2^22 on a grid of more than 4,096 cells.
     TooFar,
     /// There is not one weight for each atom.
     WeightsDiffer,

@@ -1,8 +1,8 @@
 //! The rules of one unit, in their order.
 
-ghost use Rattle.std.specs.Prelude.{◌≡◌, ◌<◌, ◌∷◌, ◌++◌, [], nat_lt, true, Option, None, Some, IfOk, IfErr, IfSome, OnOk, Ok, Err, length, map};
-ghost use Rattle.dl_types.specs.Faults.{breaks, cells_asked, fault_of_reading, fault_of_pairs, fault_of_lists, fault_of_money, fault_of_clauses, fault_of_layers, fault_of_number, fault_of_count};
-ghost use Rattle.dl_exact.specs.Fraction.{Fraction};
+ghost use Rattle.std.specs.Prelude.{◌≡◌, ◌<◌, ◌≤◌, ◌∷◌, ◌++◌, [], nat_lt, true, Option, None, Some, IfOk, IfErr, IfSome, OnOk, Ok, Err, length, map};
+ghost use Rattle.dl_types.specs.Faults.{breaks, cells_asked, most_asked, fault_of_reading, fault_of_pairs, fault_of_lists, fault_of_money, fault_of_clauses, fault_of_layers, fault_of_number, fault_of_count};
+ghost use Rattle.dl_plan.specs.declared.settings.Settings.{Settings as SettingsOfPlan};
 ghost use Rattle.dl_types.specs.Answer.{StopsAt, TellsFault, AnswersGrid, AnswersUnit};
 ghost use Rattle.dl_ast.specs.declared.ast.UnitAst.{UnitAst};
 ghost use Rattle.dl_types.specs.declared.rule.Rule.TheVariants.{DuplicateName, OffGridCession, CountNotWhole, CountAboveOne, TrialsNotWhole, ShapeNotWhole, TooFine, HorizonTooLarge};
@@ -24,8 +24,8 @@ ghost use Rattle.dl_amounts.specs.ClausesKept.{IsClauseLayered};
 ghost use Rattle.dl_read.specs.Read.{read_of, ReadsUnit};
 ghost use Rattle.dl_amounts.specs.Grid.{grid_of};
 ghost use Rattle.dl_read.specs.First.{◌else◌, at_if};
-ghost use Rattle.dl_amounts.specs.GridKept.{IsGridUnit};
-ghost use Rattle.dl_limits.specs.Limits.{most_cells, most_units};
+ghost use Rattle.dl_amounts.specs.GridKept.{IsGridUnit, IsWithin};
+ghost use Rattle.dl_limits.specs.Limits.{most_amount, most_horizon, most_units};
 ghost use Rattle.dl_amounts.specs.OnGrid.{GridsUnit};
 ghost use Rattle.dl_types.specs.UnitNames.{names_of};
 ghost use Rattle.dl_types.specs.declared.fault.TypeFault.{TypeFault as FaultOfTypes};
@@ -51,7 +51,7 @@ use dl_amounts::{
 use dl_ast::UnitAst;
 use dl_frac::Frac;
 use dl_lexer::{Span, Text};
-use dl_limits::MOST_CELLS;
+use dl_limits::{most_amount, most_horizon};
 use dl_plan::{Cede, Freq, Settings, Sev, Unit};
 use dl_read::{ReadCount, ReadFault, ReadUnit, place_if, read_unit};
 use indexmap::IndexSet;
@@ -103,8 +103,9 @@ fn fault_of_reading(number: u32, fault: ReadFault) -> CheckFault
 /// The fault of a unit that is not put on the grid.
 #[tactic(auto, unfolding(crate::specs::Faults::fault_of_money))]
 fn fault_of_money(number: u32, fault: GridFault) -> CheckFault
-    ensures { (bs : Fraction) (unit : UnitRead) → GridsUnit bs unit (Err fault)
-        → StopsAt (fault_of_money bs number unit) result }
+    ensures { (settings : SettingsOfPlan) (unit : UnitRead)
+        → GridsUnit (most_asked settings) settings.bs unit (Err fault)
+        → StopsAt (fault_of_money settings number unit) result }
 {
     match fault {
         GridFault::OffGrid(span) => typing(number, Rule::OffGrid, span),
@@ -198,16 +199,22 @@ fn check_lists<'a>(
 
 /// The unit in whole buckets, where it breaks none of the rules on its amounts of money.
 #[tactic(auto, unfolding(crate::specs::Faults::fault_of_money))]
-fn check_money(alloc: Global, number: u32, unit: ReadUnit, bs: Frac) -> Result<GridUnit, CheckFault>
-    requires bucket { IsBucket bs }
+fn check_money(
+    alloc: Global,
+    number: u32,
+    unit: ReadUnit,
+    settings: &Settings,
+) -> Result<GridUnit, CheckFault>
+    requires set { IsSet settings.now }
     requires read { IsRead unit }
     requires lengths { lengths_differ unit ≡ None }
     requires one { not_one unit ≡ None }
-    ensures told { TellsFault (fault_of_money bs number unit) result }
-    ensures same { IfOk result (λ made. made ≡ grid_of bs unit) }
+    ensures told { TellsFault (fault_of_money settings.now number unit) result }
+    ensures same { IfOk result (λ made. made ≡ grid_of settings.now.bs unit) }
     ensures grid { IfOk result IsGridUnit }
+    ensures within { IfOk result (IsWithin (most_asked settings.now)) }
 {
-    match grid_unit(alloc, unit, bs) {
+    match grid_unit(alloc, unit, settings.bs, most_asked(settings)) {
         Ok(made) => Ok(made),
         Err(fault) => Err(fault_of_money(number, fault)),
     }
@@ -400,14 +407,17 @@ fn check_horizon(
     kept(Some(made), broken(number, Rule::HorizonTooLarge, place))
 }
 
-/// The place of a clause, made so, whose horizon on a grid of so many cells passes 16,384.
+/// The place of a clause, made so, whose horizon on a grid of so many cells passes the greatest one.
 fn horizon_passes(cession: &GridClause, made: &Cede, cells: u32) -> Option<Span>
     requires made { made.now ≡ clause_of cession.now }
     requires accepted { IsClause made.now }
-    ensures { result ≡ at_if (nat_lt most_cells (horizon (Some (clause_of cession.now)) cells))
-        cession.now.span }
+    ensures { result ≡ at_if (nat_lt (most_horizon cells)
+        (horizon (Some (clause_of cession.now)) cells)) cession.now.span }
 {
-    place_if(made.horizon(cells) > MOST_CELLS as u128, cession.span)
+    place_if(
+        made.horizon(cells) > most_horizon(cells) as u128,
+        cession.span,
+    )
 }
 
 /// The claim count of a count that breaks no rule, with so many claims expected.
@@ -430,6 +440,15 @@ pub(crate) fn cells(settings: &Settings) -> u32
     ensures { result ≡ cells_asked settings.now }
 {
     1 << settings.log2
+}
+
+/// The greatest amount on that grid, in buckets.
+fn most_asked(settings: &Settings) -> u32
+    requires { IsSet settings.now }
+    ensures value { result ≡ most_asked settings.now }
+    ensures fits { result ≤ most_amount }
+{
+    most_amount(cells(settings))
 }
 
 /// The unit of the plan with this name, of what its claims come to and its aggregate clause.
@@ -469,6 +488,7 @@ fn check_grid(
 ) -> Result<Unit, CheckFault>
     requires set { IsSet settings.now }
     requires grid { IsGridUnit grid.now }
+    requires within { IsWithin (most_asked settings.now) grid.now }
     ensures { AnswersGrid settings.now number unit.now.name.text grid.now result }
 {
     let amounts = check_clauses(alloc, number, grid)?;
@@ -496,6 +516,6 @@ pub(crate) fn check_unit<'a>(
 {
     let number = before.len() as u32;
     let read = check_lists(alloc, names, before, unit)?;
-    let grid = check_money(alloc, number, read, settings.bs)?;
+    let grid = check_money(alloc, number, read, settings)?;
     check_grid(alloc, number, unit, &grid, settings)
 }

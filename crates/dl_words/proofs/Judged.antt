@@ -123,7 +123,7 @@ are_plain = (
   (
     bucket_plain,
     (
-      whole_plain 1 12,
+      whole_plain 1 16,
       (
         whole_plain 1 9,
         (whole_plain 1 1000000000, (whole_plain 1 1000000000000, (format_plain, tt))),

@@ -130,7 +130,7 @@ module _ (form : Form) (values : Values) (texts : List Text) (asks : List Asked)
       let digits = both _ _ log2.1 in
       let width = both _ _ digits.1 in
       let mwidth = both _ _ width.1 in
-      let cells = between_of 1 12 10 (values (codes "log2")) (omega arith, omega arith) log2.0 in
+      let cells = between_of 1 16 10 (values (codes "log2")) (omega arith, omega arith) log2.0 in
       let places = between_of 1 9 6 (values (codes "digits")) (omega arith, omega arith) digits.0 in
       let wide = between_of 1 1000000000 10 (values (codes "width")) (omega arith, omega arith) width.0 in
       let mean_wide = between_of 1 1000000000000 1000000 (values (codes "mwidth"))

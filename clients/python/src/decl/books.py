@@ -6,8 +6,8 @@ from typing import TYPE_CHECKING, Any, Dict, Iterable, List, Optional, Tuple, Un
 
 from . import program
 from .calls import Number, Text, fmt, run, spelled
-from .choose import LARGEST, NOTE, bucket, grid, value_of
-from .faults import GridTooSmall
+from .choose import NOTE, bucket, grid, least_grid, value_of
+from .faults import GridTooSmall, NeedsWidth
 from .moments import Moments, of_unit, of_units
 from .pages import page_of
 from .pictures import Picture, alone, exceedance
@@ -58,7 +58,8 @@ class Book:
         timeout: Optional[float] = None,
     ) -> None:
         """The bucket is the greatest that divides all amounts, the grid the least in which a probability of `inside` is
-        sure to lie, else the largest. `digits` are those of an answer in buckets; `timeout` is in seconds, for one call.
+        sure to lie, else the largest that takes the text. `digits` are those of an answer in buckets, of which there are fewer
+        where it needs a larger width than there is; `timeout` is in seconds, for one call.
         """
         self.text = program.as_text(text)
         self.digits = digits
@@ -75,8 +76,8 @@ class Book:
     def _grid(self, inside: Number) -> int:
         try:
             return grid(self.text, inside, bs=self.bs, timeout=self.timeout)
-        except GridTooSmall:
-            return LARGEST
+        except GridTooSmall as fault:
+            return fault.log2
 
     def __repr__(self) -> str:
         return f"<decl book of {', '.join(self.units)}: {self.cells} buckets of {plain(self.bs)}>"
@@ -86,10 +87,18 @@ class Book:
         asks = list(asks)
         wanted = [ask for ask in dict.fromkeys(asks) if ask not in self._known]
         for first in range(0, len(wanted), MOST_ASKS):
-            part = wanted[first : first + MOST_ASKS]
-            settings: Dict[str, Any] = {"log2": self.log2, "digits": self.digits, "timeout": self.timeout, **WIDEST}
-            self._known.update((row.ask, row) for row in run(self.text, part, bs=self.bs, **settings))
+            self._known.update((row.ask, row) for row in self._asked(wanted[first : first + MOST_ASKS]))
         return [self._known[ask] for ask in asks]
+
+    def _asked(self, asks: List[str]) -> Report:
+        """The report on at most 256 asks, with fewer digits where one of them needs more width than the widest."""
+        settings: Dict[str, Any] = {"log2": self.log2, "timeout": self.timeout, **WIDEST}
+        for digits in range(self.digits, 1, -1):
+            try:
+                return run(self.text, asks, bs=self.bs, digits=digits, **settings)
+            except NeedsWidth:
+                pass
+        return run(self.text, asks, bs=self.bs, digits=min(self.digits, 1), **settings)
 
     def _row(self, ask: str) -> Row:
         return self._rows([ask])[0]
@@ -206,10 +215,18 @@ class Book:
 
     def unit(self, name: str, *, log2: Optional[int] = None) -> "Book":
         """The book of one unit alone, with the same bucket; its grid is chosen for it, unless it is given."""
+        return Book(self._line(name), bs=self.bs, log2=log2, digits=self.digits, timeout=self.timeout)
+
+    def _line(self, name: str) -> str:
+        """The program of one unit."""
         for line in NOTE.sub("", self.spelling).splitlines():
             if line.split(" ")[:2] == ["agg", name]:
-                return Book(line, bs=self.bs, log2=log2, digits=self.digits, timeout=self.timeout)
+                return line
         raise KeyError(f"the book has no unit {name}; its units are {', '.join(self.units)}")
+
+    def _mean_of(self, name: str) -> Row:
+        """The mean of a unit, which is the same on every grid: on the least one that takes the unit."""
+        return self.unit(name, log2=least_grid(self._line(name), bs=self.bs, timeout=self.timeout)).mean()
 
     def moments(self, unit: Optional[str] = None) -> Moments:
         """The exact mean, variance and third central moment of the total, or of a unit, in money and without the program.
@@ -269,6 +286,18 @@ class Book:
         rows = self._rows(f"cdf:{at}" for at in range(0, self.cells, step))
         return Report(rows, self.bs, self.cells).in_money()
 
+    def curve(self, most: int = 4096) -> List[Tuple[Fraction, Fraction, Fraction]]:
+        """At most so many totals in money from 0 on, evenly over the grid, each with two ends of the probability of more, which hold
+        up to the next total: between two buckets that probability stays the same, and over several it falls."""
+        step = -(-self.cells // most)
+        places = range(0, self.cells, step)
+        self._rows(f"cdf:{at}" for at in places)
+        ends = [(at * self.bs, *self._above(at)) for at in places]
+        if step == 1:
+            return ends
+        lows = [low for _, low, _ in ends[1:]] + [self._above(self.cells - 1)[0]]
+        return [(amount, low, high) for (amount, _, high), low in zip(ends, lows)]
+
     def describe(self, levels: Iterable[Number] = LEVELS) -> Table:
         """What the book is worth: its mean, deviation and skewness, the years without a loss, VaR and TVaR, and the mean of
         each unit. Deviation and skewness are there where they follow from the text."""
@@ -277,7 +306,7 @@ class Book:
             lines += [[f"VaR {percent(exact(p))}", self.q(p)], [f"TVaR {percent(exact(p))}", self.tail(p)]]
         lines.append(["inside the grid", self.inside()])
         if len(self.units) > 1:
-            lines += [[f"mean of {name}", self.unit(name, log2=1).mean()] for name in self.units]
+            lines += [[f"mean of {name}", self._mean_of(name)] for name in self.units]
         return Table(["total", "from .. to"], lines)
 
     def _spread(self) -> List[List[Cell]]:
@@ -302,10 +331,8 @@ class Book:
             except ImportError:
                 return alone(exceedance(self, [exact(each) for each in years]))
             axes = pyplot.subplots()[1]
-        rows = self.distribution(cells=True)
-        amounts = [float(at * self.bs) for at in range(self.cells)]
-        low = [1 - float(row.high or 0) for row in rows]
-        high = [1 - float(row.low or 0) for row in rows]
+        curve = self.curve()
+        amounts, low, high = ([float(point[part]) for point in curve] for part in range(3))
         axes.fill_between(amounts, low, high, step="post", alpha=0.4)
         axes.step(amounts, high, where="post")
         axes.set_yscale("log")

@@ -4,15 +4,19 @@ import re
 from fractions import Fraction
 from functools import reduce
 from math import gcd
-from typing import List, Optional
+from typing import List, Optional, Tuple
 
 from .calls import Number, Text, check, fmt, run, spelled
 from .faults import GridTooSmall, RuleFault
+from .reports import Row
 
 NOTE = re.compile(r"note\{[^{}]*\}")
 TOKEN = re.compile(r"note\{[^{}]*\}|\d+/\d+|(?:\d+\.?\d*|\.\d+)%?|[A-Za-z][A-Za-z0-9_-]*|[\[\]:,!]")
 OFF_GRID_CESSION = 13
-LARGEST = 12
+#: The rules whose limits depend on `log2`: on far amounts, and on the sum before an aggregate clause.
+SIZES = (8, 21)
+#: The greatest `log2`, and the greatest up to which these two limits are the lower ones.
+LARGEST, LARGEST_SHORT = 16, 12
 
 
 def value_of(numeral: str) -> Fraction:
@@ -91,6 +95,19 @@ def divisors(number: int) -> List[int]:
     return sorted(found)
 
 
+def least_grid(text: Text, *, bs: Optional[Number] = None, timeout: Optional[float] = None) -> int:
+    """The least `log2` with which the text keeps every rule: 1, or 13 where one of its numbers needs the higher limits of a long
+    grid. Raises the fault of a text that no grid takes."""
+    try:
+        check(text, bs=bs, log2=1, timeout=timeout)
+    except RuleFault as fault:
+        if fault.rule not in SIZES:
+            raise
+        check(text, bs=bs, log2=LARGEST_SHORT + 1, timeout=timeout)
+        return LARGEST_SHORT + 1
+    return 1
+
+
 def bucket(text: Text, *, shares: bool = True, timeout: Optional[float] = None) -> Fraction:
     """The greatest size of a bucket that divides every amount, limit and attachment of the text, as a fraction.
 
@@ -107,7 +124,7 @@ def bucket(text: Text, *, shares: bool = True, timeout: Optional[float] = None) 
         parts = {old * new for old in parts for new in divisors(share.denominator)}
     for part in sorted(parts):
         try:
-            check(text, bs=size / part, log2=1, timeout=timeout)
+            least_grid(text, bs=size / part, timeout=timeout)
         except RuleFault as found:
             if found.rule != OFF_GRID_CESSION:
                 raise
@@ -132,17 +149,32 @@ def grid(
 
     `inside` is a decimal, a fraction or a percent; a float is taken as the decimal that Python prints for it. `bs` is
     the size of a bucket in money, `digits` and `width` are those of the probability that is asked of each grid, and
-    `make` takes a made program in place of the text. Raises `GridTooSmall` where the largest grid is not sure to hold
-    so much.
+    `make` takes a made program in place of the text. Grids are tried from the least one up, since a longer one takes more time;
+    one at which the text breaks a rule on sizes is passed over. Raises `GridTooSmall` where the largest grid that takes the text
+    is not sure to hold so much, and the fault of the text where no grid takes it.
     """
     wanted = value_of(inside) if isinstance(inside, str) else Fraction(spelled(inside))
+    refused: Optional[RuleFault] = None
+    largest: Optional[Tuple[int, Row]] = None
     for log2 in range(1, LARGEST + 1):
         ask = f"cdf:{2**log2 - 1}"
-        row = run(text, [ask], bs=bs, log2=log2, digits=digits, width=width, make=make, timeout=timeout)[0]
+        try:
+            row = run(text, [ask], bs=bs, log2=log2, digits=digits, width=width, make=make, timeout=timeout)[0]
+        except RuleFault as fault:
+            if fault.rule not in SIZES:
+                raise
+            refused = fault
+            continue
         if Fraction(row.low or 0) >= wanted:
             return log2
+        largest = log2, row
+    if largest is None:
+        assert refused is not None
+        raise refused
+    log2, row = largest
     raise GridTooSmall(
-        f"the largest grid, of {2**LARGEST} buckets, holds a probability from {row.written[0]} to {row.written[1]};"
-        " take larger buckets",
+        f"the largest grid{'' if log2 == LARGEST else ' that takes the text'}, of {2**log2:,} buckets, holds a probability from"
+        f" {row.written[0]} to {row.written[1]}; take larger buckets",
         row=row,
+        log2=log2,
     )

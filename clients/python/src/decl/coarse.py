@@ -5,7 +5,8 @@ from fractions import Fraction
 from typing import Callable, Dict, Iterable, Iterator, List, Optional, Tuple
 
 from .books import Book, exact
-from .calls import Number, Text, check, fmt
+from .calls import Number, Text, fmt
+from .choose import least_grid
 from .faults import NotBetween, RuleFault
 from .plan import Chances, Clause, Unit, moved, units_of
 from .reports import Row, plain
@@ -149,7 +150,7 @@ def with_amounts(unit: Unit, chances: Chances, expected: Ends, bs: Fraction, up:
         for front, behind in counts(unit, expected, up):
             text = " ".join(f"agg {unit.name} {front} {amounts} {behind} {clause}".split())
             try:
-                check(text, bs=bs, log2=1, timeout=timeout)
+                least_grid(text, bs=bs, timeout=timeout)
                 return text
             except RuleFault as found:
                 if found.rule not in SPELLING:
@@ -271,5 +272,5 @@ def coarser(text: Text, bs: Number, *, timeout: Optional[float] = None) -> Betwe
     head = f"port {name}\n" if first == "port" else ""
     low, high = ("\n".join(side(unit, size, up, timeout) for unit in units) for up in (False, True))
     for each in (head + low, head + high):
-        check(each, bs=size, log2=1, timeout=timeout)
+        least_grid(each, bs=size, timeout=timeout)
     return Between(head + low, head + high, size, timeout)

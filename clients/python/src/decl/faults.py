@@ -70,9 +70,10 @@ class NotText(DeclError):
 
 
 class GridTooSmall(DeclError):
-    """No grid is sure to hold so much probability; `row` is the answer for the largest."""
+    """No grid is sure to hold so much probability; `row` is the answer for the largest that takes the text, and `log2` is its size."""
 
     row: "Row"
+    log2: int
 
 
 class NotBetween(DeclError):

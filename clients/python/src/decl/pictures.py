@@ -18,6 +18,8 @@ LEFT, RIGHT, TOP, BOTTOM = 70, 100, 30, 60
 #: Two labels of one axis stand so far apart at least.
 APART = 18
 SAMPLES = 120
+#: Of so many totals at most it is asked whether shares are there.
+MOST_TOTALS = 4096
 #: A share is there where the probability of the total is sure to be at least this.
 RAREST = Fraction(1, 65536)
 
@@ -160,9 +162,9 @@ def exceedance(book: "Book", years: Iterable[Fraction]) -> str:
     """The exceedance curve on a log scale, as a band between its ends, with VaR and TVaR of each return period marked."""
     periods = list(years)
     power = -min(max(math.ceil(math.log10(10 * max(periods, default=Fraction(10)))), 2), book.digits)
-    rows = book.distribution(cells=True)
-    size = float(book.bs)
-    above = [(1 - float(row.high or 0), 1 - float(row.low or 0)) for row in rows]
+    curve = book.curve()
+    size = float(curve[1][0] - curve[0][0])
+    above = [(float(low), float(high)) for _, low, high in curve]
     shown = next((at for at, ends in enumerate(above) if ends[1] < 10.0**power), len(above) - 1) + 1
     tails = [middle(book.tail(1 - 1 / each)) for each in periods]
     end = max([shown * size, *(1.02 * value for value in tails if value is not None)])
@@ -197,9 +199,11 @@ def colour(at: int, many: int) -> str:
 
 
 def sampled(book: "Book", level: Fraction) -> List[int]:
-    """Up to SAMPLES totals, in buckets, up to the quantile at the level, at each of which shares are there."""
+    """Up to SAMPLES totals, in buckets, up to the quantile at the level, at each of which shares are there. At most MOST_TOTALS are
+    looked at, evenly."""
     top = book.q(level).low or Fraction(0)
-    cells = range(1, min(int(Fraction(top) / book.bs), book.cells - 1) + 1)
+    last = min(int(Fraction(top) / book.bs), book.cells - 1)
+    cells = range(1, last + 1, -(-last // MOST_TOTALS) or 1)
     rows = book.each(f"pmf:{plain(at * book.bs)}" for at in cells)
     there = [at for at, row in zip(cells, rows) if Fraction(row.low or 0) >= RAREST]
     step = -(-len(there) // SAMPLES) or 1

@@ -10,7 +10,7 @@ SENTENCES: Dict[int, str] = {
     5: "A list of probabilities needs as many values as the list before it.",
     6: "Probabilities and weights have to add up to 1; nothing is rescaled.",
     7: "Each amount, limit and attachment has to be a whole number of buckets; decl.bucket(text) tells the greatest bucket.",
-    8: "No amount, limit or attachment may pass 1,048,576 buckets; take larger buckets.",
+    8: "No amount, limit or attachment may pass 1,048,576 buckets with log2 up to 12, or 4,194,304 with 13 or more; take larger buckets.",
     9: "wts needs one weight for each severity of the mixture.",
     10: "No claim can exceed the attachment of the layer; put a ! behind the severity to keep the claims that do not.",
     11: "Two layers of one clause overlap; layers may touch.",
@@ -23,6 +23,6 @@ SENTENCES: Dict[int, str] = {
     18: "mixed gamma c needs a c above 0 with 1 / c^2 whole, such as 1, 1/2, 0.25 or 0.2.",
     19: "Probabilities, shares or weights have too fine a common denominator (above 2^30), or the expected count or loss is too fine a fraction.",
     20: "Too many claims: at most 256 of listed counts, 65,536 of fixed counts and trials, 4,096 expected ones above 0 of poisson and mixed gamma, and a shape of at most 10,000.",
-    21: "The aggregate clause needs more than 16,384 buckets of the sum before it; take larger buckets or a smaller grid.",
+    21: "The aggregate clause needs more buckets of the sum before it than there are: 16,384 with log2 up to 12, 65,536 with 13 or more; take larger buckets, a smaller grid, or a log2 of 13.",
     22: "A portfolio has at most 16 units.",
 }

@@ -6,7 +6,7 @@ from typing import Dict, List, Optional, Sequence, Tuple
 
 #: The least and the greatest value of each option that is a whole number.
 RANGES: Dict[str, Tuple[int, int]] = {
-    "log2": (1, 12),
+    "log2": (1, 16),
     "digits": (1, 9),
     "width": (1, 10**9),
     "mwidth": (1, 10**12),

@@ -103,7 +103,7 @@ Usage
 --
 decl: ask 1: not an ask
 ==
-run --log2 13 mean
+run --log2 17 mean
 --
 agg D dfreq [1] dsev [1:6]
 --
@@ -134,6 +134,55 @@ agg A dfreq [1] dsev [1 2] [1/65537 65536/65537]
 Done
 --
 kappa:A:1 - -
+==
+run --log2 13 pmf:8008
+--
+agg W dfreq [2] dsev [8:8000:8]
+--
+Done
+--
+pmf:8008 0.000999 0.001001
+==
+run --log2 16 --digits 3 mean cdf:65535
+--
+agg V 100 claims dsev [400:800:100] poisson
+--
+Done
+--
+mean 60000.000 60000.000
+cdf:65535 0.816 0.817
+==
+run --log2 12 pmf:0
+--
+agg Y dfreq [1] dsev [1:6] aggregate net of 20000 xs 0
+--
+Refused
+--
+decl: 1:28: unit 0: rule 21 HorizonTooLarge
+==
+run --log2 13 pmf:0
+--
+agg Y dfreq [1] dsev [1:6] aggregate net of 20000 xs 0
+--
+Done
+--
+pmf:0 0.999999 1.000000
+==
+run --log2 12 pmf:0
+--
+agg X dfreq [1] dsev [2000000]
+--
+Refused
+--
+decl: 1:23: unit 0: rule 8 TooFar
+==
+run --log2 13 pmf:2
+--
+agg X dfreq [1] dsev [2 2000000]
+--
+Done
+--
+pmf:2 0.500000 0.500000
 ==
 fmt
 --

@@ -1,7 +1,8 @@
 //! Convolutions, beside sums that were worked outside the program, and products that are few.
 
 ghost use Rattle.std.specs.Prelude.{◌≤◌, ◌<◌};
-ghost use Rattle.dl_limits.specs.Limits.{most_cells};
+ghost use Rattle.dl_limits.specs.Limits.{most_fine_cells};
+ghost use Rattle.dl_grid.specs.Room.{IsGridSize};
 
 use crate::tests::helpers::{are_same, empty, is_so, part};
 use dl_conv::{Counted, convolve, convolve_plain, halved};
@@ -52,6 +53,7 @@ const AT_56: Sums = Sums {
 };
 
 /// One die on 13 cells, each face enclosed on its own.
+#[tactic(auto, using(dl_grid::proofs::Sizes::few_at_each_scale))]
 fn die<const B: u32>(alloc: Global) -> Result<Option<Grid<B>>, AllocError>
     requires scale_above { 1 ≤ B }
     requires scale_below { B ≤ 56 }
@@ -144,10 +146,7 @@ fn drawn<const B: u32>(
     x: &mut u32,
     cells: u32,
 ) -> Result<Option<Grid<B>>, AllocError>
-    requires scale_above { 1 ≤ B }
-    requires scale_below { B ≤ 56 }
-    requires some { 1 ≤ cells }
-    requires few { cells ≤ most_cells }
+    requires { IsGridSize B cells }
 {
     let Some(mut g) = empty::<B>(alloc, cells)? else {
         return Ok(None);
@@ -206,10 +205,7 @@ fn are_alike<const B: u32>(
 
 /// Whether they are for two drawn grids.
 fn both_forms<const B: u32>(alloc: Global, start: u32, cells: u32) -> Result<bool, AllocError>
-    requires scale_above { 1 ≤ B }
-    requires scale_below { B ≤ 56 }
-    requires some { 1 ≤ cells }
-    requires few { cells ≤ most_cells }
+    requires { IsGridSize B cells }
 {
     let mut x = start;
     let a = drawn::<B>(alloc, &mut x, cells)?;
@@ -218,9 +214,10 @@ fn both_forms<const B: u32>(alloc: Global, start: u32, cells: u32) -> Result<boo
 }
 
 /// Whether they are at two scales.
+#[tactic(auto, unfolding(dl_limits::specs::Limits::most_cells_at))]
 fn both_forms_at(alloc: Global, cells: u32) -> Result<bool, AllocError>
     requires some { 1 ≤ cells }
-    requires few { cells ≤ most_cells }
+    requires few { cells ≤ most_fine_cells }
 {
     Ok(both_forms::<48>(alloc, cells, cells)? && both_forms::<56>(alloc, cells, cells)?)
 }

@@ -2,7 +2,7 @@
 
 ghost use Rattle.std.specs.Prelude.{◌≤◌, ◌<◌, ◌^◌};
 
-use crate::tests::helpers::is_so;
+use crate::tests::helpers::{is_so, most_cells};
 use dl_grid::{Grid, units_of_one};
 use dl_iv::Iv;
 use std::alloc::{AllocError, Global};
@@ -111,7 +111,7 @@ fn answer<const B: u32>(alloc: Global, case: &Case) -> Result<Option<Told>, Allo
     requires scale_above { 1 ≤ B }
     requires scale_below { B ≤ 56 }
 {
-    if case.cells == 0 || case.cells > 16384 {
+    if case.cells == 0 || case.cells > most_cells(B) {
         return Ok(None);
     }
     let mut g = Grid::<B>::zero(alloc, case.cells)?;
@@ -220,4 +220,50 @@ fn grids_tell(rt: HostRuntime) {
     for case in &CASES {
         assert!(rt; is_so(is_told(rt.alloc(), case)), "{} cells", case.cells);
     }
+}
+
+/// A grid of so many cells, half of 1 in the first and from half to all of 1 in the last.
+fn longest(cells: u32) -> Case {
+    Case {
+        cells,
+        writes: [
+            Write {
+                x: 0,
+                low: 1,
+                high: 1,
+            },
+            Write {
+                x: cells.saturating_sub(1),
+                low: 1,
+                high: 2,
+            },
+        ],
+        kept: cells,
+        want: Told {
+            cells,
+            first: (1, 1),
+            last: (1, 2),
+            all: (2, 2),
+            mass: 2,
+            spread: 1,
+        },
+    }
+}
+
+/// Whether a grid at this scale has at most so many cells, and tells of them.
+fn is_longest<const B: u32>(alloc: Global, cells: u32) -> Result<bool, AllocError>
+    requires scale_above { 1 ≤ B }
+    requires scale_below { B ≤ 56 }
+{
+    let case = longest(cells);
+    Ok(most_cells(B) == cells && answer::<B>(alloc, &case)? == Some(case.want))
+}
+
+#[test]
+fn longest_grids_tell(rt: HostRuntime) {
+    let alloc = rt.alloc();
+    assert!(rt; is_so(is_longest::<1>(alloc, 65536)));
+    assert!(rt; is_so(is_longest::<48>(alloc, 65536)));
+    assert!(rt; is_so(is_longest::<49>(alloc, 16384)));
+    assert!(rt; is_so(is_longest::<56>(alloc, 16384)));
 }

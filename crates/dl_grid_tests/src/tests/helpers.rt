@@ -1,18 +1,29 @@
 //! What several of the tests are made from.
 
-ghost use Rattle.std.specs.Prelude.{◌≤◌, ◌<◌};
-ghost use Rattle.dl_limits.specs.Limits.{most_cells};
+ghost use Rattle.std.specs.Prelude.{◌≡◌, ◌≤◌, ◌<◌};
+ghost use Rattle.dl_limits.specs.Limits.{most_cells_at};
+ghost use Rattle.dl_grid.specs.Room.{IsGridSize};
 
 use dl_grid::{Grid, units_of_one};
 use dl_iv::Iv;
+use dl_limits::{LONG_BITS, MOST_CELLS, MOST_FINE_CELLS};
 use std::alloc::{AllocError, Global};
+
+/// The most cells of a grid whose ends are in units of 1 over 2 to the power `bits`.
+#[tactic(auto, unfolding(dl_limits::specs::Limits::most_cells_at))]
+pub(crate) fn most_cells(bits: u32) -> u32
+    ensures { result ≡ most_cells_at bits }
+{
+    if bits <= LONG_BITS {
+        MOST_CELLS
+    } else {
+        MOST_FINE_CELLS
+    }
+}
 
 /// A grid with nothing in any of its cells.
 pub(crate) fn empty<const B: u32>(alloc: Global, cells: u32) -> Result<Option<Grid<B>>, AllocError>
-    requires scale_above { 1 ≤ B }
-    requires scale_below { B ≤ 56 }
-    requires some { 1 ≤ cells }
-    requires few { cells ≤ most_cells }
+    requires { IsGridSize B cells }
 {
     let mut g = Grid::<B>::zero(alloc, cells)?;
     Ok(if g.put(0, Iv { lo: 0, hi: 0 }) {

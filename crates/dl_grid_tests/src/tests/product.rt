@@ -2,7 +2,7 @@
 
 ghost use Rattle.std.specs.Prelude.{◌≤◌, length};
 
-use crate::tests::helpers::{are_same, empty, is_so, part};
+use crate::tests::helpers::{are_same, empty, is_so, most_cells, part};
 use dl_conv::convolve_plain;
 use dl_grid::{Grid, units_of_one};
 use dl_iv::Iv;
@@ -60,7 +60,11 @@ fn shaped<const B: u32>(
     requires scale_above { 1 ≤ B }
     requires scale_below { B ≤ 56 }
 {
-    if cells == 0 || cells > 16384 || shape.start > cells || shape.count > cells - shape.start {
+    if cells == 0
+        || cells > most_cells(B)
+        || shape.start > cells
+        || shape.count > cells - shape.start
+    {
         return Ok(None);
     }
     let Some(mut g) = empty::<B>(alloc, cells)? else {
@@ -256,4 +260,67 @@ fn equal_parts(rt: HostRuntime) {
     let alloc = rt.alloc();
     let mut work = Workspace::new(alloc);
     assert!(rt; is_so(is_told(alloc, &mut work)));
+}
+
+/// A cell of a product: its number, and its ends.
+type Told = (usize, u128, u128);
+
+/// Of the sum of an amount from 100 on, one of 60,000 that are equally likely, and of one from 3 on,
+/// one of 50,000, each probability rounded down and up: worked out by whole numbers of any size.
+const LONG_SUMS: [Told; 6] = [
+    (102, 0, 0),
+    (103, 93824, 93825),
+    (104, 187649, 187650),
+    (30000, 2805179617, 2805179619),
+    (50103, 4691249610, 4691249613),
+    (65535, 4181498428, 4181498430),
+];
+
+/// Of the sum of two of the first amounts.
+const LONG_SQUARES: [Told; 4] = [
+    (199, 0, 0),
+    (200, 78187, 78188),
+    (32768, 2546488475, 2546488477),
+    (65535, 4274041144, 4274041147),
+];
+
+/// Whether a grid has these cells.
+fn has_cells(g: &Grid<48>, cells: &[Told]) -> bool {
+    let mut same = true;
+    for (i, low, high) in cells {
+        same = same && g.lows().get(*i) == Some(low) && g.highs().get(*i) == Some(high);
+    }
+    same
+}
+
+/// Whether the product of two grids of 65,536 cells has them, and the square of the first.
+fn are_long(
+    alloc: Global,
+    work: &mut Workspace,
+    a: &Grid<48>,
+    b: &Grid<48>,
+) -> Result<bool, AllocError> {
+    if a.cells() != 65536 || b.cells() != 65536 {
+        return Ok(false);
+    }
+    let sum = product(alloc, work, a, b, 65536)?;
+    let squared = square(alloc, work, a, 65536)?;
+    Ok(has_cells(&sum, &LONG_SUMS) && has_cells(&squared, &LONG_SQUARES))
+}
+
+/// Whether there are two such grids, and they are so.
+fn is_told_at_length(alloc: Global, work: &mut Workspace) -> Result<bool, AllocError> {
+    let a = shaped::<48>(alloc, 65536, alike(Ends::Part(60000), 100, 60000))?;
+    let b = shaped::<48>(alloc, 65536, alike(Ends::Part(50000), 3, 50000))?;
+    match (&a, &b) {
+        (Some(a), Some(b)) => are_long(alloc, work, a, b),
+        _ => Ok(false),
+    }
+}
+
+#[test]
+fn longest_grids(rt: HostRuntime) {
+    let alloc = rt.alloc();
+    let mut work = Workspace::new(alloc);
+    assert!(rt; is_so(is_told_at_length(alloc, &mut work)));
 }

@@ -221,7 +221,7 @@ fn counts(alloc: Global, levels: u32, buffers: &mut Buffers) -> Result<bool, All
 fn there_are_tables_at_every_level(rt: HostRuntime) {
     let alloc = rt.alloc();
     let mut buffers = Buffers::new(alloc);
-    for levels in 1..16 {
+    for levels in 1..18 {
         assert!(rt;
             is_so(counts(alloc, levels, &mut buffers)),
             "{levels} levels"

@@ -112,14 +112,14 @@ const KEPT: [Row<u64, u64>; 15] = [
 ];
 
 /// The horizons of clauses on a grid of so many cells.
-const HORIZONS: [Row<u32, u32>; 16] = [
+const HORIZONS: [Row<u32, u32>; 20] = [
     // the edge 6, at which 4 is kept; past it s - 2
     (true, HALF, None, 1, Some(6)),
     (true, HALF, None, 4, Some(6)),
     (true, HALF, None, 5, Some(7)),
     (true, HALF, None, 16, Some(18)),
-    (true, HALF, None, 16_382, Some(16_384)),
-    (true, HALF, None, 16_383, None),
+    (true, HALF, None, 65_534, Some(65_536)),
+    (true, HALF, None, 65_535, None),
     // 30 at the edge 50, past it s - 20
     (true, Layer(1, 1, Some(20), 30), None, 1_024, Some(1_044)),
     // constant from the edge on
@@ -129,13 +129,31 @@ const HORIZONS: [Row<u32, u32>; 16] = [
     (true, Layer(1, 1, None, 0), None, 16, Some(1)),
     // a third of s
     (false, THIRD, None, 16, Some(48)),
-    (false, THIRD, None, 5_461, Some(16_383)),
-    (false, THIRD, None, 5_462, None),
+    (false, THIRD, None, 21_845, Some(65_535)),
+    (false, THIRD, None, 21_846, None),
     // two layers: 2 at the edge 10, past it s - 8
     (false, HALF, Some(UPPER), 16, Some(24)),
     // an edge at 16,384, and past it
     (false, Layer(1, 1, Some(1), 16_383), None, 16, Some(16_384)),
     (false, Layer(1, 1, Some(1), 16_384), None, 16, None),
+    // the longest grid of the finer scale, and the next longer one
+    (false, Layer(1, 1, Some(1), 16_384), None, 4_096, None),
+    (
+        false,
+        Layer(1, 1, Some(1), 16_384),
+        None,
+        4_097,
+        Some(16_385),
+    ),
+    // an edge at 65,536, and past it
+    (
+        false,
+        Layer(1, 1, Some(1), 65_535),
+        None,
+        4_097,
+        Some(65_536),
+    ),
+    (false, Layer(1, 1, Some(1), 65_536), None, 4_097, None),
 ];
 
 /// What a clause keeps of an amount.
@@ -190,8 +208,8 @@ fn plain_horizon(alloc: Global, cells: u32) -> Result<Option<u32>, AllocError> {
 
 #[test]
 fn horizon_of_no_clause(rt: HostRuntime) -> Result<(), AllocError> {
-    assert_eq!(rt; plain_horizon(rt.alloc(), 16_384)?, Some(16_384));
-    assert_eq!(rt; plain_horizon(rt.alloc(), 16_385)?, None);
+    assert_eq!(rt; plain_horizon(rt.alloc(), 65_536)?, Some(65_536));
+    assert_eq!(rt; plain_horizon(rt.alloc(), 65_537)?, None);
     Ok(())
 }
 

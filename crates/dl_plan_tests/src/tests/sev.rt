@@ -507,20 +507,21 @@ fn bucket_of(parts: (u64, u64)) -> Option<Frac>
     }
 }
 
-/// The values as buckets of a size, where the parts are good ones.
+/// The values as buckets of a size, with amounts of up to `top`, where these are good ones.
 fn amounts_of(
     alloc: Global,
     parts: &[(u64, u64)],
     bs: (u64, u64),
+    top: u32,
 ) -> Result<Vec<u32>, AmountFault> {
     let Some(size) = bucket_of(bs) else {
         return Err(AmountFault::OutOfMemory);
     };
     let values = fractions(alloc, parts)?;
-    if values.len() > 1_024 || !values.iter().all(|value| is_modest(*value)) {
+    if top > 1 << 22 || values.len() > 1_024 || !values.iter().all(|value| is_modest(*value)) {
         return Err(AmountFault::OutOfMemory);
     }
-    amounts(alloc, &values, size)
+    amounts(alloc, &values, size, top)
 }
 
 /// Whether both parts are below 10^18.
@@ -534,12 +535,12 @@ fn is_modest(x: Frac) -> bool
 const BUCKETS: [([(u64, u64); 3], (u64, u64), [u32; 3]); 3] = [
     ([(1, 2), (1, 1), (3, 2)], (1, 2), [1, 2, 3]),
     ([(0, 1), (5, 1), (10, 1)], (5, 1), [0, 1, 2]),
-    ([(1_048_576, 1), (1, 1), (2, 1)], (1, 1), [1_048_576, 1, 2]),
+    ([(4_194_304, 1), (1, 1), (2, 1)], (1, 1), [4_194_304, 1, 2]),
 ];
 
 /// Whether the values are these amounts in buckets of a size.
 fn are_amounts(alloc: Global, parts: &[(u64, u64)], bs: (u64, u64), wanted: &[u32]) -> bool {
-    match amounts_of(alloc, parts, bs) {
+    match amounts_of(alloc, parts, bs, 1 << 22) {
         Ok(made) => made.as_slice() == wanted,
         Err(_) => false,
     }
@@ -552,20 +553,34 @@ fn buckets(rt: HostRuntime) {
     }
 }
 
-/// Amounts of money of which one is no amount in buckets of size 1. That one is off the grid goes
-/// before that one is too far, also where it stands later.
-const NO_BUCKETS: [([(u64, u64); 3], AmountFault); 3] = [
-    ([(1, 1), (3, 2), (1, 3)], AmountFault::OffGrid(1)),
-    ([(1_048_577, 1), (1, 1), (1, 2)], AmountFault::OffGrid(2)),
+/// Amounts of money of which one is no amount in buckets of size 1 of up to so many. That one is
+/// off the grid goes before that one is too far, also where it stands later.
+const NO_BUCKETS: [([(u64, u64); 3], u32, AmountFault); 5] = [
+    ([(1, 1), (3, 2), (1, 3)], 1 << 20, AmountFault::OffGrid(1)),
     (
-        [(1, 1), (1_048_577, 1), (1_048_578, 1)],
+        [(1_048_577, 1), (1, 1), (1, 2)],
+        1 << 20,
+        AmountFault::OffGrid(2),
+    ),
+    (
+        [(1_048_576, 1), (1_048_577, 1), (1_048_578, 1)],
+        1 << 20,
         AmountFault::TooFar(1),
     ),
+    (
+        [(4_194_304, 1), (1, 1), (4_194_305, 1)],
+        1 << 22,
+        AmountFault::TooFar(2),
+    ),
+    ([(3, 1), (4, 1), (5, 1)], 3, AmountFault::TooFar(1)),
 ];
 
 #[test]
 fn no_buckets(rt: HostRuntime) {
-    for (parts, wanted) in &NO_BUCKETS {
-        assert_eq!(rt; amounts_of(rt.alloc(), parts, (1, 1)).err(), Some(*wanted));
+    for (parts, top, wanted) in &NO_BUCKETS {
+        assert_eq!(rt;
+            amounts_of(rt.alloc(), parts, (1, 1), *top).err(),
+            Some(*wanted)
+        );
     }
 }

@@ -1,7 +1,7 @@
 //! Each rule once broken, with its unit and where its place begins, worked by hand; and the numbers
 //! and the names of rules.
 
-ghost use Rattle.std.specs.Prelude.{IfSome};
+ghost use Rattle.std.specs.Prelude.{◌≤◌, IfSome};
 ghost use Rattle.dl_ast.specs.WellFormed.{IsWellFormed};
 ghost use Rattle.dl_types.specs.Kept.{IsSet};
 
@@ -150,15 +150,17 @@ const CASES: [Case; 34] = [
     (b"agg A 4 claims dsev [1] mixed gamma .5", None),
 ];
 
-/// Buckets of size 1, and a grid of 16 cells.
-fn settings(alloc: Global) -> Settings
+/// Buckets of size 1, and a grid of 2 to the power `log2` cells.
+fn settings(alloc: Global, log2: u32) -> Settings
+    requires some { 1 ≤ log2 }
+    requires few { log2 ≤ 16 }
     ensures { IsSet result }
 {
     Settings {
         form: Form::Run,
         make: None,
         bs: Frac::whole(1),
-        log2: 4,
+        log2,
         digits: 6,
         width: 10,
         mwidth: 1_000_000,
@@ -178,17 +180,23 @@ fn program_of(alloc: Global, text: &[u8]) -> Option<Program>
     parse(alloc, text, &tokens).ok()
 }
 
-/// Why the program of a text is refused, if it is; nothing where it is no program.
-fn first_fault(alloc: Global, text: &[u8]) -> Option<Option<CheckFault>> {
+/// Why the program of a text is refused, if it is; nothing where it is no program, or there is no
+/// such grid.
+fn first_fault(alloc: Global, log2: u32, text: &[u8]) -> Option<Option<CheckFault>> {
+    if log2 == 0 || log2 > 16 {
+        return None;
+    }
     let program = program_of(alloc, text)?;
-    Some(fault_in(alloc, &program))
+    Some(fault_in(alloc, log2, &program))
 }
 
 /// Why a program is refused, if it is.
-fn fault_in(alloc: Global, program: &Program) -> Option<CheckFault>
-    requires { IsWellFormed program.now }
+fn fault_in(alloc: Global, log2: u32, program: &Program) -> Option<CheckFault>
+    requires some { 1 ≤ log2 }
+    requires few { log2 ≤ 16 }
+    requires formed { IsWellFormed program.now }
 {
-    let settings = settings(alloc);
+    let settings = settings(alloc, log2);
     check(alloc, program, &settings).err()
 }
 
@@ -205,7 +213,64 @@ fn told(fault: Option<CheckFault>) -> Option<Option<(u32, Rule, u32)>> {
 #[test]
 fn rules(rt: HostRuntime) {
     for (text, want) in &CASES {
-        let got = first_fault(rt.alloc(), text).and_then(told);
+        let got = first_fault(rt.alloc(), 4, text).and_then(told);
+        assert_eq!(rt; got, Some(*want));
+    }
+}
+
+/// The amounts and the horizons that are the greatest, and the next greater ones: on the longest
+/// grid of the finer scale, and on the next longer one. Each with the exponent of its cells.
+const LENGTHS: [(u32, Case); 8] = [
+    (12, (b"agg A 1 claims dsev [1048576] fixed", None)),
+    (
+        12,
+        (
+            b"agg A 1 claims dsev [1048577] fixed",
+            Some((0, Rule::TooFar, 21)),
+        ),
+    ),
+    (13, (b"agg A 1 claims dsev [4194304] fixed", None)),
+    (
+        13,
+        (
+            b"agg A 1 claims dsev [4194305] fixed",
+            Some((0, Rule::TooFar, 21)),
+        ),
+    ),
+    (
+        12,
+        (
+            b"agg A 1 claims dsev [1] fixed aggregate net of inf xs 16384",
+            None,
+        ),
+    ),
+    (
+        12,
+        (
+            b"agg A 1 claims dsev [1] fixed aggregate net of inf xs 16385",
+            Some((0, Rule::HorizonTooLarge, 30)),
+        ),
+    ),
+    (
+        13,
+        (
+            b"agg A 1 claims dsev [1] fixed aggregate net of inf xs 65536",
+            None,
+        ),
+    ),
+    (
+        13,
+        (
+            b"agg A 1 claims dsev [1] fixed aggregate net of inf xs 65537",
+            Some((0, Rule::HorizonTooLarge, 30)),
+        ),
+    ),
+];
+
+#[test]
+fn rules_by_length(rt: HostRuntime) {
+    for (log2, (text, want)) in &LENGTHS {
+        let got = first_fault(rt.alloc(), *log2, text).and_then(told);
         assert_eq!(rt; got, Some(*want));
     }
 }

@@ -30,7 +30,7 @@ const MISFITS: [&str; 63] = [
     "run mean --log2 +4",
     "run mean --log2 4.0",
     "run mean --log2 0",
-    "run mean --log2 13",
+    "run mean --log2 17",
     "run mean --log2 0000000000000004",
     "run mean --log2 4 --log2=4",
     "run mean --log2=4 --log2 5",
@@ -57,7 +57,7 @@ const MISFITS: [&str; 63] = [
     "run mean --format",
     "run mean --format TEXT",
     "run mean --format xml",
-    "run pmf --log2 13",
+    "run pmf --log2 17",
     "fmt mean",
     "fmt -- mean",
     "fmt --bs 1",
@@ -202,13 +202,13 @@ fn settings(rt: HostRuntime) {
 }
 
 /// Each option in turn, with a value that is not its default.
-const OPTIONS: &str = "--make=4294967295 --bs 2.5 run --log2 000000000000012 pmf:007 --digits=09 \
+const OPTIONS: &str = "--make=4294967295 --bs 2.5 run --log2 000000000000016 pmf:007 --digits=09 \
     --width 1000000000 --mwidth=1000000000000 --format json -- cdf:1";
 
 /// Whether the settings are those that each option says.
 fn are_chosen(settings: &Settings) -> bool {
     settings.make == Some(4294967295)
-        && numbers(settings) == [5, 2, 12, 9, 1000000000, 1000000000000]
+        && numbers(settings) == [5, 2, 16, 9, 1000000000, 1000000000000]
         && settings.format == Format::Json
         && settings.asks.as_slice().len() == 2
         && is_first(settings, "pmf:007", (0, 7, 0))

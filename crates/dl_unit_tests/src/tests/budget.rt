@@ -11,7 +11,7 @@ use dl_plan::CedeLayer;
 fn power_of<const B: u32>(cells: u32, base: u32, steps: u32) -> u128
     requires { IsPlanScale B }
 {
-    if cells > 16_384 || base > 196_611 || steps > 65_536 {
+    if cells > 65_536 || base > 196_611 || steps > 65_536 {
         return 0;
     }
     power::<B>(cells, base as u128, steps)
@@ -19,20 +19,24 @@ fn power_of<const B: u32>(cells: u32, base: u32, steps: u32) -> u128
 
 /// The spread of a listed count; 0 past the limits.
 #[tactic(auto, using(dl_budget::proofs::Counts::listed_begins))]
-fn listed_of(cells: u32, base: u32, greatest: u32) -> u128 {
-    if cells > 16_384 || base > 65_536 || greatest > 256 {
+fn listed_of<const B: u32>(cells: u32, base: u32, greatest: u32) -> u128
+    requires { IsPlanScale B }
+{
+    if cells > 65_536 || base > 65_536 || greatest > 256 {
         return 0;
     }
-    listed::<56>(cells, base as u128, greatest)
+    listed::<B>(cells, base as u128, greatest)
 }
 
 /// The spread of a Poisson count with so many halvings; 0 past the limits.
 #[tactic(auto, using(dl_budget::proofs::Bases::poisson_room))]
-fn poisson_of(cells: u32, halvings: u32) -> u128 {
-    if cells > 16_384 || halvings > 13 {
+fn poisson_of<const B: u32>(cells: u32, halvings: u32) -> u128
+    requires { IsPlanScale B }
+{
+    if cells > 65_536 || halvings > 13 {
         return 0;
     }
-    doubled::<56>(cells, 8 * cells as u128 + 128, halvings)
+    doubled::<B>(cells, 8 * cells as u128 + 128, halvings)
 }
 
 /// How often a mean of 1 is halved.
@@ -42,7 +46,7 @@ fn halvings_of_one() -> u32 {
 }
 
 /// So many equal units, the greatest that there are; 0 past the limits.
-fn equal_units<const B: u32>(unit: u128, many: u32) -> u128
+fn equal_units<const B: u32>(cells: u32, unit: u128, many: u32) -> u128
     requires { IsPlanScale B }
 {
     let mut sum = unit;
@@ -50,7 +54,7 @@ fn equal_units<const B: u32>(unit: u128, many: u32) -> u128
         if sum > 1 << 40 || unit > 1 << 40 {
             return 0;
         }
-        sum = joined::<B>(4096, sum, unit);
+        sum = joined::<B>(cells, sum, unit);
     }
     sum
 }
@@ -85,23 +89,25 @@ fn powers(rt: HostRuntime) {
 #[test]
 fn lists(rt: HostRuntime) {
     for (cells, base, greatest, want) in LISTS {
-        assert_eq!(rt; listed_of(cells, base, greatest), want);
+        assert_eq!(rt; listed_of::<56>(cells, base, greatest), want);
     }
 }
 
 #[test]
 fn halved_counts(rt: HostRuntime) {
     for (cells, halvings, want) in HALVED {
-        assert_eq!(rt; poisson_of(cells, halvings), want);
+        assert_eq!(rt; poisson_of::<56>(cells, halvings), want);
     }
 }
 
 #[test]
 fn single_numbers(rt: HostRuntime) {
     assert_eq!(rt; halvings_of_one(), 1);
-    assert_eq!(rt; power_of::<48>(16_384, 196_611, 65_536), 15_033_015_379);
-    assert_eq!(rt; equal_units::<48>(30_065_232_854, 16), 481_429_404_317);
+    assert_eq!(rt; power_of::<48>(65_536, 196_611, 65_536), 21_475_785_348);
+    assert_eq!(rt; listed_of::<48>(65_536, 65_536, 256), 50_332_417);
+    assert_eq!(rt; poisson_of::<48>(65_536, 13), 5_369_685_680);
+    assert_eq!(rt; equal_units::<48>(65_536, 42_951_570_696, 16), 688_014_161_179);
     for (many, want) in [(16, 481_045_353_881), (15, 450_979_924_668)] {
-        assert_eq!(rt; equal_units::<56>(30_065_232_854, many), want);
+        assert_eq!(rt; equal_units::<56>(4_096, 30_065_232_854, many), want);
     }
 }

@@ -57,5 +57,5 @@ returns g c =
           (joint_holds c.args.unit.now c.args.others.now us i c.args.x c.requires.in_unit c.requires.in_others
           (are_units us declared) here e f).0 at;
       small = top;
-      divisible = λ few. end_divisible c.args.unit.now c.args.x _ c.cells.ensures.grid top few;
+      divisible = λ room. end_divisible (2 ^ g.row.B) c.args.x _ top room;
     })

@@ -1,9 +1,14 @@
 use Rattle.std.proofs.Common.{arith, sym}
 use Rattle.dl_grid.specs.Cells.{low_at, high_at}
 use Rattle.dl_exact.proofs.Counts.{below_nothing}
+use Rattle.dl_grid.proofs.CellLaws.{size_of}
+use Rattle.dl_grid.proofs.Room.{size_few}
 use Rattle.dl_alloc.proofs.WeightedSums.{all_places}
 use Rattle.dl_alloc.proofs.WeightedEnds.{low_step, high_step}
 use Rattle.dl_alloc.proofs.joint.weighted_sums.Goals as goal
+
+pub overflow_add-y-end : goal.overflow_add-y-end
+overflow_add-y-end g c = omega (arith, c.requires.in_unit, size_few (size_of c.args.unit.now c.requires.unit))
 
 pub loop-y-init : goal.loop-y-init
 loop-y-init g c = record { low = sym (below_nothing _); high = sym (below_nothing _) }

@@ -4,7 +4,7 @@ use Rattle.dl_amounts.proofs.buckets.grid_amount.Goals as goal
 
 pub returns : goal.returns
 returns c =
-    amount_gridded c.args.amount c.args.bs c.num.result c.den.result c.den-2.result c.num-2.result
+    amount_gridded c.args.most c.args.amount c.args.bs c.num.result c.den.result c.den-2.result c.num-2.result
     c.requires.bucket.above c.num.ensures.part c.den.ensures.part c.den-2.ensures.part c.num-2.ensures.part
     c.args.place c.min.result c.place_if.result c.place_if-2.result c.min.ensures c.place_if.ensures
     c.place_if-2.ensures

@@ -5,6 +5,6 @@ use Rattle.dl_amounts.proofs.buckets.grid_amounts.Given as goal
 
 abbrev pub invariant-values : goal.invariant-values
 invariant-values l =
-    IsGridded (λ test. first_in (value_fails l.bs test) (zip (take l.at l.value-items) (take l.at l.places)))
+    IsGridded l.fn.most (λ test. first_in (value_fails l.bs test) (zip (take l.at l.value-items) (take l.at l.places)))
     (map (value_number l.bs) (zip (take l.at l.value-items) (take l.at l.places)))
     (record { part = l.made.items; flaws = l.flaws })

@@ -4,5 +4,5 @@ use Rattle.dl_amounts.proofs.buckets.grid_atoms.Given as goal
 
 abbrev pub invariant-atoms : goal.invariant-atoms
 invariant-atoms l =
-    IsGridded (λ test. first_in (λ (a : ReadAtom). list_fails test l.bs a.values) l.yielded)
+    IsGridded l.fn.most (λ test. first_in (λ (a : ReadAtom). list_fails test l.bs a.values) l.yielded)
     (map (grid_atom l.bs) l.yielded) (record { part = l.made.items; flaws = l.flaws })

@@ -5,13 +5,13 @@ use Rattle.dl_amounts.proofs.buckets.grid_layers.Goals as goal
 
 pub layers-init : goal.layers-init
 layers-init c =
-    none_gridded (λ test (x : ReadCeded). layer_fails test c.args.bs x.layer) (grid_ceded c.args.bs)
+    none_gridded c.args.most (λ test (x : ReadCeded). layer_fails test c.args.bs x.layer) (grid_ceded c.args.bs)
     c.new-made.result.items c.none-flaws.result c.new-made.ensures.items c.none-flaws.ensures.off_grid
     c.none-flaws.ensures.too_far
 
 pub layers-preserved : goal.layers-preserved
 layers-preserved c =
-    more_gridded (λ test (x : ReadCeded). layer_fails test c.args.bs x.layer) (grid_ceded c.args.bs)
+    more_gridded c.args.most (λ test (x : ReadCeded). layer_fails test c.args.bs x.layer) (grid_ceded c.args.bs)
     (take c.layers.ceded-index c.args.layers.now) _ c.ceded-item.result c.layers.made.items c.push.new.self.items
     (record {
       part = record {
@@ -23,11 +23,11 @@ layers-preserved c =
     }) c.layers.flaws c.or-flaws.result
     (take_more c.args.layers.now c.layers.ceded-index c.ceded-item.result c.layers-test.true
     ∙ ap (λ x. take c.layers.ceded-index c.args.layers.now ++ x ∷ []) (sym c.ceded-item.is)) c.layers.invariant
-    (ceded_gridded c.args.bs c.ceded-item.result c.grid_share.result c.grid_layer-one.result c.grid_share.ensures
+    (ceded_gridded c.args.most c.args.bs c.ceded-item.result c.grid_share.result c.grid_layer-one.result c.grid_share.ensures
     c.grid_layer-one.ensures) c.in_ok-push.ensures.items c.or-flaws.ensures
 
 pub returns : goal.returns
 returns c =
-    all_gridded (λ test (x : ReadCeded). layer_fails test c.args.bs x.layer) (grid_ceded c.args.bs) (λ made. made)
+    all_gridded c.args.most (λ test (x : ReadCeded). layer_fails test c.args.bs x.layer) (grid_ceded c.args.bs) (λ made. made)
     c.args.layers.now _ c.layers.made.items c.from_vec.result c.layers.flaws
     (take_all c.layers.ceded-index c.args.layers.now c.layers-test.false) c.from_vec.ensures c.layers.invariant

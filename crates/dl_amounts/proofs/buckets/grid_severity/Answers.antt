@@ -7,6 +7,6 @@ pub returns : goal.returns
 returns c =
     let made : List GridAtom → GridSev =
     λ atoms. record { atoms = atoms; weights = c.args.sev.weights; bang = c.args.sev.bang } in
-    all_gridded (λ test (a : ReadAtom). list_fails test c.args.bs a.values) (grid_atom c.args.bs) made
+    all_gridded c.args.most (λ test (a : ReadAtom). list_fails test c.args.bs a.values) (grid_atom c.args.bs) made
     c.args.sev.atoms c.into_vec.result.items c.in_ok-atoms.atoms.part _ c.in_ok-atoms.atoms.flaws
     c.into_vec.ensures refl c.in_ok-atoms.ensures

@@ -9,7 +9,7 @@ returns-clause-value c =
     no_cession a c.requires.layered (λ cession.
     let made : c.in-Some.layers.items ≡ map ceded_layer a.layers =
     subst (λ o. MatchOption o (is_fine (shares_of a) ≡ false)
-    (λ layers. layers.items ≡ map ceded_layer a.layers)) c.in-Some.is c.in_ok-layers.ensures.value in
+    (λ layers. layers.items ≡ map ceded_layer a.layers)) c.in-Some.is c.in_ok-layers.ensures in
     let same : c.in_ok-clause.clause ≡ clause_of a = c.in_ok-clause.ensures
     ∙ ap (λ (ls : List CedeLayer). (a.net, ls)) (c.deref.ensures.value ∙ made) in
     let is : c.is_clause.result ≡ true = c.is_clause.ensures.1 (subst IsClause (sym same) cession) in
@@ -17,5 +17,5 @@ returns-clause-value c =
 
 pub returns-then-is_clause-clause-value : goal.returns-then-is_clause-clause-value
 returns-then-is_clause-clause-value c =
-    let made = rw c.in-Some.is at c.in_ok-layers.ensures.value in
+    let made = rw c.in-Some.is at c.in_ok-layers.ensures in
     c.in_ok-clause.ensures ∙ ap (λ (ls : List CedeLayer). (c.args.cession.now.net, ls)) (c.deref.ensures.value ∙ made)

@@ -9,8 +9,8 @@ share_of-requires c =
     c.as_slice-ceded-items.result.now c.layers.ceded-index c.ceded-item.result c.as_slice-ceded-items.ensures
     (shares_kept c.args.cession.now c.requires.layered.within) c.layers-test.true c.ceded-item.is
 
-pub returns-in_default-clause-value : goal.returns-in_default-clause-value
-returns-in_default-clause-value c =
+pub returns-in_default : goal.returns-in_default
+returns-in_default c =
     let layers = c.args.cession.now.layers in
     let i = c.layers.ceded-index in
     let lt : i < length layers = subst (λ xs. i < length xs) c.as_slice-ceded-items.ensures c.layers-test.true in

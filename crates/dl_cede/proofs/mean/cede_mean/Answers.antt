@@ -1,5 +1,6 @@
-use Rattle.dl_cede.proofs.Common.{arith, length, ap, spread}
+use Rattle.dl_cede.proofs.Common.{◌≤◌, ◌^◌, arith, length, ap, spread}
 use Rattle.dl_plan.specs.MeanWidth.{mean_width}
+use Rattle.dl_cede.proofs.MeanSizes.{claims_fit, all_near}
 use Rattle.dl_cede.proofs.MeanEnds.{aggregate, edges_inside, plain_holds}
 use Rattle.dl_cede.proofs.mean.cede_mean.Goals as goal
 
@@ -11,7 +12,10 @@ kept_mean-requires g c =
     let inside = edges_inside horizon.0 (length c.args.grid.now) c.args.unit.now.cede c.in-Some.cede
     c.in-Some.is horizon.1 in
     let mean = c.claims_mean-claims.ensures in
-    (omega arith, (omega arith, (clause.accepted, (clause.near, (inside, (mean.width, mean.small))))))
+    let near = all_near valid.0 c.in-Some.cede.1 clause.near in
+    let small : c.claims_mean-claims.result.hi ≤ 2 ^ 94 = omega
+    (arith, mean.small valid.0 valid.1, claims_fit g.row.B valid.0 c.requires.scale_below) in
+    (omega arith, (omega arith, (clause.accepted, (near, (inside, (mean.width, small))))))
 
 pub returns-in-Some-clause-holds : goal.returns-in-Some-clause-holds
 returns-in-Some-clause-holds g c =
@@ -22,6 +26,13 @@ returns-in-Some-clause-holds g c =
 pub returns-in-Some-clause-width : goal.returns-in-Some-clause-width
 returns-in-Some-clause-width g c =
     omega (arith, c.kept_mean.ensures.width, ap (λ cede. mean_width cede (spread c.args.grid.now)) c.in-Some.is)
+
+pub returns-in-Some-clause-small : goal.returns-in-Some-clause-small
+returns-in-Some-clause-small g c = λ cells valid.
+    omega (arith, c.kept_mean.ensures.small, c.claims_mean-claims.ensures.small cells valid)
+
+pub returns-in-None-clause-small : goal.returns-in-None-clause-small
+returns-in-None-clause-small g c = λ cells valid. omega (arith, c.claims_mean-claims.ensures.small cells valid)
 
 pub returns-in-None-clause-holds : goal.returns-in-None-clause-holds
 returns-in-None-clause-holds g c = plain_holds c.args.unit.now c.claims_mean-claims.result c.in-None.is

@@ -1,5 +1,6 @@
-use Rattle.dl_cede.proofs.Common.{arith, ◌+◌, ◌≤◌, ◌^◌, length, ap, ◌∙◌, sum_by, take_all, whole, ◌≤ℚ◌, spread, one_fits, CedeLayer, edge, IsWithinMostAmount, part_width}
-use Rattle.dl_cede.proofs.MeanSizes.{each_at, more_most, more_width, most_fits, fine_shares}
+use Rattle.dl_cede.proofs.Common.{arith, ◌+◌, ◌≤◌, ◌^◌, length, ap, ◌∙◌, sum_by, take_all, whole, ◌≤ℚ◌, spread, CedeLayer, edge, part_width}
+use Rattle.dl_cede.proofs.MeanSizes.{each_at, more_most, more_width, most_fits, limited_fits, fine_shares}
+use Rattle.dl_cede.specs.Means.{IsNear}
 use Rattle.dl_cede.proofs.MeanEnds.{ceded_start, ceded_next, all_taken}
 use Rattle.dl_cede.proofs.mean.ceded_mean.Goals as goal
 
@@ -23,7 +24,7 @@ part_of-requires g c =
       (
         omega arith,
         (
-          at IsWithinMostAmount c.requires.near,
+          at IsNear c.requires.near,
           (
             at (λ (k : CedeLayer). k.share ≤ℚ whole 1) c.requires.clause.within,
             (
@@ -44,13 +45,14 @@ add-ceded-requires g c =
     let seen = c.layers-layers.result.now in
     let i = c.layers.layer-index in
     let l = c.layer-item.result in
-    let scale = one_fits g.row.B c.args.claims.scale_below in
     let sum = more_most clause seen c.layers-layers.ensures i l c.layers-test.true c.layer-item.is
     (2 ^ g.row.B) c.args.claims.hi
     c.layers.ceded.hi c.part_of.result.hi
     c.layers.invariant.small c.part_of.ensures.small in
-    let fits = most_fits clause seen c.layers-layers.ensures (2 ^ g.row.B) c.args.claims.hi (i + 1)
-    (c.layers.ceded.hi + c.part_of.result.hi) c.requires.clause c.requires.near scale c.requires.small sum in
+    let most = most_fits clause seen c.layers-layers.ensures (2 ^ g.row.B) c.args.claims.hi (i + 1)
+    (c.layers.ceded.hi + c.part_of.result.hi) c.requires.clause c.requires.near sum in
+    let fits = limited_fits g.row.B c.args.claims.hi (c.layers.ceded.hi + c.part_of.result.hi)
+    c.args.claims.scale_below c.requires.small most in
     (omega arith, omega (arith, fits))
 
 pub layers-preserved : goal.layers-preserved
@@ -105,5 +107,4 @@ pub returns-clause-small : goal.returns-clause-small
 returns-clause-small g c =
     most_fits c.args.cede.now c.layers-layers.result.now c.layers-layers.ensures
     (2 ^ g.row.B) c.args.claims.hi c.layers.layer-index
-    c.layers.ceded.hi c.requires.clause c.requires.near
-    (one_fits g.row.B c.args.claims.scale_below) c.requires.small c.layers.invariant.small
+    c.layers.ceded.hi c.requires.clause c.requires.near c.layers.invariant.small

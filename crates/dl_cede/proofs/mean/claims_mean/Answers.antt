@@ -1,14 +1,18 @@
 use Rattle.dl_cede.proofs.Common.{arith}
-use Rattle.dl_cede.proofs.MeanSizes.{unit_small}
+use Rattle.dl_cede.proofs.MeanSizes.{amounts_near, unit_small, claims_fit}
 use Rattle.dl_cede.proofs.MeanEnds.{claims_hold, nearest_ends}
 use Rattle.dl_cede.proofs.mean.claims_mean.Goals as goal
+
+pub mean_parts-num-requires-clause-near : goal.mean_parts-num-requires-clause-near
+mean_parts-num-requires-clause-near g c = amounts_near c.requires.valid.0 c.args.unit.now c.requires.valid.1
 
 pub enclose-requires : goal.enclose-requires
 enclose-requires g c =
     let parts = c.mean_parts-num.ensures in
+    let valid = c.requires.valid in
     let small = unit_small g.row.B c.args.unit.now c.mean_parts-num.result.0 c.mean_parts-num.result.1
-    c.requires.scale_below
-    c.requires.valid parts.positive parts.value in (
+    valid.0 valid.1 parts.positive parts.value in
+    let fits = claims_fit g.row.B valid.0 c.requires.scale_below in (
       omega arith,
       (
         omega arith,
@@ -18,7 +22,7 @@ enclose-requires g c =
             parts.positive,
             (
               omega (arith, parts.den),
-              (omega (arith, parts.num), omega (arith, small)),
+              (omega (arith, parts.num), omega (arith, small, fits)),
             ),
           ),
         ),
@@ -37,12 +41,11 @@ returns-clause-ends g c =
     parts.value c.enclose.ensures.low c.enclose.ensures.high
 
 pub returns-clause-small : goal.returns-clause-small
-returns-clause-small g c =
+returns-clause-small g c = λ cells valid.
     let parts = c.mean_parts-num.ensures in
     omega (
       arith,
       c.enclose.ensures.high,
-      unit_small g.row.B c.args.unit.now c.mean_parts-num.result.0 c.mean_parts-num.result.1 c.requires.scale_below
-          c.requires.valid
+      unit_small g.row.B c.args.unit.now c.mean_parts-num.result.0 c.mean_parts-num.result.1 cells valid
           parts.positive parts.value,
     )

@@ -5,7 +5,7 @@ use Rattle.dl_cede.proofs.mean.part_of.Goals as goal
 
 pub scale-requires : goal.scale-requires
 scale-requires g c =
-    let small = most_small c.args.layer.now.limit _ c.args.claims.hi c.layer_mean-mean.result.hi c.requires.near.limit
+    let small = most_small c.args.layer.now.limit _ c.args.claims.hi c.layer_mean-mean.result.hi c.requires.near
     (one_fits _ c.args.claims.scale_below) c.requires.small c.layer_mean-mean.ensures.most in
     let within = part_le c.args.layer.now.share c.num.ensures.part c.den.ensures.part c.requires.share in
     let fits = share_fits c.layer_mean-mean.result.hi c.num.result c.den.result small within

@@ -1,16 +1,16 @@
-use Rattle.dl_direct.proofs.Common.{◌≡◌, ℕ, ◌+◌, ◌*◌, ◌<◌, ◌≤◌, ◌^◌, [], ◌++◌, get_or, arith, refl, sym, ap, ap₂, subst, ◌∙◌, All, sum_by, flat_map, Part, Run, in_a_row, run_parts, all_parts}
+use Rattle.dl_direct.proofs.Common.{◌≡◌, ℕ, ◌+◌, ◌*◌, ◌/◌, ◌<◌, ◌≤◌, ◌^◌, [], ◌++◌, get_or, arith, refl, sym, ap, ap₂, subst, ◌∙◌, All, sum_by, flat_map, Part, Run, in_a_row, run_parts, all_parts}
 use Rattle.std.specs.Prelude.{◌==◌, if◌then◌else◌}
 use Rattle.dl_plan.specs.declared.item.Item.{Item}
 use Rattle.std.proofs.lemmas.List.{take_all}
 use Rattle.dl_direct.proofs.Runs.{row_none}
-use Rattle.dl_direct.proofs.Units.{times_item, times_sum, times_each, item_joined, item_begun}
+use Rattle.dl_direct.proofs.Units.{times_item, some_steps, times_sum, times_each, item_joined, item_begun}
 use Rattle.dl_direct.proofs.parts.amounts_of.Goals as goal
 use Rattle.dl_direct.proofs.parts.amounts_of.Goals.{then-next-run+then-next-run-2, else-next-run+in_ok-add}
 
-alone_is : (run : Run) (item : Item) (k : ℕ) → run.amount ≡ item.amount → run.count ≡ 1 → run.weight ≡ k * item.weight
-    → run ≡ record { amount = item.amount; count = 1; weight = k * item.weight }
-alone_is run item k p q r = ap (λ t. record { amount = t; count = run.count; weight = run.weight }) p
-    ∙ ap₂ (λ s t. record { amount = item.amount; count = s; weight = t }) q r
+alone_is : (run : Run) (item : Item) (g k : ℕ) → run.amount ≡ item.amount / g → run.count ≡ 1 → run.weight ≡ k * item.weight
+    → run ≡ record { amount = item.amount / g; count = 1; weight = k * item.weight }
+alone_is run item g k p q r = ap (λ t. record { amount = t; count = run.count; weight = run.weight }) p
+    ∙ ap₂ (λ s t. record { amount = item.amount / g; count = s; weight = t }) q r
 
 pub items-init : goal.items-init
 items-init c =
@@ -34,6 +34,7 @@ items-preserved c =
     let i = c.items.invariant in
     let n = c.items.item-index in
     let xs = c.args.items.now in
+    let g = c.args.step in
     let k = c.args.factor in
     let d : Item = record { amount = 0; weight = 0 } in
     let next = c.alone-next.result in
@@ -45,19 +46,20 @@ items-preserved c =
             amount = i.amount;
             end = omega (arith, w.if-next-run.true, e.end);
             parts = λ f.
-                item_joined f k xs n d c.items-test.true c.items.run.amount c.items.run.count c.items.run.weight
+                item_joined f g k xs n d c.items-test.true c.items.run.amount c.items.run.count c.items.run.weight
                 (sum_by f (all_parts c.items.amounts)) (sym e.amount ∙ w.if-next-run.true)
                 (sym e.weight ∙ w.if-next-run-2.true) (i.parts f);
           })
       | else-next-run+in_ok-add w ↦
           rw (w.amounts-is, w.run-is) (record {
             sound = w.in_ok-add.ensures.sound;
-            amount = subst (λ t. 0 < t) (sym e.amount) (c.requires.no_zero n d c.items-test.true);
+            amount = subst (λ t. 0 < t) (sym e.amount)
+                (some_steps g (get_or xs n d).amount (c.requires.whole n d c.items-test.true) (c.requires.no_zero n d c.items-test.true));
             end = omega (arith, e.end, e.count);
             parts = λ f.
                 ap (λ t. sum_by f (all_parts w.add.new.amounts) + sum_by f (run_parts t))
-                (alone_is next (get_or xs n d) k e.amount e.count e.weight)
-                ∙ item_begun f k xs n d c.items-test.true (k * (get_or xs n d).weight)
+                (alone_is next (get_or xs n d) g k e.amount e.count e.weight)
+                ∙ item_begun f g k xs n d c.items-test.true (k * (get_or xs n d).weight)
                 (sum_by f (all_parts w.add.new.amounts)) refl (w.in_ok-add.ensures.parts f ∙ i.parts f);
           })
     ]
@@ -74,5 +76,5 @@ returns-clause-each c j =
     let f : Part → ℕ = λ p. if p.amount == j then p.weight else 0 in
     let all = take_all c.items.item-index c.args.items.now c.items-test.false in
     c.in_ok-add-2.ensures.parts f ∙ c.items.invariant.parts f
-    ∙ ap (λ l. sum_by (λ (item : Item). f (times_item c.args.factor item)) l) all
-    ∙ times_each c.args.factor j c.args.items.now
+    ∙ ap (λ l. sum_by (λ (item : Item). f (times_item c.args.step c.args.factor item)) l) all
+    ∙ times_each c.args.step c.args.factor j c.args.items.now c.requires.apart c.requires.whole

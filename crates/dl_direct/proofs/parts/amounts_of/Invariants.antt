@@ -8,6 +8,6 @@ invariant-items l = record {
   amount : 0 < l.run.amount;
   end : l.run.amount + l.run.count ≤ 2 ^ 32;
   parts : (f : Part → ℕ)
-      → sum_by f (all_parts l.amounts) + sum_by f (run_parts l.run) ≡ sum_by (λ item. f (times_item l.factor item))
+      → sum_by f (all_parts l.amounts) + sum_by f (run_parts l.run) ≡ sum_by (λ item. f (times_item l.step l.factor item))
       (take l.item-index l.items);
 }

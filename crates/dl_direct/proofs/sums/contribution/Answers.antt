@@ -1,5 +1,5 @@
 use Rattle.dl_direct.proofs.Common.{◌-◌, ◌*◌, ◌^◌, ◌≤◌, length, arith, sym, ap₂, ◌∙◌}
-use Rattle.dl_direct.proofs.Reach.{contribution_yes, contribution_no, factor_le, product_fits}
+use Rattle.dl_direct.proofs.Reach.{contribution_yes, factor_le, product_fits}
 use Rattle.dl_direct.proofs.sums.contribution.Goals as goal
 
 pub overflow_mul-factor-3 : goal.overflow_mul-factor-3
@@ -7,7 +7,7 @@ overflow_mul-factor-3 c =
     let s = length c.args.low.now in
     omega (
       arith,
-      factor_le c.args.a c.args.b s c.args.part.amount c.args.part.weight c.if-part-s.false,
+      factor_le c.args.a c.args.b s c.args.part.amount c.args.part.weight c.requires.within,
       c.requires.room,
     )
 
@@ -18,7 +18,7 @@ overflow_mul-result c =
     in
     omega (
       arith,
-      product_fits c.args.a c.args.b s c.from.result c.from-2.result c.args.part c.if-part-s.false c.requires.room
+      product_fits c.args.a c.args.b s c.from.result c.from-2.result c.args.part c.requires.within c.requires.room
           c.from.ensures end,
     )
 
@@ -29,26 +29,17 @@ overflow_mul-result-2 c =
     in
     omega (
       arith,
-      product_fits c.args.a c.args.b s c.from-3.result c.from-4.result c.args.part c.if-part-s.false c.requires.room
+      product_fits c.args.a c.args.b s c.from-3.result c.from-4.result c.args.part c.requires.within c.requires.room
           c.from-3.ensures end,
     )
-
-pub returns-then-part-s-clause-low : goal.returns-then-part-s-clause-low
-returns-then-part-s-clause-low c =
-    sym (contribution_no c.args.a c.args.b c.args.low.now (length c.args.low.now) c.args.part c.if-part-s.true)
-
-pub returns-then-part-s-clause-high : goal.returns-then-part-s-clause-high
-returns-then-part-s-clause-high c =
-    rw c.requires.alike
-    (sym (contribution_no c.args.a c.args.b c.args.high.now (length c.args.low.now) c.args.part c.if-part-s.true))
 
 pub returns-clause-low : goal.returns-clause-low
 returns-clause-low c =
     ap₂ (λ x y. x * y) c.from.ensures c.from-2.ensures
-    ∙ sym (contribution_yes c.args.a c.args.b c.args.low.now (length c.args.low.now) c.args.part c.if-part-s.false)
+    ∙ sym (contribution_yes c.args.a c.args.b c.args.low.now (length c.args.low.now) c.args.part c.requires.within)
 
 pub returns-clause-high : goal.returns-clause-high
 returns-clause-high c =
     rw c.requires.alike
     (ap₂ (λ x y. x * y) c.from-3.ensures c.from-4.ensures
-    ∙ sym (contribution_yes c.args.a c.args.b c.args.high.now (length c.args.low.now) c.args.part c.if-part-s.false))
+    ∙ sym (contribution_yes c.args.a c.args.b c.args.high.now (length c.args.low.now) c.args.part c.requires.within))

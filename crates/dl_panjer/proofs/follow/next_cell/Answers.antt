@@ -1,6 +1,7 @@
 use Rattle.dl_panjer.proofs.Common.{ℕ, suc, ◌≡◌, ◌-◌, ◌≤◌, ◌^◌, eqb, length, arith, ap, sym, subst₂, ◌∙◌, not, div_ceil, low_at, high_at, one_fits, counted, total_pos, low_le_high, mul-le-mul_right, mass_fits, IsGridSize}
 use Rattle.std.proofs.Common.{◌*◌}
 use Rattle.std.proofs.Math.Nat.{le_trans}
+use Rattle.dl_grid.proofs.Room.{size_few}
 use Rattle.dl_panjer.proofs.Reading.{low_at_most, high_at_most}
 use Rattle.dl_panjer.proofs.Steps.{high_counted, next_order, step_fits, cell_low, cell_high}
 use Rattle.dl_panjer.proofs.follow.next_cell.Goals as goal
@@ -10,6 +11,9 @@ all_mass : {B n : ℕ} → IsGridSize B n → suc (n - 1) * 2 ^ B ≤ 2 ^ 70
 all_mass {B} {n} size =
     let within : suc (n - 1) ≤ n = omega (arith, size.some) in
     le_trans (mul-le-mul_right (2 ^ B) within) (mass_fits size)
+
+pub divisor-den-requires : goal.divisor-den-requires
+divisor-den-requires g c = size_few c.requires.size
 
 pub low_end-requires-clause-total : goal.low_end-requires-clause-total
 low_end-requires-clause-total g c =

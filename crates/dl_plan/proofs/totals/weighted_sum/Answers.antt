@@ -1,4 +1,4 @@
--- An amount of at most 2^20 counts at most 2^20 times its weight.
+-- An amount of at most 2^22 counts at most 2^22 times its weight.
 use Rattle.dl_plan.proofs.Common.{◌*◌, get_or, arith, mul-le-mul_right, sum_by_more, Item}
 use Rattle.std.proofs.lemmas.List.Sums.{sum_by_more_le}
 use Rattle.dl_plan.proofs.totals.weighted_sum.Goals as goal

@@ -1,5 +1,23 @@
 use Rattle.dl_product.proofs.Common.{◌*◌, ◌∙◌, arith, ap₂, rules, pairs_same, ends_fit}
+use Rattle.dl_grid.proofs.CellLaws.{size_of}
+use Rattle.dl_grid.proofs.Room.{size_few}
 use Rattle.dl_product.proofs.products.product.Goals as goal
+
+pub sums-requires-clause-first_few : goal.sums-requires-clause-first_few
+sums-requires-clause-first_few g c =
+    omega (arith, size_few (size_of c.args.a.now c.lows.ensures.grid), c.lows.ensures.cells)
+
+pub sums-requires-clause-second_few : goal.sums-requires-clause-second_few
+sums-requires-clause-second_few g c =
+    omega (arith, size_few (size_of c.args.b.now c.lows-2.ensures.grid), c.lows-2.ensures.cells)
+
+pub sums-requires-2-clause-first_few : goal.sums-requires-2-clause-first_few
+sums-requires-2-clause-first_few g c =
+    omega (arith, size_few (size_of c.args.a.now c.highs.ensures.grid), c.highs.ensures.cells)
+
+pub sums-requires-2-clause-second_few : goal.sums-requires-2-clause-second_few
+sums-requires-2-clause-second_few g c =
+    omega (arith, size_few (size_of c.args.b.now c.highs-2.ensures.grid), c.highs-2.ensures.cells)
 
 pub sums-requires-clause-fits : goal.sums-requires-clause-fits
 sums-requires-clause-fits g c =

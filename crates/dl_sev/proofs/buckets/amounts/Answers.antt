@@ -1,19 +1,18 @@
 -- A value that is near is made; the first that is not ends it.
-use Rattle.dl_sev.proofs.Common.{ℕ, ◌<◌, ◌≤◌, ◌^◌, sym, subst, arith, All-push, whole, ◌<ℚ◌, buckets}
+use Rattle.dl_sev.proofs.Common.{ℕ, ◌<◌, ◌≤◌, sym, subst, arith, All-push, whole, ◌<ℚ◌, buckets}
 use Rattle.dl_sev.proofs.Whole.{whole_lt, lt_whole, more_amounts, more_before, at_place}
 use Rattle.dl_sev.proofs.buckets.amounts.Goals as goal
 
-pub returns-then-amount : goal.returns-then-amount
-returns-then-amount c =
-    let far : whole (2 ^ 20) <ℚ buckets c.args.bs c.index-values-at.result =
-    subst (λ y. whole (2 ^ 20) <ℚ y) (sym c.quotient-amount.ensures)
-    (whole_lt (2 ^ 20) c.quotient-amount.result c.if-amount.true) in (
+pub returns-then-amount-top : goal.returns-then-amount-top
+returns-then-amount-top c =
+    let far : whole c.args.top <ℚ buckets c.args.bs c.index-values-at.result =
+    subst (λ y. whole c.args.top <ℚ y) (sym c.quotient-amount.ensures)
+    (whole_lt c.args.top c.quotient-amount.result c.if-amount-top.true) in (
       c.in_default.ensures.none,
       record {
         inside = c.values-test.true;
         here = at_place
-            (λ x. whole
-            (2 ^ 20) <ℚ buckets c.args.bs x) c.args.values.now c.values.at c.index-values-at.result c.values-test.true
+            (λ x. whole c.args.top <ℚ buckets c.args.bs x) c.args.values.now c.values.at c.index-values-at.result c.values-test.true
             c.index-values-at.is far;
         before = c.values.invariant.before;
       },
@@ -25,15 +24,14 @@ values-preserved c = record {
       c.values.made.items _ c.values-test.true c.index-values-at.is c.values.invariant.same c.in_ok-put.ensures
       c.quotient-amount.ensures;
   near = rw c.in_ok-put.ensures (All-push
-      (λ amount. amount ≤ 2 ^ 20) c.values.made.items c.quotient-amount.result c.values.invariant.near
-      c.if-amount.false);
+      (λ amount. amount ≤ c.args.top) c.values.made.items c.quotient-amount.result c.values.invariant.near
+      c.if-amount-top.false);
   before =
       more_before
-      (λ x. ¬ (whole
-      (2 ^ 20) <ℚ buckets c.args.bs x)) c.args.values.now c.values.at c.index-values-at.result c.values-test.true
+      (λ x. ¬ (whole c.args.top <ℚ buckets c.args.bs x)) c.args.values.now c.values.at c.index-values-at.result c.values-test.true
       c.index-values-at.is c.values.invariant.before
-      (λ far. absurd (not_lt (lt_whole (2 ^ 20) c.quotient-amount.result
-      (subst (λ y. whole (2 ^ 20) <ℚ y) c.quotient-amount.ensures far)) c.if-amount.false));
+      (λ far. absurd (not_lt (lt_whole c.args.top c.quotient-amount.result
+      (subst (λ y. whole c.args.top <ℚ y) c.quotient-amount.ensures far)) c.if-amount-top.false));
 }
   where
     not_lt : {m n : ℕ} → m < n → n ≤ m → ⊥

@@ -1,5 +1,6 @@
 -- The mean of what the severity means, which is above 0.
 use Rattle.dl_types.proofs.Common.{◌≡◌, ◌∙◌, sym, subst, whole, ◌<ℚ◌, mean_amount, severity_in_layer, not-false}
+use Rattle.dl_limits.specs.Limits.{most_amount}
 use Rattle.dl_plan.specs.Severity.{pairs_of}
 use Rattle.dl_amounts.proofs.Near.{in_layer_near}
 use Rattle.dl_amounts.proofs.Meaning.{scored_alike, alike_own}
@@ -8,7 +9,8 @@ use Rattle.dl_types.proofs.exposures.mean_in_layer.Goals as goal
 
 pub mean-requires : goal.mean-requires
 mean-requires c =
-    in_layer_near c.args.unit.now.layer c.args.unit.now.sev c.requires.grid.sev c.args.layered.now c.requires.layered
+    in_layer_near c.args.unit.now.layer c.args.unit.now.sev c.args.layered.now c.requires.layered most_amount
+    (λ k d h. (c.requires.grid.sev.atoms k d h).near)
 
 pub returns-clause-mean : goal.returns-clause-mean
 returns-clause-mean c =

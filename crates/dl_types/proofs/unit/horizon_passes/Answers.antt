@@ -1,6 +1,7 @@
 -- The horizon that is looked at is the clause's.
-use Rattle.dl_types.proofs.Common.{◌≡◌, ◌∙◌, ap, most_cells, Clause, horizon, horizon_is, at_if}
+use Rattle.dl_types.proofs.Common.{◌≡◌, ◌∙◌, ap, Clause, horizon, horizon_is, at_if}
 use Rattle.std.specs.Prelude.{nat_lt, Some}
+use Rattle.dl_limits.specs.Limits.{most_horizon}
 use Rattle.dl_plan.proofs.Horizons.{same_horizon}
 use Rattle.dl_types.proofs.unit.horizon_passes.Goals as goal
 
@@ -11,5 +12,6 @@ returns c =
     let same : c.horizon.result ≡ horizon (Some clause) cells =
     same_horizon (Some clause) cells c.horizon.result _ c.horizon.ensures
     (horizon_is (Some clause) cells c.requires.accepted) in
-    c.place_if.ensures ∙ ap (λ k. at_if (nat_lt most_cells k) c.args.cession.now.span) same
-    ∙ ap (λ (k : Clause). at_if (nat_lt most_cells (horizon (Some k) cells)) c.args.cession.now.span) c.requires.made
+    c.place_if.ensures ∙ ap (λ m. at_if (nat_lt m c.horizon.result) c.args.cession.now.span) c.most_horizon.ensures.most
+    ∙ ap (λ k. at_if (nat_lt (most_horizon cells) k) c.args.cession.now.span) same
+    ∙ ap (λ (k : Clause). at_if (nat_lt (most_horizon cells) (horizon (Some k) cells)) c.args.cession.now.span) c.requires.made

@@ -3,6 +3,7 @@ use Rattle.dl_plan.specs.Fine.{HasPartsOf48Bits}
 use Rattle.dl_model.proofs.PlanThin.{gamma_thinned}
 use Rattle.dl_budget.proofs.Counts.{count_of}
 use Rattle.dl_unit.proofs.Families.{grid_same}
+use Rattle.dl_unit.proofs.Sizes.{told_few}
 use Rattle.dl_unit.proofs.CountKinds.{gamma_unbounded, gamma_some}
 use Rattle.dl_unit.proofs.Positive.{no_zero}
 use Rattle.dl_unit.proofs.Thinned.{gamma_whole}
@@ -16,6 +17,11 @@ gamma_direct-requires g c =
     let shape = count_of c.requires.valid.0 u (Gamma c.args.shape c.requires.count.0) c.requires.valid.1
     c.requires.count.1 in
     search (rules, shape, small, no_zero u.sev c.args.positive.now c.requires.means)
+
+pub is_narrow-requires : goal.is_narrow-requires
+is_narrow-requires g c =
+    let few = told_few c.in_ok-grid.field-0 c.in-Some.grid c.in-Some.is c.in_ok-grid.ensures.cells c.requires.size in
+    (omega arith, (c.requires.size.scale_below, (c.requires.valid, few)))
 
 pub returns-then-is_narrow-clause-encloses : goal.returns-then-is_narrow-clause-encloses
 returns-then-is_narrow-clause-encloses g c =

@@ -5,6 +5,7 @@ use Rattle.dl_model.specs.Family.{times_itself}
 use Rattle.dl_plan.specs.Fine.{HasPartsOf48Bits}
 use Rattle.dl_model.proofs.PlanThin.{poisson_thinned}
 use Rattle.dl_unit.proofs.Families.{grid_same}
+use Rattle.dl_unit.proofs.Sizes.{told_few}
 use Rattle.dl_unit.proofs.CountKinds.{poisson_unbounded, poisson_some}
 use Rattle.dl_unit.proofs.Positive.{no_zero}
 use Rattle.dl_unit.proofs.Thinned.{poisson_whole}
@@ -21,6 +22,11 @@ poisson_direct-requires g c =
         (no_zero u.sev c.args.positive.now c.requires.means, (small.0.num, (small.0.den, small.1))),
       ),
     )
+
+pub is_narrow-requires : goal.is_narrow-requires
+is_narrow-requires g c =
+    let few = told_few c.in_ok-grid.field-0 c.in-Some.grid c.in-Some.is c.in_ok-grid.ensures.cells c.requires.size in
+    (omega arith, (c.requires.size.scale_below, (c.requires.valid, few)))
 
 pub returns-then-is_narrow-clause-encloses : goal.returns-then-is_narrow-clause-encloses
 returns-then-is_narrow-clause-encloses g c =
