@@ -9,7 +9,7 @@ from itertools import accumulate
 from typing import Dict, List, Optional, Tuple
 
 from .calls import Number, Text, check, fmt, run
-from .choose import LARGEST, tokens_of
+from .choose import LARGEST_SHORT, tokens_of
 from .books import exact
 from .coarse import MOST_CELLS, Between, Ends, numeral, side, with_amounts
 from .faults import NotBetween, RuleFault, TextFault, pointed
@@ -83,7 +83,7 @@ class Grid:
     """The size of a bucket in money, and the size of the grid as a power of 2."""
 
     bs: Fraction
-    log2: int = LARGEST
+    log2: int = LARGEST_SHORT
 
     @property
     def cells(self) -> int:
@@ -271,9 +271,9 @@ class Source:
         return self.head + "\n".join(each.side(grid, up, self.timeout) for each in self.units)
 
     def is_inside(self, bs: Fraction, inside: Fraction) -> bool:
-        """Whether about so much probability lies in the largest grid with these buckets, by the low program on larger ones; not,
+        """Whether about so much probability lies in a grid of 4,096 of these buckets, by the low program on larger ones; not,
         where the buckets are too small for that program."""
-        grid = Grid(bs * 2**COARSER, LARGEST - COARSER)
+        grid = Grid(bs * 2**COARSER, LARGEST_SHORT - COARSER)
         try:
             text = self.program(grid, False)
         except (NotBetween, RuleFault):
@@ -283,7 +283,7 @@ class Source:
         return Fraction(row.low or 0) >= inside
 
     def bucket(self, inside: Fraction) -> Fraction:
-        """The least bucket of 1, 2 or 5 times a power of 10 with which about so much probability lies in the largest grid."""
+        """The least bucket of 1, 2 or 5 times a power of 10 with which about so much probability lies in a grid of 4,096."""
         steps = [Fraction(10) ** power * digit for power in range(-6, 9) for digit in (1, 2, 5)]
         low, high = 0, len(steps) - 1
         while low < high:
@@ -326,16 +326,16 @@ def between(
     """Two programs that hold a book between them whose severities may be continuous, as `aggregate` writes them.
 
     `bs` is the size of a bucket; without it, it is the least of 1, 2 or 5 times a power of 10 with which a probability of about
-    `inside` lies in the largest grid. `log2` is the size of the grid, the largest without it. The final amounts of a claim, after layer
+    `inside` lies in a grid of 4,096 of them. `log2` is the size of the grid, 12 without it, which are 4,096 buckets; it may be up to 16. The final amounts of a claim, after layer
     and occurrence clause, are rounded down in one program and up in the other. Raises `NotBetween` where that cannot be written.
     """
     source = source_of(as_text(text), timeout)
     size = source.bucket(exact(inside)) if bs is None else exact(bs)
     if size <= 0:
         raise ValueError(f"the size of a bucket is above 0, not {size}")
-    grid = Grid(size, LARGEST if log2 is None else log2)
+    grid = Grid(size, LARGEST_SHORT if log2 is None else log2)
     low, high = (source.program(grid, up) for up in (False, True))
     for each in (low, high):
-        check(each, bs=size, log2=1, timeout=timeout)
+        check(each, bs=size, log2=grid.log2, timeout=timeout)
     reaches = [reach for reach in (each.reach(grid) for each in source.units) if reach is not None]
     return Between(low, high, size, timeout, reach=min(reaches, default=None), log2=grid.log2)
