@@ -1,10 +1,10 @@
 -- Every quantity of declared losses is bounded, their whole weight is somewhere above 0, and their probabilities add up
 -- to 1.
-use Rattle.dl_model.proofs.Common.{◌≡◌, ℕ, zero, ◌+◌, ◌-◌, ◌≤◌, max, Bool, true, false, nat_eq, nat_lt, nat_le, arith, sym, ap, subst, ◌∙◌, List, [], ◌∷◌, sum, get_or, le-max_left, le-max_right, le-ltb, Fraction, ◌+ℚ◌, ◌-ℚ◌, ◌*ℚ◌, ◌/ℚ◌, ◌≤ℚ◌, ◌<ℚ◌, whole, ring, plus_comm, zero_plus, times_zero, times_one, one_times, whole_pos, one_pos, le_refl, le_trans, le_of_eq, zero_le, le_plus, plus_le_both, times_pos, lt_of_lt_of_le, times_le_both, whole_le, sum_to_zero, IsBound, AtLeast, Settles, layer, Loss, fun_ext, AreDeclarable, One, Point, Cdf, Mean, Layer, Tail, Joint, where_true, score, sum_over_outcomes, partial_sums, survival, AreDeclared}
+use Rattle.dl_model.proofs.Common.{◌≡◌, ℕ, zero, ◌+◌, ◌-◌, ◌≤◌, max, Bool, true, false, nat_eq, nat_lt, nat_le, arith, sym, ap, ap₂, subst, ◌∙◌, List, [], ◌∷◌, sum, get_or, le-max_left, le-max_right, le-ltb, Fraction, ◌+ℚ◌, ◌-ℚ◌, ◌*ℚ◌, ◌/ℚ◌, ◌≤ℚ◌, ◌<ℚ◌, whole, ring, plus_comm, zero_plus, times_zero, times_one, one_times, whole_pos, one_pos, le_refl, le_trans, le_of_eq, zero_le, le_plus, plus_le_both, times_pos, lt_of_lt_of_le, times_le_both, whole_le, sum_over, sum_to_zero, IsBound, AtLeast, Settles, layer, Loss, fun_ext, AreDeclarable, One, Point, Cdf, Mean, Layer, Tail, Joint, where_true, score, sum_over_outcomes, partial_sums, survival, AreDeclared}
 use Rattle.dl_exact.proofs.Lists.{item_le_total}
 use Rattle.dl_plan.proofs.Clauses.{layer_le}
-use Rattle.dl_model.specs.Program.{Quantity}
-use Rattle.dl_model.specs.Measures.{IsAsked}
+use Rattle.dl_model.specs.Program.{Quantity, Price, Part, Share, PricedTerm}
+use Rattle.dl_model.specs.Measures.{IsAsked, ArePriced}
 use Rattle.dl_model.proofs.Declared.{rises_to}
 use Rattle.dl_model.proofs.Outcomes.{loss_proper, outcomes_same, outcomes_plus, outcomes_times, outcomes_le, outcomes_rise, sum-cons, total_more_all, mean_more}
 use Rattle.dl_model.proofs.Scores.{survival_rest}
@@ -72,6 +72,41 @@ tail_scaled p q h ys =
     turn : (q c s : Fraction) → q +ℚ c *ℚ s +ℚ (q *ℚ s +ℚ c) ≡ (q +ℚ c) *ℚ (whole 1 +ℚ s)
     turn q c s = simp ring
 
+-- what is at most k, and what is at most k times one outcome
+by_factor : (k : Fraction) (ys : List ℕ) → k ≤ℚ k *ℚ scale ys
+by_factor k ys = subst (λ t. t ≤ℚ k *ℚ scale ys) (times_one k)
+    (times_le_both k k _ _ (le_refl k) (le_plus (whole 1) (whole (sum ys))))
+
+share_scaled : (p u : Fraction) (i : ℕ) → p <ℚ whole 1 → (ys : List ℕ) → whole (get_or ys i 0) /ℚ (whole 1 -ℚ p) +ℚ
+    (whole 1 -ℚ u) *ℚ whole (get_or ys i 0) /ℚ (whole 1 -ℚ p)
+    ≤ℚ whole 1 /ℚ (whole 1 -ℚ p) *ℚ (whole 1 +ℚ (whole 1 -ℚ u)) *ℚ scale ys
+share_scaled p u i h ys =
+    let c = whole 1 /ℚ (whole 1 -ℚ p) in
+    let y = whole (get_or ys i 0) in
+    le_trans _ _ _ (le_of_eq _ _ (ap₂ (λ s t. s +ℚ t) (div_is_times _ _ (rest_pos p (whole 1) h))
+    (div_is_times _ _ (rest_pos p (whole 1) h)) ∙ turn c y (whole 1 -ℚ u)))
+    (times_le_both _ _ _ _ (le_refl (c *ℚ (whole 1 +ℚ (whole 1 -ℚ u))))
+    (subst (λ t. y ≤ℚ t) (one_times _) (by_total (get_or ys i 0) ys (item_le_total ys i))))
+  where
+    turn : (c y v : Fraction) → c *ℚ y +ℚ c *ℚ (v *ℚ y) ≡ c *ℚ (whole 1 +ℚ v) *ℚ y
+    turn c y v = simp ring
+
+price_scaled : (terms : List PricedTerm) → ArePriced terms
+    → (k : Fraction) × ((ys : List ℕ) → score (Price terms) ys ≤ℚ k *ℚ scale ys)
+unfolding sum_over
+price_scaled [] h = (whole 0, λ ys. zero_le _)
+price_scaled (t ∷ terms) h =
+    let rest = price_scaled terms h.1 in
+    let k = whole t.quantile +ℚ whole 1 /ℚ (whole 1 -ℚ t.p) in (
+      t.weight *ℚ k +ℚ rest.0,
+      λ ys. le_trans _ _ _ (plus_le_both _ _ _ _
+          (times_le_both _ _ _ _ (le_refl t.weight) (tail_scaled t.p t.quantile h.0 ys)) (rest.1 ys))
+          (le_of_eq _ _ (turn t.weight k (scale ys) rest.0)),
+    )
+  where
+    turn : (w k s r : Fraction) → w *ℚ (k *ℚ s) +ℚ r *ℚ s ≡ (w *ℚ k +ℚ r) *ℚ s
+    turn w k s r = simp ring
+
 score_scaled : (quantity : Quantity) → IsAsked quantity → IsScaled (score quantity)
 unfolding IsScaled
 score_scaled One h = (whole 1, λ ys. by_one (whole 1) ys (le_refl _))
@@ -85,6 +120,17 @@ score_scaled (Joint i x) h = (
   whole 1,
   λ ys. le_trans _ _ _ (where_at_most (nat_eq (sum ys) x) (whole (get_or ys i 0)))
       (by_total (get_or ys i 0) ys (item_le_total ys i)),
+)
+score_scaled (Price terms) h = price_scaled terms h
+score_scaled (Part q u) h = (
+  whole 1 +ℚ u,
+  λ ys. le_trans _ _ _ (plus_le_both _ _ _ _ (where_at_most (nat_lt (sum ys) q) (whole 1))
+      (where_at_most (nat_eq (sum ys) q) u)) (by_factor (whole 1 +ℚ u) ys),
+)
+score_scaled (Share i p q u) h = (
+  whole 1 /ℚ (whole 1 -ℚ p) *ℚ (whole 1 +ℚ (whole 1 -ℚ u)),
+  λ ys. le_trans _ _ _ (plus_le_both _ _ _ _ (where_at_most (nat_lt q (sum ys)) _)
+      (where_at_most (nat_eq (sum ys) q) _)) (share_scaled p u i h ys),
 )
 
 pub quantity_bounded : (us : List Loss) (quantity : Quantity) → AreDeclared us → IsAsked quantity

@@ -10,10 +10,10 @@ use Rattle.dl_model.proofs.Alike.{not_both}
 use Rattle.dl_model.proofs.Ends.{to_rises}
 use Rattle.dl_model.proofs.TailScores.{rest_pos, div_is_times}
 
-sub_zero : (x : Fraction) → x -ℚ whole 0 ≡ x
+pub sub_zero : (x : Fraction) → x -ℚ whole 0 ≡ x
 sub_zero x = sym (plus_zero _) ∙ sub_plus x (whole 0) (zero_le x)
 
-le_sub_plus : (x y : Fraction) → x ≤ℚ x -ℚ y +ℚ y
+pub le_sub_plus : (x y : Fraction) → x ≤ℚ x -ℚ y +ℚ y
 le_sub_plus x y = elim (lt_or_le x y) [
   | inl l ↦ le_trans _ _ _ (le_of_lt _ _ l) (subst (λ t. y ≤ℚ t) (plus_comm y (x -ℚ y)) (le_plus y (x -ℚ y)))
   | inr l ↦ le_of_eq _ _ (sym (sub_plus x y l))

@@ -41,7 +41,7 @@ pub use Rattle.dl_model.specs.Family.{Encloses, Family, IsProper, SameCells, com
 pub use Rattle.dl_model.specs.Listed.{equally_likely, probability_at}
 pub use Rattle.dl_model.specs.Measures.{AreDeclared, IsDeclaredLoss, IsQuantile, above, mean_to_reach, survival, unit_of, without}
 pub use Rattle.dl_model.specs.Plans.{aggregate_of, compound_of, count_weights, loss_of, outcome_after}
-pub use Rattle.dl_model.specs.Program.{AreDeclarable, Cdf, IsLoss, Joint, Layer, Loss, Mean, One, Point, Tail, partial_sums, score, total, where_true}
+pub use Rattle.dl_model.specs.Program.{AreDeclarable, Cdf, IsLoss, Joint, Layer, Loss, Mean, One, Part, Point, Price, PricedTerm, Share, Tail, partial_sums, score, total, where_true}
 unfoldable pub use Rattle.dl_model.specs.Program.{sum_over_outcomes}
 pub use Rattle.dl_model.specs.Series.{AtLeast, AtMost, Below, Holds, IsBound, IsLeastBound, Rises, SameValue, Series, Settles, plus, times}
 pub use Rattle.dl_model.specs.Units.{Aggregate, IsDeclarable, IsDeclared, loss, mapped, outcome}

@@ -1,11 +1,11 @@
 -- Counts of finitely many claims: their compound sums stand at one level.
-use Rattle.dl_model.proofs.Common.{◌≡◌, inl, inr, ℕ, suc, zero, ◌<◌, ◌≤◌, nat_eq, arith, refl, ap, subst, subst₂, ◌∙◌, cases_lt, Fraction, ◌over◌, ◌*ℚ◌, ◌≤ℚ◌, whole, sum_to, over_le, one_pos, le_refl, le_trans, le_of_eq, zero_le, times_one, one_times, zero_times, times_le_both, sum_to_same, sum_to_grows, sum_to_longer, Series, IsBound, Holds, at_zero, power, cell, where_true, fixed, compound, nothing, Encloses}
-use Rattle.std.specs.Prelude.{Bool, true, false, List, length, ◌^◌}
+use Rattle.dl_model.proofs.Common.{◌≡◌, inl, inr, ℕ, suc, zero, ◌<◌, ◌≤◌, nat_eq, arith, refl, ap, subst, subst₂, ◌∙◌, cases_lt, Fraction, ◌over◌, ◌*ℚ◌, ◌≤ℚ◌, whole, sum_to, over_le, one_pos, le_refl, le_trans, le_of_eq, zero_le, times_one, zero_times, times_le_both, sum_to_same, sum_to_grows, sum_to_longer, Series, IsBound, Holds, at_zero, power, cell, fixed, compound, nothing, Encloses, sym}
+use Rattle.std.specs.Prelude.{List, length, ◌^◌}
 use Rattle.std.proofs.lemmas.Nat.{pow_pos}
 use Rattle.dl_iv.specs.declared.interval.Iv.{Iv}
 use Rattle.dl_grid.specs.Cells.{low_at, high_at, all_at_zero}
 use Rattle.dl_model.specs.Family.{GridEncloses}
-use Rattle.dl_model.proofs.Picks.{pick}
+use Rattle.dl_model.proofs.Picks.{pick, where_factor}
 use Rattle.dl_model.proofs.AddedCounts.{fixed_past}
 use Rattle.dl_model.proofs.Powers.{convolve_comm, at_zero_convolve}
 
@@ -68,12 +68,8 @@ all_at_zero_encloses {B} g low high =
 
 -- ---- exactly m claims
 
-where_times : (b : Bool) (x : Fraction) → where_true b (whole 1) *ℚ x ≡ where_true b x
-where_times true x = one_times x
-where_times false x = zero_times x
-
 pub fixed_cell : (m : ℕ) (f : ℕ → Fraction) (y N : ℕ) → m ≤ N → cell (fixed m) f y N ≡ power f m y
-fixed_cell m f y N h = sum_to_same N _ _ (λ n b. where_times (nat_eq n m) (power f n y)) ∙ pick N m (λ n. power f n y) h
+fixed_cell m f y N h = sum_to_same N _ _ (λ n b. sym (where_factor (nat_eq n m) (power f n y))) ∙ pick N m (λ n. power f n y) h
 
 pub fixed_sum : (m N : ℕ) → m ≤ N → sum_to N (fixed m) ≡ whole 1
 fixed_sum m N h = pick N m (λ n. whole 1) h

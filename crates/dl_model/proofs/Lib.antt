@@ -58,3 +58,8 @@ pub mod SharedJoint
 pub mod SharedValues
 pub mod ChangedZero
 pub mod SomeClaim
+pub mod Halves
+pub mod PriceLaws
+pub mod ShareLaws
+pub mod ShareEnds
+pub mod PooledLoss

@@ -1,5 +1,5 @@
 -- Sums that pick one place.
-use Rattle.dl_model.proofs.Common.{◌≢◌, Bool, true, false, refl, sym, cases_eq, ◌*ℚ◌, times_zero, sum_to_same, ◌≡◌, inl, inr, ℕ, suc, zero, ◌<◌, ◌≤◌, nat_eq, arith, ap, ap₂, ◌∙◌, ne_eqb, eq-eqb, cases_lt, Fraction, ◌+ℚ◌, whole, sum_to, where_true, plus_zero, zero_plus, sum_to_zero}
+use Rattle.dl_model.proofs.Common.{◌≢◌, Bool, true, false, refl, sym, cases_eq, ◌*ℚ◌, one_times, zero_times, times_zero, sum_to_same, ◌≡◌, inl, inr, ℕ, suc, zero, ◌<◌, ◌≤◌, nat_eq, arith, ap, ap₂, ◌∙◌, ne_eqb, eq-eqb, cases_lt, Fraction, ◌+ℚ◌, whole, sum_to, where_true, plus_zero, zero_plus, sum_to_zero}
 
 pub pick_none : (n x : ℕ) (f : ℕ → Fraction) → n < x → sum_to n (λ s. where_true (nat_eq s x) (f s)) ≡ whole 0
 pick_none n x f h = sum_to_zero n _ (λ s b. ap (λ t. where_true t (f s)) (ne_eqb s x (omega arith)))
@@ -28,6 +28,11 @@ passed n t f h = sum_to_same n _ _ (λ y b. elim (cases_eq t y) [
   | inl e ↦ on t y (f y) e ∙ sym (on y t (f y) (sym e))
   | inr e ↦ off t y (f y) e ∙ sym (off y t (f y) (λ i. e (sym i)))
 ]) ∙ pick n t f h
+
+-- a factor where the test holds
+pub where_factor : (b : Bool) (x : Fraction) → where_true b x ≡ where_true b (whole 1) *ℚ x
+where_factor true x = sym (one_times x)
+where_factor false x = sym (zero_times x)
 
 pub times_where : (b : Bool) (x y : Fraction) → x *ℚ where_true b y ≡ where_true b (x *ℚ y)
 times_where true x y = refl

@@ -1,12 +1,12 @@
 -- A portfolio under a common factor declares of its total what one gamma unit with the pooled severity does.
-use Rattle.dl_model.proofs.Common.{◌≡◌, ℕ, ◌+◌, ◌-◌, ◌*◌, ◌<◌, ◌≤◌, arith, refl, sym, ap, ap₂, subst, ◌∙◌, mul-le-mul_right, List, [], ◌∷◌, fun_ext, sum, sum_by-cons, Fraction, ◌+ℚ◌, ◌*ℚ◌, ◌/ℚ◌, ◌<ℚ◌, whole, choose, sum_to, sum_over, ring, div_times, plus_comm, times_comm, times_assoc, times_cancel, times_zero, sum_to_same, sum_to_times, sum_to_times_right, sum_to_swap, sum_to_none, sum_to_plus, sum_to_either, one_times, times_one, IsSeverity, power, cell, gamma, gamma_of, One, Point, Cdf, Mean, Layer, Tail, score, where_true, layer, nat_eq, nat_le, Option, ◌-ℚ◌}
+use Rattle.dl_model.proofs.Common.{◌≡◌, ℕ, ◌+◌, ◌-◌, ◌*◌, ◌<◌, ◌≤◌, arith, refl, sym, ap, ap₂, subst, ◌∙◌, mul-le-mul_right, List, [], ◌∷◌, fun_ext, sum, sum_by-cons, Fraction, ◌+ℚ◌, ◌*ℚ◌, ◌/ℚ◌, ◌<ℚ◌, whole, choose, sum_to, sum_over, ring, div_times, plus_comm, times_comm, times_assoc, times_cancel, times_zero, sum_to_same, sum_to_times, sum_to_times_right, sum_to_swap, sum_to_none, sum_to_plus, sum_to_either, one_times, times_one, IsSeverity, power, cell, gamma, gamma_of, One, Point, Cdf, Mean, Layer, Tail, score, where_true, layer, nat_eq, nat_le, nat_lt, Option, ◌-ℚ◌}
 use Rattle.std.proofs.Math.Nat.{le_refl as le_refl_n}
 use Rattle.dl_exact.specs.Power.{factorial}
 use Rattle.dl_exact.proofs.Laws.{whole_times}
 use Rattle.dl_exact.proofs.Sums.{sum_over_same, sum_over_times}
 use Rattle.dl_exact.proofs.Orders.{times_right_comm}
 use Rattle.dl_model.specs.Divided.{divided_power}
-use Rattle.dl_model.specs.Program.{Quantity}
+use Rattle.dl_model.specs.Program.{Quantity, PricedTerm, above_quantile, Price, Part}
 use Rattle.dl_model.specs.CommonFactor.{PoissonUnit, amounts, amounts_given_counts, ways_to_share, chances, expected_claims, common_sums, pooled_severity, AreSeverities, CountsTotal, sum_over_claims}
 use Rattle.dl_model.proofs.GammaThin.{pos_plus}
 use Rattle.dl_model.proofs.CompoundLaws.{cells_all}
@@ -32,6 +32,13 @@ total_layer limit attachment ys = ap (λ t. whole (layer limit attachment t)) (s
 
 pub total_tail : (p : Fraction) (q : ℕ) → CountsTotal (Tail p q)
 total_tail p q ys = ap (λ t. whole q +ℚ whole (t - q) /ℚ (whole 1 -ℚ p)) (sym (sum_alone (sum ys)))
+
+pub total_price : (terms : List PricedTerm) → CountsTotal (Price terms)
+total_price terms ys = ap (λ x. sum_over terms (λ t. t.weight *ℚ above_quantile t.p t.quantile x))
+    (sym (sum_alone (sum ys)))
+
+pub total_part : (q : ℕ) (u : Fraction) → CountsTotal (Part q u)
+total_part q u ys = ap (λ t. where_true (nat_lt t q) (whole 1) +ℚ where_true (nat_eq t q) u) (sym (sum_alone (sum ys)))
 
 -- ---- one gamma unit for all
 

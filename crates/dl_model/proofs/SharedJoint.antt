@@ -1,12 +1,12 @@
 -- One unit beside the total under a common factor: one claim of the unit apart, the others with one more in the shape.
-use Rattle.dl_model.proofs.Common.{◌≡◌, ℕ, suc, zero, ◌+◌, ◌-◌, ◌*◌, ◌<◌, ◌≤◌, arith, refl, sym, ap, ap₂, subst, ◌∙◌, List, [], ◌∷◌, Bool, true, false, nat_eq, fun_ext, get_or, sum, sum_by-cons, inl, inr, cases_lt, Fraction, ◌+ℚ◌, ◌*ℚ◌, ◌<ℚ◌, whole, choose, sum_to, sum_over, sum_pairs, ring, times_comm, times_assoc, times_left_comm, times_zero, zero_times, one_times, zero_plus, plus_zero, sum_to_same, sum_to_first, sum_to_times, sum_pairs_same, sum_pairs_none, sum_pairs_times, sum_pairs_sum_to, at_zero, convolve, power, cell, gamma, Joint, score, where_true}
+use Rattle.dl_model.proofs.Common.{◌≡◌, ℕ, suc, zero, ◌+◌, ◌-◌, ◌*◌, ◌<◌, ◌≤◌, arith, refl, sym, ap, ap₂, subst, ◌∙◌, List, [], ◌∷◌, nat_eq, fun_ext, get_or, sum, sum_by-cons, inl, inr, cases_lt, Fraction, ◌+ℚ◌, ◌*ℚ◌, ◌<ℚ◌, whole, choose, sum_to, sum_over, sum_pairs, ring, times_comm, times_assoc, times_left_comm, times_zero, zero_times, zero_plus, plus_zero, sum_to_same, sum_to_first, sum_to_times, sum_pairs_same, sum_pairs_none, sum_pairs_times, sum_pairs_sum_to, at_zero, convolve, power, cell, gamma, Joint, score, where_true}
 use Rattle.std.proofs.Math.Nat.{le_refl as le_refl_n}
 use Rattle.dl_exact.specs.Power.{factorial}
 use Rattle.dl_exact.proofs.Laws.{whole_times}
 use Rattle.dl_exact.proofs.Sums.{sum_pairs_first, sum_pairs_last}
 use Rattle.dl_model.specs.Divided.{divided_power}
 use Rattle.dl_model.specs.CommonFactor.{PoissonUnit, expected_claims, common_sums, pooled_severity, AreSeverities, IsUnit}
-use Rattle.dl_model.proofs.Picks.{pick}
+use Rattle.dl_model.proofs.Picks.{pick, where_factor}
 use Rattle.dl_model.proofs.Powers.{convolve_assoc, convolve_times}
 use Rattle.dl_model.proofs.Gamma.{choose-absorb, choose-shift}
 use Rattle.dl_model.proofs.Divided.{divided_plus, divided_tilt, undivided, convolve_pairs, convolve_first}
@@ -160,10 +160,6 @@ orders_next q m =
     ∙ omega (arith, ap (λ t. t * factorial m) (choose-absorb (q + m) m), ap (λ t. t * factorial m) (choose-shift q m))
     ∙ sym (ap (λ t. suc q * (choose t m * factorial m)) b)
 
-where_times : (b : Bool) (k : Fraction) → where_true b k ≡ where_true b (whole 1) *ℚ k
-where_times true k = sym (one_times k)
-where_times false k = sym (zero_times k)
-
 convolve_scaled : (k : Fraction) (f g : ℕ → Fraction) (s : ℕ) → convolve (λ i. k *ℚ f i) g s ≡ k *ℚ convolve f g s
 convolve_scaled k f g s = sum_pairs_same s _ _ (λ i j e. times_assoc k (f i) (g j))
     ∙ sum_pairs_times s k (λ i j. f i *ℚ g j)
@@ -188,9 +184,9 @@ module _ (q : ℕ) (us : List PoissonUnit) (some : whole 0 <ℚ expected_claims 
 
   level_joint : (n x : ℕ) → weighed y us n (score (Joint i x)) ≡ apart n x
   level_joint n x =
-      weighed_same y us n _ _ (λ ys. where_times (nat_eq (sum ys) x) (whole (get_or ys i 0)))
+      weighed_same y us n _ _ (λ ys. where_factor (nat_eq (sum ys) x) (whole (get_or ys i 0)))
       ∙ weighed_joint y u us i at h M mixed_past n (n * M + x) (omega arith) (λ s. where_true (nat_eq s x) (whole 1))
-      ∙ sum_to_same (n * M + x) _ _ (λ s d. sym (where_times (nat_eq s x) (apart n s)))
+      ∙ sum_to_same (n * M + x) _ _ (λ s d. sym (where_factor (nat_eq s x) (apart n s)))
       ∙ pick (n * M + x) x (apart n) (omega arith)
 
   -- n + 1 claims of shape r by n claims of shape r + 1

@@ -19,15 +19,15 @@ pub excess_split : (us : List Loss) (a k N : ℕ)
 excess_split us a k N = sym (outcomes_plus us _ _ N) ∙ outcomes_same us _ _ N (λ ys. parts a k (sum ys))
 
 module _ (us : List Loss) (w : AreDeclarable us) where
-  abbrev R : Series
+  abbrev pub R : Series
   R = partial_sums us One
 
-  above_least : (x : ℕ) (p r v : Fraction) → IsBound R v → p +ℚ r ≡ whole 1 → AtMost (partial_sums us (Cdf x)) R p
+  pub above_least : (x : ℕ) (p r v : Fraction) → IsBound R v → p +ℚ r ≡ whole 1 → AtMost (partial_sums us (Cdf x)) R p
       → AtLeast (survival us x) R r
   above_least x p r v b e a = at_least_rest (partial_sums us (Cdf x)) (survival us x) R p r v (cdf_rest us x) b e a
 
   -- the difference is 0 where s is above p
-  above_most : (x : ℕ) (p r s : Fraction) → p +ℚ r ≡ whole 1 → AtLeast (partial_sums us (Cdf x)) R (p -ℚ s)
+  pub above_most : (x : ℕ) (p r s : Fraction) → p +ℚ r ≡ whole 1 → AtLeast (partial_sums us (Cdf x)) R (p -ℚ s)
       → AtMost (survival us x) R (r +ℚ s)
   above_most x p r s e a = elim (lt_or_le p s) [
     | inr l ↦ at_most_rest (partial_sums us (Cdf x)) (survival us x) R (p -ℚ s) (r +ℚ s)
@@ -37,27 +37,27 @@ module _ (us : List Loss) (w : AreDeclarable us) where
         (subst₂ (λ x y. x ≤ℚ y) e (plus_comm s r) (plus_le_both _ _ _ _ (le_of_lt p s l) (le_refl r)))
   ]
 
-  layer_least : (k a : ℕ) (r : Fraction) → ((x : ℕ) → a ≤ x → x < a + k → AtLeast (survival us x) R r)
+  pub layer_least : (k a : ℕ) (r : Fraction) → ((x : ℕ) → a ≤ x → x < a + k → AtLeast (survival us x) R r)
       → AtLeast (partial_sums us (Layer (Some k) a)) R (whole k *ℚ r)
   layer_least k a r h =
       subst₂ (λ Q l. AtLeast Q R l) (sym (fun_ext (layer_survivals us k a))) (sum_below_constant k r)
       (below_least k (λ i. survival us (a + i)) R (λ i. r) (λ i. outcomes_rise us w (above (a + i)))
       (λ i c. h (a + i) (omega arith) (omega arith)))
 
-  layer_most : (k a : ℕ) (r : Fraction) → ((x : ℕ) → a ≤ x → x < a + k → AtMost (survival us x) R r)
+  pub layer_most : (k a : ℕ) (r : Fraction) → ((x : ℕ) → a ≤ x → x < a + k → AtMost (survival us x) R r)
       → AtMost (partial_sums us (Layer (Some k) a)) R (whole k *ℚ r)
   layer_most k a r h =
       subst₂ (λ Q l. AtMost Q R l) (sym (fun_ext (layer_survivals us k a))) (sum_below_constant k r)
       (below_most k (λ i. survival us (a + i)) R (λ i. r) (λ i c. h (a + i) (omega arith) (omega arith)))
 
-lt_plus : (x y : Fraction) → whole 0 <ℚ y → x <ℚ x +ℚ y
+pub lt_plus : (x y : Fraction) → whole 0 <ℚ y → x <ℚ x +ℚ y
 lt_plus x y h = elim (lt_or_le x (x +ℚ y)) [
   | inl l ↦ l
   | inr l ↦ absurd (lt_not_le _ _ h (plus_le_cancel y (whole 0) x
       (subst₂ (λ s t. s ≤ℚ t) (plus_comm x y) (sym (zero_plus x)) l)))
 ]
 
-rest_is : (p r : Fraction) → p +ℚ r ≡ whole 1 → whole 1 -ℚ p ≡ r
+pub rest_is : (p r : Fraction) → p +ℚ r ≡ whole 1 → whole 1 -ℚ p ≡ r
 rest_is p r e =
     plus_cancel (whole 1 -ℚ p) r p (sub_plus (whole 1) p (subst (λ t. p ≤ℚ t) e (le_plus p r)) ∙ sym e ∙ plus_comm p r)
 

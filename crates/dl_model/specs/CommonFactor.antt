@@ -8,7 +8,9 @@ use Rattle.dl_exact.specs.Sum.{sum_to, sum_pairs, sum_over}
 use Rattle.dl_model.specs.Series.{Series}
 use Rattle.dl_model.specs.Compound.{power}
 use Rattle.dl_model.specs.Severity.{IsSeverity}
+use Rattle.dl_model.specs.Counts.{gamma_of}
 use Rattle.dl_model.specs.Program.{Quantity, score}
+use Rattle.dl_model.specs.Units.{Aggregate, plain}
 
 -- a unit: the expected number of its claims, the probability of each amount of one claim, and the
 -- greatest amount
@@ -68,6 +70,11 @@ common_sums r us quantity N = sum_to N (λ n. sum_over_claims us n (λ claims.
 abbrev pub pooled_severity : List PoissonUnit → ℕ → Fraction
 pooled_severity us a = sum_over us (λ u. u.mean /ℚ expected_claims us *ℚ u.severity a)
 
+-- the one unit for all of them: a gamma count of shape r and of all their expected claims, with the
+-- pooled severity, whose greatest amount is given
+abbrev pub pooled_unit : ℕ → List PoissonUnit → ℕ → Aggregate
+pooled_unit r us most = plain (gamma_of r (expected_claims us)) (pooled_severity us) most
+
 -- the probabilities of the amounts of each unit add up to 1
 abbrev pub AreSeverities : List PoissonUnit → Type 0
 AreSeverities [] = Unit {0}
@@ -83,7 +90,7 @@ IsUnit [] i u = ⊥
 IsUnit (w ∷ us) zero u = w ≡ u
 IsUnit (w ∷ us) (suc i) u = IsUnit us i u
 
--- the mean of a gamma count of shape r + 1 that has the same part v / (r + v) as the mean v has with
+-- the mean of a gamma count of shape r + 1 that has the part v / (r + v) which the mean v has with
 -- the shape r: v * (r + 1) / r
 abbrev pub raised_mean : ℕ → Fraction → Fraction
 raised_mean r v = v *ℚ whole (suc r) /ℚ whole r

@@ -13,3 +13,4 @@ pub mod Recursion
 pub mod Measures
 pub mod Units
 pub mod Plans
+pub mod Shares

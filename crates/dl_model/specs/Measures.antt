@@ -4,7 +4,7 @@ use Rattle.std.specs.Prelude.{ℕ, zero, suc, ◌≡◌, nat_lt, Option, Some, L
 use Rattle.dl_exact.specs.Fraction.{Fraction, whole, ◌*ℚ◌, ◌<ℚ◌}
 use Rattle.dl_exact.specs.Sum.{sum_to}
 use Rattle.dl_model.specs.Series.{Series, IsBound, AtLeast, Below, Settles}
-use Rattle.dl_model.specs.Program.{Loss, IsLoss, Quantity, One, Point, Cdf, Mean, Layer, Tail, Joint, where_true, sum_over_outcomes}
+use Rattle.dl_model.specs.Program.{Loss, IsLoss, Quantity, One, Point, Cdf, Mean, Layer, Tail, Joint, Price, Part, Share, PricedTerm, where_true, sum_over_outcomes}
 use Rattle.dl_model.specs.Family.{Family, nothing}
 
 -- 1 where the total is above x
@@ -61,7 +61,12 @@ abbrev pub AreDeclared : List Loss → Type 0
 AreDeclared [] = Unit {0}
 AreDeclared (u ∷ us) = IsDeclaredLoss u × AreDeclared us
 
--- a tail mean is asked for at p below 1
+-- each term of a price is a tail mean at p below 1
+abbrev pub ArePriced : List PricedTerm → Type 0
+ArePriced [] = Unit {0}
+ArePriced (t ∷ terms) = (t.p <ℚ whole 1) × ArePriced terms
+
+-- tail means are asked for at p below 1
 abbrev pub IsAsked : Quantity → Type 0
 IsAsked One = Unit {0}
 IsAsked (Point x) = Unit {0}
@@ -70,3 +75,6 @@ IsAsked Mean = Unit {0}
 IsAsked (Layer limit attachment) = Unit {0}
 IsAsked (Tail p q) = p <ℚ whole 1
 IsAsked (Joint i x) = Unit {0}
+IsAsked (Price terms) = ArePriced terms
+IsAsked (Part q u) = Unit {0}
+IsAsked (Share i p q u) = p <ℚ whole 1

@@ -1,7 +1,7 @@
 -- What independent losses declare of their total.
-use Rattle.std.specs.Prelude.{ℕ, suc, ◌≡◌, ◌-◌, ◌<◌, ◌≤◌, Bool, true, false, nat_eq, nat_le, Option, List, [], ◌∷◌, sum, get_or}
+use Rattle.std.specs.Prelude.{ℕ, suc, ◌≡◌, ◌-◌, ◌<◌, ◌≤◌, Bool, true, false, nat_eq, nat_le, nat_lt, Option, List, [], ◌∷◌, sum, get_or}
 use Rattle.dl_exact.specs.Fraction.{Fraction, whole, ◌+ℚ◌, ◌-ℚ◌, ◌*ℚ◌, ◌/ℚ◌}
-use Rattle.dl_exact.specs.Sum.{sum_to}
+use Rattle.dl_exact.specs.Sum.{sum_to, sum_over}
 use Rattle.dl_plan.specs.Clause.{layer}
 use Rattle.dl_model.specs.Series.{Series, Rises}
 use Rattle.dl_model.specs.Family.{Family}
@@ -30,9 +30,16 @@ abbrev pub AreDeclarable : List Loss → Type 0
 AreDeclarable [] = Unit {0}
 AreDeclarable (u ∷ us) = IsLoss u × AreDeclarable us
 
+-- a term of a price: its weight, the probability of its tail, and a whole number for the quantile
+pub record PricedTerm : Type 0 where
+  pub weight : Fraction
+  pub p : Fraction
+  pub quantile : ℕ
+
 -- What is asked of the total: that it is there at all, that it is x, that it is at most x, its
 -- mean, its part in the layer of a limit above an attachment, its tail mean at p where q is the
--- quantile, and the outcome of unit i where the total is x.
+-- quantile, the outcome of unit i where the total is x, a weighted sum of tail means, that it is
+-- below q or with the part u at q, and the outcome of unit i over 1 - p in the tail above that.
 pub data Quantity : Type 0 where
   One : Quantity
   Point : ℕ → Quantity
@@ -41,6 +48,13 @@ pub data Quantity : Type 0 where
   Layer : Option ℕ → ℕ → Quantity
   Tail : Fraction → ℕ → Quantity
   Joint : ℕ → ℕ → Quantity
+  Price : List PricedTerm → Quantity
+  Part : ℕ → Fraction → Quantity
+  Share : ℕ → Fraction → ℕ → Fraction → Quantity
+
+-- q, and what of x lies above it over 1 - p
+abbrev pub above_quantile : Fraction → ℕ → ℕ → Fraction
+above_quantile p q x = whole q +ℚ whole (x - q) /ℚ (whole 1 -ℚ p)
 
 -- what a list of outcomes, one of each unit, counts for
 abbrev pub score : Quantity → List ℕ → Fraction
@@ -49,8 +63,14 @@ score (Point x) ys = where_true (nat_eq (sum ys) x) (whole 1)
 score (Cdf x) ys = where_true (nat_le (sum ys) x) (whole 1)
 score Mean ys = whole (sum ys)
 score (Layer limit attachment) ys = whole (layer limit attachment (sum ys))
-score (Tail p q) ys = whole q +ℚ whole (sum ys - q) /ℚ (whole 1 -ℚ p)
+score (Tail p q) ys = above_quantile p q (sum ys)
 score (Joint i x) ys = where_true (nat_eq (sum ys) x) (whole (get_or ys i 0))
+score (Price terms) ys = sum_over terms (λ t. t.weight *ℚ above_quantile t.p t.quantile (sum ys))
+score (Part q u) ys =
+    where_true (nat_lt (sum ys) q) (whole 1) +ℚ where_true (nat_eq (sum ys) q) u
+score (Share i p q u) ys = where_true (nat_lt q (sum ys)) (whole (get_or ys i 0) /ℚ (whole 1 -ℚ p))
+    +ℚ where_true (nat_eq (sum ys) q)
+    ((whole 1 -ℚ u) *ℚ whole (get_or ys i 0) /ℚ (whole 1 -ℚ p))
 
 -- the sum, over all lists of one outcome from 0 to the reach for each unit, of the value times the
 -- product of the outcomes' cells

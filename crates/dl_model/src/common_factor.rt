@@ -5,13 +5,15 @@
 ghost use Rattle.std.specs.Prelude.{ℕ, suc, ◌≡◌, ◌*◌, ◌<◌, ◌≤◌, Option, List, [], ◌∷◌};
 ghost use Rattle.dl_exact.specs.Fraction.{Fraction, whole, ◌+ℚ◌, ◌*ℚ◌, ◌/ℚ◌, ◌≤ℚ◌, ◌<ℚ◌};
 ghost use Rattle.dl_exact.specs.Sum.{sum_to, sum_pairs};
-ghost use Rattle.dl_model.specs.Series.{Holds};
+ghost use Rattle.dl_model.specs.Series.{IsBound, AtLeast, Holds};
 ghost use Rattle.dl_model.specs.Compound.{convolve, cell};
 ghost use Rattle.dl_model.specs.Counts.{gamma, gamma_of};
 ghost use Rattle.dl_model.specs.Severity.{IsSeverity};
 ghost use Rattle.dl_model.specs.Divided.{divided_power};
-ghost use Rattle.dl_model.specs.Program.{Quantity, One, Point, Cdf, Mean, Layer, Tail, Joint, score};
-ghost use Rattle.dl_model.specs.CommonFactor.{PoissonUnit, expected_claims, common_sums, pooled_severity, raised_mean, AreSeverities, CountsTotal, IsUnit};
+ghost use Rattle.dl_model.specs.Program.{Quantity, PricedTerm, One, Point, Cdf, Mean, Layer, Tail, Joint, Price, Part, score, partial_sums};
+ghost use Rattle.dl_model.specs.Units.{loss};
+ghost use Rattle.dl_model.specs.Measures.{IsAsked, IsQuantile, IsDeclaredLoss};
+ghost use Rattle.dl_model.specs.CommonFactor.{PoissonUnit, expected_claims, common_sums, pooled_severity, pooled_unit, raised_mean, AreSeverities, CountsTotal, IsUnit};
 
 /// The binomial law of divided powers: the divided power of a sum of two is the sum, over all
 /// splits of `n` into `j + k`, of the convolutions of the divided powers of the parts.
@@ -28,6 +30,8 @@ pub fn law_counts_total()
     ensures mean { CountsTotal Mean }
     ensures layer { (limit : Option ℕ) (attachment : ℕ) → CountsTotal (Layer limit attachment) }
     ensures tail { (p : Fraction) (q : ℕ) → CountsTotal (Tail p q) }
+    ensures price { (terms : List PricedTerm) → CountsTotal (Price terms) }
+    ensures part { (q : ℕ) (u : Fraction) → CountsTotal (Part q u) }
 {}
 
 /// Of their total, units under a common factor of shape `r` declare at each level `N` what one unit
@@ -106,4 +110,48 @@ pub fn law_common_joint_mean()
 pub fn law_joint_within()
     ensures { (r : ℕ) (us : List PoissonUnit) (i x N : ℕ)
         → common_sums r us (Joint i x) N ≤ℚ whole x *ℚ common_sums r us (Point x) N }
+{}
+
+/// As one loss: whatever counts the total alone is what the pooled unit declares, whose loss can be
+/// declared.
+pub fn law_pooled_loss()
+    ensures same { (q : ℕ) (us : List PoissonUnit) → whole 0 <ℚ expected_claims us
+        → AreSeverities us
+        → (most : ℕ) → ((a : ℕ) → most < a → pooled_severity us a ≡ whole 0)
+        → (quantity : Quantity) → CountsTotal quantity → (N : ℕ)
+        → common_sums (suc q) us quantity N
+        ≡ partial_sums (loss (pooled_unit (suc q) us most) ∷ []) quantity N }
+    ensures declared { (q : ℕ) (us : List PoissonUnit) → whole 0 <ℚ expected_claims us
+        → AreSeverities us
+        → (most : ℕ) → ((a : ℕ) → most < a → pooled_severity us a ≡ whole 0)
+        → IsDeclaredLoss (loss (pooled_unit (suc q) us most)) }
+{}
+
+/// Under a common factor every quantity that can be asked is bounded, a unit's joint mean too; the
+/// whole weight is above 0 at some level; the declared probabilities add up to 1; and there is at
+/// most one quantile at each `p`.
+pub fn law_common_declared()
+    ensures bounded { (q : ℕ) (us : List PoissonUnit) → whole 0 <ℚ expected_claims us
+        → AreSeverities us
+        → (most : ℕ) → ((a : ℕ) → most < a → pooled_severity us a ≡ whole 0)
+        → (quantity : Quantity) → CountsTotal quantity → IsAsked quantity
+        → (u : Fraction) × IsBound (common_sums (suc q) us quantity) u }
+    ensures joint { (q : ℕ) (us : List PoissonUnit) → whole 0 <ℚ expected_claims us
+        → AreSeverities us
+        → (most : ℕ) → ((a : ℕ) → most < a → pooled_severity us a ≡ whole 0) → (i x : ℕ)
+        → (u : Fraction) × IsBound (common_sums (suc q) us (Joint i x)) u }
+    ensures positive { (q : ℕ) (us : List PoissonUnit) → whole 0 <ℚ expected_claims us
+        → AreSeverities us
+        → (most : ℕ) → ((a : ℕ) → most < a → pooled_severity us a ≡ whole 0)
+        → (N : ℕ) × (whole 0 <ℚ common_sums (suc q) us One N) }
+    ensures adds_up { (q : ℕ) (us : List PoissonUnit) → whole 0 <ℚ expected_claims us
+        → AreSeverities us
+        → (most : ℕ) → ((a : ℕ) → most < a → pooled_severity us a ≡ whole 0)
+        → (p s : Fraction) → p +ℚ s ≡ whole 1 → whole 0 <ℚ s
+        → (x : ℕ) × AtLeast (common_sums (suc q) us (Cdf x)) (common_sums (suc q) us One) p }
+    ensures quantile { (q : ℕ) (us : List PoissonUnit) → whole 0 <ℚ expected_claims us
+        → AreSeverities us
+        → (most : ℕ) → ((a : ℕ) → most < a → pooled_severity us a ≡ whole 0)
+        → (p : Fraction) (x x' : ℕ) → IsQuantile (common_sums (suc q) us) x p
+        → IsQuantile (common_sums (suc q) us) x' p → x ≡ x' }
 {}
