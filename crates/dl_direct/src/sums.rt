@@ -11,29 +11,23 @@ use crate::cells::{Ends, Slid, Sums, Total};
 use crate::parts::{Amounts, Part, Run};
 use std::alloc::AllocError;
 
-/// What an amount taken alone gives: its factor times the ends of the cell that lies it before.
-fn contribution(part: Part, a: u64, b: u64, low: &[u64], high: &[u64]) -> Ends
-    requires alike { length high.now ≡ length low.now }
-    requires steps { (a + b) * length low.now < 2 ^ 64 }
-    requires room { (a + b) * length low.now * part.weight < 2 ^ 64 }
+/// What an amount taken alone gives to cell `s`, the next one, for one end: its factor times the
+/// end of the cell that lies it before.
+fn contribution(part: Part, a: u64, b: u64, s: usize, cells: &[u64]) -> u128
+    requires next { length cells.now ≡ s }
+    requires steps { (a + b) * s < 2 ^ 64 }
+    requires room { (a + b) * s * part.weight < 2 ^ 64 }
     requires amount { 0 < part.amount }
-    requires within { part.amount ≤ length low.now }
-    requires low_small { (k : ℕ) → slice_index low.now k ≤ most_end }
-    requires high_small { (k : ℕ) → slice_index high.now k ≤ most_end }
-    ensures low { result.low ≡ contribution a b low.now (length low.now) part }
-    ensures high { result.high ≡ contribution a b high.now (length high.now) part }
+    requires within { part.amount ≤ s }
+    requires small { (k : ℕ) → slice_index cells.now k ≤ most_end }
+    ensures { result ≡ contribution a b cells.now s part }
 {
-    let s = low.len();
     let factor = (a * (s as u64) + b * (part.amount as u64)) * part.weight;
-    let before = s - part.amount;
-    Ends {
-        low: u128::from(factor) * u128::from(low[before]),
-        high: u128::from(factor) * u128::from(high[before]),
-    }
+    u128::from(factor) * u128::from(cells[s - part.amount])
 }
 
 /// What amounts taken one by one give. One that is above the cell gives nothing. As a function of
-/// its own it keeps both sums in registers, which saves a quarter of its time.
+/// its own, which adds one product before it makes the other, it keeps both sums in registers.
 #[inline(never)]
 fn reach_parts(parts: &[Part], a: u64, b: u64, low: &[u64], high: &[u64]) -> Ends
     requires alike { length high.now ≡ length low.now }
@@ -45,15 +39,15 @@ fn reach_parts(parts: &[Part], a: u64, b: u64, low: &[u64], high: &[u64]) -> End
     ensures low { result.low ≡ sum_by (contribution a b low.now (length low.now)) parts.now }
     ensures high { result.high ≡ sum_by (contribution a b high.now (length high.now)) parts.now }
 {
+    let s = low.len();
     let mut low_sum: u128 = 0;
     let mut high_sum: u128 = 0;
     for part in parts {
-        if part.amount > low.len() {
+        if part.amount > s {
             continue;
         }
-        let given = contribution(*part, a, b, low, high);
-        low_sum += given.low;
-        high_sum += given.high;
+        low_sum += contribution(*part, a, b, s, low);
+        high_sum += contribution(*part, a, b, s, high);
     }
     Ends {
         low: low_sum,

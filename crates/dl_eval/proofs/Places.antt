@@ -1,5 +1,6 @@
 -- What was read in a list that is another.
 use Rattle.dl_eval.proofs.Common.{ℕ, ◌≡◌, ◌^◌, ◌<◌, ◌≤◌, List, [], length, get_or, arith, sym, ap, subst, ◌∙◌, Option, None, Some, IfSome, get_or_default, Iv, spread, Plan, IsHorizonOf, IsValidUnit, IsValid, unit_budget, few_cells, unit_horizon, AreUnitGrids, AreOthersOf, AreOthers}
+use Rattle.dl_limits.specs.Limits.{most_horizon}
 use Rattle.dl_plan.specs.declared.plan.Unit.{Unit as UnitOfPlan}
 
 pub read_as : {A : Type 0} (slice xs : List A) (i : ℕ) (x d : A) → slice ≡ xs → x ≡ get_or slice i x → i < length xs
@@ -17,9 +18,9 @@ unit_there plan units i u same is inside valid = subst (IsValidUnit plan.cells) 
 
 pub horizon_there : (plan : Plan) (units : List UnitOfPlan) (i : ℕ) (u : UnitOfPlan) → units ≡ plan.units
     → u ≡ get_or units i u → i < length plan.units → IsValid plan
-    → (k : ℕ) × IsHorizonOf u.cede plan.cells k × (k ≤ 16384)
+    → (k : ℕ) × IsHorizonOf u.cede plan.cells k × (k ≤ most_horizon plan.cells)
 horizon_there plan units i u same is inside valid =
-    unit_horizon plan.cells u (omega (arith, (few_cells plan valid).1)) (unit_there plan units i u same is inside valid)
+    unit_horizon plan.cells u (few_cells plan valid).1 (unit_there plan units i u same is inside valid)
 
 -- ---- grids
 

@@ -1,7 +1,7 @@
 //! The report of a plan.
 
 ghost use Rattle.std.specs.Prelude.{◌≡◌, ◌≤◌, ◌^◌, ◌↔◌, IsTrue, None, All, IfOk, MatchResult, IfSome};
-ghost use Rattle.dl_limits.specs.Limits.{IsPlanScale, bits_of};
+ghost use Rattle.dl_limits.specs.Limits.{bits_of};
 ghost use Rattle.dl_plan.specs.declared.settings.Ask.TheVariants as kinds;
 ghost use Rattle.dl_plan.specs.Ranges.{AreInRange};
 ghost use Rattle.dl_plan.specs.Valid.{IsValid};
@@ -16,6 +16,7 @@ use crate::mean::total_mean;
 use crate::rows::row;
 use crate::units::{unit_means, unit_outcomes};
 use dl_iv::Iv;
+use dl_limits::MOST_SHORT_CELLS;
 use dl_plan::{Ask, Asked, Items, Plan, Settings};
 use dl_product::Workspace;
 use dl_report::Report;
@@ -49,13 +50,14 @@ struct Parts<const B: u32> {
 
 /// What the rows of a valid plan are made from. Where all asks are for the mean, the only grids
 /// made on the way are those of units with an aggregate clause.
+#[tactic(auto, using(crate::proofs::Scales::plan_scale))]
 fn parts_for<const B: u32>(
     alloc: Global,
     work: &mut Workspace,
     plan: &Plan,
     asks: &[Asked],
 ) -> Result<Parts<B>, AllocError>
-    requires scale { IsPlanScale B }
+    requires scale { B ≡ bits_of plan.now.cells }
     requires valid { IsValid plan.now }
     requires named { All (λ asked. NamesUnit plan.now.units asked.ask) asks.now }
     ensures grids { IfOk result (λ parts. IfSome parts.grids (λ made.
@@ -124,7 +126,6 @@ fn report<const B: u32>(
 }
 
 /// The report of a plan whose asks are admitted.
-#[tactic(auto, using(crate::proofs::Scales::plan_scale))]
 fn admitted_report<const B: u32>(
     alloc: Global,
     plan: &Plan,
@@ -161,12 +162,17 @@ fn answered<const B: u32>(
 
 /// A row for each ask, in order; or the first ask that lies past the grid, else the first that
 /// names no unit, else the first that needs more width than the settings give, with the width it
-/// needs.
+/// needs. The grids of a plan of up to 4,096 cells are in units of 1 / 2^56, those of a longer one in
+/// units of 1 / 2^48.
 pub fn evaluate(alloc: Global, plan: &Plan, settings: &Settings) -> Result<Report, EvalFault>
     requires valid { IsValid plan.now }
     requires ranges { AreInRange settings.now }
     ensures { MatchResult result (IsAnswered plan.now settings.now)
         (RefusesAsk plan.now settings.now) }
 {
-    answered::<56>(alloc, plan, settings)
+    if plan.cells <= MOST_SHORT_CELLS {
+        answered::<56>(alloc, plan, settings)
+    } else {
+        answered::<48>(alloc, plan, settings)
+    }
 }

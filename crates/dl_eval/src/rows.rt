@@ -106,6 +106,7 @@ fn tail_row<const B: u32>(
 }
 
 /// The row of an ask about a valid plan, from its grids and the mean of its total.
+#[tactic(auto, using(crate::proofs::Scales::plan_scale))]
 fn grid_row<const B: u32>(
     alloc: Global,
     asked: &Asked,
@@ -114,7 +115,7 @@ fn grid_row<const B: u32>(
     grids: &Grids<B>,
     mean: Iv<B>,
 ) -> Result<Row, AllocError>
-    requires scale { IsPlanScale B }
+    requires scale { B ≡ bits_of plan.now.cells }
     requires digits { digits ≤ most_digits }
     requires level { HasLevel asked.now.ask }
     requires valid { IsValid plan.now }

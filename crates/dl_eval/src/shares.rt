@@ -1,7 +1,7 @@
 //! The share of a unit in a total.
 
 ghost use Rattle.std.specs.Prelude.{◌≡◌, ◌*◌, ◌^◌, ◌<◌, ◌≤◌, ◌⊎◌, IsSome, None, ℕ, IfOk, length, get_or};
-ghost use Rattle.dl_limits.specs.Limits.{IsPlanScale, most_digits};
+ghost use Rattle.dl_limits.specs.Limits.{bits_of, most_digits};
 ghost use Rattle.dl_exact.specs.Fraction.{◌over◌};
 ghost use Rattle.dl_model.specs.Program.{Point};
 ghost use Rattle.dl_plan.specs.Valid.{IsValid};
@@ -20,8 +20,9 @@ use dl_report::{End, Row};
 use std::alloc::{AllocError, Global};
 
 /// The mean outcome of unit `i` where the total is `at`, and 0 elsewhere, in buckets.
+#[tactic(auto, using(crate::proofs::Scales::plan_scale))]
 pub(crate) fn joint_of<const B: u32>(plan: &Plan, grids: &Grids<B>, i: u32, at: u32) -> Iv<B>
-    requires scale { IsPlanScale B }
+    requires scale { B ≡ bits_of plan.now.cells }
     requires valid { IsValid plan.now }
     requires grids { AreGridsOf plan.now grids.now }
     requires unit { i < length plan.now.units }
@@ -42,6 +43,7 @@ pub(crate) fn joint_of<const B: u32>(plan: &Plan, grids: &Grids<B>, i: u32, at: 
 
 /// The row of an ask for the mean outcome of unit `i`, given that the total is `at`; without
 /// numbers where that total may be too rare.
+#[tactic(auto, using(crate::proofs::Scales::plan_scale))]
 pub(crate) fn share_row<const B: u32>(
     alloc: Global,
     asked: &Asked,
@@ -51,7 +53,7 @@ pub(crate) fn share_row<const B: u32>(
     i: u32,
     at: u32,
 ) -> Result<Row, AllocError>
-    requires scale { IsPlanScale B }
+    requires scale { B ≡ bits_of plan.now.cells }
     requires digits { digits ≤ most_digits }
     requires valid { IsValid plan.now }
     requires grids { AreGridsOf plan.now grids.now }

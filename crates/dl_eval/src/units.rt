@@ -1,7 +1,7 @@
 //! What is made of each unit: the grid of its outcomes, and their mean.
 
 ghost use Rattle.std.specs.Prelude.{ℕ, List, ◌≡◌, ◌<◌, ◌≤◌, ◌^◌, All, IfOk, length, get_or};
-ghost use Rattle.dl_limits.specs.Limits.{IsPlanScale, most_cells, most_plan_cells};
+ghost use Rattle.dl_limits.specs.Limits.{bits_of, most_horizon, most_plan_cells};
 ghost use Rattle.dl_iv.specs.declared.interval.Iv.{Iv as IvValue};
 ghost use Rattle.dl_grid.specs.Cells.{spread};
 ghost use Rattle.dl_model.specs.Family.{GridEncloses};
@@ -37,20 +37,21 @@ fn horizon(unit: &Unit, cells: u32) -> u32
     requires few { cells ≤ most_plan_cells }
     ensures horizon { IsHorizonOf unit.now.cede cells result }
     ensures some { 1 ≤ result }
-    ensures few { result ≤ most_cells }
+    ensures few { result ≤ most_horizon cells }
 {
     unit.horizon(cells).unwrap()
 }
 
 /// The grid of the sum of a unit's claims before its aggregate clause, on its horizon for a grid of
 /// `cells` cells.
+#[tactic(auto, using(crate::proofs::Scales::horizon_size))]
 fn claims_grid<const B: u32>(
     alloc: Global,
     work: &mut Workspace,
     unit: &Unit,
     cells: u32,
 ) -> Result<Grid<B>, AllocError>
-    requires scale { IsPlanScale B }
+    requires scale { B ≡ bits_of cells }
     requires valid { IsValidUnit cells unit.now }
     requires some { 1 ≤ cells }
     requires few { cells ≤ most_plan_cells }
@@ -62,13 +63,14 @@ fn claims_grid<const B: u32>(
 }
 
 /// The grid of a unit's outcomes after its aggregate clause, from that of the sum of its claims.
+#[tactic(auto, using(crate::proofs::Scales::grid_size))]
 fn after_clause<const B: u32>(
     alloc: Global,
     unit: &Unit,
     claims: Grid<B>,
     cells: u32,
 ) -> Result<Grid<B>, AllocError>
-    requires scale { IsPlanScale B }
+    requires scale { B ≡ bits_of cells }
     requires valid { IsValidUnit cells unit.now }
     requires some { 1 ≤ cells }
     requires few { cells ≤ most_plan_cells }
@@ -84,13 +86,14 @@ fn after_clause<const B: u32>(
 }
 
 /// The grid of a unit's outcomes, and their mean.
+#[tactic(auto, using(crate::proofs::Scales::mean_fits))]
 fn outcomes_of<const B: u32>(
     alloc: Global,
     work: &mut Workspace,
     unit: &Unit,
     cells: u32,
 ) -> Result<(Grid<B>, Iv<B>), AllocError>
-    requires scale { IsPlanScale B }
+    requires scale { B ≡ bits_of cells }
     requires valid { IsValidUnit cells unit.now }
     requires some { 1 ≤ cells }
     requires few { cells ≤ most_plan_cells }
@@ -115,7 +118,7 @@ fn outcomes_after<const B: u32>(
     grids: &[Grid<B>],
     means: &[Iv<B>],
 ) -> Result<(Grid<B>, Iv<B>), AllocError>
-    requires scale { IsPlanScale B }
+    requires scale { B ≡ bits_of cells }
     requires valid { IsValidUnit cells unit.now }
     requires some { 1 ≤ cells }
     requires few { cells ≤ most_plan_cells }
@@ -144,7 +147,7 @@ pub(crate) fn unit_outcomes<const B: u32>(
     work: &mut Workspace,
     plan: &Plan,
 ) -> Result<Outcomes<B>, AllocError>
-    requires scale { IsPlanScale B }
+    requires scale { B ≡ bits_of plan.now.cells }
     requires valid { IsValid plan.now }
     ensures grids { IfOk result (λ made. AreUnitGrids plan.now.cells plan.now.units
         made.grids.items) }
@@ -172,13 +175,14 @@ pub(crate) fn unit_outcomes<const B: u32>(
 }
 
 /// The mean of a unit's outcomes. It needs a grid only where there is an aggregate clause.
+#[tactic(auto, using(crate::proofs::Scales::mean_fits))]
 fn mean_of<const B: u32>(
     alloc: Global,
     work: &mut Workspace,
     unit: &Unit,
     cells: u32,
 ) -> Result<Iv<B>, AllocError>
-    requires scale { IsPlanScale B }
+    requires scale { B ≡ bits_of cells }
     requires valid { IsValidUnit cells unit.now }
     requires some { 1 ≤ cells }
     requires few { cells ≤ most_plan_cells }
@@ -200,7 +204,7 @@ pub(crate) fn unit_means<const B: u32>(
     work: &mut Workspace,
     plan: &Plan,
 ) -> Result<Vec<Iv<B>>, AllocError>
-    requires scale { IsPlanScale B }
+    requires scale { B ≡ bits_of plan.now.cells }
     requires valid { IsValid plan.now }
     ensures means { IfOk result (λ means. AreUnitMeans plan.now.cells plan.now.units means.items) }
     ensures small { IfOk result (λ means. All (λ mean. mean.hi ≤ most_unit_mean) means.items) }

@@ -5,17 +5,14 @@ use Rattle.std.proofs.lemmas.List.Elements.{All-nil, All-cons}
 use Rattle.dl_plan.specs.declared.cede.CedeLayer.{CedeLayer}
 use Rattle.dl_plan.specs.Clause.{Clause}
 use Rattle.dl_plan.specs.Horizon.{edge_of, edge}
-use Rattle.dl_plan.specs.Valid.{IsWithinMostAmount}
+use Rattle.dl_cede.specs.Means.{IsNear}
 
-near_by : (limit : Option ℕ) (attach : ℕ) → edge_of limit attach ≤ 13 → IfSome limit (λ k. k ≤ 2 ^ 20)
-    × (attach ≤ 2 ^ 20)
-near_by None attach h = (tt, omega arith)
-near_by (Some limit) attach h = (omega arith, omega arith)
+near_by : (limit : Option ℕ) (attach : ℕ) → edge_of limit attach ≤ 13 → IfSome limit (λ k. k ≤ 2 ^ 22)
+near_by None attach h = tt
+near_by (Some limit) attach h = omega arith
 
-pub near : (l : CedeLayer) → edge l ≤ 13 → IsWithinMostAmount l
-near l h =
-    let both = near_by l.limit l.attach h in
-    record { limit = both.0; attach = both.1 }
+pub near : (l : CedeLayer) → edge l ≤ 13 → IsNear l
+near l h = near_by l.limit l.attach h
 
 -- what holds of the one layer holds of each
 pub alone : (P : CedeLayer → Type 0) (clause : Clause) (net : _) (l : CedeLayer) → clause ≡ (net, l ∷ []) → P l

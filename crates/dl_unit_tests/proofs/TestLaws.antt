@@ -125,13 +125,49 @@ half_of m e = subst (λ t. t /ℚ whole 1 ≤ℚ 1 over 2) (sym e)
 pub one_is_small : (m : Fraction) → m ≡ whole 1 → m ≤ℚ whole 4096
 one_is_small m e = subst (λ t. t ≤ℚ whole 4096) (sym e) (whole_le 1 4096 (omega arith))
 
--- a mean of 8, of claims that are never 0
-pub eight_thinned : (m p : Fraction) → m ≡ 8 over 1 → p ≡ whole 0
+-- a whole number of claims that are never 0, expected
+pub claims_thinned : (m p : Fraction) (n : ℕ) → m ≡ n over 1 → n ≤ 4096 → p ≡ whole 0
     → HasPartsOf48Bits (m *ℚ (whole 1 -ℚ p)) × (m *ℚ (whole 1 -ℚ p) ≤ℚ whole 4096)
-eight_thinned m p of_mean none =
+claims_thinned m p n of_mean few none =
     let rest : whole 1 -ℚ p ≡ whole 1 = ap (λ t. whole 1 -ℚ t) none ∙ over_sub 1 1 0 1 one_pos one_pos in
-    let same : m *ℚ (whole 1 -ℚ p) ≡ 8 over 1 = ap₂ (λ s t. s *ℚ t) of_mean rest ∙ times_one (8 over 1) in
+    let same : m *ℚ (whole 1 -ℚ p) ≡ n over 1 = ap₂ (λ s t. s *ℚ t) of_mean rest ∙ times_one (n over 1) in
     subst (λ t. HasPartsOf48Bits t × (t ≤ℚ whole 4096)) (sym same) (
-      small_over 8 1 one_pos (omega arith) (omega arith),
-      over_le 8 1 4096 1 one_pos one_pos (omega arith),
+      small_over n 1 one_pos (omega (arith, few)) (omega arith),
+      over_le n 1 4096 1 one_pos one_pos (omega (arith, few)),
     )
+
+pub five_weighted : IsWeighted (item 400 1 ∷ item 500 1 ∷ item 600 1 ∷ item 700 1 ∷ item 800 1 ∷ []) 5
+unfolding gcd euclid
+five_weighted = record {
+  some = omega arith;
+  rising = rising_five;
+  positive = five_positive;
+  sum = refl;
+  within = omega arith;
+  lowest = refl;
+}
+  where
+    rising_five : IsStrictlyIncreasing (400 ∷ 500 ∷ 600 ∷ 700 ∷ 800 ∷ [])
+    rising_five zero h = omega arith
+    rising_five (suc zero) h = omega arith
+    rising_five (suc (suc zero)) h = omega arith
+    rising_five (suc (suc (suc zero))) h = omega arith
+    rising_five (suc (suc (suc (suc k)))) h = absurd (omega (arith, h))
+
+    five_positive : All (λ (i : Item). 0 < i.weight)
+        (item 400 1 ∷ item 500 1 ∷ item 600 1 ∷ item 700 1 ∷ item 800 1 ∷ [])
+    five_positive zero d h = omega arith
+    five_positive (suc zero) d h = omega arith
+    five_positive (suc (suc zero)) d h = omega arith
+    five_positive (suc (suc (suc zero))) d h = omega arith
+    five_positive (suc (suc (suc (suc zero)))) d h = omega arith
+    five_positive (suc (suc (suc (suc (suc k))))) d h = absurd (omega (arith, h))
+
+pub five_near : All (λ (i : Item). i.amount ≤ 2 ^ 22)
+    (item 400 1 ∷ item 500 1 ∷ item 600 1 ∷ item 700 1 ∷ item 800 1 ∷ [])
+five_near zero d h = omega arith
+five_near (suc zero) d h = omega arith
+five_near (suc (suc zero)) d h = omega arith
+five_near (suc (suc (suc zero))) d h = omega arith
+five_near (suc (suc (suc (suc zero)))) d h = omega arith
+five_near (suc (suc (suc (suc (suc k))))) d h = absurd (omega (arith, h))

@@ -100,12 +100,12 @@ def least_grid(text: Text, *, bs: Optional[Number] = None, timeout: Optional[flo
     grid. Raises the fault of a text that no grid takes."""
     try:
         check(text, bs=bs, log2=1, timeout=timeout)
+        return 1
     except RuleFault as fault:
         if fault.rule not in SIZES:
             raise
-        check(text, bs=bs, log2=LARGEST_SHORT + 1, timeout=timeout)
-        return LARGEST_SHORT + 1
-    return 1
+    check(text, bs=bs, log2=LARGEST_SHORT + 1, timeout=timeout)
+    return LARGEST_SHORT + 1
 
 
 def bucket(text: Text, *, shares: bool = True, timeout: Optional[float] = None) -> Fraction:

@@ -1,6 +1,6 @@
 //! Two dice after a clause, worked out by exact fractions.
 
-ghost use Rattle.dl_limits.specs.Limits.{most_cells};
+ghost use Rattle.dl_limits.specs.Limits.{most_fine_cells};
 ghost use Rattle.dl_plan.specs.Clause.{IsClause};
 ghost use Rattle.std.specs.Prelude.{◌≤◌};
 
@@ -68,6 +68,7 @@ const CASES: [Case; 4] = [
 ];
 
 /// The grid of what is kept, from the sums below the horizon of the clause.
+#[tactic(auto, using(dl_grid::proofs::Sizes::few_at_each_scale))]
 fn kept_of<const B: u32>(
     alloc: Global,
     cede: &Cede,
@@ -76,9 +77,9 @@ fn kept_of<const B: u32>(
     cells: u32,
 ) -> Result<Grid<B>, AllocError>
     requires sums { 1 ≤ horizon }
-    requires few_sums { horizon ≤ most_cells }
+    requires few_sums { horizon ≤ most_fine_cells }
     requires some { 1 ≤ cells }
-    requires few { cells ≤ most_cells }
+    requires few { cells ≤ most_fine_cells }
     requires clause { IsClause cede.now }
     requires scale_above { 1 ≤ B }
     requires scale_below { B ≤ 56 }

@@ -1,7 +1,7 @@
 //! Grids of listed parts, and whether an interval is near a fraction.
 
 ghost use Rattle.std.specs.Prelude.{◌≡◌, ◌≤◌, length, IfOk};
-ghost use Rattle.dl_limits.specs.Limits.{most_cells};
+ghost use Rattle.dl_limits.specs.Limits.{most_fine_cells};
 
 use dl_grid::{Grid, units_of_one};
 use dl_iv::Iv;
@@ -23,7 +23,7 @@ pub fn grid<const B: u32>(
     requires scale_below { B ≤ 56 }
     requires parts { 1 ≤ all }
     requires some { 1 ≤ cells }
-    requires few { cells ≤ most_cells }
+    requires few { cells ≤ most_fine_cells }
     ensures { IfOk result (λ g. length g ≡ cells) }
 {
     let mut g = Grid::<B>::zero(alloc, cells)?;

@@ -106,7 +106,10 @@ fn single_numbers(rt: HostRuntime) {
     assert_eq!(rt; power_of::<48>(65_536, 196_611, 65_536), 21_475_785_348);
     assert_eq!(rt; listed_of::<48>(65_536, 65_536, 256), 50_332_417);
     assert_eq!(rt; poisson_of::<48>(65_536, 13), 5_369_685_680);
-    assert_eq!(rt; equal_units::<48>(65_536, 42_951_570_696, 16), 688_014_161_179);
+    assert_eq!(rt;
+        equal_units::<48>(65_536, 42_951_570_696, 16),
+        688_014_161_179
+    );
     for (many, want) in [(16, 481_045_353_881), (15, 450_979_924_668)] {
         assert_eq!(rt; equal_units::<56>(4_096, 30_065_232_854, many), want);
     }

@@ -18,6 +18,7 @@ fn half_a_claim<const B: u32>(alloc: Global) -> Result<Grid<B>, AllocError>
 }
 
 /// Five cells of the geometric count of mean 1/2: the powers of 1/3, times 2/3.
+#[tactic(auto, using(dl_grid::proofs::Sizes::few_at_each_scale))]
 fn two_thirds<const B: u32>(alloc: Global) -> Result<Grid<B>, AllocError>
     requires above { 1 ≤ B }
     requires below { B ≤ 56 }

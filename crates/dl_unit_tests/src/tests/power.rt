@@ -237,6 +237,7 @@ fn has<const B: u32>(grid: &Grid<B>, want: &Ends) -> bool {
 }
 
 /// The first `cells` cells of a die.
+#[tactic(auto, using(dl_grid::proofs::Sizes::few_at_each_scale))]
 fn die<const B: u32>(alloc: Global, cells: u32) -> Result<Grid<B>, AllocError>
     requires scale_above { 1 ≤ B }
     requires scale_below { B ≤ 56 }

@@ -64,7 +64,26 @@ fn none_or_two(alloc: Global) -> Result<Freq, AllocError>
     })
 }
 
-/// Six cells of the unit with this count.
+/// The unit of these claims with this count.
+#[tactic(auto, unfolding(dl_limits::specs::Limits::most_amount_at))]
+fn unit_with(alloc: Global, freq: Freq) -> Result<Unit, AllocError>
+    requires count { IsClaimCount freq }
+    requires expected { HasPartsOf48Bits (expected_count freq) }
+    requires bounded { ¬ IsUnbounded freq }
+    ensures { IfOk result (λ unit. IsValidUnit 16 unit) }
+{
+    let sev = claims(alloc)?;
+    Ok(Unit {
+        name: Text::from_vec(Vec::new(alloc)),
+        sev,
+        freq,
+        cede: None,
+        zero: None,
+    })
+}
+
+/// Six cells of that unit.
+#[tactic(auto, using(dl_grid::proofs::Sizes::few_at_each_scale))]
 fn grid_of<const B: u32>(alloc: Global, freq: Freq) -> Result<Grid<B>, AllocError>
     requires above { 1 ≤ B }
     requires below { B ≤ 56 }
@@ -72,14 +91,7 @@ fn grid_of<const B: u32>(alloc: Global, freq: Freq) -> Result<Grid<B>, AllocErro
     requires expected { HasPartsOf48Bits (expected_count freq) }
     requires bounded { ¬ IsUnbounded freq }
 {
-    let sev = claims(alloc)?;
-    let unit = Unit {
-        name: Text::from_vec(Vec::new(alloc)),
-        sev,
-        freq,
-        cede: None,
-        zero: None,
-    };
+    let unit = unit_with(alloc, freq)?;
     unit_grid(alloc, &unit, 6)
 }
 
@@ -110,6 +122,7 @@ fn poisson_count<const B: u32>(alloc: Global) -> Result<Grid<B>, AllocError>
 }
 
 /// Four cells of the gamma count of shape 2 and mean 1.
+#[tactic(auto, using(dl_grid::proofs::Sizes::few_at_each_scale))]
 fn gamma_count<const B: u32>(alloc: Global) -> Result<Grid<B>, AllocError>
     requires above { 1 ≤ B }
     requires below { B ≤ 56 }
@@ -173,6 +186,7 @@ struct CountOf {
 }
 
 /// Sixteen cells of a Poisson count by halvings.
+#[tactic(auto, using(dl_grid::proofs::Sizes::few_at_each_scale))]
 fn halved<const B: u32>(alloc: Global, sev: &Sev, mean: Frac) -> Result<Grid<B>, AllocError>
     requires no_zero { probability_of sev.now 0 ≡ whole 0 }
     requires above { 1 ≤ B }
@@ -185,6 +199,7 @@ fn halved<const B: u32>(alloc: Global, sev: &Sev, mean: Frac) -> Result<Grid<B>,
 }
 
 /// Sixteen cells of a gamma count by shares.
+#[tactic(auto, using(dl_grid::proofs::Sizes::few_at_each_scale))]
 fn shared<const B: u32>(
     alloc: Global,
     sev: &Sev,
@@ -203,6 +218,7 @@ fn shared<const B: u32>(
 }
 
 /// Whether a Poisson count by the recursion at the full mean meets the one by halvings.
+#[tactic(auto, using(dl_grid::proofs::Sizes::few_at_each_scale))]
 fn poisson_meets<const B: u32>(alloc: Global, sev: &Sev, mean: Frac) -> Result<bool, AllocError>
     requires no_zero { probability_of sev.now 0 ≡ whole 0 }
     requires above { 1 ≤ B }
@@ -217,6 +233,7 @@ fn poisson_meets<const B: u32>(alloc: Global, sev: &Sev, mean: Frac) -> Result<b
 }
 
 /// Whether a gamma count by the recursion at the full mean meets the one by shares.
+#[tactic(auto, using(dl_grid::proofs::Sizes::few_at_each_scale))]
 fn gamma_meets<const B: u32>(
     alloc: Global,
     sev: &Sev,
@@ -301,7 +318,7 @@ fn both_ways_meet(rt: HostRuntime) -> Result<(), AllocError> {
 }
 
 /// A unit with eight expected claims of one bucket each, by a Poisson count.
-#[tactic(auto, using(crate::proofs::TestLaws::eight_thinned))]
+#[tactic(auto, using(crate::proofs::TestLaws::claims_thinned), unfolding(dl_limits::specs::Limits::most_amount_at))]
 fn eight_expected(alloc: Global) -> Result<Unit, AllocError>
     ensures { IfOk result (λ unit. IsValidUnit 16 unit) }
 {
@@ -318,7 +335,7 @@ fn eight_expected(alloc: Global) -> Result<Unit, AllocError>
 /// Whether the sixteen cells of that unit have their first nine digits, and ends that lie at most
 /// two units apart, as the recursion at the full mean leaves them; halvings leave them farther
 /// apart.
-#[tactic(auto, using(crate::proofs::TestLaws::at_most_4096))]
+#[tactic(auto, using(crate::proofs::TestLaws::at_most_4096, dl_grid::proofs::Sizes::few_at_each_scale))]
 fn is_as_narrow<const B: u32>(alloc: Global) -> Result<bool, AllocError>
     requires above { 1 ≤ B }
     requires below { B ≤ 56 }
@@ -348,6 +365,95 @@ fn recursion_is_kept(rt: HostRuntime) -> Result<(), AllocError> {
     assert!(rt; is_as_narrow::<48>(alloc)?);
     assert!(rt; is_as_narrow::<56>(alloc)?);
     assert_eq!(rt; budget_of_eight::<48>(alloc)?, 4591);
+    Ok(())
+}
+
+/// Claims of 400 to 800 buckets in steps of 100, each as likely as the others.
+fn hundreds(alloc: Global) -> Result<Sev, AllocError>
+    ensures no_zero { IfOk result (λ sev. probability_of sev 0 ≡ whole 0) }
+    ensures near { IfOk result (λ sev. All (λ item. item.amount ≤ 2 ^ 22) sev.items) }
+{
+    let mut items = Vec::new(alloc);
+    items.push(Item {
+        amount: 400,
+        weight: 1,
+    })?;
+    items.push(Item {
+        amount: 500,
+        weight: 1,
+    })?;
+    items.push(Item {
+        amount: 600,
+        weight: 1,
+    })?;
+    items.push(Item {
+        amount: 700,
+        weight: 1,
+    })?;
+    items.push(Item {
+        amount: 800,
+        weight: 1,
+    })?;
+    Ok(Sev {
+        items: Items::from_vec(items),
+        total: 5,
+    })
+}
+
+/// A unit with a hundred expected claims of these amounts, by a Poisson count.
+#[tactic(auto, using(crate::proofs::TestLaws::claims_thinned), unfolding(dl_limits::specs::Limits::most_amount_at))]
+fn hundred_expected(alloc: Global) -> Result<Unit, AllocError>
+    ensures { IfOk result (λ unit. IsValidUnit 65536 unit) }
+{
+    let sev = hundreds(alloc)?;
+    Ok(Unit {
+        name: Text::from_vec(Vec::new(alloc)),
+        sev,
+        freq: Freq::Poisson(fraction(100, 1)),
+        cede: None,
+        zero: None,
+    })
+}
+
+/// Numbers of buckets, each with the first nine digits of the probability that the claims of that
+/// unit come to it: worked out with eighty digits.
+const LONG: [(u32, u128); 7] = [
+    (0, 0),
+    (400, 0),
+    (30_000, 3),
+    (50_000, 1_754_590),
+    (60_000, 6_465_814),
+    (65_500, 4_198_970),
+    (65_535, 0),
+];
+
+/// Whether the cells have these digits.
+#[tactic(auto, using(crate::proofs::TestLaws::print_fits))]
+fn has_digits<const B: u32>(grid: &Grid<B>, cells: &[(u32, u128)]) -> bool {
+    let mut same = true;
+    for (x, low) in cells {
+        if *x >= grid.cells() {
+            return false;
+        }
+        let (down, up) = grid.at(*x).print_ends(9);
+        same = same && down == *low && up.saturating_sub(down) <= 1;
+    }
+    same
+}
+
+/// Whether 65,536 cells of that unit have them, and a spread within the budget, which is
+/// 167,674,151: worked out by exact fractions.
+#[tactic(auto, unfolding(dl_limits::specs::Limits::most_cells_at))]
+fn is_long(alloc: Global) -> Result<bool, AllocError> {
+    let unit = hundred_expected(alloc)?;
+    let grid = unit_grid::<48>(alloc, &unit, 65_536)?;
+    let budget = claims_budget::<48>(&unit, 65_536);
+    Ok(has_digits(&grid, &LONG) && budget == 167_674_151 && grid.spread() < budget)
+}
+
+#[test]
+fn longest_grid(rt: HostRuntime) -> Result<(), AllocError> {
+    assert!(rt; is_long(rt.alloc())?);
     Ok(())
 }
 

@@ -1,6 +1,7 @@
 use Rattle.dl_eval.proofs.Common.{◌^◌, arith, ap₂, ◌∙◌, IfOk-weaker, place_of}
 use Rattle.dl_eval.proofs.Insides.{layer_inside}
 use Rattle.dl_eval.proofs.GoodRows.{point_answer, cdf_answer, mean_answer, layer_answer}
+use Rattle.dl_eval.proofs.Scales.{plan_scale}
 use Rattle.dl_eval.proofs.ShareLaws.{joint_asked, share_asked, tail_asked}
 use Rattle.dl_eval.proofs.rows.grid_row.Goals as goal
 
@@ -16,10 +17,11 @@ cdf-requires g c =
 
 pub layer_mean-layer-requires : goal.layer_mean-layer-requires
 layer_mean-layer-requires g c =
-    let grids = c.args.grids.now in (
-      omega (arith, c.requires.scale.least, c.requires.scale.most),
+    let grids = c.args.grids.now in
+    let scale = plan_scale g.row.B c.args.plan.now.cells c.requires.scale in (
+      omega (arith, scale.least, scale.most),
       (
-        omega (arith, c.requires.scale.least, c.requires.scale.most),
+        omega (arith, scale.least, scale.most),
         layer_inside c.args.plan.now.cells grids.sums.total c.in-LayerMean.limit c.in-LayerMean.attach
             (rw c.in-LayerMean.is at c.requires.inside)
             c.requires.grids.total.cells,

@@ -1,6 +1,6 @@
 use Rattle.dl_eval.proofs.Common.{length, arith, ap, few_cells}
 use Rattle.dl_eval.proofs.Places.{read_as, horizon_there, spread_within, others_there}
-use Rattle.dl_eval.proofs.Scales.{scale_least}
+use Rattle.dl_eval.proofs.Scales.{plan_scale, scale_least, share_fits}
 use Rattle.dl_eval.proofs.ShareLaws.{is_joint, is_below}
 use Rattle.dl_eval.proofs.Totals.{each_cells}
 use Rattle.dl_eval.proofs.shares.joint_of.Goals as goal
@@ -21,8 +21,9 @@ bounds-as_slice-i-in-Some g c =
 
 pub joint_mean-requires : goal.joint_mean-requires
 joint_mean-requires g c =
-    let least = scale_least g.row.B c.requires.scale in
     let plan = c.args.plan.now in
+    let scale = plan_scale g.row.B plan.cells c.requires.scale in
+    let least = scale_least g.row.B scale in
     let made = c.requires.grids in
     let unit = c.index-as_slice-i in
     let own = c.index-as_slice-i-in-Some in
@@ -36,9 +37,9 @@ joint_mean-requires g c =
     unit.result own.result c.args.i c.unit_budget.result
     c.as_slice.ensures unit.is c.as_slice-in-Some.ensures.value own.is c.requires.unit
     (made.units c.args.i c.requires.unit c.requires.there) c.unit_budget.ensures.value in (
-      omega (arith, c.requires.scale.least, c.requires.scale.most),
+      omega (arith, scale.least, scale.most),
       (
-        omega (arith, c.requires.scale.least, c.requires.scale.most),
+        omega (arith, scale.least, scale.most),
         (
           omega (
             arith,
@@ -89,8 +90,5 @@ returns-clause-below g c h most =
 
 pub returns-clause-divisible : goal.returns-clause-divisible
 returns-clause-divisible g c =
-    c.joint_mean.ensures.divisible (omega (
-      arith,
-      c.requires.inside,
-      (few_cells c.args.plan.now c.requires.valid).1,
-    ))
+    c.joint_mean.ensures.divisible (share_fits g.row.B c.args.plan.now.cells c.args.at c.requires.scale
+    (few_cells c.args.plan.now c.requires.valid).1 c.requires.inside)

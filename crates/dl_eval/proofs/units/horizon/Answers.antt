@@ -1,4 +1,5 @@
-use Rattle.dl_eval.proofs.Common.{◌≤◌, arith, IsHorizonOf, unit_horizon}
+use Rattle.dl_limits.specs.Limits.{most_horizon}
+use Rattle.dl_eval.proofs.Common.{◌≤◌, IsHorizonOf, unit_horizon}
 use Rattle.dl_budget.proofs.Horizons.{horizon_there}
 use Rattle.dl_eval.proofs.UnitLaws.{horizon_some}
 use Rattle.dl_eval.proofs.units.horizon.Goals as goal
@@ -6,10 +7,10 @@ use Rattle.dl_eval.proofs.units.horizon.Goals as goal
 pub unwrap-requires : goal.unwrap-requires
 unwrap-requires c =
     horizon_there c.args.unit.now.cede c.args.cells c.horizon.result c.horizon.ensures
-    (unit_horizon c.args.cells c.args.unit.now (omega (arith, c.requires.few)) c.requires.valid)
+    (unit_horizon c.args.cells c.args.unit.now c.requires.few c.requires.valid)
 
 pub returns-clause-some : goal.returns-clause-some
 returns-clause-some c =
-    let found : IsHorizonOf c.args.unit.now.cede c.args.cells c.unwrap.result × (c.unwrap.result ≤ 16384) =
+    let found : IsHorizonOf c.args.unit.now.cede c.args.cells c.unwrap.result × (c.unwrap.result ≤ most_horizon c.args.cells) =
     rw c.unwrap.ensures at c.horizon.ensures in
     horizon_some c.args.unit.now.cede c.args.cells c.unwrap.result c.requires.some found.0

@@ -1,4 +1,5 @@
 use Rattle.std.proofs.Common.{◌<◌, ◌^◌, arith}
+use Rattle.dl_grid.proofs.Sizes.{few_at_each_scale}
 use Rattle.dl_unit_tests.proofs.TestLaws.{half_of}
 use Rattle.dl_unit_tests.proofs.tests.panjer.half_a_claim.Goals as goal
 
@@ -13,7 +14,7 @@ poisson_base-requires g c =
           scale_above = c.requires.above;
           scale_below = c.requires.below;
           some = omega arith;
-          few = omega arith;
+          few = few_at_each_scale g.row.B (omega arith);
         },
         (num, (den, (omega arith, (half, c.in_ok-sev.ensures.no_zero)))),
       ),

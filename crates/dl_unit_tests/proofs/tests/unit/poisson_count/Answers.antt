@@ -1,4 +1,5 @@
 use Rattle.std.proofs.Common.{arith}
+use Rattle.dl_grid.proofs.Sizes.{few_at_each_scale}
 use Rattle.dl_unit_tests.proofs.TestLaws.{few_claims, small_parts}
 use Rattle.dl_unit_tests.proofs.tests.unit.poisson_count.Goals as goal
 
@@ -11,7 +12,7 @@ poisson_claims-requires g c =
           scale_above = c.requires.above;
           scale_below = c.requires.below;
           some = omega arith;
-          few = omega arith;
+          few = few_at_each_scale g.row.B (omega arith);
         },
         (c.in_ok-claim.ensures.no_zero, (admitted, few_claims c.fraction.result c.fraction.ensures.value)),
       ),
