@@ -125,7 +125,11 @@ decl_sentences <- c(
     "Probabilities, shares or weights have too fine a common denominator (above 2^30), or the expected count or loss is too fine a fraction.",
     "Too many claims: at most 256 of listed counts, 65,536 of fixed counts and trials, 4,096 expected ones above 0 of poisson and mixed gamma, and a shape of at most 10,000.",
     "The aggregate clause needs more than 16,384 buckets of the sum before it; take larger buckets or a smaller grid.",
-    "A portfolio has at most 16 units."
+    "A portfolio has at most 16 units.",
+    "Two severities have the same name; each needs its own.",
+    "No severity has this name; a text names its severities before its units, as in sev NAME dsev [1:6].",
+    NA, NA, NA, NA, # there are no rules 25 to 28 yet
+    "zt, zm and common are read and formatted, and have no value yet."
 )
 
 # The options as words of the command line; those that are NULL are left out.

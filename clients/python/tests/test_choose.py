@@ -10,6 +10,7 @@ class Buckets(Case):
         self.assertEqual(decl.bucket("agg A 2 claims 20000 xs 1500 dsev [500 1750 4000] poisson"), 250)
         self.assertEqual(decl.bucket("agg A dfreq [1] dsev [0.5 1 1.5]"), Fraction(1, 2))
         self.assertEqual(decl.bucket("agg A dfreq [1] dsev [1/3 1/2]"), Fraction(1, 6))
+        self.assertEqual(decl.bucket("sev A dsev [4 6] sev B dsev [3] agg D dfreq [1] sev.A"), 2)
 
     def test_ranges_count_by_first_amount_and_step(self):
         self.assertEqual(decl.bucket("agg A dfreq [1] dsev [100:600:50]"), 50)

@@ -136,17 +136,17 @@ class Sentences(Case):
 
     def test_the_tokens_that_can_stand_there(self):
         end = "the end of the text"
-        self.goes_on_with("", "agg", "port")
+        self.goes_on_with("", "agg", "port", "sev")
         fault = self.goes_on_with("port 5", "a name")
         self.assertTrue(str(fault).endswith("\nA program goes on here with a name."), str(fault))
-        self.goes_on_with("port P", "agg", "a note")
+        self.goes_on_with("port P", "agg", "common", "a note")
         self.goes_on_with("agg D 5 dsev [1]", "claims", "loss", "premium")
         self.goes_on_with("agg D 5 claims 4 dsev", "xs")
         fault = self.goes_on_with("agg D dfreq [1] dsev [1 2", "a numeral", "]", ":", ",")
         self.assertIn("with a numeral, `]`, `:` or `,`.", str(fault))
         self.goes_on_with("agg D dfreq [1] dsev [1] poisson", "[", "!", "dsev", "sev", "wts", "occurrence", "aggregate", "a note", end)
         self.goes_on_with("agg D 1 claims dsev [1] mixed # gamma\nbeta 2", "gamma")
-        self.goes_on_with("agg D 1 claims dsev [1] ! # the end", "occurrence", "fixed", "poisson", "bernoulli", "binomial", "mixed")
+        self.goes_on_with("agg D 1 claims dsev [1] ! # the end", "occurrence", "fixed", "poisson", "geometric", "bernoulli", "binomial", "mixed")
 
     def test_a_place_behind_letters_of_several_bytes(self):
         self.goes_on_with("# é\nagg D note{é} dfreq [1]", "a numeral", "dfreq")

@@ -1,6 +1,6 @@
 -- A program that is spelled by real tokens is well formed.
-use Rattle.std.proofs.Common.{◌≡◌, ℕ, ◌<◌, List, [], ◌∷◌, ◌++◌, length, Option, Some, None, refl, sym, subst, inl, inr, arith}
-use Rattle.std.specs.Prelude.{All, IfSome, IsSome}
+use Rattle.std.proofs.Common.{◌≡◌, ◌∙◌, ap, codes, drop, length-append, ℕ, ◌<◌, ◌≤◌, List, [], ◌∷◌, ◌++◌, length, Option, Some, None, refl, sym, subst, inl, inr, arith}
+use Rattle.std.specs.Prelude.{All, IfSome, IsSome, IsNone, ◌^◌}
 use Rattle.std.proofs.lemmas.List.Elements.{All-nil, All-cons, All-head, All-tail}
 use Rattle.dl_lexer.specs.declared.token.Keyword.TheVariants as words
 use Rattle.dl_lexer.specs.declared.token.Sign.TheVariants as signs
@@ -8,15 +8,16 @@ use Rattle.dl_lexer.specs.declared.token.Kind.{Kind}
 use Rattle.dl_lexer.specs.declared.token.Kind.TheVariants as kinds
 use Rattle.dl_lexer.specs.declared.token.Kind.TheVariants.{Word, Sign}
 use Rattle.dl_lexer.specs.declared.token.Span.{Span}
-use Rattle.dl_lexer.specs.Tokens.{IsSpelled}
-use Rattle.dl_ast.specs.declared.ast.ListAst.{ListAst}
-use Rattle.dl_ast.specs.declared.ast.Atom.{Atom}
+use Rattle.dl_lexer.specs.Tokens.{IsSpelled, ref}
 use Rattle.dl_ast.specs.declared.ast.UnitAst.{UnitAst}
+use Rattle.dl_ast.specs.declared.ast.SevDef.{SevDef}
+use Rattle.dl_ast.specs.declared.ast.ZeroAst.{ZeroAst}
+use Rattle.dl_ast.specs.declared.ast.PortHead.{PortHead}
 use Rattle.dl_ast.specs.declared.ast.Program.{Program}
 use Rattle.dl_ast.specs.Lexemes.{Lexeme, IsReal}
 use Rattle.dl_ast.specs.Rules.{Rule, one, ◌▸◌, ◌or◌, maybe, many, made, node, Each, Spells, span_of}
-use Rattle.dl_ast.specs.Grammar.{◌≫◌, ◌≪◌, ◌means◌, spanned, some_of, numeral, name, note, item, next_item, list, limit, layer, atom, mixture, sev, cession, next_cession, clause, occ, agr, freq, exposure, listed, exposed_unit, listed_unit, unit, head, program}
-use Rattle.dl_ast.specs.WellFormed.{IsFormedName, IsFormedNumeral, IsFormedNote, IsFormedItem, IsFormedList, IsFormedLimit, IsFormedLayer, IsFormedAtom, IsFormedSeverity, IsFormedCeded, IsFormedCession, IsFormedFrequency, IsFormedExposure, IsFormedCount, IsFormedUnit, IsFormedHead, IsWellFormed}
+use Rattle.dl_ast.specs.Grammar.{◌≫◌, ◌≪◌, ◌means◌, spanned, some_of, numeral, name, note, item, next_item, list, limit, layer, atom, mixture, reference, cost, sev, cession, next_cession, clause, occ, agr, count, zero_change, plain_or, freq, exposure, listed, exposed_unit, listed_unit, unit, common, head, book, sevdef, program}
+use Rattle.dl_ast.specs.WellFormed.{IsFormedName, IsFormedNumeral, IsFormedNote, IsFormedItem, IsFormedList, IsFormedLimit, IsFormedLayer, IsFormedAtom, IsFormedMixture, IsFormedReference, IsFormedBody, IsFormedSeverity, IsFormedDefinition, IsFormedCeded, IsFormedCession, IsFormedFrequency, IsFormedZero, IsFormedExposure, IsFormedCount, IsFormedUnit, IsFormedHead, IsWellFormed}
 
 -- what a rule spells by real tokens has this property
 record Gives {X : Type 0} (r : Rule X) (P : X → Type 0) : Type 0 where
@@ -177,28 +178,42 @@ atom_given = gives_made (gives_or (gives_behind (Word words.Dsev) lists_given) (
     (gives_behind (Word words.Dhistogram) (gives_behind (Word words.Xps) lists_given))))
     (λ p h. record { values = h.0; probs = h.1 })
 
--- several atoms have weights
-abbrev IsMixture : List Atom × Option ListAst → Type 0
-IsMixture m = (0 < length m.0) × All IsFormedAtom m.0 × IfSome m.1 IsFormedList × (1 < length m.0 → IsSome m.1)
-
-mixture_given : Gives mixture IsMixture
+mixture_given : Gives mixture IsFormedMixture
 unfolding mixture
-mixture_given = gives_or (gives_made atom_given (λ a h. (
-  omega arith,
-  All-cons IsFormedAtom a [] h
-      (All-nil IsFormedAtom),
-  tt,
-  λ lt. absurd (omega arith),
-)))
+mixture_given = gives_spanned (gives_or (gives_made atom_given (λ a h span. record {
+  some = omega arith;
+  atoms = All-cons IsFormedAtom a [] h (All-nil IsFormedAtom);
+  weights = tt;
+  several = λ lt. absurd (omega arith);
+}))
     (gives_made (gives_seq atom_given (gives_seq (gives_many atom_given) (gives_behind (Word words.Wts) list_given)))
-    (λ p h. (omega arith, All-cons IsFormedAtom p.0 p.1.0 h.0 h.1.0, h.1.1, λ lt. refl)))
+    (λ p h span. record {
+      some = omega arith;
+      atoms = All-cons IsFormedAtom p.0 p.1.0 h.0 h.1.0;
+      weights = h.1.1;
+      several = λ lt. refl;
+    })))
+
+-- behind `sev.` stands the name
+name_behind : (text : List ℕ) → IsSpelled kinds.Ref text → codes "sev." ++ drop 4 text ≡ text
+name_behind text (ref name e word) = ap (λ ys. codes "sev." ++ drop 4 ys) e ∙ sym e
+
+reference_given : Gives reference IsFormedReference
+unfolding reference
+reference_given = gives_made (gives_one kinds.Ref) (λ t h.
+    let spelled : IsSpelled kinds.Ref t.text = of_kind kinds.Ref IsSpelled t h.0 h.1 in
+    subst (IsSpelled kinds.Ref) (sym (name_behind t.text spelled)) spelled)
+
+cost_given : Gives cost IsFormedBody
+unfolding cost
+cost_given = gives_or (gives_made mixture_given (λ m h. h)) (gives_made reference_given (λ n h. h))
 
 sev_given : Gives sev IsFormedSeverity
 unfolding sev
 sev_given = gives_node (record {
-  gives = λ x ts h (us, vs, e, s, t). mixture_given.gives x.0 us
+  gives = λ x ts h (us, vs, e, s, t). cost_given.gives x.0 us
       (front_real ts us vs e h) s;
-}) (λ p span m. record { some = m.0; atoms = m.1; weights = m.2; several = m.3 })
+}) (λ p span h. h)
 
 part_given : (k : Kind) → Gives (numeral ▸ k ≫ layer) (λ p. IsFormedNumeral p.0 × IsFormedLayer p.1)
 part_given k = gives_seq numeral_given (gives_behind k layer_given)
@@ -224,13 +239,27 @@ clause_given kind = gives_node
           (back_real ts us vs e h) t;
     })) (λ p span h. record { some = h.0; layers = h.1 })
 
-freq_given : Gives freq IsFormedFrequency
-unfolding freq
-freq_given = gives_spanned (gives_or (gives_means (Word words.Fixed) (λ span. tt))
+count_given : Gives count IsFormedFrequency
+unfolding count
+count_given = gives_spanned (gives_or (gives_means (Word words.Fixed) (λ span. tt))
     (gives_or (gives_means (Word words.Poisson) (λ span. tt))
+    (gives_or (gives_means (Word words.Geometric) (λ span. tt))
     (gives_or (gives_means (Word words.Bernoulli) (λ span. tt))
     (gives_or (gives_made (gives_behind (Word words.Binomial) numeral_given) (λ n h span. h))
-    (gives_made (gives_behind (Word words.Mixed) (gives_behind (Word words.Gamma) numeral_given)) (λ n h span. h))))))
+    (gives_made (gives_behind (Word words.Mixed) (gives_behind (Word words.Gamma) numeral_given)) (λ n h span. h)))))))
+
+zero_given : Gives zero_change IsFormedZero
+unfolding zero_change
+zero_given = gives_spanned (gives_or (gives_means (Word words.Zt) (λ span. tt))
+    (gives_made (gives_behind (Word words.Zm) numeral_given) (λ n h span. h)))
+
+zero_or_plain : (o : Option ZeroAst) → IfSome o IsFormedZero → IsFormedZero (plain_or o)
+zero_or_plain None h = tt
+zero_or_plain (Some z) h = h
+
+freq_given : Gives freq (λ p. IsFormedFrequency p.0 × IsFormedZero p.1)
+unfolding freq
+freq_given = gives_made (gives_seq count_given (gives_maybe zero_given)) (λ p h. (h.0, zero_or_plain p.1 h.1))
 
 exposure_given : Gives exposure IsFormedExposure
 unfolding exposure
@@ -253,7 +282,7 @@ listed_given = gives_node (gives_behind (Word words.Dfreq) lists_given) (λ p sp
 exposed_given : Gives (name ▸ exposure ▸ maybe layer ▸ sev ▸ maybe occ ▸ freq ▸ maybe agr ▸ maybe note)
     (λ (n, (e, (l, (s, (o, (f, (a, t))))))). IsFormedName n ×
     (IsFormedExposure e × (IfSome l IsFormedLayer × (IsFormedSeverity s ×
-    (IfSome o IsFormedCession × (IsFormedFrequency f × (IfSome a IsFormedCession × IfSome t IsFormedNote)))))))
+    (IfSome o IsFormedCession × ((IsFormedFrequency f.0 × IsFormedZero f.1) × (IfSome a IsFormedCession × IfSome t IsFormedNote)))))))
 exposed_given = gives_seq name_given (gives_seq exposure_given (gives_seq (gives_maybe layer_given)
     (gives_seq sev_given (gives_seq (gives_maybe (clause_given (Word words.Occurrence)))
     (gives_seq freq_given (gives_seq (gives_maybe (clause_given (Word words.Aggregate))) (gives_maybe note_given)))))))
@@ -278,17 +307,29 @@ unit_given = gives_or (gives_made (gives_behind (Word words.Agg) exposed_given)
     (gives_made (gives_behind (Word words.Agg) counted_given)
     (λ p (n, (c, (l, (s, (o, (a, t)))))). formed (listed_unit p) n c l s o a t))
 
+common_given : Gives common IsFormedNumeral
+unfolding common
+common_given = gives_behind (Word words.Common) numeral_given
+
 head_given : Gives head IsFormedHead
 unfolding head
-head_given = gives_made (gives_behind (Word words.Port) (gives_seq name_given (gives_maybe note_given)))
-    (λ p h. record { name = h.0; note = h.1 })
+head_given = gives_made (gives_behind (Word words.Port)
+    (gives_seq name_given (gives_seq (gives_maybe common_given) (gives_maybe note_given))))
+    (λ p h. record { name = h.0; common = h.1.0; note = h.1.1 })
 
 units_given : Gives (some_of unit unit) (λ xs. (0 < length xs) × All IsFormedUnit xs)
 units_given = gives_some_of unit_given unit_given
 
-program_given : Gives program IsWellFormed
-unfolding program
-program_given = gives_or
+-- a head where there is one, and the units
+record IsFormedBook (b : Option PortHead × List UnitAst) : Type 0 where
+  pub head : IfSome b.0 IsFormedHead
+  pub some : 0 < length b.1
+  pub units : All IsFormedUnit b.1
+  pub one : IsNone b.0 → length b.1 ≡ 1
+
+book_given : Gives book IsFormedBook
+unfolding book
+book_given = gives_or
     (gives_made unit_given (λ u h. record {
       head = tt;
       some = omega arith;
@@ -299,5 +340,38 @@ program_given = gives_or
     (gives_made (gives_seq head_given units_given)
     (λ p h. record { head = h.0; some = h.1.0; units = h.1.1; one = λ e. absurd cc }))
 
-pub program_formed : (p : Program) (ts : List Lexeme) → All IsReal ts → Spells program p ts → IsWellFormed p
-program_formed p ts h s = program_given.gives p ts h s
+definition_given : Gives sevdef IsFormedDefinition
+unfolding sevdef
+definition_given = gives_node (gives_behind (Word words.Sev) (gives_seq name_given mixture_given))
+    (λ p span h. record { name = h.0; mix = h.1 })
+
+program_given : Gives program (λ p. length p.sevs < 2 ^ 32 → IsWellFormed p)
+unfolding program
+program_given = gives_made (gives_seq (gives_many definition_given) book_given) (λ p h few. record {
+  few = few;
+  sevs = h.0;
+  head = h.1.head;
+  some = h.1.some;
+  units = h.1.units;
+  one = h.1.one;
+})
+
+-- each definition takes a token
+
+takes_one : (d : SevDef) (ts : List Lexeme) → Spells sevdef d ts → 0 < length ts
+unfolding sevdef
+takes_one d ts (p, e, (q, f, (us, vs, g, (k, s), t))) = omega (arith, ap length g, length-append us vs, ap length s)
+
+take_each : (ds : List SevDef) (ts : List Lexeme) → Each (Spells sevdef) ds ts → length ds ≤ length ts
+take_each [] ts s = omega arith
+take_each (d ∷ ds) ts (us, vs, e, s, t) =
+    omega (arith, ap length e, length-append us vs, takes_one d us s, take_each ds vs t)
+
+few_definitions : (p : Program) (ts : List Lexeme) → Spells program p ts → length p.sevs ≤ length ts
+unfolding program
+few_definitions p ts (q, e, (us, vs, f, s, t)) =
+    omega (arith, ap (λ (r : Program). length r.sevs) e, ap length f, length-append us vs, take_each q.0 us s)
+
+pub program_formed : (p : Program) (ts : List Lexeme) → All IsReal ts → length ts < 2 ^ 32 → Spells program p ts
+    → IsWellFormed p
+program_formed p ts h few s = program_given.gives p ts h s (omega (arith, few_definitions p ts s))

@@ -3,17 +3,18 @@ use Rattle.std.proofs.Common.{◌≡◌, ℕ, List, [], ◌∷◌, None, refl, a
 use Rattle.std.specs.Prelude.{codes, length, ◌≢◌}
 use Rattle.dl_lexer.specs.declared.token.Keyword.{Keyword}
 use Rattle.dl_lexer.specs.declared.token.Kind.{Kind}
-use Rattle.dl_lexer.specs.declared.token.Kind.TheVariants.{Word, Name, Numeral, Note, Sign}
+use Rattle.dl_lexer.specs.declared.token.Kind.TheVariants.{Word, Name, Ref, Numeral, Note, Sign}
 use Rattle.dl_lexer.specs.Keywords.{spelling, first_spelled}
-use Rattle.dl_lexer.specs.Tokens.{IsSpelled, sign_byte, note}
+use Rattle.dl_lexer.specs.Tokens.{IsSpelled, sign_byte, note, ref}
 use Rattle.dl_lexer.specs.Numerals.{a_decimal, digits}
 use Rattle.dl_lexer.proofs.Spellings.{none_spelled}
 use Rattle.dl_ast.specs.Lexemes.{Lexeme, IsReal}
 
--- a name of one letter, the number 1, a note of nothing
+-- a name of one letter, a reference to it, the number 1, a note of nothing
 text_of : Kind → List ℕ
 text_of (Word k) = spelling k
 text_of Name = 65 ∷ []
+text_of Ref = codes "sev.A"
 text_of Numeral = 49 ∷ []
 text_of Note = codes "note{}"
 text_of (Sign s) = sign_byte s ∷ []
@@ -26,6 +27,7 @@ text_spelled : (k : Kind) → IsSpelled k (text_of k)
 unfolding text_of
 text_spelled (Word k) = refl
 text_spelled Name = record { word = refl; no_keyword = no_keyword }
+text_spelled Ref = ref (65 ∷ []) refl refl
 text_spelled Numeral = a_decimal (digits (omega arith, refl))
 text_spelled Note = note [] refl refl
 text_spelled (Sign s) = refl

@@ -1,6 +1,6 @@
 -- The grammar of programs, a line at a time. What a rule spells is the syntax, with the spans of
 -- its nodes.
-use Rattle.std.specs.Prelude.{ℕ, Bool, true, false, List, [], ◌∷◌, Option, Some, None, is_some}
+use Rattle.std.specs.Prelude.{ℕ, drop, Bool, true, false, List, [], ◌∷◌, Option, Some, None, is_some}
 use Rattle.dl_lexer.specs.declared.token.Keyword.TheVariants as words
 use Rattle.dl_lexer.specs.declared.token.Sign.TheVariants as signs
 use Rattle.dl_lexer.specs.declared.token.Kind.{Kind}
@@ -15,7 +15,11 @@ use Rattle.dl_ast.specs.declared.ast.LimitAst.{LimitAst}
 use Rattle.dl_ast.specs.declared.ast.LimitAst.TheVariants as limits
 use Rattle.dl_ast.specs.declared.ast.Layer.{Layer}
 use Rattle.dl_ast.specs.declared.ast.Atom.{Atom}
+use Rattle.dl_ast.specs.declared.ast.MixAst.{MixAst}
+use Rattle.dl_ast.specs.declared.ast.SevBody.{SevBody}
+use Rattle.dl_ast.specs.declared.ast.SevBody.TheVariants as bodies
 use Rattle.dl_ast.specs.declared.ast.SevAst.{SevAst}
+use Rattle.dl_ast.specs.declared.ast.SevDef.{SevDef}
 use Rattle.dl_ast.specs.declared.ast.PortHead.{PortHead}
 use Rattle.dl_ast.specs.declared.ast.CountAst.{CountAst}
 use Rattle.dl_ast.specs.declared.ast.CountAst.TheVariants as counts
@@ -24,6 +28,8 @@ use Rattle.dl_ast.specs.declared.ast.CededLayer.{CededLayer}
 use Rattle.dl_ast.specs.declared.ast.Cession.{Cession}
 use Rattle.dl_ast.specs.declared.ast.FreqAst.{FreqAst}
 use Rattle.dl_ast.specs.declared.ast.FreqAst.TheVariants as freqs
+use Rattle.dl_ast.specs.declared.ast.ZeroAst.{ZeroAst}
+use Rattle.dl_ast.specs.declared.ast.ZeroAst.TheVariants as zeros
 use Rattle.dl_ast.specs.declared.ast.Exposure.{Exposure}
 use Rattle.dl_ast.specs.declared.ast.Exposure.TheVariants as exposures
 use Rattle.dl_ast.specs.declared.ast.UnitAst.{UnitAst}
@@ -101,16 +107,30 @@ atom = made (λ p. record { values = p.0; probs = p.1 })
     ≫ list ▸ maybe list)
 
 -- mixture := atom | atom atom* 'wts' list
-unfoldable pub mixture : Rule (List Atom × Option ListAst)
-mixture =
-    made (λ a. (a ∷ [], None)) atom
-    or made (λ (a, (others, weights)). (a ∷ others, Some weights))
-    (atom ▸ many atom ▸ Word words.Wts ≫ list)
+unfoldable pub mixture : Rule MixAst
+mixture = spanned (
+    made (λ a span. record { atoms = a ∷ []; weights = None; span = span }) atom
+    or made (λ (a, (others, weights)) span. record {
+      atoms = a ∷ others;
+      weights = Some weights;
+      span = span;
+    })
+    (atom ▸ many atom ▸ Word words.Wts ≫ list))
 
--- sev := mixture '!'?
+-- cost := mixture | REF
+-- a reference stands for the name behind its `sev.`
+unfoldable pub reference : Rule NameAst
+reference = made (λ t. record { text = drop 4 t.text; span = t.span }) (one kinds.Ref)
+
+unfoldable pub cost : Rule SevBody
+cost = made bodies.Mixture mixture or made bodies.Ref reference
+
+-- sev := cost '!'?
+abbrev pub severity : SevBody × Option Lexeme → Span → SevAst
+severity (b, bang) span = record { body = b; bang = is_some bang; span = span }
+
 unfoldable pub sev : Rule SevAst
-sev = node (λ (m, b) span. record { atoms = m.0; weights = m.1; bang = is_some b; span = span })
-    (mixture ▸ maybe (one (Sign signs.Bang)))
+sev = node severity (cost ▸ maybe (one (Sign signs.Bang)))
 
 -- cession := layer | NUMERAL 'so' layer | NUMERAL 'po' layer
 abbrev pub whole : Layer → Span → CededLayer
@@ -147,15 +167,31 @@ occ = clause (Word words.Occurrence)
 abbrev pub agr : Rule Cession
 agr = clause (Word words.Aggregate)
 
--- freq := 'fixed' | 'poisson' | 'bernoulli' | 'binomial' NUMERAL | 'mixed' 'gamma' NUMERAL
-unfoldable pub freq : Rule FreqAst
-freq = spanned (
+-- count := 'fixed' | 'poisson' | 'geometric' | 'bernoulli' | 'binomial' NUMERAL
+--        | 'mixed' 'gamma' NUMERAL
+unfoldable pub count : Rule FreqAst
+count = spanned (
     Word words.Fixed means (λ span. freqs.Fixed span)
     or Word words.Poisson means (λ span. freqs.Poisson span)
+    or Word words.Geometric means (λ span. freqs.Geometric span)
     or Word words.Bernoulli means (λ span. freqs.Bernoulli span)
     or made (λ number span. freqs.Binomial number span) (Word words.Binomial ≫ numeral)
     or made (λ number span. freqs.Gamma number span)
     (Word words.Mixed ≫ Word words.Gamma ≫ numeral))
+
+-- zero_change := 'zt' | 'zm' NUMERAL
+unfoldable pub zero_change : Rule ZeroAst
+zero_change = spanned (
+    Word words.Zt means (λ span. zeros.Truncated span)
+    or made (λ number span. zeros.Modified number span) (Word words.Zm ≫ numeral))
+
+-- freq := count zero_change?
+abbrev pub plain_or : Option ZeroAst → ZeroAst
+plain_or None = zeros.Plain
+plain_or (Some z) = z
+
+unfoldable pub freq : Rule (FreqAst × ZeroAst)
+freq = made (λ p. (p.0, plain_or p.1)) (count ▸ maybe zero_change)
 
 -- exposure := NUMERAL 'claims' | NUMERAL 'loss' | NUMERAL 'premium' 'at' NUMERAL 'lr'
 -- where 'claims' may be 'claim', and 'premium' may be 'prem'
@@ -179,9 +215,16 @@ listed = node (λ p span. counts.Listed p.0 p.1 span) (Word words.Dfreq ≫ list
 
 abbrev pub exposed_unit : NameAst ×
     (Exposure × (Option Layer × (SevAst ×
-    (Option Cession × (FreqAst × (Option Cession × Option (List ℕ))))))) → UnitAst
-exposed_unit (n, (e, (l, (s, (o, (f, (a, t))))))) =
-    record { name = n; count = counts.Exposed e f; layer = l; sev = s; occ = o; agr = a; note = t }
+    (Option Cession × ((FreqAst × ZeroAst) × (Option Cession × Option (List ℕ))))))) → UnitAst
+exposed_unit (n, (e, (l, (s, (o, (f, (a, t))))))) = record {
+  name = n;
+  count = counts.Exposed e f.0 f.1;
+  layer = l;
+  sev = s;
+  occ = o;
+  agr = a;
+  note = t;
+}
 
 abbrev pub listed_unit : NameAst ×
     (CountAst × (Option Layer × (SevAst × (Option Cession × (Option Cession × Option (List ℕ))))))
@@ -197,10 +240,24 @@ unit =
     or made listed_unit
     (Word words.Agg ≫ name ▸ listed ▸ maybe layer ▸ sev ▸ maybe occ ▸ maybe agr ▸ maybe note)
 
--- program := unit | 'port' NAME NOTE? unit unit*
-unfoldable pub head : Rule PortHead
-head = made (λ p. record { name = p.0; note = p.1 }) (Word words.Port ≫ name ▸ maybe note)
+-- common := 'common' NUMERAL
+unfoldable pub common : Rule Numeral
+common = Word words.Common ≫ numeral
 
+-- head := 'port' NAME common? NOTE?
+unfoldable pub head : Rule PortHead
+head = made (λ p. record { name = p.0; common = p.1.0; note = p.1.1 })
+    (Word words.Port ≫ name ▸ maybe common ▸ maybe note)
+
+-- book := unit | head unit unit*
+unfoldable pub book : Rule (Option PortHead × List UnitAst)
+book = made (λ u. (None, u ∷ [])) unit or made (λ p. (Some p.0, p.1)) (head ▸ some_of unit unit)
+
+-- sevdef := 'sev' NAME mixture
+unfoldable pub sevdef : Rule SevDef
+sevdef = node (λ p span. record { name = p.0; mix = p.1; span = span })
+    (Word words.Sev ≫ name ▸ mixture)
+
+-- program := sevdef* book
 unfoldable pub program : Rule Program
-program = made (λ u. record { port = None; units = u ∷ [] }) unit
-    or made (λ p. record { port = Some p.0; units = p.1 }) (head ▸ some_of unit unit)
+program = made (λ (ds, b). record { sevs = ds; port = b.0; units = b.1 }) (many sevdef ▸ book)

@@ -1,4 +1,5 @@
 pub mod Lexemes
 pub mod Rules
 pub mod Grammar
+pub mod OldGrammar
 pub mod WellFormed

@@ -7,14 +7,16 @@ use Rattle.dl_ast.specs.Lexemes.{Lexeme}
 infixr 6 ◌▸◌
 infixr 4 ◌or◌
 -- A rule, by the type of what it spells: one token of a kind; one thing and then another; one of
--- two; once or not at all; any number of times. The last two make a node of what a rule spells,
--- without and with its span.
+-- two; once or not at all; any number of times; once or not at all, where a reader takes it unless
+-- the next two tokens are of these kinds. The last two make a node of what a rule spells, without
+-- and with its span.
 pub data Rule : Type 0 → Type 1 where
   one : Kind → Rule Lexeme
   ◌▸◌ : {A B : Type 0} → Rule A → Rule B → Rule (A × B)
   ◌or◌ : {A : Type 0} → Rule A → Rule A → Rule A
   maybe : {A : Type 0} → Rule A → Rule (Option A)
   many : {A : Type 0} → Rule A → Rule (List A)
+  unless : {A : Type 0} → Kind → Kind → Rule A → Rule (Option A)
   made : {A B : Type 0} → (A → B) → Rule A → Rule B
   node : {A B : Type 0} → (A → Span → B) → Rule A → Rule B
 
@@ -40,6 +42,8 @@ Spells (a ▸ b) x ts = (us vs : List Lexeme) × (ts ≡ us ++ vs) × Spells a x
 Spells (a or b) x ts = Spells a x ts ⊎ Spells b x ts
 Spells (maybe a) None ts = ts ≡ []
 Spells (maybe a) (Some x) ts = Spells a x ts
+Spells (unless j k a) None ts = ts ≡ []
+Spells (unless j k a) (Some x) ts = Spells a x ts
 Spells (many a) xs ts = Each (Spells a) xs ts
 Spells (made {A} f a) y ts = (x : A) × (y ≡ f x) × Spells a x ts
 Spells (node {A} f a) y ts = (x : A) × (y ≡ f x (span_of ts)) × Spells a x ts

@@ -1,5 +1,5 @@
 -- What a well-formed program is: one that could have been read from a text, whatever its spans.
-use Rattle.std.specs.Prelude.{◌≡◌, ℕ, ◌<◌, List, length, All, IfSome, IsSome, IsNone}
+use Rattle.std.specs.Prelude.{◌≡◌, ℕ, ◌<◌, ◌^◌, ◌++◌, codes, List, length, All, IfSome, IsSome, IsNone}
 use Rattle.dl_lexer.specs.declared.token.Kind.TheVariants as kinds
 use Rattle.dl_lexer.specs.Tokens.{IsSpelled}
 use Rattle.dl_ast.specs.declared.ast.NameAst.{NameAst}
@@ -10,7 +10,11 @@ use Rattle.dl_ast.specs.declared.ast.LimitAst.{LimitAst}
 use Rattle.dl_ast.specs.declared.ast.LimitAst.TheVariants.{Finite, Infinite}
 use Rattle.dl_ast.specs.declared.ast.Layer.{Layer}
 use Rattle.dl_ast.specs.declared.ast.Atom.{Atom}
+use Rattle.dl_ast.specs.declared.ast.MixAst.{MixAst}
+use Rattle.dl_ast.specs.declared.ast.SevBody.{SevBody}
+use Rattle.dl_ast.specs.declared.ast.SevBody.TheVariants.{Mixture, Ref}
 use Rattle.dl_ast.specs.declared.ast.SevAst.{SevAst}
+use Rattle.dl_ast.specs.declared.ast.SevDef.{SevDef}
 use Rattle.dl_ast.specs.declared.ast.PortHead.{PortHead}
 use Rattle.dl_ast.specs.declared.ast.CountAst.{CountAst}
 use Rattle.dl_ast.specs.declared.ast.CountAst.TheVariants.{Exposed, Listed}
@@ -20,6 +24,8 @@ use Rattle.dl_ast.specs.declared.ast.CededLayer.{CededLayer}
 use Rattle.dl_ast.specs.declared.ast.Cession.{Cession}
 use Rattle.dl_ast.specs.declared.ast.FreqAst.{FreqAst}
 use Rattle.dl_ast.specs.declared.ast.FreqAst.TheVariants as freqs
+use Rattle.dl_ast.specs.declared.ast.ZeroAst.{ZeroAst}
+use Rattle.dl_ast.specs.declared.ast.ZeroAst.TheVariants.{Plain, Truncated, Modified}
 use Rattle.dl_ast.specs.declared.ast.Exposure.{Exposure}
 use Rattle.dl_ast.specs.declared.ast.Exposure.TheVariants.{Claims, Loss, Premium}
 use Rattle.dl_ast.specs.declared.ast.UnitAst.{UnitAst}
@@ -59,11 +65,26 @@ pub record IsFormedAtom (atom : Atom) : Type 0 where
   pub probs : IfSome atom.probs IsFormedList
 
 -- several atoms have weights
-pub record IsFormedSeverity (sev : SevAst) : Type 0 where
-  pub some : 0 < length sev.atoms
-  pub atoms : All IsFormedAtom sev.atoms
-  pub weights : IfSome sev.weights IsFormedList
-  pub several : 1 < length sev.atoms → IsSome sev.weights
+pub record IsFormedMixture (mix : MixAst) : Type 0 where
+  pub some : 0 < length mix.atoms
+  pub atoms : All IsFormedAtom mix.atoms
+  pub weights : IfSome mix.weights IsFormedList
+  pub several : 1 < length mix.atoms → IsSome mix.weights
+
+-- `sev.` and the name of a reference are a token together
+abbrev pub IsFormedReference : NameAst → Type 0
+IsFormedReference name = IsSpelled kinds.Ref (codes "sev." ++ name.text)
+
+abbrev pub IsFormedBody : SevBody → Type 0
+IsFormedBody (Mixture mix) = IsFormedMixture mix
+IsFormedBody (Ref name) = IsFormedReference name
+
+abbrev pub IsFormedSeverity : SevAst → Type 0
+IsFormedSeverity sev = IsFormedBody sev.body
+
+pub record IsFormedDefinition (def : SevDef) : Type 0 where
+  pub name : IsFormedName def.name
+  pub mix : IsFormedMixture def.mix
 
 abbrev pub IsFormedShare : Share → Type 0
 IsFormedShare shares.Whole = Unit {0}
@@ -81,9 +102,15 @@ pub record IsFormedCession (cession : Cession) : Type 0 where
 abbrev pub IsFormedFrequency : FreqAst → Type 0
 IsFormedFrequency (freqs.Fixed _) = Unit {0}
 IsFormedFrequency (freqs.Poisson _) = Unit {0}
+IsFormedFrequency (freqs.Geometric _) = Unit {0}
 IsFormedFrequency (freqs.Bernoulli _) = Unit {0}
 IsFormedFrequency (freqs.Binomial p _) = IsFormedNumeral p
 IsFormedFrequency (freqs.Gamma c _) = IsFormedNumeral c
+
+abbrev pub IsFormedZero : ZeroAst → Type 0
+IsFormedZero Plain = Unit {0}
+IsFormedZero (Truncated _) = Unit {0}
+IsFormedZero (Modified p _) = IsFormedNumeral p
 
 abbrev pub IsFormedExposure : Exposure → Type 0
 IsFormedExposure (Claims n _) = IsFormedNumeral n
@@ -91,7 +118,8 @@ IsFormedExposure (Loss n _) = IsFormedNumeral n
 IsFormedExposure (Premium p r _) = IsFormedNumeral p × IsFormedNumeral r
 
 abbrev pub IsFormedCount : CountAst → Type 0
-IsFormedCount (Exposed exposure freq) = IsFormedExposure exposure × IsFormedFrequency freq
+IsFormedCount (Exposed exposure freq zero) =
+    IsFormedExposure exposure × (IsFormedFrequency freq × IsFormedZero zero)
 IsFormedCount (Listed counts probs _) = IsFormedList counts × IfSome probs IsFormedList
 
 pub record IsFormedUnit (unit : UnitAst) : Type 0 where
@@ -105,10 +133,13 @@ pub record IsFormedUnit (unit : UnitAst) : Type 0 where
 
 pub record IsFormedHead (head : PortHead) : Type 0 where
   pub name : IsFormedName head.name
+  pub common : IfSome head.common IsFormedNumeral
   pub note : IfSome head.note IsFormedNote
 
--- without a port there is one unit
+-- the severities with names can be counted in 32 bits; without a port there is one unit
 pub record IsWellFormed (program : Program) : Type 0 where
+  pub few : length program.sevs < 2 ^ 32
+  pub sevs : All IsFormedDefinition program.sevs
   pub head : IfSome program.port IsFormedHead
   pub some : 0 < length program.units
   pub units : All IsFormedUnit program.units

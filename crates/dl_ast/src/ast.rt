@@ -3,20 +3,35 @@
 
 use dl_lexer::{Items, Span, Text};
 
-/// A program: one unit, or a portfolio of units.
+/// A program: named severities, and then one unit, or a portfolio of units.
 #[derive(Drop)]
 pub struct Program {
+    /// The named severities in the order of the text.
+    pub sevs: Items<SevDef>,
     /// The head of a portfolio; none where the program is one unit.
     pub port: Option<PortHead>,
     /// The units in the order of the text, at least one.
     pub units: Items<UnitAst>,
 }
 
-/// The line that begins a portfolio: `port NAME note{..}`.
+/// A severity with a name, which units refer to: `sev NAME` and a mixture.
+#[derive(Drop)]
+pub struct SevDef {
+    /// Its name.
+    pub name: NameAst,
+    /// The mixture that the name stands for.
+    pub mix: MixAst,
+    /// From `sev` to the end of the mixture.
+    pub span: Span,
+}
+
+/// The line that begins a portfolio: `port NAME common c note{..}`.
 #[derive(Drop)]
 pub struct PortHead {
     /// The portfolio's name.
     pub name: NameAst,
+    /// The coefficient of variation of the gamma factor that all units share, where there is one.
+    pub common: Option<Numeral>,
     /// The whole token of its note, where there is one.
     pub note: Option<Text>,
 }
@@ -67,6 +82,8 @@ pub enum CountAst {
         exposure: Exposure,
         /// The claim count's distribution.
         freq: FreqAst,
+        /// Whether its probability of no claim is changed.
+        zero: ZeroAst,
     },
     /// `dfreq`: the counts are listed.
     Listed {
@@ -104,12 +121,26 @@ pub enum FreqAst {
     Fixed(Span),
     /// Poisson.
     Poisson(Span),
+    /// Geometric: Poisson mixed by an exponential factor.
+    Geometric(Span),
     /// One claim or none.
     Bernoulli(Span),
     /// Binomial, with the probability of each trial.
     Binomial(Numeral, Span),
     /// Poisson mixed by a gamma factor, with that factor's coefficient of variation.
     Gamma(Numeral, Span),
+}
+
+/// What a claim count's probability of no claim is changed to; the probabilities of all other
+/// numbers of claims keep their proportions.
+#[derive(Drop)]
+pub enum ZeroAst {
+    /// It is not changed.
+    Plain,
+    /// `zt`: to 0.
+    Truncated(Span),
+    /// `zm p`: to this probability.
+    Modified(Numeral, Span),
 }
 
 /// `limit xs attach`: the part of a loss above the attachment, up to the limit.
@@ -132,16 +163,35 @@ pub enum LimitAst {
     Infinite,
 }
 
-/// The severity: one atom, or a mixture of several.
+/// The severity of a unit.
 #[derive(Drop)]
 pub struct SevAst {
+    /// What one claim costs.
+    pub body: SevBody,
+    /// Whether a final `!` keeps the severity from being conditioned on exceeding the attachment.
+    pub bang: bool,
+    /// From the first token of what one claim costs to its last, or to `!`.
+    pub span: Span,
+}
+
+/// What one claim costs.
+#[derive(Drop)]
+pub enum SevBody {
+    /// This mixture.
+    Mixture(MixAst),
+    /// `sev.NAME`: the severity of this name. The text is what stands behind `sev.`, and the span is
+    /// that of the whole token.
+    Ref(NameAst),
+}
+
+/// One atom, or a mixture of several.
+#[derive(Drop)]
+pub struct MixAst {
     /// The atoms, at least one.
     pub atoms: Items<Atom>,
     /// The list behind `wts`, the weight of each atom.
     pub weights: Option<ListAst>,
-    /// Whether a final `!` keeps the severity from being conditioned on exceeding the attachment.
-    pub bang: bool,
-    /// From the first atom to the weights, or to `!`.
+    /// From the first atom to the last one, or to the weights.
     pub span: Span,
 }
 

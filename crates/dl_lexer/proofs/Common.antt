@@ -14,7 +14,7 @@ pub use Rattle.dl_lexer.specs.Cutting.{Covers, IsBad, IsLongest, NoToken, blank,
 pub use Rattle.dl_lexer.specs.Keywords.{spelling}
 unfoldable pub use Rattle.dl_lexer.specs.Keywords.{first_spelled}
 pub use Rattle.dl_lexer.specs.Numerals.{IsDecimalToken, IsNumeralToken, a_decimal, a_fraction, a_percent, digits, digits_point, fraction, percent, point_digits}
-pub use Rattle.dl_lexer.specs.Tokens.{IsNote, IsSpelled, IsToken, IsWord, begins_with_letter, note, sign_byte}
+pub use Rattle.dl_lexer.specs.Tokens.{IsNote, IsRef, IsSpelled, IsToken, IsWord, begins_with_letter, note, ref, sign_byte}
 pub use Rattle.dl_lexer.specs.declared.token.Keyword.{Keyword}
 pub use Rattle.dl_lexer.specs.declared.token.Kind.{Kind}
 pub use Rattle.dl_lexer.specs.declared.token.Sign.{Sign}

@@ -1,5 +1,5 @@
 -- What bytes that spell a token begin with, so that they spell a token of one kind, and where the longest one ends.
-use Rattle.dl_lexer.proofs.Common.{ℕ, zero, suc, ◌≡◌, ◌≢◌, ◌∙◌, ◌<◌, ◌≤◌, ◌⊎◌, List, [], ◌∷◌, ◌++◌, length, take, Bool, true, false, ◌||◌, ◌==◌, inl, inr, refl, sym, ap, arith, append_assoc, Some, slice_get, subst, list_all, nat_tests, length-take-le, append-nil, slice_get_within, Keyword, Sign, Open, Close, Colon, Comma, Bang, Kind, is_letter, is_digit, is_word_byte, spelling, IsDecimalToken, digits, digits_point, point_digits, percent, fraction, IsNumeralToken, a_decimal, a_percent, a_fraction, begins_with_letter, IsWord, IsNote, note, sign_byte, IsSpelled, IsToken, IsLongest, NoToken, and_parts}
+use Rattle.dl_lexer.proofs.Common.{ℕ, zero, suc, ◌≡◌, ◌≢◌, ◌∙◌, ◌<◌, ◌≤◌, ◌⊎◌, List, [], ◌∷◌, ◌++◌, length, take, Bool, true, false, ◌||◌, ◌==◌, inl, inr, refl, sym, ap, arith, append_assoc, Some, slice_get, subst, list_all, nat_tests, length-take-le, append-nil, slice_get_within, Keyword, Sign, Open, Close, Colon, Comma, Bang, Kind, is_letter, is_digit, is_word_byte, spelling, IsDecimalToken, digits, digits_point, point_digits, percent, fraction, IsNumeralToken, a_decimal, a_percent, a_fraction, begins_with_letter, IsWord, IsNote, note, IsRef, ref, sign_byte, IsSpelled, IsToken, IsLongest, NoToken, and_parts}
 use Rattle.std.proofs.Common.{if◌then◌else◌}
 use Rattle.dl_lexer.specs.declared.token.Kind.TheVariants as kind
 use Rattle.dl_lexer.specs.Numerals.{IsDigits}
@@ -43,6 +43,26 @@ note_begins_letter bs (note text e all) = ap begins_with_letter e
 note_no_word : (bs : List ℕ) → IsNote bs → list_all is_word_byte bs ≡ false
 note_no_word bs (note text e all) = ap (list_all is_word_byte) e
 
+ref_begins_letter : (bs : List ℕ) → IsRef bs → begins_with_letter bs ≡ true
+ref_begins_letter bs (ref name e word) = ap begins_with_letter e
+
+-- nor is a reference: its point is none
+ref_no_word : (bs : List ℕ) → IsRef bs → list_all is_word_byte bs ≡ false
+ref_no_word bs (ref name e word) = ap (list_all is_word_byte) e
+
+-- a note begins with an `n`, and a reference does not
+begins_with_n : List ℕ → Bool
+begins_with_n [] = false
+begins_with_n (b ∷ bs) = b == 110
+
+note_begins_n : (bs : List ℕ) → IsNote bs → begins_with_n bs ≡ true
+unfolding begins_with_n
+note_begins_n bs (note text e all) = ap begins_with_n e
+
+ref_begins_s : (bs : List ℕ) → IsRef bs → begins_with_n bs ≡ false
+unfolding begins_with_n
+ref_begins_s bs (ref name e word) = ap begins_with_n e
+
 pub sign_no_letter : (s : Sign) (bs : List ℕ) → bs ≡ sign_byte s ∷ [] → begins_with_letter bs ≡ false
 sign_no_letter Open bs e = ap begins_with_letter e
 sign_no_letter Close bs e = ap begins_with_letter e
@@ -68,7 +88,8 @@ sign_of (n ∷ bs) = if n == 91 then Open else if n == 93 then Close else if n =
 
 kind_of : List ℕ → Kind
 kind_of bs =
-    if begins_with_letter bs then (if list_all is_word_byte bs then kind.Name else kind.Note)
+    if begins_with_letter bs then (if list_all is_word_byte bs then kind.Name
+    else if begins_with_n bs then kind.Note else kind.Ref)
     else (if begins_numeral bs then kind.Numeral else kind.Sign (sign_of bs))
 
 sign_told : (s : Sign) → sign_of (sign_byte s ∷ []) ≡ s
@@ -87,7 +108,16 @@ kind_told (kind.Word j) bs t = inl (j, refl, t)
 kind_told kind.Name bs t = let w = word_parts bs t.word in inr (rw (w.0, w.1) refl, t.no_keyword)
 kind_told kind.Note bs t =
     let other = note_no_word bs t in
-    inr (rw (note_begins_letter bs t, other) refl, λ j e. let w = word_parts bs (word_spelled j bs (sym e)) in cc)
+    inr (
+      rw (note_begins_letter bs t, other, note_begins_n bs t) refl,
+      λ j e. let w = word_parts bs (word_spelled j bs (sym e)) in cc,
+    )
+kind_told kind.Ref bs t =
+    let other = ref_no_word bs t in
+    inr (
+      rw (ref_begins_letter bs t, other, ref_begins_s bs t) refl,
+      λ j e. let w = word_parts bs (word_spelled j bs (sym e)) in cc,
+    )
 kind_told kind.Numeral bs t =
     let other = no_letter bs (numeral_begins bs t) in
     inr (rw (other, numeral_begins bs t) refl, λ j e. let w = word_parts bs (word_spelled j bs (sym e)) in cc)
@@ -116,14 +146,17 @@ pub token_some : (k : Kind) → IsSpelled k [] → ⊥
 token_some (kind.Word k) t = let w = (word_parts [] (word_spelled k [] t)).0 in cc
 token_some kind.Name t = let w = (word_parts [] t.word).0 in cc
 token_some kind.Note t = let h = note_begins_letter [] t in cc
+token_some kind.Ref t = let h = ref_begins_letter [] t in cc
 token_some kind.Numeral t = let h = numeral_begins [] t in cc
 token_some (kind.Sign s) t = cc
 
--- a token that begins with a letter is a word or a note
-lettered : (k : Kind) (bs : List ℕ) → begins_with_letter bs ≡ true → IsSpelled k bs → IsWord bs ⊎ IsNote bs
+-- a token that begins with a letter is a word, a note or a reference
+lettered : (k : Kind) (bs : List ℕ) → begins_with_letter bs ≡ true → IsSpelled k bs
+    → IsWord bs ⊎ (IsNote bs ⊎ IsRef bs)
 lettered (kind.Word k) bs h t = inl (word_spelled k bs t)
 lettered kind.Name bs h t = inl t.word
-lettered kind.Note bs h t = inr t
+lettered kind.Note bs h t = inr (inl t)
+lettered kind.Ref bs h t = inr (inr t)
 lettered kind.Numeral bs h t = let other = no_letter bs (numeral_begins bs t) in absurd cc
 lettered (kind.Sign s) bs h t = let other = sign_no_letter s bs t in absurd cc
 
@@ -133,6 +166,7 @@ unlettered : (k : Kind) (bs : List ℕ) → begins_with_letter bs ≡ false → 
 unlettered (kind.Word k) bs h t = let other = (word_parts bs (word_spelled k bs t)).0 in absurd cc
 unlettered kind.Name bs h t = let other = (word_parts bs t.word).0 in absurd cc
 unlettered kind.Note bs h t = let other = note_begins_letter bs t in absurd cc
+unlettered kind.Ref bs h t = let other = ref_begins_letter bs t in absurd cc
 unlettered kind.Numeral bs h t = inl t
 unlettered (kind.Sign s) bs h t = inr (s, t)
 
@@ -142,7 +176,7 @@ front_some bytes zero t = absurd (token_some t.kind t.spelled)
 front_some bytes (suc m) t = omega arith
 
 front_lettered : (bytes : List ℕ) (m : ℕ) → begins_with_letter bytes ≡ true → IsToken (take m bytes)
-    → IsWord (take m bytes) ⊎ IsNote (take m bytes)
+    → IsWord (take m bytes) ⊎ (IsNote (take m bytes) ⊎ IsRef (take m bytes))
 front_lettered bytes m h t = lettered t.kind (take m bytes) (begins_take m bytes (front_some bytes m t) ∙ h) t.spelled
 
 front_unlettered : (bytes : List ℕ) (m : ℕ) → begins_with_letter bytes ≡ false → IsToken (take m bytes)
@@ -150,23 +184,18 @@ front_unlettered : (bytes : List ℕ) (m : ℕ) → begins_with_letter bytes ≡
 front_unlettered bytes m h t =
     unlettered t.kind (take m bytes) (begins_take m bytes (front_some bytes m t) ∙ h) t.spelled
 
--- the longest token at the front: a note or a word, whichever is longer
-pub longest_note : (bytes : List ℕ) (w n : ℕ) → begins_with_letter bytes ≡ true → IsLongest IsWord bytes w
-    → IsLongest IsNote bytes n → w < n → IsLongest IsToken bytes n
-longest_note bytes w n letter word a_note lt = record {
-  within = a_note.within;
-  spelled = λ some. record { kind = kind.Note; spelled = a_note.spelled some };
+-- the longest token at the front: a word, a note or a reference, whichever is longest
+pub longest_lettered : (bytes : List ℕ) (w n r most : ℕ) (k : Kind) → begins_with_letter bytes ≡ true
+    → IsLongest IsWord bytes w → IsLongest IsNote bytes n → IsLongest IsRef bytes r
+    → (w ≤ most) × (n ≤ most) × (r ≤ most) → most ≤ length bytes → (0 < most → IsSpelled k (take most bytes))
+    → IsLongest IsToken bytes most
+longest_lettered bytes w n r most k letter word a_note a_ref le within t = record {
+  within = within;
+  spelled = λ some. record { kind = k; spelled = t some };
   longest = λ m h t. either (front_lettered bytes m letter t)
-      (λ x. let most : m ≤ w = word.longest m h x in omega arith) (λ x. a_note.longest m h x);
-}
-
-pub longest_word : (bytes : List ℕ) (w n : ℕ) (k : Kind) → begins_with_letter bytes ≡ true → IsLongest IsWord bytes w
-    → IsLongest IsNote bytes n → n ≤ w → IsSpelled k (take w bytes) → IsLongest IsToken bytes w
-longest_word bytes w n k letter word a_note le t = record {
-  within = word.within;
-  spelled = λ some. record { kind = k; spelled = t };
-  longest = λ m h t. either (front_lettered bytes m letter t) (λ x. word.longest m h x)
-      (λ x. let most : m ≤ n = a_note.longest m h x in omega arith);
+      (λ x. let far : m ≤ w = word.longest m h x in omega (arith, le.0))
+      (λ x. either x (λ y. let far : m ≤ n = a_note.longest m h y in omega (arith, le.1))
+      (λ y. let far : m ≤ r = a_ref.longest m h y in omega (arith, le.2)));
 }
 
 sign_length : (bytes : List ℕ) (m : ℕ) (s : Sign) → m ≤ length bytes → take m bytes ≡ sign_byte s ∷ [] → m ≡ 1

@@ -1,6 +1,7 @@
--- The longest word and the longest note at the front of some bytes.
-use Rattle.dl_lexer.proofs.Common.{ℕ, zero, suc, ◌≡◌, ◌≢◌, ◌∙◌, ◌+◌, ◌<◌, ◌≤◌, List, [], ◌∷◌, ◌++◌, length, take, drop, true, false, refl, sym, ap, arith, append_assoc, length-append, Some, slice_get, subst, list_all, prefix_len, take-append-add, take-append-drop, length-take-le, prefix_len-le-length, slice_get_within, bytes_eq, bytes_eq-Decides, is_word_byte, begins_with_letter, IsWord, IsNote, note, IsLongest, and_parts}
+-- The longest word, the longest note and the longest reference at the front of some bytes.
+use Rattle.dl_lexer.proofs.Common.{ℕ, zero, suc, ◌≡◌, ◌≢◌, ◌∙◌, ◌+◌, ◌<◌, ◌≤◌, List, [], ◌∷◌, ◌++◌, length, take, drop, true, false, refl, sym, ap, arith, append_assoc, length-append, Some, slice_get, subst, list_all, prefix_len, take-append-add, take-append-drop, length-take-le, prefix_len-le-length, slice_get_within, bytes_eq, bytes_eq-Decides, is_word_byte, begins_with_letter, IsWord, IsNote, note, IsRef, ref, IsLongest, and_parts}
 use Rattle.std.proofs.Common.{codes}
+use Rattle.std.proofs.Math.Seq.{take-append_seam}
 use Rattle.dl_lexer.specs.Bytes.{is_note_byte}
 use Rattle.dl_lexer.proofs.Prefix.{prefix_passes, prefix_most, prefix_ends, take_around, get_behind}
 use Rattle.dl_lexer.proofs.Longest.{longest_none}
@@ -99,17 +100,80 @@ note_none bytes other = longest_none IsNote bytes no_note
         (sym (take-append-drop m bytes) ∙ ap (λ ys. ys ++ drop m bytes) e
         ∙ append_assoc (codes "note{") (inside ++ 125 ∷ []) (drop m bytes))
 
--- bytes begin with a note's word and brace, as their first five show
-pub note_begins : (bytes text : List ℕ)
-    → bytes_eq (take 5 bytes) (codes "note{") ≡ true → text ≡ drop 5 bytes → bytes ≡ codes "note{" ++ text
-note_begins bytes text same rest =
-    let front : take 5 bytes ≡ codes "note{" = (bytes_eq-Decides (take 5 bytes) (codes "note{")).0 same in
-    sym (take-append-drop 5 bytes) ∙ ap (λ ys. ys ++ drop 5 bytes) front ∙ ap (λ ys. codes "note{" ++ ys) (sym rest)
+-- a reference at the front: how long its name is, which is a word
+record IsRefAt (name : List ℕ) (m : ℕ) : Type 0 where
+  pub size : ℕ
+  pub count : m ≡ size + 4
+  pub some : 0 < size
+  pub within : size ≤ length name
+  pub word : IsWord (take size name)
 
-pub note_begins_not : (bytes : List ℕ) → bytes_eq (take 5 bytes)
-    (codes "note{") ≡ false → (text : List ℕ) → bytes ≢ codes "note{" ++ text
-note_begins_not bytes differ text e =
-    let front : take 5 bytes ≡ codes "note{" = ap (take 5) e in
-    let same : bytes_eq (take 5 bytes) (codes "note{") ≡ true =
-    (bytes_eq-Decides (take 5 bytes) (codes "note{")).1 front in
+behind_sev : (name inside after : List ℕ) → codes "sev." ++ name ≡ (codes "sev." ++ inside) ++ after
+    → name ≡ inside ++ after
+behind_sev name inside after e = cc
+
+word_length_some : (bs : List ℕ) → IsWord bs → 0 < length bs
+word_length_some [] w = cc
+word_length_some (b ∷ bs) w = omega arith
+
+ref_at : (name : List ℕ) (m : ℕ) → m ≤ length (codes "sev." ++ name) → IsRef (take m (codes "sev." ++ name))
+    → IsRefAt name m
+ref_at name m h (ref inside e w) =
+    let bytes : List ℕ = codes "sev." ++ name in
+    let after : List ℕ = drop m bytes in
+    let split : name ≡ inside ++ after =
+    behind_sev name inside after (sym (take-append-drop m bytes) ∙ ap (λ ys. ys ++ after) e) in
+    let here : take (length inside) name ≡ inside = ap (take (length inside)) split ∙ take-append_seam inside after in
+    record {
+      size = length inside;
+      count = omega (arith, ap length e, length-take-le m bytes h);
+      some = word_length_some inside w;
+      within = omega (arith, ap length split, length-append inside after);
+      word = subst IsWord (sym here) w;
+    }
+
+pub ref_longest : (name : List ℕ) (n : ℕ) → IsLongest IsWord name n → 0 < n
+    → IsLongest IsRef (codes "sev." ++ name) (n + 4)
+ref_longest name n word some = record {
+  within = omega (arith, word.within);
+  spelled = λ _. rw whole (ref (take n name) refl (word.spelled some));
+  longest = λ m h t. let at = ref_at name m h t in
+      let most : at.size ≤ n = word.longest at.size at.within at.word in omega (arith, at.count);
+}
+  where
+    whole : take (n + 4) (codes "sev." ++ name) ≡ codes "sev." ++ take n name
+    whole =
+        let size : n + 4 ≡ 4 + n = omega arith in
+        ap (λ k. take k (codes "sev." ++ name)) size ∙ take-append-add (codes "sev.") name n
+
+pub ref_unnamed : (name : List ℕ) (n : ℕ) → IsLongest IsWord name n → n ≤ 0 → IsLongest IsRef (codes "sev." ++ name) 0
+ref_unnamed name n word none = longest_none IsRef (codes "sev." ++ name) (λ m h t.
+    let at = ref_at name m h t in
+    let most : at.size ≤ n = word.longest at.size at.within at.word in
+    let some : 0 < at.size = at.some in
+    absurd (omega arith))
+
+pub ref_none : (bytes : List ℕ) → ((name : List ℕ) → bytes ≢ codes "sev." ++ name) → IsLongest IsRef bytes 0
+ref_none bytes other = longest_none IsRef bytes no_ref
+  where
+    no_ref : (m : ℕ) → m ≤ length bytes → IsRef (take m bytes) → ⊥
+    no_ref m h (ref inside e w) =
+        other (inside ++ drop m bytes)
+        (sym (take-append-drop m bytes) ∙ ap (λ ys. ys ++ drop m bytes) e
+        ∙ append_assoc (codes "sev.") inside (drop m bytes))
+
+-- bytes begin with some others, as the first of them show
+pub begins_so : (front bytes text : List ℕ) → bytes_eq (take (length front) bytes) front ≡ true
+    → text ≡ drop (length front) bytes → bytes ≡ front ++ text
+begins_so front bytes text same rest =
+    let here : take (length front) bytes ≡ front = (bytes_eq-Decides (take (length front) bytes) front).0 same in
+    sym (take-append-drop (length front) bytes) ∙ ap (λ ys. ys ++ drop (length front) bytes) here
+    ∙ ap (λ ys. front ++ ys) (sym rest)
+
+pub begins_otherwise : (front bytes : List ℕ) → bytes_eq (take (length front) bytes) front ≡ false → (text : List ℕ)
+    → bytes ≢ front ++ text
+begins_otherwise front bytes differ text e =
+    let here : take (length front) bytes ≡ front = ap (take (length front)) e ∙ take-append_seam front text in
+    let same : bytes_eq (take (length front) bytes) front ≡ true =
+    (bytes_eq-Decides (take (length front) bytes) front).1 here in
     cc

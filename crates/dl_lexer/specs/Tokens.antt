@@ -29,6 +29,10 @@ pub data IsNote (bytes : List ℕ) : Type 0 where
   note : (text : List ℕ) → bytes ≡ codes "note{" ++ text ++ 125 ∷ []
       → IsTrue (list_all is_note_byte text) → IsNote bytes
 
+-- `sev.` and a word
+pub data IsRef (bytes : List ℕ) : Type 0 where
+  ref : (name : List ℕ) → bytes ≡ codes "sev." ++ name → IsWord name → IsRef bytes
+
 -- the byte of a sign
 abbrev pub sign_byte : Sign → ℕ
 sign_byte sign = elim sign [ Open ↦ 91 | Close ↦ 93 | Colon ↦ 58 | Comma ↦ 44 | Bang ↦ 33 ]
@@ -37,6 +41,7 @@ sign_byte sign = elim sign [ Open ↦ 91 | Close ↦ 93 | Colon ↦ 58 | Comma �
 abbrev pub IsSpelled : Kind → List ℕ → Type 0
 IsSpelled (kind.Word k) bytes = bytes ≡ spelling k
 IsSpelled kind.Name bytes = IsName bytes
+IsSpelled kind.Ref bytes = IsRef bytes
 IsSpelled kind.Numeral bytes = IsNumeralToken bytes
 IsSpelled kind.Note bytes = IsNote bytes
 IsSpelled (kind.Sign s) bytes = bytes ≡ sign_byte s ∷ []

@@ -7,7 +7,9 @@ ghost use Rattle.dl_lexer.specs.declared.cut.LexFault.TheVariants.{OutOfMemory, 
 ghost use Rattle.dl_lexer.specs.Cutting.{IsLongest, NoToken, Covers, IsBad, token_of};
 ghost use Rattle.dl_lexer.specs.Tokens.{begins_with_letter, IsSpelled, IsToken, sign_byte};
 
-use crate::front::{begins_with_letter, blank_length, note_length, numeral_length, word_length};
+use crate::front::{
+    begins_with_letter, blank_length, note_length, numeral_length, ref_length, word_length,
+};
 use crate::token::{Keyword, Kind, Sign, Span, Token};
 use std::alloc::{AllocFailed, Global};
 use thiserror::Error;
@@ -46,15 +48,18 @@ fn sign_at(bytes: &[u8]) -> Option<Sign>
     }
 }
 
-/// The word or note, whichever is longer, that begins bytes whose first is a letter, and its
-/// length.
+/// The longest word, note or reference that begins bytes whose first is a letter, and its length.
 fn word_at(bytes: &[u8]) -> (Kind, usize)
     requires { IsTrue (begins_with_letter bytes.now) }
     ensures spelled { IsSpelled result.0 (take result.1 bytes.now) }
     ensures longest { IsLongest IsToken bytes.now result.1 }
 {
     let note = note_length(bytes);
+    let reference = ref_length(bytes);
     let word = word_length(bytes);
+    if reference > word.max(note) {
+        return (Kind::Ref, reference);
+    }
     if note > word {
         return (Kind::Note, note);
     }

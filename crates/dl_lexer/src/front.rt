@@ -7,7 +7,7 @@ ghost use Rattle.std.specs.List.{prefix_len};
 ghost use Rattle.dl_lexer.specs.Classes.{is_in};
 ghost use Rattle.dl_lexer.specs.Cutting.{IsLongest, blank_length};
 ghost use Rattle.dl_lexer.specs.Numerals.{IsDecimalToken, IsPercent, IsFraction, IsNumeralToken};
-ghost use Rattle.dl_lexer.specs.Tokens.{begins_with_letter, IsWord, IsNote};
+ghost use Rattle.dl_lexer.specs.Tokens.{begins_with_letter, IsWord, IsNote, IsRef};
 
 /// What a run of bytes is made of.
 #[derive(Clone, Copy)]
@@ -99,6 +99,17 @@ pub(crate) fn note_length(bytes: &[u8]) -> usize
     } else {
         0
     }
+}
+
+/// The length of the severity's reference that begins the bytes, 0 where none does.
+pub(crate) fn ref_length(bytes: &[u8]) -> usize
+    ensures { IsLongest IsRef bytes.now result }
+{
+    let Some(name) = bytes.strip_prefix(b"sev.") else {
+        return 0;
+    };
+    let length = word_length(name);
+    if length > 0 { length + 4 } else { 0 }
 }
 
 /// Where a mark stands right behind the digits that begin the bytes: how many digits stand before

@@ -5,8 +5,8 @@ ghost use Rattle.dl_lexer.specs.Keywords.{spelling, first_spelled};
 
 use std::mem::size_of;
 
-/// A word of the language: those of the grammar, the nine names of continuous severities, and five
-/// reserved words that the grammar does not use.
+/// A word of the language: those of the grammar, the nine names of continuous severities, and
+/// `note`, which is reserved.
 #[derive(Clone, Copy, Debug, PartialEq, Eq)]
 pub enum Keyword {
     Agg,
@@ -151,6 +151,8 @@ pub enum Kind {
     Word(Keyword),
     /// Any other word: a letter, then letters, digits, `_` and `-`.
     Name,
+    /// `sev.` and a word right behind it: a severity by its name.
+    Ref,
     /// A decimal (`12`, `5.`, `.5`), a percent (`12%`) or a fraction (`1/2`).
     Numeral,
     /// `note{`, any bytes but braces, `}`.

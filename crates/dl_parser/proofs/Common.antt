@@ -8,11 +8,11 @@ pub use Rattle.dl_lexer.specs.declared.token.Kind.{Kind}
 pub use Rattle.dl_lexer.specs.declared.token.Kind.TheVariants.{Sign, Word}
 pub use Rattle.dl_ast.proofs.Samples.{token_kind, token_of, token_real}
 pub use Rattle.dl_ast.specs.Grammar.{some_of}
-unfoldable pub use Rattle.dl_ast.specs.Grammar.{claims, freq, head, layer, limit, name, note, numeral, premium, side}
+unfoldable pub use Rattle.dl_ast.specs.Grammar.{claims, common, count, freq, head, layer, limit, name, note, numeral, premium, reference, side, zero_change}
 pub use Rattle.dl_ast.specs.Lexemes.{IsReal, Lexeme, lexeme}
-pub use Rattle.dl_ast.specs.Rules.{Each, Rule, Spells, end_of, made, many, maybe, node, one, span_of, ◌or◌, ◌▸◌}
+pub use Rattle.dl_ast.specs.Rules.{Each, Rule, Spells, end_of, made, many, maybe, node, one, span_of, unless, ◌or◌, ◌▸◌}
 pub use Rattle.dl_ast.specs.declared.ast.Atom.{Atom}
-unfoldable pub use Rattle.dl_parser.specs.Factored.{atom, body, cession, clause, closing, counted, ending, exposed, exposure, item, items, layers, list, listed, loss, mixture, next_cession, next_item, ratio, sev, unit, units, weighted}
+unfoldable pub use Rattle.dl_parser.specs.Factored.{atom, body, book, cession, clause, closing, cost, counted, defined, ending, exposed, exposure, item, items, layers, list, listed, loss, mixture, next_cession, next_item, ratio, sev, sevdef, unit, units, weighted}
 pub use Rattle.dl_parser.specs.Parsing.{place}
 pub use Rattle.dl_parser.specs.Plain.{plain}
-pub use Rattle.dl_parser.specs.Reading.{Outcome, Place, among, apart, begins, first, goes_on, got, is_empty, is_plain, one_at, read, repeat, same_kind, start_of, stuck, watched, ◌>>=◌}
+pub use Rattle.dl_parser.specs.Reading.{Outcome, Place, alone, among, apart, begins, enters, first, goes_on, got, is_empty, is_plain, is_settled, one_at, read, repeat, same_kind, seconds, start_of, stuck, two_at, watched, ◌>>=◌}

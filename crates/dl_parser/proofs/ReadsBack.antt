@@ -1,8 +1,8 @@
 -- A spelling is read as what it spells.
-use Rattle.dl_parser.proofs.Common.{◌≡◌, ℕ, zero, suc, ◌≤◌, Bool, true, false, cond, ◌&&◌, ◌||◌, List, [], ◌∷◌, ◌++◌, length, Some, None, refl, sym, ap, ◌∙◌, subst, inl, inr, arith, append_assoc, length-append, Kind, Lexeme, Rule, one, ◌▸◌, ◌or◌, maybe, many, made, node, Each, Spells, end_of, span_of, Place, Outcome, got, ◌>>=◌, among, begins, start_of, is_empty, first, goes_on, repeat, read, apart, is_plain, and_parts, or_parts}
-use Rattle.dl_parser.specs.Reading.{clears}
-use Rattle.dl_parser.proofs.Sets.{same_self, apart_at}
-use Rattle.dl_parser.proofs.Starts.{end_append, first_is, spelled_empty}
+use Rattle.dl_parser.proofs.Common.{◌≡◌, ℕ, zero, suc, ◌≤◌, Bool, true, false, cond, ◌&&◌, ◌||◌, List, [], ◌∷◌, ◌++◌, length, Some, None, refl, sym, ap, ◌∙◌, subst, inl, inr, arith, append_assoc, length-append, Kind, Lexeme, Rule, one, ◌▸◌, ◌or◌, maybe, many, unless, made, node, Each, Spells, end_of, span_of, Place, Outcome, got, ◌>>=◌, among, begins, start_of, is_empty, first, goes_on, repeat, read, apart, is_plain, and_parts, or_parts}
+use Rattle.dl_parser.specs.Reading.{same_kind, two_at, enters, alone, seconds, others, all_are, no as not, clears}
+use Rattle.dl_parser.proofs.Sets.{same_is, same_self, apart_at}
+use Rattle.dl_parser.proofs.Starts.{alone_is, end_append, first_is, second_is, spelled_empty}
 
 -- a spelling is read as what it spells, where what follows doesn't go on with it
 
@@ -36,6 +36,36 @@ starts : {X : Type 0} (r : Rule X) (x : X) (ts rest : List Lexeme) → is_empty 
 starts r x [] rest full s = let yes : is_empty r ≡ true = spelled_empty r x [] refl s in absurd cc
 starts r x (t ∷ ts) rest full s = first_is r x (t ∷ ts) t ts refl s
 
+others_step : (j k i : Kind) (is : List Kind) → same_kind k j ≡ false → (among k is ≡ true → among k (others j is) ≡ true) → (b : Bool) → same_kind k i ≡ b → (c : Bool) → same_kind i j ≡ c → (b || among k is) ≡ true
+    → among k (cond c (others j is) (i ∷ others j is)) ≡ true
+others_step j k i is h rest true e true g m = let same : same_kind k j ≡ true = rw (same_is k i e) g in cc
+others_step j k i is h rest false e true g m = rest m
+others_step j k i is h rest true e false g m = rw e refl
+others_step j k i is h rest false e false g m = rw e (rest m)
+
+among_others : (j k : Kind) (ks : List Kind) → same_kind k j ≡ false → among k ks ≡ true → among k (others j ks) ≡ true
+among_others j k [] h m = m
+among_others j k (i ∷ is) h m = others_step j k i is h (among_others j k is h) (same_kind k i) refl (same_kind i j) refl m
+
+all_step : (k i g : Kind) (gs : List Kind) → same_kind g k ≡ true → (among i gs ≡ true → same_kind i k ≡ true) → (b : Bool) → same_kind i g ≡ b → (b || among i gs) ≡ true → same_kind i k ≡ true
+all_step k i g gs h rest true e m = rw (same_is i g e) h
+all_step k i g gs h rest false e m = rest m
+
+all_at : (k i : Kind) (is : List Kind) → all_are k is ≡ true → among i is ≡ true → same_kind i k ≡ true
+all_at k i [] h m = absurd (cc (m))
+all_at k i (g ∷ gs) h m = all_step k i g gs (and_parts _ _ h).0 (λ n. all_at k i gs (and_parts (same_kind g k) (all_are k gs) h).1 n) (same_kind i g) refl m
+
+-- what begins with the first kind alone of the two goes on with the second
+led : {B : Type 0} (j k : Kind) (ks : List Kind) (b : Rule B) (y : B) (v : Lexeme) (tail rest : List Lexeme) → apart ks (others j (first b)) ≡ true → alone j b ≡ false → all_are k (seconds j b) ≡ true
+    → Spells b y (v ∷ tail) → (c : Bool) → same_kind v.kind j ≡ c → enters j k ks (v ∷ (tail ++ rest)) ≡ false
+led j k ks b y v tail rest d a l s false e =
+    let none : among v.kind ks ≡ false = apart_at ks (others j (first b)) v.kind d (among_others j v.kind (first b) e (first_is b y (v ∷ tail) v tail refl s)) in
+    rw (e, none) refl
+led j k ks b y v [] rest d a l s true e = absurd (not_both _ (alone_is j b y (v ∷ []) v refl (same_is v.kind j e) s) a)
+led j k ks b y v (u ∷ tail) rest d a l s true e =
+    let second : same_kind u.kind k ≡ true = all_at k u.kind (seconds j b) l (second_is j b y (v ∷ u ∷ tail) v u tail refl (same_is v.kind j e) s) in
+    rw (e, second) refl
+
 clear_seq : (e g c : Bool) → cond e c true ≡ true → (c ≡ true → g ≡ false) → (e && g) ≡ false
 clear_seq true g c h f = f h
 clear_seq false g c h f = refl
@@ -59,6 +89,11 @@ clear_of (many a) b y v tail rest c s = let p = and_parts (apart (first a) (firs
       apart_at (first a) (first b) v.kind p.0 (first_is b y (v ∷ tail) v tail refl s),
       clear_of a b y v tail rest p.1 s,
     ) refl
+clear_of (unless j k a) b y v tail rest c s =
+    let p = and_parts (apart (first a) (others j (first b)) && (not (alone j b) && all_are k (seconds j b))) (clears a b) c in
+    let q = and_parts (apart (first a) (others j (first b))) (not (alone j b) && all_are k (seconds j b)) p.0 in
+    let r = and_parts (not (alone j b)) (all_are k (seconds j b)) q.1 in
+    rw (led j k (first a) b y v tail rest q.0 (is_no (alone j b) r.0) r.1 s (same_kind v.kind j) refl, clear_of a b y v tail rest p.1 s) refl
 clear_of (made f a) b y v tail rest c s = clear_of a b y v tail rest c s
 clear_of (node f a) b y v tail rest c s = clear_of a b y v tail rest c s
 
@@ -151,10 +186,25 @@ pub span_same : (at : ℕ) (ts rest : List Lexeme) → (ts ≡ [] → ⊥)
 span_same at [] rest some = absurd (some refl)
 span_same at (t ∷ ts) rest some = refl
 
+-- its own spelling is never taken for the two kinds
+enters_second : {A : Type 0} (j k : Kind) (a : Rule A) (u : Lexeme) (ts : List Lexeme) → among u.kind (seconds j a) ≡ true → among k (seconds j a) ≡ false → (c : Bool) → same_kind u.kind k ≡ c → (same_kind u.kind k || false) ≡ false
+enters_second j k a u ts h g true e = absurd (not_both _ (subst (λ i. among i (seconds j a) ≡ true) (same_is u.kind k e) h) g)
+enters_second j k a u ts h g false e = rw e refl
+
+enters_step : {A : Type 0} (j k : Kind) (a : Rule A) (x : A) (t : Lexeme) (ts rest : List Lexeme) → alone j a ≡ false → among k (seconds j a) ≡ false → Spells a x (t ∷ ts) → (c : Bool) → same_kind t.kind j ≡ c
+    → two_at j k (t ∷ (ts ++ rest)) ≡ false
+enters_step j k a x t ts rest f g s false e = rw e refl
+enters_step j k a x t [] rest f g s true e = absurd (not_both _ (alone_is j a x (t ∷ []) t refl (same_is t.kind j e) s) f)
+enters_step j k a x t (u ∷ ts) rest f g s true e = rw e (enters_second j k a u ts (second_is j a x (t ∷ u ∷ ts) t u ts refl (same_is t.kind j e) s) g (same_kind u.kind k) refl)
+
+enters_own : {A : Type 0} (j k : Kind) (a : Rule A) (x : A) (ts rest : List Lexeme) → is_empty a ≡ false → alone j a ≡ false → among k (seconds j a) ≡ false → Spells a x ts → enters j k (first a) (ts ++ rest) ≡ true
+enters_own j k a x [] rest full f g s = absurd (not_both _ (spelled_empty a x [] refl s) full)
+enters_own j k a x (t ∷ ts) rest full f g s = rw (enters_step j k a x t ts rest f g s (same_kind t.kind j) refl, first_is a x (t ∷ ts) t ts refl s) refl
+
 pub whole : {X : Type 0} (r : Rule X) → is_plain r ≡ true → (x : X) → Whole r x
 whole (one k) ok x ts rest at s m = rw (s.1, same_self x.kind k s.0) refl
 whole (a ▸ b) ok x ts rest at s m = let p = and_parts _ _ ok in let q = and_parts _ _ p.1 in
-    whole_seq a b q.1 x.0 x.1 (whole a p.0 x.0) (whole b q.0 x.1) ts rest at s m
+    whole_seq a b (and_parts _ _ q.1).0 x.0 x.1 (whole a p.0 x.0) (whole b q.0 x.1) ts rest at s m
 whole (a or b) ok x ts rest at (inl s) m = let p = and_parts _ _ ok in let q = and_parts _ _ p.1 in let t =
     and_parts _ _ q.1 in whole_left a b x (are_no _ _ t.1).0 (whole a p.0 x) ts rest at s m
 whole (a or b) ok x ts rest at (inr s) m = let p = and_parts _ _ ok in let q = and_parts _ _ p.1 in let t =
@@ -163,8 +213,14 @@ whole (maybe a) ok None ts rest at s m = rw (s, (or_parts (begins (first a) rest
 whole (maybe a) ok (Some x) ts rest at s m = let p = and_parts _ _ ok in
     rw (starts a x ts rest (is_no _ p.1) s)
     (bind_of _ _ x _ _ (whole a p.0 x ts rest at s (or_parts (begins (first a) rest) (goes_on a rest) m).1) refl)
+whole (unless j k a) ok None ts rest at s m = rw (s, (or_parts (enters j k (first a) rest) (goes_on a rest) m).0) refl
+whole (unless j k a) ok (Some x) ts rest at s m =
+    let p = and_parts _ _ ok in
+    let q = and_parts _ _ p.1 in
+    let r = or_parts (alone j a) (among k (seconds j a)) (is_no (alone j a || among k (seconds j a)) q.1) in
+    rw (enters_own j k a x ts rest (is_no _ q.0) r.0 r.1 s) (bind_of _ _ x _ _ (whole a p.0 x ts rest at s (or_parts (enters j k (first a) rest) (goes_on a rest) m).1) refl)
 whole (many a) ok xs ts rest at s m = let p = and_parts _ _ ok in let q = and_parts _ _ p.1 in
-    whole_each a (is_no _ q.0) q.1 (whole a p.0) xs ts rest at (length (ts ++ rest)) s m (omega arith)
+    whole_each a (is_no _ q.0) (and_parts _ _ q.1).0 (whole a p.0) xs ts rest at (length (ts ++ rest)) s m (omega arith)
 whole (made f a) ok y ts rest at s m = bind_of _ _ s.0 _ _ (whole a ok s.0 ts rest at s.2 m)
     (ap (λ v. got v (record { end = end_of at ts; rest = rest })) (sym s.1))
 whole (node f a) ok y ts rest at s m =

@@ -5,12 +5,13 @@ use Rattle.std.proofs.lemmas.Map.Views.{Contains-from_any}
 use denote.Enum.Bare.{same_true, true_same}
 use Rattle.dl_lexer.specs.contracts.token.Keyword.{the_type as keywords}
 use Rattle.dl_lexer.specs.contracts.token.Sign.{the_type as signs}
-use Rattle.dl_lexer.specs.declared.token.Kind.TheVariants.{Name, Numeral, Note}
+use Rattle.dl_lexer.specs.declared.token.Kind.TheVariants.{Name, Ref, Numeral, Note}
 
 pub same_is : (a b : Kind) → same_kind a b ≡ true → a ≡ b
 same_is (Word a) (Word b) h = ap Word (same_true keywords (search rules) a b h)
 same_is (Sign a) (Sign b) h = ap Sign (same_true signs (search rules) a b h)
 same_is Name Name h = refl
+same_is Ref Ref h = refl
 same_is Numeral Numeral h = refl
 same_is Note Note h = refl
 same_is (Word a) (Sign b) h = absurd cc
@@ -33,11 +34,22 @@ same_is Note (Word b) h = absurd cc
 same_is Note (Sign b) h = absurd cc
 same_is Note Name h = absurd cc
 same_is Note Numeral h = absurd cc
+same_is (Word a) Ref h = absurd cc
+same_is (Sign a) Ref h = absurd cc
+same_is Name Ref h = absurd cc
+same_is Numeral Ref h = absurd cc
+same_is Note Ref h = absurd cc
+same_is Ref (Word b) h = absurd cc
+same_is Ref (Sign b) h = absurd cc
+same_is Ref Name h = absurd cc
+same_is Ref Numeral h = absurd cc
+same_is Ref Note h = absurd cc
 
 self : (a : Kind) → same_kind a a ≡ true
 self (Word a) = true_same keywords a a refl
 self (Sign a) = true_same signs a a refl
 self Name = refl
+self Ref = refl
 self Numeral = refl
 self Note = refl
 

@@ -1,5 +1,5 @@
 -- From reading to what a parse says.
-use Rattle.dl_parser.proofs.Common.{◌≡◌, ℕ, zero, suc, ◌+◌, ◌≤◌, ◌<◌, Bool, true, false, cond, ◌&&◌, List, [], ◌∷◌, ◌++◌, length, take, drop, refl, sym, ap, ◌∙◌, subst, ◌⊎◌, inl, inr, arith, append_assoc, length-append, All, append-nil, All-nil, All-cons, and_parts, Kind, Word, Lexeme, IsReal, Spells, end_of, numeral, name, note, limit, layer, side, freq, claims, premium, head, item, next_item, items, list, atom, weighted, mixture, sev, cession, next_cession, layers, clause, ratio, exposure, loss, ending, closing, exposed, listed, counted, body, unit, units, token_of, token_kind, token_real, Place, Outcome, got, stuck, same_kind, among, begins, watched, read, apart, plain}
+use Rattle.dl_parser.proofs.Common.{◌≡◌, ℕ, zero, suc, ◌+◌, ◌≤◌, ◌<◌, Bool, true, false, cond, ◌&&◌, List, [], ◌∷◌, ◌++◌, length, take, drop, refl, sym, ap, ◌∙◌, subst, ◌⊎◌, inl, inr, arith, append_assoc, length-append, All, append-nil, All-nil, All-cons, and_parts, Kind, Word, Lexeme, IsReal, Spells, end_of, numeral, name, note, limit, layer, reference, side, count, zero_change, freq, claims, premium, common, head, item, next_item, items, list, atom, weighted, mixture, cost, sev, defined, sevdef, cession, next_cession, layers, clause, ratio, exposure, loss, ending, closing, exposed, listed, counted, body, unit, units, book, token_of, token_kind, token_real, Place, Outcome, got, stuck, same_kind, among, begins, watched, read, apart, plain}
 use Rattle.std.proofs.lemmas.Bool.{cases_lt}
 use Rattle.dl_lexer.specs.declared.token.Keyword.TheVariants as words
 use Rattle.dl_ast.specs.declared.ast.Program.{Program}
@@ -9,7 +9,7 @@ use Rattle.dl_parser.specs.declared.syntax.ParseFault.TheVariants as faults
 use Rattle.dl_parser.specs.Viable.{Begins, Viable, Stops, continuous, IsContinuous, IsRefused}
 use Rattle.dl_parser.proofs.Sets.{same_is, same_self, apart_at, among_contains, contains_among}
 use Rattle.dl_parser.proofs.ReadsBack.{whole}
-use Rattle.dl_parser.proofs.Took.{took, Took, Alike}
+use Rattle.dl_parser.proofs.Took.{pend_settled, took, Took, Alike}
 use Rattle.dl_parser.proofs.Stopped.{nothing_on, stopped, Stopped}
 use Rattle.dl_parser.proofs.Written.{program_alike}
 
@@ -78,15 +78,15 @@ unlike ks h k f t = differ (same_kind h k) (same_kind h k) refl
 
 -- no test tells a continuous word from dhistogram
 apart_words : apart continuous (watched factored.program) ≡ true
-unfolding factored.program numeral name note item next_item items list limit layer atom weighted mixture sev cession
-    side next_cession layers clause freq claims premium ratio exposure loss ending closing exposed listed counted body
-    unit head units
+unfolding factored.program numeral name note item next_item items list limit layer atom weighted mixture reference
+    cost sev defined sevdef cession side next_cession layers clause count zero_change freq claims premium ratio exposure
+    loss ending closing exposed listed counted body unit common head units book
 apart_words = refl
 
 not_watched : among (Word words.Dhistogram) (watched factored.program) ≡ false
-unfolding factored.program numeral name note item next_item items list limit layer atom weighted mixture sev cession
-    side next_cession layers clause freq claims premium ratio exposure loss ending closing exposed listed counted body
-    unit head units
+unfolding factored.program numeral name note item next_item items list limit layer atom weighted mixture reference
+    cost sev defined sevdef cession side next_cession layers clause count zero_change freq claims premium ratio exposure
+    loss ending closing exposed listed counted body unit common head units book
 not_watched = refl
 
 apart_kinds : (js ks : List Kind) (h k : Kind) → apart js ks ≡ true → among h js ≡ true → among k ks ≡ true
@@ -255,7 +255,8 @@ read_further ts x q n r some e =
     subst (λ m. IsRefused ts (faults.Syntax m)) (sym count)
     (subst (λ zs. IsRefused zs (faults.Syntax (length t.0))) (sym t.1)
     (trailing t.0 q.rest x q refl some (program_alike.to x t.0 t.3)
-    (subst (λ zs. read factored.program (at_start zs) ≡ got x q) t.1 r) (λ z h. t.4 z h)))
+    (subst (λ zs. read factored.program (at_start zs) ≡ got x q) t.1 r)
+    (λ z h. t.4 z h (pend_settled factored.program q.rest z plain.settled))))
 
 pub read_stuck : (ts : List Lexeme) (k : Kind) (q : Place) (n : ℕ) → read factored.program (at_start ts) ≡ stuck k q
     → n + length q.rest ≡ length ts

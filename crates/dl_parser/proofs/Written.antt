@@ -1,8 +1,9 @@
 -- The grammar as it is read spells the same as the grammar as it is written.
-use Rattle.dl_parser.proofs.Common.{◌≡◌, ℕ, List, [], ◌∷◌, ◌++◌, Some, None, refl, sym, ap, ◌∙◌, subst, inl, inr, append_assoc, append-nil, Kind, Word, Sign, Atom, Lexeme, Rule, ◌▸◌, ◌or◌, maybe, many, made, node, Each, Spells, span_of, some_of, numeral, name, note, layer, limit, freq, premium, loss, ending, closing, body, item, next_item, items, list, atom, weighted, mixture, sev, cession, next_cession, layers, clause, ratio, exposure, exposed, listed, counted, unit, units}
+use Rattle.dl_parser.proofs.Common.{◌≡◌, ℕ, List, [], ◌∷◌, ◌++◌, Some, None, refl, sym, ap, ◌∙◌, subst, inl, inr, append_assoc, append-nil, Kind, Word, Sign, Atom, Lexeme, Rule, ◌▸◌, ◌or◌, maybe, many, unless, made, node, Each, Spells, span_of, some_of, numeral, name, note, layer, limit, freq, premium, loss, ending, closing, body, item, next_item, items, list, atom, weighted, mixture, cost, sev, defined, sevdef, cession, next_cession, layers, clause, ratio, exposure, exposed, listed, counted, unit, units, book}
 use Rattle.std.proofs.Common.{Option}
 use Rattle.dl_lexer.specs.declared.token.Keyword.TheVariants as words
 use Rattle.dl_lexer.specs.declared.token.Sign.TheVariants as signs
+use Rattle.dl_lexer.specs.declared.token.Kind.TheVariants as kinds
 use Rattle.dl_lexer.specs.declared.token.Span.{Span}
 use Rattle.dl_ast.specs.declared.ast.NameAst.{NameAst}
 use Rattle.dl_ast.specs.declared.ast.Numeral.{Numeral}
@@ -12,11 +13,13 @@ use Rattle.dl_ast.specs.declared.ast.LimitAst.{LimitAst}
 use Rattle.dl_ast.specs.declared.ast.LimitAst.TheVariants as limits
 use Rattle.dl_ast.specs.declared.ast.Layer.{Layer}
 use Rattle.dl_ast.specs.declared.ast.CededLayer.{CededLayer}
+use Rattle.dl_ast.specs.declared.ast.MixAst.{MixAst}
 use Rattle.dl_ast.specs.declared.ast.SevAst.{SevAst}
 use Rattle.dl_ast.specs.declared.ast.CountAst.{CountAst}
 use Rattle.dl_ast.specs.declared.ast.CountAst.TheVariants as counts
 use Rattle.dl_ast.specs.declared.ast.Cession.{Cession}
 use Rattle.dl_ast.specs.declared.ast.FreqAst.{FreqAst}
+use Rattle.dl_ast.specs.declared.ast.ZeroAst.{ZeroAst}
 use Rattle.dl_ast.specs.declared.ast.Exposure.{Exposure}
 use Rattle.dl_ast.specs.declared.ast.Exposure.TheVariants as exposures
 use Rattle.dl_ast.specs.declared.ast.UnitAst.{UnitAst}
@@ -207,33 +210,70 @@ atom_alike = alike_made (alike_or (alike_behind (Word words.Dsev) lists_alike) (
 
 -- the mixture, of the same and lists
 
-mixture_of : Rule Atom → Rule ListAst → Rule (List Atom × Option ListAst)
-mixture_of a l = made (λ x. (x ∷ [], None)) a or made (λ (x, (others, weights)). (x ∷ others, Some weights))
-    (a ▸ many a ▸ Word words.Wts ≫ l)
+mixture_of : Rule Atom → Rule ListAst → Rule MixAst
+mixture_of a l = spanned (
+    made (λ x span. record { atoms = x ∷ []; weights = None; span = span }) a
+    or made (λ (x, (others, weights)) span. record { atoms = x ∷ others; weights = Some weights; span = span })
+    (a ▸ many a ▸ Word words.Wts ≫ l))
 
-mixture_to : (a : Atom) (o : Option (List Atom × ListAst)) (x : List Atom × Option ListAst) (ts us vs : List Lexeme)
-    → ts ≡ us ++ vs → x ≡ mix_of (a, o) → Spells atom a us → Spells (maybe weighted) o vs
+mixture_to : (a : Atom) (o : Option (List Atom × ListAst)) (x : MixAst) (ts us vs : List Lexeme)
+    → ts ≡ us ++ vs → x ≡ mix_of (a, o) (span_of ts) → Spells atom a us → Spells (maybe weighted) o vs
     → Spells (mixture_of atom list) x ts
 unfolding mixture_of weighted
-mixture_to a None x ts us vs h e s b = inl (a, e, subst (Spells atom a) (sym (no_tail h b)) s)
-mixture_to a (Some q) x ts us vs h e s b = inr ((a, q), e, (us, vs, h, s, b))
+mixture_to a None x ts us vs h e s b = (
+  λ span. record { atoms = a ∷ []; weights = None; span = span },
+  e,
+  inl (a, refl, subst (Spells atom a) (sym (no_tail h b)) s),
+)
+mixture_to a (Some q) x ts us vs h e s b = (
+  λ span. record { atoms = a ∷ q.0; weights = Some q.1; span = span },
+  e,
+  inr ((a, q), refl, (us, vs, h, s, b)),
+)
 
-mixture_from : (x : List Atom × Option ListAst) (ts : List Lexeme) → Spells (mixture_of atom list) x ts
-    → Spells mixture x ts
+mixture_from : (x : MixAst) (ts : List Lexeme) → Spells (mixture_of atom list) x ts → Spells mixture x ts
 unfolding mixture_of mixture weighted
-mixture_from x ts (inl (a, e, s)) = ((a, None), e, (ts, [], sym (append-nil ts), s, refl))
-mixture_from x ts (inr (p, e, s)) = ((p.0, Some p.1), e, s)
+mixture_from x ts (f, e, inl (a, g, s)) =
+    ((a, None), e ∙ ap (λ make. make (span_of ts)) g, (ts, [], sym (append-nil ts), s, refl))
+mixture_from x ts (f, e, inr (p, g, s)) = ((p.0, Some p.1), e ∙ ap (λ make. make (span_of ts)) g, s)
 
 pub mixture_alike : SpellAlike mixture written.mixture
 unfolding mixture mixture_of written.mixture
 mixture_alike = by mixture (mixture_of atom list) written.mixture
     (record { to = λ x ts (p, e, (us, vs, h, a, b)). mixture_to p.0 p.1 x ts us vs h e a b; from = mixture_from })
-    (alike_or (alike_made atom_alike) (alike_made (alike_seq atom_alike (alike_seq (alike_many atom_alike)
-    (alike_behind (Word words.Wts) list_alike)))))
+    (alike_node (alike_or (alike_made atom_alike) (alike_made (alike_seq atom_alike (alike_seq (alike_many atom_alike)
+    (alike_behind (Word words.Wts) list_alike))))))
+
+cost_alike : SpellAlike cost written.cost
+unfolding cost written.cost
+cost_alike = alike_or (alike_made mixture_alike) same
 
 sev_alike : SpellAlike sev written.sev
 unfolding sev written.sev
-sev_alike = alike_node (alike_seq mixture_alike same)
+sev_alike = alike_node (alike_seq cost_alike same)
+
+-- a look at the next two tokens changes nothing in what is spelled
+unless_into : {A : Type 0} (j k : Kind) (a : Rule A) (o : Option A) (ts : List Lexeme) → Spells (unless j k a) o ts
+    → Spells (maybe a) o ts
+unless_into j k a None ts s = s
+unless_into j k a (Some x) ts s = s
+
+unless_from : {A : Type 0} (j k : Kind) (a : Rule A) (o : Option A) (ts : List Lexeme) → Spells (maybe a) o ts
+    → Spells (unless j k a) o ts
+unless_from j k a None ts s = s
+unless_from j k a (Some x) ts s = s
+
+alike_unless : {A : Type 0} (j k : Kind) {a : Rule A} → SpellAlike (unless j k a) (maybe a)
+alike_unless {A} j k {a} = record { to = unless_into j k a; from = unless_from j k a }
+
+defined_alike : SpellAlike defined written.mixture
+unfolding defined mixture
+defined_alike = by defined mixture written.mixture
+    (alike_node (alike_seq same (alike_unless (Word words.Sev) kinds.Name))) mixture_alike
+
+pub definition_alike : SpellAlike sevdef written.sevdef
+unfolding sevdef written.sevdef
+definition_alike = alike_node (alike_behind (Word words.Sev) (alike_seq same defined_alike))
 
 -- exposure
 
@@ -403,7 +443,7 @@ clause_alike k = alike_node (alike_behind k (alike_seq same (alike_some_of cessi
 
 abbrev ExposedParts : Type 0
 ExposedParts = NameAst × (Exposure ×
-    (Option Layer × (SevAst × (Option Cession × (FreqAst × (Option Cession × Option (List ℕ)))))))
+    (Option Layer × (SevAst × (Option Cession × ((FreqAst × ZeroAst) × (Option Cession × Option (List ℕ)))))))
 
 abbrev ListedParts : Type 0
 ListedParts = NameAst × (CountAst ×
@@ -478,7 +518,7 @@ unit_from : (x : UnitAst) (ts : List Lexeme) → Spells unit_of_parts x ts → S
 unfolding unit_of_parts unit body counted exposed closing ending
 unit_from x ts (inl ((n, (v, (y, (m, (o, r))))), e, s)) =
     let l : Loss = record { layer = y; sev = m; occ = o } in
-    let b : Body = record { count = counts.Exposed v r.0; loss = l; agr = r.1.0; note = r.1.1 } in
+    let b : Body = record { count = counts.Exposed v r.0.0 r.0.1; loss = l; agr = r.1.0; note = r.1.1 } in
     let c = behind (Word words.Agg) exposed_parts (n, (v, (y, (m, (o, r))))) ts s in (
       (n, b),
       e,
@@ -518,6 +558,10 @@ unit_alike = by unit unit_of_parts written.unit
     (clause_alike (Word words.Occurrence))) (alike_seq (alike_maybe (clause_alike (Word words.Aggregate)))
     same)))))))))
 
+book_alike : SpellAlike book written.book
+unfolding book units written.book
+book_alike = alike_or (alike_made unit_alike) (alike_made (alike_seq same (alike_some_of unit_alike unit_alike)))
+
 pub program_alike : SpellAlike program written.program
-unfolding program units written.program
-program_alike = alike_or (alike_made unit_alike) (alike_made (alike_seq same (alike_some_of unit_alike unit_alike)))
+unfolding program written.program
+program_alike = alike_made (alike_seq (alike_many definition_alike) book_alike)

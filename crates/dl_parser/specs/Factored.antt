@@ -1,9 +1,10 @@
 -- The grammar as the parser reads it: where the alternatives of a line begin alike, what they share
 -- is read once. The rules of Grammar, and each rule here with the spelling of its namesake there.
-use Rattle.std.specs.Prelude.{ℕ, List, [], ◌∷◌, Option, Some, None, is_some}
+use Rattle.std.specs.Prelude.{ℕ, List, [], ◌∷◌, Option, Some, None}
 use Rattle.dl_lexer.specs.declared.token.Keyword.TheVariants as words
 use Rattle.dl_lexer.specs.declared.token.Sign.TheVariants as signs
 use Rattle.dl_lexer.specs.declared.token.Kind.{Kind}
+use Rattle.dl_lexer.specs.declared.token.Kind.TheVariants as kinds
 use Rattle.dl_lexer.specs.declared.token.Kind.TheVariants.{Word, Sign}
 use Rattle.dl_lexer.specs.declared.token.Span.{Span}
 use Rattle.dl_ast.specs.declared.ast.NameAst.{NameAst}
@@ -13,12 +14,18 @@ use Rattle.dl_ast.specs.declared.ast.ListAst.{ListAst}
 use Rattle.dl_ast.specs.declared.ast.LimitAst.{LimitAst}
 use Rattle.dl_ast.specs.declared.ast.LimitAst.TheVariants as limits
 use Rattle.dl_ast.specs.declared.ast.Atom.{Atom}
+use Rattle.dl_ast.specs.declared.ast.MixAst.{MixAst}
+use Rattle.dl_ast.specs.declared.ast.SevBody.{SevBody}
+use Rattle.dl_ast.specs.declared.ast.SevBody.TheVariants as bodies
 use Rattle.dl_ast.specs.declared.ast.SevAst.{SevAst}
+use Rattle.dl_ast.specs.declared.ast.SevDef.{SevDef}
+use Rattle.dl_ast.specs.declared.ast.PortHead.{PortHead}
 use Rattle.dl_ast.specs.declared.ast.CountAst.{CountAst}
 use Rattle.dl_ast.specs.declared.ast.CountAst.TheVariants as counts
 use Rattle.dl_ast.specs.declared.ast.CededLayer.{CededLayer}
 use Rattle.dl_ast.specs.declared.ast.Cession.{Cession}
 use Rattle.dl_ast.specs.declared.ast.FreqAst.{FreqAst}
+use Rattle.dl_ast.specs.declared.ast.ZeroAst.{ZeroAst}
 use Rattle.dl_ast.specs.declared.ast.Exposure.{Exposure}
 use Rattle.dl_ast.specs.declared.ast.Exposure.TheVariants as exposures
 use Rattle.dl_ast.specs.declared.ast.UnitAst.{UnitAst}
@@ -26,8 +33,8 @@ use Rattle.dl_ast.specs.declared.ast.Program.{Program}
 use Rattle.dl_parser.specs.declared.units.Loss.{Loss}
 use Rattle.dl_parser.specs.declared.units.Body.{Body}
 use Rattle.dl_ast.specs.Lexemes.{Lexeme}
-use Rattle.dl_ast.specs.Rules.{Rule, one, ◌▸◌, ◌or◌, maybe, many, made, node, Spells}
-use Rattle.dl_ast.specs.Grammar.{◌≫◌, ◌≪◌, ◌means◌, some_of, spanned, numeral, name, note, layer, whole, so, po, side, freq, claims, premium, listed_unit, head}
+use Rattle.dl_ast.specs.Rules.{Rule, one, ◌▸◌, ◌or◌, maybe, many, unless, made, node, Spells}
+use Rattle.dl_ast.specs.Grammar.{◌≫◌, ◌≪◌, ◌means◌, some_of, spanned, numeral, name, note, layer, whole, so, po, reference, severity, side, freq, claims, premium, listed_unit, head}
 
 -- item := NUMERAL (':' NUMERAL (':' NUMERAL)?)?
 abbrev pub step : Rule (Option Numeral)
@@ -66,19 +73,31 @@ atom = made (λ p. record { values = p.0; probs = p.1 })
 unfoldable pub weighted : Rule (List Atom × ListAst)
 weighted = many atom ▸ Word words.Wts ≫ list
 
-abbrev pub mix_of : Atom × Option (List Atom × ListAst) → List Atom × Option ListAst
-mix_of p = elim p.1 [
-  | None ↦ (p.0 ∷ [], None)
-  | Some q ↦ (p.0 ∷ q.0, Some q.1)
+abbrev pub mix_of : Atom × Option (List Atom × ListAst) → Span → MixAst
+mix_of p span = elim p.1 [
+  | None ↦ record { atoms = p.0 ∷ []; weights = None; span = span }
+  | Some q ↦ record { atoms = p.0 ∷ q.0; weights = Some q.1; span = span }
 ]
 
-unfoldable pub mixture : Rule (List Atom × Option ListAst)
-mixture = made mix_of (atom ▸ maybe weighted)
+unfoldable pub mixture : Rule MixAst
+mixture = node mix_of (atom ▸ maybe weighted)
 
--- sev := mixture '!'?
+-- cost := mixture | REF
+unfoldable pub cost : Rule SevBody
+cost = made bodies.Mixture mixture or made bodies.Ref reference
+
+-- sev := cost '!'?
 unfoldable pub sev : Rule SevAst
-sev = node (λ (m, b) span. record { atoms = m.0; weights = m.1; bang = is_some b; span = span })
-    (mixture ▸ maybe (one (Sign signs.Bang)))
+sev = node severity (cost ▸ maybe (one (Sign signs.Bang)))
+
+-- mixture, where a definition may follow: its `sev` and its name are no further atom
+unfoldable pub defined : Rule MixAst
+defined = node mix_of (atom ▸ unless (Word words.Sev) kinds.Name weighted)
+
+-- sevdef := 'sev' NAME mixture
+unfoldable pub sevdef : Rule SevDef
+sevdef = node (λ p span. record { name = p.0; mix = p.1; span = span })
+    (Word words.Sev ≫ name ▸ defined)
 
 -- cession := 'inf' 'xs' NUMERAL | NUMERAL ('xs' NUMERAL | 'so' layer | 'po' layer)
 abbrev pub whole_of : LimitAst → Numeral → Span → CededLayer
@@ -132,13 +151,13 @@ loss = made (λ p. record { layer = p.0; sev = p.1.0; occ = p.1.1 }) (maybe laye
 unfoldable pub ending : Rule (Option Cession × Option (List ℕ))
 ending = maybe agr ▸ maybe note
 
-unfoldable pub closing : Rule (FreqAst × (Option Cession × Option (List ℕ)))
+unfoldable pub closing : Rule ((FreqAst × ZeroAst) × (Option Cession × Option (List ℕ)))
 closing = freq ▸ ending
 
 unfoldable pub exposed : Rule Body
 exposed =
     made (λ (e, (l, (f, (a, t)))). record
-    { count = counts.Exposed e f; loss = l; agr = a; note = t })
+    { count = counts.Exposed e f.0 f.1; loss = l; agr = a; note = t })
     (exposure ▸ loss ▸ closing)
 
 unfoldable pub listed : Rule CountAst
@@ -159,13 +178,16 @@ named n b = listed_unit
 unfoldable pub unit : Rule UnitAst
 unit = made (λ p. named p.0 p.1) (Word words.Agg ≫ name ▸ body)
 
--- program := unit | 'port' NAME NOTE? unit unit*
+-- book := unit | head unit unit*
 unfoldable pub units : Rule (List UnitAst)
 units = some_of unit unit
 
+unfoldable pub book : Rule (Option PortHead × List UnitAst)
+book = made (λ u. (None, u ∷ [])) unit or made (λ p. (Some p.0, p.1)) (head ▸ units)
+
+-- program := sevdef* book
 unfoldable pub program : Rule Program
-program = made (λ u. record { port = None; units = u ∷ [] }) unit
-    or made (λ p. record { port = Some p.0; units = p.1 }) (head ▸ units)
+program = made (λ (ds, b). record { sevs = ds; port = b.0; units = b.1 }) (many sevdef ▸ book)
 
 -- two rules spell the same things, each by the same tokens
 pub record SpellAlike {X : Type 0} (a b : Rule X) : Type 0 where

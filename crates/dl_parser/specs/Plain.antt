@@ -1,30 +1,35 @@
--- In the grammar as it is read the next token alone tells how to go on, and wherever parts stand
--- one behind another it tells whether another one follows.
+-- In the grammar as it is read the looks at the next tokens tell how to go on, and wherever parts
+-- stand one behind another they tell whether another one follows.
 use Rattle.std.specs.Prelude.{◌≡◌, true, refl}
 use Rattle.dl_ast.specs.Rules.{many}
-use Rattle.dl_ast.specs.Grammar.{numeral, name, note, limit, layer, side, freq, claims}
-use Rattle.dl_ast.specs.Grammar.{premium, head}
-use Rattle.dl_parser.specs.Reading.{is_plain}
-use Rattle.dl_parser.specs.Factored.{item, next_item, items, list, atom, weighted, mixture, sev}
-use Rattle.dl_parser.specs.Factored.{cession, next_cession, layers, clause, ratio, exposure}
-use Rattle.dl_parser.specs.Factored.{loss, ending, closing, exposed, listed, counted, body, unit, units, program}
+use Rattle.dl_ast.specs.Grammar.{numeral, name, note, limit, layer, reference, side, count, zero_change}
+use Rattle.dl_ast.specs.Grammar.{freq, claims, premium, common, head}
+use Rattle.dl_parser.specs.Reading.{is_plain, is_settled}
+use Rattle.dl_parser.specs.Factored.{item, next_item, items, list, atom, weighted, mixture, cost, sev}
+use Rattle.dl_parser.specs.Factored.{defined, sevdef, cession, next_cession, layers, clause, ratio}
+use Rattle.dl_parser.specs.Factored.{exposure, loss, ending, closing, exposed, listed, counted, body}
+use Rattle.dl_parser.specs.Factored.{unit, units, book, program}
 
 pub record IsPlainGrammar : Type 0 where
   pub whole : is_plain program ≡ true
+  pub settled : is_settled program ≡ true
   pub by_items : is_plain (many next_item) ≡ true
   pub by_cessions : is_plain (many next_cession) ≡ true
   pub by_atoms : is_plain (many atom) ≡ true
+  pub by_definitions : is_plain (many sevdef) ≡ true
   pub by_units : is_plain (many unit) ≡ true
 
 pub plain : IsPlainGrammar
-unfolding numeral name note item next_item items list limit layer atom weighted mixture sev cession
-    side next_cession layers clause freq claims premium ratio exposure loss ending closing exposed
-    listed counted body unit
-    head units program
+unfolding numeral name note item next_item items list limit layer atom weighted mixture reference
+    cost sev defined sevdef cession side next_cession layers clause count zero_change freq claims
+    premium ratio exposure loss ending closing exposed listed counted body unit common head units
+    book program
 plain = record {
   whole = refl;
+  settled = refl;
   by_items = refl;
   by_cessions = refl;
   by_atoms = refl;
+  by_definitions = refl;
   by_units = refl;
 }

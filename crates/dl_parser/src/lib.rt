@@ -6,7 +6,7 @@ ghost use Rattle.std.specs.Prelude.{◌≡◌, ℕ, List};
 ghost use Rattle.dl_ast.specs.declared.ast.Program.{Program};
 ghost use Rattle.dl_ast.specs.Lexemes.{Lexeme};
 ghost use Rattle.dl_ast.specs.Rules.{Spells};
-ghost use Rattle.dl_ast.specs.Grammar.{item, mixture, cession, exposure, unit, program};
+ghost use Rattle.dl_ast.specs.Grammar.{item, mixture, cession, exposure, unit, program, sevdef};
 ghost use Rattle.dl_parser.specs.Factored as factored;
 ghost use Rattle.dl_parser.specs.Factored.{SpellAlike};
 ghost use Rattle.dl_parser.specs.Viable.{Stops};
@@ -40,6 +40,7 @@ pub fn law_one_place()
 pub fn law_as_written()
     ensures item { SpellAlike factored.item item }
     ensures mixture { SpellAlike factored.mixture mixture }
+    ensures definition { SpellAlike factored.sevdef sevdef }
     ensures cession { SpellAlike factored.cession cession }
     ensures exposure { SpellAlike factored.exposure exposure }
     ensures unit { SpellAlike factored.unit unit }

@@ -2,13 +2,13 @@
 
 ghost use Rattle.std.specs.Prelude.{◌≡◌};
 ghost use Rattle.dl_ast.specs.Rules.{many};
-ghost use Rattle.dl_parser.specs.Factored.{atom, weighted, mixture, sev};
-ghost use Rattle.dl_parser.specs.Reading.{begins, first};
+ghost use Rattle.dl_parser.specs.Factored.{atom, weighted, mixture, cost, sev, defined, sevdef};
+ghost use Rattle.dl_parser.specs.Reading.{begins, first, enters};
 ghost use Rattle.dl_parser.specs.Parsing.{place, ReadsBy, Adds, AddsAnd};
 
 use crate::cursor::Parser;
 use crate::stop::{Stop, only};
-use dl_ast::{Atom, Items, ListAst, SevAst};
+use dl_ast::{Atom, Items, ListAst, MixAst, SevAst, SevBody, SevDef};
 use dl_lexer::{Keyword, Kind, Sign, both};
 
 impl<'a> Parser<'a> {
@@ -69,50 +69,146 @@ impl<'a> Parser<'a> {
         self.list()
     }
 
+    /// A mixture of these atoms, from `start` to the last token taken.
+    fn mixed(&self, atoms: Vec<Atom>, weights: Option<ListAst>, start: u32) -> MixAst
+        ensures { result ≡ record {
+          atoms = atoms.items;
+          weights = weights;
+          span = record { start = start; end = self.now.end };
+        } }
+    {
+        MixAst {
+            atoms: Items::from_vec(atoms),
+            weights,
+            span: self.since(start),
+        }
+    }
+
     /// `atom | atom atom* 'wts' list`
     #[tactic(auto, unfolding(crate::specs::Factored::mixture))]
-    fn mixture(&mut self) -> Result<(Items<Atom>, Option<ListAst>), Stop>
+    fn mixture(&mut self) -> Result<MixAst, Stop>
         ensures source { self.new.source ≡ self.old.source }
         ensures reads { ReadsBy mixture self.old self.new result }
     {
+        let start = self.start();
         let mut atoms = only(self.alloc, self.atom()?)?;
         if !self.is_weighted_next() {
-            return Ok((Items::from_vec(atoms), None));
+            return Ok(self.mixed(atoms, None, start));
         }
         let weights = self.weighted(&mut atoms)?;
-        Ok((Items::from_vec(atoms), Some(weights)))
+        Ok(self.mixed(atoms, Some(weights), start))
+    }
+
+    /// `mixture | REF`
+    #[tactic(auto, unfolding(crate::specs::Factored::cost, dl_ast::specs::Grammar::reference))]
+    fn cost(&mut self) -> Result<SevBody, Stop>
+        ensures source { self.new.source ≡ self.old.source }
+        ensures reads { ReadsBy cost self.old self.new result }
+    {
+        if self.is_mixture_next() {
+            return Ok(SevBody::Mixture(self.mixture()?));
+        }
+        Ok(SevBody::Ref(self.reference()?))
+    }
+
+    /// Whether a mixture follows.
+    #[tactic(auto, unfolding(crate::specs::Factored::mixture, crate::specs::Factored::atom))]
+    fn is_mixture_next(&self) -> bool
+        ensures { result ≡ begins (first mixture) (place self.now).rest }
+    {
+        self.is_atom_next()
     }
 
     /// A severity from `start` to the last token taken.
-    fn mixed(&self, mixture: (Items<Atom>, Option<ListAst>), bang: bool, start: u32) -> SevAst
+    fn severity(&self, body: SevBody, bang: bool, start: u32) -> SevAst
         ensures { result ≡ record {
-          atoms = mixture.0;
-          weights = mixture.1;
+          body = body;
           bang = bang;
           span = record { start = start; end = self.now.end };
         } }
     {
-        let (atoms, weights) = mixture;
         SevAst {
-            atoms,
-            weights,
+            body,
             bang,
             span: self.since(start),
         }
     }
 
-    /// `mixture '!'?`
+    /// `cost '!'?`
     #[tactic(auto, unfolding(crate::specs::Factored::sev))]
     pub(crate) fn sev(&mut self) -> Result<SevAst, Stop>
         ensures source { self.new.source ≡ self.old.source }
         ensures reads { ReadsBy sev self.old self.new result }
     {
         let start = self.start();
-        let mixture = self.mixture()?;
+        let body = self.cost()?;
         if !self.is_next(Kind::Sign(Sign::Bang)) {
-            return Ok(self.mixed(mixture, false, start));
+            return Ok(self.severity(body, false, start));
         }
-        let (mixture, _) = both(mixture, self.take(Kind::Sign(Sign::Bang)))?;
-        Ok(self.mixed(mixture, true, start))
+        let (body, _) = both(body, self.take(Kind::Sign(Sign::Bang)))?;
+        Ok(self.severity(body, true, start))
+    }
+
+    /// Whether the mixture of a definition goes on: further atoms follow, or the weights, and no other
+    /// definition does.
+    fn is_defined_further(&self) -> bool
+        ensures { result ≡ enters (Kind.Word Keyword.Sev) Kind.Name (first weighted)
+            (place self.now).rest }
+    {
+        if self.are_next(Kind::Word(Keyword::Sev), Kind::Name) {
+            return false;
+        }
+        self.is_weighted_next()
+    }
+
+    /// `mixture`, where a definition may follow.
+    #[tactic(auto, unfolding(crate::specs::Factored::defined))]
+    fn defined(&mut self) -> Result<MixAst, Stop>
+        ensures source { self.new.source ≡ self.old.source }
+        ensures reads { ReadsBy defined self.old self.new result }
+    {
+        let start = self.start();
+        let mut atoms = only(self.alloc, self.atom()?)?;
+        if !self.is_defined_further() {
+            return Ok(self.mixed(atoms, None, start));
+        }
+        let weights = self.weighted(&mut atoms)?;
+        Ok(self.mixed(atoms, Some(weights), start))
+    }
+
+    /// `'sev' NAME mixture`
+    #[tactic(auto, unfolding(crate::specs::Factored::sevdef))]
+    fn definition(&mut self) -> Result<SevDef, Stop>
+        ensures source { self.new.source ≡ self.old.source }
+        ensures reads { ReadsBy sevdef self.old self.new result }
+    {
+        let start = self.start();
+        self.take(Kind::Word(Keyword::Sev))?;
+        let (name, mix) = both(self.name()?, self.defined())?;
+        Ok(SevDef {
+            name,
+            mix,
+            span: self.since(start),
+        })
+    }
+
+    /// Whether a definition follows.
+    #[tactic(auto, unfolding(crate::specs::Factored::sevdef))]
+    fn is_definition_next(&self) -> bool
+        ensures { result ≡ begins (first sevdef) (place self.now).rest }
+    {
+        self.is_next(Kind::Word(Keyword::Sev))
+    }
+
+    /// `sevdef*`
+    pub(crate) fn definitions(&mut self) -> Result<Items<SevDef>, Stop>
+        ensures source { self.new.source ≡ self.old.source }
+        ensures reads { ReadsBy (many sevdef) self.old self.new result }
+    {
+        let mut made = Vec::new(self.alloc);
+        'definitions: while self.is_definition_next() {
+            made.push(self.definition()?)?;
+        }
+        Ok(Items::from_vec(made))
     }
 }

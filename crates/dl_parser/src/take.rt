@@ -1,9 +1,10 @@
 //! One token at a time.
 
-ghost use Rattle.std.specs.Prelude.{◌≡◌, ◌-◌, [], ◌∷◌, IfOk, IfErr, take, drop};
+ghost use Rattle.std.specs.Prelude.{◌≡◌, ◌-◌, ℕ, List, [], ◌∷◌, IfOk, IfErr, take, drop};
+ghost use Rattle.dl_ast.specs.Lexemes.{lexemes};
 ghost use Rattle.dl_ast.specs.Rules.{one, ◌or◌, maybe};
-ghost use Rattle.dl_ast.specs.Grammar.{◌≫◌, ◌means◌, numeral, name, note};
-ghost use Rattle.dl_parser.specs.Reading.{among, begins, start_of};
+ghost use Rattle.dl_ast.specs.Grammar.{◌≫◌, ◌means◌, numeral, name, note, reference};
+ghost use Rattle.dl_parser.specs.Reading.{among, begins, start_of, two_at};
 ghost use Rattle.dl_parser.specs.Placed.{Inside};
 ghost use Rattle.dl_parser.specs.Parsing.{place, ReadsBy, TakesBy};
 
@@ -19,6 +20,16 @@ fn is_among(kind: Kind, kinds: &[Kind]) -> bool
     kinds.iter().any(|other| kind == *other)
 }
 
+/// Whether the first of these tokens is of this kind.
+fn is_first(tokens: &[Token], kind: Kind) -> bool
+    ensures { (source : List ℕ) → result ≡ begins (kind ∷ []) (lexemes source tokens.now) }
+{
+    match tokens.first() {
+        Some(token) => token.kind == kind,
+        None => false,
+    }
+}
+
 impl<'a> Parser<'a> {
     /// Whether the next token is of this kind.
     pub(crate) fn is_next(&self, kind: Kind) -> bool
@@ -26,6 +37,16 @@ impl<'a> Parser<'a> {
     {
         match self.rest.first() {
             Some(token) => token.kind == kind,
+            None => false,
+        }
+    }
+
+    /// Whether the next two tokens are of these kinds.
+    pub(crate) fn are_next(&self, kind: Kind, behind: Kind) -> bool
+        ensures { result ≡ two_at kind behind (place self.now).rest }
+    {
+        match self.rest.split_first() {
+            Some((token, rest)) => token.kind == kind && is_first(rest, behind),
             None => false,
         }
     }
@@ -147,6 +168,30 @@ impl<'a> Parser<'a> {
             text: self.text(token.span)?,
             span: token.span,
         })
+    }
+
+    /// `REF`, by the name behind its `sev.`.
+    #[tactic(auto, unfolding(dl_ast::specs::Grammar::reference))]
+    pub(crate) fn reference(&mut self) -> Result<NameAst, Stop>
+        ensures source { self.new.source ≡ self.old.source }
+        ensures reads { ReadsBy reference self.old self.new result }
+    {
+        let token = self.take(Kind::Ref)?;
+        Ok(NameAst {
+            text: self.name_behind(token.span)?,
+            span: token.span,
+        })
+    }
+
+    /// The text of a token but for its first four bytes, or no bytes where it has fewer.
+    fn name_behind(&self, span: Span) -> Result<Text, Stop>
+        requires { Inside self.now.source.now span }
+        ensures reads { IfOk result (λ text. text
+            ≡ drop 4 (take (span.end - span.start) (drop span.start self.now.source.now))) }
+        ensures err { IfErr result (λ e. e ≡ Stop.OutOfMemory) }
+    {
+        let bytes = &self.source[span.start as usize..span.end as usize];
+        Ok(Text::copy(self.alloc, &bytes[bytes.len().min(4)..])?)
     }
 
     /// `NOTE`

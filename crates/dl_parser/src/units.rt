@@ -1,8 +1,9 @@
 //! Units, and the program that is made of them.
 
 ghost use Rattle.std.specs.Prelude.{◌≡◌};
-ghost use Rattle.dl_ast.specs.Grammar.{claims, freq, head};
-ghost use Rattle.dl_parser.specs.Factored.{ratio, exposure, loss, ending, closing, exposed, listed, counted, body, named, units, program};
+ghost use Rattle.dl_ast.specs.Rules.{maybe};
+ghost use Rattle.dl_ast.specs.Grammar.{claims, count, zero_change, plain_or, freq, common, head};
+ghost use Rattle.dl_parser.specs.Factored.{ratio, exposure, loss, ending, closing, exposed, listed, counted, body, named, units, book, program};
 ghost use Rattle.dl_parser.specs.Reading.{begins, first};
 ghost use Rattle.dl_parser.specs.Parsing.{place, ReadsBy};
 
@@ -11,7 +12,7 @@ use crate::parts::Part;
 use crate::stop::{Stop, only};
 use dl_ast::{
     Cession, CountAst, Exposure, FreqAst, Items, Layer, NameAst, Numeral, PortHead, Program,
-    SevAst, UnitAst,
+    SevAst, UnitAst, ZeroAst,
 };
 use dl_lexer::{Keyword, Kind, Text, both};
 
@@ -49,12 +50,23 @@ impl Body {
     }
 }
 
+/// The change of the probability of no claim, which is none where nothing is written.
+fn plain_or(zero: Option<ZeroAst>) -> ZeroAst
+    ensures { result ≡ plain_or zero }
+{
+    match zero {
+        Some(zero) => zero,
+        None => ZeroAst::Plain,
+    }
+}
+
 impl<'a> Parser<'a> {
-    /// `'fixed' | 'poisson' | 'bernoulli' | 'binomial' NUMERAL | 'mixed' 'gamma' NUMERAL`
-    #[tactic(auto, unfolding(dl_ast::specs::Grammar::freq))]
-    fn freq(&mut self) -> Result<FreqAst, Stop>
+    /// `'fixed' | 'poisson' | 'geometric' | 'bernoulli' | 'binomial' NUMERAL | 'mixed' 'gamma'
+    /// NUMERAL`
+    #[tactic(auto, unfolding(dl_ast::specs::Grammar::count))]
+    fn count(&mut self) -> Result<FreqAst, Stop>
         ensures source { self.new.source ≡ self.old.source }
-        ensures reads { ReadsBy freq self.old self.new result }
+        ensures reads { ReadsBy count self.old self.new result }
     {
         let start = self.start();
         if self.is_next(Kind::Word(Keyword::Fixed)) {
@@ -64,6 +76,10 @@ impl<'a> Parser<'a> {
         if self.is_next(Kind::Word(Keyword::Poisson)) {
             self.take(Kind::Word(Keyword::Poisson))?;
             return Ok(FreqAst::Poisson(self.since(start)));
+        }
+        if self.is_next(Kind::Word(Keyword::Geometric)) {
+            self.take(Kind::Word(Keyword::Geometric))?;
+            return Ok(FreqAst::Geometric(self.since(start)));
         }
         if self.is_next(Kind::Word(Keyword::Bernoulli)) {
             self.take(Kind::Word(Keyword::Bernoulli))?;
@@ -76,6 +92,50 @@ impl<'a> Parser<'a> {
         self.take(Kind::Word(Keyword::Mixed))?;
         let number = self.numeral_behind(Kind::Word(Keyword::Gamma))?;
         Ok(FreqAst::Gamma(number, self.since(start)))
+    }
+
+    /// `'zt' | 'zm' NUMERAL`
+    #[tactic(auto, unfolding(dl_ast::specs::Grammar::zero_change))]
+    fn zero_change(&mut self) -> Result<ZeroAst, Stop>
+        ensures source { self.new.source ≡ self.old.source }
+        ensures reads { ReadsBy zero_change self.old self.new result }
+    {
+        let start = self.start();
+        if self.is_next(Kind::Word(Keyword::Zt)) {
+            self.take(Kind::Word(Keyword::Zt))?;
+            return Ok(ZeroAst::Truncated(self.since(start)));
+        }
+        let number = self.numeral_behind(Kind::Word(Keyword::Zm))?;
+        Ok(ZeroAst::Modified(number, self.since(start)))
+    }
+
+    /// Whether `'zt'` follows, or `'zm'`.
+    #[tactic(auto, unfolding(dl_ast::specs::Grammar::zero_change))]
+    fn is_zero_change_next(&self) -> bool
+        ensures { result ≡ begins (first zero_change) (place self.now).rest }
+    {
+        self.is_next(Kind::Word(Keyword::Zt)) || self.is_next(Kind::Word(Keyword::Zm))
+    }
+
+    /// `('zt' | 'zm' NUMERAL)?`
+    fn zero_option(&mut self) -> Result<Option<ZeroAst>, Stop>
+        ensures source { self.new.source ≡ self.old.source }
+        ensures reads { ReadsBy (maybe zero_change) self.old self.new result }
+    {
+        if !self.is_zero_change_next() {
+            return Ok(None);
+        }
+        Ok(Some(self.zero_change()?))
+    }
+
+    /// `count ('zt' | 'zm' NUMERAL)?`
+    #[tactic(auto, unfolding(dl_ast::specs::Grammar::freq))]
+    fn freq(&mut self) -> Result<(FreqAst, ZeroAst), Stop>
+        ensures source { self.new.source ≡ self.old.source }
+        ensures reads { ReadsBy freq self.old self.new result }
+    {
+        let (count, zero) = both(self.count()?, self.zero_option())?;
+        Ok((count, plain_or(zero)))
     }
 
     /// `'premium' 'at' NUMERAL 'lr'`
@@ -163,7 +223,7 @@ impl<'a> Parser<'a> {
 
     /// `freq agr? NOTE?`
     #[tactic(auto, unfolding(crate::specs::Factored::closing))]
-    fn closing(&mut self) -> Result<(FreqAst, (Option<Cession>, Option<Text>)), Stop>
+    fn closing(&mut self) -> Result<((FreqAst, ZeroAst), (Option<Cession>, Option<Text>)), Stop>
         ensures source { self.new.source ≡ self.old.source }
         ensures reads { ReadsBy closing self.old self.new result }
     {
@@ -177,9 +237,13 @@ impl<'a> Parser<'a> {
         ensures reads { ReadsBy exposed self.old self.new result }
     {
         let exposed = both(self.exposure()?, self.loss())?;
-        let ((exposure, loss), (freq, (agr, note))) = both(exposed, self.closing())?;
+        let ((exposure, loss), ((freq, zero), (agr, note))) = both(exposed, self.closing())?;
         Ok(Body {
-            count: CountAst::Exposed { exposure, freq },
+            count: CountAst::Exposed {
+                exposure,
+                freq,
+                zero,
+            },
             loss,
             agr,
             note,
@@ -244,15 +308,28 @@ impl Part for UnitAst {
 }
 
 impl<'a> Parser<'a> {
-    /// `'port' NAME NOTE?`
+    /// `('common' NUMERAL)?`
+    #[tactic(auto, unfolding(dl_ast::specs::Grammar::common))]
+    fn common_option(&mut self) -> Result<Option<Numeral>, Stop>
+        ensures source { self.new.source ≡ self.old.source }
+        ensures reads { ReadsBy (maybe common) self.old self.new result }
+    {
+        if !self.is_next(Kind::Word(Keyword::Common)) {
+            return Ok(None);
+        }
+        Ok(Some(self.numeral_behind(Kind::Word(Keyword::Common))?))
+    }
+
+    /// `'port' NAME ('common' NUMERAL)? NOTE?`
     #[tactic(auto, unfolding(dl_ast::specs::Grammar::head))]
     fn head(&mut self) -> Result<PortHead, Stop>
         ensures source { self.new.source ≡ self.old.source }
         ensures reads { ReadsBy head self.old self.new result }
     {
         self.take(Kind::Word(Keyword::Port))?;
-        let (name, note) = both(self.name()?, self.note_option())?;
-        Ok(PortHead { name, note })
+        let (name, common) = both(self.name()?, self.common_option())?;
+        let ((name, common), note) = both((name, common), self.note_option())?;
+        Ok(PortHead { name, common, note })
     }
 
     /// `unit unit*`
@@ -264,23 +341,27 @@ impl<'a> Parser<'a> {
         self.parts()
     }
 
-    /// `unit | 'port' NAME NOTE? unit unit*`
+    /// `unit | head unit unit*`
+    #[tactic(auto, unfolding(crate::specs::Factored::book))]
+    fn book(&mut self) -> Result<(Option<PortHead>, Items<UnitAst>), Stop>
+        ensures source { self.new.source ≡ self.old.source }
+        ensures reads { ReadsBy book self.old self.new result }
+    {
+        if UnitAst::is_next(self) {
+            let units = only(self.alloc, UnitAst::first(self)?)?;
+            return Ok((None, Items::from_vec(units)));
+        }
+        let (head, units) = both(self.head()?, self.units())?;
+        Ok((Some(head), units))
+    }
+
+    /// `sevdef* book`
     #[tactic(auto, unfolding(crate::specs::Factored::program))]
     pub(crate) fn program(&mut self) -> Result<Program, Stop>
         ensures source { self.new.source ≡ self.old.source }
         ensures reads { ReadsBy program self.old self.new result }
     {
-        if UnitAst::is_next(self) {
-            let units = only(self.alloc, UnitAst::first(self)?)?;
-            return Ok(Program {
-                port: None,
-                units: Items::from_vec(units),
-            });
-        }
-        let (head, units) = both(self.head()?, self.units())?;
-        Ok(Program {
-            port: Some(head),
-            units,
-        })
+        let (sevs, (port, units)) = both(self.definitions()?, self.book())?;
+        Ok(Program { sevs, port, units })
     }
 }

@@ -115,6 +115,7 @@ tight_stops (kinds.Sign Open) text rest spelled tight = absurd cc
 tight_stops (kinds.Sign Comma) text rest spelled tight = absurd cc
 tight_stops (kinds.Sign Bang) text rest spelled tight = absurd cc
 tight_stops kinds.Name text rest spelled tight = absurd cc
+tight_stops kinds.Ref text rest spelled tight = absurd cc
 tight_stops kinds.Numeral text rest spelled tight = absurd cc
 tight_stops kinds.Note text rest spelled tight = absurd cc
 tight_stops (kinds.Word k) text rest spelled tight = absurd cc

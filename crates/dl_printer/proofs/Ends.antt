@@ -1,11 +1,11 @@
 -- A token is the longest that begins where it stands, whatever follows a sign, and where a blank, `:` or `]` follows
 -- any other token.
 use Rattle.dl_printer.proofs.Common.{ℕ, suc, ◌≡◌, ◌∙◌, ◌+◌, ◌<◌, List, [], ◌∷◌, ◌++◌, length, take, Bool, true, false, ◌||◌, refl, sym, ap, arith, subst, append_assoc, length-append, Some, codes, sign_byte, IsSpelled, IsToken, is_tight_behind}
-use Rattle.std.proofs.Common.{get_or, zero, ◌≢◌, ◌≤◌, ◌==◌, slice_get}
+use Rattle.std.proofs.Common.{Option, None, get_or, zero, ◌≢◌, ◌≤◌, ◌==◌, slice_get}
 use Rattle.std.proofs.Math.Seq.{take-append_seam}
 use Rattle.dl_lexer.specs.declared.token.Kind.{Kind}
 use Rattle.dl_lexer.specs.Bytes.{is_white, is_digit, is_word_byte, is_note_byte}
-use Rattle.dl_lexer.specs.Tokens.{begins_with_letter, IsWord, IsNote, note}
+use Rattle.dl_lexer.specs.Tokens.{begins_with_letter, IsWord, IsNote, note, IsRef, ref}
 use Rattle.dl_lexer.specs.Cutting.{IsLongest}
 use Rattle.std.specs.List.{list_all, prefix_len}
 use Rattle.std.proofs.lemmas.Bool.Decides.{nat_tests}
@@ -17,8 +17,8 @@ use Rattle.dl_lexer.specs.Numerals.{IsDecimalToken, digits, digits_point, point_
 use Rattle.dl_lexer.proofs.Prefix.{prefix_most, prefix_ends, get_behind}
 use Rattle.dl_lexer.proofs.Longest.{longest_none}
 use Rattle.dl_lexer.proofs.Spellings.{keyword_is_word}
-use Rattle.dl_lexer.proofs.WordLengths.{word_parts, word_longest, note_none, note_closed}
-use Rattle.dl_lexer.proofs.TokenKinds.{begins_numeral, numeral_begins, longest_note, longest_word, longest_numeral, longest_sign, sign_no_letter, sign_no_numeral, no_letter_byte}
+use Rattle.dl_lexer.proofs.WordLengths.{word_parts, word_longest, word_some, note_none, note_closed, ref_none, ref_longest}
+use Rattle.dl_lexer.proofs.TokenKinds.{begins_numeral, numeral_begins, longest_lettered, longest_numeral, longest_sign, sign_no_letter, sign_no_numeral, no_letter_byte}
 use Rattle.std.proofs.lemmas.Bool.{and_from}
 
 -- a blank, `:` or `]`
@@ -74,33 +74,65 @@ letter_stays : (text rest : List ℕ) → begins_with_letter text ≡ true → b
 letter_stays [] rest h = absurd cc
 letter_stays (b ∷ text) rest h = h
 
--- a word that a stop follows is not the start of a note
-no_note : (text more after : List ℕ) (byte : ℕ) → list_all is_word_byte text ≡ true → is_stop byte ≡ true
-    → text ++ byte ∷ more ≢ codes "note{" ++ after
-no_note text more after byte all stop e =
+-- a word that a stop follows is not the start of what has another byte behind its first word
+no_front : (text more front after : List ℕ) (byte mark size : ℕ) → list_all is_word_byte text ≡ true
+    → is_stop byte ≡ true → prefix_len is_word_byte (front ++ after) ≡ size
+    → slice_get (front ++ after) size ≡ Some mark → is_stop mark ≡ false
+    → text ++ byte ∷ more ≢ front ++ after
+no_front text more front after byte mark size all stop count at other e =
     let run : prefix_len is_word_byte (text ++ byte ∷ more) ≡ length text = prefix_ends is_word_byte byte text more
     (no_word_byte byte stop) all in
-    let four : prefix_len is_word_byte (codes "note{" ++ after) ≡ 4 = refl in
-    let size : length text ≡ 4 = sym run ∙ ap (prefix_len is_word_byte) e ∙ four in
+    let as_long : length text ≡ size = sym run ∙ ap (prefix_len is_word_byte) e ∙ count in
     let here : slice_get (text ++ byte ∷ more) (length text) ≡ Some byte = get_behind text more byte in
-    let brace : slice_get (codes "note{" ++ after) 4 ≡ Some 123 = refl in
-    let same : Some byte ≡ Some 123 = sym here ∙ ap (slice_get (text ++ byte ∷ more)) size
-    ∙ ap (λ ys. slice_get ys 4) e ∙ brace in
-    let is_brace : byte ≡ 123 = cc in
-    let other : is_stop byte ≡ false = ap is_stop is_brace in
+    let same : Some byte ≡ Some mark = sym here ∙ ap (slice_get (text ++ byte ∷ more)) as_long
+    ∙ ap (λ ys. slice_get ys size) e ∙ at in
+    let is_mark : byte ≡ mark = cc in
+    let no_stop : is_stop byte ≡ false = ap is_stop is_mark ∙ other in
     cc
 
 word_ends : (k : Kind) (text more : List ℕ) (byte : ℕ) → IsWord text → IsSpelled k text → is_stop byte ≡ true
     → IsLongest IsToken (text ++ byte ∷ more) (length text)
 word_ends k text more byte word spelled stop =
+    let bytes : List ℕ = text ++ byte ∷ more in
     let parts = word_parts text word in
-    let letter : begins_with_letter (text ++ byte ∷ more) ≡ true = letter_stays text (byte ∷ more) parts.0 in
-    let run : prefix_len is_word_byte (text ++ byte ∷ more) ≡ length text = prefix_ends is_word_byte byte text more
+    let letter : begins_with_letter bytes ≡ true = letter_stays text (byte ∷ more) parts.0 in
+    let run : prefix_len is_word_byte bytes ≡ length text = prefix_ends is_word_byte byte text more
     (no_word_byte byte stop) parts.1 in
-    let a_word = word_longest (text ++ byte ∷ more) (length text) letter (sym run) in
-    let a_note = note_none (text ++ byte ∷ more) (λ after. no_note text more after byte parts.1 stop) in
-    longest_word (text ++ byte ∷ more) (length text) 0 k letter a_word a_note (omega arith)
-    (subst (IsSpelled k) (sym (take-append_seam text (byte ∷ more))) spelled)
+    let a_word = word_longest bytes (length text) letter (sym run) in
+    let a_note = note_none bytes
+    (λ after. no_front text more (codes "note{") after byte 123 4 parts.1 stop refl refl refl) in
+    let a_ref = ref_none bytes
+    (λ after. no_front text more (codes "sev.") after byte 46 3 parts.1 stop refl refl refl) in
+    longest_lettered bytes (length text) 0 0 (length text) k letter a_word a_note a_ref
+    (omega arith, omega arith, omega arith) a_word.within
+    (λ some. subst (IsSpelled k) (sym (take-append_seam text (byte ∷ more))) spelled)
+
+-- references
+
+ref_ends_here : (name more : List ℕ) (byte : ℕ) → IsWord name → is_stop byte ≡ true
+    → IsLongest IsToken (codes "sev." ++ (name ++ byte ∷ more)) (length name + 4)
+ref_ends_here name more byte word stop =
+    let behind : List ℕ = name ++ byte ∷ more in
+    let bytes : List ℕ = codes "sev." ++ behind in
+    let parts = word_parts name word in
+    let letter : begins_with_letter behind ≡ true = letter_stays name (byte ∷ more) parts.0 in
+    let run : prefix_len is_word_byte behind ≡ length name = prefix_ends is_word_byte byte name more
+    (no_word_byte byte stop) parts.1 in
+    let a_name = word_longest behind (length name) letter (sym run) in
+    let a_ref = ref_longest behind (length name) a_name (word_some behind (length name) letter a_name) in
+    let a_word = word_longest bytes 3 refl refl in
+    let a_note = note_none bytes (λ after e. cc) in
+    longest_lettered bytes 3 0 (length name + 4) (length name + 4) kinds.Ref refl a_word a_note a_ref
+    (omega arith, omega arith, omega arith) a_ref.within (λ some. a_ref.spelled some)
+
+ref_ends : (text more : List ℕ) (byte : ℕ) → IsRef text → is_stop byte ≡ true
+    → IsLongest IsToken (text ++ byte ∷ more) (length text)
+ref_ends text more byte (ref name e word) stop =
+    let size : length text ≡ length name + 4 = omega (arith, ap length e) in
+    let whole : text ++ byte ∷ more ≡ codes "sev." ++ (name ++ byte ∷ more) = ap (λ ys. ys ++ byte ∷ more) e in
+    subst (λ ys. IsLongest IsToken ys (length text)) (sym whole)
+    (subst (IsLongest IsToken (codes "sev." ++ (name ++ byte ∷ more))) (sym size)
+    (ref_ends_here name more byte word stop))
 
 -- numerals
 
@@ -132,6 +164,14 @@ numeral_ends text more byte spelled stop =
 
 -- notes
 
+other_first : (o : Option ℕ) → o ≡ Some 110 → o ≡ Some 115 → ⊥
+other_first None h g = absurd cc
+other_first (Some n) h g = let one : n ≡ 110 = cc in let other : n ≡ 115 = cc in absurd (omega arith)
+
+-- an `n` is no `s`
+no_ref : (xs after : List ℕ) → codes "note{" ++ xs ≢ codes "sev." ++ after
+no_ref xs after e = other_first (slice_get (codes "sev." ++ after) 0) (sym (ap (λ ys. slice_get ys 0) e)) refl
+
 note_ends_here : (inside rest : List ℕ) → list_all is_note_byte inside ≡ true
     → IsLongest IsToken (codes "note{" ++ (inside ++ 125 ∷ rest)) (length inside + 6)
 note_ends_here inside rest all =
@@ -139,7 +179,9 @@ note_ends_here inside rest all =
     prefix_ends is_note_byte 125 inside rest refl all in
     let a_note = note_closed (inside ++ 125 ∷ rest) (length inside) (sym run) (get_behind inside rest 125) in
     let a_word = word_longest (codes "note{" ++ (inside ++ 125 ∷ rest)) 4 refl refl in
-    longest_note (codes "note{" ++ (inside ++ 125 ∷ rest)) 4 (length inside + 6) refl a_word a_note (omega arith)
+    let a_ref = ref_none (codes "note{" ++ (inside ++ 125 ∷ rest)) (λ after. no_ref (inside ++ 125 ∷ rest) after) in
+    longest_lettered (codes "note{" ++ (inside ++ 125 ∷ rest)) 4 (length inside + 6) 0 (length inside + 6) kinds.Note refl
+    a_word a_note a_ref (omega arith, omega arith, omega arith) a_note.within (λ some. a_note.spelled some)
 
 note_ends : (text rest : List ℕ) → IsNote text → IsLongest IsToken (text ++ rest) (length text)
 note_ends text rest (note inside e all) =
@@ -175,6 +217,10 @@ token_ends kinds.Name text rest spelled follows =
     let s = follows refl in
     subst (λ ys. IsLongest IsToken (text ++ ys) (length text)) (sym s.whole)
     (word_ends kinds.Name text s.more s.byte spelled.word spelled s.stop)
+token_ends kinds.Ref text rest spelled follows =
+    let s = follows refl in
+    subst (λ ys. IsLongest IsToken (text ++ ys) (length text)) (sym s.whole)
+    (ref_ends text s.more s.byte spelled s.stop)
 token_ends kinds.Numeral text rest spelled follows =
     let s = follows refl in
     subst (λ ys. IsLongest IsToken (text ++ ys) (length text)) (sym s.whole)

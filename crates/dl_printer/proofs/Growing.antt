@@ -12,6 +12,10 @@ with_append t [] vs = refl
 with_append t (u ∷ us) vs =
     with_append (record { text = t.text ++ gap t.last u.kind ++ u.text; last = Some u.kind }) us vs
 
+-- a token that is put behind the text in two parts, where nothing or something stands before it
+pub in_two_parts : (text gap front back : List ℕ) → ((text ++ gap) ++ front) ++ back ≡ text ++ gap ++ (front ++ back)
+in_two_parts text gap front back = simp append_assoc
+
 -- what the tokens add
 pub with_text : (t : SoFar) (us : List Piece) → (with_pieces t us).text ≡ t.text ++ spaced t.last us
 unfolding with_pieces spaced

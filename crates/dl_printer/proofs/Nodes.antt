@@ -1,7 +1,7 @@
 -- The canonical tokens of a well-formed node are tokens, and spell the node by its line of the grammar.
-use Rattle.dl_printer.proofs.Common.{◌≡◌, ◌∙◌, ◌<◌, ℕ, suc, List, [], ◌∷◌, ◌++◌, map, length, Option, Some, None, Bool, true, false, refl, sym, ap, arith, append_assoc, flat_map, sign_byte, Program, Lexeme, Piece, piece, word_piece, name_piece, numeral_piece, note_piece, optional, behind_colon, item_pieces, list_pieces, limit_pieces, layer_pieces, atom_pieces, weights_pieces, bang_pieces, sev_pieces, share_pieces, ceded_pieces, and_ceded_pieces, ceded_layers_pieces, side_pieces, clause_pieces, freq_pieces, exposure_pieces, listed_pieces, count_pieces, late_count_pieces, unit_pieces, head_pieces, program_pieces}
-use Rattle.std.proofs.Common.{is_some}
-use Rattle.std.specs.Prelude.{All, IfSome, IsSome}
+use Rattle.dl_printer.proofs.Common.{◌≡◌, ◌∙◌, ◌<◌, ℕ, suc, List, [], ◌∷◌, ◌++◌, map, length, Option, Some, None, Bool, true, false, refl, sym, ap, arith, append_assoc, flat_map, sign_byte, Program, Lexeme, Piece, piece, word_piece, name_piece, numeral_piece, note_piece, optional, behind_colon, item_pieces, list_pieces, limit_pieces, layer_pieces, atom_pieces, weights_pieces, mixture_pieces, cost_pieces, bang_pieces, sev_pieces, definition_pieces, ref_piece, zero_pieces, common_pieces, share_pieces, ceded_pieces, and_ceded_pieces, ceded_layers_pieces, side_pieces, clause_pieces, freq_pieces, exposure_pieces, listed_pieces, count_pieces, late_count_pieces, unit_pieces, head_pieces, program_pieces}
+use Rattle.std.proofs.Common.{is_some, codes, drop}
+use Rattle.std.specs.Prelude.{All, IfSome, IsSome, IsNone}
 use Rattle.std.specs.Option.{option_map}
 use Rattle.std.proofs.lemmas.List.{append-nil}
 use Rattle.std.proofs.lemmas.List.Elements.{All-head, All-tail}
@@ -13,7 +13,13 @@ use Rattle.dl_ast.specs.declared.ast.LimitAst.{LimitAst}
 use Rattle.dl_ast.specs.declared.ast.LimitAst.TheVariants.{Finite, Infinite}
 use Rattle.dl_ast.specs.declared.ast.Layer.{Layer}
 use Rattle.dl_ast.specs.declared.ast.Atom.{Atom}
+use Rattle.dl_ast.specs.declared.ast.MixAst.{MixAst}
+use Rattle.dl_ast.specs.declared.ast.SevBody.{SevBody}
+use Rattle.dl_ast.specs.declared.ast.SevBody.TheVariants.{Mixture, Ref}
 use Rattle.dl_ast.specs.declared.ast.SevAst.{SevAst}
+use Rattle.dl_ast.specs.declared.ast.SevDef.{SevDef}
+use Rattle.dl_ast.specs.declared.ast.ZeroAst.{ZeroAst}
+use Rattle.dl_ast.specs.declared.ast.ZeroAst.TheVariants.{Plain, Truncated, Modified}
 use Rattle.dl_ast.specs.declared.ast.PortHead.{PortHead}
 use Rattle.dl_ast.specs.declared.ast.CountAst.{CountAst}
 use Rattle.dl_ast.specs.declared.ast.CountAst.TheVariants.{Exposed, Listed}
@@ -25,9 +31,9 @@ use Rattle.dl_ast.specs.declared.ast.Exposure.{Exposure}
 use Rattle.dl_ast.specs.declared.ast.Exposure.TheVariants.{Claims, Loss, Premium}
 use Rattle.dl_ast.specs.declared.ast.UnitAst.{UnitAst}
 use Rattle.dl_ast.specs.Rules.{Rule, one, ◌▸◌, maybe}
-use Rattle.dl_ast.specs.Grammar.{◌≫◌, ◌≪◌, ◌means◌, some_of, program, numeral, name, note, item, next_item, list, limit, layer, atom, mixture, sev, cession, side, next_cession, clause, freq, claims, premium, exposure, listed, exposed_unit, listed_unit, unit, head}
-use Rattle.dl_ast.specs.WellFormed.{IsWellFormed, IsFormedName, IsFormedNumeral, IsFormedNote, IsFormedItem, IsFormedList, IsFormedLimit, IsFormedLayer, IsFormedAtom, IsFormedSeverity, IsFormedShare, IsFormedCeded, IsFormedCession, IsFormedFrequency, IsFormedExposure, IsFormedUnit, IsFormedHead}
-use Rattle.dl_printer.specs.Apart.{bare_numeral, bare_item, bare_list, bare_limit, bare_layer, bare_atom, bare_sev, bare_ceded, bare_cession, bare_freq, bare_exposure, bare_count, bare_unit, bare_head, bare, nowhere, bare_name}
+use Rattle.dl_ast.specs.Grammar.{◌≫◌, ◌≪◌, ◌means◌, some_of, program, numeral, name, note, item, next_item, list, limit, layer, atom, mixture, reference, cost, sev, sevdef, cession, side, next_cession, clause, count, zero_change, plain_or, freq, claims, premium, exposure, listed, exposed_unit, listed_unit, unit, common, head, book}
+use Rattle.dl_ast.specs.WellFormed.{IsWellFormed, IsFormedName, IsFormedNumeral, IsFormedNote, IsFormedItem, IsFormedList, IsFormedLimit, IsFormedLayer, IsFormedAtom, IsFormedMixture, IsFormedReference, IsFormedBody, IsFormedSeverity, IsFormedDefinition, IsFormedZero, IsFormedShare, IsFormedCeded, IsFormedCession, IsFormedFrequency, IsFormedExposure, IsFormedUnit, IsFormedHead}
+use Rattle.dl_printer.specs.Apart.{bare_numeral, bare_item, bare_list, bare_limit, bare_layer, bare_atom, bare_mix, bare_body, bare_sev, bare_definition, bare_zero, bare_ceded, bare_cession, bare_freq, bare_exposure, bare_count, bare_unit, bare_head, bare, nowhere, bare_name}
 use Rattle.std.proofs.lemmas.Iterator.Adapters.{option_map_id}
 use Rattle.dl_lexer.specs.declared.token.Keyword.TheVariants as words
 use Rattle.dl_lexer.specs.declared.token.Sign.TheVariants as signs
@@ -150,25 +156,24 @@ atom_shown a h = shows_made
     (shows_as (shows_left (behind_word words.Dsev (lists_shown a.values a.probs h.values h.probs)))
     (simp append_assoc)) (λ p e. ap (λ q. record { values = q.0; probs = q.1 }) e)
 
--- the atoms and their weights
-abbrev bare_mixture : List Atom × Option ListAst → List Atom × Option ListAst
-bare_mixture m = (map bare_atom m.0, option_map bare_list m.1)
+mixture_of : (atoms : List Atom) (w : Option ListAst) (span : Span)
+    → IsFormedMixture (record { atoms = atoms; weights = w; span = span })
+    → Shows mixture bare_mix (bare_mix (record { atoms = atoms; weights = w; span = span }))
+    (mixture_pieces (record { atoms = atoms; weights = w; span = span }))
+unfolding mixture mixture_pieces optional
+mixture_of [] w span h = absurd (omega (arith, h.some))
+mixture_of (a ∷ []) None span h = shows_spanned (shows_left
+    (shows_made (shows_as (atom_shown a (All-head IsFormedAtom a [] h.atoms)) (simp append-nil))
+    (λ b e. ap (λ c _. record { atoms = c ∷ []; weights = None; span = nowhere }) e)))
+mixture_of (a ∷ b ∷ others) None span h = let none : false ≡ true = h.several (omega arith) in absurd cc
+mixture_of (a ∷ others) (Some w) span h = shows_spanned (shows_right
+    (shows_made (shows_as (shows_seq (atom_shown a (All-head IsFormedAtom a others h.atoms))
+    (shows_seq (shows_many atom_shown others (All-tail IsFormedAtom a others h.atoms))
+    (behind_word words.Wts (list_shown w h.weights)))) (simp append_assoc))
+    (λ p e. ap (λ q _. record { atoms = q.0 ∷ q.1.0; weights = Some q.1.1; span = nowhere }) e)))
 
-mixture_shown : (others : List Atom) (w : Option ListAst) → 0 < length others → All IsFormedAtom others
-    → IfSome w IsFormedList
-    → (1 < length others → IsSome w)
-    → Shows mixture bare_mixture (map bare_atom others, option_map bare_list w)
-    (flat_map atom_pieces others ++ optional weights_pieces w)
-unfolding mixture optional
-mixture_shown [] w some h k several = absurd (omega arith)
-mixture_shown (a ∷ []) None some h k several = shows_left
-    (shows_made (shows_as (atom_shown a (All-head IsFormedAtom a [] h)) (simp append-nil))
-    (λ b e. ap (λ c. (c ∷ [], None)) e))
-mixture_shown (a ∷ b ∷ others) None some h k several = let none : false ≡ true = several (omega arith) in absurd cc
-mixture_shown (a ∷ others) (Some w) some h k several = shows_right
-    (shows_made (shows_as (shows_seq (atom_shown a (All-head IsFormedAtom a others h))
-    (shows_seq (shows_many atom_shown others (All-tail IsFormedAtom a others h))
-    (behind_word words.Wts (list_shown w k)))) (simp append_assoc)) (λ p e. ap (λ q. (q.0 ∷ q.1.0, Some q.1.1)) e))
+mixture_shown : (m : MixAst) → IsFormedMixture m → Shows mixture bare_mix (bare_mix m) (mixture_pieces m)
+mixture_shown m h = mixture_of m.atoms m.weights m.span h
 
 some_is : (y : Option Lexeme) (p : Piece) → option_map piece_of y ≡ Some p → is_some y ≡ true
 some_is None p e = absurd cc
@@ -184,10 +189,27 @@ bang_shown true = shows_seen (shows_some (shows_one (Sign signs.Bang) (sign_byte
     (λ y e. some_is y _ e)
 bang_shown false = shows_seen (shows_none {f = piece_of}) (λ y e. none_is y e)
 
+reference_shown : (n : NameAst) → IsFormedReference n → Shows reference bare_name (bare_name n) (ref_piece n)
+unfolding reference
+reference_shown n h = shows_made (shows_one kinds.Ref (codes "sev." ++ n.text) h)
+    (λ t e. ap (λ p. record { text = drop 4 p.text; span = nowhere }) e)
+
+cost_shown : (b : SevBody) → IsFormedBody b → Shows cost bare_body (bare_body b) (cost_pieces b)
+unfolding cost cost_pieces
+cost_shown (Mixture m) h = shows_left (shows_made (mixture_shown m h) (λ x e. ap Mixture e))
+cost_shown (Ref n) h = shows_right (shows_made (reference_shown n h) (λ x e. ap Ref e))
+
 sev_shown : (s : SevAst) → IsFormedSeverity s → Shows sev bare_sev (bare_sev s) (sev_pieces s)
 unfolding sev sev_pieces
-sev_shown s h = shows_node (shows_seq (mixture_shown s.atoms s.weights h.some h.atoms h.weights h.several)
-    (bang_shown s.bang)) (λ p at e. ap (λ q. record { atoms = q.0.0; weights = q.0.1; bang = q.1; span = nowhere }) e)
+sev_shown s h = shows_node (shows_seq (cost_shown s.body h) (bang_shown s.bang))
+    (λ p at e. ap (λ q. record { body = q.0; bang = q.1; span = nowhere }) e)
+
+definition_shown : (d : SevDef) → IsFormedDefinition d
+    → Shows sevdef bare_definition (bare_definition d) (definition_pieces d)
+unfolding sevdef definition_pieces
+definition_shown d h = shows_node
+    (shows_as (behind_word words.Sev (shows_seq (name_shown d.name h.name) (mixture_shown d.mix h.mix)))
+    (simp append_assoc)) (λ p at e. ap (λ q. record { name = q.0; mix = q.1; span = nowhere }) e)
 
 -- cessions
 
@@ -247,17 +269,45 @@ clause_option_shown k o h = shows_maybe (clause_shown k) o h
 
 -- claim counts
 
-freq_shown : (f : FreqAst) → IsFormedFrequency f → Shows freq bare_freq (bare_freq f) (freq_pieces f)
-unfolding freq freq_pieces
-freq_shown (freqs.Fixed span) h = shows_spanned (shows_left (word_means words.Fixed))
-freq_shown (freqs.Poisson span) h = shows_spanned (shows_right (shows_left (word_means words.Poisson)))
-freq_shown (freqs.Bernoulli span) h = shows_spanned
-    (shows_right (shows_right (shows_left (word_means words.Bernoulli))))
-freq_shown (freqs.Binomial n span) h = shows_spanned (shows_right (shows_right (shows_right (shows_left (shows_made
-    (behind_word words.Binomial (numeral_shown n h)) (λ m e. ap (λ q _. freqs.Binomial q nowhere) e))))))
-freq_shown (freqs.Gamma n span) h = shows_spanned (shows_right (shows_right (shows_right (shows_right (shows_made
-    (shows_as (behind_word words.Mixed (behind_word words.Gamma (numeral_shown n h))) (simp append_assoc))
-    (λ m e. ap (λ q _. freqs.Gamma q nowhere) e))))))
+count_shown : (f : FreqAst) → IsFormedFrequency f → Shows count bare_freq (bare_freq f) (freq_pieces f)
+unfolding count freq_pieces
+count_shown (freqs.Fixed span) h = shows_spanned (shows_left (word_means words.Fixed))
+count_shown (freqs.Poisson span) h = shows_spanned (shows_right (shows_left (word_means words.Poisson)))
+count_shown (freqs.Geometric span) h = shows_spanned
+    (shows_right (shows_right (shows_left (word_means words.Geometric))))
+count_shown (freqs.Bernoulli span) h = shows_spanned
+    (shows_right (shows_right (shows_right (shows_left (word_means words.Bernoulli)))))
+count_shown (freqs.Binomial n span) h = shows_spanned (shows_right (shows_right (shows_right (shows_right (shows_left
+    (shows_made (behind_word words.Binomial (numeral_shown n h)) (λ m e. ap (λ q _. freqs.Binomial q nowhere) e)))))))
+count_shown (freqs.Gamma n span) h = shows_spanned (shows_right (shows_right (shows_right (shows_right (shows_right
+    (shows_made (shows_as (behind_word words.Mixed (behind_word words.Gamma (numeral_shown n h))) (simp append_assoc))
+    (λ m e. ap (λ q _. freqs.Gamma q nowhere) e)))))))
+
+zero_as : (o : Option ZeroAst) (z : ZeroAst) → option_map bare_zero o ≡ Some z → bare_zero (plain_or o) ≡ z
+zero_as None z e = absurd cc
+zero_as (Some x) z e = cc
+
+zero_none : (o : Option ZeroAst) → option_map bare_zero o ≡ None → bare_zero (plain_or o) ≡ Plain
+zero_none None e = refl
+zero_none (Some x) e = absurd cc
+
+zero_shown : (z : ZeroAst) → IsFormedZero z
+    → Shows (maybe zero_change) (λ o. bare_zero (plain_or o)) (bare_zero z) (zero_pieces z)
+unfolding zero_change zero_pieces
+zero_shown Plain h = shows_seen (shows_none {f = bare_zero}) (λ o e. zero_none o e)
+zero_shown (Truncated span) h =
+    shows_seen (shows_some (shows_spanned {g = bare_zero} (shows_left (word_means words.Zt)))) (λ o e. zero_as o _ e)
+zero_shown (Modified n span) h = shows_seen (shows_some (shows_spanned {g = bare_zero} (shows_right (shows_made
+    (behind_word words.Zm (numeral_shown n h)) (λ m e. ap (λ q _. Modified q nowhere) e))))) (λ o e. zero_as o _ e)
+
+-- a distribution, and the change of the probability of no claim
+abbrev bare_change : FreqAst × ZeroAst → FreqAst × ZeroAst
+bare_change p = (bare_freq p.0, bare_zero p.1)
+
+freq_shown : (f : FreqAst) (z : ZeroAst) → IsFormedFrequency f → IsFormedZero z
+    → Shows freq bare_change (bare_freq f, bare_zero z) (freq_pieces f ++ zero_pieces z)
+unfolding freq
+freq_shown f z h k = shows_made (shows_seq (count_shown f h) (zero_shown z k)) (λ p e. e)
 
 claims_shown : Shows claims piece_of (record { kind = Word words.Claims; text = spelling words.Claims })
     (word_piece words.Claims)
@@ -297,10 +347,10 @@ unit_of : (n : NameAst) (c : CountAst) (l : Option Layer) (s : SevAst) (o a : Op
     → Shows unit bare_unit (bare_unit (record { name = n; count = c; layer = l; sev = s; occ = o; agr = a; note = t }))
     (unit_pieces (record { name = n; count = c; layer = l; sev = s; occ = o; agr = a; note = t }))
 unfolding unit unit_pieces count_pieces late_count_pieces
-unit_of n (Exposed e f) l s o a t h = shows_left (shows_made (shows_as (behind_word words.Agg (shows_seq
+unit_of n (Exposed e f z) l s o a t h = shows_left (shows_made (shows_as (behind_word words.Agg (shows_seq
     (name_shown n h.name) (shows_seq (exposure_shown e h.count.0) (shows_seq (layer_option_shown l h.layer)
     (shows_seq (sev_shown s h.sev) (shows_seq (clause_option_shown words.Occurrence o h.occ)
-    (shows_seq (freq_shown f h.count.1) (shows_seq (clause_option_shown words.Aggregate a h.agr)
+    (shows_seq (freq_shown f z h.count.1.0 h.count.1.1) (shows_seq (clause_option_shown words.Aggregate a h.agr)
     (note_option_shown t h.note))))))))) (simp append_assoc)) (λ p e. ap exposed_unit e))
 unit_of n (Listed c p span) l s o a t h = shows_right (shows_made (shows_as (behind_word words.Agg (shows_seq
     (name_shown n h.name) (shows_seq (listed_shown c p span h.count.0 h.count.1) (shows_seq
@@ -312,24 +362,45 @@ unit_of n (Listed c p span) l s o a t h = shows_right (shows_made (shows_as (beh
 unit_shown : (u : UnitAst) → IsFormedUnit u → Shows unit bare_unit (bare_unit u) (unit_pieces u)
 unit_shown u h = unit_of u.name u.count u.layer u.sev u.occ u.agr u.note h
 
+common_shown : (n : Numeral) → IsFormedNumeral n → Shows common bare_numeral (bare_numeral n) (common_pieces n)
+unfolding common
+common_shown n h = behind_word words.Common (numeral_shown n h)
+
+common_option_shown : (o : Option Numeral) → IfSome o IsFormedNumeral
+    → Shows (maybe common) (option_map bare_numeral) (option_map bare_numeral o) (optional common_pieces o)
+common_option_shown o h = shows_maybe common_shown o h
+
 head_shown : (h : PortHead) → IsFormedHead h → Shows head bare_head (bare_head h) (head_pieces h)
 unfolding head head_pieces
 head_shown h k = shows_made (shows_as (behind_word words.Port (shows_seq (name_shown h.name k.name)
-    (note_option_shown h.note k.note))) (simp append_assoc)) (λ p e. ap (λ q. record { name = q.0; note = q.1 }) e)
+    (shows_seq (common_option_shown h.common k.common) (note_option_shown h.note k.note)))) (simp append_assoc))
+    (λ p e. ap (λ q. record { name = q.0; common = q.1.0; note = q.1.1 }) e)
 
-program_of : (h : Option PortHead) (us : List UnitAst) → IsWellFormed (record { port = h; units = us })
-    → Shows program bare (bare (record { port = h; units = us })) (program_pieces (record { port = h; units = us }))
-unfolding program program_pieces optional
-program_of None [] w = absurd (omega (arith, w.some))
-program_of None (u ∷ []) w = shows_left (shows_made (shows_as (unit_shown u (All-head IsFormedUnit u [] w.units))
-    (simp append-nil)) (λ v e. ap (λ x. record { port = None; units = x ∷ [] }) e))
-program_of None (u ∷ v ∷ us) w = let one : suc (suc (length us)) ≡ 1 = w.one refl in absurd (omega arith)
-program_of (Some h) [] w = absurd (omega (arith, w.some))
-program_of (Some h) (u ∷ us) w = shows_right
-    (shows_made (shows_seq (head_shown h w.head) (shows_some_of unit_shown unit_shown u us
-    (All-head IsFormedUnit u us w.units) (All-tail IsFormedUnit u us w.units)))
-    (λ p e. ap (λ q. record { port = Some q.0; units = q.1 }) e))
+-- the head, and the units
+abbrev bare_book : Option PortHead × List UnitAst → Option PortHead × List UnitAst
+bare_book b = (option_map bare_head b.0, map bare_unit b.1)
+
+book_shown : (h : Option PortHead) (us : List UnitAst) → IfSome h IsFormedHead → 0 < length us → All IsFormedUnit us
+    → (IsNone h → length us ≡ 1)
+    → Shows book bare_book (option_map bare_head h, map bare_unit us)
+    (optional head_pieces h ++ flat_map unit_pieces us)
+unfolding book optional
+book_shown None [] k some all alone = absurd (omega arith)
+book_shown None (u ∷ []) k some all alone = shows_left
+    (shows_made (shows_as (unit_shown u (All-head IsFormedUnit u [] all)) (simp append-nil))
+    (λ v e. ap (λ x. (None, x ∷ [])) e))
+book_shown None (u ∷ v ∷ us) k some all alone =
+    let two : suc (suc (length us)) ≡ 1 = alone refl in absurd (omega arith)
+book_shown (Some h) [] k some all alone = absurd (omega arith)
+book_shown (Some h) (u ∷ us) k some all alone = shows_right
+    (shows_made (shows_seq (head_shown h k) (shows_some_of unit_shown unit_shown u us
+    (All-head IsFormedUnit u us all) (All-tail IsFormedUnit u us all)))
+    (λ p e. ap (λ q. (Some q.0, q.1)) e))
 
 -- so is the program
 pub program_shown : (p : Program) → IsWellFormed p → Shows program bare (bare p) (program_pieces p)
-program_shown p w = program_of p.port p.units w
+unfolding program program_pieces
+program_shown p w = shows_made
+    (shows_as (shows_seq (shows_many definition_shown p.sevs w.sevs)
+    (book_shown p.port p.units w.head w.some w.units w.one)) (simp append_assoc))
+    (λ q e. ap (λ r. record { sevs = r.0; port = r.1.0; units = r.1.1 }) e)

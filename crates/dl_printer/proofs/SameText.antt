@@ -1,5 +1,5 @@
 -- The canonical tokens of a node do not depend on its spans.
-use Rattle.dl_printer.proofs.Common.{◌≡◌, ◌∙◌, List, [], ◌∷◌, ◌++◌, map, Option, Some, None, codes, refl, sym, ap, flat_map, Program, Piece, word_piece, name_piece, numeral_piece, optional, note_piece, behind_colon, item_pieces, list_pieces, limit_pieces, layer_pieces, atom_pieces, weights_pieces, bang_pieces, sev_pieces, share_pieces, ceded_pieces, and_ceded_pieces, ceded_layers_pieces, side_pieces, clause_pieces, freq_pieces, exposure_pieces, listed_pieces, count_pieces, late_count_pieces, unit_pieces, head_pieces, program_pieces, spaced, canonical}
+use Rattle.dl_printer.proofs.Common.{◌≡◌, ◌∙◌, List, [], ◌∷◌, ◌++◌, map, Option, Some, None, codes, refl, sym, ap, flat_map, Program, Piece, word_piece, name_piece, numeral_piece, optional, note_piece, behind_colon, item_pieces, list_pieces, limit_pieces, layer_pieces, atom_pieces, weights_pieces, mixture_pieces, cost_pieces, bang_pieces, sev_pieces, definition_pieces, zero_pieces, common_pieces, share_pieces, ceded_pieces, and_ceded_pieces, ceded_layers_pieces, side_pieces, clause_pieces, freq_pieces, exposure_pieces, listed_pieces, count_pieces, late_count_pieces, unit_pieces, head_pieces, program_pieces, spaced, canonical}
 use Rattle.std.specs.Option.{option_map}
 use Rattle.dl_lexer.specs.declared.token.Keyword.{Keyword}
 use Rattle.dl_ast.specs.declared.ast.ListItem.{ListItem}
@@ -8,7 +8,13 @@ use Rattle.dl_ast.specs.declared.ast.LimitAst.{LimitAst}
 use Rattle.dl_ast.specs.declared.ast.LimitAst.TheVariants.{Finite, Infinite}
 use Rattle.dl_ast.specs.declared.ast.Layer.{Layer}
 use Rattle.dl_ast.specs.declared.ast.Atom.{Atom}
+use Rattle.dl_ast.specs.declared.ast.MixAst.{MixAst}
+use Rattle.dl_ast.specs.declared.ast.SevBody.{SevBody}
+use Rattle.dl_ast.specs.declared.ast.SevBody.TheVariants.{Mixture, Ref}
 use Rattle.dl_ast.specs.declared.ast.SevAst.{SevAst}
+use Rattle.dl_ast.specs.declared.ast.SevDef.{SevDef}
+use Rattle.dl_ast.specs.declared.ast.ZeroAst.{ZeroAst}
+use Rattle.dl_ast.specs.declared.ast.ZeroAst.TheVariants.{Plain, Truncated, Modified}
 use Rattle.dl_ast.specs.declared.ast.PortHead.{PortHead}
 use Rattle.dl_ast.specs.declared.ast.CountAst.{CountAst}
 use Rattle.dl_ast.specs.declared.ast.CountAst.TheVariants.{Exposed, Listed}
@@ -19,10 +25,10 @@ use Rattle.dl_ast.specs.declared.ast.FreqAst.{FreqAst}
 use Rattle.dl_ast.specs.declared.ast.Exposure.{Exposure}
 use Rattle.dl_ast.specs.declared.ast.Exposure.TheVariants.{Claims, Loss, Premium}
 use Rattle.dl_ast.specs.declared.ast.UnitAst.{UnitAst}
-use Rattle.dl_printer.specs.Apart.{bare_numeral, bare_item, bare_list, bare_limit, bare_layer, bare_atom, bare_sev, bare_ceded, bare_cession, bare_freq, bare_exposure, bare_count, bare_unit, bare_head, bare, SameProgram, bare_share}
+use Rattle.dl_printer.specs.Apart.{bare_numeral, bare_item, bare_list, bare_limit, bare_layer, bare_atom, bare_mix, bare_body, bare_sev, bare_definition, bare_zero, bare_ceded, bare_cession, bare_freq, bare_exposure, bare_count, bare_unit, bare_head, bare, SameProgram, bare_share}
 use Rattle.dl_lexer.specs.declared.token.Keyword.TheVariants as words
 use Rattle.dl_ast.specs.declared.ast.Share.TheVariants.{Whole, So, Po}
-use Rattle.dl_ast.specs.declared.ast.FreqAst.TheVariants.{Fixed, Poisson, Bernoulli, Binomial, Gamma}
+use Rattle.dl_ast.specs.declared.ast.FreqAst.TheVariants.{Fixed, Poisson, Geometric, Bernoulli, Binomial, Gamma}
 
 -- what holds of each holds of all, and of what may be left out
 
@@ -68,12 +74,24 @@ atom_same a = simp (list_same a.values, option_same list_pieces bare_list list_s
 weights_same : (l : ListAst) → weights_pieces (bare_list l) ≡ weights_pieces l
 weights_same l = ap (λ ps. word_piece words.Wts ++ ps) (list_same l)
 
+mixture_same : (m : MixAst) → mixture_pieces (bare_mix m) ≡ mixture_pieces m
+unfolding mixture_pieces
+mixture_same m = ap (λ ps. ps ++ optional weights_pieces (option_map bare_list m.weights))
+    (all_same atom_pieces bare_atom atom_same m.atoms)
+    ∙ ap (λ ps. flat_map atom_pieces m.atoms ++ ps) (option_same weights_pieces bare_list weights_same m.weights)
+
+cost_same : (b : SevBody) → cost_pieces (bare_body b) ≡ cost_pieces b
+unfolding cost_pieces
+cost_same (Mixture m) = mixture_same m
+cost_same (Ref n) = refl
+
 sev_same : (s : SevAst) → sev_pieces (bare_sev s) ≡ sev_pieces s
 unfolding sev_pieces
-sev_same s = ap (λ ps. ps ++ optional weights_pieces (option_map bare_list s.weights) ++ bang_pieces s.bang)
-    (all_same atom_pieces bare_atom atom_same s.atoms)
-    ∙ ap (λ ps. flat_map atom_pieces s.atoms ++ ps ++ bang_pieces s.bang)
-    (option_same weights_pieces bare_list weights_same s.weights)
+sev_same s = ap (λ ps. ps ++ bang_pieces s.bang) (cost_same s.body)
+
+definition_same : (d : SevDef) → definition_pieces (bare_definition d) ≡ definition_pieces d
+unfolding definition_pieces
+definition_same d = ap (λ ps. word_piece words.Sev ++ name_piece d.name ++ ps) (mixture_same d.mix)
 
 share_same : (s : Share) → share_pieces (bare_share s) ≡ share_pieces s
 unfolding share_pieces
@@ -104,9 +122,16 @@ freq_same : (f : FreqAst) → freq_pieces (bare_freq f) ≡ freq_pieces f
 unfolding freq_pieces
 freq_same (Fixed _) = refl
 freq_same (Poisson _) = refl
+freq_same (Geometric _) = refl
 freq_same (Bernoulli _) = refl
 freq_same (Binomial n _) = refl
 freq_same (Gamma n _) = refl
+
+zero_same : (z : ZeroAst) → zero_pieces (bare_zero z) ≡ zero_pieces z
+unfolding zero_pieces
+zero_same Plain = refl
+zero_same (Truncated _) = refl
+zero_same (Modified p _) = refl
 
 exposure_same : (e : Exposure) → exposure_pieces (bare_exposure e) ≡ exposure_pieces e
 unfolding exposure_pieces
@@ -116,14 +141,15 @@ exposure_same (Premium n r _) = refl
 
 count_same : (c : CountAst) → count_pieces (bare_count c) ≡ count_pieces c
 unfolding count_pieces listed_pieces
-count_same (Exposed e f) = exposure_same e
+count_same (Exposed e f z) = exposure_same e
 count_same (Listed l o _) =
     ap (λ ps. word_piece words.Dfreq ++ ps ++ optional list_pieces (option_map bare_list o)) (list_same l)
     ∙ ap (λ ps. word_piece words.Dfreq ++ list_pieces l ++ ps) (option_same list_pieces bare_list list_same o)
 
 late_count_same : (c : CountAst) → late_count_pieces (bare_count c) ≡ late_count_pieces c
 unfolding late_count_pieces
-late_count_same (Exposed e f) = freq_same f
+late_count_same (Exposed e f z) = ap (λ ps. ps ++ zero_pieces (bare_zero z)) (freq_same f)
+    ∙ ap (λ ps. freq_pieces f ++ ps) (zero_same z)
 late_count_same (Listed l o _) = refl
 
 -- equal parts make equal wholes
@@ -142,13 +168,18 @@ unit_same u = nine (word_piece words.Agg) (name_piece u.name) _ _ _ _ _ _ (optio
 
 head_same : (h : PortHead) → head_pieces (bare_head h) ≡ head_pieces h
 unfolding head_pieces
-head_same h = refl
+head_same h = ap (λ ps. word_piece words.Port ++ name_piece h.name ++ ps ++ optional note_piece h.note)
+    (option_same common_pieces bare_numeral (λ n. refl) h.common)
 
 program_same : (p : Program) → program_pieces (bare p) ≡ program_pieces p
 unfolding program_pieces
 program_same p =
-    ap (λ ps. ps ++ flat_map unit_pieces (map bare_unit p.units)) (option_same head_pieces bare_head head_same p.port)
-    ∙ ap (λ ps. optional head_pieces p.port ++ ps) (all_same unit_pieces bare_unit unit_same p.units)
+    ap (λ ps. ps ++ optional head_pieces (option_map bare_head p.port) ++ flat_map unit_pieces (map bare_unit p.units))
+    (all_same definition_pieces bare_definition definition_same p.sevs)
+    ∙ ap (λ ps. flat_map definition_pieces p.sevs ++ ps ++ flat_map unit_pieces (map bare_unit p.units))
+    (option_same head_pieces bare_head head_same p.port)
+    ∙ ap (λ ps. flat_map definition_pieces p.sevs ++ optional head_pieces p.port ++ ps)
+    (all_same unit_pieces bare_unit unit_same p.units)
 
 pub same_text : (p q : Program) → SameProgram p q → canonical p ≡ canonical q
 unfolding canonical

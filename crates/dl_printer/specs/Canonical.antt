@@ -1,6 +1,6 @@
 -- The canonical text of a program: its tokens, and what stands between two neighbours.
 use Rattle.std.specs.Prelude.{ℕ, Bool, true, false, ◌||◌, List, [], ◌∷◌, ◌++◌, codes, Option, Some, None, if◌then◌else◌}
-use Rattle.dl_lexer.specs.declared.token.Keyword.TheVariants.{Agg}
+use Rattle.dl_lexer.specs.declared.token.Keyword.TheVariants.{Agg, Port, Sev}
 use Rattle.dl_lexer.specs.declared.token.Sign.TheVariants.{Open, Close, Colon}
 use Rattle.dl_lexer.specs.declared.token.Kind.{Kind}
 use Rattle.dl_lexer.specs.declared.token.Kind.TheVariants.{Word, Sign}
@@ -19,9 +19,11 @@ is_tight_before (Sign Close) = true
 is_tight_before (Sign Colon) = true
 is_tight_before _ = false
 
--- `agg` begins a line
+-- `agg`, `port` and the `sev` of a definition begin a line; no other `sev` stands in a canonical text
 abbrev pub begins_line : Kind → Bool
 begins_line (Word Agg) = true
+begins_line (Word Port) = true
+begins_line (Word Sev) = true
 begins_line _ = false
 
 -- what stands between two neighbours: nothing, a newline or a blank

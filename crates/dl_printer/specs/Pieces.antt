@@ -1,5 +1,5 @@
 -- The tokens that the canonical text of each node of the syntax is made of.
-use Rattle.std.specs.Prelude.{ℕ, Bool, true, false, List, [], ◌∷◌, ◌++◌, flat_map, Option, Some, None}
+use Rattle.std.specs.Prelude.{ℕ, Bool, true, false, List, [], ◌∷◌, ◌++◌, flat_map, codes, Option, Some, None}
 use Rattle.dl_lexer.specs.declared.token.Keyword.{Keyword}
 use Rattle.dl_lexer.specs.declared.token.Keyword.TheVariants as words
 use Rattle.dl_lexer.specs.declared.token.Sign.{Sign}
@@ -16,7 +16,11 @@ use Rattle.dl_ast.specs.declared.ast.LimitAst.{LimitAst}
 use Rattle.dl_ast.specs.declared.ast.LimitAst.TheVariants.{Finite, Infinite}
 use Rattle.dl_ast.specs.declared.ast.Layer.{Layer}
 use Rattle.dl_ast.specs.declared.ast.Atom.{Atom}
+use Rattle.dl_ast.specs.declared.ast.MixAst.{MixAst}
+use Rattle.dl_ast.specs.declared.ast.SevBody.{SevBody}
+use Rattle.dl_ast.specs.declared.ast.SevBody.TheVariants.{Mixture, Ref}
 use Rattle.dl_ast.specs.declared.ast.SevAst.{SevAst}
+use Rattle.dl_ast.specs.declared.ast.SevDef.{SevDef}
 use Rattle.dl_ast.specs.declared.ast.PortHead.{PortHead}
 use Rattle.dl_ast.specs.declared.ast.CountAst.{CountAst}
 use Rattle.dl_ast.specs.declared.ast.CountAst.TheVariants.{Exposed, Listed}
@@ -26,6 +30,8 @@ use Rattle.dl_ast.specs.declared.ast.CededLayer.{CededLayer}
 use Rattle.dl_ast.specs.declared.ast.Cession.{Cession}
 use Rattle.dl_ast.specs.declared.ast.FreqAst.{FreqAst}
 use Rattle.dl_ast.specs.declared.ast.FreqAst.TheVariants as freqs
+use Rattle.dl_ast.specs.declared.ast.ZeroAst.{ZeroAst}
+use Rattle.dl_ast.specs.declared.ast.ZeroAst.TheVariants.{Plain, Truncated, Modified}
 use Rattle.dl_ast.specs.declared.ast.Exposure.{Exposure}
 use Rattle.dl_ast.specs.declared.ast.Exposure.TheVariants.{Claims, Loss, Premium}
 use Rattle.dl_ast.specs.declared.ast.UnitAst.{UnitAst}
@@ -45,9 +51,12 @@ word_piece k = piece (kinds.Word k) (spelling k)
 abbrev pub sign_piece : Sign → List Piece
 sign_piece s = piece (kinds.Sign s) (sign_byte s ∷ [])
 
--- names, numerals and notes stand as they were written
+-- names, references, numerals and notes stand as they were written
 abbrev pub name_piece : NameAst → List Piece
 name_piece n = piece kinds.Name n.text
+
+abbrev pub ref_piece : NameAst → List Piece
+ref_piece n = piece kinds.Ref (codes "sev." ++ n.text)
 
 abbrev pub numeral_piece : Numeral → List Piece
 numeral_piece n = piece kinds.Numeral n.text
@@ -90,9 +99,19 @@ unfoldable pub bang_pieces : Bool → List Piece
 bang_pieces true = sign_piece signs.Bang
 bang_pieces false = []
 
+unfoldable pub mixture_pieces : MixAst → List Piece
+mixture_pieces m = flat_map atom_pieces m.atoms ++ optional weights_pieces m.weights
+
+unfoldable pub cost_pieces : SevBody → List Piece
+cost_pieces (Mixture m) = mixture_pieces m
+cost_pieces (Ref n) = ref_piece n
+
 unfoldable pub sev_pieces : SevAst → List Piece
-sev_pieces s =
-    flat_map atom_pieces s.atoms ++ optional weights_pieces s.weights ++ bang_pieces s.bang
+sev_pieces s = cost_pieces s.body ++ bang_pieces s.bang
+
+-- `sev A dsev [1:6]`
+unfoldable pub definition_pieces : SevDef → List Piece
+definition_pieces d = word_piece words.Sev ++ name_piece d.name ++ mixture_pieces d.mix
 
 -- `4 xs 2`, `0.5 so 4 xs 2` or `2 po 4 xs 2`
 unfoldable pub share_pieces : Share → List Piece
@@ -121,9 +140,16 @@ clause_pieces kind c = word_piece kind ++ side_pieces c.net ++ ceded_layers_piec
 unfoldable pub freq_pieces : FreqAst → List Piece
 freq_pieces (freqs.Fixed _) = word_piece words.Fixed
 freq_pieces (freqs.Poisson _) = word_piece words.Poisson
+freq_pieces (freqs.Geometric _) = word_piece words.Geometric
 freq_pieces (freqs.Bernoulli _) = word_piece words.Bernoulli
 freq_pieces (freqs.Binomial p _) = word_piece words.Binomial ++ numeral_piece p
 freq_pieces (freqs.Gamma c _) = word_piece words.Mixed ++ word_piece words.Gamma ++ numeral_piece c
+
+-- nothing, `zt` or `zm 0.5`
+unfoldable pub zero_pieces : ZeroAst → List Piece
+zero_pieces Plain = []
+zero_pieces (Truncated _) = word_piece words.Zt
+zero_pieces (Modified p _) = word_piece words.Zm ++ numeral_piece p
 
 -- `claims` also where `claim`, and `premium` where `prem` was written
 unfoldable pub exposure_pieces : Exposure → List Piece
@@ -139,11 +165,11 @@ listed_pieces counts probs =
 
 -- what the claim count puts before the layer, and what behind the occurrence clause
 unfoldable pub count_pieces : CountAst → List Piece
-count_pieces (Exposed e _) = exposure_pieces e
+count_pieces (Exposed e _ _) = exposure_pieces e
 count_pieces (Listed counts probs _) = listed_pieces counts probs
 
 unfoldable pub late_count_pieces : CountAst → List Piece
-late_count_pieces (Exposed _ f) = freq_pieces f
+late_count_pieces (Exposed _ f z) = freq_pieces f ++ zero_pieces z
 late_count_pieces (Listed _ _ _) = []
 
 unfoldable pub unit_pieces : UnitAst → List Piece
@@ -154,8 +180,14 @@ unit_pieces u =
     ++ late_count_pieces u.count ++ optional (clause_pieces words.Aggregate) u.agr
     ++ optional note_piece u.note
 
+abbrev pub common_pieces : Numeral → List Piece
+common_pieces c = word_piece words.Common ++ numeral_piece c
+
 unfoldable pub head_pieces : PortHead → List Piece
-head_pieces h = word_piece words.Port ++ name_piece h.name ++ optional note_piece h.note
+head_pieces h =
+    word_piece words.Port ++ name_piece h.name ++ optional common_pieces h.common
+    ++ optional note_piece h.note
 
 unfoldable pub program_pieces : Program → List Piece
-program_pieces p = optional head_pieces p.port ++ flat_map unit_pieces p.units
+program_pieces p =
+    flat_map definition_pieces p.sevs ++ optional head_pieces p.port ++ flat_map unit_pieces p.units

@@ -20,7 +20,8 @@ pub use law::{law_reads_back, law_reads_nothing_else, law_same_text};
 use std::alloc::{AllocError, Global};
 
 /// The canonical text of a program: `claims`, `premium` and `dsev`, no commas, one blank between
-/// tokens but none inside brackets and round `:`, a line for each unit, and a newline at the end.
+/// tokens but none inside brackets and round `:`, a line for each named severity, for the head of a
+/// portfolio and for each unit, and a newline at the end.
 #[tactic(auto, using(crate::proofs::Growing::with_text), unfolding(crate::specs::Canonical::canonical))]
 pub fn print(alloc: Global, program: &Program) -> Result<Vec<u8>, AllocError>
     requires formed { IsWellFormed program.now }

@@ -4,7 +4,7 @@ ghost use Rattle.std.specs.Prelude.{◌≡◌, [], ◌∷◌, ◌++◌, codes, I
 ghost use Rattle.dl_lexer.specs.declared.token.Sign.{Sign};
 ghost use Rattle.dl_lexer.specs.Tokens.{sign_byte};
 ghost use Rattle.dl_printer.specs.Pieces.{piece, word_piece, sign_piece, name_piece, numeral_piece};
-ghost use Rattle.dl_printer.specs.Pieces.{note_piece};
+ghost use Rattle.dl_printer.specs.Pieces.{note_piece, ref_piece};
 ghost use Rattle.dl_printer.specs.Canonical.{is_tight_behind, is_tight_before, begins_line};
 ghost use Rattle.dl_printer.specs.Canonical.{between};
 ghost use Rattle.dl_printer.specs.Printing.{with_pieces};
@@ -39,7 +39,7 @@ fn begins_line(kind: Kind) -> bool
     ensures { result ≡ begins_line kind }
 {
     match kind {
-        Kind::Word(Keyword::Agg) => true,
+        Kind::Word(Keyword::Agg) | Kind::Word(Keyword::Port) | Kind::Word(Keyword::Sev) => true,
         _ => false,
     }
 }
@@ -107,6 +107,21 @@ impl Printer {
         Ok(())
     }
 
+    /// A token of two parts, with what stands before it.
+    #[tactic(auto, using(crate::proofs::Growing::in_two_parts), unfolding(crate::specs::Canonical::gap, crate::specs::Printing::with_pieces, crate::specs::Pieces::piece,))]
+    fn put_both(&mut self, kind: Kind, front: &[u8], back: &[u8]) -> Result<(), AllocError>
+        ensures { OnOk result (self.new
+            ≡ with_pieces self.old (piece kind (front.now ++ back.now))) }
+    {
+        if let Some(last) = self.last {
+            self.text.extend_from_slice(between(last, kind))?;
+        }
+        self.text.extend_from_slice(front)?;
+        self.text.extend_from_slice(back)?;
+        self.last = Some(kind);
+        Ok(())
+    }
+
     /// A keyword.
     pub(crate) fn word(&mut self, keyword: Keyword) -> Result<(), AllocError>
         ensures { OnOk result (self.new ≡ with_pieces self.old (word_piece keyword)) }
@@ -126,6 +141,13 @@ impl Printer {
         ensures { OnOk result (self.new ≡ with_pieces self.old (name_piece name.now)) }
     {
         self.put(Kind::Name, name.text.as_slice())
+    }
+
+    /// A reference to the severity of this name.
+    pub(crate) fn reference(&mut self, name: &NameAst) -> Result<(), AllocError>
+        ensures { OnOk result (self.new ≡ with_pieces self.old (ref_piece name.now)) }
+    {
+        self.put_both(Kind::Ref, b"sev.", name.text.as_slice())
     }
 
     /// A numeral.

@@ -2,12 +2,13 @@
 
 ghost use Rattle.std.specs.Prelude.{◌≡◌, OnOk};
 ghost use Rattle.dl_printer.specs.Pieces.{freq_pieces, exposure_pieces, listed_pieces};
-ghost use Rattle.dl_printer.specs.Pieces.{count_pieces, late_count_pieces, program_pieces};
+ghost use Rattle.dl_printer.specs.Pieces.{zero_pieces, count_pieces, late_count_pieces};
+ghost use Rattle.dl_printer.specs.Pieces.{optional, common_pieces, program_pieces};
 ghost use Rattle.dl_printer.specs.Printing.{with_pieces};
 
 use crate::parts::Printed;
 use crate::printer::Printer;
-use dl_ast::{CountAst, Exposure, FreqAst, ListAst, PortHead, Program, UnitAst};
+use dl_ast::{CountAst, Exposure, FreqAst, ListAst, Numeral, PortHead, Program, UnitAst, ZeroAst};
 use dl_lexer::{Keyword, Text};
 use std::alloc::AllocError;
 
@@ -20,6 +21,7 @@ impl Printer {
         match freq {
             FreqAst::Fixed(_) => self.word(Keyword::Fixed),
             FreqAst::Poisson(_) => self.word(Keyword::Poisson),
+            FreqAst::Geometric(_) => self.word(Keyword::Geometric),
             FreqAst::Bernoulli(_) => self.word(Keyword::Bernoulli),
             FreqAst::Binomial(probability, _) => {
                 self.word(Keyword::Binomial)?;
@@ -30,6 +32,36 @@ impl Printer {
                 self.word(Keyword::Gamma)?;
                 self.numeral(variation)
             }
+        }
+    }
+
+    /// The change of the probability of no claim.
+    #[tactic(auto, using(crate::proofs::Growing::with_append), unfolding(crate::specs::Pieces::zero_pieces, crate::specs::Printing::with_pieces))]
+    fn zero(&mut self, zero: &ZeroAst) -> Result<(), AllocError>
+        ensures { OnOk result (self.new ≡ with_pieces self.old (zero_pieces zero.now)) }
+    {
+        match zero {
+            ZeroAst::Plain => Ok(()),
+            ZeroAst::Truncated(_) => self.word(Keyword::Zt),
+            ZeroAst::Modified(probability, _) => {
+                self.word(Keyword::Zm)?;
+                self.numeral(probability)
+            }
+        }
+    }
+
+    /// The coefficient of variation of the shared factor, where there is one.
+    #[tactic(auto, using(crate::proofs::Growing::with_append), unfolding(crate::specs::Pieces::optional, crate::specs::Printing::with_pieces))]
+    fn common(&mut self, common: &Option<Numeral>) -> Result<(), AllocError>
+        ensures { OnOk result (self.new ≡ with_pieces self.old
+            (optional common_pieces common.now)) }
+    {
+        match common {
+            Some(variation) => {
+                self.word(Keyword::Common)?;
+                self.numeral(variation)
+            }
+            None => Ok(()),
         }
     }
 
@@ -80,12 +112,15 @@ impl Printer {
     }
 
     /// What the claim count puts behind the occurrence clause.
-    #[tactic(auto, unfolding(crate::specs::Pieces::late_count_pieces, crate::specs::Printing::with_pieces))]
+    #[tactic(auto, using(crate::proofs::Growing::with_append), unfolding(crate::specs::Pieces::late_count_pieces, crate::specs::Printing::with_pieces))]
     fn late_count(&mut self, count: &CountAst) -> Result<(), AllocError>
         ensures { OnOk result (self.new ≡ with_pieces self.old (late_count_pieces count.now)) }
     {
         match count {
-            CountAst::Exposed { freq, .. } => self.freq(freq),
+            CountAst::Exposed { freq, zero, .. } => {
+                self.freq(freq)?;
+                self.zero(zero)
+            }
             CountAst::Listed { .. } => Ok(()),
         }
     }
@@ -95,6 +130,7 @@ impl Printer {
     pub(crate) fn program(&mut self, program: &Program) -> Result<(), AllocError>
         ensures { OnOk result (self.new ≡ with_pieces self.old (program_pieces program.now)) }
     {
+        self.each(program.sevs.as_slice())?;
         self.option(&program.port)?;
         self.each(program.units.as_slice())
     }
@@ -139,6 +175,7 @@ impl Printed for PortHead {
     fn print(&self, printer: &mut Printer) -> Result<(), AllocError> {
         printer.word(Keyword::Port)?;
         printer.name(&self.name)?;
+        printer.common(&self.common)?;
         printer.option(&self.note)
     }
 }

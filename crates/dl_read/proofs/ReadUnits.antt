@@ -1,14 +1,14 @@
 -- What is read of a unit that is readable: small numbers, and lists, severities and clauses of some parts, but not too
 -- many.
 use Rattle.dl_read.proofs.Common.{◌≡◌, ◌∙◌, ◌+◌, ◌<◌, List, [], ◌∷◌, map, flat_map, length, Option, Some, None, true, false, refl, sym, ap, subst, arith, is_some, range_with_len, IfSome, Span, Fraction, whole, steps_in, value_at, ListItem, Atom, IsFormedItem, ItemNumbers, ListNumbers, ◌else◌, at_if, within, first_in, value, bad_place, bad_in_item, bad_in_pair, bad_in_layer, bad_in_share, bad_in_ceded, value_or, item_numbers, pair_numbers, ceded_numbers, bad_item, range_in_list, range_in_count, range_in_severity, long_list, long_pair, IsSmall, IsItemNumbered, IsListRanged, item_values, item_places, read_pair, ltb-false, most_values}
-use Rattle.std.proofs.Common.{nat_lt, length-append}
+use Rattle.std.proofs.Common.{Bool, nat_lt, length-append}
 use Rattle.std.specs.Option.{IsSome}
 use Rattle.std.proofs.lemmas.List.{length-map, length-replicate}
 use Rattle.std.proofs.lemmas.List.Elements.{All-map}
 use Rattle.std.proofs.lemmas.List.FromFn.{length-range_with_len}
 use Rattle.dl_ast.specs.declared.ast.Numeral.{Numeral}
 use Rattle.dl_ast.specs.declared.ast.ListAst.{ListAst}
-use Rattle.dl_ast.specs.declared.ast.SevAst.{SevAst}
+use Rattle.dl_ast.specs.declared.ast.MixAst.{MixAst}
 use Rattle.dl_ast.specs.declared.ast.LimitAst.{LimitAst}
 use Rattle.dl_ast.specs.declared.ast.LimitAst.TheVariants.{Finite, Infinite}
 use Rattle.dl_ast.specs.declared.ast.Layer.{Layer}
@@ -19,21 +19,22 @@ use Rattle.dl_ast.specs.declared.ast.Cession.{Cession}
 use Rattle.dl_ast.specs.declared.ast.Exposure.{Exposure}
 use Rattle.dl_ast.specs.declared.ast.Exposure.TheVariants.{Claims, Loss, Premium}
 use Rattle.dl_ast.specs.declared.ast.FreqAst.{FreqAst}
-use Rattle.dl_ast.specs.declared.ast.FreqAst.TheVariants.{Fixed, Poisson, Bernoulli, Binomial, Gamma}
+use Rattle.dl_ast.specs.declared.ast.FreqAst.TheVariants.{Fixed, Poisson, Geometric, Bernoulli, Binomial, Gamma}
 use Rattle.dl_ast.specs.declared.ast.CountAst.{CountAst}
 use Rattle.dl_ast.specs.declared.ast.CountAst.TheVariants.{Exposed, Listed}
 use Rattle.dl_ast.specs.declared.ast.UnitAst.{UnitAst}
-use Rattle.dl_ast.specs.WellFormed.{IsFormedList, IsFormedSeverity, IsFormedCession, IsFormedCount, IsFormedUnit}
+use Rattle.dl_ast.specs.WellFormed.{IsFormedList, IsFormedMixture, IsFormedCession, IsFormedCount, IsFormedUnit}
 use Rattle.dl_read.specs.declared.numbers.PairNumbers.{PairNumbers}
 use Rattle.dl_read.specs.declared.numbers.UnitNumbers.{UnitNumbers}
 use Rattle.dl_read.specs.declared.tree.ReadUnit.{ReadUnit}
-use Rattle.dl_read.specs.BadNumerals.{bad_in_list, bad_in_severity, bad_in_limit, bad_in_clause, bad_in_exposure, bad_in_count, bad_in_freq, bad_in_distribution}
+use Rattle.dl_read.specs.BadNumerals.{bad_in_list, bad_in_mixture, bad_in_limit, bad_in_clause, bad_in_exposure, bad_in_count, bad_in_freq, bad_in_distribution}
 use Rattle.dl_read.specs.Numbers.{if_there, list_numbers, severity_numbers, limit_number, layer_numbers, share_number, clause_numbers, exposure_numbers, freq_number, count_numbers, distribution_number, numbers_of}
 use Rattle.dl_read.specs.Rules.{bad_numeral, bad_range, list_too_long, range_in_pair, long_count, long_severity, long_clause, long_numbers}
 use Rattle.dl_read.specs.Kept.{IsListRead, IsAtomRead, IsSevRead, IsLayerRead, IsShareRead, IsCededRead, IsClauseRead, IsExposureRead, IsFreqRead, IsCountRead, IsRead}
 use Rattle.dl_read.specs.Ranged.{IsPairRanged, IsSevRanged, IsCountRanged, IsRanged}
 use Rattle.dl_read.specs.Read.{read_list, read_severity, read_count, read_numbers, read_of, IsReadable}
 use Rattle.dl_limits.specs.Limits.{most_atoms, most_layers}
+use Rattle.dl_exact.proofs.Parts.{whole_num, whole_den}
 use Rattle.dl_frac.proofs.SmallNumerals.{numeral_small}
 use Rattle.dl_read.proofs.ItemRanges.{item_ranged, list_modest}
 use Rattle.dl_read.proofs.Firsts.{from_map}
@@ -92,9 +93,9 @@ pair_is values probs first second good ranges = record {
       (else_second (range_in_list (list_numbers values)) _ ranges);
 }
 
-sev_is : (s : SevAst) → IsFormedSeverity s → bad_in_severity s ≡ None → range_in_severity (severity_numbers s) ≡ None
-    → IsSevRanged (severity_numbers s)
-sev_is s formed good ranges =
+sev_is : (s : MixAst) (bang : Bool) → IsFormedMixture s → bad_in_mixture s ≡ None
+    → range_in_severity (severity_numbers s bang) ≡ None → IsSevRanged (severity_numbers s bang)
+sev_is s bang formed good ranges =
     let f : Atom → PairNumbers = λ a. pair_numbers a.values a.probs in
     let bad : Atom → Option Span = λ a. bad_in_pair a.values a.probs in
     let in_atoms = from_map (λ p. range_in_pair p ≡ None) f s.atoms
@@ -109,7 +110,7 @@ sev_is s formed good ranges =
 
 count_is : (k : CountAst) → IsFormedCount k → bad_in_count k ≡ None → range_in_count (count_numbers k) ≡ None
     → IsCountRanged (count_numbers k)
-count_is (Exposed exposure freq) formed good ranges = tt
+count_is (Exposed exposure freq zero) formed good ranges = tt
 count_is (Listed values probs span) formed good ranges = pair_is values probs formed.0 formed.1 good ranges
 
 -- ---- the values of lists
@@ -158,10 +159,10 @@ there : {A B : Type 0} (f : A → B) (o : Option A) → IsSome o → IsSome (if_
 there f None h = absurd (cc)
 there f (Some x) h = refl
 
-sev_read : (s : SevAst) → IsFormedSeverity s → IsSevRanged (severity_numbers s)
-    → long_severity (severity_numbers s) ≡ None
-    → IsSevRead (read_severity (severity_numbers s))
-sev_read s formed ranged short =
+sev_read : (s : MixAst) (bang : Bool) → IsFormedMixture s → IsSevRanged (severity_numbers s bang)
+    → long_severity (severity_numbers s bang) ≡ None
+    → IsSevRead (read_severity (severity_numbers s bang))
+sev_read s bang formed ranged short =
     let f : Atom → PairNumbers = λ a. pair_numbers a.values a.probs in
     let ps : List PairNumbers = map f s.atoms in
     let same = length-map ps read_pair in
@@ -192,6 +193,7 @@ exposure_is (Premium p r span) good = (
 freq_is : (f : FreqAst) → bad_in_freq f ≡ None → IsFreqRead (freq_number f)
 freq_is (Fixed span) good = tt
 freq_is (Poisson span) good = tt
+freq_is (Geometric span) good = record { num = omega (arith, whole_num 1); den = omega (arith, whole_den 1) }
 freq_is (Bernoulli span) good = tt
 freq_is (Binomial n span) good = number_is n good
 freq_is (Gamma n span) good = number_is n good
@@ -199,7 +201,8 @@ freq_is (Gamma n span) good = number_is n good
 count_read : (k : CountAst) → bad_in_count k ≡ None → bad_in_distribution k ≡ None → IsCountRanged (count_numbers k)
     → long_count (count_numbers k) ≡ None
     → IsCountRead (read_count (count_numbers k) (distribution_number k))
-count_read (Exposed exposure freq) good then ranged short = (exposure_is exposure good, freq_is freq then)
+count_read (Exposed exposure freq zero) good then ranged short =
+    (exposure_is exposure good, freq_is freq (else_first (bad_in_freq freq) _ then))
 count_read (Listed values probs span) good then ranged short =
     let pair = pair_read (pair_numbers values probs) ranged short in
     (pair.values, pair.probs)
@@ -244,22 +247,23 @@ own_clause_is (Some c) formed good short =
 
 -- ---- the unit
 
-module _ (u : UnitAst) (formed : IsFormedUnit u) (numerals : bad_numeral u ≡ None) where
-  front : (bad_in_count u.count ≡ None) × (within bad_in_layer u.layer ≡ None) × (bad_in_severity u.sev ≡ None)
+module _ (u : UnitAst) (m : MixAst) (formed : IsFormedUnit u) (mixed : IsFormedMixture m)
+    (numerals : bad_numeral u m ≡ None) where
+  front : (bad_in_count u.count ≡ None) × (within bad_in_layer u.layer ≡ None) × (bad_in_mixture m ≡ None)
   unfolding bad_numeral
   front =
       let a = else_second (bad_in_count u.count) _ numerals in
       let b = else_second (within bad_in_layer u.layer) _ a in (
         else_first (bad_in_count u.count) _ numerals,
         else_first (within bad_in_layer u.layer) _ a,
-        else_first (bad_in_severity u.sev) _ b,
+        else_first (bad_in_mixture m) _ b,
       )
 
   back : (within bad_in_clause u.occ ≡ None) × (bad_in_distribution u.count ≡ None)
       × (within bad_in_clause u.agr ≡ None)
   unfolding bad_numeral
   back =
-      let a = else_second (bad_in_severity u.sev) _
+      let a = else_second (bad_in_mixture m) _
       (else_second (within bad_in_layer u.layer) _ (else_second (bad_in_count u.count) _ numerals)) in
       let b = else_second (within bad_in_clause u.occ) _ a in (
         else_first (within bad_in_clause u.occ) _ a,
@@ -267,66 +271,66 @@ module _ (u : UnitAst) (formed : IsFormedUnit u) (numerals : bad_numeral u ≡ N
         else_second (bad_in_distribution u.count) _ b,
       )
 
-  pub ranged_is : bad_range u ≡ None → IsRanged (numbers_of u)
+  pub ranged_is : bad_range u m ≡ None → IsRanged (numbers_of u m)
   unfolding bad_range numbers_of
   ranged_is ranges = record {
     count = count_is u.count formed.count front.0 (else_first (range_in_count (count_numbers u.count)) _ ranges);
-    sev = sev_is u.sev formed.sev front.2 (else_second (range_in_count (count_numbers u.count)) _ ranges);
+    sev = sev_is m u.sev.bang mixed front.2 (else_second (range_in_count (count_numbers u.count)) _ ranges);
   }
 
-  module _ (ranges : bad_range u ≡ None) (short : list_too_long u ≡ None) where
-    ranged : IsCountRanged (count_numbers u.count) × IsSevRanged (severity_numbers u.sev)
+  module _ (ranges : bad_range u m ≡ None) (short : list_too_long u m ≡ None) where
+    ranged : IsCountRanged (count_numbers u.count) × IsSevRanged (severity_numbers m u.sev.bang)
     unfolding numbers_of
     ranged =
         let r = ranged_is ranges in
         (r.count, r.sev)
 
-    lengths : (long_count (count_numbers u.count) ≡ None) × (long_severity (severity_numbers u.sev) ≡ None)
+    lengths : (long_count (count_numbers u.count) ≡ None) × (long_severity (severity_numbers m u.sev.bang) ≡ None)
         × (within long_clause (if_there clause_numbers u.occ) ≡ None)
         × (within long_clause (if_there clause_numbers u.agr) ≡ None)
     unfolding list_too_long numbers_of
     lengths =
         let a = else_second (long_count (count_numbers u.count)) _ short in
-        let b = else_second (long_severity (severity_numbers u.sev)) _ a in (
+        let b = else_second (long_severity (severity_numbers m u.sev.bang)) _ a in (
           else_first (long_count (count_numbers u.count)) _ short,
-          else_first (long_severity (severity_numbers u.sev)) _ a,
+          else_first (long_severity (severity_numbers m u.sev.bang)) _ a,
           else_first (within long_clause (if_there clause_numbers u.occ)) _ b,
           else_second (within long_clause (if_there clause_numbers u.occ)) _ b,
         )
 
-    read_kept : IsRead (read_of u)
+    read_kept : IsRead (read_of u m)
     unfolding read_of read_numbers numbers_of
     read_kept = record {
       count = count_read u.count front.0 back.1 ranged.0 lengths.0;
       layer = own_layer_is u.layer front.1;
-      sev = sev_read u.sev formed.sev ranged.1 lengths.1;
+      sev = sev_read m u.sev.bang mixed ranged.1 lengths.1;
       occ = own_clause_is u.occ formed.occ back.0 lengths.2;
       agr = own_clause_is u.agr formed.agr back.2 lengths.3;
     }
 
-pub read_is : (u : UnitAst) → IsFormedUnit u → IsReadable u → IsRead (read_of u)
-read_is u formed readable = read_kept u formed readable.numerals readable.ranges readable.short
+pub read_is : (u : UnitAst) (m : MixAst) → IsFormedUnit u → IsFormedMixture m → IsReadable u m → IsRead (read_of u m)
+read_is u m formed mixed readable = read_kept u m formed mixed readable.numerals readable.ranges readable.short
 
 -- ---- from the numbers that were read
 
-module _ (u : UnitAst) (n : UnitNumbers) (same : n ≡ numbers_of u) where
+module _ (u : UnitAst) (m : MixAst) (n : UnitNumbers) (same : n ≡ numbers_of u m) where
   abbrev bad_in_numbers : Option Span
   bad_in_numbers = range_in_count n.count else range_in_severity n.sev
 
-  pub range_place : (r : Option Span) → r ≡ bad_in_numbers → r ≡ bad_range u
+  pub range_place : (r : Option Span) → r ≡ bad_in_numbers → r ≡ bad_range u m
   unfolding bad_range
-  range_place r e = e ∙ ap (λ (m : UnitNumbers). range_in_count m.count else range_in_severity m.sev) same
+  range_place r e = e ∙ ap (λ (k : UnitNumbers). range_in_count k.count else range_in_severity k.sev) same
 
-  pub long_place : (r : Option Span) → r ≡ long_numbers n → r ≡ list_too_long u
+  pub long_place : (r : Option Span) → r ≡ long_numbers n → r ≡ list_too_long u m
   unfolding list_too_long
   long_place r e = e ∙ ap long_numbers same
 
-  module _ (formed : IsFormedUnit u) (good : None ≡ bad_numeral u) (ranges : None ≡ bad_in_numbers) where
+  module _ (formed : IsFormedUnit u) (mixed : IsFormedMixture m) (good : None ≡ bad_numeral u m) (ranges : None ≡ bad_in_numbers) where
     pub numbers_ranged : IsRanged n
-    numbers_ranged = subst IsRanged (sym same) (ranged_is u formed (sym good) (sym (range_place None ranges)))
+    numbers_ranged = subst IsRanged (sym same) (ranged_is u m formed mixed (sym good) (sym (range_place None ranges)))
 
     module _ (read : ReadUnit) (is : read ≡ read_numbers n) (short : None ≡ long_numbers n) where
-      pub whole_read : (read ≡ read_of u) × IsReadable u
+      pub whole_read : (read ≡ read_of u m) × IsReadable u m
       unfolding read_of
       whole_read = (
         is ∙ ap read_numbers same,
@@ -334,4 +338,4 @@ module _ (u : UnitAst) (n : UnitNumbers) (same : n ≡ numbers_of u) where
       )
 
       pub whole_kept : IsRead read
-      whole_kept = subst IsRead (sym whole_read.0) (read_is u formed whole_read.1)
+      whole_kept = subst IsRead (sym whole_read.0) (read_is u m formed mixed whole_read.1)

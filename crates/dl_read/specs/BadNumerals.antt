@@ -5,7 +5,7 @@ use Rattle.dl_frac.specs.Numerals.{numeral_value, is_bad}
 use Rattle.dl_ast.specs.declared.ast.Numeral.{Numeral}
 use Rattle.dl_ast.specs.declared.ast.ListItem.{ListItem}
 use Rattle.dl_ast.specs.declared.ast.ListAst.{ListAst}
-use Rattle.dl_ast.specs.declared.ast.SevAst.{SevAst}
+use Rattle.dl_ast.specs.declared.ast.MixAst.{MixAst}
 use Rattle.dl_ast.specs.declared.ast.LimitAst.{LimitAst}
 use Rattle.dl_ast.specs.declared.ast.LimitAst.TheVariants.{Finite, Infinite}
 use Rattle.dl_ast.specs.declared.ast.Layer.{Layer}
@@ -16,7 +16,9 @@ use Rattle.dl_ast.specs.declared.ast.Cession.{Cession}
 use Rattle.dl_ast.specs.declared.ast.Exposure.{Exposure}
 use Rattle.dl_ast.specs.declared.ast.Exposure.TheVariants.{Claims, Loss, Premium}
 use Rattle.dl_ast.specs.declared.ast.FreqAst.{FreqAst}
-use Rattle.dl_ast.specs.declared.ast.FreqAst.TheVariants.{Fixed, Poisson, Bernoulli, Binomial, Gamma}
+use Rattle.dl_ast.specs.declared.ast.ZeroAst.{ZeroAst}
+use Rattle.dl_ast.specs.declared.ast.ZeroAst.TheVariants.{Plain, Truncated, Modified}
+use Rattle.dl_ast.specs.declared.ast.FreqAst.TheVariants.{Fixed, Poisson, Geometric, Bernoulli, Binomial, Gamma}
 use Rattle.dl_ast.specs.declared.ast.CountAst.{CountAst}
 use Rattle.dl_ast.specs.declared.ast.CountAst.TheVariants.{Exposed, Listed}
 use Rattle.dl_lexer.specs.declared.token.Span.{Span}
@@ -42,9 +44,9 @@ bad_in_list l = first_in bad_in_item l.items
 abbrev pub bad_in_pair : ListAst → Option ListAst → Option Span
 bad_in_pair values probs = bad_in_list values else within bad_in_list probs
 
-abbrev pub bad_in_severity : SevAst → Option Span
-bad_in_severity s = first_in (λ a. bad_in_pair a.values a.probs) s.atoms
-    else within bad_in_list s.weights
+abbrev pub bad_in_mixture : MixAst → Option Span
+bad_in_mixture m = first_in (λ a. bad_in_pair a.values a.probs) m.atoms
+    else within bad_in_list m.weights
 
 abbrev pub bad_in_limit : LimitAst → Option Span
 bad_in_limit (Finite n) = bad_place n
@@ -71,16 +73,22 @@ bad_in_exposure (Premium p r _) = bad_place p else bad_place r
 
 -- what stands before the severity, and what stands behind the occurrence clause
 abbrev pub bad_in_count : CountAst → Option Span
-bad_in_count (Exposed exposure freq) = bad_in_exposure exposure
+bad_in_count (Exposed exposure freq zero) = bad_in_exposure exposure
 bad_in_count (Listed values probs _) = bad_in_pair values probs
 
 abbrev pub bad_in_freq : FreqAst → Option Span
 bad_in_freq (Fixed _) = None
 bad_in_freq (Poisson _) = None
+bad_in_freq (Geometric _) = None
 bad_in_freq (Bernoulli _) = None
 bad_in_freq (Binomial n _) = bad_place n
 bad_in_freq (Gamma n _) = bad_place n
 
+abbrev pub bad_in_zero : ZeroAst → Option Span
+bad_in_zero Plain = None
+bad_in_zero (Truncated _) = None
+bad_in_zero (Modified n _) = bad_place n
+
 abbrev pub bad_in_distribution : CountAst → Option Span
-bad_in_distribution (Exposed exposure freq) = bad_in_freq freq
+bad_in_distribution (Exposed exposure freq zero) = bad_in_freq freq else bad_in_zero zero
 bad_in_distribution (Listed values probs _) = None

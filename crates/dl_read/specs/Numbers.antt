@@ -1,11 +1,11 @@
 -- The numbers of a unit: each numeral is its value.
-use Rattle.std.specs.Prelude.{map, Option, Some, None, is_some}
+use Rattle.std.specs.Prelude.{Bool, map, Option, Some, None, is_some}
 use Rattle.dl_exact.specs.Fraction.{Fraction, whole}
 use Rattle.dl_sev.specs.declared.range.Range.{Range}
 use Rattle.dl_ast.specs.declared.ast.Numeral.{Numeral}
 use Rattle.dl_ast.specs.declared.ast.ListItem.{ListItem}
 use Rattle.dl_ast.specs.declared.ast.ListAst.{ListAst}
-use Rattle.dl_ast.specs.declared.ast.SevAst.{SevAst}
+use Rattle.dl_ast.specs.declared.ast.MixAst.{MixAst}
 use Rattle.dl_ast.specs.declared.ast.LimitAst.{LimitAst}
 use Rattle.dl_ast.specs.declared.ast.LimitAst.TheVariants.{Finite, Infinite}
 use Rattle.dl_ast.specs.declared.ast.Layer.{Layer}
@@ -72,12 +72,13 @@ pair_numbers values probs = record {
       if_there list_numbers probs;
 }
 
-abbrev pub severity_numbers : SevAst → SevNumbers
-severity_numbers s = record {
-  atoms = map (λ a. pair_numbers a.values a.probs) s.atoms;
-  weights = if_there list_numbers s.weights;
-  bang = s.bang;
-  span = s.span;
+-- a mixture, with or without a final `!`
+abbrev pub severity_numbers : MixAst → Bool → SevNumbers
+severity_numbers m bang = record {
+  atoms = map (λ a. pair_numbers a.values a.probs) m.atoms;
+  weights = if_there list_numbers m.weights;
+  bang = bang;
+  span = m.span;
 }
 
 abbrev pub limit_number : LimitAst → Option Fraction
@@ -107,20 +108,22 @@ exposure_numbers (exposures.Claims n span) = Claims (value n) span
 exposure_numbers (exposures.Loss n span) = Loss (value n) span
 exposure_numbers (exposures.Premium p r span) = Premium (value p) (value r) span
 
+-- a geometric count is one mixed by a gamma factor with the coefficient of variation 1
 abbrev pub freq_number : FreqAst → ReadFreq
 freq_number (freqs.Fixed span) = Fixed span
 freq_number (freqs.Poisson span) = Poisson span
+freq_number (freqs.Geometric span) = Gamma (whole 1) span
 freq_number (freqs.Bernoulli span) = Bernoulli span
 freq_number (freqs.Binomial n span) = Binomial (value n) span
 freq_number (freqs.Gamma n span) = Gamma (value n) span
 
 abbrev pub count_numbers : CountAst → CountNumbers
-count_numbers (counts.Exposed exposure freq) = numbers.Exposed (exposure_numbers exposure)
+count_numbers (counts.Exposed exposure freq zero) = numbers.Exposed (exposure_numbers exposure)
 count_numbers (counts.Listed values probs _) = numbers.Listed (pair_numbers values probs)
 
 -- listed counts have no distribution: any stands for it
 abbrev pub distribution_number : CountAst → ReadFreq
-distribution_number (counts.Exposed exposure freq) = freq_number freq
+distribution_number (counts.Exposed exposure freq zero) = freq_number freq
 distribution_number (counts.Listed values probs span) = Fixed span
 
 -- what stands behind the severity
@@ -131,16 +134,17 @@ term_numbers u = record {
   agr = if_there clause_numbers u.agr;
 }
 
-abbrev pub loss_numbers : UnitAst → LossNumbers
-loss_numbers u = record { sev = severity_numbers u.sev; terms = term_numbers u }
+abbrev pub loss_numbers : UnitAst → MixAst → LossNumbers
+loss_numbers u m = record { sev = severity_numbers m u.sev.bang; terms = term_numbers u }
 
-unfoldable pub numbers_of : UnitAst → UnitNumbers
-numbers_of u = record {
+-- the numbers of a unit whose severity is this mixture
+unfoldable pub numbers_of : UnitAst → MixAst → UnitNumbers
+numbers_of u m = record {
   name = u.name.span;
   count = count_numbers u.count;
   freq = distribution_number u.count;
   layer = if_there layer_numbers u.layer;
-  sev = severity_numbers u.sev;
+  sev = severity_numbers m u.sev.bang;
   occ = if_there clause_numbers u.occ;
   agr = if_there clause_numbers u.agr;
 }

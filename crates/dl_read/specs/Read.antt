@@ -4,6 +4,7 @@ use Rattle.std.specs.Prelude.{◌≡◌, ⊤, List, map, flat_map, replicate, le
 use Rattle.dl_exact.specs.Fraction.{Fraction}
 use Rattle.dl_lexer.specs.declared.token.Span.{Span}
 use Rattle.dl_sev.specs.Ranges.{range_values}
+use Rattle.dl_ast.specs.declared.ast.MixAst.{MixAst}
 use Rattle.dl_ast.specs.declared.ast.UnitAst.{UnitAst}
 use Rattle.dl_read.specs.declared.tree.ReadList.{ReadList}
 use Rattle.dl_read.specs.declared.tree.ReadAtom.{ReadAtom}
@@ -70,8 +71,9 @@ read_numbers u = record {
   agr = u.agr;
 }
 
-unfoldable pub read_of : UnitAst → ReadUnit
-read_of u = read_numbers (numbers_of u)
+-- a unit whose severity is this mixture
+unfoldable pub read_of : UnitAst → MixAst → ReadUnit
+read_of u m = read_numbers (numbers_of u m)
 
 -- a part is read, where no part of it breaks a rule; else it stops at the first place where one
 -- does, or for want of memory
@@ -84,17 +86,17 @@ Reads part broken (Ok read) = (read ≡ part) × (None ≡ broken)
 Reads part broken (Err stop) = Stops broken stop
 
 -- no rule on the numerals, the ranges and the lengths of a unit is broken
-pub record IsReadable (u : UnitAst) : Type 0 where
-  pub numerals : bad_numeral u ≡ None
-  pub ranges : bad_range u ≡ None
-  pub short : list_too_long u ≡ None
+pub record IsReadable (u : UnitAst) (m : MixAst) : Type 0 where
+  pub numerals : bad_numeral u m ≡ None
+  pub ranges : bad_range u m ≡ None
+  pub short : list_too_long u m ≡ None
 
 -- a unit is read, where it is readable; else the first place where the first of the three rules is
 -- broken, or want of memory
-abbrev pub ReadsUnit : UnitAst → Result ReadUnit ReadFault → Type 0
-ReadsUnit u (Ok read) = (read ≡ read_of u) × IsReadable u
-ReadsUnit u (Err (BadNumeral place)) = bad_numeral u ≡ Some place
-ReadsUnit u (Err (BadRange place)) = (bad_numeral u ≡ None) × (bad_range u ≡ Some place)
-ReadsUnit u (Err (ListTooLong place)) = (bad_numeral u ≡ None) × (bad_range u ≡ None)
-    × (list_too_long u ≡ Some place)
-ReadsUnit u (Err OutOfMemory) = ⊤
+abbrev pub ReadsUnit : UnitAst → MixAst → Result ReadUnit ReadFault → Type 0
+ReadsUnit u m (Ok read) = (read ≡ read_of u m) × IsReadable u m
+ReadsUnit u m (Err (BadNumeral place)) = bad_numeral u m ≡ Some place
+ReadsUnit u m (Err (BadRange place)) = (bad_numeral u m ≡ None) × (bad_range u m ≡ Some place)
+ReadsUnit u m (Err (ListTooLong place)) = (bad_numeral u m ≡ None) × (bad_range u m ≡ None)
+    × (list_too_long u m ≡ Some place)
+ReadsUnit u m (Err OutOfMemory) = ⊤

@@ -1,10 +1,11 @@
--- The first rules of a unit, on its numerals and its lists: the first place where each is broken,
--- if any. They stand here in the order in which they are asked.
+-- The first rules of a unit whose severity is a mixture, on its numerals and its lists: the first
+-- place where each is broken, if any. They stand here in the order in which they are asked.
 use Rattle.std.specs.Prelude.{◌&&◌, ◌||◌, Bool, nat_lt, flat_map, length, Option, None}
 use Rattle.dl_limits.specs.Limits.{most_range_parts, most_values, most_atoms, most_layers}
 use Rattle.dl_sev.specs.declared.range.Range.{Range}
 use Rattle.dl_sev.specs.Ranges.{range_denominator, range_values}
 use Rattle.dl_lexer.specs.declared.token.Span.{Span}
+use Rattle.dl_ast.specs.declared.ast.MixAst.{MixAst}
 use Rattle.dl_ast.specs.declared.ast.UnitAst.{UnitAst}
 use Rattle.dl_read.specs.declared.tree.ReadClause.{ReadClause}
 use Rattle.dl_read.specs.declared.numbers.ItemNumbers.{ItemNumbers}
@@ -15,16 +16,16 @@ use Rattle.dl_read.specs.declared.numbers.CountNumbers.{CountNumbers}
 use Rattle.dl_read.specs.declared.numbers.CountNumbers.TheVariants as numbers
 use Rattle.dl_read.specs.declared.numbers.UnitNumbers.{UnitNumbers}
 use Rattle.dl_read.specs.First.{◌else◌, at_if, within, first_in}
-use Rattle.dl_read.specs.BadNumerals.{bad_in_count, bad_in_layer, bad_in_severity, bad_in_clause, bad_in_distribution}
+use Rattle.dl_read.specs.BadNumerals.{bad_in_count, bad_in_layer, bad_in_mixture, bad_in_clause, bad_in_distribution}
 use Rattle.dl_read.specs.Numbers.{numbers_of}
 use Rattle.dl_read.specs.Lists.{is_zero, is_above}
 
 -- 2 BadNumeral: a numeral of the unit is bad
-unfoldable pub bad_numeral : UnitAst → Option Span
-bad_numeral u =
+unfoldable pub bad_numeral : UnitAst → MixAst → Option Span
+bad_numeral u m =
     bad_in_count u.count
     else within bad_in_layer u.layer
-    else bad_in_severity u.sev
+    else bad_in_mixture m
     else within bad_in_clause u.occ
     else bad_in_distribution u.count
     else within bad_in_clause u.agr
@@ -51,8 +52,8 @@ range_in_count (numbers.Listed p) = range_in_pair p
 abbrev pub range_in_severity : SevNumbers → Option Span
 range_in_severity s = first_in range_in_pair s.atoms else within range_in_list s.weights
 
-unfoldable pub bad_range : UnitAst → Option Span
-bad_range u = range_in_count (numbers_of u).count else range_in_severity (numbers_of u).sev
+unfoldable pub bad_range : UnitAst → MixAst → Option Span
+bad_range u m = range_in_count (numbers_of u m).count else range_in_severity (numbers_of u m).sev
 
 -- 4 ListTooLong: a list has more than 1,024 values, the severity more than 64 atoms, or a clause
 -- more than 16 layers
@@ -80,5 +81,5 @@ long_numbers u =
     long_count u.count else long_severity u.sev else within long_clause u.occ
     else within long_clause u.agr
 
-unfoldable pub list_too_long : UnitAst → Option Span
-list_too_long u = long_numbers (numbers_of u)
+unfoldable pub list_too_long : UnitAst → MixAst → Option Span
+list_too_long u m = long_numbers (numbers_of u m)

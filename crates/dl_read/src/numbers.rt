@@ -43,7 +43,7 @@ pub(crate) struct SevNumbers {
     pub(crate) weights: Option<ListNumbers>,
     /// Whether a final `!` keeps the severity from being conditioned on exceeding the attachment.
     pub(crate) bang: bool,
-    /// The place of the severity.
+    /// The place of the mixture.
     pub(crate) span: Span,
 }
 

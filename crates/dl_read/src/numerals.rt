@@ -4,9 +4,9 @@
 ghost use Rattle.std.specs.Prelude.{◌≡◌, None, All, IfSome, map};
 ghost use Rattle.dl_exact.specs.Fraction.{whole};
 ghost use Rattle.dl_lexer.specs.Numerals.{IsNumeralToken};
-ghost use Rattle.dl_ast.specs.WellFormed.{IsFormedItem, IsFormedList, IsFormedAtom, IsFormedSeverity, IsFormedLimit, IsFormedLayer, IsFormedShare, IsFormedCeded, IsFormedCession, IsFormedExposure, IsFormedFrequency, IsFormedCount, IsFormedUnit};
+ghost use Rattle.dl_ast.specs.WellFormed.{IsFormedItem, IsFormedList, IsFormedAtom, IsFormedMixture, IsFormedLimit, IsFormedLayer, IsFormedShare, IsFormedCeded, IsFormedCession, IsFormedExposure, IsFormedFrequency, IsFormedZero, IsFormedCount, IsFormedUnit};
 ghost use Rattle.dl_read.specs.First.{◌else◌, within, first_in};
-ghost use Rattle.dl_read.specs.BadNumerals.{value, bad_place, bad_in_item, bad_in_list, bad_in_pair, bad_in_severity, bad_in_limit, bad_in_layer, bad_in_share, bad_in_ceded, bad_in_clause, bad_in_exposure, bad_in_count, bad_in_freq, bad_in_distribution};
+ghost use Rattle.dl_read.specs.BadNumerals.{value, bad_place, bad_in_item, bad_in_list, bad_in_pair, bad_in_mixture, bad_in_limit, bad_in_layer, bad_in_share, bad_in_ceded, bad_in_clause, bad_in_exposure, bad_in_count, bad_in_freq, bad_in_zero, bad_in_distribution};
 ghost use Rattle.dl_read.specs.Numbers.{if_there, value_or, item_numbers, list_numbers, pair_numbers, severity_numbers, limit_number, layer_numbers, share_number, ceded_numbers, clause_numbers, exposure_numbers, freq_number, count_numbers, distribution_number, term_numbers, loss_numbers, numbers_of};
 ghost use Rattle.dl_read.specs.Rules.{bad_numeral};
 ghost use Rattle.dl_read.specs.Read.{Reads};
@@ -19,7 +19,7 @@ use crate::stop::{Stop, push_part};
 use crate::tree::{ReadCeded, ReadClause, ReadExposure, ReadFreq, ReadLayer, ReadShare};
 use dl_ast::{
     Atom, CededLayer, Cession, CountAst, Exposure, FreqAst, Layer, LimitAst, ListAst, ListItem,
-    Numeral, SevAst, Share, UnitAst,
+    MixAst, Numeral, Share, UnitAst, ZeroAst,
 };
 use dl_frac::{Frac, numeral};
 use dl_lexer::both;
@@ -27,15 +27,16 @@ use dl_plan::Items;
 use dl_sev::Range;
 use std::alloc::Global;
 
-/// The numbers of a unit.
+/// The numbers of a unit whose severity is this mixture.
 #[tactic(auto, unfolding(crate::specs::Rules::bad_numeral, crate::specs::Numbers::numbers_of))]
-pub(crate) fn unit_numbers(alloc: Global, unit: &UnitAst) -> Result<UnitNumbers, Stop>
-    requires { IsFormedUnit unit.now }
-    ensures { Reads (numbers_of unit.now) (bad_numeral unit.now) result }
+pub(crate) fn unit_numbers(alloc: Global, unit: &UnitAst, mix: &MixAst) -> Result<UnitNumbers, Stop>
+    requires formed { IsFormedUnit unit.now }
+    requires mixture { IsFormedMixture mix.now }
+    ensures { Reads (numbers_of unit.now mix.now) (bad_numeral unit.now mix.now) result }
 {
     let count = count_numbers(alloc, &unit.count)?;
     let (count, layer) = both(count, own_layer_numbers(&unit.layer))?;
-    let (count, losses) = both(count, loss_numbers(alloc, unit))?;
+    let (count, losses) = both(count, loss_numbers(alloc, unit, mix))?;
     let terms = losses.terms;
     Ok(UnitNumbers {
         name: unit.name.span,
@@ -49,13 +50,14 @@ pub(crate) fn unit_numbers(alloc: Global, unit: &UnitAst) -> Result<UnitNumbers,
 }
 
 /// The numbers of a severity and of what stands behind it.
-fn loss_numbers(alloc: Global, unit: &UnitAst) -> Result<LossNumbers, Stop>
-    requires { IsFormedUnit unit.now }
-    ensures { Reads (loss_numbers unit.now) (bad_in_severity unit.now.sev
+fn loss_numbers(alloc: Global, unit: &UnitAst, mix: &MixAst) -> Result<LossNumbers, Stop>
+    requires formed { IsFormedUnit unit.now }
+    requires mixture { IsFormedMixture mix.now }
+    ensures { Reads (loss_numbers unit.now mix.now) (bad_in_mixture mix.now
         else within bad_in_clause unit.now.occ else bad_in_distribution unit.now.count
         else within bad_in_clause unit.now.agr) result }
 {
-    let sev = severity_numbers(alloc, &unit.sev)?;
+    let sev = severity_numbers(alloc, mix, unit.sev.bang)?;
     let (sev, terms) = both(sev, term_numbers(alloc, unit))?;
     Ok(LossNumbers { sev, terms })
 }
@@ -93,23 +95,41 @@ fn distribution_number(count: &CountAst) -> Result<ReadFreq, Stop>
     ensures { Reads (distribution_number count.now) (bad_in_distribution count.now) result }
 {
     match count {
-        CountAst::Exposed { freq, .. } => freq_number(freq),
+        CountAst::Exposed { freq, zero, .. } => {
+            let freq = freq_number(freq)?;
+            good_zero(zero)?;
+            Ok(freq)
+        }
         CountAst::Listed { span, .. } => Ok(ReadFreq::Fixed(*span)),
     }
 }
 
-/// The numbers of a severity.
-fn severity_numbers(alloc: Global, sev: &SevAst) -> Result<SevNumbers, Stop>
-    requires { IsFormedSeverity sev.now }
-    ensures { Reads (severity_numbers sev.now) (bad_in_severity sev.now) result }
+/// Stops at the numeral of a changed probability of no claim, where it is bad.
+fn good_zero(zero: &ZeroAst) -> Result<(), Stop>
+    requires { IsFormedZero zero.now }
+    ensures { Reads tt (bad_in_zero zero.now) result }
 {
-    let atoms = atom_numbers(alloc, sev.atoms.as_slice())?;
-    let (atoms, weights) = both(atoms, second_numbers(alloc, &sev.weights))?;
+    match zero {
+        ZeroAst::Plain | ZeroAst::Truncated(_) => Ok(()),
+        ZeroAst::Modified(numeral, _) => {
+            number(numeral)?;
+            Ok(())
+        }
+    }
+}
+
+/// The numbers of a severity: a mixture, with or without a final `!`.
+fn severity_numbers(alloc: Global, mix: &MixAst, bang: bool) -> Result<SevNumbers, Stop>
+    requires { IsFormedMixture mix.now }
+    ensures { Reads (severity_numbers mix.now bang) (bad_in_mixture mix.now) result }
+{
+    let atoms = atom_numbers(alloc, mix.atoms.as_slice())?;
+    let (atoms, weights) = both(atoms, second_numbers(alloc, &mix.weights))?;
     Ok(SevNumbers {
         atoms,
         weights,
-        bang: sev.bang,
-        span: sev.span,
+        bang,
+        span: mix.span,
     })
 }
 
@@ -330,6 +350,7 @@ fn freq_number(freq: &FreqAst) -> Result<ReadFreq, Stop>
     match freq {
         FreqAst::Fixed(span) => Ok(ReadFreq::Fixed(*span)),
         FreqAst::Poisson(span) => Ok(ReadFreq::Poisson(*span)),
+        FreqAst::Geometric(span) => Ok(ReadFreq::Gamma(Frac::whole(1), *span)),
         FreqAst::Bernoulli(span) => Ok(ReadFreq::Bernoulli(*span)),
         FreqAst::Binomial(numeral, span) => Ok(ReadFreq::Binomial(number(numeral)?, *span)),
         FreqAst::Gamma(numeral, span) => Ok(ReadFreq::Gamma(number(numeral)?, *span)),

@@ -2,7 +2,7 @@
 
 ghost use Rattle.std.specs.Prelude.{◌≡◌, ◌≤◌, ◌++◌, ◌<◌, None, All, IfOk, IfErr, IfSome, map, replicate, length};
 ghost use Rattle.dl_limits.specs.Limits.{most_values};
-ghost use Rattle.dl_ast.specs.WellFormed.{IsFormedUnit};
+ghost use Rattle.dl_ast.specs.WellFormed.{IsFormedMixture, IsFormedUnit};
 ghost use Rattle.dl_sev.specs.Ranges.{IsRange, PassesRoom};
 ghost use Rattle.dl_read.specs.First.{◌else◌, within, first_in};
 ghost use Rattle.dl_read.specs.Numbers.{if_there};
@@ -21,7 +21,7 @@ use crate::stop::{Stop, push_part};
 use crate::tree::{
     ReadAtom, ReadClause, ReadCount, ReadFreq, ReadList, ReadLists, ReadSev, ReadUnit,
 };
-use dl_ast::UnitAst;
+use dl_ast::{MixAst, UnitAst};
 use dl_frac::Frac;
 use dl_lexer::{Span, both};
 use dl_limits::{MOST_ATOMS, MOST_LAYERS, MOST_VALUES};
@@ -29,14 +29,15 @@ use dl_plan::Items;
 use dl_sev::{ExpandFault, expand};
 use std::alloc::{AllocError, Global};
 
-/// What a unit writes; or the first place of a bad numeral, else of a bad range, else of a list, a
-/// severity or a clause that is too long.
-pub fn read_unit(alloc: Global, unit: &UnitAst) -> Result<ReadUnit, ReadFault>
-    requires { IsFormedUnit unit.now }
-    ensures answer { ReadsUnit unit.now result }
+/// What a unit writes whose severity is this mixture; or the first place of a bad numeral, else of
+/// a bad range, else of a list, a mixture or a clause that is too long.
+pub fn read_unit(alloc: Global, unit: &UnitAst, mix: &MixAst) -> Result<ReadUnit, ReadFault>
+    requires formed { IsFormedUnit unit.now }
+    requires mixture { IsFormedMixture mix.now }
+    ensures answer { ReadsUnit unit.now mix.now result }
     ensures read { IfOk result IsRead }
 {
-    let numbers = match unit_numbers(alloc, unit) {
+    let numbers = match unit_numbers(alloc, unit, mix) {
         Ok(numbers) => numbers,
         Err(Stop::At(place)) => return Err(ReadFault::BadNumeral(place)),
         Err(Stop::OutOfMemory) => return Err(ReadFault::OutOfMemory),

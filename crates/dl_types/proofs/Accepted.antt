@@ -3,9 +3,15 @@ use Rattle.dl_types.proofs.Common.{ℕ, zero, suc, ◌≡◌, ◌∙◌, ◌<◌
 use Rattle.std.proofs.Common.{add-one}
 use Rattle.dl_plan.specs.declared.plan.Unit.{Unit as UnitOfPlan}
 use Rattle.dl_plan.specs.Valid.{IsValid}
-use Rattle.dl_ast.specs.WellFormed.{IsFormedUnit}
+use Rattle.dl_ast.specs.WellFormed.{IsFormedUnit, IsFormedMixture, IsFormedDefinition}
 use Rattle.dl_types.specs.declared.rule.Rule.TheVariants as rules
-use Rattle.dl_types.specs.Faults.{fault_of_reading, fault_of_money}
+use Rattle.dl_types.specs.Faults.{fault_of_reading, fault_of_money, fault_of_mixture, fault_of_severity}
+unfoldable use Rattle.dl_types.specs.Faults.{fault_with}
+use Rattle.dl_types.specs.Answer.{AnswersWith}
+use Rattle.dl_types.specs.Severities.{mixture_of}
+use Rattle.dl_ast.specs.declared.ast.MixAst.{MixAst}
+use Rattle.dl_ast.specs.declared.ast.SevDef.{SevDef}
+use Rattle.std.proofs.Common.{Option, Some, IfSome}
 use Rattle.dl_types.specs.Plans.{IsPlanOf}
 use Rattle.dl_amounts.specs.Grid.{grid_of}
 use Rattle.dl_amounts.specs.Rules.{lengths_differ, not_one}
@@ -19,40 +25,40 @@ use Rattle.dl_amounts.proofs.SevThere.{final_there}
 use Rattle.dl_types.proofs.Aggregates.{clause_there}
 use Rattle.dl_types.proofs.PlannedCounts.{count_there}
 use Rattle.dl_types.proofs.UnitFacts.{only, both, layered_is, fine_agr, fine_sev, kept_is, grid_parts, grid_answer}
-use Rattle.dl_types.proofs.ProgramUnits.{Planned, planned_more, planned_all, few_units, plan_of_units}
+use Rattle.dl_types.proofs.ProgramUnits.{Planned, planned_more, planned_all, few_units, plan_of_units, formed_mixture, answer_with}
 
 -- ---- a unit
 
-module _ (settings : Settings) (before : List UnitAst) (u : UnitAst) (formed : IsFormedUnit u)
-    (none : first_fault_of settings before u ≡ None) where
+module _ (settings : Settings) (before : List UnitAst) (u : UnitAst) (m : MixAst) (formed : IsFormedUnit u)
+    (mixed : IsFormedMixture m) (none : fault_with settings before u m ≡ None) where
   abbrev unit : ℕ
   unit = length before
 
   abbrev r : ReadUnit
-  r = read_of u
+  r = read_of u m
 
   abbrev g : GridUnit
   g = grid_of settings.bs r
 
-  groups : (fault_of_lists before u ≡ None) × (fault_of_money settings.bs unit r ≡ None)
+  groups : (fault_of_lists before u m ≡ None) × (fault_of_money settings.bs unit r ≡ None)
       × (fault_on_grid settings unit g ≡ None)
-  unfolding first_fault_of
+  unfolding fault_with
   groups =
-      let rest = else_second (fault_of_lists before u) _ none in (
-        else_first (fault_of_lists before u) _ none,
+      let rest = else_second (fault_of_lists before u m) _ none in (
+        else_first (fault_of_lists before u m) _ none,
         else_first (fault_of_money settings.bs unit r) _ rest,
         else_second (fault_of_money settings.bs unit r) _ rest,
       )
 
-  lists : (fault_of_reading unit u ≡ None) × (lengths_differ r ≡ None) × (not_one r ≡ None)
+  lists : (fault_of_reading unit u m ≡ None) × (lengths_differ r ≡ None) × (not_one r ≡ None)
   unfolding fault_of_lists
   lists =
       let a = both unit rules.DuplicateName _ _ groups.0 in
-      let later = else_second (fault_of_reading unit u) _ a.1 in
+      let later = else_second (fault_of_reading unit u m) _ a.1 in
       let e = both unit rules.LengthsDiffer _ _ later in
-      (else_first (fault_of_reading unit u) _ a.1, e.0, only unit rules.NotOne _ e.1)
+      (else_first (fault_of_reading unit u m) _ a.1, e.0, only unit rules.NotOne _ e.1)
 
-  readable : IsReadable u
+  readable : IsReadable u m
   unfolding fault_of_reading
   readable =
       let b = both unit rules.BadNumeral _ _ lists.0 in
@@ -63,10 +69,10 @@ module _ (settings : Settings) (before : List UnitAst) (u : UnitAst) (formed : I
   unfolding fault_of_money
   grid =
       let a = both unit rules.OffGrid _ _ groups.1 in
-      grid_is settings.bs r (read_is u formed readable) lists.1 lists.2 a.0 (only unit rules.TooFar _ a.1)
+      grid_is settings.bs r (read_is u m formed mixed readable) lists.1 lists.2 a.0 (only unit rules.TooFar _ a.1)
 
-  pub unit_there : (made : UnitOfPlan) × AnswersUnit settings before u (Ok made)
-  unit_there =
+  there_with : (made : UnitOfPlan) × AnswersWith settings before u m (Ok made)
+  there_with =
       let parts = grid_parts settings unit g groups.2 in
       let layered = layered_is unit g grid parts.0 in
       let sev = final_there g (fine_sev settings.bs unit g grid parts.1 layered.0 layered.1) in
@@ -83,6 +89,22 @@ module _ (settings : Settings) (before : List UnitAst) (u : UnitAst) (formed : I
       (record { means = sev.1; near = sev.2; few = sev.3 }) freq.1 clause in
       (made, (none, answer.1, answer.2))
 
+unit_with : (settings : Settings) (sevs : List SevDef) (before : List UnitAst) (u : UnitAst) (o : Option MixAst)
+    → mixture_of sevs u.sev.body ≡ o → IsFormedUnit u → IfSome o IsFormedMixture
+    → fault_of_mixture settings before u o ≡ None → (made : UnitOfPlan) × AnswersUnit settings sevs before u (Ok made)
+unit_with settings sevs before u None e formed mixed none = absurd cc
+unit_with settings sevs before u (Some m) e formed mixed none =
+    let made = there_with settings before u m formed mixed none in
+    (made.0, answer_with settings sevs before u m (Ok made.0) e made.1)
+
+unit_there : (settings : Settings) (sevs : List SevDef) (before : List UnitAst) (u : UnitAst)
+    → All IsFormedDefinition sevs → IsFormedUnit u → first_fault_of settings sevs before u ≡ None
+    → (made : UnitOfPlan) × AnswersUnit settings sevs before u (Ok made)
+unfolding first_fault_of
+unit_there settings sevs before u defined formed none =
+    unit_with settings sevs before u (mixture_of sevs u.sev.body) refl formed
+    (formed_mixture sevs u.sev.body defined formed.sev) none
+
 -- ---- the units in turn
 
 element : {A : Type 0} (xs : List A) (i : ℕ) → i < length xs → (x : A) × (x ≡ get_or xs i x)
@@ -90,13 +112,14 @@ element [] i h = absurd (omega (arith, h))
 element (x ∷ xs) zero h = (x, refl)
 element (x ∷ xs) (suc i) h = element xs i (omega (arith, h))
 
-module _ (settings : Settings) (units : List UnitAst) (formed : All IsFormedUnit units)
-    (none : in_turn (first_fault_of settings) [] units ≡ None) where
-  up_to : (i : ℕ) → i ≤ length units → (made : List UnitOfPlan) × Planned settings units i made
+module _ (settings : Settings) (sevs : List SevDef) (units : List UnitAst) (defined : All IsFormedDefinition sevs)
+    (formed : All IsFormedUnit units)
+    (none : in_turn (first_fault_of settings sevs) [] units ≡ None) where
+  up_to : (i : ℕ) → i ≤ length units → (made : List UnitOfPlan) × Planned settings sevs units i made
   up_to zero h = (
     [],
     record {
-      turned = turn_start (first_fault_of settings) units;
+      turned = turn_start (first_fault_of settings sevs) units;
       meant = tt;
       valid = All-nil (IsValidUnit (cells_asked settings));
       apart = λ i j d p q. absurd (omega (arith, q));
@@ -106,18 +129,18 @@ module _ (settings : Settings) (units : List UnitAst) (formed : All IsFormedUnit
       let lt : i < length units = omega (arith, h) in
       let before = up_to i (omega (arith, h)) in
       let x = element units i lt in
-      let keeps = ap (first_fault_of settings (take i units)) x.1
-      ∙ turn_none (first_fault_of settings) [] units none i x.0 lt in
-      let made = unit_there settings (take i units) x.0 (subst IsFormedUnit (sym x.1) (formed i x.0 lt)) keeps in (
+      let keeps = ap (first_fault_of settings sevs (take i units)) x.1
+      ∙ turn_none (first_fault_of settings sevs) [] units none i x.0 lt in
+      let made = unit_there settings sevs (take i units) x.0 defined (subst IsFormedUnit (sym x.1) (formed i x.0 lt)) keeps in (
         before.0 ++ made.0 ∷ [],
-        subst (λ n. Planned settings units n (before.0 ++ made.0 ∷ [])) (add-one i)
-            (planned_more settings units i x.0 before.0 made.0 before.1 lt x.1 made.1),
+        subst (λ n. Planned settings sevs units n (before.0 ++ made.0 ∷ [])) (add-one i)
+            (planned_more settings sevs units i x.0 before.0 made.0 before.1 lt x.1 made.1),
       )
 
-  pub units_there : (made : List UnitOfPlan) × AnswersUnits settings units (Ok made)
+  pub units_there : (made : List UnitOfPlan) × AnswersUnits settings sevs units (Ok made)
   units_there =
       let all = up_to (length units) (omega arith) in
-      (all.0, planned_all settings units (length units) all.0 all.1 (omega arith))
+      (all.0, planned_all settings sevs units (length units) all.0 all.1 (omega arith))
 
 -- ---- the program
 
@@ -127,8 +150,12 @@ pub accepted : (program : Program) (settings : Settings) → IsWellFormed progra
 unfolding first_fault
 accepted program settings formed set none =
     let many = both most_units rules.TooManyUnits (too_many_units program.units) _ none in
-    let units = units_there settings program.units formed.units many.1 in
+    let names = else_first (in_turn fault_of_severity [] program.sevs) _ many.1 in
+    let later = else_second (in_turn fault_of_severity [] program.sevs) _ many.1 in
+    let each = else_first (in_turn (first_fault_of settings program.sevs) [] program.units) _ later in
+    let yet = else_second (in_turn (first_fault_of settings program.sevs) [] program.units) _ later in
+    let units = units_there settings program.sevs program.units formed.sevs formed.units each in
     let plan : Plan = record { bs = settings.bs; cells = cells_asked settings; units = units.0; common = None } in
     let answer = plan_of_units program settings plan refl refl refl set formed
-    (few_units program.units many.0) many.0 units.1 in
+    (few_units program.units many.0) many.0 names units.1 yet in
     (plan, answer.1, answer.2)

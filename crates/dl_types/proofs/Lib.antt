@@ -1,5 +1,7 @@
 mod Common
 mod Naming
+mod SeverityNames
+mod LaterFaults
 pub mod ClauseFacts
 pub mod ListedCounts
 pub mod Ratios

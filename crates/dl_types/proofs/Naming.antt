@@ -1,5 +1,5 @@
 -- A name among those of earlier units.
-use Rattle.dl_types.proofs.Common.{◌≡◌, ℕ, ◌+◌, List, [], ◌∷◌, ◌++◌, length, if◌then◌else◌, map, Bool, true, false, not, None, Some, refl, sym, ap, ◌∙◌, arith, Span, at_if, list_any, UnitAst, names_of}
+use Rattle.dl_types.proofs.Common.{◌≡◌, ℕ, ◌+◌, List, [], ◌∷◌, ◌++◌, length, if◌then◌else◌, map, Bool, true, false, not, None, Some, refl, sym, ap, ◌∙◌, arith, Span, at_if, list_any}
 use Rattle.std.proofs.Common.{Bor}
 use Rattle.std.proofs.lemmas.List.{length-append}
 use Rattle.std.specs.Prelude.{◌||◌}
@@ -9,13 +9,12 @@ any_of : {A B : Type 0} (p : B → Bool) (f : A → B) (xs : List A) → list_an
 any_of p f [] = refl
 any_of p f (x ∷ xs) = ap (λ b. p (f x) || b) (any_of p f xs)
 
--- whether one of the names that were taken up passes a test is whether that of one of the units does
-pub any_named : (p : List ℕ → Bool) (keys : List (Bor (List ℕ))) (before : List UnitAst)
-    → map (λ (k : Bor (List ℕ)). k.now) keys ≡ names_of before
-    → list_any (λ (k : Bor (List ℕ)). p k.now) keys ≡ list_any (λ (v : UnitAst). p v.name.text) before
-any_named p keys before same =
-    sym (any_of p (λ (k : Bor (List ℕ)). k.now) keys) ∙ ap (list_any p) same
-    ∙ any_of p (λ (v : UnitAst). v.name.text) before
+-- whether one of the names that were taken up passes a test is whether that of one of the parts does
+pub any_named : {A : Type 0} (f : A → List ℕ) (p : List ℕ → Bool) (keys : List (Bor (List ℕ))) (before : List A)
+    → map (λ (k : Bor (List ℕ)). k.now) keys ≡ map f before
+    → list_any (λ (k : Bor (List ℕ)). p k.now) keys ≡ list_any (λ v. p (f v)) before
+any_named f p keys before same =
+    sym (any_of p (λ (k : Bor (List ℕ)). k.now) keys) ∙ ap (list_any p) same ∙ any_of p f before
 
 -- a place where the name is not new, and none where it is
 pub new_name : (place : Span) (is_new here there : Bool) → is_new ≡ not here → is_new ≡ true → here ≡ there

@@ -1,5 +1,5 @@
 -- The units of a plan, one after another.
-use Rattle.dl_types.proofs.Common.{◌≡◌, ◌∙◌, ℕ, zero, suc, ◌+◌, ◌<◌, ◌≤◌, List, [], ◌∷◌, ◌++◌, take, length, get_or, Option, Some, None, refl, sym, ap, subst, arith, bytes_eq, All, Ok, Err, CheckFault, Typing, OutOfMemory, AnswersUnit, AnswersUnits, All-nil, All-cons, All-head, All-tail, most_units, Fraction, whole, ◌<ℚ◌, Settings, IsValidUnit, UnitAst, ◌else◌, in_turn, Span, names_of, cells_asked, fault_of_lists, first_fault_of, first_fault, breaks, duplicate_name, too_many_units, IsSet, Program, IsWellFormed, Plan, else_first, not_at, never}
+use Rattle.dl_types.proofs.Common.{Bool, true, false, if◌then◌else◌, IfSome, ◌≡◌, ◌∙◌, ℕ, zero, suc, ◌+◌, ◌<◌, ◌≤◌, List, [], ◌∷◌, ◌++◌, take, length, get_or, Option, Some, None, refl, sym, ap, subst, arith, bytes_eq, All, Ok, Err, CheckFault, Typing, OutOfMemory, AnswersUnit, AnswersUnits, All-nil, All-cons, All-head, All-tail, most_units, Fraction, whole, ◌<ℚ◌, Settings, IsValidUnit, UnitAst, ◌else◌, in_turn, Span, names_of, cells_asked, fault_of_lists, first_fault_of, first_fault, breaks, duplicate_name, too_many_units, IsSet, Program, IsWellFormed, Plan, else_first, not_at, never}
 use Rattle.std.proofs.lemmas.Bool.{both_ways}
 use Rattle.std.proofs.Common.{◌≢◌}
 use Rattle.std.specs.List.{AllZip, AllPairs}
@@ -15,27 +15,39 @@ use Rattle.dl_plan.specs.declared.plan.Unit.{Unit as UnitOfPlan}
 use Rattle.dl_types.specs.declared.rule.Rule.TheVariants as rules
 use Rattle.dl_types.specs.Plans.{IsUnitOf}
 use Rattle.dl_types.specs.Rules.{seventeenth}
+unfoldable use Rattle.dl_types.specs.Faults.{fault_with, not_yet}
+use Rattle.dl_types.specs.Faults.{fault_of_mixture, fault_of_severity}
+use Rattle.dl_types.specs.Answer.{StopsAt, AnswersWith}
+unfoldable use Rattle.dl_types.specs.Severities.{named, mixture_of}
+use Rattle.dl_types.specs.Severities.{body_span}
+use Rattle.dl_types.specs.declared.fault.TypeFault.{TypeFault}
+use Rattle.dl_ast.specs.declared.ast.MixAst.{MixAst}
+use Rattle.dl_ast.specs.declared.ast.SevBody.{SevBody}
+use Rattle.dl_ast.specs.declared.ast.SevBody.TheVariants.{Mixture, Ref}
+use Rattle.dl_ast.specs.declared.ast.SevDef.{SevDef}
+use Rattle.dl_ast.specs.WellFormed.{IsFormedMixture, IsFormedBody, IsFormedDefinition}
+use Rattle.std.specs.Prelude.{Result}
 
 -- the first i units break no rule, and have these units in the plan
-pub record Planned (settings : Settings) (units : List UnitAst) (i : ℕ) (made : List UnitOfPlan) : Type 0 where
-  pub turned : NoneTurned (first_fault_of settings) units i
-  pub meant : AllZip (IsUnitOf settings.bs) (take i units) made
+pub record Planned (settings : Settings) (sevs : List SevDef) (units : List UnitAst) (i : ℕ) (made : List UnitOfPlan) : Type 0 where
+  pub turned : NoneTurned (first_fault_of settings sevs) units i
+  pub meant : AllZip (IsUnitOf settings.bs sevs) (take i units) made
   pub valid : All (IsValidUnit (cells_asked settings)) made
   pub apart : AllPairs (λ u v. u.name ≢ v.name) made
 
 -- ---- one more
 
 -- a name that is not among those of the text is not among those of the plan
-new_name : (bs : Fraction) (text : List ℕ) (us : List UnitAst) (ms : List UnitOfPlan) → AllZip (IsUnitOf bs) us ms
+new_name : (bs : Fraction) (sevs : List SevDef) (text : List ℕ) (us : List UnitAst) (ms : List UnitOfPlan) → AllZip (IsUnitOf bs sevs) us ms
     → All (λ (v : UnitAst). v.name.text ≢ text) us
     → All (λ (m : UnitOfPlan). m.name ≢ text) ms
-new_name bs text [] [] h all = All-nil (λ (m : UnitOfPlan). m.name ≢ text)
-new_name bs text [] (m ∷ ms) h all = absurd h
-new_name bs text (u ∷ us) [] h all = absurd h
-new_name bs text (u ∷ us) (m ∷ ms) h all =
+new_name bs sevs text [] [] h all = All-nil (λ (m : UnitOfPlan). m.name ≢ text)
+new_name bs sevs text [] (m ∷ ms) h all = absurd h
+new_name bs sevs text (u ∷ us) [] h all = absurd h
+new_name bs sevs text (u ∷ us) (m ∷ ms) h all =
     All-cons (λ (n : UnitOfPlan). n.name ≢ text) m ms
-    (λ e. All-head (λ (v : UnitAst). v.name.text ≢ text) u us all (sym h.0.name ∙ e))
-    (new_name bs text us ms h.1 (All-tail (λ (v : UnitAst). v.name.text ≢ text) u us all))
+    (λ e. All-head (λ (v : UnitAst). v.name.text ≢ text) u us all (sym h.0.unit.name ∙ e))
+    (new_name bs sevs text us ms h.1 (All-tail (λ (v : UnitAst). v.name.text ≢ text) u us all))
 
 none_broken : (unit : ℕ) (place : Option Span) → breaks unit rules.DuplicateName place ≡ None → place ≡ None
 none_broken unit None e = refl
@@ -49,45 +61,51 @@ other_names before u e k d h same =
     let never_found = never (λ (v : UnitAst). bytes_eq u.name.text v.name.text) before (not_at _ u.name.span e) k d h in
     both_ways _ never_found found
 
-no_duplicate : (settings : Settings) (before : List UnitAst) (u : UnitAst) → first_fault_of settings before u ≡ None
-    → duplicate_name before u ≡ None
-unfolding first_fault_of fault_of_lists
-no_duplicate settings before u e =
+no_duplicate_with : (settings : Settings) (before : List UnitAst) (u : UnitAst) (o : Option MixAst)
+    → fault_of_mixture settings before u o ≡ None → duplicate_name before u ≡ None
+unfolding fault_with fault_of_lists
+no_duplicate_with settings before u None e = absurd cc
+no_duplicate_with settings before u (Some m) e =
     none_broken (length before) (duplicate_name before u)
     (else_first (breaks (length before) rules.DuplicateName (duplicate_name before u)) _
-    (else_first (fault_of_lists before u) _ e))
+    (else_first (fault_of_lists before u m) _ e))
 
-module _ (settings : Settings) (units : List UnitAst) (i : ℕ) (u : UnitAst) (made : List UnitOfPlan) where
-  pub planned_more : (m : UnitOfPlan) → Planned settings units i made → i < length units → u ≡ get_or units i u
-      → (first_fault_of settings (take i units) u ≡ None) × IsUnitOf settings.bs u m
-      × IsValidUnit (cells_asked settings) m → Planned settings units (i + 1) (made ++ m ∷ [])
+no_duplicate : (settings : Settings) (sevs : List SevDef) (before : List UnitAst) (u : UnitAst)
+    → first_fault_of settings sevs before u ≡ None → duplicate_name before u ≡ None
+unfolding first_fault_of
+no_duplicate settings sevs before u e = no_duplicate_with settings before u (mixture_of sevs u.sev.body) e
+
+module _ (settings : Settings) (sevs : List SevDef) (units : List UnitAst) (i : ℕ) (u : UnitAst) (made : List UnitOfPlan) where
+  pub planned_more : (m : UnitOfPlan) → Planned settings sevs units i made → i < length units → u ≡ get_or units i u
+      → (first_fault_of settings sevs (take i units) u ≡ None) × IsUnitOf settings.bs sevs u m
+      × IsValidUnit (cells_asked settings) m → Planned settings sevs units (i + 1) (made ++ m ∷ [])
   planned_more m before lt is told =
       let one_more : take (i + 1) units ≡ take i units ++ u ∷ [] = take_more units i u lt
       ∙ ap (λ (v : UnitAst). take i units ++ v ∷ []) (sym is) in
-      let others = new_name settings.bs u.name.text (take i units) made before.meant
-      (other_names (take i units) u (no_duplicate settings (take i units) u told.0)) in
+      let others = new_name settings.bs sevs u.name.text (take i units) made before.meant
+      (other_names (take i units) u (no_duplicate settings sevs (take i units) u told.0)) in
       record {
-        turned = turn_passed (first_fault_of settings) units i u before.turned lt is (sym told.0);
-        meant = subst (λ us. AllZip (IsUnitOf settings.bs) us (made ++ m ∷ [])) (sym one_more)
-            (all_zipped_more (IsUnitOf settings.bs) (take i units) made u m before.meant told.1);
+        turned = turn_passed (first_fault_of settings sevs) units i u before.turned lt is (sym told.0);
+        meant = subst (λ us. AllZip (IsUnitOf settings.bs sevs) us (made ++ m ∷ [])) (sym one_more)
+            (all_zipped_more (IsUnitOf settings.bs sevs) (take i units) made u m before.meant told.1);
         valid = All-append (IsValidUnit (cells_asked settings)) made (m ∷ []) before.valid
             (All-cons (IsValidUnit (cells_asked settings)) m [] told.2 (All-nil (IsValidUnit (cells_asked settings))));
         apart = all_pairs_push (λ (v w : UnitOfPlan). v.name ≢ w.name) made m before.apart
-            (λ k d h e. others k d h (e ∙ told.1.name));
+            (λ k d h e. others k d h (e ∙ told.1.unit.name));
       }
 
-  pub planned_fault : (e : CheckFault) → Planned settings units i made → i < length units → u ≡ get_or units i u
-      → AnswersUnit settings (take i units) u (Err e) → AnswersUnits settings units (Err e)
+  pub planned_fault : (e : CheckFault) → Planned settings sevs units i made → i < length units → u ≡ get_or units i u
+      → AnswersUnit settings sevs (take i units) u (Err e) → AnswersUnits settings sevs units (Err e)
   planned_fault (Typing f) before lt is told =
-      sym (turn_found (first_fault_of settings) units i u f before.turned lt is (sym told))
+      sym (turn_found (first_fault_of settings sevs) units i u f before.turned lt is (sym told))
   planned_fault OutOfMemory before lt is told = tt
 
-pub planned_all : (settings : Settings) (units : List UnitAst) (i : ℕ) (made : List UnitOfPlan)
-    → Planned settings units i made → length units ≤ i
-    → AnswersUnits settings units (Ok made)
-planned_all settings units i made before le = (
-  sym (turn_ended (first_fault_of settings) units i before.turned le),
-  subst (λ us. AllZip (IsUnitOf settings.bs) us made) (take_all i units le) before.meant,
+pub planned_all : (settings : Settings) (sevs : List SevDef) (units : List UnitAst) (i : ℕ) (made : List UnitOfPlan)
+    → Planned settings sevs units i made → length units ≤ i
+    → AnswersUnits settings sevs units (Ok made)
+planned_all settings sevs units i made before le = (
+  sym (turn_ended (first_fault_of settings sevs) units i before.turned le),
+  subst (λ us. AllZip (IsUnitOf settings.bs sevs) us made) (take_all i units le) before.meant,
   before.valid,
   before.apart,
 )
@@ -113,31 +131,124 @@ few_units units e = few most_units units (none_there (slice_get units most_units
     few zero (x ∷ xs) h = absurd (cc)
     few (suc n) (x ∷ xs) h = omega (arith, few n xs h)
 
+-- the mixture that a severity is, is well formed
+
+formed_named : (sevs : List SevDef) (name : List ℕ) → All IsFormedDefinition sevs
+    → IfSome (named sevs name) IsFormedMixture
+unfolding named
+formed_named [] name h = tt
+formed_named (d ∷ ds) name h = here (bytes_eq d.name.text name)
+    (formed_named ds name (All-tail IsFormedDefinition d ds h))
+  where
+    here : (t : Bool) → IfSome (named ds name) IsFormedMixture
+        → IfSome (if t then Some d.mix else named ds name) IsFormedMixture
+    here true rest = (All-head IsFormedDefinition d ds h).mix
+    here false rest = rest
+
+pub formed_mixture : (sevs : List SevDef) (body : SevBody) → All IsFormedDefinition sevs → IsFormedBody body
+    → IfSome (mixture_of sevs body) IsFormedMixture
+unfolding mixture_of
+formed_mixture sevs (Mixture m) h f = f
+formed_mixture sevs (Ref n) h f = formed_named sevs n.text h
+
+pub mixture_is : (o : Option MixAst) (m : MixAst) → IfSome o IsFormedMixture → o ≡ Some m → IsFormedMixture m
+mixture_is None m h e = absurd cc
+mixture_is (Some n) m h e = let same : n ≡ m = cc in subst IsFormedMixture same h
+
+-- what is told of a unit with its mixture is told of it with the named severities
+pub answer_with : (settings : Settings) (sevs : List SevDef) (before : List UnitAst) (u : UnitAst) (m : MixAst)
+    (r : Result UnitOfPlan CheckFault) → mixture_of sevs u.sev.body ≡ Some m → AnswersWith settings before u m r
+    → AnswersUnit settings sevs before u r
+unfolding first_fault_of
+answer_with settings sevs before u m (Ok made) e (none, unit, valid) = (
+  ap (fault_of_mixture settings before u) e ∙ none,
+  record { mix = m; named = e; unit = unit },
+  valid,
+)
+answer_with settings sevs before u m (Err (Typing f)) e told = ap (fault_of_mixture settings before u) e ∙ told
+answer_with settings sevs before u m (Err OutOfMemory) e told = tt
+
+pub answer_unknown : (settings : Settings) (sevs : List SevDef) (before : List UnitAst) (u : UnitAst)
+    → mixture_of sevs u.sev.body ≡ None
+    → first_fault_of settings sevs before u ≡ Some (record {
+      unit = length before;
+      rule = rules.UnknownSeverity;
+      span = body_span u.sev.body;
+    })
+unfolding first_fault_of
+answer_unknown settings sevs before u e = ap (fault_of_mixture settings before u) e
+
+-- ---- the whole
+
+-- the first of four rules that is broken
+first_of : {A : Type 0} (a b c d : Option A) (x : A) → a ≡ Some x → (a else b else c else d) ≡ Some x
+first_of a b c d x e = ap (λ o. o else b else c else d) e
+
+second_of : {A : Type 0} (a b c d : Option A) (x : A) → a ≡ None → b ≡ Some x → (a else b else c else d) ≡ Some x
+second_of a b c d x e f = ap (λ o. o else b else c else d) e ∙ ap (λ o. o else c else d) f
+
+third_of : {A : Type 0} (a b c d : Option A) (x : A) → a ≡ None → b ≡ None → c ≡ Some x
+    → (a else b else c else d) ≡ Some x
+third_of a b c d x e f g = ap (λ o. o else b else c else d) e ∙ ap (λ o. o else c else d) f ∙ ap (λ o. o else d) g
+
+last_of : {A : Type 0} (a b c d o : Option A) → a ≡ None → b ≡ None → c ≡ None → d ≡ o
+    → (a else b else c else d) ≡ o
+last_of a b c d o e f g h =
+    ap (λ o. o else b else c else d) e ∙ ap (λ o. o else c else d) f ∙ ap (λ o. o else d) g ∙ h
+
 module _ (program : Program) (settings : Settings) where
-  pub fault_of_units : (e : CheckFault) → too_many_units program.units ≡ None
-      → AnswersUnits settings program.units (Err e) → IsCheckOf program settings (Err e)
-  unfolding first_fault
-  fault_of_units (Typing f) few told = ap (λ p. breaks most_units rules.TooManyUnits p
-      else in_turn (first_fault_of settings) [] program.units) few ∙ told
-  fault_of_units OutOfMemory few told = tt
+  abbrev sevs : List SevDef
+  sevs = program.sevs
+
+  abbrev many : Option TypeFault
+  many = breaks most_units rules.TooManyUnits (too_many_units program.units)
+
+  abbrev names : Option TypeFault
+  names = in_turn fault_of_severity [] program.sevs
+
+  abbrev each : Option TypeFault
+  each = in_turn (first_fault_of settings sevs) [] program.units
+
+  none_many : too_many_units program.units ≡ None → many ≡ None
+  none_many few = ap (λ p. breaks most_units rules.TooManyUnits p) few
 
   pub fault_of_many : (place : Span) → too_many_units program.units ≡ Some place
       → first_fault program settings ≡ Some (record { unit = most_units; rule = rules.TooManyUnits; span = place })
   unfolding first_fault
-  fault_of_many place many = ap (λ p. breaks most_units rules.TooManyUnits p
-      else in_turn (first_fault_of settings) [] program.units) many
+  fault_of_many place e =
+      first_of many names each (not_yet program) _ (ap (λ p. breaks most_units rules.TooManyUnits p) e)
+
+  pub fault_of_names : (e : CheckFault) → too_many_units program.units ≡ None → StopsAt names e
+      → IsCheckOf program settings (Err e)
+  unfolding first_fault
+  fault_of_names (Typing f) few told = second_of many names each (not_yet program) f (none_many few) told
+  fault_of_names OutOfMemory few told = tt
+
+  pub fault_of_units : (e : CheckFault) → too_many_units program.units ≡ None → names ≡ None
+      → AnswersUnits settings sevs program.units (Err e) → IsCheckOf program settings (Err e)
+  unfolding first_fault
+  fault_of_units (Typing f) few fresh told =
+      third_of many names each (not_yet program) f (none_many few) fresh told
+  fault_of_units OutOfMemory few fresh told = tt
+
+  pub fault_of_rest : (f : TypeFault) (made : List UnitOfPlan) → too_many_units program.units ≡ None → names ≡ None
+      → AnswersUnits settings sevs program.units (Ok made) → not_yet program ≡ Some f
+      → first_fault program settings ≡ Some f
+  unfolding first_fault
+  fault_of_rest f made few fresh told rest =
+      last_of many names each (not_yet program) (Some f) (none_many few) fresh told.0 rest
 
   pub plan_of_units : (plan : Plan) → plan.bs ≡ settings.bs → plan.cells ≡ cells_asked settings
       → plan.common ≡ None → IsSet settings
       → IsWellFormed program → length program.units ≤ most_units
-      → too_many_units program.units ≡ None → AnswersUnits settings program.units (Ok plan.units)
+      → too_many_units program.units ≡ None → names ≡ None
+      → AnswersUnits settings sevs program.units (Ok plan.units) → not_yet program ≡ None
       → IsCheckOf program settings (Ok plan)
   unfolding first_fault
-  plan_of_units plan bs cells common set formed few none told =
+  plan_of_units plan bs cells common set formed few none fresh told rest =
       let as_many : length plan.units ≡ length program.units =
-      AllZip-long (IsUnitOf settings.bs) program.units plan.units told.1 in (
-        ap (λ p. breaks most_units rules.TooManyUnits p else in_turn (first_fault_of settings) [] program.units) none ∙
-            told.0,
+      AllZip-long (IsUnitOf settings.bs sevs) program.units plan.units told.1 in (
+        last_of many names each (not_yet program) None (none_many none) fresh told.0 rest,
         record { bucket = bs; cells = cells; units = told.1; common = common },
         record {
           bucket = subst (λ x. whole 0 <ℚ x) (sym bs) set.bucket.above;

@@ -1,5 +1,7 @@
 -- What a check answers.
 use Rattle.std.specs.Prelude.{ℕ, ◌≡◌, ◌≢◌, Result, Ok, Err, List, [], All, AllPairs, Option, Some, None}
+use Rattle.dl_ast.specs.declared.ast.MixAst.{MixAst}
+use Rattle.dl_ast.specs.declared.ast.SevDef.{SevDef}
 use Rattle.dl_ast.specs.declared.ast.UnitAst.{UnitAst}
 use Rattle.dl_ast.specs.declared.ast.Program.{Program}
 use Rattle.dl_plan.specs.declared.plan.Unit.{Unit as UnitOfPlan}
@@ -12,8 +14,8 @@ use Rattle.dl_types.specs.declared.fault.CheckFault.{CheckFault}
 use Rattle.dl_types.specs.declared.fault.CheckFault.TheVariants.{Typing, OutOfMemory}
 use Rattle.dl_read.specs.First.{in_turn}
 use Rattle.std.specs.List.{AllZip}
-use Rattle.dl_types.specs.Faults.{cells_asked, fault_on_grid, first_fault_of, first_fault}
-use Rattle.dl_types.specs.Plans.{IsUnitOn, IsUnitOf, IsPlanOf}
+use Rattle.dl_types.specs.Faults.{cells_asked, fault_on_grid, fault_with, first_fault_of, first_fault}
+use Rattle.dl_types.specs.Plans.{IsUnitOn, IsUnitWith, IsUnitOf, IsPlanOf}
 
 -- a check stops at the first fault, or for want of memory
 abbrev pub StopsAt : Option TypeFault → CheckFault → Type 0
@@ -33,24 +35,36 @@ AnswersGrid settings unit name u (Ok made) =
     × IsValidUnit (cells_asked settings) made
 AnswersGrid settings unit name u (Err stop) = StopsAt (fault_on_grid settings unit u) stop
 
--- the unit of the plan, which is valid, where the unit breaks no rule; the first fault, where it
--- breaks one; or want of memory
-abbrev pub AnswersUnit : Settings → List UnitAst → UnitAst → Result UnitOfPlan CheckFault → Type 0
-AnswersUnit settings before u (Ok made) =
-    (first_fault_of settings before u ≡ None) × IsUnitOf settings.bs u made
+-- the unit of the plan, which is valid, where the unit with this mixture breaks no rule; the first
+-- fault, where it breaks one; or want of memory
+abbrev pub AnswersWith : Settings → List UnitAst → UnitAst → MixAst → Result UnitOfPlan CheckFault
+    → Type 0
+AnswersWith settings before u m (Ok made) =
+    (fault_with settings before u m ≡ None) × IsUnitWith settings.bs u m made
     × IsValidUnit (cells_asked settings) made
-AnswersUnit settings before u (Err (Typing fault)) = first_fault_of settings before u ≡ Some fault
-AnswersUnit settings before u (Err OutOfMemory) = Unit {0}
+AnswersWith settings before u m (Err stop) = StopsAt (fault_with settings before u m) stop
+
+-- the same with named severities
+abbrev pub AnswersUnit : Settings → List SevDef → List UnitAst → UnitAst
+    → Result UnitOfPlan CheckFault → Type 0
+AnswersUnit settings sevs before u (Ok made) =
+    (first_fault_of settings sevs before u ≡ None) × IsUnitOf settings.bs sevs u made
+    × IsValidUnit (cells_asked settings) made
+AnswersUnit settings sevs before u (Err (Typing fault)) =
+    first_fault_of settings sevs before u ≡ Some fault
+AnswersUnit settings sevs before u (Err OutOfMemory) = Unit {0}
 
 -- the units of the plan, which are valid and have different names; the first fault of the first
 -- unit that has one; or want of memory
-abbrev pub AnswersUnits : Settings → List UnitAst → Result (List UnitOfPlan) CheckFault → Type 0
-AnswersUnits settings units (Ok made) =
-    (in_turn (first_fault_of settings) [] units ≡ None) × AllZip (IsUnitOf settings.bs) units made
+abbrev pub AnswersUnits : Settings → List SevDef → List UnitAst
+    → Result (List UnitOfPlan) CheckFault → Type 0
+AnswersUnits settings sevs units (Ok made) =
+    (in_turn (first_fault_of settings sevs) [] units ≡ None)
+    × AllZip (IsUnitOf settings.bs sevs) units made
     × All (IsValidUnit (cells_asked settings)) made × AllPairs (λ u v. u.name ≢ v.name) made
-AnswersUnits settings units (Err (Typing fault)) =
-    in_turn (first_fault_of settings) [] units ≡ Some fault
-AnswersUnits settings units (Err OutOfMemory) = Unit {0}
+AnswersUnits settings sevs units (Err (Typing fault)) =
+    in_turn (first_fault_of settings sevs) [] units ≡ Some fault
+AnswersUnits settings sevs units (Err OutOfMemory) = Unit {0}
 
 -- the plan, which is valid, where no rule is broken; the first fault, where there is one; or want
 -- of memory

@@ -4,6 +4,8 @@ use Rattle.std.specs.Prelude.{ℕ, ◌^◌, List, [], length, Option, Some, None
 use Rattle.dl_limits.specs.Limits.{most_units}
 use Rattle.dl_exact.specs.Fraction.{Fraction}
 use Rattle.dl_lexer.specs.declared.token.Span.{Span}
+use Rattle.dl_ast.specs.declared.ast.MixAst.{MixAst}
+use Rattle.dl_ast.specs.declared.ast.SevDef.{SevDef}
 use Rattle.dl_ast.specs.declared.ast.UnitAst.{UnitAst}
 use Rattle.dl_ast.specs.declared.ast.Program.{Program}
 use Rattle.dl_plan.specs.declared.settings.Settings.{Settings}
@@ -19,7 +21,8 @@ use Rattle.dl_amounts.specs.Grid.{grid_of}
 use Rattle.dl_amounts.specs.Severity.{severity_in_layer, support}
 use Rattle.dl_amounts.specs.Rules.{lengths_differ, not_one, off_grid, too_far, weights_differ, none_above, overlap, share_above_one, off_grid_cession}
 use Rattle.dl_types.specs.Exposures.{expected_claims}
-use Rattle.dl_types.specs.Rules.{duplicate_name, zero_mean, count_not_whole, count_above_one, trials_not_whole, shape_not_whole, too_fine, too_many_claims, horizon_too_large, too_many_units}
+use Rattle.dl_types.specs.Rules.{duplicate_name, zero_mean, count_not_whole, count_above_one, trials_not_whole, shape_not_whole, too_fine, too_many_claims, horizon_too_large, too_many_units, duplicate_severity, changed_zero, shared_factor}
+use Rattle.dl_types.specs.Severities.{mixture_of, body_span}
 
 -- the rule is broken by a unit at a place
 abbrev pub breaks : ℕ → Rule → Option Span → Option TypeFault
@@ -31,11 +34,11 @@ abbrev pub cells_asked : Settings → ℕ
 cells_asked settings = 2 ^ settings.log2
 
 -- the rules on its numerals, its ranges and its lengths, where those before them are not broken
-unfoldable pub fault_of_reading : ℕ → UnitAst → Option TypeFault
-fault_of_reading unit u =
-    breaks unit rules.BadNumeral (bad_numeral u)
-    else breaks unit rules.BadRange (bad_range u)
-    else breaks unit rules.ListTooLong (list_too_long u)
+unfoldable pub fault_of_reading : ℕ → UnitAst → MixAst → Option TypeFault
+fault_of_reading unit u m =
+    breaks unit rules.BadNumeral (bad_numeral u m)
+    else breaks unit rules.BadRange (bad_range u m)
+    else breaks unit rules.ListTooLong (list_too_long u m)
 
 -- the rules on lists that belong together
 abbrev pub fault_of_pairs : ℕ → ReadUnit → Option TypeFault
@@ -44,12 +47,12 @@ fault_of_pairs unit u =
     else breaks unit rules.NotOne (not_one u)
 
 -- the rules on its name, its numerals and its lists
-unfoldable pub fault_of_lists : List UnitAst → UnitAst → Option TypeFault
-fault_of_lists before u =
+unfoldable pub fault_of_lists : List UnitAst → UnitAst → MixAst → Option TypeFault
+fault_of_lists before u m =
     let unit : ℕ = length before in
     breaks unit rules.DuplicateName (duplicate_name before u)
-    else fault_of_reading unit u
-    else fault_of_pairs unit (read_of u)
+    else fault_of_reading unit u m
+    else fault_of_pairs unit (read_of u m)
 
 -- the rules on its amounts of money
 unfoldable pub fault_of_money : Fraction → ℕ → ReadUnit → Option TypeFault
@@ -93,15 +96,44 @@ fault_on_grid settings unit u =
     else fault_of_count settings.bs unit u
     else breaks unit rules.HorizonTooLarge (horizon_too_large (cells_asked settings) u.agr)
 
--- the first rule that a unit breaks, by its number, with the units before it
-unfoldable pub first_fault_of : Settings → List UnitAst → UnitAst → Option TypeFault
-first_fault_of settings before u =
-    fault_of_lists before u
-    else fault_of_money settings.bs (length before) (read_of u)
-    else fault_on_grid settings (length before) (grid_of settings.bs (read_of u))
+-- the first rule that a unit whose severity is this mixture breaks, by its number, with the units
+-- before it
+unfoldable pub fault_with : Settings → List UnitAst → UnitAst → MixAst → Option TypeFault
+fault_with settings before u m =
+    fault_of_lists before u m
+    else fault_of_money settings.bs (length before) (read_of u m)
+    else fault_on_grid settings (length before) (grid_of settings.bs (read_of u m))
 
--- more than 16 units first; then the units in the order of the text
+-- the same where there may be no mixture, since no severity has the name
+abbrev pub fault_of_mixture : Settings → List UnitAst → UnitAst → Option MixAst → Option TypeFault
+fault_of_mixture settings before u None =
+    breaks (length before) rules.UnknownSeverity (Some (body_span u.sev.body))
+fault_of_mixture settings before u (Some m) = fault_with settings before u m
+
+-- the first rule that a unit breaks, with the named severities and the units before it
+unfoldable pub first_fault_of : Settings → List SevDef → List UnitAst → UnitAst → Option TypeFault
+first_fault_of settings sevs before u =
+    fault_of_mixture settings before u (mixture_of sevs u.sev.body)
+
+-- the rule on the names of severities, by the severity's number
+abbrev pub fault_of_severity : List SevDef → SevDef → Option TypeFault
+fault_of_severity before d =
+    breaks (length before) rules.DuplicateSeverity (duplicate_severity before d)
+
+-- what has no value yet: of a unit, and of the whole program
+abbrev pub unit_not_yet : List UnitAst → UnitAst → Option TypeFault
+unit_not_yet before u = breaks (length before) rules.NotYet (changed_zero u)
+
+unfoldable pub not_yet : Program → Option TypeFault
+not_yet program =
+    in_turn unit_not_yet [] program.units
+    else breaks 0 rules.NotYet (shared_factor program.port)
+
+-- more than 16 units first; then the named severities and the units in the order of the text; then
+-- what has no value yet
 unfoldable pub first_fault : Program → Settings → Option TypeFault
 first_fault program settings =
     breaks most_units rules.TooManyUnits (too_many_units program.units)
-    else in_turn (first_fault_of settings) [] program.units
+    else in_turn fault_of_severity [] program.sevs
+    else in_turn (first_fault_of settings program.sevs) [] program.units
+    else not_yet program

@@ -8,3 +8,4 @@ pub mod UnitNames
 pub mod Plans
 pub mod Answer
 pub mod Claimed
+pub mod Severities

@@ -1,7 +1,7 @@
 -- The number and the name of each rule, as the user is told them.
 use Rattle.std.specs.Prelude.{ℕ, List, codes}
 use Rattle.dl_types.specs.declared.rule.Rule.{Rule}
-use Rattle.dl_types.specs.declared.rule.Rule.TheVariants.{DuplicateName, BadNumeral, BadRange, ListTooLong, LengthsDiffer, NotOne, OffGrid, TooFar, WeightsDiffer, NoneAbove, Overlap, ShareAboveOne, OffGridCession, ZeroMean, CountNotWhole, CountAboveOne, TrialsNotWhole, ShapeNotWhole, TooFine, TooManyClaims, HorizonTooLarge, TooManyUnits}
+use Rattle.dl_types.specs.declared.rule.Rule.TheVariants.{DuplicateName, BadNumeral, BadRange, ListTooLong, LengthsDiffer, NotOne, OffGrid, TooFar, WeightsDiffer, NoneAbove, Overlap, ShareAboveOne, OffGridCession, ZeroMean, CountNotWhole, CountAboveOne, TrialsNotWhole, ShapeNotWhole, TooFine, TooManyClaims, HorizonTooLarge, TooManyUnits, DuplicateSeverity, UnknownSeverity, NotYet}
 
 abbrev pub rule_number : Rule → ℕ
 rule_number rule = elim rule [
@@ -27,6 +27,9 @@ rule_number rule = elim rule [
   | TooManyClaims ↦ 20
   | HorizonTooLarge ↦ 21
   | TooManyUnits ↦ 22
+  | DuplicateSeverity ↦ 23
+  | UnknownSeverity ↦ 24
+  | NotYet ↦ 29
 ]
 
 abbrev pub rule_name : Rule → List ℕ
@@ -53,4 +56,7 @@ rule_name rule = elim rule [
   | TooManyClaims ↦ codes "TooManyClaims"
   | HorizonTooLarge ↦ codes "HorizonTooLarge"
   | TooManyUnits ↦ codes "TooManyUnits"
+  | DuplicateSeverity ↦ codes "DuplicateSeverity"
+  | UnknownSeverity ↦ codes "UnknownSeverity"
+  | NotYet ↦ codes "NotYet"
 ]

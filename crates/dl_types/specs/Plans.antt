@@ -22,6 +22,8 @@ use Rattle.dl_amounts.specs.declared.grid.GridClause.{GridClause}
 use Rattle.dl_amounts.specs.declared.grid.GridUnit.{GridUnit}
 use Rattle.dl_amounts.specs.Grid.{grid_of}
 use Rattle.dl_read.specs.Read.{read_of}
+use Rattle.dl_ast.specs.declared.ast.MixAst.{MixAst}
+use Rattle.dl_ast.specs.declared.ast.SevDef.{SevDef}
 use Rattle.dl_ast.specs.declared.ast.UnitAst.{UnitAst}
 use Rattle.dl_ast.specs.declared.ast.Program.{Program}
 use Rattle.std.specs.List.{AllZip}
@@ -30,6 +32,7 @@ use Rattle.dl_amounts.specs.Clauses.{clause_of}
 use Rattle.dl_amounts.specs.Severity.{final_severity}
 use Rattle.dl_types.specs.Exposures.{expected_count, shape_of}
 use Rattle.dl_types.specs.Faults.{cells_asked}
+use Rattle.dl_types.specs.Severities.{mixture_of}
 
 -- each listed number of claims with its probability
 abbrev pub pairs_of_counts : ReadList → Option ReadList → Pairs
@@ -94,14 +97,21 @@ pub record IsUnitOn (bs : Fraction) (text : List ℕ) (u : GridUnit) (made : Uni
     pub clause : made.cede ≡ aggregate_clause u.agr
     pub zero : made.zero ≡ None
 
--- and those of the text
-abbrev pub IsUnitOf : Fraction → UnitAst → UnitOfPlan → Type 0
-IsUnitOf bs u made = IsUnitOn bs u.name.text (grid_of bs (read_of u)) made
+-- and those of the text, whose severity is this mixture
+abbrev pub IsUnitWith : Fraction → UnitAst → MixAst → UnitOfPlan → Type 0
+IsUnitWith bs u m made = IsUnitOn bs u.name.text (grid_of bs (read_of u m)) made
+
+-- the same with named severities
+pub record IsUnitOf (bs : Fraction) (sevs : List SevDef) (u : UnitAst) (made : UnitOfPlan) : Type 0
+  where
+    pub mix : MixAst
+    pub named : mixture_of sevs u.sev.body ≡ Some mix
+    pub unit : IsUnitWith bs u mix made
 
 -- the plan of a program: the bucket size and the cells of the settings, and the units in the order
 -- of the text, which share no factor
 pub record IsPlanOf (program : Program) (settings : Settings) (plan : Plan) : Type 0 where
   pub bucket : plan.bs ≡ settings.bs
   pub cells : plan.cells ≡ cells_asked settings
-  pub units : AllZip (IsUnitOf settings.bs) program.units plan.units
+  pub units : AllZip (IsUnitOf settings.bs program.sevs) program.units plan.units
   pub common : plan.common ≡ None

@@ -2,7 +2,7 @@
 -- which they are asked. A unit is asked a rule only where it keeps the rules before it, so that
 -- each value that a rule needs is there. Where a rule speaks of the number of claims that are
 -- expected, that is the number where it is there and admitted.
-use Rattle.std.specs.Prelude.{ℕ, Bool, false, not, ◌&&◌, ◌||◌, nat_lt, is_some, List, slice_get, Option, Some, None}
+use Rattle.std.specs.Prelude.{ℕ, Bool, true, false, not, ◌&&◌, ◌||◌, nat_lt, is_some, List, slice_get, Option, Some, None}
 use Rattle.std.specs.List.{list_any}
 use Rattle.std.specs.Str.{bytes_eq}
 use Rattle.dl_limits.specs.Limits.{most_cells, most_claims, most_count, most_expected, most_shape, most_units}
@@ -10,6 +10,12 @@ use Rattle.dl_plan.specs.Horizon.{horizon}
 use Rattle.dl_exact.specs.Fraction.{Fraction, whole, ◌/ℚ◌}
 use Rattle.dl_lexer.specs.declared.token.Span.{Span}
 use Rattle.dl_ast.specs.declared.ast.UnitAst.{UnitAst}
+use Rattle.dl_ast.specs.declared.ast.SevDef.{SevDef}
+use Rattle.dl_ast.specs.declared.ast.PortHead.{PortHead}
+use Rattle.dl_ast.specs.declared.ast.CountAst.{CountAst}
+use Rattle.dl_ast.specs.declared.ast.CountAst.TheVariants as counts
+use Rattle.dl_ast.specs.declared.ast.ZeroAst.{ZeroAst}
+use Rattle.dl_ast.specs.declared.ast.ZeroAst.TheVariants.{Plain, Truncated, Modified}
 use Rattle.dl_read.specs.declared.tree.ReadExposure.{ReadExposure}
 use Rattle.dl_read.specs.declared.tree.ReadExposure.TheVariants.{Claims, Loss, Premium}
 use Rattle.dl_read.specs.declared.tree.ReadFreq.TheVariants.{Fixed, Poisson, Bernoulli, Binomial, Gamma}
@@ -147,3 +153,24 @@ seventeenth (Some u) = Some u.name.span
 
 unfoldable pub too_many_units : List UnitAst → Option Span
 too_many_units units = seventeenth (slice_get units most_units)
+
+-- 23 DuplicateSeverity: the name of a severity is that of an earlier one
+unfoldable pub duplicate_severity : List SevDef → SevDef → Option Span
+duplicate_severity before d = at_if (list_any (λ (e : SevDef). bytes_eq d.name.text e.name.text)
+    before) d.name.span
+
+-- 29 NotYet: the unit's probability of no claim is changed, or the portfolio has a shared factor
+abbrev pub is_changed : ZeroAst → Bool
+is_changed Plain = false
+is_changed (Truncated _) = true
+is_changed (Modified _ _) = true
+
+abbrev pub has_change : CountAst → Bool
+has_change (counts.Exposed exposure freq zero) = is_changed zero
+has_change (counts.Listed counted probs span) = false
+
+unfoldable pub changed_zero : UnitAst → Option Span
+changed_zero u = at_if (has_change u.count) u.name.span
+
+unfoldable pub shared_factor : Option PortHead → Option Span
+shared_factor = within (λ (h : PortHead). at_if (is_some h.common) h.name.span)

@@ -1,6 +1,7 @@
 //! The typing rules: what a program means, its plan, or the first rule that it breaks.
 #![tactic(auto)]
 
+mod changes;
 mod claims;
 mod counts;
 mod exposures;
@@ -12,6 +13,7 @@ mod names;
 mod program;
 mod ratio;
 mod rule;
+mod severities;
 mod unit;
 
 pub use fault::{CheckFault, TypeFault};

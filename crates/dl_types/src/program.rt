@@ -1,16 +1,20 @@
 //! The plan of a program, or its first fault.
 
-ghost use Rattle.std.specs.Prelude.{◌≡◌, ◌≤◌, ℕ, [], None, All, length};
+ghost use Rattle.std.specs.Prelude.{◌≡◌, ◌≤◌, ℕ, [], None, Ok, All, length};
+ghost use Rattle.dl_read.specs.First.{in_turn};
+ghost use Rattle.dl_types.specs.Faults.{fault_of_severity};
 ghost use Rattle.dl_limits.specs.Limits.{most_units};
-ghost use Rattle.dl_ast.specs.WellFormed.{IsWellFormed, IsFormedUnit};
+ghost use Rattle.dl_ast.specs.WellFormed.{IsWellFormed, IsFormedUnit, IsFormedDefinition};
 ghost use Rattle.dl_types.specs.Rules.{too_many_units};
 ghost use Rattle.dl_types.specs.Kept.{IsSet};
 ghost use Rattle.dl_types.specs.Answer.{IsCheckOf, AnswersUnits};
 
+use crate::changes::not_yet;
 use crate::fault::{CheckFault, TypeFault};
 use crate::rule::Rule;
+use crate::severities::check_severities;
 use crate::unit::{cells, check_unit};
-use dl_ast::{Program, UnitAst};
+use dl_ast::{Program, SevDef, UnitAst};
 use dl_lexer::Span;
 use dl_limits::MOST_UNITS;
 use dl_plan::{Items, Plan, Settings, Unit};
@@ -18,11 +22,12 @@ use indexmap::IndexSet;
 use std::alloc::Global;
 
 /// The plan of a program, in buckets of the size that is set, on a grid of 2^`log2` cells; or the
-/// first broken rule of the first unit that breaks one, with its place.
+/// first broken rule, with its place. A seventeenth unit comes before all other faults, then two
+/// severities of one name, then the rules of each unit in the order of the text, and last what has
+/// no value yet.
 ///
 /// It needs a program as the parser builds it, and settings in their ranges. `CheckFault::Typing`
-/// names the rule; a seventeenth unit comes before all other faults. `CheckFault::OutOfMemory` says
-/// that memory ran out.
+/// names the rule. `CheckFault::OutOfMemory` says that memory ran out.
 pub fn check(alloc: Global, program: &Program, settings: &Settings) -> Result<Plan, CheckFault>
     requires formed { IsWellFormed program.now }
     requires set { IsSet settings.now }
@@ -35,14 +40,33 @@ pub fn check(alloc: Global, program: &Program, settings: &Settings) -> Result<Pl
             span,
         }));
     }
-    match check_units(alloc, program.units.as_slice(), settings) {
-        Ok(units) => Ok(Plan {
+    let sevs = program.sevs.as_slice();
+    if let Err(fault) = check_severities(alloc, sevs) {
+        return Err(fault);
+    }
+    match check_units(alloc, sevs, program.units.as_slice(), settings) {
+        Ok(units) => planned(program, settings, units),
+        Err(fault) => Err(fault),
+    }
+}
+
+/// The plan of a program with these units, or what has no value yet.
+fn planned(program: &Program, settings: &Settings, units: Items<Unit>) -> Result<Plan, CheckFault>
+    requires formed { IsWellFormed program.now }
+    requires set { IsSet settings.now }
+    requires few { too_many_units program.now.units ≡ None }
+    requires fresh { in_turn fault_of_severity [] program.now.sevs ≡ None }
+    requires units { AnswersUnits settings.now program.now.sevs program.now.units (Ok units) }
+    ensures { IsCheckOf program.now settings.now result }
+{
+    match not_yet(program) {
+        Some(fault) => Err(CheckFault::Typing(fault)),
+        None => Ok(Plan {
             bs: settings.bs,
             cells: cells(settings),
             units,
             common: None,
         }),
-        Err(fault) => Err(fault),
     }
 }
 
@@ -60,18 +84,20 @@ fn too_many_units(units: &[UnitAst]) -> Option<Span>
 /// The units of the plan, or the first fault of the first unit that has one.
 fn check_units(
     alloc: Global,
+    sevs: &[SevDef],
     units: &[UnitAst],
     settings: &Settings,
 ) -> Result<Items<Unit>, CheckFault>
     requires set { IsSet settings.now }
     requires few { length units.now ≤ most_units }
     requires formed { All IsFormedUnit units.now }
-    ensures { AnswersUnits settings.now units.now result }
+    requires defined { All IsFormedDefinition sevs.now }
+    ensures { AnswersUnits settings.now sevs.now units.now result }
 {
     let mut names = IndexSet::new(alloc);
     let mut made = Vec::new(alloc);
     'units: for (at, unit) in units.iter().enumerate() {
-        match check_unit(alloc, &mut names, &units[..at], unit, settings) {
+        match check_unit(alloc, &mut names, sevs, &units[..at], unit, settings) {
             Ok(unit) => made.push(unit)?,
             Err(fault) => return Err(fault),
         }

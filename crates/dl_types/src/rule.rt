@@ -51,10 +51,16 @@ pub enum Rule {
     HorizonTooLarge,
     /// There are more than 16 units.
     TooManyUnits,
+    /// The name of a severity is that of an earlier one.
+    DuplicateSeverity,
+    /// No severity has the name that a unit refers to.
+    UnknownSeverity,
+    /// The unit has `zt` or `zm`, or the portfolio has `common`, which cannot be evaluated yet.
+    NotYet,
 }
 
 impl Rule {
-    /// Its number, from 1 to 22.
+    /// Its number: 1 to 24, or 29.
     pub fn number(self) -> u32
         ensures { result ≡ rule_number self }
     {
@@ -81,6 +87,9 @@ impl Rule {
             Rule::TooManyClaims => 20,
             Rule::HorizonTooLarge => 21,
             Rule::TooManyUnits => 22,
+            Rule::DuplicateSeverity => 23,
+            Rule::UnknownSeverity => 24,
+            Rule::NotYet => 29,
         }
     }
 
@@ -111,6 +120,9 @@ impl Rule {
             Rule::TooManyClaims => "TooManyClaims",
             Rule::HorizonTooLarge => "HorizonTooLarge",
             Rule::TooManyUnits => "TooManyUnits",
+            Rule::DuplicateSeverity => "DuplicateSeverity",
+            Rule::UnknownSeverity => "UnknownSeverity",
+            Rule::NotYet => "NotYet",
         }
     }
 }

@@ -1,12 +1,13 @@
 //! The rules of one unit, in their order.
 
-ghost use Rattle.std.specs.Prelude.{◌≡◌, ◌<◌, ◌∷◌, ◌++◌, [], nat_lt, true, Option, None, Some, IfOk, IfErr, IfSome, OnOk, Ok, Err, length, map};
+ghost use Rattle.std.specs.Prelude.{All, ◌≡◌, ◌<◌, ◌∷◌, ◌++◌, [], nat_lt, true, Option, None, Some, IfOk, IfErr, IfSome, OnOk, Ok, Err, length, map};
 ghost use Rattle.dl_types.specs.Faults.{breaks, cells_asked, fault_of_reading, fault_of_pairs, fault_of_lists, fault_of_money, fault_of_clauses, fault_of_layers, fault_of_number, fault_of_count};
 ghost use Rattle.dl_exact.specs.Fraction.{Fraction};
-ghost use Rattle.dl_types.specs.Answer.{StopsAt, TellsFault, AnswersGrid, AnswersUnit};
+ghost use Rattle.dl_types.specs.Answer.{StopsAt, TellsFault, AnswersGrid, AnswersWith, AnswersUnit};
 ghost use Rattle.dl_ast.specs.declared.ast.UnitAst.{UnitAst};
 ghost use Rattle.dl_types.specs.declared.rule.Rule.TheVariants.{DuplicateName, OffGridCession, CountNotWhole, CountAboveOne, TrialsNotWhole, ShapeNotWhole, TooFine, HorizonTooLarge};
-ghost use Rattle.dl_ast.specs.WellFormed.{IsFormedUnit};
+ghost use Rattle.dl_ast.specs.declared.ast.MixAst.{MixAst as MixtureAst};
+ghost use Rattle.dl_ast.specs.WellFormed.{IsFormedUnit, IsFormedMixture, IsFormedDefinition};
 ghost use Rattle.dl_amounts.specs.Rules.{lengths_differ, none_above, not_one, off_grid_cession};
 ghost use Rattle.dl_read.specs.declared.tree.ReadUnit.{ReadUnit as UnitRead};
 ghost use Rattle.dl_types.specs.Rules.{duplicate_name, count_not_whole, count_above_one, trials_not_whole, shape_not_whole, too_fine, horizon_too_large};
@@ -43,12 +44,13 @@ use crate::fine::{exposed_too_fine, fine_severity};
 use crate::frequencies::exposed_count;
 use crate::names::duplicate_name;
 use crate::rule::Rule;
+use crate::severities::{body_span, mixture};
 use dl_amounts::{
     GridClause, GridFault, GridUnit, clause, grid_unit, lengths_differ, none_above, not_one,
     off_grid_cession, overlap, positive_amounts, share_above_one, support_in_layer,
     weighed_severity, weights_differ,
 };
-use dl_ast::UnitAst;
+use dl_ast::{MixAst, SevDef, UnitAst};
 use dl_frac::Frac;
 use dl_lexer::{Span, Text};
 use dl_limits::MOST_CELLS;
@@ -89,8 +91,8 @@ fn kept<T: Drop>(value: T, rules: Result<(), CheckFault>) -> Result<T, CheckFaul
 /// The fault of a unit that is not read.
 #[tactic(auto, unfolding(crate::specs::Faults::fault_of_reading))]
 fn fault_of_reading(number: u32, fault: ReadFault) -> CheckFault
-    ensures { (unit : UnitAst) → ReadsUnit unit (Err fault)
-        → StopsAt (fault_of_reading number unit) result }
+    ensures { (unit : UnitAst) (mix : MixtureAst) → ReadsUnit unit mix (Err fault)
+        → StopsAt (fault_of_reading number unit mix) result }
 {
     match fault {
         ReadFault::BadNumeral(span) => typing(number, Rule::BadNumeral, span),
@@ -113,15 +115,22 @@ fn fault_of_money(number: u32, fault: GridFault) -> CheckFault
     }
 }
 
-/// What a unit writes, where it breaks none of the rules on numerals, ranges and lengths.
+/// What a unit with this mixture writes, where it breaks none of the rules on numerals, ranges and
+/// lengths.
 #[tactic(auto, unfolding(crate::specs::Faults::fault_of_reading))]
-fn check_reading(alloc: Global, number: u32, unit: &UnitAst) -> Result<ReadUnit, CheckFault>
+fn check_reading(
+    alloc: Global,
+    number: u32,
+    unit: &UnitAst,
+    mix: &MixAst,
+) -> Result<ReadUnit, CheckFault>
     requires formed { IsFormedUnit unit.now }
-    ensures told { TellsFault (fault_of_reading number unit.now) result }
-    ensures same { IfOk result (λ read. read ≡ read_of unit.now) }
+    requires mixture { IsFormedMixture mix.now }
+    ensures told { TellsFault (fault_of_reading number unit.now mix.now) result }
+    ensures same { IfOk result (λ read. read ≡ read_of unit.now mix.now) }
     ensures read { IfOk result IsRead }
 {
-    match read_unit(alloc, unit) {
+    match read_unit(alloc, unit, mix) {
         Ok(read) => Ok(read),
         Err(fault) => Err(fault_of_reading(number, fault)),
     }
@@ -157,17 +166,23 @@ fn check_pairs(alloc: Global, number: u32, unit: &ReadUnit) -> Result<(), CheckF
     broken(number, Rule::NotOne, not_one(alloc, unit)?)
 }
 
-/// What a unit writes, where it breaks none of the rules on numerals and lists.
-fn check_read(alloc: Global, number: u32, unit: &UnitAst) -> Result<ReadUnit, CheckFault>
+/// What a unit with this mixture writes, where it breaks none of the rules on numerals and lists.
+fn check_read(
+    alloc: Global,
+    number: u32,
+    unit: &UnitAst,
+    mix: &MixAst,
+) -> Result<ReadUnit, CheckFault>
     requires formed { IsFormedUnit unit.now }
-    ensures told { TellsFault (fault_of_reading number unit.now
-        else fault_of_pairs number (read_of unit.now)) result }
-    ensures same { IfOk result (λ read. read ≡ read_of unit.now) }
+    requires mixture { IsFormedMixture mix.now }
+    ensures told { TellsFault (fault_of_reading number unit.now mix.now
+        else fault_of_pairs number (read_of unit.now mix.now)) result }
+    ensures same { IfOk result (λ read. read ≡ read_of unit.now mix.now) }
     ensures read { IfOk result IsRead }
     ensures lengths { IfOk result (λ read. lengths_differ read ≡ None) }
     ensures one { IfOk result (λ read. not_one read ≡ None) }
 {
-    let read = check_reading(alloc, number, unit)?;
+    let read = check_reading(alloc, number, unit, mix)?;
     let told = check_pairs(alloc, number, &read);
     kept(read, told)
 }
@@ -179,12 +194,14 @@ fn check_lists<'a>(
     names: &mut IndexSet<&'a [u8]>,
     before: &'a [UnitAst],
     unit: &'a UnitAst,
+    mix: &MixAst,
 ) -> Result<ReadUnit, CheckFault>
     requires names { map (λ name. name.now) names.old.keys ≡ names_of before.now }
     requires few { length before.now < most_units }
     requires formed { IsFormedUnit unit.now }
-    ensures told { TellsFault (fault_of_lists before.now unit.now) result }
-    ensures same { IfOk result (λ read. read ≡ read_of unit.now) }
+    requires mixture { IsFormedMixture mix.now }
+    ensures told { TellsFault (fault_of_lists before.now unit.now mix.now) result }
+    ensures same { IfOk result (λ read. read ≡ read_of unit.now mix.now) }
     ensures read { IfOk result IsRead }
     ensures lengths { IfOk result (λ read. lengths_differ read ≡ None) }
     ensures one { IfOk result (λ read. not_one read ≡ None) }
@@ -193,7 +210,7 @@ fn check_lists<'a>(
 {
     let number = before.len() as u32;
     check_name(number, names, before, unit)?;
-    check_read(alloc, number, unit)
+    check_read(alloc, number, unit, mix)
 }
 
 /// The unit in whole buckets, where it breaks none of the rules on its amounts of money.
@@ -477,11 +494,36 @@ fn check_grid(
     planned(alloc, unit.name.text.as_slice(), &grid.count, claims, cede)
 }
 
-/// The unit of the plan, or the first rule that the unit breaks.
-#[tactic(auto, unfolding(crate::specs::Faults::first_fault_of))]
+/// The unit of the plan, or the first rule that the unit with this mixture breaks.
+#[tactic(auto, unfolding(crate::specs::Faults::fault_with))]
+fn check_with<'a>(
+    alloc: Global,
+    names: &mut IndexSet<&'a [u8]>,
+    before: &'a [UnitAst],
+    unit: &'a UnitAst,
+    mix: &MixAst,
+    settings: &Settings,
+) -> Result<Unit, CheckFault>
+    requires set { IsSet settings.now }
+    requires names { map (λ name. name.now) names.old.keys ≡ names_of before.now }
+    requires few { length before.now < most_units }
+    requires formed { IsFormedUnit unit.now }
+    requires mixture { IsFormedMixture mix.now }
+    ensures answer { AnswersWith settings.now before.now unit.now mix.now result }
+    ensures names { IfOk result (λ _. map (λ name. name.now) names.new.keys
+        ≡ names_of before.now ++ unit.now.name.text ∷ []) }
+{
+    let number = before.len() as u32;
+    let read = check_lists(alloc, names, before, unit, mix)?;
+    let grid = check_money(alloc, number, read, settings.bs)?;
+    check_grid(alloc, number, unit, &grid, settings)
+}
+
+/// The unit of the plan, or the first rule that the unit breaks, with these named severities.
 pub(crate) fn check_unit<'a>(
     alloc: Global,
     names: &mut IndexSet<&'a [u8]>,
+    sevs: &[SevDef],
     before: &'a [UnitAst],
     unit: &'a UnitAst,
     settings: &Settings,
@@ -490,12 +532,17 @@ pub(crate) fn check_unit<'a>(
     requires names { map (λ name. name.now) names.old.keys ≡ names_of before.now }
     requires few { length before.now < most_units }
     requires formed { IsFormedUnit unit.now }
-    ensures answer { AnswersUnit settings.now before.now unit.now result }
+    requires defined { All IsFormedDefinition sevs.now }
+    ensures answer { AnswersUnit settings.now sevs.now before.now unit.now result }
     ensures names { IfOk result (λ _. map (λ name. name.now) names.new.keys
         ≡ names_of before.now ++ unit.now.name.text ∷ []) }
 {
-    let number = before.len() as u32;
-    let read = check_lists(alloc, names, before, unit)?;
-    let grid = check_money(alloc, number, read, settings.bs)?;
-    check_grid(alloc, number, unit, &grid, settings)
+    match mixture(sevs, &unit.sev.body) {
+        Some(mix) => check_with(alloc, names, before, unit, mix, settings),
+        None => Err(typing(
+            before.len() as u32,
+            Rule::UnknownSeverity,
+            body_span(&unit.sev.body),
+        )),
+    }
 }

@@ -4,13 +4,13 @@ import re
 from fractions import Fraction
 from functools import reduce
 from math import gcd
-from typing import List, Optional
+from typing import Dict, List, Optional
 
 from .calls import Number, Text, check, fmt, run, spelled
 from .faults import GridTooSmall, RuleFault
 
 NOTE = re.compile(r"note\{[^{}]*\}")
-TOKEN = re.compile(r"note\{[^{}]*\}|\d+/\d+|(?:\d+\.?\d*|\.\d+)%?|[A-Za-z][A-Za-z0-9_-]*|[\[\]:,!]")
+TOKEN = re.compile(r"note\{[^{}]*\}|\d+/\d+|(?:\d+\.?\d*|\.\d+)%?|(?:sev\.)?[A-Za-z][A-Za-z0-9_-]*|[\[\]:,!]")
 OFF_GRID_CESSION = 13
 LARGEST = 12
 
@@ -23,8 +23,23 @@ def value_of(numeral: str) -> Fraction:
 
 
 def tokens_of(text: str) -> List[str]:
-    """The tokens of a canonical text, without its notes."""
-    return [token for token in TOKEN.findall(text) if not token.startswith("note{")]
+    """The tokens of a canonical text, without its notes and named severities.
+
+    Each reference to a severity stands as its mixture, and `geometric` as `mixed gamma 1`.
+    """
+    tokens = [token for token in TOKEN.findall(text) if not token.startswith("note{")]
+    named: Dict[str, List[str]] = {}
+    at = 0
+    while tokens[at : at + 1] == ["sev"]:
+        end = at + 2
+        while end < len(tokens) and tokens[end] not in ("sev", "port", "agg"):
+            end += 1
+        named.setdefault("sev." + tokens[at + 1], tokens[at + 2 : end])
+        at = end
+    found: List[str] = []
+    for token in tokens[at:]:
+        found += ["mixed", "gamma", "1"] if token == "geometric" else named.get(token, [token])
+    return found
 
 
 def list_behind(tokens: List[str], at: int) -> List[List[Fraction]]:

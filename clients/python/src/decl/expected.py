@@ -7,7 +7,7 @@ Refusal = Callable[[str], Optional[str]]
 
 WORDS = (
     "agg port claims loss premium at lr dfreq dsev sev dhistogram xps xs inf occurrence aggregate net of ceded to and so po"
-    " fixed poisson bernoulli binomial mixed gamma wts [ ] : , !"
+    " fixed poisson geometric bernoulli binomial mixed gamma wts zt zm common [ ] : , !"
 )
 #: Each token in the spelling that is tried, with the words that name it.
 TOKENS: Dict[str, str] = {
@@ -15,6 +15,7 @@ TOKENS: Dict[str, str] = {
     "1": "a numeral",
     **{word: word for word in WORDS.split()},
     "note{}": "a note",
+    "sev.Name": "a reference",
 }
 #: Of a text that is longer up to the place no token is tried.
 LONGEST = 1 << 16

@@ -25,4 +25,7 @@ SENTENCES: Dict[int, str] = {
     20: "Too many claims: at most 256 of listed counts, 65,536 of fixed counts and trials, 4,096 expected ones above 0 of poisson and mixed gamma, and a shape of at most 10,000.",
     21: "The aggregate clause needs more than 16,384 buckets of the sum before it; take larger buckets or a smaller grid.",
     22: "A portfolio has at most 16 units.",
+    23: "Two severities have the same name; each needs its own.",
+    24: "No severity has this name; a text names its severities before its units, as in sev NAME dsev [1:6].",
+    29: "zt, zm and common are read and formatted, and have no value yet.",
 }

@@ -1,5 +1,5 @@
 -- Each line by its lemma.
-use Rattle.dl_parser.proofs.Written.{item_alike, mixture_alike, cession_alike, exposure_alike, unit_alike, program_alike}
+use Rattle.dl_parser.proofs.Written.{item_alike, mixture_alike, definition_alike, cession_alike, exposure_alike, unit_alike, program_alike}
 use Rattle.dl_parser.proofs.law_as_written.Goals as goal
 
 pub returns-clause-item : goal.returns-clause-item
@@ -19,3 +19,6 @@ returns-clause-unit c = unit_alike
 
 pub returns-clause-program : goal.returns-clause-program
 returns-clause-program c = program_alike
+
+pub returns-clause-definition : goal.returns-clause-definition
+returns-clause-definition c = definition_alike

@@ -4,7 +4,7 @@ use dl_lexer::{Keyword, LexFault, Text, Token, lex, line_col};
 use std::alloc::{AllocError, Global};
 
 /// A text, and its tokens by kind, start and end.
-const CUT: [(&[u8], &str); 40] = [
+const CUT: [(&[u8], &str); 46] = [
     (b"", ""),
     (b" \t\r\n", ""),
     (b"agg", "<Word(Agg) 0 3>"),
@@ -63,10 +63,16 @@ const CUT: [(&[u8], &str); 40] = [
     ),
     (b"3%4", "<Numeral 0 2><Numeral 2 3>"),
     (b"1/2.5", "<Numeral 0 3><Numeral 3 5>"),
+    (b"sev.A", "<Ref 0 5>"),
+    (b"sev.a-1_b z", "<Ref 0 9><Name 10 11>"),
+    (b"sev.agg!", "<Ref 0 7><Sign(Bang) 7 8>"),
+    (b"sev.A1.5", "<Ref 0 6><Numeral 6 8>"),
+    (b"sev.1", "<Word(Sev) 0 3><Numeral 3 5>"),
+    (b"sevx.5", "<Name 0 4><Numeral 4 6>"),
 ];
 
 /// A text, and the first place where neither a blank nor a token begins.
-const BAD: [(&[u8], u32); 24] = [
+const BAD: [(&[u8], u32); 29] = [
     (b".", 0),
     (b"1/", 1),
     (b"/2", 0),
@@ -91,6 +97,11 @@ const BAD: [(&[u8], u32); 24] = [
     (b"1;6", 1),
     (b"12.5%%", 5),
     (b"a/b", 1),
+    (b"sev.", 3),
+    (b"sev.-a", 3),
+    (b"SEV.A", 3),
+    (b"sev A.b", 5),
+    (b"sev.note{x}", 8),
 ];
 
 /// A text, a place, its line and its column.

@@ -5,7 +5,7 @@ use dl_parser::ParseFault;
 use std::alloc::Global;
 
 /// A program, and its number of units.
-const PROGRAMS: [(&[u8], usize); 23] = [
+const PROGRAMS: [(&[u8], usize); 28] = [
     (b"agg A 1 claims dsev [1] fixed", 1),
     (b"agg A 1 claim dsev [1] fixed", 1),
     (b"agg A 10 loss dsev [1] poisson", 1),
@@ -56,10 +56,24 @@ const PROGRAMS: [(&[u8], usize); 23] = [
         b"port P agg A dfreq [1] dsev [1] note{a} agg B dfreq [1] dsev [1] note{b} agg A dfreq [1] dsev [1]",
         3,
     ),
+    (
+        b"sev A dsev [1] dsev [2] wts [1/2 1/2] sev B dsev [3] agg U dfreq [1] sev.A",
+        1,
+    ),
+    (
+        b"sev A dsev [1] sev dhistogram xps [2] wts [.5 .5] agg U dfreq [1] sev.A",
+        1,
+    ),
+    (
+        b"sev A dsev [1] port P common 0.5 note{n} agg U 1 claims sev.A poisson agg V 1 claims 2 xs 1 sev.A ! poisson zm 0.3",
+        2,
+    ),
+    (b"agg A 1 claims dsev [1] geometric zt", 1),
+    (b"agg A 1 claims sev.A! binomial 0.5 zm 1/2", 1),
 ];
 
 /// A text, and the first of its tokens with which no program goes on.
-const SYNTAX: [(&[u8], u32); 52] = [
+const SYNTAX: [(&[u8], u32); 65] = [
     (b"", 0),
     (b"A", 0),
     (b"agg", 1),
@@ -124,10 +138,23 @@ const SYNTAX: [(&[u8], u32); 52] = [
     (b"port P note{n}", 3),
     (b"port P note{n} note{m}", 3),
     (b"port P agg A dfreq [1] dsev [1] port", 12),
+    (b"sev gamma", 1),
+    (b"sev agg dsev [1]", 1),
+    (b"sev A sev.A", 2),
+    (b"sev A dsev [1]", 6),
+    (b"sev A dsev [1] sev", 7),
+    (b"sev A dsev [1] dsev [2] sev B dsev [3]", 11),
+    (b"agg A 1 claims dsev [1] sev A poisson", 9),
+    (b"agg D dfreq [1] sev.A sev.B", 7),
+    (b"agg D dfreq [1] sev.A zt", 7),
+    (b"agg A 1 claims dsev [1] poisson zt zt", 10),
+    (b"agg A 1 claims dsev [1] geometric zm", 10),
+    (b"port P common", 3),
+    (b"port P common 1 common 1", 4),
 ];
 
 /// A text, and its token that names a continuous severity.
-const CONTINUOUS: [(&[u8], u32); 9] = [
+const CONTINUOUS: [(&[u8], u32); 10] = [
     (b"agg A 1 claims sev lognorm 10 cv 1", 5),
     (b"agg A 1 claims sev gamma", 5),
     (b"agg A 1 claims dsev [1] sev beta", 9),
@@ -137,6 +164,7 @@ const CONTINUOUS: [(&[u8], u32); 9] = [
     (b"agg A dfreq [1] sev norm", 7),
     (b"agg A dfreq [1] sev uniform", 7),
     (b"agg A dfreq [1] sev chistogram", 7),
+    (b"sev A dsev [1] sev gamma", 7),
 ];
 
 /// Whether a text is a program of so many units.

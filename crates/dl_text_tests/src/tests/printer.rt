@@ -5,7 +5,7 @@ use dl_printer::print;
 use std::alloc::{AllocError, Global};
 
 /// A text, and the canonical text of its program.
-const CASES: [(&[u8], &[u8]); 9] = [
+const CASES: [(&[u8], &[u8]); 12] = [
     (
         b"agg  D dfreq [1,2] [50% 1/2] # c\nsev dhistogram xps [0 1] [.5 0.5] note{x}",
         b"agg D dfreq [1 2] [50% 1/2] dsev [0 1] [.5 0.5] note{x}\n",
@@ -41,6 +41,18 @@ const CASES: [(&[u8], &[u8]); 9] = [
     (
         b"\nagg Agg 1/3 claims 1 xs 1 dsev [1/2:.5:5.] fixed note{}\n",
         b"agg Agg 1/3 claims 1 xs 1 dsev [1/2:.5:5.] fixed note{}\n",
+    ),
+    (
+        b"sev A dsev [1:6] agg D dfreq [1] sev.A",
+        b"sev A dsev [1:6]\nagg D dfreq [1] sev.A\n",
+    ),
+    (
+        b"sev A dsev [1] sev dhistogram xps [2] wts [.5 .5] sev B dsev [3] agg D dfreq [1] sev.B",
+        b"sev A dsev [1] dsev [2] wts [.5 .5]\nsev B dsev [3]\nagg D dfreq [1] sev.B\n",
+    ),
+    (
+        b"sev A dsev [1,2] port P common .5 note{n} agg U 2 claims sev.A! geometric zm 30% agg V 1 claims dsev [1] poisson zt",
+        b"sev A dsev [1 2]\nport P common .5 note{n}\nagg U 2 claims sev.A ! geometric zm 30%\nagg V 1 claims dsev [1] poisson zt\n",
     ),
 ];
 

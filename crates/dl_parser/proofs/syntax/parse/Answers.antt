@@ -40,6 +40,8 @@ returns-then-is_at_end-clause-spelled c =
 pub returns-then-is_at_end-clause-formed : goal.returns-then-is_at_end-clause-formed
 returns-then-is_at_end-clause-formed c =
     program_formed c.in-Ok.program _ (covered_real c.args.source.now _ c.args.tokens.now c.requires.covered)
+    (simp length-map
+    (omega (arith, covered_few c.args.source.now c.args.tokens.now c.requires.covered c.requires.short)))
     (read_whole _ c.in-Ok.program (place c.program.new.self) c.in-Ok.ensures.reads
     (ap (map _) (nil_of _ (sym c.is_at_end.ensures ∙ c.if-is_at_end.true))))
 

@@ -10,7 +10,7 @@ use Rattle.dl_types.proofs.unit.check_read.Goals as goal
 pub returns-clause-told : goal.returns-clause-told
 returns-clause-told c =
     let pairs = fault_of_pairs c.args.number in
-    let u = read_of c.args.unit.now in
+    let u = read_of c.args.unit.now c.args.mix.now in
     subst (λ fault. TellsFault fault c.kept.result)
     (ap pairs c.in_ok-read.ensures.same ∙ sym (ap (λ o. o else pairs u) c.in_ok-read.ensures.told))
     (c.kept.ensures.told _ c.check_pairs-told.ensures.told)

@@ -1,0 +1,12 @@
+-- The severities so far, which have different names, and these.
+use Rattle.dl_types.proofs.Common.{◌≡◌, map, take}
+use Rattle.dl_amounts.proofs.Turns.{NoneTurned}
+use Rattle.dl_types.specs.Faults.{fault_of_severity}
+use Rattle.dl_types.specs.UnitNames.{severity_names}
+use Rattle.dl_types.proofs.severities.check_severities.Given as goal
+
+abbrev pub invariant-sevs : goal.invariant-sevs
+invariant-sevs l = record {
+  turned : NoneTurned fault_of_severity l.sevs l.at;
+  names : map (λ name. name.now) l.names.keys ≡ severity_names (take l.at l.sevs);
+}
