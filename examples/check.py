@@ -22,7 +22,11 @@ import tempfile
 ROOT = pathlib.Path(__file__).resolve().parent.parent
 PAGES = ["README.md", "docs/*.md", "examples/*.decl", "examples/*/*.decl"]
 #: The report whose numbers are written into a picture of the gallery, with the column and the size of its buckets there.
-DRAWN = {"exceedance": ("exceedance-years.csv", 1, 0.01), "layers": ("layers.csv", 2, 1)}
+DRAWN = {
+    "exceedance": ("exceedance-years.csv", 1, 0.01),
+    "layers": ("layers.csv", 2, 1),
+    "long": ("long-years.csv", 1, 0.00025),
+}
 RULE = re.compile(r"\| \d+ [A-Za-z]+ \|.*\| `([^`]*)` \| `(decl: 1:\d+: [^`]*)` \|")
 
 

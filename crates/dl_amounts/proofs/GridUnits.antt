@@ -134,8 +134,8 @@ module _ (most : ℕ) (bs : Fraction) (u : ReadUnit) (le : most ≤ most_amount)
             (clause_fails test bs) u.occ) _ both,
       )
 
-  layer_there : (o : Option ReadLayer) → within (layer_fails off bs) o ≡ None → within (layer_fails (far most) bs) o ≡ None
-      → IfSome (if_there (grid_layer bs) o) (IsLayerWithin most)
+  layer_there : (o : Option ReadLayer) → within (layer_fails off bs) o ≡ None
+      → within (layer_fails (far most) bs) o ≡ None → IfSome (if_there (grid_layer bs) o) (IsLayerWithin most)
   layer_there None e f = tt
   layer_there (Some l) e f = layer_small most bs l e f
 

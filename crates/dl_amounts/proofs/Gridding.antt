@@ -37,8 +37,8 @@ not_far most q x e near = elim (cases_lt most q) [
 ]
 
 -- n over e is the numerator and the denominator of an amount, m over d those of the bucket size
-module _ (most : ℕ) (x bs : Fraction) (n d e m : ℕ) (h : whole 0 <ℚ bs) (pn : n ≡ x.num) (pd : d ≡ bs.den) (pe : e ≡ x.den)
-    (pm : m ≡ bs.num) where
+module _ (most : ℕ) (x bs : Fraction) (n d e m : ℕ) (h : whole 0 <ℚ bs) (pn : n ≡ x.num) (pd : d ≡ bs.den)
+    (pe : e ≡ x.den) (pm : m ≡ bs.num) where
   off_grid_is : not (nat_eq (n * d % (e * m)) 0) ≡ not (is_whole (buckets bs x))
   off_grid_is = ap not (both_ways _ _ (λ t. eq-eqb (buckets bs x).den 1 (divides_whole x bs n d e m h pn pd pe pm t))
       (λ t. whole_divides x bs n d e m h pn pd pe pm (eqb-true (buckets bs x).den 1 t)))
@@ -105,8 +105,8 @@ flaws_same most f g e = ap₂ (λ a b. record { off_grid = a; too_far = b }) (e 
     (e (λ x. is_above x (whole most)))
 
 -- two parts of one
-pub both_gridded : {A B C : Type 0} (most : ℕ) (make : A → B → C) (f g h : (Fraction → Bool) → Option Span) (x : A) (y : B)
-    (a : Gridded A) (b : Gridded B) (flaws : Flaws) → IsGridded most f x a → IsGridded most g y b
+pub both_gridded : {A B C : Type 0} (most : ℕ) (make : A → B → C) (f g h : (Fraction → Bool) → Option Span) (x : A)
+    (y : B) (a : Gridded A) (b : Gridded B) (flaws : Flaws) → IsGridded most f x a → IsGridded most g y b
     → ((test : Fraction → Bool) → (f test else g test) ≡ h test) → flaws ≡ flaws_else a.flaws b.flaws
     → IsGridded most h (make x y) (record { part = make a.part b.part; flaws = flaws })
 both_gridded most make f g h x y a b flaws first second places is = record {
@@ -188,8 +188,8 @@ pub next_amount : (most : ℕ) (bs : Fraction) (vs : List Fraction) (ps : List S
     → x ≡ get_or vs i x
     → IsGridded most (λ test. first_in (value_fails bs test) (zip (take i vs) (take i ps)))
     (map (value_number bs) (zip (take i vs) (take i ps))) (record { part = made; flaws = flaws })
-    → IsGridded most (λ test. at_if (test (buckets bs x)) (get_or ps i d)) (number_of bs x) one → new ≡ made ++ one.part ∷ []
-    → all ≡ flaws_else flaws one.flaws
+    → IsGridded most (λ test. at_if (test (buckets bs x)) (get_or ps i d)) (number_of bs x) one
+    → new ≡ made ++ one.part ∷ [] → all ≡ flaws_else flaws one.flaws
     → IsGridded most (λ test. first_in (value_fails bs test) (zip (take (i + 1) vs) (take (i + 1) ps)))
     (map (value_number bs) (zip (take (i + 1) vs) (take (i + 1) ps))) (record { part = new; flaws = all })
 next_amount most bs vs ps i x d made new one flaws all lt same at before here pushed is =
@@ -198,11 +198,13 @@ next_amount most bs vs ps i x d made new one flaws all lt same at before here pu
     (zip-more vs ps i x d lt same ∙ ap (λ y. zip (take i vs) (take i ps) ++ (y, get_or ps i d) ∷ []) (sym at))
     before here pushed is
 
-pub all_amounts : (most : ℕ) (bs : Fraction) (l : ReadList) (vs : List Fraction) (ps : List Span) (i : ℕ) (made list : List ℕ)
-    (flaws : Flaws) → vs ≡ l.values → ps ≡ l.places → length l.places ≡ length l.values → length vs ≤ i → list ≡ made
+pub all_amounts : (most : ℕ) (bs : Fraction) (l : ReadList) (vs : List Fraction) (ps : List Span) (i : ℕ)
+    (made list : List ℕ) (flaws : Flaws) → vs ≡ l.values → ps ≡ l.places → length l.places ≡ length l.values
+    → length vs ≤ i → list ≡ made
     → IsGridded most (λ test. first_in (value_fails bs test) (zip (take i vs) (take i ps)))
     (map (value_number bs) (zip (take i vs) (take i ps))) (record { part = made; flaws = flaws })
-    → IsGridded most (λ test. list_fails test bs l) (map (number_of bs) l.values) (record { part = list; flaws = flaws })
+    → IsGridded most (λ test. list_fails test bs l) (map (number_of bs) l.values)
+    (record { part = list; flaws = flaws })
 unfolding list_fails
 all_amounts most bs l vs ps i made list flaws values places same le is h =
     let whole_list : zip (take i vs) (take i ps) ≡ zip l.values l.places =

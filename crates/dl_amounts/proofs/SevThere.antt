@@ -125,6 +125,6 @@ module _ (u : GridUnit) (fine : IsFineSev u) where
       few_of : (m n : ℕ) → m ≤ n → n ≤ 65536 → m ≤ 65536
       few_of m n a b = omega (arith, a, b)
 
-  pub final_there : (sev : Sev) × Means sev (final_severity u) × ((b : ℕ) → IsSevWithin b u.sev → All (λ (i : Item). i.amount ≤ b) sev.items)
-      × (length sev.items ≤ 65536)
+  pub final_there : (sev : Sev) × Means sev (final_severity u)
+      × ((b : ℕ) → IsSevWithin b u.sev → All (λ (i : Item). i.amount ≤ b) sev.items) × (length sev.items ≤ 65536)
   final_there = final_of u.occ refl

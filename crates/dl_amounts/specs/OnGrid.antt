@@ -11,7 +11,8 @@ use Rattle.dl_amounts.specs.Rules.{off_grid, too_far}
 -- the unit in buckets of size bs, with amounts of up to so many; else the first place where the
 -- first of the two rules is broken, or want of memory
 abbrev pub GridsUnit : ℕ → Fraction → ReadUnit → Result GridUnit GridFault → Type 0
-GridsUnit most bs u (Ok made) = (made ≡ grid_of bs u) × (off_grid bs u ≡ None) × (too_far most bs u ≡ None)
+GridsUnit most bs u (Ok made) = (made ≡ grid_of bs u) × (off_grid bs u ≡ None)
+    × (too_far most bs u ≡ None)
 GridsUnit most bs u (Err (OffGrid place)) = off_grid bs u ≡ Some place
 GridsUnit most bs u (Err (TooFar place)) = (off_grid bs u ≡ None) × (too_far most bs u ≡ Some place)
 GridsUnit most bs u (Err OutOfMemory) = ⊤

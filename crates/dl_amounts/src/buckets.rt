@@ -135,7 +135,8 @@ fn grid_severity(
     requires bucket { IsBucket bs }
     requires most { most ≤ most_amount }
     requires read { IsSevRead sev }
-    ensures { IfOk result (IsGridded most (λ test. first_in (λ a. list_fails test bs a.values) sev.atoms)
+    ensures { IfOk result (IsGridded most
+        (λ test. first_in (λ a. list_fails test bs a.values) sev.atoms)
         (grid_severity bs sev)) }
 {
     let atoms = grid_atoms(alloc, sev.atoms.into_vec(), bs, most)?;

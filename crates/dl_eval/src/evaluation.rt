@@ -162,8 +162,8 @@ fn answered<const B: u32>(
 
 /// A row for each ask, in order; or the first ask that lies past the grid, else the first that
 /// names no unit, else the first that needs more width than the settings give, with the width it
-/// needs. The grids of a plan of up to 4,096 cells are in units of 1 / 2^56, those of a longer one in
-/// units of 1 / 2^48.
+/// needs. The grids of a plan of up to 4,096 cells are in units of 1 / 2^56, those of a longer one
+/// in units of 1 / 2^48.
 pub fn evaluate(alloc: Global, plan: &Plan, settings: &Settings) -> Result<Report, EvalFault>
     requires valid { IsValid plan.now }
     requires ranges { AreInRange settings.now }

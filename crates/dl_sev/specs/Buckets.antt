@@ -21,7 +21,8 @@ pub record IsFirstWhere (P : Fraction → Type 0) (xs : List Fraction) (i : ℕ)
   pub before : (k : ℕ) (d : Fraction) → k < i → ¬ P (slice_index_or xs k d)
 
 -- the amounts are the values in buckets, each at most top
-pub record AreInBuckets (values : List Fraction) (bs : Fraction) (top : ℕ) (made : List ℕ) : Type 0 where
+pub record AreInBuckets (values : List Fraction) (bs : Fraction) (top : ℕ) (made : List ℕ)
+    : Type 0 where
   pub same : map whole made ≡ map (buckets bs) values
   pub near : All (λ amount. amount ≤ top) made
 

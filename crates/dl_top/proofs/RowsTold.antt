@@ -62,9 +62,9 @@ fits plan settings b e = rw e (record { num = omega (arith, b.num); den = omega 
 few_cells : (plan : Plan) → IsValid plan → plan.cells < 2 ^ 32
 few_cells plan valid = few valid.cells.0 valid.cells.2 valid.cells.3
   where
-    few : (k : ℕ) → k ≤ 12 → plan.cells ≡ 2 ^ k → plan.cells < 2 ^ 32
+    few : (k : ℕ) → k ≤ 16 → plan.cells ≡ 2 ^ k → plan.cells < 2 ^ 32
     few k small e =
-        let most : 2 ^ k ≤ 2 ^ 12 = pow-le-pow_right {n = 2} (omega (arith)) {i = k} {j = 12} small in
+        let most : 2 ^ k ≤ 2 ^ 16 = pow-le-pow_right {n = 2} (omega (arith)) {i = k} {j = 16} small in
         omega (arith, most, e)
 
 by_form : (format : Format) (plan : Plan) (a b : Report) → FitsFrac plan.bs → plan.cells < 2 ^ 32 → All IsPlain a.rows

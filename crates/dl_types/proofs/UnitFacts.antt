@@ -240,7 +240,8 @@ grid_parts settings unit u none =
     )
 
 module _ (settings : Settings) (unit : ℕ) (u : GridUnit) (grid : IsGridUnit u)
-    (within : IsWithin (most_amount_at (cells_asked settings)) u) (none : fault_on_grid settings unit u ≡ None) (text : List ℕ) where
+    (within : IsWithin (most_amount_at (cells_asked settings)) u)
+    (none : fault_on_grid settings unit u ≡ None) (text : List ℕ) where
   pub grid_answer : (made : UnitOfPlan) → made.name ≡ text → made.zero ≡ None → IsFinal u made.sev
       → IsCountMade u.count (expected_claims settings.bs u) made.freq → IsCedeOf u.agr made.cede
       → AnswersGrid settings unit text u (Ok made)
@@ -248,9 +249,10 @@ module _ (settings : Settings) (unit : ℕ) (u : GridUnit) (grid : IsGridUnit u)
       let parts = grid_parts settings unit u none in
       let ceded = (layered_is unit u grid parts.0).1 in (
         none,
-        unit_is settings.bs unit u grid parts.1 (cells_asked settings) ceded parts.2 within text made name zero sev freq cede,
-        unit_valid settings.bs unit u grid parts.1 (cells_asked settings) ceded parts.2 within text made name zero sev freq
-            cede,
+        unit_is settings.bs unit u grid parts.1 (cells_asked settings) ceded parts.2 within text made name zero sev
+            freq cede,
+        unit_valid settings.bs unit u grid parts.1 (cells_asked settings) ceded parts.2 within text made name zero sev
+            freq cede,
       )
 
   -- the unit is made of these parts, or there is no room for it

@@ -425,7 +425,8 @@ fn check_horizon(
     kept(Some(made), broken(number, Rule::HorizonTooLarge, place))
 }
 
-/// The place of a clause, made so, whose horizon on a grid of so many cells passes the greatest one.
+/// The place of a clause, with its value, whose horizon on a grid of so many cells passes the
+/// greatest one.
 fn horizon_passes(cession: &GridClause, made: &Cede, cells: u32) -> Option<Span>
     requires made { made.now ≡ clause_of cession.now }
     requires accepted { IsClause made.now }

@@ -5,8 +5,8 @@ use Rattle.dl_amounts.proofs.buckets.grid_amounts.Goals as goal
 
 pub values-init : goal.values-init
 values-init c =
-    none_gridded c.args.most (value_fails c.args.bs) (value_number c.args.bs) c.new-made.result.items c.none-flaws.result
-    c.new-made.ensures.items c.none-flaws.ensures.off_grid c.none-flaws.ensures.too_far
+    none_gridded c.args.most (value_fails c.args.bs) (value_number c.args.bs) c.new-made.result.items
+    c.none-flaws.result c.new-made.ensures.items c.none-flaws.ensures.off_grid c.none-flaws.ensures.too_far
 
 pub values-preserved : goal.values-preserved
 values-preserved c =
@@ -18,6 +18,6 @@ values-preserved c =
 
 pub returns : goal.returns
 returns c =
-    all_amounts c.args.most c.args.bs c.args.list.now c.as_slice-value-items.result.now c.as_slice-places.result.now c.values.at
-    c.values.made.items c.from_vec.result c.values.flaws c.as_slice-value-items.ensures c.as_slice-places.ensures
+    all_amounts c.args.most c.args.bs c.args.list.now c.as_slice-value-items.result.now c.as_slice-places.result.now
+    c.values.at c.values.made.items c.from_vec.result c.values.flaws c.as_slice-value-items.ensures c.as_slice-places.ensures
     c.requires.read.places c.values-test.false c.from_vec.ensures c.values.invariant

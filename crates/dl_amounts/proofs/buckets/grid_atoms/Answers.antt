@@ -14,8 +14,8 @@ atoms-init c =
 
 pub atoms-preserved : goal.atoms-preserved
 atoms-preserved c =
-    more_gridded c.args.most (λ test (a : ReadAtom). list_fails test c.args.bs a.values) (grid_atom c.args.bs) c.atoms.yielded _
-    c.in-Some.atom c.atoms.made.items c.push.new.self.items c.in_ok-one.one c.atoms.flaws c.or-flaws.result refl
+    more_gridded c.args.most (λ test (a : ReadAtom). list_fails test c.args.bs a.values) (grid_atom c.args.bs)
+    c.atoms.yielded _ c.in-Some.atom c.atoms.made.items c.push.new.self.items c.in_ok-one.one c.atoms.flaws c.or-flaws.result refl
     c.atoms.invariant c.in_ok-one.ensures c.in_ok-push.ensures.items c.or-flaws.ensures
 
 pub returns : goal.returns
@@ -24,6 +24,6 @@ returns c =
     (search rules) (search rules)) c.atoms.yielded c.atoms.atom-iterator c.atoms.yielded_by c.next.result
     c.next.new.self
     c.in-None.is c.next.ensures.steps in
-    all_gridded c.args.most (λ test (a : ReadAtom). list_fails test c.args.bs a.values) (grid_atom c.args.bs) (λ made. made)
-    c.args.atoms.items c.atoms.yielded c.atoms.made.items c.from_vec.result c.atoms.flaws
+    all_gridded c.args.most (λ test (a : ReadAtom). list_fails test c.args.bs a.values) (grid_atom c.args.bs)
+    (λ made. made) c.args.atoms.items c.atoms.yielded c.atoms.made.items c.from_vec.result c.atoms.flaws
     (sym (map-id c.atoms.yielded) ∙ end.0) c.from_vec.ensures c.atoms.invariant

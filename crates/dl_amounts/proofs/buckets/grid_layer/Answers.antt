@@ -9,7 +9,8 @@ pub returns : goal.returns
 returns c =
     let l = c.args.layer in
     let bs = c.args.bs in
-    both_gridded c.args.most (λ (limit : Option ℕ) (attach : ℕ). record { limit = limit; attach = attach; span = l.span })
+    both_gridded c.args.most
+    (λ (limit : Option ℕ) (attach : ℕ). record { limit = limit; attach = attach; span = l.span })
     (λ test. within (λ x. at_if (test (buckets bs x)) l.span) l.limit)
     (λ test. at_if (test (buckets bs l.attach)) l.span) (λ test. layer_fails test bs l) (if_there
     (number_of bs) l.limit)

@@ -23,11 +23,11 @@ layers-preserved c =
     }) c.layers.flaws c.or-flaws.result
     (take_more c.args.layers.now c.layers.ceded-index c.ceded-item.result c.layers-test.true
     ∙ ap (λ x. take c.layers.ceded-index c.args.layers.now ++ x ∷ []) (sym c.ceded-item.is)) c.layers.invariant
-    (ceded_gridded c.args.most c.args.bs c.ceded-item.result c.grid_share.result c.grid_layer-one.result c.grid_share.ensures
-    c.grid_layer-one.ensures) c.in_ok-push.ensures.items c.or-flaws.ensures
+    (ceded_gridded c.args.most c.args.bs c.ceded-item.result c.grid_share.result c.grid_layer-one.result
+    c.grid_share.ensures c.grid_layer-one.ensures) c.in_ok-push.ensures.items c.or-flaws.ensures
 
 pub returns : goal.returns
 returns c =
-    all_gridded c.args.most (λ test (x : ReadCeded). layer_fails test c.args.bs x.layer) (grid_ceded c.args.bs) (λ made. made)
-    c.args.layers.now _ c.layers.made.items c.from_vec.result c.layers.flaws
+    all_gridded c.args.most (λ test (x : ReadCeded). layer_fails test c.args.bs x.layer) (grid_ceded c.args.bs)
+    (λ made. made) c.args.layers.now _ c.layers.made.items c.from_vec.result c.layers.flaws
     (take_all c.layers.ceded-index c.args.layers.now c.layers-test.false) c.from_vec.ensures c.layers.invariant

@@ -12,8 +12,8 @@ returns-then-amount-top c =
       record {
         inside = c.values-test.true;
         here = at_place
-            (λ x. whole c.args.top <ℚ buckets c.args.bs x) c.args.values.now c.values.at c.index-values-at.result c.values-test.true
-            c.index-values-at.is far;
+            (λ x. whole c.args.top <ℚ buckets c.args.bs x) c.args.values.now c.values.at
+            c.index-values-at.result c.values-test.true c.index-values-at.is far;
         before = c.values.invariant.before;
       },
     )
@@ -28,8 +28,8 @@ values-preserved c = record {
       c.if-amount-top.false);
   before =
       more_before
-      (λ x. ¬ (whole c.args.top <ℚ buckets c.args.bs x)) c.args.values.now c.values.at c.index-values-at.result c.values-test.true
-      c.index-values-at.is c.values.invariant.before
+      (λ x. ¬ (whole c.args.top <ℚ buckets c.args.bs x)) c.args.values.now c.values.at
+      c.index-values-at.result c.values-test.true c.index-values-at.is c.values.invariant.before
       (λ far. absurd (not_lt (lt_whole c.args.top c.quotient-amount.result
       (subst (λ y. whole c.args.top <ℚ y) c.quotient-amount.ensures far)) c.if-amount-top.false));
 }

@@ -50,8 +50,8 @@ returns c =
     let at = λ (k : ℕ). breaks c.args.number HorizonTooLarge (horizon_too_large k u.agr) in
     let none = third_told settings c.args.number u c.in_ok-amounts.ensures.told c.in_ok-claims.ensures.told _
     (sym (ap at c.cells.ensures) ∙ c.in_ok-cede.ensures.told) in
-    made_answer settings c.args.number u c.requires.grid c.requires.within none c.args.unit.now.name.text c.in_ok-claims.claims.severity
-    c.in_ok-cede.cede c.in_ok-claims.ensures.claims.severity c.in_ok-cede.ensures.made c.planned.result
+    made_answer settings c.args.number u c.requires.grid c.requires.within none c.args.unit.now.name.text
+    c.in_ok-claims.claims.severity c.in_ok-cede.cede c.in_ok-claims.ensures.claims.severity c.in_ok-cede.ensures.made c.planned.result
     (subst (λ text. IfOk c.planned.result (λ made. made.name ≡ text)) c.as_slice.ensures made.name) made.severity
     (subst (λ n. IfOk c.planned.result (λ made. IsCountMade u.count n made.freq)) c.in_ok-claims.ensures.count
     made.count)

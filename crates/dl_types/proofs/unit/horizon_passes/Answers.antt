@@ -14,4 +14,5 @@ returns c =
     (horizon_is (Some clause) cells c.requires.accepted) in
     c.place_if.ensures ∙ ap (λ m. at_if (nat_lt m c.horizon.result) c.args.cession.now.span) c.most_horizon.ensures.most
     ∙ ap (λ k. at_if (nat_lt (most_horizon cells) k) c.args.cession.now.span) same
-    ∙ ap (λ (k : Clause). at_if (nat_lt (most_horizon cells) (horizon (Some k) cells)) c.args.cession.now.span) c.requires.made
+    ∙ ap (λ (k : Clause). at_if (nat_lt (most_horizon cells) (horizon (Some k) cells)) c.args.cession.now.span)
+    c.requires.made
