@@ -63,3 +63,4 @@ pub mod PriceLaws
 pub mod ShareLaws
 pub mod ShareEnds
 pub mod PooledLoss
+pub mod ChangedLoss

@@ -1,9 +1,11 @@
 -- Claim counts whose probability of no claim is changed to p (Loss Models, "Truncation and
 -- modification at zero"); zero-truncated counts are those with p = 0.
-use Rattle.std.specs.Prelude.{ℕ, zero, suc, ◌≡◌, nat_eq}
+use Rattle.std.specs.Prelude.{ℕ, zero, suc, ◌≡◌, ◌*◌, nat_eq}
 use Rattle.dl_exact.specs.Fraction.{Fraction, whole, ◌+ℚ◌, ◌-ℚ◌, ◌*ℚ◌, ◌/ℚ◌}
+use Rattle.dl_exact.specs.Sum.{sum_to}
 use Rattle.dl_model.specs.Series.{Series}
-use Rattle.dl_model.specs.Program.{where_true}
+use Rattle.dl_model.specs.Program.{Loss, where_true}
+use Rattle.dl_model.specs.Units.{Aggregate, outcome}
 
 -- the weights of at least one claim
 unfoldable pub without_none : (ℕ → Fraction) → ℕ → Fraction
@@ -28,3 +30,23 @@ pub record IsWithNone (y : ℕ) (none : Fraction) (cell all part rest : Series) 
 abbrev pub changed_end : Fraction → ℕ → (cell off none : Fraction) → Fraction
 changed_end p y cell off none = (whole 1 -ℚ p) *ℚ
     ((cell -ℚ where_true (nat_eq y 0) off) /ℚ (whole 1 -ℚ none)) +ℚ where_true (nat_eq y 0) p
+
+-- the unit u with the weights of at least one claim for its count
+abbrev pub with_claims : Aggregate → Aggregate
+with_claims u = record {
+  count = without_none u.count;
+  severity = u.severity;
+  most = u.most;
+  clause = u.clause;
+}
+
+-- The loss of the unit u with its probability of no claim changed to p: its outcomes with that
+-- probability, over the whole weight of at least one claim, up to the same greatest outcome.
+abbrev pub changed : Fraction → Aggregate → Loss
+changed p u = record {
+  family = record {
+    cells = λ y. with_none p y (outcome (with_claims u) y) (λ N. sum_to N (without_none u.count));
+    all = λ N. sum_to N (without_none u.count);
+  };
+  reach = λ N. N * u.most;
+}

@@ -2,13 +2,15 @@
 //! "Truncation and modification at zero").
 
 ghost use Rattle.std.specs.Prelude.{ℕ, suc, ◌≡◌, ◌*◌, ◌<◌, ◌≤◌, nat_eq};
-ghost use Rattle.dl_exact.specs.Fraction.{Fraction, whole, ◌over◌, ◌-ℚ◌, ◌*ℚ◌, ◌≤ℚ◌, ◌<ℚ◌};
+ghost use Rattle.dl_exact.specs.Fraction.{Fraction, whole, ◌over◌, ◌-ℚ◌, ◌*ℚ◌, ◌/ℚ◌, ◌≤ℚ◌, ◌<ℚ◌};
 ghost use Rattle.dl_exact.specs.Sum.{sum_to};
 ghost use Rattle.dl_model.specs.Series.{Series, IsBound, AtMost, AtLeast, Holds, Rises};
 ghost use Rattle.dl_model.specs.Compound.{cell};
 ghost use Rattle.dl_model.specs.Counts.{fixed, binomial, poisson, gamma_of, AreCountWeights};
 ghost use Rattle.dl_model.specs.Program.{where_true};
-ghost use Rattle.dl_model.specs.ChangedZero.{without_none, with_none, changed_end, IsWithNone};
+ghost use Rattle.dl_model.specs.Units.{Aggregate, IsDeclared, outcome, loss};
+ghost use Rattle.dl_model.specs.Measures.{IsDeclaredLoss, mean_to_reach};
+ghost use Rattle.dl_model.specs.ChangedZero.{without_none, with_none, changed, changed_end, IsWithNone};
 
 /// No claim comes to 0: so compound sums have the weight of no claim at 0, beside the part from at
 /// least one claim, also after an aggregate clause that maps 0 to 0.
@@ -68,6 +70,42 @@ pub fn law_changed_lows()
 pub fn law_without_none()
     ensures { (w : ℕ → Fraction) → AreCountWeights w → (level : ℕ)
         → whole 0 <ℚ sum_to level (without_none w) → AreCountWeights (without_none w) }
+{}
+
+/// A unit with its probability of no claim changed to `p` has a loss that can be declared, where
+/// the unit can and some sum of its weights of at least one claim is above 0. No claim adds 0, so
+/// from at most `N` claims the mean is `1 - p` times that of the unit.
+pub fn law_changed_loss()
+    ensures declared { (p : Fraction) (u : Aggregate) → p ≤ℚ whole 1 → IsDeclared u
+        → (level : ℕ) → whole 0 <ℚ sum_to level (without_none u.count)
+        → IsDeclaredLoss (changed p u) }
+    ensures mean { (p : Fraction) (u : Aggregate) → IsDeclared u → (N : ℕ)
+        → mean_to_reach (changed p u) N ≡ (whole 1 -ℚ p) *ℚ mean_to_reach (loss u) N }
+{}
+
+/// The outcome `y` and the mean of that loss, from ends of those of the unit and ends of the unit's
+/// probability of no claim, whose high end is below 1. Low ends of the outcomes 0 to `k` that add
+/// up to at most 1 do so after the change.
+pub fn law_changed_values()
+    ensures outcome { (p low high none_low none_high : Fraction) (y : ℕ) (u : Aggregate)
+        → IsDeclared u → Holds (outcome u y) (λ N. sum_to N u.count) low high
+        → Holds (λ N. u.count 0) (λ N. sum_to N u.count) none_low none_high
+        → none_low ≤ℚ none_high → none_high <ℚ whole 1
+        → Holds ((changed p u).family.cells y) (changed p u).family.all
+        (changed_end p y low none_high none_low) (changed_end p y high none_low none_high) }
+    ensures mean { (p low high none_low none_high : Fraction) (u : Aggregate)
+        → IsDeclared u → Holds (mean_to_reach (loss u)) (λ N. sum_to N u.count) low high
+        → Holds (λ N. u.count 0) (λ N. sum_to N u.count) none_low none_high
+        → none_low ≤ℚ none_high → none_high <ℚ whole 1
+        → Holds (mean_to_reach (changed p u)) (changed p u).family.all
+        ((whole 1 -ℚ p) *ℚ (low /ℚ (whole 1 -ℚ none_low)))
+        ((whole 1 -ℚ p) *ℚ (high /ℚ (whole 1 -ℚ none_high))) }
+    ensures lows { (p none_low none_high : Fraction) (k : ℕ) (u : Aggregate) (low : ℕ → Fraction)
+        → p ≤ℚ whole 1 → IsDeclared u
+        → ((y : ℕ) → y ≤ k → AtLeast (outcome u y) (λ N. sum_to N u.count) (low y))
+        → AtLeast (λ N. u.count 0) (λ N. sum_to N u.count) none_low
+        → none_low ≤ℚ none_high → none_low <ℚ whole 1 → sum_to k low ≤ℚ whole 1
+        → sum_to k (λ y. changed_end p y (low y) none_high none_low) ≤ℚ whole 1 }
 {}
 
 /// Where at least 1 / 16 of a claim is expected, the probability of no claim is at most 16 / 17:
