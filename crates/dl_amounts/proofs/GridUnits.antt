@@ -1,5 +1,5 @@
 -- A unit in whole buckets, by its parts.
-use Rattle.dl_amounts.proofs.Common.{ℕ, ◌≡◌, ◌≤◌, ◌∙◌, List, [], ◌∷◌, ◌++◌, map, flat_map, false, Bool, Option, Some, None, refl, sym, ap, subst, arith, All, length-map, All-map, IfSome, Fraction, Span, ReadList, ReadAtom, ◌else◌, earlier, first_in, within, each_of, itself, probs_in_count, probs_in_severity, is_not_one, else_first, else_second, earlier_none, none_each, not_at, GridAtom, GridUnit, flaws_else, IsGridded, grid_atom, grid_severity, grid_layer, grid_clause, IsGridAtom, IsLayerWithin, IsClauseWithin, IsSevWithin, IsWithin, IsGridClause, IsGridUnit, own_lists, other_length, list_not_one, not_one, list_fails, layer_fails, clause_fails}
+use Rattle.dl_amounts.proofs.Common.{ℕ, ◌≡◌, ◌≤◌, ◌∙◌, List, [], ◌∷◌, ◌++◌, map, flat_map, false, Bool, Option, Some, None, refl, sym, ap, subst, arith, All, length-map, All-map, IfSome, Fraction, Span, ReadList, ReadAtom, ◌else◌, earlier, first_in, within, each_of, itself, probs_in_count, probs_in_severity, is_not_one, else_first, else_second, earlier_none, none_each, not_at, GridAtom, GridUnit, flaws_else, IsGridded, grid_atom, grid_severity, grid_layer, grid_clause, IsGridAtom, IsLayerWithin, IsClauseWithin, IsWithin, IsGridClause, IsGridUnit, own_lists, other_length, list_not_one, not_one, list_fails, layer_fails, clause_fails}
 use Rattle.std.proofs.Common.{Result, Ok, Err}
 use Rattle.std.proofs.lemmas.List.Elements.{All-append}
 use Rattle.dl_read.specs.declared.tree.ReadLayer.{ReadLayer}
