@@ -30,16 +30,16 @@ pub use Rattle.dl_sev.specs.Weighed.{IsWeighing}
 pub use Rattle.dl_sev.specs.Weighing.{sum_of}
 pub use Rattle.dl_sev.specs.declared.weights.Weights.{Weights}
 pub use Rattle.dl_read.proofs.Firsts.{at_item, both_in, else_or, one_in, same_place}
-pub use Rattle.dl_read.proofs.Nothing.{else_first, else_second, none_each, not_at}
-pub use Rattle.dl_read.specs.First.{at_if, each_of, within, ◌else◌}
+pub use Rattle.dl_read.proofs.Nothing.{earlier_none, else_first, else_second, none_each, not_at}
+pub use Rattle.dl_read.specs.First.{at_if, each_of, earlier, within, ◌else◌}
 unfoldable pub use Rattle.dl_read.specs.First.{first_in, in_turn}
-pub use Rattle.dl_read.specs.Lists.{is_above, is_fine, is_not_one, is_one, is_whole, itself, prob_lists_of, probs_in_count}
+pub use Rattle.dl_read.specs.Lists.{is_above, is_fine, is_not_one, is_one, is_whole, itself, probs_in_count, probs_in_severity}
 pub use Rattle.dl_read.specs.declared.tree.ReadAtom.{ReadAtom}
 pub use Rattle.dl_read.specs.declared.tree.ReadCeded.{ReadCeded}
 pub use Rattle.dl_read.specs.declared.tree.ReadList.{ReadList}
 pub use Rattle.dl_amounts.specs.Clauses.{ceded_layer, clause_of, is_off, is_off_multiples, overlaps, share_of, shares_of}
 pub use Rattle.dl_amounts.specs.ClausesKept.{IsClauseLayered}
-pub use Rattle.dl_amounts.specs.Flaws.{IsClean, IsGridded, flaws_else}
+pub use Rattle.dl_amounts.specs.Flaws.{IsClean, IsGridded, earlier_flaws, flaws_else}
 pub use Rattle.dl_amounts.specs.Grid.{grid_atom, grid_ceded, grid_clause, grid_layer, grid_severity, number_of}
 pub use Rattle.dl_amounts.specs.GridKept.{IsClauseWithin, IsGridAtom, IsGridClause, IsGridSev, IsGridUnit, IsLayerWithin, IsSevWithin, IsWithin}
 pub use Rattle.dl_amounts.specs.Parts.{AreProbabilities, IsSevShared, IsSevWeighted}

@@ -1,6 +1,7 @@
 -- A unit in whole buckets, by its parts.
-use Rattle.dl_amounts.proofs.Common.{ℕ, ◌≡◌, ◌≤◌, ◌∙◌, List, [], ◌∷◌, ◌++◌, map, flat_map, false, Bool, Option, Some, None, refl, sym, ap, subst, append_assoc, arith, All, length-map, All-map, IfSome, Fraction, ReadList, ReadAtom, ◌else◌, first_in, within, each_of, itself, probs_in_count, prob_lists_of, is_not_one, else_first, else_second, none_each, not_at, GridAtom, GridLayer, GridUnit, flaws_else, IsGridded, grid_atom, grid_severity, grid_layer, grid_clause, IsGridAtom, IsLayerWithin, IsClauseWithin, IsSevWithin, IsWithin, IsGridClause, IsGridUnit, own_lists, other_length, list_not_one, not_one, list_fails, layer_fails, clause_fails}
+use Rattle.dl_amounts.proofs.Common.{ℕ, ◌≡◌, ◌≤◌, ◌∙◌, List, [], ◌∷◌, ◌++◌, map, flat_map, false, Bool, Option, Some, None, refl, sym, ap, subst, arith, All, length-map, All-map, IfSome, Fraction, Span, ReadList, ReadAtom, ◌else◌, earlier, first_in, within, each_of, itself, probs_in_count, probs_in_severity, is_not_one, else_first, else_second, earlier_none, none_each, not_at, GridAtom, GridUnit, flaws_else, IsGridded, grid_atom, grid_severity, grid_layer, grid_clause, IsGridAtom, IsLayerWithin, IsClauseWithin, IsWithin, IsGridClause, IsGridUnit, own_lists, other_length, list_not_one, not_one, list_fails, layer_fails, clause_fails}
 use Rattle.std.proofs.Common.{Result, Ok, Err}
+use Rattle.std.proofs.lemmas.List.Elements.{All-append}
 use Rattle.dl_read.specs.declared.tree.ReadLayer.{ReadLayer}
 use Rattle.dl_read.specs.declared.tree.ReadClause.{ReadClause}
 use Rattle.dl_read.specs.declared.tree.ReadUnit.{ReadUnit}
@@ -9,9 +10,10 @@ use Rattle.dl_read.specs.Kept.{IsClauseRead, IsRead}
 use Rattle.dl_amounts.specs.declared.flaws.Flaws.{Flaws}
 use Rattle.dl_amounts.specs.declared.flaws.Gridded.{Gridded}
 use Rattle.dl_amounts.specs.Flaws.{TellsFlaws}
-use Rattle.dl_amounts.specs.Grid.{grid_losses, grid_of}
+use Rattle.dl_amounts.specs.Grid.{grid_clauses, grid_losses, grid_of}
 use Rattle.dl_amounts.specs.Rules.{count_lengths, lengths_differ, amount_fails, off_grid, too_far}
 use Rattle.std.specs.Prelude.{IfOk}
+use Rattle.dl_amounts.specs.declared.grid.GridClauses.{GridClauses}
 use Rattle.dl_amounts.specs.declared.grid.GridLosses.{GridLosses}
 use Rattle.dl_amounts.specs.declared.fault.GridFault.{GridFault}
 use Rattle.dl_amounts.specs.declared.fault.GridFault.TheVariants.{OffGrid, TooFar, OutOfMemory}
@@ -22,67 +24,79 @@ use Rattle.dl_amounts.proofs.Small.{off, far, amounts_small, atom_small, layer_s
 
 -- ---- lists
 
+all_paired : (u : ReadUnit) → lengths_differ u ≡ None → (count_lengths u.count ≡ None)
+    × (first_in (λ (a : ReadAtom). within (other_length a.values) a.probs) u.sev.atoms ≡ None)
+unfolding lengths_differ
+all_paired u e = earlier_none u.named (count_lengths u.count)
+    (first_in (λ (a : ReadAtom). within (other_length a.values) a.probs) u.sev.atoms) e
+
 pub atoms_paired : (u : ReadUnit) → lengths_differ u ≡ None
     → All (λ (a : ReadAtom). within (other_length a.values) a.probs ≡ None) u.sev.atoms
-unfolding lengths_differ
-atoms_paired u e = none_each (λ (a : ReadAtom). within (other_length a.values) a.probs) u.sev.atoms
-    (else_second (count_lengths u.count) _ e)
+atoms_paired u e = none_each (λ (a : ReadAtom). within (other_length a.values) a.probs) u.sev.atoms (all_paired u e).1
 
 count_paired : (u : ReadUnit) → lengths_differ u ≡ None → count_lengths u.count ≡ None
-unfolding lengths_differ
-count_paired u e = else_first (count_lengths u.count) _ e
+count_paired u e = (all_paired u e).0
 
 -- the lists of probabilities are those that were read
 same_lists : (bs : Fraction) (u : ReadUnit)
-    → prob_lists_of u ≡ probs_in_count u.count ++ own_lists (grid_severity bs u.sev)
-same_lists bs u =
-    append_assoc (probs_in_count u.count) (flat_map (λ (a : ReadAtom). each_of itself a.probs) u.sev.atoms)
-    (each_of itself u.sev.weights)
-    ∙ ap (λ ls. probs_in_count u.count ++ (ls ++ each_of itself u.sev.weights)) (in_atoms u.sev.atoms)
+    → probs_in_severity u.sev ≡ own_lists (grid_severity bs u.sev)
+same_lists bs u = ap (λ ls. ls ++ each_of itself u.sev.weights) (in_atoms u.sev.atoms)
   where
     in_atoms : (xs : List ReadAtom) → flat_map (λ (a : ReadAtom). each_of itself a.probs) xs
         ≡ flat_map (λ (a : GridAtom). each_of itself a.probs) (map (grid_atom bs) xs)
     in_atoms [] = refl
     in_atoms (x ∷ xs) = ap (λ ls. each_of itself x.probs ++ ls) (in_atoms xs)
 
-each_one : (u : ReadUnit) → not_one u ≡ None → All (λ (l : ReadList). is_not_one l.values ≡ false) (prob_lists_of u)
+each_one : (bs : Fraction) (u : ReadUnit) → not_one u ≡ None → All (λ (l : ReadList). is_not_one l.values ≡ false)
+    (probs_in_count u.count ++ own_lists (grid_severity bs u.sev))
 unfolding not_one
-each_one u e k d h = not_at _ _ (none_each list_not_one (prob_lists_of u) e k d h)
+each_one bs u e =
+    let parts = earlier_none u.named (first_in list_not_one (probs_in_count u.count))
+    (first_in list_not_one (probs_in_severity u.sev)) e in
+    All-append (λ (l : ReadList). is_not_one l.values ≡ false) (probs_in_count u.count)
+    (own_lists (grid_severity bs u.sev)) (ones (probs_in_count u.count) parts.0)
+    (subst (All (λ (l : ReadList). is_not_one l.values ≡ false)) (same_lists bs u)
+    (ones (probs_in_severity u.sev) parts.1))
+  where
+    ones : (ls : List ReadList) → first_in list_not_one ls ≡ None
+        → All (λ (l : ReadList). is_not_one l.values ≡ false) ls
+    ones ls none k d h = not_at _ _ (none_each list_not_one ls none k d h)
 
 -- ---- the unit
 
 module _ (most : ℕ) (bs : Fraction) (u : ReadUnit) where
-  pub unit_gridded : (layer : Gridded (Option GridLayer)) (losses : Gridded GridLosses) (all : Flaws)
-      → IsGridded most (λ test. within (layer_fails test bs) u.layer) (if_there (grid_layer bs) u.layer) layer
-      → IsGridded most (λ test. first_in (λ (a : ReadAtom). list_fails test bs a.values) u.sev.atoms
-      else (within (clause_fails test bs) u.occ else within (clause_fails test bs) u.agr))
-      (grid_losses bs u.sev u.occ u.agr) losses
-      → all ≡ flaws_else layer.flaws losses.flaws
+  pub unit_gridded : (losses : Gridded GridLosses) (clauses : Gridded GridClauses) (all : Flaws)
+      → IsGridded most (λ test. earlier u.named (within (layer_fails test bs) u.layer)
+      (first_in (λ (a : ReadAtom). list_fails test bs a.values) u.sev.atoms)) (grid_losses bs u.layer u.sev) losses
+      → IsGridded most (λ test. within (clause_fails test bs) u.occ else within (clause_fails test bs) u.agr)
+      (grid_clauses bs u.occ u.agr) clauses
+      → all ≡ flaws_else losses.flaws clauses.flaws
       → IsGridded most (λ test. amount_fails test bs u) (grid_of bs u) (record {
         part = record {
           name = u.name;
           count = u.count;
-          layer = layer.part;
+          layer = losses.part.layer;
           sev = losses.part.sev;
-          occ = losses.part.clauses.occ;
-          agr = losses.part.clauses.agr;
+          occ = clauses.part.occ;
+          agr = clauses.part.agr;
         };
         flaws = all;
       })
   unfolding amount_fails grid_of
-  unit_gridded layer losses all own_layer own_losses joined =
-      both_gridded most (λ (l : Option GridLayer) (k : GridLosses). record {
+  unit_gridded losses clauses all own_losses own_clauses joined =
+      both_gridded most (λ (l : GridLosses) (k : GridClauses). record {
         name = u.name;
         count = u.count;
-        layer = l;
-        sev = k.sev;
-        occ = k.clauses.occ;
-        agr = k.clauses.agr;
+        layer = l.layer;
+        sev = l.sev;
+        occ = k.occ;
+        agr = k.agr;
       })
-      (λ test. within (layer_fails test bs) u.layer) (λ test. first_in (λ (a : ReadAtom). list_fails test bs a.values)
-      u.sev.atoms else (within (clause_fails test bs) u.occ else within (clause_fails test bs) u.agr))
-      (λ test. amount_fails test bs u) (if_there (grid_layer bs) u.layer) (grid_losses bs u.sev u.occ u.agr)
-      layer losses all own_layer own_losses (λ test. refl) joined
+      (λ test. earlier u.named (within (layer_fails test bs) u.layer)
+      (first_in (λ (a : ReadAtom). list_fails test bs a.values) u.sev.atoms))
+      (λ test. within (clause_fails test bs) u.occ else within (clause_fails test bs) u.agr)
+      (λ test. amount_fails test bs u) (grid_losses bs u.layer u.sev) (grid_clauses bs u.occ u.agr)
+      losses clauses all own_losses own_clauses (λ test. refl) joined
 
   -- what the flaws tell is what the rules tell
   pub answered : (made : Gridded GridUnit) → IsGridded most (λ test. amount_fails test bs u) (grid_of bs u) made
@@ -112,23 +126,30 @@ module _ (most : ℕ) (bs : Fraction) (u : ReadUnit) (le : most ≤ most_amount)
   unfolding too_far
   unit_far = near
 
-  layer_passes : (test : Fraction → Bool) → amount_fails test bs u ≡ None → within (layer_fails test bs) u.layer ≡ None
+  abbrev front_fails : (Fraction → Bool) → Option Span
+  front_fails test = earlier u.named (within (layer_fails test bs) u.layer)
+      (first_in (λ (a : ReadAtom). list_fails test bs a.values) u.sev.atoms)
+
+  front_passes : (test : Fraction → Bool) → amount_fails test bs u ≡ None
+      → (within (layer_fails test bs) u.layer ≡ None)
+      × (first_in (λ (a : ReadAtom). list_fails test bs a.values) u.sev.atoms ≡ None)
   unfolding amount_fails
-  layer_passes test e = else_first (within (layer_fails test bs) u.layer) _ e
+  front_passes test e = earlier_none u.named (within (layer_fails test bs) u.layer)
+      (first_in (λ (a : ReadAtom). list_fails test bs a.values) u.sev.atoms) (else_first (front_fails test) _ e)
+
+  layer_passes : (test : Fraction → Bool) → amount_fails test bs u ≡ None → within (layer_fails test bs) u.layer ≡ None
+  layer_passes test e = (front_passes test e).0
 
   atoms_pass : (test : Fraction → Bool) → amount_fails test bs u ≡ None
       → All (λ (a : ReadAtom). list_fails test bs a.values ≡ None) u.sev.atoms
-  unfolding amount_fails
   atoms_pass test e =
-      none_each (λ (a : ReadAtom). list_fails test bs a.values) u.sev.atoms
-      (else_first _ _ (else_second (within (layer_fails test bs) u.layer) _ e))
+      none_each (λ (a : ReadAtom). list_fails test bs a.values) u.sev.atoms (front_passes test e).1
 
   clauses_pass : (test : Fraction → Bool) → amount_fails test bs u ≡ None
       → (within (clause_fails test bs) u.occ ≡ None) × (within (clause_fails test bs) u.agr ≡ None)
   unfolding amount_fails
   clauses_pass test e =
-      let both = else_second (first_in (λ (a : ReadAtom). list_fails test bs a.values) u.sev.atoms) _
-      (else_second (within (layer_fails test bs) u.layer) _ e) in (
+      let both = else_second (front_fails test) _ e in (
         else_first (within (clause_fails test bs) u.occ) _ both,
         else_second (within
             (clause_fails test bs) u.occ) _ both,
@@ -184,7 +205,7 @@ module _ (most : ℕ) (bs : Fraction) (u : ReadUnit) (le : most ≤ most_amount)
     };
     occ = clause_there u.occ read.occ (clauses_pass off unit_off).0 (clauses_pass (far most) unit_far).0;
     agr = clause_there u.agr read.agr (clauses_pass off unit_off).1 (clauses_pass (far most) unit_far).1;
-    one = subst (All (λ (l : ReadList). is_not_one l.values ≡ false)) (same_lists bs u) (each_one u one);
+    one = each_one bs u one;
   }
 
 module _ (most : ℕ) (bs : Fraction) (u : ReadUnit) (le : most ≤ most_amount) (read : IsRead u) where

@@ -1,5 +1,5 @@
 -- The parts of a unit in whole buckets, and their flaws.
-use Rattle.dl_amounts.proofs.Common.{ℕ, ◌≡◌, ◌∙◌, ◌+◌, ◌*◌, ◌/◌, ◌%◌, ◌<◌, ◌≤◌, ◌||◌, List, [], ◌∷◌, ◌++◌, map, zip, take, length, get_or, nat_lt, not, Bool, true, false, Option, Some, None, refl, sym, ap, ap₂, subst, arith, inl, inr, cases_lt, lt-ltb, eq-eqb, eqb-true, map-append, take_all, Fraction, whole, ◌<ℚ◌, over_lt, whole_num, Span, ReadList, ReadCeded, ◌else◌, at_if, within, first_in, is_whole, is_above, one_in, else_first, else_second, not_at, not-false, GridLayer, flaws_else, IsClean, IsGridded, number_of, grid_layer, grid_ceded, list_fails, limit_fails, layer_fails}
+use Rattle.dl_amounts.proofs.Common.{ℕ, ◌≡◌, ◌∙◌, ◌+◌, ◌*◌, ◌/◌, ◌%◌, ◌<◌, ◌≤◌, ◌||◌, List, [], ◌∷◌, ◌++◌, map, zip, take, length, get_or, nat_lt, not, Bool, true, false, Option, Some, None, refl, sym, ap, ap₂, subst, arith, inl, inr, cases_lt, lt-ltb, eq-eqb, eqb-true, map-append, take_all, Fraction, whole, ◌<ℚ◌, over_lt, whole_num, Span, ReadList, ReadCeded, ◌else◌, earlier, at_if, within, first_in, is_whole, is_above, one_in, else_first, else_second, not_at, not-false, GridLayer, earlier_flaws, flaws_else, IsClean, IsGridded, number_of, grid_layer, grid_ceded, list_fails, limit_fails, layer_fails}
 use Rattle.std.proofs.Common.{min, nat_eq}
 use Rattle.std.proofs.lemmas.Bool.{ltb-true}
 use Rattle.dl_exact.proofs.Over.{lt_over}
@@ -115,6 +115,17 @@ both_gridded most make f g h x y a b flaws first second places is = record {
       let both : IsClean (flaws_else a.flaws b.flaws) = subst IsClean is clean in
       ap₂ make (first.part (first_clean a.flaws b.flaws both)) (second.part (second_clean a.flaws b.flaws both));
 }
+
+-- a unit's own part and its severity
+pub earlier_gridded : {A B C : Type 0} (most : ℕ) (named : Bool) (make : A → B → C)
+    (f g : (Fraction → Bool) → Option Span) (x : A) (y : B) (a : Gridded A) (b : Gridded B) (flaws : Flaws)
+    → IsGridded most f x a → IsGridded most g y b → flaws ≡ earlier_flaws named a.flaws b.flaws
+    → IsGridded most (λ test. earlier named (f test) (g test)) (make x y)
+    (record { part = make a.part b.part; flaws = flaws })
+earlier_gridded most true make f g x y a b flaws own severity is =
+    both_gridded most (λ s o. make o s) g f (λ test. g test else f test) y x b a flaws severity own (λ test. refl) is
+earlier_gridded most false make f g x y a b flaws own severity is =
+    both_gridded most make f g (λ test. f test else g test) x y a b flaws own severity (λ test. refl) is
 
 -- the limit and the attachment of a layer have one place
 pub layer_places : (bs : Fraction) (l : ReadLayer) (test : Fraction → Bool)

@@ -1,5 +1,5 @@
 -- How large the amounts of a severity are, and how many there are.
-use Rattle.dl_amounts.proofs.Common.{ℕ, suc, ◌≡◌, ◌∙◌, ◌*◌, ◌/◌, ◌<◌, ◌≤◌, ◌^◌, ◌⊎◌, List, [], ◌∷◌, map, filter, zip, length, get_or, nat_lt, Option, Some, None, Bool, true, false, cond, refl, sym, ap, subst, arith, inl, inr, All, lt-ltb, le-ltb, length-map, All-nil, All-cons, All-head, All-tail, All-weaker, All-append, All-map, Fraction, ◌*ℚ◌, IsWhole, Item, Sev, Pairs, conditioned, pairs_of, shares, Means, Clause, layer, kept, IsClause, whole_num, scaled, with_amounts, layered, ceded_each, GridAtom, GridSev, GridLayer, atom_probs, atom_pairs, mixed, mixed_pairs, weights_of, is_conditioned, layer_pairs, support, IsGridAtom, IsGridSev, IsSevWithin}
+use Rattle.dl_amounts.proofs.Common.{ℕ, suc, ◌≡◌, ◌∙◌, ◌*◌, ◌/◌, ◌<◌, ◌≤◌, ◌⊎◌, List, [], ◌∷◌, map, filter, zip, length, get_or, nat_lt, Option, Some, None, Bool, true, false, cond, refl, sym, ap, subst, arith, inl, inr, All, lt-ltb, le-ltb, length-map, All-nil, All-cons, All-head, All-tail, All-weaker, All-append, All-map, Fraction, ◌*ℚ◌, IsWhole, Item, Sev, Pairs, conditioned, pairs_of, shares, Means, Clause, layer, kept, IsClause, whole_num, scaled, with_amounts, layered, ceded_each, GridAtom, GridSev, GridLayer, atom_probs, atom_pairs, mixed, mixed_pairs, weights_of, is_conditioned, layer_pairs, support, IsGridAtom, IsGridSev, IsSevWithin}
 use Rattle.std.proofs.Common.{length-append}
 use Rattle.std.proofs.Math.Nat.{div-le_of_le-mul}
 use Rattle.std.proofs.lemmas.List.Elements.{All-filter}

@@ -1,5 +1,5 @@
 -- A unit whose fractions are fine has a final severity.
-use Rattle.dl_amounts.proofs.Common.{ℕ, ◌≡◌, ◌∙◌, ◌≤◌, ◌^◌, List, [], ◌∷◌, map, length, Bool, true, false, cond, Option, Some, None, refl, sym, subst, arith, All, AllZip, IfSome, length-map, All-head, All-tail, whole, Item, Sev, IsFineTo30Bits, IsWhole, Pairs, conditioned, Means, Clause, layer, kept, IsClause, sum_of, mixture, layered, GridAtom, GridLayer, GridClause, GridUnit, clause_of, atom_probs, atom_pairs, weights_of, mixed_pairs, is_conditioned, layer_pairs, severity_in_layer, ceded_pairs, final_severity, IsGridAtom, IsSevWithin, IsSevWeighted, IsSevShared, AreProbabilities, IsClauseLayered}
+use Rattle.dl_amounts.proofs.Common.{ℕ, ◌≡◌, ◌∙◌, ◌≤◌, List, [], ◌∷◌, map, length, Bool, true, false, cond, Option, Some, None, refl, sym, subst, arith, All, AllZip, IfSome, length-map, All-head, All-tail, whole, Item, Sev, IsFineTo30Bits, IsWhole, Pairs, conditioned, Means, Clause, layer, kept, IsClause, sum_of, mixture, layered, GridAtom, GridLayer, GridClause, GridUnit, clause_of, atom_probs, atom_pairs, weights_of, mixed_pairs, is_conditioned, layer_pairs, severity_in_layer, ceded_pairs, final_severity, IsGridAtom, IsSevWithin, IsSevWeighted, IsSevShared, AreProbabilities, IsClauseLayered}
 use Rattle.dl_amounts.specs.Kept.{IsFineSev}
 use Rattle.dl_sev.proofs.Mixed.{mixture_one}
 use Rattle.dl_amounts.proofs.Parts.{sev_weighted, probs_length}

@@ -3,7 +3,7 @@
 use Rattle.std.specs.Prelude.{ℕ, ◌≡◌, Bool, not, Option, Some, None, Result, Ok, Err}
 use Rattle.dl_exact.specs.Fraction.{Fraction, whole}
 use Rattle.dl_lexer.specs.declared.token.Span.{Span}
-use Rattle.dl_read.specs.First.{◌else◌}
+use Rattle.dl_read.specs.First.{◌else◌, earlier}
 use Rattle.dl_read.specs.Lists.{is_whole, is_above}
 use Rattle.dl_amounts.specs.declared.fault.GridFault.{GridFault}
 use Rattle.dl_amounts.specs.declared.fault.GridFault.TheVariants as faults
@@ -22,6 +22,13 @@ abbrev pub flaws_else : Flaws → Flaws → Flaws
 flaws_else first second = record {
   off_grid = first.off_grid else second.off_grid;
   too_far = first.too_far else second.too_far;
+}
+
+-- those of a unit's own part and of its severity, each the first in the text
+abbrev pub earlier_flaws : Bool → Flaws → Flaws → Flaws
+earlier_flaws named own severity = record {
+  off_grid = earlier named own.off_grid severity.off_grid;
+  too_far = earlier named own.too_far severity.too_far;
 }
 
 pub record IsClean (flaws : Flaws) : Type 0 where

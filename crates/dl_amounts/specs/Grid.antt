@@ -69,10 +69,10 @@ grid_clauses bs occ agr = record {
   agr = if_there (grid_clause bs) agr;
 }
 
-abbrev pub grid_losses : Fraction → ReadSev → Option ReadClause → Option ReadClause → GridLosses
-grid_losses bs sev occ agr = record {
+abbrev pub grid_losses : Fraction → Option ReadLayer → ReadSev → GridLosses
+grid_losses bs layer sev = record {
+  layer = if_there (grid_layer bs) layer;
   sev = grid_severity bs sev;
-  clauses = grid_clauses bs occ agr;
 }
 
 unfoldable pub grid_of : Fraction → ReadUnit → GridUnit

@@ -22,8 +22,8 @@ use Rattle.dl_amounts.specs.declared.grid.GridShare.TheVariants.{Whole, So, Po}
 use Rattle.dl_amounts.specs.declared.grid.GridCeded.{GridCeded}
 use Rattle.dl_amounts.specs.declared.grid.GridClause.{GridClause}
 use Rattle.dl_amounts.specs.declared.grid.GridUnit.{GridUnit}
-use Rattle.dl_read.specs.First.{◌else◌, at_if, within, first_in, in_turn}
-use Rattle.dl_read.specs.Lists.{prob_lists_of, is_fine, is_whole, is_zero, is_above, is_not_one}
+use Rattle.dl_read.specs.First.{◌else◌, earlier, at_if, within, first_in, in_turn}
+use Rattle.dl_read.specs.Lists.{probs_in_count, probs_in_severity, is_fine, is_whole, is_zero, is_above, is_not_one}
 use Rattle.dl_amounts.specs.Clauses.{ceded_layer, clause_of, shares_of, overlaps, is_off, is_off_multiples}
 use Rattle.dl_amounts.specs.Severity.{is_conditioned, mixed_pairs, severity_in_layer, final_severity, support}
 use Rattle.dl_amounts.specs.FineParts.{has_shares}
@@ -37,15 +37,18 @@ count_lengths (Exposed exposure freq) = None
 count_lengths (Listed counts probs) = within (other_length counts) probs
 
 unfoldable pub lengths_differ : ReadUnit → Option Span
-lengths_differ u = count_lengths u.count else first_in
-    (λ (a : ReadAtom). within (other_length a.values) a.probs) u.sev.atoms
+lengths_differ u =
+    earlier u.named (count_lengths u.count)
+    (first_in (λ (a : ReadAtom). within (other_length a.values) a.probs) u.sev.atoms)
 
 -- 6 NotOne: a fine list of probabilities does not sum to 1
 abbrev pub list_not_one : ReadList → Option Span
 list_not_one l = at_if (is_not_one l.values) l.span
 
 unfoldable pub not_one : ReadUnit → Option Span
-not_one u = first_in list_not_one (prob_lists_of u)
+not_one u =
+    earlier u.named (first_in list_not_one (probs_in_count u.count))
+    (first_in list_not_one (probs_in_severity u.sev))
 
 -- a value of an atom's first list, or a finite limit or an attachment, fails a test in buckets: the
 -- item of the value, or the layer
@@ -65,8 +68,8 @@ clause_fails test bs c = first_in (λ (l : ReadCeded). layer_fails test bs l.lay
 
 unfoldable pub amount_fails : (Fraction → Bool) → Fraction → ReadUnit → Option Span
 amount_fails test bs u =
-    within (layer_fails test bs) u.layer
-    else first_in (λ (a : ReadAtom). list_fails test bs a.values) u.sev.atoms
+    earlier u.named (within (layer_fails test bs) u.layer)
+    (first_in (λ (a : ReadAtom). list_fails test bs a.values) u.sev.atoms)
     else within (clause_fails test bs) u.occ
     else within (clause_fails test bs) u.agr
 

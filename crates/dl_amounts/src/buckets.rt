@@ -4,7 +4,7 @@ ghost use Rattle.std.specs.Prelude.{◌≡◌, ◌≤◌, None, All, IfOk, IfSom
 ghost use Rattle.dl_limits.specs.Limits.{most_amount};
 ghost use Rattle.dl_sev.specs.Buckets.{HasPartsOf18Digits, buckets};
 ghost use Rattle.dl_plan.specs.Ranges.{IsBucket};
-ghost use Rattle.dl_read.specs.First.{◌else◌, at_if, first_in, within};
+ghost use Rattle.dl_read.specs.First.{◌else◌, earlier, at_if, first_in, within};
 ghost use Rattle.dl_read.specs.Numbers.{if_there};
 ghost use Rattle.dl_read.specs.Kept.{IsSmall, IsListRead, IsAtomRead, IsSevRead, IsLayerRead, IsCededRead, IsClauseRead, IsRead};
 ghost use Rattle.dl_amounts.specs.Flaws.{IsGridded};
@@ -54,48 +54,47 @@ fn grid_parts(
     requires read { IsRead unit }
     ensures { IfOk result (IsGridded most (λ test. amount_fails test bs unit) (grid_of bs unit)) }
 {
-    let losses = grid_losses(alloc, unit.sev, unit.occ, unit.agr, bs, most)?;
-    let layer = own_layer(unit.layer, bs, most);
+    let clauses = own_clauses(alloc, unit.occ, unit.agr, bs, most)?;
+    let losses = grid_losses(alloc, unit.named, unit.layer, unit.sev, bs, most)?;
     Ok(Gridded {
         part: GridUnit {
             name: unit.name,
             count: unit.count,
-            layer: layer.part,
+            layer: losses.part.layer,
             sev: losses.part.sev,
-            occ: losses.part.clauses.occ,
-            agr: losses.part.clauses.agr,
+            occ: clauses.part.occ,
+            agr: clauses.part.agr,
         },
-        flaws: layer.flaws.or(losses.flaws),
+        flaws: losses.flaws.or(clauses.flaws),
     })
 }
 
-/// The severity and the clauses of a unit.
+/// The layer and the severity of a unit, which is a named one or not.
 fn grid_losses(
     alloc: Global,
+    named: bool,
+    layer: Option<ReadLayer>,
     sev: ReadSev,
-    occ: Option<ReadClause>,
-    agr: Option<ReadClause>,
     bs: Frac,
     most: u32,
 ) -> Result<Gridded<GridLosses>, AllocError>
     requires bucket { IsBucket bs }
     requires most { most ≤ most_amount }
+    requires layer { IfSome layer IsLayerRead }
     requires sev { IsSevRead sev }
-    requires occ { IfSome occ IsClauseRead }
-    requires agr { IfSome agr IsClauseRead }
     ensures { IfOk result (IsGridded most
-        (λ test. first_in (λ a. list_fails test bs a.values) sev.atoms
-        else within (clause_fails test bs) occ else within (clause_fails test bs) agr)
-        (grid_losses bs sev occ agr)) }
+        (λ test. earlier named (within (layer_fails test bs) layer)
+        (first_in (λ a. list_fails test bs a.values) sev.atoms))
+        (grid_losses bs layer sev)) }
 {
-    let clauses = own_clauses(alloc, occ, agr, bs, most)?;
     let sev = grid_severity(alloc, sev, bs, most)?;
+    let layer = own_layer(layer, bs, most);
     Ok(Gridded {
         part: GridLosses {
+            layer: layer.part,
             sev: sev.part,
-            clauses: clauses.part,
         },
-        flaws: sev.flaws.or(clauses.flaws),
+        flaws: Flaws::earlier(named, layer.flaws, sev.flaws),
     })
 }
 

@@ -1,7 +1,7 @@
 //! Amounts that are no whole number of buckets, or too many.
 
 ghost use Rattle.std.specs.Prelude.{◌≡◌, None, IfOk};
-ghost use Rattle.dl_amounts.specs.Flaws.{flaws_else, TellsFlaws};
+ghost use Rattle.dl_amounts.specs.Flaws.{flaws_else, earlier_flaws, TellsFlaws};
 
 use crate::fault::GridFault;
 use dl_lexer::Span;
@@ -34,6 +34,18 @@ impl Flaws {
         Flaws {
             off_grid: self.off_grid.or(later.off_grid),
             too_far: self.too_far.or(later.too_far),
+        }
+    }
+
+    /// Of each flaw the first place in the text, of those in a unit's own part, which stands before
+    /// its severity, and in that severity. A named severity is written before all units.
+    pub(crate) fn earlier(named: bool, own: Flaws, severity: Flaws) -> Flaws
+        ensures { result ≡ earlier_flaws named own severity }
+    {
+        if named {
+            severity.or(own)
+        } else {
+            own.or(severity)
         }
     }
 }

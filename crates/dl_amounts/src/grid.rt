@@ -78,13 +78,13 @@ pub(crate) struct GridClauses {
     pub(crate) agr: Option<GridClause>,
 }
 
-/// The severity and the clauses of a unit.
+/// The layer and the severity of a unit.
 #[derive(Drop)]
 pub(crate) struct GridLosses {
+    /// The layer of each claim, where there is one.
+    pub(crate) layer: Option<GridLayer>,
     /// The severity of one claim.
     pub(crate) sev: GridSev,
-    /// The clauses.
-    pub(crate) clauses: GridClauses,
 }
 
 /// One unit.

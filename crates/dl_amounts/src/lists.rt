@@ -1,13 +1,13 @@
 //! The rules on the lists of a unit that belong together.
 
-ghost use Rattle.std.specs.Prelude.{◌≡◌, ◌++◌, flat_map, IfOk};
+ghost use Rattle.std.specs.Prelude.{◌≡◌, IfOk};
 ghost use Rattle.dl_read.specs.First.{first_in, within, each_of};
-ghost use Rattle.dl_read.specs.Lists.{itself, probs_in_count};
+ghost use Rattle.dl_read.specs.Lists.{itself, probs_in_count, probs_in_severity};
 ghost use Rattle.dl_amounts.specs.Rules.{count_lengths, other_length, lengths_differ, list_not_one, not_one, weights_differ};
 
 use crate::grid::GridUnit;
 use dl_lexer::Span;
-use dl_read::{ReadCount, ReadList, ReadSev, ReadUnit, first_place, place_if};
+use dl_read::{ReadCount, ReadList, ReadSev, ReadUnit, earlier, first_place, place_if};
 use dl_sev::{WeighFault, weigh};
 use std::alloc::{AllocError, Global};
 
@@ -16,9 +16,10 @@ use std::alloc::{AllocError, Global};
 pub fn lengths_differ(unit: &ReadUnit) -> Option<Span>
     ensures { result ≡ lengths_differ unit.now }
 {
-    count_lengths(&unit.count).or(first_place(unit.sev.atoms.as_slice(), |atom| {
+    let severity = first_place(unit.sev.atoms.as_slice(), |atom| {
         pair_lengths(&atom.values, &atom.probs)
-    }))
+    });
+    earlier(unit.named, count_lengths(&unit.count), severity)
 }
 
 /// The place of the second list of a count that has another number of values than its first.
@@ -58,13 +59,13 @@ pub fn weights_differ(unit: &GridUnit) -> Option<Span>
 }
 
 /// The place of the first fine list of probabilities that does not sum to 1.
+#[tactic(auto, unfolding(crate::specs::Rules::not_one))]
 pub fn not_one(alloc: Global, unit: &ReadUnit) -> Result<Option<Span>, AllocError>
     ensures { IfOk result (λ place. place ≡ not_one unit.now) }
 {
-    if let Some(place) = not_one_in_count(alloc, &unit.count)? {
-        return Ok(Some(place));
-    }
-    not_one_in_severity(alloc, &unit.sev)
+    let own = not_one_in_count(alloc, &unit.count)?;
+    let severity = not_one_in_severity(alloc, &unit.sev)?;
+    Ok(earlier(unit.named, own, severity))
 }
 
 /// The place of the probabilities of a count that are fine and do not sum to 1.
@@ -80,7 +81,7 @@ fn not_one_in_count(alloc: Global, count: &ReadCount) -> Result<Option<Span>, Al
 /// The place of the first probabilities of a severity that are fine and do not sum to 1.
 fn not_one_in_severity(alloc: Global, sev: &ReadSev) -> Result<Option<Span>, AllocError>
     ensures { IfOk result (λ place. place ≡ first_in list_not_one
-        (flat_map (λ a. each_of itself a.probs) sev.now.atoms ++ each_of itself sev.now.weights)) }
+        (probs_in_severity sev.now)) }
 {
     'atoms: for atom in sev.atoms.as_slice() {
         if let Some(place) = not_one_in_second(alloc, &atom.probs)? {

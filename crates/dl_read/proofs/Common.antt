@@ -16,12 +16,12 @@ pub use Rattle.dl_sev.specs.Ranges.{IsRange, PassesRoom, range_denominator, rang
 pub use Rattle.dl_sev.specs.declared.fault.ExpandFault.{ExpandFault}
 pub use Rattle.dl_sev.specs.declared.range.Range.{Range}
 pub use Rattle.dl_read.specs.BadNumerals.{bad_in_ceded, bad_in_item, bad_in_layer, bad_in_pair, bad_in_share, bad_place, value}
-pub use Rattle.dl_read.specs.First.{TellsPart, at_if, each_of, within, ◌else◌}
+pub use Rattle.dl_read.specs.First.{TellsPart, at_if, each_of, earlier, within, ◌else◌}
 unfoldable pub use Rattle.dl_read.specs.First.{first_in}
 pub use Rattle.dl_read.specs.Kept.{IsSmall}
 pub use Rattle.dl_read.specs.Numbers.{ceded_numbers, item_numbers, pair_numbers, value_or}
 pub use Rattle.dl_read.specs.Ranged.{IsItemNumbered, IsItemRanged, IsListRanged}
 pub use Rattle.dl_read.specs.Read.{item_places, item_values, read_pair}
-pub use Rattle.dl_read.specs.Rules.{bad_item, long_list, long_pair, range_in_count, range_in_list, range_in_severity}
+pub use Rattle.dl_read.specs.Rules.{bad_item, long_list, long_pair, range_in_count, range_in_list, range_in_numbers, range_in_severity}
 pub use Rattle.dl_read.specs.declared.numbers.ItemNumbers.{ItemNumbers}
 pub use Rattle.dl_read.specs.declared.numbers.ListNumbers.{ListNumbers}

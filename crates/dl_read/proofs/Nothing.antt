@@ -1,5 +1,5 @@
 -- Where no part has an answer.
-use Rattle.dl_read.proofs.Common.{◌≡◌, ◌∙◌, List, [], ◌∷◌, ◌++◌, Option, Some, None, Bool, true, false, refl, sym, All, IfSome, All-nil, All-cons, Span, ◌else◌, at_if, within, first_in}
+use Rattle.dl_read.proofs.Common.{◌≡◌, ◌∙◌, List, [], ◌∷◌, ◌++◌, Option, Some, None, Bool, true, false, refl, sym, All, IfSome, All-nil, All-cons, Span, ◌else◌, earlier, at_if, within, first_in}
 use Rattle.dl_read.proofs.Firsts.{first-append}
 
 pub else_first : {A : Type 0} (x y : Option A) → (x else y) ≡ None → x ≡ None
@@ -9,6 +9,11 @@ else_first (Some x) y e = e
 pub else_second : {A : Type 0} (x y : Option A) → (x else y) ≡ None → y ≡ None
 else_second None y e = e
 else_second (Some x) y e = absurd (cc)
+
+pub earlier_none : {A : Type 0} (named : Bool) (own severity : Option A) → earlier named own severity ≡ None
+    → (own ≡ None) × (severity ≡ None)
+earlier_none true own severity e = (else_second severity own e, else_first severity own e)
+earlier_none false own severity e = (else_first own severity e, else_second own severity e)
 
 module _ {A B : Type 0} (f : A → Option B) where
   pub none_each : (xs : List A) → first_in f xs ≡ None → All (λ x. f x ≡ None) xs

@@ -1,6 +1,6 @@
 -- What is read of a unit that is readable: small numbers, and lists, severities and clauses of some parts, but not too
 -- many.
-use Rattle.dl_read.proofs.Common.{◌≡◌, ◌∙◌, ◌+◌, ◌<◌, List, [], ◌∷◌, map, flat_map, length, Option, Some, None, true, false, refl, sym, ap, subst, arith, is_some, range_with_len, IfSome, Span, Fraction, whole, steps_in, value_at, ListItem, Atom, IsFormedItem, ItemNumbers, ListNumbers, ◌else◌, at_if, within, first_in, value, bad_place, bad_in_item, bad_in_pair, bad_in_layer, bad_in_share, bad_in_ceded, value_or, item_numbers, pair_numbers, ceded_numbers, bad_item, range_in_list, range_in_count, range_in_severity, long_list, long_pair, IsSmall, IsItemNumbered, IsListRanged, item_values, item_places, read_pair, ltb-false, most_values}
+use Rattle.dl_read.proofs.Common.{◌≡◌, ◌∙◌, ◌+◌, ◌<◌, List, [], ◌∷◌, map, flat_map, length, Option, Some, None, true, false, refl, sym, ap, subst, arith, is_some, range_with_len, IfSome, Span, Fraction, whole, steps_in, value_at, ListItem, Atom, IsFormedItem, ItemNumbers, ListNumbers, ◌else◌, earlier, at_if, within, first_in, value, bad_place, bad_in_item, bad_in_pair, bad_in_layer, bad_in_share, bad_in_ceded, value_or, item_numbers, pair_numbers, ceded_numbers, bad_item, range_in_list, range_in_count, range_in_severity, range_in_numbers, long_list, long_pair, IsSmall, IsItemNumbered, IsListRanged, item_values, item_places, read_pair, ltb-false, most_values}
 use Rattle.std.proofs.Common.{Bool, nat_lt, length-append}
 use Rattle.std.specs.Option.{IsSome}
 use Rattle.std.proofs.lemmas.List.{length-map, length-replicate}
@@ -28,7 +28,7 @@ use Rattle.dl_read.specs.declared.numbers.PairNumbers.{PairNumbers}
 use Rattle.dl_read.specs.declared.numbers.UnitNumbers.{UnitNumbers}
 use Rattle.dl_read.specs.declared.tree.ReadUnit.{ReadUnit}
 use Rattle.dl_read.specs.BadNumerals.{bad_in_list, bad_in_mixture, bad_in_limit, bad_in_clause, bad_in_exposure, bad_in_count, bad_in_freq, bad_in_distribution}
-use Rattle.dl_read.specs.Numbers.{if_there, list_numbers, severity_numbers, limit_number, layer_numbers, share_number, clause_numbers, exposure_numbers, freq_number, count_numbers, distribution_number, numbers_of}
+use Rattle.dl_read.specs.Numbers.{if_there, list_numbers, severity_numbers, limit_number, layer_numbers, share_number, clause_numbers, exposure_numbers, freq_number, count_numbers, distribution_number, is_named, numbers_of}
 use Rattle.dl_read.specs.Rules.{bad_numeral, bad_range, list_too_long, range_in_pair, long_count, long_severity, long_clause, long_numbers}
 use Rattle.dl_read.specs.Kept.{IsListRead, IsAtomRead, IsSevRead, IsLayerRead, IsShareRead, IsCededRead, IsClauseRead, IsExposureRead, IsFreqRead, IsCountRead, IsRead}
 use Rattle.dl_read.specs.Ranged.{IsPairRanged, IsSevRanged, IsCountRanged, IsRanged}
@@ -38,7 +38,7 @@ use Rattle.dl_exact.proofs.Parts.{whole_num, whole_den}
 use Rattle.dl_frac.proofs.SmallNumerals.{numeral_small}
 use Rattle.dl_read.proofs.ItemRanges.{item_ranged, list_modest}
 use Rattle.dl_read.proofs.Firsts.{from_map}
-use Rattle.dl_read.proofs.Nothing.{else_first, else_second, none_each, not_at}
+use Rattle.dl_read.proofs.Nothing.{else_first, else_second, earlier_none, none_each, not_at}
 
 number_is : (n : Numeral) → bad_place n ≡ None → IsSmall (value n)
 number_is n good =
@@ -249,22 +249,25 @@ own_clause_is (Some c) formed good short =
 
 module _ (u : UnitAst) (m : MixAst) (formed : IsFormedUnit u) (mixed : IsFormedMixture m)
     (numerals : bad_numeral u m ≡ None) where
+  abbrev bad_in_front : Option Span
+  bad_in_front = earlier (is_named u.sev.body) (bad_in_count u.count else within bad_in_layer u.layer)
+      (bad_in_mixture m)
+
   front : (bad_in_count u.count ≡ None) × (within bad_in_layer u.layer ≡ None) × (bad_in_mixture m ≡ None)
   unfolding bad_numeral
   front =
-      let a = else_second (bad_in_count u.count) _ numerals in
-      let b = else_second (within bad_in_layer u.layer) _ a in (
-        else_first (bad_in_count u.count) _ numerals,
-        else_first (within bad_in_layer u.layer) _ a,
-        else_first (bad_in_mixture m) _ b,
+      let parts = earlier_none (is_named u.sev.body) (bad_in_count u.count else within bad_in_layer u.layer)
+      (bad_in_mixture m) (else_first bad_in_front _ numerals) in (
+        else_first (bad_in_count u.count) _ parts.0,
+        else_second (bad_in_count u.count) _ parts.0,
+        parts.1,
       )
 
   back : (within bad_in_clause u.occ ≡ None) × (bad_in_distribution u.count ≡ None)
       × (within bad_in_clause u.agr ≡ None)
   unfolding bad_numeral
   back =
-      let a = else_second (bad_in_mixture m) _
-      (else_second (within bad_in_layer u.layer) _ (else_second (bad_in_count u.count) _ numerals)) in
+      let a = else_second bad_in_front _ numerals in
       let b = else_second (within bad_in_clause u.occ) _ a in (
         else_first (within bad_in_clause u.occ) _ a,
         else_first (bad_in_distribution u.count) _ b,
@@ -273,10 +276,13 @@ module _ (u : UnitAst) (m : MixAst) (formed : IsFormedUnit u) (mixed : IsFormedM
 
   pub ranged_is : bad_range u m ≡ None → IsRanged (numbers_of u m)
   unfolding bad_range numbers_of
-  ranged_is ranges = record {
-    count = count_is u.count formed.count front.0 (else_first (range_in_count (count_numbers u.count)) _ ranges);
-    sev = sev_is m u.sev.bang mixed front.2 (else_second (range_in_count (count_numbers u.count)) _ ranges);
-  }
+  ranged_is ranges =
+      let parts = earlier_none (is_named u.sev.body) (range_in_count (count_numbers u.count))
+      (range_in_severity (severity_numbers m u.sev.bang)) ranges in
+      record {
+        count = count_is u.count formed.count front.0 parts.0;
+        sev = sev_is m u.sev.bang mixed front.2 parts.1;
+      }
 
   module _ (ranges : bad_range u m ≡ None) (short : list_too_long u m ≡ None) where
     ranged : IsCountRanged (count_numbers u.count) × IsSevRanged (severity_numbers m u.sev.bang)
@@ -290,10 +296,13 @@ module _ (u : UnitAst) (m : MixAst) (formed : IsFormedUnit u) (mixed : IsFormedM
         × (within long_clause (if_there clause_numbers u.agr) ≡ None)
     unfolding list_too_long numbers_of
     lengths =
-        let a = else_second (long_count (count_numbers u.count)) _ short in
-        let b = else_second (long_severity (severity_numbers m u.sev.bang)) _ a in (
-          else_first (long_count (count_numbers u.count)) _ short,
-          else_first (long_severity (severity_numbers m u.sev.bang)) _ a,
+        let first : Option Span = earlier (is_named u.sev.body) (long_count (count_numbers u.count))
+        (long_severity (severity_numbers m u.sev.bang)) in
+        let parts = earlier_none (is_named u.sev.body) (long_count (count_numbers u.count))
+        (long_severity (severity_numbers m u.sev.bang)) (else_first first _ short) in
+        let b = else_second first _ short in (
+          parts.0,
+          parts.1,
           else_first (within long_clause (if_there clause_numbers u.occ)) _ b,
           else_second (within long_clause (if_there clause_numbers u.occ)) _ b,
         )
@@ -314,18 +323,15 @@ read_is u m formed mixed readable = read_kept u m formed mixed readable.numerals
 -- ---- from the numbers that were read
 
 module _ (u : UnitAst) (m : MixAst) (n : UnitNumbers) (same : n ≡ numbers_of u m) where
-  abbrev bad_in_numbers : Option Span
-  bad_in_numbers = range_in_count n.count else range_in_severity n.sev
-
-  pub range_place : (r : Option Span) → r ≡ bad_in_numbers → r ≡ bad_range u m
+  pub range_place : (r : Option Span) → r ≡ range_in_numbers n → r ≡ bad_range u m
   unfolding bad_range
-  range_place r e = e ∙ ap (λ (k : UnitNumbers). range_in_count k.count else range_in_severity k.sev) same
+  range_place r e = e ∙ ap range_in_numbers same
 
   pub long_place : (r : Option Span) → r ≡ long_numbers n → r ≡ list_too_long u m
   unfolding list_too_long
   long_place r e = e ∙ ap long_numbers same
 
-  module _ (formed : IsFormedUnit u) (mixed : IsFormedMixture m) (good : None ≡ bad_numeral u m) (ranges : None ≡ bad_in_numbers) where
+  module _ (formed : IsFormedUnit u) (mixed : IsFormedMixture m) (good : None ≡ bad_numeral u m) (ranges : None ≡ range_in_numbers n) where
     pub numbers_ranged : IsRanged n
     numbers_ranged = subst IsRanged (sym same) (ranged_is u m formed mixed (sym good) (sym (range_place None ranges)))
 

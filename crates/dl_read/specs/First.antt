@@ -10,6 +10,12 @@ abbrev pub ◌else◌ : {A : Type 0} → Option A → Option A → Option A
 (Some x) else y = Some x
 None else y = y
 
+-- the answer for a unit's own part, and else for its severity, where the severity is written behind
+-- that part; a named one is written before all units, and its answer comes first
+abbrev pub earlier : {A : Type 0} → Bool → Option A → Option A → Option A
+earlier true own severity = severity else own
+earlier false own severity = own else severity
+
 -- the place, where the test passes
 abbrev pub at_if : Bool → Span → Option Span
 at_if true place = Some place

@@ -7,7 +7,7 @@ use Rattle.dl_sev.specs.Weighing.{sum_of}
 use Rattle.dl_read.specs.declared.tree.ReadList.{ReadList}
 use Rattle.dl_read.specs.declared.tree.ReadCount.{ReadCount}
 use Rattle.dl_read.specs.declared.tree.ReadCount.TheVariants as reads
-use Rattle.dl_read.specs.declared.tree.ReadUnit.{ReadUnit}
+use Rattle.dl_read.specs.declared.tree.ReadSev.{ReadSev}
 use Rattle.dl_read.specs.First.{each_of}
 
 abbrev pub itself : {A : Type 0} → A → List A
@@ -18,15 +18,14 @@ abbrev pub probs_of : ReadList → Option ReadList → List Fraction
 probs_of values None = map (λ _. 1 over length values.values) values.values
 probs_of values (Some probs) = probs.values
 
--- the lists of probabilities: the second lists, and the weights of the atoms
+-- the lists of probabilities of a count
 abbrev pub probs_in_count : ReadCount → List ReadList
 probs_in_count (reads.Exposed exposure freq) = []
 probs_in_count (reads.Listed counts probs) = each_of itself probs
 
-abbrev pub prob_lists_of : ReadUnit → List ReadList
-prob_lists_of u =
-    probs_in_count u.count ++ flat_map (λ a. each_of itself a.probs) u.sev.atoms
-    ++ each_of itself u.sev.weights
+-- those of a severity: the second lists, and the weights of the atoms
+abbrev pub probs_in_severity : ReadSev → List ReadList
+probs_in_severity s = flat_map (λ a. each_of itself a.probs) s.atoms ++ each_of itself s.weights
 
 -- the common denominator is at most 2^30
 abbrev pub is_fine : List Fraction → Bool

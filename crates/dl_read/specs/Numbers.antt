@@ -1,11 +1,13 @@
 -- The numbers of a unit: each numeral is its value.
-use Rattle.std.specs.Prelude.{Bool, map, Option, Some, None, is_some}
+use Rattle.std.specs.Prelude.{Bool, true, false, map, Option, Some, None, is_some}
 use Rattle.dl_exact.specs.Fraction.{Fraction, whole}
 use Rattle.dl_sev.specs.declared.range.Range.{Range}
 use Rattle.dl_ast.specs.declared.ast.Numeral.{Numeral}
 use Rattle.dl_ast.specs.declared.ast.ListItem.{ListItem}
 use Rattle.dl_ast.specs.declared.ast.ListAst.{ListAst}
 use Rattle.dl_ast.specs.declared.ast.MixAst.{MixAst}
+use Rattle.dl_ast.specs.declared.ast.SevBody.{SevBody}
+use Rattle.dl_ast.specs.declared.ast.SevBody.TheVariants.{Mixture, Ref}
 use Rattle.dl_ast.specs.declared.ast.LimitAst.{LimitAst}
 use Rattle.dl_ast.specs.declared.ast.LimitAst.TheVariants.{Finite, Infinite}
 use Rattle.dl_ast.specs.declared.ast.Layer.{Layer}
@@ -36,7 +38,7 @@ use Rattle.dl_read.specs.declared.numbers.SevNumbers.{SevNumbers}
 use Rattle.dl_read.specs.declared.numbers.CountNumbers.{CountNumbers}
 use Rattle.dl_read.specs.declared.numbers.CountNumbers.TheVariants as numbers
 use Rattle.dl_read.specs.declared.numbers.TermNumbers.{TermNumbers}
-use Rattle.dl_read.specs.declared.numbers.LossNumbers.{LossNumbers}
+use Rattle.dl_read.specs.declared.numbers.OwnNumbers.{OwnNumbers}
 use Rattle.dl_read.specs.declared.numbers.UnitNumbers.{UnitNumbers}
 use Rattle.dl_read.specs.BadNumerals.{value}
 
@@ -134,13 +136,20 @@ term_numbers u = record {
   agr = if_there clause_numbers u.agr;
 }
 
-abbrev pub loss_numbers : UnitAst → MixAst → LossNumbers
-loss_numbers u m = record { sev = severity_numbers m u.sev.bang; terms = term_numbers u }
+-- what stands before the severity
+abbrev pub own_numbers : UnitAst → OwnNumbers
+own_numbers u = record { count = count_numbers u.count; layer = if_there layer_numbers u.layer }
+
+-- whether a severity is the name of one that is written before all units
+abbrev pub is_named : SevBody → Bool
+is_named (Mixture m) = false
+is_named (Ref n) = true
 
 -- the numbers of a unit whose severity is this mixture
 unfoldable pub numbers_of : UnitAst → MixAst → UnitNumbers
 numbers_of u m = record {
   name = u.name.span;
+  named = is_named u.sev.body;
   count = count_numbers u.count;
   freq = distribution_number u.count;
   layer = if_there layer_numbers u.layer;

@@ -64,6 +64,7 @@ read_lists u = record { count = read_count u.count u.freq; sev = read_severity u
 unfoldable pub read_numbers : UnitNumbers → ReadUnit
 read_numbers u = record {
   name = u.name;
+  named = u.named;
   count = read_count u.count u.freq;
   layer = u.layer;
   sev = read_severity u.sev;

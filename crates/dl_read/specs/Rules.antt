@@ -15,17 +15,17 @@ use Rattle.dl_read.specs.declared.numbers.SevNumbers.{SevNumbers}
 use Rattle.dl_read.specs.declared.numbers.CountNumbers.{CountNumbers}
 use Rattle.dl_read.specs.declared.numbers.CountNumbers.TheVariants as numbers
 use Rattle.dl_read.specs.declared.numbers.UnitNumbers.{UnitNumbers}
-use Rattle.dl_read.specs.First.{◌else◌, at_if, within, first_in}
+use Rattle.dl_read.specs.First.{◌else◌, earlier, at_if, within, first_in}
 use Rattle.dl_read.specs.BadNumerals.{bad_in_count, bad_in_layer, bad_in_mixture, bad_in_clause, bad_in_distribution}
-use Rattle.dl_read.specs.Numbers.{numbers_of}
+use Rattle.dl_read.specs.Numbers.{is_named, numbers_of}
 use Rattle.dl_read.specs.Lists.{is_zero, is_above}
 
 -- 2 BadNumeral: a numeral of the unit is bad
 unfoldable pub bad_numeral : UnitAst → MixAst → Option Span
 bad_numeral u m =
-    bad_in_count u.count
-    else within bad_in_layer u.layer
-    else bad_in_mixture m
+    earlier (is_named u.sev.body)
+    (bad_in_count u.count else within bad_in_layer u.layer)
+    (bad_in_mixture m)
     else within bad_in_clause u.occ
     else bad_in_distribution u.count
     else within bad_in_clause u.agr
@@ -52,8 +52,11 @@ range_in_count (numbers.Listed p) = range_in_pair p
 abbrev pub range_in_severity : SevNumbers → Option Span
 range_in_severity s = first_in range_in_pair s.atoms else within range_in_list s.weights
 
+abbrev pub range_in_numbers : UnitNumbers → Option Span
+range_in_numbers u = earlier u.named (range_in_count u.count) (range_in_severity u.sev)
+
 unfoldable pub bad_range : UnitAst → MixAst → Option Span
-bad_range u m = range_in_count (numbers_of u m).count else range_in_severity (numbers_of u m).sev
+bad_range u m = range_in_numbers (numbers_of u m)
 
 -- 4 ListTooLong: a list has more than 1,024 values, the severity more than 64 atoms, or a clause
 -- more than 16 layers
@@ -78,7 +81,8 @@ long_clause c = at_if (nat_lt most_layers (length c.layers)) c.span
 
 abbrev pub long_numbers : UnitNumbers → Option Span
 long_numbers u =
-    long_count u.count else long_severity u.sev else within long_clause u.occ
+    earlier u.named (long_count u.count) (long_severity u.sev)
+    else within long_clause u.occ
     else within long_clause u.agr
 
 unfoldable pub list_too_long : UnitAst → MixAst → Option Span

@@ -11,7 +11,7 @@ mod stop;
 mod tree;
 
 pub use fault::ReadFault;
-pub use places::{first_place, place_if};
+pub use places::{earlier, first_place, place_if};
 pub use ranges::is_above;
 pub use read::read_unit;
 pub use tree::{

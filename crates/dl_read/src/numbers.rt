@@ -67,13 +67,13 @@ pub(crate) struct TermNumbers {
     pub(crate) agr: Option<ReadClause>,
 }
 
-/// The severity of a unit, and what stands behind it.
+/// What stands before the severity of a unit.
 #[derive(Drop)]
-pub(crate) struct LossNumbers {
-    /// The severity of one claim.
-    pub(crate) sev: SevNumbers,
-    /// The rest.
-    pub(crate) terms: TermNumbers,
+pub(crate) struct OwnNumbers {
+    /// The claim count, but for its distribution.
+    pub(crate) count: CountNumbers,
+    /// The layer of each claim, where there is one.
+    pub(crate) layer: Option<ReadLayer>,
 }
 
 /// One unit.
@@ -81,6 +81,8 @@ pub(crate) struct LossNumbers {
 pub(crate) struct UnitNumbers {
     /// The place of the unit's name.
     pub(crate) name: Span,
+    /// Whether the severity is a named one, which is written before all units.
+    pub(crate) named: bool,
     /// The claim count, but for its distribution.
     pub(crate) count: CountNumbers,
     /// The distribution of an exposed count.

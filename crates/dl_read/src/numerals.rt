@@ -5,21 +5,21 @@ ghost use Rattle.std.specs.Prelude.{◌≡◌, None, All, IfSome, map};
 ghost use Rattle.dl_exact.specs.Fraction.{whole};
 ghost use Rattle.dl_lexer.specs.Numerals.{IsNumeralToken};
 ghost use Rattle.dl_ast.specs.WellFormed.{IsFormedItem, IsFormedList, IsFormedAtom, IsFormedMixture, IsFormedLimit, IsFormedLayer, IsFormedShare, IsFormedCeded, IsFormedCession, IsFormedExposure, IsFormedFrequency, IsFormedZero, IsFormedCount, IsFormedUnit};
-ghost use Rattle.dl_read.specs.First.{◌else◌, within, first_in};
+ghost use Rattle.dl_read.specs.First.{◌else◌, earlier, within, first_in};
 ghost use Rattle.dl_read.specs.BadNumerals.{value, bad_place, bad_in_item, bad_in_list, bad_in_pair, bad_in_mixture, bad_in_limit, bad_in_layer, bad_in_share, bad_in_ceded, bad_in_clause, bad_in_exposure, bad_in_count, bad_in_freq, bad_in_zero, bad_in_distribution};
-ghost use Rattle.dl_read.specs.Numbers.{if_there, value_or, item_numbers, list_numbers, pair_numbers, severity_numbers, limit_number, layer_numbers, share_number, ceded_numbers, clause_numbers, exposure_numbers, freq_number, count_numbers, distribution_number, term_numbers, loss_numbers, numbers_of};
+ghost use Rattle.dl_read.specs.Numbers.{if_there, value_or, item_numbers, list_numbers, pair_numbers, severity_numbers, limit_number, layer_numbers, share_number, ceded_numbers, clause_numbers, exposure_numbers, freq_number, count_numbers, distribution_number, term_numbers, own_numbers, is_named, numbers_of};
 ghost use Rattle.dl_read.specs.Rules.{bad_numeral};
 ghost use Rattle.dl_read.specs.Read.{Reads};
 
 use crate::numbers::{
-    CountNumbers, ItemNumbers, ListNumbers, LossNumbers, PairNumbers, SevNumbers, TermNumbers,
+    CountNumbers, ItemNumbers, ListNumbers, OwnNumbers, PairNumbers, SevNumbers, TermNumbers,
     UnitNumbers,
 };
-use crate::stop::{Stop, push_part};
+use crate::stop::{Stop, both_parts, push_part};
 use crate::tree::{ReadCeded, ReadClause, ReadExposure, ReadFreq, ReadLayer, ReadShare};
 use dl_ast::{
     Atom, CededLayer, Cession, CountAst, Exposure, FreqAst, Layer, LimitAst, ListAst, ListItem,
-    MixAst, Numeral, Share, UnitAst, ZeroAst,
+    MixAst, Numeral, SevBody, Share, UnitAst, ZeroAst,
 };
 use dl_frac::{Frac, numeral};
 use dl_lexer::both;
@@ -34,32 +34,57 @@ pub(crate) fn unit_numbers(alloc: Global, unit: &UnitAst, mix: &MixAst) -> Resul
     requires mixture { IsFormedMixture mix.now }
     ensures { Reads (numbers_of unit.now mix.now) (bad_numeral unit.now mix.now) result }
 {
-    let count = count_numbers(alloc, &unit.count)?;
-    let (count, layer) = both(count, own_layer_numbers(&unit.layer))?;
-    let (count, losses) = both(count, loss_numbers(alloc, unit, mix))?;
-    let terms = losses.terms;
+    let parts = front_numbers(alloc, unit, mix)?;
+    let (parts, terms) = both(parts, term_numbers(alloc, unit))?;
+    let (own, sev) = parts;
     Ok(UnitNumbers {
         name: unit.name.span,
-        count,
+        named: is_named(&unit.sev.body),
+        count: own.count,
         freq: terms.freq,
-        layer,
-        sev: losses.sev,
+        layer: own.layer,
+        sev,
         occ: terms.occ,
         agr: terms.agr,
     })
 }
 
-/// The numbers of a severity and of what stands behind it.
-fn loss_numbers(alloc: Global, unit: &UnitAst, mix: &MixAst) -> Result<LossNumbers, Stop>
+/// The numbers of a severity and of what stands before it in the unit.
+fn front_numbers(
+    alloc: Global,
+    unit: &UnitAst,
+    mix: &MixAst,
+) -> Result<(OwnNumbers, SevNumbers), Stop>
     requires formed { IsFormedUnit unit.now }
     requires mixture { IsFormedMixture mix.now }
-    ensures { Reads (loss_numbers unit.now mix.now) (bad_in_mixture mix.now
-        else within bad_in_clause unit.now.occ else bad_in_distribution unit.now.count
-        else within bad_in_clause unit.now.agr) result }
+    ensures { Reads (own_numbers unit.now, severity_numbers mix.now unit.now.sev.bang)
+        (earlier (is_named unit.now.sev.body)
+        (bad_in_count unit.now.count else within bad_in_layer unit.now.layer)
+        (bad_in_mixture mix.now)) result }
 {
-    let sev = severity_numbers(alloc, mix, unit.sev.bang)?;
-    let (sev, terms) = both(sev, term_numbers(alloc, unit))?;
-    Ok(LossNumbers { sev, terms })
+    let sev = severity_numbers(alloc, mix, unit.sev.bang);
+    both_parts(is_named(&unit.sev.body), own_numbers(alloc, unit), sev)
+}
+
+/// Whether a severity is the name of one that is written before all units.
+fn is_named(body: &SevBody) -> bool
+    ensures { result ≡ is_named body.now }
+{
+    match body {
+        SevBody::Mixture(_) => false,
+        SevBody::Ref(_) => true,
+    }
+}
+
+/// The numbers of what stands before a severity.
+fn own_numbers(alloc: Global, unit: &UnitAst) -> Result<OwnNumbers, Stop>
+    requires { IsFormedUnit unit.now }
+    ensures { Reads (own_numbers unit.now) (bad_in_count unit.now.count
+        else within bad_in_layer unit.now.layer) result }
+{
+    let count = count_numbers(alloc, &unit.count)?;
+    let (count, layer) = both(count, own_layer_numbers(&unit.layer))?;
+    Ok(OwnNumbers { count, layer })
 }
 
 /// The numbers of what stands behind a severity.

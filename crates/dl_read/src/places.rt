@@ -1,7 +1,7 @@
 //! The place of what breaks a rule.
 
 ghost use Rattle.std.specs.Prelude.{◌≡◌, Option, All};
-ghost use Rattle.dl_read.specs.First.{at_if, first_in, TakesPart, TellsPart};
+ghost use Rattle.dl_read.specs.First.{earlier, at_if, first_in, TakesPart, TellsPart};
 
 use dl_lexer::Span;
 
@@ -10,6 +10,18 @@ pub fn place_if(test: bool, place: Span) -> Option<Span>
     ensures { result ≡ at_if test place }
 {
     if test { Some(place) } else { None }
+}
+
+/// The first place in the text of those in a unit's own part, which stands before its severity, and
+/// in that severity. A named severity is written before all units.
+pub fn earlier(named: bool, own: Option<Span>, severity: Option<Span>) -> Option<Span>
+    ensures { result ≡ earlier named own severity }
+{
+    if named {
+        severity.or(own)
+    } else {
+        own.or(severity)
+    }
 }
 
 /// The place that a rule tells for the first part that breaks it.

@@ -6,12 +6,12 @@ ghost use Rattle.dl_limits.specs.Limits.{most_range_parts};
 ghost use Rattle.dl_sev.specs.Ranges.{range_denominator};
 ghost use Rattle.dl_read.specs.First.{◌else◌, within, first_in};
 ghost use Rattle.dl_read.specs.Lists.{is_above};
-ghost use Rattle.dl_read.specs.Rules.{is_no_range, bad_item, range_in_list, range_in_pair, range_in_count, range_in_severity};
+ghost use Rattle.dl_read.specs.Rules.{is_no_range, bad_item, range_in_list, range_in_pair, range_in_count, range_in_severity, range_in_numbers};
 
 use crate::numbers::{
     CountNumbers, ItemNumbers, ListNumbers, PairNumbers, SevNumbers, UnitNumbers,
 };
-use crate::places::{first_place, place_if};
+use crate::places::{earlier, first_place, place_if};
 use dl_frac::{Frac, lcm_to};
 use dl_lexer::Span;
 use dl_limits::MOST_RANGE_PARTS;
@@ -19,9 +19,10 @@ use dl_sev::Range;
 
 /// The place of the first range that goes down, has the step 0, or too fine numbers.
 pub(crate) fn bad_range(unit: &UnitNumbers) -> Option<Span>
-    ensures { result ≡ (range_in_count unit.now.count else range_in_severity unit.now.sev) }
+    ensures { result ≡ range_in_numbers unit.now }
 {
-    range_in_count(&unit.count).or(range_in_severity(&unit.sev))
+    let own = range_in_count(&unit.count);
+    earlier(unit.named, own, range_in_severity(&unit.sev))
 }
 
 /// The place of the first bad range of a count.

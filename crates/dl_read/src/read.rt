@@ -4,7 +4,7 @@ ghost use Rattle.std.specs.Prelude.{◌≡◌, ◌≤◌, ◌++◌, ◌<◌, Non
 ghost use Rattle.dl_limits.specs.Limits.{most_values};
 ghost use Rattle.dl_ast.specs.WellFormed.{IsFormedMixture, IsFormedUnit};
 ghost use Rattle.dl_sev.specs.Ranges.{IsRange, PassesRoom};
-ghost use Rattle.dl_read.specs.First.{◌else◌, within, first_in};
+ghost use Rattle.dl_read.specs.First.{◌else◌, earlier, within, first_in};
 ghost use Rattle.dl_read.specs.Numbers.{if_there};
 ghost use Rattle.dl_read.specs.Rules.{long_list, long_pair, long_count, long_severity, long_clause, long_numbers};
 ghost use Rattle.dl_read.specs.Read.{item_values, item_places, read_list, read_pair, read_severity, read_count, read_lists, read_numbers, Reads, ReadsUnit};
@@ -17,7 +17,7 @@ use crate::numbers::{
 };
 use crate::numerals::unit_numbers;
 use crate::ranges::bad_range;
-use crate::stop::{Stop, push_part};
+use crate::stop::{Stop, both_parts, push_part};
 use crate::tree::{
     ReadAtom, ReadClause, ReadCount, ReadFreq, ReadList, ReadLists, ReadSev, ReadUnit,
 };
@@ -71,6 +71,7 @@ fn with_lists(unit: UnitNumbers, lists: ReadLists) -> ReadUnit
 {
     ReadUnit {
         name: unit.name,
+        named: unit.named,
         count: lists.count,
         layer: unit.layer,
         sev: lists.sev,
@@ -84,10 +85,20 @@ fn read_lists(alloc: Global, unit: &UnitNumbers) -> Result<ReadLists, Stop>
     requires { IsRanged unit.now }
     ensures { Reads (read_lists unit.now) (long_numbers unit.now) result }
 {
-    let count = read_count(alloc, &unit.count, unit.freq)?;
-    let (count, sev) = both(count, read_severity(alloc, &unit.sev))?;
-    let (lists, ()) = both(ReadLists { count, sev }, short_clauses(unit))?;
-    Ok(lists)
+    let parts = front_lists(alloc, unit)?;
+    let (parts, ()) = both(parts, short_clauses(unit))?;
+    let (count, sev) = parts;
+    Ok(ReadLists { count, sev })
+}
+
+/// The lists of a count and of a severity.
+fn front_lists(alloc: Global, unit: &UnitNumbers) -> Result<(ReadCount, ReadSev), Stop>
+    requires { IsRanged unit.now }
+    ensures { Reads (read_count unit.now.count unit.now.freq, read_severity unit.now.sev)
+        (earlier unit.now.named (long_count unit.now.count) (long_severity unit.now.sev)) result }
+{
+    let sev = read_severity(alloc, &unit.sev);
+    both_parts(unit.named, read_count(alloc, &unit.count, unit.freq), sev)
 }
 
 /// Stops at the place of the first clause that has more than 16 layers.

@@ -145,6 +145,8 @@ pub(crate) struct ReadLists {
 pub struct ReadUnit {
     /// The place of the unit's name.
     pub name: Span,
+    /// Whether the severity is a named one, which is written before all units.
+    pub named: bool,
     /// How many claims there are.
     pub count: ReadCount,
     /// The layer of each claim, where there is one.

@@ -4,4 +4,4 @@ use Rattle.dl_amounts.proofs.buckets.grid_parts.Goals as goal
 
 pub returns : goal.returns
 returns c =
-    unit_gridded c.args.most c.args.bs c.args.unit _ _ _ c.own_layer-layer.ensures c.in_ok-losses.ensures c.or.ensures
+    unit_gridded c.args.most c.args.bs c.args.unit _ _ _ c.in_ok-losses.ensures c.in_ok-clauses.ensures c.or.ensures
