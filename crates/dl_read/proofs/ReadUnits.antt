@@ -331,7 +331,8 @@ module _ (u : UnitAst) (m : MixAst) (n : UnitNumbers) (same : n ≡ numbers_of u
   unfolding list_too_long
   long_place r e = e ∙ ap long_numbers same
 
-  module _ (formed : IsFormedUnit u) (mixed : IsFormedMixture m) (good : None ≡ bad_numeral u m) (ranges : None ≡ range_in_numbers n) where
+  module _ (formed : IsFormedUnit u) (mixed : IsFormedMixture m) (good : None ≡ bad_numeral u m)
+      (ranges : None ≡ range_in_numbers n) where
     pub numbers_ranged : IsRanged n
     numbers_ranged = subst IsRanged (sym same) (ranged_is u m formed mixed (sym good) (sym (range_place None ranges)))
 
