@@ -1,2 +1,3 @@
 mod PointLaws
 mod CountLaws
+mod SomeClaimLaws

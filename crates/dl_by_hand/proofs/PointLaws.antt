@@ -120,10 +120,10 @@ module _ (w f : ℕ → Fraction) (x : ℕ) (above below step : ℕ → ℕ) (po
 -- ---- the sum over the counts
 
 module _ (counts amounts : List Item) (p : 0 < weight_sum counts) (q : 0 < weight_sum amounts) where
-  denominator_pos : (n : ℕ) → 0 < weight_sum counts * weight_sum amounts ^ n
+  pub denominator_pos : (n : ℕ) → 0 < weight_sum counts * weight_sum amounts ^ n
   denominator_pos n = mul-pos p (one-le-pow n (weight_sum amounts) q)
 
-  cell_le_one : (x n : ℕ) → cell (probability_at counts) (probability_at amounts) x n ≤ℚ whole 1
+  pub cell_le_one : (x n : ℕ) → cell (probability_at counts) (probability_at amounts) x n ≤ℚ whole 1
   cell_le_one x n = le_trans _ _ _
       (sum_to_le n _ (probability_at counts) (λ k b. subst
       (λ t. probability_at counts k *ℚ power (probability_at amounts) k x ≤ℚ t) (times_one _)
@@ -132,7 +132,7 @@ module _ (counts amounts : List Item) (p : 0 < weight_sum counts) (q : 0 < weigh
       (probabilities_le counts n p)
 
   -- the part of n claims
-  one_count : (x n : ℕ) → (weight_at counts n * ways (weight_at amounts) n x) over
+  pub one_count : (x n : ℕ) → (weight_at counts n * ways (weight_at amounts) n x) over
       (weight_sum counts * weight_sum amounts ^ n) ≡ probability_at counts n *ℚ power (probability_at amounts) n x
   one_count x n =
       sym (over_mul _ _ _ _ p (one-le-pow n (weight_sum amounts) q))

@@ -4,5 +4,6 @@
 //! what a reader works out on paper.
 #![tactic(auto)]
 
+pub mod changed_zero;
 pub mod listed;
 pub mod unbounded;

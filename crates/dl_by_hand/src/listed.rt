@@ -23,7 +23,7 @@ pub(crate) fn total(items: &[Item]) -> u128
 }
 
 /// The weight of the number `x`.
-fn weight(items: &[Item], x: u32) -> u128
+pub(crate) fn weight(items: &[Item], x: u32) -> u128
     requires fits { weight_sum items.now < 2 ^ 128 }
     ensures { result ≡ weight_at items.now x }
 {

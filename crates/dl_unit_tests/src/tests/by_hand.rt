@@ -1,4 +1,5 @@
 use crate::tests::helpers::DIE;
+use dl_by_hand::changed_zero::{changed_point, some_claim, some_claim_point};
 use dl_by_hand::listed::listed_point;
 use dl_by_hand::unbounded::{gamma_point, poisson_point};
 use dl_plan::Item;
@@ -90,6 +91,39 @@ fn listed(rt: HostRuntime) {
     for (x, parts) in [(0, 16), (1, 12), (4, 4), (5, 12), (9, 0)] {
         assert_eq!(rt; listed_point(&mixed, &UNEQUAL, x, 2), (parts, 64));
     }
+}
+
+/// Two trials of chance 1 / 2, where no claim is left out: the counts 1 and 2 have 1 / 2 and 1 / 4,
+/// together 3 / 4. With claims of 0 or 1 alike the sums 0, 1 and 2 have 5, 6 and 1 sixteenths, of
+/// these 3 / 4 so 5 / 12, 1 / 2 and 1 / 12. Where no claim has the probability 1 / 5 instead, 0 has
+/// 2 / 5, of 3 / 4 so 8 / 15, and 1 has 3 / 10, so 2 / 5; where it is sure, 0 has all of 3 / 4.
+#[test]
+fn changed_zero(rt: HostRuntime) {
+    let trials = [
+        Item {
+            amount: 0,
+            weight: 1,
+        },
+        Item {
+            amount: 1,
+            weight: 2,
+        },
+        Item {
+            amount: 2,
+            weight: 1,
+        },
+    ];
+    assert_eq!(rt; some_claim(&trials, 2), (3, 4));
+    for (x, parts) in [(0, 5), (1, 6), (2, 1), (3, 0)] {
+        assert_eq!(rt; some_claim_point(&trials, &HALF, x, 2), (parts, 16));
+    }
+    for (x, part) in [(0, (20, 64)), (1, (6, 16)), (2, (1, 16)), (3, (0, 16))] {
+        assert_eq!(rt; changed_point((0, 1), &trials, &HALF, x, 2), part);
+    }
+    for (x, part) in [(0, (128, 320)), (1, (24, 80)), (2, (4, 80))] {
+        assert_eq!(rt; changed_point((1, 5), &trials, &HALF, x, 2), part);
+    }
+    assert_eq!(rt; changed_point((1, 1), &trials, &HALF, 0, 2), (48, 64));
 }
 
 /// Of at most 3 claims, 1 and 4 make 5; of none there is 0 alone.
