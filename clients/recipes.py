@@ -234,21 +234,21 @@ TOWERS = {
     "agg P 2 claims EVEN poisson": Year.of_claims(2, EVEN),
     "port P agg Small 4/3 claims dsev [5 15] poisson agg Large 2/3 claims dsev [30] poisson": Year.of_claims(2, EVEN),
 }
-# Four claims on a coarser bucket, counted in buckets of 50: each amount moved down, and up.
+# Four claims on a coarser bucket, counted in buckets of 500: each amount moved down, and up.
 LOW = Year.of_claims(4, {0: 50, 4: 30, 23: 15, 96: 5})
 HIGH = Year.of_claims(4, {1: 50, 5: 30, 23: 15, 96: 5})
 COARSE = {
-    "agg Low 4 claims dsev [0 200 1150 4800] [0.5 0.3 0.15 0.05] poisson": LOW,
-    "agg High 4 claims dsev [50 250 1150 4800] [0.5 0.3 0.15 0.05] poisson": HIGH,
+    "agg Low 4 claims dsev [0 2000 11500 48000] [0.5 0.3 0.15 0.05] poisson": LOW,
+    "agg High 4 claims dsev [500 2500 11500 48000] [0.5 0.3 0.15 0.05] poisson": HIGH,
 }
 
 
 def coarse():
     """Whether the quantile of the amounts as they are lies between the two, in money, and so does their mean."""
-    cells = poisson(4, {17: 50, 230: 30, 1150: 15, 4800: 5}, 10_500)
-    reached = [sum(cells[:most]) >= ONE * Fraction(99, 100) for most in (10_000, 10_251)]
+    cells = poisson(4, {17: 50, 2_300: 30, 11_500: 15, 48_000: 5}, 105_000)
+    reached = [sum(cells[:most]) >= ONE * Fraction(99, 100) for most in (100_000, 102_501)]
     yield reached == [False, True], "the quantile lies outside those of the two programs of docs/USAGE.md"
-    yield LOW.value("mean") * 50 <= 1960 <= HIGH.value("mean") * 50, "the mean lies outside those of docs/USAGE.md"
+    yield LOW.value("mean") * 500 <= 19_294 <= HIGH.value("mean") * 500, "the mean lies outside those of docs/USAGE.md"
 
 
 def reinstated(limits, paid):
