@@ -53,7 +53,7 @@ WRITTEN = [
     ),
     (  # 10 of loss at 25/3 a claim, and 20 at 40/3, are 6/5 and 3/2 claims
         "port Q agg P [10 20] loss [10 20] xs 0 dsev [5 15 30] geometric",
-        "port Q\nagg P 2.7 claims dsev [5 10] [1/3 2/3] dsev [5 15 20] [1/3 1/3 1/3] wts [4/9 5/9] mixed gamma 1",
+        "port Q\nagg P 2.7 claims dsev [5 10] [1/3 2/3] dsev [5 15 20] [1/3 1/3 1/3] wts [4/9 5/9] geometric",
     ),
     ("agg P [2] claims [10] xs [0] dsev [5 15] fixed", "agg P 2 claims 10 xs 0 dsev [5 15] fixed"),
     # exponents, signs and arithmetic
@@ -70,7 +70,16 @@ WRITTEN = [
     ("agg E 100 prem at 50 % + 15% lr dsev [1] poisson", "agg E 100 premium at 0.65 lr dsev [1] poisson"),
     ("agg E 2**-1 claims dsev [0.250000000000] bernoulli", "agg E 0.5 claims dsev [0.25] bernoulli"),
     # claim counts, exposures at a rate, and listed severities that are scaled or shifted
-    ("agg G 3 claims dsev [1] geometric", "agg G 3 claims dsev [1] mixed gamma 1"),
+    ("agg G 3 claims dsev [1] geometric", "agg G 3 claims dsev [1] geometric"),
+    ("sev Die dsev [1:6] agg D dfreq [1] sev.Die", "sev Die dsev [1:6]\nagg D dfreq [1] sev.Die"),
+    (
+        "sev a.b dsev [1] dsev [2] wts [.5 .5] sev c sev 2 * dhistogram xps [1 2] [.5 .5] port P agg A 2 claims 1 xs 0 sev.a.b ! fixed",
+        "sev a-b dsev [1] dsev [2] wts [.5 .5]\nsev c dsev [2 4] [.5 .5]\nport P\nagg A 2 claims 1 xs 0 sev.a-b ! fixed",
+    ),
+    (
+        "sev S dsev [5 15 30] agg P [2 3] claims [10 20] xs 0 sev.S mixed gamma 0.5",
+        "sev S dsev [5 15 30]\nagg P 5 claims dsev [5 10] [1/3 2/3] dsev [5 15 20] [1/3 1/3 1/3] wts [0.4 0.6] mixed gamma 0.5",
+    ),
     ("agg G 3 claims dsev [1] mixed gamma 1/2 aggregate net of 5 xs 0", "agg G 3 claims dsev [1] mixed gamma 1/2 aggregate net of 5 xs 0"),
     ("agg G 3 claims dsev [1] binomial 3/10", "agg G 3 claims dsev [1] binomial 3/10"),
     ("agg R 20 exposure at 1.5 rate dsev [1] poisson", "agg R 30 loss dsev [1] poisson"),

@@ -3,7 +3,7 @@
 import re
 from dataclasses import dataclass
 from fractions import Fraction
-from typing import Iterable, List, Optional, Set, Tuple, TypeVar
+from typing import Dict, Iterable, List, Optional, Set, Tuple, TypeVar
 
 from .calls import Text
 from .choose import tokens_of
@@ -21,7 +21,7 @@ KEYWORDS = frozenset(
 )
 #: Words that are no keywords, and no names either.
 NO_NAMES = frozenset("lognorm expon pareto weibull norm uniform beta chistogram note geometric zt zm common".split())
-COUNTS = ("fixed", "poisson", "bernoulli")
+COUNTS = ("fixed", "poisson", "geometric", "bernoulli")
 MOST_UNITS = 16
 MOST_VALUES = 1024
 MOST_ATOMS = 64
@@ -52,6 +52,7 @@ class Profile:
     count: str
     aggregate: str
     note: str
+    named: Tuple[str, ...]  # the severities with names that are written before the units
 
     def is_split(self) -> bool:
         """Whether its entries are independent units: those of a poisson count are, with no clause on their sum."""
@@ -72,7 +73,7 @@ class Profile:
         """One unit with the claims of all entries, each with its amounts in its layer, by the expected numbers of claims. None
         where a number has too many digits; raises `ZeroDivisionError` where there are no claims, and `RuleFault` where an
         entry by itself has no meaning."""
-        units = [Reader(tokens_of(entry)).unit() for entry in self.entries()]
+        units = [Reader(tokens_of(" ".join([*self.named, entry]))).unit() for entry in self.entries()]
         claims = [unit.expected_claims() for unit in units]
         whole = sum(claims, Fraction(0))
         atoms = [listed(unit.in_layer()) for unit in units]
@@ -118,11 +119,19 @@ def values_of(items: List[Item]) -> Optional[List[Fraction]]:
 class Translator(Numbers):
     """Reads a program of the package from the left, and writes it."""
 
+    def __init__(self, text: str) -> None:
+        super().__init__(text)
+        self.named: Dict[str, str] = {}
+
     def program(self) -> str:
         """The program."""
+        begin = self.token()
+        while self.begins_definition():
+            self.definition()
         port = self.passed("port")
         if not port and self.ahead() != "agg":
-            self.refuse(self.none() or "A program begins with `agg` or `port`; a severity alone is none.")
+            where = self.token() if self.ahead() else begin
+            self.refuse(self.none() or "A program begins with `agg` or `port`; a severity alone is none.", where)
         head = ["port", *filter(None, [cleaned(self.name()), self.note()])] if port else []
         names: Set[str] = set()
         units: List[str] = []
@@ -137,7 +146,21 @@ class Translator(Numbers):
             self.refuse("A text has one program here; give the next one a text of its own, or put both in a port.")
         if self.ahead():
             self.refuse(self.unknown())
-        return "\n".join([" ".join(head), *units] if head else units) + "\n"
+        return "\n".join([*self.named.values(), *([" ".join(head)] if head else []), *units]) + "\n"
+
+    def begins_definition(self) -> bool:
+        """Whether a severity with a name is next."""
+        name = self.tokens[self.at + 1] if self.at + 1 < len(self.tokens) else self.token()
+        return self.ahead() == "sev" and name.is_word() and name.spelling not in KEYWORDS | NO_NAMES
+
+    def definition(self) -> None:
+        """Reads the severity with a name that is next."""
+        self.take()
+        name = self.name()
+        if cleaned(name) in self.named:
+            self.refuse(f"Two severities have the name {cleaned(name)} here.", name)
+        words = self.mixture()
+        self.named[cleaned(name)] = f"sev {cleaned(name)} {words}"
 
     def none(self) -> Optional[str]:
         """Why the next word has no counterpart, where it is known to have none."""
@@ -175,7 +198,7 @@ class Translator(Numbers):
             self.refuse("A limit profile has an exposure, and no listed count.", name)
         severity, occurrence = self.severity(), self.clause("occurrence")
         count = "" if listed else self.count()
-        shared = (severity, occurrence, count, self.clause("aggregate"), self.note())
+        shared = (severity, occurrence, count, self.clause("aggregate"), self.note(), tuple(self.named.values()))
         profile = Profile(cleaned(name), widened(exposures, entries), widened(layers, entries), *shared)
         for each in profile.names():
             if each in names:
@@ -308,9 +331,16 @@ class Translator(Numbers):
         return [spelling(items)]
 
     def severity(self) -> str:
-        """The severity that is next, with its `!`."""
+        """The severity that is next, with its `!`: a mixture, or the name of one that is written before the units."""
+        token = self.token()
+        name = cleaned(Token(token.spelling[4:], token.at)) if token.spelling.startswith("sev.") else ""
+        words = f"sev.{name}" if name in self.named and self.take() else self.mixture()
+        return words + " !" * self.passed("!")
+
+    def mixture(self) -> str:
+        """The severity that is next: one atom, or several with their weights."""
         words = [self.atom_of_severity()]
-        while self.ahead() in ("dsev", "sev"):
+        while self.ahead() == "dsev" or (self.ahead() == "sev" and not self.begins_definition()):
             words.append(self.atom_of_severity())
         if self.passed("wts"):
             self.passed("=")
@@ -319,7 +349,7 @@ class Translator(Numbers):
             self.refuse("Several severities have their weights behind them, as wts [1/2 1/2].")
         if self.ahead() in ("splice", "picks"):
             self.refuse(self.unknown())
-        return " ".join(words + ["!"] * self.passed("!"))
+        return " ".join(words)
 
     def equal_weights(self, atoms: int) -> str:
         """As many equal weights as there are severities, for the number that is next."""
@@ -418,9 +448,7 @@ class Translator(Numbers):
     def count(self) -> str:
         """The distribution of the number of claims that is next."""
         token = self.token()
-        if self.passed("geometric"):
-            written = "mixed gamma 1"
-        elif self.passed("binomial"):
+        if self.passed("binomial"):
             written = f"binomial {self.finite()}"
         elif self.passed("mixed", "gamma"):
             written = f"mixed gamma {self.finite()}"
@@ -462,9 +490,9 @@ def translate(text: Text) -> str:
     """The program of this text of the package `aggregate`, as a text of this language with the same meaning.
 
     Towers are written as their layers, a limit profile as a unit for each entry (as one unit with the claims of all entries,
-    where the count is not poisson or a clause is on their sum), `geometric` as `mixed gamma 1`, numbers with
-    exponents, signs and arithmetic as one numeral, a listed severity that is scaled or shifted by its amounts, and an exposure
-    at a rate as its expected loss. Comments are dropped. What has no counterpart raises `Untranslated`, with its place and a
+    where the count is not poisson or a clause is on their sum), numbers with exponents, signs and arithmetic as one numeral, a
+    listed severity that is scaled or shifted by its amounts, and an exposure at a rate as its expected loss. Severities with
+    names that stand before the units keep them. Comments are dropped. What has no counterpart raises `Untranslated`, with its place and a
     sentence. The rules are not asked: the text that comes out may still be refused, as for an amount that is no whole number
     of buckets.
     """
