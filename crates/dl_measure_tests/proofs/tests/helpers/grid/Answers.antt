@@ -2,6 +2,7 @@
 use Rattle.std.proofs.Common.{rules, arith, ◌<◌, ◌/◌, ◌^◌}
 use Rattle.std.proofs.Math.Nat.{div-le_self}
 use Rattle.dl_iv.proofs.Conditions.{enclose_fits}
+use Rattle.dl_grid.proofs.Sizes.{few_at_each_scale}
 use Rattle.dl_measure_tests.proofs.tests.helpers.grid.Goals as goal
 
 pub enclose-requires : goal.enclose-requires
@@ -29,3 +30,14 @@ enclose-requires g c =
         ),
       ),
     )
+
+pub zero-requires : goal.zero-requires
+zero-requires g c = (
+  omega arith,
+  record {
+    scale_above = c.requires.scale_above;
+    scale_below = c.requires.scale_below;
+    some = c.requires.some;
+    few = few_at_each_scale _ c.requires.few;
+  },
+)
