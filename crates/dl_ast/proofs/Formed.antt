@@ -194,7 +194,7 @@ mixture_given = gives_spanned (gives_or (gives_made atom_given (λ a h span. rec
       several = λ lt. refl;
     })))
 
--- behind `sev.` stands the name
+-- the text of a reference is `sev.` and a name
 name_behind : (text : List ℕ) → IsSpelled kinds.Ref text → codes "sev." ++ drop 4 text ≡ text
 name_behind text (ref name e word) = ap (λ ys. codes "sev." ++ drop 4 ys) e ∙ sym e
 
@@ -320,7 +320,7 @@ head_given = gives_made (gives_behind (Word words.Port)
 units_given : Gives (some_of unit unit) (λ xs. (0 < length xs) × All IsFormedUnit xs)
 units_given = gives_some_of unit_given unit_given
 
--- a head where there is one, and the units
+-- a program of one unit, or of a port line and its units
 record IsFormedBook (b : Option PortHead × List UnitAst) : Type 0 where
   pub head : IfSome b.0 IsFormedHead
   pub some : 0 < length b.1

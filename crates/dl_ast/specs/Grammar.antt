@@ -118,7 +118,7 @@ mixture = spanned (
     (atom ▸ many atom ▸ Word words.Wts ≫ list))
 
 -- cost := mixture | REF
--- a reference stands for the name behind its `sev.`
+-- the name in a reference: its text without `sev.`
 unfoldable pub reference : Rule NameAst
 reference = made (λ t. record { text = drop 4 t.text; span = t.span }) (one kinds.Ref)
 

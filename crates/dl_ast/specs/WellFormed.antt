@@ -136,7 +136,7 @@ pub record IsFormedHead (head : PortHead) : Type 0 where
   pub common : IfSome head.common IsFormedNumeral
   pub note : IfSome head.note IsFormedNote
 
--- the severities with names can be counted in 32 bits; without a port there is one unit
+-- fewer than 2^32 severities with names; without a port there is one unit
 pub record IsWellFormed (program : Program) : Type 0 where
   pub few : length program.sevs < 2 ^ 32
   pub sevs : All IsFormedDefinition program.sevs

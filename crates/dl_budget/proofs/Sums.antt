@@ -35,7 +35,7 @@ budget_all S cells us i sum t past e =
 
 -- ---- sizes
 
--- n units come to less than 3/4 of 2^40
+-- the budgets of n units, n at most 16, add up to less than 3/4 of 2^40
 units_small : (cells n : ℕ) → cells ≤ 65536 → n ≤ 16 → n * rounded_spread cells 0 most_unit_budget ≤ 755916341264
 unfolding rounded_spread
 units_small cells n few most =
