@@ -13,7 +13,7 @@ use Rattle.dl_plan.proofs.Horizons.{horizon_edges}
 use Rattle.dl_model.specs.Program.{Loss, One, Mean, Layer, partial_sums, total}
 use Rattle.dl_model.specs.Measures.{AreDeclared}
 use Rattle.dl_model.specs.Units.{loss}
-use Rattle.dl_model.specs.Plans.{claims_of, loss_of, mean_ceded}
+use Rattle.dl_model.specs.Plans.{aggregate_of, claims_of, mean_ceded}
 use Rattle.dl_model.proofs.Declared.{at_least_wider, at_most_wider}
 use Rattle.dl_model.proofs.ClauseMeans.{are_claims, claims_enclosed, claims_mean, none_ceded, alone_ceded, both_ceded, no_clause, ceded_mean, net_mean}
 use Rattle.dl_cede.specs.Means.{AreNearestEnds, HoldsMean}
@@ -129,7 +129,7 @@ module _ {B : ℕ} (grid : List (Iv B)) (clause : Clause) (claims ceded : Iv B)
   pub net_holds : (mean : Iv B) → clause.0 ≡ true → mean.lo ≡ claims.lo - ceded.hi → mean.hi ≡ claims.hi - ceded.lo
       → OnEachUnit grid clause claims (λ u. HoldsMean u mean)
   net_holds mean side low high cells u valid is encloses full =
-      subst₂ (λ a b. Holds (partial_sums (loss_of u ∷ []) Mean) (partial_sums (loss_of u ∷ []) One) a b)
+      subst₂ (λ a b. Holds (partial_sums (loss (aggregate_of u) ∷ []) Mean) (partial_sums (loss (aggregate_of u) ∷ []) One) a b)
       (sym (ap (λ n. n over 2 ^ B) low ∙ over_minus claims.lo ceded.hi (2 ^ B) (pow_pos B)))
       (sym (ap (λ n. n over 2 ^ B) high ∙ over_minus claims.hi ceded.lo (2 ^ B) (pow_pos B)))
       (net_mean cells u clause valid is _ _ _ _ side (taken cells u valid encloses full) full)
