@@ -166,7 +166,7 @@ most_clause_budget = 44 * 2 ^ 30
 
 -- the probability of no claim, where it is changed
 abbrev pub most_none_budget : ℕ
-most_none_budget = 139 * 2 ^ 13
+most_none_budget = 142 * 2 ^ 13
 
 -- a unit after its probability of no claim is changed
 abbrev pub most_unit_budget : ℕ

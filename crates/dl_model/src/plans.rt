@@ -21,7 +21,7 @@ ghost use Rattle.dl_model.specs.Compound.{cell};
 ghost use Rattle.dl_model.specs.Program.{Quantity, One, Cdf, Mean, AreDeclarable, partial_sums};
 ghost use Rattle.dl_model.specs.Family.{nothing, times_itself, SameCells};
 ghost use Rattle.dl_model.specs.Measures.{AreDeclared, IsAsked, IsQuantile, IsBracketed};
-ghost use Rattle.dl_model.specs.Units.{IsDeclared};
+ghost use Rattle.dl_model.specs.Units.{loss, IsDeclared};
 ghost use Rattle.dl_model.specs.Plans.{count_weights, outcome_after, aggregate_of, loss_of, aggregates_of, declared, compound_of};
 
 use dl_plan::Plan;
@@ -92,13 +92,17 @@ pub fn law_expected()
 {}
 
 /// Without an aggregate clause and a changed probability of no claim the mean of a unit is its
-/// expected count times the mean of one claim, and the mean of a total is the sum of the means of
-/// its units.
+/// expected count times the mean of one claim; no clause raises it; and the mean of a total is the
+/// sum of the means of its units.
 pub fn law_plan_mean()
     ensures unit { (cells : ℕ) (u : UnitOfPlan) → IsValidUnit cells u → u.cede ≡ None
         → u.zero ≡ None
         → Holds (partial_sums (loss_of u ∷ []) Mean) (partial_sums (loss_of u ∷ []) One)
         (expected_count u.freq *ℚ mean_amount (pairs_of u.sev))
+        (expected_count u.freq *ℚ mean_amount (pairs_of u.sev)) }
+    ensures most { (cells : ℕ) (u : UnitOfPlan) → IsValidUnit cells u
+        → AtMost (partial_sums (loss (aggregate_of u) ∷ []) Mean)
+        (partial_sums (loss (aggregate_of u) ∷ []) One)
         (expected_count u.freq *ℚ mean_amount (pairs_of u.sev)) }
     ensures total { (plan : Plan) (l h : UnitOfPlan → Fraction) → IsValid plan
         → All (λ u. Holds (partial_sums (loss_of u ∷ []) Mean) (partial_sums (loss_of u ∷ []) One)

@@ -1,7 +1,7 @@
 use Rattle.dl_budget.proofs.Common.{◌*◌, ◌^◌, ap, sym, ◌∙◌, horizon, claims_budget}
 use Rattle.dl_budget.specs.Units.{after_clause}
 use Rattle.dl_budget.proofs.Horizons.{on_horizon}
-use Rattle.dl_budget.proofs.units.unit_budget.Goals as goal
+use Rattle.dl_budget.proofs.units.clause_budget.Goals as goal
 
 pub returns-in-Some-clause-value : goal.returns-in-Some-clause-value
 returns-in-Some-clause-value g c =

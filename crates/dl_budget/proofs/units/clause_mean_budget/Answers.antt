@@ -2,7 +2,7 @@ use Rattle.dl_budget.proofs.Common.{◌+◌, ◌^◌, ap, ap₂, arith, sym, sub
 use Rattle.dl_plan.specs.Horizon.{IsHorizonOf}
 use Rattle.dl_plan.specs.MeanWidth.{mean_width}
 use Rattle.dl_budget.proofs.Horizons.{on_horizon, edges_few}
-use Rattle.dl_budget.proofs.units.unit_mean_budget.Goals as goal
+use Rattle.dl_budget.proofs.units.clause_mean_budget.Goals as goal
 
 pub layers_budget-requires-clause-inside : goal.layers_budget-requires-clause-inside
 layers_budget-requires-clause-inside g c =
