@@ -117,3 +117,7 @@ none_small B (Binomial trials q) p e count z = trials_small B 6 trials e (omega 
 none_small B (Poisson mean) p e count z = none_or mean.num _ most_none_budget (poisson_small B mean e z.most)
 none_small B (Gamma shape mean) p e count z =
     none_or mean.num _ most_none_budget (gamma_small B shape mean e count.0 count.1 z.most)
+
+pub none_within : (B : ℕ) (freq : Freq) (x : ℕ) → IsPlanScale B → IsClaimCount freq → (p : Fraction) × IsNewZero freq p
+    → x ≡ none_budget (2 ^ B) freq → x ≤ most_none_budget
+none_within B freq x e count changed is = omega (arith, is, none_small B freq changed.0 e count changed.1)

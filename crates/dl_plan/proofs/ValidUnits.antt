@@ -1,9 +1,13 @@
 -- What is known of the units of a valid plan: their claims alone, and how large their means are.
 use Rattle.dl_plan.proofs.Common.{ℕ, ◌≡◌, ◌∙◌, ◌+◌, ◌*◌, ◌<◌, ◌≤◌, List, [], ◌∷◌, sym, ap, subst, arith, All, All-head, All-tail, sum_by-cons, mul-le-mul_right, Fraction, whole, ◌*ℚ◌, ◌≤ℚ◌, over_le, Item, Sev, weight_sum, weighted_sum, pairs_of, mean_amount}
 use Rattle.dl_exact.proofs.Laws.{one_pos, times_le_both, whole_times}
+use Rattle.std.proofs.Math.Nat.{le_trans}
+use Rattle.std.specs.Prelude.{Some, IfSome}
+use Rattle.dl_limits.specs.Limits.{most_amount}
+use Rattle.dl_limits.proofs.Scales.{amount_fits}
 use Rattle.dl_plan.specs.declared.plan.Unit.{Unit as UnitOfPlan}
 use Rattle.dl_plan.specs.Count.{expected_count}
-use Rattle.dl_plan.specs.Valid.{claims_alone, declared_mean, IsValidUnit}
+use Rattle.dl_plan.specs.Valid.{claims_alone, declared_mean, IsNewZero, IsValidUnit}
 use Rattle.dl_plan.proofs.Means.{total_pos}
 use Rattle.dl_plan.proofs.Shares.{mean-shares}
 
@@ -19,7 +23,15 @@ alone_valid cells u h = record {
   zero = tt;
 }
 
+-- a probability of no claim that is changed can be
+pub new_zero : (cells : ℕ) (u : UnitOfPlan) (p : Fraction) → IsValidUnit cells u → u.zero ≡ Some p → IsNewZero u.freq p
+new_zero cells u p h is = subst (λ z. IfSome z (IsNewZero u.freq)) is h.zero
+
 -- ---- how large its mean is
+
+pub near_in_any : (cells : ℕ) (u : UnitOfPlan) → IsValidUnit cells u
+    → All (λ (i : Item). i.amount ≤ most_amount) u.sev.items
+near_in_any cells u h k d inside = le_trans (h.amounts k d inside) (amount_fits cells)
 
 sum_within : (n : ℕ) (xs : List Item) → All (λ (i : Item). i.amount ≤ n) xs → weighted_sum xs ≤ n * weight_sum xs
 sum_within n [] near = omega arith

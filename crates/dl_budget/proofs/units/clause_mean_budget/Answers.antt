@@ -1,6 +1,7 @@
 use Rattle.dl_budget.proofs.Common.{◌+◌, ◌^◌, ap, ap₂, arith, sym, subst, ◌∙◌, sum_by, horizon, part_width, claims_budget}
 use Rattle.dl_plan.specs.Horizon.{IsHorizonOf}
 use Rattle.dl_plan.specs.MeanWidth.{mean_width}
+use Rattle.dl_plan.proofs.ValidUnits.{alone_valid}
 use Rattle.dl_budget.proofs.Horizons.{on_horizon, edges_few}
 use Rattle.dl_budget.proofs.units.clause_mean_budget.Goals as goal
 
@@ -18,3 +19,6 @@ returns-in-Some-clause-value g c =
     ∙ ap₂ (λ budget layers. sum_by (λ l. part_width budget l.limit l.attach) layers) before c.layers.ensures)
     ∙ ap (λ clause. mean_width clause (claims_budget (2 ^ g.row.B)
     (horizon c.args.unit.now.cede c.args.cells) c.args.unit.now)) (sym c.in-Some.is)
+
+pub claims_budget-before-requires-clause-valid : goal.claims_budget-before-requires-clause-valid
+claims_budget-before-requires-clause-valid g c = (c.args.cells, alone_valid c.args.cells c.args.unit.now c.requires.valid)
