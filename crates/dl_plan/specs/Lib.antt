@@ -8,5 +8,6 @@ pub mod Count
 pub mod Valid
 pub mod Facts
 pub mod Ranges
+pub mod Terms
 pub mod MeanWidth
 pub mod Plain
