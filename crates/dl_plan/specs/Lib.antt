@@ -6,6 +6,7 @@ pub mod Horizon
 pub mod Parts
 pub mod Count
 pub mod Valid
+pub mod Common
 pub mod Facts
 pub mod Ranges
 pub mod Terms
