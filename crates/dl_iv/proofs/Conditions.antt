@@ -1,5 +1,6 @@
 -- Plainer bounds from which the conditions of the rounded operations follow.
 use Rattle.dl_iv.proofs.Common.{ℕ, ◌+◌, ◌*◌, ◌/◌, ◌^◌, ◌<◌, ◌≤◌, arith, refl, le-mul_of_pos_right, mul-le-mul_right, le_trans, div_ceil, pow_pos, div_ceil_least}
+use Rattle.std.proofs.Common.{mul_comm}
 use Rattle.std.proofs.Math.Nat.{lt-div-mul-add}
 use Rattle.dl_iv.proofs.Rounding.{power_le}
 
@@ -11,6 +12,10 @@ enclose_fits b n d small pos below =
     let bound : n ≤ 2 ^ 71 * d = omega arith in
     let scaled : 2 ^ b * n ≤ 2 ^ 56 * n = mul-le-mul_right n (power_le b (2 ^ b) 56 refl small) in
     div_ceil_least (2 ^ b * n) d (2 ^ 127) pos (omega arith)
+
+-- quotients below 2^71 fit
+pub quotient_fits : (b n d : ℕ) → b ≤ 56 → 0 < d → n / d < 2 ^ 71 → div_ceil (n * 2 ^ b) d ≤ 2 ^ 127
+quotient_fits b n d small pos below = rw (mul_comm n (2 ^ b)) (enclose_fits b n d small pos below)
 
 -- an end whose digits fit can be printed
 pub print_fits : (n b : ℕ) → n ≤ 2 ^ 127 → n ≤ 2 ^ 127 * 2 ^ b

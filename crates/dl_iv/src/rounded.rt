@@ -1,4 +1,4 @@
-ghost use Rattle.std.specs.Prelude.{◌≡◌, ℕ, ◌*◌, ◌/◌, ◌^◌, ◌<◌, ◌≤◌};
+ghost use Rattle.std.specs.Prelude.{◌≡◌, ℕ, ◌*◌, ◌/◌, ◌%◌, ◌^◌, ◌<◌, ◌≤◌, min};
 ghost use Rattle.std.specs.Int.{div_ceil};
 ghost use Rattle.dl_exact.specs.Fraction.{Fraction, ◌over◌, ◌*ℚ◌, ◌/ℚ◌, ◌≤ℚ◌};
 ghost use Rattle.dl_iv.specs.Enclosure.{LiesIn};
@@ -11,6 +11,32 @@ macro_rules! rounded_outward {
     ($low:expr, $low_by:expr; $high:expr, $high_by:expr) => {
         ($low / $low_by, ($high).div_ceil($high_by))
     };
+}
+
+/// The floor of `low * factor / low_by`, and the ceiling of `high * factor / high_by`. The whole
+/// parts of the quotients go apart, since the whole products may pass 128 bits.
+fn rounded_by_parts(
+    low: u128,
+    low_by: u128,
+    high: u128,
+    high_by: u128,
+    factor: u128,
+) -> (u128, u128)
+    requires low_positive { 0 < low_by }
+    requires high_positive { 0 < high_by }
+    requires low_rest { low % low_by * factor < 2 ^ 128 }
+    requires high_rest { high % high_by * factor < 2 ^ 128 }
+    requires low_fits { low * factor / low_by ≤ 2 ^ 127 }
+    requires high_fits { div_ceil (high * factor) high_by ≤ 2 ^ 127 }
+    ensures low { result.0 ≡ low * factor / low_by }
+    ensures high { result.1 ≡ div_ceil (high * factor) high_by }
+{
+    let (lower, upper) =
+        rounded_outward!(low % low_by * factor, low_by; high % high_by * factor, high_by);
+    (
+        low / low_by * factor + lower,
+        high / high_by * factor + upper,
+    )
 }
 
 /// The operations whose ends are rounded: the low end down to whole units, the high end up.
@@ -67,18 +93,30 @@ impl<const B: u32> Iv<B> {
         Iv { lo, hi }
     }
 
+    /// The values times `num / den`, which is at most 1.
+    pub fn part(self, num: u64, den: u64) -> Self
+        requires positive { 0 < den }
+        requires part { num ≤ den }
+        ensures low { result.lo ≡ self.entry.lo * num / den }
+        ensures high { result.hi ≡ div_ceil (self.entry.hi * num) den }
+        ensures holds { (x : Fraction) → LiesIn x self.entry → LiesIn (x *ℚ num over den) result }
+    {
+        let (num, den) = (u128::from(num), u128::from(den));
+        let (lo, hi) = rounded_by_parts(self.lo, den, self.hi, den, num);
+        Iv { lo, hi }
+    }
+
     /// The quotients of a value by a value of `o`, none of which is 0.
     pub fn div(self, o: Self) -> Self
         requires positive { 0 < o.lo }
-        requires product { self.hi * 2 ^ B < 2 ^ 128 }
+        requires rest { min self.hi o.hi * 2 ^ B < 2 ^ 128 }
         requires fits { div_ceil (self.hi * 2 ^ B) o.lo ≤ 2 ^ 127 }
         ensures low { result.lo ≡ self.entry.lo * 2 ^ B / o.entry.hi }
         ensures high { result.hi ≡ div_ceil (self.entry.hi * 2 ^ B) o.entry.lo }
         ensures holds { (x y : Fraction) → LiesIn x self.entry → LiesIn y o.entry
             → LiesIn (x /ℚ y) result }
     {
-        let one = units_of_one(B);
-        let (lo, hi) = rounded_outward!(self.lo * one, o.hi; self.hi * one, o.lo);
+        let (lo, hi) = rounded_by_parts(self.lo, o.hi, self.hi, o.lo, units_of_one(B));
         Iv { lo, hi }
     }
 
@@ -92,11 +130,7 @@ impl<const B: u32> Iv<B> {
         ensures below { (x : Fraction) → LiesIn x self.entry → result.0 over 10 ^ digits ≤ℚ x }
         ensures above { (x : Fraction) → LiesIn x self.entry → x ≤ℚ result.1 over 10 ^ digits }
     {
-        // the whole part apart, since the whole product may pass 128 bits
         let one = units_of_one(B);
-        let factor = 10u128.pow(digits);
-        let (low, high) =
-            rounded_outward!(self.lo % one * factor, one; self.hi % one * factor, one);
-        (self.lo / one * factor + low, self.hi / one * factor + high)
+        rounded_by_parts(self.lo, one, self.hi, one, 10u128.pow(digits))
     }
 }

@@ -1,5 +1,5 @@
 -- The sums of the ends of a grid's first cells, as a loop makes them.
-use Rattle.dl_measures.proofs.Common.{ℕ, zero, suc, ◌≡◌, ◌+◌, ◌-◌, ◌*◌, ◌^◌, ◌<◌, ◌≤◌, List, length, arith, refl, mul-le-mul, Iv, low_at, high_at, spread, IsGrid, cells_fit, scale_of, one_fits, count_below, below_bound}
+use Rattle.dl_measures.proofs.Common.{ℕ, zero, suc, ◌≡◌, ◌+◌, ◌-◌, ◌*◌, ◌^◌, ◌<◌, ◌≤◌, List, length, arith, refl, Iv, low_at, high_at, spread, IsGrid, cells_fit, count_below, below_bound}
 use Rattle.std.proofs.Common.{[], ◌∷◌, get_or, take}
 use Rattle.std.proofs.lemmas.List.Sums.{sum_by-cons}
 use Rattle.dl_grid.specs.Cells.{mass_high}

@@ -1,22 +1,23 @@
 -- From the excess over the low end of a bracket to the tail mean.
-use Rattle.dl_measures.proofs.Common.{ℕ, suc, ◌≡◌, inl, inr, ◌+◌, ◌-◌, ◌*◌, ◌/◌, ◌^◌, ◌<◌, ◌≤◌, min, List, length, arith, sym, ap, ap₂, subst, subst₂, ◌∙◌, Some, None, div_ceil, mul-le-mul, mul-le-mul_right, pow_pos, cases_lt, Fraction, whole, ◌over◌, ◌+ℚ◌, ◌-ℚ◌, ◌*ℚ◌, ◌≤ℚ◌, ◌<ℚ◌, over_self, over_same, over_le, over_lt, one_pos, le_trans, lt_not_le, Iv, low_at, high_at, spread, IsGrid, scale_of, one_fits, IsBound, AtMost, AtLeast, Holds, count_below, Loss, One, Cdf, Layer, partial_sums, IsQuantile, AreDeclared, low_cdf, high_cdf, IsTight, at_most_wider, are_units, quantity_bounded, IsFirstAtLeast, IsFirstFound}
+use Rattle.dl_measures.proofs.Common.{ℕ, suc, ◌≡◌, inl, inr, ◌+◌, ◌-◌, ◌*◌, ◌/◌, ◌^◌, ◌<◌, ◌≤◌, min, List, length, arith, sym, ap, ap₂, subst, subst₂, ◌∙◌, Some, None, div_ceil, mul-le-mul, mul-le-mul_right, pow_pos, cases_lt, Fraction, whole, ◌over◌, ◌+ℚ◌, ◌-ℚ◌, ◌*ℚ◌, ◌≤ℚ◌, ◌<ℚ◌, over_self, over_same, over_le, over_lt, one_pos, lt_not_le, Iv, low_at, high_at, spread, IsGrid, IsBound, AtMost, AtLeast, Holds, count_below, Loss, One, Cdf, Layer, partial_sums, total, Encloses, IsQuantile, AreDeclared, low_cdf, high_cdf, IsTight, at_most_wider, are_units, quantity_bounded, IsFirstAtLeast, IsFirstFound}
 use Rattle.dl_exact.proofs.BelowOne.{num_below}
 use Rattle.std.proofs.Common.{div-add-mod', get_or}
 use Rattle.std.proofs.Math.Nat.{mul-le-mul_left, mul-pos, div-mul-le_self, div-le_self, mod-lt, add-sub_of_le}
 use Rattle.std.proofs.lemmas.List.Sums.{sum_by-le}
 use Rattle.dl_exact.specs.Fraction.{◌/ℚ◌}
 use Rattle.dl_exact.proofs.Over.{over_add, over_mul, over_div}
-use Rattle.dl_exact.proofs.Laws.{le_refl, le_plus, lt_of_le_of_lt, times_le_both}
-use Rattle.dl_exact.proofs.RoundingLaws.{div_ceil_least, whole_le}
+use Rattle.dl_exact.proofs.Laws.{le_of_lt, lt_of_le_of_lt}
+use Rattle.dl_exact.proofs.RoundingLaws.{div_ceil_least}
 use Rattle.dl_iv.proofs.Rounding.{ceiling_reaches}
 use Rattle.dl_grid.proofs.WidthLaws.{up_quotient}
 use Rattle.dl_grid.proofs.CellLaws.{size_of, width_within}
 use Rattle.dl_grid.proofs.Room.{masses_fit}
 use Rattle.dl_model.specs.Program.{Tail}
-use Rattle.dl_model.proofs.TailScores.{tail_excess}
-use Rattle.dl_model.proofs.TailEnds.{tail_least, tail_most}
+use Rattle.dl_model.proofs.TailEnds.{tail_most}
+use Rattle.dl_model.proofs.PriceLaws.{tail_start, tail_bracket}
 use Rattle.dl_grid.specs.Width.{tail_width}
 use Rattle.dl_measures.proofs.Sums.{low_high, low_most}
+use Rattle.dl_measures.proofs.CellEnds.{cdf_ends}
 
 -- ---- what p leaves of 1
 
@@ -91,30 +92,35 @@ module _ (S k d a : ℕ) (s : 0 < S) (pos : 0 < k) where
 
 -- ---- the ends hold the tail mean
 
--- no tail mean is below the quantile
-from_the_quantile : (us : List Loss) (p : Fraction) (a q : ℕ) → p <ℚ whole 1 → a ≤ q
-    → AtLeast (partial_sums us (Tail p q)) (partial_sums us One) (whole a)
-from_the_quantile us p a q below from N u bound =
-    le_trans _ _ _ (times_le_both _ _ _ _ (whole_le a q from) (le_refl (partial_sums us One N)))
-    (le_trans _ _ _ (subst (λ t. whole q *ℚ partial_sums us One N ≤ℚ t) (sym (tail_excess us p q N below))
-    (le_plus _ _)) (bound N))
+-- below a bracket the distribution is at most p
+pub short_of : (us : List Loss) (S K : ℕ) (lo hi : ℕ → ℕ) (p : Fraction) (a : ℕ) → AreDeclared us → 0 < S
+    → Encloses S K lo hi (total us) → IsFirstAtLeast (high_cdf S hi) p K a
+    → (x : ℕ) → x < a → AtMost (partial_sums us (Cdf x)) (partial_sums us One) p
+short_of us S K lo hi p a declared s e first x before =
+    at_most_wider (partial_sums us (Cdf x)) (partial_sums us One) (high_cdf S hi x) p
+    (cdf_ends us S K lo hi (are_units us declared) s e x (omega (arith, first.within))).1
+    (le_of_lt _ _ (first.before x before))
 
-module _ (us : List Loss) (p : Fraction) (S a b q w l h : ℕ) (s : 0 < S) (declared : AreDeclared us)
-    (below : p <ℚ whole 1) (is : IsQuantile (partial_sums us) q p) (from : a ≤ q) (to : q ≤ b)
-    (near : (x : ℕ) → a ≤ x → x < b → AtLeast (partial_sums us (Cdf x)) (partial_sums us One) (p -ℚ w over S))
-    (excess : Holds (partial_sums us (Layer None a)) (partial_sums us One) (l over S) (h over S)) where
+module _ (us : List Loss) (p : Fraction) (S a b w : ℕ) (s : 0 < S) (declared : AreDeclared us) (below : p <ℚ whole 1)
+    (near : (x : ℕ) → a ≤ x → x < b → AtLeast (partial_sums us (Cdf x)) (partial_sums us One) (p -ℚ w over S)) where
   weight : (u : Fraction) × IsBound (partial_sums us One) u
   weight = quantity_bounded us One declared tt
 
-  tail_low : (m : ℕ) → m ≡ a * S + (l - (b - a) * w) * p.den / (p.den - p.num)
-      → AtLeast (partial_sums us (Tail p q)) (partial_sums us One) (m over S)
-  tail_low m e = elim (cases_lt l ((b - a) * w)) [
+  -- whatever number stands for the quantile
+  pub tail_low : a ≤ b → ((x : ℕ) → x < a → AtMost (partial_sums us (Cdf x)) (partial_sums us One) p)
+      → AtLeast (partial_sums us (Cdf b)) (partial_sums us One) p → (l m : ℕ)
+      → AtLeast (partial_sums us (Layer None a)) (partial_sums us One) (l over S)
+      → m ≡ a * S + (l - (b - a) * w) * p.den / (p.den - p.num)
+      → (q : ℕ) → AtLeast (partial_sums us (Tail p q)) (partial_sums us One) (m over S)
+  tail_low order before reached l m excess e q = elim (cases_lt l ((b - a) * w)) [
     | inl less ↦ subst (λ t. AtLeast (partial_sums us (Tail p q)) (partial_sums us One) t)
-        (sym (over_same m S a 1 s one_pos (none less))) (from_the_quantile us p a q below from)
-    | inr enough ↦ tail_least us p (rest p below) (w over S) weight.0 a b q (are_units us declared) weight.1
-        (parts p below) (rest_pos p below) is from to near (l over S) (h over S) excess (m over S)
+        (sym (over_same m S a 1 s one_pos (none less)))
+        (tail_start us (are_units us declared) p (rest p below) weight.0 weight.1 (parts p below) (rest_pos p below)
+        a before q)
+    | inr enough ↦ tail_bracket us (are_units us declared) p (rest p below) weight.0 weight.1 (parts p below)
+        (rest_pos p below) a before b (w over S) (l over S) (m over S) order near reached excess
         (subst (λ t. m over S +ℚ whole (b - a) *ℚ (t *ℚ w over S) ≤ℚ whole a +ℚ t *ℚ l over S) (sym (inverse p below))
-        (low_below S (p.den - p.num) p.den a s (rest_above p below) (b - a) w l m enough e))
+        (low_below S (p.den - p.num) p.den a s (rest_above p below) (b - a) w l m enough e)) q
   ]
     where
       none : l < (b - a) * w → m * 1 ≡ a * S
@@ -128,19 +134,16 @@ module _ (us : List Loss) (p : Fraction) (S a b q w l h : ℕ) (s : 0 < S) (decl
           nothing_left : (x y : ℕ) → x < y → x - y ≡ 0
           nothing_left x y h = omega arith
 
-  tail_high : (n : ℕ) → n ≡ a * S + div_ceil (h * p.den) (p.den - p.num)
+  pub tail_high : (q l h n : ℕ) → IsQuantile (partial_sums us) q p → a ≤ q → q ≤ b
+      → Holds (partial_sums us (Layer None a)) (partial_sums us One) (l over S) (h over S)
+      → n ≡ a * S + div_ceil (h * p.den) (p.den - p.num)
       → AtMost (partial_sums us (Tail p q)) (partial_sums us One) (n over S)
-  tail_high n e =
+  tail_high q l h n is from to excess e =
       at_most_wider (partial_sums us (Tail p q)) (partial_sums us One) _ (n over S)
       (tail_most us p (rest p below) (w over S) weight.0 a b q (are_units us declared) weight.1 (parts p below)
       (rest_pos p below) is from to near (l over S) (h over S) excess)
       (subst (λ t. whole a +ℚ t *ℚ h over S ≤ℚ n over S) (sym (inverse p below))
       (high_above S (p.den - p.num) p.den a s (rest_above p below) h n e))
-
-  pub tail_holds : (m n : ℕ) → m ≡ a * S + (l - (b - a) * w) * p.den / (p.den - p.num)
-      → n ≡ a * S + div_ceil (h * p.den) (p.den - p.num)
-      → Holds (partial_sums us (Tail p q)) (partial_sums us One) (m over S) (n over S)
-  tail_holds m n low high = (tail_low m low, tail_high n high)
 
 -- ---- how wide and how large they are
 

@@ -4,7 +4,7 @@ ghost use Rattle.std.specs.Prelude.{◌≡◌, ◌↔◌, ℕ, ◌+◌, ◌-◌,
 ghost use Rattle.std.specs.Int.{div_ceil};
 ghost use Rattle.dl_exact.specs.Fraction.{whole, ◌over◌, ◌<ℚ◌};
 ghost use Rattle.dl_grid.specs.Cells.{low_at, spread};
-ghost use Rattle.dl_model.specs.Series.{Holds};
+ghost use Rattle.dl_model.specs.Series.{AtLeast, Holds};
 ghost use Rattle.dl_model.specs.Program.{Loss, One, Mean, Tail, partial_sums, total};
 ghost use Rattle.dl_model.specs.Family.{GridEncloses};
 ghost use Rattle.dl_model.specs.Measures.{IsQuantile, AreDeclared};
@@ -50,6 +50,12 @@ pub fn tail_mean<const B: u32>(g: &Grid<B>, p: Frac, mean: Iv<B>) -> Option<Iv<B
         → IfSome result
         (λ r. Holds (partial_sums us (Tail p q)) (partial_sums us One) (r.lo over 2 ^ B)
         (r.hi over 2 ^ B)) }
+    // no number in the place of the quantile gives less
+    ensures least { (us : List Loss) (q : ℕ) → AreDeclared us → GridEncloses g.now (total us)
+        → Holds (partial_sums us Mean) (partial_sums us One) (mean.entry.lo over 2 ^ B)
+        (mean.entry.hi over 2 ^ B)
+        → IfSome result
+        (λ r. AtLeast (partial_sums us (Tail p q)) (partial_sums us One) (r.lo over 2 ^ B)) }
     ensures width { IfSome result (λ r. r.hi - r.lo ≤ tail_width p (mean.entry.hi - mean.entry.lo)
         (length g.now) (spread g.now)) }
     ensures most { IfSome result (λ r. r.hi ≤ length g.now * 2 ^ B + mean.entry.hi * p.den) }

@@ -6,7 +6,9 @@ pub mod Horizon
 pub mod Parts
 pub mod Count
 pub mod Valid
+pub mod Common
 pub mod Facts
 pub mod Ranges
+pub mod Terms
 pub mod MeanWidth
 pub mod Plain

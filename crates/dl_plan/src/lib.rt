@@ -21,6 +21,6 @@ pub use fine::{common_denominator_of, numerator_over};
 pub use item::Item;
 pub use law::{law_horizon, law_numerals, law_valid_units};
 pub use plan::{Freq, Plan, Unit};
-pub use settings::{Ask, Asked, Form, Format, Settings};
+pub use settings::{Ask, Asked, Form, Format, Settings, Term};
 pub use severity::Sev;
 pub use totals::{greatest_amount, weighted_sum};

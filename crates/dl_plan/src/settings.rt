@@ -23,6 +23,15 @@ pub enum Format {
     Json,
 }
 
+/// A term of a price: a tail mean, and what part of the price it is.
+#[derive(Clone, Copy, Debug, PartialEq, Eq)]
+pub struct Term {
+    /// The weight; those of all terms of a price add up to 1.
+    pub weight: Frac,
+    /// The probability of the tail mean, below 1.
+    pub p: Frac,
+}
+
 /// What is asked of the total.
 #[derive(Drop)]
 pub enum Ask {

@@ -1,5 +1,6 @@
-use Rattle.dl_measures.proofs.Common.{◌≡◌, ◌+◌, ◌-◌, ◌*◌, ◌/◌, ◌^◌, ◌≤◌, length, arith, ap, ap₂, subst, ◌∙◌, div_ceil, pow_pos, ◌over◌, lt_not_le, cells_fit, low_at, spread, low_cdf, IsTight, are_units, IsFirstFound, partial_sums}
-use Rattle.dl_measures.proofs.TailLaws.{in_order, near_level, tail_holds, tail_narrow, tail_most_units, slack_fits, quotient_fits, rest_above}
+use Rattle.dl_measures.proofs.Common.{◌≡◌, ℕ, ◌+◌, ◌-◌, ◌*◌, ◌/◌, ◌^◌, ◌<◌, ◌≤◌, List, None, length, arith, ap, ap₂, subst, ◌∙◌, div_ceil, pow_pos, ◌over◌, ◌-ℚ◌, lt_not_le, cells_fit, low_at, high_at, spread, low_cdf, IsTight, are_units, IsFirstFound, AtLeast, Loss, One, Cdf, Layer, partial_sums, total, GridEncloses, AreDeclared}
+use Rattle.dl_model.specs.Program.{Tail}
+use Rattle.dl_measures.proofs.TailLaws.{in_order, near_level, short_of, tail_low, tail_high, tail_narrow, tail_most_units, slack_fits, quotient_fits, rest_above}
 use Rattle.dl_measures.proofs.tails.tail_mean.Goals as goal
 
 pub overflow_sub-hi : goal.overflow_sub-hi
@@ -50,6 +51,27 @@ returns g c =
     (c.layer_mean-excess.result.hi * c.args.p.den) (c.args.p.den - c.args.p.num) =
     c.add.ensures.high ∙ ap₂ (λ s t. s + t) (c.point-start.ensures.high
     ∙ ap₂ (λ s t. s * t) c.from-2.ensures c.units_of_one.ensures) c.over_the_rest.ensures.high in
+    let near : (us : List Loss) → AreDeclared us → GridEncloses c.args.g.now (total us) → (x : ℕ)
+    → c.quantile-bracket.result.lo ≤ x → x < c.in_ok-hi.hi
+    → AtLeast (partial_sums us (Cdf x)) (partial_sums us One)
+    (c.args.p -ℚ spread c.args.g.now over 2 ^ g.row.B) =
+    λ us d e. near_level us (length c.args.g.now) c.quantile-bracket.result.lo c.in_ok-hi.hi c.args.p _
+    (omega (arith, found.0))
+    (subst (λ t. IsTight (partial_sums us) (length c.args.g.now) c.quantile-bracket.result.lo t
+    c.args.p (spread c.args.g.now over 2 ^ g.row.B)) c.in_ok-hi.was
+    (c.quantile-bracket.ensures.tight us (are_units us d) e)) in
+    let least : (us : List Loss) → AreDeclared us → GridEncloses c.args.g.now (total us)
+    → AtLeast (partial_sums us (Layer None c.quantile-bracket.result.lo)) (partial_sums us One)
+    (c.layer_mean-excess.result.lo over 2 ^ g.row.B) → (q : ℕ)
+    → AtLeast (partial_sums us (Tail c.args.p q)) (partial_sums us One) (c.add.result.lo over 2 ^ g.row.B) =
+    λ us d e excess. tail_low us c.args.p (2 ^ g.row.B) c.quantile-bracket.result.lo c.in_ok-hi.hi
+    (spread c.args.g.now) (pow_pos g.row.B) d c.requires.below_one (near us d e)
+    (in_order c.args.g.now c.args.p c.quantile-bracket.result.lo c.in_ok-hi.hi c.cells.ensures.grid
+    c.quantile-bracket.ensures.lo found)
+    (short_of us (2 ^ g.row.B) (length c.args.g.now) (low_at c.args.g.now) (high_at c.args.g.now) c.args.p
+    c.quantile-bracket.result.lo d (pow_pos g.row.B) e c.quantile-bracket.ensures.lo)
+    ((c.quantile-bracket.ensures.holds us (are_units us d) e).reached c.in_ok-hi.hi c.in_ok-hi.was)
+    c.layer_mean-excess.result.lo c.add.result.lo excess low in
     record {
       none = (
         λ e. absurd (cc),
@@ -58,15 +80,14 @@ returns g c =
       );
       holds = λ us q d e mean is.
           let around = c.quantile-bracket.ensures.quantile us q d e is in
-          let tight = subst (λ t. IsTight (partial_sums us) (length c.args.g.now) c.quantile-bracket.result.lo t
-          c.args.p (spread c.args.g.now over 2 ^ g.row.B)) c.in_ok-hi.was
-          (c.quantile-bracket.ensures.tight us (are_units us d) e) in
-          tail_holds us c.args.p (2 ^ g.row.B) c.quantile-bracket.result.lo c.in_ok-hi.hi q
-          (spread c.args.g.now) c.layer_mean-excess.result.lo c.layer_mean-excess.result.hi (pow_pos g.row.B)
-          d c.requires.below_one is around.0 (around.1 c.in_ok-hi.hi c.in_ok-hi.was)
-          (near_level us (length c.args.g.now) c.quantile-bracket.result.lo c.in_ok-hi.hi c.args.p _
-          (omega (arith, found.0)) tight)
-          (c.layer_mean-excess.ensures.holds us d e (λ _. mean)) c.add.result.lo c.add.result.hi low high;
+          let excess = c.layer_mean-excess.ensures.holds us d e (λ _. mean) in (
+            least us d e excess.0 q,
+            tail_high us c.args.p (2 ^ g.row.B) c.quantile-bracket.result.lo c.in_ok-hi.hi (spread c.args.g.now)
+                (pow_pos g.row.B) d c.requires.below_one (near us d e) q c.layer_mean-excess.result.lo
+                c.layer_mean-excess.result.hi c.add.result.hi is around.0 (around.1 c.in_ok-hi.hi c.in_ok-hi.was)
+                excess high,
+          );
+      least = λ us q d e mean. least us d e (c.layer_mean-excess.ensures.holds us d e (λ _. mean)).0 q;
       width = tail_narrow c.args.p (2 ^ g.row.B) c.quantile-bracket.result.lo c.in_ok-hi.hi (length c.args.g.now)
           (spread c.args.g.now) (c.args.mean.hi - c.args.mean.lo)
           c.layer_mean-excess.result.lo c.layer_mean-excess.result.hi c.add.result.lo c.add.result.hi

@@ -1,26 +1,23 @@
-use Rattle.dl_iv.proofs.Common.{arith, refl, mul-le-mul_right, pow_pos}
+use Rattle.dl_iv.proofs.Common.{arith, mul-le-mul_right, pow_pos}
 use Rattle.dl_iv.proofs.Rounding.{floor_le_ceiling}
 use Rattle.dl_iv.proofs.Operations.{div_low, div_high, above_zero}
 use Rattle.dl_iv.proofs.interval.Iv.div.Goals as goal
 
 pub invariant_of-result-clause-ordered : goal.invariant_of-result-clause-ordered
 invariant_of-result-clause-ordered g c =
-    rw c.div_ceil-hi.ensures (floor_le_ceiling _ _ _ _ c.requires.positive c.args.o.ordered
-    (mul-le-mul_right _ c.args.self.ordered))
+    rw (c.rounded_by_parts-lo.ensures.low, c.rounded_by_parts-lo.ensures.high)
+    (floor_le_ceiling _ _ _ _ c.requires.positive c.args.o.ordered (mul-le-mul_right _ c.args.self.ordered))
 
 pub invariant_of-result-clause-in_range : goal.invariant_of-result-clause-in_range
-invariant_of-result-clause-in_range g c = rw (c.div_ceil-hi.ensures, c.units_of_one-one.ensures) c.requires.fits
+invariant_of-result-clause-in_range g c =
+    rw (c.rounded_by_parts-lo.ensures.high, c.units_of_one.ensures) c.requires.fits
 
-pub returns : goal.returns
-returns g c =
+pub returns-clause-holds : goal.returns-clause-holds
+returns-clause-holds g c x y p q =
     let pos = pow_pos g.row.B in
     record {
-      low = rw c.units_of_one-one.ensures refl;
-      high = rw (c.div_ceil-hi.ensures, c.units_of_one-one.ensures) refl;
-      holds = λ x y p q. record {
-        low = rw c.units_of_one-one.ensures (div_low _ pos _ _ x y (omega arith)
-            (above_zero _ pos _ y c.requires.positive q.low) p.low q.high);
-        high = rw (c.div_ceil-hi.ensures, c.units_of_one-one.ensures)
-            (div_high _ pos _ _ x y c.requires.positive p.high q.low);
-      };
+      low = rw (c.rounded_by_parts-lo.ensures.low, c.units_of_one.ensures)
+          (div_low _ pos _ _ x y (omega arith) (above_zero _ pos _ y c.requires.positive q.low) p.low q.high);
+      high = rw (c.rounded_by_parts-lo.ensures.high, c.units_of_one.ensures)
+          (div_high _ pos _ _ x y c.requires.positive p.high q.low);
     }

@@ -1,0 +1,83 @@
+-- Units that share one gamma factor of mean 1, which scales all of their expected counts.
+use Rattle.std.specs.Prelude.{ℕ, suc, ◌≡◌, ◌≤◌, ⊤, Some, None, List, length, map, take, flat_map, All}
+use Rattle.dl_limits.specs.Limits.{most_expected, most_shape}
+use Rattle.dl_exact.specs.Fraction.{Fraction, whole, ◌over◌, ◌*ℚ◌, ◌/ℚ◌, ◌≤ℚ◌, ◌<ℚ◌}
+use Rattle.dl_exact.specs.Sum.{sum_over}
+use Rattle.dl_plan.specs.declared.plan.Freq.{Freq}
+use Rattle.dl_plan.specs.declared.plan.Freq.TheVariants.{Fixed, Table, Bernoulli, Binomial, Poisson, Gamma}
+use Rattle.dl_plan.specs.declared.plan.Unit.{Unit as UnitOfPlan}
+use Rattle.dl_plan.specs.declared.plan.Plan.{Plan}
+use Rattle.dl_plan.specs.Fine.{IsFineTo30Bits, HasPartsOf48Bits}
+use Rattle.dl_plan.specs.Count.{expected_count}
+use Rattle.dl_plan.specs.Valid.{thinned_mean, IsValid}
+
+-- a Poisson count
+abbrev pub IsPoisson : Freq → Type 0
+IsPoisson (Fixed m) = ⊥
+IsPoisson (Table counts total) = ⊥
+IsPoisson (Bernoulli q) = ⊥
+IsPoisson (Binomial trials q) = ⊥
+IsPoisson (Poisson mean) = ⊤
+IsPoisson (Gamma shape mean) = ⊥
+
+-- a unit that can share a factor: its count is Poisson, and neither an aggregate clause nor a
+-- changed probability of no claim stands behind it
+pub record CanShare (u : UnitOfPlan) : Type 0 where
+  pub count : IsPoisson u.freq
+  pub clause : u.cede ≡ None
+  pub zero : u.zero ≡ None
+
+-- the expected number of claims of all units, and that of their claims above 0
+abbrev pub expected_of : List UnitOfPlan → Fraction
+expected_of units = sum_over units (λ u. expected_count u.freq)
+
+abbrev pub thinned_of : List UnitOfPlan → Fraction
+thinned_of units = sum_over units thinned_mean
+
+-- x * (r + 1) / r: the part of a gamma count of shape r that x is, for the shape r + 1
+abbrev pub raised : ℕ → Fraction → Fraction
+raised r x = x *ℚ whole (suc r) /ℚ whole r
+
+-- the probability that a claim of whatever unit is one of u, where v are the expected claims of all
+abbrev pub unit_share : Fraction → UnitOfPlan → Fraction
+unit_share v u = expected_count u.freq /ℚ v
+
+-- the probability of each amount of u, times that
+abbrev pub shared_probabilities : Fraction → UnitOfPlan → List Fraction
+shared_probabilities v u =
+    map (λ item. unit_share v u *ℚ item.weight over u.sev.total) u.sev.items
+
+-- What units under a factor of shape r keep: the shape is from 1 to 9,999; each unit can share it;
+-- the claims of all have a mean above 0; the expected counts and the thinned means of the first k
+-- units add up to admitted sums; the sums of all are admitted for the shape r + 1 too, and then the
+-- thinned one is at most 4,096; and the shares of the units, and these times the probabilities of
+-- amounts, are fine to 30 bits.
+pub record HasCommonFactor (r : ℕ) (units : List UnitOfPlan) : Type 0 where
+  pub some_shape : 1 ≤ r
+  pub few_shape : suc r ≤ most_shape
+  pub can_share : All CanShare units
+  pub some : whole 0 <ℚ expected_of units
+  pub expected : (k : ℕ) → 1 ≤ k → k ≤ length units
+      → HasPartsOf48Bits (expected_of (take k units))
+  pub thinned : (k : ℕ) → 1 ≤ k → k ≤ length units
+      → HasPartsOf48Bits (thinned_of (take k units))
+  pub raised_expected : HasPartsOf48Bits (raised r (expected_of units))
+  pub raised_thinned : HasPartsOf48Bits (raised r (thinned_of units))
+  pub few : raised r (thinned_of units) ≤ℚ whole most_expected
+  pub shares : IsFineTo30Bits (map (unit_share (expected_of units)) units)
+  pub products : IsFineTo30Bits (flat_map (shared_probabilities (expected_of units)) units)
+
+-- the same units without a common factor
+abbrev pub independent : Plan → Plan
+independent plan = record {
+  bs = plan.bs;
+  cells = plan.cells;
+  units = plan.units;
+  common = None;
+}
+
+-- a plan whose units share a factor of shape r, and would be valid without one
+pub record SharesFactor (plan : Plan) (r : ℕ) : Type 0 where
+  pub shape : plan.common ≡ Some r
+  pub valid : IsValid (independent plan)
+  pub factor : HasCommonFactor r plan.units
