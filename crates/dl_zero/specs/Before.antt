@@ -19,9 +19,9 @@ HoldsMean {B} l mean =
     Holds (partial_sums (l ∷ []) Mean) (partial_sums (l ∷ []) One) (mean.lo over 2 ^ B)
     (mean.hi over 2 ^ B)
 
--- a unit that can be declared, whose outcomes the grid encloses, after its aggregate clause, and
--- whose probability of no claim lies in `none`
-pub record IsBefore {B : ℕ} (u : Aggregate) (grid : List (Iv B)) (none : Iv B) : Type 0 where
+-- a unit that can be declared, with cells that enclose its outcomes after its aggregate clause, and
+-- an interval that holds its probability of no claim
+pub record IsBefore {B : ℕ} (u : Aggregate) (cells : List (Iv B)) (chance : Iv B) : Type 0 where
   pub declared : IsDeclared u
-  pub grid : GridEncloses grid (mapped u)
-  pub none : HoldsNone u none
+  pub grid : GridEncloses cells (mapped u)
+  pub none : HoldsNone u chance

@@ -1,6 +1,7 @@
 //! The grid of a unit with a changed probability of no claim.
 
-ghost use Rattle.std.specs.Prelude.{◌≡◌, ℕ, ◌+◌, ◌-◌, ◌*◌, ◌^◌, ◌<◌, ◌≤◌, min, length, IfOk};
+ghost use Rattle.std.specs.Prelude.{◌≡◌, ℕ, ◌+◌, ◌-◌, ◌*◌, ◌/◌, ◌^◌, ◌<◌, ◌≤◌, min, length, IfOk};
+ghost use Rattle.std.specs.Int.{div_ceil};
 ghost use Rattle.dl_exact.specs.Fraction.{whole, ◌<ℚ◌};
 ghost use Rattle.dl_grid.specs.Cells.{all_at_zero, spread};
 ghost use Rattle.dl_model.specs.Family.{GridEncloses};

@@ -1,7 +1,7 @@
 //! The laws by which the ends of a probability of no claim and of a mean are small enough.
 
-ghost use Rattle.std.specs.Prelude.{ℕ, ◌-◌, ◌*◌, ◌^◌, ◌≤◌};
-ghost use Rattle.dl_exact.specs.Fraction.{whole, ◌over◌, ◌<ℚ◌};
+ghost use Rattle.std.specs.Prelude.{ℕ, [], ◌∷◌, ◌-◌, ◌*◌, ◌^◌, ◌<◌, ◌≤◌};
+ghost use Rattle.dl_exact.specs.Fraction.{Fraction, whole, ◌over◌, ◌≤ℚ◌};
 ghost use Rattle.dl_exact.specs.Sum.{sum_to};
 ghost use Rattle.dl_model.specs.Series.{AtMost};
 ghost use Rattle.dl_model.specs.Program.{Loss, One, Mean, partial_sums};
