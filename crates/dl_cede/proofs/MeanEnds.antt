@@ -3,6 +3,8 @@ use Rattle.dl_cede.proofs.Common.{ℕ, ◌≡◌, ◌+◌, ◌-◌, ◌*◌, ◌
 use Rattle.std.proofs.Common.{◌++◌, add-one}
 use Rattle.std.proofs.Math.Nat.{le_refl as le_refl_n}
 use Rattle.std.proofs.Math.Seq.{take-suc}
+use Rattle.dl_exact.specs.Fraction.{◌≤ℚ◌}
+use Rattle.dl_exact.proofs.Laws.{le_refl, times_le_both, whole_times}
 use Rattle.dl_exact.specs.Rounding.{IsFloor, IsCeiling}
 use Rattle.dl_exact.proofs.RoundingLaws.{floor_div, ceiling_div}
 use Rattle.dl_iv.specs.Enclosure.{LiesIn}
@@ -38,6 +40,13 @@ nearest_ends {B} u mean num den pos value low high =
       ceiling = rw high (subst (λ x. IsCeiling x (div_ceil (2 ^ B * num) den)) units
           (ceiling_div (2 ^ B * num) den pos));
     }
+
+-- its high end is at most a whole number that the mean is at most
+pub ceiling_within : {B : ℕ} (u : UnitOfPlan) (mean : Iv B) (n : ℕ) → AreNearestEnds u mean
+    → declared_mean u ≤ℚ whole n → mean.hi ≤ n * 2 ^ B
+ceiling_within {B} u mean n ends within =
+    ends.ceiling.least (n * 2 ^ B) (subst (λ t. whole (2 ^ B) *ℚ declared_mean u ≤ℚ t)
+    (times_comm _ _ ∙ sym (whole_times n (2 ^ B))) (times_le_both _ _ _ _ (le_refl (whole (2 ^ B))) within))
 
 -- ---- one layer
 

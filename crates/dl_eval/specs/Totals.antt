@@ -2,7 +2,7 @@
 -- one.
 use Rattle.std.specs.Prelude.{ℕ, ◌≡◌, ◌+◌, ◌*◌, ◌/◌, ◌<◌, ◌≤◌, ◌^◌, ◌↔◌, Bool, false, IsTrue, Option, None, Some, IsSome, IfSome, option_map, Any, List, [], ◌∷◌, length, get_or}
 use Rattle.std.specs.Int.{div_ceil}
-use Rattle.dl_exact.specs.Fraction.{◌over◌}
+use Rattle.dl_exact.specs.Fraction.{Fraction, ◌over◌}
 use Rattle.dl_iv.specs.declared.interval.Iv.{Iv}
 use Rattle.dl_grid.specs.Cells.{spread}
 use Rattle.dl_model.specs.Series.{Holds}
@@ -35,6 +35,12 @@ most_unit_mean = 2 ^ 93
 
 abbrev pub most_mean : ℕ
 most_mean = 2 ^ 97
+
+-- the high end of the mean of a unit before its probability of no claim is changed, where it is:
+-- at most 4,096 claims are expected then
+abbrev pub most_clause_mean : Option Fraction → ℕ
+most_clause_mean None = most_unit_mean
+most_clause_mean (Some p) = 2 ^ 88 + 2 ^ 82
 
 -- ---- units
 

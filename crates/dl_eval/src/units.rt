@@ -10,7 +10,7 @@ ghost use Rattle.dl_plan.specs.declared.plan.Unit.{Unit as UnitOfPlan};
 ghost use Rattle.dl_plan.specs.Horizon.{IsHorizonOf};
 ghost use Rattle.dl_plan.specs.Valid.{IsValidUnit, IsValid};
 ghost use Rattle.dl_budget.specs.Claims.{claims_budget};
-ghost use Rattle.dl_eval.specs.Totals.{most_unit_mean, IsClauseGrid, IsClauseMean, IsUnitGrid, IsUnitMean, AreUnitGrids, AreUnitMeans};
+ghost use Rattle.dl_eval.specs.Totals.{most_clause_mean, most_unit_mean, IsClauseGrid, IsClauseMean, IsUnitGrid, IsUnitMean, AreUnitGrids, AreUnitMeans};
 
 use crate::same::first_alike;
 use dl_cede::{cede_grid, cede_mean, claims_mean};
@@ -102,17 +102,19 @@ fn after_zero<const B: u32>(
     requires few { cells ≤ most_plan_cells }
     requires grid { IsClauseGrid cells unit.now grid }
     requires mean { IsClauseMean cells unit.now mean }
-    requires small { mean.hi ≤ most_clause_mean unit.now (2 ^ B) }
+    requires small { mean.hi ≤ most_clause_mean unit.now.zero }
     ensures grid { IfOk result (λ made. IsUnitGrid cells unit.now made.0) }
     ensures mean { IfOk result (λ made. IsUnitMean cells unit.now made.1) }
     ensures small { IfOk result (λ made. made.1.hi ≤ most_unit_mean) }
 {
-    let Some(p) = unit.zero else {
-        return Ok((grid, mean));
-    };
-    let none = none_of(alloc, work, &unit.freq)?;
-    let changed = zero_grid(alloc, &grid, none, p)?;
-    Ok((changed, zero_mean(mean, none, p)))
+    match unit.zero {
+        Some(p) => {
+            let none = none_of(alloc, work, &unit.freq)?;
+            let changed = zero_grid(alloc, &grid, none, p)?;
+            Ok((changed, zero_mean(mean, none, p)))
+        }
+        None => Ok((grid, mean)),
+    }
 }
 
 /// The grid of a unit's outcomes, and their mean.
@@ -216,7 +218,7 @@ fn clause_mean<const B: u32>(
     requires some { 1 ≤ cells }
     requires few { cells ≤ most_plan_cells }
     ensures mean { IfOk result (λ mean. IsClauseMean cells unit.now mean) }
-    ensures small { IfOk result (λ mean. mean.hi ≤ most_clause_mean unit.now (2 ^ B)) }
+    ensures small { IfOk result (λ mean. mean.hi ≤ most_clause_mean unit.now.zero) }
 {
     match unit.cede {
         Some(_) => {
@@ -243,11 +245,13 @@ fn mean_of<const B: u32>(
     ensures small { IfOk result (λ mean. mean.hi ≤ most_unit_mean) }
 {
     let mean = clause_mean(alloc, work, unit, cells)?;
-    let Some(p) = unit.zero else {
-        return Ok(mean);
-    };
-    let none = none_of(alloc, work, &unit.freq)?;
-    Ok(zero_mean(mean, none, p))
+    match unit.zero {
+        Some(p) => {
+            let none = none_of(alloc, work, &unit.freq)?;
+            Ok(zero_mean(mean, none, p))
+        }
+        None => Ok(mean),
+    }
 }
 
 /// The means of the outcomes of a valid plan's units, where no more is asked for.
