@@ -176,3 +176,12 @@ small_before {B} cells u mean same valid small few = by_zero u.zero valid.zero
     by_zero None h = mean_fits B cells mean.hi same small
     by_zero (Some p) h = changed_fits B cells mean.hi same
         (few (most_expected * most_amount_at cells) (mean_most most_expected (most_amount_at cells) u h.most valid.amounts))
+
+-- where the probability of no claim is changed, and in any unit
+pub changed_small : (u : UnitOfPlan) (p : Fraction) (hi : ℕ) → u.zero ≡ Some p → hi ≤ most_clause_mean u.zero
+    → hi ≤ 2 ^ 88 + 2 ^ 82
+changed_small u p hi is small = subst (λ z. hi ≤ most_clause_mean z) is small
+
+pub most_small : (z : Option Fraction) (hi : ℕ) → hi ≤ most_clause_mean z → hi ≤ 2 ^ 93
+most_small None hi small = small
+most_small (Some p) hi small = omega (arith, small)
