@@ -1,0 +1,221 @@
+-- Quotients by the probability of a claim, and parts of them, rounded outward: how large they are, and how far apart.
+-- S units make 1; R units are the low end of the probability of a claim, and Z units its width.
+use Rattle.std.proofs.Common.{ℕ, zero, suc, ◌≡◌, ◌+◌, ◌-◌, ◌*◌, ◌/◌, ◌<◌, ◌^◌, ◌≤◌, min, inl, inr, arith, refl, ap, subst}
+use Rattle.std.proofs.lemmas.Bool.{cases_lt}
+use Rattle.std.specs.Int.{div_ceil}
+use Rattle.std.proofs.Math.Nat.{mul-le-mul, mul-le-mul_left, mul-le-mul_right, le_of_mul-le-mul_right, lt-div-mul-add, mul-pos, div-mul-le_self, div-le_of_le-mul}
+use Rattle.std.proofs.lemmas.Grind.{div_ceil_times}
+use Rattle.dl_exact.proofs.RoundingLaws.{div_ceil_least}
+unfoldable use Rattle.dl_exact.specs.Count.{count_below}
+unfoldable use Rattle.dl_grid.specs.Cells.{all_at_zero}
+
+-- ---- sizes
+
+-- a quotient is at most 18 times as large
+pub quotient_small : (x S R : ℕ) → 0 < R → S ≤ 18 * R → div_ceil (x * S) R ≤ 18 * x
+quotient_small x S R pos share = div_ceil_least (x * S) R (18 * x) pos (omega (arith, mul-le-mul_left x share))
+
+-- so it fits a word, and what long division makes on the way
+pub quotient_fits : (x S R : ℕ) → 0 < R → S ≤ 18 * R → x ≤ 2 ^ 90 → div_ceil (x * S) R ≤ 2 ^ 127
+quotient_fits x S R pos share small = omega (arith, quotient_small x S R pos share)
+
+pub rest_fits : (x y S : ℕ) → y ≤ S → S ≤ 2 ^ 56 → min x y * S < 2 ^ 128
+rest_fits x y S le small = omega (arith, mul-le-mul (least x y S le small) small)
+  where
+    least : (x y S : ℕ) → y ≤ S → S ≤ 2 ^ 56 → min x y ≤ 2 ^ 56
+    least x y S le small = omega arith
+
+-- a factor below 2^37
+pub product_fits : (x a : ℕ) → x ≤ 2 ^ 90 → a < 2 ^ 37 → x * a < 2 ^ 128
+product_fits x a small few =
+    let less : a ≤ 2 ^ 37 - 1 = omega (arith, few) in
+    omega (arith, mul-le-mul small less)
+
+-- ---- what stands at 0 alone
+
+pub nothing_past : (e y : ℕ) → 0 < y → 0 ≡ all_at_zero e y
+unfolding all_at_zero
+nothing_past e zero h = absurd (omega (arith, h))
+nothing_past e (suc y) h = refl
+
+pub all_at : (e y : ℕ) → y ≡ 0 → e ≡ all_at_zero e y
+unfolding all_at_zero
+all_at e zero h = refl
+all_at e (suc y) h = absurd (omega (arith, h))
+
+pub at_zero_most : (e y : ℕ) → all_at_zero e y ≤ e
+unfolding all_at_zero
+at_zero_most e zero = omega arith
+at_zero_most e (suc y) = omega arith
+
+-- ---- distances
+
+-- a part a / d of q and one of r, which is no greater
+pub part_apart : (q r a d : ℕ) → 0 < d → a ≤ d → r ≤ q → div_ceil (q * a) d ≤ r * a / d + (q - r) + 2
+part_apart q r a d pos less order = div_ceil_least (q * a) d (r * a / d + (q - r) + 2) pos
+    (omega (arith, ap (λ t. t * a) (split q r order), mul-le-mul_left (q - r) less, lt-div-mul-add {a = r * a} pos))
+  where
+    split : (q r : ℕ) → r ≤ q → q ≡ r + (q - r)
+    split q r h = omega arith
+
+-- the quotients of x + w by R and of x by R + Z
+pub quotient_apart : (S R Z x w q r : ℕ) → q * R ≤ (x + w) * S + R → x * S ≤ r * (R + Z) + (R + Z)
+    → q * (R * (R + Z)) ≤ r * (R * (R + Z)) + S * ((R + Z) * w + Z * x) + 2 * (R * (R + Z))
+quotient_apart S R Z x w q r high low = omega (arith, mul-le-mul_right (R + Z) high, mul-le-mul_right R low)
+
+-- so do the parts of these, times R * (R + Z)
+pub parts_apart : (S R Z x w a d : ℕ) → 0 < R → 0 < d → a ≤ d
+    → div_ceil (div_ceil ((x + w) * S) R * a) d * (R * (R + Z))
+    ≤ (x * S / (R + Z) * a / d) * (R * (R + Z)) + S * ((R + Z) * w + Z * x) + 4 * (R * (R + Z))
+parts_apart S R Z x w a d pos den less =
+    let q = div_ceil ((x + w) * S) R in
+    let r = x * S / (R + Z) in
+    let ceiling : q * R < (x + w) * S + R = (div_ceil_times ((x + w) * S) R pos).1 in
+    let reach : (x + w) * S ≤ q * R = (div_ceil_times ((x + w) * S) R pos).0 in
+    let floor : x * S < r * (R + Z) + (R + Z) = lt-div-mul-add {a = x * S} (omega arith) in
+    let order : r ≤ q = floor_order S R Z x w q r pos reach (div_le (x * S) (R + Z)) in
+    let far = quotient_apart S R Z x w q r (omega (arith, ceiling)) (omega (arith, floor)) in
+    let near = part_apart q r a d den less order in
+    omega (
+      arith,
+      mul-le-mul_right (R * (R + Z)) near,
+      ap (λ t. t * (R * (R + Z))) (split q r order),
+      far,
+    )
+  where
+    split : (q r : ℕ) → r ≤ q → q ≡ r + (q - r)
+    split q r h = omega arith
+
+    div_le : (n d : ℕ) → n / d * d ≤ n
+    div_le n d = div-mul-le_self n d
+
+    floor_order : (S R Z x w q r : ℕ) → 0 < R → (x + w) * S ≤ q * R → r * (R + Z) ≤ x * S → r ≤ q
+    floor_order S R Z x w q r pos up down =
+        le_of_mul-le-mul_right {k = R} (omega (arith, up, down)) pos
+
+-- the ends of a cell, with what stands at 0, and lowered to 1
+pub cell_apart : (S R Z x w a d low high more : ℕ) → 0 < R → 0 < d → a ≤ d → high ≤ low + more
+    → (min (div_ceil (div_ceil ((x + w) * S) R * a) d + high) S - min (x * S / (R + Z) * a / d + low) S)
+    * (R * (R + Z)) ≤ S * ((R + Z) * w + Z * x) + (4 + more) * (R * (R + Z))
+cell_apart S R Z x w a d low high more pos den less at =
+    lowered (div_ceil (div_ceil ((x + w) * S) R * a) d) (x * S / (R + Z) * a / d) (R * (R + Z))
+    (S * ((R + Z) * w + Z * x)) (parts_apart S R Z x w a d pos den less)
+  where
+    within : (lo P X v : ℕ) → (lo + v) * P ≤ lo * P + X + 4 * P → v * P ≤ X + 4 * P
+    within lo P X v h = omega (arith, h)
+
+    contracts : (h l v : ℕ) → h ≤ l + v → min (h + high) S - min (l + low) S ≤ v + more
+    contracts h l v p = omega arith
+
+    lowered : (hi lo P X : ℕ) → hi * P ≤ lo * P + X + 4 * P
+        → (min (hi + high) S - min (lo + low) S) * P ≤ X + (4 + more) * P
+    lowered hi lo P X far = elim (cases_lt hi lo) [
+      | inl l ↦ omega (arith, mul-le-mul_right P (contracts hi lo 0 (omega arith)))
+      | inr l ↦
+          let e : hi ≡ lo + (hi - lo) = omega arith in
+          omega (
+            arith,
+            mul-le-mul_right P (contracts hi lo (hi - lo) (omega arith)),
+            within lo P X (hi - lo) (subst (λ t. t * P ≤ lo * P + X + 4 * P) e far),
+          )
+    ]
+
+-- ---- sums over the cells
+
+-- where each width is bounded so, their sum is
+pub widths_sum : (n S P T Z : ℕ) (w d x e : ℕ → ℕ)
+    → ((k : ℕ) → k < n → w k * P ≤ S * (T * d k + Z * x k) + (4 + e k) * P)
+    → count_below n w * P ≤ S * (T * count_below n d + Z * count_below n x) + (4 * n + count_below n e) * P
+unfolding count_below
+widths_sum zero S P T Z w d x e h = omega arith
+widths_sum (suc n) S P T Z w d x e h =
+    omega (arith, widths_sum n S P T Z w d x e (λ k b. h k (omega arith)), h n (omega arith))
+
+-- the sum of all widths, from that before and from what the low ends leave
+pub spread_within : (S R Z D n w d x e : ℕ) → 0 < R → S ≤ 18 * R
+    → w * (R * (R + Z)) ≤ S * ((R + Z) * d + Z * x) + (4 * n + e) * (R * (R + Z))
+    → d ≤ D + Z → x ≤ R + Z → e ≤ 2 → w ≤ 18 * (D + 2 * Z) + 4 * n + 2
+spread_within S R Z D n w d x e pos share sum wide mass few =
+    le_of_mul-le-mul_right {k = R * (R + Z)}
+    (omega (
+      arith,
+      sum,
+      mul-le-mul_left (S * (R + Z)) wide,
+      mul-le-mul_left (S * Z) mass,
+      mul-le-mul_right ((R + Z) * (D + 2 * Z)) share,
+      mul-le-mul_right (R * (R + Z)) few,
+    ))
+    (mul-pos pos (omega arith))
+
+-- low ends that fit into what no claim leaves, T of S units, fit into S units after the change
+quotients_sum : (n S T : ℕ) (x : ℕ → ℕ) → count_below n (λ y. x y * S / T) * T ≤ count_below n x * S
+unfolding count_below
+quotients_sum zero S T x = omega arith
+quotients_sum (suc n) S T x = omega (arith, quotients_sum n S T x, div-mul-le_self (x n * S) T)
+
+parts_sum : (n a d e : ℕ) (r : ℕ → ℕ)
+    → count_below n (λ y. r y * a / d + all_at_zero (e / d) y) * d ≤ count_below n r * a + e
+unfolding count_below all_at_zero
+parts_sum zero a d e r = omega arith
+parts_sum (suc zero) a d e r = omega (arith, div-mul-le_self (r 0 * a) d, div-mul-le_self e d)
+parts_sum (suc (suc n)) a d e r = omega (arith, parts_sum (suc n) a d e r, div-mul-le_self (r (suc n) * a) d)
+
+pub lows_fit : (n S T num den : ℕ) (x : ℕ → ℕ) → 0 < T → 0 < den → num < den → count_below n x ≤ T
+    → count_below n (λ y. x y * S / T * (den - num) / den + all_at_zero (S * num / den) y) ≤ S
+lows_fit n S T num den x pos some less fits =
+    let r : ℕ → ℕ = λ y. x y * S / T in
+    let quotients : count_below n r ≤ S = le_of_mul-le-mul_right {k = T}
+    (omega (arith, quotients_sum n S T x, mul-le-mul_right S fits)) pos in
+    let whole : S * ((den - num) + num) ≡ S * den = ap (λ t. S * t) (rest den num less) in
+    le_of_mul-le-mul_right {k = den}
+    (omega (arith, parts_sum n (den - num) den (S * num) r, mul-le-mul_right (den - num) quotients, whole)) some
+  where
+    rest : (d n : ℕ) → n < d → (d - n) + n ≡ d
+    rest d n h = omega arith
+
+-- ---- the mean
+
+-- the part first, of a mean of at most m, and the quotient after
+pub mean_within : (S R Z lo hi a d m : ℕ) → 0 < R → 0 < d → a ≤ d → S ≤ 18 * R → S ≤ 17 * (R + Z) → lo ≤ hi
+    → lo ≤ m * S
+    → div_ceil (div_ceil (hi * a) d * S) R - (lo * a / d) * S / (R + Z) ≤ 18 * (hi - lo + 2) + 306 * m * Z + 2
+mean_within S R Z lo hi a d m pos den less share share' order inside =
+    let xh = div_ceil (hi * a) d in
+    let xl = lo * a / d in
+    let q = div_ceil (xh * S) R in
+    let r = xl * S / (R + Z) in
+    let low : xl ≤ lo = part_below lo a d den less in
+    let near : xh ≤ xl + (hi - lo) + 2 = part_apart hi lo a d den less order in
+    let up : q ≤ div_ceil ((xl + (hi - lo + 2)) * S) R =
+    ceiling_grows (xh * S) ((xl + (hi - lo + 2)) * S) R pos (mul-le-mul_right S (omega (arith, near))) in
+    let ceiling : div_ceil ((xl + (hi - lo + 2)) * S) R * R < (xl + (hi - lo + 2)) * S + R =
+    (div_ceil_times ((xl + (hi - lo + 2)) * S) R pos).1 in
+    let floor : xl * S < r * (R + Z) + (R + Z) = lt-div-mul-add {a = xl * S} (omega arith) in
+    let far = quotient_apart S R Z xl (hi - lo + 2) (div_ceil ((xl + (hi - lo + 2)) * S) R) r
+    (omega (arith, ceiling)) (omega (arith, floor)) in
+    omega (
+      arith,
+      up,
+      joined S R Z xl (hi - lo + 2) m (div_ceil ((xl + (hi - lo + 2)) * S) R) r pos share share'
+          (omega (arith, low, inside)) far,
+    )
+  where
+    part_below : (n a d : ℕ) → 0 < d → a ≤ d → n * a / d ≤ n
+    part_below n a d pos less = div-le_of_le-mul d (omega (arith, mul-le-mul_left n less))
+
+    ceiling_grows : (n k d : ℕ) → 0 < d → n ≤ k → div_ceil n d ≤ div_ceil k d
+    ceiling_grows n k d pos h = div_ceil_least n d (div_ceil k d) pos (omega (arith, h, (div_ceil_times k d pos).0))
+
+    joined : (S R Z x w m q r : ℕ) → 0 < R → S ≤ 18 * R → S ≤ 17 * (R + Z) → x ≤ m * S
+        → q * (R * (R + Z)) ≤ r * (R * (R + Z)) + S * ((R + Z) * w + Z * x) + 2 * (R * (R + Z))
+        → q ≤ r + 18 * w + 306 * m * Z + 2
+    joined S R Z x w m q r pos share share' inside far =
+        le_of_mul-le-mul_right {k = R * (R + Z)}
+        (omega (
+          arith,
+          far,
+          mul-le-mul_right ((R + Z) * w) share,
+          mul-le-mul_left (S * Z) inside,
+          mul-le-mul_right (Z * m) (mul-le-mul share share'),
+        ))
+        (mul-pos pos (omega arith))
