@@ -148,7 +148,7 @@ module _ (us : List Loss) (p : Fraction) (S a b w : ℕ) (s : 0 < S) (declared :
 -- ---- how wide and how large they are
 
 -- a quotient rounded up and one rounded down
-quotients_apart : (k d x y D : ℕ) → 0 < k → y ≤ x + D → div_ceil (y * d) k ≤ x * d / k + 1 + div_ceil (D * d) k
+pub quotients_apart : (k d x y D : ℕ) → 0 < k → y ≤ x + D → div_ceil (y * d) k ≤ x * d / k + 1 + div_ceil (D * d) k
 quotients_apart k d x y D pos h = div_ceil_least (y * d) k _ pos
     (omega (arith, mul-le-mul_right d h, ceiling_reaches (D * d) k pos, below_next (x * d) k pos))
   where

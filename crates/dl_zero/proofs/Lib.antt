@@ -2,3 +2,5 @@ pub mod Rounded
 pub mod Values
 pub mod Losses
 pub mod Cells
+pub mod Means
+pub mod SomeClaims

@@ -1,12 +1,12 @@
 -- A unit with a changed probability of no claim as a loss, and its mean as a total of one unit.
-use Rattle.std.proofs.Common.{ℕ, suc, zero, ◌≡◌, ◌*◌, ◌<◌, arith, sym, ap, ap₂, ◌∙◌, List, [], ◌∷◌}
+use Rattle.std.proofs.Common.{ℕ, ◌≡◌, ◌*◌, ◌<◌, arith, ap₂, ◌∙◌, [], ◌∷◌}
 use Rattle.dl_exact.specs.Fraction.{Fraction, whole, ◌+ℚ◌, ◌-ℚ◌, ◌*ℚ◌, ◌≤ℚ◌}
 use Rattle.dl_exact.specs.Sum.{sum_to}
-use Rattle.dl_exact.proofs.Laws.{plus_zero, times_zero, le_refl, le_trans, plus_le_both, times_le_both}
-use Rattle.dl_model.specs.Series.{Series, Holds, SameValue}
+use Rattle.dl_exact.proofs.Laws.{plus_zero, times_zero}
+use Rattle.dl_model.specs.Series.{Holds, SameValue}
 use Rattle.dl_model.specs.Program.{Loss, IsLoss, One, Mean, partial_sums}
 use Rattle.dl_model.specs.Measures.{mean_to_reach}
-use Rattle.dl_model.specs.Units.{Aggregate, IsDeclarable, outcome, loss}
+use Rattle.dl_model.specs.Units.{Aggregate, IsDeclarable, outcome}
 use Rattle.dl_model.specs.ChangedZero.{without_none, with_claims, changed}
 use Rattle.dl_model.proofs.Picks.{off}
 use Rattle.dl_model.proofs.Alike.{level_same, same_value}

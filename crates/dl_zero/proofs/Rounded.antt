@@ -1,18 +1,52 @@
 -- Quotients by the probability of a claim, and parts of them, rounded outward: how large they are, and how far apart.
 -- S units make 1; R units are the low end of the probability of a claim, and Z units its width.
-use Rattle.std.proofs.Common.{ℕ, zero, suc, ◌≡◌, ◌+◌, ◌-◌, ◌*◌, ◌/◌, ◌<◌, ◌^◌, ◌≤◌, min, inl, inr, arith, ap, subst}
+use Rattle.std.proofs.Common.{ℕ, zero, suc, ◌≡◌, ◌+◌, ◌-◌, ◌*◌, ◌/◌, ◌<◌, ◌^◌, ◌≤◌, min, inl, inr, arith, refl, ap, subst}
 use Rattle.std.proofs.lemmas.Bool.{cases_lt}
 use Rattle.std.specs.Int.{div_ceil}
 use Rattle.std.proofs.Math.Nat.{mul-le-mul, mul-le-mul_left, mul-le-mul_right, le_of_mul-le-mul_right, lt-div-mul-add, mul-pos, div-mul-le_self, div-le_of_le-mul}
 use Rattle.std.proofs.lemmas.Grind.{div_ceil_times}
-use Rattle.dl_exact.proofs.RoundingLaws.{div_ceil_least, part_within}
+use Rattle.dl_exact.proofs.RoundingLaws.{div_ceil_least}
 unfoldable use Rattle.dl_exact.specs.Count.{count_below}
+unfoldable use Rattle.dl_grid.specs.Cells.{all_at_zero}
 
 -- ---- sizes
 
 -- a quotient is at most 18 times as large
 pub quotient_small : (x S R : ℕ) → 0 < R → S ≤ 18 * R → div_ceil (x * S) R ≤ 18 * x
 quotient_small x S R pos share = div_ceil_least (x * S) R (18 * x) pos (omega (arith, mul-le-mul_left x share))
+
+-- so it fits a word, and what long division makes on the way
+pub quotient_fits : (x S R : ℕ) → 0 < R → S ≤ 18 * R → x ≤ 2 ^ 90 → div_ceil (x * S) R ≤ 2 ^ 127
+quotient_fits x S R pos share small = omega (arith, quotient_small x S R pos share)
+
+pub rest_fits : (x y S : ℕ) → y ≤ S → S ≤ 2 ^ 56 → min x y * S < 2 ^ 128
+rest_fits x y S le small = omega (arith, mul-le-mul (least x y S le small) small)
+  where
+    least : (x y S : ℕ) → y ≤ S → S ≤ 2 ^ 56 → min x y ≤ 2 ^ 56
+    least x y S le small = omega arith
+
+-- a factor below 2^37
+pub product_fits : (x a : ℕ) → x ≤ 2 ^ 90 → a < 2 ^ 37 → x * a < 2 ^ 128
+product_fits x a small few =
+    let less : a ≤ 2 ^ 37 - 1 = omega (arith, few) in
+    omega (arith, mul-le-mul small less)
+
+-- ---- what stands at 0 alone
+
+pub nothing_past : (e y : ℕ) → 0 < y → 0 ≡ all_at_zero e y
+unfolding all_at_zero
+nothing_past e zero h = absurd (omega (arith, h))
+nothing_past e (suc y) h = refl
+
+pub all_at : (e y : ℕ) → y ≡ 0 → e ≡ all_at_zero e y
+unfolding all_at_zero
+all_at e zero h = refl
+all_at e (suc y) h = absurd (omega (arith, h))
+
+pub at_zero_most : (e y : ℕ) → all_at_zero e y ≤ e
+unfolding all_at_zero
+at_zero_most e zero = omega arith
+at_zero_most e (suc y) = omega arith
 
 -- ---- distances
 
@@ -112,6 +146,32 @@ spread_within S R Z D n w d x e pos share sum wide mass few =
       mul-le-mul_right (R * (R + Z)) few,
     ))
     (mul-pos pos (omega arith))
+
+-- low ends that fit into what no claim leaves, T of S units, fit into S units after the change
+quotients_sum : (n S T : ℕ) (x : ℕ → ℕ) → count_below n (λ y. x y * S / T) * T ≤ count_below n x * S
+unfolding count_below
+quotients_sum zero S T x = omega arith
+quotients_sum (suc n) S T x = omega (arith, quotients_sum n S T x, div-mul-le_self (x n * S) T)
+
+parts_sum : (n a d e : ℕ) (r : ℕ → ℕ)
+    → count_below n (λ y. r y * a / d + all_at_zero (e / d) y) * d ≤ count_below n r * a + e
+unfolding count_below all_at_zero
+parts_sum zero a d e r = omega arith
+parts_sum (suc zero) a d e r = omega (arith, div-mul-le_self (r 0 * a) d, div-mul-le_self e d)
+parts_sum (suc (suc n)) a d e r = omega (arith, parts_sum (suc n) a d e r, div-mul-le_self (r (suc n) * a) d)
+
+pub lows_fit : (n S T num den : ℕ) (x : ℕ → ℕ) → 0 < T → 0 < den → num < den → count_below n x ≤ T
+    → count_below n (λ y. x y * S / T * (den - num) / den + all_at_zero (S * num / den) y) ≤ S
+lows_fit n S T num den x pos some less fits =
+    let r : ℕ → ℕ = λ y. x y * S / T in
+    let quotients : count_below n r ≤ S = le_of_mul-le-mul_right {k = T}
+    (omega (arith, quotients_sum n S T x, mul-le-mul_right S fits)) pos in
+    let whole : S * ((den - num) + num) ≡ S * den = ap (λ t. S * t) (rest den num less) in
+    le_of_mul-le-mul_right {k = den}
+    (omega (arith, parts_sum n (den - num) den (S * num) r, mul-le-mul_right (den - num) quotients, whole)) some
+  where
+    rest : (d n : ℕ) → n < d → (d - n) + n ≡ d
+    rest d n h = omega arith
 
 -- ---- the mean
 

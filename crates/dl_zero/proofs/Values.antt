@@ -1,17 +1,17 @@
 -- The ends after the change and those that the law of a changed probability of no claim speaks of. S units make 1.
-use Rattle.std.proofs.Common.{ℕ, zero, suc, ◌≡◌, ◌+◌, ◌-◌, ◌*◌, ◌/◌, ◌<◌, ◌≤◌, arith, refl, sym, ap, ap₂, subst, subst₂, ◌∙◌}
+use Rattle.std.proofs.Common.{ℕ, zero, suc, ◌≡◌, ◌-◌, ◌*◌, ◌/◌, ◌<◌, ◌≤◌, arith, refl, sym, ap, ap₂, subst, subst₂, ◌∙◌}
 use Rattle.std.specs.Prelude.{nat_eq}
 use Rattle.std.specs.Int.{div_ceil}
 use Rattle.std.proofs.Math.Nat.{mul-pos}
 use Rattle.dl_exact.specs.Fraction.{Fraction, whole, ◌over◌, ◌+ℚ◌, ◌-ℚ◌, ◌*ℚ◌, ◌/ℚ◌, ◌≤ℚ◌, ◌<ℚ◌}
 unfoldable use Rattle.dl_exact.specs.Count.{count_below}
 use Rattle.dl_exact.specs.Sum.{sum_to}
-use Rattle.dl_exact.proofs.Laws.{one_pos, plus_zero, plus_comm, times_comm, one_times, le_refl, le_trans, le_of_eq, le_plus, zero_le, plus_le_both}
+use Rattle.dl_exact.proofs.Laws.{one_pos, times_comm, one_times, le_trans, le_of_eq, le_plus, zero_le}
 use Rattle.dl_exact.proofs.Over.{over_self, over_same, over_div, le_over}
 use Rattle.dl_exact.proofs.Denominators.{over_minus, over_one, over_pos, over_zero}
 use Rattle.dl_exact.proofs.Sums.{sum_to_le}
 use Rattle.dl_exact.proofs.SumsOver.{to_over}
-use Rattle.dl_iv.proofs.Operations.{add_low, add_high, sub_low, sub_high, scale_low, scale_high, div_low, div_high, enclose_low, enclose_high}
+use Rattle.dl_iv.proofs.Operations.{add_low, add_high, scale_low, scale_high, div_low, div_high, enclose_low, enclose_high}
 unfoldable use Rattle.dl_grid.specs.Cells.{all_at_zero}
 use Rattle.dl_model.specs.Program.{where_true}
 use Rattle.dl_model.specs.ChangedZero.{changed_end}
@@ -53,7 +53,8 @@ module _ (S nl nh : ℕ) (p : Fraction) (pos : 0 < S) (order : nl ≤ nh) (below
 
   p_low : (y : ℕ) → all_at_zero (S * p.num / p.den) y over S ≤ℚ where_true (nat_eq y 0) p
   unfolding all_at_zero
-  p_low zero = subst₂ (λ s t. s ≤ℚ t) refl (over_self p ∙ sym (on 0 0 p refl)) (enclose_low S pos p.num p.den p.positive)
+  p_low zero = subst (λ t. (S * p.num / p.den) over S ≤ℚ t) (over_self p ∙ sym (on 0 0 p refl))
+      (enclose_low S pos p.num p.den p.positive)
   p_low (suc y) = subst (λ t. t ≤ℚ where_true (nat_eq (suc y) 0) p) (sym (over_zero S pos)) (zero_le _)
 
   p_high : (y : ℕ) → where_true (nat_eq y 0) p ≤ℚ all_at_zero (div_ceil (S * p.num) p.den) y over S

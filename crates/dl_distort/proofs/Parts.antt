@@ -1,0 +1,73 @@
+-- A part of a tail mean: what its ends hold, how far apart they lie, and how large they are. S units make 1.
+use Rattle.std.proofs.Common.{ℕ, ◌≡◌, ◌+◌, ◌-◌, ◌*◌, ◌/◌, ◌^◌, ◌<◌, ◌≤◌, arith, sym, ap, subst, ◌∙◌}
+use Rattle.std.specs.Int.{div_ceil}
+use Rattle.std.proofs.Math.Nat.{mul-le-mul, mul-le-mul_right}
+use Rattle.std.proofs.lemmas.Grind.{div_ceil_times}
+use Rattle.dl_exact.specs.Fraction.{Fraction, whole, ◌+ℚ◌, ◌*ℚ◌, ◌≤ℚ◌}
+use Rattle.dl_exact.proofs.Over.{over_self, over_mul, over_add, over_le, le_over}
+use Rattle.dl_exact.proofs.Laws.{one_pos, times_comm}
+use Rattle.dl_exact.proofs.RoundingLaws.{div_ceil_least}
+use Rattle.dl_iv.proofs.Rounding.{ceiling_reaches}
+use Rattle.dl_grid.specs.Width.{up}
+use Rattle.dl_grid.proofs.WidthLaws.{up_quotient}
+use Rattle.dl_model.specs.Series.{Series, AtMost, AtLeast}
+use Rattle.dl_model.proofs.Declared.{at_least_wider, at_most_wider}
+use Rattle.dl_model.proofs.Halves.{scaled_least, scaled_most}
+use Rattle.dl_measures.proofs.TailLaws.{quotients_apart}
+
+-- a weight is at most 1 where its first part is at most its second
+pub part_of_one : (w : Fraction) → w ≤ℚ whole 1 → w.num ≤ w.den
+part_of_one w h =
+    omega (arith, le_over w.num w.den 1 1 w.positive one_pos (subst (λ t. t ≤ℚ whole 1) (sym (over_self w)) h))
+
+-- ---- the ends
+
+module _ (T O : Series) (w : Fraction) where
+  pub part_least : (l k : Fraction) → AtLeast T O l → k ≤ℚ l *ℚ w → AtLeast (λ N. w *ℚ T N) O k
+  part_least l k a h = at_least_wider (λ N. w *ℚ T N) O (w *ℚ l) k (scaled_least w T O l a)
+      (subst (λ t. k ≤ℚ t) (times_comm l w) h)
+
+  pub part_most : (l k : Fraction) → AtMost T O l → l *ℚ w ≤ℚ k → AtMost (λ N. w *ℚ T N) O k
+  part_most l k a h = at_most_wider (λ N. w *ℚ T N) O (w *ℚ l) k (scaled_most w T O l a)
+      (subst (λ t. t ≤ℚ k) (times_comm l w) h)
+
+-- ---- the width
+
+pub up_part : (w : Fraction) (t : ℕ) → up (w *ℚ whole t) ≡ div_ceil (t * w.num) w.den
+up_part w t =
+    ap up (ap (λ x. x *ℚ whole t) (sym (over_self w)) ∙ over_mul w.num w.den t 1 w.positive one_pos)
+    ∙ up_quotient (w.num * t) (w.den * 1) (omega (arith, w.positive))
+    ∙ ap (λ n. div_ceil n (w.den * 1)) (turn w.num t) ∙ ap (div_ceil (t * w.num)) (one w.den)
+  where
+    turn : (a b : ℕ) → a * b ≡ b * a
+    turn a b = omega arith
+
+    one : (a : ℕ) → a * 1 ≡ a
+    one a = omega arith
+
+pub part_narrow : (w : Fraction) (l h t m n : ℕ) → h - l ≤ t → m ≡ l * w.num / w.den → n ≡ div_ceil (h * w.num) w.den
+    → n - m ≤ up (w *ℚ whole t) + 2
+part_narrow w l h t m n narrow low high =
+    omega (arith, low, high, up_part w t, quotients_apart w.den w.num l h t w.positive (omega (arith, narrow)))
+
+-- ---- how large it is
+
+pub rises : (a b n d : ℕ) → 0 < d → a ≤ b → div_ceil (a * n) d ≤ div_ceil (b * n) d
+rises a b n d pos h = div_ceil_least (a * n) d _ pos (omega (arith, mul-le-mul_right n h, ceiling_reaches (b * n) d pos))
+
+pub tail_small : (cells mean den h : ℕ) → cells ≤ 2 ^ 97 → mean ≤ 2 ^ 97 → den ≤ 1000000000 → h ≤ cells + mean * den
+    → h ≤ 2 ^ 97 * 1000000001
+tail_small cells mean den h few small parts le =
+    let most : mean * den ≤ 2 ^ 97 * 1000000000 = mul-le-mul small parts in omega (arith, most)
+
+pub part_small : (w : Fraction) (h t n : ℕ) → h ≤ t → n ≡ div_ceil (h * w.num) w.den → n ≤ div_ceil (t * w.num) w.den
+part_small w h t n le high = omega (arith, high, rises h t w.num w.den w.positive le)
+
+-- a part rounded up is at most one unit more
+pub part_units : (w : Fraction) (t n : ℕ) → n ≤ div_ceil (t * w.num) w.den → whole n ≤ℚ whole t *ℚ w +ℚ whole 1
+part_units w t n h =
+    subst (λ x. whole n ≤ℚ x) (sym (ap (λ x. whole t *ℚ x +ℚ whole 1) (sym (over_self w))
+    ∙ ap (λ x. x +ℚ whole 1) (over_mul t 1 w.num w.den one_pos w.positive)
+    ∙ over_add (t * w.num) (1 * w.den) 1 1 (omega (arith, w.positive)) one_pos))
+    (over_le n 1 _ _ one_pos (omega (arith, w.positive))
+    (omega (arith, mul-le-mul_right w.den h, (div_ceil_times (t * w.num) w.den w.positive).1)))

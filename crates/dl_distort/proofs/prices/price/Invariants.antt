@@ -1,0 +1,14 @@
+use Rattle.std.proofs.Common.{take, length, ◌^◌}
+use Rattle.std.specs.Prelude.{All, None}
+use Rattle.dl_grid.specs.Cells.{low_at}
+use Rattle.dl_measures.specs.Ends.{low_cdf}
+use Rattle.dl_measures.specs.Brackets.{IsFirstFound}
+use Rattle.dl_distort.proofs.Sums.{IsSumOf}
+use Rattle.dl_distort.proofs.prices.price.Given as goal
+
+abbrev pub invariant-loop-term : goal.invariant-loop-term
+invariant-loop-term g l = record {
+  sum : IsSumOf l.g l.mean l.terms l.term-index l.sum.lo l.sum.hi;
+  found : All (λ t. IsFirstFound (low_cdf (2 ^ g.row.B) (low_at l.g)) t.p (length l.g) None → ⊥)
+      (take l.term-index l.terms);
+}
