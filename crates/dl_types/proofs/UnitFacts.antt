@@ -1,7 +1,8 @@
 -- What a unit in whole buckets keeps where the rules on it are not broken, and its unit of the plan.
 use Rattle.dl_types.proofs.Common.{ℕ, ◌≡◌, ◌∙◌, Bool, true, false, List, Option, Some, None, Sev, Clause, refl, sym, ap, ap₂, subst, Ok, Err, Fraction, Settings, IsValidUnit, Span, ReadList, ◌else◌, at_if, probs_in_count, else_first, else_second, not_at, GridUnit, has_shares, fractions_too_fine, IsGridUnit, AreProbabilities, off_grid_cession, own_lists, final_severity, CheckFault, Typing, OutOfMemory, expected_claims, claims_of, claims_above_zero, breaks, cells_asked, fault_of_clauses, fault_of_count, fault_on_grid, IsWholeCount, IsCountKept, IsCountMade, IsCedeOf, too_fine, exposed_too_fine, too_many_claims, has_too_many_claims, horizon_too_large, most_amount_at}
+use Rattle.dl_plan.specs.Valid.{IsNewZero}
 use Rattle.dl_amounts.specs.GridKept.{IsWithin}
-use Rattle.std.specs.Prelude.{Result, OnOk, IfOk, IfErr}
+use Rattle.std.specs.Prelude.{Result, OnOk, IfOk, IfErr, IfSome}
 use Rattle.std.specs.Result.{IsErr, IsErrAnd}
 use Rattle.dl_plan.specs.declared.plan.Unit.{Unit as UnitOfPlan}
 use Rattle.dl_amounts.specs.Kept.{IsLayered, IsFineSev}
@@ -192,7 +193,7 @@ module _ (bs : Fraction) (unit : ℕ) (u : GridUnit) (grid : IsGridUnit u) (none
           expected = valid.1;
           thinned = made_thinned (final_severity u) made.sev sev.means u.count n made.freq are_kept freq;
           clause = aggregate_valid cells u ceded fine_occ near within made.sev sev.means made.cede cede;
-          zero = zero;
+          zero = subst (λ z. IfSome z (IsNewZero made.freq)) (sym zero) tt;
         }
 
 -- ---- all rules on the unit in whole buckets
