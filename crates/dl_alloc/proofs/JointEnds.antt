@@ -23,7 +23,7 @@ unit_of_proper [] i h = nothing_proper
 unit_of_proper (u ∷ us) zero h = loss_proper u h.0
 unit_of_proper (u ∷ us) (suc i) h = unit_of_proper us i h.1
 
-all_split : (us : List Loss) → AreDeclarable us → (i N : ℕ) → i < length us
+pub all_split : (us : List Loss) → AreDeclarable us → (i N : ℕ) → i < length us
     → partial_sums us One N ≡ (unit_of us i).all N *ℚ partial_sums (without us i) One N
 all_split [] h i N b = absurd (omega arith)
 all_split (u ∷ us) h zero N b = total_more_all u us h.0 N

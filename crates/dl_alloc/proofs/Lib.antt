@@ -1,4 +1,4 @@
-mod JointEnds
+pub mod JointEnds
 pub mod Quotients
 pub mod WeightedSums
 pub mod WeightedEnds

@@ -26,13 +26,13 @@ score_le i x ys = elim (cases_eq (sum ys) x) [
       (sym (ne_eqb (sum ys) x n)) (zero_le _)
 ]
 
-joint_le_point : (us : List Loss) (i x N : ℕ)
+pub joint_le_point : (us : List Loss) (i x N : ℕ)
     → partial_sums us (Joint i x) N ≤ℚ whole x *ℚ partial_sums us (Point x) N
 joint_le_point us i x N =
     le_trans _ _ _ (outcomes_le us (score (Joint i x)) (λ ys. whole x *ℚ score (Point x) ys) (score_le i x) N)
     (le_of_eq _ _ (outcomes_times us (whole x) (score (Point x)) N))
 
-joint_most : (us : List Loss) (i x h S : ℕ) → 0 < S
+pub joint_most : (us : List Loss) (i x h S : ℕ) → 0 < S
     → AtMost (partial_sums us (Point x)) (partial_sums us One) (h over S)
     → AtMost (partial_sums us (Joint i x)) (partial_sums us One) ((x * h) over S)
 joint_most us i x h S s at N u bound =

@@ -29,7 +29,7 @@ use Rattle.dl_alloc.proofs.WeightedSums.{weighted_top, weighted_width, one_more,
 -- ---- how large they are
 
 -- the high ends of a narrow grid add up to less than 2
-high_mass : {B : ℕ} (cells : List (Iv B)) (n : ℕ) → IsGrid cells → spread cells < 2 ^ B
+pub high_mass : {B : ℕ} (cells : List (Iv B)) (n : ℕ) → IsGrid cells → spread cells < 2 ^ B
     → count_below n (high_at cells) ≤ 2 * 2 ^ B
 high_mass cells n grid narrow =
     omega (
@@ -79,7 +79,7 @@ ends_order {B} unit others x =
 -- ---- a walk over the outcomes of the unit
 
 -- where the sums of the weights are at most 2, all sums fit
-fits : (S x sum : ℕ) → 0 < S → HasRoom (x + 1) S → sum ≤ x * (2 * S) * (2 * S) → sum < 2 ^ 128
+pub fits : (S x sum : ℕ) → 0 < S → HasRoom (x + 1) S → sum ≤ x * (2 * S) * (2 * S) → sum < 2 ^ 128
 fits S x sum some room h = omega (arith, top S x, room.sums, mul-pos some some)
 
 -- the sum with one outcome more

@@ -27,7 +27,7 @@ pairs_under s p q a b h k =
     pairs_within (s + 1) a b in
     omega (arith, here, all, mul-le-mul h k)
 
-weighted_under : (x p : ℕ) (f : ℕ → ℕ) → count_below (x + 1) f ≤ p → count_below (x + 1) (λ y. y * f y) ≤ x * p
+pub weighted_under : (x p : ℕ) (f : ℕ → ℕ) → count_below (x + 1) f ≤ p → count_below (x + 1) (λ y. y * f y) ≤ x * p
 weighted_under x p f h = le_trans (weighted_le (x + 1) x f (le_refl _)) (mul-le-mul_left x h)
 
 pub weighted_top : (x p q : ℕ) (f g : ℕ → ℕ) → count_below (x + 1) f ≤ p → count_below (x + 1) g ≤ q
@@ -82,20 +82,20 @@ apart_top x one v w a c b d p q r t =
     omega (arith, first, second, third)
 
 -- one floor and one ceiling lie at most two units further apart than what they round
-rounded : (one low more : ℕ) → 0 < one → div_ceil (low + more) one * one ≤ (low / one + 2) * one + more
+pub rounded : (one low more : ℕ) → 0 < one → div_ceil (low + more) one * one ≤ (low / one + 2) * one + more
 rounded one low more pos =
     let above : div_ceil (low + more) one * one < low + more + one = (div_ceil_times (low + more) one pos).1 in
     let below : low < low / one * one + one = lt-div-mul-add pos in
     omega (arith, above, below)
 
 -- the same divided by one
-divided : (x one v w more k h : ℕ) → 0 < one → h * one ≤ k * one + more → more ≤ x * (one * w + (v * one + v * w))
+pub divided : (x one v w more k h : ℕ) → 0 < one → h * one ≤ k * one + more → more ≤ x * (one * w + (v * one + v * w))
     → h ≤ k + x * (v + w + div_ceil (v * w) one)
 divided x one v w more k h pos p q =
     le_of_mul-le-mul_right {k = one} (omega (arith, p, q, mul-le-mul_left x (ceiling_reaches (v * w) one pos))) pos
 
 -- fewer outcomes than cells
-enough : (x n t : ℕ) → x < n → x * t + 2 ≤ n * (t + 2 * n)
+pub enough : (x n t : ℕ) → x < n → x * t + 2 ≤ n * (t + 2 * n)
 enough x n t h =
     let times : (x + 1) * t ≤ n * t = mul-le-mul_right t (omega arith) in
     let some : 1 ≤ n = omega arith in

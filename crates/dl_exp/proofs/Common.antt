@@ -8,6 +8,7 @@ pub use Rattle.dl_exact.proofs.RoundingLaws.{div_ceil_least, part_within, whole_
 pub use Rattle.dl_exact.proofs.SumsOver.{high_sum, low_sum}
 pub use Rattle.dl_exact.specs.Fraction.{Fraction, whole}
 unfoldable pub use Rattle.dl_exact.specs.Fraction.{◌*ℚ◌, ◌<ℚ◌, ◌over◌, ◌≤ℚ◌}
+unfoldable pub use Rattle.dl_exact.specs.Count.{count_below}
 unfoldable pub use Rattle.dl_exact.specs.Sum.{sum_to}
 pub use Rattle.dl_iv.proofs.Rounding.{ceiling_reaches, floor_le_ceiling, power_le}
 pub use Rattle.dl_exp.specs.Exponential.{exponential_sum}

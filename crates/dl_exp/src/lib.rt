@@ -5,6 +5,7 @@
 ghost use Rattle.std.specs.Prelude.{◌≡◌, ℕ, ◌+◌, ◌^◌, ◌≤◌};
 ghost use Rattle.dl_exact.specs.Fraction.{Fraction, whole, ◌over◌, ◌*ℚ◌, ◌≤ℚ◌};
 ghost use Rattle.dl_exp.specs.Exponential.{exponential_sum, EnclosesExp};
+ghost use Rattle.dl_exp.specs.Ends.{low_exponential, high_exponential, exp_low, exp_high};
 
 use dl_frac::Frac;
 use dl_iv::Iv;
@@ -26,11 +27,14 @@ struct Sums {
 }
 
 /// `exp(-x)` for `x` from 0 to 1/2, at most 3 units of 1 / 2^B wide, and at most 1. The series is
-/// that of Taylor.
+/// that of Taylor: the ends are the reciprocals of its partial sums to the term 18, in units of
+/// 1 / 2^63.
 pub fn exp_neg<const B: u32>(x: Frac) -> Iv<B>
     requires scale_above { 1 ≤ B }
     requires scale_below { B ≤ 56 }
     requires half { x ≤ℚ 1 over 2 }
+    ensures low { result.lo ≡ exp_low B x }
+    ensures high { result.hi ≡ exp_high B x }
     ensures encloses { EnclosesExp x result }
     ensures narrow { result.hi ≤ result.lo + 3 }
     ensures small { result.hi ≤ 2 ^ B }
@@ -47,6 +51,8 @@ pub fn exp_neg<const B: u32>(x: Frac) -> Iv<B>
 /// all that follow, since each is at most half of the one before.
 fn exponential(x: Frac) -> Sums
     requires { x ≤ℚ 1 over 2 }
+    ensures low { result.low ≡ low_exponential x }
+    ensures high { result.high ≡ high_exponential x }
     ensures one { 2 ^ 63 ≤ result.low }
     ensures order { result.low ≤ result.high }
     ensures near { result.high ≤ result.low + 128 }

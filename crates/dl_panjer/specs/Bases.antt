@@ -7,18 +7,21 @@ use Rattle.dl_exact.specs.Rounding.{IsFloor}
 use Rattle.dl_iv.specs.declared.interval.Iv.{Iv}
 use Rattle.dl_grid.specs.Cells.{low_at, high_at}
 use Rattle.dl_exp.specs.Exponential.{EnclosesExp}
+use Rattle.dl_exp.specs.Ends.{exp_low, exp_high}
 use Rattle.dl_model.specs.Recursion.{Recursion}
 use Rattle.dl_plan.specs.declared.item.Item.{Item}
 use Rattle.dl_plan.specs.declared.severity.Sev.{Sev}
 use Rattle.dl_panjer.specs.Cells.{coefficient, next_sum}
 use Rattle.dl_panjer.specs.Outward.{IsCeilingWithin}
 
--- cell 0 encloses exp(-v), the probability that there is no claim: it is at most 3 units wide, and
--- its high end is at most 1
+-- cell 0 encloses exp(-v), the probability that there is no claim, between the reciprocals of two
+-- partial sums of its series: it is at most 3 units wide, and its high end is at most 1
 pub record StartsAtExp {B : ℕ} (v : Fraction) (grid : List (Iv B)) : Type 0 where
   pub first : Iv B
   pub low : low_at grid 0 ≡ first.lo
   pub high : high_at grid 0 ≡ first.hi
+  pub low_end : low_at grid 0 ≡ exp_low B v
+  pub high_end : high_at grid 0 ≡ exp_high B v
   pub encloses : EnclosesExp v first
   pub narrow : first.hi ≤ first.lo + 3
   pub small : first.hi ≤ 2 ^ B

@@ -16,9 +16,12 @@ use dl_iv::Iv;
 use dl_plan::Item;
 use std::alloc::{AllocError, Global};
 
-/// The next cell: each sum over the total weight, times `rate`, which for weights by amount is
+/// The cell that follows `cells` in Panjer's recursion, over amounts above 0 whose whole weights
+/// add up to `total`: each sum over the total weight, times `rate`, which for weights by amount is
 /// divided by the cell's number too. Both steps are rounded outward, and the high end is at most 1.
-fn next_cell<const B: u32, const BY_AMOUNT: bool>(
+/// With weights by amount and the mean as its rate, the count is Poisson; with plain weights and a
+/// rate of `beta / (1 + beta)`, geometric of mean `beta`. It takes no memory.
+pub fn next_cell<const B: u32, const BY_AMOUNT: bool>(
     items: &[Item],
     total: u32,
     rate: Frac,

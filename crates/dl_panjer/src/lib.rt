@@ -11,6 +11,7 @@ mod poisson;
 mod rates;
 mod sums;
 
+pub use follow::next_cell;
 pub use geometric::geometric_base;
 pub use laws::{law_exponential, law_stands};
 pub use made::grid_of;

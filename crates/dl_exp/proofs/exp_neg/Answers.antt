@@ -20,6 +20,14 @@ invariant_of-result-clause-in_range g c =
           (omega (arith, s.one)) s.one,
     ))
 
+pub returns-clause-low : goal.returns-clause-low
+returns-clause-low g c =
+    rw (unit_fits g.row.B c.requires.scale_below, c.exponential-sums.ensures.high) refl
+
+pub returns-clause-high : goal.returns-clause-high
+returns-clause-high g c =
+    rw (c.div_ceil.ensures, unit_fits g.row.B c.requires.scale_below, c.exponential-sums.ensures.low) refl
+
 pub returns-clause-encloses : goal.returns-clause-encloses
 returns-clause-encloses g c =
     let s = c.exponential-sums.ensures in

@@ -1,16 +1,22 @@
 use Rattle.dl_exp.proofs.Common.{◌≡◌, ℕ, suc, ◌+◌, ◌*◌, ◌/◌, ◌^◌, ◌<◌, ◌≤◌, arith, sym, subst, subst₂, ap, ◌∙◌, mul-pos, mul-le-mul_right, div-mul-le_self, zero-lt-suc, div_ceil, whole, ◌*ℚ◌, ◌≤ℚ◌, sum_to, le_refl, le_trans, times_one, times_plus, plus_le_both, whole_plus, times_le_both, div_ceil_least, ceiling_reaches, floor_le_ceiling, exponential_term, exponential_sum, low_sum, high_sum}
-use Rattle.std.proofs.Common.{ap₂, add-one}
+use Rattle.std.proofs.Common.{ap₂, add-one, refl}
 use Rattle.dl_exact.proofs.Laws.{le_of_eq}
-use Rattle.dl_exp.proofs.Terms.{term_zero, low_term, high_term, half_parts, rest_bound}
+unfoldable use Rattle.dl_exp.specs.Ends.{low_term, high_term}
+use Rattle.dl_exp.proofs.Common.{count_below}
+use Rattle.dl_exp.proofs.Terms.{term_zero, low_term as low_term_law, high_term as high_term_law, half_parts, rest_bound}
 use Rattle.dl_exp.proofs.Roundings.{fall, fall_zero, fall_far, fall_next, fallen, near_next}
 use Rattle.dl_exp.proofs.exponential.Goals as goal
 
 pub loop-n-init : goal.loop-n-init
-unfolding sum_to
+unfolding sum_to low_term high_term count_below
 loop-n-init c =
     let e : whole (2 ^ 63) *ℚ exponential_term c.args.x 0 ≡ whole (2 ^ 63) =
     ap (λ t. whole (2 ^ 63) *ℚ t) (term_zero c.args.x) ∙ times_one _ in
     record {
+      low_value = refl;
+      high_value = refl;
+      low_partial = refl;
+      high_partial = refl;
       low_term = le_of_eq _ _ (sym e);
       high_term = le_of_eq _ _ e;
       low = le_of_eq _ _ (sym e);
@@ -26,6 +32,7 @@ loop-n-init c =
     }
 
 pub loop-n-preserved : goal.loop-n-preserved
+unfolding low_term high_term count_below
 loop-n-preserved c =
     let i = c.loop-n.invariant in
     let n = c.loop-n.n in
@@ -47,8 +54,8 @@ loop-n-preserved c =
     rw c.div_ceil-high_term.ensures (ceiling_reaches _ _ dp) in
     let high : c.loop-n.high_term * x.num ≤ t * (x.den * suc n) =
     subst₂ (λ a b. c.loop-n.high_term * b ≤ t * a) d c.num-num.ensures.part up in
-    let f : whole s ≤ℚ C *ℚ exponential_term x (suc n) = low_term x C n c.loop-n.low_term s low i.low_term in
-    let g : C *ℚ exponential_term x (suc n) ≤ℚ whole t = high_term x C n c.loop-n.high_term t high i.high_term in
+    let f : whole s ≤ℚ C *ℚ exponential_term x (suc n) = low_term_law x C n c.loop-n.low_term s low i.low_term in
+    let g : C *ℚ exponential_term x (suc n) ≤ℚ whole t = high_term_law x C n c.loop-n.high_term t high i.high_term in
     let order : s ≤ t = rw c.div_ceil-high_term.ensures
     (floor_le_ceiling _ _ _ _ dp (omega arith) (mul-le-mul_right num i.terms)) in
     let near : t ≤ s + 4 = rw c.div_ceil-high_term.ensures
@@ -63,7 +70,17 @@ loop-n-preserved c =
     low_sum C (exponential_term x) n c.loop-n.low s i.low f in
     let high_all : C *ℚ exponential_sum x (suc n) ≤ℚ whole (c.loop-n.high + t) =
     high_sum C (exponential_term x) n c.loop-n.high t i.high g in
+    let low_value : s ≡ low_term x (suc n) =
+    ap₂ (λ a b. a / b) (ap₂ (λ a b. a * b) i.low_value c.num-num.ensures.part) d in
+    let high_value : t ≡ high_term x (suc n) = c.div_ceil-high_term.ensures
+    ∙ ap₂ (λ a b. div_ceil a b) (ap₂ (λ a b. a * b) i.high_value c.num-num.ensures.part) d in
     record {
+      low_value = subst (λ k. s ≡ low_term x k) (sym (add-one n)) low_value;
+      high_value = subst (λ k. t ≡ high_term x k) (sym (add-one n)) high_value;
+      low_partial = subst (λ k. c.loop-n.low + s ≡ count_below (suc k) (low_term x)) (sym (add-one n))
+          (ap₂ (λ a b. a + b) i.low_partial low_value);
+      high_partial = subst (λ k. c.loop-n.high + t ≡ count_below (suc k) (high_term x)) (sym (add-one n))
+          (ap₂ (λ a b. a + b) i.high_partial high_value);
       low_term = subst (λ k. whole s ≤ℚ C *ℚ exponential_term x k) (sym (add-one n)) f;
       high_term = subst (λ k. C *ℚ exponential_term x k ≤ℚ whole t) (sym (add-one n)) g;
       low = subst (λ k. whole (c.loop-n.low + s) ≤ℚ C *ℚ exponential_sum x k) (sym (add-one n)) low_all;
@@ -80,6 +97,17 @@ loop-n-preserved c =
   where
     shrinks : (h num den n : ℕ) → num + num ≤ den → h ≤ 2 ^ 63 → h * num ≤ 2 ^ 63 * (den * (n + 1))
     shrinks h num den n half small = omega (arith, mul-le-mul_right num small, half)
+
+pub returns-clause-low : goal.returns-clause-low
+returns-clause-low c =
+    let e : c.loop-n.n ≡ 18 = omega (arith, c.loop-n.far-n, c.loop-n-test.false) in
+    c.loop-n.invariant.low_partial ∙ ap (λ k. count_below (suc k) (low_term c.args.x)) e
+
+pub returns-clause-high : goal.returns-clause-high
+returns-clause-high c =
+    let e : c.loop-n.n ≡ 18 = omega (arith, c.loop-n.far-n, c.loop-n-test.false) in
+    ap₂ (λ a b. a + b) c.loop-n.invariant.high_partial c.loop-n.invariant.high_value
+    ∙ ap (λ k. count_below (suc k) (high_term c.args.x) + high_term c.args.x k) e
 
 pub returns-clause-near : goal.returns-clause-near
 returns-clause-near c =

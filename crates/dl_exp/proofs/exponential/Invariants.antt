@@ -1,9 +1,15 @@
 use Rattle.dl_exp.proofs.Common.{◌+◌, ◌*◌, ◌^◌, ◌≤◌, whole, ◌*ℚ◌, ◌≤ℚ◌, exponential_term, exponential_sum}
+use Rattle.dl_exp.proofs.Common.{suc, ◌≡◌, count_below}
+use Rattle.dl_exp.specs.Ends.{low_term, high_term}
 use Rattle.dl_exp.proofs.Roundings.{fall}
 use Rattle.dl_exp.proofs.exponential.Given as goal
 
 abbrev pub invariant-loop-n : goal.invariant-loop-n
 invariant-loop-n l = record {
+  low_value : l.low_term ≡ low_term l.fn.x l.n;
+  high_value : l.high_term ≡ high_term l.fn.x l.n;
+  low_partial : l.low ≡ count_below (suc l.n) (low_term l.fn.x);
+  high_partial : l.high ≡ count_below (suc l.n) (high_term l.fn.x);
   low_term : whole l.low_term ≤ℚ whole (2 ^ 63) *ℚ exponential_term l.fn.x l.n;
   high_term : whole (2 ^ 63) *ℚ exponential_term l.fn.x l.n ≤ℚ whole l.high_term;
   low : whole l.low ≤ℚ whole (2 ^ 63) *ℚ exponential_sum l.fn.x l.n;

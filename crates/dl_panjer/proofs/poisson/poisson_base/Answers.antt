@@ -1,6 +1,7 @@
 use Rattle.dl_panjer.proofs.Common.{ℕ, List, length, ◌+◌, ◌≡◌, ◌*◌, ◌^◌, ◌<◌, ◌≤◌, true, arith, rules, sym, ap, ap₂, subst, ◌∙◌, mul-le-mul, zero-lt-suc, pow_pos, Fraction, ◌over◌, ◌/ℚ◌, ◌≤ℚ◌, whole, over_le, one_pos, le_trans, low_at, high_at, EnclosesExp}
 use Rattle.std.proofs.Common.{◌%◌}
 use Rattle.std.proofs.Math.Nat.{pow-le-pow_right, mod-eq_of_lt}
+use Rattle.dl_exp.specs.Ends.{exp_low, exp_high}
 use Rattle.dl_exp.proofs.Terms.{half_parts}
 use Rattle.dl_panjer.proofs.Recursions.{divided}
 use Rattle.dl_panjer.proofs.Starts.{poisson_start}
@@ -92,6 +93,8 @@ returns g c =
         first = c.exp_neg-start.result;
         low = c.in_ok-list.ensures.start_low;
         high = c.in_ok-list.ensures.start_high;
+        low_end = c.in_ok-list.ensures.start_low ∙ c.exp_neg-start.ensures.low ∙ ap (λ x. exp_low g.row.B x) e;
+        high_end = c.in_ok-list.ensures.start_high ∙ c.exp_neg-start.ensures.high ∙ ap (λ x. exp_high g.row.B x) e;
         encloses = holds;
         narrow = c.exp_neg-start.ensures.narrow;
         small = c.exp_neg-start.ensures.small;

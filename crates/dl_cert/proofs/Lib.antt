@@ -1,0 +1,4 @@
+pub mod SameProducts
+pub mod Labelled
+pub mod Values
+pub mod Targets

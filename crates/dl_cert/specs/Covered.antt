@@ -1,0 +1,38 @@
+-- Which plans have certificates.
+use Rattle.std.specs.Prelude.{ℕ, ◌≡◌, ◌≢◌, ◌⊎◌, ◌<◌, ⊤, None, List, length, get_or, All}
+use Rattle.dl_plan.specs.declared.plan.Freq.{Freq}
+use Rattle.dl_plan.specs.declared.plan.Freq.TheVariants.{Fixed, Table, Bernoulli, Binomial, Poisson, Gamma}
+use Rattle.dl_plan.specs.declared.plan.Plan.{Plan}
+use Rattle.dl_plan.specs.declared.plan.Unit.{Unit as UnitOfPlan}
+
+-- a listed count: it is not made up of equal parts
+abbrev pub IsTable : Freq → Type 0
+IsTable (Fixed m) = ⊥
+IsTable (Table counts total) = ⊤
+IsTable (Bernoulli q) = ⊥
+IsTable (Binomial trials q) = ⊥
+IsTable (Poisson mean) = ⊥
+IsTable (Gamma shape mean) = ⊥
+
+-- a unit without a listed count, an aggregate clause and a changed probability of no claim
+pub record IsCoveredUnit (u : UnitOfPlan) : Type 0 where
+  pub count : ¬ IsTable u.freq
+  pub clause : u.cede ≡ None
+  pub zero : u.zero ≡ None
+
+-- a plan of such units, which share no factor
+pub record IsCovered (plan : Plan) : Type 0 where
+  pub units : All IsCoveredUnit plan.units
+  pub common : plan.common ≡ None
+
+-- unit i is the first that is not covered
+pub record IsFirstUncovered (units : List UnitOfPlan) (i : ℕ) : Type 0 where
+  pub inside : i < length units
+  pub here : (default : UnitOfPlan) → ¬ IsCoveredUnit (get_or units i default)
+  pub before : (k : ℕ) (default : UnitOfPlan) → k < i → IsCoveredUnit (get_or units k default)
+
+-- what a plan that is not covered is refused with: the number of its first unit that is not
+-- covered, or 0 where its units share a factor
+abbrev pub IsNotCovered : Plan → ℕ → Type 0
+IsNotCovered plan i = (plan.common ≢ None × (i ≡ 0))
+    ⊎ ((plan.common ≡ None) × IsFirstUncovered plan.units i)

@@ -1,0 +1,50 @@
+//! Which plans have certificates.
+
+ghost use Rattle.std.specs.Prelude.{ℕ, ◌≤◌, ◌↔◌, IsTrue, All, MatchOption, length};
+ghost use Rattle.dl_limits.specs.Limits.{most_units};
+ghost use Rattle.dl_plan.specs.Valid.{IsValid};
+ghost use Rattle.dl_cert.specs.Covered.{IsTable, IsCoveredUnit, IsCovered, IsFirstUncovered, IsNotCovered};
+
+use dl_plan::{Freq, Plan, Unit};
+
+/// Whether a count is listed.
+fn is_listed(freq: &Freq) -> bool
+    ensures { IsTrue result ↔ IsTable freq.now }
+{
+    match freq {
+        Freq::Table { .. } => true,
+        _ => false,
+    }
+}
+
+/// Whether a unit has no listed count, no aggregate clause and no changed probability of no claim.
+fn is_covered(unit: &Unit) -> bool
+    ensures { IsTrue result ↔ IsCoveredUnit unit.now }
+{
+    !is_listed(&unit.freq) && unit.cede.is_none() && unit.zero.is_none()
+}
+
+/// The first unit that is not covered.
+fn first_uncovered(units: &[Unit]) -> Option<u32>
+    requires few { length units.now ≤ most_units }
+    ensures { MatchOption result (All IsCoveredUnit units.now) (IsFirstUncovered units.now) }
+{
+    for i in 0..units.len() {
+        if !is_covered(&units[i]) {
+            return Some(i as u32);
+        }
+    }
+    None
+}
+
+/// What keeps a valid plan from having a certificate: the number of its first unit that is not
+/// covered, or 0 where its units share a factor. `None` where the plan is covered.
+pub fn not_covered(plan: &Plan) -> Option<u32>
+    requires valid { IsValid plan.now }
+    ensures { MatchOption result (IsCovered plan.now) (IsNotCovered plan.now) }
+{
+    if plan.common.is_some() {
+        return Some(0);
+    }
+    first_uncovered(plan.units.as_slice())
+}

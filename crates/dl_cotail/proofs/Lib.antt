@@ -1,0 +1,6 @@
+mod PairSums
+mod JointSums
+mod UnitMeans
+mod ShareEnds
+mod Widths
+mod Absent

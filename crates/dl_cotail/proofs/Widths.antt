@@ -1,0 +1,86 @@
+-- How wide the share of a unit in the tail mean is, in plain numbers. S units make 1.
+use Rattle.std.proofs.Common.{ℕ, ◌≡◌, ◌+◌, ◌-◌, ◌*◌, ◌/◌, ◌<◌, ◌≤◌, min, arith, ap}
+use Rattle.std.specs.Int.{div_ceil}
+use Rattle.std.proofs.Math.Nat.{mul-le-mul, mul-le-mul_left, mul-le-mul_right, lt-div-mul-add}
+use Rattle.dl_exact.specs.Fraction.{Fraction, whole, ◌<ℚ◌}
+use Rattle.dl_exact.proofs.RoundingLaws.{div_ceil_least}
+use Rattle.dl_exact.proofs.BelowOne.{num_below}
+use Rattle.dl_grid.specs.Width.{cv}
+use Rattle.dl_grid.proofs.WidthLaws.{up_quotient, cv_rises}
+use Rattle.dl_measures.proofs.TailLaws.{quotients_apart}
+use Rattle.dl_cotail.specs.Widths.{joint_width, conditional_width, cotail_width}
+
+-- ---- the conditional mean
+
+pub lowered_narrow : (h l t : ℕ) → min h t - min l t ≤ h - l
+lowered_narrow h l t = omega arith
+
+pub conditional_narrow : (S K u o t q w j k h l : ℕ) → q < K → w ≤ t → j ≤ joint_width S K u o
+    → h - l ≤ 65536 * (q * w + j) + 2 → k ≤ h - l → k ≤ conditional_width S K u o t
+conditional_narrow S K u o t q w j k h l inside at of_joint narrow le =
+    let few : q ≤ K = omega arith in
+    omega (arith, mul-le-mul few at, of_joint, narrow, le)
+
+-- ---- its product with what the distribution has above p
+
+pub product_narrow : (S q al ah kl kh : ℕ) → 0 < S → al ≤ ah → kl ≤ kh → ah ≤ S → kl ≤ q * S
+    → div_ceil (ah * kh) S ≤ al * kl / S + 1 + ((kh - kl) + q * (ah - al))
+product_narrow S q al ah kl kh pos a k small few =
+    div_ceil_least (ah * kh) S _ pos (omega (
+      arith,
+      split al (ah - al) kl (kh - kl) ah kh (omega arith) (omega arith),
+      mul-le-mul_right (kh - kl) small,
+      mul-le-mul_left (ah - al) few,
+      lt-div-mul-add {a = al * kl} {b = S} pos,
+    ))
+  where
+    split : (al aw kl kw ah kh : ℕ) → ah ≡ al + aw → kh ≡ kl + kw → ah * kh ≡ al * kl + (aw * kl + ah * kw)
+    split al aw kl kw ah kh e f = omega (arith, ap (λ t. ah * t) f, ap (λ t. t * kl) e)
+
+-- what the distribution has above p, from p rounded both ways
+pub above_narrow : (S n d fl fh al ah : ℕ) → 0 < d → al ≡ fl - div_ceil (S * n) d → ah ≡ fh - S * n / d
+    → ah - al ≤ fh - fl + 1
+above_narrow S n d fl fh al ah pos low high =
+    let apart : div_ceil (S * n) d ≤ S * n / d + 1 =
+    div_ceil_least (S * n) d _ pos (omega (arith, lt-div-mul-add {a = S * n} {b = d} pos)) in
+    omega (arith, low, high, apart)
+
+-- ---- the whole
+
+wide : (S K u o t d e f : ℕ) → 0 < S → u ≤ d → o ≤ e → t ≤ f
+    → (joint_width S K u o ≤ joint_width S K d e) × (conditional_width S K u o t ≤ conditional_width S K d e f)
+wide S K u o t d e f s of_unit of_others of_total =
+    let joint : K * cv S K u o ≤ K * cv S K d e =
+    mul-le-mul_left K (cv_rises S K K u d o e s (omega arith) of_unit of_others) in
+    (joint, omega (arith, joint, mul-le-mul_left K of_total))
+
+pub cotail_narrow : (p : Fraction) (S K u o t m d e f q bl bh ml mh al ah pl ph kw l h : ℕ) → p <ℚ whole 1 → 0 < S
+    → q < K → bh - bl ≤ joint_width S K u o → ml ≤ mh → bl ≤ bh → ah - al ≤ t + 1
+    → kw ≤ conditional_width S K u o t → ph ≤ pl + 1 + (kw + q * (ah - al))
+    → l ≡ ((ml - bh) + pl) * p.den / (p.den - p.num) → h ≡ div_ceil (((mh - bl) + ph) * p.den) (p.den - p.num)
+    → mh - ml ≤ m → u ≤ d → o ≤ e → t ≤ f → h - l ≤ cotail_width p S m K d e f
+cotail_narrow p S K u o t m d e f q bl bh ml mh al ah pl ph kw l h below s inside of_below mean order of_above of_share
+    of_product low high of_mean of_unit of_others of_total =
+    let left : 0 < p.den - p.num = omega (arith, num_below p below) in
+    let more = wide S K u o t d e f s of_unit of_others of_total in
+    let few : q ≤ K = omega arith in
+    let grown : q * (ah - al) ≤ K * (f + 2) = mul-le-mul few (omega (arith, of_above, of_total)) in
+    let E = m + joint_width S K d e + 2 * K + K * (f + 2) + conditional_width S K d e f + 4 in
+    let sums : (mh - bl) + ph ≤ ((ml - bh) + pl) + E =
+    omega (
+      arith,
+      within ml mh bl bh pl ph m (joint_width S K d e) (kw + q * (ah - al))
+          (conditional_width S K d e f + K * (f + 2)) (2 * K) of_mean (omega (arith, of_below, more.0)) of_product
+          (omega (arith, of_share, more.1, grown)),
+    ) in
+    omega (
+      arith,
+      low,
+      high,
+      up_quotient (E * p.den) (p.den - p.num) left,
+      quotients_apart (p.den - p.num) p.den ((ml - bh) + pl) ((mh - bl) + ph) E left sums,
+    )
+  where
+    within : (ml mh bl bh pl ph m j x y z : ℕ) → mh - ml ≤ m → bh - bl ≤ j → ph ≤ pl + 1 + x → x ≤ y
+        → (mh - bl) + ph ≤ ((ml - bh) + pl) + (m + j + z + (y + 4))
+    within ml mh bl bh pl ph m j x y z a b c d = omega (arith, a, b, c, d)

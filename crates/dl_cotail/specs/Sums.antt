@@ -1,0 +1,13 @@
+-- The joint means of a unit at all totals up to q, added up, in units of 1/S^2.
+use Rattle.std.specs.Prelude.{ℕ, suc, List}
+use Rattle.dl_exact.specs.Count.{count_below}
+use Rattle.dl_iv.specs.declared.interval.Iv.{Iv}
+use Rattle.dl_alloc.specs.Weighted.{low_weighted, high_weighted}
+
+-- by the low ends
+abbrev pub low_sums : {B : ℕ} → List (Iv B) → List (Iv B) → ℕ → ℕ
+low_sums unit others q = count_below (suc q) (low_weighted unit others)
+
+-- by the high ends
+abbrev pub high_sums : {B : ℕ} → List (Iv B) → List (Iv B) → ℕ → ℕ
+high_sums unit others q = count_below (suc q) (high_weighted unit others)
