@@ -52,14 +52,17 @@ fn finite<const B: u32>(alloc: Global) -> Result<bool, AllocError>
 fn unbounded<const B: u32>(alloc: Global) -> Result<bool, AllocError>
     requires { IsPlanScale B }
 {
-    let eight = is_none::<B>(alloc, &Freq::Poisson(fraction(8, 1)), 335_462, 2221)?;
-    let few = is_none::<B>(alloc, &Freq::Poisson(fraction(1, 16)), 939_413_062, 136)?;
+    let eight = fraction(8, 1);
+    let part = fraction(1, 16);
+    let whole = fraction(1, 1);
+    let many = is_none::<B>(alloc, &Freq::Poisson(eight), 335_462, 2221)?;
+    let few = is_none::<B>(alloc, &Freq::Poisson(part), 939_413_062, 136)?;
     let count = Freq::Gamma {
         shape: 2,
-        mean: fraction(1, 1),
+        mean: whole,
     };
     let gamma = is_none::<B>(alloc, &count, 444_444_444, 19)?;
-    Ok(eight & few & gamma)
+    Ok(many & few & gamma)
 }
 
 #[test]
