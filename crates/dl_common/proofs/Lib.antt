@@ -1,0 +1,8 @@
+mod Common
+pub mod Units
+pub mod Tilted
+pub mod Claims
+pub mod Alone
+pub mod Named
+pub mod JointValues
+pub mod Mixtures
