@@ -5,4 +5,5 @@ pub mod Claims
 pub mod Alone
 pub mod Named
 pub mod JointValues
+pub mod JointEnds
 pub mod Mixtures
