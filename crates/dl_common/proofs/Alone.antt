@@ -1,13 +1,12 @@
 -- The plan of the one unit is valid: its amounts are those of the units, and its thinned mean is the sum of theirs.
-use Rattle.dl_common.proofs.Common.{ℕ, zero, suc, ◌≡◌, ◌∙◌, ◌+◌, ◌*◌, ◌<◌, ◌≤◌, List, [], ◌∷◌, length, map, take, get_or, inl, inr, refl, ap, ap₂, sym, subst, arith, All, All-head, All-tail, All-cons, All-nil, take_all, cases_lt, sum_by-cons, Fraction, whole, ◌over◌, ◌+ℚ◌, ◌-ℚ◌, ◌*ℚ◌, ◌/ℚ◌, ◌≤ℚ◌, ◌<ℚ◌, sum_over, sum_over_map, sum_over_same, sum_over_times, ring, le_refl, le_trans, le_of_eq, zero_le, div_times, times_cancel, times_comm, times_assoc, times_one, one_times, times_zero, times_plus, plus_comm, plus_assoc, plus_zero, plus_cancel, plus_le_both, sub_plus, times_le_both, times_le_times, whole_pos, over_zero, severity_total, Item, Sev, Freq, Fixed, Table, Bernoulli, Binomial, Poisson, Gamma, UnitOfPlan, Plan, HasPartsOf48Bits, greatest, weight_at, weight_sum, probability_of, expected_count, IsUnbounded, IsValid, IsValidUnit, thinned_mean, HasCommonFactor, SharesFactor, expected_of, thinned_of, raised, PoissonUnit, expected_claims, pooled_severity, AreSeverities, poisson_unit, poisson_units, IsGammaOf, IsPooled, IsRaised, alone}
+use Rattle.dl_common.proofs.Common.{ℕ, zero, suc, ◌≡◌, ◌∙◌, ◌<◌, ◌≤◌, List, [], ◌∷◌, length, take, get_or, inl, inr, refl, ap, ap₂, sym, subst, arith, All, All-head, All-tail, All-cons, All-nil, take_all, cases_lt, sum_by-cons, Fraction, whole, ◌over◌, ◌+ℚ◌, ◌-ℚ◌, ◌*ℚ◌, ◌/ℚ◌, ◌≤ℚ◌, ◌<ℚ◌, sum_over, sum_over_map, sum_over_same, sum_over_times, ring, le_refl, le_trans, div_times, times_cancel, times_comm, times_assoc, times_one, times_zero, times_plus, plus_zero, plus_cancel, sub_plus, times_le_both, whole_pos, over_zero, severity_total, Item, Sev, UnitOfPlan, Plan, HasPartsOf48Bits, greatest, weight_at, probability_of, expected_count, IsUnbounded, IsValid, IsValidUnit, thinned_mean, SharesFactor, expected_of, thinned_of, raised, PoissonUnit, expected_claims, pooled_severity, AreSeverities, poisson_unit, poisson_units, IsGammaOf, IsPooled, IsRaised, alone}
 use Rattle.std.proofs.Common.{◌==◌, cond}
 use Rattle.std.specs.Prelude.{IfSome}
 use mathlib.Core.Path.{fun_ext}
-use Rattle.std.proofs.Math.Nat.{zero-lt-suc}
 use Rattle.std.proofs.lemmas.Bool.{eq-eqb, ne_eqb}
 use Rattle.std.proofs.lemmas.List.Sums.{get_or-le-sum_by}
 use Rattle.dl_limits.specs.Limits.{most_amount_at, most_expected, most_shape}
-use Rattle.dl_exact.proofs.Laws.{le_div, times_le_cancel, whole_suc}
+use Rattle.dl_exact.proofs.Laws.{le_div}
 use Rattle.dl_exact.proofs.RoundingLaws.{whole_le}
 use Rattle.dl_exact.proofs.Denominators.{same_num}
 use Rattle.dl_exact.proofs.Over.{over_le}

@@ -1,8 +1,8 @@
 -- The mean of one positive claim of a unit with a cell of a grid, and that times an expected number: how wide it is.
-use Rattle.dl_common.proofs.Common.{ℕ, ◌≡◌, ◌∙◌, ◌+◌, ◌-◌, ◌*◌, ◌/◌, ◌<◌, ◌≤◌, ◌^◌, List, length, ap, sym, subst, arith, Fraction, whole, ◌over◌, ◌-ℚ◌, Sev, weight_at, weight_sum, probability_of, severity_total}
+use Rattle.dl_common.proofs.Common.{ℕ, ◌≡◌, ◌∙◌, ◌+◌, ◌-◌, ◌*◌, ◌/◌, ◌<◌, ◌≤◌, ◌^◌, List, length, sym, subst, arith, Fraction, whole, ◌over◌, ◌-ℚ◌, Sev, weight_at, weight_sum, probability_of, severity_total}
 use Rattle.std.proofs.Common.{min}
 use Rattle.std.specs.Int.{div_ceil}
-use Rattle.std.proofs.Math.Nat.{mul-le-mul, mul-le-mul_left, mul-le-mul_right, lt-div-mul-add}
+use Rattle.std.proofs.Math.Nat.{mul-le-mul_left, mul-le-mul_right, lt-div-mul-add}
 use Rattle.dl_exact.specs.Gcd.{gcd}
 use Rattle.dl_exact.proofs.GcdLaws.{gcd_is}
 use Rattle.dl_exact.proofs.Multiples.{part_divides}

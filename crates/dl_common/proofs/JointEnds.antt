@@ -1,9 +1,9 @@
 -- The ends of the joint mean as they are computed: what they hold, how large they are, and how far apart they lie.
-use Rattle.dl_common.proofs.Common.{ℕ, zero, suc, ◌≡◌, ◌∙◌, ◌+◌, ◌-◌, ◌*◌, ◌/◌, ◌<◌, ◌≤◌, ◌^◌, List, length, get_or, inl, inr, ap, ap₂, sym, subst, arith, cases_lt, Fraction, whole, ◌over◌, ◌-ℚ◌, ◌*ℚ◌, ◌≤ℚ◌, le_refl, zero_le, over_zero, times_zero, severity_total, Freq, Fixed, Table, Bernoulli, Binomial, Poisson, Gamma, UnitOfPlan, Plan, HasPartsOf48Bits, weight_at, weight_sum, probability_of, expected_count, IsUnbounded, IsPoisson, IsValidUnit, thinned_mean, SharesFactor, common_sums, poisson_units, IsRaised}
+use Rattle.dl_common.proofs.Common.{ℕ, zero, suc, ◌≡◌, ◌∙◌, ◌+◌, ◌-◌, ◌*◌, ◌/◌, ◌<◌, ◌≤◌, ◌^◌, List, length, get_or, inl, inr, ap, sym, subst, arith, cases_lt, Fraction, whole, ◌over◌, ◌*ℚ◌, ◌≤ℚ◌, zero_le, over_zero, times_zero, severity_total, Freq, Fixed, Table, Bernoulli, Binomial, Poisson, Gamma, UnitOfPlan, Plan, weight_at, expected_count, IsUnbounded, IsPoisson, thinned_mean, SharesFactor, common_sums, poisson_units, IsRaised}
 use Rattle.std.proofs.Common.{min}
 use Rattle.std.specs.Int.{div_ceil}
 use Rattle.std.proofs.lemmas.Nat.{pow_pos}
-use Rattle.std.proofs.Math.Nat.{mul-le-mul, mul-le-mul_left, le_trans}
+use Rattle.std.proofs.Math.Nat.{mul-le-mul, mul-le-mul_left}
 use Rattle.dl_exact.proofs.Denominators.{over_le_over}
 use Rattle.dl_exact.proofs.Parts.{whole_num}
 use Rattle.dl_exact.proofs.RoundingLaws.{div_ceil_least}

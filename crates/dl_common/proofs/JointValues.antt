@@ -1,11 +1,10 @@
 -- What the sum over the amounts of one claim holds, where a grid encloses the raised unit.
-use Rattle.dl_common.proofs.Common.{ℕ, zero, suc, ◌≡◌, ◌∙◌, ◌+◌, ◌-◌, ◌*◌, ◌/◌, ◌<◌, ◌≤◌, ◌^◌, List, [], ◌∷◌, length, get_or, true, false, inl, inr, refl, ap, ap₂, sym, subst, arith, mul-pos, cases_lt, Fraction, whole, ◌over◌, ◌+ℚ◌, ◌-ℚ◌, ◌*ℚ◌, ◌/ℚ◌, ◌≤ℚ◌, ◌<ℚ◌, sum_pairs, sum_to, le_refl, le_trans, le_of_eq, zero_le, times_le_both, times_comm, times_assoc, times_zero, times_one, zero_times, one_pos, over_mul, over_same, over_self, over_le, over_times, over_zero, severity_total, Sev, UnitOfPlan, Plan, Gamma, greatest, weight_at, weight_sum, probability_of, expected_count, thinned_mean, HasCommonFactor, SharesFactor, expected_of, raised, PoissonUnit, expected_claims, pooled_severity, common_sums, AreSeverities, IsUnit, poisson_unit, poisson_units, IsRaised}
-use Rattle.std.proofs.Common.{Bool, min}
+use Rattle.dl_common.proofs.Common.{ℕ, zero, suc, ◌≡◌, ◌∙◌, ◌*◌, ◌/◌, ◌<◌, ◌≤◌, ◌^◌, List, [], ◌∷◌, length, get_or, true, false, inl, inr, refl, ap, ap₂, sym, subst, arith, mul-pos, cases_lt, Fraction, whole, ◌over◌, ◌*ℚ◌, ◌≤ℚ◌, ◌<ℚ◌, sum_pairs, le_refl, le_trans, le_of_eq, zero_le, times_le_both, times_comm, times_assoc, times_zero, times_one, one_pos, over_mul, over_same, over_self, over_le, over_times, over_zero, severity_total, Sev, UnitOfPlan, greatest, weight_at, probability_of, expected_count, HasCommonFactor, raised, PoissonUnit, expected_claims, pooled_severity, common_sums, IsUnit, poisson_unit, poisson_units, IsRaised}
+use Rattle.std.proofs.Common.{Bool}
 use Rattle.std.specs.Int.{div_ceil}
 use Rattle.std.proofs.lemmas.Nat.{pow_pos}
 use Rattle.std.proofs.Math.Nat.{mul-le-mul_right}
 use mathlib.Core.Path.{fun_ext}
-use Rattle.dl_exact.specs.Count.{count_pairs}
 use Rattle.dl_exact.proofs.Laws.{times_left_comm}
 use Rattle.dl_exact.proofs.Over.{over_lt}
 use Rattle.dl_exact.proofs.Sums.{sum_pairs_same}
@@ -14,17 +13,14 @@ use Rattle.dl_iv.specs.declared.interval.Iv.{Iv}
 use Rattle.dl_iv.proofs.Rounding.{round_down, round_up}
 use Rattle.dl_iv.proofs.Operations.{scale_low, scale_high}
 use Rattle.dl_grid.specs.Cells.{low_at, high_at}
-use Rattle.dl_plan.proofs.Means.{positive_share}
 use Rattle.dl_model.specs.Series.{Series, Rises, AtMost, AtLeast, Holds}
-use Rattle.dl_model.specs.Compound.{cell}
 use Rattle.dl_model.specs.Counts.{gamma_of}
-use Rattle.dl_model.specs.Family.{Family, compound, GridEncloses}
+use Rattle.dl_model.specs.Family.{compound, GridEncloses}
 use Rattle.dl_model.specs.Plans.{count_weights, compound_of}
 use Rattle.dl_model.specs.Program.{Loss, One, Point, Joint, score, where_true, partial_sums}
 use Rattle.dl_model.specs.Units.{loss}
 use Rattle.dl_model.specs.CommonFactor.{pooled_unit}
 use Rattle.dl_model.proofs.Alike.{not_both}
-use Rattle.dl_model.proofs.Declared.{at_least_wider, at_most_wider}
 use Rattle.dl_model.proofs.ItemWeights.{shares_severity}
 use Rattle.dl_model.proofs.Outcomes.{outcomes_le, outcomes_rise}
 use Rattle.dl_model.proofs.Bounded.{are_units}
@@ -184,8 +180,11 @@ module _ (units : List UnitOfPlan) (q : ℕ) (factor : HasCommonFactor (suc q) u
     | inl above ↦
         let bound = common_bounded q us some (are_severities units) M past One (λ ys. refl) tt in
         let positive = common_positive q us some (are_severities units) M past in
-        let rises : Rises all = subst Rises (sym one_is) (outcomes_rise one_loss (are_units one_loss (one_declared q us some
-        (are_severities units) M past, tt)) (score One)) in
+        let rises : Rises all = subst Rises (sym one_is) (outcomes_rise one_loss (are_units one_loss (
+          one_declared q us some
+              (are_severities units) M past,
+          tt,
+        )) (score One)) in
         absurd (not_both all rises bound.0 positive.0 bound.1 positive.1
         (common_sums (suc q) us (Joint i x)) (l over S) low (
           (x * h) over S,

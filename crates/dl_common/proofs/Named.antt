@@ -1,5 +1,5 @@
 -- What the one unit has by its parts: the shape and the mean of its count, and the first unit's name.
-use Rattle.dl_common.proofs.Common.{ℕ, suc, ◌≡◌, ◌∙◌, ◌+◌, ◌*◌, ◌<◌, ◌≤◌, List, length, get_or, Option, Some, None, refl, ap, ap₂, sym, subst, arith, mul-pos, Fraction, whole, ◌over◌, ◌*ℚ◌, ◌/ℚ◌, over_self, over_mul, over_same, one_pos, FitsFrac, admitted_fits, HasPartsOf48Bits, Freq, Fixed, Table, Bernoulli, Binomial, Poisson, Gamma, UnitOfPlan, Plan, expected_count, SharesFactor, raised, expected_of}
+use Rattle.dl_common.proofs.Common.{ℕ, suc, ◌≡◌, ◌∙◌, ◌+◌, ◌*◌, ◌<◌, List, length, get_or, Option, Some, None, ap, ap₂, sym, arith, mul-pos, Fraction, whole, ◌over◌, ◌*ℚ◌, ◌/ℚ◌, over_self, over_mul, over_same, one_pos, FitsFrac, admitted_fits, Freq, Fixed, Table, Bernoulli, Binomial, Poisson, Gamma, UnitOfPlan, Plan, expected_count, SharesFactor, raised, expected_of}
 use Rattle.std.proofs.lemmas.List.{get_or_default}
 use Rattle.dl_exact.proofs.Over.{over_div}
 

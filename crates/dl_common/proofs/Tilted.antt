@@ -1,16 +1,12 @@
 -- Sums over the amounts of one claim: as sums over the pairs that add up to the total, how large they are, and how far
 -- apart two of them lie.
-use Rattle.dl_common.proofs.Common.{ℕ, zero, suc, ◌≡◌, ◌∙◌, ◌+◌, ◌-◌, ◌*◌, ◌/◌, ◌<◌, ◌≤◌, ◌^◌, ◌==◌, List, [], ◌∷◌, length, take, get_or, true, false, cond, inl, inr, refl, ap, ap₂, sym, subst, arith, mul-le-mul, sum_by, sum_by-cons, sum_by_more, cases_lt, Item, weight_at, weight_sum}
-use Rattle.std.proofs.Common.{Bool, ◌≢◌, nat_le, eq-eqb, ne_eqb}
-use Rattle.std.specs.Int.{div_ceil}
-use Rattle.std.proofs.Math.Nat.{mul-le-mul_left, mul-le-mul_right, le_trans, le-max_left, lt-div-mul-add}
+use Rattle.dl_common.proofs.Common.{ℕ, zero, suc, ◌≡◌, ◌∙◌, ◌+◌, ◌-◌, ◌*◌, ◌<◌, ◌≤◌, ◌^◌, ◌==◌, List, [], ◌∷◌, length, take, get_or, true, false, cond, inl, inr, refl, ap, ap₂, sym, arith, mul-le-mul, sum_by-cons, sum_by_more, Item, weight_at, weight_sum}
+use Rattle.std.proofs.Common.{◌≢◌, nat_le, eq-eqb, ne_eqb}
+use Rattle.std.proofs.Math.Nat.{mul-le-mul_left, mul-le-mul_right}
 use Rattle.std.proofs.lemmas.Bool.Decides.{leb_tells}
-use Rattle.std.proofs.lemmas.Grind.{div_ceil_times}
 use Rattle.std.proofs.lemmas.List.Sums.{sum_by-take-le}
 use Rattle.dl_exact.specs.Count.{count_pairs, count_below}
 use Rattle.dl_exact.proofs.Counts.{pairs_none, pairs_only, pairs_past, pairs_same, pairs_plus, pairs_le, below_pairs, below_le, below_times}
-use Rattle.dl_exact.proofs.RoundingLaws.{div_ceil_least}
-use Rattle.dl_iv.proofs.Rounding.{ceiling_reaches}
 use Rattle.dl_common.specs.Amounts.{amounts_to}
 
 -- ---- one item more
@@ -58,12 +54,12 @@ module _ (x : ℕ) (at : ℕ → ℕ) (items : List Item) (i : ℕ) (d : Item) (
       → sum + (get_or items i d).amount * (get_or items i d).weight * v ≡ amounts_to x at (take (i + 1) items)
   amounts_more sum v so_far near value = elim (leb_tells (get_or items i d).amount x) [
     | inl within ↦ omega (
-        arith,
-        so_far,
-        one_more,
-        part_there within.0,
-        ap (λ (t : ℕ). (get_or items i d).amount * (get_or items i d).weight * t) value,
-      )
+      arith,
+      so_far,
+      one_more,
+      part_there within.0,
+      ap (λ (t : ℕ). (get_or items i d).amount * (get_or items i d).weight * t) value,
+    )
     | inr beyond ↦ absurd (omega (arith, near, beyond.1))
   ]
 
@@ -165,8 +161,11 @@ pairs_bound : (x W : ℕ) (items : List Item) (g : ℕ → ℕ) → weight_sum i
 pairs_bound x W items g all =
     let each : count_below (suc x) (λ i. i * weight_at items i * g (x - i)) ≤ count_below (suc x)
     (λ i. g (x - i) * (x * W)) =
-    below_le (suc x) _ _ (λ i b. omega (arith, mul-le-mul_right (g (x - i))
-    (weighted_le x W items all i (omega (arith, b))))) in
+    below_le (suc x) _ _ (λ i b. omega (
+      arith,
+      mul-le-mul_right (g (x - i))
+          (weighted_le x W items all i (omega (arith, b))),
+    )) in
     omega (
       arith,
       each,

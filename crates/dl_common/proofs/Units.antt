@@ -1,7 +1,6 @@
 -- The expected numbers of claims of units, one unit after another, and the part of all claims that each has.
-use Rattle.dl_common.proofs.Common.{ℕ, ◌≡◌, ◌∙◌, refl, ◌+◌, ◌*◌, ◌<◌, ◌≤◌, ◌^◌, List, [], ◌∷◌, ◌++◌, length, map, take, get_or, ap, ap₂, sym, subst, arith, All, All-head, All-tail, take_more, map_more, Fraction, whole, ◌over◌, ◌+ℚ◌, ◌*ℚ◌, ◌/ℚ◌, ◌≤ℚ◌, ◌<ℚ◌, sum_over, le_refl, le_trans, le_of_eq, zero, suc, zero_le, plus_zero, plus_comm, plus_le_both, div_times, times_le_both, times_cancel, one_times, times_comm, sum_over_append, sum_over_same, sum_over_times, sum_over_map, FitsFrac, admitted_fits, Freq, Fixed, Table, Bernoulli, Binomial, Poisson, Gamma, UnitOfPlan, HasPartsOf48Bits, IsFineTo30Bits, common_denominator, expected_count, IsClaimCount, IsPoisson, CanShare, expected_of, unit_share}
-use Rattle.std.proofs.Math.Nat.{le_trans as le_trans_n}
-use Rattle.dl_exact.proofs.Laws.{le_plus, div_le_both, times_le_cancel}
+use Rattle.dl_common.proofs.Common.{ℕ, ◌≡◌, ◌∙◌, refl, ◌+◌, ◌<◌, ◌≤◌, List, [], ◌∷◌, ◌++◌, length, map, take, get_or, ap, ap₂, sym, subst, arith, take_more, map_more, Fraction, whole, ◌+ℚ◌, ◌*ℚ◌, ◌/ℚ◌, ◌≤ℚ◌, ◌<ℚ◌, sum_over, le_trans, zero, suc, plus_zero, plus_comm, div_times, times_cancel, one_times, times_comm, sum_over_append, sum_over_same, sum_over_times, sum_over_map, FitsFrac, Freq, Fixed, Table, Bernoulli, Binomial, Poisson, Gamma, UnitOfPlan, IsFineTo30Bits, common_denominator, expected_count, IsClaimCount, IsPoisson, expected_of, unit_share}
+use Rattle.dl_exact.proofs.Laws.{le_plus, times_le_cancel}
 use Rattle.dl_exact.proofs.Over.{le_over, over_self}
 use Rattle.dl_plan.proofs.CommonDenominators.{common_pos, den_divides}
 use Rattle.std.proofs.lemmas.Nat.Gcd.{le_of_dvd}
@@ -42,8 +41,11 @@ share_le_one v n some within = times_le_cancel (n /ℚ v) (whole 1) v some
     (subst (λ t. t ≤ℚ whole 1 *ℚ v) (sym (div_times n v some)) (subst (λ t. n ≤ℚ t) (sym (one_times v)) within))
 
 num_le_den : (x : Fraction) → x ≤ℚ whole 1 → x.num ≤ x.den
-num_le_den x h = omega (arith, le_over x.num x.den 1 1 x.positive (omega arith)
-    (subst (λ y. y ≤ℚ whole 1) (sym (over_self x)) h))
+num_le_den x h = omega (
+  arith,
+  le_over x.num x.den 1 1 x.positive (omega arith)
+      (subst (λ y. y ≤ℚ whole 1) (sym (over_self x)) h),
+)
 
 -- a fine fraction of at most 1 fits
 pub fine_fits : (xs : List Fraction) (i : ℕ) (x : Fraction) → i < length xs → get_or xs i x ≡ x

@@ -1,11 +1,11 @@
 -- The sums stay small, and an amount above x adds nothing.
-use Rattle.dl_common.proofs.Common.{ℕ, ◌+◌, ◌≤◌, ◌^◌, length, arith}
+use Rattle.dl_common.proofs.Common.{◌^◌, arith}
 use Rattle.std.proofs.Math.Nat.{le_trans}
 use Rattle.dl_grid.specs.Cells.{low_at, high_at}
 use Rattle.dl_grid.proofs.CellLaws.{size_of, high_fits}
 use Rattle.dl_grid.proofs.EndLists.{low_le_high}
 use Rattle.dl_grid.proofs.Room.{size_few}
-use Rattle.dl_common.proofs.Tilted.{amounts_more, amounts_skip, amounts_fit}
+use Rattle.dl_common.proofs.Tilted.{amounts_fit}
 use Rattle.dl_common.proofs.joint.amounts_to.Goals as goal
 
 pub overflow_add-low : goal.overflow_add-low

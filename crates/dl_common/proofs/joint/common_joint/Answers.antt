@@ -1,9 +1,9 @@
 -- The ends hold the declared joint mean.
-use Rattle.dl_common.proofs.Common.{ℕ, ◌≡◌, ◌∙◌, ◌+◌, ◌-◌, ◌*◌, ◌/◌, ◌<◌, ◌≤◌, ◌^◌, length, get_or, ap, ap₂, sym, arith, Fraction}
+use Rattle.dl_common.proofs.Common.{◌∙◌, ◌*◌, ◌/◌, ◌<◌, ◌^◌, ap, ap₂, sym, arith, Fraction}
 use Rattle.std.proofs.Common.{min}
 use Rattle.std.specs.Int.{div_ceil}
 use Rattle.dl_grid.proofs.CellLaws.{scale_of}
-use Rattle.dl_common.proofs.JointEnds.{poisson_unbounded, some_positive, scaled_fits, low_end, high_end, ends_width, ends_hold, none_hold, low_within}
+use Rattle.dl_common.proofs.JointEnds.{poisson_unbounded, some_positive, scaled_fits, ends_width, ends_hold, none_hold, low_within}
 use Rattle.dl_common.proofs.joint.common_joint.Goals as goal
 
 pub point-requires : goal.point-requires

@@ -1,5 +1,5 @@
 -- The positive weight is above 0, and the quotients by it are ends of an interval.
-use Rattle.dl_common.proofs.Common.{ℕ, ◌≡◌, ◌∙◌, ◌+◌, ◌-◌, ◌/◌, ◌<◌, ap, ap₂, sym, subst, arith, weight_at, weight_sum}
+use Rattle.dl_common.proofs.Common.{ℕ, ◌∙◌, ◌-◌, ◌/◌, ◌<◌, ap, ap₂, arith, weight_at}
 use Rattle.std.specs.Int.{div_ceil}
 use Rattle.dl_grid.specs.Cells.{low_at, high_at}
 use Rattle.dl_grid.proofs.CellLaws.{scale_of}

@@ -1,5 +1,5 @@
 -- The one unit is that of the definition, so its plan is valid and declares the same.
-use Rattle.dl_common.proofs.Common.{ℕ, ◌≡◌, ◌∙◌, ap, ap₂, sym, subst, refl, arith, Gamma, IsPooled, expected_of, pooled_severity, poisson_units}
+use Rattle.dl_common.proofs.Common.{◌∙◌, ap, ap₂, refl, Gamma, expected_of, pooled_severity, poisson_units}
 use Rattle.dl_common.proofs.Alone.{pooled_valid, same_declared}
 use Rattle.dl_common.proofs.Named.{shape_is, first_name}
 use Rattle.dl_common.proofs.pooling.pool.Goals as goal

@@ -1,5 +1,5 @@
 -- The raised mean is admitted, and the unit has it with one more in its shape.
-use Rattle.dl_common.proofs.Common.{ℕ, ◌≡◌, ◌∙◌, ◌+◌, ◌over◌, ap, ap₂, sym, subst, refl, arith, FitsFrac, given_ok, given_value, Gamma, weight_at, IsRaised}
+use Rattle.dl_common.proofs.Common.{◌∙◌, ◌over◌, ap₂, sym, subst, refl, arith, FitsFrac, given_ok, given_value, Gamma, weight_at}
 use Rattle.dl_common.proofs.Alone.{raised_valid}
 use Rattle.dl_common.proofs.Named.{gamma_shape, gamma_mean, raised_parts, raised_fits}
 use Rattle.dl_common.proofs.raising.raised.Goals as goal

@@ -1,5 +1,5 @@
 -- The sum stays admitted, and so is not refused.
-use Rattle.dl_common.proofs.Common.{ℕ, ◌≡◌, ◌∙◌, ◌+◌, take, sym, subst, arith, FitsFrac, given_ok, given_value, admitted_fits, expected_of}
+use Rattle.dl_common.proofs.Common.{◌∙◌, ◌+◌, sym, subst, arith, FitsFrac, given_ok, given_value, admitted_fits}
 use Rattle.dl_common.proofs.Units.{sum_none, sum_step}
 use Rattle.dl_common.proofs.shares.expected.Goals as goal
 

@@ -1,5 +1,5 @@
 -- A part of all claims is at most 1 and fine, and so is not refused.
-use Rattle.dl_common.proofs.Common.{◌∙◌, ◌+◌, ◌++◌, ◌∷◌, [], map, take, ap, sym, subst, FitsFrac, ◌/ℚ◌, given_ok, given_value, unit_share}
+use Rattle.dl_common.proofs.Common.{◌∙◌, ap, sym, subst, FitsFrac, ◌/ℚ◌, given_ok, given_value}
 use Rattle.dl_common.proofs.Units.{share_fits, shares_step}
 use Rattle.dl_common.proofs.shares.shares.Goals as goal
 
