@@ -8,6 +8,7 @@ pub mod Program
 pub mod Counts
 pub mod Divided
 pub mod CommonFactor
+pub mod CommonUnits
 pub mod ChangedZero
 pub mod Recursion
 pub mod Measures

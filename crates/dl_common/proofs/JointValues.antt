@@ -1,0 +1,194 @@
+-- What the sum over the amounts of one claim holds, where a grid encloses the raised unit.
+use Rattle.dl_common.proofs.Common.{ℕ, zero, suc, ◌≡◌, ◌∙◌, ◌*◌, ◌/◌, ◌<◌, ◌≤◌, ◌^◌, List, [], ◌∷◌, length, get_or, true, false, inl, inr, refl, ap, ap₂, sym, subst, arith, mul-pos, cases_lt, Fraction, whole, ◌over◌, ◌*ℚ◌, ◌≤ℚ◌, ◌<ℚ◌, sum_pairs, le_refl, le_trans, le_of_eq, zero_le, times_le_both, times_comm, times_assoc, times_zero, times_one, one_pos, over_mul, over_same, over_self, over_le, over_times, over_zero, severity_total, Sev, UnitOfPlan, greatest, weight_at, probability_of, expected_count, HasCommonFactor, raised, PoissonUnit, expected_claims, pooled_severity, common_sums, IsUnit, poisson_unit, poisson_units, IsRaised}
+use Rattle.std.proofs.Common.{Bool}
+use Rattle.std.specs.Int.{div_ceil}
+use Rattle.std.proofs.lemmas.Nat.{pow_pos}
+use Rattle.std.proofs.Math.Nat.{mul-le-mul_right}
+use mathlib.Core.Path.{fun_ext}
+use Rattle.dl_exact.proofs.Laws.{times_left_comm}
+use Rattle.dl_exact.proofs.Over.{over_lt}
+use Rattle.dl_exact.proofs.Sums.{sum_pairs_same}
+use Rattle.dl_exact.proofs.SumsOver.{sum_pairs_over}
+use Rattle.dl_iv.specs.declared.interval.Iv.{Iv}
+use Rattle.dl_iv.proofs.Rounding.{round_down, round_up}
+use Rattle.dl_iv.proofs.Operations.{scale_low, scale_high}
+use Rattle.dl_grid.specs.Cells.{low_at, high_at}
+use Rattle.dl_model.specs.Series.{Series, Rises, AtMost, AtLeast, Holds}
+use Rattle.dl_model.specs.Counts.{gamma_of}
+use Rattle.dl_model.specs.Family.{compound, GridEncloses}
+use Rattle.dl_model.specs.Plans.{count_weights, compound_of}
+use Rattle.dl_model.specs.Program.{Loss, One, Point, Joint, score, where_true, partial_sums}
+use Rattle.dl_model.specs.Units.{loss}
+use Rattle.dl_model.specs.CommonFactor.{pooled_unit}
+use Rattle.dl_model.proofs.Alike.{not_both}
+use Rattle.dl_model.proofs.ItemWeights.{shares_severity}
+use Rattle.dl_model.proofs.Outcomes.{outcomes_le, outcomes_rise}
+use Rattle.dl_model.proofs.Bounded.{are_units}
+use Rattle.dl_model.proofs.Pooled.{total_point}
+use Rattle.dl_model.proofs.PooledLoss.{as_one_loss, one_declared, common_bounded, common_positive}
+use Rattle.dl_model.proofs.SharedValues.{joint_raised, joint_within}
+use Rattle.dl_common.specs.Amounts.{amounts_to}
+use Rattle.dl_common.proofs.Tilted.{amounts_pairs}
+use Rattle.dl_common.proofs.Alone.{expected_units, are_severities}
+
+is_unit : (units : List UnitOfPlan) (i : ℕ) (u : UnitOfPlan) → i < length units → get_or units i u ≡ u
+    → IsUnit (poisson_units units) i (poisson_unit u)
+is_unit [] i u h e = absurd (omega (arith, h))
+is_unit (w ∷ ws) zero u h e = ap poisson_unit e
+is_unit (w ∷ ws) (suc i) u h e = is_unit ws i u (omega (arith, h)) e
+
+-- ---- the sum over the amounts, in units of the scale
+
+term : (a w T e S : ℕ) → 0 < T → 0 < S → whole a *ℚ w over T *ℚ e over S ≡ (a * w * e) over (T * S)
+term a w T e S t s = ap (λ y. y *ℚ e over S) (over_times a w T t) ∙ over_mul (a * w) T e S t s
+
+pub amounts_over : (x S : ℕ) (sev : Sev) (ends : ℕ → ℕ) → 0 < S
+    → sum_pairs x (λ a k. whole a *ℚ probability_of sev a *ℚ ends k over S)
+    ≡ amounts_to x ends sev.items over (sev.total * S)
+amounts_over x S sev ends s =
+    let t : 0 < sev.total = severity_total sev in
+    sum_pairs_same x _ _ (λ a k e. term a (weight_at sev.items a) sev.total (ends k) S t s)
+    ∙ sum_pairs_over x (sev.total * S) (λ a k. a * weight_at sev.items a * ends k) (mul-pos t s)
+    ∙ ap (λ n. n over (sev.total * S)) (sym (amounts_pairs x ends sev.items))
+
+-- the same by the expected claims above 0: n * (A / T) is n * (W / T) * (A / W)
+by_positive : (A W T S : ℕ) (n : Fraction) → 0 < W → 0 < T → 0 < S
+    → A over (W * S) *ℚ (n *ℚ W over T) ≡ n *ℚ A over (T * S)
+by_positive A W T S n w t s =
+    times_left_comm (A over (W * S)) n (W over T)
+    ∙ ap (λ y. n *ℚ y) (over_mul A (W * S) W T (mul-pos w s) t
+    ∙ over_same _ _ _ _ (mul-pos (mul-pos w s) t) (mul-pos t s) (turn A W T S))
+  where
+    turn : (A W T S : ℕ) → A * W * (T * S) ≡ A * (W * S * T)
+    turn A W T S = omega arith
+
+module _ (A W T S : ℕ) (n h : Fraction) (w : 0 < W) (t : 0 < T) (s : 0 < S) (is : h ≡ n *ℚ W over T) where
+  scaled_is : A over (W * S) *ℚ h.num over h.den ≡ n *ℚ A over (T * S)
+  scaled_is = ap (λ y. A over (W * S) *ℚ y) (over_self h ∙ is) ∙ by_positive A W T S n w t s
+
+  pub end_below : (A / W * h.num / h.den) over S ≤ℚ n *ℚ A over (T * S)
+  end_below = subst (λ y. (A / W * h.num / h.den) over S ≤ℚ y) scaled_is
+      (scale_low S s (A / W) h.num h.den (A over (W * S)) h.positive
+      (round_down A W S (A over (W * S)) w s (le_refl _)))
+
+  pub end_above : n *ℚ A over (T * S) ≤ℚ div_ceil (div_ceil A W * h.num) h.den over S
+  end_above = subst (λ y. y ≤ℚ div_ceil (div_ceil A W * h.num) h.den over S) scaled_is
+      (scale_high S s (div_ceil A W) h.num h.den (A over (W * S)) h.positive
+      (round_up A W S (A over (W * S)) w s (le_refl _)))
+
+-- where no claim above 0 is expected there is none
+pub end_none : (A W T S x : ℕ) (n h : Fraction) → 0 < T → 0 < S → A ≤ x * S * W → h ≡ n *ℚ W over T → h.num ≡ 0
+    → n *ℚ A over (T * S) ≤ℚ 0 over S
+end_none A W T S x n h t s top is none =
+    let nothing : h ≡ whole 0 = sym (over_self h) ∙ ap (λ m. m over h.den) none ∙ over_zero h.den h.positive in
+    let most : A over (T * S) ≤ℚ whole x *ℚ W over T =
+    subst (λ y. A over (T * S) ≤ℚ y) (sym (over_times x W T t))
+    (over_le A (T * S) (x * W) T (mul-pos t s) t (turn A W T S x top)) in
+    le_trans _ _ _ (times_le_both n n _ _ (le_refl n) most)
+    (le_of_eq _ _ (times_left_comm n (whole x) (W over T) ∙ ap (λ y. whole x *ℚ y) (sym is ∙ nothing)
+    ∙ times_zero (whole x) ∙ sym (over_zero S s)))
+  where
+    turn : (A W T S x : ℕ) → A ≤ x * S * W → A * T ≤ x * W * (T * S)
+    turn A W T S x p = omega (arith, mul-le-mul_right T p)
+
+-- ---- what is declared
+
+where_le : (b : Bool) → where_true b (whole 1) ≤ℚ whole 1
+where_le true = le_refl (whole 1)
+where_le false = zero_le (whole 1)
+
+module _ (units : List UnitOfPlan) (q : ℕ) (factor : HasCommonFactor (suc q) units) (made : UnitOfPlan)
+    (is : IsRaised (suc q) units made) where
+  abbrev us : List PoissonUnit
+  us = poisson_units units
+
+  some : whole 0 <ℚ expected_claims us
+  some = subst (λ t. whole 0 <ℚ t) (sym (expected_units units)) factor.some
+
+  abbrev M : ℕ
+  M = greatest made.sev.items
+
+  past : (a : ℕ) → M < a → pooled_severity us a ≡ whole 0
+  past a far = sym (is.severity a) ∙ (shares_severity made.sev.items made.sev.total made.sev.weighted).past a far
+
+  raised_family : compound_of made.freq made.sev
+      ≡ compound (gamma_of (suc (suc q)) (raised (suc q) (expected_claims us))) (pooled_severity us)
+  raised_family = ap₂ compound
+      (ap count_weights is.count ∙ ap (λ v. gamma_of (suc (suc q)) (raised (suc q) v)) (sym (expected_units units)))
+      (fun_ext is.severity)
+
+  abbrev all : Series
+  all = common_sums (suc q) us One
+
+  abbrev one_loss : List Loss
+  one_loss = loss (pooled_unit (suc q) us M) ∷ []
+
+  one_is : all ≡ partial_sums one_loss One
+  one_is = fun_ext (as_one_loss q us some (are_severities units) M past One (λ ys. refl))
+
+  point_le : (x N : ℕ) → common_sums (suc q) us (Point x) N ≤ℚ all N
+  point_le x N = le_trans _ _ _
+      (le_of_eq _ _ (as_one_loss q us some (are_severities units) M past (Point x) (total_point x) N))
+      (le_trans _ _ _ (outcomes_le one_loss (score (Point x)) (score One) (λ ys. where_le _) N)
+      (le_of_eq _ _ (sym (as_one_loss q us some (are_severities units) M past One (λ ys. refl) N))))
+
+  -- no outcome is above the total
+  joint_below : (i x h S : ℕ) → 0 < S → AtMost (common_sums (suc q) us (Point x)) all (h over S)
+      → AtMost (common_sums (suc q) us (Joint i x)) all ((x * h) over S)
+  joint_below i x h S s at N u b =
+      le_trans _ _ _ (joint_within (suc q) us i x N)
+      (subst (λ t. whole x *ℚ common_sums (suc q) us (Point x) N ≤ℚ t)
+      (sym (times_assoc (whole x) (h over S) u) ∙ ap (λ t. t *ℚ u) (over_times x h S s))
+      (times_le_both _ _ _ _ (le_refl (whole x)) (at N u b)))
+
+  pub joint_most : (i x S : ℕ) → 0 < S → AtMost (common_sums (suc q) us (Joint i x)) all ((x * S) over S)
+  joint_most i x S s = joint_below i x S S s (λ N u b. subst (λ t. common_sums (suc q) us (Point x) N ≤ℚ t)
+      (sym (ap (λ t. t *ℚ u) (over_same S S 1 1 s one_pos (omega arith)) ∙ times_comm (whole 1) u ∙ times_one u))
+      (le_trans _ _ _ (point_le x N) (b N)))
+
+  module _ {B : ℕ} (grid : List (Iv B)) (encloses : GridEncloses grid (compound_of made.freq made.sev)) (i x : ℕ)
+      (u : UnitOfPlan) (there : i < length units) (here : get_or units i u ≡ u) (inside : x < length grid) where
+    abbrev S : ℕ
+    S = 2 ^ B
+
+    abbrev T : ℕ
+    T = u.sev.total
+
+    abbrev n : Fraction
+    n = expected_count u.freq
+
+    pub joint_exact : Holds (common_sums (suc q) us (Joint i x)) all
+        (n *ℚ amounts_to x (low_at grid) u.sev.items over (T * S))
+        (n *ℚ amounts_to x (high_at grid) u.sev.items over (T * S))
+    joint_exact =
+        let family = subst (λ F. GridEncloses grid F) raised_family encloses in
+        let s = pow_pos B in
+        let told = joint_raised q us some (are_severities units) M past i (poisson_unit u) (is_unit units i u there here) x
+        (λ k. low_at grid k over S) (λ k. high_at grid k over S) (λ k near. family k (omega (arith, near, inside))) in
+        subst (λ e. Holds (common_sums (suc q) us (Joint i x)) all e
+        (n *ℚ amounts_to x (high_at grid) u.sev.items over (T * S)))
+        (ap (λ y. n *ℚ y) (amounts_over x S u.sev (low_at grid) s))
+        (subst (λ e. Holds (common_sums (suc q) us (Joint i x)) all
+        (n *ℚ sum_pairs x (λ a k. whole a *ℚ probability_of u.sev a *ℚ low_at grid k over S)) e)
+        (ap (λ y. n *ℚ y) (amounts_over x S u.sev (high_at grid) s)) told)
+
+  -- a low end is at most x times a high end of the probability of the total
+  pub low_share : (i x l h S : ℕ) → 0 < S → AtLeast (common_sums (suc q) us (Joint i x)) all (l over S)
+      → AtMost (common_sums (suc q) us (Point x)) all (h over S) → l ≤ x * h
+  low_share i x l h S s low at = elim (cases_lt (x * h) l) [
+    | inr within ↦ within
+    | inl above ↦
+        let bound = common_bounded q us some (are_severities units) M past One (λ ys. refl) tt in
+        let positive = common_positive q us some (are_severities units) M past in
+        let rises : Rises all = subst Rises (sym one_is) (outcomes_rise one_loss (are_units one_loss (
+          one_declared q us some
+              (are_severities units) M past,
+          tt,
+        )) (score One)) in
+        absurd (not_both all rises bound.0 positive.0 bound.1 positive.1
+        (common_sums (suc q) us (Joint i x)) (l over S) low (
+          (x * h) over S,
+          over_lt (x * h) S l S s s (omega (arith, mul-le-mul_right S above, s)),
+          joint_below i x h S s at,
+        ))
+  ]

@@ -1,0 +1,9 @@
+mod Common
+pub mod Units
+pub mod Tilted
+pub mod Claims
+pub mod Alone
+pub mod Named
+pub mod JointValues
+pub mod JointEnds
+pub mod Mixtures

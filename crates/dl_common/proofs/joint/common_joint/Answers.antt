@@ -1,0 +1,76 @@
+-- The ends hold the declared joint mean.
+use Rattle.dl_common.proofs.Common.{◌∙◌, ◌*◌, ◌/◌, ◌<◌, ◌^◌, ap, ap₂, sym, arith, Fraction}
+use Rattle.std.proofs.Common.{min}
+use Rattle.std.specs.Int.{div_ceil}
+use Rattle.dl_grid.proofs.CellLaws.{scale_of}
+use Rattle.dl_common.proofs.JointEnds.{poisson_unbounded, some_positive, scaled_fits, ends_width, ends_hold, none_hold, low_within}
+use Rattle.dl_common.proofs.joint.common_joint.Goals as goal
+
+pub point-requires : goal.point-requires
+point-requires g c =
+    let scale = scale_of c.args.grid.now c.cells.ensures.grid.some in
+    (omega arith, (scale.0, (scale.1, omega arith)))
+
+pub returns-then-num-eq0-clause-holds : goal.returns-then-num-eq0-clause-holds
+returns-then-num-eq0-clause-holds g c plan r i raised shares there here is encloses =
+    none_hold c.args.grid.now plan i c.args.x c.point.result.lo c.point.result.hi raised c.args.unit.now
+    c.thinned-mean.result c.requires.inside c.thinned-mean.ensures r shares there here is encloses c.cells.ensures.grid
+    (sym c.num.ensures.part ∙ c.if-num-eq0.true) c.point.ensures.low c.point.ensures.high
+
+pub one_claim-requires : goal.one_claim-requires
+one_claim-requires g c = (
+  omega arith,
+  (
+    omega arith,
+    (
+      c.cells.ensures.grid,
+      (
+        c.requires.inside,
+        some_positive c.args.unit.now c.thinned-mean.result c.thinned-mean.ensures
+            (λ e. c.if-num-eq0.false (c.num.ensures.part ∙ e)),
+      ),
+    ),
+  ),
+)
+
+pub scale-requires : goal.scale-requires
+scale-requires g c =
+    let admitted = (c.requires.valid.1.thinned (poisson_unbounded c.args.unit.now.freq c.requires.poisson)).0 in
+    let below : c.num-2.result < 2 ^ 48 = omega (
+      arith,
+      c.num-2.ensures.part,
+      ap (λ (x : Fraction). x.num) c.thinned-mean.ensures,
+      admitted.num,
+    ) in
+    let fits = scaled_fits c.args.grid.now c.args.x c.one_claim.result.hi c.num-2.result c.den.result
+    c.cells.ensures.grid c.requires.inside c.one_claim.ensures.small below c.den.ensures.positive in
+    (omega arith, (c.den.ensures.positive, (fits.0, fits.1)))
+
+pub returns-clause-holds : goal.returns-clause-holds
+returns-clause-holds g c plan r i raised shares there here is encloses =
+    ends_hold c.args.grid.now plan i c.args.x c.clamp_to.result.lo c.clamp_to.result.hi raised c.args.unit.now
+    c.thinned-mean.result c.requires.inside c.thinned-mean.ensures r shares there here is encloses
+    (λ e. c.if-num-eq0.false (c.num.ensures.part ∙ e))
+    (c.clamp_to.ensures.low ∙ ap₂ min (c.scale.ensures.low ∙ ap₂ (λ a d. a / d)
+    (ap₂ (λ a n. a * n) c.one_claim.ensures.low c.num-2.ensures.part) c.den.ensures.part)
+    (ap (λ s. c.args.x * s) c.units_of_one.ensures))
+    (c.clamp_to.ensures.high ∙ ap₂ min (c.scale.ensures.high ∙ ap₂ div_ceil
+    (ap₂ (λ a n. a * n) c.one_claim.ensures.high c.num-2.ensures.part) c.den.ensures.part)
+    (ap (λ s. c.args.x * s) c.units_of_one.ensures))
+
+pub returns-clause-width : goal.returns-clause-width
+returns-clause-width g c D within =
+    ends_width c.args.grid.now c.args.x D c.clamp_to.result.lo c.clamp_to.result.hi c.args.unit.now
+    c.thinned-mean.result c.requires.inside c.thinned-mean.ensures (λ e. c.if-num-eq0.false (c.num.ensures.part ∙ e))
+    (c.clamp_to.ensures.low ∙ ap₂ min (c.scale.ensures.low ∙ ap₂ (λ a d. a / d)
+    (ap₂ (λ a n. a * n) c.one_claim.ensures.low c.num-2.ensures.part) c.den.ensures.part)
+    (ap (λ s. c.args.x * s) c.units_of_one.ensures))
+    (c.clamp_to.ensures.high ∙ ap₂ min (c.scale.ensures.high ∙ ap₂ div_ceil
+    (ap₂ (λ a n. a * n) c.one_claim.ensures.high c.num-2.ensures.part) c.den.ensures.part)
+    (ap (λ s. c.args.x * s) c.units_of_one.ensures))
+    within
+
+pub returns-clause-below : goal.returns-clause-below
+returns-clause-below g c plan r i h raised shares there here is encloses at =
+    low_within g.row.B plan r i c.args.x c.clamp_to.result.lo h raised shares is
+    (returns-clause-holds g c plan r i raised shares there here is encloses).0 at

@@ -1,0 +1,106 @@
+//! The joint mean of a unit under a common factor.
+
+ghost use Rattle.std.specs.Prelude.{ℕ, ◌≡◌, ◌+◌, ◌-◌, ◌*◌, ◌/◌, ◌^◌, ◌<◌, ◌≤◌, length, get_or};
+ghost use Rattle.std.specs.Int.{div_ceil};
+ghost use Rattle.dl_exact.specs.Fraction.{whole, ◌over◌, ◌<ℚ◌};
+ghost use Rattle.dl_limits.specs.Limits.{most_parts};
+ghost use Rattle.dl_grid.specs.Cells.{low_at, high_at, spread, IsGrid};
+ghost use Rattle.dl_grid.specs.Width.{up};
+ghost use Rattle.dl_plan.specs.declared.plan.Unit.{Unit as UnitOfPlan};
+ghost use Rattle.dl_plan.specs.declared.plan.Plan.{Plan};
+ghost use Rattle.dl_plan.specs.Weighted.{weight_sum, weight_at};
+ghost use Rattle.dl_plan.specs.Valid.{IsValidUnit, thinned_mean};
+ghost use Rattle.dl_plan.specs.Common.{IsPoisson, SharesFactor};
+ghost use Rattle.dl_model.specs.Series.{AtMost, Holds};
+ghost use Rattle.dl_model.specs.Program.{One, Point, Joint};
+ghost use Rattle.dl_model.specs.Family.{GridEncloses};
+ghost use Rattle.dl_model.specs.Plans.{compound_of};
+ghost use Rattle.dl_model.specs.CommonFactor.{common_sums};
+ghost use Rattle.dl_model.specs.CommonUnits.{poisson_units};
+ghost use Rattle.dl_common.specs.Pooled.{IsRaised};
+ghost use Rattle.dl_common.specs.Amounts.{amounts_to};
+
+use dl_grid::{Grid, units_of_one};
+use dl_iv::Iv;
+use dl_plan::{Item, Sev, Unit, numerator_over};
+
+/// The joint mean of one unit at `x`, in buckets, under a common factor: the mean of the unit's
+/// outcome where the total is `x`, and of 0 elsewhere. `grid` is that of the raised unit. It is the
+/// unit's expected number of claims above 0 times the sum, over the amounts of one claim from 1 to
+/// `x`, of the amount times its probability given that it is positive times what the raised unit has
+/// at the rest of `x`; no more than `x`. The unit is of the plan. Takes no memory.
+pub fn common_joint<const B: u32>(unit: &Unit, grid: &Grid<B>, x: u32) -> Iv<B>
+    requires valid { (cells : ℕ) × IsValidUnit cells unit.now }
+    requires poisson { IsPoisson unit.now.freq }
+    requires inside { x < length grid.now }
+    ensures holds { (plan : Plan) (r i : ℕ) (raised : UnitOfPlan) → SharesFactor plan r
+        → i < length plan.units → get_or plan.units i unit.now ≡ unit.now
+        → IsRaised r plan.units raised
+        → GridEncloses grid.now (compound_of raised.freq raised.sev)
+        → Holds (common_sums r (poisson_units plan.units) (Joint i x))
+        (common_sums r (poisson_units plan.units) One)
+        (result.lo over 2 ^ B) (result.hi over 2 ^ B) }
+    ensures width { (D : ℕ) → spread grid.now ≤ D
+        → result.hi - result.lo ≤ (length grid.now * D + 2) * up (thinned_mean unit.now) + 2 }
+    // the unit has at most x, so the mean is at most x times each high end h of the probability of
+    // x
+    ensures below { (plan : Plan) (r i h : ℕ) (raised : UnitOfPlan) → SharesFactor plan r
+        → i < length plan.units → get_or plan.units i unit.now ≡ unit.now
+        → IsRaised r plan.units raised
+        → GridEncloses grid.now (compound_of raised.freq raised.sev)
+        → AtMost (common_sums r (poisson_units plan.units) (Point x))
+        (common_sums r (poisson_units plan.units) One) (h over 2 ^ B)
+        → result.lo ≤ x * h }
+    ensures small { result.hi ≤ x * 2 ^ B }
+{
+    prove!(x < grid.cells());
+    let mean = unit.freq.thinned(&unit.sev);
+    if mean.num() == 0 {
+        return Iv::point(0);
+    }
+    one_claim(&unit.sev, grid, x)
+        .scale(mean.num(), mean.den())
+        .clamp_to(x as u128 * units_of_one(B))
+}
+
+/// The mean of one positive claim where it and what the grid is of come to `x`, and of 0 elsewhere,
+/// in buckets. The severity has a positive amount.
+fn one_claim<const B: u32>(sev: &Sev, grid: &Grid<B>, x: u32) -> Iv<B>
+    requires grid { IsGrid grid.now }
+    requires inside { x < length grid.now }
+    requires positive { weight_at sev.now.items 0 < sev.now.total }
+    ensures low { result.lo ≡ amounts_to x (low_at grid.now) sev.now.items
+        / (sev.now.total - weight_at sev.now.items 0) }
+    ensures high { result.hi ≡ div_ceil (amounts_to x (high_at grid.now) sev.now.items)
+        (sev.now.total - weight_at sev.now.items 0) }
+    ensures small { result.hi ≤ x * 2 ^ B }
+{
+    let (low, high) = amounts_to(sev.items.as_slice(), grid, x);
+    let positive = numerator_over(sev.share_above_zero(), sev.total as u64);
+    Iv {
+        lo: low / positive,
+        hi: high.div_ceil(positive),
+    }
+}
+
+/// The sums over the amounts up to `x`, each times its weight times the low end, and the high end,
+/// of the cell at the rest of `x`.
+fn amounts_to<const B: u32>(items: &[Item], grid: &Grid<B>, x: u32) -> (u128, u128)
+    requires grid { IsGrid grid.now }
+    requires inside { x < length grid.now }
+    requires within { weight_sum items.now ≤ most_parts }
+    ensures low { result.0 ≡ amounts_to x (low_at grid.now) items.now }
+    ensures high { result.1 ≡ amounts_to x (high_at grid.now) items.now }
+{
+    let mut low = 0;
+    let mut high = 0;
+    'items: for item in items {
+        if item.amount <= x {
+            let cell = grid.at(x - item.amount);
+            let parts = item.amount as u128 * item.weight as u128;
+            low += parts * cell.lo;
+            high += parts * cell.hi;
+        }
+    }
+    (low, high)
+}
