@@ -77,6 +77,7 @@ module _ (most : ℕ) (bs : Fraction) (u : ReadUnit) where
           count = u.count;
           layer = losses.part.layer;
           sev = losses.part.sev;
+          zero = u.zero;
           occ = clauses.part.occ;
           agr = clauses.part.agr;
         };
@@ -89,6 +90,7 @@ module _ (most : ℕ) (bs : Fraction) (u : ReadUnit) where
         count = u.count;
         layer = l.layer;
         sev = l.sev;
+        zero = u.zero;
         occ = k.occ;
         agr = k.agr;
       })
@@ -203,6 +205,7 @@ module _ (most : ℕ) (bs : Fraction) (u : ReadUnit) (le : most ≤ most_amount)
       weights = read.sev.weights;
       several = λ h. read.sev.several (omega (arith, length-map u.sev.atoms (grid_atom bs), h));
     };
+    zero = read.zero;
     occ = clause_there u.occ read.occ (clauses_pass off unit_off).0 (clauses_pass (far most) unit_far).0;
     agr = clause_there u.agr read.agr (clauses_pass off unit_off).1 (clauses_pass (far most) unit_far).1;
     one = each_one bs u one;

@@ -81,6 +81,7 @@ grid_of bs u = record {
   count = u.count;
   layer = if_there (grid_layer bs) u.layer;
   sev = grid_severity bs u.sev;
+  zero = u.zero;
   occ = if_there (grid_clause bs) u.occ;
   agr = if_there (grid_clause bs) u.agr;
 }

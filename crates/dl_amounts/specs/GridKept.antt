@@ -4,7 +4,7 @@
 use Rattle.std.specs.Prelude.{ℕ, ◌≡◌, ◌<◌, ◌≤◌, length, All, IfSome, IsSome, None, false}
 use Rattle.dl_limits.specs.Limits.{most_amount, most_atoms, most_layers, most_values}
 use Rattle.dl_read.specs.Lists.{is_not_one}
-use Rattle.dl_read.specs.Kept.{IsListRead, IsCountRead}
+use Rattle.dl_read.specs.Kept.{IsSmall, IsListRead, IsCountRead}
 use Rattle.dl_amounts.specs.declared.grid.GridAtom.{GridAtom}
 use Rattle.dl_amounts.specs.declared.grid.GridSev.{GridSev}
 use Rattle.dl_amounts.specs.declared.grid.GridLayer.{GridLayer}
@@ -43,6 +43,7 @@ pub record IsGridUnit (u : GridUnit) : Type 0 where
   pub paired : count_lengths u.count ≡ None
   pub layer : IfSome u.layer (IsLayerWithin most_amount)
   pub sev : IsGridSev u.sev
+  pub zero : IfSome u.zero IsSmall
   pub occ : IfSome u.occ IsGridClause
   pub agr : IfSome u.agr IsGridClause
   pub one : All (λ l. is_not_one l.values ≡ false) (prob_lists u)

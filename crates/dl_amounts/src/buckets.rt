@@ -62,6 +62,7 @@ fn grid_parts(
             count: unit.count,
             layer: losses.part.layer,
             sev: losses.part.sev,
+            zero: unit.zero,
             occ: clauses.part.occ,
             agr: clauses.part.agr,
         },

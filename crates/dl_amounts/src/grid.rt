@@ -98,6 +98,8 @@ pub struct GridUnit {
     pub layer: Option<GridLayer>,
     /// The severity of one claim.
     pub sev: GridSev,
+    /// The probability of no claim that a count is given, 0 for `zt`; none where it keeps its own.
+    pub zero: Option<Frac>,
     /// The reinsurance of each claim.
     pub occ: Option<GridClause>,
     /// The reinsurance of the unit's sum.

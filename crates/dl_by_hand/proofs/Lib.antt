@@ -1,3 +1,5 @@
 mod PointLaws
 mod CountLaws
 mod SomeClaimLaws
+mod ScoreLaws
+mod SharedClaimLaws

@@ -5,7 +5,7 @@ use Rattle.std.proofs.Math.Nat.{mul-le-mul_right, mul-le-mul_left}
 use Rattle.std.proofs.lemmas.Bool.{ne_eqb}
 use Rattle.dl_exact.specs.Fraction.{Fraction, ◌over◌, ◌+ℚ◌, ◌-ℚ◌, ◌*ℚ◌, ◌≤ℚ◌, whole}
 use Rattle.dl_exact.specs.Sum.{sum_to}
-use Rattle.dl_exact.proofs.Over.{over_same, over_mul, over_add, le_over}
+use Rattle.dl_exact.proofs.Over.{over_same, over_mul, le_over}
 use Rattle.dl_exact.proofs.Laws.{one_pos, le_trans, le_plus, plus_zero, zero_times}
 use Rattle.dl_exact.proofs.Denominators.{over_plus, over_minus, over_zero, over_one}
 use Rattle.dl_model.specs.Compound.{power, cell}

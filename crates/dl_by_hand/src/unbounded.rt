@@ -21,7 +21,7 @@ pub fn law_no_amount()
 {}
 
 /// A number to a power.
-fn power_of(base: u128, exponent: u32) -> u128
+pub(crate) fn power_of(base: u128, exponent: u32) -> u128
     requires fits { base ^ exponent < 2 ^ 128 }
     ensures { result ≡ base ^ exponent }
 {

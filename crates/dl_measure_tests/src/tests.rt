@@ -4,3 +4,4 @@ mod cede_means;
 mod helpers;
 mod measures;
 mod port;
+mod zero;

@@ -22,13 +22,15 @@ use Rattle.dl_ast.specs.declared.ast.FreqAst.{FreqAst}
 use Rattle.dl_ast.specs.declared.ast.FreqAst.TheVariants.{Fixed, Poisson, Geometric, Bernoulli, Binomial, Gamma}
 use Rattle.dl_ast.specs.declared.ast.CountAst.{CountAst}
 use Rattle.dl_ast.specs.declared.ast.CountAst.TheVariants.{Exposed, Listed}
+use Rattle.dl_ast.specs.declared.ast.ZeroAst.{ZeroAst}
+use Rattle.dl_ast.specs.declared.ast.ZeroAst.TheVariants.{Plain, Truncated, Modified}
 use Rattle.dl_ast.specs.declared.ast.UnitAst.{UnitAst}
 use Rattle.dl_ast.specs.WellFormed.{IsFormedList, IsFormedMixture, IsFormedCession, IsFormedCount, IsFormedUnit}
 use Rattle.dl_read.specs.declared.numbers.PairNumbers.{PairNumbers}
 use Rattle.dl_read.specs.declared.numbers.UnitNumbers.{UnitNumbers}
 use Rattle.dl_read.specs.declared.tree.ReadUnit.{ReadUnit}
-use Rattle.dl_read.specs.BadNumerals.{bad_in_list, bad_in_mixture, bad_in_limit, bad_in_clause, bad_in_exposure, bad_in_count, bad_in_freq, bad_in_distribution}
-use Rattle.dl_read.specs.Numbers.{if_there, list_numbers, severity_numbers, limit_number, layer_numbers, share_number, clause_numbers, exposure_numbers, freq_number, count_numbers, distribution_number, is_named, numbers_of}
+use Rattle.dl_read.specs.BadNumerals.{bad_in_list, bad_in_mixture, bad_in_limit, bad_in_clause, bad_in_exposure, bad_in_count, bad_in_freq, bad_in_zero, bad_in_distribution}
+use Rattle.dl_read.specs.Numbers.{if_there, list_numbers, severity_numbers, limit_number, layer_numbers, share_number, clause_numbers, exposure_numbers, freq_number, count_numbers, distribution_number, zero_number, given_zero, is_named, numbers_of}
 use Rattle.dl_read.specs.Rules.{bad_numeral, bad_range, list_too_long, range_in_pair, long_count, long_severity, long_clause, long_numbers}
 use Rattle.dl_read.specs.Kept.{IsListRead, IsAtomRead, IsSevRead, IsLayerRead, IsShareRead, IsCededRead, IsClauseRead, IsExposureRead, IsFreqRead, IsCountRead, IsRead}
 use Rattle.dl_read.specs.Ranged.{IsPairRanged, IsSevRanged, IsCountRanged, IsRanged}
@@ -207,6 +209,18 @@ count_read (Listed values probs span) good then ranged short =
     let pair = pair_read (pair_numbers values probs) ranged short in
     (pair.values, pair.probs)
 
+zero_is : (z : ZeroAst) → bad_in_zero z ≡ None → IfSome (zero_number z) IsSmall
+zero_is Plain good = tt
+zero_is (Truncated span) good = record {
+  num = omega (arith, whole_num 0);
+  den = omega (arith, whole_den 0);
+}
+zero_is (Modified n span) good = number_is n good
+
+given_is : (k : CountAst) → bad_in_distribution k ≡ None → IfSome (given_zero k) IsSmall
+given_is (Exposed exposure freq zero) good = zero_is zero (else_second (bad_in_freq freq) _ good)
+given_is (Listed values probs span) good = tt
+
 limit_is : (limit : LimitAst) → bad_in_limit limit ≡ None → IfSome (limit_number limit) IsSmall
 limit_is (Finite n) good = number_is n good
 limit_is Infinite good = tt
@@ -313,6 +327,7 @@ module _ (u : UnitAst) (m : MixAst) (formed : IsFormedUnit u) (mixed : IsFormedM
       count = count_read u.count front.0 back.1 ranged.0 lengths.0;
       layer = own_layer_is u.layer front.1;
       sev = sev_read m u.sev.bang mixed ranged.1 lengths.1;
+      zero = given_is u.count back.1;
       occ = own_clause_is u.occ formed.occ back.0 lengths.2;
       agr = own_clause_is u.agr formed.agr back.2 lengths.3;
     }

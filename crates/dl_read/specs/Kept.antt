@@ -81,5 +81,6 @@ pub record IsRead (u : ReadUnit) : Type 0 where
   pub count : IsCountRead u.count
   pub layer : IfSome u.layer IsLayerRead
   pub sev : IsSevRead u.sev
+  pub zero : IfSome u.zero IsSmall
   pub occ : IfSome u.occ IsClauseRead
   pub agr : IfSome u.agr IsClauseRead

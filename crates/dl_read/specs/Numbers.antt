@@ -21,6 +21,8 @@ use Rattle.dl_ast.specs.declared.ast.FreqAst.{FreqAst}
 use Rattle.dl_ast.specs.declared.ast.FreqAst.TheVariants as freqs
 use Rattle.dl_ast.specs.declared.ast.CountAst.{CountAst}
 use Rattle.dl_ast.specs.declared.ast.CountAst.TheVariants as counts
+use Rattle.dl_ast.specs.declared.ast.ZeroAst.{ZeroAst}
+use Rattle.dl_ast.specs.declared.ast.ZeroAst.TheVariants.{Plain, Truncated, Modified}
 use Rattle.dl_ast.specs.declared.ast.UnitAst.{UnitAst}
 use Rattle.dl_read.specs.declared.tree.ReadLayer.{ReadLayer}
 use Rattle.dl_read.specs.declared.tree.ReadShare.{ReadShare}
@@ -128,11 +130,22 @@ abbrev pub distribution_number : CountAst → ReadFreq
 distribution_number (counts.Exposed exposure freq zero) = freq_number freq
 distribution_number (counts.Listed values probs span) = Fixed span
 
+-- the probability of no claim that a count is given: 0 for `zt`, and the number of `zm`
+abbrev pub zero_number : ZeroAst → Option Fraction
+zero_number Plain = None
+zero_number (Truncated _) = Some (whole 0)
+zero_number (Modified n _) = Some (value n)
+
+abbrev pub given_zero : CountAst → Option Fraction
+given_zero (counts.Exposed exposure freq zero) = zero_number zero
+given_zero (counts.Listed values probs span) = None
+
 -- what stands behind the severity
 abbrev pub term_numbers : UnitAst → TermNumbers
 term_numbers u = record {
   occ = if_there clause_numbers u.occ;
   freq = distribution_number u.count;
+  zero = given_zero u.count;
   agr = if_there clause_numbers u.agr;
 }
 
@@ -152,6 +165,7 @@ numbers_of u m = record {
   named = is_named u.sev.body;
   count = count_numbers u.count;
   freq = distribution_number u.count;
+  zero = given_zero u.count;
   layer = if_there layer_numbers u.layer;
   sev = severity_numbers m u.sev.bang;
   occ = if_there clause_numbers u.occ;

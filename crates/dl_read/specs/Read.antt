@@ -68,6 +68,7 @@ read_numbers u = record {
   count = read_count u.count u.freq;
   layer = u.layer;
   sev = read_severity u.sev;
+  zero = u.zero;
   occ = u.occ;
   agr = u.agr;
 }

@@ -1,6 +1,7 @@
 //! The numbers of a unit, before its lists are expanded.
 
 use crate::tree::{ReadClause, ReadExposure, ReadFreq, ReadLayer};
+use dl_frac::Frac;
 use dl_lexer::Span;
 use dl_plan::Items;
 use dl_sev::Range;
@@ -63,6 +64,8 @@ pub(crate) struct TermNumbers {
     pub(crate) occ: Option<ReadClause>,
     /// The distribution of an exposed count.
     pub(crate) freq: ReadFreq,
+    /// The probability of no claim that a count is given; none where it keeps its own.
+    pub(crate) zero: Option<Frac>,
     /// The reinsurance of the unit's sum.
     pub(crate) agr: Option<ReadClause>,
 }
@@ -87,6 +90,8 @@ pub(crate) struct UnitNumbers {
     pub(crate) count: CountNumbers,
     /// The distribution of an exposed count.
     pub(crate) freq: ReadFreq,
+    /// The probability of no claim that a count is given; none where it keeps its own.
+    pub(crate) zero: Option<Frac>,
     /// The layer of each claim, where there is one.
     pub(crate) layer: Option<ReadLayer>,
     /// The severity of one claim.

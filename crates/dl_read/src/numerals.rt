@@ -7,7 +7,7 @@ ghost use Rattle.dl_lexer.specs.Numerals.{IsNumeralToken};
 ghost use Rattle.dl_ast.specs.WellFormed.{IsFormedItem, IsFormedList, IsFormedAtom, IsFormedMixture, IsFormedLimit, IsFormedLayer, IsFormedShare, IsFormedCeded, IsFormedCession, IsFormedExposure, IsFormedFrequency, IsFormedZero, IsFormedCount, IsFormedUnit};
 ghost use Rattle.dl_read.specs.First.{◌else◌, earlier, within, first_in};
 ghost use Rattle.dl_read.specs.BadNumerals.{value, bad_place, bad_in_item, bad_in_list, bad_in_pair, bad_in_mixture, bad_in_limit, bad_in_layer, bad_in_share, bad_in_ceded, bad_in_clause, bad_in_exposure, bad_in_count, bad_in_freq, bad_in_zero, bad_in_distribution};
-ghost use Rattle.dl_read.specs.Numbers.{if_there, value_or, item_numbers, list_numbers, pair_numbers, severity_numbers, limit_number, layer_numbers, share_number, ceded_numbers, clause_numbers, exposure_numbers, freq_number, count_numbers, distribution_number, term_numbers, own_numbers, is_named, numbers_of};
+ghost use Rattle.dl_read.specs.Numbers.{if_there, value_or, item_numbers, list_numbers, pair_numbers, severity_numbers, limit_number, layer_numbers, share_number, ceded_numbers, clause_numbers, exposure_numbers, freq_number, count_numbers, distribution_number, zero_number, given_zero, term_numbers, own_numbers, is_named, numbers_of};
 ghost use Rattle.dl_read.specs.Rules.{bad_numeral};
 ghost use Rattle.dl_read.specs.Read.{Reads};
 
@@ -42,6 +42,7 @@ pub(crate) fn unit_numbers(alloc: Global, unit: &UnitAst, mix: &MixAst) -> Resul
         named: is_named(&unit.sev.body),
         count: own.count,
         freq: terms.freq,
+        zero: terms.zero,
         layer: own.layer,
         sev,
         occ: terms.occ,
@@ -94,9 +95,15 @@ fn term_numbers(alloc: Global, unit: &UnitAst) -> Result<TermNumbers, Stop>
         else bad_in_distribution unit.now.count else within bad_in_clause unit.now.agr) result }
 {
     let occ = own_clause_numbers(alloc, &unit.occ)?;
-    let (occ, freq) = both(occ, distribution_number(&unit.count))?;
+    let (occ, given) = both(occ, distribution_number(&unit.count))?;
     let (occ, agr) = both(occ, own_clause_numbers(alloc, &unit.agr))?;
-    Ok(TermNumbers { occ, freq, agr })
+    let (freq, zero) = given;
+    Ok(TermNumbers {
+        occ,
+        freq,
+        zero,
+        agr,
+    })
 }
 
 /// The numbers of a claim count that stand before the severity.
@@ -114,32 +121,32 @@ fn count_numbers(alloc: Global, count: &CountAst) -> Result<CountNumbers, Stop>
     }
 }
 
-/// The distribution of a claim count; listed counts have none, and any stands for it.
-fn distribution_number(count: &CountAst) -> Result<ReadFreq, Stop>
+/// The distribution of a claim count, and the probability of no claim that it is given. Listed
+/// counts have no distribution, and any stands for it.
+fn distribution_number(count: &CountAst) -> Result<(ReadFreq, Option<Frac>), Stop>
     requires { IsFormedCount count.now }
-    ensures { Reads (distribution_number count.now) (bad_in_distribution count.now) result }
+    ensures { Reads (distribution_number count.now, given_zero count.now)
+        (bad_in_distribution count.now) result }
 {
     match count {
         CountAst::Exposed { freq, zero, .. } => {
             let freq = freq_number(freq)?;
-            good_zero(zero)?;
-            Ok(freq)
+            let zero = zero_number(zero)?;
+            Ok((freq, zero))
         }
-        CountAst::Listed { span, .. } => Ok(ReadFreq::Fixed(*span)),
+        CountAst::Listed { span, .. } => Ok((ReadFreq::Fixed(*span), None)),
     }
 }
 
-/// Stops at the numeral of a changed probability of no claim, where it is bad.
-fn good_zero(zero: &ZeroAst) -> Result<(), Stop>
+/// The probability of no claim that a count is given; none where it keeps its own.
+fn zero_number(zero: &ZeroAst) -> Result<Option<Frac>, Stop>
     requires { IsFormedZero zero.now }
-    ensures { Reads tt (bad_in_zero zero.now) result }
+    ensures { Reads (zero_number zero.now) (bad_in_zero zero.now) result }
 {
     match zero {
-        ZeroAst::Plain | ZeroAst::Truncated(_) => Ok(()),
-        ZeroAst::Modified(numeral, _) => {
-            number(numeral)?;
-            Ok(())
-        }
+        ZeroAst::Plain => Ok(None),
+        ZeroAst::Truncated(_) => Ok(Some(Frac::whole(0))),
+        ZeroAst::Modified(numeral, _) => Ok(Some(number(numeral)?)),
     }
 }
 

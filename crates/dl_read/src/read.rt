@@ -75,6 +75,7 @@ fn with_lists(unit: UnitNumbers, lists: ReadLists) -> ReadUnit
         count: lists.count,
         layer: unit.layer,
         sev: lists.sev,
+        zero: unit.zero,
         occ: unit.occ,
         agr: unit.agr,
     }

@@ -153,6 +153,8 @@ pub struct ReadUnit {
     pub layer: Option<ReadLayer>,
     /// The severity of one claim.
     pub sev: ReadSev,
+    /// The probability of no claim that a count is given, 0 for `zt`; none where it keeps its own.
+    pub zero: Option<Frac>,
     /// The reinsurance of each claim.
     pub occ: Option<ReadClause>,
     /// The reinsurance of the unit's sum.

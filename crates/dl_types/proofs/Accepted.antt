@@ -1,5 +1,5 @@
 -- A program that breaks no rule has a plan.
-use Rattle.dl_types.proofs.Common.{ℕ, zero, suc, ◌≡◌, ◌∙◌, ◌<◌, ◌≤◌, List, [], ◌∷◌, ◌++◌, length, take, get_or, None, refl, sym, ap, subst, arith, Ok, All, All-nil, most_units, Plan, Settings, IsValidUnit, UnitAst, Program, IsWellFormed, in_turn, expected_claims, cells_asked, fault_of_lists, fault_on_grid, first_fault_of, first_fault, AnswersUnit, AnswersUnits, aggregate_clause, GridUnit, IsGridUnit, too_many_units, IsSet, else_first, else_second, agr_layered, most_amount_at}
+use Rattle.dl_types.proofs.Common.{ℕ, zero, suc, ◌≡◌, ◌∙◌, ◌<◌, ◌≤◌, List, [], ◌∷◌, ◌++◌, length, take, get_or, None, refl, sym, ap, subst, arith, Ok, All, All-nil, most_units, Plan, Settings, IsValidUnit, UnitAst, Program, IsWellFormed, in_turn, expected_claims, cells_asked, fault_of_lists, fault_on_grid, first_fault_of, first_fault, AnswersUnit, AnswersUnits, aggregate_clause, GridUnit, IsGridUnit, too_many_units, breaks, IsSet, else_first, else_second, agr_layered, most_amount_at}
 use Rattle.dl_limits.specs.Limits.{most_amount}
 use Rattle.dl_limits.proofs.Scales.{amount_fits}
 use Rattle.dl_amounts.specs.GridKept.{IsWithin}
@@ -13,9 +13,11 @@ unfoldable use Rattle.dl_types.specs.Faults.{fault_with}
 use Rattle.dl_types.specs.Answer.{AnswersWith}
 use Rattle.dl_types.specs.Severities.{mixture_of}
 use Rattle.dl_ast.specs.declared.ast.MixAst.{MixAst}
+use Rattle.dl_ast.specs.declared.ast.PortHead.{PortHead}
 use Rattle.dl_ast.specs.declared.ast.SevDef.{SevDef}
 use Rattle.std.proofs.Common.{Option, Some, IfSome}
 use Rattle.dl_types.specs.Plans.{IsPlanOf}
+use Rattle.dl_types.specs.Rules.{common_unit}
 use Rattle.dl_amounts.specs.Grid.{grid_of}
 use Rattle.dl_amounts.specs.Rules.{lengths_differ, not_one}
 use Rattle.dl_read.specs.declared.tree.ReadUnit.{ReadUnit}
@@ -104,21 +106,24 @@ module _ (settings : Settings) (before : List UnitAst) (u : UnitAst) (m : MixAst
       (record { means = sev.1; near = sev.2; few = sev.3 }) freq.1 clause in
       (made, (none, answer.1, answer.2))
 
-unit_with : (settings : Settings) (sevs : List SevDef) (before : List UnitAst) (u : UnitAst) (o : Option MixAst)
-    → mixture_of sevs u.sev.body ≡ o → IsFormedUnit u → IfSome o IsFormedMixture
-    → fault_of_mixture settings before u o ≡ None → (made : UnitOfPlan) × AnswersUnit settings sevs before u (Ok made)
-unit_with settings sevs before u None e formed mixed none = absurd cc
-unit_with settings sevs before u (Some m) e formed mixed none =
+unit_with : (settings : Settings) (port : Option PortHead) (sevs : List SevDef) (before : List UnitAst) (u : UnitAst)
+    (o : Option MixAst) → mixture_of sevs u.sev.body ≡ o → IsFormedUnit u → IfSome o IsFormedMixture
+    → fault_of_mixture settings before u o ≡ None → breaks (length before) rules.CommonUnit (common_unit port u) ≡ None
+    → (made : UnitOfPlan) × AnswersUnit settings port sevs before u (Ok made)
+unit_with settings port sevs before u None e formed mixed none shared = absurd cc
+unit_with settings port sevs before u (Some m) e formed mixed none shared =
     let made = there_with settings before u m formed mixed none in
-    (made.0, answer_with settings sevs before u m (Ok made.0) e made.1)
+    (made.0, answer_with settings port sevs before u m made.0 (Ok made.0) e made.1 shared refl)
 
-unit_there : (settings : Settings) (sevs : List SevDef) (before : List UnitAst) (u : UnitAst)
-    → All IsFormedDefinition sevs → IsFormedUnit u → first_fault_of settings sevs before u ≡ None
-    → (made : UnitOfPlan) × AnswersUnit settings sevs before u (Ok made)
+unit_there : (settings : Settings) (port : Option PortHead) (sevs : List SevDef) (before : List UnitAst) (u : UnitAst)
+    → All IsFormedDefinition sevs → IsFormedUnit u → first_fault_of settings port sevs before u ≡ None
+    → (made : UnitOfPlan) × AnswersUnit settings port sevs before u (Ok made)
 unfolding first_fault_of
-unit_there settings sevs before u defined formed none =
-    unit_with settings sevs before u (mixture_of sevs u.sev.body) refl formed
-    (formed_mixture sevs u.sev.body defined formed.sev) none
+unit_there settings port sevs before u defined formed none =
+    let o = mixture_of sevs u.sev.body in
+    unit_with settings port sevs before u o refl formed (formed_mixture sevs u.sev.body defined formed.sev)
+    (else_first (fault_of_mixture settings before u o) _ none)
+    (else_second (fault_of_mixture settings before u o) _ none)
 
 -- ---- the units in turn
 
@@ -127,14 +132,14 @@ element [] i h = absurd (omega (arith, h))
 element (x ∷ xs) zero h = (x, refl)
 element (x ∷ xs) (suc i) h = element xs i (omega (arith, h))
 
-module _ (settings : Settings) (sevs : List SevDef) (units : List UnitAst) (defined : All IsFormedDefinition sevs)
+module _ (settings : Settings) (port : Option PortHead) (sevs : List SevDef) (units : List UnitAst) (defined : All IsFormedDefinition sevs)
     (formed : All IsFormedUnit units)
-    (none : in_turn (first_fault_of settings sevs) [] units ≡ None) where
-  up_to : (i : ℕ) → i ≤ length units → (made : List UnitOfPlan) × Planned settings sevs units i made
+    (none : in_turn (first_fault_of settings port sevs) [] units ≡ None) where
+  up_to : (i : ℕ) → i ≤ length units → (made : List UnitOfPlan) × Planned settings port sevs units i made
   up_to zero h = (
     [],
     record {
-      turned = turn_start (first_fault_of settings sevs) units;
+      turned = turn_start (first_fault_of settings port sevs) units;
       meant = tt;
       valid = All-nil (IsValidUnit (cells_asked settings));
       apart = λ i j d p q. absurd (omega (arith, q));
@@ -144,18 +149,18 @@ module _ (settings : Settings) (sevs : List SevDef) (units : List UnitAst) (defi
       let lt : i < length units = omega (arith, h) in
       let before = up_to i (omega (arith, h)) in
       let x = element units i lt in
-      let keeps = ap (first_fault_of settings sevs (take i units)) x.1
-      ∙ turn_none (first_fault_of settings sevs) [] units none i x.0 lt in
-      let made = unit_there settings sevs (take i units) x.0 defined (subst IsFormedUnit (sym x.1) (formed i x.0 lt)) keeps in (
+      let keeps = ap (first_fault_of settings port sevs (take i units)) x.1
+      ∙ turn_none (first_fault_of settings port sevs) [] units none i x.0 lt in
+      let made = unit_there settings port sevs (take i units) x.0 defined (subst IsFormedUnit (sym x.1) (formed i x.0 lt)) keeps in (
         before.0 ++ made.0 ∷ [],
-        subst (λ n. Planned settings sevs units n (before.0 ++ made.0 ∷ [])) (add-one i)
-            (planned_more settings sevs units i x.0 before.0 made.0 before.1 lt x.1 made.1),
+        subst (λ n. Planned settings port sevs units n (before.0 ++ made.0 ∷ [])) (add-one i)
+            (planned_more settings port sevs units i x.0 before.0 made.0 before.1 lt x.1 made.1),
       )
 
-  pub units_there : (made : List UnitOfPlan) × AnswersUnits settings sevs units (Ok made)
+  pub units_there : (made : List UnitOfPlan) × AnswersUnits settings port sevs units (Ok made)
   units_there =
       let all = up_to (length units) (omega arith) in
-      (all.0, planned_all settings sevs units (length units) all.0 all.1 (omega arith))
+      (all.0, planned_all settings port sevs units (length units) all.0 all.1 (omega arith))
 
 -- ---- the program
 
@@ -167,9 +172,9 @@ accepted program settings formed set none =
     let many = both most_units rules.TooManyUnits (too_many_units program.units) _ none in
     let names = else_first (in_turn fault_of_severity [] program.sevs) _ many.1 in
     let later = else_second (in_turn fault_of_severity [] program.sevs) _ many.1 in
-    let each = else_first (in_turn (first_fault_of settings program.sevs) [] program.units) _ later in
-    let yet = else_second (in_turn (first_fault_of settings program.sevs) [] program.units) _ later in
-    let units = units_there settings program.sevs program.units formed.sevs formed.units each in
+    let each = else_first (in_turn (first_fault_of settings program.port program.sevs) [] program.units) _ later in
+    let yet = else_second (in_turn (first_fault_of settings program.port program.sevs) [] program.units) _ later in
+    let units = units_there settings program.port program.sevs program.units formed.sevs formed.units each in
     let plan : Plan = record { bs = settings.bs; cells = cells_asked settings; units = units.0; common = None } in
     let answer = plan_of_units program settings plan refl refl refl set formed
     (few_units program.units many.0) many.0 names units.1 yet in

@@ -13,24 +13,26 @@ use Rattle.dl_amounts.proofs.Turns.{turn_found, NoneTurned, turn_passed, turn_en
 use Rattle.std.proofs.lemmas.List.Elements.{All-append}
 use Rattle.dl_plan.specs.declared.plan.Unit.{Unit as UnitOfPlan}
 use Rattle.dl_types.specs.declared.rule.Rule.TheVariants as rules
-use Rattle.dl_types.specs.Plans.{IsUnitOf}
-use Rattle.dl_types.specs.Rules.{seventeenth}
-unfoldable use Rattle.dl_types.specs.Faults.{fault_with, not_yet}
+use Rattle.dl_types.specs.Plans.{IsUnitWith, IsUnitOf}
+use Rattle.dl_types.specs.Rules.{seventeenth, common_unit}
+unfoldable use Rattle.dl_types.specs.Faults.{fault_with, fault_of_port}
 use Rattle.dl_types.specs.Faults.{fault_of_mixture, fault_of_severity}
-use Rattle.dl_types.specs.Answer.{StopsAt, AnswersWith}
+use Rattle.dl_types.specs.Answer.{StopsAt, TellsFault, AnswersWith}
 unfoldable use Rattle.dl_types.specs.Severities.{named, mixture_of}
 use Rattle.dl_types.specs.Severities.{body_span}
 use Rattle.dl_types.specs.declared.fault.TypeFault.{TypeFault}
 use Rattle.dl_ast.specs.declared.ast.MixAst.{MixAst}
 use Rattle.dl_ast.specs.declared.ast.SevBody.{SevBody}
 use Rattle.dl_ast.specs.declared.ast.SevBody.TheVariants.{Mixture, Ref}
+use Rattle.dl_ast.specs.declared.ast.PortHead.{PortHead}
 use Rattle.dl_ast.specs.declared.ast.SevDef.{SevDef}
 use Rattle.dl_ast.specs.WellFormed.{IsFormedMixture, IsFormedBody, IsFormedDefinition}
-use Rattle.std.specs.Prelude.{Result}
+use Rattle.std.specs.Prelude.{Result, IfOk}
+use Rattle.std.specs.Result.{IsErr, IsErrAnd}
 
 -- the first i units break no rule, and have these units in the plan
-pub record Planned (settings : Settings) (sevs : List SevDef) (units : List UnitAst) (i : ℕ) (made : List UnitOfPlan) : Type 0 where
-  pub turned : NoneTurned (first_fault_of settings sevs) units i
+pub record Planned (settings : Settings) (port : Option PortHead) (sevs : List SevDef) (units : List UnitAst) (i : ℕ) (made : List UnitOfPlan) : Type 0 where
+  pub turned : NoneTurned (first_fault_of settings port sevs) units i
   pub meant : AllZip (IsUnitOf settings.bs sevs) (take i units) made
   pub valid : All (IsValidUnit (cells_asked settings)) made
   pub apart : AllPairs (λ u v. u.name ≢ v.name) made
@@ -70,22 +72,24 @@ no_duplicate_with settings before u (Some m) e =
     (else_first (breaks (length before) rules.DuplicateName (duplicate_name before u)) _
     (else_first (fault_of_lists before u m) _ e))
 
-no_duplicate : (settings : Settings) (sevs : List SevDef) (before : List UnitAst) (u : UnitAst)
-    → first_fault_of settings sevs before u ≡ None → duplicate_name before u ≡ None
+no_duplicate : (settings : Settings) (port : Option PortHead) (sevs : List SevDef) (before : List UnitAst) (u : UnitAst)
+    → first_fault_of settings port sevs before u ≡ None → duplicate_name before u ≡ None
 unfolding first_fault_of
-no_duplicate settings sevs before u e = no_duplicate_with settings before u (mixture_of sevs u.sev.body) e
+no_duplicate settings port sevs before u e =
+    let o = mixture_of sevs u.sev.body in
+    no_duplicate_with settings before u o (else_first (fault_of_mixture settings before u o) _ e)
 
-module _ (settings : Settings) (sevs : List SevDef) (units : List UnitAst) (i : ℕ) (u : UnitAst) (made : List UnitOfPlan) where
-  pub planned_more : (m : UnitOfPlan) → Planned settings sevs units i made → i < length units → u ≡ get_or units i u
-      → (first_fault_of settings sevs (take i units) u ≡ None) × IsUnitOf settings.bs sevs u m
-      × IsValidUnit (cells_asked settings) m → Planned settings sevs units (i + 1) (made ++ m ∷ [])
+module _ (settings : Settings) (port : Option PortHead) (sevs : List SevDef) (units : List UnitAst) (i : ℕ) (u : UnitAst) (made : List UnitOfPlan) where
+  pub planned_more : (m : UnitOfPlan) → Planned settings port sevs units i made → i < length units → u ≡ get_or units i u
+      → (first_fault_of settings port sevs (take i units) u ≡ None) × IsUnitOf settings.bs sevs u m
+      × IsValidUnit (cells_asked settings) m → Planned settings port sevs units (i + 1) (made ++ m ∷ [])
   planned_more m before lt is told =
       let one_more : take (i + 1) units ≡ take i units ++ u ∷ [] = take_more units i u lt
       ∙ ap (λ (v : UnitAst). take i units ++ v ∷ []) (sym is) in
       let others = new_name settings.bs sevs u.name.text (take i units) made before.meant
-      (other_names (take i units) u (no_duplicate settings sevs (take i units) u told.0)) in
+      (other_names (take i units) u (no_duplicate settings port sevs (take i units) u told.0)) in
       record {
-        turned = turn_passed (first_fault_of settings sevs) units i u before.turned lt is (sym told.0);
+        turned = turn_passed (first_fault_of settings port sevs) units i u before.turned lt is (sym told.0);
         meant = subst (λ us. AllZip (IsUnitOf settings.bs sevs) us (made ++ m ∷ [])) (sym one_more)
             (all_zipped_more (IsUnitOf settings.bs sevs) (take i units) made u m before.meant told.1);
         valid = All-append (IsValidUnit (cells_asked settings)) made (m ∷ []) before.valid
@@ -94,17 +98,17 @@ module _ (settings : Settings) (sevs : List SevDef) (units : List UnitAst) (i : 
             (λ k d h e. others k d h (e ∙ told.1.unit.name));
       }
 
-  pub planned_fault : (e : CheckFault) → Planned settings sevs units i made → i < length units → u ≡ get_or units i u
-      → AnswersUnit settings sevs (take i units) u (Err e) → AnswersUnits settings sevs units (Err e)
+  pub planned_fault : (e : CheckFault) → Planned settings port sevs units i made → i < length units → u ≡ get_or units i u
+      → AnswersUnit settings port sevs (take i units) u (Err e) → AnswersUnits settings port sevs units (Err e)
   planned_fault (Typing f) before lt is told =
-      sym (turn_found (first_fault_of settings sevs) units i u f before.turned lt is (sym told))
+      sym (turn_found (first_fault_of settings port sevs) units i u f before.turned lt is (sym told))
   planned_fault OutOfMemory before lt is told = tt
 
-pub planned_all : (settings : Settings) (sevs : List SevDef) (units : List UnitAst) (i : ℕ) (made : List UnitOfPlan)
-    → Planned settings sevs units i made → length units ≤ i
-    → AnswersUnits settings sevs units (Ok made)
-planned_all settings sevs units i made before le = (
-  sym (turn_ended (first_fault_of settings sevs) units i before.turned le),
+pub planned_all : (settings : Settings) (port : Option PortHead) (sevs : List SevDef) (units : List UnitAst) (i : ℕ) (made : List UnitOfPlan)
+    → Planned settings port sevs units i made → length units ≤ i
+    → AnswersUnits settings port sevs units (Ok made)
+planned_all settings port sevs units i made before le = (
+  sym (turn_ended (first_fault_of settings port sevs) units i before.turned le),
   subst (λ us. AllZip (IsUnitOf settings.bs sevs) us made) (take_all i units le) before.meant,
   before.valid,
   before.apart,
@@ -155,28 +159,44 @@ pub mixture_is : (o : Option MixAst) (m : MixAst) → IfSome o IsFormedMixture �
 mixture_is None m h e = absurd cc
 mixture_is (Some n) m h e = let same : n ≡ m = cc in subst IsFormedMixture same h
 
--- what is told of a unit with its mixture is told of it with the named severities
-pub answer_with : (settings : Settings) (sevs : List SevDef) (before : List UnitAst) (u : UnitAst) (m : MixAst)
-    (r : Result UnitOfPlan CheckFault) → mixture_of sevs u.sev.body ≡ Some m → AnswersWith settings before u m r
-    → AnswersUnit settings sevs before u r
-unfolding first_fault_of
-answer_with settings sevs before u m (Ok made) e (none, unit, valid) = (
-  ap (fault_of_mixture settings before u) e ∙ none,
-  record { mix = m; named = e; unit = unit },
-  valid,
-)
-answer_with settings sevs before u m (Err (Typing f)) e told = ap (fault_of_mixture settings before u) e ∙ told
-answer_with settings sevs before u m (Err OutOfMemory) e told = tt
+-- what is told of a unit with its mixture is told of it with the named severities, where it can stand in the portfolio
+module _ (settings : Settings) (port : Option PortHead) (sevs : List SevDef) (before : List UnitAst) (u : UnitAst) where
+  abbrev shared : Option TypeFault
+  shared = breaks (length before) rules.CommonUnit (common_unit port u)
 
-pub answer_unknown : (settings : Settings) (sevs : List SevDef) (before : List UnitAst) (u : UnitAst)
-    → mixture_of sevs u.sev.body ≡ None
-    → first_fault_of settings sevs before u ≡ Some (record {
-      unit = length before;
-      rule = rules.UnknownSeverity;
-      span = body_span u.sev.body;
-    })
-unfolding first_fault_of
-answer_unknown settings sevs before u e = ap (fault_of_mixture settings before u) e
+  pub answer_stopped : (m : MixAst) (stop : CheckFault) → mixture_of sevs u.sev.body ≡ Some m
+      → AnswersWith settings before u m (Err stop) → AnswersUnit settings port sevs before u (Err stop)
+  unfolding first_fault_of
+  answer_stopped m (Typing f) e told = ap (λ o. o else shared) (ap (fault_of_mixture settings before u) e ∙ told)
+  answer_stopped m OutOfMemory e told = tt
+
+  pub answer_with : (m : MixAst) (made : UnitOfPlan) (r : Result UnitOfPlan CheckFault)
+      → mixture_of sevs u.sev.body ≡ Some m → AnswersWith settings before u m (Ok made) → TellsFault shared r
+      → IfOk r (λ x. x ≡ made) → AnswersUnit settings port sevs before u r
+  unfolding first_fault_of
+  answer_with m made (Ok x) e (none, unit, valid) told same = (
+    ap (λ o. o else shared) (ap (fault_of_mixture settings before u) e ∙ none) ∙ told,
+    record { mix = m; named = e; unit = subst (IsUnitWith settings.bs u m) (sym same) unit },
+    subst (IsValidUnit (cells_asked settings)) (sym same) valid,
+  )
+  answer_with m made (Err (Typing f)) e (none, unit, valid) told same =
+      ap (λ o. o else shared) (ap (fault_of_mixture settings before u) e ∙ none) ∙ told
+  answer_with m made (Err OutOfMemory) e kept told same = tt
+
+  -- where a check of the unit stops, its caller does
+  pub answer_as : (r : Result UnitOfPlan CheckFault) (f : CheckFault) → IsErr r × IsErrAnd r (λ e. e ≡ f)
+      → AnswersUnit settings port sevs before u (Err f) → AnswersUnit settings port sevs before u r
+  answer_as (Ok x) f h told = absurd (cc (h.0))
+  answer_as (Err g) f h told = subst (λ e. AnswersUnit settings port sevs before u (Err e)) (sym h.1) told
+
+  pub answer_unknown : mixture_of sevs u.sev.body ≡ None
+      → first_fault_of settings port sevs before u ≡ Some (record {
+        unit = length before;
+        rule = rules.UnknownSeverity;
+        span = body_span u.sev.body;
+      })
+  unfolding first_fault_of
+  answer_unknown e = ap (λ o. o else shared) (ap (fault_of_mixture settings before u) e)
 
 -- ---- the whole
 
@@ -200,6 +220,9 @@ module _ (program : Program) (settings : Settings) where
   abbrev sevs : List SevDef
   sevs = program.sevs
 
+  abbrev port : Option PortHead
+  port = program.port
+
   abbrev many : Option TypeFault
   many = breaks most_units rules.TooManyUnits (too_many_units program.units)
 
@@ -207,7 +230,7 @@ module _ (program : Program) (settings : Settings) where
   names = in_turn fault_of_severity [] program.sevs
 
   abbrev each : Option TypeFault
-  each = in_turn (first_fault_of settings sevs) [] program.units
+  each = in_turn (first_fault_of settings port sevs) [] program.units
 
   none_many : too_many_units program.units ≡ None → many ≡ None
   none_many few = ap (λ p. breaks most_units rules.TooManyUnits p) few
@@ -216,39 +239,39 @@ module _ (program : Program) (settings : Settings) where
       → first_fault program settings ≡ Some (record { unit = most_units; rule = rules.TooManyUnits; span = place })
   unfolding first_fault
   fault_of_many place e =
-      first_of many names each (not_yet program) _ (ap (λ p. breaks most_units rules.TooManyUnits p) e)
+      first_of many names each (fault_of_port program) _ (ap (λ p. breaks most_units rules.TooManyUnits p) e)
 
   pub fault_of_names : (e : CheckFault) → too_many_units program.units ≡ None → StopsAt names e
       → IsCheckOf program settings (Err e)
   unfolding first_fault
-  fault_of_names (Typing f) few told = second_of many names each (not_yet program) f (none_many few) told
+  fault_of_names (Typing f) few told = second_of many names each (fault_of_port program) f (none_many few) told
   fault_of_names OutOfMemory few told = tt
 
   pub fault_of_units : (e : CheckFault) → too_many_units program.units ≡ None → names ≡ None
-      → AnswersUnits settings sevs program.units (Err e) → IsCheckOf program settings (Err e)
+      → AnswersUnits settings port sevs program.units (Err e) → IsCheckOf program settings (Err e)
   unfolding first_fault
   fault_of_units (Typing f) few fresh told =
-      third_of many names each (not_yet program) f (none_many few) fresh told
+      third_of many names each (fault_of_port program) f (none_many few) fresh told
   fault_of_units OutOfMemory few fresh told = tt
 
   pub fault_of_rest : (f : TypeFault) (made : List UnitOfPlan) → too_many_units program.units ≡ None → names ≡ None
-      → AnswersUnits settings sevs program.units (Ok made) → not_yet program ≡ Some f
+      → AnswersUnits settings port sevs program.units (Ok made) → fault_of_port program ≡ Some f
       → first_fault program settings ≡ Some f
   unfolding first_fault
   fault_of_rest f made few fresh told rest =
-      last_of many names each (not_yet program) (Some f) (none_many few) fresh told.0 rest
+      last_of many names each (fault_of_port program) (Some f) (none_many few) fresh told.0 rest
 
   pub plan_of_units : (plan : Plan) → plan.bs ≡ settings.bs → plan.cells ≡ cells_asked settings
       → plan.common ≡ None → IsSet settings
       → IsWellFormed program → length program.units ≤ most_units
       → too_many_units program.units ≡ None → names ≡ None
-      → AnswersUnits settings sevs program.units (Ok plan.units) → not_yet program ≡ None
+      → AnswersUnits settings port sevs program.units (Ok plan.units) → fault_of_port program ≡ None
       → IsCheckOf program settings (Ok plan)
   unfolding first_fault
   plan_of_units plan bs cells common set formed few none fresh told rest =
       let as_many : length plan.units ≡ length program.units =
       AllZip-long (IsUnitOf settings.bs sevs) program.units plan.units told.1 in (
-        last_of many names each (not_yet program) None (none_many none) fresh told.0 rest,
+        last_of many names each (fault_of_port program) None (none_many none) fresh told.0 rest,
         record { bucket = bs; cells = cells; units = told.1; common = common },
         record {
           bucket = subst (λ x. whole 0 <ℚ x) (sym bs) set.bucket.above;

@@ -16,6 +16,7 @@ use Rattle.dl_types.specs.Answer.{StopsAt, TellsFault, AnswersGrid}
 use Rattle.dl_types.specs.Claimed.{IsFinal, AreClaims}
 use Rattle.dl_types.specs.Faults.{fault_of_layers, fault_of_number}
 use Rattle.dl_types.specs.Plans.{IsUnitOn}
+use Rattle.dl_types.specs.Rules.{zero_base}
 use Rattle.dl_types.proofs.Aggregates.{aggregate_valid}
 use Rattle.dl_types.proofs.FineClaims.{fine_left, fine_lists, occ_shares, agr_shares}
 use Rattle.dl_types.proofs.KeptCounts.{AreWhole, AreKept, whole_count, count_kept}
@@ -199,26 +200,34 @@ module _ (bs : Fraction) (unit : ℕ) (u : GridUnit) (grid : IsGridUnit u) (none
 -- ---- all rules on the unit in whole buckets
 
 module _ (settings : Settings) (unit : ℕ) (u : GridUnit) where
+  abbrev count : Option TypeFault
+  count = fault_of_count settings.bs unit u
+
+  abbrev horizon : Option TypeFault
+  horizon = breaks unit rules.HorizonTooLarge (horizon_too_large (cells_asked settings) u.agr)
+
+  abbrev base : Option TypeFault
+  base = breaks unit rules.ZeroBase (zero_base u.count u.zero (expected_claims settings.bs u))
+
   pub first_told : (t : TypeFault) → fault_of_clauses unit u ≡ Some t → fault_on_grid settings unit u ≡ Some t
   unfolding fault_on_grid
-  first_told t e = ap (λ o. o else fault_of_count settings.bs unit u
-      else breaks unit rules.HorizonTooLarge (horizon_too_large (cells_asked settings) u.agr)) e
+  first_told t e = ap (λ o. o else count else horizon else base) e
 
   module _ (clauses : fault_of_clauses unit u ≡ None) where
-    pub second_told : (t : TypeFault) → fault_of_count settings.bs unit u ≡ Some t
-        → fault_on_grid settings unit u ≡ Some t
+    pub second_told : (t : TypeFault) → count ≡ Some t → fault_on_grid settings unit u ≡ Some t
     unfolding fault_on_grid
-    second_told t e =
-        let last = breaks unit rules.HorizonTooLarge (horizon_too_large (cells_asked settings) u.agr) in
-        ap (λ o. o else fault_of_count settings.bs unit u else last) clauses ∙ ap (λ o. o else last) e
+    second_told t e = ap (λ o. o else count else horizon else base) clauses ∙ ap (λ o. o else horizon else base) e
 
-    pub third_told : fault_of_count settings.bs unit u ≡ None → (o : Option TypeFault)
-        → breaks unit rules.HorizonTooLarge (horizon_too_large (cells_asked settings) u.agr) ≡ o
-        → fault_on_grid settings unit u ≡ o
-    unfolding fault_on_grid
-    third_told count o e =
-        let last = breaks unit rules.HorizonTooLarge (horizon_too_large (cells_asked settings) u.agr) in
-        ap (λ o. o else fault_of_count settings.bs unit u else last) clauses ∙ ap (λ o. o else last) count ∙ e
+    module _ (counted : count ≡ None) where
+      later : fault_on_grid settings unit u ≡ (horizon else base)
+      unfolding fault_on_grid
+      later = ap (λ o. o else count else horizon else base) clauses ∙ ap (λ o. o else horizon else base) counted
+
+      pub third_told : (t : TypeFault) → horizon ≡ Some t → fault_on_grid settings unit u ≡ Some t
+      third_told t e = later ∙ ap (λ o. o else base) e
+
+      pub fourth_told : horizon ≡ None → (o : Option TypeFault) → base ≡ o → fault_on_grid settings unit u ≡ o
+      fourth_told near o e = later ∙ ap (λ o. o else base) near ∙ e
 
   -- a check of the unit in whole buckets stops as a check of its part
   pub grid_told : (text : List ℕ) (p : Option TypeFault) (r : Result UnitOfPlan CheckFault) (f : CheckFault)
@@ -232,12 +241,15 @@ module _ (settings : Settings) (unit : ℕ) (u : GridUnit) where
 pub grid_parts : (settings : Settings) (unit : ℕ) (u : GridUnit) → fault_on_grid settings unit u ≡ None
     → (fault_of_clauses unit u ≡ None) × (fault_of_count settings.bs unit u ≡ None)
     × (horizon_too_large (cells_asked settings) u.agr ≡ None)
+    × (zero_base u.count u.zero (expected_claims settings.bs u) ≡ None)
 unfolding fault_on_grid
 grid_parts settings unit u none =
-    let rest = else_second (fault_of_clauses unit u) _ none in (
+    let rest = else_second (fault_of_clauses unit u) _ none in
+    let last = both unit rules.HorizonTooLarge _ _ (else_second (fault_of_count settings.bs unit u) _ rest) in (
       else_first (fault_of_clauses unit u) _ none,
       else_first (fault_of_count settings.bs unit u) _ rest,
-      only unit rules.HorizonTooLarge _ (else_second (fault_of_count settings.bs unit u) _ rest),
+      last.0,
+      only unit rules.ZeroBase _ last.1,
     )
 
 module _ (settings : Settings) (unit : ℕ) (u : GridUnit) (grid : IsGridUnit u)

@@ -1,6 +1,7 @@
 -- What a check answers.
 use Rattle.std.specs.Prelude.{ℕ, ◌≡◌, ◌≢◌, Result, Ok, Err, List, [], All, AllPairs, Option, Some, None}
 use Rattle.dl_ast.specs.declared.ast.MixAst.{MixAst}
+use Rattle.dl_ast.specs.declared.ast.PortHead.{PortHead}
 use Rattle.dl_ast.specs.declared.ast.SevDef.{SevDef}
 use Rattle.dl_ast.specs.declared.ast.UnitAst.{UnitAst}
 use Rattle.dl_ast.specs.declared.ast.Program.{Program}
@@ -44,27 +45,27 @@ AnswersWith settings before u m (Ok made) =
     × IsValidUnit (cells_asked settings) made
 AnswersWith settings before u m (Err stop) = StopsAt (fault_with settings before u m) stop
 
--- the same with named severities
-abbrev pub AnswersUnit : Settings → List SevDef → List UnitAst → UnitAst
+-- the same in this portfolio, with named severities
+abbrev pub AnswersUnit : Settings → Option PortHead → List SevDef → List UnitAst → UnitAst
     → Result UnitOfPlan CheckFault → Type 0
-AnswersUnit settings sevs before u (Ok made) =
-    (first_fault_of settings sevs before u ≡ None) × IsUnitOf settings.bs sevs u made
+AnswersUnit settings port sevs before u (Ok made) =
+    (first_fault_of settings port sevs before u ≡ None) × IsUnitOf settings.bs sevs u made
     × IsValidUnit (cells_asked settings) made
-AnswersUnit settings sevs before u (Err (Typing fault)) =
-    first_fault_of settings sevs before u ≡ Some fault
-AnswersUnit settings sevs before u (Err OutOfMemory) = Unit {0}
+AnswersUnit settings port sevs before u (Err (Typing fault)) =
+    first_fault_of settings port sevs before u ≡ Some fault
+AnswersUnit settings port sevs before u (Err OutOfMemory) = Unit {0}
 
 -- the units of the plan, which are valid and have different names; the first fault of the first
 -- unit that has one; or want of memory
-abbrev pub AnswersUnits : Settings → List SevDef → List UnitAst
+abbrev pub AnswersUnits : Settings → Option PortHead → List SevDef → List UnitAst
     → Result (List UnitOfPlan) CheckFault → Type 0
-AnswersUnits settings sevs units (Ok made) =
-    (in_turn (first_fault_of settings sevs) [] units ≡ None)
+AnswersUnits settings port sevs units (Ok made) =
+    (in_turn (first_fault_of settings port sevs) [] units ≡ None)
     × AllZip (IsUnitOf settings.bs sevs) units made
     × All (IsValidUnit (cells_asked settings)) made × AllPairs (λ u v. u.name ≢ v.name) made
-AnswersUnits settings sevs units (Err (Typing fault)) =
-    in_turn (first_fault_of settings sevs) [] units ≡ Some fault
-AnswersUnits settings sevs units (Err OutOfMemory) = Unit {0}
+AnswersUnits settings port sevs units (Err (Typing fault)) =
+    in_turn (first_fault_of settings port sevs) [] units ≡ Some fault
+AnswersUnits settings port sevs units (Err OutOfMemory) = Unit {0}
 
 -- the plan, which is valid, where no rule is broken; the first fault, where there is one; or want
 -- of memory

@@ -5,6 +5,7 @@ use Rattle.dl_limits.specs.Limits.{most_amount_at, most_units}
 use Rattle.dl_exact.specs.Fraction.{Fraction}
 use Rattle.dl_lexer.specs.declared.token.Span.{Span}
 use Rattle.dl_ast.specs.declared.ast.MixAst.{MixAst}
+use Rattle.dl_ast.specs.declared.ast.PortHead.{PortHead}
 use Rattle.dl_ast.specs.declared.ast.SevDef.{SevDef}
 use Rattle.dl_ast.specs.declared.ast.UnitAst.{UnitAst}
 use Rattle.dl_ast.specs.declared.ast.Program.{Program}
@@ -21,7 +22,7 @@ use Rattle.dl_amounts.specs.Grid.{grid_of}
 use Rattle.dl_amounts.specs.Severity.{severity_in_layer, support}
 use Rattle.dl_amounts.specs.Rules.{lengths_differ, not_one, off_grid, too_far, weights_differ, none_above, overlap, share_above_one, off_grid_cession}
 use Rattle.dl_types.specs.Exposures.{expected_claims}
-use Rattle.dl_types.specs.Rules.{duplicate_name, zero_mean, count_not_whole, count_above_one, trials_not_whole, shape_not_whole, too_fine, too_many_claims, horizon_too_large, too_many_units, duplicate_severity, changed_zero, shared_factor}
+use Rattle.dl_types.specs.Rules.{duplicate_name, zero_mean, count_not_whole, count_above_one, trials_not_whole, shape_not_whole, too_fine, too_many_claims, horizon_too_large, too_many_units, zero_base, common_unit, common_shape, duplicate_severity, changed_zero, shared_factor}
 use Rattle.dl_types.specs.Severities.{mixture_of, body_span}
 
 -- the rule is broken by a unit at a place
@@ -93,12 +94,18 @@ fault_of_count bs unit u =
     breaks unit rules.ZeroMean (zero_mean (support (severity_in_layer u)) u.count)
     else fault_of_number unit u (expected_claims bs u)
 
+-- the rules on its horizon, and on the change of its probability of no claim
+abbrev pub fault_of_changes : Settings → ℕ → GridUnit → Option TypeFault
+fault_of_changes settings unit u =
+    breaks unit rules.HorizonTooLarge (horizon_too_large (cells_asked settings) u.agr)
+    else breaks unit rules.ZeroBase (zero_base u.count u.zero (expected_claims settings.bs u))
+
 -- the rules on the unit in whole buckets
 unfoldable pub fault_on_grid : Settings → ℕ → GridUnit → Option TypeFault
 fault_on_grid settings unit u =
     fault_of_clauses unit u
     else fault_of_count settings.bs unit u
-    else breaks unit rules.HorizonTooLarge (horizon_too_large (cells_asked settings) u.agr)
+    else fault_of_changes settings unit u
 
 -- the first rule that a unit whose severity is this mixture breaks, by its number, with the units
 -- before it
@@ -114,10 +121,13 @@ fault_of_mixture settings before u None =
     breaks (length before) rules.UnknownSeverity (Some (body_span u.sev.body))
 fault_of_mixture settings before u (Some m) = fault_with settings before u m
 
--- the first rule that a unit breaks, with the named severities and the units before it
-unfoldable pub first_fault_of : Settings → List SevDef → List UnitAst → UnitAst → Option TypeFault
-first_fault_of settings sevs before u =
+-- the first rule that a unit breaks, in this portfolio and with the named severities and the units
+-- before it
+unfoldable pub first_fault_of : Settings → Option PortHead → List SevDef → List UnitAst → UnitAst
+    → Option TypeFault
+first_fault_of settings port sevs before u =
     fault_of_mixture settings before u (mixture_of sevs u.sev.body)
+    else breaks (length before) rules.CommonUnit (common_unit port u)
 
 -- the rule on the names of severities, by the severity's number
 abbrev pub fault_of_severity : List SevDef → SevDef → Option TypeFault
@@ -133,11 +143,17 @@ not_yet program =
     in_turn unit_not_yet [] program.units
     else breaks 0 rules.NotYet (shared_factor program.port)
 
+-- the rules on the whole portfolio, and then what has no value yet
+unfoldable pub fault_of_port : Program → Option TypeFault
+fault_of_port program =
+    breaks 0 rules.CommonShape (common_shape program.port)
+    else not_yet program
+
 -- more than 16 units first; then the named severities and the units in the order of the text; then
--- what has no value yet
+-- the whole portfolio
 unfoldable pub first_fault : Program → Settings → Option TypeFault
 first_fault program settings =
     breaks most_units rules.TooManyUnits (too_many_units program.units)
     else in_turn fault_of_severity [] program.sevs
-    else in_turn (first_fault_of settings program.sevs) [] program.units
-    else not_yet program
+    else in_turn (first_fault_of settings program.port program.sevs) [] program.units
+    else fault_of_port program

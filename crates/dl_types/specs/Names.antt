@@ -1,7 +1,7 @@
 -- The number and the name of each rule, as the user is told them.
 use Rattle.std.specs.Prelude.{ℕ, List, codes}
 use Rattle.dl_types.specs.declared.rule.Rule.{Rule}
-use Rattle.dl_types.specs.declared.rule.Rule.TheVariants.{DuplicateName, BadNumeral, BadRange, ListTooLong, LengthsDiffer, NotOne, OffGrid, TooFar, WeightsDiffer, NoneAbove, Overlap, ShareAboveOne, OffGridCession, ZeroMean, CountNotWhole, CountAboveOne, TrialsNotWhole, ShapeNotWhole, TooFine, TooManyClaims, HorizonTooLarge, TooManyUnits, DuplicateSeverity, UnknownSeverity, NotYet}
+use Rattle.dl_types.specs.declared.rule.Rule.TheVariants.{DuplicateName, BadNumeral, BadRange, ListTooLong, LengthsDiffer, NotOne, OffGrid, TooFar, WeightsDiffer, NoneAbove, Overlap, ShareAboveOne, OffGridCession, ZeroMean, CountNotWhole, CountAboveOne, TrialsNotWhole, ShapeNotWhole, TooFine, TooManyClaims, HorizonTooLarge, TooManyUnits, DuplicateSeverity, UnknownSeverity, ZeroBase, CommonUnit, CommonShape, NotYet}
 
 abbrev pub rule_number : Rule → ℕ
 rule_number rule = elim rule [
@@ -29,6 +29,9 @@ rule_number rule = elim rule [
   | TooManyUnits ↦ 22
   | DuplicateSeverity ↦ 23
   | UnknownSeverity ↦ 24
+  | ZeroBase ↦ 25
+  | CommonUnit ↦ 26
+  | CommonShape ↦ 27
   | NotYet ↦ 29
 ]
 
@@ -58,5 +61,8 @@ rule_name rule = elim rule [
   | TooManyUnits ↦ codes "TooManyUnits"
   | DuplicateSeverity ↦ codes "DuplicateSeverity"
   | UnknownSeverity ↦ codes "UnknownSeverity"
+  | ZeroBase ↦ codes "ZeroBase"
+  | CommonUnit ↦ codes "CommonUnit"
+  | CommonShape ↦ codes "CommonShape"
   | NotYet ↦ codes "NotYet"
 ]

@@ -7,21 +7,26 @@ use Rattle.std.specs.List.{list_any}
 use Rattle.std.specs.Str.{bytes_eq}
 use Rattle.dl_limits.specs.Limits.{most_claims, most_count, most_expected, most_horizon, most_shape, most_units}
 use Rattle.dl_plan.specs.Horizon.{horizon}
-use Rattle.dl_exact.specs.Fraction.{Fraction, whole, ◌/ℚ◌}
+use Rattle.dl_exact.specs.Fraction.{Fraction, whole, ◌over◌, ◌/ℚ◌}
 use Rattle.dl_lexer.specs.declared.token.Span.{Span}
 use Rattle.dl_ast.specs.declared.ast.UnitAst.{UnitAst}
+use Rattle.dl_ast.specs.declared.ast.Numeral.{Numeral}
 use Rattle.dl_ast.specs.declared.ast.SevDef.{SevDef}
 use Rattle.dl_ast.specs.declared.ast.PortHead.{PortHead}
 use Rattle.dl_ast.specs.declared.ast.CountAst.{CountAst}
 use Rattle.dl_ast.specs.declared.ast.CountAst.TheVariants as counts
+use Rattle.dl_ast.specs.declared.ast.FreqAst.{FreqAst}
+use Rattle.dl_ast.specs.declared.ast.FreqAst.TheVariants as freqs
 use Rattle.dl_ast.specs.declared.ast.ZeroAst.{ZeroAst}
 use Rattle.dl_ast.specs.declared.ast.ZeroAst.TheVariants.{Plain, Truncated, Modified}
 use Rattle.dl_read.specs.declared.tree.ReadExposure.{ReadExposure}
 use Rattle.dl_read.specs.declared.tree.ReadExposure.TheVariants.{Claims, Loss, Premium}
+use Rattle.dl_read.specs.declared.tree.ReadFreq.{ReadFreq}
 use Rattle.dl_read.specs.declared.tree.ReadFreq.TheVariants.{Fixed, Poisson, Bernoulli, Binomial, Gamma}
 use Rattle.dl_read.specs.declared.tree.ReadCount.{ReadCount}
 use Rattle.dl_read.specs.declared.tree.ReadCount.TheVariants.{Exposed, Listed}
 use Rattle.dl_read.specs.First.{at_if, within}
+use Rattle.dl_read.specs.BadNumerals.{value, is_bad_numeral}
 use Rattle.dl_read.specs.Lists.{is_admitted, is_whole, is_zero, is_above}
 use Rattle.dl_amounts.specs.declared.grid.GridClause.{GridClause}
 use Rattle.dl_amounts.specs.declared.grid.GridUnit.{GridUnit}
@@ -160,12 +165,69 @@ unfoldable pub duplicate_severity : List SevDef → SevDef → Option Span
 duplicate_severity before d = at_if (list_any (λ (e : SevDef). bytes_eq d.name.text e.name.text)
     before) d.name.span
 
--- 29 NotYet: the unit's probability of no claim is changed, or the portfolio has a shared factor
+-- 25 ZeroBase: the probability of no claim is changed to 1 or more, or where fewer than 1/16 or
+-- more than 4,096 claims are expected; no text changes that of a `dfreq` count
+abbrev pub rarest_claims : ℕ
+rarest_claims = 16
+
+abbrev pub is_no_base : Fraction → Bool
+is_no_base n = is_above (1 over rarest_claims) n || passes n most_expected
+
+abbrev pub has_no_base : Fraction → Option Fraction → Bool
+has_no_base p n = not (is_above (whole 1) p) || is_there_and is_no_base n
+
+-- the place of a distribution
+abbrev pub freq_span : ReadFreq → Span
+freq_span (Fixed span) = span
+freq_span (Poisson span) = span
+freq_span (Bernoulli span) = span
+freq_span (Binomial p span) = span
+freq_span (Gamma c span) = span
+
+abbrev pub no_base_of : ReadCount → Fraction → Option Fraction → Option Span
+no_base_of (Exposed exposure freq) p n = at_if (has_no_base p n) (freq_span freq)
+no_base_of (Listed counts probs) p n = Some counts.span
+
+unfoldable pub zero_base : ReadCount → Option Fraction → Option Fraction → Option Span
+zero_base count zero n = within (λ p. no_base_of count p n) zero
+
+-- 26 CommonUnit: the portfolio has a shared factor, and the unit's count is not Poisson or its
+-- probability of no claim is changed, or the unit has an aggregate clause
 abbrev pub is_changed : ZeroAst → Bool
 is_changed Plain = false
 is_changed (Truncated _) = true
 is_changed (Modified _ _) = true
 
+abbrev pub is_poisson : FreqAst → Bool
+is_poisson (freqs.Fixed _) = false
+is_poisson (freqs.Poisson _) = true
+is_poisson (freqs.Geometric _) = false
+is_poisson (freqs.Bernoulli _) = false
+is_poisson (freqs.Binomial p _) = false
+is_poisson (freqs.Gamma c _) = false
+
+abbrev pub is_plain_poisson : CountAst → Bool
+is_plain_poisson (counts.Exposed exposure freq zero) = is_poisson freq && not (is_changed zero)
+is_plain_poisson (counts.Listed counted probs span) = false
+
+abbrev pub has_common : Option PortHead → Bool
+has_common None = false
+has_common (Some h) = is_some h.common
+
+unfoldable pub common_unit : Option PortHead → UnitAst → Option Span
+common_unit port u =
+    at_if (has_common port && (not (is_plain_poisson u.count) || is_some u.agr)) u.name.span
+
+-- 27 CommonShape: the coefficient of variation c of the shared factor is a bad numeral or 0, or
+-- 1 / c^2 is not whole
+abbrev pub has_bad_shape : Numeral → Bool
+has_bad_shape c = is_bad_numeral c || (is_zero (value c) || not (is_whole (shape_of (value c))))
+
+unfoldable pub common_shape : Option PortHead → Option Span
+common_shape = within (λ (h : PortHead).
+    within (λ (c : Numeral). at_if (has_bad_shape c) c.span) h.common)
+
+-- 29 NotYet: the unit's probability of no claim is changed, or the portfolio has a shared factor
 abbrev pub has_change : CountAst → Bool
 has_change (counts.Exposed exposure freq zero) = is_changed zero
 has_change (counts.Listed counted probs span) = false

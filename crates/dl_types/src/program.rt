@@ -9,12 +9,12 @@ ghost use Rattle.dl_types.specs.Rules.{too_many_units};
 ghost use Rattle.dl_types.specs.Kept.{IsSet};
 ghost use Rattle.dl_types.specs.Answer.{IsCheckOf, AnswersUnits};
 
-use crate::changes::not_yet;
+use crate::changes::fault_of_port;
 use crate::fault::{CheckFault, TypeFault};
 use crate::rule::Rule;
 use crate::severities::check_severities;
 use crate::unit::{cells, check_unit};
-use dl_ast::{Program, SevDef, UnitAst};
+use dl_ast::{PortHead, Program, SevDef, UnitAst};
 use dl_lexer::Span;
 use dl_limits::MOST_UNITS;
 use dl_plan::{Items, Plan, Settings, Unit};
@@ -44,22 +44,28 @@ pub fn check(alloc: Global, program: &Program, settings: &Settings) -> Result<Pl
     if let Err(fault) = check_severities(alloc, sevs) {
         return Err(fault);
     }
-    match check_units(alloc, sevs, program.units.as_slice(), settings) {
+    match check_units(
+        alloc,
+        &program.port,
+        sevs,
+        program.units.as_slice(),
+        settings,
+    ) {
         Ok(units) => planned(program, settings, units),
         Err(fault) => Err(fault),
     }
 }
 
-/// The plan of a program with these units, or what has no value yet.
+/// The plan of a program with these units, or the first rule that the portfolio breaks.
 fn planned(program: &Program, settings: &Settings, units: Items<Unit>) -> Result<Plan, CheckFault>
     requires formed { IsWellFormed program.now }
     requires set { IsSet settings.now }
     requires few { too_many_units program.now.units ≡ None }
     requires fresh { in_turn fault_of_severity [] program.now.sevs ≡ None }
-    requires units { AnswersUnits settings.now program.now.sevs program.now.units (Ok units) }
+    requires units { AnswersUnits settings.now program.now.port program.now.sevs program.now.units (Ok units) }
     ensures { IsCheckOf program.now settings.now result }
 {
-    match not_yet(program) {
+    match fault_of_port(program) {
         Some(fault) => Err(CheckFault::Typing(fault)),
         None => Ok(Plan {
             bs: settings.bs,
@@ -84,6 +90,7 @@ fn too_many_units(units: &[UnitAst]) -> Option<Span>
 /// The units of the plan, or the first fault of the first unit that has one.
 fn check_units(
     alloc: Global,
+    port: &Option<PortHead>,
     sevs: &[SevDef],
     units: &[UnitAst],
     settings: &Settings,
@@ -92,12 +99,12 @@ fn check_units(
     requires few { length units.now ≤ most_units }
     requires formed { All IsFormedUnit units.now }
     requires defined { All IsFormedDefinition sevs.now }
-    ensures { AnswersUnits settings.now sevs.now units.now result }
+    ensures { AnswersUnits settings.now port.now sevs.now units.now result }
 {
     let mut names = IndexSet::new(alloc);
     let mut made = Vec::new(alloc);
     'units: for (at, unit) in units.iter().enumerate() {
-        match check_unit(alloc, &mut names, sevs, &units[..at], unit, settings) {
+        match check_unit(alloc, &mut names, port, sevs, &units[..at], unit, settings) {
             Ok(unit) => made.push(unit)?,
             Err(fault) => return Err(fault),
         }

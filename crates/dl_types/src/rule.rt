@@ -55,12 +55,19 @@ pub enum Rule {
     DuplicateSeverity,
     /// No severity has the name that a unit refers to.
     UnknownSeverity,
+    /// The probability of no claim is changed to 1 or more, or where fewer than 1/16 or more than
+    /// 4,096 claims are expected.
+    ZeroBase,
+    /// A unit under `common` has a count that is not Poisson, `zt` or `zm`, or an aggregate clause.
+    CommonUnit,
+    /// The coefficient of variation of `common` is a bad numeral, or its shape is no whole number.
+    CommonShape,
     /// The unit has `zt` or `zm`, or the portfolio has `common`, which cannot be evaluated yet.
     NotYet,
 }
 
 impl Rule {
-    /// Its number: 1 to 24, or 29.
+    /// Its number: 1 to 27, or 29.
     pub fn number(self) -> u32
         ensures { result ≡ rule_number self }
     {
@@ -89,6 +96,9 @@ impl Rule {
             Rule::TooManyUnits => 22,
             Rule::DuplicateSeverity => 23,
             Rule::UnknownSeverity => 24,
+            Rule::ZeroBase => 25,
+            Rule::CommonUnit => 26,
+            Rule::CommonShape => 27,
             Rule::NotYet => 29,
         }
     }
@@ -122,6 +132,9 @@ impl Rule {
             Rule::TooManyUnits => "TooManyUnits",
             Rule::DuplicateSeverity => "DuplicateSeverity",
             Rule::UnknownSeverity => "UnknownSeverity",
+            Rule::ZeroBase => "ZeroBase",
+            Rule::CommonUnit => "CommonUnit",
+            Rule::CommonShape => "CommonShape",
             Rule::NotYet => "NotYet",
         }
     }

@@ -35,6 +35,7 @@ ghost use Rattle.dl_types.specs.declared.fault.CheckFault.TheVariants.{Typing, O
 ghost use Rattle.dl_types.specs.Exposures.{expected_claims};
 ghost use Rattle.dl_types.specs.Claimed.{AreClaims};
 
+use crate::changes::{common_unit, zero_base};
 use crate::claims::{Claims, claims_with};
 use crate::counts::{count_table, too_many_claims};
 use crate::exposures::{
@@ -51,7 +52,7 @@ use dl_amounts::{
     off_grid_cession, overlap, positive_amounts, share_above_one, support_in_layer,
     weighed_severity, weights_differ,
 };
-use dl_ast::{MixAst, SevDef, UnitAst};
+use dl_ast::{MixAst, PortHead, SevDef, UnitAst};
 use dl_frac::Frac;
 use dl_lexer::{Span, Text};
 use dl_limits::{most_amount, most_horizon};
@@ -513,6 +514,8 @@ fn check_grid(
     let amounts = check_clauses(alloc, number, grid)?;
     let claims = check_count(alloc, number, grid, settings.bs, &amounts)?;
     let cede = check_horizon(alloc, number, &grid.agr, cells(settings))?;
+    let place = zero_base(&grid.count, &grid.zero, &claims.count);
+    broken(number, Rule::ZeroBase, place)?;
     planned(alloc, unit.name.text.as_slice(), &grid.count, claims, cede)
 }
 
@@ -541,10 +544,12 @@ fn check_with<'a>(
     check_grid(alloc, number, unit, &grid, settings)
 }
 
-/// The unit of the plan, or the first rule that the unit breaks, with these named severities.
+/// The unit of the plan, or the first rule that the unit breaks, in a program with this portfolio
+/// and these named severities.
 pub(crate) fn check_unit<'a>(
     alloc: Global,
     names: &mut IndexSet<&'a [u8]>,
+    port: &Option<PortHead>,
     sevs: &[SevDef],
     before: &'a [UnitAst],
     unit: &'a UnitAst,
@@ -555,12 +560,19 @@ pub(crate) fn check_unit<'a>(
     requires few { length before.now < most_units }
     requires formed { IsFormedUnit unit.now }
     requires defined { All IsFormedDefinition sevs.now }
-    ensures answer { AnswersUnit settings.now sevs.now before.now unit.now result }
+    ensures answer { AnswersUnit settings.now port.now sevs.now before.now unit.now result }
     ensures names { IfOk result (λ _. map (λ name. name.now) names.new.keys
         ≡ names_of before.now ++ unit.now.name.text ∷ []) }
 {
     match mixture(sevs, &unit.sev.body) {
-        Some(mix) => check_with(alloc, names, before, unit, mix, settings),
+        Some(mix) => {
+            let made = check_with(alloc, names, before, unit, mix, settings)?;
+            let number = before.len() as u32;
+            kept(
+                made,
+                broken(number, Rule::CommonUnit, common_unit(port, unit)),
+            )
+        }
         None => Err(typing(
             before.len() as u32,
             Rule::UnknownSeverity,

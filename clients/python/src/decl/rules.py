@@ -27,5 +27,8 @@ SENTENCES: Dict[int, str] = {
     22: "A portfolio has at most 16 units.",
     23: "Two severities have the same name; each needs its own.",
     24: "No severity has this name; a text names its severities before its units, as in sev NAME dsev [1:6].",
+    25: "zt and zm need from 1/16 to 4,096 expected claims before the change, and zm a number below 1.",
+    26: "Under common each unit has a poisson count without zt and zm, and no aggregate clause.",
+    27: "The number of common is 1 over a whole number, as 1, 0.5 or 0.1.",
     29: "zt, zm and common are read and formatted, and have no value yet.",
 }

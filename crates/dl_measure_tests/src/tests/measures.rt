@@ -184,7 +184,7 @@ const TAILS: [Beyond; 6] = [
     },
 ];
 
-fn is_below_one(p: Frac) -> bool
+pub(crate) fn is_below_one(p: Frac) -> bool
     ensures { IsTrue result → p <ℚ whole 1 }
 {
     p.num() < p.den()

@@ -17,7 +17,7 @@ use std::alloc::Global;
 /// none where it breaks no rule.
 type Case = (&'static [u8], Option<(u32, Rule, u32)>);
 
-const CASES: [Case; 34] = [
+const CASES: [Case; 58] = [
     (
         b"port P agg A 1 claims dsev [1] fixed agg A 1 claims dsev [1] fixed",
         Some((1, Rule::DuplicateName, 41)),
@@ -125,6 +125,102 @@ const CASES: [Case; 34] = [
     (
         b"agg A 1 claims dsev [1] fixed aggregate net of 1 xs 16384",
         Some((0, Rule::HorizonTooLarge, 30)),
+    ),
+    (
+        b"agg A 1/16 claims dsev [0 1] poisson zt",
+        Some((0, Rule::NotYet, 4)),
+    ),
+    (
+        b"agg A 1/17 claims dsev [1] poisson zt",
+        Some((0, Rule::ZeroBase, 27)),
+    ),
+    (
+        b"agg A 4096 claims dsev [1] mixed gamma .5 zm .999",
+        Some((0, Rule::NotYet, 4)),
+    ),
+    (
+        b"agg A 4097 claims dsev [0 1] geometric zm 0",
+        Some((0, Rule::ZeroBase, 29)),
+    ),
+    (
+        b"agg A 0 claims dsev [1] fixed zt",
+        Some((0, Rule::ZeroBase, 24)),
+    ),
+    (
+        b"agg A 2 claims dsev [1] poisson zm 1",
+        Some((0, Rule::ZeroBase, 24)),
+    ),
+    (
+        b"agg A 2 claims dsev [1] binomial .5 zm 1/1",
+        Some((0, Rule::ZeroBase, 24)),
+    ),
+    (
+        b"agg A 2 claims dsev [1] poisson zm 0",
+        Some((0, Rule::NotYet, 4)),
+    ),
+    (
+        b"port C common .5 agg A 3 claims dsev [1] fixed",
+        Some((0, Rule::CommonUnit, 21)),
+    ),
+    (
+        b"port C common .5 agg A 3 claims dsev [1] geometric",
+        Some((0, Rule::CommonUnit, 21)),
+    ),
+    (
+        b"port C common .5 agg A 3 claims dsev [1] poisson agg B dfreq [1] dsev [1]",
+        Some((1, Rule::CommonUnit, 53)),
+    ),
+    (
+        b"port C common .5 agg A 3 claims dsev [1] poisson zt",
+        Some((0, Rule::CommonUnit, 21)),
+    ),
+    (
+        b"port C common .5 agg A 3 claims dsev [1] poisson zm 1",
+        Some((0, Rule::ZeroBase, 41)),
+    ),
+    (
+        b"port C common .5 agg A 3 claims dsev [1] poisson aggregate net of 1 xs 2",
+        Some((0, Rule::CommonUnit, 21)),
+    ),
+    (
+        b"port C common .5 agg A 3 claims dsev [1] fixed agg B dfreq [1] dsev [1/0]",
+        Some((0, Rule::CommonUnit, 21)),
+    ),
+    (
+        b"port C common .5 agg A 3 claims dsev [1:6] occurrence net of 1 xs 2 poisson",
+        Some((0, Rule::NotYet, 5)),
+    ),
+    (
+        b"port C common 0.3 agg A 3 claims dsev [1] poisson",
+        Some((0, Rule::CommonShape, 14)),
+    ),
+    (
+        b"port C common 0 agg A 3 claims dsev [1] poisson",
+        Some((0, Rule::CommonShape, 14)),
+    ),
+    (
+        b"port C common 2 agg A 3 claims dsev [1] poisson",
+        Some((0, Rule::CommonShape, 14)),
+    ),
+    (
+        b"port C common 1/0 agg A 3 claims dsev [1] poisson",
+        Some((0, Rule::CommonShape, 14)),
+    ),
+    (
+        b"port C common 123456789012 agg A 3 claims dsev [1] poisson",
+        Some((0, Rule::CommonShape, 14)),
+    ),
+    (
+        b"port C common 0.3 agg A 3 claims dsev [1/0] poisson",
+        Some((0, Rule::BadNumeral, 39)),
+    ),
+    (
+        b"port C common 1/3 agg A 3 claims dsev [1] poisson",
+        Some((0, Rule::NotYet, 5)),
+    ),
+    (
+        b"port C common 1 agg A 3 claims dsev [1] poisson",
+        Some((0, Rule::NotYet, 5)),
     ),
     (
         b"port P agg A 1 claims dsev [1] fixed agg B 1 claims dsev [1] fixed agg C 1 \

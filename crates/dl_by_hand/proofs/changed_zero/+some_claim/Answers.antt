@@ -1,4 +1,4 @@
-use Rattle.std.proofs.Common.{◌≡◌, ◌+◌, arith, ap, ap₂, ◌∙◌}
+use Rattle.std.proofs.Common.{◌+◌, arith, ap, ◌∙◌}
 use Rattle.dl_exact.specs.Fraction.{◌over◌}
 use Rattle.dl_by_hand.proofs.SomeClaimLaws.{some_none, some_next, some_le}
 use Rattle.dl_by_hand.proofs.changed_zero.+some_claim.Goals as goal

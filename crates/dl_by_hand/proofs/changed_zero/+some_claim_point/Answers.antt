@@ -1,6 +1,6 @@
 use Rattle.std.proofs.Common.{◌≡◌, ◌+◌, ◌*◌, ◌^◌, arith, rules, ap, ap₂, ◌∙◌}
 use Rattle.dl_exact.specs.Fraction.{◌over◌}
-use Rattle.dl_by_hand.proofs.PointLaws.{here_le, denominator_next, counts_fit, amounts_fit, denominator_fits, denominator_none}
+use Rattle.dl_by_hand.proofs.PointLaws.{here_le, denominator_next, counts_fit, amounts_fit, denominator_fits}
 use Rattle.dl_by_hand.proofs.SomeClaimLaws.{some_point_none, some_point_next, some_point_le, some_next_le}
 use Rattle.dl_by_hand.proofs.changed_zero.+some_claim_point.Goals as goal
 

@@ -1,4 +1,4 @@
-use Rattle.std.proofs.Common.{◌≡◌, ℕ, ◌+◌, ◌-◌, ◌*◌, ◌^◌, ◌<◌, arith, ap₂, ◌∙◌, mul-pos}
+use Rattle.std.proofs.Common.{◌+◌, ◌-◌, ◌*◌, arith, ap₂, ◌∙◌, mul-pos}
 use Rattle.std.proofs.Math.Nat.{mul-le-mul_right}
 use Rattle.dl_exact.specs.Fraction.{◌over◌}
 use Rattle.dl_exact.specs.Sum.{sum_to}

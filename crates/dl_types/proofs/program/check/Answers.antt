@@ -30,9 +30,9 @@ returns-in-Err-check_units c =
     fault_of_units c.args.program.now c.args.settings.now c.in-Err-check_units.fault
     (ap too_many_units (sym c.as_slice.ensures) ∙ sym c.too_many_units.ensures ∙ c.in_default.is)
     (ap (in_turn fault_of_severity []) (sym c.as_slice-sevs.ensures) ∙ c.in_default-check_severities.ensures)
-    (subst (λ (us : List UnitAst). AnswersUnits c.args.settings.now c.args.program.now.sevs us
+    (subst (λ (us : List UnitAst). AnswersUnits c.args.settings.now c.args.program.now.port c.args.program.now.sevs us
     (Err c.in-Err-check_units.fault)) c.as_slice-2.ensures
-    (subst (λ (ds : List SevDef). AnswersUnits c.args.settings.now ds c.as_slice-2.result.now
+    (subst (λ (ds : List SevDef). AnswersUnits c.args.settings.now c.args.program.now.port ds c.as_slice-2.result.now
     (Err c.in-Err-check_units.fault)) c.as_slice-sevs.ensures c.in-Err-check_units.ensures))
 
 pub planned-requires-clause-few : goal.planned-requires-clause-few
@@ -45,9 +45,9 @@ planned-requires-clause-fresh c =
 
 pub planned-requires-clause-units : goal.planned-requires-clause-units
 planned-requires-clause-units c =
-    subst (λ (us : List UnitAst). AnswersUnits c.args.settings.now c.args.program.now.sevs us (Ok c.in-Ok.units))
+    subst (λ (us : List UnitAst). AnswersUnits c.args.settings.now c.args.program.now.port c.args.program.now.sevs us (Ok c.in-Ok.units))
     c.as_slice-2.ensures
-    (subst (λ (ds : List SevDef). AnswersUnits c.args.settings.now ds c.as_slice-2.result.now (Ok c.in-Ok.units))
+    (subst (λ (ds : List SevDef). AnswersUnits c.args.settings.now c.args.program.now.port ds c.as_slice-2.result.now (Ok c.in-Ok.units))
     c.as_slice-sevs.ensures c.in-Ok.ensures)
 
 pub returns-in-Ok : goal.returns-in-Ok

@@ -5,6 +5,6 @@ use Rattle.dl_types.proofs.program.check_units.Given as goal
 
 abbrev pub invariant-units : goal.invariant-units
 invariant-units l = record {
-  planned : Planned l.settings l.sevs l.units l.at l.made.items;
+  planned : Planned l.settings l.port l.sevs l.units l.at l.made.items;
   names : map (λ name. name.now) l.names.keys ≡ names_of (take l.at l.units);
 }

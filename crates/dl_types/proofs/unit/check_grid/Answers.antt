@@ -1,7 +1,9 @@
 -- Where no rule is broken, the parts of the plan are valid.
 use Rattle.dl_types.proofs.Common.{ℕ, ◌≡◌, ◌∙◌, sym, ap, subst, agr_layered, HorizonTooLarge, breaks, fault_of_clauses, fault_of_count, IsCountKept, IsCountMade, horizon_too_large}
 use Rattle.std.specs.Prelude.{IfOk}
-use Rattle.dl_types.proofs.UnitFacts.{fine_agr, kept_is, first_told, second_told, third_told, grid_told, made_answer}
+use Rattle.dl_types.specs.Rules.{zero_base}
+use Rattle.dl_types.specs.declared.rule.Rule.TheVariants.{ZeroBase}
+use Rattle.dl_types.proofs.UnitFacts.{fine_agr, kept_is, first_told, second_told, third_told, fourth_told, grid_told, made_answer}
 use Rattle.dl_types.proofs.unit.check_grid.Goals as goal
 
 pub returns-in_err-amounts : goal.returns-in_err-amounts
@@ -34,8 +36,21 @@ returns-in_err-cede c =
     grid_told settings c.args.number u c.args.unit.now.name.text (at c.cells.result)
     c.from_residual-in_err-cede.result c.in_err-cede.field-0.0 c.from_residual-in_err-cede.ensures
     c.in_err-cede.ensures.told
-    (λ t e. third_told settings c.args.number u c.in_ok-amounts.ensures.told c.in_ok-claims.ensures.told _
+    (λ t e. third_told settings c.args.number u c.in_ok-amounts.ensures.told c.in_ok-claims.ensures.told t
     (sym (ap at c.cells.ensures) ∙ e))
+
+pub returns-in_err-broken : goal.returns-in_err-broken
+returns-in_err-broken c =
+    let u = c.args.grid.now in
+    let settings = c.args.settings.now in
+    let at = λ (k : ℕ). breaks c.args.number HorizonTooLarge (horizon_too_large k u.agr) in
+    let place = c.zero_base-place.ensures ∙ ap (zero_base u.count u.zero) c.in_ok-claims.ensures.count in
+    grid_told settings c.args.number u c.args.unit.now.name.text (breaks c.args.number ZeroBase c.zero_base-place.result)
+    c.from_residual-in_err-broken.result c.in_err-broken.field-0.0 c.from_residual-in_err-broken.ensures
+    c.in_err-broken.ensures
+    (λ t e. fourth_told settings c.args.number u c.in_ok-amounts.ensures.told c.in_ok-claims.ensures.told
+    (sym (ap at c.cells.ensures) ∙ c.in_ok-cede.ensures.told) _
+    (sym (ap (breaks c.args.number ZeroBase) place) ∙ e))
 
 pub planned-requires : goal.planned-requires
 planned-requires c =
@@ -48,8 +63,10 @@ returns c =
     let settings = c.args.settings.now in
     let made = c.planned.ensures in
     let at = λ (k : ℕ). breaks c.args.number HorizonTooLarge (horizon_too_large k u.agr) in
-    let none = third_told settings c.args.number u c.in_ok-amounts.ensures.told c.in_ok-claims.ensures.told _
-    (sym (ap at c.cells.ensures) ∙ c.in_ok-cede.ensures.told) in
+    let place = c.zero_base-place.ensures ∙ ap (zero_base u.count u.zero) c.in_ok-claims.ensures.count in
+    let near = sym (ap at c.cells.ensures) ∙ c.in_ok-cede.ensures.told in
+    let none = fourth_told settings c.args.number u c.in_ok-amounts.ensures.told c.in_ok-claims.ensures.told near _
+    (sym (ap (breaks c.args.number ZeroBase) place) ∙ c.in_ok-broken.ensures) in
     made_answer settings c.args.number u c.requires.grid c.requires.within none c.args.unit.now.name.text
     c.in_ok-claims.claims.severity c.in_ok-cede.cede c.in_ok-claims.ensures.claims.severity c.in_ok-cede.ensures.made c.planned.result
     (subst (λ text. IfOk c.planned.result (λ made. made.name ≡ text)) c.as_slice.ensures made.name) made.severity

@@ -1,0 +1,20 @@
+use Rattle.std.proofs.Common.{◌*◌, arith, ap₂, ◌∙◌}
+use Rattle.dl_exact.specs.Fraction.{◌+ℚ◌}
+use Rattle.dl_exact.specs.Sum.{sum_to}
+use Rattle.dl_by_hand.specs.CommonFactor.{worth}
+use Rattle.dl_by_hand.proofs.ScoreLaws.{gives_ok}
+use Rattle.dl_by_hand.proofs.SharedClaimLaws.{sum_start, sum_next}
+use Rattle.dl_by_hand.proofs.common_factor.+over_first.Goals as goal
+
+pub returns-then-s-eq0 : goal.returns-then-s-eq0
+returns-then-s-eq0 t c =
+    c.in_ok-here.ensures
+    ∙ sum_start c.args.s (λ a. sum_to (c.args.k * c.args.pair.now.second.most)
+    (λ b. worth c.args.pair.now c.args.asked c.args.j a c.args.k b)) c.if-s-eq0.true
+
+pub returns : goal.returns
+returns t c =
+    gives_ok c.add.result _ _ c.add.ensures
+    (ap₂ (λ x y. x +ℚ y) c.in_ok-fewer.ensures c.in_ok-here.ensures
+    ∙ sum_next c.args.s (λ a. sum_to (c.args.k * c.args.pair.now.second.most)
+    (λ b. worth c.args.pair.now c.args.asked c.args.j a c.args.k b)) (omega arith))

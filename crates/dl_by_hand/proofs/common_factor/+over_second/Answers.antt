@@ -1,0 +1,17 @@
+use Rattle.std.proofs.Common.{arith, ap₂, ◌∙◌}
+use Rattle.dl_exact.specs.Fraction.{◌+ℚ◌}
+use Rattle.dl_by_hand.specs.CommonFactor.{worth}
+use Rattle.dl_by_hand.proofs.ScoreLaws.{gives_ok}
+use Rattle.dl_by_hand.proofs.SharedClaimLaws.{sum_start, sum_next}
+use Rattle.dl_by_hand.proofs.common_factor.+over_second.Goals as goal
+
+pub returns-then-t-eq0 : goal.returns-then-t-eq0
+returns-then-t-eq0 t c =
+    c.in_ok-here.ensures
+    ∙ sum_start c.args.t (λ b. worth c.args.pair.now c.args.asked c.args.j c.args.s c.args.k b) c.if-t-eq0.true
+
+pub returns : goal.returns
+returns t c =
+    gives_ok c.add.result _ _ c.add.ensures
+    (ap₂ (λ x y. x +ℚ y) c.in_ok-fewer.ensures c.in_ok-here.ensures
+    ∙ sum_next c.args.t (λ b. worth c.args.pair.now c.args.asked c.args.j c.args.s c.args.k b) (omega arith))
