@@ -24,27 +24,31 @@ pw_size : (B k b fuel m : ℕ) → IsPlanScale B → m ≤ fuel → 1 ≤ m → 
 pw_size B k b zero m e few some room = absurd (omega (arith, few, some))
 pw_size B k b (suc fuel) m e few some room = elim (eqb_tells m 1) [
   | inl one ↦ size_least (2 ^ B) _ _
-      (omega (arith, ap (λ t. t * rounded_spread k 0 b) one.1, ap (λ t. rounded_spread k 0 (pw (2 ^ B) k b t)) one.1,
-      ap (rounded_spread k 0) (pw_one (2 ^ B) k b)))
+      (omega (
+        arith,
+        ap (λ t. t * rounded_spread k 0 b) one.1,
+        ap (λ t. rounded_spread k 0 (pw (2 ^ B) k b t)) one.1,
+        ap (rounded_spread k 0) (pw_one (2 ^ B) k b),
+      ))
   | inr more ↦ elim (eqb_tells (m % 2) 0) [
-      | inl even ↦
-          let j = m / 2 in
-          let half : j + j ≡ m = omega (arith, even.1) in
-          let double : m ≡ 2 * j = omega (arith, even.1) in
-          let least : 1 ≤ j = omega (arith, half, some) in
-          square_size B k b j m _ _ e half room
-          (pw_size B k b fuel j e (omega (arith, half, few, least)) least (room_of j m (omega (arith, half)) room))
-          (ap (pw (2 ^ B) k b) double ∙ pw_even (2 ^ B) k b j least)
-      | inr odd ↦
-          let j = m / 2 in
-          let half : j + j + 1 ≡ m = omega (arith, odd.1) in
-          let double : m ≡ 2 * j + 1 = omega (arith, odd.1) in
-          let least : 1 ≤ j = omega (arith, half, some, more.1) in
-          (odd_size B k b j m _ _ _ e half room
-          (pw_size B k b fuel j e (omega (arith, half, few)) least (room_of j m (omega (arith, half)) room)) refl
-          (ap (pw (2 ^ B) k b) double ∙ pw_odd (2 ^ B) k b j least
-          ∙ ap (λ t. cv (2 ^ B) k t b) (pw_even (2 ^ B) k b j least))).1
-    ]
+    | inl even ↦
+        let j = m / 2 in
+        let half : j + j ≡ m = omega (arith, even.1) in
+        let double : m ≡ 2 * j = omega (arith, even.1) in
+        let least : 1 ≤ j = omega (arith, half, some) in
+        square_size B k b j m _ _ e half room
+        (pw_size B k b fuel j e (omega (arith, half, few, least)) least (room_of j m (omega (arith, half)) room))
+        (ap (pw (2 ^ B) k b) double ∙ pw_even (2 ^ B) k b j least)
+    | inr odd ↦
+        let j = m / 2 in
+        let half : j + j + 1 ≡ m = omega (arith, odd.1) in
+        let double : m ≡ 2 * j + 1 = omega (arith, odd.1) in
+        let least : 1 ≤ j = omega (arith, half, some, more.1) in
+        (odd_size B k b j m _ _ _ e half room
+        (pw_size B k b fuel j e (omega (arith, half, few)) least (room_of j m (omega (arith, half)) room)) refl
+        (ap (pw (2 ^ B) k b) double ∙ pw_odd (2 ^ B) k b j least
+        ∙ ap (λ t. cv (2 ^ B) k t b) (pw_even (2 ^ B) k b j least))).1
+  ]
 ]
   where
     room_of : (j m : ℕ) → j ≤ m → m * rounded_spread k 0 b ≤ most_operands → j * rounded_spread k 0 b ≤ most_operands

@@ -87,8 +87,12 @@ returns-in_ok-changed-in-Some-clause-mean g c =
 
 pub returns-in_ok-changed-in-Some-clause-small : goal.returns-in_ok-changed-in-Some-clause-small
 returns-in_ok-changed-in-Some-clause-small g c =
-    omega (arith, c.zero_mean.ensures.small, changed_small c.args.unit.now c.in-Some.p c.args.mean.hi c.in-Some.is
-    c.requires.small)
+    omega (
+      arith,
+      c.zero_mean.ensures.small,
+      changed_small c.args.unit.now c.in-Some.p c.args.mean.hi c.in-Some.is
+          c.requires.small,
+    )
 
 pub returns-in-None-clause-grid : goal.returns-in-None-clause-grid
 returns-in-None-clause-grid g c = same_grid c.args.cells c.args.unit.now c.args.grid c.in-None.is c.requires.grid

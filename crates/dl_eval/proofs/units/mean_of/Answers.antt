@@ -50,8 +50,12 @@ returns-in_ok-none-in-Some-clause-mean g c =
 
 pub returns-in_ok-none-in-Some-clause-small : goal.returns-in_ok-none-in-Some-clause-small
 returns-in_ok-none-in-Some-clause-small g c =
-    omega (arith, c.zero_mean.ensures.small, changed_small c.args.unit.now c.in-Some.p c.in_ok-mean.mean.hi
-    c.in-Some.is c.in_ok-mean.ensures.small)
+    omega (
+      arith,
+      c.zero_mean.ensures.small,
+      changed_small c.args.unit.now c.in-Some.p c.in_ok-mean.mean.hi
+          c.in-Some.is c.in_ok-mean.ensures.small,
+    )
 
 pub returns-in-None-clause-mean : goal.returns-in-None-clause-mean
 returns-in-None-clause-mean g c = same_mean c.args.cells c.args.unit.now c.in_ok-mean.mean c.in-None.is
