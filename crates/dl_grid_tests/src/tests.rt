@@ -5,4 +5,5 @@ mod grid;
 mod helpers;
 mod iv;
 mod product;
+mod quotients;
 mod transform;

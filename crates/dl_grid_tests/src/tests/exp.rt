@@ -83,3 +83,56 @@ fn values(rt: HostRuntime) {
         assert!(rt; holds(enclosed::<56>(case), case.units[2]));
     }
 }
+
+/// A fraction, and the reciprocals of the sums of its series to the term 18, in units of 1 / 2^56:
+/// the terms worked outside the program in whole units of 1 / 2^63, rounded down and up.
+struct Ends {
+    num: u64,
+    den: u64,
+    ends: (u128, u128),
+}
+
+const ENDS: [Ends; 6] = [
+    Ends {
+        num: 0,
+        den: 1,
+        ends: (72057594037927936, 72057594037927936),
+    },
+    Ends {
+        num: 1,
+        den: 2,
+        ends: (43705140049129551, 43705140049129552),
+    },
+    Ends {
+        num: 7,
+        den: 23,
+        ends: (53149988603117868, 53149988603117870),
+    },
+    Ends {
+        num: 1,
+        den: 1099511627776,
+        ends: (72057594037862399, 72057594037862401),
+    },
+    Ends {
+        num: 14,
+        den: 61,
+        ends: (57280343513345723, 57280343513345725),
+    },
+    Ends {
+        num: 2305843009213693951,
+        den: 4611686018427387903,
+        ends: (43705140049129551, 43705140049129552),
+    },
+];
+
+#[test]
+fn ends_by_18_terms(rt: HostRuntime) {
+    for row in ENDS.iter() {
+        let case = Case {
+            num: row.num,
+            den: row.den,
+            units: [0, 0, 0],
+        };
+        assert_eq!(rt; enclosed::<56>(case), Some(row.ends));
+    }
+}

@@ -63,6 +63,7 @@ fn scaled<const B: u32>(first: Iv<B>, num: u64, den: u64) -> Option<(u128, u128)
 }
 
 fn divided<const B: u32>(first: Iv<B>, second: Iv<B>) -> Option<(u128, u128)> {
+    first.hi.min(second.hi).checked_mul(units_of_one(B))?;
     if second.lo == 0 || first.hi.checked_mul(units_of_one(B))?.div_ceil(second.lo) > MOST {
         return None;
     }
