@@ -10,7 +10,7 @@ use Rattle.dl_plan.specs.declared.settings.Ask.{Ask}
 use Rattle.dl_plan.specs.declared.settings.Ask.TheVariants.{Pmf, Cdf, Mean, Quantile, LayerMean, Tail, Joint, Kappa}
 use Rattle.dl_plan.specs.declared.settings.Settings.{Settings}
 use Rattle.dl_plan.specs.Facts.{facts_of}
-use Rattle.dl_plan.specs.Ranges.{HasLevel}
+use Rattle.dl_plan.specs.Ranges.{HasLevels}
 use Rattle.dl_budget.specs.Units.{unit_budgets, total_budget, others_budget, mean_budget}
 
 -- how many units come before the one of this name
@@ -78,8 +78,8 @@ IsNamed name units = place_of name units < length units
 abbrev pub NamesUnit : List UnitOfPlan → Ask → Type 0
 NamesUnit units ask = IfSome (facts_of ask).unit (λ name. IsNamed name units)
 
--- an ask about this plan: inside its grid, of one of its units, at a probability below 1
+-- an ask about this plan: inside its grid, of one of its units, at probabilities below 1
 pub record IsAskOf (plan : Plan) (ask : Ask) : Type 0 where
   pub inside : IsInside plan.cells ask
   pub unit : NamesUnit plan.units ask
-  pub level : HasLevel ask
+  pub levels : HasLevels ask

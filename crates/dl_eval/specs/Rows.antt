@@ -92,10 +92,14 @@ pub record IsTailMean (plan : Plan) (p : Fraction) (d most : ℕ) (row : Row) : 
   pub reached : IsAtLeast plan (at_the_end plan) p
   pub ends : AreRowEnds (DeclaresTail plan p) d most row
 
--- No tail mean at p: only where the distribution at the last cell is below p + d.
-pub record IsBeyond (plan : Plan) (p d : Fraction) (row : Row) : Type 0 where
+-- both ends lie past the grid
+pub record IsPastGrid (row : Row) : Type 0 where
   pub is_low : row.low ≡ Beyond
   pub is_high : row.high ≡ Beyond
+
+-- No tail mean at p: only where the distribution at the last cell is below p + d.
+pub record IsBeyond (plan : Plan) (p d : Fraction) (row : Row) : Type 0 where
+  pub past : IsPastGrid row
   pub below : IsBelow plan (at_the_end plan) (p +ℚ d)
 
 -- The share of unit i in the total x in numbers: its mean outcome, given that total. They come only

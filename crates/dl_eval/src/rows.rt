@@ -4,10 +4,10 @@ ghost use Rattle.std.specs.Prelude.{◌≡◌, ◌≤◌, ◌^◌, ◌⊎◌, �
 ghost use Rattle.dl_limits.specs.Limits.{IsPlanScale, bits_of, most_digits};
 ghost use Rattle.dl_plan.specs.declared.plan.Plan.{Plan as PlanValue};
 ghost use Rattle.dl_plan.specs.declared.settings.Ask.TheVariants as asks;
-ghost use Rattle.dl_plan.specs.Ranges.{IsLevel, HasLevel};
+ghost use Rattle.dl_plan.specs.Ranges.{IsLevel, HasLevels};
 ghost use Rattle.dl_plan.specs.Valid.{IsValid};
 ghost use Rattle.dl_budget.specs.Asks.{IsInside, NamesUnit, tail_budget, in_digits};
-ghost use Rattle.dl_eval.specs.Rows.{IsBracket, IsTailMean, IsBeyond, IsAnswerTo, IsGood, bracket_end, total_error};
+ghost use Rattle.dl_eval.specs.Rows.{IsBracket, IsTailMean, IsBeyond, IsPastGrid, IsAnswerTo, IsGood, bracket_end, total_error};
 ghost use Rattle.dl_eval.specs.Totals.{most_mean, IsTotalOf, IsMeanOf, AreGridsOf, HasOthers, Prints};
 
 use crate::grids::Grids;
@@ -47,6 +47,14 @@ pub(crate) fn ends_row<const B: u32>(
 {
     let (low, high) = value.print_ends(digits);
     row_with(alloc, asked, End::Number(low), End::Number(high))
+}
+
+/// The row of an ask whose quantile lies past the grid.
+pub(crate) fn beyond_row(alloc: Global, asked: &Asked) -> Result<Row, AllocError>
+    ensures ask { IfOk result (λ row. row.ask ≡ asked.now.text) }
+    ensures ends { IfOk result IsPastGrid }
+{
+    row_with(alloc, asked, End::Beyond, End::Beyond)
 }
 
 /// The end of a bracket.
@@ -101,7 +109,7 @@ fn tail_row<const B: u32>(
 {
     match tail_mean(total, p, mean) {
         Some(tail) => ends_row(alloc, asked, digits, tail),
-        None => row_with(alloc, asked, End::Beyond, End::Beyond),
+        None => beyond_row(alloc, asked),
     }
 }
 
@@ -117,7 +125,7 @@ fn grid_row<const B: u32>(
 ) -> Result<Row, AllocError>
     requires scale { B ≡ bits_of plan.now.cells }
     requires digits { digits ≤ most_digits }
-    requires level { HasLevel asked.now.ask }
+    requires levels { HasLevels asked.now.ask }
     requires valid { IsValid plan.now }
     requires inside { IsInside plan.now.cells asked.now.ask }
     requires named { NamesUnit plan.now.units asked.now.ask }
@@ -163,7 +171,7 @@ pub(crate) fn row<const B: u32>(
 ) -> Result<Row, AllocError>
     requires scale { B ≡ bits_of plan.now.cells }
     requires digits { digits ≤ most_digits }
-    requires level { HasLevel asked.now.ask }
+    requires levels { HasLevels asked.now.ask }
     requires valid { IsValid plan.now }
     requires inside { IsInside plan.now.cells asked.now.ask }
     requires named { NamesUnit plan.now.units asked.now.ask }

@@ -1,5 +1,5 @@
 -- The ranges of the settings, as the command line gives them.
-use Rattle.std.specs.Prelude.{◌^◌, ◌<◌, ◌≤◌, IfSome, length, All}
+use Rattle.std.specs.Prelude.{◌^◌, ◌<◌, ◌≤◌, length, All}
 use Rattle.dl_limits.specs.Limits.{most_asks, most_digits, most_log2}
 use Rattle.dl_exact.specs.Fraction.{Fraction, whole, ◌<ℚ◌}
 use Rattle.dl_plan.specs.declared.settings.Ask.{Ask}
@@ -18,9 +18,9 @@ pub record IsLevel (p : Fraction) : Type 0 where
   pub num : p.num ≤ 10 ^ 9
   pub den : p.den ≤ 10 ^ 9
 
--- the probability of the ask, if it has one, is such
-abbrev pub HasLevel : Ask → Type 0
-HasLevel ask = IfSome (facts_of ask).level IsLevel
+-- each probability of the ask is such
+abbrev pub HasLevels : Ask → Type 0
+HasLevels ask = All IsLevel (facts_of ask).levels
 
 -- a bucket size; from 2 to 65,536 cells; from 1 to 9 digits; widths of at least 1; and at most 256
 -- asks
@@ -32,5 +32,5 @@ pub record AreInRange (settings : Settings) : Type 0 where
   pub few_digits : settings.digits ≤ most_digits
   pub width : 1 ≤ settings.width
   pub mwidth : 1 ≤ settings.mwidth
-  pub levels : All (λ asked. HasLevel asked.ask) settings.asks
+  pub levels : All (λ asked. HasLevels asked.ask) settings.asks
   pub few_asks : length settings.asks ≤ most_asks

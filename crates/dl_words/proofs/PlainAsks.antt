@@ -72,8 +72,8 @@ numeral_plain text (fraction first second a b cut) =
 amount_plain : (text : Text) → IsTrue (is_amount text) → ArePlain text
 amount_plain text h = digits_plain text (both _ _ (both (is_number text) _ h).0).1
 
-probability_plain : (text : Text) → IsTrue (is_probability text) → ArePlain text
-probability_plain text h = numeral_plain text ((numeral_test text).0 (both (is_numeral text) _ (both _ _ h).0).0)
+probability_plain : (digits : ℕ) (text : Text) → IsTrue (is_probability digits text) → ArePlain text
+probability_plain digits text h = numeral_plain text ((numeral_test text).0 (both (is_numeral text) _ (both _ _ h).0).0)
 
 name_plain : (text : Text) → IsTrue (is_word text) → ArePlain text
 name_plain text h = passed is_word_byte word_plain text (both (begins_with_letter text) _ h).1
@@ -90,8 +90,8 @@ spelled_plain : (text : Text) (ask : Ask) → SpellsAsk text ask → ArePlain te
 spelled_plain text ask (pmf x h e) = behind (codes "pmf:") x text e refl (amount_plain x h)
 spelled_plain text ask (cdf x h e) = behind (codes "cdf:") x text e refl (amount_plain x h)
 spelled_plain text ask (mean e) = subst ArePlain (sym e) (literal (codes "mean") refl)
-spelled_plain text ask (q p h e) = behind (codes "q:") p text e refl (probability_plain p h)
-spelled_plain text ask (tail p h e) = behind (codes "tail:") p text e refl (probability_plain p h)
+spelled_plain text ask (q p h e) = behind (codes "q:") p text e refl (probability_plain 9 p h)
+spelled_plain text ask (tail p h e) = behind (codes "tail:") p text e refl (probability_plain 9 p h)
 spelled_plain text ask (layer limit attach l h e) =
     behind (codes "layer:") (limit ++ (codes "xs" ++ attach)) text e refl
     (together limit (codes "xs" ++ attach) (amount_plain limit l)

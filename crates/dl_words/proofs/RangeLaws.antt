@@ -4,10 +4,10 @@ use Rattle.dl_exact.proofs.BelowOne.{below_one}
 use Rattle.std.proofs.lemmas.Bool.{leb-true}
 use Rattle.std.proofs.Common.{not, IfSome, IsUtf8}
 use Rattle.std.proofs.lemmas.List.Elements.{All-head, All-tail}
-use Rattle.dl_exact.specs.Fraction.{whole}
+use Rattle.dl_exact.specs.Fraction.{Fraction, whole}
 use Rattle.dl_exact.proofs.Parts.{pos_num}
 use Rattle.dl_plan.proofs.Buckets.{one_bucket}
-use Rattle.dl_plan.specs.Ranges.{IsBucket, IsLevel, HasLevel, AreInRange}
+use Rattle.dl_plan.specs.Ranges.{IsBucket, IsLevel, HasLevels, AreInRange}
 use Rattle.dl_words.specs.Options.{is_make_alone, or_default, settings_of}
 use Rattle.dl_words.specs.Parts.Kind.{whole as joined_kind}
 use Rattle.dl_words.proofs.Numerals.{both, less}
@@ -31,7 +31,7 @@ bucket text h =
       den = small.den;
     }
 
-level : (text : Text) → IsTrue (is_probability text) → IsLevel (numeral_value text)
+level : (text : Text) → IsTrue (is_probability 9 text) → IsLevel (numeral_value text)
 level text h =
     let t = both (is_numeral text && not (is_bad 9 text)) _ h in
     let small : IsSmall 9 (numeral_value text) = numeral_small 7 text
@@ -68,16 +68,19 @@ module _ (low high default : ℕ) (texts : List Text) where
 
 -- ---- the asks
 
-spelled_level : (text : Text) (ask : Ask) → SpellsAsk text ask → HasLevel ask
-spelled_level text ask (pmf x h e) = tt
-spelled_level text ask (cdf x h e) = tt
-spelled_level text ask (mean e) = tt
-spelled_level text ask (q p h e) = level p h
-spelled_level text ask (tail p h e) = level p h
-spelled_level text ask (layer limit attach l h e) = tt
-spelled_level text ask (no_limit attach h e) = tt
-spelled_level text ask (joint name x n h e) = tt
-spelled_level text ask (kappa name x n h e) = tt
+one_level : (p : Fraction) → IsLevel p → All IsLevel (p ∷ [])
+one_level p h = All-cons IsLevel p [] h (All-nil IsLevel)
+
+spelled_level : (text : Text) (ask : Ask) → SpellsAsk text ask → HasLevels ask
+spelled_level text ask (pmf x h e) = All-nil IsLevel
+spelled_level text ask (cdf x h e) = All-nil IsLevel
+spelled_level text ask (mean e) = All-nil IsLevel
+spelled_level text ask (q p h e) = one_level (numeral_value p) (level p h)
+spelled_level text ask (tail p h e) = one_level (numeral_value p) (level p h)
+spelled_level text ask (layer limit attach l h e) = All-nil IsLevel
+spelled_level text ask (no_limit attach h e) = All-nil IsLevel
+spelled_level text ask (joint name x n h e) = All-nil IsLevel
+spelled_level text ask (kappa name x n h e) = All-nil IsLevel
 
 module _ (P : Text → Type 0) (Q : Asked → Type 0) (each : (text : Text) (ask : Ask) → ask_of text ≡ Some ask → P text
     → Q (record { text = text; ask = ask })) where
@@ -135,8 +138,8 @@ module _ (form : Form) (values : Values) (texts : List Text) (asks : List Asked)
       let wide = between_of 1 1000000000 10 (values (codes "width")) (omega arith, omega arith) width.0 in
       let mean_wide = between_of 1 1000000000000 1000000 (values (codes "mwidth"))
       (omega arith, omega arith) mwidth.0 in
-      let levels : All (λ asked. HasLevel asked.ask) asks = subst (λ r. IfOk r (All (λ asked. HasLevel asked.ask))) e
-      (asks_each (λ _. ⊤) (λ asked. HasLevel asked.ask)
+      let levels : All (λ asked. HasLevels asked.ask) asks = subst (λ r. IfOk r (All (λ asked. HasLevels asked.ask))) e
+      (asks_each (λ _. ⊤) (λ asked. HasLevels asked.ask)
       (λ text ask is _. spelled_level text ask (table_back text ask is)) texts (all_true texts)) in
       let same : length asks ≡ length texts = subst (λ r. IfOk r (λ all. length all ≡ length texts)) e
       (as_many texts) in

@@ -95,9 +95,10 @@ amount_back : {B : Type 0} (mk : ℕ → B) (text : Text) (y : B) → option_map
     → IsTrue (is_amount text) × (mk (number text) ≡ y)
 amount_back mk text y e = written_back mk (is_amount text) (number text) y e
 
-probability_back : (mk : Fraction → Ask) (text : Text) (ask : Ask) → option_map mk (probability_written text) ≡ Some ask
-    → IsTrue (is_probability text) × (mk (numeral_value text) ≡ ask)
-probability_back mk text ask e = written_back mk (is_probability text) (numeral_value text) ask e
+probability_back : (digits : ℕ) (mk : Fraction → Ask) (text : Text) (ask : Ask)
+    → option_map mk (probability_written digits text) ≡ Some ask
+    → IsTrue (is_probability digits text) × (mk (numeral_value text) ≡ ask)
+probability_back digits mk text ask e = written_back mk (is_probability digits text) (numeral_value text) ask e
 
 cut_back : (s : ℕ) (text : Text) (cut : Text × Text) → cut_at s text ≡ Some cut → text ≡ cut.0 ++ s ∷ cut.1
 cut_back s text cut e =
@@ -185,9 +186,9 @@ module _ (text head rest : Text) (ask : Ask) (spelled : text ≡ head ++ 58 ∷ 
       subst (SpellsAsk text) a.1 (pmf rest a.0 t)) (λ e.
       choice (codes "cdf") _ _ e (λ t there. let a = amount_back Cdf rest ask there in
       subst (SpellsAsk text) a.1 (cdf rest a.0 t)) (λ e.
-      choice (codes "q") _ _ e (λ t there. let a = probability_back Quantile rest ask there in
+      choice (codes "q") _ _ e (λ t there. let a = probability_back 9 Quantile rest ask there in
       subst (SpellsAsk text) a.1 (q rest a.0 t)) (λ e.
-      choice (codes "tail") _ _ e (λ t there. let a = probability_back Tail rest ask there in
+      choice (codes "tail") _ _ e (λ t there. let a = probability_back 9 Tail rest ask there in
       subst (SpellsAsk text) a.1 (tail rest a.0 t)) (λ e.
       choice (codes "layer") _ _ e (λ t there. layer_back text rest ask t there) (λ e.
       choice (codes "joint") _ _ e (λ t there. unit_spelled (codes "joint:") Joint t there

@@ -20,9 +20,9 @@ cut_at sign text =
 abbrev pub amount_written : Text → Option ℕ
 amount_written text = if is_amount text then Some (number text) else None
 
--- `p`
-abbrev pub probability_written : Text → Option Fraction
-probability_written text = if is_probability text then Some (numeral_value text) else None
+-- `p`, with so many digits
+abbrev pub probability_written : ℕ → Text → Option Fraction
+probability_written digits text = if is_probability digits text then Some (numeral_value text) else None
 
 -- `L` with its amount, or `inf`, which is no limit
 abbrev pub limit_written : Text → Option (Option ℕ)
@@ -54,8 +54,8 @@ abbrev pub ask_between : Text → Text → Option Ask
 ask_between head rest =
     if bytes_eq head (codes "pmf") then option_map Pmf (amount_written rest)
     else if bytes_eq head (codes "cdf") then option_map Cdf (amount_written rest)
-    else if bytes_eq head (codes "q") then option_map Quantile (probability_written rest)
-    else if bytes_eq head (codes "tail") then option_map Tail (probability_written rest)
+    else if bytes_eq head (codes "q") then option_map Quantile (probability_written 9 rest)
+    else if bytes_eq head (codes "tail") then option_map Tail (probability_written 9 rest)
     else if bytes_eq head (codes "layer") then layer_of rest
     else if bytes_eq head (codes "joint") then option_map (λ parts. Joint parts.0 parts.1)
     (unit_parts rest)

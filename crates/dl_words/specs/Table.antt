@@ -12,9 +12,9 @@ pub data SpellsAsk (text : Text) : Ask → Type 0 where
   cdf : (x : Text) → IsTrue (is_amount x) → text ≡ codes "cdf:" ++ x
       → SpellsAsk text (Cdf (number x))
   mean : text ≡ codes "mean" → SpellsAsk text Mean
-  q : (p : Text) → IsTrue (is_probability p) → text ≡ codes "q:" ++ p
+  q : (p : Text) → IsTrue (is_probability 9 p) → text ≡ codes "q:" ++ p
       → SpellsAsk text (Quantile (numeral_value p))
-  tail : (p : Text) → IsTrue (is_probability p) → text ≡ codes "tail:" ++ p
+  tail : (p : Text) → IsTrue (is_probability 9 p) → text ≡ codes "tail:" ++ p
       → SpellsAsk text (Tail (numeral_value p))
   layer : (limit attach : Text) → IsTrue (is_amount limit) → IsTrue (is_amount attach)
       → text ≡ codes "layer:" ++ (limit ++ (codes "xs" ++ attach))

@@ -71,8 +71,8 @@ fn ask_between(alloc: Global, head: &str, rest: &str) -> Result<Option<Ask>, All
     match head {
         "pmf" => Ok(amount(rest).map(Ask::Pmf)),
         "cdf" => Ok(amount(rest).map(Ask::Cdf)),
-        "q" => Ok(probability(rest).map(Ask::Quantile)),
-        "tail" => Ok(probability(rest).map(Ask::Tail)),
+        "q" => Ok(probability(rest, 9).map(Ask::Quantile)),
+        "tail" => Ok(probability(rest, 9).map(Ask::Tail)),
         "layer" => Ok(layer(rest)),
         "joint" => Ok(unit_at(alloc, rest)?.map(|(unit, at)| Ask::Joint { unit, at })),
         "kappa" => Ok(unit_at(alloc, rest)?.map(|(unit, at)| Ask::Kappa { unit, at })),

@@ -78,11 +78,12 @@ pub(crate) fn bucket(text: &str) -> Option<Frac>
     (0 < value.num()).then_some(value)
 }
 
-/// The value of a numeral below 1 that is not bad with 9 digits.
-pub(crate) fn probability(text: &str) -> Option<Frac>
-    ensures { result ≡ probability_written text.now }
+/// The value of a numeral below 1 that is not bad with a limit of `digits` digits, at most 9.
+pub(crate) fn probability(text: &str, digits: u32) -> Option<Frac>
+    requires { digits ≤ 9 }
+    ensures { result ≡ probability_written digits text.now }
 {
-    let value = fraction(text, 9)?;
+    let value = fraction(text, digits)?;
     (value.num() < value.den()).then_some(value)
 }
 

@@ -1,4 +1,6 @@
-use Rattle.dl_eval.proofs.Common.{◌^◌, arith, ap₂, ◌∙◌, IfOk-weaker, place_of}
+use Rattle.dl_eval.proofs.Common.{[], ◌^◌, arith, ap₂, ◌∙◌, IfOk-weaker, place_of}
+use Rattle.std.proofs.lemmas.List.Elements.{All-head}
+use Rattle.dl_plan.specs.Ranges.{IsLevel}
 use Rattle.dl_eval.proofs.Insides.{layer_inside}
 use Rattle.dl_eval.proofs.GoodRows.{point_answer, cdf_answer, mean_answer, layer_answer}
 use Rattle.dl_eval.proofs.Scales.{plan_scale}
@@ -27,6 +29,27 @@ layer_mean-layer-requires g c =
             c.requires.grids.total.cells,
       ),
     )
+
+pub quantile_row-requires : goal.quantile_row-requires
+quantile_row-requires g c = (
+  omega arith,
+  (
+    plan_scale g.row.B c.args.plan.now.cells c.requires.scale,
+    All-head IsLevel c.in-Quantile.p [] (rw c.in-Quantile.is at c.requires.levels),
+  ),
+)
+
+pub tail_row-requires : goal.tail_row-requires
+tail_row-requires g c = (
+  omega arith,
+  (
+    omega arith,
+    (
+      plan_scale g.row.B c.args.plan.now.cells c.requires.scale,
+      (c.requires.digits, (All-head IsLevel c.in-Tail.p [] (rw c.in-Tail.is at c.requires.levels), c.requires.small)),
+    ),
+  ),
+)
 
 pub returns-in-Pmf-clause-answer : goal.returns-in-Pmf-clause-answer
 returns-in-Pmf-clause-answer g c =
