@@ -1,9 +1,9 @@
 -- What there is to know of an ask before it is answered: a row for each, from which follow whether
 -- it fits a grid and a plan, and how wide its answer may be.
-use Rattle.std.specs.Prelude.{ℕ, ◌+◌, Option, Some, None, List, [], ◌∷◌}
+use Rattle.std.specs.Prelude.{ℕ, ◌+◌, Option, Some, None, List, [], ◌∷◌, map}
 use Rattle.dl_exact.specs.Fraction.{Fraction}
 use Rattle.dl_plan.specs.declared.settings.Ask.{Ask}
-use Rattle.dl_plan.specs.declared.settings.Ask.TheVariants.{Pmf, Cdf, Mean, Quantile, LayerMean, Tail, Joint, Kappa}
+use Rattle.dl_plan.specs.declared.settings.Ask.TheVariants.{Pmf, Cdf, Mean, Quantile, LayerMean, Tail, Price, Joint, Kappa}
 use Rattle.dl_plan.specs.declared.settings.Settings.{Settings}
 use Rattle.dl_plan.specs.Horizon.{edge_of}
 
@@ -33,5 +33,6 @@ facts_of Mean = facts 0 None [] of_mean
 facts_of (Quantile p) = facts 0 None (p ∷ []) of_probability
 facts_of (LayerMean limit attach) = facts (edge_of limit attach) None [] of_mean
 facts_of (Tail p) = facts 0 None (p ∷ []) of_mean
+facts_of (Price terms) = facts 0 None (map (λ term. term.p) terms) of_mean
 facts_of (Joint unit at) = facts (at + 1) (Some unit) [] of_mean
 facts_of (Kappa unit at) = facts (at + 1) (Some unit) [] of_mean

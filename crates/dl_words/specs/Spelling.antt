@@ -58,6 +58,10 @@ abbrev pub is_probability : ℕ → Text → Bool
 is_probability digits text = is_numeral text && not (is_bad digits text)
     && nat_lt (numeral_value text).num (numeral_value text).den
 
+-- a numeral that is not bad with 9 digits
+abbrev pub is_weight : Text → Bool
+is_weight text = is_numeral text && not (is_bad 9 text)
+
 -- spelled as a word: a letter, then letters, digits, `_` and `-`
 abbrev pub is_word : Text → Bool
 is_word text = begins_with_letter text && list_all is_word_byte text

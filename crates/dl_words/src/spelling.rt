@@ -6,7 +6,7 @@ ghost use Rattle.std.specs.List.{list_all};
 ghost use Rattle.dl_frac.specs.Numerals.{is_bad, numeral_value};
 ghost use Rattle.dl_lexer.specs.Bytes.{is_word_byte};
 ghost use Rattle.dl_lexer.specs.Tokens.{begins_with_letter};
-ghost use Rattle.dl_words.specs.Asks.{amount_written, probability_written};
+ghost use Rattle.dl_words.specs.Asks.{amount_written, probability_written, weight_written};
 ghost use Rattle.dl_words.specs.Spelling.{begins_plainly, is_bucket, is_number_of, is_numeral, is_number_within, is_word, number};
 
 use dl_frac::{Frac, is_numeral, numeral};
@@ -85,6 +85,13 @@ pub(crate) fn probability(text: &str, digits: u32) -> Option<Frac>
 {
     let value = fraction(text, digits)?;
     (value.num() < value.den()).then_some(value)
+}
+
+/// The value of a weight: a numeral that is not bad with 9 digits.
+pub(crate) fn weight(text: &str) -> Option<Frac>
+    ensures { result ≡ weight_written text.now }
+{
+    fraction(text, 9)
 }
 
 /// Whether the bytes are spelled as a word of a program.
