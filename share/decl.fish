@@ -21,6 +21,7 @@ complete -c decl -n '__fish_seen_subcommand_from run' -a mean -d 'mean of the to
 complete -c decl -n '__fish_seen_subcommand_from run' -a q: -d 'quantile at p'
 complete -c decl -n '__fish_seen_subcommand_from run' -a layer: -d 'mean of a layer LxsA'
 complete -c decl -n '__fish_seen_subcommand_from run' -a tail: -d 'tail mean at p'
+complete -c decl -n '__fish_seen_subcommand_from run' -a price: -d 'weighted tail means'
 complete -c decl -n '__fish_seen_subcommand_from run' -a joint: -d 'joint mean of a unit at x'
 complete -c decl -n '__fish_seen_subcommand_from run' -a kappa: -d 'share of a unit in a total of x'
 complete -c decl -n '__decl_wants bs' -l bs -x -d 'size of a bucket, in money'

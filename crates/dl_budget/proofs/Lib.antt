@@ -9,3 +9,4 @@ pub mod Horizons
 pub mod Sums
 pub mod Means
 pub mod Tails
+mod Prices

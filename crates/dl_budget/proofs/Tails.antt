@@ -2,9 +2,10 @@
 use Rattle.dl_budget.proofs.Common.{ℕ, ◌≡◌, ◌+◌, ◌-◌, ◌*◌, ◌^◌, ◌<◌, ◌≤◌, arith, ap, ap₂, sym, ◌∙◌, div_ceil, mul-le-mul, mul-le-mul_left, Fraction, whole, ◌over◌, div_ceil_least, up, up_quotient}
 use Rattle.dl_exact.proofs.BelowOne.{num_below}
 use Rattle.dl_exact.specs.Fraction.{◌<ℚ◌}
+use Rattle.dl_plan.specs.Ranges.{IsLevel}
 
 pub tail_small : (both b rest : ℕ) → 0 < rest → b ≤ 10 ^ 9 → both ≤ 2 ^ 68 + 2 ^ 62
-    → div_ceil (both * b) rest + 4 ≤ 2 ^ 98
+    → div_ceil (both * b) rest + 4 ≤ 2 ^ 98 - 2 ^ 90
 tail_small both b rest some few small =
     let more : both * b * 1 ≤ both * b * rest = mul-le-mul_left (both * b) some in
     omega (arith, div_ceil_least (both * b) rest (both * b) some (omega (arith, more)), mul-le-mul small few)
@@ -26,3 +27,15 @@ tail_value M T cells x y b d n p of_mean of_total of_b of_d of_n below =
     let rest : 0 < p.den - p.num = omega (arith, num_below p below) in
     ap (λ t. t + 4) (ap₂ div_ceil top (ap₂ (λ s t. s - t) of_d of_n)
     ∙ sym (up_quotient ((2 * M + 3 * cells * T) * p.den) (p.den - p.num) rest))
+
+-- where the mean's and the total's budget are not too large
+pub tail_most : (M T cells : ℕ) (p : Fraction) → M ≤ 2 ^ 67 → T < 2 ^ 44 → cells ≤ 65536 → IsLevel p
+    → up (((2 * M + 3 * cells * T) * p.den) over (p.den - p.num)) + 4 ≤ 2 ^ 98 - 2 ^ 90
+tail_most M T cells p of_mean of_total few level =
+    let below = num_below p level.below in
+    omega (
+      arith,
+      up_quotient ((2 * M + 3 * cells * T) * p.den) (p.den - p.num) (omega (arith, below)),
+      tail_small (2 * M + 3 * cells * T) p.den (p.den - p.num) (omega (arith, below)) (omega (arith, level.den))
+          (tail_sums M cells T of_mean few of_total),
+    )

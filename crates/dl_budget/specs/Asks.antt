@@ -1,16 +1,17 @@
 -- The budget of an ask in units of 1/S, what it needs, and when it passes.
-use Rattle.std.specs.Prelude.{ℕ, ◌+◌, ◌*◌, ◌^◌, ◌<◌, ◌≤◌, Option, IfSome, List, length, get_or, bytes_eq}
+use Rattle.std.specs.Prelude.{ℕ, ◌+◌, ◌-◌, ◌*◌, ◌^◌, ◌<◌, ◌≤◌, Option, IfSome, List, length, get_or, sum_by, bytes_eq}
 use Rattle.std.specs.List.{position_or_len}
 use Rattle.dl_limits.specs.Limits.{rarest_parts}
-use Rattle.dl_exact.specs.Fraction.{Fraction, ◌over◌}
+use Rattle.dl_exact.specs.Fraction.{Fraction, whole, ◌over◌, ◌*ℚ◌}
 use Rattle.dl_grid.specs.Width.{up, cv, layer_width, tail_width}
 use Rattle.dl_plan.specs.declared.plan.Unit.{Unit as UnitOfPlan}
 use Rattle.dl_plan.specs.declared.plan.Plan.{Plan}
 use Rattle.dl_plan.specs.declared.settings.Ask.{Ask}
-use Rattle.dl_plan.specs.declared.settings.Ask.TheVariants.{Pmf, Cdf, Mean, Quantile, LayerMean, Tail, Joint, Kappa}
+use Rattle.dl_plan.specs.declared.settings.Ask.TheVariants.{Pmf, Cdf, Mean, Quantile, LayerMean, Tail, Price, Joint, Kappa}
 use Rattle.dl_plan.specs.declared.settings.Settings.{Settings}
+use Rattle.dl_plan.specs.declared.settings.Term.{Term}
 use Rattle.dl_plan.specs.Facts.{facts_of}
-use Rattle.dl_plan.specs.Ranges.{HasLevel}
+use Rattle.dl_plan.specs.Ranges.{IsAskInRange}
 use Rattle.dl_budget.specs.Units.{unit_budgets, total_budget, others_budget, mean_budget}
 
 -- how many units come before the one of this name
@@ -33,6 +34,15 @@ abbrev pub tail_budget : (S : ℕ) → Plan → Fraction → ℕ
 tail_budget S plan p =
     tail_width p (mean_budget S plan) plan.cells (total_budget S plan)
 
+-- a tail mean's budget is at most this
+abbrev pub most_tail_budget : ℕ
+most_tail_budget = 2 ^ 98 - 2 ^ 90
+
+-- that of a price: of each term its part of the tail mean, rounded once at each end
+abbrev pub price_budget : (S : ℕ) → Plan → List Term → ℕ
+price_budget S plan terms =
+    sum_by (λ term. up (term.weight *ℚ whole (tail_budget S plan term.p)) + 2) terms
+
 -- that of a share: it is told where the total is not too rare
 abbrev pub kappa_budget : (S : ℕ) → Plan → ℕ → ℕ
 kappa_budget S plan i =
@@ -46,6 +56,7 @@ ask_budget S plan Mean = mean_budget S plan
 ask_budget S plan (Quantile p) = total_budget S plan
 ask_budget S plan (LayerMean limit attach) = layer_mean_budget S plan limit attach
 ask_budget S plan (Tail p) = tail_budget S plan p
+ask_budget S plan (Price terms) = price_budget S plan terms
 ask_budget S plan (Joint unit at) = joint_budget S plan (place_of unit plan.units)
 ask_budget S plan (Kappa unit at) = kappa_budget S plan (place_of unit plan.units)
 
@@ -78,8 +89,8 @@ IsNamed name units = place_of name units < length units
 abbrev pub NamesUnit : List UnitOfPlan → Ask → Type 0
 NamesUnit units ask = IfSome (facts_of ask).unit (λ name. IsNamed name units)
 
--- an ask about this plan: inside its grid, of one of its units, at a probability below 1
+-- an ask about this plan: inside its grid, of one of its units, with values in their ranges
 pub record IsAskOf (plan : Plan) (ask : Ask) : Type 0 where
   pub inside : IsInside plan.cells ask
   pub unit : NamesUnit plan.units ask
-  pub level : HasLevel ask
+  pub values : IsAskInRange ask

@@ -1,11 +1,14 @@
 //! The budget of an ask, what it needs, and whether it passes.
 
-ghost use Rattle.std.specs.Prelude.{ℕ, ◌≡◌, ◌+◌, ◌*◌, ◌^◌, ◌<◌, ◌≤◌, ◌↔◌, List, All, IsTrue, length};
+ghost use Rattle.std.specs.Prelude.{ℕ, ◌≡◌, ◌+◌, ◌*◌, ◌^◌, ◌<◌, ◌≤◌, ◌↔◌, List, All, IsTrue, length, map};
 ghost use Rattle.dl_limits.specs.Limits.{IsPlanScale, most_digits, most_units, most_ask_budget};
+ghost use Rattle.dl_exact.specs.Fraction.{whole, ◌*ℚ◌};
+ghost use Rattle.dl_grid.specs.Width.{up};
+ghost use Rattle.dl_plan.specs.Terms.{ArePriced, most_weight_parts};
 ghost use Rattle.dl_plan.specs.declared.settings.Ask.TheVariants.{LayerMean};
 ghost use Rattle.dl_plan.specs.Ranges.{IsLevel};
 ghost use Rattle.dl_plan.specs.Valid.{IsValid};
-ghost use Rattle.dl_budget.specs.Asks.{IsInside, IsAskOf, place_of, ask_budget, layer_mean_budget, tail_budget, joint_budget, kappa_budget, in_digits, needed, Passes};
+ghost use Rattle.dl_budget.specs.Asks.{IsInside, IsAskOf, place_of, ask_budget, layer_mean_budget, tail_budget, most_tail_budget, price_budget, joint_budget, kappa_budget, in_digits, needed, Passes};
 ghost use Rattle.dl_budget.specs.Once.{AreBudgetsOf};
 
 use crate::once::{Budgets, budgets_of};
@@ -14,7 +17,7 @@ use crate::units::{others_budget, unit_budget};
 use dl_frac::Frac;
 use dl_grid::units_of_one;
 use dl_limits::RAREST_PARTS;
-use dl_plan::{Ask, Plan, Settings, Unit};
+use dl_plan::{Ask, Plan, Settings, Term, Unit};
 
 /// The budget of an ask: how far apart the ends of its answer may lie before they are printed. It
 /// follows from the plan and the ask alone. The ask lies inside the grid, names a unit of the
@@ -46,6 +49,7 @@ fn ask_budget_with<const B: u32>(plan: &Plan, budgets: Budgets, ask: &Ask) -> u1
             layer_mean_budget::<B>(plan, budgets, *limit, *attach)
         }
         Ask::Tail(p) => tail_budget::<B>(plan, budgets, *p),
+        Ask::Price(terms) => price_budget::<B>(plan, budgets, terms.as_slice()),
         Ask::Joint { unit, .. } => {
             joint_budget::<B>(plan, place(plan.units.as_slice(), unit.as_slice()))
         }
@@ -81,12 +85,39 @@ fn tail_budget<const B: u32>(plan: &Plan, budgets: Budgets, p: Frac) -> u128
     requires budgets { AreBudgetsOf (2 ^ B) plan.now budgets }
     requires level { IsLevel p }
     ensures value { result ≡ tail_budget (2 ^ B) plan.now p }
-    ensures small { result ≤ most_ask_budget }
+    ensures small { result ≤ most_tail_budget }
 {
     let sums = 3 * plan.cells as u128 * budgets.total;
     let both = 2 * budgets.mean + sums;
     let rest = p.den() - p.num();
     (both * p.den() as u128).div_ceil(rest as u128) + 4
+}
+
+/// What a part of a tail mean may be wide, rounded once at each end: `weight` times `tail`, the
+/// width of the tail mean.
+fn part_budget(weight: Frac, tail: u128) -> u128
+    requires weight { weight.num ≤ most_weight_parts }
+    requires small { tail ≤ most_tail_budget }
+    ensures value { result ≡ up (weight *ℚ whole tail) + 2 }
+    ensures small { result ≤ 2 ^ 118 }
+{
+    (weight.num() as u128 * tail).div_ceil(weight.den() as u128) + 2
+}
+
+/// The budget of a price by these terms.
+fn price_budget<const B: u32>(plan: &Plan, budgets: Budgets, terms: &[Term]) -> u128
+    requires valid { IsValid plan.now }
+    requires budgets { AreBudgetsOf (2 ^ B) plan.now budgets }
+    requires levels { All IsLevel (map (λ term. term.p) terms.now) }
+    requires priced { ArePriced terms.now }
+    ensures value { result ≡ price_budget (2 ^ B) plan.now terms.now }
+    ensures small { result ≤ most_ask_budget }
+{
+    let mut sum = 0;
+    'terms: for term in terms {
+        sum += part_budget(term.weight, tail_budget::<B>(plan, budgets, term.p));
+    }
+    sum
 }
 
 /// The budget of the share of unit `i` in a total.

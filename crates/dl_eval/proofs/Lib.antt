@@ -11,4 +11,5 @@ pub mod AlikeLaws
 pub mod Means
 pub mod GoodRows
 pub mod Tails
+pub mod PriceRows
 pub mod ShareLaws

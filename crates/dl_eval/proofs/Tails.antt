@@ -58,7 +58,7 @@ last_reaches {B} g p n x last found = elim (lt_or_le (low_cdf (2 ^ B) (low_at g)
   | inr reached ↦ reached
 ]
 
-tail_reached : {B : ℕ} (plan : Plan) (g : List (Iv B)) (p : Fraction)
+pub tail_reached : {B : ℕ} (plan : Plan) (g : List (Iv B)) (p : Fraction)
     → ¬ IsFirstAtLeast (low_cdf (2 ^ B) (low_at g)) p (length g) (length g)
     → IsValid plan → IsTotalOf plan g → IsAtLeast plan (at_the_end plan) p
 tail_reached {B} plan g p found valid t =

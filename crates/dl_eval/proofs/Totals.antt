@@ -16,7 +16,7 @@ use Rattle.dl_port.specs.Sums.{EncloseEach}
 use Rattle.dl_eval.proofs.Lists.{any_here}
 use Rattle.dl_port.specs.Shared.{IsSumWithout}
 use Rattle.dl_eval.specs.declared.grids.Grids.{Grids}
-use Rattle.dl_eval.specs.Totals.{AreGridsOf}
+use Rattle.dl_eval.specs.Totals.{AreGridsOf, AreUnitMeans, most_unit_mean}
 
 -- ---- what the grids enclose
 
@@ -212,16 +212,20 @@ only_one xs (y ∷ rest) x is one = absurd (omega (arith, ap (λ t. length t) is
 
 -- its grid is that of the total
 module _ {B : ℕ} (plan : Plan) (grids : List (List (Iv B))) (g : List (Iv B)) (made : Grids B) where
-  pub grids_of_one : IsValid plan → AreUnitGrids plan.cells plan.units grids → grids ≡ g ∷ []
+  pub grids_of_one : IsValid plan → AreUnitGrids plan.cells plan.units grids
+      → AreUnitMeans plan.cells plan.units made.means.items → All (λ mean. mean.hi ≤ most_unit_mean) made.means.items
+      → grids ≡ g ∷ []
       → IsTotal (length g) (g ∷ []) made.sums.total
       → AreSumsWithout (length g) (g ∷ []) (false ∷ []) made.sums.others.items → AreGridsOf plan made
-  grids_of_one valid each only total rest =
+  grids_of_one valid each means small only total rest =
       let long : length g ≡ plan.cells = each_cells plan.cells plan.units grids g 0 (sym (ap (λ t. get_or t 0 []) only))
       (omega (arith, valid.some)) each in
       let of_total = subst₂ (λ k t. IsTotal k t made.sums.total) long (sym only) total in
       let of_rest = subst₂ (λ k t. AreSumsWithout k t (false ∷ []) made.sums.others.items) long
       (sym only) rest in record {
         units = λ i inside some. absurd (unasked i ((of_rest.there i (omega (arith, inside, each.as_many))).0 some));
+        means = means;
+        small = small;
         others = are_others plan grids (false ∷ []) made.sums.others.items valid each of_rest;
         total = is_total plan grids made.sums.total valid each of_total;
       }

@@ -1,17 +1,19 @@
 -- When a row of a report is good: its ends hold what the plan declares, and lie no farther apart
 -- than is needed.
-use Rattle.std.specs.Prelude.{ℕ, ◌≡◌, ◌+◌, ◌-◌, ◌^◌, ◌<◌, ◌≤◌, ◌⊎◌, Option, None, Some, MatchOption}
+use Rattle.std.specs.Prelude.{ℕ, ◌≡◌, ◌+◌, ◌-◌, ◌^◌, ◌<◌, ◌≤◌, ◌⊎◌, Option, None, Some, MatchOption, List, All, Any}
 use Rattle.dl_limits.specs.Limits.{rarest_parts, bits_of}
 use Rattle.dl_exact.specs.Fraction.{Fraction, ◌over◌, ◌+ℚ◌}
 use Rattle.dl_model.specs.Series.{Holds, AtLeast, AtMost, Below}
-use Rattle.dl_model.specs.Program.{Quantity, One, Point, Cdf, Mean, Layer, Tail, Joint}
+use Rattle.dl_model.specs.Program.{Quantity, PricedTerm, One, Point, Cdf, Mean, Layer, Tail, Price, Joint}
 use Rattle.dl_model.specs.Measures.{IsQuantile, IsBracketed}
 use Rattle.dl_measures.specs.Ends.{IsTight}
+use Rattle.dl_distort.specs.Prices.{AreTermsOf, AreQuantiles}
 use Rattle.dl_model.specs.Plans.{declared}
 use Rattle.dl_plan.specs.declared.plan.Plan.{Plan}
 use Rattle.dl_plan.specs.declared.settings.Ask.{Ask}
 use Rattle.dl_plan.specs.declared.settings.Ask.TheVariants as asks
 use Rattle.dl_plan.specs.declared.settings.Asked.{Asked}
+use Rattle.dl_plan.specs.declared.settings.Term.{Term}
 use Rattle.dl_report.specs.declared.report.End.{End}
 use Rattle.dl_report.specs.declared.report.End.TheVariants.{Number, Whole, Beyond, Absent}
 use Rattle.dl_report.specs.declared.report.Row.{Row}
@@ -46,6 +48,14 @@ IsAtMost plan quantity v = AtMost (declared plan quantity) (declared plan One) v
 
 abbrev pub IsBelow : Plan → Quantity → Fraction → Type 0
 IsBelow plan quantity v = Below (declared plan quantity) (declared plan One) v
+
+-- The price by these terms lies from l to h, with each quantile that their probabilities have; and
+-- no whole numbers in the places of the quantiles give less than l.
+pub record IsPriceBetween (plan : Plan) (terms : List Term) (l h : Fraction) : Type 0 where
+  pub holds : (priced : List PricedTerm) → AreTermsOf terms priced
+      → AreQuantiles (declared plan) priced → Declares plan (Price priced) l h
+  pub least : (priced : List PricedTerm) → AreTermsOf terms priced
+      → IsAtLeast plan (Price priced) l
 
 -- the distribution at the last cell of the grid
 abbrev pub at_the_end : Plan → Quantity
@@ -92,11 +102,27 @@ pub record IsTailMean (plan : Plan) (p : Fraction) (d most : ℕ) (row : Row) : 
   pub reached : IsAtLeast plan (at_the_end plan) p
   pub ends : AreRowEnds (DeclaresTail plan p) d most row
 
--- No tail mean at p: only where the distribution at the last cell is below p + d.
-pub record IsBeyond (plan : Plan) (p d : Fraction) (row : Row) : Type 0 where
+-- both ends lie past the grid
+pub record IsPastGrid (row : Row) : Type 0 where
   pub is_low : row.low ≡ Beyond
   pub is_high : row.high ≡ Beyond
+
+-- No tail mean at p: only where the distribution at the last cell is below p + d.
+pub record IsBeyond (plan : Plan) (p d : Fraction) (row : Row) : Type 0 where
+  pub past : IsPastGrid row
   pub below : IsBelow plan (at_the_end plan) (p +ℚ d)
+
+-- A price by these terms in numbers. They come only where the distribution reaches the probability
+-- of each term inside the grid.
+pub record IsPrice (plan : Plan) (terms : List Term) (d most : ℕ) (row : Row) : Type 0 where
+  pub reached : All (λ term. IsAtLeast plan (at_the_end plan) term.p) terms
+  pub ends : AreRowEnds (IsPriceBetween plan terms) d most row
+
+-- No price by these terms: only where the distribution at the last cell is below p + d for the
+-- probability p of some term, whatever its weight.
+pub record IsBeyondSome (plan : Plan) (terms : List Term) (d : Fraction) (row : Row) : Type 0 where
+  pub past : IsPastGrid row
+  pub below : Any (λ term. IsBelow plan (at_the_end plan) (term.p +ℚ d)) terms
 
 -- The share of unit i in the total x in numbers: its mean outcome, given that total. They come only
 -- where the total is not too rare.
@@ -130,6 +156,9 @@ IsAnswerTo S plan d (asks.LayerMean limit attach) row =
 IsAnswerTo S plan d (asks.Tail p) row =
     IsTailMean plan p d (needed S plan (asks.Tail p) d) row
     ⊎ IsBeyond plan p (total_error S plan) row
+IsAnswerTo S plan d (asks.Price terms) row =
+    IsPrice plan terms d (needed S plan (asks.Price terms) d) row
+    ⊎ IsBeyondSome plan terms (total_error S plan) row
 IsAnswerTo S plan d (asks.Joint unit at) row =
     AreRowEnds (Declares plan (Joint (place_of unit plan.units) at)) d
     (needed S plan (asks.Joint unit at) d) row

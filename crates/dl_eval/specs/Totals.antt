@@ -1,6 +1,6 @@
 -- What the rows are made from: the grids and the means of the units, of their total, and of all but
 -- one.
-use Rattle.std.specs.Prelude.{ℕ, ◌≡◌, ◌+◌, ◌*◌, ◌/◌, ◌<◌, ◌≤◌, ◌^◌, ◌↔◌, Bool, false, IsTrue, Option, None, Some, IsSome, IfSome, option_map, Any, List, [], ◌∷◌, length, get_or}
+use Rattle.std.specs.Prelude.{ℕ, ◌≡◌, ◌+◌, ◌*◌, ◌/◌, ◌<◌, ◌≤◌, ◌^◌, ◌↔◌, Bool, false, IsTrue, Option, None, Some, IsSome, IfSome, option_map, All, Any, List, [], ◌∷◌, length, get_or}
 use Rattle.std.specs.Int.{div_ceil}
 use Rattle.dl_exact.specs.Fraction.{Fraction, ◌over◌}
 use Rattle.dl_iv.specs.declared.interval.Iv.{Iv}
@@ -125,11 +125,13 @@ pub record AreOthers {B : ℕ} (plan : Plan) (others : List (Option (List (Iv B)
   pub as_many : length others ≡ length plan.units
   pub each : (i : ℕ) → i < length plan.units → IfSome (get_or others i None) (AreOthersOf plan i)
 
--- the grids of the units, where that of all others is there for one of them; those of all but one,
--- and that of the total
+-- the grids of the units, where that of all others is there for one of them; their means; the grids
+-- of all but one, and that of the total
 pub record AreGridsOf {B : ℕ} (plan : Plan) (grids : Grids B) : Type 0 where
   pub units : (i : ℕ) → i < length plan.units → IsSome (get_or grids.sums.others.items i None)
       → AreUnitGrids plan.cells plan.units grids.units.items
+  pub means : AreUnitMeans plan.cells plan.units grids.means.items
+  pub small : All (λ mean. mean.hi ≤ most_unit_mean) grids.means.items
   pub others : AreOthers plan grids.sums.others.items
   pub total : IsTotalOf plan grids.sums.total
 

@@ -78,7 +78,7 @@ fn parts_for<const B: u32>(
     }
     let made = unit_outcomes(alloc, work, plan)?;
     let mean = total_mean(made.means.as_slice());
-    let grids = grids_of(alloc, work, plan, asks, made.grids)?;
+    let grids = grids_of(alloc, work, plan, asks, made.grids, made.means)?;
     Ok(Parts {
         grids: Some(grids),
         mean,

@@ -1,24 +1,26 @@
 //! The row of an ask.
 
-ghost use Rattle.std.specs.Prelude.{◌≡◌, ◌≤◌, ◌^◌, ◌⊎◌, ℕ, List, None, IfOk, IfSome};
+ghost use Rattle.std.specs.Prelude.{◌≡◌, ◌≤◌, ◌^◌, ◌⊎◌, ℕ, List, None, All, map, IfOk, IfSome};
 ghost use Rattle.dl_limits.specs.Limits.{IsPlanScale, bits_of, most_digits};
 ghost use Rattle.dl_plan.specs.declared.plan.Plan.{Plan as PlanValue};
 ghost use Rattle.dl_plan.specs.declared.settings.Ask.TheVariants as asks;
-ghost use Rattle.dl_plan.specs.Ranges.{IsLevel, HasLevel};
+ghost use Rattle.dl_plan.specs.Ranges.{IsLevel, IsAskInRange};
+ghost use Rattle.dl_plan.specs.Terms.{ArePriced};
 ghost use Rattle.dl_plan.specs.Valid.{IsValid};
-ghost use Rattle.dl_budget.specs.Asks.{IsInside, NamesUnit, tail_budget, in_digits};
-ghost use Rattle.dl_eval.specs.Rows.{IsBracket, IsTailMean, IsBeyond, IsAnswerTo, IsGood, bracket_end, total_error};
+ghost use Rattle.dl_budget.specs.Asks.{IsInside, NamesUnit, tail_budget, price_budget, in_digits};
+ghost use Rattle.dl_eval.specs.Rows.{IsBracket, IsTailMean, IsBeyond, IsPastGrid, IsPrice, IsBeyondSome, IsAnswerTo, IsGood, bracket_end, total_error};
 ghost use Rattle.dl_eval.specs.Totals.{most_mean, IsTotalOf, IsMeanOf, AreGridsOf, HasOthers, Prints};
 
 use crate::grids::Grids;
 use crate::shares::{joint_of, share_row};
 use dl_budget::place;
+use dl_distort::price;
 use dl_frac::Frac;
 use dl_grid::Grid;
 use dl_iv::Iv;
 use dl_lexer::Text;
 use dl_measures::{layer_mean, quantile, tail_mean};
-use dl_plan::{Ask, Asked, Plan};
+use dl_plan::{Ask, Asked, Plan, Term};
 use dl_report::{End, Row};
 use std::alloc::{AllocError, Global};
 
@@ -47,6 +49,14 @@ pub(crate) fn ends_row<const B: u32>(
 {
     let (low, high) = value.print_ends(digits);
     row_with(alloc, asked, End::Number(low), End::Number(high))
+}
+
+/// The row of an ask whose quantile lies past the grid.
+pub(crate) fn beyond_row(alloc: Global, asked: &Asked) -> Result<Row, AllocError>
+    ensures ask { IfOk result (λ row. row.ask ≡ asked.now.text) }
+    ensures ends { IfOk result IsPastGrid }
+{
+    row_with(alloc, asked, End::Beyond, End::Beyond)
 }
 
 /// The end of a bracket.
@@ -101,7 +111,35 @@ fn tail_row<const B: u32>(
 {
     match tail_mean(total, p, mean) {
         Some(tail) => ends_row(alloc, asked, digits, tail),
-        None => row_with(alloc, asked, End::Beyond, End::Beyond),
+        None => beyond_row(alloc, asked),
+    }
+}
+
+/// The row of an ask for the price by these terms; without numbers where the grid ends before the
+/// quantile of some term.
+fn price_row<const B: u32>(
+    alloc: Global,
+    asked: &Asked,
+    digits: u32,
+    total: &Grid<B>,
+    terms: &[Term],
+    mean: Iv<B>,
+) -> Result<Row, AllocError>
+    requires scale { IsPlanScale B }
+    requires digits { digits ≤ most_digits }
+    requires levels { All IsLevel (map (λ term. term.p) terms.now) }
+    requires priced { ArePriced terms.now }
+    requires small { mean.hi ≤ most_mean }
+    ensures ask { IfOk result (λ row. row.ask ≡ asked.now.text) }
+    ensures price { IfOk result (λ row. (plan : PlanValue) → IsValid plan
+        → IsTotalOf plan total.now → IsMeanOf plan mean.entry
+        → IsPrice plan terms.now digits
+        (in_digits (2 ^ B) (price_budget (2 ^ B) plan terms.now) digits) row
+        ⊎ IsBeyondSome plan terms.now (total_error (2 ^ B) plan) row) }
+{
+    match price(total, terms, mean) {
+        Some(price) => ends_row(alloc, asked, digits, price),
+        None => beyond_row(alloc, asked),
     }
 }
 
@@ -117,7 +155,7 @@ fn grid_row<const B: u32>(
 ) -> Result<Row, AllocError>
     requires scale { B ≡ bits_of plan.now.cells }
     requires digits { digits ≤ most_digits }
-    requires level { HasLevel asked.now.ask }
+    requires values { IsAskInRange asked.now.ask }
     requires valid { IsValid plan.now }
     requires inside { IsInside plan.now.cells asked.now.ask }
     requires named { NamesUnit plan.now.units asked.now.ask }
@@ -139,6 +177,7 @@ fn grid_row<const B: u32>(
             ends_row(alloc, asked, digits, layer)
         }
         Ask::Tail(p) => tail_row(alloc, asked, digits, total, *p, mean),
+        Ask::Price(terms) => price_row(alloc, asked, digits, total, terms.as_slice(), mean),
         Ask::Joint { unit, at } => {
             let i = place(plan.units.as_slice(), unit.as_slice());
             ends_row(alloc, asked, digits, joint_of(plan, grids, i, *at))
@@ -163,7 +202,7 @@ pub(crate) fn row<const B: u32>(
 ) -> Result<Row, AllocError>
     requires scale { B ≡ bits_of plan.now.cells }
     requires digits { digits ≤ most_digits }
-    requires level { HasLevel asked.now.ask }
+    requires values { IsAskInRange asked.now.ask }
     requires valid { IsValid plan.now }
     requires inside { IsInside plan.now.cells asked.now.ask }
     requires named { NamesUnit plan.now.units asked.now.ask }

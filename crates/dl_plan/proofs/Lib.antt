@@ -1,6 +1,8 @@
 mod Common
 pub mod Fits
 pub mod CommonDenominators
+pub mod WholeParts
+pub mod TermLevels
 pub mod Clauses
 pub mod Apart
 pub mod Straight

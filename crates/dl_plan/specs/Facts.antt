@@ -1,22 +1,22 @@
 -- What there is to know of an ask before it is answered: a row for each, from which follow whether
 -- it fits a grid and a plan, and how wide its answer may be.
-use Rattle.std.specs.Prelude.{ℕ, ◌+◌, Option, Some, None, List}
+use Rattle.std.specs.Prelude.{ℕ, ◌+◌, Option, Some, None, List, [], ◌∷◌, map}
 use Rattle.dl_exact.specs.Fraction.{Fraction}
 use Rattle.dl_plan.specs.declared.settings.Ask.{Ask}
-use Rattle.dl_plan.specs.declared.settings.Ask.TheVariants.{Pmf, Cdf, Mean, Quantile, LayerMean, Tail, Joint, Kappa}
+use Rattle.dl_plan.specs.declared.settings.Ask.TheVariants.{Pmf, Cdf, Mean, Quantile, LayerMean, Tail, Price, Joint, Kappa}
 use Rattle.dl_plan.specs.declared.settings.Settings.{Settings}
 use Rattle.dl_plan.specs.Horizon.{edge_of}
 
 -- the fewest cells of a grid that the ask lies inside, 0 where any will do; the unit that it names;
--- the probability that it is for; and the most that the settings let its ends lie apart
+-- the probabilities that it is for; and the most that the settings let its ends lie apart
 pub record AskFacts : Type 0 where
   pub reach : ℕ
   pub unit : Option (List ℕ)
-  pub level : Option Fraction
+  pub levels : List Fraction
   pub most : Settings → ℕ
 
-abbrev pub facts : ℕ → Option (List ℕ) → Option Fraction → (Settings → ℕ) → AskFacts
-facts reach unit level most = record { reach = reach; unit = unit; level = level; most = most }
+abbrev pub facts : ℕ → Option (List ℕ) → List Fraction → (Settings → ℕ) → AskFacts
+facts reach unit levels most = record { reach = reach; unit = unit; levels = levels; most = most }
 
 -- the settings' width of a probability or a quantile, and that of a mean
 abbrev pub of_probability : Settings → ℕ
@@ -25,13 +25,14 @@ of_probability settings = settings.width
 abbrev pub of_mean : Settings → ℕ
 of_mean settings = settings.mwidth
 
--- the table: reach, unit, probability, and which width
+-- the table: reach, unit, probabilities, and which width
 abbrev pub facts_of : Ask → AskFacts
-facts_of (Pmf x) = facts (x + 1) None None of_probability
-facts_of (Cdf x) = facts (x + 1) None None of_probability
-facts_of Mean = facts 0 None None of_mean
-facts_of (Quantile p) = facts 0 None (Some p) of_probability
-facts_of (LayerMean limit attach) = facts (edge_of limit attach) None None of_mean
-facts_of (Tail p) = facts 0 None (Some p) of_mean
-facts_of (Joint unit at) = facts (at + 1) (Some unit) None of_mean
-facts_of (Kappa unit at) = facts (at + 1) (Some unit) None of_mean
+facts_of (Pmf x) = facts (x + 1) None [] of_probability
+facts_of (Cdf x) = facts (x + 1) None [] of_probability
+facts_of Mean = facts 0 None [] of_mean
+facts_of (Quantile p) = facts 0 None (p ∷ []) of_probability
+facts_of (LayerMean limit attach) = facts (edge_of limit attach) None [] of_mean
+facts_of (Tail p) = facts 0 None (p ∷ []) of_mean
+facts_of (Price terms) = facts 0 None (map (λ term. term.p) terms) of_mean
+facts_of (Joint unit at) = facts (at + 1) (Some unit) [] of_mean
+facts_of (Kappa unit at) = facts (at + 1) (Some unit) [] of_mean

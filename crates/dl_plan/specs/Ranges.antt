@@ -1,10 +1,12 @@
 -- The ranges of the settings, as the command line gives them.
-use Rattle.std.specs.Prelude.{◌^◌, ◌<◌, ◌≤◌, IfSome, length, All}
+use Rattle.std.specs.Prelude.{⊤, ◌^◌, ◌<◌, ◌≤◌, length, All}
 use Rattle.dl_limits.specs.Limits.{most_asks, most_digits, most_log2}
 use Rattle.dl_exact.specs.Fraction.{Fraction, whole, ◌<ℚ◌}
 use Rattle.dl_plan.specs.declared.settings.Ask.{Ask}
 use Rattle.dl_plan.specs.declared.settings.Settings.{Settings}
+use Rattle.dl_plan.specs.declared.settings.Ask.TheVariants.{Price}
 use Rattle.dl_plan.specs.Facts.{facts_of}
+use Rattle.dl_plan.specs.Terms.{ArePriced}
 
 -- a bucket size above 0, as a numeral of at most 11 digits gives it
 pub record IsBucket (bs : Fraction) : Type 0 where
@@ -18,9 +20,19 @@ pub record IsLevel (p : Fraction) : Type 0 where
   pub num : p.num ≤ 10 ^ 9
   pub den : p.den ≤ 10 ^ 9
 
--- the probability of the ask, if it has one, is such
-abbrev pub HasLevel : Ask → Type 0
-HasLevel ask = IfSome (facts_of ask).level IsLevel
+-- each probability of the ask is such
+abbrev pub HasLevels : Ask → Type 0
+HasLevels ask = All IsLevel (facts_of ask).levels
+
+-- the terms of an ask for a price are those of one
+abbrev pub HasTerms : Ask → Type 0
+HasTerms (Price terms) = ArePriced terms
+HasTerms ask = ⊤
+
+-- an ask with such values
+pub record IsAskInRange (ask : Ask) : Type 0 where
+  pub levels : HasLevels ask
+  pub terms : HasTerms ask
 
 -- a bucket size; from 2 to 65,536 cells; from 1 to 9 digits; widths of at least 1; and at most 256
 -- asks
@@ -32,5 +44,5 @@ pub record AreInRange (settings : Settings) : Type 0 where
   pub few_digits : settings.digits ≤ most_digits
   pub width : 1 ≤ settings.width
   pub mwidth : 1 ≤ settings.mwidth
-  pub levels : All (λ asked. HasLevel asked.ask) settings.asks
+  pub asks : All (λ asked. IsAskInRange asked.ask) settings.asks
   pub few_asks : length settings.asks ≤ most_asks

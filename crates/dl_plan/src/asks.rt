@@ -16,7 +16,7 @@ impl Ask {
             Ask::Pmf(x) | Ask::Cdf(x) => *x as u64 + 1,
             Ask::LayerMean { limit, attach } => end_of(*limit, *attach),
             Ask::Joint { at, .. } | Ask::Kappa { at, .. } => *at as u64 + 1,
-            Ask::Mean | Ask::Quantile(_) | Ask::Tail(_) => 0,
+            Ask::Mean | Ask::Quantile(_) | Ask::Tail(_) | Ask::Price(_) => 0,
         }
     }
 

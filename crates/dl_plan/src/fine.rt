@@ -1,7 +1,9 @@
 //! Lists of fractions with a common denominator.
 
 ghost use Rattle.std.specs.Option.{SomeIff};
-ghost use Rattle.std.specs.Prelude.{◌≡◌};
+ghost use Rattle.std.specs.Prelude.{◌≡◌, ◌↔◌, IsTrue};
+ghost use Rattle.dl_exact.specs.Fraction.{whole};
+ghost use Rattle.dl_exact.specs.Sum.{sum_over};
 ghost use Rattle.dl_plan.specs.Fine.{IsFineTo30Bits, common_denominator, numerator_over};
 
 use dl_frac::{Frac, lcm_to};
@@ -26,4 +28,20 @@ pub fn numerator_over(x: Frac, common: u64) -> u128
     ensures { result ≡ numerator_over common x }
 {
     x.num() as u128 * (common / x.den()) as u128
+}
+
+/// Whether fractions sum to 1, by their numerators over their common denominator. Takes no memory.
+pub fn sum_to_one(fracs: &[Frac], common: u32) -> bool
+    requires { common ≡ common_denominator fracs.now }
+    ensures { IsTrue result ↔ (sum_over fracs.now (λ x. x) ≡ whole 1) }
+{
+    let mut left = common as u128;
+    'fracs: for &frac in fracs {
+        let parts = numerator_over(frac, common as u64);
+        if parts > left {
+            return false;
+        }
+        left -= parts;
+    }
+    left == 0
 }

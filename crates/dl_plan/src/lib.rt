@@ -12,15 +12,17 @@ mod lowest;
 mod plan;
 mod settings;
 mod severity;
+mod terms;
 mod totals;
 mod unit;
 
 pub use cede::{Cede, CedeLayer, in_layer};
 pub use dl_lexer::Items;
-pub use fine::{common_denominator_of, numerator_over};
+pub use fine::{common_denominator_of, numerator_over, sum_to_one};
 pub use item::Item;
 pub use law::{law_horizon, law_numerals, law_valid_units};
 pub use plan::{Freq, Plan, Unit};
 pub use settings::{Ask, Asked, Form, Format, Settings, Term};
 pub use severity::Sev;
+pub use terms::{MOST_TERMS, are_priced};
 pub use totals::{greatest_amount, weighted_sum};

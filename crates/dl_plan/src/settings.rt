@@ -52,6 +52,8 @@ pub enum Ask {
     },
     /// The tail mean at this probability.
     Tail(Frac),
+    /// A price: a weighted sum of tail means, 1 to 8 of them.
+    Price(Items<Term>),
     /// The mean of a unit's outcome where the total is an amount, and 0 elsewhere.
     Joint {
         /// The unit's name.

@@ -5,9 +5,9 @@ ghost use Rattle.dl_sev.specs.Weighing.{RefusesWeights};
 ghost use Rattle.dl_sev.specs.Weighed.{IsWeighing};
 
 use crate::fault::WeighFault;
-use crate::weights::{Weights, over_common, sum_to_one};
+use crate::weights::{Weights, over_common};
 use dl_frac::Frac;
-use dl_plan::common_denominator_of;
+use dl_plan::{common_denominator_of, sum_to_one};
 use std::alloc::Global;
 
 /// Whole weights over the common denominator of probabilities that sum to 1. `TooFine` exactly

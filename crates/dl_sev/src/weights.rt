@@ -1,6 +1,6 @@
 //! Whole weights of a list of probabilities.
 
-ghost use Rattle.std.specs.Prelude.{◌≡◌, ◌≤◌, ◌^◌, ◌↔◌, IfOk, IsTrue};
+ghost use Rattle.std.specs.Prelude.{◌≡◌, ◌≤◌, ◌^◌, IfOk};
 ghost use Rattle.dl_limits.specs.Limits.{most_parts};
 ghost use Rattle.dl_exact.specs.Fraction.{whole};
 ghost use Rattle.dl_plan.specs.Fine.{common_denominator, numerator_over};
@@ -18,22 +18,6 @@ pub struct Weights {
     pub weights: Items<u32>,
     /// What they sum to.
     pub total: u32,
-}
-
-/// Whether fractions sum to 1, by their numerators over their common denominator.
-pub(crate) fn sum_to_one(probs: &[Frac], common: u32) -> bool
-    requires { common ≡ common_denominator probs.now }
-    ensures { IsTrue result ↔ (sum_of probs.now ≡ whole 1) }
-{
-    let mut left = common as u128;
-    'probs: for &prob in probs {
-        let weight = numerator_over(prob, common as u64);
-        if weight > left {
-            return false;
-        }
-        left -= weight;
-    }
-    left == 0
 }
 
 /// The whole weights of probabilities that sum to 1, over their common denominator.

@@ -10,6 +10,10 @@ pub mod RowLemmas
 pub mod Whole
 pub mod Cleaned
 pub mod Judged
+pub mod Signs
+pub mod NumeralBytes
+pub mod Prices
+pub mod TermLists
 pub mod TableLaws
 pub mod WrittenLaws
 pub mod RangeLaws

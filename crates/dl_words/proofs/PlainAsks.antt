@@ -1,11 +1,13 @@
 -- The asks of good words are written with plain bytes alone.
 use Rattle.dl_words.proofs.Common.{◌≡◌, ℕ, Bool, true, refl, sym, subst, List, [], ◌∷◌, ◌++◌, All, Ok, IfOk, arith, codes, nat_lt, ◌&&◌, ◌==◌, IsTrue, ⊤, list_all, is_ascii_digit, All-nil, All-cons, nat_tests, IsDecimal, pointed, IsNumeral, decimal, percent, fraction, digits_pass, is_word_byte, begins_with_letter, Ask, Asked, Settings, command_parts, Text, is_amount, is_number, is_numeral, is_probability, is_word, SpellsAsk, pmf, cdf, mean, q, tail, layer, no_limit, joint, kappa, words_of}
 use Rattle.std.specs.Prelude.{not}
-use Rattle.std.specs.Str.Parse.{IsNumeral as IsNumber}
 use Rattle.std.proofs.lemmas.List.Elements.{All-append}
-use Rattle.dl_frac.specs.Numerals.{plain}
 use Rattle.dl_plan.specs.Plain.{IsPlainByte}
-use Rattle.dl_words.proofs.Numerals.{both, number_test, numeral_test}
+use Rattle.dl_plan.specs.declared.settings.Term.{Term}
+use Rattle.dl_words.specs.Spelling.{is_weight}
+use Rattle.dl_words.specs.Table.{SpellsTerms, one, more, price}
+use Rattle.dl_words.proofs.Numerals.{both}
+use Rattle.dl_words.proofs.NumeralBytes.{written_each}
 use Rattle.dl_words.proofs.RangeLaws.{AreFrom, all_true, asks_each, from_parts, some_parts}
 use Rattle.dl_words.proofs.TableLaws.{table_back}
 
@@ -53,27 +55,17 @@ around a b sign s front back = together a (sign ∷ b) front (All-cons IsPlainBy
 digits_plain : (text : Text) → IsTrue (list_all is_ascii_digit text) → ArePlain text
 digits_plain = passed is_ascii_digit digit_plain
 
-number_plain : (text : Text) → IsNumber 10 text → ArePlain text
-number_plain text n = digits_plain text (both _ _ ((number_test text).1 n)).1
-
-decimal_plain : (text : Text) → IsDecimal text → ArePlain text
-decimal_plain text (plain n) = number_plain text n
-decimal_plain text (pointed front back a b some cut) =
-    subst ArePlain (sym cut) (around front back 46 refl (digits_plain front ((digits_pass front).1 a))
-    (digits_plain back ((digits_pass back).1 b)))
-
-numeral_plain : (text : Text) → IsNumeral text → ArePlain text
-numeral_plain text (decimal d) = decimal_plain text d
-numeral_plain text (percent front d cut) = subst ArePlain (sym cut)
-    (around front [] 37 refl (decimal_plain front d) (All-nil IsPlainByte))
-numeral_plain text (fraction first second a b cut) =
-    subst ArePlain (sym cut) (around first second 47 refl (number_plain first a) (number_plain second b))
+numeral_plain : (text : Text) → IsTrue (is_numeral text) → ArePlain text
+numeral_plain = written_each IsPlainByte digit_plain (plain_byte 46 refl) (plain_byte 37 refl) (plain_byte 47 refl)
 
 amount_plain : (text : Text) → IsTrue (is_amount text) → ArePlain text
 amount_plain text h = digits_plain text (both _ _ (both (is_number text) _ h).0).1
 
-probability_plain : (text : Text) → IsTrue (is_probability text) → ArePlain text
-probability_plain text h = numeral_plain text ((numeral_test text).0 (both (is_numeral text) _ (both _ _ h).0).0)
+probability_plain : (digits : ℕ) (text : Text) → IsTrue (is_probability digits text) → ArePlain text
+probability_plain digits text h = numeral_plain text (both (is_numeral text) _ (both _ _ h).0).0
+
+weight_plain : (text : Text) → IsTrue (is_weight text) → ArePlain text
+weight_plain text h = numeral_plain text (both (is_numeral text) _ h).0
 
 name_plain : (text : Text) → IsTrue (is_word text) → ArePlain text
 name_plain text h = passed is_word_byte word_plain text (both (begins_with_letter text) _ h).1
@@ -86,12 +78,20 @@ behind head rest text e h p = subst ArePlain (sym e) (together head rest (litera
 named : (name x : Text) → IsTrue (is_word name) → IsTrue (is_amount x) → ArePlain (name ++ (codes ":" ++ x))
 named name x n h = around name x 58 refl (name_plain name n) (amount_plain x h)
 
+terms_plain : (text : Text) (terms : List Term) → SpellsTerms text terms → ArePlain text
+terms_plain text _ (one w p hw hp e) =
+    subst ArePlain (sym e) (around w p 64 refl (weight_plain w hw) (probability_plain 9 p hp))
+terms_plain text _ (more w p rest terms hw hp s e) =
+    subst ArePlain (sym e) (around (w ++ 64 ∷ p) rest 43 refl
+    (around w p 64 refl (weight_plain w hw) (probability_plain 9 p hp)) (terms_plain rest terms s))
+
 spelled_plain : (text : Text) (ask : Ask) → SpellsAsk text ask → ArePlain text
 spelled_plain text ask (pmf x h e) = behind (codes "pmf:") x text e refl (amount_plain x h)
 spelled_plain text ask (cdf x h e) = behind (codes "cdf:") x text e refl (amount_plain x h)
 spelled_plain text ask (mean e) = subst ArePlain (sym e) (literal (codes "mean") refl)
-spelled_plain text ask (q p h e) = behind (codes "q:") p text e refl (probability_plain p h)
-spelled_plain text ask (tail p h e) = behind (codes "tail:") p text e refl (probability_plain p h)
+spelled_plain text ask (q p h e) = behind (codes "q:") p text e refl (probability_plain 9 p h)
+spelled_plain text ask (tail p h e) = behind (codes "tail:") p text e refl (probability_plain 9 p h)
+spelled_plain text ask (price rest terms s priced e) = behind (codes "price:") rest text e refl (terms_plain rest terms s)
 spelled_plain text ask (layer limit attach l h e) =
     behind (codes "layer:") (limit ++ (codes "xs" ++ attach)) text e refl
     (together limit (codes "xs" ++ attach) (amount_plain limit l)

@@ -1,13 +1,15 @@
 -- What good words say lies in its ranges, and the asks are words.
-use Rattle.dl_words.proofs.Common.{◌≡◌, inl, inr, cases_Bool, ℕ, suc, ◌≤◌, Bool, true, false, refl, ap, subst, List, [], ◌∷◌, length, All, Option, Some, None, Result, Ok, Err, IfOk, arith, codes, nat_le, nat_lt, ◌&&◌, ◌==◌, IsTrue, ⊤, list_all, All-nil, All-cons, nat_tests, is_bad, numeral_value, Ask, Asked, Form, Run, Fmt, Settings, UsageFault, ask_of, asks_of, with_ask, Values, are_taken, form_named, is_taken, Part, Mode, Kind, kind_of, parts_from, command_parts, positionals_of, read_kind, option_values, with_part, option, positional, between, value, ended, ends, begins, plain, misfit, Text, begins_plainly, is_bucket, is_numeral, is_probability, is_number_within, number, SpellsAsk, pmf, cdf, mean, q, tail, layer, no_limit, joint, kappa, admits, answer, to_parts, to_positionals, with_asks, words_of}
+use Rattle.dl_words.proofs.Common.{◌≡◌, inl, inr, cases_Bool, ℕ, suc, ◌≤◌, Bool, true, false, refl, ap, subst, List, [], ◌∷◌, length, map, All, Option, Some, None, Result, Ok, Err, IfOk, arith, codes, nat_le, nat_lt, ◌&&◌, ◌==◌, IsTrue, ⊤, list_all, All-nil, All-cons, nat_tests, is_bad, numeral_value, Ask, Asked, Form, Run, Fmt, Settings, UsageFault, ask_of, asks_of, with_ask, Values, are_taken, form_named, is_taken, Part, Mode, Kind, kind_of, parts_from, command_parts, positionals_of, read_kind, option_values, with_part, option, positional, between, value, ended, ends, begins, plain, misfit, Text, begins_plainly, is_bucket, is_numeral, is_probability, is_number_within, number, SpellsAsk, pmf, cdf, mean, q, tail, layer, no_limit, joint, kappa, admits, answer, to_parts, to_positionals, with_asks, words_of}
 use Rattle.dl_exact.proofs.BelowOne.{below_one}
 use Rattle.std.proofs.lemmas.Bool.{leb-true}
 use Rattle.std.proofs.Common.{not, IfSome, IsUtf8}
 use Rattle.std.proofs.lemmas.List.Elements.{All-head, All-tail}
-use Rattle.dl_exact.specs.Fraction.{whole}
+use Rattle.dl_exact.specs.Fraction.{Fraction, whole}
 use Rattle.dl_exact.proofs.Parts.{pos_num}
 use Rattle.dl_plan.proofs.Buckets.{one_bucket}
-use Rattle.dl_plan.specs.Ranges.{IsBucket, IsLevel, HasLevel, AreInRange}
+use Rattle.dl_plan.specs.Ranges.{IsBucket, IsLevel, HasLevels, HasTerms, IsAskInRange, AreInRange}
+use Rattle.dl_plan.specs.declared.settings.Term.{Term}
+use Rattle.dl_words.specs.Table.{SpellsTerms, one, more, price}
 use Rattle.dl_words.specs.Options.{is_make_alone, or_default, settings_of}
 use Rattle.dl_words.specs.Parts.Kind.{whole as joined_kind}
 use Rattle.dl_words.proofs.Numerals.{both, less}
@@ -31,7 +33,7 @@ bucket text h =
       den = small.den;
     }
 
-level : (text : Text) → IsTrue (is_probability text) → IsLevel (numeral_value text)
+level : (text : Text) → IsTrue (is_probability 9 text) → IsLevel (numeral_value text)
 level text h =
     let t = both (is_numeral text && not (is_bad 9 text)) _ h in
     let small : IsSmall 9 (numeral_value text) = numeral_small 7 text
@@ -68,16 +70,40 @@ module _ (low high default : ℕ) (texts : List Text) where
 
 -- ---- the asks
 
-spelled_level : (text : Text) (ask : Ask) → SpellsAsk text ask → HasLevel ask
-spelled_level text ask (pmf x h e) = tt
-spelled_level text ask (cdf x h e) = tt
-spelled_level text ask (mean e) = tt
-spelled_level text ask (q p h e) = level p h
-spelled_level text ask (tail p h e) = level p h
-spelled_level text ask (layer limit attach l h e) = tt
-spelled_level text ask (no_limit attach h e) = tt
-spelled_level text ask (joint name x n h e) = tt
-spelled_level text ask (kappa name x n h e) = tt
+one_level : (p : Fraction) → IsLevel p → All IsLevel (p ∷ [])
+one_level p h = All-cons IsLevel p [] h (All-nil IsLevel)
+
+term_levels : (text : Text) (terms : List Term) → SpellsTerms text terms → All IsLevel (map (λ term. term.p) terms)
+term_levels text _ (one w p hw hp e) = one_level (numeral_value p) (level p hp)
+term_levels text _ (more w p rest terms hw hp s e) =
+    All-cons IsLevel (numeral_value p) (map (λ term. term.p) terms) (level p hp) (term_levels rest terms s)
+
+spelled_level : (text : Text) (ask : Ask) → SpellsAsk text ask → HasLevels ask
+spelled_level text ask (pmf x h e) = All-nil IsLevel
+spelled_level text ask (cdf x h e) = All-nil IsLevel
+spelled_level text ask (mean e) = All-nil IsLevel
+spelled_level text ask (q p h e) = one_level (numeral_value p) (level p h)
+spelled_level text ask (tail p h e) = one_level (numeral_value p) (level p h)
+spelled_level text ask (price rest terms s priced e) = term_levels rest terms s
+spelled_level text ask (layer limit attach l h e) = All-nil IsLevel
+spelled_level text ask (no_limit attach h e) = All-nil IsLevel
+spelled_level text ask (joint name x n h e) = All-nil IsLevel
+spelled_level text ask (kappa name x n h e) = All-nil IsLevel
+
+spelled_terms : (text : Text) (ask : Ask) → SpellsAsk text ask → HasTerms ask
+spelled_terms text ask (pmf x h e) = tt
+spelled_terms text ask (cdf x h e) = tt
+spelled_terms text ask (mean e) = tt
+spelled_terms text ask (q p h e) = tt
+spelled_terms text ask (tail p h e) = tt
+spelled_terms text ask (price rest terms s priced e) = priced
+spelled_terms text ask (layer limit attach l h e) = tt
+spelled_terms text ask (no_limit attach h e) = tt
+spelled_terms text ask (joint name x n h e) = tt
+spelled_terms text ask (kappa name x n h e) = tt
+
+in_range : (text : Text) (ask : Ask) → SpellsAsk text ask → IsAskInRange ask
+in_range text ask s = record { levels = spelled_level text ask s; terms = spelled_terms text ask s }
 
 module _ (P : Text → Type 0) (Q : Asked → Type 0) (each : (text : Text) (ask : Ask) → ask_of text ≡ Some ask → P text
     → Q (record { text = text; ask = ask })) where
@@ -135,9 +161,9 @@ module _ (form : Form) (values : Values) (texts : List Text) (asks : List Asked)
       let wide = between_of 1 1000000000 10 (values (codes "width")) (omega arith, omega arith) width.0 in
       let mean_wide = between_of 1 1000000000000 1000000 (values (codes "mwidth"))
       (omega arith, omega arith) mwidth.0 in
-      let levels : All (λ asked. HasLevel asked.ask) asks = subst (λ r. IfOk r (All (λ asked. HasLevel asked.ask))) e
-      (asks_each (λ _. ⊤) (λ asked. HasLevel asked.ask)
-      (λ text ask is _. spelled_level text ask (table_back text ask is)) texts (all_true texts)) in
+      let ranged : All (λ asked. IsAskInRange asked.ask) asks = subst (λ r. IfOk r (All (λ asked. IsAskInRange asked.ask))) e
+      (asks_each (λ _. ⊤) (λ asked. IsAskInRange asked.ask)
+      (λ text ask is _. in_range text ask (table_back text ask is)) texts (all_true texts)) in
       let same : length asks ≡ length texts = subst (λ r. IfOk r (λ all. length all ≡ length texts)) e
       (as_many texts) in
       record {
@@ -148,7 +174,7 @@ module _ (form : Form) (values : Values) (texts : List Text) (asks : List Asked)
         few_digits = places.1;
         width = wide.0;
         mwidth = mean_wide.0;
-        levels = levels;
+        asks = ranged;
         few_asks = omega (arith, same, few form values texts admitted);
       }
 

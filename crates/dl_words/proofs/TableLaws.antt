@@ -1,8 +1,12 @@
 -- What is read as an ask is what the table of the asks has.
 use Rattle.dl_words.proofs.Common.{◌≡◌, ◌∙◌, inl, inr, cases_Bool, ℕ, Bool, true, false, refl, sym, ap, subst, [], ◌∷◌, ◌++◌, Option, Some, None, codes, true≢false, arith, ◌==◌, IsTrue, if◌then◌else◌, option_map, option_and_then, is_ascii_digit, list_all, list_any, before_first, after_first, bytes_eq, nat_tests, bytes_eq-Decides, Fraction, numeral_value, is_word_byte, begins_with_letter, Ask, ask_of, behind_s, cut_at, Text, is_amount, is_probability, is_word, number, SpellsAsk, pmf, cdf, mean, q, tail, layer, no_limit, joint, kappa}
-use Rattle.dl_plan.specs.declared.settings.Ask.TheVariants.{Pmf, Cdf, Mean, Quantile, LayerMean, Tail, Joint, Kappa}
-use Rattle.dl_words.specs.Asks.{amount_written, ask_between, layer_between, layer_of, limit_written, probability_written, unit_parts}
-use Rattle.dl_words.proofs.Numerals.{after_at, any_at, before_at, both, cut_first}
+use Rattle.dl_plan.specs.declared.settings.Ask.TheVariants.{Pmf, Cdf, Mean, Quantile, LayerMean, Tail, Price, Joint, Kappa}
+use Rattle.dl_words.specs.Asks.{amount_written, are_weighted, ask_between, layer_between, layer_of, limit_written, price_of, probability_written, terms_written, unit_parts}
+use Rattle.dl_plan.specs.Terms.{most_terms}
+use Rattle.dl_words.proofs.Numerals.{both}
+use Rattle.dl_words.proofs.Signs.{chained, cut_back, cut_there, mapped, not_some, some_is, tested, written_back}
+use Rattle.dl_words.proofs.Prices.{price_read, priced_ask, terms_back, weighted_priced}
+use Rattle.dl_words.specs.Table.{price}
 
 -- ---- texts without a sign
 
@@ -26,10 +30,6 @@ name_no_colon : (text : Text) → IsTrue (is_word text) → list_any (λ b. b ==
 name_no_colon text h = none_of is_word_byte 58 word_no_colon text (both (begins_with_letter text) _ h).1
 
 -- ---- a row of the table is read
-
-cut_there : (s : ℕ) (front back : Text) → list_any (λ b. b == s) front ≡ false
-    → cut_at s (front ++ s ∷ back) ≡ Some (front, back)
-cut_there s front back h = rw (any_at s front back, before_at s front back h, after_at s front back h) refl
 
 not_inf : (text : Text) → IsTrue (is_amount text) → bytes_eq text (codes "inf") ≡ false
 not_inf text h = elim (cases_Bool (bytes_eq text (codes "inf"))) [
@@ -56,6 +56,7 @@ table_read text _ (cdf x h e) = rw (e, h) refl
 table_read text _ (mean e) = rw e refl
 table_read text _ (q p h e) = rw (e, h) refl
 table_read text _ (tail p h e) = rw (e, h) refl
+table_read text _ (price rest terms s priced e) = rw e (price_read rest terms s priced)
 table_read text _ (layer limit attach l a e) = rw e (layer_read limit attach l a)
 table_read text _ (no_limit attach a e) = rw (e, a) refl
 table_read text _ (joint name x n a e) = rw e (ap (option_map (λ parts. Joint parts.0 parts.1)) (unit_read name x n a))
@@ -63,49 +64,14 @@ table_read text _ (kappa name x n a e) = rw e (ap (option_map (λ parts. Kappa p
 
 -- ---- what is read is a row of the table
 
-some_is : {A : Type 0} (x y : A) → Some x ≡ Some y → x ≡ y
-some_is x y e = cc
-
-not_some : {A P : Type 0} (x : A) → None ≡ Some x → P
-not_some x e = absurd (cc)
-
--- a part that is read only where a test passes
-tested : {A : Type 0} (b : Bool) (o : Option A) (y : A) → (if b then o else None) ≡ Some y → (b ≡ true) × (o ≡ Some y)
-tested true o y e = (refl, e)
-tested false o y e = not_some y e
-
--- a part that is read, and an ask of it
-mapped : {A B : Type 0} (f : A → B) (o : Option A) (y : B) → option_map f o ≡ Some y
-    → (x : A) × (o ≡ Some x) × (f x ≡ y)
-mapped f None y e = not_some y e
-mapped f (Some x) y e = (x, refl, some_is (f x) y e)
-
-chained : {A B : Type 0} (f : A → Option B) (o : Option A) (y : B) → option_and_then f o ≡ Some y
-    → (x : A) × (o ≡ Some x) × (f x ≡ Some y)
-chained f None y e = not_some y e
-chained f (Some x) y e = (x, refl, e)
-
--- what is made of a value that a text writes
-written_back : {A B : Type 0} (mk : A → B) (b : Bool) (x : A) (y : B)
-    → option_map mk (if b then Some x else None) ≡ Some y → (b ≡ true) × (mk x ≡ y)
-written_back mk true x y e = (refl, some_is (mk x) y e)
-written_back mk false x y e = not_some y e
-
 amount_back : {B : Type 0} (mk : ℕ → B) (text : Text) (y : B) → option_map mk (amount_written text) ≡ Some y
     → IsTrue (is_amount text) × (mk (number text) ≡ y)
 amount_back mk text y e = written_back mk (is_amount text) (number text) y e
 
-probability_back : (mk : Fraction → Ask) (text : Text) (ask : Ask) → option_map mk (probability_written text) ≡ Some ask
-    → IsTrue (is_probability text) × (mk (numeral_value text) ≡ ask)
-probability_back mk text ask e = written_back mk (is_probability text) (numeral_value text) ask e
-
-cut_back : (s : ℕ) (text : Text) (cut : Text × Text) → cut_at s text ≡ Some cut → text ≡ cut.0 ++ s ∷ cut.1
-cut_back s text cut e =
-    let t = tested (list_any (λ b. b == s) text) (Some (
-      before_first (λ b. b == s) text,
-      after_first (λ b. b == s) text,
-    )) cut e in
-    cut_first s text t.0 ∙ ap (λ c. c.0 ++ s ∷ c.1) (some_is _ cut t.1)
+probability_back : (digits : ℕ) (mk : Fraction → Ask) (text : Text) (ask : Ask)
+    → option_map mk (probability_written digits text) ≡ Some ask
+    → IsTrue (is_probability digits text) × (mk (numeral_value text) ≡ ask)
+probability_back digits mk text ask e = written_back mk (is_probability digits text) (numeral_value text) ask e
 
 -- the unit's name and the amount
 record UnitParts (text : Text) (parts : Text × ℕ) : Type 0 where
@@ -169,6 +135,15 @@ layer_back text rest ask spelled e =
     subst (SpellsAsk text) a.1 (layer_spelled text c.0.0 d.0 f.0 (limit_back c.0.0 f.0 f.1) a.0
     (spelled ∙ ap (λ r. codes "layer:" ++ r) parts))
 
+price_back : (text rest : Text) (ask : Ask) → text ≡ codes "price:" ++ rest → price_of rest ≡ Some ask
+    → SpellsAsk text ask
+price_back text rest ask spelled e =
+    let c = chained priced_ask (terms_written most_terms rest) ask e in
+    let t = tested (are_weighted c.0) (Some (Price c.0)) ask c.2 in
+    let terms = terms_back most_terms rest c.0 c.1 in
+    subst (SpellsAsk text) (some_is (Price c.0) ask t.1)
+    (price rest c.0 terms.spelled (weighted_priced c.0 terms.some terms.few t.0) spelled)
+
 -- what stands in front of the colon is this name, or another
 module _ (text head rest : Text) (ask : Ask) (spelled : text ≡ head ++ 58 ∷ rest) where
   choice : (name : Text) (there other : Option Ask) → (if bytes_eq head name then there else other) ≡ Some ask
@@ -185,16 +160,17 @@ module _ (text head rest : Text) (ask : Ask) (spelled : text ≡ head ++ 58 ∷ 
       subst (SpellsAsk text) a.1 (pmf rest a.0 t)) (λ e.
       choice (codes "cdf") _ _ e (λ t there. let a = amount_back Cdf rest ask there in
       subst (SpellsAsk text) a.1 (cdf rest a.0 t)) (λ e.
-      choice (codes "q") _ _ e (λ t there. let a = probability_back Quantile rest ask there in
+      choice (codes "q") _ _ e (λ t there. let a = probability_back 9 Quantile rest ask there in
       subst (SpellsAsk text) a.1 (q rest a.0 t)) (λ e.
-      choice (codes "tail") _ _ e (λ t there. let a = probability_back Tail rest ask there in
+      choice (codes "tail") _ _ e (λ t there. let a = probability_back 9 Tail rest ask there in
       subst (SpellsAsk text) a.1 (tail rest a.0 t)) (λ e.
+      choice (codes "price") _ _ e (λ t there. price_back text rest ask t there) (λ e.
       choice (codes "layer") _ _ e (λ t there. layer_back text rest ask t there) (λ e.
       choice (codes "joint") _ _ e (λ t there. unit_spelled (codes "joint:") Joint t there
       (λ name x n a s. joint name x n a s)) (λ e.
       choice (codes "kappa") _ _ e (λ t there. unit_spelled (codes "kappa:") Kappa t there
       (λ name x n a s. kappa name x n a s)) (λ e.
-      not_some ask e)))))))
+      not_some ask e))))))))
     where
       unit_spelled : (front : Text) (mk : Text → ℕ → Ask) → text ≡ front ++ rest
           → option_map (λ parts. mk parts.0 parts.1) (unit_parts rest) ≡ Some ask

@@ -53,10 +53,14 @@ is_numeral text =
 abbrev pub is_bucket : Text → Bool
 is_bucket text = is_numeral text && not (is_bad 11 text) && nat_lt 0 (numeral_value text).num
 
--- a numeral below 1 that is not bad with 9 digits
-abbrev pub is_probability : Text → Bool
-is_probability text = is_numeral text && not (is_bad 9 text)
+-- a numeral below 1 that is not bad with so many digits
+abbrev pub is_probability : ℕ → Text → Bool
+is_probability digits text = is_numeral text && not (is_bad digits text)
     && nat_lt (numeral_value text).num (numeral_value text).den
+
+-- a numeral that is not bad with 9 digits
+abbrev pub is_weight : Text → Bool
+is_weight text = is_numeral text && not (is_bad 9 text)
 
 -- spelled as a word: a letter, then letters, digits, `_` and `-`
 abbrev pub is_word : Text → Bool

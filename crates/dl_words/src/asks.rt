@@ -1,16 +1,17 @@
 //! What asks are, by their spelling.
 
-ghost use Rattle.std.specs.Prelude.{◌≡◌, ◌<◌, ◌≤◌, ◌^◌, IfErr, IfOk, Ok, length, map, option_map};
+ghost use Rattle.std.specs.Prelude.{◌≡◌, ◌<◌, ◌≤◌, ◌^◌, ◌++◌, ◌∷◌, [], IfErr, IfOk, Ok, length, map, option_map};
 ghost use Rattle.dl_limits.specs.Limits.{most_asks};
-ghost use Rattle.dl_words.specs.Asks.{ask_between, ask_of, asks_of, cut_at, behind_s, layer_between, layer_of, limit_written, unit_parts};
+ghost use Rattle.dl_words.specs.Asks.{ask_between, ask_of, asks_of, cut_at, behind_s, layer_between, layer_of, limit_written, price_of, term_between, term_written, terms_written, unit_parts};
 ghost use Rattle.dl_words.specs.Faults.{ExplainsAsks};
+ghost use Rattle.dl_plan.specs.Terms.{most_terms};
 ghost use Rattle.dl_words.specs.declared.fault.UsageFault.TheVariants as faults;
 ghost use Rattle.dl_words.specs.declared.fault.WordsFault.TheVariants.{Usage};
 
 use crate::fault::{UsageFault, WordsFault};
-use crate::spelling::{amount, is_word, probability};
+use crate::spelling::{amount, is_word, probability, weight};
 use dl_lexer::Text;
-use dl_plan::{Ask, Asked};
+use dl_plan::{Ask, Asked, Items, MOST_TERMS, Term, are_priced};
 use std::alloc::{AllocError, Global};
 
 /// What the texts ask, or the index of the first that is not spelled as an ask.
@@ -71,13 +72,77 @@ fn ask_between(alloc: Global, head: &str, rest: &str) -> Result<Option<Ask>, All
     match head {
         "pmf" => Ok(amount(rest).map(Ask::Pmf)),
         "cdf" => Ok(amount(rest).map(Ask::Cdf)),
-        "q" => Ok(probability(rest).map(Ask::Quantile)),
-        "tail" => Ok(probability(rest).map(Ask::Tail)),
+        "q" => Ok(probability(rest, 9).map(Ask::Quantile)),
+        "tail" => Ok(probability(rest, 9).map(Ask::Tail)),
+        "price" => price(alloc, rest),
         "layer" => Ok(layer(rest)),
         "joint" => Ok(unit_at(alloc, rest)?.map(|(unit, at)| Ask::Joint { unit, at })),
         "kappa" => Ok(unit_at(alloc, rest)?.map(|(unit, at)| Ask::Kappa { unit, at })),
         _ => Ok(None),
     }
+}
+
+/// Terms of a price, joined by `+`: 1 to 8 of them, whose weights sum to 1.
+fn price(alloc: Global, text: &str) -> Result<Option<Ask>, AllocError>
+    ensures { IfOk result (λ ask. ask ≡ price_of text.now) }
+{
+    let Some(terms) = read_terms(alloc, text)? else {
+        return Ok(None);
+    };
+    if are_priced(alloc, terms.as_slice())? {
+        return Ok(Some(Ask::Price(Items::from_vec(terms))));
+    }
+    Ok(None)
+}
+
+/// Terms joined by `+`, at most 8 of them.
+fn read_terms(alloc: Global, text: &str) -> Result<Option<Vec<Term>>, AllocError>
+    ensures { IfOk result (λ terms.
+        option_map (λ t. t.items) terms ≡ terms_written most_terms text.now) }
+{
+    let mut terms = Vec::new(alloc);
+    let mut rest = text;
+    for index in 0..MOST_TERMS {
+        let Some((first, more)) = cut(rest, '+') else {
+            return with_last(terms, rest);
+        };
+        let Some(term) = read_term(first) else {
+            return Ok(None);
+        };
+        terms.push(term)?;
+        rest = more;
+    }
+    Ok(None)
+}
+
+/// The terms, and one more.
+fn with_last(terms: Vec<Term>, text: &str) -> Result<Option<Vec<Term>>, AllocError>
+    ensures { IfOk result (λ all. option_map (λ t. t.items) all
+        ≡ option_map (λ term. terms.items ++ term ∷ []) (term_written text.now)) }
+{
+    let mut terms = terms;
+    let Some(term) = read_term(text) else {
+        return Ok(None);
+    };
+    terms.push(term)?;
+    Ok(Some(terms))
+}
+
+/// `W@P`.
+fn read_term(text: &str) -> Option<Term>
+    ensures { result ≡ term_written text.now }
+{
+    let (weight, p) = cut(text, '@')?;
+    term_between(weight, p)
+}
+
+/// `W`, and `P`.
+fn term_between(text: &str, p: &str) -> Option<Term>
+    ensures { result ≡ term_between text.now p.now }
+{
+    let weight = weight(text)?;
+    let p = probability(p, 9)?;
+    Some(Term { weight, p })
 }
 
 /// `LxsA`.

@@ -6,7 +6,7 @@ ghost use Rattle.std.specs.List.{list_all};
 ghost use Rattle.dl_frac.specs.Numerals.{is_bad, numeral_value};
 ghost use Rattle.dl_lexer.specs.Bytes.{is_word_byte};
 ghost use Rattle.dl_lexer.specs.Tokens.{begins_with_letter};
-ghost use Rattle.dl_words.specs.Asks.{amount_written, probability_written};
+ghost use Rattle.dl_words.specs.Asks.{amount_written, probability_written, weight_written};
 ghost use Rattle.dl_words.specs.Spelling.{begins_plainly, is_bucket, is_number_of, is_numeral, is_number_within, is_word, number};
 
 use dl_frac::{Frac, is_numeral, numeral};
@@ -78,12 +78,20 @@ pub(crate) fn bucket(text: &str) -> Option<Frac>
     (0 < value.num()).then_some(value)
 }
 
-/// The value of a numeral below 1 that is not bad with 9 digits.
-pub(crate) fn probability(text: &str) -> Option<Frac>
-    ensures { result ≡ probability_written text.now }
+/// The value of a numeral below 1 that is not bad with a limit of `digits` digits, at most 9.
+pub(crate) fn probability(text: &str, digits: u32) -> Option<Frac>
+    requires { digits ≤ 9 }
+    ensures { result ≡ probability_written digits text.now }
 {
-    let value = fraction(text, 9)?;
+    let value = fraction(text, digits)?;
     (value.num() < value.den()).then_some(value)
+}
+
+/// The value of a weight: a numeral that is not bad with 9 digits.
+pub(crate) fn weight(text: &str) -> Option<Frac>
+    ensures { result ≡ weight_written text.now }
+{
+    fraction(text, 9)
 }
 
 /// Whether the bytes are spelled as a word of a program.

@@ -50,7 +50,7 @@ def plain(value: Fraction) -> str:
 def ask_in_money(ask: str, bs: Fraction) -> str:
     """The ask with its amounts times the size of a bucket: `layer:10xs5` is `layer:10000xs5000` where that is 1000."""
     kind, *parts = ask.split(":")
-    if kind in ("q", "tail") or not parts:
+    if kind in ("q", "tail", "price") or not parts:
         return ask
     amounts = [part if part == "inf" else plain(Fraction(part) * bs) for part in parts[-1].split("xs")]
     return ":".join([kind, *parts[:-1], "xs".join(amounts)])
@@ -74,7 +74,7 @@ class Row:
 
     @property
     def kind(self) -> str:
-        """The first part of the ask: pmf, cdf, mean, q, layer, tail, joint or kappa."""
+        """The first part of the ask: pmf, cdf, mean, q, layer, tail, price, joint or kappa."""
         return self.ask.split(":")[0]
 
     @property

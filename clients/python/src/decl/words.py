@@ -23,11 +23,12 @@ FORM: Dict[str, str] = {
     "cdf": f"In cdf:x, x is {AMOUNT}.",
     "q": f"In q:p, {LEVEL}.",
     "tail": f"In tail:p, {LEVEL}.",
+    "price": f"In price:W@P+W@P.., there are 1 to 8 terms, and the weights W sum to 1. {LEVEL.replace('p is', 'Each P is')}.",
     "layer": f"In layer:LxsA, L and A are each {AMOUNT}; L can be inf.",
     "joint": f"In joint:NAME:x, NAME is a unit and x {AMOUNT}.",
     "kappa": f"In kappa:NAME:x, NAME is a unit and x {AMOUNT}.",
 }
-ASKS = "Asks are pmf:x, cdf:x, mean, q:p, layer:LxsA, tail:p, joint:NAME:x and kappa:NAME:x."
+ASKS = "Asks are pmf:x, cdf:x, mean, q:p, layer:LxsA, tail:p, price:W@P+W@P.., joint:NAME:x and kappa:NAME:x."
 
 
 def like_a_file(word: str) -> bool:

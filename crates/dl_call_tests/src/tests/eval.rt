@@ -102,12 +102,13 @@ fn ends(alloc: Global, width: u64, ask: &str) -> Result<Option<(End, End)>, Eval
 }
 
 /// Asks, and both ends of their answers.
-const ANSWERS: [(&str, End); 8] = [
+const ANSWERS: [(&str, End); 9] = [
     ("pmf:2", End::Number(1_000_000)),
     ("cdf:1", End::Number(0)),
     ("mean", End::Number(2_000_000)),
     ("layer:1xs1", End::Number(1_000_000)),
     ("tail:0.5", End::Number(2_000_000)),
+    ("price:1/4@0+3/4@0.5", End::Number(2_000_000)),
     ("joint:A:2", End::Number(2_000_000)),
     ("kappa:A:2", End::Number(2_000_000)),
     ("kappa:A:3", End::Absent),

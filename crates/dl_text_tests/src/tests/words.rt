@@ -1,6 +1,6 @@
 //! Words and what they say, worked by hand from the table of the words.
 
-use dl_plan::{Ask, Form, Format, Settings};
+use dl_plan::{Ask, Form, Format, Settings, Term};
 use dl_words::{UsageFault, WordsFault, read_words};
 use std::alloc::{AllocError, Global};
 
@@ -72,7 +72,7 @@ const MISFITS: [&str; 63] = [
 ];
 
 /// Texts that are not asks.
-const NO_ASKS: [&str; 42] = [
+const NO_ASKS: [&str; 61] = [
     "",
     "Mean",
     "mean:",
@@ -102,6 +102,25 @@ const NO_ASKS: [&str; 42] = [
     "q:1e-1",
     "tail:1",
     "tail:",
+    "price",
+    "price:",
+    "price:1",
+    "price:1@",
+    "price:@0",
+    "price:1@1",
+    "price:1@0@0",
+    "price:+1@0",
+    "price:1@0+",
+    "price:1/2@0",
+    "price:1/2@0++1/2@0",
+    "price:1/2@0+1/2@0.5+1/2@0.9",
+    "price:1.000000000@0",
+    "price:1@0.123456789",
+    "price:1/1000003@0+1000002/1000003@0",
+    "price:1/9@0+1/9@0+1/9@0+1/9@0+1/9@0+1/9@0+1/9@0+1/9@0+1/9@0",
+    "price:-1@0+2@0",
+    "price:NaN@0",
+    "PRICE:1@0",
     "layer:",
     "layer:5",
     "layer:5xs",
@@ -139,6 +158,30 @@ const ASKS: [(&str, u32, u64, u64); 17] = [
     ("kappa:inf:0", 7, 3, 0),
 ];
 
+/// Prices, and the weights and probabilities of their terms.
+const PRICES: [(&str, &str); 14] = [
+    ("price:1@0", "1/1@0/1"),
+    ("price:1@0.5", "1/1@1/2"),
+    ("price:01@00", "1/1@0/1"),
+    ("price:4/4@999999998/999999999", "1/1@999999998/999999999"),
+    ("price:100%@12.34567%", "1/1@1234567/10000000"),
+    ("price:1.0@.12345678", "1/1@6172839/50000000"),
+    ("price:1/2@0+1/2@0.9", "1/2@0/1+1/2@9/10"),
+    ("price:50%@1/2+.5@90%", "1/2@1/2+1/2@9/10"),
+    ("price:0.75@0.9+0.25@0.9", "3/4@9/10+1/4@9/10"),
+    ("price:2/6@0.5+4/6@0.25", "1/3@1/2+2/3@1/4"),
+    ("price:0/5@0.99+1@0.5", "0/1@99/100+1/1@1/2"),
+    ("price:1/3@0+1/3@1/3+1/3@2/3", "1/3@0/1+1/3@1/3+1/3@2/3"),
+    (
+        "price:1/1000000@0+999999/1000000@0",
+        "1/1000000@0/1+999999/1000000@0/1",
+    ),
+    (
+        "price:1/8@0+1/8@0+1/8@0+1/8@0+1/8@0+1/8@0+1/8@0+1/8@.5",
+        "1/8@0/1+1/8@0/1+1/8@0/1+1/8@0/1+1/8@0/1+1/8@0/1+1/8@0/1+1/8@1/2",
+    ),
+];
+
 fn words(alloc: Global, line: &str) -> Result<Vec<String>, AllocError> {
     let mut words = Vec::new(alloc);
     for word in line.split(' ') {
@@ -158,6 +201,7 @@ fn shown(ask: &Ask) -> (u32, u64, u64) {
         Ask::Mean => (2, 0, 0),
         Ask::Quantile(p) => (3, p.num(), p.den()),
         Ask::Tail(p) => (4, p.num(), p.den()),
+        Ask::Price(terms) => (8, terms.as_slice().len() as u64, 0),
         Ask::LayerMean { limit, attach } => {
             (5, limit.map_or(0, |limit| limit as u64 + 1), *attach as u64)
         }
@@ -273,6 +317,41 @@ fn is_asked(alloc: Global, case: &(&str, u32, u64, u64)) -> bool {
     }
 }
 
+/// The terms, with the numerators and denominators of their weights and probabilities.
+fn written(alloc: Global, terms: &[Term]) -> Result<String, AllocError> {
+    let mut text = String::new(alloc);
+    for term in terms {
+        let sign = if text.as_str() == "" { "" } else { "+" };
+        let (weight, p) = (term.weight, term.p);
+        let (w, v, n, d) = (weight.num(), weight.den(), p.num(), p.den());
+        let part = format!(in alloc; "{sign}{w}/{v}@{n}/{d}")?;
+        text.push_str(part.as_str())?;
+    }
+    Ok(text)
+}
+
+/// Whether the text is read as a price by these terms.
+fn is_price(alloc: Global, text: &str, terms: &str) -> bool {
+    let Ok(settings) = read_between(alloc, "run ", text, "") else {
+        return false;
+    };
+    match settings.asks.as_slice().first() {
+        Some(asked) => has_terms(alloc, &asked.ask, terms),
+        None => false,
+    }
+}
+
+/// Whether the ask is for a price by these terms.
+fn has_terms(alloc: Global, ask: &Ask, terms: &str) -> bool {
+    match ask {
+        Ask::Price(read) => match written(alloc, read.as_slice()) {
+            Ok(text) => text.as_str() == terms,
+            Err(_) => false,
+        },
+        _ => false,
+    }
+}
+
 /// Whether the text is refused as an ask.
 fn is_no_ask(alloc: Global, text: &str) -> bool {
     let read = read_between(alloc, "run mean ", text, " pmf");
@@ -283,6 +362,13 @@ fn is_no_ask(alloc: Global, text: &str) -> bool {
 fn asks(rt: HostRuntime) {
     for case in &ASKS {
         assert!(rt; is_asked(rt.alloc(), case), "{}", case.0);
+    }
+}
+
+#[test]
+fn prices(rt: HostRuntime) {
+    for (text, terms) in &PRICES {
+        assert!(rt; is_price(rt.alloc(), text, terms), "{text}");
     }
 }
 

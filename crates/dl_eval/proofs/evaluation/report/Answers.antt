@@ -1,6 +1,6 @@
 use Rattle.dl_eval.proofs.Common.{◌≡◌, arith, refl, sym, ap, subst₂, length, All, zip, Asked, IsInside, NamesUnit, HasOthers, IsGood}
 use Rattle.dl_plan.specs.declared.settings.Ask.TheVariants.{Mean}
-use Rattle.dl_plan.specs.Ranges.{HasLevel}
+use Rattle.dl_plan.specs.Ranges.{IsAskInRange}
 use Rattle.dl_eval.proofs.Insides.{ask_has}
 use Rattle.std.proofs.lemmas.Option.{IfSome_then}
 use Rattle.dl_eval.proofs.Lists.{each_next, pushed_length, all_pairs}
@@ -23,8 +23,8 @@ row-requires g c =
           (
             c.requires.ranges.few_digits,
             (
-              ask_has (λ (a : Asked). HasLevel a.ask) asks all i asked same c.asked-item.is test
-                  c.requires.ranges.levels,
+              ask_has (λ (a : Asked). IsAskInRange a.ask) asks all i asked same c.asked-item.is test
+                  c.requires.ranges.asks,
               (
                 c.requires.valid,
                 (

@@ -36,6 +36,8 @@ returns-clause-grids g c =
     let plan = c.args.plan.now in
     let sums = c.in_ok-sums.sums in record {
       units = λ i inside some. c.requires.units;
+      means = c.requires.means;
+      small = c.requires.small;
       others = are_others plan c.args.units.items c.as_slice-3.result.now sums.others.items c.requires.valid
           c.requires.units
           (subst (λ grids. AreSumsWithout plan.cells grids c.as_slice-3.result.now sums.others.items)
@@ -51,6 +53,6 @@ returns-clause-there g c =
     let rest = subst₂ (λ grids asked. AreSumsWithout plan.cells grids asked sums.others.items)
     c.as_slice-2.ensures.value c.as_slice-3.ensures.value c.in_ok-sums.ensures.others in
     has_others plan c.args.units.items c.args.asks.now c.in_ok-asked.asked.items
-    (record { units = c.args.units; sums = sums }) c.requires.units
+    (record { units = c.args.units; means = c.args.means; sums = sums }) c.requires.units
     (subst (λ units. AreShared units c.args.asks.now c.in_ok-asked.asked.items) c.as_slice.ensures
     c.in_ok-asked.ensures) rest c.requires.named

@@ -1,7 +1,10 @@
-use Rattle.dl_eval.proofs.Common.{◌^◌, arith, ap₂, ◌∙◌, IfOk-weaker, place_of}
+use Rattle.dl_eval.proofs.Common.{[], ◌^◌, arith, ap₂, ◌∙◌, IfOk-weaker, place_of}
+use Rattle.std.proofs.lemmas.List.Elements.{All-head}
+use Rattle.dl_plan.specs.Ranges.{IsLevel}
 use Rattle.dl_eval.proofs.Insides.{layer_inside}
 use Rattle.dl_eval.proofs.GoodRows.{point_answer, cdf_answer, mean_answer, layer_answer}
 use Rattle.dl_eval.proofs.Scales.{plan_scale}
+use Rattle.dl_eval.proofs.PriceRows.{price_asked}
 use Rattle.dl_eval.proofs.ShareLaws.{joint_asked, share_asked, tail_asked}
 use Rattle.dl_eval.proofs.rows.grid_row.Goals as goal
 
@@ -27,6 +30,45 @@ layer_mean-layer-requires g c =
             c.requires.grids.total.cells,
       ),
     )
+
+pub quantile_row-requires : goal.quantile_row-requires
+quantile_row-requires g c = (
+  omega arith,
+  (
+    plan_scale g.row.B c.args.plan.now.cells c.requires.scale,
+    All-head IsLevel c.in-Quantile.p [] (rw c.in-Quantile.is at c.requires.values.levels),
+  ),
+)
+
+pub tail_row-requires : goal.tail_row-requires
+tail_row-requires g c = (
+  omega arith,
+  (
+    omega arith,
+    (
+      plan_scale g.row.B c.args.plan.now.cells c.requires.scale,
+      (c.requires.digits, (All-head IsLevel c.in-Tail.p [] (rw c.in-Tail.is at c.requires.values.levels), c.requires.small)),
+    ),
+  ),
+)
+
+pub price_row-requires : goal.price_row-requires
+price_row-requires g c = (
+  omega arith,
+  (
+    omega arith,
+    (
+      plan_scale g.row.B c.args.plan.now.cells c.requires.scale,
+      (
+        c.requires.digits,
+        (
+          rw c.as_slice.ensures (rw c.in-Price.is at c.requires.values.levels),
+          (rw c.as_slice.ensures (rw c.in-Price.is at c.requires.values.terms), c.requires.small),
+        ),
+      ),
+    ),
+  ),
+)
 
 pub returns-in-Pmf-clause-answer : goal.returns-in-Pmf-clause-answer
 returns-in-Pmf-clause-answer g c =
@@ -67,12 +109,20 @@ returns-in-Tail-clause-answer g c =
     (told c.args.plan.now c.requires.valid c.requires.grids.total c.requires.mean)))
     c.tail_row.ensures.tail
 
+pub returns-in-Price-clause-answer : goal.returns-in-Price-clause-answer
+returns-in-Price-clause-answer g c =
+    IfOk-weaker c.price_row.result _ _ (λ row told.
+    rw c.in-Price.is (price_asked (2 ^ g.row.B) c.args.plan.now c.as_slice.result.now c.in-Price.terms
+    c.args.digits row c.as_slice.ensures
+    (told c.args.plan.now c.requires.valid c.requires.grids.total c.requires.mean)))
+    c.price_row.ensures.price
+
 pub returns-in-Joint-clause-answer : goal.returns-in-Joint-clause-answer
 returns-in-Joint-clause-answer g c =
     IfOk-weaker c.ends_row-in-Joint.result _ _ (λ row printed.
     rw c.in-Joint.is (joint_asked c.args.plan.now c.in-Joint.unit c.in-Joint.at c.place-i.result c.args.digits
     c.joint_of.result row
-    (c.place-i.ensures ∙ ap₂ place_of c.as_slice-in-Joint.ensures c.as_slice.ensures) c.joint_of.ensures.joint printed))
+    (c.place-i.ensures ∙ ap₂ place_of c.as_slice-in-Joint-2.ensures c.as_slice-in-Joint.ensures) c.joint_of.ensures.joint printed))
     c.ends_row-in-Joint.ensures.ends
 
 pub returns-in-Kappa-clause-answer : goal.returns-in-Kappa-clause-answer

@@ -1,4 +1,4 @@
-use Rattle.dl_eval.proofs.Common.{inl, inr, refl, IfOk-weaker, if_ok_two}
+use Rattle.dl_eval.proofs.Common.{inl, inr, refl, IfOk-weaker}
 use Rattle.dl_eval.proofs.GoodRows.{ends_below}
 use Rattle.dl_eval.proofs.Tails.{tail_answer}
 use Rattle.dl_eval.proofs.rows.tail_row.Goals as goal
@@ -13,9 +13,8 @@ returns-in-Some-clause-tail g c =
 
 pub returns-in-None-clause-tail : goal.returns-in-None-clause-tail
 returns-in-None-clause-tail g c =
-    if_ok_two c.row_with.result _ _ _ (λ row low high plan valid t m. inr (record {
-      is_low = low;
-      is_high = high;
+    IfOk-weaker c.beyond_row.result _ _ (λ row past plan valid t m. inr (record {
+      past = past;
       below = ends_below plan c.args.total.now c.args.p (c.in-None.ensures.none.0 refl) valid t;
     }))
-    c.row_with.ensures.low c.row_with.ensures.high
+    c.beyond_row.ensures.ends

@@ -1,0 +1,37 @@
+use Rattle.dl_budget.proofs.Common.{◌+◌, ◌^◌, ◌≤◌, arith, up, whole}
+use Rattle.dl_exact.specs.Fraction.{◌*ℚ◌}
+use Rattle.dl_plan.specs.declared.settings.Term.{Term}
+use Rattle.dl_budget.specs.Asks.{most_tail_budget, tail_budget}
+use Rattle.dl_budget.specs.Units.{mean_budget, total_budget}
+use Rattle.dl_budget.proofs.Horizons.{few_cells}
+use Rattle.dl_budget.proofs.Tails.{tail_most}
+use Rattle.dl_plan.proofs.TermLevels.{level_there, levels_each}
+use Rattle.dl_budget.proofs.Prices.{price_all, price_small, weight_small}
+use Rattle.dl_budget.proofs.asks.price_budget.Goals as goal
+
+pub tail_budget-requires-clause-level : goal.tail_budget-requires-clause-level
+tail_budget-requires-clause-level g c =
+    level_there c.args.terms.now c.terms.term-index c.term-item.result c.terms-test.true c.term-item.is c.requires.levels
+
+pub part_budget-sum-requires-clause-weight : goal.part_budget-sum-requires-clause-weight
+part_budget-sum-requires-clause-weight g c =
+    weight_small c.args.terms.now c.requires.priced c.terms.term-index c.term-item.result c.terms-test.true
+    c.term-item.is
+
+pub returns-clause-small : goal.returns-clause-small
+returns-clause-small g c =
+    let plan = c.args.plan.now in
+    let S = 2 ^ g.row.B in
+    let levels = levels_each c.args.terms.now c.requires.levels in
+    let total = c.requires.budgets.total in
+    let mean = c.requires.budgets.mean in
+    let small = price_small c.args.terms.now c.requires.priced (λ p. tail_budget S plan p) most_tail_budget
+    (λ i (t : Term) inside. tail_most (mean_budget S plan) (total_budget S plan) plan.cells _
+    (omega (arith, mean, c.requires.budgets.mean_small)) (omega (arith, total, c.requires.budgets.total_small))
+    (few_cells plan c.requires.valid).1 (levels i t inside)) in
+    omega (
+      arith,
+      small,
+      price_all (λ (t : Term). up (t.weight *ℚ whole (tail_budget S plan t.p)) + 2) c.args.terms.now
+          c.terms.term-index c.terms.sum (omega arith) c.terms.invariant.so_far,
+    )

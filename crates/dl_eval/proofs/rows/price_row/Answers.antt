@@ -1,0 +1,33 @@
+use Rattle.dl_eval.proofs.Common.{arith, inl, inr, refl, IfOk-weaker}
+use Rattle.dl_plan.proofs.TermLevels.{levels_each}
+use Rattle.dl_eval.proofs.PriceRows.{price_answer, price_past}
+use Rattle.dl_eval.proofs.rows.price_row.Goals as goal
+
+pub price-requires : goal.price-requires
+price-requires g c =
+    let levels = levels_each c.args.terms.now c.requires.levels in (
+      omega arith,
+      (
+        omega arith,
+        (
+          c.requires.priced,
+          (λ i t inside. (levels i t inside).below, (λ i t inside. (levels i t inside).den, c.requires.small)),
+        ),
+      ),
+    )
+
+pub returns-in-Some-clause-price : goal.returns-in-Some-clause-price
+returns-in-Some-clause-price g c =
+    IfOk-weaker c.ends_row.result _ _ (λ row printed plan valid t m. inl (
+    price_answer plan c.args.total.now c.args.mean c.args.terms.now c.args.digits c.in-Some.price.lo c.in-Some.price.hi
+    row valid t m (λ past. let some = c.in-Some.ensures.none.1 past in cc) c.in-Some.ensures.holds
+    c.in-Some.ensures.least c.in-Some.ensures.width printed))
+    c.ends_row.ensures.ends
+
+pub returns-in-None-clause-price : goal.returns-in-None-clause-price
+returns-in-None-clause-price g c =
+    IfOk-weaker c.beyond_row.result _ _ (λ row past plan valid t m. inr (record {
+      past = past;
+      below = price_past plan c.args.total.now c.args.terms.now valid t (c.in-None.ensures.none.0 refl);
+    }))
+    c.beyond_row.ensures.ends
