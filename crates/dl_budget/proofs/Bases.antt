@@ -37,7 +37,7 @@ gamma_base a r m some =
     bottom w = omega arith
 
 -- d is the mean's denominator and n its numerator
-gamma_parts : (a r d n X : ℕ) → 0 < d → n ≤ 4096 * d → X * (d * r) ≤ a * (d * r + n) + d * r
+pub gamma_parts : (a r d n X : ℕ) → 0 < d → n ≤ 4096 * d → X * (d * r) ≤ a * (d * r + n) + d * r
     → r * X ≤ a * (r + 4096) + r
 gamma_parts a r d n X pos within h =
     let means : a * n ≤ a * (4096 * d) = mul-le-mul_left a within in

@@ -37,7 +37,7 @@ listed_begins K J m few items most =
     omega (arith, mul-le-mul most one)
 
 -- 0 where n is 0
-where_none : (n x y : ℕ) → (n ≡ 0 → x ≡ 0) → (0 < n → x ≡ y) → x ≡ (if n == 0 then 0 else y)
+pub where_none : (n x y : ℕ) → (n ≡ 0 → x ≡ 0) → (0 < n → x ≡ y) → x ≡ (if n == 0 then 0 else y)
 where_none n x y none some = elim (eqb_tells n 0) [
   | inl is ↦ rw is.0 (none is.1)
   | inr differs ↦ rw differs.0

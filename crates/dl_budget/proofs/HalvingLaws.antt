@@ -104,3 +104,6 @@ half_after_13 m within =
 pub half_by_shift : (m : Fraction) (h double den M : ℕ) → double ≡ 2 * m.num → den ≡ m.den
     → double ≤ den * 2 ^ h % M → IsHalf m h
 half_by_shift m h double den M e d test = omega (arith, test, mod-le (den * 2 ^ h) M, e, ap (λ t. t * 2 ^ h) d)
+
+pub first_below_14 : (m : Fraction) → m ≤ℚ whole 4096 → halvings m ≤ 13
+first_below_14 m within = (halvings_least m).least 13 (half_enough m 13 (half_after_13 m within))

@@ -4,6 +4,7 @@ pub mod Repeats
 pub mod HalvingLaws
 pub mod Bases
 pub mod Counts
+pub mod NoneSizes
 pub mod Horizons
 pub mod Sums
 pub mod Means

@@ -1,6 +1,10 @@
 -- The budget of a mean, as a loop over the units makes it.
-use Rattle.dl_budget.proofs.Common.{ℕ, ◌≡◌, ◌+◌, ◌<◌, ◌≤◌, List, length, get_or, take, sym, ap, ap₂, ◌∙◌, sum_by, take_all, unit_mean_budget}
+use Rattle.dl_budget.proofs.Common.{ℕ, ◌≡◌, ◌+◌, ◌*◌, ◌^◌, ◌<◌, ◌≤◌, arith, subst, whole, ◌≤ℚ◌, le_over, over_self, one_pos, div_ceil_least, up, IsValidUnit, List, length, get_or, take, sym, ap, ap₂, ◌∙◌, sum_by, take_all, unit_mean_budget}
 use Rattle.std.proofs.lemmas.List.Sums.{sum_by_more}
+use Rattle.dl_limits.specs.Limits.{most_amount, most_expected}
+use Rattle.dl_plan.specs.Count.{expected_count}
+use Rattle.dl_plan.specs.Valid.{declared_mean}
+use Rattle.dl_plan.proofs.ValidUnits.{mean_most, near_in_any}
 use Rattle.dl_plan.specs.declared.plan.Unit.{Unit as UnitOfPlan}
 
 -- one more unit
@@ -15,3 +19,15 @@ pub mean_all : (S cells : ℕ) (us : List UnitOfPlan) (i sum : ℕ) → length u
     → sum ≡ sum_by (unit_mean_budget S cells) (take i us)
     → sum ≡ sum_by (unit_mean_budget S cells) us
 mean_all S cells us i sum past e = e ∙ ap (sum_by (unit_mean_budget S cells)) (take_all i us past)
+
+-- the mean of the claims of a unit whose probability of no claim can be changed is at most 2^34 buckets
+pub whole_small : (cells : ℕ) (u : UnitOfPlan) (m : ℕ) → IsValidUnit cells u
+    → expected_count u.freq ≤ℚ whole most_expected → m ≡ up (declared_mean u) → m ≤ 2 ^ 34
+unfolding up
+whole_small cells u m h few is =
+    let mean = declared_mean u in
+    let cross : mean.num * 1 ≤ most_expected * most_amount * mean.den =
+    le_over mean.num mean.den (most_expected * most_amount) 1 mean.positive one_pos
+    (subst (λ x. x ≤ℚ whole (most_expected * most_amount)) (sym (over_self mean))
+    (mean_most most_expected most_amount u few (near_in_any cells u h))) in
+    omega (arith, is, div_ceil_least mean.num mean.den (2 ^ 34) mean.positive (omega (arith, cross)))

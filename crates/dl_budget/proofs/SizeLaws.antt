@@ -8,16 +8,27 @@ use Rattle.dl_grid.proofs.WidthLaws.{size_step, size_joined, pw_even, pw_odd}
 pub size_least : (S c x : ℕ) → x ≤ c → IsSizeWithin S c x
 size_least S c x h = mul-le-mul h (omega arith)
 
--- where c is at most S / 64, what is at most c / (1 - c/S) is at most 64/63 of c
-pub size_near : (S c x : ℕ) → 0 < S → 64 * c ≤ S → IsSizeWithin S c x → 63 * x ≤ 64 * c
-size_near S c x pos far size =
-    let part : x * (63 * S) ≤ x * (64 * (S - c)) = mul-le-mul_left x (omega arith) in
-    le_of_mul-le-mul_right {k = S} (omega (arith, part, size)) pos
+-- where c is at most S / (n + 1), what is at most c / (1 - c/S) is at most c and an n-th of it
+pub size_near : (n S c x : ℕ) → 0 < S → (n + 1) * c ≤ S → IsSizeWithin S c x → n * x ≤ (n + 1) * c
+size_near n S c x pos far size =
+    let rest : n * S ≤ (n + 1) * (S - c) = left n S c far in
+    let part : x * (n * S) ≤ x * ((n + 1) * (S - c)) = mul-le-mul_left x rest in
+    let more : (n + 1) * (x * (S - c)) ≤ (n + 1) * (c * S) = mul-le-mul_left (n + 1) size in
+    le_of_mul-le-mul_right {k = S} (omega (arith, part, more)) pos
+  where
+    left : (n S c : ℕ) → (n + 1) * c ≤ S → n * S ≤ (n + 1) * (S - c)
+    left n S c far =
+        let sum : (S - c) + c ≡ S = omega (arith, far) in
+        omega (arith, far, ap (λ t. n * t) sum, ap (λ t. 1 * t) sum)
 
-pub spread_near : (S k more c x : ℕ) → 0 < S → 64 * c ≤ S → IsSizeWithin S c (rounded_spread k more x)
-    → 63 * x ≤ 64 * c
+pub spread_near : (n S k more c x : ℕ) → 0 < S → (n + 1) * c ≤ S → IsSizeWithin S c (rounded_spread k more x)
+    → n * x ≤ (n + 1) * c
 unfolding rounded_spread
-spread_near S k more c x pos far size = omega (arith, size_near S c (x + 2 * k + 1 + more) pos far size)
+spread_near n S k more c x pos far size =
+    omega (arith, size_near n S c (x + 2 * k + 1 + more) pos far size, mul-le-mul_left n (less x k more))
+  where
+    less : (x k more : ℕ) → x ≤ x + 2 * k + 1 + more
+    less x k more = omega arith
 
 -- one step
 pub size_step_of : (S k more c d x y z : ℕ) → 0 < S → c + d ≤ S → IsSizeWithin S c (rounded_spread k more x)
@@ -33,24 +44,27 @@ size_step_of S k more c d x y z pos room hx hy e =
 scale_least : (B : ℕ) → IsPlanScale B → 2 ^ 48 ≤ 2 ^ B
 scale_least B scale = pow-le-pow_right {n = 2} (omega arith) {i = 48} {j = B} scale.least
 
--- what is at most 2^40 is far below them
+-- what is at most 2^40 is at most 1/64 of them, and what is at most 2^44 at most 1/16
 pub far_below : (B c : ℕ) → IsPlanScale B → c ≤ 2 ^ 40 → 64 * c ≤ 2 ^ B
 far_below B c scale h = omega (arith, h, scale_least B scale)
 
--- one step that stays far below
-pub within_step : (B k more c d n x y z : ℕ) → IsPlanScale B → c + d ≡ n → n ≤ 2 ^ 40
+pub below : (B c : ℕ) → IsPlanScale B → c ≤ 2 ^ 44 → 16 * c ≤ 2 ^ B
+below B c scale h = omega (arith, h, scale_least B scale)
+
+-- one step that stays below
+pub within_step : (B k more c d n x y z : ℕ) → IsPlanScale B → c + d ≡ n → n ≤ 2 ^ 44
     → IsSizeWithin (2 ^ B) c (rounded_spread k more x) → IsSizeWithin (2 ^ B) d (rounded_spread k more y)
     → z ≡ cv (2 ^ B) k x y + more → IsSizeWithin (2 ^ B) n (rounded_spread k more z)
 within_step B k more c d n x y z e sum room hx hy step =
     subst (λ t. IsSizeWithin (2 ^ B) t (rounded_spread k more z)) sum
-    (size_step_of (2 ^ B) k more c d x y z (pow_pos B) (omega (arith, sum, far_below B n e room)) hx hy step)
+    (size_step_of (2 ^ B) k more c d x y z (pow_pos B) (omega (arith, sum, below B n e room)) hx hy step)
 
 -- the spread of a unit
 pub unit_small : (B k more c x : ℕ) → IsPlanScale B → c ≤ most_operands
     → IsSizeWithin (2 ^ B) c (rounded_spread k more x) → x ≤ most_claims_budget
 unit_small B k more c x e room size = omega (
   arith,
-  spread_near (2 ^ B) k more c x (pow_pos B)
+  spread_near 63 (2 ^ B) k more c x (pow_pos B)
       (far_below B c e (omega arith)) size,
 )
 
@@ -101,8 +115,8 @@ odd_size B k b m n x y z e sum room half square step =
     let even = square_size B k b m (m + m) x y e refl less half square in
     (unit_small B k 0 _ y e less even, next_size B k b (m + m) n y z e sum room even step)
 
--- the product of two spreads of at most 2^40, over the scale
-pub joined_small : (B x y : ℕ) → IsPlanScale B → x ≤ 2 ^ 40 → y ≤ 2 ^ 40 → div_ceil (x * y) (2 ^ B) ≤ 2 ^ 32
+-- the product of two spreads of at most 2^44, over the scale
+pub joined_small : (B x y : ℕ) → IsPlanScale B → x ≤ 2 ^ 44 → y ≤ 2 ^ 44 → div_ceil (x * y) (2 ^ B) ≤ 2 ^ 40
 joined_small B x y scale left right =
-    div_ceil_least (x * y) (2 ^ B) (2 ^ 32) (pow_pos B)
+    div_ceil_least (x * y) (2 ^ B) (2 ^ 40) (pow_pos B)
     (omega (arith, mul-le-mul left right, scale_least B scale))

@@ -6,7 +6,7 @@ use Rattle.std.proofs.lemmas.List.Sums.{fold_more, fold-append}
 use Rattle.dl_limits.specs.Limits.{most_unit_budget}
 use Rattle.dl_plan.specs.declared.plan.Unit.{Unit as UnitOfPlan}
 use Rattle.dl_budget.specs.Units.{unit_budget}
-use Rattle.dl_budget.proofs.SizeLaws.{size_least, within_step, spread_near, far_below}
+use Rattle.dl_budget.proofs.SizeLaws.{size_least, within_step, spread_near, below}
 
 pub budgets_length : (S cells : ℕ) (us : List UnitOfPlan) → length (unit_budgets S cells us) ≡ length us
 budgets_length S cells us = length-map us (unit_budget S cells)
@@ -35,11 +35,11 @@ budget_all S cells us i sum t past e =
 
 -- ---- sizes
 
--- the budgets of n units, n at most 16, add up to less than 3/4 of 2^40
-units_small : (cells n : ℕ) → cells ≤ 65536 → n ≤ 16 → n * rounded_spread cells 0 most_unit_budget ≤ 755916341264
+-- the budgets of n units, n at most 16, add up to less than 15/16 of 2^44
+units_small : (cells n : ℕ) → cells ≤ 65536 → n ≤ 16 → n * rounded_spread cells 0 most_unit_budget ≤ 12689 * 2 ^ 30
 unfolding rounded_spread
 units_small cells n few most =
-    let one : most_unit_budget + 2 * cells + 1 + 0 ≤ 47244771329 = omega arith in
+    let one : most_unit_budget + 2 * cells + 1 + 0 ≤ 793 * 2 ^ 30 + 131073 = omega arith in
     omega (arith, mul-le-mul most one)
 
 pub unit_size : (B cells x : ℕ) → x ≤ most_unit_budget → IsOfUnits (2 ^ B) cells 1 x
@@ -60,14 +60,14 @@ sum_size_next B cells n sum b x e few most before small step =
     within_step B cells 0 _ _ _ sum b x e (omega arith) (omega (arith, units_small cells (n + 1) few most)) before
     (one_unit B cells b small) (step ∙ omega arith)
 
-pub sum_small : (B cells n x : ℕ) → IsPlanScale B → cells ≤ 65536 → n ≤ 16 → IsOfUnits (2 ^ B) cells n x → x < 2 ^ 40
+pub sum_small : (B cells n x : ℕ) → IsPlanScale B → cells ≤ 65536 → n ≤ 16 → IsOfUnits (2 ^ B) cells n x → x < 2 ^ 44
 sum_small B cells n x e few most size =
     let units = units_small cells n few most in
     omega (
       arith,
       units,
-      spread_near (2 ^ B) cells 0 _ x (pow_pos B)
-          (far_below B (n * rounded_spread cells 0 most_unit_budget) e (omega (arith, units))) size,
+      spread_near 15 (2 ^ B) cells 0 _ x (pow_pos B)
+          (below B (n * rounded_spread cells 0 most_unit_budget) e (omega (arith, units))) size,
     )
 
 pub size_at : (B cells m n x : ℕ) → m ≡ n → IsOfUnits (2 ^ B) cells m x → IsOfUnits (2 ^ B) cells n x

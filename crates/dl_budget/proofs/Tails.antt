@@ -3,16 +3,16 @@ use Rattle.dl_budget.proofs.Common.{ℕ, ◌≡◌, ◌+◌, ◌-◌, ◌*◌, �
 use Rattle.dl_exact.proofs.BelowOne.{num_below}
 use Rattle.dl_exact.specs.Fraction.{◌<ℚ◌}
 
-pub tail_small : (both b rest : ℕ) → 0 < rest → b ≤ 10 ^ 9 → both ≤ 2 ^ 65 + 2 ^ 58
-    → div_ceil (both * b) rest + 4 ≤ 2 ^ 96
+pub tail_small : (both b rest : ℕ) → 0 < rest → b ≤ 10 ^ 9 → both ≤ 2 ^ 68 + 2 ^ 62
+    → div_ceil (both * b) rest + 4 ≤ 2 ^ 98
 tail_small both b rest some few small =
     let more : both * b * 1 ≤ both * b * rest = mul-le-mul_left (both * b) some in
     omega (arith, div_ceil_least (both * b) rest (both * b) some (omega (arith, more)), mul-le-mul small few)
 
-pub tail_sums : (mean cells total : ℕ) → mean ≤ 2 ^ 64 → cells ≤ 65536 → total < 2 ^ 40
-    → 2 * mean + 3 * cells * total ≤ 2 ^ 65 + 2 ^ 58
+pub tail_sums : (mean cells total : ℕ) → mean ≤ 2 ^ 67 → cells ≤ 65536 → total < 2 ^ 44
+    → 2 * mean + 3 * cells * total ≤ 2 ^ 68 + 2 ^ 62
 tail_sums mean cells total of_mean few small =
-    let below : total ≤ 2 ^ 40 = omega (arith, small) in
+    let below : total ≤ 2 ^ 44 = omega (arith, small) in
     omega (arith, of_mean, mul-le-mul few below)
 
 -- from the mean and the total's budget, and the parts of p

@@ -6,6 +6,7 @@ use Rattle.dl_grid.specs.Width.{up, pw, mixed_spread}
 use Rattle.dl_plan.specs.declared.plan.Freq.{Freq}
 use Rattle.dl_plan.specs.declared.plan.Freq.TheVariants.{Fixed, Table, Bernoulli, Binomial, Poisson, Gamma}
 use Rattle.dl_plan.specs.declared.plan.Unit.{Unit as UnitOfPlan}
+use Rattle.dl_plan.specs.Count.{expected_count}
 use Rattle.dl_plan.specs.Valid.{thinned_mean}
 use Rattle.dl_budget.specs.Halvings.{halvings}
 use Rattle.dl_plan.specs.Weighted.{greatest}
@@ -30,6 +31,10 @@ count_budget S cells items thinned (Poisson mean) =
     if thinned.num == 0 then 0 else poisson_budget S cells thinned
 count_budget S cells items thinned (Gamma shape mean) =
     if thinned.num == 0 then 0 else gamma_budget S cells shape thinned
+
+-- that of the probability of no claim: of cell 0 of claims of amount 1 alone, on one cell
+abbrev pub none_budget : (S : ℕ) → Freq → ℕ
+none_budget S freq = count_budget S 1 1 (expected_count freq) freq
 
 -- that of a unit
 abbrev pub claims_budget : (S cells : ℕ) → UnitOfPlan → ℕ

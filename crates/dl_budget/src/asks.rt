@@ -95,7 +95,7 @@ fn joint_budget<const B: u32>(plan: &Plan, i: u32) -> u128
     requires valid { IsValid plan.now }
     requires unit { i < length plan.now.units }
     ensures value { result ≡ joint_budget (2 ^ B) plan.now i }
-    ensures small { result ≤ 2 ^ 58 }
+    ensures small { result ≤ 2 ^ 62 }
 {
     let unit = unit_budget::<B>(&plan.units.as_slice()[i as usize], plan.cells);
     plan.cells as u128 * joined::<B>(plan.cells, unit, others_budget::<B>(plan, i))

@@ -1,32 +1,54 @@
-//! The budget of a unit before its aggregate clause, by the kind of its count.
+//! The budget of the sum of a unit's claims, by the kind of its count.
 
 ghost use Rattle.std.specs.Prelude.{ℕ, ◌≡◌, ◌+◌, ◌*◌, ◌^◌, ◌≤◌, ◌<◌, All};
-ghost use Rattle.dl_limits.specs.Limits.{IsPlanScale, most_cells, most_claims_budget, most_expected, most_shape};
-ghost use Rattle.dl_exact.specs.Fraction.{whole, ◌<ℚ◌, ◌≤ℚ◌};
+ghost use Rattle.dl_limits.specs.Limits.{IsPlanScale, most_cells, most_claims_budget, most_expected, most_none_budget, most_shape};
+ghost use Rattle.dl_exact.specs.Fraction.{Fraction, whole, ◌<ℚ◌, ◌≤ℚ◌};
 ghost use Rattle.dl_plan.specs.Fine.{HasPartsOf48Bits};
-ghost use Rattle.dl_plan.specs.Valid.{IsValidUnit};
-ghost use Rattle.dl_budget.specs.Claims.{poisson_budget, gamma_budget, claims_budget};
+ghost use Rattle.dl_plan.specs.Count.{expected_count, IsClaimCount};
+ghost use Rattle.dl_plan.specs.Valid.{claims_alone, IsNewZero, IsValidUnit};
+ghost use Rattle.dl_budget.specs.Claims.{poisson_budget, gamma_budget, claims_budget, none_budget};
 
 use crate::steps::{doubled, halvings, listed, power};
 use dl_frac::Frac;
-use dl_plan::{Freq, Unit, greatest_amount};
+use dl_plan::{Freq, Sev, greatest_amount};
 
-/// The budget of a unit of a valid plan before its aggregate clause, on `cells` cells.
-pub fn claims_budget<const B: u32>(unit: &Unit, cells: u32) -> u128
+/// The budget of a count and a severity of a valid plan: of the sum of their claims, on `cells`
+/// cells.
+pub fn claims_budget<const B: u32>(freq: &Freq, sev: &Sev, cells: u32) -> u128
     requires scale { IsPlanScale B }
-    requires valid { (h : ℕ) × IsValidUnit h unit.now }
+    requires valid { (h : ℕ) × IsValidUnit h (claims_alone freq.now sev.now) }
     requires few { cells ≤ most_cells }
-    ensures value { result ≡ claims_budget (2 ^ B) cells unit.now }
+    ensures value { result ≡ claims_budget (2 ^ B) cells (claims_alone freq.now sev.now) }
     ensures small { result ≤ most_claims_budget }
 {
-    let items = unit.sev.items.as_slice().len() as u128;
-    match &unit.freq {
+    let items = sev.items.as_slice().len() as u128;
+    match freq {
         Freq::Fixed(claims) => power::<B>(cells, items, *claims),
         Freq::Table { counts, .. } => listed::<B>(cells, items, greatest_amount(counts.as_slice())),
         Freq::Bernoulli(_) => 3 * (items + 1),
         Freq::Binomial { trials, .. } => power::<B>(cells, 3 * (items + 1), *trials),
-        Freq::Poisson(_) => poisson_budget::<B>(unit.thinned(), cells),
-        Freq::Gamma { shape, .. } => gamma_budget::<B>(unit.thinned(), *shape, cells),
+        Freq::Poisson(_) => poisson_budget::<B>(freq.thinned(sev), cells),
+        Freq::Gamma { shape, .. } => gamma_budget::<B>(freq.thinned(sev), *shape, cells),
+    }
+}
+
+/// The budget of the probability of no claim of a count in which it can be changed: of cell 0 of
+/// claims of amount 1 alone, on one cell.
+pub fn none_budget<const B: u32>(freq: &Freq) -> u128
+    requires scale { IsPlanScale B }
+    requires count { IsClaimCount freq.now }
+    requires expected { HasPartsOf48Bits (expected_count freq.now) }
+    requires changed { (p : Fraction) × IsNewZero freq.now p }
+    ensures value { result ≡ none_budget (2 ^ B) freq.now }
+    ensures small { result ≤ most_none_budget }
+{
+    match freq {
+        Freq::Fixed(claims) => power::<B>(1, 1, *claims),
+        Freq::Table { .. } => 0,
+        Freq::Bernoulli(_) => 6,
+        Freq::Binomial { trials, .. } => power::<B>(1, 6, *trials),
+        Freq::Poisson(mean) => poisson_budget::<B>(*mean, 1),
+        Freq::Gamma { shape, mean } => gamma_budget::<B>(*mean, *shape, 1),
     }
 }
 

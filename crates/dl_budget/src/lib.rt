@@ -11,7 +11,7 @@ mod steps;
 mod units;
 
 pub use asks::{ask_budget, needed, needed_with, passes, place};
-pub use claims::claims_budget;
+pub use claims::{claims_budget, none_budget};
 pub use laws::{law_halvings, law_horizons};
 pub use once::{Budgets, budgets_of};
 pub use steps::{doubled, halvings, joined, listed, power};

@@ -15,7 +15,7 @@ pub fn joined<const B: u32>(cells: u32, x: u128, y: u128) -> u128
     requires left { x ≤ budget_bound }
     requires right { y ≤ budget_bound }
     ensures value { result ≡ cv (2 ^ B) cells x y }
-    ensures small { result ≤ 2 ^ 42 }
+    ensures small { result ≤ 2 ^ 46 }
 {
     let product = (x * y).div_ceil(units_of_one(B));
     x + y + product + 2 * cells as u128

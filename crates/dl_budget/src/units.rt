@@ -1,15 +1,17 @@
 //! The budgets of units, of their sums and of their means.
 
 ghost use Rattle.std.specs.Prelude.{ℕ, ◌≡◌, ◌+◌, ◌*◌, ◌^◌, ◌<◌, ◌≤◌, List, All, length, sum_by, fold, remove};
-ghost use Rattle.dl_limits.specs.Limits.{IsPlanScale, budget_bound, most_cells, most_claims_budget, most_horizon, most_layers, most_plan_cells, most_units, most_unit_budget, most_mean_budget};
-ghost use Rattle.dl_grid.specs.Width.{cv, sum_spread};
-ghost use Rattle.dl_plan.specs.Horizon.{IsHorizonOf, edge};
-ghost use Rattle.dl_plan.specs.Valid.{IsValidUnit, IsValid};
+ghost use Rattle.dl_limits.specs.Limits.{IsPlanScale, budget_bound, most_cells, most_claims_budget, most_clause_budget, most_horizon, most_layers, most_plan_cells, most_units, most_unit_budget, most_mean_budget};
+ghost use Rattle.dl_exact.specs.Fraction.{Fraction};
+ghost use Rattle.dl_grid.specs.Width.{cv, sum_spread, up};
+ghost use Rattle.dl_plan.specs.Horizon.{IsHorizonOf, edge, horizon};
+ghost use Rattle.dl_plan.specs.Valid.{declared_mean, IsNewZero, IsValidUnit, IsValid};
+ghost use Rattle.dl_budget.specs.Claims.{claims_budget};
 ghost use Rattle.dl_budget.specs.Sizes.{IsOfUnits};
-ghost use Rattle.dl_plan.specs.MeanWidth.{part_width};
-ghost use Rattle.dl_budget.specs.Units.{unit_budget, unit_budgets, unit_mean_budget, total_budget, others_budget, mean_budget};
+ghost use Rattle.dl_plan.specs.MeanWidth.{mean_width, part_width};
+ghost use Rattle.dl_budget.specs.Units.{after_clause, unit_budget, unit_budgets, unit_mean_budget, total_budget, others_budget, mean_budget};
 
-use crate::claims::claims_budget;
+use crate::claims::{claims_budget, none_budget};
 use crate::steps::joined;
 use dl_plan::{CedeLayer, Plan, Unit};
 
@@ -24,19 +26,37 @@ fn horizon(unit: &Unit, cells: u32) -> u32
     unit.horizon(cells).unwrap()
 }
 
+/// The budget of a unit of a valid plan after its aggregate clause, on a grid of `cells` cells,
+/// before its probability of no claim is changed.
+fn clause_budget<const B: u32>(unit: &Unit, cells: u32) -> u128
+    requires scale { IsPlanScale B }
+    requires valid { (h : ℕ) × IsValidUnit h unit.now }
+    requires horizon { (k : ℕ) × IsHorizonOf unit.now.cede cells k × (k ≤ most_horizon cells) }
+    ensures value { result ≡ after_clause unit.now.cede
+        (claims_budget (2 ^ B) (horizon unit.now.cede cells) unit.now) }
+    ensures small { result ≤ most_clause_budget }
+{
+    let before = claims_budget::<B>(&unit.freq, &unit.sev, horizon(unit, cells));
+    match unit.cede {
+        Some(_) => 2 * before,
+        None => before,
+    }
+}
+
 /// The budget of a unit of a valid plan, on a grid of `cells` cells: how far apart the ends of its
 /// grid's cells may lie in all.
 pub fn unit_budget<const B: u32>(unit: &Unit, cells: u32) -> u128
     requires scale { IsPlanScale B }
     requires valid { (h : ℕ) × IsValidUnit h unit.now }
     requires some { 1 ≤ cells }
+    requires few { cells ≤ most_plan_cells }
     requires horizon { (k : ℕ) × IsHorizonOf unit.now.cede cells k × (k ≤ most_horizon cells) }
     ensures value { result ≡ unit_budget (2 ^ B) cells unit.now }
     ensures small { result ≤ most_unit_budget }
 {
-    let before = claims_budget::<B>(unit, horizon(unit, cells));
-    match unit.cede {
-        Some(_) => 2 * before,
+    let before = clause_budget::<B>(unit, cells);
+    match unit.zero {
+        Some(_) => 18 * (before + 2 * none_budget::<B>(&unit.freq)) + 4 * cells as u128 + 2,
         None => before,
     }
 }
@@ -129,7 +149,7 @@ fn part_width(layer: &CedeLayer, before: u128) -> u128
     requires inside { edge layer.now ≤ most_cells }
     requires small { before ≤ most_claims_budget }
     ensures value { result ≡ part_width before layer.now.limit layer.now.attach }
-    ensures small { result ≤ 2 ^ 55 }
+    ensures small { result ≤ 2 ^ 51 }
 {
     match layer.limit {
         Some(limit) => limit as u128 * before + 3,
@@ -143,7 +163,7 @@ fn layers_budget(layers: &[CedeLayer], before: u128) -> u128
     requires inside { All (λ l. edge l ≤ most_cells) layers.now }
     requires small { before ≤ most_claims_budget }
     ensures value { result ≡ sum_by (λ l. part_width before l.limit l.attach) layers.now }
-    ensures small { result ≤ 2 ^ 59 }
+    ensures small { result ≤ 2 ^ 55 }
 {
     let mut sum = 0;
     for layer in layers {
@@ -152,20 +172,49 @@ fn layers_budget(layers: &[CedeLayer], before: u128) -> u128
     sum
 }
 
+/// The budget of the mean of a unit of a valid plan after its aggregate clause, on a grid of `cells`
+/// cells, before its probability of no claim is changed.
+fn clause_mean_budget<const B: u32>(unit: &Unit, cells: u32) -> u128
+    requires scale { IsPlanScale B }
+    requires valid { IsValidUnit cells unit.now }
+    requires few { cells ≤ most_plan_cells }
+    ensures value { result ≡ mean_width unit.now.cede
+        (claims_budget (2 ^ B) (horizon unit.now.cede cells) unit.now) }
+    ensures small { result ≤ 2 ^ 56 }
+{
+    match &unit.cede {
+        Some(clause) => {
+            let before = claims_budget::<B>(&unit.freq, &unit.sev, horizon(unit, cells));
+            1 + layers_budget(clause.layers(), before)
+        }
+        None => 1,
+    }
+}
+
+/// The least whole number of buckets that the mean of the claims of a unit of a valid plan does not
+/// pass, where its probability of no claim is changed.
+fn whole_mean(unit: &Unit) -> u128
+    requires valid { (h : ℕ) × IsValidUnit h unit.now }
+    requires changed { (p : Fraction) × IsNewZero unit.now.freq p }
+    ensures value { result ≡ up (declared_mean unit.now) }
+    ensures small { result ≤ 2 ^ 34 }
+{
+    let (num, den) = unit.mean_parts();
+    num.div_ceil(den)
+}
+
 /// The budget of the mean of a unit of a valid plan, on a grid of `cells` cells.
 fn unit_mean_budget<const B: u32>(unit: &Unit, cells: u32) -> u128
     requires scale { IsPlanScale B }
     requires valid { IsValidUnit cells unit.now }
     requires few { cells ≤ most_plan_cells }
     ensures value { result ≡ unit_mean_budget (2 ^ B) cells unit.now }
-    ensures small { result ≤ 2 ^ 60 }
+    ensures small { result ≤ 2 ^ 63 }
 {
-    match &unit.cede {
-        Some(clause) => {
-            let before = claims_budget::<B>(unit, horizon(unit, cells));
-            1 + layers_budget(clause.layers(), before)
-        }
-        None => 1,
+    let before = clause_mean_budget::<B>(unit, cells);
+    match unit.zero {
+        Some(_) => 18 * (before + 2) + 306 * whole_mean(unit) * none_budget::<B>(&unit.freq) + 2,
+        None => before,
     }
 }
 

@@ -3,6 +3,8 @@ use Rattle.dl_cede.proofs.Common.{ℕ, ◌≡◌, ◌+◌, ◌-◌, ◌*◌, ◌
 use Rattle.std.proofs.Common.{◌++◌, add-one}
 use Rattle.std.proofs.Math.Nat.{le_refl as le_refl_n}
 use Rattle.std.proofs.Math.Seq.{take-suc}
+use Rattle.dl_exact.specs.Fraction.{◌≤ℚ◌}
+use Rattle.dl_exact.proofs.Laws.{le_refl, times_le_both, whole_times}
 use Rattle.dl_exact.specs.Rounding.{IsFloor, IsCeiling}
 use Rattle.dl_exact.proofs.RoundingLaws.{floor_div, ceiling_div}
 use Rattle.dl_iv.specs.Enclosure.{LiesIn}
@@ -13,7 +15,7 @@ use Rattle.dl_plan.proofs.Horizons.{horizon_edges}
 use Rattle.dl_model.specs.Program.{Loss, One, Mean, Layer, partial_sums, total}
 use Rattle.dl_model.specs.Measures.{AreDeclared}
 use Rattle.dl_model.specs.Units.{loss}
-use Rattle.dl_model.specs.Plans.{claims_of, loss_of, mean_ceded}
+use Rattle.dl_model.specs.Plans.{aggregate_of, claims_of, mean_ceded}
 use Rattle.dl_model.proofs.Declared.{at_least_wider, at_most_wider}
 use Rattle.dl_model.proofs.ClauseMeans.{are_claims, claims_enclosed, claims_mean, none_ceded, alone_ceded, both_ceded, no_clause, ceded_mean, net_mean}
 use Rattle.dl_cede.specs.Means.{AreNearestEnds, HoldsMean}
@@ -38,6 +40,13 @@ nearest_ends {B} u mean num den pos value low high =
       ceiling = rw high (subst (λ x. IsCeiling x (div_ceil (2 ^ B * num) den)) units
           (ceiling_div (2 ^ B * num) den pos));
     }
+
+-- its high end is at most a whole number that the mean is at most
+pub ceiling_within : {B : ℕ} (u : UnitOfPlan) (mean : Iv B) (n : ℕ) → AreNearestEnds u mean
+    → declared_mean u ≤ℚ whole n → mean.hi ≤ n * 2 ^ B
+ceiling_within {B} u mean n ends within =
+    ends.ceiling.least (n * 2 ^ B) (subst (λ t. whole (2 ^ B) *ℚ declared_mean u ≤ℚ t)
+    (times_comm _ _ ∙ sym (whole_times n (2 ^ B))) (times_le_both _ _ _ _ (le_refl (whole (2 ^ B))) within))
 
 -- ---- one layer
 
@@ -129,7 +138,7 @@ module _ {B : ℕ} (grid : List (Iv B)) (clause : Clause) (claims ceded : Iv B)
   pub net_holds : (mean : Iv B) → clause.0 ≡ true → mean.lo ≡ claims.lo - ceded.hi → mean.hi ≡ claims.hi - ceded.lo
       → OnEachUnit grid clause claims (λ u. HoldsMean u mean)
   net_holds mean side low high cells u valid is encloses full =
-      subst₂ (λ a b. Holds (partial_sums (loss_of u ∷ []) Mean) (partial_sums (loss_of u ∷ []) One) a b)
+      subst₂ (λ a b. Holds (partial_sums (loss (aggregate_of u) ∷ []) Mean) (partial_sums (loss (aggregate_of u) ∷ []) One) a b)
       (sym (ap (λ n. n over 2 ^ B) low ∙ over_minus claims.lo ceded.hi (2 ^ B) (pow_pos B)))
       (sym (ap (λ n. n over 2 ^ B) high ∙ over_minus claims.hi ceded.lo (2 ^ B) (pow_pos B)))
       (net_mean cells u clause valid is _ _ _ _ side (taken cells u valid encloses full) full)

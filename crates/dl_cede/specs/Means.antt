@@ -11,7 +11,7 @@ use Rattle.dl_plan.specs.Valid.{declared_mean}
 use Rattle.dl_model.specs.Series.{Holds}
 use Rattle.dl_model.specs.Program.{One, Mean, partial_sums}
 use Rattle.dl_model.specs.Units.{loss}
-use Rattle.dl_model.specs.Plans.{loss_of, claims_of, mean_ceded}
+use Rattle.dl_model.specs.Plans.{aggregate_of, claims_of, mean_ceded}
 
 -- the interval holds the mean of the sum of the claims, before the clause
 abbrev pub HoldsClaims : {B : ℕ} → UnitOfPlan → Iv B → Type 0
@@ -31,10 +31,12 @@ HoldsCeded {B} u layers mean =
     Holds (mean_ceded u layers) (partial_sums (loss (claims_of u) ∷ []) One) (mean.lo over 2 ^ B)
     (mean.hi over 2 ^ B)
 
--- the interval holds the mean of the unit, after its clause
+-- the interval holds the mean of the unit after its clause, before its probability of no claim is
+-- changed
 abbrev pub HoldsMean : {B : ℕ} → UnitOfPlan → Iv B → Type 0
 HoldsMean {B} u mean =
-    Holds (partial_sums (loss_of u ∷ []) Mean) (partial_sums (loss_of u ∷ []) One)
+    Holds (partial_sums (loss (aggregate_of u) ∷ []) Mean)
+    (partial_sums (loss (aggregate_of u) ∷ []) One)
     (mean.lo over 2 ^ B) (mean.hi over 2 ^ B)
 
 -- ---- how large they can be, where `one` units make a bucket

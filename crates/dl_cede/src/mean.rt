@@ -1,13 +1,13 @@
 //! The mean of what a clause keeps.
 
-ghost use Rattle.std.specs.Prelude.{ℕ, ◌≡◌, ◌+◌, ◌-◌, ◌^◌, ◌≤◌, None, Some, [], ◌∷◌, length, All, sum_by};
+ghost use Rattle.std.specs.Prelude.{ℕ, ◌≡◌, ◌+◌, ◌-◌, ◌*◌, ◌^◌, ◌≤◌, None, Some, [], ◌∷◌, length, All, sum_by};
 ghost use Rattle.dl_limits.specs.Limits.{most_parts};
 ghost use Rattle.dl_exact.specs.Fraction.{whole, ◌≤ℚ◌};
 ghost use Rattle.dl_grid.specs.Cells.{spread};
 ghost use Rattle.dl_plan.specs.declared.plan.Unit.{Unit as UnitOfPlan};
 ghost use Rattle.dl_plan.specs.Clause.{IsClause};
 ghost use Rattle.dl_plan.specs.Horizon.{edge, IsHorizonOf};
-ghost use Rattle.dl_plan.specs.Valid.{IsValidUnit};
+ghost use Rattle.dl_plan.specs.Valid.{declared_mean, IsValidUnit};
 ghost use Rattle.dl_model.specs.Family.{GridEncloses};
 ghost use Rattle.dl_model.specs.Plans.{compound_of};
 ghost use Rattle.dl_measures.specs.Layers.{layer_most};
@@ -29,6 +29,7 @@ pub fn claims_mean<const B: u32>(unit: &Unit) -> Iv<B>
     ensures holds { HoldsClaims unit.now result }
     ensures ends { AreNearestEnds unit.now result }
     ensures width { result.hi ≤ result.lo + 1 }
+    ensures few { (n : ℕ) → declared_mean unit.now ≤ℚ whole n → result.hi ≤ n * 2 ^ B }
     ensures small { (cells : ℕ) → IsValidUnit cells unit.now
         → result.hi ≤ most_claims_mean cells (2 ^ B) }
 {
@@ -101,7 +102,8 @@ pub fn kept_mean<const B: u32>(cede: &Cede, grid: &Grid<B>, claims: Iv<B>) -> Iv
     }
 }
 
-/// The mean of a unit of a valid plan after its aggregate clause, in buckets, from the grid of the
+/// The mean of a unit of a valid plan after its aggregate clause, before its probability of no claim
+/// is changed, in buckets, from the grid of the
 /// sum of its claims before the clause. The grid is as long as the clause's horizon for some number
 /// of cells, so that each layer begins on it, and ends on it where it has a limit. Without a clause
 /// the grid is not looked at. It takes no memory.
@@ -114,6 +116,8 @@ pub fn cede_mean<const B: u32>(unit: &Unit, grid: &Grid<B>) -> Iv<B>
     ensures holds { HoldsMean unit.now result }
     ensures plain { unit.now.cede ≡ None → AreNearestEnds unit.now result }
     ensures width { result.hi - result.lo ≤ mean_width unit.now.cede (spread grid.now) }
+    ensures few { (n : ℕ) → declared_mean unit.now ≤ℚ whole n
+        → result.hi ≤ n * 2 ^ B + most_limited (2 ^ B) }
     ensures small { (cells : ℕ) → IsValidUnit cells unit.now
         → result.hi ≤ most_claims_mean cells (2 ^ B) + most_limited (2 ^ B) }
 {

@@ -1,5 +1,5 @@
 -- The parts of a unit make it up, and those of a covered plan, each as often as the target says, its total.
-use Rattle.std.proofs.Common.{ℕ, zero, suc, ◌≡◌, ◌≢◌, ◌<◌, ◌^◌, ◌∙◌, inl, inr, refl, sym, ap, arith, List, [], ◌∷◌, map, get_or, None}
+use Rattle.std.proofs.Common.{ℕ, zero, suc, ◌≡◌, ◌≢◌, ◌<◌, ◌^◌, ◌∙◌, inl, inr, refl, sym, ap, subst, arith, List, [], ◌∷◌, map, get_or, None}
 use Rattle.std.proofs.lemmas.Bool.{cases_eq, eq-eqb, ne_eqb}
 use Rattle.std.proofs.lemmas.List.Elements.{All-head, All-tail, All-nil, All-cons}
 use Rattle.std.proofs.lemmas.Nat.{pow_pos}
@@ -23,10 +23,10 @@ use Rattle.dl_budget.specs.Halvings.{halvings}
 unfoldable use Rattle.dl_model.specs.Compound.{power}
 use Rattle.dl_model.specs.Severity.{IsWithinOne}
 use Rattle.dl_model.specs.Family.{Family, product, nothing, times_itself, SameCells}
-use Rattle.dl_model.specs.Plans.{compound_of, aggregate_of, loss_of, aggregates_of, outcome_after}
-use Rattle.dl_model.specs.Program.{total, One}
+use Rattle.dl_model.specs.Plans.{after_zero, compound_of, aggregate_of, loss_of, aggregates_of, outcome_after}
+use Rattle.dl_model.specs.Program.{Loss, total, One}
 unfoldable use Rattle.dl_model.specs.Program.{sum_over_outcomes}
-use Rattle.dl_model.specs.Units.{mapped}
+use Rattle.dl_model.specs.Units.{loss, mapped}
 use Rattle.dl_model.proofs.Beginnings.{fixed_claims, trials}
 use Rattle.dl_model.proofs.Bounded.{quantity_bounded, whole_positive, are_units}
 use Rattle.dl_model.proofs.CountBounds.{fixed_count, binomial_count, poisson_count, gamma_of_count}
@@ -172,8 +172,11 @@ units_make_up cells (u ∷ us) h covered =
     let here = All-head (IsValidUnit cells) u us h in
     let later = All-tail (IsValidUnit cells) u us h in
     let plain = All-head IsCoveredUnit u us covered in
-    let loss = unit_loss (aggregate_of u) (unit_declared cells u here).unit in
-    values_trans _ (product (mapped (aggregate_of u)) (total (map loss_of us))) _
+    let is = unit_loss (aggregate_of u) (unit_declared cells u here).unit in
+    let l = loss (aggregate_of u) in
+    let same : l ≡ loss_of u = ap (λ z. after_zero z (aggregate_of u)) (sym plain.zero) in
+    subst (λ (v : Loss). SameCells (labelled (map unit_part (u ∷ us)) (counts (u ∷ us))) (total (v ∷ map loss_of us))) same
+    (values_trans _ (product (mapped (aggregate_of u)) (total (map loss_of us))) _
     (same_products (times_itself (unit_part u) (unit_parts u)) (mapped (aggregate_of u))
     (labelled (map unit_part us) (counts us)) (total (map loss_of us))
     (itself_values (unit_part u) (part_values u.freq u.sev (thinned_mean u) here.count refl) (unit_parts u))
@@ -183,8 +186,8 @@ units_make_up cells (u ∷ us) h covered =
     (values_trans _ (compound_of u.freq u.sev) _
     (parts_make_up u.freq u.sev (thinned_mean u) here.count plain.count refl) (plain_unit cells u here plain.clause))
     (units_make_up cells us later (All-tail IsCoveredUnit u us covered)))
-    (values_same _ _ (λ y N. sym (total_more (loss_of u) (map loss_of us) loss y N))
-    (λ N. sym (total_more_all (loss_of u) (map loss_of us) loss N)))
+    (values_same _ _ (λ y N. sym (total_more l (map loss_of us) is y N))
+    (λ N. sym (total_more_all l (map loss_of us) is N))))
 
 pub plan_made_up : (plan : Plan) → IsValid plan → IsCovered plan
     → SameCells (labelled (parts_of_plan plan) (target plan)) (total (aggregates_of plan))

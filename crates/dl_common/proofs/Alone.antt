@@ -12,12 +12,12 @@ use Rattle.dl_exact.proofs.Denominators.{same_num}
 use Rattle.dl_exact.proofs.Over.{over_le}
 use Rattle.dl_plan.specs.Count.{IsClaimCount}
 use Rattle.dl_plan.specs.Common.{independent}
-use Rattle.dl_plan.specs.Valid.{IsAggregate}
+use Rattle.dl_plan.specs.Valid.{IsAggregate, IsNewZero}
 use Rattle.dl_plan.proofs.Means.{weight_at-le}
 use Rattle.dl_model.specs.Counts.{gamma_of}
 use Rattle.dl_model.specs.Program.{Quantity, partial_sums}
 use Rattle.dl_model.specs.Units.{loss, plain}
-use Rattle.dl_model.specs.Plans.{aggregate_of, count_weights, outcome_after, declared}
+use Rattle.dl_model.specs.Plans.{after_zero, aggregate_of, count_weights, outcome_after, declared}
 use Rattle.dl_model.specs.CommonFactor.{common_sums, pooled_unit, CountsTotal}
 use Rattle.dl_model.proofs.PooledLoss.{as_one_loss}
 use Rattle.dl_model.proofs.ItemWeights.{shares_severity}
@@ -181,7 +181,7 @@ module _ (plan : Plan) (shape : ℕ) (mean : Fraction) (made : UnitOfPlan) (unit
         × (expected_count f *ℚ (whole 1 -ℚ probability_of made.sev 0) ≤ℚ whole most_expected)) (sym is.count)
         (admitted, few);
     clause = subst (λ o. IfSome o (IsAggregate plan.cells made.sev)) (sym is.clause) tt;
-    zero = is.zero;
+    zero = subst (λ o. IfSome o (IsNewZero made.freq)) (sym is.zero) tt;
   }
 
   pub alone_valid : IsValid (independent plan) → IsValid (alone plan made)
@@ -242,7 +242,8 @@ module _ (plan : Plan) (q : ℕ) (shares : SharesFactor plan (suc q)) (made : Un
   pub declares_same : (quantity : Quantity) → CountsTotal quantity → (N : ℕ)
       → declared (alone plan made) quantity N ≡ common_sums (suc q) us quantity N
   declares_same quantity total N =
-      ap (λ a. partial_sums (loss a ∷ []) quantity N) aggregate_is
+      ap (λ o. partial_sums (after_zero o (aggregate_of made) ∷ []) quantity N) is.zero
+      ∙ ap (λ a. partial_sums (loss a ∷ []) quantity N) aggregate_is
       ∙ sym (as_one_loss q us (subst (λ t. whole 0 <ℚ t) (sym (expected_units plan.units)) shares.factor.some)
       (are_severities plan.units) (greatest made.sev.items)
       (λ a far. sym (is.severity a)

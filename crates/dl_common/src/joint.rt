@@ -54,7 +54,7 @@ pub fn common_joint<const B: u32>(unit: &Unit, grid: &Grid<B>, x: u32) -> Iv<B>
     ensures small { result.hi ≤ x * 2 ^ B }
 {
     prove!(x < grid.cells());
-    let mean = unit.thinned();
+    let mean = unit.freq.thinned(&unit.sev);
     if mean.num() == 0 {
         return Iv::point(0);
     }

@@ -6,6 +6,7 @@ pub mod Insides
 pub mod Printed
 pub mod Totals
 pub mod UnitLaws
+pub mod ZeroLaws
 pub mod AlikeLaws
 pub mod Means
 pub mod GoodRows

@@ -14,12 +14,13 @@ use Rattle.dl_model.proofs.PlanUnits.{units_declared}
 use Rattle.dl_model.proofs.PlanMeans.{MeanHolds, units_mean}
 use Rattle.dl_plan.specs.declared.plan.Unit.{Unit as UnitOfPlan}
 use Rattle.dl_plan.specs.MeanWidth.{part_width as layer_budget, mean_width as clause_mean, part_width}
-use Rattle.dl_cede.specs.Means.{HoldsClaims}
+use Rattle.dl_cede.specs.Means.{HoldsClaims, HoldsMean}
+use Rattle.dl_eval.specs.Totals.{IsClauseMean}
 
 -- ---- of a unit without a clause
 
 pub plain_mean : {B : ℕ} (cells : ℕ) (u : UnitOfPlan) (mean : Iv B) → u.cede ≡ None → HoldsClaims u mean
-    → mean.hi ≤ mean.lo + 1 → IsUnitMean cells u mean
+    → mean.hi ≤ mean.lo + 1 → IsClauseMean cells u mean
 plain_mean {B} cells u mean none holds narrow = record {
   holds = subst (λ a. Holds (partial_sums (loss a ∷ []) Mean) (partial_sums (loss a ∷ []) One) (mean.lo over 2 ^ B)
       (mean.hi over 2 ^ B)) (sym (no_clause u none)) holds;
@@ -50,10 +51,8 @@ clause_rises v w None h = omega arith
 clause_rises v w (Some clause) h = omega (arith, layers_rise v w clause.1 h)
 
 pub clause_unit_mean : {B : ℕ} (cells : ℕ) (u : UnitOfPlan) (g : List (Iv B)) (mean : Iv B) → IsValidUnit cells u
-    → Holds (partial_sums (loss_of u ∷ []) Mean) (partial_sums (loss_of u ∷ []) One) (mean.lo over 2 ^ B)
-    (mean.hi over 2 ^ B)
-    → mean.hi - mean.lo ≤ mean_width u.cede (spread g) → IsHorizonOf u.cede cells (length g)
-    → spread g ≤ claims_budget (2 ^ B) (length g) u → IsUnitMean cells u mean
+    → HoldsMean u mean → mean.hi - mean.lo ≤ mean_width u.cede (spread g) → IsHorizonOf u.cede cells (length g)
+    → spread g ≤ claims_budget (2 ^ B) (length g) u → IsClauseMean cells u mean
 clause_unit_mean {B} cells u g mean valid holds width there narrow = record {
   holds = holds;
   narrow =

@@ -4,7 +4,7 @@ use Rattle.std.proofs.Math.Nat.{mul-le-mul, pow-le-pow_right}
 use Rattle.std.proofs.Common.{inl, inr, refl, ◌⊎◌}
 use Rattle.std.proofs.Math.Nat.{le_trans}
 use Rattle.std.proofs.lemmas.Bool.Decides.{leb_tells}
-use Rattle.dl_limits.specs.Limits.{bits_of, most_amount_at, most_cells_at, most_horizon, most_plan_cells, most_short_cells, IsPlanScale}
+use Rattle.dl_limits.specs.Limits.{bits_of, most_amount_at, most_cells_at, most_expected, most_horizon, most_plan_cells, most_short_cells, IsPlanScale}
 use Rattle.dl_limits.proofs.Scales.{cells_fit, is_plan_scale}
 use Rattle.dl_grid.specs.Room.{IsGridSize}
 use Rattle.dl_cede.specs.Means.{most_claims_mean, most_limited}
@@ -60,6 +60,21 @@ mean_fits B cells hi same small = elim (leb_tells cells most_short_cells) [
     short_fits h = omega (arith, h)
 
     long_fits : hi ≤ 65536 * 2 ^ 22 * 2 ^ 48 + 16 * 2 ^ 22 * 2 ^ 48 → hi ≤ 2 ^ 93
+    long_fits h = omega (arith, h)
+
+-- the same where at most 4,096 claims are expected, and the mean may be changed
+pub changed_fits : (B cells hi : ℕ) → B ≡ bits_of cells
+    → hi ≤ most_expected * most_amount_at cells * 2 ^ B + most_limited (2 ^ B) → hi ≤ 2 ^ 88 + 2 ^ 82
+unfolding most_amount_at bits_of
+changed_fits B cells hi same small = elim (leb_tells cells most_short_cells) [
+  | inl short ↦ short_fits (rw (same, short.0) at small)
+  | inr long ↦ long_fits (rw (same, long.0) at small)
+]
+  where
+    short_fits : hi ≤ 4096 * 2 ^ 20 * 2 ^ 56 + 16 * 2 ^ 22 * 2 ^ 56 → hi ≤ 2 ^ 88 + 2 ^ 82
+    short_fits h = omega (arith, h)
+
+    long_fits : hi ≤ 4096 * 2 ^ 22 * 2 ^ 48 + 16 * 2 ^ 22 * 2 ^ 48 → hi ≤ 2 ^ 88 + 2 ^ 82
     long_fits h = omega (arith, h)
 
 -- four times a total of the grid, in units of 1 / 2^(2B), has room

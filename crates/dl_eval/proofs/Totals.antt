@@ -21,7 +21,7 @@ use Rattle.dl_eval.specs.Totals.{AreGridsOf}
 -- ---- what the grids enclose
 
 unit_there : (us : List UnitOfPlan) (i : ℕ) (u : UnitOfPlan) → i < length us
-    → unit_of (map loss_of us) i ≡ mapped (aggregate_of (get_or us i u))
+    → unit_of (map loss_of us) i ≡ (loss_of (get_or us i u)).family
 unit_there [] i u inside = absurd (omega (arith, inside))
 unit_there (v ∷ us) zero u inside = refl
 unit_there (v ∷ us) (suc i) u inside = unit_there us i u (omega (arith, inside))

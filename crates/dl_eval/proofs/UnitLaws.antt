@@ -1,7 +1,8 @@
 -- What is made of one unit.
-use Rattle.dl_eval.proofs.Common.{ℕ, ◌≡◌, ◌*◌, ◌^◌, ◌≤◌, List, length, arith, ap, subst, Option, None, Some, Iv, spread, mapped, GridEncloses, aggregate_of, compound_of, Clause, IsHorizonOf, horizon, IsValidUnit, claims_budget, after_clause, one_horizon, IsUnitGrid}
+use Rattle.dl_eval.proofs.Common.{ℕ, ◌≡◌, ◌*◌, ◌^◌, ◌≤◌, List, length, arith, ap, subst, Option, None, Some, Iv, spread, mapped, GridEncloses, aggregate_of, compound_of, Clause, IsHorizonOf, horizon, IsValidUnit, claims_budget, after_clause, one_horizon}
 use Rattle.dl_plan.specs.declared.plan.Unit.{Unit as UnitOfPlan}
 use Rattle.dl_plan.proofs.Horizons.{horizon_one}
+use Rattle.dl_eval.specs.Totals.{IsClauseGrid}
 use Rattle.dl_eval.proofs.Totals.{plain_encloses}
 
 pub horizon_some : (cede : Option Clause) (h k : ℕ) → 1 ≤ h → IsHorizonOf cede h k → 1 ≤ k
@@ -17,7 +18,7 @@ budget_at {B} cells u g valid there narrow = subst (λ n. spread g ≤ claims_bu
 -- without a clause the outcomes are the sums of claims
 pub plain_grid : {B : ℕ} (cells : ℕ) (u : UnitOfPlan) (g : List (Iv B)) → IsValidUnit cells u → u.cede ≡ None
     → IsHorizonOf u.cede cells (length g)
-    → GridEncloses g (compound_of u.freq u.sev) → spread g ≤ claims_budget (2 ^ B) (length g) u → IsUnitGrid cells u g
+    → GridEncloses g (compound_of u.freq u.sev) → spread g ≤ claims_budget (2 ^ B) (length g) u → IsClauseGrid cells u g
 plain_grid {B} cells u g valid none there encloses narrow = record {
   cells = subst (λ c. IsHorizonOf c cells (length g)) none there;
   encloses = plain_encloses g cells u valid none encloses;
@@ -33,7 +34,7 @@ pub ceded_grid : {B : ℕ} (cells : ℕ) (u : UnitOfPlan) (clause : Clause) (cla
     → u.cede ≡ Some clause → IsHorizonOf u.cede cells (length claims)
     → spread claims ≤ claims_budget (2 ^ B) (length claims) u → length g ≡ cells
     → GridEncloses g (mapped (aggregate_of u)) → spread g ≤ 2 * spread claims
-    → IsUnitGrid cells u g
+    → IsClauseGrid cells u g
 ceded_grid {B} cells u clause claims g valid some there narrow same encloses twice = record {
   cells = same;
   encloses = encloses;

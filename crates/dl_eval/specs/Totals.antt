@@ -2,7 +2,7 @@
 -- one.
 use Rattle.std.specs.Prelude.{ℕ, ◌≡◌, ◌+◌, ◌*◌, ◌/◌, ◌<◌, ◌≤◌, ◌^◌, ◌↔◌, Bool, false, IsTrue, Option, None, Some, IsSome, IfSome, option_map, Any, List, [], ◌∷◌, length, get_or}
 use Rattle.std.specs.Int.{div_ceil}
-use Rattle.dl_exact.specs.Fraction.{◌over◌}
+use Rattle.dl_exact.specs.Fraction.{Fraction, ◌over◌}
 use Rattle.dl_iv.specs.declared.interval.Iv.{Iv}
 use Rattle.dl_grid.specs.Cells.{spread}
 use Rattle.dl_model.specs.Series.{Holds}
@@ -16,7 +16,11 @@ use Rattle.dl_plan.specs.declared.plan.Plan.{Plan}
 use Rattle.dl_plan.specs.declared.settings.Ask.{Ask}
 use Rattle.dl_plan.specs.declared.settings.Asked.{Asked}
 use Rattle.dl_plan.specs.Facts.{facts_of}
-use Rattle.dl_budget.specs.Units.{unit_budget, unit_mean_budget, total_budget, others_budget, mean_budget}
+use Rattle.dl_plan.specs.Horizon.{horizon}
+use Rattle.dl_plan.specs.MeanWidth.{mean_width}
+use Rattle.dl_cede.specs.Means.{HoldsMean}
+use Rattle.dl_budget.specs.Claims.{claims_budget}
+use Rattle.dl_budget.specs.Units.{after_clause, unit_budget, unit_mean_budget, total_budget, others_budget, mean_budget}
 use Rattle.dl_report.specs.declared.report.End.TheVariants.{Number}
 use Rattle.dl_report.specs.declared.report.Row.{Row}
 use Rattle.dl_budget.specs.Asks.{place_of, joint_budget}
@@ -32,12 +36,32 @@ most_unit_mean = 2 ^ 93
 abbrev pub most_mean : ℕ
 most_mean = 2 ^ 97
 
+-- the high end of the mean of a unit before its probability of no claim is changed, where it is:
+-- at most 4,096 claims are expected then
+abbrev pub most_clause_mean : Option Fraction → ℕ
+most_clause_mean None = most_unit_mean
+most_clause_mean (Some p) = 2 ^ 88 + 2 ^ 82
+
 -- ---- units
 
--- a grid of H cells of a unit's outcomes, after its aggregate clause, within its budget
-pub record IsUnitGrid {B : ℕ} (H : ℕ) (u : UnitOfPlan) (g : List (Iv B)) : Type 0 where
+-- a grid of H cells of a unit's outcomes after its aggregate clause, before its probability of no
+-- claim is changed, within its budget
+pub record IsClauseGrid {B : ℕ} (H : ℕ) (u : UnitOfPlan) (g : List (Iv B)) : Type 0 where
   pub cells : length g ≡ H
   pub encloses : GridEncloses g (mapped (aggregate_of u))
+  pub narrow : spread g ≤ after_clause u.cede (claims_budget (2 ^ B) (horizon u.cede H) u)
+
+-- the mean of these, within its budget
+pub record IsClauseMean {B : ℕ} (H : ℕ) (u : UnitOfPlan) (mean : Iv B) : Type 0 where
+  pub holds : HoldsMean u mean
+  pub narrow : mean.hi
+      ≤ mean.lo + mean_width u.cede (claims_budget (2 ^ B) (horizon u.cede H) u)
+
+-- a grid of H cells of a unit's outcomes, after its aggregate clause and with its changed
+-- probability of no claim, within its budget
+pub record IsUnitGrid {B : ℕ} (H : ℕ) (u : UnitOfPlan) (g : List (Iv B)) : Type 0 where
+  pub cells : length g ≡ H
+  pub encloses : GridEncloses g (loss_of u).family
   pub narrow : spread g ≤ unit_budget (2 ^ B) H u
 
 -- the mean of a unit's outcomes, within its budget

@@ -86,11 +86,26 @@ fn same_severity(a: &Sev, b: &Sev) -> bool
     a.total == b.total && same_items(a.items.as_slice(), b.items.as_slice())
 }
 
-/// Whether two units have the same severity, claim count and aggregate clause.
+/// Whether two probabilities of no claim are changed to the same, or both are not.
+fn same_zero(a: &Option<Frac>, b: &Option<Frac>) -> bool
+    ensures { IsTrue result ↔ (a.now ≡ b.now) }
+{
+    match (a, b) {
+        (Some(a), Some(b)) => same_fraction(*a, *b),
+        (None, None) => true,
+        _ => false,
+    }
+}
+
+/// Whether two units have the same severity, claim count, aggregate clause and changed probability
+/// of no claim.
 pub(crate) fn are_alike(a: &Unit, b: &Unit) -> bool
     ensures { IsTrue result ↔ AreAlike a.now b.now }
 {
-    same_severity(&a.sev, &b.sev) && same_count(&a.freq, &b.freq) && same_clause(&a.cede, &b.cede)
+    same_severity(&a.sev, &b.sev)
+        && same_count(&a.freq, &b.freq)
+        && same_clause(&a.cede, &b.cede)
+        && same_zero(&a.zero, &b.zero)
 }
 
 /// The first of the first `many` units that is like this one, where there is one.

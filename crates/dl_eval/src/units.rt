@@ -10,7 +10,7 @@ ghost use Rattle.dl_plan.specs.declared.plan.Unit.{Unit as UnitOfPlan};
 ghost use Rattle.dl_plan.specs.Horizon.{IsHorizonOf};
 ghost use Rattle.dl_plan.specs.Valid.{IsValidUnit, IsValid};
 ghost use Rattle.dl_budget.specs.Claims.{claims_budget};
-ghost use Rattle.dl_eval.specs.Totals.{most_unit_mean, IsUnitGrid, IsUnitMean, AreUnitGrids, AreUnitMeans};
+ghost use Rattle.dl_eval.specs.Totals.{most_clause_mean, most_unit_mean, IsClauseGrid, IsClauseMean, IsUnitGrid, IsUnitMean, AreUnitGrids, AreUnitMeans};
 
 use crate::same::first_alike;
 use dl_cede::{cede_grid, cede_mean, claims_mean};
@@ -18,7 +18,8 @@ use dl_grid::Grid;
 use dl_iv::Iv;
 use dl_plan::{Plan, Unit};
 use dl_product::Workspace;
-use dl_unit::unit_grid_with;
+use dl_unit::{none_of, unit_grid_with};
+use dl_zero::{zero_grid, zero_mean};
 use std::alloc::{AllocError, Global};
 
 /// What is made of the units of a plan, one for each unit, in order.
@@ -77,7 +78,7 @@ fn after_clause<const B: u32>(
     requires horizon { IsHorizonOf unit.now.cede cells (length claims) }
     requires encloses { GridEncloses claims (compound_of unit.now.freq unit.now.sev) }
     requires spread { spread claims ≤ claims_budget (2 ^ B) (length claims) unit.now }
-    ensures { IfOk result (λ g. IsUnitGrid cells unit.now g) }
+    ensures { IfOk result (λ g. IsClauseGrid cells unit.now g) }
 {
     match unit.cede {
         Some(_) => cede_grid(alloc, unit, &claims, cells),
@@ -85,8 +86,38 @@ fn after_clause<const B: u32>(
     }
 }
 
+/// The grid of a unit's outcomes, and their mean, from those before its probability of no claim is
+/// changed.
+fn after_zero<const B: u32>(
+    alloc: Global,
+    work: &mut Workspace,
+    unit: &Unit,
+    grid: Grid<B>,
+    mean: Iv<B>,
+    cells: u32,
+) -> Result<(Grid<B>, Iv<B>), AllocError>
+    requires scale { B ≡ bits_of cells }
+    requires valid { IsValidUnit cells unit.now }
+    requires some { 1 ≤ cells }
+    requires few { cells ≤ most_plan_cells }
+    requires grid { IsClauseGrid cells unit.now grid }
+    requires mean { IsClauseMean cells unit.now mean }
+    requires small { mean.hi ≤ most_clause_mean unit.now.zero }
+    ensures grid { IfOk result (λ made. IsUnitGrid cells unit.now made.0) }
+    ensures mean { IfOk result (λ made. IsUnitMean cells unit.now made.1) }
+    ensures small { IfOk result (λ made. made.1.hi ≤ most_unit_mean) }
+{
+    match unit.zero {
+        Some(p) => {
+            let none = none_of(alloc, work, &unit.freq)?;
+            let changed = zero_grid(alloc, &grid, none, p)?;
+            Ok((changed, zero_mean(mean, none, p)))
+        }
+        None => Ok((grid, mean)),
+    }
+}
+
 /// The grid of a unit's outcomes, and their mean.
-#[tactic(auto, using(crate::proofs::Scales::mean_fits))]
 fn outcomes_of<const B: u32>(
     alloc: Global,
     work: &mut Workspace,
@@ -104,7 +135,7 @@ fn outcomes_of<const B: u32>(
     let claims = claims_grid(alloc, work, unit, cells)?;
     let mean = cede_mean(unit, &claims);
     let grid = after_clause(alloc, unit, claims, cells)?;
-    Ok((grid, mean))
+    after_zero(alloc, work, unit, grid, mean, cells)
 }
 
 /// The grid of a unit's outcomes, and their mean, where those of the first units are there: those
@@ -174,8 +205,32 @@ pub(crate) fn unit_outcomes<const B: u32>(
     Ok(Outcomes { grids, means })
 }
 
-/// The mean of a unit's outcomes. It needs a grid only where there is an aggregate clause.
-#[tactic(auto, using(crate::proofs::Scales::mean_fits))]
+/// The mean of a unit's outcomes before its probability of no claim is changed. It needs a grid only
+/// where there is an aggregate clause.
+fn clause_mean<const B: u32>(
+    alloc: Global,
+    work: &mut Workspace,
+    unit: &Unit,
+    cells: u32,
+) -> Result<Iv<B>, AllocError>
+    requires scale { B ≡ bits_of cells }
+    requires valid { IsValidUnit cells unit.now }
+    requires some { 1 ≤ cells }
+    requires few { cells ≤ most_plan_cells }
+    ensures mean { IfOk result (λ mean. IsClauseMean cells unit.now mean) }
+    ensures small { IfOk result (λ mean. mean.hi ≤ most_clause_mean unit.now.zero) }
+{
+    match unit.cede {
+        Some(_) => {
+            let claims = claims_grid(alloc, work, unit, cells)?;
+            Ok(cede_mean(unit, &claims))
+        }
+        None => Ok(claims_mean(unit)),
+    }
+}
+
+/// The mean of a unit's outcomes. Where its probability of no claim is changed, it needs that
+/// before the change, on a grid of one cell.
 fn mean_of<const B: u32>(
     alloc: Global,
     work: &mut Workspace,
@@ -189,12 +244,13 @@ fn mean_of<const B: u32>(
     ensures mean { IfOk result (λ mean. IsUnitMean cells unit.now mean) }
     ensures small { IfOk result (λ mean. mean.hi ≤ most_unit_mean) }
 {
-    match unit.cede {
-        Some(_) => {
-            let claims = claims_grid(alloc, work, unit, cells)?;
-            Ok(cede_mean(unit, &claims))
+    let mean = clause_mean(alloc, work, unit, cells)?;
+    match unit.zero {
+        Some(p) => {
+            let none = none_of(alloc, work, &unit.freq)?;
+            Ok(zero_mean(mean, none, p))
         }
-        None => Ok(claims_mean(unit)),
+        None => Ok(mean),
     }
 }
 

@@ -109,6 +109,14 @@ most_count = 256
 abbrev pub admitted_bound : ℕ
 admitted_bound = 2 ^ 48
 
+-- the parts of a probability of no claim that a count is changed to are below this
+abbrev pub zero_bound : ℕ
+zero_bound = 2 ^ 37
+
+-- the probability of no claim is changed where at least 1 claim in so many units is expected
+abbrev pub rarest_claims : ℕ
+rarest_claims = 16
+
 -- ---- a call
 
 -- the bytes of an input
@@ -143,7 +151,7 @@ most_claims_budget = 22 * 2 ^ 30
 
 -- the budget of a sum of units is below this
 abbrev pub budget_bound : ℕ
-budget_bound = 2 ^ 40
+budget_bound = 2 ^ 44
 
 -- ---- how wide an answer can be, in units of the scale
 
@@ -153,16 +161,24 @@ abbrev pub most_operands : ℕ
 most_operands = 21 * 2 ^ 30
 
 -- a unit after its aggregate clause
+abbrev pub most_clause_budget : ℕ
+most_clause_budget = 44 * 2 ^ 30
+
+-- the probability of no claim, where it is changed
+abbrev pub most_none_budget : ℕ
+most_none_budget = 142 * 2 ^ 13
+
+-- a unit after its probability of no claim is changed
 abbrev pub most_unit_budget : ℕ
-most_unit_budget = 44 * 2 ^ 30
+most_unit_budget = 793 * 2 ^ 30
 
 -- the mean of the total
 abbrev pub most_mean_budget : ℕ
-most_mean_budget = 2 ^ 64
+most_mean_budget = 2 ^ 67
 
 -- an ask
 abbrev pub most_ask_budget : ℕ
-most_ask_budget = 2 ^ 96
+most_ask_budget = 2 ^ 98
 
 -- ---- the one recursion of a unit's mean, in whole numbers
 

@@ -144,20 +144,20 @@ module _ (cells : ℕ) (u : UnitOfPlan) (clause : Clause) (h : IsValidUnit cells
   before : IsDeclarable (claims_of u)
   before = (claims_declared cells u h).unit
 
-  mean_kept : (N : ℕ) → partial_sums (loss_of u ∷ []) Mean N ≡ counted u (kept clause) N
+  mean_kept : (N : ℕ) → partial_sums (loss (aggregate_of u) ∷ []) Mean N ≡ counted u (kept clause) N
   mean_kept N =
-      mean_alone (loss_of u) (unit_loss (aggregate_of u) after) N ∙ clause_mean (aggregate_of u) after N
+      mean_alone (loss (aggregate_of u)) (unit_loss (aggregate_of u) after) N ∙ clause_mean (aggregate_of u) after N
       ∙ sum_to_same _ _ _ (λ s b.
       ap (λ cede. whole (outcome_after cede s) *ℚ cell (count_weights u.freq) (probability_of u.sev) s N) e
       ∙ kept_cell cells u.sev clause (count_weights u.freq) s N aggregate)
       ∙ sym (claims_score u before (kept clause) N)
 
-  one_same : (N : ℕ) → partial_sums (loss_of u ∷ []) One N ≡ partial_sums (claims u) One N
-  one_same N = total_alone_all (loss_of u) (unit_loss (aggregate_of u) after) N
+  one_same : (N : ℕ) → partial_sums (loss (aggregate_of u) ∷ []) One N ≡ partial_sums (claims u) One N
+  one_same N = total_alone_all (loss (aggregate_of u)) (unit_loss (aggregate_of u) after) N
       ∙ sym (total_alone_all (loss (claims_of u)) (unit_loss (claims_of u) before) N)
 
   kept_holds : (l k : Fraction) → Counted u (kept clause) l k
-      → Holds (partial_sums (loss_of u ∷ []) Mean) (partial_sums (loss_of u ∷ []) One) l k
+      → Holds (partial_sums (loss (aggregate_of u) ∷ []) Mean) (partial_sums (loss (aggregate_of u) ∷ []) One) l k
   kept_holds l k v = subst₂ (λ Q R. Holds Q R l k) (sym (fun_ext mean_kept)) (sym (fun_ext one_same)) v
 
   side : (b : Bool) (s : ℕ) → clause.0 ≡ b
@@ -165,7 +165,7 @@ module _ (cells : ℕ) (u : UnitOfPlan) (clause : Clause) (h : IsValidUnit cells
   side b s i = ap (λ (b : Bool). if b then whole s -ℚ ceded clause.1 s else ceded clause.1 s) i
 
   pub ceded_mean : (l k : Fraction) → clause.0 ≡ false → Counted u (ceded clause.1) l k
-      → Holds (partial_sums (loss_of u ∷ []) Mean) (partial_sums (loss_of u ∷ []) One) l k
+      → Holds (partial_sums (loss (aggregate_of u) ∷ []) Mean) (partial_sums (loss (aggregate_of u) ∷ []) One) l k
   ceded_mean l k i v = kept_holds l k (subst (λ g. Counted u g l k) (sym (fun_ext (λ s. side false s i))) v)
 
   -- no more is ceded than there is
@@ -181,7 +181,7 @@ module _ (cells : ℕ) (u : UnitOfPlan) (clause : Clause) (h : IsValidUnit cells
 
   -- what is kept on the net side, with what is ceded, is the sum of the claims
   pub net_mean : (l k m n : Fraction) → clause.0 ≡ true → Counted u (ceded clause.1) l k → Counted u whole m n
-      → Holds (partial_sums (loss_of u ∷ []) Mean) (partial_sums (loss_of u ∷ []) One) (m -ℚ k) (n -ℚ l)
+      → Holds (partial_sums (loss (aggregate_of u) ∷ []) Mean) (partial_sums (loss (aggregate_of u) ∷ []) One) (m -ℚ k) (n -ℚ l)
   net_mean l k m n i v w =
       let R = partial_sums (claims u) One in
       let K : List ℕ → Fraction = λ ys. kept clause (sum ys) in

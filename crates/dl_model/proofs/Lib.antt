@@ -46,6 +46,7 @@ pub mod CountMeans
 pub mod Beginnings
 pub mod ItemWeights
 pub mod WithinOne
+pub mod NewZero
 pub mod PlanUnits
 pub mod PlanMeans
 pub mod PlanThin

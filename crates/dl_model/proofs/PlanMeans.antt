@@ -1,15 +1,19 @@
 -- The expected counts of a plan's units, and their means.
-use Rattle.dl_model.proofs.Common.{ℕ, zero, suc, ◌≡◌, List, [], ◌∷◌, map, arith, refl, sym, ap, subst, subst₂, ◌∙◌, All, All-head, All-tail, Fraction, whole, ◌*ℚ◌, ◌≤ℚ◌, sum_to, sum_over, over_self, times_comm, one_times, zero_times, zero_le, le_refl, Freq, Fixed, Table, Bernoulli, Binomial, Poisson, Gamma, pairs_of, mean_amount, greatest, expected_count, IsValidUnit, num_le_den, total_pos, Series, Holds, One, Mean, sum_over_outcomes, partial_sums, count_weights, outcome_after, loss_of, Sev, probability_of, Aggregate, IsDeclarable, loss}
+use Rattle.dl_model.proofs.Common.{ℕ, zero, suc, ◌≡◌, List, [], ◌∷◌, map, arith, refl, sym, ap, subst, subst₂, ◌∙◌, All, All-head, All-tail, Fraction, whole, ◌*ℚ◌, ◌≤ℚ◌, sum_to, sum_over, over_self, ring, times_comm, one_times, zero_times, zero_le, le_refl, le_trans, times_le_both, Freq, Fixed, Table, Bernoulli, Binomial, Poisson, Gamma, pairs_of, mean_amount, greatest, expected_count, IsValidUnit, num_le_den, total_pos, Series, AtMost, Holds, One, Mean, sum_over_outcomes, partial_sums, count_weights, outcome_after, loss_of, Sev, probability_of, Aggregate, IsDeclarable, loss}
 use Rattle.std.proofs.Common.{None}
 use Rattle.std.proofs.Math.Nat.{le_refl as le_refl_n}
 use Rattle.dl_plan.specs.declared.plan.Unit.{Unit as UnitOfPlan}
 use Rattle.dl_plan.specs.Count.{IsClaimCount as IsCountOfPlan}
+use Rattle.dl_model.specs.Plans.{aggregate_of, after_zero}
 use Rattle.dl_model.proofs.CountMeans.{finite_mean, fixed_mean, binomial_mean, poisson_mean, gamma_mean}
 use Rattle.dl_model.proofs.Means.{mean_of_unit}
 use Rattle.dl_model.proofs.TotalMeans.{mean_of_total}
 use Rattle.dl_model.proofs.Bounded.{are_units}
 use Rattle.dl_model.proofs.ItemWeights.{shares_severity, shares_mean, severity_mean}
 use Rattle.dl_model.proofs.PlanUnits.{unit_declared, units_declared}
+use Rattle.dl_model.proofs.UnitLaws.{unit_loss}
+use Rattle.dl_model.proofs.UnitLosses.{unit_mean_le}
+use Rattle.dl_model.proofs.Outcomes.{mean_alone, total_alone_all}
 
 -- the declared mean of a number of claims is v
 abbrev HasMean : (ℕ → Fraction) → Fraction → Type 0
@@ -57,11 +61,34 @@ plain_mean freq sev clause is count same =
 abbrev pub MeanHolds : List UnitOfPlan → Fraction → Fraction → Type 0
 MeanHolds units l h = Holds (partial_sums (map loss_of units) Mean) (partial_sums (map loss_of units) One) l h
 
-pub unit_mean : (cells : ℕ) (u : UnitOfPlan) → IsValidUnit cells u → u.cede ≡ None
+pub unit_mean : (cells : ℕ) (u : UnitOfPlan) → IsValidUnit cells u → u.cede ≡ None → u.zero ≡ None
     → MeanHolds (u ∷ []) (expected_count u.freq *ℚ mean_amount (pairs_of u.sev))
     (expected_count u.freq *ℚ mean_amount (pairs_of u.sev))
-unit_mean cells u h none = plain_mean u.freq u.sev (outcome_after u.cede) (unit_declared cells u h).unit h.count
-    (λ s. ap (λ cede. outcome_after cede s) none)
+unit_mean cells u h none same =
+    let v = expected_count u.freq *ℚ mean_amount (pairs_of u.sev) in
+    subst (λ z. Holds (partial_sums (after_zero z (aggregate_of u) ∷ []) Mean)
+    (partial_sums (after_zero z (aggregate_of u) ∷ []) One) v v) (sym same)
+    (plain_mean u.freq u.sev (outcome_after u.cede) (unit_declared cells u h).unit h.count
+    (λ s. ap (λ cede. outcome_after cede s) none))
+
+-- no clause raises the mean
+pub mean_at_most : (cells : ℕ) (u : UnitOfPlan) → IsValidUnit cells u
+    → AtMost (partial_sums (loss (aggregate_of u) ∷ []) Mean) (partial_sums (loss (aggregate_of u) ∷ []) One)
+    (expected_count u.freq *ℚ mean_amount (pairs_of u.sev))
+mean_at_most cells u h N v bound =
+    let l = loss (aggregate_of u) in
+    let unit = (unit_declared cells u h).unit in
+    let is = unit_loss (aggregate_of u) unit in
+    let e = expected_count u.freq in
+    let a = mean_amount (pairs_of u.sev) in
+    let claims = (count_mean u.freq h.count).1 N v
+    (λ M. subst (λ t. t ≤ℚ v) (total_alone_all l is M) (bound M)) in
+    subst₂ (λ s t. s ≤ℚ t) (sym (mean_alone l is N))
+    (ap (λ m. m *ℚ (e *ℚ v)) (severity_mean u.sev) ∙ turn a e v)
+    (le_trans _ _ _ (unit_mean_le (aggregate_of u) unit N) (times_le_both _ _ _ _ (le_refl _) claims))
+  where
+    turn : (a e v : Fraction) → a *ℚ (e *ℚ v) ≡ e *ℚ a *ℚ v
+    turn a e v = simp ring
 
 -- a total of no units is 0
 pub no_mean : (Q R : Series) → ((N : ℕ) → Q N ≡ whole 0) → Holds Q R (whole 0) (whole 0)

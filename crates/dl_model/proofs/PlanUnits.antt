@@ -1,5 +1,5 @@
 -- The units of a valid plan can be declared.
-use Rattle.dl_model.proofs.Common.{ℕ, zero, suc, ◌*◌, ◌/◌, ◌≤◌, List, [], ◌∷◌, map, Option, arith, sym, subst, IfSome, All, All-head, All-tail, Fraction, whole, ◌≤ℚ◌, over_self, over_le, le_over, Sev, Freq, Fixed, Table, Bernoulli, Binomial, Poisson, Gamma, Clause, kept, greatest, IsAggregate, IsValidUnit, num_le_den, AreCountWeights, AreDeclarable, IsDeclared, AreDeclared, count_weights, outcome_after, aggregate_of, loss_of}
+use Rattle.dl_model.proofs.Common.{ℕ, zero, suc, ◌*◌, ◌/◌, ◌≤◌, List, [], ◌∷◌, map, Option, arith, sym, subst, IfSome, All, All-head, All-tail, Fraction, whole, ◌≤ℚ◌, le_of_lt, over_self, over_le, le_over, Sev, Freq, Fixed, Table, Bernoulli, Binomial, Poisson, Gamma, Clause, kept, greatest, IsAggregate, IsValidUnit, num_le_den, AreCountWeights, AreDeclarable, IsDeclared, IsDeclaredLoss, AreDeclared, count_weights, outcome_after, aggregate_of, loss_of}
 use Rattle.std.proofs.Common.{Some, None}
 use Rattle.std.proofs.Math.Nat.{div-le_of_le-mul, le_refl as le_refl_n}
 use Rattle.dl_plan.specs.declared.plan.Unit.{Unit as UnitOfPlan}
@@ -7,10 +7,12 @@ use Rattle.dl_plan.specs.declared.plan.Plan.{Plan}
 use Rattle.dl_plan.specs.Clause.{IsClause}
 use Rattle.dl_plan.specs.Parts.{kept_parts, parts_in_bucket}
 use Rattle.dl_plan.specs.Count.{IsClaimCount as IsCountOfPlan}
-use Rattle.dl_plan.specs.Valid.{IsValid}
+use Rattle.dl_plan.specs.Valid.{IsNewZero, IsValid}
 use Rattle.dl_plan.proofs.Clauses.{kept_is, bucket_pos}
 use Rattle.dl_plan.proofs.Apart.{kept_le}
-use Rattle.dl_model.specs.Plans.{aggregates_of}
+use Rattle.dl_model.specs.Plans.{aggregates_of, after_zero}
+use Rattle.dl_model.proofs.ChangedLoss.{changed_declared}
+use Rattle.dl_model.proofs.NewZero.{count_new_zero, some_weight}
 use Rattle.dl_model.proofs.CountBounds.{finite_count, fixed_count, binomial_count, poisson_count, gamma_of_count}
 use Rattle.dl_model.proofs.Bounded.{are_units}
 use Rattle.dl_model.proofs.UnitLosses.{unit_declared_loss}
@@ -57,11 +59,22 @@ unit_declared cells u h = record {
   count = count_declared u.freq h.count;
 }
 
+-- as a total knows it
+loss_declared : (changed_to : Option Fraction) (u : UnitOfPlan) → IsDeclared (aggregate_of u) → IsCountOfPlan u.freq
+    → IfSome changed_to (IsNewZero u.freq) → IsDeclaredLoss (after_zero changed_to (aggregate_of u))
+loss_declared None u declared count h = unit_declared_loss (aggregate_of u) declared
+loss_declared (Some p) u declared count h =
+    let some = some_weight (count_weights u.freq) declared.count (count_new_zero u.freq p count h) in
+    changed_declared p (aggregate_of u) declared (le_of_lt _ _ h.below) some.0 some.1
+
+pub loss_of_declared : (cells : ℕ) (u : UnitOfPlan) → IsValidUnit cells u → IsDeclaredLoss (loss_of u)
+loss_of_declared cells u h = loss_declared u.zero u (unit_declared cells u h) h.count h.zero
+
 pub units_declared : (cells : ℕ) (units : List UnitOfPlan) → All (IsValidUnit cells) units
     → AreDeclared (map loss_of units)
 units_declared cells [] h = tt
 units_declared cells (u ∷ us) h = (
-  unit_declared_loss (aggregate_of u) (unit_declared cells u (All-head (IsValidUnit cells) u us h)),
+  loss_of_declared cells u (All-head (IsValidUnit cells) u us h),
   units_declared cells us
       (All-tail (IsValidUnit cells) u us h),
 )

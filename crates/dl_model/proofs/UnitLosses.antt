@@ -16,7 +16,7 @@ module _ (u : Aggregate) (h : IsDeclarable u) where
       ∙ sum_to_swap M M (λ y s. where_true (nat_eq (u.clause s) y) (whole y *ℚ c s))
       ∙ sum_to_same M _ _ (λ s b. passed M (u.clause s) (λ y. whole y *ℚ c s) (omega (arith, h.clause s)))
 
-  unit_mean_le : (N : ℕ) → mean_to_reach (loss u) N ≤ℚ sum_to u.most
+  pub unit_mean_le : (N : ℕ) → mean_to_reach (loss u) N ≤ℚ sum_to u.most
       (λ j. whole j *ℚ u.severity j) *ℚ sum_to N (λ n. whole n *ℚ u.count n)
   unit_mean_le N =
       le_trans _ _ _ (le_of_eq _ _ (clause_mean N))

@@ -14,6 +14,7 @@ use Rattle.dl_model.specs.Counts.{fixed, binomial, poisson, gamma_of}
 use Rattle.dl_model.specs.Series.{Series}
 use Rattle.dl_model.specs.Program.{Loss, Quantity, sum_over_outcomes, partial_sums}
 use Rattle.dl_model.specs.Units.{Aggregate, loss, plain}
+use Rattle.dl_model.specs.ChangedZero.{changed}
 use Rattle.dl_model.specs.Family.{Family, compound}
 
 -- the weight of each number of claims
@@ -32,7 +33,7 @@ abbrev pub outcome_after : Option Clause → ℕ → ℕ
 outcome_after None s = s
 outcome_after (Some clause) s = (kept clause s).num / (kept clause s).den
 
--- the aggregate loss of a unit
+-- the aggregate loss of a unit, before its probability of no claim is changed
 abbrev pub aggregate_of : UnitOfPlan → Aggregate
 aggregate_of u = record {
   count = count_weights u.freq;
@@ -41,9 +42,14 @@ aggregate_of u = record {
   clause = outcome_after u.cede;
 }
 
--- the same as a total knows it
+-- a loss whose probability of no claim is changed to the new one, where there is one
+abbrev pub after_zero : Option Fraction → Aggregate → Loss
+after_zero None u = loss u
+after_zero (Some p) u = changed p u
+
+-- the loss of a unit as a total knows it
 abbrev pub loss_of : UnitOfPlan → Loss
-loss_of u = loss (aggregate_of u)
+loss_of u = after_zero u.zero (aggregate_of u)
 
 -- those of the units of a plan, in its order
 abbrev pub aggregates_of : Plan → List Loss

@@ -14,7 +14,7 @@ ghost use Rattle.dl_model.specs.Series.{Holds};
 ghost use Rattle.dl_model.specs.Program.{One, Mean, Layer, partial_sums, total};
 ghost use Rattle.dl_model.specs.Family.{Encloses};
 ghost use Rattle.dl_model.specs.Units.{loss, IsDeclared};
-ghost use Rattle.dl_model.specs.Plans.{aggregate_of, loss_of, compound_of, claims_of, mean_ceded};
+ghost use Rattle.dl_model.specs.Plans.{aggregate_of, compound_of, claims_of, mean_ceded};
 
 /// The sum of the claims of a valid plan's unit can be declared, whatever the clause. A grid that
 /// encloses the compound sum encloses it, and its mean is the expected count times the mean of one
@@ -62,7 +62,8 @@ pub fn law_mean_ceded()
         (sum_over layers (λ layer. layer.share *ℚ h layer)) }
 {}
 
-/// The mean of a valid plan's unit after its aggregate clause: on the ceded side it is that of what
+/// The mean of a valid plan's unit after its aggregate clause, before its probability of no claim
+/// is changed: on the ceded side it is that of what
 /// the layers take, and on the net side what this leaves of the mean of the sum of the claims.
 /// Where there is no clause, the unit is the sum of its claims.
 pub fn law_clause_mean()
@@ -71,14 +72,14 @@ pub fn law_clause_mean()
         → IsValidUnit cells u
         → u.cede ≡ Some clause → clause.0 ≡ false
         → Holds (mean_ceded u clause.1) (partial_sums (loss (claims_of u) ∷ []) One) l h
-        → Holds (partial_sums (loss_of u ∷ []) Mean)
-        (partial_sums (loss_of u ∷ []) One) l h }
+        → Holds (partial_sums (loss (aggregate_of u) ∷ []) Mean)
+        (partial_sums (loss (aggregate_of u) ∷ []) One) l h }
     ensures net { (cells : ℕ) (u : UnitOfPlan) (clause : Clause) (l h m n : Fraction)
         → IsValidUnit cells u
         → u.cede ≡ Some clause → clause.0 ≡ true
         → Holds (mean_ceded u clause.1) (partial_sums (loss (claims_of u) ∷ []) One) l h
         → Holds (partial_sums (loss (claims_of u) ∷ []) Mean)
         (partial_sums (loss (claims_of u) ∷ []) One) m n
-        → Holds (partial_sums (loss_of u ∷ []) Mean) (partial_sums (loss_of u ∷ []) One)
+        → Holds (partial_sums (loss (aggregate_of u) ∷ []) Mean) (partial_sums (loss (aggregate_of u) ∷ []) One)
         (m -ℚ h) (n -ℚ l) }
 {}

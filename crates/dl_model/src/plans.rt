@@ -3,7 +3,7 @@
 //! declares what its parts say.
 
 ghost use Rattle.std.specs.Prelude.{ℕ, ◌≡◌, ◌≢◌, ◌*◌, ◌^◌, ◌≤◌, Option, Some, None, List, [], ◌∷◌, All};
-ghost use Rattle.dl_exact.specs.Fraction.{Fraction, whole, ◌*ℚ◌, ◌/ℚ◌, ◌<ℚ◌};
+ghost use Rattle.dl_exact.specs.Fraction.{Fraction, whole, ◌over◌, ◌*ℚ◌, ◌/ℚ◌, ◌<ℚ◌};
 ghost use Rattle.dl_exact.specs.Sum.{sum_to, sum_over};
 ghost use Rattle.dl_plan.specs.declared.severity.Sev.{Sev};
 ghost use Rattle.dl_plan.specs.declared.plan.Freq.{Freq};
@@ -14,13 +14,14 @@ ghost use Rattle.dl_plan.specs.Severity.{probability_of, pairs_of, mean_amount, 
 ghost use Rattle.dl_plan.specs.Weighted.{common_amount};
 ghost use Rattle.dl_plan.specs.Clause.{Clause, kept};
 ghost use Rattle.dl_plan.specs.Count.{expected_count, IsUnbounded, IsClaimCount as IsCountOfPlan};
-ghost use Rattle.dl_plan.specs.Valid.{thinned_mean, IsValidUnit, IsValid};
-ghost use Rattle.dl_model.specs.Series.{IsBound, AtLeast, Holds};
+ghost use Rattle.dl_plan.specs.Valid.{thinned_mean, IsNewZero, IsValidUnit, IsValid};
+ghost use Rattle.dl_model.specs.Series.{IsBound, AtMost, AtLeast, Holds};
+ghost use Rattle.dl_model.specs.ChangedZero.{without_none};
 ghost use Rattle.dl_model.specs.Compound.{cell};
 ghost use Rattle.dl_model.specs.Program.{Quantity, One, Cdf, Mean, AreDeclarable, partial_sums};
 ghost use Rattle.dl_model.specs.Family.{nothing, times_itself, SameCells};
 ghost use Rattle.dl_model.specs.Measures.{AreDeclared, IsAsked, IsQuantile, IsBracketed};
-ghost use Rattle.dl_model.specs.Units.{IsDeclared};
+ghost use Rattle.dl_model.specs.Units.{loss, IsDeclared};
 ghost use Rattle.dl_model.specs.Plans.{count_weights, outcome_after, aggregate_of, loss_of, aggregates_of, declared, compound_of};
 
 use dl_plan::Plan;
@@ -74,6 +75,15 @@ pub fn law_quantile(plan: &Plan)
         → (lo ≤ q) × ((x : ℕ) → hi ≡ Some x → q ≤ x) }
 {}
 
+/// Where the probability of no claim of a valid plan's count can be changed, it is at most 16 / 17
+/// before the change, and some number of claims above 0 has a positive weight.
+pub fn law_new_zero()
+    ensures most { (freq : Freq) (p : Fraction) → IsCountOfPlan freq → IsNewZero freq p
+        → AtMost (λ N. count_weights freq 0) (λ N. sum_to N (count_weights freq)) (16 over 17) }
+    ensures some { (freq : Freq) (p : Fraction) → IsCountOfPlan freq → IsNewZero freq p
+        → (level : ℕ) × (whole 0 <ℚ sum_to level (without_none (count_weights freq))) }
+{}
+
 /// The expected count of a valid plan's unit is the declared mean of its number of claims.
 pub fn law_expected()
     ensures { (freq : Freq) → IsCountOfPlan freq
@@ -81,12 +91,18 @@ pub fn law_expected()
         (λ N. sum_to N (count_weights freq)) (expected_count freq) (expected_count freq) }
 {}
 
-/// Without an aggregate clause the mean of a unit is its expected count times the mean of one
-/// claim, and the mean of a total is the sum of the means of its units.
+/// Without an aggregate clause and a changed probability of no claim the mean of a unit is its
+/// expected count times the mean of one claim; no clause raises it; and the mean of a total is the
+/// sum of the means of its units.
 pub fn law_plan_mean()
     ensures unit { (cells : ℕ) (u : UnitOfPlan) → IsValidUnit cells u → u.cede ≡ None
+        → u.zero ≡ None
         → Holds (partial_sums (loss_of u ∷ []) Mean) (partial_sums (loss_of u ∷ []) One)
         (expected_count u.freq *ℚ mean_amount (pairs_of u.sev))
+        (expected_count u.freq *ℚ mean_amount (pairs_of u.sev)) }
+    ensures most { (cells : ℕ) (u : UnitOfPlan) → IsValidUnit cells u
+        → AtMost (partial_sums (loss (aggregate_of u) ∷ []) Mean)
+        (partial_sums (loss (aggregate_of u) ∷ []) One)
         (expected_count u.freq *ℚ mean_amount (pairs_of u.sev)) }
     ensures total { (plan : Plan) (l h : UnitOfPlan → Fraction) → IsValid plan
         → All (λ u. Holds (partial_sums (loss_of u ∷ []) Mean) (partial_sums (loss_of u ∷ []) One)

@@ -13,3 +13,4 @@ pub mod Positive
 pub mod NumeralLaws
 pub mod PlainBytes
 pub mod Buckets
+pub mod ValidUnits

@@ -4,7 +4,7 @@ use Rattle.std.proofs.Common.{Bool, add-one}
 use Rattle.std.proofs.Math.Nat.{mul-div_cancel, pos_of_dvd_of_pos, eq_of_mul-eq-mul_right, div-le_self}
 use Rattle.std.proofs.lemmas.List.{length-map}
 use Rattle.std.proofs.lemmas.Simd.{map-map}
-use Rattle.dl_exact.specs.Gcd.{euclid}
+unfoldable use Rattle.dl_exact.specs.Gcd.{euclid}
 use Rattle.dl_exact.proofs.GcdLaws.{gcd-scale}
 use Rattle.dl_exact.proofs.Over.{pos_of_mul}
 
@@ -188,3 +188,25 @@ greatest_within (item ∷ items) most each = omega (
   each 0 item (omega arith),
   greatest_within items most (λ i d h. each (suc i) d (omega arith)),
 )
+
+none_and_one : gcd 0 1 ≡ 1
+unfolding gcd euclid
+none_and_one = refl
+
+-- one amount alone, with the weight 1
+pub one_weighted : (amount : ℕ) → IsWeighted (record { amount = amount; weight = 1 } ∷ []) 1
+one_weighted amount = record {
+  some = omega arith;
+  rising = λ i below. absurd (omega (arith, below));
+  positive = λ i d inside. first i d (omega (arith, inside));
+  sum = refl;
+  within = omega arith;
+  lowest = none_and_one;
+}
+  where
+    one : List Item
+    one = record { amount = amount; weight = 1 } ∷ []
+
+    first : (i : ℕ) (d : Item) → i < 1 → 0 < (get_or one i d).weight
+    first zero d inside = omega arith
+    first (suc i) d inside = absurd (omega (arith, inside))

@@ -25,6 +25,15 @@ IsUnbounded (Binomial trials q) = ⊥
 IsUnbounded (Poisson mean) = ⊤
 IsUnbounded (Gamma shape mean) = ⊤
 
+-- not a listed count: its expected number of claims was exposed
+abbrev pub IsExposed : Freq → Type 0
+IsExposed (Fixed m) = ⊤
+IsExposed (Table counts total) = ⊥
+IsExposed (Bernoulli q) = ⊤
+IsExposed (Binomial trials q) = ⊤
+IsExposed (Poisson mean) = ⊤
+IsExposed (Gamma shape mean) = ⊤
+
 -- at most 1, with both parts below 2^48
 pub record IsProbability (q : Fraction) : Type 0 where
   pub within : q ≤ℚ whole 1

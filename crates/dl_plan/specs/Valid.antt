@@ -1,9 +1,10 @@
 -- What a valid plan is.
-use Rattle.std.specs.Prelude.{ℕ, ◌≡◌, ◌≢◌, ◌*◌, ◌≤◌, ◌^◌, None, IfSome, length, All, AllPairs}
-use Rattle.dl_limits.specs.Limits.{most_amount_at, most_expected, most_horizon, most_items, most_log2, most_units}
-use Rattle.dl_exact.specs.Fraction.{Fraction, whole, ◌-ℚ◌, ◌*ℚ◌, ◌≤ℚ◌, ◌<ℚ◌}
+use Rattle.std.specs.Prelude.{ℕ, ◌≡◌, ◌≢◌, ◌*◌, ◌<◌, ◌≤◌, ◌^◌, None, IfSome, [], length, All, AllPairs}
+use Rattle.dl_limits.specs.Limits.{most_amount_at, most_expected, most_horizon, most_items, most_log2, most_units, rarest_claims, zero_bound}
+use Rattle.dl_exact.specs.Fraction.{Fraction, whole, ◌over◌, ◌-ℚ◌, ◌*ℚ◌, ◌≤ℚ◌, ◌<ℚ◌}
 use Rattle.dl_plan.specs.declared.cede.CedeLayer.{CedeLayer}
 use Rattle.dl_plan.specs.declared.severity.Sev.{Sev}
+use Rattle.dl_plan.specs.declared.plan.Freq.{Freq}
 use Rattle.dl_plan.specs.declared.plan.Unit.{Unit as UnitOfPlan}
 use Rattle.dl_plan.specs.declared.plan.Plan.{Plan}
 use Rattle.dl_plan.specs.Fine.{HasPartsOf48Bits, IsWhole}
@@ -11,7 +12,7 @@ use Rattle.dl_plan.specs.Weighted.{common_amount}
 use Rattle.dl_plan.specs.Severity.{mean_amount, pairs_of, probability_of}
 use Rattle.dl_plan.specs.Clause.{Clause, kept, IsClause}
 use Rattle.dl_plan.specs.Horizon.{IsHorizon}
-use Rattle.dl_plan.specs.Count.{expected_count, IsUnbounded, IsClaimCount}
+use Rattle.dl_plan.specs.Count.{expected_count, IsUnbounded, IsExposed, IsClaimCount}
 
 -- the mean of the sum of a unit's claims, in buckets: the expected count times the mean amount
 abbrev pub declared_mean : UnitOfPlan → Fraction
@@ -21,6 +22,22 @@ declared_mean u = expected_count u.freq *ℚ mean_amount (pairs_of u.sev)
 -- amount
 abbrev pub thinned_mean : UnitOfPlan → Fraction
 thinned_mean u = expected_count u.freq *ℚ (whole 1 -ℚ probability_of u.sev 0)
+
+-- a unit of this count and severity alone: no clause, and no change of its probability of no claim
+abbrev pub claims_alone : Freq → Sev → UnitOfPlan
+claims_alone freq sev =
+    record { name = []; sev = sev; freq = freq; cede = None; zero = None }
+
+-- p can be the probability of no claim in place of that of the count: it is below 1, with both
+-- parts below 2^37; and before the change from 1/16 to 4,096 claims are expected, by a count that is
+-- not listed
+pub record IsNewZero (freq : Freq) (p : Fraction) : Type 0 where
+  pub below : p <ℚ whole 1
+  pub num : p.num < zero_bound
+  pub den : p.den < zero_bound
+  pub least : 1 over rarest_claims ≤ℚ expected_count freq
+  pub most : expected_count freq ≤ℚ whole most_expected
+  pub exposed : IsExposed freq
 
 -- limit and attachment are at most 2^20 buckets where the grid has up to 4,096 cells, else 2^22
 pub record IsWithinMostAmount (cells : ℕ) (l : CedeLayer) : Type 0 where
@@ -36,7 +53,7 @@ pub record IsAggregate (cells : ℕ) (sev : Sev) (clause : Clause) : Type 0 wher
   pub whole : (n : ℕ) → IsWhole (kept clause (n * common_amount sev.items))
   pub horizon : (k : ℕ) × IsHorizon clause cells k × (k ≤ most_horizon cells)
 
--- a unit of a valid plan with a grid of so many cells; its probability of no claim is not changed
+-- a unit of a valid plan with a grid of so many cells
 pub record IsValidUnit (cells : ℕ) (u : UnitOfPlan) : Type 0 where
   pub amounts : All (λ item. item.amount ≤ most_amount_at cells) u.sev.items
   pub items : ¬ IsUnbounded u.freq → length u.sev.items ≤ most_items
@@ -45,7 +62,7 @@ pub record IsValidUnit (cells : ℕ) (u : UnitOfPlan) : Type 0 where
   pub thinned : IsUnbounded u.freq → HasPartsOf48Bits (thinned_mean u)
       × (thinned_mean u ≤ℚ whole most_expected)
   pub clause : IfSome u.cede (IsAggregate cells u.sev)
-  pub zero : u.zero ≡ None
+  pub zero : IfSome u.zero (IsNewZero u.freq)
 
 -- a bucket size above 0, a power of two from 2 to 65,536 cells, and 1 to 16 valid units with
 -- different names, which share no factor

@@ -33,7 +33,7 @@ pub fn law_horizon()
 {}
 
 /// The units of a valid plan can be asked for their thinned mean, their mean and their horizon:
-/// what `Unit::thinned` (of Poisson and gamma counts), `Unit::mean_parts` and `Unit::horizon`
+/// what `Freq::thinned` (of Poisson and gamma counts), `Unit::mean_parts` and `Unit::horizon`
 /// require holds.
 pub fn law_valid_units()
     ensures counts { (plan : Plan) → IsValid plan

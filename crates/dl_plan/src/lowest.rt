@@ -1,6 +1,6 @@
 //! Severities of rising amounts, and the part of a severity above an amount.
 
-ghost use Rattle.std.specs.Prelude.{◌≡◌, ◌/◌, ◌<◌, ◌≤◌, ◌^◌, ℕ, nat_lt, List, filter, length, map, All, IfOk, MatchOption};
+ghost use Rattle.std.specs.Prelude.{◌≡◌, ◌/◌, ◌<◌, ◌≤◌, ◌^◌, ℕ, nat_lt, List, [], ◌∷◌, filter, length, map, All, IfOk, MatchOption};
 ghost use Rattle.std.specs.List.Sorted.{IsStrictlyIncreasing};
 ghost use Rattle.dl_limits.specs.Limits.{most_parts};
 ghost use Rattle.dl_exact.specs.Fraction.{◌over◌};
@@ -32,6 +32,21 @@ impl Sev {
             items: Items::from_vec(divided(items, common)),
             total,
         }
+    }
+
+    /// The severity of one amount alone. Its list is the one allocation, and `AllocError` its
+    /// refusal.
+    pub fn alone(alloc: Global, amount: u32) -> Result<Sev, AllocError>
+        ensures items { IfOk result (λ sev.
+            sev.items ≡ record { amount = amount; weight = 1 } ∷ []) }
+        ensures total { IfOk result (λ sev. sev.total ≡ 1) }
+    {
+        let mut items = Vec::new(alloc);
+        items.push(Item { amount, weight: 1 })?;
+        Ok(Sev {
+            items: Items::from_vec(items),
+            total: 1,
+        })
     }
 
     /// The severity conditioned on amounts above `attach`; `None` exactly where there is none.

@@ -49,8 +49,8 @@ pub struct Unit {
     pub freq: Freq,
     /// The aggregate clause, where there is one.
     pub cede: Option<Cede>,
-    /// The probability of no claim after it is changed; `None`: the claim count as it is. No valid
-    /// plan has a change yet.
+    /// The probability of no claim in place of that of the claim count, which is the count before
+    /// this change; `None`: it is not changed.
     pub zero: Option<Frac>,
 }
 

@@ -10,7 +10,7 @@ ghost use Rattle.dl_plan.specs.Severity.{pairs_of, mean_amount, probability_of};
 ghost use Rattle.dl_plan.specs.Count.{expected_count, IsClaimCount};
 ghost use Rattle.dl_plan.specs.Clause.{IsClause};
 ghost use Rattle.dl_plan.specs.Horizon.{IsHorizonOf, HorizonPasses};
-ghost use Rattle.dl_plan.specs.Valid.{declared_mean, thinned_mean};
+ghost use Rattle.dl_plan.specs.Valid.{claims_alone, declared_mean, thinned_mean};
 
 use crate::item::Item;
 use crate::plan::{Freq, Unit};
@@ -41,6 +41,17 @@ impl Freq {
             Freq::Gamma { mean, .. } => *mean,
         }
     }
+
+    /// The expected number of claims above 0 of a count and a severity of a valid plan: the
+    /// expected count times the probability of a positive amount.
+    pub fn thinned(&self, sev: &Sev) -> Frac
+        requires count { IsClaimCount self.now }
+        requires expected { HasPartsOf48Bits (expected_count self.now) }
+        requires admitted { HasPartsOf48Bits (thinned_mean (claims_alone self.now sev.now)) }
+        ensures { result ≡ thinned_mean (claims_alone self.now sev.now) }
+    {
+        self.expected().mul(sev.share_above_zero()).unwrap()
+    }
 }
 
 impl Sev {
@@ -54,22 +65,9 @@ impl Sev {
 }
 
 impl Unit {
-    /// The expected number of claims above 0 of a unit of a valid plan: the expected count times
-    /// the probability of a positive amount.
-    pub fn thinned(&self) -> Frac
-        requires count { IsClaimCount self.now.freq }
-        requires expected { HasPartsOf48Bits (expected_count self.now.freq) }
-        requires admitted { HasPartsOf48Bits (thinned_mean self.now) }
-        ensures { result ≡ thinned_mean self.now }
-    {
-        self.freq
-            .expected()
-            .mul(self.sev.share_above_zero())
-            .unwrap()
-    }
-
     /// A numerator below 2^100 and a denominator below 2^80 of the mean in buckets, before the
-    /// aggregate clause, of a unit of a valid plan.
+    /// aggregate clause and before the probability of no claim is changed, of a unit of a valid
+    /// plan.
     pub fn mean_parts(&self) -> (u128, u128)
         requires count { IsClaimCount self.now.freq }
         requires expected { HasPartsOf48Bits (expected_count self.now.freq) }

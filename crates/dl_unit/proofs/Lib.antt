@@ -5,6 +5,7 @@ pub mod Sizes
 pub mod Widths
 pub mod Positive
 pub mod Places
+pub mod NoClaim
 pub mod Trials
 pub mod TrialGrids
 pub mod CountKinds

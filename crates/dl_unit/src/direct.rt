@@ -10,7 +10,7 @@ ghost use Rattle.dl_model.specs.Family.{GridEncloses};
 ghost use Rattle.dl_model.specs.Plans.{compound_of};
 ghost use Rattle.dl_plan.specs.declared.plan.Freq.TheVariants.{Poisson, Gamma};
 ghost use Rattle.dl_plan.specs.Severity.{pairs_of, conditioned, Means};
-ghost use Rattle.dl_plan.specs.Valid.{thinned_mean, IsValidUnit};
+ghost use Rattle.dl_plan.specs.Valid.{claims_alone, thinned_mean, IsValidUnit};
 ghost use Rattle.dl_budget.specs.Claims.{claims_budget};
 
 use crate::unbounded::{gamma_claims, poisson_claims};
@@ -18,71 +18,77 @@ use dl_budget::claims_budget;
 use dl_direct::{gamma_direct, poisson_direct};
 use dl_grid::Grid;
 use dl_limits::LONG_BITS;
-use dl_plan::{Sev, Unit};
+use dl_plan::{Freq, Sev};
 use dl_product::Workspace;
 use std::alloc::{AllocError, Global};
 
-/// Whether a grid's spread is at most the unit's budget on its cells. Budgets are computed at the
+/// Whether a grid's spread is at most the budget of the sum of these
+/// claims on its cells. Budgets are computed at the
 /// scales of plans alone, so at a coarser one none is found narrow.
-fn is_narrow<const B: u32>(unit: &Unit, grid: &Grid<B>) -> bool
+fn is_narrow<const B: u32>(freq: &Freq, sev: &Sev, grid: &Grid<B>) -> bool
     requires scale_below { B ≤ 56 }
-    requires valid { (h : ℕ) × IsValidUnit h unit.now }
+    requires valid { (h : ℕ) × IsValidUnit h (claims_alone freq.now sev.now) }
     requires few { length grid.now ≤ most_cells }
-    ensures { IsTrue result → spread grid.now ≤ claims_budget (2 ^ B) (length grid.now) unit.now }
+    ensures { IsTrue result → spread grid.now
+        ≤ claims_budget (2 ^ B) (length grid.now) (claims_alone freq.now sev.now) }
 {
     if B < LONG_BITS {
         return false;
     }
-    grid.spread() <= claims_budget::<B>(unit, grid.cells())
+    grid.spread() <= claims_budget::<B>(freq, sev, grid.cells())
 }
 
-/// The grid of a unit with a Poisson count, from its severity above 0.
+/// The grid of a sum with a Poisson count, from its severity above 0.
 pub(crate) fn poisson_grid<const B: u32>(
     alloc: Global,
     work: &mut Workspace,
-    unit: &Unit,
+    freq: &Freq,
+    sev: &Sev,
     positive: &Sev,
     cells: u32,
 ) -> Result<Grid<B>, AllocError>
     requires size { IsGridSize B cells }
-    requires valid { (h : ℕ) × IsValidUnit h unit.now }
-    requires count { (mean : Fraction) × (unit.now.freq ≡ Poisson mean) }
-    requires expected { 0 < (thinned_mean unit.now).num }
-    requires means { Means positive.now (conditioned 0 (pairs_of unit.now.sev)) }
+    requires valid { (h : ℕ) × IsValidUnit h (claims_alone freq.now sev.now) }
+    requires count { (mean : Fraction) × (freq.now ≡ Poisson mean) }
+    requires expected { 0 < (thinned_mean (claims_alone freq.now sev.now)).num }
+    requires means { Means positive.now (conditioned 0 (pairs_of sev.now)) }
     ensures cells { IfOk result (λ g. length g ≡ cells) }
-    ensures encloses { IfOk result (λ g. GridEncloses g (compound_of unit.now.freq unit.now.sev)) }
-    ensures spread { IfOk result (λ g. spread g ≤ claims_budget (2 ^ B) cells unit.now) }
+    ensures encloses { IfOk result (λ g. GridEncloses g (compound_of freq.now sev.now)) }
+    ensures spread { IfOk result (λ g.
+        spread g ≤ claims_budget (2 ^ B) cells (claims_alone freq.now sev.now)) }
 {
-    let mean = unit.thinned();
+    let mean = freq.thinned(sev);
     if let Some(grid) = poisson_direct(alloc, positive, mean, cells)? {
-        if is_narrow(unit, &grid) {
+        if is_narrow(freq, sev, &grid) {
             return Ok(grid);
         }
     }
     poisson_claims(alloc, work, positive, mean, cells)
 }
 
-/// The grid of a unit with a gamma count of this shape, from its severity above 0.
+/// The grid of a sum with a gamma count of this shape, from its severity above 0.
 pub(crate) fn gamma_grid<const B: u32>(
     alloc: Global,
     work: &mut Workspace,
-    unit: &Unit,
+    freq: &Freq,
+    sev: &Sev,
     positive: &Sev,
     shape: u32,
     cells: u32,
 ) -> Result<Grid<B>, AllocError>
     requires size { IsGridSize B cells }
-    requires valid { (h : ℕ) × IsValidUnit h unit.now }
-    requires count { (mean : Fraction) × (unit.now.freq ≡ Gamma shape mean) }
-    requires expected { 0 < (thinned_mean unit.now).num }
-    requires means { Means positive.now (conditioned 0 (pairs_of unit.now.sev)) }
+    requires valid { (h : ℕ) × IsValidUnit h (claims_alone freq.now sev.now) }
+    requires count { (mean : Fraction) × (freq.now ≡ Gamma shape mean) }
+    requires expected { 0 < (thinned_mean (claims_alone freq.now sev.now)).num }
+    requires means { Means positive.now (conditioned 0 (pairs_of sev.now)) }
     ensures cells { IfOk result (λ g. length g ≡ cells) }
-    ensures encloses { IfOk result (λ g. GridEncloses g (compound_of unit.now.freq unit.now.sev)) }
-    ensures spread { IfOk result (λ g. spread g ≤ claims_budget (2 ^ B) cells unit.now) }
+    ensures encloses { IfOk result (λ g. GridEncloses g (compound_of freq.now sev.now)) }
+    ensures spread { IfOk result (λ g.
+        spread g ≤ claims_budget (2 ^ B) cells (claims_alone freq.now sev.now)) }
 {
-    let mean = unit.thinned();
+    let mean = freq.thinned(sev);
     if let Some(grid) = gamma_direct(alloc, positive, shape, mean, cells)? {
-        if is_narrow(unit, &grid) {
+        if is_narrow(freq, sev, &grid) {
             return Ok(grid);
         }
     }

@@ -7,10 +7,12 @@ mod claim;
 mod direct;
 mod finite;
 mod law;
+mod none;
 mod trial;
 mod unbounded;
 mod unit;
 
 pub use law::law_trials;
+pub use none::none_of;
 pub use unbounded::{gamma_claims, poisson_claims};
 pub use unit::{unit_grid, unit_grid_with};

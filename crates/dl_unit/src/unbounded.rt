@@ -12,7 +12,7 @@ ghost use Rattle.dl_plan.specs.declared.severity.Sev.{Sev};
 ghost use Rattle.dl_plan.specs.Count.{IsUnbounded};
 ghost use Rattle.dl_plan.specs.Fine.{HasPartsOf48Bits};
 ghost use Rattle.dl_plan.specs.Severity.{probability_of, pairs_of, conditioned, Means};
-ghost use Rattle.dl_plan.specs.Valid.{thinned_mean, IsValidUnit};
+ghost use Rattle.dl_plan.specs.Valid.{claims_alone, thinned_mean, IsValidUnit};
 ghost use Rattle.dl_budget.specs.Claims.{poisson_budget, gamma_budget};
 ghost use Rattle.dl_budget.specs.Halvings.{halvings};
 
@@ -20,25 +20,30 @@ use dl_budget::halvings;
 use dl_frac::Frac;
 use dl_grid::Grid;
 use dl_panjer::{geometric_base, poisson_base};
-use dl_plan::{Sev, Unit};
+use dl_plan::{Freq, Sev};
 use dl_power::power_with;
 use dl_product::Workspace;
 use std::alloc::{AllocError, Global};
 
 /// The severity of the claims above 0, where any are expected.
-pub(crate) fn positive_claims(alloc: Global, unit: &Unit) -> Result<Option<Sev>, AllocError>
-    requires valid { (h : ℕ) × IsValidUnit h unit.now }
-    requires unbounded { IsUnbounded unit.now.freq }
-    ensures none { IfOk result (λ made. made ≡ None → thinned_mean unit.now ≡ whole 0) }
-    ensures some { IfOk result (λ made.
-        (sev : Sev) → made ≡ Some sev → 0 < (thinned_mean unit.now).num) }
-    ensures means { IfOk result (λ made.
-        (sev : Sev) → made ≡ Some sev → Means sev (conditioned 0 (pairs_of unit.now.sev))) }
+pub(crate) fn positive_claims(
+    alloc: Global,
+    freq: &Freq,
+    sev: &Sev,
+) -> Result<Option<Sev>, AllocError>
+    requires valid { (h : ℕ) × IsValidUnit h (claims_alone freq.now sev.now) }
+    requires unbounded { IsUnbounded freq.now }
+    ensures none { IfOk result (λ made. made ≡ None
+        → thinned_mean (claims_alone freq.now sev.now) ≡ whole 0) }
+    ensures some { IfOk result (λ made. (positive : Sev) → made ≡ Some positive
+        → 0 < (thinned_mean (claims_alone freq.now sev.now)).num) }
+    ensures means { IfOk result (λ made. (positive : Sev) → made ≡ Some positive
+        → Means positive (conditioned 0 (pairs_of sev.now))) }
 {
-    if unit.thinned().num() == 0 {
+    if freq.thinned(sev).num() == 0 {
         return Ok(None);
     }
-    unit.sev.positive(alloc)
+    sev.positive(alloc)
 }
 
 /// A Poisson number of claims above 0. The mean is halved until it is at most 1/2, and the sum of

@@ -5,11 +5,13 @@ use Rattle.std.specs.List.Sorted.{IsStrictlyIncreasing}
 use Rattle.std.proofs.Math.Nat.{zero-lt-suc}
 use Rattle.dl_exact.specs.Gcd.{gcd, euclid}
 use Rattle.dl_exact.specs.Fraction.{Fraction, ◌over◌, ◌*ℚ◌, ◌-ℚ◌, ◌/ℚ◌, ◌≤ℚ◌, whole}
-use Rattle.dl_exact.proofs.Over.{over_div, over_le, over_mul, over_sub}
+use Rattle.dl_exact.proofs.Over.{over_div, over_le, over_lt, over_mul, over_sub}
 use Rattle.dl_exact.proofs.Laws.{one_pos, times_one}
 use Rattle.dl_exact.proofs.RoundingLaws.{whole_le}
 use Rattle.dl_plan.specs.declared.item.Item.{Item}
-use Rattle.dl_plan.specs.Count.{IsProbability}
+use Rattle.dl_plan.specs.declared.plan.Freq.{Freq}
+use Rattle.dl_plan.specs.Count.{expected_count, IsExposed, IsProbability}
+use Rattle.dl_plan.specs.Valid.{IsNewZero}
 use Rattle.dl_plan.specs.Fine.{HasPartsOf48Bits}
 use Rattle.dl_plan.specs.Weighted.{IsWeighted}
 use Rattle.dl_exact.proofs.Parts.{over_num_le as num_of_over-le, over_den_le as den_of_over-le}
@@ -171,3 +173,21 @@ five_near (suc (suc zero)) d h = omega arith
 five_near (suc (suc (suc zero))) d h = omega arith
 five_near (suc (suc (suc (suc zero)))) d h = omega arith
 five_near (suc (suc (suc (suc (suc k))))) d h = absurd (omega (arith, h))
+
+-- 0 can be the probability of no claim where n over d claims are expected
+pub none_changed : (freq : Freq) (n d : ℕ) → expected_count freq ≡ n over d → 0 < d → d ≤ 16 * n → n ≤ 4096 * d
+    → IsExposed freq → IsNewZero freq (whole 0)
+none_changed freq n d is pos least most exposed = record {
+  below = over_lt 0 1 1 1 one_pos one_pos (omega arith);
+  num = omega (arith, num_of_over-le 0 1 one_pos);
+  den = omega (arith, den_of_over-le 0 1 one_pos);
+  least = subst (λ t. 1 over 16 ≤ℚ t) (sym is) (over_le 1 16 n d (zero-lt-suc 15) pos (omega (arith, least)));
+  most = subst (λ t. t ≤ℚ whole 4096) (sym is) (over_le n d 4096 1 pos one_pos (omega (arith, most)));
+  exposed = exposed;
+}
+
+pub twice_a_third : (q : Fraction) → q ≡ 1 over 3 → whole 2 *ℚ q ≡ 2 over 3
+twice_a_third q e = ap (λ t. whole 2 *ℚ t) e ∙ over_mul 2 1 1 3 (zero-lt-suc 0) (zero-lt-suc 2)
+
+pub small_value : (q : Fraction) (n d : ℕ) → q ≡ n over d → 0 < d → n < 2 ^ 48 → d < 2 ^ 48 → HasPartsOf48Bits q
+small_value q n d e pos small few = subst HasPartsOf48Bits (sym e) (small_over n d pos small few)

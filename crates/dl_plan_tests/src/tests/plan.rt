@@ -313,7 +313,7 @@ fn means_of(alloc: Global, num: u32, den: u32) -> Result<Option<Means>, AllocErr
     {
         return Ok(None);
     }
-    let thinned = unit.thinned();
+    let thinned = unit.freq.thinned(&unit.sev);
     Ok(Some(((thinned.num(), thinned.den()), unit.mean_parts())))
 }
 

@@ -356,7 +356,7 @@ fn budget_of_eight<const B: u32>(alloc: Global) -> Result<u128, AllocError>
     requires { IsPlanScale B }
 {
     let unit = eight_expected(alloc)?;
-    Ok(claims_budget::<B>(&unit, 16))
+    Ok(claims_budget::<B>(&unit.freq, &unit.sev, 16))
 }
 
 #[test]
@@ -447,7 +447,7 @@ fn has_digits<const B: u32>(grid: &Grid<B>, cells: &[(u32, u128)]) -> bool {
 fn is_long(alloc: Global) -> Result<bool, AllocError> {
     let unit = hundred_expected(alloc)?;
     let grid = unit_grid::<48>(alloc, &unit, 65_536)?;
-    let budget = claims_budget::<48>(&unit, 65_536);
+    let budget = claims_budget::<48>(&unit.freq, &unit.sev, 65_536);
     Ok(has_digits(&grid, &LONG) && budget == 167_674_151 && grid.spread() < budget)
 }
 

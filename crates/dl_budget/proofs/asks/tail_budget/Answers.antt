@@ -7,7 +7,7 @@ use Rattle.dl_budget.proofs.asks.tail_budget.Goals as goal
 
 pub overflow_mul-sums-2 : goal.overflow_mul-sums-2
 overflow_mul-sums-2 g c =
-    let small : c.args.budgets.total ≤ 2 ^ 40 = omega (arith, c.requires.budgets.total_small) in
+    let small : c.args.budgets.total ≤ 2 ^ 44 = omega (arith, c.requires.budgets.total_small) in
     omega (arith, mul-le-mul (few_cells c.args.plan.now c.requires.valid).1 small)
 
 pub overflow_mul-both-2 : goal.overflow_mul-both-2

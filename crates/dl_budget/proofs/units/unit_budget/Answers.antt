@@ -1,18 +1,5 @@
-use Rattle.dl_budget.proofs.Common.{◌*◌, ◌^◌, ap, sym, ◌∙◌, horizon, claims_budget}
-use Rattle.dl_budget.specs.Units.{after_clause}
-use Rattle.dl_budget.proofs.Horizons.{on_horizon}
+use Rattle.dl_plan.proofs.ValidUnits.{new_zero}
 use Rattle.dl_budget.proofs.units.unit_budget.Goals as goal
 
-pub returns-in-Some-clause-value : goal.returns-in-Some-clause-value
-returns-in-Some-clause-value g c =
-    ap (λ t. 2 * t) (on_horizon (2 ^ g.row.B) c.requires.valid.0 c.args.cells c.args.unit.now c.horizon.result _
-    c.requires.valid.1 c.horizon.ensures.horizon c.claims_budget-before.ensures.value)
-    ∙ ap (λ clause. after_clause clause (claims_budget (2 ^ g.row.B)
-    (horizon c.args.unit.now.cede c.args.cells) c.args.unit.now)) (sym c.in-Some.is)
-
-pub returns-in-None-clause-value : goal.returns-in-None-clause-value
-returns-in-None-clause-value g c =
-    on_horizon (2 ^ g.row.B) c.requires.valid.0 c.args.cells c.args.unit.now c.horizon.result _ c.requires.valid.1
-    c.horizon.ensures.horizon c.claims_budget-before.ensures.value
-    ∙ ap (λ clause. after_clause clause (claims_budget (2 ^ g.row.B)
-    (horizon c.args.unit.now.cede c.args.cells) c.args.unit.now)) (sym c.in-None.is)
+pub none_budget-requires-clause-changed : goal.none_budget-requires-clause-changed
+none_budget-requires-clause-changed g c = (c.in-Some.field-0, new_zero c.requires.valid.0 c.args.unit.now c.in-Some.field-0 c.requires.valid.1 c.in-Some.is)

@@ -1,20 +1,8 @@
-use Rattle.dl_budget.proofs.Common.{◌+◌, ◌^◌, ap, ap₂, arith, sym, subst, ◌∙◌, sum_by, horizon, part_width, claims_budget}
-use Rattle.dl_plan.specs.Horizon.{IsHorizonOf}
-use Rattle.dl_plan.specs.MeanWidth.{mean_width}
-use Rattle.dl_budget.proofs.Horizons.{on_horizon, edges_few}
+use Rattle.dl_plan.proofs.ValidUnits.{new_zero}
 use Rattle.dl_budget.proofs.units.unit_mean_budget.Goals as goal
 
-pub layers_budget-requires-clause-inside : goal.layers_budget-requires-clause-inside
-layers_budget-requires-clause-inside g c =
-    edges_few _ c.args.cells c.horizon.result _ c.layers.ensures
-    (subst (λ o. IsHorizonOf o c.args.cells c.horizon.result) c.in-Some.is c.horizon.ensures.horizon)
-    c.horizon.ensures.few
+pub whole_mean-requires-clause-changed : goal.whole_mean-requires-clause-changed
+whole_mean-requires-clause-changed g c = (c.in-Some.field-0, new_zero c.args.cells c.args.unit.now c.in-Some.field-0 c.requires.valid c.in-Some.is)
 
-pub returns-in-Some-clause-value : goal.returns-in-Some-clause-value
-returns-in-Some-clause-value g c =
-    let before = on_horizon (2 ^ g.row.B) c.args.cells c.args.cells c.args.unit.now c.horizon.result _ c.requires.valid
-    c.horizon.ensures.horizon c.claims_budget-before.ensures.value in
-    ap (λ t. 1 + t) (c.layers_budget.ensures.value
-    ∙ ap₂ (λ budget layers. sum_by (λ l. part_width budget l.limit l.attach) layers) before c.layers.ensures)
-    ∙ ap (λ clause. mean_width clause (claims_budget (2 ^ g.row.B)
-    (horizon c.args.unit.now.cede c.args.cells) c.args.unit.now)) (sym c.in-Some.is)
+pub none_budget-requires-clause-changed : goal.none_budget-requires-clause-changed
+none_budget-requires-clause-changed g c = (c.in-Some.field-0, new_zero c.args.cells c.args.unit.now c.in-Some.field-0 c.requires.valid c.in-Some.is)

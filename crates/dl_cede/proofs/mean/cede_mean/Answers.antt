@@ -37,3 +37,10 @@ returns-in-None-clause-small g c = λ cells valid. omega (arith, c.claims_mean-c
 pub returns-in-None-clause-holds : goal.returns-in-None-clause-holds
 returns-in-None-clause-holds g c = plain_holds c.args.unit.now c.claims_mean-claims.result c.in-None.is
     c.claims_mean-claims.ensures.holds
+
+pub returns-in-Some-clause-few : goal.returns-in-Some-clause-few
+returns-in-Some-clause-few g c = λ n within.
+    omega (arith, c.kept_mean.ensures.small, c.claims_mean-claims.ensures.few n within)
+
+pub returns-in-None-clause-few : goal.returns-in-None-clause-few
+returns-in-None-clause-few g c = λ n within. omega (arith, c.claims_mean-claims.ensures.few n within)

@@ -1,6 +1,6 @@
 use Rattle.dl_cede.proofs.Common.{arith}
 use Rattle.dl_cede.proofs.MeanSizes.{amounts_near, unit_small, claims_fit}
-use Rattle.dl_cede.proofs.MeanEnds.{claims_hold, nearest_ends}
+use Rattle.dl_cede.proofs.MeanEnds.{ceiling_within, claims_hold, nearest_ends}
 use Rattle.dl_cede.proofs.mean.claims_mean.Goals as goal
 
 pub mean_parts-num-requires-clause-near : goal.mean_parts-num-requires-clause-near
@@ -49,3 +49,6 @@ returns-clause-small g c = λ cells valid.
       unit_small g.row.B c.args.unit.now c.mean_parts-num.result.0 c.mean_parts-num.result.1 cells valid
           parts.positive parts.value,
     )
+
+pub returns-clause-few : goal.returns-clause-few
+returns-clause-few g c = λ n within. ceiling_within c.args.unit.now c.enclose.result n (returns-clause-ends g c) within

@@ -1,8 +1,36 @@
+use Rattle.dl_eval.proofs.Common.{arith}
 use Rattle.dl_eval.proofs.Means.{clause_unit_mean}
+use Rattle.dl_eval.proofs.ZeroLaws.{small_before}
 use Rattle.dl_eval.proofs.units.outcomes_of.Goals as goal
 
-pub returns-clause-mean : goal.returns-clause-mean
-returns-clause-mean g c =
-    clause_unit_mean c.args.cells c.args.unit.now c.in_ok-claims.claims c.cede_mean-mean.result c.requires.valid
-    c.cede_mean-mean.ensures.holds c.cede_mean-mean.ensures.width
-    c.in_ok-claims.ensures.horizon c.in_ok-claims.ensures.spread
+pub after_zero-requires : goal.after_zero-requires
+after_zero-requires g c =
+    let u = c.args.unit.now in
+    let mean = c.cede_mean-mean in (
+      omega arith,
+      (
+        omega arith,
+        (
+          c.requires.scale,
+          (
+            c.requires.valid,
+            (
+              c.requires.some,
+              (
+                c.requires.few,
+                (
+                  c.in_ok-grid.ensures,
+                  (
+                    clause_unit_mean c.args.cells u c.in_ok-claims.claims mean.result c.requires.valid
+                        mean.ensures.holds mean.ensures.width c.in_ok-claims.ensures.horizon
+                        c.in_ok-claims.ensures.spread,
+                    small_before c.args.cells u mean.result c.requires.scale c.requires.valid
+                        (mean.ensures.small c.args.cells c.requires.valid) mean.ensures.few,
+                  ),
+                ),
+              ),
+            ),
+          ),
+        ),
+      ),
+    )

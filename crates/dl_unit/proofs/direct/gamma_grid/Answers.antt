@@ -1,3 +1,4 @@
+use Rattle.dl_plan.specs.Valid.{claims_alone}
 use Rattle.dl_unit.proofs.Common.{◌^◌, arith, rules, ap, sym, subst, IfSome, IfOk-weaker, gamma_of, compound, GridEncloses, Gamma, probability_of, gamma_budget}
 use Rattle.dl_plan.specs.Fine.{HasPartsOf48Bits}
 use Rattle.dl_model.proofs.PlanThin.{gamma_thinned}
@@ -11,7 +12,7 @@ use Rattle.dl_unit.proofs.direct.gamma_grid.Goals as goal
 
 pub gamma_direct-requires : goal.gamma_direct-requires
 gamma_direct-requires g c =
-    let u = c.args.unit.now in
+    let u = claims_alone c.args.freq.now c.args.sev.now in
     let small = subst HasPartsOf48Bits (sym c.thinned-mean.ensures)
     (c.requires.valid.1.thinned (gamma_unbounded u c.args.shape c.requires.count.0 c.requires.count.1)).0 in
     let shape = count_of c.requires.valid.0 u (Gamma c.args.shape c.requires.count.0) c.requires.valid.1
@@ -25,7 +26,7 @@ is_narrow-requires g c =
 
 pub returns-then-is_narrow-clause-encloses : goal.returns-then-is_narrow-clause-encloses
 returns-then-is_narrow-clause-encloses g c =
-    let u = c.args.unit.now in
+    let u = claims_alone c.args.freq.now c.args.sev.now in
     let s = c.args.positive.now in
     let shape = count_of c.requires.valid.0 u (Gamma c.args.shape c.requires.count.0) c.requires.valid.1
     c.requires.count.1 in
@@ -40,7 +41,7 @@ returns-then-is_narrow-clause-encloses g c =
 
 pub gamma_claims-requires : goal.gamma_claims-requires
 gamma_claims-requires g c =
-    let u = c.args.unit.now in
+    let u = claims_alone c.args.freq.now c.args.sev.now in
     let small = subst HasPartsOf48Bits (sym c.thinned-mean.ensures)
     (c.requires.valid.1.thinned (gamma_unbounded u c.args.shape c.requires.count.0 c.requires.count.1)).0 in
     let shape = count_of c.requires.valid.0 u (Gamma c.args.shape c.requires.count.0) c.requires.valid.1
@@ -49,7 +50,7 @@ gamma_claims-requires g c =
 
 pub returns-clause-encloses : goal.returns-clause-encloses
 returns-clause-encloses g c =
-    let u = c.args.unit.now in
+    let u = claims_alone c.args.freq.now c.args.sev.now in
     let shape = count_of c.requires.valid.0 u (Gamma c.args.shape c.requires.count.0) c.requires.valid.1
     c.requires.count.1 in
     IfOk-weaker c.gamma_claims.result _ _ (λ grid copies.
@@ -63,6 +64,6 @@ returns-clause-spread g c =
       arith,
       narrow,
       ap (gamma_budget (2 ^ g.row.B) c.args.cells c.args.shape) c.thinned-mean.ensures,
-      gamma_some (2 ^ g.row.B) c.args.cells c.args.unit.now c.args.shape c.requires.count.0 c.requires.count.1
+      gamma_some (2 ^ g.row.B) c.args.cells (claims_alone c.args.freq.now c.args.sev.now) c.args.shape c.requires.count.0 c.requires.count.1
           c.requires.expected,
     )) c.gamma_claims.ensures.spread

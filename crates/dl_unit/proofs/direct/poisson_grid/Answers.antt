@@ -1,3 +1,4 @@
+use Rattle.dl_plan.specs.Valid.{claims_alone}
 use Rattle.dl_unit.proofs.Common.{◌^◌, arith, ap, sym, subst, IfSome, IfOk-weaker, poisson, compound, GridEncloses, probability_of, thinned_mean, poisson_budget, halvings}
 use Rattle.dl_limits.specs.Limits.{most_expected}
 use Rattle.dl_exact.specs.Fraction.{whole, ◌≤ℚ◌, ◌/ℚ◌}
@@ -13,7 +14,7 @@ use Rattle.dl_unit.proofs.direct.poisson_grid.Goals as goal
 
 pub poisson_direct-requires : goal.poisson_direct-requires
 poisson_direct-requires g c =
-    let u = c.args.unit.now in
+    let u = claims_alone c.args.freq.now c.args.sev.now in
     let small = subst (λ m. HasPartsOf48Bits m × (m ≤ℚ whole most_expected)) (sym c.thinned-mean.ensures)
     (c.requires.valid.1.thinned (poisson_unbounded u c.requires.count.0 c.requires.count.1)) in (
       omega arith,
@@ -30,7 +31,7 @@ is_narrow-requires g c =
 
 pub returns-then-is_narrow-clause-encloses : goal.returns-then-is_narrow-clause-encloses
 returns-then-is_narrow-clause-encloses g c =
-    let u = c.args.unit.now in
+    let u = claims_alone c.args.freq.now c.args.sev.now in
     let s = c.args.positive.now in
     let told : GridEncloses c.in-Some.grid (compound (poisson c.thinned-mean.result) (probability_of s)) =
     subst (λ made. IfSome made (λ grid. GridEncloses grid
@@ -40,7 +41,7 @@ returns-then-is_narrow-clause-encloses g c =
 
 pub poisson_claims-requires : goal.poisson_claims-requires
 poisson_claims-requires g c =
-    let u = c.args.unit.now in
+    let u = claims_alone c.args.freq.now c.args.sev.now in
     let small = subst (λ m. HasPartsOf48Bits m × (m ≤ℚ whole most_expected)) (sym c.thinned-mean.ensures)
     (c.requires.valid.1.thinned (poisson_unbounded u c.requires.count.0 c.requires.count.1)) in (
       omega arith,
@@ -52,7 +53,7 @@ poisson_claims-requires g c =
 
 pub returns-clause-encloses : goal.returns-clause-encloses
 returns-clause-encloses g c =
-    let u = c.args.unit.now in
+    let u = claims_alone c.args.freq.now c.args.sev.now in
     IfOk-weaker c.poisson_claims.result _ _ (λ grid copies.
     grid_same grid _ _ (poisson_thinned u c.args.positive.now c.requires.count.0
     (halvings (thinned_mean u)) c.requires.count.1 c.requires.means)
@@ -67,5 +68,5 @@ returns-clause-spread g c =
       arith,
       narrow,
       ap (poisson_budget (2 ^ g.row.B) c.args.cells) c.thinned-mean.ensures,
-      poisson_some (2 ^ g.row.B) c.args.cells c.args.unit.now c.requires.count.0 c.requires.count.1 c.requires.expected,
+      poisson_some (2 ^ g.row.B) c.args.cells (claims_alone c.args.freq.now c.args.sev.now) c.requires.count.0 c.requires.count.1 c.requires.expected,
     )) c.poisson_claims.ensures.spread

@@ -2,7 +2,7 @@
 use Rattle.dl_plan.proofs.Common.{◌∙◌, ap₂, sym, subst, ◌*ℚ◌, FitsFrac}
 use Rattle.dl_plan.proofs.Fits.{given_ok, given_value}
 use Rattle.dl_plan.proofs.Means.{admitted_fits}
-use Rattle.dl_plan.proofs.plan.Unit.thinned.Goals as goal
+use Rattle.dl_plan.proofs.plan.Freq.thinned.Goals as goal
 
 pub unwrap-requires : goal.unwrap-requires
 unwrap-requires c =

@@ -1,12 +1,13 @@
+use Rattle.dl_plan.specs.Valid.{claims_alone}
 use Rattle.dl_unit.proofs.Common.{arith, sym, ◌∙◌, nothing, compound_of, none_thinned, spread_none, if_ok_three}
 use Rattle.dl_model.proofs.FiniteCounts.{all_at_zero_encloses}
 use Rattle.dl_unit.proofs.Families.{grid_same}
 use Rattle.dl_unit.proofs.CountKinds.{gamma_unbounded}
-use Rattle.dl_unit.proofs.unit.gamma_unit.Goals as goal
+use Rattle.dl_unit.proofs.unit.gamma_sum.Goals as goal
 
 pub returns-in-None-clause-encloses : goal.returns-in-None-clause-encloses
 returns-in-None-clause-encloses g c =
-    let u = c.args.unit.now in
+    let u = claims_alone c.args.freq.now c.args.sev.now in
     let none = c.in_ok-positive.ensures.none c.in-None.is in
     if_ok_three c.zero.result _ _ _ _ (λ grid cells low high.
     grid_same grid nothing (compound_of u.freq u.sev)

@@ -1,5 +1,5 @@
 use Rattle.dl_budget.specs.Claims.{count_budget}
-use Rattle.dl_unit.proofs.unit.unit_grid_with.Goals as goal
+use Rattle.dl_unit.proofs.unit.sum_grid.Goals as goal
 
 pub returns-in-Fixed-clause-encloses : goal.returns-in-Fixed-clause-encloses
 returns-in-Fixed-clause-encloses g c = rw c.in-Fixed.is c.fixed_claims.ensures.encloses

@@ -1,0 +1,187 @@
+-- A unit whose probability of no claim is changed: its grid and its mean from those before the change.
+use Rattle.dl_eval.proofs.Common.{ℕ, zero, ◌≡◌, ◌+◌, ◌-◌, ◌*◌, ◌^◌, ◌<◌, ◌≤◌, List, [], ◌∷◌, length, arith, inl, inr, sym, ap, subst, ◌∙◌, None, Some, Option, IfSome, mul-le-mul_left, pow_pos, Fraction, whole, ◌over◌, ◌≤ℚ◌, ◌<ℚ◌, Iv, spread, Holds, GridEncloses, Aggregate, loss, unit_declared, Loss, One, Mean, partial_sums, aggregate_of, loss_of, IsValidUnit, horizon, mean_width, claims_budget, after_clause, IsUnitGrid, IsUnitMean}
+use Rattle.dl_limits.specs.Limits.{IsPlanScale, bits_of, most_amount_at, most_expected, most_none_budget}
+use Rattle.dl_exact.specs.Sum.{sum_to}
+use Rattle.dl_exact.specs.Fraction.{◌*ℚ◌}
+use Rattle.dl_exact.proofs.Laws.{one_pos, times_comm}
+use Rattle.dl_exact.proofs.Over.{le_over, over_self}
+use Rattle.dl_exact.proofs.RoundingLaws.{ceiling_div}
+unfoldable use Rattle.dl_grid.specs.Width.{up}
+use Rattle.dl_plan.specs.declared.plan.Unit.{Unit as UnitOfPlan}
+use Rattle.dl_plan.specs.Valid.{declared_mean, IsNewZero}
+use Rattle.dl_plan.proofs.ValidUnits.{mean_most, new_zero}
+use Rattle.dl_model.specs.Series.{Series, IsBound, Rises, AtLeast, AtMost}
+use Rattle.dl_model.specs.ChangedZero.{changed}
+use Rattle.dl_model.specs.Measures.{IsDeclaredLoss}
+use Rattle.dl_model.specs.Units.{IsDeclared}
+use Rattle.dl_model.specs.Plans.{after_zero, count_weights}
+use mathlib.Core.Path.{fun_ext}
+use Rattle.dl_model.proofs.Alike.{cancel}
+use Rattle.dl_model.proofs.FamilyLaws.{sum_rises_to}
+use Rattle.dl_model.proofs.Declared.{at_most_wider}
+use Rattle.dl_model.proofs.NewZero.{count_new_zero}
+use Rattle.dl_model.proofs.PlanMeans.{mean_at_most}
+use Rattle.dl_model.proofs.Outcomes.{total_alone_all}
+use Rattle.dl_model.proofs.UnitLosses.{unit_declared_loss}
+use Rattle.dl_budget.specs.Claims.{none_budget}
+use Rattle.dl_budget.specs.Units.{after_zero as budget_after_zero, mean_after_zero}
+use Rattle.dl_budget.proofs.NoneSizes.{none_small}
+use Rattle.dl_zero.specs.Before.{HoldsNone, HoldsMean, IsBefore}
+use Rattle.dl_zero.specs.Ends.{changed_spread, changed_mean_width}
+use Rattle.dl_cede.specs.Means.{most_claims_mean, most_limited}
+use Rattle.dl_eval.specs.Totals.{most_clause_mean, IsClauseGrid, IsClauseMean}
+use Rattle.dl_eval.proofs.Scales.{changed_fits, mean_fits, scale_least}
+
+-- ---- a unit without a change
+
+pub same_grid : {B : ℕ} (cells : ℕ) (u : UnitOfPlan) (g : List (Iv B)) → u.zero ≡ None → IsClauseGrid cells u g
+    → IsUnitGrid cells u g
+same_grid {B} cells u g none h = record {
+  cells = h.cells;
+  encloses = subst (λ z. GridEncloses g (after_zero z (aggregate_of u)).family) (sym none) h.encloses;
+  narrow = omega (
+    arith,
+    h.narrow,
+    ap (λ z. budget_after_zero z cells (none_budget (2 ^ B) u.freq)
+        (after_clause u.cede (claims_budget (2 ^ B) (horizon u.cede cells) u))) none,
+  );
+}
+
+pub same_mean : {B : ℕ} (cells : ℕ) (u : UnitOfPlan) (mean : Iv B) → u.zero ≡ None → IsClauseMean cells u mean
+    → IsUnitMean cells u mean
+same_mean {B} cells u mean none h = record {
+  holds = subst (λ z. Holds (partial_sums (after_zero z (aggregate_of u) ∷ []) Mean)
+      (partial_sums (after_zero z (aggregate_of u) ∷ []) One) (mean.lo over 2 ^ B) (mean.hi over 2 ^ B)) (sym none)
+      h.holds;
+  narrow = omega (
+    arith,
+    h.narrow,
+    ap (λ z. mean_after_zero z (up (declared_mean u)) (none_budget (2 ^ B) u.freq)
+        (mean_width u.cede (claims_budget (2 ^ B) (horizon u.cede cells) u))) none,
+  );
+}
+
+-- ---- a value between its ends
+
+-- a declared value over a bounded and positive series that is at least l and at most h
+least_most : (Q R : Series) (l h bound : Fraction) (level : ℕ) → Rises R → IsBound R bound → whole 0 <ℚ R level
+    → AtLeast Q R l → AtMost Q R h → l ≤ℚ h
+least_most Q R l h bound level rise bounded positive least most =
+    cancel R rise bound level bounded positive l h (λ e be k.
+    subst (λ t. t ≤ℚ h *ℚ e) (times_comm l (R k)) (least k (h *ℚ e) (λ m. most m e be)))
+
+-- the same of ends in units
+low_within : (S lo a b : ℕ) → 0 < S → 0 < b → lo over S ≤ℚ a over b → lo * b ≤ a * S
+low_within S lo a b pos some within = le_over lo S a b pos some within
+
+module _ {B : ℕ} (cells : ℕ) (u : UnitOfPlan) (p : Fraction) (none : Iv B) (scale : IsPlanScale B)
+    (valid : IsValidUnit cells u) (is : u.zero ≡ Some p) (holds : HoldsNone (aggregate_of u) none)
+    (width : none.hi - none.lo ≤ none_budget (2 ^ B) u.freq) where
+  zero_of : IsNewZero u.freq p
+  zero_of = new_zero cells u p valid is
+
+  declared : IsDeclared (aggregate_of u)
+  declared = unit_declared cells u valid
+
+  -- the probability of no claim is at most 16 / 17 before the change
+  pub none_low : 17 * none.lo ≤ 16 * 2 ^ B
+  none_low =
+      let count = declared.count in
+      let low = least_most (λ N. count_weights u.freq zero) (λ N. sum_to N (count_weights u.freq)) _ _ count.bound
+      count.level (sum_rises_to (count_weights u.freq)) count.bounded count.positive holds.0 (count_new_zero u.freq p valid.count zero_of) in
+      omega (arith, low_within (2 ^ B) none.lo 16 17 (pow_pos B) (omega arith) low)
+
+  pub none_high : 18 * none.hi ≤ 17 * 2 ^ B
+  none_high = omega (
+    arith,
+    none_low,
+    width,
+    none_small B u.freq p scale valid.count zero_of,
+    scale_least B scale,
+  )
+
+  pub before : (g : List (Iv B)) → IsClauseGrid cells u g → IsBefore (aggregate_of u) g none
+  before g h = record { declared = declared; grid = h.encloses; none = holds }
+
+  pub changed_grid : (g made : List (Iv B)) → IsClauseGrid cells u g → length made ≡ length g
+      → ((a : Aggregate) → IsBefore a g none → GridEncloses made (changed p a).family)
+      → spread made ≤ changed_spread (spread g) (none.hi - none.lo) (length g) → IsUnitGrid cells u made
+  changed_grid g made h many encloses narrow = record {
+    cells = many ∙ h.cells;
+    encloses = subst (λ z. GridEncloses made (after_zero z (aggregate_of u)).family) (sym is)
+        (encloses (aggregate_of u) (before g h));
+    narrow = omega (
+      arith,
+      narrow,
+      width,
+      h.narrow,
+      h.cells,
+      ap (λ z. budget_after_zero z cells (none_budget (2 ^ B) u.freq)
+          (after_clause u.cede (claims_budget (2 ^ B) (horizon u.cede cells) u))) is,
+    );
+  }
+
+  -- a whole number that the mean before is at most
+  most : ℕ
+  most = up (declared_mean u)
+
+  mean_within : declared_mean u ≤ℚ whole most
+  unfolding most up
+  mean_within =
+      let mean = declared_mean u in
+      subst (λ x. x ≤ℚ whole (up mean)) (over_self mean) (ceiling_div mean.num mean.den mean.positive).above
+
+  mean_low : (mean : Iv B) → IsClauseMean cells u mean → mean.lo ≤ most * 2 ^ B
+  mean_low mean h =
+      let l = loss (aggregate_of u) in
+      let d : IsDeclaredLoss l = unit_declared_loss (aggregate_of u) declared in
+      let all : partial_sums (l ∷ []) One ≡ l.family.all = fun_ext (total_alone_all l d.loss) in
+      let low = least_most (partial_sums (l ∷ []) Mean) l.family.all _ (whole most) d.bound d.level
+      (sum_rises_to (count_weights u.freq)) d.bounded d.positive
+      (subst (λ (R : Series). AtLeast (partial_sums (l ∷ []) Mean) R (mean.lo over 2 ^ B)) all h.holds.0)
+      (subst (λ (R : Series). AtMost (partial_sums (l ∷ []) Mean) R (whole most)) all
+      (at_most_wider _ _ _ _ (mean_at_most cells u valid) mean_within)) in
+      omega (arith, low_within (2 ^ B) mean.lo most 1 (pow_pos B) one_pos low)
+
+  pub changed_mean : (mean made : Iv B) → IsClauseMean cells u mean
+      → ((a : Aggregate) → IsDeclared a → HoldsMean (loss a) mean → HoldsNone a none → HoldsMean (changed p a) made)
+      → ((m : ℕ) → mean.lo ≤ m * 2 ^ B → 17 * none.lo ≤ 16 * 2 ^ B
+      → made.hi - made.lo ≤ changed_mean_width (mean.hi - mean.lo) m (none.hi - none.lo))
+      → IsUnitMean cells u made
+  unfolding most
+  changed_mean mean made h held narrow = record {
+    holds = subst (λ z. Holds (partial_sums (after_zero z (aggregate_of u) ∷ []) Mean)
+        (partial_sums (after_zero z (aggregate_of u) ∷ []) One) (made.lo over 2 ^ B) (made.hi over 2 ^ B)) (sym is)
+        (held (aggregate_of u) declared h.holds holds);
+    narrow = omega (
+      arith,
+      narrow most (mean_low mean h) none_low,
+      mul-le-mul_left (306 * most) width,
+      h.narrow,
+      mean.ordered,
+      ap (λ z. mean_after_zero z (up (declared_mean u)) (none_budget (2 ^ B) u.freq)
+          (mean_width u.cede (claims_budget (2 ^ B) (horizon u.cede cells) u))) is,
+    );
+  }
+
+-- ---- how large the mean is before the change
+
+pub small_before : {B : ℕ} (cells : ℕ) (u : UnitOfPlan) (mean : Iv B) → B ≡ bits_of cells → IsValidUnit cells u
+    → mean.hi ≤ most_claims_mean cells (2 ^ B) + most_limited (2 ^ B)
+    → ((n : ℕ) → declared_mean u ≤ℚ whole n → mean.hi ≤ n * 2 ^ B + most_limited (2 ^ B))
+    → mean.hi ≤ most_clause_mean u.zero
+small_before {B} cells u mean same valid small few = by_zero u.zero valid.zero
+  where
+    by_zero : (z : Option Fraction) → IfSome z (IsNewZero u.freq) → mean.hi ≤ most_clause_mean z
+    by_zero None h = mean_fits B cells mean.hi same small
+    by_zero (Some p) h = changed_fits B cells mean.hi same
+        (few (most_expected * most_amount_at cells) (mean_most most_expected (most_amount_at cells) u h.most valid.amounts))
+
+-- where the probability of no claim is changed, and in any unit
+pub changed_small : (u : UnitOfPlan) (p : Fraction) (hi : ℕ) → u.zero ≡ Some p → hi ≤ most_clause_mean u.zero
+    → hi ≤ 2 ^ 88 + 2 ^ 82
+changed_small u p hi is small = subst (λ z. hi ≤ most_clause_mean z) is small
+
+pub most_small : (z : Option Fraction) (hi : ℕ) → hi ≤ most_clause_mean z → hi ≤ 2 ^ 93
+most_small None hi small = small
+most_small (Some p) hi small = omega (arith, small)

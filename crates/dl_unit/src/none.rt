@@ -1,0 +1,40 @@
+//! The probability of no claim of a claim count.
+
+ghost use Rattle.std.specs.Prelude.{ℕ, ◌-◌, ◌^◌, ◌≤◌, zero, IfOk};
+ghost use Rattle.dl_limits.specs.Limits.{IsPlanScale};
+ghost use Rattle.dl_exact.specs.Fraction.{Fraction, ◌over◌};
+ghost use Rattle.dl_exact.specs.Sum.{sum_to};
+ghost use Rattle.dl_model.specs.Series.{Holds};
+ghost use Rattle.dl_model.specs.Plans.{count_weights};
+ghost use Rattle.dl_plan.specs.Count.{expected_count, IsClaimCount};
+ghost use Rattle.dl_plan.specs.Fine.{HasPartsOf48Bits};
+ghost use Rattle.dl_plan.specs.Valid.{IsNewZero};
+ghost use Rattle.dl_budget.specs.Claims.{none_budget};
+
+use crate::unit::sum_grid;
+use dl_grid::Grid;
+use dl_iv::Iv;
+use dl_plan::{Freq, Sev};
+use dl_product::Workspace;
+use std::alloc::{AllocError, Global};
+
+/// The probability of no claim of a count of a valid plan in which it can be changed: cell 0 of
+/// claims of amount 1 alone, on one cell. A claim of the unit's own severity may be 0, so that cell
+/// 0 of the unit's own grid is no bound of it.
+pub fn none_of<const B: u32>(
+    alloc: Global,
+    work: &mut Workspace,
+    freq: &Freq,
+) -> Result<Iv<B>, AllocError>
+    requires scale { IsPlanScale B }
+    requires count { IsClaimCount freq.now }
+    requires expected { HasPartsOf48Bits (expected_count freq.now) }
+    requires changed { (p : Fraction) × IsNewZero freq.now p }
+    ensures holds { IfOk result (λ none. Holds (λ N. count_weights freq.now zero)
+        (λ N. sum_to N (count_weights freq.now)) (none.lo over 2 ^ B) (none.hi over 2 ^ B)) }
+    ensures width { IfOk result (λ none. none.hi - none.lo ≤ none_budget (2 ^ B) freq.now) }
+{
+    let sev = Sev::alone(alloc, 1)?;
+    let grid: Grid<B> = sum_grid(alloc, work, freq, &sev, 1)?;
+    Ok(grid.at(0))
+}
