@@ -4,6 +4,8 @@ use Rattle.dl_amounts.specs.GridKept.{IsWithin}
 use Rattle.std.specs.Prelude.{Result, OnOk, IfOk, IfErr}
 use Rattle.std.specs.Result.{IsErr, IsErrAnd}
 use Rattle.dl_plan.specs.declared.plan.Unit.{Unit as UnitOfPlan}
+use Rattle.dl_plan.specs.Valid.{IsNewZero}
+use Rattle.std.specs.Option.{IfSome}
 use Rattle.dl_amounts.specs.Kept.{IsLayered, IsFineSev}
 use Rattle.dl_amounts.proofs.Shared.{all_left, all_shared}
 use Rattle.dl_amounts.specs.Rules.{overlap, share_above_one}
@@ -19,7 +21,7 @@ use Rattle.dl_types.specs.Rules.{zero_base}
 use Rattle.dl_types.proofs.Aggregates.{aggregate_valid}
 use Rattle.dl_types.proofs.FineClaims.{fine_left, fine_lists, occ_shares, agr_shares}
 use Rattle.dl_types.proofs.KeptCounts.{AreWhole, AreKept, whole_count, count_kept}
-use Rattle.dl_types.proofs.PlannedCounts.{claims_admitted, made_valid, made_is, made_thinned}
+use Rattle.dl_types.proofs.PlannedCounts.{claims_admitted, made_valid, made_is, made_zero, made_thinned}
 
 -- ---- rules that are not broken
 
@@ -171,7 +173,8 @@ module _ (bs : Fraction) (unit : ℕ) (u : GridUnit) (grid : IsGridUnit u) (none
 
   module _ (cells : ℕ) (ceded : off_grid_cession u ≡ None) (near : horizon_too_large cells u.agr ≡ None)
       (within : IsWithin (most_amount_at cells) u) (text : List ℕ)
-      (made : UnitOfPlan) (name : made.name ≡ text) (zero : made.zero ≡ None) (sev : IsFinal u made.sev)
+      (made : UnitOfPlan) (name : made.name ≡ text) (zero : made.zero ≡ u.zero)
+      (base : zero_base u.count u.zero n ≡ None) (sev : IsFinal u made.sev)
       (freq : IsCountMade u.count n made.freq)
       (cede : IsCedeOf u.agr made.cede) where
     pub unit_is : IsUnitOn bs text u made
@@ -193,7 +196,8 @@ module _ (bs : Fraction) (unit : ℕ) (u : GridUnit) (grid : IsGridUnit u) (none
           expected = valid.1;
           thinned = made_thinned (final_severity u) made.sev sev.means u.count n made.freq are_kept freq;
           clause = aggregate_valid cells u ceded fine_occ near within made.sev sev.means made.cede cede;
-          zero = zero;
+          zero = subst (λ z. IfSome z (IsNewZero made.freq)) (sym zero)
+              (made_zero u.count n u.zero made.freq kept_is freq grid.zero base);
         }
 
 -- ---- all rules on the unit in whole buckets
@@ -254,24 +258,24 @@ grid_parts settings unit u none =
 module _ (settings : Settings) (unit : ℕ) (u : GridUnit) (grid : IsGridUnit u)
     (within : IsWithin (most_amount_at (cells_asked settings)) u)
     (none : fault_on_grid settings unit u ≡ None) (text : List ℕ) where
-  pub grid_answer : (made : UnitOfPlan) → made.name ≡ text → made.zero ≡ None → IsFinal u made.sev
+  pub grid_answer : (made : UnitOfPlan) → made.name ≡ text → made.zero ≡ u.zero → IsFinal u made.sev
       → IsCountMade u.count (expected_claims settings.bs u) made.freq → IsCedeOf u.agr made.cede
       → AnswersGrid settings unit text u (Ok made)
   grid_answer made name zero sev freq cede =
       let parts = grid_parts settings unit u none in
       let ceded = (layered_is unit u grid parts.0).1 in (
         none,
-        unit_is settings.bs unit u grid parts.1 (cells_asked settings) ceded parts.2 within text made name zero sev
-            freq cede,
-        unit_valid settings.bs unit u grid parts.1 (cells_asked settings) ceded parts.2 within text made name zero sev
-            freq cede,
+        unit_is settings.bs unit u grid parts.1 (cells_asked settings) ceded parts.2 within text made name zero parts.3
+            sev freq cede,
+        unit_valid settings.bs unit u grid parts.1 (cells_asked settings) ceded parts.2 within text made name zero parts.3
+            sev freq cede,
       )
 
   -- the unit is made of these parts, or there is no room for it
   pub made_answer : (sev : Sev) (clause : Option Clause) → IsFinal u sev → IsCedeOf u.agr clause
       → (r : Result UnitOfPlan CheckFault) → IfOk r (λ made. made.name ≡ text) → IfOk r (λ made. made.sev ≡ sev)
       → IfOk r (λ made. IsCountMade u.count (expected_claims settings.bs u) made.freq)
-      → IfOk r (λ made. made.cede ≡ clause) → IfOk r (λ made. made.zero ≡ None) → IfErr r (λ stop. stop ≡ OutOfMemory)
+      → IfOk r (λ made. made.cede ≡ clause) → IfOk r (λ made. made.zero ≡ u.zero) → IfErr r (λ stop. stop ≡ OutOfMemory)
       → AnswersGrid settings unit text u r
   made_answer sev clause final cede (Ok made) name same freq kept plain room =
       grid_answer made name plain (subst (IsFinal u) (sym same) final) freq (subst (IsCedeOf u.agr) (sym kept) cede)
