@@ -138,6 +138,12 @@ fault_of_severity before d =
 unfoldable pub not_yet : Program → Option TypeFault
 not_yet program = breaks 0 rules.NotYet (shared_factor program.port)
 
+-- the rules on the whole portfolio, and then what has no value yet
+unfoldable pub fault_of_port : Program → Option TypeFault
+fault_of_port program =
+    breaks 0 rules.CommonShape (common_shape program.port)
+    else not_yet program
+
 -- more than 16 units first; then the named severities and the units in the order of the text; then
 -- the whole portfolio
 unfoldable pub first_fault : Program → Settings → Option TypeFault
