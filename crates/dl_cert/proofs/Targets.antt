@@ -69,7 +69,7 @@ unfolding power ◌^ℚ◌
 no_times F = values_same (times_itself F 0) nothing (λ y N. refl) (λ N. refl)
 
 module _ (sev : Sev) (v : Fraction) where
-  above_within : (e : Fraction) → v ≡ e *ℚ positive sev → v.num ≢ 0 → IsWithinOne (above_zero sev)
+  pub above_within : (e : Fraction) → v ≡ e *ℚ positive sev → v.num ≢ 0 → IsWithinOne (above_zero sev)
   above_within e is some =
       part_within (probability_of sev) (positive sev) (above_zero sev) (given_part sev)
       (some_positive e (positive sev) v is some) (within_one sev)
@@ -153,7 +153,7 @@ total_values cells us h =
       positive = some.1;
     }
 
-parts_values : (cells : ℕ) (us : List UnitOfPlan) → All (IsValidUnit cells) us → All HasValues (map unit_part us)
+pub parts_values : (cells : ℕ) (us : List UnitOfPlan) → All (IsValidUnit cells) us → All HasValues (map unit_part us)
 parts_values cells [] h = All-nil HasValues
 parts_values cells (u ∷ us) h =
     let here = All-head (IsValidUnit cells) u us h in

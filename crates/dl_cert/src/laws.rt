@@ -1,13 +1,16 @@
-//! The laws of labels, over the definitions alone. Nothing here runs.
+//! The laws of labels and of steps that pass, over the definitions alone. Nothing here runs.
 
 ghost use Rattle.std.specs.Prelude.{ℕ, ◌≡◌, ◌<◌, List, length, get_or};
-ghost use Rattle.dl_model.specs.Family.{Family, product, nothing, SameCells, Encloses};
+ghost use Rattle.dl_model.specs.Family.{Family, product, nothing, SameCells, Encloses, GridEncloses};
+ghost use Rattle.dl_iv.specs.declared.interval.Iv.{Iv};
 ghost use Rattle.dl_plan.specs.declared.plan.Plan.{Plan};
 ghost use Rattle.dl_plan.specs.Valid.{IsValid};
 ghost use Rattle.dl_model.specs.Program.{total};
 ghost use Rattle.dl_model.specs.Plans.{aggregates_of};
 ghost use Rattle.dl_cert.specs.Covered.{IsCovered};
 ghost use Rattle.dl_cert.specs.Targets.{parts_of_plan, target};
+ghost use Rattle.dl_cert.specs.Steps.{Step};
+ghost use Rattle.dl_cert.specs.Passes.{Certifies};
 ghost use Rattle.dl_cert.specs.Labels.{Label, no_unit, once, together, labelled, HasValues};
 
 /// Products of families with the same declared values have the same declared values.
@@ -39,4 +42,12 @@ pub fn law_target()
     ensures encloses { (plan : Plan) (scale cells : ℕ) (lo hi : ℕ → ℕ) → IsValid plan
         → IsCovered plan → Encloses scale cells lo hi (labelled (parts_of_plan plan) (target plan))
         → Encloses scale cells lo hi (total (aggregates_of plan)) }
+{}
+
+/// The grid of steps that pass one after the other encloses the total of the plan, where the last
+/// of them counts each unit as often as the target does.
+pub fn law_certified()
+    ensures { (plan : Plan) (steps : List Step) (grid : List (Iv 56)) → IsValid plan
+        → IsCovered plan → Certifies plan steps grid
+        → GridEncloses grid (total (aggregates_of plan)) }
 {}

@@ -34,7 +34,8 @@ first_one f p n x y a b = elim (cases_lt x y) [
 pub not_past : {B : ℕ} (grid : List (Iv B)) (p : Fraction) (x : ℕ)
     → IsFirstFound (low_cdf (2 ^ B) (low_at grid)) p (length grid) (Some x) → IsPast grid p → ⊥
 not_past {B} grid p x found past =
-    let same : length grid ≡ x = first_one (low_cdf (2 ^ B) (low_at grid)) p (length grid) (length grid) x past found.1 in
+    let same : length grid ≡ x =
+    first_one (low_cdf (2 ^ B) (low_at grid)) p (length grid) (length grid) x past found.1 in
     absurd (omega (arith, found.0, same))
 
 -- a cell is no wider than the grid

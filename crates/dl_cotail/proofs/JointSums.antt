@@ -49,7 +49,8 @@ sums_order {B} unit others q =
     pairs_le x (λ y z. y * low_at unit y * low_at others z) (λ y z. y * high_at unit y * high_at others z)
     (λ y z. mul-le-mul (mul-le-mul_left y (omega (arith, high_is unit y))) (omega (arith, high_is others z)))))
 
-module _ {B : ℕ} (unit others : List (Iv B)) (q : ℕ) (p : IsGrid unit) (r : IsGrid others) (inside : q < length unit) where
+module _ {B : ℕ} (unit others : List (Iv B)) (q : ℕ) (p : IsGrid unit) (r : IsGrid others)
+    (inside : q < length unit) where
   pub high_fits : spread unit < 2 ^ B → spread others < 2 ^ B
       → div_ceil (high_sums unit others q) (2 ^ B) ≤ 2 ^ 127
   high_fits narrow thin =
@@ -57,7 +58,8 @@ module _ {B : ℕ} (unit others : List (Iv B)) (q : ℕ) (p : IsGrid unit) (r : 
       (high_mass unit (q + 1) p narrow) (high_mass others (q + 1) r thin) in
       omega (
         arith,
-        div_ceil_least (high_sums unit others q) (2 ^ B) (4 * q * 2 ^ B) (pow_pos B) (omega (arith, most, top (2 ^ B) q)),
+        div_ceil_least (high_sums unit others q) (2 ^ B) (4 * q * 2 ^ B) (pow_pos B)
+            (omega (arith, most, top (2 ^ B) q)),
         cells_fit unit q p (omega arith),
       )
 
@@ -118,7 +120,8 @@ sums_hold {B} unit others us i q inside beside units here e f =
     let S = 2 ^ B in
     let s = pow_pos B in
     let Q = λ (N : ℕ). sum_to q (λ x. partial_sums us (Joint i x) N) in
-    let exact : Holds Q (partial_sums us One) (low_sums unit others q over (S * S)) (high_sums unit others q over (S * S)) =
+    let exact : Holds Q (partial_sums us One) (low_sums unit others q over (S * S))
+    (high_sums unit others q over (S * S)) =
     subst₂ (λ l h. Holds Q (partial_sums us One) l h) (to_over q (S * S) (low_weighted unit others) (mul-pos s s))
     (to_over q (S * S) (high_weighted unit others) (mul-pos s s))
     (to_holds q (λ x. partial_sums us (Joint i x)) (partial_sums us One) (λ x. low_weighted unit others x over (S * S))

@@ -25,7 +25,8 @@ unfolding sum_over_outcomes
 mean_split [] i u w b N = absurd (omega arith)
 mean_split (v ∷ us) zero u w b N =
     sum_to_same (v.reach N) _ (λ y. whole y *ℚ v.family.cells y N *ℚ partial_sums us One N) (λ y h.
-    ap (λ t. v.family.cells y N *ℚ t) (outcomes_same us _ (λ ys. whole y *ℚ score One ys) N (λ ys. sym (times_one (whole y)))
+    ap (λ t. v.family.cells y N *ℚ t) (outcomes_same us _ (λ ys. whole y *ℚ score One ys) N
+    (λ ys. sym (times_one (whole y)))
     ∙ outcomes_times us (whole y) (score One) N) ∙ turn (v.family.cells y N) (whole y) (partial_sums us One N))
     ∙ sum_to_times_right (v.reach N) (partial_sums us One N) (λ y. whole y *ℚ v.family.cells y N)
   where

@@ -99,8 +99,8 @@ pub fn cotail<const B: u32>(
     ensures small { IfSome result (λ r. r.hi ≤ 2 ^ 112) }
     // at a quantile inside the grid there is none only where the distribution is near p, or the
     // quantile is rare
-    ensures absent { (us : List Loss) (x : ℕ) → AreDeclared us → GridEncloses total.now (total_of us)
-        → IsNone result
+    ensures absent { (us : List Loss) (x : ℕ) → AreDeclared us
+        → GridEncloses total.now (total_of us) → IsNone result
         → IsFirstFound (low_cdf (2 ^ B) (low_at total.now)) p (length total.now) (Some x)
         → MayBeAbsent (partial_sums us) (length total.now) p (spread total.now over 2 ^ B) }
     // within the budget for spreads and means within theirs

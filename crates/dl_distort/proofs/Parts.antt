@@ -53,7 +53,8 @@ part_narrow w l h t m n narrow low high =
 -- ---- how large it is
 
 pub rises : (a b n d : ℕ) → 0 < d → a ≤ b → div_ceil (a * n) d ≤ div_ceil (b * n) d
-rises a b n d pos h = div_ceil_least (a * n) d _ pos (omega (arith, mul-le-mul_right n h, ceiling_reaches (b * n) d pos))
+rises a b n d pos h = div_ceil_least (a * n) d _ pos
+    (omega (arith, mul-le-mul_right n h, ceiling_reaches (b * n) d pos))
 
 pub tail_small : (cells mean den h : ℕ) → cells ≤ 2 ^ 97 → mean ≤ 2 ^ 97 → den ≤ 1000000000 → h ≤ cells + mean * den
     → h ≤ 2 ^ 97 * 1000000001

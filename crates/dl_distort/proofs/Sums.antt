@@ -190,14 +190,16 @@ pub weight_within : (terms : List Term) (i : ℕ) (t : Term) → i < length term
     → weights terms ≡ whole 1 → t.weight ≤ℚ whole 1
 weight_within terms i t inside here one =
     le_trans _ _ _ (subst (λ x. t.weight ≤ℚ x) (plus_comm t.weight (weights (take i terms))
-    ∙ sym (weights_more (take i terms) t) ∙ ap weights (sym (taken terms i t inside ∙ ap (λ x. take i terms ++ x ∷ []) here)))
+    ∙ sym (weights_more (take i terms) t)
+    ∙ ap weights (sym (taken terms i t inside ∙ ap (λ x. take i terms ++ x ∷ []) here)))
     (le_plus _ _)) (subst (λ x. weights (take (i + 1) terms) ≤ℚ x) one (weights_within terms (i + 1)))
 
 -- the sum fits
 pub sum_small : (terms : List Term) (i hi : ℕ) → weights terms ≡ whole 1
     → whole hi ≤ℚ whole most_tail *ℚ weights (take i terms) +ℚ whole i → hi ≤ most_tail + i
 sum_small terms i hi one h =
-    le_whole hi (most_tail + i) (le_trans _ _ _ h (subst (λ x. whole most_tail *ℚ weights (take i terms) +ℚ whole i ≤ℚ x)
+    le_whole hi (most_tail + i) (le_trans _ _ _ h
+    (subst (λ x. whole most_tail *ℚ weights (take i terms) +ℚ whole i ≤ℚ x)
     (ap (λ x. x +ℚ whole i) (ap (λ x. whole most_tail *ℚ x) one ∙ times_one (whole most_tail))
     ∙ sym (whole_plus most_tail i))
     (plus_le_both _ _ _ _ (times_le_both _ _ _ _ (le_refl _) (weights_within terms i)) (le_refl (whole i)))))
@@ -220,7 +222,8 @@ module _ {B : ℕ} (grid : List (Iv B)) (mean : Iv B) (terms : List Term) (i lo 
       → Holds (partial_sums us Mean) (partial_sums us One) (mean.lo over 2 ^ B) (mean.hi over 2 ^ B)
       → AreTermsOf terms priced
       → AtLeast (partial_sums us (Price priced)) (partial_sums us One) (lo over 2 ^ B)
-  all_least us priced d e m is = subst (λ ts. AtLeast (partial_sums us (Price ts)) (partial_sums us One) (lo over 2 ^ B))
+  all_least us priced d e m is =
+      subst (λ ts. AtLeast (partial_sums us (Price ts)) (partial_sums us One) (lo over 2 ^ B))
       (every priced is) (sum.least us priced d e m is)
 
   pub all_narrow : hi - lo ≤ price_width terms (mean.hi - mean.lo) (length grid) (spread grid)

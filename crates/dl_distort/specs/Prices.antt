@@ -19,8 +19,8 @@ AreTermsOf terms priced = map term_of priced ≡ terms
 abbrev pub AreQuantiles : (Quantity → Series) → List PricedTerm → Type 0
 AreQuantiles declares priced = All (λ t. IsQuantile declares t.quantile t.p) priced
 
--- the most units that a tail mean comes to, where the mean is at most 2^97 units, and p has parts of
--- at most 10^9
+-- the most units that a tail mean comes to, where the mean is at most 2^97 units and p has parts
+-- of at most 10^9
 abbrev pub most_tail : ℕ
 most_tail = 2 ^ 97 * 1000000001
 

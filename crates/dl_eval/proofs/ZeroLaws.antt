@@ -1,27 +1,18 @@
 -- A unit whose probability of no claim is changed: its grid and its mean from those before the change.
 use Rattle.dl_eval.proofs.Common.{ℕ, zero, ◌≡◌, ◌+◌, ◌-◌, ◌*◌, ◌^◌, ◌<◌, ◌≤◌, List, [], ◌∷◌, length, arith, inl, inr, sym, ap, subst, ◌∙◌, None, Some, Option, IfSome, mul-le-mul_left, pow_pos, Fraction, whole, ◌over◌, ◌≤ℚ◌, ◌<ℚ◌, Iv, spread, Holds, GridEncloses, Aggregate, loss, unit_declared, Loss, One, Mean, partial_sums, aggregate_of, loss_of, IsValidUnit, horizon, mean_width, claims_budget, after_clause, IsUnitGrid, IsUnitMean}
 use Rattle.dl_limits.specs.Limits.{IsPlanScale, bits_of, most_amount_at, most_expected, most_none_budget}
-use Rattle.dl_exact.specs.Sum.{sum_to}
-use Rattle.dl_exact.specs.Fraction.{◌*ℚ◌}
-use Rattle.dl_exact.proofs.Laws.{one_pos, times_comm}
-use Rattle.dl_exact.proofs.Over.{le_over, over_self}
+use Rattle.dl_exact.proofs.Over.{over_self}
 use Rattle.dl_exact.proofs.RoundingLaws.{ceiling_div}
 unfoldable use Rattle.dl_grid.specs.Width.{up}
 use Rattle.dl_plan.specs.declared.plan.Unit.{Unit as UnitOfPlan}
 use Rattle.dl_plan.specs.Valid.{declared_mean, IsNewZero}
 use Rattle.dl_plan.proofs.ValidUnits.{mean_most, new_zero}
-use Rattle.dl_model.specs.Series.{Series, IsBound, Rises, AtLeast, AtMost}
 use Rattle.dl_model.specs.ChangedZero.{changed}
-use Rattle.dl_model.specs.Measures.{IsDeclaredLoss}
 use Rattle.dl_model.specs.Units.{IsDeclared}
-use Rattle.dl_model.specs.Plans.{after_zero, count_weights}
-use mathlib.Core.Path.{fun_ext}
-use Rattle.dl_model.proofs.Alike.{cancel}
-use Rattle.dl_model.proofs.FamilyLaws.{sum_rises_to}
+use Rattle.dl_model.specs.Plans.{after_zero}
 use Rattle.dl_model.proofs.Declared.{at_most_wider}
 use Rattle.dl_model.proofs.NewZero.{count_new_zero}
 use Rattle.dl_model.proofs.PlanMeans.{mean_at_most}
-use Rattle.dl_model.proofs.Outcomes.{total_alone_all}
 use Rattle.dl_model.proofs.UnitLosses.{unit_declared_loss}
 use Rattle.dl_budget.specs.Claims.{none_budget}
 use Rattle.dl_budget.specs.Units.{after_zero as budget_after_zero, mean_after_zero}
@@ -29,6 +20,7 @@ use Rattle.dl_budget.proofs.NoneSizes.{none_small}
 use Rattle.dl_zero.specs.Before.{HoldsNone, HoldsMean, IsBefore}
 use Rattle.dl_zero.specs.Ends.{changed_spread, changed_mean_width}
 use Rattle.dl_cede.specs.Means.{most_claims_mean, most_limited}
+use Rattle.dl_zero.proofs.Means.{none_low as low_of_none, mean_low as low_of_mean}
 use Rattle.dl_eval.specs.Totals.{most_clause_mean, IsClauseGrid, IsClauseMean}
 use Rattle.dl_eval.proofs.Scales.{changed_fits, mean_fits, scale_least}
 
@@ -61,18 +53,7 @@ same_mean {B} cells u mean none h = record {
   );
 }
 
--- ---- a value between its ends
-
--- a declared value over a bounded and positive series that is at least l and at most h
-least_most : (Q R : Series) (l h bound : Fraction) (level : ℕ) → Rises R → IsBound R bound → whole 0 <ℚ R level
-    → AtLeast Q R l → AtMost Q R h → l ≤ℚ h
-least_most Q R l h bound level rise bounded positive least most =
-    cancel R rise bound level bounded positive l h (λ e be k.
-    subst (λ t. t ≤ℚ h *ℚ e) (times_comm l (R k)) (least k (h *ℚ e) (λ m. most m e be)))
-
--- the same of ends in units
-low_within : (S lo a b : ℕ) → 0 < S → 0 < b → lo over S ≤ℚ a over b → lo * b ≤ a * S
-low_within S lo a b pos some within = le_over lo S a b pos some within
+-- ---- a unit with a change
 
 module _ {B : ℕ} (cells : ℕ) (u : UnitOfPlan) (p : Fraction) (none : Iv B) (scale : IsPlanScale B)
     (valid : IsValidUnit cells u) (is : u.zero ≡ Some p) (holds : HoldsNone (aggregate_of u) none)
@@ -85,11 +66,8 @@ module _ {B : ℕ} (cells : ℕ) (u : UnitOfPlan) (p : Fraction) (none : Iv B) (
 
   -- the probability of no claim is at most 16 / 17 before the change
   pub none_low : 17 * none.lo ≤ 16 * 2 ^ B
-  none_low =
-      let count = declared.count in
-      let low = least_most (λ N. count_weights u.freq zero) (λ N. sum_to N (count_weights u.freq)) _ _ count.bound
-      count.level (sum_rises_to (count_weights u.freq)) count.bounded count.positive holds.0 (count_new_zero u.freq p valid.count zero_of) in
-      omega (arith, low_within (2 ^ B) none.lo 16 17 (pow_pos B) (omega arith) low)
+  none_low = low_of_none (2 ^ B) none.lo (aggregate_of u) (pow_pos B) declared _ holds
+      (count_new_zero u.freq p valid.count zero_of)
 
   pub none_high : 18 * none.hi ≤ 17 * 2 ^ B
   none_high = omega (
@@ -133,15 +111,9 @@ module _ {B : ℕ} (cells : ℕ) (u : UnitOfPlan) (p : Fraction) (none : Iv B) (
 
   mean_low : (mean : Iv B) → IsClauseMean cells u mean → mean.lo ≤ most * 2 ^ B
   mean_low mean h =
-      let l = loss (aggregate_of u) in
-      let d : IsDeclaredLoss l = unit_declared_loss (aggregate_of u) declared in
-      let all : partial_sums (l ∷ []) One ≡ l.family.all = fun_ext (total_alone_all l d.loss) in
-      let low = least_most (partial_sums (l ∷ []) Mean) l.family.all _ (whole most) d.bound d.level
-      (sum_rises_to (count_weights u.freq)) d.bounded d.positive
-      (subst (λ (R : Series). AtLeast (partial_sums (l ∷ []) Mean) R (mean.lo over 2 ^ B)) all h.holds.0)
-      (subst (λ (R : Series). AtMost (partial_sums (l ∷ []) Mean) R (whole most)) all
-      (at_most_wider _ _ _ _ (mean_at_most cells u valid) mean_within)) in
-      omega (arith, low_within (2 ^ B) mean.lo most 1 (pow_pos B) one_pos low)
+      low_of_mean (2 ^ B) mean.lo most (loss (aggregate_of u)) (pow_pos B)
+      (unit_declared_loss (aggregate_of u) declared) _ h.holds
+      (at_most_wider _ _ _ _ (mean_at_most cells u valid) mean_within)
 
   pub changed_mean : (mean made : Iv B) → IsClauseMean cells u mean
       → ((a : Aggregate) → IsDeclared a → HoldsMean (loss a) mean → HoldsNone a none → HoldsMean (changed p a) made)

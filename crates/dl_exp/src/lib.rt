@@ -7,8 +7,11 @@ ghost use Rattle.dl_exact.specs.Fraction.{Fraction, whole, ◌over◌, ◌*ℚ�
 ghost use Rattle.dl_exp.specs.Exponential.{exponential_sum, EnclosesExp};
 ghost use Rattle.dl_exp.specs.Ends.{low_exponential, high_exponential, exp_low, exp_high};
 
+mod laws;
+
 use dl_frac::Frac;
 use dl_iv::Iv;
+pub use laws::law_ends;
 
 /// How many units make 1 in the sums of the series: 2^63, so that a unit times a part of a fraction
 /// fits.

@@ -1,1 +1,2 @@
 mod MeanTests
+mod PriceTests

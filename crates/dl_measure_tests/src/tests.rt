@@ -4,4 +4,6 @@ mod cede_means;
 mod helpers;
 mod measures;
 mod port;
+mod prices;
+mod tail_shares;
 mod zero;

@@ -191,7 +191,7 @@ pub(crate) fn is_below_one(p: Frac) -> bool
 }
 
 /// The fraction, where it is a probability that may be asked for.
-fn level(p: (u32, u32)) -> Option<Frac>
+pub fn level(p: (u32, u32)) -> Option<Frac>
     ensures below_one { IfSome result (λ p. p <ℚ whole 1) }
     ensures small { IfSome result (λ p. p.den ≤ 1000000000) }
 {
@@ -241,7 +241,7 @@ fn holds<const B: u32>(alloc: Global, case: &Covered) -> Result<bool, AllocError
 }
 
 /// The sum of two dice on 16 cells, or the total on so many.
-fn total_of<const B: u32>(alloc: Global, dice: bool, cells: u32) -> Result<Grid<B>, AllocError>
+pub fn total_of<const B: u32>(alloc: Global, dice: bool, cells: u32) -> Result<Grid<B>, AllocError>
     requires scale_above { 1 ≤ B }
     requires scale_below { B ≤ 56 }
 {

@@ -191,5 +191,6 @@ returns-clause-width g c m d o t of_mean of_unit of_others of_total =
     c.joint_sums.result.ordered narrow (c.in_ok-share.ensures.width (spread c.args.total.now)
     (omega (arith, c.at.ensures.low, c.at.ensures.high, cell_narrow c.args.total.now q)))
     (product_narrow S q above.lo above.hi share.lo share.hi (pow_pos g.row.B) above.ordered share.ordered
-    (omega (arith, c.above.ensures.high, c.cdf.ensures.high)) (omega (arith, share.ordered, c.in_ok-share.ensures.most)))
+    (omega (arith, c.above.ensures.high, c.cdf.ensures.high))
+    (omega (arith, share.ordered, c.in_ok-share.ensures.most)))
     low high of_mean of_unit of_others of_total

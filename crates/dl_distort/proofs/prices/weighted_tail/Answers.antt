@@ -21,7 +21,8 @@ returns-clause-holds g c us q d e mean is =
     let weight = ap₂ (λ n m. n over m) c.num.ensures.part c.den.ensures.part ∙ over_self c.args.term.weight in
     let held = c.in_ok-tail.ensures.holds us q d e mean is in
     let low = c.part.ensures.holds (tail.lo over 2 ^ g.row.B) (lies_between tail.lo tail (omega arith) tail.ordered) in
-    let high = c.part.ensures.holds (tail.hi over 2 ^ g.row.B) (lies_between tail.hi tail tail.ordered (omega arith)) in (
+    let high = c.part.ensures.holds (tail.hi over 2 ^ g.row.B)
+    (lies_between tail.hi tail tail.ordered (omega arith)) in (
       part_least T (partial_sums us One) c.args.term.weight (tail.lo over 2 ^ g.row.B) _ held.0
           (subst (λ w. c.part.result.lo over 2 ^ g.row.B ≤ℚ tail.lo over 2 ^ g.row.B *ℚ w) weight low.low),
       part_most T (partial_sums us One) c.args.term.weight (tail.hi over 2 ^ g.row.B) _ held.1

@@ -1,0 +1,109 @@
+-- The numbers that the cells of a step are compared with, in units of 1 / 2^56: a low end may be
+-- lower, and a high end higher.
+use Rattle.std.specs.Prelude.{ℕ, zero, suc, ◌*◌, ◌/◌, ◌^◌, List, min, map, get_or}
+use Rattle.std.specs.Int.{div_ceil}
+use Rattle.dl_exact.specs.Fraction.{Fraction, whole, ◌+ℚ◌, ◌*ℚ◌, ◌/ℚ◌}
+use Rattle.dl_exact.specs.Count.{count_pairs}
+use Rattle.dl_exact.specs.Sum.{sum_pairs}
+use Rattle.dl_grid.specs.Cells.{low_at, high_at, all_at_zero}
+use Rattle.dl_plan.specs.declared.plan.Freq.{Freq}
+use Rattle.dl_plan.specs.declared.plan.Freq.TheVariants.{Fixed, Table, Bernoulli, Binomial, Poisson, Gamma}
+use Rattle.dl_plan.specs.declared.plan.Unit.{Unit as UnitOfPlan}
+use Rattle.dl_plan.specs.declared.severity.Sev.{Sev}
+use Rattle.dl_plan.specs.Severity.{probability_of}
+use Rattle.dl_plan.specs.Valid.{thinned_mean}
+use Rattle.dl_budget.specs.Halvings.{halvings}
+use Rattle.dl_model.specs.Counts.{fixed, binomial}
+use Rattle.dl_model.specs.Compound.{cell}
+use Rattle.dl_exp.specs.Ends.{exp_low, exp_high}
+use Rattle.dl_cert.specs.declared.step.Kind.{Kind}
+use Rattle.dl_cert.specs.declared.step.Kind.TheVariants.{One, Start, Times}
+use Rattle.dl_cert.specs.Targets.{above_zero}
+use Rattle.dl_cert.specs.Steps.{Made, made_at}
+
+-- how many units make 1
+abbrev pub one : ℕ
+one = 2 ^ 56
+
+-- a fraction rounded down, and up, to a whole number
+abbrev pub floor_of : Fraction → ℕ
+floor_of x = x.num / x.den
+
+abbrev pub ceiling_of : Fraction → ℕ
+ceiling_of x = div_ceil x.num x.den
+
+-- ---- the recursion of a base
+
+-- the sum over the amounts from 1 to s + 1, each by its probability g, of the end of the cell that
+-- it leaves of cell s + 1; and the same, each amount counted as often as it says
+abbrev pub sum_plain : (ℕ → Fraction) → (ℕ → ℕ) → ℕ → Fraction
+sum_plain g ends s = sum_pairs s (λ i k. g (suc i) *ℚ whole (ends k))
+
+abbrev pub sum_by_amount : (ℕ → Fraction) → (ℕ → ℕ) → ℕ → Fraction
+sum_by_amount g ends s = sum_pairs s (λ i k. whole (suc i) *ℚ g (suc i) *ℚ whole (ends k))
+
+-- cell 0, and each later cell by two roundings: of the sum, and of its product with a factor
+abbrev pub low_recursion : ℕ → (ℕ → Fraction) → (ℕ → Fraction) → ℕ → ℕ
+low_recursion start factor sum zero = start
+low_recursion start factor sum (suc s) = floor_of (factor s *ℚ whole (floor_of (sum s)))
+
+abbrev pub high_recursion : ℕ → (ℕ → Fraction) → (ℕ → Fraction) → ℕ → ℕ
+high_recursion start factor sum zero = start
+high_recursion start factor sum (suc s) =
+    min one (ceiling_of (factor s *ℚ whole (ceiling_of (sum s))))
+
+-- ---- a start, by its own cells' ends before each cell
+
+-- one claim or one trial: the probability of each amount; a share of v claims above 0: by the
+-- recursion of its count
+abbrev pub low_start : Freq → Sev → Fraction → (ℕ → ℕ) → ℕ → ℕ
+low_start (Fixed m) sev v ends y =
+    floor_of (whole one *ℚ cell (fixed 1) (probability_of sev) y 1)
+low_start (Table counts total) sev v ends y = 0
+low_start (Bernoulli q) sev v ends y =
+    floor_of (whole one *ℚ cell (binomial 1 q.num q.den) (probability_of sev) y 1)
+low_start (Binomial trials q) sev v ends y =
+    floor_of (whole one *ℚ cell (binomial 1 q.num q.den) (probability_of sev) y 1)
+low_start (Poisson mean) sev v ends y =
+    low_recursion (exp_low 56 (v /ℚ whole (2 ^ halvings v)))
+    (λ s. v /ℚ whole (2 ^ halvings v) /ℚ whole (suc s)) (sum_by_amount (above_zero sev) ends) y
+low_start (Gamma shape mean) sev v ends y =
+    low_recursion (floor_of (whole one *ℚ (whole 1 /ℚ (whole 1 +ℚ v /ℚ whole shape))))
+    (λ s. v /ℚ whole shape /ℚ (whole 1 +ℚ v /ℚ whole shape)) (sum_plain (above_zero sev) ends) y
+
+abbrev pub high_start : Freq → Sev → Fraction → (ℕ → ℕ) → ℕ → ℕ
+high_start (Fixed m) sev v ends y =
+    ceiling_of (whole one *ℚ cell (fixed 1) (probability_of sev) y 1)
+high_start (Table counts total) sev v ends y = one
+high_start (Bernoulli q) sev v ends y =
+    ceiling_of (whole one *ℚ cell (binomial 1 q.num q.den) (probability_of sev) y 1)
+high_start (Binomial trials q) sev v ends y =
+    ceiling_of (whole one *ℚ cell (binomial 1 q.num q.den) (probability_of sev) y 1)
+high_start (Poisson mean) sev v ends y =
+    high_recursion (exp_high 56 (v /ℚ whole (2 ^ halvings v)))
+    (λ s. v /ℚ whole (2 ^ halvings v) /ℚ whole (suc s)) (sum_by_amount (above_zero sev) ends) y
+high_start (Gamma shape mean) sev v ends y =
+    high_recursion (ceiling_of (whole one *ℚ (whole 1 /ℚ (whole 1 +ℚ v /ℚ whole shape))))
+    (λ s. v /ℚ whole shape /ℚ (whole 1 +ℚ v /ℚ whole shape)) (sum_plain (above_zero sev) ends) y
+
+-- ---- a step of a plan
+
+-- all mass at 0; the start of the unit; the convolution of two earlier steps
+abbrev pub low_number : List UnitOfPlan → List Made → Kind → (ℕ → ℕ) → ℕ → ℕ
+low_number units before One ends y = all_at_zero one y
+low_number units before (Start u) ends y =
+    get_or (map (λ (unit : UnitOfPlan). low_start unit.freq unit.sev (thinned_mean unit) ends y)
+    units) u 0
+low_number units before (Times a b) ends y =
+    count_pairs y (λ i j. low_at (made_at before a).cells i * low_at (made_at before b).cells j)
+    / one
+
+abbrev pub high_number : List UnitOfPlan → List Made → Kind → (ℕ → ℕ) → ℕ → ℕ
+high_number units before One ends y = all_at_zero one y
+high_number units before (Start u) ends y =
+    get_or (map (λ (unit : UnitOfPlan). high_start unit.freq unit.sev (thinned_mean unit) ends y)
+    units) u 0
+high_number units before (Times a b) ends y =
+    min one (div_ceil
+    (count_pairs y (λ i j. high_at (made_at before a).cells i * high_at (made_at before b).cells j))
+    one)
