@@ -100,7 +100,7 @@ module _ (settings : Settings) (before : List UnitAst) (u : UnitAst) (m : MixAst
         sev = sev.0;
         freq = freq.0;
         cede = aggregate_clause g.agr;
-        zero = None;
+        zero = g.zero;
       } in
       let answer = grid_answer settings unit g grid within groups.2 u.name.text made refl refl
       (record { means = sev.1; near = sev.2; few = sev.3 }) freq.1 clause in

@@ -1,11 +1,10 @@
--- The first fault of the names of severities, and of what has no value yet, one part after another.
+-- The first fault of the names of severities, one after another.
 use Rattle.dl_types.proofs.Common.{◌≡◌, ◌∙◌, ℕ, ◌+◌, ◌<◌, List, [], length, take, get_or, true, false, Some, None, sym, ap, arith, at_if, in_turn, breaks, Span, UnitAst}
 use Rattle.std.proofs.lemmas.List.{length-take-le}
 use Rattle.dl_ast.specs.declared.ast.SevDef.{SevDef}
 use Rattle.dl_amounts.proofs.Turns.{NoneTurned, turn_found, turn_passed}
-use Rattle.dl_types.specs.Faults.{fault_of_severity, unit_not_yet}
-use Rattle.dl_types.specs.Rules.{has_change}
-unfoldable use Rattle.dl_types.specs.Rules.{duplicate_severity, changed_zero}
+use Rattle.dl_types.specs.Faults.{fault_of_severity}
+unfoldable use Rattle.dl_types.specs.Rules.{duplicate_severity}
 use Rattle.dl_types.specs.declared.rule.Rule.TheVariants as rules
 
 module _ (sevs : List SevDef) (i : ℕ) (d : SevDef) (turned : NoneTurned fault_of_severity sevs i)
@@ -20,18 +19,3 @@ module _ (sevs : List SevDef) (i : ℕ) (d : SevDef) (turned : NoneTurned fault_
   pub duplicate_passed : None ≡ duplicate_severity (take i sevs) d → NoneTurned fault_of_severity sevs (i + 1)
   duplicate_passed place = turn_passed fault_of_severity sevs i d turned lt is
       (ap (breaks (length (take i sevs)) rules.DuplicateSeverity) place)
-
-module _ (units : List UnitAst) (i : ℕ) (u : UnitAst) (turned : NoneTurned unit_not_yet units i)
-    (lt : i < length units) (is : u ≡ get_or units i u) where
-  pub changed_told : has_change u.count ≡ true
-      → in_turn unit_not_yet [] units ≡ Some (record { unit = i; rule = rules.NotYet; span = u.name.span })
-  unfolding changed_zero
-  changed_told e = sym (turn_found unit_not_yet units i u _ turned lt is
-      (ap (λ n. Some (record { unit = n; rule = rules.NotYet; span = u.name.span }))
-      (sym (length-take-le i units (omega arith)))
-      ∙ ap (λ b. breaks (length (take i units)) rules.NotYet (at_if b u.name.span)) (sym e)))
-
-  pub changed_passed : has_change u.count ≡ false → NoneTurned unit_not_yet units (i + 1)
-  unfolding changed_zero
-  changed_passed e = turn_passed unit_not_yet units i u turned lt is
-      (ap (λ b. breaks (length (take i units)) rules.NotYet (at_if b u.name.span)) (sym e))

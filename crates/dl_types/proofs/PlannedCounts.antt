@@ -1,21 +1,27 @@
 -- The claim count of a plan that is made of a count that breaks no rule.
-use Rattle.dl_types.proofs.Common.{ℕ, ◌≡◌, ◌∙◌, ◌<◌, ◌&&◌, ◌||◌, nat_lt, Bool, true, false, if◌then◌else◌, List, map, Option, Some, None, refl, sym, ap, ap₂, subst, arith, is_some, IfSome, length-map, admitted_bound, most_claims, most_shape, Fraction, whole, ◌*ℚ◌, ◌/ℚ◌, ◌≤ℚ◌, div_times, Sev, HasPartsOf48Bits, Pairs, Means, ReadFreq, Fixed, Poisson, Bernoulli, Binomial, Gamma, ReadCount, Exposed, Listed, probs_of, is_admitted, not-false, GridUnit, claims_of, claims_above_zero, shape_of, IsFreqKept, IsCountKept, IsCountMade, freq_with, pairs_of_counts, has_too_many_claims, passes}
-use Rattle.dl_limits.specs.Limits.{most_expected}
-use Rattle.dl_exact.specs.Fraction.{◌-ℚ◌}
+use Rattle.std.proofs.lemmas.Bool.{ltb-true, or_parts}
+use Rattle.dl_types.proofs.Common.{ℕ, ◌≡◌, ◌∙◌, ◌*◌, ◌<◌, ◌<ℚ◌, ◌&&◌, ◌||◌, not, nat_lt, Bool, true, false, if◌then◌else◌, List, map, Option, Some, None, refl, sym, ap, ap₂, subst, arith, is_some, IfSome, length-map, admitted_bound, most_claims, most_shape, Fraction, whole, ◌*ℚ◌, ◌/ℚ◌, ◌≤ℚ◌, div_times, Sev, HasPartsOf48Bits, Pairs, Means, ReadFreq, Fixed, Poisson, Bernoulli, Binomial, Gamma, ReadCount, Exposed, Listed, probs_of, is_admitted, not-false, GridUnit, claims_of, claims_above_zero, shape_of, IsFreqKept, IsCountKept, IsCountMade, freq_with, pairs_of_counts, has_too_many_claims, passes}
+use Rattle.dl_limits.specs.Limits.{most_expected, rarest_claims}
+use Rattle.dl_exact.specs.Fraction.{◌-ℚ◌, ◌over◌}
+use Rattle.dl_plan.specs.Valid.{IsNewZero}
 use Rattle.dl_plan.specs.declared.plan.Freq.{Freq}
 use Rattle.dl_plan.specs.declared.plan.Freq.TheVariants as of_plan
 use Rattle.dl_plan.specs.Fine.{IsFineTo30Bits}
 use Rattle.dl_plan.specs.Severity.{probability_of}
-use Rattle.dl_plan.specs.Count.{IsClaimCount, IsUnbounded, expected_count as expected_of_plan}
+use Rattle.dl_plan.specs.Count.{IsClaimCount, IsUnbounded, IsExposed, expected_count as expected_of_plan}
 use Rattle.dl_sev.specs.Weighing.{sum_of}
 use Rattle.dl_read.specs.Kept.{IsSmall}
 use Rattle.dl_read.proofs.ItemRanges.{not_above}
 use Rattle.dl_amounts.proofs.Mixing.{seconds-zip}
 use Rattle.dl_amounts.proofs.SevSteps.{sev_of}
 use Rattle.dl_types.specs.Exposures.{expected_count, has_count, is_there_and, thinned}
+use Rattle.dl_types.specs.Rules.{freq_span, has_no_base}
+unfoldable use Rattle.dl_types.specs.Rules.{zero_base}
+use Rattle.dl_read.specs.Lists.{is_above}
 use Rattle.dl_types.specs.Plans.{IsCountWith, IsCountOf}
 use Rattle.dl_types.proofs.ListedCounts.{same_length, small_table, table_admitted}
 use Rattle.dl_types.proofs.ExposedCounts.{whole_is, few_is, shape_some}
+use Rattle.dl_read.proofs.Nothing.{not_at}
 use Rattle.dl_types.proofs.KeptCounts.{given, AreKept, number_there}
 
 -- ---- admitted numbers
@@ -60,6 +66,22 @@ freq_valid (Gamma c span) n kept =
       few_is most_shape (shape_of c).num (shape_of c) same kept.few,
     )
 
+-- it expects n claims
+freq_expects : (f : ReadFreq) (n : Fraction) → IsFreqKept f n → expected_of_plan (freq_with f n) ≡ n
+freq_expects (Fixed span) n kept = whole_is n kept.whole
+freq_expects (Poisson span) n kept = refl
+freq_expects (Bernoulli span) n kept = refl
+freq_expects (Binomial p span) n kept =
+    ap (λ t. t *ℚ p) (whole_is (n /ℚ p) kept.whole.whole) ∙ div_times n p kept.whole.above
+freq_expects (Gamma c span) n kept = refl
+
+freq_exposed : (f : ReadFreq) (n : Fraction) → IsExposed (freq_with f n)
+freq_exposed (Fixed span) n = tt
+freq_exposed (Poisson span) n = tt
+freq_exposed (Bernoulli span) n = tt
+freq_exposed (Binomial p span) n = tt
+freq_exposed (Gamma c span) n = tt
+
 freq_expected : (f : ReadFreq) (n : Fraction) → IsFreqKept f n → HasPartsOf48Bits (expected_of_plan (freq_with f n))
 freq_expected (Fixed span) n kept = subst HasPartsOf48Bits (sym (whole_is n kept.whole)) kept.admitted
 freq_expected (Poisson span) n kept = kept.admitted
@@ -68,6 +90,27 @@ freq_expected (Binomial p span) n kept =
     subst HasPartsOf48Bits
     (sym (ap (λ t. t *ℚ p) (whole_is (n /ℚ p) kept.whole.whole) ∙ div_times n p kept.whole.above)) kept.admitted
 freq_expected (Gamma c span) n kept = kept.admitted
+
+-- ---- a change of its probability of no claim
+
+is_below : (x y : Fraction) → is_above y x ≡ true → x <ℚ y
+unfolding ◌<ℚ◌
+is_below x y h = ltb-true (x.num * y.den) (y.num * x.den) h
+
+new_zero : (f : ReadFreq) (n p : Fraction) → IsFreqKept f n → IsSmall p → has_no_base p (Some n) ≡ false
+    → IsNewZero (freq_with f n) p
+new_zero f n p kept small base =
+    let low = or_parts (not (is_above (whole 1) p)) _ base in
+    let range = or_parts (is_above (1 over rarest_claims) n) _ low.1 in
+    let expects = sym (freq_expects f n kept) in
+    record {
+      below = is_below p (whole 1) (not-false _ low.0);
+      num = omega (arith, small.num);
+      den = omega (arith, small.den);
+      least = subst (λ x. 1 over rarest_claims ≤ℚ x) expects (not_above (1 over rarest_claims) n range.0);
+      most = subst (λ x. x ≤ℚ whole most_expected) expects (not_above n (whole most_expected) range.1);
+      exposed = freq_exposed f n;
+    }
 
 -- ---- of a count
 
@@ -96,6 +139,16 @@ claims_admitted bs u (Exposed e f) (Some n) same =
     let told = given (has_count u e && is_admitted (expected_count bs u e)) (expected_count bs u e) n (sym same) in
     subst HasPartsOf48Bits (sym told.0) (admitted_is (expected_count bs u e) (both _ _ told.1))
 claims_admitted bs u (Listed counts probs) (Some n) same = absurd (cc)
+
+-- a change of its probability of no claim that breaks no rule
+pub made_zero : (k : ReadCount) (n zero : Option Fraction) (freq : Freq) → IsCountKept k n → IsCountMade k n freq
+    → IfSome zero IsSmall → zero_base k zero n ≡ None → IfSome zero (IsNewZero freq)
+unfolding zero_base
+made_zero k n None freq kept made small base = tt
+made_zero (Exposed e f) None (Some p) freq kept made small base = absurd kept
+made_zero (Exposed e f) (Some n) (Some p) freq kept made small base =
+    subst (λ (q : Freq). IsNewZero q p) (sym made) (new_zero f n p kept small (not_at _ (freq_span f) base))
+made_zero (Listed counts probs) n (Some p) freq kept made small base = absurd cc
 
 -- there is such a count
 pub count_there : (k : ReadCount) (n : Option Fraction) → IsCountKept k n → (freq : Freq) × IsCountMade k n freq

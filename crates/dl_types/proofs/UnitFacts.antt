@@ -1,10 +1,11 @@
 -- What a unit in whole buckets keeps where the rules on it are not broken, and its unit of the plan.
 use Rattle.dl_types.proofs.Common.{ℕ, ◌≡◌, ◌∙◌, Bool, true, false, List, Option, Some, None, Sev, Clause, refl, sym, ap, ap₂, subst, Ok, Err, Fraction, Settings, IsValidUnit, Span, ReadList, ◌else◌, at_if, probs_in_count, else_first, else_second, not_at, GridUnit, has_shares, fractions_too_fine, IsGridUnit, AreProbabilities, off_grid_cession, own_lists, final_severity, CheckFault, Typing, OutOfMemory, expected_claims, claims_of, claims_above_zero, breaks, cells_asked, fault_of_clauses, fault_of_count, fault_on_grid, IsWholeCount, IsCountKept, IsCountMade, IsCedeOf, too_fine, exposed_too_fine, too_many_claims, has_too_many_claims, horizon_too_large, most_amount_at}
-use Rattle.dl_plan.specs.Valid.{IsNewZero}
 use Rattle.dl_amounts.specs.GridKept.{IsWithin}
-use Rattle.std.specs.Prelude.{Result, OnOk, IfOk, IfErr, IfSome}
+use Rattle.std.specs.Prelude.{Result, OnOk, IfOk, IfErr}
 use Rattle.std.specs.Result.{IsErr, IsErrAnd}
 use Rattle.dl_plan.specs.declared.plan.Unit.{Unit as UnitOfPlan}
+use Rattle.dl_plan.specs.Valid.{IsNewZero}
+use Rattle.std.specs.Option.{IfSome}
 use Rattle.dl_amounts.specs.Kept.{IsLayered, IsFineSev}
 use Rattle.dl_amounts.proofs.Shared.{all_left, all_shared}
 use Rattle.dl_amounts.specs.Rules.{overlap, share_above_one}
@@ -20,7 +21,7 @@ use Rattle.dl_types.specs.Rules.{zero_base}
 use Rattle.dl_types.proofs.Aggregates.{aggregate_valid}
 use Rattle.dl_types.proofs.FineClaims.{fine_left, fine_lists, occ_shares, agr_shares}
 use Rattle.dl_types.proofs.KeptCounts.{AreWhole, AreKept, whole_count, count_kept}
-use Rattle.dl_types.proofs.PlannedCounts.{claims_admitted, made_valid, made_is, made_thinned}
+use Rattle.dl_types.proofs.PlannedCounts.{claims_admitted, made_valid, made_is, made_zero, made_thinned}
 
 -- ---- rules that are not broken
 
@@ -172,7 +173,8 @@ module _ (bs : Fraction) (unit : ℕ) (u : GridUnit) (grid : IsGridUnit u) (none
 
   module _ (cells : ℕ) (ceded : off_grid_cession u ≡ None) (near : horizon_too_large cells u.agr ≡ None)
       (within : IsWithin (most_amount_at cells) u) (text : List ℕ)
-      (made : UnitOfPlan) (name : made.name ≡ text) (zero : made.zero ≡ None) (sev : IsFinal u made.sev)
+      (made : UnitOfPlan) (name : made.name ≡ text) (zero : made.zero ≡ u.zero)
+      (base : zero_base u.count u.zero n ≡ None) (sev : IsFinal u made.sev)
       (freq : IsCountMade u.count n made.freq)
       (cede : IsCedeOf u.agr made.cede) where
     pub unit_is : IsUnitOn bs text u made
@@ -194,7 +196,8 @@ module _ (bs : Fraction) (unit : ℕ) (u : GridUnit) (grid : IsGridUnit u) (none
           expected = valid.1;
           thinned = made_thinned (final_severity u) made.sev sev.means u.count n made.freq are_kept freq;
           clause = aggregate_valid cells u ceded fine_occ near within made.sev sev.means made.cede cede;
-          zero = subst (λ z. IfSome z (IsNewZero made.freq)) (sym zero) tt;
+          zero = subst (λ z. IfSome z (IsNewZero made.freq)) (sym zero)
+              (made_zero u.count n u.zero made.freq kept_is freq grid.zero base);
         }
 
 -- ---- all rules on the unit in whole buckets
@@ -255,24 +258,24 @@ grid_parts settings unit u none =
 module _ (settings : Settings) (unit : ℕ) (u : GridUnit) (grid : IsGridUnit u)
     (within : IsWithin (most_amount_at (cells_asked settings)) u)
     (none : fault_on_grid settings unit u ≡ None) (text : List ℕ) where
-  pub grid_answer : (made : UnitOfPlan) → made.name ≡ text → made.zero ≡ None → IsFinal u made.sev
+  pub grid_answer : (made : UnitOfPlan) → made.name ≡ text → made.zero ≡ u.zero → IsFinal u made.sev
       → IsCountMade u.count (expected_claims settings.bs u) made.freq → IsCedeOf u.agr made.cede
       → AnswersGrid settings unit text u (Ok made)
   grid_answer made name zero sev freq cede =
       let parts = grid_parts settings unit u none in
       let ceded = (layered_is unit u grid parts.0).1 in (
         none,
-        unit_is settings.bs unit u grid parts.1 (cells_asked settings) ceded parts.2 within text made name zero sev
-            freq cede,
-        unit_valid settings.bs unit u grid parts.1 (cells_asked settings) ceded parts.2 within text made name zero sev
-            freq cede,
+        unit_is settings.bs unit u grid parts.1 (cells_asked settings) ceded parts.2 within text made name zero parts.3
+            sev freq cede,
+        unit_valid settings.bs unit u grid parts.1 (cells_asked settings) ceded parts.2 within text made name zero parts.3
+            sev freq cede,
       )
 
   -- the unit is made of these parts, or there is no room for it
   pub made_answer : (sev : Sev) (clause : Option Clause) → IsFinal u sev → IsCedeOf u.agr clause
       → (r : Result UnitOfPlan CheckFault) → IfOk r (λ made. made.name ≡ text) → IfOk r (λ made. made.sev ≡ sev)
       → IfOk r (λ made. IsCountMade u.count (expected_claims settings.bs u) made.freq)
-      → IfOk r (λ made. made.cede ≡ clause) → IfOk r (λ made. made.zero ≡ None) → IfErr r (λ stop. stop ≡ OutOfMemory)
+      → IfOk r (λ made. made.cede ≡ clause) → IfOk r (λ made. made.zero ≡ u.zero) → IfErr r (λ stop. stop ≡ OutOfMemory)
       → AnswersGrid settings unit text u r
   made_answer sev clause final cede (Ok made) name same freq kept plain room =
       grid_answer made name plain (subst (IsFinal u) (sym same) final) freq (subst (IsCedeOf u.agr) (sym kept) cede)

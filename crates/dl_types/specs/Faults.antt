@@ -22,7 +22,7 @@ use Rattle.dl_amounts.specs.Grid.{grid_of}
 use Rattle.dl_amounts.specs.Severity.{severity_in_layer, support}
 use Rattle.dl_amounts.specs.Rules.{lengths_differ, not_one, off_grid, too_far, weights_differ, none_above, overlap, share_above_one, off_grid_cession}
 use Rattle.dl_types.specs.Exposures.{expected_claims}
-use Rattle.dl_types.specs.Rules.{duplicate_name, zero_mean, count_not_whole, count_above_one, trials_not_whole, shape_not_whole, too_fine, too_many_claims, horizon_too_large, too_many_units, zero_base, common_unit, common_shape, duplicate_severity, changed_zero, shared_factor}
+use Rattle.dl_types.specs.Rules.{duplicate_name, zero_mean, count_not_whole, count_above_one, trials_not_whole, shape_not_whole, too_fine, too_many_claims, horizon_too_large, too_many_units, zero_base, common_unit, common_shape, duplicate_severity, shared_factor}
 use Rattle.dl_types.specs.Severities.{mixture_of, body_span}
 
 -- the rule is broken by a unit at a place
@@ -134,14 +134,9 @@ abbrev pub fault_of_severity : List SevDef → SevDef → Option TypeFault
 fault_of_severity before d =
     breaks (length before) rules.DuplicateSeverity (duplicate_severity before d)
 
--- what has no value yet: of a unit, and of the whole program
-abbrev pub unit_not_yet : List UnitAst → UnitAst → Option TypeFault
-unit_not_yet before u = breaks (length before) rules.NotYet (changed_zero u)
-
+-- what has no value yet
 unfoldable pub not_yet : Program → Option TypeFault
-not_yet program =
-    in_turn unit_not_yet [] program.units
-    else breaks 0 rules.NotYet (shared_factor program.port)
+not_yet program = breaks 0 rules.NotYet (shared_factor program.port)
 
 -- the rules on the whole portfolio, and then what has no value yet
 unfoldable pub fault_of_port : Program → Option TypeFault

@@ -86,14 +86,14 @@ pub record IsCedeOf (cession : Option GridClause) (made : Option Clause) : Type 
   pub accepted : IfSome made IsClause
 
 -- the unit of the plan has the name, the final severity, the claim count and the aggregate clause
--- of a unit in whole buckets, and its probability of no claim is not changed
+-- of a unit in whole buckets, and its changed probability of no claim, where it has one
 pub record IsUnitOn (bs : Fraction) (text : List ℕ) (u : GridUnit) (made : UnitOfPlan) : Type 0
   where
     pub name : made.name ≡ text
     pub severity : Means made.sev (final_severity u)
     pub count : IsCountOf bs u u.count made.freq
     pub clause : made.cede ≡ aggregate_clause u.agr
-    pub zero : made.zero ≡ None
+    pub zero : made.zero ≡ u.zero
 
 -- and those of the text, whose severity is this mixture
 abbrev pub IsUnitWith : Fraction → UnitAst → MixAst → UnitOfPlan → Type 0

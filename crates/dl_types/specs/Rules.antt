@@ -5,7 +5,7 @@
 use Rattle.std.specs.Prelude.{ℕ, Bool, true, false, not, ◌&&◌, ◌||◌, nat_lt, is_some, List, slice_get, Option, Some, None}
 use Rattle.std.specs.List.{list_any}
 use Rattle.std.specs.Str.{bytes_eq}
-use Rattle.dl_limits.specs.Limits.{most_claims, most_count, most_expected, most_horizon, most_shape, most_units}
+use Rattle.dl_limits.specs.Limits.{most_claims, most_count, most_expected, most_horizon, most_shape, most_units, rarest_claims}
 use Rattle.dl_plan.specs.Horizon.{horizon}
 use Rattle.dl_exact.specs.Fraction.{Fraction, whole, ◌over◌, ◌/ℚ◌}
 use Rattle.dl_lexer.specs.declared.token.Span.{Span}
@@ -167,9 +167,6 @@ duplicate_severity before d = at_if (list_any (λ (e : SevDef). bytes_eq d.name.
 
 -- 25 ZeroBase: the probability of no claim is changed to 1 or more, or where fewer than 1/16 or
 -- more than 4,096 claims are expected; no text changes that of a `dfreq` count
-abbrev pub rarest_claims : ℕ
-rarest_claims = 16
-
 abbrev pub is_no_base : Fraction → Bool
 is_no_base n = is_above (1 over rarest_claims) n || passes n most_expected
 
@@ -227,13 +224,6 @@ unfoldable pub common_shape : Option PortHead → Option Span
 common_shape = within (λ (h : PortHead).
     within (λ (c : Numeral). at_if (has_bad_shape c) c.span) h.common)
 
--- 29 NotYet: the unit's probability of no claim is changed, or the portfolio has a shared factor
-abbrev pub has_change : CountAst → Bool
-has_change (counts.Exposed exposure freq zero) = is_changed zero
-has_change (counts.Listed counted probs span) = false
-
-unfoldable pub changed_zero : UnitAst → Option Span
-changed_zero u = at_if (has_change u.count) u.name.span
-
+-- 29 NotYet: the portfolio has a shared factor
 unfoldable pub shared_factor : Option PortHead → Option Span
 shared_factor = within (λ (h : PortHead). at_if (is_some h.common) h.name.span)

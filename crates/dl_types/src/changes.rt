@@ -1,15 +1,13 @@
 //! A changed probability of no claim, and a factor that all units share: the rules on them, and
-//! that they have no value yet.
+//! that the factor has no value yet.
 
-ghost use Rattle.std.specs.Prelude.{◌≡◌, ◌≤◌, [], length, IfSome};
-ghost use Rattle.dl_limits.specs.Limits.{most_units};
+ghost use Rattle.std.specs.Prelude.{◌≡◌, IfSome};
 ghost use Rattle.dl_ast.specs.WellFormed.{IsFormedHead};
 ghost use Rattle.dl_ast.specs.declared.ast.Numeral.{Numeral};
 ghost use Rattle.dl_lexer.specs.Numerals.{IsNumeralToken};
-ghost use Rattle.dl_read.specs.First.{◌else◌, at_if, within, in_turn};
-ghost use Rattle.dl_types.specs.Faults.{breaks, unit_not_yet, not_yet, fault_of_port};
-ghost use Rattle.dl_types.specs.Rules.{is_no_base, has_no_base, freq_span, zero_base, is_changed, is_poisson, is_plain_poisson, has_common, common_unit, has_bad_shape, common_shape, has_change, shared_factor};
-ghost use Rattle.dl_types.specs.declared.rule.Rule.TheVariants.{NotYet};
+ghost use Rattle.dl_read.specs.First.{◌else◌, at_if, within};
+ghost use Rattle.dl_types.specs.Faults.{breaks, not_yet, fault_of_port};
+ghost use Rattle.dl_types.specs.Rules.{is_no_base, has_no_base, freq_span, zero_base, is_changed, is_poisson, is_plain_poisson, has_common, common_unit, has_bad_shape, common_shape, shared_factor};
 
 use crate::counts::passes;
 use crate::fault::TypeFault;
@@ -27,8 +25,7 @@ const RAREST_CLAIMS: u32 = 16;
 /// The first rule that a portfolio as a whole breaks, or what has no value yet.
 #[tactic(auto, unfolding(crate::specs::Faults::fault_of_port))]
 pub(crate) fn fault_of_port(program: &Program) -> Option<TypeFault>
-    requires head { IfSome program.now.port IsFormedHead }
-    requires few { length program.now.units ≤ most_units }
+    requires { IfSome program.now.port IsFormedHead }
     ensures { result ≡ fault_of_port program.now }
 {
     match common_shape(&program.port) {
@@ -76,39 +73,18 @@ fn has_bad_shape(variation: &Numeral) -> bool
     }
 }
 
-/// The first unit with `zt` or `zm`, at its name; else `common`, at the portfolio's name.
-#[tactic(auto, unfolding(crate::specs::Faults::not_yet))]
+/// What has no value yet: `common`, at the portfolio's name.
+#[tactic(auto, unfolding(crate::specs::Faults::not_yet, crate::specs::Rules::shared_factor))]
 fn not_yet(program: &Program) -> Option<TypeFault>
-    requires few { length program.now.units ≤ most_units }
     ensures { result ≡ not_yet program.now }
 {
-    unit_not_yet(program.units.as_slice()).or(port_not_yet(&program.port))
-}
-
-/// The first unit with `zt` or `zm`.
-fn unit_not_yet(units: &[UnitAst]) -> Option<TypeFault>
-    requires few { length units.now ≤ most_units }
-    ensures { result ≡ in_turn unit_not_yet [] units.now }
-{
-    'units: for (at, unit) in units.iter().enumerate() {
-        if has_change(&unit.count) {
-            return Some(TypeFault {
-                unit: at as u32,
-                rule: Rule::NotYet,
-                span: unit.name.span,
-            });
-        }
-    }
-    None
-}
-
-/// Whether a claim count has `zt` or `zm`.
-fn has_change(count: &CountAst) -> bool
-    ensures { result ≡ has_change count.now }
-{
-    match count {
-        CountAst::Exposed { zero, .. } => is_changed(zero),
-        CountAst::Listed { .. } => false,
+    match &program.port {
+        Some(head) if head.common.is_some() => Some(TypeFault {
+            unit: 0,
+            rule: Rule::NotYet,
+            span: head.name.span,
+        }),
+        _ => None,
     }
 }
 
@@ -213,20 +189,5 @@ fn is_changed(zero: &ZeroAst) -> bool
     match zero {
         ZeroAst::Plain => false,
         ZeroAst::Truncated(_) | ZeroAst::Modified(_, _) => true,
-    }
-}
-
-/// A portfolio with `common`.
-#[tactic(auto, unfolding(crate::specs::Rules::shared_factor))]
-fn port_not_yet(port: &Option<PortHead>) -> Option<TypeFault>
-    ensures { result ≡ breaks 0 NotYet (shared_factor port.now) }
-{
-    match port {
-        Some(head) if head.common.is_some() => Some(TypeFault {
-            unit: 0,
-            rule: Rule::NotYet,
-            span: head.name.span,
-        }),
-        _ => None,
     }
 }

@@ -62,7 +62,7 @@ pub enum Rule {
     CommonUnit,
     /// The coefficient of variation of `common` is a bad numeral, or its shape is no whole number.
     CommonShape,
-    /// The unit has `zt` or `zm`, or the portfolio has `common`, which cannot be evaluated yet.
+    /// The portfolio has `common`, which cannot be evaluated yet.
     NotYet,
 }
 

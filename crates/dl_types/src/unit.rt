@@ -471,20 +471,22 @@ fn most_asked(settings: &Settings) -> u32
     most_amount(cells(settings))
 }
 
-/// The unit of the plan with this name, of what its claims come to and its aggregate clause.
+/// The unit of the plan with this name, of what its claims come to, its aggregate clause and
+/// its changed probability of no claim.
 fn planned(
     alloc: Global,
     name: &[u8],
     count: &ReadCount,
     claims: Claims,
     cede: Option<Cede>,
+    zero: Option<Frac>,
 ) -> Result<Unit, CheckFault>
     requires { IsCountKept count.now claims.count }
     ensures name { IfOk result (λ made. made.name ≡ name.now) }
     ensures severity { IfOk result (λ made. made.sev ≡ claims.severity) }
     ensures count { IfOk result (λ made. IsCountMade count.now claims.count made.freq) }
     ensures clause { IfOk result (λ made. made.cede ≡ cede) }
-    ensures zero { IfOk result (λ made. made.zero ≡ None) }
+    ensures zero { IfOk result (λ made. made.zero ≡ zero) }
     ensures room { IfErr result (λ stop. stop ≡ OutOfMemory) }
 {
     let freq = unit_count(alloc, count, &claims.count)?;
@@ -494,7 +496,7 @@ fn planned(
         sev: claims.severity,
         freq,
         cede,
-        zero: None,
+        zero,
     })
 }
 
@@ -516,7 +518,14 @@ fn check_grid(
     let cede = check_horizon(alloc, number, &grid.agr, cells(settings))?;
     let place = zero_base(&grid.count, &grid.zero, &claims.count);
     broken(number, Rule::ZeroBase, place)?;
-    planned(alloc, unit.name.text.as_slice(), &grid.count, claims, cede)
+    planned(
+        alloc,
+        unit.name.text.as_slice(),
+        &grid.count,
+        claims,
+        cede,
+        grid.zero,
+    )
 }
 
 /// The unit of the plan, or the first rule that the unit with this mixture breaks.

@@ -30,5 +30,5 @@ SENTENCES: Dict[int, str] = {
     25: "zt and zm need from 1/16 to 4,096 expected claims before the change, and zm a number below 1.",
     26: "Under common each unit has a poisson count without zt and zm, and no aggregate clause.",
     27: "The number of common is 1 over a whole number, as 1, 0.5 or 0.1.",
-    29: "zt, zm and common are read and formatted, and have no value yet.",
+    29: "common is read and formatted, and has no value yet.",
 }

@@ -126,18 +126,12 @@ const CASES: [Case; 58] = [
         b"agg A 1 claims dsev [1] fixed aggregate net of 1 xs 16384",
         Some((0, Rule::HorizonTooLarge, 30)),
     ),
-    (
-        b"agg A 1/16 claims dsev [0 1] poisson zt",
-        Some((0, Rule::NotYet, 4)),
-    ),
+    (b"agg A 1/16 claims dsev [0 1] poisson zt", None),
     (
         b"agg A 1/17 claims dsev [1] poisson zt",
         Some((0, Rule::ZeroBase, 27)),
     ),
-    (
-        b"agg A 4096 claims dsev [1] mixed gamma .5 zm .999",
-        Some((0, Rule::NotYet, 4)),
-    ),
+    (b"agg A 4096 claims dsev [1] mixed gamma .5 zm .999", None),
     (
         b"agg A 4097 claims dsev [0 1] geometric zm 0",
         Some((0, Rule::ZeroBase, 29)),
@@ -154,10 +148,7 @@ const CASES: [Case; 58] = [
         b"agg A 2 claims dsev [1] binomial .5 zm 1/1",
         Some((0, Rule::ZeroBase, 24)),
     ),
-    (
-        b"agg A 2 claims dsev [1] poisson zm 0",
-        Some((0, Rule::NotYet, 4)),
-    ),
+    (b"agg A 2 claims dsev [1] poisson zm 0", None),
     (
         b"port C common .5 agg A 3 claims dsev [1] fixed",
         Some((0, Rule::CommonUnit, 21)),

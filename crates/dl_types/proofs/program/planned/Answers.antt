@@ -4,7 +4,7 @@ use Rattle.dl_types.proofs.ProgramUnits.{fault_of_rest, few_units, plan_of_units
 use Rattle.dl_types.proofs.program.planned.Goals as goal
 
 pub fault_of_port-requires : goal.fault_of_port-requires
-fault_of_port-requires c = record { head = c.requires.formed.head; few = few_units c.args.program.now.units c.requires.few }
+fault_of_port-requires c = c.requires.formed.head
 
 pub returns-in-Some : goal.returns-in-Some
 returns-in-Some c =
