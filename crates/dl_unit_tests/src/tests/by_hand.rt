@@ -1,3 +1,5 @@
+//! Small cases worked by hand.
+
 use crate::tests::helpers::DIE;
 use dl_by_hand::changed_zero::{changed_point, some_claim, some_claim_point};
 use dl_by_hand::listed::listed_point;
