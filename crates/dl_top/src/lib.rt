@@ -1,7 +1,7 @@
 //! The top call: from the words and the bytes read to the bytes written.
 //!
 //! [`run`] writes a report about one program for the asks of its words, or that program in its
-//! canonical form. The program is what the source has left, or a generated one ([`made`]). The whole
+//! canonical form. The program is what the source has left, or a generated one ([`made`]). The
 //! output is composed in memory first, and goes to one of two sinks: what was asked for to the one,
 //! the text of a fault to the other. [`run_with_arguments`] calls it with the words among the
 //! program's arguments, and gives the number of its status.
@@ -82,9 +82,9 @@ pub fn run<R: Source, O: Sink, E: Sink>(
         → result ≡ Status.WriteFault → (out.new ≡ out.old)
         × AppendsPartOf (E.held err.old) (E.held err.new) (fault_line (Fault.Usage fault) [] []) }
 
-    // Where the program is generated the source is not read. Of a longer input than an input may be, one
-    // byte more is taken. Each read but the last gave some bytes: none follows the end of the input
-    // or a read that failed.
+    // Where the program is generated the source is not read. Of a longer input than an input may
+    // be, one byte more is taken. Each read but the last gave some bytes: none follows the end of
+    // the input or a read that failed.
     ensures made { MakeText (map string_bytes words.now)
         → (src.new ≡ src.old) × (result ≢ Status.ReadFault) }
     ensures taken { TakesAtMost (R.left src.old) (R.left src.new) (most_text + 1) }
