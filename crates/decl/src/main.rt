@@ -1,4 +1,4 @@
-//! `decl`: answers asks about a DecL text. The words name the asks and the form of the report. The
+//! `decl`: a report about a DecL text. The words name the asks and the form of the report. The
 //! text comes from standard input, the report goes to standard output, and the text of a fault to
 //! standard error. The program ends with the number of the status.
 #![tactic(auto)]

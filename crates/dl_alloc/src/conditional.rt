@@ -11,7 +11,7 @@ use dl_limits::RAREST_PARTS;
 
 /// The conditional mean, in buckets: a joint mean divided by the probability `at` of its total.
 /// None where the low end of that probability is below one in `RAREST_PARTS`. Where the low end of
-/// the quotient is at most `k` buckets, the answer is at most so many times as wide as `k` widths
+/// the quotient is at most `k` buckets, the result is at most so many times as wide as `k` widths
 /// of the probability and the width of the joint mean together, and 2 units for rounding.
 pub fn conditional_mean<const B: u32>(joint: Iv<B>, at: Iv<B>) -> Option<Iv<B>>
     requires small { joint.hi * 2 ^ B ≤ 2 ^ 127 }

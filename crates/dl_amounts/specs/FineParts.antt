@@ -16,7 +16,7 @@ abbrev pub has_severity : GridSev → Bool
 has_severity s =
     list_all (λ l. is_fine l.values) (own_lists s) && is_fine (mixture_shares s)
 
--- the answer is the severity in the layer, where its lists of probabilities and its mixture are
+-- the result is the severity in the layer, where its lists of probabilities and its mixture are
 -- fine
 abbrev pub IsWeighed : GridUnit → Option Sev → Type 0
 IsWeighed u made = MatchOption made (has_severity u.sev ≡ false)

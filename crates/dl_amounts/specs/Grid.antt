@@ -43,7 +43,7 @@ grid_layer bs l = record {
   span = l.span;
 }
 
--- an amount of money stands beside the limit that it is a part of
+-- an amount of money beside the limit that it is a part of
 abbrev pub grid_share : ReadShare → Option Fraction → GridShare
 grid_share shares.Whole limit = Whole
 grid_share (shares.So x) limit = So x

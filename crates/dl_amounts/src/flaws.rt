@@ -37,7 +37,7 @@ impl Flaws {
         }
     }
 
-    /// Of each flaw the first place in the text, of those in a unit's own part, which stands before
+    /// Of each flaw the first place in the text, of those in a unit's own part, which precedes
     /// its severity, and in that severity. A named severity is written before all units.
     pub(crate) fn earlier(named: bool, own: Flaws, severity: Flaws) -> Flaws
         ensures { result ≡ earlier_flaws named own severity }

@@ -166,7 +166,7 @@ fn ceded(alloc: Global, sev: &Sev, cession: &GridClause) -> Result<Sev, AllocErr
     }
 }
 
-/// The final severity of a unit, made of the severity in the layer. Its amounts are at most what
+/// The final severity of a unit, from the severity in the layer. Its amounts are at most what
 /// bounds those of the atoms.
 pub fn final_severity(alloc: Global, unit: &GridUnit, layered: Sev) -> Result<Sev, AllocError>
     requires fine { IsFineSev unit.now }

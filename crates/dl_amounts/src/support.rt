@@ -16,7 +16,7 @@ use dl_read::place_if;
 use dl_sev::cut_amount;
 use std::alloc::{AllocError, Global};
 
-/// The amounts of positive probability of the severity in the layer, made of those of the mixture.
+/// The amounts of positive probability of the severity in the layer, from those of the mixture.
 pub fn support_in_layer(
     alloc: Global,
     unit: &GridUnit,

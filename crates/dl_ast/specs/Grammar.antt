@@ -48,7 +48,7 @@ k ≫ r = made (λ p. p.1) (one k ▸ r)
 abbrev pub ◌≪◌ : {A : Type 0} → Rule A → Kind → Rule A
 r ≪ k = made (λ p. p.0) (r ▸ one k)
 
--- a token that stands for one thing
+-- a token with one meaning
 abbrev pub ◌means◌ : {A : Type 0} → Kind → A → Rule A
 k means x = made (λ _. x) (one k)
 

@@ -41,7 +41,7 @@ IsFormedNumeral numeral = IsSpelled kinds.Numeral numeral.text
 abbrev pub IsFormedNote : List ℕ → Type 0
 IsFormedNote text = IsSpelled kinds.Note text
 
--- a step stands only beside a to
+-- a step only beside a to
 pub record IsFormedItem (item : ListItem) : Type 0 where
   pub from : IsFormedNumeral item.from
   pub to : IfSome item.to IsFormedNumeral

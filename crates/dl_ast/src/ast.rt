@@ -19,7 +19,7 @@ pub struct Program {
 pub struct SevDef {
     /// Its name.
     pub name: NameAst,
-    /// The mixture that the name stands for.
+    /// The mixture of that name.
     pub mix: MixAst,
     /// From `sev` to the end of the mixture.
     pub span: Span,
@@ -179,7 +179,7 @@ pub struct SevAst {
 pub enum SevBody {
     /// This mixture.
     Mixture(MixAst),
-    /// `sev.NAME`: the severity of this name. The text is what stands behind `sev.`, and the span is
+    /// `sev.NAME`: the severity of this name. The text is what follows `sev.`, and the span is
     /// that of the whole token.
     Ref(NameAst),
 }
@@ -207,7 +207,7 @@ pub struct Atom {
 /// `[..]`: a list of numbers.
 #[derive(Drop)]
 pub struct ListAst {
-    /// What stands between the brackets, at least one item.
+    /// What is between the brackets, at least one item.
     pub items: Items<ListItem>,
     /// From the opening to the closing bracket.
     pub span: Span,

@@ -1,4 +1,4 @@
-//! The syntax of a program: its types, with the bytes of the text that each node stands on; the
+//! The syntax of a program: its types, with the bytes of the text of each node; the
 //! grammar that says which tokens spell which program; and what a well-formed program is. Nothing
 //! here reads a text: each law is the contract of a function with an empty body.
 #![tactic(auto)]

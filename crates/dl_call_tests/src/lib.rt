@@ -1,4 +1,4 @@
-//! The tests of reports and of whole calls: the answers to asks about a plan, the calls of `run`
+//! The tests of reports and of whole calls: the rows of asks about a plan, the calls of `run`
 //! over sources and sinks in memory, each failing read and write, and each prefix of a text. The
 //! values were worked apart from the program.
 #![tactic(auto)]

@@ -2,8 +2,8 @@
 //! mean.
 //!
 //! A clause maps each sum to a number of buckets and never falls, so that a few cells of the sum
-//! tell each cell of what is kept. The cell that takes in all large sums is what the others leave
-//! of the whole. The mean is told by the means of the clause's layers, and by the mean of the sum,
+//! give each cell of what is kept. The cell that takes in all large sums is what the others leave
+//! of the whole. The mean follows from the means of the clause's layers, and from that of the sum,
 //! which needs no grid: so no part of it is cut off where the grid ends. The clauses speak of a
 //! unit of a valid plan, whatever its count.
 #![tactic(auto)]

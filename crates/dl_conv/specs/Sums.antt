@@ -23,6 +23,6 @@ pub record IsHalvable (n : ℕ) : Type 0 where
   pub few : halvings ≤ 11
   pub length_is : n ≡ 32 * 2 ^ halvings
 
--- the number of items from which on a product is made by halves
+-- the number of items from which on a product is by halves
 abbrev pub halved_from : ℕ
 halved_from = 1536

@@ -1,3 +1,5 @@
+//! Convolutions of grids, from exact sums of products.
+
 ghost use Rattle.std.specs.Prelude.{◌≡◌, ℕ, ◌*◌, ◌/◌, ◌^◌, ◌<◌, ◌≤◌, min, length, replicate, get_or, All, IfOk};
 ghost use Rattle.std.specs.Int.{div_ceil};
 ghost use Rattle.dl_grid.specs.Cells.{low_at, high_at, spread};
@@ -107,7 +109,7 @@ fn with_halved_sums(a: &[u128], b: &[u128], mut sums: Vec<u128>, work: &mut [u12
     sums
 }
 
-/// What `convolve` gives, with each product of two ends made for itself. It takes memory for
+/// What `convolve` gives, with each product of two ends by itself. It takes memory for
 /// exactly these cells.
 pub fn convolve_plain<const B: u32>(
     alloc: Global,
@@ -129,7 +131,7 @@ pub fn convolve_plain<const B: u32>(
 }
 
 /// The first `cells` cells of the convolution of `a` and `b`. The spread is at most what the width
-/// rule says. Where there are many cells, the products of their ends are made by halves, in work
+/// rule says. Where there are many cells, the products of their ends are by halves, in work
 /// memory that is taken at the start.
 pub fn convolve<const B: u32>(
     alloc: Global,

@@ -1,6 +1,6 @@
 //! Convolution of two grids: the grid of the sum of two independent amounts. Each cell is rounded
 //! once, its low end down and its high end up, and what lies past the grid is left out. The exact
-//! sums of products are made plainly or by halving, in a ring whose products can be counted.
+//! sums of products are plain or by halves, in a ring whose products can be counted.
 #![tactic(auto)]
 
 mod grids;

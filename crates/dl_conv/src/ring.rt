@@ -1,12 +1,14 @@
+//! Arithmetic modulo `2^128`, with and without a count of products.
+
 ghost use Rattle.std.specs.Prelude.{◌≡◌, ℕ, ◌+◌, ◌-◌, ◌*◌, ◌%◌, ◌^◌, ◌<◌, ◌≤◌, min};
 ghost use Rattle.dl_conv.specs.Modulo.{IsSame};
 
 /// Numbers modulo `2^128`, of which products are counted.
 pub trait Ring {
-    /// What stands for a number.
+    /// An element of the ring.
     type Elem: Copy;
 
-    // the whole number below 2^128 that an element stands for, and how many products were made
+    // the whole number below 2^128 that an element means, and the number of products so far
     ghost value: { Self.Elem → ℕ };
 
     ghost products: { Self → ℕ };
@@ -66,7 +68,7 @@ impl Ring for Words {
     ghost small = { remainder_small };
 }
 
-/// The words of 128 bits, with a counter of the products that were made. It clings to its greatest
+/// The words of 128 bits, with a counter of the products so far. It clings to its greatest
 /// value.
 #[derive(Clone, Copy, Debug)]
 pub struct Counted {
@@ -74,14 +76,14 @@ pub struct Counted {
 }
 
 impl Counted {
-    /// Words of which no product has been made yet.
+    /// Words with a counter at 0.
     pub fn new() -> Counted
         ensures { result.count ≡ 0 }
     {
         Counted { count: 0 }
     }
 
-    /// How many products were made.
+    /// The number of products so far.
     pub fn count(&self) -> u64
         ensures { result ≡ self.now.count }
     {

@@ -26,7 +26,7 @@ pub record FollowsInWhole (parts : List Part) (a b q : ℕ) (r : ℕ → Fractio
   pub next : (n : ℕ) → whole (q * suc n) *ℚ r (suc n)
       ≡ sum_pairs n (λ i k. whole ((a * suc n + b * suc i) * part_at parts (suc i)) *ℚ r k)
 
--- in units of 2^e the numbers stand round 2^61 times r k, for each k below n
+-- in units of 2^e the numbers enclose 2^61 times r k, for each k below n
 pub record IsRound (r : ℕ → Fraction) (e n : ℕ) (low high : List ℕ) : Type 0 where
   pub low_end : (k : ℕ) → k < n → whole (slice_index low k * 2 ^ e) ≤ℚ whole (2 ^ start_bits) *ℚ r k
   pub high_end : (k : ℕ) → k < n → whole (2 ^ start_bits) *ℚ r k ≤ℚ whole
@@ -63,7 +63,7 @@ pub record IsSum (low high : List ℕ) (k : ℕ) (sums : Sums) : Type 0 where
 abbrev pub AreSums : List Sums → List ℕ → List ℕ → Type 0
 AreSums sums low high = (k : ℕ) (d : Sums) → k < length sums → IsSum low high k (get_or sums k d)
 
--- cells with the sums that are made of them
+-- cells with their sums
 pub record IsSlid (x : Slid) : Type 0 where
   pub sound : AreSlideCells x.low.items x.high.items x.first
   pub within : x.first ≤ length x.low.items

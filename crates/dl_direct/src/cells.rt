@@ -42,6 +42,6 @@ pub struct Slid {
     pub first: usize,
     /// How many bits all cells were shifted down by.
     pub shift: u64,
-    /// The sums up to each cell, as far as they are made. Only runs need them.
+    /// The sums up to each cell, as far as they are known. Only runs need them.
     pub sums: Vec<Sums>,
 }

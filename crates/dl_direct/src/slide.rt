@@ -75,7 +75,7 @@ fn shift_cells(x: &mut Slid)
     x.shift += 8;
 }
 
-/// Shifts all cells down by 8 bits. The sums over cells that this changes are to be made again.
+/// Shifts all cells down by 8 bits. The sums over cells that this changes are then outdated.
 fn shrink(x: &mut Slid)
     requires sound { AreSlideCells x.old.low.items x.old.high.items x.old.first }
     requires within { x.old.first ≤ length x.old.low.items }

@@ -1,4 +1,4 @@
--- What an evaluation answers: a good report, or its first fault.
+-- The result of an evaluation: a good report, or its first fault.
 use Rattle.std.specs.Prelude.{ℕ, ◌≡◌, ◌<◌, ⊤, List, length, get_or, zip, All}
 use Rattle.dl_plan.specs.declared.plan.Plan.{Plan}
 use Rattle.dl_plan.specs.declared.settings.Asked.{Asked}

@@ -59,7 +59,7 @@ fn first_unknown(units: &[Unit], asks: &[Asked]) -> Option<u32>
 }
 
 /// The first ask that needs more width than the settings give, and the width it needs. The budgets
-/// of the total and of its mean are made once for all asks.
+/// of the total and of its mean are computed once for all asks.
 #[tactic(auto, using(crate::proofs::Scales::plan_scale))]
 fn first_wide<const B: u32>(plan: &Plan, settings: &Settings) -> Option<(u32, u128)>
     requires scale { B ≡ bits_of plan.now.cells }

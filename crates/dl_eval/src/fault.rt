@@ -1,9 +1,9 @@
-//! Why asks are not answered.
+//! Why asks are refused.
 
 use std::alloc::AllocError;
 use thiserror::Error;
 
-/// Why asks are not answered. Asks are counted from 0.
+/// Why asks are refused. Asks are counted from 0.
 #[derive(Clone, Copy, Debug, PartialEq, Eq, Error)]
 pub enum EvalFault {
     /// This ask is the first that lies past the grid.

@@ -50,7 +50,7 @@ pub fn exp_neg<const B: u32>(x: Frac) -> Iv<B>
     }
 }
 
-/// The sums of the terms rounded down and of those rounded up; the last term once more stands for
+/// The sums of the terms rounded down and of those rounded up; the last term once more bounds
 /// all that follow, since each is at most half of the one before.
 fn exponential(x: Frac) -> Sums
     requires { x ≤ℚ 1 over 2 }

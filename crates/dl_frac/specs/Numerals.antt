@@ -39,7 +39,7 @@ digit_count text = length (digits_in text)
 abbrev pub number_in : List ℕ → ℕ
 number_in text = digits_value 10 (digits_in text)
 
--- how many digits stand after the point
+-- how many digits follow the point
 abbrev pub places_in : List ℕ → ℕ
 places_in text = digit_count (after_first is_point text)
 

@@ -1,5 +1,5 @@
--- The width rule: how far apart the ends of a grid and of what is read from it may lie, told before
--- either is made. S units make 1; a spread is the sum of the widths of a grid's cells, in those
+-- The width rule: how far apart the ends of a grid and of what is read from it may lie, known
+-- before either is. S units make 1; a spread is the sum of the widths of a grid's cells, in those
 -- units.
 use Rattle.std.specs.Prelude.{ℕ, zero, suc, ◌+◌, ◌-◌, ◌*◌, ◌≤◌, Option, Some, None, List, [], ◌∷◌, fold}
 use Rattle.std.specs.Int.{div_ceil}

@@ -1,3 +1,5 @@
+//! Grids: an interval for each number of buckets.
+
 ghost use Rattle.std.specs.Prelude.{◌≡◌, ℕ, ◌+◌, ◌-◌, ◌^◌, ◌<◌, ◌≤◌, min, length, take, get_or, slice_set, sum, All, IfOk, true, false};
 ghost use Rattle.dl_grid.specs.Cells.{low_at, high_at, low_ends, high_ends, mass_low, mass_high, spread, all_at_zero};
 ghost use Rattle.dl_grid.specs.Cells.{IsGrid, AreEnds};
@@ -168,8 +170,7 @@ impl<const B: u32> Grid<B> {
         self.highs[x as usize] = v.hi;
     }
 
-    /// Writes one cell where the grid stays one, and leaves the others as they are. It answers
-    /// whether it did.
+    /// Writes one cell where the grid stays one, and leaves the others as they are; whether it did.
     pub fn put(&mut self, x: u32, v: Iv<B>) -> bool
         ensures written { result ≡ true → self.new ≡ slice_set self.old x v.entry }
         ensures left { result ≡ false → self.new ≡ self.old }

@@ -1,3 +1,5 @@
+//! Tests of fractions, intervals, grids, convolutions, transforms, products and the exponential.
+
 mod conv;
 mod exp;
 mod frac;

@@ -1,3 +1,5 @@
+//! Operations on intervals that round nothing.
+
 ghost use Rattle.std.specs.Prelude.{◌≡◌, ℕ, ◌+◌, ◌-◌, ◌^◌, ◌≤◌, min, List, sum_by};
 ghost use Rattle.dl_exact.specs.Fraction.{Fraction, whole, ◌over◌, ◌+ℚ◌, ◌-ℚ◌, ◌≤ℚ◌, lesser};
 ghost use Rattle.dl_exact.specs.Sum.{sum_over};

@@ -1,3 +1,5 @@
+//! Intervals.
+
 ghost use Rattle.std.specs.Prelude.{◌≤◌, ◌^◌};
 
 /// The numbers from `lo / 2^B` to `hi / 2^B`, both ends among them.

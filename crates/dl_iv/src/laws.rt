@@ -1,3 +1,5 @@
+//! Laws of intervals. Nothing here runs.
+
 ghost use Rattle.std.specs.Prelude.{◌≡◌, ℕ, ◌≤◌};
 ghost use Rattle.dl_exact.specs.Fraction.{Fraction, ◌≤ℚ◌, lesser};
 ghost use Rattle.dl_iv.specs.Enclosure.{LiesIn};

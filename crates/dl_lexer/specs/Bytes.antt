@@ -17,10 +17,10 @@ is_digit b = nat_le 48 b && nat_le b 57
 abbrev pub is_word_byte : ℕ → Bool
 is_word_byte b = is_letter b || is_digit b || b == 95 || b == 45
 
--- what stands in a note: any byte but `{` and `}`
+-- a byte of a note: any but `{` and `}`
 abbrev pub is_note_byte : ℕ → Bool
 is_note_byte b = not (b == 123 || b == 125)
 
--- what stands in a comment: any byte but a newline
+-- a byte of a comment: any but a newline
 abbrev pub is_comment_byte : ℕ → Bool
 is_comment_byte b = not (b == 10)

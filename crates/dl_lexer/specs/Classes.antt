@@ -1,4 +1,4 @@
--- What a run of bytes is made of.
+-- The classes of bytes of which a run has one.
 use Rattle.std.specs.Prelude.{ℕ, Bool}
 use Rattle.dl_lexer.specs.declared.front.Class.{Class}
 use Rattle.dl_lexer.specs.declared.front.Class.TheVariants.{Digit, Word, Note, Comment}

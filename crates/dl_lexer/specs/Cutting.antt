@@ -23,12 +23,12 @@ blank_length [] = 0
 blank_length (b ∷ bytes) =
     if is_white b then 1 else if b == 35 then 1 + prefix_len is_comment_byte bytes else 0
 
--- the token of this kind that stands on n bytes from a place on
+-- the token of this kind of n bytes from a place on
 abbrev pub token_of : Kind → ℕ → ℕ → Token
 token_of kind at n = record { kind = kind; span = record { start = at; end = at + n } }
 
 -- Blanks and these tokens, put in order, are the first bytes of a text, up to this place. In the
--- whole text no longer token begins where one of them stands, and none begins where a blank stands.
+-- whole text no longer token begins where one of them does, and none begins where a blank does.
 pub data Covers (bytes : List ℕ) : ℕ → List Token → Type 0 where
   nothing : Covers bytes 0 []
   blank : (at : ℕ) (tokens : List Token) → Covers bytes at tokens

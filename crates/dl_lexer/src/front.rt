@@ -1,4 +1,4 @@
-//! How many bytes the thing takes that stands at the front of some bytes.
+//! The length, in bytes, of what is at the front of some bytes.
 
 ghost use Rattle.std.specs.Prelude.{◌≡◌, ◌≢◌, ◌+◌, ◌<◌, ◌≤◌, ◌↔◌, IsTrue, IfSome, IfNone, Some};
 ghost use Rattle.std.specs.Prelude.{length, drop, slice_get};
@@ -9,7 +9,7 @@ ghost use Rattle.dl_lexer.specs.Cutting.{IsLongest, blank_length};
 ghost use Rattle.dl_lexer.specs.Numerals.{IsDecimalToken, IsPercent, IsFraction, IsNumeralToken};
 ghost use Rattle.dl_lexer.specs.Tokens.{begins_with_letter, IsWord, IsNote, IsRef};
 
-/// What a run of bytes is made of.
+/// The classes of bytes of which a run has one.
 #[derive(Clone, Copy)]
 pub(crate) enum Class {
     Digit,
@@ -42,7 +42,7 @@ fn run_length(bytes: &[u8], class: Class) -> usize
     bytes.len()
 }
 
-/// Whether this byte stands at a place.
+/// Whether this byte is at a place.
 fn is_at(bytes: &[u8], at: usize, byte: u8) -> bool
     ensures is { IsTrue result ↔ (slice_get bytes.now at ≡ Some byte) }
     ensures inside { IsTrue result → at < length bytes.now }
@@ -112,8 +112,8 @@ pub(crate) fn ref_length(bytes: &[u8]) -> usize
     if length > 0 { length + 4 } else { 0 }
 }
 
-/// Where a mark stands right behind the digits that begin the bytes: how many digits stand before
-/// it and how many right behind it.
+/// The numbers of digits before and behind a mark, where the mark directly follows the digits that
+/// begin the bytes.
 fn digits_round(bytes: &[u8], mark: u8) -> Option<(usize, usize)>
     ensures before { IfSome result (λ r. r.0 ≡ prefix_len is_digit bytes.now) }
     ensures mark { IfSome result (λ r. slice_get bytes.now r.0 ≡ Some mark) }

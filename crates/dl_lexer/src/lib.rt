@@ -1,5 +1,5 @@
 //! The tokens of a text: its bytes are cut from the left into blanks and tokens, each token with
-//! its place, or the first place where none begins is told.
+//! its place; or the first place where none begins.
 #![tactic(auto)]
 
 pub mod cut;

@@ -1,4 +1,4 @@
-//! What a text is made of: tokens, each with its kind and its place.
+//! Tokens, each with its kind and its place.
 
 ghost use Rattle.std.specs.Prelude.{◌≡◌, ◌≢◌, IfSome, IfNone, map};
 ghost use Rattle.dl_lexer.specs.Keywords.{spelling, first_spelled};
@@ -169,7 +169,7 @@ pub struct Span {
     pub end: u32,
 }
 
-/// A token and the bytes of the text that it stands on.
+/// A token and its bytes in the text.
 #[derive(Clone, Copy, Debug, PartialEq, Eq)]
 pub struct Token {
     pub kind: Kind,

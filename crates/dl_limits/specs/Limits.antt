@@ -127,7 +127,7 @@ most_text = 1048576
 abbrev pub most_asks : ℕ
 most_asks = 256
 
--- a share is told where the total has a probability of at least 1 in so many
+-- kappa is reported only where P(total) is at least 1 over this
 abbrev pub rarest_parts : ℕ
 rarest_parts = 2 ^ 16
 

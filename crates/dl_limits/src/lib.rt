@@ -62,7 +62,7 @@ pub const MOST_TEXT: usize = 1_048_576;
 /// The most asks of a call.
 pub const MOST_ASKS: usize = 256;
 
-/// A share is told where the total has a probability of at least 1 in so many.
+/// `kappa` is reported only where P(total) is at least `1 / RAREST_PARTS`.
 pub const RAREST_PARTS: u128 = 1 << 16;
 
 /// The most decimals of a printed end.

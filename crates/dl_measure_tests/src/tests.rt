@@ -1,3 +1,5 @@
+//! Tests of portfolios, measures, shares and aggregate clauses.
+
 mod alloc;
 mod cede;
 mod cede_means;

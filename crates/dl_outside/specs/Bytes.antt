@@ -1,5 +1,5 @@
--- What a whole read takes from a source and a whole write adds to a sink, where they tell their
--- bytes.
+-- What a whole read takes from a source and a whole write adds to a sink, where their bytes are
+-- known.
 use Rattle.std.specs.Prelude.{◌≡◌, ℕ, ◌<◌, ◌≤◌, List, length, take, drop, Option, None, Some, ⊤}
 use Rattle.std.specs.Io.KnownBytes.{Appends}
 

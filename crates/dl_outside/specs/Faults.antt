@@ -5,18 +5,18 @@ use Rattle.std.specs.Prelude.{ℕ, ◌+◌, ◌-◌, ◌^◌, ◌≤◌, min, Li
 abbrev pub next_count : ℕ → ℕ
 next_count n = min (n + 1) (2 ^ 64 - 1)
 
--- the count of faults rose, or stands at its last value
+-- the count of faults rose, or is at its greatest value
 abbrev pub Rose : ℕ → ℕ → Type 0
 Rose before now = next_count before ≤ now
 
--- of an object that fails on purpose: the numbers of the calls that fail, how many calls were made,
--- and how many of them failed
+-- of an object that fails on purpose: the numbers of the calls that fail, the number of calls so
+-- far, and how many of them failed
 pub record Calls : Type 0 where
   pub fails : List ℕ
   pub made : ℕ
   pub faults : ℕ
 
--- no call was made yet
+-- before the first call
 abbrev pub no_calls : List ℕ → Calls
 no_calls fails = record { fails = fails; made = 0; faults = 0 }
 

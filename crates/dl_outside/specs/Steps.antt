@@ -1,5 +1,5 @@
 -- A whole read and a whole write as rows of calls. A step says what one call did: the state before
--- it, its answer, the bytes of its buffer or its piece, and the state after it.
+-- it, its result, the bytes of its buffer or its piece, and the state after it.
 use Rattle.std.specs.Prelude.{ℕ, ◌+◌, ◌<◌, ◌≤◌, List, [], ◌++◌, length, take, drop, Result, Ok, Err}
 
 -- what one call may do
@@ -14,7 +14,7 @@ pub data Reads {S E : Type 0} (step : Step S E) (start : S) (most : ℕ) : List 
       → step before (Ok n) buf after → 0 < n
       → length bytes + length buf ≤ most → Reads step start most (bytes ++ take n buf) after
 
--- after reads that gave these bytes, one more read with room for a byte had this answer, and was
+-- after reads that gave these bytes, one more read with room for a byte had this result, and was
 -- the last
 pub record LastRead {S E : Type 0} (step : Step S E) (start : S) (most : ℕ) (bytes : List ℕ)
     (answer : Result ℕ E) (finish : S) : Type 0 where

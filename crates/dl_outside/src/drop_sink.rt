@@ -6,7 +6,7 @@ ghost use Rattle.std.specs.Io.KnownBytes.{WriteAppends};
 
 use crate::{Sink, WriteFailed};
 
-/// Takes all bytes and tells none. It never fails.
+/// Takes all bytes and keeps none. It never fails.
 #[derive(Clone, Copy, Debug, Default, PartialEq, Eq)]
 pub struct DropSink;
 

@@ -1,10 +1,10 @@
 //! Where bytes come from and where they go to.
 //!
 //! A [`Source`] is read and a [`Sink`] is written, a piece at a time, and either may fail. Each has
-//! a count of faults, which shows that a failure had its cause, and may tell its bytes.
-//! [`read_all`] and [`write_all`] are all that the rest of the program uses. Over memory stand
-//! [`MemSource`], [`SteadySource`] and [`MemSink`], for callers without an operating system and for
-//! tests; [`StdSource`] and [`StdSink`] stand over std's readers and writers.
+//! a count of faults, which shows that a failure had its cause, and its bytes where they are known.
+//! [`read_all`] and [`write_all`] are all that the rest of the program uses. [`MemSource`],
+//! [`SteadySource`] and [`MemSink`] are over memory, for callers without an operating system and
+//! for tests; [`StdSource`] and [`StdSink`] are over std's readers and writers.
 #![tactic(auto)]
 
 mod drop_sink;
@@ -24,12 +24,12 @@ pub use system::{StdSink, StdSource};
 use thiserror::Error;
 pub use whole::{ReadEnd, WriteFault, read_all, write_all};
 
-/// The answer of a read that failed.
+/// A failed read.
 #[derive(Clone, Copy, Debug, PartialEq, Eq, Error)]
 #[error("the read failed")]
 pub struct ReadFailed;
 
-/// The answer of a write that failed.
+/// A failed write.
 #[derive(Clone, Copy, Debug, PartialEq, Eq, Error)]
 #[error("the write failed")]
 pub struct WriteFailed;
@@ -38,13 +38,13 @@ pub struct WriteFailed;
 pub trait Source {
     ghost use Rattle.dl_outside.specs.declared.ReadFailed.{ReadFailed};
 
-    /// The bytes that are left, where the source tells them.
+    /// The bytes that are left, where they are known.
     ghost left: { Self → Option (List ℕ) };
 
     /// How many reads have failed: no other read changes it. It clings to the greatest `u64`.
     ghost faults: { Self → ℕ };
 
-    /// What one read may do: the state before it, its answer, the buffer after it, and the state
+    /// What one read may do: the state before it, its result, the buffer after it, and the state
     /// after it.
     ghost read_step: { Self → Result ℕ ReadFailed → List ℕ → Self → Type 0 };
 
@@ -65,13 +65,13 @@ pub trait Source {
 pub trait Sink {
     ghost use Rattle.dl_outside.specs.declared.WriteFailed.{WriteFailed};
 
-    /// The bytes that it holds, where the sink tells them.
+    /// The bytes that it holds, where they are known.
     ghost held: { Self → Option (List ℕ) };
 
     /// How many writes have failed: no other write changes it. It clings to the greatest `u64`.
     ghost faults: { Self → ℕ };
 
-    /// What one write may do: the state before it, its answer, the piece, and the state after it.
+    /// What one write may do: the state before it, its result, the piece, and the state after it.
     ghost write_step: { Self → Result ℕ WriteFailed → List ℕ → Self → Type 0 };
 
     /// Appends the first bytes of `piece`, and says how many: none only of an empty piece.

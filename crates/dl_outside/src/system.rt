@@ -8,11 +8,11 @@ ghost use Rattle.dl_outside.specs.Faults.{Rose, next_count};
 use crate::{ReadFailed, Sink, Source, WriteFailed};
 use std::io::{Read, Write};
 
-/// Any reader of std: one `read` a call, and a fault for each error. It tells no bytes.
+/// Any reader of std: one `read` a call, and a fault for each error. Its bytes are unknown.
 ///
 /// All that std's `Read` says of a call is which bytes it took, where they are known, and that one
-/// that failed took none. So no clause tells one read from two of which the first failed, or gave
-/// less: tests count them.
+/// that failed took none. So no clause separates one read from two of which the first failed, or
+/// gave less: tests count them.
 #[derive(Drop)]
 pub struct StdSource<R> {
     inner: R,
@@ -72,11 +72,11 @@ impl<R: Read> Source for StdSource<R> {
 }
 
 /// Any writer of std: one `write` a call, and a fault for each error and for each piece of which
-/// nothing is taken. It tells no bytes.
+/// nothing is taken. Its bytes are unknown.
 ///
 /// All that std's `Write` says of a call is which bytes it appended, where they are known, and that
-/// one that failed appended none. So no clause tells one write from two of which the first failed,
-/// or took less: tests count them.
+/// one that failed appended none. So no clause separates one write from two of which the first
+/// failed, or took less: tests count them.
 #[derive(Drop)]
 pub struct StdSink<W> {
     inner: W,

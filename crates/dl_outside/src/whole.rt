@@ -90,7 +90,7 @@ pub fn read_all<R: Source>(alloc: Global, src: &mut R, limit: usize) -> Result<V
     ensures taken { TakesAtMost (R.left src.old) (R.left src.new) (limit + 1) }
 
     // No read follows one that gave nothing or failed, and none has room for more than is wanted,
-    // whatever the answer is. `record {}` is the one error that a read has.
+    // whatever the result is. `record {}` is the one error that a read has.
     ensures reading { Reading R.read_step src.old (limit + 1) src.new }
     ensures ended { IfOk result (λ bytes.
         LastRead R.read_step src.old (limit + 1) bytes.items (Ok 0) src.new) }
@@ -99,7 +99,7 @@ pub fn read_all<R: Source>(alloc: Global, src: &mut R, limit: usize) -> Result<V
     ensures failed { IsErrOf result ReadEnd.Fault → ((bytes : List ℕ)
         × LastRead R.read_step src.old (limit + 1) bytes (Err (record {})) src.new) }
 
-    // A fault has its cause, and a read that failed is told as a fault: no other answer hides one.
+    // A fault has its cause, and a read that failed gives a fault: no other result hides one.
     ensures later { R.faults src.old ≤ R.faults src.new }
     ensures fault { IsErrOf result ReadEnd.Fault → Rose (R.faults src.old) (R.faults src.new) }
     ensures steady { result ≢ Err ReadEnd.Fault → R.faults src.new ≡ R.faults src.old }
@@ -115,7 +115,7 @@ pub fn read_all<R: Source>(alloc: Global, src: &mut R, limit: usize) -> Result<V
     Err(ReadEnd::TooLong)
 }
 
-/// Appends all of `bytes`. Each write offers all that are left, and none is made of no bytes.
+/// Appends all of `bytes`. Each write offers all that are left, at least one.
 pub fn write_all<K: Sink>(sink: &mut K, bytes: &[u8]) -> Result<(), WriteFault>
     ensures whole { OnOk result (Appends (K.held sink.old) (K.held sink.new) bytes.now) }
     ensures part { OnErr result (AppendsPartOf (K.held sink.old) (K.held sink.new) bytes.now) }

@@ -1,4 +1,4 @@
--- The grids of Poisson and geometric counts: each cell past the first is made from the grid's own
+-- The grids of Poisson and geometric counts: each cell past the first follows from the grid's own
 -- earlier cells.
 use Rattle.std.specs.Prelude.{ℕ, suc, Bool, true, false, ◌≡◌, ◌+◌, ◌/◌, ◌<◌, ◌≤◌, ◌^◌, List, length}
 use Rattle.std.specs.Int.{div_ceil}
@@ -26,7 +26,7 @@ pub record StartsAtExp {B : ℕ} (v : Fraction) (grid : List (Iv B)) : Type 0 wh
   pub narrow : first.hi ≤ first.lo + 3
   pub small : first.hi ≤ 2 ^ B
 
--- Each cell but the first is made from the grid's own cells before it, by two roundings, the low
+-- Each cell but the first follows from the grid's own cells before it, by two roundings, the low
 -- end down and the high end up: over the whole weight `total` of the items, and times `factor s`.
 -- No high end is above 1. An amount counts by its weight, and where `by_amount` says so by itself
 -- too.

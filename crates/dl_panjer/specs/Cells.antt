@@ -35,7 +35,7 @@ high_next scale by_amount items total rate ends s =
     min scale (div_ceil (div_ceil (next_sum (coefficient by_amount items) ends s) total * rate.num)
     (counted by_amount (suc s) rate.den))
 
--- each of so many cells but the first is made from those before it
+-- each of so many cells but the first follows from those before it
 pub record Follows (scale : ℕ) (by_amount : Bool) (items : List Item) (total : ℕ)
     (rate : Fraction) (lo hi : ℕ → ℕ) (cells : ℕ) : Type 0 where
   pub low : (s : ℕ) → suc s < cells → lo (suc s) ≡ low_next by_amount items total rate lo s

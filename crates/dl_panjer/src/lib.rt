@@ -1,5 +1,5 @@
 //! Grids of compound Poisson and compound geometric sums by Panjer's recursion: cell 0 encloses the
-//! probability of no claim, and each later cell is made from those before it, with two outward
+//! probability of no claim, and each later cell follows from those before it, with two outward
 //! roundings for each end.
 #![tactic(auto)]
 

@@ -8,12 +8,12 @@ use Rattle.dl_ast.specs.Lexemes.{Lexeme, lexeme, lexemes}
 use Rattle.dl_ast.specs.Rules.{Rule}
 use Rattle.dl_parser.specs.Reading.{Place, got, stuck, read}
 
--- where a parser stands
+-- the place of a parser
 abbrev pub place : Parser → Place
 place p = record { end = p.end; rest = lexemes p.source.now p.rest.now }
 
--- What a method returns is what reading by the rule gives, and the parser stands where reading
--- does.
+-- What a method returns is what reading by the rule gives, and the parser's place is that of the
+-- reader.
 abbrev pub ReadsBy : {X : Type 0} → Rule X → Parser → Parser → Result X Stop → Type 0
 ReadsBy r old new (Ok x) = read r (place old) ≡ got x (place new)
 ReadsBy r old new (Err (Wanted kind)) = read r (place old) ≡ stuck kind (place new)

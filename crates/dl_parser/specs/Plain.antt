@@ -1,5 +1,5 @@
--- In the grammar as it is read the looks at the next tokens tell how to go on, and wherever parts
--- stand one behind another they tell whether another one follows.
+-- In the grammar as it is read the looks at the next tokens decide how to go on, and in a row of
+-- parts whether another one follows.
 use Rattle.std.specs.Prelude.{◌≡◌, true, refl}
 use Rattle.dl_ast.specs.Rules.{many}
 use Rattle.dl_ast.specs.Grammar.{numeral, name, note, limit, layer, reference, side, count, zero_change}

@@ -22,12 +22,12 @@ same_kind _ _ = false
 abbrev pub among : Kind → List Kind → Bool
 among k ks = list_any (same_kind k) ks
 
--- where reading stands: the end of the last token, and the tokens that are left
+-- the place of a reader: the end of the last token, and the tokens that are left
 pub record Place : Type 0 where
   pub end : ℕ
   pub rest : List Lexeme
 
--- what was read and where reading stands, or the kind that the next token is not
+-- what was read and the place behind it, or the kind that the next token is not
 pub data Outcome (X : Type 0) : Type 0 where
   got : X → Place → Outcome X
   stuck : Kind → Place → Outcome X
@@ -89,7 +89,7 @@ goes_on (unless j k a) ts = enters j k (first a) ts || goes_on a ts
 goes_on (made f a) ts = goes_on a ts
 goes_on (node f a) ts = goes_on a ts
 
--- a rule may spell something by a single token of a kind, and the kinds that may stand second behind
+-- a rule may spell something by a single token of a kind, and the kinds that may be second behind
 -- it
 abbrev pub alone : {X : Type 0} → Kind → Rule X → Bool
 alone j (one k) = same_kind k j
@@ -201,7 +201,7 @@ settles ks (unless j k a) = among j ks && settles ks a
 settles ks (made f a) = settles ks a
 settles ks (node f a) = settles ks a
 
--- the looks at the next tokens tell how to go on
+-- the looks at the next tokens decide how to go on
 abbrev pub is_plain : {X : Type 0} → Rule X → Bool
 is_plain (one k) = true
 is_plain (a ▸ b) = is_plain a && (is_plain b && (clears a b && is_settled a))

@@ -1,4 +1,4 @@
-//! Where a parser stands.
+//! The place of a parser.
 
 ghost use Rattle.dl_parser.specs.Placed.{AllInside};
 

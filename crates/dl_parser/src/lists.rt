@@ -11,7 +11,7 @@ use crate::stop::Stop;
 use dl_ast::{ListAst, ListItem, Numeral};
 use dl_lexer::{Kind, Sign, Span, both};
 
-/// The item of a number and of what stands behind it: where it goes to, and by which step.
+/// The item of a number and of what follows it: the end of a range, and its step.
 fn item_of(from: Numeral, bounds: Option<(Numeral, Option<Numeral>)>, span: Span) -> ListItem
     ensures { result ≡ item_of (from, bounds) span }
 {

@@ -1,4 +1,4 @@
-//! Parts that stand one behind another.
+//! Parts that follow one another.
 
 ghost use Rattle.std.specs.Prelude.{◌≡◌};
 ghost use Rattle.dl_ast.specs.Grammar.{some_of};
@@ -9,8 +9,8 @@ use crate::cursor::Parser;
 use crate::stop::{Stop, only};
 use dl_ast::Items;
 
-/// What stands any number of times: the first one, and the others, which may be led by a word or a
-/// sign. The next token alone tells whether another one follows.
+/// A part that may occur any number of times: the first one, and the others, each of which may be
+/// led by a word or a sign. The next token alone decides whether another one follows.
 pub(crate) trait Part: Sized + Drop {
     ghost use Rattle.std.specs.Prelude.{true};
     ghost use Rattle.dl_ast.specs.Rules.{Rule, many};

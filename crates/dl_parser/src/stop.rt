@@ -8,7 +8,7 @@ use std::alloc::{AllocError, AllocFailed, Global};
 /// Why a parser stops.
 #[derive(Debug, Drop)]
 pub(crate) enum Stop {
-    /// The next token is not of the kind that is wanted; the parser stands at it.
+    /// The next token, which is not of the kind that is wanted.
     Wanted(Kind),
     /// Memory ran out.
     OutOfMemory,

@@ -25,7 +25,7 @@ pub enum ParseFault {
     #[error("no program goes on with token {0}")]
     Syntax(u32),
     /// That same number, where the token that follows is the word of a continuous severity and
-    /// stands in a severity's place.
+    /// is in a severity's place.
     #[error("token {0} is a continuous severity")]
     Continuous(u32),
     /// Memory ran out.

@@ -108,7 +108,7 @@ impl<'a> Parser<'a> {
         self.take(other)
     }
 
-    /// Takes a token of one kind and one of another behind it, which stand for this together.
+    /// Takes a token of one kind and one of another behind it, which mean this together.
     pub(crate) fn take_both<T: Copy>(
         &mut self,
         kind: Kind,

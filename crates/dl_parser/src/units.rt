@@ -1,4 +1,4 @@
-//! Units, and the program that is made of them.
+//! Units and programs.
 
 ghost use Rattle.std.specs.Prelude.{◌≡◌};
 ghost use Rattle.dl_ast.specs.Rules.{maybe};
@@ -266,7 +266,7 @@ impl<'a> Parser<'a> {
         })
     }
 
-    /// What stands behind a unit's name: its next token tells which of the two.
+    /// What follows a unit's name: the next token decides which of the two.
     #[tactic(auto, unfolding(crate::specs::Factored::body, crate::specs::Factored::counted, crate::specs::Factored::listed,))]
     fn body(&mut self) -> Result<Body, Stop>
         ensures source { self.new.source ≡ self.old.source }

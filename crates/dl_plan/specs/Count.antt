@@ -39,7 +39,7 @@ pub record IsProbability (q : Fraction) : Type 0 where
   pub within : q ≤ℚ whole 1
   pub admitted : HasPartsOf48Bits q
 
--- a listed count is made like a severity, with numbers of at most 256; fixed counts and trials are
+-- a listed count is like a severity, with numbers of at most 256; fixed counts and trials are
 -- at most 65,536; a shape is from 1 to 10,000
 abbrev pub IsClaimCount : Freq → Type 0
 IsClaimCount (Fixed m) = m ≤ most_claims

@@ -44,7 +44,7 @@ abbrev pub buckets_behind : (missing rise : ℕ) → ℕ
 buckets_behind missing rise = if rise == 0 then 0 else div_ceil missing rise
 
 -- That horizon as a number. Past the last edge what a clause keeps rises by the same in each
--- bucket, so one division tells from there when it has reached h.
+-- bucket, so one division finds from there when it has reached h.
 unfoldable pub horizon : Option Clause → ℕ → ℕ
 horizon None h = h
 horizon (Some clause) h =

@@ -6,7 +6,7 @@ use Rattle.dl_plan.specs.declared.item.Item.{Item}
 use Rattle.dl_plan.specs.declared.severity.Sev.{Sev}
 use Rattle.dl_plan.specs.Weighted.{weight_at}
 
--- amounts in buckets, each with a probability; an amount may stand there more than once
+-- amounts in buckets, each with a probability; an amount may occur more than once
 abbrev pub Pairs : Type 0
 Pairs = List (ℕ × Fraction)
 

@@ -17,7 +17,7 @@ pub fn law_numerals()
     ensures { (text : List ℕ) → read.IsNumeral text ↔ token.IsNumeralToken text }
 {}
 
-/// There is one horizon, and `horizon` tells it of every clause that is accepted. It is at least 1
+/// There is one horizon, and `horizon` is that of every clause that is accepted. It is at least 1
 /// and at least each edge, and there what a clause keeps has reached the cells, or is constant from
 /// there on.
 pub fn law_horizon()

@@ -1,3 +1,5 @@
+//! Tests of plans, severities and typing rules.
+
 mod helpers;
 mod plan;
 mod sev;

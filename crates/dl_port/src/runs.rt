@@ -9,7 +9,7 @@ use dl_grid::Grid;
 use dl_product::{Workspace, product, square};
 use std::alloc::{AllocError, Global};
 
-/// Whether two grids have the same cells; where it cannot tell, it says no.
+/// Whether two grids have the same cells; false where that is not known.
 fn are_same<const B: u32>(a: &Grid<B>, b: &Grid<B>) -> bool
     ensures { IsTrue result → a.now ≡ b.now }
 {

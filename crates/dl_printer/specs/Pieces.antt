@@ -1,4 +1,4 @@
--- The tokens that the canonical text of each node of the syntax is made of.
+-- The tokens of the canonical text of each node of the syntax.
 use Rattle.std.specs.Prelude.{ℕ, Bool, true, false, List, [], ◌∷◌, ◌++◌, flat_map, codes, Option, Some, None}
 use Rattle.dl_lexer.specs.declared.token.Keyword.{Keyword}
 use Rattle.dl_lexer.specs.declared.token.Keyword.TheVariants as words
@@ -51,7 +51,7 @@ word_piece k = piece (kinds.Word k) (spelling k)
 abbrev pub sign_piece : Sign → List Piece
 sign_piece s = piece (kinds.Sign s) (sign_byte s ∷ [])
 
--- names, references, numerals and notes stand as they were written
+-- names, references, numerals and notes as they were written
 abbrev pub name_piece : NameAst → List Piece
 name_piece n = piece kinds.Name n.text
 

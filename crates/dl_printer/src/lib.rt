@@ -1,5 +1,5 @@
-//! The canonical text of a program: one spelling of its syntax, in which names, numerals and notes
-//! stand as they were written.
+//! The canonical text of a program: one spelling of its syntax, with names, numerals and notes as
+//! they were written.
 #![tactic(auto)]
 
 ghost use Rattle.std.specs.Prelude.{◌≡◌, IfOk};

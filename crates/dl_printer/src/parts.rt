@@ -7,12 +7,12 @@ ghost use Rattle.dl_printer.specs.Printing.{with_pieces};
 use crate::printer::Printer;
 use std::alloc::AllocError;
 
-/// A node of the syntax that is printed alike wherever it stands.
+/// A node of the syntax that is printed alike in every place.
 pub(crate) trait Printed {
     ghost use Rattle.std.specs.Prelude.{List};
     ghost use Rattle.dl_printer.specs.Pieces.{Piece};
 
-    /// The tokens that it is made of.
+    /// Its tokens.
     ghost pieces: { Self → List Piece };
 
     /// Puts them at the end of the text.

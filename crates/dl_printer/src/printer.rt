@@ -14,7 +14,7 @@ use dl_lexer::{Keyword, Kind, Sign, Text};
 use std::alloc::{AllocError, Global};
 use std::marker::Model;
 
-/// Whether nothing stands behind a token of this kind.
+/// Whether no gap follows a token of this kind.
 fn is_tight_behind(kind: Kind) -> bool
     ensures { result ≡ is_tight_behind kind }
 {
@@ -24,7 +24,7 @@ fn is_tight_behind(kind: Kind) -> bool
     }
 }
 
-/// Whether nothing stands before a token of this kind.
+/// Whether no gap precedes a token of this kind.
 fn is_tight_before(kind: Kind) -> bool
     ensures { result ≡ is_tight_before kind }
 {
@@ -44,7 +44,7 @@ fn begins_line(kind: Kind) -> bool
     }
 }
 
-/// What stands between tokens of these kinds.
+/// The gap between tokens of these kinds.
 #[tactic(auto, unfolding(crate::specs::Canonical::between))]
 fn between(last: Kind, kind: Kind) -> &'static [u8]
     ensures { result.now ≡ between last kind }
@@ -94,7 +94,7 @@ impl Printer {
         }
     }
 
-    /// A token, with what stands before it.
+    /// A token, with the gap before it.
     #[tactic(auto, unfolding(crate::specs::Canonical::gap, crate::specs::Printing::with_pieces, crate::specs::Pieces::piece,))]
     fn put(&mut self, kind: Kind, bytes: &[u8]) -> Result<(), AllocError>
         ensures { OnOk result (self.new ≡ with_pieces self.old (piece kind bytes.now)) }
@@ -107,7 +107,7 @@ impl Printer {
         Ok(())
     }
 
-    /// A token of two parts, with what stands before it.
+    /// A token of two parts, with the gap before it.
     #[tactic(auto, using(crate::proofs::Growing::in_two_parts), unfolding(crate::specs::Canonical::gap, crate::specs::Printing::with_pieces, crate::specs::Pieces::piece,))]
     fn put_both(&mut self, kind: Kind, front: &[u8], back: &[u8]) -> Result<(), AllocError>
         ensures { OnOk result (self.new

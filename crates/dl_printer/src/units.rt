@@ -1,4 +1,4 @@
-//! Units, and the program that is made of them.
+//! Units and programs.
 
 ghost use Rattle.std.specs.Prelude.{◌≡◌, OnOk};
 ghost use Rattle.dl_printer.specs.Pieces.{freq_pieces, exposure_pieces, listed_pieces};

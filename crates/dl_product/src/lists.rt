@@ -1,3 +1,5 @@
+//! The product of two lists, by whichever of three ways is the fastest.
+
 ghost use Rattle.std.specs.Prelude.{◌≡◌, ℕ, ◌<◌, ◌≤◌, length, get_or, IfOk, IfSome};
 ghost use Rattle.dl_limits.specs.Limits.{most_cells};
 ghost use Rattle.dl_conv.specs.Sums.{pair_sum, ItemsFit};

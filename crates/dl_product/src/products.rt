@@ -1,3 +1,5 @@
+//! Products and squares of grids.
+
 ghost use Rattle.std.specs.Prelude.{◌≡◌, ◌^◌, ◌≤◌, length, IfOk};
 ghost use Rattle.dl_grid.specs.Cells.{spread};
 ghost use Rattle.dl_grid.specs.Convolution.{IsConvolution};

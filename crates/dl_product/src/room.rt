@@ -1,10 +1,12 @@
+//! Working memory and tables of products.
+
 ghost use Rattle.std.specs.Option.{ForSome};
 ghost use Rattle.dl_transform.specs.Setup.{IsSetup};
 
 use dl_transform::{Buffers, Setup, checked_product, checked_square, set_up};
 use std::alloc::{AllocError, Global};
 
-/// Room and tables for products. A new one takes no memory: what a product needs is made at the
+/// Room and tables for products. A new one takes no memory: what a product needs is taken at the
 /// first product that needs it, and kept for those after it.
 #[derive(Drop)]
 pub struct Workspace {
@@ -38,8 +40,8 @@ impl Workspace {
         Ok(())
     }
 
-    /// Whether the first items of the product of two lists could be told by transforms of
-    /// `2^levels` items, as many as `out` has room for; then `out` has them.
+    /// Whether transforms of `2^levels` items serve the product of two lists; then `out` has its
+    /// first items, as many as it has room for.
     pub(crate) fn product(
         &mut self,
         alloc: Global,

@@ -1,3 +1,5 @@
+//! Squares of short lists, one product after another.
+
 ghost use Rattle.std.specs.Prelude.{◌≡◌, ℕ, ◌+◌, ◌*◌, ◌/◌, ◌%◌, ◌^◌, ◌<◌, ◌≤◌, length, get_or};
 ghost use Rattle.dl_conv.specs.Sums.{pair_sum, ItemsFit};
 

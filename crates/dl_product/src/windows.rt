@@ -1,3 +1,5 @@
+//! The part of a list between its first and its last item that is not 0.
+
 ghost use Rattle.std.specs.Prelude.{◌≡◌, ℕ, ◌<◌, ◌≤◌, length, get_or};
 ghost use Rattle.dl_product.specs.Windows.{IsWindow};
 

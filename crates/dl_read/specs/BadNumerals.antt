@@ -71,7 +71,7 @@ bad_in_exposure (Claims n _) = bad_place n
 bad_in_exposure (Loss n _) = bad_place n
 bad_in_exposure (Premium p r _) = bad_place p else bad_place r
 
--- what stands before the severity, and what stands behind the occurrence clause
+-- what precedes the severity, and what follows the occurrence clause
 abbrev pub bad_in_count : CountAst → Option Span
 bad_in_count (Exposed exposure freq zero) = bad_in_exposure exposure
 bad_in_count (Listed values probs _) = bad_in_pair values probs

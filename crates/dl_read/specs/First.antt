@@ -5,13 +5,13 @@ use denote.Ref.{Bor}
 use Rattle.dl_lexer.specs.declared.token.Span.{Span}
 
 infixr 6 ◌else◌
--- the first answer, where there is one, and else the second
+-- the first place, where there is one, and else the second
 abbrev pub ◌else◌ : {A : Type 0} → Option A → Option A → Option A
 (Some x) else y = Some x
 None else y = y
 
--- the answer for a unit's own part, and else for its severity, where the severity is written behind
--- that part; a named one is written before all units, and its answer comes first
+-- the place in a unit's own part, and else in its severity, where the severity is written behind
+-- that part; a named one is written before all units, and its place comes first
 abbrev pub earlier : {A : Type 0} → Bool → Option A → Option A → Option A
 earlier true own severity = severity else own
 earlier false own severity = own else severity
@@ -21,12 +21,12 @@ abbrev pub at_if : Bool → Span → Option Span
 at_if true place = Some place
 at_if false place = None
 
--- the answer for a part that may be missing
+-- the place in a part that may be missing
 abbrev pub within : {A B : Type 0} → (A → Option B) → Option A → Option B
 within f None = None
 within f (Some x) = f x
 
--- the answer for the first part of a list that has one
+-- the place in the first part of a list that has one
 unfoldable pub first_in : {A B : Type 0} → (A → Option B) → List A → Option B
 first_in f [] = None
 first_in f (x ∷ xs) = f x else first_in f xs
@@ -36,7 +36,7 @@ unfoldable pub in_turn : {A B : Type 0} → (List A → A → Option B) → List
 in_turn f seen [] = None
 in_turn f seen (x ∷ xs) = f seen x else in_turn f (seen ++ x ∷ []) xs
 
--- what stands in a part that may be missing
+-- the content of a part that may be missing
 abbrev pub each_of : {A B : Type 0} → (A → List B) → Option A → List B
 each_of f None = []
 each_of f (Some x) = f x

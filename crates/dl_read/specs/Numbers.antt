@@ -44,12 +44,12 @@ use Rattle.dl_read.specs.declared.numbers.OwnNumbers.{OwnNumbers}
 use Rattle.dl_read.specs.declared.numbers.UnitNumbers.{UnitNumbers}
 use Rattle.dl_read.specs.BadNumerals.{value}
 
--- what is made of a part that may be missing
+-- the value of a part that may be missing
 abbrev pub if_there : {A B : Type 0} → (A → B) → Option A → Option B
 if_there f None = None
 if_there f (Some x) = Some (f x)
 
--- the value of a numeral that may be missing, and what stands for it
+-- the value of a numeral, or a default where it is missing
 abbrev pub value_or : Fraction → Option Numeral → Fraction
 value_or x None = x
 value_or x (Some n) = value n
@@ -125,7 +125,7 @@ abbrev pub count_numbers : CountAst → CountNumbers
 count_numbers (counts.Exposed exposure freq zero) = numbers.Exposed (exposure_numbers exposure)
 count_numbers (counts.Listed values probs _) = numbers.Listed (pair_numbers values probs)
 
--- listed counts have no distribution: any stands for it
+-- listed counts have no distribution: any will do
 abbrev pub distribution_number : CountAst → ReadFreq
 distribution_number (counts.Exposed exposure freq zero) = freq_number freq
 distribution_number (counts.Listed values probs span) = Fixed span
@@ -140,7 +140,7 @@ abbrev pub given_zero : CountAst → Option Fraction
 given_zero (counts.Exposed exposure freq zero) = zero_number zero
 given_zero (counts.Listed values probs span) = None
 
--- what stands behind the severity
+-- what follows the severity
 abbrev pub term_numbers : UnitAst → TermNumbers
 term_numbers u = record {
   occ = if_there clause_numbers u.occ;
@@ -149,7 +149,7 @@ term_numbers u = record {
   agr = if_there clause_numbers u.agr;
 }
 
--- what stands before the severity
+-- what precedes the severity
 abbrev pub own_numbers : UnitAst → OwnNumbers
 own_numbers u = record { count = count_numbers u.count; layer = if_there layer_numbers u.layer }
 

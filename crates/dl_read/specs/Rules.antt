@@ -1,5 +1,5 @@
 -- The first rules of a unit whose severity is a mixture, on its numerals and its lists: the first
--- place where each is broken, if any. They stand here in the order in which they are asked.
+-- place where each is broken, if any. They are in the order in which they are asked.
 use Rattle.std.specs.Prelude.{◌&&◌, ◌||◌, Bool, nat_lt, flat_map, length, Option, None}
 use Rattle.dl_limits.specs.Limits.{most_range_parts, most_values, most_atoms, most_layers}
 use Rattle.dl_sev.specs.declared.range.Range.{Range}

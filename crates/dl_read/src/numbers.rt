@@ -48,7 +48,7 @@ pub(crate) struct SevNumbers {
     pub(crate) span: Span,
 }
 
-/// A claim count, before what stands behind the severity.
+/// A claim count, without what follows the severity.
 #[derive(Drop)]
 pub(crate) enum CountNumbers {
     /// An exposure.
@@ -57,7 +57,7 @@ pub(crate) enum CountNumbers {
     Listed(PairNumbers),
 }
 
-/// What stands behind the severity of a unit.
+/// What follows the severity of a unit.
 #[derive(Drop)]
 pub(crate) struct TermNumbers {
     /// The reinsurance of each claim.
@@ -70,7 +70,7 @@ pub(crate) struct TermNumbers {
     pub(crate) agr: Option<ReadClause>,
 }
 
-/// What stands before the severity of a unit.
+/// What precedes the severity of a unit.
 #[derive(Drop)]
 pub(crate) struct OwnNumbers {
     /// The claim count, but for its distribution.

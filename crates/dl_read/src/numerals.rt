@@ -50,7 +50,7 @@ pub(crate) fn unit_numbers(alloc: Global, unit: &UnitAst, mix: &MixAst) -> Resul
     })
 }
 
-/// The numbers of a severity and of what stands before it in the unit.
+/// The numbers of a severity and of what precedes it in the unit.
 fn front_numbers(
     alloc: Global,
     unit: &UnitAst,
@@ -77,7 +77,7 @@ fn is_named(body: &SevBody) -> bool
     }
 }
 
-/// The numbers of what stands before a severity.
+/// The numbers of what precedes a severity.
 fn own_numbers(alloc: Global, unit: &UnitAst) -> Result<OwnNumbers, Stop>
     requires { IsFormedUnit unit.now }
     ensures { Reads (own_numbers unit.now) (bad_in_count unit.now.count
@@ -88,7 +88,7 @@ fn own_numbers(alloc: Global, unit: &UnitAst) -> Result<OwnNumbers, Stop>
     Ok(OwnNumbers { count, layer })
 }
 
-/// The numbers of what stands behind a severity.
+/// The numbers of what follows a severity.
 fn term_numbers(alloc: Global, unit: &UnitAst) -> Result<TermNumbers, Stop>
     requires { IsFormedUnit unit.now }
     ensures { Reads (term_numbers unit.now) (within bad_in_clause unit.now.occ
@@ -106,7 +106,7 @@ fn term_numbers(alloc: Global, unit: &UnitAst) -> Result<TermNumbers, Stop>
     })
 }
 
-/// The numbers of a claim count that stand before the severity.
+/// The numbers of a claim count that precede the severity.
 fn count_numbers(alloc: Global, count: &CountAst) -> Result<CountNumbers, Stop>
     requires { IsFormedCount count.now }
     ensures { Reads (count_numbers count.now) (bad_in_count count.now) result }
@@ -122,7 +122,7 @@ fn count_numbers(alloc: Global, count: &CountAst) -> Result<CountNumbers, Stop>
 }
 
 /// The distribution of a claim count, and the probability of no claim that it is given. Listed
-/// counts have no distribution, and any stands for it.
+/// counts have no distribution, and any will do.
 fn distribution_number(count: &CountAst) -> Result<(ReadFreq, Option<Frac>), Stop>
     requires { IsFormedCount count.now }
     ensures { Reads (distribution_number count.now, given_zero count.now)
@@ -240,7 +240,7 @@ fn item_numbers(item: &ListItem) -> Result<ItemNumbers, Stop>
     })
 }
 
-/// The value of a numeral that may be missing, and what stands for it.
+/// The value of a numeral, or a default where it is missing.
 fn number_or(other: Frac, part: &Option<Numeral>) -> Result<Frac, Stop>
     requires { IfSome part.now (λ n. IsNumeralToken n.text) }
     ensures { Reads (value_or other part.now) (within bad_place part.now) result }

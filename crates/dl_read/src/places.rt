@@ -12,7 +12,7 @@ pub fn place_if(test: bool, place: Span) -> Option<Span>
     if test { Some(place) } else { None }
 }
 
-/// The first place in the text of those in a unit's own part, which stands before its severity, and
+/// The first place in the text of those in a unit's own part, which precedes its severity, and
 /// in that severity. A named severity is written before all units.
 pub fn earlier(named: bool, own: Option<Span>, severity: Option<Span>) -> Option<Span>
     ensures { result ≡ earlier named own severity }
@@ -24,7 +24,7 @@ pub fn earlier(named: bool, own: Option<Span>, severity: Option<Span>) -> Option
     }
 }
 
-/// The place that a rule tells for the first part that breaks it.
+/// The place of the first part that breaks a rule.
 pub fn first_place<T, F: Fn(&T) -> Option<Span>>(parts: &[T], rule: F) -> Option<Span>
     requires { All (TakesPart F.Fn rule) parts.now }
     ensures { (broken : T → Option Span) → All (TellsPart F.Fn rule broken) parts.now

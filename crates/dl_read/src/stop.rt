@@ -28,7 +28,7 @@ impl From<AllocError> for Stop {
     }
 }
 
-/// A unit's own part, which stands before its severity, and that severity; or where the first of
+/// A unit's own part, which precedes its severity, and that severity; or where the first of
 /// them in the text stops. A named severity is written before all units.
 pub(crate) fn both_parts<A: Drop, B: Drop>(
     named: bool,

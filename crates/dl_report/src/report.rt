@@ -3,7 +3,7 @@
 use dl_lexer::Text;
 use dl_plan::Items;
 
-/// An end of an answer.
+/// An end of a row.
 #[derive(Clone, Copy, Debug, PartialEq, Eq)]
 pub enum End {
     /// A number, in units of the last printed digit.
@@ -12,11 +12,11 @@ pub enum End {
     Whole(u32),
     /// Past the grid.
     Beyond,
-    /// There is no answer.
+    /// No value.
     Absent,
 }
 
-/// The answer to an ask.
+/// A row: an ask and its two ends.
 #[derive(Drop)]
 pub struct Row {
     /// The ask's word, as it was written.
@@ -27,10 +27,10 @@ pub struct Row {
     pub high: End,
 }
 
-/// The answers of a run, in the order of the asks.
+/// The rows of a run, in the order of the asks.
 #[derive(Drop)]
 pub struct Report {
-    /// How many digits stand behind the point, from 0 to 9.
+    /// How many digits follow the point, from 0 to 9.
     pub digits: u32,
     /// A row for each ask.
     pub rows: Items<Row>,

@@ -1,3 +1,5 @@
+//! Tests of sources and sinks, tokens, syntax, canonical texts, words and reports.
+
 mod ast;
 mod endless;
 mod helpers;

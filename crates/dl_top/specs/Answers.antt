@@ -1,4 +1,4 @@
--- What the program answers to words and an input: how it ends, and what it writes.
+-- How the program ends for words and an input, and what it writes.
 use Rattle.std.specs.Prelude.{◌≡◌, ℕ, ◌<◌, ◌≤◌, List, [], length, Err, Some, None}
 use Rattle.dl_limits.specs.Limits.{most_text}
 use Rattle.dl_lexer.specs.declared.token.Token.{Token}
@@ -59,7 +59,7 @@ pub record MeansPlan (input : List ℕ) (settings : Settings) (plan : Plan) : Ty
   pub planned : IsPlanOf program settings plan
   pub valid : IsValid plan
 
--- the fault of asks as the program tells it
+-- the fault of asks as the program writes it
 abbrev pub of_asks : EvalFault → Fault → Type 0
 of_asks (evals.AskBeyond i) fault = fault ≡ faults.AskBeyond i
 of_asks (evals.UnknownUnit i) fault = fault ≡ faults.UnknownUnit i

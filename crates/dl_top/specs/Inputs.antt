@@ -13,7 +13,7 @@ Say words settings = words_of words ≡ Ok settings
 abbrev pub HasFault : List (List ℕ) → Type 0
 HasFault words = (fault : UsageFault) × (words_of words ≡ Err fault)
 
--- the words have no fault, and name the seed of a made program
+-- the words have no fault, and name the seed of a program
 pub record MakeText (words : List (List ℕ)) : Type 0 where
   pub settings : Settings
   pub say : Say words settings
@@ -26,7 +26,7 @@ pub record ReadText (words : List (List ℕ)) : Type 0 where
   pub say : Say words settings
   pub seedless : settings.make ≡ None
 
--- the program made from a seed, where there is one, else what the source has left
+-- the program from a seed, where there is one, else what the source has left
 abbrev pub text_for : Option ℕ → Option (List ℕ) → Option (List ℕ)
 text_for (Some seed) left = Some (made_of seed)
 text_for None left = left
@@ -35,7 +35,7 @@ abbrev pub text_by : Result Settings UsageFault → Option (List ℕ) → Option
 text_by (Ok settings) left = text_for settings.make left
 text_by (Err fault) left = left
 
--- the text that the words are about: a made program where they name a seed, else what the source
--- has left, where it tells that
+-- the text that the words are about: the program from a seed where they name one, else what the
+-- source has left, where that is known
 unfoldable pub input_of : List (List ℕ) → Option (List ℕ) → Option (List ℕ)
 input_of words left = text_by (words_of words) left

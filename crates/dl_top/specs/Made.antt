@@ -1,4 +1,4 @@
--- A portfolio of eight units that is made from a number, the same at each run.
+-- A portfolio of eight units from a number, the same at each run.
 use Rattle.std.specs.Prelude.{ℕ, zero, suc, ◌+◌, ◌*◌, ◌/◌, ◌%◌, ◌^◌, ◌==◌, List, [], ◌++◌, codes, if◌then◌else◌}
 use Rattle.std.specs.Fmt.{decimal}
 

@@ -10,7 +10,7 @@ use Rattle.dl_top.specs.declared.status.Status.TheVariants as statuses
 use Rattle.dl_top.specs.Faults.{fault_line}
 use Rattle.dl_top.specs.Answers.{Answers, Refuses}
 
--- the reply is what the program answers to the words and the input, unless memory ran out
+-- the reply is what the program writes for the words and the input, unless memory ran out
 abbrev pub IsReply : List (List ℕ) → List ℕ → Reply → Type 0
 IsReply words input (Answer text) = Answers words input statuses.Done text.items []
 IsReply words input (Refusal fault text) = (tokens : List Token) × Refuses words input fault tokens

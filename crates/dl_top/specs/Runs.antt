@@ -16,7 +16,7 @@ use Rattle.dl_top.specs.Statuses.{IsWritten, IsRefusal, IsUsageEnd, IsAnswerEnd}
 use Rattle.dl_top.specs.Inputs.{HasFault, MakeText, ReadText, input_of}
 use Rattle.dl_top.specs.Answers.{Answers, IsAccepted, HasForm}
 
--- the status and what the two sinks gained are an answer to the words and the input
+-- the status and what the two sinks gained follow from the words and the input
 pub record Answered (words : List (List ℕ)) (input : List ℕ) (status : Status)
     (out out' err err' : Option (List ℕ)) : Type 0 where
   pub report : List ℕ
@@ -25,16 +25,15 @@ pub record Answered (words : List (List ℕ)) (input : List ℕ) (status : Statu
   pub out_gains : Appends out out' report
   pub err_gains : Appends err err' message
 
--- the output holds a proper part of the canonical text or the report that answers the words and the
--- input
+-- the output holds a proper part of the canonical text or the report for the words and the input
 pub record PartOfReport (words : List (List ℕ)) (input : List ℕ)
     (out out' : Option (List ℕ)) : Type 0 where
   pub report : List ℕ
   pub answer : Answers words input statuses.Done report []
   pub gains : AppendsPartOf out out' report
 
--- the output of faults holds a proper part of the message that answers the words and the input;
--- where that tells of a failed read, a read failed
+-- the output of faults holds a proper part of the message for the words and the input; where that
+-- is of a failed read, a read failed
 pub record PartOfMessage (words : List (List ℕ)) (input : List ℕ) (ReadFailed : Type 0)
     (err err' : Option (List ℕ)) : Type 0 where
   pub status : Status

@@ -25,7 +25,8 @@ abbrev pub IsRefusal : Status → Type 0
 IsRefusal Done = ⊥
 IsRefusal status = IsWritten status
 
--- the words were not understood, unless the fault's text could not be made or written
+-- the words were not understood, unless there was no memory for the fault's text or its write
+-- failed
 abbrev pub IsUsageEnd : Status → Type 0
 IsUsageEnd Usage = ⊤
 IsUsageEnd WriteFault = ⊤

@@ -1,4 +1,4 @@
--- What the bytes of a report tell of it.
+-- What follows from the bytes of a report.
 use Rattle.std.specs.Prelude.{◌≡◌, ℕ, List, All}
 use Rattle.dl_plan.specs.declared.plan.Plan.{Plan}
 use Rattle.dl_plan.specs.declared.settings.Settings.{Settings}

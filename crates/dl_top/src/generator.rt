@@ -1,4 +1,4 @@
-//! A program that is made from a number, the same at each run: a portfolio to try things on.
+//! A program from a number, the same at each run: a portfolio to try things on.
 
 ghost use Rattle.std.specs.Prelude.{◌≡◌, ◌<◌, ◌++◌, IfOk, OnOk};
 ghost use Rattle.dl_top.specs.Made.{next_value, drawn_below, frequency, claims_text, unit_text, made_of};

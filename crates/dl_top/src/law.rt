@@ -6,9 +6,9 @@ ghost use Rattle.dl_plan.specs.declared.settings.Settings.{Settings};
 ghost use Rattle.dl_report.specs.declared.report.Report.{Report};
 ghost use Rattle.dl_top.specs.Told.{MayWrite, TellsItsRows};
 
-/// What the program writes tells its rows, in each of the three forms: of two reports that it may
-/// write for the same words with their settings, and the same input with one plan that it means,
-/// the same bytes come of the same rows alone.
+/// The rows can be read off what the program writes, in each of the three forms: of two reports that
+/// it may write for the same words with their settings, and the same input with one plan that it
+/// means, the same bytes come of the same rows alone.
 pub fn law_rows_told()
     ensures { (words : List (List ℕ)) (input : List ℕ) (settings : Settings) (plan : Plan)
         (a b : Report) → MayWrite words input settings plan a

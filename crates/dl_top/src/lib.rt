@@ -1,8 +1,8 @@
 //! The top call: from the words and the bytes read to the bytes written.
 //!
-//! [`run`] answers the asks of its words about one program, or writes that program in its canonical
-//! form. The program is what the source has left, or one that is [`made`]. Everything that is
-//! written is made in memory first, and goes to one of two sinks: what was asked for to the one,
+//! [`run`] writes a report about one program for the asks of its words, or that program in its
+//! canonical form. The program is what the source has left, or a generated one ([`made`]). The
+//! output is composed in memory first, and goes to one of two sinks: what was asked for to the one,
 //! the text of a fault to the other. [`run_with_arguments`] calls it with the words among the
 //! program's arguments, and gives the number of its status.
 #![tactic(auto)]
@@ -39,8 +39,8 @@ pub use law::law_rows_told;
 pub use status::Status;
 use std::alloc::Global;
 
-/// Answers the words over a program: the one that they make, or what the source has left. What was
-/// asked for goes to `out`, and the text of a fault to `err`.
+/// Writes a report or a canonical text, as the words ask, of the program that they generate or that
+/// the source has left. What was asked for goes to `out`, and the text of a fault to `err`.
 pub fn run<R: Source, O: Sink, E: Sink>(
     alloc: Global,
     words: &[String],
@@ -48,10 +48,10 @@ pub fn run<R: Source, O: Sink, E: Sink>(
     out: &mut O,
     err: &mut E,
 ) -> Status
-    // What is written is the answer to the words and the input, where the words make it or the
-    // source tells its bytes: a report in which each interval holds the declared value, each
-    // bracket the declared quantile, and each is as narrow as asked; or the canonical text; or the
-    // first fault, with the width that is needed where that is it.
+    // Where the words generate the program or the source's bytes are known, the output follows from
+    // words and input: a report in which each interval holds the declared value, each bracket the
+    // declared quantile, and each is as narrow as asked; or the canonical text; or the first fault,
+    // with the width that is needed where that is it.
     ensures answer { IfSome (input_of (map string_bytes words.now) (R.left src.old))
         (λ input. IsWritten result →
         Answered (map string_bytes words.now) input result
@@ -71,7 +71,7 @@ pub fn run<R: Source, O: Sink, E: Sink>(
     ensures memory { result ≡ Status.OutOfMemory → (out.new ≡ out.old) × (err.new ≡ err.old) }
 
     // A fault of the words comes from the words alone, and the source is not read. Its text is
-    // told, whole, or in part where the write failed.
+    // written, whole, or in part where the write failed.
     ensures usage { result ≡ Status.Usage → HasFault (map string_bytes words.now) }
     ensures unread { HasFault (map string_bytes words.now)
         → IsUsageEnd result × (src.new ≡ src.old) }
@@ -82,21 +82,21 @@ pub fn run<R: Source, O: Sink, E: Sink>(
         → result ≡ Status.WriteFault → (out.new ≡ out.old)
         × AppendsPartOf (E.held err.old) (E.held err.new) (fault_line (Fault.Usage fault) [] []) }
 
-    // Where a program is made the source is not read. Of a longer input than an input may be, one
-    // byte more is taken. Each read but the last gave some bytes: none follows the end of the input
-    // or a read that failed.
+    // Where the program is generated the source is not read. Of a longer input than an input may
+    // be, one byte more is taken. Each read but the last gave some bytes: none follows the end of
+    // the input or a read that failed.
     ensures made { MakeText (map string_bytes words.now)
         → (src.new ≡ src.old) × (result ≢ Status.ReadFault) }
     ensures taken { TakesAtMost (R.left src.old) (R.left src.new) (most_text + 1) }
     ensures reading { Reading R.read_step src.old (most_text + 1) src.new }
 
-    // A failed read has its cause, and is told.
+    // A failed read has its cause, and its message is written.
     ensures read_cause { result ≡ Status.ReadFault → Rose (R.faults src.old) (R.faults src.new) }
     ensures read_words { result ≡ Status.ReadFault → ReadText (map string_bytes words.now) }
     ensures read_text { result ≡ Status.ReadFault →
         Appends (E.held err.old) (E.held err.new) (fault_line Fault.Read [] []) }
 
-    // A failed write has its cause: one sink holds a part of the answer, and the other is as it
+    // A failed write has its cause: one sink holds a part of the output, and the other is as it
     // was.
     ensures write_cause { result ≡ Status.WriteFault →
         (Rose (O.faults out.old) (O.faults out.new) × (err.new ≡ err.old)

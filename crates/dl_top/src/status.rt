@@ -18,7 +18,7 @@ pub enum Status {
     ReadFault,
     /// A write failed, and a part of a text may have been written.
     WriteFault,
-    /// There was no memory for the answer, and nothing was written.
+    /// There was no memory for the output, and nothing was written.
     OutOfMemory,
     /// An ask lies beyond the grid, or names no unit.
     AskFault,

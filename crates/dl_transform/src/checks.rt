@@ -1,3 +1,5 @@
+//! Checks of the constants of a transform.
+
 ghost use Rattle.std.specs.Prelude.{◌≡◌, ℕ, ◌+◌, ◌-◌, ◌*◌, ◌/◌, ◌%◌, ◌^◌, ◌<◌, ◌≤◌};
 ghost use Rattle.std.specs.Prelude.{true, length, slice_index};
 ghost use Rattle.dl_transform.specs.Residue.{Same, IsFactor, IsModulus, IsPair};
@@ -31,7 +33,7 @@ fn is_pair(p: u64, w: u64, q: u64, v: u64, r: u64, wanted: u64) -> bool
     lowered(times(w, w, q, p), p) == wanted
 }
 
-/// The number that stands at a node.
+/// The number at a node.
 fn node_number(t: &Table, k: usize) -> u64
     requires inside { k / 2 < length t.now.roots.items }
     ensures { result ≡ point t.now.p t.now.roots.items k }

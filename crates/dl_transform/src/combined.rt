@@ -1,3 +1,5 @@
+//! Products of lists by two transforms and the Chinese remainder theorem.
+
 ghost use Rattle.std.specs.Prelude.{◌≡◌, ℕ, ◌+◌, ◌*◌, ◌^◌, ◌<◌, ◌≤◌};
 ghost use Rattle.std.specs.Prelude.{true, length, slice_index, sum_by, All, IfOk};
 ghost use Rattle.dl_transform.specs.Residue.{Same, IsFactor, IsModulus};
@@ -20,7 +22,7 @@ pub struct Setup {
     pub(crate) levels: u32,
 }
 
-/// Room for the remainders of a product. It is made at the first product that needs it, and kept
+/// Room for the remainders of a product. It is taken at the first product that needs it, and kept
 /// for those after it.
 #[derive(Drop)]
 pub struct Buffers {
@@ -231,7 +233,7 @@ fn fits(a: &[u128], b: &[u128], cells: usize, levels: u32) -> bool
 }
 
 /// Whether the first items of the product of two lists, for each `s` the sum of `a[i] * b[j]` over
-/// all `i + j = s`, could be told, as many as `out` has room for; then `out` has them. They can
+/// all `i + j = s`, are known, as many as `out` has room for; then `out` has them. They are
 /// where the setup has room for both lists, `out` is no longer than both together, the sum of `a`
 /// is below `2^64`, and that sum times the greatest item of `b` is below `2^123`.
 pub fn checked_product(

@@ -1,3 +1,5 @@
+//! The constants of the two transforms.
+
 ghost use Rattle.std.specs.Prelude.{◌≡◌, ◌<◌, IfOk, IfSome};
 ghost use Rattle.dl_transform.specs.Residue.{IsModulus};
 ghost use Rattle.dl_transform.specs.Setup.{IsSetup};

@@ -1,3 +1,5 @@
+//! Arithmetic modulo `p` with a factor whose quotient is known (Shoup), and Montgomery's.
+
 ghost use Rattle.std.specs.Prelude.{◌≡◌, ℕ, ◌+◌, ◌-◌, ◌*◌, ◌/◌, ◌%◌, ◌^◌, ◌<◌, ◌≤◌};
 ghost use Rattle.dl_transform.specs.Residue.{Same, IsFactor, IsModulus};
 

@@ -1,3 +1,5 @@
+//! Products of polynomials modulo `p`, by their values.
+
 ghost use Rattle.std.specs.Prelude.{◌≡◌, ℕ, ◌+◌, ◌*◌, ◌/◌, ◌^◌, ◌<◌, ◌≤◌};
 ghost use Rattle.std.specs.Prelude.{true, length, slice_index};
 ghost use Rattle.dl_transform.specs.Residue.{Same};

@@ -1,3 +1,5 @@
+//! The passes of a transform, from items to values and back.
+
 ghost use Rattle.std.specs.Prelude.{◌≡◌, ℕ, ◌+◌, ◌-◌, ◌*◌, ◌/◌, ◌%◌, ◌^◌, ◌<◌, ◌≤◌};
 ghost use Rattle.std.specs.Prelude.{length, slice_index};
 ghost use Rattle.dl_transform.specs.Residue.{Same, IsFactor, IsModulus};

@@ -1,8 +1,10 @@
+//! Tables of a transform.
+
 ghost use Rattle.std.specs.Prelude.{◌≡◌, ◌<◌, length, slice_index};
 ghost use Rattle.dl_transform.specs.Residue.{IsFactor};
 ghost use Rattle.dl_transform.specs.Table.{IsTable};
 
-/// The constants of a transform modulo `p`. Each factor stands beside its quotient, which a product
+/// The constants of a transform modulo `p`. Each factor is beside its quotient, which a product
 /// by it needs.
 #[derive(Drop)]
 pub(crate) struct Table {

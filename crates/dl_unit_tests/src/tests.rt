@@ -1,3 +1,5 @@
+//! Tests of claim counts, powers, budgets, unit grids and small cases by hand.
+
 mod budget;
 mod by_hand;
 mod helpers;

@@ -1,4 +1,4 @@
--- The command of the words, as `clap` is told it.
+-- The command of the words, as `clap` is given it.
 use Rattle.std.specs.Prelude.{Some, codes, true}
 use Rattle.clap.specs.Words.{App, Rule, Text, new_app, new_rule, with_rule}
 use Rattle.clap.specs.Simple.{on_top}

@@ -1,4 +1,4 @@
--- What a fault of the words tells.
+-- What a fault of the words means.
 use Rattle.std.specs.Prelude.{ℕ, ◌≡◌, ◌≢◌, ◌⊎◌, ⊤, List, Result, Err}
 use Rattle.clap.specs.declared.error.kind.ErrorKind.{ErrorKind}
 use Rattle.clap.specs.declared.error.kind.ErrorKind.TheVariants as refusals
@@ -9,12 +9,12 @@ use Rattle.dl_words.specs.declared.fault.UsageFault.TheVariants.{Line, Ask}
 use Rattle.dl_words.specs.declared.fault.WordsFault.{WordsFault}
 use Rattle.dl_words.specs.declared.fault.WordsFault.TheVariants.{Usage, OutOfMemory}
 
--- the fault is this answer's, or memory ran out
+-- the fault is this one, or memory ran out
 abbrev pub Explains : Result Settings UsageFault → WordsFault → Type 0
 Explains answer (Usage fault) = answer ≡ Err fault
 Explains answer OutOfMemory = ⊤
 
--- what a refusal by `clap` of this kind tells: that memory ran out where it says so, and else that
+-- what a refusal by `clap` of this kind means: that memory ran out where it says so, and else that
 -- the words do not fit the command
 abbrev pub TellsRefusal : ErrorKind → WordsFault → Type 0
 TellsRefusal kind fault =

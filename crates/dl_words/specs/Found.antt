@@ -25,12 +25,12 @@ form_in found = option_and_then form_named (first_value found (codes "form"))
 abbrev pub asks_in : Found → List Text
 asks_in found = unwrap_or (option_map raw_values (matched_of found (codes "asks"))) []
 
--- the answer to what was found
+-- the settings or the fault of what was found
 abbrev pub answer_in : Found → Result Settings UsageFault
 answer_in found = answer (form_in found) (values_in found) (asks_in found)
 
--- a reader's answer: the value of an option or what stands for it, or none where the option does
--- not take what stands there
+-- the value of an option, its default where it is missing, or none where the option does not take
+-- what is written there
 abbrev pub TakesOption : {A : Type 0} → (Text → Bool) → A → (Text → A) → List Text
     → Option A → Type 0
 TakesOption takes default read texts result =

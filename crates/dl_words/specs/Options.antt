@@ -48,11 +48,11 @@ options =
     ∷ (codes "format", is_format)
     ∷ []
 
--- the values that stand with each option's name
+-- the values behind each option's name
 abbrev pub Values : Type 0
 Values = Text → List Text
 
--- an option stands at most once, with a value that it takes
+-- an option is given at most once, with a value that it takes
 abbrev pub is_taken : (Text → Bool) → List Text → Bool
 is_taken takes texts = nat_le (length texts) 1 && list_all takes texts
 
@@ -60,11 +60,11 @@ is_taken takes texts = nat_le (length texts) 1 && list_all takes texts
 abbrev pub are_taken : Values → Bool
 are_taken values = list_all (λ row. is_taken row.1 (values row.0)) options
 
--- no option stands but `--make`
+-- no option is given but `--make`
 abbrev pub is_make_alone : Values → Bool
 is_make_alone values = list_all (λ row. length (values row.0) == 0) (drop 1 options)
 
--- the value of an option, or what stands for it
+-- the value of an option, or its default
 abbrev pub or_default : {A : Type 0} → A → (Text → A) → List Text → A
 or_default default read [] = default
 or_default default read (text ∷ texts) = read text

@@ -10,7 +10,7 @@ pub data Part : Type 0 where
   option : Text → Text → Part
   positional : Text → Part
 
--- where the reading stands: between two parts, before the value of an option, or behind `--`
+-- the state of a reader: between two parts, before the value of an option, or behind `--`
 pub data Mode : Type 0 where
   between : Mode
   value : Text → Mode
@@ -76,7 +76,7 @@ parts_from ended (word ∷ rest) = with_part (positional word) (parts_from ended
 abbrev pub command_parts : List Text → Option (List Part)
 command_parts = parts_from between
 
--- the values that stand with an option's name
+-- the values behind an option's name
 abbrev pub option_values : Text → List Part → List Text
 option_values name [] = []
 option_values name (option n v ∷ ps) = if bytes_eq n name then v ∷ option_values name ps

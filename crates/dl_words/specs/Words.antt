@@ -23,14 +23,14 @@ abbrev pub with_asks : Form → Values → Result (List Asked) ℕ → Result Se
 with_asks form values (Ok asks) = Ok (settings_of form values asks)
 with_asks form values (Err i) = Err (Ask i)
 
--- the answer to a form, the values of the options, and asks
+-- the settings of a form, the values of the options, and asks; or the fault
 abbrev pub answer : Option Form → Values → List Text → Result Settings UsageFault
 answer None values asks = Err Line
 answer (Some form) values asks =
     if are_taken values && list_all begins_plainly asks && admits form values asks
     then with_asks form values (asks_of asks) else Err Line
 
--- the answer to the values of the options and the positionals: the first positional is the form
+-- the settings of the values of the options and the positionals: the first positional is the form
 abbrev pub to_positionals : Values → List Text → Result Settings UsageFault
 to_positionals values [] = Err Line
 to_positionals values (form ∷ asks) = answer (form_named form) values asks

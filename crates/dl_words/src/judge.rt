@@ -62,7 +62,7 @@ fn begin_plainly(texts: &[&str]) -> bool
     texts.iter().all(|text| begins_plainly(text.as_bytes()))
 }
 
-/// Whether the form takes so many asks, and the options that stand.
+/// Whether the form takes so many asks, and the options that are given.
 fn admits(form: Form, matches: &ArgMatches<'_>, texts: &[&str]) -> bool
     ensures { result ≡ admits form (values_in (found_of matches.now))
         (map (λ text. text.now) texts.now) }

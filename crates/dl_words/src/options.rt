@@ -111,7 +111,7 @@ pub(crate) fn form_named(text: &str) -> Option<Form>
     }
 }
 
-/// Whether no option stands but `--make`.
+/// Whether no option is given but `--make`.
 pub(crate) fn is_make_alone(matches: &ArgMatches<'_>) -> bool
     ensures { result ≡ is_make_alone (values_in (found_of matches.now)) }
 {
@@ -123,7 +123,7 @@ pub(crate) fn is_make_alone(matches: &ArgMatches<'_>) -> bool
         && is_absent(matches, "format")
 }
 
-/// Whether an option does not stand in the words.
+/// Whether an option is missing in the words.
 fn is_absent(matches: &ArgMatches<'_>, name: &str) -> bool
     ensures { result ≡ (length (values_in (found_of matches.now) name.now) == 0) }
 {

@@ -15,7 +15,7 @@ pub fn law_ranges()
         → words_of words ≡ Ok settings → All (λ asked. IsUtf8 asked.text) settings.asks }
 {}
 
-/// Each ask of good words is written with plain bytes alone, whatever the words are made of. So a
+/// Each ask of good words is written with plain bytes alone, whatever bytes the words have. So a
 /// report with these asks can be read back from its text, from its records and from its JSON.
 pub fn law_plain_asks()
     ensures { (words : List (List ℕ)) (settings : Settings)

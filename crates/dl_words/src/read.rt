@@ -13,7 +13,7 @@ use dl_plan::Settings;
 use std::alloc::Global;
 
 /// Reads the words, without the program's name. `Usage` has their first fault: `Line` where they do
-/// not fit the command, else the first ask that is not spelled as one. Memory aside, the answer is
+/// not fit the command, else the first ask that is not spelled as one. Memory aside, the result is
 /// the one of the words' definition, in which `clap` does not occur.
 pub fn read_words(alloc: Global, words: &[String]) -> Result<Settings, WordsFault>
     ensures settings { IfOk result (λ settings.
@@ -30,7 +30,7 @@ pub fn read_words(alloc: Global, words: &[String]) -> Result<Settings, WordsFaul
     }
 }
 
-/// What a refusal by `clap` tells. A misfit of the words is never want of memory.
+/// The fault behind a refusal by `clap`. A misfit of the words is never want of memory.
 fn refusal(kind: ErrorKind) -> WordsFault
     ensures { TellsRefusal kind result }
 {

@@ -101,7 +101,7 @@ fn ends(alloc: Global, width: u64, ask: &str) -> Result<Option<(End, End)>, Eval
     }
 }
 
-/// Asks, and both ends of their answers.
+/// Asks, and both ends of their rows.
 const ANSWERS: [(&str, End); 9] = [
     ("pmf:2", End::Number(1_000_000)),
     ("cdf:1", End::Number(0)),

@@ -1,4 +1,4 @@
-//! A call over objects in memory, which fail where they are told to.
+//! A call over objects in memory, which fail at given calls.
 
 use dl_outside::{MemSink, MemSource};
 use dl_top::{Status, run};

@@ -22,7 +22,7 @@ occurrence net of 0.5 so 20 xs 20 aggregate net of 20 xs 30
 /// The asks about the book.
 const ASKS: &str = "run --log2 10 --digits 4 mean q:0.99 tail:0.99 joint:Motor:200 kappa:Motor:200";
 
-/// The report that answers them.
+/// Their report.
 const ANSWERS: &[u8] = b"mean 214.7812 214.7813
 q:0.99 425 425
 tail:0.99 465.6967 465.6968

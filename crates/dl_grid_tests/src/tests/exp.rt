@@ -35,7 +35,7 @@ fn enclosed<const B: u32>(case: Case) -> Option<(u128, u128)>
     }
 }
 
-/// The ends stand round the value, and at most 3 units apart.
+/// The ends enclose the value, and are at most 3 units apart.
 fn holds(ends: Option<(u128, u128)>, units: u128) -> bool {
     match ends {
         Some((lo, hi)) => lo <= units && units <= hi && hi - lo <= 3,

@@ -161,7 +161,7 @@ const NEAR_THE_TOP: [Pair; 10] = [
     ),
 ];
 
-/// Whether the two fractions of a row have what it tells of them.
+/// Whether the two fractions of a row have the results that it lists.
 fn holds(row: &Pair) -> bool {
     answers(row.0, row.1) == Some((row.2, row.3, row.4))
         && ordered(row.0, row.1) == Some((row.5, row.5 == Ordering::Equal))
@@ -204,7 +204,7 @@ const SCALED: [Scaled; 5] = [
     ((TOP, TOP - 1), 72057594037927936, 72057594037927937),
 ];
 
-/// Whether the fraction of a row has the floor and the ceiling that it tells.
+/// Whether the fraction of a row has the floor and the ceiling that it lists.
 fn is_scaled(row: &Scaled) -> bool {
     match of(row.0) {
         Some(x) => x.floor_scaled::<56>() == row.1 && x.ceil_scaled::<56>() == row.2,
@@ -272,7 +272,7 @@ const NUMERALS: [Numeral; 18] = [
     ("06/4", 1, None),
 ];
 
-/// Whether the text of a row is read as it tells.
+/// Whether the text of a row is read as it says.
 fn is_read(row: &Numeral) -> bool {
     read(row.0.as_bytes(), row.1) == Some(row.2)
 }

@@ -1,4 +1,4 @@
-//! What a grid tells of its cells.
+//! What a grid says of its cells.
 
 ghost use Rattle.std.specs.Prelude.{◌≤◌, ◌<◌, ◌^◌};
 
@@ -15,7 +15,7 @@ struct Write {
     high: u8,
 }
 
-/// What a grid tells of itself: its cells, and in halves of 1 the ends of its first and of its last
+/// What is read off a grid: its cells, and in halves of 1 the ends of its first and of its last
 /// cell, those of the probability of all cells, its mass and its spread.
 #[derive(Clone, Copy, PartialEq, Eq)]
 struct Told {
@@ -92,7 +92,7 @@ fn tell<const B: u32>(g: &Grid<B>) -> Option<Told>
     })
 }
 
-/// What is told by a grid of the ends that the first cells have.
+/// What is read off a grid whose first cells have these ends.
 fn cut<const B: u32>(alloc: Global, g: &Grid<B>, cells: u32) -> Result<Option<Told>, AllocError>
     requires scale_above { 1 ≤ B }
     requires scale_below { B ≤ 56 }
@@ -126,7 +126,7 @@ fn answer<const B: u32>(alloc: Global, case: &Case) -> Result<Option<Told>, Allo
     }
 }
 
-/// Whether a case is told as it is wanted, at three scales.
+/// Whether a case gives what is wanted, at three scales.
 fn is_told(alloc: Global, case: &Case) -> Result<bool, AllocError> {
     let want = Some(case.want);
     Ok(
@@ -250,7 +250,7 @@ fn longest(cells: u32) -> Case {
     }
 }
 
-/// Whether a grid at this scale has at most so many cells, and tells of them.
+/// Whether a grid at this scale has at most so many cells, with what is read off it.
 fn is_longest<const B: u32>(alloc: Global, cells: u32) -> Result<bool, AllocError>
     requires scale_above { 1 ≤ B }
     requires scale_below { B ≤ 56 }

@@ -1,4 +1,4 @@
-//! What several of the tests are made from.
+//! What several of the tests use.
 
 ghost use Rattle.std.specs.Prelude.{◌≡◌, ◌≤◌, ◌<◌};
 ghost use Rattle.dl_limits.specs.Limits.{most_cells_at};

@@ -21,7 +21,7 @@ enum Call {
     PrintEnds(u32),
 }
 
-/// A call, the ends of its two intervals, and its answers at the scales 1, 48 and 56.
+/// A call, the ends of its two intervals, and its results at the scales 1, 48 and 56.
 #[derive(Clone, Copy)]
 struct Case {
     call: Call,

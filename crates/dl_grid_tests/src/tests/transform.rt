@@ -27,7 +27,7 @@ fn widened(alloc: Global, items: &[u64]) -> Result<Vec<u128>, AllocError>
     Ok(wide)
 }
 
-/// Whether a call told what is wanted.
+/// Whether a call gave what is wanted.
 fn is_wanted(told: bool, out: &[u128], want: Option<&'static [u128]>) -> bool {
     let found = if told { Some(out) } else { None };
     found == want
@@ -138,7 +138,7 @@ const CASES: [Case; 10] = [
             5192296858534827628530496329220096,
         ]),
     },
-    // the greatest sum that is surely told, and the next one
+    // the greatest sum that is surely found, and the next one
     Case {
         first: &[9223372036854775808],
         second: &[1152921504606846975],

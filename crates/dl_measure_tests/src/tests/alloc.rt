@@ -13,7 +13,7 @@ const UNIT: [u8; 7] = [0, 2, 2, 2, 0, 0, 0];
 
 const OTHER: [u8; 7] = [0, 3, 1, 2, 0, 0, 0];
 
-/// Stands for the ends of a share that is not told.
+/// The ends of a share that is not reported.
 const NONE: u128 = u128::MAX;
 
 /// A total, its probability in parts of 18, and the ends of the joint mean and of the share by

@@ -13,7 +13,7 @@ use std::alloc::{AllocError, Global};
 /// How many parts of 216 each total from 0 to 6 has. The mean is 19/6.
 const PARTS: [u8; 7] = [6, 24, 42, 54, 48, 30, 12];
 
-/// Stands for an end past the grid.
+/// An end past the grid.
 const PAST: u32 = u32::MAX;
 
 /// The bracket at a probability on so many cells, at the scale 1, and at 48 and 56 alike: worked

@@ -554,7 +554,7 @@ fn buckets(rt: HostRuntime) {
 }
 
 /// Amounts of money of which one is no amount in buckets of size 1 of up to so many. That one is
-/// off the grid goes before that one is too far, also where it stands later.
+/// off the grid goes before that one is too far, also where it comes later.
 const NO_BUCKETS: [([(u64, u64); 3], u32, AmountFault); 5] = [
     ([(1, 1), (3, 2), (1, 3)], 1 << 20, AmountFault::OffGrid(1)),
     (

@@ -57,7 +57,7 @@ fn source_of(alloc: Global, case: &ReadCase) -> Result<MemSource, Fail> {
     Ok(MemSource::new(case.0.to_vec(alloc)?, case.1.max(1), fails))
 }
 
-/// Whether the read of a case gives its answer, and leaves what it should.
+/// Whether the read of a case gives its result, and leaves what it should.
 fn is_read(alloc: Global, mut source: MemSource, case: &ReadCase) -> bool {
     let &(_, _, _, limit, wanted, left) = case;
     let first = read_all(alloc, &mut source, limit as usize);

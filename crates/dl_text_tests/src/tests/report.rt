@@ -10,7 +10,7 @@ use dl_report::End::{Absent, Beyond, Number, Whole};
 use dl_report::{End, Report, Row, csv, json, text};
 use std::alloc::{AllocError, Global};
 
-/// An answer: its ask and its two ends.
+/// A row: its ask and its two ends.
 type Answer = (&'static str, End, End);
 
 /// Every kind of end.

@@ -1,3 +1,5 @@
+//! Small cases worked by hand.
+
 use crate::tests::helpers::DIE;
 use dl_by_hand::changed_zero::{changed_point, some_claim, some_claim_point};
 use dl_by_hand::listed::listed_point;
@@ -43,7 +45,7 @@ const UNEQUAL: [Item; 2] = [
     },
 ];
 
-/// A part of the whole in millionths, rounded down, where both stand over one denominator.
+/// A part of the whole in millionths, rounded down, where both have one denominator.
 fn millionths(part: (u128, u128), whole: (u128, u128)) -> Option<u128> {
     if part.1 != whole.1 {
         return None;
