@@ -11,7 +11,7 @@ INSTALLED := $(BIN)/decl $(SHARE)/man/man1/decl.1 $(SHARE)/bash-completion/compl
 PAGES := README.md CHANGELOG.md CONTRIBUTING.md $(wildcard docs/*.md docs/*.svg docs/*.png)
 EXAMPLES := $(wildcard examples/*.* examples/gallery/* examples/many/*)
 CLIENTS := clients/r/decl.R clients/python/README.md clients/python/pyproject.toml $(wildcard clients/python/backend/*.py) \
-	$(wildcard clients/python/src/decl/*.*)
+	$(wildcard clients/python/src/decl/*.*) clients/check_steps.py clients/check_steps.c
 
 .PHONY: all demo test hostile bench help install dist deb wheel uninstall clean
 
