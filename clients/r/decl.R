@@ -155,8 +155,11 @@ decl_sentences <- c(
         "A portfolio has at most 16 units.",
     "Two severities have the same name; each needs its own.",
     "No severity has this name; a text names its severities before its units, as in sev NAME dsev [1:6].",
-    NA, NA, NA, NA, # there are no rules 25 to 28 yet
-    "zt, zm and common are read and formatted, and have no value yet."
+    "zt and zm need from 1/16 to 4,096 expected claims before the change, and zm a number below 1.",
+    "Under common each unit has a poisson count without zt and zm, and no aggregate clause.",
+    "The number of common is 1 over a whole number, as 1, 0.5 or 0.1.",
+    NA, # there is no rule 28 yet
+    "common is read and formatted, and has no value yet."
 )
 
 # The options as words of the command line; those that are NULL are left out.
