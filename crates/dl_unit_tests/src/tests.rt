@@ -2,6 +2,7 @@
 
 mod budget;
 mod by_hand;
+mod by_hand_scores;
 mod helpers;
 mod none;
 mod panjer;
