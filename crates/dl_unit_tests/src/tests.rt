@@ -1,5 +1,6 @@
 mod budget;
 mod by_hand;
+mod common;
 mod helpers;
 mod none;
 mod panjer;
