@@ -3,6 +3,7 @@
 mod budget;
 mod by_hand;
 mod by_hand_scores;
+mod common;
 mod helpers;
 mod none;
 mod panjer;

@@ -4,6 +4,7 @@ ghost use Rattle.std.specs.Prelude.{◌≡◌, ℕ, ◌^◌, ◌<◌, ◌≤◌,
 ghost use Rattle.dl_limits.specs.Limits.{IsPlanScale};
 ghost use Rattle.dl_exact.specs.Fraction.{whole, ◌≤ℚ◌};
 ghost use Rattle.dl_plan.specs.Fine.{HasPartsOf48Bits};
+ghost use Rattle.dl_plan.specs.Common.{IsPoisson};
 ghost use Rattle.dl_plan.specs.Count.{expected_count, IsUnbounded, IsClaimCount};
 ghost use Rattle.dl_plan.specs.Severity.{probability_of};
 ghost use Rattle.dl_plan.specs.Valid.{IsValidUnit};
@@ -319,8 +320,9 @@ fn both_ways_meet(rt: HostRuntime) -> Result<(), AllocError> {
 
 /// A unit with eight expected claims of one bucket each, by a Poisson count.
 #[tactic(auto, using(crate::proofs::TestLaws::claims_thinned), unfolding(dl_limits::specs::Limits::most_amount_at))]
-fn eight_expected(alloc: Global) -> Result<Unit, AllocError>
-    ensures { IfOk result (λ unit. IsValidUnit 16 unit) }
+pub(crate) fn eight_expected(alloc: Global) -> Result<Unit, AllocError>
+    ensures valid { IfOk result (λ unit. IsValidUnit 16 unit) }
+    ensures poisson { IfOk result (λ unit. IsPoisson unit.freq) }
 {
     let sev = one_bucket(alloc)?;
     Ok(Unit {
