@@ -9,4 +9,5 @@ pub mod Horizons
 pub mod Sums
 pub mod Means
 pub mod Tails
+mod TailShares
 mod Prices

@@ -1,5 +1,5 @@
 -- The budget of an ask in units of 1/S, what it needs, and when it passes.
-use Rattle.std.specs.Prelude.{ℕ, ◌+◌, ◌-◌, ◌*◌, ◌^◌, ◌<◌, ◌≤◌, Option, IfSome, List, length, get_or, sum_by, bytes_eq}
+use Rattle.std.specs.Prelude.{ℕ, ◌+◌, ◌-◌, ◌*◌, ◌^◌, ◌<◌, ◌≤◌, Option, IfSome, List, length, get_or, map, sum_by, bytes_eq}
 use Rattle.std.specs.List.{position_or_len}
 use Rattle.dl_limits.specs.Limits.{rarest_parts}
 use Rattle.dl_exact.specs.Fraction.{Fraction, whole, ◌over◌, ◌*ℚ◌}
@@ -7,12 +7,12 @@ use Rattle.dl_grid.specs.Width.{up, cv, layer_width, tail_width}
 use Rattle.dl_plan.specs.declared.plan.Unit.{Unit as UnitOfPlan}
 use Rattle.dl_plan.specs.declared.plan.Plan.{Plan}
 use Rattle.dl_plan.specs.declared.settings.Ask.{Ask}
-use Rattle.dl_plan.specs.declared.settings.Ask.TheVariants.{Pmf, Cdf, Mean, Quantile, LayerMean, Tail, Price, Joint, Kappa}
+use Rattle.dl_plan.specs.declared.settings.Ask.TheVariants.{Pmf, Cdf, Mean, Quantile, LayerMean, Tail, Price, Joint, Kappa, Cotail}
 use Rattle.dl_plan.specs.declared.settings.Settings.{Settings}
 use Rattle.dl_plan.specs.declared.settings.Term.{Term}
 use Rattle.dl_plan.specs.Facts.{facts_of}
 use Rattle.dl_plan.specs.Ranges.{IsAskInRange}
-use Rattle.dl_budget.specs.Units.{unit_budgets, total_budget, others_budget, mean_budget}
+use Rattle.dl_budget.specs.Units.{unit_budgets, unit_mean_budget, total_budget, others_budget, mean_budget}
 
 -- how many units come before the one of this name
 abbrev pub place_of : List ℕ → List UnitOfPlan → ℕ
@@ -48,6 +48,13 @@ abbrev pub kappa_budget : (S : ℕ) → Plan → ℕ → ℕ
 kappa_budget S plan i =
     rarest_parts * (plan.cells * total_budget S plan + joint_budget S plan i) + 2
 
+-- that of the share of unit i in the tail mean at p
+abbrev pub cotail_budget : (S : ℕ) → Plan → ℕ → Fraction → ℕ
+cotail_budget S plan i p = up
+    (((get_or (map (unit_mean_budget S plan.cells) plan.units) i 0 + joint_budget S plan i
+    + 2 * plan.cells + plan.cells * (total_budget S plan + 2)
+    + kappa_budget S plan i + 4) * p.den) over (p.den - p.num)) + 4
+
 -- the budget of an ask
 unfoldable pub ask_budget : (S : ℕ) → Plan → Ask → ℕ
 ask_budget S plan (Pmf x) = total_budget S plan
@@ -59,6 +66,7 @@ ask_budget S plan (Tail p) = tail_budget S plan p
 ask_budget S plan (Price terms) = price_budget S plan terms
 ask_budget S plan (Joint unit at) = joint_budget S plan (place_of unit plan.units)
 ask_budget S plan (Kappa unit at) = kappa_budget S plan (place_of unit plan.units)
+ask_budget S plan (Cotail unit p) = cotail_budget S plan (place_of unit plan.units) p
 
 -- how many units of the last printed digit a budget comes to, and one more
 unfoldable pub in_digits : (S budget digits : ℕ) → ℕ

@@ -8,12 +8,12 @@ ghost use Rattle.dl_plan.specs.Terms.{ArePriced, most_weight_parts};
 ghost use Rattle.dl_plan.specs.declared.settings.Ask.TheVariants.{LayerMean};
 ghost use Rattle.dl_plan.specs.Ranges.{IsLevel};
 ghost use Rattle.dl_plan.specs.Valid.{IsValid};
-ghost use Rattle.dl_budget.specs.Asks.{IsInside, IsAskOf, place_of, ask_budget, layer_mean_budget, tail_budget, most_tail_budget, price_budget, joint_budget, kappa_budget, in_digits, needed, Passes};
+ghost use Rattle.dl_budget.specs.Asks.{IsInside, IsAskOf, place_of, ask_budget, layer_mean_budget, tail_budget, most_tail_budget, price_budget, joint_budget, kappa_budget, cotail_budget, in_digits, needed, Passes};
 ghost use Rattle.dl_budget.specs.Once.{AreBudgetsOf};
 
 use crate::once::{Budgets, budgets_of};
 use crate::steps::joined;
-use crate::units::{others_budget, unit_budget};
+use crate::units::{others_budget, unit_budget, unit_mean_budget};
 use dl_frac::Frac;
 use dl_grid::units_of_one;
 use dl_limits::RAREST_PARTS;
@@ -56,6 +56,10 @@ fn ask_budget_with<const B: u32>(plan: &Plan, budgets: Budgets, ask: &Ask) -> u1
         Ask::Kappa { unit, .. } => {
             let i = place(plan.units.as_slice(), unit.as_slice());
             kappa_budget::<B>(plan, budgets, i)
+        }
+        Ask::Cotail { unit, p } => {
+            let i = place(plan.units.as_slice(), unit.as_slice());
+            cotail_budget::<B>(plan, budgets, i, *p)
         }
     }
 }
@@ -139,10 +143,29 @@ fn kappa_budget<const B: u32>(plan: &Plan, budgets: Budgets, i: u32) -> u128
     requires budgets { AreBudgetsOf (2 ^ B) plan.now budgets }
     requires unit { i < length plan.now.units }
     ensures value { result ≡ kappa_budget (2 ^ B) plan.now i }
-    ensures small { result ≤ most_ask_budget }
+    ensures small { result ≤ 2 ^ 80 }
 {
     let total = plan.cells as u128 * budgets.total;
     RAREST_PARTS * (total + joint_budget::<B>(plan, i)) + 2
+}
+
+/// The budget of the share of unit `i` in the tail mean at the probability `p`.
+fn cotail_budget<const B: u32>(plan: &Plan, budgets: Budgets, i: u32, p: Frac) -> u128
+    requires scale { IsPlanScale B }
+    requires valid { IsValid plan.now }
+    requires budgets { AreBudgetsOf (2 ^ B) plan.now budgets }
+    requires unit { i < length plan.now.units }
+    requires level { IsLevel p }
+    requires few { p.den ≤ 10 ^ 4 }
+    ensures value { result ≡ cotail_budget (2 ^ B) plan.now i p }
+    ensures small { result ≤ most_ask_budget }
+{
+    let mean = unit_mean_budget::<B>(&plan.units.as_slice()[i as usize], plan.cells);
+    let cells = plan.cells as u128;
+    let sums = joint_budget::<B>(plan, i) + 2 * cells + cells * (budgets.total + 2);
+    let parts = mean + sums + kappa_budget::<B>(plan, budgets, i) + 4;
+    let rest = p.den() - p.num();
+    (parts * p.den() as u128).div_ceil(rest as u128) + 4
 }
 
 /// How many units come before the one of this name.

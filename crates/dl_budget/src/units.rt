@@ -204,7 +204,7 @@ fn whole_mean(unit: &Unit) -> u128
 }
 
 /// The budget of the mean of a unit of a valid plan, on a grid of `cells` cells.
-fn unit_mean_budget<const B: u32>(unit: &Unit, cells: u32) -> u128
+pub(crate) fn unit_mean_budget<const B: u32>(unit: &Unit, cells: u32) -> u128
     requires scale { IsPlanScale B }
     requires valid { IsValidUnit cells unit.now }
     requires few { cells ≤ most_plan_cells }

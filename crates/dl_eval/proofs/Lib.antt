@@ -12,4 +12,5 @@ pub mod Means
 pub mod GoodRows
 pub mod Tails
 pub mod PriceRows
+pub mod TailShares
 pub mod ShareLaws

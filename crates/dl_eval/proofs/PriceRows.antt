@@ -1,5 +1,5 @@
 -- The answer to an ask for a price.
-use Rattle.dl_eval.proofs.Common.{ℕ, ◌≡◌, ◌+◌, ◌-◌, ◌*◌, ◌^◌, ◌<◌, ◌≤◌, List, length, get_or, arith, subst, All, Any, None, Fraction, ◌over◌, ◌+ℚ◌, Iv, low_at, spread, Holds, One, Mean, partial_sums, total, GridEncloses, AreDeclared, low_cdf, aggregates_of, at_least_wider, plan_declared, Plan, IsValid, Row, total_budget, mean_budget, ask_budget, in_digits, IsBelow, at_the_end, IsAnswerTo, total_error, IsTotalOf, IsMeanOf, Prints, Loss}
+use Rattle.dl_eval.proofs.Common.{ℕ, ◌≡◌, ◌-◌, ◌^◌, ◌≤◌, List, length, get_or, arith, subst, Any, None, ◌over◌, ◌+ℚ◌, Iv, low_at, spread, Holds, One, Mean, partial_sums, total, GridEncloses, AreDeclared, low_cdf, aggregates_of, at_least_wider, plan_declared, Plan, IsValid, Row, total_budget, mean_budget, ask_budget, in_digits, IsBelow, at_the_end, IsAnswerTo, total_error, IsTotalOf, IsMeanOf, Prints, Loss}
 use Rattle.std.proofs.Common.{◌⊎◌}
 use Rattle.dl_distort.specs.Prices.{AreTermsOf, AreQuantiles, price_width}
 use Rattle.dl_measures.specs.Brackets.{IsFirstFound}
@@ -8,7 +8,7 @@ use Rattle.dl_model.specs.Series.{AtLeast}
 use Rattle.dl_plan.specs.declared.settings.Ask.TheVariants as asks
 use Rattle.dl_plan.specs.declared.settings.Term.{Term}
 use Rattle.dl_budget.specs.Asks.{price_budget}
-use Rattle.dl_eval.specs.Rows.{IsPriceBetween, IsPrice, IsBeyondSome, IsAtLeast}
+use Rattle.dl_eval.specs.Rows.{IsPriceBetween, IsPrice, IsBeyondSome}
 use Rattle.dl_eval.proofs.Lists.{any_here}
 use Rattle.dl_eval.proofs.Printed.{Widens, are_ends, given_widens}
 use Rattle.dl_eval.proofs.GoodRows.{ends_below}

@@ -2,7 +2,6 @@
 use Rattle.dl_eval.proofs.Common.{ℕ, ◌≡◌, ◌+◌, ◌*◌, ◌^◌, ◌<◌, ◌≤◌, arith, sym, subst, mul-le-mul_left}
 use Rattle.std.proofs.Math.Nat.{mul-le-mul, pow-le-pow_right}
 use Rattle.std.proofs.Common.{inl, inr, refl, ◌⊎◌}
-use Rattle.std.proofs.Math.Nat.{le_trans}
 use Rattle.std.proofs.lemmas.Bool.Decides.{leb_tells}
 use Rattle.dl_limits.specs.Limits.{bits_of, most_amount_at, most_cells_at, most_expected, most_horizon, most_plan_cells, most_short_cells, IsPlanScale}
 use Rattle.dl_limits.proofs.Scales.{cells_fit, is_plan_scale}

@@ -1,12 +1,14 @@
 -- The result of an evaluation: a good report, or its first fault.
-use Rattle.std.specs.Prelude.{ℕ, ◌≡◌, ◌<◌, ⊤, List, length, get_or, zip, All}
+use Rattle.std.specs.Prelude.{ℕ, ◌≡◌, ◌<◌, ⊤, None, List, length, get_or, zip, All}
 use Rattle.dl_plan.specs.declared.plan.Plan.{Plan}
+use Rattle.dl_plan.specs.declared.settings.Ask.{Ask}
+use Rattle.dl_plan.specs.declared.settings.Ask.TheVariants.{Cotail}
 use Rattle.dl_plan.specs.declared.settings.Asked.{Asked}
 use Rattle.dl_plan.specs.declared.settings.Settings.{Settings}
 use Rattle.dl_report.specs.declared.report.Report.{Report}
 use Rattle.dl_budget.specs.Asks.{IsInside, NamesUnit, Passes, needed}
 use Rattle.dl_eval.specs.declared.fault.EvalFault.{EvalFault}
-use Rattle.dl_eval.specs.declared.fault.EvalFault.TheVariants.{AskBeyond, UnknownUnit, TooWide, OutOfMemory}
+use Rattle.dl_eval.specs.declared.fault.EvalFault.TheVariants.{AskBeyond, UnknownUnit, NoShare, TooWide, OutOfMemory}
 use Rattle.dl_eval.specs.Rows.{scale, IsGood}
 
 -- the number of digits of the settings, and one good row for each ask, in order
@@ -23,6 +25,14 @@ AreInside plan settings = All (λ asked. IsInside plan.cells asked.ask) settings
 abbrev pub NameUnits : Plan → Settings → Type 0
 NameUnits plan settings = All (λ asked. NamesUnit plan.units asked.ask) settings.asks
 
+-- a share of the tail mean is told of a plan whose units share no factor
+abbrev pub HasShare : Plan → Ask → Type 0
+HasShare plan (Cotail unit p) = plan.common ≡ None
+HasShare plan ask = ⊤
+
+abbrev pub HaveShares : Plan → Settings → Type 0
+HaveShares plan settings = All (λ asked. HasShare plan asked.ask) settings.asks
+
 abbrev pub AllPass : Plan → Settings → Type 0
 AllPass plan settings = All (λ asked. Passes (scale plan) plan asked.ask settings) settings.asks
 
@@ -38,21 +48,24 @@ pub record IsFirstWide (plan : Plan) (settings : Settings) (i width : ℕ) : Typ
   pub needs : (default : Asked) → width ≡ needed (scale plan) plan
       (get_or settings.asks i default).ask settings.digits
 
--- the first ask that passes the grid; else the first that names no unit; else the first that needs
--- too much width
+-- the first ask that passes the grid; else the first that names no unit; else the first for a share
+-- of the tail mean, where the units share a factor; else the first that needs too much width
 abbrev pub RefusesAsk : Plan → Settings → EvalFault → Type 0
 RefusesAsk plan settings (AskBeyond i) = IsFirstNot
     (λ asked. IsInside plan.cells asked.ask) settings.asks i
 RefusesAsk plan settings (UnknownUnit i) = AreInside plan settings
     × IsFirstNot (λ asked. NamesUnit plan.units asked.ask) settings.asks i
-RefusesAsk plan settings (TooWide i width) =
-    AreInside plan settings × NameUnits plan settings × IsFirstWide plan settings i width
+RefusesAsk plan settings (NoShare i) = AreInside plan settings × NameUnits plan settings
+    × IsFirstNot (λ asked. HasShare plan asked.ask) settings.asks i
+RefusesAsk plan settings (TooWide i width) = AreInside plan settings × NameUnits plan settings
+    × HaveShares plan settings × IsFirstWide plan settings i width
 RefusesAsk plan settings OutOfMemory = ⊤
 
 -- no ask is refused
 pub record AreAdmitted (plan : Plan) (settings : Settings) : Type 0 where
   pub inside : AreInside plan settings
   pub named : NameUnits plan settings
+  pub shares : HaveShares plan settings
   pub pass : AllPass plan settings
 
 -- a good report, where no ask is refused

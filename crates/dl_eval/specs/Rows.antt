@@ -7,7 +7,9 @@ use Rattle.dl_model.specs.Series.{Holds, AtLeast, AtMost, Below}
 use Rattle.dl_model.specs.Program.{Quantity, PricedTerm, One, Point, Cdf, Mean, Layer, Tail, Price, Joint}
 use Rattle.dl_model.specs.Measures.{IsQuantile, IsBracketed}
 use Rattle.dl_measures.specs.Ends.{IsTight}
+use Rattle.dl_model.specs.Shares.{HoldsShare}
 use Rattle.dl_distort.specs.Prices.{AreTermsOf, AreQuantiles}
+use Rattle.dl_cotail.specs.Settled.{MayBeAbsent}
 use Rattle.dl_model.specs.Plans.{declared}
 use Rattle.dl_plan.specs.declared.plan.Plan.{Plan}
 use Rattle.dl_plan.specs.declared.settings.Ask.{Ask}
@@ -56,6 +58,11 @@ pub record IsPriceBetween (plan : Plan) (terms : List Term) (l h : Fraction) : T
       → AreQuantiles (declared plan) priced → Declares plan (Price priced) l h
   pub least : (priced : List PricedTerm) → AreTermsOf terms priced
       → IsAtLeast plan (Price priced) l
+
+-- the share of unit i in the tail mean at p lies from l to h, at each quantile that p has
+abbrev pub DeclaresShare : Plan → ℕ → Fraction → Fraction → Fraction → Type 0
+DeclaresShare plan i p l h = (q : ℕ) → IsQuantile (declared plan) q p
+    → HoldsShare (declared plan) i p q l h
 
 -- the distribution at the last cell of the grid
 abbrev pub at_the_end : Plan → Quantity
@@ -137,6 +144,19 @@ pub record IsTooRare (plan : Plan) (x : ℕ) (d : Fraction) (row : Row) : Type 0
   pub is_high : row.high ≡ Absent
   pub rare : IsBelow plan (Point x) (least_likely +ℚ d)
 
+-- The share of unit i in the tail mean at p in numbers. They come only where the distribution
+-- reaches p inside the grid.
+pub record IsTailShare (plan : Plan) (i : ℕ) (p : Fraction) (d most : ℕ) (row : Row) : Type 0 where
+  pub reached : IsAtLeast plan (at_the_end plan) p
+  pub ends : AreRowEnds (DeclaresShare plan i p) d most row
+
+-- No share in the tail mean at p: only where the distribution is within d of p at some total of the
+-- grid, or the probability of the quantile is below the least that is likely enough, and d.
+pub record IsNoTailShare (plan : Plan) (p d : Fraction) (row : Row) : Type 0 where
+  pub is_low : row.low ≡ Absent
+  pub is_high : row.high ≡ Absent
+  pub why : MayBeAbsent (declared plan) plan.cells p d
+
 -- what the distribution and its points may be away from what is declared, with ends in units of 1/S
 abbrev pub total_error : (S : ℕ) → Plan → Fraction
 total_error S plan = total_budget S plan over S
@@ -165,6 +185,10 @@ IsAnswerTo S plan d (asks.Joint unit at) row =
 IsAnswerTo S plan d (asks.Kappa unit at) row =
     IsShareOfUnit plan (place_of unit plan.units) at d (needed S plan (asks.Kappa unit at) d) row
     ⊎ IsTooRare plan at (total_error S plan) row
+IsAnswerTo S plan d (asks.Cotail unit p) row =
+    IsTailShare plan (place_of unit plan.units) p d (needed S plan (asks.Cotail unit p) d) row
+    ⊎ IsBeyond plan p (total_error S plan) row
+    ⊎ IsNoTailShare plan p (total_error S plan) row
 
 -- the ask as it was written, and a good answer
 pub record IsGood (plan : Plan) (d : ℕ) (asked : Asked) (row : Row) : Type 0 where

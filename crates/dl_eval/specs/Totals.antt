@@ -23,9 +23,10 @@ use Rattle.dl_budget.specs.Claims.{claims_budget}
 use Rattle.dl_budget.specs.Units.{after_clause, unit_budget, unit_mean_budget, total_budget, others_budget, mean_budget}
 use Rattle.dl_report.specs.declared.report.End.TheVariants.{Number}
 use Rattle.dl_report.specs.declared.report.Row.{Row}
-use Rattle.dl_budget.specs.Asks.{place_of, joint_budget}
+use Rattle.dl_budget.specs.Asks.{place_of, joint_budget, cotail_budget}
+use Rattle.dl_exact.specs.Fraction.{Fraction}
 use Rattle.dl_eval.specs.declared.grids.Grids.{Grids}
-use Rattle.dl_eval.specs.Rows.{Declares}
+use Rattle.dl_eval.specs.Rows.{Declares, DeclaresShare}
 
 -- ---- how large means can be
 
@@ -139,6 +140,11 @@ pub record AreGridsOf {B : ℕ} (plan : Plan) (grids : Grids B) : Type 0 where
 pub record IsJointOf {B : ℕ} (plan : Plan) (i at : ℕ) (mean : Iv B) : Type 0 where
   pub holds : Declares plan (Joint i at) (mean.lo over 2 ^ B) (mean.hi over 2 ^ B)
   pub narrow : mean.hi ≤ mean.lo + joint_budget (2 ^ B) plan i
+
+-- the share of unit i in the tail mean at p, within its budget
+pub record IsTailShareOf {B : ℕ} (plan : Plan) (i : ℕ) (p : Fraction) (share : Iv B) : Type 0 where
+  pub holds : DeclaresShare plan i p (share.lo over 2 ^ B) (share.hi over 2 ^ B)
+  pub narrow : share.hi ≤ share.lo + cotail_budget (2 ^ B) plan i p
 
 -- ---- what is printed
 

@@ -5,7 +5,7 @@ ghost use Rattle.dl_limits.specs.Limits.{bits_of, most_asks, most_units};
 ghost use Rattle.dl_plan.specs.Ranges.{AreInRange};
 ghost use Rattle.dl_plan.specs.Valid.{IsValid};
 ghost use Rattle.dl_budget.specs.Asks.{IsInside, NamesUnit};
-ghost use Rattle.dl_eval.specs.Answers.{AreInside, NameUnits, AllPass, IsFirstNot, IsFirstWide, AreAdmitted, RefusesAsk};
+ghost use Rattle.dl_eval.specs.Answers.{AreInside, NameUnits, HasShare, AllPass, IsFirstNot, IsFirstWide, AreAdmitted, RefusesAsk};
 
 use crate::fault::EvalFault;
 use dl_budget::{budgets_of, needed_with, place};
@@ -58,6 +58,30 @@ fn first_unknown(units: &[Unit], asks: &[Asked]) -> Option<u32>
     None
 }
 
+/// Whether a share of the tail mean, where the ask is for one, is told of this plan.
+fn has_share(plan: &Plan, ask: &Ask) -> bool
+    ensures { IsTrue result ↔ HasShare plan.now ask.now }
+{
+    match ask {
+        Ask::Cotail { .. } => plan.common.is_none(),
+        _ => true,
+    }
+}
+
+/// The first ask for a share of the tail mean, where the units share a factor.
+fn first_share(plan: &Plan, asks: &[Asked]) -> Option<u32>
+    requires few { length asks.now ≤ most_asks }
+    ensures { MatchOption result (All (λ asked. HasShare plan.now asked.ask) asks.now)
+        (IsFirstNot (λ asked. HasShare plan.now asked.ask) asks.now) }
+{
+    for i in 0..asks.len() {
+        if !has_share(plan, &asks[i].ask) {
+            return Some(i as u32);
+        }
+    }
+    None
+}
+
 /// The first ask that needs more width than the settings give, and the width it needs. The budgets
 /// of the total and of its mean are computed once for all asks.
 #[tactic(auto, using(crate::proofs::Scales::plan_scale))]
@@ -82,8 +106,9 @@ fn first_wide<const B: u32>(plan: &Plan, settings: &Settings) -> Option<(u32, u1
     None
 }
 
-/// Refuses the first ask past the grid, else the first that names no unit, else the first that
-/// needs more width than the settings give. Takes no memory.
+/// Refuses the first ask past the grid, else the first that names no unit, else the first for a
+/// share of the tail mean where the units share a factor, else the first that needs more width than
+/// the settings give. Takes no memory.
 pub(crate) fn admit<const B: u32>(plan: &Plan, settings: &Settings) -> Result<(), EvalFault>
     requires scale { B ≡ bits_of plan.now.cells }
     requires valid { IsValid plan.now }
@@ -97,6 +122,9 @@ pub(crate) fn admit<const B: u32>(plan: &Plan, settings: &Settings) -> Result<()
     }
     if let Some(i) = first_unknown(plan.units.as_slice(), asks) {
         return Err(EvalFault::UnknownUnit(i));
+    }
+    if let Some(i) = first_share(plan, asks) {
+        return Err(EvalFault::NoShare(i));
     }
     if let Some((i, width)) = first_wide::<B>(plan, settings) {
         return Err(EvalFault::TooWide(i, width));

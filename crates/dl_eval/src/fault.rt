@@ -12,6 +12,9 @@ pub enum EvalFault {
     /// This ask is the first that names no unit of the plan.
     #[error("an ask names no unit")]
     UnknownUnit(u32),
+    /// This ask is the first for a share of the tail mean, and the units share a factor.
+    #[error("no share of a tail mean under a common factor")]
+    NoShare(u32),
     /// This ask is the first that needs more width than the settings give, and it needs this width.
     #[error("an ask needs more width")]
     TooWide(u32, u128),

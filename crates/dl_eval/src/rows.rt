@@ -12,7 +12,7 @@ ghost use Rattle.dl_eval.specs.Rows.{IsBracket, IsTailMean, IsBeyond, IsPastGrid
 ghost use Rattle.dl_eval.specs.Totals.{most_mean, IsTotalOf, IsMeanOf, AreGridsOf, HasOthers, Prints};
 
 use crate::grids::Grids;
-use crate::shares::{joint_of, share_row};
+use crate::shares::{joint_of, share_row, tail_share_row};
 use dl_budget::place;
 use dl_distort::price;
 use dl_frac::Frac;
@@ -185,6 +185,10 @@ fn grid_row<const B: u32>(
         Ask::Kappa { unit, at } => {
             let i = place(plan.units.as_slice(), unit.as_slice());
             share_row(alloc, asked, digits, plan, grids, i, *at)
+        }
+        Ask::Cotail { unit, p } => {
+            let i = place(plan.units.as_slice(), unit.as_slice());
+            tail_share_row(alloc, asked, digits, plan, grids, i, *p)
         }
     }
 }

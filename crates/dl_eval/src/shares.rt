@@ -1,20 +1,30 @@
 //! The share of a unit in a total.
 
-ghost use Rattle.std.specs.Prelude.{◌≡◌, ◌*◌, ◌^◌, ◌<◌, ◌≤◌, ◌⊎◌, IsSome, None, ℕ, IfOk, length, get_or};
+ghost use Rattle.std.specs.Prelude.{◌≡◌, ◌*◌, ◌^◌, ◌<◌, ◌≤◌, ◌⊎◌, IsSome, IsNone, IfSome, Some, None, ℕ, IfOk, length, get_or};
 ghost use Rattle.dl_limits.specs.Limits.{bits_of, most_digits};
 ghost use Rattle.dl_exact.specs.Fraction.{◌over◌};
 ghost use Rattle.dl_model.specs.Program.{Point};
 ghost use Rattle.dl_plan.specs.Valid.{IsValid};
-ghost use Rattle.dl_budget.specs.Asks.{kappa_budget, in_digits};
-ghost use Rattle.dl_eval.specs.Rows.{IsAtMost, IsShareOfUnit, IsTooRare, total_error};
-ghost use Rattle.dl_eval.specs.Totals.{AreGridsOf, IsJointOf};
+ghost use Rattle.dl_budget.specs.Asks.{kappa_budget, cotail_budget, in_digits};
+ghost use Rattle.dl_eval.specs.Rows.{IsAtLeast, IsAtMost, IsBeyond, IsShareOfUnit, IsTooRare, IsTailShare, IsNoTailShare, at_the_end, total_error};
+ghost use Rattle.dl_eval.specs.Totals.{AreGridsOf, IsJointOf, IsTailShareOf};
+ghost use Rattle.dl_grid.specs.Cells.{low_at};
+ghost use Rattle.dl_model.specs.Plans.{declared};
+ghost use Rattle.dl_measures.specs.Brackets.{IsFirstFound};
+ghost use Rattle.dl_measures.specs.Ends.{low_cdf};
+ghost use Rattle.dl_cotail.specs.Settled.{MayBeAbsent};
+ghost use Rattle.dl_plan.specs.Ranges.{IsLevel};
 
 use crate::grids::Grids;
-use crate::rows::{ends_row, row_with};
+use crate::rows::{beyond_row, ends_row, row_with};
 use dl_alloc::{conditional_mean, joint_mean};
-use dl_budget::{others_budget, unit_budget};
+use dl_budget::{others_budget, total_budget, unit_budget};
+use dl_cotail::cotail;
+use dl_cotail::laws::law_unit_mean;
+use dl_frac::Frac;
 use dl_iv::Iv;
 use dl_limits::BUDGET_BOUND;
+use dl_measures::quantile;
 use dl_plan::{Asked, Plan};
 use dl_report::{End, Row};
 use std::alloc::{AllocError, Global};
@@ -69,5 +79,69 @@ pub(crate) fn share_row<const B: u32>(
     match conditional_mean(joint, grids.sums.total.at(at)) {
         Some(share) => ends_row(alloc, asked, digits, share),
         None => row_with(alloc, asked, End::Absent, End::Absent),
+    }
+}
+
+/// The share of unit `i` in the tail mean at `p`, in buckets; none where the grid ends before the
+/// quantile, does not settle it, or it may be too rare.
+#[tactic(auto, using(crate::proofs::Scales::plan_scale))]
+fn tail_share_of<const B: u32>(plan: &Plan, grids: &Grids<B>, i: u32, p: Frac) -> Option<Iv<B>>
+    requires scale { B ≡ bits_of plan.now.cells }
+    requires valid { IsValid plan.now }
+    requires grids { AreGridsOf plan.now grids.now }
+    requires unit { i < length plan.now.units }
+    requires there { IsSome (get_or grids.now.sums.others.items i None) }
+    requires level { IsLevel p }
+    requires few { p.den ≤ 10 ^ 4 }
+    ensures share { IfSome result (IsTailShareOf plan.now i p) }
+    ensures reached { IfSome result (λ _. IsAtLeast plan.now (at_the_end plan.now) p) }
+    ensures absent { (x : ℕ) → IsNone result
+        → IsFirstFound (low_cdf (2 ^ B) (low_at grids.now.sums.total)) p plan.now.cells (Some x)
+        → MayBeAbsent (declared plan.now) plan.now.cells p (total_error (2 ^ B) plan.now) }
+{
+    prove!(unit_budget::<B>(&plan.units.as_slice()[i as usize], plan.cells) < BUDGET_BOUND);
+    prove!(others_budget::<B>(plan, i) < BUDGET_BOUND);
+    prove!(total_budget::<B>(plan) < BUDGET_BOUND);
+    law_unit_mean();
+    let unit = &grids.units.as_slice()[i as usize];
+    let mean = grids.means.as_slice()[i as usize];
+    match &grids.sums.others.as_slice()[i as usize] {
+        Some(others) => cotail(unit, others, &grids.sums.total, mean, p),
+        None => unreachable!(),
+    }
+}
+
+/// The row of an ask for the share of unit `i` in the tail mean at `p`; without numbers where there
+/// is none.
+#[tactic(auto, using(crate::proofs::Scales::plan_scale))]
+pub(crate) fn tail_share_row<const B: u32>(
+    alloc: Global,
+    asked: &Asked,
+    digits: u32,
+    plan: &Plan,
+    grids: &Grids<B>,
+    i: u32,
+    p: Frac,
+) -> Result<Row, AllocError>
+    requires scale { B ≡ bits_of plan.now.cells }
+    requires digits { digits ≤ most_digits }
+    requires valid { IsValid plan.now }
+    requires grids { AreGridsOf plan.now grids.now }
+    requires unit { i < length plan.now.units }
+    requires there { IsSome (get_or grids.now.sums.others.items i None) }
+    requires level { IsLevel p }
+    requires few { p.den ≤ 10 ^ 4 }
+    ensures ask { IfOk result (λ row. row.ask ≡ asked.now.text) }
+    ensures share { IfOk result (λ row. IsTailShare plan.now i p digits
+        (in_digits (2 ^ B) (cotail_budget (2 ^ B) plan.now i p) digits) row
+        ⊎ IsBeyond plan.now p (total_error (2 ^ B) plan.now) row
+        ⊎ IsNoTailShare plan.now p (total_error (2 ^ B) plan.now) row) }
+{
+    if let Some(share) = tail_share_of(plan, grids, i, p) {
+        return ends_row(alloc, asked, digits, share);
+    }
+    match quantile(&grids.sums.total, p).hi {
+        Some(_) => row_with(alloc, asked, End::Absent, End::Absent),
+        None => beyond_row(alloc, asked),
     }
 }

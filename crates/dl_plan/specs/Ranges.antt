@@ -4,7 +4,7 @@ use Rattle.dl_limits.specs.Limits.{most_asks, most_digits, most_log2}
 use Rattle.dl_exact.specs.Fraction.{Fraction, whole, ◌<ℚ◌}
 use Rattle.dl_plan.specs.declared.settings.Ask.{Ask}
 use Rattle.dl_plan.specs.declared.settings.Settings.{Settings}
-use Rattle.dl_plan.specs.declared.settings.Ask.TheVariants.{Price}
+use Rattle.dl_plan.specs.declared.settings.Ask.TheVariants.{Price, Cotail}
 use Rattle.dl_plan.specs.Facts.{facts_of}
 use Rattle.dl_plan.specs.Terms.{ArePriced}
 
@@ -29,10 +29,16 @@ abbrev pub HasTerms : Ask → Type 0
 HasTerms (Price terms) = ArePriced terms
 HasTerms ask = ⊤
 
+-- the probability of an ask for a share of the tail mean has parts of at most 10,000
+abbrev pub HasShareLevel : Ask → Type 0
+HasShareLevel (Cotail unit p) = p.den ≤ 10 ^ 4
+HasShareLevel ask = ⊤
+
 -- an ask with such values
 pub record IsAskInRange (ask : Ask) : Type 0 where
   pub levels : HasLevels ask
   pub terms : HasTerms ask
+  pub share : HasShareLevel ask
 
 -- a bucket size; from 2 to 65,536 cells; from 1 to 9 digits; widths of at least 1; and at most 256
 -- asks

@@ -68,6 +68,13 @@ pub enum Ask {
         /// The total, in buckets.
         at: u32,
     },
+    /// The share of a unit in the tail mean at a probability.
+    Cotail {
+        /// The unit's name.
+        unit: Text,
+        /// The probability of the tail mean, below 1, with parts of at most 10,000.
+        p: Frac,
+    },
 }
 
 /// An ask, and the word that it was written with.

@@ -18,7 +18,7 @@ use Rattle.dl_words.specs.Words.{words_of}
 use Rattle.dl_words.proofs.RangeLaws.{settings_in}
 use Rattle.dl_types.specs.Faults.{first_fault}
 use Rattle.dl_eval.specs.declared.fault.EvalFault.{EvalFault}
-use Rattle.dl_eval.specs.declared.fault.EvalFault.TheVariants.{AskBeyond, UnknownUnit, TooWide, OutOfMemory as NoRoom}
+use Rattle.dl_eval.specs.declared.fault.EvalFault.TheVariants.{AskBeyond, UnknownUnit, NoShare, TooWide, OutOfMemory as NoRoom}
 use Rattle.dl_eval.specs.Answers.{IsFirstNot, AreAdmitted, RefusesAsk as RefusesAsks}
 use Rattle.std.specs.Prelude.{zip}
 use Rattle.std.proofs.lemmas.List.Elements.{All-nil, All-cons, All-head, All-tail, All-map}
@@ -120,7 +120,9 @@ admitted_not_refused : (plan : Plan) (settings : Settings) (of : EvalFault) (fau
     → RefusesAsks plan settings of → ⊥
 admitted_not_refused plan settings (AskBeyond i) fault is a r = none_first _ settings.asks i a.inside r
 admitted_not_refused plan settings (UnknownUnit i) fault is a r = none_first _ settings.asks i a.named r.1
-admitted_not_refused plan settings (TooWide i width) fault is a (inside, named, wide) =
+admitted_not_refused plan settings (NoShare i) fault is a (inside, named, first) =
+    none_first _ settings.asks i a.shares first
+admitted_not_refused plan settings (TooWide i width) fault is a (inside, named, shares, wide) =
     none_first _ settings.asks i a.pass wide.first
 admitted_not_refused plan settings NoRoom fault is admitted r = absurd is
 

@@ -10,7 +10,7 @@ use Rattle.dl_words.specs.declared.fault.UsageFault.{UsageFault}
 use Rattle.dl_top.specs.declared.status.Status.{Status}
 use Rattle.dl_top.specs.declared.status.Status.TheVariants as statuses
 use Rattle.dl_top.specs.declared.fault.Fault.{Fault}
-use Rattle.dl_top.specs.declared.fault.Fault.TheVariants.{Usage, Read, TooLong, BadByte, Syntax, Continuous, Typing, AskBeyond, UnknownUnit, TooWide}
+use Rattle.dl_top.specs.declared.fault.Fault.TheVariants.{Usage, Read, TooLong, BadByte, Syntax, Continuous, Typing, AskBeyond, UnknownUnit, NoShare, TooWide}
 use Rattle.dl_top.specs.Faults.{status_of, fault_line}
 use Rattle.dl_top.specs.Statuses.{IsWritten, IsAnswerEnd}
 use Rattle.dl_top.specs.Answers.{Answers, Refuses, IsAccepted, HasForm, refused}
@@ -48,6 +48,7 @@ read_of_status (Continuous k) e = grind (arith, e)
 read_of_status (Typing of) e = grind (arith, e)
 read_of_status (AskBeyond i) e = grind (arith, e)
 read_of_status (UnknownUnit i) e = grind (arith, e)
+read_of_status (NoShare i) e = grind (arith, e)
 read_of_status (TooWide i width) e = grind (arith, e)
 
 pub usage_of_status : (fault : Fault) → status_of fault ≡ statuses.Usage → (of : UsageFault) × (fault ≡ Usage of)
@@ -60,6 +61,7 @@ usage_of_status (Continuous k) e = absurd (grind (arith, e))
 usage_of_status (Typing of) e = absurd (grind (arith, e))
 usage_of_status (AskBeyond i) e = absurd (grind (arith, e))
 usage_of_status (UnknownUnit i) e = absurd (grind (arith, e))
+usage_of_status (NoShare i) e = absurd (grind (arith, e))
 usage_of_status (TooWide i width) e = absurd (grind (arith, e))
 
 pub part : (words : List (List ℕ)) (input : List ℕ) (fault : Fault) (text : List ℕ)

@@ -63,6 +63,7 @@ pub record MeansPlan (input : List ℕ) (settings : Settings) (plan : Plan) : Ty
 abbrev pub of_asks : EvalFault → Fault → Type 0
 of_asks (evals.AskBeyond i) fault = fault ≡ faults.AskBeyond i
 of_asks (evals.UnknownUnit i) fault = fault ≡ faults.UnknownUnit i
+of_asks (evals.NoShare i) fault = fault ≡ faults.NoShare i
 of_asks (evals.TooWide i width) fault = fault ≡ faults.TooWide i width
 of_asks evals.OutOfMemory fault = ⊥
 

@@ -11,7 +11,7 @@ use Rattle.dl_types.specs.declared.fault.TypeFault.{TypeFault}
 use Rattle.dl_top.specs.declared.status.Status.{Status}
 use Rattle.dl_top.specs.declared.status.Status.TheVariants as statuses
 use Rattle.dl_top.specs.declared.fault.Fault.{Fault}
-use Rattle.dl_top.specs.declared.fault.Fault.TheVariants.{Usage, Read, TooLong, BadByte, Syntax, Continuous, Typing, AskBeyond, UnknownUnit, TooWide}
+use Rattle.dl_top.specs.declared.fault.Fault.TheVariants.{Usage, Read, TooLong, BadByte, Syntax, Continuous, Typing, AskBeyond, UnknownUnit, NoShare, TooWide}
 
 -- how a call with the fault ends, where its text can be written
 abbrev pub status_of : Fault → Status
@@ -24,6 +24,7 @@ status_of (Continuous k) = statuses.Refused
 status_of (Typing fault) = statuses.Refused
 status_of (AskBeyond i) = statuses.AskFault
 status_of (UnknownUnit i) = statuses.AskFault
+status_of (NoShare i) = statuses.AskFault
 status_of (TooWide i width) = statuses.TooWide
 
 -- the line and the column of a place
@@ -69,6 +70,7 @@ reason (Continuous k) source tokens = place_text source (token_start source (sli
 reason (Typing fault) source tokens = typing_text fault source
 reason (AskBeyond i) source tokens = ask_text i ++ codes "beyond the grid"
 reason (UnknownUnit i) source tokens = ask_text i ++ codes "no such unit"
+reason (NoShare i) source tokens = ask_text i ++ codes "no share under a common factor"
 reason (TooWide i width) source tokens = ask_text i ++ codes "needs width " ++ decimal width
 
 -- the line that is printed

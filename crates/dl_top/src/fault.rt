@@ -34,6 +34,8 @@ pub enum Fault {
     AskBeyond(u32),
     /// This ask is the first that names no unit.
     UnknownUnit(u32),
+    /// This ask is the first for a share of the tail mean, and the units share a factor.
+    NoShare(u32),
     /// This ask is the first that needs more width than the settings give, and it needs this width.
     TooWide(u32, u128),
 }
@@ -46,7 +48,7 @@ impl Fault {
         match self {
             Fault::Usage(_) => Status::Usage,
             Fault::Read => Status::ReadFault,
-            Fault::AskBeyond(_) | Fault::UnknownUnit(_) => Status::AskFault,
+            Fault::AskBeyond(_) | Fault::UnknownUnit(_) | Fault::NoShare(_) => Status::AskFault,
             Fault::TooWide(..) => Status::TooWide,
             _ => Status::Refused,
         }
@@ -188,6 +190,10 @@ fn push_reason(
         Fault::UnknownUnit(ask) => {
             push_ask(alloc, text, ask)?;
             text.extend_from_slice(b"no such unit")
+        }
+        Fault::NoShare(ask) => {
+            push_ask(alloc, text, ask)?;
+            text.extend_from_slice(b"no share under a common factor")
         }
         Fault::TooWide(ask, width) => push_width(alloc, text, ask, width),
     }

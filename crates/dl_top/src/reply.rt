@@ -106,6 +106,7 @@ fn reply_to_plan(alloc: Global, settings: &Settings, plan: &Plan) -> Reply
         Ok(report) => reported(alloc, &report, plan, settings),
         Err(EvalFault::AskBeyond(ask)) => refusal(alloc, Fault::AskBeyond(ask), &[], &[]),
         Err(EvalFault::UnknownUnit(ask)) => refusal(alloc, Fault::UnknownUnit(ask), &[], &[]),
+        Err(EvalFault::NoShare(ask)) => refusal(alloc, Fault::NoShare(ask), &[], &[]),
         Err(EvalFault::TooWide(ask, width)) => {
             refusal(alloc, Fault::TooWide(ask, width), &[], &[])
         }

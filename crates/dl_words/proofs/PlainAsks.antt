@@ -5,7 +5,7 @@ use Rattle.std.proofs.lemmas.List.Elements.{All-append}
 use Rattle.dl_plan.specs.Plain.{IsPlainByte}
 use Rattle.dl_plan.specs.declared.settings.Term.{Term}
 use Rattle.dl_words.specs.Spelling.{is_weight}
-use Rattle.dl_words.specs.Table.{SpellsTerms, one, more, price}
+use Rattle.dl_words.specs.Table.{SpellsTerms, one, more, price, cotail}
 use Rattle.dl_words.proofs.Numerals.{both}
 use Rattle.dl_words.proofs.NumeralBytes.{written_each}
 use Rattle.dl_words.proofs.RangeLaws.{AreFrom, all_true, asks_each, from_parts, some_parts}
@@ -101,6 +101,8 @@ spelled_plain text ask (joint name x n h e) = behind (codes "joint:") (name ++ (
     (named name x n h)
 spelled_plain text ask (kappa name x n h e) = behind (codes "kappa:") (name ++ (codes ":" ++ x)) text e refl
     (named name x n h)
+spelled_plain text ask (cotail name p n h e) = behind (codes "cotail:") (name ++ (codes ":" ++ p)) text e refl
+    (around name p 58 refl (name_plain name n) (probability_plain 4 p h))
 
 -- ---- the law
 

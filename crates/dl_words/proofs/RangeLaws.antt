@@ -2,14 +2,14 @@
 use Rattle.dl_words.proofs.Common.{◌≡◌, inl, inr, cases_Bool, ℕ, suc, ◌≤◌, Bool, true, false, refl, ap, subst, List, [], ◌∷◌, length, map, All, Option, Some, None, Result, Ok, Err, IfOk, arith, codes, nat_le, nat_lt, ◌&&◌, ◌==◌, IsTrue, ⊤, list_all, All-nil, All-cons, nat_tests, is_bad, numeral_value, Ask, Asked, Form, Run, Fmt, Settings, UsageFault, ask_of, asks_of, with_ask, Values, are_taken, form_named, is_taken, Part, Mode, Kind, kind_of, parts_from, command_parts, positionals_of, read_kind, option_values, with_part, option, positional, between, value, ended, ends, begins, plain, misfit, Text, begins_plainly, is_bucket, is_numeral, is_probability, is_number_within, number, SpellsAsk, pmf, cdf, mean, q, tail, layer, no_limit, joint, kappa, admits, answer, to_parts, to_positionals, with_asks, words_of}
 use Rattle.dl_exact.proofs.BelowOne.{below_one}
 use Rattle.std.proofs.lemmas.Bool.{leb-true}
-use Rattle.std.proofs.Common.{not, IfSome, IsUtf8}
+use Rattle.std.proofs.Common.{not, IfSome, IsUtf8, ◌^◌}
 use Rattle.std.proofs.lemmas.List.Elements.{All-head, All-tail}
 use Rattle.dl_exact.specs.Fraction.{Fraction, whole}
 use Rattle.dl_exact.proofs.Parts.{pos_num}
 use Rattle.dl_plan.proofs.Buckets.{one_bucket}
-use Rattle.dl_plan.specs.Ranges.{IsBucket, IsLevel, HasLevels, HasTerms, IsAskInRange, AreInRange}
+use Rattle.dl_plan.specs.Ranges.{IsBucket, IsLevel, HasLevels, HasTerms, HasShareLevel, IsAskInRange, AreInRange}
 use Rattle.dl_plan.specs.declared.settings.Term.{Term}
-use Rattle.dl_words.specs.Table.{SpellsTerms, one, more, price}
+use Rattle.dl_words.specs.Table.{SpellsTerms, one, more, price, cotail}
 use Rattle.dl_words.specs.Options.{is_make_alone, or_default, settings_of}
 use Rattle.dl_words.specs.Parts.Kind.{whole as joined_kind}
 use Rattle.dl_words.proofs.Numerals.{both, less}
@@ -70,6 +70,21 @@ module _ (low high default : ℕ) (texts : List Text) where
 
 -- ---- the asks
 
+-- one of at most 4 digits
+short_level : (text : Text) → IsTrue (is_probability 4 text)
+    → IsLevel (numeral_value text) × ((numeral_value text).den ≤ 10 ^ 4)
+short_level text h =
+    let t = both (is_numeral text && not (is_bad 4 text)) _ h in
+    let small : IsSmall 4 (numeral_value text) = numeral_small 2 text
+    (not_bad (is_bad 4 text) (both (is_numeral text) _ t.0).1) in (
+      record {
+        below = below_one (numeral_value text) (less (numeral_value text).num (numeral_value text).den t.1);
+        num = omega (arith, small.num);
+        den = omega (arith, small.den);
+      },
+      small.den,
+    )
+
 one_level : (p : Fraction) → IsLevel p → All IsLevel (p ∷ [])
 one_level p h = All-cons IsLevel p [] h (All-nil IsLevel)
 
@@ -89,6 +104,7 @@ spelled_level text ask (layer limit attach l h e) = All-nil IsLevel
 spelled_level text ask (no_limit attach h e) = All-nil IsLevel
 spelled_level text ask (joint name x n h e) = All-nil IsLevel
 spelled_level text ask (kappa name x n h e) = All-nil IsLevel
+spelled_level text ask (cotail name p n h e) = one_level (numeral_value p) (short_level p h).0
 
 spelled_terms : (text : Text) (ask : Ask) → SpellsAsk text ask → HasTerms ask
 spelled_terms text ask (pmf x h e) = tt
@@ -101,9 +117,23 @@ spelled_terms text ask (layer limit attach l h e) = tt
 spelled_terms text ask (no_limit attach h e) = tt
 spelled_terms text ask (joint name x n h e) = tt
 spelled_terms text ask (kappa name x n h e) = tt
+spelled_terms text ask (cotail name p n h e) = tt
+
+spelled_share : (text : Text) (ask : Ask) → SpellsAsk text ask → HasShareLevel ask
+spelled_share text ask (pmf x h e) = tt
+spelled_share text ask (cdf x h e) = tt
+spelled_share text ask (mean e) = tt
+spelled_share text ask (q p h e) = tt
+spelled_share text ask (tail p h e) = tt
+spelled_share text ask (price rest terms s priced e) = tt
+spelled_share text ask (layer limit attach l h e) = tt
+spelled_share text ask (no_limit attach h e) = tt
+spelled_share text ask (joint name x n h e) = tt
+spelled_share text ask (kappa name x n h e) = tt
+spelled_share text ask (cotail name p n h e) = (short_level p h).1
 
 in_range : (text : Text) (ask : Ask) → SpellsAsk text ask → IsAskInRange ask
-in_range text ask s = record { levels = spelled_level text ask s; terms = spelled_terms text ask s }
+in_range text ask s = record { levels = spelled_level text ask s; terms = spelled_terms text ask s; share = spelled_share text ask s }
 
 module _ (P : Text → Type 0) (Q : Asked → Type 0) (each : (text : Text) (ask : Ask) → ask_of text ≡ Some ask → P text
     → Q (record { text = text; ask = ask })) where

@@ -1,12 +1,12 @@
 -- What is read as an ask is what the table of the asks has.
 use Rattle.dl_words.proofs.Common.{◌≡◌, ◌∙◌, inl, inr, cases_Bool, ℕ, Bool, true, false, refl, sym, ap, subst, [], ◌∷◌, ◌++◌, Option, Some, None, codes, true≢false, arith, ◌==◌, IsTrue, if◌then◌else◌, option_map, option_and_then, is_ascii_digit, list_all, list_any, before_first, after_first, bytes_eq, nat_tests, bytes_eq-Decides, Fraction, numeral_value, is_word_byte, begins_with_letter, Ask, ask_of, behind_s, cut_at, Text, is_amount, is_probability, is_word, number, SpellsAsk, pmf, cdf, mean, q, tail, layer, no_limit, joint, kappa}
-use Rattle.dl_plan.specs.declared.settings.Ask.TheVariants.{Pmf, Cdf, Mean, Quantile, LayerMean, Tail, Price, Joint, Kappa}
-use Rattle.dl_words.specs.Asks.{amount_written, are_weighted, ask_between, layer_between, layer_of, limit_written, price_of, probability_written, terms_written, unit_parts}
+use Rattle.dl_plan.specs.declared.settings.Ask.TheVariants.{Pmf, Cdf, Mean, Quantile, LayerMean, Tail, Price, Joint, Kappa, Cotail}
+use Rattle.dl_words.specs.Asks.{amount_written, are_weighted, ask_between, layer_between, layer_of, limit_written, price_of, probability_written, terms_written, unit_level, unit_parts}
 use Rattle.dl_plan.specs.Terms.{most_terms}
 use Rattle.dl_words.proofs.Numerals.{both}
 use Rattle.dl_words.proofs.Signs.{chained, cut_back, cut_there, mapped, not_some, some_is, tested, written_back}
 use Rattle.dl_words.proofs.Prices.{price_read, priced_ask, terms_back, weighted_priced}
-use Rattle.dl_words.specs.Table.{price}
+use Rattle.dl_words.specs.Table.{price, cotail}
 
 -- ---- texts without a sign
 
@@ -49,6 +49,12 @@ unit_read name x n a =
     ap (option_and_then (λ cut. if is_word cut.0 then option_map (λ x. (cut.0, x)) (amount_written cut.1) else None))
     (cut_there 58 name x (name_no_colon name n)) ∙ (rw (n, a) refl)
 
+level_read : (name p : Text) → IsTrue (is_word name) → IsTrue (is_probability 4 p)
+    → unit_level (name ++ 58 ∷ p) ≡ Some (name, numeral_value p)
+level_read name p n h =
+    ap (option_and_then (λ cut. if is_word cut.0 then option_map (λ p. (cut.0, p)) (probability_written 4 cut.1) else None))
+    (cut_there 58 name p (name_no_colon name n)) ∙ (rw (n, h) refl)
+
 pub table_read : (text : Text) (ask : Ask) → SpellsAsk text ask → ask_of text ≡ Some ask
 unfolding ask_of
 table_read text _ (pmf x h e) = rw (e, h) refl
@@ -61,6 +67,7 @@ table_read text _ (layer limit attach l a e) = rw e (layer_read limit attach l a
 table_read text _ (no_limit attach a e) = rw (e, a) refl
 table_read text _ (joint name x n a e) = rw e (ap (option_map (λ parts. Joint parts.0 parts.1)) (unit_read name x n a))
 table_read text _ (kappa name x n a e) = rw e (ap (option_map (λ parts. Kappa parts.0 parts.1)) (unit_read name x n a))
+table_read text _ (cotail name p n h e) = rw e (ap (option_map (λ parts. Cotail parts.0 parts.1)) (level_read name p n h))
 
 -- ---- what is read is a row of the table
 
@@ -135,6 +142,18 @@ layer_back text rest ask spelled e =
     subst (SpellsAsk text) a.1 (layer_spelled text c.0.0 d.0 f.0 (limit_back c.0.0 f.0 f.1) a.0
     (spelled ∙ ap (λ r. codes "layer:" ++ r) parts))
 
+-- the unit's name and the probability
+cotail_back : (text rest : Text) (ask : Ask) → text ≡ codes "cotail:" ++ rest
+    → option_map (λ parts. Cotail parts.0 parts.1) (unit_level rest) ≡ Some ask → SpellsAsk text ask
+cotail_back text rest ask spelled e =
+    let m = mapped (λ parts. Cotail parts.0 parts.1) (unit_level rest) ask e in
+    let c = chained (λ cut. if is_word cut.0 then option_map (λ p. (cut.0, p)) (probability_written 4 cut.1) else None)
+    (cut_at 58 rest) m.0 m.1 in
+    let named = tested (is_word c.0.0) (option_map (λ p. (c.0.0, p)) (probability_written 4 c.0.1)) m.0 c.2 in
+    let level = written_back (λ p. (c.0.0, p)) (is_probability 4 c.0.1) (numeral_value c.0.1) m.0 named.1 in
+    subst (SpellsAsk text) (ap (λ parts. Cotail parts.0 parts.1) level.1 ∙ m.2)
+    (cotail c.0.0 c.0.1 named.0 level.0 (spelled ∙ ap (λ r. codes "cotail:" ++ r) (cut_back 58 rest c.0 c.1)))
+
 price_back : (text rest : Text) (ask : Ask) → text ≡ codes "price:" ++ rest → price_of rest ≡ Some ask
     → SpellsAsk text ask
 price_back text rest ask spelled e =
@@ -170,7 +189,8 @@ module _ (text head rest : Text) (ask : Ask) (spelled : text ≡ head ++ 58 ∷ 
       (λ name x n a s. joint name x n a s)) (λ e.
       choice (codes "kappa") _ _ e (λ t there. unit_spelled (codes "kappa:") Kappa t there
       (λ name x n a s. kappa name x n a s)) (λ e.
-      not_some ask e))))))))
+      choice (codes "cotail") _ _ e (λ t there. cotail_back text rest ask t there) (λ e.
+      not_some ask e)))))))))
     where
       unit_spelled : (front : Text) (mk : Text → ℕ → Ask) → text ≡ front ++ rest
           → option_map (λ parts. mk parts.0 parts.1) (unit_parts rest) ≡ Some ask

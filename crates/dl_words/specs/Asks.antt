@@ -8,7 +8,7 @@ use Rattle.dl_exact.specs.Fraction.{Fraction}
 use Rattle.dl_exact.specs.Sum.{sum_over}
 use Rattle.dl_frac.specs.Numerals.{numeral_value}
 use Rattle.dl_plan.specs.declared.settings.Ask.{Ask}
-use Rattle.dl_plan.specs.declared.settings.Ask.TheVariants.{Pmf, Cdf, Mean, Quantile, LayerMean, Tail, Price, Joint, Kappa}
+use Rattle.dl_plan.specs.declared.settings.Ask.TheVariants.{Pmf, Cdf, Mean, Quantile, LayerMean, Tail, Price, Joint, Kappa, Cotail}
 use Rattle.dl_plan.specs.declared.settings.Asked.{Asked}
 use Rattle.dl_plan.specs.declared.settings.Term.{Term}
 use Rattle.dl_plan.specs.Fine.{common_denominator}
@@ -53,6 +53,11 @@ layer_of text = option_and_then (λ cut. layer_between cut.0 cut.1) (cut_at 120 
 abbrev pub unit_parts : Text → Option (Text × ℕ)
 unit_parts text = option_and_then (λ cut. if is_word cut.0
     then option_map (λ x. (cut.0, x)) (amount_written cut.1) else None) (cut_at 58 text)
+
+-- `NAME:p`, with at most 4 digits
+abbrev pub unit_level : Text → Option (Text × Fraction)
+unit_level text = option_and_then (λ cut. if is_word cut.0
+    then option_map (λ p. (cut.0, p)) (probability_written 4 cut.1) else None) (cut_at 58 text)
 
 -- `W`
 abbrev pub weight_written : Text → Option Fraction
@@ -102,6 +107,8 @@ ask_between head rest =
     (unit_parts rest)
     else if bytes_eq head (codes "kappa") then option_map (λ parts. Kappa parts.0 parts.1)
     (unit_parts rest)
+    else if bytes_eq head (codes "cotail") then option_map (λ parts. Cotail parts.0 parts.1)
+    (unit_level rest)
     else None
 
 -- what the text asks, where it is spelled as an ask

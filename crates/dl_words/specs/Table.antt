@@ -2,7 +2,7 @@
 use Rattle.std.specs.Prelude.{◌≡◌, ◌++◌, ◌∷◌, List, [], Some, None, IsTrue, codes}
 use Rattle.dl_frac.specs.Numerals.{numeral_value}
 use Rattle.dl_plan.specs.declared.settings.Ask.{Ask}
-use Rattle.dl_plan.specs.declared.settings.Ask.TheVariants.{Pmf, Cdf, Mean, Quantile, LayerMean, Tail, Price, Joint, Kappa}
+use Rattle.dl_plan.specs.declared.settings.Ask.TheVariants.{Pmf, Cdf, Mean, Quantile, LayerMean, Tail, Price, Joint, Kappa, Cotail}
 use Rattle.dl_plan.specs.declared.settings.Term.{Term}
 use Rattle.dl_plan.specs.Terms.{ArePriced}
 use Rattle.dl_words.specs.Spelling.{Text, is_amount, is_probability, is_weight, is_word, number}
@@ -43,3 +43,6 @@ pub data SpellsAsk (text : Text) : Ask → Type 0 where
   kappa : (name x : Text) → IsTrue (is_word name) → IsTrue (is_amount x)
       → text ≡ codes "kappa:" ++ (name ++ (codes ":" ++ x))
       → SpellsAsk text (Kappa name (number x))
+  cotail : (name p : Text) → IsTrue (is_word name) → IsTrue (is_probability 4 p)
+      → text ≡ codes "cotail:" ++ (name ++ (codes ":" ++ p))
+      → SpellsAsk text (Cotail name (numeral_value p))

@@ -2,7 +2,7 @@
 
 ghost use Rattle.std.specs.Prelude.{◌≡◌, ◌<◌, ◌≤◌, ◌^◌, ◌++◌, ◌∷◌, [], IfErr, IfOk, Ok, length, map, option_map};
 ghost use Rattle.dl_limits.specs.Limits.{most_asks};
-ghost use Rattle.dl_words.specs.Asks.{ask_between, ask_of, asks_of, cut_at, behind_s, layer_between, layer_of, limit_written, price_of, term_between, term_written, terms_written, unit_parts};
+ghost use Rattle.dl_words.specs.Asks.{ask_between, ask_of, asks_of, cut_at, behind_s, layer_between, layer_of, limit_written, price_of, term_between, term_written, terms_written, unit_level, unit_parts};
 ghost use Rattle.dl_words.specs.Faults.{ExplainsAsks};
 ghost use Rattle.dl_plan.specs.Terms.{most_terms};
 ghost use Rattle.dl_words.specs.declared.fault.UsageFault.TheVariants as faults;
@@ -10,6 +10,7 @@ ghost use Rattle.dl_words.specs.declared.fault.WordsFault.TheVariants.{Usage};
 
 use crate::fault::{UsageFault, WordsFault};
 use crate::spelling::{amount, is_word, probability, weight};
+use dl_frac::Frac;
 use dl_lexer::Text;
 use dl_plan::{Ask, Asked, Items, MOST_TERMS, Term, are_priced};
 use std::alloc::{AllocError, Global};
@@ -78,6 +79,7 @@ fn ask_between(alloc: Global, head: &str, rest: &str) -> Result<Option<Ask>, All
         "layer" => Ok(layer(rest)),
         "joint" => Ok(unit_at(alloc, rest)?.map(|(unit, at)| Ask::Joint { unit, at })),
         "kappa" => Ok(unit_at(alloc, rest)?.map(|(unit, at)| Ask::Kappa { unit, at })),
+        "cotail" => Ok(unit_level(alloc, rest)?.map(|(unit, p)| Ask::Cotail { unit, p })),
         _ => Ok(None),
     }
 }
@@ -197,6 +199,22 @@ fn unit_at(alloc: Global, text: &str) -> Result<Option<(Text, u32)>, AllocError>
         return Ok(None);
     };
     Ok(Some((Text::copy(alloc, name.as_bytes())?, at)))
+}
+
+/// `NAME:p`, with at most 4 digits.
+fn unit_level(alloc: Global, text: &str) -> Result<Option<(Text, Frac)>, AllocError>
+    ensures { IfOk result (λ parts. parts ≡ unit_level text.now) }
+{
+    let Some((name, rest)) = cut(text, ':') else {
+        return Ok(None);
+    };
+    if !is_word(name.as_bytes()) {
+        return Ok(None);
+    }
+    let Some(p) = probability(rest, 4) else {
+        return Ok(None);
+    };
+    Ok(Some((Text::copy(alloc, name.as_bytes())?, p)))
 }
 
 /// What stands in front of the first such sign, which is ASCII, and what stands behind it.

@@ -14,3 +14,10 @@ price_budget-requires-clause-levels g c =
 pub price_budget-requires-clause-priced : goal.price_budget-requires-clause-priced
 price_budget-requires-clause-priced g c =
     rw c.as_slice.ensures (rw c.in-Price.is at c.requires.ask.values.terms)
+
+pub cotail_budget-requires-clause-level : goal.cotail_budget-requires-clause-level
+cotail_budget-requires-clause-level g c =
+    All-head IsLevel c.in-Cotail.p [] (rw c.in-Cotail.is at c.requires.ask.values.levels)
+
+pub cotail_budget-requires-clause-few : goal.cotail_budget-requires-clause-few
+cotail_budget-requires-clause-few g c = rw c.in-Cotail.is at c.requires.ask.values.share

@@ -6,6 +6,7 @@ use Rattle.dl_eval.proofs.GoodRows.{point_answer, cdf_answer, mean_answer, layer
 use Rattle.dl_eval.proofs.Scales.{plan_scale}
 use Rattle.dl_eval.proofs.PriceRows.{price_asked}
 use Rattle.dl_eval.proofs.ShareLaws.{joint_asked, share_asked, tail_asked}
+use Rattle.dl_eval.proofs.TailShares.{tail_share_asked}
 use Rattle.dl_eval.proofs.rows.grid_row.Goals as goal
 
 pub at-requires : goal.at-requires
@@ -132,3 +133,11 @@ returns-in-Kappa-clause-answer g c =
     c.args.digits row
     (c.place-i-in-Kappa.ensures ∙ ap₂ place_of c.as_slice-in-Kappa-2.ensures c.as_slice-in-Kappa.ensures) told))
     c.share_row.ensures.share
+
+pub returns-in-Cotail-clause-answer : goal.returns-in-Cotail-clause-answer
+returns-in-Cotail-clause-answer g c =
+    IfOk-weaker c.tail_share_row.result _ _ (λ row told.
+    rw c.in-Cotail.is (tail_share_asked (2 ^ g.row.B) c.args.plan.now c.in-Cotail.unit c.place-i-in-Cotail.result
+    c.args.digits c.in-Cotail.p row
+    (c.place-i-in-Cotail.ensures ∙ ap₂ place_of c.as_slice-in-Cotail-2.ensures c.as_slice-in-Cotail.ensures) told))
+    c.tail_share_row.ensures.share

@@ -1,6 +1,6 @@
 -- A fault of the asks refuses them.
 use Rattle.std.proofs.Common.{refl}
-use Rattle.dl_eval.specs.declared.fault.EvalFault.TheVariants.{AskBeyond, UnknownUnit, TooWide}
+use Rattle.dl_eval.specs.declared.fault.EvalFault.TheVariants.{AskBeyond, UnknownUnit, NoShare, TooWide}
 use Rattle.dl_top.specs.Answers.{asking}
 use Rattle.dl_top.proofs.ReplyLaws.{refused}
 use Rattle.dl_top.proofs.reply.reply_to_plan.Goals as goal
@@ -16,6 +16,12 @@ returns-in-Err-UnknownUnit-clause-reply c words input asks means =
     refused words input _ _ c.refusal-in-Err-UnknownUnit.result _ c.refusal-in-Err-UnknownUnit.ensures refl
     (asking _ asks _ means (UnknownUnit c.in-Err-UnknownUnit.ask) _ refl
     (rw c.in-Err-UnknownUnit.field-0-is at c.in-Err-UnknownUnit.ensures))
+
+pub returns-in-Err-NoShare-clause-reply : goal.returns-in-Err-NoShare-clause-reply
+returns-in-Err-NoShare-clause-reply c words input asks means =
+    refused words input _ _ c.refusal-in-Err-NoShare.result _ c.refusal-in-Err-NoShare.ensures refl
+    (asking _ asks _ means (NoShare c.in-Err-NoShare.ask) _ refl
+    (rw c.in-Err-NoShare.field-0-is at c.in-Err-NoShare.ensures))
 
 pub returns-in-Err-TooWide-clause-reply : goal.returns-in-Err-TooWide-clause-reply
 returns-in-Err-TooWide-clause-reply c words input asks means =

@@ -1,0 +1,35 @@
+-- The budget of a share of a tail mean by whole numbers.
+use Rattle.dl_budget.proofs.Common.{ℕ, ◌≡◌, ◌+◌, ◌-◌, ◌*◌, ◌^◌, ◌<◌, ◌≤◌, arith, ap, ap₂, sym, ◌∙◌, List, length, get_or, div_ceil, mul-le-mul, Fraction, whole, ◌over◌, up, up_quotient, unit_mean_budget}
+use Rattle.std.specs.Prelude.{map}
+use Rattle.std.proofs.lemmas.List.{get_or-map}
+use Rattle.dl_exact.proofs.BelowOne.{num_below}
+use Rattle.dl_exact.specs.Fraction.{◌<ℚ◌}
+use Rattle.dl_plan.specs.declared.plan.Unit.{Unit as UnitOfPlan}
+
+-- the mean's budget of a unit which was read there
+pub mean_here : (S cells : ℕ) (us : List UnitOfPlan) (i b : ℕ) (u : UnitOfPlan) → i < length us → u ≡ get_or us i u
+    → b ≡ unit_mean_budget S cells u
+    → b ≡ get_or (map (unit_mean_budget S cells) us) i 0
+mean_here S cells us i b u inside is here =
+    here ∙ ap (unit_mean_budget S cells) is ∙ sym (get_or-map (unit_mean_budget S cells) us i u 0 inside)
+
+-- a product of cells and the total's budget
+pub cells_total : (cells total : ℕ) → cells ≤ 65536 → total < 2 ^ 44 → cells * total ≤ 2 ^ 60
+cells_total cells total few small =
+    let below : total ≤ 2 ^ 44 = omega (arith, small) in
+    omega (arith, mul-le-mul few below)
+
+-- from the parts of the budget and those of p
+pub share_value : (M J T K cells x j y k b d n : ℕ) (p : Fraction) → x ≡ M → j ≡ J → y ≡ T → k ≡ K → b ≡ p.den → d ≡ p.den
+    → n ≡ p.num → p <ℚ whole 1
+    → div_ceil ((x + (j + 2 * cells + cells * (y + 2)) + k + 4) * b) (d - n) + 4
+    ≡ up (((M + J + 2 * cells + cells * (T + 2) + K + 4) * p.den) over (p.den - p.num)) + 4
+share_value M J T K cells x j y k b d n p of_mean of_joint of_total of_kappa of_b of_d of_n below =
+    let first : x + (j + 2 * cells + cells * (y + 2)) + k + 4 ≡ x + j + 2 * cells + cells * (y + 2) + k + 4 = omega arith in
+    let two : x + j + 2 * cells + cells * (y + 2) + k + 4 ≡ M + J + 2 * cells + cells * (T + 2) + K + 4 =
+    ap₂ (λ s t. s + 2 * cells + cells * (t + 2) + k + 4) (ap₂ (λ s t. s + t) of_mean of_joint) of_total
+    ∙ ap (λ t. M + J + 2 * cells + cells * (T + 2) + t + 4) of_kappa in
+    let top = ap₂ (λ s t. s * t) (first ∙ two) of_b in
+    let rest : 0 < p.den - p.num = omega (arith, num_below p below) in
+    ap (λ t. t + 4) (ap₂ div_ceil top (ap₂ (λ s t. s - t) of_d of_n)
+    ∙ sym (up_quotient ((M + J + 2 * cells + cells * (T + 2) + K + 4) * p.den) (p.den - p.num) rest))

@@ -1,0 +1,178 @@
+-- The answer to an ask for a share of the tail mean.
+use Rattle.dl_eval.proofs.Common.{ℕ, ◌≡◌, ◌-◌, ◌^◌, ◌<◌, ◌≤◌, List, [], ◌∷◌, length, get_or, map, arith, inl, inr, sym, ap, subst, pow_pos, length-map, Option, None, Some, IfSome, Fraction, ◌over◌, ◌≤ℚ◌, Iv, over_le_over, low_at, spread, low_cdf, Holds, One, Mean, partial_sums, total, GridEncloses, unit_of, AreDeclarable, AreDeclared, Loss, loss_of, aggregates_of, plan_declared, plan_units, at_least_wider, at_most_wider, Plan, IsValid, Row, ask_budget, in_digits, unit_budgets, unit_mean_budget, total_budget, at_the_end, place_of, IsAnswerTo, total_error, AreUnitGrids, AreUnitMeans, IsTotalOf, AreOthersOf, Prints}
+use Rattle.std.proofs.Common.{◌⊎◌}
+use Rattle.std.proofs.lemmas.List.{get_or-map}
+use Rattle.std.proofs.lemmas.Option.{IfSome_then}
+use Rattle.std.specs.Prelude.{IsNone}
+use Rattle.dl_plan.specs.declared.settings.Ask.TheVariants as asks
+use Rattle.dl_plan.specs.declared.plan.Unit.{Unit as UnitOfPlan}
+use Rattle.dl_budget.specs.Units.{others_budget}
+use Rattle.dl_budget.specs.Asks.{cotail_budget}
+use Rattle.dl_model.specs.Measures.{IsQuantile, without}
+use Rattle.dl_model.specs.Shares.{HoldsShare, unit_mean}
+use Rattle.dl_model.specs.Plans.{declared}
+use Rattle.dl_measures.specs.Brackets.{IsFirstFound}
+use Rattle.dl_cotail.specs.Settled.{IsPast, MayBeAbsent}
+use Rattle.dl_cotail.specs.Widths.{cotail_width}
+use Rattle.dl_eval.specs.Rows.{DeclaresShare, IsAtLeast, IsBeyond, IsTailShare, IsNoTailShare}
+use Rattle.dl_eval.specs.Totals.{IsTailShareOf}
+use Rattle.dl_eval.proofs.Printed.{Widens, are_ends}
+use Rattle.dl_eval.proofs.Totals.{each_encloses, each_cells, unit_narrow}
+use Rattle.dl_eval.proofs.Tails.{tail_reached}
+use Rattle.dl_exact.proofs.Laws.{le_refl, plus_le_both, sub_le_both, lt_of_lt_of_le}
+
+-- ---- the mean of a unit
+
+-- a mean of the unit alone is one of it beside the others
+pub mean_beside : {B : ℕ} (plan : Plan) (means : List (Iv B)) (mean : Iv B) (i : ℕ)
+    → ((us : List Loss) (j : ℕ) (u : Loss) (l h : Fraction) → AreDeclarable us → j < length us
+    → Holds (partial_sums (get_or us j u ∷ []) Mean) (partial_sums (get_or us j u ∷ []) One) l h
+    → Holds (unit_mean us j) (partial_sums us One) l h)
+    → (u : UnitOfPlan) → mean ≡ get_or means i mean → i < length plan.units → IsValid plan
+    → AreUnitMeans plan.cells plan.units means
+    → Holds (unit_mean (aggregates_of plan) i) (partial_sums (aggregates_of plan) One) (mean.lo over 2 ^ B)
+    (mean.hi over 2 ^ B)
+mean_beside {B} plan means mean i beside u is inside valid each =
+    beside (aggregates_of plan) i (loss_of u) (mean.lo over 2 ^ B) (mean.hi over 2 ^ B) (plan_units plan valid)
+    (omega (arith, inside, length-map plan.units loss_of)) alone
+  where
+    HoldsOf : Loss → Iv B → Type 0
+    HoldsOf a m = Holds (partial_sums (a ∷ []) Mean) (partial_sums (a ∷ []) One) (m.lo over 2 ^ B) (m.hi over 2 ^ B)
+
+    here : HoldsOf (loss_of (get_or plan.units i u)) mean
+    here = subst (HoldsOf (loss_of (get_or plan.units i u))) (sym is) (each.each i u mean inside).holds
+
+    alone : HoldsOf (get_or (aggregates_of plan) i (loss_of u)) mean
+    alone = subst (λ a. HoldsOf a mean) (sym (get_or-map loss_of plan.units i u (loss_of u) inside)) here
+
+-- it is within the budget of that unit
+pub mean_within : {B : ℕ} (plan : Plan) (means : List (Iv B)) (mean : Iv B) (i : ℕ) (u : UnitOfPlan)
+    → mean ≡ get_or means i mean → i < length plan.units → AreUnitMeans plan.cells plan.units means
+    → mean.hi - mean.lo ≤ get_or (map (unit_mean_budget (2 ^ B) plan.cells) plan.units) i 0
+mean_within {B} plan means mean i u is inside each =
+    let narrow = (each.each i u mean inside).narrow in
+    let here : unit_mean_budget (2 ^ B) plan.cells (get_or plan.units i u)
+    ≡ get_or (map (unit_mean_budget (2 ^ B) plan.cells) plan.units) i 0 =
+    sym (get_or-map (unit_mean_budget (2 ^ B) plan.cells) plan.units i u 0 inside) in
+    omega (arith, narrow, here, ap (λ (m : Iv B). m.lo) is, ap (λ (m : Iv B). m.hi) is)
+
+-- ---- the share
+
+pub if_some_two : {X : Type 0} (r : Option X) (P Q Z : X → Type 0) → ((x : X) → P x → Q x → Z x) → IfSome r P
+    → IfSome r Q → IfSome r Z
+if_some_two (Some x) P Q Z f p q = f x p q
+if_some_two None P Q Z f p q = tt
+
+pub share_holds : {B : ℕ} (plan : Plan) (grids : List (List (Iv B))) (means : List (Iv B)) (unit others g : List (Iv B))
+    (mean : Iv B) (i : ℕ) (p : Fraction) (result : Option (Iv B)) (u : UnitOfPlan)
+    → ((us : List Loss) (j : ℕ) → AreDeclared us → j < length us → GridEncloses unit (unit_of us j)
+    → GridEncloses others (total (without us j)) → GridEncloses g (total us)
+    → Holds (unit_mean us j) (partial_sums us One) (mean.lo over 2 ^ B) (mean.hi over 2 ^ B)
+    → IfSome result (λ r. (q : ℕ) → IsQuantile (partial_sums us) q p
+    → HoldsShare (partial_sums us) j p q (r.lo over 2 ^ B) (r.hi over 2 ^ B)))
+    → ((us : List Loss) (j : ℕ) (v : Loss) (l h : Fraction) → AreDeclarable us → j < length us
+    → Holds (partial_sums (get_or us j v ∷ []) Mean) (partial_sums (get_or us j v ∷ []) One) l h
+    → Holds (unit_mean us j) (partial_sums us One) l h)
+    → unit ≡ get_or grids i [] → mean ≡ get_or means i mean → i < length plan.units → IsValid plan
+    → AreUnitGrids plan.cells plan.units grids → AreUnitMeans plan.cells plan.units means → AreOthersOf plan i others
+    → IsTotalOf plan g → IfSome result (λ r. DeclaresShare plan i p (r.lo over 2 ^ B) (r.hi over 2 ^ B))
+share_holds plan grids means unit others g mean i p result u holds beside is read inside valid units each rest t =
+    holds (aggregates_of plan) i (plan_declared plan valid) (omega (arith, inside, length-map plan.units loss_of))
+    (subst (λ x. GridEncloses x (unit_of (aggregates_of plan) i)) (sym is)
+    (each_encloses plan.cells plan.units grids i inside units)) rest.encloses t.encloses
+    (mean_beside plan means mean i beside u read inside valid each)
+
+pub share_narrow : {B : ℕ} (plan : Plan) (grids : List (List (Iv B))) (means : List (Iv B))
+    (unit others g : List (Iv B)) (mean : Iv B) (i : ℕ) (p : Fraction) (result : Option (Iv B)) (u : UnitOfPlan)
+    → IfSome result (λ r. (m d o t : ℕ) → mean.hi - mean.lo ≤ m → spread unit ≤ d → spread others ≤ o → spread g ≤ t
+    → r.hi - r.lo ≤ cotail_width p (2 ^ B) m (length unit) d o t)
+    → unit ≡ get_or grids i [] → mean ≡ get_or means i mean → i < length plan.units
+    → AreUnitGrids plan.cells plan.units grids → AreUnitMeans plan.cells plan.units means → AreOthersOf plan i others
+    → IsTotalOf plan g → IfSome result (λ r. r.hi - r.lo ≤ cotail_budget (2 ^ B) plan i p)
+share_narrow {B} plan grids means unit others g mean i p result u width is read inside units each rest t =
+    IfSome_then result width (λ r narrow.
+    subst (λ n. r.hi - r.lo ≤ cotail_width p (2 ^ B) own n spreads (others_budget (2 ^ B) plan i)
+    (total_budget (2 ^ B) plan)) (each_cells plan.cells plan.units grids unit i is inside units)
+    (narrow own spreads (others_budget (2 ^ B) plan i) (total_budget (2 ^ B) plan)
+    (mean_within plan means mean i u read inside each)
+    (subst (λ x. spread x ≤ spreads) (sym is) (unit_narrow plan.cells plan.units grids i inside units)) rest.narrow
+    t.narrow))
+  where
+    own : ℕ
+    own = get_or (map (unit_mean_budget (2 ^ B) plan.cells) plan.units) i 0
+
+    spreads : ℕ
+    spreads = get_or (unit_budgets (2 ^ B) plan.cells plan.units) i 0
+
+pub is_tail_share : {B : ℕ} (plan : Plan) (i : ℕ) (p : Fraction) (result : Option (Iv B))
+    → IfSome result (λ r. DeclaresShare plan i p (r.lo over 2 ^ B) (r.hi over 2 ^ B))
+    → IfSome result (λ r. r.hi - r.lo ≤ cotail_budget (2 ^ B) plan i p) → IfSome result (IsTailShareOf plan i p)
+is_tail_share plan i p result held width = if_some_two result _ _ _ (λ r holds narrow. record {
+  holds = holds;
+  narrow = omega (arith, r.ordered, narrow);
+}) held width
+
+-- where there is a share, the distribution reaches p inside the grid
+pub share_reached : {B : ℕ} (plan : Plan) (g : List (Iv B)) (p : Fraction) (result : Option (Iv B))
+    → (IsPast g p → IsNone result) → IsValid plan → IsTotalOf plan g
+    → IfSome result (λ r. IsAtLeast plan (at_the_end plan) p)
+share_reached plan g p None past valid t = tt
+share_reached plan g p (Some r) past valid t = tail_reached plan g p (λ none. let some = past none in cc) valid t
+
+-- ---- no share
+
+absent_wider : (plan : Plan) (K L : ℕ) (p d e : Fraction) → K ≡ L → d ≤ℚ e → MayBeAbsent (declared plan) K p d
+    → MayBeAbsent (declared plan) L p e
+absent_wider plan K L p d e same wider why = elim why [
+  | inl near ↦ inl (record {
+    x = near.x;
+    inside = omega (arith, near.inside, same);
+    at_most = at_most_wider _ _ _ _ near.at_most (plus_le_both p p d e (le_refl p) wider);
+    at_least = at_least_wider _ _ _ _ near.at_least (sub_le_both p p e d (le_refl p) wider);
+  })
+  | inr rare ↦ inr (record {
+    q = rare.q;
+    inside = omega (arith, rare.inside, same);
+    quantile = rare.quantile;
+    rare = (rare.rare.0, lt_of_lt_of_le _ _ _ rare.rare.1 (plus_le_both _ _ d e (le_refl _) wider), rare.rare.2);
+  })
+]
+
+pub share_absent : {B : ℕ} (plan : Plan) (g : List (Iv B)) (p : Fraction) (result : Option (Iv B)) (x : ℕ)
+    → ((us : List Loss) (y : ℕ) → AreDeclared us → GridEncloses g (total us) → IsNone result
+    → IsFirstFound (low_cdf (2 ^ B) (low_at g)) p (length g) (Some y)
+    → MayBeAbsent (partial_sums us) (length g) p (spread g over 2 ^ B))
+    → IsNone result → IsFirstFound (low_cdf (2 ^ B) (low_at g)) p plan.cells (Some x) → IsValid plan → IsTotalOf plan g
+    → MayBeAbsent (declared plan) plan.cells p (total_error (2 ^ B) plan)
+share_absent {B} plan g p result x absent none found valid t =
+    absent_wider plan (length g) plan.cells p _ _ t.cells
+    (over_le_over (spread g) (total_budget (2 ^ B) plan) (2 ^ B) (pow_pos B) t.narrow)
+    (absent (aggregates_of plan) x (plan_declared plan valid) t.encloses none
+    (subst (λ n. IsFirstFound (low_cdf (2 ^ B) (low_at g)) p n (Some x)) (sym t.cells) found))
+
+-- ---- what is told
+
+share_widens : (plan : Plan) (i : ℕ) (p : Fraction) → Widens (DeclaresShare plan i p)
+share_widens plan i p l m h k low high holds = λ q is. record {
+  at_most = λ u le part. at_most_wider _ _ _ _ ((holds q is).at_most u le part) high;
+  at_least = λ u le part. at_least_wider _ _ _ _ ((holds q is).at_least u le part) low;
+}
+
+pub share_told : {B : ℕ} (plan : Plan) (i d : ℕ) (p : Fraction) (share : Iv B) (row : Row) → IsTailShareOf plan i p share
+    → IsAtLeast plan (at_the_end plan) p → Prints (2 ^ B) share.lo share.hi d row
+    → IsTailShare plan i p d (in_digits (2 ^ B) (cotail_budget (2 ^ B) plan i p) d) row
+share_told {B} plan i d p share row s reached printed = record {
+  reached = reached;
+  ends = are_ends B (DeclaresShare plan i p) share.lo share.hi d (cotail_budget (2 ^ B) plan i p) row
+      (share_widens plan i p) printed s.holds s.narrow;
+}
+
+pub tail_share_asked : (S : ℕ) (plan : Plan) (unit : List ℕ) (i d : ℕ) (p : Fraction) (row : Row)
+    → i ≡ place_of unit plan.units
+    → IsTailShare plan i p d (in_digits S (cotail_budget S plan i p) d) row
+    ⊎ (IsBeyond plan p (total_error S plan) row ⊎ IsNoTailShare plan p (total_error S plan) row)
+    → IsAnswerTo S plan d (asks.Cotail unit p) row
+unfolding ask_budget
+tail_share_asked S plan unit i d p row place told =
+    subst (λ n. IsTailShare plan n p d (in_digits S (cotail_budget S plan n p) d) row
+    ⊎ (IsBeyond plan p (total_error S plan) row ⊎ IsNoTailShare plan p (total_error S plan) row)) place told
