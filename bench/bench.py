@@ -44,11 +44,13 @@ class Unit:
     count: str
     severity: list
     net: str = ""
+    zero: str = ""
 
     def told(self):
         """The lines that the peers read."""
         pairs = " ".join(f"{amount}:{float(chance):.17g}" for amount, chance in self.severity)
-        return [f"unit {self.count}", f"severity {pairs}", *([f"net {self.net}"] if self.net else [])]
+        changes = [f"{word} {given}" for word, given in (("zero", self.zero), ("net", self.net)) if given]
+        return [f"unit {self.count}", f"severity {pairs}", *changes]
 
 
 @dataclasses.dataclass
@@ -92,8 +94,10 @@ def ask_line(ask, names):
     if kind == "layer":
         limit, attachment = rest[0].split("xs")
         rest = ["-1" if limit == "inf" else limit, attachment]
-    if kind in ("joint", "kappa"):
+    if kind in ("joint", "kappa", "cotail"):
         rest[0] = str(names.index(rest[0]))
+    if kind == "price":
+        rest = [f"{float(Fraction(number)):.17g}" for term in rest[0].split("+") for number in term.split("@")]
     return " ".join(["ask", kind, *rest])
 
 
@@ -159,6 +163,38 @@ def asked_of_each_kind():
     }
 
 
+def prices():
+    """256 prices of eight equal terms, whose levels go from 0.500 to 0.951."""
+    return ["price:" + "+".join(f"1/8@0.{500 + number + 28 * term}" for term in range(8)) for number in range(256)]
+
+
+def shares(name, first):
+    """256 shares of a unit in the tail mean, from one level on, in thousandths."""
+    return [f"cotail:{name}:0.{first + number}" for number in range(256)]
+
+
+def changed_cases():
+    """The programs with a changed probability of no claim."""
+    some = [Unit("Z", "100 claims dsev [1:10] poisson zt", "poisson 100", even(1, 10), zero="0")]
+    mixed = "400 claims dsev [1:5] mixed gamma 0.5 zm 0.1"
+    gamma = [Unit("G", mixed, "gamma 400 4", even(1, 5), zero="0.1")]
+    many = [Unit("M", "1000 claims dsev [1:100] poisson zm 0.2", "poisson 1000", even(1, 100), zero="0.2")]
+    yield Case("100 claims `poisson zt`, 4,096 cells", some, ["mean", "cdf:550", "q:0.99"])
+    yield Case("400 claims `mixed gamma 0.5 zm 0.1`, 4,096 cells", gamma, ["mean", "cdf:1200", "q:0.99"])
+    words = ["--digits", "4", "mean", "cdf:50500", "q:0.99"]
+    yield Case("1,000 claims `poisson zm 0.2`, 65,536 cells", many, words, log2=16)
+
+
+def tail_cases():
+    """256 prices, and 256 shares in the tail mean, on longer grids."""
+    wide = ["--digits", "3", "--mwidth", "1000000000"]
+    row = [Unit("W", "50 claims dsev [1:1024] poisson", "poisson 50", even(1, 1024))]
+    halves = [Unit(f"W{n}", "25 claims dsev [1:1024] poisson", "poisson 25", even(1, 1024)) for n in range(2)]
+    yield Case("256 asks `price` of eight terms, 65,536 cells", row, [*wide, *prices()], log2=16)
+    yield Case("256 asks `cotail`, 4,096 cells", book(), [*wide, *shares("Motor", 744)])
+    yield Case("256 asks `cotail`, 65,536 cells", halves, [*wide, *shares("W0", 500)], log2=16)
+
+
 def apart(first, last, step):
     """Amounts so many buckets apart that are equally likely."""
     amounts = range(first, last + 1, step)
@@ -195,19 +231,15 @@ def long_cases(equal, power):
         yield Case(f"{name}, 65,536 cells", units, words, log2=16)
 
 
-def cases(decl):
-    """The programs."""
+def short_cases(decl, equal, power):
+    """The programs on short grids."""
     dice = [Unit("Dice", "dfreq [2] dsev [1:6]", listed([2]), even(1, 6))]
     many = [Unit("K", "1000 claims dsev [1:5] poisson", "poisson 1000", even(1, 5))]
     trials = "15 claims dsev [1:10] binomial 0.5"
     binomial = [Unit(f"B{number}", trials, "binomial 30 0.5", even(1, 10)) for number in range(16)]
-    often = "745 claims dsev [1:10] binomial 0.5"
-    equal = [Unit(f"E{number}", often, "binomial 1490 0.5", even(1, 10)) for number in range(16)]
-    power = [Unit("D", "dfreq [256] dsev [1:1024]", listed([256]), even(1, 1024))]
     table = [Unit("T", "dfreq [0:256] dsev [1:15]", listed(range(257)), even(1, 15))]
     rare = "32768 claims dsev [0 1] [15/16 1/16] binomial 0.5"
     deep = [Unit("B", rare, "binomial 65536 0.5", pairs([0, 1], ["15/16", "1/16"]))]
-    refused = "agg D dfreq [1] dsev [1" + " 1" * ((1_048_576 - 26) // 2) + "]\n"
     asks = "mean q:0.99 tail:0.99 joint:Motor:200 kappa:Motor:200".split()
     yield Case("two dice, 16 cells", dice, ["pmf:2", "cdf:9", "mean", "q:0.9", "tail:0.9"], log2=4)
     yield Case("a book of three units, 1,024 cells", book(), ["--digits", "4", *asks], log2=10)
@@ -218,11 +250,32 @@ def cases(decl):
     yield Case("256 claims of 1,024 amounts, 4,096 cells", power, ["mean", "cdf:4095"])
     yield Case("a table of 257 counts, 4,096 cells", table, ["mean", "cdf:1024", "q:0.99"])
     yield Case("65,536 trials, 4,096 cells", deep, ["mean", "cdf:2048", "q:0.99"])
-    yield from long_cases(equal, power)
+
+
+def ask_cases():
+    """256 asks of each kind."""
     for kind, words in asked_of_each_kind().items():
         yield Case(f"256 asks `{kind}`, 1,024 cells", book(), ["--digits", "4", *words], log2=10)
+    yield from tail_cases()
+
+
+def refused_cases():
+    """Texts that are refused."""
+    refused = "agg D dfreq [1] dsev [1" + " 1" * ((1_048_576 - 26) // 2) + "]\n"
     yield Case("a megabyte of values that is refused", [], ["mean"], text=refused, status=3)
     yield Case("a byte more than a megabyte, refused", [], ["mean"], text="x" * 1_048_577, status=3)
+
+
+def parts(decl):
+    """The programs, part by part of the page."""
+    often = "745 claims dsev [1:10] binomial 0.5"
+    equal = [Unit(f"E{number}", often, "binomial 1490 0.5", even(1, 10)) for number in range(16)]
+    power = [Unit("D", "dfreq [256] dsev [1:1024]", listed([256]), even(1, 1024))]
+    yield "Short grids", short_cases(decl, equal, power)
+    yield "Grids of 65,536 cells", long_cases(equal, power)
+    yield "Counts with a changed probability of no claim", changed_cases()
+    yield "256 asks of one kind", ask_cases()
+    yield "Texts that are refused", refused_cases()
 
 
 @dataclasses.dataclass
@@ -391,19 +444,12 @@ NUMPY = "import numpy, platform; print('Python', platform.python_version() + ', 
 ACTUAR = 'cat(paste0("R ", getRversion(), ", actuar ", packageVersion("actuar")))'
 
 
-def tables(tools, only, room):
-    """The lines of the tables."""
+def rows(tools, chosen, room, notes):
+    """The lines of one table; what other tools answer outside the ends of decl is added to the notes."""
     names = [tool.name for tool in tools if not tool.why]
-    begun = machine(tools)
-    yield f"Whole processes: the median of up to {CALLS} calls from start to end, in brackets that of their processor time, and the"
-    yield f"peak memory of one, in one run on {begun}."
-    yield ""
     yield "| Program | " + " | ".join(names) + " |"
     yield "|---|" + "---|" * len(names)
-    notes = []
-    for case in cases(tools[0].command[0]):
-        if only not in case.name:
-            continue
+    for case in chosen:
         found = measured(tools, case, room)
         shown = [found[name].shown() if name in found else "" for name in names]
         yield f"| {case.name} | " + " | ".join(shown) + " |"
@@ -414,6 +460,19 @@ def tables(tools, only, room):
                 told += ["its report differs"] if tool_of(tools, name).is_decl and found[name].lines != own else []
                 rest = " .." if len(told) > 3 else ""
                 notes += [f"- {case.name}, {name}: {'; '.join(told[:3])}{rest}"] if told else []
+
+
+def tables(tools, only, room):
+    """The lines of the tables, each under its heading."""
+    begun = machine(tools)
+    yield f"Whole processes: the median of up to {CALLS} calls from start to end, in brackets that of their processor time, and the"
+    yield f"peak memory of one, in one run on {begun}."
+    notes = []
+    for heading, programs in parts(tools[0].command[0]):
+        chosen = [case for case in programs if only in case.name]
+        if chosen:
+            yield from ["", f"### {heading}", ""]
+            yield from rows(tools, chosen, room, notes)
     (room / "nothing").write_text("")
     empty = Figures([once(["true"], room / "nothing", room, 0)[0] for _ in range(CALLS)])
     yield ""

@@ -1,5 +1,6 @@
 # A book by the package actuar, in doubles: what bench/bench.py measures beside `decl`. Standard input is as bench/book.h says; a line
-# is written for each ask. Poisson, gamma and binomial counts go by its recursion, listed counts by its convolution.
+# is written for each ask. Poisson, gamma and binomial counts go by its recursion, listed counts by its convolution. A changed
+# probability of no claim is the `p0` of the recursion, which then is not halved.
 suppressPackageStartupMessages(library(actuar))
 
 severity_of <- function(pairs) {
@@ -16,9 +17,18 @@ poisson <- function(claim, mean) {
                   convolve = halvings, maxit = 1e6, tol = 1e-10)
 }
 
-claims_cells <- function(count, claim, cells) {
+changed <- function(count, number, claim, zero, cells) {
+    go <- function(...) suppressWarnings(aggregateDist("recursive", model.sev = claim, p0 = zero, maxit = cells, tol = 1e-10, ...))
+    switch(count,
+        poisson = go(model.freq = "poisson", lambda = number[1]),
+        gamma = go(model.freq = "negative binomial", size = number[2], prob = 1 / (1 + number[1] / number[2])),
+        binomial = go(model.freq = "binomial", size = number[1], prob = number[2]),
+        stop("no recursion for this count"))
+}
+
+claims_cells <- function(count, claim, zero, cells) {
     number <- as.numeric(count[-1])
-    total <- switch(count[1],
+    total <- if (!is.null(zero)) changed(count[1], number, claim, zero, cells) else switch(count[1],
         poisson = poisson(claim, number[1]),
         gamma = aggregateDist("recursive", model.freq = "negative binomial", model.sev = claim, size = number[2],
                               prob = 1 / (1 + number[1] / number[2]), maxit = 1e6, tol = 1e-10),
@@ -28,39 +38,71 @@ claims_cells <- function(count, claim, cells) {
     diff(c(0, total(0:(cells - 1))))
 }
 
-count_mean <- function(count) {
+count_mean <- function(count, zero) {
     number <- as.numeric(count[-1])
-    switch(count[1], binomial = number[1] * number[2], table = sum((seq_along(number) - 1) * number), number[1])
+    mean <- switch(count[1], binomial = number[1] * number[2], table = sum((seq_along(number) - 1) * number), number[1])
+    if (is.null(zero)) return(mean)
+    none <- switch(count[1], poisson = exp(-number[1]), gamma = (1 + number[1] / number[2])^-number[2],
+                   binomial = (1 - number[2])^number[1], number[1])
+    mean * (1 - zero) / (1 - none)
 }
 
 sum_cells <- function(parts, cells) {
-    added <- function(x, y) pmax(convolve(x, rev(y), type = "open")[seq_len(cells)], 0)
+    turned <- function(x) fft(c(x, numeric(cells)))
+    added <- function(x, y) pmax(Re(fft(turned(x) * turned(y), inverse = TRUE))[seq_len(cells)] / (2 * cells), 0)
     Reduce(added, parts, c(1, numeric(cells - 1)))
 }
 
-layer_mean <- function(cell, mean, limit, attachment) {
-    left <- 1 - cumsum(cell)
-    below <- function(x) sum(left[seq_len(x)])
-    if (limit < 0) mean - below(attachment) else below(attachment + limit) - below(attachment)
+# The distribution function, and the mean of what of the total lies within 0 and each amount.
+sums_of <- function(cell) {
+    below <- cumsum(cell)
+    list(below = below, left = c(0, cumsum(1 - below)))
 }
 
-quantile_of <- function(cell, p) which(c(cumsum(cell) >= p, TRUE))[1] - 1
+layer_mean <- function(sums, mean, limit, attachment) {
+    within <- function(x) sums$left[min(x + 1, length(sums$left))]
+    if (limit < 0) mean - within(attachment) else within(attachment + limit) - within(attachment)
+}
+
+quantile_of <- function(sums, p) findInterval(p, sums$below, left.open = TRUE)
+
+tail_mean <- function(sums, mean, p) {
+    q <- quantile_of(sums, p)
+    q + layer_mean(sums, mean, -1, q) / (1 - p)
+}
+
+# The sum of y times the unit's probability of y times `other` at x - y.
+weighed <- function(own, other, x) if (x < 0) 0 else sum(0:x * own[0:x + 1] * other[x - 0:x + 1])
+
+# A unit's share of the tail mean: its mean without its part below the quantile, and without that part of it at the quantile which is
+# needed to reach p.
+share <- function(book, unit, p) {
+    q <- quantile_of(book$sums, p)
+    own <- book$cells[[unit]]
+    others <- book$others(unit)
+    needed <- p - c(0, book$sums$below)[q + 1]
+    here <- if (needed > 0) weighed(own, others$cell, q) * needed / book$total[q + 1] else 0
+    (book$means[unit] - weighed(own, others$below, q - 1) - here) / (1 - p)
+}
 
 answer <- function(book, ask) {
     number <- as.numeric(ask[-1])
     total <- book$total
     switch(ask[1],
         pmf = total[number + 1],
-        cdf = sum(total[seq_len(number + 1)]),
+        cdf = book$sums$below[number + 1],
         mean = book$mean,
-        q = quantile_of(total, number),
-        layer = layer_mean(total, book$mean, number[1], number[2]),
-        tail = { q <- quantile_of(total, number); q + layer_mean(total, book$mean, -1, q) / (1 - number) },
+        q = quantile_of(book$sums, number),
+        layer = layer_mean(book$sums, book$mean, number[1], number[2]),
+        tail = tail_mean(book$sums, book$mean, number),
+        price = {
+            terms <- matrix(number, nrow = 2)
+            sum(apply(terms, 2, function(term) term[1] * tail_mean(book$sums, book$mean, term[2])))
+        },
+        cotail = share(book, number[1] + 1, number[2]),
         joint = ,
         kappa = {
-            others <- book$others(number[1] + 1)
-            y <- 0:number[2]
-            joint <- sum(y * book$cells[[number[1] + 1]][y + 1] * others[number[2] - y + 1])
+            joint <- weighed(book$cells[[number[1] + 1]], book$others(number[1] + 1)$cell, number[2])
             if (ask[1] == "joint") joint else joint / total[number[2] + 1]
         })
 }
@@ -73,13 +115,17 @@ main <- function() {
     cells <- as.integer(words[[which(kinds == "cells")]][2])
     starts <- which(kinds == "unit")
     made <- lapply(starts, function(at) {
-        claim <- severity_of(words[[at + 1]][-1])
-        count <- words[[at]][-1]
-        cell <- claims_cells(count, claim, cells)
-        mean <- count_mean(count) * sum((seq_along(claim) - 1) * claim)
-        if (at + 2 <= length(words) && kinds[at + 2] == "net") {
-            layer <- as.numeric(words[[at + 2]][-1])
-            mean <- mean - layer_mean(cell, mean, layer[1], layer[2])
+        parts <- words[at:length(words)]
+        parts <- parts[seq_len(c(which(kinds[at:length(words)][-1] %in% c("unit", "ask")), length(parts))[1])]
+        told <- function(kind) unlist(lapply(parts, function(part) if (part[1] == kind) part[-1]))
+        claim <- severity_of(told("severity"))
+        count <- told("unit")
+        zero <- if (is.null(told("zero"))) NULL else as.numeric(told("zero"))
+        cell <- claims_cells(count, claim, zero, cells)
+        mean <- count_mean(count, zero) * sum((seq_along(claim) - 1) * claim)
+        if (!is.null(told("net"))) {
+            layer <- as.numeric(told("net"))
+            mean <- mean - layer_mean(sums_of(cell), mean, layer[1], layer[2])
             sums <- 0:(cells - 1)
             kept <- sums - pmin(pmax(sums - layer[2], 0), layer[1])
             cell <- as.numeric(tapply(c(cell, numeric(cells)), c(kept, sums), sum))
@@ -88,10 +134,15 @@ main <- function() {
     })
     parts <- lapply(made, `[[`, "cell")
     without <- list()
+    total <- sum_cells(parts, cells)
+    means <- sapply(made, `[[`, "mean")
     book <- list(
-        cells = parts, mean = sum(sapply(made, `[[`, "mean")), total = sum_cells(parts, cells),
+        cells = parts, means = means, mean = sum(means), total = total, sums = sums_of(total),
         others = function(i) {
-            if (is.null(without[i][[1]])) without[[i]] <<- sum_cells(parts[-i], cells)
+            if (is.null(without[i][[1]])) {
+                cell <- sum_cells(parts[-i], cells)
+                without[[i]] <<- list(cell = cell, below = cumsum(cell))
+            }
             without[[i]]
         })
     for (ask in words[kinds == "ask"]) cat(sprintf("%.12g\n", answer(book, ask[-1])))

@@ -8,21 +8,27 @@
      unit gamma MEAN SHAPE
      unit binomial TRIALS P
      unit table W0 W1 ..         the probability of 0 claims, of 1 claim, and so on
+     zero P                      that unit has no claim with probability P, and its other counts in proportion (P is 0 for `zt`)
      severity A:P A:P ..         the amounts of one claim of that unit, with their probabilities
      net L A                     of the sum of that unit's claims the layer L xs A is ceded
-     ask pmf X | cdf X | mean | q P | layer L A | tail P | joint UNIT X | kappa UNIT X        (L is -1 for no limit) */
+     ask pmf X | cdf X | mean | q P | layer L A | tail P                                     (L is -1 for no limit)
+     ask joint UNIT X | kappa UNIT X | cotail UNIT P | price W P W P ..
+
+   Distribution functions are summed once; a quantile is looked up by halving. */
 #include <math.h>
 #include <stdio.h>
 #include <stdlib.h>
 #include <string.h>
 
-enum { MOST_UNITS = 16, MOST_ASKS = 256, MOST_ITEMS = 1024 };
+enum { MOST_UNITS = 16, MOST_ASKS = 256, MOST_ITEMS = 1024, MOST_NUMBERS = 16 };
 
 struct unit {
     char count[16];
     double parameter[2]; /* mean and shape, or trials and probability */
     int table_length;
     double table[MOST_ITEMS];
+    int is_changed; /* whether `zero` is the probability of no claim */
+    double zero;
     int items;
     int amount[MOST_ITEMS];
     double probability[MOST_ITEMS];
@@ -33,7 +39,14 @@ struct unit {
 
 struct ask {
     char kind[16];
-    double parameter[2];
+    int numbers;
+    double parameter[MOST_NUMBERS];
+};
+
+/* Of a distribution: below[s] is the probability of at most s, and left[s] the mean of what of the total lies within 0 and s. */
+struct sums {
+    int cells;
+    double *below, *left;
 };
 
 struct book {
@@ -83,6 +96,8 @@ static void read_book(struct book *book) {
             book->cells = atoi(line + used);
         } else if (strcmp(word, "unit") == 0) {
             read_unit(&book->unit[book->units++], line + used);
+        } else if (strcmp(word, "zero") == 0) {
+            last->is_changed = 1, last->zero = atof(line + used);
         } else if (strcmp(word, "severity") == 0) {
             read_severity(last, line + used);
         } else if (strcmp(word, "net") == 0) {
@@ -91,26 +106,41 @@ static void read_book(struct book *book) {
         } else if (strcmp(word, "ask") == 0) {
             struct ask *ask = &book->ask[book->asks++];
             sscanf(line + used, "%15s%n", ask->kind, &found);
-            numbers(line + used + found, ask->parameter, 2, &found);
+            numbers(line + used + found, ask->parameter, MOST_NUMBERS, &ask->numbers);
         }
     }
 }
 
-/* What of the distribution lies above the attachment and within the limit, in the mean. */
-static double layer_mean(const double *cell, int cells, double mean, double limit, double attachment) {
-    double below = 0, covered = 0, upper = limit < 0 ? attachment : attachment + limit;
-    double skipped = 0;
-    for (int s = 0; s < cells && s < upper; s++) {
-        below += cell[s];
-        if (s < attachment)
-            skipped += 1 - below;
-        else
-            covered += 1 - below;
+static struct sums sums_of(const double *cell, int cells) {
+    struct sums sums = {cells, malloc((size_t)cells * sizeof(double)), malloc((size_t)(cells + 1) * sizeof(double))};
+    double below = 0;
+    sums.left[0] = 0;
+    for (int s = 0; s < cells; s++) {
+        sums.below[s] = below += cell[s];
+        sums.left[s + 1] = sums.left[s] + (1 - below);
     }
-    return limit < 0 ? mean - skipped : covered;
+    return sums;
 }
 
-static double count_mean(const struct unit *unit) {
+/* The mean of what lies above the attachment and within the limit. */
+static double layer_mean(const struct sums *sums, double mean, double limit, double attachment) {
+    double skipped = sums->left[(int)fmin(attachment, sums->cells)];
+    return limit < 0 ? mean - skipped : sums->left[(int)fmin(attachment + limit, sums->cells)] - skipped;
+}
+
+/* The probability of no claim, before it is changed. */
+static double none_of(const struct unit *unit) {
+    double first = unit->parameter[0], second = unit->parameter[1];
+    if (strcmp(unit->count, "poisson") == 0)
+        return exp(-first);
+    if (strcmp(unit->count, "gamma") == 0)
+        return exp(-second * log1p(first / second));
+    if (strcmp(unit->count, "binomial") == 0)
+        return pow(1 - second, first);
+    return unit->table[0];
+}
+
+static double base_mean(const struct unit *unit) {
     if (strcmp(unit->count, "binomial") == 0)
         return unit->parameter[0] * unit->parameter[1];
     if (strcmp(unit->count, "table") != 0)
@@ -119,6 +149,10 @@ static double count_mean(const struct unit *unit) {
     for (int n = 0; n < unit->table_length; n++)
         mean += n * unit->table[n];
     return mean;
+}
+
+static double count_mean(const struct unit *unit) {
+    return base_mean(unit) * (unit->is_changed ? (1 - unit->zero) / (1 - none_of(unit)) : 1);
 }
 
 /* The unit's cells and mean, after its aggregate clause. */
@@ -130,63 +164,97 @@ static void make_unit(struct unit *unit, int cells) {
     unit->cell = claims_cells(unit, cells);
     if (unit->limit == 0)
         return;
-    unit->mean -= layer_mean(unit->cell, cells, unit->mean, unit->limit, unit->attachment);
+    struct sums sums = sums_of(unit->cell, cells);
+    unit->mean -= layer_mean(&sums, unit->mean, unit->limit, unit->attachment);
     double *kept = calloc((size_t)cells, sizeof *kept);
     for (int s = 0; s < cells; s++)
         kept[s - (int)fmin(fmax(s - unit->attachment, 0), unit->limit)] += unit->cell[s];
     unit->cell = kept;
 }
 
-static double *without(struct book *book, int left_out) {
-    static double *made[MOST_UNITS];
-    if (made[left_out] == NULL) {
+/* The sum of all units but one. */
+struct others {
+    double *cell;
+    struct sums sums;
+};
+
+static const struct others *without(struct book *book, int left_out) {
+    static struct others made[MOST_UNITS];
+    struct others *others = &made[left_out];
+    if (others->cell == NULL) {
         double *part[MOST_UNITS];
         int parts = 0;
         for (int i = 0; i < book->units; i++)
             if (i != left_out)
                 part[parts++] = book->unit[i].cell;
-        made[left_out] = sum_cells(part, parts, book->cells);
+        others->cell = sum_cells(part, parts, book->cells);
+        others->sums = sums_of(others->cell, book->cells);
     }
-    return made[left_out];
+    return others;
 }
 
-static double distribution(const double *cell, int x) {
-    double below = 0;
-    for (int s = 0; s <= x; s++)
-        below += cell[s];
-    return below;
+/* The first total at which the distribution function is at least p. */
+static int quantile(const struct sums *sums, double p) {
+    int first = 0, last = sums->cells;
+    while (first < last) {
+        int middle = (first + last) / 2;
+        if (sums->below[middle] >= p)
+            last = middle;
+        else
+            first = middle + 1;
+    }
+    return first;
 }
 
-static int quantile(const double *cell, int cells, double p) {
-    double below = 0;
-    for (int s = 0; s < cells; s++)
-        if ((below += cell[s]) >= p)
-            return s;
-    return cells;
+static double tail_mean(const struct sums *sums, double mean, double p) {
+    int q = quantile(sums, p);
+    return q + layer_mean(sums, mean, -1, q) / (1 - p);
 }
 
-static double answer(struct book *book, const double *total, double mean, const struct ask *ask) {
-    double first = ask->parameter[0], second = ask->parameter[1];
+/* The sum of y times the unit's probability of y times `other` at x - y. */
+static double weighed(const double *own, const double *other, int x) {
+    double sum = 0;
+    for (int y = 0; y <= x; y++)
+        sum += y * own[y] * other[x - y];
+    return sum;
+}
+
+/* A unit's share of the tail mean: its mean without its part below the quantile, and without that part of it at the quantile which is
+   needed to reach p. */
+static double share(struct book *book, const struct sums *sums, const double *total, int unit, double p) {
+    const struct others *others = without(book, unit);
+    const double *own = book->unit[unit].cell;
+    int q = quantile(sums, p);
+    double reached = q > 0 ? sums->below[q - 1] : 0;
+    double below = q > 0 ? weighed(own, others->sums.below, q - 1) : 0;
+    double here = p > reached ? weighed(own, others->cell, q) * (p - reached) / total[q] : 0;
+    return (book->unit[unit].mean - below - here) / (1 - p);
+}
+
+static double answer(struct book *book, const struct sums *sums, const double *total, double mean, const struct ask *ask) {
+    double first = ask->parameter[0], second = ask->parameter[1], sum = 0;
     if (strcmp(ask->kind, "pmf") == 0)
         return total[(int)first];
     if (strcmp(ask->kind, "cdf") == 0)
-        return distribution(total, (int)first);
+        return sums->below[(int)first];
     if (strcmp(ask->kind, "mean") == 0)
         return mean;
     if (strcmp(ask->kind, "q") == 0)
-        return quantile(total, book->cells, first);
+        return quantile(sums, first);
     if (strcmp(ask->kind, "layer") == 0)
-        return layer_mean(total, book->cells, mean, first, second);
-    if (strcmp(ask->kind, "tail") == 0) {
-        int q = quantile(total, book->cells, first);
-        return q + layer_mean(total, book->cells, mean, -1, q) / (1 - first);
+        return layer_mean(sums, mean, first, second);
+    if (strcmp(ask->kind, "tail") == 0)
+        return tail_mean(sums, mean, first);
+    if (strcmp(ask->kind, "price") == 0) {
+        for (int term = 0; term + 1 < ask->numbers; term += 2)
+            sum += ask->parameter[term] * tail_mean(sums, mean, ask->parameter[term + 1]);
+        return sum;
     }
     int unit = (int)first, x = (int)second;
-    const double *own = book->unit[unit].cell, *others = without(book, unit);
-    double joint = 0;
-    for (int y = 0; y <= x; y++)
-        joint += y * own[y] * others[x - y];
-    return strcmp(ask->kind, "joint") == 0 ? joint : joint / total[x];
+    if (strcmp(ask->kind, "cotail") == 0)
+        return share(book, sums, total, unit, second);
+    sum = weighed(book->unit[unit].cell, without(book, unit)->cell, x);
+    return strcmp(ask->kind, "joint") == 0 ? sum : sum / total[x];
 }
 
 int main(void) {
@@ -199,7 +267,8 @@ int main(void) {
         mean += book.unit[i].mean;
     }
     double *total = sum_cells(part, book.units, book.cells);
+    struct sums sums = sums_of(total, book.cells);
     for (int i = 0; i < book.asks; i++)
-        printf("%.12g\n", answer(&book, total, mean, &book.ask[i]));
+        printf("%.12g\n", answer(&book, &sums, total, mean, &book.ask[i]));
     return 0;
 }

@@ -6,8 +6,8 @@ ten <- c(0, rep(1, 10) / 10)
 rare <- numeric(101)
 rare[2] <- 0.99
 rare[101] <- 0.01
-poisson <- function(severity, mean) {
-    aggregateDist("recursive", model.freq = "poisson", model.sev = severity, lambda = mean, maxit = 100000)
+poisson <- function(severity, mean, none = NULL) {
+    aggregateDist("recursive", model.freq = "poisson", model.sev = severity, lambda = mean, p0 = none, maxit = 100000)
 }
 chance <- function(total, x) total(x) - total(x - 1)
 above <- function(total, attachment) {
@@ -21,7 +21,8 @@ cases <- list(
     tail = function() chance(poisson(c(0, 1), 1), 40),
     survival = function() 1 - poisson(c(0, 1), 1)(20),
     underflow = function() poisson(c(0, 1), 4096)(4095),
-    cut = function() above(poisson(rare, 2), 300)
+    cut = function() above(poisson(rare, 2), 300),
+    changed = function() suppressWarnings(poisson(c(0, 1), 100, 0.2))(100)
 )
 told <- function(case) tryCatch(sprintf("%.17g", case()), error = function(found) conditionMessage(found))
 if ("times" %in% commandArgs(TRUE)) {

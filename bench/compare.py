@@ -29,12 +29,12 @@ ONE = [(1, Fraction(1))]
 
 
 class Case:
-    """One program and one ask, and how each tool is asked."""
+    """One program and one ask, and how each tool is asked; `none` is a changed probability of no claim."""
 
-    def __init__(self, name, text, ask, log2, digits, pairs, mean, read, value):
+    def __init__(self, name, text, ask, log2, digits, pairs, mean, read, value, none=None):
         self.name, self.text, self.ask = name, text, ask
         self.log2, self.digits = log2, digits
-        self.pairs, self.mean, self.read, self.value = pairs, mean, read, value
+        self.pairs, self.mean, self.read, self.value, self.none = pairs, mean, read, value, none
 
     def severity(self):
         """The probabilities of one claim, on the grid."""
@@ -49,16 +49,23 @@ class Case:
         if self.mean is None:
             return self.read(cells)
         total = numpy.zeros(len(cells))
-        total[0] = numpy.exp(-self.mean * (1 - cells[0]))
+        total[0], one = numpy.exp(-self.mean * (1 - cells[0])), 0.0
+        if self.none is not None:
+            unchanged, kept = numpy.exp(-self.mean), (1 - self.none) / -numpy.expm1(-self.mean)
+            total[0] = self.none + kept * (total[0] - unchanged)
+            one = kept * self.mean * unchanged - self.mean * self.none
         weighted = numpy.arange(len(cells)) * cells
         for cell in range(1, len(cells)):
-            total[cell] = self.mean / cell * numpy.dot(weighted[1 : cell + 1], total[cell - 1 :: -1])
+            stepped = self.mean / cell * numpy.dot(weighted[1 : cell + 1], total[cell - 1 :: -1])
+            total[cell] = stepped + one * cells[cell]
         return self.read(total)
 
     def transform(self):
         """The transform of the severity on the grid, its generating function, and back."""
         turned = numpy.fft.fft(self.severity())
         turned = turned if self.mean is None else numpy.exp(self.mean * (turned - 1))
+        if self.none is not None:
+            turned = self.none + (1 - self.none) * (turned - numpy.exp(-self.mean)) / -numpy.expm1(-self.mean)
         return self.read(numpy.real(numpy.fft.ifft(turned)))
 
     def decl(self):
@@ -99,6 +106,7 @@ def cases():
     single = exact.poisson(ONE, 1, 41)
     deep = exact.poisson(ONE, 4096, 4096)
     rare = exact.poisson(RARE, 2, 512)
+    many = exact.changed(exact.poisson(ONE, 100, 101), exact.none(100), Fraction(1, 5))
     survival = sum((exact.Decimal(0), *exact.poisson(ONE, 1, 120)[21:]))
     return [
         Case("wrapped", "agg W 10 claims dsev [1:6] poisson", "pmf:3", 5, 9, exact.die(6), 10, point(3), wrapped[3]),
@@ -110,6 +118,7 @@ def cases():
              exact.above(rare, Fraction(2 * 199, 100), 300)),
         Case("negative", "agg N 2 claims dsev [1:6] poisson", "pmf:200", 8, 9, exact.die(6), 2, point(200),
              exact.poisson(exact.die(6), 2, 201)[200]),
+        Case("changed", "agg Z 100 claims dsev [1] poisson zm 0.2", "cdf:100", 8, 9, ONE, 100, at_most(100), sum(many), 0.2),
     ]
 
 

@@ -24,6 +24,17 @@ def poisson(pairs, mean, cells):
     return total
 
 
+def none(mean):
+    """The probability that a Poisson count is 0."""
+    return (-Decimal(mean)).exp()
+
+
+def changed(total, unchanged, chance):
+    """The cells of a total whose count is 0 with this chance, and not with the probability `unchanged`; its other counts in proportion."""
+    kept = (1 - Decimal(chance.numerator) / Decimal(chance.denominator)) / (1 - unchanged)
+    return [1 - kept + kept * total[0], *(kept * cell for cell in total[1:])]
+
+
 def above(total, mean, attachment):
     """The mean of what lies above the attachment: the mean, less what the distribution leaves of 1 below it."""
     left, reached = Decimal(mean.numerator) / Decimal(mean.denominator), Decimal(0)

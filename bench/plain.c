@@ -1,17 +1,33 @@
-/* A book in doubles by the ways of the textbook: Panjer's recursion at the full mean for Poisson and gamma counts, powers by
-   squaring and Horner's rule for the others, and plain convolutions (bench/book.h; Loss Models, "Aggregate loss models"). */
+/* A book in doubles by the ways of the textbook: Panjer's recursion at the full mean for Poisson and gamma counts, with a changed
+   probability of no claim too, powers by squaring and Horner's rule for the others, and plain convolutions (bench/book.h; Loss Models,
+   "Aggregate loss models"). */
 #include "book.h"
 
-/* The cells of a count whose weights step by a + b / n, from the logarithm of the probability of no claim above 0. */
-static double *recursion(double a, double b, double log_start, const struct unit *claim, int cells) {
-    double *cell = calloc((size_t)cells, sizeof *cell);
-    double scaled = log_start; /* each true cell is cell * exp(scaled) */
-    double zero = 0;
+/* The probability of an amount. */
+static double chance_of(const struct unit *claim, int amount) {
+    double chance = 0;
     for (int k = 0; k < claim->items; k++)
-        zero += claim->amount[k] == 0 ? claim->probability[k] : 0;
-    cell[0] = 1;
+        chance += claim->amount[k] == amount ? claim->probability[k] : 0;
+    return chance;
+}
+
+/* Where a recursion starts: its cell 0, and what one claim has beyond the step from no claim. Both are times exp(scale). */
+struct start {
+    double cell, one, scale;
+};
+
+/* The cells of a count whose weights step by a + b / n: from no claim on (class (a, b, 0), where `one` is 0), or from one claim on, of
+   the claims of a count that is not 0 (class (a, b, 1)). */
+static double *recursion(double a, double b, struct start start, const struct unit *claim, int cells) {
+    double *cell = calloc((size_t)cells, sizeof *cell);
+    double scaled = start.scale; /* each true cell is cell * exp(scaled) */
+    double zero = chance_of(claim, 0), *one = calloc((size_t)cells, sizeof *one);
+    for (int k = 0; k < claim->items; k++)
+        if (claim->amount[k] < cells)
+            one[claim->amount[k]] += claim->probability[k];
+    cell[0] = start.cell;
     for (int s = 1; s < cells; s++) {
-        double sum = 0;
+        double sum = start.one * one[s];
         for (int k = 0; k < claim->items && claim->amount[k] <= s; k++)
             if (claim->amount[k] > 0)
                 sum += (a + b * claim->amount[k] / s) * claim->probability[k] * cell[s - claim->amount[k]];
@@ -20,8 +36,10 @@ static double *recursion(double a, double b, double log_start, const struct unit
             for (int k = 0; k <= s; k++)
                 cell[k] *= 0x1p-400;
             scaled += 400 * log(2);
+            start.one *= 0x1p-400;
         }
     }
+    free(one);
     for (int s = 0; s < cells; s++)
         cell[s] = cell[s] > 0 ? exp(log(cell[s]) + scaled) : 0;
     return cell;
@@ -81,19 +99,43 @@ static double *listed(const struct unit *unit, int cells) {
     return sum;
 }
 
-static double *claims_cells(const struct unit *unit, int cells) {
-    double first = unit->parameter[0], second = unit->parameter[1], zero = 0;
-    for (int k = 0; k < unit->items; k++)
-        zero += unit->amount[k] == 0 ? unit->probability[k] : 0;
+/* The start from the logarithms of the probabilities of no claim and of cell 0; of a changed count from those of one claim, and of cell 0
+   with a claim, both of the count before it is changed. */
+static struct start start_of(const struct unit *unit, double a, double b, double log_none, double log_cell) {
+    if (!unit->is_changed)
+        return (struct start){1, 0, log_cell};
+    double log_one = log(a + b) + log_none;
+    if (chance_of(unit, 0) == 0)
+        return (struct start){0, 1, log_one};
+    double log_nil = log_cell + log(-expm1(log_none - log_cell));
+    return (struct start){1, exp(log_one - log_nil), log_nil};
+}
+
+/* Panjer's recursion for the counts that have one. */
+static double *stepped(const struct unit *unit, int cells) {
+    double first = unit->parameter[0], second = unit->parameter[1], some = 1 - chance_of(unit, 0);
     if (strcmp(unit->count, "poisson") == 0)
-        return recursion(0, first, -first * (1 - zero), unit, cells);
-    if (strcmp(unit->count, "gamma") == 0) {
-        double a = first / (second + first);
-        return recursion(a, (second - 1) * a, -second * log1p(first / second * (1 - zero)), unit, cells);
-    }
-    if (strcmp(unit->count, "binomial") == 0)
-        return power(one_claim(unit, second, 1 - second, cells), (int)first, cells);
-    return listed(unit, cells);
+        return recursion(0, first, start_of(unit, 0, first, -first, -first * some), unit, cells);
+    double beta = first / second, a = beta / (1 + beta), b = (second - 1) * a;
+    return recursion(a, b, start_of(unit, a, b, -second * log1p(beta), -second * log1p(beta * some)), unit, cells);
+}
+
+static double *claims_cells(const struct unit *unit, int cells) {
+    int steps = strcmp(unit->count, "poisson") == 0 || strcmp(unit->count, "gamma") == 0;
+    double *cell, none = none_of(unit);
+    if (steps)
+        cell = stepped(unit, cells);
+    else if (strcmp(unit->count, "binomial") == 0)
+        cell = power(one_claim(unit, unit->parameter[1], 1 - unit->parameter[1], cells), (int)unit->parameter[0], cells);
+    else
+        cell = listed(unit, cells);
+    if (!unit->is_changed)
+        return cell;
+    cell[0] -= steps ? 0 : none;
+    for (int s = 0; s < cells; s++)
+        cell[s] *= (1 - unit->zero) / (1 - none);
+    cell[0] += unit->zero;
+    return cell;
 }
 
 static double *sum_cells(double *const *part, int parts, int cells) {

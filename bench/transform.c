@@ -25,8 +25,8 @@ static double *back(double complex *turned, int cells) {
     return cell;
 }
 
-/* The generating function of the claim count. */
-static double complex generated(const struct unit *unit, double complex x) {
+/* The generating function of the claim count, before its zero is changed. */
+static double complex base(const struct unit *unit, double complex x) {
     double first = unit->parameter[0], second = unit->parameter[1];
     if (strcmp(unit->count, "poisson") == 0)
         return cexp(first * (x - 1));
@@ -40,14 +40,20 @@ static double complex generated(const struct unit *unit, double complex x) {
     return sum;
 }
 
+static double complex generated(const struct unit *unit, double complex x, double none) {
+    double complex plain = base(unit, x);
+    return unit->is_changed ? unit->zero + (1 - unit->zero) * (plain - none) / (1 - none) : plain;
+}
+
 static double *claims_cells(const struct unit *unit, int cells) {
     double *claim = calloc((size_t)cells, sizeof *claim);
     for (int k = 0; k < unit->items; k++)
         if (unit->amount[k] < cells)
             claim[unit->amount[k]] += unit->probability[k];
     double complex *turned = forward(claim, cells);
+    double none = none_of(unit);
     for (int k = 0; k <= cells; k++)
-        turned[k] = generated(unit, turned[k]);
+        turned[k] = generated(unit, turned[k], none);
     return back(turned, cells);
 }
 

@@ -10,13 +10,15 @@ import numpy
 
 
 def read_book(lines):
-    """The number of cells, the units as (count, numbers, amounts, probabilities, layer), and the asks."""
+    """The number of cells, the units as (count, numbers, amounts, probabilities, layer, changed zero), and the asks."""
     cells, units, asks = 0, [], []
     for word, *rest in (line.split() for line in lines):
         if word == "cells":
             cells = int(rest[0])
         elif word == "unit":
-            units.append([rest[0], [float(number) for number in rest[1:]], None, None, None])
+            units.append([rest[0], [float(number) for number in rest[1:]], None, None, None, None])
+        elif word == "zero":
+            units[-1][5] = float(rest[0])
         elif word == "severity":
             pairs = [pair.split(":") for pair in rest]
             units[-1][2] = numpy.array([int(amount) for amount, _ in pairs])
@@ -29,7 +31,7 @@ def read_book(lines):
 
 
 def generated(count, numbers, x):
-    """The generating function of the claim count."""
+    """The generating function of the claim count, before its zero is changed."""
     if count == "poisson":
         return numpy.exp(numbers[0] * (x - 1))
     if count == "gamma":
@@ -46,25 +48,43 @@ def count_mean(count, numbers):
     return numbers[0] * numbers[1] if count == "binomial" else numbers[0]
 
 
-def layer_mean(cell, mean, limit, attachment):
-    """What of the distribution lies above the attachment and within the limit, in the mean; -1 for no limit."""
-    left = 1 - numpy.cumsum(cell)
-    if limit < 0:
-        return mean - left[:attachment].sum()
-    return left[attachment : attachment + limit].sum()
+class Sums:
+    """The distribution function, and the mean of what of the total lies within 0 and each amount."""
+
+    def __init__(self, cell):
+        self.below = numpy.cumsum(cell)
+        self.left = numpy.concatenate(([0.0], numpy.cumsum(1 - self.below)))
+
+    def layer_mean(self, mean, limit, attachment):
+        """The mean of what lies above the attachment and within the limit; -1 for no limit."""
+        skipped = self.left[min(attachment, len(self.below))]
+        return mean - skipped if limit < 0 else self.left[min(attachment + limit, len(self.below))] - skipped
+
+    def quantile(self, p):
+        """The first total at which the distribution function is at least p."""
+        return int(numpy.searchsorted(self.below, p))
+
+    def tail_mean(self, mean, p):
+        """The mean of the worst part 1 - p."""
+        quantile = self.quantile(p)
+        return quantile + self.layer_mean(mean, -1, quantile) / (1 - p)
 
 
 def made(unit, cells):
     """The unit's cells and mean, after its aggregate clause."""
-    count, numbers, amounts, chances, layer = unit
+    count, numbers, amounts, chances, layer, zero = unit
+    none = None if zero is None else generated(count, numbers, 0.0)
     claim = numpy.zeros(2 * cells)
     inside = amounts < cells
     numpy.add.at(claim, amounts[inside], chances[inside])
-    cell = numpy.fft.irfft(generated(count, numbers, numpy.fft.rfft(claim)), 2 * cells)[:cells]
+    turned = generated(count, numbers, numpy.fft.rfft(claim))
     mean = count_mean(count, numbers) * float(amounts @ chances)
+    if zero is not None:
+        turned, mean = zero + (1 - zero) * (turned - none) / (1 - none), mean * (1 - zero) / (1 - none)
+    cell = numpy.fft.irfft(turned, 2 * cells)[:cells]
     if layer is None:
         return cell, mean
-    mean -= layer_mean(cell, mean, *layer)
+    mean -= Sums(cell).layer_mean(mean, *layer)
     sums = numpy.arange(cells)
     kept = sums - numpy.clip(sums - layer[1], 0, layer[0])
     return numpy.bincount(kept, weights=cell, minlength=cells), mean
@@ -78,41 +98,63 @@ def added(parts, cells):
     return numpy.fft.irfft(turned, 2 * cells)[:cells]
 
 
-def answer(kind, numbers, parts, total, mean):
-    """The value that is asked for."""
-    cells = len(total)
-    if kind == "mean":
-        return mean
-    if kind == "pmf":
-        return total[int(numbers[0])]
-    if kind == "cdf":
-        return total[: int(numbers[0]) + 1].sum()
-    if kind in ("q", "tail"):
-        quantile = int(numpy.searchsorted(numpy.cumsum(total), numbers[0]))
-        above = quantile + layer_mean(total, mean, -1, quantile) / (1 - numbers[0])
-        return quantile if kind == "q" else above
-    if kind == "layer":
-        return layer_mean(total, mean, int(numbers[0]), int(numbers[1]))
-    unit, x = int(numbers[0]), int(numbers[1])
-    if unit not in WITHOUT:
-        WITHOUT[unit] = added([part for at, part in enumerate(parts) if at != unit], cells)
-    sums = numpy.arange(x + 1)
-    joint = float((sums * parts[unit][: x + 1]) @ WITHOUT[unit][x::-1][: x + 1])
-    return joint if kind == "joint" else joint / total[x]
+class Book:
+    """The cells and means of the units, those of their sum, and of the sums of all units but one."""
 
+    def __init__(self, found, cells):
+        self.parts, self.means = [cell for cell, _ in found], [mean for _, mean in found]
+        self.total, self.mean = added(self.parts, cells), sum(self.means)
+        self.sums, self.made = Sums(self.total), {}
 
-WITHOUT = {}
+    def without(self, unit):
+        """The cells of the sum of all units but this one, and its distribution function."""
+        if unit not in self.made:
+            others = added([part for at, part in enumerate(self.parts) if at != unit], len(self.total))
+            self.made[unit] = others, numpy.cumsum(others)
+        return self.made[unit]
+
+    def weighed(self, unit, other, x):
+        """The sum of y times the unit's probability of y times `other` at x - y."""
+        return float((numpy.arange(x + 1) * self.parts[unit][: x + 1]) @ other[x::-1][: x + 1]) if x >= 0 else 0.0
+
+    def share(self, unit, p):
+        """The unit's share of the tail mean: its mean without its part below the quantile, and without that part of it at the quantile
+        which is needed to reach p."""
+        q, (others, below) = self.sums.quantile(p), self.without(unit)
+        needed = p - (self.sums.below[q - 1] if q > 0 else 0.0)
+        here = self.weighed(unit, others, q) * needed / self.total[q] if needed > 0 else 0.0
+        return (self.means[unit] - self.weighed(unit, below, q - 1) - here) / (1 - p)
+
+    def answer(self, kind, numbers):
+        """The value that is asked for."""
+        if kind == "mean":
+            return self.mean
+        if kind == "pmf":
+            return self.total[int(numbers[0])]
+        if kind == "cdf":
+            return self.sums.below[int(numbers[0])]
+        if kind == "q":
+            return self.sums.quantile(numbers[0])
+        if kind == "tail":
+            return self.sums.tail_mean(self.mean, numbers[0])
+        if kind == "price":
+            return sum(weight * self.sums.tail_mean(self.mean, p) for weight, p in zip(numbers[::2], numbers[1::2]))
+        if kind == "layer":
+            return self.sums.layer_mean(self.mean, int(numbers[0]), int(numbers[1]))
+        if kind == "cotail":
+            return self.share(int(numbers[0]), numbers[1])
+        unit, x = int(numbers[0]), int(numbers[1])
+        joint = self.weighed(unit, self.without(unit)[0], x)
+        return joint if kind == "joint" else joint / self.total[x]
 
 
 def main():
     """Answers what standard input asks."""
     cells, units, asks = read_book(sys.stdin)
-    found = [made(unit, cells) for unit in units]
-    parts, mean = [cell for cell, _ in found], sum(mean for _, mean in found)
-    total = added(parts, cells)
+    book = Book([made(unit, cells) for unit in units], cells)
     with numpy.errstate(all="ignore"):
         for kind, numbers in asks:
-            print(f"{answer(kind, numbers, parts, total, mean):.12g}")
+            print(f"{book.answer(kind, numbers):.12g}")
 
 
 if __name__ == "__main__":
