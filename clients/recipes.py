@@ -133,6 +133,8 @@ class Year:
         if kind == "layer":
             limit, attachment = rest.split("xs")
             return self.expected(layer(INF if limit == "inf" else int(limit), int(attachment)))
+        if kind == "price":
+            return sum(Fraction(weight) * self.tail(Fraction(p)) for weight, p in (term.split("@") for term in rest.split("+")))
         p = Fraction(rest[:-1]) / 100 if rest.endswith("%") else Fraction(rest)
         return self.quantile(p) if kind == "q" else self.tail(p)
 
@@ -145,15 +147,25 @@ class Port(Year):
         super().__init__((one + other).parts)
         self.units = units
 
-    def value(self, ask):
-        """What an ask declares."""
-        if not ask.startswith("kappa:"):
-            return super().value(ask)
-        _, name, total = ask.split(":")
+    def joint(self, name, total):
+        """The mean of a unit where the total is this, and 0 elsewhere."""
         own = self.units[name].parts
         rest = next(year for other, year in self.units.items() if other != name).parts
-        joint = sum(amount * part * rest.get(int(total) - amount, 0) for amount, part in own.items())
-        return Fraction(joint, ONE * self.parts[int(total)])
+        return Fraction(sum(amount * part * rest.get(total - amount, 0) for amount, part in own.items()), ONE * ONE)
+
+    def share_of_tail(self, name, p):
+        """The mean of a unit in the worst 1 - p of the total: of the years at the quantile, as much as is left for them."""
+        at = self.quantile(p)
+        left = self.within(at) - p
+        below = sum(self.joint(name, total) for total in range(at + 1))
+        return (self.units[name].value("mean") - below + left * self.joint(name, at) * ONE / self.parts[at]) / (1 - p)
+
+    def value(self, ask):
+        """What an ask declares."""
+        kind, *rest = ask.split(":")
+        if kind == "kappa":
+            return self.joint(rest[0], int(rest[1])) * ONE / self.parts[int(rest[1])]
+        return self.share_of_tail(rest[0], Fraction(rest[1])) if kind == "cotail" else super().value(ask)
 
 
 XL = layer(80, 20)
@@ -348,6 +360,11 @@ def sentences():
     shares = [money(BOOK.value(f"kappa:{name}:480")) for name in BOOK.units]
     yield f"The VaR at 99 percent is {money(BOOK.quantile(p99))}. Of a year of exactly that size, "
     yield "{} come from fire in the mean and {} from motor".format(*shares)
+    parts = [BOOK.share_of_tail(name, p99) for name in BOOK.units]
+    yield f"The TVaR at 99 percent is {money(BOOK.tail(p99))}. Of it {money(parts[0])} come from fire and {money(parts[1])} from motor"
+    motor = BOOK.units["Motor"].value("mean") / BOOK.value("mean")
+    yield f"Motor has {percent(motor)} percent of the pure premium, and {percent(parts[1] / BOOK.tail(p99))} percent of the TVaR."
+    yield f"half the TVaR is {money((BOOK.value('mean') + BOOK.tail(p99)) / 2)}."
     yield f"The pure premium is {money(BOOK.expected(layer(150, 150)))}."
     yield f"The cover pays in {percent(1 - BOOK.within(150))} percent of the years"
     yield f"and in full in {percent(1 - BOOK.within(299))} percent. -"
@@ -369,10 +386,10 @@ PYTHON = {
     "A stop loss": [GROSS] * 4,
     "A quota share": [fire(net(QUOTA))] * 2,
     "A loss ratio": [GROSS] * 3,
-    "How a year": [BOOK] * 4,
+    "How a year": [BOOK] * 6,
 }
 #: A row as it is printed, and a line of a table of return periods.
-PRINTED = re.compile(r"(?:\d+ )?((?:mean|pmf|sf|q|tail|layer|kappa)\S*) ([\d.]+) ([\d.]+)")
+PRINTED = re.compile(r"(?:\d+ )?((?:mean|pmf|sf|q|tail|layer|kappa|price|cotail)\S*) ([\d.]+) ([\d.]+)")
 PERIOD = re.compile(r" *(\d+) +(\d+) +([\d.]+) to ([\d.]+)")
 
 

@@ -26,6 +26,7 @@ DRAWN = {
     "exceedance": ("exceedance-years.csv", 1, 0.01),
     "layers": ("layers.csv", 2, 1),
     "long": ("long-years.csv", 1, 0.00025),
+    "tails": ("tails.csv", 2, 1),
 }
 RULE = re.compile(r"\| \d+ [A-Za-z]+ \|.*\| `([^`]*)` \| `(decl: 1:\d+: [^`]*)` \|")
 

@@ -41,6 +41,17 @@ test("what is beyond the grid, and what is absent", {
     rows <- decl_run(pair, c("kappa:A:4", "kappa:A:1"), log2 = 4)
     stopifnot(identical(rows$low, c("2.166666", "-")), identical(rows$high, c("2.166667", "-")))
 })
+test("prices, and shares of the tail mean", {
+    # half of 7 and half of 100/9; 73/27 and 77/27, which add up to 50/9
+    stopifnot(identical(decl_run(dice, "price:1/2@0+1/2@0.9", log2 = 4)$low, "9.055555"))
+    stopifnot(fault(decl_run(dice, "price:1/2@0"))$status == 2)
+    pair <- "port T agg A dfreq [1] dsev [1:3]\nagg B dfreq [1] dsev [1:3] [1/2 1/6 1/3]"
+    rows <- decl_run(pair, c("cotail:A:0.8", "cotail:B:0.8", "tail:0.8"), log2 = 4, numeric = TRUE)
+    stopifnot(rows$low <= c(73, 77, 150) / 27, rows$high >= c(73, 77, 150) / 27, rows$high - rows$low < 1.1e-6)
+    stopifnot(rows$low[1] + rows$low[2] <= 50 / 9, rows$high[1] + rows$high[2] >= 50 / 9)
+    far <- decl_run("agg P 10 claims dsev [1] poisson", "price:1@0.5", log2 = 2)
+    stopifnot(identical(far$low, "beyond"), identical(far$high, "beyond"))
+})
 test("options", {
     rows <- decl_run("agg H dfreq [1] dsev [0.5 1 1.5]", "pmf:3", bs = "1/2", log2 = 4, digits = 4, mwidth = 1000000000000)
     stopifnot(identical(rows$low, "0.3333"))

@@ -47,6 +47,17 @@ class Forms(Case):
         self.assertTrue(report[1].holds(Fraction(13, 6)))
         self.assertEqual((report[2].low, report[2].high, report[2].state), (None, None, "absent"))
 
+    def test_shares_of_the_tail_mean(self):
+        """73/27 and 77/27 add up to the tail mean, 50/9; a third of the years come to 1, so that the quantile at 1/3 is not sure."""
+        report = decl.run(PAIR, ["cotail:A:0.8", "cotail:B:0.8", "tail:0.8"], log2=4)
+        self.assertTrue(report[0].holds(Fraction(73, 27)) and report[1].holds(Fraction(77, 27)) and report[2].holds(Fraction(50, 9)))
+        third = decl.run("agg A dfreq [1] dsev [1 3 5]", ["cotail:A:1/3", "cotail:A:0.6"], log2=4)
+        self.assertEqual((third[0].written, third[0].state, third[0].low), (("-", "-"), "absent", None))
+        self.assertTrue(third[1].holds(Fraction(14, 3)))
+        fault = self.raises(decl.AskFault, decl.run, PAIR, ["cotail:C:0.8"], log2=4)
+        self.assertEqual(fault.reason, "no such unit")
+        self.assertIn("joint, kappa and cotail name a unit", str(fault))
+
     def test_text_csv_and_json(self):
         self.assertEqual(decl.report(DICE, ["pmf:2"], log2=4), "pmf:2 0.027777 0.027778\n")
         self.assertEqual(decl.report(DICE, "pmf:2", "csv", log2=4), "ask,low,high\npmf:2,0.027777,0.027778\n")
@@ -87,15 +98,16 @@ class Forms(Case):
     def test_asks_in_money(self):
         """A probability stays as it is, and the amount that it is asked at is in money."""
         text = "port T agg A dfreq [1] dsev [1/3:1:1/3] agg B dfreq [1] dsev [1/3 2/3 1] [1/2 1/6 1/3]"
-        asks = ["cdf:4", "pmf:4", "tail:0.5", "joint:A:4", "kappa:A:4", "kappa:A:1"]
+        asks = ["cdf:4", "pmf:4", "tail:0.5", "joint:A:4", "kappa:A:4", "kappa:A:1", "cotail:A:0.8", "price:1@0.8"]
         money = decl.run(text, asks, bs=Fraction(1, 3), log2=4).in_money()
-        wanted = ["cdf:4/3", "pmf:4/3", "tail:0.5", "joint:A:4/3", "kappa:A:4/3", "kappa:A:1/3"]
+        wanted = ["cdf:4/3", "pmf:4/3", "tail:0.5", "joint:A:4/3", "kappa:A:4/3", "kappa:A:1/3", "cotail:A:0.8", "price:1@0.8"]
         self.assertEqual([row.ask for row in money], wanted)
         self.assertEqual(money["pmf:4/3"].unit, "probability")
         self.assertTrue(money["pmf:4/3"].holds(Fraction(1, 3)))
         self.assertTrue(money["kappa:A:4/3"].holds(Fraction(13, 18)))
         self.assertEqual((money["kappa:A:1/3"].state, money["kappa:A:1/3"].written), ("absent", ("-", "-")))
         self.assertEqual(money["kappa:A:4/3"].written, ("0.722222", "2166667/3000000"))
+        self.assertTrue(money["cotail:A:0.8"].holds(Fraction(73, 81)) and money["price:1@0.8"].holds(Fraction(50, 27)))
 
     def test_beyond_the_grid_in_money(self):
         money = decl.run("agg P 10 claims dsev [250] poisson", ["q:0.5"], bs=250, log2=2).in_money()

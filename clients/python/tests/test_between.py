@@ -299,9 +299,25 @@ class Written(Case):
 
     def test_other_asks_are_not_held(self):
         between = decl.coarser(BOOK, 5)
-        for word in ("pmf:10", "kappa:Motor:100", "joint:Motor:100"):
+        for word in ("pmf:10", "kappa:Motor:100", "joint:Motor:100", "cotail:Motor:0.9"):
             self.raises(decl.NotBetween, between.ask, word)
         self.assertEqual(between.return_periods([10]).columns, ("years", "VaR", "TVaR"))
+
+    def test_prices_are_held(self):
+        """Two dice of 7 to 42 by 7 on buckets of 5: a price is 7 times that of two dice, 163/18."""
+        between = decl.coarser("agg D dfreq [2] dsev [7:42:7]", 5)
+        row = between.price([(0.5, 0), (0.5, 0.9)])
+        self.assertTrue(row.holds(Fraction(7 * 163, 18)) and row.high - row.low < 11, row)
+        self.assertEqual(between.each(["price:0.5@0+0.5@0.9"]), [row])
+
+    def test_a_changed_probability_of_no_claim(self):
+        """It stays as it is, and a number of claims that is no numeral is rounded as ever."""
+        between = decl.coarser("agg D 1 claims dsev [7] geometric zm 1/4", 5)
+        self.assertEqual(between.low, "agg D 1 claims dsev [5] [1] mixed gamma 1 zm 0.25")
+        # of mean 2 without 0, and so of 3/2 with it
+        self.assertTrue(between.mean().holds(Fraction(21, 2)))
+        fine = decl.coarser("agg L 1 loss dsev [3 4] poisson zt", 2)
+        self.assertRegex(fine.low, r"agg L 2/7 claims .* poisson zt$")
 
 
 if __name__ == "__main__":

@@ -2,6 +2,8 @@
 
 import itertools
 import math
+import os
+import pathlib
 import re
 import sys
 import tempfile
@@ -155,6 +157,57 @@ class Answers(Case):
         for amount in (400, 450):
             self.assertEqual(self.raises(decl.AskFault, book.kappa, "C", amount).reason, "no such unit")
 
+    def test_shares_of_the_tail_mean(self):
+        """Of a total of 2 to 6 hundred: 1/9 of it is 600, and 7/18 of the 500 with 1/6 + 1/9 of the probability are in the worst fifth."""
+        book = decl.Book(PAIR)
+        shares = [book.share_of_tail(name, 0.8) for name in "AB"]
+        for row, value in zip(shares, (Fraction(7300, 27), Fraction(7700, 27))):
+            self.assertTrue(row.holds(value), row)
+            self.assertLess(row.high - row.low, Fraction(1, 10**3))
+        self.assertEqual((shares[0].ask, shares[0].unit, shares[0].state), ("cotail:A:0.8", "money", "closed"))
+        self.assertTrue(book.tail(0.8).holds(Fraction(5000, 9)))
+        for level in ("4/5", "80%", Fraction(4, 5)):
+            self.assertEqual(book.share_of_tail("A", level), shares[0])
+        self.assertEqual(book.ask("cotail:A:80%"), shares[0])
+        for level in (0.25, Fraction(1, 3), "0.9995"):
+            low, high = (sum(getattr(book.share_of_tail(name, level), end) for name in "AB") for end in ("low", "high"))
+            tail = book.tail(level)
+            self.assertTrue(low <= tail.high and tail.low <= high and high - low < Fraction(1, 100), level)
+        self.assertEqual(book.share_of_tail("A", "0.9995").ask, "cotail:A:1999/2000")
+        self.assertEqual(self.raises(decl.AskFault, book.share_of_tail, "C", 0.8).reason, "no such unit")
+        self.raises(decl.UsageFault, book.share_of_tail, "A", 1)
+
+    def test_shares_of_a_tail_mean_that_are_not_there(self):
+        """A third of the years come to 1 exactly; and ten claims on a grid of four buckets."""
+        book = decl.Book("port P agg A dfreq [1] dsev [1 3 5] agg B dfreq [1] dsev [0]")
+        self.assertEqual((book.share_of_tail("A", "1/3").state, book.share_of_tail("A", "1/3").low), ("absent", None))
+        self.assertTrue(book.share_of_tail("A", 0.6).holds(Fraction(14, 3)))
+        self.assertTrue(book.share_of_tail("A", 0.25).holds(Fraction(11, 3)))
+        far = decl.Book("agg P 10 claims dsev [1] poisson", log2=2)
+        self.assertEqual((far.share_of_tail("P", 0.5).state, far.price("1@0.5").state), ("beyond", "beyond"))
+
+    def test_prices(self):
+        """Half the mean, 7,000, and half the tail mean at 0.9, 100,000/9."""
+        value = Fraction(163000, 18)
+        rows = [self.book.price([("1/2", 0), (0.5, 0.9)]), self.book.price("1/2@0+1/2@0.9"), self.book.ask("price:50%@0+50%@90%")]
+        rows += [self.book.price([(Fraction(1, 2), 0), (Fraction(1, 2), "90%")])]
+        for row in rows:
+            self.assertTrue(row.holds(value), row)
+            self.assertLess(row.high - row.low, Fraction(1, 10**2))
+            self.assertEqual((row.kind, row.unit), ("price", "money"))
+        self.assertEqual([row.ask for row in rows[:2]], ["price:0.5@0+0.5@0.9", "price:1/2@0+1/2@0.9"])
+        three = self.book.price([("1/1024", 0), ("1/512", "1/2"), ("1021/1024", "35/36")])
+        # the mean of the worst half: 9 to 12 have 10/36, and 8/36 of 7 and 8 are left for it
+        half = 2 * (sum(total * TWO[total] for total in range(8, 13)) + 7 * Fraction(3, 36))
+        self.assertTrue(three.holds(1000 * (Fraction(7) + 2 * half + 1021 * 12) / 1024), three)
+        for terms in ([("1/2", 0)], [], [(1, 1)], "1", [("1/9", 0)] * 9):
+            self.assertIn("there are 1 to 8 terms", str(self.raises(decl.UsageFault, self.book.price, terms)))
+
+    def test_levels_of_many_digits(self):
+        """A return period of 512 years is a level of ten digits, and so asked for as a fraction."""
+        self.assertEqual(self.book.q(1 - Fraction(1, 512)).ask, "q:511/512")
+        self.assertEqual(self.book.return_periods([512])[0][1].low, 12000)
+
     def test_asks_in_money(self):
         """Several asks at once, some past the grid, below 0 and between two buckets."""
         book = decl.Book(PAIR)
@@ -168,6 +221,13 @@ class Answers(Case):
         self.assertEqual(str(book.ask("q:0.5")), "q:0.5 400 400")
         for word in ("wat", "q:2", "layer:5", "pmf:x", "kappa:A"):
             self.raises(decl.UsageFault, book.ask, word)
+
+    def test_several_asks_are_one_call(self):
+        asks = ["mean", "q:0.9", "tail:90%", "price:1/2@0+1/2@0.9", "cotail:Dice:0.9", "cdf:4000"]
+        self.instead("\"$BUILT\" \"$@\" && echo once >> \"$0.calls\"")
+        calls = pathlib.Path(f"{os.environ['DECL']}.calls")
+        self.book.each(asks)
+        self.assertEqual(calls.exists() and len(calls.read_text().split()), 1)
 
     def test_each_ask_is_asked_once(self):
         first = self.book.return_periods([10])
@@ -311,6 +371,36 @@ class Moments(Case):
         self.raises(decl.NoMoments, getattr, decl.Book("agg S dfreq [1] dsev [1]").moments(), "skewness")
         self.raises(decl.NoMoments, getattr, decl.Book("agg S dfreq [1] dsev [0]").moments(), "variation")
 
+    def test_a_changed_probability_of_no_claim(self):
+        """One claim of 1 or 3: the chances of each number above 0 keep their proportions, over all outcomes."""
+        claim = {Fraction(1): Fraction(1, 2), Fraction(3): Fraction(1, 2)}
+        trials = {k: math.comb(3, k) * Fraction(1, 3) ** k * Fraction(2, 3) ** (3 - k) for k in range(4)}
+        for name, counts in (("1/3 claims dsev [1 3] bernoulli", {0: Fraction(2, 3), 1: Fraction(1, 3)}), ("1 claims dsev [1 3] binomial 1/3", trials)):
+            for change, zero in (("zt", Fraction(0)), ("zm 0", Fraction(0)), ("zm 1/4", Fraction(1, 4)), ("zm 90%", Fraction(9, 10))):
+                part = (1 - zero) / (1 - counts[0])
+                changed = {0: zero, **{count: chance * part for count, chance in counts.items() if count}}
+                self.assertEqual(self.of(f"agg Z {name} {change}"), spread_of(changed, claim), (name, change))
+        self.assertEqual(self.of("agg F 3 claims dsev [1 3] fixed zt"), self.of("agg F 3 claims dsev [1 3] fixed"))
+        self.assertEqual(self.of("agg F 3 claims dsev [2] fixed zm 1/3"), spread_of({0: Fraction(1, 3), 1: Fraction(2, 3)}, {Fraction(6): 1}))
+        # a geometric count of mean 1 without 0 is one more than such a count: mean 2, variance 2, third central moment 6
+        self.assertEqual(self.of("agg G 1 claims dsev [1] geometric zt"), (2, 2, 6))
+        self.assertEqual(self.of("agg G 1 claims dsev [1] geometric zm 1/3")[0], Fraction(4, 3))
+        # of shape 2 and mean 2 no claim has the probability 1/4, so of at least one the mean is 8/3 and that of squares 10 * 4/3
+        self.assertEqual(self.of("agg G 2 claims dsev [1] mixed gamma 1/2 zm 1/16")[0], 2 * Fraction(15, 16) / (1 - Fraction(2, 3) ** 4))
+
+    def test_a_poisson_count_without_its_zero(self):
+        """Its mean, 2 / (1 - exp(-2)) = 2.3130352854.., is no fraction: it is there by two ends, and the moments are not."""
+        book = decl.Book("agg Z 2 claims dsev [1000] poisson zt")
+        told = str(self.raises(decl.NoMoments, book.moments))
+        self.assertIn("unit Z has a poisson count", told)
+        self.assertTrue(book.mean().low <= Fraction("2313.0352855") and Fraction("2313.0352854") <= book.mean().high)
+        lines = dict(book.describe())
+        self.assertNotIn("deviation", lines)
+        self.assertEqual((lines["mean"], lines["no loss"].low), (book.mean(), 0))
+        both = decl.Book("port P agg Z 2 claims dsev [1] poisson zt agg G 1 claims dsev [1] geometric zt")
+        self.assertEqual((both.moments("G").mean, both.unit("G").mean().holds(2)), (2, True))
+        self.raises(decl.NoMoments, both.moments)
+
     def test_an_aggregate_clause(self):
         book = decl.Book(BOOK)
         self.assertIn("Liability", str(self.raises(decl.NoMoments, book.moments)))
@@ -325,7 +415,7 @@ class Moments(Case):
             try:
                 self.of(text)
             except decl.NoMoments:
-                self.assertIn("aggregate", text)
+                self.assertRegex(text, r"aggregate|poisson z[tm]\b")
             else:
                 seen += 1
         self.assertGreater(seen, 5)

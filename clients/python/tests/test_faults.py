@@ -217,7 +217,7 @@ class Sentences(Case):
     def test_asks_that_are_none(self):
         rows = [("q:1", "In q:p, p is below 1"), ("pmf:1.5", "In pmf:x, x is a whole number"), ("mean:2", "Nothing stands behind mean.")]
         rows += [("layer:5", "In layer:LxsA, L and A"), ("kappa:D", "In kappa:NAME:x, NAME"), ("var", "Asks are pmf:x")]
-        rows += [("price:1/2@0", "In price:W@P+W@P.., there are 1 to 8 terms")]
+        rows += [("price:1/2@0", "In price:W@P+W@P.., there are 1 to 8 terms"), ("cotail:D:0.99995", "In cotail:NAME:p, NAME is a unit")]
         for ask, told in rows:
             self.assertIn(f"\n{told}", str(self.raises(decl.UsageFault, decl.run, DIE, [ask])))
         for settings, cells in (({}, 1024), ({"log2": 4}, 16)):

@@ -47,7 +47,7 @@ class Commands(Case):
     def test_help_and_version(self):
         status, written, _ = command("--help")
         self.assertEqual(status, 0)
-        for word in ("--money", "--table", "report FILE -o book.html", "kappa:NAME:x"):
+        for word in ("--money", "--table", "report FILE -o book.html", "kappa:NAME:x", "price:W@P+W@P..", "cotail:NAME:p"):
             self.assertIn(word, written)
         self.assertEqual(command("--version"), (0, f"decl-client {decl.__version__}\n", ""))
 
@@ -61,11 +61,13 @@ class Commands(Case):
         """Two dice in thousands: 3.5 of each, and of what lies above 11,500 the 500 of one outcome in 36."""
         text = "agg Dice dfreq [2] dsev [1000:6000:1000]"
         asks = ["mean", "q:0.9", "cdf:4500", "sf:4500", "pmf:7000", "layer:infxs11500", "joint:Dice:7000"]
+        asks += ["price:1/2@0+1/2@0.9", "cotail:Dice:0.9"]
         status, written, told = command("-", "--money", *asks, given=text)
         self.assertEqual((status, told), (0, ""))
         rows = [line.split() for line in written.splitlines()]
         self.assertEqual([row[0] for row in rows], asks)
         values = (7000, 10000, Fraction(1, 6), Fraction(5, 6), Fraction(1, 6), Fraction(500, 36), Fraction(7000, 6))
+        values += (Fraction(163000, 18), Fraction(100000, 9))
         for (ask, low, high), value in zip(rows, values):
             self.assertTrue(Fraction(low) <= value <= Fraction(high), ask)
 

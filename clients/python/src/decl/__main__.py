@@ -27,7 +27,7 @@ def parser() -> argparse.ArgumentParser:
         prog="python -m decl",
         usage=ABOUT.strip(),
         description="Asks decl about the program in FILE; - is the standard input.",
-        epilog="Asks are mean, pmf:x, cdf:x, q:p, layer:LxsA, tail:p, price:W@P+W@P.., joint:NAME:x and kappa:NAME:x; with --money sf:x too.",
+        epilog="Asks are mean, pmf:x, cdf:x, q:p, layer:LxsA, tail:p, price:W@P+W@P.., joint:NAME:x, kappa:NAME:x and cotail:NAME:p; with --money sf:x too.",
     )
     made.add_argument("--version", action="version", version=f"decl-client {__version__}")
     made.add_argument("file", metavar="FILE")

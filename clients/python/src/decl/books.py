@@ -7,7 +7,7 @@ from typing import TYPE_CHECKING, Any, Dict, Iterable, List, Optional, Tuple, Un
 from . import program
 from .calls import Number, Text, fmt, run, spelled
 from .choose import NOTE, bucket, grid, least_grid, value_of
-from .faults import GridTooSmall, NeedsWidth
+from .faults import GridTooSmall, NeedsWidth, NoMoments
 from .moments import Moments, of_unit, of_units
 from .pages import page_of
 from .pictures import Picture, alone, exceedance
@@ -20,6 +20,8 @@ if TYPE_CHECKING:
 
 Ends = Tuple[Fraction, Fraction]
 Limit = Optional[Number]
+#: The terms of a price: each a weight and the level of its tail mean; or the ask's text, as `"1/2@0+1/2@0.9"`.
+Terms = Union[str, Iterable[Tuple[Number, Number]]]
 MOST_ASKS = 256
 #: A call takes its width from the rule, so that an answer is as narrow as the rule has it and no call is refused.
 WIDEST = {"width": 10**9, "mwidth": 10**12}
@@ -30,6 +32,19 @@ LEVELS = ("0.5", "0.9", "0.95", "0.99", "0.995")
 def exact(value: Number) -> Fraction:
     """The number that is given: a text such as `"1/3"` or `"99.5%"`, or a number; a float is the decimal that Python prints."""
     return value_of(value) if isinstance(value, str) else Fraction(spelled(value))
+
+
+def part(value: Number, digits: int = 9) -> str:
+    """The numeral of a probability or a weight in an ask: a decimal of at most so many digits, else a fraction."""
+    decimal = plain(exact(value))
+    return decimal if len(decimal.replace(".", "")) <= digits else str(exact(value))
+
+
+def price_of(terms: Terms) -> str:
+    """The ask for the price with these terms."""
+    if isinstance(terms, str):
+        return terms if terms.startswith("price:") else f"price:{terms}"
+    return "price:" + "+".join(f"{part(weight)}@{part(p)}" for weight, p in terms)
 
 
 def answered(ask: str, ends: Ends) -> Row:
@@ -122,11 +137,23 @@ class Book:
     def q(self, p: Number) -> Row:
         """The least total that is not exceeded with a probability of `p` or more: the VaR. `high` is None where it may lie
         past the grid."""
-        return self._row(f"q:{plain(exact(p))}").in_money(self.bs)
+        return self._row(f"q:{part(p)}").in_money(self.bs)
 
     def tail(self, p: Number) -> Row:
         """The mean of the total in its worst `1 - p`: the TVaR."""
-        return self._row(f"tail:{plain(exact(p))}").in_money(self.bs)
+        return self._row(f"tail:{part(p)}").in_money(self.bs)
+
+    def price(self, terms: Terms) -> Row:
+        """A price: the tail mean at each `p` times its weight, added up. `terms` are 1 to 8 pairs of a weight and a `p`, as
+        `[("1/2", 0), ("1/2", 0.9)]`, whose weights sum to 1; or the text of the ask, as `"1/2@0+1/2@0.9"`."""
+        return self._row(price_of(terms)).in_money(self.bs)
+
+    def share_of_tail(self, unit: str, p: Number) -> Row:
+        """The share of a unit in the tail mean of the total: the mean of its outcome in the worst `1 - p` of the total. The shares of
+        all units add up to the tail mean. Both ends are None where the tail mean is beyond the grid (`state` is `beyond`), and
+        where the probability of the total at the quantile is too small, or the distribution is so near to `p` there that the
+        quantile is not sure (`absent`)."""
+        return self._row(f"cotail:{unit}:{part(p, 4)}").in_money(self.bs)
 
     def cdf(self, x: Number) -> Row:
         """The probability that the total is at most `x`, which may lie between two buckets or past the grid."""
@@ -231,7 +258,8 @@ class Book:
     def moments(self, unit: Optional[str] = None) -> Moments:
         """The exact mean, variance and third central moment of the total, or of a unit, in money and without the program.
 
-        They follow from the text where no unit has an aggregate clause, and else `NoMoments` is raised.
+        They follow from the text where no unit has an aggregate clause, or a poisson count with `zt` or `zm`, whose mean is no
+        fraction; else `NoMoments` is raised.
         """
         if unit is None:
             return of_units(self.plan)
@@ -249,6 +277,8 @@ class Book:
             if kind == "layer" and len(parts) == 1:
                 limit, attachment = parts[0].split("xs")
                 return self.layer(limit, attachment)
+            if kind == "cotail" and len(parts) == 2:
+                return self.share_of_tail(*parts)
             if kind in ("q", "tail", "cdf", "sf", "pmf") and len(parts) == 1:
                 found: Row = getattr(self, kind)(parts[0])
                 return found
@@ -275,7 +305,7 @@ class Book:
             if each < 1:
                 raise ValueError(f"a return period is at least 1 year, not {each}")
         levels = [1 - 1 / each for each in periods]
-        self._rows(f"{kind}:{plain(p)}" for kind in ("q", "tail") for p in levels)
+        self._rows(f"{kind}:{part(p)}" for kind in ("q", "tail") for p in levels)
         return Table(["years", "VaR", "TVaR"], ([plain(n), self.q(p), self.tail(p)] for n, p in zip(periods, levels)))
 
     def distribution(self, points: int = MOST_ASKS, *, cells: bool = False) -> Report:
@@ -310,9 +340,10 @@ class Book:
         return Table(["total", "from .. to"], lines)
 
     def _spread(self) -> List[List[Cell]]:
-        if any(unit.aggregate is not None for unit in self.plan):
+        try:
+            moments = self.moments()
+        except NoMoments:
             return []
-        moments = self.moments()
         if not moments.variance:
             return [["deviation", answered("deviation", moments.deviation)]]
         return [
@@ -347,9 +378,14 @@ class Book:
 
 
 def in_buckets(word: str, bs: Fraction, cells: int) -> Optional[str]:
-    """The ask of the program with which an ask in money at a whole number of buckets of the grid is answered, else None."""
+    """The ask of the program with which an ask in money is answered, where that is one: at a whole number of buckets of the grid,
+    or without an amount; else None."""
     kind, *parts = word.split(":")
     try:
+        if kind in ("price", "mean"):
+            return word
+        if kind in ("q", "tail", "cotail"):
+            return ":".join([kind, *parts[:-1], part(parts[-1], 4 if kind == "cotail" else 9)])
         if kind not in ("pmf", "cdf", "joint", "kappa"):
             return None
         at = exact(parts[-1]) / bs

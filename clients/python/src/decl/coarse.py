@@ -4,7 +4,7 @@ import math
 from fractions import Fraction
 from typing import Callable, Dict, Iterable, Iterator, List, Optional, Tuple
 
-from .books import Book, exact
+from .books import Book, Terms, exact, part, price_of
 from .calls import Number, Text, fmt
 from .choose import least_grid
 from .faults import NotBetween, RuleFault
@@ -16,11 +16,11 @@ from .tables import Table
 DIGITS, VALUES, LAYERS = 11, 1024, 16
 #: Rules that another spelling of the same unit may keep: numerals, whole buckets, and how fine numbers are.
 SPELLING = (2, 7, 13, 19)
-#: Counts that rise with their expected number of claims.
+#: Counts that rise with their expected number of claims, with `zt` and `zm` too.
 RISING = ("poisson", "mixed", "bernoulli")
 MOST_CELLS = 1 << 20
 #: Asks whose answers rise with the total.
-HELD = ("mean", "q", "tail", "cdf", "sf", "layer")
+HELD = ("mean", "q", "tail", "price", "cdf", "sf", "layer")
 #: Two ends.
 Ends = Tuple[Fraction, Fraction]
 
@@ -74,6 +74,8 @@ def counts(unit: Unit, expected: Ends, up: bool) -> Iterator[Tuple[str, str]]:
         yield f"dfreq {spelled_all(unit.counts, unit)} {spelled_all(unit.counts.values(), unit)}", ""
         return
     name = {"mixed": f"mixed gamma {numeral(unit.shape)}", "binomial": f"binomial {numeral(unit.shape)}"}.get(unit.count, unit.count)
+    if unit.zero is not None:
+        name += f" zm {numeral(unit.zero)}" if unit.zero else " zt"
     word = numeral(expected[0])
     if word is not None and expected[0] == expected[1]:
         yield f"{word} claims", name
@@ -196,10 +198,10 @@ class Between:
         return self._books[up]
 
     def ask(self, word: str) -> Row:
-        """The answer to an ask in money: mean, q:p, tail:p, cdf:x, sf:x or layer:LxsA. Other asks do not rise with the total, so
-        that the two programs do not hold them."""
+        """The answer to an ask in money: mean, q:p, tail:p, price:W@P+W@P.., cdf:x, sf:x or layer:LxsA. Other asks do not rise with
+        the total, so that the two programs do not hold them."""
         if word.split(":")[0] not in HELD:
-            raise NotBetween(f"two programs do not hold {word} between them: ask mean, q, tail, cdf, sf or layer")
+            raise NotBetween(f"two programs do not hold {word} between them: ask mean, q, tail, price, cdf, sf or layer")
         below, above = self.book(False).ask(word), self._from_above(word)
         low, high = (above, below) if below.kind == "cdf" else (below, above)
         return Row(below.ask, low.low, high.high, (low.written[0], high.written[1]), True)
@@ -232,11 +234,15 @@ class Between:
 
     def q(self, p: Number) -> Row:
         """The least total that is not exceeded with a probability of `p` or more."""
-        return self.ask(f"q:{plain(exact(p))}")
+        return self.ask(f"q:{part(p)}")
 
     def tail(self, p: Number) -> Row:
         """The mean of the total in its worst `1 - p`."""
-        return self.ask(f"tail:{plain(exact(p))}")
+        return self.ask(f"tail:{part(p)}")
+
+    def price(self, terms: Terms) -> Row:
+        """A price: the tail means at levels, each times its weight; the terms are those of `Book.price`."""
+        return self.ask(price_of(terms))
 
     def cdf(self, x: Number) -> Row:
         """The probability that the total is at most `x`."""
@@ -254,7 +260,7 @@ class Between:
     def return_periods(self, years: Iterable[Number] = (10, 50, 100, 200, 250)) -> Table:
         """VaR and TVaR of each return period."""
         periods = [exact(each) for each in years]
-        self.each(f"{kind}:{plain(1 - 1 / n)}" for kind in ("q", "tail") for n in periods)
+        self.each(f"{kind}:{part(1 - 1 / n)}" for kind in ("q", "tail") for n in periods)
         return Table(["years", "VaR", "TVaR"], ([plain(n), self.q(1 - 1 / n), self.tail(1 - 1 / n)] for n in periods))
 
 

@@ -75,6 +75,40 @@ def of_chances(chances: Chances) -> Moments:
 
 def of_count(unit: Unit) -> Moments:
     """The moments of the number of claims of a unit."""
+    before = before_change(unit)
+    if unit.zero is None:
+        return before
+    none = no_claim(unit)
+    if none == 1:
+        raise NoMoments(f"unit {unit.name} has no claim before its count is changed, so none is left")
+    part = (1 - unit.zero) / (1 - none)
+    first, second, third = (part * power for power in powers(before))
+    return Moments(first, second - first**2, third - 3 * first * second + 2 * first**3)
+
+
+def powers(moments: Moments) -> Tuple[Fraction, Fraction, Fraction]:
+    """The means of a variable, of its square and of its cube."""
+    mean, variance, third = moments.mean, moments.variance, moments.third
+    return mean, variance + mean**2, third + 3 * mean * variance + mean**3
+
+
+def no_claim(unit: Unit) -> Fraction:
+    """The probability of no claim of a unit, before `zt` or `zm` changes it."""
+    mean, shape = unit.expected_claims(), unit.shape
+    if unit.count == "poisson":
+        raise NoMoments(
+            f"unit {unit.name} has a poisson count with another probability of no claim, so its moments are no fractions;"
+            " mean() has two ends of its mean"
+        )
+    if unit.count == "fixed":
+        return Fraction(not mean)
+    if unit.count == "mixed":
+        return 1 / (1 + mean * shape**2) ** int(1 / shape**2)
+    return 1 - mean if unit.count == "bernoulli" else (1 - shape) ** int(mean / shape)
+
+
+def before_change(unit: Unit) -> Moments:
+    """The moments of the number of claims of a unit, before `zt` or `zm` changes it."""
     if unit.counts is not None:
         return of_chances(unit.counts)
     mean, shape = unit.expected_claims(), unit.shape

@@ -59,7 +59,8 @@ class Clause:
 @dataclass(frozen=True)
 class Unit:
     """A unit of a text. `counts` are the listed ones; else `claims` or `loss` (in money) is expected, and `count` names the
-    distribution of the number of claims, with `shape` behind `binomial` and `mixed gamma`."""
+    distribution of the number of claims, with `shape` behind `binomial` and `mixed gamma`. `zero` is the probability of no claim
+    that `zm` gives it, 0 for `zt`, and None where the count is as it is named."""
 
     name: str
     amounts: Chances
@@ -72,6 +73,7 @@ class Unit:
     shape: Fraction
     occurrence: Optional[Clause]
     aggregate: Optional[Clause]
+    zero: Optional[Fraction] = None
 
     def in_layer(self) -> Chances:
         """The amounts of one claim after the layer, before the occurrence clause."""
@@ -90,7 +92,8 @@ class Unit:
         return chances if self.occurrence is None else moved(chances, self.occurrence.of)
 
     def expected_claims(self) -> Fraction:
-        """The expected number of claims: as written, or the expected loss over the mean claim in the layer."""
+        """The expected number of claims: as written, or the expected loss over the mean claim in the layer. With `zt` and `zm` it is
+        that of the count before its change."""
         if self.counts is not None:
             return mean_of(self.counts)
         if self.claims is not None:
@@ -279,6 +282,12 @@ class Reader:
             self.take()
         return word, self.numeral() if word in ("mixed", "binomial") else Fraction(0)
 
+    def zero(self) -> Optional[Fraction]:
+        """The probability of no claim that `zt` or `zm` gives the count, if one of them is next."""
+        if self.passed("zt"):
+            return Fraction(0)
+        return self.numeral() if self.passed("zm") else None
+
     def unit(self) -> Unit:
         """The unit that is next."""
         self.take()
@@ -291,8 +300,9 @@ class Reader:
         kept = self.passed("!")
         occurrence = self.clause("occurrence")
         count, shape = ("listed", Fraction(0)) if counts is not None else self.count()
+        zero = self.zero()
         aggregate = self.clause("aggregate")
-        found = Unit(name, amounts, layer, kept, counts, claims, loss, count, shape, occurrence, aggregate)
+        found = Unit(name, amounts, layer, kept, counts, claims, loss, count, shape, occurrence, aggregate, zero)
         self.holds(10, layer is None or kept or not layer.attachment or max(amounts) > layer.attachment)
         for clause in (occurrence, aggregate):
             self.holds(11, clause is None or apart(clause.layers))

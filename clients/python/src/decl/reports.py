@@ -50,7 +50,7 @@ def plain(value: Fraction) -> str:
 def ask_in_money(ask: str, bs: Fraction) -> str:
     """The ask with its amounts times the size of a bucket: `layer:10xs5` is `layer:10000xs5000` where that is 1000."""
     kind, *parts = ask.split(":")
-    if kind in ("q", "tail", "price") or not parts:
+    if kind in ("q", "tail", "price", "cotail") or not parts:
         return ask
     amounts = [part if part == "inf" else plain(Fraction(part) * bs) for part in parts[-1].split("xs")]
     return ":".join([kind, *parts[:-1], "xs".join(amounts)])
@@ -61,7 +61,7 @@ class Row:
     """The answer to one ask: the declared value lies from `low` to `high`, both included.
 
     The ends of a bracket (`q`) in buckets are `int`. `high` is None where it is beyond the grid; both ends are None for
-    a tail mean beyond the grid, and for a share in a total that is too rare. `written` has the ends as they are printed:
+    a tail mean, a price or a share of one beyond the grid, and for a share in a total that is too rare. `written` has the ends as they are printed:
     in buckets as the program wrote them, in money as the decimals (or fractions) that are equal to them. Where `money`
     is true, the amounts of the ask and the ends are in money, else in buckets.
     """
@@ -74,7 +74,7 @@ class Row:
 
     @property
     def kind(self) -> str:
-        """The first part of the ask: pmf, cdf, mean, q, layer, tail, price, joint or kappa."""
+        """The first part of the ask: pmf, cdf, mean, q, layer, tail, price, joint, kappa or cotail."""
         return self.ask.split(":")[0]
 
     @property

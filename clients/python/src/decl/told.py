@@ -102,7 +102,9 @@ def ask_reason(status: int, reason: str, ask: str, words: Sequence[str]) -> Reas
         sentence = f"Its ends can lie {needed} units of the last digit apart: give {option}={needed}, or fewer digits."
         return faults.NeedsWidth, {"needed": needed, "option": option}, sentence
     if status == 8 and reason == "no such unit":
-        return faults.AskFault, {"reason": reason}, "joint and kappa name a unit of the text."
+        return faults.AskFault, {"reason": reason}, "joint, kappa and cotail name a unit of the text."
+    if status == 8 and reason == "no share under a common factor":
+        return faults.AskFault, {"reason": reason}, "Units that share a factor have no share of the tail mean here; ask for kappa instead."
     if status == 8:
         return faults.AskFault, {"reason": reason}, sentences.grid_sentence(words)
     return faults.UsageFault, {}, sentences.ask_sentence(ask)

@@ -30,10 +30,8 @@ NONE = {
     "tweedie": "The claims of a tweedie aggregate are continuous; give amounts with their probabilities, as dsev [..] [..].",
     "splice": "A splice is of continuous severities; give amounts with their probabilities, as dsev [..] [..].",
     "picks": "Picks change a continuous severity; give amounts with their probabilities, as dsev [..] [..].",
-    "zt": "A count with its zero taken out has no counterpart; up to 256 claims can be listed, as dfreq [1 2 ..] [..].",
-    "zm": "A count with another zero has no counterpart; up to 256 claims can be listed, as dfreq [0 1 ..] [..].",
-    "distortion": "A distortion has no counterpart: there are no prices here.",
-    "dist": "A distortion has no counterpart: there are no prices here.",
+    "distortion": "A distortion has no counterpart in a text; an ask can mix tail means, as price:1/4@0+3/4@0.9.",
+    "dist": "A distortion has no counterpart in a text; an ask can mix tail means, as price:1/4@0+3/4@0.9.",
 }
 CONTINUOUS = "Two programs that list its amounts hold a book between them: decl.between(text), in docs/BETWEEN.md."
 STORED = "This names a stored program, and no text refers to another one here: write the program out."
@@ -461,9 +459,9 @@ class Translator(Numbers):
             self.refuse(self.none() or f"The count {token.spelling} has no counterpart; {listed}")
         else:
             self.refuse("The distribution of the number of claims is expected here, such as poisson.", token)
-        if self.ahead() in ("zt", "zm"):
-            self.refuse(NONE[self.ahead()])
-        return written
+        if self.passed("zt"):
+            return f"{written} zt"
+        return f"{written} zm {self.finite()}" if self.passed("zm") else written
 
     def finite(self) -> str:
         """The number that is next."""
@@ -489,11 +487,11 @@ def widened(each: List[Entry], entries: int) -> Tuple[Entry, ...]:
 def translate(text: Text) -> str:
     """The program of this text of the package `aggregate`, as a text of this language with the same meaning.
 
-    Towers are written as their layers, a limit profile as a unit for each entry (as one unit with the claims of all entries,
-    where the count is not poisson or a clause is on their sum), numbers with exponents, signs and arithmetic as one numeral, a
-    listed severity that is scaled or shifted by its amounts, and an exposure at a rate as its expected loss. Severities with
-    names that stand before the units keep them. Comments are dropped. What has no counterpart raises `Untranslated`, with its place and a
-    sentence. The rules are not asked: the text that comes out may still be refused, as for an amount that is no whole number
-    of buckets.
+    Towers are written as their layers, a limit profile as a unit for each entry (as one unit with the claims of all entries, where
+    the count is not poisson or a clause is on their sum), numbers with exponents, signs and arithmetic as one numeral, a listed
+    severity that is scaled or shifted by its amounts, and an exposure at a rate as its expected loss. Severities with names that
+    stand before the units keep them, and `zt` and `zm` stay as they are: the expected number of claims is that before the change.
+    Comments are dropped. What has no counterpart raises `Untranslated`, with its place and a sentence. The rules are not asked: the
+    text that comes out may still be refused, as for an amount that is no whole number of buckets.
     """
     return Translator(as_text(text)).program()

@@ -27,8 +27,9 @@ FORM: Dict[str, str] = {
     "layer": f"In layer:LxsA, L and A are each {AMOUNT}; L can be inf.",
     "joint": f"In joint:NAME:x, NAME is a unit and x {AMOUNT}.",
     "kappa": f"In kappa:NAME:x, NAME is a unit and x {AMOUNT}.",
+    "cotail": "In cotail:NAME:p, NAME is a unit, and p is below 1: a decimal or a fraction of at most 4 digits, or a percent of at most 2.",
 }
-ASKS = "Asks are pmf:x, cdf:x, mean, q:p, layer:LxsA, tail:p, price:W@P+W@P.., joint:NAME:x and kappa:NAME:x."
+ASKS = "Asks are pmf:x, cdf:x, mean, q:p, layer:LxsA, tail:p, price:W@P+W@P.., joint:NAME:x, kappa:NAME:x and cotail:NAME:p."
 
 
 def like_a_file(word: str) -> bool:
