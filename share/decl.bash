@@ -16,7 +16,7 @@ _decl_offers() {
     done
     case $command in
         '') offers='run fmt' ;;
-        run) offers='pmf: cdf: mean q: layer: tail: price: joint: kappa:' ;;
+        run) offers='pmf: cdf: mean q: layer: tail: price: joint: kappa: cotail:' ;;
     esac
     if [[ $begun == -* ]]; then
         offers=''

@@ -24,6 +24,7 @@ complete -c decl -n '__fish_seen_subcommand_from run' -a tail: -d 'tail mean at 
 complete -c decl -n '__fish_seen_subcommand_from run' -a price: -d 'weighted tail means'
 complete -c decl -n '__fish_seen_subcommand_from run' -a joint: -d 'joint mean of a unit at x'
 complete -c decl -n '__fish_seen_subcommand_from run' -a kappa: -d 'share of a unit in a total of x'
+complete -c decl -n '__fish_seen_subcommand_from run' -a cotail: -d 'share of a unit in the tail mean at p'
 complete -c decl -n '__decl_wants bs' -l bs -x -d 'size of a bucket, in money'
 complete -c decl -n '__decl_wants log2' -l log2 -x -a '(seq 1 16)' -d 'the grid has 2^N buckets'
 complete -c decl -n '__decl_wants digits' -l digits -x -a '(seq 1 9)' -d 'digits behind the point'

@@ -32,7 +32,7 @@ _decl() {
         compadd -- run fmt
     elif [[ $command == run ]]; then
         compadd -- mean
-        compadd -S '' -- pmf: cdf: q: layer: tail: price: joint: kappa:
+        compadd -S '' -- pmf: cdf: q: layer: tail: price: joint: kappa: cotail:
     fi
 }
 
