@@ -72,7 +72,7 @@ const MISFITS: [&str; 63] = [
 ];
 
 /// Texts that are not asks.
-const NO_ASKS: [&str; 61] = [
+const NO_ASKS: [&str; 73] = [
     "",
     "Mean",
     "mean:",
@@ -134,11 +134,23 @@ const NO_ASKS: [&str; 61] = [
     "joint::1",
     "joint:1A:1",
     "kappa:A:1:1",
+    "cotail",
+    "cotail:A",
+    "cotail:A:",
+    "cotail::0.5",
+    "cotail:1A:0.5",
+    "cotail:A:1",
+    "cotail:A:100%",
+    "cotail:A:0.9999",
+    "cotail:A:99.5%",
+    "cotail:A:1/12345",
+    "cotail:A:0.5:0.5",
+    "COTAIL:A:0.5",
 ];
 
 /// Asks, the place of each in the table of asks, and their numbers: a limit is 1 more, 0 where
 /// there is none, and a unit is the length of its name.
-const ASKS: [(&str, u32, u64, u64); 17] = [
+const ASKS: [(&str, u32, u64, u64); 24] = [
     ("pmf:0", 0, 0, 0),
     ("pmf:012345678", 0, 12345678, 0),
     ("cdf:999999999", 1, 999999999, 0),
@@ -156,6 +168,13 @@ const ASKS: [(&str, u32, u64, u64); 17] = [
     ("joint:agg:4", 6, 3, 4),
     ("kappa:Motor-1_x:200", 7, 9, 200),
     ("kappa:inf:0", 7, 3, 0),
+    ("cotail:A:0.8", 9, 4, 5),
+    ("cotail:Motor-1_x:.9995", 9, 1999, 2000),
+    ("cotail:agg:0", 9, 0, 1),
+    ("cotail:A:99%", 9, 99, 100),
+    ("cotail:A:199/200", 9, 199, 200),
+    ("cotail:A:0.125", 9, 1, 8),
+    ("cotail:inf:9998/9999", 9, 9998, 9999),
 ];
 
 /// Prices, and the weights and probabilities of their terms.
@@ -207,6 +226,7 @@ fn shown(ask: &Ask) -> (u32, u64, u64) {
         }
         Ask::Joint { unit, at } => (6, unit.as_slice().len() as u64, *at as u64),
         Ask::Kappa { unit, at } => (7, unit.as_slice().len() as u64, *at as u64),
+        Ask::Cotail { p, .. } => (9, p.num(), p.den()),
     }
 }
 
