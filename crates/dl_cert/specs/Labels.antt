@@ -1,4 +1,4 @@
--- Labels: how often each unit stands in a product of families.
+-- Labels: how often each unit is a factor of a product of families.
 use Rattle.std.specs.Prelude.{ℕ, zero, suc, ◌+◌, nat_eq, List, [], ◌∷◌, if◌then◌else◌}
 use Rattle.dl_exact.specs.Fraction.{Fraction, whole, ◌<ℚ◌}
 use Rattle.dl_model.specs.Series.{IsBound}

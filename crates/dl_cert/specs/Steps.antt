@@ -10,7 +10,7 @@ pub record Step : Type 0 where
   pub kind : Kind
   pub cells : List (Iv 56)
 
--- the cells of a step, and how often each unit's part stands in it
+-- the cells of a step, and how often each unit's part is a factor of it
 pub record Made : Type 0 where
   pub cells : List (Iv 56)
   pub label : Label
@@ -19,7 +19,7 @@ pub record Made : Type 0 where
 abbrev pub made_at : List Made → ℕ → Made
 made_at before a = get_or before a (record { cells = []; label = no_unit })
 
--- how often each unit's part stands in a step, from the steps before it
+-- how often each unit's part is a factor of a step, from the steps before it
 abbrev pub label_of : List Made → Kind → Label
 label_of before One = no_unit
 label_of before (Start u) = once u

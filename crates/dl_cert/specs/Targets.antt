@@ -1,4 +1,4 @@
--- What a unit's start stands for, and how often it makes up the unit.
+-- The part of a unit that its start encloses, and how many of them the unit is the sum of.
 use Rattle.std.specs.Prelude.{ℕ, ◌^◌, nat_eq, if◌then◌else◌, List, map, get_or}
 use Rattle.dl_exact.specs.Fraction.{Fraction, whole, ◌/ℚ◌}
 use Rattle.dl_plan.specs.declared.plan.Freq.{Freq}
