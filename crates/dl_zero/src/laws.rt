@@ -1,30 +1,14 @@
-//! The laws by which the ends of a probability of no claim and of a mean are small enough, and by
-//! which a unit stays one that can be declared.
+//! The laws by which the ends of a probability of no claim and of a mean are small enough.
 
-ghost use Rattle.std.specs.Prelude.{ℕ, ◌≢◌, ◌-◌, ◌*◌, ◌^◌, ◌<◌, ◌≤◌, List, [], ◌∷◌};
-ghost use Rattle.dl_exact.specs.Fraction.{Fraction, whole, ◌over◌, ◌≤ℚ◌};
+ghost use Rattle.std.specs.Prelude.{ℕ, ◌-◌, ◌*◌, ◌^◌, ◌≤◌, [], ◌∷◌};
+ghost use Rattle.dl_exact.specs.Fraction.{whole, ◌over◌};
 ghost use Rattle.dl_exact.specs.Sum.{sum_to};
 ghost use Rattle.dl_iv.specs.declared.interval.Iv.{Iv};
-ghost use Rattle.dl_plan.specs.declared.item.Item.{Item};
-ghost use Rattle.dl_plan.specs.declared.plan.Freq.{Freq};
-ghost use Rattle.dl_plan.specs.declared.plan.Freq.TheVariants.{Table};
-ghost use Rattle.dl_plan.specs.Count.{IsClaimCount, expected_count};
 ghost use Rattle.dl_model.specs.Series.{AtMost};
 ghost use Rattle.dl_model.specs.Program.{Loss, One, Mean, partial_sums};
 ghost use Rattle.dl_model.specs.Measures.{IsDeclaredLoss};
 ghost use Rattle.dl_model.specs.Units.{Aggregate, IsDeclared};
-ghost use Rattle.dl_model.specs.Plans.{count_weights};
-ghost use Rattle.dl_model.specs.ChangedZero.{changed};
 ghost use Rattle.dl_zero.specs.Before.{HoldsNone, HoldsMean};
-
-/// Where at least 1 / 16 of a claim is expected of a count that is not listed, the probability of
-/// no claim is at most 16 / 17.
-pub fn law_none_most()
-    ensures { (freq : Freq) → IsClaimCount freq
-        → ((counts : List Item) (total : ℕ) → freq ≢ Table counts total)
-        → 1 over 16 ≤ℚ expected_count freq
-        → AtMost (λ N. count_weights freq 0) (λ N. sum_to N (count_weights freq)) (16 over 17) }
-{}
 
 /// An interval that holds a probability of no claim of at most 16 / 17 has no low end above it.
 pub fn law_none_low()
@@ -45,11 +29,4 @@ pub fn law_low_mean()
     ensures { (B : ℕ) (l : Loss) (m : ℕ) (mean : Iv B) → IsDeclaredLoss l → HoldsMean l mean
         → AtMost (partial_sums (l ∷ []) Mean) (partial_sums (l ∷ []) One) (whole m)
         → mean.lo ≤ m * 2 ^ B }
-{}
-
-/// A unit with its probability of no claim changed to `p` has a loss that can be declared, where
-/// the unit can, and its probability of no claim before is below 1.
-pub fn law_some_claims()
-    ensures { (B : ℕ) (p : Fraction) (u : Aggregate) (none : Iv B) → p ≤ℚ whole 1 → IsDeclared u
-        → HoldsNone u none → none.hi < 2 ^ B → IsDeclaredLoss (changed p u) }
 {}

@@ -13,5 +13,5 @@ mod laws;
 mod mean;
 
 pub use grid::{changed_cells, zero_grid};
-pub use laws::{law_low_mean, law_none_low, law_none_most, law_none_small, law_some_claims};
+pub use laws::{law_low_mean, law_none_low, law_none_small};
 pub use mean::zero_mean;

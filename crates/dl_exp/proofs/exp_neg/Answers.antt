@@ -1,8 +1,8 @@
-use Rattle.dl_exp.proofs.Common.{◌^◌, ◌<◌, arith, div-mul-le_self, ceiling_reaches, floor_le_ceiling, power_le, part_within}
+use Rattle.dl_exp.proofs.Common.{◌^◌, arith, floor_le_ceiling, power_le, part_within}
 use Rattle.std.proofs.Common.{refl}
-use Rattle.std.proofs.lemmas.Nat.{pow_pos}
+use Rattle.dl_exp.proofs.EndLaws.{low_encloses, high_encloses}
 use Rattle.dl_frac.proofs.FractionLaws.{unit_fits}
-use Rattle.dl_exp.proofs.Reciprocals.{low_reciprocal, high_reciprocal, narrow, reciprocal_fits}
+use Rattle.dl_exp.proofs.Reciprocals.{narrow, reciprocal_fits}
 use Rattle.dl_exp.proofs.exp_neg.Goals as goal
 
 pub invariant_of-result-clause-ordered : goal.invariant_of-result-clause-ordered
@@ -30,15 +30,13 @@ returns-clause-high g c =
 
 pub returns-clause-encloses : goal.returns-clause-encloses
 returns-clause-encloses g c =
+    let x = c.args.x in
+    let B = g.row.B in
+    let unit = unit_fits B c.requires.scale_below in
     let s = c.exponential-sums.ensures in
-    let pos = pow_pos g.row.B in
-    let wide : 0 < 2 ^ 63 = omega arith in
-    let unit = unit_fits g.row.B c.requires.scale_below in
     record {
-      low = λ N. rw unit (low_reciprocal (2 ^ g.row.B) (2 ^ 63) pos wide _ _ _ (div-mul-le_self _ _) (s.above N));
-      high = λ u bound. rw (c.div_ceil.ensures, unit)
-          (high_reciprocal (2 ^ g.row.B) (2 ^ 63) pos wide _ _ u (ceiling_reaches _ _ (omega (arith, s.one)))
-          (s.below u bound));
+      low = rw (unit, s.high) (low_encloses x B c.requires.half);
+      high = rw (c.div_ceil.ensures, unit, s.low) (high_encloses x B);
     }
 
 pub returns-clause-narrow : goal.returns-clause-narrow

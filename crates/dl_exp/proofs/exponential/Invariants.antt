@@ -1,5 +1,4 @@
-use Rattle.dl_exp.proofs.Common.{◌+◌, ◌*◌, ◌^◌, ◌≤◌, whole, ◌*ℚ◌, ◌≤ℚ◌, exponential_term, exponential_sum}
-use Rattle.dl_exp.proofs.Common.{suc, ◌≡◌, count_below}
+use Rattle.dl_exp.proofs.Common.{suc, ◌≡◌, ◌+◌, ◌*◌, ◌^◌, ◌≤◌, count_below}
 use Rattle.dl_exp.specs.Ends.{low_term, high_term}
 use Rattle.dl_exp.proofs.Roundings.{fall}
 use Rattle.dl_exp.proofs.exponential.Given as goal
@@ -10,10 +9,6 @@ invariant-loop-n l = record {
   high_value : l.high_term ≡ high_term l.fn.x l.n;
   low_partial : l.low ≡ count_below (suc l.n) (low_term l.fn.x);
   high_partial : l.high ≡ count_below (suc l.n) (high_term l.fn.x);
-  low_term : whole l.low_term ≤ℚ whole (2 ^ 63) *ℚ exponential_term l.fn.x l.n;
-  high_term : whole (2 ^ 63) *ℚ exponential_term l.fn.x l.n ≤ℚ whole l.high_term;
-  low : whole l.low ≤ℚ whole (2 ^ 63) *ℚ exponential_sum l.fn.x l.n;
-  high : whole (2 ^ 63) *ℚ exponential_sum l.fn.x l.n ≤ℚ whole l.high;
   terms : l.low_term ≤ l.high_term;
   near : l.high_term ≤ l.low_term + 4;
   falls : l.high_term * fall l.n ≤ 2 ^ 63 + 2 * fall l.n;
