@@ -24,7 +24,8 @@ pub use Rattle.dl_plan.specs.Fine.{IsWhole}
 pub use Rattle.dl_plan.specs.Horizon.{IsHorizonOf, edge}
 pub use Rattle.dl_plan.specs.MeanWidth.{part_width}
 pub use Rattle.dl_plan.specs.Severity.{probability_of}
-pub use Rattle.dl_plan.specs.Valid.{IsAggregate, IsValidUnit, IsWithinMostAmount, declared_mean}
+pub use Rattle.dl_plan.specs.Means.{declared_mean}
+pub use Rattle.dl_plan.specs.Valid.{IsAggregate, IsValidUnit, IsWithinMostAmount}
 pub use Rattle.dl_plan.specs.declared.cede.CedeLayer.{CedeLayer}
 pub use Rattle.dl_plan.specs.declared.severity.Sev.{Sev}
 pub use Rattle.dl_model.proofs.Multiples.{clause_whole}

@@ -7,7 +7,7 @@ use Rattle.dl_exact.specs.Rounding.{IsFloor, IsCeiling}
 use Rattle.dl_iv.specs.declared.interval.Iv.{Iv}
 use Rattle.dl_plan.specs.declared.cede.CedeLayer.{CedeLayer}
 use Rattle.dl_plan.specs.declared.plan.Unit.{Unit as UnitOfPlan}
-use Rattle.dl_plan.specs.Valid.{declared_mean}
+use Rattle.dl_plan.specs.Means.{declared_mean}
 use Rattle.dl_model.specs.Series.{Holds}
 use Rattle.dl_model.specs.Program.{One, Mean, partial_sums}
 use Rattle.dl_model.specs.Units.{loss}

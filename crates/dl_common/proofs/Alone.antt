@@ -1,5 +1,5 @@
 -- The plan of the one unit is valid: its amounts are those of the units, and its thinned mean is the sum of theirs.
-use Rattle.dl_common.proofs.Common.{ℕ, zero, suc, ◌≡◌, ◌∙◌, ◌<◌, ◌≤◌, List, [], ◌∷◌, length, take, get_or, inl, inr, refl, ap, ap₂, sym, subst, arith, All, All-head, All-tail, All-cons, All-nil, take_all, cases_lt, sum_by-cons, Fraction, whole, ◌over◌, ◌+ℚ◌, ◌-ℚ◌, ◌*ℚ◌, ◌/ℚ◌, ◌≤ℚ◌, ◌<ℚ◌, sum_over, sum_over_map, sum_over_same, sum_over_times, ring, le_refl, le_trans, div_times, times_cancel, times_comm, times_assoc, times_one, times_zero, times_plus, plus_zero, plus_cancel, sub_plus, times_le_both, whole_pos, over_zero, severity_total, Item, Sev, UnitOfPlan, Plan, HasPartsOf48Bits, greatest, weight_at, probability_of, expected_count, IsUnbounded, IsValid, IsValidUnit, thinned_mean, SharesFactor, expected_of, thinned_of, raised, PoissonUnit, expected_claims, pooled_severity, AreSeverities, poisson_unit, poisson_units, IsGammaOf, IsPooled, IsRaised, alone}
+use Rattle.dl_common.proofs.Common.{ℕ, zero, suc, ◌≡◌, ◌∙◌, ◌<◌, ◌≤◌, List, [], ◌∷◌, length, take, get_or, inl, inr, refl, ap, ap₂, sym, subst, arith, All, All-head, All-tail, All-cons, All-nil, take_all, cases_lt, sum_by-cons, Fraction, whole, ◌over◌, ◌+ℚ◌, ◌-ℚ◌, ◌*ℚ◌, ◌/ℚ◌, ◌≤ℚ◌, ◌<ℚ◌, sum_over, sum_over_same, sum_over_times, ring, le_refl, le_trans, div_times, times_cancel, times_comm, times_assoc, times_one, times_zero, times_plus, plus_zero, plus_cancel, sub_plus, times_le_both, whole_pos, over_zero, severity_total, Item, Sev, UnitOfPlan, Plan, HasPartsOf48Bits, greatest, weight_at, probability_of, expected_count, IsUnbounded, IsValid, IsValidUnit, thinned_mean, SharesFactor, expected_of, thinned_of, raised, PoissonUnit, expected_claims, pooled_severity, poisson_units, IsGammaOf, IsPooled, IsRaised, alone}
 use Rattle.std.proofs.Common.{◌==◌, cond}
 use Rattle.std.specs.Prelude.{IfSome}
 use mathlib.Core.Path.{fun_ext}
@@ -11,7 +11,7 @@ use Rattle.dl_exact.proofs.RoundingLaws.{whole_le}
 use Rattle.dl_exact.proofs.Denominators.{same_num}
 use Rattle.dl_exact.proofs.Over.{over_le}
 use Rattle.dl_plan.specs.Count.{IsClaimCount}
-use Rattle.dl_plan.specs.Common.{independent}
+use Rattle.dl_plan.proofs.Shared.{has_factor}
 use Rattle.dl_plan.specs.Valid.{IsAggregate, IsNewZero}
 use Rattle.dl_plan.proofs.Means.{weight_at-le}
 use Rattle.dl_model.specs.Counts.{gamma_of}
@@ -20,23 +20,8 @@ use Rattle.dl_model.specs.Units.{loss, plain}
 use Rattle.dl_model.specs.Plans.{after_zero, aggregate_of, count_weights, outcome_after, declared}
 use Rattle.dl_model.specs.CommonFactor.{common_sums, pooled_unit, CountsTotal}
 use Rattle.dl_model.proofs.PooledLoss.{as_one_loss}
+use Rattle.dl_model.proofs.CommonPlans.{declared_is, expected_units, are_severities, pooled_over}
 use Rattle.dl_model.proofs.ItemWeights.{shares_severity}
-
--- ---- the units as units under a common factor
-
-pub expected_units : (units : List UnitOfPlan) → expected_claims (poisson_units units) ≡ expected_of units
-expected_units units = sum_over_map poisson_unit (λ (w : PoissonUnit). w.mean) units
-
-pub are_severities : (units : List UnitOfPlan) → AreSeverities (poisson_units units)
-are_severities [] = tt
-are_severities (u ∷ us) = (shares_severity u.sev.items u.sev.total u.sev.weighted, are_severities us)
-
-pub pooled_over : (units : List UnitOfPlan) (x : ℕ) → pooled_severity (poisson_units units) x
-    ≡ sum_over units (λ u. expected_count u.freq /ℚ expected_of units *ℚ probability_of u.sev x)
-pooled_over units x =
-    sum_over_map poisson_unit
-    (λ (u : PoissonUnit). u.mean /ℚ expected_claims (poisson_units units) *ℚ u.severity x) units
-    ∙ ap (λ v. sum_over units (λ u. expected_count u.freq /ℚ v *ℚ probability_of u.sev x)) (expected_units units)
 
 -- ---- no amount is past those of the units
 
@@ -184,7 +169,7 @@ module _ (plan : Plan) (shape : ℕ) (mean : Fraction) (made : UnitOfPlan) (unit
     zero = subst (λ o. IfSome o (IsNewZero made.freq)) (sym is.zero) tt;
   }
 
-  pub alone_valid : IsValid (independent plan) → IsValid (alone plan made)
+  pub alone_valid : IsValid plan → IsValid (alone plan made)
   alone_valid valid = record {
     bucket = valid.bucket;
     cells = valid.cells;
@@ -192,7 +177,7 @@ module _ (plan : Plan) (shape : ℕ) (mean : Fraction) (made : UnitOfPlan) (unit
     few = omega arith;
     names = λ i j d p q. absurd (omega (arith, p, q));
     units = All-cons (IsValidUnit plan.cells) made [] valid_unit (All-nil (IsValidUnit plan.cells));
-    common = refl;
+    common = tt;
   }
 
 whole_list : (P : Fraction → Type 0) (f : List UnitOfPlan → Fraction) (units : List UnitOfPlan) → 1 ≤ length units
@@ -203,7 +188,7 @@ whole_list P f units some h =
 pub pooled_valid : (plan : Plan) (r : ℕ) (made : UnitOfPlan) → SharesFactor plan r → IsPooled r plan.units made
     → IsValid (alone plan made)
 pooled_valid plan r made shares is =
-    let factor = shares.factor in
+    let factor = has_factor plan r shares in
     let thinned = pooled_thinned plan.units factor.some made is.severity in
     let all = whole_list HasPartsOf48Bits thinned_of plan.units shares.valid.some factor.thinned in
     alone_valid plan r (expected_of plan.units) made shares.valid.units is factor.some_shape
@@ -216,7 +201,7 @@ pooled_valid plan r made shares is =
 pub raised_valid : (plan : Plan) (r : ℕ) (made : UnitOfPlan) → SharesFactor plan r → IsRaised r plan.units made
     → IsValid (alone plan made)
 raised_valid plan r made shares is =
-    let factor = shares.factor in
+    let factor = has_factor plan r shares in
     let thinned = raised_thinned plan.units factor.some made is.severity r factor.some_shape in
     alone_valid plan (suc r) (raised r (expected_of plan.units)) made shares.valid.units is (omega arith)
     factor.few_shape factor.raised_expected (subst HasPartsOf48Bits (sym thinned) factor.raised_thinned)
@@ -244,13 +229,14 @@ module _ (plan : Plan) (q : ℕ) (shares : SharesFactor plan (suc q)) (made : Un
   declares_same quantity total N =
       ap (λ o. partial_sums (after_zero o (aggregate_of made) ∷ []) quantity N) is.zero
       ∙ ap (λ a. partial_sums (loss a ∷ []) quantity N) aggregate_is
-      ∙ sym (as_one_loss q us (subst (λ t. whole 0 <ℚ t) (sym (expected_units plan.units)) shares.factor.some)
+      ∙ sym (as_one_loss q us (subst (λ t. whole 0 <ℚ t) (sym (expected_units plan.units)) (has_factor plan (suc q) shares).some)
       (are_severities plan.units) (greatest made.sev.items)
       (λ a far. sym (is.severity a)
       ∙ (shares_severity made.sev.items made.sev.total made.sev.weighted).past a far) quantity total N)
 
 pub same_declared : (plan : Plan) (r : ℕ) → SharesFactor plan r → (made : UnitOfPlan) → IsPooled r plan.units made
     → (quantity : Quantity) → CountsTotal quantity → (N : ℕ)
-    → declared (alone plan made) quantity N ≡ common_sums r (poisson_units plan.units) quantity N
-same_declared plan zero shares made is quantity total N = absurd (omega (arith, shares.factor.some_shape))
+    → declared (alone plan made) quantity N ≡ declared plan quantity N
+same_declared plan zero shares made is quantity total N = absurd (omega (arith, (has_factor plan zero shares).some_shape))
 same_declared plan (suc q) shares made is quantity total N = declares_same plan q shares made is quantity total N
+    ∙ sym (ap (λ D. D quantity N) (declared_is plan (suc q) shares.shape))

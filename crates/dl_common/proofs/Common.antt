@@ -25,8 +25,10 @@ pub use Rattle.dl_plan.specs.Fine.{IsFineTo30Bits, HasPartsOf48Bits, common_deno
 pub use Rattle.dl_plan.specs.Weighted.{IsWeighted, greatest, weight_at, weight_sum}
 pub use Rattle.dl_plan.specs.Severity.{Pairs, pairs_of, probability, probability_of, shares}
 pub use Rattle.dl_plan.specs.Count.{expected_count, IsClaimCount, IsUnbounded}
-pub use Rattle.dl_plan.specs.Valid.{IsValid, IsValidUnit, thinned_mean}
-pub use Rattle.dl_plan.specs.Common.{CanShare, IsPoisson, HasCommonFactor, SharesFactor, expected_of, thinned_of, raised, unit_share, shared_probabilities, independent}
+pub use Rattle.dl_plan.specs.Means.{thinned_mean}
+pub use Rattle.dl_plan.specs.Valid.{IsValid, IsValidUnit}
+pub use Rattle.dl_plan.specs.Common.{CanShare, IsPoisson, HasCommonFactor, expected_of, thinned_of, raised, unit_share, shared_probabilities}
+pub use Rattle.dl_plan.specs.Shared.{SharesFactor}
 pub use Rattle.dl_model.specs.CommonFactor.{PoissonUnit, expected_claims, pooled_severity, common_sums, raised_mean, AreSeverities, CountsTotal, IsUnit}
 pub use Rattle.dl_model.specs.CommonUnits.{poisson_unit, poisson_units}
 pub use Rattle.dl_common.specs.Pooled.{IsGammaOf, IsPooled, IsRaised, alone}

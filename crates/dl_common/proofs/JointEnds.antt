@@ -13,10 +13,12 @@ use Rattle.dl_grid.specs.Width.{up}
 use Rattle.dl_grid.proofs.CellLaws.{cells_fit, high_le}
 use Rattle.dl_grid.proofs.PlaceSums.{width_at, high_is, width_within}
 use Rattle.dl_plan.proofs.Means.{positive_share}
-use Rattle.dl_model.specs.Series.{AtMost, AtLeast, Holds}
+use Rattle.dl_plan.proofs.Shared.{has_factor}
+use Rattle.dl_model.specs.Series.{Series, AtMost, AtLeast, Holds}
 use Rattle.dl_model.specs.Family.{GridEncloses}
-use Rattle.dl_model.specs.Plans.{compound_of}
-use Rattle.dl_model.specs.Program.{One, Point, Joint}
+use Rattle.dl_model.specs.Plans.{compound_of, declared}
+use Rattle.dl_model.specs.Program.{Quantity, One, Point, Joint}
+use Rattle.dl_model.proofs.CommonPlans.{declared_is}
 use Rattle.dl_model.proofs.Declared.{at_least_wider, at_most_wider}
 use Rattle.dl_common.specs.Amounts.{amounts_to}
 use Rattle.dl_common.proofs.Tilted.{amounts_top, amounts_apart}
@@ -109,7 +111,7 @@ module _ {B : ℕ} (grid : List (Iv B)) (plan : Plan) (q i x : ℕ) (made u : Un
       (common_sums (suc q) (poisson_units plan.units) One)
       (expected_count u.freq *ℚ amounts_to x (low_at grid) u.sev.items over (u.sev.total * 2 ^ B))
       (expected_count u.freq *ℚ amounts_to x (high_at grid) u.sev.items over (u.sev.total * 2 ^ B))
-  exact = joint_exact plan.units q shares.factor made raised grid encloses i x u there here inside
+  exact = joint_exact plan.units q (has_factor plan (suc q) shares) made raised grid encloses i x u there here inside
 
   held : (h.num ≡ 0 → ⊥) → Holds (common_sums (suc q) (poisson_units plan.units) (Joint i x))
       (common_sums (suc q) (poisson_units plan.units) One)
@@ -128,7 +130,7 @@ module _ {B : ℕ} (grid : List (Iv B)) (plan : Plan) (q i x : ℕ) (made u : Un
         lesser_holds (λ e. AtMost Q R (e over 2 ^ B)) (high_end grid x u h) (x * 2 ^ B)
             (at_most_wider Q R _ _ exact.1
             (end_above (amounts_to x (high_at grid) u.sev.items) (positive u) u.sev.total (2 ^ B) n h pos t s told))
-            (joint_most plan.units q shares.factor made raised i x (2 ^ B) s),
+            (joint_most plan.units q (has_factor plan (suc q) shares) made raised i x (2 ^ B) s),
       )
 
   -- where no claim above 0 is expected
@@ -155,32 +157,36 @@ module _ {B : ℕ} (grid : List (Iv B)) (plan : Plan) (q i x : ℕ) (made u : Un
 
 module _ {B : ℕ} (grid : List (Iv B)) (plan : Plan) (i x lo hi : ℕ) (made u : UnitOfPlan) (h : Fraction)
     (inside : x < length grid) (is : h ≡ thinned_mean u) where
+  abbrev Held : (Quantity → Series) → Type 0
+  Held D = Holds (D (Joint i x)) (D One) (lo over 2 ^ B) (hi over 2 ^ B)
+
   pub ends_hold : (r : ℕ) → SharesFactor plan r → i < length plan.units → get_or plan.units i u ≡ u
       → IsRaised r plan.units made → GridEncloses grid (compound_of made.freq made.sev) → (h.num ≡ 0 → ⊥)
       → lo ≡ min (low_end grid x u h) (x * 2 ^ B) → hi ≡ min (high_end grid x u h) (x * 2 ^ B)
-      → Holds (common_sums r (poisson_units plan.units) (Joint i x)) (common_sums r (poisson_units plan.units) One)
-      (lo over 2 ^ B) (hi over 2 ^ B)
-  ends_hold zero shares there here raised encloses some low high = absurd (omega (arith, shares.factor.some_shape))
+      → Held (declared plan)
+  ends_hold zero shares there here raised encloses some low high =
+      absurd (omega (arith, (has_factor plan zero shares).some_shape))
   ends_hold (suc q) shares there here raised encloses some low high =
-      rw (low, high) (held grid plan q i x made u shares there here raised encloses inside h is some)
+      subst Held (sym (declared_is plan (suc q) shares.shape))
+      (rw (low, high) (held grid plan q i x made u shares there here raised encloses inside h is some))
 
   pub none_hold : (r : ℕ) → SharesFactor plan r → i < length plan.units → get_or plan.units i u ≡ u
       → IsRaised r plan.units made → GridEncloses grid (compound_of made.freq made.sev) → IsGrid grid → h.num ≡ 0
-      → lo ≡ 0 → hi ≡ 0
-      → Holds (common_sums r (poisson_units plan.units) (Joint i x)) (common_sums r (poisson_units plan.units) One)
-      (lo over 2 ^ B) (hi over 2 ^ B)
+      → lo ≡ 0 → hi ≡ 0 → Held (declared plan)
   none_hold zero shares there here raised encloses of_grid none low high =
-      absurd (omega (arith, shares.factor.some_shape))
+      absurd (omega (arith, (has_factor plan zero shares).some_shape))
   none_hold (suc q) shares there here raised encloses of_grid none low high =
-      rw (low, high) (held_none grid plan q i x made u shares there here raised encloses inside h is of_grid none)
+      subst Held (sym (declared_is plan (suc q) shares.shape))
+      (rw (low, high) (held_none grid plan q i x made u shares there here raised encloses inside h is of_grid none))
 
 pub low_within : (B : ℕ) (plan : Plan) (r i x l h : ℕ) (made : UnitOfPlan) → SharesFactor plan r
     → IsRaised r plan.units made
-    → AtLeast (common_sums r (poisson_units plan.units) (Joint i x)) (common_sums r (poisson_units plan.units) One)
-    (l over 2 ^ B)
-    → AtMost (common_sums r (poisson_units plan.units) (Point x)) (common_sums r (poisson_units plan.units) One)
-    (h over 2 ^ B)
-    → l ≤ x * h
-low_within B plan zero i x l h made shares raised low at = absurd (omega (arith, shares.factor.some_shape))
+    → AtLeast (declared plan (Joint i x)) (declared plan One) (l over 2 ^ B)
+    → AtMost (declared plan (Point x)) (declared plan One) (h over 2 ^ B) → l ≤ x * h
+low_within B plan zero i x l h made shares raised low at =
+    absurd (omega (arith, (has_factor plan zero shares).some_shape))
 low_within B plan (suc q) i x l h made shares raised low at =
-    low_share plan.units q shares.factor made raised i x l h (2 ^ B) (pow_pos B) low at
+    let same = declared_is plan (suc q) shares.shape in
+    low_share plan.units q (has_factor plan (suc q) shares) made raised i x l h (2 ^ B) (pow_pos B)
+    (subst (λ D. AtLeast (D (Joint i x)) (D One) (l over 2 ^ B)) same low)
+    (subst (λ D. AtMost (D (Point x)) (D One) (h over 2 ^ B)) same at)

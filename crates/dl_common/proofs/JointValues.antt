@@ -1,35 +1,35 @@
 -- What the sum over the amounts of one claim holds, where a grid encloses the raised unit.
-use Rattle.dl_common.proofs.Common.{ℕ, zero, suc, ◌≡◌, ◌∙◌, ◌*◌, ◌/◌, ◌<◌, ◌≤◌, ◌^◌, List, [], ◌∷◌, length, get_or, true, false, inl, inr, refl, ap, ap₂, sym, subst, arith, mul-pos, cases_lt, Fraction, whole, ◌over◌, ◌*ℚ◌, ◌≤ℚ◌, ◌<ℚ◌, sum_pairs, le_refl, le_trans, le_of_eq, zero_le, times_le_both, times_comm, times_assoc, times_zero, times_one, one_pos, over_mul, over_same, over_self, over_le, over_times, over_zero, severity_total, Sev, UnitOfPlan, greatest, weight_at, probability_of, expected_count, HasCommonFactor, raised, PoissonUnit, expected_claims, pooled_severity, common_sums, IsUnit, poisson_unit, poisson_units, IsRaised}
+use Rattle.dl_common.proofs.Common.{ℕ, zero, suc, ◌≡◌, ◌∙◌, ◌*◌, ◌/◌, ◌<◌, ◌≤◌, ◌^◌, List, [], ◌∷◌, length, get_or, true, false, refl, ap, ap₂, sym, subst, arith, mul-pos, Fraction, whole, ◌over◌, ◌*ℚ◌, ◌≤ℚ◌, ◌<ℚ◌, sum_pairs, le_refl, le_trans, le_of_eq, zero_le, times_le_both, times_comm, times_assoc, times_zero, times_one, one_pos, over_mul, over_same, over_self, over_le, over_times, over_zero, severity_total, Sev, UnitOfPlan, greatest, weight_at, probability_of, expected_count, HasCommonFactor, raised, PoissonUnit, expected_claims, pooled_severity, common_sums, IsUnit, poisson_unit, poisson_units, IsRaised}
 use Rattle.std.proofs.Common.{Bool}
 use Rattle.std.specs.Int.{div_ceil}
 use Rattle.std.proofs.lemmas.Nat.{pow_pos}
-use Rattle.std.proofs.Math.Nat.{mul-le-mul_right}
+use Rattle.std.proofs.Math.Nat.{mul-le-mul_right, le_of_mul-le-mul_right}
 use mathlib.Core.Path.{fun_ext}
 use Rattle.dl_exact.proofs.Laws.{times_left_comm}
-use Rattle.dl_exact.proofs.Over.{over_lt}
+use Rattle.dl_exact.proofs.Over.{le_over}
 use Rattle.dl_exact.proofs.Sums.{sum_pairs_same}
 use Rattle.dl_exact.proofs.SumsOver.{sum_pairs_over}
 use Rattle.dl_iv.specs.declared.interval.Iv.{Iv}
 use Rattle.dl_iv.proofs.Rounding.{round_down, round_up}
 use Rattle.dl_iv.proofs.Operations.{scale_low, scale_high}
 use Rattle.dl_grid.specs.Cells.{low_at, high_at}
-use Rattle.dl_model.specs.Series.{Series, Rises, AtMost, AtLeast, Holds}
+use Rattle.dl_model.specs.Series.{Series, AtMost, AtLeast, Holds}
 use Rattle.dl_model.specs.Counts.{gamma_of}
 use Rattle.dl_model.specs.Family.{compound, GridEncloses}
 use Rattle.dl_model.specs.Plans.{count_weights, compound_of}
 use Rattle.dl_model.specs.Program.{Loss, One, Point, Joint, score, where_true, partial_sums}
 use Rattle.dl_model.specs.Units.{loss}
 use Rattle.dl_model.specs.CommonFactor.{pooled_unit}
-use Rattle.dl_model.proofs.Alike.{not_both}
+use Rattle.dl_model.proofs.Alike.{ends_in_order}
 use Rattle.dl_model.proofs.ItemWeights.{shares_severity}
-use Rattle.dl_model.proofs.Outcomes.{outcomes_le, outcomes_rise}
-use Rattle.dl_model.proofs.Bounded.{are_units}
+use Rattle.dl_model.proofs.Outcomes.{outcomes_le}
 use Rattle.dl_model.proofs.Pooled.{total_point}
-use Rattle.dl_model.proofs.PooledLoss.{as_one_loss, one_declared, common_bounded, common_positive}
-use Rattle.dl_model.proofs.SharedValues.{joint_raised, joint_within}
+use Rattle.dl_model.proofs.PooledLoss.{as_one_loss, common_bounded, common_positive, common_rises}
+use Rattle.dl_model.proofs.SharedBounds.{joint_within}
+use Rattle.dl_model.proofs.SharedValues.{joint_raised}
 use Rattle.dl_common.specs.Amounts.{amounts_to}
 use Rattle.dl_common.proofs.Tilted.{amounts_pairs}
-use Rattle.dl_common.proofs.Alone.{expected_units, are_severities}
+use Rattle.dl_model.proofs.CommonPlans.{expected_units, are_severities}
 
 is_unit : (units : List UnitOfPlan) (i : ℕ) (u : UnitOfPlan) → i < length units → get_or units i u ≡ u
     → IsUnit (poisson_units units) i (poisson_unit u)
@@ -175,20 +175,9 @@ module _ (units : List UnitOfPlan) (q : ℕ) (factor : HasCommonFactor (suc q) u
   -- a low end is at most x times a high end of the probability of the total
   pub low_share : (i x l h S : ℕ) → 0 < S → AtLeast (common_sums (suc q) us (Joint i x)) all (l over S)
       → AtMost (common_sums (suc q) us (Point x)) all (h over S) → l ≤ x * h
-  low_share i x l h S s low at = elim (cases_lt (x * h) l) [
-    | inr within ↦ within
-    | inl above ↦
-        let bound = common_bounded q us some (are_severities units) M past One (λ ys. refl) tt in
-        let positive = common_positive q us some (are_severities units) M past in
-        let rises : Rises all = subst Rises (sym one_is) (outcomes_rise one_loss (are_units one_loss (
-          one_declared q us some
-              (are_severities units) M past,
-          tt,
-        )) (score One)) in
-        absurd (not_both all rises bound.0 positive.0 bound.1 positive.1
-        (common_sums (suc q) us (Joint i x)) (l over S) low (
-          (x * h) over S,
-          over_lt (x * h) S l S s s (omega (arith, mul-le-mul_right S above, s)),
-          joint_below i x h S s at,
-        ))
-  ]
+  low_share i x l h S s low at =
+      let bound = common_bounded q us some (are_severities units) M past One tt in
+      let positive = common_positive q us some (are_severities units) M past in
+      let order = ends_in_order all (common_rises q us some (are_severities units) M past) bound.0 positive.0 bound.1
+      positive.1 (common_sums (suc q) us (Joint i x)) (l over S) ((x * h) over S) low (joint_below i x h S s at) in
+      le_of_mul-le-mul_right {k = S} (le_over l S (x * h) S s s order) s

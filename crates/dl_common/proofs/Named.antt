@@ -1,7 +1,7 @@
 -- What the one unit has by its parts: the shape and the mean of its count, and the first unit's name.
-use Rattle.dl_common.proofs.Common.{ℕ, suc, ◌≡◌, ◌∙◌, ◌+◌, ◌*◌, ◌<◌, List, length, get_or, Option, Some, None, ap, ap₂, sym, arith, mul-pos, Fraction, whole, ◌over◌, ◌*ℚ◌, ◌/ℚ◌, over_self, over_mul, over_same, one_pos, FitsFrac, admitted_fits, Freq, Fixed, Table, Bernoulli, Binomial, Poisson, Gamma, UnitOfPlan, Plan, expected_count, SharesFactor, raised, expected_of}
+use Rattle.dl_common.proofs.Common.{ℕ, ◌≡◌, ◌∙◌, ◌<◌, List, length, get_or, Option, Some, None, ap, sym, Fraction, FitsFrac, admitted_fits, Freq, Fixed, Table, Bernoulli, Binomial, Poisson, Gamma, UnitOfPlan, Plan, expected_count, SharesFactor, raised, expected_of}
 use Rattle.std.proofs.lemmas.List.{get_or_default}
-use Rattle.dl_exact.proofs.Over.{over_div}
+use Rattle.dl_plan.proofs.Shared.{has_factor}
 
 number_in : Option ℕ → ℕ
 number_in None = 0
@@ -33,20 +33,5 @@ first_name units read u default name same some copied =
     copied ∙ ap (λ (w : UnitOfPlan). w.name) (ap (λ (us : List UnitOfPlan). get_or us 0 u) same
     ∙ get_or_default units 0 u default some)
 
-raised_over : (v : Fraction) (r : ℕ) → 0 < r → (v.num * (r + 1)) over (v.den * r) ≡ raised r v
-raised_over v r above =
-    let pos : 0 < v.den = v.positive in
-    over_same _ _ _ _ (mul-pos pos above) (mul-pos (mul-pos pos one_pos) above) (omega arith)
-    ∙ sym (ap (λ t. t *ℚ whole (suc r) /ℚ whole r) (sym (over_self v))
-    ∙ ap (λ t. t /ℚ whole r) (over_mul v.num v.den (suc r) 1 pos one_pos)
-    ∙ over_div (v.num * suc r) (v.den * 1) r 1 (mul-pos pos one_pos) one_pos above)
-
--- the raised mean from the parts of the mean
-pub raised_parts : (n d s r : ℕ) (mean v : Fraction) → n ≡ mean.num → d ≡ mean.den → mean ≡ v → s ≡ r → 0 < r
-    → (n * (s + 1)) over (d * s) ≡ raised r v
-raised_parts n d s r mean v num den is shape above =
-    ap₂ (λ a b. (a * (s + 1)) over (b * s)) num den
-    ∙ ap₂ (λ (m : Fraction) k. (m.num * (k + 1)) over (m.den * k)) is shape ∙ raised_over v r above
-
 pub raised_fits : (plan : Plan) (r : ℕ) → SharesFactor plan r → FitsFrac (raised r (expected_of plan.units))
-raised_fits plan r shares = admitted_fits _ shares.factor.raised_expected
+raised_fits plan r shares = admitted_fits _ (has_factor plan r shares).raised_expected

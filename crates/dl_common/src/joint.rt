@@ -9,14 +9,14 @@ ghost use Rattle.dl_grid.specs.Width.{up};
 ghost use Rattle.dl_plan.specs.declared.plan.Unit.{Unit as UnitOfPlan};
 ghost use Rattle.dl_plan.specs.declared.plan.Plan.{Plan};
 ghost use Rattle.dl_plan.specs.Weighted.{weight_sum, weight_at};
-ghost use Rattle.dl_plan.specs.Valid.{IsValidUnit, thinned_mean};
-ghost use Rattle.dl_plan.specs.Common.{IsPoisson, SharesFactor};
+ghost use Rattle.dl_plan.specs.Means.{thinned_mean};
+ghost use Rattle.dl_plan.specs.Valid.{IsValidUnit};
+ghost use Rattle.dl_plan.specs.Common.{IsPoisson};
+ghost use Rattle.dl_plan.specs.Shared.{SharesFactor};
 ghost use Rattle.dl_model.specs.Series.{AtMost, Holds};
 ghost use Rattle.dl_model.specs.Program.{One, Point, Joint};
 ghost use Rattle.dl_model.specs.Family.{GridEncloses};
-ghost use Rattle.dl_model.specs.Plans.{compound_of};
-ghost use Rattle.dl_model.specs.CommonFactor.{common_sums};
-ghost use Rattle.dl_model.specs.CommonUnits.{poisson_units};
+ghost use Rattle.dl_model.specs.Plans.{compound_of, declared};
 ghost use Rattle.dl_common.specs.Pooled.{IsRaised};
 ghost use Rattle.dl_common.specs.Amounts.{amounts_to};
 
@@ -37,8 +37,7 @@ pub fn common_joint<const B: u32>(unit: &Unit, grid: &Grid<B>, x: u32) -> Iv<B>
         → i < length plan.units → get_or plan.units i unit.now ≡ unit.now
         → IsRaised r plan.units raised
         → GridEncloses grid.now (compound_of raised.freq raised.sev)
-        → Holds (common_sums r (poisson_units plan.units) (Joint i x))
-        (common_sums r (poisson_units plan.units) One)
+        → Holds (declared plan (Joint i x)) (declared plan One)
         (result.lo over 2 ^ B) (result.hi over 2 ^ B) }
     ensures width { (D : ℕ) → spread grid.now ≤ D
         → result.hi - result.lo ≤ (length grid.now * D + 2) * up (thinned_mean unit.now) + 2 }
@@ -48,8 +47,7 @@ pub fn common_joint<const B: u32>(unit: &Unit, grid: &Grid<B>, x: u32) -> Iv<B>
         → i < length plan.units → get_or plan.units i unit.now ≡ unit.now
         → IsRaised r plan.units raised
         → GridEncloses grid.now (compound_of raised.freq raised.sev)
-        → AtMost (common_sums r (poisson_units plan.units) (Point x))
-        (common_sums r (poisson_units plan.units) One) (h over 2 ^ B)
+        → AtMost (declared plan (Point x)) (declared plan One) (h over 2 ^ B)
         → result.lo ≤ x * h }
     ensures small { result.hi ≤ x * 2 ^ B }
 {

@@ -6,12 +6,13 @@ ghost use Rattle.dl_plan.specs.Fine.{IsFineTo30Bits, HasPartsOf48Bits};
 ghost use Rattle.dl_plan.specs.Severity.{pairs_of, probability_of};
 ghost use Rattle.dl_plan.specs.Count.{expected_count};
 ghost use Rattle.dl_plan.specs.Valid.{IsValid};
-ghost use Rattle.dl_plan.specs.Common.{CanShare, SharesFactor, expected_of, unit_share, shared_probabilities};
+ghost use Rattle.dl_plan.specs.Common.{CanShare, expected_of, unit_share, shared_probabilities};
+ghost use Rattle.dl_plan.specs.Shared.{SharesFactor};
 ghost use Rattle.dl_sev.specs.Weighed.{IsWeighing};
 ghost use Rattle.dl_sev.specs.Weighing.{sum_of};
 ghost use Rattle.dl_model.specs.Program.{Quantity};
 ghost use Rattle.dl_model.specs.Plans.{declared};
-ghost use Rattle.dl_model.specs.CommonFactor.{common_sums, pooled_severity, CountsTotal};
+ghost use Rattle.dl_model.specs.CommonFactor.{pooled_severity, CountsTotal};
 ghost use Rattle.dl_model.specs.CommonUnits.{poisson_units};
 ghost use Rattle.dl_common.specs.Pooled.{IsPooled, alone};
 
@@ -33,10 +34,8 @@ pub fn pool(alloc: Global, plan: &Plan) -> Result<Unit, AllocError>
     ensures pooled { IfOk result (λ unit. (r : ℕ) → SharesFactor plan.now r
         → IsPooled r plan.now.units unit) }
     ensures valid { IfOk result (λ unit. IsValid (alone plan.now unit)) }
-    ensures same { IfOk result (λ unit. (r : ℕ) → SharesFactor plan.now r
-        → (quantity : Quantity) → CountsTotal quantity → (N : ℕ)
-        → declared (alone plan.now unit) quantity N
-        ≡ common_sums r (poisson_units plan.now.units) quantity N) }
+    ensures same { IfOk result (λ unit. (quantity : Quantity) → CountsTotal quantity → (N : ℕ)
+        → declared (alone plan.now unit) quantity N ≡ declared plan.now quantity N) }
 {
     let Some(shape) = plan.common else {
         unreachable!()

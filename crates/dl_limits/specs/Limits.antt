@@ -123,6 +123,18 @@ rarest_claims = 16
 abbrev pub most_text : ℕ
 most_text = 1048576
 
+-- a plan that has a certificate has at most so many cells
+abbrev pub most_cert_cells : ℕ
+most_cert_cells = 1024
+
+-- a certificate has at most so many bytes
+abbrev pub most_cert_text : ℕ
+most_cert_text = 66000000
+
+-- so many bytes of steps are checked at most, and so many are read of a program and steps
+abbrev pub most_steps_text : ℕ
+most_steps_text = 67108864
+
 -- the asks of a call
 abbrev pub most_asks : ℕ
 most_asks = 256

@@ -59,6 +59,15 @@ pub const MOST_COUNT: u32 = 256;
 /// The most bytes of an input.
 pub const MOST_TEXT: usize = 1_048_576;
 
+/// The most cells of a plan that has a certificate.
+pub const MOST_CERT_CELLS: u32 = 1024;
+
+/// The most bytes of a certificate.
+pub const MOST_CERT_TEXT: usize = 66_000_000;
+
+/// The most bytes of steps that are checked, and of a program and steps that are read.
+pub const MOST_STEPS_TEXT: usize = 67_108_864;
+
 /// The most asks of a call.
 pub const MOST_ASKS: usize = 256;
 

@@ -131,11 +131,13 @@ module _ (E : Series) (rise : Rises E) (e k₀ : _) (bounded : IsBound E e) (pos
     )),
   )
 
-  -- a declared value over a bounded and positive series is not at least p and below p
+  -- a low end of a declared value over a bounded and positive series is at most a high end
+  pub ends_in_order : (Q : Series) (l h : Fraction) → AtLeast Q E l → AtMost Q E h → l ≤ℚ h
+  ends_in_order Q l h a b = cancel l h (λ e be k. subst (λ t. t ≤ℚ h *ℚ e) (times_comm l (E k))
+      (a k (h *ℚ e) (λ m. b m e be)))
+
   pub not_both : (Q : Series) (p : Fraction) → AtLeast Q E p → Below Q E p → ⊥
-  not_both Q p a b =
-      lt_not_le b.0 p b.1 (cancel p b.0 (λ e be k. subst (λ t. t ≤ℚ b.0 *ℚ e) (times_comm p (E k))
-      (a k (b.0 *ℚ e) (λ m. b.2 m e be))))
+  not_both Q p a b = lt_not_le b.0 p b.1 (ends_in_order Q p b.0 a b.2)
 
 -- ---- families
 

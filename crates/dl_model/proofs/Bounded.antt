@@ -41,10 +41,10 @@ mean_bound (u ∷ us) h =
 
 -- ---- each score is at most a factor of 1 and the total
 
-abbrev scale : List ℕ → Fraction
+abbrev pub scale : List ℕ → Fraction
 scale ys = whole 1 +ℚ whole (sum ys)
 
-IsScaled : (List ℕ → Fraction) → Type 0
+abbrev pub IsScaled : (List ℕ → Fraction) → Type 0
 IsScaled value = (k : Fraction) × ((ys : List ℕ) → value ys ≤ℚ k *ℚ scale ys)
 
 by_one : (x : Fraction) (ys : List ℕ) → x ≤ℚ whole 1 → x ≤ℚ whole 1 *ℚ scale ys
@@ -107,8 +107,7 @@ price_scaled (t ∷ terms) h =
     turn : (w k s r : Fraction) → w *ℚ (k *ℚ s) +ℚ r *ℚ s ≡ (w *ℚ k +ℚ r) *ℚ s
     turn w k s r = simp ring
 
-score_scaled : (quantity : Quantity) → IsAsked quantity → IsScaled (score quantity)
-unfolding IsScaled
+pub score_scaled : (quantity : Quantity) → IsAsked quantity → IsScaled (score quantity)
 score_scaled One h = (whole 1, λ ys. by_one (whole 1) ys (le_refl _))
 score_scaled (Point x) h = (whole 1, λ ys. by_one _ ys (where_at_most (nat_eq (sum ys) x) (whole 1)))
 score_scaled (Cdf x) h = (whole 1, λ ys. by_one _ ys (where_at_most (nat_le (sum ys) x) (whole 1)))
@@ -135,7 +134,6 @@ score_scaled (Share i p q u) h = (
 
 pub quantity_bounded : (us : List Loss) (quantity : Quantity) → AreDeclared us → IsAsked quantity
     → (u : Fraction) × IsBound (partial_sums us quantity) u
-unfolding IsScaled
 quantity_bounded us quantity h asked =
     let s = score_scaled quantity asked in
     let ones = one_bound us h in

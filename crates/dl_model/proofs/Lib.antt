@@ -63,5 +63,8 @@ pub mod Halves
 pub mod PriceLaws
 pub mod ShareLaws
 pub mod ShareEnds
+pub mod SharedBounds
 pub mod PooledLoss
+pub mod CommonPlans
+pub mod CommonMeans
 pub mod ChangedLoss

@@ -1,6 +1,6 @@
 -- Where the probability of no claim of a count of a plan can be changed: it is at most 16 / 17, and some number of claims
 -- above 0 has a positive weight.
-use Rattle.dl_model.proofs.Common.{◌≡◌, inl, inr, ℕ, suc, zero, ◌*◌, ◌<◌, ◌≤◌, max, arith, sym, ap, subst, ◌∙◌, le-max_left, le-max_right, Fraction, whole, ◌over◌, ◌+ℚ◌, ◌*ℚ◌, ◌/ℚ◌, ◌≤ℚ◌, ◌<ℚ◌, sum_to, over_same, over_self, le_over, one_pos, one_times, times_comm, times_assoc, zero_plus, le_trans, le_div, zero_or_pos, times_le_times, times_le_cancel, div_times, lt_of_lt_of_le, AtMost, IsBound, AreCountWeights, Freq, Fixed, Table, Bernoulli, Binomial, Poisson, Gamma, num_le_den, count_weights}
+use Rattle.dl_model.proofs.Common.{◌≡◌, inl, inr, ℕ, suc, zero, ◌*◌, ◌≤◌, max, arith, sym, ap, subst, ◌∙◌, le-max_left, le-max_right, Fraction, whole, ◌over◌, ◌+ℚ◌, ◌*ℚ◌, ◌/ℚ◌, ◌≤ℚ◌, ◌<ℚ◌, sum_to, over_same, over_self, le_over, one_pos, one_times, times_comm, times_assoc, zero_plus, le_trans, le_div, zero_or_pos, times_le_times, times_le_cancel, div_times, lt_of_lt_of_le, AtMost, IsBound, AreCountWeights, Freq, Fixed, Table, Bernoulli, Binomial, Poisson, Gamma, num_le_den, count_weights}
 use Rattle.dl_exact.proofs.Denominators.{over_pos}
 use Rattle.dl_exact.proofs.Over.{over_add}
 use Rattle.dl_plan.specs.Count.{IsClaimCount as IsCountOfPlan}

@@ -6,7 +6,7 @@ use Rattle.std.proofs.lemmas.List.Elements.{All-filter}
 use Rattle.dl_plan.specs.declared.plan.Unit.{Unit as UnitOfPlan}
 use Rattle.dl_plan.specs.Severity.{Pairs, probability, conditioned, mass, shares, Means}
 use Rattle.dl_plan.specs.Count.{IsUnbounded, IsClaimCount as IsCountOfPlan}
-use Rattle.dl_plan.specs.Valid.{thinned_mean}
+use Rattle.dl_plan.specs.Means.{thinned_mean}
 use Rattle.dl_plan.proofs.Weights.{weight_sum_pos}
 use Rattle.dl_plan.proofs.Shares.{items_over, filter-shares, probability-conditioned}
 use Rattle.dl_plan.proofs.Means.{positive_share, weight_at-le}

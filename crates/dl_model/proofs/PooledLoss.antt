@@ -1,16 +1,18 @@
 -- A portfolio under a common factor as one loss: what it declares is bounded, above 0 somewhere, and adds up to 1.
-use Rattle.dl_model.proofs.Common.{◌≡◌, ℕ, suc, ◌*◌, ◌<◌, arith, refl, sym, ap, subst, subst₂, ◌∙◌, List, [], ◌∷◌, fun_ext, Fraction, whole, ◌+ℚ◌, ◌*ℚ◌, ◌≤ℚ◌, ◌<ℚ◌, le_refl, le_trans, times_le_both, sum_to_same, IsBound, AtLeast, Loss, One, Point, Cdf, Joint, score, sum_over_outcomes, partial_sums, loss, IsDeclared, IsDeclaredLoss, IsQuantile}
+use Rattle.dl_model.proofs.Common.{◌≡◌, ℕ, suc, ◌*◌, ◌<◌, ◌≤◌, arith, refl, sym, ap, subst, subst₂, ◌∙◌, List, [], ◌∷◌, fun_ext, Fraction, whole, ◌+ℚ◌, ◌*ℚ◌, ◌≤ℚ◌, ◌<ℚ◌, le_refl, le_trans, plus_le_both, times_le_both, sum_to, sum_to_same, IsBound, AtLeast, Holds, Rises, Loss, One, Cdf, Mean, score, sum_over_outcomes, partial_sums, loss, IsDeclared, IsDeclaredLoss, IsQuantile}
 use Rattle.dl_model.specs.Program.{Quantity}
 use Rattle.dl_model.specs.Measures.{IsAsked, AreDeclared}
 use Rattle.dl_model.specs.CommonFactor.{PoissonUnit, expected_claims, common_sums, pooled_severity, pooled_unit, AreSeverities, CountsTotal}
 use Rattle.dl_model.proofs.CountBounds.{gamma_of_count}
+use Rattle.dl_model.proofs.CountMeans.{gamma_mean}
+use Rattle.dl_model.proofs.Means.{mean_of_unit}
 use Rattle.dl_model.proofs.UnitLaws.{unit_plain}
 use Rattle.dl_model.proofs.UnitLosses.{unit_declared_loss}
 use Rattle.dl_model.proofs.Outcomes.{outcomes_rise}
 use Rattle.dl_model.proofs.Bounded.{are_units, quantity_bounded, whole_positive, adds_up}
 use Rattle.dl_model.proofs.Bracket.{cdf_grows, one_quantile}
-use Rattle.dl_model.proofs.Pooled.{pooled, pooled_is_severity, total_point, total_cdf}
-use Rattle.dl_model.proofs.SharedValues.{joint_within}
+use Rattle.dl_model.proofs.Pooled.{pooled, pooled_is_severity, total_cdf, total_mean}
+use Rattle.dl_model.proofs.SharedBounds.{asked_within}
 
 module _ (q : ℕ) (us : List PoissonUnit) (some : whole 0 <ℚ expected_claims us) (h : AreSeverities us) (M : ℕ)
     (past : (a : ℕ) → M < a → pooled_severity us a ≡ whole 0) where
@@ -40,17 +42,21 @@ module _ (q : ℕ) (us : List PoissonUnit) (some : whole 0 <ℚ expected_claims 
       → partial_sums one_loss quantity ≡ common_sums (suc q) us quantity
   same quantity total = fun_ext (λ N. sym (as_one_loss quantity total N))
 
-  pub common_bounded : (quantity : Quantity) → CountsTotal quantity → IsAsked quantity
+  total_bounded : (quantity : Quantity) → CountsTotal quantity → IsAsked quantity
       → (u : Fraction) × IsBound (common_sums (suc q) us quantity) u
-  common_bounded quantity total asked =
+  total_bounded quantity total asked =
       let b = quantity_bounded one_loss quantity all_declared asked in
       (b.0, subst (λ Q. IsBound Q b.0) (same quantity total) b.1)
 
-  pub joint_bounded : (i x : ℕ) → (u : Fraction) × IsBound (common_sums (suc q) us (Joint i x)) u
-  joint_bounded i x =
-      let b = common_bounded (Point x) (total_point x) tt in (
-        whole x *ℚ b.0,
-        λ N. le_trans _ _ _ (joint_within (suc q) us i x N) (times_le_both _ _ _ _ (le_refl (whole x)) (b.1 N)),
+  pub common_bounded : (quantity : Quantity) → IsAsked quantity
+      → (u : Fraction) × IsBound (common_sums (suc q) us quantity) u
+  common_bounded quantity asked =
+      let k = asked_within (suc q) us quantity asked in
+      let ones = total_bounded One (λ ys. refl) tt in
+      let means = total_bounded Mean total_mean tt in (
+        k.0 *ℚ (ones.0 +ℚ means.0),
+        λ N. le_trans _ _ _ (k.1 N) (times_le_both _ _ _ _ (le_refl k.0)
+            (plus_le_both _ _ _ _ (ones.1 N) (means.1 N))),
       )
 
   pub common_positive : (N : ℕ) × (whole 0 <ℚ common_sums (suc q) us One N)
@@ -66,14 +72,27 @@ module _ (q : ℕ) (us : List PoissonUnit) (some : whole 0 <ℚ expected_claims 
         subst₂ (λ Q R. AtLeast Q R p) (same (Cdf a.0) (total_cdf a.0)) (same One (λ ys. refl)) a.1,
       )
 
+  pub common_grows : (x y N : ℕ) → x ≤ y → common_sums (suc q) us (Cdf x) N ≤ℚ common_sums (suc q) us (Cdf y) N
+  common_grows x y N le = subst₂ (λ s t. s ≤ℚ t) (sym (as_one_loss (Cdf x) (total_cdf x) N))
+      (sym (as_one_loss (Cdf y) (total_cdf y) N)) (cdf_grows one_loss x y N le)
+
+  pub common_rises : Rises (common_sums (suc q) us One)
+  common_rises N = subst (λ Q. Q N ≤ℚ Q (suc N)) (same One (λ ys. refl))
+      (outcomes_rise one_loss (are_units one_loss all_declared) (score One) N)
+
   pub common_quantile : (p : Fraction) (x x' : ℕ) → IsQuantile (common_sums (suc q) us) x p
       → IsQuantile (common_sums (suc q) us) x' p → x ≡ x'
   common_quantile p x x' i j =
-      let b = common_bounded One (λ ys. refl) tt in
+      let b = common_bounded One tt in
       let k = common_positive in
-      one_quantile (common_sums (suc q) us)
-      (λ a c N le. subst₂ (λ s t. s ≤ℚ t) (sym (as_one_loss (Cdf a) (total_cdf a) N))
-      (sym (as_one_loss (Cdf c) (total_cdf c) N)) (cdf_grows one_loss a c N le))
-      (λ N. subst (λ Q. Q N ≤ℚ Q (suc N)) (same One (λ ys. refl))
-      (outcomes_rise one_loss (are_units one_loss all_declared) (score One) N))
-      b.0 k.0 b.1 k.1 p x x' i j
+      one_quantile (common_sums (suc q) us) common_grows common_rises b.0 k.0 b.1 k.1 p x x' i j
+
+  -- the mean is that of the count times that of one claim
+  pub common_mean : Holds (common_sums (suc q) us Mean) (common_sums (suc q) us One)
+      (sum_to M (λ j. whole j *ℚ pooled_severity us j) *ℚ expected_claims us)
+      (sum_to M (λ j. whole j *ℚ pooled_severity us j) *ℚ expected_claims us)
+  common_mean =
+      let E = sum_to M (λ j. whole j *ℚ pooled_severity us j) *ℚ expected_claims us in
+      subst₂ (λ Q R. Holds Q R E E) (same Mean total_mean) (same One (λ ys. refl))
+      (mean_of_unit (pooled_unit (suc q) us M) unit_declared.unit (λ s. refl) (expected_claims us) (expected_claims us)
+      (gamma_mean q (expected_claims us)))

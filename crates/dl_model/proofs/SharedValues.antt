@@ -1,18 +1,13 @@
 -- Declared joint means under a common factor, from the cells of the pooled unit with one more in the shape.
-use Rattle.dl_model.proofs.Common.{◌≡◌, ℕ, suc, zero, ◌+◌, ◌*◌, ◌<◌, ◌≤◌, arith, sym, ap, subst, ◌∙◌, zero-lt-suc, List, [], ◌∷◌, get_or, sum, inl, inr, cases_eq, ne_eqb, eq-eqb, fun_ext, Fraction, ◌+ℚ◌, ◌*ℚ◌, ◌/ℚ◌, ◌≤ℚ◌, ◌<ℚ◌, whole, ◌^ℚ◌, sum_to, sum_pairs, ring, plus_comm, times_comm, times_assoc, one_times, times_one, times_cancel, div_times, div_pos, times_pos, whole_pos, le_refl, le_trans, le_of_eq, zero_le, times_le_both, times_le_times, sum_to_le, sum_to_same, sum_to_times, IsLeastBound, Holds, AtMost, AtLeast, Rises, Series, power, cell, gamma, gamma_of, One, Point, Joint, score, where_true}
+use Rattle.dl_model.proofs.Common.{◌≡◌, ℕ, suc, zero, ◌+◌, ◌<◌, ◌≤◌, arith, sym, ap, subst, ◌∙◌, zero-lt-suc, List, fun_ext, Fraction, ◌+ℚ◌, ◌*ℚ◌, ◌/ℚ◌, ◌≤ℚ◌, ◌<ℚ◌, whole, ◌^ℚ◌, sum_to, sum_pairs, ring, plus_comm, times_comm, times_assoc, one_times, times_cancel, div_times, div_pos, times_pos, whole_pos, le_refl, le_trans, le_of_eq, zero_le, times_le_both, IsLeastBound, Holds, AtMost, AtLeast, Rises, Series, power, cell, gamma, gamma_of, One, Joint}
 use Rattle.dl_exact.proofs.Laws.{plus_times}
-use Rattle.dl_exact.proofs.Lists.{item_le_total}
-use Rattle.dl_exact.proofs.RoundingLaws.{whole_le}
-use Rattle.dl_exact.proofs.Sums.{sum_pairs_le}
 unfoldable use Rattle.dl_model.specs.CommonFactor.{sum_over_claims}
-use Rattle.dl_model.specs.CommonFactor.{PoissonUnit, Claims, amounts, amounts_given_counts, ways_to_share, chances, expected_claims, common_sums, pooled_severity, raised_mean, AreSeverities, IsUnit}
-use Rattle.dl_model.specs.Program.{Quantity}
+use Rattle.dl_model.specs.CommonFactor.{PoissonUnit, expected_claims, common_sums, pooled_severity, raised_mean, AreSeverities, IsUnit}
 use Rattle.dl_model.proofs.GammaThin.{pos_plus, div_plus}
 use Rattle.dl_model.proofs.Gamma.{gamma_least}
 use Rattle.dl_model.proofs.Least.{least_scaled}
 use Rattle.dl_model.proofs.Declared.{scaled}
 use Rattle.dl_model.proofs.FamilyLaws.{sum_at_most, sum_at_least, sum_rises_to}
-use Rattle.dl_model.proofs.SharedClaims.{claims_times}
 use Rattle.dl_model.proofs.Pooled.{pooled_one}
 use Rattle.dl_model.proofs.SharedJoint.{joint_none, joint_next}
 
@@ -193,42 +188,3 @@ pub joint_raised : (q : ℕ) (us : List PoissonUnit) → whole 0 <ℚ expected_c
 joint_raised q us some h M past i u at x lo hi cells = joint_holds q us some h M past i u at x lo hi
     (λ k b. subst (λ w. Holds (cell w (pooled_severity us) k) (λ N. sum_to N w) (lo k) (hi k))
     (fun_ext (raised_weights q (expected_claims us))) (cells k b))
-
--- ---- no outcome is above the total
-
-claims_le : (us : List PoissonUnit) (n : ℕ) (f g : List Claims → Fraction)
-    → ((claims : List Claims) → f claims ≤ℚ g claims) → sum_over_claims us n f ≤ℚ sum_over_claims us n g
-unfolding sum_over_claims
-claims_le [] zero f g h = h []
-claims_le [] (suc n) f g h = le_refl _
-claims_le (u ∷ us) n f g h = sum_pairs_le n _ _ (λ j k e. sum_to_le (j * u.most) _ _ (λ s b. claims_le us k _ _
-    (λ claims. h (record { unit = u; count = j; amount = s } ∷ claims))))
-
-outcome_le : (i x : ℕ) (ys : List ℕ) → score (Joint i x) ys ≤ℚ whole x *ℚ score (Point x) ys
-outcome_le i x ys = elim (cases_eq (sum ys) x) [
-  | inl e ↦ subst (λ b. where_true b (whole (get_or ys i 0)) ≤ℚ whole x *ℚ where_true b (whole 1))
-      (sym (eq-eqb (sum ys) x e))
-      (subst (λ t. whole (get_or ys i 0) ≤ℚ t) (sym (times_one (whole x)))
-      (whole_le _ _ (subst (λ t. get_or ys i 0 ≤ t) e (item_le_total ys i))))
-  | inr e ↦ subst (λ b. where_true b (whole (get_or ys i 0)) ≤ℚ whole x *ℚ where_true b (whole 1))
-      (sym (ne_eqb (sum ys) x e)) (zero_le _)
-]
-
-pub joint_within : (r : ℕ) (us : List PoissonUnit) (i x N : ℕ)
-    → common_sums r us (Joint i x) N ≤ℚ whole x *ℚ common_sums r us (Point x) N
-joint_within r us i x N =
-    let A : List Claims → Fraction = amounts_given_counts in
-    let C : List Claims → Fraction = chances r (expected_claims us) in
-    let S : Quantity → ℕ → List Claims → Fraction =
-    λ quantity n claims. score quantity (amounts claims) *ℚ A claims *ℚ ways_to_share r n claims *ℚ C claims in
-    subst (λ s. common_sums r us (Joint i x) N ≤ℚ s)
-    (sum_to_same N _ _ (λ n d. claims_times us n (whole x) (S (Point x) n))
-    ∙ sum_to_times N (whole x) (λ n. sum_over_claims us n (S (Point x) n)))
-    (sum_to_le N _ _ (λ n d. claims_le us n (S (Joint i x) n) (λ claims. whole x *ℚ S (Point x) n claims) (λ claims.
-    subst (λ s. S (Joint i x) n claims ≤ℚ s)
-    (turn (whole x) (score (Point x) (amounts claims)) (A claims) (ways_to_share r n claims) (C claims))
-    (times_le_times _ _ (C claims) (times_le_times _ _ (ways_to_share r n claims)
-    (times_le_times _ _ (A claims) (outcome_le i x (amounts claims))))))))
-  where
-    turn : (a b c d e : Fraction) → a *ℚ b *ℚ c *ℚ d *ℚ e ≡ a *ℚ (b *ℚ c *ℚ d *ℚ e)
-    turn a b c d e = simp ring

@@ -16,6 +16,8 @@ use Rattle.dl_model.specs.Program.{Loss, Quantity, sum_over_outcomes, partial_su
 use Rattle.dl_model.specs.Units.{Aggregate, loss, plain}
 use Rattle.dl_model.specs.ChangedZero.{changed}
 use Rattle.dl_model.specs.Family.{Family, compound}
+use Rattle.dl_model.specs.CommonFactor.{common_sums}
+use Rattle.dl_model.specs.CommonUnits.{poisson_units}
 
 -- the weight of each number of claims
 abbrev pub count_weights : Freq → ℕ → Fraction
@@ -55,9 +57,15 @@ loss_of u = after_zero u.zero (aggregate_of u)
 abbrev pub aggregates_of : Plan → List Loss
 aggregates_of plan = map loss_of plan.units
 
--- what a plan declares: each quantity of the total of its units
+-- what units declare: each quantity of their total, where they are independent, or where they share
+-- a factor of shape r
+abbrev pub declared_by : Option ℕ → List UnitOfPlan → Quantity → Series
+declared_by None units = partial_sums (map loss_of units)
+declared_by (Some r) units = common_sums r (poisson_units units)
+
+-- what a plan declares
 abbrev pub declared : Plan → Quantity → Series
-declared plan = partial_sums (aggregates_of plan)
+declared plan = declared_by plan.common plan.units
 
 -- the sums of claims, before a clause
 abbrev pub compound_of : Freq → Sev → Family

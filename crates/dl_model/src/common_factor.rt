@@ -127,19 +127,15 @@ pub fn law_pooled_loss()
         → IsDeclaredLoss (loss (pooled_unit (suc q) us most)) }
 {}
 
-/// Under a common factor every quantity that can be asked is bounded, a unit's joint mean too; the
-/// whole weight is above 0 at some level; the declared probabilities add up to 1; and there is at
-/// most one quantile at each `p`.
+/// Under a common factor every quantity that can be asked is bounded, those of one unit too: its
+/// joint mean and its share of a tail mean. The whole weight is above 0 at some level; the declared
+/// probabilities add up to 1; and there is at most one quantile at each `p`.
 pub fn law_common_declared()
     ensures bounded { (q : ℕ) (us : List PoissonUnit) → whole 0 <ℚ expected_claims us
         → AreSeverities us
         → (most : ℕ) → ((a : ℕ) → most < a → pooled_severity us a ≡ whole 0)
-        → (quantity : Quantity) → CountsTotal quantity → IsAsked quantity
+        → (quantity : Quantity) → IsAsked quantity
         → (u : Fraction) × IsBound (common_sums (suc q) us quantity) u }
-    ensures joint { (q : ℕ) (us : List PoissonUnit) → whole 0 <ℚ expected_claims us
-        → AreSeverities us
-        → (most : ℕ) → ((a : ℕ) → most < a → pooled_severity us a ≡ whole 0) → (i x : ℕ)
-        → (u : Fraction) × IsBound (common_sums (suc q) us (Joint i x)) u }
     ensures positive { (q : ℕ) (us : List PoissonUnit) → whole 0 <ℚ expected_claims us
         → AreSeverities us
         → (most : ℕ) → ((a : ℕ) → most < a → pooled_severity us a ≡ whole 0)

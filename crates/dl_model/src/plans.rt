@@ -1,6 +1,6 @@
 //! The laws of valid plans, over the definitions alone: every quantity is bounded, the whole weight
 //! is above 0, and the probabilities add up to 1; so there is at most one quantile. Each unit
-//! declares what its parts say.
+//! declares what its parts say. All of it holds where the units share a factor, too.
 
 ghost use Rattle.std.specs.Prelude.{ℕ, ◌≡◌, ◌≢◌, ◌*◌, ◌^◌, ◌≤◌, Option, Some, None, List, [], ◌∷◌, All};
 ghost use Rattle.dl_exact.specs.Fraction.{Fraction, whole, ◌over◌, ◌*ℚ◌, ◌/ℚ◌, ◌<ℚ◌};
@@ -14,7 +14,9 @@ ghost use Rattle.dl_plan.specs.Severity.{probability_of, pairs_of, mean_amount, 
 ghost use Rattle.dl_plan.specs.Weighted.{common_amount};
 ghost use Rattle.dl_plan.specs.Clause.{Clause, kept};
 ghost use Rattle.dl_plan.specs.Count.{expected_count, IsUnbounded, IsClaimCount as IsCountOfPlan};
-ghost use Rattle.dl_plan.specs.Valid.{thinned_mean, IsNewZero, IsValidUnit, IsValid};
+ghost use Rattle.dl_plan.specs.Means.{declared_mean, thinned_mean};
+ghost use Rattle.dl_plan.specs.Valid.{IsNewZero, IsValidUnit, IsValid};
+ghost use Rattle.dl_plan.specs.Shared.{SharesFactor};
 ghost use Rattle.dl_model.specs.Series.{IsBound, AtMost, AtLeast, Holds};
 ghost use Rattle.dl_model.specs.ChangedZero.{without_none};
 ghost use Rattle.dl_model.specs.Compound.{cell};
@@ -93,7 +95,7 @@ pub fn law_expected()
 
 /// Without an aggregate clause and a changed probability of no claim the mean of a unit is its
 /// expected count times the mean of one claim; no clause raises it; and the mean of a total is the
-/// sum of the means of its units.
+/// sum of the means of its units. Where the units share a factor, each has the first of these.
 pub fn law_plan_mean()
     ensures unit { (cells : ℕ) (u : UnitOfPlan) → IsValidUnit cells u → u.cede ≡ None
         → u.zero ≡ None
@@ -109,6 +111,9 @@ pub fn law_plan_mean()
         (l u) (h u)) plan.units
         → Holds (declared plan Mean) (declared plan One) (sum_over plan.units l)
         (sum_over plan.units h) }
+    ensures common { (plan : Plan) (r : ℕ) → SharesFactor plan r
+        → Holds (declared plan Mean) (declared plan One) (sum_over plan.units declared_mean)
+        (sum_over plan.units declared_mean) }
 {}
 
 /// Thinning and division: over the positive amounts, with the thinned mean, `2^h` Poisson sums of

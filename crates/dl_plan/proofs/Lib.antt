@@ -16,3 +16,5 @@ pub mod NumeralLaws
 pub mod PlainBytes
 pub mod Buckets
 pub mod ValidUnits
+pub mod Shared
+pub mod Raised

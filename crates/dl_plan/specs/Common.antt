@@ -1,15 +1,14 @@
 -- Units that share one gamma factor of mean 1, which scales all of their expected counts.
-use Rattle.std.specs.Prelude.{ℕ, suc, ◌≡◌, ◌≤◌, ⊤, Some, None, List, length, map, take, flat_map, All}
+use Rattle.std.specs.Prelude.{ℕ, suc, ◌≡◌, ◌≤◌, ⊤, None, List, length, map, take, flat_map, All}
 use Rattle.dl_limits.specs.Limits.{most_expected, most_shape}
 use Rattle.dl_exact.specs.Fraction.{Fraction, whole, ◌over◌, ◌*ℚ◌, ◌/ℚ◌, ◌≤ℚ◌, ◌<ℚ◌}
 use Rattle.dl_exact.specs.Sum.{sum_over}
 use Rattle.dl_plan.specs.declared.plan.Freq.{Freq}
 use Rattle.dl_plan.specs.declared.plan.Freq.TheVariants.{Fixed, Table, Bernoulli, Binomial, Poisson, Gamma}
 use Rattle.dl_plan.specs.declared.plan.Unit.{Unit as UnitOfPlan}
-use Rattle.dl_plan.specs.declared.plan.Plan.{Plan}
 use Rattle.dl_plan.specs.Fine.{IsFineTo30Bits, HasPartsOf48Bits}
 use Rattle.dl_plan.specs.Count.{expected_count}
-use Rattle.dl_plan.specs.Valid.{thinned_mean, IsValid}
+use Rattle.dl_plan.specs.Means.{thinned_mean}
 
 -- a Poisson count
 abbrev pub IsPoisson : Freq → Type 0
@@ -66,18 +65,3 @@ pub record HasCommonFactor (r : ℕ) (units : List UnitOfPlan) : Type 0 where
   pub few : raised r (thinned_of units) ≤ℚ whole most_expected
   pub shares : IsFineTo30Bits (map (unit_share (expected_of units)) units)
   pub products : IsFineTo30Bits (flat_map (shared_probabilities (expected_of units)) units)
-
--- the same units without a common factor
-abbrev pub independent : Plan → Plan
-independent plan = record {
-  bs = plan.bs;
-  cells = plan.cells;
-  units = plan.units;
-  common = None;
-}
-
--- a plan whose units share a factor of shape r, and would be valid without one
-pub record SharesFactor (plan : Plan) (r : ℕ) : Type 0 where
-  pub shape : plan.common ≡ Some r
-  pub valid : IsValid (independent plan)
-  pub factor : HasCommonFactor r plan.units

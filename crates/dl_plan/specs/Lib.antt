@@ -5,10 +5,13 @@ pub mod Clause
 pub mod Horizon
 pub mod Parts
 pub mod Count
-pub mod Valid
+pub mod Means
 pub mod Common
+pub mod Valid
+pub mod Shared
 pub mod Facts
 pub mod Ranges
+pub mod Forms
 pub mod Terms
 pub mod MeanWidth
 pub mod Plain

@@ -1,7 +1,7 @@
 -- What a valid plan is.
 use Rattle.std.specs.Prelude.{ℕ, ◌≡◌, ◌≢◌, ◌*◌, ◌<◌, ◌≤◌, ◌^◌, None, IfSome, [], length, All, AllPairs}
 use Rattle.dl_limits.specs.Limits.{most_amount_at, most_expected, most_horizon, most_items, most_log2, most_units, rarest_claims, zero_bound}
-use Rattle.dl_exact.specs.Fraction.{Fraction, whole, ◌over◌, ◌-ℚ◌, ◌*ℚ◌, ◌≤ℚ◌, ◌<ℚ◌}
+use Rattle.dl_exact.specs.Fraction.{Fraction, whole, ◌over◌, ◌≤ℚ◌, ◌<ℚ◌}
 use Rattle.dl_plan.specs.declared.cede.CedeLayer.{CedeLayer}
 use Rattle.dl_plan.specs.declared.severity.Sev.{Sev}
 use Rattle.dl_plan.specs.declared.plan.Freq.{Freq}
@@ -9,19 +9,11 @@ use Rattle.dl_plan.specs.declared.plan.Unit.{Unit as UnitOfPlan}
 use Rattle.dl_plan.specs.declared.plan.Plan.{Plan}
 use Rattle.dl_plan.specs.Fine.{HasPartsOf48Bits, IsWhole}
 use Rattle.dl_plan.specs.Weighted.{common_amount}
-use Rattle.dl_plan.specs.Severity.{mean_amount, pairs_of, probability_of}
 use Rattle.dl_plan.specs.Clause.{Clause, kept, IsClause}
 use Rattle.dl_plan.specs.Horizon.{IsHorizon}
 use Rattle.dl_plan.specs.Count.{expected_count, IsUnbounded, IsExposed, IsClaimCount}
-
--- the mean of the sum of a unit's claims, in buckets: the expected count times the mean amount
-abbrev pub declared_mean : UnitOfPlan → Fraction
-declared_mean u = expected_count u.freq *ℚ mean_amount (pairs_of u.sev)
-
--- the expected number of claims above 0: the expected count times the probability of a positive
--- amount
-abbrev pub thinned_mean : UnitOfPlan → Fraction
-thinned_mean u = expected_count u.freq *ℚ (whole 1 -ℚ probability_of u.sev 0)
+use Rattle.dl_plan.specs.Means.{thinned_mean}
+use Rattle.dl_plan.specs.Common.{HasCommonFactor}
 
 -- a unit of this count and severity alone: no clause, and no change of its probability of no claim
 abbrev pub claims_alone : Freq → Sev → UnitOfPlan
@@ -65,7 +57,7 @@ pub record IsValidUnit (cells : ℕ) (u : UnitOfPlan) : Type 0 where
   pub zero : IfSome u.zero (IsNewZero u.freq)
 
 -- a bucket size above 0, a power of two from 2 to 65,536 cells, and 1 to 16 valid units with
--- different names, which share no factor
+-- different names; and where they share a gamma factor, what its shape and they keep together
 pub record IsValid (plan : Plan) : Type 0 where
   pub bucket : whole 0 <ℚ plan.bs
   pub cells : (k : ℕ) × (1 ≤ k) × (k ≤ most_log2) × (plan.cells ≡ 2 ^ k)
@@ -73,4 +65,4 @@ pub record IsValid (plan : Plan) : Type 0 where
   pub few : length plan.units ≤ most_units
   pub names : AllPairs (λ u v. u.name ≢ v.name) plan.units
   pub units : All (IsValidUnit plan.cells) plan.units
-  pub common : plan.common ≡ None
+  pub common : IfSome plan.common (λ r. HasCommonFactor r plan.units)

@@ -7,7 +7,8 @@ ghost use Rattle.dl_plan.specs.Fine.{HasPartsOf48Bits};
 ghost use Rattle.dl_plan.specs.Clause.{Clause, IsClause};
 ghost use Rattle.dl_plan.specs.Horizon.{edge, IsSettled, IsHorizon, IsHorizonOf, horizon};
 ghost use Rattle.dl_plan.specs.Count.{expected_count, IsClaimCount, IsUnbounded};
-ghost use Rattle.dl_plan.specs.Valid.{thinned_mean, IsValid};
+ghost use Rattle.dl_plan.specs.Means.{thinned_mean};
+ghost use Rattle.dl_plan.specs.Valid.{IsValid};
 ghost use Rattle.dl_frac.specs.Numerals as read;
 ghost use Rattle.dl_lexer.specs.Numerals as token;
 

@@ -64,6 +64,6 @@ pub struct Plan {
     /// The units in the order of the text.
     pub units: Items<Unit>,
     /// The shape of the gamma factor of mean 1 that all claim counts share; `None`: the units are
-    /// independent. No valid plan has such a factor yet.
+    /// independent.
     pub common: Option<u32>,
 }

@@ -10,6 +10,10 @@ pub enum Form {
     Run,
     /// It is printed in its canonical form.
     Fmt,
+    /// A certificate of its total is written.
+    Cert,
+    /// A certificate of its total, which follows the program, is checked.
+    Verify,
 }
 
 /// How a report is written.

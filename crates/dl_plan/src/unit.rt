@@ -10,7 +10,8 @@ ghost use Rattle.dl_plan.specs.Severity.{pairs_of, mean_amount, probability_of};
 ghost use Rattle.dl_plan.specs.Count.{expected_count, IsClaimCount};
 ghost use Rattle.dl_plan.specs.Clause.{IsClause};
 ghost use Rattle.dl_plan.specs.Horizon.{IsHorizonOf, HorizonPasses};
-ghost use Rattle.dl_plan.specs.Valid.{claims_alone, declared_mean, thinned_mean};
+ghost use Rattle.dl_plan.specs.Means.{declared_mean, thinned_mean};
+ghost use Rattle.dl_plan.specs.Valid.{claims_alone};
 
 use crate::item::Item;
 use crate::plan::{Freq, Unit};

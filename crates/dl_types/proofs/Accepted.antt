@@ -30,6 +30,7 @@ use Rattle.dl_amounts.proofs.SevThere.{final_there}
 use Rattle.dl_types.proofs.Aggregates.{clause_there}
 use Rattle.dl_types.proofs.PlannedCounts.{count_there}
 use Rattle.dl_types.proofs.UnitFacts.{only, both, layered_is, fine_agr, fine_sev, kept_is, grid_parts, grid_answer}
+use Rattle.dl_types.proofs.FactorKept.{shape_there}
 use Rattle.dl_types.proofs.ProgramUnits.{Planned, planned_more, planned_all, few_units, plan_of_units, formed_mixture, answer_with}
 
 -- ---- a unit
@@ -175,7 +176,8 @@ accepted program settings formed set none =
     let each = else_first (in_turn (first_fault_of settings program.port program.sevs) [] program.units) _ later in
     let yet = else_second (in_turn (first_fault_of settings program.port program.sevs) [] program.units) _ later in
     let units = units_there settings program.port program.sevs program.units formed.sevs formed.units each in
-    let plan : Plan = record { bs = settings.bs; cells = cells_asked settings; units = units.0; common = None } in
-    let answer = plan_of_units program settings plan refl refl refl set formed
+    let shape = shape_there settings program units.0 units.1 yet in
+    let plan : Plan = record { bs = settings.bs; cells = cells_asked settings; units = units.0; common = shape.0 } in
+    let answer = plan_of_units program settings plan refl refl shape.1 shape.2 set formed
     (few_units program.units many.0) many.0 names units.1 yet in
     (plan, answer.1, answer.2)

@@ -7,7 +7,9 @@ use Rattle.std.specs.Prelude.{◌||◌, ◌⊎◌}
 use Rattle.std.proofs.Math.Nat.{eq-one_of_dvd-one, eq-zero-or-pos, dvd-mul_right}
 use Rattle.std.proofs.lemmas.Bool.{eqb-true, eq-eqb}
 use Rattle.std.proofs.lemmas.Bool.Decides.{nat_tests}
+use Rattle.dl_exact.proofs.Laws.{div_pos, one_pos, times_pos, whole_pos}
 use Rattle.dl_exact.proofs.Over.{same}
+use Rattle.dl_exact.proofs.Parts.{num_pos, pos_num}
 use Rattle.dl_read.specs.Lists.{is_zero}
 use Rattle.dl_sev.proofs.Whole.{divides_whole, whole_divides, quotient_whole}
 use Rattle.dl_types.proofs.ListedCounts.{passes_is}
@@ -123,3 +125,10 @@ shape_some c r above is =
     let same_num : r ≡ c.den * c.den = sym (whole_num r) ∙ ap (λ (x : Fraction). x.num) is
     ∙ shape_num c (zero_above c.num above) in
     subst (λ k. 1 ≤ k) (sym same_num) (mul-pos c.positive c.positive)
+
+-- a shape is above 0
+pub shape_above : (r : ℕ) (c : Fraction) → is_zero c ≡ false → whole r ≡ shape_of c → 0 < r
+shape_above r c some is =
+    let above : whole 0 <ℚ c = pos_num c (zero_above c.num some) in
+    let shape = div_pos (whole 1) (c *ℚ c) (whole_pos 1 one_pos) (times_pos c c above above) in
+    subst (λ n. 0 < n) (whole_num r) (num_pos (whole r) (subst (λ x. whole 0 <ℚ x) (sym is) shape))

@@ -10,7 +10,13 @@ pub mod ExposedCounts
 pub mod FineClaims
 pub mod KeptCounts
 pub mod PlannedCounts
+pub mod RunningSums
+pub mod FactorShares
+pub mod FactorBounds
 pub mod Aggregates
 pub mod UnitFacts
 pub mod ProgramUnits
+pub mod FactorParts
+pub mod FactorKept
 pub mod Accepted
+pub mod OnePlan

@@ -129,7 +129,7 @@ made_is bs u (Exposed e f) None freq same kept made = absurd kept
 made_is bs u (Exposed e f) (Some n) freq same kept made =
     subst (λ x. IsCountWith f x freq) (given _ (expected_count bs u e) n (sym same)).0
     (subst (IsCountWith f n) (sym made) (freq_is f n kept))
-made_is bs u (Listed counts probs) n freq same kept made = made.table
+made_is bs u (Listed counts probs) n freq same kept made = (made.table, made.valid)
 
 -- an expected count that is there is admitted
 pub claims_admitted : (bs : Fraction) (u : GridUnit) (k : ReadCount) (n : Option Fraction) → n ≡ claims_of bs u k

@@ -12,8 +12,9 @@ use Rattle.dl_types.specs.Answer.{IsCheckOf}
 use Rattle.dl_amounts.proofs.Turns.{turn_found, NoneTurned, turn_passed, turn_ended}
 use Rattle.std.proofs.lemmas.List.Elements.{All-append}
 use Rattle.dl_plan.specs.declared.plan.Unit.{Unit as UnitOfPlan}
+use Rattle.dl_plan.specs.Common.{HasCommonFactor}
 use Rattle.dl_types.specs.declared.rule.Rule.TheVariants as rules
-use Rattle.dl_types.specs.Plans.{IsUnitWith, IsUnitOf}
+use Rattle.dl_types.specs.Plans.{IsUnitWith, IsUnitOf, IsSharedShape}
 use Rattle.dl_types.specs.Rules.{seventeenth, common_unit}
 unfoldable use Rattle.dl_types.specs.Faults.{fault_with, fault_of_port}
 use Rattle.dl_types.specs.Faults.{fault_of_mixture, fault_of_severity}
@@ -239,40 +240,40 @@ module _ (program : Program) (settings : Settings) where
       → first_fault program settings ≡ Some (record { unit = most_units; rule = rules.TooManyUnits; span = place })
   unfolding first_fault
   fault_of_many place e =
-      first_of many names each (fault_of_port program) _ (ap (λ p. breaks most_units rules.TooManyUnits p) e)
+      first_of many names each (fault_of_port settings program) _ (ap (λ p. breaks most_units rules.TooManyUnits p) e)
 
   pub fault_of_names : (e : CheckFault) → too_many_units program.units ≡ None → StopsAt names e
       → IsCheckOf program settings (Err e)
   unfolding first_fault
-  fault_of_names (Typing f) few told = second_of many names each (fault_of_port program) f (none_many few) told
+  fault_of_names (Typing f) few told = second_of many names each (fault_of_port settings program) f (none_many few) told
   fault_of_names OutOfMemory few told = tt
 
   pub fault_of_units : (e : CheckFault) → too_many_units program.units ≡ None → names ≡ None
       → AnswersUnits settings port sevs program.units (Err e) → IsCheckOf program settings (Err e)
   unfolding first_fault
   fault_of_units (Typing f) few fresh told =
-      third_of many names each (fault_of_port program) f (none_many few) fresh told
+      third_of many names each (fault_of_port settings program) f (none_many few) fresh told
   fault_of_units OutOfMemory few fresh told = tt
 
   pub fault_of_rest : (f : TypeFault) (made : List UnitOfPlan) → too_many_units program.units ≡ None → names ≡ None
-      → AnswersUnits settings port sevs program.units (Ok made) → fault_of_port program ≡ Some f
+      → AnswersUnits settings port sevs program.units (Ok made) → fault_of_port settings program ≡ Some f
       → first_fault program settings ≡ Some f
   unfolding first_fault
   fault_of_rest f made few fresh told rest =
-      last_of many names each (fault_of_port program) (Some f) (none_many few) fresh told.0 rest
+      last_of many names each (fault_of_port settings program) (Some f) (none_many few) fresh told.0 rest
 
   pub plan_of_units : (plan : Plan) → plan.bs ≡ settings.bs → plan.cells ≡ cells_asked settings
-      → plan.common ≡ None → IsSet settings
+      → IsSharedShape port plan.common → IfSome plan.common (λ r. HasCommonFactor r plan.units) → IsSet settings
       → IsWellFormed program → length program.units ≤ most_units
       → too_many_units program.units ≡ None → names ≡ None
-      → AnswersUnits settings port sevs program.units (Ok plan.units) → fault_of_port program ≡ None
+      → AnswersUnits settings port sevs program.units (Ok plan.units) → fault_of_port settings program ≡ None
       → IsCheckOf program settings (Ok plan)
   unfolding first_fault
-  plan_of_units plan bs cells common set formed few none fresh told rest =
+  plan_of_units plan bs cells shape factor set formed few none fresh told rest =
       let as_many : length plan.units ≡ length program.units =
       AllZip-long (IsUnitOf settings.bs sevs) program.units plan.units told.1 in (
-        last_of many names each (fault_of_port program) None (none_many none) fresh told.0 rest,
-        record { bucket = bs; cells = cells; units = told.1; common = common },
+        last_of many names each (fault_of_port settings program) None (none_many none) fresh told.0 rest,
+        record { bucket = bs; cells = cells; units = told.1; common = shape },
         record {
           bucket = subst (λ x. whole 0 <ℚ x) (sym bs) set.bucket.above;
           cells = (settings.log2, set.some, set.few, cells);
@@ -280,6 +281,6 @@ module _ (program : Program) (settings : Settings) where
           few = omega (arith, as_many, few);
           names = told.3;
           units = subst (λ n. All (IsValidUnit n) plan.units) (sym cells) told.2;
-          common = common;
+          common = factor;
         },
       )

@@ -1,10 +1,11 @@
 -- The first fault of a program: the first broken rule in the written order, with its unit and its
 -- place.
-use Rattle.std.specs.Prelude.{ℕ, ◌^◌, List, [], length, Option, Some, None}
+use Rattle.std.specs.Prelude.{ℕ, ◌^◌, List, [], length, map, Option, Some, None}
 use Rattle.dl_limits.specs.Limits.{most_amount_at, most_units}
 use Rattle.dl_exact.specs.Fraction.{Fraction}
 use Rattle.dl_lexer.specs.declared.token.Span.{Span}
 use Rattle.dl_ast.specs.declared.ast.MixAst.{MixAst}
+use Rattle.dl_ast.specs.declared.ast.Numeral.{Numeral}
 use Rattle.dl_ast.specs.declared.ast.PortHead.{PortHead}
 use Rattle.dl_ast.specs.declared.ast.SevDef.{SevDef}
 use Rattle.dl_ast.specs.declared.ast.UnitAst.{UnitAst}
@@ -15,14 +16,16 @@ use Rattle.dl_types.specs.declared.rule.Rule.TheVariants as rules
 use Rattle.dl_types.specs.declared.fault.TypeFault.{TypeFault}
 use Rattle.dl_read.specs.declared.tree.ReadUnit.{ReadUnit}
 use Rattle.dl_read.specs.Read.{read_of}
-use Rattle.dl_read.specs.First.{◌else◌, in_turn}
+use Rattle.dl_read.specs.First.{◌else◌, at_if, within, in_turn}
+use Rattle.dl_read.specs.BadNumerals.{value}
 use Rattle.dl_read.specs.Rules.{bad_numeral, bad_range, list_too_long}
 use Rattle.dl_amounts.specs.declared.grid.GridUnit.{GridUnit}
 use Rattle.dl_amounts.specs.Grid.{grid_of}
 use Rattle.dl_amounts.specs.Severity.{severity_in_layer, support}
 use Rattle.dl_amounts.specs.Rules.{lengths_differ, not_one, off_grid, too_far, weights_differ, none_above, overlap, share_above_one, off_grid_cession}
-use Rattle.dl_types.specs.Exposures.{expected_claims}
-use Rattle.dl_types.specs.Rules.{duplicate_name, zero_mean, count_not_whole, count_above_one, trials_not_whole, shape_not_whole, too_fine, too_many_claims, horizon_too_large, too_many_units, zero_base, common_unit, common_shape, duplicate_severity, shared_factor}
+use Rattle.dl_types.specs.Exposures.{expected_claims, shape_of}
+use Rattle.dl_types.specs.Factor.{Part, part_in, is_too_large}
+use Rattle.dl_types.specs.Rules.{duplicate_name, zero_mean, count_not_whole, count_above_one, trials_not_whole, shape_not_whole, too_fine, too_many_claims, horizon_too_large, too_many_units, zero_base, common_unit, common_shape, duplicate_severity}
 use Rattle.dl_types.specs.Severities.{mixture_of, body_span}
 
 -- the rule is broken by a unit at a place
@@ -134,15 +137,20 @@ abbrev pub fault_of_severity : List SevDef → SevDef → Option TypeFault
 fault_of_severity before d =
     breaks (length before) rules.DuplicateSeverity (duplicate_severity before d)
 
--- what has no value yet
-unfoldable pub not_yet : Program → Option TypeFault
-not_yet program = breaks 0 rules.NotYet (shared_factor program.port)
+-- 28 CommonSize: what the units bring is too large for the shape of the shared factor
+abbrev pub common_size : Option PortHead → List Part → Option Span
+common_size port parts = within (λ (h : PortHead). within (λ (c : Numeral).
+    at_if (is_too_large (shape_of (value c)).num parts) h.name.span) h.common) port
 
--- the rules on the whole portfolio, and then what has no value yet
-unfoldable pub fault_of_port : Program → Option TypeFault
-fault_of_port program =
+-- what the units of a program bring
+abbrev pub parts_in : Settings → Program → List Part
+parts_in settings program = map (part_in settings.bs program.sevs) program.units
+
+-- the rules on the whole portfolio
+unfoldable pub fault_of_port : Settings → Program → Option TypeFault
+fault_of_port settings program =
     breaks 0 rules.CommonShape (common_shape program.port)
-    else not_yet program
+    else breaks 0 rules.CommonSize (common_size program.port (parts_in settings program))
 
 -- more than 16 units first; then the named severities and the units in the order of the text; then
 -- the whole portfolio
@@ -151,4 +159,4 @@ first_fault program settings =
     breaks most_units rules.TooManyUnits (too_many_units program.units)
     else in_turn fault_of_severity [] program.sevs
     else in_turn (first_fault_of settings program.port program.sevs) [] program.units
-    else fault_of_port program
+    else fault_of_port settings program

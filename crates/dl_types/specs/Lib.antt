@@ -1,4 +1,5 @@
 pub mod Exposures
+pub mod Factor
 pub mod Rules
 pub mod Kept
 pub mod Listed

@@ -1,7 +1,7 @@
 -- The number and the name of each rule, as the user is told them.
 use Rattle.std.specs.Prelude.{ℕ, List, codes}
 use Rattle.dl_types.specs.declared.rule.Rule.{Rule}
-use Rattle.dl_types.specs.declared.rule.Rule.TheVariants.{DuplicateName, BadNumeral, BadRange, ListTooLong, LengthsDiffer, NotOne, OffGrid, TooFar, WeightsDiffer, NoneAbove, Overlap, ShareAboveOne, OffGridCession, ZeroMean, CountNotWhole, CountAboveOne, TrialsNotWhole, ShapeNotWhole, TooFine, TooManyClaims, HorizonTooLarge, TooManyUnits, DuplicateSeverity, UnknownSeverity, ZeroBase, CommonUnit, CommonShape, NotYet}
+use Rattle.dl_types.specs.declared.rule.Rule.TheVariants.{DuplicateName, BadNumeral, BadRange, ListTooLong, LengthsDiffer, NotOne, OffGrid, TooFar, WeightsDiffer, NoneAbove, Overlap, ShareAboveOne, OffGridCession, ZeroMean, CountNotWhole, CountAboveOne, TrialsNotWhole, ShapeNotWhole, TooFine, TooManyClaims, HorizonTooLarge, TooManyUnits, DuplicateSeverity, UnknownSeverity, ZeroBase, CommonUnit, CommonShape, CommonSize}
 
 abbrev pub rule_number : Rule → ℕ
 rule_number rule = elim rule [
@@ -32,7 +32,7 @@ rule_number rule = elim rule [
   | ZeroBase ↦ 25
   | CommonUnit ↦ 26
   | CommonShape ↦ 27
-  | NotYet ↦ 29
+  | CommonSize ↦ 28
 ]
 
 abbrev pub rule_name : Rule → List ℕ
@@ -64,5 +64,5 @@ rule_name rule = elim rule [
   | ZeroBase ↦ codes "ZeroBase"
   | CommonUnit ↦ codes "CommonUnit"
   | CommonShape ↦ codes "CommonShape"
-  | NotYet ↦ codes "NotYet"
+  | CommonSize ↦ codes "CommonSize"
 ]

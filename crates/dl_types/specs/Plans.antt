@@ -20,8 +20,11 @@ use Rattle.dl_read.specs.declared.tree.ReadList.{ReadList}
 use Rattle.dl_amounts.specs.declared.grid.GridClause.{GridClause}
 use Rattle.dl_amounts.specs.declared.grid.GridUnit.{GridUnit}
 use Rattle.dl_amounts.specs.Grid.{grid_of}
+use Rattle.dl_read.specs.BadNumerals.{value}
 use Rattle.dl_read.specs.Read.{read_of}
 use Rattle.dl_ast.specs.declared.ast.MixAst.{MixAst}
+use Rattle.dl_ast.specs.declared.ast.Numeral.{Numeral}
+use Rattle.dl_ast.specs.declared.ast.PortHead.{PortHead}
 use Rattle.dl_ast.specs.declared.ast.SevDef.{SevDef}
 use Rattle.dl_ast.specs.declared.ast.UnitAst.{UnitAst}
 use Rattle.dl_ast.specs.declared.ast.Program.{Program}
@@ -53,9 +56,10 @@ IsCountWith (Binomial p _) n freq =
     (m : ℕ) × (whole m ≡ n /ℚ p) × (freq ≡ of_plan.Binomial m p)
 IsCountWith (Gamma c _) n freq = (r : ℕ) × (whole r ≡ shape_of c) × (freq ≡ of_plan.Gamma r n)
 
+-- the claim count of the plan is that of the text, in lowest terms where it is listed
 abbrev pub IsCountOf : Fraction → GridUnit → ReadCount → Freq → Type 0
 IsCountOf bs u (Exposed exposure dist) freq = IsCountWith dist (expected_count bs u exposure) freq
-IsCountOf bs u (Listed counts probs) freq = IsTableOf counts probs freq
+IsCountOf bs u (Listed counts probs) freq = IsTableOf counts probs freq × IsClaimCount freq
 
 -- that count in numbers, where what has to be whole is
 abbrev pub freq_with : ReadFreq → Fraction → Freq
@@ -106,10 +110,20 @@ pub record IsUnitOf (bs : Fraction) (sevs : List SevDef) (u : UnitAst) (made : U
     pub named : mixture_of sevs u.sev.body ≡ Some mix
     pub unit : IsUnitWith bs u mix made
 
--- the plan of a program: the bucket size and the cells of the settings, and the units in the order
--- of the text, which share no factor
+-- the shape of a gamma factor with the coefficient of variation that is written, where one is
+abbrev pub IsWrittenShape : Option Numeral → Option ℕ → Type 0
+IsWrittenShape None shape = shape ≡ None
+IsWrittenShape (Some c) shape = (r : ℕ) × (whole r ≡ shape_of (value c)) × (shape ≡ Some r)
+
+-- that of the factor that all units of a portfolio share
+abbrev pub IsSharedShape : Option PortHead → Option ℕ → Type 0
+IsSharedShape None shape = shape ≡ None
+IsSharedShape (Some h) shape = IsWrittenShape h.common shape
+
+-- the plan of a program: the bucket size and the cells of the settings, the units in the order of
+-- the text, and the shape of the factor that they share
 pub record IsPlanOf (program : Program) (settings : Settings) (plan : Plan) : Type 0 where
   pub bucket : plan.bs ≡ settings.bs
   pub cells : plan.cells ≡ cells_asked settings
   pub units : AllZip (IsUnitOf settings.bs program.sevs) program.units plan.units
-  pub common : plan.common ≡ None
+  pub common : IsSharedShape program.port plan.common

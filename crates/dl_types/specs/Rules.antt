@@ -223,7 +223,3 @@ has_bad_shape c = is_bad_numeral c || (is_zero (value c) || not (is_whole (shape
 unfoldable pub common_shape : Option PortHead → Option Span
 common_shape = within (λ (h : PortHead).
     within (λ (c : Numeral). at_if (has_bad_shape c) c.span) h.common)
-
--- 29 NotYet: the portfolio has a shared factor
-unfoldable pub shared_factor : Option PortHead → Option Span
-shared_factor = within (λ (h : PortHead). at_if (is_some h.common) h.name.span)

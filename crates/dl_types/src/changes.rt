@@ -1,40 +1,104 @@
-//! A changed probability of no claim, and a factor that all units share: the rules on them, and
-//! that the factor has no value yet.
+//! A changed probability of no claim, and a factor that all units share: the rules on them, and the
+//! shape of the factor.
 
-ghost use Rattle.std.specs.Prelude.{◌≡◌, IfSome};
+ghost use Rattle.std.specs.Prelude.{◌≡◌, ◌<◌, true, false, map, All, None, Some, Ok, OnOk, IfOk, IfErr, IfSome};
+ghost use Rattle.dl_plan.specs.Common.{HasCommonFactor};
+ghost use Rattle.dl_types.specs.Plans.{IsSharedShape};
+ghost use Rattle.dl_read.specs.BadNumerals.{value};
+ghost use Rattle.dl_types.specs.Answer.{AnswersUnits};
+ghost use Rattle.dl_types.specs.Exposures.{shape_of};
+ghost use Rattle.dl_types.specs.Factor.{is_too_large, part_of, IsCounted};
 ghost use Rattle.dl_ast.specs.WellFormed.{IsFormedHead};
 ghost use Rattle.dl_ast.specs.declared.ast.Numeral.{Numeral};
 ghost use Rattle.dl_lexer.specs.Numerals.{IsNumeralToken};
 ghost use Rattle.dl_read.specs.First.{◌else◌, at_if, within};
-ghost use Rattle.dl_types.specs.Faults.{breaks, not_yet, fault_of_port};
-ghost use Rattle.dl_types.specs.Rules.{is_no_base, has_no_base, freq_span, zero_base, is_changed, is_poisson, is_plain_poisson, has_common, common_unit, has_bad_shape, common_shape, shared_factor};
+ghost use Rattle.dl_types.specs.Faults.{breaks, common_size, fault_of_port};
+ghost use Rattle.dl_types.specs.Rules.{is_no_base, has_no_base, freq_span, zero_base, is_changed, is_poisson, is_plain_poisson, has_common, common_unit, has_bad_shape, common_shape};
 
 use crate::counts::passes;
+use crate::factor::is_too_large;
 use crate::fault::TypeFault;
-use crate::frequencies::has_no_shape;
+use crate::frequencies::{has_no_shape, shape};
 use crate::rule::Rule;
 use dl_ast::{CountAst, FreqAst, Numeral, PortHead, Program, UnitAst, ZeroAst};
 use dl_frac::{Frac, numeral};
 use dl_lexer::Span;
 use dl_limits::MOST_EXPECTED;
+use dl_plan::{Settings, Unit};
 use dl_read::{ReadCount, ReadFreq, is_above, place_if};
 
 /// The probability of no claim is changed where at least 1 claim in so many units is expected.
 const RAREST_CLAIMS: u32 = 16;
 
-/// The first rule that a portfolio as a whole breaks, or what has no value yet.
+/// The shape of the factor that all units of a portfolio share, whose units have these in the plan,
+/// or none; or the first rule that the portfolio as a whole breaks.
 #[tactic(auto, unfolding(crate::specs::Faults::fault_of_port))]
-pub(crate) fn fault_of_port(program: &Program) -> Option<TypeFault>
-    requires { IfSome program.now.port IsFormedHead }
-    ensures { result ≡ fault_of_port program.now }
+pub(crate) fn shared_shape(
+    program: &Program,
+    settings: &Settings,
+    units: &[Unit],
+) -> Result<Option<u32>, TypeFault>
+    requires head { IfSome program.now.port IsFormedHead }
+    requires units { AnswersUnits settings.now program.now.port program.now.sevs program.now.units
+        (Ok units.now) }
+    ensures kept { OnOk result (fault_of_port settings.now program.now ≡ None) }
+    ensures shape { IfOk result (λ common. IsSharedShape program.now.port common) }
+    ensures factor { IfOk result (λ common. IfSome common (λ r. HasCommonFactor r units.now)) }
+    ensures broken { IfErr result (λ fault. fault_of_port settings.now program.now ≡ Some fault) }
 {
-    match common_shape(&program.port) {
-        Some(span) => Some(TypeFault {
+    if let Some(span) = common_shape(&program.port) {
+        return Err(TypeFault {
             unit: 0,
             rule: Rule::CommonShape,
             span,
+        });
+    }
+    match factor_shape(&program.port, units) {
+        Ok(shape) => Ok(shape),
+        Err(span) => Err(TypeFault {
+            unit: 0,
+            rule: Rule::CommonSize,
+            span,
         }),
-        None => not_yet(program),
+    }
+}
+
+/// The shape of the factor of a portfolio, or none; or the place of the portfolio's name, where its
+/// units are too large for that factor.
+fn factor_shape(port: &Option<PortHead>, units: &[Unit]) -> Result<Option<u32>, Span>
+    requires head { IfSome port.now IsFormedHead }
+    requires shape { common_shape port.now ≡ None }
+    requires counted { has_common port.now ≡ true → All IsCounted units.now }
+    ensures kept { OnOk result (common_size port.now (map part_of units.now) ≡ None) }
+    ensures shape { IfOk result (λ common. IsSharedShape port.now common) }
+    ensures small { IfOk result (λ common. IfSome common
+        (λ r. (0 < r) × (is_too_large r (map part_of units.now) ≡ false))) }
+    ensures broken { IfErr result (λ place. common_size port.now (map part_of units.now) ≡ Some place) }
+{
+    let Some(head) = port else {
+        return Ok(None);
+    };
+    let Some(variation) = &head.common else {
+        return Ok(None);
+    };
+    let shape = shape_in(variation);
+    if is_too_large(units, shape) {
+        Err(head.name.span)
+    } else {
+        Ok(Some(shape as u32))
+    }
+}
+
+/// The shape of a factor whose coefficient of variation has a whole one.
+fn shape_in(variation: &Numeral) -> u128
+    requires formed { IsNumeralToken variation.now.text }
+    requires shaped { has_bad_shape variation.now ≡ false }
+    ensures value { result ≡ (shape_of (value variation.now)).num }
+    ensures some { 0 < result }
+{
+    match numeral(variation.text.as_slice(), 11) {
+        Ok(value) => shape(value),
+        Err(_) => unreachable!(),
     }
 }
 
@@ -70,21 +134,6 @@ fn has_bad_shape(variation: &Numeral) -> bool
     match numeral(variation.text.as_slice(), 11) {
         Ok(value) => has_no_shape(value),
         Err(_) => true,
-    }
-}
-
-/// What has no value yet: `common`, at the portfolio's name.
-#[tactic(auto, unfolding(crate::specs::Faults::not_yet, crate::specs::Rules::shared_factor))]
-fn not_yet(program: &Program) -> Option<TypeFault>
-    ensures { result ≡ not_yet program.now }
-{
-    match &program.port {
-        Some(head) if head.common.is_some() => Some(TypeFault {
-            unit: 0,
-            rule: Rule::NotYet,
-            span: head.name.span,
-        }),
-        _ => None,
     }
 }
 

@@ -82,7 +82,7 @@ pub(crate) fn has_no_shape(variation: Frac) -> bool
 }
 
 /// The whole shape of a gamma factor with this coefficient of variation: 1 over its square.
-fn shape(variation: Frac) -> u128
+pub(crate) fn shape(variation: Frac) -> u128
     requires { IsShaped variation }
     ensures { whole result ≡ shape_of variation }
 {

@@ -16,3 +16,9 @@ pub fn law_accepted()
         → first_fault program settings ≡ None
         → (plan : Plan) × IsPlanOf program settings plan × IsValid plan }
 {}
+
+/// A program and settings have at most one plan.
+pub fn law_plan_unique()
+    ensures { (program : Program) (settings : Settings) (a b : Plan) → IsPlanOf program settings a
+        → IsPlanOf program settings b → a ≡ b }
+{}

@@ -5,6 +5,7 @@ mod changes;
 mod claims;
 mod counts;
 mod exposures;
+mod factor;
 mod fault;
 mod fine;
 mod frequencies;
@@ -17,6 +18,6 @@ mod severities;
 mod unit;
 
 pub use fault::{CheckFault, TypeFault};
-pub use law::law_accepted;
+pub use law::{law_accepted, law_plan_unique};
 pub use program::check;
 pub use rule::Rule;

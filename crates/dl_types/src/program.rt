@@ -9,7 +9,7 @@ ghost use Rattle.dl_types.specs.Rules.{too_many_units};
 ghost use Rattle.dl_types.specs.Kept.{IsSet};
 ghost use Rattle.dl_types.specs.Answer.{IsCheckOf, AnswersUnits};
 
-use crate::changes::fault_of_port;
+use crate::changes::shared_shape;
 use crate::fault::{CheckFault, TypeFault};
 use crate::rule::Rule;
 use crate::severities::check_severities;
@@ -23,8 +23,8 @@ use std::alloc::Global;
 
 /// The plan of a program, in buckets of the size that is set, on a grid of 2^`log2` cells; or the
 /// first broken rule, with its place. A seventeenth unit comes before all other faults, then two
-/// severities of one name, then the rules of each unit in the order of the text, and last what has
-/// no value yet.
+/// severities of one name, then the rules of each unit in the order of the text, and last those of
+/// the portfolio.
 ///
 /// It needs a program as the parser builds it, and settings in their ranges. `CheckFault::Typing`
 /// names the rule. `CheckFault::OutOfMemory` says that memory ran out.
@@ -65,14 +65,14 @@ fn planned(program: &Program, settings: &Settings, units: Items<Unit>) -> Result
     requires units { AnswersUnits settings.now program.now.port program.now.sevs program.now.units (Ok units) }
     ensures { IsCheckOf program.now settings.now result }
 {
-    match fault_of_port(program) {
-        Some(fault) => Err(CheckFault::Typing(fault)),
-        None => Ok(Plan {
+    match shared_shape(program, settings, units.as_slice()) {
+        Ok(common) => Ok(Plan {
             bs: settings.bs,
             cells: cells(settings),
             units,
-            common: None,
+            common,
         }),
+        Err(fault) => Err(CheckFault::Typing(fault)),
     }
 }
 

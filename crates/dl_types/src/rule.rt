@@ -62,12 +62,13 @@ pub enum Rule {
     CommonUnit,
     /// The coefficient of variation of `common` is a bad numeral, or its shape is no whole number.
     CommonShape,
-    /// The portfolio has `common`, which cannot be evaluated yet.
-    NotYet,
+    /// The units under `common` are too large: the shape, a sum of their claims, or the common
+    /// denominator of their shares passes its bound, or no claim is expected.
+    CommonSize,
 }
 
 impl Rule {
-    /// Its number: 1 to 27, or 29.
+    /// Its number, from 1 to 28.
     pub fn number(self) -> u32
         ensures { result ≡ rule_number self }
     {
@@ -99,7 +100,7 @@ impl Rule {
             Rule::ZeroBase => 25,
             Rule::CommonUnit => 26,
             Rule::CommonShape => 27,
-            Rule::NotYet => 29,
+            Rule::CommonSize => 28,
         }
     }
 
@@ -135,7 +136,7 @@ impl Rule {
             Rule::ZeroBase => "ZeroBase",
             Rule::CommonUnit => "CommonUnit",
             Rule::CommonShape => "CommonShape",
-            Rule::NotYet => "NotYet",
+            Rule::CommonSize => "CommonSize",
         }
     }
 }

@@ -22,7 +22,7 @@ unfoldable pub use Rattle.dl_grid.specs.Cells.{all_at_zero, high_at, low_at}
 pub use Rattle.dl_plan.proofs.Clauses.{num_le_den}
 pub use Rattle.dl_plan.proofs.Means.{severity_total, total_pos}
 pub use Rattle.dl_plan.specs.Severity.{Means, conditioned, pairs_of, probability_of}
-pub use Rattle.dl_plan.specs.Valid.{thinned_mean}
+pub use Rattle.dl_plan.specs.Means.{thinned_mean}
 pub use Rattle.dl_plan.specs.Weighted.{weight_at}
 pub use Rattle.dl_plan.specs.declared.item.Item.{Item}
 pub use Rattle.dl_plan.specs.declared.plan.Freq.TheVariants.{Gamma, Poisson}

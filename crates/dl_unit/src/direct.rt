@@ -10,7 +10,8 @@ ghost use Rattle.dl_model.specs.Family.{GridEncloses};
 ghost use Rattle.dl_model.specs.Plans.{compound_of};
 ghost use Rattle.dl_plan.specs.declared.plan.Freq.TheVariants.{Poisson, Gamma};
 ghost use Rattle.dl_plan.specs.Severity.{pairs_of, conditioned, Means};
-ghost use Rattle.dl_plan.specs.Valid.{claims_alone, thinned_mean, IsValidUnit};
+ghost use Rattle.dl_plan.specs.Means.{thinned_mean};
+ghost use Rattle.dl_plan.specs.Valid.{claims_alone, IsValidUnit};
 ghost use Rattle.dl_budget.specs.Claims.{claims_budget};
 
 use crate::unbounded::{gamma_claims, poisson_claims};

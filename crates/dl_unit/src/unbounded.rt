@@ -12,7 +12,8 @@ ghost use Rattle.dl_plan.specs.declared.severity.Sev.{Sev};
 ghost use Rattle.dl_plan.specs.Count.{IsUnbounded};
 ghost use Rattle.dl_plan.specs.Fine.{HasPartsOf48Bits};
 ghost use Rattle.dl_plan.specs.Severity.{probability_of, pairs_of, conditioned, Means};
-ghost use Rattle.dl_plan.specs.Valid.{claims_alone, thinned_mean, IsValidUnit};
+ghost use Rattle.dl_plan.specs.Means.{thinned_mean};
+ghost use Rattle.dl_plan.specs.Valid.{claims_alone, IsValidUnit};
 ghost use Rattle.dl_budget.specs.Claims.{poisson_budget, gamma_budget};
 ghost use Rattle.dl_budget.specs.Halvings.{halvings};
 

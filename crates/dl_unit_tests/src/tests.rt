@@ -4,6 +4,7 @@ mod budget;
 mod by_hand;
 mod by_hand_scores;
 mod common;
+mod factor;
 mod helpers;
 mod none;
 mod panjer;

@@ -17,7 +17,7 @@ use std::alloc::Global;
 /// none where it breaks no rule.
 type Case = (&'static [u8], Option<(u32, Rule, u32)>);
 
-const CASES: [Case; 58] = [
+const CASES: [Case; 77] = [
     (
         b"port P agg A 1 claims dsev [1] fixed agg A 1 claims dsev [1] fixed",
         Some((1, Rule::DuplicateName, 41)),
@@ -179,7 +179,7 @@ const CASES: [Case; 58] = [
     ),
     (
         b"port C common .5 agg A 3 claims dsev [1:6] occurrence net of 1 xs 2 poisson",
-        Some((0, Rule::NotYet, 5)),
+        None,
     ),
     (
         b"port C common 0.3 agg A 3 claims dsev [1] poisson",
@@ -205,13 +205,80 @@ const CASES: [Case; 58] = [
         b"port C common 0.3 agg A 3 claims dsev [1/0] poisson",
         Some((0, Rule::BadNumeral, 39)),
     ),
+    (b"port C common 1/3 agg A 3 claims dsev [1] poisson", None),
+    (b"port C common 1 agg A 3 claims dsev [1] poisson", None),
     (
-        b"port C common 1/3 agg A 3 claims dsev [1] poisson",
-        Some((0, Rule::NotYet, 5)),
+        b"port C common 0.3 agg A 0 claims dsev [1] poisson",
+        Some((0, Rule::CommonShape, 14)),
     ),
     (
-        b"port C common 1 agg A 3 claims dsev [1] poisson",
-        Some((0, Rule::NotYet, 5)),
+        b"port C common .5 agg A 0 claims dsev [1] poisson agg B 0 claims dsev [1] poisson",
+        Some((0, Rule::CommonSize, 5)),
+    ),
+    (
+        b"port C common .5 agg A 0 claims dsev [1] poisson agg B 3 claims dsev [1] poisson",
+        None,
+    ),
+    (
+        b"port C common .01 agg A 3 claims dsev [1] poisson",
+        Some((0, Rule::CommonSize, 5)),
+    ),
+    (b"port C common 1/99 agg A 3 claims dsev [1] poisson", None),
+    (
+        b"port C common .5 agg A 1/17183031745 claims dsev [1] poisson agg B 1/17201933815 claims dsev [1] poisson agg C 16362/17183031745 claims dsev [1] poisson agg D 3276/3440386763 claims dsev [1] poisson",
+        Some((0, Rule::CommonSize, 5)),
+    ),
+    (
+        b"port C common .5 agg A 1/17183015382 claims dsev [1] poisson agg B 1/17201917434 claims dsev [1] poisson agg C 2727/2863835897 claims dsev [1] poisson agg D 210/220537403 claims dsev [1] poisson",
+        None,
+    ),
+    (
+        b"port C common .5 agg A 1/1050115 claims dsev [0 1] [16362/16363 1/16363] poisson agg B 1/1050115 claims dsev [0 1] [16380/16381 1/16381] poisson agg C 1/1050115 claims dsev [0 1] [1/16363 16362/16363] poisson agg D 1/1050115 claims dsev [0 1] [1/16381 16380/16381] poisson",
+        Some((0, Rule::CommonSize, 5)),
+    ),
+    (
+        b"port C common .5 agg A 1/1050114 claims dsev [0 1] [16362/16363 1/16363] poisson agg B 1/1050114 claims dsev [0 1] [16380/16381 1/16381] poisson agg C 1/1050114 claims dsev [0 1] [1/16363 16362/16363] poisson agg D 1/1050114 claims dsev [0 1] [1/16381 16380/16381] poisson",
+        None,
+    ),
+    (
+        b"port C common 1/99 agg A 28722593792 claims dsev [0 1] [16777215/16777216 1/16777216] poisson",
+        Some((0, Rule::CommonSize, 5)),
+    ),
+    (
+        b"port C common 1/99 agg A 28705816576 claims dsev [0 1] [16777215/16777216 1/16777216] poisson",
+        None,
+    ),
+    (
+        b"port C common 1/99 agg A 1/5743801179 claims dsev [0 1] [4/5 1/5] poisson",
+        Some((0, Rule::CommonSize, 5)),
+    ),
+    (
+        b"port C common 1/99 agg A 1/5743801177 claims dsev [0 1] [4/5 1/5] poisson",
+        None,
+    ),
+    (
+        b"port C common 1 agg A 1024 claims dsev [1] poisson agg B 10241/10 claims dsev [1] poisson",
+        Some((0, Rule::CommonSize, 5)),
+    ),
+    (
+        b"port C common 1 agg A 1024 claims dsev [1] poisson agg B 1024 claims dsev [1] poisson",
+        None,
+    ),
+    (
+        b"port C common .5 agg A 1/1073741825 claims dsev [1] poisson agg B 1073741824/1073741825 claims dsev [1] poisson",
+        Some((0, Rule::CommonSize, 5)),
+    ),
+    (
+        b"port C common .5 agg A 1/1073741824 claims dsev [1] poisson agg B 1073741823/1073741824 claims dsev [1] poisson",
+        None,
+    ),
+    (
+        b"port C common .5 agg A 1 claims dsev [1] poisson agg B 1 claims dsev [1 2] [1/1073741824 1073741823/1073741824] poisson",
+        Some((0, Rule::CommonSize, 5)),
+    ),
+    (
+        b"port C common .5 agg A 1 claims dsev [1] poisson agg B 1 claims dsev [1 2] [1/536870912 536870911/536870912] poisson",
+        None,
     ),
     (
         b"port P agg A 1 claims dsev [1] fixed agg B 1 claims dsev [1] fixed agg C 1 \

@@ -5,7 +5,7 @@ use dl_words::{UsageFault, WordsFault, read_words};
 use std::alloc::{AllocError, Global};
 
 /// Words that do not fit the command.
-const MISFITS: [&str; 63] = [
+const MISFITS: [&str; 83] = [
     "",
     "run",
     "mean",
@@ -67,6 +67,26 @@ const MISFITS: [&str; 63] = [
     "fmt --mwidth 10",
     "fmt --format text",
     "fmt --make 1 --make 1",
+    "CERT",
+    "certify",
+    "cert mean",
+    "cert -- mean",
+    "cert --digits 6",
+    "cert --width 10",
+    "cert --mwidth 10",
+    "cert --format text",
+    "cert --log2 11",
+    "cert --log2 0",
+    "cert --make 1 --make 1",
+    "verify mean",
+    "verify -- mean",
+    "verify --make 0",
+    "verify --digits 6",
+    "verify --width 10",
+    "verify --mwidth 10",
+    "verify --format text",
+    "verify --log2 11",
+    "verify --bs 0",
     "--make 7",
     "-- -",
 ];
@@ -296,6 +316,39 @@ fn is_fmt(alloc: Global, line: &str) -> bool {
 fn fmt(rt: HostRuntime) {
     for line in &["fmt", "fmt --", "-- fmt", "fmt --make 0", "--make=00 fmt"] {
         assert!(rt; is_fmt(rt.alloc(), line), "{line}");
+    }
+}
+
+/// Words about a certificate, with the form, the seed that they name, the bucket size and the power
+/// of the number of cells.
+const CERTIFICATES: [(&str, Form, Option<u32>, [u64; 3]); 6] = [
+    ("cert", Form::Cert, None, [1, 1, 10]),
+    ("-- cert", Form::Cert, None, [1, 1, 10]),
+    (
+        "cert --make 7 --bs 1/2 --log2=1",
+        Form::Cert,
+        Some(7),
+        [1, 2, 1],
+    ),
+    ("verify", Form::Verify, None, [1, 1, 10]),
+    ("verify --", Form::Verify, None, [1, 1, 10]),
+    ("--log2 010 verify --bs=25", Form::Verify, None, [25, 1, 10]),
+];
+
+/// Whether the settings are these, and have no asks.
+fn are_of_certificate(settings: &Settings, form: Form, make: Option<u32>, grid: [u64; 3]) -> bool {
+    let [num, den, log2] = grid;
+    settings.form == form
+        && settings.make == make
+        && numbers(settings) == [num, den, log2, 6, 10, 1000000]
+        && settings.asks.as_slice().is_empty()
+}
+
+#[test]
+fn certificates(rt: HostRuntime) {
+    for (line, form, make, grid) in CERTIFICATES {
+        let settings = read(rt.alloc(), line).expect(&rt, "settings");
+        assert!(rt; are_of_certificate(&settings, form, make, grid), "{line}");
     }
 }
 

@@ -1,6 +1,6 @@
 //! What several files of tests share: a die, the claim of one bucket, fractions, nine digits.
 
-ghost use Rattle.std.specs.Prelude.{◌≡◌, ◌<◌, ◌≤◌, ◌^◌, All, IfOk};
+ghost use Rattle.std.specs.Prelude.{◌≡◌, ◌*◌, ◌/◌, ◌<◌, ◌≤◌, ◌^◌, All, IfOk};
 ghost use Rattle.dl_exact.specs.Fraction.{whole, ◌over◌};
 ghost use Rattle.dl_plan.specs.Severity.{probability_of};
 
@@ -51,6 +51,7 @@ pub(crate) fn fraction(num: u32, den: u32) -> Frac
 pub(crate) fn one_bucket(alloc: Global) -> Result<Sev, AllocError>
     ensures no_zero { IfOk result (λ sev. probability_of sev 0 ≡ whole 0) }
     ensures near { IfOk result (λ sev. All (λ item. item.amount ≤ 2 ^ 20) sev.items) }
+    ensures quarters { IfOk result (λ sev. sev.total * (4 / sev.total) ≡ 4) }
 {
     let mut items = Vec::new(alloc);
     items.push(Item {

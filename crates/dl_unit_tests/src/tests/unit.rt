@@ -1,6 +1,6 @@
 //! Small units: each cell holds its exact probability, worked by fractions outside the program.
 
-ghost use Rattle.std.specs.Prelude.{◌≡◌, ℕ, ◌^◌, ◌<◌, ◌≤◌, length, All, IfOk};
+ghost use Rattle.std.specs.Prelude.{◌≡◌, ℕ, ◌*◌, ◌/◌, ◌^◌, ◌<◌, ◌≤◌, length, All, IfOk};
 ghost use Rattle.dl_limits.specs.Limits.{IsPlanScale};
 ghost use Rattle.dl_exact.specs.Fraction.{whole, ◌≤ℚ◌};
 ghost use Rattle.dl_plan.specs.Fine.{HasPartsOf48Bits};
@@ -22,9 +22,10 @@ use dl_unit::{gamma_claims, poisson_claims, unit_grid};
 use std::alloc::{AllocError, Global};
 
 /// Of four claims one comes to 0, two to 1 bucket, and one to 3.
-fn claims(alloc: Global) -> Result<Sev, AllocError>
+pub(crate) fn claims(alloc: Global) -> Result<Sev, AllocError>
     ensures near { IfOk result (λ sev. All (λ item. item.amount ≤ 2 ^ 20) sev.items) }
     ensures few { IfOk result (λ sev. length sev.items ≤ 65536) }
+    ensures quarters { IfOk result (λ sev. sev.total * (4 / sev.total) ≡ 4) }
 {
     let mut items = Vec::new(alloc);
     items.push(Item {

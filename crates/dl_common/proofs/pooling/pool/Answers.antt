@@ -22,5 +22,5 @@ returns-clause-valid c = pooled_valid c.args.plan.now c.requires.0 _ c.requires.
     (returns-clause-pooled c c.requires.0 c.requires.1)
 
 pub returns-clause-same : goal.returns-clause-same
-returns-clause-same c r shares quantity total N =
-    same_declared c.args.plan.now r shares _ (returns-clause-pooled c r shares) quantity total N
+returns-clause-same c quantity total N = same_declared c.args.plan.now c.requires.0 c.requires.1 _
+    (returns-clause-pooled c c.requires.0 c.requires.1) quantity total N

@@ -2,15 +2,17 @@ use Rattle.std.proofs.Common.{◌≡◌, subst}
 use Rattle.std.proofs.lemmas.List.{length-map}
 use Rattle.dl_exact.specs.Fraction.{whole, ◌+ℚ◌, ◌-ℚ◌, ◌*ℚ◌}
 use Rattle.dl_exact.specs.Sum.{sum_below}
-use Rattle.dl_model.specs.Program.{One, Tail, Part, Share}
-use Rattle.dl_model.specs.Plans.{declared, aggregates_of, loss_of}
+use Rattle.dl_model.specs.Program.{One, Tail, Part, Share, partial_sums}
+use Rattle.dl_model.specs.Plans.{aggregates_of, loss_of}
 use Rattle.dl_model.proofs.ShareLaws.{shares_total}
 use Rattle.dl_cotail.proofs.laws.law_shares.Goals as goal
 
 pub returns : goal.returns
 returns c p u q N below part =
     let plan = c.args.plan.now in
-    subst (λ n. (whole 1 -ℚ p) *ℚ sum_below n (λ i. declared plan (Share i p q u) N) +ℚ
-    whole q *ℚ declared plan (Part q u) N
-    ≡ (whole 1 -ℚ p) *ℚ declared plan (Tail p q) N +ℚ p *ℚ whole q *ℚ declared plan One N)
-    (length-map plan.units loss_of) (shares_total p u q below part (aggregates_of plan) N)
+    let us = aggregates_of plan in
+    rw c.requires.independent
+    (subst (λ n. (whole 1 -ℚ p) *ℚ sum_below n (λ i. partial_sums us (Share i p q u) N) +ℚ
+    whole q *ℚ partial_sums us (Part q u) N
+    ≡ (whole 1 -ℚ p) *ℚ partial_sums us (Tail p q) N +ℚ p *ℚ whole q *ℚ partial_sums us One N)
+    (length-map plan.units loss_of) (shares_total p u q below part us N))

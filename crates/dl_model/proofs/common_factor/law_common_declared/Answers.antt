@@ -1,11 +1,8 @@
-use Rattle.dl_model.proofs.PooledLoss.{common_bounded, joint_bounded, common_positive, common_whole, common_quantile}
+use Rattle.dl_model.proofs.PooledLoss.{common_bounded, common_positive, common_whole, common_quantile}
 use Rattle.dl_model.proofs.common_factor.law_common_declared.Goals as goal
 
 pub returns-clause-bounded : goal.returns-clause-bounded
 returns-clause-bounded c = common_bounded
-
-pub returns-clause-joint : goal.returns-clause-joint
-returns-clause-joint c = joint_bounded
 
 pub returns-clause-positive : goal.returns-clause-positive
 returns-clause-positive c = common_positive

@@ -1,4 +1,10 @@
+use Rattle.dl_model.proofs.Common.{zero, suc, arith, subst, sym, Holds, One, Mean, sum_over}
+use Rattle.dl_plan.proofs.Shared.{has_factor}
+use Rattle.dl_plan.specs.Means.{declared_mean}
+use Rattle.dl_model.specs.Plans.{declared_by}
 use Rattle.dl_model.proofs.PlanMeans.{mean_at_most, unit_mean, units_mean}
+use Rattle.dl_model.proofs.CommonPlans.{by_factor}
+use Rattle.dl_model.proofs.CommonMeans.{shared_mean, shared_total}
 use Rattle.dl_model.proofs.plans.law_plan_mean.Goals as goal
 
 pub returns-clause-unit : goal.returns-clause-unit
@@ -8,4 +14,14 @@ pub returns-clause-most : goal.returns-clause-most
 returns-clause-most c = mean_at_most
 
 pub returns-clause-total : goal.returns-clause-total
-returns-clause-total c = λ plan l h valid each. units_mean plan.cells l h plan.units valid.units each
+returns-clause-total c plan l h valid each =
+    by_factor (λ D. Holds (D Mean) (D One) (sum_over plan.units l) (sum_over plan.units h)) plan.common plan.units
+    valid.common (units_mean plan.cells l h plan.units valid.units each)
+    (λ q factor. shared_total plan.cells q l h plan.units valid.units factor each)
+
+pub returns-clause-common : goal.returns-clause-common
+returns-clause-common c plan zero shares = absurd (omega (arith, (has_factor plan zero shares).some_shape))
+returns-clause-common c plan (suc q) shares =
+    let m = sum_over plan.units declared_mean in
+    subst (λ o. Holds (declared_by o plan.units Mean) (declared_by o plan.units One) m m) (sym shares.shape)
+    (shared_mean plan.units q (has_factor plan (suc q) shares))

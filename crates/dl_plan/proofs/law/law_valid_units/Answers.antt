@@ -1,5 +1,5 @@
 -- Each is a part of what a valid unit is.
-use Rattle.dl_plan.proofs.Common.{ℕ, List, ◌≤◌, All, arith, Option, Some, None, IfSome, Sev, Clause, IsClause, Item}
+use Rattle.dl_plan.proofs.Common.{ℕ, List, ◌≤◌, All, Option, Some, None, IfSome, Sev, Clause, IsClause, Item}
 use Rattle.dl_limits.specs.Limits.{most_amount, most_amount_at}
 use Rattle.std.proofs.Math.Nat.{le_trans}
 use Rattle.dl_limits.proofs.Scales.{amount_fits}

@@ -1,5 +1,5 @@
 -- The weights are those of the terms.
-use Rattle.dl_plan.proofs.Common.{◌≡◌, ◌∙◌, ap, sym, arith, List, map, Fraction, whole, common_denominator}
+use Rattle.dl_plan.proofs.Common.{◌≡◌, ◌∙◌, ap, sym, arith, List, map, Fraction, common_denominator}
 use Rattle.std.proofs.lemmas.Bool.Decides.{nat_tests}
 use Rattle.dl_exact.specs.Sum.{sum_over}
 use Rattle.dl_exact.proofs.Sums.{sum_over_map}

@@ -1,19 +1,32 @@
 -- What the portfolio breaks comes last.
-use Rattle.dl_types.proofs.Common.{◌∙◌, None, refl, sym}
+use Rattle.dl_types.proofs.Common.{Ok, refl, sym, subst, AnswersUnits, IfSome, List}
+use Rattle.dl_plan.specs.Common.{HasCommonFactor}
+use Rattle.dl_plan.specs.declared.plan.Unit.{Unit as UnitOfPlan}
 use Rattle.dl_types.proofs.ProgramUnits.{fault_of_rest, few_units, plan_of_units}
 use Rattle.dl_types.proofs.program.planned.Goals as goal
 
-pub fault_of_port-requires : goal.fault_of_port-requires
-fault_of_port-requires c = c.requires.formed.head
+pub shared_shape-requires : goal.shared_shape-requires
+shared_shape-requires c = record {
+  head = c.requires.formed.head;
+  units = subst
+      (λ us. AnswersUnits c.args.settings.now c.args.program.now.port c.args.program.now.sevs c.args.program.now.units (Ok us))
+      (sym c.as_slice.ensures) c.requires.units;
+}
 
-pub returns-in-Some : goal.returns-in-Some
-returns-in-Some c =
-    fault_of_rest c.args.program.now c.args.settings.now c.in-Some.fault c.args.units c.requires.few c.requires.fresh
-    c.requires.units (sym c.fault_of_port.ensures ∙ c.in-Some.is)
+pub returns-in-Err : goal.returns-in-Err
+returns-in-Err c =
+    fault_of_rest c.args.program.now c.args.settings.now c.in-Err.fault c.args.units c.requires.few c.requires.fresh
+    c.requires.units c.in-Err.ensures.broken
 
-pub returns-in-None : goal.returns-in-None
-returns-in-None c =
-    plan_of_units c.args.program.now c.args.settings.now
-    (record { bs = c.args.settings.now.bs; cells = c.cells.result; units = c.args.units; common = None }) refl
-    c.cells.ensures refl c.requires.set c.requires.formed (few_units c.args.program.now.units c.requires.few)
-    c.requires.few c.requires.fresh c.requires.units (sym c.fault_of_port.ensures ∙ c.in-None.is)
+pub returns-in-Ok : goal.returns-in-Ok
+returns-in-Ok c =
+    plan_of_units c.args.program.now c.args.settings.now (record {
+      bs = c.args.settings.now.bs;
+      cells = c.cells.result;
+      units = c.args.units;
+      common = c.in-Ok.common;
+    }) refl c.cells.ensures c.in-Ok.ensures.shape
+    (subst (λ (us : List UnitOfPlan). IfSome c.in-Ok.common (λ r. HasCommonFactor r us)) c.as_slice.ensures
+    c.in-Ok.ensures.factor)
+    c.requires.set c.requires.formed (few_units c.args.program.now.units c.requires.few) c.requires.few c.requires.fresh
+    c.requires.units c.in-Ok.ensures.kept

@@ -1,0 +1,96 @@
+-- The mean under a common factor: the sum of the means of the units.
+use Rattle.dl_model.proofs.Common.{◌≡◌, ℕ, suc, ◌≤◌, arith, sym, ap, ap₂, subst, ◌∙◌, List, [], ◌∷◌, All, Fraction, whole, ◌+ℚ◌, ◌*ℚ◌, ◌/ℚ◌, ◌<ℚ◌, ring, sum_to, sum_over, sum_to_same, sum_to_plus, sum_to_times, sum_to_zero, times_zero, plus_times, zero_times, div_times, le-max_left, le-max_right, total_pos, greatest, pairs_of, mean_amount, probability_of, expected_count, IsValidUnit, Holds, One, Mean, partial_sums, loss_of, map}
+use Rattle.dl_plan.specs.declared.plan.Unit.{Unit as UnitOfPlan}
+use Rattle.dl_plan.specs.Means.{declared_mean}
+use Rattle.dl_plan.specs.Common.{CanShare, HasCommonFactor, expected_of}
+use Rattle.dl_plan.proofs.Shares.{mean-shares}
+use Rattle.dl_model.specs.CommonFactor.{common_sums, pooled_severity, expected_claims}
+use Rattle.dl_model.specs.CommonUnits.{poisson_units}
+use Rattle.dl_model.proofs.Alike.{ends_in_order}
+use Rattle.dl_model.proofs.Bounded.{are_units, quantity_bounded, whole_positive}
+use Rattle.dl_model.proofs.Declared.{holds_wider}
+use Rattle.dl_model.proofs.ItemWeights.{shares_mean}
+use Rattle.dl_model.proofs.Outcomes.{outcomes_rise}
+use Rattle.dl_model.proofs.PooledLoss.{common_mean}
+use Rattle.dl_model.proofs.PlanUnits.{units_declared}
+use Rattle.dl_model.proofs.PlanMeans.{MeanHolds, unit_mean, units_mean}
+use Rattle.dl_model.proofs.CommonPlans.{expected_units, are_severities, pooled_over, greatest_of, pooled_past, some}
+
+-- up to any number from the greatest amount on
+one_mean : (u : UnitOfPlan) (far : ℕ) → greatest u.sev.items ≤ far
+    → sum_to far (λ j. whole j *ℚ probability_of u.sev j) ≡ mean_amount (pairs_of u.sev)
+one_mean u far near =
+    let pos = total_pos u.sev.items u.sev.total u.sev.weighted in
+    shares_mean u.sev.items u.sev.total far pos near ∙ sym (mean-shares u.sev.items u.sev.total pos)
+
+-- the mean of a claim of whatever unit, times the number of all
+mixed_mean : (v : Fraction) → whole 0 <ℚ v → (units : List UnitOfPlan) (far : ℕ) → greatest_of units ≤ far
+    → sum_to far (λ j. whole j *ℚ sum_over units (λ u. expected_count u.freq /ℚ v *ℚ probability_of u.sev j)) *ℚ v
+    ≡ sum_over units declared_mean
+unfolding sum_over
+mixed_mean v pos [] far near =
+    ap (λ t. t *ℚ v) (sum_to_zero far (λ j. whole j *ℚ whole 0) (λ j b. times_zero (whole j))) ∙ zero_times v
+mixed_mean v pos (u ∷ us) far near =
+    let share = expected_count u.freq /ℚ v in
+    let rest : ℕ → Fraction = λ j. sum_over us (λ w. expected_count w.freq /ℚ v *ℚ probability_of w.sev j) in
+    ap (λ t. t *ℚ v)
+    (sum_to_same far _ (λ j. share *ℚ (whole j *ℚ probability_of u.sev j) +ℚ whole j *ℚ rest j)
+    (λ j b. turn (whole j) share (probability_of u.sev j) (rest j))
+    ∙ sum_to_plus far _ _
+    ∙ ap (λ t. t +ℚ sum_to far (λ j. whole j *ℚ rest j))
+    (sum_to_times far share (λ j. whole j *ℚ probability_of u.sev j)
+    ∙ ap (λ m. share *ℚ m) (one_mean u far (omega (arith, near, le-max_left (greatest u.sev.items) (greatest_of us))))))
+    ∙ plus_times _ _ v
+    ∙ ap₂ (λ s t. s +ℚ t)
+    (swap share (mean_amount (pairs_of u.sev)) v
+    ∙ ap (λ t. t *ℚ mean_amount (pairs_of u.sev)) (div_times (expected_count u.freq) v pos))
+    (mixed_mean v pos us far (omega (arith, near, le-max_right (greatest u.sev.items) (greatest_of us))))
+  where
+    turn : (j s p r : Fraction) → j *ℚ (s *ℚ p +ℚ r) ≡ s *ℚ (j *ℚ p) +ℚ j *ℚ r
+    turn j s p r = simp ring
+
+    swap : (s m v : Fraction) → s *ℚ m *ℚ v ≡ s *ℚ v *ℚ m
+    swap s m v = simp ring
+
+-- ---- the mean of the total
+
+module _ (units : List UnitOfPlan) (q : ℕ) (factor : HasCommonFactor (suc q) units) where
+  claims_mean : sum_to (greatest_of units) (λ j. whole j *ℚ pooled_severity (poisson_units units) j) *ℚ
+      expected_claims (poisson_units units)
+      ≡ sum_over units declared_mean
+  claims_mean =
+      ap₂ (λ s v. s *ℚ v)
+      (sum_to_same (greatest_of units) _ _ (λ j b. ap (λ p. whole j *ℚ p) (pooled_over units j)))
+      (expected_units units)
+      ∙ mixed_mean (expected_of units) factor.some units (greatest_of units) (omega arith)
+
+  pub shared_mean : Holds (common_sums (suc q) (poisson_units units) Mean)
+      (common_sums (suc q) (poisson_units units) One)
+      (sum_over units declared_mean) (sum_over units declared_mean)
+  shared_mean = subst (λ m. Holds (common_sums (suc q) (poisson_units units) Mean)
+      (common_sums (suc q) (poisson_units units) One) m m) claims_mean
+      (common_mean q (poisson_units units) (some units q factor) (are_severities units) (greatest_of units)
+      (pooled_past units))
+
+-- units that can share a factor have their means alone
+each_mean : (cells : ℕ) (units : List UnitOfPlan) → All (IsValidUnit cells) units → All CanShare units
+    → All (λ u. MeanHolds (u ∷ []) (declared_mean u) (declared_mean u)) units
+each_mean cells units valid share k d h = unit_mean cells _ (valid k d h) (share k d h).clause (share k d h).zero
+
+-- ends of the mean of units hold it under a factor too
+pub shared_total : (cells q : ℕ) (l h : UnitOfPlan → Fraction) (units : List UnitOfPlan) → All (IsValidUnit cells) units
+    → HasCommonFactor (suc q) units → All (λ u. MeanHolds (u ∷ []) (l u) (h u)) units
+    → Holds (common_sums (suc q) (poisson_units units) Mean) (common_sums (suc q) (poisson_units units) One)
+    (sum_over units l) (sum_over units h)
+shared_total cells q l h units valid factor each =
+    let V = sum_over units declared_mean in
+    let Q = partial_sums (map loss_of units) Mean in
+    let are = units_declared cells units valid in
+    let rise = outcomes_rise (map loss_of units) (are_units (map loss_of units) are) (λ ys. whole 1) in
+    let bound = quantity_bounded (map loss_of units) One are tt in
+    let level = whole_positive (map loss_of units) are in
+    let exact = units_mean cells declared_mean declared_mean units valid (each_mean cells units valid factor.can_share) in
+    let ends = units_mean cells l h units valid each in
+    let order = ends_in_order (partial_sums (map loss_of units) One) rise bound.0 level.0 bound.1 level.1 Q in
+    holds_wider _ _ V (sum_over units l) V (sum_over units h) (order (sum_over units l) V ends.0 exact.1)
+    (order V (sum_over units h) exact.0 ends.1) (shared_mean units q factor)

@@ -1,0 +1,117 @@
+-- The bounds of units under a factor, by the units and by their parts.
+use Rattle.std.proofs.Common.{flat_map}
+use Rattle.std.proofs.Math.Bool.{or-true}
+use Rattle.std.proofs.lemmas.Bool.{lt-ltb, le-ltb, or_parts}
+use Rattle.std.proofs.lemmas.Simd.{map-map}
+use Rattle.std.proofs.lemmas.List.Folds.{flat_map-map}
+use Rattle.std.proofs.lemmas.List.Concat.{flat_map-cons}
+use Rattle.dl_types.proofs.Common.{◌≡◌, ◌∙◌, ℕ, suc, ◌==◌, inl, inr, eqb_tells, ◌<◌, ◌≤◌, ◌&&◌, ◌||◌, Bool, true, false, not, is_some, if◌then◌else◌, nat_lt, List, [], ◌∷◌, ◌++◌, map, Option, Some, None, refl, sym, ap, ap₂, arith, Fraction, whole, ◌over◌, ◌*ℚ◌, Item, ltb-false, most_shape, passes}
+use Rattle.dl_limits.specs.Limits.{most_expected}
+use Rattle.dl_plan.specs.declared.plan.Unit.{Unit as UnitOfPlan}
+use Rattle.dl_plan.specs.Common.{raised, unit_share, shared_probabilities}
+use Rattle.dl_plan.specs.Count.{expected_count}
+use Rattle.dl_plan.specs.Means.{thinned_mean}
+use Rattle.dl_read.specs.Lists.{is_fine, is_zero}
+use Rattle.dl_types.specs.Factor.{Part, part_of, claim_share, amount_shares, is_raised_coarse, passes_bounds, passes_with}
+unfoldable use Rattle.dl_types.specs.Factor.{running_sum, is_too_large}
+
+abbrev pub claims_of_units : List UnitOfPlan → Option Fraction
+claims_of_units units = running_sum (whole 0) (map (λ (u : UnitOfPlan). expected_count u.freq) units)
+
+abbrev pub above_of_units : List UnitOfPlan → Option Fraction
+above_of_units units = running_sum (whole 0) (map thinned_mean units)
+
+module _ (v : Fraction) where
+  pub claim_shares_are : (units : List UnitOfPlan) → map (claim_share v) (map part_of units) ≡ map (unit_share v) units
+  claim_shares_are units = map-map (claim_share v) part_of units
+
+  same_amounts : (u : UnitOfPlan) → amount_shares v (part_of u) ≡ shared_probabilities v u
+  same_amounts u =
+      map-map (λ p. claim_share v (part_of u) *ℚ p) (λ (item : Item). item.weight over u.sev.total) u.sev.items
+
+  pub amount_shares_are : (units : List UnitOfPlan)
+      → flat_map (amount_shares v) (map part_of units) ≡ flat_map (shared_probabilities v) units
+  amount_shares_are [] = refl
+  amount_shares_are (u ∷ us) =
+      flat_map-cons (amount_shares v) (part_of u) (map part_of us)
+      ∙ ap₂ (λ xs ys. xs ++ ys) (same_amounts u) (amount_shares_are us)
+      ∙ sym (flat_map-cons (shared_probabilities v) u us)
+
+module _ (r : ℕ) (v h : Fraction) (units : List UnitOfPlan) where
+  -- the two tests of shares, read of the units
+  pub bounds_are : passes_bounds r v h (map part_of units)
+      ≡ (is_zero v || is_raised_coarse r v || is_raised_coarse r h || passes (raised r h) most_expected
+      || not (is_fine (map (unit_share v) units)) || not (is_fine (flat_map (shared_probabilities v) units)))
+  bounds_are =
+      ap₂ (λ xs ys. is_zero v || is_raised_coarse r v || is_raised_coarse r h || passes (raised r h) most_expected
+      || not (is_fine xs) || not (is_fine ys)) (claim_shares_are v units) (amount_shares_are v units)
+
+-- the tests in the order of the code
+pub first_passes : (a b d e f g : Bool) → a ≡ true → true ≡ (a || b || d || e || f || g)
+first_passes a b d e f g h = sym (ap (λ t. t || b || d || e || f || g) h)
+
+pub second_passes : (a b d e f g : Bool) → b ≡ true → true ≡ (a || b || d || e || f || g)
+second_passes true b d e f g h = refl
+second_passes false b d e f g h = sym (ap (λ t. t || d || e || f || g) h)
+
+pub middle_passes : (a b d e f g : Bool) → (d || e) ≡ true → true ≡ (a || b || d || e || f || g)
+middle_passes true b d e f g h = refl
+middle_passes false true d e f g h = refl
+middle_passes false false true e f g h = refl
+middle_passes false false false e f g h = sym (ap (λ t. t || f || g) h)
+
+pub last_passes : (a b d e x y : Bool) → a ≡ false → b ≡ false → (d || e) ≡ false
+    → not (x && y) ≡ (a || b || d || e || not x || not y)
+last_passes true b d e x y ha hb hd = absurd cc
+last_passes false true d e x y ha hb hd = absurd cc
+last_passes false false true e x y ha hb hd = absurd cc
+last_passes false false false true x y ha hb hd = absurd cc
+last_passes false false false false true y ha hb hd = refl
+last_passes false false false false false y ha hb hd = refl
+
+pub not_zero : (n : ℕ) → (n ≡ 0 → ⊥) → (n == 0) ≡ false
+not_zero n h = elim (eqb_tells n 0) [
+  | inl e ↦ absurd (h e.1)
+  | inr e ↦ e.0
+]
+
+-- a number that is there is admitted
+pub some_admitted : (b : Bool) (x : Fraction) → is_some (if b then Some x else None) ≡ true → not b ≡ false
+some_admitted true x e = refl
+some_admitted false x e = absurd cc
+
+-- ---- with the sums
+
+module _ (r : ℕ) (units : List UnitOfPlan) (v h : Option Fraction) (claims : v ≡ claims_of_units units)
+    (above : h ≡ above_of_units units) where
+  pub large_is : is_too_large r (map part_of units)
+      ≡ (nat_lt most_shape (suc r) || passes_with r v h (map part_of units))
+  unfolding is_too_large
+  large_is =
+      ap₂ (λ x y. nat_lt most_shape (suc r) || passes_with r x y (map part_of units))
+      (ap (running_sum (whole 0)) (map-map (λ (p : Part). p.expected) part_of units) ∙ sym claims)
+      (ap (running_sum (whole 0)) (map-map (λ (p : Part). p.above) part_of units) ∙ sym above)
+
+pub large_shape : (r : ℕ) (parts : List Part) → most_shape ≤ r → true ≡ is_too_large r parts
+unfolding is_too_large
+large_shape r parts h = sym (ap (λ t. t || passes_with r (running_sum (whole 0) (map (λ (p : Part). p.expected) parts))
+    (running_sum (whole 0) (map (λ (p : Part). p.above) parts)) parts) (lt-ltb most_shape (suc r) (omega (arith, h))))
+
+pub no_claims : (r : ℕ) (units : List UnitOfPlan) → None ≡ claims_of_units units → true ≡ is_too_large r (map part_of units)
+no_claims r units none =
+    sym (large_is r units None (above_of_units units) none refl ∙ or-true (nat_lt most_shape (suc r)))
+
+pub none_above : (r : ℕ) (units : List UnitOfPlan) (v : Fraction) → Some v ≡ claims_of_units units
+    → None ≡ above_of_units units → true ≡ is_too_large r (map part_of units)
+none_above r units v claims none =
+    sym (large_is r units (Some v) None claims none ∙ or-true (nat_lt most_shape (suc r)))
+
+pub bounds_large : (r : ℕ) (units : List UnitOfPlan) (v h : Fraction) → r < most_shape → Some v ≡ claims_of_units units
+    → Some h ≡ above_of_units units → passes_bounds r v h (map part_of units) ≡ is_too_large r (map part_of units)
+bounds_large r units v h few claims above =
+    sym (large_is r units (Some v) (Some h) claims above
+    ∙ ap (λ t. t || passes_bounds r v h (map part_of units)) (le-ltb most_shape (suc r) (omega (arith, few))))
+
+pub small_shape : (r : ℕ) (parts : List Part) → is_too_large r parts ≡ false → suc r ≤ most_shape
+unfolding is_too_large
+small_shape r parts h = ltb-false most_shape (suc r) (or_parts (nat_lt most_shape (suc r)) _ h).0

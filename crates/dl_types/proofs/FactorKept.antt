@@ -1,0 +1,157 @@
+-- Units that are not too large for a factor can share it in a valid plan.
+use Rattle.std.proofs.Common.{flat_map}
+use Rattle.std.proofs.lemmas.Bool.{leb-true, or_parts}
+use Rattle.dl_types.proofs.Common.{◌≡◌, ◌∙◌, ℕ, suc, ◌<◌, ◌≤◌, ◌||◌, Bool, true, false, not, nat_lt, List, map, Option, Some, None, refl, sym, ap, subst, arith, All, ltb-false, not-false, most_shape, Fraction, whole, ◌<ℚ◌, ◌≤ℚ◌, HasPartsOf48Bits, pos_num, is_admitted, is_some, passes, Span, at_if, not_at, Ok, IfSome, Settings, Program, AnswersUnits, shape_of}
+use Rattle.dl_limits.specs.Limits.{most_expected, most_parts}
+use Rattle.dl_plan.specs.declared.plan.Unit.{Unit as UnitOfPlan}
+use Rattle.dl_plan.specs.Common.{CanShare, HasCommonFactor, expected_of, thinned_of, raised, unit_share, shared_probabilities}
+use Rattle.dl_plan.specs.Count.{expected_count}
+use Rattle.dl_plan.specs.Fine.{IsFineTo30Bits, common_denominator}
+use Rattle.dl_plan.specs.Means.{thinned_mean}
+use Rattle.dl_read.specs.Lists.{is_fine, is_zero}
+use Rattle.dl_read.proofs.ItemRanges.{not_above, zero_above}
+use Rattle.dl_types.specs.Factor.{Part, part_of, is_raised_coarse, passes_bounds, passes_with, is_too_large}
+use Rattle.dl_types.proofs.PlannedCounts.{admitted_is}
+use Rattle.dl_ast.specs.declared.ast.Numeral.{Numeral}
+use Rattle.dl_ast.specs.declared.ast.PortHead.{PortHead}
+use Rattle.dl_read.specs.BadNumerals.{value, is_bad_numeral}
+use Rattle.dl_read.specs.First.{within}
+use Rattle.dl_types.specs.Plans.{IsSharedShape, IsWrittenShape}
+use Rattle.dl_types.specs.Rules.{has_bad_shape, has_common}
+unfoldable use Rattle.dl_types.specs.Rules.{common_shape}
+use Rattle.dl_types.specs.Faults.{common_size, parts_in}
+unfoldable use Rattle.dl_types.specs.Faults.{fault_of_port}
+use Rattle.dl_types.specs.declared.rule.Rule.TheVariants as rules
+use Rattle.dl_types.proofs.ExposedCounts.{shape_above, whole_is}
+use Rattle.dl_types.proofs.UnitFacts.{both, only}
+use Rattle.dl_types.proofs.FactorParts.{all_can_share, size_place}
+use Rattle.dl_types.proofs.RunningSums.{sum_is, first_admitted}
+use Rattle.dl_types.proofs.FactorBounds.{claims_of_units, above_of_units, bounds_are, large_is}
+
+-- both sums are there, where the bounds are not passed
+both_there : (r : ℕ) (parts : List Part) (v h : Option Fraction) → passes_with r v h parts ≡ false
+    → (x : Fraction) × (y : Fraction) × (v ≡ Some x) × (h ≡ Some y) × (passes_bounds r x y parts ≡ false)
+both_there r parts None h e = absurd cc
+both_there r parts (Some v) None e = absurd cc
+both_there r parts (Some v) (Some h) e = (v, h, refl, refl, e)
+
+none_of_six : (a b d e x y : Bool) → (a || b || d || e || not x || not y) ≡ false
+    → (a ≡ false) × (b ≡ false) × (d ≡ false) × (e ≡ false) × (x ≡ true) × (y ≡ true)
+none_of_six true b d e x y h = absurd cc
+none_of_six false true d e x y h = absurd cc
+none_of_six false false true e x y h = absurd cc
+none_of_six false false false true x y h = absurd cc
+none_of_six false false false false false y h = absurd cc
+none_of_six false false false false true false h = absurd cc
+none_of_six false false false false true true h = (refl, refl, refl, refl, refl, refl)
+
+is_fine_list : (xs : List Fraction) → is_fine xs ≡ true → IsFineTo30Bits xs
+is_fine_list xs h = leb-true (common_denominator xs) most_parts h
+
+module _ (r : ℕ) (units : List UnitOfPlan) (some : 0 < r) (can : All CanShare units)
+    (kept : is_too_large r (map part_of units) ≡ false) where
+  tests : (nat_lt most_shape (suc r) ≡ false)
+      × (passes_with r (claims_of_units units) (above_of_units units) (map part_of units) ≡ false)
+  tests = or_parts (nat_lt most_shape (suc r)) _
+      (sym (large_is r units (claims_of_units units) (above_of_units units) refl refl) ∙ kept)
+
+  pub factor_kept : HasCommonFactor r units
+  factor_kept =
+      let (v, h, claims, above, bounds) = both_there r (map part_of units) (claims_of_units units)
+      (above_of_units units) tests.1 in
+      let six = none_of_six (is_zero v) (is_raised_coarse r v) (is_raised_coarse r h)
+      (passes (raised r h) most_expected) (is_fine (map (unit_share v) units))
+      (is_fine (flat_map (shared_probabilities v) units)) (sym (bounds_are r v h units) ∙ bounds) in
+      let all : v ≡ expected_of units = sum_is (λ (u : UnitOfPlan). expected_count u.freq) units v claims in
+      let thinned : h ≡ thinned_of units = sum_is thinned_mean units h above in
+      record {
+        some_shape = some;
+        few_shape = ltb-false most_shape (suc r) tests.0;
+        can_share = can;
+        some = subst (λ x. whole 0 <ℚ x) all (pos_num v (zero_above v.num six.0));
+        expected = λ k _ _. first_admitted (λ (u : UnitOfPlan). expected_count u.freq) units v claims k;
+        thinned = λ k _ _. first_admitted thinned_mean units h above k;
+        raised_expected = subst (λ x. HasPartsOf48Bits (raised r x)) all
+            (admitted_is (raised r v) (not-false _ six.1));
+        raised_thinned = subst (λ x. HasPartsOf48Bits (raised r x)) thinned
+            (admitted_is (raised r h) (not-false _ six.2));
+        few = subst (λ x. raised r x ≤ℚ whole most_expected) thinned
+            (not_above (raised r h) (whole most_expected) six.3);
+        shares = subst (λ x. IsFineTo30Bits (map (unit_share x) units)) all
+            (is_fine_list (map (unit_share v) units) six.4);
+        products = subst (λ x. IsFineTo30Bits (flat_map (shared_probabilities x) units)) all
+            (is_fine_list (flat_map (shared_probabilities v) units) six.5);
+      }
+
+-- ---- the shape that is written
+
+pub good_shape : (port : Option PortHead) (head : PortHead) (c : Numeral) → common_shape port ≡ None
+    → port ≡ Some head → head.common ≡ Some c → has_bad_shape c ≡ false
+unfolding common_shape
+good_shape port head c none is common =
+    let asked : within (λ (n : Numeral). at_if (has_bad_shape n) n.span) head.common ≡ None = rw is at none in
+    not_at _ _ (rw common at asked)
+
+pub shape_written : (port : Option PortHead) (head : PortHead) (c : Numeral) (r : ℕ) → common_shape port ≡ None
+    → port ≡ Some head → head.common ≡ Some c → r ≡ (shape_of (value c)).num → IsSharedShape port (Some r)
+shape_written port head c r none is common shape =
+    let parts = or_parts (is_bad_numeral c) _ (good_shape port head c none is common) in
+    let shaped = or_parts (is_zero (value c)) _ parts.1 in
+    let same : whole r ≡ shape_of (value c) =
+    ap whole shape ∙ whole_is (shape_of (value c)) (not-false _ shaped.1) in
+    subst (λ p. IsSharedShape p (Some r)) (sym is)
+    (subst (λ o. IsWrittenShape o (Some r)) (sym common) (r, same, refl))
+
+shape_shared : (port : Option PortHead) (r : ℕ) → IsSharedShape port (Some r) → has_common port ≡ true
+shape_shared None r h = absurd cc
+shape_shared (Some head) r h = written head.common r h
+  where
+    written : (common : Option Numeral) (r : ℕ) → IsWrittenShape common (Some r) → is_some common ≡ true
+    written None r h = absurd cc
+    written (Some c) r h = refl
+
+module _ (settings : Settings) (program : Program) (made : List UnitOfPlan)
+    (answer : AnswersUnits settings program.port program.sevs program.units (Ok made)) where
+  pub factor_there : (shape : Option ℕ) → IsSharedShape program.port shape
+      → IfSome shape (λ r. (0 < r) × (is_too_large r (map part_of made) ≡ false))
+      → IfSome shape (λ r. HasCommonFactor r made)
+  factor_there None is kept = tt
+  factor_there (Some r) is kept =
+      factor_kept r made kept.0
+      (all_can_share settings program.port program.sevs program.units made answer (shape_shared program.port r is)) kept.1
+
+-- ---- where no rule on the portfolio is broken
+
+-- a shape that the units are not too large for
+abbrev Sized : List Part → Option ℕ → Type 0
+Sized parts shape = IfSome shape (λ r. (0 < r) × (is_too_large r parts ≡ false))
+
+sized_number : (common : Option Numeral) (place : Span) (parts : List Part)
+    → within (λ (c : Numeral). at_if (has_bad_shape c) c.span) common ≡ None
+    → within (λ (c : Numeral). at_if (is_too_large (shape_of (value c)).num parts) place) common ≡ None
+    → (shape : Option ℕ) × IsWrittenShape common shape × Sized parts shape
+sized_number None place parts bad large = (None, refl, tt)
+sized_number (Some c) place parts bad large =
+    let good = or_parts (is_bad_numeral c) _ (not_at _ c.span bad) in
+    let shaped = or_parts (is_zero (value c)) _ good.1 in
+    let r : ℕ = (shape_of (value c)).num in
+    let same : whole r ≡ shape_of (value c) = whole_is (shape_of (value c)) (not-false _ shaped.1) in
+    (Some r, (r, same, refl), (shape_above r (value c) shaped.0 same, not_at _ place large))
+
+sized_shape : (port : Option PortHead) (parts : List Part) → common_shape port ≡ None → common_size port parts ≡ None
+    → (shape : Option ℕ) × IsSharedShape port shape × Sized parts shape
+unfolding common_shape
+sized_shape None parts bad large = (None, refl, tt)
+sized_shape (Some head) parts bad large = sized_number head.common head.name.span parts bad large
+
+module _ (settings : Settings) (program : Program) (made : List UnitOfPlan)
+    (answer : AnswersUnits settings program.port program.sevs program.units (Ok made)) where
+  pub shape_there : fault_of_port settings program ≡ None
+      → (shape : Option ℕ) × IsSharedShape program.port shape × IfSome shape (λ r. HasCommonFactor r made)
+  unfolding fault_of_port
+  shape_there none =
+      let parts = both 0 rules.CommonShape (common_shape program.port) _ none in
+      let size = only 0 rules.CommonSize (common_size program.port (parts_in settings program)) parts.1 in
+      let (shape, is, sized) = sized_shape program.port (map part_of made) parts.0
+      (size_place settings program made answer ∙ size) in
+      (shape, is, factor_there settings program made answer shape is sized)

@@ -1,0 +1,368 @@
+-- The parts of a plan's units are those of the program's: what is too large for a factor is so in both.
+use Rattle.std.proofs.Common.{flat_map}
+use Rattle.std.proofs.lemmas.Bool.{or_parts}
+use Rattle.std.proofs.lemmas.List.Concat.{flat_map-cons}
+use Rattle.std.proofs.lemmas.List.Elements.{All-append}
+use Rattle.std.proofs.lemmas.Nat.Gcd.{dvd_antisymm}
+use Rattle.std.specs.List.{AllZip}
+use Rattle.dl_types.proofs.Common.{◌≡◌, ◌∙◌, ℕ, zero, suc, ◌+◌, ◌<◌, ◌==◌, ◌&&◌, ◌||◌, ◌∣◌, Bool, true, false, not, cond, is_some, List, [], ◌∷◌, ◌++◌, length, map, take, get_or, nat_lt, Option, Some, None, inl, inr, refl, sym, ap, ap₂, subst, arith, All, All-nil, All-cons, All-head, All-tail, All-map, sum_by-cons, eqb_tells, Ok, most_shape, Fraction, whole, ◌over◌, ◌*ℚ◌, ◌<ℚ◌, Item, Sev, Pairs, Means, HasPartsOf48Bits, IsValidUnit, Settings, Program, UnitAst, in_turn, ◌else◌, Span, else_second, not_at, not-false, GridUnit, ReadCount, Exposed, Listed, Fixed, Poisson, Bernoulli, Binomial, Gamma, final_severity, support, first_fault_of, breaks, cells_asked, AnswersUnits}
+use Rattle.dl_exact.specs.Fraction.{◌-ℚ◌, ◌/ℚ◌}
+use Rattle.dl_exact.proofs.Denominators.{over_zero}
+use Rattle.dl_exact.proofs.Laws.{lt_not_le, le_refl}
+use Rattle.dl_plan.specs.Fine.{common_denominator}
+use Rattle.dl_plan.specs.Severity.{probability}
+use Rattle.dl_plan.specs.Weighted.{weight_at}
+use Rattle.dl_plan.specs.Count.{IsUnbounded, expected_count as expected_of_plan}
+use Rattle.dl_plan.specs.Common.{IsPoisson, CanShare}
+use Rattle.dl_plan.specs.declared.plan.Freq.{Freq}
+use Rattle.dl_plan.specs.declared.plan.Freq.TheVariants as of_plan
+use Rattle.dl_plan.specs.declared.plan.Unit.{Unit as UnitOfPlan}
+use Rattle.dl_plan.proofs.CommonDenominators.{den_divides}
+use Rattle.dl_plan.proofs.Means.{severity_total}
+use Rattle.dl_ast.specs.declared.ast.CountAst.{CountAst}
+use Rattle.dl_ast.specs.declared.ast.CountAst.TheVariants as counts
+use Rattle.dl_ast.specs.declared.ast.FreqAst.TheVariants as freqs
+use Rattle.dl_ast.specs.declared.ast.ZeroAst.TheVariants.{Plain, Truncated, Modified}
+use Rattle.dl_ast.specs.declared.ast.MixAst.{MixAst}
+use Rattle.dl_ast.specs.declared.ast.Numeral.{Numeral}
+use Rattle.dl_ast.specs.declared.ast.PortHead.{PortHead}
+use Rattle.dl_ast.specs.declared.ast.SevDef.{SevDef}
+use Rattle.dl_ast.specs.declared.ast.Cession.{Cession}
+use Rattle.dl_read.specs.BadNumerals.{value}
+use Rattle.dl_read.specs.First.{at_if, within}
+use Rattle.std.specs.Prelude.{nat_le}
+use Rattle.dl_limits.specs.Limits.{most_expected, most_parts}
+use Rattle.dl_plan.specs.Common.{raised}
+use Rattle.dl_read.specs.Lists.{is_fine, is_zero}
+unfoldable use Rattle.dl_read.specs.Numbers.{numbers_of}
+use Rattle.dl_read.specs.Numbers.{count_numbers, distribution_number, given_zero, clause_numbers, if_there}
+unfoldable use Rattle.dl_read.specs.Read.{read_of, read_numbers}
+use Rattle.dl_read.specs.Read.{read_count}
+use Rattle.dl_read.proofs.Firsts.{from_map}
+unfoldable use Rattle.dl_amounts.specs.Grid.{grid_of}
+use Rattle.dl_amounts.specs.Grid.{grid_clause}
+use Rattle.dl_amounts.proofs.ClauseLaws.{turn_none}
+use Rattle.dl_amounts.proofs.Items.{Rising, rises, none_later, item_share, items_in, support_positive}
+use Rattle.dl_amounts.proofs.Shared.{all_left, all_right, common_divides}
+use Rattle.dl_types.specs.Exposures.{shape_of}
+use Rattle.dl_types.specs.Faults.{fault_of_mixture}
+use Rattle.dl_types.specs.Faults.{common_size, parts_in}
+unfoldable use Rattle.dl_types.specs.Faults.{fault_of_port}
+use Rattle.dl_types.specs.declared.rule.Rule.TheVariants as rules
+use Rattle.dl_types.specs.Factor.{Part, claim_share, amount_shares, claims_expected, part_on, part_of_mixture, part_in, part_of, is_raised_coarse, passes_bounds, passes_with, IsCounted}
+unfoldable use Rattle.dl_types.specs.Factor.{running_sum, is_too_large}
+use Rattle.dl_types.specs.Plans.{IsCountOf, IsUnitOn, IsUnitOf, aggregate_clause}
+use Rattle.dl_types.specs.Rules.{is_poisson, is_plain_poisson, has_common, common_shape, passes}
+unfoldable use Rattle.dl_types.specs.Rules.{common_unit}
+use Rattle.dl_types.specs.Severities.{mixture_of}
+use Rattle.dl_types.proofs.UnitFacts.{only}
+
+-- ---- what holds of each probability
+
+-- so it holds of the weight of each amount that has one
+weight_holds : (Q : ℕ → Type 0) (xs : List Item) → Rising xs → (x : ℕ) → All (λ (i : Item). Q i.weight) xs
+    → 0 < weight_at xs x → Q (weight_at xs x)
+weight_holds Q [] rising x all pos = absurd (omega (arith, pos))
+weight_holds Q (i ∷ xs) rising x all pos =
+    let here = sum_by-cons (λ (j : Item). cond (j.amount == x) j.weight 0) i xs in
+    elim (eqb_tells i.amount x) [
+      | inl same ↦
+          let later : weight_at xs x ≡ 0 =
+          none_later xs x (subst (λ n. All (λ (j : Item). n < j.amount) xs) same.1 rising.0) in
+          let whole_weight : weight_at (i ∷ xs) x ≡ i.weight =
+          here ∙ ap₂ (λ b n. cond b i.weight 0 + n) same.0 later ∙ plus_none i.weight in
+          subst Q (sym whole_weight) (All-head (λ (j : Item). Q j.weight) i xs all)
+      | inr other ↦
+          let rest : weight_at (i ∷ xs) x ≡ weight_at xs x =
+          here ∙ ap (λ b. cond b i.weight 0 + weight_at xs x) other.0 ∙ none_plus (weight_at xs x) in
+          subst Q (sym rest)
+          (weight_holds Q xs rising.1 x (All-tail (λ (j : Item). Q j.weight) i xs all) (subst (λ n. 0 < n) rest pos))
+    ]
+  where
+    none_plus : (w : ℕ) → 0 + w ≡ w
+    none_plus w = omega arith
+
+    plus_none : (w : ℕ) → w + 0 ≡ w
+    plus_none w = omega arith
+
+some_weight : (w t : ℕ) → 0 < t → whole 0 <ℚ w over t → 0 < w
+some_weight zero t pos h =
+    absurd (lt_not_le (whole 0) (whole 0) (subst (λ y. whole 0 <ℚ y) (over_zero t pos) h) (le_refl (whole 0)))
+some_weight (suc w) t pos h = omega arith
+
+module _ (P : Fraction → Type 0) (sev : Sev) (ps : Pairs) (means : Means sev ps) where
+  items_hold : All P (map (probability ps) (support ps)) → All P (map (λ (i : Item). i.weight over sev.total) sev.items)
+  items_hold all =
+      All-map P (λ (i : Item). i.weight over sev.total) sev.items
+      (λ k d h. subst P (sym (item_share sev ps means k d h))
+      (items_in sev ps means (λ x. P (probability ps x)) (from_map P (probability ps) (support ps) all) k d h))
+
+  support_holds : All P (map (λ (i : Item). i.weight over sev.total) sev.items)
+      → All P (map (probability ps) (support ps))
+  support_holds all =
+      All-map P (probability ps) (support ps)
+      (λ k d h. subst P (means (get_or (support ps) k d))
+      (weight_holds (λ w. P (w over sev.total)) sev.items (rises sev.items sev.weighted.rising) (get_or (support ps) k d)
+      (from_map P (λ (i : Item). i.weight over sev.total) sev.items all)
+      (some_weight (weight_at sev.items (get_or (support ps) k d)) sev.total (severity_total sev)
+      (subst (λ y. whole 0 <ℚ y) (sym (means (get_or (support ps) k d))) (support_positive ps k d h)))))
+
+-- ---- equal parts
+
+-- s times each probability has a denominator that divides m
+abbrev Divides : Fraction → ℕ → List Fraction → Type 0
+Divides s m ps = All (λ p. (s *ℚ p).den ∣ m) ps
+
+-- the same numbers, and the same values among the probabilities
+record SamePart (p q : Part) : Type 0 where
+  pub expected : p.expected ≡ q.expected
+  pub above : p.above ≡ q.above
+  pub there : (s : Fraction) (m : ℕ) → Divides s m p.probabilities → Divides s m q.probabilities
+  pub back : (s : Fraction) (m : ℕ) → Divides s m q.probabilities → Divides s m p.probabilities
+
+map_alike : (f : Part → Fraction) → ((p q : Part) → SamePart p q → f p ≡ f q) → (ps qs : List Part)
+    → AllZip SamePart ps qs → map f ps ≡ map f qs
+map_alike f alike [] [] h = refl
+map_alike f alike [] (q ∷ qs) h = absurd h
+map_alike f alike (p ∷ ps) [] h = absurd h
+map_alike f alike (p ∷ ps) (q ∷ qs) h = ap₂ (λ x xs. x ∷ xs) (alike p q h.0) (map_alike f alike ps qs h.1)
+
+turned : (p q : Part) → SamePart p q → SamePart q p
+turned p q h = record { expected = sym h.expected; above = sym h.above; there = h.back; back = h.there }
+
+all_turned : (ps qs : List Part) → AllZip SamePart ps qs → AllZip SamePart qs ps
+all_turned [] [] h = tt
+all_turned [] (q ∷ qs) h = absurd h
+all_turned (p ∷ ps) [] h = absurd h
+all_turned (p ∷ ps) (q ∷ qs) h = (turned p q h.0, all_turned ps qs h.1)
+
+module _ (v : Fraction) (m : ℕ) where
+  abbrev D : Fraction → Type 0
+  D x = x.den ∣ m
+
+  amounts_divide : (ps qs : List Part) → AllZip SamePart ps qs → All D (flat_map (amount_shares v) ps)
+      → All D (flat_map (amount_shares v) qs)
+  amounts_divide [] [] h all = all
+  amounts_divide [] (q ∷ qs) h all = absurd h
+  amounts_divide (p ∷ ps) [] h all = absurd h
+  amounts_divide (p ∷ ps) (q ∷ qs) h all =
+      let those = subst (All D) (flat_map-cons (amount_shares v) p ps) all in
+      let mine : Divides (claim_share v p) m p.probabilities =
+      from_map D (λ x. claim_share v p *ℚ x) p.probabilities
+      (all_left D (amount_shares v p) (flat_map (amount_shares v) ps) those) in
+      let its : Divides (claim_share v q) m q.probabilities =
+      subst (λ n. Divides (n /ℚ v) m q.probabilities) h.0.expected (h.0.there (claim_share v p) m mine) in
+      subst (All D) (sym (flat_map-cons (amount_shares v) q qs))
+      (All-append D (amount_shares v q) (flat_map (amount_shares v) qs)
+      (All-map D (λ x. claim_share v q *ℚ x) q.probabilities its)
+      (amounts_divide ps qs h.1 (all_right D (amount_shares v p) (flat_map (amount_shares v) ps) those)))
+
+module _ (ps qs : List Part) (h : AllZip SamePart ps qs) (v : Fraction) where
+  abbrev amounts : List Part → List Fraction
+  amounts xs = flat_map (amount_shares v) xs
+
+  same_denominator : common_denominator (amounts ps) ≡ common_denominator (amounts qs)
+  same_denominator =
+      dvd_antisymm
+      (common_divides (amounts ps) (common_denominator (amounts qs))
+      (amounts_divide v (common_denominator (amounts qs)) qs ps (all_turned ps qs h) (den_divides 1 (amounts qs))))
+      (common_divides (amounts qs) (common_denominator (amounts ps))
+      (amounts_divide v (common_denominator (amounts ps)) ps qs h (den_divides 1 (amounts ps))))
+
+  same_bounds : (r : ℕ) (u : Fraction) → passes_bounds r v u ps ≡ passes_bounds r v u qs
+  same_bounds r u =
+      ap₂ (λ xs n. is_zero v || is_raised_coarse r v || is_raised_coarse r u || passes (raised r u) most_expected
+      || not (is_fine xs) || not (nat_le n most_parts))
+      (map_alike (claim_share v) (λ p q s. ap (λ n. n /ℚ v) s.expected) ps qs h) same_denominator
+
+same_with : (ps qs : List Part) → AllZip SamePart ps qs → (r : ℕ) (v u : Option Fraction)
+    → passes_with r v u ps ≡ passes_with r v u qs
+same_with ps qs h r None u = refl
+same_with ps qs h r (Some v) None = refl
+same_with ps qs h r (Some v) (Some u) = same_bounds ps qs h v r u
+
+large_alike : (r : ℕ) (ps qs : List Part) → AllZip SamePart ps qs → is_too_large r ps ≡ is_too_large r qs
+unfolding is_too_large
+large_alike r ps qs h =
+    ap (λ b. nat_lt most_shape (suc r) || b)
+    (ap₂ (λ xs ys. passes_with r (running_sum (whole 0) xs) (running_sum (whole 0) ys) ps)
+    (map_alike (λ (p : Part). p.expected) (λ p q s. s.expected) ps qs h)
+    (map_alike (λ (p : Part). p.above) (λ p q s. s.above) ps qs h)
+    ∙ same_with ps qs h r (running_sum (whole 0) (map (λ (q : Part). q.expected) qs))
+    (running_sum (whole 0) (map (λ (q : Part). q.above) qs)))
+
+-- ---- a unit
+
+poisson_claims : (bs : Fraction) (g : GridUnit) (k : ReadCount) (freq : Freq) → IsPoisson freq → IsCountOf bs g k freq
+    → claims_expected bs g k ≡ expected_of_plan freq
+poisson_claims bs g (Exposed e (Fixed _)) freq poisson is = absurd (subst IsPoisson is.2 poisson)
+poisson_claims bs g (Exposed e (Poisson _)) freq poisson is = sym (ap expected_of_plan is)
+poisson_claims bs g (Exposed e (Bernoulli _)) freq poisson is = absurd (subst IsPoisson is poisson)
+poisson_claims bs g (Exposed e (Binomial p _)) freq poisson is = absurd (subst IsPoisson is.2 poisson)
+poisson_claims bs g (Exposed e (Gamma c _)) freq poisson is = absurd (subst IsPoisson is.2 poisson)
+poisson_claims bs g (Listed counted probs) freq poisson is = absurd (subst IsPoisson is.0.2 poisson)
+
+same_on : (bs : Fraction) (text : List ℕ) (g : GridUnit) (made : UnitOfPlan) → IsPoisson made.freq
+    → IsUnitOn bs text g made → SamePart (part_on bs g) (part_of made)
+same_on bs text g made poisson is =
+    let claims = poisson_claims bs g g.count made.freq poisson is.count in
+    record {
+      expected = claims;
+      above = ap₂ (λ n p. n *ℚ (whole 1 -ℚ p)) claims (sym (is.severity 0));
+      there = λ s m. items_hold (λ p. (s *ℚ p).den ∣ m) made.sev (final_severity g) is.severity;
+      back = λ s m. support_holds (λ p. (s *ℚ p).den ∣ m) made.sev (final_severity g) is.severity;
+    }
+
+same_part : (bs : Fraction) (sevs : List SevDef) (u : UnitAst) (made : UnitOfPlan) → IsPoisson made.freq
+    → IsUnitOf bs sevs u made → SamePart (part_in bs sevs u) (part_of made)
+same_part bs sevs u made poisson is =
+    subst (λ o. SamePart (part_of_mixture bs u o) (part_of made)) (sym is.named)
+    (same_on bs u.name.text (grid_of bs (read_of u is.mix)) made poisson is.unit)
+
+same_parts : (bs : Fraction) (sevs : List SevDef) (us : List UnitAst) (made : List UnitOfPlan) → All CanShare made
+    → AllZip (IsUnitOf bs sevs) us made → AllZip SamePart (map (part_in bs sevs) us) (map part_of made)
+same_parts bs sevs [] [] can h = tt
+same_parts bs sevs [] (m ∷ ms) can h = absurd h
+same_parts bs sevs (u ∷ us) [] can h = absurd h
+same_parts bs sevs (u ∷ us) (m ∷ ms) can h = (
+  same_part bs sevs u m (All-head CanShare m ms can).count h.0,
+  same_parts bs sevs us ms (All-tail CanShare m ms can) h.1,
+)
+
+-- ---- a unit that can share a factor
+
+grid_count : (bs : Fraction) (u : UnitAst) (m : MixAst)
+    → (grid_of bs (read_of u m)).count ≡ read_count (count_numbers u.count) (distribution_number u.count)
+unfolding grid_of read_of read_numbers numbers_of
+grid_count bs u m = refl
+
+grid_zero : (bs : Fraction) (u : UnitAst) (m : MixAst) → (grid_of bs (read_of u m)).zero ≡ given_zero u.count
+unfolding grid_of read_of read_numbers numbers_of
+grid_zero bs u m = refl
+
+grid_agr : (bs : Fraction) (u : UnitAst) (m : MixAst)
+    → (grid_of bs (read_of u m)).agr ≡ if_there (grid_clause bs) (if_there clause_numbers u.agr)
+unfolding grid_of read_of read_numbers numbers_of
+grid_agr bs u m = refl
+
+plain_poisson : (bs : Fraction) (g : GridUnit) (k : CountAst) (freq : Freq) → is_plain_poisson k ≡ true
+    → IsCountOf bs g (read_count (count_numbers k) (distribution_number k)) freq → IsPoisson freq
+plain_poisson bs g (counts.Exposed e (freqs.Fixed _) z) freq plain is = absurd cc
+plain_poisson bs g (counts.Exposed e (freqs.Poisson _) z) freq plain is = subst IsPoisson (sym is) tt
+plain_poisson bs g (counts.Exposed e (freqs.Geometric _) z) freq plain is = absurd cc
+plain_poisson bs g (counts.Exposed e (freqs.Bernoulli _) z) freq plain is = absurd cc
+plain_poisson bs g (counts.Exposed e (freqs.Binomial p _) z) freq plain is = absurd cc
+plain_poisson bs g (counts.Exposed e (freqs.Gamma c _) z) freq plain is = absurd cc
+plain_poisson bs g (counts.Listed counted probs span) freq plain is = absurd cc
+
+second_of_both : (a b : Bool) → (a && b) ≡ true → b ≡ true
+second_of_both true b e = e
+second_of_both false b e = absurd cc
+
+plain_zero : (k : CountAst) → is_plain_poisson k ≡ true → given_zero k ≡ None
+plain_zero (counts.Exposed e f Plain) plain = refl
+plain_zero (counts.Exposed e f (Truncated _)) plain =
+    absurd (let kept : false ≡ true = second_of_both (is_poisson f) false plain in cc)
+plain_zero (counts.Exposed e f (Modified n _)) plain =
+    absurd (let kept : false ≡ true = second_of_both (is_poisson f) false plain in cc)
+plain_zero (counts.Listed counted probs span) plain = refl
+
+none_there : (o : Option Cession) → is_some o ≡ false → o ≡ None
+none_there None e = refl
+none_there (Some c) e = absurd cc
+
+module _ (port : Option PortHead) (shared : has_common port ≡ true) (bs : Fraction) (sevs : List SevDef) where
+  can_share : (u : UnitAst) (made : UnitOfPlan) → common_unit port u ≡ None → IsUnitOf bs sevs u made → CanShare made
+  unfolding common_unit
+  can_share u made kept is =
+      let parts = or_parts (not (is_plain_poisson u.count)) (is_some u.agr)
+      (ap (λ b. b && (not (is_plain_poisson u.count) || is_some u.agr)) (sym shared) ∙ not_at _ u.name.span kept) in
+      let plain : is_plain_poisson u.count ≡ true = not-false _ parts.0 in
+      let g = grid_of bs (read_of u is.mix) in
+      record {
+        count = plain_poisson bs g u.count made.freq plain
+            (subst (λ k. IsCountOf bs g k made.freq) (grid_count bs u is.mix) is.unit.count);
+        clause = is.unit.clause ∙ ap aggregate_clause (grid_agr bs u is.mix
+            ∙ ap (λ o. if_there (grid_clause bs) (if_there clause_numbers o)) (none_there u.agr parts.1));
+        zero = is.unit.zero ∙ grid_zero bs u is.mix ∙ plain_zero u.count plain;
+      }
+
+  all_share : (us : List UnitAst) (made : List UnitOfPlan) → All (λ u. common_unit port u ≡ None) us
+      → AllZip (IsUnitOf bs sevs) us made → All CanShare made
+  all_share [] [] kept h = All-nil CanShare
+  all_share [] (m ∷ ms) kept h = absurd h
+  all_share (u ∷ us) [] kept h = absurd h
+  all_share (u ∷ us) (m ∷ ms) kept h =
+      All-cons CanShare m ms (can_share u m (All-head (λ v. common_unit port v ≡ None) u us kept) h.0)
+      (all_share us ms (All-tail (λ v. common_unit port v ≡ None) u us kept) h.1)
+
+poisson_unbounded : (freq : Freq) → IsPoisson freq → IsUnbounded freq
+poisson_unbounded (of_plan.Fixed m) h = absurd h
+poisson_unbounded (of_plan.Table table total) h = absurd h
+poisson_unbounded (of_plan.Bernoulli q) h = absurd h
+poisson_unbounded (of_plan.Binomial trials q) h = absurd h
+poisson_unbounded (of_plan.Poisson mean) h = tt
+poisson_unbounded (of_plan.Gamma shape mean) h = absurd h
+
+-- ---- the units of a portfolio that break no rule
+
+module _ (settings : Settings) (port : Option PortHead) (sevs : List SevDef) (units : List UnitAst)
+    (made : List UnitOfPlan) (answer : AnswersUnits settings port sevs units (Ok made))
+    (shared : has_common port ≡ true) where
+  kept_units : All (λ u. common_unit port u ≡ None) units
+  unfolding first_fault_of
+  kept_units k d h =
+      let before : List UnitAst = take k units in
+      let u : UnitAst = get_or units k d in
+      only (length before) rules.CommonUnit (common_unit port u)
+      (else_second (fault_of_mixture settings before u (mixture_of sevs u.sev.body)) _
+      (turn_none (first_fault_of settings port sevs) [] units answer.0 k d h))
+
+  pub all_can_share : All CanShare made
+  all_can_share = all_share port shared settings.bs sevs units made kept_units answer.1
+
+  pub all_counted : All IsCounted made
+  all_counted k d h =
+      let u : UnitOfPlan = get_or made k d in
+      let valid : IsValidUnit (cells_asked settings) u = answer.2 k d h in
+      record {
+        count = valid.count;
+        expected = valid.expected;
+        thinned = (valid.thinned (poisson_unbounded u.freq (all_can_share k d h).count)).0;
+      }
+
+  pub large_parts : (r : ℕ) → is_too_large r (map part_of made) ≡ is_too_large r (map (part_in settings.bs sevs) units)
+  large_parts r =
+      sym (large_alike r (map (part_in settings.bs sevs) units) (map part_of made)
+      (same_parts settings.bs sevs units made all_can_share answer.1))
+
+-- the place of the rule, by the units of the plan
+pub size_place : (settings : Settings) (program : Program) (made : List UnitOfPlan)
+    → AnswersUnits settings program.port program.sevs program.units (Ok made)
+    → common_size program.port (map part_of made) ≡ common_size program.port (parts_in settings program)
+size_place settings program made answer = at_port program.port refl
+  where
+    at_common : (h : PortHead) (common : Option Numeral) → h.common ≡ common → program.port ≡ Some h
+        → within (λ (c : Numeral). at_if (is_too_large (shape_of (value c)).num (map part_of made)) h.name.span) common
+        ≡ within (λ (c : Numeral).
+        at_if (is_too_large (shape_of (value c)).num (parts_in settings program)) h.name.span) common
+    at_common h None e is = refl
+    at_common h (Some c) e is =
+        ap (λ b. at_if b h.name.span)
+        (large_parts settings program.port program.sevs program.units made answer
+        (ap has_common is ∙ ap is_some e) (shape_of (value c)).num)
+
+    at_port : (port : Option PortHead) → program.port ≡ port
+        → common_size port (map part_of made) ≡ common_size port (parts_in settings program)
+    at_port None e = refl
+    at_port (Some h) e = at_common h h.common refl e
+
+-- where the shape is good, the size is asked
+pub size_last : (settings : Settings) (program : Program) (made : List UnitOfPlan) (place : Option Span)
+    → AnswersUnits settings program.port program.sevs program.units (Ok made)
+    → None ≡ common_shape program.port → common_size program.port (map part_of made) ≡ place
+    → fault_of_port settings program ≡ breaks 0 rules.CommonSize place
+unfolding fault_of_port
+size_last settings program made place answer shape is =
+    ap₂ (λ s p. breaks 0 rules.CommonShape s else breaks 0 rules.CommonSize p) (sym shape)
+    (sym (size_place settings program made answer) ∙ is)

@@ -1,0 +1,265 @@
+-- A program and settings have one plan.
+use Rattle.std.proofs.Common.{◌⊎◌}
+use Rattle.std.proofs.Math.Nat.{ℕ_set, eq_of_mul-eq-mul_right}
+use Rattle.std.proofs.Math.Bridge.{le_prop}
+use Rattle.std.specs.List.{AllZip}
+use mathlib.Core.HLevel.{is_prop→PathP}
+use Rattle.dl_types.proofs.Common.{◌≡◌, ◌∙◌, ℕ, zero, suc, ◌+◌, ◌*◌, ◌<◌, ◌≤◌, ◌==◌, cond, true, false, List, [], ◌∷◌, map, get_or, Option, Some, None, inl, inr, refl, sym, ap, ap₂, subst, arith, mul-pos, All, All-head, All-tail, sum_by-cons, eqb_tells, Fraction, whole, whole_num, ◌over◌, Item, Sev, Pairs, Means, Plan, Settings, Program, UnitAst, GridUnit, ReadCount, Exposed, Listed, Fixed, Poisson, Bernoulli, Binomial, Gamma, final_severity, pairs_of_counts}
+use Rattle.std.proofs.lemmas.Bool.{cases_lt}
+use Rattle.dl_exact.proofs.Laws.{le_of_eq}
+use Rattle.dl_exact.proofs.Over.{le_over}
+use Rattle.dl_plan.specs.declared.plan.Freq.{Freq}
+use Rattle.dl_plan.specs.declared.plan.Freq.TheVariants as of_plan
+use Rattle.dl_plan.specs.declared.plan.Unit.{Unit as UnitOfPlan}
+use Rattle.dl_plan.specs.Count.{IsClaimCount}
+use Rattle.dl_plan.specs.Severity.{probability}
+use Rattle.dl_plan.specs.Weighted.{IsWeighted, weight_at, common_weight}
+use Rattle.dl_plan.proofs.Weights.{common_from, common-times, times, weight_sum_pos}
+use Rattle.dl_amounts.proofs.Items.{Rising, rises, none_later}
+use Rattle.dl_amounts.specs.Grid.{grid_of}
+use Rattle.dl_read.specs.Read.{read_of}
+use Rattle.dl_read.specs.declared.tree.ReadList.{ReadList}
+use Rattle.dl_ast.specs.declared.ast.MixAst.{MixAst}
+use Rattle.dl_ast.specs.declared.ast.Numeral.{Numeral}
+use Rattle.dl_ast.specs.declared.ast.PortHead.{PortHead}
+use Rattle.dl_ast.specs.declared.ast.SevDef.{SevDef}
+use Rattle.dl_types.specs.Exposures.{expected_count}
+use Rattle.dl_types.specs.Plans.{IsTableOf, IsCountWith, IsCountOf, IsUnitOn, IsUnitOf, IsWrittenShape, IsSharedShape, IsPlanOf}
+
+-- ---- whole weights are told by the probabilities that they mean
+
+-- two lists of items have the same amounts, with weights in the ratio T to V
+abbrev Alike : ℕ → ℕ → Item → Item → Type 0
+Alike T V x y = (x.amount ≡ y.amount) × (x.weight * V ≡ y.weight * T)
+
+abbrev InRatio : ℕ → ℕ → List Item → List Item → Type 0
+InRatio T V xs ys = (a : ℕ) → weight_at xs a * V ≡ weight_at ys a * T
+
+abbrev Positive : List Item → Type 0
+Positive xs = All (λ (i : Item). 0 < i.weight) xs
+
+-- the weight of the first amount, and of the others
+first_weight : (x : Item) (xs : List Item) → Rising (x ∷ xs) → weight_at (x ∷ xs) x.amount ≡ x.weight
+first_weight x xs rising =
+    sum_by-cons (λ (j : Item). cond (j.amount == x.amount) j.weight 0) x xs
+    ∙ ap₂ (λ a b. a + b) (itself x.amount x.weight) (none_later xs x.amount rising.0) ∙ plus_none x.weight
+  where
+    itself : (a w : ℕ) → cond (a == a) w 0 ≡ w
+    itself a w = grind arith
+
+    plus_none : (w : ℕ) → w + 0 ≡ w
+    plus_none w = omega arith
+
+other_weight : (x : Item) (xs : List Item) (a : ℕ) → (x.amount == a) ≡ false → weight_at (x ∷ xs) a ≡ weight_at xs a
+other_weight x xs a other =
+    sum_by-cons (λ (j : Item). cond (j.amount == a) j.weight 0) x xs
+    ∙ ap (λ b. cond b x.weight 0 + weight_at xs a) other ∙ none_plus (weight_at xs a)
+  where
+    none_plus : (w : ℕ) → 0 + w ≡ w
+    none_plus w = omega arith
+
+-- an amount below all has no weight
+no_weight : (x : Item) (xs : List Item) (a : ℕ) → Rising (x ∷ xs) → a < x.amount → weight_at (x ∷ xs) a ≡ 0
+no_weight x xs a rising h =
+    none_later (x ∷ xs) a above
+  where
+    above : All (λ (i : Item). a < i.amount) (x ∷ xs)
+    above zero d b = h
+    above (suc k) d b = omega (arith, h, rising.0 k d (omega (arith, b)))
+
+some_product : (w t n : ℕ) → 0 < w → 0 < t → w * t ≡ 0 * n → ⊥
+some_product w t n some pos e = omega (arith, mul-pos some pos, e)
+
+module _ (T V : ℕ) (tpos : 0 < T) (vpos : 0 < V) where
+  in_ratio : (xs ys : List Item) → Rising xs → Rising ys → Positive xs → Positive ys → InRatio T V xs ys
+      → AllZip (Alike T V) xs ys
+  in_ratio [] [] rx ry px py h = tt
+  in_ratio [] (y ∷ ys) rx ry px py h =
+      absurd (some_product y.weight T V (All-head (λ (i : Item). 0 < i.weight) y ys py) tpos
+      (ap (λ n. n * T) (sym (first_weight y ys ry)) ∙ sym (h y.amount)))
+  in_ratio (x ∷ xs) [] rx ry px py h =
+      absurd (some_product x.weight V T (All-head (λ (i : Item). 0 < i.weight) x xs px) vpos
+      (ap (λ n. n * V) (sym (first_weight x xs rx)) ∙ h x.amount))
+  in_ratio (x ∷ xs) (y ∷ ys) rx ry px py h = elim (cases_lt x.amount y.amount) [
+    | inl lt ↦ absurd (some_product x.weight V T (All-head (λ (i : Item). 0 < i.weight) x xs px) vpos
+        (ap (λ n. n * V) (sym (first_weight x xs rx)) ∙ h x.amount
+        ∙ ap (λ n. n * T) (no_weight y ys x.amount ry lt)))
+    | inr ge ↦ elim (cases_lt y.amount x.amount) [
+      | inl lt ↦ absurd (some_product y.weight T V (All-head (λ (i : Item). 0 < i.weight) y ys py) tpos
+          (ap (λ n. n * T) (sym (first_weight y ys ry)) ∙ sym (h y.amount)
+          ∙ ap (λ n. n * V) (no_weight x xs y.amount rx lt)))
+      | inr le ↦
+          let same : x.amount ≡ y.amount = omega (arith, ge, le) in
+          let first : x.weight * V ≡ y.weight * T =
+          ap (λ n. n * V) (sym (first_weight x xs rx)) ∙ h x.amount ∙ ap (λ a. weight_at (y ∷ ys) a * T) same
+          ∙ ap (λ n. n * T) (first_weight y ys ry) in (
+            (same, first),
+            in_ratio xs ys rx.1 ry.1 (All-tail (λ (i : Item). 0 < i.weight) x xs px)
+                (All-tail (λ (i : Item). 0 < i.weight) y ys py)
+                (λ a. elim (eqb_tells x.amount a) [
+                  | inl here ↦
+                      ap (λ n. n * V) (none_later xs a (subst (λ b. All (λ (i : Item). b < i.amount) xs) here.1 rx.0))
+                      ∙ both_none V T ∙ sym (ap (λ n. n * T)
+                      (none_later ys a (subst (λ b. All (λ (i : Item). b < i.amount) ys) (sym same ∙ here.1) ry.0)))
+                  | inr other ↦
+                      ap (λ n. n * V) (sym (other_weight x xs a other.0)) ∙ h a
+                      ∙ ap (λ n. n * T) (other_weight y ys a (ap (λ b. b == a) (sym same) ∙ other.0))
+                ]),
+          )
+    ]
+  ]
+    where
+      both_none : (m n : ℕ) → 0 * m ≡ 0 * n
+      both_none m n = omega arith
+
+  scaled_same : (xs ys : List Item) → AllZip (Alike T V) xs ys → map (times V) xs ≡ map (times T) ys
+  scaled_same [] [] h = refl
+  scaled_same [] (y ∷ ys) h = absurd h
+  scaled_same (x ∷ xs) [] h = absurd h
+  scaled_same (x ∷ xs) (y ∷ ys) h =
+      ap₂ (λ i is. i ∷ is) (λ i. record { amount = h.0.0 i; weight = h.0.1 i }) (scaled_same xs ys h.1)
+
+  cancel : (a b k : ℕ) → 0 < k → a * k ≡ b * k → a ≡ b
+  cancel a b k h e = eq_of_mul-eq-mul_right k h a b e
+
+  same_items : T ≡ V → (xs ys : List Item) → AllZip (Alike T V) xs ys → xs ≡ ys
+  same_items e [] [] h = refl
+  same_items e [] (y ∷ ys) h = absurd h
+  same_items e (x ∷ xs) [] h = absurd h
+  same_items e (x ∷ xs) (y ∷ ys) h =
+      let weight : x.weight ≡ y.weight = cancel x.weight y.weight T tpos (ap (λ n. x.weight * n) e ∙ h.0.1) in
+      ap₂ (λ i is. i ∷ is) (λ i. record { amount = h.0.0 i; weight = weight i }) (same_items e xs ys h.1)
+
+module _ (xs : List Item) (t : ℕ) (ys : List Item) (v : ℕ) (w : IsWeighted xs t) (z : IsWeighted ys v)
+    (same : (a : ℕ) → weight_at xs a over t ≡ weight_at ys a over v) where
+  tpos : 0 < t
+  tpos = subst (λ n. 0 < n) w.sum (weight_sum_pos xs w.some w.positive)
+
+  vpos : 0 < v
+  vpos = subst (λ n. 0 < n) z.sum (weight_sum_pos ys z.some z.positive)
+
+  alike : AllZip (Alike t v) xs ys
+  alike =
+      in_ratio t v tpos vpos xs ys (rises xs w.rising) (rises ys z.rising) w.positive z.positive
+      (λ a. omega (
+        arith,
+        le_over (weight_at xs a) t (weight_at ys a) v tpos vpos (le_of_eq _ _ (same a)),
+        le_over (weight_at ys a) v (weight_at xs a) t vpos tpos (le_of_eq _ _ (sym (same a))),
+      ))
+
+  pub one_total : t ≡ v
+  one_total =
+      let left : common_weight (map (times v) xs) ≡ v = common_of xs v vpos w.lowest in
+      let right : common_weight (map (times t) ys) ≡ t = common_of ys t tpos z.lowest in
+      sym right ∙ ap common_weight (sym (scaled_same t v tpos vpos xs ys alike)) ∙ left
+    where
+      nought : (g : ℕ) → 0 ≡ 0 * g
+      nought g = omega arith
+
+      one_times : (g : ℕ) → 1 * g ≡ g
+      one_times g = omega arith
+
+      common_of : (is : List Item) (g : ℕ) → 0 < g → common_weight is ≡ 1 → common_weight (map (times g) is) ≡ g
+      common_of is g pos lowest =
+          ap (λ d. common_from d (map (times g) is)) (nought g) ∙ common-times g 0 is pos ∙ ap (λ n. n * g) lowest
+          ∙ one_times g
+
+  pub one_list : xs ≡ ys
+  one_list = same_items t v tpos vpos one_total xs ys alike
+
+-- ---- severities and counts
+
+weighted_prop : (items : List Item) (total : ℕ) (x y : IsWeighted items total) → x ≡ y
+weighted_prop items total x y = λ i. record {
+  some = le_prop x.some y.some i;
+  rising = λ k h. le_prop (x.rising k h) (y.rising k h) i;
+  positive = λ k d h. le_prop (x.positive k d h) (y.positive k d h) i;
+  sum = ℕ_set _ _ x.sum y.sum i;
+  within = le_prop x.within y.within i;
+  lowest = ℕ_set _ _ x.lowest y.lowest i;
+}
+
+one_severity : (s u : Sev) (ps : Pairs) → Means s ps → Means u ps → s ≡ u
+one_severity s u ps a b =
+    let same : (x : ℕ) → weight_at s.items x over s.total ≡ weight_at u.items x over u.total =
+    λ x. a x ∙ sym (b x) in
+    let items = one_list s.items s.total u.items u.total s.weighted u.weighted same in
+    let total = one_total s.items s.total u.items u.total s.weighted u.weighted same in
+    λ i. record {
+      items = items i;
+      total = total i;
+      weighted = is_prop→PathP (λ j. IsWeighted (items j) (total j)) (λ j. weighted_prop (items j) (total j))
+          s.weighted u.weighted i;
+    }
+
+whole_same : (m n : ℕ) (x : Fraction) → whole m ≡ x → whole n ≡ x → m ≡ n
+whole_same m n x p q = sym (whole_num m) ∙ ap (λ (y : Fraction). y.num) (p ∙ sym q) ∙ whole_num n
+
+one_table : (counts : ReadList) (probs : Option ReadList) (f g : Freq) → IsTableOf counts probs f → IsClaimCount f
+    → IsTableOf counts probs g → IsClaimCount g → f ≡ g
+one_table counts probs f g (xs, t, fs, a) vf (ys, v, gs, b) vg =
+    let w : IsWeighted xs t = (subst IsClaimCount fs vf).0 in
+    let z : IsWeighted ys v = (subst IsClaimCount gs vg).0 in
+    let same : (x : ℕ) → weight_at xs x over t ≡ weight_at ys x over v = λ x. a x ∙ sym (b x) in
+    fs ∙ ap₂ of_plan.Table (one_list xs t ys v w z same) (one_total xs t ys v w z same) ∙ sym gs
+
+one_count : (bs : Fraction) (u : GridUnit) (k : ReadCount) (f g : Freq) → IsCountOf bs u k f → IsCountOf bs u k g
+    → f ≡ g
+one_count bs u (Exposed e (Fixed _)) f g (m, mw, fm) (n, nw, gn) =
+    fm ∙ ap of_plan.Fixed (whole_same m n _ mw nw) ∙ sym gn
+one_count bs u (Exposed e (Poisson _)) f g p q = p ∙ sym q
+one_count bs u (Exposed e (Bernoulli _)) f g p q = p ∙ sym q
+one_count bs u (Exposed e (Binomial p _)) f g (m, mw, fm) (n, nw, gn) =
+    fm ∙ ap (λ k. of_plan.Binomial k p) (whole_same m n _ mw nw) ∙ sym gn
+one_count bs u (Exposed e (Gamma c _)) f g (m, mw, fm) (n, nw, gn) =
+    fm ∙ ap (λ k. of_plan.Gamma k (expected_count bs u e)) (whole_same m n _ mw nw) ∙ sym gn
+one_count bs u (Listed counts probs) f g (p, vp) (q, vq) = one_table counts probs f g p vp q vq
+
+-- ---- units and plans
+
+one_on : (bs : Fraction) (text : List ℕ) (g : GridUnit) (m n : UnitOfPlan) → IsUnitOn bs text g m
+    → IsUnitOn bs text g n → m ≡ n
+one_on bs text g m n p q =
+    let name = p.name ∙ sym q.name in
+    let sev = one_severity m.sev n.sev (final_severity g) p.severity q.severity in
+    let freq = one_count bs g g.count m.freq n.freq p.count q.count in
+    let cede = p.clause ∙ sym q.clause in
+    let zeroes = p.zero ∙ sym q.zero in
+    λ i. record { name = name i; sev = sev i; freq = freq i; cede = cede i; zero = zeroes i }
+
+one_mixture : (o : Option MixAst) (a b : MixAst) → o ≡ Some a → o ≡ Some b → a ≡ b
+one_mixture o a b p q = let both : Some a ≡ Some b = sym p ∙ q in cc
+
+one_unit : (bs : Fraction) (sevs : List SevDef) (u : UnitAst) (m n : UnitOfPlan) → IsUnitOf bs sevs u m
+    → IsUnitOf bs sevs u n → m ≡ n
+one_unit bs sevs u m n p q =
+    let same : q.mix ≡ p.mix = one_mixture _ q.mix p.mix q.named p.named in
+    one_on bs u.name.text (grid_of bs (read_of u p.mix)) m n p.unit
+    (subst (λ x. IsUnitOn bs u.name.text (grid_of bs (read_of u x)) n) same q.unit)
+
+one_units : (bs : Fraction) (sevs : List SevDef) (us : List UnitAst) (ms ns : List UnitOfPlan)
+    → AllZip (IsUnitOf bs sevs) us ms → AllZip (IsUnitOf bs sevs) us ns → ms ≡ ns
+one_units bs sevs [] [] [] p q = refl
+one_units bs sevs [] [] (n ∷ ns) p q = absurd q
+one_units bs sevs [] (m ∷ ms) ns p q = absurd p
+one_units bs sevs (u ∷ us) [] ns p q = absurd p
+one_units bs sevs (u ∷ us) (m ∷ ms) [] p q = absurd q
+one_units bs sevs (u ∷ us) (m ∷ ms) (n ∷ ns) p q =
+    ap₂ (λ x xs. x ∷ xs) (one_unit bs sevs u m n p.0 q.0) (one_units bs sevs us ms ns p.1 q.1)
+
+one_written : (c : Option Numeral) (a b : Option ℕ) → IsWrittenShape c a → IsWrittenShape c b → a ≡ b
+one_written None a b p q = p ∙ sym q
+one_written (Some c) a b (m, mw, am) (n, nw, bn) = am ∙ ap (λ r. Some r) (whole_same m n _ mw nw) ∙ sym bn
+
+one_shape : (port : Option PortHead) (a b : Option ℕ) → IsSharedShape port a → IsSharedShape port b → a ≡ b
+one_shape None a b p q = p ∙ sym q
+one_shape (Some h) a b p q = one_written h.common a b p q
+
+pub one_plan : (program : Program) (settings : Settings) (a b : Plan) → IsPlanOf program settings a
+    → IsPlanOf program settings b → a ≡ b
+one_plan program settings a b p q =
+    let bucket = p.bucket ∙ sym q.bucket in
+    let cells = p.cells ∙ sym q.cells in
+    let units = one_units settings.bs program.sevs program.units a.units b.units p.units q.units in
+    let common = one_shape program.port a.common b.common p.common q.common in
+    λ i. record { bs = bucket i; cells = cells i; units = units i; common = common i }

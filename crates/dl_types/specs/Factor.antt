@@ -1,0 +1,117 @@
+-- What a factor that all units share asks of them.
+use Rattle.std.specs.Prelude.{ℕ, suc, Bool, true, not, ◌||◌, nat_lt, if◌then◌else◌, List, [], ◌∷◌, map, flat_map, fold, Option, Some, None}
+use Rattle.dl_limits.specs.Limits.{most_expected, most_shape}
+use Rattle.dl_exact.specs.Fraction.{Fraction, whole, ◌over◌, ◌+ℚ◌, ◌*ℚ◌, ◌/ℚ◌}
+use Rattle.dl_ast.specs.declared.ast.MixAst.{MixAst}
+use Rattle.dl_ast.specs.declared.ast.SevDef.{SevDef}
+use Rattle.dl_ast.specs.declared.ast.UnitAst.{UnitAst}
+use Rattle.dl_exact.specs.Multiples.{lcm}
+use Rattle.dl_plan.specs.declared.severity.Sev.{Sev}
+use Rattle.dl_plan.specs.declared.plan.Unit.{Unit as UnitOfPlan}
+use Rattle.dl_plan.specs.Severity.{Pairs, probability}
+use Rattle.dl_plan.specs.Count.{IsClaimCount, expected_count as expected_of_plan}
+use Rattle.dl_plan.specs.Fine.{HasPartsOf48Bits}
+use Rattle.dl_plan.specs.Means.{thinned_mean}
+use Rattle.dl_plan.specs.Common.{raised}
+use Rattle.dl_read.specs.declared.tree.ReadCount.{ReadCount}
+use Rattle.dl_read.specs.declared.tree.ReadCount.TheVariants.{Exposed, Listed}
+use Rattle.dl_read.specs.Read.{read_of}
+use Rattle.dl_read.specs.Lists.{is_admitted, is_fine, is_zero}
+use Rattle.dl_amounts.specs.declared.grid.GridUnit.{GridUnit}
+use Rattle.dl_amounts.specs.Grid.{grid_of}
+use Rattle.dl_amounts.specs.Severity.{final_severity, support}
+use Rattle.dl_types.specs.Exposures.{expected_count, thinned}
+use Rattle.dl_types.specs.Rules.{passes}
+use Rattle.dl_types.specs.Severities.{mixture_of}
+
+-- the claims that a unit brings: how many are expected, how many of them above 0, and the positive
+-- probabilities of the amounts of one
+pub record Part : Type 0 where
+  pub expected : Fraction
+  pub above : Fraction
+  pub probabilities : List Fraction
+
+-- x and the numbers of a list added up, where the sum is admitted after each of them
+unfoldable pub running_sum : Fraction → List Fraction → Option Fraction
+running_sum x [] = Some x
+running_sum x (y ∷ ys) = if is_admitted (x +ℚ y) then running_sum (x +ℚ y) ys else None
+
+-- where v claims of all parts are expected, the share of a part
+abbrev pub claim_share : Fraction → Part → Fraction
+claim_share v part = part.expected /ℚ v
+
+-- the share times the probability of each amount
+abbrev pub amount_shares : Fraction → Part → List Fraction
+amount_shares v part = map (λ p. claim_share v part *ℚ p) part.probabilities
+
+-- a number of claims is not admitted for the shape r + 1
+abbrev pub is_raised_coarse : ℕ → Fraction → Bool
+is_raised_coarse r x = not (is_admitted (raised r x))
+
+-- v claims of all parts are expected, h of them above 0, under a factor of shape r
+abbrev pub passes_bounds : ℕ → Fraction → Fraction → List Part → Bool
+passes_bounds r v h parts =
+    is_zero v || is_raised_coarse r v || is_raised_coarse r h
+    || passes (raised r h) most_expected
+    || not (is_fine (map (claim_share v) parts))
+    || not (is_fine (flat_map (amount_shares v) parts))
+
+abbrev pub passes_with : ℕ → Option Fraction → Option Fraction → List Part → Bool
+passes_with r None h parts = true
+passes_with r (Some v) None parts = true
+passes_with r (Some v) (Some h) parts = passes_bounds r v h parts
+
+-- the parts are too large for a factor of shape r
+unfoldable pub is_too_large : ℕ → List Part → Bool
+is_too_large r parts =
+    nat_lt most_shape (suc r)
+    || passes_with r (running_sum (whole 0) (map (λ part. part.expected) parts))
+    (running_sum (whole 0) (map (λ part. part.above) parts)) parts
+
+-- ---- of a program
+
+-- listed counts, of which no factor is shared, count as none
+abbrev pub claims_expected : Fraction → GridUnit → ReadCount → Fraction
+claims_expected bs u (Exposed exposure freq) = expected_count bs u exposure
+claims_expected bs u (Listed counts probs) = whole 0
+
+-- so many claims of this severity
+abbrev pub part_with : Fraction → Pairs → Part
+part_with n severity = record {
+  expected = n;
+  above = thinned severity n;
+  probabilities = map (probability severity) (support severity);
+}
+
+abbrev pub part_on : Fraction → GridUnit → Part
+part_on bs u = part_with (claims_expected bs u u.count) (final_severity u)
+
+abbrev pub part_of_mixture : Fraction → UnitAst → Option MixAst → Part
+part_of_mixture bs u None = part_with (whole 0) []
+part_of_mixture bs u (Some m) = part_on bs (grid_of bs (read_of u m))
+
+abbrev pub part_in : Fraction → List SevDef → UnitAst → Part
+part_in bs sevs u = part_of_mixture bs u (mixture_of sevs u.sev.body)
+
+-- ---- of a plan
+
+abbrev pub part_of : UnitOfPlan → Part
+part_of u = record {
+  expected = expected_of_plan u.freq;
+  above = thinned_mean u;
+  probabilities = map (λ item. item.weight over u.sev.total) u.sev.items;
+}
+
+-- a share times the probability of each amount
+abbrev pub times_amounts : Fraction → Sev → List Fraction
+times_amounts share sev = map (λ item. share *ℚ item.weight over sev.total) sev.items
+
+-- the least common multiple of m and the denominators
+abbrev pub joined : ℕ → List Fraction → ℕ
+joined m xs = fold (λ k x. lcm k x.den) m xs
+
+-- a unit whose expected claims, and those above 0, are admitted
+pub record IsCounted (u : UnitOfPlan) : Type 0 where
+  pub count : IsClaimCount u.freq
+  pub expected : HasPartsOf48Bits (expected_of_plan u.freq)
+  pub thinned : HasPartsOf48Bits (thinned_mean u)
