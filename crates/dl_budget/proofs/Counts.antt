@@ -6,7 +6,7 @@ use Rattle.dl_plan.specs.declared.plan.Freq.{Freq}
 use Rattle.dl_plan.specs.declared.plan.Freq.TheVariants.{Poisson, Gamma}
 use Rattle.dl_plan.specs.declared.plan.Unit.{Unit as UnitOfPlan}
 use Rattle.dl_plan.specs.Count.{IsUnbounded, IsClaimCount}
-use Rattle.dl_plan.specs.Valid.{thinned_mean}
+use Rattle.dl_plan.specs.Means.{thinned_mean}
 
 -- the budget by the count and the items that were read
 pub claims_of : (S K : ℕ) (u : UnitOfPlan) (freq : Freq) (items : List Item) → u.freq ≡ freq → items ≡ u.sev.items

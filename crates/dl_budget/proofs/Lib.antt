@@ -10,4 +10,5 @@ pub mod Sums
 pub mod Means
 pub mod Tails
 mod TailShares
+pub mod SharedUnits
 mod Prices

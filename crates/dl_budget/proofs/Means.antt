@@ -3,7 +3,7 @@ use Rattle.dl_budget.proofs.Common.{ℕ, ◌≡◌, ◌+◌, ◌*◌, ◌^◌, �
 use Rattle.std.proofs.lemmas.List.Sums.{sum_by_more}
 use Rattle.dl_limits.specs.Limits.{most_amount, most_expected}
 use Rattle.dl_plan.specs.Count.{expected_count}
-use Rattle.dl_plan.specs.Valid.{declared_mean}
+use Rattle.dl_plan.specs.Means.{declared_mean}
 use Rattle.dl_plan.proofs.ValidUnits.{mean_most, near_in_any}
 use Rattle.dl_plan.specs.declared.plan.Unit.{Unit as UnitOfPlan}
 

@@ -1,5 +1,5 @@
 -- How large the budget of the probability of no claim can be: that of claims of amount 1 alone, on one cell.
-use Rattle.dl_budget.proofs.Common.{IsPlanScale, ℕ, zero, suc, ◌≡◌, ◌+◌, ◌*◌, ◌^◌, ◌<◌, ◌≤◌, arith, inl, inr, refl, sym, ap, subst, ◌∙◌, div_ceil, mul-le-mul, mul-pos, pow_pos, pow-le-pow_right, most_operands, Fraction, whole, ◌≤ℚ◌, le_over, over_self, one_pos, cv, pw, rounded_spread, IsSizeWithin, pw_one, count_budget, gamma_budget, poisson_budget}
+use Rattle.dl_budget.proofs.Common.{IsPlanScale, ℕ, zero, suc, ◌≡◌, ◌+◌, ◌*◌, ◌^◌, ◌≤◌, arith, inl, inr, refl, sym, ap, subst, ◌∙◌, div_ceil, mul-le-mul, mul-pos, pow_pos, pow-le-pow_right, most_operands, Fraction, whole, ◌≤ℚ◌, le_over, over_self, one_pos, cv, pw, rounded_spread, IsSizeWithin, pw_one, count_budget, gamma_budget, poisson_budget}
 use Rattle.std.proofs.Common.{◌/◌, ◌%◌}
 use Rattle.std.specs.Prelude.{◌==◌, if◌then◌else◌}
 use Rattle.std.proofs.lemmas.Bool.Decides.{eqb_tells}

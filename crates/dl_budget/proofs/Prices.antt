@@ -9,7 +9,6 @@ use Rattle.std.proofs.lemmas.List.Sums.{sum_by-cons, sum_by_more}
 use Rattle.std.specs.List.{All}
 use Prim.Native.Nat.{◌∣◌}
 use Rattle.dl_exact.specs.Fraction.{◌*ℚ◌}
-use Rattle.dl_exact.specs.Sum.{sum_over}
 use Rattle.dl_exact.proofs.Over.{over_self, over_mul}
 use Rattle.dl_exact.proofs.Sums.{sum_over_map}
 use Rattle.dl_plan.specs.declared.settings.Term.{Term}

@@ -1,5 +1,5 @@
 -- The budget of an ask in units of 1/S, what it needs, and when it passes.
-use Rattle.std.specs.Prelude.{ℕ, ◌+◌, ◌-◌, ◌*◌, ◌^◌, ◌<◌, ◌≤◌, Option, IfSome, List, length, get_or, map, sum_by, bytes_eq}
+use Rattle.std.specs.Prelude.{ℕ, ◌+◌, ◌-◌, ◌*◌, ◌^◌, ◌<◌, ◌≤◌, Option, None, Some, IfSome, List, length, get_or, map, sum_by, bytes_eq, option_map}
 use Rattle.std.specs.List.{position_or_len}
 use Rattle.dl_limits.specs.Limits.{rarest_parts}
 use Rattle.dl_exact.specs.Fraction.{Fraction, whole, ◌over◌, ◌*ℚ◌}
@@ -8,21 +8,37 @@ use Rattle.dl_plan.specs.declared.plan.Unit.{Unit as UnitOfPlan}
 use Rattle.dl_plan.specs.declared.plan.Plan.{Plan}
 use Rattle.dl_plan.specs.declared.settings.Ask.{Ask}
 use Rattle.dl_plan.specs.declared.settings.Ask.TheVariants.{Pmf, Cdf, Mean, Quantile, LayerMean, Tail, Price, Joint, Kappa, Cotail}
+use Rattle.dl_plan.specs.declared.settings.Asked.{Asked}
 use Rattle.dl_plan.specs.declared.settings.Settings.{Settings}
 use Rattle.dl_plan.specs.declared.settings.Term.{Term}
 use Rattle.dl_plan.specs.Facts.{facts_of}
 use Rattle.dl_plan.specs.Ranges.{IsAskInRange}
+use Rattle.dl_budget.specs.Shared.{raised_budget, shared_joint_budget, thinned_at}
 use Rattle.dl_budget.specs.Units.{unit_budgets, unit_mean_budget, total_budget, others_budget, mean_budget}
 
 -- how many units come before the one of this name
 abbrev pub place_of : List ℕ → List UnitOfPlan → ℕ
 place_of name units = position_or_len (λ u. bytes_eq u.name name) units
 
--- the share of unit i in the total: all of its outcomes beside all of those of the others, on each
--- cell
-abbrev pub joint_budget : (S : ℕ) → Plan → ℕ → ℕ
-joint_budget S plan i = plan.cells * cv S plan.cells
+-- the number of the unit that an ask names, counted from 0; that of all units where none has the name
+abbrev pub named_unit : List UnitOfPlan → Ask → Option ℕ
+named_unit units ask = option_map (λ name. place_of name units) (facts_of ask).unit
+
+-- for each ask, that number
+abbrev pub named_units : List UnitOfPlan → List Asked → List (Option ℕ)
+named_units units asks = map (λ asked. named_unit units asked.ask) asks
+
+-- the share of unit i in the total: of independent units all of its outcomes beside all of those of
+-- the others, on each cell; of units that share a factor, all of its claims beside the raised unit
+abbrev pub joint_by : Option ℕ → (S : ℕ) → Plan → ℕ → ℕ
+joint_by None S plan i = plan.cells * cv S plan.cells
     (get_or (unit_budgets S plan.cells plan.units) i 0) (others_budget S plan i)
+joint_by (Some r) S plan i = shared_joint_budget plan.cells
+    (raised_budget S plan.cells r plan.units) (thinned_at plan.units i)
+
+-- that of a plan
+abbrev pub joint_budget : (S : ℕ) → Plan → ℕ → ℕ
+joint_budget S plan i = joint_by plan.common S plan i
 
 -- that of the mean of a layer
 abbrev pub layer_mean_budget : (S : ℕ) → Plan → Option ℕ → ℕ → ℕ

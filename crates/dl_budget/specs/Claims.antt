@@ -7,7 +7,7 @@ use Rattle.dl_plan.specs.declared.plan.Freq.{Freq}
 use Rattle.dl_plan.specs.declared.plan.Freq.TheVariants.{Fixed, Table, Bernoulli, Binomial, Poisson, Gamma}
 use Rattle.dl_plan.specs.declared.plan.Unit.{Unit as UnitOfPlan}
 use Rattle.dl_plan.specs.Count.{expected_count}
-use Rattle.dl_plan.specs.Valid.{thinned_mean}
+use Rattle.dl_plan.specs.Means.{thinned_mean}
 use Rattle.dl_budget.specs.Halvings.{halvings}
 use Rattle.dl_plan.specs.Weighted.{greatest}
 

@@ -1,5 +1,6 @@
 pub mod Halvings
 pub mod Claims
+pub mod Shared
 pub mod Units
 pub mod Asks
 pub mod Once

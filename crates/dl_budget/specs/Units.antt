@@ -7,8 +7,9 @@ use Rattle.dl_plan.specs.declared.plan.Unit.{Unit as UnitOfPlan}
 use Rattle.dl_plan.specs.declared.plan.Plan.{Plan}
 use Rattle.dl_plan.specs.Clause.{Clause}
 use Rattle.dl_plan.specs.Horizon.{horizon}
-use Rattle.dl_plan.specs.Valid.{declared_mean}
+use Rattle.dl_plan.specs.Means.{declared_mean}
 use Rattle.dl_budget.specs.Claims.{claims_budget, none_budget}
+use Rattle.dl_budget.specs.Shared.{pooled_budget}
 use Rattle.dl_plan.specs.MeanWidth.{mean_width}
 
 -- the budget of a unit's claims, and twice that with an aggregate clause
@@ -31,11 +32,17 @@ unit_budget S cells u = after_zero u.zero cells (none_budget S u.freq)
 abbrev pub unit_budgets : (S cells : ℕ) → List UnitOfPlan → List ℕ
 unit_budgets S cells units = map (unit_budget S cells) units
 
--- the budget of the total
-abbrev pub total_budget : (S : ℕ) → Plan → ℕ
-total_budget S plan = sum_spread S plan.cells (unit_budgets S plan.cells plan.units)
+-- the budget of the total of units, where they are independent, or where they share a factor of
+-- shape r
+abbrev pub total_by : Option ℕ → (S cells : ℕ) → List UnitOfPlan → ℕ
+total_by None S cells units = sum_spread S cells (unit_budgets S cells units)
+total_by (Some r) S cells units = pooled_budget S cells r units
 
--- that of all units but one
+-- that of the total of a plan
+abbrev pub total_budget : (S : ℕ) → Plan → ℕ
+total_budget S plan = total_by plan.common S plan.cells plan.units
+
+-- that of all units but one, where they are independent
 abbrev pub others_budget : (S : ℕ) → Plan → ℕ → ℕ
 others_budget S plan i = sum_spread S plan.cells (remove (unit_budgets S plan.cells plan.units) i)
 
@@ -49,6 +56,11 @@ abbrev pub unit_mean_budget : (S cells : ℕ) → UnitOfPlan → ℕ
 unit_mean_budget S cells u = mean_after_zero u.zero (up (declared_mean u)) (none_budget S u.freq)
     (mean_width u.cede (claims_budget S (horizon u.cede cells) u))
 
--- that of the mean of the total
+-- that of the mean of the total of units; of units that share a factor it is exact but for its ends
+abbrev pub mean_by : Option ℕ → (S cells : ℕ) → List UnitOfPlan → ℕ
+mean_by None S cells units = sum_by (unit_mean_budget S cells) units
+mean_by (Some r) S cells units = 1
+
+-- that of the mean of the total of a plan
 abbrev pub mean_budget : (S : ℕ) → Plan → ℕ
-mean_budget S plan = sum_by (unit_mean_budget S plan.cells) plan.units
+mean_budget S plan = mean_by plan.common S plan.cells plan.units

@@ -1,6 +1,6 @@
 //! The budget of an ask, what it needs, and whether it passes.
 
-ghost use Rattle.std.specs.Prelude.{ℕ, ◌≡◌, ◌+◌, ◌*◌, ◌^◌, ◌<◌, ◌≤◌, ◌↔◌, List, All, IsTrue, length, map};
+ghost use Rattle.std.specs.Prelude.{ℕ, ◌≡◌, ◌+◌, ◌*◌, ◌^◌, ◌<◌, ◌≤◌, ◌↔◌, List, None, All, IsTrue, length, map};
 ghost use Rattle.dl_limits.specs.Limits.{IsPlanScale, most_digits, most_units, most_ask_budget};
 ghost use Rattle.dl_exact.specs.Fraction.{whole, ◌*ℚ◌};
 ghost use Rattle.dl_grid.specs.Width.{up};
@@ -8,10 +8,11 @@ ghost use Rattle.dl_plan.specs.Terms.{ArePriced, most_weight_parts};
 ghost use Rattle.dl_plan.specs.declared.settings.Ask.TheVariants.{LayerMean};
 ghost use Rattle.dl_plan.specs.Ranges.{IsLevel};
 ghost use Rattle.dl_plan.specs.Valid.{IsValid};
-ghost use Rattle.dl_budget.specs.Asks.{IsInside, IsAskOf, place_of, ask_budget, layer_mean_budget, tail_budget, most_tail_budget, price_budget, joint_budget, kappa_budget, cotail_budget, in_digits, needed, Passes};
+ghost use Rattle.dl_budget.specs.Asks.{IsInside, IsAskOf, place_of, named_unit, ask_budget, layer_mean_budget, tail_budget, most_tail_budget, price_budget, joint_by, joint_budget, kappa_budget, cotail_budget, in_digits, needed, Passes};
 ghost use Rattle.dl_budget.specs.Once.{AreBudgetsOf};
 
 use crate::once::{Budgets, budgets_of};
+use crate::shared::{raised_budget, shared_joint_budget};
 use crate::steps::joined;
 use crate::units::{others_budget, unit_budget, unit_mean_budget};
 use dl_frac::Frac;
@@ -29,16 +30,24 @@ pub fn ask_budget<const B: u32>(plan: &Plan, ask: &Ask) -> u128
     ensures value { result ≡ ask_budget (2 ^ B) plan.now ask.now }
     ensures small { result ≤ most_ask_budget }
 {
-    ask_budget_with::<B>(plan, budgets_of::<B>(plan), ask)
+    let unit = named_unit(plan.units.as_slice(), ask);
+    ask_budget_with::<B>(plan, budgets_of::<B>(plan), ask, unit)
 }
 
-/// The same budget, from those of the total and of its mean, where these are there.
+/// The same budget, from those of the total and of its mean and the number of the unit that the ask
+/// names, where these are there.
 #[tactic(auto, unfolding(crate::specs::Asks::ask_budget))]
-fn ask_budget_with<const B: u32>(plan: &Plan, budgets: Budgets, ask: &Ask) -> u128
+fn ask_budget_with<const B: u32>(
+    plan: &Plan,
+    budgets: Budgets,
+    ask: &Ask,
+    unit: Option<u32>,
+) -> u128
     requires scale { IsPlanScale B }
     requires valid { IsValid plan.now }
     requires budgets { AreBudgetsOf (2 ^ B) plan.now budgets }
     requires ask { IsAskOf plan.now ask.now }
+    requires unit { unit ≡ named_unit plan.now.units ask.now }
     ensures value { result ≡ ask_budget (2 ^ B) plan.now ask.now }
     ensures small { result ≤ most_ask_budget }
 {
@@ -50,17 +59,9 @@ fn ask_budget_with<const B: u32>(plan: &Plan, budgets: Budgets, ask: &Ask) -> u1
         }
         Ask::Tail(p) => tail_budget::<B>(plan, budgets, *p),
         Ask::Price(terms) => price_budget::<B>(plan, budgets, terms.as_slice()),
-        Ask::Joint { unit, .. } => {
-            joint_budget::<B>(plan, place(plan.units.as_slice(), unit.as_slice()))
-        }
-        Ask::Kappa { unit, .. } => {
-            let i = place(plan.units.as_slice(), unit.as_slice());
-            kappa_budget::<B>(plan, budgets, i)
-        }
-        Ask::Cotail { unit, p } => {
-            let i = place(plan.units.as_slice(), unit.as_slice());
-            cotail_budget::<B>(plan, budgets, i, *p)
-        }
+        Ask::Joint { .. } => joint_budget::<B>(plan, unit.unwrap()),
+        Ask::Kappa { .. } => kappa_budget::<B>(plan, budgets, unit.unwrap()),
+        Ask::Cotail { p, .. } => cotail_budget::<B>(plan, budgets, unit.unwrap(), *p),
     }
 }
 
@@ -130,6 +131,24 @@ fn joint_budget<const B: u32>(plan: &Plan, i: u32) -> u128
     requires valid { IsValid plan.now }
     requires unit { i < length plan.now.units }
     ensures value { result ≡ joint_budget (2 ^ B) plan.now i }
+    ensures small { result ≤ 2 ^ 63 }
+{
+    match plan.common {
+        Some(shape) => {
+            let units = plan.units.as_slice();
+            let raised = raised_budget::<B>(units, shape, plan.cells);
+            shared_joint_budget(&units[i as usize], raised, plan.cells)
+        }
+        None => joint_alone::<B>(plan, i),
+    }
+}
+
+/// The budget of the share of unit `i` in a total of independent units.
+fn joint_alone<const B: u32>(plan: &Plan, i: u32) -> u128
+    requires scale { IsPlanScale B }
+    requires valid { IsValid plan.now }
+    requires unit { i < length plan.now.units }
+    ensures value { result ≡ joint_by None (2 ^ B) plan.now i }
     ensures small { result ≤ 2 ^ 62 }
 {
     let unit = unit_budget::<B>(&plan.units.as_slice()[i as usize], plan.cells);
@@ -169,12 +188,24 @@ fn cotail_budget<const B: u32>(plan: &Plan, budgets: Budgets, i: u32, p: Frac) -
 }
 
 /// How many units come before the one of this name.
-pub fn place(units: &[Unit], name: &[u8]) -> u32
+fn place(units: &[Unit], name: &[u8]) -> u32
     requires { length units.now ≤ most_units }
     ensures { result ≡ place_of name.now units.now }
 {
     let place = units.iter().position(|unit| unit.name.as_slice() == name);
     place.unwrap_or(units.len()) as u32
+}
+
+/// The number of the unit that an ask names, counted from 0; the number of units where none has the
+/// name, and nothing where the ask names none.
+pub fn named_unit(units: &[Unit], ask: &Ask) -> Option<u32>
+    requires { length units.now ≤ most_units }
+    ensures { result ≡ named_unit units.now ask.now }
+{
+    match ask.unit() {
+        Some(name) => Some(place(units, name.as_slice())),
+        None => None,
+    }
 }
 
 /// How many units of the last of so many printed digits a budget comes to, and one more.
@@ -196,19 +227,28 @@ pub fn needed<const B: u32>(plan: &Plan, ask: &Ask, digits: u32) -> u128
     requires digits { digits ≤ most_digits }
     ensures { result ≡ needed (2 ^ B) plan.now ask.now digits }
 {
-    needed_with::<B>(plan, budgets_of::<B>(plan), ask, digits)
+    let unit = named_unit(plan.units.as_slice(), ask);
+    needed_with::<B>(plan, budgets_of::<B>(plan), ask, unit, digits)
 }
 
-/// The same number, from the budgets of the total and of its mean, where these are there.
-pub fn needed_with<const B: u32>(plan: &Plan, budgets: Budgets, ask: &Ask, digits: u32) -> u128
+/// The same number, from the budgets of the total and of its mean and the number of the unit that
+/// the ask names, where these are there.
+pub fn needed_with<const B: u32>(
+    plan: &Plan,
+    budgets: Budgets,
+    ask: &Ask,
+    unit: Option<u32>,
+    digits: u32,
+) -> u128
     requires scale { IsPlanScale B }
     requires valid { IsValid plan.now }
     requires budgets { AreBudgetsOf (2 ^ B) plan.now budgets }
     requires ask { IsAskOf plan.now ask.now }
+    requires unit { unit ≡ named_unit plan.now.units ask.now }
     requires digits { digits ≤ most_digits }
     ensures { result ≡ needed (2 ^ B) plan.now ask.now digits }
 {
-    in_digits::<B>(ask_budget_with::<B>(plan, budgets, ask), digits)
+    in_digits::<B>(ask_budget_with::<B>(plan, budgets, ask, unit), digits)
 }
 
 /// Whether the settings let the ask pass: it needs at most the width that they name for a

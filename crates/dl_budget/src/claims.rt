@@ -68,7 +68,7 @@ fn poisson_budget<const B: u32>(mean: Frac, cells: u32) -> u128
 }
 
 /// The budget of a gamma count of this shape and thinned mean.
-fn gamma_budget<const B: u32>(mean: Frac, shape: u32, cells: u32) -> u128
+pub(crate) fn gamma_budget<const B: u32>(mean: Frac, shape: u32, cells: u32) -> u128
     requires scale { IsPlanScale B }
     requires within { mean ≤ℚ whole most_expected }
     requires admitted { HasPartsOf48Bits mean }

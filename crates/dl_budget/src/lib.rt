@@ -7,10 +7,11 @@ mod asks;
 mod claims;
 mod laws;
 mod once;
+mod shared;
 mod steps;
 mod units;
 
-pub use asks::{ask_budget, needed, needed_with, passes, place};
+pub use asks::{ask_budget, named_unit, needed, needed_with, passes};
 pub use claims::{claims_budget, none_budget};
 pub use laws::{law_halvings, law_horizons};
 pub use once::{Budgets, budgets_of};

@@ -5,13 +5,15 @@ ghost use Rattle.dl_limits.specs.Limits.{IsPlanScale, budget_bound, most_cells, 
 ghost use Rattle.dl_exact.specs.Fraction.{Fraction};
 ghost use Rattle.dl_grid.specs.Width.{cv, sum_spread, up};
 ghost use Rattle.dl_plan.specs.Horizon.{IsHorizonOf, edge, horizon};
-ghost use Rattle.dl_plan.specs.Valid.{declared_mean, IsNewZero, IsValidUnit, IsValid};
+ghost use Rattle.dl_plan.specs.Means.{declared_mean};
+ghost use Rattle.dl_plan.specs.Valid.{IsNewZero, IsValidUnit, IsValid};
 ghost use Rattle.dl_budget.specs.Claims.{claims_budget};
 ghost use Rattle.dl_budget.specs.Sizes.{IsOfUnits};
 ghost use Rattle.dl_plan.specs.MeanWidth.{mean_width, part_width};
 ghost use Rattle.dl_budget.specs.Units.{after_clause, unit_budget, unit_budgets, unit_mean_budget, total_budget, others_budget, mean_budget};
 
 use crate::claims::{claims_budget, none_budget};
+use crate::shared::pooled_budget;
 use crate::steps::joined;
 use dl_plan::{CedeLayer, Plan, Unit};
 
@@ -120,15 +122,19 @@ fn sum_without<const B: u32>(units: &[Unit], i: u32, cells: u32) -> u128
 }
 
 /// The budget of the total of a valid plan: how far apart the ends of its grid's cells may lie in
-/// all. It starts with that of the first unit and takes in each further one as a convolution
-/// does.
+/// all. Of independent units it starts with that of the first and takes in each further one as a
+/// convolution does; of units that share a factor it is that of one gamma unit.
 pub fn total_budget<const B: u32>(plan: &Plan) -> u128
     requires scale { IsPlanScale B }
     requires valid { IsValid plan.now }
     ensures value { result ≡ total_budget (2 ^ B) plan.now }
     ensures small { result < budget_bound }
 {
-    sum_of::<B>(plan.units.as_slice(), plan.cells)
+    let units = plan.units.as_slice();
+    match plan.common {
+        Some(shape) => pooled_budget::<B>(units, shape, plan.cells),
+        None => sum_of::<B>(units, plan.cells),
+    }
 }
 
 /// The budget of the sum of all units of a valid plan but unit `i`, counted from 0; it is 0 where
@@ -218,17 +224,31 @@ pub(crate) fn unit_mean_budget<const B: u32>(unit: &Unit, cells: u32) -> u128
     }
 }
 
-/// The budget of the mean of the total of a valid plan.
+/// The budget of the mean of the sum of these units.
+fn sum_of_means<const B: u32>(units: &[Unit], cells: u32) -> u128
+    requires scale { IsPlanScale B }
+    requires valid { All (IsValidUnit cells) units.now }
+    requires few { cells ≤ most_plan_cells }
+    requires units { length units.now ≤ most_units }
+    ensures value { result ≡ sum_by (unit_mean_budget (2 ^ B) cells) units.now }
+    ensures small { result ≤ most_mean_budget }
+{
+    let mut sum = 0;
+    for unit in units {
+        sum += unit_mean_budget::<B>(unit, cells);
+    }
+    sum
+}
+
+/// The budget of the mean of the total of a valid plan; of units that share a factor it is 1.
 pub(crate) fn mean_budget<const B: u32>(plan: &Plan) -> u128
     requires scale { IsPlanScale B }
     requires valid { IsValid plan.now }
     ensures value { result ≡ mean_budget (2 ^ B) plan.now }
     ensures small { result ≤ most_mean_budget }
 {
-    let units = plan.units.as_slice();
-    let mut sum = 0;
-    for unit in units {
-        sum += unit_mean_budget::<B>(unit, plan.cells);
+    match plan.common {
+        Some(_) => 1,
+        None => sum_of_means::<B>(plan.units.as_slice(), plan.cells),
     }
-    sum
 }

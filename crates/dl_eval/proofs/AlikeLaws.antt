@@ -1,10 +1,10 @@
 -- Units that are alike have the same grids and means.
-use Rattle.dl_eval.proofs.Common.{ℕ, ◌≡◌, ◌^◌, List, [], ◌∷◌, length, take, arith, sym, ap, ap₂, subst, subst₂, ◌∙◌, Option, whole, ◌over◌, Iv, spread, Holds, mapped, GridEncloses, Aggregate, One, Mean, partial_sums, outcome_after, aggregate_of, Clause, horizon, claims_budget, after_clause, unit_budget, unit_mean_budget, mean_width, IsUnitGrid, IsUnitMean, loss_of}
+use Rattle.dl_eval.proofs.Common.{ℕ, ◌≡◌, ◌^◌, List, [], ◌∷◌, length, take, arith, sym, ap, ap₂, subst, subst₂, ◌∙◌, Option, whole, ◌over◌, Iv, spread, Holds, GridEncloses, Aggregate, One, Mean, partial_sums, outcome_after, aggregate_of, Clause, horizon, claims_budget, after_clause, unit_budget, unit_mean_budget, mean_width, IsUnitGrid, IsUnitMean, loss_of}
 use Rattle.std.proofs.lemmas.List.{take_all}
 use Rattle.dl_exact.specs.Fraction.{◌*ℚ◌, ◌-ℚ◌}
 use Rattle.dl_grid.specs.Width.{up}
 use Rattle.dl_plan.specs.Severity.{mean_amount, shares}
-use Rattle.dl_plan.specs.Valid.{declared_mean}
+use Rattle.dl_plan.specs.Means.{declared_mean}
 use Rattle.dl_model.specs.Program.{Loss}
 use Rattle.dl_model.specs.Plans.{after_zero, count_weights}
 use Rattle.dl_plan.specs.declared.item.Item.{Item}

@@ -38,7 +38,7 @@ pub use Rattle.dl_model.specs.Plans.{aggregate_of, aggregates_of, compound_of, l
 pub use Rattle.dl_model.specs.Program.{AreDeclarable, Loss, Mean, One, Point, Tail, partial_sums, total}
 pub use Rattle.dl_model.specs.Series.{Holds}
 pub use Rattle.dl_budget.proofs.Horizons.{few_cells, one_horizon, unit_horizon}
-pub use Rattle.dl_budget.specs.Asks.{IsInside, NamesUnit, place_of, tail_budget}
+pub use Rattle.dl_budget.specs.Asks.{IsInside, NamesUnit, named_unit, named_units, place_of, tail_budget}
 unfoldable pub use Rattle.dl_budget.specs.Asks.{ask_budget, in_digits}
 pub use Rattle.dl_budget.specs.Claims.{claims_budget}
 pub use Rattle.dl_budget.specs.Units.{after_clause, mean_budget, total_budget, unit_budget, unit_budgets, unit_mean_budget}
@@ -48,4 +48,4 @@ pub use Rattle.dl_measures.specs.Brackets.{IsFirstAtLeast}
 pub use Rattle.dl_measures.specs.Ends.{low_cdf}
 pub use Rattle.dl_report.specs.declared.report.Row.{Row}
 pub use Rattle.dl_eval.specs.Rows.{Declares, DeclaresGiven, DeclaresTail, IsAnswerTo, IsBelow, IsGood, IsTailMean, at_the_end, scale, total_error}
-pub use Rattle.dl_eval.specs.Totals.{AreOthers, AreOthersOf, AreShared, AreUnitGrids, AreUnitMeans, HasOthers, IsMeanOf, IsTotalOf, IsUnitGrid, IsUnitMean, Prints, shared_unit}
+pub use Rattle.dl_eval.specs.Totals.{AreOthers, AreOthersOf, AreShared, AreUnitGrids, AreUnitMeans, HasOthers, IsMeanOf, IsTotalOf, IsUnitGrid, IsUnitMean, Prints}

@@ -1,5 +1,5 @@
 -- The answer to each kind of ask, from the grid and the mean of the total.
-use Rattle.dl_eval.proofs.Common.{ℕ, suc, ◌≡◌, ◌+◌, ◌-◌, ◌^◌, ◌<◌, ◌≤◌, List, length, take, arith, inl, inr, sym, ap, subst, ◌∙◌, Option, None, Some, mul-le-mul_left, pow_pos, cases_lt, Fraction, ◌over◌, ◌+ℚ◌, ◌≤ℚ◌, ◌<ℚ◌, le_trans, lt_or_le, lt_not_le, Iv, over_le_over, low_at, high_at, spread, count_below, Holds, AreDeclarable, One, Point, Mean, partial_sums, total, GridEncloses, AreDeclared, low_cdf, aggregates_of, at_least_wider, at_most_wider, cdf_ends, plan_declared, plan_units, IsFirstAtLeast, Plan, IsValid, Row, total_budget, mean_budget, ask_budget, few_cells, Declares, IsBelow, at_the_end, IsAnswerTo, total_error, IsTotalOf, IsMeanOf, Prints, Loss}
+use Rattle.dl_eval.proofs.Common.{ℕ, suc, ◌≡◌, ◌+◌, ◌-◌, ◌^◌, ◌<◌, ◌≤◌, List, length, take, arith, inl, inr, sym, ap, subst, ◌∙◌, Option, None, Some, mul-le-mul_left, pow_pos, cases_lt, Fraction, ◌over◌, ◌+ℚ◌, ◌≤ℚ◌, ◌<ℚ◌, le_trans, lt_or_le, lt_not_le, Iv, over_le_over, low_at, high_at, spread, count_below, Holds, AreDeclarable, One, Point, Mean, partial_sums, total, GridEncloses, AreDeclared, low_cdf, at_least_wider, at_most_wider, cdf_ends, IsFirstAtLeast, Plan, IsValid, Row, total_budget, mean_budget, ask_budget, few_cells, Declares, IsBelow, at_the_end, IsAnswerTo, total_error, IsTotalOf, IsMeanOf, Prints, Loss}
 use Rattle.std.proofs.Common.{add-one}
 use Rattle.std.specs.Prelude.{min, MatchOption}
 use Rattle.dl_exact.proofs.Laws.{le_refl, plus_le_both, plus_le_cancel, sub_le_both}
@@ -18,6 +18,8 @@ use Rattle.dl_plan.specs.declared.settings.Ask.TheVariants as asks
 use Rattle.dl_report.specs.declared.report.End.TheVariants.{Whole}
 use Rattle.dl_budget.specs.Asks.{layer_mean_budget}
 use Rattle.dl_eval.specs.Rows.{IsBracket, bracket_end}
+use Rattle.dl_model.proofs.Pooled.{total_cdf, total_layer, total_mean}
+use Rattle.dl_eval.proofs.Losses.{losses_of, losses_declared, losses_units, encloses_losses, told_of, holds_told, holds_back, bracket_told, tight_told}
 use Rattle.dl_eval.proofs.Printed.{declared_ends}
 
 -- ---- probabilities
@@ -50,8 +52,9 @@ pub cdf_answer : {B : ℕ} (plan : Plan) (g : List (Iv B)) (d x lo hi : ℕ) (ro
     → IsValid plan → IsTotalOf plan g → Prints (2 ^ B) lo hi d row → IsAnswerTo (2 ^ B) plan d (asks.Cdf x) row
 unfolding ask_budget
 cdf_answer {B} plan g d x lo hi row low high inside valid t printed =
-    let ends = cdf_ends (aggregates_of plan) (2 ^ B) (length g) (low_at g) (high_at g) (plan_units plan valid)
-    (pow_pos B) t.encloses x inside in
+    let ends = holds_told plan valid (Cdf x) (total_cdf x) _ _
+    (cdf_ends (losses_of plan) (2 ^ B) (length g) (low_at g) (high_at g) (losses_units plan valid)
+    (pow_pos B) (encloses_losses plan valid g t) x inside) in
     let low_sum : count_below (suc x) (low_at g) ≡ mass_low (take (x + 1) g) = sym (cdf_low g x) in
     let high_sum : count_below (suc x) (high_at g) ≡ mass_high (take (x + 1) g) = sym (cdf_high g x) in
     declared_ends B plan (Cdf x) lo hi d (total_budget (2 ^ B) plan) row printed (
@@ -90,7 +93,9 @@ pub layer_answer : {B : ℕ} (plan : Plan) (g : List (Iv B)) (mean : Iv B) (d at
 unfolding ask_budget
 layer_answer {B} plan g mean d attach lo hi limit row holds width valid t m printed =
     declared_ends B plan (Layer limit attach) lo hi d (layer_mean_budget (2 ^ B) plan limit attach) row printed
-    (holds (aggregates_of plan) (plan_declared plan valid) t.encloses (λ none. m.holds))
+    (holds_told plan valid (Layer limit attach) (total_layer limit attach) _ _
+    (holds (losses_of plan) (losses_declared plan valid) (encloses_losses plan valid g t)
+    (λ none. holds_back plan valid Mean total_mean _ _ m.holds)))
     (omega (
       arith,
       width,
@@ -155,10 +160,11 @@ pub ends_below : {B : ℕ} (plan : Plan) (g : List (Iv B)) (p : Fraction)
     → IsValid plan → IsTotalOf plan g → IsBelow plan (at_the_end plan) (p +ℚ total_error (2 ^ B) plan)
 ends_below {B} plan g p last valid t =
     let some = few_cells plan valid in
-    beyond_below (aggregates_of plan) g p (total_error (2 ^ B) plan) (plan.cells - 1) (plan_units plan valid) t.encloses
-    (omega (arith, t.cells, some.0))
+    told_of plan valid (λ Q O. Below Q O (p +ℚ total_error (2 ^ B) plan)) (at_the_end plan) (total_cdf (plan.cells - 1))
+    (beyond_below (losses_of plan) g p (total_error (2 ^ B) plan) (plan.cells - 1) (losses_units plan valid)
+    (encloses_losses plan valid g t) (omega (arith, t.cells, some.0))
     (last.before (plan.cells - 1) (omega (arith, t.cells, some.0)))
-    (over_le_over (spread g) (total_budget (2 ^ B) plan) (2 ^ B) (pow_pos B) t.narrow)
+    (over_le_over (spread g) (total_budget (2 ^ B) plan) (2 ^ B) (pow_pos B) t.narrow))
 
 pub is_bracket : {B : ℕ} (plan : Plan) (g : List (Iv B)) (p : Fraction) (lo : ℕ) (hi : Option ℕ) (row : Row)
     → row.low ≡ Whole lo → row.high ≡ bracket_end hi
@@ -169,7 +175,8 @@ pub is_bracket : {B : ℕ} (plan : Plan) (g : List (Iv B)) (p : Fraction) (lo : 
     → IsTight (partial_sums us) (length g) lo hi p (spread g over 2 ^ B))
     → IsGrid g → IsValid plan → IsTotalOf plan g → IsBracket plan p (total_error (2 ^ B) plan) row
 is_bracket {B} plan g p lo hi row is_low is_high first found holds tight grid valid t =
-    let units = plan_units plan valid in
+    let units = losses_units plan valid in
+    let encloses = encloses_losses plan valid g t in
     let narrow : spread g over 2 ^ B ≤ℚ total_budget (2 ^ B) plan over 2 ^ B =
     over_le_over (spread g) (total_budget (2 ^ B) plan) (2 ^ B) (pow_pos B) t.narrow in
     record {
@@ -178,9 +185,10 @@ is_bracket {B} plan g p lo hi row is_low is_high first found holds tight grid va
       is_low = is_low;
       is_high = is_high;
       inside = bracket_inside g p plan.cells lo hi grid t.cells first found;
-      bracketed = holds (aggregates_of plan) units t.encloses;
-      tight = wider_tight (aggregates_of plan) (length g) plan.cells lo hi p _ _ t.cells narrow
-          (tight (aggregates_of plan) units t.encloses);
+      bracketed = bracket_told plan valid lo hi p (holds (losses_of plan) units encloses);
+      tight = tight_told plan valid plan.cells lo hi p _
+          (wider_tight (losses_of plan) (length g) plan.cells lo hi p _ _ t.cells narrow
+          (tight (losses_of plan) units encloses));
       beyond = λ none. ends_below plan g p
           (subst (λ (h : Option ℕ). IsFirstFound (low_cdf (2 ^ B) (low_at g)) p (length g) h) none found) valid t;
     }

@@ -3,12 +3,16 @@ mod Scales
 pub mod Lists
 pub mod Places
 pub mod Insides
+pub mod Losses
 pub mod Printed
 pub mod Totals
 pub mod UnitLaws
 pub mod ZeroLaws
 pub mod AlikeLaws
 pub mod Means
+pub mod PooledUnits
+pub mod DrawnGrids
+mod Named
 pub mod GoodRows
 pub mod Tails
 pub mod PriceRows

@@ -1,7 +1,7 @@
 -- The mean of a total, from those of its units.
-use Rattle.dl_eval.proofs.Common.{ℕ, suc, ◌≡◌, ◌+◌, ◌-◌, ◌*◌, ◌^◌, ◌≤◌, List, [], ◌∷◌, length, map, arith, refl, sym, ap, subst, subst₂, ◌∙◌, Option, None, Some, All, mul-le-mul_left, pow_pos, Fraction, whole, ◌over◌, ◌+ℚ◌, Iv, spread, Holds, One, Mean, partial_sums, unit_declared, CedeLayer, Plan, Clause, IsHorizonOf, horizon, IsValidUnit, IsValid, claims_budget, mean_width, unit_mean_budget, one_horizon, IsUnitMean, AreUnitMeans, IsMeanOf, loss, loss_of}
+use Rattle.dl_eval.proofs.Common.{ℕ, suc, ◌≡◌, ◌+◌, ◌-◌, ◌*◌, ◌^◌, ◌≤◌, List, [], ◌∷◌, length, map, arith, sym, ap, subst, subst₂, ◌∙◌, Option, None, Some, All, mul-le-mul_left, pow_pos, Fraction, whole, ◌over◌, ◌+ℚ◌, Iv, spread, Holds, One, Mean, partial_sums, CedeLayer, Plan, Clause, IsHorizonOf, horizon, IsValidUnit, IsValid, claims_budget, mean_width, unit_mean_budget, one_horizon, AreUnitMeans, IsMeanOf, loss, loss_of}
 use Rattle.std.specs.List.{sum_by}
-use Rattle.std.proofs.lemmas.List.Elements.{All-head, All-tail}
+use Rattle.std.proofs.lemmas.List.Elements.{All-tail}
 use Rattle.std.proofs.lemmas.List.Sums.{sum_by-cons}
 use Rattle.dl_exact.specs.Sum.{sum_over}
 use Rattle.dl_exact.proofs.Over.{over_same}
@@ -15,6 +15,8 @@ use Rattle.dl_model.proofs.PlanMeans.{MeanHolds, units_mean}
 use Rattle.dl_plan.specs.declared.plan.Unit.{Unit as UnitOfPlan}
 use Rattle.dl_plan.specs.MeanWidth.{part_width as layer_budget, mean_width as clause_mean, part_width}
 use Rattle.dl_cede.specs.Means.{HoldsClaims, HoldsMean}
+use Rattle.dl_plan.specs.Shared.{independent}
+use Rattle.dl_eval.proofs.Losses.{is_independent}
 use Rattle.dl_eval.specs.Totals.{IsClauseMean}
 
 -- ---- of a unit without a clause
@@ -145,8 +147,12 @@ means_small {B} means few small = omega (arith, few, sum_small means small)
 
 pub is_mean : {B : ℕ} (means : List (Iv B)) (mean : Iv B) → mean.lo ≡ sum_by (λ mean. mean.lo) means
     → mean.hi ≡ sum_by (λ mean. mean.hi) means
-    → (plan : Plan) → IsValid plan → AreUnitMeans plan.cells plan.units means → IsMeanOf plan mean
-is_mean means mean low high plan valid each = record {
-  holds = rw (low, high) (means_hold plan.cells plan.units means valid.units each);
-  narrow = omega (arith, low, high, means_narrow plan.cells plan.units means each);
-}
+    → (plan : Plan) → IsValid plan → plan.common ≡ None → AreUnitMeans plan.cells plan.units means → IsMeanOf plan mean
+is_mean {B} means mean low high plan valid none each =
+    subst (λ whole. IsMeanOf whole mean) (is_independent plan none) alone
+  where
+    alone : IsMeanOf (independent plan) mean
+    alone = record {
+      holds = rw (low, high) (means_hold plan.cells plan.units means valid.units each);
+      narrow = omega (arith, low, high, means_narrow plan.cells plan.units means each);
+    }

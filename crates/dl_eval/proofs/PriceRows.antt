@@ -1,5 +1,5 @@
 -- The answer to an ask for a price.
-use Rattle.dl_eval.proofs.Common.{ℕ, ◌≡◌, ◌-◌, ◌^◌, ◌≤◌, List, length, get_or, arith, subst, Any, None, ◌over◌, ◌+ℚ◌, Iv, low_at, spread, Holds, One, Mean, partial_sums, total, GridEncloses, AreDeclared, low_cdf, aggregates_of, at_least_wider, plan_declared, Plan, IsValid, Row, total_budget, mean_budget, ask_budget, in_digits, IsBelow, at_the_end, IsAnswerTo, total_error, IsTotalOf, IsMeanOf, Prints, Loss}
+use Rattle.dl_eval.proofs.Common.{ℕ, ◌≡◌, ◌-◌, ◌^◌, ◌≤◌, List, length, get_or, arith, subst, Any, None, ◌over◌, ◌+ℚ◌, Iv, low_at, spread, Holds, One, Mean, partial_sums, total, GridEncloses, AreDeclared, low_cdf, at_least_wider, Plan, IsValid, Row, total_budget, mean_budget, ask_budget, in_digits, IsBelow, at_the_end, IsAnswerTo, total_error, IsTotalOf, IsMeanOf, Prints, Loss}
 use Rattle.std.proofs.Common.{◌⊎◌}
 use Rattle.dl_distort.specs.Prices.{AreTermsOf, AreQuantiles, price_width}
 use Rattle.dl_measures.specs.Brackets.{IsFirstFound}
@@ -10,6 +10,8 @@ use Rattle.dl_plan.specs.declared.settings.Term.{Term}
 use Rattle.dl_budget.specs.Asks.{price_budget}
 use Rattle.dl_eval.specs.Rows.{IsPriceBetween, IsPrice, IsBeyondSome}
 use Rattle.dl_eval.proofs.Lists.{any_here}
+use Rattle.dl_model.proofs.Pooled.{total_mean, total_price}
+use Rattle.dl_eval.proofs.Losses.{losses_of, losses_declared, encloses_losses, told_of, holds_told, holds_back, quantiles_back}
 use Rattle.dl_eval.proofs.Printed.{Widens, are_ends, given_widens}
 use Rattle.dl_eval.proofs.GoodRows.{ends_below}
 use Rattle.dl_eval.proofs.Tails.{tail_reached}
@@ -44,11 +46,18 @@ module _ {B : ℕ} (plan : Plan) (g : List (Iv B)) (mean : Iv B) (terms : List T
         (λ past. inside (any_here (IsPastIn g) terms i default here past)) valid t;
     ends = are_ends B (IsPriceBetween plan terms) lo hi d (price_budget (2 ^ B) plan terms) row
         (price_widens plan terms) printed (record {
-          holds = λ priced are is. holds (aggregates_of plan) priced (plan_declared plan valid) t.encloses m.holds are is;
-          least = λ priced are. least (aggregates_of plan) priced (plan_declared plan valid) t.encloses m.holds are;
+          holds = λ priced are is. holds_told plan valid (Price priced) (total_price priced) _ _
+              (holds (losses_of plan) priced (losses_declared plan valid) (encloses_losses plan valid g t) mean_back are
+              (quantiles_back plan valid priced is));
+          least = λ priced are. told_of plan valid (λ Q O. AtLeast Q O (lo over 2 ^ B)) (Price priced) (total_price priced)
+              (least (losses_of plan) priced (losses_declared plan valid) (encloses_losses plan valid g t) mean_back are);
         }) (omega (arith, wide));
   }
     where
+      mean_back : Holds (partial_sums (losses_of plan) Mean) (partial_sums (losses_of plan) One) (mean.lo over 2 ^ B)
+          (mean.hi over 2 ^ B)
+      mean_back = holds_back plan valid Mean total_mean _ _ m.holds
+
       wide : hi - lo ≤ price_budget (2 ^ B) plan terms
       wide = subst (λ n. hi - lo ≤ price_width terms (mean_budget (2 ^ B) plan) n (total_budget (2 ^ B) plan)) t.cells
           (width (mean_budget (2 ^ B) plan) (total_budget (2 ^ B) plan) (omega (arith, m.narrow)) t.narrow)

@@ -1,5 +1,5 @@
 -- The share of a unit in a total, from the grids of the unit, of all others and of the total.
-use Rattle.dl_eval.proofs.Common.{ℕ, ◌≡◌, ◌+◌, ◌-◌, ◌*◌, ◌^◌, ◌<◌, ◌≤◌, List, [], length, get_or, arith, sym, subst, mul-le-mul_left, pow_pos, length-map, Fraction, ◌over◌, ◌+ℚ◌, ◌≤ℚ◌, ◌<ℚ◌, Iv, over_le_over, low_at, high_at, spread, cv, cv_rises, Holds, AreDeclarable, One, Point, partial_sums, total, GridEncloses, unit_of, AreDeclared, aggregates_of, at_most_wider, plan_declared, plan_units, Plan, IsValid, Row, unit_budgets, total_budget, place_of, tail_budget, ask_budget, in_digits, DeclaresGiven, IsBelow, IsTailMean, IsAnswerTo, total_error, AreUnitGrids, IsTotalOf, AreOthersOf, Prints, Loss, loss_of}
+use Rattle.dl_eval.proofs.Common.{ℕ, ◌≡◌, ◌+◌, ◌-◌, ◌*◌, ◌^◌, ◌<◌, ◌≤◌, List, [], length, get_or, arith, sym, subst, mul-le-mul_left, pow_pos, length-map, None, Fraction, ◌over◌, ◌+ℚ◌, ◌≤ℚ◌, ◌<ℚ◌, Iv, over_le_over, low_at, high_at, spread, cv, cv_rises, Holds, AreDeclarable, One, Point, partial_sums, total, GridEncloses, unit_of, AreDeclared, aggregates_of, at_most_wider, plan_declared, plan_units, Plan, IsValid, Row, unit_budgets, total_budget, place_of, tail_budget, ask_budget, in_digits, Declares, DeclaresGiven, IsBelow, IsTailMean, IsAnswerTo, total_error, AreUnitGrids, IsTotalOf, AreOthersOf, Prints, Loss, loss_of}
 use Rattle.std.proofs.Common.{◌⊎◌}
 use Rattle.std.proofs.Math.Nat.{mul-le-mul}
 use Rattle.dl_exact.proofs.Over.{over_lt}
@@ -10,8 +10,11 @@ use Rattle.dl_model.specs.Measures.{without}
 use Rattle.dl_plan.specs.declared.settings.Ask.TheVariants as asks
 use Rattle.dl_budget.specs.Units.{others_budget}
 use Rattle.dl_budget.specs.Asks.{joint_budget, kappa_budget}
-use Rattle.dl_eval.specs.Rows.{least_likely, IsBeyond, IsShareOfUnit, IsTooRare}
+use Rattle.dl_eval.specs.Rows.{least_likely, IsAtMost, IsBeyond, IsShareOfUnit, IsTooRare}
 use Rattle.dl_eval.specs.Totals.{IsJointOf}
+use Rattle.dl_plan.specs.Shared.{independent}
+use Rattle.dl_model.specs.Plans.{declared}
+use Rattle.dl_eval.proofs.Losses.{is_independent}
 use Rattle.dl_eval.proofs.Printed.{are_ends, declared_ends, given_widens}
 use Rattle.dl_eval.proofs.Totals.{each_encloses, each_cells, unit_narrow}
 use Rattle.dl_eval.proofs.GoodRows.{cell_apart, plus_lt}
@@ -30,23 +33,28 @@ pub is_joint : {B : ℕ} (plan : Plan) (grids : List (List (Iv B))) (unit others
     → Holds (partial_sums us (Joint j at)) (partial_sums us One) (mean.lo over 2 ^ B) (mean.hi over 2 ^ B))
     → mean.hi - mean.lo ≤ length unit * cv (2 ^ B) (length unit) (spread unit) (spread others)
     → unit ≡ get_or grids i [] → i < length plan.units → IsValid plan → AreUnitGrids plan.cells plan.units grids
-    → AreOthersOf plan i others → IsJointOf plan i at mean
-is_joint {B} plan grids unit others i at mean holds width is inside valid units rest = record {
-  holds = holds (aggregates_of plan) i (plan_units plan valid)
-      (omega (arith, inside, length-map plan.units loss_of))
-      (subst (λ g. GridEncloses g (unit_of (aggregates_of plan) i)) (sym is)
-      (each_encloses plan.cells plan.units grids i inside units)) rest.encloses;
-  narrow = omega (arith, mean.ordered, width, wide);
-}
+    → AreOthersOf plan i others → plan.common ≡ None → IsJointOf plan i at mean
+is_joint {B} plan grids unit others i at mean holds width is inside valid units rest none =
+    subst (λ whole. IsJointOf whole i at mean) (is_independent plan none) alone
   where
     same : length unit ≡ plan.cells
     same = each_cells plan.cells plan.units grids unit i is inside units
 
-    wide : length unit * cv (2 ^ B) (length unit) (spread unit) (spread others) ≤ joint_budget (2 ^ B) plan i
+    wide : length unit * cv (2 ^ B) (length unit) (spread unit) (spread others)
+        ≤ joint_budget (2 ^ B) (independent plan) i
     wide = joint_width (2 ^ B) plan.cells (spread unit) (spread others)
         (get_or (unit_budgets (2 ^ B) plan.cells plan.units) i 0) (others_budget (2 ^ B) plan i) unit (pow_pos B) same
         (subst (λ g. spread g ≤ get_or (unit_budgets (2 ^ B) plan.cells plan.units) i 0) (sym is)
         (unit_narrow plan.cells plan.units grids i inside units)) rest.narrow
+
+    alone : IsJointOf (independent plan) i at mean
+    alone = record {
+      holds = holds (aggregates_of plan) i (plan_units plan valid)
+          (omega (arith, inside, length-map plan.units loss_of))
+          (subst (λ g. GridEncloses g (unit_of (aggregates_of plan) i)) (sym is)
+          (each_encloses plan.cells plan.units grids i inside units)) rest.encloses;
+      narrow = omega (arith, mean.ordered, width, wide);
+    }
 
 -- a unit has at most the whole of a total
 pub is_below : {B : ℕ} (plan : Plan) (grids : List (List (Iv B))) (unit others : List (Iv B)) (i at low : ℕ)
@@ -55,14 +63,13 @@ pub is_below : {B : ℕ} (plan : Plan) (grids : List (List (Iv B))) (unit others
     → AtMost (partial_sums us (Point at)) (partial_sums us One) (h over 2 ^ B) → low ≤ at * h)
     → unit ≡ get_or grids i [] → i < length plan.units → IsValid plan → AreUnitGrids plan.cells plan.units grids
     → GridEncloses others (total (without (aggregates_of plan) i))
-    → (h : ℕ)
-    → AtMost (partial_sums (aggregates_of plan) (Point at)) (partial_sums (aggregates_of plan) One) (h over 2 ^ B)
-    → low ≤ at * h
-is_below plan grids unit others i at low below is inside valid units rest h most =
+    → plan.common ≡ None → (h : ℕ) → IsAtMost plan (Point at) (h over 2 ^ B) → low ≤ at * h
+is_below {B} plan grids unit others i at low below is inside valid units rest none h most =
     below (aggregates_of plan) i h (plan_declared plan valid)
     (omega (arith, inside, length-map plan.units loss_of))
     (subst (λ g. GridEncloses g (unit_of (aggregates_of plan) i)) (sym is)
-    (each_encloses plan.cells plan.units grids i inside units)) rest most
+    (each_encloses plan.cells plan.units grids i inside units)) rest
+    (subst (λ whole. IsAtMost whole (Point at) (h over 2 ^ B)) (sym (is_independent plan none)) most)
 
 -- ---- shares
 
@@ -79,8 +86,7 @@ share_width K D J at low high l h w inside cell joint width =
 
 pub cell_holds : {B : ℕ} (plan : Plan) (g : List (Iv B)) (at low high : ℕ) → low ≡ low_at g at → high ≡ high_at g at
     → at < plan.cells → IsTotalOf plan g
-    → Holds (partial_sums (aggregates_of plan) (Point at)) (partial_sums (aggregates_of plan) One) (low over 2 ^ B)
-    (high over 2 ^ B)
+    → Declares plan (Point at) (low over 2 ^ B) (high over 2 ^ B)
 cell_holds plan g at low high of_low of_high inside t =
     rw (of_low, of_high) (t.encloses at (omega (arith, inside, t.cells)))
 
@@ -90,16 +96,13 @@ pub share_answer : {B : ℕ} (plan : Plan) (g : List (Iv B)) (joint : Iv B) (i a
     → Holds R O (low over 2 ^ B) (high over 2 ^ B)
     → AtLeast R O (1 over 2 ^ 16) × Holds Q R (lo over 2 ^ B) (hi over 2 ^ B))
     → ((k : ℕ) → joint.lo ≤ k * high → hi - lo ≤ 2 ^ 16 * (k * (high - low) + (joint.hi - joint.lo)) + 2)
-    → ((h : ℕ) → AtMost (partial_sums (aggregates_of plan) (Point at)) (partial_sums (aggregates_of plan) One)
-    (h over 2 ^ B) → joint.lo ≤ at * h)
+    → ((h : ℕ) → IsAtMost plan (Point at) (h over 2 ^ B) → joint.lo ≤ at * h)
     → at < plan.cells → IsTotalOf plan g → IsJointOf plan i at joint → Prints (2 ^ B) lo hi d row
     → IsShareOfUnit plan i at d (in_digits (2 ^ B) (kappa_budget (2 ^ B) plan i) d) row
 share_answer {B} plan g joint i at low high d lo hi row of_low of_high divided width below inside t j printed =
-    let cell : Holds (partial_sums (aggregates_of plan) (Point at)) (partial_sums (aggregates_of plan) One)
-    (low over 2 ^ B) (high over 2 ^ B) =
+    let cell : Declares plan (Point at) (low over 2 ^ B) (high over 2 ^ B) =
     cell_holds plan g at low high of_low of_high inside t in
-    let both = divided (partial_sums (aggregates_of plan) (Joint i at)) (partial_sums (aggregates_of plan) (Point at))
-    (partial_sums (aggregates_of plan) One) j.holds cell in
+    let both = divided (declared plan (Joint i at)) (declared plan (Point at)) (declared plan One) j.holds cell in
     let apart : high ≤ low + total_budget (2 ^ B) plan = omega (arith, of_low, of_high, cell_apart g at, t.narrow) in
     record {
       likely = both.0;

@@ -16,6 +16,8 @@ use Rattle.dl_cotail.specs.Settled.{IsPast, MayBeAbsent}
 use Rattle.dl_cotail.specs.Widths.{cotail_width}
 use Rattle.dl_eval.specs.Rows.{DeclaresShare, IsAtLeast, IsBeyond, IsTailShare, IsNoTailShare}
 use Rattle.dl_eval.specs.Totals.{IsTailShareOf}
+use Rattle.dl_plan.specs.Shared.{independent}
+use Rattle.dl_eval.proofs.Losses.{is_independent, total_alone}
 use Rattle.dl_eval.proofs.Printed.{Widens, are_ends}
 use Rattle.dl_eval.proofs.Totals.{each_encloses, each_cells, unit_narrow}
 use Rattle.dl_eval.proofs.Tails.{tail_reached}
@@ -75,12 +77,15 @@ pub share_holds : {B : ℕ} (plan : Plan) (grids : List (List (Iv B))) (means : 
     → Holds (unit_mean us j) (partial_sums us One) l h)
     → unit ≡ get_or grids i [] → mean ≡ get_or means i mean → i < length plan.units → IsValid plan
     → AreUnitGrids plan.cells plan.units grids → AreUnitMeans plan.cells plan.units means → AreOthersOf plan i others
-    → IsTotalOf plan g → IfSome result (λ r. DeclaresShare plan i p (r.lo over 2 ^ B) (r.hi over 2 ^ B))
-share_holds plan grids means unit others g mean i p result u holds beside is read inside valid units each rest t =
-    holds (aggregates_of plan) i (plan_declared plan valid) (omega (arith, inside, length-map plan.units loss_of))
+    → IsTotalOf plan g → plan.common ≡ None
+    → IfSome result (λ r. DeclaresShare plan i p (r.lo over 2 ^ B) (r.hi over 2 ^ B))
+share_holds {B} plan grids means unit others g mean i p result u holds beside is read inside valid units each rest t none =
+    subst (λ whole. IfSome result (λ r. DeclaresShare whole i p (r.lo over 2 ^ B) (r.hi over 2 ^ B)))
+    (is_independent plan none)
+    (holds (aggregates_of plan) i (plan_declared plan valid) (omega (arith, inside, length-map plan.units loss_of))
     (subst (λ x. GridEncloses x (unit_of (aggregates_of plan) i)) (sym is)
-    (each_encloses plan.cells plan.units grids i inside units)) rest.encloses t.encloses
-    (mean_beside plan means mean i beside u read inside valid each)
+    (each_encloses plan.cells plan.units grids i inside units)) rest.encloses (total_alone plan g none t).encloses
+    (mean_beside plan means mean i beside u read inside valid each))
 
 pub share_narrow : {B : ℕ} (plan : Plan) (grids : List (List (Iv B))) (means : List (Iv B))
     (unit others g : List (Iv B)) (mean : Iv B) (i : ℕ) (p : Fraction) (result : Option (Iv B)) (u : UnitOfPlan)
@@ -88,21 +93,25 @@ pub share_narrow : {B : ℕ} (plan : Plan) (grids : List (List (Iv B))) (means :
     → r.hi - r.lo ≤ cotail_width p (2 ^ B) m (length unit) d o t)
     → unit ≡ get_or grids i [] → mean ≡ get_or means i mean → i < length plan.units
     → AreUnitGrids plan.cells plan.units grids → AreUnitMeans plan.cells plan.units means → AreOthersOf plan i others
-    → IsTotalOf plan g → IfSome result (λ r. r.hi - r.lo ≤ cotail_budget (2 ^ B) plan i p)
-share_narrow {B} plan grids means unit others g mean i p result u width is read inside units each rest t =
-    IfSome_then result width (λ r narrow.
-    subst (λ n. r.hi - r.lo ≤ cotail_width p (2 ^ B) own n spreads (others_budget (2 ^ B) plan i)
-    (total_budget (2 ^ B) plan)) (each_cells plan.cells plan.units grids unit i is inside units)
-    (narrow own spreads (others_budget (2 ^ B) plan i) (total_budget (2 ^ B) plan)
+    → IsTotalOf plan g → plan.common ≡ None → IfSome result (λ r. r.hi - r.lo ≤ cotail_budget (2 ^ B) plan i p)
+share_narrow {B} plan grids means unit others g mean i p result u width is read inside units each rest t none =
+    subst (λ whole. IfSome result (λ r. r.hi - r.lo ≤ cotail_budget (2 ^ B) whole i p)) (is_independent plan none)
+    (IfSome_then result width (λ r narrow.
+    subst (λ n. r.hi - r.lo ≤ cotail_width p (2 ^ B) own n spreads (others_budget (2 ^ B) plan i) most)
+    (each_cells plan.cells plan.units grids unit i is inside units)
+    (narrow own spreads (others_budget (2 ^ B) plan i) most
     (mean_within plan means mean i u read inside each)
     (subst (λ x. spread x ≤ spreads) (sym is) (unit_narrow plan.cells plan.units grids i inside units)) rest.narrow
-    t.narrow))
+    (total_alone plan g none t).narrow)))
   where
     own : ℕ
     own = get_or (map (unit_mean_budget (2 ^ B) plan.cells) plan.units) i 0
 
     spreads : ℕ
     spreads = get_or (unit_budgets (2 ^ B) plan.cells plan.units) i 0
+
+    most : ℕ
+    most = total_budget (2 ^ B) (independent plan)
 
 pub is_tail_share : {B : ℕ} (plan : Plan) (i : ℕ) (p : Fraction) (result : Option (Iv B))
     → IfSome result (λ r. DeclaresShare plan i p (r.lo over 2 ^ B) (r.hi over 2 ^ B))
@@ -143,12 +152,13 @@ pub share_absent : {B : ℕ} (plan : Plan) (g : List (Iv B)) (p : Fraction) (res
     → IsFirstFound (low_cdf (2 ^ B) (low_at g)) p (length g) (Some y)
     → MayBeAbsent (partial_sums us) (length g) p (spread g over 2 ^ B))
     → IsNone result → IsFirstFound (low_cdf (2 ^ B) (low_at g)) p plan.cells (Some x) → IsValid plan → IsTotalOf plan g
-    → MayBeAbsent (declared plan) plan.cells p (total_error (2 ^ B) plan)
-share_absent {B} plan g p result x absent none found valid t =
+    → plan.common ≡ None → MayBeAbsent (declared plan) plan.cells p (total_error (2 ^ B) plan)
+share_absent {B} plan g p result x absent none found valid t alone =
     absent_wider plan (length g) plan.cells p _ _ t.cells
     (over_le_over (spread g) (total_budget (2 ^ B) plan) (2 ^ B) (pow_pos B) t.narrow)
-    (absent (aggregates_of plan) x (plan_declared plan valid) t.encloses none
-    (subst (λ n. IsFirstFound (low_cdf (2 ^ B) (low_at g)) p n (Some x)) (sym t.cells) found))
+    (subst (λ whole. MayBeAbsent (declared whole) (length g) p (spread g over 2 ^ B)) (is_independent plan alone)
+    (absent (aggregates_of plan) x (plan_declared plan valid) (total_alone plan g alone t).encloses none
+    (subst (λ n. IsFirstFound (low_cdf (2 ^ B) (low_at g)) p n (Some x)) (sym t.cells) found)))
 
 -- ---- what is told
 

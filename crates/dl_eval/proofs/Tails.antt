@@ -1,11 +1,13 @@
 -- The answer to an ask for a tail mean.
-use Rattle.dl_eval.proofs.Common.{ℕ, suc, ◌≡◌, ◌+◌, ◌-◌, ◌*◌, ◌^◌, ◌<◌, ◌≤◌, List, length, arith, inl, inr, sym, subst, div_ceil, mul-le-mul_left, mul-le-mul_right, pow_pos, div_ceil_times, Fraction, ◌over◌, ◌≤ℚ◌, ◌<ℚ◌, le_trans, lt_or_le, lt_not_le, div_ceil_least, Iv, over_le_over, low_at, high_at, spread, up_quotient, count_below, Holds, One, Mean, Tail, partial_sums, total, GridEncloses, AreDeclared, low_cdf, aggregates_of, at_least_wider, cdf_ends, plan_declared, plan_units, IsFirstAtLeast, Plan, IsValid, Row, total_budget, mean_budget, tail_budget, in_digits, few_cells, at_the_end, IsTailMean, DeclaresTail, IsTotalOf, IsMeanOf, Prints, Loss}
+use Rattle.dl_eval.proofs.Common.{ℕ, suc, ◌≡◌, ◌+◌, ◌-◌, ◌*◌, ◌^◌, ◌<◌, ◌≤◌, List, length, arith, inl, inr, sym, subst, div_ceil, mul-le-mul_left, mul-le-mul_right, pow_pos, div_ceil_times, Fraction, ◌over◌, ◌≤ℚ◌, ◌<ℚ◌, le_trans, lt_or_le, lt_not_le, div_ceil_least, Iv, over_le_over, low_at, high_at, spread, up_quotient, count_below, Holds, One, Mean, Tail, partial_sums, total, GridEncloses, AreDeclared, low_cdf, at_least_wider, cdf_ends, IsFirstAtLeast, Plan, IsValid, Row, total_budget, mean_budget, tail_budget, in_digits, few_cells, at_the_end, IsTailMean, DeclaresTail, IsTotalOf, IsMeanOf, Prints, Loss}
 use Rattle.dl_exact.proofs.BelowOne.{num_below}
 use Rattle.dl_grid.specs.Width.{up, tail_width}
 use Rattle.dl_model.specs.Measures.{IsQuantile}
 use Rattle.dl_exact.proofs.Counts.{below_grows as count_below_grows}
 use Rattle.dl_plan.specs.Ranges.{IsLevel}
 use Rattle.dl_eval.specs.Rows.{IsAtLeast}
+use Rattle.dl_model.proofs.Pooled.{total_cdf, total_mean, total_tail}
+use Rattle.dl_eval.proofs.Losses.{losses_of, losses_declared, losses_units, encloses_losses, holds_told, holds_back, quantile_back}
 use Rattle.dl_eval.proofs.Printed.{are_ends, tail_widens}
 
 -- ---- how wide it is
@@ -63,8 +65,9 @@ pub tail_reached : {B : ℕ} (plan : Plan) (g : List (Iv B)) (p : Fraction)
     → IsValid plan → IsTotalOf plan g → IsAtLeast plan (at_the_end plan) p
 tail_reached {B} plan g p found valid t =
     let some = few_cells plan valid in
-    let ends = cdf_ends (aggregates_of plan) (2 ^ B) (length g) (low_at g) (high_at g) (plan_units plan valid)
-    (pow_pos B) t.encloses (plan.cells - 1) (omega (arith, t.cells, some.0)) in
+    let ends = holds_told plan valid (at_the_end plan) (total_cdf (plan.cells - 1)) _ _
+    (cdf_ends (losses_of plan) (2 ^ B) (length g) (low_at g) (high_at g) (losses_units plan valid)
+    (pow_pos B) (encloses_losses plan valid g t) (plan.cells - 1) (omega (arith, t.cells, some.0))) in
     at_least_wider _ _ _ _ ends.0 (last_reaches g p (length g) (plan.cells - 1) (omega (arith, t.cells, some.0)) found)
 
 pub tail_answer : {B : ℕ} (plan : Plan) (g : List (Iv B)) (mean : Iv B) (p : Fraction) (d lo hi : ℕ) (row : Row)
@@ -79,7 +82,9 @@ pub tail_answer : {B : ℕ} (plan : Plan) (g : List (Iv B)) (mean : Iv B) (p : F
 tail_answer {B} plan g mean p d lo hi row found holds width level valid t m printed = record {
   reached = tail_reached plan g p found valid t;
   ends = are_ends B (DeclaresTail plan p) lo hi d (tail_budget (2 ^ B) plan p) row (tail_widens plan p) printed
-      (λ q is. holds (aggregates_of plan) q (plan_declared plan valid) t.encloses m.holds is)
+      (λ q is. holds_told plan valid (Tail p q) (total_tail p q) _ _
+      (holds (losses_of plan) q (losses_declared plan valid) (encloses_losses plan valid g t)
+      (holds_back plan valid Mean total_mean _ _ m.holds) (quantile_back plan valid q p is)))
       (omega (arith, width, wide));
 }
   where

@@ -1,22 +1,21 @@
 -- The grid of a total, from those of its units.
-use Rattle.dl_eval.proofs.Common.{ℕ, zero, suc, ◌≡◌, ◌^◌, ◌<◌, ◌≤◌, List, [], ◌∷◌, ◌++◌, length, get_or, map, arith, refl, sym, ap, subst, subst₂, ◌∙◌, Option, None, Some, IfSome, All, pow_pos, length-append, length-map, get_or_default, Iv, spread, low_at, high_at, cv, cv_rises, mapped, GridEncloses, unit_of, outcome_after, aggregate_of, aggregates_of, compound_of, unit_declared, plan_units, Plan, Asked, IsValidUnit, IsValid, unit_budget, unit_budgets, place_of, NamesUnit, IsTotal, AreSumsWithout, AreUnitGrids, AreShared, IsTotalOf, AreOthersOf, AreOthers, HasOthers, shared_unit, loss_of}
+use Rattle.dl_eval.proofs.Common.{ℕ, zero, suc, ◌≡◌, ◌^◌, ◌<◌, ◌≤◌, List, [], ◌∷◌, ◌++◌, length, get_or, map, arith, refl, sym, ap, subst, subst₂, ◌∙◌, Option, None, Some, IfSome, All, pow_pos, length-append, length-map, get_or_default, Iv, spread, low_at, high_at, cv, cv_rises, mapped, GridEncloses, unit_of, outcome_after, aggregate_of, aggregates_of, compound_of, unit_declared, plan_units, Plan, IsValidUnit, IsValid, unit_budget, unit_budgets, IsTotal, AreSumsWithout, AreUnitGrids, AreShared, IsTotalOf, AreOthersOf, AreOthers, HasOthers, loss_of}
 use Rattle.std.proofs.lemmas.Option.{IfSome_then}
-use Rattle.std.specs.Prelude.{Bool, false, IsTrue, option_map}
+use Rattle.std.specs.Prelude.{Bool, false, IsTrue}
 use Rattle.std.specs.List.{fold, remove}
 use Rattle.std.proofs.lemmas.List.{get_or-map}
 use Rattle.dl_grid.specs.Width.{sum_spread as sum_budget, sum_spread}
 use Rattle.dl_model.proofs.FamilyLaws.{encloses_same}
 use Rattle.dl_model.proofs.UnitLaws.{unit_plain}
 use Rattle.dl_plan.specs.declared.plan.Unit.{Unit as UnitOfPlan}
-use Rattle.dl_plan.specs.declared.settings.Ask.{Ask}
-use Rattle.dl_plan.specs.Facts.{facts_of}
-use Rattle.dl_budget.specs.Asks.{IsNamed}
 use Rattle.dl_budget.proofs.Sums.{budgets_length, budget_here}
 use Rattle.dl_port.specs.Sums.{EncloseEach}
 use Rattle.dl_eval.proofs.Lists.{any_here}
 use Rattle.dl_port.specs.Shared.{IsSumWithout}
 use Rattle.dl_eval.specs.declared.grids.Grids.{Grids}
-use Rattle.dl_eval.specs.Totals.{AreGridsOf, AreUnitMeans, most_unit_mean}
+use Rattle.dl_plan.specs.Shared.{independent}
+use Rattle.dl_eval.proofs.Losses.{is_independent}
+use Rattle.dl_eval.specs.Totals.{AreGridsOf, AreUnitMeans, AreUnits, most_unit_mean}
 
 -- ---- what the grids enclose
 
@@ -136,13 +135,20 @@ each_narrow {B} plan grids each = record {
 -- ---- the total
 
 pub is_total : {B : ℕ} (plan : Plan) (grids : List (List (Iv B))) (g : List (Iv B)) → IsValid plan
-    → AreUnitGrids plan.cells plan.units grids
+    → plan.common ≡ None → AreUnitGrids plan.cells plan.units grids
     → IsTotal plan.cells grids g → IsTotalOf plan g
-is_total {B} plan grids g valid each sum = record {
-  cells = sum.cells;
-  encloses = sum.encloses (aggregates_of plan) (plan_units plan valid) (enclose_each plan grids each);
-  narrow = omega (arith, sum.narrow, sums_rise (2 ^ B) plan.cells _ _ (pow_pos B) (each_narrow plan grids each));
-}
+is_total {B} plan grids g valid none each sum = subst (λ whole. IsTotalOf whole g) (is_independent plan none) alone
+  where
+    alone : IsTotalOf (independent plan) g
+    alone = record {
+      cells = sum.cells;
+      encloses = sum.encloses (aggregates_of plan) (plan_units plan valid) (enclose_each plan grids each);
+      narrow = omega (
+        arith,
+        sum.narrow,
+        sums_rise (2 ^ B) plan.cells _ _ (pow_pos B) (each_narrow plan grids each),
+      );
+    }
 
 -- ---- all units but one
 
@@ -172,25 +178,21 @@ are_others plan grids asked sums valid each rest = record {
       (λ g sum. others_of plan grids i g valid each sum);
 }
 
--- where an ask is for a unit's share, the sum of all others is there
-pub has_others : {B : ℕ} (plan : Plan) (grids : List (List (Iv B))) (all : List Asked) (asked : List Bool)
+-- for the unit that an ask names, the sum of all others is there
+pub has_others : {B : ℕ} (plan : Plan) (grids : List (List (Iv B))) (named : List (Option ℕ)) (asked : List Bool)
     (made : Grids B)
     → AreUnitGrids plan.cells plan.units grids
-    → AreShared plan.units all asked → AreSumsWithout plan.cells grids asked made.sums.others.items
-    → All (λ a. NamesUnit plan.units a.ask) all → All (λ a. HasOthers plan.units made a.ask) all
-has_others plan grids all asked made each shared rest named = λ k d inside i is.
-    let place : i < length plan.units = names_shared plan.units (get_or all k d).ask i (named k d inside) is in
-    (rest.there i (omega (arith, place, each.as_many))).1
-    ((shared.each i place).1 (any_here (λ (a : Asked). shared_unit plan.units a.ask ≡ Some i) all k d inside is))
+    → AreShared (length plan.units) named asked → AreSumsWithout plan.cells grids asked made.sums.others.items
+    → AreUnits (length plan.units) named → All (HasOthers made) named
+has_others plan grids named asked made each shared rest all = λ k d inside.
+    there k d inside (get_or named k d) refl (all k d inside)
   where
-    named_place : (units : List UnitOfPlan) (unit : Option (List ℕ)) (i : ℕ) → IfSome unit (λ name. IsNamed name units)
-        → option_map (λ name. place_of name units) unit ≡ Some i → i < length units
-    named_place units None i named is = absurd (cc)
-    named_place units (Some name) i named is = let same : place_of name units ≡ i = cc in omega (arith, same, named)
-
-    names_shared : (units : List UnitOfPlan) (ask : Ask) (i : ℕ) → NamesUnit units ask → shared_unit units ask ≡ Some i
-        → i < length units
-    names_shared units ask i named is = named_place units (facts_of ask).unit i named is
+    there : (k : ℕ) (d : Option ℕ) → k < length named → (unit : Option ℕ) → get_or named k d ≡ unit
+        → IfSome unit (λ i. i < length plan.units) → HasOthers made unit
+    there k d inside None is place = place
+    there k d inside (Some i) is place =
+        (rest.there i (omega (arith, place, each.as_many))).1
+        ((shared.each i place).1 (any_here (λ (unit : Option ℕ). unit ≡ Some i) named k d inside is))
 
 -- each grid has the cells
 pub long_enough : {B : ℕ} (cells : ℕ) (us : List UnitOfPlan) (grids : List (List (Iv B))) → AreUnitGrids cells us grids
@@ -212,12 +214,12 @@ only_one xs (y ∷ rest) x is one = absurd (omega (arith, ap (λ t. length t) is
 
 -- its grid is that of the total
 module _ {B : ℕ} (plan : Plan) (grids : List (List (Iv B))) (g : List (Iv B)) (made : Grids B) where
-  pub grids_of_one : IsValid plan → AreUnitGrids plan.cells plan.units grids
+  pub grids_of_one : IsValid plan → plan.common ≡ None → AreUnitGrids plan.cells plan.units grids
       → AreUnitMeans plan.cells plan.units made.means.items → All (λ mean. mean.hi ≤ most_unit_mean) made.means.items
       → grids ≡ g ∷ []
       → IsTotal (length g) (g ∷ []) made.sums.total
       → AreSumsWithout (length g) (g ∷ []) (false ∷ []) made.sums.others.items → AreGridsOf plan made
-  grids_of_one valid each means small only total rest =
+  grids_of_one valid none each means small only total rest =
       let long : length g ≡ plan.cells = each_cells plan.cells plan.units grids g 0 (sym (ap (λ t. get_or t 0 []) only))
       (omega (arith, valid.some)) each in
       let of_total = subst₂ (λ k t. IsTotal k t made.sums.total) long (sym only) total in
@@ -227,7 +229,7 @@ module _ {B : ℕ} (plan : Plan) (grids : List (List (Iv B))) (g : List (Iv B)) 
         means = means;
         small = small;
         others = are_others plan grids (false ∷ []) made.sums.others.items valid each of_rest;
-        total = is_total plan grids made.sums.total valid each of_total;
+        total = is_total plan grids made.sums.total valid none each of_total;
       }
     where
       unasked : (i : ℕ) → ¬ IsTrue (get_or (false ∷ []) i false)

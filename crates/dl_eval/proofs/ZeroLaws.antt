@@ -1,11 +1,12 @@
 -- A unit whose probability of no claim is changed: its grid and its mean from those before the change.
-use Rattle.dl_eval.proofs.Common.{ℕ, zero, ◌≡◌, ◌+◌, ◌-◌, ◌*◌, ◌^◌, ◌<◌, ◌≤◌, List, [], ◌∷◌, length, arith, inl, inr, sym, ap, subst, ◌∙◌, None, Some, Option, IfSome, mul-le-mul_left, pow_pos, Fraction, whole, ◌over◌, ◌≤ℚ◌, ◌<ℚ◌, Iv, spread, Holds, GridEncloses, Aggregate, loss, unit_declared, Loss, One, Mean, partial_sums, aggregate_of, loss_of, IsValidUnit, horizon, mean_width, claims_budget, after_clause, IsUnitGrid, IsUnitMean}
-use Rattle.dl_limits.specs.Limits.{IsPlanScale, bits_of, most_amount_at, most_expected, most_none_budget}
+use Rattle.dl_eval.proofs.Common.{ℕ, ◌≡◌, ◌+◌, ◌-◌, ◌*◌, ◌^◌, ◌≤◌, List, [], ◌∷◌, length, arith, sym, ap, subst, ◌∙◌, None, Some, Option, IfSome, mul-le-mul_left, pow_pos, Fraction, whole, ◌over◌, ◌≤ℚ◌, Iv, spread, Holds, GridEncloses, Aggregate, loss, unit_declared, One, Mean, partial_sums, aggregate_of, IsValidUnit, horizon, mean_width, claims_budget, after_clause, IsUnitGrid, IsUnitMean}
+use Rattle.dl_limits.specs.Limits.{IsPlanScale, bits_of, most_amount_at, most_expected}
 use Rattle.dl_exact.proofs.Over.{over_self}
 use Rattle.dl_exact.proofs.RoundingLaws.{ceiling_div}
 unfoldable use Rattle.dl_grid.specs.Width.{up}
 use Rattle.dl_plan.specs.declared.plan.Unit.{Unit as UnitOfPlan}
-use Rattle.dl_plan.specs.Valid.{declared_mean, IsNewZero}
+use Rattle.dl_plan.specs.Means.{declared_mean}
+use Rattle.dl_plan.specs.Valid.{IsNewZero}
 use Rattle.dl_plan.proofs.ValidUnits.{mean_most, new_zero}
 use Rattle.dl_model.specs.ChangedZero.{changed}
 use Rattle.dl_model.specs.Units.{IsDeclared}

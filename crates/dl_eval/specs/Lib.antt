@@ -1,4 +1,5 @@
 pub mod Rows
 pub mod Totals
+pub mod Drawn
 pub mod Answers
 pub mod Same

@@ -1,31 +1,31 @@
 -- What the rows are made from: the grids and the means of the units, of their total, and of all but
 -- one.
-use Rattle.std.specs.Prelude.{ℕ, ◌≡◌, ◌+◌, ◌*◌, ◌/◌, ◌<◌, ◌≤◌, ◌^◌, ◌↔◌, Bool, false, IsTrue, Option, None, Some, IsSome, IfSome, option_map, All, Any, List, [], ◌∷◌, length, get_or}
+use Rattle.std.specs.Prelude.{ℕ, ◌≡◌, ◌+◌, ◌*◌, ◌/◌, ◌<◌, ◌≤◌, ◌^◌, ◌↔◌, Bool, false, IsTrue, Option, None, Some, IsSome, IfSome, All, Any, List, [], ◌∷◌, length, get_or}
 use Rattle.std.specs.Int.{div_ceil}
 use Rattle.dl_exact.specs.Fraction.{Fraction, ◌over◌}
 use Rattle.dl_iv.specs.declared.interval.Iv.{Iv}
-use Rattle.dl_grid.specs.Cells.{spread}
+use Rattle.dl_grid.specs.Cells.{low_at, high_at, spread}
 use Rattle.dl_model.specs.Series.{Holds}
 use Rattle.dl_model.specs.Family.{GridEncloses}
 use Rattle.dl_model.specs.Units.{mapped}
-use Rattle.dl_model.specs.Program.{One, Mean, Joint, partial_sums, total}
+use Rattle.dl_model.specs.Program.{One, Point, Mean, Joint, partial_sums, total}
 use Rattle.dl_model.specs.Measures.{without}
-use Rattle.dl_model.specs.Plans.{aggregate_of, loss_of, aggregates_of}
+use Rattle.dl_model.specs.Plans.{aggregate_of, loss_of, aggregates_of, compound_of}
+use Rattle.dl_common.specs.Pooled.{IsPooled, IsRaised}
 use Rattle.dl_plan.specs.declared.plan.Unit.{Unit as UnitOfPlan}
 use Rattle.dl_plan.specs.declared.plan.Plan.{Plan}
-use Rattle.dl_plan.specs.declared.settings.Ask.{Ask}
-use Rattle.dl_plan.specs.declared.settings.Asked.{Asked}
-use Rattle.dl_plan.specs.Facts.{facts_of}
 use Rattle.dl_plan.specs.Horizon.{horizon}
 use Rattle.dl_plan.specs.MeanWidth.{mean_width}
 use Rattle.dl_cede.specs.Means.{HoldsMean}
 use Rattle.dl_budget.specs.Claims.{claims_budget}
+use Rattle.dl_budget.specs.Shared.{raised_budget}
 use Rattle.dl_budget.specs.Units.{after_clause, unit_budget, unit_mean_budget, total_budget, others_budget, mean_budget}
 use Rattle.dl_report.specs.declared.report.End.TheVariants.{Number}
 use Rattle.dl_report.specs.declared.report.Row.{Row}
-use Rattle.dl_budget.specs.Asks.{place_of, joint_budget, cotail_budget}
+use Rattle.dl_budget.specs.Asks.{joint_budget, cotail_budget}
 use Rattle.dl_exact.specs.Fraction.{Fraction}
 use Rattle.dl_eval.specs.declared.grids.Grids.{Grids}
+use Rattle.dl_eval.specs.declared.pooled.PooledGrids.{PooledGrids}
 use Rattle.dl_eval.specs.Rows.{Declares, DeclaresShare}
 
 -- ---- how large means can be
@@ -87,10 +87,11 @@ pub record AreUnitMeans {B : ℕ} (cells : ℕ) (units : List UnitOfPlan)
 
 -- ---- sums of units
 
--- the grid of the total, within its budget
+-- the grid of the total, within its budget: each cell holds the probability of its total
 pub record IsTotalOf {B : ℕ} (plan : Plan) (g : List (Iv B)) : Type 0 where
   pub cells : length g ≡ plan.cells
-  pub encloses : GridEncloses g (total (aggregates_of plan))
+  pub encloses : (x : ℕ) → x < length g
+      → Declares plan (Point x) (low_at g x over 2 ^ B) (high_at g x over 2 ^ B)
   pub narrow : spread g ≤ total_budget (2 ^ B) plan
 
 -- the grid of the sum of all units but unit i, within its budget
@@ -104,22 +105,42 @@ pub record IsMeanOf {B : ℕ} (plan : Plan) (mean : Iv B) : Type 0 where
   pub holds : Declares plan Mean (mean.lo over 2 ^ B) (mean.hi over 2 ^ B)
   pub narrow : mean.hi ≤ mean.lo + mean_budget (2 ^ B) plan
 
+-- ---- units that share a factor
+
+-- the one unit in the place of all, with the shape of the factor
+abbrev pub IsPooledOf : Plan → UnitOfPlan → Type 0
+IsPooledOf plan unit = (r : ℕ) → plan.common ≡ Some r → IsPooled r plan.units unit
+
+-- the grid of that unit with one more in its shape, within its budget
+pub record IsRaisedGridOf {B : ℕ} (r : ℕ) (plan : Plan) (g : List (Iv B)) : Type 0 where
+  pub cells : length g ≡ plan.cells
+  pub unit : UnitOfPlan
+  pub raised : IsRaised r plan.units unit
+  pub encloses : GridEncloses g (compound_of unit.freq unit.sev)
+  pub narrow : spread g ≤ raised_budget (2 ^ B) plan.cells r plan.units
+
+-- the grid of the total of units that share a factor; and that of the raised unit, where it is there
+pub record ArePooledGridsOf {B : ℕ} (plan : Plan) (grids : PooledGrids B) : Type 0 where
+  pub shape : ℕ
+  pub shares : plan.common ≡ Some shape
+  pub total : IsTotalOf plan grids.total
+  pub raised : IfSome grids.raised (IsRaisedGridOf shape plan)
+
 -- ---- shares
 
--- the unit whose share an ask is for, counted from 0
-abbrev pub shared_unit : List UnitOfPlan → Ask → Option ℕ
-shared_unit units ask = option_map (λ name. place_of name units) (facts_of ask).unit
+-- each is the number of one of so many units, counted from 0, or none
+abbrev pub AreUnits : ℕ → List (Option ℕ) → Type 0
+AreUnits units named = All (λ unit. IfSome unit (λ i. i < units)) named
 
--- whether each unit is one whose share an ask is for
-pub record AreShared (units : List UnitOfPlan) (all : List Asked) (asked : List Bool) : Type 0 where
-  pub as_many : length asked ≡ length units
-  pub each : (i : ℕ) → i < length units → IsTrue (get_or asked i false)
-      ↔ Any (λ a. shared_unit units a.ask ≡ Some i) all
+-- whether each of so many units is one of those that asks name
+pub record AreShared (units : ℕ) (named : List (Option ℕ)) (asked : List Bool) : Type 0 where
+  pub as_many : length asked ≡ units
+  pub each : (i : ℕ) → i < units → IsTrue (get_or asked i false)
+      ↔ Any (λ unit. unit ≡ Some i) named
 
--- the grid of all other units is there for the unit whose share an ask is for
-abbrev pub HasOthers : {B : ℕ} → List UnitOfPlan → Grids B → Ask → Type 0
-HasOthers units grids ask = (i : ℕ) → shared_unit units ask ≡ Some i
-    → IsSome (get_or grids.sums.others.items i None)
+-- the grid of all other units is there for this unit, if there is one
+abbrev pub HasOthers : {B : ℕ} → Grids B → Option ℕ → Type 0
+HasOthers grids unit = IfSome unit (λ i. IsSome (get_or grids.sums.others.items i None))
 
 -- for each unit, where it is there, the grid of the sum of all others
 pub record AreOthers {B : ℕ} (plan : Plan) (others : List (Option (List (Iv B)))) : Type 0 where

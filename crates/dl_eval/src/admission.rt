@@ -1,15 +1,16 @@
 //! Which asks are refused.
 
-ghost use Rattle.std.specs.Prelude.{◌≡◌, ◌<◌, ◌≤◌, ◌↔◌, IsTrue, ℕ, List, None, All, MatchOption, MatchResult, length};
+ghost use Rattle.std.specs.Prelude.{◌≡◌, ◌<◌, ◌≤◌, ◌↔◌, IsTrue, ℕ, List, None, All, IfOk, IfSome, MatchOption, MatchResult, length};
 ghost use Rattle.dl_limits.specs.Limits.{bits_of, most_asks, most_units};
 ghost use Rattle.dl_plan.specs.Ranges.{AreInRange};
 ghost use Rattle.dl_plan.specs.Valid.{IsValid};
-ghost use Rattle.dl_budget.specs.Asks.{IsInside, NamesUnit};
+ghost use Rattle.dl_budget.specs.Asks.{IsInside, NamesUnit, named_units};
 ghost use Rattle.dl_eval.specs.Answers.{AreInside, NameUnits, HasShare, AllPass, IsFirstNot, IsFirstWide, AreAdmitted, RefusesAsk};
 
 use crate::fault::EvalFault;
-use dl_budget::{budgets_of, needed_with, place};
+use dl_budget::{budgets_of, named_unit, needed_with};
 use dl_plan::{Ask, Asked, Plan, Settings, Unit};
+use std::alloc::{AllocError, Global};
 
 /// Whether an ask lies inside a grid of so many cells.
 fn is_inside(cells: u32, ask: &Ask) -> bool
@@ -18,13 +19,30 @@ fn is_inside(cells: u32, ask: &Ask) -> bool
     ask.reach() <= cells as u64
 }
 
-/// Whether a unit that an ask names is there.
-fn names_unit(units: &[Unit], ask: &Ask) -> bool
+/// For each ask, the number of the unit that it names, counted from 0; the number of units where
+/// none has the name, and nothing where the ask names none.
+fn named_units(
+    alloc: Global,
+    units: &[Unit],
+    asks: &[Asked],
+) -> Result<Vec<Option<u32>>, AllocError>
     requires few { length units.now ≤ most_units }
-    ensures { IsTrue result ↔ NamesUnit units.now ask.now }
+    ensures { IfOk result (λ named. named.items ≡ named_units units.now asks.now) }
 {
-    match ask.unit() {
-        Some(name) => (place(units, name.as_slice()) as usize) < units.len(),
+    let mut named = Vec::new(alloc);
+    for asked in asks {
+        named.push(named_unit(units, &asked.ask))?;
+    }
+    Ok(named)
+}
+
+/// Whether a number, where there is one, is that of a unit.
+fn is_unit(units: &[Unit], unit: Option<u32>) -> bool
+    requires few { length units.now ≤ most_units }
+    ensures { IsTrue result ↔ IfSome unit (λ i. i < length units.now) }
+{
+    match unit {
+        Some(i) => (i as usize) < units.len(),
         None => true,
     }
 }
@@ -43,15 +61,16 @@ fn first_beyond(cells: u32, asks: &[Asked]) -> Option<u32>
     None
 }
 
-/// The first ask that names no unit.
-fn first_unknown(units: &[Unit], asks: &[Asked]) -> Option<u32>
+/// The first ask that names no unit of the plan.
+fn first_unknown(units: &[Unit], asks: &[Asked], named: &[Option<u32>]) -> Option<u32>
     requires units { length units.now ≤ most_units }
     requires few { length asks.now ≤ most_asks }
+    requires named { named.now ≡ named_units units.now asks.now }
     ensures { MatchOption result (All (λ asked. NamesUnit units.now asked.ask) asks.now)
         (IsFirstNot (λ asked. NamesUnit units.now asked.ask) asks.now) }
 {
     for i in 0..asks.len() {
-        if !names_unit(units, &asks[i].ask) {
+        if !is_unit(units, named[i]) {
             return Some(i as u32);
         }
     }
@@ -85,12 +104,17 @@ fn first_share(plan: &Plan, asks: &[Asked]) -> Option<u32>
 /// The first ask that needs more width than the settings give, and the width it needs. The budgets
 /// of the total and of its mean are computed once for all asks.
 #[tactic(auto, using(crate::proofs::Scales::plan_scale))]
-fn first_wide<const B: u32>(plan: &Plan, settings: &Settings) -> Option<(u32, u128)>
+fn first_wide<const B: u32>(
+    plan: &Plan,
+    settings: &Settings,
+    named: &[Option<u32>],
+) -> Option<(u32, u128)>
     requires scale { B ≡ bits_of plan.now.cells }
     requires valid { IsValid plan.now }
     requires ranges { AreInRange settings.now }
     requires inside { AreInside plan.now settings.now }
     requires named { NameUnits plan.now settings.now }
+    requires numbers { named.now ≡ named_units plan.now.units settings.now.asks }
     ensures { MatchOption result (AllPass plan.now settings.now)
         (λ wide. IsFirstWide plan.now settings.now wide.0 wide.1) }
 {
@@ -98,7 +122,7 @@ fn first_wide<const B: u32>(plan: &Plan, settings: &Settings) -> Option<(u32, u1
     let budgets = budgets_of::<B>(plan);
     for i in 0..asks.len() {
         let ask = &asks[i].ask;
-        let width = needed_with::<B>(plan, budgets, ask, settings.digits);
+        let width = needed_with::<B>(plan, budgets, ask, named[i], settings.digits);
         if width > ask.most_width(settings) as u128 {
             return Some((i as u32, width));
         }
@@ -106,28 +130,36 @@ fn first_wide<const B: u32>(plan: &Plan, settings: &Settings) -> Option<(u32, u1
     None
 }
 
-/// Refuses the first ask past the grid, else the first that names no unit, else the first for a
-/// share of the tail mean where the units share a factor, else the first that needs more width than
-/// the settings give. Takes no memory.
-pub(crate) fn admit<const B: u32>(plan: &Plan, settings: &Settings) -> Result<(), EvalFault>
+/// For each ask the number of the unit that it names; or refuses the first ask past the grid, else
+/// the first that names no unit, else the first for a share of the tail mean where the units share a
+/// factor, else the first that needs more width than the settings give.
+pub(crate) fn admit<const B: u32>(
+    alloc: Global,
+    plan: &Plan,
+    settings: &Settings,
+) -> Result<Vec<Option<u32>>, EvalFault>
     requires scale { B ≡ bits_of plan.now.cells }
     requires valid { IsValid plan.now }
     requires ranges { AreInRange settings.now }
-    ensures { MatchResult result (λ _. AreAdmitted plan.now settings.now)
+    ensures admitted { MatchResult result (λ _. AreAdmitted plan.now settings.now)
         (RefusesAsk plan.now settings.now) }
+    ensures numbers { IfOk result (λ named.
+        named.items ≡ named_units plan.now.units settings.now.asks) }
 {
     let asks = settings.asks.as_slice();
     if let Some(i) = first_beyond(plan.cells, asks) {
         return Err(EvalFault::AskBeyond(i));
     }
-    if let Some(i) = first_unknown(plan.units.as_slice(), asks) {
+    let units = plan.units.as_slice();
+    let named = named_units(alloc, units, asks)?;
+    if let Some(i) = first_unknown(units, asks, named.as_slice()) {
         return Err(EvalFault::UnknownUnit(i));
     }
     if let Some(i) = first_share(plan, asks) {
         return Err(EvalFault::NoShare(i));
     }
-    if let Some((i, width)) = first_wide::<B>(plan, settings) {
+    if let Some((i, width)) = first_wide::<B>(plan, settings, named.as_slice()) {
         return Err(EvalFault::TooWide(i, width));
     }
-    Ok(())
+    Ok(named)
 }

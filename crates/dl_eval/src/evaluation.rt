@@ -1,18 +1,21 @@
 //! The report of a plan.
 
-ghost use Rattle.std.specs.Prelude.{◌≡◌, ◌≤◌, ◌^◌, ◌↔◌, IsTrue, None, All, IfOk, MatchResult, IfSome};
+ghost use Rattle.std.specs.Prelude.{◌≡◌, ◌≤◌, ◌^◌, ◌↔◌, IsTrue, IsSome, None, All, Any, IfOk, MatchResult, IfSome, length};
 ghost use Rattle.dl_limits.specs.Limits.{bits_of};
 ghost use Rattle.dl_plan.specs.declared.settings.Ask.TheVariants as kinds;
 ghost use Rattle.dl_plan.specs.Ranges.{AreInRange};
 ghost use Rattle.dl_plan.specs.Valid.{IsValid};
-ghost use Rattle.dl_budget.specs.Asks.{NamesUnit};
-ghost use Rattle.dl_eval.specs.Answers.{AreInside, NameUnits, IsGoodReport, IsAnswered, RefusesAsk};
-ghost use Rattle.dl_eval.specs.Totals.{most_mean, AreGridsOf, HasOthers, IsMeanOf};
+ghost use Rattle.dl_budget.specs.Asks.{named_units};
+ghost use Rattle.dl_eval.specs.Answers.{AreInside, NameUnits, HaveShares, IsGoodReport, IsAnswered, RefusesAsk};
+ghost use Rattle.dl_eval.specs.Totals.{most_mean, AreUnits, IsMeanOf};
+ghost use Rattle.dl_eval.specs.Drawn.{AreDrawnOf, HasNeeded};
 
 use crate::admission::admit;
+use crate::drawn::PlanGrids;
 use crate::fault::EvalFault;
-use crate::grids::{Grids, grids_of};
+use crate::grids::grids_of;
 use crate::mean::total_mean;
+use crate::pooled::{pooled_grids, pooled_mean, pooled_unit};
 use crate::rows::row;
 use crate::units::{unit_means, unit_outcomes};
 use dl_iv::Iv;
@@ -43,27 +46,29 @@ fn are_means(asks: &[Asked]) -> bool
 #[derive(Drop)]
 struct Parts<const B: u32> {
     /// The grids; none where all asks are for the mean.
-    grids: Option<Grids<B>>,
+    grids: Option<PlanGrids<B>>,
     /// The mean of the total, in buckets.
     mean: Iv<B>,
 }
 
-/// What the rows of a valid plan are made from. Where all asks are for the mean, the only grids
-/// made on the way are those of units with an aggregate clause.
+/// What the rows of a valid plan are made from, whose units are independent. Where all asks are for
+/// the mean, the only grids made on the way are those of units with an aggregate clause.
 #[tactic(auto, using(crate::proofs::Scales::plan_scale))]
-fn parts_for<const B: u32>(
+fn independent_parts<const B: u32>(
     alloc: Global,
     work: &mut Workspace,
     plan: &Plan,
     asks: &[Asked],
+    named: &[Option<u32>],
 ) -> Result<Parts<B>, AllocError>
     requires scale { B ≡ bits_of plan.now.cells }
     requires valid { IsValid plan.now }
-    requires named { All (λ asked. NamesUnit plan.now.units asked.ask) asks.now }
+    requires independent { plan.now.common ≡ None }
+    requires named { AreUnits (length plan.now.units) named.now }
     ensures grids { IfOk result (λ parts. IfSome parts.grids (λ made.
-        AreGridsOf plan.now made)) }
+        AreDrawnOf plan.now made)) }
     ensures there { IfOk result (λ parts. IfSome parts.grids (λ made.
-        All (λ asked. HasOthers plan.now.units made asked.ask) asks.now)) }
+        All (HasNeeded made) named.now)) }
     ensures none { IfOk result (λ parts. parts.grids ≡ None
         → All (λ asked. asked.ask ≡ kinds.Mean) asks.now) }
     ensures mean { IfOk result (λ parts. IsMeanOf plan.now parts.mean) }
@@ -78,11 +83,78 @@ fn parts_for<const B: u32>(
     }
     let made = unit_outcomes(alloc, work, plan)?;
     let mean = total_mean(made.means.as_slice());
-    let grids = grids_of(alloc, work, plan, asks, made.grids, made.means)?;
+    let grids = grids_of(alloc, work, plan, named, made.grids, made.means)?;
     Ok(Parts {
-        grids: Some(grids),
+        grids: Some(PlanGrids::Independent(grids)),
         mean,
     })
+}
+
+/// Whether an ask names a unit.
+fn is_some_named(named: &[Option<u32>]) -> bool
+    ensures { IsTrue result ↔ Any (λ unit. IsSome unit) named.now }
+{
+    named.iter().any(|unit| unit.is_some())
+}
+
+/// What the rows of a valid plan are made from, whose units share a factor. Where all asks are for
+/// the mean no grid is made.
+fn shared_parts<const B: u32>(
+    alloc: Global,
+    work: &mut Workspace,
+    plan: &Plan,
+    asks: &[Asked],
+    named: &[Option<u32>],
+) -> Result<Parts<B>, AllocError>
+    requires scale { B ≡ bits_of plan.now.cells }
+    requires valid { IsValid plan.now }
+    requires shares { IsSome plan.now.common }
+    requires named { AreUnits (length plan.now.units) named.now }
+    ensures grids { IfOk result (λ parts. IfSome parts.grids (λ made.
+        AreDrawnOf plan.now made)) }
+    ensures there { IfOk result (λ parts. IfSome parts.grids (λ made.
+        All (HasNeeded made) named.now)) }
+    ensures none { IfOk result (λ parts. parts.grids ≡ None
+        → All (λ asked. asked.ask ≡ kinds.Mean) asks.now) }
+    ensures mean { IfOk result (λ parts. IsMeanOf plan.now parts.mean) }
+    ensures small { IfOk result (λ parts. parts.mean.hi ≤ most_mean) }
+{
+    let pooled = pooled_unit(alloc, plan)?;
+    let mean = pooled_mean(plan, &pooled);
+    if are_means(asks) {
+        return Ok(Parts { grids: None, mean });
+    }
+    let grids = pooled_grids(alloc, work, plan, &pooled, is_some_named(named))?;
+    Ok(Parts {
+        grids: Some(PlanGrids::Shared(grids)),
+        mean,
+    })
+}
+
+/// What the rows of a valid plan are made from.
+fn parts_for<const B: u32>(
+    alloc: Global,
+    work: &mut Workspace,
+    plan: &Plan,
+    asks: &[Asked],
+    named: &[Option<u32>],
+) -> Result<Parts<B>, AllocError>
+    requires scale { B ≡ bits_of plan.now.cells }
+    requires valid { IsValid plan.now }
+    requires named { AreUnits (length plan.now.units) named.now }
+    ensures grids { IfOk result (λ parts. IfSome parts.grids (λ made.
+        AreDrawnOf plan.now made)) }
+    ensures there { IfOk result (λ parts. IfSome parts.grids (λ made.
+        All (HasNeeded made) named.now)) }
+    ensures none { IfOk result (λ parts. parts.grids ≡ None
+        → All (λ asked. asked.ask ≡ kinds.Mean) asks.now) }
+    ensures mean { IfOk result (λ parts. IsMeanOf plan.now parts.mean) }
+    ensures small { IfOk result (λ parts. parts.mean.hi ≤ most_mean) }
+{
+    match plan.common {
+        Some(_) => shared_parts(alloc, work, plan, asks, named),
+        None => independent_parts(alloc, work, plan, asks, named),
+    }
 }
 
 /// The rows of the asks, in order.
@@ -90,16 +162,18 @@ fn report<const B: u32>(
     alloc: Global,
     plan: &Plan,
     settings: &Settings,
+    named: &[Option<u32>],
     parts: &Parts<B>,
 ) -> Result<Report, AllocError>
     requires scale { B ≡ bits_of plan.now.cells }
-    requires grids { IfSome parts.now.grids (λ made. AreGridsOf plan.now made) }
+    requires grids { IfSome parts.now.grids (λ made. AreDrawnOf plan.now made) }
     requires valid { IsValid plan.now }
     requires ranges { AreInRange settings.now }
     requires inside { AreInside plan.now settings.now }
     requires named { NameUnits plan.now settings.now }
-    requires there { IfSome parts.now.grids (λ made.
-        All (λ asked. HasOthers plan.now.units made asked.ask) settings.now.asks) }
+    requires shares { HaveShares plan.now settings.now }
+    requires numbers { named.now ≡ named_units plan.now.units settings.now.asks }
+    requires there { IfSome parts.now.grids (λ made. All (HasNeeded made) named.now) }
     requires none { parts.now.grids ≡ None
         → All (λ asked. asked.ask ≡ kinds.Mean) settings.now.asks }
     requires mean { IsMeanOf plan.now parts.now.mean }
@@ -108,12 +182,13 @@ fn report<const B: u32>(
 {
     let asks = settings.asks.as_slice();
     let mut rows = Vec::new(alloc);
-    for asked in asks {
+    for i in 0..asks.len() {
         let row = row::<B>(
             alloc,
-            asked,
+            &asks[i],
             settings.digits,
             plan,
+            named[i],
             &parts.grids,
             parts.mean,
         )?;
@@ -125,23 +200,26 @@ fn report<const B: u32>(
     })
 }
 
-/// The report of a plan whose asks are admitted.
+/// The report of a plan whose asks are admitted, from the number of the unit that each ask names.
 fn admitted_report<const B: u32>(
     alloc: Global,
     plan: &Plan,
     settings: &Settings,
+    named: &[Option<u32>],
 ) -> Result<Report, AllocError>
     requires scale { B ≡ bits_of plan.now.cells }
     requires valid { IsValid plan.now }
     requires ranges { AreInRange settings.now }
     requires inside { AreInside plan.now settings.now }
     requires named { NameUnits plan.now settings.now }
+    requires shares { HaveShares plan.now settings.now }
+    requires numbers { named.now ≡ named_units plan.now.units settings.now.asks }
     ensures { IfOk result (λ report. IsGoodReport plan.now settings.now report) }
 {
     let mut work = Workspace::new(alloc);
-    let parts = parts_for::<B>(alloc, &mut work, plan, settings.asks.as_slice())?;
+    let parts = parts_for::<B>(alloc, &mut work, plan, settings.asks.as_slice(), named)?;
     drop(work);
-    report(alloc, plan, settings, &parts)
+    report(alloc, plan, settings, named, &parts)
 }
 
 /// The report of a plan whose grids are in units of `1 / 2^B`, or its first refused ask.
@@ -156,14 +234,14 @@ fn answered<const B: u32>(
     ensures { MatchResult result (IsAnswered plan.now settings.now)
         (RefusesAsk plan.now settings.now) }
 {
-    admit::<B>(plan, settings)?;
-    Ok(admitted_report::<B>(alloc, plan, settings)?)
+    let named = admit::<B>(alloc, plan, settings)?;
+    Ok(admitted_report::<B>(alloc, plan, settings, named.as_slice())?)
 }
 
 /// A row for each ask, in order; or the first ask that lies past the grid, else the first that
-/// names no unit, else the first that needs more width than the settings give, with the width it
-/// needs. The grids of a plan of up to 4,096 cells are in units of 1 / 2^56, those of a longer one
-/// in units of 1 / 2^48.
+/// names no unit, else the first for a share of the tail mean where the units share a factor, else
+/// the first that needs more width than the settings give, with the width it needs. The grids of a
+/// plan of up to 4,096 cells are in units of 1 / 2^56, those of a longer one in units of 1 / 2^48.
 pub fn evaluate(alloc: Global, plan: &Plan, settings: &Settings) -> Result<Report, EvalFault>
     requires valid { IsValid plan.now }
     requires ranges { AreInRange settings.now }

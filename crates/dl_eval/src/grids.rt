@@ -1,20 +1,18 @@
 //! The grids that rows are made from.
 
-ghost use Rattle.std.specs.Prelude.{◌≡◌, ◌≤◌, ◌↔◌, IsTrue, Some, All, Any, IfOk, length};
+ghost use Rattle.std.specs.Prelude.{◌≡◌, ◌≤◌, ◌↔◌, IsTrue, None, Some, All, Any, IfOk, length};
 ghost use Rattle.dl_limits.specs.Limits.{IsPlanScale, most_units};
 ghost use Rattle.dl_plan.specs.Valid.{IsValid};
-ghost use Rattle.dl_budget.specs.Asks.{NamesUnit};
-ghost use Rattle.dl_eval.specs.Totals.{AreUnitGrids, AreUnitMeans, AreGridsOf, AreShared, HasOthers, most_unit_mean, shared_unit};
+ghost use Rattle.dl_eval.specs.Totals.{AreUnitGrids, AreUnitMeans, AreGridsOf, AreShared, AreUnits, HasOthers, most_unit_mean};
 
-use dl_budget::place;
 use dl_grid::Grid;
 use dl_iv::Iv;
-use dl_plan::{Ask, Asked, Plan, Unit};
+use dl_plan::Plan;
 use dl_port::{Sums, sums_of_one, total_and_others};
 use dl_product::Workspace;
 use std::alloc::{AllocError, Global};
 
-/// The grids and means that the rows of a plan are made from.
+/// The grids and means that the rows of a plan are made from, whose units are independent.
 #[derive(Drop)]
 pub(crate) struct Grids<const B: u32> {
     /// For each unit, that of its outcomes; it may be gone where no ask is for a share.
@@ -25,65 +23,53 @@ pub(crate) struct Grids<const B: u32> {
     pub(crate) sums: Sums<B>,
 }
 
-/// Whether an ask is for the share of unit `i`, counted from 0.
-fn is_for_share(units: &[Unit], ask: &Ask, i: u32) -> bool
-    requires few { length units.now ≤ most_units }
-    ensures { IsTrue result ↔ (shared_unit units.now ask.now ≡ Some i) }
+/// Whether unit `i`, counted from 0, is one of those that asks name.
+fn is_named(named: &[Option<u32>], i: u32) -> bool
+    ensures { IsTrue result ↔ Any (λ unit. unit ≡ Some i) named.now }
 {
-    match ask.unit() {
-        Some(name) => place(units, name.as_slice()) == i,
-        None => false,
-    }
+    named.iter().any(|unit| *unit == Some(i))
 }
 
-/// Whether some ask is for the share of unit `i`.
-fn is_shared(units: &[Unit], asks: &[Asked], i: u32) -> bool
-    requires few { length units.now ≤ most_units }
-    ensures { IsTrue result ↔ Any (λ asked. shared_unit units.now asked.ask ≡ Some i) asks.now }
-{
-    asks.iter().any(|asked| is_for_share(units, &asked.ask, i))
-}
-
-/// For each unit, whether an ask is for its share.
-fn shared_units(alloc: Global, units: &[Unit], asks: &[Asked]) -> Result<Vec<bool>, AllocError>
-    requires few { length units.now ≤ most_units }
-    ensures { IfOk result (λ asked. AreShared units.now asks.now asked.items) }
+/// For each of so many units, whether it is one of those that asks name.
+fn shared_units(alloc: Global, units: usize, named: &[Option<u32>]) -> Result<Vec<bool>, AllocError>
+    requires few { units ≤ most_units }
+    ensures { IfOk result (λ asked. AreShared units named.now asked.items) }
 {
     let mut asked = Vec::new(alloc);
-    for i in 0..units.len() {
-        asked.push(is_shared(units, asks, i as u32))?;
+    for i in 0..units {
+        asked.push(is_named(named, i as u32))?;
     }
     Ok(asked)
 }
 
-/// The grids that the rows of a valid plan are made from, where the grids and the means of
-/// its units' outcomes are there. The grid of an only unit whose share no ask is for is that of the total: it is moved and
-/// not copied.
+/// The grids that the rows of a valid plan are made from, where the grids and the means of its
+/// units' outcomes are there, and for each ask the number of the unit that it names. The grid of an
+/// only unit whose share no ask is for is that of the total: it is moved and not copied.
 pub(crate) fn grids_of<const B: u32>(
     alloc: Global,
     work: &mut Workspace,
     plan: &Plan,
-    asks: &[Asked],
+    named: &[Option<u32>],
     units: Vec<Grid<B>>,
     means: Vec<Iv<B>>,
 ) -> Result<Grids<B>, AllocError>
     requires scale { IsPlanScale B }
     requires valid { IsValid plan.now }
-    requires named { All (λ asked. NamesUnit plan.now.units asked.ask) asks.now }
+    requires independent { plan.now.common ≡ None }
+    requires named { AreUnits (length plan.now.units) named.now }
     requires units { AreUnitGrids plan.now.cells plan.now.units units.items }
     requires means { AreUnitMeans plan.now.cells plan.now.units means.items }
     requires small { All (λ mean. mean.hi ≤ most_unit_mean) means.items }
     ensures grids { IfOk result (λ grids. AreGridsOf plan.now grids) }
-    ensures there { IfOk result (λ grids.
-        All (λ asked. HasOthers plan.now.units grids asked.ask) asks.now) }
+    ensures there { IfOk result (λ grids. All (HasOthers grids) named.now) }
 {
-    if units.len() == 1 && !is_shared(plan.units.as_slice(), asks, 0) {
+    if units.len() == 1 && !is_named(named, 0) {
         let mut units = units;
         let unit = units.pop().unwrap();
         let sums = sums_of_one(alloc, unit)?;
         return Ok(Grids { units, means, sums });
     }
-    shared_grids(alloc, work, plan, asks, units, means)
+    shared_grids(alloc, work, plan, named, units, means)
 }
 
 /// The grids that the rows are made from, from sums of units that they share.
@@ -91,21 +77,21 @@ fn shared_grids<const B: u32>(
     alloc: Global,
     work: &mut Workspace,
     plan: &Plan,
-    asks: &[Asked],
+    named: &[Option<u32>],
     units: Vec<Grid<B>>,
     means: Vec<Iv<B>>,
 ) -> Result<Grids<B>, AllocError>
     requires scale { IsPlanScale B }
     requires valid { IsValid plan.now }
-    requires named { All (λ asked. NamesUnit plan.now.units asked.ask) asks.now }
+    requires independent { plan.now.common ≡ None }
+    requires named { AreUnits (length plan.now.units) named.now }
     requires units { AreUnitGrids plan.now.cells plan.now.units units.items }
     requires means { AreUnitMeans plan.now.cells plan.now.units means.items }
     requires small { All (λ mean. mean.hi ≤ most_unit_mean) means.items }
     ensures grids { IfOk result (λ grids. AreGridsOf plan.now grids) }
-    ensures there { IfOk result (λ grids.
-        All (λ asked. HasOthers plan.now.units grids asked.ask) asks.now) }
+    ensures there { IfOk result (λ grids. All (HasOthers grids) named.now) }
 {
-    let asked = shared_units(alloc, plan.units.as_slice(), asks)?;
+    let asked = shared_units(alloc, plan.units.as_slice().len(), named)?;
     let sums = total_and_others(alloc, work, units.as_slice(), asked.as_slice(), plan.cells)?;
     Ok(Grids { units, means, sums })
 }

@@ -3,10 +3,12 @@
 #![tactic(auto)]
 
 mod admission;
+mod drawn;
 mod evaluation;
 mod fault;
 mod grids;
 mod mean;
+mod pooled;
 mod rows;
 mod same;
 mod shares;

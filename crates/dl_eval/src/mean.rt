@@ -1,6 +1,6 @@
 //! The mean of a total.
 
-ghost use Rattle.std.specs.Prelude.{◌≤◌, ◌^◌, ℕ, List, All, length};
+ghost use Rattle.std.specs.Prelude.{◌≡◌, ◌≤◌, ◌^◌, ℕ, List, None, All, length};
 ghost use Rattle.dl_limits.specs.Limits.{IsPlanScale, most_units};
 ghost use Rattle.dl_plan.specs.declared.plan.Plan.{Plan};
 ghost use Rattle.dl_plan.specs.Valid.{IsValid};
@@ -8,13 +8,14 @@ ghost use Rattle.dl_eval.specs.Totals.{most_unit_mean, most_mean, AreUnitMeans, 
 
 use dl_iv::Iv;
 
-/// The mean of the total of a valid plan, in buckets: the sum of the means of its units.
+/// The mean of the total of a valid plan, in buckets, whose units are independent: the sum of the
+/// means of its units.
 pub(crate) fn total_mean<const B: u32>(means: &[Iv<B>]) -> Iv<B>
     requires scale { IsPlanScale B }
     requires few { length means.now ≤ most_units }
     requires small { All (λ mean. mean.hi ≤ most_unit_mean) means.now }
-    ensures mean { (plan : Plan) → IsValid plan → AreUnitMeans plan.cells plan.units means.now
-        → IsMeanOf plan result }
+    ensures mean { (plan : Plan) → IsValid plan → plan.common ≡ None
+        → AreUnitMeans plan.cells plan.units means.now → IsMeanOf plan result }
     ensures small { result.hi ≤ most_mean }
 {
     Iv::sum(means)

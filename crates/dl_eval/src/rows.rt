@@ -7,13 +7,14 @@ ghost use Rattle.dl_plan.specs.declared.settings.Ask.TheVariants as asks;
 ghost use Rattle.dl_plan.specs.Ranges.{IsLevel, IsAskInRange};
 ghost use Rattle.dl_plan.specs.Terms.{ArePriced};
 ghost use Rattle.dl_plan.specs.Valid.{IsValid};
-ghost use Rattle.dl_budget.specs.Asks.{IsInside, NamesUnit, tail_budget, price_budget, in_digits};
+ghost use Rattle.dl_budget.specs.Asks.{IsInside, NamesUnit, named_unit, tail_budget, price_budget, in_digits};
 ghost use Rattle.dl_eval.specs.Rows.{IsBracket, IsTailMean, IsBeyond, IsPastGrid, IsPrice, IsBeyondSome, IsAnswerTo, IsGood, bracket_end, total_error};
-ghost use Rattle.dl_eval.specs.Totals.{most_mean, IsTotalOf, IsMeanOf, AreGridsOf, HasOthers, Prints};
+ghost use Rattle.dl_eval.specs.Totals.{most_mean, IsTotalOf, IsMeanOf, Prints};
+ghost use Rattle.dl_eval.specs.Answers.{HasShare};
+ghost use Rattle.dl_eval.specs.Drawn.{AreDrawnOf, HasNeeded};
 
-use crate::grids::Grids;
+use crate::drawn::PlanGrids;
 use crate::shares::{joint_of, share_row, tail_share_row};
-use dl_budget::place;
 use dl_distort::price;
 use dl_frac::Frac;
 use dl_grid::Grid;
@@ -143,14 +144,16 @@ fn price_row<const B: u32>(
     }
 }
 
-/// The row of an ask about a valid plan, from its grids and the mean of its total.
+/// The row of an ask about a valid plan, from its grids, the mean of its total and the number of the
+/// unit that the ask names.
 #[tactic(auto, using(crate::proofs::Scales::plan_scale))]
 fn grid_row<const B: u32>(
     alloc: Global,
     asked: &Asked,
     digits: u32,
     plan: &Plan,
-    grids: &Grids<B>,
+    unit: Option<u32>,
+    grids: &PlanGrids<B>,
     mean: Iv<B>,
 ) -> Result<Row, AllocError>
     requires scale { B ≡ bits_of plan.now.cells }
@@ -159,14 +162,16 @@ fn grid_row<const B: u32>(
     requires valid { IsValid plan.now }
     requires inside { IsInside plan.now.cells asked.now.ask }
     requires named { NamesUnit plan.now.units asked.now.ask }
-    requires grids { AreGridsOf plan.now grids.now }
-    requires there { HasOthers plan.now.units grids.now asked.now.ask }
+    requires share { HasShare plan.now asked.now.ask }
+    requires grids { AreDrawnOf plan.now grids.now }
+    requires unit { unit ≡ named_unit plan.now.units asked.now.ask }
+    requires there { HasNeeded grids.now unit }
     requires mean { IsMeanOf plan.now mean }
     requires small { mean.hi ≤ most_mean }
     ensures ask { IfOk result (λ row. row.ask ≡ asked.now.text) }
     ensures answer { IfOk result (λ row. IsAnswerTo (2 ^ B) plan.now digits asked.now.ask row) }
 {
-    let total = &grids.sums.total;
+    let total = grids.total();
     match &asked.ask {
         Ask::Pmf(x) => ends_row(alloc, asked, digits, total.at(*x)),
         Ask::Cdf(x) => ends_row(alloc, asked, digits, total.cdf(*x)),
@@ -178,30 +183,36 @@ fn grid_row<const B: u32>(
         }
         Ask::Tail(p) => tail_row(alloc, asked, digits, total, *p, mean),
         Ask::Price(terms) => price_row(alloc, asked, digits, total, terms.as_slice(), mean),
-        Ask::Joint { unit, at } => {
-            let i = place(plan.units.as_slice(), unit.as_slice());
-            ends_row(alloc, asked, digits, joint_of(plan, grids, i, *at))
+        Ask::Joint { at, .. } => {
+            ends_row(
+                alloc,
+                asked,
+                digits,
+                joint_of(plan, grids, unit.unwrap(), *at),
+            )
         }
-        Ask::Kappa { unit, at } => {
-            let i = place(plan.units.as_slice(), unit.as_slice());
-            share_row(alloc, asked, digits, plan, grids, i, *at)
+        Ask::Kappa { at, .. } => {
+            share_row(alloc, asked, digits, plan, grids, unit.unwrap(), *at)
         }
-        Ask::Cotail { unit, p } => {
-            let i = place(plan.units.as_slice(), unit.as_slice());
-            tail_share_row(alloc, asked, digits, plan, grids, i, *p)
-        }
+        Ask::Cotail { p, .. } => match grids {
+            PlanGrids::Independent(grids) => {
+                tail_share_row(alloc, asked, digits, plan, grids, unit.unwrap(), *p)
+            }
+            PlanGrids::Shared(_) => unreachable!(),
+        },
     }
 }
 
-/// The row of an ask about a valid plan, from the mean of its total, and its grids where they were
-/// made; without them, the ask is for the mean.
+/// The row of an ask about a valid plan, from the mean of its total, the number of the unit that the
+/// ask names, and its grids where they were made; without them, the ask is for the mean.
 #[tactic(auto, using(crate::proofs::Scales::plan_scale))]
 pub(crate) fn row<const B: u32>(
     alloc: Global,
     asked: &Asked,
     digits: u32,
     plan: &Plan,
-    grids: &Option<Grids<B>>,
+    unit: Option<u32>,
+    grids: &Option<PlanGrids<B>>,
     mean: Iv<B>,
 ) -> Result<Row, AllocError>
     requires scale { B ≡ bits_of plan.now.cells }
@@ -210,15 +221,17 @@ pub(crate) fn row<const B: u32>(
     requires valid { IsValid plan.now }
     requires inside { IsInside plan.now.cells asked.now.ask }
     requires named { NamesUnit plan.now.units asked.now.ask }
-    requires grids { IfSome grids.now (λ made. AreGridsOf plan.now made) }
-    requires there { IfSome grids.now (λ made. HasOthers plan.now.units made asked.now.ask) }
+    requires share { HasShare plan.now asked.now.ask }
+    requires grids { IfSome grids.now (λ made. AreDrawnOf plan.now made) }
+    requires unit { unit ≡ named_unit plan.now.units asked.now.ask }
+    requires there { IfSome grids.now (λ made. HasNeeded made unit) }
     requires none { grids.now ≡ None → asked.now.ask ≡ asks.Mean }
     requires mean { IsMeanOf plan.now mean }
     requires small { mean.hi ≤ most_mean }
     ensures { IfOk result (λ row. IsGood plan.now digits asked.now row) }
 {
     match grids {
-        Some(grids) => grid_row(alloc, asked, digits, plan, grids, mean),
+        Some(grids) => grid_row(alloc, asked, digits, plan, unit, grids, mean),
         None => ends_row(alloc, asked, digits, mean),
     }
 }

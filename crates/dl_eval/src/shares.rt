@@ -8,6 +8,7 @@ ghost use Rattle.dl_plan.specs.Valid.{IsValid};
 ghost use Rattle.dl_budget.specs.Asks.{kappa_budget, cotail_budget, in_digits};
 ghost use Rattle.dl_eval.specs.Rows.{IsAtLeast, IsAtMost, IsBeyond, IsShareOfUnit, IsTooRare, IsTailShare, IsNoTailShare, at_the_end, total_error};
 ghost use Rattle.dl_eval.specs.Totals.{AreGridsOf, IsJointOf, IsTailShareOf};
+ghost use Rattle.dl_eval.specs.Drawn.{AreDrawnOf, HasShareOf};
 ghost use Rattle.dl_grid.specs.Cells.{low_at};
 ghost use Rattle.dl_model.specs.Plans.{declared};
 ghost use Rattle.dl_measures.specs.Brackets.{IsFirstFound};
@@ -15,7 +16,9 @@ ghost use Rattle.dl_measures.specs.Ends.{low_cdf};
 ghost use Rattle.dl_cotail.specs.Settled.{MayBeAbsent};
 ghost use Rattle.dl_plan.specs.Ranges.{IsLevel};
 
+use crate::drawn::PlanGrids;
 use crate::grids::Grids;
+use crate::pooled::pooled_joint;
 use crate::rows::{beyond_row, ends_row, row_with};
 use dl_alloc::{conditional_mean, joint_mean};
 use dl_budget::{others_budget, total_budget, unit_budget};
@@ -29,11 +32,13 @@ use dl_plan::{Asked, Plan};
 use dl_report::{End, Row};
 use std::alloc::{AllocError, Global};
 
-/// The mean outcome of unit `i` where the total is `at`, and 0 elsewhere, in buckets.
+/// The mean outcome of unit `i` where the total is `at`, and 0 elsewhere, in buckets, of independent
+/// units.
 #[tactic(auto, using(crate::proofs::Scales::plan_scale))]
-pub(crate) fn joint_of<const B: u32>(plan: &Plan, grids: &Grids<B>, i: u32, at: u32) -> Iv<B>
+fn independent_joint<const B: u32>(plan: &Plan, grids: &Grids<B>, i: u32, at: u32) -> Iv<B>
     requires scale { B ≡ bits_of plan.now.cells }
     requires valid { IsValid plan.now }
+    requires independent { plan.now.common ≡ None }
     requires grids { AreGridsOf plan.now grids.now }
     requires unit { i < length plan.now.units }
     requires there { IsSome (get_or grids.now.sums.others.items i None) }
@@ -51,6 +56,24 @@ pub(crate) fn joint_of<const B: u32>(plan: &Plan, grids: &Grids<B>, i: u32, at: 
     }
 }
 
+/// The mean outcome of unit `i` where the total is `at`, and 0 elsewhere, in buckets.
+pub(crate) fn joint_of<const B: u32>(plan: &Plan, grids: &PlanGrids<B>, i: u32, at: u32) -> Iv<B>
+    requires scale { B ≡ bits_of plan.now.cells }
+    requires valid { IsValid plan.now }
+    requires grids { AreDrawnOf plan.now grids.now }
+    requires unit { i < length plan.now.units }
+    requires there { HasShareOf grids.now i }
+    requires inside { at < plan.now.cells }
+    ensures joint { IsJointOf plan.now i at result }
+    ensures below { (h : ℕ) → IsAtMost plan.now (Point at) (h over 2 ^ B) → result.lo ≤ at * h }
+    ensures divisible { result.hi * 2 ^ B ≤ 2 ^ 127 }
+{
+    match grids {
+        PlanGrids::Independent(grids) => independent_joint(plan, grids, i, at),
+        PlanGrids::Shared(grids) => pooled_joint(plan, grids, i, at),
+    }
+}
+
 /// The row of an ask for the mean outcome of unit `i`, given that the total is `at`; without
 /// numbers where that total may be too rare.
 #[tactic(auto, using(crate::proofs::Scales::plan_scale))]
@@ -59,16 +82,16 @@ pub(crate) fn share_row<const B: u32>(
     asked: &Asked,
     digits: u32,
     plan: &Plan,
-    grids: &Grids<B>,
+    grids: &PlanGrids<B>,
     i: u32,
     at: u32,
 ) -> Result<Row, AllocError>
     requires scale { B ≡ bits_of plan.now.cells }
     requires digits { digits ≤ most_digits }
     requires valid { IsValid plan.now }
-    requires grids { AreGridsOf plan.now grids.now }
+    requires grids { AreDrawnOf plan.now grids.now }
     requires unit { i < length plan.now.units }
-    requires there { IsSome (get_or grids.now.sums.others.items i None) }
+    requires there { HasShareOf grids.now i }
     requires inside { at < plan.now.cells }
     ensures ask { IfOk result (λ row. row.ask ≡ asked.now.text) }
     ensures share { IfOk result (λ row. IsShareOfUnit plan.now i at digits
@@ -76,7 +99,7 @@ pub(crate) fn share_row<const B: u32>(
         ⊎ IsTooRare plan.now at (total_error (2 ^ B) plan.now) row) }
 {
     let joint = joint_of(plan, grids, i, at);
-    match conditional_mean(joint, grids.sums.total.at(at)) {
+    match conditional_mean(joint, grids.total().at(at)) {
         Some(share) => ends_row(alloc, asked, digits, share),
         None => row_with(alloc, asked, End::Absent, End::Absent),
     }
@@ -88,6 +111,7 @@ pub(crate) fn share_row<const B: u32>(
 fn tail_share_of<const B: u32>(plan: &Plan, grids: &Grids<B>, i: u32, p: Frac) -> Option<Iv<B>>
     requires scale { B ≡ bits_of plan.now.cells }
     requires valid { IsValid plan.now }
+    requires independent { plan.now.common ≡ None }
     requires grids { AreGridsOf plan.now grids.now }
     requires unit { i < length plan.now.units }
     requires there { IsSome (get_or grids.now.sums.others.items i None) }
@@ -126,6 +150,7 @@ pub(crate) fn tail_share_row<const B: u32>(
     requires scale { B ≡ bits_of plan.now.cells }
     requires digits { digits ≤ most_digits }
     requires valid { IsValid plan.now }
+    requires independent { plan.now.common ≡ None }
     requires grids { AreGridsOf plan.now grids.now }
     requires unit { i < length plan.now.units }
     requires there { IsSome (get_or grids.now.sums.others.items i None) }

@@ -1,4 +1,4 @@
-use Rattle.dl_budget.proofs.Common.{◌+◌, ◌*◌, ◌^◌, arith, ap₂}
+use Rattle.dl_budget.proofs.Common.{◌+◌, ◌*◌, arith, ap₂}
 use Rattle.dl_limits.specs.Limits.{rarest_parts}
 use Rattle.dl_budget.proofs.Horizons.{few_cells}
 use Rattle.dl_budget.proofs.TailShares.{cells_total}

@@ -1,4 +1,4 @@
-use Rattle.dl_budget.proofs.Common.{◌+◌, ◌^◌, ◌≤◌, arith, up, whole}
+use Rattle.dl_budget.proofs.Common.{◌+◌, ◌^◌, arith, up, whole}
 use Rattle.dl_exact.specs.Fraction.{◌*ℚ◌}
 use Rattle.dl_plan.specs.declared.settings.Term.{Term}
 use Rattle.dl_budget.specs.Asks.{most_tail_budget, tail_budget}

@@ -1,11 +1,8 @@
-use Rattle.dl_budget.proofs.Common.{◌^◌, ◌≤◌, arith, ap, sym, subst, ◌∙◌, most_operands, count_budget}
-use Rattle.dl_limits.specs.Limits.{most_none_budget}
-use Rattle.dl_plan.specs.declared.plan.Freq.TheVariants.{Fixed, Table, Bernoulli, Binomial, Poisson, Gamma}
-use Rattle.dl_plan.specs.Count.{IsClaimCount, IsExposed}
-use Rattle.dl_plan.specs.Valid.{IsNewZero}
+use Rattle.dl_budget.proofs.Common.{◌^◌, arith, ap, sym, subst, ◌∙◌, count_budget}
+use Rattle.dl_plan.specs.Count.{IsClaimCount}
 use Rattle.dl_budget.specs.Claims.{none_budget}
 use Rattle.dl_budget.proofs.Counts.{power_room, where_none}
-use Rattle.dl_budget.proofs.NoneSizes.{none_small, none_within}
+use Rattle.dl_budget.proofs.NoneSizes.{none_within}
 use Rattle.dl_budget.proofs.claims.none_budget.Goals as goal
 
 pub power-requires-clause-room : goal.power-requires-clause-room

@@ -1,4 +1,4 @@
-use Rattle.dl_budget.proofs.Common.{◌+◌, ◌^◌, ap, ap₂, arith, sym, subst, ◌∙◌, sum_by, horizon, part_width, claims_budget}
+use Rattle.dl_budget.proofs.Common.{◌+◌, ◌^◌, ap, ap₂, sym, subst, ◌∙◌, sum_by, horizon, part_width, claims_budget}
 use Rattle.dl_plan.specs.Horizon.{IsHorizonOf}
 use Rattle.dl_plan.specs.MeanWidth.{mean_width}
 use Rattle.dl_plan.proofs.ValidUnits.{alone_valid}

@@ -1,20 +1,24 @@
-use Rattle.dl_eval.proofs.Common.{◌≡◌, arith, refl, sym, ap, subst₂, length, All, zip, Asked, IsInside, NamesUnit, HasOthers, IsGood}
+use Rattle.dl_eval.proofs.Common.{◌≡◌, arith, refl, sym, ap, subst₂, length, All, zip, Asked, IsInside, None, NamesUnit, IsGood}
 use Rattle.dl_plan.specs.declared.settings.Ask.TheVariants.{Mean}
 use Rattle.dl_plan.specs.Ranges.{IsAskInRange}
+use Rattle.dl_eval.specs.Answers.{HasShare}
 use Rattle.dl_eval.proofs.Insides.{ask_has}
 use Rattle.std.proofs.lemmas.Option.{IfSome_then}
 use Rattle.dl_eval.proofs.Lists.{each_next, pushed_length, all_pairs}
+use Rattle.dl_eval.proofs.Named.{named_here, numbers_many}
 use Rattle.dl_eval.proofs.evaluation.report.Goals as goal
 
 pub row-requires : goal.row-requires
 row-requires g c =
     let asks = c.as_slice-asks.result.now in
     let all = c.args.settings.now.asks in
-    let i = c.loop-asked.asked-index in
-    let asked = c.asked-item.result in
+    let i = c.loop-i.i in
+    let asked = c.index-asks-i.result in
     let same = c.as_slice-asks.ensures in
     let plan = c.args.plan.now in
-    let test = c.loop-asked-test.true in (
+    let test = c.loop-i-test.true in
+    let unit = named_here plan.units asks all c.args.named.now i asked same c.requires.numbers c.index-asks-i.is test in
+    let many = numbers_many plan.units asks all c.args.named.now same c.requires.numbers in (
       omega arith,
       (
         omega arith,
@@ -23,27 +27,32 @@ row-requires g c =
           (
             c.requires.ranges.few_digits,
             (
-              ask_has (λ (a : Asked). IsAskInRange a.ask) asks all i asked same c.asked-item.is test
+              ask_has (λ (a : Asked). IsAskInRange a.ask) asks all i asked same c.index-asks-i.is test
                   c.requires.ranges.asks,
               (
                 c.requires.valid,
                 (
-                  ask_has (λ (a : Asked). IsInside plan.cells a.ask) asks all i asked same c.asked-item.is test
+                  ask_has (λ (a : Asked). IsInside plan.cells a.ask) asks all i asked same c.index-asks-i.is test
                       c.requires.inside,
                   (
-                    ask_has (λ (a : Asked). NamesUnit plan.units a.ask) asks all i asked same c.asked-item.is test
+                    ask_has (λ (a : Asked). NamesUnit plan.units a.ask) asks all i asked same c.index-asks-i.is test
                         c.requires.named,
                     (
-                      c.requires.grids,
+                      ask_has (λ (a : Asked). HasShare plan a.ask) asks all i asked same c.index-asks-i.is test
+                          c.requires.shares,
                       (
-                        IfSome_then c.args.parts.now.grids c.requires.there
-                            (λ made each.
-                            ask_has (λ (a : Asked). HasOthers plan.units made a.ask) asks all i asked same
-                            c.asked-item.is test each),
+                        c.requires.grids,
                         (
-                          λ none. ask_has (λ (a : Asked). a.ask ≡ Mean) asks all i asked same c.asked-item.is test
-                              (c.requires.none none),
-                          (c.requires.mean, c.requires.small),
+                          unit,
+                          (
+                            IfSome_then c.args.parts.now.grids c.requires.there
+                                (λ made each. each i None (omega (arith, many, test))),
+                            (
+                              λ none. ask_has (λ (a : Asked). a.ask ≡ Mean) asks all i asked same c.index-asks-i.is
+                                  test (c.requires.none none),
+                              (c.requires.mean, c.requires.small),
+                            ),
+                          ),
                         ),
                       ),
                     ),
@@ -56,14 +65,14 @@ row-requires g c =
       ),
     )
 
-pub loop-asked-preserved : goal.loop-asked-preserved
-loop-asked-preserved g c = record {
-  as_many = pushed_length c.loop-asked.rows.items c.push.new.self.items c.loop-asked.asked-index c.in_ok-row.row
-      c.loop-asked.invariant.as_many c.in_ok-push.ensures.items;
+pub loop-i-preserved : goal.loop-i-preserved
+loop-i-preserved g c = record {
+  as_many = pushed_length c.loop-i.rows.items c.push.new.self.items c.loop-i.i c.in_ok-row.row
+      c.loop-i.invariant.as_many c.in_ok-push.ensures.items;
   each = each_next (IsGood c.args.plan.now c.args.settings.now.digits) c.as_slice-asks.result.now
-      c.loop-asked.rows.items c.push.new.self.items c.loop-asked.asked-index c.asked-item.result c.in_ok-row.row
-      c.loop-asked.invariant.as_many c.loop-asked.invariant.each c.in_ok-push.ensures.items c.loop-asked-test.true
-      c.asked-item.is
+      c.loop-i.rows.items c.push.new.self.items c.loop-i.i c.index-asks-i.result c.in_ok-row.row
+      c.loop-i.invariant.as_many c.loop-i.invariant.each c.in_ok-push.ensures.items c.loop-i-test.true
+      c.index-asks-i.is
       c.in_ok-row.ensures;
 }
 
@@ -73,12 +82,12 @@ returns g c = record {
   as_many = omega (
     arith,
     ap (λ t. length t) c.from_vec.ensures,
-    c.loop-asked.invariant.as_many,
+    c.loop-i.invariant.as_many,
     ap (λ t. length t) c.as_slice-asks.ensures,
   );
   rows = subst₂ (λ xs ys. All (λ pair. IsGood c.args.plan.now c.args.settings.now.digits pair.0 pair.1) (zip xs ys))
       c.as_slice-asks.ensures (sym c.from_vec.ensures)
-      (all_pairs (IsGood c.args.plan.now c.args.settings.now.digits) c.as_slice-asks.result.now c.loop-asked.rows.items
-      (omega (arith, c.loop-asked.invariant.as_many))
-      (λ j a r below. c.loop-asked.invariant.each j a r (omega (arith, below))));
+      (all_pairs (IsGood c.args.plan.now c.args.settings.now.digits) c.as_slice-asks.result.now c.loop-i.rows.items
+      (omega (arith, c.loop-i.invariant.as_many))
+      (λ j a r below. c.loop-i.invariant.each j a r (omega (arith, below))));
 }

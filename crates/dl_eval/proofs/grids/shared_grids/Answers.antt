@@ -42,7 +42,7 @@ returns-clause-grids g c =
           c.requires.units
           (subst (λ grids. AreSumsWithout plan.cells grids c.as_slice-3.result.now sums.others.items)
           c.as_slice-2.ensures.value c.in_ok-sums.ensures.others);
-      total = is_total plan c.args.units.items sums.total c.requires.valid c.requires.units
+      total = is_total plan c.args.units.items sums.total c.requires.valid c.requires.independent c.requires.units
           (subst (λ grids. IsTotal plan.cells grids sums.total) c.as_slice-2.ensures.value c.in_ok-sums.ensures.total);
     }
 
@@ -52,7 +52,7 @@ returns-clause-there g c =
     let sums = c.in_ok-sums.sums in
     let rest = subst₂ (λ grids asked. AreSumsWithout plan.cells grids asked sums.others.items)
     c.as_slice-2.ensures.value c.as_slice-3.ensures.value c.in_ok-sums.ensures.others in
-    has_others plan c.args.units.items c.args.asks.now c.in_ok-asked.asked.items
+    has_others plan c.args.units.items c.args.named.now c.in_ok-asked.asked.items
     (record { units = c.args.units; means = c.args.means; sums = sums }) c.requires.units
-    (subst (λ units. AreShared units c.args.asks.now c.in_ok-asked.asked.items) c.as_slice.ensures
+    (subst (λ units. AreShared (length units) c.args.named.now c.in_ok-asked.asked.items) c.as_slice.ensures
     c.in_ok-asked.ensures) rest c.requires.named

@@ -1,16 +1,15 @@
-use Rattle.dl_eval.proofs.Common.{ℕ, ◌≡◌, ◌↔◌, false, IsTrue, arith, Any, shared_unit}
+use Rattle.dl_eval.proofs.Common.{ℕ, ◌≡◌, ◌↔◌, false, IsTrue, arith, Any}
 use Rattle.std.proofs.Common.{Bool, Some}
 use Rattle.dl_eval.proofs.Lists.{pushed_length, each_pushed}
 use Rattle.dl_eval.proofs.grids.shared_units.Goals as goal
 
 pub loop-i-preserved : goal.loop-i-preserved
 loop-i-preserved c = record {
-  as_many = pushed_length c.loop-i.asked.items c.push.new.self.items c.loop-i.i c.is_shared.result
+  as_many = pushed_length c.loop-i.asked.items c.push.new.self.items c.loop-i.i c.is_named.result
       c.loop-i.invariant.as_many c.in_ok-push.ensures.items;
-  each = each_pushed (λ (k : ℕ) (b : Bool). IsTrue b
-      ↔ Any (λ a. shared_unit c.args.units.now a.ask ≡ Some k) c.args.asks.now) c.loop-i.asked.items
-      c.push.new.self.items c.loop-i.i c.is_shared.result false
-      c.loop-i.invariant.as_many c.loop-i.invariant.each c.in_ok-push.ensures.items c.is_shared.ensures;
+  each = each_pushed (λ (k : ℕ) (b : Bool). IsTrue b ↔ Any (λ unit. unit ≡ Some k) c.args.named.now)
+      c.loop-i.asked.items c.push.new.self.items c.loop-i.i c.is_named.result false
+      c.loop-i.invariant.as_many c.loop-i.invariant.each c.in_ok-push.ensures.items c.is_named.ensures;
 }
 
 pub returns : goal.returns

@@ -1,8 +1,11 @@
-use Rattle.dl_eval.proofs.Common.{[], ◌^◌, arith, ap₂, ◌∙◌, IfOk-weaker, place_of}
+use Rattle.dl_eval.proofs.Common.{[], ◌^◌, arith, ap, IfOk-weaker}
 use Rattle.std.proofs.lemmas.List.Elements.{All-head}
+use Rattle.dl_plan.specs.Facts.{facts_of}
 use Rattle.dl_plan.specs.Ranges.{IsLevel}
 use Rattle.dl_eval.proofs.Insides.{layer_inside}
+use Rattle.dl_eval.proofs.DrawnGrids.{drawn_total}
 use Rattle.dl_eval.proofs.GoodRows.{point_answer, cdf_answer, mean_answer, layer_answer}
+use Rattle.dl_eval.proofs.Named.{place_named}
 use Rattle.dl_eval.proofs.Scales.{plan_scale}
 use Rattle.dl_eval.proofs.PriceRows.{price_asked}
 use Rattle.dl_eval.proofs.ShareLaws.{joint_asked, share_asked, tail_asked}
@@ -11,24 +14,21 @@ use Rattle.dl_eval.proofs.rows.grid_row.Goals as goal
 
 pub at-requires : goal.at-requires
 at-requires g c =
-    let grids = c.args.grids.now in
-    omega (arith, rw c.in-Pmf.is at c.requires.inside, c.requires.grids.total.cells)
+    omega (arith, rw c.in-Pmf.is at c.requires.inside, (drawn_total c.args.plan.now c.args.grids.now c.total-total.result.now c.total-total.ensures c.requires.grids).cells)
 
 pub cdf-requires : goal.cdf-requires
 cdf-requires g c =
-    let grids = c.args.grids.now in
-    omega (arith, rw c.in-Cdf.is at c.requires.inside, c.requires.grids.total.cells)
+    omega (arith, rw c.in-Cdf.is at c.requires.inside, (drawn_total c.args.plan.now c.args.grids.now c.total-total.result.now c.total-total.ensures c.requires.grids).cells)
 
 pub layer_mean-layer-requires : goal.layer_mean-layer-requires
 layer_mean-layer-requires g c =
-    let grids = c.args.grids.now in
     let scale = plan_scale g.row.B c.args.plan.now.cells c.requires.scale in (
       omega (arith, scale.least, scale.most),
       (
         omega (arith, scale.least, scale.most),
-        layer_inside c.args.plan.now.cells grids.sums.total c.in-LayerMean.limit c.in-LayerMean.attach
+        layer_inside c.args.plan.now.cells c.total-total.result.now c.in-LayerMean.limit c.in-LayerMean.attach
             (rw c.in-LayerMean.is at c.requires.inside)
-            c.requires.grids.total.cells,
+            (drawn_total c.args.plan.now c.args.grids.now c.total-total.result.now c.total-total.ensures c.requires.grids).cells,
       ),
     )
 
@@ -74,27 +74,27 @@ price_row-requires g c = (
 pub returns-in-Pmf-clause-answer : goal.returns-in-Pmf-clause-answer
 returns-in-Pmf-clause-answer g c =
     IfOk-weaker c.ends_row.result _ _ (λ row printed.
-    rw c.in-Pmf.is (point_answer c.args.plan.now c.args.grids.now.sums.total c.args.digits c.in-Pmf.x c.at.result.lo
+    rw c.in-Pmf.is (point_answer c.args.plan.now c.total-total.result.now c.args.digits c.in-Pmf.x c.at.result.lo
     c.at.result.hi row c.at.ensures.low c.at.ensures.high
-    (omega (arith, rw c.in-Pmf.is at c.requires.inside, c.requires.grids.total.cells)) c.requires.grids.total printed))
+    (omega (arith, rw c.in-Pmf.is at c.requires.inside, (drawn_total c.args.plan.now c.args.grids.now c.total-total.result.now c.total-total.ensures c.requires.grids).cells)) (drawn_total c.args.plan.now c.args.grids.now c.total-total.result.now c.total-total.ensures c.requires.grids) printed))
     c.ends_row.ensures.ends
 
 pub returns-in-Cdf-clause-answer : goal.returns-in-Cdf-clause-answer
 returns-in-Cdf-clause-answer g c =
     IfOk-weaker c.ends_row-in-Cdf.result _ _ (λ row printed.
-    rw c.in-Cdf.is (cdf_answer c.args.plan.now c.args.grids.now.sums.total c.args.digits c.in-Cdf.x c.cdf.result.lo
+    rw c.in-Cdf.is (cdf_answer c.args.plan.now c.total-total.result.now c.args.digits c.in-Cdf.x c.cdf.result.lo
     c.cdf.result.hi row c.cdf.ensures.low c.cdf.ensures.high
-    (omega (arith, rw c.in-Cdf.is at c.requires.inside, c.requires.grids.total.cells)) c.requires.valid
-    c.requires.grids.total printed))
+    (omega (arith, rw c.in-Cdf.is at c.requires.inside, (drawn_total c.args.plan.now c.args.grids.now c.total-total.result.now c.total-total.ensures c.requires.grids).cells)) c.requires.valid
+    (drawn_total c.args.plan.now c.args.grids.now c.total-total.result.now c.total-total.ensures c.requires.grids) printed))
     c.ends_row-in-Cdf.ensures.ends
 
 pub returns-in-LayerMean-clause-answer : goal.returns-in-LayerMean-clause-answer
 returns-in-LayerMean-clause-answer g c =
     IfOk-weaker c.ends_row-in-LayerMean.result _ _ (λ row printed.
-    rw c.in-LayerMean.is (layer_answer c.args.plan.now c.args.grids.now.sums.total c.args.mean c.args.digits
+    rw c.in-LayerMean.is (layer_answer c.args.plan.now c.total-total.result.now c.args.mean c.args.digits
     c.in-LayerMean.attach c.layer_mean-layer.result.lo c.layer_mean-layer.result.hi
     c.in-LayerMean.limit row c.layer_mean-layer.ensures.holds c.layer_mean-layer.ensures.width c.requires.valid
-    c.requires.grids.total c.requires.mean printed))
+    (drawn_total c.args.plan.now c.args.grids.now c.total-total.result.now c.total-total.ensures c.requires.grids) c.requires.mean printed))
     c.ends_row-in-LayerMean.ensures.ends
 
 pub returns-in-Mean-clause-answer : goal.returns-in-Mean-clause-answer
@@ -107,7 +107,7 @@ pub returns-in-Tail-clause-answer : goal.returns-in-Tail-clause-answer
 returns-in-Tail-clause-answer g c =
     IfOk-weaker c.tail_row.result _ _ (λ row told.
     rw c.in-Tail.is (tail_asked (2 ^ g.row.B) c.args.plan.now c.in-Tail.p c.args.digits row
-    (told c.args.plan.now c.requires.valid c.requires.grids.total c.requires.mean)))
+    (told c.args.plan.now c.requires.valid (drawn_total c.args.plan.now c.args.grids.now c.total-total.result.now c.total-total.ensures c.requires.grids) c.requires.mean)))
     c.tail_row.ensures.tail
 
 pub returns-in-Price-clause-answer : goal.returns-in-Price-clause-answer
@@ -115,29 +115,34 @@ returns-in-Price-clause-answer g c =
     IfOk-weaker c.price_row.result _ _ (λ row told.
     rw c.in-Price.is (price_asked (2 ^ g.row.B) c.args.plan.now c.as_slice.result.now c.in-Price.terms
     c.args.digits row c.as_slice.ensures
-    (told c.args.plan.now c.requires.valid c.requires.grids.total c.requires.mean)))
+    (told c.args.plan.now c.requires.valid (drawn_total c.args.plan.now c.args.grids.now c.total-total.result.now c.total-total.ensures c.requires.grids) c.requires.mean)))
     c.price_row.ensures.price
 
 pub returns-in-Joint-clause-answer : goal.returns-in-Joint-clause-answer
 returns-in-Joint-clause-answer g c =
+    let named = place_named c.args.plan.now.units c.args.asked.now.ask c.in-Joint.unit c.args.unit c.unwrap.result
+    (ap (λ ask. (facts_of ask).unit) c.in-Joint.is) c.requires.unit c.unwrap.ensures in
     IfOk-weaker c.ends_row-in-Joint.result _ _ (λ row printed.
-    rw c.in-Joint.is (joint_asked c.args.plan.now c.in-Joint.unit c.in-Joint.at c.place-i.result c.args.digits
-    c.joint_of.result row
-    (c.place-i.ensures ∙ ap₂ place_of c.as_slice-in-Joint-2.ensures c.as_slice-in-Joint.ensures) c.joint_of.ensures.joint printed))
+    rw c.in-Joint.is (joint_asked c.args.plan.now c.in-Joint.unit c.in-Joint.at c.unwrap.result c.args.digits
+    c.joint_of.result row named c.joint_of.ensures.joint printed))
     c.ends_row-in-Joint.ensures.ends
 
 pub returns-in-Kappa-clause-answer : goal.returns-in-Kappa-clause-answer
 returns-in-Kappa-clause-answer g c =
+    let named = place_named c.args.plan.now.units c.args.asked.now.ask c.in-Kappa.unit c.args.unit
+    c.unwrap-in-Kappa.result (ap (λ ask. (facts_of ask).unit) c.in-Kappa.is) c.requires.unit
+    c.unwrap-in-Kappa.ensures in
     IfOk-weaker c.share_row.result _ _ (λ row told.
-    rw c.in-Kappa.is (share_asked (2 ^ g.row.B) c.args.plan.now c.in-Kappa.unit c.in-Kappa.at c.place-i-in-Kappa.result
-    c.args.digits row
-    (c.place-i-in-Kappa.ensures ∙ ap₂ place_of c.as_slice-in-Kappa-2.ensures c.as_slice-in-Kappa.ensures) told))
+    rw c.in-Kappa.is (share_asked (2 ^ g.row.B) c.args.plan.now c.in-Kappa.unit c.in-Kappa.at c.unwrap-in-Kappa.result
+    c.args.digits row named told))
     c.share_row.ensures.share
 
-pub returns-in-Cotail-clause-answer : goal.returns-in-Cotail-clause-answer
-returns-in-Cotail-clause-answer g c =
+pub returns-in-Independent-clause-answer : goal.returns-in-Independent-clause-answer
+returns-in-Independent-clause-answer g c =
+    let named = place_named c.args.plan.now.units c.args.asked.now.ask c.in-Cotail.unit c.args.unit
+    c.unwrap-in-Independent.result (ap (λ ask. (facts_of ask).unit) c.in-Cotail.is) c.requires.unit
+    c.unwrap-in-Independent.ensures in
     IfOk-weaker c.tail_share_row.result _ _ (λ row told.
-    rw c.in-Cotail.is (tail_share_asked (2 ^ g.row.B) c.args.plan.now c.in-Cotail.unit c.place-i-in-Cotail.result
-    c.args.digits c.in-Cotail.p row
-    (c.place-i-in-Cotail.ensures ∙ ap₂ place_of c.as_slice-in-Cotail-2.ensures c.as_slice-in-Cotail.ensures) told))
+    rw c.in-Cotail.is (tail_share_asked (2 ^ g.row.B) c.args.plan.now c.in-Cotail.unit c.unwrap-in-Independent.result
+    c.args.digits c.in-Cotail.p row named told))
     c.tail_share_row.ensures.share

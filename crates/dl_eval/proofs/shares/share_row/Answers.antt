@@ -1,18 +1,19 @@
 use Rattle.dl_eval.proofs.Common.{arith, inl, inr, refl, IfOk-weaker, if_ok_two}
+use Rattle.dl_eval.proofs.DrawnGrids.{drawn_total}
 use Rattle.dl_eval.proofs.ShareLaws.{share_answer, rare_answer}
 use Rattle.dl_eval.proofs.shares.share_row.Goals as goal
 
 pub at-requires : goal.at-requires
 at-requires g c =
-    omega (arith, c.requires.inside, c.requires.grids.total.cells)
+    omega (arith, c.requires.inside, (drawn_total c.args.plan.now c.args.grids.now c.total.result.now c.total.ensures c.requires.grids).cells)
 
 pub returns-in-Some-clause-share : goal.returns-in-Some-clause-share
 returns-in-Some-clause-share g c =
     IfOk-weaker c.ends_row.result _ _ (λ row printed. inl (
-    share_answer c.args.plan.now c.args.grids.now.sums.total c.joint_of-joint.result c.args.i c.args.at c.at.result.lo
+    share_answer c.args.plan.now c.total.result.now c.joint_of-joint.result c.args.i c.args.at c.at.result.lo
     c.at.result.hi c.args.digits c.in-Some.share.lo c.in-Some.share.hi row
     c.at.ensures.low c.at.ensures.high c.in-Some.ensures.holds c.in-Some.ensures.width c.joint_of-joint.ensures.below
-    c.requires.inside c.requires.grids.total
+    c.requires.inside (drawn_total c.args.plan.now c.args.grids.now c.total.result.now c.total.ensures c.requires.grids)
     c.joint_of-joint.ensures.joint printed))
     c.ends_row.ensures.ends
 
@@ -21,8 +22,8 @@ returns-in-None-clause-share g c =
     if_ok_two c.row_with.result _ _ _ (λ row low high. inr (record {
       is_low = low;
       is_high = high;
-      rare = rare_answer c.args.plan.now c.args.grids.now.sums.total c.args.at c.at.result.lo c.at.result.hi
+      rare = rare_answer c.args.plan.now c.total.result.now c.args.at c.at.result.lo c.at.result.hi
           c.at.ensures.low c.at.ensures.high (c.in-None.ensures.none.0 refl)
-          c.requires.inside c.requires.grids.total;
+          c.requires.inside (drawn_total c.args.plan.now c.args.grids.now c.total.result.now c.total.ensures c.requires.grids);
     }))
     c.row_with.ensures.low c.row_with.ensures.high

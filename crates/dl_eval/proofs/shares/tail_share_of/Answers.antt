@@ -18,7 +18,7 @@ returns-clause-reached g c =
 pub returns-clause-absent : goal.returns-clause-absent
 returns-clause-absent g c x none found =
     share_absent c.args.plan.now c.args.grids.now.sums.total c.args.p c.cotail.result x c.cotail.ensures.absent none
-    found c.requires.valid c.requires.grids.total
+    found c.requires.valid c.requires.grids.total c.requires.independent
 
 pub returns-clause-share : goal.returns-clause-share
 returns-clause-share g c =
@@ -38,10 +38,11 @@ returns-clause-share g c =
     (share_holds plan c.args.grids.now.units.items c.args.grids.now.means.items own.result c.in-Some.others
     c.args.grids.now.sums.total mean.result c.args.i c.args.p c.cotail.result c.index-as_slice-i.result
     c.cotail.ensures.holds c.law_unit_mean.ensures read mean_read c.requires.unit c.requires.valid units made.means rest
-    made.total)
+    made.total c.requires.independent)
     (share_narrow plan c.args.grids.now.units.items c.args.grids.now.means.items own.result c.in-Some.others
     c.args.grids.now.sums.total mean.result c.args.i c.args.p c.cotail.result c.index-as_slice-i.result
-    c.cotail.ensures.width read mean_read c.requires.unit units made.means rest made.total)
+    c.cotail.ensures.width read mean_read c.requires.unit units made.means rest made.total
+    c.requires.independent)
 
 pub cotail-requires : goal.cotail-requires
 cotail-requires g c =

@@ -1,4 +1,4 @@
-use Rattle.dl_eval.proofs.Common.{arith, ap, aggregate_of}
+use Rattle.dl_eval.proofs.Common.{arith, aggregate_of}
 use Rattle.dl_plan.proofs.ValidUnits.{new_zero}
 use Rattle.dl_eval.proofs.Scales.{plan_scale}
 use Rattle.dl_eval.proofs.ZeroLaws.{same_grid, same_mean, none_high, before, changed_grid, changed_mean, changed_small, most_small}

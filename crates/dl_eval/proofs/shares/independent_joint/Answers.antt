@@ -3,7 +3,7 @@ use Rattle.dl_eval.proofs.Places.{read_as, horizon_there, spread_within, others_
 use Rattle.dl_eval.proofs.Scales.{plan_scale, scale_least, share_fits}
 use Rattle.dl_eval.proofs.ShareLaws.{is_joint, is_below}
 use Rattle.dl_eval.proofs.Totals.{each_cells}
-use Rattle.dl_eval.proofs.shares.joint_of.Goals as goal
+use Rattle.dl_eval.proofs.shares.independent_joint.Goals as goal
 
 pub unit_budget-requires-clause-horizon : goal.unit_budget-requires-clause-horizon
 unit_budget-requires-clause-horizon g c =
@@ -72,6 +72,7 @@ returns-clause-joint g c =
     is_joint plan c.args.grids.now.units.items own.result c.in-Some.others c.args.i c.args.at c.joint_mean.result
     c.joint_mean.ensures.holds c.joint_mean.ensures.width read
     c.requires.unit c.requires.valid (made.units c.args.i c.requires.unit c.requires.there) rest
+    c.requires.independent
 
 pub returns-clause-below : goal.returns-clause-below
 returns-clause-below g c h most =
@@ -86,7 +87,7 @@ returns-clause-below g c h most =
     c.index-as_slice-i-2.is c.in-Some.is c.requires.unit made.others in
     is_below plan c.args.grids.now.units.items own.result c.in-Some.others c.args.i c.args.at c.joint_mean.result.lo
     c.joint_mean.ensures.below read c.requires.unit c.requires.valid
-    (made.units c.args.i c.requires.unit c.requires.there) rest.encloses h most
+    (made.units c.args.i c.requires.unit c.requires.there) rest.encloses c.requires.independent h most
 
 pub returns-clause-divisible : goal.returns-clause-divisible
 returns-clause-divisible g c =

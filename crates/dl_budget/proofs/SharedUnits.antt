@@ -1,0 +1,112 @@
+-- The claims above 0 of units that share a factor: their sum, the same for the next shape, and the budget of a joint mean.
+use Rattle.dl_budget.proofs.Common.{ℕ, suc, ◌≡◌, ◌+◌, ◌*◌, ◌^◌, ◌<◌, ◌≤◌, List, [], ◌∷◌, length, get_or, take, arith, refl, sym, ap, ap₂, subst, ◌∙◌, take_all, Fraction, whole, ◌over◌, ◌≤ℚ◌, over_self, one_pos, le_over, div_ceil_least, mul-le-mul, up, IsValidUnit}
+use Rattle.std.proofs.lemmas.List.{take_more, get_or-map}
+use Rattle.std.specs.Prelude.{Some, All}
+use Rattle.dl_limits.specs.Limits.{most_claims_budget, most_expected, most_plan_cells}
+use Rattle.dl_exact.specs.Fraction.{◌+ℚ◌, ◌*ℚ◌, ◌<ℚ◌}
+unfoldable use Rattle.dl_exact.specs.Sum.{sum_over}
+use Rattle.dl_exact.proofs.Laws.{le_div, le_refl, le_trans, lt_not_le, plus_zero, times_le_both, whole_pos}
+use Rattle.dl_exact.proofs.RoundingLaws.{whole_le}
+use Rattle.dl_exact.proofs.Sums.{sum_over_append}
+use Rattle.dl_plan.specs.declared.plan.Freq.{Freq}
+use Rattle.dl_plan.specs.declared.plan.Freq.TheVariants.{Fixed, Table, Bernoulli, Binomial, Poisson, Gamma}
+use Rattle.dl_plan.specs.declared.plan.Unit.{Unit as UnitOfPlan}
+use Rattle.dl_plan.specs.declared.plan.Plan.{Plan}
+use Rattle.dl_plan.specs.Count.{IsUnbounded}
+use Rattle.dl_plan.specs.Fine.{HasPartsOf48Bits}
+use Rattle.dl_plan.specs.Means.{thinned_mean}
+use Rattle.dl_plan.specs.Valid.{IsValid}
+use Rattle.dl_plan.specs.Common.{CanShare, HasCommonFactor, IsPoisson, expected_of, raised, thinned_of}
+use Rattle.dl_plan.proofs.Shared.{has_factor}
+use Rattle.dl_plan.proofs.Raised.{raised_parts}
+use Rattle.dl_budget.specs.Shared.{thinned_at}
+
+-- ---- what a valid plan has
+
+pub factor_of : (plan : Plan) (r : ℕ) → IsValid plan → plan.common ≡ Some r → HasCommonFactor r plan.units
+factor_of plan r valid is = has_factor plan r (record { shape = is; valid = valid })
+
+unbounded : (freq : Freq) → IsPoisson freq → IsUnbounded freq
+unbounded (Fixed m) h = absurd h
+unbounded (Table counts total) h = absurd h
+unbounded (Bernoulli q) h = absurd h
+unbounded (Binomial trials q) h = absurd h
+unbounded (Poisson mean) h = tt
+unbounded (Gamma shape mean) h = absurd h
+
+pub shares_unbounded : (u : UnitOfPlan) → CanShare u → IsUnbounded u.freq
+shares_unbounded u can = unbounded u.freq can.count
+
+-- ---- the sum
+
+pub sum_none : whole 0 ≡ thinned_of []
+unfolding sum_over
+sum_none = refl
+
+alone : (u : UnitOfPlan) → thinned_of (u ∷ []) ≡ thinned_mean u
+unfolding sum_over
+alone u = plus_zero (thinned_mean u)
+
+pub sum_next : (units : List UnitOfPlan) (i : ℕ) (u : UnitOfPlan) (sum n : Fraction) → i < length units
+    → u ≡ get_or units i u → sum ≡ thinned_of (take i units) → n ≡ thinned_mean u
+    → sum +ℚ n ≡ thinned_of (take (i + 1) units)
+sum_next units i u sum n h is before own =
+    ap₂ (λ x y. x +ℚ y) before (own ∙ ap thinned_mean is ∙ sym (alone (get_or units i u)))
+    ∙ sym (ap thinned_of (take_more units i u h) ∙ sum_over_append thinned_mean (take i units) (get_or units i u ∷ []))
+
+-- some claims are expected, so there is a unit
+pub some_unit : (units : List UnitOfPlan) → whole 0 <ℚ expected_of units → 1 ≤ length units
+unfolding sum_over
+some_unit [] some = absurd (lt_not_le (whole 0) (whole 0) some (le_refl (whole 0)))
+some_unit (u ∷ us) some = omega arith
+
+pub sum_admitted : (r : ℕ) (units : List UnitOfPlan) → HasCommonFactor r units → HasPartsOf48Bits (thinned_of units)
+sum_admitted r units factor =
+    subst (λ us. HasPartsOf48Bits (thinned_of us)) (take_all (length units) units (omega arith))
+    (factor.thinned (length units) (some_unit units factor.some) (omega arith))
+
+-- raising makes no less
+raised_more : (r : ℕ) (h : Fraction) → 0 < r → h ≤ℚ raised r h
+raised_more r h above =
+    le_div h (whole r) (h *ℚ whole (suc r)) (whole_pos r above)
+    (times_le_both h h _ _ (le_refl h) (whole_le r (suc r) (omega arith)))
+
+pub sum_few : (r : ℕ) (units : List UnitOfPlan) → HasCommonFactor r units → thinned_of units ≤ℚ whole most_expected
+sum_few r units factor = le_trans _ _ _ (raised_more r (thinned_of units) factor.some_shape) factor.few
+
+-- ---- the next shape
+
+pub raised_is : (n d r : ℕ) (x : Fraction) → n ≡ x.num → d ≡ x.den → 0 < r → (n * (r + 1)) over (d * r) ≡ raised r x
+raised_is n d r x num den above = raised_parts n d r r x x num den refl refl above
+
+-- ---- a joint mean
+
+up_few : (x : Fraction) → x ≤ℚ whole most_expected → up x ≤ most_expected
+unfolding up
+up_few x h = div_ceil_least x.num x.den most_expected x.positive
+    (omega (
+      arith,
+      le_over x.num x.den most_expected 1 x.positive one_pos
+          (subst (λ y. y ≤ℚ whole most_expected) (sym (over_self x)) h),
+    ))
+
+pub joint_small : (cells before : ℕ) (thinned : Fraction) → cells ≤ most_plan_cells → before ≤ most_claims_budget
+    → thinned ≤ℚ whole most_expected → (cells * before + 2) * up thinned + 2 ≤ 2 ^ 63
+joint_small cells before thinned few small within =
+    let beside : cells * before + 2 ≤ most_plan_cells * most_claims_budget + 2 = omega (arith, mul-le-mul few small) in
+    omega (arith, mul-le-mul beside (up_few thinned within))
+
+-- that of a unit which was read there
+pub thinned_here : (units : List UnitOfPlan) (i : ℕ) (u : UnitOfPlan) → i < length units → u ≡ get_or units i u
+    → thinned_mean u ≡ thinned_at units i
+thinned_here units i u inside is = ap thinned_mean is ∙ sym (get_or-map thinned_mean units i u (whole 0) inside)
+
+-- ---- the units of a valid plan, as they were read
+
+pub read_valid : (plan : Plan) (units : List UnitOfPlan) → IsValid plan → units ≡ plan.units
+    → (h : ℕ) × All (IsValidUnit h) units
+read_valid plan units valid is = (plan.cells, subst (All (IsValidUnit plan.cells)) (sym is) valid.units)
+
+pub read_factor : (plan : Plan) (r : ℕ) (units : List UnitOfPlan) → IsValid plan → plan.common ≡ Some r
+    → units ≡ plan.units → HasCommonFactor r units
+read_factor plan r units valid is same = subst (HasCommonFactor r) (sym same) (factor_of plan r valid is)

@@ -1,0 +1,79 @@
+//! The budgets of units that share a factor.
+
+ghost use Rattle.std.specs.Prelude.{ℕ, ◌≡◌, ◌^◌, ◌≤◌, All};
+ghost use Rattle.dl_limits.specs.Limits.{IsPlanScale, most_claims_budget, most_plan_cells, most_shape};
+ghost use Rattle.dl_plan.specs.Fine.{HasPartsOf48Bits};
+ghost use Rattle.dl_plan.specs.Means.{thinned_mean};
+ghost use Rattle.dl_plan.specs.Valid.{IsValidUnit};
+ghost use Rattle.dl_plan.specs.Common.{CanShare, HasCommonFactor, raised, thinned_of};
+ghost use Rattle.dl_budget.specs.Shared.{pooled_budget, raised_budget, shared_joint_budget};
+
+use crate::claims::gamma_budget;
+use dl_frac::Frac;
+use dl_plan::Unit;
+
+/// The expected number of claims above 0 of all units together.
+fn above_zero(units: &[Unit]) -> Frac
+    requires valid { (h : ℕ) × All (IsValidUnit h) units.now }
+    requires factor { (r : ℕ) × HasCommonFactor r units.now }
+    ensures { result ≡ thinned_of units.now }
+{
+    let mut sum = Frac::whole(0);
+    'units: for unit in units {
+        sum = sum.add(unit.freq.thinned(&unit.sev)).unwrap();
+    }
+    sum
+}
+
+/// `claims` for the next shape: times `(shape + 1) / shape`.
+fn raised(claims: Frac, shape: u32) -> Frac
+    requires some { 1 ≤ shape }
+    requires few { shape ≤ most_shape }
+    requires admitted { HasPartsOf48Bits (raised shape claims) }
+    ensures { result ≡ raised shape claims }
+{
+    let num = claims.num() as u128 * (shape as u128 + 1);
+    let den = claims.den() as u128 * shape as u128;
+    Frac::make(num, den).unwrap()
+}
+
+/// The budget of the total of units that share a factor of this shape, on `cells` cells: that of the
+/// one gamma unit in their place.
+pub(crate) fn pooled_budget<const B: u32>(units: &[Unit], shape: u32, cells: u32) -> u128
+    requires scale { IsPlanScale B }
+    requires valid { (h : ℕ) × All (IsValidUnit h) units.now }
+    requires factor { HasCommonFactor shape units.now }
+    requires few { cells ≤ most_plan_cells }
+    ensures value { result ≡ pooled_budget (2 ^ B) cells shape units.now }
+    ensures small { result ≤ most_claims_budget }
+{
+    gamma_budget::<B>(above_zero(units), shape, cells)
+}
+
+/// The budget of the same gamma unit with one more in its shape, from whose grid the joint means
+/// come.
+pub(crate) fn raised_budget<const B: u32>(units: &[Unit], shape: u32, cells: u32) -> u128
+    requires scale { IsPlanScale B }
+    requires valid { (h : ℕ) × All (IsValidUnit h) units.now }
+    requires factor { HasCommonFactor shape units.now }
+    requires few { cells ≤ most_plan_cells }
+    ensures value { result ≡ raised_budget (2 ^ B) cells shape units.now }
+    ensures small { result ≤ most_claims_budget }
+{
+    gamma_budget::<B>(raised(above_zero(units), shape), shape + 1, cells)
+}
+
+/// The budget of the joint mean of a unit that shares a factor, from that of the raised unit,
+/// `before`, on `cells` cells.
+pub(crate) fn shared_joint_budget(unit: &Unit, before: u128, cells: u32) -> u128
+    requires valid { (h : ℕ) × IsValidUnit h unit.now }
+    requires shares { CanShare unit.now }
+    requires few { cells ≤ most_plan_cells }
+    requires small { before ≤ most_claims_budget }
+    ensures value { result ≡ shared_joint_budget cells before (thinned_mean unit.now) }
+    ensures small { result ≤ 2 ^ 63 }
+{
+    let claims = unit.freq.thinned(&unit.sev);
+    let most = claims.num().div_ceil(claims.den()) as u128;
+    (cells as u128 * before + 2) * most + 2
+}

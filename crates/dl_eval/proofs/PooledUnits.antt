@@ -1,0 +1,148 @@
+-- The one unit in the place of units that share a factor: what its grid and its mean hold, and how wide they are.
+use Rattle.dl_eval.proofs.Common.{ℕ, suc, ◌≡◌, ◌+◌, ◌-◌, ◌*◌, ◌^◌, ◌<◌, ◌≤◌, List, [], ◌∷◌, length, get_or, arith, refl, sym, ap, subst, subst₂, ◌∙◌, Option, None, Some, IfSome, Fraction, whole, ◌over◌, Iv, spread, low_at, high_at, Holds, One, Point, Mean, partial_sums, total, GridEncloses, mapped, aggregate_of, compound_of, loss, unit_declared, Plan, IsValid, IsValidUnit, claims_budget, total_budget, Declares, IsTotalOf, IsMeanOf, Loss}
+use mathlib.Core.Path.{fun_ext}
+use Rattle.std.specs.Prelude.{IsSome}
+use Rattle.dl_plan.specs.declared.plan.Freq.TheVariants.{Gamma}
+use Rattle.dl_plan.specs.declared.plan.Unit.{Unit as UnitOfPlan}
+use Rattle.dl_plan.specs.Means.{thinned_mean}
+use Rattle.dl_plan.specs.Count.{expected_count}
+use Rattle.dl_plan.specs.Common.{IsPoisson, raised, thinned_of}
+use Rattle.dl_plan.specs.Severity.{probability_of}
+use Rattle.dl_plan.specs.Shared.{SharesFactor}
+use Rattle.dl_plan.proofs.Shared.{has_factor}
+use Rattle.dl_exact.specs.Fraction.{◌*ℚ◌, ◌-ℚ◌}
+use Rattle.dl_grid.specs.Width.{up}
+use Rattle.dl_model.specs.Program.{Quantity, Joint}
+use Rattle.dl_model.specs.CommonFactor.{CountsTotal}
+use Rattle.dl_model.specs.Plans.{after_zero, declared}
+use Rattle.dl_model.proofs.ClauseMeans.{no_clause}
+use Rattle.dl_model.proofs.FamilyLaws.{encloses_same}
+use Rattle.dl_model.proofs.Outcomes.{total_alone, total_alone_all}
+use Rattle.dl_model.proofs.Pooled.{total_mean, total_point}
+use Rattle.dl_model.proofs.UnitLosses.{unit_declared_loss}
+use Rattle.dl_common.specs.Pooled.{IsPooled, IsRaised, alone}
+use Rattle.dl_common.proofs.Alone.{pooled_thinned, pooled_valid, raised_thinned, raised_valid, same_declared}
+use Rattle.dl_cede.specs.Means.{HoldsClaims}
+unfoldable use Rattle.dl_budget.specs.Claims.{count_budget}
+use Rattle.dl_budget.specs.Asks.{joint_by}
+use Rattle.dl_budget.specs.Shared.{raised_budget, shape_budget, thinned_at}
+use Rattle.dl_budget.proofs.SharedUnits.{thinned_here}
+use Rattle.dl_budget.specs.Units.{mean_by, total_by}
+use Rattle.dl_eval.specs.Totals.{IsJointOf, IsRaisedGridOf}
+use Rattle.dl_eval.proofs.Totals.{plain_encloses}
+
+-- a plan with some factor shares one
+pub some_shape : (common : Option ℕ) → IsSome common → (r : ℕ) × (common ≡ Some r)
+some_shape (Some r) is = (r, refl)
+some_shape None is = absurd cc
+
+gamma_claims : (S cells r : ℕ) (u : UnitOfPlan) (v thinned : Fraction) → u.freq ≡ Gamma r v → thinned_mean u ≡ thinned
+    → claims_budget S cells u ≡ shape_budget S cells r thinned
+unfolding count_budget
+gamma_claims S cells r u v thinned count is =
+    ap (count_budget S cells (length u.sev.items) (thinned_mean u)) count ∙ ap (shape_budget S cells r) is
+
+module _ (plan : Plan) (valid : IsValid plan) (r : ℕ) (shape : plan.common ≡ Some r) (u : UnitOfPlan) where
+  abbrev shares : SharesFactor plan r
+  shares = record { shape = shape; valid = valid }
+
+  pub raised_unit_valid : IsRaised r plan.units u → IsValidUnit plan.cells u
+  raised_unit_valid is = (raised_valid plan r u shares is).units 0 u (omega arith)
+
+  raised_narrow : (S : ℕ) → IsRaised r plan.units u
+      → claims_budget S plan.cells u ≡ raised_budget S plan.cells r plan.units
+  raised_narrow S is =
+      gamma_claims S plan.cells (suc r) u _ (raised r (thinned_of plan.units)) is.count
+      (ap (λ f. expected_count f *ℚ (whole 1 -ℚ probability_of u.sev 0)) is.count
+      ∙ raised_thinned plan.units (has_factor plan r shares).some u is.severity r (has_factor plan r shares).some_shape)
+
+  pub raised_is_grid : {B : ℕ} → IsRaised r plan.units u → (g : List (Iv B)) → length g ≡ plan.cells
+      → GridEncloses g (compound_of u.freq u.sev) → spread g ≤ claims_budget (2 ^ B) plan.cells u
+      → IsRaisedGridOf r plan g
+  raised_is_grid {B} is g cells encloses narrow = record {
+    cells = cells;
+    unit = u;
+    raised = is;
+    encloses = encloses;
+    narrow = subst (λ b. spread g ≤ b) (raised_narrow (2 ^ B) is) narrow;
+  }
+
+  module _ (is : IsPooled r plan.units u) where
+    pub pooled_unit_valid : IsValidUnit plan.cells u
+    pooled_unit_valid = (pooled_valid plan r u shares is).units 0 u (omega arith)
+
+    declares : (quantity : Quantity) → CountsTotal quantity → declared (alone plan u) quantity ≡ declared plan quantity
+    declares quantity total = fun_ext (λ N. same_declared plan r shares u is quantity total N)
+
+    -- as the one loss of its plan
+    one_loss : loss (aggregate_of u) ∷ [] ≡ after_zero u.zero (aggregate_of u) ∷ []
+    one_loss = ap (λ o. after_zero o (aggregate_of u) ∷ []) (sym is.zero)
+
+    alone_encloses : {B : ℕ} (g : List (Iv B)) → GridEncloses g (compound_of u.freq u.sev)
+        → GridEncloses g (total (loss (aggregate_of u) ∷ []))
+    alone_encloses {B} g encloses =
+        let of_loss = (unit_declared_loss (aggregate_of u) (unit_declared plan.cells u pooled_unit_valid)).loss in
+        encloses_same (2 ^ B) (length g) (low_at g) (high_at g) (mapped (aggregate_of u))
+        (total (loss (aggregate_of u) ∷ []))
+        (λ x N. sym (total_alone (loss (aggregate_of u)) of_loss x N))
+        (λ N. sym (total_alone_all (loss (aggregate_of u)) of_loss N))
+        (plain_encloses g plan.cells u pooled_unit_valid is.clause encloses)
+
+    pooled_narrow : (S : ℕ) → claims_budget S plan.cells u ≡ total_budget S plan
+    pooled_narrow S =
+        gamma_claims S plan.cells r u _ (thinned_of plan.units) is.count
+        (ap (λ f. expected_count f *ℚ (whole 1 -ℚ probability_of u.sev 0)) is.count
+        ∙ pooled_thinned plan.units (has_factor plan r shares).some u is.severity)
+        ∙ ap (λ o. total_by o S plan.cells plan.units) (sym shape)
+
+    pub pooled_total : {B : ℕ} (g : List (Iv B)) → length g ≡ plan.cells
+        → GridEncloses g (compound_of u.freq u.sev) → spread g ≤ claims_budget (2 ^ B) plan.cells u → IsTotalOf plan g
+    pooled_total {B} g cells encloses narrow = record {
+      cells = cells;
+      encloses = λ x inside. subst₂ (λ Q O. Holds Q O (low_at g x over 2 ^ B) (high_at g x over 2 ^ B))
+          (declares (Point x) (total_point x)) (declares One (λ ys. refl))
+          (subst (λ us. GridEncloses g (total us)) one_loss (alone_encloses g encloses) x inside);
+      narrow = subst (λ b. spread g ≤ b) (pooled_narrow (2 ^ B)) narrow;
+    }
+
+    pub pooled_is_mean : {B : ℕ} (mean : Iv B) → HoldsClaims u mean → mean.hi ≤ mean.lo + 1 → IsMeanOf plan mean
+    pooled_is_mean {B} mean holds narrow = record {
+      holds = subst₂ (λ Q O. Holds Q O (mean.lo over 2 ^ B) (mean.hi over 2 ^ B)) (declares Mean total_mean)
+          (declares One (λ ys. refl)) (subst (λ us. HoldsOf us) one_loss
+          (subst (λ a. HoldsOf (loss a ∷ [])) (sym (no_clause u is.clause)) holds));
+      narrow = subst (λ b. mean.hi ≤ mean.lo + b) (ap (λ o. mean_by o (2 ^ B) plan.cells plan.units) (sym shape)) narrow;
+    }
+      where
+        HoldsOf : List Loss → Type 0
+        HoldsOf us = Holds (partial_sums us Mean) (partial_sums us One) (mean.lo over 2 ^ B) (mean.hi over 2 ^ B)
+
+-- ---- joint means
+
+pub raised_there : {B : ℕ} (plan : Plan) (r : ℕ) (raised : Option (List (Iv B))) (g : List (Iv B)) → raised ≡ Some g
+    → IfSome raised (IsRaisedGridOf r plan) → IsRaisedGridOf r plan g
+raised_there plan r raised g is all = subst (λ o. IfSome o (IsRaisedGridOf r plan)) is all
+
+pub unit_poisson : (plan : Plan) → IsValid plan → (r : ℕ) → plan.common ≡ Some r → (i : ℕ) (u : UnitOfPlan)
+    → i < length plan.units → u ≡ get_or plan.units i u → IsPoisson u.freq
+unit_poisson plan valid r shape i u inside is =
+    subst (λ (w : UnitOfPlan). IsPoisson w.freq) (sym is)
+    ((has_factor plan r (record { shape = shape; valid = valid })).can_share i u inside).count
+
+joint_narrow : (K n E lo hi claims most : ℕ) → n ≡ K → claims ≡ most → lo ≤ hi
+    → hi - lo ≤ (n * E + 2) * claims + 2 → hi ≤ lo + ((K * E + 2) * most + 2)
+joint_narrow K n E lo hi claims most cells same order width =
+    omega (arith, order, subst₂ (λ k c. hi - lo ≤ (k * E + 2) * c + 2) cells same width)
+
+pub pooled_is_joint : {B : ℕ} (plan : Plan) → IsValid plan → (r : ℕ) → plan.common ≡ Some r → (g : List (Iv B))
+    → IsRaisedGridOf r plan g → (i at : ℕ) (u : UnitOfPlan) (mean : Iv B) → i < length plan.units
+    → u ≡ get_or plan.units i u → Declares plan (Joint i at) (mean.lo over 2 ^ B) (mean.hi over 2 ^ B)
+    → ((D : ℕ) → spread g ≤ D → mean.hi - mean.lo ≤ (length g * D + 2) * up (thinned_mean u) + 2)
+    → IsJointOf plan i at mean
+pooled_is_joint {B} plan valid r shape g raised i at u mean inside is holds width = record {
+  holds = holds;
+  narrow = subst (λ b. mean.hi ≤ mean.lo + b) (ap (λ o. joint_by o (2 ^ B) plan i) (sym shape))
+      (joint_narrow plan.cells (length g) (raised_budget (2 ^ B) plan.cells r plan.units) mean.lo mean.hi
+      (up (thinned_mean u)) (up (thinned_at plan.units i)) raised.cells
+      (ap up (thinned_here plan.units i u inside is)) mean.ordered
+      (width (raised_budget (2 ^ B) plan.cells r plan.units) raised.narrow));
+}

@@ -1,0 +1,62 @@
+use Rattle.dl_eval.proofs.Common.{◌^◌, arith, sym, mul-le-mul_right, few_cells}
+use Rattle.dl_budget.proofs.Sums.{read_unit}
+use Rattle.dl_eval.proofs.Places.{unit_there}
+use Rattle.dl_eval.proofs.Scales.{share_fits}
+use Rattle.dl_eval.proofs.PooledUnits.{unit_poisson, pooled_is_joint, raised_there}
+use Rattle.dl_eval.proofs.pooled.pooled_joint.Goals as goal
+
+pub common_joint-requires : goal.common_joint-requires
+common_joint-requires g c =
+    let plan = c.args.plan.now in
+    let u = c.index-as_slice-i.result in
+    let is = read_unit c.as_slice.result.now plan.units c.args.i u c.as_slice.ensures c.index-as_slice-i.is in
+    let made = c.requires.grids in
+    let there = raised_there plan made.shape c.args.grids.now.raised c.in-Some.raised c.in-Some.is made.raised in (
+      omega arith,
+      (
+        omega arith,
+        (
+          (
+            plan.cells,
+            unit_there plan c.as_slice.result.now c.args.i u c.as_slice.ensures c.index-as_slice-i.is c.requires.unit
+                c.requires.valid,
+          ),
+          (
+            unit_poisson plan c.requires.valid made.shape made.shares c.args.i u c.requires.unit is,
+            omega (arith, c.requires.inside, there.cells),
+          ),
+        ),
+      ),
+    )
+
+pub returns-clause-joint : goal.returns-clause-joint
+returns-clause-joint g c =
+    let plan = c.args.plan.now in
+    let u = c.index-as_slice-i.result in
+    let is = read_unit c.as_slice.result.now plan.units c.args.i u c.as_slice.ensures c.index-as_slice-i.is in
+    let made = c.requires.grids in
+    let there = raised_there plan made.shape c.args.grids.now.raised c.in-Some.raised c.in-Some.is made.raised in
+    pooled_is_joint plan c.requires.valid made.shape made.shares c.in-Some.raised there c.args.i c.args.at u
+    c.common_joint.result c.requires.unit is
+    (c.common_joint.ensures.holds plan made.shape c.args.i there.unit (record { shape = made.shares; valid = c.requires.valid })
+    c.requires.unit (sym is) there.raised there.encloses)
+    c.common_joint.ensures.width
+
+pub returns-clause-below : goal.returns-clause-below
+returns-clause-below g c h most =
+    let plan = c.args.plan.now in
+    let u = c.index-as_slice-i.result in
+    let is = read_unit c.as_slice.result.now plan.units c.args.i u c.as_slice.ensures c.index-as_slice-i.is in
+    let made = c.requires.grids in
+    let there = raised_there plan made.shape c.args.grids.now.raised c.in-Some.raised c.in-Some.is made.raised in
+    c.common_joint.ensures.below plan made.shape c.args.i h there.unit
+    (record { shape = made.shares; valid = c.requires.valid }) c.requires.unit (sym is) there.raised there.encloses most
+
+pub returns-clause-divisible : goal.returns-clause-divisible
+returns-clause-divisible g c =
+    omega (
+      arith,
+      mul-le-mul_right (2 ^ g.row.B) c.common_joint.ensures.small,
+      share_fits g.row.B c.args.plan.now.cells c.args.at c.requires.scale (few_cells c.args.plan.now c.requires.valid).1
+          c.requires.inside,
+    )

@@ -1,0 +1,25 @@
+use Rattle.dl_eval.proofs.Common.{arith, few_cells}
+use Rattle.dl_eval.proofs.Scales.{grid_size}
+use Rattle.dl_exact.proofs.Results.{if_ok_three}
+use Rattle.dl_eval.proofs.PooledUnits.{some_shape, pooled_unit_valid, pooled_total}
+use Rattle.dl_eval.proofs.pooled.total_grid.Goals as goal
+
+pub unit_grid_with-requires : goal.unit_grid_with-requires
+unit_grid_with-requires g c =
+    let plan = c.args.plan.now in
+    let s = some_shape plan.common c.requires.shares in
+    let cells = few_cells plan c.requires.valid in (
+      omega arith,
+      (
+        grid_size g.row.B plan.cells c.requires.scale cells.0 cells.1,
+        (plan.cells, pooled_unit_valid plan c.requires.valid s.0 s.1 c.args.pooled.now (c.requires.pooled s.0 s.1)),
+      ),
+    )
+
+pub returns : goal.returns
+returns g c =
+    let plan = c.args.plan.now in
+    let s = some_shape plan.common c.requires.shares in
+    if_ok_three c.unit_grid_with.result _ _ _ _ (λ g cells encloses narrow.
+    pooled_total plan c.requires.valid s.0 s.1 c.args.pooled.now (c.requires.pooled s.0 s.1) g cells encloses narrow)
+    c.unit_grid_with.ensures.cells c.unit_grid_with.ensures.encloses c.unit_grid_with.ensures.spread

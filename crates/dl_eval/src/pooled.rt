@@ -1,0 +1,141 @@
+//! What rows are drawn from where the units of a plan share a factor: the grid of the one unit in
+//! their place, and that of the same with one more in its shape.
+
+ghost use Rattle.std.specs.Prelude.{ℕ, ◌≡◌, ◌*◌, ◌^◌, ◌<◌, ◌≤◌, Some, IsSome, IsTrue, IfOk, length};
+ghost use Rattle.dl_limits.specs.Limits.{bits_of};
+ghost use Rattle.dl_exact.specs.Fraction.{◌over◌};
+ghost use Rattle.dl_plan.specs.Valid.{IsValid};
+ghost use Rattle.dl_model.specs.Program.{Point};
+ghost use Rattle.dl_eval.specs.Rows.{IsAtMost};
+ghost use Rattle.dl_eval.specs.Totals.{most_mean, ArePooledGridsOf, IsJointOf, IsMeanOf, IsPooledOf, IsRaisedGridOf, IsTotalOf};
+
+use dl_cede::claims_mean;
+use dl_common::{common_joint, pool, raised};
+use dl_grid::Grid;
+use dl_iv::Iv;
+use dl_plan::{Plan, Unit};
+use dl_product::Workspace;
+use dl_unit::unit_grid_with;
+use std::alloc::{AllocError, Global};
+
+/// The grids of a plan whose units share a factor.
+#[derive(Drop)]
+pub(crate) struct PooledGrids<const B: u32> {
+    /// That of the total.
+    pub(crate) total: Grid<B>,
+    /// That of the one unit in the place of all, with one more in its shape; it may be gone where no
+    /// ask is for the share of a unit.
+    pub(crate) raised: Option<Grid<B>>,
+}
+
+/// The grid of the total, from the one unit in the place of all.
+#[tactic(auto, using(crate::proofs::Scales::grid_size))]
+fn total_grid<const B: u32>(
+    alloc: Global,
+    work: &mut Workspace,
+    plan: &Plan,
+    pooled: &Unit,
+) -> Result<Grid<B>, AllocError>
+    requires scale { B ≡ bits_of plan.now.cells }
+    requires valid { IsValid plan.now }
+    requires shares { IsSome plan.now.common }
+    requires pooled { IsPooledOf plan.now pooled.now }
+    ensures { IfOk result (λ g. IsTotalOf plan.now g) }
+{
+    unit_grid_with(alloc, work, pooled, plan.cells)
+}
+
+/// The grid of that unit with one more in its shape.
+#[tactic(auto, using(crate::proofs::Scales::grid_size))]
+fn raised_grid<const B: u32>(
+    alloc: Global,
+    work: &mut Workspace,
+    plan: &Plan,
+    pooled: &Unit,
+) -> Result<Grid<B>, AllocError>
+    requires scale { B ≡ bits_of plan.now.cells }
+    requires valid { IsValid plan.now }
+    requires shares { IsSome plan.now.common }
+    requires pooled { IsPooledOf plan.now pooled.now }
+    ensures { IfOk result (λ g. (r : ℕ) → plan.now.common ≡ Some r → IsRaisedGridOf r plan.now g) }
+{
+    let unit = raised(alloc, pooled)?;
+    unit_grid_with(alloc, work, &unit, plan.cells)
+}
+
+/// The mean of the total of a plan whose units share a factor, in buckets: that of the one unit in
+/// their place.
+pub(crate) fn pooled_mean<const B: u32>(plan: &Plan, pooled: &Unit) -> Iv<B>
+    requires scale { B ≡ bits_of plan.now.cells }
+    requires valid { IsValid plan.now }
+    requires shares { IsSome plan.now.common }
+    requires pooled { IsPooledOf plan.now pooled.now }
+    ensures mean { IsMeanOf plan.now result }
+    ensures small { result.hi ≤ most_mean }
+{
+    claims_mean(pooled)
+}
+
+/// The grids of a plan whose units share a factor, from the one unit in their place; that of the
+/// raised unit where `wanted`.
+pub(crate) fn pooled_grids<const B: u32>(
+    alloc: Global,
+    work: &mut Workspace,
+    plan: &Plan,
+    pooled: &Unit,
+    wanted: bool,
+) -> Result<PooledGrids<B>, AllocError>
+    requires scale { B ≡ bits_of plan.now.cells }
+    requires valid { IsValid plan.now }
+    requires shares { IsSome plan.now.common }
+    requires pooled { IsPooledOf plan.now pooled.now }
+    ensures grids { IfOk result (λ grids. ArePooledGridsOf plan.now grids) }
+    ensures there { IfOk result (λ grids. IsTrue wanted → IsSome grids.raised) }
+{
+    let total = total_grid(alloc, work, plan, pooled)?;
+    if !wanted {
+        return Ok(PooledGrids {
+            total,
+            raised: None,
+        });
+    }
+    let raised = raised_grid(alloc, work, plan, pooled)?;
+    Ok(PooledGrids {
+        total,
+        raised: Some(raised),
+    })
+}
+
+/// The one unit in the place of all units of a plan that share a factor.
+pub(crate) fn pooled_unit(alloc: Global, plan: &Plan) -> Result<Unit, AllocError>
+    requires valid { IsValid plan.now }
+    requires shares { IsSome plan.now.common }
+    ensures { IfOk result (IsPooledOf plan.now) }
+{
+    pool(alloc, plan)
+}
+
+/// The mean outcome of unit `i` where the total is `at`, and 0 elsewhere, in buckets, of units that
+/// share a factor.
+pub(crate) fn pooled_joint<const B: u32>(
+    plan: &Plan,
+    grids: &PooledGrids<B>,
+    i: u32,
+    at: u32,
+) -> Iv<B>
+    requires scale { B ≡ bits_of plan.now.cells }
+    requires valid { IsValid plan.now }
+    requires grids { ArePooledGridsOf plan.now grids.now }
+    requires unit { i < length plan.now.units }
+    requires there { IsSome grids.now.raised }
+    requires inside { at < plan.now.cells }
+    ensures joint { IsJointOf plan.now i at result }
+    ensures below { (h : ℕ) → IsAtMost plan.now (Point at) (h over 2 ^ B) → result.lo ≤ at * h }
+    ensures divisible { result.hi * 2 ^ B ≤ 2 ^ 127 }
+{
+    let unit = &plan.units.as_slice()[i as usize];
+    match &grids.raised {
+        Some(raised) => common_joint(unit, raised, at),
+        None => unreachable!(),
+    }
+}
