@@ -16,7 +16,8 @@ use Rattle.dl_iv.specs.declared.interval.Iv.{Iv}
 unfoldable use Rattle.dl_grid.specs.Cells.{low_at, high_at, all_at_zero}
 use Rattle.dl_plan.specs.declared.plan.Plan.{Plan}
 use Rattle.dl_plan.specs.declared.plan.Unit.{Unit as UnitOfPlan}
-use Rattle.dl_plan.specs.Valid.{thinned_mean, IsValid, IsValidUnit}
+use Rattle.dl_plan.specs.Means.{thinned_mean}
+use Rattle.dl_plan.specs.Valid.{IsValid, IsValidUnit}
 use Rattle.dl_model.specs.Family.{Family, nothing, Encloses}
 use Rattle.dl_model.specs.Plans.{aggregates_of}
 use Rattle.dl_model.specs.Program.{total}

@@ -17,7 +17,8 @@ use Rattle.dl_plan.specs.declared.plan.Unit.{Unit as UnitOfPlan}
 use Rattle.dl_plan.specs.declared.severity.Sev.{Sev}
 use Rattle.dl_plan.specs.Severity.{probability_of}
 use Rattle.dl_plan.specs.Count.{expected_count, IsClaimCount as IsCountOfPlan}
-use Rattle.dl_plan.specs.Valid.{thinned_mean, IsValid, IsValidUnit}
+use Rattle.dl_plan.specs.Means.{thinned_mean}
+use Rattle.dl_plan.specs.Valid.{IsValid, IsValidUnit}
 use Rattle.dl_plan.proofs.Clauses.{num_le_den}
 use Rattle.dl_budget.specs.Halvings.{halvings}
 unfoldable use Rattle.dl_model.specs.Compound.{power}

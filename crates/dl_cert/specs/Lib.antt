@@ -4,3 +4,11 @@ pub mod Targets
 pub mod Steps
 pub mod Numbers
 pub mod Passes
+pub mod Spelling
+pub mod Lines
+pub mod Bases
+pub mod Reading
+pub mod Kept
+pub mod Verified
+pub mod Written
+pub mod Starts

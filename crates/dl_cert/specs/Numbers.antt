@@ -11,7 +11,7 @@ use Rattle.dl_plan.specs.declared.plan.Freq.TheVariants.{Fixed, Table, Bernoulli
 use Rattle.dl_plan.specs.declared.plan.Unit.{Unit as UnitOfPlan}
 use Rattle.dl_plan.specs.declared.severity.Sev.{Sev}
 use Rattle.dl_plan.specs.Severity.{probability_of}
-use Rattle.dl_plan.specs.Valid.{thinned_mean}
+use Rattle.dl_plan.specs.Means.{thinned_mean}
 use Rattle.dl_budget.specs.Halvings.{halvings}
 use Rattle.dl_model.specs.Counts.{fixed, binomial}
 use Rattle.dl_model.specs.Compound.{cell}

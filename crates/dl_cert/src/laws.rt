@@ -11,6 +11,7 @@ ghost use Rattle.dl_cert.specs.Covered.{IsCovered};
 ghost use Rattle.dl_cert.specs.Targets.{parts_of_plan, target};
 ghost use Rattle.dl_cert.specs.Steps.{Step};
 ghost use Rattle.dl_cert.specs.Passes.{Certifies};
+ghost use Rattle.dl_cert.specs.Verified.{Verifies, IsBadStep};
 ghost use Rattle.dl_cert.specs.Labels.{Label, no_unit, once, together, labelled, HasValues};
 
 /// Products of families with the same declared values have the same declared values.
@@ -50,4 +51,10 @@ pub fn law_certified()
     ensures { (plan : Plan) (steps : List Step) (grid : List (Iv 56)) → IsValid plan
         → IsCovered plan → Certifies plan steps grid
         → GridEncloses grid (total (aggregates_of plan)) }
+{}
+
+/// A text that certifies a plan's total has no bad step.
+pub fn law_verified()
+    ensures { (plan : Plan) (text : List ℕ) (grid : List (Iv 56)) (k : ℕ)
+        → Verifies plan text grid → ¬ IsBadStep plan text k }
 {}

@@ -3,9 +3,26 @@
 //! the grid of steps that pass encloses the total.
 #![tactic(auto)]
 
+mod base;
+mod bases;
+mod checking;
 mod covered;
+mod fault;
+mod kept;
 pub mod laws;
+mod lines;
+mod making;
+mod printing;
+mod spelling;
+mod starting;
 mod step;
+mod steps;
+mod test;
+mod trials;
+mod units;
 
+pub use checking::verify;
 pub use covered::not_covered;
+pub use fault::{CertFault, VerifyFault};
+pub use making::certify;
 pub use step::Kind;

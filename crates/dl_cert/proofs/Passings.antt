@@ -1,0 +1,258 @@
+-- A step that passes joins those that are kept.
+use Rattle.std.proofs.Common.{ℕ, zero, suc, ◌≡◌, ◌≢◌, ◌+◌, ◌*◌, ◌<◌, ◌≤◌, ◌^◌, ◌∙◌, cond, inl, inr, refl, sym, ap, ap₂, subst, subst₂, arith, List, [], ◌∷◌, ◌++◌, length, get_or, take, drop, append_assoc, length-append}
+use Rattle.std.proofs.Math.Nat.{mul-le-mul_right}
+use Rattle.std.specs.Prelude.{map, All}
+use Rattle.std.proofs.lemmas.Bool.{cases_lt, ne_eqb}
+use Rattle.std.proofs.lemmas.List.{get_or_append_left, length-map}
+use Rattle.std.proofs.Math.Seq.{get_or-append_seam}
+use Rattle.dl_limits.specs.Limits.{most_cert_cells}
+unfoldable use Rattle.dl_limits.specs.Limits.{most_cells_at}
+use Rattle.dl_iv.specs.declared.interval.Iv.{Iv}
+use Rattle.dl_grid.specs.Cells.{mass_low, IsGrid}
+use Rattle.dl_plan.specs.declared.plan.Plan.{Plan}
+use Rattle.dl_cert.specs.declared.step.Kind.{Kind}
+use Rattle.dl_cert.specs.declared.step.Kind.TheVariants.{One, Start, Times}
+use Rattle.dl_cert.specs.Kept.{Keeps, IsRow, IsOver, IsPlaced, count_by, label_at, HasPassedTo}
+unfoldable use Rattle.dl_cert.specs.Lines.{AreSteps}
+use Rattle.dl_cert.specs.Lines.{lines_of, IsStep}
+use Rattle.dl_cert.specs.Numbers.{one}
+use Rattle.dl_cert.specs.Passes.{Passes, AllPass, made_after}
+use Rattle.dl_cert.specs.Reading.{line_from}
+use Rattle.dl_cert.specs.Steps.{Step, Made, made_at, made_by, label_of, IsThere}
+use Rattle.dl_cert.specs.Targets.{unit_parts, target}
+use Rattle.dl_cert.specs.Verified.{IsBadStep, IsBadLine}
+use Rattle.dl_cert.proofs.LineLists.{next_there}
+use Rattle.dl_cert.proofs.Readings.{step_is}
+use Rattle.dl_cert.proofs.Tests.{IsTested}
+
+module _ (plan : Plan) (text places labels : List ℕ) (before : List Made) (kept : Keeps plan text places labels before) where
+  abbrev units : ℕ
+  units = length plan.units
+
+  module _ (kind : Kind) (there : IsThere units (length before) kind) where
+    pub count_is : (i : ℕ) → i < units → count_by labels units kind i ≡ label_of before kind i
+    count_is i inside = go kind there
+      where
+        go : (k : Kind) → IsThere units (length before) k → count_by labels units k i ≡ label_of before k i
+        go One h = refl
+        go (Start u) h = refl
+        go (Times a b) h = ap₂ (λ m n. m + n) (sym (kept.counts a i h.0 inside)) (sym (kept.counts b i h.1 inside))
+
+    pub none_counted : (i : ℕ) → units ≤ i → label_of before kind i ≡ 0
+    none_counted i past = go kind there
+      where
+        go : (k : Kind) → IsThere units (length before) k → label_of before k i ≡ 0
+        go One h = refl
+        go (Start u) h = ap (λ b. cond b 1 0) (ne_eqb i u (λ e. absurd (omega (arith, e, past, h))))
+        go (Times a b) h = omega (arith, kept.others a i past, kept.others b i past)
+
+  module _ (step : Step) (targets : List ℕ) (counts : targets ≡ map unit_parts plan.units) where
+    -- a unit is counted too often
+    pub over_fails : IsThere units (length before) step.kind → IsOver labels (length targets) step.kind targets
+        → ¬ Passes plan before step
+    over_fails there over p =
+        let long : length targets ≡ units = ap length counts ∙ length-map plan.units unit_parts in
+        let inside : over.unit < units = omega (arith, over.inside, long) in
+        let here : get_or targets over.unit 0 < label_of before step.kind over.unit =
+        subst (λ n. get_or targets over.unit 0 < n)
+        (ap (λ n. count_by labels n step.kind over.unit) long ∙ count_is step.kind there over.unit inside) over.over in
+        let is : get_or targets over.unit 0 ≡ target plan over.unit = ap (λ l. get_or l over.unit 0) counts in
+        omega (arith, here, is, p.label over.unit)
+
+    pub cells_fail : ¬ IsTested plan before step.kind step.cells → ¬ Passes plan before step
+    cells_fail none p = none (record { low_ends = p.low; high_ends = p.high })
+
+    module _ (row : List ℕ) (there : IsThere units (length before) step.kind)
+        (is_row : IsRow labels units step.kind targets row) where
+      pub passes_now : length step.cells ≡ plan.cells → mass_low step.cells ≤ one
+          → IsTested plan before step.kind step.cells → Passes plan before step
+      passes_now cells mass tested = record {
+        there = there;
+        cells = cells;
+        label = λ i. elim (cases_lt i units) [
+          | inl inside ↦ omega (
+            arith,
+            is_row.counts i inside,
+            count_is step.kind there i inside,
+            is_row.within i inside,
+            ap (λ l. get_or l i 0) counts,
+          )
+          | inr past ↦ omega (arith, none_counted step.kind there i past)
+        ];
+        mass = mass;
+        low = tested.low_ends;
+        high = tested.high_ends;
+      }
+
+      module _ (place : ℕ) (inside : place ≤ length text) (spelled : IsStep (line_from text place) step)
+          (many : length step.cells ≡ plan.cells) (grid : IsGrid step.cells) where
+        abbrev more : List Made
+        more = before ++ made_by before step ∷ []
+
+        earlier : (k : ℕ) → k < length before → made_at more k ≡ made_at before k
+        earlier k near = get_or_append_left before (made_by before step ∷ []) _ k near
+
+        last : made_at more (length before) ≡ made_by before step
+        last = get_or-append_seam before (made_by before step) [] _
+
+        by_place : (P : ℕ → Type 0) → ((k : ℕ) → k < length before → P k) → P (length before) → (k : ℕ)
+            → k < length more → P k
+        by_place P early now k near = elim (cases_lt k (length before)) [
+          | inl h ↦ early k h
+          | inr h ↦ subst P (omega (arith, near, h, length-append before (made_by before step ∷ []))) now
+        ]
+
+        before_row : (k i : ℕ) → k < length before → i < units → k * units + i < length labels
+        before_row k i near small =
+            let all : (k + 1) * units ≤ length before * units = mul-le-mul_right units (omega (arith, near)) in
+            omega (arith, all, small, kept.long)
+
+        pub keeps_more : Keeps plan text (places ++ place ∷ []) (labels ++ row) more
+        keeps_more = record {
+          many = length-append places (place ∷ []) ∙ ap (λ n. n + 1) kept.many
+              ∙ sym (length-append before (made_by before step ∷ []));
+          long =
+              let a = length-append labels row in
+              let b = length-append before (made_by before step ∷ []) in
+              a ∙ ap₂ (λ m n. m + n) kept.long is_row.long ∙ omega arith ∙ ap (λ n. n * units) (sym b);
+          placed = by_place (λ k. IsPlaced plan text (get_or (places ++ place ∷ []) k 0) (made_at more k))
+              (λ k near. subst₂ (IsPlaced plan text)
+              (sym (get_or_append_left places (place ∷ []) 0 k (omega (arith, near, kept.many)))) (sym (earlier k near))
+              (kept.placed k near))
+              (subst₂ (IsPlaced plan text)
+              (sym (ap (λ k. get_or (places ++ place ∷ []) k 0) (sym kept.many) ∙ get_or-append_seam places place [] 0))
+              (sym last) (record {
+                inside = inside;
+                kind = step.kind;
+                spelled = spelled;
+                cells = many;
+                grid = grid;
+              }));
+          counts = λ k i near small. by_place
+              (λ k. (made_at more k).label i ≡ label_at (labels ++ row) units k i)
+              (λ k close. ap (λ (m : Made). m.label i) (earlier k close) ∙ kept.counts k i close small
+              ∙ sym (get_or_append_left labels row 0 (k * units + i) (before_row k i close small)))
+              (ap (λ (m : Made). m.label i) last ∙ sym (count_is step.kind there i small) ∙ sym (is_row.counts i small)
+              ∙ sym (get_or_behind labels row i) ∙ ap (λ n. get_or (labels ++ row) (n + i) 0) kept.long) k near;
+          others = λ k i past. elim (cases_lt k (length more)) [
+            | inl near ↦ by_place (λ k. (made_at more k).label i ≡ 0)
+                (λ k close. ap (λ (m : Made). m.label i) (earlier k close) ∙ kept.others k i past)
+                (ap (λ (m : Made). m.label i) last ∙ none_counted step.kind there i past) k near
+            | inr far ↦ ap (λ (m : Made). m.label i) (get_or_past more k _ far)
+          ];
+        }
+          where
+            get_or_behind : (xs ys : List ℕ) (i : ℕ) → get_or (xs ++ ys) (length xs + i) 0 ≡ get_or ys i 0
+            get_or_behind [] ys i = ap (λ n. get_or ys n 0) (omega arith)
+            get_or_behind (x ∷ xs) ys i =
+                ap (λ n. get_or (x ∷ xs ++ ys) n 0) (turn (length xs) i) ∙ get_or_behind xs ys i
+              where
+                turn : (m n : ℕ) → suc m + n ≡ suc (m + n)
+                turn m n = omega arith
+
+            get_or_past : (xs : List Made) (k : ℕ) (d : Made) → length xs ≤ k → get_or xs k d ≡ d
+            get_or_past [] k d h = refl
+            get_or_past (x ∷ xs) zero d h = absurd (omega (arith, h))
+            get_or_past (x ∷ xs) (suc k) d h = get_or_past xs k d (omega (arith, h))
+
+-- ---- lists of steps
+
+steps_many : (lines : List (List ℕ)) (steps : List Step) → AreSteps lines steps → length lines ≡ length steps
+unfolding AreSteps
+steps_many [] [] h = refl
+steps_many [] (s ∷ ss) h = absurd h
+steps_many (l ∷ ls) [] h = absurd h
+steps_many (l ∷ ls) (s ∷ ss) h = ap suc (steps_many ls ss h.1)
+
+pub steps_more : (lines : List (List ℕ)) (steps : List Step) (line : List ℕ) (step : Step) → AreSteps lines steps
+    → IsStep line step → AreSteps (lines ++ line ∷ []) (steps ++ step ∷ [])
+unfolding AreSteps
+steps_more [] [] line step h now = (now, tt)
+steps_more [] (s ∷ ss) line step h now = absurd h
+steps_more (l ∷ ls) [] line step h now = absurd h
+steps_more (l ∷ ls) (s ∷ ss) line step h now = (h.0, steps_more ls ss line step h.1 now)
+
+made_many : (before : List Made) (steps : List Step) → length (made_after before steps) ≡ length before + length steps
+made_many before [] = omega arith
+made_many before (s ∷ ss) =
+    made_many (before ++ made_by before s ∷ []) ss
+    ∙ ap (λ n. n + length ss) (length-append before (made_by before s ∷ [])) ∙ omega arith
+
+pub made_more : (before : List Made) (steps : List Step) (step : Step)
+    → made_after before (steps ++ step ∷ []) ≡ made_after before steps ++ made_by (made_after before steps) step ∷ []
+made_more before [] step = refl
+made_more before (s ∷ ss) step = made_more (before ++ made_by before s ∷ []) ss step
+
+pub pass_more : (plan : Plan) (before : List Made) (steps : List Step) (step : Step) → AllPass plan before steps
+    → Passes plan (made_after before steps) step → AllPass plan before (steps ++ step ∷ [])
+pass_more plan before [] step h now = (now, tt)
+pass_more plan before (s ∷ ss) step h now = (h.0, pass_more plan (before ++ made_by before s ∷ []) ss step h.1 now)
+
+module _ (plan : Plan) (text places labels : List ℕ) (place : ℕ) (passed : HasPassedTo plan text place places labels) where
+  abbrev made : List Made
+  made = made_after [] passed.steps
+
+  pub counted : length places ≡ length passed.lines
+  counted = passed.kept.many ∙ made_many [] passed.steps ∙ nothing (length passed.steps)
+      ∙ sym (steps_many passed.lines passed.steps passed.spelled)
+    where
+      nothing : (n : ℕ) → 0 + n ≡ n
+      nothing n = omega arith
+
+  -- the line at the place is the first bad one
+  pub bad_line : place < length text → IsBadLine plan made (line_from text place) → IsBadStep plan text (length places)
+  bad_line inside bad =
+      let n = next_there text place inside in
+      let line = line_from text place in
+      let all : lines_of text ≡ passed.lines ++ line ∷ lines_of (drop n.0 text) =
+      passed.split ∙ ap (λ l. passed.lines ++ l) n.1 in
+      record {
+        steps = passed.steps;
+        spelled = subst (λ l. AreSteps l passed.steps)
+            (sym (ap₂ take counted all ∙ take_front passed.lines (line ∷ lines_of (drop n.0 text)))) passed.spelled;
+        pass = passed.pass;
+        bad = inl (
+          omega (arith, counted, ap length all, length-append passed.lines (line ∷ lines_of (drop n.0 text))),
+          subst (IsBadLine plan made) (sym (ap₂ (λ l k. get_or l k []) all counted
+              ∙ get_or-append_seam passed.lines line (lines_of (drop n.0 text)) [])) bad,
+        );
+      }
+    where
+      take_front : (xs ys : List (List ℕ)) → take (length xs) (xs ++ ys) ≡ xs
+      take_front [] ys = refl
+      take_front (x ∷ xs) ys = ap (λ l. x ∷ l) (take_front xs ys)
+
+  -- one line more has passed
+  pub line_passes : (next : ℕ) (step : Step) (places' labels' : List ℕ)
+      → lines_of (drop place text) ≡ line_from text place ∷ lines_of (drop next text)
+      → IsStep (line_from text place) step → Passes plan made step
+      → Keeps plan text places' labels' (made ++ made_by made step ∷ []) → HasPassedTo plan text next places' labels'
+  line_passes next step places' labels' split spelled pass kept = record {
+    lines = passed.lines ++ line_from text place ∷ [];
+    steps = passed.steps ++ step ∷ [];
+    split = passed.split ∙ ap (λ l. passed.lines ++ l) split
+        ∙ sym (append_assoc passed.lines (line_from text place ∷ []) (lines_of (drop next text)));
+    spelled = steps_more passed.lines passed.steps (line_from text place) step passed.spelled spelled;
+    pass = pass_more plan [] passed.steps step passed.pass pass;
+    kept = subst (Keeps plan text places' labels') (sym (made_more [] passed.steps step)) kept;
+  }
+
+pub misread : (plan : Plan) (before : List Made) (line : List ℕ)
+    → ((step : Step) → IsStep line step → length step.cells ≢ plan.cells) → IsBadLine plan before line
+misread plan before line none step spelled p = none step spelled p.cells
+
+pub not_passing : (plan : Plan) (before : List Made) (line : List ℕ) (step : Step) → IsStep line step
+    → ¬ Passes plan before step → IsBadLine plan before line
+not_passing plan before line step spelled fails other is p =
+    fails (subst (Passes plan before) (step_is line other step is spelled) p)
+
+-- cells that pass are a grid
+pub grid_now : (n : ℕ) (cells : List (Iv 56)) → 1 ≤ n → n ≤ most_cert_cells → length cells ≡ n
+    → All (λ cell. cell.hi ≤ 2 ^ 56) cells → mass_low cells ≤ one → IsGrid cells
+unfolding most_cells_at
+grid_now n cells some few many small mass = record {
+  some = omega (arith, many, some);
+  few = omega (arith, many, few);
+  small = small;
+  mass = mass;
+}

@@ -1,0 +1,198 @@
+-- Words of a text: what stands before the first blank, and what follows.
+use Rattle.std.proofs.Common.{ℕ, zero, suc, true, false, ◌≡◌, ◌⊎◌, ◌+◌, ◌<◌, ◌≤◌, ◌∙◌, inl, inr, refl, sym, ap, subst, arith, Bool, List, [], ◌∷◌, ◌++◌, length, take, drop, get_or, append-nil, subst₂, ◌^◌}
+use Rattle.std.specs.Prelude.{◌≢◌, Option, Some, None, MatchOption, if◌then◌else◌, ◌==◌, ◌&&◌, ◌||◌, IsTrue, nat_lt, nat_le}
+use Rattle.std.specs.List.{list_all, list_any, before_first, after_first, position_or_len}
+use Rattle.std.specs.Char.{is_ascii_digit}
+use Rattle.std.specs.Str.Parse.{digits_value}
+use Rattle.std.proofs.lemmas.Bool.{cases_Bool, and_parts, or_parts, cases_lt}
+use Rattle.std.proofs.lemmas.Bool.Decides.{nat_tests}
+use Rattle.std.proofs.lemmas.List.{take-append-drop, drop_more, drop_all, drop-drop}
+use Rattle.std.proofs.lemmas.List.Folds.{list_any-append, list_any_none}
+use Rattle.std.proofs.lemmas.List.Sums.{position_or_len_is, passes_at_first, fails_before_first, split_at_first, AllPass-from_list_all}
+use Rattle.dl_frac.proofs.NumeralLaws.{before_none, before_yes}
+use Rattle.dl_iv.specs.declared.interval.Iv.{Iv}
+use Rattle.dl_cert.proofs.Digits.{number_below}
+use Rattle.dl_cert.specs.Numbers.{one}
+use Rattle.dl_cert.specs.Spelling.{is_number_of, is_comma, IsNumber, IsCell}
+unfoldable use Rattle.dl_cert.specs.Lines.{AreCells}
+use Rattle.dl_cert.specs.Reading.{is_blank, first_word, after_word}
+
+-- the first place of a byte
+pub at_first : (text : List ℕ) (sign i : ℕ) → i ≤ length text
+    → ((k : ℕ) → k < i → (get_or text k 0 == sign) ≡ false)
+    → (i < length text → (get_or text i 0 == sign) ≡ true)
+    → position_or_len (λ byte. byte == sign) text ≡ i
+at_first text sign i inside before here = position_or_len_is (λ byte. byte == sign) text i 0 inside before here
+
+-- ---- a word and a rest that is nothing, or begins with a blank
+
+abbrev pub IsTail : List ℕ → Type 0
+IsTail rest = (rest ≡ []) ⊎ ((more : List ℕ) × (rest ≡ 32 ∷ more))
+
+word_before : (front rest : List ℕ) → list_any is_blank front ≡ false → IsTail rest → first_word (front ++ rest) ≡ front
+word_before front rest none (inl e) = rw e (before_none is_blank front [] none ∙ append-nil front)
+word_before front rest none (inr (more, e)) =
+    rw e (before_none is_blank front (32 ∷ more) none
+    ∙ ap (λ t. front ++ t) (before_yes is_blank 32 more (grind (arith, nat_tests))) ∙ append-nil front)
+
+cancelled : (a b c d : List ℕ) → a ≡ b → a ++ c ≡ b ++ d → c ≡ d
+cancelled [] [] c d e h = h
+cancelled [] (y ∷ b) c d e h = absurd (cc)
+cancelled (x ∷ a) [] c d e h = absurd (cc)
+cancelled (x ∷ a) (y ∷ b) c d e h = cancelled a b c d (cc) (cc)
+
+-- a text is its first word and what follows
+pub by_word : (text : List ℕ) → text ≡ first_word text ++ after_word text
+by_word text = sym (take-append-drop (position_or_len is_blank text) text)
+
+pub cut : (front rest : List ℕ) → list_any is_blank front ≡ false → IsTail rest
+    → (first_word (front ++ rest) ≡ front) × (after_word (front ++ rest) ≡ rest)
+cut front rest none tail =
+    let word = word_before front rest none tail in (
+      word,
+      cancelled (first_word (front ++ rest)) front (after_word (front ++ rest)) rest word (sym (by_word (front ++ rest))),
+    )
+
+-- ---- numbers and cells have no blank
+
+any_fails : (p : ℕ → Bool) (text : List ℕ) → list_any p text ≡ false → (k d : ℕ) → k < length text
+    → p (get_or text k d) ≡ false
+any_fails p [] h k d inside = absurd (omega (arith, inside))
+any_fails p (x ∷ xs) h zero d inside = (or_parts (p x) (list_any p xs) h).0
+any_fails p (x ∷ xs) h (suc k) d inside = any_fails p xs (or_parts (p x) (list_any p xs) h).1 k d (omega (arith, inside))
+
+no_blank : (byte : ℕ) → is_ascii_digit byte ≡ true → is_blank byte ≡ false
+no_blank byte h = grind (arith, nat_tests)
+
+digits_front : (text : List ℕ) → list_all is_ascii_digit text ≡ true → list_any is_blank text ≡ false
+digits_front text all =
+    list_any_none is_blank text (λ k d inside. no_blank _ (AllPass-from_list_all is_ascii_digit text all k d inside))
+
+number_digits : (most : ℕ) (text : List ℕ) → IsTrue (is_number_of most text) → list_all is_ascii_digit text ≡ true
+number_digits most text h =
+    (and_parts (nat_lt 0 (length text) && nat_le (length text) most) (list_all is_ascii_digit text) h).1
+
+number_few : (most : ℕ) (text : List ℕ) → IsTrue (is_number_of most text) → length text ≤ most
+number_few most text h =
+    let t = and_parts (nat_lt 0 (length text) && nat_le (length text) most) (list_all is_ascii_digit text) h in
+    let u = (and_parts (nat_lt 0 (length text)) (nat_le (length text) most) t.0).1 in
+    grind (arith, nat_tests, u)
+
+pub number_front : (most : ℕ) (text : List ℕ) (n : ℕ) → IsNumber most text n → list_any is_blank text ≡ false
+number_front most text n h = digits_front text (number_digits most text h.digits)
+
+comma_is : (byte : ℕ) → is_comma byte ≡ true → byte ≡ 44
+comma_is byte h = grind (arith, nat_tests)
+
+clash : true ≡ false → ⊥
+clash e = cc
+
+neither : (a b : Bool) → a ≡ false → b ≡ false → (a || b) ≡ false
+neither a b h k = rw (h, k) refl
+
+comma_split : (text : List ℕ) → IsTrue (list_any is_comma text)
+    → text ≡ before_first is_comma text ++ 44 ∷ after_first is_comma text
+comma_split text h = elim (cases_lt (position_or_len is_comma text) (length text)) [
+  | inl inside ↦ split_at_first is_comma text 0 inside
+      ∙ ap (λ b. before_first is_comma text ++ b ∷ after_first is_comma text)
+      (comma_is _ (passes_at_first is_comma text 0 inside))
+  | inr past ↦ absurd (clash (sym h ∙ list_any_none is_comma text (λ k d inside.
+      fails_before_first is_comma text k d (omega (arith, past, inside)))))
+]
+
+pub cell_front : (text : List ℕ) (cell : Iv 56) → IsCell text cell → list_any is_blank text ≡ false
+cell_front text cell h =
+    ap (list_any is_blank) (comma_split text h.comma)
+    ∙ list_any-append is_blank (before_first is_comma text) (44 ∷ after_first is_comma text)
+    ∙ neither (list_any is_blank (before_first is_comma text)) (list_any is_blank (44 ∷ after_first is_comma text))
+    (number_front 17 (before_first is_comma text) cell.lo h.low)
+    (neither (is_blank 44) (list_any is_blank (after_first is_comma text)) (grind (arith, nat_tests))
+    (number_front 17 (after_first is_comma text) cell.hi h.high))
+
+-- ---- cells
+
+pub cells_tail : (rest : List ℕ) (cells : List (Iv 56)) → AreCells rest cells → IsTail rest
+unfolding AreCells
+cells_tail rest [] e = inl e
+cells_tail rest (cell ∷ cells) (spelled, more, h, later, e) = inr (spelled ++ more, e)
+
+-- ---- what is read
+
+pub number_read : (most : ℕ) (text : List ℕ) (n : ℕ)
+    → Some n ≡ (if is_number_of most text then Some (digits_value 10 text) else None) → IsNumber most text n
+number_read most text n e = elim (cases_Bool (is_number_of most text)) [
+  | inl is ↦ record { digits = is; value = cc }
+  | inr other ↦ absurd (cc)
+]
+
+pub number_not : (most : ℕ) (text : List ℕ)
+    → None ≡ (if is_number_of most text then Some (digits_value 10 text) else None) → (n : ℕ) → ¬ IsNumber most text n
+number_not most text e n h = clash_number (h.digits)
+  where
+    clash_number : is_number_of most text ≡ true → ⊥
+    clash_number is = cc
+
+-- a number of at most 9 digits
+pub number_small : (text : List ℕ) (n : ℕ) → IsNumber 9 text n → n < 10 ^ 9
+number_small text n h = subst (λ m. m < 10 ^ 9) h.value (number_below text (number_digits 9 text h.digits) (number_few 9 text h.digits))
+
+pub drop_by : (text : List ℕ) (from n : ℕ) → drop (from + n) text ≡ drop n (drop from text)
+drop_by text from n = sym (drop-drop n from text)
+
+-- a text whose byte at a place is a blank
+pub at_blank : (text : List ℕ) (from : ℕ) → from < length text → get_or text from 0 ≡ 32
+    → drop from text ≡ 32 ∷ drop (from + 1) text
+at_blank text from inside is = drop_more text from 0 inside ∙ ap (λ b. b ∷ drop (from + 1) text) is
+
+pub not_blank : (text : List ℕ) (from : ℕ) → from < length text → get_or text from 0 ≢ 32
+    → (rest : List ℕ) → ¬ (drop from text ≡ 32 ∷ rest)
+not_blank text from inside differs rest e = differs (first_is _ _ _ _ (sym (drop_more text from 0 inside) ∙ e))
+  where
+    first_is : (a b : ℕ) (xs ys : List ℕ) → a ∷ xs ≡ b ∷ ys → a ≡ b
+    first_is a b xs ys h = cc
+
+pub none_left : (text : List ℕ) (from : ℕ) → length text ≤ from → (rest : List ℕ) → ¬ (drop from text ≡ 32 ∷ rest)
+none_left text from past rest e = no_cons _ (sym (drop_all from text past) ∙ e)
+  where
+    no_cons : (xs : List ℕ) → [] ≡ 32 ∷ xs → ⊥
+    no_cons xs h = cc
+
+has_comma : (text : List ℕ) → position_or_len is_comma text < length text → IsTrue (list_any is_comma text)
+has_comma text inside = elim (cases_Bool (list_any is_comma text)) [
+  | inl is ↦ is
+  | inr other ↦ absurd (clash (sym (passes_at_first is_comma text 0 inside) ∙ any_fails is_comma text other _ 0 inside))
+]
+
+pub cell_spelled : (text back : List ℕ) (comma lo hi : ℕ) (o : Option (Iv 56)) → comma ≡ position_or_len is_comma text
+    → comma < length text → back ≡ drop (comma + 1) text
+    → Some lo ≡ (if is_number_of 17 (take comma text) then Some (digits_value 10 (take comma text)) else None)
+    → Some hi ≡ (if is_number_of 17 back then Some (digits_value 10 back) else None)
+    → MatchOption o (¬ ((lo ≤ hi) × (hi ≤ one))) (λ cell. (cell.lo ≡ lo) × (cell.hi ≡ hi) × (hi ≤ one))
+    → MatchOption o ((cell : Iv 56) → ¬ IsCell text cell) (IsCell text)
+cell_spelled text back comma lo hi None at inside rest low high bad = λ cell h.
+    let first = number_read 17 (take comma text) lo low in
+    let second = number_read 17 back hi high in
+    let lo_is : cell.lo ≡ lo = sym h.low.value ∙ ap (λ n. digits_value 10 (take n text)) (sym at) ∙ first.value in
+    let hi_is : cell.hi ≡ hi = sym h.high.value ∙ ap (λ n. digits_value 10 (drop (n + 1) text)) (sym at)
+    ∙ ap (digits_value 10) (sym rest) ∙ second.value in
+    bad (omega (arith, cell.ordered, lo_is, hi_is), omega (arith, h.small, hi_is))
+cell_spelled text back comma lo hi (Some cell) at inside rest low high (lo_is, hi_is, small) = record {
+  comma = has_comma text (omega (arith, at, inside));
+  low = subst₂ (λ n m. IsNumber 17 (take n text) m) at (sym lo_is) (number_read 17 (take comma text) lo low);
+  high = subst₂ (λ t m. IsNumber 17 t m) (rest ∙ ap (λ n. drop (n + 1) text) at) (sym hi_is)
+      (number_read 17 back hi high);
+  small = omega (arith, hi_is, small);
+}
+
+-- a word from a place of a line on, and what follows
+module _ (line rest : List ℕ) (from end : ℕ) (is : rest ≡ drop from line) (at : end ≡ position_or_len is_blank rest) where
+  pub word_is : take end rest ≡ first_word (drop from line)
+  word_is = ap (λ n. take n rest) at ∙ ap first_word is
+
+  pub behind_is : drop (from + end) line ≡ after_word (drop from line)
+  behind_is = drop_by line from end ∙ ap (drop end) (sym is) ∙ ap (λ n. drop n rest) at ∙ ap after_word is
+
+-- a line that begins with a word of so many bytes
+pub begins_with : (front line rest : List ℕ) → line ≡ front ++ rest → rest ≡ drop (length front) line
+    → line ≡ front ++ drop (length front) line
+begins_with front line rest e is = e ∙ ap (λ t. front ++ t) is

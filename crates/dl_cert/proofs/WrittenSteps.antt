@@ -1,0 +1,144 @@
+-- Steps that are written one after the other, and what they make.
+use Rattle.std.proofs.Common.{ℕ, ◌≡◌, ◌+◌, ◌*◌, ◌≤◌, ◌∙◌, inl, refl, sym, ap, subst, arith, List, [], ◌∷◌, ◌++◌, length, length-append, append_assoc}
+use Rattle.std.specs.Prelude.{All, false}
+use Rattle.std.specs.List.{list_any}
+use Rattle.std.proofs.Math.Seq.{get_or-append_seam}
+use Rattle.std.proofs.lemmas.List.{get_or_append_left}
+use Rattle.std.proofs.lemmas.List.Elements.{All-head, All-tail, All-nil, All-cons, All-append}
+use Rattle.std.proofs.lemmas.Bool.{or_parts}
+use Rattle.dl_iv.specs.declared.interval.Iv.{Iv}
+use Rattle.dl_grid.specs.Cells.{IsGrid}
+use Rattle.dl_plan.specs.declared.plan.Plan.{Plan}
+use Rattle.dl_cert.specs.declared.step.Kind.{Kind}
+use Rattle.dl_cert.specs.Labels.{Label}
+use Rattle.dl_cert.specs.Passes.{Passes, AllPass, made_after}
+use Rattle.dl_cert.specs.Steps.{Step, Made, made_at, made_by, label_of, IsThere}
+use Rattle.dl_cert.specs.Targets.{target}
+unfoldable use Rattle.dl_cert.specs.Lines.{lines_of, AreSteps}
+use Rattle.dl_cert.specs.Lines.{with_byte}
+use Rattle.dl_cert.specs.Verified.{IsExact, AllExact}
+unfoldable use Rattle.dl_cert.specs.Written.{text_of}
+use Rattle.dl_cert.specs.Written.{line_of, Named, CanBeWritten, IsWritten, IsMade, EndsWith}
+use Rattle.dl_cert.proofs.Printed.{is_newline, line_short, line_spelled}
+
+-- ---- lines
+
+line_first : (line rest : List ℕ) → list_any is_newline line ≡ false
+    → lines_of (line ++ (10 ∷ rest)) ≡ line ∷ lines_of rest
+unfolding lines_of
+line_first [] rest none = refl
+line_first (byte ∷ line) rest none =
+    let parts = or_parts (is_newline byte) (list_any is_newline line) none in
+    rw parts.0 (ap (with_byte byte) (line_first line rest parts.1))
+
+module _ (plan : Plan) where
+  -- the lines of the text spell the steps
+  pub text_spells : (steps : List Step) → All (CanBeWritten plan) steps → AreSteps (lines_of (text_of steps)) steps
+  unfolding lines_of text_of AreSteps
+  text_spells [] can = tt
+  text_spells (step ∷ steps) can =
+      let here = All-head (CanBeWritten plan) step steps can in
+      rw (line_first (line_of step) (text_of steps) (line_short step here.named here.small).0)
+      (line_spelled step.kind step.cells here.named here.small, text_spells steps (All-tail (CanBeWritten plan) step steps can))
+
+  pub text_short : (steps : List Step) → All (CanBeWritten plan) steps
+      → length (text_of steps) ≤ length steps * (26 + 36 * plan.cells)
+  unfolding text_of
+  text_short [] can = omega arith
+  text_short (step ∷ steps) can =
+      let here = All-head (CanBeWritten plan) step steps can in
+      omega (
+        arith,
+        length-append (line_of step) (10 ∷ text_of steps),
+        (line_short step here.named here.small).1,
+        here.cells,
+        text_short steps (All-tail (CanBeWritten plan) step steps can),
+      )
+
+  text_more : (steps : List Step) (step : Step) → text_of (steps ++ step ∷ []) ≡ text_of steps ++ (line_of step ++ (10 ∷ []))
+  unfolding text_of
+  text_more [] step = refl
+  text_more (first ∷ steps) step =
+      ap (λ t. line_of first ++ (10 ∷ t)) (text_more steps step)
+      ∙ sym (append_assoc (line_of first) (10 ∷ text_of steps) (line_of step ++ (10 ∷ [])))
+
+  -- ---- one step more
+
+  made_more : (before : List Made) (steps : List Step) (step : Step) → made_after before (steps ++ step ∷ [])
+      ≡ made_after before steps ++ made_by (made_after before steps) step ∷ []
+  made_more before [] step = refl
+  made_more before (first ∷ steps) step = made_more (before ++ made_by before first ∷ []) steps step
+
+  pass_more : (before : List Made) (steps : List Step) (step : Step) → AllPass plan before steps
+      → Passes plan (made_after before steps) step → AllPass plan before (steps ++ step ∷ [])
+  pass_more before [] step pass here = (here, tt)
+  pass_more before (first ∷ steps) step pass here =
+      (pass.0, pass_more (before ++ made_by before first ∷ []) steps step pass.1 here)
+
+  exact_more : (before : List Made) (steps : List Step) (step : Step) → AllExact plan before steps
+      → IsExact plan (made_after before steps) step → AllExact plan before (steps ++ step ∷ [])
+  exact_more before [] step exact here = (here, tt)
+  exact_more before (first ∷ steps) step exact here =
+      (exact.0, exact_more (before ++ made_by before first ∷ []) steps step exact.1 here)
+
+  written_more : (text text' : List ℕ) (count : ℕ) (made : List Made) (step : Step) → IsWritten plan text count made
+      → Passes plan made step → IsExact plan made step → CanBeWritten plan step
+      → text' ≡ text ++ (line_of step ++ (10 ∷ []))
+      → IsWritten plan text' (count + 1) (made ++ made_by made step ∷ [])
+  written_more text text' count made step w pass exact can is =
+      let e = w.makes in
+      record {
+        steps = w.steps ++ step ∷ [];
+        lines = is ∙ ap (λ t. t ++ (line_of step ++ (10 ∷ []))) w.lines ∙ sym (text_more w.steps step);
+        can_be = All-append (CanBeWritten plan) w.steps (step ∷ []) w.can_be
+            (All-cons (CanBeWritten plan) step [] can (All-nil (CanBeWritten plan)));
+        pass = pass_more [] w.steps step w.pass (rw e pass);
+        exact = exact_more [] w.steps step w.exact (rw e exact);
+        makes = made_more [] w.steps step ∙ ap (λ m. m ++ made_by m step ∷ []) e;
+        many = omega (arith, length-append made (made_by made step ∷ []), w.many);
+      }
+
+  pub made_kept : (made later : List Made) (k : ℕ) (cells : List (Iv 56)) (label : Label) → IsMade made k cells label
+      → IsMade (made ++ later) k cells label
+  made_kept made later k cells label m =
+      let same = get_or_append_left made later (record { cells = []; label = λ i. 0 }) k m.there in
+      record {
+        there = omega (arith, m.there, length-append made later);
+        same = ap (λ (x : Made). x.cells) same ∙ m.same;
+        label_is = λ i. ap (λ (x : Made). x.label i) same ∙ m.label_is i;
+      }
+
+  -- a step whose ends are its numbers is one more
+  pub exact_step : (text text' : List ℕ) (count count' : ℕ) (made : List Made) (kind : Kind) (cells : List (Iv 56))
+      (label : Label)
+      → IsWritten plan text count made → text' ≡ text ++ (line_of (record { kind = kind; cells = cells }) ++ (10 ∷ []))
+      → count' ≡ count + 1
+      → Named kind → IsThere (length plan.units) (length made) kind → IsGrid cells → length cells ≡ plan.cells
+      → ((i : ℕ) → label_of made kind i ≡ label i) → ((i : ℕ) → label i ≤ target plan i)
+      → IsExact plan made (record { kind = kind; cells = cells })
+      → EndsWith plan text' count' made count cells label
+  exact_step text text' count count' made kind cells label w is more named there grid long same within exact =
+      let step : Step = record { kind = kind; cells = cells } in
+      let here : Made = made_by made step in
+      let seam = get_or-append_seam made here [] (record { cells = []; label = λ i. 0 }) in
+      let pass : Passes plan made step = record {
+        there = there;
+        cells = long;
+        label = λ i. rw (same i) (within i);
+        mass = grid.mass;
+        low = λ y inside. omega (arith, exact.low y inside);
+        high = λ y inside. inl (omega (arith, exact.high y inside));
+      } in
+      let at : made_at (made ++ here ∷ []) count ≡ here =
+      subst (λ k. made_at (made ++ here ∷ []) k ≡ here) w.many seam in
+      record {
+        later = here ∷ [];
+        written = rw more (written_more text text' count made step w pass exact
+            (record { named = named; small = grid.small; cells = long }) is);
+        step = record {
+          there = omega (arith, length-append made (here ∷ []), w.many);
+          same = ap (λ (x : Made). x.cells) at;
+          label_is = λ i. ap (λ (x : Made). x.label i) at ∙ same i;
+        };
+        last = omega (arith, length-append made (here ∷ []), w.many);
+      }

@@ -1,0 +1,6 @@
+use Rattle.std.proofs.Common.{ℕ, ◌≡◌, ◌<◌, length, get_or}
+use Rattle.dl_cert.specs.Kept.{label_at}
+use Rattle.dl_cert.proofs.checking.is_target.Given as goal
+
+abbrev pub invariant-loop-unit : goal.invariant-loop-unit
+invariant-loop-unit l = (i : ℕ) → i < l.unit → label_at l.labels (length l.targets) l.step i ≡ get_or l.targets i 0

@@ -1,0 +1,9 @@
+use Rattle.std.proofs.Common.{◌≤◌, ◌-◌, length}
+use Rattle.dl_cert.specs.Kept.{HasPassedTo}
+use Rattle.dl_cert.proofs.checking.read_steps.Given as goal
+
+abbrev pub invariant-lines : goal.invariant-lines
+invariant-lines l = HasPassedTo l.plan l.text l.place l.kept.places.items l.kept.labels.items × (l.place ≤ length l.text)
+
+abbrev pub decreases-lines : goal.decreases-lines
+decreases-lines l = length l.text - l.place

@@ -1,0 +1,34 @@
+use Rattle.std.proofs.Common.{ℕ, sym, subst, List, Ok, Err}
+use Rattle.std.specs.Prelude.{All, Result, MatchResult, IfOk}
+use Rattle.dl_iv.specs.declared.interval.Iv.{Iv}
+use Rattle.dl_model.specs.Family.{GridEncloses}
+use Rattle.dl_model.specs.Plans.{aggregates_of}
+use Rattle.dl_model.specs.Program.{total}
+use Rattle.dl_plan.specs.declared.plan.Plan.{Plan}
+use Rattle.dl_plan.specs.Valid.{IsValid, IsValidUnit}
+use Rattle.dl_cert.specs.declared.fault.VerifyFault.{VerifyFault}
+use Rattle.dl_cert.specs.Verified.{IsVerified, RefusesSteps}
+use Rattle.dl_cert.proofs.Passing.{certified}
+use Rattle.dl_cert.proofs.checking.verify.Goals as goal
+
+pub bases_of-requires-clause-valid : goal.bases_of-requires-clause-valid
+bases_of-requires-clause-valid c = (
+  c.args.plan.now.cells,
+  subst (All (IsValidUnit c.args.plan.now.cells)) (sym c.as_slice-units.ensures) c.requires.valid.units,
+)
+
+pub targets_of-requires-clause-valid : goal.targets_of-requires-clause-valid
+targets_of-requires-clause-valid c = (
+  c.args.plan.now.cells,
+  subst (All (IsValidUnit c.args.plan.now.cells)) (sym c.as_slice-units.ensures) c.requires.valid.units,
+)
+
+enclosed : (plan : Plan) (text : List ℕ) (r : Result (List (Iv 56)) VerifyFault) → IsValid plan
+    → MatchResult r (IsVerified plan text) (RefusesSteps plan text)
+    → IfOk r (λ grid. GridEncloses grid (total (aggregates_of plan)))
+enclosed plan text (Ok grid) valid h = certified plan valid h.0 h.1.steps grid h.1.certify
+enclosed plan text (Err fault) valid h = tt
+
+pub returns-clause-encloses : goal.returns-clause-encloses
+returns-clause-encloses c =
+    enclosed c.args.plan.now c.args.steps.now c.last_grid.result c.requires.valid c.last_grid.ensures

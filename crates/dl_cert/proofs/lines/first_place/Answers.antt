@@ -1,0 +1,15 @@
+use Rattle.std.proofs.Common.{arith, sym, length}
+use Rattle.std.proofs.lemmas.Bool.{eq-eqb}
+use Rattle.dl_cert.proofs.Words.{at_first}
+use Rattle.dl_cert.proofs.lines.first_place.Goals as goal
+
+pub returns-then-text-i-clause-place : goal.returns-then-text-i-clause-place
+returns-then-text-i-clause-place c =
+    sym (at_first c.args.text.now c.args.sign c.loop-i.i (omega (arith, c.loop-i-test.true)) c.loop-i.invariant
+    (λ inside. eq-eqb _ _ c.if-text-i.true))
+
+pub returns-clause-place : goal.returns-clause-place
+returns-clause-place c =
+    sym (at_first c.args.text.now c.args.sign (length c.args.text.now) (omega arith)
+    (λ k inside. c.loop-i.invariant k (omega (arith, inside, c.loop-i-test.false)))
+    (λ inside. absurd (omega (arith, inside))))

@@ -1,0 +1,20 @@
+use Rattle.std.proofs.Common.{codes, drop}
+use Rattle.dl_lexer.proofs.WordLengths.{begins_so, begins_otherwise}
+use Rattle.dl_cert.proofs.Words.{begins_with}
+use Rattle.dl_cert.proofs.Readings.{begins_one, no_step}
+use Rattle.dl_cert.proofs.lines.head_of.Goals as goal
+
+pub returns-in-Some-clause-head : goal.returns-in-Some-clause-head
+returns-in-Some-clause-head c =
+    let line = c.args.line.now in
+    let rest = c.in-Some._cells.now in
+    let cases = c.in-Some.ensures.cases in
+    begins_one line (drop 3 line) (begins_with (codes "one") line rest
+    (begins_so (codes "one") line rest cases.0 cases.1) cases.1)
+
+pub returns-clause-head : goal.returns-clause-head
+returns-clause-head c =
+    let line = c.args.line.now in
+    no_step line (begins_otherwise (codes "one") line c.in_default.ensures.cases)
+    (begins_otherwise (codes "start ") line c.in_default-strip_prefix.ensures.cases)
+    (begins_otherwise (codes "times ") line c.in_default-strip_prefix-2.ensures.cases)

@@ -1,0 +1,11 @@
+use Rattle.std.proofs.Common.{◌∙◌, ap, arith, Some}
+use Rattle.dl_cert.proofs.Words.{cell_spelled}
+use Rattle.dl_cert.proofs.lines.read_cell.Goals as goal
+
+pub returns : goal.returns
+returns c =
+    cell_spelled c.args.text.now c.after.result.now c.first_place-comma.result c.from.result c.from-2.result
+    c.cell_of.result c.first_place-comma.ensures.place
+    (omega (arith, c.if-comma-text.false, c.first_place-comma.ensures.within)) c.after.ensures
+    (ap (λ n. Some n) c.from.ensures ∙ c.in-Some.ensures) (ap (λ n. Some n) c.from-2.ensures ∙ c.in-Some-number.ensures)
+    c.cell_of.ensures

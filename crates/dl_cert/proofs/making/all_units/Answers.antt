@@ -1,0 +1,10 @@
+use Rattle.std.proofs.Common.{arith}
+use Rattle.dl_cert.proofs.Ladder.{nothing_written}
+use Rattle.dl_cert.proofs.making.all_units.Goals as goal
+
+pub loop-unit-init : goal.loop-unit-init
+loop-unit-init c = record {
+  cells = tt;
+  count = omega arith;
+  sum = nothing_written c.args.plan.now c.args.steps.now.text.items c.args.steps.now.count c.requires.empty c.requires.none;
+}

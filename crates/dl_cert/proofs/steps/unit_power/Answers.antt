@@ -1,0 +1,42 @@
+use Rattle.std.proofs.Common.{ℕ, ◌≡◌, ◌++◌, length, refl, sym, ap, subst, ◌∙◌, arith, get_or}
+use Rattle.std.proofs.lemmas.Result.{IfOk-weaker}
+use Rattle.dl_plan.specs.Means.{thinned_mean}
+use Rattle.dl_cert.specs.Starts.{IsExactStart}
+use Rattle.dl_cert.specs.Written.{often, EndsWith}
+use Rattle.dl_cert.proofs.Ladder.{start_step, joined, cert_size}
+use Rattle.dl_cert.proofs.steps.unit_power.Goals as goal
+
+pub start_grid-requires-clause-size : goal.start_grid-requires-clause-size
+start_grid-requires-clause-size c = cert_size c.args.plan.now c.requires.valid c.requires.few_cells
+
+pub power-requires-clause-few : goal.power-requires-clause-few
+power-requires-clause-few c = (17, c.requires.few, omega (arith, c.in_ok-base.ensures.count, c.requires.room))
+
+pub returns-clause-count : goal.returns-clause-count
+returns-clause-count c =
+    IfOk-weaker c.power.result _ _ (λ f count. omega (arith, count 17 c.requires.few, c.in_ok-base.ensures.count))
+    c.power.ensures.count
+
+pub returns-clause-ends : goal.returns-clause-ends
+returns-clause-ends c =
+    IfOk-weaker c.power.result _ _ (λ f ends made w.
+    let plan = c.args.plan.now in
+    let u : ℕ = c.args.unit in
+    let base = c.in_ok-base.ensures in
+    let unit = c.index-units-unit.result in
+    let here : unit ≡ get_or plan.units u unit =
+    c.index-units-unit.is ∙ ap (λ t. get_or t u unit) c.as_slice-units.ensures in
+    let exact : IsExactStart unit.freq unit.sev (thinned_mean unit) c.in_ok-base.base.grid =
+    subst (IsExactStart unit.freq unit.sev (thinned_mean unit)) (sym base.grid) c.in_ok-grid.ensures.exact in
+    let s = start_step plan c.args.steps.now.text.items c.add.new.steps.text.items c.args.steps.now.count
+    c.add.new.steps.count made u unit c.in_ok-base.base.grid w c.requires.inside
+    (omega (arith, c.requires.inside, c.requires.valid.few)) here base.text base.count exact base.is_grid
+    (ap length base.grid ∙ c.in_ok-grid.ensures.cells) (omega (arith, c.requires.counted, c.requires.above)) in
+    let b : EndsWith plan c.add.new.steps.text.items c.add.new.steps.count made c.in_ok-base.base.step
+    c.in_ok-base.base.grid (often u 1) =
+    subst (λ k. EndsWith plan c.add.new.steps.text.items c.add.new.steps.count made k c.in_ok-base.base.grid (often u 1))
+    (sym base.step) s in
+    joined plan c.power.new.steps.text.items c.power.new.steps.count made b.later f.step f.grid (often u c.args.parts)
+    (often u c.args.parts) (ends (made ++ b.later) u b.written b.step b.last (omega (arith, c.requires.counted)))
+    (λ i. refl))
+    c.power.ensures.ends

@@ -1,0 +1,6 @@
+use Rattle.std.proofs.Common.{◌≡◌, take}
+use Rattle.dl_grid.specs.Cells.{mass_low}
+use Rattle.dl_cert.proofs.test.mass_of.Given as goal
+
+abbrev pub invariant-loop-cell : goal.invariant-loop-cell
+invariant-loop-cell l = l.mass ≡ mass_low (take l.cell-index l.cells)

@@ -1,0 +1,34 @@
+use Rattle.std.proofs.Common.{◌∙◌, subst, sym, arith}
+use Rattle.dl_exact.specs.Fraction.{whole}
+use Rattle.dl_exact.proofs.Laws.{le_refl}
+use Rattle.dl_exact.proofs.Parts.{whole_num, whole_den}
+use Rattle.dl_plan.specs.Count.{IsProbability}
+use Rattle.dl_cert.specs.Bases.{IsBaseOf}
+use Rattle.dl_cert.proofs.UnitBases.{fixed_is, bernoulli_is, binomial_is}
+use Rattle.dl_cert.proofs.units.base_of.Goals as goal
+
+sure : IsProbability (whole 1)
+sure = record {
+  within = le_refl (whole 1);
+  admitted = record { num = omega (arith, whole_num 1); den = omega (arith, whole_den 1) };
+}
+
+pub trial-requires : goal.trial-requires
+trial-requires c = subst IsProbability (sym c.whole.ensures) sure
+
+pub returns-in-Fixed : goal.returns-in-Fixed
+returns-in-Fixed c =
+    let h = c.trial.ensures in
+    subst (IsBaseOf c.args.unit.now) (sym h.1)
+    (fixed_is c.args.unit.now c.in-Fixed.field-0 h.0 c.in-Fixed.is (h.2 ∙ c.whole.ensures))
+
+pub returns-in-Bernoulli : goal.returns-in-Bernoulli
+returns-in-Bernoulli c =
+    let h = c.trial-in-Bernoulli.ensures in
+    subst (IsBaseOf c.args.unit.now) (sym h.1) (bernoulli_is c.args.unit.now c.in-Bernoulli.q h.0 c.in-Bernoulli.is h.2)
+
+pub returns-in-Binomial : goal.returns-in-Binomial
+returns-in-Binomial c =
+    let h = c.trial-in-Binomial.ensures in
+    subst (IsBaseOf c.args.unit.now) (sym h.1)
+    (binomial_is c.args.unit.now c.in-Binomial.trials c.in-Binomial.q h.0 c.in-Binomial.is h.2)

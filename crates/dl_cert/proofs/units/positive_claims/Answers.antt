@@ -1,0 +1,21 @@
+use Rattle.std.proofs.Common.{◌≡◌, ◌≤◌, ◌∙◌, ap, Some, None}
+use Rattle.std.specs.Prelude.{MatchOption, All, Option}
+use Rattle.std.proofs.lemmas.Result.{IfOk-weaker}
+use Rattle.dl_exact.specs.Fraction.{Fraction}
+use Rattle.dl_exact.proofs.Parts.{whole_num}
+use Rattle.dl_plan.specs.declared.plan.Unit.{Unit as UnitOfPlan}
+use Rattle.dl_plan.specs.declared.severity.Sev.{Sev}
+use Rattle.dl_plan.specs.Severity.{pairs_of, conditioned, Means}
+use Rattle.dl_plan.specs.Means.{thinned_mean}
+use Rattle.dl_model.proofs.PlanThin.{no_amount_thinned}
+use Rattle.dl_cert.proofs.units.positive_claims.Goals as goal
+
+kept : (unit : UnitOfPlan) (made : Option Sev)
+    → MatchOption made (All (λ item. item.amount ≤ 0) unit.sev.items)
+    (λ sev. Means sev (conditioned 0 (pairs_of unit.sev)))
+    → MatchOption made ((thinned_mean unit).num ≡ 0) (λ sev. Means sev (conditioned 0 (pairs_of unit.sev)))
+kept unit None none = ap (λ (x : Fraction). x.num) (no_amount_thinned unit none) ∙ whole_num 0
+kept unit (Some sev) means = means
+
+pub returns : goal.returns
+returns c = IfOk-weaker c.positive.result _ _ (λ made is. kept c.args.unit.now made is) c.positive.ensures

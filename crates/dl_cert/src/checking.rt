@@ -1,0 +1,208 @@
+//! Steps that are checked.
+
+ghost use Rattle.std.specs.Prelude.{ℕ, ◌≡◌, ◌∷◌, ◌<◌, ◌≤◌, ◌↔◌, IsTrue, List, length, get_or, drop, All, map, ◌*◌, ◌+◌, ◌^◌, IfOk, MatchOption, MatchResult, if◌then◌else◌};
+ghost use Rattle.dl_limits.specs.Limits.{most_cert_cells, most_steps_text, most_units};
+ghost use Rattle.dl_plan.specs.Valid.{IsValid};
+ghost use Rattle.dl_model.specs.Family.{GridEncloses};
+ghost use Rattle.dl_model.specs.Program.{total};
+ghost use Rattle.dl_model.specs.Plans.{aggregates_of};
+ghost use Rattle.dl_cert.specs.Bases.{AreStarts};
+ghost use Rattle.dl_cert.specs.Covered.{IsCovered};
+ghost use Rattle.dl_cert.specs.Kept.{Keeps, IsRow, label_at, HasPassedTo};
+ghost use Rattle.dl_cert.specs.Lines.{lines_of};
+ghost use Rattle.dl_cert.specs.Passes.{Passes};
+ghost use Rattle.dl_cert.specs.Reading.{line_from};
+ghost use Rattle.dl_cert.specs.Steps.{Made};
+ghost use Rattle.dl_cert.specs.Targets.{unit_parts};
+ghost use Rattle.dl_cert.specs.Verified.{IsVerified, RefusesSteps, IsBadStep};
+
+use crate::base::Base;
+use crate::covered::not_covered;
+use crate::fault::VerifyFault;
+use crate::kept::{Kept, is_there, label_of};
+use crate::lines::{ReadStep, line_from, next_line, read_step};
+use crate::test::{cells_at, is_passing, mass_of};
+use crate::units::{bases_of, targets_of};
+use dl_grid::{Grid, units_of_one};
+use dl_plan::Plan;
+use dl_product::Workspace;
+use std::alloc::{AllocError, Global};
+
+/// The label of a step that passes; `None` where it does not pass.
+fn tested(
+    alloc: Global,
+    work: &mut Workspace,
+    plan: &Plan,
+    bases: &[Base],
+    targets: &[u32],
+    text: &[u8],
+    kept: &Kept,
+    step: &ReadStep,
+) -> Result<Option<Vec<u32>>, AllocError>
+    requires valid { IsValid plan.now }
+    requires few { plan.now.cells ≤ most_cert_cells }
+    requires starts { AreStarts plan.now bases.now targets.now }
+    requires cells { length step.now.cells.items ≡ plan.now.cells }
+    requires small { All (λ cell. cell.hi ≤ 2 ^ 56) step.now.cells.items }
+    requires kept { (before : List Made)
+        × Keeps plan.now text.now kept.now.places.items kept.now.labels.items before }
+    ensures { IfOk result (λ label. (before : List Made)
+        → Keeps plan.now text.now kept.now.places.items kept.now.labels.items before
+        → MatchOption label
+        (¬ Passes plan.now before (record { kind = step.now.kind; cells = step.now.cells.items }))
+        (λ row. Passes plan.now before
+        (record { kind = step.now.kind; cells = step.now.cells.items })
+        × IsRow kept.now.labels.items (length plan.now.units) step.now.kind targets.now row.items)) }
+{
+    let count = kept.places.len();
+    if !is_there(step.kind, targets.len(), count) {
+        return Ok(None);
+    }
+    if mass_of(&step.cells) > units_of_one(56) {
+        return Ok(None);
+    }
+    let Some(label) = label_of(alloc, &kept.labels, step.kind, count, targets)? else {
+        return Ok(None);
+    };
+    if !is_passing(alloc, work, plan, bases, text, &kept.places, step)? {
+        return Ok(None);
+    }
+    Ok(Some(label))
+}
+
+/// Takes in the step whose line begins at a place, where it passes; whether it does.
+fn take_step(
+    alloc: Global,
+    work: &mut Workspace,
+    plan: &Plan,
+    bases: &[Base],
+    targets: &[u32],
+    text: &[u8],
+    place: usize,
+    kept: &mut Kept,
+) -> Result<bool, AllocError>
+    requires valid { IsValid plan.now }
+    requires few { plan.now.cells ≤ most_cert_cells }
+    requires short { length text.now ≤ most_steps_text }
+    requires starts { AreStarts plan.now bases.now targets.now }
+    requires inside { place < length text.now }
+    requires kept { HasPassedTo plan.now text.now place kept.old.places.items
+        kept.old.labels.items }
+    ensures passes { IfOk result (λ ok. IsTrue ok → (next : ℕ) → lines_of (drop place text.now)
+        ≡ line_from text.now place ∷ lines_of (drop next text.now)
+        → HasPassedTo plan.now text.now next kept.new.places.items kept.new.labels.items) }
+    ensures bad { IfOk result (λ ok. ¬ IsTrue ok
+        → IsBadStep plan.now text.now (length kept.old.places.items)) }
+{
+    let line = line_from(text, place);
+    let Some(step) = read_step(alloc, line, plan.cells)? else {
+        return Ok(false);
+    };
+    let Some(label) = tested(alloc, work, plan, bases, targets, text, kept, &step)? else {
+        return Ok(false);
+    };
+    kept.labels.extend_from_slice(&label)?;
+    kept.places.push(place as u32)?;
+    Ok(true)
+}
+
+/// The steps of a text, where all pass; else the first bad one.
+fn read_steps(
+    alloc: Global,
+    plan: &Plan,
+    bases: &[Base],
+    targets: &[u32],
+    text: &[u8],
+) -> Result<Kept, VerifyFault>
+    requires valid { IsValid plan.now }
+    requires covered { IsCovered plan.now }
+    requires few { plan.now.cells ≤ most_cert_cells }
+    requires short { length text.now ≤ most_steps_text }
+    requires starts { AreStarts plan.now bases.now targets.now }
+    ensures { MatchResult result
+        (λ kept. HasPassedTo plan.now text.now (length text.now) kept.places.items
+        kept.labels.items)
+        (RefusesSteps plan.now text.now) }
+{
+    let mut work = Workspace::new(alloc);
+    let mut kept = Kept {
+        places: Vec::new(alloc),
+        labels: Vec::new(alloc),
+    };
+    let mut place = 0;
+    'lines: while place < text.len() {
+        let number = kept.places.len() as u32;
+        if !take_step(
+            alloc, &mut work, plan, bases, targets, text, place, &mut kept,
+        )? {
+            return Err(VerifyFault::BadStep(number));
+        }
+        place = next_line(text, place);
+    }
+    Ok(kept)
+}
+
+/// Whether a step counts each unit as often as its target.
+fn is_target(labels: &[u32], targets: &[u32], step: usize) -> bool
+    requires few { length targets.now ≤ most_units }
+    requires inside { step * length targets.now + length targets.now ≤ length labels.now }
+    ensures { IsTrue result ↔ ((i : ℕ) → i < length targets.now
+        → label_at labels.now (length targets.now) step i ≡ get_or targets.now i 0) }
+{
+    let start = step * targets.len();
+    for unit in 0..targets.len() {
+        if labels[start + unit] != targets[unit] {
+            return false;
+        }
+    }
+    true
+}
+
+/// The grid of the last step, where it has the label of the target.
+fn last_grid(
+    alloc: Global,
+    plan: &Plan,
+    targets: &[u32],
+    text: &[u8],
+    kept: &Kept,
+) -> Result<Grid<56>, VerifyFault>
+    requires valid { IsValid plan.now }
+    requires covered { IsCovered plan.now }
+    requires few { plan.now.cells ≤ most_cert_cells }
+    requires short { length text.now ≤ most_steps_text }
+    requires targets { targets.now ≡ map unit_parts plan.now.units }
+    requires kept { HasPassedTo plan.now text.now (length text.now) kept.now.places.items
+        kept.now.labels.items }
+    ensures { MatchResult result (IsVerified plan.now text.now) (RefusesSteps plan.now text.now) }
+{
+    let count = kept.places.len();
+    if count == 0 {
+        return Err(VerifyFault::BadStep(0));
+    }
+    if !is_target(&kept.labels, targets, count - 1) {
+        return Err(VerifyFault::BadStep(count as u32));
+    }
+    let grid = cells_at(alloc, plan, text, &kept.places, count as u32 - 1)?;
+    Ok(grid)
+}
+
+/// The grid of the last of these steps, in units of 1 / 2^56, where each step passes and the last
+/// one counts each unit as often as the plan's total does: it encloses that total. Else the unit
+/// that keeps the plan from having a certificate, or the number of the first bad step.
+pub fn verify(alloc: Global, plan: &Plan, steps: &[u8]) -> Result<Grid<56>, VerifyFault>
+    requires valid { IsValid plan.now }
+    requires few { plan.now.cells ≤ most_cert_cells }
+    requires short { length steps.now ≤ most_steps_text }
+    ensures verified { MatchResult result (IsVerified plan.now steps.now)
+        (RefusesSteps plan.now steps.now) }
+    ensures encloses { IfOk result (λ grid. GridEncloses grid (total (aggregates_of plan.now))) }
+{
+    if let Some(unit) = not_covered(plan) {
+        return Err(VerifyFault::NotCovered(unit));
+    }
+    let units = plan.units.as_slice();
+    let bases = bases_of(alloc, units)?;
+    let targets = targets_of(alloc, units)?;
+    let kept = read_steps(alloc, plan, &bases, &targets, steps)?;
+    last_grid(alloc, plan, &targets, steps, &kept)
+}

@@ -1,0 +1,177 @@
+//! The units of a plan, as its starts are tested by: the base of each, and its target.
+
+ghost use Rattle.std.specs.Prelude.{ℕ, ◌≡◌, ◌^◌, ◌<◌, ◌≤◌, length, get_or, map, All, IfOk, MatchOption};
+ghost use Rattle.dl_limits.specs.Limits.{admitted_bound, frac_bound, most_expected};
+ghost use Rattle.dl_budget.specs.Halvings.{halvings};
+ghost use Rattle.dl_exact.specs.Fraction.{Fraction, whole, ◌over◌, ◌/ℚ◌, ◌≤ℚ◌};
+ghost use Rattle.dl_plan.specs.Count.{IsProbability, IsUnbounded};
+ghost use Rattle.dl_plan.specs.Fine.{HasPartsOf48Bits};
+ghost use Rattle.dl_plan.specs.Severity.{pairs_of, conditioned, Means};
+ghost use Rattle.dl_plan.specs.declared.plan.Unit.{Unit as UnitOfPlan};
+ghost use Rattle.dl_plan.specs.declared.plan.Freq.TheVariants.{Gamma, Poisson};
+ghost use Rattle.dl_plan.specs.Means.{thinned_mean};
+ghost use Rattle.dl_plan.specs.Valid.{IsValidUnit};
+ghost use Rattle.dl_cert.specs.declared.base.Base.{Base as BaseOfUnit};
+ghost use Rattle.dl_cert.specs.declared.base.Base.TheVariants.{Trial};
+ghost use Rattle.dl_cert.specs.declared.base.Chance.{Chance as ChanceOfUnit};
+ghost use Rattle.dl_cert.specs.Covered.{IsCoveredUnit};
+ghost use Rattle.dl_cert.specs.Targets.{unit_parts};
+ghost use Rattle.dl_cert.specs.Bases.{IsBaseOf};
+
+use crate::base::{Base, Chance, Share};
+use dl_budget::halvings;
+use dl_exp::exp_neg;
+use dl_frac::Frac;
+use dl_iv::Iv;
+use dl_plan::{Freq, Sev, Unit};
+use std::alloc::{AllocError, Global};
+
+/// How often the base of a unit makes it up.
+fn parts_of(unit: &Unit) -> u32
+    requires valid { (cells : ℕ) × IsValidUnit cells unit.now }
+    requires covered { IsCoveredUnit unit.now }
+    ensures { result ≡ unit_parts unit.now }
+{
+    match &unit.freq {
+        Freq::Fixed(claims) => *claims,
+        Freq::Table { .. } => 0,
+        Freq::Bernoulli(_) => 1,
+        Freq::Binomial { trials, .. } => *trials,
+        Freq::Poisson(_) => {
+            let mean = unit.freq.thinned(&unit.sev);
+            if mean.num() == 0 {
+                0
+            } else {
+                1 << halvings(mean)
+            }
+        }
+        Freq::Gamma { shape, .. } => {
+            let mean = unit.freq.thinned(&unit.sev);
+            if mean.num() == 0 { 0 } else { *shape }
+        }
+    }
+}
+
+/// `num` over `den`. Both are so small that their fraction is never too fine.
+fn fraction(num: u64, den: u64) -> Frac
+    requires positive { 0 < den }
+    requires small_num { num < frac_bound }
+    requires small_den { den < frac_bound }
+    ensures value { result ≡ num over den }
+    ensures num { result.num ≤ num }
+{
+    Frac::make(u128::from(num), u128::from(den)).unwrap()
+}
+
+/// The mean that is halved until it is at most 1/2.
+fn poisson_rate(mean: Frac) -> Frac
+    requires admitted { HasPartsOf48Bits mean }
+    requires few { mean ≤ℚ whole most_expected }
+    ensures value { result ≡ mean /ℚ whole (2 ^ halvings mean) }
+    ensures half { result ≤ℚ 1 over 2 }
+    ensures small { result.num < admitted_bound }
+{
+    fraction(mean.num(), mean.den() * (1u64 << halvings(mean)))
+}
+
+/// The severity of the claims above 0 of a unit, where any are expected.
+fn positive_claims(alloc: Global, unit: &Unit) -> Result<Option<Sev>, AllocError>
+    requires valid { (cells : ℕ) × IsValidUnit cells unit.now }
+    requires unbounded { IsUnbounded unit.now.freq }
+    ensures { IfOk result (λ made. MatchOption made ((thinned_mean unit.now).num ≡ 0)
+        (λ positive. Means positive (conditioned 0 (pairs_of unit.now.sev)))) }
+{
+    if unit.freq.thinned(&unit.sev).num() == 0 {
+        return Ok(None);
+    }
+    unit.sev.positive(alloc)
+}
+
+/// The base of a Poisson unit.
+fn poisson_base(alloc: Global, unit: &Unit) -> Result<Base, AllocError>
+    requires valid { (cells : ℕ) × IsValidUnit cells unit.now }
+    requires count { (mean : Fraction) × (unit.now.freq ≡ Poisson mean) }
+    ensures { IfOk result (IsBaseOf unit.now) }
+{
+    let Some(positive) = positive_claims(alloc, unit)? else {
+        return Ok(Base::Nothing);
+    };
+    let rate = poisson_rate(unit.freq.thinned(&unit.sev));
+    Ok(Base::Poisson(Share {
+        positive,
+        rate,
+        first: exp_neg(rate),
+    }))
+}
+
+/// The base of a gamma unit of this shape.
+fn geometric_base(alloc: Global, unit: &Unit, shape: u32) -> Result<Base, AllocError>
+    requires valid { (cells : ℕ) × IsValidUnit cells unit.now }
+    requires count { (mean : Fraction) × (unit.now.freq ≡ Gamma shape mean) }
+    ensures { IfOk result (IsBaseOf unit.now) }
+{
+    let Some(positive) = positive_claims(alloc, unit)? else {
+        return Ok(Base::Nothing);
+    };
+    let mean = unit.freq.thinned(&unit.sev);
+    let num = mean.num();
+    let den = mean.den() * u64::from(shape);
+    Ok(Base::Geometric(Share {
+        positive,
+        rate: fraction(num, num + den),
+        first: Iv::enclose(u128::from(den), u128::from(num + den)),
+    }))
+}
+
+/// A claim with this probability, else none.
+fn trial(q: Frac) -> Base
+    requires { IsProbability q }
+    ensures { (chance : ChanceOfUnit) × (result ≡ Trial chance) × (chance.q ≡ q) }
+{
+    Base::Trial(Chance { q })
+}
+
+/// The base of a unit.
+fn base_of(alloc: Global, unit: &Unit) -> Result<Base, AllocError>
+    requires valid { (cells : ℕ) × IsValidUnit cells unit.now }
+    requires covered { IsCoveredUnit unit.now }
+    ensures { IfOk result (IsBaseOf unit.now) }
+{
+    match &unit.freq {
+        Freq::Fixed(_) => Ok(trial(Frac::whole(1))),
+        Freq::Table { .. } => Ok(Base::Nothing),
+        Freq::Bernoulli(q) => Ok(trial(*q)),
+        Freq::Binomial { q, .. } => Ok(trial(*q)),
+        Freq::Poisson(_) => poisson_base(alloc, unit),
+        Freq::Gamma { shape, .. } => geometric_base(alloc, unit, *shape),
+    }
+}
+
+/// The base of each unit.
+pub(crate) fn bases_of(alloc: Global, units: &[Unit]) -> Result<Vec<Base>, AllocError>
+    requires valid { (cells : ℕ) × All (IsValidUnit cells) units.now }
+    requires covered { All IsCoveredUnit units.now }
+    ensures many { IfOk result (λ bases. length bases.items ≡ length units.now) }
+    ensures each { IfOk result (λ bases. (u : ℕ) (unit : UnitOfPlan) (base : BaseOfUnit)
+        → u < length units.now → IsBaseOf (get_or units.now u unit) (get_or bases.items u base)) }
+{
+    let mut bases = Vec::with_capacity(alloc, units.len())?;
+    for unit in units {
+        let base = base_of(alloc, unit)?;
+        bases.push(base)?;
+    }
+    Ok(bases)
+}
+
+/// The target of each unit.
+pub(crate) fn targets_of(alloc: Global, units: &[Unit]) -> Result<Vec<u32>, AllocError>
+    requires valid { (cells : ℕ) × All (IsValidUnit cells) units.now }
+    requires covered { All IsCoveredUnit units.now }
+    ensures { IfOk result (λ targets. targets.items ≡ map unit_parts units.now) }
+{
+    let mut targets = Vec::with_capacity(alloc, units.len())?;
+    for unit in units {
+        targets.push(parts_of(unit))?;
+    }
+    Ok(targets)
+}
