@@ -1,4 +1,6 @@
 mod ReplyLaws
 mod RunLaws
 mod MadeLines
+mod Division
 mod RowsTold
+mod Repeated

@@ -1,8 +1,9 @@
 -- What follows of a reply, and why an accepted text is not refused.
-use Rattle.std.proofs.Common.{ℕ, ◌≡◌, map, String, string_bytes, Global, ◌≤◌, List, [], ◌∷◌, length, get_or, All, Option, None, Some, Ok, Err, IfSome, IsUtf8, arith, refl, sym, ap, subst, ◌∙◌}
+use Rattle.std.proofs.Common.{ℕ, ◌≡◌, map, String, string_bytes, Global, ◌≤◌, List, [], ◌∷◌, length, get_or, All, Option, None, Some, Ok, Err, IfSome, IsUtf8, arith, refl, sym, ap, subst, inl, inr, ◌∙◌}
 use Rattle.dl_outside.specs.Bytes.{Takes, TakesAtMost}
 use Rattle.dl_outside.specs.Steps.{Step, Reading, all_gave, unread}
 use Rattle.dl_lexer.specs.declared.token.Token.{Token}
+use Rattle.dl_lexer.specs.Cutting.{Covers, IsBad}
 use Rattle.dl_lexer.proofs.CoverLaws.{cover_one, covered_not_bad}
 use Rattle.dl_ast.specs.declared.ast.Program.{Program}
 use Rattle.dl_ast.specs.Lexemes.{lexemes}
@@ -10,13 +11,21 @@ use Rattle.dl_ast.specs.Rules.{Spells}
 use Rattle.dl_ast.specs.Grammar.{program}
 use Rattle.dl_parser.proofs.Whole.{one_program}
 use Rattle.dl_plan.specs.declared.plan.Plan.{Plan}
+use Rattle.dl_plan.specs.declared.plan.Unit.{Unit as UnitOfPlan}
+use Rattle.dl_plan.specs.Forms.{IsOfCert, IsOfPlan}
+use Rattle.dl_plan.specs.Valid.{IsValid}
+use Rattle.dl_cert.specs.Covered.{IsCoveredUnit, IsCovered, IsFirstUncovered, IsNotCovered}
+use Rattle.dl_cert.specs.Verified.{IsBadStep, IsVerified}
+use Rattle.dl_cert.proofs.Excluding.{no_bad_step}
+use Rattle.dl_iv.specs.declared.interval.Iv.{Iv}
 use Rattle.dl_plan.specs.declared.settings.Ask.TheVariants.{Mean}
 use Rattle.dl_plan.specs.declared.settings.Asked.{Asked}
 use Rattle.dl_plan.specs.declared.settings.Settings.{Settings}
 use Rattle.dl_words.specs.declared.fault.UsageFault.{UsageFault}
 use Rattle.dl_words.specs.Words.{words_of}
-use Rattle.dl_words.proofs.RangeLaws.{settings_in}
+use Rattle.dl_words.proofs.RangeLaws.{settings_in, words_in_range, words_are_text, words_have_few_cells}
 use Rattle.dl_types.specs.Faults.{first_fault}
+use Rattle.dl_types.specs.declared.fault.TypeFault.{TypeFault}
 use Rattle.dl_eval.specs.declared.fault.EvalFault.{EvalFault}
 use Rattle.dl_eval.specs.declared.fault.EvalFault.TheVariants.{AskBeyond, UnknownUnit, NoShare, TooWide, OutOfMemory as NoRoom}
 use Rattle.dl_eval.specs.Answers.{IsFirstNot, AreAdmitted, RefusesAsk as RefusesAsks}
@@ -29,24 +38,27 @@ use Rattle.dl_report.specs.Objects.{AsksAreText}
 use Rattle.dl_eval.specs.Rows.{IsGood}
 use Rattle.dl_eval.specs.Answers.{IsAnswered}
 use Rattle.dl_top.specs.declared.fault.Fault.{Fault}
-use Rattle.dl_top.specs.declared.fault.Fault.TheVariants.{Read}
+use Rattle.dl_top.specs.declared.fault.Fault.TheVariants.{Read, BadByte, Syntax, Continuous, Typing}
+use Rattle.dl_top.specs.declared.status.Status.TheVariants.{Done}
 use Rattle.dl_top.specs.declared.reply.Reply.{Reply}
 use Rattle.dl_top.specs.declared.reply.Reply.TheVariants.{Answer, Refusal, OutOfMemory}
 use Rattle.dl_top.specs.Faults.{fault_line}
 use Rattle.dl_top.specs.Made.{made_of}
-use Rattle.dl_top.specs.Inputs.{Say, input_of}
-use Rattle.dl_top.specs.Replies.{IsReadFault, IsOfText}
-use Rattle.dl_plan.specs.declared.settings.Form.TheVariants.{Run, Fmt}
+use Rattle.dl_top.specs.Inputs.{Say, IsTooLong, input_of, program_of, program_in, steps_of, limit_of, limit_for}
+use Rattle.dl_top.specs.Replies.{IsReadFault, IsOfText, IfAnswer, HasParts, AreReady}
+use Rattle.dl_plan.specs.declared.settings.Form.{Form}
+use Rattle.dl_plan.specs.declared.settings.Form.TheVariants.{Run, Fmt, Cert, Verify}
 use Rattle.dl_types.specs.Plans.{IsPlanOf}
-use Rattle.dl_parser.specs.Viable.{Stops}
-use Rattle.dl_top.specs.Answers.{HasTokens, SpellsProgram, IsAccepted, HasForm, Refuses, of_asks, usage, not_read, too_long, bad_byte, continuous, syntax, typing, asking}
+use Rattle.dl_parser.specs.Viable.{Stops, IsContinuous}
+use Rattle.dl_top.specs.Answers.{HasTokens, SpellsProgram, MeansPlan, AsksOfCert, Certifies, Verifies, IsAccepted, HasForm, IsCertifiable, IsVerifiable, Answers, Refuses, of_asks, usage, not_read, too_long, bad_byte, continuous, syntax, typing, not_covered, bad_step, asking}
 use Rattle.dl_top.specs.Replies.{IsReply, Tells}
 
 -- a refusal is the reply where the words and the input give its fault, and its text needs no more of the text than its
 -- place
 pub refused : (words : List (List ℕ)) (input source : List ℕ) (tokens : List Token) (r : Reply) (fault : Fault)
     → Tells r fault source tokens
-    → fault_line fault source tokens ≡ fault_line fault input tokens → Refuses words input fault tokens
+    → fault_line fault source tokens ≡ fault_line fault (program_in words input) tokens
+    → Refuses words input fault tokens
     → IsReply words input r
 refused words input source tokens (Answer text) fault h e a = absurd h
 refused words input source tokens (Refusal f text) fault h e a = rw h.0 (tokens, a, (h.1 ∙ e))
@@ -83,15 +95,18 @@ taken (Some left) None n h = absurd h
 taken (Some left) (Some rest) n h = h.0
 
 -- what a text spells is spelled by all of its token lists, of which there is one
-respelled : (input : List ℕ) (p : Program) (tokens : List Token) → SpellsProgram input p → HasTokens input tokens
-    → Spells program p (lexemes input tokens)
-respelled input p tokens s has =
-    subst (λ ts. Spells program p (lexemes input ts))
-    (cover_one input (length input) s.tokens tokens s.has.covered has.covered) s.spelled
+respelled : (form : Form) (input : List ℕ) (p : Program) (tokens : List Token) → SpellsProgram form input p
+    → HasTokens form input tokens → Spells program p (lexemes (program_of form input) tokens)
+respelled form input p tokens s has =
+    subst (λ ts. Spells program p (lexemes (program_of form input) ts))
+    (cover_one (program_of form input) (length (program_of form input)) s.tokens tokens s.has.covered has.covered)
+    s.spelled
 
 -- a text spells one program
-one_spelled : (input : List ℕ) (p q : Program) → SpellsProgram input p → SpellsProgram input q → p ≡ q
-one_spelled input p q s t = one_program p q (lexemes input s.tokens) s.spelled (respelled input q s.tokens t s.has)
+one_spelled : (form : Form) (input : List ℕ) (p q : Program) → SpellsProgram form input p → SpellsProgram form input q
+    → p ≡ q
+one_spelled form input p q s t =
+    one_program p q (lexemes (program_of form input) s.tokens) s.spelled (respelled form input q s.tokens t s.has)
 
 -- words have one answer
 no_fault : (words : List (List ℕ)) (settings : Settings) (fault : UsageFault) → words_of words ≡ Ok settings
@@ -126,59 +141,145 @@ admitted_not_refused plan settings (TooWide i width) fault is a (inside, named, 
     none_first _ settings.asks i a.pass wide.first
 admitted_not_refused plan settings NoRoom fault is admitted r = absurd is
 
--- a text that spells a program is not refused before its rules
-not_unspelled : (input : List ℕ) (p : Program) (tokens : List Token) (k : ℕ) → SpellsProgram input p
-    → HasTokens input tokens → Stops (lexemes input tokens) k → ⊥
-not_unspelled input p tokens k spells has stops = stops.unspelled p (respelled input p tokens spells has)
+-- ---- what is not refused before its rules
 
--- an accepted text is refused for a failed read alone
-pub accepted : (words : List (List ℕ)) (input : List ℕ) (fault : Fault) (tokens : List Token) → IsAccepted words input
-    → Refuses words input fault tokens → fault ≡ Read
-accepted words input fault tokens a (usage f e) = absurd (no_fault words a.settings f a.asks.say e)
-accepted words input fault tokens a (not_read settings say seedless) = refl
-accepted words input fault tokens a (too_long settings say long) = absurd (omega (arith, a.spells.has.fits, long))
-accepted words input fault tokens a (bad_byte settings say at fits bad) =
-    absurd (covered_not_bad input a.spells.tokens at a.spells.has.covered bad)
-accepted words input fault tokens a (continuous settings say ts k has stops here) =
-    absurd (not_unspelled input a.program ts k a.spells has stops)
-accepted words input fault tokens a (syntax settings say ts k has stops not_here) =
-    absurd (not_unspelled input a.program ts k a.spells has stops)
-accepted words input fault tokens a (typing settings asks p spells f first) =
-    let same : a.program ≡ p = one_spelled input a.program p a.spells spells in
-    let set : a.settings ≡ settings = same_settings words a.settings settings a.asks.say asks.say in
-    let none : first_fault p settings ≡ None = rw (sym same, sym set) a.faultless in
-    absurd (some_not_none f (sym first ∙ none))
-accepted words input fault tokens a (asking settings asks plan means of f is refuses) =
-    let set : settings ≡ a.settings = same_settings words settings a.settings asks.say a.asks.say in
-    let same : means.program ≡ a.program = one_spelled input means.program a.program means.spells a.spells in
-    let planned : IsPlanOf a.program a.settings plan = subst (λ s. IsPlanOf a.program s plan) set
-    (subst (λ p. IsPlanOf p settings plan) same means.planned) in
-    absurd (admitted_not_refused plan a.settings of f is (a.admitted plan planned means.valid)
-    (subst (λ s. RefusesAsks plan s of) set refuses))
+-- a text that spells a program stops nowhere
+not_unspelled : (form : Form) (input : List ℕ) (p : Program) (tokens : List Token) (k : ℕ)
+    → SpellsProgram form input p → HasTokens form input tokens → Stops (lexemes (program_of form input) tokens) k → ⊥
+not_unspelled form input p tokens k spells has stops = stops.unspelled p (respelled form input p tokens spells has)
 
--- words have one form
-run_not_fmt : (words : List (List ℕ)) (a b : Settings) → Say words a → Say words b → a.form ≡ Run → b.form ≡ Fmt → ⊥
-run_not_fmt words a b e f run fmt = differ (sym run ∙ ap (λ s. s.form) (same_settings words a b e f) ∙ fmt)
+-- and is not too long
+not_long : (form : Form) (input : List ℕ) (p : Program) → SpellsProgram form input p → IsTooLong form input → ⊥
+not_long form input p spells (inl long) = omega (arith, spells.has.fits.all, long)
+not_long form input p spells (inr long) = omega (arith, spells.has.fits.program, long)
+
+-- the words ask by the form of one of the four
+run_is_of_plan : (form : Form) → form ≡ Run → IsOfPlan form
+run_is_of_plan form e = subst IsOfPlan (sym e) tt
+
+run_is_not_of_cert : (form : Form) → form ≡ Run → IsOfCert form → ⊥
+run_is_not_of_cert form e of = subst IsOfCert e of
+
+fmt_is_not_of_plan : (form : Form) → form ≡ Fmt → IsOfPlan form → ⊥
+fmt_is_not_of_plan form e of = subst IsOfPlan e of
+
+of_cert_is_of_plan : (form : Form) → IsOfCert form → IsOfPlan form
+of_cert_is_of_plan Run of = tt
+of_cert_is_of_plan Fmt of = of
+of_cert_is_of_plan Cert of = tt
+of_cert_is_of_plan Verify of = tt
+
+cert_is_not_verify : (form : Form) → form ≡ Cert → form ≡ Verify → ⊥
+cert_is_not_verify form e f = differ (sym e ∙ f)
   where
-    differ : Run ≡ Fmt → ⊥
+    differ : Cert ≡ Verify → ⊥
     differ e = grind (arith, e)
 
--- a text whose canonical form is wanted, and that spells a program, is refused for a failed read alone
-pub has_form : (words : List (List ℕ)) (input : List ℕ) (fault : Fault) (tokens : List Token) → HasForm words input
+-- The words have these settings, and the text spells this program. Then it is refused for a failed read alone, where no
+-- rule is broken, and where no later fault is there: a plan that is not covered, a bad step, or one of the asks.
+module _ (words : List (List ℕ)) (input : List ℕ) (a : Settings) (say : Say words a) (p : Program)
+    (spells : SpellsProgram a.form input p) (faultless : IsOfPlan a.form → first_fault p a ≡ None)
+    (covered : (plan : Plan) → IsPlanOf p a plan → IsValid plan → IsOfCert a.form → (u : ℕ) → IsNotCovered plan u → ⊥)
+    (certified : (plan : Plan) → IsPlanOf p a plan → IsValid plan → a.form ≡ Verify → (k : ℕ) → IsCovered plan
+    → IsBadStep plan (steps_of a.form input) k → ⊥)
+    (admitted : (plan : Plan) → IsPlanOf p a plan → IsValid plan → a.form ≡ Run → AreAdmitted plan a) where
+  -- a plan that the text means is one of this program
+  of_program : (plan : Plan) → MeansPlan input a plan → IsPlanOf p a plan
+  of_program plan means =
+      subst (λ q. IsPlanOf q a plan) (one_spelled a.form input means.program p means.spells spells) means.planned
+
+  same : (settings : Settings) → Say words settings → settings ≡ a
+  same settings other = same_settings words settings a other say
+
+  pub settled : (fault : Fault) (tokens : List Token) → Refuses words input fault tokens → fault ≡ Read
+  settled fault tokens (usage f e) = absurd (no_fault words a f say e)
+  settled fault tokens (not_read settings other seedless) = refl
+  settled fault tokens (too_long settings other long) =
+      absurd (not_long a.form input p spells (subst (λ s. IsTooLong s.form input) (same settings other) long))
+  settled fault tokens (bad_byte settings other at fits bad) =
+      absurd (covered_not_bad (program_of a.form input) spells.tokens at spells.has.covered
+      (subst (λ s. IsBad (program_of s.form input) at) (same settings other) bad))
+  settled fault tokens (continuous settings other ts k has stops here) =
+      absurd (not_unspelled a.form input p ts k spells (subst (λ s. HasTokens s.form input ts) (same settings other) has)
+      (subst (λ s. Stops (lexemes (program_of s.form input) ts) k) (same settings other) stops))
+  settled fault tokens (syntax settings other ts k has stops not_here) =
+      absurd (not_unspelled a.form input p ts k spells (subst (λ s. HasTokens s.form input ts) (same settings other) has)
+      (subst (λ s. Stops (lexemes (program_of s.form input) ts) k) (same settings other) stops))
+  settled fault tokens (typing settings asks q other f first) =
+      let set : settings ≡ a = same settings asks.say in
+      let one : q ≡ p = one_spelled a.form input q p (subst (λ s. SpellsProgram s.form input q) set other) spells in
+      let broken : first_fault p a ≡ Some f = subst (λ r. first_fault r a ≡ Some f) one
+      (subst (λ s. first_fault q s ≡ Some f) set first) in
+      absurd (some_not_none f (sym broken ∙ faultless (subst (λ s. IsOfPlan s.form) set asks.form)))
+  settled fault tokens (not_covered settings asks plan other u not) =
+      let set : settings ≡ a = same settings asks.say in
+      let means : MeansPlan input a plan = subst (λ s. MeansPlan input s plan) set other in
+      absurd (covered plan (of_program plan means) means.valid (subst (λ s. IsOfCert s.form) set asks.form) u not)
+  settled fault tokens (bad_step settings asks plan other k is_covered bad) =
+      let set : settings ≡ a = same settings asks.say in
+      let means : MeansPlan input a plan = subst (λ s. MeansPlan input s plan) set other in
+      absurd (certified plan (of_program plan means) means.valid (subst (λ s. s.form ≡ Verify) set asks.form) k is_covered
+      (subst (λ s. IsBadStep plan (steps_of s.form input) k) set bad))
+  settled fault tokens (asking settings asks plan other of f is refuses) =
+      let set : settings ≡ a = same settings asks.say in
+      let means : MeansPlan input a plan = subst (λ s. MeansPlan input s plan) set other in
+      absurd (admitted_not_refused plan a of f is
+      (admitted plan (of_program plan means) means.valid (subst (λ s. s.form ≡ Run) set asks.form))
+      (subst (λ s. RefusesAsks plan s of) set refuses))
+
+-- a covered plan has no first unit that is not covered
+covered_not_first : (units : List UnitOfPlan) (u : ℕ) → All IsCoveredUnit units → IsFirstUncovered units u → ⊥
+covered_not_first [] u all first = absurd (omega (arith, first.inside))
+covered_not_first (x ∷ xs) u all first = first.here x (all u x first.inside)
+
+covered_not_refused : (plan : Plan) (u : ℕ) → IsCovered plan → IsNotCovered plan u → ⊥
+covered_not_refused plan u covered (inl (some, at_0)) = some covered.common
+covered_not_refused plan u covered (inr (none, first)) = covered_not_first plan.units u covered.units first
+
+-- steps that certify a plan have no bad one
+not_bad : (plan : Plan) (text : List ℕ) (k : ℕ) → (grid : List (Iv 56)) × IsVerified plan text grid
+    → IsBadStep plan text k → ⊥
+not_bad plan text k steps bad = no_bad_step plan text steps.0 k steps.1.1 bad
+
+-- ---- completeness, by form
+
+-- an accepted text is refused for a failed read alone
+pub accepted : (words : List (List ℕ)) (input : List ℕ) → IsAccepted words input → (fault : Fault) (tokens : List Token)
     → Refuses words input fault tokens → fault ≡ Read
-has_form words input fault tokens a (usage f e) = absurd (no_fault words a.settings f a.formats.say e)
-has_form words input fault tokens a (not_read settings say seedless) = refl
-has_form words input fault tokens a (too_long settings say long) = absurd (omega (arith, a.spells.has.fits, long))
-has_form words input fault tokens a (bad_byte settings say at fits bad) =
-    absurd (covered_not_bad input a.spells.tokens at a.spells.has.covered bad)
-has_form words input fault tokens a (continuous settings say ts k has stops here) =
-    absurd (not_unspelled input a.program ts k a.spells has stops)
-has_form words input fault tokens a (syntax settings say ts k has stops not_here) =
-    absurd (not_unspelled input a.program ts k a.spells has stops)
-has_form words input fault tokens a (typing settings asks p spells f first) =
-    absurd (run_not_fmt words settings a.settings asks.say a.formats.say asks.form a.formats.form)
-has_form words input fault tokens a (asking settings asks plan means of f is refuses) =
-    absurd (run_not_fmt words settings a.settings asks.say a.formats.say asks.form a.formats.form)
+accepted words input a = settled words input a.settings a.asks.say a.program a.spells
+    (λ of. a.faultless)
+    (λ plan planned valid of. absurd (run_is_not_of_cert a.settings.form a.asks.form of))
+    (λ plan planned valid e. absurd (run_is_not_of_cert a.settings.form a.asks.form (subst IsOfCert (sym e) tt)))
+    (λ plan planned valid e. a.admitted plan planned valid)
+
+-- so is a text whose canonical form is wanted, and that spells a program
+pub has_form : (words : List (List ℕ)) (input : List ℕ) → HasForm words input → (fault : Fault) (tokens : List Token)
+    → Refuses words input fault tokens → fault ≡ Read
+has_form words input a = settled words input a.settings a.formats.say a.program a.spells
+    (λ of. absurd (fmt_is_not_of_plan a.settings.form a.formats.form of))
+    (λ plan planned valid of. absurd (fmt_is_not_of_plan a.settings.form a.formats.form
+    (of_cert_is_of_plan a.settings.form of)))
+    (λ plan planned valid e. absurd (fmt_is_not_of_plan a.settings.form a.formats.form (subst IsOfPlan (sym e) tt)))
+    (λ plan planned valid e. absurd (fmt_is_not_of_plan a.settings.form a.formats.form
+    (run_is_of_plan a.settings.form e)))
+
+-- so is a text of which a certificate is wanted, and whose program is covered and breaks no rule
+pub certifiable : (words : List (List ℕ)) (input : List ℕ) → IsCertifiable words input
+    → (fault : Fault) (tokens : List Token) → Refuses words input fault tokens → fault ≡ Read
+certifiable words input a = settled words input a.settings a.certify.say a.program a.spells
+    (λ of. a.faultless)
+    (λ plan planned valid of u. covered_not_refused plan u (a.covered plan planned valid))
+    (λ plan planned valid e. absurd (cert_is_not_verify a.settings.form a.certify.form e))
+    (λ plan planned valid e. absurd (run_is_not_of_cert a.settings.form e (subst IsOfCert (sym a.certify.form) tt)))
+
+-- and so is one with steps that certify it, where these are wanted checked
+pub verifiable : (words : List (List ℕ)) (input : List ℕ) → IsVerifiable words input
+    → (fault : Fault) (tokens : List Token) → Refuses words input fault tokens → fault ≡ Read
+verifiable words input a = settled words input a.settings a.verify.say a.program a.spells
+    (λ of. a.faultless)
+    (λ plan planned valid of u. covered_not_refused plan u (a.covered plan planned valid))
+    (λ plan planned valid e k covered. not_bad plan (steps_of a.settings.form input) k (a.steps plan planned valid))
+    (λ plan planned valid e. absurd (run_is_not_of_cert a.settings.form e (subst IsOfCert (sym a.verify.form) tt)))
 
 -- ---- which text the words are about
 
@@ -199,8 +300,17 @@ read_input words settings left P say seedless p = rw (say, seedless) p
 -- ---- what the callees want
 
 -- words are text
-pub words_text : (words : List (String Global)) → All IsUtf8 (map string_bytes words)
+words_text : (words : List (String Global)) → All IsUtf8 (map string_bytes words)
 words_text words = All-map IsUtf8 string_bytes words (λ k d h. IsUtf8-string_bytes (get_or words k d))
+
+-- settings that words say
+pub are_ready : (words : List (String Global)) (settings : Settings) → Say (map string_bytes words) settings
+    → AreReady settings
+are_ready words settings say = record {
+  ranges = words_in_range (map string_bytes words) settings say;
+  texts = words_are_text (map string_bytes words) settings (words_text words) say;
+  cells = words_have_few_cells (map string_bytes words) settings say;
+}
 
 -- the rows of a good report have the asks as they were written
 rows_text : (plan : Plan) (d : ℕ) (asks : List Asked) (rows : List Row) → length rows ≡ length asks
@@ -226,3 +336,89 @@ answered_text plan settings report (admitted, good) texts =
 pub answered_digits : (plan : Plan) (settings : Settings) (report : Rows) → IsAnswered plan settings report
     → settings.digits ≤ 9 → report.digits ≤ 9
 answered_digits plan settings report (admitted, good) few = omega (arith, good.digits, few)
+
+-- ---- replies about certificates
+
+pub certifies_of_cert : (words : List (List ℕ)) (settings : Settings) → Certifies words settings
+    → AsksOfCert words settings
+certifies_of_cert words settings c = record { say = c.say; form = subst IsOfCert (sym c.form) tt }
+
+pub verifies_of_cert : (words : List (List ℕ)) (settings : Settings) → Verifies words settings
+    → AsksOfCert words settings
+verifies_of_cert words settings v = record { say = v.say; form = subst IsOfCert (sym v.form) tt }
+
+-- a text that is written whole, where there is memory
+pub in_answer : (words : List (List ℕ)) (input : List ℕ) (r : Reply) (text : List ℕ) → IfAnswer r text
+    → Answers words input Done text [] → IsReply words input r
+in_answer words input (Answer bytes) text is a = rw is a
+in_answer words input (Refusal f bytes) text is a = absurd is
+in_answer words input OutOfMemory text is a = tt
+
+pub answer_is_of_text : (r : Reply) (text : List ℕ) → IfAnswer r text → IsOfText r
+answer_is_of_text (Answer bytes) text is = tt
+answer_is_of_text (Refusal f bytes) text is = absurd is
+answer_is_of_text OutOfMemory text is = tt
+
+-- ---- the parts of an input
+
+pub in_program : (words : List (List ℕ)) (input source : List ℕ) (settings : Settings) → Say words settings
+    → program_of settings.form input ≡ source → program_in words input ≡ source
+unfolding program_in
+in_program words input source settings say e = rw say e
+
+pub limit_said : (words : List (List ℕ)) (settings : Settings) → Say words settings
+    → limit_for words ≡ limit_of settings.form
+unfolding limit_for
+limit_said words settings say = rw say refl
+
+-- what is found in the program of an input is found in the input
+module _ (words : List (List ℕ)) (input source steps : List ℕ) (settings : Settings) (say : Say words settings)
+    (parts : HasParts settings.form input source steps) where
+  -- a fault is written by the program alone
+  told_of : (fault : Fault) (tokens : List Token)
+      → fault_line fault source tokens ≡ fault_line fault (program_in words input) tokens
+  told_of fault tokens =
+      ap (λ s. fault_line fault s tokens) (sym (in_program words input source settings say parts.program))
+
+  has_tokens : (tokens : List Token) → Covers source (length source) tokens → HasTokens settings.form input tokens
+  has_tokens tokens covered = record {
+    fits = parts.fits;
+    covered = subst (λ s. Covers s (length s) tokens) (sym parts.program) covered;
+  }
+
+  pub spells_program : (p : Program) (tokens : List Token) → Covers source (length source) tokens
+      → Spells program p (lexemes source tokens) → SpellsProgram settings.form input p
+  spells_program p tokens covered spelled = record {
+    tokens = tokens;
+    has = has_tokens tokens covered;
+    spelled = subst (λ s. Spells program p (lexemes s tokens)) (sym parts.program) spelled;
+  }
+
+  pub refused_bad : (r : Reply) (at : ℕ) → Tells r (BadByte at) source [] → IsBad source at → IsReply words input r
+  refused_bad r at tells bad = refused words input source [] r (BadByte at) tells (told_of (BadByte at) [])
+      (bad_byte settings say at parts.fits (subst (λ s. IsBad s at) (sym parts.program) bad))
+
+  pub refused_continuous : (r : Reply) (k : ℕ) (tokens : List Token) → Tells r (Continuous k) source tokens
+      → Covers source (length source) tokens → Stops (lexemes source tokens) k
+      → IsContinuous (lexemes source tokens) k → IsReply words input r
+  refused_continuous r k tokens tells covered stops is =
+      refused words input source tokens r (Continuous k) tells (told_of (Continuous k) tokens)
+      (continuous settings say tokens k (has_tokens tokens covered)
+      (subst (λ s. Stops (lexemes s tokens) k) (sym parts.program) stops)
+      (subst (λ s. IsContinuous (lexemes s tokens) k) (sym parts.program) is))
+
+  pub refused_syntax : (r : Reply) (k : ℕ) (tokens : List Token) → Tells r (Syntax k) source tokens
+      → Covers source (length source) tokens → Stops (lexemes source tokens) k
+      → ¬ IsContinuous (lexemes source tokens) k → IsReply words input r
+  refused_syntax r k tokens tells covered stops not =
+      refused words input source tokens r (Syntax k) tells (told_of (Syntax k) tokens)
+      (syntax settings say tokens k (has_tokens tokens covered)
+      (subst (λ s. Stops (lexemes s tokens) k) (sym parts.program) stops)
+      (λ is. not (subst (λ s. IsContinuous (lexemes s tokens) k) parts.program is)))
+
+  pub refused_typing : (r : Reply) (fault : TypeFault) (p : Program) → Tells r (Typing fault) source []
+      → IsOfPlan settings.form → SpellsProgram settings.form input p → first_fault p settings ≡ Some fault
+      → IsReply words input r
+  refused_typing r fault p tells of spells first =
+      refused words input source [] r (Typing fault) tells (told_of (Typing fault) [])
+      (typing settings (record { say = say; form = of }) p spells fault first)

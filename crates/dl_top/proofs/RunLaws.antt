@@ -10,17 +10,18 @@ use Rattle.dl_words.specs.declared.fault.UsageFault.{UsageFault}
 use Rattle.dl_top.specs.declared.status.Status.{Status}
 use Rattle.dl_top.specs.declared.status.Status.TheVariants as statuses
 use Rattle.dl_top.specs.declared.fault.Fault.{Fault}
-use Rattle.dl_top.specs.declared.fault.Fault.TheVariants.{Usage, Read, TooLong, BadByte, Syntax, Continuous, Typing, AskBeyond, UnknownUnit, NoShare, TooWide}
+use Rattle.dl_top.specs.declared.fault.Fault.TheVariants.{Usage, Read, TooLong, BadByte, Syntax, Continuous, Typing, NotCovered, BadStep, AskBeyond, UnknownUnit, NoShare, TooWide}
 use Rattle.dl_top.specs.Faults.{status_of, fault_line}
 use Rattle.dl_top.specs.Statuses.{IsWritten, IsAnswerEnd}
-use Rattle.dl_top.specs.Answers.{Answers, Refuses, IsAccepted, HasForm, refused}
+use Rattle.dl_top.specs.Inputs.{program_in}
+use Rattle.dl_top.specs.Answers.{Answers, Refuses, IsAccepted, HasForm, IsCertifiable, IsVerifiable, refused}
 use Rattle.dl_top.specs.Runs.{Answered, PartOfMessage, Ran}
-use Rattle.dl_top.proofs.ReplyLaws.{accepted, has_form, always, none_taken, none_read}
+use Rattle.dl_top.proofs.ReplyLaws.{always, none_taken, none_read}
 
 -- the fault that a text was made of
 abbrev pub IsTold : List (List ℕ) → List ℕ → Fault → List ℕ → Type 0
 IsTold words input fault text = (tokens : List Token) × Refuses words input fault tokens
-    × (text ≡ fault_line fault input tokens)
+    × (text ≡ fault_line fault (program_in words input) tokens)
 
 told_answer : (words : List (List ℕ)) (input : List ℕ) (fault : Fault) (text : List ℕ) → IsTold words input fault text
     → Answers words input (status_of fault) [] text
@@ -46,6 +47,8 @@ read_of_status (BadByte at) e = grind (arith, e)
 read_of_status (Syntax k) e = grind (arith, e)
 read_of_status (Continuous k) e = grind (arith, e)
 read_of_status (Typing of) e = grind (arith, e)
+read_of_status (NotCovered u) e = grind (arith, e)
+read_of_status (BadStep k) e = grind (arith, e)
 read_of_status (AskBeyond i) e = grind (arith, e)
 read_of_status (UnknownUnit i) e = grind (arith, e)
 read_of_status (NoShare i) e = grind (arith, e)
@@ -59,6 +62,8 @@ usage_of_status (BadByte at) e = absurd (grind (arith, e))
 usage_of_status (Syntax k) e = absurd (grind (arith, e))
 usage_of_status (Continuous k) e = absurd (grind (arith, e))
 usage_of_status (Typing of) e = absurd (grind (arith, e))
+usage_of_status (NotCovered u) e = absurd (grind (arith, e))
+usage_of_status (BadStep k) e = absurd (grind (arith, e))
 usage_of_status (AskBeyond i) e = absurd (grind (arith, e))
 usage_of_status (UnknownUnit i) e = absurd (grind (arith, e))
 usage_of_status (NoShare i) e = absurd (grind (arith, e))
@@ -76,20 +81,12 @@ part words input fault text err err' is read gains = record {
   read = λ e. read (read_of_status fault e);
 }
 
--- an accepted text ends well
+-- what is refused for a failed read alone ends well
 pub ends_well : (words : List (List ℕ)) (input : List ℕ) (fault : Fault) (text : List ℕ) (status : Status)
     → IsTold words input fault text → status ≡ status_of fault
-    → IsAccepted words input → IsAnswerEnd status
-ends_well words input fault text status (tokens, refuses, is) e a =
-    let read : fault ≡ Read = accepted words input fault tokens a refuses in
-    rw (e, read) tt
-
--- and so does a text whose canonical form is wanted
-pub ends_formatted : (words : List (List ℕ)) (input : List ℕ) (fault : Fault) (text : List ℕ) (status : Status)
-    → IsTold words input fault text → status ≡ status_of fault
-    → HasForm words input → IsAnswerEnd status
-ends_formatted words input fault text status (tokens, refuses, is) e a =
-    let read : fault ≡ Read = has_form words input fault tokens a refuses in
+    → ((f : Fault) (tokens : List Token) → Refuses words input f tokens → f ≡ Read) → IsAnswerEnd status
+ends_well words input fault text status (tokens, refuses, is) e settled =
+    let read : fault ≡ Read = settled fault tokens refuses in
     rw (e, read) tt
 
 -- a call that found no memory and moved nothing keeps all that `run` promises
@@ -104,6 +101,8 @@ moved_nothing left failed_reads read_step report failed_reports message failed_m
       (λ input written. absurd written);
   complete = always _ {Q = λ input. IsAccepted words input → IsAnswerEnd statuses.OutOfMemory} (λ input accepted. tt);
   formatted = always _ {Q = λ input. HasForm words input → IsAnswerEnd statuses.OutOfMemory} (λ input form. tt);
+  certified = always _ {Q = λ input. IsCertifiable words input → IsAnswerEnd statuses.OutOfMemory} (λ input can. tt);
+  verified = always _ {Q = λ input. IsVerifiable words input → IsAnswerEnd statuses.OutOfMemory} (λ input can. tt);
   done = λ e. refl;
   refused = λ refusal. refl;
   memory = λ e. (refl, refl);

@@ -1,6 +1,7 @@
 -- How the program ends for words and an input, and what it writes.
-use Rattle.std.specs.Prelude.{◌≡◌, ℕ, ◌<◌, ◌≤◌, List, [], length, Err, Some, None}
-use Rattle.dl_limits.specs.Limits.{most_text}
+use Rattle.std.specs.Prelude.{◌≡◌, ℕ, ◌≤◌, List, [], length, codes, Err, Some, None}
+use Rattle.dl_limits.specs.Limits.{most_cert_text}
+use Rattle.dl_iv.specs.declared.interval.Iv.{Iv}
 use Rattle.dl_lexer.specs.declared.token.Token.{Token}
 use Rattle.dl_lexer.specs.Cutting.{Covers, IsBad}
 use Rattle.dl_ast.specs.declared.ast.Program.{Program}
@@ -10,9 +11,14 @@ use Rattle.dl_ast.specs.Grammar.{program}
 use Rattle.dl_parser.specs.Viable.{Stops, IsContinuous}
 use Rattle.dl_printer.specs.Canonical.{canonical}
 use Rattle.dl_plan.specs.declared.plan.Plan.{Plan}
-use Rattle.dl_plan.specs.declared.settings.Form.TheVariants.{Run, Fmt}
+use Rattle.dl_plan.specs.declared.settings.Form.{Form}
+use Rattle.dl_plan.specs.declared.settings.Form.TheVariants.{Run, Fmt, Cert, Verify}
 use Rattle.dl_plan.specs.declared.settings.Settings.{Settings}
+use Rattle.dl_plan.specs.Forms.{IsOfCert, IsOfPlan}
 use Rattle.dl_plan.specs.Valid.{IsValid}
+use Rattle.dl_model.specs.Family.{GridEncloses}
+use Rattle.dl_model.specs.Program.{total}
+use Rattle.dl_model.specs.Plans.{aggregates_of}
 use Rattle.dl_words.specs.declared.fault.UsageFault.{UsageFault}
 use Rattle.dl_words.specs.Words.{words_of}
 use Rattle.dl_types.specs.declared.fault.TypeFault.{TypeFault}
@@ -22,12 +28,14 @@ use Rattle.dl_report.specs.declared.report.Report.{Report}
 use Rattle.dl_eval.specs.declared.fault.EvalFault.{EvalFault}
 use Rattle.dl_eval.specs.declared.fault.EvalFault.TheVariants as evals
 use Rattle.dl_eval.specs.Answers.{IsAnswered, AreAdmitted, RefusesAsk as RefusesAsks}
+use Rattle.dl_cert.specs.Covered.{IsCovered, IsNotCovered}
+use Rattle.dl_cert.specs.Verified.{IsBadStep, IsCertificate, IsVerified}
 use Rattle.dl_top.specs.declared.status.Status.{Status}
 use Rattle.dl_top.specs.declared.status.Status.TheVariants as statuses
 use Rattle.dl_top.specs.declared.fault.Fault.{Fault}
 use Rattle.dl_top.specs.declared.fault.Fault.TheVariants as faults
 use Rattle.dl_top.specs.Faults.{status_of, fault_line}
-use Rattle.dl_top.specs.Inputs.{Say}
+use Rattle.dl_top.specs.Inputs.{Say, Fits, IsTooLong, program_of, steps_of, program_in}
 use Rattle.dl_top.specs.Reports.{written}
 
 -- the words ask what these settings say about a program
@@ -40,21 +48,42 @@ pub record Formats (words : List (List ℕ)) (settings : Settings) : Type 0 wher
   pub say : Say words settings
   pub form : settings.form ≡ Fmt
 
--- the text is not too long, and these are its tokens
-pub record HasTokens (input : List ℕ) (tokens : List Token) : Type 0 where
-  pub fits : length input ≤ most_text
-  pub covered : Covers input (length input) tokens
+-- the words want an answer by the program's plan: to asks, or a certificate that is written or
+-- checked
+pub record AsksOfPlan (words : List (List ℕ)) (settings : Settings) : Type 0 where
+  pub say : Say words settings
+  pub form : IsOfPlan settings.form
 
--- the text spells this program
-pub record SpellsProgram (input : List ℕ) (p : Program) : Type 0 where
+-- the words want a certificate to be written or checked
+pub record AsksOfCert (words : List (List ℕ)) (settings : Settings) : Type 0 where
+  pub say : Say words settings
+  pub form : IsOfCert settings.form
+
+-- the words want a certificate
+pub record Certifies (words : List (List ℕ)) (settings : Settings) : Type 0 where
+  pub say : Say words settings
+  pub form : settings.form ≡ Cert
+
+-- the words want the steps behind the program checked
+pub record Verifies (words : List (List ℕ)) (settings : Settings) : Type 0 where
+  pub say : Say words settings
+  pub form : settings.form ≡ Verify
+
+-- the input of this form is not too long, and these are the tokens of its program
+pub record HasTokens (form : Form) (input : List ℕ) (tokens : List Token) : Type 0 where
+  pub fits : Fits form input
+  pub covered : Covers (program_of form input) (length (program_of form input)) tokens
+
+-- the input of this form spells this program
+pub record SpellsProgram (form : Form) (input : List ℕ) (p : Program) : Type 0 where
   pub tokens : List Token
-  pub has : HasTokens input tokens
-  pub spelled : Spells program p (lexemes input tokens)
+  pub has : HasTokens form input tokens
+  pub spelled : Spells program p (lexemes (program_of form input) tokens)
 
--- the text spells a program that breaks no rule, and means this plan
+-- the input spells a program that breaks no rule, and means this plan
 pub record MeansPlan (input : List ℕ) (settings : Settings) (plan : Plan) : Type 0 where
   pub program : Program
-  pub spells : SpellsProgram input program
+  pub spells : SpellsProgram settings.form input program
   pub faultless : first_fault program settings ≡ None
   pub planned : IsPlanOf program settings plan
   pub valid : IsValid plan
@@ -67,40 +96,65 @@ of_asks (evals.NoShare i) fault = fault ≡ faults.NoShare i
 of_asks (evals.TooWide i width) fault = fault ≡ faults.TooWide i width
 of_asks evals.OutOfMemory fault = ⊥
 
+-- these steps certify the plan, with a grid that encloses its total
+pub record AreVerified (plan : Plan) (steps : List ℕ) : Type 0 where
+  pub grid : List (Iv 56)
+  pub verified : IsVerified plan steps grid
+  pub encloses : GridEncloses grid (total (aggregates_of plan))
+
 -- Why nothing that was asked for is written, and the tokens in which the fault has its place. A
--- fault of the words comes first, then one of the text's length, bytes, tokens and syntax. Only
--- words that ask go on to the rules, and then to the asks. Where the words name no seed, a failed
--- read may come instead of any fault behind those of the words; the contract of `run` says with
--- which cause.
+-- fault of the words comes first, then one of the input's length, and of the program's bytes, tokens
+-- and syntax. All words but those that want the canonical form go on to the rules, and then to the
+-- asks, or to what a certificate needs: a plan that is covered, and steps that pass. Where the words
+-- name no seed, a failed read may come instead of any fault behind those of the words; the contract
+-- of `run` says with which cause.
 pub data Refuses (words : List (List ℕ)) (input : List ℕ) : Fault → List Token → Type 0 where
   usage : (fault : UsageFault) → words_of words ≡ Err fault
       → Refuses words input (faults.Usage fault) []
   not_read : (settings : Settings) → Say words settings → settings.make ≡ None
       → Refuses words input faults.Read []
-  too_long : (settings : Settings) → Say words settings → most_text < length input
+  too_long : (settings : Settings) → Say words settings → IsTooLong settings.form input
       → Refuses words input faults.TooLong []
-  bad_byte : (settings : Settings) → Say words settings → (at : ℕ) → length input ≤ most_text
-      → IsBad input at → Refuses words input (faults.BadByte at) []
+  bad_byte : (settings : Settings) → Say words settings → (at : ℕ) → Fits settings.form input
+      → IsBad (program_of settings.form input) at → Refuses words input (faults.BadByte at) []
   continuous : (settings : Settings) → Say words settings → (tokens : List Token) (k : ℕ)
-      → HasTokens input tokens → Stops (lexemes input tokens) k
-      → IsContinuous (lexemes input tokens) k → Refuses words input (faults.Continuous k) tokens
+      → HasTokens settings.form input tokens
+      → Stops (lexemes (program_of settings.form input) tokens) k
+      → IsContinuous (lexemes (program_of settings.form input) tokens) k
+      → Refuses words input (faults.Continuous k) tokens
   syntax : (settings : Settings) → Say words settings → (tokens : List Token) (k : ℕ)
-      → HasTokens input tokens → Stops (lexemes input tokens) k
-      → ¬ IsContinuous (lexemes input tokens) k → Refuses words input (faults.Syntax k) tokens
-  typing : (settings : Settings) → Asks words settings → (p : Program) → SpellsProgram input p
-      → (fault : TypeFault)
+      → HasTokens settings.form input tokens
+      → Stops (lexemes (program_of settings.form input) tokens) k
+      → ¬ IsContinuous (lexemes (program_of settings.form input) tokens) k
+      → Refuses words input (faults.Syntax k) tokens
+  typing : (settings : Settings) → AsksOfPlan words settings → (p : Program)
+      → SpellsProgram settings.form input p → (fault : TypeFault)
       → first_fault p settings ≡ Some fault → Refuses words input (faults.Typing fault) []
+  not_covered : (settings : Settings) → AsksOfCert words settings → (plan : Plan)
+      → MeansPlan input settings plan → (unit : ℕ) → IsNotCovered plan unit
+      → Refuses words input (faults.NotCovered unit) []
+  bad_step : (settings : Settings) → Verifies words settings → (plan : Plan)
+      → MeansPlan input settings plan → (step : ℕ) → IsCovered plan
+      → IsBadStep plan (steps_of settings.form input) step
+      → Refuses words input (faults.BadStep step) []
   asking : (settings : Settings) → Asks words settings → (plan : Plan)
       → MeansPlan input settings plan → (of : EvalFault) (fault : Fault) → of_asks of fault
       → RefusesAsks plan settings of → Refuses words input fault []
 
 -- How the program ends, what it writes to the output, and what it writes of a fault. The output
--- gains a canonical text or a report.
+-- gains a canonical text, a certificate, the word `verified` or a report.
 pub data Answers (words : List (List ℕ)) (input : List ℕ) : Status → List ℕ → List ℕ → Type 0 where
   refused : (fault : Fault) (tokens : List Token) → Refuses words input fault tokens
-      → Answers words input (status_of fault) [] (fault_line fault input tokens)
-  formatted : (settings : Settings) → Formats words settings → (p : Program) → SpellsProgram input p
-      → Answers words input statuses.Done (canonical p) []
+      → Answers words input (status_of fault) []
+      (fault_line fault (program_in words input) tokens)
+  formatted : (settings : Settings) → Formats words settings → (p : Program)
+      → SpellsProgram settings.form input p → Answers words input statuses.Done (canonical p) []
+  certified : (settings : Settings) → Certifies words settings → (plan : Plan)
+      → MeansPlan input settings plan → (text : List ℕ) → IsCertificate plan text
+      → length text ≤ most_cert_text → Answers words input statuses.Done text []
+  verified : (settings : Settings) → Verifies words settings → (plan : Plan)
+      → MeansPlan input settings plan → AreVerified plan (steps_of settings.form input)
+      → Answers words input statuses.Done (codes "verified\n") []
   reported : (settings : Settings) (plan : Plan) (report : Report) → Asks words settings
       → MeansPlan input settings plan → IsAnswered plan settings report
       → Answers words input statuses.Done (written settings.format plan report) []
@@ -112,7 +166,7 @@ pub record IsAccepted (words : List (List ℕ)) (input : List ℕ) : Type 0 wher
   pub settings : Settings
   pub asks : Asks words settings
   pub program : Program
-  pub spells : SpellsProgram input program
+  pub spells : SpellsProgram settings.form input program
   pub faultless : first_fault program settings ≡ None
   pub admitted : (plan : Plan) → IsPlanOf program settings plan → IsValid plan
       → AreAdmitted plan settings
@@ -122,4 +176,25 @@ pub record HasForm (words : List (List ℕ)) (input : List ℕ) : Type 0 where
   pub settings : Settings
   pub formats : Formats words settings
   pub program : Program
-  pub spells : SpellsProgram input program
+  pub spells : SpellsProgram settings.form input program
+
+-- the words want a certificate, and the text spells a program that breaks no rule and is covered
+pub record IsCertifiable (words : List (List ℕ)) (input : List ℕ) : Type 0 where
+  pub settings : Settings
+  pub certify : Certifies words settings
+  pub program : Program
+  pub spells : SpellsProgram settings.form input program
+  pub faultless : first_fault program settings ≡ None
+  pub covered : (plan : Plan) → IsPlanOf program settings plan → IsValid plan → IsCovered plan
+
+-- The words want steps checked, and the input has a program that breaks no rule and is covered, and
+-- steps that certify the plan's total.
+pub record IsVerifiable (words : List (List ℕ)) (input : List ℕ) : Type 0 where
+  pub settings : Settings
+  pub verify : Verifies words settings
+  pub program : Program
+  pub spells : SpellsProgram settings.form input program
+  pub faultless : first_fault program settings ≡ None
+  pub covered : (plan : Plan) → IsPlanOf program settings plan → IsValid plan → IsCovered plan
+  pub steps : (plan : Plan) → IsPlanOf program settings plan → IsValid plan
+      → (grid : List (Iv 56)) × IsVerified plan (steps_of settings.form input) grid

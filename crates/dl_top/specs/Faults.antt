@@ -11,7 +11,7 @@ use Rattle.dl_types.specs.declared.fault.TypeFault.{TypeFault}
 use Rattle.dl_top.specs.declared.status.Status.{Status}
 use Rattle.dl_top.specs.declared.status.Status.TheVariants as statuses
 use Rattle.dl_top.specs.declared.fault.Fault.{Fault}
-use Rattle.dl_top.specs.declared.fault.Fault.TheVariants.{Usage, Read, TooLong, BadByte, Syntax, Continuous, Typing, AskBeyond, UnknownUnit, NoShare, TooWide}
+use Rattle.dl_top.specs.declared.fault.Fault.TheVariants.{Usage, Read, TooLong, BadByte, Syntax, Continuous, Typing, NotCovered, BadStep, AskBeyond, UnknownUnit, NoShare, TooWide}
 
 -- how a call with the fault ends, where its text can be written
 abbrev pub status_of : Fault → Status
@@ -22,6 +22,8 @@ status_of (BadByte at) = statuses.Refused
 status_of (Syntax k) = statuses.Refused
 status_of (Continuous k) = statuses.Refused
 status_of (Typing fault) = statuses.Refused
+status_of (NotCovered u) = statuses.Refused
+status_of (BadStep k) = statuses.Refused
 status_of (AskBeyond i) = statuses.AskFault
 status_of (UnknownUnit i) = statuses.AskFault
 status_of (NoShare i) = statuses.AskFault
@@ -42,9 +44,15 @@ abbrev pub token_text : List ℕ → Option Token → List ℕ
 token_text source (Some token) = (lexeme source token).text
 token_text source None = []
 
--- asks and units are counted from 0
+-- asks, units and steps are counted from 0
 abbrev pub ask_text : ℕ → List ℕ
 ask_text i = codes "ask " ++ decimal i ++ codes ": "
+
+abbrev pub unit_text : ℕ → List ℕ
+unit_text u = codes "unit " ++ decimal u ++ codes ": "
+
+abbrev pub step_text : ℕ → List ℕ
+step_text k = codes "step " ++ decimal k ++ codes ": "
 
 abbrev pub usage_text : UsageFault → List ℕ
 usage_text usage.Line = codes "usage"
@@ -68,6 +76,8 @@ reason (Syntax k) source tokens = place_text source (token_start source (slice_g
 reason (Continuous k) source tokens = place_text source (token_start source (slice_get tokens k))
     ++ codes "continuous severity " ++ token_text source (slice_get tokens k)
 reason (Typing fault) source tokens = typing_text fault source
+reason (NotCovered u) source tokens = unit_text u ++ codes "not covered"
+reason (BadStep k) source tokens = step_text k ++ codes "not verified"
 reason (AskBeyond i) source tokens = ask_text i ++ codes "beyond the grid"
 reason (UnknownUnit i) source tokens = ask_text i ++ codes "no such unit"
 reason (NoShare i) source tokens = ask_text i ++ codes "no share under a common factor"

@@ -1,5 +1,11 @@
 -- Which text a call is about.
-use Rattle.std.specs.Prelude.{◌≡◌, ℕ, List, Option, Some, None, Result, Ok, Err}
+use Rattle.std.specs.Prelude.{◌≡◌, ◌+◌, ◌≤◌, ◌<◌, ◌⊎◌, ◌&&◌, ◌||◌, ℕ, Bool, true, List, [], ◌∷◌, length, take, drop, codes, nat_eq, Option, Some, None, Result, Ok, Err, if◌then◌else◌}
+use Rattle.std.specs.List.{starts_with}
+use Rattle.std.specs.Str.{bytes_eq}
+use Rattle.dl_limits.specs.Limits.{most_text, most_steps_text}
+use Rattle.dl_lexer.specs.Lines.{is_newline}
+use Rattle.dl_plan.specs.declared.settings.Form.{Form}
+use Rattle.dl_plan.specs.declared.settings.Form.TheVariants.{Run, Fmt, Cert, Verify}
 use Rattle.dl_plan.specs.declared.settings.Settings.{Settings}
 use Rattle.dl_words.specs.declared.fault.UsageFault.{UsageFault}
 use Rattle.dl_words.specs.Words.{words_of}
@@ -39,3 +45,62 @@ text_by (Err fault) left = left
 -- source has left, where that is known
 unfoldable pub input_of : List (List ℕ) → Option (List ℕ) → Option (List ℕ)
 input_of words left = text_by (words_of words) left
+
+-- ---- the parts of an input
+
+-- how many bytes an input may have: a program, or with `verify` a program and steps
+abbrev pub limit_of : Form → ℕ
+limit_of Run = most_text
+limit_of Fmt = most_text
+limit_of Cert = most_text
+limit_of Verify = most_steps_text
+
+-- the first line of the text is `---`
+abbrev pub is_divided : List ℕ → Bool
+is_divided text = starts_with nat_eq text (codes "---\n") || bytes_eq text (codes "---")
+
+-- how many bytes stand before the first line that is `---`: all, where there is none; at the start of
+-- the text a line begins, or not
+unfoldable pub length_to_steps : Bool → List ℕ → ℕ
+length_to_steps begins [] = 0
+length_to_steps begins (byte ∷ rest) =
+    if begins && is_divided (byte ∷ rest) then 0 else 1 + length_to_steps (is_newline byte) rest
+
+-- the program: the input, or with `verify` what stands before the first line that is `---`
+abbrev pub program_of : Form → List ℕ → List ℕ
+program_of Run input = input
+program_of Fmt input = input
+program_of Cert input = input
+program_of Verify input = take (length_to_steps true input) input
+
+-- the steps: with `verify` what follows the newline of that line
+abbrev pub steps_of : Form → List ℕ → List ℕ
+steps_of Run input = []
+steps_of Fmt input = []
+steps_of Cert input = []
+steps_of Verify input = drop (length_to_steps true input + 4) input
+
+abbrev pub program_by : Result Settings UsageFault → List ℕ → List ℕ
+program_by (Ok settings) input = program_of settings.form input
+program_by (Err fault) input = input
+
+-- the program in an input that the words are about
+unfoldable pub program_in : List (List ℕ) → List ℕ → List ℕ
+program_in words input = program_by (words_of words) input
+
+-- neither the input nor its program is too long
+pub record Fits (form : Form) (input : List ℕ) : Type 0 where
+  pub all : length input ≤ limit_of form
+  pub program : length (program_of form input) ≤ most_text
+
+-- the input is too long, or its program
+abbrev pub IsTooLong : Form → List ℕ → Type 0
+IsTooLong form input = (limit_of form < length input) ⊎ (most_text < length (program_of form input))
+
+-- how many bytes an input of the words may have
+abbrev pub limit_by : Result Settings UsageFault → ℕ
+limit_by (Ok settings) = limit_of settings.form
+limit_by (Err fault) = most_text
+
+unfoldable pub limit_for : List (List ℕ) → ℕ
+limit_for words = limit_by (words_of words)

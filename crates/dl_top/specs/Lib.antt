@@ -7,3 +7,4 @@ pub mod Answers
 pub mod Replies
 pub mod Runs
 pub mod Told
+pub mod Repeated

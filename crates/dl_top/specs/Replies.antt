@@ -1,6 +1,11 @@
 -- What a reply means before it is written.
-use Rattle.std.specs.Prelude.{◌≡◌, ◌≢◌, ℕ, List, [], ⊤}
+use Rattle.std.specs.Prelude.{◌≡◌, ◌≢◌, ◌≤◌, ℕ, List, [], ⊤, All, IsUtf8}
 use Rattle.dl_lexer.specs.declared.token.Token.{Token}
+use Rattle.dl_plan.specs.declared.settings.Form.{Form}
+use Rattle.dl_plan.specs.declared.settings.Settings.{Settings}
+use Rattle.dl_plan.specs.Forms.{IsOfCert}
+use Rattle.dl_plan.specs.Ranges.{AreInRange}
+use Rattle.dl_words.specs.Options.{most_cert_log2}
 use Rattle.dl_top.specs.declared.fault.Fault.{Fault}
 use Rattle.dl_words.specs.declared.fault.UsageFault.{UsageFault}
 use Rattle.dl_top.specs.declared.fault.Fault.TheVariants.{Usage, Read}
@@ -9,12 +14,13 @@ use Rattle.dl_top.specs.declared.reply.Reply.TheVariants.{Answer, Refusal, OutOf
 use Rattle.dl_top.specs.declared.status.Status.TheVariants as statuses
 use Rattle.dl_top.specs.Faults.{fault_line}
 use Rattle.dl_top.specs.Answers.{Answers, Refuses}
+use Rattle.dl_top.specs.Inputs.{program_in, program_of, steps_of, Fits}
 
 -- the reply is what the program writes for the words and the input, unless memory ran out
 abbrev pub IsReply : List (List ℕ) → List ℕ → Reply → Type 0
 IsReply words input (Answer text) = Answers words input statuses.Done text.items []
 IsReply words input (Refusal fault text) = (tokens : List Token) × Refuses words input fault tokens
-    × (text.items ≡ fault_line fault input tokens)
+    × (text.items ≡ fault_line fault (program_in words input) tokens)
 IsReply words input OutOfMemory = ⊤
 
 -- the reply is a refusal for this fault, with its text, unless memory ran out
@@ -23,6 +29,12 @@ Tells (Answer text) fault source tokens = ⊥
 Tells (Refusal f text) fault source tokens = (f ≡ fault)
     × (text.items ≡ fault_line fault source tokens)
 Tells OutOfMemory fault source tokens = ⊤
+
+-- the reply is this text, unless memory ran out
+abbrev pub IfAnswer : Reply → List ℕ → Type 0
+IfAnswer (Answer text) bytes = text.items ≡ bytes
+IfAnswer (Refusal fault text) bytes = ⊥
+IfAnswer OutOfMemory bytes = ⊤
 
 -- a refusal because a read failed
 abbrev pub IsReadFault : Reply → Type 0
@@ -41,3 +53,16 @@ abbrev pub IsOfText : Reply → Type 0
 IsOfText (Answer text) = ⊤
 IsOfText (Refusal fault text) = ((of : UsageFault) → fault ≢ Usage of) × (fault ≢ Read)
 IsOfText OutOfMemory = ⊤
+
+-- an input of this form that is not too long has this program, and these steps behind it
+pub record HasParts (form : Form) (input source behind : List ℕ) : Type 0 where
+  pub fits : Fits form input
+  pub program : program_of form input ≡ source
+  pub steps : steps_of form input ≡ behind
+
+-- settings as words say them: in their ranges, the asks are text, and a plan that is to have a
+-- certificate has few cells
+pub record AreReady (settings : Settings) : Type 0 where
+  pub ranges : AreInRange settings
+  pub texts : All (λ asked. IsUtf8 asked.text) settings.asks
+  pub cells : IsOfCert settings.form → settings.log2 ≤ most_cert_log2

@@ -1,7 +1,6 @@
 -- What a call of the program leaves behind.
 use Rattle.std.specs.Prelude.{◌≡◌, ◌≢◌, ◌+◌, ◌⊎◌, ℕ, List, [], Option, IfSome, Err}
 use Rattle.std.specs.Io.KnownBytes.{Appends}
-use Rattle.dl_limits.specs.Limits.{most_text}
 use Rattle.dl_outside.specs.Bytes.{AppendsPartOf, TakesAtMost}
 use Rattle.dl_outside.specs.Faults.{Rose}
 use Rattle.dl_outside.specs.Steps.{Step, Reading}
@@ -13,8 +12,8 @@ use Rattle.dl_top.specs.declared.status.Status.TheVariants as statuses
 use Rattle.dl_top.specs.declared.fault.Fault.TheVariants as faults
 use Rattle.dl_top.specs.Faults.{fault_line}
 use Rattle.dl_top.specs.Statuses.{IsWritten, IsRefusal, IsUsageEnd, IsAnswerEnd}
-use Rattle.dl_top.specs.Inputs.{HasFault, MakeText, ReadText, input_of}
-use Rattle.dl_top.specs.Answers.{Answers, IsAccepted, HasForm}
+use Rattle.dl_top.specs.Inputs.{HasFault, MakeText, ReadText, input_of, limit_for}
+use Rattle.dl_top.specs.Answers.{Answers, IsAccepted, HasForm, IsCertifiable, IsVerifiable}
 
 -- the status and what the two sinks gained follow from the words and the input
 pub record Answered (words : List (List ℕ)) (input : List ℕ) (status : Status)
@@ -25,7 +24,7 @@ pub record Answered (words : List (List ℕ)) (input : List ℕ) (status : Statu
   pub out_gains : Appends out out' report
   pub err_gains : Appends err err' message
 
--- the output holds a proper part of the canonical text or the report for the words and the input
+-- the output holds a proper part of what is written for the words and the input
 pub record PartOfReport (words : List (List ℕ)) (input : List ℕ)
     (out out' : Option (List ℕ)) : Type 0 where
   pub report : List ℕ
@@ -56,6 +55,10 @@ pub record Ran {R O E : Type 0} (left : R → Option (List ℕ)) (failed_reads :
       IsAccepted words input → IsAnswerEnd status)
   pub formatted : IfSome (input_of words (left src)) (λ input.
       HasForm words input → IsAnswerEnd status)
+  pub certified : IfSome (input_of words (left src)) (λ input.
+      IsCertifiable words input → IsAnswerEnd status)
+  pub verified : IfSome (input_of words (left src)) (λ input.
+      IsVerifiable words input → IsAnswerEnd status)
   pub done : status ≡ statuses.Done → err' ≡ err
   pub refused : IsRefusal status → out' ≡ out
   pub memory : status ≡ statuses.OutOfMemory → (out' ≡ out) × (err' ≡ err)
@@ -67,8 +70,8 @@ pub record Ran {R O E : Type 0} (left : R → Option (List ℕ)) (failed_reads :
       → status ≡ statuses.WriteFault → (out' ≡ out)
       × AppendsPartOf (message err) (message err') (fault_line (faults.Usage fault) [] [])
   pub made : MakeText words → (src' ≡ src) × (status ≢ statuses.ReadFault)
-  pub taken : TakesAtMost (left src) (left src') (most_text + 1)
-  pub reading : Reading read_step src (most_text + 1) src'
+  pub taken : TakesAtMost (left src) (left src') (limit_for words + 1)
+  pub reading : Reading read_step src (limit_for words + 1) src'
   pub read_cause : status ≡ statuses.ReadFault → Rose (failed_reads src) (failed_reads src')
   pub read_words : status ≡ statuses.ReadFault → ReadText words
   pub read_text : status ≡ statuses.ReadFault

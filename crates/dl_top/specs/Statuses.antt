@@ -14,7 +14,7 @@ code_of WriteFault = 6
 code_of OutOfMemory = 7
 code_of AskFault = 8
 
--- a canonical text, a report or the text of a fault was written whole
+-- what was asked for or the text of a fault was written whole
 abbrev pub IsWritten : Status → Type 0
 IsWritten WriteFault = ⊥
 IsWritten OutOfMemory = ⊥

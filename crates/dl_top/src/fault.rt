@@ -4,7 +4,7 @@ ghost use Rattle.std.specs.Prelude.{◌≡◌, ◌≤◌, ◌++◌, IfOk, OnOk, 
 ghost use Rattle.std.specs.Fmt.{decimal};
 ghost use Rattle.dl_limits.specs.Limits.{most_text};
 ghost use Rattle.dl_parser.specs.Placed.{AllInside};
-ghost use Rattle.dl_top.specs.Faults.{status_of, fault_line, place_text, token_start, token_text, ask_text, usage_text, typing_text, reason, HasPlace};
+ghost use Rattle.dl_top.specs.Faults.{status_of, fault_line, place_text, token_start, token_text, ask_text, unit_text, step_text, usage_text, typing_text, reason, HasPlace};
 
 use crate::number::push_number;
 use crate::status::Status;
@@ -20,7 +20,7 @@ pub enum Fault {
     Usage(UsageFault),
     /// A read of the input failed.
     Read,
-    /// The input has more than 1,048,576 bytes.
+    /// The program has more than 1,048,576 bytes, or with steps the input more than 67,108,864.
     TooLong,
     /// At this place of the text neither a blank nor a token begins.
     BadByte(u32),
@@ -30,6 +30,12 @@ pub enum Fault {
     Continuous(u32),
     /// The program breaks a typing rule.
     Typing(TypeFault),
+    /// The total can have no certificate: this unit is the first that is not covered; 0 also where
+    /// the units share a factor.
+    NotCovered(u32),
+    /// This step is the first that is misspelled or fails its test; or there are so many, and they
+    /// do not end at the total.
+    BadStep(u32),
     /// This ask is the first that lies beyond the grid.
     AskBeyond(u32),
     /// This ask is the first that names no unit.
@@ -95,13 +101,39 @@ fn push_token(text: &mut Vec<u8>, source: &[u8], tokens: &[Token], k: u32) -> Re
     }
 }
 
+/// Appends a word with its blank, a number and a colon.
+fn push_named(alloc: Global, text: &mut Vec<u8>, word: &[u8], number: u32) -> Result<(), AllocError>
+    ensures { OnOk result (text.new.items ≡ text.old.items
+        ++ (word.now ++ decimal number ++ codes ": ")) }
+{
+    text.extend_from_slice(word)?;
+    push_number(alloc, text, number as u128)?;
+    text.extend_from_slice(b": ")
+}
+
 /// Appends the number of an ask.
 fn push_ask(alloc: Global, text: &mut Vec<u8>, ask: u32) -> Result<(), AllocError>
     ensures { OnOk result (text.new.items ≡ text.old.items ++ ask_text ask) }
 {
-    text.extend_from_slice(b"ask ")?;
-    push_number(alloc, text, ask as u128)?;
-    text.extend_from_slice(b": ")
+    push_named(alloc, text, b"ask ", ask)
+}
+
+/// Appends the unit that is not covered.
+fn push_not_covered(alloc: Global, text: &mut Vec<u8>, unit: u32) -> Result<(), AllocError>
+    ensures { OnOk result (text.new.items ≡ text.old.items
+        ++ (unit_text unit ++ codes "not covered")) }
+{
+    push_named(alloc, text, b"unit ", unit)?;
+    text.extend_from_slice(b"not covered")
+}
+
+/// Appends the first bad step.
+fn push_bad_step(alloc: Global, text: &mut Vec<u8>, step: u32) -> Result<(), AllocError>
+    ensures { OnOk result (text.new.items ≡ text.old.items
+        ++ (step_text step ++ codes "not verified")) }
+{
+    push_named(alloc, text, b"step ", step)?;
+    text.extend_from_slice(b"not verified")
 }
 
 /// Appends what is wrong with the words.
@@ -183,6 +215,8 @@ fn push_reason(
             push_token(text, source, tokens, k)
         }
         Fault::Typing(typing) => push_typing(alloc, text, source, typing),
+        Fault::NotCovered(unit) => push_not_covered(alloc, text, unit),
+        Fault::BadStep(step) => push_bad_step(alloc, text, step),
         Fault::AskBeyond(ask) => {
             push_ask(alloc, text, ask)?;
             text.extend_from_slice(b"beyond the grid")

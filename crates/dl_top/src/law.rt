@@ -4,6 +4,8 @@ ghost use Rattle.std.specs.Prelude.{ℕ, List};
 ghost use Rattle.dl_plan.specs.declared.plan.Plan.{Plan};
 ghost use Rattle.dl_plan.specs.declared.settings.Settings.{Settings};
 ghost use Rattle.dl_report.specs.declared.report.Report.{Report};
+ghost use Rattle.dl_top.specs.Answers.{IsVerifiable};
+ghost use Rattle.dl_top.specs.Repeated.{IsHandedOn};
 ghost use Rattle.dl_top.specs.Told.{MayWrite, TellsItsRows};
 
 /// The rows can be read off what the program writes, in each of the three forms: of two reports that
@@ -13,4 +15,12 @@ pub fn law_rows_told()
     ensures { (words : List (List ℕ)) (input : List ℕ) (settings : Settings) (plan : Plan)
         (a b : Report) → MayWrite words input settings plan a
         → MayWrite words input settings plan b → TellsItsRows settings plan a b }
+{}
+
+/// What `cert` writes is verified: words that want steps checked on the same grid, and an input with
+/// the same program and what was written, end in `verified` (`verified` of `run`).
+pub fn law_written_verifies()
+    ensures { (words : List (List ℕ)) (input text : List ℕ) (words' : List (List ℕ))
+        (input' : List ℕ) → IsHandedOn words input text words' input'
+        → IsVerifiable words' input' }
 {}

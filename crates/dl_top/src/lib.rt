@@ -1,10 +1,11 @@
 //! The top call: from the words and the bytes read to the bytes written.
 //!
 //! [`run`] writes a report about one program for the asks of its words, or that program in its
-//! canonical form. The program is what the source has left, or a generated one ([`made`]). The
-//! output is composed in memory first, and goes to one of two sinks: what was asked for to the one,
-//! the text of a fault to the other. [`run_with_arguments`] calls it with the words among the
-//! program's arguments, and gives the number of its status.
+//! canonical form, or a certificate of its total, or whether the steps behind it are one. The
+//! program is what the source has left, or a generated one ([`made`]). The output is composed in
+//! memory first, and goes to one of two sinks: what was asked for to the one, the text of a fault
+//! to the other. [`run_with_arguments`] calls it with the words among the program's arguments, and
+//! gives the number of its status.
 #![tactic(auto)]
 
 mod arguments;
@@ -12,13 +13,13 @@ mod fault;
 mod generator;
 mod law;
 mod number;
+mod parts;
 mod reply;
 mod status;
 
 ghost use Rattle.std.specs.Prelude.{◌≡◌, ◌≢◌, ◌+◌, ◌⊎◌, ℕ, List, [], Err, IfSome, map};
 ghost use Rattle.std.specs.Io.KnownBytes.{Appends};
 ghost use Rattle.std.specs.String.{string_bytes};
-ghost use Rattle.dl_limits.specs.Limits.{most_text};
 ghost use Rattle.dl_outside.specs.Faults.{Rose};
 ghost use Rattle.dl_outside.specs.Bytes.{TakesAtMost, AppendsPartOf};
 ghost use Rattle.dl_outside.specs.Steps.{Reading};
@@ -26,8 +27,8 @@ ghost use Rattle.dl_words.specs.declared.fault.UsageFault.{UsageFault};
 ghost use Rattle.dl_words.specs.Words.{words_of};
 ghost use Rattle.dl_top.specs.Faults.{fault_line};
 ghost use Rattle.dl_top.specs.Statuses.{IsWritten, IsRefusal, IsUsageEnd, IsAnswerEnd};
-ghost use Rattle.dl_top.specs.Inputs.{HasFault, MakeText, ReadText, input_of};
-ghost use Rattle.dl_top.specs.Answers.{IsAccepted, HasForm};
+ghost use Rattle.dl_top.specs.Inputs.{HasFault, MakeText, ReadText, input_of, limit_for};
+ghost use Rattle.dl_top.specs.Answers.{IsAccepted, HasForm, IsCertifiable, IsVerifiable};
 ghost use Rattle.dl_top.specs.Runs.{Answered, PartOfReport, PartOfMessage};
 
 use crate::reply::{Reply, reply_to};
@@ -35,12 +36,13 @@ pub use arguments::run_with_arguments;
 use dl_outside::{Sink, Source, write_all};
 pub use fault::{Fault, fault_text};
 pub use generator::made;
-pub use law::law_rows_told;
+pub use law::{law_rows_told, law_written_verifies};
 pub use status::Status;
 use std::alloc::Global;
 
-/// Writes a report or a canonical text, as the words ask, of the program that they generate or that
-/// the source has left. What was asked for goes to `out`, and the text of a fault to `err`.
+/// Writes a report, a canonical text, a certificate or `verified`, as the words ask, of the program
+/// that they generate or that the source has left. What was asked for goes to `out`, and the text of
+/// a fault to `err`.
 pub fn run<R: Source, O: Sink, E: Sink>(
     alloc: Global,
     words: &[String],
@@ -50,8 +52,9 @@ pub fn run<R: Source, O: Sink, E: Sink>(
 ) -> Status
     // Where the words generate the program or the source's bytes are known, the output follows from
     // words and input: a report in which each interval holds the declared value, each bracket the
-    // declared quantile, and each is as narrow as asked; or the canonical text; or the first fault,
-    // with the width that is needed where that is it.
+    // declared quantile, and each is as narrow as asked; or the canonical text; or a certificate of
+    // the total; or that the steps behind the program are one, whose grid encloses the total; or the
+    // first fault, with the width that is needed where that is it.
     ensures answer { IfSome (input_of (map string_bytes words.now) (R.left src.old))
         (λ input. IsWritten result →
         Answered (map string_bytes words.now) input result
@@ -64,6 +67,14 @@ pub fn run<R: Source, O: Sink, E: Sink>(
     // Words that want the canonical form, and a text that spells a program, end in that form.
     ensures formatted { IfSome (input_of (map string_bytes words.now) (R.left src.old)) (λ input.
         HasForm (map string_bytes words.now) input → IsAnswerEnd result) }
+
+    // Words that want a certificate, and a text that spells a covered program that breaks no rule,
+    // end in one. Words that want steps checked, such a program, a line `---` and steps that certify
+    // it end in `verified`.
+    ensures certified { IfSome (input_of (map string_bytes words.now) (R.left src.old)) (λ input.
+        IsCertifiable (map string_bytes words.now) input → IsAnswerEnd result) }
+    ensures verified { IfSome (input_of (map string_bytes words.now) (R.left src.old)) (λ input.
+        IsVerifiable (map string_bytes words.now) input → IsAnswerEnd result) }
 
     // One sink is written at most, and the other stays as it was.
     ensures done { result ≡ Status.Done → err.new ≡ err.old }
@@ -87,8 +98,10 @@ pub fn run<R: Source, O: Sink, E: Sink>(
     // the input or a read that failed.
     ensures made { MakeText (map string_bytes words.now)
         → (src.new ≡ src.old) × (result ≢ Status.ReadFault) }
-    ensures taken { TakesAtMost (R.left src.old) (R.left src.new) (most_text + 1) }
-    ensures reading { Reading R.read_step src.old (most_text + 1) src.new }
+    ensures taken { TakesAtMost (R.left src.old) (R.left src.new)
+        (limit_for (map string_bytes words.now) + 1) }
+    ensures reading { Reading R.read_step src.old
+        (limit_for (map string_bytes words.now) + 1) src.new }
 
     // A failed read has its cause, and its message is written.
     ensures read_cause { result ≡ Status.ReadFault → Rose (R.faults src.old) (R.faults src.new) }

@@ -1,20 +1,22 @@
 //! What is answered, before any of it is written.
 
-ghost use Rattle.std.specs.Prelude.{◌≡◌, ℕ, ◌+◌, ◌≤◌, List, [], None, All, Err, IsUtf8, IfSome, IfOk, map, length};
-ghost use Rattle.dl_top.specs.Replies.{IsReply, Tells, IsUsage, IsReadFault, IsOfText};
+ghost use Rattle.std.specs.Prelude.{◌≡◌, ℕ, ◌+◌, ◌≤◌, List, [], None, Err, codes, IfSome, IfOk, map, length};
+ghost use Rattle.dl_top.specs.Replies.{IsReply, Tells, IsUsage, IsReadFault, IsOfText, IfAnswer, AreReady, HasParts};
 ghost use Rattle.dl_top.specs.Faults.{HasPlace};
 ghost use Rattle.std.specs.String.{string_bytes};
 ghost use Rattle.dl_words.specs.declared.fault.UsageFault.{UsageFault};
-ghost use Rattle.dl_top.specs.Answers.{Asks, Formats, HasTokens, SpellsProgram, MeansPlan};
-ghost use Rattle.dl_limits.specs.Limits.{most_digits, most_text};
-ghost use Rattle.dl_top.specs.Inputs.{Say, HasFault, MakeText, ReadText, input_of};
+ghost use Rattle.dl_lexer.specs.Cutting.{Covers};
+ghost use Rattle.dl_plan.specs.declared.settings.Settings.{Settings};
+ghost use Rattle.dl_plan.specs.Forms.{IsOfCert, IsOfPlan};
+ghost use Rattle.dl_top.specs.Answers.{Asks, Formats, Certifies, Verifies, SpellsProgram, MeansPlan};
+ghost use Rattle.dl_limits.specs.Limits.{most_digits, most_text, most_cert_cells, most_steps_text};
+ghost use Rattle.dl_top.specs.Inputs.{Say, HasFault, MakeText, ReadText, input_of, limit_of, limit_for, steps_of};
 ghost use Rattle.dl_outside.specs.Faults.{Rose};
 ghost use Rattle.dl_top.specs.Reports.{written};
 ghost use Rattle.dl_top.specs.Made.{made_of};
 ghost use Rattle.dl_words.specs.Words.{words_of};
 ghost use Rattle.dl_outside.specs.Bytes.{TakesAtMost};
 ghost use Rattle.dl_outside.specs.Steps.{Reading};
-ghost use Rattle.dl_plan.specs.Ranges.{AreInRange};
 ghost use Rattle.dl_ast.specs.WellFormed.{IsWellFormed};
 ghost use Rattle.dl_plan.specs.Valid.{IsValid};
 ghost use Rattle.dl_parser.specs.Placed.{AllInside};
@@ -23,7 +25,9 @@ ghost use Rattle.dl_eval.specs.Answers.{IsAnswered};
 
 use crate::fault::{Fault, fault_text};
 use crate::generator::made;
+use crate::parts::{limit_of, parts_of};
 use dl_ast::Program;
+use dl_cert::{CertFault, VerifyFault, certify, verify};
 use dl_eval::{EvalFault, evaluate};
 use dl_lexer::{LexFault, Token, lex};
 use dl_limits::MOST_TEXT;
@@ -39,7 +43,8 @@ use std::alloc::{AllocError, Global};
 /// What is to be written.
 #[derive(Drop)]
 pub enum Reply {
-    /// What was asked for, a report or a canonical text, for the output.
+    /// What was asked for, for the output: a report, a canonical text, a certificate, or that one is
+    /// verified.
     Answer(Vec<u8>),
     /// The text of a fault, for the output of faults.
     Refusal(Fault, Vec<u8>),
@@ -80,8 +85,7 @@ fn in_form(
 
 /// The answer that is a report, in the form that the settings name.
 fn reported(alloc: Global, report: &Report, plan: &Plan, settings: &Settings) -> Reply
-    requires ranges { AreInRange settings.now }
-    requires texts { All (λ asked. IsUtf8 asked.text) settings.now.asks }
+    requires settings { AreReady settings.now }
     requires answered { IsAnswered plan.now settings.now report.now }
     ensures reply { (words : List (List ℕ)) (input : List ℕ) → Asks words settings.now
         → MeansPlan input settings.now plan.now → IsReply words input result }
@@ -94,9 +98,8 @@ fn reported(alloc: Global, report: &Report, plan: &Plan, settings: &Settings) ->
 }
 
 /// The answer to the asks about a plan.
-fn reply_to_plan(alloc: Global, settings: &Settings, plan: &Plan) -> Reply
-    requires ranges { AreInRange settings.now }
-    requires texts { All (λ asked. IsUtf8 asked.text) settings.now.asks }
+fn reply_to_asks(alloc: Global, settings: &Settings, plan: &Plan) -> Reply
+    requires settings { AreReady settings.now }
     requires valid { IsValid plan.now }
     ensures reply { (words : List (List ℕ)) (input : List ℕ) → Asks words settings.now
         → MeansPlan input settings.now plan.now → IsReply words input result }
@@ -114,19 +117,91 @@ fn reply_to_plan(alloc: Global, settings: &Settings, plan: &Plan) -> Reply
     }
 }
 
-/// The answer to the asks about a program.
-fn reply_to_asks(alloc: Global, settings: &Settings, program: &Program, input: &[u8]) -> Reply
-    requires ranges { AreInRange settings.now }
-    requires texts { All (λ asked. IsUtf8 asked.text) settings.now.asks }
+/// A certificate of the total of a plan.
+fn certified(alloc: Global, plan: &Plan) -> Reply
+    requires valid { IsValid plan.now }
+    requires few { plan.now.cells ≤ most_cert_cells }
+    ensures reply { (words : List (List ℕ)) (input : List ℕ) (settings : Settings)
+        → Certifies words settings → MeansPlan input settings plan.now
+        → IsReply words input result }
+    ensures of_text { IsOfText result }
+{
+    match certify(alloc, plan) {
+        Ok(steps) => Reply::Answer(steps),
+        Err(CertFault::NotCovered(unit)) => refusal(alloc, Fault::NotCovered(unit), &[], &[]),
+        Err(CertFault::OutOfMemory) => Reply::OutOfMemory,
+    }
+}
+
+/// The word that says that steps are verified.
+fn verified_word(alloc: Global) -> Reply
+    ensures { IfAnswer result (codes "verified\n") }
+{
+    match b"verified\n".to_vec(alloc) {
+        Ok(word) => Reply::Answer(word),
+        Err(_) => Reply::OutOfMemory,
+    }
+}
+
+/// Whether these steps certify the total of a plan.
+fn verified(alloc: Global, plan: &Plan, steps: &[u8]) -> Reply
+    requires valid { IsValid plan.now }
+    requires few { plan.now.cells ≤ most_cert_cells }
+    requires short { length steps.now ≤ most_steps_text }
+    ensures reply { (words : List (List ℕ)) (input : List ℕ) (settings : Settings)
+        → Verifies words settings → MeansPlan input settings plan.now
+        → steps_of settings.form input ≡ steps.now → IsReply words input result }
+    ensures of_text { IsOfText result }
+{
+    match verify(alloc, plan, steps) {
+        Ok(_grid) => verified_word(alloc),
+        Err(VerifyFault::NotCovered(unit)) => refusal(alloc, Fault::NotCovered(unit), &[], &[]),
+        Err(VerifyFault::BadStep(step)) => refusal(alloc, Fault::BadStep(step), &[], &[]),
+        Err(VerifyFault::OutOfMemory) => Reply::OutOfMemory,
+    }
+}
+
+/// The answer by a plan: to the asks, or about a certificate. The steps are those behind the program.
+fn reply_to_plan(alloc: Global, settings: &Settings, plan: &Plan, steps: &[u8]) -> Reply
+    requires settings { AreReady settings.now }
+    requires form { IsOfPlan settings.now.form }
+    requires valid { IsValid plan.now }
+    requires few { IsOfCert settings.now.form → plan.now.cells ≤ most_cert_cells }
+    requires short { length steps.now ≤ most_steps_text }
+    ensures reply { (words : List (List ℕ)) (input : List ℕ) → Say words settings.now
+        → MeansPlan input settings.now plan.now → steps_of settings.now.form input ≡ steps.now
+        → IsReply words input result }
+    ensures of_text { IsOfText result }
+{
+    match settings.form {
+        Form::Run => reply_to_asks(alloc, settings, plan),
+        Form::Cert => certified(alloc, plan),
+        Form::Verify => verified(alloc, plan, steps),
+        Form::Fmt => unreachable!(),
+    }
+}
+
+/// The answer by the plan of a program, where it breaks no rule.
+fn reply_by_plan(
+    alloc: Global,
+    settings: &Settings,
+    program: &Program,
+    source: &[u8],
+    steps: &[u8],
+) -> Reply
+    requires settings { AreReady settings.now }
+    requires form { IsOfPlan settings.now.form }
     requires formed { IsWellFormed program.now }
-    requires short { length input.now ≤ most_text }
-    ensures reply { (words : List (List ℕ)) → Asks words settings.now
-        → SpellsProgram input.now program.now → IsReply words input.now result }
+    requires short { length source.now ≤ most_text }
+    requires short_steps { length steps.now ≤ most_steps_text }
+    ensures reply { (words : List (List ℕ)) (input : List ℕ) → Say words settings.now
+        → HasParts settings.now.form input source.now steps.now
+        → SpellsProgram settings.now.form input program.now → IsReply words input result }
     ensures of_text { IsOfText result }
 {
     match check(alloc, program, settings) {
-        Ok(plan) => reply_to_plan(alloc, settings, &plan),
-        Err(CheckFault::Typing(fault)) => refusal(alloc, Fault::Typing(fault), input, &[]),
+        Ok(plan) => reply_to_plan(alloc, settings, &plan, steps),
+        Err(CheckFault::Typing(fault)) => refusal(alloc, Fault::Typing(fault), source, &[]),
         Err(CheckFault::OutOfMemory) => Reply::OutOfMemory,
     }
 }
@@ -135,7 +210,7 @@ fn reply_to_asks(alloc: Global, settings: &Settings, program: &Program, input: &
 fn formatted(alloc: Global, settings: &Settings, program: &Program) -> Reply
     requires formed { IsWellFormed program.now }
     ensures reply { (words : List (List ℕ)) (input : List ℕ) → Formats words settings.now
-        → SpellsProgram input program.now → IsReply words input result }
+        → SpellsProgram settings.now.form input program.now → IsReply words input result }
     ensures of_text { IsOfText result }
 {
     match print(alloc, program) {
@@ -144,61 +219,91 @@ fn formatted(alloc: Global, settings: &Settings, program: &Program) -> Reply
     }
 }
 
-/// The answer to a program: to the asks about it, or its canonical text.
-fn reply_to_program(alloc: Global, settings: &Settings, program: &Program, input: &[u8]) -> Reply
-    requires ranges { AreInRange settings.now }
-    requires texts { All (λ asked. IsUtf8 asked.text) settings.now.asks }
+/// The answer to a program: its canonical text, or the answer by its plan.
+fn reply_to_program(
+    alloc: Global,
+    settings: &Settings,
+    program: &Program,
+    source: &[u8],
+    steps: &[u8],
+) -> Reply
+    requires settings { AreReady settings.now }
     requires formed { IsWellFormed program.now }
-    requires short { length input.now ≤ most_text }
-    ensures reply { (words : List (List ℕ)) → Say words settings.now
-        → SpellsProgram input.now program.now → IsReply words input.now result }
+    requires short { length source.now ≤ most_text }
+    requires short_steps { length steps.now ≤ most_steps_text }
+    ensures reply { (words : List (List ℕ)) (input : List ℕ) → Say words settings.now
+        → HasParts settings.now.form input source.now steps.now
+        → SpellsProgram settings.now.form input program.now → IsReply words input result }
     ensures of_text { IsOfText result }
 {
     match settings.form {
-        Form::Run => reply_to_asks(alloc, settings, program, input),
         Form::Fmt => formatted(alloc, settings, program),
+        Form::Run | Form::Cert | Form::Verify => {
+            reply_by_plan(alloc, settings, program, source, steps)
+        }
     }
 }
 
-/// The answer to a text with these tokens.
-fn reply_to_tokens(alloc: Global, settings: &Settings, input: &[u8], tokens: &[Token]) -> Reply
-    requires ranges { AreInRange settings.now }
-    requires texts { All (λ asked. IsUtf8 asked.text) settings.now.asks }
-    requires tokens { HasTokens input.now tokens.now }
-    ensures reply { (words : List (List ℕ)) → Say words settings.now
-        → IsReply words input.now result }
+/// The answer to a program with these tokens, and to the steps behind it.
+fn reply_to_tokens(
+    alloc: Global,
+    settings: &Settings,
+    source: &[u8],
+    steps: &[u8],
+    tokens: &[Token],
+) -> Reply
+    requires settings { AreReady settings.now }
+    requires short { length source.now ≤ most_text }
+    requires short_steps { length steps.now ≤ most_steps_text }
+    requires tokens { Covers source.now (length source.now) tokens.now }
+    ensures reply { (words : List (List ℕ)) (input : List ℕ) → Say words settings.now
+        → HasParts settings.now.form input source.now steps.now → IsReply words input result }
     ensures of_text { IsOfText result }
 {
-    match parse(alloc, input, tokens) {
-        Ok(program) => reply_to_program(alloc, settings, &program, input),
-        Err(ParseFault::Syntax(k)) => refusal(alloc, Fault::Syntax(k), input, tokens),
-        Err(ParseFault::Continuous(k)) => refusal(alloc, Fault::Continuous(k), input, tokens),
+    match parse(alloc, source, tokens) {
+        Ok(program) => reply_to_program(alloc, settings, &program, source, steps),
+        Err(ParseFault::Syntax(k)) => refusal(alloc, Fault::Syntax(k), source, tokens),
+        Err(ParseFault::Continuous(k)) => refusal(alloc, Fault::Continuous(k), source, tokens),
         Err(ParseFault::OutOfMemory) => Reply::OutOfMemory,
     }
 }
 
-/// The answer to a text.
-fn reply_to_text(alloc: Global, settings: &Settings, input: &[u8]) -> Reply
-    requires ranges { AreInRange settings.now }
-    requires texts { All (λ asked. IsUtf8 asked.text) settings.now.asks }
-    ensures reply { (words : List (List ℕ)) → Say words settings.now
-        → IsReply words input.now result }
+/// The answer to a program that is not too long, and to the steps behind it.
+fn reply_to_parts(alloc: Global, settings: &Settings, source: &[u8], steps: &[u8]) -> Reply
+    requires settings { AreReady settings.now }
+    requires short { length source.now ≤ most_text }
+    requires short_steps { length steps.now ≤ most_steps_text }
+    ensures reply { (words : List (List ℕ)) (input : List ℕ) → Say words settings.now
+        → HasParts settings.now.form input source.now steps.now → IsReply words input result }
     ensures of_text { IsOfText result }
 {
-    if input.len() > MOST_TEXT {
-        return refusal(alloc, Fault::TooLong, &[], &[]);
-    }
-    match lex(alloc, input) {
-        Ok(tokens) => reply_to_tokens(alloc, settings, input, tokens.as_slice()),
-        Err(LexFault::BadByte(at)) => refusal(alloc, Fault::BadByte(at), input, &[]),
+    match lex(alloc, source) {
+        Ok(tokens) => reply_to_tokens(alloc, settings, source, steps, tokens.as_slice()),
+        Err(LexFault::BadByte(at)) => refusal(alloc, Fault::BadByte(at), source, &[]),
         Err(LexFault::OutOfMemory) => Reply::OutOfMemory,
     }
 }
 
+/// The answer to an input.
+fn reply_to_text(alloc: Global, settings: &Settings, input: &[u8]) -> Reply
+    requires settings { AreReady settings.now }
+    ensures reply { (words : List (List ℕ)) → Say words settings.now
+        → IsReply words input.now result }
+    ensures of_text { IsOfText result }
+{
+    if input.len() > limit_of(settings.form) {
+        return refusal(alloc, Fault::TooLong, &[], &[]);
+    }
+    let (source, steps) = parts_of(settings.form, input);
+    if source.len() > MOST_TEXT {
+        return refusal(alloc, Fault::TooLong, &[], &[]);
+    }
+    reply_to_parts(alloc, settings, source, steps)
+}
+
 /// The answer to the program that is made from a seed.
 fn reply_to_made(alloc: Global, settings: &Settings, seed: u32) -> Reply
-    requires ranges { AreInRange settings.now }
-    requires texts { All (λ asked. IsUtf8 asked.text) settings.now.asks }
+    requires settings { AreReady settings.now }
     ensures reply { (words : List (List ℕ)) → Say words settings.now
         → IsReply words (made_of seed) result }
     ensures of_text { IsOfText result }
@@ -211,18 +316,18 @@ fn reply_to_made(alloc: Global, settings: &Settings, seed: u32) -> Reply
 
 /// The answer to what is left of the input, where the words name no seed.
 fn reply_to_source<R: Source>(alloc: Global, settings: &Settings, src: &mut R) -> Reply
-    requires ranges { AreInRange settings.now }
-    requires texts { All (λ asked. IsUtf8 asked.text) settings.now.asks }
+    requires settings { AreReady settings.now }
     requires seedless { settings.now.make ≡ None }
     ensures reply { IfSome (R.left src.old) (λ input. (words : List (List ℕ))
         → Say words settings.now → IsReply words input result) }
     ensures read_cause { IsReadFault result → Rose (R.faults src.old) (R.faults src.new) }
     ensures read_text { IsReadFault result → Tells result Fault.Read [] [] }
     ensures not_usage { ¬ IsUsage result }
-    ensures taken { TakesAtMost (R.left src.old) (R.left src.new) (most_text + 1) }
-    ensures reading { Reading R.read_step src.old (most_text + 1) src.new }
+    ensures taken { TakesAtMost (R.left src.old) (R.left src.new)
+        (limit_of settings.now.form + 1) }
+    ensures reading { Reading R.read_step src.old (limit_of settings.now.form + 1) src.new }
 {
-    match read_all(alloc, src, MOST_TEXT) {
+    match read_all(alloc, src, limit_of(settings.form)) {
         Ok(input) => reply_to_text(alloc, settings, input.as_slice()),
         Err(ReadEnd::Fault) => refusal(alloc, Fault::Read, &[], &[]),
         Err(ReadEnd::TooLong) => refusal(alloc, Fault::TooLong, &[], &[]),
@@ -244,8 +349,10 @@ pub fn reply_to<R: Source>(alloc: Global, words: &[String], src: &mut R) -> Repl
     // Where a program is made the source is not read.
     ensures made { MakeText (map string_bytes words.now)
         → (src.new ≡ src.old) × ¬ IsReadFault result }
-    ensures taken { TakesAtMost (R.left src.old) (R.left src.new) (most_text + 1) }
-    ensures reading { Reading R.read_step src.old (most_text + 1) src.new }
+    ensures taken { TakesAtMost (R.left src.old) (R.left src.new)
+        (limit_for (map string_bytes words.now) + 1) }
+    ensures reading { Reading R.read_step src.old
+        (limit_for (map string_bytes words.now) + 1) src.new }
 
     // A failed read has its cause.
     ensures read_cause { IsReadFault result → Rose (R.faults src.old) (R.faults src.new) }

@@ -28,10 +28,10 @@ unfoldable pub use Rattle.dl_frac.specs.Numerals.{is_bad, numeral_value}
 pub use Rattle.dl_plan.specs.declared.settings.Ask.{Ask}
 pub use Rattle.dl_plan.specs.declared.settings.Asked.{Asked}
 pub use Rattle.dl_plan.specs.declared.settings.Form.{Form}
-pub use Rattle.dl_plan.specs.declared.settings.Form.TheVariants.{Fmt, Run}
+pub use Rattle.dl_plan.specs.declared.settings.Form.TheVariants.{Fmt, Run, Cert, Verify}
 pub use Rattle.dl_plan.specs.declared.settings.Settings.{Settings}
-pub use Rattle.dl_words.specs.Asks.{behind_s, cut_at, with_ask}
-unfoldable pub use Rattle.dl_words.specs.Asks.{ask_of, asks_of}
+pub use Rattle.dl_words.specs.Asks.{with_ask}
+unfoldable pub use Rattle.dl_words.specs.Asks.{asks_of}
 pub use Rattle.dl_words.specs.Command.{command}
 pub use Rattle.dl_words.specs.Faults.{Explains, ExplainsAsks}
 pub use Rattle.dl_words.specs.Found.{answer_in, asks_in, values_in}
@@ -42,7 +42,9 @@ pub use Rattle.dl_words.specs.Parts.Kind.{begins, ends, misfit, plain, whole}
 pub use Rattle.dl_words.specs.Parts.Mode.{between, ended, value}
 pub use Rattle.dl_words.specs.Parts.Part.{option, positional}
 pub use Rattle.dl_words.specs.Spelling.{Text, begins_plainly, is_amount, is_bucket, is_number, is_number_within, is_numeral, is_probability, is_word, number}
-pub use Rattle.dl_words.specs.Table.{SpellsAsk, cdf, joint, kappa, layer, mean, no_limit, pmf, q, tail}
+pub use Rattle.dl_words.specs.Table.{SpellsAsk}
+unfoldable pub use Rattle.dl_words.specs.Table.{ask_of}
+pub use Rattle.dl_words.specs.Ways.{behind_sign, cut_at}
 pub use Rattle.dl_words.specs.Words.{admits, answer, to_parts, to_positionals, with_asks, words_of}
 pub use Rattle.dl_words.specs.declared.fault.UsageFault.{UsageFault}
 pub use Rattle.dl_words.specs.declared.fault.UsageFault.TheVariants.{Line}

@@ -1,5 +1,5 @@
 -- What `split_once` and `strip_prefix` say, in the words of the definitions.
-use Rattle.dl_words.proofs.Common.{◌≡◌, ℕ, ◌+◌, ◌<◌, Bool, true, false, [], ◌∷◌, length, Option, Some, None, arith, refl, ap, inl, inr, ◌==◌, option_map, Bor, list_any, nat_tests, cases_Bool, behind_s, begins_plainly, cut_at, slice_get, Text}
+use Rattle.dl_words.proofs.Common.{◌≡◌, ℕ, ◌+◌, ◌<◌, Bool, true, false, [], ◌∷◌, length, Option, Some, None, arith, refl, ap, inl, inr, ◌==◌, option_map, Bor, list_any, nat_tests, cases_Bool, begins_plainly, behind_sign, cut_at, slice_get, Text}
 use Rattle.std.proofs.Common.{◌≢◌}
 use Rattle.std.specs.Prelude.{MatchOption, not}
 use Rattle.std.specs.List.{position_or_len}
@@ -45,7 +45,7 @@ cut_is s text (Some x) h small =
 
 pub behind_is : (text : Text) (r : Option (Bor Text))
     → MatchOption r ((rest : Text) → text ≢ 115 ∷ rest) (λ x. text ≡ 115 ∷ x.now)
-    → option_map (λ s. s.now) r ≡ behind_s text
+    → option_map (λ s. s.now) r ≡ behind_sign 115 text
 behind_is text (Some x) h = rw h refl
 behind_is [] None h = refl
 behind_is (c ∷ cs) None h = elim (cases_Bool (c == 115)) [

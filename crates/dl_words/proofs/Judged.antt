@@ -1,5 +1,5 @@
 -- The answer to what `clap` found is the answer to the words.
-use Rattle.dl_words.proofs.Common.{◌≡◌, ◌∙◌, inl, inr, cases_Bool, ℕ, Bool, true, false, refl, sym, ap, ap₂, subst, List, [], ◌∷◌, ◌++◌, Option, Some, None, Result, Ok, Err, codes, true≢false, length, drop, arith, ◌≤◌, if◌then◌else◌, is_some, slice_get, nat_le, ◌&&◌, ◌||◌, option_and_then, option_map, unwrap_or, ⊤, Bor, is_ascii_digit, IsTrue, list_all, list_any, bytes_eq, append-nil, bytes_eq-Decides, nat_tests, all_of, rows_of, matches_of, IsDecimal, pointed, IsNumeral, decimal, percent, fraction, Asked, Form, Run, Fmt, Settings, UsageFault, Line, WordsFault, asks_of, command, Explains, ExplainsAsks, answer_in, asks_in, values_in, Values, are_taken, form_named, is_taken, Part, Mode, is_name, kind_of, parts_from, command_parts, positionals_of, option_values, option, positional, between, value, ended, Text, begins_plainly, is_bucket, is_number_within, admits, answer, to_parts, to_positionals, with_asks, words_of}
+use Rattle.dl_words.proofs.Common.{◌≡◌, ◌∙◌, inl, inr, cases_Bool, ℕ, Bool, true, false, refl, sym, ap, ap₂, subst, List, [], ◌∷◌, ◌++◌, Option, Some, None, Result, Ok, Err, codes, true≢false, length, drop, arith, ◌≤◌, if◌then◌else◌, is_some, slice_get, nat_le, ◌&&◌, ◌||◌, option_and_then, option_map, unwrap_or, ⊤, Bor, is_ascii_digit, IsTrue, list_all, list_any, bytes_eq, append-nil, bytes_eq-Decides, nat_tests, all_of, rows_of, matches_of, IsDecimal, pointed, IsNumeral, decimal, percent, fraction, Asked, Form, Run, Fmt, Cert, Verify, Settings, UsageFault, Line, WordsFault, asks_of, command, Explains, ExplainsAsks, answer_in, asks_in, values_in, Values, are_taken, form_named, is_taken, Part, Mode, is_name, kind_of, parts_from, command_parts, positionals_of, option_values, option, positional, between, value, ended, Text, begins_plainly, is_bucket, is_number_within, admits, answer, to_parts, to_positionals, with_asks, words_of}
 use Rattle.std.proofs.lemmas.Bool.{and_left, and_right}
 use mathlib.Core.Path.{fun_ext}
 use Rattle.std.specs.Prelude.{take, find, ◌==◌}
@@ -89,8 +89,9 @@ format_plain text h =
 form_plain : (text : Text) → is_some (form_named text) ≡ true → begins_plainly text ≡ true
 form_plain text h =
     named_plain text (codes "run") refl (λ a. named_plain text (codes "fmt") refl (λ b.
-    let none : is_some (form_named text) ≡ false = rw (a, b) refl in
-    absurd (true≢false (sym h ∙ none))))
+    named_plain text (codes "cert") refl (λ c. named_plain text (codes "verify") refl (λ d.
+    let none : is_some (form_named text) ≡ false = rw (a, b, c, d) refl in
+    absurd (true≢false (sym h ∙ none))))))
 
 taken_plain : (takes : Text → Bool) → ((text : Text) → takes text ≡ true → begins_plainly text ≡ true)
     → (texts : List Text) → list_all takes texts ≡ true → list_all begins_plainly texts ≡ true
@@ -105,12 +106,12 @@ too_many : (n : ℕ) → 2 ≤ n → nat_le n 1 ≡ false
 too_many n h = grind (arith, nat_tests, h)
 
 -- a form that takes no asks refuses those that stand
-pub asks_refused : (form : Form) (values : Values) (texts : List (Bor Text)) (b : Bool) → form ≡ Fmt
-    → b ≡ (length texts == 0) → b ≡ false → b ≡ admits form values (lent texts)
-asks_refused form values texts b is e some =
+pub asks_refused : (texts : List (Bor Text)) (b rest : Bool) → b ≡ (length texts == 0) → b ≡ false
+    → b ≡ (length (lent texts) == 0 && rest)
+asks_refused texts b rest e some =
     let same : length (lent texts) ≡ length texts = length-map _ _ in
     let none : (length (lent texts) == 0) ≡ false = ap (λ n. n == 0) same ∙ sym e ∙ some in
-    rw (is, none) some
+    rw none some
 
 -- each option of a table takes such values alone
 abbrev pub ArePlain : List Row → Type 0
@@ -296,6 +297,10 @@ told_by_name Run f asks (Ok v) = refl
 told_by_name Run f asks (Err i) = refl
 told_by_name Fmt f asks (Ok v) = refl
 told_by_name Fmt f asks (Err i) = refl
+told_by_name Cert f asks (Ok v) = refl
+told_by_name Cert f asks (Err i) = refl
+told_by_name Verify f asks (Ok v) = refl
+told_by_name Verify f asks (Err i) = refl
 
 -- an answer depends on these values alone
 same_values : (f g : Values) → ((name : Text) → is_name name ≡ true → f name ≡ g name)

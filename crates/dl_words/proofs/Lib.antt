@@ -11,6 +11,7 @@ pub mod Whole
 pub mod Cleaned
 pub mod Judged
 pub mod Signs
+pub mod WayLaws
 pub mod NumeralBytes
 pub mod Prices
 pub mod TermLists

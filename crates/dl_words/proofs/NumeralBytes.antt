@@ -1,5 +1,5 @@
 -- The bytes of a numeral are digits, `.`, `%` and `/`.
-use Rattle.dl_words.proofs.Common.{◌≡◌, ℕ, true, false, List, [], ◌∷◌, ◌++◌, All, refl, sym, subst, ◌==◌, IsTrue, list_all, list_any, is_ascii_digit, All-nil, All-cons, IsDecimal, pointed, IsNumeral, decimal, percent, fraction, digits_pass, Text, is_numeral}
+use Rattle.dl_words.proofs.Common.{◌≡◌, ℕ, true, false, [], ◌∷◌, ◌++◌, All, refl, sym, subst, ◌==◌, IsTrue, list_all, list_any, is_ascii_digit, All-nil, All-cons, IsDecimal, pointed, IsNumeral, decimal, percent, fraction, digits_pass, Text, is_numeral}
 use Rattle.std.specs.Str.Parse.{IsNumeral as IsNumber}
 use Rattle.std.proofs.lemmas.List.Elements.{All-append, All-head, All-tail}
 use Rattle.dl_frac.specs.Numerals.{plain}

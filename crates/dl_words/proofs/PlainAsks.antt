@@ -1,15 +1,17 @@
 -- The asks of good words are written with plain bytes alone.
-use Rattle.dl_words.proofs.Common.{◌≡◌, ℕ, Bool, true, refl, sym, subst, List, [], ◌∷◌, ◌++◌, All, Ok, IfOk, arith, codes, nat_lt, ◌&&◌, ◌==◌, IsTrue, ⊤, list_all, is_ascii_digit, All-nil, All-cons, nat_tests, IsDecimal, pointed, IsNumeral, decimal, percent, fraction, digits_pass, is_word_byte, begins_with_letter, Ask, Asked, Settings, command_parts, Text, is_amount, is_number, is_numeral, is_probability, is_word, SpellsAsk, pmf, cdf, mean, q, tail, layer, no_limit, joint, kappa, words_of}
+use Rattle.dl_words.proofs.Common.{◌≡◌, ℕ, Bool, true, inl, inr, refl, sym, subst, List, [], ◌∷◌, ◌++◌, All, Ok, IfOk, arith, codes, nat_lt, ◌&&◌, ◌==◌, IsTrue, ⊤, list_all, is_ascii_digit, All-nil, All-cons, nat_tests, is_word_byte, begins_with_letter, Ask, Asked, Settings, command_parts, Text, is_amount, is_number, is_numeral, is_probability, is_word, SpellsAsk, words_of}
 use Rattle.std.specs.Prelude.{not}
 use Rattle.std.proofs.lemmas.List.Elements.{All-append}
 use Rattle.dl_plan.specs.Plain.{IsPlainByte}
 use Rattle.dl_plan.specs.declared.settings.Term.{Term}
 use Rattle.dl_words.specs.Spelling.{is_weight}
-use Rattle.dl_words.specs.Table.{SpellsTerms, one, more, price, cotail}
+use Rattle.dl_plan.specs.declared.settings.Ask.TheVariants.{Pmf, Cdf, Quantile, LayerMean, Tail, Price, Joint, Kappa, Cotail}
+use Rattle.dl_words.specs.Table.{Row, SpelledBy, amount, by_row, colon, layer, letter_s, letter_x, limit, mean, name, plus, probability, rows, term, terms, unit_amount, unit_level, weight}
+use Rattle.dl_words.specs.Ways.{AreJoined, Way, behind, last, made, more, pair}
 use Rattle.dl_words.proofs.Numerals.{both}
 use Rattle.dl_words.proofs.NumeralBytes.{written_each}
 use Rattle.dl_words.proofs.RangeLaws.{AreFrom, all_true, asks_each, from_parts, some_parts}
-use Rattle.dl_words.proofs.TableLaws.{table_back}
+use Rattle.dl_words.proofs.TableLaws.{EachRow, Spelling, by_each, no_more, table_back, ◌also◌}
 
 -- ---- bytes
 
@@ -72,37 +74,83 @@ name_plain text h = passed is_word_byte word_plain text (both (begins_with_lette
 
 -- ---- asks
 
-behind : (head rest text : Text) → text ≡ head ++ rest → IsTrue (list_all is_plain head) → ArePlain rest → ArePlain text
-behind head rest text e h p = subst ArePlain (sym e) (together head rest (literal head h) p)
+-- a way whose texts are written with plain bytes
+abbrev IsPlainWay : {A : Type 0} → Way A → Type 0
+IsPlainWay {A} w = (text : Text) (x : A) → w.Spells text x → ArePlain text
 
-named : (name x : Text) → IsTrue (is_word name) → IsTrue (is_amount x) → ArePlain (name ++ (codes ":" ++ x))
-named name x n h = around name x 58 refl (name_plain name n) (amount_plain x h)
+pair_plain : {A B : Type 0} (sign : ℕ) (a : Way A) (b : Way B) → IsTrue (is_plain sign) → IsPlainWay a → IsPlainWay b
+    → IsPlainWay (pair sign a b)
+pair_plain sign a b s pa pb text both (front, back, e, x, y) =
+    subst ArePlain (sym e) (around front back sign s (pa front both.0 x) (pb back both.1 y))
 
-terms_plain : (text : Text) (terms : List Term) → SpellsTerms text terms → ArePlain text
-terms_plain text _ (one w p hw hp e) =
-    subst ArePlain (sym e) (around w p 64 refl (weight_plain w hw) (probability_plain 9 p hp))
-terms_plain text _ (more w p rest terms hw hp s e) =
-    subst ArePlain (sym e) (around (w ++ 64 ∷ p) rest 43 refl
-    (around w p 64 refl (weight_plain w hw) (probability_plain 9 p hp)) (terms_plain rest terms s))
+made_plain : {A : Type 0} (f : A → Ask) (w : Way A) → IsPlainWay w → Spelling (λ text ask. ArePlain text) (made f w)
+made_plain f w each text ask h = each text h.0 h.2
+
+amount_way : IsPlainWay amount
+amount_way text x h = amount_plain text h.0
+
+level_way : (digits : ℕ) → IsPlainWay (probability digits)
+level_way digits text p h = probability_plain digits text h.0
+
+name_way : IsPlainWay name
+name_way text x h = name_plain text h.0
+
+limit_way : IsPlainWay limit
+limit_way text x (inl h) = subst ArePlain (sym h.0) (literal (codes "inf") refl)
+limit_way text x (inr h) = amount_plain text h.2.0
+
+attach_way : IsPlainWay (behind letter_s amount)
+attach_way text x (rest, e, h) = subst ArePlain (sym e) (together (codes "s") rest (literal (codes "s") refl)
+    (amount_plain rest h.0))
+
+term_way : IsPlainWay term
+term_way text x h =
+    pair_plain 64 weight (probability 9) refl (λ text w h. weight_plain text h.0) (level_way 9) text h.0 h.2
+
+terms_way : (text : Text) (all : List Term) → AreJoined plus term.Spells text all → ArePlain text
+terms_way text _ (last x h) = term_way text x h
+terms_way text _ (more front rest x xs h later e) =
+    subst ArePlain (sym e) (around front rest 43 refl (term_way front x h) (terms_way rest xs later))
+
+unit_amount_way : IsPlainWay unit_amount
+unit_amount_way = pair_plain colon name amount refl name_way amount_way
+
+rows_plain : EachRow (Spelling (λ text ask. ArePlain text)) rows
+rows_plain =
+    made_plain Pmf amount amount_way
+    also made_plain Cdf amount amount_way
+    also made_plain Quantile (probability 9) (level_way 9)
+    also made_plain Tail (probability 9) (level_way 9)
+    also made_plain Price terms (λ text all h. terms_way text all h.0.0)
+    also made_plain (λ both. LayerMean both.0 both.1) layer
+    (pair_plain letter_x limit (behind letter_s amount) refl limit_way attach_way)
+    also made_plain (λ both. Joint both.0 both.1) unit_amount unit_amount_way
+    also made_plain (λ both. Kappa both.0 both.1) unit_amount unit_amount_way
+    also made_plain (λ both. Cotail both.0 both.1) unit_level
+    (pair_plain colon name (probability 4) refl name_way (level_way 4))
+    also no_more
+
+are_plain : List Row → Bool
+are_plain [] = true
+are_plain (row ∷ all) = list_all is_plain row.head && are_plain all
+
+heads_plain : IsTrue (are_plain rows)
+unfolding are_plain
+heads_plain = refl
+
+head_plain : (all : List Row) (head rest : Text) (ask : Ask) → IsTrue (are_plain all) → SpelledBy all head rest ask
+    → ArePlain head
+unfolding are_plain
+head_plain [] head rest ask d h = absurd h
+head_plain (row ∷ all) head rest ask d (inl h) = subst ArePlain (sym h.0) (literal row.head (both _ (are_plain all) d).0)
+head_plain (row ∷ all) head rest ask d (inr h) =
+    head_plain all head rest ask (both (list_all is_plain row.head) _ d).1 h
 
 spelled_plain : (text : Text) (ask : Ask) → SpellsAsk text ask → ArePlain text
-spelled_plain text ask (pmf x h e) = behind (codes "pmf:") x text e refl (amount_plain x h)
-spelled_plain text ask (cdf x h e) = behind (codes "cdf:") x text e refl (amount_plain x h)
-spelled_plain text ask (mean e) = subst ArePlain (sym e) (literal (codes "mean") refl)
-spelled_plain text ask (q p h e) = behind (codes "q:") p text e refl (probability_plain 9 p h)
-spelled_plain text ask (tail p h e) = behind (codes "tail:") p text e refl (probability_plain 9 p h)
-spelled_plain text ask (price rest terms s priced e) = behind (codes "price:") rest text e refl (terms_plain rest terms s)
-spelled_plain text ask (layer limit attach l h e) =
-    behind (codes "layer:") (limit ++ (codes "xs" ++ attach)) text e refl
-    (together limit (codes "xs" ++ attach) (amount_plain limit l)
-    (together (codes "xs") attach (literal (codes "xs") refl) (amount_plain attach h)))
-spelled_plain text ask (no_limit attach h e) = behind (codes "layer:infxs") attach text e refl (amount_plain attach h)
-spelled_plain text ask (joint name x n h e) = behind (codes "joint:") (name ++ (codes ":" ++ x)) text e refl
-    (named name x n h)
-spelled_plain text ask (kappa name x n h e) = behind (codes "kappa:") (name ++ (codes ":" ++ x)) text e refl
-    (named name x n h)
-spelled_plain text ask (cotail name p n h e) = behind (codes "cotail:") (name ++ (codes ":" ++ p)) text e refl
-    (around name p 58 refl (name_plain name n) (probability_plain 4 p h))
+spelled_plain text _ (mean e) = subst ArePlain (sym e) (literal (codes "mean") refl)
+spelled_plain text _ (by_row head rest ask e s) =
+    subst ArePlain (sym e) (around head rest 58 refl (head_plain rows head rest ask heads_plain s)
+    (by_each (λ text ask. ArePlain text) rows head rest ask rows_plain s))
 
 -- ---- the law
 

@@ -1,5 +1,5 @@
 -- What good words say lies in its ranges, and the asks are words.
-use Rattle.dl_words.proofs.Common.{◌≡◌, inl, inr, cases_Bool, ℕ, suc, ◌≤◌, Bool, true, false, refl, ap, subst, List, [], ◌∷◌, length, map, All, Option, Some, None, Result, Ok, Err, IfOk, arith, codes, nat_le, nat_lt, ◌&&◌, ◌==◌, IsTrue, ⊤, list_all, All-nil, All-cons, nat_tests, is_bad, numeral_value, Ask, Asked, Form, Run, Fmt, Settings, UsageFault, ask_of, asks_of, with_ask, Values, are_taken, form_named, is_taken, Part, Mode, Kind, kind_of, parts_from, command_parts, positionals_of, read_kind, option_values, with_part, option, positional, between, value, ended, ends, begins, plain, misfit, Text, begins_plainly, is_bucket, is_numeral, is_probability, is_number_within, number, SpellsAsk, pmf, cdf, mean, q, tail, layer, no_limit, joint, kappa, admits, answer, to_parts, to_positionals, with_asks, words_of}
+use Rattle.dl_words.proofs.Common.{◌≡◌, inl, inr, cases_Bool, ℕ, suc, ◌≤◌, Bool, true, false, refl, ap, subst, List, [], ◌∷◌, length, map, All, Option, Some, None, Result, Ok, Err, IfOk, arith, codes, nat_le, nat_lt, ◌&&◌, ◌==◌, IsTrue, ⊤, list_all, All-nil, All-cons, nat_tests, is_bad, numeral_value, Ask, Asked, Form, Run, Fmt, Cert, Verify, Settings, UsageFault, ask_of, asks_of, with_ask, Values, are_taken, form_named, is_taken, Part, Mode, Kind, kind_of, parts_from, command_parts, positionals_of, read_kind, option_values, with_part, option, positional, between, value, ended, ends, begins, plain, misfit, Text, begins_plainly, is_bucket, is_numeral, is_probability, is_number_within, number, SpellsAsk, admits, answer, to_parts, to_positionals, with_asks, words_of}
 use Rattle.dl_exact.proofs.BelowOne.{below_one}
 use Rattle.std.proofs.lemmas.Bool.{leb-true}
 use Rattle.std.proofs.Common.{not, IfSome, IsUtf8, ◌^◌}
@@ -7,14 +7,18 @@ use Rattle.std.proofs.lemmas.List.Elements.{All-head, All-tail}
 use Rattle.dl_exact.specs.Fraction.{Fraction, whole}
 use Rattle.dl_exact.proofs.Parts.{pos_num}
 use Rattle.dl_plan.proofs.Buckets.{one_bucket}
-use Rattle.dl_plan.specs.Ranges.{IsBucket, IsLevel, HasLevels, HasTerms, HasShareLevel, IsAskInRange, AreInRange}
+use Rattle.dl_plan.specs.Ranges.{IsBucket, IsLevel, IsAskInRange, AreInRange}
 use Rattle.dl_plan.specs.declared.settings.Term.{Term}
-use Rattle.dl_words.specs.Table.{SpellsTerms, one, more, price, cotail}
-use Rattle.dl_words.specs.Options.{is_make_alone, or_default, settings_of}
+use Rattle.dl_plan.specs.declared.settings.Ask.TheVariants.{Pmf, Cdf, Quantile, LayerMean, Tail, Price, Joint, Kappa, Cotail}
+use Rattle.dl_words.specs.Table.{amount, by_row, layer, mean, plus, probability, rows, term, terms, unit_amount, unit_level}
+use Rattle.dl_words.specs.Ways.{AreJoined, Way, last, made, more}
+use Rattle.dl_words.proofs.Prices.{priced}
+use Rattle.dl_plan.specs.Forms.{IsOfCert}
+use Rattle.dl_words.specs.Options.{is_make_alone, is_report_plain, are_of_cert, are_of_verify, most_cert_log2, or_default, settings_of}
 use Rattle.dl_words.specs.Parts.Kind.{whole as joined_kind}
 use Rattle.dl_words.proofs.Numerals.{both, less}
 use Rattle.dl_frac.proofs.SmallNumerals.{IsSmall, numeral_small}
-use Rattle.dl_words.proofs.TableLaws.{table_back}
+use Rattle.dl_words.proofs.TableLaws.{EachRow, Spelling, by_each, no_more, table_back, ◌also◌}
 
 -- ---- the values of the options
 
@@ -85,55 +89,48 @@ short_level text h =
       small.den,
     )
 
+level_of : (text : Text) (p : Fraction) → (probability 9).Spells text p → IsLevel p
+level_of text p h = subst IsLevel h.1 (level text h.0)
+
+short_level_of : (text : Text) (p : Fraction) → (probability 4).Spells text p → IsLevel p × (p.den ≤ 10 ^ 4)
+short_level_of text p h = subst (λ q. IsLevel q × (q.den ≤ 10 ^ 4)) h.1 (short_level text h.0)
+
+term_level : (text : Text) (t : Term) → term.Spells text t → IsLevel t.p
+term_level text t (parts, is, (w, p, e, hw, hp)) = subst (λ t. IsLevel t.p) is (level_of p parts.1 hp)
+
 one_level : (p : Fraction) → IsLevel p → All IsLevel (p ∷ [])
 one_level p h = All-cons IsLevel p [] h (All-nil IsLevel)
 
-term_levels : (text : Text) (terms : List Term) → SpellsTerms text terms → All IsLevel (map (λ term. term.p) terms)
-term_levels text _ (one w p hw hp e) = one_level (numeral_value p) (level p hp)
-term_levels text _ (more w p rest terms hw hp s e) =
-    All-cons IsLevel (numeral_value p) (map (λ term. term.p) terms) (level p hp) (term_levels rest terms s)
+term_levels : (text : Text) (all : List Term) → AreJoined plus term.Spells text all → All IsLevel (map (λ t. t.p) all)
+term_levels text _ (last x h) = one_level x.p (term_level text x h)
+term_levels text _ (more front rest x xs h later e) =
+    All-cons IsLevel x.p (map (λ t. t.p) xs) (term_level front x h) (term_levels rest xs later)
 
-spelled_level : (text : Text) (ask : Ask) → SpellsAsk text ask → HasLevels ask
-spelled_level text ask (pmf x h e) = All-nil IsLevel
-spelled_level text ask (cdf x h e) = All-nil IsLevel
-spelled_level text ask (mean e) = All-nil IsLevel
-spelled_level text ask (q p h e) = one_level (numeral_value p) (level p h)
-spelled_level text ask (tail p h e) = one_level (numeral_value p) (level p h)
-spelled_level text ask (price rest terms s priced e) = term_levels rest terms s
-spelled_level text ask (layer limit attach l h e) = All-nil IsLevel
-spelled_level text ask (no_limit attach h e) = All-nil IsLevel
-spelled_level text ask (joint name x n h e) = All-nil IsLevel
-spelled_level text ask (kappa name x n h e) = All-nil IsLevel
-spelled_level text ask (cotail name p n h e) = one_level (numeral_value p) (short_level p h).0
+-- what is made of values is in range
+made_in_range : {A : Type 0} (f : A → Ask) (w : Way A)
+    → ((text : Text) (x : A) → w.Spells text x → IsAskInRange (f x)) → Spelling (λ text ask. IsAskInRange ask) (made f w)
+made_in_range f w each text ask h = subst IsAskInRange h.1 (each text h.0 h.2)
 
-spelled_terms : (text : Text) (ask : Ask) → SpellsAsk text ask → HasTerms ask
-spelled_terms text ask (pmf x h e) = tt
-spelled_terms text ask (cdf x h e) = tt
-spelled_terms text ask (mean e) = tt
-spelled_terms text ask (q p h e) = tt
-spelled_terms text ask (tail p h e) = tt
-spelled_terms text ask (price rest terms s priced e) = priced
-spelled_terms text ask (layer limit attach l h e) = tt
-spelled_terms text ask (no_limit attach h e) = tt
-spelled_terms text ask (joint name x n h e) = tt
-spelled_terms text ask (kappa name x n h e) = tt
-spelled_terms text ask (cotail name p n h e) = tt
-
-spelled_share : (text : Text) (ask : Ask) → SpellsAsk text ask → HasShareLevel ask
-spelled_share text ask (pmf x h e) = tt
-spelled_share text ask (cdf x h e) = tt
-spelled_share text ask (mean e) = tt
-spelled_share text ask (q p h e) = tt
-spelled_share text ask (tail p h e) = tt
-spelled_share text ask (price rest terms s priced e) = tt
-spelled_share text ask (layer limit attach l h e) = tt
-spelled_share text ask (no_limit attach h e) = tt
-spelled_share text ask (joint name x n h e) = tt
-spelled_share text ask (kappa name x n h e) = tt
-spelled_share text ask (cotail name p n h e) = (short_level p h).1
+rows_in_range : EachRow (Spelling (λ text ask. IsAskInRange ask)) rows
+rows_in_range =
+    made_in_range Pmf amount (λ text x h. record { levels = All-nil IsLevel; terms = tt; share = tt })
+    also made_in_range Cdf amount (λ text x h. record { levels = All-nil IsLevel; terms = tt; share = tt })
+    also made_in_range Quantile (probability 9) (λ text p h. record { levels = one_level p (level_of text p h); terms = tt; share = tt })
+    also made_in_range Tail (probability 9) (λ text p h. record { levels = one_level p (level_of text p h); terms = tt; share = tt })
+    also made_in_range Price terms (λ text all h. record { levels = term_levels text all h.0.0; terms = priced text all h; share = tt })
+    also made_in_range (λ both. LayerMean both.0 both.1) layer
+    (λ text x h. record { levels = All-nil IsLevel; terms = tt; share = tt })
+    also made_in_range (λ both. Joint both.0 both.1) unit_amount
+    (λ text x h. record { levels = All-nil IsLevel; terms = tt; share = tt })
+    also made_in_range (λ both. Kappa both.0 both.1) unit_amount
+    (λ text x h. record { levels = All-nil IsLevel; terms = tt; share = tt })
+    also made_in_range (λ both. Cotail both.0 both.1) unit_level (λ text both h.
+    let short = short_level_of h.1 both.1 h.4 in record { levels = one_level both.1 short.0; terms = tt; share = short.1 })
+    also no_more
 
 in_range : (text : Text) (ask : Ask) → SpellsAsk text ask → IsAskInRange ask
-in_range text ask s = record { levels = spelled_level text ask s; terms = spelled_terms text ask s; share = spelled_share text ask s }
+in_range text ask (mean e) = record { levels = All-nil IsLevel; terms = tt; share = tt }
+in_range text ask (by_row head rest ask' e s) = by_each (λ text ask. IsAskInRange ask) rows head rest ask rows_in_range s
 
 module _ (P : Text → Type 0) (Q : Asked → Type 0) (each : (text : Text) (ask : Ask) → ask_of text ≡ Some ask → P text
     → Q (record { text = text; ask = ask })) where
@@ -170,9 +167,16 @@ all_true texts = λ k d h. tt
 none : (n : ℕ) → IsTrue (n == 0) → n ≤ 256
 none n h = grind (arith, nat_tests, h)
 
+few_power : (values : Values) → IsTrue (are_of_cert values)
+    → or_default 10 number (values (codes "log2")) ≤ most_cert_log2
+few_power values h = (between_of 1 10 10 (values (codes "log2")) (omega arith, omega arith)
+    (both (is_taken (is_number_within 1 most_cert_log2) (values (codes "log2"))) (is_report_plain values) h).0).1
+
 few : (form : Form) (values : Values) (asks : List Text) → IsTrue (admits form values asks) → length asks ≤ 256
 few Run values asks h = leb-true (length asks) 256 (both (nat_lt 0 (length asks)) _ h).1
 few Fmt values asks h = none (length asks) (both (length asks == 0) (is_make_alone values) h).0
+few Cert values asks h = none (length asks) (both (length asks == 0) (are_of_cert values) h).0
+few Verify values asks h = none (length asks) (both (length asks == 0) (are_of_verify values) h).0
 
 -- ---- the settings of a form, of the values of the options and of asks
 
@@ -207,6 +211,15 @@ module _ (form : Form) (values : Values) (texts : List Text) (asks : List Asked)
         asks = ranged;
         few_asks = omega (arith, same, few form values texts admitted);
       }
+
+-- a form of a certificate has a small power
+few_of_cert : (form : Form) (values : Values) (texts : List Text) → IsTrue (admits form values texts) → IsOfCert form
+    → or_default 10 number (values (codes "log2")) ≤ most_cert_log2
+few_of_cert Run values texts h of = absurd of
+few_of_cert Fmt values texts h of = absurd of
+few_of_cert Cert values texts h of = few_power values (both (length texts == 0) (are_of_cert values) h).1
+few_of_cert Verify values texts h of =
+    few_power values (both _ (are_of_cert values) (both (length texts == 0) (are_of_verify values) h).1).1
 
 -- ---- from the answer back to the form, the values and the asks
 
@@ -337,3 +350,10 @@ words_are_text words settings u e =
     let asks : All (λ asked. IsUtf8 asked.text) a.asks = subst (λ r. IfOk r (All (λ asked. IsUtf8 asked.text))) a.read
     (asks_each IsUtf8 (λ asked. IsUtf8 asked.text) (λ text ask is h. h) a.texts (All-tail IsUtf8 a.word a.texts all)) in
     subst (λ s. All (λ asked. IsUtf8 asked.text) s.asks) a.is asks
+
+pub words_have_few_cells : (words : List Text) (settings : Settings) → words_of words ≡ Ok settings
+    → IsOfCert settings.form → settings.log2 ≤ most_cert_log2
+words_have_few_cells words settings e of =
+    let from = from_parts settings (λ _. ⊤) (command_parts words) (some_parts (command_parts words)) e in
+    let a : AreFrom from.0 settings = from.2 in
+    subst (λ s. IsOfCert s.form → s.log2 ≤ most_cert_log2) a.is (few_of_cert a.form a.values a.texts a.admitted) of

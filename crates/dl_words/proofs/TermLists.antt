@@ -1,9 +1,10 @@
 -- The terms of a price as a loop reads them: those so far, and what the rest is read as.
-use Rattle.dl_words.proofs.Common.{◌≡◌, ◌∙◌, ℕ, suc, ◌≤◌, ◌<◌, ◌+◌, List, [], ◌∷◌, ◌++◌, append_assoc, Option, Some, None, arith, refl, sym, ap, option_map, option_and_then, cut_at, Text}
+use Rattle.dl_words.proofs.Common.{◌≡◌, ◌∙◌, ℕ, suc, ◌≤◌, ◌<◌, ◌+◌, List, [], ◌∷◌, ◌++◌, append_assoc, Option, Some, None, arith, refl, ap, option_map, option_and_then, cut_at, Text}
 use Rattle.std.proofs.Common.{◌-◌}
 use Rattle.dl_plan.specs.declared.settings.Term.{Term}
-use Rattle.dl_words.specs.Asks.{term_written, terms_at}
-unfoldable use Rattle.dl_words.specs.Asks.{terms_written}
+use Rattle.dl_words.specs.Table.{plus, term as a_term}
+use Rattle.dl_words.specs.Ways.{joined_at}
+unfoldable use Rattle.dl_words.specs.Ways.{joined}
 
 -- these terms in front of others
 abbrev pub before : List Term → Option (List Term) → Option (List Term)
@@ -21,37 +22,37 @@ one_last terms None = refl
 one_last terms (Some term) = refl
 
 module _ (i : ℕ) (rest text : Text) (terms : List Term)
-    (so_far : before terms (terms_written (8 - i) rest) ≡ terms_written 8 text) where
+    (so_far : before terms (joined plus a_term.read (8 - i) rest) ≡ joined plus a_term.read 8 text) where
   read_there : i < 8 → (cut : Option (Text × Text)) → cut ≡ cut_at 43 rest
-      → before terms (terms_at (λ more. terms_written (7 - i) more) rest cut) ≡ terms_written 8 text
-  unfolding terms_written
+      → before terms (joined_at a_term.read (λ more. joined plus a_term.read (7 - i) more) rest cut) ≡ joined plus a_term.read 8 text
+  unfolding joined
   read_there inside cut is =
       let left : suc (7 - i) ≡ 8 - i = omega (arith, inside) in
-      ap (λ c. before terms (terms_at (λ more. terms_written (7 - i) more) rest c)) is
-      ∙ ap (λ n. before terms (terms_written n rest)) left ∙ so_far
+      ap (λ c. before terms (joined_at a_term.read (λ more. joined plus a_term.read (7 - i) more) rest c)) is
+      ∙ ap (λ n. before terms (joined plus a_term.read n rest)) left ∙ so_far
 
   pub last_read : i < 8 → None ≡ cut_at 43 rest → (all : Option (List Term))
-      → all ≡ option_map (λ term. terms ++ term ∷ []) (term_written rest) → all ≡ terms_written 8 text
-  last_read inside none all is = is ∙ one_last terms (term_written rest) ∙ read_there inside None none
+      → all ≡ option_map (λ term. terms ++ term ∷ []) (a_term.read rest) → all ≡ joined plus a_term.read 8 text
+  last_read inside none all is = is ∙ one_last terms (a_term.read rest) ∙ read_there inside None none
 
-  pub none_read : i < 8 → (cut : Text × Text) → Some cut ≡ cut_at 43 rest → None ≡ term_written cut.0
-      → None ≡ terms_written 8 text
+  pub none_read : i < 8 → (cut : Text × Text) → Some cut ≡ cut_at 43 rest → None ≡ a_term.read cut.0
+      → None ≡ joined plus a_term.read 8 text
   none_read inside cut is none =
-      ap (λ term. before terms (option_and_then (λ t. option_map (λ more. t ∷ more) (terms_written (7 - i) cut.1)) term))
+      ap (λ term. before terms (option_and_then (λ t. option_map (λ more. t ∷ more) (joined plus a_term.read (7 - i) cut.1)) term))
       none ∙ read_there inside (Some cut) is
 
   pub next_read : i < 8 → (cut : Text × Text) → Some cut ≡ cut_at 43 rest → (term : Term)
-      → Some term ≡ term_written cut.0 → (pushed : List Term) → pushed ≡ terms ++ term ∷ []
-      → before pushed (terms_written (8 - (i + 1)) cut.1) ≡ terms_written 8 text
+      → Some term ≡ a_term.read cut.0 → (pushed : List Term) → pushed ≡ terms ++ term ∷ []
+      → before pushed (joined plus a_term.read (8 - (i + 1)) cut.1) ≡ joined plus a_term.read 8 text
   next_read inside cut is term read pushed more =
       let left : 8 - (i + 1) ≡ 7 - i = omega (arith, inside) in
-      ap (λ n. before pushed (terms_written n cut.1)) left
-      ∙ ap (λ all. before all (terms_written (7 - i) cut.1)) more
-      ∙ one_more terms term (terms_written (7 - i) cut.1)
-      ∙ ap (λ t. before terms (option_and_then (λ t. option_map (λ more. t ∷ more) (terms_written (7 - i) cut.1)) t))
+      ap (λ n. before pushed (joined plus a_term.read n cut.1)) left
+      ∙ ap (λ all. before all (joined plus a_term.read (7 - i) cut.1)) more
+      ∙ one_more terms term (joined plus a_term.read (7 - i) cut.1)
+      ∙ ap (λ t. before terms (option_and_then (λ t. option_map (λ more. t ∷ more) (joined plus a_term.read (7 - i) cut.1)) t))
       read ∙ read_there inside (Some cut) is
 
-  pub too_many : 8 ≤ i → None ≡ terms_written 8 text
-  unfolding terms_written
+  pub too_many : 8 ≤ i → None ≡ joined plus a_term.read 8 text
+  unfolding joined
   too_many past =
-      let none : 0 ≡ 8 - i = omega (arith, past) in ap (λ n. before terms (terms_written n rest)) none ∙ so_far
+      let none : 0 ≡ 8 - i = omega (arith, past) in ap (λ n. before terms (joined plus a_term.read n rest)) none ∙ so_far

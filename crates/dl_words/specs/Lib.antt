@@ -2,8 +2,9 @@ pub mod Spelling
 pub mod Options
 pub mod Parts
 pub mod AsWritten
-pub mod Asks
+pub mod Ways
 pub mod Table
+pub mod Asks
 pub mod Words
 pub mod Command
 pub mod Found

@@ -8,7 +8,7 @@ use Rattle.dl_exact.specs.Fraction.{whole}
 use Rattle.dl_frac.specs.Numerals.{numeral_value}
 use Rattle.dl_plan.specs.declared.settings.Asked.{Asked}
 use Rattle.dl_plan.specs.declared.settings.Form.{Form}
-use Rattle.dl_plan.specs.declared.settings.Form.TheVariants.{Run, Fmt}
+use Rattle.dl_plan.specs.declared.settings.Form.TheVariants.{Run, Fmt, Cert, Verify}
 use Rattle.dl_plan.specs.declared.settings.Format.{Format}
 use Rattle.dl_plan.specs.declared.settings.Format.TheVariants.{Plain, Csv, Json}
 use Rattle.dl_plan.specs.declared.settings.Settings.{Settings}
@@ -30,6 +30,8 @@ abbrev pub form_named : Text → Option Form
 form_named text =
     if bytes_eq text (codes "run") then Some Run
     else if bytes_eq text (codes "fmt") then Some Fmt
+    else if bytes_eq text (codes "cert") then Some Cert
+    else if bytes_eq text (codes "verify") then Some Verify
     else None
 
 -- the name of an option, and whether it takes a value
@@ -63,6 +65,23 @@ are_taken values = list_all (λ row. is_taken row.1 (values row.0)) options
 -- no option is given but `--make`
 abbrev pub is_make_alone : Values → Bool
 is_make_alone values = list_all (λ row. length (values row.0) == 0) (drop 1 options)
+
+-- no option of a report is given
+abbrev pub is_report_plain : Values → Bool
+is_report_plain values = list_all (λ row. length (values row.0) == 0) (drop 3 options)
+
+-- a plan that has a certificate has 2 to at most this power cells
+abbrev pub most_cert_log2 : ℕ
+most_cert_log2 = 10
+
+-- no option is given but `--make`, `--bs` and `--log2`, and the last one is at most 10
+abbrev pub are_of_cert : Values → Bool
+are_of_cert values = is_taken (is_number_within 1 most_cert_log2) (values (codes "log2"))
+    && is_report_plain values
+
+-- the same, and no `--make`
+abbrev pub are_of_verify : Values → Bool
+are_of_verify values = length (values (codes "make")) == 0 && are_of_cert values
 
 -- the value of an option, or its default
 abbrev pub or_default : {A : Type 0} → A → (Text → A) → List Text → A

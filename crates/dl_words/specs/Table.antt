@@ -1,48 +1,126 @@
--- The table of the asks: each row is one spelling, and what it asks.
-use Rattle.std.specs.Prelude.{◌≡◌, ◌++◌, ◌∷◌, List, [], Some, None, IsTrue, codes}
+-- The table of the asks: each row is one spelling, and what it asks. From it follow which text
+-- spells which ask, and what a text is read as.
+use Rattle.std.specs.Prelude.{ℕ, ◌≡◌, ◌++◌, ◌==◌, ◌&&◌, ◌⊎◌, Bool, List, [], ◌∷◌, Option, Some, None, codes, map, nat_le, option_and_then, if◌then◌else◌}
+use Rattle.std.specs.Str.{bytes_eq}
+use Rattle.dl_exact.specs.Fraction.{Fraction}
+use Rattle.dl_exact.specs.Sum.{sum_over}
 use Rattle.dl_frac.specs.Numerals.{numeral_value}
 use Rattle.dl_plan.specs.declared.settings.Ask.{Ask}
 use Rattle.dl_plan.specs.declared.settings.Ask.TheVariants.{Pmf, Cdf, Mean, Quantile, LayerMean, Tail, Price, Joint, Kappa, Cotail}
 use Rattle.dl_plan.specs.declared.settings.Term.{Term}
-use Rattle.dl_plan.specs.Terms.{ArePriced}
+use Rattle.dl_plan.specs.Fine.{common_denominator}
+use Rattle.dl_plan.specs.Terms.{most_terms, most_weight_parts}
 use Rattle.dl_words.specs.Spelling.{Text, is_amount, is_probability, is_weight, is_word, number}
+use Rattle.dl_words.specs.Ways.{Way, one, pair, behind, word_or, made, that, list, cut_at}
 
--- a term of a price with these numerals
-abbrev pub term_of : Text → Text → Term
-term_of w p = record { weight = numeral_value w; p = numeral_value p }
+-- ---- values
 
--- the text is spelled as these terms of a price: `W@P`, joined by `+`
-pub data SpellsTerms : Text → List Term → Type 0 where
-  one : {text : Text} (w p : Text) → IsTrue (is_weight w) → IsTrue (is_probability 9 p)
-      → text ≡ w ++ (codes "@" ++ p) → SpellsTerms text (term_of w p ∷ [])
-  more : {text : Text} (w p rest : Text) (terms : List Term) → IsTrue (is_weight w) → IsTrue (is_probability 9 p)
-      → SpellsTerms rest terms → text ≡ (w ++ (codes "@" ++ p)) ++ (codes "+" ++ rest)
-      → SpellsTerms text (term_of w p ∷ terms)
+-- `x`, `L` or `A`
+abbrev pub amount : Way ℕ
+amount = one is_amount number
 
--- the text is spelled as this ask
+-- `p`, with so many digits
+abbrev pub probability : ℕ → Way Fraction
+probability digits = one (is_probability digits) numeral_value
+
+-- `W`
+abbrev pub weight : Way Fraction
+weight = one is_weight numeral_value
+
+-- `NAME`
+abbrev pub name : Way Text
+name = one is_word (λ text. text)
+
+-- ---- signs
+
+abbrev pub plus : ℕ
+plus = 43
+
+abbrev pub colon : ℕ
+colon = 58
+
+abbrev pub at_sign : ℕ
+at_sign = 64
+
+abbrev pub letter_s : ℕ
+letter_s = 115
+
+abbrev pub letter_x : ℕ
+letter_x = 120
+
+-- ---- what follows a head
+
+-- `L`, or `inf`, which is no limit
+abbrev pub limit : Way (Option ℕ)
+limit = word_or (codes "inf") None (made Some amount)
+
+-- `LxsA`
+abbrev pub layer : Way (Option ℕ × ℕ)
+layer = pair letter_x limit (behind letter_s amount)
+
+-- `NAME:x`
+abbrev pub unit_amount : Way (Text × ℕ)
+unit_amount = pair colon name amount
+
+-- `NAME:p`, with at most 4 digits
+abbrev pub unit_level : Way (Text × Fraction)
+unit_level = pair colon name (probability 4)
+
+-- `W@P`
+abbrev pub term : Way Term
+term = made (λ both. record { weight = both.0; p = both.1 }) (pair at_sign weight (probability 9))
+
+-- the weights have a common denominator of at most 1,000,000 and sum to 1
+abbrev pub are_weighted : List Term → Bool
+are_weighted terms = nat_le (common_denominator (map (λ term. term.weight) terms)) most_weight_parts
+    && (sum_over terms (λ term. term.weight)).num == (sum_over terms (λ term. term.weight)).den
+
+-- 1 to 8 terms joined by `+`, whose weights sum to 1
+abbrev pub terms : Way (List Term)
+terms = that are_weighted (list most_terms plus term)
+
+-- ---- the table
+
+-- the head of an ask, in front of a colon, and what follows the colon
+pub record Row : Type 1 where
+  pub head : Text
+  pub follows : Way Ask
+
+abbrev pub row : Text → Way Ask → Row
+row head follows = record { head = head; follows = follows }
+
+abbrev pub rows : List Row
+rows =
+    row (codes "pmf") (made Pmf amount)
+    ∷ row (codes "cdf") (made Cdf amount)
+    ∷ row (codes "q") (made Quantile (probability 9))
+    ∷ row (codes "tail") (made Tail (probability 9))
+    ∷ row (codes "price") (made Price terms)
+    ∷ row (codes "layer") (made (λ both. LayerMean both.0 both.1) layer)
+    ∷ row (codes "joint") (made (λ both. Joint both.0 both.1) unit_amount)
+    ∷ row (codes "kappa") (made (λ both. Kappa both.0 both.1) unit_amount)
+    ∷ row (codes "cotail") (made (λ both. Cotail both.0 both.1) unit_level)
+    ∷ []
+
+-- some row has the head, and the text behind the colon spells the ask by it
+abbrev pub SpelledBy : List Row → (head rest : Text) → Ask → Type 0
+SpelledBy [] head rest ask = ⊥
+SpelledBy (row ∷ rows) head rest ask =
+    (head ≡ row.head) × row.follows.Spells rest ask ⊎ SpelledBy rows head rest ask
+
+-- what the text behind the colon is read as, by the first row that has the head
+abbrev pub read_by : List Row → (head rest : Text) → Option Ask
+read_by [] head rest = None
+read_by (row ∷ rows) head rest =
+    if bytes_eq head row.head then row.follows.read rest else read_by rows head rest
+
+-- the text is spelled as this ask: `mean`, or by a row
 pub data SpellsAsk (text : Text) : Ask → Type 0 where
-  pmf : (x : Text) → IsTrue (is_amount x) → text ≡ codes "pmf:" ++ x
-      → SpellsAsk text (Pmf (number x))
-  cdf : (x : Text) → IsTrue (is_amount x) → text ≡ codes "cdf:" ++ x
-      → SpellsAsk text (Cdf (number x))
   mean : text ≡ codes "mean" → SpellsAsk text Mean
-  q : (p : Text) → IsTrue (is_probability 9 p) → text ≡ codes "q:" ++ p
-      → SpellsAsk text (Quantile (numeral_value p))
-  tail : (p : Text) → IsTrue (is_probability 9 p) → text ≡ codes "tail:" ++ p
-      → SpellsAsk text (Tail (numeral_value p))
-  price : (rest : Text) (terms : List Term) → SpellsTerms rest terms → ArePriced terms
-      → text ≡ codes "price:" ++ rest → SpellsAsk text (Price terms)
-  layer : (limit attach : Text) → IsTrue (is_amount limit) → IsTrue (is_amount attach)
-      → text ≡ codes "layer:" ++ (limit ++ (codes "xs" ++ attach))
-      → SpellsAsk text (LayerMean (Some (number limit)) (number attach))
-  no_limit : (attach : Text) → IsTrue (is_amount attach) → text ≡ codes "layer:infxs" ++ attach
-      → SpellsAsk text (LayerMean None (number attach))
-  joint : (name x : Text) → IsTrue (is_word name) → IsTrue (is_amount x)
-      → text ≡ codes "joint:" ++ (name ++ (codes ":" ++ x))
-      → SpellsAsk text (Joint name (number x))
-  kappa : (name x : Text) → IsTrue (is_word name) → IsTrue (is_amount x)
-      → text ≡ codes "kappa:" ++ (name ++ (codes ":" ++ x))
-      → SpellsAsk text (Kappa name (number x))
-  cotail : (name p : Text) → IsTrue (is_word name) → IsTrue (is_probability 4 p)
-      → text ≡ codes "cotail:" ++ (name ++ (codes ":" ++ p))
-      → SpellsAsk text (Cotail name (numeral_value p))
+  by_row : (head rest : Text) (ask : Ask) → text ≡ head ++ colon ∷ rest → SpelledBy rows head rest ask
+      → SpellsAsk text ask
+
+-- what the text asks, where it is spelled as an ask
+unfoldable pub ask_of : Text → Option Ask
+ask_of text = if bytes_eq text (codes "mean") then Some Mean
+    else option_and_then (λ cut. read_by rows cut.0 cut.1) (cut_at colon text)

@@ -4,19 +4,22 @@ use Rattle.std.specs.List.{list_all}
 use Rattle.dl_limits.specs.Limits.{most_asks}
 use Rattle.dl_plan.specs.declared.settings.Asked.{Asked}
 use Rattle.dl_plan.specs.declared.settings.Form.{Form}
-use Rattle.dl_plan.specs.declared.settings.Form.TheVariants.{Run, Fmt}
+use Rattle.dl_plan.specs.declared.settings.Form.TheVariants.{Run, Fmt, Cert, Verify}
 use Rattle.dl_plan.specs.declared.settings.Settings.{Settings}
 use Rattle.dl_words.specs.declared.fault.UsageFault.{UsageFault}
 use Rattle.dl_words.specs.declared.fault.UsageFault.TheVariants.{Line, Ask}
 use Rattle.dl_words.specs.Asks.{asks_of}
-use Rattle.dl_words.specs.Options.{Values, are_taken, form_named, is_make_alone, settings_of}
+use Rattle.dl_words.specs.Options.{Values, are_taken, are_of_cert, are_of_verify, form_named, is_make_alone, settings_of}
 use Rattle.dl_words.specs.Parts.{Part, command_parts, positionals_of, option_values}
 use Rattle.dl_words.specs.Spelling.{Text, begins_plainly}
 
--- `run` has 1 to 256 asks; `fmt` has none, and no option but `--make`
+-- `run` has 1 to 256 asks, and the other forms have none; `fmt` has no option but `--make`, `cert`
+-- none but `--make`, `--bs` and `--log2`, and `verify` none but the last two of these
 abbrev pub admits : Form → Values → List Text → Bool
 admits Run values asks = nat_lt 0 (length asks) && nat_le (length asks) most_asks
 admits Fmt values asks = length asks == 0 && is_make_alone values
+admits Cert values asks = length asks == 0 && are_of_cert values
+admits Verify values asks = length asks == 0 && are_of_verify values
 
 -- the settings with these asks, or the index of the first that is none
 abbrev pub with_asks : Form → Values → Result (List Asked) ℕ → Result Settings UsageFault

@@ -2,7 +2,9 @@
 
 ghost use Rattle.std.specs.Prelude.{◌≡◌, ◌<◌, ◌≤◌, ◌^◌, ◌++◌, ◌∷◌, [], IfErr, IfOk, Ok, length, map, option_map};
 ghost use Rattle.dl_limits.specs.Limits.{most_asks};
-ghost use Rattle.dl_words.specs.Asks.{ask_between, ask_of, asks_of, cut_at, behind_s, layer_between, layer_of, limit_written, price_of, term_between, term_written, terms_written, unit_level, unit_parts};
+ghost use Rattle.dl_words.specs.Asks.{asks_of};
+ghost use Rattle.dl_words.specs.Table.{ask_of, layer, letter_s, limit, plus, read_by, rows, term, terms, unit_amount, unit_level};
+ghost use Rattle.dl_words.specs.Ways.{behind_sign, cut_at, joined};
 ghost use Rattle.dl_words.specs.Faults.{ExplainsAsks};
 ghost use Rattle.dl_plan.specs.Terms.{most_terms};
 ghost use Rattle.dl_words.specs.declared.fault.UsageFault.TheVariants as faults;
@@ -53,7 +55,7 @@ fn read_asked(alloc: Global, text: &str) -> Result<Option<Asked>, AllocError>
 }
 
 /// What the text asks, where it is spelled as an ask.
-#[tactic(auto, unfolding(crate::specs::Asks::ask_of))]
+#[tactic(auto, unfolding(crate::specs::Table::ask_of))]
 fn read_ask(alloc: Global, text: &str) -> Result<Option<Ask>, AllocError>
     ensures { IfOk result (λ ask. ask ≡ ask_of text.now) }
 {
@@ -68,15 +70,15 @@ fn read_ask(alloc: Global, text: &str) -> Result<Option<Ask>, AllocError>
 
 /// The ask of what stands in front of the first colon and what stands behind it.
 fn ask_between(alloc: Global, head: &str, rest: &str) -> Result<Option<Ask>, AllocError>
-    ensures { IfOk result (λ ask. ask ≡ ask_between head.now rest.now) }
+    ensures { IfOk result (λ ask. ask ≡ read_by rows head.now rest.now) }
 {
     match head {
         "pmf" => Ok(amount(rest).map(Ask::Pmf)),
         "cdf" => Ok(amount(rest).map(Ask::Cdf)),
         "q" => Ok(probability(rest, 9).map(Ask::Quantile)),
         "tail" => Ok(probability(rest, 9).map(Ask::Tail)),
-        "price" => price(alloc, rest),
-        "layer" => Ok(layer(rest)),
+        "price" => Ok(price(alloc, rest)?.map(|terms| Ask::Price(Items::from_vec(terms)))),
+        "layer" => Ok(layer(rest).map(|(limit, attach)| Ask::LayerMean { limit, attach })),
         "joint" => Ok(unit_at(alloc, rest)?.map(|(unit, at)| Ask::Joint { unit, at })),
         "kappa" => Ok(unit_at(alloc, rest)?.map(|(unit, at)| Ask::Kappa { unit, at })),
         "cotail" => Ok(unit_level(alloc, rest)?.map(|(unit, p)| Ask::Cotail { unit, p })),
@@ -85,14 +87,14 @@ fn ask_between(alloc: Global, head: &str, rest: &str) -> Result<Option<Ask>, All
 }
 
 /// Terms of a price, joined by `+`: 1 to 8 of them, whose weights sum to 1.
-fn price(alloc: Global, text: &str) -> Result<Option<Ask>, AllocError>
-    ensures { IfOk result (λ ask. ask ≡ price_of text.now) }
+fn price(alloc: Global, text: &str) -> Result<Option<Vec<Term>>, AllocError>
+    ensures { IfOk result (λ all. option_map (λ t. t.items) all ≡ terms.read text.now) }
 {
     let Some(terms) = read_terms(alloc, text)? else {
         return Ok(None);
     };
     if are_priced(alloc, terms.as_slice())? {
-        return Ok(Some(Ask::Price(Items::from_vec(terms))));
+        return Ok(Some(terms));
     }
     Ok(None)
 }
@@ -100,7 +102,7 @@ fn price(alloc: Global, text: &str) -> Result<Option<Ask>, AllocError>
 /// Terms joined by `+`, at most 8 of them.
 fn read_terms(alloc: Global, text: &str) -> Result<Option<Vec<Term>>, AllocError>
     ensures { IfOk result (λ terms.
-        option_map (λ t. t.items) terms ≡ terms_written most_terms text.now) }
+        option_map (λ t. t.items) terms ≡ joined plus term.read most_terms text.now) }
 {
     let mut terms = Vec::new(alloc);
     let mut rest = text;
@@ -120,7 +122,7 @@ fn read_terms(alloc: Global, text: &str) -> Result<Option<Vec<Term>>, AllocError
 /// The terms, and one more.
 fn with_last(terms: Vec<Term>, text: &str) -> Result<Option<Vec<Term>>, AllocError>
     ensures { IfOk result (λ all. option_map (λ t. t.items) all
-        ≡ option_map (λ term. terms.items ++ term ∷ []) (term_written text.now)) }
+        ≡ option_map (λ t. terms.items ++ t ∷ []) (term.read text.now)) }
 {
     let mut terms = terms;
     let Some(term) = read_term(text) else {
@@ -132,49 +134,34 @@ fn with_last(terms: Vec<Term>, text: &str) -> Result<Option<Vec<Term>>, AllocErr
 
 /// `W@P`.
 fn read_term(text: &str) -> Option<Term>
-    ensures { result ≡ term_written text.now }
+    ensures { result ≡ term.read text.now }
 {
-    let (weight, p) = cut(text, '@')?;
-    term_between(weight, p)
-}
-
-/// `W`, and `P`.
-fn term_between(text: &str, p: &str) -> Option<Term>
-    ensures { result ≡ term_between text.now p.now }
-{
-    let weight = weight(text)?;
+    let (front, p) = cut(text, '@')?;
+    let weight = weight(front)?;
     let p = probability(p, 9)?;
     Some(Term { weight, p })
 }
 
 /// `LxsA`.
-fn layer(text: &str) -> Option<Ask>
-    ensures { result ≡ layer_of text.now }
+fn layer(text: &str) -> Option<(Option<u32>, u32)>
+    ensures { result ≡ layer.read text.now }
 {
-    let (limit, rest) = cut(text, 'x')?;
-    layer_between(limit, rest)
-}
-
-/// `L`, and `sA`.
-fn layer_between(limit: &str, rest: &str) -> Option<Ask>
-    ensures { result ≡ layer_between limit.now rest.now }
-{
-    let attach = behind_s(rest)?;
-    let limit = read_limit(limit)?;
-    let attach = amount(attach)?;
-    Some(Ask::LayerMean { limit, attach })
+    let (front, rest) = cut(text, 'x')?;
+    let limit = read_limit(front)?;
+    let attach = amount(behind_s(rest)?)?;
+    Some((limit, attach))
 }
 
 /// What stands behind an `s` that begins the text.
 fn behind_s(text: &str) -> Option<&str>
-    ensures { option_map (λ rest. rest.now) result ≡ behind_s text.now }
+    ensures { option_map (λ rest. rest.now) result ≡ behind_sign letter_s text.now }
 {
     text.strip_prefix('s')
 }
 
 /// `L` with its amount, or `inf`.
 fn read_limit(text: &str) -> Option<Option<u32>>
-    ensures { result ≡ limit_written text.now }
+    ensures { result ≡ limit.read text.now }
 {
     if text == "inf" {
         return Some(None);
@@ -187,7 +174,7 @@ fn read_limit(text: &str) -> Option<Option<u32>>
 
 /// `NAME:x`.
 fn unit_at(alloc: Global, text: &str) -> Result<Option<(Text, u32)>, AllocError>
-    ensures { IfOk result (λ parts. parts ≡ unit_parts text.now) }
+    ensures { IfOk result (λ parts. parts ≡ unit_amount.read text.now) }
 {
     let Some((name, rest)) = cut(text, ':') else {
         return Ok(None);
@@ -203,7 +190,7 @@ fn unit_at(alloc: Global, text: &str) -> Result<Option<(Text, u32)>, AllocError>
 
 /// `NAME:p`, with at most 4 digits.
 fn unit_level(alloc: Global, text: &str) -> Result<Option<(Text, Frac)>, AllocError>
-    ensures { IfOk result (λ parts. parts ≡ unit_level text.now) }
+    ensures { IfOk result (λ parts. parts ≡ unit_level.read text.now) }
 {
     let Some((name, rest)) = cut(text, ':') else {
         return Ok(None);

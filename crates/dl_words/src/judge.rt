@@ -12,7 +12,7 @@ ghost use Rattle.dl_words.specs.Words.{admits};
 
 use crate::asks::read_asks;
 use crate::fault::{UsageFault, WordsFault};
-use crate::options::{form_named, is_make_alone, settings_of};
+use crate::options::{are_of_cert, are_of_verify, form_named, is_make_alone, settings_of};
 use crate::spelling::begins_plainly;
 use clap::ArgMatches;
 use dl_limits::MOST_ASKS;
@@ -70,5 +70,7 @@ fn admits(form: Form, matches: &ArgMatches<'_>, texts: &[&str]) -> bool
     match form {
         Form::Run => !texts.is_empty() && texts.len() <= MOST_ASKS,
         Form::Fmt => texts.is_empty() && is_make_alone(matches),
+        Form::Cert => texts.is_empty() && are_of_cert(matches),
+        Form::Verify => texts.is_empty() && are_of_verify(matches),
     }
 }

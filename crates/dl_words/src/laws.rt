@@ -5,11 +5,10 @@ ghost use Rattle.std.specs.Prelude.{◌≡◌, ◌↔◌, ℕ, List, Some, IsTru
 ghost use Rattle.dl_lexer.specs.Numerals as token;
 ghost use Rattle.dl_lexer.specs.Tokens.{IsWord};
 ghost use Rattle.dl_plan.specs.declared.settings.Ask.{Ask};
-ghost use Rattle.dl_words.specs.Asks.{ask_of};
 ghost use Rattle.dl_words.specs.AsWritten.{AreParts};
 ghost use Rattle.dl_words.specs.Parts.{Part, command_parts};
 ghost use Rattle.dl_words.specs.Spelling.{is_numeral, is_word};
-ghost use Rattle.dl_words.specs.Table.{SpellsAsk};
+ghost use Rattle.dl_words.specs.Table.{SpellsAsk, ask_of};
 
 /// What is read as an ask is exactly what the table of the asks has; so no text is two asks.
 pub fn law_asks()

@@ -6,7 +6,7 @@ ghost use Rattle.dl_exact.specs.Fraction.{whole};
 ghost use Rattle.dl_frac.specs.Numerals.{numeral_value};
 ghost use Rattle.dl_plan.specs.declared.settings.Format.TheVariants.{Plain};
 ghost use Rattle.dl_words.specs.Found.{TakesOption, values_in};
-ghost use Rattle.dl_words.specs.Options.{are_taken, form_named, format_named, format_of, is_format, is_make_alone, no_seed, seed_of, settings_of};
+ghost use Rattle.dl_words.specs.Options.{are_of_cert, are_of_verify, are_taken, form_named, format_named, format_of, is_format, is_make_alone, is_report_plain, no_seed, seed_of, settings_of};
 ghost use Rattle.dl_words.specs.Spelling.{is_bucket, is_number_within, number};
 
 use crate::spelling::{bucket, whole};
@@ -15,6 +15,9 @@ use dl_frac::Frac;
 use dl_limits::{MOST_DIGITS, MOST_LOG2};
 use dl_plan::{Form, Format, Items, Settings};
 use std::alloc::Global;
+
+/// A plan that has a certificate has 2 to at most this power cells.
+const MOST_CERT_LOG2: u64 = 10;
 
 /// The settings of a form with no asks yet, where each option takes its value.
 pub(crate) fn settings_of(alloc: Global, form: Form, matches: &ArgMatches<'_>) -> Option<Settings>
@@ -107,6 +110,8 @@ pub(crate) fn form_named(text: &str) -> Option<Form>
     match text {
         "run" => Some(Form::Run),
         "fmt" => Some(Form::Fmt),
+        "cert" => Some(Form::Cert),
+        "verify" => Some(Form::Verify),
         _ => None,
     }
 }
@@ -115,12 +120,32 @@ pub(crate) fn form_named(text: &str) -> Option<Form>
 pub(crate) fn is_make_alone(matches: &ArgMatches<'_>) -> bool
     ensures { result ≡ is_make_alone (values_in (found_of matches.now)) }
 {
-    is_absent(matches, "bs")
-        && is_absent(matches, "log2")
-        && is_absent(matches, "digits")
+    is_absent(matches, "bs") && is_absent(matches, "log2") && is_report_plain(matches)
+}
+
+/// Whether no option of a report is given.
+fn is_report_plain(matches: &ArgMatches<'_>) -> bool
+    ensures { result ≡ is_report_plain (values_in (found_of matches.now)) }
+{
+    is_absent(matches, "digits")
         && is_absent(matches, "width")
         && is_absent(matches, "mwidth")
         && is_absent(matches, "format")
+}
+
+/// Whether no option is given but `--make`, `--bs` and `--log2`, and a plan with so many cells can
+/// have a certificate.
+pub(crate) fn are_of_cert(matches: &ArgMatches<'_>) -> bool
+    ensures { result ≡ are_of_cert (values_in (found_of matches.now)) }
+{
+    number_of(matches, "log2", MOST_CERT_LOG2, MOST_CERT_LOG2).is_some() && is_report_plain(matches)
+}
+
+/// The same, and no `--make`.
+pub(crate) fn are_of_verify(matches: &ArgMatches<'_>) -> bool
+    ensures { result ≡ are_of_verify (values_in (found_of matches.now)) }
+{
+    is_absent(matches, "make") && are_of_cert(matches)
 }
 
 /// Whether an option is missing in the words.

@@ -1,18 +1,24 @@
 //! What the words' definitions say of the settings. Nothing here runs: each law is the contract of
 //! a function with an empty body.
 
-ghost use Rattle.std.specs.Prelude.{◌≡◌, List, ℕ, All, IsUtf8, Ok};
+ghost use Rattle.std.specs.Prelude.{◌≡◌, ◌≤◌, List, ℕ, All, IsUtf8, Ok};
 ghost use Rattle.dl_plan.specs.declared.settings.Settings.{Settings};
 ghost use Rattle.dl_plan.specs.Ranges.{AreInRange};
+ghost use Rattle.dl_plan.specs.Forms.{IsOfCert};
 ghost use Rattle.dl_plan.specs.Plain.{IsPlainByte};
 ghost use Rattle.dl_words.specs.Words.{words_of};
+ghost use Rattle.dl_words.specs.Options.{most_cert_log2};
 
-/// What good words say lies in its ranges, and each ask is text where each word is.
+/// What good words say lies in its ranges, each ask is text where each word is, and a plan that is to
+/// have a certificate has few cells.
 pub fn law_ranges()
     ensures ranges { (words : List (List ℕ)) (settings : Settings)
         → words_of words ≡ Ok settings → AreInRange settings }
     ensures texts { (words : List (List ℕ)) (settings : Settings) → All IsUtf8 words
         → words_of words ≡ Ok settings → All (λ asked. IsUtf8 asked.text) settings.asks }
+    ensures cells { (words : List (List ℕ)) (settings : Settings)
+        → words_of words ≡ Ok settings → IsOfCert settings.form
+        → settings.log2 ≤ most_cert_log2 }
 {}
 
 /// Each ask of good words is written with plain bytes alone, whatever bytes the words have. So a

@@ -6,7 +6,7 @@ ghost use Rattle.std.specs.List.{list_all};
 ghost use Rattle.dl_frac.specs.Numerals.{is_bad, numeral_value};
 ghost use Rattle.dl_lexer.specs.Bytes.{is_word_byte};
 ghost use Rattle.dl_lexer.specs.Tokens.{begins_with_letter};
-ghost use Rattle.dl_words.specs.Asks.{amount_written, probability_written, weight_written};
+ghost use Rattle.dl_words.specs.Table.{amount, probability, weight};
 ghost use Rattle.dl_words.specs.Spelling.{begins_plainly, is_bucket, is_number_of, is_numeral, is_number_within, is_word, number};
 
 use dl_frac::{Frac, is_numeral, numeral};
@@ -47,7 +47,7 @@ pub(crate) fn whole(text: &str, low: u64, high: u64) -> Option<u64>
 
 /// The number that 1 to 9 digits write.
 pub(crate) fn amount(text: &str) -> Option<u32>
-    ensures { result ≡ amount_written text.now }
+    ensures { result ≡ amount.read text.now }
 {
     match number(text, 9) {
         Some(value) => Some(value as u32),
@@ -81,7 +81,7 @@ pub(crate) fn bucket(text: &str) -> Option<Frac>
 /// The value of a numeral below 1 that is not bad with a limit of `digits` digits, at most 9.
 pub(crate) fn probability(text: &str, digits: u32) -> Option<Frac>
     requires { digits ≤ 9 }
-    ensures { result ≡ probability_written digits text.now }
+    ensures { result ≡ (probability digits).read text.now }
 {
     let value = fraction(text, digits)?;
     (value.num() < value.den()).then_some(value)
@@ -89,7 +89,7 @@ pub(crate) fn probability(text: &str, digits: u32) -> Option<Frac>
 
 /// The value of a weight: a numeral that is not bad with 9 digits.
 pub(crate) fn weight(text: &str) -> Option<Frac>
-    ensures { result ≡ weight_written text.now }
+    ensures { result ≡ weight.read text.now }
 {
     fraction(text, 9)
 }

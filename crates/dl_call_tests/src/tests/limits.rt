@@ -227,3 +227,21 @@ fn as_many_asks_as_may_be(rt: HostRuntime) -> Result<(), Fail> {
     assert!(rt; asked_often(alloc, 257)?.is(Status::Usage, b"", b"decl: usage\n"));
     Ok(())
 }
+
+/// How a call ends that is to check a step behind a program with so many blanks, which has 27 bytes
+/// more and breaks a rule.
+fn checked_behind(alloc: Global, blanks: usize) -> Result<Ended, AllocError> {
+    let pieces = " ".repeat(alloc, blanks)?;
+    let text = format!(in alloc; "agg D dfreq [1] dsev [1/2]{pieces}\n---\none")?;
+    call(alloc, "verify --log2 1", text.as_bytes(), LARGE)
+}
+
+#[test]
+fn as_long_a_program_before_steps_as_may_be(rt: HostRuntime) -> Result<(), Fail> {
+    let alloc = rt.alloc();
+    let broken = b"decl: 1:23: unit 0: rule 7 OffGrid\n";
+    assert!(rt; checked_behind(alloc, 1_048_549)?.is(Status::Refused, b"", broken));
+    let long = b"decl: the input has more than 1048576 bytes\n";
+    assert!(rt; checked_behind(alloc, 1_048_550)?.is(Status::Refused, b"", long));
+    Ok(())
+}

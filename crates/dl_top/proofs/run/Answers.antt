@@ -2,8 +2,8 @@
 use Rattle.std.proofs.Common.{refl, inl, inr, sym, ◌∙◌, []}
 use Rattle.dl_top.specs.declared.status.Status.TheVariants.{Done}
 use Rattle.dl_top.specs.Answers.{Answers}
-use Rattle.dl_top.proofs.ReplyLaws.{told}
-use Rattle.dl_top.proofs.RunLaws.{IsTold, message, read_of_status, usage_of_status, part, ends_well, ends_formatted}
+use Rattle.dl_top.proofs.ReplyLaws.{told, accepted, has_form, certifiable, verifiable}
+use Rattle.dl_top.proofs.RunLaws.{IsTold, message, read_of_status, usage_of_status, part, ends_well}
 use Rattle.dl_top.proofs.run.Goals as goal
 
 pub returns-in-Ok-write_all-clause-answer : goal.returns-in-Ok-write_all-clause-answer
@@ -16,8 +16,8 @@ returns-in-Ok-write_all-clause-answer g c =
 pub returns-in-Ok-write_all-clause-complete : goal.returns-in-Ok-write_all-clause-complete
 returns-in-Ok-write_all-clause-complete g c =
     told _ {P = λ input. IsTold _ input c.in-Refusal.fault c.in-Refusal.text.items} c.in-Refusal.ensures.reply
-    (λ input is accepted.
-    ends_well _ input _ _ c.status.result is c.status.ensures accepted)
+    (λ input is accepts.
+    ends_well _ input _ _ c.status.result is c.status.ensures (accepted _ input accepts))
 
 pub returns-in-Ok-write_all-clause-usage : goal.returns-in-Ok-write_all-clause-usage
 returns-in-Ok-write_all-clause-usage g c e = c.in-Refusal.ensures.usage
@@ -53,7 +53,19 @@ pub returns-in-Ok-write_all-clause-formatted : goal.returns-in-Ok-write_all-clau
 returns-in-Ok-write_all-clause-formatted g c =
     told _ {P = λ input. IsTold _ input c.in-Refusal.fault c.in-Refusal.text.items} c.in-Refusal.ensures.reply
     (λ input is form.
-    ends_formatted _ input _ _ c.status.result is c.status.ensures form)
+    ends_well _ input _ _ c.status.result is c.status.ensures (has_form _ input form))
+
+pub returns-in-Ok-write_all-clause-certified : goal.returns-in-Ok-write_all-clause-certified
+returns-in-Ok-write_all-clause-certified g c =
+    told _ {P = λ input. IsTold _ input c.in-Refusal.fault c.in-Refusal.text.items} c.in-Refusal.ensures.reply
+    (λ input is can.
+    ends_well _ input _ _ c.status.result is c.status.ensures (certifiable _ input can))
+
+pub returns-in-Ok-write_all-clause-verified : goal.returns-in-Ok-write_all-clause-verified
+returns-in-Ok-write_all-clause-verified g c =
+    told _ {P = λ input. IsTold _ input c.in-Refusal.fault c.in-Refusal.text.items} c.in-Refusal.ensures.reply
+    (λ input is can.
+    ends_well _ input _ _ c.status.result is c.status.ensures (verifiable _ input can))
 
 pub returns-in-Ok-write_all-clause-unread : goal.returns-in-Ok-write_all-clause-unread
 returns-in-Ok-write_all-clause-unread g c (fault, e) =

@@ -1,23 +1,16 @@
 -- The reply to good words is that to the text they are about, and other words are refused.
 use Rattle.std.proofs.Common.{refl, map, string_bytes, ℕ, List}
-use Rattle.dl_words.proofs.RangeLaws.{words_in_range, words_are_text}
 use Rattle.dl_top.specs.Inputs.{Say}
 use Rattle.dl_top.specs.Answers.{usage}
 use Rattle.dl_top.specs.Replies.{IsReply}
-use Rattle.dl_top.proofs.ReplyLaws.{refused, always, none_taken, text_was_read, told, words_text, made_input, read_input}
+use Rattle.dl_top.proofs.ReplyLaws.{refused, always, none_taken, text_was_read, told, are_ready, limit_said, made_input, read_input}
 use Rattle.dl_top.proofs.reply.reply_to.Goals as goal
 
-pub reply_to_made-requires-clause-ranges : goal.reply_to_made-requires-clause-ranges
-reply_to_made-requires-clause-ranges g c = words_in_range _ _ c.in-Ok.ensures.settings
+pub reply_to_made-requires : goal.reply_to_made-requires
+reply_to_made-requires g c = record { settings = are_ready c.args.words.now _ c.in-Ok.ensures.settings }
 
-pub reply_to_source-requires-clause-ranges : goal.reply_to_source-requires-clause-ranges
-reply_to_source-requires-clause-ranges g c = words_in_range _ _ c.in-Ok.ensures.settings
-
-pub reply_to_made-requires-clause-texts : goal.reply_to_made-requires-clause-texts
-reply_to_made-requires-clause-texts g c = words_are_text _ _ (words_text c.args.words.now) c.in-Ok.ensures.settings
-
-pub reply_to_source-requires-clause-texts : goal.reply_to_source-requires-clause-texts
-reply_to_source-requires-clause-texts g c = words_are_text _ _ (words_text c.args.words.now) c.in-Ok.ensures.settings
+pub reply_to_source-requires-clause-settings : goal.reply_to_source-requires-clause-settings
+reply_to_source-requires-clause-settings g c = are_ready c.args.words.now _ c.in-Ok.ensures.settings
 
 pub returns-in-Err-Usage-clause-reply : goal.returns-in-Err-Usage-clause-reply
 returns-in-Err-Usage-clause-reply g c = always _ {Q = λ input.
@@ -43,3 +36,9 @@ returns-in-Some-clause-made g c making = (refl, text_was_read _ c.reply_to_made.
 
 pub returns-in-Some-clause-taken : goal.returns-in-Some-clause-taken
 returns-in-Some-clause-taken g c = none_taken _ _
+
+pub returns-in-Ok-clause-taken : goal.returns-in-Ok-clause-taken
+returns-in-Ok-clause-taken g c = rw (limit_said _ _ c.in-Ok.ensures.settings) c.reply_to_source.ensures.taken
+
+pub returns-in-Ok-clause-reading : goal.returns-in-Ok-clause-reading
+returns-in-Ok-clause-reading g c = rw (limit_said _ _ c.in-Ok.ensures.settings) c.reply_to_source.ensures.reading

@@ -1,7 +1,6 @@
 -- The reply to what the source has left.
-use Rattle.std.proofs.Common.{◌≡◌, ◌+◌, ◌≤◌, refl, arith, length, ℕ, List}
-use Rattle.dl_limits.specs.Limits.{most_text}
-use Rattle.dl_top.specs.Inputs.{Say}
+use Rattle.std.proofs.Common.{◌≡◌, ◌+◌, ◌≤◌, refl, inl, arith, length, ℕ, List}
+use Rattle.dl_top.specs.Inputs.{Say, limit_of}
 use Rattle.dl_top.specs.Answers.{not_read, too_long}
 use Rattle.dl_top.specs.Replies.{IsReply}
 use Rattle.dl_top.proofs.ReplyLaws.{refused, told, taken, always}
@@ -20,7 +19,8 @@ returns-in-Err-Fault-clause-reply g c = always _
 
 pub returns-in-Err-TooLong-clause-reply : goal.returns-in-Err-TooLong-clause-reply
 returns-in-Err-TooLong-clause-reply g c =
-    told _ {P = λ left. most_text + 1 ≤ length left} (taken _ _ _ (c.read_all.ensures.too_long cc))
+    let limit : c.limit_of.result ≡ limit_of c.args.settings.now.form = c.limit_of.ensures.limit in
+    told _ {P = λ left. c.limit_of.result + 1 ≤ length left} (taken _ _ _ (c.read_all.ensures.too_long cc))
     (λ input more words say.
     refused words input _ _ c.refusal-in-Err-TooLong.result _ c.refusal-in-Err-TooLong.ensures refl
-    (too_long _ say (omega (arith, more))))
+    (too_long _ say (inl (omega (arith, more, limit)))))

@@ -1,22 +1,22 @@
--- A text is refused where it is too long, and else at its first bad place.
-use Rattle.std.proofs.Common.{refl, arith}
-use Rattle.dl_lexer.specs.Cutting.{IsBad}
-use Rattle.dl_top.specs.Answers.{too_long, bad_byte}
+-- An input is refused where it, or its program, is too long.
+use Rattle.std.proofs.Common.{◌<◌, [], length, refl, inl, inr, arith, subst}
+use Rattle.dl_limits.specs.Limits.{most_text}
+use Rattle.dl_top.specs.declared.fault.Fault.TheVariants.{TooLong}
+use Rattle.dl_top.specs.Inputs.{limit_of}
+use Rattle.dl_top.specs.Answers.{too_long}
 use Rattle.dl_top.proofs.ReplyLaws.{refused}
 use Rattle.dl_top.proofs.reply.reply_to_text.Goals as goal
 
-pub refusal-requires-in-Err-BadByte-clause-place : goal.refusal-requires-in-Err-BadByte-clause-place
-refusal-requires-in-Err-BadByte-clause-place c =
-    let bad : IsBad c.args.input.now c.in-Err-BadByte.at = c.lex.ensures.bad_byte c.in-Err-BadByte.at cc in
-    omega (arith, bad.within)
+pub returns-then-input-limit_of-clause-reply : goal.returns-then-input-limit_of-clause-reply
+returns-then-input-limit_of-clause-reply c words say =
+    let long : limit_of c.args.settings.now.form < length c.args.input.now =
+    omega (arith, c.limit_of.ensures.limit, c.if-input-limit_of.true) in
+    refused words c.args.input.now [] [] c.refusal.result TooLong c.refusal.ensures refl
+    (too_long c.args.settings.now say (inl long))
 
-pub returns-then-input-gt-MOST_TEXT-clause-reply : goal.returns-then-input-gt-MOST_TEXT-clause-reply
-returns-then-input-gt-MOST_TEXT-clause-reply c words say =
-    refused words _ _ _ c.refusal.result _ c.refusal.ensures refl
-    (too_long _ say (omega (arith, c.if-input-gt-MOST_TEXT.true)))
-
-pub returns-in-Err-BadByte-clause-reply : goal.returns-in-Err-BadByte-clause-reply
-returns-in-Err-BadByte-clause-reply c words say =
-    let bad : IsBad c.args.input.now c.in-Err-BadByte.at = c.lex.ensures.bad_byte c.in-Err-BadByte.at cc in
-    refused words _ _ _ c.refusal-in-Err-BadByte.result _ c.refusal-in-Err-BadByte.ensures refl
-    (bad_byte _ say _ (omega (arith, c.if-input-gt-MOST_TEXT.false)) bad)
+pub returns-then-source-gt-MOST_TEXT-clause-reply : goal.returns-then-source-gt-MOST_TEXT-clause-reply
+returns-then-source-gt-MOST_TEXT-clause-reply c words say =
+    refused words c.args.input.now [] [] c.refusal-then-source-gt-MOST_TEXT.result TooLong
+    c.refusal-then-source-gt-MOST_TEXT.ensures refl
+    (too_long c.args.settings.now say (inr (subst (λ s. most_text < length s) c.parts_of.ensures.program
+    (omega (arith, c.if-source-gt-MOST_TEXT.true)))))

@@ -3,12 +3,13 @@ use Rattle.dl_words.proofs.Common.{◌≡◌, ◌++◌, option_map}
 use denote.Shadow.{shadow}
 use denote.Text.{Utf8}
 use Rattle.std.proofs.Common.{◌-◌}
-use Rattle.dl_words.specs.Asks.{terms_written}
+use Rattle.dl_words.specs.Table.{plus, term}
+use Rattle.dl_words.specs.Ways.{joined}
 use Rattle.dl_words.proofs.asks.read_terms.Given as goal
 
 abbrev pub invariant-loop-index : goal.invariant-loop-index
 invariant-loop-index l = record {
   text : shadow (Utf8 l.rest);
-  so_far : option_map (λ more. l.terms.items ++ more) (terms_written (8 - l.index) l.rest)
-      ≡ terms_written 8 l.text;
+  so_far : option_map (λ more. l.terms.items ++ more) (joined plus term.read (8 - l.index) l.rest)
+      ≡ joined plus term.read 8 l.text;
 }

@@ -1,0 +1,63 @@
+-- Settings of the same bucket and the same grid give a program the same plan and the same first fault.
+use Rattle.std.proofs.Common.{◌≡◌, ◌∙◌, ◌^◌, ℕ, List, refl, sym, ap, subst}
+use Rattle.std.specs.List.{AllZip}
+use Rattle.dl_exact.specs.Fraction.{Fraction}
+use Rattle.dl_iv.specs.declared.interval.Iv.{Iv}
+use Rattle.dl_ast.specs.declared.ast.Program.{Program}
+use Rattle.dl_plan.specs.declared.plan.Plan.{Plan}
+use Rattle.dl_plan.specs.declared.settings.Settings.{Settings}
+use Rattle.dl_plan.specs.Valid.{IsValid}
+use Rattle.dl_types.specs.Faults.{first_fault, first_fault_of, fault_with, fault_on_grid, fault_of_money, fault_of_port}
+use Rattle.dl_types.specs.Plans.{IsPlanOf, IsUnitOf}
+use Rattle.dl_types.proofs.OnePlan.{one_plan}
+use Rattle.dl_cert.specs.Covered.{IsCovered}
+use Rattle.dl_cert.specs.Verified.{IsVerified}
+use Rattle.dl_top.specs.Inputs.{steps_of}
+use Rattle.dl_top.specs.Answers.{IsVerifiable}
+use Rattle.dl_top.specs.Repeated.{IsHandedOn}
+
+-- settings with another bucket and another grid
+abbrev on_grid : Settings → Fraction → ℕ → Settings
+on_grid settings bs log2 = record settings { bs = bs; log2 = log2 }
+
+-- a first fault hangs on these alone
+on_its_grid : (p : Program) (a b : Settings) → first_fault p a ≡ first_fault p (on_grid b a.bs a.log2)
+unfolding first_fault first_fault_of fault_with fault_on_grid fault_of_money fault_of_port
+on_its_grid p a b = refl
+
+same_fault : (p : Program) (a b : Settings) → b.bs ≡ a.bs → b.log2 ≡ a.log2 → first_fault p a ≡ first_fault p b
+same_fault p a b bucket cells =
+    on_its_grid p a b
+    ∙ ap (λ bs. first_fault p (on_grid b bs a.log2)) (sym bucket)
+    ∙ ap (λ n. first_fault p (on_grid b b.bs n)) (sym cells)
+
+-- and so does a plan
+same_planned : (p : Program) (a b : Settings) (plan : Plan) → b.bs ≡ a.bs → b.log2 ≡ a.log2 → IsPlanOf p b plan
+    → IsPlanOf p a plan
+same_planned p a b plan bucket cells planned = record {
+  bucket = planned.bucket ∙ bucket;
+  cells = planned.cells ∙ ap (λ n. 2 ^ n) cells;
+  units = subst (λ bs. AllZip (IsUnitOf bs p.sevs) p.units plan.units) bucket planned.units;
+  common = planned.common;
+}
+
+-- what `cert` writes is what `verify` wants
+pub handed_on : (words : List (List ℕ)) (input text : List ℕ) (words' : List (List ℕ)) (input' : List ℕ)
+    → IsHandedOn words input text words' input' → IsVerifiable words' input'
+handed_on words input text words' input' h = record {
+  settings = h.reader;
+  verify = h.verifies;
+  program = h.means.program;
+  spells = h.program;
+  faultless = sym (same_fault h.means.program h.writer h.reader h.bucket h.cells) ∙ h.means.faultless;
+  covered = λ plan planned valid. subst IsCovered (same plan planned) h.written.covered;
+  steps = λ plan planned valid. (
+    h.written.grid,
+    subst (λ steps. IsVerified plan steps h.written.grid) (sym h.steps)
+        (subst (λ q. IsVerified q text h.written.grid) (same plan planned) (h.written.covered, h.written.verifies)),
+  );
+}
+  where
+    same : (plan : Plan) → IsPlanOf h.means.program h.reader plan → h.plan ≡ plan
+    same plan planned = one_plan h.means.program h.writer h.plan plan h.means.planned
+        (same_planned h.means.program h.writer h.reader plan h.bucket h.cells planned)

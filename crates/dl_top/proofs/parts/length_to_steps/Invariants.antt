@@ -1,0 +1,7 @@
+-- The bytes before a place, and those from it on.
+use Rattle.std.proofs.Common.{◌≡◌, ◌+◌, true, drop}
+use Rattle.dl_top.specs.Inputs.{length_to_steps}
+use Rattle.dl_top.proofs.parts.length_to_steps.Given as goal
+
+abbrev pub invariant-loop-at : goal.invariant-loop-at
+invariant-loop-at l = length_to_steps true l.text ≡ l.at + length_to_steps l.begins (drop l.at l.text)
