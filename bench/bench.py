@@ -63,12 +63,14 @@ class Case:
     text: str = ""
     log2: int = 12
     status: int = 0
+    common: str = ""
 
     def source(self):
         """The text that decl reads."""
         if self.text:
             return self.text
-        head = "port P\n" if len(self.units) > 1 else ""
+        factor = f" common {self.common}" if self.common else ""
+        head = f"port P{factor}\n" if len(self.units) > 1 else ""
         return head + "".join(f"agg {unit.name} {unit.text}\n" for unit in self.units)
 
     def command(self):
@@ -82,7 +84,7 @@ class Case:
     def told(self):
         """What the peers read."""
         names = [unit.name for unit in self.units]
-        lines = [f"cells {2**self.log2}"]
+        lines = [f"cells {2**self.log2}", *([f"common {self.common}"] if self.common else [])]
         for unit in self.units:
             lines += unit.told()
         return "\n".join([*lines, *(ask_line(ask, names) for ask in self.asks())]) + "\n"
@@ -185,6 +187,24 @@ def changed_cases():
     yield Case("1,000 claims `poisson zm 0.2`, 65,536 cells", many, words, log2=16)
 
 
+def common_cases():
+    """The programs with a common factor."""
+    four = [Unit(f"F{n}", "100 claims dsev [1:10] poisson", "poisson 100", even(1, 10)) for n in range(4)]
+    large = [Unit(f"L{n}", "800 claims dsev [1:10] poisson", "poisson 800", even(1, 10)) for n in range(4)]
+    sixteen = [Unit(f"U{n}", f"{15 + n} claims dsev [1:{5 + n % 6}] poisson", f"poisson {15 + n}", even(1, 5 + n % 6)) for n in range(16)]
+    wide = ["--digits", "3", "--mwidth", "100000000000"]
+    port = "16 units `[1:5]` to `[1:10]` under a common factor"
+    yield Case(f"{port}, 4,096 cells", sixteen, ["mean", "cdf:1600", "q:0.9"], common="0.5")
+    yield Case(f"{port}, `kappa` of each, 4,096 cells", sixteen, [*wide, "cdf:1600", *kappas(sixteen, 1600)], common="0.5")
+    yield Case(f"{port}, 65,536 cells", sixteen, ["--digits", "4", "mean", "cdf:1600", "q:0.9"], log2=16, common="0.5")
+    yield Case(f"{port}, `kappa` of each, 65,536 cells", sixteen, [*wide, "cdf:1600", *kappas(sixteen, 1600)], log2=16, common="0.5")
+    name = "4 units under a common factor"
+    yield Case(f"{name}, 4,096 cells", four, ["mean", "cdf:2200", "q:0.9"], common="0.5")
+    yield Case(f"{name}, `kappa` of each, 4,096 cells", four, [*wide, "cdf:2200", *kappas(four, 2200)], common="0.5")
+    yield Case(f"{name}, 65,536 cells", large, ["--digits", "4", "mean", "cdf:17600", "q:0.99"], log2=16, common="0.5")
+    yield Case(f"{name}, `kappa` of each, 65,536 cells", large, [*wide, "cdf:17600", *kappas(large, 17600)], log2=16, common="0.5")
+
+
 def tail_cases():
     """256 prices, and 256 shares in the tail mean, on longer grids."""
     wide = ["--digits", "3", "--mwidth", "1000000000"]
@@ -274,6 +294,7 @@ def parts(decl):
     yield "Short grids", short_cases(decl, equal, power)
     yield "Grids of 65,536 cells", long_cases(equal, power)
     yield "Counts with a changed probability of no claim", changed_cases()
+    yield "A common factor", common_cases()
     yield "256 asks of one kind", ask_cases()
     yield "Texts that are refused", refused_cases()
 

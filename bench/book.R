@@ -102,8 +102,27 @@ answer <- function(book, ask) {
         cotail = share(book, number[1] + 1, number[2]),
         joint = ,
         kappa = {
-            joint <- weighed(book$cells[[number[1] + 1]], book$others(number[1] + 1)$cell, number[2])
+            joint <- book$joint(number[1] + 1, number[2])
             if (ask[1] == "joint") joint else joint / total[number[2] + 1]
+        })
+}
+
+# A book of Poisson units under a common factor: its total is that of one gamma unit with the claims of all, and a joint mean comes from
+# such a unit with one more in the shape.
+shared <- function(common, claims, severities, cells) {
+    shape <- common^-2
+    whole <- sum(claims)
+    long <- function(claim) c(claim, numeric(max(lengths(severities)) - length(claim)))
+    claim <- Reduce(`+`, Map(function(n, each) n / whole * long(each), claims, severities))
+    pooled <- function(more) claims_cells(c("gamma", whole * (1 + more / shape), shape + more), claim, NULL, cells)
+    total <- pooled(0)
+    raised <- NULL
+    list(
+        mean = sum(claims * sapply(severities, function(each) sum((seq_along(each) - 1) * each))), total = total, sums = sums_of(total),
+        joint = function(i, x) {
+            if (is.null(raised)) raised <<- pooled(1)
+            amounts <- 0:min(x, length(severities[[i]]) - 1)
+            claims[i] * sum(amounts * severities[[i]][amounts + 1] * raised[x - amounts + 1])
         })
 }
 
@@ -114,6 +133,12 @@ main <- function() {
     kinds <- sapply(words, `[`, 1)
     cells <- as.integer(words[[which(kinds == "cells")]][2])
     starts <- which(kinds == "unit")
+    asked <- function(book) for (ask in words[kinds == "ask"]) cat(sprintf("%.12g\n", answer(book, ask[-1])))
+    if ("common" %in% kinds) {
+        claims <- sapply(words[starts], function(unit) as.numeric(unit[3]))
+        severities <- lapply(words[kinds == "severity"], function(pairs) severity_of(pairs[-1]))
+        return(asked(shared(as.numeric(words[[which(kinds == "common")]][2]), claims, severities, cells)))
+    }
     made <- lapply(starts, function(at) {
         parts <- words[at:length(words)]
         parts <- parts[seq_len(c(which(kinds[at:length(words)][-1] %in% c("unit", "ask")), length(parts))[1])]
@@ -145,7 +170,8 @@ main <- function() {
             }
             without[[i]]
         })
-    for (ask in words[kinds == "ask"]) cat(sprintf("%.12g\n", answer(book, ask[-1])))
+    book$joint <- function(i, x) weighed(book$cells[[i]], book$others(i)$cell, x)
+    asked(book)
 }
 
 tryCatch(main(), error = function(found) {

@@ -4,6 +4,7 @@
    Standard input has a line for each part, as bench/bench.py writes them:
 
      cells K                     the grid has the totals from 0 to K - 1
+     common C                    the units are Poisson, and share a gamma factor of mean 1 with this coefficient of variation
      unit poisson MEAN           a unit begins, by its claim count
      unit gamma MEAN SHAPE
      unit binomial TRIALS P
@@ -14,7 +15,8 @@
      ask pmf X | cdf X | mean | q P | layer L A | tail P                                     (L is -1 for no limit)
      ask joint UNIT X | kappa UNIT X | cotail UNIT P | price W P W P ..
 
-   Distribution functions are summed once; a quantile is looked up by halving. */
+   Distribution functions are summed once; a quantile is looked up by halving. Under a common factor the total is that of one gamma
+   unit with the claims of all, and a joint mean comes from such a unit with one more in the shape. */
 #include <math.h>
 #include <stdio.h>
 #include <stdlib.h>
@@ -51,6 +53,7 @@ struct sums {
 
 struct book {
     int cells, units, asks;
+    double common; /* the coefficient of variation of the factor, 0 without one */
     struct unit unit[MOST_UNITS];
     struct ask ask[MOST_ASKS];
 };
@@ -94,6 +97,8 @@ static void read_book(struct book *book) {
         struct unit *last = &book->unit[book->units - 1];
         if (strcmp(word, "cells") == 0) {
             book->cells = atoi(line + used);
+        } else if (strcmp(word, "common") == 0) {
+            book->common = atof(line + used);
         } else if (strcmp(word, "unit") == 0) {
             read_unit(&book->unit[book->units++], line + used);
         } else if (strcmp(word, "zero") == 0) {
@@ -155,12 +160,16 @@ static double count_mean(const struct unit *unit) {
     return base_mean(unit) * (unit->is_changed ? (1 - unit->zero) / (1 - none_of(unit)) : 1);
 }
 
-/* The unit's cells and mean, after its aggregate clause. */
-static void make_unit(struct unit *unit, int cells) {
+static double unit_mean(const struct unit *unit) {
     double claim = 0;
     for (int k = 0; k < unit->items; k++)
         claim += unit->amount[k] * unit->probability[k];
-    unit->mean = count_mean(unit) * claim;
+    return count_mean(unit) * claim;
+}
+
+/* The unit's cells and mean, after its aggregate clause. */
+static void make_unit(struct unit *unit, int cells) {
+    unit->mean = unit_mean(unit);
     unit->cell = claims_cells(unit, cells);
     if (unit->limit == 0)
         return;
@@ -170,6 +179,44 @@ static void make_unit(struct unit *unit, int cells) {
     for (int s = 0; s < cells; s++)
         kept[s - (int)fmin(fmax(s - unit->attachment, 0), unit->limit)] += unit->cell[s];
     unit->cell = kept;
+}
+
+/* The cells of one gamma unit with the claims of all units under their factor, with so much more in the shape, and the mean in
+   proportion. */
+static double *pooled(const struct book *book, double more) {
+    static struct unit all;
+    double shape = 1 / (book->common * book->common), claims = 0;
+    double *chance = calloc((size_t)book->cells, sizeof *chance);
+    for (int i = 0; i < book->units; i++)
+        claims += book->unit[i].parameter[0];
+    for (int i = 0; i < book->units; i++)
+        for (int k = 0; k < book->unit[i].items; k++)
+            if (book->unit[i].amount[k] < book->cells)
+                chance[book->unit[i].amount[k]] += book->unit[i].parameter[0] / claims * book->unit[i].probability[k];
+    all.items = 0;
+    for (int s = 0; s < book->cells; s++) {
+        if (chance[s] == 0)
+            continue;
+        if (all.items == MOST_ITEMS)
+            exit(1);
+        all.amount[all.items] = s, all.probability[all.items++] = chance[s];
+    }
+    strcpy(all.count, "gamma");
+    all.parameter[0] = claims * (1 + more / shape), all.parameter[1] = shape + more;
+    free(chance);
+    return claims_cells(&all, book->cells);
+}
+
+/* The mean of a unit's outcome where the total is x, under a common factor. */
+static double joint_under_factor(const struct book *book, const struct unit *unit, int x) {
+    static double *raised;
+    double sum = 0;
+    if (raised == NULL)
+        raised = pooled(book, 1);
+    for (int k = 0; k < unit->items; k++)
+        if (unit->amount[k] <= x)
+            sum += unit->amount[k] * unit->probability[k] * raised[x - unit->amount[k]];
+    return unit->parameter[0] * sum;
 }
 
 /* The sum of all units but one. */
@@ -253,7 +300,7 @@ static double answer(struct book *book, const struct sums *sums, const double *t
     int unit = (int)first, x = (int)second;
     if (strcmp(ask->kind, "cotail") == 0)
         return share(book, sums, total, unit, second);
-    sum = weighed(book->unit[unit].cell, without(book, unit)->cell, x);
+    sum = book->common > 0 ? joint_under_factor(book, &book->unit[unit], x) : weighed(book->unit[unit].cell, without(book, unit)->cell, x);
     return strcmp(ask->kind, "joint") == 0 ? sum : sum / total[x];
 }
 
@@ -262,11 +309,14 @@ int main(void) {
     double *part[MOST_UNITS], mean = 0;
     read_book(&book);
     for (int i = 0; i < book.units; i++) {
-        make_unit(&book.unit[i], book.cells);
+        if (book.common > 0)
+            book.unit[i].mean = unit_mean(&book.unit[i]);
+        else
+            make_unit(&book.unit[i], book.cells);
         part[i] = book.unit[i].cell;
         mean += book.unit[i].mean;
     }
-    double *total = sum_cells(part, book.units, book.cells);
+    double *total = book.common > 0 ? pooled(&book, 0) : sum_cells(part, book.units, book.cells);
     struct sums sums = sums_of(total, book.cells);
     for (int i = 0; i < book.asks; i++)
         printf("%.12g\n", answer(&book, &sums, total, mean, &book.ask[i]));

@@ -10,11 +10,14 @@ import numpy
 
 
 def read_book(lines):
-    """The number of cells, the units as (count, numbers, amounts, probabilities, layer, changed zero), and the asks."""
-    cells, units, asks = 0, [], []
+    """The number of cells, the coefficient of variation of a common factor or None, the units as (count, numbers, amounts,
+    probabilities, layer, changed zero), and the asks."""
+    cells, common, units, asks = 0, None, [], []
     for word, *rest in (line.split() for line in lines):
         if word == "cells":
             cells = int(rest[0])
+        elif word == "common":
+            common = float(rest[0])
         elif word == "unit":
             units.append([rest[0], [float(number) for number in rest[1:]], None, None, None, None])
         elif word == "zero":
@@ -27,7 +30,7 @@ def read_book(lines):
             units[-1][4] = (int(rest[0]), int(rest[1]))
         elif word == "ask":
             asks.append((rest[0], [float(number) for number in rest[1:]]))
-    return cells, units, asks
+    return cells, common, units, asks
 
 
 def generated(count, numbers, x):
@@ -117,6 +120,10 @@ class Book:
         """The sum of y times the unit's probability of y times `other` at x - y."""
         return float((numpy.arange(x + 1) * self.parts[unit][: x + 1]) @ other[x::-1][: x + 1]) if x >= 0 else 0.0
 
+    def joint(self, unit, x):
+        """The mean of a unit's outcome where the total is x."""
+        return self.weighed(unit, self.without(unit)[0], x)
+
     def share(self, unit, p):
         """The unit's share of the tail mean: its mean without its part below the quantile, and without that part of it at the quantile
         which is needed to reach p."""
@@ -144,14 +151,41 @@ class Book:
         if kind == "cotail":
             return self.share(int(numbers[0]), numbers[1])
         unit, x = int(numbers[0]), int(numbers[1])
-        joint = self.weighed(unit, self.without(unit)[0], x)
+        joint = self.joint(unit, x)
         return joint if kind == "joint" else joint / self.total[x]
+
+
+class Shared(Book):
+    """A book of Poisson units under a common factor: its total is that of one gamma unit with the claims of all, and a joint mean comes
+    from such a unit with one more in the shape."""
+
+    def __init__(self, units, common, cells):
+        self.units, self.shape, self.cells = units, common**-2, cells
+        self.claims = sum(numbers[0] for _, numbers, *_ in units)
+        self.mean = sum(numbers[0] * float(amounts @ chances) for _, numbers, amounts, chances, *_ in units)
+        self.total = self.pooled(0)
+        self.sums, self.raised = Sums(self.total), None
+
+    def pooled(self, more):
+        """The cells of the gamma unit with so much more in the shape, and the mean in proportion."""
+        amounts = numpy.concatenate([unit[2] for unit in self.units])
+        chances = numpy.concatenate([unit[1][0] / self.claims * unit[3] for unit in self.units])
+        numbers = [self.claims * (1 + more / self.shape), self.shape + more]
+        return made(("gamma", numbers, amounts, chances, None, None), self.cells)[0]
+
+    def joint(self, unit, x):
+        """The mean of a unit's outcome where the total is x."""
+        if self.raised is None:
+            self.raised = self.pooled(1)
+        _, numbers, amounts, chances, *_ = self.units[unit]
+        inside = amounts <= x
+        return numbers[0] * float((amounts * chances)[inside] @ self.raised[x - amounts[inside]])
 
 
 def main():
     """Answers what standard input asks."""
-    cells, units, asks = read_book(sys.stdin)
-    book = Book([made(unit, cells) for unit in units], cells)
+    cells, common, units, asks = read_book(sys.stdin)
+    book = Book([made(unit, cells) for unit in units], cells) if common is None else Shared(units, common, cells)
     with numpy.errstate(all="ignore"):
         for kind, numbers in asks:
             print(f"{book.answer(kind, numbers):.12g}")

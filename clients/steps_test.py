@@ -1,11 +1,12 @@
 #!/usr/bin/env python3
-"""Tests of the two checkers of certificates, clients/check_steps.py and clients/check_steps.c.
+"""Tests of the three checkers of certificates: clients/check_steps.py, clients/check_steps.c and `decl verify`.
 
 A maker of its own writes certificates: it takes each number from the table of docs/STEPS.md, in fractions and
-plain sums, and shares nothing with the checkers. Tables name good and bad steps with the answer, worked by
-hand; then both checkers have to name the same first bad step of 2,000 single changes of good certificates, and
-none before the change. Last comes the largest certificate; with --times it is told how long the two take. The
-last line is 'N passed, M failed, K skipped'."""
+plain sums, and shares nothing with the checkers. Tables name good and bad steps with the result, worked by
+hand; then all checkers have to name the same first bad step of 2,000 single changes of good certificates, and
+none before the change. What `decl cert` writes has, cell for cell, the numbers of that maker. Last comes the
+largest certificate; with --times also the seconds that the checkers take. The last line is
+'N passed, M failed, K skipped'."""
 
 import os
 import random
@@ -21,9 +22,11 @@ from pathlib import Path
 HERE = Path(__file__).resolve().parent
 sys.path.insert(0, str(HERE))
 import check_steps  # the checker in Python, which is tested here
+from calls import DECL
 
 S = 1 << 56
 CHANGES = 2000
+REFUSED_STATUS = 3  # of `decl`, for a refused text
 counts = {"passed": 0, "failed": 0, "skipped": 0}
 
 
@@ -170,9 +173,22 @@ def answer(bad):
     return ("verified", 0) if bad is None else (f"step {bad}: not verified", 1)
 
 
-def both(what, checker, program, units, steps, log2, bad, bucket="1"):
-    """Both checkers say that step `bad` is the first bad one, or that there is none."""
+def in_decl(program, steps, log2, bucket="1"):
+    """What `decl verify` says of a program and its steps, and 1 where it refuses them."""
+    said, status = ran([DECL, "verify", "--log2", str(log2), "--bs", bucket], f"{program}\n---\n{steps}")
+    return said.removeprefix("decl: "), {REFUSED_STATUS: 1}.get(status, status)
+
+
+def certified(program, log2, bucket="1"):
+    """The steps that `decl cert` writes for a program."""
+    words = [DECL, "cert", "--log2", str(log2), "--bs", bucket]
+    return subprocess.run(words, input=program.encode(), capture_output=True, check=True).stdout.decode()
+
+
+def all_say(what, checker, program, units, steps, log2, bad, bucket="1"):
+    """All checkers say that step `bad` is the first bad one, or that there is none."""
     test(f"{what}, in Python", in_python(program, steps, log2, bucket) == answer(bad))
+    test(f"{what}, decl verify", in_decl(program, steps, log2, bucket) == answer(bad))
     if checker:
         lines = "\n".join(plan_lines(units, log2))
         test(f"{what}, in C", ran([checker], f"{lines}\n---\n{steps}") == answer(bad))
@@ -285,8 +301,8 @@ REFUSED = [
 
 def tables(checker):
     one = [("fixed", [1], {1: 1})]
-    both("one claim of 1", checker, ONE_CLAIM, one, f"start 0 0,0 {S},{S}", 1, None)
-    both("one claim of 1, one unit less", checker, ONE_CLAIM, one, f"start 0 0,0 {S},{S - 1}", 1, 0)
+    all_say("one claim of 1", checker, ONE_CLAIM, one, f"start 0 0,0 {S},{S}", 1, None)
+    all_say("one claim of 1, one unit less", checker, ONE_CLAIM, one, f"start 0 0,0 {S},{S - 1}", 1, 0)
     rows = [
         (TRIAL, [("bernoulli", [Fraction(1, 2)], {1: 1})], 1, STEPS),
         (TWICE, [("fixed", [2], {1: 1})], 2, LABELS),
@@ -295,10 +311,14 @@ def tables(checker):
     ]
     for program, units, log2, cases in rows:
         for number, (steps, bad) in enumerate(cases):
-            both(f"{program}, steps {number}", checker, program, units, steps, log2, bad)
+            all_say(f"{program}, steps {number}", checker, program, units, steps, log2, bad)
     for program, want in REFUSED:
         said, status = in_python(program, "", 2)
         test(program, said.startswith(want) and status == 2)
+        if not want.startswith("not read"):
+            test(f"{program}, decl verify", in_decl(program, "", 2) == (want, 1))
+            said, status = ran([DECL, "cert", "--log2", "2"], program)
+            test(f"{program}, decl cert", (said, status) == (f"decl: {want}", REFUSED_STATUS))
     words = [sys.executable, str(HERE / "check_steps.py"), "--log2=1", "--bs", "1/2"]
     half = "agg F 1 claims dsev [0.5] fixed"
     test("words and statuses: verified", ran(words, f"{half}\n---\nstart 0 0,0 {S},{S}") == answer(None))
@@ -317,17 +337,20 @@ def plans(checker):
         status, said = check_steps.answer(program.encode(), Fraction(1), 4, plan_alone=True)
         test(f"the plan of {program}", (said.splitlines(), status) == (plan_lines(units, 4), 0))
         steps = certificate(units, 16)
-        both(program, checker, program, units, "\n".join(written(steps)), 4, None)
+        all_say(program, checker, program, units, "\n".join(written(steps)), 4, None)
+        made = certified(program, 4)
+        all_say(f"{program}, from decl cert", checker, program, units, made, 4, None)
+        test(f"{program}, the last step of decl cert", made.splitlines()[-1].split()[3:] == written(steps)[-1].split()[3:])
         for place, cell, by in [(0, 0, 1), (0, 15, 1), (len(steps) - 1, 0, 1), (len(steps) - 1, 15, 1)]:
             for end in (0, 1):
                 line, ends = steps[place]
                 low, high = ends[cell]
                 ends = ends[:cell] + [(low + by, high) if end == 0 else (low, high - by)] + ends[cell + 1 :]
                 text = "\n".join(written(steps[:place] + [(line, ends)] + steps[place + 1 :]))
-                both(f"{program}, step {place}, cell {cell}, end {end}", checker, program, units, text, 4, place)
+                all_say(f"{program}, step {place}, cell {cell}, end {end}", checker, program, units, text, 4, place)
     half = "agg H 3 claims dsev [0.5 1 1.5] poisson"
     units = [("poisson", [Fraction(3)], {1: 1, 2: 1, 3: 1})]
-    both("buckets of 1 / 2", checker, half, units, "\n".join(written(certificate(units, 8))), 3, None, "1/2")
+    all_say("buckets of 1 / 2", checker, half, units, "\n".join(written(certificate(units, 8))), 3, None, "1/2")
 
 
 # ---- single changes
@@ -353,27 +376,30 @@ def changed(lines, draw):
 
 
 def changes(checker):
-    """Single changes of good certificates: both checkers name one step, and none before the change."""
+    """Single changes of good certificates: all checkers name one step, and none before the change."""
     draw = random.Random(20)
     plans = []
     for program, units in PORTFOLIOS:
         if units:
-            plans.append((check_steps.plan_of(program, Fraction(1)), units, written(certificate(units, 16))))
-    agreed = early = bad = 0
+            plan = check_steps.plan_of(program, Fraction(1))
+            plans.append((program, plan, units, written(certificate(units, 16))))
+    agreed = early = bad = ours = 0
     for _ in range(CHANGES):
-        plan, units, steps = draw.choice(plans)
+        program, plan, units, steps = draw.choice(plans)
         lines, number = changed(steps, draw)
         text = "\n".join(lines)
         first = check_steps.first_bad(plan, 16, text.encode())
         bad += first is not None
         early += first is not None and first < number
+        ours += in_decl(program, text, 4) == answer(first)
         if checker:
             said = ran([checker], "\n".join(plan_lines(units, 4)) + f"\n---\n{text}")
             agreed += said == answer(first)
     test(f"{early} bad steps before the change", early == 0)
     test(f"{bad} of {CHANGES} changes are found", bad > CHANGES // 2)
+    test(f"decl verify agrees on {ours} of {CHANGES} changes", ours == CHANGES)
     if checker:
-        test(f"both agree on {agreed} of {CHANGES} changes", agreed == CHANGES)
+        test(f"C and Python agree on {agreed} of {CHANGES} changes", agreed == CHANGES)
 
 
 # ---- the largest
@@ -398,14 +424,22 @@ def largest(checker):
     program = "port P " + " ".join(
         f"agg U{number} 65535 claims dsev [0 1] [65535/65536 1/65536] fixed" for number in range(16)
     )
-    begun = time.process_time()
-    test("the largest, in Python", in_python(program, text, 10) == answer(None))
-    seconds = [time.process_time() - begun]
+    seconds = {}
+
+    def timed(name, run):
+        begun = resource.getrusage(resource.RUSAGE_CHILDREN).ru_utime + time.process_time()
+        result = run()
+        seconds[name] = resource.getrusage(resource.RUSAGE_CHILDREN).ru_utime + time.process_time() - begun
+        return result
+
+    test("the largest, in Python", timed("Python", lambda: in_python(program, text, 10)) == answer(None))
+    test("the largest, decl verify", timed("decl verify", lambda: in_decl(program, text, 10)) == answer(None))
+    made = timed("decl cert", lambda: certified(program, 10))
+    test("the largest of decl cert", in_decl(program, made, 10) == answer(None))
     if checker:
-        begun = resource.getrusage(resource.RUSAGE_CHILDREN).ru_utime
-        said = ran([checker], "\n".join(plan_lines(units, 10)) + f"\n---\n{text}")
-        seconds.append(resource.getrusage(resource.RUSAGE_CHILDREN).ru_utime - begun)
-        test("the largest, in C", said == answer(None))
+        plan = "\n".join(plan_lines(units, 10))
+        test("the largest, in C", timed("C", lambda: ran([checker], f"{plan}\n---\n{text}")) == answer(None))
+        test("the largest of decl cert, in C", ran([checker], f"{plan}\n---\n{made}") == answer(None))
     return len(lines), seconds
 
 
@@ -417,7 +451,8 @@ def main():
         changes(checker)
         steps, seconds = largest(checker)
         if "--times" in sys.argv:
-            print(f"{steps} steps of 1,024 cells, Python and C: " + ", ".join(f"{x:.2f} s" for x in seconds))
+            told = ", ".join(f"{name} {took:.2f} s" for name, took in seconds.items())
+            print(f"{steps} steps of 1,024 cells, seconds of one processor: {told}")
     print(f"{counts['passed']} passed, {counts['failed']} failed, {counts['skipped']} skipped")
     return counts["failed"] > 0
 

@@ -21,12 +21,14 @@ import tempfile
 
 ROOT = pathlib.Path(__file__).resolve().parent.parent
 PAGES = ["README.md", "docs/*.md", "examples/*.decl", "examples/*/*.decl"]
-#: The report whose numbers are written into a picture of the gallery, with the column and the size of its buckets there.
+#: The reports whose numbers are written into a picture of the gallery, with the column, the size of their buckets there, and how
+#: the asks of these numbers begin.
 DRAWN = {
-    "exceedance": ("exceedance-years.csv", 1, 0.01),
-    "layers": ("layers.csv", 2, 1),
-    "long": ("long-years.csv", 1, 0.00025),
-    "tails": ("tails.csv", 2, 1),
+    "common": [("common-years.csv", 2, 1, "tail"), ("common-years-alone.csv", 2, 1, "tail")],
+    "exceedance": [("exceedance-years.csv", 1, 0.01, "")],
+    "layers": [("layers.csv", 2, 1, "")],
+    "long": [("long-years.csv", 1, 0.00025, "")],
+    "tails": [("tails.csv", 2, 1, "")],
 }
 RULE = re.compile(r"\| \d+ [A-Za-z]+ \|.*\| `([^`]*)` \| `(decl: 1:\d+: [^`]*)` \|")
 
@@ -132,9 +134,10 @@ def check_pictures():
     for path in sorted(folder.glob("*.decl")):
         drawing = path.with_suffix(".svg").read_text(encoding="utf-8") if path.with_suffix(".svg").exists() else ""
         there = set(re.findall(r">\s*([^<>]*?)\s*</", drawing))
-        report, column, size = DRAWN.get(path.stem, (None, 0, 0))
-        rows = (folder / report).read_text(encoding="utf-8").splitlines()[1:] if report else []
-        missing = [row for row in rows if f"{float(row.split(',')[column]) * size:.2f}" not in there]
+        missing = []
+        for report, column, size, begin in DRAWN.get(path.stem, []):
+            rows = [row for row in (folder / report).read_text(encoding="utf-8").splitlines()[1:] if row.startswith(begin)]
+            missing += [row for row in rows if f"{float(row.split(',')[column]) * size:.2f}" not in there]
         if drawing and path.with_suffix(".png").exists() and not missing:
             passed += 1
         else:

@@ -2,26 +2,30 @@
 
 # What can follow these words of a command line, the last of which is begun.
 _decl_offers() {
-    local begun=${*: -1} before=${*: -2:1} word command='' offers='' option
-    case $before in
-        --format) echo text csv json; return ;;
-        --log2) echo 1 2 3 4 5 6 7 8 9 10 11 12 13 14 15 16; return ;;
-        --digits) echo 1 2 3 4 5 6 7 8 9; return ;;
-        --bs | --width | --mwidth | --make) return ;;
-    esac
+    local begun=${*: -1} before=${*: -2:1} word command='' offers='' option powers='1 2 3 4 5 6 7 8 9 10'
+    local fits='--bs --log2 --digits --width --mwidth --format --make'
     for word in "${@:2:$#-2}"; do
         case $word in
-            run | fmt) command=${command:-$word} ;;
+            run | fmt | cert | verify) command=${command:-$word} ;;
         esac
     done
     case $command in
-        '') offers='run fmt' ;;
-        run) offers='pmf: cdf: mean q: layer: tail: price: joint: kappa: cotail:' ;;
+        '') offers='run fmt cert verify' powers+=' 11 12 13 14 15 16' ;;
+        run) offers='pmf: cdf: mean q: layer: tail: price: joint: kappa: cotail:' powers+=' 11 12 13 14 15 16' ;;
+        fmt) fits='--make' ;;
+        cert) fits='--bs --log2 --make' ;;
+        verify) fits='--bs --log2' ;;
+    esac
+    case $before in
+        --format) echo text csv json; return ;;
+        --log2) echo $powers; return ;;
+        --digits) echo 1 2 3 4 5 6 7 8 9; return ;;
+        --bs | --width | --mwidth | --make) return ;;
     esac
     if [[ $begun == -* ]]; then
         offers=''
-        for option in --bs --log2 --digits --width --mwidth --format --make; do
-            if [[ $command == fmt && $option != --make || " $* " == *" $option "[^\ ]* ]]; then
+        for option in $fits; do
+            if [[ " $* " == *" $option "[^\ ]* ]]; then
                 continue
             fi
             offers+=" $option"

@@ -3,33 +3,39 @@
 
 _decl() {
     local command= word option
-    local -a offers
+    local -a offers powers=({1..10}) fits=(--bs --log2 --digits --width --mwidth --format --make)
     local before=${words[CURRENT-1]}
     # A value can stand behind `=` in the word of its option.
     if compset -P '--*='; then
         before=${IPREFIX%=}
     fi
-    case $before in
-        --format) compadd -- text csv json; return ;;
-        --log2) compadd -- {1..16}; return ;;
-        --digits) compadd -- {1..9}; return ;;
-        --bs | --width | --mwidth | --make) return ;;
-    esac
     for word in ${words[2,CURRENT-1]}; do
-        if [[ -z $command && $word == (run|fmt) ]]; then
+        if [[ -z $command && $word == (run|fmt|cert|verify) ]]; then
             command=$word
         fi
     done
+    case $command in
+        fmt) fits=(--make) ;;
+        cert) fits=(--bs --log2 --make) ;;
+        verify) fits=(--bs --log2) ;;
+        *) powers=({1..16}) ;;
+    esac
+    case $before in
+        --format) compadd -- text csv json; return ;;
+        --log2) compadd -- $powers; return ;;
+        --digits) compadd -- {1..9}; return ;;
+        --bs | --width | --mwidth | --make) return ;;
+    esac
     if [[ ${words[CURRENT]} == -* ]]; then
-        for option in --bs --log2 --digits --width --mwidth --format --make; do
-            if [[ $command == fmt && $option != --make || -n ${(M)words[1,CURRENT-1]:#$option(|=*)} ]]; then
+        for option in $fits; do
+            if [[ -n ${(M)words[1,CURRENT-1]:#$option(|=*)} ]]; then
                 continue
             fi
             offers+=($option)
         done
         compadd -- $offers
     elif [[ -z $command ]]; then
-        compadd -- run fmt
+        compadd -- run fmt cert verify
     elif [[ $command == run ]]; then
         compadd -- mean
         compadd -S '' -- pmf: cdf: q: layer: tail: price: joint: kappa: cotail:

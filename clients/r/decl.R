@@ -10,12 +10,14 @@
 # decl_check  the fault of a text, if it has one
 # decl_fmt    a text in its one canonical spelling
 # decl_made   a made program
+# decl_certify  a certificate of a text's total
+# decl_verify   whether steps are such a certificate
 # decl_bucket the greatest size of a bucket that divides every amount of a text
 # decl_grid   the least log2 with which so much probability is sure to lie inside the grid
 #
 # The program is the one that the variable DECL names, else decl on the path. Where there is no report, an error of
 # class decl_fault is raised. It has the fields status, told (what the program said), line, column, unit, rule, name,
-# sentence (what the rule asks), word, ask and needed; those that a fault has not are NULL.
+# sentence (what the rule asks), word, ask, step and needed; those that a fault has not are NULL.
 #
 # The options are those of the program (docs/USAGE.md); NULL leaves one out. A number is given in one of three ways:
 #
@@ -60,6 +62,24 @@ decl_fmt <- function(text, timeout = 0) {
 # The made program of this number, 0 to 4294967295: a portfolio to measure and to compare with.
 decl_made <- function(number, timeout = 0) {
     paste0(decl_call(c("fmt", decl_options(make = number)), "", character(), timeout), "\n", collapse = "")
+}
+
+# A certificate of the text's total, one step a line (docs/STEPS.md), on at most 2^10 buckets. An error of class decl_fault with the field
+# unit where a unit, or a common factor, keeps the text from having one.
+decl_certify <- function(text, bs = NULL, log2 = NULL, make = NULL, timeout = 0) {
+    words <- c("cert", decl_options(bs = bs, log2 = log2, make = make))
+    paste0(decl_call(words, text, character(), timeout), "\n", collapse = "")
+}
+
+# TRUE where the steps are a certificate of the text's total: then the grid of the last step encloses it. bs and log2 are those of the
+# call that wrote the steps. Else an error of class decl_fault with the field step, the first bad step, or unit, as decl_certify has it.
+decl_verify <- function(text, steps, bs = NULL, log2 = NULL, timeout = 0) {
+    whole <- rawToChar(decl_bytes(text))
+    if (nzchar(whole) && !endsWith(whole, "\n")) whole <- paste0(whole, "\n")
+    joined <- paste0(whole, "---\n", rawToChar(decl_bytes(steps)))
+    written <- decl_call(c("verify", decl_options(bs = bs, log2 = log2)), joined, character(), timeout)
+    if (!identical(written, "verified")) stop(decl_fault("decl verified steps, and wrote something else"))
+    invisible(TRUE)
 }
 
 # The greatest size of a bucket that divides every amount, limit and attachment of the text, as text: "250", "1/2".
@@ -158,8 +178,7 @@ decl_sentences <- c(
     "zt and zm need from 1/16 to 4,096 expected claims before the change, and zm a number below 1.",
     "Under common each unit has a poisson count without zt and zm, and no aggregate clause.",
     "The number of common is 1 over a whole number, as 1, 0.5 or 0.1.",
-    NA, # there is no rule 28 yet
-    "common is read and formatted, and has no value yet."
+    "Under common claims have to be expected, at most 4,096 above 0 times 1 + c^2, with 1 / c^2 at most 9,999, and each unit's share of them has to be a fraction of a small denominator."
 )
 
 # The options as words of the command line; those that are NULL are left out.
@@ -400,7 +419,8 @@ decl_fault_of <- function(status, said, bytes, asks, timeout) {
     sentence <- if (!is.null(rule)) decl_sentences[as.integer(rule[2])]
     decl_fault(
         paste(c(paste0(said, decl_pointed(bytes, place)), sentence), collapse = "\n"),
-        status = status, told = said, line = place[1], column = place[2], unit = whole(rule[1]), rule = whole(rule[2]),
+        status = status, told = said, line = place[1], column = place[2], unit = whole(if (is.null(rule)) part("^decl: unit ([0-9]+): not covered") else rule[1]),
+        step = whole(part("^decl: step ([0-9]+): not verified")), rule = whole(rule[2]),
         name = rule[3], sentence = sentence, word = part("continuous severity ([a-z]+)"),
         ask = whole(part("ask ([0-9]+): ")), needed = part("needs width ([0-9]+)")
     )

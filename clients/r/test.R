@@ -34,6 +34,18 @@ test("doubles rounded outward", {
     rows <- decl_run(dice, c("pmf:2", "q:0.9"), numeric = TRUE)
     stopifnot(rows$low[1] < 1 / 36, rows$high[1] > 1 / 36, rows$low[2] == 10, rows$high[1] - rows$low[1] < 1.1e-6)
 })
+test("certificates", {
+    claim <- "agg F 1 claims dsev [1] fixed"
+    whole <- "72057594037927936"
+    steps <- decl_certify(claim, log2 = 1)
+    stopifnot(identical(steps, paste0("start 0 0,0 ", whole, ",", whole, "\n")), decl_verify(claim, steps, log2 = 1))
+    book <- "port T\nagg A 3 claims dsev [1:3] poisson\nagg B 2 claims dsev [1 2] binomial 1/2"
+    stopifnot(decl_verify(book, decl_certify(book, log2 = 5), log2 = 5))
+    bad <- fault(decl_verify(claim, sub("0,0", "1,1", steps), log2 = 1))
+    stopifnot(bad$status == 3, bad$step == 0, is.null(bad$unit))
+    bare <- fault(decl_certify(die))
+    stopifnot(bare$status == 3, bare$unit == 0, is.null(bare$step), is.null(bare$rule))
+})
 test("what is beyond the grid, and what is absent", {
     rows <- decl_run("agg P 10 claims dsev [1] poisson", c("q:0.5", "tail:0.5"), log2 = 2, numeric = TRUE)
     stopifnot(identical(rows$low, c(4, -Inf)), identical(rows$high, c(Inf, Inf)))
@@ -120,6 +132,14 @@ test("texts that long grids alone take", {
 test("made programs", {
     stopifnot(startsWith(decl_made(0), "port Made\nagg U1 34 claims dsev [1:9] poisson\nagg U2 31 claims"))
     stopifnot(identical(decl_run(decl_made(7), "mean")$low, decl_run("", "mean", make = 7)$low))
+})
+test("units under a common factor", {
+    text <- "port C common 0.5 agg A 1 claims dsev [2] poisson agg B 2 claims dsev [2] poisson"
+    stopifnot(decl_bucket(text) == "2")
+    rows <- decl_run(text, c("pmf:0", "kappa:A:2"), bs = 2, log2 = 4)
+    stopifnot(identical(rows$low, c("0.106622", "0.666666")), identical(rows$high, c("0.106623", "0.666667")))
+    found <- fault(decl_run(text, c("mean", "cotail:A:0.8"), log2 = 4))
+    stopifnot(found$status == 8L, found$ask == 1L, found$told == "decl: ask 1: no share under a common factor")
 })
 test("the sentences of the rules are those of the Python client", {
     lines <- readLines(file.path(here, "..", "python", "src", "decl", "rules.py"))

@@ -6,7 +6,7 @@ import unittest
 from decimal import Decimal, getcontext
 from fractions import Fraction
 
-from support import BOOK, Case, decl, main
+from support import BOOK, ROOT, Case, decl, main
 
 getcontext().prec = 50
 BOOKS = int(os.environ.get("BOOKS", "40"))
@@ -309,6 +309,27 @@ class Written(Case):
         row = between.price([(0.5, 0), (0.5, 0.9)])
         self.assertTrue(row.holds(Fraction(7 * 163, 18)) and row.high - row.low < 11, row)
         self.assertEqual(between.each(["price:0.5@0+0.5@0.9"]), [row])
+
+    def test_named_severities(self):
+        """Units that refer to one severity, of 1 to 6: rounded to 2 they are 0 to 6 and 2 to 6, and above 2 they are 1 to 4."""
+        two = decl.coarser((ROOT / "examples" / "named.decl").read_text(), 2)
+        self.assertEqual(two.low.splitlines()[0], "port Book")
+        self.assertTrue(two.mean().low <= 2 * Fraction(9, 3) + 2 and two.mean().high == 8 + 3, two.mean())
+        for text, rule in (("agg D dfreq [1] sev.A", 24), ("agg D dfreq [1] 5 xs 0 sev.A", 24), ("sev A dsev [1] sev A dsev [2] agg D dfreq [1] sev.A", 23)):
+            self.assertEqual(self.raises(decl.RuleFault, decl.coarser, text, 2).rule, rule, text)
+
+    def test_a_common_factor(self):
+        """Both programs keep the factor: claims of 17 or 230 and of 100, on buckets of 50, and their mean of 2 * 123.5 + 300."""
+        text = "port C common 50% agg A 2 claims dsev [17 230] poisson agg B 3 claims dsev [100] poisson"
+        two = decl.coarser(text, 50)
+        self.assertEqual(two.low, "port C common 1/2\nagg A 2 claims dsev [0 200] [0.5 0.5] poisson\nagg B 3 claims dsev [100] [1] poisson")
+        self.assertTrue(two.mean().low <= 547 <= two.mean().high == 2 * 150 + 300, two.mean())
+        exact = decl.Book(text)
+        for p in ("0.5", "0.9", "0.99"):
+            self.assertTrue(two.q(p).low <= exact.q(p).low and exact.q(p).high <= two.q(p).high, p)
+            self.assertTrue(two.tail(p).low <= exact.tail(p).high and exact.tail(p).low <= two.tail(p).high, p)
+        for number in ("1/0", "0.3", "0"):
+            self.assertEqual(self.raises(decl.RuleFault, decl.coarser, text.replace("50%", number), 50).rule, 27, number)
 
     def test_a_changed_probability_of_no_claim(self):
         """It stays as it is, and a number of claims that is no numeral is rounded as ever."""

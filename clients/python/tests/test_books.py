@@ -17,6 +17,7 @@ from support import BOOK, ROOT, Case, decl, main
 DICE = "agg Dice dfreq [2] dsev [1000:6000:1000]"
 PAIR = "port T agg A dfreq [1] dsev [100:300:100] agg B dfreq [1] dsev [100 200 300] [1/2 1/6 1/3]"
 FIRE = "agg Fire 3 claims dsev [10000 20000 50000 100000 300000] [0.5 0.25 0.15 0.08 0.02] poisson"
+FACTOR = "port C common 0.5 agg A 1 claims dsev [1000 3000] poisson agg B 2 claims dsev [2000 5000] poisson"
 #: Each total of two dice in thousands, with its probability.
 TWO = {total: Fraction(6 - abs(7 - total), 36) for total in range(2, 13)}
 
@@ -177,6 +178,41 @@ class Answers(Case):
         self.assertEqual(self.raises(decl.AskFault, book.share_of_tail, "C", 0.8).reason, "no such unit")
         self.raises(decl.UsageFault, book.share_of_tail, "A", 1)
 
+    def test_a_common_factor(self):
+        """One claim of 1,000 or 3,000 expected of A, two of 2,000 or 5,000 of B, under a factor of shape 4: no claim has (4/7)^4. A total
+        of 3,000 is one claim of A with 1/6 of one claim, or two of 1,000 and 2,000, or three of 1,000."""
+        book = decl.Book(FACTOR)
+        self.assertEqual((book.bs, book.name, book.units, book.plan.common), (1000, "C", ("A", "B"), Fraction(1, 2)))
+        one, two, three = (math.comb(3 + n, n) * Fraction(3, 7) ** n for n in (1, 2, 3))
+        parts = {1: one / 6 + three / 6**3, 2: two * 2 / 6 / 3}
+        chance = (parts[1] + parts[2]) * Fraction(4, 7) ** 4
+        self.assertTrue(book.pmf(0).holds(Fraction(4, 7) ** 4))
+        self.assertTrue(book.pmf(3000).holds(chance))
+        self.assertTrue(book.joint("A", 3000).holds((3000 * parts[1] + 1000 * parts[2]) * Fraction(4, 7) ** 4))
+        share = (3000 * parts[1] + 1000 * parts[2]) / (parts[1] + parts[2])
+        self.assertTrue(book.kappa("A", 3000).holds(share))
+        self.assertTrue(book.kappa("B", 3000).holds(3000 - share))
+        self.assertTrue(book.mean().holds(9000))
+        self.assertGreater(book.tail(0.99).low, decl.Book(FACTOR.replace(" common 0.5", "")).tail(0.99).high)
+
+    def test_no_share_of_the_tail_mean_under_a_factor(self):
+        book = decl.Book(FACTOR)
+        fault = self.raises(decl.AskFault, book.share_of_tail, "A", 0.9)
+        self.assertEqual(fault.reason, "no share under a common factor")
+        self.assertIn("ask for kappa instead", str(fault))
+        page = book.page()
+        self.assertIn("each unit&#x27;s share of the total", page)
+        self.assertNotIn("share of the TVaR", page)
+        self.assertIn("port C common 0.5", page)
+
+    def test_a_unit_under_a_factor(self):
+        """A unit alone keeps the factor: its count is mixed gamma, and not Poisson."""
+        one = decl.Book(FACTOR).unit("A")
+        self.assertTrue(one.pmf(0).holds(Fraction(4, 5) ** 4))
+        self.assertEqual((one.bs, one.text), (1000, "port C common 1/2\nagg A 1 claims dsev [1000 3000] poisson"))
+        named = decl.Book("sev S dsev [1000 3000] port C common 0.5 agg A 1 claims sev.S poisson agg B 2 claims sev.S poisson").unit("A")
+        self.assertEqual(named.mean(), one.mean())
+
     def test_shares_of_a_tail_mean_that_are_not_there(self):
         """A third of the years come to 1 exactly; and ten claims on a grid of four buckets."""
         book = decl.Book("port P agg A dfreq [1] dsev [1 3 5] agg B dfreq [1] dsev [0]")
@@ -239,6 +275,16 @@ class Answers(Case):
         self.assertTrue(book.unit("Property").mean().holds(130))
         self.assertEqual(book.unit("Motor").units, ("Motor",))
         self.raises(KeyError, book.unit, "Nowhere")
+
+    def test_units_of_named_severities(self):
+        """Two units that refer to one severity, of 1 to 6; of a claim of the second one the part above 2 is left, at most 4."""
+        book = decl.Book((ROOT / "examples" / "named.decl").read_text())
+        self.assertEqual((book.name, book.units), ("Book", ("Cars", "Vans")))
+        self.assertTrue(book.unit("Cars").mean().holds(7))
+        self.assertTrue(book.mean_of("Vans").holds(Fraction(10, 4)))
+        self.assertEqual(dict(book.describe())["mean of Vans"], book.mean_of("Vans"))
+        alone = decl.Book("sev A dsev [5] agg One dfreq [2] sev.A")
+        self.assertEqual((alone.name, alone.unit("One").q(0.5).low), ("One", 10))
 
 
 class Tables(Case):
@@ -400,6 +446,20 @@ class Moments(Case):
         both = decl.Book("port P agg Z 2 claims dsev [1] poisson zt agg G 1 claims dsev [1] geometric zt")
         self.assertEqual((both.moments("G").mean, both.unit("G").mean().holds(2)), (2, True))
         self.raises(decl.NoMoments, both.moments)
+
+    def test_a_common_factor(self):
+        """The moments of the one unit that has the claims of both; each two units have the factor's variance times their means as
+        covariance, and each unit alone is that of a mixed gamma count."""
+        both = self.of(FACTOR)
+        self.assertEqual(both, self.of("agg One 3 claims dsev [1000 3000 2000 5000] [1/6 1/6 1/3 1/3] mixed gamma 0.5"))
+        one, two = self.of(FACTOR, "A"), self.of(FACTOR, "B")
+        self.assertEqual(one, self.of("agg A 1 claims dsev [1000 3000] mixed gamma 0.5"))
+        self.assertEqual((one[0], two[0], both[0]), (2000, 7000, 9000))
+        self.assertEqual(both[1], one[1] + two[1] + 2 * Fraction(1, 4) * 2000 * 7000)
+        # a shape that grows without end is no factor: with 1/10,000 in place of 1/4 little is left of it
+        alone = self.of(FACTOR.replace(" common 0.5", ""))
+        near = self.of(FACTOR.replace("0.5", "1/99"))
+        self.assertEqual((near[0], near[1] - alone[1]), (9000, Fraction(9000**2, 9801)))
 
     def test_an_aggregate_clause(self):
         book = decl.Book(BOOK)

@@ -12,6 +12,9 @@ class Buckets(Case):
         self.assertEqual(decl.bucket("agg A dfreq [1] dsev [1/3 1/2]"), Fraction(1, 6))
         self.assertEqual(decl.bucket("sev A dsev [4 6] sev B dsev [3] agg D dfreq [1] sev.A"), 2)
 
+    def test_the_number_of_a_common_factor_does_not_count(self):
+        self.assertEqual(decl.bucket("port P common 1/3 agg A 2 claims dsev [4 6] poisson"), 2)
+
     def test_ranges_count_by_first_amount_and_step(self):
         self.assertEqual(decl.bucket("agg A dfreq [1] dsev [100:600:50]"), 50)
         self.assertEqual(decl.bucket("agg A dfreq [1] dsev [100:149:50]"), 100)

@@ -10,6 +10,7 @@ from fractions import Fraction
 
 from support import Case, decl, main
 
+from decl.plan import plan_of
 from decl.severities import CONTINUOUS, severity_of
 
 BOOKS = int(os.environ.get("BOOKS", "20"))
@@ -414,6 +415,30 @@ class Written(Case):
         self.assertEqual((fault.word, fault.column), ("norm", 20))
         self.assertEqual(self.raises(decl.RuleFault, decl.between, "agg E dfreq [1] 0 xs 5 sev expon aggregate net of 2 so 1 xs 0", 1).rule, 12)
         self.assertEqual(self.raises(decl.RuleFault, decl.between, "agg E 5 loss 0 xs 5 sev expon poisson", 1).rule, 14)
+
+    def test_a_common_factor(self):
+        """Two exponential units, of 2 and 3 of 5 expected claims: probabilities are parts of 10^8, so that the units can be pooled. The mean
+        and the probability of no loss above 0, (4/9)^4, lie between."""
+        text = "port C common 0.5 agg A 2 claims 400 xs 0 sev 100 * expon poisson agg B 3 claims 400 xs 0 sev 100 * expon poisson"
+        two = decl.between(text, 20)
+        for side in (two.low, two.high):
+            self.assertEqual(side.splitlines()[0], "port C common 1/2")
+            self.assertEqual(plan_of(side).units[0].claims, 2)
+            self.assertEqual(max(part.denominator for unit in plan_of(side).units for part in unit.amounts.values()), 10**8)
+        mean = 500 * (1 - math.exp(-4))
+        self.assertTrue(two.mean().low < mean < two.mean().high and two.mean().high - two.mean().low < 101, two.mean())
+        self.assertTrue(two.cdf(0).low <= Fraction(4, 9) ** 4 <= two.cdf(0).high, two.cdf(0))
+
+    def test_named_severities(self):
+        """A listed severity with a name that two units refer to, and one that none does: each unit has its own amounts."""
+        named = "sev Spare dsev [900] sev Two dsev [50 100] port B agg A 2 claims sev.Two poisson agg E 1 claims sev.Two poisson"
+        two = decl.between(f"{named} agg D 3 claims 500 xs 0 sev 100 * expon poisson", 5)
+        self.assertEqual(two.low.splitlines()[:2], ["port B", "agg A 2 claims dsev [50 100] [0.5 0.5] poisson"])
+        self.assertEqual(two.high.splitlines()[2], "agg E 1 claims dsev [50 100] [0.5 0.5] poisson")
+        mean = 3 * 75 + 300 * (1 - math.exp(-5))
+        self.assertTrue(two.mean().low < mean < two.mean().high and two.mean().high - two.mean().low < 16, two.mean())
+        for text, rule in (("agg D dfreq [1] sev.A", 24), ("sev A dsev [1] sev A dsev [2] agg D dfreq [1] sev.A", 23)):
+            self.assertEqual(self.raises(decl.RuleFault, decl.between, text, 2).rule, rule, text)
 
     def test_refused(self):
         rows = [

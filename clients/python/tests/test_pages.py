@@ -16,7 +16,7 @@ from fractions import Fraction
 from xml.etree import ElementTree
 
 from support import ROOT, Case, decl, main
-from decl import pages
+from decl import pages, pictures
 
 DICE = str(ROOT / "examples" / "dice.decl")
 SOURCE = str(ROOT / "clients" / "python" / "src")
@@ -195,16 +195,67 @@ class Pages(Case):
             areas = [it for it in picture.iter(f"{SVG}polygon")]
             self.assertEqual([it.get("data-unit") for it in areas], units)
             self.assertIn(units[0] + "</li>", self.pages[name])
-            edges = []
-            for it in areas:
-                points = [tuple(map(float, point.split(","))) for point in it.get("points").split()]
-                half = len(points) // 2
-                edges.append((points[:half], points[half:][::-1]))
+            edges = [halves(it) for it in areas]
             top, base = {y for _, y in edges[-1][0]}, {y for _, y in edges[0][1]}
             self.assertTrue(max(top) - min(top) < 0.05 and len(base) == 1 and abs(max(top) - 30) < 0.05, name)
             for (upper, _), (_, lower) in zip(edges, edges[1:]):
                 self.assertEqual(upper, lower)
             self.assertGreater(len(edges[0][0]), 10)
+
+    def test_shares_fill_the_tail_mean(self):
+        """By the labels of the axes alone: the areas lie one on the other at the shares of each return period, and their top is the TVaR."""
+        self.assertNotIn("each unit's share of the TVaR", self.pictures("money"))
+        for name, units in (("portfolio", ["Motor", "Property", "Liability"]), ("profile", ["Small", "Large"])):
+            picture = self.pictures(name)["each unit's share of the TVaR"]
+            labels = list(picture.iter(f"{SVG}text"))
+            years = [(math.log10(float(it.get("data-years"))), float(it.get("x"))) for it in labels if it.get("class") == "tick"]
+            amounts = [(float(it.get("data-total")), float(it.get("y")) - 4) for it in labels if it.get("class") == "amount"]
+            self.assertEqual([float(it.text) for it in labels if it.get("class") == "amount"], [amount for amount, _ in amounts])
+            areas = list(picture.iter(f"{SVG}polygon"))
+            self.assertEqual([it.get("data-unit") for it in areas], units)
+            edges = [halves(it) for it in areas]
+            for (upper, _), (_, lower) in zip(edges, edges[1:]):
+                self.assertEqual(upper, lower)
+            (curve,) = picture.iter(f"{SVG}polyline")
+            there = [int(each) for each in curve.get("data-years").split()]
+            self.assertTrue({1, 2, 10, 50, 100, 200, 250} <= set(there) and len(there) > 20, name)
+            book = decl.Book((ROOT / "examples" / f"{name}.decl").read_text())
+            for each in (1, 2, 10, 100, 250):
+                at, p = there.index(each), 1 - Fraction(1, each)
+                means = [book.unit(unit).mean() for unit in units] if each == 1 else [book.share_of_tail(unit, p) for unit in units]
+                below = 0.0
+                for (upper, lower), row in zip(edges, means):
+                    self.assertAlmostEqual(lower[at][1], on_line(amounts, below), delta=0.05)
+                    below += float(row.low)
+                    self.assertAlmostEqual(upper[at][0], on_line(years, math.log10(each)), delta=0.05)
+                    self.assertAlmostEqual(upper[at][1], on_line(amounts, below), delta=0.05)
+                self.assertAlmostEqual(below, float(book.tail(p).low), delta=1e-3)
+
+    def test_periods_without_shares_are_left_out(self):
+        """One loss of 1 to 10: at 1/2, 4/5 and 9/10 the distribution is exactly at the level, so no share is there."""
+        drawn = decl.Book("port P agg A dfreq [1] dsev [1:10] agg B dfreq [1] dsev [0]").page()
+        there = re.search(r'class="curve" data-years="([^"]*)"', drawn)[1].split()
+        self.assertEqual([each for each in ("1", "2", "3", "5", "10", "12", "250") if each in there], ["1", "3", "12", "250"])
+
+    def test_a_program_without_shares_of_the_tail_mean(self):
+        """As under a common factor: the other pictures are there."""
+        book = decl.Book((ROOT / "examples" / "profile.decl").read_text())
+        refuses = 'case "$*" in *cotail*) echo "decl: ask 1: no share under a common factor" >&2; exit 8;; esac'
+        self.instead(refuses + '\nexec "$BUILT" "$@"')
+        page = book.page()
+        self.assertIn('aria-label="each unit&#x27;s share of the total"', page)
+        self.assertNotIn("share of the TVaR", page)
+
+    def test_units_of_an_axis_of_amounts(self):
+        for high, word, labels in ((2.5e6, ", in millions", ["0", "0.5", "1", "1.5", "2", "2.5"]), (300, "", ["0", "50", "100", "150", "200", "250", "300"])):
+            parts = pictures.amount_axis(pictures.Scale(0, high, 360, 30), "TVaR")
+            self.assertEqual(re.findall(r">([^<]+)</text>", "".join(parts)), [f"TVaR{word}", *labels])
+
+    def test_a_book_of_named_severities(self):
+        """Units that refer to a severity: the page has the mean of each."""
+        page = decl.Book((ROOT / "examples" / "named.decl").read_text()).page()
+        self.assertIn("<title>Book</title>", page)
+        self.assertIn("<td>mean of Vans</td>", page)
 
     def test_books_at_the_edge(self):
         """No loss at all, a grid that is too small, and one total: a page is there, and a VaR past the grid has no mark."""
@@ -220,6 +271,13 @@ class Pages(Case):
         self.assertEqual(status, 0)
         self.assertIn("<title>Dice &amp; more</title>", written)
         self.assertIn("<td>4</td>", written)
+
+
+def halves(polygon):
+    """The upper and the lower edge of an area, from left to right."""
+    points = [tuple(map(float, point.split(","))) for point in polygon.get("points").split()]
+    half = len(points) // 2
+    return points[:half], points[half:][::-1]
 
 
 def on_line(known, value):

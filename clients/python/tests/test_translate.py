@@ -4,7 +4,7 @@ import random
 from fractions import Fraction
 
 from support import ROOT, Case, decl, main
-from decl.plan import Clause, Layer, units_of
+from decl.plan import Clause, Layer, plan_of
 
 CLAIMS = "agg A 2 claims dsev [1 2]"
 #: What the package writes, and what it is here, each unit on a line of its own.
@@ -222,13 +222,13 @@ class Translations(Case):
 
 class Meanings(Case):
     def test_a_tower_is_the_layers_of_one_claim(self):
-        (unit,) = units_of(decl.translate("agg T dfreq [1] dsev [5 15 30] occurrence ceded to tower [0 10 20 40]"))
+        (unit,) = plan_of(decl.translate("agg T dfreq [1] dsev [5 15 30] occurrence ceded to tower [0 10 20 40]")).units
         layers = (Layer(Fraction(10), Fraction(0)), Layer(Fraction(10), Fraction(10)), Layer(Fraction(20), Fraction(20)))
         self.assertEqual(unit.occurrence, Clause(False, layers))
         self.assertEqual(unit.of_a_claim(), {Fraction(x): Fraction(1, 3) for x in (5, 15, 30)})
 
     def test_numbers_with_arithmetic(self):
-        (unit,) = units_of(decl.translate("agg E 1.2e3 loss 2*10 xs 1e1 dsev [5 1.5e1 60/2 1e-1] [.25 25 % 1/4 2**-2] geometric"))
+        (unit,) = plan_of(decl.translate("agg E 1.2e3 loss 2*10 xs 1e1 dsev [5 1.5e1 60/2 1e-1] [.25 25 % 1/4 2**-2] geometric")).units
         self.assertEqual((unit.loss, unit.shape), (1200, 1))
         self.assertEqual(unit.layer, Layer(Fraction(20), Fraction(10)))
         self.assertEqual(unit.amounts, {x: Fraction(1, 4) for x in map(Fraction, ("5", "15", "30", "1/10"))})
@@ -264,6 +264,12 @@ class Laws(Case):
         self.assertGreater(len(texts), 10)
         for text in texts + [decl.made(number) for number in range(100)]:
             self.assertEqual(decl.translate(text), decl.fmt(text))
+
+    def test_a_common_factor_is_kept(self):
+        text = "port P common 50% note{one}\nagg A 1 claims dsev [1] poisson\nagg B 2 claims dsev [2] poisson\n"
+        self.assertEqual(decl.translate(text), text)
+        for number in ("0", "inf", "-1/2", "x"):
+            self.raises(decl.Untranslated, decl.translate, text.replace("50%", number))
 
     def test_any_text_is_refused_or_written_in_the_one_spelling(self):
         """Programs with a few words dropped, put in or put in another's place."""

@@ -13,12 +13,13 @@ The program is the one that the variable DECL names, else the one of the package
 from .coarse import Between, coarser
 from .continuous import between
 from .books import Book
-from .calls import check, fmt, made, report, run
+from .calls import certify, check, fmt, made, report, run, verify
 from .choose import bucket, grid
 from .faults import (
     AskFault,
     BadAnswer,
     BadByte,
+    BadStep,
     ContinuousSeverity,
     DeclError,
     GridTooSmall,
@@ -26,6 +27,7 @@ from .faults import (
     NeedsWidth,
     NoMoments,
     NotBetween,
+    NotCovered,
     NotText,
     NoWords,
     OutOfMemory,
@@ -47,12 +49,13 @@ from .reports import Report, Row
 from .tables import Table
 from .translate import translate
 
-__version__ = "0.2"
+__version__ = "1.0"
 
 __all__ = [
     "AskFault",
     "BadAnswer",
     "BadByte",
+    "BadStep",
     "Between",
     "Book",
     "ContinuousSeverity",
@@ -63,6 +66,7 @@ __all__ = [
     "NeedsWidth",
     "NoMoments",
     "NotBetween",
+    "NotCovered",
     "NotText",
     "NoWords",
     "OutOfMemory",
@@ -83,6 +87,7 @@ __all__ = [
     "__version__",
     "between",
     "bucket",
+    "certify",
     "check",
     "coarser",
     "fmt",
@@ -92,4 +97,5 @@ __all__ = [
     "report",
     "run",
     "translate",
+    "verify",
 ]

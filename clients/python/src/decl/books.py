@@ -8,10 +8,10 @@ from . import program
 from .calls import Number, Text, fmt, run, spelled
 from .choose import NOTE, bucket, grid, least_grid, value_of
 from .faults import GridTooSmall, NeedsWidth, NoMoments
-from .moments import Moments, of_unit, of_units
+from .moments import Moments, of_plan
 from .pages import page_of
 from .pictures import Picture, alone, exceedance
-from .plan import Unit, units_in
+from .plan import Plan, plan_in
 from .reports import Report, Row, plain
 from .tables import Cell, Table
 
@@ -83,9 +83,9 @@ class Book:
         self.log2 = self._grid(inside) if log2 is None else log2
         self.cells = 2**self.log2
         self.spelling = fmt(text, timeout=timeout)
-        self.plan: List[Unit] = units_in(self.spelling)
-        self.units = tuple(unit.name for unit in self.plan)
-        self.name = self.spelling.split()[1]
+        self.plan: Plan = plan_in(self.spelling)
+        self.units = tuple(unit.name for unit in self.plan.units)
+        self.name = self.plan.name
         self._known: Dict[str, Row] = {}
 
     def _grid(self, inside: Number) -> int:
@@ -152,7 +152,7 @@ class Book:
         """The share of a unit in the tail mean of the total: the mean of its outcome in the worst `1 - p` of the total. The shares of
         all units add up to the tail mean. Both ends are None where the tail mean is beyond the grid (`state` is `beyond`), and
         where the probability of the total at the quantile is too small, or the distribution is so near to `p` there that the
-        quantile is not sure (`absent`)."""
+        quantile is not sure (`absent`). Under a common factor the program has no such shares, and `AskFault` is raised."""
         return self._row(f"cotail:{unit}:{part(p, 4)}").in_money(self.bs)
 
     def cdf(self, x: Number) -> Row:
@@ -241,17 +241,20 @@ class Book:
         return self._row(f"joint:{unit}:{at}").in_money(self.bs)
 
     def unit(self, name: str, *, log2: Optional[int] = None) -> "Book":
-        """The book of one unit alone, with the same bucket; its grid is chosen for it, unless it is given."""
+        """The book of one unit alone, with the same bucket, and with the factor that the units share; its grid is chosen for it, unless
+        it is given."""
         return Book(self._line(name), bs=self.bs, log2=log2, digits=self.digits, timeout=self.timeout)
 
     def _line(self, name: str) -> str:
-        """The program of one unit."""
-        for line in NOTE.sub("", self.spelling).splitlines():
+        """The program of one unit, with the severities that the text names, and the factor that it shares with the others."""
+        lines = NOTE.sub("", self.spelling).splitlines()
+        before = [line for line in lines if line.startswith("sev ")] + ([self.plan.head.rstrip()] if self.plan.common else [])
+        for line in lines:
             if line.split(" ")[:2] == ["agg", name]:
-                return line
+                return "\n".join([*before, line])
         raise KeyError(f"the book has no unit {name}; its units are {', '.join(self.units)}")
 
-    def _mean_of(self, name: str) -> Row:
+    def mean_of(self, name: str) -> Row:
         """The mean of a unit, which is the same on every grid: on the least one that takes the unit."""
         return self.unit(name, log2=least_grid(self._line(name), bs=self.bs, timeout=self.timeout)).mean()
 
@@ -259,13 +262,11 @@ class Book:
         """The exact mean, variance and third central moment of the total, or of a unit, in money and without the program.
 
         They follow from the text where no unit has an aggregate clause, or a poisson count with `zt` or `zm`, whose mean is no
-        fraction; else `NoMoments` is raised.
+        fraction; else `NoMoments` is raised. Under a common factor the variance has the factor's part: its own variance times the
+        square of the mean, so times the product of the means of each two units.
         """
-        if unit is None:
-            return of_units(self.plan)
-        for found in self.plan:
-            if found.name == unit:
-                return of_unit(found)
+        if unit is None or unit in self.units:
+            return of_plan(self.plan, unit)
         raise KeyError(f"the book has no unit {unit}; its units are {', '.join(self.units)}")
 
     def ask(self, word: str) -> Row:
@@ -336,7 +337,7 @@ class Book:
             lines += [[f"VaR {percent(exact(p))}", self.q(p)], [f"TVaR {percent(exact(p))}", self.tail(p)]]
         lines.append(["inside the grid", self.inside()])
         if len(self.units) > 1:
-            lines += [[f"mean of {name}", self._mean_of(name)] for name in self.units]
+            lines += [[f"mean of {name}", self.mean_of(name)] for name in self.units]
         return Table(["total", "from .. to"], lines)
 
     def _spread(self) -> List[List[Cell]]:

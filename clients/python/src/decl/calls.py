@@ -1,4 +1,4 @@
-"""The calls: run, report, check, fmt and made."""
+"""The calls: run, report, check, fmt, made, certify and verify."""
 
 from decimal import Decimal
 from fractions import Fraction
@@ -105,3 +105,38 @@ def fmt(text: Text, *, timeout: Optional[float] = None) -> str:
 def made(number: int, *, timeout: Optional[float] = None) -> str:
     """The made program of this number, 0 to 4,294,967,295: a portfolio to measure and to compare with."""
     return program.call(["fmt", "--make", spelled(number)], "", (), timeout)
+
+
+def certify(
+    text: Text,
+    *,
+    bs: Optional[Number] = None,
+    log2: Optional[int] = None,
+    make: Optional[int] = None,
+    timeout: Optional[float] = None,
+) -> str:
+    """A certificate of the text's total, one step a line (docs/STEPS.md), on at most 2^10 buckets.
+
+    Raises `NotCovered` where a unit, or a common factor, keeps the text from having one.
+    """
+    return program.call(["cert", *options(bs=bs, log2=log2, make=make)], text, (), timeout)
+
+
+def verify(
+    text: Text,
+    steps: Text,
+    *,
+    bs: Optional[Number] = None,
+    log2: Optional[int] = None,
+    timeout: Optional[float] = None,
+) -> None:
+    """Checks that the steps are a certificate of the text's total: then the grid of the last step encloses it.
+
+    `bs` and `log2` are those of the call that wrote the steps. Raises `BadStep` for the first step that is misspelled or fails its test,
+    and `NotCovered` as `certify` does.
+    """
+    source, tail = program.as_text(text), program.as_text(steps)
+    joined = source + ("" if source.endswith("\n") or not source else "\n") + "---\n" + tail
+    written = program.call(["verify", *options(bs=bs, log2=log2)], joined, (), timeout)
+    if written != "verified\n":
+        raise BadAnswer("decl verified steps, and wrote something else")

@@ -26,12 +26,17 @@ def value_of(numeral: str) -> Fraction:
     return Fraction(numeral.rstrip("."))
 
 
+def all_tokens(text: str) -> List[str]:
+    """The tokens of a canonical text, without its notes."""
+    return [token for token in TOKEN.findall(text) if not token.startswith("note{")]
+
+
 def tokens_of(text: str) -> List[str]:
     """The tokens of a canonical text, without its notes and named severities.
 
     Each reference to a severity stands as its mixture, and `geometric` as `mixed gamma 1`.
     """
-    tokens = [token for token in TOKEN.findall(text) if not token.startswith("note{")]
+    tokens = all_tokens(text)
     named: Dict[str, List[str]] = {}
     at = 0
     while tokens[at : at + 1] == ["sev"]:

@@ -5,10 +5,10 @@ from fractions import Fraction
 from typing import Callable, Dict, Iterable, Iterator, List, Optional, Tuple
 
 from .books import Book, Terms, exact, part, price_of
-from .calls import Number, Text, fmt
+from .calls import Number, Text
 from .choose import least_grid
 from .faults import NotBetween, RuleFault
-from .plan import Chances, Clause, Unit, moved, units_of
+from .plan import Chances, Clause, Unit, moved, plan_of
 from .reports import Row, plain
 from .tables import Table
 
@@ -273,10 +273,8 @@ def coarser(text: Text, bs: Number, *, timeout: Optional[float] = None) -> Betwe
     size = exact(bs)
     if size <= 0:
         raise ValueError(f"the size of a bucket is above 0, not {size}")
-    units = units_of(text, timeout=timeout)
-    first, name = fmt(text, timeout=timeout).split()[:2]
-    head = f"port {name}\n" if first == "port" else ""
-    low, high = ("\n".join(side(unit, size, up, timeout) for unit in units) for up in (False, True))
-    for each in (head + low, head + high):
+    plan = plan_of(text, timeout=timeout)
+    low, high = (plan.head + "\n".join(side(unit, size, up, timeout) for unit in plan.units) for up in (False, True))
+    for each in (low, high):
         least_grid(each, bs=size, timeout=timeout)
-    return Between(head + low, head + high, size, timeout)
+    return Between(low, high, size, timeout)

@@ -9,12 +9,12 @@ from itertools import accumulate
 from typing import Dict, List, Optional, Tuple
 
 from .calls import Number, Text, check, fmt, run
-from .choose import LARGEST_SHORT, tokens_of
+from .choose import LARGEST_SHORT, all_tokens, tokens_of
 from .books import exact
 from .coarse import MOST_CELLS, Between, Ends, numeral, side, with_amounts
 from .faults import NotBetween, RuleFault, TextFault, pointed
 from .intervals import NOTHING, ONE, UNITY, Interval, interval
-from .plan import Chances, Layer, Reader, Unit
+from .plan import Chances, Layer, Plan, Reader, Unit, plan_in
 from .program import as_text, place_in
 from .severities import CONTINUOUS, NotRead, Severity, severity_of
 
@@ -27,6 +27,8 @@ PLACE = "dsev [1]"
 #: A probability is a whole number of billionths, and that of a claim of 0 of millionths: the expected number of claims above 0 is then
 #: a fraction that the program takes.
 PARTS, PARTS_OF_0 = 10**9, 10**6
+#: Under a common factor the probabilities times the units' shares of all expected claims have at most this common denominator.
+FINEST = 2**30
 #: Up to the end of the grid amounts are a bucket apart, and behind it a 32nd of themselves.
 FURTHER = 32
 #: The bucket is chosen on a grid that is smaller by this power of 2, with larger buckets.
@@ -63,8 +65,27 @@ def read(text: str) -> Tuple[str, List[Optional[Severity]]]:
     return written, severities
 
 
+def as_read(spelling: str, severities: List[Optional[Severity]]) -> List[Optional[Severity]]:
+    """The severities of a canonical text in the order in which units are read: those of a name stand at each reference to it."""
+    left = iter(severities)
+    named: Dict[str, List[Optional[Severity]]] = {}
+    found: List[Optional[Severity]] = []
+    place = found
+    tokens = all_tokens(spelling)
+    for at, token in enumerate(tokens):
+        if token == "sev":
+            place = named.setdefault(f"sev.{tokens[at + 1]}", [])
+        elif token in ("port", "agg"):
+            place = found
+        elif token == "dsev":
+            place.append(next(left))
+        else:
+            place += named.get(token, [])
+    return found
+
+
 class Blend(Reader):
-    """Reads a canonical text in which an amount stands in for each continuous severity."""
+    """Reads a canonical text in which an amount stands in for each continuous severity; the severities are in the order of reading."""
 
     def __init__(self, tokens: List[str], severities: List[Optional[Severity]]) -> None:
         super().__init__(tokens)
@@ -147,8 +168,9 @@ def curve_of(unit: Unit) -> Curve:
 class Claims:
     """A unit whose amounts before the layer are a blend of listed and of continuous ones."""
 
-    def __init__(self, unit: Unit, severities: List[Optional[Severity]]) -> None:
-        self.unit = unit
+    def __init__(self, unit: Unit, severities: List[Optional[Severity]], whole: int = PARTS) -> None:
+        """Its probabilities are written as parts of `whole`."""
+        self.unit, self.whole = unit, whole
         self.continuous: List[Tuple[Fraction, Severity]] = []
         listed: Dict[Fraction, Fraction] = {}
         for amount, chance in unit.amounts.items():
@@ -221,6 +243,8 @@ class Claims:
     def reach(self, grid: Grid) -> Optional[Fraction]:
         """The outcome of the unit whose one claim is the last point, or more: below it the high program is never below the unit.
         None where it is never below it anywhere."""
+        if not self.continuous:
+            return None
         end, top, clause = self.points(grid)[-1] * grid.bs, self.curve.top, self.unit.aggregate
         if top is not None and top <= end:
             return None
@@ -232,22 +256,22 @@ class Claims:
         return None if flat and end >= max(bends) else outcome
 
     def rounded(self, grid: Grid, up: bool) -> Chances:
-        """The final amounts of a claim, rounded to the points, with probabilities in PARTS: the distribution function is rounded down
+        """The final amounts of a claim, rounded to the points, with their probabilities: the distribution function is rounded down
         where amounts are rounded up, and up where they are rounded down."""
         points, bs = self.points(grid), grid.bs
         chances: Chances = {}
         reached = 0
         for at, point in enumerate(points):
-            if at == len(points) - 1 or reached == PARTS:
-                value = PARTS
-            elif up and reached == PARTS - 1:
+            if at == len(points) - 1 or reached == self.whole:
+                value = self.whole
+            elif up and reached == self.whole - 1:
                 continue
             else:
-                parts = PARTS if at else PARTS_OF_0
+                parts = self.whole if at else PARTS_OF_0
                 found = self.final((point if up else points[at + 1]) * bs, less=not up)
-                value = (found.low * parts // ONE if up else -(-found.high * parts // ONE)) * (PARTS // parts)
+                value = (found.low * parts // ONE if up else -(-found.high * parts // ONE)) * (self.whole // parts)
             if value > reached:
-                chances[point * bs] = Fraction(value - reached, PARTS)
+                chances[point * bs] = Fraction(value - reached, self.whole)
                 reached = value
         return chances
 
@@ -295,6 +319,16 @@ class Source:
         return steps[low]
 
 
+def parts_under(plan: Plan) -> int:
+    """Of which whole number the probabilities of the amounts are parts: of PARTS, and under a common factor of so few that the units can
+    be pooled, where the expected numbers of claims are written."""
+    claims = [unit.claims or Fraction(0) for unit in plan.units]
+    if plan.common is None or not sum(claims):
+        return PARTS
+    over = math.lcm(*((each / sum(claims)).denominator for each in claims))
+    return max(PARTS_OF_0, min(PARTS, 10 ** (len(str(FINEST // over)) - 1)))
+
+
 def source_of(text: str, timeout: Optional[float]) -> Source:
     """What the text declares."""
     written, severities = read(text)
@@ -305,14 +339,9 @@ def source_of(text: str, timeout: Optional[float]) -> Source:
             raise
         lines = (pointed(each, fault.line, fault.column) for each in (written, text))
         raise type(fault)(fault.told.replace(*lines), **fault.facts) from None
-    reader = Blend(tokens_of(spelling), severities)
-    head = f"port {spelling.split()[1]}\n" if reader.passed("port") else ""
-    if head:
-        reader.take()
-    units = []
-    while reader.ahead():
-        units.append(Claims(reader.unit(), severities))
-    return Source(head, units, timeout)
+    severities = as_read(spelling, severities)
+    plan = plan_in(spelling, Blend(tokens_of(spelling), severities))
+    return Source(plan.head, [Claims(unit, severities, parts_under(plan)) for unit in plan.units], timeout)
 
 
 def between(

@@ -135,6 +135,20 @@ class ContinuousSeverity(TextFault):
     word: str
 
 
+class NotCovered(TextFault):
+    """The text has no certificate: `unit`, counted from 0, is the first unit with listed counts, a changed probability of no claim or an
+    aggregate clause; 0 also where the units share a factor."""
+
+    unit: int
+
+
+class BadStep(TextFault):
+    """The steps are no certificate: `step`, counted from 0, is the first that is misspelled or fails its test, or the number of all steps,
+    where the last one does not count what the total counts."""
+
+    step: int
+
+
 class RuleFault(TextFault):
     """A typing rule is broken: `unit` counts from 0, `rule` is its number and `name` its name."""
 

@@ -7,10 +7,10 @@ answers, and a test holds the two together.
 from dataclasses import dataclass
 from fractions import Fraction
 from math import isqrt
-from typing import List, Tuple
+from typing import Optional, Tuple
 
 from .faults import NoMoments
-from .plan import Chances, Unit, mean_of
+from .plan import Chances, Plan, Unit, mean_of
 
 #: Ends of roots lie this far apart at most.
 FINE = 10**12
@@ -135,7 +135,23 @@ def of_unit(unit: Unit) -> Moments:
     return Moments(mean, variance, third)
 
 
-def of_units(units: List[Unit]) -> Moments:
-    """The moments of the total of independent units."""
+def under_factor(given: Moments, common: Optional[Fraction]) -> Moments:
+    """The moments of a sum of compound Poisson sums whose expected claims one gamma factor of mean 1 scales alike, from those without
+    it; `common` is the coefficient of variation of the factor, and None is no factor.
+
+    Given the factor all three moments are its multiples, since they are cumulants. So the variance is that without the factor, and the
+    factor's variance times the product of the means of each two units.
+    """
+    if common is None:
+        return given
+    mixing = common**2  # the variance of the factor; its third central moment is twice the square of it
+    mean, variance = given.mean, given.variance
+    third = given.third + 3 * mixing * mean * variance + 2 * mixing**2 * mean**3
+    return Moments(mean, variance + mixing * mean**2, third)
+
+
+def of_plan(plan: Plan, unit: Optional[str] = None) -> Moments:
+    """The moments of the total, or of the unit with this name. Units are independent, or so given their factor."""
     nothing = Moments(Fraction(0), Fraction(0), Fraction(0))
-    return sum((of_unit(unit) for unit in units), nothing)
+    found = [of_unit(each) for each in plan.units if unit in (None, each.name)]
+    return under_factor(sum(found, nothing), plan.common)

@@ -7,6 +7,7 @@ from dataclasses import dataclass
 from fractions import Fraction
 from typing import TYPE_CHECKING, Iterable, List, Optional, Tuple, Union
 
+from .faults import AskFault
 from .reports import Row, plain
 from .tables import joined
 
@@ -22,6 +23,10 @@ SAMPLES = 120
 MOST_TOTALS = 4096
 #: A share is there where the probability of the total is sure to be at least this.
 RAREST = Fraction(1, 65536)
+#: Shares of the tail mean are drawn at so many return periods, up to this one: a longer one is a level of too many digits.
+PERIODS, LONGEST = 40, 9999
+#: Units of money of an axis, with their names.
+UNITS = ((10.0**9, ", in billions"), (10.0**6, ", in millions"), (10.0**3, ", in thousands"), (1.0, ""))
 
 
 #: The look of the parts of a picture.
@@ -210,6 +215,19 @@ def sampled(book: "Book", level: Fraction) -> List[int]:
     return there[::step]
 
 
+def stacked(book: "Book", rows: List[List[float]], places: List[float], up: Scale) -> List[str]:
+    """The units' areas one on the other: `rows` has the values of each unit at the places."""
+    below = [0.0] * len(places)
+    parts: List[str] = []
+    for number, (name, values) in enumerate(zip(book.units, rows)):
+        above = [first + second for first, second in zip(below, values)]
+        edge, base = ([(x, up.at(value)) for x, value in zip(places, side)] for side in (above, below))
+        look = f'class="share" data-unit="{html.escape(name)}" fill="{colour(number, len(book.units))}"'
+        parts.append(area([*edge, *reversed(base)], look))
+        below = above
+    return parts
+
+
 def shares(book: "Book", level: Fraction = Fraction(995, 1000)) -> Optional[str]:
     """Each unit's share of the total, as areas one on the other that fill the total; None where there is one unit."""
     at = sampled(book, level) if len(book.units) > 1 else []
@@ -219,16 +237,64 @@ def shares(book: "Book", level: Fraction = Fraction(995, 1000)) -> Optional[str]
     across = Scale(0, float(totals[-1]), LEFT, WIDTH - RIGHT)
     up = Scale(0, 1, HEIGHT - BOTTOM, TOP)
     book.each(f"kappa:{name}:{plain(x)}" for name in book.units for x in totals)
-    below = [0.0] * len(totals)
-    parts: List[str] = []
-    for number, name in enumerate(book.units):
-        parts_of = [(middle(book.kappa(name, x)) or 0.0) / float(x) for x in totals]
-        above = [first + second for first, second in zip(below, parts_of)]
-        edge = [(across.at(float(x)), up.at(part)) for x, part in zip(totals, above)]
-        base = [(across.at(float(x)), up.at(part)) for x, part in zip(totals, below)]
-        look = f'class="share" data-unit="{html.escape(name)}" fill="{colour(number, len(book.units))}"'
-        parts.append(area([*edge, *reversed(base)], look))
-        below = above
+    rows = [[(middle(book.kappa(name, x)) or 0.0) / float(x) for x in totals] for name in book.units]
+    parts = stacked(book, rows, [across.at(float(x)) for x in totals], up)
     parts += [text(LEFT - 8, up.at(part / 4) + 4, f"{25 * part}%", "end") for part in range(5)]
     parts += money_axis(across, "total of a year")
     return svg(parts, "each unit's share of the total")
+
+
+def periods_of(years: Iterable[Fraction]) -> List[int]:
+    """Return periods from 1 year on, evenly on a log scale, up to the longest of these; and these, where they are whole."""
+    whole = [int(each) for each in years if each.denominator == 1 and each <= LONGEST]
+    last = max(whole, default=1)
+    return sorted({round(last ** (at / PERIODS)) for at in range(PERIODS + 1)} | set(whole))
+
+
+def period_axis(across: Scale) -> List[str]:
+    """The axis of return periods below the picture, on a log scale."""
+    base = HEIGHT - BOTTOM
+    parts = [line(LEFT, base, WIDTH - RIGHT, base, "axis"), text((LEFT + WIDTH - RIGHT) / 2, HEIGHT - 12, "return period, in years")]
+    for years in (digit * 10**power for power in range(5) for digit in (1, 2, 5)):
+        if math.log10(years) <= across.high:
+            x = across.at(math.log10(years))
+            parts += [line(x, base, x, base + 5, "axis"), text(x, base + 22, str(years), more=f' class="tick" data-years="{years}"')]
+    return parts
+
+
+def amount_axis(up: Scale, name: str) -> List[str]:
+    """The axis of amounts on the left, in a unit that keeps its labels short; its name stands above it."""
+    size, word = next((unit for unit in UNITS if up.high >= 2 * unit[0]), UNITS[-1])
+    parts = [text(LEFT, TOP - 12, f"{name}{word}", "start")]
+    for value in ticks(up.high):
+        y = up.at(value)
+        parts += [
+            line(LEFT - 5, y, LEFT, y, "axis"),
+            text(LEFT - 8, y + 4, f"{value / size:,.10g}", "end", f' class="amount" data-total="{value!r}"'),
+        ]
+    return parts
+
+
+def tail_shares(book: "Book", years: Iterable[Fraction]) -> Optional[str]:
+    """Each unit's share of the TVaR by return period, as areas one on the other that fill it; None where there is one unit, and where
+    the program has no such shares, as under a common factor. Periods at which a share is not there are left out."""
+    periods = periods_of(years) if len(book.units) > 1 else []
+    levels = {each: 1 - Fraction(1, each) for each in periods}
+    try:
+        book.each(f"{kind}:{plain(levels[each])}" for each in periods[1:] for kind in ("tail", *(f"cotail:{name}" for name in book.units)))
+    except AskFault:
+        return None
+    found = {each: [middle(book.share_of_tail(name, levels[each])) for name in book.units] for each in periods[1:]}
+    there = [each for each in periods if all(value is not None for value in found.get(each, []))]
+    if len(there) < 3:
+        return None
+    # over all years, which is the period of 1 year, the shares are the means of the units
+    rows = [[middle(book.mean_of(name)) or 0.0, *(found[each][at] or 0.0 for each in there[1:])] for at, name in enumerate(book.units)]
+    tails = [middle(book.mean()) or 0.0, *(middle(book.tail(levels[each])) or 0.0 for each in there[1:])]
+    across = Scale(0, math.log10(there[-1]), LEFT, WIDTH - RIGHT)
+    up = Scale(0, 1.02 * tails[-1], HEIGHT - BOTTOM, TOP)
+    places = [across.at(math.log10(each)) for each in there]
+    parts = [*stacked(book, rows, places, up), *period_axis(across), *amount_axis(up, "TVaR")]
+    top = " ".join(f"{x:.2f},{up.at(value):.2f}" for x, value in zip(places, tails))
+    parts.append(f'<polyline class="curve" data-years="{" ".join(map(str, there))}" points="{top}"/>')
+    return svg(parts, "each unit's share of the TVaR")

@@ -10,7 +10,7 @@ from math import gcd
 from typing import Callable, Dict, List, Optional, Tuple
 
 from .calls import Text, fmt
-from .choose import tokens_of, value_of
+from .choose import all_tokens, tokens_of, value_of
 from .faults import RuleFault, rule_sentence
 
 NAMES = {
@@ -24,6 +24,9 @@ NAMES = {
     11: "Overlap",
     12: "ShareAboveOne",
     14: "ZeroMean",
+    23: "DuplicateSeverity",
+    24: "UnknownSeverity",
+    27: "CommonShape",
 }
 #: Amounts (or counts) with their probabilities.
 Chances = Dict[Fraction, Fraction]
@@ -144,6 +147,17 @@ def apart(layers: Tuple[Layer, ...]) -> bool:
     )
 
 
+def is_good(numeral: str) -> bool:
+    """Whether a numeral has no more digits than it may, and is no fraction over 0."""
+    parts = numeral.rstrip("%").replace(".", "").split("/")
+    return max(map(len, parts)) <= (9 if "%" in numeral else 11) and (len(parts) == 1 or int(parts[1]) > 0)
+
+
+def broken(rule: int, what: str, number: int) -> RuleFault:
+    """The fault of a rule that a unit or a severity with this number does not keep."""
+    return RuleFault(f"{what} breaks rule {rule}\n{rule_sentence(rule)}", unit=number, rule=rule, name=NAMES[rule])
+
+
 class Reader:
     """Reads the tokens of a canonical text from the left. The rules without which its numbers mean nothing are asked: the
     program, which asks all of them, may refuse the text before by one on its buckets."""
@@ -170,17 +184,14 @@ class Reader:
         return True
 
     def holds(self, rule: int, kept: bool) -> None:
-        """Raises the fault of a rule that is not kept; it has no place."""
+        """Raises the fault of a rule that the unit does not keep; it has no place."""
         if not kept:
-            told = f"unit {self.name} breaks rule {rule}\n{rule_sentence(rule)}"
-            raise RuleFault(told, unit=self.number, rule=rule, name=NAMES[rule])
+            raise broken(rule, f"unit {self.name}", self.number)
 
     def numeral(self) -> Fraction:
         """The next numeral."""
-        word = self.take()
-        parts = word.rstrip("%").replace(".", "").split("/")
-        self.holds(2, max(map(len, parts)) <= (9 if "%" in word else 11) and (len(parts) == 1 or int(parts[1]) > 0))
-        return value_of(word)
+        self.holds(2, is_good(self.ahead()))
+        return value_of(self.take())
 
     def numbers(self) -> List[Fraction]:
         """The numbers of the list that is next."""
@@ -259,6 +270,7 @@ class Reader:
 
     def severity(self) -> Chances:
         """The amounts of one claim: those of one atom, or of a mixture by its weights."""
+        self.holds(24, not self.ahead().startswith("sev."))
         atoms = []
         while self.passed("dsev"):
             atoms.append(self.atom())
@@ -288,6 +300,14 @@ class Reader:
             return Fraction(0)
         return self.numeral() if self.passed("zm") else None
 
+    def factor(self) -> Fraction:
+        """The coefficient of variation of a common factor: 1 over a whole number, so that its shape is whole."""
+        value = value_of(self.ahead()) if is_good(self.ahead()) else Fraction(0)
+        self.take()
+        if value.numerator != 1:
+            raise broken(27, "the common factor", 0)
+        return value
+
     def unit(self) -> Unit:
         """The unit that is next."""
         self.take()
@@ -295,7 +315,7 @@ class Reader:
         self.number += 1
         counts = self.chances() if self.passed("dfreq") else None
         claims, loss = (None, None) if counts is not None else self.exposure()
-        layer = None if self.ahead() == "dsev" else self.layer()
+        layer = None if self.ahead().startswith(("dsev", "sev.")) else self.layer()
         amounts = self.severity()
         kept = self.passed("!")
         occurrence = self.clause("occurrence")
@@ -311,17 +331,48 @@ class Reader:
         return found
 
 
-def units_in(spelling: str) -> List[Unit]:
-    """The units of a text in its canonical spelling, in its order."""
-    reader = Reader(tokens_of(spelling))
-    if reader.passed("port"):
-        reader.take()
-    found = []
+@dataclass(frozen=True)
+class Plan:
+    """What a text declares. `port` is the name of the portfolio, and None for a unit alone. `common` is the coefficient of variation
+    of the gamma factor of mean 1 that its units share, and None where they are independent."""
+
+    port: Optional[str]
+    units: List[Unit]
+    common: Optional[Fraction] = None
+
+    @property
+    def name(self) -> str:
+        """The name of the portfolio, or of the unit."""
+        return self.units[0].name if self.port is None else self.port
+
+    @property
+    def head(self) -> str:
+        """The line before the units of a portfolio; empty for a unit alone."""
+        factor = "" if self.common is None else f" common {self.common}"
+        return "" if self.port is None else f"port {self.port}{factor}\n"
+
+
+def names_of_severities(spelling: str) -> List[str]:
+    """The names of the severities that stand before the units of a canonical text."""
+    tokens = all_tokens(spelling)
+    return [name for word, name in zip(tokens, tokens[1:]) if word == "sev"]
+
+
+def plan_in(spelling: str, reader: Optional[Reader] = None) -> Plan:
+    """What a canonical text declares; a reader of its tokens can be given that reads a severity in its own way."""
+    names = names_of_severities(spelling)
+    for at, name in enumerate(names):
+        if name in names[:at]:
+            raise broken(23, f"severity {name}", at)
+    reader = reader or Reader(tokens_of(spelling))
+    port = reader.take() if reader.passed("port") else None
+    common = reader.factor() if reader.passed("common") else None
+    units = []
     while reader.ahead():
-        found.append(reader.unit())
-    return found
+        units.append(reader.unit())
+    return Plan(port, units, common)
 
 
-def units_of(text: Text, *, timeout: Optional[float] = None) -> List[Unit]:
-    """The units of the text, in its order."""
-    return units_in(fmt(text, timeout=timeout))
+def plan_of(text: Text, *, timeout: Optional[float] = None) -> Plan:
+    """What the text declares."""
+    return plan_in(fmt(text, timeout=timeout))

@@ -30,5 +30,5 @@ SENTENCES: Dict[int, str] = {
     25: "zt and zm need from 1/16 to 4,096 expected claims before the change, and zm a number below 1.",
     26: "Under common each unit has a poisson count without zt and zm, and no aggregate clause.",
     27: "The number of common is 1 over a whole number, as 1, 0.5 or 0.1.",
-    29: "common is read and formatted, and has no value yet.",
+    28: "Under common claims have to be expected, at most 4,096 above 0 times 1 + c^2, with 1 / c^2 at most 9,999, and each unit's share of them has to be a fraction of a small denominator.",
 }

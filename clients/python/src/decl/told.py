@@ -17,6 +17,8 @@ SHOWN = 120
 PLACE = re.compile(r"decl: (\d+):(\d+): (.*)", re.DOTALL)
 ASK = re.compile(r"decl: ask (\d+): (.*)", re.DOTALL)
 RULE = re.compile(r"unit (\d+): rule (\d+) (\w+)")
+NOT_COVERED = re.compile(r"decl: unit (\d+): not covered")
+BAD_STEP = re.compile(r"decl: step (\d+): not verified")
 
 
 def fault_of(
@@ -45,9 +47,7 @@ def text_fault(told: str, text: str, refusal: Refusal) -> faults.DeclError:
     """The exception for a text that is refused."""
     place = PLACE.fullmatch(told)
     if place is None:
-        if "more than" in told:
-            return faults.TooLong(f"{told}\nA text has at most 1 MiB.")
-        return faults.BadAnswer(f"decl refused the text, but not in a way that is known: {told}")
+        return placeless_fault(told)
     line, column, reason = int(place[1]), int(place[2]), place[3]
     kind, facts, sentence = text_reason(reason)
     if kind is faults.SyntaxFault:
@@ -60,6 +60,20 @@ def text_fault(told: str, text: str, refusal: Refusal) -> faults.DeclError:
         sentence = "The text looks like the name of a file: give what the file holds, as pathlib.Path(name).read_text() does."
     shown = faults.pointed(text, line, column)
     return kind(f"{told}\n{shown}\n{sentence}", line=line, column=column, **facts)
+
+
+def placeless_fault(told: str) -> faults.DeclError:
+    """The exception for a text that is refused as a whole, or whose certificate is."""
+    covered, step = NOT_COVERED.fullmatch(told), BAD_STEP.fullmatch(told)
+    if covered:
+        sentence = "A unit with dfreq, zt, zm or an aggregate clause has no certificate, and neither have units that share a factor."
+        return faults.NotCovered(f"{told}\n{sentence}", unit=int(covered[1]))
+    if step:
+        sentence = "The step is misspelled or fails its test, or the steps do not end at the total; docs/STEPS.md has the tests."
+        return faults.BadStep(f"{told}\n{sentence}", step=int(step[1]))
+    if "more than" in told:
+        return faults.TooLong(f"{told}\nA text has at most 1 MiB.")
+    return faults.BadAnswer(f"decl refused the text, but not in a way that is known: {told}")
 
 
 def text_reason(reason: str) -> Reason:

@@ -130,7 +130,7 @@ class Translator(Numbers):
         if not port and self.ahead() != "agg":
             where = self.token() if self.ahead() else begin
             self.refuse(self.none() or "A program begins with `agg` or `port`; a severity alone is none.", where)
-        head = ["port", *filter(None, [cleaned(self.name()), self.note()])] if port else []
+        head = ["port", cleaned(self.name()), *self.common(), *filter(None, [self.note()])] if port else []
         names: Set[str] = set()
         units: List[str] = []
         while not units or (port and self.ahead() == "agg"):
@@ -145,6 +145,15 @@ class Translator(Numbers):
         if self.ahead():
             self.refuse(self.unknown())
         return "\n".join([*self.named.values(), *([" ".join(head)] if head else []), *units]) + "\n"
+
+    def common(self) -> List[str]:
+        """The factor that the units share, if one is next: it is of this language, and the package has none."""
+        if not self.passed("common"):
+            return []
+        number = self.numeral()
+        if not number.value:
+            self.refuse("The coefficient of variation of a factor is a number above 0.", number.token)
+        return ["common", number.spelling]
 
     def begins_definition(self) -> bool:
         """Whether a severity with a name is next."""
