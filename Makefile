@@ -21,11 +21,13 @@ $(PROGRAM): $(SOURCES)
 	@.ci/build
 	@touch $@
 
-demo: $(PROGRAM) ## the same, and runs it on two examples
+demo: $(PROGRAM) ## the same, and runs it on two examples, with a certificate
 	@echo "decl: two dice, from examples/dice.decl"
 	$(PROGRAM) run pmf:2 cdf:9 mean q:0.9 layer:5xs5 < examples/dice.decl
 	@echo "decl: a portfolio of three units, from examples/portfolio.decl"
 	$(PROGRAM) run --digits 4 mean q:0.99 tail:0.99 layer:100xs400 kappa:Motor:425 < examples/portfolio.decl
+	@echo "decl: a certificate of the two dice (docs/STEPS.md)"
+	@scripts/demo_certificate.sh $(PROGRAM)
 
 test: ## every proof, must-fail edit, test and program, and the clients: it ends with 'N passed, M failed, K skipped'
 	@.ci/test
