@@ -20,7 +20,8 @@ use Rattle.dl_budget.specs.Units.{unit_budgets, unit_mean_budget, total_budget, 
 abbrev pub place_of : List ℕ → List UnitOfPlan → ℕ
 place_of name units = position_or_len (λ u. bytes_eq u.name name) units
 
--- the number of the unit that an ask names, counted from 0; that of all units where none has the name
+-- the number of the unit that an ask names, counted from 0; that of all units where none has the
+-- name
 abbrev pub named_unit : List UnitOfPlan → Ask → Option ℕ
 named_unit units ask = option_map (λ name. place_of name units) (facts_of ask).unit
 

@@ -1,4 +1,4 @@
-//! The width rule: how far apart the ends of each answer may lie, told from the plan, the ask and
+//! The width rule: how far apart the ends of each row may lie, from the plan, the ask and
 //! the settings alone, before any grid is made. Budgets are in units of `1 / 2^B`. Nothing here
 //! takes memory.
 #![tactic(auto)]

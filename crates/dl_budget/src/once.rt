@@ -1,4 +1,4 @@
-//! The budgets that most asks need: made once of a plan, they serve all of its asks.
+//! The budgets that most asks share, computed once for a plan.
 
 ghost use Rattle.std.specs.Prelude.{◌≡◌, ◌^◌};
 ghost use Rattle.dl_limits.specs.Limits.{IsPlanScale};

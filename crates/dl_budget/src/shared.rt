@@ -37,8 +37,8 @@ fn raised(claims: Frac, shape: u32) -> Frac
     Frac::make(num, den).unwrap()
 }
 
-/// The budget of the total of units that share a factor of this shape, on `cells` cells: that of the
-/// one gamma unit in their place.
+/// The budget of the total of units that share a factor of this shape, on `cells` cells: that of
+/// the one gamma unit in their place.
 pub(crate) fn pooled_budget<const B: u32>(units: &[Unit], shape: u32, cells: u32) -> u128
     requires scale { IsPlanScale B }
     requires valid { (h : ℕ) × All (IsValidUnit h) units.now }

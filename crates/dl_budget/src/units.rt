@@ -178,8 +178,8 @@ fn layers_budget(layers: &[CedeLayer], before: u128) -> u128
     sum
 }
 
-/// The budget of the mean of a unit of a valid plan after its aggregate clause, on a grid of `cells`
-/// cells, before its probability of no claim is changed.
+/// The budget of the mean of a unit of a valid plan after its aggregate clause, on a grid of
+/// `cells` cells, before its probability of no claim is changed.
 fn clause_mean_budget<const B: u32>(unit: &Unit, cells: u32) -> u128
     requires scale { IsPlanScale B }
     requires valid { IsValidUnit cells unit.now }

@@ -1,5 +1,5 @@
-//! A changed probability of no claim: outcomes of listed counts and amounts, by the sums that define
-//! them.
+//! A changed probability of no claim: outcomes of listed counts and amounts, by the sums that
+//! define them.
 
 ghost use Rattle.std.specs.Prelude.{ℕ, ◌≡◌, ◌*◌, ◌^◌, ◌<◌, ◌≤◌};
 ghost use Rattle.dl_exact.specs.Fraction.{◌over◌};
@@ -50,9 +50,9 @@ pub fn some_claim_point(counts: &[Item], amounts: &[Item], x: u32, claims: u32) 
     one_more(fewer, each, here)
 }
 
-/// The outcome `x` with the probability `none.0 / none.1` of no claim, from at most `claims` claims,
-/// as a numerator and a denominator, beside a whole weight that is `some_claim`: the other share of
-/// its part from at least one claim, and at 0 in addition this share of the whole weight.
+/// The outcome `x` with the probability `none.0 / none.1` of no claim, from at most `claims`
+/// claims, as a numerator and a denominator, beside a whole weight that is `some_claim`: the other
+/// share of its part from at least one claim, and at 0 in addition this share of the whole weight.
 pub fn changed_point(
     none: (u32, u32),
     counts: &[Item],

@@ -41,8 +41,8 @@ HoldsMean {B} u mean =
 
 -- ---- how large they can be, where `one` units make a bucket
 
--- the mean of a unit's claims, in a plan with a grid of so many cells: 65,536 claims of the greatest
--- amount
+-- the mean of a unit's claims, in a plan with a grid of so many cells: 65,536 claims of the
+-- greatest amount
 abbrev pub most_claims_mean : (cells one : ℕ) → ℕ
 most_claims_mean cells one = most_claims * most_amount_at cells * one
 

@@ -103,11 +103,11 @@ pub fn kept_mean<const B: u32>(cede: &Cede, grid: &Grid<B>, claims: Iv<B>) -> Iv
     }
 }
 
-/// The mean of a unit of a valid plan after its aggregate clause, before its probability of no claim
-/// is changed, in buckets, from the grid of the
-/// sum of its claims before the clause. The grid is as long as the clause's horizon for some number
-/// of cells, so that each layer begins on it, and ends on it where it has a limit. Without a clause
-/// the grid is not looked at. It takes no memory.
+/// The mean of a unit of a valid plan after its aggregate clause, before its probability of no
+/// claim is changed, in buckets, from the grid of the sum of its claims before the clause. The grid
+/// is as long as the clause's horizon for some number of cells, so that each layer begins on it,
+/// and ends on it where it has a limit. Without a clause the grid is not looked at. It takes no
+/// memory.
 pub fn cede_mean<const B: u32>(unit: &Unit, grid: &Grid<B>) -> Iv<B>
     requires scale_above { 1 ≤ B }
     requires scale_below { B ≤ 56 }

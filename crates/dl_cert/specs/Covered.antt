@@ -5,7 +5,7 @@ use Rattle.dl_plan.specs.declared.plan.Freq.TheVariants.{Fixed, Table, Bernoulli
 use Rattle.dl_plan.specs.declared.plan.Plan.{Plan}
 use Rattle.dl_plan.specs.declared.plan.Unit.{Unit as UnitOfPlan}
 
--- a listed count: it is not made up of equal parts
+-- a listed count: no sum of equal parts
 abbrev pub IsTable : Freq → Type 0
 IsTable (Fixed m) = ⊥
 IsTable (Table counts total) = ⊤

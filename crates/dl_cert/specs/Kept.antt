@@ -39,7 +39,7 @@ pub record IsOver (labels : List ℕ) (units : ℕ) (kind : Kind) (targets : Lis
   pub inside : unit < units
   pub over : get_or targets unit 0 < count_by labels units kind unit
 
--- the places and the labels are those of the steps made before
+-- the places and the labels are those of the earlier steps
 pub record Keeps (plan : Plan) (text places labels : List ℕ) (before : List Made) : Type 0 where
   pub many : length places ≡ length before
   pub long : length labels ≡ length before * length plan.units

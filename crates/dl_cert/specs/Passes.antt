@@ -7,9 +7,9 @@ use Rattle.dl_cert.specs.Targets.{target}
 use Rattle.dl_cert.specs.Steps.{Step, Made, made_by, label_of, IsThere}
 use Rattle.dl_cert.specs.Numbers.{one, low_number, high_number}
 
--- A step passes after those made before it: what it names is there, it has the plan's cells, it
--- counts no unit more often than the target does, its low ends sum to at most 1, and each low end is
--- at most, and each high end at least, its number; a high end of 1 always passes.
+-- A step passes after earlier ones: what it names is there, it has the plan's cells, it counts no
+-- unit more often than the target does, its low ends sum to at most 1, and each low end is at most,
+-- and each high end at least, its number; a high end of 1 always passes.
 pub record Passes (plan : Plan) (before : List Made) (step : Step) : Type 0 where
   pub there : IsThere (length plan.units) (length before) step.kind
   pub cells : length step.cells ≡ plan.cells
@@ -27,7 +27,7 @@ AllPass plan before [] = ⊤
 AllPass plan before (step ∷ steps) =
     Passes plan before step × AllPass plan (before ++ made_by before step ∷ []) steps
 
--- what steps make, after those made before them
+-- all steps with their labels, the earlier ones first
 abbrev pub made_after : List Made → List Step → List Made
 made_after before [] = before
 made_after before (step ∷ steps) = made_after (before ++ made_by before step ∷ []) steps

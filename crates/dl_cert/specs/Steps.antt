@@ -5,7 +5,7 @@ use Rattle.dl_cert.specs.declared.step.Kind.{Kind}
 use Rattle.dl_cert.specs.declared.step.Kind.TheVariants.{One, Start, Times}
 use Rattle.dl_cert.specs.Labels.{Label, no_unit, once, together}
 
--- how a step is made, and its cells, in units of 1 / 2^56
+-- the kind of a step, and its cells, in units of 1 / 2^56
 pub record Step : Type 0 where
   pub kind : Kind
   pub cells : List (Iv 56)
@@ -15,7 +15,7 @@ pub record Made : Type 0 where
   pub cells : List (Iv 56)
   pub label : Label
 
--- step a of those made before
+-- step a of the earlier ones
 abbrev pub made_at : List Made → ℕ → Made
 made_at before a = get_or before a (record { cells = []; label = no_unit })
 

@@ -20,7 +20,7 @@ pub record Verifies (plan : Plan) (text : List ℕ) (grid : List (Iv 56)) : Type
   pub spelled : AreSteps (lines_of text) steps
   pub certify : Certifies plan steps grid
 
--- the line is misspelled, or its step does not pass after those made before it
+-- the line is misspelled, or its step does not pass after the earlier ones
 abbrev pub IsBadLine : Plan → List Made → List ℕ → Type 0
 IsBadLine plan before line = (step : Step) → IsStep line step → ¬ Passes plan before step
 

@@ -23,7 +23,7 @@ unfoldable pub cells_text : (lo hi : ℕ → ℕ) → ℕ → List ℕ
 cells_text lo hi zero = []
 cells_text lo hi (suc n) = cell_text (lo zero) (hi zero) ++ cells_text (λ x. lo (suc x)) (λ x. hi (suc x)) n
 
--- how a step is made
+-- the kind of a step
 abbrev pub kind_text : Kind → List ℕ
 kind_text One = codes "one"
 kind_text (Start u) = codes "start " ++ decimal u
@@ -62,14 +62,14 @@ pub record IsWritten (plan : Plan) (text : List ℕ) (count : ℕ) (made : List 
   pub makes : made_after [] steps ≡ made
   pub many : length made ≡ count
 
--- step k of those made has these cells and this label
+-- step k of these has these cells and this label
 pub record IsMade (made : List Made) (k : ℕ) (cells : List (Iv 56)) (label : Label) : Type 0 where
   pub there : k < length made
   pub same : (made_at made k).cells ≡ cells
   pub label_is : (i : ℕ) → (made_at made k).label i ≡ label i
 
--- So many steps are written, those made before and perhaps later ones: step k is the last, with
--- these cells and this label.
+-- So many steps are written, these and perhaps later ones: step k is the last, with these cells
+-- and this label.
 pub record EndsWith (plan : Plan) (text : List ℕ) (count : ℕ) (before : List Made) (k : ℕ)
     (cells : List (Iv 56)) (label : Label) : Type 0 where
   pub later : List Made
@@ -91,7 +91,7 @@ IsSum plan u text count None = IsWritten plan text count [] × ((i : ℕ) → i 
 IsSum plan u text count (Some sum) =
     EndsWith plan text count [] sum.step sum.grid (first_of plan u)
 
--- the sum of the first u units among the steps made: none where none of them counts
+-- the sum of the first u units among these steps: none where none of them counts
 abbrev pub IsBefore : Plan → ℕ → List Made → Option Factor → Type 0
 IsBefore plan u made None = (i : ℕ) → i < u → target plan i ≡ 0
 IsBefore plan u made (Some sum) = IsMade made sum.step sum.grid (first_of plan u)

@@ -40,7 +40,7 @@ fn push_cells(text: &mut Vec<u8>, grid: &Grid<56>) -> Result<(), AllocError>
     Ok(())
 }
 
-/// Appends how a step is made.
+/// Appends the kind of a step.
 fn push_kind(text: &mut Vec<u8>, kind: Kind) -> Result<(), AllocError>
     ensures { OnOk result (text.new.items ≡ text.old.items ++ kind_text kind) }
 {

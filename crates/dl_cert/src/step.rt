@@ -1,6 +1,6 @@
-//! How a step is made.
+//! The kinds of a step.
 
-/// How a step of a certificate is made.
+/// The kind of a step of a certificate.
 #[derive(Clone, Copy)]
 pub enum Kind {
     /// From nothing: the outcome 0.

@@ -37,8 +37,8 @@ fn rest_at(rest: u128, x: u32) -> u128
     if x == 0 { rest } else { 0 }
 }
 
-/// The probability that one trial of probability `q` comes to `x`, where `weight` of `total` is that
-/// of a claim of `x`.
+/// The probability that one trial of probability `q` comes to `x`, where `weight` of `total` is
+/// that of a claim of `x`.
 fn trial_cell(weight: u32, total: u32, q: Frac, x: u32) -> Iv<56>
     requires within { weight ≤ total }
     requires positive { 0 < total }

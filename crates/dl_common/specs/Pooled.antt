@@ -11,8 +11,8 @@ use Rattle.dl_model.specs.CommonFactor.{pooled_severity}
 use Rattle.dl_model.specs.CommonUnits.{poisson_units}
 
 -- a gamma unit with this shape and mean, whose severity mixes those of the units by their expected
--- counts; it has the first unit's name, and neither an aggregate clause nor a changed probability of
--- no claim
+-- counts; it has the first unit's name, and neither an aggregate clause nor a changed probability
+-- of no claim
 pub record IsGammaOf (units : List UnitOfPlan) (shape : ℕ) (mean : Fraction) (made : UnitOfPlan)
     : Type 0 where
   pub name : (default : UnitOfPlan) → made.name ≡ (get_or units 0 default).name

@@ -27,8 +27,8 @@ use dl_plan::{Item, Sev, Unit, numerator_over};
 /// The joint mean of one unit at `x`, in buckets, under a common factor: the mean of the unit's
 /// outcome where the total is `x`, and of 0 elsewhere. `grid` is that of the raised unit. It is the
 /// unit's expected number of claims above 0 times the sum, over the amounts of one claim from 1 to
-/// `x`, of the amount times its probability given that it is positive times what the raised unit has
-/// at the rest of `x`; no more than `x`. The unit is of the plan. Takes no memory.
+/// `x`, of the amount times its probability given that it is positive times what the raised unit
+/// has at the rest of `x`; no more than `x`. The unit is of the plan. Takes no memory.
 pub fn common_joint<const B: u32>(unit: &Unit, grid: &Grid<B>, x: u32) -> Iv<B>
     requires valid { (cells : ℕ) × IsValidUnit cells unit.now }
     requires poisson { IsPoisson unit.now.freq }

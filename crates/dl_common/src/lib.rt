@@ -1,7 +1,7 @@
 //! A portfolio under a common factor: given one gamma factor of mean 1, which scales the means of
 //! all units, their claim counts are independent Poisson counts. Of its total such a portfolio
-//! declares what one gamma unit does, `pool`; what a unit adds to a total comes from the grid of that
-//! unit with one more in its shape, `raised`, by `common_joint`.
+//! declares what one gamma unit does, `pool`; what a unit adds to a total comes from the grid of
+//! that unit with one more in its shape, `raised`, by `common_joint`.
 #![tactic(auto)]
 
 mod copies;

@@ -24,10 +24,10 @@ use dl_plan::{Freq, Plan, Sev, Unit};
 use dl_sev::{MixFault, WeighFault, Weights, mix, weigh};
 use std::alloc::{AllocError, Global};
 
-/// One gamma unit in the place of all units of a plan with a common factor: its shape is that of the
-/// factor, its mean the expected number of claims of all units, and its severity mixes theirs by
-/// their parts of that. It has the first unit's name. Of the total alone its plan, which is valid,
-/// declares what the units do, at every level: that it is there, its probabilities and its
+/// One gamma unit in the place of all units of a plan with a common factor: its shape is that of
+/// the factor, its mean the expected number of claims of all units, and its severity mixes theirs
+/// by their parts of that. It has the first unit's name. Of the total alone its plan, which is
+/// valid, declares what the units do, at every level: that it is there, its probabilities and its
 /// distribution, its mean, its layers and its tail means.
 pub fn pool(alloc: Global, plan: &Plan) -> Result<Unit, AllocError>
     requires { (r : ℕ) × SharesFactor plan.now r }

@@ -13,8 +13,8 @@ use dl_plan::{Freq, Unit};
 use std::alloc::{AllocError, Global};
 
 /// The same unit as `pooled`, what `pool` gives for a plan with a factor of shape `r`, but with
-/// shape `r + 1` and mean `v * (r + 1) / r` for its mean `v`. From its grid comes what one unit adds
-/// to a total. Its plan is valid.
+/// shape `r + 1` and mean `v * (r + 1) / r` for its mean `v`. From its grid comes what one unit
+/// adds to a total. Its plan is valid.
 pub fn raised(alloc: Global, pooled: &Unit) -> Result<Unit, AllocError>
     requires { (plan : Plan) × (r : ℕ) × SharesFactor plan r × IsPooled r plan.units pooled.now }
     ensures raised { IfOk result (λ unit. (plan : Plan) (r : ℕ) → SharesFactor plan r

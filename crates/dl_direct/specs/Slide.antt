@@ -70,7 +70,7 @@ pub record IsSlid (x : Slid) : Type 0 where
   pub sums : AreSums x.sums.items x.low.items x.high.items
   pub sums_within : length x.sums.items ≤ length x.low.items
 
--- what the parts give to the cell after those of x; y is x with all sums made that it takes
+-- what the parts give to the cell after those of x; y is x with all sums that it takes
 pub record IsReached (parts : List Part) (a b : ℕ) (x y : Slid) (ends : Ends) : Type 0 where
   pub low : ends.low ≡ sum_by (contribution a b x.low.items (length x.low.items)) parts
   pub high : ends.high ≡ sum_by (contribution a b x.high.items (length x.low.items)) parts

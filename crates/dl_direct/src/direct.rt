@@ -48,9 +48,9 @@ fn fits(steps: Steps, ratio: Frac, total: u32, cells: u32) -> bool
 }
 
 /// The grid of the compound sum of a count whose weights step so, and whose probability of no claim
-/// is `start`; None where a number of the recursion does not fit its word, which no clause excludes.
-/// The recursion goes over the multiples of the common divisor of the amounts alone, since no other
-/// sum has a probability above 0.
+/// is `start`; None where a number of the recursion does not fit its word, which no clause
+/// excludes. The recursion goes over the multiples of the common divisor of the amounts alone,
+/// since no other sum has a probability above 0.
 fn compound_direct<const B: u32>(
     alloc: Global,
     sev: &Sev,

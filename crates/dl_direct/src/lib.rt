@@ -5,10 +5,10 @@
 //! probability of no claim. The recursion goes over the multiples of the common divisor of the
 //! amounts alone, since no other sum has a probability above 0.
 //!
-//! `parts` makes the amounts and their weights of a severity, in steps of their common divisor, rows
-//! of one weight as runs; `sums` adds up what they give to the next cell; `quotient` divides;
-//! `slide` adds the cell and shifts; `start` and `first` hold the probability of no claim; `placing`
-//! makes the grid, and `direct` has the two counts.
+//! `parts` makes the amounts and their weights of a severity, in steps of their common divisor,
+//! rows of one weight as runs; `sums` adds up what they give to the next cell; `quotient` divides;
+//! `slide` adds the cell and shifts; `start` and `first` hold the probability of no claim;
+//! `placing` makes the grid, and `direct` has the two counts.
 #![tactic(auto)]
 
 mod cells;

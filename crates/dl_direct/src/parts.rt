@@ -1,6 +1,6 @@
 //! The amounts of a claim with their weights in whole numbers, in steps of the greatest common
-//! divisor of the amounts in buckets: those that lie one step apart and have one weight as runs, and
-//! the others one by one.
+//! divisor of the amounts in buckets: those that lie one step apart and have one weight as runs,
+//! and the others one by one.
 
 ghost use Rattle.std.specs.Prelude.{◌≡◌, ℕ, ◌+◌, ◌*◌, ◌/◌, ◌^◌, ◌<◌, ◌≤◌, All, IfOk, sum_by};
 ghost use Prim.Native.Nat.{◌∣◌};

@@ -44,8 +44,8 @@ fn narrow_high(a: u64, b: u64, down: u64, one: u128) -> u128
 }
 
 /// The grid of `cells` cells that has each cell of the recursion times the probability of no claim,
-/// by `down` bits down, `step` cells apart, and 0 between. A low end is lowered to its high end, and
-/// to what the low ends before it leave of 1.
+/// by `down` bits down, `step` cells apart, and 0 between. A low end is lowered to its high end,
+/// and to what the low ends before it leave of 1.
 pub(crate) fn place<const B: u32>(
     alloc: Global,
     x: &Slid,

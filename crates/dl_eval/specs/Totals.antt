@@ -1,4 +1,4 @@
--- What the rows are made from: the grids and the means of the units, of their total, and of all but
+-- The grounds of the rows: the grids and the means of the units, of their total, and of all but
 -- one.
 use Rattle.std.specs.Prelude.{ℕ, ◌≡◌, ◌+◌, ◌*◌, ◌/◌, ◌<◌, ◌≤◌, ◌^◌, ◌↔◌, Bool, false, IsTrue, Option, None, Some, IsSome, IfSome, All, Any, List, [], ◌∷◌, length, get_or}
 use Rattle.std.specs.Int.{div_ceil}
@@ -119,7 +119,8 @@ pub record IsRaisedGridOf {B : ℕ} (r : ℕ) (plan : Plan) (g : List (Iv B)) : 
   pub encloses : GridEncloses g (compound_of unit.freq unit.sev)
   pub narrow : spread g ≤ raised_budget (2 ^ B) plan.cells r plan.units
 
--- the grid of the total of units that share a factor; and that of the raised unit, where it is there
+-- the grid of the total of units that share a factor; and that of the raised unit, where it is
+-- there
 pub record ArePooledGridsOf {B : ℕ} (plan : Plan) (grids : PooledGrids B) : Type 0 where
   pub shape : ℕ
   pub shares : plan.common ≡ Some shape

@@ -131,8 +131,8 @@ fn first_wide<const B: u32>(
 }
 
 /// For each ask the number of the unit that it names; or refuses the first ask past the grid, else
-/// the first that names no unit, else the first for a share of the tail mean where the units share a
-/// factor, else the first that needs more width than the settings give.
+/// the first that names no unit, else the first for a share of the tail mean where the units share
+/// a factor, else the first that needs more width than the settings give.
 pub(crate) fn admit<const B: u32>(
     alloc: Global,
     plan: &Plan,

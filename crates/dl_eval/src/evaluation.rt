@@ -42,7 +42,7 @@ fn are_means(asks: &[Asked]) -> bool
     asks.iter().all(|asked| is_mean(&asked.ask))
 }
 
-/// What the rows of a plan are made from.
+/// The grids and means behind the rows of a plan.
 #[derive(Drop)]
 struct Parts<const B: u32> {
     /// The grids; none where all asks are for the mean.
@@ -51,8 +51,8 @@ struct Parts<const B: u32> {
     mean: Iv<B>,
 }
 
-/// What the rows of a valid plan are made from, whose units are independent. Where all asks are for
-/// the mean, the only grids made on the way are those of units with an aggregate clause.
+/// The grids and means behind the rows of a valid plan whose units are independent. Where all asks
+/// are for the mean, only units with an aggregate clause have a grid.
 #[tactic(auto, using(crate::proofs::Scales::plan_scale))]
 fn independent_parts<const B: u32>(
     alloc: Global,
@@ -97,8 +97,8 @@ fn is_some_named(named: &[Option<u32>]) -> bool
     named.iter().any(|unit| unit.is_some())
 }
 
-/// What the rows of a valid plan are made from, whose units share a factor. Where all asks are for
-/// the mean no grid is made.
+/// The grids and means behind the rows of a valid plan whose units share a factor. Where all asks
+/// are for the mean there is no grid.
 fn shared_parts<const B: u32>(
     alloc: Global,
     work: &mut Workspace,
@@ -131,7 +131,7 @@ fn shared_parts<const B: u32>(
     })
 }
 
-/// What the rows of a valid plan are made from.
+/// The grids and means behind the rows of a valid plan.
 fn parts_for<const B: u32>(
     alloc: Global,
     work: &mut Workspace,

@@ -1,4 +1,4 @@
-//! The grids that rows are made from.
+//! The grids behind the rows.
 
 ghost use Rattle.std.specs.Prelude.{◌≡◌, ◌≤◌, ◌↔◌, IsTrue, None, Some, All, Any, IfOk, length};
 ghost use Rattle.dl_limits.specs.Limits.{IsPlanScale, most_units};
@@ -12,7 +12,7 @@ use dl_port::{Sums, sums_of_one, total_and_others};
 use dl_product::Workspace;
 use std::alloc::{AllocError, Global};
 
-/// The grids and means that the rows of a plan are made from, whose units are independent.
+/// The grids and means behind the rows of a plan whose units are independent.
 #[derive(Drop)]
 pub(crate) struct Grids<const B: u32> {
     /// For each unit, that of its outcomes; it may be gone where no ask is for a share.
@@ -42,7 +42,7 @@ fn shared_units(alloc: Global, units: usize, named: &[Option<u32>]) -> Result<Ve
     Ok(asked)
 }
 
-/// The grids that the rows of a valid plan are made from, where the grids and the means of its
+/// The grids behind the rows of a valid plan, where the grids and the means of its
 /// units' outcomes are there, and for each ask the number of the unit that it names. The grid of an
 /// only unit whose share no ask is for is that of the total: it is moved and not copied.
 pub(crate) fn grids_of<const B: u32>(
@@ -72,7 +72,7 @@ pub(crate) fn grids_of<const B: u32>(
     shared_grids(alloc, work, plan, named, units, means)
 }
 
-/// The grids that the rows are made from, from sums of units that they share.
+/// The grids behind the rows, from sums of units that they share.
 fn shared_grids<const B: u32>(
     alloc: Global,
     work: &mut Workspace,

@@ -23,8 +23,8 @@ use std::alloc::{AllocError, Global};
 pub(crate) struct PooledGrids<const B: u32> {
     /// That of the total.
     pub(crate) total: Grid<B>,
-    /// That of the one unit in the place of all, with one more in its shape; it may be gone where no
-    /// ask is for the share of a unit.
+    /// That of the one unit in the place of all, with one more in its shape; it may be gone where
+    /// no ask is for the share of a unit.
     pub(crate) raised: Option<Grid<B>>,
 }
 

@@ -144,8 +144,8 @@ fn price_row<const B: u32>(
     }
 }
 
-/// The row of an ask about a valid plan, from its grids, the mean of its total and the number of the
-/// unit that the ask names.
+/// The row of an ask about a valid plan, from its grids, the mean of its total and the number of
+/// the unit that the ask names.
 #[tactic(auto, using(crate::proofs::Scales::plan_scale))]
 fn grid_row<const B: u32>(
     alloc: Global,
@@ -203,8 +203,8 @@ fn grid_row<const B: u32>(
     }
 }
 
-/// The row of an ask about a valid plan, from the mean of its total, the number of the unit that the
-/// ask names, and its grids where they were made; without them, the ask is for the mean.
+/// The row of an ask about a valid plan, from the mean of its total, the number of the unit that
+/// the ask names, and its grids where they were made; without them, the ask is for the mean.
 #[tactic(auto, using(crate::proofs::Scales::plan_scale))]
 pub(crate) fn row<const B: u32>(
     alloc: Global,

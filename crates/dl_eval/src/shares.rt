@@ -32,8 +32,8 @@ use dl_plan::{Asked, Plan};
 use dl_report::{End, Row};
 use std::alloc::{AllocError, Global};
 
-/// The mean outcome of unit `i` where the total is `at`, and 0 elsewhere, in buckets, of independent
-/// units.
+/// The mean outcome of unit `i` where the total is `at`, and 0 elsewhere, in buckets, of
+/// independent units.
 #[tactic(auto, using(crate::proofs::Scales::plan_scale))]
 fn independent_joint<const B: u32>(plan: &Plan, grids: &Grids<B>, i: u32, at: u32) -> Iv<B>
     requires scale { B ≡ bits_of plan.now.cells }

@@ -1,4 +1,4 @@
-//! What is made of each unit: the grid of its outcomes, and their mean.
+//! The grid of each unit's outcomes, and their mean.
 
 ghost use Rattle.std.specs.Prelude.{ℕ, List, ◌≡◌, ◌<◌, ◌≤◌, ◌^◌, All, IfOk, length, get_or};
 ghost use Rattle.dl_limits.specs.Limits.{bits_of, most_horizon, most_plan_cells};
@@ -22,7 +22,7 @@ use dl_unit::{none_of, unit_grid_with};
 use dl_zero::{zero_grid, zero_mean};
 use std::alloc::{AllocError, Global};
 
-/// What is made of the units of a plan, one for each unit, in order.
+/// The grids and means of the units of a plan, one for each unit, in order.
 #[derive(Drop)]
 pub(crate) struct Outcomes<const B: u32> {
     /// The grids of the outcomes.
@@ -205,8 +205,8 @@ pub(crate) fn unit_outcomes<const B: u32>(
     Ok(Outcomes { grids, means })
 }
 
-/// The mean of a unit's outcomes before its probability of no claim is changed. It needs a grid only
-/// where there is an aggregate clause.
+/// The mean of a unit's outcomes before its probability of no claim is changed. It needs a grid
+/// only where there is an aggregate clause.
 fn clause_mean<const B: u32>(
     alloc: Global,
     work: &mut Workspace,

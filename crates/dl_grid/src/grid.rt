@@ -9,9 +9,9 @@ use dl_iv::{Iv, units_of_one};
 use std::alloc::{AllocError, Global};
 use std::marker::Model;
 
-/// A cell for each number of buckets from 0 on, 1 to `most_cells_at B` of them. Each cell is at most 1,
-/// and the low ends sum to at most 1. A clause sees a grid as the list of its cells; the low ends
-/// and the high ends lie in two lists, so that what reads one kind of end reads no other.
+/// A cell for each number of buckets from 0 on, 1 to `most_cells_at B` of them. Each cell is at
+/// most 1, and the low ends sum to at most 1. A clause sees a grid as the list of its cells; the
+/// low ends and the high ends lie in two lists, so that what reads one kind of end reads no other.
 #[derive(Drop)]
 pub struct Grid<const B: u32> {
     lows: Vec<u128>,

@@ -1,4 +1,4 @@
--- The bounds of a plan, of its settings and of the numbers that are made from them, each once.
+-- The bounds of a plan, of its settings and of the numbers that follow from them, each once.
 use Rattle.std.specs.Prelude.{ℕ, ◌*◌, ◌^◌, ◌≤◌, nat_le, if◌then◌else◌}
 
 -- ---- a plan
@@ -147,7 +147,7 @@ rarest_parts = 2 ^ 16
 abbrev pub most_digits : ℕ
 most_digits = 9
 
--- ---- what is made from a plan
+-- ---- what follows from a plan
 
 -- the parts of a fraction that the program holds are below this
 abbrev pub frac_bound : ℕ

@@ -1,4 +1,4 @@
--- Divided powers, of which the sum over a claims list is made (Loss Models, "Compound frequency
+-- Divided powers, which make up the sum over a claims list (Loss Models, "Compound frequency
 -- distributions": a Poisson count splits by a multinomial).
 use Rattle.std.specs.Prelude.{ℕ}
 use Rattle.dl_exact.specs.Fraction.{Fraction, whole, ◌/ℚ◌}

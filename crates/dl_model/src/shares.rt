@@ -27,8 +27,8 @@ pub fn law_shares()
 
 /// Ends of a unit's share in the tail mean at `p`, where `q` is the quantile: from ends of its
 /// mean, of its joint means up to `q` together, of the distribution at `q`, and of its conditional
-/// mean at `q`. What of its mean lies above `q`, and the conditional mean times what the distribution at
-/// `q` has above `p`, over `1 - p`.
+/// mean at `q`. What of its mean lies above `q`, and the conditional mean times what the
+/// distribution at `q` has above `p`, over `1 - p`.
 pub fn law_share_ends()
     ensures { (us : List Loss) → AreDeclarable us
         → (i q : ℕ) (p bound : Fraction) → p <ℚ whole 1 → IsBound (partial_sums us One) bound

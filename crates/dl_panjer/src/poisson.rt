@@ -20,8 +20,8 @@ use dl_plan::Sev;
 use std::alloc::{AllocError, Global};
 
 /// The grid of a Poisson number of claims of mean `mean / 2^halvings`. Cell 0 is `exp_neg` of the
-/// mean. Where a high end was lowered to 1, that end and those made from it still hold the declared
-/// probabilities.
+/// mean. Where a high end was lowered to 1, that end and those that follow from it still hold the
+/// declared probabilities.
 pub fn poisson_base<const B: u32>(
     alloc: Global,
     sev: &Sev,

@@ -149,8 +149,8 @@ impl<'a> Parser<'a> {
         Ok(self.severity(body, true, start))
     }
 
-    /// Whether the mixture of a definition goes on: further atoms follow, or the weights, and no other
-    /// definition does.
+    /// Whether the mixture of a definition goes on: further atoms follow, or the weights, and no
+    /// other definition does.
     fn is_defined_further(&self) -> bool
         ensures { result ≡ enters (Kind.Word Keyword.Sev) Kind.Name (first weighted)
             (place self.now).rest }

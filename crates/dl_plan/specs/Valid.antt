@@ -21,8 +21,8 @@ claims_alone freq sev =
     record { name = []; sev = sev; freq = freq; cede = None; zero = None }
 
 -- p can be the probability of no claim in place of that of the count: it is below 1, with both
--- parts below 2^37; and before the change from 1/16 to 4,096 claims are expected, by a count that is
--- not listed
+-- parts below 2^37; and before the change from 1/16 to 4,096 claims are expected, by a count that
+-- is not listed
 pub record IsNewZero (freq : Freq) (p : Fraction) : Type 0 where
   pub below : p <ℚ whole 1
   pub num : p.num < zero_bound

@@ -103,11 +103,11 @@ pub record AreVerified (plan : Plan) (steps : List ℕ) : Type 0 where
   pub encloses : GridEncloses grid (total (aggregates_of plan))
 
 -- Why nothing that was asked for is written, and the tokens in which the fault has its place. A
--- fault of the words comes first, then one of the input's length, and of the program's bytes, tokens
--- and syntax. All words but those that want the canonical form go on to the rules, and then to the
--- asks, or to what a certificate needs: a plan that is covered, and steps that pass. Where the words
--- name no seed, a failed read may come instead of any fault behind those of the words; the contract
--- of `run` says with which cause.
+-- fault of the words comes first, then one of the input's length, and of the program's bytes,
+-- tokens and syntax. All words but those that want the canonical form go on to the rules, and then
+-- to the asks, or to what a certificate needs: a plan that is covered, and steps that pass. Where
+-- the words name no seed, a failed read may come instead of any fault behind those of the words;
+-- the contract of `run` says with which cause.
 pub data Refuses (words : List (List ℕ)) (input : List ℕ) : Fault → List Token → Type 0 where
   usage : (fault : UsageFault) → words_of words ≡ Err fault
       → Refuses words input (faults.Usage fault) []

@@ -59,8 +59,8 @@ limit_of Verify = most_steps_text
 abbrev pub is_divided : List ℕ → Bool
 is_divided text = starts_with nat_eq text (codes "---\n") || bytes_eq text (codes "---")
 
--- how many bytes stand before the first line that is `---`: all, where there is none; at the start of
--- the text a line begins, or not
+-- how many bytes stand before the first line that is `---`: all, where there is none; at the start
+-- of the text a line begins, or not
 unfoldable pub length_to_steps : Bool → List ℕ → ℕ
 length_to_steps begins [] = 0
 length_to_steps begins (byte ∷ rest) =

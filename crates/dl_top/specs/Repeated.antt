@@ -6,8 +6,9 @@ use Rattle.dl_cert.specs.Verified.{IsCertificate}
 use Rattle.dl_top.specs.Inputs.{steps_of}
 use Rattle.dl_top.specs.Answers.{Certifies, Verifies, MeansPlan, SpellsProgram}
 
--- The first words want a certificate of the program in their input, and this text is one; the second
--- words want steps checked on the same grid, and their input has the same program and that text.
+-- The first words want a certificate of the program in their input, and this text is one; the
+-- second words want steps checked on the same grid, and their input has the same program and that
+-- text.
 pub record IsHandedOn (words : List (List ℕ)) (input text : List ℕ) (words' : List (List ℕ))
     (input' : List ℕ) : Type 0 where
   pub writer : Settings

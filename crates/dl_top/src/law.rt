@@ -8,17 +8,17 @@ ghost use Rattle.dl_top.specs.Answers.{IsVerifiable};
 ghost use Rattle.dl_top.specs.Repeated.{IsHandedOn};
 ghost use Rattle.dl_top.specs.Told.{MayWrite, TellsItsRows};
 
-/// The rows can be read off what the program writes, in each of the three forms: of two reports that
-/// it may write for the same words with their settings, and the same input with one plan that it
-/// means, the same bytes come of the same rows alone.
+/// The rows can be read off what the program writes, in each of the three forms: of two reports
+/// that it may write for the same words with their settings, and the same input with one plan that
+/// it means, the same bytes come of the same rows alone.
 pub fn law_rows_told()
     ensures { (words : List (List ℕ)) (input : List ℕ) (settings : Settings) (plan : Plan)
         (a b : Report) → MayWrite words input settings plan a
         → MayWrite words input settings plan b → TellsItsRows settings plan a b }
 {}
 
-/// What `cert` writes is verified: words that want steps checked on the same grid, and an input with
-/// the same program and what was written, end in `verified` (`verified` of `run`).
+/// What `cert` writes is verified: words that want steps checked on the same grid, and an input
+/// with the same program and what was written, end in `verified` (`verified` of `run`).
 pub fn law_written_verifies()
     ensures { (words : List (List ℕ)) (input text : List ℕ) (words' : List (List ℕ))
         (input' : List ℕ) → IsHandedOn words input text words' input'

@@ -41,8 +41,8 @@ pub use status::Status;
 use std::alloc::Global;
 
 /// Writes a report, a canonical text, a certificate or `verified`, as the words ask, of the program
-/// that they generate or that the source has left. What was asked for goes to `out`, and the text of
-/// a fault to `err`.
+/// that they generate or that the source has left. What was asked for goes to `out`, and the text
+/// of a fault to `err`.
 pub fn run<R: Source, O: Sink, E: Sink>(
     alloc: Global,
     words: &[String],
@@ -53,8 +53,8 @@ pub fn run<R: Source, O: Sink, E: Sink>(
     // Where the words generate the program or the source's bytes are known, the output follows from
     // words and input: a report in which each interval holds the declared value, each bracket the
     // declared quantile, and each is as narrow as asked; or the canonical text; or a certificate of
-    // the total; or that the steps behind the program are one, whose grid encloses the total; or the
-    // first fault, with the width that is needed where that is it.
+    // the total; or that the steps behind the program are one, whose grid encloses the total; or
+    // the first fault, with the width that is needed where that is it.
     ensures answer { IfSome (input_of (map string_bytes words.now) (R.left src.old))
         (λ input. IsWritten result →
         Answered (map string_bytes words.now) input result
@@ -69,8 +69,8 @@ pub fn run<R: Source, O: Sink, E: Sink>(
         HasForm (map string_bytes words.now) input → IsAnswerEnd result) }
 
     // Words that want a certificate, and a text that spells a covered program that breaks no rule,
-    // end in one. Words that want steps checked, such a program, a line `---` and steps that certify
-    // it end in `verified`.
+    // end in one. Words that want steps checked, such a program, a line `---` and steps that
+    // certify it end in `verified`.
     ensures certified { IfSome (input_of (map string_bytes words.now) (R.left src.old)) (λ input.
         IsCertifiable (map string_bytes words.now) input → IsAnswerEnd result) }
     ensures verified { IfSome (input_of (map string_bytes words.now) (R.left src.old)) (λ input.

@@ -1,4 +1,4 @@
-//! What is answered, before any of it is written.
+//! The reply, before any of it is written.
 
 ghost use Rattle.std.specs.Prelude.{◌≡◌, ℕ, ◌+◌, ◌≤◌, List, [], None, Err, codes, IfSome, IfOk, map, length};
 ghost use Rattle.dl_top.specs.Replies.{IsReply, Tells, IsUsage, IsReadFault, IsOfText, IfAnswer, AreReady, HasParts};
@@ -43,8 +43,8 @@ use std::alloc::{AllocError, Global};
 /// What is to be written.
 #[derive(Drop)]
 pub enum Reply {
-    /// What was asked for, for the output: a report, a canonical text, a certificate, or that one is
-    /// verified.
+    /// What was asked for, for the output: a report, a canonical text, a certificate, or that one
+    /// is verified.
     Answer(Vec<u8>),
     /// The text of a fault, for the output of faults.
     Refusal(Fault, Vec<u8>),
@@ -83,7 +83,7 @@ fn in_form(
     }
 }
 
-/// The answer that is a report, in the form that the settings name.
+/// A report in the form that the settings name.
 fn reported(alloc: Global, report: &Report, plan: &Plan, settings: &Settings) -> Reply
     requires settings { AreReady settings.now }
     requires answered { IsAnswered plan.now settings.now report.now }
@@ -97,7 +97,7 @@ fn reported(alloc: Global, report: &Report, plan: &Plan, settings: &Settings) ->
     }
 }
 
-/// The answer to the asks about a plan.
+/// The reply to the asks about a plan: its report.
 fn reply_to_asks(alloc: Global, settings: &Settings, plan: &Plan) -> Reply
     requires settings { AreReady settings.now }
     requires valid { IsValid plan.now }
@@ -161,7 +161,7 @@ fn verified(alloc: Global, plan: &Plan, steps: &[u8]) -> Reply
     }
 }
 
-/// The answer by a plan: to the asks, or about a certificate. The steps are those behind the program.
+/// The reply by a plan: a report, or about a certificate. The steps are those behind the program.
 fn reply_to_plan(alloc: Global, settings: &Settings, plan: &Plan, steps: &[u8]) -> Reply
     requires settings { AreReady settings.now }
     requires form { IsOfPlan settings.now.form }
@@ -181,7 +181,7 @@ fn reply_to_plan(alloc: Global, settings: &Settings, plan: &Plan, steps: &[u8]) 
     }
 }
 
-/// The answer by the plan of a program, where it breaks no rule.
+/// The reply by the plan of a program, where it breaks no rule.
 fn reply_by_plan(
     alloc: Global,
     settings: &Settings,
@@ -219,7 +219,7 @@ fn formatted(alloc: Global, settings: &Settings, program: &Program) -> Reply
     }
 }
 
-/// The answer to a program: its canonical text, or the answer by its plan.
+/// The reply to a program: its canonical text, or the reply by its plan.
 fn reply_to_program(
     alloc: Global,
     settings: &Settings,
@@ -244,7 +244,7 @@ fn reply_to_program(
     }
 }
 
-/// The answer to a program with these tokens, and to the steps behind it.
+/// The reply to a program with these tokens, and to the steps behind it.
 fn reply_to_tokens(
     alloc: Global,
     settings: &Settings,
@@ -268,7 +268,7 @@ fn reply_to_tokens(
     }
 }
 
-/// The answer to a program that is not too long, and to the steps behind it.
+/// The reply to a program that is not too long, and to the steps behind it.
 fn reply_to_parts(alloc: Global, settings: &Settings, source: &[u8], steps: &[u8]) -> Reply
     requires settings { AreReady settings.now }
     requires short { length source.now ≤ most_text }
@@ -284,7 +284,7 @@ fn reply_to_parts(alloc: Global, settings: &Settings, source: &[u8], steps: &[u8
     }
 }
 
-/// The answer to an input.
+/// The reply to an input.
 fn reply_to_text(alloc: Global, settings: &Settings, input: &[u8]) -> Reply
     requires settings { AreReady settings.now }
     ensures reply { (words : List (List ℕ)) → Say words settings.now
@@ -301,7 +301,7 @@ fn reply_to_text(alloc: Global, settings: &Settings, input: &[u8]) -> Reply
     reply_to_parts(alloc, settings, source, steps)
 }
 
-/// The answer to the program that is made from a seed.
+/// The reply to a program from a seed.
 fn reply_to_made(alloc: Global, settings: &Settings, seed: u32) -> Reply
     requires settings { AreReady settings.now }
     ensures reply { (words : List (List ℕ)) → Say words settings.now
@@ -314,7 +314,7 @@ fn reply_to_made(alloc: Global, settings: &Settings, seed: u32) -> Reply
     }
 }
 
-/// The answer to what is left of the input, where the words name no seed.
+/// The reply to what is left of the input, where the words name no seed.
 fn reply_to_source<R: Source>(alloc: Global, settings: &Settings, src: &mut R) -> Reply
     requires settings { AreReady settings.now }
     requires seedless { settings.now.make ≡ None }
@@ -335,7 +335,7 @@ fn reply_to_source<R: Source>(alloc: Global, settings: &Settings, src: &mut R) -
     }
 }
 
-/// The answer to the words, over the program that they make or what is left of the input.
+/// The reply to the words, over the program of their seed or what is left of the input.
 #[tactic(auto, using(crate::proofs::ReplyLaws::none_read))]
 pub fn reply_to<R: Source>(alloc: Global, words: &[String], src: &mut R) -> Reply
     ensures reply { IfSome (input_of (map string_bytes words.now) (R.left src.old))
@@ -346,7 +346,7 @@ pub fn reply_to<R: Source>(alloc: Global, words: &[String], src: &mut R) -> Repl
     ensures unread { (fault : UsageFault) → words_of (map string_bytes words.now) ≡ Err fault
         → Tells result (Fault.Usage fault) [] [] × (src.new ≡ src.old) }
 
-    // Where a program is made the source is not read.
+    // With a seed the source is not read.
     ensures made { MakeText (map string_bytes words.now)
         → (src.new ≡ src.old) × ¬ IsReadFault result }
     ensures taken { TakesAtMost (R.left src.old) (R.left src.new)

@@ -102,8 +102,8 @@ fn shape_in(variation: &Numeral) -> u128
     }
 }
 
-/// The place of the coefficient of variation of `common` that is a bad numeral, or whose shape is no
-/// whole number above 0.
+/// The place of the coefficient of variation of `common` that is a bad numeral, or whose shape is
+/// no whole number above 0.
 #[tactic(auto, unfolding(crate::specs::Rules::common_shape))]
 fn common_shape(port: &Option<PortHead>) -> Option<Span>
     requires { IfSome port.now IsFormedHead }

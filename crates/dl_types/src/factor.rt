@@ -81,8 +81,8 @@ fn added(x: Frac, y: Frac) -> Option<Frac>
     }
 }
 
-/// Whether units of which so many claims are expected, and so many above 0, pass a bound of a factor
-/// of this shape.
+/// Whether units of which so many claims are expected, and so many above 0, pass a bound of a
+/// factor of this shape.
 fn passes_bounds(units: &[Unit], shape: u128, expected: Frac, above: Frac) -> bool
     requires some { 0 < shape }
     requires few { shape < most_shape }

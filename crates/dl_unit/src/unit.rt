@@ -19,8 +19,8 @@ use dl_plan::{Freq, Sev, Unit};
 use dl_product::Workspace;
 use std::alloc::{AllocError, Global};
 
-/// The first `cells` cells of the sum of a unit's claims, before its aggregate clause and before its
-/// probability of no claim is changed. The unit is of a valid plan. The spread is at most the
+/// The first `cells` cells of the sum of a unit's claims, before its aggregate clause and before
+/// its probability of no claim is changed. The unit is of a valid plan. The spread is at most the
 /// budget of its claims on so many cells.
 pub fn unit_grid<const B: u32>(
     alloc: Global,

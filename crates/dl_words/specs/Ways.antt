@@ -50,7 +50,7 @@ word_or {A} word v a = record {
   read = λ text. if bytes_eq text word then Some v else a.read text;
 }
 
--- what is made of a value
+-- a value in another form
 abbrev pub made : {A B : Type 0} → (A → B) → Way A → Way B
 made {A} {B} f a = record {
   Spells = λ (text : Text) (y : B). (x : A) × (f x ≡ y) × a.Spells text x;

@@ -47,8 +47,8 @@ fn changed_cell<const B: u32>(cell: Iv<B>, none: Iv<B>, at_0: Iv<B>, p: Frac, y:
 }
 
 /// The cells of a grid with the probability `p` of no claim in place of `none`, of at most 17 / 18.
-/// The low ends are to leave room for `none`. `p` is below 1, with parts below `2^37`. The result is
-/// the one allocation, and `AllocError` its refusal.
+/// The low ends are to leave room for `none`. `p` is below 1, with parts below `2^37`. The result
+/// is the one allocation, and `AllocError` its refusal.
 pub fn changed_cells<const B: u32>(
     alloc: Global,
     grid: &Grid<B>,

@@ -265,8 +265,9 @@ fn equal_parts(rt: HostRuntime) {
 /// A cell of a product: its number, and its ends.
 type Told = (usize, u128, u128);
 
-/// Of the sum of an amount from 100 on, one of 60,000 that are equally likely, and of one from 3 on,
-/// one of 50,000, each probability rounded down and up: worked out by whole numbers of any size.
+/// Of the sum of an amount from 100 on, one of 60,000 that are equally likely, and of one from 3
+/// on, one of 50,000, each probability rounded down and up: worked out by whole numbers of any
+/// size.
 const LONG_SUMS: [Told; 6] = [
     (102, 0, 0),
     (103, 93824, 93825),

@@ -1,5 +1,5 @@
-//! Parts and quotients of intervals whose ends, multiplied out, may pass 128 bits, worked outside the
-//! program in whole numbers of any size.
+//! Parts and quotients of intervals whose ends, multiplied out, may pass 128 bits, worked outside
+//! the program in whole numbers of any size.
 
 use dl_iv::{Iv, units_of_one};
 

@@ -10,8 +10,8 @@ use dl_iv::Iv;
 use dl_zero::{changed_cells, zero_mean};
 use std::alloc::{AllocError, Global};
 
-/// The ends of up to three cells and of the probability of no claim, in units; the probability of no
-/// claim after the change, as a fraction; and the ends after it.
+/// The ends of up to three cells and of the probability of no claim, in units; the probability of
+/// no claim after the change, as a fraction; and the ends after it.
 #[derive(Clone, Copy)]
 struct Case {
     cells: u32,

@@ -79,8 +79,8 @@ fn price_at(first: u32, second: u32) -> Result<Frac, TooFine>
     )
 }
 
-/// Two dice: 36 outcomes that are alike. Their tail mean at 0 is 7 and at 9 / 10 is 100 / 9: half of
-/// each is 163 / 18, which is 326 / 36.
+/// Two dice: 36 outcomes that are alike. Their tail mean at 0 is 7 and at 9 / 10 is 100 / 9: half
+/// of each is 163 / 18, which is 326 / 36.
 fn price_of_dice() -> Result<Frac, TooFine> {
     let mut sum = Frac::whole(0);
     for outcome in 0..36u32 {
@@ -90,8 +90,9 @@ fn price_of_dice() -> Result<Frac, TooFine> {
     Ok(sum)
 }
 
-/// Their share in the tail mean at 4 / 5: below 9 lie 26 / 36, and 9 has 4 / 36, so that 7 / 10 of it
-/// lie below the tail. The tail mean is 187 / 18, and each die has half of it, which is 187 / 36.
+/// Their share in the tail mean at 4 / 5: below 9 lie 26 / 36, and 9 has 4 / 36, so that 7 / 10 of
+/// it lie below the tail. The tail mean is 187 / 18, and each die has half of it, which is 187 /
+/// 36.
 fn share_of_die(unit: u32) -> Result<Frac, TooFine> {
     let p = level(4, 5);
     let u = level(7, 10);
@@ -169,7 +170,8 @@ fn alike() -> Pair
     }
 }
 
-/// Claims of 1 or 2 with 1 / 4 and 3 / 4, half a claim expected; and of 1 or 0 alike, 3 / 2 expected.
+/// Claims of 1 or 2 with 1 / 4 and 3 / 4, half a claim expected; and of 1 or 0 alike, 3 / 2
+/// expected.
 fn unequal() -> Pair
     ensures { IsSmall result 2 }
 {
@@ -188,8 +190,9 @@ fn unequal() -> Pair
     }
 }
 
-/// No claim counts 1. One claim is of the first unit with 4 * 1 / 7 and of the second with 4 * 2 / 7:
-/// together 12 / 7. Two are there with 10 * (3 / 7)^2 = 90 / 49, of which the first unit has a third.
+/// No claim counts 1. One claim is of the first unit with 4 * 1 / 7 and of the second with 4 * 2 /
+/// 7: together 12 / 7. Two are there with 10 * (3 / 7)^2 = 90 / 49, of which the first unit has a
+/// third.
 #[test]
 fn common_factor(rt: HostRuntime) {
     let pair = alike();

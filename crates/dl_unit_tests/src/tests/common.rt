@@ -1,5 +1,6 @@
-//! The joint mean of a unit under a common factor, worked out outside the program: of eight expected
-//! claims of one bucket each, eight times the probability of one bucket less, and at most the total.
+//! The joint mean of a unit under a common factor, worked out outside the program: of eight
+//! expected claims of one bucket each, eight times the probability of one bucket less, and at most
+//! the total.
 
 ghost use Rattle.std.specs.Prelude.{◌≡◌, length, IfOk};
 
