@@ -33,6 +33,12 @@ pub record AreSumsWithout {B : ℕ} (k : ℕ) (grids : List (List (Iv B))) (aske
       ↔ IsTrue (get_or asked i false)
   pub each : (i : ℕ) → i < length grids → IfSome (get_or sums i None) (IsSumWithout k grids i)
 
+-- unit i is asked for, and no other
+pub record IsOnly (asked : List Bool) (i : ℕ) : Type 0 where
+  pub inside : i < length asked
+  pub there : IsTrue (get_or asked i false)
+  pub alone : (k : ℕ) → IsTrue (get_or asked k false) → k ≡ i
+
 -- a grid that encloses the sum of some units, and none where there are no units
 abbrev pub EnclosesSum : {B : ℕ} → Option (List (Iv B)) → List Loss → Type 0
 EnclosesSum None us = us ≡ []

@@ -8,12 +8,15 @@
 //! units, `aggregates_of plan`, by `dl_model::plans::law_declared`.
 #![tactic(auto)]
 
+mod only;
 mod runs;
 mod shared;
+mod shortest;
 mod widths;
 
-ghost use Rattle.std.specs.Prelude.{◌≡◌, ℕ, ◌^◌, ◌<◌, ◌≤◌, List, [], ◌++◌, length, map, All, IfOk};
+ghost use Rattle.std.specs.Prelude.{◌≡◌, ℕ, ◌^◌, ◌<◌, ◌≤◌, List, [], ◌++◌, length, get_or, map, All, IfOk};
 ghost use Rattle.dl_port.specs.Sums.{EncloseEach};
+ghost use Rattle.dl_port.specs.Shared.{IsSumOfPart};
 ghost use Rattle.dl_grid.specs.Cells.{spread};
 ghost use Rattle.std.specs.List.{fold, remove};
 ghost use Rattle.dl_model.specs.Measures.{without};
@@ -25,6 +28,7 @@ use dl_grid::Grid;
 use dl_product::{Workspace, product};
 use runs::{alike, repeated};
 pub use shared::{Sums, sums_of_one, total_and_others};
+use shortest::shortest_first;
 use std::alloc::{AllocError, Global};
 use widths::spread_of_sum;
 
@@ -85,24 +89,46 @@ fn in_order<const B: u32>(
     with_units(alloc, work, first, &units[1..], cells)
 }
 
-/// The sum of all units: of the first ones that have one grid, by squaring, and then of each
+/// The sum of all units: of the first `many` ones, which have one grid, by squaring, and then of each
 /// further one.
 fn first_together<const B: u32>(
     alloc: Global,
     work: &mut Workspace,
     units: &[Grid<B>],
+    many: usize,
     cells: u32,
 ) -> Result<Grid<B>, AllocError>
-    requires units { 1 ≤ length units.now }
+    requires first { 1 ≤ many }
+    requires within { many ≤ length units.now }
+    requires same { (i : ℕ) → i < many → get_or units.now i [] ≡ get_or units.now 0 [] }
     requires some { 1 ≤ cells }
     requires in_each { All (λ g. cells ≤ length g) units.now }
     ensures cells { IfOk result (λ g. length g ≡ cells) }
     ensures encloses { IfOk result (λ g. (us : List Loss) → AreDeclarable us
         → EncloseEach units.now us → GridEncloses g (total us)) }
 {
-    let many = alike(units);
     let first = repeated(alloc, work, &units[0], many, cells)?;
     with_units(alloc, work, first, &units[many..], cells)
+}
+
+/// The sum of all units: by squaring where the first ones have one grid, else the shortest first.
+fn all_units<const B: u32>(
+    alloc: Global,
+    work: &mut Workspace,
+    units: &[Grid<B>],
+    cells: u32,
+) -> Result<Option<Grid<B>>, AllocError>
+    requires units { 1 ≤ length units.now }
+    requires some { 1 ≤ cells }
+    requires in_each { All (λ g. cells ≤ length g) units.now }
+    ensures { IfOk result (λ sum. IsSumOfPart cells units.now (λ us. us) sum) }
+{
+    let many = alike(units);
+    if many > 1 {
+        let sum = first_together(alloc, work, units, many, cells)?;
+        return Ok(Some(sum));
+    }
+    shortest_first(alloc, work, units, units.len(), cells)
 }
 
 /// The first `cells` cells of the sum of all units. There is at least one unit, and each grid has
@@ -124,8 +150,9 @@ pub fn total<const B: u32>(
 }
 
 /// The same sum, by products in a workspace that is lent. The first units that have one grid are
-/// added up by squaring. Where that comes out wider than it may be when the units are taken in one
-/// by one, they are taken in one by one.
+/// added up by squaring; where these are not several, the units are added up the shortest first.
+/// Where that comes out wider than it may be when the units are taken in one by one, they are taken
+/// in one by one.
 pub fn total_with<const B: u32>(
     alloc: Global,
     work: &mut Workspace,
@@ -140,10 +167,11 @@ pub fn total_with<const B: u32>(
         → EncloseEach units.now us → GridEncloses g (total us)) }
     ensures spread { IfOk result (λ g. spread g ≤ sum_spread (2 ^ B) cells (map spread units.now)) }
 {
-    let sum = first_together(alloc, work, units, cells)?;
-    if let Some(most) = spread_of_sum(units, cells) {
-        if sum.spread() <= most {
-            return Ok(sum);
+    if let Some(sum) = all_units(alloc, work, units, cells)? {
+        if let Some(most) = spread_of_sum(units, cells) {
+            if sum.spread() <= most {
+                return Ok(sum);
+            }
         }
     }
     in_order(alloc, work, units, cells)

@@ -9,6 +9,7 @@ ghost use Rattle.dl_model.specs.Program.{Loss, AreDeclarable, total};
 ghost use Rattle.dl_model.specs.Family.{GridEncloses};
 ghost use Rattle.dl_port.specs.Shared.{EnclosesSum, IsSumOfPart, AreSuffixSums, IsTotal, IsSumWithout, AreSumsWithout, AreFirstWithout};
 
+use crate::only::{only_asked, sums_for_one};
 use crate::widths::spread_without;
 use crate::{no_units, others_with, total_with};
 use dl_grid::Grid;
@@ -197,7 +198,10 @@ fn some_asked(asked: &[bool]) -> bool
 }
 
 /// For each of `many` units, no sum of the other units.
-fn no_others<const B: u32>(alloc: Global, many: usize) -> Result<Vec<Option<Grid<B>>>, AllocError>
+pub(crate) fn no_others<const B: u32>(
+    alloc: Global,
+    many: usize,
+) -> Result<Vec<Option<Grid<B>>>, AllocError>
     ensures { IfOk result (λ others. others.items ≡ replicate many None) }
 {
     let mut others = Vec::new(alloc);
@@ -210,8 +214,9 @@ fn no_others<const B: u32>(alloc: Global, many: usize) -> Result<Vec<Option<Grid
 /// The first `cells` cells of the sum of all units, and for each unit that is asked for, of the sum
 /// of all other units. These are as wide as those of `total` and `others` may be, and come from
 /// sums that they share: where none comes out wider, at most three products for each unit, however
-/// many are asked for. Where none is asked for, the total is that of `total_with`. There is at
-/// least one unit, and each grid has at least these cells.
+/// many are asked for, and one product fewer than there are units where one is asked for. Where none
+/// is asked for, the total is that of `total_with`. There is at least one unit, and each grid has at
+/// least these cells.
 pub fn total_and_others<const B: u32>(
     alloc: Global,
     work: &mut Workspace,
@@ -228,6 +233,9 @@ pub fn total_and_others<const B: u32>(
     ensures others { IfOk result (λ sums.
         AreSumsWithout cells units.now asked.now sums.others.items) }
 {
+    if let Some(i) = only_asked(asked) {
+        return sums_for_one(alloc, work, units, i, cells);
+    }
     if some_asked(asked) {
         return asked_sums(alloc, work, units, asked, cells);
     }

@@ -8,16 +8,16 @@ with_units-requires g c = (
   omega arith,
   (
     c.requires.some,
-    (c.in_ok-first.ensures.cells, all_within c.args.cells c.args.units.now c.alike-many.result c.requires.in_each),
+    (c.in_ok-first.ensures.cells, all_within c.args.cells c.args.units.now c.args.many c.requires.in_each),
   ),
 )
 
 pub returns-clause-encloses : goal.returns-clause-encloses
 returns-clause-encloses g c =
     IfOk-weaker c.with_units.result _ _ (λ sum further us w e.
-    with_rest c.args.units.now _ c.in_ok-first.first sum c.alike-many.result us
-    (to_the_end c.alike-many.result c.args.units.now) further
-    (first_run c.args.units.now c.in_ok-first.first c.index-units-0.result c.alike-many.result us
-    c.alike-many.ensures.few c.alike-many.ensures.same (omega (arith, c.requires.units)) c.index-units-0.is
+    with_rest c.args.units.now _ c.in_ok-first.first sum c.args.many us
+    (to_the_end c.args.many c.args.units.now) further
+    (first_run c.args.units.now c.in_ok-first.first c.index-units-0.result c.args.many us
+    c.requires.within c.requires.same (omega (arith, c.requires.first, c.requires.within)) c.index-units-0.is
     c.in_ok-first.ensures.encloses w e) w e)
     c.with_units.ensures.encloses
